@@ -1,0 +1,6 @@
+pub mod Causes
+pub mod Bytes
+pub mod Decimal
+pub mod Lines
+pub mod Memory
+pub mod formers

@@ -1,0 +1,72 @@
+-- What the ends in memory are seen as, and what a shelf tells of a file.
+use Rattle.std.specs.Prelude.{◌≡◌, ℕ, ◌-◌, List, [], ◌∷◌, take, length, Option, Some, None, Bool, if◌then◌else◌}
+use Rattle.std.specs.Str.{bytes_eq}
+use Rattle.kit_base.specs.Causes.{raised}
+use Rattle.kit_base.specs.Decimal.{is_listed}
+
+-- where files are told, there is one at the path, and this is its front
+abbrev pub HasFile : Option (List ℕ → Option (List ℕ)) → List ℕ → ℕ → List ℕ → Type 0
+HasFile None path most octets = Unit {0}
+HasFile (Some content) path most octets = (whole : List ℕ) × (content path ≡ Some whole) × (octets ≡ take most whole)
+
+-- where files are told, there is none at the path
+abbrev pub LacksFile : Option (List ℕ → Option (List ℕ)) → List ℕ → Type 0
+LacksFile None path = Unit {0}
+LacksFile (Some content) path = content path ≡ None
+
+-- a file: its path and its content
+abbrev pub FileView : Type 0
+FileView = List ℕ × List ℕ
+
+-- the content of the first file of this path
+abbrev pub content_of : List FileView → List ℕ → Option (List ℕ)
+content_of [] path = None
+content_of (f ∷ fs) path = if bytes_eq f.0 path then Some f.1 else content_of fs path
+
+-- which calls fail, by their decimal numbers, and how many were made and failed so far
+pub record Planned : Type 0 where
+  pub fails : List (List ℕ)
+  pub calls : ℕ
+  pub faults : ℕ
+
+-- no call has been made
+abbrev pub fresh : List (List ℕ) → Planned
+fresh fails = record { fails = fails; calls = 0; faults = 0 }
+
+-- the next call is a listed one
+abbrev pub fails_next : Planned → Bool
+fails_next p = is_listed (raised p.calls 1) p.fails
+
+-- one fault more
+abbrev pub faulted : Planned → Planned
+faulted p = record p { faults = raised p.faults 1 }
+
+-- one call more, which failed or not
+abbrev pub called : Planned → Bool → Planned
+called p failed = record p { calls = raised p.calls 1; faults = if failed then raised p.faults 1 else p.faults }
+
+-- a source: what is left, how much it gives at a call at most, and its plan
+pub record Fed : Type 0 where
+  pub left : List ℕ
+  pub most : ℕ
+  pub plan : Planned
+
+-- a sink that fails only where no room is left
+pub record Held : Type 0 where
+  pub held : List ℕ
+  pub faults : ℕ
+
+-- a sink: what it holds, how much it takes at a call at most, and its plan
+pub record Taken : Type 0 where
+  pub held : List ℕ
+  pub most : ℕ
+  pub plan : Planned
+
+-- the octets that still fit behind these
+abbrev pub room_of : List ℕ → ℕ
+room_of held = 16777216 - length held
+
+-- a shelf: its files in order, and its plan
+pub record Shelved : Type 0 where
+  pub files : List FileView
+  pub plan : Planned

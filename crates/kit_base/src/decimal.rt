@@ -1,0 +1,50 @@
+// Decimal numbers in words.
+ghost use Rattle.std.specs.Prelude.{◌≡◌, ◌≢◌, ◌<◌, ◌^◌, ℕ, IfSome, Some, None};
+ghost use Rattle.kit_base.specs.Decimal.{is_listed, is_number, number_in};
+
+use crate::Words;
+
+/// Whether one of the words is this number.
+pub(crate) fn is_listed(n: u64, words: &Words) -> bool
+    ensures { result ≡ is_listed n words.now }
+{
+    for word in words.as_slice() {
+        if is_number(n, word.as_slice()) {
+            return true;
+        }
+    }
+    false
+}
+
+fn is_number(n: u64, word: &[u8]) -> bool
+    ensures { result ≡ is_number n (number_in word.now) }
+{
+    match read_number(word) {
+        Some(m) => m == n,
+        None => false,
+    }
+}
+
+/// A decimal number from 1 that fits.
+fn read_number(word: &[u8]) -> Option<u64>
+    ensures some { IfSome result (λ n. number_in word.now ≡ Some n) }
+    ensures none { result ≡ None → (n : ℕ) → n < 2 ^ 64 → number_in word.now ≢ Some n }
+{
+    if word.first() == Some(&48) || word.is_empty() {
+        return None;
+    }
+    let mut n = 0u64;
+    for d in word {
+        if *d < 48 || 57 < *d {
+            return None;
+        }
+        let Some(tens) = n.checked_mul(10) else {
+            return None;
+        };
+        let Some(next) = tens.checked_add(u64::from(*d - 48)) else {
+            return None;
+        };
+        n = next;
+    }
+    Some(n)
+}

@@ -1,0 +1,350 @@
+// The lines of a source.
+ghost use Rattle.std.specs.Prelude.{◌≡◌, ◌≢◌, ◌<◌, ◌≤◌, ◌-◌, ◌+◌, ◌^◌, List, ℕ, [], ◌∷◌, ◌++◌, length, take, drop, OnOk, OnErr, IfOk, IfErr, IfSome, IfNone, All, Some, None, true, false, option_to_list, IsErrOf, if◌then◌else◌};
+ghost use Rattle.kit_base.specs.Causes.{Rose};
+ghost use Rattle.kit_base.specs.Lines.{State, Passed, Advances, answered, pending, HasNoEnd, KnowsEnd, line_of, line_in, IsFound, chomp, work};
+ghost use Rattle.std.specs.Io.KnownBytes.{Consumes, IsAtEnd};
+ghost use Rattle.kit_base.specs.declared.lines.Line.TheVariants.{Long};
+ghost use Rattle.kit_base.specs.declared.lines.LineErr.{LineErr};
+
+use crate::{Failed, NoMemory, Octets, Source};
+use std::alloc::Global;
+use std::marker::Model;
+
+const PIECE: usize = 65_536;
+
+#[derive(Debug, Drop)]
+pub enum Line {
+    Text(Octets),
+    Long,
+    End,
+}
+
+impl Line {
+    pub fn is_end(&self) -> bool
+        ensures end { result ≡ true → self.now ≡ Line.End }
+        ensures line { result ≡ false → self.now ≢ Line.End }
+    {
+        matches!(self, Line::End)
+    }
+}
+
+#[derive(Clone, Copy, Debug, PartialEq, Eq)]
+pub enum LineErr {
+    Failed,
+    TooMuch,
+    NoMemory,
+}
+
+#[derive(Drop)]
+pub struct Lines {
+    alloc: Global,
+    longest: u32,
+    most: u64,
+    piece: Vec<u8>,
+    buffer: Vec<u8>,
+    from: usize,
+    skips: bool,
+    ended: bool,
+    taken: u64,
+    error: Option<LineErr>,
+}
+
+impl Model for Lines {
+    ghost use Rattle.std.specs.Prelude.{◌≤◌, ◌+◌, ◌<◌, ◌^◌, ◌-◌, drop, length};
+    ghost use Rattle.kit_base.specs.Lines.{State};
+
+    ghost Value = { State };
+
+    ghost view = { λ s. record { longest = s.longest; most = s.most; kept = drop s.from s.buffer.items; skips = s.skips; ended = s.ended; taken = s.taken; error = s.error } };
+
+    ghost invariant = { λ s. (s.from ≤ length s.buffer.items) × (s.taken ≤ s.most + 1) × (s.most < 2 ^ 64 - 1) };
+}
+
+impl Lines {
+    pub fn new(alloc: Global, longest: u32, most: u64) -> Lines
+        requires { most < 2 ^ 64 - 1 }
+        ensures { result ≡ record { longest = longest; most = most; kept = []; skips = false; ended = false; taken = 0; error = None } }
+    {
+        Lines {
+            alloc,
+            longest,
+            most,
+            piece: Vec::new(alloc),
+            buffer: Vec::new(alloc),
+            from: 0,
+            skips: false,
+            ended: false,
+            taken: 0,
+            error: None,
+        }
+    }
+
+    /// The next line, past empty ones.
+    pub fn next<S: Source>(&mut self, source: &mut S) -> Result<Line, LineErr>
+        ensures lines { Advances (S.left source.old) (S.left source.new) self.old self.new (answered result) }
+        ensures knows_end { KnowsEnd self.old (S.left source.old) → KnowsEnd self.new (S.left source.new) }
+        ensures later { S.faults source.old ≤ S.faults source.new }
+        ensures falls { IfOk result (λ line. line ≢ Line.End → work self.new < work self.old) }
+        ensures again { (e : LineErr) → self.old.error ≡ Some e → (result ≡ Err e) × (self.new ≡ self.old) }
+        ensures fresh { OnOk result (self.new.error ≡ None) }
+        ensures stands { IfErr result (λ e. self.new.error ≡ Some e) }
+        ensures end { result ≡ Ok Line.End → (pending self.new [] ≡ []) × (self.new.ended ≡ true) }
+        ensures failed { self.old.error ≡ None → result ≡ Err LineErr.Failed → Rose (S.faults source.old) (S.faults source.new) × HasNoEnd self.new.kept × (self.new.ended ≡ false) }
+        ensures too_much { self.old.error ≡ None → result ≡ Err LineErr.TooMuch → self.new.most < self.new.taken }
+        ensures within { self.old.error ≡ None → result ≢ Err LineErr.TooMuch → result ≢ Err LineErr.NoMemory → self.new.taken ≤ self.new.most }
+    {
+        if let Some(error) = self.error {
+            return Err(error);
+        }
+        match self.step_on(source) {
+            Ok(line) => Ok(line),
+            Err(error) => {
+                self.error = Some(error);
+                Err(error)
+            }
+        }
+    }
+
+    fn step_on<S: Source>(&mut self, source: &mut S) -> Result<Line, LineErr>
+        ensures lines { Advances (S.left source.old) (S.left source.new) self.old self.new (answered result) }
+        ensures knows_end { KnowsEnd self.old (S.left source.old) → KnowsEnd self.new (S.left source.new) }
+        ensures end { result ≡ Ok Line.End → (pending self.new [] ≡ []) × (self.new.ended ≡ true) }
+        ensures later { S.faults source.old ≤ S.faults source.new }
+        ensures failed { result ≡ Err LineErr.Failed → Rose (S.faults source.old) (S.faults source.new) × HasNoEnd self.new.kept × (self.new.ended ≡ false) }
+        ensures too_much { result ≡ Err LineErr.TooMuch → self.new.most < self.new.taken }
+        ensures within { result ≢ Err LineErr.TooMuch → result ≢ Err LineErr.NoMemory → self.new.taken ≤ self.new.most }
+        ensures falls { IfOk result (λ line. line ≢ Line.End → work self.new < work self.old) }
+        ensures same { self.new.error ≡ self.old.error }
+    {
+        loop {
+            if self.is_over() {
+                return Err(LineErr::TooMuch);
+            }
+            match self.cut()? {
+                Cut::Found(Some(line)) => return Ok(line),
+                Cut::Found(None) => {}
+                Cut::NoEnd => {
+                    if self.ended() {
+                        return self.last();
+                    }
+                    if let Err(error) = self.refill(source) {
+                        return Err(error);
+                    }
+                }
+            }
+        }
+    }
+
+    /// Cuts the first line off what is kept, where its end is there.
+    #[tactic(auto, using(crate::proofs::Cutting::cutting))]
+    fn cut(&mut self) -> Result<Cut, LineErr>
+        ensures lines { IfOk result (λ c. Passed self.old self.new [] (option_to_list (line_in c))) }
+        ensures no_end { IfOk result (λ c. c ≢ Cut.Found (Some Line.End)) }
+        ensures err { IfErr result (λ e. (e ≡ LineErr.NoMemory) × (self.new ≡ self.old)) }
+        ensures whole { IfOk result (λ c. IsFound c → work self.new < work self.old) }
+        ensures open_end { IfOk result (λ c. c ≡ Cut.NoEnd → HasNoEnd self.new.kept × (work self.new ≤ work self.old)) }
+        ensures same { (self.new.ended ≡ self.old.ended) × (self.new.error ≡ self.old.error) }
+    {
+        let Some(end) = find_end(self.kept()) else {
+            if self.skips() || self.kept().len() > self.longest() as usize + 1 {
+                self.skip_all();
+            }
+            return Ok(Cut::NoEnd);
+        };
+        let line = self.line_to(end)?;
+        self.drop_line(end + 1);
+        Ok(Cut::Found(line))
+    }
+
+    /// The line of the first octets that are kept.
+    fn line_to(&self, end: usize) -> Result<Option<Line>, LineErr>
+        requires { end ≤ length self.now.kept }
+        ensures lines { IfOk result (λ o. option_to_list o ≡ (if self.now.skips then Long ∷ [] else line_of self.now.longest (take end self.now.kept))) }
+        ensures no_end { IfOk result (λ o. o ≢ Some Line.End) }
+        ensures err { IfErr result (λ e. e ≡ LineErr.NoMemory) }
+    {
+        if self.skips() {
+            return Ok(Some(Line::Long));
+        }
+        read_line(self.alloc, self.longest, &self.kept()[..end])
+    }
+
+    /// What is kept, as the last line.
+    fn last(&mut self) -> Result<Line, LineErr>
+        requires open_end { HasNoEnd self.old.kept }
+        requires ended { self.old.ended ≡ true }
+        ensures lines { Passed self.old self.new [] (answered result) }
+        ensures falls { IfOk result (λ line. line ≢ Line.End → work self.new < work self.old) }
+        ensures none { OnOk result (self.new ≡ record self.old { kept = []; skips = false }) }
+        ensures err { IfErr result (λ e. (e ≡ LineErr.NoMemory) × (self.new ≡ self.old)) }
+    {
+        let end = self.kept().len();
+        let line = self.line_to(end)?;
+        self.drop_line(end);
+        match line {
+            Some(line) => Ok(line),
+            None => Ok(Line::End),
+        }
+    }
+
+    fn kept(&self) -> &[u8]
+        ensures { result.now ≡ self.now.kept }
+    {
+        &self.buffer.as_slice()[self.from..]
+    }
+
+    fn skips(&self) -> bool
+        ensures { result ≡ self.now.skips }
+    {
+        self.skips
+    }
+
+    fn ended(&self) -> bool
+        ensures { result ≡ self.now.ended }
+    {
+        self.ended
+    }
+
+    fn is_over(&self) -> bool
+        ensures over { result ≡ true → self.now.most < self.now.taken }
+        ensures within { result ≡ false → self.now.taken ≤ self.now.most }
+    {
+        self.taken > self.most
+    }
+
+    fn longest(&self) -> u32
+        ensures { result ≡ self.now.longest }
+    {
+        self.longest
+    }
+
+    fn drop_line(&mut self, n: usize)
+        requires { n ≤ length self.old.kept }
+        ensures { self.new ≡ record self.old { kept = drop n self.old.kept; skips = false } }
+    {
+        self.skips = false;
+        self.from += n;
+    }
+
+    fn skip_all(&mut self)
+        ensures { self.new ≡ record self.old { kept = []; skips = true } }
+    {
+        self.skips = true;
+        self.from = self.buffer.len();
+    }
+
+    /// Reads once, behind what is kept.
+    fn refill<S: Source>(&mut self, source: &mut S) -> Result<(), LineErr>
+        requires room { self.old.taken ≤ self.old.most }
+        requires more { self.old.ended ≡ false }
+        ensures kept { take (length self.old.kept) self.new.kept ≡ self.old.kept }
+        ensures got { Consumes (S.left source.old) (S.left source.new) (drop (length self.old.kept) self.new.kept) }
+        ensures count { self.new.taken + length self.old.kept ≡ self.old.taken + length self.new.kept }
+        ensures bound { self.new.taken ≤ self.new.most + 1 }
+        ensures falls { OnOk result (work self.new < work self.old) }
+        ensures grows { OnOk result (self.new.ended ≡ false → length self.old.kept < length self.new.kept) }
+        ensures stays { OnOk result (self.new.ended ≡ true → self.new.kept ≡ self.old.kept) }
+        ensures none { OnErr result (self.new.kept ≡ self.old.kept) }
+        ensures end { OnOk result (KnowsEnd self.new (S.left source.new)) }
+        ensures same { (self.new.longest ≡ self.old.longest) × (self.new.most ≡ self.old.most) × (self.new.skips ≡ self.old.skips) × (self.new.error ≡ self.old.error) }
+        ensures err { OnErr result (self.new.ended ≡ self.old.ended) }
+        ensures later { S.faults source.old ≤ S.faults source.new }
+        ensures failed { result ≡ Err LineErr.Failed → Rose (S.faults source.old) (S.faults source.new) }
+        ensures too_much { result ≢ Err LineErr.TooMuch }
+    {
+        discard_front(&mut self.buffer, self.from);
+        self.from = 0;
+        if self.piece.resize(PIECE, 0).is_err() {
+            return Err(LineErr::NoMemory);
+        }
+        let wanted = (self.most + 1 - self.taken).min(PIECE as u64) as usize;
+        let piece = &mut self.piece.as_mut_slice()[..wanted];
+        let count = read_behind(source, piece, &mut self.buffer)?;
+        self.taken += count as u64;
+        self.ended = count == 0;
+        Ok(())
+    }
+}
+
+#[derive(Drop)]
+enum Cut {
+    Found(Option<Line>),
+    NoEnd,
+}
+
+/// Where the first line ends.
+fn find_end(octets: &[u8]) -> Option<usize>
+    ensures found { IfSome result (λ i. (i < length octets.now) × HasNoEnd (take i octets.now) × (octets.now ≡ take i octets.now ++ 10 ∷ drop (i + 1) octets.now)) }
+    ensures none { IfNone result (HasNoEnd octets.now) }
+{
+    for (i, o) in octets.iter().enumerate() {
+        if *o == 10 {
+            return Some(i);
+        }
+    }
+    None
+}
+
+/// What is answered for the octets of a line.
+fn read_line(alloc: Global, longest: u32, octets: &[u8]) -> Result<Option<Line>, LineErr>
+    ensures lines { IfOk result (λ o. option_to_list o ≡ line_of longest octets.now) }
+    ensures no_end { IfOk result (λ o. o ≢ Some Line.End) }
+    ensures err { IfErr result (λ e. e ≡ LineErr.NoMemory) }
+{
+    let line = without_return(octets);
+    if line.is_empty() {
+        return Ok(None);
+    }
+    if line.len() > longest as usize {
+        return Ok(Some(Line::Long));
+    }
+    let mut text = Octets::new(alloc);
+    match text.append(line) {
+        Ok(()) => Ok(Some(Line::Text(text))),
+        Err(NoMemory) => Err(LineErr::NoMemory),
+    }
+}
+
+fn without_return(octets: &[u8]) -> &[u8]
+    ensures { result.now ≡ chomp octets.now }
+{
+    match octets.last() {
+        Some(13) => &octets[..octets.len() - 1],
+        _ => octets,
+    }
+}
+
+fn discard_front(buffer: &mut Vec<u8>, n: usize)
+    requires { n ≤ length buffer.old.items }
+    ensures { buffer.new.items ≡ drop n buffer.old.items }
+{
+    buffer.drain(..n);
+}
+
+/// Reads once, behind what the buffer holds.
+fn read_behind<S: Source>(
+    source: &mut S,
+    piece: &mut [u8],
+    buffer: &mut Vec<u8>,
+) -> Result<usize, LineErr>
+    requires { length piece.old ≤ 65536 }
+    ensures kept { take (length buffer.old.items) buffer.new.items ≡ buffer.old.items }
+    ensures got { Consumes (S.left source.old) (S.left source.new) (drop (length buffer.old.items) buffer.new.items) }
+    ensures count { IfOk result (λ n. (length buffer.new.items ≡ length buffer.old.items + n) × (n ≤ length piece.old)) }
+    ensures none { OnErr result (buffer.new.items ≡ buffer.old.items) }
+    ensures end { IfOk result (λ n. n ≡ 0 → 0 < length piece.old → IsAtEnd (S.left source.new)) }
+    ensures later { S.faults source.old ≤ S.faults source.new }
+    ensures failed { result ≡ Err LineErr.Failed → Rose (S.faults source.old) (S.faults source.new) }
+    ensures too_much { result ≢ Err LineErr.TooMuch }
+{
+    if buffer.reserve(piece.len()).is_err() {
+        return Err(LineErr::NoMemory);
+    }
+    match source.read(piece) {
+        Ok(count) => match buffer.extend_from_slice(&piece[..count]) {
+            Ok(()) => Ok(count),
+            Err(_) => Err(LineErr::NoMemory),
+        },
+        Err(Failed) => Err(LineErr::Failed),
+    }
+}
