@@ -1,0 +1,50 @@
+-- A buffer as its octets, the space ensured behind them, and what its calls have cost.
+use Rattle.std.specs.Prelude.{◌≡◌, ◌⊎◌, ℕ, max, List, [], length, take}
+use Rattle.kit_base.specs.Bytes.{be, le}
+use Rattle.kit_base.specs.Causes.{raised}
+use Rattle.wire_def.specs.declared.head.Order.{Order}
+use Rattle.wire_def.specs.declared.head.Order.TheVariants.{Big, Little}
+use Rattle.raw_buf.specs.declared.tally.Tally.{Tally}
+
+pub record Buf : Type 0 where
+  -- the octets so far
+  pub done : List ℕ
+  -- the octets ensured behind them
+  pub front : List ℕ
+  -- the counts since the buffer was cleared
+  pub tally : Tally
+  -- the counts over the buffer's whole life
+  pub spent : Tally
+
+-- no calls
+abbrev pub none : Tally
+none = record { checks = 0; moves = 0; stores = 0; rows = 0 }
+
+-- a width that a number may be stored in
+abbrev pub IsWidth : ℕ → Type 0
+IsWidth w = (w ≡ 1) ⊎ (w ≡ 2) ⊎ (w ≡ 4) ⊎ (w ≡ 8)
+
+-- the octets of a number in this order
+abbrev pub in_order : Order → ℕ → ℕ → List ℕ
+in_order Big w v = be w v
+in_order Little w v = le w v
+
+-- one check more
+abbrev pub checked : Tally → Tally
+checked t = record t { checks = raised t.checks 1 }
+
+-- one move more
+abbrev pub moved : Tally → Tally
+moved t = record t { moves = raised t.moves 1 }
+
+-- one store more
+abbrev pub stored : Tally → Tally
+stored t = record t { stores = raised t.stores 1 }
+
+-- n octets are ensured, those that were stay
+pub record Ensures (n : ℕ) (old new : Buf) : Type 0 where
+  pub done : new.done ≡ old.done
+  pub kept : take (length old.front) new.front ≡ old.front
+  pub ahead : length new.front ≡ max n (length old.front)
+  pub tally : new.tally ≡ checked old.tally
+  pub spent : new.spent ≡ checked old.spent

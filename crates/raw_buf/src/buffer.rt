@@ -1,0 +1,163 @@
+// The buffer.
+ghost use Rattle.std.specs.Prelude.{◌≡◌, ◌<◌, ◌≤◌, ◌+◌, ◌-◌, ◌^◌, List, ℕ, [], ◌++◌, length, take, drop, OnOk, OnErr, IfOk};
+ghost use Rattle.kit_base.specs.Bytes.{written};
+ghost use Rattle.raw_buf.specs.Buf.{Ensures, IsWidth, in_order, moved, stored, checked, none};
+
+use crate::Tally;
+use kit_base::NoMemory;
+use std::alloc::Global;
+use std::marker::Model;
+use wire_def::Order;
+
+/// A buffer for one message at a time.
+///
+/// `ensure` makes room, `put` and `put_const` store at an offset from the cursor inside that room,
+/// and `advance` moves the cursor over it. The memory is initialised when it grows and is kept
+/// when the buffer is cleared.
+#[derive(Drop)]
+pub struct SendBuf {
+    memory: Vec<u8>,
+    len: usize,
+    ahead: usize,
+    tally: Tally,
+    spent: Tally,
+}
+
+impl Model for SendBuf {
+    ghost use Rattle.std.specs.Prelude.{◌≤◌, ◌+◌, take, drop, length};
+    ghost use Rattle.raw_buf.specs.Buf.{Buf};
+
+    ghost Value = { Buf };
+
+    ghost view = { λ b. record { done = take b.len b.memory.items; front = take b.ahead (drop b.len b.memory.items); tally = b.tally; spent = b.spent } };
+
+    ghost invariant = { λ b. b.len + b.ahead ≤ length b.memory.items };
+}
+
+const NOTHING: Tally = Tally {
+    checks: 0,
+    moves: 0,
+    stores: 0,
+    rows: 0,
+};
+
+impl SendBuf {
+    /// An empty buffer, which has spent nothing.
+    pub fn new(alloc: Global) -> Result<SendBuf, NoMemory>
+        ensures { IfOk result (λ b. b ≡ record { done = []; front = []; tally = none; spent = none }) }
+    {
+        Ok(SendBuf {
+            memory: Vec::new(alloc),
+            len: 0,
+            ahead: 0,
+            tally: NOTHING,
+            spent: NOTHING,
+        })
+    }
+
+    /// Makes sure of n octets behind those that are done.
+    pub fn ensure(&mut self, n: usize) -> Result<(), NoMemory>
+        ensures ok { OnOk result (Ensures n self.old self.new) }
+        ensures err { OnErr result (self.new ≡ self.old) }
+    {
+        if n > self.ahead {
+            let Some(wanted) = self.len.checked_add(n) else {
+                return Err(NoMemory);
+            };
+            if wanted > self.memory.len() {
+                self.memory.resize(wanted, 0)?;
+            }
+            self.ahead = n;
+        }
+        self.tally.checks = self.tally.checks.saturating_add(1);
+        self.spent.checks = self.spent.checks.saturating_add(1);
+        Ok(())
+    }
+
+    /// Stores a number in the space that is ensured.
+    pub fn put(&mut self, off: usize, width: usize, order: Order, v: u64)
+        requires width { IsWidth width }
+        requires within { off + width ≤ length self.old.front }
+        requires fits { v < 256 ^ width }
+        ensures done { self.new.done ≡ self.old.done }
+        ensures front { self.new.front ≡ written self.old.front off (in_order order width v) }
+        ensures tally { self.new.tally ≡ stored self.old.tally }
+        ensures spent { self.new.spent ≡ stored self.old.spent }
+    {
+        match order {
+            Order::Big => {
+                let octets = v.to_be_bytes();
+                self.put_const(off, &octets[8 - width..]);
+            }
+            Order::Little => {
+                let octets = v.to_le_bytes();
+                self.put_const(off, &octets[..width]);
+            }
+        }
+    }
+
+    /// Stores octets in the space that is ensured.
+    pub fn put_const(&mut self, off: usize, octets: &[u8])
+        requires { off + length octets.now ≤ length self.old.front }
+        ensures done { self.new.done ≡ self.old.done }
+        ensures front { self.new.front ≡ written self.old.front off octets.now }
+        ensures tally { self.new.tally ≡ stored self.old.tally }
+        ensures spent { self.new.spent ≡ stored self.old.spent }
+    {
+        let start = self.len + off;
+        write_at(&mut self.memory, start, octets);
+        self.tally.stores = self.tally.stores.saturating_add(1);
+        self.spent.stores = self.spent.stores.saturating_add(1);
+    }
+
+    /// Moves the first n octets of the space to those that are done.
+    pub fn advance(&mut self, n: usize)
+        requires { n ≤ length self.old.front }
+        ensures done { self.new.done ≡ self.old.done ++ take n self.old.front }
+        ensures front { self.new.front ≡ drop n self.old.front }
+        ensures tally { self.new.tally ≡ moved self.old.tally }
+        ensures spent { self.new.spent ≡ moved self.old.spent }
+    {
+        self.len += n;
+        self.ahead -= n;
+        self.tally.moves = self.tally.moves.saturating_add(1);
+        self.spent.moves = self.spent.moves.saturating_add(1);
+    }
+
+    /// The octets so far.
+    pub fn octets(&self) -> &[u8]
+        ensures { result.now ≡ self.now.done }
+    {
+        &self.memory.as_slice()[..self.len]
+    }
+
+    /// The counts since the buffer was made or cleared.
+    pub fn tally(&self) -> Tally
+        ensures { result ≡ self.now.tally }
+    {
+        self.tally
+    }
+
+    /// The counts over the buffer's whole life.
+    pub fn spent(&self) -> Tally
+        ensures { result ≡ self.now.spent }
+    {
+        self.spent
+    }
+
+    /// Begins anew. What was spent, and the memory, are kept.
+    pub fn clear(&mut self)
+        ensures { self.new ≡ record { done = []; front = []; tally = none; spent = self.old.spent } }
+    {
+        self.len = 0;
+        self.ahead = 0;
+        self.tally = NOTHING;
+    }
+}
+
+fn write_at(memory: &mut Vec<u8>, at: usize, octets: &[u8])
+    requires { at + length octets.now ≤ length memory.old.items }
+    ensures { memory.new.items ≡ written memory.old.items at octets.now }
+{
+    memory.as_mut_slice()[at..at + octets.len()].copy_from_slice(octets);
+}
