@@ -1,0 +1,110 @@
+-- What was answered where the source failed: the lines that ended in the octets taken.
+use Rattle.std.proofs.Common.{◌≡◌, ◌≢◌, ℕ, zero, suc, ◌+◌, ◌<◌, Bool, true, false, List, [], ◌∷◌, ◌++◌, length, refl, sym, ◌∙◌, ap, subst, arith, append_assoc, append-nil, length-append}
+use Rattle.std.specs.Prelude.{Option, ◌||◌, ◌==◌, if◌then◌else◌}
+use Rattle.std.specs.Io.KnownBytes.{Appends, Consumes}
+use Rattle.std.proofs.lemmas.Bool.Decides.{nat_tests}
+use Rattle.std.proofs.lemmas.List.{append_cancel_right}
+use Rattle.std.proofs.lemmas.List.Elements.{All-nil, All-cons, All-append}
+use Rattle.kit_base.specs.declared.lines.Line.{Line}
+use Rattle.kit_base.specs.declared.lines.Line.TheVariants.{Long}
+use Rattle.kit_base.specs.Lines.{State, Passed, Advances, pending, lines, lines_from, lines_behind, line_of, HasNoEnd}
+use Rattle.kit_base.proofs.Cutting.{advances-trans, lines-long, lines_behind-append}
+use Rattle.flick_top.specs.declared.task.Job.{Job}
+use Rattle.flick_top.specs.Answer.{answers}
+use Rattle.flick_top.specs.Statement.{has_end, ended_part}
+use Rattle.flick_top.proofs.Prefix.{fresh}
+
+none-ended : (xs : List ℕ) → has_end xs ≡ false → ended_part xs ≡ []
+none-ended [] h = refl
+none-ended (x ∷ xs) h = rw h
+
+or-false : (a b : Bool) → (a || b) ≡ false → (a ≡ false) × (b ≡ false)
+or-false true b h = absurd (cc h)
+or-false false b h = (refl, h)
+
+no_end : (xs : List ℕ) → has_end xs ≡ false → HasNoEnd xs
+no_end [] h = All-nil (λ (x : ℕ). x ≢ 10)
+no_end (x ∷ xs) h =
+    let (here, rest) = or-false (x == 10) (has_end xs) h in
+    let other : x ≢ 10 = grind (arith, nat_tests, here) in
+    All-cons (λ (y : ℕ). y ≢ 10) x xs other (no_end xs rest)
+
+-- what stands behind the last end has none
+split_ended : (xs : List ℕ) → (tail : List ℕ) × (xs ≡ ended_part xs ++ tail) × HasNoEnd tail
+split_ended [] = ([], refl, All-nil (λ (x : ℕ). x ≢ 10))
+split_ended (x ∷ xs) = go (has_end (x ∷ xs)) refl (split_ended xs) where
+  go : (b : Bool) → has_end (x ∷ xs) ≡ b → (tail : List ℕ) × (xs ≡ ended_part xs ++ tail) × HasNoEnd tail → (tail : List ℕ) × (x ∷ xs ≡ ended_part (x ∷ xs) ++ tail) × HasNoEnd tail
+  go true e (tail, split, none) = (tail, rw e (ap (λ (l : List ℕ). x ∷ l) split), none)
+  go false e (tail, split, none) = (x ∷ xs, rw e refl, no_end (x ∷ xs) e)
+
+from_step : (n : ℕ) (begun : List ℕ) (x : ℕ) (xs ys : List ℕ) (b c : Bool) → (x == 10) ≡ b → has_end xs ≡ c → (b || c) ≡ true
+    → ((begun' : List ℕ) → has_end xs ≡ true → lines_from n begun' (ended_part xs ++ ys) ≡ lines_from n begun' (ended_part xs) ++ lines n ys)
+    → lines_from n begun (x ∷ (ended_part xs ++ ys)) ≡ lines_from n begun (x ∷ ended_part xs) ++ lines n ys
+from_step n begun x xs ys true true e f h ih = rw e (ap (λ (l : List Line). line_of n begun ++ l) (ih [] f) ∙ sym (append_assoc (line_of n begun) (lines_from n [] (ended_part xs)) (lines n ys)))
+from_step n begun x xs ys true false e f h ih =
+    let gone : ended_part xs ≡ [] = none-ended xs f in
+    rw (e, gone) (ap (λ (l : List Line). l ++ lines n ys) (sym (append-nil (line_of n begun))))
+from_step n begun x xs ys false true e f h ih = rw e (ih (begun ++ x ∷ []) f)
+from_step n begun x xs ys false false e f h ih = absurd (cc h)
+
+from_ended : (n : ℕ) (begun xs ys : List ℕ) → has_end xs ≡ true → lines_from n begun (ended_part xs ++ ys) ≡ lines_from n begun (ended_part xs) ++ lines n ys
+from_ended n begun [] ys h = absurd (cc h)
+from_ended n begun (x ∷ xs) ys h = rw h (from_step n begun x xs ys (x == 10) (has_end xs) refl refl h (λ begun' e. from_ended n begun' xs ys e))
+
+-- the lines that ended, and those behind
+lines-ended : (n : ℕ) (xs ys : List ℕ) → lines n (ended_part xs ++ ys) ≡ lines n (ended_part xs) ++ lines n ys
+lines-ended n xs ys = go (has_end xs) refl where
+  go : (b : Bool) → has_end xs ≡ b → lines n (ended_part xs ++ ys) ≡ lines n (ended_part xs) ++ lines n ys
+  go true e = from_ended n [] xs ys e
+  go false e = let gone : ended_part xs ≡ [] = none-ended xs e in rw gone refl
+
+-- so many octets without an end
+filler : ℕ → List ℕ
+filler zero = []
+filler (suc k) = 65 ∷ filler k
+
+length-filler : (k : ℕ) → length (filler k) ≡ k
+unfolding filler
+length-filler zero = refl
+length-filler (suc k) = ap suc (length-filler k)
+
+filler-none : (k : ℕ) → HasNoEnd (filler k)
+unfolding filler
+filler-none zero = All-nil (λ (x : ℕ). x ≢ 10)
+filler-none (suc k) = All-cons (λ (y : ℕ). y ≢ 10) 65 (filler k) (λ e. absurd (omega arith)) (filler-none k)
+
+-- a begun line is too long when so much more of it stands there
+filled : (n : ℕ) (tail more : List ℕ) → HasNoEnd tail → HasNoEnd more → n + 1 < length more → lines n (tail ++ more) ≡ Long ∷ []
+filled n tail more none none' long =
+    let all = All-append (λ (y : ℕ). y ≢ 10) tail more none none' in
+    ap (lines n) (sym (append-nil (tail ++ more))) ∙ lines-long n (tail ++ more) [] all (omega (arith, length-append tail more))
+
+pending_by : (b : Bool) (n : ℕ) (kept more : List ℕ) → HasNoEnd kept → HasNoEnd more → n + 1 < length more
+    → (if b then Long ∷ lines_behind n (kept ++ more) else lines n (kept ++ more)) ≡ Long ∷ []
+pending_by true n kept more none none' long =
+    let all = All-append (λ (y : ℕ). y ≢ 10) kept more none none' in
+    ap (λ (l : List Line). Long ∷ l) (ap (lines_behind n) (sym (append-nil (kept ++ more))) ∙ lines_behind-append n (kept ++ more) [] all)
+pending_by false n kept more none none' long = filled n kept more none none' long
+
+ended_lines : (s u : State) (got : List ℕ) (ls : List Line) (n most : ℕ) → s ≡ fresh n most → Passed s u got ls → HasNoEnd u.kept → u.ended ≡ false → lines n (ended_part got) ≡ ls
+ended_lines s u got ls n most new passed none unended =
+    let (tail, split, none') = split_ended got in
+    let more = filler (n + 2) in
+    let long : n + 1 < length more = omega (arith, length-filler (n + 2)) in
+    let longest : u.longest ≡ n = passed.longest ∙ ap (λ (r : State). r.longest) new in
+    let all : pending s (got ++ more) ≡ ls ++ pending u more = passed.answers more (λ e. absurd (cc (e, unended))) in
+    let begun : pending (fresh n most) (got ++ more) ≡ ls ++ pending u more = subst (λ (r : State). pending r (got ++ more) ≡ ls ++ pending u more) new all in
+    let behind : pending u more ≡ Long ∷ [] = pending_by u.skips u.longest u.kept more none (filler-none (n + 2)) (omega (arith, long, longest)) in
+    let parts : lines n (got ++ more) ≡ lines n (ended_part got) ++ (Long ∷ []) =
+    ap (λ (l : List ℕ). lines n (l ++ more)) split ∙ ap (lines n) (append_assoc (ended_part got) tail more)
+    ∙ lines-ended n got (tail ++ more) ∙ ap (λ (l : List Line). lines n (ended_part got) ++ l) (filled n tail more none' (filler-none (n + 2)) long) in
+    append_cancel_right (lines n (ended_part got)) ls (Long ∷ []) (sym parts ∙ begun ∙ ap (λ (l : List Line). ls ++ l) behind)
+
+-- the answers are those of the lines that ended in the octets taken
+pub wrote-ended : (before now after : Option (List ℕ)) (s t u : State) (ls : List Line) (job : Job) (held held' : Option (List ℕ)) (n most : ℕ) → s ≡ fresh n most
+    → Advances before now s t ls → Advances now after t u [] → HasNoEnd u.kept → u.ended ≡ false → Appends held held' (answers job ls)
+    → (taken : List ℕ) × Consumes before after taken × Appends held held' (answers job (lines n (ended_part taken)))
+wrote-ended before now after s t u ls job held held' n most new p q none unended wrote =
+    let (got, consumed, passed) = advances-trans before now after s t u ls [] p q in
+    let same : lines n (ended_part got) ≡ ls = ended_lines s u got (ls ++ []) n most new passed none unended ∙ append-nil ls in
+    (got, consumed, subst (λ (l : List Line). Appends held held' (answers job l)) (sym same) wrote)

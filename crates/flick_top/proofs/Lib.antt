@@ -1,0 +1,10 @@
+pub mod Completing
+pub mod Counting
+pub mod Ended
+pub mod Front
+pub mod Loops
+pub mod Prefix
+pub mod Stops
+pub mod Text
+pub mod Trees
+pub mod Turning

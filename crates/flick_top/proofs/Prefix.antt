@@ -1,0 +1,98 @@
+-- Whatever ends a run, a front of the defined output was written.
+use Rattle.std.proofs.Common.{◌≡◌, ℕ, false, List, [], ◌∷◌, ◌++◌, sym, ◌∙◌, ap, subst, append_assoc, ◌<◌, ◌≤◌, length, arith}
+use Rattle.std.specs.Prelude.{Option, Some, None}
+use Rattle.std.specs.Io.KnownBytes.{Appends, Consumes}
+use Rattle.std.proofs.KnownBytes.{Appends-trans}
+use Rattle.std.proofs.lemmas.Grind.{flat_map-append}
+use Rattle.kit_base.specs.declared.lines.Line.{Line}
+use Rattle.kit_base.specs.Lines.{State, Advances, KnowsEnd, pending, lines}
+use Rattle.kit_base.proofs.Cutting.{advances-trans}
+use Rattle.flick_top.proofs.Turning.{answers-push}
+use Rattle.flick_top.specs.declared.task.Job.{Job}
+use Rattle.flick_top.specs.Answer.{answers, answer_to}
+
+-- a front of these octets was appended
+abbrev pub WroteFront : Option (List ℕ) → Option (List ℕ) → List ℕ → Type 0
+WroteFront held held' octets = (front : List ℕ) × (rest : List ℕ) × (octets ≡ front ++ rest) × Appends held held' front
+
+-- a reader of lines that has taken nothing
+abbrev pub fresh : ℕ → ℕ → State
+fresh n most = record { longest = n; most = most; kept = []; skips = false; ended = false; taken = 0; error = None }
+
+pub lines-split : (input rest : List ℕ) (s t : State) (ls : List Line) → s.kept ≡ [] → s.skips ≡ false → Advances (Some input) (Some rest) s t ls → KnowsEnd t (Some rest)
+    → lines s.longest input ≡ ls ++ pending t rest
+lines-split input rest s t ls kept skips (got, consumed, passed) knows =
+    let begun : lines s.longest (got ++ rest) ≡ pending s (got ++ rest) = rw (kept, skips) in
+    ap (lines s.longest) consumed ∙ begun ∙ passed.answers rest knows
+
+pub wrote-answers : (input : List ℕ) (before after : Option (List ℕ)) (s t : State) (ls : List Line) (f : Job) (held held' : Option (List ℕ)) → before ≡ Some input → s.kept ≡ [] → s.skips ≡ false
+    → Advances before after s t ls → KnowsEnd t after → Appends held held' (answers f ls) → WroteFront held held' (answers f (lines s.longest input))
+wrote-answers input before None s t ls f held held' told kept skips advances knows wrote =
+    let (got, consumed, passed) = subst (λ (o : Option (List ℕ)). Advances o None s t ls) told advances in absurd consumed
+wrote-answers input before (Some rest) s t ls f held held' told kept skips advances knows wrote =
+    let moved = subst (λ (o : Option (List ℕ)). Advances o (Some rest) s t ls) told advances in (
+      answers f ls,
+      answers f (pending t rest),
+      ap (answers f) (lines-split input rest s t ls kept skips moved knows) ∙ flat_map-append (answer_to f) ls (pending t rest),
+      wrote,
+    )
+
+-- the same, for a reader that was made with a longest line
+pub front-answers : (input : List ℕ) (before after : Option (List ℕ)) (s t : State) (ls : List Line) (f : Job) (held held' : Option (List ℕ)) (n most : ℕ)
+    → s ≡ fresh n most → before ≡ Some input
+    → Advances before after s t ls → KnowsEnd t after → Appends held held' (answers f ls) → WroteFront held held' (answers f (lines n input))
+front-answers input before after s t ls f held held' n most new told advances knows wrote =
+    subst (λ (k : ℕ). WroteFront held held' (answers f (lines k input))) (ap (λ (r : State). r.longest) new)
+    (wrote-answers input before after s t ls f held held' told (ap (λ (r : State). r.kept) new) (ap (λ (r : State). r.skips) new) advances knows wrote)
+
+-- a front of a front and what follows it
+pub front-part : (held held' : Option (List ℕ)) (whole done more : List ℕ) → WroteFront held held' done → (x : List ℕ) → whole ≡ done ++ x → WroteFront held held' whole
+front-part held held' whole done more (front, rest, e, wrote) x w =
+    (front, rest ++ x, w ∙ ap (λ (l : List ℕ). l ++ x) e ∙ append_assoc front rest x, wrote)
+
+-- the answers so far, and a front of the next
+pub front-next : (held held' held'' : Option (List ℕ)) (f : Job) (ls : List Line) (line : Line) → Appends held held' (answers f ls) → WroteFront held' held'' (answer_to f line)
+    → WroteFront held held'' (answers f (ls ++ line ∷ []))
+front-next held held' held'' f ls line wrote (front, rest, e, more) =
+    (answers f ls ++ front, rest, answers-push f ls line ∙ ap (λ (l : List ℕ). answers f ls ++ l) e ∙ sym (append_assoc (answers f ls) front rest), Appends-trans held held' held'' (answers f ls) front wrote more)
+
+front_split : (input : List ℕ) (before after : Option (List ℕ)) (s t : State) (ls : List Line) (f : Job) → before ≡ Some input → s.kept ≡ [] → s.skips ≡ false
+    → Advances before after s t ls → KnowsEnd t after → (x : List ℕ) × (answers f (lines s.longest input) ≡ answers f ls ++ x)
+front_split input before None s t ls f told kept skips advances knows =
+    let (got, consumed, passed) = subst (λ (o : Option (List ℕ)). Advances o None s t ls) told advances in absurd consumed
+front_split input before (Some rest) s t ls f told kept skips advances knows =
+    let moved = subst (λ (o : Option (List ℕ)). Advances o (Some rest) s t ls) told advances in
+    (answers f (pending t rest), ap (answers f) (lines-split input rest s t ls kept skips moved knows) ∙ flat_map-append (answer_to f) ls (pending t rest))
+
+-- a write that failed wrote a front of its line
+pub front-failed : (input : List ℕ) (before now after : Option (List ℕ)) (s t u : State) (ls : List Line) (line : Line) (f : Job) (held held' held'' : Option (List ℕ)) (n most : ℕ)
+    → s ≡ fresh n most → before ≡ Some input
+    → Advances before now s t ls → Advances now after t u (line ∷ []) → KnowsEnd u after → Appends held held' (answers f ls) → WroteFront held' held'' (answer_to f line)
+    → WroteFront held held'' (answers f (lines n input))
+front-failed input before now after s t u ls line f held held' held'' n most new told p q knows wrote part =
+    let both = advances-trans before now after s t u ls (line ∷ []) p q in
+    let (x, e) = front_split input before after s u (ls ++ line ∷ []) f told (ap (λ (r : State). r.kept) new) (ap (λ (r : State). r.skips) new) both knows in
+    subst (λ (k : ℕ). WroteFront held held'' (answers f (lines k input))) (ap (λ (r : State). r.longest) new)
+    (front-part held held'' (answers f (lines s.longest input)) (answers f (ls ++ line ∷ [])) [] (front-next held held' held'' f ls line wrote part) x e)
+
+-- a reader that took more than its most
+pub took-more : (before now after : Option (List ℕ)) (s t u : State) (ls : List Line) (n most : ℕ) → s ≡ fresh n most
+    → Advances before now s t ls → Advances now after t u [] → u.most < u.taken → (got : List ℕ) × Consumes before after got × (most < length got)
+took-more before now after s t u ls n most new p q over =
+    let (got, consumed, passed) = advances-trans before now after s t u ls [] p q in
+    let begun : s.taken ≡ 0 = ap (λ (r : State). r.taken) new in
+    let limit : s.most ≡ most = ap (λ (r : State). r.most) new in
+    (got, consumed, omega (arith, passed.count, passed.most, begun, limit, over))
+
+-- a reader that took no more than its most
+pub took-at_most : (before now : Option (List ℕ)) (s t : State) (ls : List Line) (n most : ℕ) → s ≡ fresh n most
+    → Advances before now s t ls → t.taken ≤ t.most → (got : List ℕ) × Consumes before now got × (length got ≤ most)
+took-at_most before now s t ls n most new (got, consumed, passed) within =
+    let begun : s.taken ≡ 0 = ap (λ (r : State). r.taken) new in
+    let limit : s.most ≡ most = ap (λ (r : State). r.most) new in
+    (got, consumed, omega (arith, passed.count, passed.most, begun, limit, within))
+
+pub took-at_most-next : (before now after : Option (List ℕ)) (s t u : State) (ls more : List Line) (n most : ℕ) → s ≡ fresh n most
+    → Advances before now s t ls → Advances now after t u more → u.taken ≤ u.most → (got : List ℕ) × Consumes before after got × (length got ≤ most)
+took-at_most-next before now after s t u ls more n most new p q within =
+    took-at_most before after s u (ls ++ more) n most new (advances-trans before now after s t u ls more p q) within

@@ -1,0 +1,10 @@
+use Rattle.std.proofs.Common.{◌≡◌, ◌+◌, ◌*◌, ◌++◌, length, take}
+use Rattle.flick_top.specs.Message.{words}
+use Rattle.flick_top.proofs.call.put_words.Given as goal
+
+abbrev pub invariant-loop-number : goal.invariant-loop-number
+invariant-loop-number l = record {
+  done : l.buf.done ≡ l.initial.buf.done ++ words (take l.number-index l.numbers);
+  ahead : length l.buf.front + 4 * l.number-index ≡ length l.initial.buf.front;
+  checks : l.buf.spent.checks ≡ l.initial.buf.spent.checks;
+}

@@ -1,0 +1,14 @@
+pub mod Answer
+pub mod Command
+pub mod Counted
+pub mod Field
+pub mod Form
+pub mod Message
+pub mod Output
+pub mod Reading
+pub mod Request
+pub mod Saying
+pub mod Statement
+pub mod Status
+pub mod Turn
+pub mod Words

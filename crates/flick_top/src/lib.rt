@@ -1,0 +1,17 @@
+//! The top call: a command of words, over the files of a shelf and the lines of a source.
+#![tactic(auto)]
+
+mod answer;
+mod call;
+mod command;
+mod form;
+mod form_file;
+mod form_words;
+mod request;
+mod saying;
+mod status;
+mod task;
+mod top;
+mod turns;
+
+pub use top::flick;

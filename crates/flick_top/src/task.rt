@@ -1,0 +1,84 @@
+// What a command comes to, once its words and its file are read.
+ghost use Rattle.std.specs.Prelude.{◌≡◌, ◌≤◌, List, ℕ, Option, Some, IfOk, IfErr, ◌⊎◌};
+ghost use Rattle.kit_base.specs.Causes.{Rose};
+ghost use Rattle.flick_top.specs.Output.{Files, task_of, over_file};
+
+use crate::command::{Command, command_of, path_of};
+use crate::form::{Form, FormErr};
+use crate::form_file::read_form;
+use crate::saying::Saying;
+use kit_base::{NoMemory, Shelf, ShelfErr, Words};
+use std::alloc::Global;
+
+/// What answers the lines of the input.
+#[derive(Drop)]
+pub enum Job {
+    /// Each request record by the message of its call.
+    Marshal(Form),
+}
+
+/// What is left to do when the files are read.
+#[derive(Drop)]
+pub enum Task {
+    /// To say a fixed text.
+    Say(Saying),
+    /// To answer the lines of the input.
+    Answer(Job),
+}
+
+/// Why there is no task.
+#[derive(Clone, Copy, Debug, PartialEq, Eq)]
+pub enum TaskErr {
+    /// The shelf failed.
+    Shelf,
+    NoMemory,
+}
+
+const MOST_FILE: u32 = 1_048_576;
+
+/// The task of these words over the files of the shelf.
+pub fn task_of<F: Shelf>(alloc: Global, words: &Words, shelf: &mut F) -> Result<Task, TaskErr>
+    ensures task { IfOk result (λ task. (files : Files) → F.files shelf.old ≡ Some files → task ≡ task_of words.now files) }
+    ensures later { F.faults shelf.old ≤ F.faults shelf.new }
+    ensures cause { IfErr result (λ e. e ≡ TaskErr.Shelf → Rose (F.faults shelf.old) (F.faults shelf.new)) }
+{
+    let Some(command) = command_of(words) else {
+        return Ok(Task::Say(Saying::NoShape));
+    };
+    match command {
+        Command::Help => Ok(Task::Say(Saying::Help)),
+        Command::Version => Ok(Task::Say(Saying::Version)),
+        Command::Marshal => over_path(alloc, path_of(words), shelf),
+    }
+}
+
+/// `marshal` over the file at a path. One octet more than the greatest length tells a longer one.
+fn over_path<F: Shelf>(alloc: Global, path: &[u8], shelf: &mut F) -> Result<Task, TaskErr>
+    ensures task { IfOk result (λ task. (files : Files) → F.files shelf.old ≡ Some files → task ≡ over_file (files path.now)) }
+    ensures later { F.faults shelf.old ≤ F.faults shelf.new }
+    ensures cause { IfErr result (λ e. e ≡ TaskErr.Shelf → Rose (F.faults shelf.old) (F.faults shelf.new)) }
+{
+    match shelf.read_file(alloc, path, MOST_FILE + 1) {
+        Ok(text) => match over_text(alloc, text.as_slice()) {
+            Ok(task) => Ok(task),
+            Err(NoMemory) => Err(TaskErr::NoMemory),
+        },
+        Err(ShelfErr::Absent) => Ok(Task::Say(Saying::NoFile)),
+        Err(ShelfErr::Failed) => Err(TaskErr::Shelf),
+        Err(ShelfErr::NoMemory) => Err(TaskErr::NoMemory),
+    }
+}
+
+/// `marshal` over a text.
+fn over_text(alloc: Global, text: &[u8]) -> Result<Task, NoMemory>
+    ensures { IfOk result (λ task. task ≡ over_file (Some text.now)) }
+{
+    if text.len() > MOST_FILE as usize {
+        return Ok(Task::Say(Saying::NoForm));
+    }
+    match read_form(alloc, text) {
+        Ok(form) => Ok(Task::Answer(Job::Marshal(form))),
+        Err(FormErr::Form) => Ok(Task::Say(Saying::NoForm)),
+        Err(FormErr::NoMemory) => Err(NoMemory),
+    }
+}

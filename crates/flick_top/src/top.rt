@@ -1,0 +1,44 @@
+// The top call.
+ghost use Rattle.std.specs.Prelude.{◌≡◌, ◌≤◌, Some};
+ghost use Rattle.kit_base.specs.Causes.{Rose};
+ghost use Rattle.flick_top.specs.Output.{Files, out, task_of, messages_of};
+ghost use Rattle.flick_top.specs.Statement.{Writes, WritesFront, WritesEnded, WritesNothing, TakesMore, TakesAtMost, ComesBy, Completes, Counts};
+
+use crate::status::Status;
+use crate::task::{TaskErr, task_of};
+use crate::turns::perform;
+use kit_base::{Shelf, Sink, Source, Words};
+use raw_buf::SendBuf;
+use std::alloc::Global;
+
+/// Runs the command of the words, and answers its status.
+///
+/// The words are those of a command line without the program's name. Messages are made in `buf`,
+/// which may hold anything. Each answer is written as a whole, with its line feed.
+pub fn flick<F: Shelf, S: Source, K: Sink>(
+    alloc: Global,
+    words: &Words,
+    shelf: &mut F,
+    input: &mut S,
+    output: &mut K,
+    buf: &mut SendBuf,
+) -> u8
+    ensures output { (files : Files) → F.files shelf.old ≡ Some files → Writes (out words.now files) (S.left input.old) (K.held output.old) (K.held output.new) result }
+    ensures front { (files : Files) → F.files shelf.old ≡ Some files → WritesFront (out words.now files) (S.left input.old) (K.held output.old) (K.held output.new) }
+    ensures ended { (files : Files) → F.files shelf.old ≡ Some files → WritesEnded (out words.now files) (S.left input.old) (S.left input.new) (K.held output.old) (K.held output.new) result }
+    ensures nothing { WritesNothing (K.held output.old) (K.held output.new) result }
+    ensures more { TakesMore (S.left input.old) (S.left input.new) result }
+    ensures at_most { TakesAtMost (S.left input.old) (S.left input.new) result }
+    ensures source { ComesBy 4 (S.faults input.old) (S.faults input.new) result }
+    ensures sink { ComesBy 5 (K.faults output.old) (K.faults output.new) result }
+    ensures shelf { ComesBy 6 (F.faults shelf.old) (F.faults shelf.new) result }
+    ensures completes { Completes (S.left input.old) (S.left input.new) (Rose (S.faults input.old) (S.faults input.new)) (Rose (K.faults output.old) (K.faults output.new)) (Rose (F.faults shelf.old) (F.faults shelf.new)) result }
+    ensures counts { (files : Files) → F.files shelf.old ≡ Some files → Counts (messages_of (task_of words.now files)) (S.left input.old) buf.old.spent.checks buf.new.spent.checks result }
+    ensures range { result ≤ 8 }
+{
+    match task_of(alloc, words, shelf) {
+        Ok(task) => perform(alloc, &task, input, output, buf).number(),
+        Err(TaskErr::Shelf) => Status::Shelf.number(),
+        Err(TaskErr::NoMemory) => Status::Memory.number(),
+    }
+}
