@@ -43,6 +43,7 @@ pub struct Lines {
     piece: Vec<u8>,
     buffer: Vec<u8>,
     from: usize,
+    searched: usize,
     skips: bool,
     ended: bool,
     taken: u64,
@@ -50,14 +51,16 @@ pub struct Lines {
 }
 
 impl Model for Lines {
-    ghost use Rattle.std.specs.Prelude.{◌≤◌, ◌+◌, ◌<◌, ◌^◌, ◌-◌, drop, length};
-    ghost use Rattle.kit_base.specs.Lines.{State};
+    ghost use Rattle.std.specs.Prelude.{◌≤◌, ◌+◌, ◌<◌, ◌^◌, ◌-◌, drop, take, length};
+    ghost use Rattle.kit_base.specs.Lines.{State, HasNoEnd};
 
     ghost Value = { State };
 
     ghost view = { λ s. record { longest = s.longest; most = s.most; kept = drop s.from s.buffer.items; skips = s.skips; ended = s.ended; taken = s.taken; error = s.error } };
 
-    ghost invariant = { λ s. (s.from ≤ length s.buffer.items) × (s.taken ≤ s.most + 1) × (s.most < 2 ^ 64 - 1) };
+    // No line ends in the octets of a begun line that were searched already.
+    ghost invariant = { λ s. (s.from ≤ length s.buffer.items) × (s.taken ≤ s.most + 1) × (s.most < 2 ^ 64 - 1)
+        × (s.from + s.searched ≤ length s.buffer.items) × HasNoEnd (take s.searched (drop s.from s.buffer.items)) };
 }
 
 impl Lines {
@@ -72,6 +75,7 @@ impl Lines {
             piece: Vec::new(alloc),
             buffer: Vec::new(alloc),
             from: 0,
+            searched: 0,
             skips: false,
             ended: false,
             taken: 0,
@@ -145,7 +149,7 @@ impl Lines {
         ensures open_end { IfOk result (λ c. c ≡ Cut.NoEnd → HasNoEnd self.new.kept × (work self.new ≤ work self.old)) }
         ensures same { (self.new.ended ≡ self.old.ended) × (self.new.error ≡ self.old.error) }
     {
-        let Some(end) = find_end(self.kept()) else {
+        let Some(end) = self.find() else {
             if self.skips() || self.kept().len() > self.longest() as usize + 1 {
                 self.skip_all();
             }
@@ -154,6 +158,21 @@ impl Lines {
         let line = self.line_to(end)?;
         self.drop_line(end + 1);
         Ok(Cut::Found(line))
+    }
+
+    /// Where the first line that is kept ends. Octets that were searched are not searched again.
+    fn find(&mut self) -> Option<usize>
+        ensures found { IfSome result (λ i. (i < length self.old.kept) × HasNoEnd (take i self.old.kept) × (self.old.kept ≡ take i self.old.kept ++ 10 ∷ drop (i + 1) self.old.kept)) }
+        ensures none { IfNone result (HasNoEnd self.old.kept) }
+        ensures fits { IfSome result (λ i. i < 2 ^ 63) }
+        ensures same { self.new ≡ self.old }
+    {
+        let kept = &self.buffer.as_slice()[self.from..];
+        let found = find_end(kept, self.searched);
+        if found.is_none() {
+            self.searched = kept.len();
+        }
+        found
     }
 
     /// The line of the first octets that are kept.
@@ -224,6 +243,7 @@ impl Lines {
     {
         self.skips = false;
         self.from += n;
+        self.searched = 0;
     }
 
     fn skip_all(&mut self)
@@ -231,6 +251,7 @@ impl Lines {
     {
         self.skips = true;
         self.from = self.buffer.len();
+        self.searched = 0;
     }
 
     /// Reads once, behind what is kept.
@@ -272,13 +293,15 @@ enum Cut {
     NoEnd,
 }
 
-/// Where the first line ends.
-fn find_end(octets: &[u8]) -> Option<usize>
+/// Where the first line ends, where none ends before `from`.
+fn find_end(octets: &[u8], from: usize) -> Option<usize>
+    requires within { from ≤ length octets.now }
+    requires searched { HasNoEnd (take from octets.now) }
     ensures found { IfSome result (λ i. (i < length octets.now) × HasNoEnd (take i octets.now) × (octets.now ≡ take i octets.now ++ 10 ∷ drop (i + 1) octets.now)) }
     ensures none { IfNone result (HasNoEnd octets.now) }
 {
-    for (i, o) in octets.iter().enumerate() {
-        if *o == 10 {
+    for i in from..octets.len() {
+        if octets[i] == 10 {
             return Some(i);
         }
     }
