@@ -15,3 +15,6 @@ mod top;
 mod turns;
 
 pub use top::flick;
+
+#[cfg(test)]
+mod tests;
