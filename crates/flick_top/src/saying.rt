@@ -8,24 +8,24 @@ use crate::status::Status;
 pub const USAGE: &[u8] = b"usage: flick COMMAND\n\
 \n\
 commands:\n\
-  marshal onc xdr FILE   answer each request record on standard input by the\n\
-                         hexadecimal digits of its ONC call\n\
-  --help                 write this page\n\
-  --version              write name and version\n\
+\x20 marshal onc xdr FILE   answer each request record on standard input by the\n\
+\x20                        hexadecimal digits of its ONC call\n\
+\x20 --help                 write this page\n\
+\x20 --version              write name and version\n\
 \n\
 FILE is an interface in the ONC RPC language. A request record is a line of JSON.\n\
 \n\
 status:\n\
-  0  the work was done, and no answer begins with `!`\n\
-  1  the work was done, and an answer begins with `!`\n\
-  2  the words name no command\n\
-  3  the file is not there or was refused; the output is one line with `?`\n\
-  4  standard input failed\n\
-  5  standard output failed\n\
-  6  the file could not be read\n\
-  7  there was no memory\n\
-  8  standard input has more than 1,073,741,824 octets\n\
-  9  the arguments are no text\n";
+\x20 0  the work was done, and no answer begins with `!`\n\
+\x20 1  the work was done, and an answer begins with `!`\n\
+\x20 2  the words name no command\n\
+\x20 3  the file is not there or was refused; the output is one line with `?`\n\
+\x20 4  standard input failed\n\
+\x20 5  standard output failed\n\
+\x20 6  the file could not be read\n\
+\x20 7  there was no memory\n\
+\x20 8  standard input has more than 1,073,741,824 octets\n\
+\x20 9  the arguments are no text\n";
 
 /// The line that `--version` writes.
 pub const VERSION: &[u8] = b"flick 0.1.0\n";
