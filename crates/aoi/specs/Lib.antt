@@ -1,0 +1,3 @@
+pub mod Shapes
+pub mod Units
+pub mod Sound

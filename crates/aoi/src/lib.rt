@@ -1,0 +1,13 @@
+//! The interface of a file: its named types, and its interfaces with their operations.
+#![tactic(auto)]
+
+mod distinct;
+mod interfaces;
+mod soundness;
+mod types;
+mod units;
+
+pub use interfaces::{Interface, Interfaces, Operation, Operations, Raise, Raises};
+pub use soundness::is_sound;
+pub use types::{Field, Fields, Items, Ty, Types, UnionArms};
+pub use units::{Unit, UnitErr};

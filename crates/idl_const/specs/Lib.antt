@@ -1,0 +1,2 @@
+pub mod Exprs
+pub mod Values

@@ -1,0 +1,124 @@
+-- The first octet of a text tells which sort of piece comes first.
+use Rattle.std.proofs.Common.{◌≡◌, ℕ, ◌<◌, List, [], ◌∷◌, Bool, true, false, not, ◌||◌, nat_eq, refl, sym, subst, ◌∙◌, inl, inr, codes, arith}
+use Rattle.std.specs.List.{list_any, list_all}
+use Rattle.std.proofs.lemmas.Bool.{and_parts, or_cases, or_parts, not-true, eqb-true, false_from_ne_true, false≢true}
+use Rattle.idl_lex.specs.Classes.{is_blank, is_letter, is_digit, begins}
+use Rattle.idl_lex.specs.Lines.{is_hash_line, is_skipped_by, is_skipped}
+use Rattle.idl_lex.specs.Pieces.{opens_comment, is_mark_octet, begins_twin, mark_count}
+use Rattle.idl_lex.specs.declared.kinds.Front.{Front}
+use Rattle.idl_lex.specs.declared.kinds.Front.TheVariants.{Onc, Corba, Mig}
+
+-- an octet that begins no blanks, no identifier and no number
+abbrev pub is_other : ℕ → Bool
+is_other o = not (is_blank o || is_letter o || is_digit o)
+
+pub letter_no_blank : (o : ℕ) → is_letter o ≡ true → is_blank o ≡ false
+letter_no_blank o h = grind arith
+
+pub digit_no_blank : (o : ℕ) → is_digit o ≡ true → is_blank o ≡ false
+digit_no_blank o h = grind arith
+
+pub digit_no_letter : (o : ℕ) → is_digit o ≡ true → is_letter o ≡ false
+digit_no_letter o h = grind arith
+
+at_first : (is isnt : ℕ → Bool) (text : List ℕ) → ((o : ℕ) → is o ≡ true → isnt o ≡ false) → begins is text ≡ true → begins isnt text ≡ false
+at_first is isnt [] f h = refl
+at_first is isnt (o ∷ os) f h = f o h
+
+pub begins_no_blank : (text : List ℕ) → begins is_letter text ≡ true → begins is_blank text ≡ false
+begins_no_blank text = at_first is_letter is_blank text letter_no_blank
+
+pub begins_digit_no_blank : (text : List ℕ) → begins is_digit text ≡ true → begins is_blank text ≡ false
+begins_digit_no_blank text = at_first is_digit is_blank text digit_no_blank
+
+pub begins_digit_no_letter : (text : List ℕ) → begins is_digit text ≡ true → begins is_letter text ≡ false
+begins_digit_no_letter text = at_first is_digit is_letter text digit_no_letter
+
+other_no_blank : (o : ℕ) → is_other o ≡ true → is_blank o ≡ false
+other_no_blank o h = (or_parts (is_blank o) (is_letter o) (or_parts (is_blank o || is_letter o) (is_digit o) (not-true _ h)).0).0
+
+other_no_letter : (o : ℕ) → is_other o ≡ true → is_letter o ≡ false
+other_no_letter o h = (or_parts (is_blank o) (is_letter o) (or_parts (is_blank o || is_letter o) (is_digit o) (not-true _ h)).0).1
+
+other_no_digit : (o : ℕ) → is_other o ≡ true → is_digit o ≡ false
+other_no_digit o h = (or_parts (is_blank o || is_letter o) (is_digit o) (not-true _ h)).1
+
+pub other_blank : (text : List ℕ) → begins is_other text ≡ true → begins is_blank text ≡ false
+other_blank text = at_first is_other is_blank text other_no_blank
+
+pub other_letter : (text : List ℕ) → begins is_other text ≡ true → begins is_letter text ≡ false
+other_letter text = at_first is_other is_letter text other_no_letter
+
+pub other_digit : (text : List ℕ) → begins is_other text ≡ true → begins is_digit text ≡ false
+other_digit text = at_first is_other is_digit text other_no_digit
+
+other_at : (m o : ℕ) → is_other m ≡ true → o ≡ m → is_other o ≡ true
+other_at m o h e = rw e h
+
+-- ---- what begins with another octet
+
+pub comment_is_other : (text : List ℕ) → opens_comment text ≡ true → begins is_other text ≡ true
+comment_is_other [] h = absurd (false≢true h)
+comment_is_other (o ∷ os) h = other_at 47 o refl (sym (eqb-true 47 o (and_parts _ _ h).0))
+
+skipped_by_is_other : (front : Front) (before text : List ℕ) → is_skipped_by front before text ≡ true → begins is_other text ≡ true
+skipped_by_is_other Onc before [] h = absurd (false≢true h)
+skipped_by_is_other Onc before (o ∷ os) h = other_at 37 o refl (eqb-true o 37 (and_parts _ _ h).0)
+skipped_by_is_other Corba before text h = absurd (false≢true h)
+skipped_by_is_other Mig before text h = absurd (false≢true h)
+
+hash_is_other : (before text : List ℕ) → is_hash_line before text ≡ true → begins is_other text ≡ true
+hash_is_other before [] h = absurd (false≢true h)
+hash_is_other before (o ∷ os) h = other_at 35 o refl (eqb-true o 35 (and_parts _ _ h).0)
+
+pub skipped_is_other : (front : Front) (before text : List ℕ) → is_skipped front before text ≡ true → begins is_other text ≡ true
+skipped_is_other front before text h =
+    elim (or_cases _ _ h) [ inl a ↦ hash_is_other before text (and_parts _ _ a).0 | inr b ↦ skipped_by_is_other front before text b ]
+
+among : (is : ℕ → Bool) (o : ℕ) (ms : List ℕ) → list_all is ms ≡ true → list_any (λ m. nat_eq o m) ms ≡ true → is o ≡ true
+among is o [] all any = absurd (false≢true any)
+among is o (m ∷ ms) all any =
+    elim (or_cases (nat_eq o m) _ any) [ inl h ↦ subst (λ z. is z ≡ true) (sym (eqb-true o m h)) (and_parts _ _ all).0 | inr h ↦ among is o ms (and_parts _ _ all).1 h ]
+
+mark_other : (o : ℕ) (os : List ℕ) (twin one : Bool) → begins_twin (o ∷ os) ≡ twin → is_mark_octet o ≡ one → 0 < mark_count (o ∷ os) → is_other o ≡ true
+mark_other o os true one t m more = among is_other o (codes ":<>") refl (and_parts _ _ t).0
+mark_other o os false true t m more = among is_other o (codes "{}[]()<>;:,=*+-/%|^&") refl m
+mark_other o os false false t m more = let none : mark_count (o ∷ os) ≡ 0 = rw (t, m) refl in absurd (omega (arith, none, more))
+
+pub mark_is_other : (text : List ℕ) → 0 < mark_count text → begins is_other text ≡ true
+mark_is_other [] more = absurd (omega arith)
+mark_is_other (o ∷ os) more = mark_other o os _ _ refl refl more
+
+-- ---- what does not
+
+opposite : (a b : Bool) → (a ≡ true → b ≡ true) → b ≡ false → a ≡ false
+opposite a b f h = false_from_ne_true a (λ y. false≢true (sym h ∙ f y))
+
+letter_no_other : (o : ℕ) → is_letter o ≡ true → is_other o ≡ false
+letter_no_other o h = grind arith
+
+digit_no_other : (o : ℕ) → is_digit o ≡ true → is_other o ≡ false
+digit_no_other o h = grind arith
+
+pub letter_opens_none : (text : List ℕ) → begins is_letter text ≡ true → opens_comment text ≡ false
+letter_opens_none text h = opposite _ _ (comment_is_other text) (at_first is_letter is_other text letter_no_other h)
+
+pub digit_opens_none : (text : List ℕ) → begins is_digit text ≡ true → opens_comment text ≡ false
+digit_opens_none text h = opposite _ _ (comment_is_other text) (at_first is_digit is_other text digit_no_other h)
+
+pub digit_no_hash : (before text : List ℕ) → begins is_digit text ≡ true → is_hash_line before text ≡ false
+digit_no_hash before text h = opposite _ _ (hash_is_other before text) (at_first is_digit is_other text digit_no_other h)
+
+hash_opens_none : (before text : List ℕ) → is_hash_line before text ≡ true → opens_comment text ≡ false
+hash_opens_none before [] h = absurd (false≢true h)
+hash_opens_none before (o ∷ os) h = let e = eqb-true o 35 (and_parts _ _ h).0 in rw e refl
+
+skipped_by_opens_none : (front : Front) (before text : List ℕ) → is_skipped_by front before text ≡ true → opens_comment text ≡ false
+skipped_by_opens_none Onc before [] h = absurd (false≢true h)
+skipped_by_opens_none Onc before (o ∷ os) h = let e = eqb-true o 37 (and_parts _ _ h).0 in rw e refl
+skipped_by_opens_none Corba before text h = absurd (false≢true h)
+skipped_by_opens_none Mig before text h = absurd (false≢true h)
+
+pub skipped_opens_none : (front : Front) (before text : List ℕ) → is_skipped front before text ≡ true → opens_comment text ≡ false
+skipped_opens_none front before text h =
+    elim (or_cases _ _ h) [ inl a ↦ hash_opens_none before text (and_parts _ _ a).0 | inr b ↦ skipped_by_opens_none front before text b ]

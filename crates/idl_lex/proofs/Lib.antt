@@ -1,0 +1,5 @@
+pub mod Counts
+pub mod Digits
+pub mod Firsts
+pub mod Standing
+pub mod Reading

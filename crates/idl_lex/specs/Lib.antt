@@ -1,0 +1,6 @@
+pub mod Classes
+pub mod Numbers
+pub mod Lines
+pub mod Pieces
+pub mod Lexed
+pub mod Reads

@@ -1,0 +1,86 @@
+-- The pieces of a text, and when octets are one.
+use Rattle.std.specs.Prelude.{◌≡◌, Bool, true, false, ◌&&◌, ◌==◌, ℕ, suc, ◌+◌, ◌^◌, ◌<◌, pos, List, [], ◌∷◌, ◌++◌, take, drop, Option, Some, None, codes, nat_eq, if◌then◌else◌}
+use Rattle.std.specs.List.{list_any, take_while, starts_with}
+use Rattle.std.specs.Option.{option_map}
+use Rattle.idl_lex.specs.Classes.{is_blank, is_in_line, is_letter, is_digit, is_word_octet, begins}
+use Rattle.idl_lex.specs.Numbers.{digit_count, is_number, value_of}
+use Rattle.idl_lex.specs.Lines.{is_skipped}
+use Rattle.idl_lex.specs.declared.kinds.Front.{Front}
+use Rattle.idl_lex.specs.declared.kinds.TokenKind.{TokenKind}
+use Rattle.idl_lex.specs.declared.kinds.TokenKind.TheVariants.{Name, Number, Mark}
+
+-- a text that begins a comment
+abbrev pub opens_comment : List ℕ → Bool
+opens_comment text = starts_with nat_eq text (codes "/*")
+
+-- how many octets stand up to the first `*/` and with it, where there is one
+abbrev pub count_to_close : List ℕ → Option ℕ
+count_to_close [] = None
+count_to_close (o ∷ os) = if starts_with nat_eq (o ∷ os) (codes "*/") then Some 2 else option_map suc (count_to_close os)
+
+-- an octet that is a mark
+abbrev pub is_mark_octet : ℕ → Bool
+is_mark_octet o = list_any (λ m. o == m) (codes "{}[]()<>;:,=*+-/%|^&")
+
+-- an octet that is a mark twice, too
+abbrev pub is_twin_octet : ℕ → Bool
+is_twin_octet o = list_any (λ m. o == m) (codes ":<>")
+
+-- a text that begins with a mark of two octets
+abbrev pub begins_twin : List ℕ → Bool
+begins_twin [] = false
+begins_twin (o ∷ os) = is_twin_octet o && begins (λ p. p == o) os
+
+-- how many octets the longest mark has that comes first in a text; 0 where none does
+abbrev pub mark_count : List ℕ → ℕ
+mark_count text = if begins_twin text then 2 else if begins is_mark_octet text then 1 else 0
+
+-- a piece of a text, with its octets
+pub data Piece : Type 0 where
+  blanks : List ℕ → Piece
+  comment : List ℕ → Piece
+  skipped_line : List ℕ → Piece
+  name : List ℕ → Piece
+  number : List ℕ → Piece
+  mark : List ℕ → Piece
+
+-- the octets of a piece
+abbrev pub octets_of : Piece → List ℕ
+octets_of (blanks os) = os
+octets_of (comment os) = os
+octets_of (skipped_line os) = os
+octets_of (name os) = os
+octets_of (number os) = os
+octets_of (mark os) = os
+
+-- the octets of pieces, one after the other
+abbrev pub all_octets : List Piece → List ℕ
+all_octets [] = []
+all_octets (p ∷ ps) = octets_of p ++ all_octets ps
+
+-- the kind of the token that a piece is, where it is one
+abbrev pub kind_of : Piece → Option TokenKind
+kind_of (blanks os) = None
+kind_of (comment os) = None
+kind_of (skipped_line os) = None
+kind_of (name os) = Some (Name os)
+kind_of (number os) = Some (Number (pos (value_of os)))
+kind_of (mark os) = Some (Mark os)
+
+-- octets are a piece at a place: `before` is what stands before it, `text` is the octets and all that stands behind them, and of its sort the piece is the longest that comes first there
+abbrev pub IsPieceOf : Front → List ℕ → Piece → List ℕ → Type 0
+IsPieceOf front before (blanks os) text = (begins is_blank text ≡ true) × (os ≡ take_while is_blank text)
+IsPieceOf front before (comment os) text = (opens_comment text ≡ true) × ((n : ℕ) × (count_to_close (drop 2 text) ≡ Some n) × (os ≡ take (2 + n) text))
+IsPieceOf front before (skipped_line os) text = (is_skipped front before text ≡ true) × (os ≡ take_while is_in_line text)
+IsPieceOf front before (name os) text = (begins is_letter text ≡ true) × (os ≡ take_while is_word_octet text)
+IsPieceOf front before (number os) text = (begins is_digit text ≡ true) × (os ≡ take (digit_count text) text) × (is_number os ≡ true) × (value_of os < 2 ^ 127)
+IsPieceOf front before (mark os) text = (0 < mark_count text) × (os ≡ take (mark_count text) text) × (opens_comment text ≡ false) × (is_skipped front before text ≡ false)
+
+-- a piece that stands behind pieces and before octets
+abbrev pub Stands : Front → List Piece → Piece → List ℕ → Type 0
+Stands front before p behind = IsPieceOf front (all_octets before) p (octets_of p ++ behind)
+
+-- pieces that stand one after the other, behind pieces and before octets
+abbrev pub AllStand : Front → List Piece → List Piece → List ℕ → Type 0
+AllStand front before [] behind = Unit {0}
+AllStand front before (p ∷ ps) behind = Stands front before p (all_octets ps ++ behind) × AllStand front (before ++ p ∷ []) ps behind

@@ -1,0 +1,47 @@
+-- What each function of the lexer reads.
+use Rattle.std.specs.Prelude.{◌≡◌, ◌==◌, nat_lt, ℕ, ◌+◌, ◌^◌, List, length, take, drop, Option, Some, None, Result, Ok, Err, if◌then◌else◌}
+use Rattle.std.specs.List.{prefix_len}
+use Rattle.idl_lex.specs.Classes.{is_blank, is_in_line, is_letter, is_digit, is_word_octet, begins}
+use Rattle.idl_lex.specs.Numbers.{digit_count, is_number, value_of}
+use Rattle.idl_lex.specs.Lines.{is_hash_line, is_skipped}
+use Rattle.idl_lex.specs.Pieces.{Piece, blanks, comment, skipped_line, name, number, mark, octets_of, kind_of, opens_comment, count_to_close, mark_count}
+use Rattle.idl_lex.specs.declared.kinds.Front.{Front}
+use Rattle.idl_lex.specs.declared.kinds.TokenKind.{TokenKind}
+use Rattle.idl_lex.specs.declared.lexing.LexErr.{LexErr}
+use Rattle.idl_lex.specs.declared.lexing.LexErr.TheVariants.{BadOctet, OpenComment, Wide, Directive, NoMemory}
+
+-- what is answered is this, unless memory ran out
+abbrev pub Gives : {X : Type 0} → Result X LexErr → Result X LexErr → Type 0
+Gives (Err NoMemory) read = Unit {0}
+Gives answer read = read ≡ answer
+
+-- a piece, or a fault
+abbrev pub Read : Type 0
+Read = Result Piece LexErr
+
+-- the kind of the token that a piece is, and how many octets the piece has
+abbrev pub shown : Read → Result (Option TokenKind × ℕ) LexErr
+shown (Ok p) = Ok (kind_of p, length (octets_of p))
+shown (Err e) = Err e
+
+abbrev pub comment_of : ℕ → List ℕ → Option ℕ → Read
+comment_of at text None = Err (OpenComment at)
+comment_of at text (Some n) = Ok (comment (take (2 + n) text))
+
+abbrev pub number_of : ℕ → List ℕ → Read
+number_of at os = if is_number os then if nat_lt (value_of os) (2 ^ 127) then Ok (number os) else Err (Wide at) else Err (BadOctet at)
+
+abbrev pub mark_of : List ℕ → List ℕ → ℕ → Read
+mark_of before text n =
+    if n == 0 then if is_hash_line before text then Err (Directive (length before)) else Err (BadOctet (length before))
+    else Ok (mark (take n text))
+
+-- the piece that comes first in a text
+abbrev pub piece_at : Front → List ℕ → List ℕ → Read
+piece_at front before text =
+    if begins is_blank text then Ok (blanks (take (prefix_len is_blank text) text))
+    else if opens_comment text then comment_of (length before) text (count_to_close (drop 2 text))
+    else if begins is_letter text then Ok (name (take (prefix_len is_word_octet text) text))
+    else if begins is_digit text then number_of (length before) (take (digit_count text) text)
+    else if is_skipped front before text then Ok (skipped_line (take (prefix_len is_in_line text) text))
+    else mark_of before text (mark_count text)

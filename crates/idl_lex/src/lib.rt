@@ -1,0 +1,21 @@
+//! The tokens of interface files.
+//!
+//! [`lex`] reads a text once from left to right and gives its tokens, each with its line, or the
+//! first fault with its place. The rules of ONC files stand; those of the other fronts are added as
+//! further cases of [`Front`].
+#![tactic(auto)]
+
+mod classes;
+mod kinds;
+mod laws;
+mod lexing;
+mod lines;
+mod numbers;
+mod pieces;
+
+pub use kinds::{Front, Token, TokenKind, Tokens};
+pub use laws::{fault_is_determined, pieces_are_determined, pieces_leave_no_fault};
+pub use lexing::{LexErr, lex};
+
+#[cfg(test)]
+mod tests;

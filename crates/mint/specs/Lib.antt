@@ -1,0 +1,9 @@
+pub mod Arms
+pub mod Blank
+pub mod Kinds
+pub mod Measured
+pub mod Row
+pub mod Sound
+pub mod Typed
+pub mod Types
+pub mod Values

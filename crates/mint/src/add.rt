@@ -1,0 +1,349 @@
+//! Adding a node to a table.
+
+ghost use Rattle.std.specs.Prelude.{List, map, ◌≢◌, ◌≡◌, ◌∷◌, [], ◌++◌, ◌<◌, ◌≤◌, ◌+◌, length, IfOk, IfErr, OnOk, OnErr, None, Some, nat_lt, nat_le, ◌&&◌, true};
+ghost use Rattle.std.specs.List.{list_all};
+ghost use Rattle.mint.specs.Blank.{blank, depth, fields_depth, arms_depth, least, blanks, blank_arm};
+ghost use Rattle.mint.specs.Kinds.{in_range};
+ghost use Rattle.mint.specs.Measured.{size_of};
+ghost use Rattle.mint.specs.Sound.{is_unfit, is_empty, is_mislabelled, is_zero, is_labelled, are_labels, are_arms, are_tagged, is_armless, rise_from, is_below, children_below, refusal, level_refusal};
+ghost use Rattle.mint.specs.Typed.{is_scalar};
+ghost use Rattle.mint.specs.Types.{Ty, Scalar, level, type_at, unfolded, fields_at, arms_at, scalar_of, HasChildrenBelow, AreBelow, ArmsBelow, IsBelow};
+ghost use Rattle.mint.specs.Values.{weight, weights};
+
+use crate::errors::MintErr;
+use crate::kind::{Count, Kind};
+use crate::node::{Arms, Labels, Node, NodeIds, Tag};
+use crate::size::Size;
+use crate::table::{Mint, NodeId};
+
+impl Mint {
+    /// Puts a node behind the others, and gives its number. Only children that stand before it
+    /// count for its depth and its blank value.
+    pub fn add(&mut self, node: Node) -> Result<NodeId, MintErr>
+        ensures ok { OnOk result (self.new ≡ self.old ++ node ∷ []) }
+        ensures id { IfOk result (λ id. id ≡ length self.old) }
+        ensures taken { OnOk result (refusal self.old node ≡ None) }
+        ensures cause { IfErr result (λ e. e ≢ MintErr.NoMemory → refusal self.old node ≡ Some e) }
+        ensures err { OnErr result (self.new ≡ self.old) }
+    {
+        let id = self.len() as NodeId;
+        let size = self.size_of(&node)?;
+        self.put(node, size)?;
+        Ok(id)
+    }
+
+    /// The size of a node that may be added.
+    fn size_of(&self, node: &Node) -> Result<Size, MintErr>
+        ensures ok { IfOk result (λ s. s ≡ size_of (level (unfolded self.now) node.now)) }
+        ensures taken { OnOk result (refusal self.now node.now ≡ None) }
+        ensures cause { IfErr result (λ e. refusal self.now node.now ≡ Some e) }
+    {
+        if self.len() >= 65_536 {
+            return Err(MintErr::Many);
+        }
+        if !has_children_below(node, self.len() as NodeId) {
+            return Err(MintErr::Forward);
+        }
+        self.measure(node)
+    }
+
+    /// The size of a node whose children are there.
+    fn measure(&self, node: &Node) -> Result<Size, MintErr>
+        requires { HasChildrenBelow (length self.now) node.now }
+        ensures ok { IfOk result (λ s. s ≡ size_of (level (unfolded self.now) node.now)) }
+        ensures taken { OnOk result (level_refusal (level (unfolded self.now) node.now) ≡ None) }
+        ensures cause { IfErr result (λ e. level_refusal (level (unfolded self.now) node.now) ≡ Some e) }
+    {
+        if self.is_unfit(node) {
+            return Err(MintErr::Kind);
+        }
+        if self.is_empty(node) {
+            return Err(MintErr::Empty);
+        }
+        if self.is_mislabelled(node) {
+            return Err(MintErr::Labels);
+        }
+        let depth = self.depth(node);
+        if depth > 32 {
+            return Err(MintErr::Deep);
+        }
+        let weight = self.blank_weight(node);
+        if weight > 1_048_576 {
+            return Err(MintErr::Heavy);
+        }
+        Ok(Size {
+            depth,
+            weight: weight as u32,
+        })
+    }
+
+    /// Whether a node is a row of Bool, or a text of an exact length.
+    fn is_unfit(&self, node: &Node) -> bool
+        ensures { result ≡ is_unfit (level (unfolded self.now) node.now) }
+    {
+        matches!(
+            node,
+            Node::Row(Kind::Bool, _) | Node::Text(Count::Exactly(_))
+        )
+    }
+
+    /// Whether a count is exactly 0, or an element weighs nothing.
+    fn is_empty(&self, node: &Node) -> bool
+        requires { HasChildrenBelow (length self.now) node.now }
+        ensures { result ≡ is_empty (level (unfolded self.now) node.now) }
+    {
+        match node {
+            Node::Text(count) | Node::Row(_, count) => count.is_zero(),
+            Node::Items(item, count) => count.is_zero() || self.size(*item).weight == 0,
+            _ => false,
+        }
+    }
+
+    /// Whether a node's labels or arms are no labels or arms.
+    fn is_mislabelled(&self, node: &Node) -> bool
+        ensures { result ≡ is_mislabelled (level (unfolded self.now) node.now) }
+    {
+        match node {
+            Node::Enum(labels) => !are_labels(labels),
+            Node::Choice(tag, arms, other) => !(is_labelled(tag) && are_arms(tag, arms, *other)),
+            _ => false,
+        }
+    }
+
+    /// The levels of a node.
+    fn depth(&self, node: &Node) -> u32
+        requires { HasChildrenBelow (length self.now) node.now }
+        ensures { result ≡ depth (level (unfolded self.now) node.now) }
+    {
+        match node {
+            Node::Group(ids) => 1 + self.fields_depth(ids),
+            Node::Items(item, _) => 1 + self.size(*item).depth,
+            Node::Choice(_, arms, other) => 1 + self.arms_depth(arms, *other),
+            Node::Maybe(item) => 1 + self.size(*item).depth,
+            _ => 1,
+        }
+    }
+
+    fn fields_depth(&self, ids: &NodeIds) -> u32
+        requires { AreBelow (length self.now) ids.now }
+        ensures value { result ≡ fields_depth (fields_at (unfolded self.now) ids.now) }
+        ensures bound { result ≤ 32 }
+    {
+        let mut deepest = 0;
+        for id in ids.as_slice() {
+            deepest = deepest.max(self.size(*id).depth);
+        }
+        deepest
+    }
+
+    fn arms_depth(&self, arms: &Arms, other: Option<NodeId>) -> u32
+        requires arms { ArmsBelow (length self.now) arms.now }
+        requires other { IsBelow (length self.now) other }
+        ensures value { result ≡ arms_depth (arms_at (unfolded self.now) arms.now other) }
+        ensures bound { result ≤ 32 }
+    {
+        let mut deepest = 0;
+        for (_, id) in arms.as_slice() {
+            deepest = deepest.max(self.size(*id).depth);
+        }
+        match other {
+            Some(id) => deepest.max(self.size(id).depth),
+            None => deepest,
+        }
+    }
+
+    /// What a node's blank value weighs.
+    fn blank_weight(&self, node: &Node) -> u128
+        requires { HasChildrenBelow (length self.now) node.now }
+        ensures { result ≡ weight (blank (level (unfolded self.now) node.now)) }
+    {
+        match node {
+            Node::Void => 0,
+            Node::Num(_) | Node::Enum(_) | Node::Text(_) | Node::Maybe(_) => 1,
+            Node::Row(_, count) => 1 + u128::from(count.least()),
+            Node::Group(ids) => self.fields_weight(ids),
+            Node::Items(item, count) => {
+                1 + u128::from(count.least()) * u128::from(self.size(*item).weight)
+            }
+            Node::Choice(_, arms, other) => self.arm_weight(arms, *other),
+        }
+    }
+
+    fn fields_weight(&self, ids: &NodeIds) -> u128
+        requires { AreBelow (length self.now) ids.now }
+        ensures { result ≡ weights (blanks (fields_at (unfolded self.now) ids.now)) }
+    {
+        let mut sum = 0;
+        for id in ids.as_slice() {
+            sum += u128::from(self.size(*id).weight);
+        }
+        sum
+    }
+
+    fn arm_weight(&self, arms: &Arms, other: Option<NodeId>) -> u128
+        requires arms { ArmsBelow (length self.now) arms.now }
+        requires other { IsBelow (length self.now) other }
+        ensures { (s : Scalar) → result ≡ weight (blank_arm s (arms_at (unfolded self.now) arms.now other)) }
+    {
+        match arms.get(0) {
+            Some((_, id)) => 1 + u128::from(self.size(*id).weight),
+            None => match other {
+                Some(id) => 1 + u128::from(self.size(id).weight),
+                None => 0,
+            },
+        }
+    }
+}
+
+impl Count {
+    /// The least length that it allows.
+    pub fn least(self) -> u32
+        ensures { result ≡ least self }
+    {
+        match self {
+            Count::Exactly(n) => n,
+            _ => 0,
+        }
+    }
+
+    fn is_zero(self) -> bool
+        ensures { result ≡ is_zero self }
+    {
+        matches!(self, Count::Exactly(0))
+    }
+}
+
+/// Whether each child of a node has a number below another.
+fn has_children_below(node: &Node, id: NodeId) -> bool
+    ensures { result ≡ children_below id node.now }
+{
+    match node {
+        Node::Group(ids) => are_below(ids, id),
+        Node::Items(item, _) | Node::Maybe(item) => *item < id,
+        Node::Choice(_, arms, other) => are_arms_below(arms, id) && is_below(*other, id),
+        _ => true,
+    }
+}
+
+fn are_below(ids: &NodeIds, id: NodeId) -> bool
+    ensures { result ≡ list_all (λ i. nat_lt i id) ids.now }
+{
+    ids.as_slice().iter().all(|i| *i < id)
+}
+
+fn are_arms_below(arms: &Arms, id: NodeId) -> bool
+    ensures { result ≡ list_all (λ a. nat_lt a.1 id) arms.now }
+{
+    arms.as_slice().iter().all(|arm| arm.1 < id)
+}
+
+fn is_below(other: Option<NodeId>, id: NodeId) -> bool
+    ensures { result ≡ is_below id other }
+{
+    match other {
+        Some(i) => i < id,
+        None => true,
+    }
+}
+
+/// Whether a tag's labels are labels.
+fn is_labelled(tag: &Tag) -> bool
+    ensures { result ≡ is_labelled (scalar_of tag.now) }
+{
+    match tag {
+        Tag::Num(_) => true,
+        Tag::Enum(labels) => are_labels(labels),
+    }
+}
+
+/// Whether an enum may have the labels.
+fn are_labels(labels: &Labels) -> bool
+    ensures { result ≡ are_labels labels.now }
+{
+    are_ranged(labels.as_slice());
+    are_few_rising(labels)
+}
+
+/// Labels are in range by their type. That is known of a label once it is read, and the loop is for
+/// nothing else.
+#[tactic(auto, using(crate::proofs::Measuring::ranged_labels))]
+fn are_ranged(labels: &[i32])
+    ensures { list_all (in_range Kind.I32) labels.now ≡ true }
+{
+    for label in labels {
+        let _label = *label;
+    }
+}
+
+fn are_few_rising(labels: &Labels) -> bool
+    ensures { result ≡ (nat_lt 0 (length labels.now) && nat_le (length labels.now) 4096 && rise_from None labels.now) }
+{
+    labels.len() > 0 && labels.len() <= 4096 && are_rising(labels.as_slice())
+}
+
+fn are_rising(labels: &[i32]) -> bool
+    ensures { result ≡ rise_from None labels.now }
+{
+    let mut last = None;
+    for label in labels {
+        if let Some(before) = last {
+            if before >= *label {
+                return false;
+            }
+        }
+        last = Some(*label);
+    }
+    true
+}
+
+/// Whether a choice of the tag may have the arms.
+fn are_arms(tag: &Tag, arms: &Arms, other: Option<NodeId>) -> bool
+    ensures { (ts : List Ty) → result ≡ are_arms (scalar_of tag.now) (arms_at ts arms.now other) }
+{
+    are_tagged(tag, arms.as_slice()) && !is_armless(arms, other)
+}
+
+fn is_armless(arms: &Arms, other: Option<NodeId>) -> bool
+    ensures { (ts : List Ty) → result ≡ is_armless (arms_at ts arms.now other) }
+{
+    arms.len() == 0 && other.is_none()
+}
+
+/// Whether arms list numbers that a choice of the tag may list.
+fn are_tagged(tag: &Tag, arms: &[(i128, NodeId)]) -> bool
+    ensures { result ≡ are_tagged (scalar_of tag.now) (map (λ a. a.0) arms.now) }
+{
+    arms.len() <= 4096 && are_rising_in(tag, arms)
+}
+
+fn are_rising_in(tag: &Tag, arms: &[(i128, NodeId)]) -> bool
+    ensures { result ≡ (rise_from None (map (λ a. a.0) arms.now) && list_all (is_scalar (scalar_of tag.now)) (map (λ a. a.0) arms.now)) }
+{
+    are_arms_rising(arms) && are_in_tag(tag, arms)
+}
+
+fn are_arms_rising(arms: &[(i128, NodeId)]) -> bool
+    ensures { result ≡ rise_from None (map (λ a. a.0) arms.now) }
+{
+    let mut last = None;
+    for (n, _) in arms {
+        if let Some(before) = last {
+            if before >= *n {
+                return false;
+            }
+        }
+        last = Some(*n);
+    }
+    true
+}
+
+fn are_in_tag(tag: &Tag, arms: &[(i128, NodeId)]) -> bool
+    ensures { result ≡ list_all (is_scalar (scalar_of tag.now)) (map (λ a. a.0) arms.now) }
+{
+    for (n, _) in arms {
+        if !tag.has(*n) {
+            return false;
+        }
+    }
+    true
+}

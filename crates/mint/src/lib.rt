@@ -1,0 +1,19 @@
+//! Message types, values, and when a value is of a type.
+#![tactic(auto)]
+
+mod add;
+pub mod blank_value;
+pub mod copying;
+pub mod errors;
+pub mod fits;
+pub mod kind;
+pub mod laws;
+pub mod node;
+pub mod row;
+mod size;
+pub mod table;
+#[cfg(test)]
+mod tests;
+pub mod value;
+#[cfg(test)]
+mod value_tests;

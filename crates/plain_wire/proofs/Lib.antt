@@ -1,0 +1,8 @@
+pub mod Arms
+pub mod Reading
+pub mod Blocks
+pub mod Exact
+pub mod Arrays
+pub mod Images
+pub mod Steps
+pub mod Values

@@ -1,0 +1,3 @@
+pub mod Readers
+pub mod Answered
+pub mod Sending

@@ -1,0 +1,39 @@
+//! Where reading is, and why it ends.
+
+ghost use Rattle.std.specs.Prelude.{◌≡◌, ◌≤◌, ◌+◌, length};
+
+use kit_base::NoMemory;
+use wire_def::{Fault, FaultKind};
+
+/// A place in a message, and the octets from there on.
+#[derive(Clone, Copy)]
+pub(crate) struct Cursor<'a> {
+    pub(crate) place: usize,
+    pub(crate) rest: &'a [u8],
+    ghost within: { place + length rest.now ≤ 4194304 },
+}
+
+/// Why nothing was read.
+#[derive(Drop)]
+pub(crate) enum ReadError {
+    NoMemory,
+    Stop(Fault),
+}
+
+impl From<NoMemory> for ReadError {
+    ghost use Rattle.std.specs.Prelude.{◌≡◌};
+    ghost use Rattle.plain_wire.specs.declared.cursor.ReadError.TheVariants as errors;
+
+    ghost from_gives = { λ _ e. e ≡ errors.NoMemory };
+
+    fn from(_refused: NoMemory) -> ReadError {
+        ReadError::NoMemory
+    }
+}
+
+/// A fault at a place.
+pub(crate) fn stop(kind: FaultKind, at: usize) -> ReadError
+    ensures { result ≡ ReadError.Stop (record { kind = kind; at = at }) }
+{
+    ReadError::Stop(Fault { kind, at })
+}

@@ -1,0 +1,19 @@
+//! Values as octets, field by field, and back.
+//!
+//! The plain encoder and reader: they walk the type and the value, one field at a time, and are
+//! what every faster way of sending and receiving is held against.
+#![tactic(auto)]
+
+mod cursor;
+mod read;
+mod read_array;
+mod read_scalar;
+mod send;
+mod send_array;
+mod send_scalar;
+
+pub use read::{Read, plain_read};
+pub use send::plain_send;
+
+#[cfg(test)]
+mod tests;

@@ -1,0 +1,234 @@
+//! Values of a node's type from octets.
+
+ghost use Rattle.std.specs.Prelude.{IfOk, ◌≡◌, ◌≤◌, ◌<◌, ◌↔◌, ℕ, length, drop};
+ghost use Rattle.mint.specs.Values.{Val, seen, all_seen};
+ghost use Rattle.mint.specs.Types.{type_at, unfolded, fields_at, arms_at, scalar_of, items_type, choice_type, maybe_type, AreBelow, ArmsBelow, IsBelow};
+ghost use Rattle.wire_def.specs.Grammar.{AreOctets, times};
+ghost use Rattle.wire_def.specs.Stops.{Stops};
+ghost use Rattle.wire_def.specs.Reading.{read, read_fields};
+ghost use Rattle.wire_def.specs.declared.fault.FaultKind.{FaultKind};
+ghost use Rattle.wire_def.specs.declared.encoding.Encoding.TheVariants.{Xdr};
+ghost use Rattle.plain_wire.specs.Readers.{Gives, all_values};
+ghost use Rattle.plain_wire.specs.Answered.{IsValue, IsStop, FirstSpell};
+
+use crate::cursor::{Cursor, ReadError, stop};
+use crate::read_array::{row, text};
+use crate::read_scalar::{count, number, one_label, scalar};
+use kit_base::{Listed, NoMemory};
+use mint::kind::{Count, Kind};
+use mint::node::{Arms, Node, NodeIds, Tag, arm_of};
+use mint::table::Mint;
+use mint::value::{Value, Values};
+use std::alloc::Global;
+use wire_def::{Encoding, Fault, FaultKind, bodies_are_light, reading_is_a_grammar};
+
+/// What was read from a message.
+#[derive(Drop)]
+pub enum Read {
+    /// A value, and how many octets spell it.
+    Value(Value, usize),
+    /// The first fault.
+    Stop(Fault),
+}
+
+/// Reads a value of a node's type from octet `pos` of a message. It takes memory only for what the
+/// octets hold, whatever their counts say.
+pub fn plain_read(
+    alloc: Global,
+    enc: Encoding,
+    mint: &Mint,
+    id: u32,
+    pos: usize,
+    message: &[u8],
+) -> Result<Read, NoMemory>
+    requires xdr { enc ≡ Xdr }
+    requires id { id < length mint.now }
+    requires within { pos ≤ length message.now }
+    requires short { length message.now ≤ 4194304 }
+    ensures value { IfOk result (λ r. (v : Val) (used : ℕ) → IsValue r v used ↔ FirstSpell enc (type_at mint.now id) pos (drop pos message.now) v used) }
+    ensures stop { IfOk result (λ r. (k : FaultKind) (at : ℕ) → IsStop r k at ↔ Stops enc (type_at mint.now id) pos (drop pos message.now) k at) }
+{
+    reading_is_a_grammar();
+    bodies_are_light();
+    // A table's type is sound, so no value is refused for its weight.
+    let Some(_) = mint.node(id) else {
+        unreachable!()
+    };
+    let rest = octets_from(message, pos);
+    match value(alloc, mint, id, Cursor { place: pos, rest }) {
+        Ok((read, next)) => Ok(Read::Value(read, next.place - pos)),
+        Err(ReadError::Stop(fault)) => Ok(Read::Stop(fault)),
+        Err(ReadError::NoMemory) => Err(NoMemory),
+    }
+}
+
+/// The octets of a message from a place on.
+fn octets_from(message: &[u8], place: usize) -> &[u8]
+    requires { place ≤ length message.now }
+    ensures rest { result.now ≡ drop place message.now }
+    ensures octets { AreOctets result.now }
+{
+    &message[place..]
+}
+
+/// A value of a node's type.
+#[cycle(read)]
+#[tactic(auto, using(crate::proofs::Reading::readers), unfolding(wire_def::specs::Reading::read))]
+fn value<'a>(
+    alloc: Global,
+    mint: &Mint,
+    id: u32,
+    at: Cursor<'a>,
+) -> Result<(Value, Cursor<'a>), ReadError>
+    requires { id < length mint.now }
+    ensures { Gives seen result (read Xdr (type_at mint.now id) at.entry.place at.entry.rest.now) }
+{
+    let Some(node) = mint.node(id) else {
+        unreachable!()
+    };
+    match node {
+        Node::Void => Ok((Value::Void, at)),
+        Node::Num(kind) => {
+            let (n, next) = number(*kind, at)?;
+            Ok((Value::Num(n), next))
+        }
+        Node::Enum(labels) => {
+            let (n, next) = one_label(labels, at)?;
+            Ok((Value::Num(n), next))
+        }
+        Node::Text(bound) => {
+            let (numbers, next) = text(alloc, *bound, at)?;
+            Ok((Value::Row(numbers), next))
+        }
+        Node::Row(kind, bound) => {
+            let (numbers, next) = row(alloc, *kind, *bound, at)?;
+            Ok((Value::Row(numbers), next))
+        }
+        Node::Group(ids) => {
+            let (values, next) = fields(alloc, mint, id, ids, at)?;
+            Ok((Value::Group(values), next))
+        }
+        Node::Items(item, bound) => items(alloc, mint, id, *item, *bound, at),
+        Node::Choice(tag, arms, other) => choice(alloc, mint, id, tag, arms, *other, at),
+        Node::Maybe(item) => maybe(alloc, mint, id, *item, at),
+    }
+}
+
+#[cycle(read)]
+#[tactic(auto, using(crate::proofs::Reading::readers), unfolding(wire_def::specs::Reading::read))]
+fn fields<'a>(
+    alloc: Global,
+    mint: &Mint,
+    id: u32,
+    ids: &NodeIds,
+    at: Cursor<'a>,
+) -> Result<(Values, Cursor<'a>), ReadError>
+    requires id { id < length mint.now }
+    requires below { AreBelow id ids.now }
+    ensures { Gives all_seen result (read_fields Xdr (fields_at (unfolded mint.now) ids.now) at.entry.place at.entry.rest.now) }
+{
+    let mut values = Listed::new(alloc);
+    let mut at = at;
+    for field in ids.as_slice() {
+        let (read, next) = value(alloc, mint, *field, at)?;
+        values.push(read)?;
+        at = next;
+    }
+    Ok((values, at))
+}
+
+#[cycle(read)]
+#[tactic(auto, using(crate::proofs::Reading::readers), unfolding(wire_def::specs::Reading::read))]
+fn items<'a>(
+    alloc: Global,
+    mint: &Mint,
+    id: u32,
+    item: u32,
+    bound: Count,
+    at: Cursor<'a>,
+) -> Result<(Value, Cursor<'a>), ReadError>
+    requires id { id < length mint.now }
+    requires below { item < id }
+    ensures { Gives seen result (read Xdr (items_type bound (type_at mint.now item)) at.entry.place at.entry.rest.now) }
+{
+    let (n, next) = count(bound, at)?;
+    let (values, last) = each(alloc, mint, id, item, n, next)?;
+    Ok((Value::Items(values), last))
+}
+
+#[cycle(read)]
+#[tactic(auto, using(crate::proofs::Reading::readers), unfolding(wire_def::specs::Reading::read))]
+fn each<'a>(
+    alloc: Global,
+    mint: &Mint,
+    id: u32,
+    item: u32,
+    n: usize,
+    at: Cursor<'a>,
+) -> Result<(Values, Cursor<'a>), ReadError>
+    requires id { id < length mint.now }
+    requires below { item < id }
+    ensures { Gives all_values result (times (read Xdr (type_at mint.now item)) n at.entry.place at.entry.rest.now) }
+{
+    let mut values = Listed::new(alloc);
+    let mut at = at;
+    for _i in 0..n {
+        let (read, next) = value(alloc, mint, item, at)?;
+        values.push(read)?;
+        at = next;
+    }
+    Ok((values, at))
+}
+
+#[cycle(read)]
+#[tactic(auto, using(crate::proofs::Reading::readers), unfolding(wire_def::specs::Reading::read))]
+fn choice<'a>(
+    alloc: Global,
+    mint: &Mint,
+    id: u32,
+    tag: &Tag,
+    arms: &Arms,
+    other: Option<u32>,
+    at: Cursor<'a>,
+) -> Result<(Value, Cursor<'a>), ReadError>
+    requires id { id < length mint.now }
+    requires below { ArmsBelow id arms.now }
+    requires other { IsBelow id other }
+    ensures { Gives seen result (read Xdr (choice_type (scalar_of tag.now) (arms_at (unfolded mint.now) arms.now other)) at.entry.place at.entry.rest.now) }
+{
+    let (n, next) = scalar(tag, at)?;
+    match arm_of(arms, other, &n) {
+        Some(item) => {
+            let (inner, last) = value(alloc, mint, item, next)?;
+            Ok((Value::Arm(n, boxed(alloc, inner)?), last))
+        }
+        None => Err(stop(FaultKind::BadValue, at.place)),
+    }
+}
+
+#[cycle(read)]
+#[tactic(auto, using(crate::proofs::Reading::readers), unfolding(wire_def::specs::Reading::read))]
+fn maybe<'a>(
+    alloc: Global,
+    mint: &Mint,
+    id: u32,
+    item: u32,
+    at: Cursor<'a>,
+) -> Result<(Value, Cursor<'a>), ReadError>
+    requires id { id < length mint.now }
+    requires below { item < id }
+    ensures { Gives seen result (read Xdr (maybe_type (type_at mint.now item)) at.entry.place at.entry.rest.now) }
+{
+    let (n, next) = number(Kind::Bool, at)?;
+    if n == 0 {
+        return Ok((Value::Opt(None), next));
+    }
+    let (inner, last) = value(alloc, mint, item, next)?;
+    Ok((Value::Opt(Some(boxed(alloc, inner)?)), last))
+}
+
+fn boxed(alloc: Global, inner: Value) -> Result<Box<Value>, NoMemory>
+    ensures { IfOk result (λ b. b.value ≡ inner) }
+{
+    Ok(Box::new(alloc, inner)?)
+}

@@ -1,0 +1,12 @@
+pub mod Grammars
+pub mod Words
+pub mod ScalarGrammar
+pub mod ArrayGrammar
+pub mod TypeGrammar
+pub mod Lawful
+pub mod Sent
+pub mod Short
+pub mod Sound
+pub mod Room
+pub mod Typing
+pub mod Xdr

@@ -1,0 +1,128 @@
+-- What a table refuses leaves types whose values take room.
+use Rattle.std.proofs.Common.{◌≡◌, ℕ, zero, suc, ◌<◌, ◌≤◌, Bool, true, false, ◌||◌, IsTrue, cond, None, Some, refl, arith}
+use Rattle.std.specs.Prelude.{nat_eq, nat_lt}
+use Rattle.std.proofs.lemmas.Bool.{ltb-false}
+use Rattle.mint.specs.declared.kind.Count.{Count}
+use Rattle.mint.specs.declared.kind.Count.TheVariants.{Exactly, AtMost, Any}
+use Rattle.mint.specs.declared.errors.MintErr.{MintErr}
+use Rattle.mint.specs.Values.{weight, weights}
+use Rattle.mint.specs.Blank.{blank, blanks, depth}
+use Rattle.mint.specs.Types.{Array, text, row_of, Ty, void_type, scalar_type, array_type, group_type, items_type, choice_type, maybe_type, Tys, no_fields, field, Arms, no_other, others, arm_type}
+use Rattle.mint.specs.Sound.{is_unfit, is_zero, is_empty, is_mislabelled, level_refusal, IsSound, AreSound, ArmsSound}
+use Rattle.wire_def.specs.Arrays.{count_of}
+
+-- whether each of its values has a number, a flag, a count or an element
+abbrev mutual
+  pub fills : Ty → Bool
+  fills void_type = false
+  fills (group_type ts) = fields_fill ts
+  fills _ = true
+
+  pub fields_fill : Tys → Bool
+  fields_fill no_fields = false
+  fields_fill (field t ts) = fills t || fields_fill ts
+
+-- not exactly none
+abbrev pub IsCount : Count → Type 0
+IsCount (Exactly m) = 0 < m
+IsCount _ = Unit {0}
+
+-- no count is exactly none, and each element fills
+abbrev mutual
+  pub TakesRoom : Ty → Type 0
+  TakesRoom (array_type a) = IsCount (count_of a)
+  TakesRoom (group_type ts) = FieldsTakeRoom ts
+  TakesRoom (items_type c t) = IsCount c × IsTrue (fills t) × TakesRoom t
+  TakesRoom (choice_type s arms) = ArmsTakeRoom arms
+  TakesRoom (maybe_type t) = TakesRoom t
+  TakesRoom _ = Unit {0}
+
+  pub FieldsTakeRoom : Tys → Type 0
+  FieldsTakeRoom no_fields = Unit {0}
+  FieldsTakeRoom (field t ts) = TakesRoom t × FieldsTakeRoom ts
+
+  pub ArmsTakeRoom : Arms → Type 0
+  ArmsTakeRoom no_other = Unit {0}
+  ArmsTakeRoom (others t) = TakesRoom t
+  ArmsTakeRoom (arm_type m t arms) = TakesRoom t × ArmsTakeRoom arms
+
+-- tests of which none refused
+none_refused : (a b c d e : Bool) (v w x y z : MintErr) → cond a (Some v) (cond b (Some w) (cond c (Some x) (cond d (Some y) (cond e (Some z) None)))) ≡ None → (b ≡ false) × (d ≡ false)
+none_refused true b c d e v w x y z h = absurd cc
+none_refused false true c d e v w x y z h = absurd cc
+none_refused false false true d e v w x y z h = absurd cc
+none_refused false false false true e v w x y z h = absurd cc
+none_refused false false false false e v w x y z h = (refl, refl)
+
+level_passes : (t : Ty) → level_refusal t ≡ None → (is_empty t ≡ false) × (nat_lt 32 (depth t) ≡ false)
+level_passes t h = none_refused (is_unfit t) (is_empty t) (is_mislabelled t) (nat_lt 32 (depth t)) (nat_lt 1048576 (weight (blank t))) _ _ _ _ _ h
+
+own : (t : Ty) → IsSound t → level_refusal t ≡ None
+own void_type h = h
+own (scalar_type s) h = h
+own (array_type a) h = h
+own (group_type ts) h = h.0
+own (items_type c t) h = h.0
+own (choice_type s arms) h = h.0
+own (maybe_type t) h = h.0
+
+neither : (a b : Bool) → a || b ≡ false → (a ≡ false) × (b ≡ false)
+neither true b h = absurd cc
+neither false b h = (refl, h)
+
+count_some : (c : Count) → is_zero c ≡ false → IsCount c
+count_some (Exactly zero) h = absurd cc
+count_some (Exactly (suc n)) h = omega arith
+count_some (AtMost n) h = tt
+count_some Any h = tt
+
+array_some : (a : Array) → is_empty (array_type a) ≡ false → IsCount (count_of a)
+array_some (text c) h = count_some c h
+array_some (row_of k c) h = count_some c h
+
+-- a blank value that weighs something fills
+mutual
+  unfilled : (t : Ty) → fills t ≡ false → weight (blank t) ≡ 0
+  unfilled void_type h = refl
+  unfilled (group_type ts) h = fields_unfilled ts h
+  unfilled _ h = absurd cc
+
+  fields_unfilled : (ts : Tys) → fields_fill ts ≡ false → weights (blanks ts) ≡ 0
+  fields_unfilled no_fields h = refl
+  fields_unfilled (field t ts) h =
+      let parts = neither (fills t) (fields_fill ts) h in
+      omega (arith, unfilled t parts.0, fields_unfilled ts parts.1)
+
+weighs : (n : ℕ) → nat_eq n 0 ≡ false → n ≡ 0 → ⊥
+weighs zero h is = absurd cc
+weighs (suc n) h is = absurd cc
+
+blank_fills : (t : Ty) → nat_eq (weight (blank t)) 0 ≡ false → fills t ≡ true
+blank_fills t h = decide (fills t) refl where
+  decide : (b : Bool) → fills t ≡ b → fills t ≡ true
+  decide true is = is
+  decide false is = absurd (weighs (weight (blank t)) h (unfilled t is))
+
+mutual
+  pub room : (t : Ty) → IsSound t → TakesRoom t
+  room void_type h = tt
+  room (scalar_type s) h = tt
+  room (array_type a) h = array_some a (level_passes (array_type a) h).0
+  room (group_type ts) h = fields_room ts h.1
+  room (items_type c t) h =
+      let parts = neither (is_zero c) (nat_eq (weight (blank t)) 0) (level_passes (items_type c t) h.0).0 in
+      (count_some c parts.0, blank_fills t parts.1, room t h.1)
+  room (choice_type s arms) h = arms_room arms h.1
+  room (maybe_type t) h = room t h.1
+
+  fields_room : (ts : Tys) → AreSound ts → FieldsTakeRoom ts
+  fields_room no_fields h = tt
+  fields_room (field t ts) h = (room t h.0, fields_room ts h.1)
+
+  arms_room : (arms : Arms) → ArmsSound arms → ArmsTakeRoom arms
+  arms_room no_other h = tt
+  arms_room (others t) h = room t h
+  arms_room (arm_type m t arms) h = (room t h.0, arms_room arms h.1)
+
+pub shallow : (t : Ty) → IsSound t → depth t ≤ 32
+shallow t h = ltb-false 32 (depth t) (level_passes t (own t h)).1

@@ -1,0 +1,90 @@
+-- A number of a width is read as it is written.
+use Rattle.std.proofs.Common.{◌≡◌, ℕ, zero, suc, ◌+◌, ◌<◌, ◌≤◌, List, [], ◌∷◌, ◌++◌, length, get_or, take, drop, Bool, true, false, cond, ltb, refl, sym, ap, ◌∙◌, append_assoc, length-append, arith}
+use Rattle.std.specs.Int.{Width, w32, w64, byte_len}
+use Rattle.std.proofs.lemmas.Bool.{ltb-false, ltb-true, le-ltb, lt-ltb}
+use Rattle.std.proofs.lemmas.List.{take_at, drop_at, take-append-drop, length-take, length-drop}
+use Rattle.std.proofs.lemmas.Nat.{be_bytes_4, be_bytes_8, from_be_bytes-to_be_bytes_4, from_be_bytes-to_be_bytes_8}
+use Rattle.wire_def.specs.declared.encoding.Encoding.{Encoding}
+use Rattle.wire_def.specs.declared.encoding.Encoding.TheVariants.{Xdr}
+use Rattle.wire_def.specs.declared.fault.FaultKind.{FaultKind}
+use Rattle.wire_def.specs.declared.fault.FaultKind.TheVariants.{Short}
+use Rattle.wire_def.specs.Grammar.{got, stop, AreOctets, IsGrammar}
+use Rattle.wire_def.specs.Scalars.{gap, full, number_octets, octets_number, WordSpells, WordStops, read_word}
+use Rattle.wire_def.proofs.Grammars.{octets_behind, octets_before}
+
+-- a width whose octets give the number back
+pub record IsWide (e : Encoding) (w : Width) : Type 0 where
+  pub len : (m : ℕ) → length (number_octets e w m) ≡ byte_len w
+  pub back : (o : List ℕ) → length o ≡ byte_len w → AreOctets o → number_octets e w (octets_number e w o) ≡ o
+  pub again : (m : ℕ) → m < full w → octets_number e w (number_octets e w m) ≡ m
+  pub below : (o : List ℕ) → length o ≡ byte_len w → AreOctets o → octets_number e w o < full w
+
+pub octet_at : (o : List ℕ) → AreOctets o → (i : ℕ) → get_or o i 0 < 256
+octet_at [] h i = omega arith
+octet_at (b ∷ o) h zero = h.0
+octet_at (b ∷ o) h (suc i) = octet_at o h.1 i
+
+pub wide32 : IsWide Xdr w32
+wide32 = record {
+  len = λ m. refl;
+  back = λ o len oct. be_bytes_4 o _ len (octet_at o oct) refl;
+  again = λ m lt. from_be_bytes-to_be_bytes_4 m lt;
+  below = λ o len oct. let fits = octet_at o oct in omega (arith, fits 0, fits 1, fits 2, fits 3);
+}
+
+pub wide64 : IsWide Xdr w64
+wide64 = record {
+  len = λ m. refl;
+  back = λ o len oct. be_bytes_8 o _ len (octet_at o oct) refl;
+  again = λ m lt. from_be_bytes-to_be_bytes_8 m lt;
+  below = λ o len oct. let fits = octet_at o oct in omega (arith, fits 0, fits 1, fits 2, fits 3, fits 4, fits 5, fits 6, fits 7);
+}
+
+pub picked_got : {E A : Type 0} (b : Bool) (k : E) (at : ℕ) (x y : A) (p q : ℕ) (o rest : List ℕ) → cond b (stop k at) (got x p o) ≡ got y q rest → (b ≡ false) × (x ≡ y) × (p ≡ q) × (o ≡ rest)
+picked_got true k at x y p q o rest e = absurd cc
+picked_got false k at x y p q o rest e = (refl, cc, cc, cc)
+
+pub picked_stop : {E A : Type 0} (b : Bool) (k k' : E) (at at' : ℕ) (x : A) (p : ℕ) (o : List ℕ) → cond b (stop k at) (got x p o) ≡ stop k' at' → (b ≡ true) × (k' ≡ k) × (at' ≡ at)
+picked_stop true k k' at at' x p o e = (refl, cc, cc)
+picked_stop false k k' at at' x p o e = absurd cc
+
+module _ (e : Encoding) (a : ℕ) (w : Width) (wide : IsWide e w) where
+  word_reads : (p : ℕ) (o rest : List ℕ) (m : ℕ) → WordSpells e a w p o m → read_word e a w p (o ++ rest) ≡ got m (p + length o) rest
+  unfolding WordSpells read_word
+  word_reads p o rest m (junk, len, is, lt) =
+      let num : List ℕ = number_octets e w m in
+      let long : length o ≡ gap p a + byte_len w = omega (arith, ap length is, length-append junk num, wide.len m) in
+      let enough : ltb (length (o ++ rest)) (gap p a + byte_len w) ≡ false = le-ltb _ _ (omega (arith, length-append o rest)) in
+      let apart : o ++ rest ≡ junk ++ (num ++ rest) = ap (λ z. z ++ rest) is ∙ append_assoc junk num rest in
+      rw (enough, apart, drop_at junk (num ++ rest) (gap p a) len, take_at num rest (byte_len w) (wide.len m), drop_at num rest (byte_len w) (wide.len m), wide.again m lt, ← long) refl
+
+  word_spelled : (p : ℕ) (o : List ℕ) (m q : ℕ) (rest : List ℕ) → AreOctets o → read_word e a w p o ≡ got m q rest → (b : List ℕ) × (o ≡ b ++ rest) × (q ≡ p + length b) × WordSpells e a w p b m
+  unfolding WordSpells read_word
+  word_spelled p o m q rest oct is =
+      let g : ℕ = gap p a in
+      let n : ℕ = byte_len w in
+      let t = picked_got (ltb (length o) (g + n)) Short (p + g) (octets_number e w (take n (drop g o))) m (p + (g + n)) q (drop n (drop g o)) rest is in
+      let enough : g + n ≤ length o = ltb-false _ _ t.0 in
+      let junk : List ℕ = take g o in
+      let num : List ℕ = take n (drop g o) in
+      let junk_len : length junk ≡ g = omega (arith, length-take g o) in
+      let num_len : length num ≡ n = omega (arith, length-take n (drop g o), length-drop g o) in
+      let behind : AreOctets (drop g o) = octets_behind junk (drop g o) (rw take-append-drop oct) in
+      let oct_num : AreOctets num = octets_before num (drop n (drop g o)) (rw take-append-drop behind) in
+      let whole : o ≡ (junk ++ num) ++ rest = sym (append_assoc junk num rest ∙ ap (λ z. junk ++ (num ++ z)) (sym t.3) ∙ ap (λ z. junk ++ z) (take-append-drop n (drop g o)) ∙ take-append-drop g o) in
+      (junk ++ num, whole, omega (arith, t.2, length-append junk num), (junk, junk_len, ap (λ z. junk ++ z) (rw (← t.1) (sym (wide.back num num_len oct_num))), rw (← t.1) (wide.below num num_len oct_num)))
+
+  word_stops : (p : ℕ) (o : List ℕ) (k : FaultKind) (at : ℕ) → WordStops e a w p o k at → read_word e a w p o ≡ stop k at
+  unfolding WordStops read_word
+  word_stops p o k at (short, which, there) = rw (lt-ltb _ _ short, which, there) refl
+
+  word_faulty : (p : ℕ) (o : List ℕ) (k : FaultKind) (at : ℕ) → AreOctets o → read_word e a w p o ≡ stop k at → WordStops e a w p o k at
+  unfolding WordStops read_word
+  word_faulty p o k at oct is =
+      let g : ℕ = gap p a in
+      let n : ℕ = byte_len w in
+      let t = picked_stop (ltb (length o) (g + n)) Short k (p + g) at (octets_number e w (take n (drop g o))) (p + (g + n)) (drop n (drop g o)) is in
+      (ltb-true _ _ t.0, t.1, t.2)
+
+  pub word_is : IsGrammar (read_word e a w) (WordSpells e a w) (WordStops e a w)
+  word_is = record { reads = word_reads; spelled = word_spelled; stops = word_stops; faulty = word_faulty }

@@ -1,0 +1,52 @@
+//! What is wrong with octets, and where.
+
+/// Why octets are no head.
+#[derive(Clone, Copy, Debug, PartialEq, Eq)]
+pub enum HeadErr {
+    /// A field is cut off.
+    Short,
+    /// The first octets are not those of the format.
+    Magic,
+    /// Another version of the format.
+    Version,
+    /// A message of another type.
+    Type_,
+    /// The size told is not that of the message.
+    Size,
+    /// No such order of octets.
+    Order,
+    /// A pad octet is not 0.
+    Pad,
+    /// A string without its end, or with an octet 0 inside.
+    Text,
+    /// A credential or verifier is too long.
+    Cred,
+    /// A complex message.
+    Complex,
+    /// A field has a number that it cannot have.
+    Item,
+}
+
+/// What is wrong with the octets of a body.
+#[derive(Clone, Copy, Debug, PartialEq, Eq)]
+pub enum FaultKind {
+    /// A scalar, element, descriptor or octet is not there in full.
+    Short,
+    /// A count above its bound.
+    OverBound,
+    /// A number out of range, no boolean, no label, or a discriminant without an arm.
+    BadValue,
+    /// A pad octet that is not 0.
+    BadPad,
+    /// An octet 0 inside a text, or a text without the one at its end.
+    BadText,
+    /// A descriptor of another item.
+    BadItem,
+}
+
+/// The first fault of a body, and its place, counted from the first octet of the message.
+#[derive(Clone, Copy, Debug, PartialEq, Eq)]
+pub struct Fault {
+    pub kind: FaultKind,
+    pub at: usize,
+}
