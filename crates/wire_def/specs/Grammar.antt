@@ -19,15 +19,18 @@ Spelling A = ℕ → List ℕ → A → Type 0
 abbrev pub Stopping : Type 0 → Type 1
 Stopping E = ℕ → List ℕ → E → ℕ → Type 0
 
+-- numbers that are octets
 abbrev pub AreOctets : List ℕ → Type 0
 AreOctets o = AllByRecursion (λ b. b < 256) o
 
 -- ---- readers
 
+-- what is read behind what was read, or the fault
 abbrev pub then_on : {E A B : Type 0} → Reading E A → (A → Reader E B) → Reading E B
 then_on (got x p o) f = f x p o
 then_on (stop k at) f = stop k at
 
+-- what was read, seen otherwise
 abbrev pub map_got : {E A B : Type 0} → (A → B) → Reading E A → Reading E B
 map_got f (got x p o) = got (f x) p o
 map_got f (stop k at) = stop k at
@@ -51,6 +54,7 @@ tested r test k place p o = then_on (r p o) (λ x q rest. if test x then got x q
 abbrev pub Parts : ℕ → List ℕ → (List ℕ → Type 0) → (ℕ → List ℕ → Type 0) → Type 0
 Parts p o First Second = (a : List ℕ) × (b : List ℕ) × (o ≡ a ++ b) × First a × Second (p + length a) b
 
+-- so many values, one after the other, in the octets
 abbrev pub SpellTimes : {A : Type 0} → Spelling A → ℕ → Spelling (List A)
 SpellTimes S zero p o [] = o ≡ []
 SpellTimes S (suc n) p o (x ∷ xs) = Parts p o (λ a. S p a x) (λ q b. SpellTimes S n q b xs)
@@ -63,6 +67,7 @@ StopTimes {E} {A} S F (suc n) p o k at = F p o k at ⊎ ((x : A) × Parts p o (�
 
 -- ---- what holds them together
 
+-- a reading function, the spellings that it reads, and the stops at which it stops
 pub record IsGrammar {E A : Type 0} (r : Reader E A) (S : Spelling A) (F : Stopping E) : Type 0 where
   -- what is spelled is read, whatever follows
   pub reads : (p : ℕ) (o rest : List ℕ) (x : A) → S p o x → r p (o ++ rest) ≡ got x (p + length o) rest

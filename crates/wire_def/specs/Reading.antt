@@ -12,6 +12,7 @@ use Rattle.wire_def.specs.Scalars.{read_scalar, scalar_place}
 use Rattle.wire_def.specs.Arrays.{read_count, read_array, kind_of}
 use Rattle.wire_def.specs.Send.{flag}
 
+-- a discriminant that has an arm, read from a position
 abbrev pub read_tag : Encoding → Scalar → Arms → Reader FaultKind ℤ
 read_tag e s arms = tested (read_scalar e s) (has_arm arms) BadValue (scalar_place e s)
 
@@ -20,6 +21,7 @@ abbrev pub read_behind : Reader FaultKind Val → ℤ → Reader FaultKind Val
 read_behind r (pos zero) p o = got absent p o
 read_behind r _ p o = map_got present (r p o)
 
+-- a value of the type from a position; the values of fields; the value of the number's arm
 unfoldable mutual
   pub read : Encoding → Ty → ℕ → List ℕ → Reading FaultKind Val
   read e void_type p o = got void p o

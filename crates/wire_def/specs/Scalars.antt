@@ -22,6 +22,7 @@ full w16 = 2 ^ 16
 full w32 = 2 ^ 32
 full _ = 2 ^ 64
 
+-- half as many as the numbers of a width
 abbrev pub half : Width → ℕ
 half w8 = 2 ^ 7
 half w16 = 2 ^ 15
@@ -38,6 +39,7 @@ abbrev pub number_of : Bool → Width → ℕ → ℤ
 number_of true w m = if nat_lt m (half w) then pos m else negsuc (full w - 1 - m)
 number_of false w m = pos m
 
+-- whether a scalar is in two's complement
 abbrev pub is_signed : Scalar → Bool
 is_signed (number kind.I8) = true
 is_signed (number kind.I16) = true
@@ -59,6 +61,7 @@ own_width (number kind.I64) = w64
 own_width (number kind.U64) = w64
 own_width _ = w32
 
+-- a width, or four octets where it is narrower: XDR's block (RFC 4506 section 3)
 abbrev pub at_least_32 : Width → Width
 at_least_32 w8 = w32
 at_least_32 w16 = w32
@@ -69,6 +72,7 @@ abbrev pub width_of : Encoding → Scalar → Width
 width_of Xdr s = at_least_32 (own_width s)
 width_of _ s = own_width s
 
+-- what the position of a scalar is a multiple of
 abbrev pub alignment_of : Encoding → Scalar → ℕ
 alignment_of CdrBig s = byte_len (own_width s)
 alignment_of CdrLittle s = byte_len (own_width s)
@@ -80,6 +84,7 @@ number_octets Xdr w m = be (byte_len w) m
 number_octets CdrBig w m = be (byte_len w) m
 number_octets _ w m = le (byte_len w) m
 
+-- the number of octets, in the order of the encoding
 abbrev pub octets_number : Encoding → Width → List ℕ → ℕ
 octets_number Xdr w o = from_be_bytes w o
 octets_number CdrBig w o = from_be_bytes w o
@@ -91,9 +96,11 @@ octets_number _ w o = from_le_bytes w o
 unfoldable pub WordSpells : Encoding → ℕ → Width → Spelling ℕ
 WordSpells e a w p o m = (junk : List ℕ) × (length junk ≡ gap p a) × (o ≡ junk ++ number_octets e w m) × (m < full w)
 
+-- octets that end before the number does: short where it begins
 unfoldable pub WordStops : Encoding → ℕ → Width → Stopping FaultKind
 WordStops e a w p o k at = (length o < gap p a + byte_len w) × (k ≡ Short) × (at ≡ p + gap p a)
 
+-- a number of a width, read behind its gap
 unfoldable pub read_word : Encoding → ℕ → Width → Reader FaultKind ℕ
 read_word e a w p o =
     if nat_lt (length o) (gap p a + byte_len w) then stop Short (p + gap p a)
@@ -109,12 +116,15 @@ scalar_octets e s p n = replicate (gap p (alignment_of e s)) 0 ++ number_octets 
 abbrev pub scalar_place : Encoding → Scalar → ℕ → ℕ
 scalar_place e s p = p + gap p (alignment_of e s)
 
+-- a number of the scalar, in the octets of its width
 unfoldable pub ScalarSpells : Encoding → Scalar → Spelling ℤ
 ScalarSpells e s p o n = WordSpells e (alignment_of e s) (width_of e s) p o (residue (width_of e s) n) × IsScalar s n
 
+-- octets that are cut off, or whose number is none of the scalar's
 unfoldable pub ScalarStops : Encoding → Scalar → Stopping FaultKind
 ScalarStops e s p o k at = WordStops e (alignment_of e s) (width_of e s) p o k at
     ⊎ ((m : ℕ) × Parts p o (λ a. WordSpells e (alignment_of e s) (width_of e s) p a m) (λ q b. (is_scalar s (number_of (is_signed s) (width_of e s) m) ≡ false) × (k ≡ BadValue) × (at ≡ scalar_place e s p)))
 
+-- a scalar, read from a position
 unfoldable pub read_scalar : Encoding → Scalar → Reader FaultKind ℤ
 read_scalar e s = tested (λ p o. map_got (number_of (is_signed s) (width_of e s)) (read_word e (alignment_of e s) (width_of e s) p o)) (is_scalar s) BadValue (scalar_place e s)

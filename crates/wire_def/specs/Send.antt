@@ -21,6 +21,7 @@ send_each one p (val v vs) = followed p (one p v) (λ q. send_each one q vs)
 abbrev pub flag : Scalar
 flag = number kind.Bool
 
+-- the octets of a value of the type from the position; of the values of fields; of the value of the number's arm
 unfoldable mutual
   pub send : Encoding → Ty → ℕ → Val → List ℕ
   send e (scalar_type s) p (num n) = scalar_octets e s p n

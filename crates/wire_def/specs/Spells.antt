@@ -14,6 +14,7 @@ use Rattle.wire_def.specs.Send.{flag}
 abbrev pub TagSpells : Encoding → Scalar → Arms → Spelling ℤ
 TagSpells e s arms p o n = ScalarSpells e s p o n × IsTrue (has_arm arms n)
 
+-- the octets are the value, case by case; the values of the fields; the value of the number's arm
 abbrev mutual
   pub Spells : Encoding → Ty → ℕ → List ℕ → Val → Type 0
   Spells e void_type p o void = o ≡ []

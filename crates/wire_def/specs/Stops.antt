@@ -18,6 +18,7 @@ abbrev pub TagStops : Encoding → Scalar → Arms → Stopping FaultKind
 TagStops e s arms p o k at = ScalarStops e s p o k at
     ⊎ ((n : ℤ) × Parts p o (λ a. ScalarSpells e s p a n) (λ q b. (has_arm arms n ≡ false) × (k ≡ BadValue) × (at ≡ scalar_place e s p)))
 
+-- the first fault of a value's octets; of the fields, behind those before it; of the number's arm
 abbrev mutual
   pub Stops : Encoding → Ty → ℕ → List ℕ → FaultKind → ℕ → Type 0
   Stops e void_type p o k at = ⊥

@@ -1,0 +1,56 @@
+-- The words that heads are made of, and the order of their items.
+use Rattle.std.specs.Prelude.{◌≡◌, ◌⊎◌, ℕ, ◌+◌, ◌^◌, ◌<◌, List, length, take, drop, Bool, false, IsTrue, ◌==◌, nat_lt, nat_le, if◌then◌else◌}
+use Rattle.std.specs.Int.{w32, from_be_bytes}
+use Rattle.kit_base.specs.Bytes.{be}
+use Rattle.wire_def.specs.declared.fault.HeadErr.{HeadErr}
+use Rattle.wire_def.specs.declared.fault.HeadErr.TheVariants.{Short}
+use Rattle.wire_def.specs.Grammar.{got, stop, Reader, Spelling, Stopping, tested, Parts}
+
+-- the octets of a word: four, the most significant first (RFC 4506, section 4.2)
+abbrev pub word : ℕ → List ℕ
+word n = be 4 n
+
+-- a number that a word can hold
+abbrev pub IsWord : ℕ → Type 0
+IsWord n = n < 2 ^ 32
+
+-- a word and its number
+unfoldable pub WordSpells : Spelling ℕ
+WordSpells p o n = (o ≡ word n) × IsWord n
+
+-- fewer octets than a word has
+unfoldable pub WordStops : Stopping HeadErr
+WordStops p o k at = (length o < 4) × (k ≡ Short) × (at ≡ p)
+
+-- the number of the first four octets
+unfoldable pub read_word : Reader HeadErr ℕ
+read_word p o = if nat_lt (length o) 4 then stop Short p else got (from_be_bytes w32 (take 4 o)) (p + 4) (drop 4 o)
+
+-- ---- words that must pass a test
+
+-- this number alone
+abbrev pub only : ℕ → ℕ → Bool
+only m n = n == m
+
+-- the numbers up to this one
+abbrev pub up_to : ℕ → ℕ → Bool
+up_to m n = nat_le n m
+
+-- a word that passes
+abbrev pub PassSpells : (ℕ → Bool) → Spelling ℕ
+PassSpells test p o n = WordSpells p o n × IsTrue (test n)
+
+-- a word that is cut off, or does not pass, which is this fault
+abbrev pub PassStops : (ℕ → Bool) → HeadErr → Stopping HeadErr
+PassStops test fault p o k at = WordStops p o k at
+    ⊎ ((n : ℕ) × Parts p o (λ a. WordSpells p a n) (λ q b. (test n ≡ false) × (k ≡ fault) × (at ≡ p)))
+
+-- the number of a word that passes, or the fault
+abbrev pub read_pass : (ℕ → Bool) → HeadErr → Reader HeadErr ℕ
+read_pass test fault = tested read_word test fault (λ p. p)
+
+-- ---- items in their order
+
+-- the first stop of an item and of what follows it: the item stops, or it stands there and what follows stops
+abbrev pub StopsInOrder : {A : Type 0} → Spelling A → Stopping HeadErr → (A → Stopping HeadErr) → Stopping HeadErr
+StopsInOrder {A} Spells Stops Behind p o k at = Stops p o k at ⊎ ((x : A) × Parts p o (λ a. Spells p a x) (λ q b. Behind x q b k at))

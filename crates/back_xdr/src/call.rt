@@ -1,0 +1,66 @@
+//! The heads of calls.
+
+ghost use Rattle.std.specs.Prelude.{◌≡◌, ◌↔◌};
+ghost use Rattle.wire_def.specs.declared.fault.HeadErr.{HeadErr};
+ghost use Rattle.back_xdr.specs.Call.{read_head_of_call};
+ghost use Rattle.back_xdr.specs.Heads.{StopsWith};
+ghost use Rattle.back_xdr.specs.Heads as heads;
+ghost use Rattle.back_xdr.specs.Told.{BeginsCall, call_told};
+ghost use Rattle.back_xdr.specs.Readers.{told};
+
+use crate::auth::auth;
+use crate::cursor::Cursor;
+use crate::laws::heads_are_read;
+use crate::shared::shared_head;
+use crate::words::{this_word, word};
+use wire_def::{Head, HeadErr};
+
+/// The message type of a call.
+const CALL: u32 = 0;
+
+/// The version of the protocol.
+const PROTOCOL: u32 = 2;
+
+/// The head of a call: which procedure is called, and how many octets the head takes. The
+/// arguments follow it.
+#[derive(Clone, Copy, Debug, PartialEq, Eq)]
+pub struct OncCall {
+    pub head: Head,
+    pub program: u32,
+    pub version: u32,
+    pub proc_no: u32,
+    pub used: usize,
+}
+
+/// Reads the head of a call from the first octets of a message (RFC 5531 section 9). Credentials
+/// and verifier are passed over, whatever their flavours.
+pub fn read_call(message: &[u8]) -> Result<OncCall, HeadErr>
+    ensures spells { (call : OncCall) → (result ≡ Ok call) ↔ BeginsCall message.now call }
+    ensures stops { (fault : HeadErr) → (result ≡ Err fault) ↔ StopsWith heads.call message.now fault }
+{
+    heads_are_read();
+    call_at(Cursor {
+        place: 0,
+        rest: message,
+    })
+}
+
+fn call_at(at: Cursor<'_>) -> Result<OncCall, HeadErr>
+    ensures { result ≡ told call_told (read_head_of_call at.entry.place at.entry.rest.now) }
+{
+    let (xid, at) = word(at)?;
+    let at = this_word(CALL, HeadErr::Type_, at)?;
+    let at = this_word(PROTOCOL, HeadErr::Version, at)?;
+    let (program, at) = word(at)?;
+    let (version, at) = word(at)?;
+    let (proc_no, at) = word(at)?;
+    let at = auth(at)?;
+    let at = auth(at)?;
+    Ok(OncCall {
+        head: shared_head(xid),
+        program,
+        version,
+        proc_no,
+        used: at.place,
+    })
+}

@@ -1,0 +1,19 @@
+//! ONC remote procedure calls over XDR (RFC 5531): the heads of their messages.
+//!
+//! Which octets are the head of a call or of a reply, and where octets that are none first stop:
+//! both are definitions of this crate, and each law of theirs the contract of a function.
+#![tactic(auto)]
+
+mod auth;
+mod call;
+mod cursor;
+mod laws;
+mod reply;
+mod shared;
+#[cfg(test)]
+mod tests;
+mod words;
+
+pub use call::{OncCall, read_call};
+pub use laws::{begins_or_stops, heads_are_read};
+pub use reply::read_reply;

@@ -1,0 +1,95 @@
+//! The heads of replies.
+
+ghost use Rattle.std.specs.Prelude.{◌≡◌, ◌↔◌};
+ghost use Rattle.wire_def.specs.declared.fault.HeadErr.{HeadErr};
+ghost use Rattle.wire_def.specs.declared.reply.ReplyHead.{ReplyHead};
+ghost use Rattle.back_xdr.specs.Reply.{read_accepted, read_denied, read_head_of_reply, read_two_words};
+ghost use Rattle.back_xdr.specs.Heads.{StopsWith};
+ghost use Rattle.back_xdr.specs.Heads as heads;
+ghost use Rattle.back_xdr.specs.Told.{BeginsReply, reply_told};
+ghost use Rattle.back_xdr.specs.Readers.{Gives, same, told};
+
+use crate::auth::auth;
+use crate::cursor::Cursor;
+use crate::laws::heads_are_read;
+use crate::shared::shared_head;
+use crate::words::{this_word, word, word_up_to};
+use wire_def::{HeadErr, ReplyHead, Status};
+
+/// The message type of a reply.
+const REPLY: u32 = 1;
+
+/// Reads the head of a reply from the first octets of a message (RFC 5531 section 9). The verifier
+/// is passed over, whatever its flavour.
+pub fn read_reply(message: &[u8]) -> Result<ReplyHead<'_>, HeadErr>
+    ensures spells { (reply : ReplyHead) → (result ≡ Ok reply) ↔ BeginsReply message.now reply }
+    ensures stops { (fault : HeadErr) → (result ≡ Err fault) ↔ StopsWith heads.reply message.now fault }
+{
+    heads_are_read();
+    reply_at(Cursor {
+        place: 0,
+        rest: message,
+    })
+}
+
+fn reply_at(at: Cursor<'_>) -> Result<ReplyHead<'_>, HeadErr>
+    ensures { result ≡ told reply_told (read_head_of_reply at.entry.place at.entry.rest.now) }
+{
+    let (xid, at) = word(at)?;
+    let at = this_word(REPLY, HeadErr::Type_, at)?;
+    let (state, at) = word_up_to(1, HeadErr::Item, at)?;
+    let (status, at) = if state == 0 {
+        let at = auth(at)?;
+        accepted(at)?
+    } else {
+        denied(at)?
+    };
+    Ok(ReplyHead {
+        head: shared_head(xid),
+        status,
+        used: at.place,
+    })
+}
+
+/// The state of an accepted call.
+#[tactic(auto, unfolding(crate::specs::Reply::read_accepted))]
+fn accepted(at: Cursor<'_>) -> Result<(Status<'_>, Cursor<'_>), HeadErr>
+    ensures { Gives same result (read_accepted at.entry.place at.entry.rest.now) }
+{
+    let (state, at) = word_up_to(5, HeadErr::Item, at)?;
+    match state {
+        0 => Ok((Status::Answer, at)),
+        1 => Ok((Status::ProgUnavail, at)),
+        2 => {
+            let ((low, high), at) = two_words(at)?;
+            Ok((Status::ProgMismatch(low, high), at))
+        }
+        3 => Ok((Status::ProcUnavail, at)),
+        4 => Ok((Status::GarbageArgs, at)),
+        _ => Ok((Status::SystemErr, at)),
+    }
+}
+
+/// Why a call was denied.
+#[tactic(auto, unfolding(crate::specs::Reply::read_denied))]
+fn denied(at: Cursor<'_>) -> Result<(Status<'_>, Cursor<'_>), HeadErr>
+    ensures { Gives same result (read_denied at.entry.place at.entry.rest.now) }
+{
+    let (why, at) = word_up_to(1, HeadErr::Item, at)?;
+    if why == 0 {
+        let ((low, high), at) = two_words(at)?;
+        Ok((Status::RpcMismatch(low, high), at))
+    } else {
+        let (status, at) = word(at)?;
+        Ok((Status::AuthError(status), at))
+    }
+}
+
+/// The least and the greatest of some versions.
+fn two_words(at: Cursor<'_>) -> Result<((u32, u32), Cursor<'_>), HeadErr>
+    ensures { Gives same result (read_two_words at.entry.place at.entry.rest.now) }
+{
+    let (low, at) = word(at)?;
+    let (high, at) = word(at)?;
+    Ok(((low, high), at))
+}
