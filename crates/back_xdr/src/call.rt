@@ -54,13 +54,13 @@ fn call_at(at: Cursor<'_>) -> Result<OncCall, HeadErr>
     let (program, at) = word(at)?;
     let (version, at) = word(at)?;
     let (proc_no, at) = word(at)?;
-    let at = auth(at)?;
-    let at = auth(at)?;
+    let behind_cred = auth(at)?;
+    let behind_verf = auth(behind_cred)?;
     Ok(OncCall {
         head: shared_head(xid),
         program,
         version,
         proc_no,
-        used: at.place,
+        used: behind_verf.place,
     })
 }

@@ -5,9 +5,8 @@ use flick_top::flick;
 use kit_base::{NoMemory, Octets, StdShelf, StdSink, StdSource, Words};
 use raw_buf::SendBuf;
 use std::alloc::Global;
-use std::env;
-use std::io;
 use std::process::ExitCode;
+use std::{env, io};
 
 /// The status where the process cannot give its arguments as text. `flick` never answers it.
 const NO_ARGUMENTS: u8 = 9;

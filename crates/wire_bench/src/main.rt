@@ -82,7 +82,10 @@ fn table_of(alloc: Global, shape: Shape) -> Result<(Mint, u32)> {
 fn row_of_ints(alloc: Global, count: u32) -> Result<Value, NoMemory> {
     let mut row = Row::new(alloc, Kind::I32);
     for n in 0..count {
-        row.push(i128::from(n.cast_signed()))?;
+        let number = i128::from(n);
+        if row.kind().has(number) {
+            row.push(number)?;
+        }
     }
     Ok(Value::Row(row))
 }
@@ -91,7 +94,7 @@ fn list_of_structs(alloc: Global, count: u32) -> Result<Value, NoMemory> {
     let mut items = Values::new(alloc);
     for n in 0..count / 2 {
         let mut fields = Values::new(alloc);
-        fields.push(Value::Num(i128::from(n.cast_signed())))?;
+        fields.push(Value::Num(i128::from(n)))?;
         fields.push(Value::Num(-1))?;
         items.push(Value::Group(fields))?;
     }
