@@ -1,9 +1,12 @@
+pub mod Bodies
 pub mod Completing
 pub mod Counting
 pub mod Ended
+pub mod Floats
 pub mod Front
 pub mod Loops
 pub mod Prefix
+pub mod Receiving
 pub mod Stops
 pub mod Text
 pub mod Trees

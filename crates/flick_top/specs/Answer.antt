@@ -1,13 +1,14 @@
 -- The answers to the lines of an input.
 use Rattle.std.specs.Prelude.{ℕ, List, [], ◌∷◌, ◌++◌, Bool, false, ◌||◌, ◌==◌, is_some, Option, Some, None, codes, flat_map, count_by}
-use Rattle.hex.specs.Hex.{encode_lower}
+use Rattle.hex.specs.Hex.{encode_lower, decode_of}
 use Rattle.kit_base.specs.declared.lines.Line.{Line}
 use Rattle.kit_base.specs.declared.lines.Line.TheVariants.{Text, Long, End}
 use Rattle.flick_top.specs.declared.form.Form.{Form}
 use Rattle.flick_top.specs.declared.request.Request.{Request}
 use Rattle.flick_top.specs.declared.task.Job.{Job}
-use Rattle.flick_top.specs.declared.task.Job.TheVariants.{Marshal}
+use Rattle.flick_top.specs.declared.task.Job.TheVariants.{Marshal, Unmarshal}
 use Rattle.flick_top.specs.Message.{message}
+use Rattle.flick_top.specs.Refusal.{record_or_refusal}
 use Rattle.flick_top.specs.Request.{request_of}
 
 -- the message of a request in hexadecimal digits, or a refusal
@@ -20,6 +21,9 @@ abbrev pub answer_to : Job → Line → List ℕ
 answer_to (Marshal f) (Text octets) = hex_or_refusal f (request_of f octets) ++ 10 ∷ []
 answer_to (Marshal f) Long = codes "! form\n"
 answer_to (Marshal f) End = []
+answer_to (Unmarshal f) (Text octets) = record_or_refusal f (decode_of octets) ++ 10 ∷ []
+answer_to (Unmarshal f) Long = codes "! long\n"
+answer_to (Unmarshal f) End = []
 
 -- the answers, in order
 abbrev pub answers : Job → List Line → List ℕ
@@ -40,6 +44,7 @@ abbrev pub is_message : Job → Line → Bool
 is_message (Marshal f) (Text octets) = is_some (request_of f octets)
 is_message (Marshal f) Long = false
 is_message (Marshal f) End = false
+is_message (Unmarshal f) line = false
 
 -- how many lines are answered by a message
 abbrev pub messages : Job → List Line → ℕ

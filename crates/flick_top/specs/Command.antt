@@ -1,8 +1,8 @@
 -- The command that the words name.
-use Rattle.std.specs.Prelude.{ℕ, List, [], ◌∷◌, ◌&&◌, if◌then◌else◌, Option, Some, None, unwrap_or, slice_get, codes}
+use Rattle.std.specs.Prelude.{ℕ, List, [], ◌∷◌, not, ◌&&◌, if◌then◌else◌, Option, Some, None, unwrap_or, slice_get, codes}
 use Rattle.std.specs.Str.{bytes_eq}
 use Rattle.flick_top.specs.declared.command.Command.{Command}
-use Rattle.flick_top.specs.declared.command.Command.TheVariants.{Help, Version, Marshal}
+use Rattle.flick_top.specs.declared.command.Command.TheVariants.{Help, Version, Marshal, Unmarshal}
 
 -- the command of one word
 abbrev pub option_of : List ℕ → Option Command
@@ -14,7 +14,10 @@ option_of word =
 -- the command of a verb, a front end and a back end, before a file
 abbrev pub verb_of : List ℕ → List ℕ → List ℕ → Option Command
 verb_of verb front back =
-    if bytes_eq verb (codes "marshal") && bytes_eq front (codes "onc") && bytes_eq back (codes "xdr") then Some Marshal else None
+    if not (bytes_eq front (codes "onc") && bytes_eq back (codes "xdr")) then None
+    else if bytes_eq verb (codes "marshal") then Some Marshal
+    else if bytes_eq verb (codes "unmarshal") then Some Unmarshal
+    else None
 
 -- the command, where the words have the shape of one
 abbrev pub command_of : List (List ℕ) → Option Command

@@ -6,6 +6,9 @@ pub mod Form
 pub mod Message
 pub mod Output
 pub mod Reading
+pub mod Received
+pub mod Record
+pub mod Refusal
 pub mod Request
 pub mod Saying
 pub mod Statement

@@ -1,9 +1,10 @@
 -- What a command comes to over the files, and what it then writes over an input.
-use Rattle.std.specs.Prelude.{ℕ, List, length, nat_le, if◌then◌else◌, Option, Some, None}
+use Rattle.std.specs.Prelude.{ℕ, List, length, nat_le, if◌then◌else◌, Option, Some, None, Result, Ok, Err}
 use Rattle.kit_base.specs.Lines.{lines}
 use Rattle.flick_top.specs.declared.command.Command.{Command}
 use Rattle.flick_top.specs.declared.command.Command.TheVariants as commands
 use Rattle.flick_top.specs.declared.form.Form.{Form}
+use Rattle.flick_top.specs.declared.saying.Saying.{Saying}
 use Rattle.flick_top.specs.declared.saying.Saying.TheVariants as sayings
 use Rattle.flick_top.specs.declared.task.Job.{Job}
 use Rattle.flick_top.specs.declared.task.Job.TheVariants as jobs
@@ -31,22 +32,28 @@ most_input = 1073741824
 abbrev pub Files : Type 0
 Files = List ℕ → Option (List ℕ)
 
--- `marshal` over what its file says
-abbrev pub over_form : Option Form → Task
-over_form None = Say sayings.NoForm
-over_form (Some form) = Answer (jobs.Marshal form)
+-- the form that was read, or what is said where none was
+abbrev pub form_or_saying : Option Form → Result Form Saying
+form_or_saying None = Err sayings.NoForm
+form_or_saying (Some form) = Ok form
 
--- `marshal` over the content of its file
-abbrev pub over_file : Option (List ℕ) → Task
-over_file None = Say sayings.NoFile
-over_file (Some text) = over_form (if nat_le (length text) longest_file then form_of text else None)
+-- the form that the content of a file says
+abbrev pub form_in_file : Option (List ℕ) → Result Form Saying
+form_in_file None = Err sayings.NoFile
+form_in_file (Some text) = form_or_saying (if nat_le (length text) longest_file then form_of text else None)
+
+-- the job that is made of a form
+abbrev pub over_form : (Form → Job) → Result Form Saying → Task
+over_form job (Ok form) = Answer (job form)
+over_form job (Err saying) = Say saying
 
 -- what a command comes to
 abbrev pub over_command : Option Command → List ℕ → Files → Task
 over_command None path files = Say sayings.NoShape
 over_command (Some commands.Help) path files = Say sayings.Help
 over_command (Some commands.Version) path files = Say sayings.Version
-over_command (Some commands.Marshal) path files = over_file (files path)
+over_command (Some commands.Marshal) path files = over_form jobs.Marshal (form_in_file (files path))
+over_command (Some commands.Unmarshal) path files = over_form jobs.Unmarshal (form_in_file (files path))
 
 -- what the words come to over these files
 abbrev pub task_of : List (List ℕ) → Files → Task

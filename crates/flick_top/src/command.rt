@@ -13,6 +13,8 @@ pub enum Command {
     Version,
     /// `marshal onc xdr FILE`
     Marshal,
+    /// `unmarshal onc xdr FILE`
+    Unmarshal,
 }
 
 /// The command, where the words have the shape of one.
@@ -41,8 +43,14 @@ fn option_of(word: &[u8]) -> Option<Command>
 fn verb_of(verb: &[u8], front: &[u8], back: &[u8]) -> Option<Command>
     ensures { result ≡ verb_of verb.now front.now back.now }
 {
-    if verb == b"marshal".as_slice() && front == b"onc".as_slice() && back == b"xdr".as_slice() {
+    if front != b"onc".as_slice() || back != b"xdr".as_slice() {
+        return None;
+    }
+    if verb == b"marshal".as_slice() {
         return Some(Command::Marshal);
+    }
+    if verb == b"unmarshal".as_slice() {
+        return Some(Command::Unmarshal);
     }
     None
 }

@@ -2,7 +2,7 @@
 ghost use Rattle.std.specs.Prelude.{◌≡◌, string_bytes};
 ghost use Rattle.flick_top.specs.declared.form.FormErr.TheVariants.{NoMemory};
 
-use kit_base::{Listed, Octets};
+use kit_base::Listed;
 use std::marker::Model;
 
 /// How a number of 32 bits is read: as two's complement, or without a sign.
@@ -10,6 +10,34 @@ use std::marker::Model;
 pub enum Width {
     Signed,
     Unsigned,
+}
+
+/// A name, or names joined by dots; seen as its octets.
+#[derive(Drop)]
+pub struct Label {
+    text: String,
+}
+
+impl Model for Label {
+    ghost use Rattle.std.specs.Prelude.{ℕ, List, string_bytes};
+
+    ghost Value = { List ℕ };
+
+    ghost view = { λ l. string_bytes l.text };
+}
+
+impl Label {
+    pub fn new(text: String) -> Label
+        ensures { result ≡ string_bytes text }
+    {
+        Label { text }
+    }
+
+    pub fn as_str(&self) -> &str
+        ensures { result.now ≡ self.now }
+    {
+        self.text.as_str()
+    }
 }
 
 /// A field of the struct: its name, and the kind of its number.
@@ -56,7 +84,7 @@ pub type Fields = Listed<Field>;
 pub struct Form {
     pub fields: Fields,
     /// The names of program, version and procedure, joined by dots.
-    pub op: Octets,
+    pub op: Label,
     pub program: u32,
     pub version: u32,
     pub procedure: u32,

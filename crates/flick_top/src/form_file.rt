@@ -6,7 +6,7 @@ ghost use Rattle.flick_top.specs.Field.{FieldView};
 ghost use Rattle.flick_top.specs.Reading.{Gives, until_at};
 ghost use Rattle.flick_top.specs.Form.{width_at, field_at, record_at, named_at, heading_at, value_at, numbers_at, parts_at, have_distinct_names, fit_together, op_of, form_in, form_of, all_read};
 
-use crate::form::{Field, Fields, Form, FormErr, Width};
+use crate::form::{Field, Fields, Form, FormErr, Label, Width};
 use crate::form_words::{name, number, stands_before, text_name, word, words_of};
 use kit_base::{NoMemory, Octets};
 use std::alloc::Global;
@@ -14,17 +14,17 @@ use std::alloc::Global;
 /// `struct NAME { FIELDS } ;`
 #[derive(Drop)]
 pub struct Record {
-    pub name: Octets,
+    pub name: Label,
     pub fields: Fields,
 }
 
 /// `program NAME { version NAME { int NAME ( NAME )`
 #[derive(Drop)]
 pub struct Heading {
-    pub program: Octets,
-    pub version: Octets,
-    pub procedure: Octets,
-    pub parameter: Octets,
+    pub program: Label,
+    pub version: Label,
+    pub procedure: Label,
+    pub parameter: Label,
 }
 
 /// The numbers that close procedure, version and program.
@@ -103,7 +103,7 @@ fn named<'a>(
     words: &'a [Octets],
     first: &[u8],
     mark: &[u8],
-) -> Result<(Octets, &'a [Octets]), FormErr>
+) -> Result<(Label, &'a [Octets]), FormErr>
     ensures { Gives (λ x. (x.0, x.1.now)) result (named_at first.now mark.now words.now) }
 {
     let rest = word(words, first)?;
@@ -209,24 +209,23 @@ fn fit_together(parts: &Parts) -> bool
     ensures { result ≡ fit_together parts.now }
 {
     let fields = parts.struct_.fields.as_slice();
-    let name = parts.struct_.name.as_slice();
+    let name = parts.struct_.name.as_str();
     1 <= fields.len()
         && fields.len() <= 64
         && have_distinct_names(fields)
-        && parts.heading.parameter.as_slice() == name
-        && parts.heading.program.as_slice() != name
+        && parts.heading.parameter.as_str() == name
+        && parts.heading.program.as_str() != name
 }
 
-fn op_of(alloc: Global, heading: &Heading) -> Result<Octets, NoMemory>
+fn op_of(alloc: Global, heading: &Heading) -> Result<Label, NoMemory>
     ensures { IfOk result (λ o. o ≡ op_of heading.now) }
 {
-    let mut op = Octets::new(alloc);
-    op.append(heading.program.as_slice())?;
-    op.push(b'.')?;
-    op.append(heading.version.as_slice())?;
-    op.push(b'.')?;
-    op.append(heading.procedure.as_slice())?;
-    Ok(op)
+    let mut op = String::from_str(alloc, heading.program.as_str())?;
+    op.push_str(".")?;
+    op.push_str(heading.version.as_str())?;
+    op.push_str(".")?;
+    op.push_str(heading.procedure.as_str())?;
+    Ok(Label::new(op))
 }
 
 /// The form of these parts.

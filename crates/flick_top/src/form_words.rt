@@ -4,7 +4,7 @@ ghost use Rattle.flick_top.specs.Reading.{Gives, word_at, meant_at, stands_befor
 ghost use Rattle.flick_top.specs.Form.{name_at, number_at};
 ghost use Rattle.flick_top.specs.Words.{is_blank, is_letter, is_digit, is_mark, begun_word, words_of, is_reserved, begins_with_letter, is_word, name_in, digit_in, digits_in, number_in};
 
-use crate::form::FormErr;
+use crate::form::{FormErr, Label};
 use kit_base::{NoMemory, Octets, Words};
 use std::alloc::Global;
 
@@ -191,13 +191,11 @@ pub fn stands_before(words: &[Octets], text: &[u8]) -> bool
 }
 
 /// A name, and what stands behind it.
-pub fn name(alloc: Global, words: &[Octets]) -> Result<(Octets, &[Octets]), FormErr>
+pub fn name(alloc: Global, words: &[Octets]) -> Result<(Label, &[Octets]), FormErr>
     ensures { Gives (λ x. (x.0, x.1.now)) result (name_at words.now) }
 {
-    match words {
-        [first, rest @ ..] if is_name(first.as_slice()) => Ok((copied(alloc, first)?, rest)),
-        _ => Err(FormErr::Form),
-    }
+    let (text, rest) = text_name(alloc, words)?;
+    Ok((Label::new(text), rest))
 }
 
 #[tactic(auto, using(crate::proofs::Text::utf8_of_word))]
@@ -234,14 +232,6 @@ fn text_of(alloc: Global, octets: &[u8]) -> Result<String, NoMemory>
         Ok(text) => Ok(String::from_str(alloc, text)?),
         Err(_) => unreachable!(),
     }
-}
-
-fn copied(alloc: Global, octets: &Octets) -> Result<Octets, NoMemory>
-    ensures { IfOk result (λ o. o ≡ octets.now) }
-{
-    let mut copy = Octets::new(alloc);
-    copy.append(octets.as_slice())?;
-    Ok(copy)
 }
 
 /// A number, and what stands behind it.

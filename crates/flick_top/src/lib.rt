@@ -7,12 +7,16 @@ mod command;
 mod form;
 mod form_file;
 mod form_words;
+mod marshal;
+mod received;
+mod record;
 mod request;
 mod saying;
 mod status;
 mod task;
 mod top;
 mod turns;
+mod unmarshal;
 
 pub use top::flick;
 

@@ -85,7 +85,7 @@ fn names_op(form: &Form, value: &Value) -> bool
     let Some(op) = member.as_str() else {
         return false;
     };
-    op.as_bytes() == form.op.as_slice()
+    op == form.op.as_str()
 }
 
 fn id_of(value: &Value) -> Option<u32>

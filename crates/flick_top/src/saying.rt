@@ -10,6 +10,8 @@ pub const USAGE: &[u8] = b"usage: flick COMMAND\n\
 commands:\n\
 \x20 marshal onc xdr FILE   answer each request record on standard input by the\n\
 \x20                        hexadecimal digits of its ONC call\n\
+\x20 unmarshal onc xdr FILE answer each ONC call in hexadecimal digits by its request\n\
+\x20                        record\n\
 \x20 --help                 write this page\n\
 \x20 --version              write name and version\n\
 \n\

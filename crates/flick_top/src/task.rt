@@ -1,7 +1,7 @@
 // What a command comes to, once its words and its file are read.
 ghost use Rattle.std.specs.Prelude.{◌≡◌, ◌≤◌, List, ℕ, Option, Some, IfOk, IfErr, ◌⊎◌};
 ghost use Rattle.kit_base.specs.Causes.{Rose};
-ghost use Rattle.flick_top.specs.Output.{Files, task_of, over_file};
+ghost use Rattle.flick_top.specs.Output.{Files, task_of, form_in_file};
 
 use crate::command::{Command, command_of, path_of};
 use crate::form::{Form, FormErr};
@@ -15,6 +15,8 @@ use std::alloc::Global;
 pub enum Job {
     /// Each request record by the message of its call.
     Marshal(Form),
+    /// Each call by its request record.
+    Unmarshal(Form),
 }
 
 /// What is left to do when the files are read.
@@ -48,37 +50,49 @@ pub fn task_of<F: Shelf>(alloc: Global, words: &Words, shelf: &mut F) -> Result<
     match command {
         Command::Help => Ok(Task::Say(Saying::Help)),
         Command::Version => Ok(Task::Say(Saying::Version)),
-        Command::Marshal => over_path(alloc, path_of(words), shelf),
+        Command::Marshal => match form_at(alloc, path_of(words), shelf)? {
+            Ok(form) => Ok(Task::Answer(Job::Marshal(form))),
+            Err(saying) => Ok(Task::Say(saying)),
+        },
+        Command::Unmarshal => match form_at(alloc, path_of(words), shelf)? {
+            Ok(form) => Ok(Task::Answer(Job::Unmarshal(form))),
+            Err(saying) => Ok(Task::Say(saying)),
+        },
     }
 }
 
-/// `marshal` over the file at a path. One octet more than the greatest length tells a longer one.
-fn over_path<F: Shelf>(alloc: Global, path: &[u8], shelf: &mut F) -> Result<Task, TaskErr>
-    ensures task { IfOk result (λ task. (files : Files) → F.files shelf.old ≡ Some files → task ≡ over_file (files path.now)) }
+/// The form that the file at a path says, or what is said instead. One octet more than the
+/// greatest length tells a longer one.
+fn form_at<F: Shelf>(
+    alloc: Global,
+    path: &[u8],
+    shelf: &mut F,
+) -> Result<Result<Form, Saying>, TaskErr>
+    ensures form { IfOk result (λ form. (files : Files) → F.files shelf.old ≡ Some files → form ≡ form_in_file (files path.now)) }
     ensures later { F.faults shelf.old ≤ F.faults shelf.new }
     ensures cause { IfErr result (λ e. e ≡ TaskErr.Shelf → Rose (F.faults shelf.old) (F.faults shelf.new)) }
 {
     match shelf.read_file(alloc, path, MOST_FILE + 1) {
-        Ok(text) => match over_text(alloc, text.as_slice()) {
-            Ok(task) => Ok(task),
+        Ok(text) => match form_in_text(alloc, text.as_slice()) {
+            Ok(form) => Ok(form),
             Err(NoMemory) => Err(TaskErr::NoMemory),
         },
-        Err(ShelfErr::Absent) => Ok(Task::Say(Saying::NoFile)),
+        Err(ShelfErr::Absent) => Ok(Err(Saying::NoFile)),
         Err(ShelfErr::Failed) => Err(TaskErr::Shelf),
         Err(ShelfErr::NoMemory) => Err(TaskErr::NoMemory),
     }
 }
 
-/// `marshal` over a text.
-fn over_text(alloc: Global, text: &[u8]) -> Result<Task, NoMemory>
-    ensures { IfOk result (λ task. task ≡ over_file (Some text.now)) }
+/// The form that a text says.
+fn form_in_text(alloc: Global, text: &[u8]) -> Result<Result<Form, Saying>, NoMemory>
+    ensures { IfOk result (λ form. form ≡ form_in_file (Some text.now)) }
 {
     if text.len() > MOST_FILE as usize {
-        return Ok(Task::Say(Saying::NoForm));
+        return Ok(Err(Saying::NoForm));
     }
     match read_form(alloc, text) {
-        Ok(form) => Ok(Task::Answer(Job::Marshal(form))),
-        Err(FormErr::Form) => Ok(Task::Say(Saying::NoForm)),
+        Ok(form) => Ok(Ok(form)),
+        Err(FormErr::Form) => Ok(Err(Saying::NoForm)),
         Err(FormErr::NoMemory) => Err(NoMemory),
     }
 }
