@@ -36,9 +36,9 @@ put-float k d (member l e ms) p q =
     let first = no-float-first (has_float e) (members_have_float ms) q in
     let later = no-float-rest (has_float e) (members_have_float ms) q in
     choice (slice_cmp nat_cmp k l) (member k d (member l e ms)) (member l d ms) (member l e (put k d ms))
-        (neither (has_float d) (members_have_float (member l e ms)) p q)
-        (neither (has_float d) (members_have_float ms) p later)
-        (neither (has_float e) (members_have_float (put k d ms)) first (put-float k d ms p later))
+    (neither (has_float d) (members_have_float (member l e ms)) p q)
+    (neither (has_float d) (members_have_float ms) p later)
+    (neither (has_float e) (members_have_float (put k d ms)) first (put-float k d ms p later))
 
 integer-float : (z : ℤ) → is_float (of_integer z) ≡ false
 integer-float (pos n) = refl

@@ -12,7 +12,12 @@ use raw_buf::SendBuf;
 use std::alloc::Global;
 
 /// The answer of `marshal` to the octets of a line, without its line feed.
-pub fn marshal(alloc: Global, form: &Form, line: &[u8], buf: &mut SendBuf) -> Result<Octets, NoMemory>
+pub fn marshal(
+    alloc: Global,
+    form: &Form,
+    line: &[u8],
+    buf: &mut SendBuf,
+) -> Result<Octets, NoMemory>
     ensures octets { IfOk result (λ o. o ≡ hex_or_refusal form.now (request_of form.now line.now)) }
     ensures checks { OnOk result (buf.new.spent.checks ≡ counted (is_some (request_of form.now line.now)) buf.old.spent.checks) }
 {

@@ -42,7 +42,12 @@ fn members_of(
         return Ok(Map::new(alloc));
     };
     let mut members = members_of(alloc, fields, numbers)?;
-    put(&mut members, alloc, field.name(), datum(field.width(), *number))?;
+    put(
+        &mut members,
+        alloc,
+        field.name(),
+        datum(field.width(), *number),
+    )?;
     Ok(members)
 }
 
