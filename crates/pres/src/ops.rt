@@ -1,0 +1,19 @@
+// The operations that a back end has messages for.
+use kit_base::{Listed, Name};
+use mint::table::NodeId;
+
+/// An operation, with the nodes of its messages.
+#[derive(Debug, Drop)]
+pub struct Op {
+    /// The number of its interface in the unit, from 0.
+    pub interface: u32,
+    pub name: Name,
+    /// The group of what goes in.
+    pub request: NodeId,
+    /// The choice of what comes back: arm 0 is the answer, arm k the k-th exception.
+    pub reply: NodeId,
+    pub has_reply: bool,
+}
+
+/// Operations, interface by interface, in the unit's order.
+pub type Ops = Listed<Op>;
