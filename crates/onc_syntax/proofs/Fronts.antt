@@ -12,7 +12,7 @@ use Rattle.syntax_kit.proofs.Lists.{longest, shorter_by}
 use Rattle.onc_syntax.specs.declared.tree.Def.{Def}
 use Rattle.onc_syntax.specs.Derivation.{def, file, Derives, FailsAt}
 use Rattle.onc_syntax.specs.Readers.{ended_at}
-use Rattle.onc_syntax.proofs.Sound.{ended_is, is_def, leads_def}
+use Rattle.onc_syntax.proofs.DefinitionsRead.{ended_is, is_def, leads_def}
 
 abbrev ended : Def → Text
 ended d = def d & mark (codes ";")

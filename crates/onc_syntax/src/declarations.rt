@@ -1,12 +1,15 @@
+// Declarations.
 ghost use Rattle.std.specs.Prelude.{◌≡◌};
 ghost use Rattle.syntax_kit.specs.Reading.{Gives};
 ghost use Rattle.onc_syntax.specs.Readers.{exactly_at, at_most_at, decl_at};
 
 use crate::tree::{Decl, Value};
 use crate::types::{name, type_name, value};
+use idl_lex::Token;
 use std::alloc::Global;
-use tokens::{Halt, Token, begins, begins_mark, mark, stands_before, word};
+use syntax_kit::{Halt, begins, begins_mark, mark, stands_before, word};
 
+/// A count in brackets.
 #[tactic(auto, unfolding(crate::specs::Readers::exactly_at))]
 fn exactly(alloc: Global, tokens: &[Token]) -> Result<(Value, &[Token]), Halt>
     ensures { Gives (λ x. (x.0, x.1.now)) result (exactly_at tokens.now) }
@@ -17,6 +20,7 @@ fn exactly(alloc: Global, tokens: &[Token]) -> Result<(Value, &[Token]), Halt>
     Ok((v, rest))
 }
 
+/// A greatest count, if there is one, between `<` and `>`.
 #[tactic(auto, unfolding(crate::specs::Readers::at_most_at))]
 fn at_most(alloc: Global, tokens: &[Token]) -> Result<(Option<Value>, &[Token]), Halt>
     ensures { Gives (λ x. (x.0, x.1.now)) result (at_most_at tokens.now) }

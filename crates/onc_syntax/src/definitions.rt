@@ -1,17 +1,22 @@
+// Definitions.
 ghost use Rattle.std.specs.Prelude.{◌≡◌};
 ghost use Rattle.syntax_kit.specs.Reading.{Gives};
-ghost use Rattle.onc_syntax.specs.Readers.{const_at, program_at, enum_at, struct_at, def_at, ended_at};
+ghost use Rattle.onc_syntax.specs.Readers.{const_at, def_at, ended_at};
 
-use crate::declared::decl;
-use crate::tree::{Def, Item, Items, Member, Value, Version};
+use crate::declarations::decl;
+use crate::programs::program;
+use crate::structures::{enumeration, structure};
+use crate::tree::{Def, Value};
 use crate::types::{name, value};
-use crate::union::union;
-use kit_base::Listed;
+use crate::unions::union;
+use idl_lex::Token;
+use kit_base::Name;
 use std::alloc::Global;
-use tokens::{Halt, Octets, Token, begins, joined, mark, some_until, word};
+use syntax_kit::{Halt, begins, mark, word};
 
+/// A constant, behind its word.
 #[tactic(auto, unfolding(crate::specs::Readers::const_at))]
-fn constant(alloc: Global, tokens: &[Token]) -> Result<((Octets, Value), &[Token]), Halt>
+fn constant(alloc: Global, tokens: &[Token]) -> Result<((Name, Value), &[Token]), Halt>
     ensures { Gives (λ x. ((x.0.0, x.0.1), x.1.now)) result (const_at tokens.now) }
 {
     let (n, rest) = name(alloc, tokens)?;
@@ -20,44 +25,7 @@ fn constant(alloc: Global, tokens: &[Token]) -> Result<((Octets, Value), &[Token
     Ok(((n, v), rest))
 }
 
-#[tactic(auto, unfolding(crate::specs::Readers::program_at))]
-fn program(
-    alloc: Global,
-    tokens: &[Token],
-) -> Result<(Octets, Listed<Version>, Value, &[Token]), Halt>
-    ensures { Gives (λ x. ((x.0, (x.1, x.2)), x.3.now)) result (program_at tokens.now) }
-{
-    let (n, rest) = name(alloc, tokens)?;
-    let rest = mark(rest, b"{")?;
-    let (versions, rest) = some_until::<Version>(alloc, rest, b"}")?;
-    let rest = mark(rest, b"}")?;
-    let rest = mark(rest, b"=")?;
-    let (v, rest) = value(alloc, rest)?;
-    Ok((n, versions, v, rest))
-}
-
-#[tactic(auto, unfolding(crate::specs::Readers::enum_at))]
-fn enumeration(alloc: Global, tokens: &[Token]) -> Result<(Octets, Items, &[Token]), Halt>
-    ensures { Gives (λ x. ((x.0, x.1), x.2.now)) result (enum_at tokens.now) }
-{
-    let (n, rest) = name(alloc, tokens)?;
-    let rest = mark(rest, b"{")?;
-    let (items, rest) = joined::<Item>(alloc, rest, b",")?;
-    let rest = mark(rest, b"}")?;
-    Ok((n, items, rest))
-}
-
-#[tactic(auto, unfolding(crate::specs::Readers::struct_at))]
-fn structure(alloc: Global, tokens: &[Token]) -> Result<(Octets, Listed<Member>, &[Token]), Halt>
-    ensures { Gives (λ x. ((x.0, x.1), x.2.now)) result (struct_at tokens.now) }
-{
-    let (n, rest) = name(alloc, tokens)?;
-    let rest = mark(rest, b"{")?;
-    let (members, rest) = some_until::<Member>(alloc, rest, b"}")?;
-    let rest = mark(rest, b"}")?;
-    Ok((n, members, rest))
-}
-
+/// A definition without its end.
 #[tactic(auto, unfolding(crate::specs::Readers::def_at))]
 fn def(alloc: Global, tokens: &[Token]) -> Result<(Def, &[Token]), Halt>
     ensures { Gives (λ x. (x.0, x.1.now)) result (def_at tokens.now) }
@@ -86,7 +54,7 @@ fn def(alloc: Global, tokens: &[Token]) -> Result<(Def, &[Token]), Halt>
     Ok((Def::Union(u), rest))
 }
 
-/// A definition and the mark at its end.
+/// A definition and its end.
 #[tactic(auto, unfolding(crate::specs::Readers::ended_at))]
 pub fn ended(alloc: Global, tokens: &[Token]) -> Result<(Def, &[Token]), Halt>
     ensures { Gives (λ x. (x.0, x.1.now)) result (ended_at tokens.now) }

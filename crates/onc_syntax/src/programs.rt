@@ -1,10 +1,14 @@
+// Programs.
 ghost use Rattle.std.specs.Prelude.{◌≡◌};
 ghost use Rattle.syntax_kit.specs.Reading.{Gives};
+ghost use Rattle.onc_syntax.specs.Readers.{program_at};
 
-use crate::tree::{ProcType, Procedure, Version};
+use crate::tree::{ProcType, Procedure, Value, Version};
 use crate::types::{name, type_name, value};
+use idl_lex::Token;
+use kit_base::{Listed, Name};
 use std::alloc::Global;
-use tokens::{Halt, Production, Token, begins, joined, mark, some_until, word};
+use syntax_kit::{Halt, Production, begins, joined, mark, some_until, word};
 
 impl Production for ProcType {
     ghost use Rattle.onc_syntax.specs.Readers.{proc_type_at};
@@ -77,4 +81,21 @@ impl Production for Version {
             rest,
         ))
     }
+}
+
+/// A program, behind its word.
+#[tactic(auto, unfolding(crate::specs::Readers::program_at))]
+pub fn program(
+    alloc: Global,
+    tokens: &[Token],
+) -> Result<(Name, Listed<Version>, Value, &[Token]), Halt>
+    ensures { Gives (λ x. ((x.0, (x.1, x.2)), x.3.now)) result (program_at tokens.now) }
+{
+    let (n, rest) = name(alloc, tokens)?;
+    let rest = mark(rest, b"{")?;
+    let (versions, rest) = some_until::<Version>(alloc, rest, b"}")?;
+    let rest = mark(rest, b"}")?;
+    let rest = mark(rest, b"=")?;
+    let (v, rest) = value(alloc, rest)?;
+    Ok((n, versions, v, rest))
 }

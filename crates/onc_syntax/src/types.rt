@@ -1,11 +1,15 @@
+// Names, values and types.
 ghost use Rattle.std.specs.Prelude.{◌≡◌};
 ghost use Rattle.syntax_kit.specs.Reading.{Gives, begins_with};
 ghost use Rattle.onc_syntax.specs.Readers.{is_name, name_at, value_at, int_in, is_int, int_at, prefix_in, is_prefix, prefix_at, type_at};
 
 use crate::tree::{IntWord, Prefix, TypeName, Value};
+use idl_lex::Token;
+use kit_base::Name;
 use std::alloc::Global;
-use tokens::{Halt, Octets, Token, begins, flag, id, is_word, number, word};
+use syntax_kit::{Halt, begins, begins_id, flag, id, is_word, number, word};
 
+/// The words of the grammar, which are no names.
 const WORDS: [&[u8]; 20] = [
     b"typedef",
     b"const",
@@ -30,7 +34,7 @@ const WORDS: [&[u8]; 20] = [
 ];
 
 /// A name.
-pub fn name(alloc: Global, tokens: &[Token]) -> Result<(Octets, &[Token]), Halt>
+pub fn name(alloc: Global, tokens: &[Token]) -> Result<(Name, &[Token]), Halt>
     ensures { Gives (λ x. (x.0, x.1.now)) result (name_at tokens.now) }
 {
     id(alloc, tokens, &WORDS)
@@ -40,7 +44,7 @@ pub fn name(alloc: Global, tokens: &[Token]) -> Result<(Octets, &[Token]), Halt>
 fn begins_name(tokens: &[Token]) -> bool
     ensures { result ≡ begins_with is_name tokens.now }
 {
-    tokens::begins_id(tokens, &WORDS)
+    begins_id(tokens, &WORDS)
 }
 
 /// A number or a name.
@@ -57,6 +61,7 @@ pub fn value(alloc: Global, tokens: &[Token]) -> Result<(Value, &[Token]), Halt>
     Ok((Value::Number(minus, n), rest))
 }
 
+/// The kind of number whose word a token is.
 fn int_of(token: &Token) -> Option<IntWord>
     ensures { result ≡ int_in token.now.kind }
 {
@@ -75,6 +80,7 @@ fn int_of(token: &Token) -> Option<IntWord>
     }
 }
 
+/// The prefix that a token is.
 fn prefix_of(token: &Token) -> Option<Prefix>
     ensures { result ≡ prefix_in token.now.kind }
 {
@@ -89,6 +95,7 @@ fn prefix_of(token: &Token) -> Option<Prefix>
     }
 }
 
+/// Whether a word for a kind of number comes first.
 fn begins_int(tokens: &[Token]) -> bool
     ensures { result ≡ begins_with is_int tokens.now }
 {
@@ -98,6 +105,7 @@ fn begins_int(tokens: &[Token]) -> bool
     }
 }
 
+/// Whether a prefix comes first.
 fn begins_prefix(tokens: &[Token]) -> bool
     ensures { result ≡ begins_with is_prefix tokens.now }
 {
@@ -107,6 +115,7 @@ fn begins_prefix(tokens: &[Token]) -> bool
     }
 }
 
+/// A word for a kind of number.
 fn int_word(tokens: &[Token]) -> Result<(IntWord, &[Token]), Halt>
     ensures { Gives (λ x. (x.0, x.1.now)) result (int_at tokens.now) }
 {
@@ -119,6 +128,7 @@ fn int_word(tokens: &[Token]) -> Result<(IntWord, &[Token]), Halt>
     }
 }
 
+/// A prefix.
 fn prefix(tokens: &[Token]) -> Result<(Prefix, &[Token]), Halt>
     ensures { Gives (λ x. (x.0, x.1.now)) result (prefix_at tokens.now) }
 {

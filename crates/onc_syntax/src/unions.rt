@@ -1,48 +1,14 @@
+// Unions.
 ghost use Rattle.std.specs.Prelude.{◌≡◌};
 ghost use Rattle.syntax_kit.specs.Reading.{Gives};
 ghost use Rattle.onc_syntax.specs.Readers.{arm_at, default_at, union_at};
 
-use crate::declared::decl;
-use crate::tree::{Arm, Case, Item, Label, Member, Union};
+use crate::declarations::decl;
+use crate::tree::{Arm, Case, Label, Union};
 use crate::types::{name, type_name, value};
+use idl_lex::Token;
 use std::alloc::Global;
-use tokens::{Halt, Production, Token, begins, begins_mark, mark, some_while, word};
-
-impl Production for Item {
-    ghost use Rattle.onc_syntax.specs.Readers.{item_at};
-
-    ghost at = { item_at };
-
-    #[tactic(auto, unfolding(crate::specs::Readers::item_at))]
-    fn read(alloc: Global, tokens: &[Token]) -> Result<(Self, &[Token]), Halt> {
-        let (name, rest) = name(alloc, tokens)?;
-        if begins_mark(rest, b"=") {
-            let rest = mark(rest, b"=")?;
-            let (v, rest) = value(alloc, rest)?;
-            return Ok((
-                Item {
-                    name,
-                    value: Some(v),
-                },
-                rest,
-            ));
-        }
-        Ok((Item { name, value: None }, rest))
-    }
-}
-
-impl Production for Member {
-    ghost use Rattle.onc_syntax.specs.Readers.{member_at};
-
-    ghost at = { member_at };
-
-    #[tactic(auto, unfolding(crate::specs::Readers::member_at))]
-    fn read(alloc: Global, tokens: &[Token]) -> Result<(Self, &[Token]), Halt> {
-        let (decl, rest) = decl(alloc, tokens)?;
-        let rest = mark(rest, b";")?;
-        Ok((Member { decl }, rest))
-    }
-}
+use syntax_kit::{Halt, Production, begins, mark, some_while, word};
 
 impl Production for Label {
     ghost use Rattle.onc_syntax.specs.Readers.{label_at};
@@ -58,6 +24,7 @@ impl Production for Label {
     }
 }
 
+/// What stands in a case, without its end.
 #[tactic(auto, unfolding(crate::specs::Readers::arm_at))]
 fn arm(alloc: Global, tokens: &[Token]) -> Result<(Arm, &[Token]), Halt>
     ensures { Gives (λ x. (x.0, x.1.now)) result (arm_at tokens.now) }
@@ -84,6 +51,7 @@ impl Production for Case {
     }
 }
 
+/// The default of a union.
 #[tactic(auto, unfolding(crate::specs::Readers::default_at))]
 fn default(alloc: Global, tokens: &[Token]) -> Result<(Arm, &[Token]), Halt>
     ensures { Gives (λ x. (x.0, x.1.now)) result (default_at tokens.now) }

@@ -1,11 +1,11 @@
 -- Lists of items, and how far a list of items goes.
-use Rattle.std.proofs.Common.{◌≡◌, ◌⊎◌, inl, inr, ℕ, ◌+◌, ◌≤◌, ◌<◌, List, [], ◌∷◌, ◌++◌, length, Option, Some, None, Bool, true, false, not, refl, sym, ap, subst, ◌∙◌, append_assoc, length-append, arith}
+use Rattle.std.proofs.Common.{◌≡◌, ℕ, ◌≤◌, ◌<◌, List, [], ◌∷◌, ◌++◌, length, Some, None, Bool, true, false, refl, sym, ap, subst, ◌∙◌, append_assoc, length-append, arith}
 use Rattle.idl_lex.specs.declared.kinds.Token.{Token}
 use Rattle.idl_lex.specs.declared.kinds.TokenKind.{TokenKind}
-use Rattle.syntax_kit.specs.Reading.{Reader, mapped, both, behind, word_is, mark_is, mark_at, begins_with, begins_other, many, cons, joined_at, until_at, while_at, if_some, some_at, then_on}
-use Rattle.syntax_kit.specs.Grammar.{Text, empty, mark, ◌&◌, each, joined, some, kinds, IsGrammar, Leads, Any}
+use Rattle.syntax_kit.specs.Reading.{Reader, word_is, mark_is, begins_with, begins_other, cons, joined_at, until_at, while_at, if_some, some_at}
+use Rattle.syntax_kit.specs.Grammar.{Text, mark, ◌&◌, each, joined, some, kinds, IsGrammar, Leads, Any}
 use Rattle.syntax_kit.proofs.Grammars.{read_is, then_some, parted, mapped_is, both_is, many_is, IsRow}
-use Rattle.syntax_kit.proofs.Leaves.{mark_reads, Apart, leads_mark, leads_both, begins_so, begins_not, begins_else}
+use Rattle.syntax_kit.proofs.Leaves.{mark_reads, Apart, leads_mark, leads_both, begins_so, begins_else}
 use Rattle.syntax_kit.proofs.Productions.{weaker, behind_is, leads_behind}
 
 -- a first token of f is none of g

@@ -1,15 +1,15 @@
 -- The forms that productions are made of.
-use Rattle.std.proofs.Common.{◌≡◌, ◌⊎◌, inl, inr, ℕ, List, [], ◌∷◌, ◌++◌, length, Option, Some, None, Bool, true, false, not, ◌||◌, cond, refl, sym, ap, subst, ◌∙◌, append_assoc}
+use Rattle.std.proofs.Common.{◌≡◌, ℕ, List, [], ◌∷◌, ◌++◌, Option, Some, None, Bool, true, false, ◌||◌, cond, refl, sym, ap, subst, ◌∙◌}
 use Rattle.std.specs.Prelude.{is_some}
 use Rattle.std.specs.List.{AllByRecursion}
 use Rattle.std.proofs.lemmas.List.{append-nil}
 use Rattle.idl_lex.specs.declared.kinds.Token.{Token}
 use Rattle.idl_lex.specs.declared.kinds.TokenKind.{TokenKind}
-use Rattle.idl_lex.specs.declared.kinds.TokenKind.TheVariants.{Name, Number, Mark}
-use Rattle.syntax_kit.specs.Reading.{Reader, mapped, both, behind, before, either, option, token_at, word_is, mark_is, word_at, mark_at, begins_with, is_in, id_in, is_id, word_in, has_word, flag_at, joined_at, many, cons, until_at, while_at, begins_other}
-use Rattle.syntax_kit.specs.Grammar.{Text, empty, word, mark, ◌&◌, one_of, maybe, when, each, joined, kinds, IsGrammar, Leads, Any}
-use Rattle.syntax_kit.proofs.Grammars.{read_is, mapped_is, both_is, either_is, option_is, many_is, IsRow}
-use Rattle.syntax_kit.proofs.Leaves.{token_is, word_named, mark_named, equal_bytes, word_reads, mark_reads, Apart, apart_word, apart_mark, leads_word, leads_mark, leads_both, begins_so, begins_not, begins_else}
+use Rattle.idl_lex.specs.declared.kinds.TokenKind.TheVariants.{Name, Mark}
+use Rattle.syntax_kit.specs.Reading.{Reader, behind, before, either, token_at, word_is, mark_is, word_at, mark_at, begins_with, is_id, word_in, has_word, flag_at, begins_other}
+use Rattle.syntax_kit.specs.Grammar.{Text, empty, word, mark, ◌&◌, one_of, maybe, when, kinds, IsGrammar, Leads, Any}
+use Rattle.syntax_kit.proofs.Grammars.{read_is, mapped_is, both_is, either_is}
+use Rattle.syntax_kit.proofs.Leaves.{token_is, word_named, mark_named, equal_bytes, word_reads, mark_reads, Apart, apart_word, apart_mark, leads_word, leads_mark, leads_both, begins_so, begins_not}
 
 pub weaker : {A : Type 0} {r : Reader A} {S : A → Text} {May May' : List Token → Type 0} → IsGrammar r S May → ((rest : List Token) → May' rest → May rest) → IsGrammar r S May'
 weaker g h = record { found = g.found; again = λ a front rest s may. g.again a front rest s (h rest may) }
@@ -134,3 +134,7 @@ maybe_not f l apart (Some a) front rest s h = begins_not f l apart a front rest 
 pub not_other : (f : TokenKind → Bool) (ts : List Token) → begins_with f ts ≡ true → begins_other f ts ≡ false
 not_other f [] h = refl
 not_other f (t ∷ ts) h = rw h refl
+
+-- behind the last item before a closing mark
+pub stopped : {B : Type 0} {T : B → Text} (close : List ℕ) → Leads T (mark_is close) → (b : B) (front rest : List Token) → T b (kinds front) → begins_other (mark_is close) (front ++ rest) ≡ false
+stopped close l b front rest t = not_other (mark_is close) (front ++ rest) (begins_so l b front rest t)
