@@ -70,4 +70,3 @@ pub fn structure(alloc: Global, tokens: &[Token]) -> Result<(Name, Listed<Member
     let rest = mark(rest, b"}")?;
     Ok((n, members, rest))
 }
-
