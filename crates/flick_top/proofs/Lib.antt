@@ -8,6 +8,5 @@ pub mod Loops
 pub mod Prefix
 pub mod Receiving
 pub mod Stops
-pub mod Text
 pub mod Trees
 pub mod Turning
