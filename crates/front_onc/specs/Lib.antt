@@ -1,0 +1,5 @@
+pub mod Answers
+pub mod Names
+pub mod Types
+pub mod Programs
+pub mod Resolved
