@@ -1,5 +1,7 @@
 // What the content of a file says.
-ghost use Rattle.std.specs.Prelude.{◌≡◌, ◌≤◌, Some, IfOk, length};
+ghost use Rattle.std.specs.Prelude.{◌≡◌, ◌≤◌, Some, Err, IfOk, length};
+ghost use Rattle.aoi.specs.declared.faults.NameFault.TheVariants.{NoMemory as WantOfMemory};
+ghost use Rattle.flick_top.specs.declared.saying.Saying.TheVariants as sayings;
 ghost use Rattle.flick_top.specs.File.{FileSays, TextSays, TokensSay, tree_says, form_or_saying};
 ghost use Rattle.aoi.specs.Plain.{plain};
 ghost use Rattle.flick_top.specs.Form.{form_of};
@@ -63,5 +65,15 @@ fn told_by_unit(alloc: Global, unit: &Unit) -> Result<Result<Form, Saying>, NoMe
     match form_of(alloc, unit)? {
         Some(form) => Ok(Ok(form)),
         None => Ok(Err(Saying::NoForm)),
+    }
+}
+
+/// What is said of a name that is not resolved.
+fn told_by_fault(error: NameErr) -> Result<Result<Form, Saying>, NoMemory>
+    ensures { IfOk result (λ told. (error.fault ≡ WantOfMemory → ⊥) × (told ≡ Err (sayings.Name error))) }
+{
+    match error.fault {
+        NameFault::NoMemory => Err(NoMemory),
+        _ => Ok(Err(Saying::Name(error))),
     }
 }

@@ -1,7 +1,7 @@
 // What a call takes whose messages are made: a struct of numbers of 32 bits.
-ghost use Rattle.std.specs.Prelude.{◌≡◌, IfOk, Some, None, if◌then◌else◌, option_copied};
+ghost use Rattle.std.specs.Prelude.{◌≡◌, IfOk, option_map, string_bytes};
 ghost use Rattle.flick_top.specs.Field.{FieldView};
-ghost use Rattle.flick_top.specs.Form.{is_text, label_of, field_of};
+ghost use Rattle.flick_top.specs.Form.{label_of, field_of};
 
 use kit_base::{Listed, NoMemory};
 use std::alloc::Global;

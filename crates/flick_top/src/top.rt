@@ -3,7 +3,7 @@ ghost use Rattle.std.specs.Prelude.{◌≡◌, ◌≤◌, Some};
 ghost use Rattle.kit_base.specs.Causes.{Rose};
 ghost use Rattle.flick_top.specs.Output.{Files, IsTask, out_of, messages_of};
 ghost use Rattle.flick_top.specs.declared.task.Task.{Task};
-ghost use Rattle.flick_top.specs.Statement.{Writes, WritesFront, WritesEnded, WritesNothing, TakesMore, TakesAtMost, ComesBy, Completes, Counts};
+ghost use Rattle.flick_top.specs.Statement.{ComesTo, Writes, WritesFront, WritesEnded, WritesNothing, TakesMore, TakesAtMost, ComesBy, Completes, Counts};
 
 use crate::status::Status;
 use crate::task::{TaskErr, task_of};

@@ -95,10 +95,10 @@ fn parameter_fields(
 ) -> Result<Option<Fields>, NoMemory>
     ensures { IfOk result (λ fields. fields ≡ parameter_fields (shapes types.now) (members parameters.now)) }
 {
-    match parameters {
-        [parameter] => struct_fields(alloc, types, in_types(types, &parameter.ty)),
-        _ => Ok(None),
+    if parameters.len() != 1 {
+        return Ok(None);
     }
+    struct_fields(alloc, types, in_types(types, &parameters[0].ty))
 }
 
 fn struct_fields(

@@ -3,6 +3,8 @@
 
 mod meaning;
 mod names;
+mod resolving;
 
 pub use aoi::{NameErr, NameFault};
 pub use meaning::{Form, Meaning, Tag, Use};
+pub use resolving::resolve;
