@@ -1,42 +1,24 @@
 -- Programs: what is read is what is spelled.
-use Rattle.std.proofs.Common.{◌≡◌, ◌⊎◌, inl, inr, ℕ, ℤ, List, [], ◌∷◌, ◌++◌, Option, Some, None, Bool, true, false, ◌||◌, refl, sym, ap, ◌∙◌, length, ◌<◌}
+use Rattle.std.proofs.Common.{◌≡◌, ◌⊎◌, inl, inr, ℕ, List, ◌++◌, Bool, false, ◌||◌, refl, ap, ◌∙◌}
 use Rattle.std.specs.List.{AllByRecursion}
 use Rattle.std.specs.Prelude.{codes}
-use Rattle.idl_lex.specs.declared.kinds.Token.{Token}
 use Rattle.idl_lex.specs.declared.kinds.TokenKind.{TokenKind}
-use Rattle.idl_lex.specs.declared.kinds.TokenKind.TheVariants.{Name, Number, Mark}
-use Rattle.syntax_kit.specs.Reading.{Reader, mark_is, word_is, word_in, has_word, begins_with, begins_other, is_id, both, either, option, behind, before, mark_at, joined_at, until_at, while_at, some_at}
-use Rattle.syntax_kit.specs.Grammar.{Text, empty, some, joined, word, mark, number, ◌&◌, one_of, maybe, when, kinds, IsGrammar, Leads, Any}
-use Rattle.syntax_kit.proofs.Grammars.{mapped_is, both_is, either_is, option_is}
-use Rattle.syntax_kit.proofs.Leaves.{id_reads, number_reads, word_reads, mark_reads, Apart, apart_word, apart_mark, apart_or, leads_word, leads_mark, leads_number, is_number, leads_id, leads_both, leads_either, begins_so, begins_not, begins_else}
-use Rattle.syntax_kit.proofs.Productions.{weaker, behind_is, before_is, led_is, marked_is, leads_behind, leads_maybe, leads_when, flag_reads, words_are, leads_words, apart_words, apart_id, unit_right, unit_right_back, unit_left, unit_left_back, leads_by, maybe_not, not_other, stopped}
-use Rattle.syntax_kit.proofs.Lists.{turns, joined_is, until_is, while_is, some_is, leads_some, leads_joined}
+use Rattle.idl_lex.specs.declared.kinds.TokenKind.TheVariants.{Name}
+use Rattle.syntax_kit.specs.Reading.{mark_is, word_is, begins_with, begins_other, both, behind, before, mark_at, joined_at, until_at, some_at}
+use Rattle.syntax_kit.specs.Grammar.{Text, some, joined, word, mark, ◌&◌, one_of, IsGrammar, Leads, Any}
+use Rattle.syntax_kit.proofs.Grammars.{mapped_is, both_is, either_is}
+use Rattle.syntax_kit.proofs.Leaves.{word_reads, mark_reads, apart_word, apart_mark, leads_word, leads_mark, leads_id, leads_both, leads_either, begins_so, begins_not}
+use Rattle.syntax_kit.proofs.Productions.{weaker, behind_is, before_is, leads_behind, apart_words, leads_by, stopped}
+use Rattle.syntax_kit.proofs.Lists.{turns, joined_is, until_is, some_is}
 use Rattle.onc_syntax.specs.declared.tree.Value.{Value}
-use Rattle.onc_syntax.specs.declared.tree.Value.TheVariants as V
 use Rattle.onc_syntax.specs.declared.tree.IntWord.{IntWord}
-use Rattle.onc_syntax.specs.declared.tree.IntWord.TheVariants.{Int, Long, Short, Char, Hyper}
-use Rattle.onc_syntax.specs.declared.tree.Prefix.{Prefix}
-use Rattle.onc_syntax.specs.declared.tree.Prefix.TheVariants.{Struct, Union, Enum}
 use Rattle.onc_syntax.specs.declared.tree.TypeName.{TypeName as Ty}
-use Rattle.onc_syntax.specs.declared.tree.TypeName.TheVariants as T
-use Rattle.onc_syntax.specs.declared.tree.Decl.{Decl}
-use Rattle.onc_syntax.specs.declared.tree.Decl.TheVariants as D
-use Rattle.onc_syntax.specs.declared.tree.Item.{Item}
-use Rattle.onc_syntax.specs.declared.tree.Member.{Member}
-use Rattle.onc_syntax.specs.declared.tree.Arm.{Arm}
-use Rattle.onc_syntax.specs.declared.tree.Arm.TheVariants as A
-use Rattle.onc_syntax.specs.declared.tree.Label.{Label}
-use Rattle.onc_syntax.specs.declared.tree.Case.{Case}
 use Rattle.onc_syntax.specs.declared.tree.ProcType.{ProcType}
 use Rattle.onc_syntax.specs.declared.tree.ProcType.TheVariants as P
-use Rattle.onc_syntax.specs.declared.tree.Procedure.{Procedure}
 use Rattle.onc_syntax.specs.declared.tree.Version.{Version}
-use Rattle.onc_syntax.specs.declared.tree.Union.{Union as UnionDef}
-use Rattle.onc_syntax.specs.declared.tree.Def.{Def}
-use Rattle.onc_syntax.specs.declared.tree.Def.TheVariants as F
 use Rattle.onc_syntax.specs.Words.{onc_words}
-use Rattle.onc_syntax.specs.Derivation.{name, exactly, at_most, decl, item, member, arm, label, case, default, proc_type, procedure, version, union_def, def, value, int_spell, int_word, prefix_spell, prefix, type}
-use Rattle.onc_syntax.specs.Readers.{name_at, is_name, value_of, value_at, int_words, int_in, is_int, int_at, prefix_words, is_prefix, prefix_at, type_of, type_at, exactly_at, is_close, at_most_at, decl_of, decl_at, item_of, item_at, member_at, arm_of, arm_at, label_at, case_at, default_at, proc_type_of, proc_type_at, procedure_of, procedure_at, version_of, version_at, const_at, program_at, enum_at, struct_at, union_of, union_at, def_of, def_at, ended_at}
+use Rattle.onc_syntax.specs.Derivation.{name, proc_type, procedure, version, value, type}
+use Rattle.onc_syntax.specs.Readers.{is_name, value_at, int_words, is_int, proc_type_of, proc_type_at, procedure_of, procedure_at, version_of, version_at, program_at}
 use Rattle.onc_syntax.proofs.TypesRead.{TypeMay, is_name_grammar, is_type, leads_type, type_is, value_is}
 
 abbrev proc_type_text : Unit {0} ⊎ Unit {0} ⊎ Ty → Text

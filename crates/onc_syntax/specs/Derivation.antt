@@ -1,6 +1,6 @@
 -- The tokens of a tree, production by production.
-use Rattle.std.specs.Prelude.{◌≡◌, ◌≤◌, ◌∷◌, ◌++◌, length, Bool, true, false, ℕ, List, Option, Some, None, codes}
-use Rattle.syntax_kit.specs.Grammar.{Text, empty, word, mark, number, id, ◌&◌, maybe, when, each, some, joined, kinds}
+use Rattle.std.specs.Prelude.{◌≡◌, ◌≤◌, ◌∷◌, ◌++◌, length, ℕ, List, Option, codes}
+use Rattle.syntax_kit.specs.Grammar.{Text, word, mark, number, id, ◌&◌, maybe, when, each, some, joined, kinds}
 use Rattle.onc_syntax.specs.Words.{onc_words}
 use Rattle.onc_syntax.specs.declared.tree.Value.{Value}
 use Rattle.onc_syntax.specs.declared.tree.Value.TheVariants as V

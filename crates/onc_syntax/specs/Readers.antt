@@ -1,5 +1,5 @@
 -- What each function of the parser reads: a tool beside Derivation, tied to it in proofs/.
-use Rattle.std.specs.Prelude.{Bool, true, false, ◌||◌, ◌⊎◌, ℕ, ℤ, List, [], ◌∷◌, Option, Some, None, is_some, codes, if◌then◌else◌}
+use Rattle.std.specs.Prelude.{Bool, true, false, ◌⊎◌, ℕ, ℤ, List, [], ◌∷◌, Option, Some, None, codes}
 use Rattle.std.proofs.Common.{inl, inr}
 use Rattle.idl_lex.specs.declared.kinds.TokenKind.{TokenKind}
 use Rattle.syntax_kit.specs.Reading.{Reader, word_is, mark_is, word_at, mark_at, number_at, id_at, token_at, flag_at, is_id, word_in, has_word, begins_with, begins_other, both, mapped, either, option, behind, before, joined_at, until_at, while_at, some_at}

@@ -4,7 +4,7 @@ ghost use Rattle.syntax_kit.specs.Reading.{Gives};
 ghost use Rattle.onc_syntax.specs.Readers.{exactly_at, at_most_at, decl_at};
 
 use crate::tree::{Decl, Value};
-use crate::types::{name, type_name, value};
+use crate::types::{identifier, type_name, value};
 use idl_lex::Token;
 use std::alloc::Global;
 use syntax_kit::{Halt, begins, begins_mark, mark, stands_before, word};
@@ -15,9 +15,9 @@ fn exactly(alloc: Global, tokens: &[Token]) -> Result<(Value, &[Token]), Halt>
     ensures { Gives (λ x. (x.0, x.1.now)) result (exactly_at tokens.now) }
 {
     let rest = mark(tokens, b"[")?;
-    let (v, rest) = value(alloc, rest)?;
+    let (count, rest) = value(alloc, rest)?;
     let rest = mark(rest, b"]")?;
-    Ok((v, rest))
+    Ok((count, rest))
 }
 
 /// A greatest count, if there is one, between `<` and `>`.
@@ -27,9 +27,9 @@ fn at_most(alloc: Global, tokens: &[Token]) -> Result<(Option<Value>, &[Token]),
 {
     let rest = mark(tokens, b"<")?;
     if stands_before(rest, b">") {
-        let (v, rest) = value(alloc, rest)?;
+        let (most, rest) = value(alloc, rest)?;
         let rest = mark(rest, b">")?;
-        return Ok((Some(v), rest));
+        return Ok((Some(most), rest));
     }
     let rest = mark(rest, b">")?;
     Ok((None, rest))
@@ -42,34 +42,34 @@ pub fn decl(alloc: Global, tokens: &[Token]) -> Result<(Decl, &[Token]), Halt>
 {
     if begins(tokens, b"opaque") {
         let rest = word(tokens, b"opaque")?;
-        let (n, rest) = name(alloc, rest)?;
+        let (name, rest) = identifier(alloc, rest)?;
         if begins_mark(rest, b"[") {
-            let (v, rest) = exactly(alloc, rest)?;
-            return Ok((Decl::OpaqueArray(n, v), rest));
+            let (count, rest) = exactly(alloc, rest)?;
+            return Ok((Decl::OpaqueArray(name, count), rest));
         }
-        let (v, rest) = at_most(alloc, rest)?;
-        return Ok((Decl::OpaqueList(n, v), rest));
+        let (most, rest) = at_most(alloc, rest)?;
+        return Ok((Decl::OpaqueList(name, most), rest));
     }
     if begins(tokens, b"string") {
         let rest = word(tokens, b"string")?;
-        let (n, rest) = name(alloc, rest)?;
-        let (v, rest) = at_most(alloc, rest)?;
-        return Ok((Decl::Text(n, v), rest));
+        let (name, rest) = identifier(alloc, rest)?;
+        let (most, rest) = at_most(alloc, rest)?;
+        return Ok((Decl::Text(name, most), rest));
     }
-    let (t, rest) = type_name(alloc, tokens)?;
+    let (of, rest) = type_name(alloc, tokens)?;
     if begins_mark(rest, b"*") {
         let rest = mark(rest, b"*")?;
-        let (n, rest) = name(alloc, rest)?;
-        return Ok((Decl::Pointer(t, n), rest));
+        let (name, rest) = identifier(alloc, rest)?;
+        return Ok((Decl::Pointer(of, name), rest));
     }
-    let (n, rest) = name(alloc, rest)?;
+    let (name, rest) = identifier(alloc, rest)?;
     if begins_mark(rest, b"[") {
-        let (v, rest) = exactly(alloc, rest)?;
-        return Ok((Decl::Array(t, n, v), rest));
+        let (count, rest) = exactly(alloc, rest)?;
+        return Ok((Decl::Array(of, name, count), rest));
     }
     if begins_mark(rest, b"<") {
-        let (v, rest) = at_most(alloc, rest)?;
-        return Ok((Decl::List(t, n, v), rest));
+        let (most, rest) = at_most(alloc, rest)?;
+        return Ok((Decl::List(of, name, most), rest));
     }
-    Ok((Decl::Plain(t, n), rest))
+    Ok((Decl::Plain(of, name), rest))
 }

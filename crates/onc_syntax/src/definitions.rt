@@ -7,7 +7,7 @@ use crate::declarations::decl;
 use crate::programs::program;
 use crate::structures::{enumeration, structure};
 use crate::tree::{Def, Value};
-use crate::types::{name, value};
+use crate::types::{identifier, value};
 use crate::unions::union;
 use idl_lex::Token;
 use kit_base::Name;
@@ -19,10 +19,10 @@ use syntax_kit::{Halt, begins, mark, word};
 fn constant(alloc: Global, tokens: &[Token]) -> Result<((Name, Value), &[Token]), Halt>
     ensures { Gives (λ x. ((x.0.0, x.0.1), x.1.now)) result (const_at tokens.now) }
 {
-    let (n, rest) = name(alloc, tokens)?;
+    let (name, rest) = identifier(alloc, tokens)?;
     let rest = mark(rest, b"=")?;
-    let (v, rest) = value(alloc, rest)?;
-    Ok(((n, v), rest))
+    let (value, rest) = value(alloc, rest)?;
+    Ok(((name, value), rest))
 }
 
 /// A definition without its end.
@@ -31,27 +31,27 @@ fn def(alloc: Global, tokens: &[Token]) -> Result<(Def, &[Token]), Halt>
     ensures { Gives (λ x. (x.0, x.1.now)) result (def_at tokens.now) }
 {
     if begins(tokens, b"typedef") {
-        let (d, rest) = decl(alloc, word(tokens, b"typedef")?)?;
-        return Ok((Def::Typedef(d), rest));
+        let (declared, rest) = decl(alloc, word(tokens, b"typedef")?)?;
+        return Ok((Def::Typedef(declared), rest));
     }
     if begins(tokens, b"const") {
-        let ((n, v), rest) = constant(alloc, word(tokens, b"const")?)?;
-        return Ok((Def::Const(n, v), rest));
+        let ((name, value), rest) = constant(alloc, word(tokens, b"const")?)?;
+        return Ok((Def::Const(name, value), rest));
     }
     if begins(tokens, b"program") {
-        let (n, versions, v, rest) = program(alloc, word(tokens, b"program")?)?;
-        return Ok((Def::Program(n, versions, v), rest));
+        let (name, versions, number, rest) = program(alloc, word(tokens, b"program")?)?;
+        return Ok((Def::Program(name, versions, number), rest));
     }
     if begins(tokens, b"enum") {
-        let (n, items, rest) = enumeration(alloc, word(tokens, b"enum")?)?;
-        return Ok((Def::Enum(n, items), rest));
+        let (name, items, rest) = enumeration(alloc, word(tokens, b"enum")?)?;
+        return Ok((Def::Enum(name, items), rest));
     }
     if begins(tokens, b"struct") {
-        let (n, members, rest) = structure(alloc, word(tokens, b"struct")?)?;
-        return Ok((Def::Struct(n, members), rest));
+        let (name, members, rest) = structure(alloc, word(tokens, b"struct")?)?;
+        return Ok((Def::Struct(name, members), rest));
     }
-    let (u, rest) = union(alloc, word(tokens, b"union")?)?;
-    Ok((Def::Union(u), rest))
+    let (choice, rest) = union(alloc, word(tokens, b"union")?)?;
+    Ok((Def::Union(choice), rest))
 }
 
 /// A definition and its end.
@@ -59,7 +59,7 @@ fn def(alloc: Global, tokens: &[Token]) -> Result<(Def, &[Token]), Halt>
 pub fn ended(alloc: Global, tokens: &[Token]) -> Result<(Def, &[Token]), Halt>
     ensures { Gives (λ x. (x.0, x.1.now)) result (ended_at tokens.now) }
 {
-    let (d, rest) = def(alloc, tokens)?;
+    let (definition, rest) = def(alloc, tokens)?;
     let rest = mark(rest, b";")?;
-    Ok((d, rest))
+    Ok((definition, rest))
 }

@@ -17,3 +17,8 @@ pub use tree::{
     Arm, Case, Decl, Def, IntWord, Item, Items, Label, Member, Prefix, ProcType, Procedure, Tree,
     TypeName, Union, Value, Version,
 };
+
+#[cfg(test)]
+mod printed;
+#[cfg(test)]
+mod tests;

@@ -4,7 +4,7 @@ ghost use Rattle.syntax_kit.specs.Reading.{Gives};
 ghost use Rattle.onc_syntax.specs.Readers.{program_at};
 
 use crate::tree::{ProcType, Procedure, Value, Version};
-use crate::types::{name, type_name, value};
+use crate::types::{identifier, type_name, value};
 use idl_lex::Token;
 use kit_base::{Listed, Name};
 use std::alloc::Global;
@@ -25,8 +25,8 @@ impl Production for ProcType {
             let rest = word(tokens, b"string")?;
             return Ok((ProcType::Text, rest));
         }
-        let (t, rest) = type_name(alloc, tokens)?;
-        Ok((ProcType::Plain(t), rest))
+        let (of, rest) = type_name(alloc, tokens)?;
+        Ok((ProcType::Plain(of), rest))
     }
 }
 
@@ -38,7 +38,7 @@ impl Production for Procedure {
     #[tactic(auto, unfolding(crate::specs::Readers::procedure_at))]
     fn read(alloc: Global, tokens: &[Token]) -> Result<(Self, &[Token]), Halt> {
         let (result, rest) = ProcType::read(alloc, tokens)?;
-        let (n, rest) = name(alloc, rest)?;
+        let (name, rest) = identifier(alloc, rest)?;
         let rest = mark(rest, b"(")?;
         let (parameters, rest) = joined::<ProcType>(alloc, rest, b",")?;
         let rest = mark(rest, b")")?;
@@ -48,7 +48,7 @@ impl Production for Procedure {
         Ok((
             Procedure {
                 result,
-                name: n,
+                name,
                 parameters,
                 number,
             },
@@ -65,7 +65,7 @@ impl Production for Version {
     #[tactic(auto, unfolding(crate::specs::Readers::version_at))]
     fn read(alloc: Global, tokens: &[Token]) -> Result<(Self, &[Token]), Halt> {
         let rest = word(tokens, b"version")?;
-        let (n, rest) = name(alloc, rest)?;
+        let (name, rest) = identifier(alloc, rest)?;
         let rest = mark(rest, b"{")?;
         let (procedures, rest) = some_until::<Procedure>(alloc, rest, b"}")?;
         let rest = mark(rest, b"}")?;
@@ -74,7 +74,7 @@ impl Production for Version {
         let rest = mark(rest, b";")?;
         Ok((
             Version {
-                name: n,
+                name,
                 procedures,
                 number,
             },
@@ -91,11 +91,11 @@ pub fn program(
 ) -> Result<(Name, Listed<Version>, Value, &[Token]), Halt>
     ensures { Gives (λ x. ((x.0, (x.1, x.2)), x.3.now)) result (program_at tokens.now) }
 {
-    let (n, rest) = name(alloc, tokens)?;
+    let (name, rest) = identifier(alloc, tokens)?;
     let rest = mark(rest, b"{")?;
     let (versions, rest) = some_until::<Version>(alloc, rest, b"}")?;
     let rest = mark(rest, b"}")?;
     let rest = mark(rest, b"=")?;
-    let (v, rest) = value(alloc, rest)?;
-    Ok((n, versions, v, rest))
+    let (number, rest) = value(alloc, rest)?;
+    Ok((name, versions, number, rest))
 }

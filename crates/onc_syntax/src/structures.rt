@@ -5,7 +5,7 @@ ghost use Rattle.onc_syntax.specs.Readers.{enum_at, struct_at};
 
 use crate::declarations::decl;
 use crate::tree::{Item, Items, Member};
-use crate::types::{name, value};
+use crate::types::{identifier, value};
 use idl_lex::Token;
 use kit_base::{Listed, Name};
 use std::alloc::Global;
@@ -18,14 +18,14 @@ impl Production for Item {
 
     #[tactic(auto, unfolding(crate::specs::Readers::item_at))]
     fn read(alloc: Global, tokens: &[Token]) -> Result<(Self, &[Token]), Halt> {
-        let (name, rest) = name(alloc, tokens)?;
+        let (name, rest) = identifier(alloc, tokens)?;
         if begins_mark(rest, b"=") {
             let rest = mark(rest, b"=")?;
-            let (v, rest) = value(alloc, rest)?;
+            let (value, rest) = value(alloc, rest)?;
             return Ok((
                 Item {
                     name,
-                    value: Some(v),
+                    value: Some(value),
                 },
                 rest,
             ));
@@ -52,11 +52,11 @@ impl Production for Member {
 pub fn enumeration(alloc: Global, tokens: &[Token]) -> Result<(Name, Items, &[Token]), Halt>
     ensures { Gives (λ x. ((x.0, x.1), x.2.now)) result (enum_at tokens.now) }
 {
-    let (n, rest) = name(alloc, tokens)?;
+    let (name, rest) = identifier(alloc, tokens)?;
     let rest = mark(rest, b"{")?;
     let (items, rest) = joined::<Item>(alloc, rest, b",")?;
     let rest = mark(rest, b"}")?;
-    Ok((n, items, rest))
+    Ok((name, items, rest))
 }
 
 /// A struct, behind its word.
@@ -64,10 +64,9 @@ pub fn enumeration(alloc: Global, tokens: &[Token]) -> Result<(Name, Items, &[To
 pub fn structure(alloc: Global, tokens: &[Token]) -> Result<(Name, Listed<Member>, &[Token]), Halt>
     ensures { Gives (λ x. ((x.0, x.1), x.2.now)) result (struct_at tokens.now) }
 {
-    let (n, rest) = name(alloc, tokens)?;
+    let (name, rest) = identifier(alloc, tokens)?;
     let rest = mark(rest, b"{")?;
     let (members, rest) = some_until::<Member>(alloc, rest, b"}")?;
     let rest = mark(rest, b"}")?;
-    Ok((n, members, rest))
+    Ok((name, members, rest))
 }
-

@@ -33,8 +33,8 @@ const WORDS: [&[u8]; 20] = [
     b"bool",
 ];
 
-/// A name.
-pub fn name(alloc: Global, tokens: &[Token]) -> Result<(Name, &[Token]), Halt>
+/// A name that is no word.
+pub fn identifier(alloc: Global, tokens: &[Token]) -> Result<(Name, &[Token]), Halt>
     ensures { Gives (λ x. (x.0, x.1.now)) result (name_at tokens.now) }
 {
     id(alloc, tokens, &WORDS)
@@ -53,12 +53,12 @@ pub fn value(alloc: Global, tokens: &[Token]) -> Result<(Value, &[Token]), Halt>
     ensures { Gives (λ x. (x.0, x.1.now)) result (value_at tokens.now) }
 {
     if begins_name(tokens) {
-        let (n, rest) = name(alloc, tokens)?;
-        return Ok((Value::Name(n), rest));
+        let (name, rest) = identifier(alloc, tokens)?;
+        return Ok((Value::Name(name), rest));
     }
     let (minus, rest) = flag(tokens, b"-");
-    let (n, rest) = number(rest)?;
-    Ok((Value::Number(minus, n), rest))
+    let (number, rest) = number(rest)?;
+    Ok((Value::Number(minus, number), rest))
 }
 
 /// The kind of number whose word a token is.
@@ -149,24 +149,24 @@ pub fn type_name(alloc: Global, tokens: &[Token]) -> Result<(TypeName, &[Token])
     if begins(tokens, b"unsigned") {
         let rest = word(tokens, b"unsigned")?;
         if begins_int(rest) {
-            let (w, rest) = int_word(rest)?;
-            return Ok((TypeName::Int(true, w), rest));
+            let (int, rest) = int_word(rest)?;
+            return Ok((TypeName::Int(true, int), rest));
         }
         return Ok((TypeName::Unsigned, rest));
     }
     if begins_int(tokens) {
-        let (w, rest) = int_word(tokens)?;
-        return Ok((TypeName::Int(false, w), rest));
+        let (int, rest) = int_word(tokens)?;
+        return Ok((TypeName::Int(false, int), rest));
     }
     if begins(tokens, b"bool") {
         let rest = word(tokens, b"bool")?;
         return Ok((TypeName::Bool, rest));
     }
     if begins_prefix(tokens) {
-        let (p, rest) = prefix(tokens)?;
-        let (n, rest) = name(alloc, rest)?;
-        return Ok((TypeName::Named(Some(p), n), rest));
+        let (before, rest) = prefix(tokens)?;
+        let (name, rest) = identifier(alloc, rest)?;
+        return Ok((TypeName::Named(Some(before), name), rest));
     }
-    let (n, rest) = name(alloc, tokens)?;
-    Ok((TypeName::Named(None, n), rest))
+    let (name, rest) = identifier(alloc, tokens)?;
+    Ok((TypeName::Named(None, name), rest))
 }

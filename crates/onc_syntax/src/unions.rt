@@ -5,7 +5,7 @@ ghost use Rattle.onc_syntax.specs.Readers.{arm_at, default_at, union_at};
 
 use crate::declarations::decl;
 use crate::tree::{Arm, Case, Label, Union};
-use crate::types::{name, type_name, value};
+use crate::types::{identifier, type_name, value};
 use idl_lex::Token;
 use std::alloc::Global;
 use syntax_kit::{Halt, Production, begins, mark, some_while, word};
@@ -33,8 +33,8 @@ fn arm(alloc: Global, tokens: &[Token]) -> Result<(Arm, &[Token]), Halt>
         let rest = word(tokens, b"void")?;
         return Ok((Arm::Void, rest));
     }
-    let (d, rest) = decl(alloc, tokens)?;
-    Ok((Arm::Decl(d), rest))
+    let (declared, rest) = decl(alloc, tokens)?;
+    Ok((Arm::Decl(declared), rest))
 }
 
 impl Production for Case {
@@ -68,11 +68,11 @@ fn default(alloc: Global, tokens: &[Token]) -> Result<(Arm, &[Token]), Halt>
 pub fn union(alloc: Global, tokens: &[Token]) -> Result<(Union, &[Token]), Halt>
     ensures { Gives (λ x. (x.0, x.1.now)) result (union_at tokens.now) }
 {
-    let (n, rest) = name(alloc, tokens)?;
+    let (name, rest) = identifier(alloc, tokens)?;
     let rest = word(rest, b"switch")?;
     let rest = mark(rest, b"(")?;
     let (tag, rest) = type_name(alloc, rest)?;
-    let (tag_name, rest) = name(alloc, rest)?;
+    let (tag_name, rest) = identifier(alloc, rest)?;
     let rest = mark(rest, b")")?;
     let rest = mark(rest, b"{")?;
     let (cases, rest) = some_while::<Case>(alloc, rest, b"case")?;
@@ -81,7 +81,7 @@ pub fn union(alloc: Global, tokens: &[Token]) -> Result<(Union, &[Token]), Halt>
         let rest = mark(rest, b"}")?;
         return Ok((
             Union {
-                name: n,
+                name,
                 tag,
                 tag_name,
                 cases,
@@ -93,7 +93,7 @@ pub fn union(alloc: Global, tokens: &[Token]) -> Result<(Union, &[Token]), Halt>
     let rest = mark(rest, b"}")?;
     Ok((
         Union {
-            name: n,
+            name,
             tag,
             tag_name,
             cases,

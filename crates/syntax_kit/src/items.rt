@@ -19,15 +19,15 @@ pub trait Production: Sized + Drop {
         ensures { Gives (λ x. (x.0, x.1.now)) result (at tokens.now) };
 }
 
-/// What stands behind a mark.
+/// The tree behind a mark.
 pub fn behind_mark<'a, T: Production>(
     alloc: Global,
     tokens: &'a [Token],
-    m: &[u8],
+    lead: &[u8],
 ) -> Result<(T, &'a [Token]), Halt>
-    ensures { Gives (λ x. (x.0, x.1.now)) result (behind (mark_at m.now) T.at tokens.now) }
+    ensures { Gives (λ x. (x.0, x.1.now)) result (behind (mark_at lead.now) T.at tokens.now) }
 {
-    let rest = mark(tokens, m)?;
+    let rest = mark(tokens, lead)?;
     T::read(alloc, rest)
 }
 

@@ -10,3 +10,6 @@ pub use first::{
 };
 pub use halt::Halt;
 pub use items::{Production, behind_mark, joined, some_until, some_while, until, while_word};
+
+#[cfg(test)]
+mod tests;
