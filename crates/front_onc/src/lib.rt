@@ -1,8 +1,10 @@
 //! The names of an ONC interface file: what each stands for, and the unit that the file offers.
 #![tactic(auto)]
 
+mod forms;
 mod meaning;
 mod names;
+mod values;
 
 pub use aoi::{NameErr, NameFault};
 pub use meaning::{Form, Meaning, Tag, Use};
