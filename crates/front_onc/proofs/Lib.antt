@@ -1,2 +1,5 @@
 mod Rows
 pub mod Tables
+pub mod Parts
+pub mod Kept
+pub mod Steps

@@ -1,5 +1,5 @@
 -- Names in a map or a set of indexmap, as lists.
-use Rattle.std.proofs.Common.{◌≡◌, ℕ, List, [], ◌∷◌, ◌++◌, map, Bool, true, false, ◌||◌, Option, Some, None, refl, sym, ap, ◌∙◌, if◌then◌else◌}
+use Rattle.std.proofs.Common.{◌≡◌, ℕ, ℤ, nat_eq, ◌&&◌, List, [], ◌∷◌, ◌++◌, map, Bool, true, false, ◌||◌, Option, Some, None, refl, sym, ap, ◌∙◌, if◌then◌else◌}
 use Rattle.std.specs.List.{list_any}
 use Rattle.std.specs.Prelude.{cond}
 use Rattle.std.specs.Option.{is_some}
@@ -8,6 +8,8 @@ use Rattle.std.specs.Str.{bytes_eq}
 use Rattle.std.proofs.lemmas.Bool.{or_parts}
 use Rattle.indexmap.specs.IndexMap.{insert_entry}
 use Rattle.indexmap.specs.IndexSet.{insert_key}
+use Rattle.std.specs.Ordering.{int_eq}
+use Rattle.front_onc.specs.Types.{is_label}
 use Rattle.front_onc.specs.Names.{meaning_of, is_declared, has, Scope}
 use Rattle.front_onc.specs.declared.meaning.Meaning.{Meaning}
 
@@ -59,3 +61,12 @@ module _ {K : Type 0} (items : K → List ℕ) where
       let key' : items k ≡ name = key ∙ ap (λ z. z ++ name) empty in
       let none' : has (items k) (map items ks) ≡ false = ap (λ z. has z (map items ks)) key' ∙ ap (has name) view ∙ none in
       ap (map items) made ∙ push_map k ks none' ∙ ap (λ z. map items ks ++ z ∷ []) key' ∙ ap (λ z. z ++ name ∷ []) view
+
+pub insert_new : {T : Type 0} (eq : T → T → Bool) (ks : List T) (k : T) → list_any (eq k) ks ≡ false → insert_key eq ks k ≡ ks ++ k ∷ []
+insert_new eq ks k h = rw h refl
+
+abbrev same_label : ℕ × ℤ → ℕ × ℤ → Bool
+same_label p q = nat_eq p.0 q.0 && int_eq p.1 q.1
+
+pub label_put : (labels new : List (ℕ × ℤ)) (k : ℕ) (n m : ℤ) → new ≡ insert_key same_label labels (k, m) → m ≡ n → is_label k n labels ≡ false → new ≡ labels ++ (k, n) ∷ []
+label_put labels new k n m made same none = made ∙ ap (λ z. insert_key same_label labels (k, z)) same ∙ insert_new same_label labels (k, n) none

@@ -1,9 +1,14 @@
 //! The names of an ONC interface file: what each stands for, and the unit that the file offers.
 #![tactic(auto)]
 
+mod enums;
 mod forms;
 mod meaning;
 mod names;
+mod numbers;
+mod state;
+mod structs;
+mod unions;
 mod values;
 
 pub use aoi::{NameErr, NameFault};
