@@ -206,9 +206,13 @@ pub record Cases : Type 0 where
   pub names : List (List ℕ)
   pub arms : List (ℤ × Shape)
 
+-- an arm for each of the numbers
+abbrev pub arms_for : Shape → List ℤ → List (ℤ × Shape)
+arms_for s numbers = map (λ n. (n, s)) numbers
+
 -- an arm for each label that has none
 abbrev pub with_arm : List ℤ → List (ℤ × Shape) → Shape → List (ℤ × Shape)
-with_arm numbers arms s = arms ++ map (λ n. (n, s)) (drop (length arms) numbers)
+with_arm numbers arms s = arms ++ arms_for s (drop (length arms) numbers)
 
 abbrev pub case_on : Scope → List (ℕ × ℤ) → Tag → ℕ → Cases → Case → Answer Cases
 case_on scope labels tag d cs c =

@@ -1,10 +1,10 @@
 // Unions.
-ghost use Rattle.std.specs.Prelude.{◌≡◌, [], ◌++◌, map, IfOk, OnOk};
+ghost use Rattle.std.specs.Prelude.{◌≡◌, [], ◌∷◌, ◌++◌, IfOk, OnOk};
 ghost use Rattle.std.specs.Option.{option_map};
 ghost use Rattle.aoi.specs.Shapes.{Shape, seen, choice, arms_of, default_of, arms_seen};
 ghost use Rattle.front_onc.specs.Answers.{Gives};
-ghost use Rattle.front_onc.specs.Held.{state};
-ghost use Rattle.front_onc.specs.Types.{is_of, label_on, labels_on, arm_shape, arm_on, case_on, cases_on, other, is_other, union_shape, union_on};
+ghost use Rattle.front_onc.specs.Held.{state, arms_held};
+ghost use Rattle.front_onc.specs.Types.{is_of, label_on, labels_on, arm_shape, arms_for, arm_on, case_on, cases_on, other, is_other, union_shape, union_on};
 
 use crate::forms::{form, name_of, tag_of_use, ty, ty_of_use};
 use crate::names::{Names, Scope};
@@ -108,7 +108,7 @@ fn add_arms(
     numbers: &[i128],
     form: Option<Form>,
 ) -> Result<(), NoMemory>
-    ensures { OnOk result (map (λ a. (a.0, seen a.1)) arms.new ≡ map (λ a. (a.0, seen a.1)) arms.old ++ map (λ n. (n, arm_shape form)) numbers.now) }
+    ensures { OnOk result (arms_held arms.new ≡ arms_held arms.old ++ arms_for (arm_shape form) numbers.now) }
 {
     for n in numbers {
         arms.push((*n, arm_ty(alloc, form)?))?;
@@ -127,12 +127,31 @@ fn case(
     arms: &mut UnionArms,
     case: &Case,
 ) -> Result<(), NameErr>
-    ensures { Gives (λ _. record { numbers = numbers.new.keys; names = names.new; arms = map (λ a. (a.0, seen a.1)) arms.new }) result (case_on r.now.scope r.now.labels tag d (record { numbers = numbers.old.keys; names = names.old; arms = map (λ a. (a.0, seen a.1)) arms.old }) case.now) }
+    ensures { Gives (λ _. record { numbers = numbers.new.keys; names = names.new; arms = arms_held arms.new }) result (case_on r.now.scope r.now.labels tag d (record { numbers = numbers.old.keys; names = names.old; arms = arms_held arms.old }) case.now) }
 {
     labels(r, tag, d, numbers, case.labels.as_slice())?;
     let form = arm(alloc, r.scope(), d, names, &case.arm)?;
     add_arms(alloc, arms, behind(numbers.as_slice(), arms.len()), form)?;
     Ok(())
+}
+
+/// The arms of cases.
+fn cases(
+    alloc: Global,
+    r: &Resolver,
+    tag: Tag,
+    d: u32,
+    numbers: &mut IndexSet<i128>,
+    names: &mut Names,
+    list: &[Case],
+) -> Result<UnionArms, NameErr>
+    ensures { Gives (λ arms. record { numbers = numbers.new.keys; names = names.new; arms = arms_held arms }) result (cases_on r.now.scope r.now.labels tag d (record { numbers = numbers.old.keys; names = names.old; arms = [] }) list.now) }
+{
+    let mut arms = UnionArms::new(alloc);
+    for c in list {
+        case(alloc, r, tag, d, numbers, names, &mut arms, c)?;
+    }
+    Ok(arms)
 }
 
 /// What stands behind every other number.
@@ -178,10 +197,7 @@ fn body(alloc: Global, r: &Resolver, d: u32, used: Use, u: &Union) -> Result<Ty,
     let mut numbers = IndexSet::new(alloc);
     let mut names = Names::new(alloc);
     names.push(alloc, u.tag_name.as_slice())?;
-    let mut arms = UnionArms::new(alloc);
-    for c in u.cases.as_slice() {
-        case(alloc, r, tag, d, &mut numbers, &mut names, &mut arms, c)?;
-    }
+    let arms = cases(alloc, r, tag, d, &mut numbers, &mut names, u.cases.as_slice())?;
     let other = other(alloc, r.scope(), d, &mut names, &u.default)?;
     Ok(union_ty(alloc, ty_of_use(used), arms, other)?)
 }
