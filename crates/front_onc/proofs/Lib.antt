@@ -3,3 +3,4 @@ pub mod Tables
 pub mod Parts
 pub mod Kept
 pub mod Steps
+pub mod Offers

@@ -6,6 +6,8 @@ mod forms;
 mod meaning;
 mod names;
 mod numbers;
+mod procedures;
+mod programs;
 mod state;
 mod structs;
 mod unions;

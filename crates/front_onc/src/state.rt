@@ -1,9 +1,11 @@
 // What is declared so far.
-ghost use Rattle.std.specs.Prelude.{◌≡◌, false, length, IfOk, IfErr, OnOk, OnErr};
+ghost use Rattle.std.specs.Prelude.{◌≡◌, ◌<◌, ◌≤◌, ◌+◌, false, length, IfOk, IfErr, OnOk, OnErr};
 ghost use Rattle.aoi.specs.Shapes.{seen};
+ghost use Rattle.aoi.specs.Plain.{plain_interface};
 ghost use Rattle.front_onc.specs.Answers.{Gives, refused};
 ghost use Rattle.front_onc.specs.Names.{is_declared};
 ghost use Rattle.front_onc.specs.Held.{state};
+ghost use Rattle.front_onc.specs.Programs.{offered};
 ghost use Rattle.front_onc.specs.Types.{State, counted, declared, with_type, with_label, is_label};
 ghost use Rattle.aoi.specs.declared.faults.NameFault.TheVariants.{NoMemory as WantOfMemory};
 
@@ -11,7 +13,7 @@ use crate::names::Scope;
 use crate::numbers::{add_label, is_label};
 use crate::values::refuse;
 use crate::{Meaning, NameErr, NameFault, Tag, Use};
-use aoi::{Ty, Unit};
+use aoi::{Interface, Ty, Unit, UnitErr};
 use indexmap::IndexSet;
 use kit_base::{Name, NoMemory};
 use std::alloc::Global;
@@ -68,7 +70,9 @@ impl Resolver {
     /// Begins the next declaration, and gives its number.
     pub(crate) fn next(&mut self) -> Result<u32, NameErr>
         ensures ok { OnOk result (state self.new ≡ counted (state self.old)) }
-        ensures number { IfOk result (λ d. d ≡ self.new.count) }
+        ensures number { IfOk result (λ d. d ≡ self.old.count + 1) }
+        ensures scope { self.new.scope ≡ self.old.scope }
+        ensures versions { self.new.versions ≡ self.old.versions }
         ensures err { IfErr result (λ e. e.fault ≡ WantOfMemory) }
     {
         match self.count.checked_add(1) {
@@ -152,5 +156,49 @@ impl Resolver {
         )?;
         add_label(&mut self.labels, k, n)?;
         Ok(())
+    }
+
+    /// How many versions there are.
+    pub(crate) fn versions(&self) -> usize
+        ensures { result ≡ self.now.versions }
+    {
+        self.versions
+    }
+
+    /// Passes over a version whose program has no number.
+    pub(crate) fn pass_version(&mut self)
+        requires { self.old.versions < 64 }
+        ensures passed { state self.new ≡ record (state self.old) { versions = self.old.versions + 1 } }
+        ensures scope { self.new.scope ≡ self.old.scope }
+    {
+        self.versions += 1;
+    }
+
+    /// Puts an interface behind the others.
+    pub(crate) fn offer(&mut self, d: u32, i: Interface) -> Result<(), NameErr>
+        requires place { self.old.versions < 64 }
+        requires few { length i.ops ≤ 256 }
+        ensures value { Gives (λ _. state self.new) result (offered d (plain_interface i) (state self.old)) }
+        ensures scope { self.new.scope ≡ self.old.scope }
+    {
+        match self.unit.add_interface(i) {
+            Ok(()) => {
+                self.versions += 1;
+                Ok(())
+            }
+            Err(UnitErr::Twice) => Err(NameErr {
+                fault: NameFault::Twice,
+                decl: d,
+            }),
+            Err(UnitErr::Many) => unreachable!(),
+            Err(UnitErr::NoMemory) => Err(want()),
+        }
+    }
+
+    /// The unit.
+    pub(crate) fn into_unit(self) -> Unit
+        ensures { result ≡ self.unit }
+    {
+        self.unit
     }
 }

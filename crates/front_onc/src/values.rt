@@ -3,6 +3,7 @@ ghost use Rattle.std.specs.Prelude.{◌≡◌};
 ghost use Rattle.front_onc.specs.Answers.{Gives, natural, refused};
 ghost use Rattle.front_onc.specs.Names.{value, signed, constant, kind_of, use_of, type_use};
 ghost use Rattle.front_onc.specs.Types.{exactly, at_most};
+ghost use Rattle.front_onc.specs.Programs.{number_of};
 ghost use Rattle.front_onc.specs.declared.meaning.Meaning.{Meaning as MeaningData};
 
 use crate::names::Scope;
@@ -22,7 +23,8 @@ pub(crate) fn refuse(fault: NameFault, decl: u32, holds: bool) -> Result<(), Nam
 
 /// A number from a lowest one up to 2^32 - 1.
 pub(crate) fn natural(low: u32, decl: u32, n: i128) -> Result<u32, NameErr>
-    ensures { Gives (λ x. x) result (natural low decl n) }
+    ensures value { Gives (λ x. x) result (natural low decl n) }
+    ensures exact { result ≡ natural low decl n }
 {
     if n < i128::from(low) || 4294967295 < n {
         return Err(NameErr {
@@ -35,7 +37,8 @@ pub(crate) fn natural(low: u32, decl: u32, n: i128) -> Result<u32, NameErr>
 
 /// The number of a value.
 pub(crate) fn value(scope: &Scope, decl: u32, v: &Value) -> Result<i128, NameErr>
-    ensures { Gives (λ x. x) result (value scope.now decl v.now) }
+    ensures value { Gives (λ x. x) result (value scope.now decl v.now) }
+    ensures exact { result ≡ value scope.now decl v.now }
 {
     match v {
         Value::Number(minus, n) => signed(decl, *minus, *n),
@@ -45,7 +48,8 @@ pub(crate) fn value(scope: &Scope, decl: u32, v: &Value) -> Result<i128, NameErr
 
 /// A number behind its minus, if it has one.
 fn signed(decl: u32, minus: bool, n: i128) -> Result<i128, NameErr>
-    ensures { Gives (λ x. x) result (signed decl minus n) }
+    ensures value { Gives (λ x. x) result (signed decl minus n) }
+    ensures exact { result ≡ signed decl minus n }
 {
     if !minus {
         return Ok(n);
@@ -61,7 +65,8 @@ fn signed(decl: u32, minus: bool, n: i128) -> Result<i128, NameErr>
 
 /// The number that a name stands for.
 fn constant(decl: u32, meaning: Option<Meaning>) -> Result<i128, NameErr>
-    ensures { Gives (λ x. x) result (constant decl meaning) }
+    ensures value { Gives (λ x. x) result (constant decl meaning) }
+    ensures exact { result ≡ constant decl meaning }
 {
     let fault = match meaning {
         Some(Meaning::Constant(n)) => return Ok(n),
@@ -69,6 +74,15 @@ fn constant(decl: u32, meaning: Option<Meaning>) -> Result<i128, NameErr>
         None => NameFault::Unknown,
     };
     Err(NameErr { fault, decl })
+}
+
+/// The number of a program, a version or a procedure.
+pub(crate) fn number_of(scope: &Scope, decl: u32, v: &Value) -> Result<u32, NameErr>
+    ensures value { Gives (λ x. x) result (number_of scope.now decl v.now) }
+    ensures exact { result ≡ number_of scope.now decl v.now }
+{
+    let n = value(scope, decl, v)?;
+    natural(0, decl, n)
 }
 
 /// A length, from 1.
