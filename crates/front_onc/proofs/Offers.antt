@@ -37,11 +37,3 @@ offer_twice d i h now r twice is view =
     let some : list_any (λ j. are_twins j (plain_interface i)) (map plain_interface h.unit.interfaces) ≡ true = twins i h.unit.interfaces ∙ twice.0 is in
     let here : offered d (plain_interface i) (state h) ≡ fault Twice d = rw some refl in
     ap (λ z. offered d (plain_interface i) (state z)) (sym view) ∙ here
-
-pub offer_fits : (i : Interface) (h : Held) (r : Result (Unit {0}) UnitErr) → (r ≡ Err err.Many) ↔ ((is_twice i h.unit.interfaces ≡ false) × ((64 ≤ length h.unit.interfaces) ⊎ (256 < length i.ops))) → r ≡ Err err.Many
-    → length h.unit.interfaces ≤ h.versions → h.versions < 64 → length i.ops ≤ 256 → ⊥
-offer_fits i h r many is seats place few = both (many.0 is).1
-  where
-  both : (64 ≤ length h.unit.interfaces) ⊎ (256 < length i.ops) → ⊥
-  both (inl a) = omega (arith, a, seats, place)
-  both (inr b) = omega (arith, b, few)

@@ -8,10 +8,12 @@ mod names;
 mod numbers;
 mod procedures;
 mod programs;
+mod resolving;
 mod state;
 mod structs;
 mod unions;
 mod values;
 
 pub use aoi::{NameErr, NameFault};
+pub use resolving::resolve;
 pub use meaning::{Form, Meaning, Tag, Use};

@@ -6,6 +6,7 @@ ghost use Rattle.front_onc.specs.Answers.{Gives, refused};
 ghost use Rattle.front_onc.specs.Names.{is_declared};
 ghost use Rattle.front_onc.specs.Held.{state};
 ghost use Rattle.front_onc.specs.Programs.{offered};
+ghost use Rattle.front_onc.specs.Resolved.{start};
 ghost use Rattle.front_onc.specs.Types.{State, counted, declared, with_type, with_label, is_label};
 ghost use Rattle.aoi.specs.declared.faults.NameFault.TheVariants.{NoMemory as WantOfMemory};
 
@@ -60,6 +61,19 @@ pub(crate) fn want() -> NameErr
 }
 
 impl Resolver {
+    /// The state over these names, before the first declaration.
+    pub(crate) fn over(alloc: Global, scope: Scope) -> Resolver
+        ensures { state result ≡ record start { scope = scope } }
+    {
+        Resolver {
+            scope,
+            labels: IndexSet::new(alloc),
+            unit: Unit::new(alloc),
+            versions: 0,
+            count: 0,
+        }
+    }
+
     /// The names.
     pub(crate) fn scope(&self) -> &Scope
         ensures { result.now ≡ self.now.scope }

@@ -1,6 +1,6 @@
 use Rattle.std.proofs.Common.{◌∙◌, ap, inr}
 use Rattle.std.specs.Prelude.{Err}
-use Rattle.front_onc.proofs.Offers.{offer_ok, offer_twice, offer_fits}
+use Rattle.front_onc.proofs.Offers.{offer_ok, offer_twice}
 use Rattle.front_onc.proofs.state.Resolver.offer.Goals as goal
 
 pub returns-in-Ok-clause-value : goal.returns-in-Ok-clause-value
