@@ -4,3 +4,4 @@ pub mod Parts
 pub mod Kept
 pub mod Steps
 pub mod Offers
+pub mod Growing

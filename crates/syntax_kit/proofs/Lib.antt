@@ -1,0 +1,5 @@
+pub mod Grammars
+pub mod Leaves
+pub mod Lists
+pub mod Loops
+pub mod Productions
