@@ -1,8 +1,8 @@
 -- What a production gives, or its first fault.
-use Rattle.std.specs.Prelude.{Bool, true, false, nat_le, nat_lt, ◌&&◌, ◌^◌, ℕ, ℤ, pos, negsuc, Option, Some, None, Result, Ok, Err, if◌then◌else◌}
+use Rattle.std.specs.Prelude.{◌≡◌, ◌⊎◌, Bool, true, false, nat_le, nat_lt, ◌&&◌, ◌^◌, ℕ, ℤ, pos, negsuc, Option, Some, None, Result, Ok, Err, if◌then◌else◌}
 use Rattle.aoi.specs.declared.faults.NameErr.{NameErr}
 use Rattle.aoi.specs.declared.faults.NameFault.{NameFault}
-use Rattle.aoi.specs.declared.faults.NameFault.TheVariants.{Range}
+use Rattle.aoi.specs.declared.faults.NameFault.TheVariants.{Range, NoMemory}
 
 -- what a production gives, or the first fault and its declaration
 abbrev pub Answer : Type 0 → Type 0
@@ -30,3 +30,12 @@ refused f d false = Ok tt
 abbrev pub natural : ℕ → ℕ → ℤ → Answer ℕ
 natural low d (pos n) = if nat_le low n && nat_lt n (2 ^ 32) then Ok n else fault Range d
 natural low d (negsuc n) = fault Range d
+
+-- A function's fault is the first one, unless memory ran out.
+abbrev pub Fails : {A : Type 0} → NameErr → Answer A → Type 0
+Fails e answer = (e.fault ≡ NoMemory) ⊎ (answer ≡ Err e)
+
+-- What a function returned, seen by view, is what is given, unless memory ran out.
+abbrev pub Gives : {X Y : Type 0} → (X → Y) → Result X NameErr → Answer Y → Type 0
+Gives view (Ok x) answer = answer ≡ Ok (view x)
+Gives view (Err e) answer = Fails e answer

@@ -43,10 +43,14 @@ abbrev pub parameters_on : Scope → ℕ → List (List ℕ × Shape) → List P
 parameters_on scope d fields [] = Ok fields
 parameters_on scope d fields (p ∷ ps) = and_then (parameter scope d p) (λ s. parameters_on scope d (fields ++ (argument (length fields + 1), s) ∷ []) ps)
 
+-- void alone
+abbrev pub is_void : List ProcType → Bool
+is_void (P.Void ∷ []) = true
+is_void _ = false
+
 -- void alone is no parameter
 abbrev pub parameters : Scope → ℕ → List ProcType → Answer (List (List ℕ × Shape))
-parameters scope d (P.Void ∷ []) = Ok []
-parameters scope d ps = parameters_on scope d [] ps
+parameters scope d ps = if is_void ps then Ok [] else parameters_on scope d [] ps
 
 -- the names and numbers of the procedures so far, and their operations
 pub record Procedures : Type 0 where
@@ -76,6 +80,10 @@ abbrev pub procedures_on : State → Procedures → List Procedure → Answer (S
 procedures_on s ps [] = Ok (s, ps)
 procedures_on s ps (p ∷ rest) = and_then (procedure_on s.scope (s.count + 1) ps p) (λ ps. procedures_on (counted s) ps rest)
 
+-- the operations of a version
+abbrev pub operations : State → List Procedure → Answer (State × List PlainOperation)
+operations s list = and_then (procedures_on s (record { names = []; numbers = []; ops = [] }) list) (λ r. Ok (r.0, r.1.ops))
+
 -- ---- versions
 
 -- the interface of a program's version, by its place among all
@@ -103,9 +111,9 @@ abbrev pub version_on : ℕ → List ℕ → Option ℕ → List (List ℕ) → 
 version_on d program number names s v =
     and_then (refused Twice d (has v.name names)) (λ _.
     and_then (refused Limit d (nat_le 64 s.versions)) (λ _.
-    and_then (procedures_on s (record { names = []; numbers = []; ops = [] }) v.procedures) (λ r.
+    and_then (operations s v.procedures) (λ r.
     and_then (number_of r.0.scope d v.number) (λ n.
-    version_offered d program number v.name n r.1.ops r.0))))
+    version_offered d program number v.name n r.1 r.0))))
 
 abbrev pub versions_on : List ℕ → Option ℕ → List (List ℕ) → State → List Version → Answer State
 versions_on program number names s [] = Ok s

@@ -1,5 +1,5 @@
 -- The types that declarations and definitions make.
-use Rattle.std.specs.Prelude.{Bool, true, false, not, nat_le, ◌&&◌, ◌||◌, ◌==◌, ℕ, ◌+◌, ℤ, pos, ◌+ℤ◌, List, [], ◌∷◌, ◌++◌, map, length, drop, Option, Some, None, Ok, if◌then◌else◌}
+use Rattle.std.specs.Prelude.{Bool, true, false, not, nat_le, ◌&&◌, ◌||◌, ◌==◌, ℕ, ◌+◌, ◌-◌, ℤ, pos, ◌+ℤ◌, List, [], ◌∷◌, ◌++◌, map, length, drop, Option, Some, None, Ok, if◌then◌else◌}
 use Rattle.std.specs.List.{list_any}
 use Rattle.std.specs.Ordering.{int_eq}
 use Rattle.std.specs.Str.{bytes_eq}
@@ -125,10 +125,15 @@ struct_on d s name members =
 abbrev pub is_label : ℕ → ℤ → List (ℕ × ℤ) → Bool
 is_label k n labels = list_any (λ l. k == l.0 && int_eq n l.1) labels
 
+-- the number behind the previous one, or 0
+abbrev pub next : Option ℤ → ℤ
+next None = pos 0
+next (Some n) = n +ℤ pos 1
+
 -- the number of an item; without a value it is the next one
-abbrev pub item_number : Scope → ℕ → ℤ → Option Value → Answer ℤ
-item_number scope d next None = Ok next
-item_number scope d next (Some v) = value scope d v
+abbrev pub item_number : Scope → ℕ → Option ℤ → Option Value → Answer ℤ
+item_number scope d previous None = Ok (next previous)
+item_number scope d previous (Some v) = value scope d v
 
 -- a number of 32 signed bits
 abbrev pub short : ℕ → ℤ → Answer ℤ
@@ -138,21 +143,21 @@ short d n = if in_range kind.I32 n then Ok n else fault Range d
 abbrev pub with_label : ℕ → ℕ → ℕ → State → ℤ → Answer State
 with_label d k place s n =
     if is_label k n s.labels then Ok s
-    else and_then (refused Limit d (nat_le (place + 4096) (length s.labels))) (λ _. Ok (record s { labels = s.labels ++ (k, n) ∷ [] }))
+    else and_then (refused Limit d (nat_le 4096 (length s.labels - place))) (λ _. Ok (record s { labels = s.labels ++ (k, n) ∷ [] }))
 
 -- an item is a constant, and its number one of the enum's
-abbrev pub item_on : ℕ → ℕ → ℕ → State → ℤ → Item → Answer (State × ℤ)
-item_on d k place s next i =
+abbrev pub item_on : ℕ → ℕ → ℕ → State → Option ℤ → Item → Answer (State × ℤ)
+item_on d k place s previous i =
     and_then (refused Twice d (is_declared i.name s.scope)) (λ _.
-    and_then (item_number s.scope d next i.value) (λ n.
+    and_then (item_number s.scope d previous i.value) (λ n.
     and_then (short d n) (λ n.
     and_then (with_label d k place s n) (λ s.
     Ok (declared i.name (M.Constant n) s, n)))))
 
 -- items behind those that stand before them
-abbrev pub items_on : ℕ → ℕ → ℕ → State → List (List ℕ × ℤ) → ℤ → List Item → Answer (State × List (List ℕ × ℤ))
-items_on d k place s items next [] = Ok (s, items)
-items_on d k place s items next (i ∷ is) = and_then (item_on d k place s next i) (λ r. items_on d k place r.0 (items ++ (i.name, r.1) ∷ []) (r.1 +ℤ pos 1) is)
+abbrev pub items_on : ℕ → ℕ → ℕ → State → List (List ℕ × ℤ) → Option ℤ → List Item → Answer (State × List (List ℕ × ℤ))
+items_on d k place s items previous [] = Ok (s, items)
+items_on d k place s items previous (i ∷ is) = and_then (item_on d k place s previous i) (λ r. items_on d k place r.0 (items ++ (i.name, r.1) ∷ []) (Some r.1) is)
 
 -- an item has the name
 abbrev pub is_item : List ℕ → List Item → Bool
@@ -162,7 +167,7 @@ is_item name items = list_any (λ i. bytes_eq name i.name) items
 abbrev pub enum_on : ℕ → State → List ℕ → List Item → Answer State
 enum_on d s name items =
     and_then (refused Twice d (is_declared name s.scope || is_item name items)) (λ _.
-    and_then (items_on d (length s.types) (length s.labels) s [] (pos 0) items) (λ r.
+    and_then (items_on d (length s.types) (length s.labels) s [] None items) (λ r.
     Ok (with_type name (enumeration r.1) (tag.Enum (length s.types)) r.0)))
 
 -- ---- unions
@@ -185,10 +190,15 @@ abbrev pub labels_on : Scope → List (ℕ × ℤ) → Tag → ℕ → List ℤ 
 labels_on scope labels tag d numbers [] = Ok numbers
 labels_on scope labels tag d numbers (l ∷ ls) = and_then (label_on scope labels tag d numbers l) (λ numbers. labels_on scope labels tag d numbers ls)
 
--- the type of an arm, behind the names that stand before it
-abbrev pub arm_on : Scope → ℕ → List (List ℕ) → Arm → Answer (Shape × List (List ℕ))
-arm_on scope d names A.Void = Ok (void, names)
-arm_on scope d names (A.Decl decl) = and_then (form scope d (has (name_of decl) names) decl) (λ f. Ok (shape f, names ++ name_of decl ∷ []))
+-- what an arm makes of its type; without a declaration it is void
+abbrev pub arm_shape : Option Form → Shape
+arm_shape None = void
+arm_shape (Some f) = shape f
+
+-- an arm, behind the names that stand before it
+abbrev pub arm_on : Scope → ℕ → List (List ℕ) → Arm → Answer (Option Form × List (List ℕ))
+arm_on scope d names A.Void = Ok (None, names)
+arm_on scope d names (A.Decl decl) = and_then (form scope d (has (name_of decl) names) decl) (λ f. Ok (Some f, names ++ name_of decl ∷ []))
 
 -- the labels and names so far, and the arms, one for each label
 pub record Cases : Type 0 where
@@ -196,15 +206,19 @@ pub record Cases : Type 0 where
   pub names : List (List ℕ)
   pub arms : List (ℤ × Shape)
 
+-- an arm for each of the numbers
+abbrev pub arms_for : Shape → List ℤ → List (ℤ × Shape)
+arms_for s numbers = map (λ n. (n, s)) numbers
+
 -- an arm for each label that has none
 abbrev pub with_arm : List ℤ → List (ℤ × Shape) → Shape → List (ℤ × Shape)
-with_arm numbers arms s = arms ++ map (λ n. (n, s)) (drop (length arms) numbers)
+with_arm numbers arms s = arms ++ arms_for s (drop (length arms) numbers)
 
 abbrev pub case_on : Scope → List (ℕ × ℤ) → Tag → ℕ → Cases → Case → Answer Cases
 case_on scope labels tag d cs c =
     and_then (labels_on scope labels tag d cs.numbers c.labels) (λ numbers.
     and_then (arm_on scope d cs.names c.arm) (λ a.
-    Ok (record { numbers = numbers; names = a.1; arms = with_arm numbers cs.arms a.0 })))
+    Ok (record { numbers = numbers; names = a.1; arms = with_arm numbers cs.arms (arm_shape a.0) })))
 
 abbrev pub cases_on : Scope → List (ℕ × ℤ) → Tag → ℕ → Cases → List Case → Answer Cases
 cases_on scope labels tag d cs [] = Ok cs
@@ -213,18 +227,24 @@ cases_on scope labels tag d cs (c ∷ rest) = and_then (case_on scope labels tag
 -- what stands behind every other number
 abbrev pub other : Scope → ℕ → List (List ℕ) → Option Arm → Answer Arms
 other scope d names None = Ok (default_of None)
-other scope d names (Some a) = and_then (arm_on scope d names a) (λ a. Ok (default_of (Some a.0)))
+other scope d names (Some a) = and_then (arm_on scope d names a) (λ a. Ok (default_of (Some (arm_shape a.0))))
 
 -- not the tag of a union
 abbrev pub is_other : Tag → Bool
 is_other tag.Other = true
 is_other _ = false
 
+-- the type of a union, by the type of its tag
+abbrev pub union_shape : State → ℕ → Use → Union → Answer Shape
+union_shape s d t u =
+    and_then (refused NotType d (is_other (tag_of_use t))) (λ _.
+    and_then (cases_on s.scope s.labels (tag_of_use t) d (record { numbers = []; names = u.tag_name ∷ []; arms = [] }) u.cases) (λ cs.
+    and_then (other s.scope d cs.names u.default) (λ o.
+    Ok (choice (shape_of_use t) (arms_of cs.arms o)))))
+
 abbrev pub union_on : ℕ → State → Union → Answer State
 union_on d s u =
     and_then (refused Twice d (is_declared u.name s.scope)) (λ _.
     and_then (type_use s.scope d u.tag) (λ t.
-    and_then (refused NotType d (is_other (tag_of_use t))) (λ _.
-    and_then (cases_on s.scope s.labels (tag_of_use t) d (record { numbers = []; names = u.tag_name ∷ []; arms = [] }) u.cases) (λ cs.
-    and_then (other s.scope d cs.names u.default) (λ o.
-    Ok (with_type u.name (choice (shape_of_use t) (arms_of cs.arms o)) tag.Other s))))))
+    and_then (union_shape s d t u) (λ shape.
+    Ok (with_type u.name shape tag.Other s))))
