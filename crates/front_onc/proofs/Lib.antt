@@ -5,3 +5,9 @@ pub mod Kept
 pub mod Steps
 pub mod Offers
 pub mod Growing
+pub mod Standing
+pub mod Different
+pub mod Forming
+pub mod Numbering
+pub mod Labelling
+pub mod Offering
