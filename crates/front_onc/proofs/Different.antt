@@ -43,7 +43,7 @@ different_push (m ∷ ns) n a b =
 
 -- ---- counting
 
-same_test : (a b : ℤ) → int_eq a b ≡ int_eq b a
+pub same_test : (a b : ℤ) → int_eq a b ≡ int_eq b a
 same_test a b = one_answer (int_eq a b) (int_eq b a) (Decides-int_eq a b) (let d = Decides-int_eq b a in (λ t. sym (d.0 t), λ e. d.1 (sym e)))
 
 any_turned : (ns : List ℤ) (n : ℤ) → list_any (λ k. int_eq k n) ns ≡ list_any (int_eq n) ns

@@ -97,7 +97,7 @@ labels_some scope labels t d ns out (l ∷ ls) are some h =
 
 -- ---- arms
 
-or_void_true : (s : Shape) (b : Bool) → b ≡ true → or_void s b ≡ true
+pub or_void_true : (s : Shape) (b : Bool) → b ≡ true → or_void s b ≡ true
 or_void_true void b h = refl
 or_void_true (number k) b h = h
 or_void_true (enumeration items) b h = h
@@ -190,11 +190,11 @@ pub record Fits (labels : List (ℕ × ℤ)) (t : Tag) (end_ : Shape) : Type 0 w
   pub tag : is_tag end_ ≡ true
   pub of : (n : ℤ) → is_of labels t n ≡ true → is_of_tag end_ n ≡ true
 
-number_ends : (n : ℕ) (types : List Shape) (limit : ℕ) (k : Kind) → unfolded n types limit (number k) ≡ number k
+pub number_ends : (n : ℕ) (types : List Shape) (limit : ℕ) (k : Kind) → unfolded n types limit (number k) ≡ number k
 number_ends zero types limit k = refl
 number_ends (suc n) types limit k = refl
 
-named_ends : (types : List Shape) (n limit k : ℕ) (e : Shape) → n ≡ limit → k < limit → Ends types k e → unfolded n types limit (named k) ≡ e
+pub named_ends : (types : List Shape) (n limit k : ℕ) (e : Shape) → limit ≤ n → k < limit → Ends types k e → unfolded n types limit (named k) ≡ e
 named_ends types zero limit k e is lt ends = absurd (omega (arith, is, lt))
 named_ends types (suc n) limit k e is lt ends =
     let yes : nat_lt k limit ≡ true = lt-ltb k limit lt in
@@ -204,9 +204,9 @@ named_ends types (suc n) limit k e is lt ends =
 use_fits : (types : List Shape) (labels : List (ℕ × ℤ)) (u : Use) → UseIs types labels u → is_other (tag_of_use u) ≡ false → Fits labels (tag_of_use u) (unfolded (length types) types (length types) (shape_of_use u))
 use_fits types labels (Number k) is ok = subst (Fits labels (tag.Number k)) (sym (number_ends (length types) types (length types) k)) (record { tag = refl; of = λ n h. h })
 use_fits types labels (Declared k (tag.Number kind)) is ok =
-    subst (Fits labels (tag.Number kind)) (sym (named_ends types (length types) (length types) k (number kind) refl is.0 is.1)) (record { tag = refl; of = λ n h. h })
+    subst (Fits labels (tag.Number kind)) (sym (named_ends types (length types) (length types) k (number kind) (omega arith) is.0 is.1)) (record { tag = refl; of = λ n h. h })
 use_fits types labels (Declared k (tag.Enum j)) is ok =
-    subst (Fits labels (tag.Enum j)) (sym (named_ends types (length types) (length types) k (enumeration is.1.items) refl is.0 is.1.ends)) (record { tag = refl; of = is.1.numbers })
+    subst (Fits labels (tag.Enum j)) (sym (named_ends types (length types) (length types) k (enumeration is.1.items) (omega arith) is.0 is.1.ends)) (record { tag = refl; of = is.1.numbers })
 use_fits types labels (Declared k tag.Other) is ok = absurd cc
 
 -- ---- the union

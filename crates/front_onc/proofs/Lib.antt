@@ -11,3 +11,4 @@ pub mod Forming
 pub mod Numbering
 pub mod Labelling
 pub mod Offering
+pub mod Keeping

@@ -170,3 +170,100 @@ procedure_added types labels scope d ps out p is are h =
       few = omega (arith, count, room)
     } in
     subst (λ (z : Procedures). ProceduresAre (length types) z.ops) (ok_same made out g.rest) whole
+
+-- ---- versions
+
+-- a state that differs in counts alone
+pub record Same (s t : State) : Type 0 where
+  pub scope : t.scope ≡ s.scope
+  pub labels : t.labels ≡ s.labels
+  pub types : t.types ≡ s.types
+  pub interfaces : t.interfaces ≡ s.interfaces
+  pub versions : t.versions ≡ s.versions
+
+abbrev pub shapes_of : State → List Shape
+shapes_of s = map (λ t. t.1) s.types
+
+procedures_are : (s0 s : State) (ps : Procedures) (list : List Procedure) (r : State × Procedures) → ScopeIs (shapes_of s0) s0.labels s0.scope → Same s0 s → ProceduresAre (length (shapes_of s0)) ps.ops → procedures_on s ps list ≡ Ok r
+    → Same s0 r.0 × ProceduresAre (length (shapes_of s0)) r.1.ops
+procedures_are s0 s ps [] r is same are h =
+    let here : State × Procedures = (s, ps) in
+    subst (λ (r : State × Procedures). Same s0 r.0 × ProceduresAre (length (shapes_of s0)) r.1.ops) (ok_same here r h) (same, are)
+procedures_are s0 s ps (p ∷ list) r is same are h =
+    let a = then_ok (procedure_on s.scope (s.count + 1) ps p) _ r h in
+    let scope = subst (ScopeIs (shapes_of s0) s0.labels) (sym same.scope) is in
+    let next : Same s0 (counted s) = record { scope = same.scope; labels = same.labels; types = same.types; interfaces = same.interfaces; versions = same.versions } in
+    procedures_are s0 (counted s) a.given list r is next (procedure_added (shapes_of s0) s0.labels s.scope (s.count + 1) ps a.given p scope are a.first) a.rest
+
+operations_are : (s : State) (list : List Procedure) (r : State × List PlainOperation) → ScopeIs (shapes_of s) s.labels s.scope → operations s list ≡ Ok r → Same s r.0 × ProceduresAre (length (shapes_of s)) r.1
+operations_are s list r is h =
+    let none : Procedures = record { names = []; numbers = []; ops = [] } in
+    let a = then_ok (procedures_on s none list) _ r h in
+    let self : Same s s = record { scope = refl; labels = refl; types = refl; interfaces = refl; versions = refl } in
+    let empty : ProceduresAre (length (shapes_of s)) [] = record { ops = tt; few = omega arith } in
+    let are = procedures_are s s none list a.given is self empty a.first in
+    let made : State × List PlainOperation = (a.given.0, a.given.1.ops) in
+    subst (λ (r : State × List PlainOperation). Same s r.0 × ProceduresAre (length (shapes_of s)) r.1) (ok_same made r a.rest) are
+
+pub record InterfaceIs (limit : ℕ) (i : PlainInterface) : Type 0 where
+  pub ids : i.base + i.slots + 100 ≤ 2 ^ 31 - 1
+  pub ops : OperationsAre limit i.slots i.ops
+
+abbrev pub InterfacesAre : ℕ → List PlainInterface → Type 0
+InterfacesAre limit [] = Unit {0}
+InterfacesAre limit (i ∷ is) = InterfaceIs limit i × InterfacesAre limit is
+
+pub interfaces_grow : (low high : ℕ) (is : List PlainInterface) → low ≤ high → InterfacesAre low is → InterfacesAre high is
+interfaces_grow low high [] le h = tt
+interfaces_grow low high (i ∷ is) le h = (record { ids = h.0.ids; ops = operations_grow low high i.slots i.slots i.ops le (omega arith) h.0.ops }, interfaces_grow low high is le h.1)
+
+interfaces_push : (limit : ℕ) (is : List PlainInterface) (i : PlainInterface) → InterfacesAre limit is → InterfaceIs limit i → InterfacesAre limit (is ++ i ∷ [])
+interfaces_push limit [] i h one = (one, tt)
+interfaces_push limit (j ∷ is) i h one = (h.0, interfaces_push limit is i h.1 one)
+
+-- what versions make of a state
+pub record Offers (s t : State) : Type 0 where
+  pub scope : t.scope ≡ s.scope
+  pub labels : t.labels ≡ s.labels
+  pub types : t.types ≡ s.types
+  pub interfaces : InterfacesAre (length (shapes_of s)) t.interfaces
+
+version_out : (d : ℕ) (program : List ℕ) (number : Option ℕ) (name : List ℕ) (version : ℕ) (ops : List PlainOperation) (s t out : State) → Same s t → t.versions < 64 → InterfacesAre (length (shapes_of s)) s.interfaces
+    → ProceduresAre (length (shapes_of s)) ops → version_offered d program number name version ops t ≡ Ok out → Offers s out
+version_out d program None name version ops s t out same room are ps h =
+    let next : State = record t { versions = t.versions + 1 } in
+    subst (Offers s) (ok_same next out h) (record { scope = same.scope; labels = same.labels; types = same.types; interfaces = subst (InterfacesAre (length (shapes_of s))) (sym same.interfaces) are })
+version_out d program (Some n) name version ops s t out same room are ps h =
+    let i = interface t.versions program n name version ops in
+    let a = then_ok (refused Twice d (list_any (λ j. are_twins j i) t.interfaces)) _ out h in
+    let one : InterfaceIs (length (shapes_of s)) i = record { ids = omega (arith, room, ps.few); ops = ps.ops } in
+    let next : State = record t { interfaces = t.interfaces ++ i ∷ []; versions = t.versions + 1 } in
+    subst (Offers s) (ok_same next out a.rest) (record {
+      scope = same.scope;
+      labels = same.labels;
+      types = same.types;
+      interfaces = interfaces_push (length (shapes_of s)) t.interfaces i (subst (InterfacesAre (length (shapes_of s))) (sym same.interfaces) are) one
+    })
+
+version_is : (d : ℕ) (program : List ℕ) (given_ : Option ℕ) (names : List (List ℕ)) (s out : State) (v : Version) → ScopeIs (shapes_of s) s.labels s.scope → InterfacesAre (length (shapes_of s)) s.interfaces
+    → version_on d program given_ names s v ≡ Ok out → Offers s out
+version_is d program given_ names s out v is are h =
+    let a = then_ok (refused Twice d (has v.name names)) _ out h in
+    let b = then_ok (refused Limit d (nat_le 64 s.versions)) _ out a.rest in
+    let c = then_ok (operations s v.procedures) _ out b.rest in
+    let e = then_ok (number_of c.given.0.scope d v.number) _ out c.rest in
+    let room = leb-false 64 s.versions (refused_ok Limit d _ b.given b.first) in
+    let ops = operations_are s v.procedures c.given is c.first in
+    let seats : c.given.0.versions < 64 = subst (λ z. z < 64) (sym ops.0.versions) room in
+    version_out d program given_ v.name e.given c.given.1 s c.given.0 out ops.0 seats are ops.1 e.rest
+
+pub versions_are : (program : List ℕ) (given_ : Option ℕ) (names : List (List ℕ)) (s0 s out : State) (list : List Version) → ScopeIs (shapes_of s0) s0.labels s0.scope → Offers s0 s → versions_on program given_ names s list ≡ Ok out → Offers s0 out
+versions_are program given_ names s0 s out [] is offers h = subst (Offers s0) (ok_same s out h) offers
+versions_are program given_ names s0 s out (v ∷ list) is offers h =
+    let a = then_ok (version_on (s.count + 1) program given_ names (counted s) v) _ out h in
+    let scope : ScopeIs (shapes_of s0) s0.labels s.scope = subst (ScopeIs (shapes_of s0) s0.labels) (sym offers.scope) is in
+    let scope' : ScopeIs (shapes_of s) s.labels s.scope = rw (offers.labels, offers.types) scope in
+    let are : InterfacesAre (length (shapes_of s)) s.interfaces = rw offers.types offers.interfaces in
+    let one = version_is (s.count + 1) program given_ names (counted s) a.given v scope' are a.first in
+    let next : Offers s0 a.given = record { scope = one.scope ∙ offers.scope; labels = one.labels ∙ offers.labels; types = one.types ∙ offers.types; interfaces = subst (λ (z : List (List ℕ × Shape)). InterfacesAre (length (map (λ t. t.1) z)) a.given.interfaces) offers.types one.interfaces } in
+    versions_are program given_ (names ++ v.name ∷ []) s0 a.given out list is next a.rest
