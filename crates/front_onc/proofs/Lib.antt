@@ -12,3 +12,4 @@ pub mod Numbering
 pub mod Labelling
 pub mod Offering
 pub mod Keeping
+pub mod Whole

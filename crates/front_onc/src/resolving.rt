@@ -1,11 +1,12 @@
 // The unit of a file.
 ghost use Rattle.std.specs.Prelude.{◌≡◌, ◌⊎◌, IfOk, IfErr, Ok, Err};
 ghost use Rattle.aoi.specs.Plain.{plain};
+ghost use Rattle.aoi.specs.Sound.{IsSound};
 ghost use Rattle.aoi.specs.declared.faults.NameFault.TheVariants.{NoMemory as WantOfMemory};
 ghost use Rattle.front_onc.specs.Answers.{Gives};
 ghost use Rattle.front_onc.specs.Held.{state};
 ghost use Rattle.front_onc.specs.Names.{known};
-ghost use Rattle.front_onc.specs.Resolved.{const_on, defined, defined_on, resolved};
+ghost use Rattle.front_onc.specs.Resolved.{const_on, defined, defined_on, resolved, IsWhole};
 
 use crate::enums::enum_;
 use crate::names::Scope;
@@ -85,9 +86,12 @@ fn define_all(alloc: Global, r: &mut Resolver, list: &[Def]) -> Result<(), NameE
     Ok(())
 }
 
-/// The unit of a file, or the first fault of its text.
+/// The unit of a file, or the first fault of its text. Enums, structs and unions are not empty.
+#[tactic(auto, using(crate::proofs::Whole::unit_sound))]
 pub fn resolve(alloc: Global, tree: &Tree) -> Result<Unit, NameErr>
+    requires { IsWhole tree.now }
     ensures value { IfOk result (λ unit. resolved tree.now ≡ Ok (plain unit)) }
+    ensures sound { IfOk result (λ unit. IsSound unit) }
     ensures stop { IfErr result (λ e. (e.fault ≡ WantOfMemory) ⊎ (resolved tree.now ≡ Err e)) }
 {
     let mut r = Resolver::over(alloc, known(alloc)?);
