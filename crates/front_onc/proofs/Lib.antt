@@ -13,3 +13,4 @@ pub mod Labelling
 pub mod Offering
 pub mod Keeping
 pub mod Whole
+pub mod Derived

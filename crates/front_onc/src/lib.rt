@@ -15,5 +15,5 @@ mod unions;
 mod values;
 
 pub use aoi::{NameErr, NameFault};
-pub use resolving::resolve;
+pub use resolving::{files_are_whole, resolve};
 pub use meaning::{Form, Meaning, Tag, Use};

@@ -1,5 +1,8 @@
 // The unit of a file.
-ghost use Rattle.std.specs.Prelude.{◌≡◌, ◌⊎◌, IfOk, IfErr, Ok, Err};
+ghost use Rattle.std.specs.Prelude.{◌≡◌, ◌⊎◌, IfOk, IfErr, List, Ok, Err};
+ghost use Rattle.idl_lex.specs.declared.kinds.Token.{Token};
+ghost use Rattle.onc_syntax.specs.Derivation.{Derives};
+ghost use Rattle.onc_syntax.specs.declared.tree.Def.{Def as DefTree};
 ghost use Rattle.aoi.specs.Plain.{plain};
 ghost use Rattle.aoi.specs.Sound.{IsSound};
 ghost use Rattle.aoi.specs.declared.faults.NameFault.TheVariants.{NoMemory as WantOfMemory};
@@ -98,3 +101,8 @@ pub fn resolve(alloc: Global, tree: &Tree) -> Result<Unit, NameErr>
     define_all(alloc, &mut r, tree.as_slice())?;
     Ok(r.into_unit())
 }
+
+/// The trees that the grammar gives are whole.
+pub fn files_are_whole()
+    ensures { (tree : List DefTree) (tokens : List Token) → Derives tree tokens → IsWhole tree }
+{}
