@@ -53,14 +53,14 @@ any_turned (m ∷ ns) n = rw (same_test m n, any_turned ns n) refl
 pub any_last : (p : ℤ → Bool) (ns : List ℤ) (n : ℤ) → list_any p (ns ++ n ∷ []) ≡ (list_any p ns || p n)
 any_last p [] n = or_nothing (p n)
   where
-  or_nothing : (b : Bool) → (b || false) ≡ b
-  or_nothing true = refl
-  or_nothing false = refl
+    or_nothing : (b : Bool) → (b || false) ≡ b
+    or_nothing true = refl
+    or_nothing false = refl
 any_last p (m ∷ ns) n = ap (λ z. p m || z) (any_last p ns n) ∙ regrouped (p m) (list_any p ns) (p n)
   where
-  regrouped : (a b c : Bool) → (a || (b || c)) ≡ ((a || b) || c)
-  regrouped true b c = refl
-  regrouped false b c = refl
+    regrouped : (a b c : Bool) → (a || (b || c)) ≡ ((a || b) || c)
+    regrouped true b c = refl
+    regrouped false b c = refl
 
 abbrev one_if_new : Bool → ℕ
 one_if_new b = if b then 0 else 1
@@ -68,11 +68,11 @@ one_if_new b = if b then 0 else 1
 head_counts : (t x y : Bool) (old : ℕ) → (t ≡ true → x ≡ y) → one_if_new (x || t) + (old + one_if_new y) ≡ one_if_new x + old + one_if_new (t || y)
 head_counts true x y old same = cases x y (same refl)
   where
-  cases : (x y : Bool) → x ≡ y → one_if_new (x || true) + (old + one_if_new y) ≡ one_if_new x + old + 0
-  cases true true e = omega arith
-  cases false false e = omega arith
-  cases true false e = absurd cc
-  cases false true e = absurd cc
+    cases : (x y : Bool) → x ≡ y → one_if_new (x || true) + (old + one_if_new y) ≡ one_if_new x + old + 0
+    cases true true e = omega arith
+    cases false false e = omega arith
+    cases true false e = absurd cc
+    cases false true e = absurd cc
 head_counts false true y old same = omega arith
 head_counts false false y old same = omega arith
 

@@ -119,7 +119,7 @@ pub record FieldsAre (types : List Shape) (fields : List Field) : Type 0 where
 pub fields_push : (types : List Shape) (fields : List Field) (n : List ℕ) (s : Shape) → FieldsAre types fields → has n (map (λ f. f.0) fields) ≡ false → is_sound_type types (length types) s ≡ true → FieldsAre types (fields ++ (n, s) ∷ [])
 fields_push types fields n s are new sound = record {
   different = subst (λ z. are_distinct z ≡ true) (sym (append_map (λ (f : Field). f.0) fields (n, s))) (distinct_push (map (λ f. f.0) fields) n are.different new);
-  sound = sound_push types (length types) fields (n, s) are.sound sound
+  sound = sound_push types (length types) fields (n, s) are.sound sound;
 }
 
 pub some_push : {A : Type 0} (xs : List A) (x : A) → is_some_list (xs ++ x ∷ []) ≡ true

@@ -79,7 +79,7 @@ typed_is name new t s take =
       types = rw grown (types_push old new take.types take.sound);
       scope = rw grown whole;
       labels = λ k n le. take.labels k n (let le' = subst (λ z. length z ≤ k) grown le in omega (arith, le', count));
-      interfaces = rw grown (interfaces_grow (length old) (length (old ++ new ∷ [])) s.interfaces (omega (arith, count)) take.interfaces)
+      interfaces = rw grown (interfaces_grow (length old) (length (old ++ new ∷ [])) s.interfaces (omega (arith, count)) take.interfaces);
     }
 
 fewer_same : (count : ℕ) (labels : List (ℕ × ℤ)) → FewerBelow count labels labels
@@ -93,7 +93,7 @@ takes s new t is sound tagged = record {
   scope = scope_grow (shapes_of s) (new ∷ []) s.labels s.labels s.scope (fewer_same (length (shapes_of s)) s.labels) is.scope;
   tag = tagged;
   labels = λ k n lt. is.labels k n (omega (arith, lt));
-  interfaces = is.interfaces
+  interfaces = is.interfaces;
 }
 
 -- ---- what a new type is as a tag
@@ -196,7 +196,7 @@ items_start s k is place = record {
   versions = refl;
   scope = no_more s.scope;
   labels = record { own = λ n. is.labels k n (omega (arith, place)); others = λ j n ne. refl; count = omega arith; few = omega arith };
-  different = refl
+  different = refl;
 }
 
 enum_takes : (s t : State) (k : ℕ) (items : List (List ℕ × ℤ)) → StateIs s → k ≡ length (shapes_of s) → ItemsAre k (length s.labels) s t items → is_some_list items ≡ true → Takes t (enumeration items) (tag.Enum k)
@@ -211,7 +211,7 @@ enum_takes s t k items is place are some =
       below = omega (arith, count, place);
       items = items;
       ends = λ n le. ap (unfolded n (shapes_of s ++ new ∷ []) (length (shapes_of s))) (last_is (shapes_of s) new) ∙ enum_ends n (shapes_of s ++ new ∷ []) (length (shapes_of s)) items;
-      numbers = λ n h. items_turned items n ∙ sym (are.labels.own n) ∙ h
+      numbers = λ n h. items_turned items n ∙ sym (are.labels.own n) ∙ h;
     } in
     record {
       types = rw same is.types;
@@ -219,7 +219,7 @@ enum_takes s t k items is place are some =
       scope = rw (same, are.scope) whole;
       tag = rw same tagged;
       labels = λ j n lt. let lt' = subst (λ z. length z < j) same lt in are.labels.others j n (λ e. omega (arith, lt', e, place)) ∙ is.labels j n (omega (arith, lt'));
-      interfaces = rw (same, are.interfaces) is.interfaces
+      interfaces = rw (same, are.interfaces) is.interfaces;
     }
 
 enum_is : (d : ℕ) (s out : State) (name : List ℕ) (list : List Item) → StateIs s → is_some_list list ≡ true → enum_on d s name list ≡ Ok out → StateIs out
@@ -247,7 +247,7 @@ offers_is s t is offers =
       types = rw same is.types;
       scope = rw (same, offers.labels, offers.scope) is.scope;
       labels = λ k n le. rw offers.labels (is.labels k n (subst (λ z. length z ≤ k) same le));
-      interfaces = rw same offers.interfaces
+      interfaces = rw same offers.interfaces;
     }
 
 program_is : (d : ℕ) (s out : State) (name : List ℕ) (list : List Version) (v : Value) → StateIs s → program_on d s name list v ≡ Ok out → StateIs out
@@ -282,5 +282,5 @@ start_is = record {
   types = refl;
   scope = (tt, (tt, (tt, (tt, (tt, (tt, (tt, (tt, (tt, tt)))))))));
   labels = λ k n le. refl;
-  interfaces = tt
+  interfaces = tt;
 }

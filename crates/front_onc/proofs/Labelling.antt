@@ -65,7 +65,7 @@ label_added scope labels t d ns out l are h =
     let all : NumbersAre labels t (ns ++ n ∷ []) = record {
       different = different_push ns n are.different parts.1;
       few = omega (arith, room, count);
-      all = all_push (is_of labels t) ns n are.all (not_negated _ parts.0)
+      all = all_push (is_of labels t) ns n are.all (not_negated _ parts.0);
     } in
     (record { more = n ∷ []; grown = sym same; are = subst (NumbersAre labels t) same all }, subst (λ z. is_some_list z ≡ true) same (some_push ns n))
 
@@ -161,10 +161,11 @@ case_added types labels scope t d cs out c s are h =
     let goods : list_all (λ a. good types a.1) (with_arm a.given cs.arms shape) ≡ true =
     list_all-append (λ a. good types a.1) cs.arms (arms_for shape (drop (length cs.arms) a.given)) ∙ and_from _ _ are.sound (all_good types shape (drop (length cs.arms) a.given) sound) in
     let whole : CasesAre types labels t made = record { numbers = ls.0.are; arms = arms; sound = goods } in
-    let same = ok_same made out b.rest in
-    (subst (CasesAre types labels t) same whole,
+    let same = ok_same made out b.rest in (
+      subst (CasesAre types labels t) same whole,
       λ some. subst (λ (z : Cases). is_some_list z.numbers ≡ true) same (ls.1 some),
-      λ some. subst (λ (z : Cases). is_some_list z.numbers ≡ true) same (labels_some scope labels t d cs.numbers a.given c.labels are.numbers some a.first))
+      λ some. subst (λ (z : Cases). is_some_list z.numbers ≡ true) same (labels_some scope labels t d cs.numbers a.given c.labels are.numbers some a.first),
+    )
 
 cases_are : (types : List Shape) (labels : List (ℕ × ℤ)) (scope : Scope) (t : Tag) (d : ℕ) (cs out : Cases) (list : List Case) → ScopeIs types labels scope → CasesAre types labels t cs → cases_on scope labels t d cs list ≡ Ok out
     → CasesAre types labels t out × (is_some_list cs.numbers ≡ true → is_some_list out.numbers ≡ true)

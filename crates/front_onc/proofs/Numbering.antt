@@ -53,16 +53,16 @@ pub record ItemsAre (k place : ℕ) (s t : State) (items : List Item_) : Type 0 
 label_last : (j k : ℕ) (n m : ℤ) (labels : List (ℕ × ℤ)) → is_label j n (labels ++ (k, m) ∷ []) ≡ (is_label j n labels || (j == k && int_eq n m))
 label_last j k n m labels = list_any-append (λ l. j == l.0 && int_eq n l.1) labels ((k, m) ∷ []) ∙ ap (λ z. is_label j n labels || z) (or_nothing (j == k && int_eq n m))
   where
-  or_nothing : (b : Bool) → (b || false) ≡ b
-  or_nothing true = refl
-  or_nothing false = refl
+    or_nothing : (b : Bool) → (b || false) ≡ b
+    or_nothing true = refl
+    or_nothing false = refl
 
 other_label : (j k : ℕ) (n m : ℤ) (labels : List (ℕ × ℤ)) → (j == k) ≡ false → is_label j n (labels ++ (k, m) ∷ []) ≡ is_label j n labels
 other_label j k n m labels ne = label_last j k n m labels ∙ rw ne (or_false (is_label j n labels))
   where
-  or_false : (b : Bool) → (b || false) ≡ b
-  or_false true = refl
-  or_false false = refl
+    or_false : (b : Bool) → (b || false) ≡ b
+    or_false true = refl
+    or_false false = refl
 
 -- labels that have a number more, or had it
 abbrev pub Labelled : ℕ → ℕ → List (ℕ × ℤ) → List (ℕ × ℤ) → ℤ → Type 0
@@ -84,7 +84,7 @@ labels_added k place base old new ns n are (inl (had, same)) =
       own = λ m. ap (is_label k m) same ∙ are.own m ∙ absorbed (list_any (int_eq m) ns) (int_eq m n) (λ t. ap (λ z. list_any (int_eq z) ns) ((Decides-int_eq m n).0 t) ∙ there) ∙ sym (any_last (int_eq m) ns n);
       others = λ j m ne. ap (is_label j m) same ∙ are.others j m ne;
       count = ap length same ∙ omega (arith, are.count, more);
-      few = omega (arith, are.few, more)
+      few = omega (arith, are.few, more);
     }
 labels_added k place base old new ns n are (inr (none, grown, room)) =
     let absent : list_any (int_eq n) ns ≡ false = sym (are.own n) ∙ none in
@@ -95,7 +95,7 @@ labels_added k place base old new ns n are (inr (none, grown, room)) =
       own = λ m. ap (is_label k m) grown ∙ label_last k k m n old ∙ rw self (ap (λ z. z || int_eq m n) (are.own m)) ∙ sym (any_last (int_eq m) ns n);
       others = λ j m ne. ap (is_label j m) grown ∙ other_label j k m n old (ne_eqb j k ne) ∙ are.others j m ne;
       count = omega (arith, longer, are.count, more);
-      few = omega (arith, are.count, room, more)
+      few = omega (arith, are.count, room, more);
     }
 
 -- a state whose labels have a number more, or had it
@@ -152,7 +152,7 @@ item_added d k place s t items previous i r are h =
       versions = l.versions ∙ are.versions;
       scope = ap (λ z. z ++ (i.name, Constant c.given) ∷ []) (l.scope ∙ are.scope) ∙ added s.scope (map f items) (f last) ∙ ap (λ z. s.scope ++ z) (sym (append_map f items last));
       labels = subst (LabelsAre k place s.labels e.given.labels) (sym (append_map (λ (i : Item_). i.1) items last)) (labels_added k place s.labels t.labels e.given.labels (numbers items) c.given are.labels l.labels);
-      different = subst (λ z. are_distinct z ≡ true) (sym (append_map (λ (i : Item_). i.0) items last)) (distinct_push (names items) i.name are.different free)
+      different = subst (λ z. are_distinct z ≡ true) (sym (append_map (λ (i : Item_). i.0) items last)) (distinct_push (names items) i.name are.different free);
     })
 
 pub items_are : (d k place : ℕ) (s t : State) (items : List Item_) (previous : Option ℤ) (list : List Item) (r : State × List Item_) → ItemsAre k place s t items → items_on d k place t items previous list ≡ Ok r

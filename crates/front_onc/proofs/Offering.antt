@@ -163,11 +163,11 @@ procedure_added types labels scope d ps out p is are h =
       outs = refl;
       result = result_is types labels scope d p.result a.given is a.first;
       raises = refl;
-      slot = omega (arith, count)
+      slot = omega (arith, count);
     } in
     let whole : ProceduresAre (length types) (ps.ops ++ o ∷ []) = record {
       ops = operations_push (length types) _ ps.ops o (operations_grow (length types) (length types) (length ps.ops) _ ps.ops same more are.ops) one;
-      few = omega (arith, count, room)
+      few = omega (arith, count, room);
     } in
     subst (λ (z : Procedures). ProceduresAre (length types) z.ops) (ok_same made out g.rest) whole
 
@@ -242,7 +242,7 @@ version_out d program (Some n) name version ops s t out same room are ps h =
       scope = same.scope;
       labels = same.labels;
       types = same.types;
-      interfaces = interfaces_push (length (shapes_of s)) t.interfaces i (subst (InterfacesAre (length (shapes_of s))) (sym same.interfaces) are) one
+      interfaces = interfaces_push (length (shapes_of s)) t.interfaces i (subst (InterfacesAre (length (shapes_of s))) (sym same.interfaces) are) one;
     })
 
 version_is : (d : ℕ) (program : List ℕ) (given_ : Option ℕ) (names : List (List ℕ)) (s out : State) (v : Version) → ScopeIs (shapes_of s) s.labels s.scope → InterfacesAre (length (shapes_of s)) s.interfaces

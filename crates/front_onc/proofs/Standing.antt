@@ -73,7 +73,7 @@ tag_grow types more labels labels' k (tag.Enum j) fewer lt h = record {
   below = longer types more j h.below;
   items = h.items;
   ends = ends_grow types more k (enumeration h.items) lt h.ends;
-  numbers = λ n is. h.numbers n (fewer j n h.below is)
+  numbers = λ n is. h.numbers n (fewer j n h.below is);
 }
 tag_grow types more labels labels' k tag.Other fewer lt h = tt
 

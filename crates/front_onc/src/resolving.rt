@@ -43,13 +43,7 @@ fn known(alloc: Global) -> Result<Scope, NoMemory>
 }
 
 /// A constant.
-fn constant(
-    alloc: Global,
-    r: &mut Resolver,
-    d: u32,
-    name: &[u8],
-    v: &Value,
-) -> Result<(), NameErr>
+fn constant(alloc: Global, r: &mut Resolver, d: u32, name: &[u8], v: &Value) -> Result<(), NameErr>
     ensures { Gives (λ _. state r.new) result (const_on d (state r.old) name.now v.now) }
 {
     if r.scope().has(name) {
