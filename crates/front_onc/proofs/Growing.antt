@@ -5,7 +5,7 @@ use Rattle.std.proofs.lemmas.List.{get_or_append_left}
 use Rattle.aoi.specs.Shapes.{Shape, void, number, enumeration, text, array, structure, choice, optional, named, Members, no_more, member, Arms, no_default, default, arm}
 use Rattle.aoi.specs.Sound.{unfolded, is_sound_type, are_sound, are_sound_arms, is_sound_union, or_void, are_sound_types, has_member, are_distinct, names_of}
 
-abbrev at : List Shape → ℕ → Shape
+abbrev pub at : List Shape → ℕ → Shape
 at types k = get_or types k void
 
 named_grow : (n : ℕ) (types more : List Shape) (limit k : ℕ) (b : Bool) (s : Shape) → ((b ≡ true) → unfolded n (types ++ more) k (at (types ++ more) k) ≡ unfolded n types k (at types k))

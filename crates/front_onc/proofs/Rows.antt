@@ -26,7 +26,13 @@ row4 : resolved (F.Struct (codes "pair") (record { decl = D.Plain (T.Int false I
     ∷ F.Program (codes "CALC") (record { name = codes "V"; procedures = record { result = P.Plain (T.Int false Int); name = codes "ADD"; parameters = P.Plain (T.Named None (codes "pair")) ∷ []; number = V.Number false (pos 1) } ∷ []; number = V.Number false (pos 1) } ∷ []) (V.Number false (pos 0x20000001)) ∷ [])
     ≡ Ok (record {
       types = (codes "pair", structure (member (codes "a") (number kind.I32) (member (codes "b") (number kind.I32) no_more))) ∷ [];
-      interfaces = record { name = codes "CALC.V"; program = 0x20000001; version = 1; base = 1000; slots = 1;
-        ops = record { name = codes "ADD"; proc_no = 1; slot = 0; ins = member (argument 1) (named 0) no_more; outs = no_more; result = number kind.I32; raises = []; oneway = false } ∷ [] } ∷ []
+      interfaces = record {
+        name = codes "CALC.V";
+        program = 0x20000001;
+        version = 1;
+        base = 1000;
+        slots = 1;
+        ops = record { name = codes "ADD"; proc_no = 1; slot = 0; ins = member (argument 1) (named 0) no_more; outs = no_more; result = number kind.I32; raises = []; oneway = false } ∷ [];
+      } ∷ [];
     })
 row4 = refl

@@ -73,7 +73,7 @@ procedure_on scope d ps p =
     Ok (record {
       names = ps.names ++ p.name ∷ [];
       numbers = ps.numbers ++ n ∷ [];
-      ops = ps.ops ++ operation (length ps.ops) p.name n ins result ∷ []
+      ops = ps.ops ++ operation (length ps.ops) p.name n ins result ∷ [];
     })))))))
 
 abbrev pub procedures_on : State → Procedures → List Procedure → Answer (State × Procedures)

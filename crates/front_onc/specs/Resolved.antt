@@ -1,8 +1,10 @@
 -- The unit of a file, or its first fault.
-use Rattle.std.specs.Prelude.{ℕ, ◌+◌, List, [], ◌∷◌, Ok}
+use Rattle.std.specs.Prelude.{Bool, true, false, IsTrue, ℕ, ◌+◌, List, [], ◌∷◌, Ok}
+use Rattle.std.specs.List.{list_all}
 use Rattle.aoi.specs.Plain.{PlainUnit}
 use Rattle.aoi.specs.declared.faults.NameFault.TheVariants.{Twice}
 use Rattle.onc_syntax.specs.declared.tree.Value.{Value}
+use Rattle.onc_syntax.specs.declared.tree.Case.{Case}
 use Rattle.onc_syntax.specs.declared.tree.Def.{Def}
 use Rattle.onc_syntax.specs.declared.tree.Def.TheVariants as D
 use Rattle.front_onc.specs.declared.meaning.Meaning.TheVariants as M
@@ -34,3 +36,26 @@ start = record { scope = known; labels = []; types = []; interfaces = []; versio
 -- the unit of a file, or its first fault
 abbrev pub resolved : List Def → Answer PlainUnit
 resolved tree = and_then (defined_on start tree) (λ s. Ok (record { types = s.types; interfaces = s.interfaces }))
+
+-- ---- what the grammar sees to
+
+-- a list that is not empty
+abbrev pub is_some_list : {A : Type 0} → List A → Bool
+is_some_list [] = false
+is_some_list (x ∷ xs) = true
+
+-- cases of which the first has a label
+abbrev pub has_label : List Case → Bool
+has_label [] = false
+has_label (c ∷ cs) = is_some_list c.labels
+
+-- an enum has an item, a struct a member, and a union a label
+abbrev pub is_whole : Def → Bool
+is_whole (D.Enum name items) = is_some_list items
+is_whole (D.Struct name members) = is_some_list members
+is_whole (D.Union u) = has_label u.cases
+is_whole _ = true
+
+-- a file whose definitions are not empty, as each is that the grammar gives
+abbrev pub IsWhole : List Def → Type 0
+IsWhole tree = IsTrue (list_all is_whole tree)

@@ -15,5 +15,10 @@ mod unions;
 mod values;
 
 pub use aoi::{NameErr, NameFault};
-pub use resolving::resolve;
 pub use meaning::{Form, Meaning, Tag, Use};
+pub use resolving::{files_are_whole, resolve};
+
+#[cfg(test)]
+mod printed;
+#[cfg(test)]
+mod tests;

@@ -49,7 +49,12 @@ impl Scope {
     }
 
     /// Declares a name.
-    pub(crate) fn declare(&mut self, alloc: Global, name: &[u8], meaning: Meaning) -> Result<(), NoMemory>
+    pub(crate) fn declare(
+        &mut self,
+        alloc: Global,
+        name: &[u8],
+        meaning: Meaning,
+    ) -> Result<(), NoMemory>
         requires { is_declared name.now self.old ≡ false }
         ensures ok { OnOk result (self.new ≡ self.old ++ (name.now, meaning) ∷ []) }
     {

@@ -67,12 +67,7 @@ fn field(alloc: Global, n: usize, ty: Ty) -> Result<Field, NoMemory>
 }
 
 /// Several parameters.
-fn parameters_on(
-    alloc: Global,
-    scope: &Scope,
-    d: u32,
-    list: &[ProcType],
-) -> Result<Fields, NameErr>
+fn parameters_on(alloc: Global, scope: &Scope, d: u32, list: &[ProcType]) -> Result<Fields, NameErr>
     ensures { Gives (map seen_field) result (parameters_on scope.now d [] list.now) }
 {
     let mut fields = Fields::new(alloc);
@@ -94,12 +89,7 @@ fn is_void(list: &[ProcType]) -> bool
 }
 
 /// The parameters of a procedure.
-fn parameters(
-    alloc: Global,
-    scope: &Scope,
-    d: u32,
-    list: &[ProcType],
-) -> Result<Fields, NameErr>
+fn parameters(alloc: Global, scope: &Scope, d: u32, list: &[ProcType]) -> Result<Fields, NameErr>
     ensures { Gives (map seen_field) result (parameters scope.now d list.now) }
 {
     if is_void(list) {

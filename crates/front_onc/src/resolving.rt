@@ -1,11 +1,15 @@
 // The unit of a file.
-ghost use Rattle.std.specs.Prelude.{◌≡◌, ◌⊎◌, IfOk, IfErr, Ok, Err};
+ghost use Rattle.std.specs.Prelude.{◌≡◌, ◌⊎◌, IfOk, IfErr, List, Ok, Err};
+ghost use Rattle.idl_lex.specs.declared.kinds.Token.{Token};
+ghost use Rattle.onc_syntax.specs.Derivation.{Derives};
+ghost use Rattle.onc_syntax.specs.declared.tree.Def.{Def as DefTree};
 ghost use Rattle.aoi.specs.Plain.{plain};
+ghost use Rattle.aoi.specs.Sound.{IsSound};
 ghost use Rattle.aoi.specs.declared.faults.NameFault.TheVariants.{NoMemory as WantOfMemory};
 ghost use Rattle.front_onc.specs.Answers.{Gives};
 ghost use Rattle.front_onc.specs.Held.{state};
 ghost use Rattle.front_onc.specs.Names.{known};
-ghost use Rattle.front_onc.specs.Resolved.{const_on, defined, defined_on, resolved};
+ghost use Rattle.front_onc.specs.Resolved.{const_on, defined, defined_on, resolved, IsWhole};
 
 use crate::enums::enum_;
 use crate::names::Scope;
@@ -39,13 +43,7 @@ fn known(alloc: Global) -> Result<Scope, NoMemory>
 }
 
 /// A constant.
-fn constant(
-    alloc: Global,
-    r: &mut Resolver,
-    d: u32,
-    name: &[u8],
-    v: &Value,
-) -> Result<(), NameErr>
+fn constant(alloc: Global, r: &mut Resolver, d: u32, name: &[u8], v: &Value) -> Result<(), NameErr>
     ensures { Gives (λ _. state r.new) result (const_on d (state r.old) name.now v.now) }
 {
     if r.scope().has(name) {
@@ -85,12 +83,20 @@ fn define_all(alloc: Global, r: &mut Resolver, list: &[Def]) -> Result<(), NameE
     Ok(())
 }
 
-/// The unit of a file, or the first fault of its text.
+/// The unit of a file, or the first fault of its text. Enums, structs and unions are not empty.
+#[tactic(auto, using(crate::proofs::Whole::unit_sound))]
 pub fn resolve(alloc: Global, tree: &Tree) -> Result<Unit, NameErr>
+    requires { IsWhole tree.now }
     ensures value { IfOk result (λ unit. resolved tree.now ≡ Ok (plain unit)) }
+    ensures sound { IfOk result (λ unit. IsSound unit) }
     ensures stop { IfErr result (λ e. (e.fault ≡ WantOfMemory) ⊎ (resolved tree.now ≡ Err e)) }
 {
     let mut r = Resolver::over(alloc, known(alloc)?);
     define_all(alloc, &mut r, tree.as_slice())?;
     Ok(r.into_unit())
 }
+
+/// The trees that the grammar gives are whole.
+pub fn files_are_whole()
+    ensures { (tree : List DefTree) (tokens : List Token) → Derives tree tokens → IsWhole tree }
+{}

@@ -99,7 +99,12 @@ impl Resolver {
     }
 
     /// Declares a name.
-    pub(crate) fn declare(&mut self, alloc: Global, name: &[u8], meaning: Meaning) -> Result<(), NameErr>
+    pub(crate) fn declare(
+        &mut self,
+        alloc: Global,
+        name: &[u8],
+        meaning: Meaning,
+    ) -> Result<(), NameErr>
         requires { is_declared name.now self.old.scope ≡ false }
         ensures ok { OnOk result (state self.new ≡ declared name.now meaning (state self.old)) }
         ensures err { IfErr result (λ e. e.fault ≡ WantOfMemory) }

@@ -48,7 +48,12 @@ fn struct_of(fields: Fields) -> Ty
 }
 
 /// A type with another name.
-pub(crate) fn typedef(alloc: Global, r: &mut Resolver, number: u32, decl: &Decl) -> Result<(), NameErr>
+pub(crate) fn typedef(
+    alloc: Global,
+    r: &mut Resolver,
+    number: u32,
+    decl: &Decl,
+) -> Result<(), NameErr>
     ensures { Gives (λ _. state r.new) result (typedef number (state r.old) decl.now) }
 {
     let name = name_of(decl).as_slice();

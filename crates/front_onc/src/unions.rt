@@ -177,12 +177,7 @@ fn boxed(alloc: Global, ty: Ty) -> Result<Box<Ty>, NoMemory>
     Ok(Box::new(alloc, ty)?)
 }
 
-fn union_ty(
-    alloc: Global,
-    tag: Ty,
-    arms: UnionArms,
-    other: Option<Box<Ty>>,
-) -> Result<Ty, NoMemory>
+fn union_ty(alloc: Global, tag: Ty, arms: UnionArms, other: Option<Box<Ty>>) -> Result<Ty, NoMemory>
     ensures { IfOk result (λ t. seen t ≡ choice (seen tag) (arms_seen arms (option_map (λ b. seen b.value) other))) }
 {
     Ok(Ty::Union(boxed(alloc, tag)?, arms, other))
@@ -197,18 +192,21 @@ fn body(alloc: Global, r: &Resolver, d: u32, used: Use, u: &Union) -> Result<Ty,
     let mut numbers = IndexSet::new(alloc);
     let mut names = Names::new(alloc);
     names.push(alloc, u.tag_name.as_slice())?;
-    let arms = cases(alloc, r, tag, d, &mut numbers, &mut names, u.cases.as_slice())?;
+    let arms = cases(
+        alloc,
+        r,
+        tag,
+        d,
+        &mut numbers,
+        &mut names,
+        u.cases.as_slice(),
+    )?;
     let other = other(alloc, r.scope(), d, &mut names, &u.default)?;
     Ok(union_ty(alloc, ty_of_use(used), arms, other)?)
 }
 
 /// A union.
-pub(crate) fn union_(
-    alloc: Global,
-    r: &mut Resolver,
-    d: u32,
-    u: &Union,
-) -> Result<(), NameErr>
+pub(crate) fn union_(alloc: Global, r: &mut Resolver, d: u32, u: &Union) -> Result<(), NameErr>
     ensures { Gives (λ _. state r.new) result (union_on d (state r.old) u.now) }
 {
     let name = u.name.as_slice();

@@ -6,5 +6,5 @@ use Rattle.front_onc.proofs.procedures.parameters_on.Given as goal
 abbrev pub invariant-loop-i : goal.invariant-loop-i
 invariant-loop-i l = record {
   place : length l.fields ≡ l.i;
-  ahead : parameters_on l.scope l.d [] l.list ≡ parameters_on l.scope l.d (map seen_field l.fields) (drop l.i l.list)
+  ahead : parameters_on l.scope l.d [] l.list ≡ parameters_on l.scope l.d (map seen_field l.fields) (drop l.i l.list);
 }
