@@ -1,5 +1,5 @@
 -- What a file says is determined, and so is the task of the words.
-use Rattle.std.proofs.Common.{◌≡◌, ℕ, ◌≤◌, List, [], ◌∷◌, ◌++◌, length, Bool, true, false, Option, Some, None, inl, inr, Err, refl, sym, ap, ◌∙◌, subst, arith}
+use Rattle.std.proofs.Common.{◌≡◌, ℕ, ◌≤◌, List, [], ◌∷◌, ◌++◌, length, Bool, true, false, Option, Some, None, inl, inr, Err, sym, ap, ◌∙◌, subst, arith}
 use Rattle.std.specs.Prelude.{nat_le, MatchBool}
 use Rattle.idl_lex.specs.declared.kinds.Front.TheVariants.{Onc}
 use Rattle.idl_lex.specs.declared.kinds.Token.{Token}

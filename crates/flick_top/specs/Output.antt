@@ -4,7 +4,6 @@ use Rattle.kit_base.specs.Lines.{lines}
 use Rattle.flick_top.specs.declared.command.Command.{Command}
 use Rattle.flick_top.specs.declared.command.Command.TheVariants as commands
 use Rattle.flick_top.specs.declared.form.Form.{Form}
-use Rattle.flick_top.specs.declared.saying.Saying.{Saying}
 use Rattle.flick_top.specs.declared.saying.Saying.TheVariants as sayings
 use Rattle.flick_top.specs.declared.task.Job.{Job}
 use Rattle.flick_top.specs.declared.task.Job.TheVariants as jobs

@@ -4,13 +4,14 @@ ghost use Rattle.aoi.specs.declared.faults.NameFault.TheVariants.{NoMemory as Wa
 ghost use Rattle.flick_top.specs.declared.saying.Saying.TheVariants as sayings;
 ghost use Rattle.flick_top.specs.File.{FileSays, TextSays, TokensSay, tree_says, form_or_saying};
 ghost use Rattle.aoi.specs.Plain.{plain};
+ghost use Rattle.front_onc.specs.Resolved.{IsWhole};
 ghost use Rattle.flick_top.specs.Form.{form_of};
 
 use crate::form::Form;
 use crate::saying::Saying;
 use crate::unit_form::form_of;
 use aoi::{NameErr, NameFault, Unit};
-use front_onc::resolve;
+use front_onc::{files_are_whole, resolve};
 use idl_lex::{Front, LexErr, Tokens, lex};
 use kit_base::NoMemory;
 use onc_syntax::{SyntaxErr, Tree, parse};
@@ -43,6 +44,7 @@ fn told_by_text(alloc: Global, text: &[u8]) -> Result<Result<Form, Saying>, NoMe
 fn told_by_tokens(alloc: Global, tokens: &Tokens) -> Result<Result<Form, Saying>, NoMemory>
     ensures { IfOk result (λ told. TokensSay tokens.now told) }
 {
+    files_are_whole();
     match parse(alloc, tokens) {
         Ok(tree) => told_by_tree(alloc, &tree),
         Err(SyntaxErr::NoMemory) => Err(NoMemory),
@@ -51,6 +53,7 @@ fn told_by_tokens(alloc: Global, tokens: &Tokens) -> Result<Result<Form, Saying>
 }
 
 fn told_by_tree(alloc: Global, tree: &Tree) -> Result<Result<Form, Saying>, NoMemory>
+    requires { IsWhole tree.now }
     ensures { IfOk result (λ told. told ≡ tree_says tree.now) }
 {
     match resolve(alloc, tree) {

@@ -1,4 +1,4 @@
-use Rattle.std.proofs.Common.{ap, List, ℕ, Some, subst}
+use Rattle.std.proofs.Common.{List, ℕ, Some, subst}
 use Rattle.flick_top.specs.File.{FileSays}
 use Rattle.flick_top.proofs.Front.{told-decides}
 use Rattle.flick_top.proofs.task.form_at.Goals as goal
