@@ -1,11 +1,11 @@
 -- The types of declarations and structs are sound.
-use Rattle.std.proofs.Common.{◌≡◌, ℕ, ℤ, pos, negsuc, ◌^◌, Bool, true, false, not, ◌&&◌, nat_lt, nat_le, List, [], ◌∷◌, ◌++◌, length, map, Option, Some, None, refl, sym, ap, subst, ◌∙◌, if◌then◌else◌}
-use Rattle.std.specs.Prelude.{Ok, Err}
+use Rattle.std.proofs.Common.{◌≡◌, ℕ, ℤ, pos, negsuc, ◌^◌, Bool, true, false, ◌&&◌, nat_lt, nat_le, List, [], ◌∷◌, ◌++◌, length, map, Option, Some, None, refl, sym, ap, subst, ◌∙◌, if◌then◌else◌}
+use Rattle.std.specs.Prelude.{Ok}
 use Rattle.std.proofs.lemmas.Bool.{and_parts, and_from}
 use Rattle.mint.specs.declared.kind.Count.{Count}
 use Rattle.mint.specs.declared.kind.Count.TheVariants.{Exactly, AtMost, Any}
 use Rattle.aoi.specs.declared.faults.NameFault.TheVariants.{Twice, Range}
-use Rattle.aoi.specs.Shapes.{Shape, structure, Members, member, no_more, members_of}
+use Rattle.aoi.specs.Shapes.{Shape, structure, members_of}
 use Rattle.aoi.specs.Sound.{is_sound_type, are_sound, is_some_count, is_open, are_distinct, names_of, has_member}
 use Rattle.onc_syntax.specs.declared.tree.Value.{Value}
 use Rattle.onc_syntax.specs.declared.tree.Decl.{Decl}
@@ -13,13 +13,12 @@ use Rattle.onc_syntax.specs.declared.tree.Decl.TheVariants as D
 use Rattle.onc_syntax.specs.declared.tree.Member.{Member}
 use Rattle.front_onc.specs.declared.meaning.Form.{Form}
 use Rattle.front_onc.specs.declared.meaning.Form.TheVariants as F
-use Rattle.front_onc.specs.declared.meaning.Use.{Use}
-use Rattle.front_onc.specs.Answers.{Answer, and_then, refused, natural, fault}
+use Rattle.front_onc.specs.Answers.{Answer, refused, natural, fault}
 use Rattle.front_onc.specs.Names.{Scope, value, type_use, has}
-use Rattle.front_onc.specs.Types.{exactly, at_most, form, shape, shape_of_use, name_of, members_on}
+use Rattle.front_onc.specs.Declarations.{exactly, at_most, form, shape, name_of, members_on}
 use Rattle.front_onc.specs.Resolved.{is_some_list}
-use Rattle.front_onc.proofs.Parts.{Then, then_ok, refused_ok, ok_same}
-use Rattle.front_onc.proofs.Standing.{ScopeIs, UseIs, type_use_is, use_sound}
+use Rattle.front_onc.proofs.Parts.{then_ok, refused_ok, ok_same}
+use Rattle.front_onc.proofs.Standing.{ScopeIs, type_use_is, use_sound}
 use Rattle.front_onc.proofs.Different.{distinct_push}
 use Rattle.front_onc.proofs.Tables.{append_map}
 

@@ -1,9 +1,9 @@
 -- Types behind others, and what they leave as it is.
-use Rattle.std.proofs.Common.{◌≡◌, ℕ, zero, suc, ◌+◌, ◌<◌, ◌≤◌, Bool, true, false, ◌&&◌, nat_lt, List, [], ◌∷◌, ◌++◌, length, get_or, map, refl, sym, ap, ◌∙◌, arith, if◌then◌else◌}
+use Rattle.std.proofs.Common.{◌≡◌, ℕ, zero, suc, ◌+◌, ◌<◌, ◌≤◌, Bool, true, false, nat_lt, List, [], ◌∷◌, ◌++◌, length, get_or, refl, ap, ◌∙◌, arith, if◌then◌else◌}
 use Rattle.std.proofs.lemmas.Bool.{ltb-true, and_parts, and_from}
 use Rattle.std.proofs.lemmas.List.{get_or_append_left}
 use Rattle.aoi.specs.Shapes.{Shape, void, number, enumeration, text, array, structure, choice, optional, named, Members, no_more, member, Arms, no_default, default, arm}
-use Rattle.aoi.specs.Sound.{unfolded, is_sound_type, are_sound, are_sound_arms, is_sound_union, or_void, are_sound_types, has_member, are_distinct, names_of}
+use Rattle.aoi.specs.Sound.{unfolded, is_sound_type, are_sound, are_sound_arms, are_sound_types}
 
 abbrev pub at : List Shape → ℕ → Shape
 at types k = get_or types k void
@@ -61,8 +61,8 @@ types_grow types more limit (s ∷ ss) le =
 one_behind : (types : List Shape) (limit at_ : ℕ) (ss : List Shape) (s : Shape) → at_ ≡ limit + length ss → are_sound_types types limit ss ≡ true → is_sound_type types at_ s ≡ true → are_sound_types types limit (ss ++ s ∷ []) ≡ true
 one_behind types limit at_ [] s is a b = let same : limit ≡ at_ = omega (arith, is) in and_from _ _ (rw same b) refl
 one_behind types limit at_ (t ∷ ss) s is a b =
-    let parts = and_parts _ _ a in
     let next : at_ ≡ limit + 1 + length ss = omega (arith, is) in
+    let parts = and_parts _ _ a in
     and_from _ _ parts.0 (one_behind types (limit + 1) at_ ss s next parts.1 b)
 
 -- a type that is sound over those before it

@@ -1,9 +1,9 @@
 -- Every definition keeps what makes a unit sound.
-use Rattle.std.proofs.Common.{◌≡◌, ◌≢◌, ◌⊎◌, inl, inr, ℤ, ℕ, zero, suc, ◌+◌, ◌<◌, ◌≤◌, Bool, true, false, ◌||◌, List, [], ◌∷◌, ◌++◌, length, map, get_or, Option, Some, None, refl, sym, ap, subst, ◌∙◌, arith}
-use Rattle.std.specs.Prelude.{Ok, IsTrue}
+use Rattle.std.proofs.Common.{◌≡◌, ℤ, ℕ, zero, suc, ◌+◌, ◌<◌, ◌≤◌, Bool, true, false, ◌||◌, List, [], ◌∷◌, ◌++◌, length, map, None, refl, sym, ap, subst, ◌∙◌, arith}
+use Rattle.std.specs.Prelude.{Ok}
 use Rattle.std.specs.List.{list_any, list_all}
 use Rattle.std.specs.Ordering.{int_eq}
-use Rattle.std.proofs.lemmas.Bool.{and_parts, or_parts}
+use Rattle.std.proofs.lemmas.Bool.{and_parts}
 use Rattle.std.proofs.lemmas.List.{length-append, length-map}
 use Rattle.std.proofs.lemmas.List.{get_or_push}
 use Rattle.aoi.specs.declared.faults.NameFault.TheVariants.{Twice}
@@ -26,18 +26,21 @@ use Rattle.front_onc.specs.declared.meaning.Form.{Form}
 use Rattle.front_onc.specs.declared.meaning.Form.TheVariants as F
 use Rattle.front_onc.specs.declared.meaning.Meaning.{Meaning}
 use Rattle.front_onc.specs.declared.meaning.Meaning.TheVariants as M
-use Rattle.front_onc.specs.Answers.{Answer, and_then, refused, given}
+use Rattle.front_onc.specs.Answers.{refused, given}
 use Rattle.front_onc.specs.Names.{Scope, value, type_use, is_declared}
-use Rattle.front_onc.specs.Types.{State, counted, declared, with_type, form, shape, tag_of, tag_of_use, shape_of_use, name_of, exactly, at_most, typedef, members_on, struct_on, is_label, is_item, items_on, enum_on, union_shape, union_on}
-use Rattle.front_onc.specs.Programs.{number_of, versions_on, program_with, program_on}
-use Rattle.front_onc.specs.Resolved.{const_on, defined, defined_on, start, is_some_list, has_label, is_whole, IsWhole}
-use Rattle.front_onc.proofs.Parts.{then_ok, refused_ok, ok_same}
+use Rattle.front_onc.specs.State.{State, counted, declared, with_type}
+use Rattle.front_onc.specs.Declarations.{form, shape, tag_of, tag_of_use, shape_of_use, name_of, exactly, at_most, typedef, members_on, struct_on}
+use Rattle.front_onc.specs.Enums.{is_label, is_item, items_on, enum_on}
+use Rattle.front_onc.specs.Unions.{union_shape, union_on}
+use Rattle.front_onc.specs.Programs.{number_of, versions_on, program_on}
+use Rattle.front_onc.specs.Resolved.{const_on, defined, defined_on, start, is_some_list, has_label, is_whole}
+use Rattle.front_onc.proofs.Parts.{then_ok, ok_same}
 use Rattle.front_onc.proofs.Tables.{append_map}
 use Rattle.front_onc.proofs.Growing.{at, types_push}
-use Rattle.front_onc.proofs.Standing.{Ends, EnumIs, AreItems, TagIs, UseIs, MeaningIs, ScopeIs, FewerBelow, ends_grow, use_grow, scope_grow, scope_push, type_use_is}
+use Rattle.front_onc.proofs.Standing.{Ends, EnumIs, TagIs, UseIs, MeaningIs, ScopeIs, FewerBelow, ends_grow, scope_grow, scope_push, type_use_is}
 use Rattle.front_onc.proofs.Forming.{form_sound, members_are, members_some, struct_sound}
 use Rattle.front_onc.proofs.Different.{same_test}
-use Rattle.front_onc.proofs.Numbering.{ItemsAre, LabelsAre, numbers, items_are, items_some, enum_sound}
+use Rattle.front_onc.proofs.Numbering.{ItemsAre, numbers, items_are, items_some, enum_sound}
 use Rattle.front_onc.proofs.Labelling.{number_ends, named_ends, union_sound}
 use Rattle.front_onc.proofs.Offering.{shapes_of, InterfacesAre, interfaces_grow, Offers, versions_are}
 
@@ -205,7 +208,6 @@ enum_takes s t k items is place are some =
     let same : shapes_of t ≡ shapes_of s = ap (λ (z : List (List ℕ × Shape)). map (λ t. t.1) z) are.types in
     let fewer : FewerBelow (length (shapes_of s)) s.labels t.labels = λ j n lt h. sym (are.labels.others j n (λ e. omega (arith, lt, e, place))) ∙ h in
     let old : ScopeIs (shapes_of s ++ new ∷ []) t.labels s.scope = scope_grow (shapes_of s) (new ∷ []) s.labels t.labels s.scope fewer is.scope in
-    let whole = scope_join (shapes_of s ++ new ∷ []) t.labels s.scope _ old (constants_are (shapes_of s ++ new ∷ []) t.labels items) in
     let count : length (shapes_of s ++ new ∷ []) ≡ length (shapes_of s) + 1 = length-append (shapes_of s) (new ∷ []) in
     let tagged : EnumIs (shapes_of s ++ new ∷ []) t.labels (length (shapes_of s)) k = record {
       below = omega (arith, count, place);
@@ -213,6 +215,7 @@ enum_takes s t k items is place are some =
       ends = λ n le. ap (unfolded n (shapes_of s ++ new ∷ []) (length (shapes_of s))) (last_is (shapes_of s) new) ∙ enum_ends n (shapes_of s ++ new ∷ []) (length (shapes_of s)) items;
       numbers = λ n h. items_turned items n ∙ sym (are.labels.own n) ∙ h;
     } in
+    let whole = scope_join (shapes_of s ++ new ∷ []) t.labels s.scope _ old (constants_are (shapes_of s ++ new ∷ []) t.labels items) in
     record {
       types = rw same is.types;
       sound = enum_sound k (length s.labels) s t items are some;

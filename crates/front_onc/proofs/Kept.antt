@@ -1,15 +1,17 @@
 -- Names that stay undeclared.
-use Rattle.std.proofs.Common.{◌≡◌, ℕ, ℤ, Bool, true, false, List, [], ◌∷◌, ◌++◌, pos, ◌+ℤ◌, map, refl, sym, ap, subst, Option, nat_le, length, ◌-◌, ◌∙◌, if◌then◌else◌}
+use Rattle.std.proofs.Common.{◌≡◌, ℕ, ℤ, Bool, true, false, List, [], ◌∷◌, ◌++◌, refl, sym, ap, subst, Option, nat_le, length, ◌-◌, ◌∙◌, if◌then◌else◌}
 use Rattle.std.specs.Prelude.{Ok}
 use Rattle.std.specs.Str.{bytes_eq}
 use Rattle.std.proofs.lemmas.Bool.{or_parts, or_from}
 use Rattle.aoi.specs.declared.faults.NameFault.TheVariants.{Twice, Limit}
 use Rattle.onc_syntax.specs.declared.tree.Item.{Item}
 use Rattle.front_onc.specs.declared.meaning.Meaning.{Meaning}
-use Rattle.front_onc.specs.Answers.{Answer, and_then, refused}
+use Rattle.front_onc.specs.declared.meaning.Meaning.TheVariants.{Constant}
+use Rattle.front_onc.specs.Answers.{Answer, refused}
 use Rattle.front_onc.specs.Names.{Scope, is_declared}
-use Rattle.front_onc.specs.Types.{State, with_label, is_label, item_number, short, item_on, items_on, is_item, declared}
-use Rattle.front_onc.proofs.Parts.{Then, then_ok, refused_ok, ok_same}
+use Rattle.front_onc.specs.State.{State, declared}
+use Rattle.front_onc.specs.Enums.{with_label, is_label, item_number, short, item_on, items_on, is_item}
+use Rattle.front_onc.proofs.Parts.{then_ok, ok_same}
 
 pub not_behind : (name : List ℕ) (scope : Scope) (n : List ℕ) (m : Meaning) → is_declared name scope ≡ false → bytes_eq name n ≡ false → is_declared name (scope ++ (n, m) ∷ []) ≡ false
 not_behind name [] n m a b = or_from _ _ b refl
@@ -35,11 +37,14 @@ item_keeps name d k place s previous i r h old new =
     let e = then_ok (with_label d k place s c.given) _ r c.rest in
     let same = label_scope d k place s e.given c.given e.first in
     let none = not_behind name e.given.scope i.name _ (ap (is_declared name) same ∙ old) new in
-    subst (λ z. is_declared name z ≡ false) (ap (λ z. z.0.scope) (ok_same _ _ e.rest)) none
+    let made : State × ℤ = (declared i.name (Constant c.given) e.given, c.given) in
+    subst (λ z. is_declared name z ≡ false) (ap (λ (z : State × ℤ). z.0.scope) (ok_same made r e.rest)) none
 
 pub items_keep : (name : List ℕ) (d k place : ℕ) (s : State) (done : List (List ℕ × ℤ)) (previous : Option ℤ) (items : List Item) (r : State × List (List ℕ × ℤ)) → items_on d k place s done previous items ≡ Ok r
     → is_declared name s.scope ≡ false → is_item name items ≡ false → is_declared name r.0.scope ≡ false
-items_keep name d k place s done previous [] r h old new = subst (λ z. is_declared name z ≡ false) (ap (λ z. z.0.scope) (ok_same _ _ h)) old
+items_keep name d k place s done previous [] r h old new =
+    let here : State × List (List ℕ × ℤ) = (s, done) in
+    subst (λ z. is_declared name z ≡ false) (ap (λ (z : State × List (List ℕ × ℤ)). z.0.scope) (ok_same here r h)) old
 items_keep name d k place s done previous (i ∷ items) r h old new =
     let a = then_ok (item_on d k place s previous i) _ r h in
     let parts = or_parts _ _ new in

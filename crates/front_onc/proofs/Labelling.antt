@@ -1,15 +1,15 @@
 -- Unions are sound.
-use Rattle.std.proofs.Common.{◌≡◌, ℕ, ℤ, zero, suc, ◌+◌, ◌<◌, ◌≤◌, Bool, true, false, not, ◌||◌, ◌&&◌, nat_lt, nat_le, List, [], ◌∷◌, ◌++◌, length, map, drop, Option, Some, None, refl, sym, ap, subst, ◌∙◌, arith, if◌then◌else◌}
+use Rattle.std.proofs.Common.{◌≡◌, ℕ, ℤ, zero, suc, ◌<◌, ◌≤◌, Bool, true, false, not, ◌||◌, nat_lt, nat_le, List, [], ◌∷◌, ◌++◌, length, map, drop, Option, Some, None, refl, sym, ap, subst, ◌∙◌, arith}
 use Rattle.std.specs.Prelude.{Ok}
 use Rattle.std.specs.List.{list_any, list_all}
 use Rattle.std.specs.Ordering.{int_eq}
 use Rattle.std.proofs.lemmas.Bool.{or_parts, and_parts, and_from, leb-false, le-leb, lt-ltb}
-use Rattle.std.proofs.lemmas.List.{length-append, length-map}
+use Rattle.std.proofs.lemmas.List.{length-append}
 use Rattle.std.proofs.lemmas.List.Folds.{list_all-append}
 use Rattle.mint.specs.declared.kind.Kind.{Kind}
 use Rattle.aoi.specs.declared.faults.NameFault.TheVariants.{Label, Limit, NotType}
-use Rattle.aoi.specs.Shapes.{Shape, void, number, enumeration, text, array, structure, choice, optional, named, Arms, no_default, default, arm, arms_of, default_of}
-use Rattle.aoi.specs.Sound.{unfolded, is_sound_type, are_sound_arms, is_sound_union, are_sound_labels, is_tag, is_of_tag, or_void, has_arm, numbers_of, are_different}
+use Rattle.aoi.specs.Shapes.{Shape, void, number, enumeration, text, array, structure, choice, optional, named, Arms, no_default, default, arms_of}
+use Rattle.aoi.specs.Sound.{unfolded, is_sound_type, are_sound_arms, is_sound_union, is_tag, is_of_tag, or_void, has_arm, numbers_of, are_different}
 use Rattle.onc_syntax.specs.declared.tree.Arm.{Arm as ArmTree}
 use Rattle.onc_syntax.specs.declared.tree.Arm.TheVariants as A
 use Rattle.onc_syntax.specs.declared.tree.Label.{Label as LabelTree}
@@ -20,12 +20,13 @@ use Rattle.front_onc.specs.declared.meaning.Tag.TheVariants as tag
 use Rattle.front_onc.specs.declared.meaning.Use.{Use}
 use Rattle.front_onc.specs.declared.meaning.Use.TheVariants.{Number, Declared}
 use Rattle.front_onc.specs.declared.meaning.Form.{Form}
-use Rattle.front_onc.specs.Answers.{Answer, and_then, refused}
+use Rattle.front_onc.specs.Answers.{refused}
 use Rattle.front_onc.specs.Names.{Scope, value, has}
-use Rattle.front_onc.specs.Types.{form, shape, name_of, shape_of_use, tag_of_use, is_label, is_of, label_on, labels_on, arm_shape, arm_on, Cases, arms_for, with_arm, case_on, cases_on, other, is_other, State, union_shape}
+use Rattle.front_onc.specs.State.{State}
+use Rattle.front_onc.specs.Declarations.{form, shape, name_of, shape_of_use, tag_of_use}
+use Rattle.front_onc.specs.Unions.{is_of, label_on, labels_on, arm_shape, arm_on, Cases, arms_for, with_arm, case_on, cases_on, other, is_other, union_shape}
 use Rattle.front_onc.specs.Resolved.{is_some_list, has_label}
 use Rattle.front_onc.proofs.Parts.{then_ok, refused_ok, ok_same}
-use Rattle.front_onc.proofs.Growing.{at}
 use Rattle.front_onc.proofs.Standing.{ScopeIs, UseIs, Ends, use_sound}
 use Rattle.front_onc.proofs.Forming.{form_sound, some_push}
 use Rattle.front_onc.proofs.Different.{different_push}

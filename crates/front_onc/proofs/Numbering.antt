@@ -1,22 +1,22 @@
 -- Enums are sound, and their labels are the numbers of their items.
-use Rattle.std.proofs.Common.{◌≡◌, ℕ, ℤ, suc, ◌+◌, ◌-◌, ◌<◌, ◌≤◌, Bool, true, false, not, ◌||◌, ◌&&◌, ◌==◌, nat_lt, nat_le, List, [], ◌∷◌, ◌++◌, length, map, ◌≢◌, Option, Some, None, refl, sym, ap, subst, ◌⊎◌, inl, inr, ◌∙◌, arith, if◌then◌else◌}
+use Rattle.std.proofs.Common.{◌≡◌, ℕ, ℤ, suc, ◌+◌, ◌-◌, ◌<◌, ◌≤◌, Bool, true, false, not, ◌||◌, ◌&&◌, ◌==◌, nat_le, List, [], ◌∷◌, ◌++◌, length, map, ◌≢◌, Option, Some, None, refl, sym, ap, subst, ◌⊎◌, inl, inr, ◌∙◌, arith, if◌then◌else◌}
 use Rattle.std.specs.Prelude.{Ok}
 use Rattle.std.specs.List.{list_any}
 use Rattle.std.specs.Ordering.{int_eq}
 use Rattle.std.specs.Str.{bytes_eq}
-use Rattle.std.proofs.lemmas.Bool.{or_parts, or_from, not_from_false, and_parts, and_from, leb-false, le-leb, ne_eqb, eq-eqb, cases_Bool}
+use Rattle.std.proofs.lemmas.Bool.{or_parts, or_from, not_from_false, and_from, leb-false, le-leb, ne_eqb, eq-eqb}
 use Rattle.std.proofs.lemmas.Bool.Decides.{Decides-int_eq}
-use Rattle.std.proofs.lemmas.List.{length-append, length-map}
+use Rattle.std.proofs.lemmas.List.{length-append}
 use Rattle.std.proofs.lemmas.List.Folds.{list_any-append}
 use Rattle.aoi.specs.declared.faults.NameFault.TheVariants.{Twice, Limit}
 use Rattle.aoi.specs.Sound.{is_sound_enum, are_distinct, count_different}
-use Rattle.aoi.specs.Plain.{PlainInterface}
 use Rattle.onc_syntax.specs.declared.tree.Item.{Item}
 use Rattle.front_onc.specs.declared.meaning.Meaning.{Meaning}
 use Rattle.front_onc.specs.declared.meaning.Meaning.TheVariants.{Constant}
 use Rattle.front_onc.specs.Answers.{Answer, and_then, refused}
 use Rattle.front_onc.specs.Names.{Scope, has, is_declared}
-use Rattle.front_onc.specs.Types.{State, with_label, is_label, item_number, short, item_on, items_on, declared}
+use Rattle.front_onc.specs.State.{State, declared}
+use Rattle.front_onc.specs.Enums.{with_label, is_label, item_number, short, item_on, items_on}
 use Rattle.front_onc.specs.Resolved.{is_some_list}
 use Rattle.front_onc.proofs.Parts.{then_ok, refused_ok, ok_same}
 use Rattle.front_onc.proofs.Tables.{append_map}

@@ -1,14 +1,13 @@
 -- Interfaces are sound.
-use Rattle.std.proofs.Common.{◌≡◌, ◌⊎◌, inl, inr, ℤ, ℕ, suc, ◌+◌, ◌*◌, ◌-◌, ◌^◌, ◌<◌, ◌≤◌, Bool, true, false, ◌||◌, ◌&&◌, nat_lt, nat_le, nat_eq, List, [], ◌∷◌, ◌++◌, length, map, Option, Some, None, refl, sym, ap, subst, ◌∙◌, arith, if◌then◌else◌}
+use Rattle.std.proofs.Common.{◌≡◌, ◌⊎◌, inl, inr, ℤ, ℕ, ◌+◌, ◌-◌, ◌^◌, ◌<◌, ◌≤◌, Bool, true, false, ◌&&◌, nat_lt, nat_le, nat_eq, List, [], ◌∷◌, ◌++◌, length, map, Option, Some, None, refl, sym, subst, ◌∙◌, arith, if◌then◌else◌}
 use Rattle.std.specs.Prelude.{Ok}
-use Rattle.std.specs.List.{list_any, list_all}
-use Rattle.std.proofs.lemmas.Bool.{and_parts, and_from, leb-false, le-leb, lt-ltb, ltb-true}
+use Rattle.std.specs.List.{list_any}
+use Rattle.std.proofs.lemmas.Bool.{and_parts, and_from, leb-false, lt-ltb, ltb-true}
 use Rattle.std.proofs.lemmas.List.{length-append}
-use Rattle.mint.specs.declared.kind.Count.{Count}
-use Rattle.mint.specs.declared.kind.Count.TheVariants.{Exactly, AtMost, Any}
-use Rattle.aoi.specs.declared.faults.NameFault.TheVariants.{Twice, Limit, OutOfScope}
+use Rattle.mint.specs.declared.kind.Count.TheVariants.{Any}
+use Rattle.aoi.specs.declared.faults.NameFault.TheVariants.{Twice, Limit}
 use Rattle.aoi.specs.Shapes.{Shape, void, number, enumeration, text, array, structure, choice, optional, named, Members, no_more, member, members_of}
-use Rattle.aoi.specs.Sound.{is_sound_type, are_sound, is_open, or_void}
+use Rattle.aoi.specs.Sound.{is_sound_type, are_sound, is_open}
 use Rattle.aoi.specs.Plain.{PlainInterface, PlainOperation}
 use Rattle.onc_syntax.specs.declared.tree.ProcType.{ProcType}
 use Rattle.onc_syntax.specs.declared.tree.ProcType.TheVariants as P
@@ -16,10 +15,11 @@ use Rattle.onc_syntax.specs.declared.tree.Procedure.{Procedure}
 use Rattle.onc_syntax.specs.declared.tree.Version.{Version}
 use Rattle.front_onc.specs.declared.meaning.Use.{Use}
 use Rattle.front_onc.specs.declared.meaning.Use.TheVariants.{Number, Declared}
-use Rattle.front_onc.specs.Answers.{Answer, and_then, refused}
+use Rattle.front_onc.specs.Answers.{Answer, refused}
 use Rattle.front_onc.specs.Names.{Scope, type_use, has}
-use Rattle.front_onc.specs.Types.{State, counted, shape_of_use}
-use Rattle.front_onc.specs.Programs.{number_of, result_of, parameter, argument, parameters_on, is_void, parameters, Procedures, operation, procedure_on, procedures_on, operations, interface, are_twins, offered, version_offered, version_on, versions_on}
+use Rattle.front_onc.specs.State.{State, counted}
+use Rattle.front_onc.specs.Declarations.{shape_of_use}
+use Rattle.front_onc.specs.Programs.{number_of, result_of, parameter, argument, parameters_on, is_void, parameters, Procedures, operation, procedure_on, procedures_on, operations, interface, are_twins, version_offered, version_on, versions_on}
 use Rattle.front_onc.proofs.Parts.{then_ok, refused_ok, ok_same}
 use Rattle.front_onc.proofs.Standing.{ScopeIs, UseIs, type_use_is}
 

@@ -1,5 +1,5 @@
 -- An interface among others, as plain trees.
-use Rattle.std.proofs.Common.{◌≡◌, ◌≤◌, ◌<◌, ◌⊎◌, inl, inr, length, arith, ℕ, ◌+◌, Bool, true, false, List, [], ◌∷◌, ◌++◌, map, ◌↔◌, refl, sym, ap, subst, ◌∙◌}
+use Rattle.std.proofs.Common.{◌≡◌, ℕ, ◌+◌, Bool, true, false, List, [], ◌∷◌, ◌++◌, map, ◌↔◌, refl, sym, ap, ◌∙◌}
 use Rattle.std.specs.Prelude.{Result, Ok, Err}
 use Rattle.std.specs.List.{list_any}
 use Rattle.aoi.specs.declared.interfaces.Interface.{Interface}
@@ -8,9 +8,8 @@ use Rattle.aoi.specs.declared.units.UnitErr.{UnitErr}
 use Rattle.aoi.specs.declared.units.UnitErr.TheVariants as err
 use Rattle.aoi.specs.Plain.{plain_interface}
 use Rattle.aoi.specs.Units.{Parts, is_twice}
-use Rattle.front_onc.specs.Answers.{Answer, and_then, refused, fault}
+use Rattle.front_onc.specs.Answers.{fault}
 use Rattle.front_onc.specs.Held.{Held, state}
-use Rattle.front_onc.specs.Types.{State}
 use Rattle.front_onc.specs.Programs.{offered, are_twins}
 use Rattle.front_onc.proofs.Tables.{any_map, append_map}
 

@@ -1,6 +1,6 @@
 -- What is known of the parts of an answer.
-use Rattle.std.proofs.Common.{◌≡◌, ℕ, Bool, true, false, List, [], ◌∷◌, refl, sym, ap, ◌∙◌, if◌then◌else◌}
-use Rattle.std.specs.Prelude.{Result, Ok, Err}
+use Rattle.std.proofs.Common.{◌≡◌, ℕ, Bool, true, false, refl}
+use Rattle.std.specs.Prelude.{Ok, Err}
 use Rattle.aoi.specs.declared.faults.NameFault.{NameFault}
 use Rattle.front_onc.specs.Answers.{Answer, and_then, refused}
 

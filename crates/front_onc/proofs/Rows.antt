@@ -1,10 +1,10 @@
-use Rattle.std.proofs.Common.{◌≡◌, ℕ, List, [], ◌∷◌, Some, None, false, true, refl}
+use Rattle.std.proofs.Common.{◌≡◌, [], ◌∷◌, None, false, refl}
 use Rattle.std.specs.Prelude.{pos, codes, Ok}
 use Rattle.mint.specs.declared.kind.Kind.TheVariants as kind
-use Rattle.aoi.specs.Shapes.{Shape, void, number, structure, member, no_more, named}
+use Rattle.aoi.specs.Shapes.{number, structure, member, no_more, named}
 use Rattle.aoi.specs.declared.faults.NameFault.TheVariants as fault_
 use Rattle.onc_syntax.specs.declared.tree.Value.TheVariants as V
-use Rattle.onc_syntax.specs.declared.tree.IntWord.TheVariants.{Int, Long, Short, Char, Hyper}
+use Rattle.onc_syntax.specs.declared.tree.IntWord.TheVariants.{Int}
 use Rattle.onc_syntax.specs.declared.tree.TypeName.TheVariants as T
 use Rattle.onc_syntax.specs.declared.tree.Decl.TheVariants as D
 use Rattle.onc_syntax.specs.declared.tree.Def.TheVariants as F

@@ -1,12 +1,12 @@
 -- What the names in a scope stand for, over the types so far.
-use Rattle.std.proofs.Common.{◌≡◌, ℕ, ℤ, zero, suc, ◌+◌, ◌<◌, ◌≤◌, Bool, true, false, nat_lt, List, [], ◌∷◌, ◌++◌, length, get_or, Option, Some, None, refl, sym, ap, subst, ◌∙◌, arith, if◌then◌else◌, inl, inr, ◌⊎◌}
-use Rattle.std.specs.Prelude.{Ok, Err, pos}
+use Rattle.std.proofs.Common.{◌≡◌, ℕ, ℤ, ◌<◌, ◌≤◌, Bool, true, false, List, [], ◌∷◌, ◌++◌, length, Option, Some, None, refl, ap, subst, ◌∙◌, arith, if◌then◌else◌}
+use Rattle.std.specs.Prelude.{Ok}
 use Rattle.std.specs.List.{list_any}
 use Rattle.std.specs.Ordering.{int_eq}
 use Rattle.std.specs.Str.{bytes_eq}
-use Rattle.std.proofs.lemmas.Bool.{lt-ltb, cases_Bool}
+use Rattle.std.proofs.lemmas.Bool.{lt-ltb}
 use Rattle.std.proofs.lemmas.List.{get_or_append_left, length-append}
-use Rattle.aoi.specs.Shapes.{Shape, void, number, enumeration, named}
+use Rattle.aoi.specs.Shapes.{Shape, void, number, enumeration}
 use Rattle.aoi.specs.Sound.{unfolded, is_sound_type}
 use Rattle.onc_syntax.specs.declared.tree.TypeName.{TypeName}
 use Rattle.onc_syntax.specs.declared.tree.TypeName.TheVariants as T
@@ -16,9 +16,9 @@ use Rattle.front_onc.specs.declared.meaning.Use.{Use}
 use Rattle.front_onc.specs.declared.meaning.Use.TheVariants.{Number, Declared}
 use Rattle.front_onc.specs.declared.meaning.Meaning.{Meaning}
 use Rattle.front_onc.specs.declared.meaning.Meaning.TheVariants as M
-use Rattle.front_onc.specs.Answers.{Answer, fault}
-use Rattle.front_onc.specs.Names.{Scope, meaning_of, use_of, type_use, known}
-use Rattle.front_onc.specs.Types.{is_label, shape_of_use}
+use Rattle.front_onc.specs.Names.{Scope, meaning_of, use_of, type_use}
+use Rattle.front_onc.specs.Declarations.{shape_of_use}
+use Rattle.front_onc.specs.Enums.{is_label}
 use Rattle.front_onc.proofs.Parts.{ok_same}
 use Rattle.front_onc.proofs.Growing.{at, unfolded_grow}
 

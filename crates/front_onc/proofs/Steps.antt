@@ -1,10 +1,11 @@
 -- A loop's step along a list.
-use Rattle.std.proofs.Common.{◌≡◌, ℕ, ℤ, suc, ◌+◌, ◌<◌, List, [], ◌∷◌, ◌++◌, length, drop, get_or, Option, Some, refl, sym, ap, ◌∙◌, arith}
+use Rattle.std.proofs.Common.{◌≡◌, ℕ, ℤ, suc, ◌+◌, ◌<◌, List, [], ◌∷◌, ◌++◌, length, drop, get_or, Option, Some, sym, ap, ◌∙◌, arith}
 use Rattle.std.specs.Prelude.{Ok}
 use Rattle.std.proofs.Math.Seq.{drop-cons}
 use Rattle.onc_syntax.specs.declared.tree.Item.{Item}
 use Rattle.front_onc.specs.Answers.{Answer, and_then}
-use Rattle.front_onc.specs.Types.{State, item_on, items_on}
+use Rattle.front_onc.specs.State.{State}
+use Rattle.front_onc.specs.Enums.{item_on, items_on}
 
 pub drop_step : {A : Type 0} (xs : List A) (j : ℕ) (x d : A) → j < length xs → x ≡ get_or xs j d → drop j xs ≡ x ∷ drop (j + 1) xs
 drop_step xs j x d lt is = let next : j + 1 ≡ suc j = omega arith in rw next (drop-cons xs j d lt ∙ ap (λ z. z ∷ drop (suc j) xs) (sym is))

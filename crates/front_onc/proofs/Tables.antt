@@ -1,5 +1,5 @@
 -- Names in a map or a set of indexmap, as lists.
-use Rattle.std.proofs.Common.{◌≡◌, ℕ, ℤ, nat_eq, ◌&&◌, List, [], ◌∷◌, ◌++◌, map, Bool, true, false, ◌||◌, Option, Some, None, refl, sym, ap, ◌∙◌, if◌then◌else◌}
+use Rattle.std.proofs.Common.{◌≡◌, ℕ, ℤ, nat_eq, ◌&&◌, List, [], ◌∷◌, ◌++◌, map, Bool, true, false, ◌||◌, Option, Some, refl, ap, ◌∙◌, if◌then◌else◌}
 use Rattle.std.specs.List.{list_any}
 use Rattle.std.specs.Prelude.{cond}
 use Rattle.std.specs.Option.{is_some}
@@ -9,7 +9,7 @@ use Rattle.std.proofs.lemmas.Bool.{or_parts}
 use Rattle.indexmap.specs.IndexMap.{insert_entry}
 use Rattle.indexmap.specs.IndexSet.{insert_key}
 use Rattle.std.specs.Ordering.{int_eq}
-use Rattle.front_onc.specs.Types.{is_label}
+use Rattle.front_onc.specs.Enums.{is_label}
 use Rattle.front_onc.specs.Names.{meaning_of, is_declared, has, Scope}
 use Rattle.front_onc.specs.declared.meaning.Meaning.{Meaning}
 

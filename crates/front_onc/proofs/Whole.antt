@@ -1,20 +1,19 @@
 -- The unit of a file is sound.
-use Rattle.std.proofs.Common.{◌≡◌, ℕ, ◌+◌, ◌-◌, ◌^◌, Bool, true, ◌&&◌, nat_le, nat_lt, List, [], ◌∷◌, map, length, refl, sym, ap, subst, inl, inr, ◌∙◌, arith}
+use Rattle.std.proofs.Common.{◌≡◌, ℕ, true, nat_le, List, [], ◌∷◌, length, refl, sym, ap, subst, inl, inr, ◌∙◌}
 use Rattle.std.specs.Prelude.{Ok}
 use Rattle.std.specs.List.{list_all}
 use Rattle.std.proofs.lemmas.Bool.{and_from, le-leb, lt-ltb}
-use Rattle.aoi.specs.Shapes.{Shape, void, no_more}
-use Rattle.aoi.specs.Sound.{is_sound_type, are_sound, or_void, IsSound, is_sound}
+use Rattle.aoi.specs.Shapes.{Shape}
+use Rattle.aoi.specs.Sound.{is_sound_type, are_sound, or_void, IsSound}
 use Rattle.aoi.specs.Units.{Parts}
 use Rattle.aoi.specs.Plain.{PlainRaise, PlainOperation, PlainInterface, PlainUnit, plain, is_sound_plain_raise, is_sound_plain_operation, is_sound_plain_interface, is_sound_plain}
 use Rattle.aoi.proofs.Plainly.{sound_plain}
 use Rattle.onc_syntax.specs.declared.tree.Def.{Def}
-use Rattle.front_onc.specs.Answers.{Answer}
-use Rattle.front_onc.specs.Types.{State}
+use Rattle.front_onc.specs.State.{State}
 use Rattle.front_onc.specs.Resolved.{defined_on, start, resolved, is_whole, IsWhole}
 use Rattle.front_onc.proofs.Parts.{then_ok, ok_same}
 use Rattle.front_onc.proofs.Labelling.{or_void_true}
-use Rattle.front_onc.proofs.Offering.{ResultIs, OperationIs, OperationsAre, InterfaceIs, InterfacesAre, simple_sound, members_sound, shapes_of}
+use Rattle.front_onc.proofs.Offering.{ResultIs, OperationIs, OperationsAre, InterfacesAre, simple_sound, members_sound, shapes_of}
 use Rattle.front_onc.proofs.Keeping.{StateIs, defined_all, start_is}
 
 result_sound : (types : List Shape) (s : Shape) → ResultIs (length types) s → or_void s (is_sound_type types (length types) s) ≡ true

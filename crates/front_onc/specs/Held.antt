@@ -5,7 +5,7 @@ use Rattle.aoi.specs.Shapes.{Shape, seen}
 use Rattle.aoi.specs.Plain.{plain_interface}
 use Rattle.aoi.specs.Units.{Parts}
 use Rattle.front_onc.specs.Names.{Scope}
-use Rattle.front_onc.specs.Types.{State}
+use Rattle.front_onc.specs.State.{State}
 
 -- a state whose unit has the types themselves
 pub record Held : Type 0 where

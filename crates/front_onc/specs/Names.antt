@@ -12,7 +12,7 @@ use Rattle.onc_syntax.specs.declared.tree.IntWord.TheVariants.{Int, Long, Short,
 use Rattle.onc_syntax.specs.declared.tree.TypeName.{TypeName}
 use Rattle.onc_syntax.specs.declared.tree.TypeName.TheVariants as T
 use Rattle.front_onc.specs.declared.meaning.Use.{Use}
-use Rattle.front_onc.specs.declared.meaning.Use.TheVariants.{Number, Declared}
+use Rattle.front_onc.specs.declared.meaning.Use.TheVariants.{Number}
 use Rattle.front_onc.specs.declared.meaning.Meaning.{Meaning}
 use Rattle.front_onc.specs.declared.meaning.Meaning.TheVariants as M
 use Rattle.front_onc.specs.Answers.{Answer, fault}

@@ -1,5 +1,5 @@
 -- The interfaces that programs make.
-use Rattle.std.specs.Prelude.{Bool, true, false, nat_le, nat_eq, ◌&&◌, ◌||◌, ◌==◌, ℕ, ◌+◌, ◌*◌, List, [], ◌∷◌, ◌++◌, map, length, codes, Option, Some, None, Ok, if◌then◌else◌}
+use Rattle.std.specs.Prelude.{Bool, true, false, nat_le, nat_eq, ◌&&◌, ◌||◌, ◌==◌, ℕ, ◌+◌, ◌*◌, List, [], ◌∷◌, ◌++◌, length, codes, Option, Some, None, Ok, if◌then◌else◌}
 use Rattle.std.specs.List.{list_any}
 use Rattle.std.specs.Str.{bytes_eq}
 use Rattle.std.specs.Fmt.{decimal}
@@ -15,7 +15,8 @@ use Rattle.onc_syntax.specs.declared.tree.Version.{Version}
 use Rattle.front_onc.specs.declared.meaning.Meaning.TheVariants as M
 use Rattle.front_onc.specs.Answers.{Answer, fault, and_then, given, refused, natural}
 use Rattle.front_onc.specs.Names.{Scope, has, is_declared, value, type_use}
-use Rattle.front_onc.specs.Types.{State, counted, declared, shape_of_use}
+use Rattle.front_onc.specs.State.{State, counted, declared}
+use Rattle.front_onc.specs.Declarations.{shape_of_use}
 
 -- the number of a program, a version or a procedure
 abbrev pub number_of : Scope → ℕ → Value → Answer ℕ

@@ -10,7 +10,10 @@ use Rattle.onc_syntax.specs.declared.tree.Def.TheVariants as D
 use Rattle.front_onc.specs.declared.meaning.Meaning.TheVariants as M
 use Rattle.front_onc.specs.Answers.{Answer, and_then, refused}
 use Rattle.front_onc.specs.Names.{known, is_declared, value}
-use Rattle.front_onc.specs.Types.{State, counted, declared, typedef, struct_on, enum_on, union_on}
+use Rattle.front_onc.specs.State.{State, counted, declared}
+use Rattle.front_onc.specs.Declarations.{typedef, struct_on}
+use Rattle.front_onc.specs.Enums.{enum_on}
+use Rattle.front_onc.specs.Unions.{union_on}
 use Rattle.front_onc.specs.Programs.{program_on}
 
 abbrev pub const_on : ℕ → State → List ℕ → Value → Answer State

@@ -3,7 +3,7 @@ ghost use Rattle.std.specs.Prelude.{◌≡◌, ◌≤◌, [], ◌∷◌, None, f
 ghost use Rattle.aoi.specs.Shapes.{seen, enumeration};
 ghost use Rattle.front_onc.specs.Answers.{Gives};
 ghost use Rattle.front_onc.specs.Held.{state};
-ghost use Rattle.front_onc.specs.Types.{next, item_number, short, item_on, items_on, is_item, enum_on};
+ghost use Rattle.front_onc.specs.Enums.{next, item_number, short, item_on, items_on, is_item, enum_on};
 
 use crate::names::Scope;
 use crate::state::Resolver;

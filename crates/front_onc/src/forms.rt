@@ -2,7 +2,7 @@
 ghost use Rattle.std.specs.Prelude.{◌≡◌, false, IfOk, OnOk};
 ghost use Rattle.aoi.specs.Shapes.{seen, array, optional};
 ghost use Rattle.front_onc.specs.Answers.{Gives};
-ghost use Rattle.front_onc.specs.Types.{form, name_of, shape, shape_of_use, tag_of, tag_of_use};
+ghost use Rattle.front_onc.specs.Declarations.{form, name_of, shape, shape_of_use, tag_of, tag_of_use};
 
 use crate::names::Scope;
 use crate::values::{at_most, exactly, refuse, type_use};

@@ -2,7 +2,7 @@
 ghost use Rattle.std.specs.Prelude.{◌≡◌, ◌∷◌, [], ◌++◌, false, nat_eq, drop, OnOk};
 ghost use Rattle.std.specs.List.{list_any};
 ghost use Rattle.std.specs.Ordering.{int_eq};
-ghost use Rattle.front_onc.specs.Types.{is_label};
+ghost use Rattle.front_onc.specs.Enums.{is_label};
 
 use indexmap::IndexSet;
 use kit_base::NoMemory;

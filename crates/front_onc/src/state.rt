@@ -7,7 +7,8 @@ ghost use Rattle.front_onc.specs.Names.{is_declared};
 ghost use Rattle.front_onc.specs.Held.{state};
 ghost use Rattle.front_onc.specs.Programs.{offered};
 ghost use Rattle.front_onc.specs.Resolved.{start};
-ghost use Rattle.front_onc.specs.Types.{State, counted, declared, with_type, with_label, is_label};
+ghost use Rattle.front_onc.specs.State.{State, counted, declared, with_type};
+ghost use Rattle.front_onc.specs.Enums.{with_label, is_label};
 ghost use Rattle.aoi.specs.declared.faults.NameFault.TheVariants.{NoMemory as WantOfMemory};
 
 use crate::names::Scope;

@@ -3,7 +3,7 @@ ghost use Rattle.std.specs.Prelude.{◌≡◌, [], map, IfOk};
 ghost use Rattle.aoi.specs.Shapes.{seen_field, seen, members, structure, members_of};
 ghost use Rattle.front_onc.specs.Answers.{Gives};
 ghost use Rattle.front_onc.specs.Held.{state};
-ghost use Rattle.front_onc.specs.Types.{members_on, shape, typedef, struct_on};
+ghost use Rattle.front_onc.specs.Declarations.{members_on, shape, typedef, struct_on};
 
 use crate::forms::{form, name_of, tag_of, ty};
 use crate::names::{Names, Scope};

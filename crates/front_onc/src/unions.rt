@@ -4,7 +4,7 @@ ghost use Rattle.std.specs.Option.{option_map};
 ghost use Rattle.aoi.specs.Shapes.{Shape, seen, choice, arms_of, default_of, arms_seen};
 ghost use Rattle.front_onc.specs.Answers.{Gives};
 ghost use Rattle.front_onc.specs.Held.{state, arms_held};
-ghost use Rattle.front_onc.specs.Types.{is_of, label_on, labels_on, arm_shape, arms_for, arm_on, case_on, cases_on, other, is_other, union_shape, union_on};
+ghost use Rattle.front_onc.specs.Unions.{is_of, label_on, labels_on, arm_shape, arms_for, arm_on, case_on, cases_on, other, is_other, union_shape, union_on};
 
 use crate::forms::{form, name_of, tag_of_use, ty, ty_of_use};
 use crate::names::{Names, Scope};

@@ -2,7 +2,7 @@
 ghost use Rattle.std.specs.Prelude.{◌≡◌};
 ghost use Rattle.front_onc.specs.Answers.{Gives, natural, refused};
 ghost use Rattle.front_onc.specs.Names.{value, signed, constant, kind_of, use_of, type_use};
-ghost use Rattle.front_onc.specs.Types.{exactly, at_most};
+ghost use Rattle.front_onc.specs.Declarations.{exactly, at_most};
 ghost use Rattle.front_onc.specs.Programs.{number_of};
 ghost use Rattle.front_onc.specs.declared.meaning.Meaning.{Meaning as MeaningData};
 

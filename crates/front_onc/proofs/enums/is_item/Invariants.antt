@@ -1,5 +1,5 @@
 use Rattle.std.proofs.Common.{◌≡◌, drop}
-use Rattle.front_onc.specs.Types.{is_item}
+use Rattle.front_onc.specs.Enums.{is_item}
 use Rattle.front_onc.proofs.enums.is_item.Given as goal
 
 abbrev pub invariant-loop-item : goal.invariant-loop-item

@@ -1,6 +1,6 @@
 use Rattle.std.proofs.Common.{◌≡◌, [], None, drop}
 use Rattle.front_onc.specs.Held.{state}
-use Rattle.front_onc.specs.Types.{items_on}
+use Rattle.front_onc.specs.Enums.{items_on}
 use Rattle.front_onc.proofs.enums.items.Given as goal
 
 abbrev pub invariant-loop-i : goal.invariant-loop-i

@@ -1,6 +1,6 @@
 use Rattle.std.proofs.Common.{◌≡◌, [], map, drop}
 use Rattle.aoi.specs.Shapes.{seen_field}
-use Rattle.front_onc.specs.Types.{members_on}
+use Rattle.front_onc.specs.Declarations.{members_on}
 use Rattle.front_onc.proofs.structs.members.Given as goal
 
 abbrev pub invariant-loop-member : goal.invariant-loop-member

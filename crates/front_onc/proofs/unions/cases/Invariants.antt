@@ -1,6 +1,6 @@
 use Rattle.std.proofs.Common.{◌≡◌, [], drop}
 use Rattle.front_onc.specs.Held.{arms_held}
-use Rattle.front_onc.specs.Types.{cases_on}
+use Rattle.front_onc.specs.Unions.{cases_on}
 use Rattle.front_onc.proofs.unions.cases.Given as goal
 
 abbrev pub invariant-loop-c : goal.invariant-loop-c

@@ -1,5 +1,5 @@
 use Rattle.std.proofs.Common.{◌≡◌, drop}
-use Rattle.front_onc.specs.Types.{labels_on}
+use Rattle.front_onc.specs.Unions.{labels_on}
 use Rattle.front_onc.proofs.unions.labels.Given as goal
 
 abbrev pub invariant-loop-l : goal.invariant-loop-l

@@ -1,4 +1,4 @@
-use Rattle.std.proofs.Common.{◌≡◌, ◌∙◌, sym, ap}
+use Rattle.std.proofs.Common.{◌∙◌, ap}
 use Rattle.std.specs.Str.{bytes_eq}
 use Rattle.front_onc.specs.Names.{has}
 use Rattle.front_onc.proofs.Tables.{any_map}

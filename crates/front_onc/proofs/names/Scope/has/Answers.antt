@@ -1,4 +1,4 @@
-use Rattle.std.proofs.Common.{◌≡◌, ◌∙◌, sym, ap}
+use Rattle.std.proofs.Common.{◌∙◌, ap}
 use Rattle.front_onc.specs.Names.{is_declared}
 use Rattle.front_onc.proofs.Tables.{declared_map}
 use Rattle.front_onc.proofs.names.Scope.has.Goals as goal

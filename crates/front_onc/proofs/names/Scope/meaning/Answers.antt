@@ -1,4 +1,4 @@
-use Rattle.std.proofs.Common.{◌≡◌, ◌∙◌, sym, ap}
+use Rattle.std.proofs.Common.{◌∙◌, ap}
 use Rattle.front_onc.specs.Names.{meaning_of}
 use Rattle.front_onc.proofs.Tables.{meaning_map}
 use Rattle.front_onc.proofs.names.Scope.meaning.Goals as goal
