@@ -1,3 +1,4 @@
 pub mod Shapes
 pub mod Units
 pub mod Sound
+pub mod Plain

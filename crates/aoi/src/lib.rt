@@ -2,13 +2,15 @@
 #![tactic(auto)]
 
 mod distinct;
+mod faults;
 mod interfaces;
 mod soundness;
 mod types;
 mod units;
 
+pub use faults::{NameErr, NameFault};
 pub use interfaces::{Interface, Interfaces, Operation, Operations, Raise, Raises};
-pub use soundness::is_sound;
+pub use soundness::{is_sound, unfolded};
 pub use types::{Field, Fields, Items, Ty, Types, UnionArms};
 pub use units::{Unit, UnitErr};
 

@@ -184,8 +184,8 @@ fn name_in(ty: &Ty) -> Option<u32>
     }
 }
 
-/// What a type is once its names are followed.
-fn unfolded<'a>(types: &'a [(Name, Ty)], limit: usize, ty: &'a Ty) -> &'a Ty
+/// What a type is once its names are followed, each to a type before a limit that falls with them.
+pub fn unfolded<'a>(types: &'a [(Name, Ty)], limit: usize, ty: &'a Ty) -> &'a Ty
     requires { limit ≤ length types.now }
     ensures { seen result.now ≡ unfolded limit (shapes types.now) limit (seen ty.now) }
 {

@@ -4,10 +4,10 @@ pub mod Counting
 pub mod Ended
 pub mod Floats
 pub mod Front
-pub mod Loops
 pub mod Prefix
 pub mod Receiving
+pub mod Says
 pub mod Stops
-pub mod Text
+pub mod Units
 pub mod Trees
 pub mod Turning

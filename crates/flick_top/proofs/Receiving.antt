@@ -6,7 +6,6 @@ use Rattle.back_xdr.specs.Heads.{call, StopsWith}
 use Rattle.back_xdr.specs.Told.{BeginsCall}
 use Rattle.back_xdr.proofs.Lawful.{begun, stopped}
 use Rattle.flick_top.specs.declared.form.Form.{Form}
-use Rattle.flick_top.specs.declared.received.Received.{Received}
 use Rattle.flick_top.specs.declared.received.Received.TheVariants.{Head}
 use Rattle.flick_top.specs.Received.{received, behind_head}
 

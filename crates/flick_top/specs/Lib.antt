@@ -2,10 +2,10 @@ pub mod Answer
 pub mod Command
 pub mod Counted
 pub mod Field
+pub mod File
 pub mod Form
 pub mod Message
 pub mod Output
-pub mod Reading
 pub mod Received
 pub mod Record
 pub mod Refusal
@@ -14,4 +14,3 @@ pub mod Saying
 pub mod Statement
 pub mod Status
 pub mod Turn
-pub mod Words

@@ -1,17 +1,56 @@
--- The fixed texts, and how a call ends that says one.
-use Rattle.std.specs.Prelude.{ℕ, List, [], codes}
+-- What is said in place of answers, and how a call ends that says it.
+use Rattle.std.specs.Prelude.{ℕ, List, [], ◌++◌, codes, decimal}
+use Rattle.idl_lex.specs.declared.lexing.LexErr.{LexErr}
+use Rattle.idl_lex.specs.declared.lexing.LexErr.TheVariants as lex
+use Rattle.aoi.specs.declared.faults.NameFault.{NameFault}
+use Rattle.aoi.specs.declared.faults.NameFault.TheVariants as name
 use Rattle.flick_top.specs.declared.saying.TheConstants.{USAGE, VERSION}
 use Rattle.flick_top.specs.declared.saying.Saying.{Saying}
-use Rattle.flick_top.specs.declared.saying.Saying.TheVariants.{Help, Version, NoShape, NoFile, NoForm}
+use Rattle.flick_top.specs.declared.saying.Saying.TheVariants.{Help, Version, NoShape, NoFile, TooLarge, Lex, Syntax, Name, NoForm}
 use Rattle.flick_top.specs.declared.status.Status.{Status}
 use Rattle.flick_top.specs.declared.status.Status.TheVariants.{Done, Usage, File}
 
--- the octets of a fixed text
+-- the name of a fault of a text
+abbrev pub lex_name : LexErr → List ℕ
+lex_name (lex.BadOctet at) = codes "BadOctet"
+lex_name (lex.OpenComment at) = codes "OpenComment"
+lex_name (lex.Wide at) = codes "Wide"
+lex_name (lex.Directive at) = codes "Directive"
+lex_name lex.NoMemory = codes "NoMemory"
+
+-- the place of a fault of a text
+abbrev pub place_of : LexErr → ℕ
+place_of (lex.BadOctet at) = at
+place_of (lex.OpenComment at) = at
+place_of (lex.Wide at) = at
+place_of (lex.Directive at) = at
+place_of lex.NoMemory = 0
+
+-- the name of a fault of a name
+abbrev pub name_name : NameFault → List ℕ
+name_name name.Unknown = codes "Unknown"
+name_name name.Twice = codes "Twice"
+name_name name.CaseClash = codes "CaseClash"
+name_name name.NotType = codes "NotType"
+name_name name.NotConst = codes "NotConst"
+name_name name.Range = codes "Range"
+name_name name.Label = codes "Label"
+name_name name.Limit = codes "Limit"
+name_name name.OutOfScope = codes "OutOfScope"
+name_name name.Oneway = codes "Oneway"
+name_name name.Port = codes "Port"
+name_name name.NoMemory = codes "NoMemory"
+
+-- what is written
 abbrev pub said : Saying → List ℕ
 said Help = USAGE.now
 said Version = VERSION.now
 said NoShape = []
 said NoFile = codes "? file\n"
+said TooLarge = codes "? size\n"
+said (Lex fault) = codes "? lex " ++ lex_name fault ++ codes " " ++ decimal (place_of fault) ++ codes "\n"
+said (Syntax line) = codes "? syntax " ++ decimal line ++ codes "\n"
+said (Name error) = codes "? name " ++ name_name error.fault ++ codes " " ++ decimal error.decl ++ codes "\n"
 said NoForm = codes "? form\n"
 
 -- how a call ends that says it
@@ -19,5 +58,4 @@ abbrev pub ending : Saying → Status
 ending Help = Done
 ending Version = Done
 ending NoShape = Usage
-ending NoFile = File
-ending NoForm = File
+ending _ = File

@@ -1,14 +1,19 @@
 -- The promise of `flick`: what its status says of what it wrote, took and met outside.
--- `over` is the defined output as a function of the input; a clause gives it as `out words files` (Output).
+-- `over` is the defined output as a function of the input: that of the task to which the words come over the files (Output).
 use Rattle.std.specs.Prelude.{◌≡◌, ◌⊎◌, ℕ, ◌<◌, ◌≤◌, List, [], ◌∷◌, ◌++◌, length, Bool, if◌then◌else◌, ◌==◌, Option, Some}
 use Rattle.std.specs.List.{list_any}
 use Rattle.std.specs.Io.KnownBytes.{Appends, Consumes}
 use Rattle.kit_base.specs.Causes.{Rose, raised}
+use Rattle.flick_top.specs.declared.task.Task.{Task}
 use Rattle.flick_top.specs.Output.{Out, most_input}
 
 -- what the source told at entry
 abbrev pub Input : Type 0
 Input = Option (List ℕ)
+
+-- there is such a task, but where the shelf failed or memory is wanted
+abbrev pub ComesTo : (Task → Type 0) → ℕ → Type 0
+ComesTo IsTask status = (status ≡ 6 → ⊥) → (status ≡ 7 → ⊥) → (task : Task) × IsTask task
 
 -- a status of 0 to 3 is that of the output, and exactly its octets were appended, whatever counts rose
 abbrev pub Writes : (List ℕ → Out) → Input → Option (List ℕ) → Option (List ℕ) → ℕ → Type 0

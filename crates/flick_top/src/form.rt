@@ -1,8 +1,10 @@
-// What a file of the one accepted form says.
-ghost use Rattle.std.specs.Prelude.{◌≡◌, string_bytes};
-ghost use Rattle.flick_top.specs.declared.form.FormErr.TheVariants.{NoMemory};
+// What a call takes whose messages are made: a struct of numbers of 32 bits.
+ghost use Rattle.std.specs.Prelude.{◌≡◌, IfOk, option_map, string_bytes};
+ghost use Rattle.flick_top.specs.Field.{FieldView};
+ghost use Rattle.flick_top.specs.Form.{label_of, field_of};
 
-use kit_base::Listed;
+use kit_base::{Listed, NoMemory};
+use std::alloc::Global;
 use std::marker::Model;
 
 /// How a number of 32 bits is read: as two's complement, or without a sign.
@@ -12,7 +14,7 @@ pub enum Width {
     Unsigned,
 }
 
-/// A name, or names joined by dots; seen as its octets.
+/// Names joined by dots; seen as its octets.
 #[derive(Drop)]
 pub struct Label {
     text: String,
@@ -27,10 +29,14 @@ impl Model for Label {
 }
 
 impl Label {
-    pub fn new(text: String) -> Label
-        ensures { result ≡ string_bytes text }
+    /// The label of these octets, where they are text.
+    pub fn of(alloc: Global, octets: &[u8]) -> Result<Option<Label>, NoMemory>
+        ensures { IfOk result (λ l. l ≡ label_of octets.now) }
     {
-        Label { text }
+        match text_of(alloc, octets)? {
+            Some(text) => Ok(Some(Label { text })),
+            None => Ok(None),
+        }
     }
 
     pub fn as_str(&self) -> &str
@@ -57,10 +63,14 @@ impl Model for Field {
 }
 
 impl Field {
-    pub fn new(name: String, width: Width) -> Field
-        ensures { result ≡ record { name = string_bytes name; width = width } }
+    /// The field of this name, where it is text.
+    pub fn of(alloc: Global, name: &[u8], width: Width) -> Result<Option<Field>, NoMemory>
+        ensures { IfOk result (λ f. f ≡ field_of name.now width) }
     {
-        Field { name, width }
+        match text_of(alloc, name)? {
+            Some(name) => Ok(Some(Field { name, width })),
+            None => Ok(None),
+        }
     }
 
     pub fn name(&self) -> &str
@@ -76,6 +86,16 @@ impl Field {
     }
 }
 
+/// The octets as text, where they are.
+fn text_of(alloc: Global, octets: &[u8]) -> Result<Option<String>, NoMemory>
+    ensures { IfOk result (λ s. option_map string_bytes s ≡ label_of octets.now) }
+{
+    match str::from_utf8(octets) {
+        Ok(text) => Ok(Some(String::from_str(alloc, text)?)),
+        Err(_) => Ok(None),
+    }
+}
+
 /// The fields of the struct, in order.
 pub type Fields = Listed<Field>;
 
@@ -88,20 +108,4 @@ pub struct Form {
     pub program: u32,
     pub version: u32,
     pub procedure: u32,
-}
-
-/// Why a file is not read.
-#[derive(Clone, Copy, Debug, PartialEq, Eq)]
-pub enum FormErr {
-    /// It does not have the form.
-    Form,
-    NoMemory,
-}
-
-impl From<kit_base::NoMemory> for FormErr {
-    ghost from_gives = { λ _ e. e ≡ NoMemory };
-
-    fn from(_: kit_base::NoMemory) -> Self {
-        FormErr::NoMemory
-    }
 }

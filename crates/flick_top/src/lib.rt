@@ -4,9 +4,8 @@
 mod answer;
 mod call;
 mod command;
+mod file;
 mod form;
-mod form_file;
-mod form_words;
 mod marshal;
 mod received;
 mod record;
@@ -16,6 +15,7 @@ mod status;
 mod task;
 mod top;
 mod turns;
+mod unit_form;
 mod unmarshal;
 
 pub use top::flick;

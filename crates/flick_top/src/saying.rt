@@ -1,8 +1,12 @@
-// The fixed texts.
-ghost use Rattle.std.specs.Prelude.{◌≡◌};
-ghost use Rattle.flick_top.specs.Saying.{said, ending};
+// What is said in place of answers.
+ghost use Rattle.std.specs.Prelude.{◌≡◌, IfOk, string_bytes};
+ghost use Rattle.flick_top.specs.Saying.{said, ending, lex_name, place_of, name_name};
 
 use crate::status::Status;
+use aoi::{NameErr, NameFault};
+use idl_lex::LexErr;
+use kit_base::{NoMemory, Octets};
+use std::alloc::Global;
 
 /// The page that `--help` writes.
 pub const USAGE: &[u8] = b"usage: flick COMMAND\n\
@@ -43,30 +47,108 @@ pub enum Saying {
     NoShape,
     /// The file is not there.
     NoFile,
-    /// The file does not have the form.
+    /// The file has more octets than one may have.
+    TooLarge,
+    /// The text of the file has no tokens.
+    Lex(LexErr),
+    /// The tokens of the file have no tree; the line where the first definition that fails begins.
+    Syntax(u32),
+    /// A name of the file is not resolved.
+    Name(NameErr),
+    /// The file is accepted, and is not one whose messages are made.
     NoForm,
 }
 
 impl Saying {
-    pub fn octets(self) -> &'static [u8]
-        ensures { result.now ≡ said self }
+    /// What is written.
+    pub fn octets(self, alloc: Global) -> Result<Octets, NoMemory>
+        ensures { IfOk result (λ o. o ≡ said self) }
     {
         match self {
-            Saying::Help => USAGE,
-            Saying::Version => VERSION,
-            Saying::NoShape => b"",
-            Saying::NoFile => b"? file\n",
-            Saying::NoForm => b"? form\n",
+            Saying::Help => copied(alloc, USAGE),
+            Saying::Version => copied(alloc, VERSION),
+            Saying::NoShape => Ok(Octets::new(alloc)),
+            Saying::NoFile => copied(alloc, b"? file\n"),
+            Saying::TooLarge => copied(alloc, b"? size\n"),
+            Saying::Lex(fault) => copied(alloc, lex_text(alloc, fault)?.as_bytes()),
+            Saying::Syntax(line) => copied(alloc, format!(in alloc; "? syntax {line}\n")?.as_bytes()),
+            Saying::Name(fault) => copied(alloc, name_text(alloc, fault)?.as_bytes()),
+            Saying::NoForm => copied(alloc, b"? form\n"),
         }
     }
 
+    /// How a call ends that says it.
     pub fn status(self) -> Status
         ensures { result ≡ ending self }
     {
         match self {
             Saying::Help | Saying::Version => Status::Done,
             Saying::NoShape => Status::Usage,
-            Saying::NoFile | Saying::NoForm => Status::File,
+            _ => Status::File,
         }
+    }
+}
+
+/// The same octets, in memory of their own.
+fn copied(alloc: Global, octets: &[u8]) -> Result<Octets, NoMemory>
+    ensures { IfOk result (λ o. o ≡ octets.now) }
+{
+    let mut out = Octets::new(alloc);
+    out.append(octets)?;
+    Ok(out)
+}
+
+fn lex_text(alloc: Global, fault: LexErr) -> Result<String, NoMemory>
+    ensures { IfOk result (λ s. string_bytes s ≡ said (Saying.Lex fault)) }
+{
+    Ok(format!(in alloc; "? lex {} {}\n", lex_name(fault), place_of(fault))?)
+}
+
+fn name_text(alloc: Global, error: NameErr) -> Result<String, NoMemory>
+    ensures { IfOk result (λ s. string_bytes s ≡ said (Saying.Name error)) }
+{
+    Ok(format!(in alloc; "? name {} {}\n", name_name(error.fault), error.decl)?)
+}
+
+fn lex_name(fault: LexErr) -> &'static str
+    ensures { result.now ≡ lex_name fault }
+{
+    match fault {
+        LexErr::BadOctet(_) => "BadOctet",
+        LexErr::OpenComment(_) => "OpenComment",
+        LexErr::Wide(_) => "Wide",
+        LexErr::Directive(_) => "Directive",
+        LexErr::NoMemory => "NoMemory",
+    }
+}
+
+fn place_of(fault: LexErr) -> usize
+    ensures { result ≡ place_of fault }
+{
+    match fault {
+        LexErr::BadOctet(at)
+        | LexErr::OpenComment(at)
+        | LexErr::Wide(at)
+        | LexErr::Directive(at) => at,
+        LexErr::NoMemory => 0,
+    }
+}
+
+fn name_name(fault: NameFault) -> &'static str
+    ensures { result.now ≡ name_name fault }
+{
+    match fault {
+        NameFault::Unknown => "Unknown",
+        NameFault::Twice => "Twice",
+        NameFault::CaseClash => "CaseClash",
+        NameFault::NotType => "NotType",
+        NameFault::NotConst => "NotConst",
+        NameFault::Range => "Range",
+        NameFault::Label => "Label",
+        NameFault::Limit => "Limit",
+        NameFault::OutOfScope => "OutOfScope",
+        NameFault::Oneway => "Oneway",
+        NameFault::Port => "Port",
+        NameFault::NoMemory => "NoMemory",
     }
 }

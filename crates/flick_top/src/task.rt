@@ -1,11 +1,12 @@
 // What a command comes to, once its words and its file are read.
 ghost use Rattle.std.specs.Prelude.{◌≡◌, ◌≤◌, List, ℕ, Option, Some, IfOk, IfErr, ◌⊎◌};
 ghost use Rattle.kit_base.specs.Causes.{Rose};
-ghost use Rattle.flick_top.specs.Output.{Files, task_of, form_in_file};
+ghost use Rattle.flick_top.specs.Output.{Files, IsTask};
+ghost use Rattle.flick_top.specs.File.{FileSays};
 
 use crate::command::{Command, command_of, path_of};
-use crate::form::{Form, FormErr};
-use crate::form_file::read_form;
+use crate::file::{LONGEST_FILE, told_by};
+use crate::form::Form;
 use crate::saying::Saying;
 use kit_base::{NoMemory, Shelf, ShelfErr, Words};
 use std::alloc::Global;
@@ -36,11 +37,10 @@ pub enum TaskErr {
     NoMemory,
 }
 
-const MOST_FILE: u32 = 1_048_576;
 
 /// The task of these words over the files of the shelf.
 pub fn task_of<F: Shelf>(alloc: Global, words: &Words, shelf: &mut F) -> Result<Task, TaskErr>
-    ensures task { IfOk result (λ task. (files : Files) → F.files shelf.old ≡ Some files → task ≡ task_of words.now files) }
+    ensures task { IfOk result (λ task. (files : Files) → F.files shelf.old ≡ Some files → IsTask words.now files task) }
     ensures later { F.faults shelf.old ≤ F.faults shelf.new }
     ensures cause { IfErr result (λ e. e ≡ TaskErr.Shelf → Rose (F.faults shelf.old) (F.faults shelf.new)) }
 {
@@ -68,31 +68,17 @@ fn form_at<F: Shelf>(
     path: &[u8],
     shelf: &mut F,
 ) -> Result<Result<Form, Saying>, TaskErr>
-    ensures form { IfOk result (λ form. (files : Files) → F.files shelf.old ≡ Some files → form ≡ form_in_file (files path.now)) }
+    ensures form { IfOk result (λ form. (files : Files) → F.files shelf.old ≡ Some files → FileSays (files path.now) form) }
     ensures later { F.faults shelf.old ≤ F.faults shelf.new }
     ensures cause { IfErr result (λ e. e ≡ TaskErr.Shelf → Rose (F.faults shelf.old) (F.faults shelf.new)) }
 {
-    match shelf.read_file(alloc, path, MOST_FILE + 1) {
-        Ok(text) => match form_in_text(alloc, text.as_slice()) {
+    match shelf.read_file(alloc, path, LONGEST_FILE + 1) {
+        Ok(text) => match told_by(alloc, text.as_slice()) {
             Ok(form) => Ok(form),
             Err(NoMemory) => Err(TaskErr::NoMemory),
         },
         Err(ShelfErr::Absent) => Ok(Err(Saying::NoFile)),
         Err(ShelfErr::Failed) => Err(TaskErr::Shelf),
         Err(ShelfErr::NoMemory) => Err(TaskErr::NoMemory),
-    }
-}
-
-/// The form that a text says.
-fn form_in_text(alloc: Global, text: &[u8]) -> Result<Result<Form, Saying>, NoMemory>
-    ensures { IfOk result (λ form. form ≡ form_in_file (Some text.now)) }
-{
-    if text.len() > MOST_FILE as usize {
-        return Ok(Err(Saying::NoForm));
-    }
-    match read_form(alloc, text) {
-        Ok(form) => Ok(Ok(form)),
-        Err(FormErr::Form) => Ok(Err(Saying::NoForm)),
-        Err(FormErr::NoMemory) => Err(NoMemory),
     }
 }

@@ -1,8 +1,9 @@
 // The top call.
 ghost use Rattle.std.specs.Prelude.{◌≡◌, ◌≤◌, Some};
 ghost use Rattle.kit_base.specs.Causes.{Rose};
-ghost use Rattle.flick_top.specs.Output.{Files, out, task_of, messages_of};
-ghost use Rattle.flick_top.specs.Statement.{Writes, WritesFront, WritesEnded, WritesNothing, TakesMore, TakesAtMost, ComesBy, Completes, Counts};
+ghost use Rattle.flick_top.specs.Output.{Files, IsTask, out_of, messages_of};
+ghost use Rattle.flick_top.specs.declared.task.Task.{Task};
+ghost use Rattle.flick_top.specs.Statement.{ComesTo, Writes, WritesFront, WritesEnded, WritesNothing, TakesMore, TakesAtMost, ComesBy, Completes, Counts};
 
 use crate::status::Status;
 use crate::task::{TaskErr, task_of};
@@ -23,9 +24,10 @@ pub fn flick<F: Shelf, S: Source, K: Sink>(
     output: &mut K,
     buf: &mut SendBuf,
 ) -> u8
-    ensures output { (files : Files) → F.files shelf.old ≡ Some files → Writes (out words.now files) (S.left input.old) (K.held output.old) (K.held output.new) result }
-    ensures front { (files : Files) → F.files shelf.old ≡ Some files → WritesFront (out words.now files) (S.left input.old) (K.held output.old) (K.held output.new) }
-    ensures ended { (files : Files) → F.files shelf.old ≡ Some files → WritesEnded (out words.now files) (S.left input.old) (S.left input.new) (K.held output.old) (K.held output.new) result }
+    ensures task { (files : Files) → F.files shelf.old ≡ Some files → ComesTo (IsTask words.now files) result }
+    ensures output { (files : Files) → F.files shelf.old ≡ Some files → (task : Task) → IsTask words.now files task → Writes (out_of task) (S.left input.old) (K.held output.old) (K.held output.new) result }
+    ensures front { (files : Files) → F.files shelf.old ≡ Some files → (task : Task) → IsTask words.now files task → WritesFront (out_of task) (S.left input.old) (K.held output.old) (K.held output.new) }
+    ensures ended { (files : Files) → F.files shelf.old ≡ Some files → (task : Task) → IsTask words.now files task → WritesEnded (out_of task) (S.left input.old) (S.left input.new) (K.held output.old) (K.held output.new) result }
     ensures nothing { WritesNothing (K.held output.old) (K.held output.new) result }
     ensures more { TakesMore (S.left input.old) (S.left input.new) result }
     ensures at_most { TakesAtMost (S.left input.old) (S.left input.new) result }
@@ -33,7 +35,7 @@ pub fn flick<F: Shelf, S: Source, K: Sink>(
     ensures sink { ComesBy 5 (K.faults output.old) (K.faults output.new) result }
     ensures shelf { ComesBy 6 (F.faults shelf.old) (F.faults shelf.new) result }
     ensures completes { Completes (S.left input.old) (S.left input.new) (Rose (S.faults input.old) (S.faults input.new)) (Rose (K.faults output.old) (K.faults output.new)) (Rose (F.faults shelf.old) (F.faults shelf.new)) result }
-    ensures counts { (files : Files) → F.files shelf.old ≡ Some files → Counts (messages_of (task_of words.now files)) (S.left input.old) buf.old.spent.checks buf.new.spent.checks result }
+    ensures counts { (files : Files) → F.files shelf.old ≡ Some files → (task : Task) → IsTask words.now files task → Counts (messages_of task) (S.left input.old) buf.old.spent.checks buf.new.spent.checks result }
     ensures range { result ≤ 8 }
 {
     match task_of(alloc, words, shelf) {

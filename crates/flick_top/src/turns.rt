@@ -41,20 +41,23 @@ pub fn perform<S: Source, K: Sink>(
     ensures shelf { result ≢ Status.Shelf }
 {
     match task {
-        Task::Say(saying) => say(*saying, output),
+        Task::Say(saying) => say(alloc, *saying, output),
         Task::Answer(job) => answer_lines(alloc, job, input, output, buf),
     }
 }
 
-/// Writes a fixed text.
-fn say<K: Sink>(saying: Saying, output: &mut K) -> Status
+/// Writes what is said.
+fn say<K: Sink>(alloc: Global, saying: Saying, output: &mut K) -> Status
     ensures output { number_of result ≤ 3 → (result ≡ ending saying) × Appends (K.held output.old) (K.held output.new) (said saying) }
     ensures front { (front : List ℕ) × (rest : List ℕ) × (said saying ≡ front ++ rest) × Appends (K.held output.old) (K.held output.new) front }
     ensures nothing { result ≡ Status.Usage → Appends (K.held output.old) (K.held output.new) [] }
     ensures sink { result ≡ Status.Sink → Rose (K.faults output.old) (K.faults output.new) }
     ensures others { (result ≢ Status.Source) × (result ≢ Status.Shelf) × (result ≢ Status.Length) }
 {
-    match write_whole(output, saying.octets()) {
+    let Ok(text) = saying.octets(alloc) else {
+        return Status::Memory;
+    };
+    match write_whole(output, text.as_slice()) {
         Ok(()) => saying.status(),
         Err(Failed) => Status::Sink,
     }

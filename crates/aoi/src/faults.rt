@@ -1,0 +1,65 @@
+// Why the names of a file are not resolved, for every front.
+ghost use Rattle.std.specs.Prelude.{◌≡◌};
+ghost use Rattle.aoi.specs.declared.faults.NameFault.TheVariants.{NoMemory as WantOfMemory};
+
+use kit_base::NoMemory;
+use thiserror::Error;
+
+/// What is wrong with a name, or with what is declared by it.
+#[derive(Clone, Copy, Debug, PartialEq, Eq, Error)]
+pub enum NameFault {
+    /// No such name is in reach.
+    #[error("Unknown")]
+    Unknown,
+    /// It is declared again in its scope.
+    #[error("Twice")]
+    Twice,
+    /// It is declared again in its scope, but for the case of letters.
+    #[error("CaseClash")]
+    CaseClash,
+    /// It stands for something other than a type.
+    #[error("NotType")]
+    NotType,
+    /// It stands for something other than a constant.
+    #[error("NotConst")]
+    NotConst,
+    /// A number is outside its range.
+    #[error("Range")]
+    Range,
+    /// A label is none of the tag's, or stands twice.
+    #[error("Label")]
+    Label,
+    /// There are more than 64 interfaces, 256 operations or 4,096 labels.
+    #[error("Limit")]
+    Limit,
+    /// The language has it, and no unit does.
+    #[error("OutOfScope")]
+    OutOfScope,
+    /// An operation without reply gives something back.
+    #[error("Oneway")]
+    Oneway,
+    /// A parameter's port type is missing, or stands where none may.
+    #[error("Port")]
+    Port,
+    /// No memory was there.
+    #[error("NoMemory")]
+    NoMemory,
+}
+
+/// The first fault of a file, and the declaration that it is in, counted from 1.
+#[derive(Clone, Copy, Debug, PartialEq, Eq)]
+pub struct NameErr {
+    pub fault: NameFault,
+    pub decl: u32,
+}
+
+impl From<NoMemory> for NameErr {
+    ghost from_gives = { λ _ e. e.fault ≡ WantOfMemory };
+
+    fn from(_: NoMemory) -> NameErr {
+        NameErr {
+            fault: NameFault::NoMemory,
+            decl: 0,
+        }
+    }
+}

@@ -1,0 +1,52 @@
+-- Names that stay undeclared.
+use Rattle.std.proofs.Common.{◌≡◌, ℕ, ℤ, Bool, true, false, List, [], ◌∷◌, ◌++◌, refl, sym, ap, subst, Option, nat_le, length, ◌-◌, ◌∙◌, if◌then◌else◌}
+use Rattle.std.specs.Prelude.{Ok}
+use Rattle.std.specs.Str.{bytes_eq}
+use Rattle.std.proofs.lemmas.Bool.{or_parts, or_from}
+use Rattle.aoi.specs.declared.faults.NameFault.TheVariants.{Twice, Limit}
+use Rattle.onc_syntax.specs.declared.tree.Item.{Item}
+use Rattle.front_onc.specs.declared.meaning.Meaning.{Meaning}
+use Rattle.front_onc.specs.declared.meaning.Meaning.TheVariants.{Constant}
+use Rattle.front_onc.specs.Answers.{Answer, refused}
+use Rattle.front_onc.specs.Names.{Scope, is_declared}
+use Rattle.front_onc.specs.State.{State, declared}
+use Rattle.front_onc.specs.Enums.{with_label, is_label, item_number, short, item_on, items_on, is_item}
+use Rattle.front_onc.proofs.Parts.{then_ok, ok_same}
+
+pub not_behind : (name : List ℕ) (scope : Scope) (n : List ℕ) (m : Meaning) → is_declared name scope ≡ false → bytes_eq name n ≡ false → is_declared name (scope ++ (n, m) ∷ []) ≡ false
+not_behind name [] n m a b = or_from _ _ b refl
+not_behind name (e ∷ es) n m a b = let h = or_parts _ _ a in or_from _ _ h.0 (not_behind name es n m h.1 b)
+
+label_scope_by : (b : Bool) (s t : State) (rest : Answer State) → (rest ≡ Ok t → t.scope ≡ s.scope) → (if b then Ok s else rest) ≡ Ok t → t.scope ≡ s.scope
+label_scope_by true s t rest f h = ap (λ z. z.scope) (sym (ok_same _ _ h))
+label_scope_by false s t rest f h = f h
+
+pub label_scope : (d k place : ℕ) (s t : State) (n : ℤ) → with_label d k place s n ≡ Ok t → t.scope ≡ s.scope
+label_scope d k place s t n =
+    let next = record s { labels = s.labels ++ (k, n) ∷ [] } in
+    label_scope_by (is_label k n s.labels) s t _ (λ h.
+    let x = then_ok (refused Limit d (nat_le 4096 (length s.labels - place))) (λ _. Ok next) t h in
+    ap (λ z. z.scope) (sym (ok_same next t x.rest)))
+
+pub item_keeps : (name : List ℕ) (d k place : ℕ) (s : State) (previous : Option ℤ) (i : Item) (r : State × ℤ) → item_on d k place s previous i ≡ Ok r
+    → is_declared name s.scope ≡ false → bytes_eq name i.name ≡ false → is_declared name r.0.scope ≡ false
+item_keeps name d k place s previous i r h old new =
+    let a = then_ok (refused Twice d (is_declared i.name s.scope)) _ r h in
+    let b = then_ok (item_number s.scope d previous i.value) _ r a.rest in
+    let c = then_ok (short d b.given) _ r b.rest in
+    let e = then_ok (with_label d k place s c.given) _ r c.rest in
+    let same = label_scope d k place s e.given c.given e.first in
+    let none = not_behind name e.given.scope i.name _ (ap (is_declared name) same ∙ old) new in
+    let made : State × ℤ = (declared i.name (Constant c.given) e.given, c.given) in
+    subst (λ z. is_declared name z ≡ false) (ap (λ (z : State × ℤ). z.0.scope) (ok_same made r e.rest)) none
+
+pub items_keep : (name : List ℕ) (d k place : ℕ) (s : State) (done : List (List ℕ × ℤ)) (previous : Option ℤ) (items : List Item) (r : State × List (List ℕ × ℤ)) → items_on d k place s done previous items ≡ Ok r
+    → is_declared name s.scope ≡ false → is_item name items ≡ false → is_declared name r.0.scope ≡ false
+items_keep name d k place s done previous [] r h old new =
+    let here : State × List (List ℕ × ℤ) = (s, done) in
+    subst (λ z. is_declared name z ≡ false) (ap (λ (z : State × List (List ℕ × ℤ)). z.0.scope) (ok_same here r h)) old
+items_keep name d k place s done previous (i ∷ items) r h old new =
+    let a = then_ok (item_on d k place s previous i) _ r h in
+    let parts = or_parts _ _ new in
+    let here = item_keeps name d k place s previous i a.given a.first old parts.0 in
+    items_keep name d k place a.given.0 _ _ items r a.rest here parts.1

@@ -1,0 +1,16 @@
+mod Rows
+pub mod Tables
+pub mod Parts
+pub mod Kept
+pub mod Steps
+pub mod Offers
+pub mod Growing
+pub mod Standing
+pub mod Different
+pub mod Forming
+pub mod Numbering
+pub mod Labelling
+pub mod Offering
+pub mod Keeping
+pub mod Whole
+pub mod Derived

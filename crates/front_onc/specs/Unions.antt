@@ -1,0 +1,98 @@
+-- The types that unions make.
+use Rattle.std.specs.Prelude.{Bool, true, false, not, nat_le, ◌||◌, ℕ, ℤ, List, [], ◌∷◌, ◌++◌, map, length, drop, Option, Some, None, Ok}
+use Rattle.std.specs.List.{list_any}
+use Rattle.std.specs.Ordering.{int_eq}
+use Rattle.mint.specs.Kinds.{in_range}
+use Rattle.aoi.specs.declared.faults.NameFault.TheVariants.{Twice, Label, Limit, NotType}
+use Rattle.aoi.specs.Shapes.{Shape, void, choice, Arms, default_of, arms_of}
+use Rattle.onc_syntax.specs.declared.tree.Arm.{Arm}
+use Rattle.onc_syntax.specs.declared.tree.Arm.TheVariants as A
+use Rattle.onc_syntax.specs.declared.tree.Label.{Label as LabelTree}
+use Rattle.onc_syntax.specs.declared.tree.Case.{Case}
+use Rattle.onc_syntax.specs.declared.tree.Union.{Union}
+use Rattle.front_onc.specs.declared.meaning.Tag.{Tag}
+use Rattle.front_onc.specs.declared.meaning.Tag.TheVariants as tag
+use Rattle.front_onc.specs.declared.meaning.Use.{Use}
+use Rattle.front_onc.specs.declared.meaning.Form.{Form}
+use Rattle.front_onc.specs.Answers.{Answer, and_then, refused}
+use Rattle.front_onc.specs.Names.{Scope, has, is_declared, value, type_use}
+use Rattle.front_onc.specs.State.{State, with_type}
+use Rattle.front_onc.specs.Declarations.{name_of, form, shape_of_use, shape, tag_of_use}
+use Rattle.front_onc.specs.Enums.{is_label}
+
+-- a number that the tag may have
+abbrev pub is_of : List (ℕ × ℤ) → Tag → ℤ → Bool
+is_of labels (tag.Number k) n = in_range k n
+is_of labels (tag.Enum k) n = is_label k n labels
+is_of labels tag.Other n = false
+
+-- a label behind those that stand before it
+abbrev pub label_on : Scope → List (ℕ × ℤ) → Tag → ℕ → List ℤ → LabelTree → Answer (List ℤ)
+label_on scope labels tag d numbers l =
+    and_then (value scope d l.value) (λ n.
+    and_then (refused Label d (not (is_of labels tag n) || list_any (int_eq n) numbers)) (λ _.
+    and_then (refused Limit d (nat_le 4096 (length numbers))) (λ _.
+    Ok (numbers ++ n ∷ []))))
+
+abbrev pub labels_on : Scope → List (ℕ × ℤ) → Tag → ℕ → List ℤ → List LabelTree → Answer (List ℤ)
+labels_on scope labels tag d numbers [] = Ok numbers
+labels_on scope labels tag d numbers (l ∷ ls) = and_then (label_on scope labels tag d numbers l) (λ numbers. labels_on scope labels tag d numbers ls)
+
+-- what an arm makes of its type; without a declaration it is void
+abbrev pub arm_shape : Option Form → Shape
+arm_shape None = void
+arm_shape (Some f) = shape f
+
+-- an arm, behind the names that stand before it
+abbrev pub arm_on : Scope → ℕ → List (List ℕ) → Arm → Answer (Option Form × List (List ℕ))
+arm_on scope d names A.Void = Ok (None, names)
+arm_on scope d names (A.Decl decl) = and_then (form scope d (has (name_of decl) names) decl) (λ f. Ok (Some f, names ++ name_of decl ∷ []))
+
+-- the labels and names so far, and the arms, one for each label
+pub record Cases : Type 0 where
+  pub numbers : List ℤ
+  pub names : List (List ℕ)
+  pub arms : List (ℤ × Shape)
+
+-- an arm for each of the numbers
+abbrev pub arms_for : Shape → List ℤ → List (ℤ × Shape)
+arms_for s numbers = map (λ n. (n, s)) numbers
+
+-- an arm for each label that has none
+abbrev pub with_arm : List ℤ → List (ℤ × Shape) → Shape → List (ℤ × Shape)
+with_arm numbers arms s = arms ++ arms_for s (drop (length arms) numbers)
+
+abbrev pub case_on : Scope → List (ℕ × ℤ) → Tag → ℕ → Cases → Case → Answer Cases
+case_on scope labels tag d cs c =
+    and_then (labels_on scope labels tag d cs.numbers c.labels) (λ numbers.
+    and_then (arm_on scope d cs.names c.arm) (λ a.
+    Ok (record { numbers = numbers; names = a.1; arms = with_arm numbers cs.arms (arm_shape a.0) })))
+
+abbrev pub cases_on : Scope → List (ℕ × ℤ) → Tag → ℕ → Cases → List Case → Answer Cases
+cases_on scope labels tag d cs [] = Ok cs
+cases_on scope labels tag d cs (c ∷ rest) = and_then (case_on scope labels tag d cs c) (λ cs. cases_on scope labels tag d cs rest)
+
+-- what stands behind every other number
+abbrev pub other : Scope → ℕ → List (List ℕ) → Option Arm → Answer Arms
+other scope d names None = Ok (default_of None)
+other scope d names (Some a) = and_then (arm_on scope d names a) (λ a. Ok (default_of (Some (arm_shape a.0))))
+
+-- not the tag of a union
+abbrev pub is_other : Tag → Bool
+is_other tag.Other = true
+is_other _ = false
+
+-- the type of a union, by the type of its tag
+abbrev pub union_shape : State → ℕ → Use → Union → Answer Shape
+union_shape s d t u =
+    and_then (refused NotType d (is_other (tag_of_use t))) (λ _.
+    and_then (cases_on s.scope s.labels (tag_of_use t) d (record { numbers = []; names = u.tag_name ∷ []; arms = [] }) u.cases) (λ cs.
+    and_then (other s.scope d cs.names u.default) (λ o.
+    Ok (choice (shape_of_use t) (arms_of cs.arms o)))))
+
+abbrev pub union_on : ℕ → State → Union → Answer State
+union_on d s u =
+    and_then (refused Twice d (is_declared u.name s.scope)) (λ _.
+    and_then (type_use s.scope d u.tag) (λ t.
+    and_then (union_shape s d t u) (λ shape.
+    Ok (with_type u.name shape tag.Other s))))

@@ -1,0 +1,125 @@
+// What declarations make of their types.
+ghost use Rattle.std.specs.Prelude.{◌≡◌, false, IfOk, OnOk};
+ghost use Rattle.aoi.specs.Shapes.{seen, array, optional};
+ghost use Rattle.front_onc.specs.Answers.{Gives};
+ghost use Rattle.front_onc.specs.Declarations.{form, name_of, shape, shape_of_use, tag_of, tag_of_use};
+
+use crate::names::Scope;
+use crate::values::{at_most, exactly, refuse, type_use};
+use crate::{Form, NameErr, NameFault, Tag, Use};
+use aoi::Ty;
+use kit_base::{Name, NoMemory};
+use mint::kind::{Count, Kind};
+use onc_syntax::Decl;
+use std::alloc::Global;
+
+/// The name that a declaration declares.
+pub(crate) fn name_of(decl: &Decl) -> &Name
+    ensures { result.now ≡ name_of decl.now }
+{
+    match decl {
+        Decl::Plain(_, name)
+        | Decl::Array(_, name, _)
+        | Decl::List(_, name, _)
+        | Decl::Pointer(_, name)
+        | Decl::OpaqueArray(name, _)
+        | Decl::OpaqueList(name, _)
+        | Decl::Text(name, _) => name,
+    }
+}
+
+/// What a declaration makes of its type, where its name may be taken.
+pub(crate) fn form(scope: &Scope, number: u32, taken: bool, decl: &Decl) -> Result<Form, NameErr>
+    ensures value { Gives (λ x. x) result (form scope.now number taken decl.now) }
+    ensures free { OnOk result (taken ≡ false) }
+{
+    match decl {
+        Decl::Plain(t, _) => {
+            let used = type_use(scope, number, t)?;
+            refuse(NameFault::Twice, number, taken)?;
+            Ok(Form::Plain(used))
+        }
+        Decl::Array(t, _, n) => {
+            let used = type_use(scope, number, t)?;
+            refuse(NameFault::Twice, number, taken)?;
+            Ok(Form::Array(used, exactly(scope, number, n)?))
+        }
+        Decl::List(t, _, n) => {
+            let used = type_use(scope, number, t)?;
+            refuse(NameFault::Twice, number, taken)?;
+            Ok(Form::Array(used, at_most(scope, number, n)?))
+        }
+        Decl::Pointer(t, _) => {
+            let used = type_use(scope, number, t)?;
+            refuse(NameFault::Twice, number, taken)?;
+            Ok(Form::Optional(used))
+        }
+        Decl::OpaqueArray(_, n) => {
+            refuse(NameFault::Twice, number, taken)?;
+            Ok(Form::Opaque(exactly(scope, number, n)?))
+        }
+        Decl::OpaqueList(_, n) => {
+            refuse(NameFault::Twice, number, taken)?;
+            Ok(Form::Opaque(at_most(scope, number, n)?))
+        }
+        Decl::Text(_, n) => {
+            refuse(NameFault::Twice, number, taken)?;
+            Ok(Form::Text(at_most(scope, number, n)?))
+        }
+    }
+}
+
+fn array(alloc: Global, item: Ty, count: Count) -> Result<Ty, NoMemory>
+    ensures { IfOk result (λ t. seen t ≡ array (seen item) count) }
+{
+    Ok(Ty::Array(Box::new(alloc, item)?, count))
+}
+
+fn optional(alloc: Global, item: Ty) -> Result<Ty, NoMemory>
+    ensures { IfOk result (λ t. seen t ≡ optional (seen item)) }
+{
+    Ok(Ty::Optional(Box::new(alloc, item)?))
+}
+
+/// The type that a name stands for.
+pub(crate) fn ty_of_use(used: Use) -> Ty
+    ensures { seen result ≡ shape_of_use used }
+{
+    match used {
+        Use::Number(kind) => Ty::Num(kind),
+        Use::Declared(k, _) => Ty::Named(k),
+    }
+}
+
+/// The type of a declaration.
+pub(crate) fn ty(alloc: Global, form: Form) -> Result<Ty, NoMemory>
+    ensures { IfOk result (λ t. seen t ≡ shape form) }
+{
+    match form {
+        Form::Plain(used) => Ok(ty_of_use(used)),
+        Form::Array(used, count) => array(alloc, ty_of_use(used), count),
+        Form::Optional(used) => optional(alloc, ty_of_use(used)),
+        Form::Opaque(count) => array(alloc, Ty::Num(Kind::Octet), count),
+        Form::Text(count) => Ok(Ty::Text(count)),
+    }
+}
+
+/// What a type is as the tag of a union.
+pub(crate) fn tag_of_use(used: Use) -> Tag
+    ensures { result ≡ tag_of_use used }
+{
+    match used {
+        Use::Number(kind) => Tag::Number(kind),
+        Use::Declared(_, tag) => tag,
+    }
+}
+
+/// What the type of a declaration is as the tag of a union.
+pub(crate) fn tag_of(form: Form) -> Tag
+    ensures { result ≡ tag_of form }
+{
+    match form {
+        Form::Plain(used) => tag_of_use(used),
+        _ => Tag::Other,
+    }
+}

@@ -1,0 +1,24 @@
+//! The names of an ONC interface file: what each stands for, and the unit that the file offers.
+#![tactic(auto)]
+
+mod enums;
+mod forms;
+mod meaning;
+mod names;
+mod numbers;
+mod procedures;
+mod programs;
+mod resolving;
+mod state;
+mod structs;
+mod unions;
+mod values;
+
+pub use aoi::{NameErr, NameFault};
+pub use meaning::{Form, Meaning, Tag, Use};
+pub use resolving::{files_are_whole, resolve};
+
+#[cfg(test)]
+mod printed;
+#[cfg(test)]
+mod tests;
