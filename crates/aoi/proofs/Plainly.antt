@@ -34,5 +34,5 @@ pub sound_plain : (u : Parts) → is_sound u ≡ is_sound_plain (plain u)
 sound_plain u =
     interfaces_step ∙ ap (λ z. are_sound_types z 0 z && list_all (is_sound_plain_interface z) (map plain_interface u.interfaces)) (types_plain u.types)
   where
-  interfaces_step : is_sound u ≡ (are_sound_types (shapes u.types) 0 (shapes u.types) && list_all (is_sound_plain_interface (shapes u.types)) (map plain_interface u.interfaces))
-  interfaces_step = ap (λ z. are_sound_types (shapes u.types) 0 (shapes u.types) && z) (interfaces_plain (shapes u.types) u.interfaces)
+    interfaces_step : is_sound u ≡ (are_sound_types (shapes u.types) 0 (shapes u.types) && list_all (is_sound_plain_interface (shapes u.types)) (map plain_interface u.interfaces))
+    interfaces_step = ap (λ z. are_sound_types (shapes u.types) 0 (shapes u.types) && z) (interfaces_plain (shapes u.types) u.interfaces)

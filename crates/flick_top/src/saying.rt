@@ -71,7 +71,10 @@ impl Saying {
             Saying::NoFile => copied(alloc, b"? file\n"),
             Saying::TooLarge => copied(alloc, b"? size\n"),
             Saying::Lex(fault) => copied(alloc, lex_text(alloc, fault)?.as_bytes()),
-            Saying::Syntax(line) => copied(alloc, format!(in alloc; "? syntax {line}\n")?.as_bytes()),
+            Saying::Syntax(line) => copied(
+                alloc,
+                format!(in alloc; "? syntax {line}\n")?.as_bytes(),
+            ),
             Saying::Name(fault) => copied(alloc, name_text(alloc, fault)?.as_bytes()),
             Saying::NoForm => copied(alloc, b"? form\n"),
         }
@@ -126,10 +129,8 @@ fn place_of(fault: LexErr) -> usize
     ensures { result ≡ place_of fault }
 {
     match fault {
-        LexErr::BadOctet(at)
-        | LexErr::OpenComment(at)
-        | LexErr::Wide(at)
-        | LexErr::Directive(at) => at,
+        LexErr::BadOctet(at) | LexErr::OpenComment(at) | LexErr::Wide(at) | LexErr::Directive(at) =>
+            at,
         LexErr::NoMemory => 0,
     }
 }

@@ -37,7 +37,6 @@ pub enum TaskErr {
     NoMemory,
 }
 
-
 /// The task of these words over the files of the shelf.
 pub fn task_of<F: Shelf>(alloc: Global, words: &Words, shelf: &mut F) -> Result<Task, TaskErr>
     ensures task { IfOk result (λ task. (files : Files) → F.files shelf.old ≡ Some files → IsTask words.now files task) }

@@ -73,11 +73,7 @@ fn form_of_operation(
     }))
 }
 
-fn label_of(
-    alloc: Global,
-    interface: &Interface,
-    op: &Operation,
-) -> Result<Option<Label>, NoMemory>
+fn label_of(alloc: Global, interface: &Interface, op: &Operation) -> Result<Option<Label>, NoMemory>
     ensures { IfOk result (λ label. label ≡ label_of (op_of (plain_interface interface.now) (plain_operation op.now))) }
 {
     let mut name = Octets::new(alloc);
@@ -101,11 +97,7 @@ fn parameter_fields(
     struct_fields(alloc, types, in_types(types, &parameters[0].ty))
 }
 
-fn struct_fields(
-    alloc: Global,
-    types: &[(Name, Ty)],
-    ty: &Ty,
-) -> Result<Option<Fields>, NoMemory>
+fn struct_fields(alloc: Global, types: &[(Name, Ty)], ty: &Ty) -> Result<Option<Fields>, NoMemory>
     ensures { IfOk result (λ fields. fields ≡ struct_fields (shapes types.now) (seen ty.now)) }
 {
     match ty {
@@ -148,11 +140,7 @@ fn fields_of(
 }
 
 /// The field that a member is, where it is a number of 32 bits.
-fn field_in(
-    alloc: Global,
-    types: &[(Name, Ty)],
-    member: &Member,
-) -> Result<Option<Field>, NoMemory>
+fn field_in(alloc: Global, types: &[(Name, Ty)], member: &Member) -> Result<Option<Field>, NoMemory>
     ensures { IfOk result (λ field. field ≡ field_in (shapes types.now) member.now.name (seen member.now.ty)) }
 {
     match width_of(in_types(types, &member.ty)) {
