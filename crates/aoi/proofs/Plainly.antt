@@ -1,5 +1,5 @@
 -- A unit is sound where its plain tree is.
-use Rattle.std.proofs.Common.{◌≡◌, ℕ, ◌+◌, ◌-◌, ◌^◌, Bool, true, ◌&&◌, nat_le, nat_lt, List, [], ◌∷◌, map, length, refl, sym, ap, ◌∙◌}
+use Rattle.std.proofs.Common.{◌≡◌, ℕ, ◌&&◌, List, [], ◌∷◌, map, refl, ap, ◌∙◌}
 use Rattle.std.specs.List.{list_all}
 use Rattle.std.proofs.lemmas.List.{length-map}
 use Rattle.aoi.specs.declared.types.Ty.{Ty}
@@ -9,7 +9,7 @@ use Rattle.aoi.specs.declared.interfaces.Raise.{Raise}
 use Rattle.aoi.specs.Shapes.{Shape, seen, shapes}
 use Rattle.aoi.specs.Sound.{is_sound_raise, is_sound_operation, is_sound_interface, is_sound, are_sound_types}
 use Rattle.aoi.specs.Units.{Parts}
-use Rattle.aoi.specs.Plain.{plain, plain_raise, plain_operation, plain_interface, is_sound_plain_raise, is_sound_plain_operation, is_sound_plain_interface, is_sound_plain, plain_shapes}
+use Rattle.aoi.specs.Plain.{plain, plain_raise, plain_operation, plain_interface, is_sound_plain_raise, is_sound_plain_operation, is_sound_plain_interface, is_sound_plain}
 
 raises_plain : (types : List Shape) (rs : List Raise) → list_all (is_sound_raise types) rs ≡ list_all (is_sound_plain_raise types) (map plain_raise rs)
 raises_plain types [] = refl

@@ -92,3 +92,10 @@ fn what_a_type_may_be(rt: HostRuntime) -> Result<(), Fail> {
     assert!(rt; !is_sound(&unit));
     Ok(())
 }
+
+#[test]
+fn the_text_of_a_fault_is_its_name(rt: HostRuntime) -> Result<(), Fail> {
+    let text = format!(in rt.alloc(); "{}", NameFault::OutOfScope)?;
+    assert_eq!(rt; text.as_str(), "OutOfScope");
+    Ok(())
+}

@@ -8,6 +8,7 @@ use Rattle.aoi.specs.declared.faults.NameFault.TheVariants.{Range, NoMemory}
 abbrev pub Answer : Type 0 → Type 0
 Answer A = Result A NameErr
 
+-- a fault in a declaration
 abbrev pub fault : {A : Type 0} → NameFault → ℕ → Answer A
 fault f d = Err (record { fault = f; decl = d })
 

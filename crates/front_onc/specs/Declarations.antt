@@ -19,6 +19,7 @@ use Rattle.front_onc.specs.Answers.{Answer, and_then, refused, natural}
 use Rattle.front_onc.specs.Names.{Scope, has, is_declared, value, type_use}
 use Rattle.front_onc.specs.State.{State, with_type}
 
+-- the name that a declaration declares
 abbrev pub name_of : Decl → List ℕ
 name_of (D.Plain t n) = n
 name_of (D.Array t n v) = n
@@ -47,10 +48,12 @@ form scope d taken (D.OpaqueArray n v) = and_then (refused Twice d taken) (λ _.
 form scope d taken (D.OpaqueList n v) = and_then (refused Twice d taken) (λ _. and_then (at_most scope d v) (λ c. Ok (F.Opaque c)))
 form scope d taken (D.Text n v) = and_then (refused Twice d taken) (λ _. and_then (at_most scope d v) (λ c. Ok (F.Text c)))
 
+-- the plain tree of a type by its name
 abbrev pub shape_of_use : Use → Shape
 shape_of_use (Number k) = number k
 shape_of_use (Declared k tag) = named k
 
+-- the plain tree of the type that a declaration makes
 abbrev pub shape : Form → Shape
 shape (F.Plain u) = shape_of_use u
 shape (F.Array u c) = array (shape_of_use u) c
@@ -63,6 +66,7 @@ abbrev pub tag_of_use : Use → Tag
 tag_of_use (Number k) = tag.Number k
 tag_of_use (Declared k tag) = tag
 
+-- what the type of a declaration is as the tag of a union
 abbrev pub tag_of : Form → Tag
 tag_of (F.Plain u) = tag_of_use u
 tag_of _ = tag.Other
@@ -79,6 +83,7 @@ members_on scope d fields [] = Ok fields
 members_on scope d fields (m ∷ ms) =
     and_then (form scope d (has (name_of m.decl) (map (λ f. f.0) fields)) m.decl) (λ f. members_on scope d (fields ++ (name_of m.decl, shape f) ∷ []) ms)
 
+-- a type with the members as its fields; its name is declared behind them
 abbrev pub struct_on : ℕ → State → List ℕ → List Member → Answer State
 struct_on d s name members =
     and_then (refused Twice d (is_declared name s.scope)) (λ _.

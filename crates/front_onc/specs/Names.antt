@@ -66,6 +66,7 @@ constant d None = fault Unknown d
 constant d (Some (M.Constant n)) = Ok n
 constant d (Some _) = fault NotConst d
 
+-- the number of a value
 abbrev pub value : Scope → ℕ → Value → Answer ℤ
 value scope d (V.Number minus n) = signed d minus n
 value scope d (V.Name name) = constant d (meaning_of name scope)
@@ -92,6 +93,7 @@ use_of d (Some (M.Type u)) = Ok u
 use_of d (Some M.LeftOut) = fault OutOfScope d
 use_of d (Some _) = fault NotType d
 
+-- the type of a type name
 abbrev pub type_use : Scope → ℕ → TypeName → Answer Use
 type_use scope d (T.Int unsigned word) = Ok (Number (kind_of unsigned word))
 type_use scope d T.Unsigned = Ok (Number kind.U32)

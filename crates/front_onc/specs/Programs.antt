@@ -24,6 +24,7 @@ number_of scope d v = and_then (value scope d v) (natural 0 d)
 
 -- ---- procedures
 
+-- the type of a result
 abbrev pub result_of : Scope → ℕ → ProcType → Answer Shape
 result_of scope d P.Void = Ok void
 result_of scope d P.Text = Ok (text Any)
@@ -59,6 +60,7 @@ pub record Procedures : Type 0 where
   pub numbers : List ℕ
   pub ops : List PlainOperation
 
+-- the operation of a procedure: it has no outs and raises nothing
 abbrev pub operation : ℕ → List ℕ → ℕ → List (List ℕ × Shape) → Shape → PlainOperation
 operation slot name n ins result = record { name = name; proc_no = n; slot = slot; ins = members_of ins; outs = no_more; result = result; raises = []; oneway = false }
 
@@ -77,6 +79,7 @@ procedure_on scope d ps p =
       ops = ps.ops ++ operation (length ps.ops) p.name n ins result ∷ [];
     })))))))
 
+-- procedures behind those that stand before them, each a declaration
 abbrev pub procedures_on : State → Procedures → List Procedure → Answer (State × Procedures)
 procedures_on s ps [] = Ok (s, ps)
 procedures_on s ps (p ∷ rest) = and_then (procedure_on s.scope (s.count + 1) ps p) (λ ps. procedures_on (counted s) ps rest)
@@ -116,6 +119,7 @@ version_on d program number names s v =
     and_then (number_of r.0.scope d v.number) (λ n.
     version_offered d program number v.name n r.1 r.0))))
 
+-- versions behind those that stand before them, each a declaration
 abbrev pub versions_on : List ℕ → Option ℕ → List (List ℕ) → State → List Version → Answer State
 versions_on program number names s [] = Ok s
 versions_on program number names s (v ∷ vs) =
@@ -130,5 +134,6 @@ program_with name number s versions =
     and_then number (λ n.
     Ok (declared name M.Program s)))
 
+-- what a program makes of a state
 abbrev pub program_on : ℕ → State → List ℕ → List Version → Value → Answer State
 program_on d s name versions v = and_then (refused Twice d (is_declared name s.scope)) (λ _. program_with name (number_of s.scope d v) s versions)

@@ -21,6 +21,7 @@ pub record State : Type 0 where
 abbrev pub counted : State → State
 counted s = record s { count = s.count + 1 }
 
+-- one more name
 abbrev pub declared : List ℕ → Meaning → State → State
 declared name m s = record s { scope = s.scope ++ (name, m) ∷ [] }
 

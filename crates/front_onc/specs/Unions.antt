@@ -34,6 +34,7 @@ label_on scope labels tag d numbers l =
     and_then (refused Limit d (nat_le 4096 (length numbers))) (λ _.
     Ok (numbers ++ n ∷ []))))
 
+-- the labels of a case behind those that stand before them
 abbrev pub labels_on : Scope → List (ℕ × ℤ) → Tag → ℕ → List ℤ → List LabelTree → Answer (List ℤ)
 labels_on scope labels tag d numbers [] = Ok numbers
 labels_on scope labels tag d numbers (l ∷ ls) = and_then (label_on scope labels tag d numbers l) (λ numbers. labels_on scope labels tag d numbers ls)
@@ -62,12 +63,14 @@ arms_for s numbers = map (λ n. (n, s)) numbers
 abbrev pub with_arm : List ℤ → List (ℤ × Shape) → Shape → List (ℤ × Shape)
 with_arm numbers arms s = arms ++ arms_for s (drop (length arms) numbers)
 
+-- a case behind those that stand before it
 abbrev pub case_on : Scope → List (ℕ × ℤ) → Tag → ℕ → Cases → Case → Answer Cases
 case_on scope labels tag d cs c =
     and_then (labels_on scope labels tag d cs.numbers c.labels) (λ numbers.
     and_then (arm_on scope d cs.names c.arm) (λ a.
     Ok (record { numbers = numbers; names = a.1; arms = with_arm numbers cs.arms (arm_shape a.0) })))
 
+-- cases behind those that stand before them
 abbrev pub cases_on : Scope → List (ℕ × ℤ) → Tag → ℕ → Cases → List Case → Answer Cases
 cases_on scope labels tag d cs [] = Ok cs
 cases_on scope labels tag d cs (c ∷ rest) = and_then (case_on scope labels tag d cs c) (λ cs. cases_on scope labels tag d cs rest)
@@ -90,6 +93,7 @@ union_shape s d t u =
     and_then (other s.scope d cs.names u.default) (λ o.
     Ok (choice (shape_of_use t) (arms_of cs.arms o)))))
 
+-- a type with a choice; its name is declared behind it
 abbrev pub union_on : ℕ → State → Union → Answer State
 union_on d s u =
     and_then (refused Twice d (is_declared u.name s.scope)) (λ _.
