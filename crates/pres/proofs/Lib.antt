@@ -1,1 +1,4 @@
 pub mod Facing
+pub mod Drafting
+pub mod Ordered
+pub mod Drawn

@@ -1,6 +1,7 @@
 -- What types stand for, and the messages that a back end has for the operations of a unit.
-use Rattle.std.specs.Prelude.{Bool, true, false, not, ◌&&◌, ◌||◌, ◌==◌, ℕ, suc, ℤ, pos, List, [], ◌∷◌, ◌++◌, map, if◌then◌else◌, int_lt}
+use Rattle.std.specs.Prelude.{Bool, true, false, not, ◌&&◌, ◌||◌, ◌==◌, ℕ, suc, ℤ, pos, List, [], ◌∷◌, ◌++◌, map, Option, None, Some, if◌then◌else◌, int_lt}
 use Rattle.std.specs.List.{list_any}
+use Rattle.mint.specs.declared.kind.Kind.{Kind}
 use Rattle.mint.specs.declared.kind.Kind.TheVariants as kind
 use Rattle.mint.specs.declared.kind.Count.{Count}
 use Rattle.mint.specs.Types.{text, row_of}
@@ -14,11 +15,20 @@ use Rattle.aoi.specs.Units.{Parts as UnitParts}
 use Rattle.pres.specs.declared.ops.Op.{Op}
 use Rattle.pres.specs.Faces.{Sign, number, item, Face, nothing, scalar, numbers, values, members, list, choice, maybe, Parts, no_parts, part, Arms, no_other, other, arm, at}
 
--- elements of a type: numbers other than Bool stand together
+-- the kind of numbers that stand together where a list has them as elements; those of Bool do not
+abbrev pub packed : Face → Option Kind
+packed (scalar (number kind.Bool)) = None
+packed (scalar (number k)) = Some k
+packed _ = None
+
+-- a row of a kind, or else a list
+abbrev pub elements_by : Option Kind → Count → Face → Face
+elements_by None c f = list c f
+elements_by (Some k) c f = numbers (row_of k c)
+
+-- elements of a type
 abbrev pub elements : Count → Face → Face
-elements c (scalar (number kind.Bool)) = list c (scalar (number kind.Bool))
-elements c (scalar (number k)) = numbers (row_of k c)
-elements c f = list c f
+elements c f = elements_by (packed f) c f
 
 -- what a tag's type is a tag of
 abbrev pub sign_in : Face → Sign
@@ -76,9 +86,17 @@ abbrev pub raised : List Face → ℕ → List Raise → Arms
 raised fs k [] = no_other
 raised fs k (r ∷ rs) = arm (pos k) (members (parts_of fs (aoi.members r.members))) (raised fs (suc k) rs)
 
--- what comes back: the result and the parameters out, or an exception
+-- what goes in
+abbrev pub request_of : List Face → Operation → Face
+request_of fs op = values (parameters fs (aoi.members op.ins))
+
+-- the result, and the parameters out
+abbrev pub answer_of : List Face → Operation → Face
+answer_of fs op = values (part [] (face_of fs (aoi.seen op.result)) (parameters fs (aoi.members op.outs)))
+
+-- what comes back: the answer, or an exception
 abbrev pub reply_of : List Face → Operation → Face
-reply_of fs op = choice (number kind.U32) (arm (pos 0) (values (part [] (face_of fs (aoi.seen op.result)) (parameters fs (aoi.members op.outs)))) (raised fs 1 op.raises))
+reply_of fs op = choice (number kind.U32) (arm (pos 0) (answer_of fs op) (raised fs 1 op.raises))
 
 -- an operation of an interface, with the faces of its messages
 pub record Offer : Type 0 where
@@ -103,11 +121,18 @@ is_answered b op = is_cdr b || not op.oneway
 
 -- an operation of the unit
 abbrev pub offer : List Face → Back → ℕ → Operation → Offer
-offer fs b k op = record { interface = k; name = op.name; request = values (parameters fs (aoi.members op.ins)); reply = reply_of fs op; has_reply = is_answered b op }
+offer fs b k op = record { interface = k; name = op.name; request = request_of fs op; reply = reply_of fs op; has_reply = is_answered b op }
+
+-- the answer of procedure 0
+abbrev pub null_answer : Face
+null_answer = values (part [] nothing no_parts)
+
+abbrev pub null_reply : Face
+null_reply = choice (number kind.U32) (arm (pos 0) null_answer no_other)
 
 -- procedure 0, which takes nothing and answers nothing
 abbrev pub null_offer : ℕ → Offer
-null_offer k = record { interface = k; name = 48 ∷ []; request = values no_parts; reply = choice (number kind.U32) (arm (pos 0) (values (part [] nothing no_parts)) no_other); has_reply = true }
+null_offer k = record { interface = k; name = 48 ∷ []; request = values no_parts; reply = null_reply; has_reply = true }
 
 -- over Xdr an interface without procedure 0 gets one
 abbrev pub gets_null : Back → Interface → Bool
