@@ -119,7 +119,7 @@ parts_by gs fs (i ∷ ids) (aoi.member n s ms) is =
     rw (first, parts_by gs fs ids ms rest) refl
 
 -- nodes without names give the parts without theirs
-unnamed_by : (gs fs : List Face) (ids : List ℕ) (ms : aoi.Members) → map (at gs) ids ≡ faces_inside fs ms → parts_at gs [] ids ≡ unnamed (parts_of fs ms)
+pub unnamed_by : (gs fs : List Face) (ids : List ℕ) (ms : aoi.Members) → map (at gs) ids ≡ faces_inside fs ms → parts_at gs [] ids ≡ unnamed (parts_of fs ms)
 unnamed_by gs fs [] aoi.no_more is = refl
 unnamed_by gs fs [] (aoi.member n s ms) is = absurd cc
 unnamed_by gs fs (i ∷ ids) aoi.no_more is = absurd cc
@@ -226,7 +226,7 @@ arm_on fs o arms i a mid new more sorted sorted' last id lt is g d sorted_is are
 -- ---- a choice
 
 -- arms with another end
-abbrev with_end : Arms → Arms → Arms
+abbrev pub with_end : Arms → Arms → Arms
 with_end (arm n f arms) d = arm n f (with_end arms d)
 with_end no_other d = d
 with_end (other f) d = d
@@ -322,3 +322,11 @@ if_err (Err e) P Q f h = f e h
 pub handed_on : {T E : Type 0} (r : Result T E) (e : E) (Q : E → Type 0) → IsErrAnd r (λ z. z ≡ e) → Q e → IfErr r Q
 handed_on (Ok x) e Q h q = absurd h
 handed_on (Err d) e Q h q = rw h q
+
+pub cause_more : {T : Type 0} (r : Result T BindErr) (xs ys : List Face) → length xs ≤ length ys → IfErr r (Overflows xs) → IfErr r (Overflows ys)
+cause_more (Ok x) xs ys le h = h
+cause_more (Err e) xs ys le h = overflows_more xs ys e h le
+
+pub cause_last : {T : Type 0} (r : Result T BindErr) (old mid xs : List Face) (f g : Face) → mid ≡ old ++ xs → IfErr r (Overflows (mid ++ f ∷ [])) → IfErr r (Overflows (old ++ (xs ++ g ∷ [])))
+cause_last r old mid xs f g is h =
+    cause_more r (mid ++ f ∷ []) (old ++ (xs ++ g ∷ [])) (omega (arith, length-append mid (f ∷ []), ap length is, length-append old xs, length-append old (xs ++ g ∷ []), length-append xs (g ∷ []))) h

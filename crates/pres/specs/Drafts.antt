@@ -1,17 +1,21 @@
 -- Nodes that are drawn for a unit before they stand in a table.
-use Rattle.std.specs.Prelude.{◌≡◌, ◌≢◌, ◌<◌, ◌≤◌, Bool, true, ◌&&◌, nat_lt, ℕ, ℤ, List, [], ◌∷◌, ◌++◌, map, length, Option, None, Some}
+use Rattle.std.specs.Prelude.{IsTrue, ◌≡◌, ◌≢◌, ◌<◌, ◌≤◌, Bool, true, ◌&&◌, nat_lt, ℕ, suc, ℤ, List, [], ◌∷◌, ◌++◌, map, length, Option, None, Some}
 use Rattle.std.specs.List.{AllByRecursion}
 use Rattle.mint.specs.declared.kind.Kind.{Kind}
 use Rattle.mint.specs.Types.{IsTable, ArmsBelow, IsBelow}
 use Rattle.mint.specs.declared.node.Node.{Node}
 use Rattle.aoi.specs.Shapes as aoi
 use Rattle.aoi.specs.Sound.{are_distinct, names_of}
+use Rattle.aoi.specs.Units.{Parts as UnitParts}
+use Rattle.aoi.specs.declared.interfaces.Interface.{Interface}
+use Rattle.aoi.specs.declared.interfaces.Operation.{Operation}
+use Rattle.pres.specs.declared.ops.Op.{Op}
 use Rattle.pres.specs.declared.shape.Shape.{Shape}
 use Rattle.pres.specs.declared.errors.BindErr.{BindErr}
 use Rattle.pres.specs.declared.errors.BindErr.TheVariants as err
 use Rattle.pres.specs.Faces.{ItemList, number, item, Face, scalar, Arms, faces, at, arms_at}
 use Rattle.pres.specs.Named.{AreNamed}
-use Rattle.pres.specs.Offers.{face_of}
+use Rattle.pres.specs.Offers.{Offer, face_of, exception, offer_at}
 
 -- nodes with their shapes, and the nodes of the types so far
 pub record Sketch : Type 0 where
@@ -92,3 +96,35 @@ pub record AreArms (s : Sketch) (arms : List (ℤ × ℕ)) (o : Option ℕ) (fs 
   pub below : ArmsBelow (length (drawn s)) arms
   pub other : IsBelow (length (drawn s)) o
   pub are : arms_at (drawn s) arms o ≡ fs
+
+-- an operation whose types are drawable
+pub record IsDrawableOperation (n : ℕ) (op : Operation) : Type 0 where
+  pub ins : IsTrue (are_drawable n (aoi.members op.ins))
+  pub outs : IsTrue (are_drawable n (aoi.members op.outs))
+  pub result : IsTrue (is_drawable n (aoi.seen op.result))
+  pub raises : AllByRecursion (λ r. IsTrue (is_drawable n (exception r))) op.raises
+
+-- an operation as an offer
+pub record IsOffered (s : Sketch) (o : Op) (f : Offer) : Type 0 where
+  pub request : o.request < length (drawn s)
+  pub reply : o.reply < length (drawn s)
+  pub is : offer_at (drawn s) o ≡ f
+
+-- operations as offers
+pub record AreOffered (s : Sketch) (os : List Op) (fs : List Offer) : Type 0 where
+  pub placed : AllByRecursion (λ (o : Op). (o.request < length (drawn s)) × (o.reply < length (drawn s))) os
+  pub are : map (offer_at (drawn s)) os ≡ fs
+
+-- types that are drawable, each over those before it
+abbrev pub AreDrawable : ℕ → List aoi.Shape → Type 0
+AreDrawable n [] = Unit {0}
+AreDrawable n (s ∷ ss) = IsTrue (is_drawable n s) × AreDrawable (suc n) ss
+
+-- an interface whose operations are drawable
+abbrev pub IsDrawableInterface : ℕ → Interface → Type 0
+IsDrawableInterface n i = AllByRecursion (IsDrawableOperation n) i.ops
+
+-- a unit whose types and operations are drawable
+pub record IsDrawableUnit (u : UnitParts) : Type 0 where
+  pub types : AreDrawable 0 (aoi.shapes u.types)
+  pub interfaces : AllByRecursion (IsDrawableInterface (length u.types)) u.interfaces

@@ -6,3 +6,4 @@ pub mod Made
 pub mod Faults
 pub mod Drafts
 pub mod Rising
+pub mod Sizes

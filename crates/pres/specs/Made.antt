@@ -1,5 +1,5 @@
 -- The nodes that a unit makes, each as what it unfolds to.
-use Rattle.std.specs.Prelude.{List, [], ◌∷◌, ◌++◌, Option, None, Some, if◌then◌else◌}
+use Rattle.std.specs.Prelude.{List, [], ◌∷◌, ◌++◌, Option, None, Some}
 use Rattle.mint.specs.declared.kind.Kind.{Kind}
 use Rattle.mint.specs.Types.{text}
 use Rattle.wire_def.specs.declared.encoding.Back.{Back}
@@ -8,8 +8,8 @@ use Rattle.aoi.specs.declared.interfaces.Operation.{Operation}
 use Rattle.aoi.specs.declared.interfaces.Raise.{Raise}
 use Rattle.aoi.specs.Shapes as aoi
 use Rattle.aoi.specs.Units.{Parts as UnitParts}
-use Rattle.pres.specs.Faces.{number, item, Face, nothing, scalar, numbers, values, members, no_parts}
-use Rattle.pres.specs.Offers.{packed, face_of, parts_of, type_faces, request_of, answer_of, reply_of, null_answer, null_reply, gets_null}
+use Rattle.pres.specs.Faces.{number, item, Face, nothing, scalar, numbers}
+use Rattle.pres.specs.Offers.{packed, face_of, type_faces, exception, request_of, answer_of, reply_of, gotten}
 
 -- the nodes of elements: those that stand together make none
 abbrev pub kept : Option Kind → List Face → List Face
@@ -48,29 +48,29 @@ made_in_types fs (s ∷ ss) = made fs s ++ made_in_types (fs ++ face_of fs s ∷
 -- those of exceptions
 abbrev pub made_raised : List Face → List Raise → List Face
 made_raised fs [] = []
-made_raised fs (r ∷ rs) = made_inside fs (aoi.members r.members) ++ members (parts_of fs (aoi.members r.members)) ∷ made_raised fs rs
+made_raised fs (r ∷ rs) = made fs (exception r) ++ made_raised fs rs
 
--- those of an answer
+-- those of a request: its parameters, and itself
+abbrev pub made_request : List Face → Operation → List Face
+made_request fs op = made_inside fs (aoi.members op.ins) ++ request_of fs op ∷ []
+
+-- those of an answer: the result, the parameters out, and itself
 abbrev pub made_answer : List Face → Operation → List Face
-made_answer fs op = made fs (aoi.seen op.result) ++ made_inside fs (aoi.members op.outs) ++ answer_of fs op ∷ []
+made_answer fs op = (made fs (aoi.seen op.result) ++ made_inside fs (aoi.members op.outs)) ++ answer_of fs op ∷ []
 
--- those of an operation: its parameters, its request, its answer, its exceptions, its reply
-abbrev pub made_by : List Face → Operation → List Face
-made_by fs op = made_inside fs (aoi.members op.ins) ++ request_of fs op ∷ made_answer fs op ++ made_raised fs op.raises ++ reply_of fs op ∷ []
+-- those of a reply: the answer, the exceptions, and itself
+abbrev pub made_reply : List Face → Operation → List Face
+made_reply fs op = (made_answer fs op ++ made_raised fs op.raises) ++ reply_of fs op ∷ []
 
 -- those of operations
-abbrev pub made_by_all : List Face → List Operation → List Face
-made_by_all fs [] = []
-made_by_all fs (op ∷ ops) = made_by fs op ++ made_by_all fs ops
-
--- those of procedure 0
-abbrev pub made_by_null : List Face
-made_by_null = values no_parts ∷ nothing ∷ null_answer ∷ null_reply ∷ []
+abbrev pub made_by : List Face → List Operation → List Face
+made_by fs [] = []
+made_by fs (op ∷ ops) = (made_request fs op ++ made_reply fs op) ++ made_by fs ops
 
 -- those of interfaces
 abbrev pub made_in_interfaces : List Face → Back → List Interface → List Face
 made_in_interfaces fs b [] = []
-made_in_interfaces fs b (i ∷ is) = made_by_all fs i.ops ++ (if gets_null b i then made_by_null else []) ++ made_in_interfaces fs b is
+made_in_interfaces fs b (i ∷ is) = (made_by fs i.ops ++ made_by fs (gotten b i)) ++ made_in_interfaces fs b is
 
 -- those of a unit
 unfoldable pub all_made : UnitParts → Back → List Face

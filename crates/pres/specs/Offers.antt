@@ -10,6 +10,7 @@ use Rattle.wire_def.specs.declared.encoding.Back.TheVariants as back
 use Rattle.aoi.specs.declared.interfaces.Interface.{Interface}
 use Rattle.aoi.specs.declared.interfaces.Operation.{Operation}
 use Rattle.aoi.specs.declared.interfaces.Raise.{Raise}
+use Rattle.aoi.specs.declared.types.Ty.{Void}
 use Rattle.aoi.specs.Shapes as aoi
 use Rattle.aoi.specs.Units.{Parts as UnitParts}
 use Rattle.pres.specs.declared.ops.Op.{Op}
@@ -81,10 +82,14 @@ unnamed (part n f ps) = part [] f (unnamed ps)
 abbrev pub parameters : List Face → aoi.Members → Parts
 parameters fs ms = unnamed (parts_of fs ms)
 
+-- an exception, which is a struct
+abbrev pub exception : Raise → aoi.Shape
+exception r = aoi.structure (aoi.members r.members)
+
 -- exceptions, by numbers from k up
 abbrev pub raised : List Face → ℕ → List Raise → Arms
 raised fs k [] = no_other
-raised fs k (r ∷ rs) = arm (pos k) (members (parts_of fs (aoi.members r.members))) (raised fs (suc k) rs)
+raised fs k (r ∷ rs) = arm (pos k) (face_of fs (exception r)) (raised fs (suc k) rs)
 
 -- what goes in
 abbrev pub request_of : List Face → Operation → Face
@@ -123,29 +128,26 @@ is_answered b op = is_cdr b || not op.oneway
 abbrev pub offer : List Face → Back → ℕ → Operation → Offer
 offer fs b k op = record { interface = k; name = op.name; request = request_of fs op; reply = reply_of fs op; has_reply = is_answered b op }
 
--- the answer of procedure 0
-abbrev pub null_answer : Face
-null_answer = values (part [] nothing no_parts)
-
-abbrev pub null_reply : Face
-null_reply = choice (number kind.U32) (arm (pos 0) null_answer no_other)
-
 -- procedure 0, which takes nothing and answers nothing
-abbrev pub null_offer : ℕ → Offer
-null_offer k = record { interface = k; name = 48 ∷ []; request = values no_parts; reply = null_reply; has_reply = true }
+abbrev pub null_operation : Operation
+null_operation = record { name = 48 ∷ []; proc_no = 0; slot = 0; ins = []; outs = []; result = Void; raises = []; oneway = false }
 
 -- over Xdr an interface without procedure 0 gets one
 abbrev pub gets_null : Back → Interface → Bool
 gets_null b i = is_xdr b && not (list_any (λ (op : Operation). op.proc_no == 0) i.ops)
 
--- the operations of an interface, and the one that it gets
-abbrev pub offers_of : List Face → Back → ℕ → Interface → List Offer
-offers_of fs b k i = map (offer fs b k) i.ops ++ (if gets_null b i then null_offer k ∷ [] else [])
+-- the operation that an interface gets
+abbrev pub gotten : Back → Interface → List Operation
+gotten b i = if gets_null b i then null_operation ∷ [] else []
 
--- those of interfaces, counted from k
+-- the operations of an interface, and the one that it gets
+abbrev pub operations : Back → Interface → List Operation
+operations b i = i.ops ++ gotten b i
+
+-- the operations of interfaces, counted from k
 abbrev pub offers_from : List Face → Back → ℕ → List Interface → List Offer
 offers_from fs b k [] = []
-offers_from fs b k (i ∷ is) = offers_of fs b k i ++ offers_from fs b (suc k) is
+offers_from fs b k (i ∷ is) = map (offer fs b k) (operations b i) ++ offers_from fs b (suc k) is
 
 -- the operations that a back end has messages for
 abbrev pub offers : UnitParts → Back → List Offer

@@ -84,7 +84,7 @@ impl Draft {
     }
 
     #[cycle(draw)]
-    fn draw_struct(&mut self, alloc: Global, fields: &[Field]) -> Result<NodeId, BindErr>
+    pub(crate) fn draw_struct(&mut self, alloc: Global, fields: &[Field]) -> Result<NodeId, BindErr>
         requires { IsTrue (is_drawable (length (known self.old)) (structure (members fields.now))) }
         ensures grows { OnOk result (Grows self.old self.new (made (known self.old) (structure (members fields.now)))) }
         ensures id { IfOk result (λ id. IsDrawn self.new id (face_of (known self.old) (structure (members fields.now)))) }

@@ -5,11 +5,14 @@ mod bound;
 mod draft;
 mod drawing;
 mod errors;
+mod messages;
 mod naming;
 mod ops;
 mod scalars;
 mod shape;
+mod sizes;
 mod sorting;
+mod units;
 
 pub use bound::Bound;
 pub use errors::BindErr;
