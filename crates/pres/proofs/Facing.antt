@@ -41,7 +41,7 @@ group_agree k fs gs ids (FieldNames names) same below = ap members (parts_agree 
 group_agree k fs gs ids (LabelNames items) same below = ap values (parts_agree k fs gs [] ids same below)
 
 -- a level sees only the children
-level_agree : (k : ℕ) (fs gs : List Face) (n : Node) (s : Shape) → AgreeBelow k fs gs → HasChildrenBelow k n → level fs n s ≡ level gs n s
+pub level_agree : (k : ℕ) (fs gs : List Face) (n : Node) (s : Shape) → AgreeBelow k fs gs → HasChildrenBelow k n → level fs n s ≡ level gs n s
 level_agree k fs gs node.Void s same below = refl
 level_agree k fs gs (node.Num x) s same below = refl
 level_agree k fs gs (node.Enum x) s same below = refl
@@ -114,7 +114,7 @@ tag_type (tag.Enum labels) Plain named = absurd named
 tag_type (tag.Enum labels) (FieldNames names) named = absurd named
 tag_type (tag.Enum labels) (LabelNames items) named = ap mint.label (sym named.labels)
 
-level_type : (fs : List Face) (n : Node) (s : Shape) → IsNamed n s → type_of (level fs n s) ≡ mint.level (map type_of fs) n
+pub level_type : (fs : List Face) (n : Node) (s : Shape) → IsNamed n s → type_of (level fs n s) ≡ mint.level (map type_of fs) n
 level_type fs node.Void s named = refl
 level_type fs (node.Num x) s named = refl
 level_type fs (node.Enum labels) s named = ap scalar_type (tag_type (tag.Enum labels) s named)

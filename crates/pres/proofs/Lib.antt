@@ -5,3 +5,7 @@ pub mod Drawn
 pub mod Exchange
 pub mod Whole
 pub mod Measures
+pub mod Rises
+pub mod Soundly
+pub mod SoundUnit
+pub mod Tabling

@@ -28,7 +28,7 @@ beside_sized d n e m =
     let b : min (min n 65537 + min m 65537) 65537 ≡ min (n + m) 65537 = omega arith in
     rw (a, b) refl
 
-at_take : (fs : List Face) (k i : ℕ) → i < k → at (take k fs) i ≡ at fs i
+pub at_take : (fs : List Face) (k i : ℕ) → i < k → at (take k fs) i ≡ at fs i
 at_take fs zero i h = absurd (omega arith)
 at_take [] (suc k) i h = refl
 at_take (f ∷ fs) (suc k) zero h = refl

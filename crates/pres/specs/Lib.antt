@@ -7,3 +7,4 @@ pub mod Faults
 pub mod Drafts
 pub mod Rising
 pub mod Sizes
+pub mod Regular

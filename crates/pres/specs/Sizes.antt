@@ -1,8 +1,10 @@
 -- How deep faces are, and over how many nodes they spread, up to one more than is allowed.
-use Rattle.std.specs.Prelude.{Bool, ◌||◌, nat_lt, ℕ, suc, ◌+◌, min, max, List, [], ◌∷◌, map, slice_index_or, Option, None, Some, ℤ}
+use Rattle.std.specs.Prelude.{Bool, ◌||◌, nat_lt, ℕ, suc, ◌+◌, min, max, List, [], ◌∷◌, map, slice_index_or, sum_by, Option, None, Some, ℤ}
+use Rattle.std.specs.List.{list_any}
 use Rattle.mint.specs.Blank.{depth, fields_depth, arms_depth}
 use Rattle.mint.specs.declared.node.Node.{Node}
 use Rattle.mint.specs.declared.node.Node.TheVariants as node
+use Rattle.pres.specs.declared.ops.Op.{Op}
 use Rattle.pres.specs.declared.sizes.Size.{Size}
 use Rattle.pres.specs.Faces.{Face, Parts, Arms, type_of, types_of, arm_types_of}
 use Rattle.pres.specs.Faults.{spread, spread_inside, spread_behind}
@@ -53,3 +55,11 @@ size_at sizes (node.Items i c) = over (at sizes i)
 size_at sizes (node.Choice t arms o) = over (behind_at sizes arms o)
 size_at sizes (node.Maybe i) = over (at sizes i)
 size_at sizes _ = sized 1 1
+
+-- the nodes of an operation's messages, each up to the limit
+abbrev pub nodes_of : List Size → Op → ℕ
+nodes_of sizes o = (at sizes o.request).nodes + (at sizes o.reply).nodes
+
+-- operations with too many nodes, one of them or all
+abbrev pub is_over : List Size → List Op → Bool
+is_over sizes ops = list_any (λ o. nat_lt 65536 (nodes_of sizes o)) ops || nat_lt 262144 (sum_by (nodes_of sizes) ops)

@@ -1,7 +1,8 @@
 // Nodes of a unit, before they stand in a table.
-ghost use Rattle.std.specs.Prelude.{◌≡◌, ◌<◌, ◌≤◌, [], ◌∷◌, ◌++◌, length, IfOk, IfErr, OnOk, OnErr, Some, slice_get};
+ghost use Rattle.std.specs.Prelude.{map, ◌≡◌, ◌<◌, ◌≤◌, [], ◌∷◌, ◌++◌, length, IfOk, IfErr, OnOk, OnErr, Some, slice_get};
 ghost use Rattle.mint.specs.Types.{HasChildrenBelow};
-ghost use Rattle.pres.specs.Drafts.{Grows, IsDrawn, Overflows, drawn, known};
+ghost use Rattle.pres.specs.declared.draft.Entry.{Entry as EntryRecord};
+ghost use Rattle.pres.specs.Drafts.{IsSketch, Grows, IsDrawn, Overflows, drawn, known};
 ghost use Rattle.pres.specs.Faces.{at, level};
 ghost use Rattle.pres.specs.Named.{IsNamed};
 
@@ -114,5 +115,15 @@ impl Draft {
         ensures few { result ≤ 65536 }
     {
         self.entries.len()
+    }
+
+    /// The nodes with their shapes.
+    pub(crate) fn into_entries(self) -> Vec<Entry>
+        ensures nodes { map (λ (e : EntryRecord). e.node) result.items ≡ self.nodes }
+        ensures shapes { map (λ (e : EntryRecord). e.shape) result.items ≡ self.shapes }
+        ensures sketch { IsSketch self }
+    {
+        let Draft { entries, types: _ } = self;
+        entries
     }
 }

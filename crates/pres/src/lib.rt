@@ -2,9 +2,11 @@
 #![tactic(auto)]
 
 mod bound;
+mod build;
 mod draft;
 mod drawing;
 mod errors;
+mod faults;
 mod messages;
 mod naming;
 mod ops;
