@@ -1,23 +1,22 @@
 -- Requests and replies that are drawn.
-use Rattle.std.proofs.Common.{◌≡◌, IsTrue, Bool, true, false, ℕ, zero, suc, ◌+◌, ◌-◌, ◌<◌, ◌≤◌, ℤ, pos, List, [], ◌∷◌, ◌++◌, map, length, get_or, drop, Option, None, Some, refl, sym, ap, ◌∙◌, subst, length-append, append_assoc, append-nil, arith}
+use Rattle.std.proofs.Common.{◌≡◌, IsTrue, true, ℕ, suc, ◌+◌, ◌<◌, ◌≤◌, ℤ, pos, List, [], ◌∷◌, ◌++◌, map, length, get_or, drop, None, refl, sym, ap, ◌∙◌, subst, length-append, append_assoc, append-nil, arith}
 use Rattle.std.specs.List.{AllByRecursion}
 use Rattle.std.proofs.Math.ListN.{get_or-append}
 use Rattle.std.proofs.Math.Seq.{drop-cons}
 use Rattle.std.proofs.lemmas.List.{map-append}
-use Rattle.mint.specs.Types.{ArmsBelow, IsBelow}
+use Rattle.mint.specs.Types.{ArmsBelow}
 use Rattle.aoi.specs.declared.interfaces.Interface.{Interface}
 use Rattle.aoi.specs.declared.interfaces.Operation.{Operation}
 use Rattle.aoi.specs.declared.interfaces.Raise.{Raise}
 use Rattle.aoi.specs.Shapes as aoi
 use Rattle.wire_def.specs.declared.encoding.Back.{Back}
-use Rattle.pres.specs.declared.errors.BindErr.{BindErr}
 use Rattle.pres.specs.declared.ops.Op.{Op}
-use Rattle.pres.specs.Faces.{Face, nothing, values, Parts, part, Arms, no_other, other, arm, at, parts_at, arms_at}
-use Rattle.pres.specs.Made.{made, made_inside, made_request, made_answer, made_raised, made_reply, made_by}
-use Rattle.pres.specs.Offers.{Offer, face_of, parts_of, unnamed, exception, request_of, answer_of, reply_of, raised, offer, offer_at, gets_null, gotten, null_operation}
-use Rattle.pres.specs.Drafts.{Sketch, drawn, known, Grows, IsDrawn, AreDrawn, AreArms, Overflows, is_drawable, are_drawable, faces_inside, IsDrawableOperation, IsOffered, AreOffered}
-use Rattle.pres.proofs.Drafting.{below_more, drawn_stays}
-use Rattle.pres.proofs.Drawn.{with_end, arms_stay, unnamed_by, grows_twice, overflows_more}
+use Rattle.pres.specs.Faces.{Face, nothing, values, Arms, no_other, other, arm, at, parts_at, arms_at}
+use Rattle.pres.specs.Made.{made, made_request, made_raised, made_reply, made_by}
+use Rattle.pres.specs.Offers.{Offer, face_of, parts_of, unnamed, exception, answer_of, raised, offer, offer_at, gets_null, gotten, null_operation}
+use Rattle.pres.specs.Drafts.{Sketch, drawn, Grows, IsDrawn, AreDrawn, AreArms, is_drawable, faces_inside, IsDrawableOperation, IsOffered, AreOffered}
+use Rattle.pres.proofs.Drafting.{drawn_stays}
+use Rattle.pres.proofs.Drawn.{with_end, arms_stay, unnamed_by}
 
 -- ---- an answer
 
@@ -78,10 +77,10 @@ raise_arms fs rs i r mid new more arms arms' n id all lt is g d n_is arms_are so
     let cut : raised fs (1 + i) (drop i rs) ≡ arm (pos (1 + i)) (face_of fs (exception r)) rest = ap (raised fs (1 + i)) (cut_raises rs i r lt is) ∙ ap (λ k. arm (pos (1 + i)) (face_of fs (exception r)) (raised fs k (drop (i + 1) rs))) next in
     let old : with_end (arms_at (drawn mid) arms None) (arm (pos (1 + i)) (face_of fs (exception r)) rest) ≡ all = ap (with_end (arms_at (drawn mid) arms None)) (sym cut) ∙ so.are in
     let grown : arms_at (drawn new) arms' None ≡ with_end (arms_at (drawn mid) arms None) (arm (pos (1 + i)) (face_of fs (exception r)) no_other) =
-      ap (λ z. arms_at (drawn new) z None) arms_are ∙ arms_at-push (drawn new) arms (n, id)
-      ∙ ap (λ z. with_end z (arm n (at (drawn new) id) no_other)) still.are
-      ∙ ap (λ z. with_end (arms_at (drawn mid) arms None) (arm n z no_other)) d.is
-      ∙ ap (λ z. with_end (arms_at (drawn mid) arms None) (arm z (face_of fs (exception r)) no_other)) n_is in
+    ap (λ z. arms_at (drawn new) z None) arms_are ∙ arms_at-push (drawn new) arms (n, id)
+    ∙ ap (λ z. with_end z (arm n (at (drawn new) id) no_other)) still.are
+    ∙ ap (λ z. with_end (arms_at (drawn mid) arms None) (arm n z no_other)) d.is
+    ∙ ap (λ z. with_end (arms_at (drawn mid) arms None) (arm z (face_of fs (exception r)) no_other)) n_is in
     record {
       below = subst (ArmsBelow (length (drawn new))) (sym arms_are) (arms_below_push (length (drawn new)) arms (n, id) still.below d.below);
       are = ap (λ z. with_end z rest) grown ∙ with_one (arms_at (drawn mid) arms None) (pos (1 + i)) (face_of fs (exception r)) rest ∙ old;
@@ -143,10 +142,10 @@ listed_stay mid new more os rest all g l =
 
 pub listed_push : (s : Sketch) (os os' : List Op) (o : Op) (f : Offer) (rest all : List Offer) → os' ≡ os ++ o ∷ [] → IsOffered s o f → AreListed s os (f ∷ rest) all → AreListed s os' rest all
 listed_push s os os' o f rest all is d l = record {
-    placed = subst (AllByRecursion (λ (o : Op). (o.request < length (drawn s)) × (o.reply < length (drawn s)))) (sym is) (placed_push (length (drawn s)) os o l.placed d.request d.reply);
-    are = ap (λ z. map (offer_at (drawn s)) z ++ rest) is ∙ ap (λ z. z ++ rest) (map-append (offer_at (drawn s)) os (o ∷ []))
+  placed = subst (AllByRecursion (λ (o : Op). (o.request < length (drawn s)) × (o.reply < length (drawn s)))) (sym is) (placed_push (length (drawn s)) os o l.placed d.request d.reply);
+  are = ap (λ z. map (offer_at (drawn s)) z ++ rest) is ∙ ap (λ z. z ++ rest) (map-append (offer_at (drawn s)) os (o ∷ []))
       ∙ append_assoc (map (offer_at (drawn s)) os) (offer_at (drawn s) o ∷ []) rest ∙ ap (λ z. map (offer_at (drawn s)) os ++ z ∷ rest) d.is ∙ l.are;
-  }
+}
 
 pub op_listed : (fs : List Face) (b : Back) (k : ℕ) (ops : List Operation) (i : ℕ) (op : Operation) (mid new : Sketch) (more : List Face) (os os' : List Op) (o : Op) (all : List Offer) → i < length ops → op ≡ get_or ops i op
     → Grows mid new more → IsOffered new o (offer fs b k op) → os' ≡ os ++ o ∷ []

@@ -9,3 +9,4 @@ pub mod Rises
 pub mod Soundly
 pub mod SoundUnit
 pub mod Tabling
+pub mod Faulty

@@ -1,17 +1,15 @@
 -- Sizes up to a limit are those of faces.
-use Rattle.std.proofs.Common.{◌≡◌, ℕ, zero, suc, ◌+◌, ◌<◌, ◌≤◌, min, max, ℤ, List, [], ◌∷◌, ◌++◌, map, take, length, get_or, Option, None, Some, refl, sym, ap, ◌∙◌, subst, arith}
-use Rattle.std.specs.List.{AllByRecursion}
+use Rattle.std.proofs.Common.{◌≡◌, ℕ, zero, suc, ◌+◌, ◌<◌, min, max, ℤ, List, [], ◌∷◌, ◌++◌, map, take, length, Option, None, Some, refl, sym, ap, ◌∙◌, arith}
 use Rattle.std.proofs.Math.ListN.{get_or-map}
 use Rattle.std.proofs.lemmas.List.{map_more}
 use Rattle.mint.specs.Blank.{depth, fields_depth, arms_depth}
-use Rattle.mint.specs.declared.node.Tag.{Tag}
 use Rattle.mint.specs.declared.node.Node.{Node}
 use Rattle.mint.specs.declared.node.Node.TheVariants as node
 use Rattle.mint.specs.Types.{AreBelow, ArmsBelow, IsBelow, HasChildrenBelow}
 use Rattle.pres.specs.declared.sizes.Size.{Size}
 use Rattle.pres.specs.declared.shape.Shape.{Shape}
 use Rattle.pres.specs.declared.shape.Shape.TheVariants.{Plain, FieldNames, LabelNames}
-use Rattle.pres.specs.Faces.{Face, nothing, Parts, Arms, at, parts_at, other_at, arms_at, group_face, level, type_of, types_of, arm_types_of}
+use Rattle.pres.specs.Faces.{Face, nothing, at, parts_at, arms_at, group_face, level, type_of, types_of, arm_types_of}
 use Rattle.pres.specs.Faults.{spread, spread_inside, spread_behind}
 use Rattle.pres.specs.Sizes as sizes
 use Rattle.pres.specs.Sizes.{sized, size_of, size_inside, size_behind, beside, over, inside_at, behind_at, size_at}

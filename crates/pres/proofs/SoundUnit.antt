@@ -1,6 +1,5 @@
 -- A sound unit can be drawn, and its nodes are regular.
-use Rattle.std.proofs.Common.{◌≡◌, IsTrue, Bool, true, false, not, ◌&&◌, ◌==◌, ℕ, zero, suc, ◌+◌, ◌-◌, ◌^◌, ◌<◌, ◌≤◌, ℤ, pos, List, [], ◌∷◌, ◌++◌, length, map, take, nat_lt, nat_le, if◌then◌else◌, Option, None, Some, refl, sym, ap, ◌∙◌, subst, arith, rules, true≢false, length-append, slice_index_or, ◌⊎◌, inl, inr}
-use Rattle.std.specs.Prelude.{int_lt}
+use Rattle.std.proofs.Common.{◌≡◌, IsTrue, Bool, true, false, not, ◌&&◌, ◌==◌, ℕ, suc, ◌+◌, ◌-◌, ◌^◌, ◌<◌, ◌≤◌, ℤ, pos, List, [], ◌∷◌, ◌++◌, length, map, nat_lt, nat_le, if◌then◌else◌, Some, refl, sym, ap, ◌∙◌, subst, arith, rules, length-append, slice_index_or, ◌⊎◌, inl, inr}
 use Rattle.std.specs.List.{list_all, AllByRecursion}
 use Rattle.std.proofs.Math.ListN.{get_or-append}
 use Rattle.std.proofs.Math.Seq.{get_or-append_seam, take-length}
@@ -8,22 +7,20 @@ use Rattle.std.proofs.lemmas.Bool.{ltb-true, ltb-false, lt-ltb, le-leb, leb-true
 use Rattle.std.proofs.lemmas.List.{length-map, take-append-le}
 use Rattle.mint.specs.declared.kind.Kind.TheVariants as kind
 use Rattle.mint.specs.Kinds.{in_range}
-use Rattle.mint.specs.Typed.{is_scalar}
 use Rattle.mint.specs.Blank.{blank}
 use Rattle.mint.specs.Values.{weight}
-use Rattle.mint.specs.Types as mint
 use Rattle.mint.specs.Sound.{arm_numbers, rise_from}
 use Rattle.wire_def.specs.declared.encoding.Back.{Back}
-use Rattle.aoi.specs.declared.types.Ty.{Ty, Void, the_lemmas}
+use Rattle.aoi.specs.declared.types.Ty.{Void, the_lemmas}
 use Rattle.aoi.specs.declared.interfaces.Interface.{Interface}
 use Rattle.aoi.specs.declared.interfaces.Operation.{Operation}
 use Rattle.aoi.specs.declared.interfaces.Raise.{Raise}
 use Rattle.aoi.specs.Shapes as aoi
 use Rattle.aoi.specs.Units.{Parts as UnitParts}
-use Rattle.aoi.specs.Sound.{are_distinct, count_different, names_of, has_member, unfolded, is_sound_enum, is_sound_union, is_some_count, or_void, is_sound_type, are_sound, are_sound_arms, are_sound_types, is_sound_raise, is_sound_operation, is_sound_interface, is_sound}
-use Rattle.pres.specs.Faces.{Face, nothing, number, members, values, choice, Arms, arm, at, type_of, arm_types_of}
+use Rattle.aoi.specs.Sound.{are_distinct, count_different, names_of, has_member, unfolded, is_sound_union, is_some_count, or_void, is_sound_type, are_sound, are_sound_arms, are_sound_types, is_sound_raise, is_sound_operation, is_sound_interface, is_sound}
+use Rattle.pres.specs.Faces.{Face, nothing, type_of, arm_types_of}
 use Rattle.pres.specs.Made.{made, made_inside, made_in_types, made_raised, made_request, made_answer, made_reply, made_by, made_in_interfaces, all_made}
-use Rattle.pres.specs.Offers.{face_of, faces_of, type_faces, exception, raised, request_of, answer_of, reply_of, null_operation, gets_null, gotten}
+use Rattle.pres.specs.Offers.{face_of, faces_of, type_faces, exception, raised, reply_of, null_operation, gets_null, gotten}
 use Rattle.pres.specs.Drafts.{is_drawable, are_drawable, arms_drawable, AreDrawable, IsDrawableOperation, IsDrawableInterface, IsDrawableUnit}
 use Rattle.pres.specs.Regular.{IsRegular, AreRegular}
 use Rattle.pres.proofs.Drawn.{both}
@@ -112,11 +109,11 @@ raises_drawable ss (r ∷ rs) h =
 
 operation_drawable : (ss : List aoi.Shape) (op : Operation) → IsSoundOperation ss op → IsDrawableOperation (length ss) op
 operation_drawable ss op s = record {
-    ins = all_drawable ss (length ss) (aoi.members op.ins) s.ins;
-    outs = all_drawable ss (length ss) (aoi.members op.outs) s.outs;
-    result = or_drawable ss (length ss) (aoi.seen op.result) s.result (drawable ss (length ss) (aoi.seen op.result));
-    raises = raises_drawable ss op.raises s.raises;
-  }
+  ins = all_drawable ss (length ss) (aoi.members op.ins) s.ins;
+  outs = all_drawable ss (length ss) (aoi.members op.outs) s.outs;
+  result = or_drawable ss (length ss) (aoi.seen op.result) s.result (drawable ss (length ss) (aoi.seen op.result));
+  raises = raises_drawable ss op.raises s.raises;
+}
 
 operations_drawable : (ss : List aoi.Shape) (slots : ℕ) (ops : List Operation) → list_all (is_sound_operation ss slots) ops ≡ true → AllByRecursion (IsDrawableOperation (length ss)) ops
 operations_drawable ss slots [] h = tt
@@ -146,22 +143,22 @@ unit_drawable u h =
 -- one more type that stands
 stand_on : (ss : List aoi.Shape) (fs : List Face) (l : ℕ) (s : aoi.Shape) → l ≡ length fs → Standing ss fs l → slice_index_or ss l aoi.void ≡ s → is_sound_type ss l s ≡ true → Standing ss (fs ++ face_of fs s ∷ []) (suc l)
 stand_on ss fs l s long st is h = record {
-    sound = λ k lt. elim (last k lt) [ inl less ↦ st.sound k less | inr same ↦ rw (same, is) h ];
-    named = λ k lt. elim (last k lt) [
-      inl less ↦ get_or-append fs (face_of fs s ∷ []) nothing k (omega (arith, less, long)) ∙ st.named k less ∙ ap (λ z. face_of z (slice_index_or ss k aoi.void)) (sym (take-append-le k fs (face_of fs s ∷ []) (omega (arith, less, long))))
-      | inr same ↦ rw (same, is, long) (get_or-append_seam fs (face_of fs s) [] nothing ∙ ap (λ z. face_of z s) (sym (take-append-le (length fs) fs (face_of fs s ∷ []) (omega arith) ∙ take-length fs)))
-      ];
-    weigh = λ k lt. elim (last k lt) [
-      inl less ↦ subst (λ f. 1 ≤ weight (blank (type_of f))) (sym (get_or-append fs (face_of fs s ∷ []) nothing k (omega (arith, less, long)))) (st.weigh k less)
-      | inr same ↦ rw (same, long) (subst (λ f. 1 ≤ weight (blank (type_of f))) (sym (get_or-append_seam fs (face_of fs s) [] nothing)) (made_weighs ss fs l s st h))
-      ];
-  }
+  sound = λ k lt. elim (last k lt) [ inl less ↦ st.sound k less | inr same ↦ rw (same, is) h ];
+  named = λ k lt. elim (last k lt) [
+    | inl less ↦ get_or-append fs (face_of fs s ∷ []) nothing k (omega (arith, less, long)) ∙ st.named k less ∙ ap (λ z. face_of z (slice_index_or ss k aoi.void)) (sym (take-append-le k fs (face_of fs s ∷ []) (omega (arith, less, long))))
+    | inr same ↦ rw (same, is, long) (get_or-append_seam fs (face_of fs s) [] nothing ∙ ap (λ z. face_of z s) (sym (take-append-le (length fs) fs (face_of fs s ∷ []) (omega arith) ∙ take-length fs)))
+  ];
+  weigh = λ k lt. elim (last k lt) [
+    | inl less ↦ subst (λ f. 1 ≤ weight (blank (type_of f))) (sym (get_or-append fs (face_of fs s ∷ []) nothing k (omega (arith, less, long)))) (st.weigh k less)
+    | inr same ↦ rw (same, long) (subst (λ f. 1 ≤ weight (blank (type_of f))) (sym (get_or-append_seam fs (face_of fs s) [] nothing)) (made_weighs ss fs l s st h))
+  ];
+}
   where
-  last : (k : ℕ) → k < suc l → (k < l) ⊎ (k ≡ l)
-  last k lt = by (nat_lt k l) refl where
-    by : (b : Bool) → nat_lt k l ≡ b → (k < l) ⊎ (k ≡ l)
-    by true e = inl (ltb-true k l e)
-    by false e = inr (omega (arith, lt, ltb-false k l e))
+    last : (k : ℕ) → k < suc l → (k < l) ⊎ (k ≡ l)
+    last k lt = by (nat_lt k l) refl where
+      by : (b : Bool) → nat_lt k l ≡ b → (k < l) ⊎ (k ≡ l)
+      by true e = inl (ltb-true k l e)
+      by false e = inr (omega (arith, lt, ltb-false k l e))
 
 types_regular : (ss : List aoi.Shape) (fs : List Face) (l : ℕ) (rest : List aoi.Shape) → l ≡ length fs → Standing ss fs l → ((k : ℕ) → slice_index_or rest k aoi.void ≡ slice_index_or ss (l + k) aoi.void) → are_sound_types ss l rest ≡ true
     → AreRegular (made_in_types fs rest) × Standing ss (faces_of fs rest) (l + length rest)
@@ -173,7 +170,7 @@ types_regular ss fs l (s ∷ rest) long st same h =
     let is : slice_index_or ss l aoi.void ≡ s = sym (rw zero_more at (same 0)) in
     let longer : suc l ≡ length (fs ++ face_of fs s ∷ []) = omega (arith, long, length-append fs (face_of fs s ∷ [])) in
     let on = types_regular ss (fs ++ face_of fs s ∷ []) (suc l) rest longer (stand_on ss fs l s long st is p.0)
-        (λ k. let shift : suc l + k ≡ l + suc k = omega arith in rw shift (same (suc k))) (rw next at p.1) in
+    (λ k. let shift : suc l + k ≡ l + suc k = omega arith in rw shift (same (suc k))) (rw next at p.1) in
     let shift : suc l + length rest ≡ l + suc (length rest) = omega arith in
     (regular_both (made fs s) _ (made_regular ss fs l s st p.0) on.0, rw (← shift) on.1)
 

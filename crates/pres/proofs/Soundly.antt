@@ -1,9 +1,9 @@
 -- The nodes that sound types make are regular, and their blank values weigh something.
-use Rattle.std.proofs.Common.{◌≡◌, IsTrue, Bool, true, false, cond, not, ◌&&◌, ◌||◌, ◌==◌, ℕ, zero, suc, ◌+◌, ◌*◌, ◌<◌, ◌≤◌, ℤ, pos, negsuc, List, [], ◌∷◌, ◌++◌, length, map, take, nat_lt, nat_le, nat_eq, if◌then◌else◌, Option, None, Some, refl, sym, ap, ◌∙◌, subst, arith, true≢false, slice_index_or}
+use Rattle.std.proofs.Common.{◌≡◌, Bool, true, false, not, ◌&&◌, ◌==◌, ℕ, zero, suc, ◌<◌, ◌≤◌, ℤ, List, [], ◌∷◌, ◌++◌, length, map, take, nat_lt, nat_le, nat_eq, if◌then◌else◌, Option, None, Some, refl, sym, ap, ◌∙◌, subst, arith, true≢false, slice_index_or}
 use Rattle.std.specs.Prelude.{int_lt}
-use Rattle.std.specs.List.{list_all, list_any, AllByRecursion}
+use Rattle.std.specs.List.{list_all, list_any}
 use Rattle.std.specs.Ordering.{int_eq}
-use Rattle.std.proofs.lemmas.Bool.{ltb-true, lt-ltb, le-ltb, ne_eqb, le-leb, leb-true}
+use Rattle.std.proofs.lemmas.Bool.{ltb-true, lt-ltb, ne_eqb, le-leb, leb-true}
 use Rattle.std.proofs.lemmas.List.{take-take}
 use Rattle.mint.specs.declared.kind.Kind.{Kind}
 use Rattle.mint.specs.declared.kind.Kind.TheVariants as kind
@@ -15,12 +15,12 @@ use Rattle.mint.specs.Blank.{blank}
 use Rattle.mint.specs.Values.{weight}
 use Rattle.mint.specs.Types as mint
 use Rattle.mint.specs.Types.{Ty, text, row_of}
-use Rattle.mint.specs.Sound.{is_unfit, is_empty, is_zero, is_mislabelled, is_labelled, are_labels, are_arms, are_tagged, is_armless, arm_numbers, rise_from}
+use Rattle.mint.specs.Sound.{is_zero, is_labelled, are_labels, is_armless, arm_numbers, rise_from}
 use Rattle.aoi.specs.Shapes as aoi
-use Rattle.aoi.specs.Sound.{are_distinct, are_different, count_different, names_of, numbers_of, has_member, has_arm, name_in, followed, unfolded, is_tag, is_of_tag, is_open, is_some_count, is_sound_enum, are_sound_labels, is_sound_union, or_void, is_sound_type, are_sound, are_sound_arms}
-use Rattle.pres.specs.Faces.{ItemList, Sign, number, item, Face, nothing, scalar, numbers, values, members, list, choice, maybe, Parts, no_parts, part, Arms, no_other, other, arm, at, labels_of, scalar_of, type_of, arm_types_of}
+use Rattle.aoi.specs.Sound.{are_distinct, are_different, count_different, names_of, numbers_of, has_member, has_arm, name_in, unfolded, is_tag, is_of_tag, is_open, is_some_count, is_sound_enum, is_sound_union, or_void, is_sound_type, are_sound, are_sound_arms}
+use Rattle.pres.specs.Faces.{ItemList, Sign, number, item, Face, nothing, scalar, numbers, values, members, list, choice, maybe, Arms, no_other, other, arm, at, labels_of, scalar_of, type_of, arm_types_of}
 use Rattle.pres.specs.Made.{kept, made, made_inside, made_behind}
-use Rattle.pres.specs.Offers.{packed, elements_by, elements, sign_in, put_arm, face_of, parts_of, arms_of}
+use Rattle.pres.specs.Offers.{packed, elements_by, elements, sign_in, put_arm, face_of, arms_of}
 use Rattle.pres.specs.Regular.{is_ranged, IsRegular, AreRegular}
 use Rattle.pres.proofs.Drawn.{both}
 use Rattle.pres.proofs.Measures.{at_take}
@@ -48,9 +48,9 @@ enum_labels items sound ranged =
     let b : nat_le (length (labels_of items)) 4096 ≡ true = le-leb _ _ (omega (arith, labels_few items, count)) in
     rw (ranged, a, b, labels_rise items) refl
   where
-  some_items : (items : ItemList) → not (length items == 0) ≡ true → 0 < length items
-  some_items [] h = absurd (true≢false (sym h))
-  some_items (i ∷ items) h = omega arith
+    some_items : (items : ItemList) → not (length items == 0) ≡ true → 0 < length items
+    some_items [] h = absurd (true≢false (sym h))
+    some_items (i ∷ items) h = omega arith
 
 enum_regular : (items : ItemList) → is_sound_enum items ≡ true → IsRegular (type_of (scalar (item items)))
 enum_regular items sound = record { fit = refl; full = refl; labelled = λ r. ap not (enum_labels items sound r) }
@@ -128,7 +128,7 @@ put_arm-numbers n f no_other = refl
 put_arm-numbers n f (other g) = refl
 put_arm-numbers n f (arm m g arms) = by (int_lt n m) refl (put_arm-numbers n f arms) where
   by : (t : Bool) → int_lt n m ≡ t → arm_numbers (arm_types_of (put_arm n f arms)) ≡ put_number n (arm_numbers (arm_types_of arms))
-    → arm_numbers (arm_types_of (put_arm n f (arm m g arms))) ≡ put_number n (arm_numbers (arm_types_of (arm m g arms)))
+      → arm_numbers (arm_types_of (put_arm n f (arm m g arms))) ≡ put_number n (arm_numbers (arm_types_of (arm m g arms)))
   by true e ih = rw e refl
   by false e ih = rw e (ap (λ z. m ∷ z) ih)
 
@@ -211,9 +211,9 @@ choice_regular fs tag arms enums sound =
       fit = refl;
       full = refl;
       labelled = λ r.
-        let labels = tag_labelled tag (arm_types_of (arms_of fs arms)) enums r in
-        let all : list_all (is_scalar (scalar_of (tag_sign tag))) (put_numbers ns) ≡ true = numbers_all _ ns ∙ all_of tag ns w.0 labels y.1 in
-        rw (labels, listed, few, rise, all, there) refl;
+          let labels = tag_labelled tag (arm_types_of (arms_of fs arms)) enums r in
+          let all : list_all (is_scalar (scalar_of (tag_sign tag))) (put_numbers ns) ≡ true = numbers_all _ ns ∙ all_of tag ns w.0 labels y.1 in
+          rw (labels, listed, few, rise, all, there) refl;
     }
 
 -- ---- types

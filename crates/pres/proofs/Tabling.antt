@@ -1,15 +1,15 @@
 -- Nodes that are put into a table, one after another.
-use Rattle.std.proofs.Common.{◌≡◌, ◌≢◌, Bool, true, false, not, ◌&&◌, ◌||◌, ℕ, zero, suc, ◌+◌, ◌<◌, ◌≤◌, ℤ, List, [], ◌∷◌, ◌++◌, map, take, drop, length, nat_lt, nat_le, if◌then◌else◌, Option, None, Some, slice_get, refl, sym, ap, ◌∙◌, subst, length-append, append_assoc, append-nil, arith, true≢false}
-use Rattle.std.specs.List.{list_any, list_all, AllByRecursion}
+use Rattle.std.proofs.Common.{◌≡◌, Bool, true, false, ◌||◌, ℕ, zero, suc, ◌+◌, ◌<◌, ℤ, List, [], ◌∷◌, ◌++◌, map, take, drop, length, nat_lt, nat_le, if◌then◌else◌, Option, None, Some, slice_get, refl, sym, ap, ◌∙◌, length-append, append_assoc, append-nil, arith, true≢false}
+use Rattle.std.specs.List.{list_any, list_all}
 use Rattle.std.proofs.Math.ListN.{drop_of_length-le}
 use Rattle.std.proofs.Math.Seq.{drop-cons}
-use Rattle.std.proofs.lemmas.Bool.{lt-ltb, lt-leb, leb-false}
-use Rattle.std.proofs.lemmas.List.{map_more, length-map}
+use Rattle.std.proofs.lemmas.Bool.{lt-ltb, lt-leb}
+use Rattle.std.proofs.lemmas.List.{map_more}
 use Rattle.mint.specs.declared.node.Node.{Node}
 use Rattle.mint.specs.declared.node.Node.TheVariants as node
 use Rattle.mint.specs.declared.errors.MintErr.{MintErr}
 use Rattle.mint.specs.declared.errors.MintErr.TheVariants as err
-use Rattle.mint.specs.Sound.{is_below, children_below, level_refusal, refusal}
+use Rattle.mint.specs.Sound.{is_below, children_below, refusal}
 use Rattle.mint.specs.Types as mint
 use Rattle.mint.specs.Types.{unfolded, AreBelow, ArmsBelow, IsBelow, HasChildrenBelow}
 use Rattle.mint.proofs.Unfolding.{unfolded-push}
@@ -92,9 +92,10 @@ face_is s m ps e rest is st =
     let k : ℕ = length m in
     let n_is : slice_get s.nodes k ≡ Some e.node = ap (λ z. slice_get z k) (sym st.nodes) ∙ seam_get m e.node (map (λ (e : Entry). e.node) rest) in
     let h_is : slice_get s.shapes k ≡ Some e.shape = ap (λ z. slice_get z k) (sym st.shapes) ∙ ap (slice_get (ps ++ e.shape ∷ map (λ (e : Entry). e.shape) rest)) st.step ∙ seam_get ps e.shape (map (λ (e : Entry). e.shape) rest) in
-    let below : HasChildrenBelow k e.node = is.table k e.node n_is in
-    ((below, named_at s.nodes s.shapes k e.node e.shape is.named n_is h_is),
-     level-at s k e.node e.shape is n_is h_is ∙ level_agree k (drawn s) (take k (drawn s)) e.node e.shape (λ i lt. sym (at_take (drawn s) k i lt)) below)
+    let below : HasChildrenBelow k e.node = is.table k e.node n_is in (
+      (below, named_at s.nodes s.shapes k e.node e.shape is.named n_is h_is),
+      level-at s k e.node e.shape is n_is h_is ∙ level_agree k (drawn s) (take k (drawn s)) e.node e.shape (λ i lt. sym (at_take (drawn s) k i lt)) below,
+    )
 
 tree_is : (s : Sketch) (m : List Node) (ps : List Shape) (e : Entry) (rest : List Entry) → IsSketch s → IsStage s m ps (e ∷ rest) → mint.level (unfolded m) e.node ≡ type_of (at (drawn s) (length m))
 tree_is s m ps e rest is st =
@@ -142,9 +143,9 @@ next_stage s m m' ps ps' e rest is st m_is ps_is =
       shapes = ap (λ z. z ++ map (λ (e : Entry). e.shape) rest) ps_is ∙ append_assoc ps (e.shape ∷ []) (map (λ (e : Entry). e.shape) rest) ∙ st.shapes;
       step = omega (arith, count, count', st.step);
       trees =
-        ap (λ z. map type_of (take z (drawn s))) count ∙ map_more type_of (drawn s) (length m) nothing lt.0
-        ∙ ap (λ z. z ++ type_of (at (drawn s) (length m)) ∷ []) st.trees ∙ ap (λ z. unfolded m ++ z ∷ []) (sym (tree_is s m ps e rest is st))
-        ∙ sym (unfolded-push m e.node) ∙ ap unfolded (sym m_is);
+          ap (λ z. map type_of (take z (drawn s))) count ∙ map_more type_of (drawn s) (length m) nothing lt.0
+          ∙ ap (λ z. z ++ type_of (at (drawn s) (length m)) ∷ []) st.trees ∙ ap (λ z. unfolded m ++ z ∷ []) (sym (tree_is s m ps e rest is st))
+          ∙ sym (unfolded-push m e.node) ∙ ap unfolded (sym m_is);
     }
 
 pub light_on : (fs : List Face) (k k' : ℕ) → k' ≡ k + 1 → k < length fs → list_any is_heavy fs ≡ list_any is_heavy (drop k fs) → is_heavy (at fs k) ≡ false → list_any is_heavy fs ≡ list_any is_heavy (drop k' fs)
@@ -160,8 +161,8 @@ all_light s m ps is st h =
 pub first_stage : (s : Sketch) (es items : List Entry) (m : List Node) (ps : List Shape) → m ≡ [] → ps ≡ [] → items ≡ es → map (λ (e : Entry). e.node) es ≡ s.nodes → map (λ (e : Entry). e.shape) es ≡ s.shapes → IsStage s m ps items
 unfolding unfolded mint.unfolded_from
 first_stage s es items m ps m_is ps_is same ns ss = record {
-    nodes = rw (m_is, same) ns;
-    shapes = rw (ps_is, same) ss;
-    step = rw (m_is, ps_is) refl;
-    trees = rw m_is refl;
-  }
+  nodes = rw (m_is, same) ns;
+  shapes = rw (ps_is, same) ss;
+  step = rw (m_is, ps_is) refl;
+  trees = rw m_is refl;
+}

@@ -1,8 +1,7 @@
 -- The types of a unit, and then its interfaces.
-use Rattle.std.proofs.Common.{◌≡◌, ℕ, zero, suc, ◌+◌, ◌<◌, ◌≤◌, List, [], ◌∷◌, ◌++◌, map, length, refl, sym, ap, ◌∙◌, subst, length-append, arith}
+use Rattle.std.proofs.Common.{◌≡◌, ◌+◌, ◌≤◌, List, [], ◌∷◌, ◌++◌, length, refl, ap, length-append, arith}
 use Rattle.std.proofs.lemmas.List.{length-map}
 use Rattle.wire_def.specs.declared.encoding.Back.{Back}
-use Rattle.aoi.specs.declared.types.Ty.{Ty}
 use Rattle.aoi.specs.Shapes as aoi
 use Rattle.aoi.specs.Units.{Parts as UnitParts}
 use Rattle.pres.specs.Faces.{Face}

@@ -1,5 +1,5 @@
 -- How deep faces are, and over how many nodes they spread, up to one more than is allowed.
-use Rattle.std.specs.Prelude.{Bool, ◌||◌, nat_lt, ℕ, suc, ◌+◌, min, max, List, [], ◌∷◌, map, slice_index_or, sum_by, Option, None, Some, ℤ}
+use Rattle.std.specs.Prelude.{Bool, ◌||◌, nat_lt, ℕ, suc, ◌+◌, min, max, List, [], ◌∷◌, slice_index_or, sum_by, Option, None, Some, ℤ}
 use Rattle.std.specs.List.{list_any}
 use Rattle.mint.specs.Blank.{depth, fields_depth, arms_depth}
 use Rattle.mint.specs.declared.node.Node.{Node}

@@ -9,6 +9,7 @@ ghost use Rattle.mint.specs.declared.errors.MintErr.{MintErr as Refusal};
 ghost use Rattle.mint.specs.declared.errors.MintErr.TheVariants.{Heavy as MintHeavy};
 ghost use Rattle.pres.specs.Drafts.{drawn};
 ghost use Rattle.pres.specs.Faults.{is_deep, is_heavy};
+ghost use Rattle.pres.specs.Named.{AreNamed};
 ghost use Rattle.pres.specs.Regular.{is_ranged, AreRegular};
 
 use crate::draft::{Draft, Entry};
@@ -62,6 +63,7 @@ impl Draft {
         requires shallow { list_any is_deep (drawn self) ≡ false }
         ensures nodes { IfOk result (λ r. r.0 ≡ self.nodes) }
         ensures shapes { IfOk result (λ r. r.1 ≡ self.shapes) }
+        ensures named { IfOk result (λ r. AreNamed r.0 r.1) }
         ensures light { OnOk result (list_any is_heavy (drawn self) ≡ false) }
         ensures cause { IfErr result (λ e. e ≢ BindErr.NoMemory → (e ≡ BindErr.Heavy) × (list_any is_heavy (drawn self) ≡ true)) }
     {

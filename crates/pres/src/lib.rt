@@ -1,6 +1,7 @@
 //! How the data of a program stands for the messages of an interface.
 #![tactic(auto)]
 
+mod binding;
 mod bound;
 mod build;
 mod draft;
@@ -16,6 +17,7 @@ mod sizes;
 mod sorting;
 mod units;
 
+pub use binding::bind;
 pub use bound::Bound;
 pub use errors::BindErr;
 pub use ops::{Op, Ops};

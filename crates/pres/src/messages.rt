@@ -103,7 +103,12 @@ impl Draft {
     }
 
     /// Draws exceptions, and gives the arms of an answer and of them.
-    fn draw_raises(&mut self, alloc: Global, answer: NodeId, raises: &[Raise]) -> Result<Arms, BindErr>
+    fn draw_raises(
+        &mut self,
+        alloc: Global,
+        answer: NodeId,
+        raises: &[Raise],
+    ) -> Result<Arms, BindErr>
         requires answer { answer < length (drawn self.old) }
         requires raises { AllByRecursion (λ r. IsTrue (is_drawable (length (known self.old)) (exception r))) raises.now }
         ensures grows { OnOk result (Grows self.old self.new (made_raised (known self.old) raises.now)) }
@@ -132,7 +137,13 @@ impl Draft {
     }
 
     /// Draws the messages of an operation of the k-th interface.
-    pub(crate) fn draw_operation(&mut self, alloc: Global, back: Back, k: u32, op: &Operation) -> Result<Op, BindErr>
+    pub(crate) fn draw_operation(
+        &mut self,
+        alloc: Global,
+        back: Back,
+        k: u32,
+        op: &Operation,
+    ) -> Result<Op, BindErr>
         requires { IsDrawableOperation (length (known self.old)) op.now }
         ensures grows { OnOk result (Grows self.old self.new (made_request (known self.old) op.now ++ made_reply (known self.old) op.now)) }
         ensures op { IfOk result (λ o. IsOffered self.new o (offer (known self.old) back k op.now)) }
@@ -152,7 +163,14 @@ impl Draft {
     }
 
     /// Draws the messages of operations of the k-th interface.
-    pub(crate) fn draw_operations(&mut self, alloc: Global, back: Back, k: u32, ops: &[Operation], list: &mut Ops) -> Result<(), BindErr>
+    pub(crate) fn draw_operations(
+        &mut self,
+        alloc: Global,
+        back: Back,
+        k: u32,
+        ops: &[Operation],
+        list: &mut Ops,
+    ) -> Result<(), BindErr>
         requires ops { AllByRecursion (IsDrawableOperation (length (known self.old))) ops.now }
         requires offered { AreOffered self.old list.old (map (offer_at (drawn self.old)) list.old) }
         ensures grows { OnOk result (Grows self.old self.new (made_by (known self.old) ops.now)) }

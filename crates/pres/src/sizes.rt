@@ -111,7 +111,8 @@ fn size_at(sizes: &[Size], node: &Node) -> Size
 impl Draft {
     /// The sizes of all nodes.
     pub(crate) fn sizes(&self, alloc: Global) -> Result<Vec<Size>, NoMemory>
-        ensures { IfOk result (λ sizes. sizes.items ≡ map size_of (drawn self.now)) }
+        ensures value { IfOk result (λ sizes. sizes.items ≡ map size_of (drawn self.now)) }
+        ensures few { length (drawn self.now) ≤ 65536 }
     {
         let mut sizes = Vec::new(alloc);
         for id in 0..self.len() {

@@ -16,7 +16,14 @@ use wire_def::Back;
 
 impl Draft {
     /// Draws procedure 0 of the k-th interface, if it gets one.
-    fn draw_gotten(&mut self, alloc: Global, back: Back, k: u32, i: &Interface, list: &mut Ops) -> Result<(), BindErr>
+    fn draw_gotten(
+        &mut self,
+        alloc: Global,
+        back: Back,
+        k: u32,
+        i: &Interface,
+        list: &mut Ops,
+    ) -> Result<(), BindErr>
         requires { AreOffered self.old list.old (map (offer_at (drawn self.old)) list.old) }
         ensures grows { OnOk result (Grows self.old self.new (made_by (known self.old) (gotten back i.now))) }
         ensures offers { OnOk result (AreOffered self.new list.new (map (offer_at (drawn self.old)) list.old ++ map (offer (known self.old) back k) (gotten back i.now))) }
@@ -32,7 +39,14 @@ impl Draft {
     }
 
     /// Draws the messages of the k-th interface.
-    fn draw_interface(&mut self, alloc: Global, back: Back, k: u32, i: &Interface, list: &mut Ops) -> Result<(), BindErr>
+    fn draw_interface(
+        &mut self,
+        alloc: Global,
+        back: Back,
+        k: u32,
+        i: &Interface,
+        list: &mut Ops,
+    ) -> Result<(), BindErr>
         requires ops { IsDrawableInterface (length (known self.old)) i.now }
         requires offered { AreOffered self.old list.old (map (offer_at (drawn self.old)) list.old) }
         ensures grows { OnOk result (Grows self.old self.new (made_by (known self.old) i.now.ops ++ made_by (known self.old) (gotten back i.now))) }
@@ -45,7 +59,12 @@ impl Draft {
     }
 
     /// Draws the messages of interfaces.
-    fn draw_interfaces(&mut self, alloc: Global, back: Back, interfaces: &[Interface]) -> Result<Ops, BindErr>
+    fn draw_interfaces(
+        &mut self,
+        alloc: Global,
+        back: Back,
+        interfaces: &[Interface],
+    ) -> Result<Ops, BindErr>
         requires few { length interfaces.now ≤ 64 }
         requires interfaces { AllByRecursion (IsDrawableInterface (length (known self.old))) interfaces.now }
         ensures grows { OnOk result (Grows self.old self.new (made_in_interfaces (known self.old) back interfaces.now)) }
@@ -76,7 +95,12 @@ impl Draft {
     }
 
     /// Draws the nodes of a unit, and gives its operations.
-    pub(crate) fn draw_unit(&mut self, alloc: Global, unit: &Unit, back: Back) -> Result<Ops, BindErr>
+    pub(crate) fn draw_unit(
+        &mut self,
+        alloc: Global,
+        unit: &Unit,
+        back: Back,
+    ) -> Result<Ops, BindErr>
         requires nodes { drawn self.old ≡ [] }
         requires types { known self.old ≡ [] }
         requires drawable { IsDrawableUnit unit.now }

@@ -1,4 +1,4 @@
-use Rattle.std.proofs.Common.{◌≡◌, drop, nat_lt, length}
+use Rattle.std.proofs.Common.{◌≡◌, drop, nat_lt}
 use Rattle.std.specs.List.{list_any}
 use Rattle.pres.specs.declared.sizes.Size.{Size}
 use Rattle.pres.proofs.faults.is_deep.Given as goal

@@ -1,4 +1,4 @@
-use Rattle.std.proofs.Common.{◌≡◌, drop, nat_lt, length}
+use Rattle.std.proofs.Common.{◌≡◌, drop}
 use Rattle.std.specs.List.{list_any}
 use Rattle.aoi.specs.declared.interfaces.Raise.{Raise}
 use Rattle.pres.specs.Faults.{is_long}

@@ -1,4 +1,4 @@
-use Rattle.std.proofs.Common.{◌≡◌, drop, nat_lt, length}
+use Rattle.std.proofs.Common.{◌≡◌, drop}
 use Rattle.std.specs.List.{list_any}
 use Rattle.pres.specs.Faults.{raises}
 use Rattle.pres.proofs.faults.is_raise_in.Given as goal

@@ -1,23 +1,22 @@
-use Rattle.std.proofs.Common.{◌≡◌, ◌≢◌, ◌∷◌, [], ◌++◌, ◌+◌, refl, sym, ap, ◌∙◌, length, length-append, arith, rules, append-nil, subst, true}
+use Rattle.std.proofs.Common.{◌≡◌, ◌≢◌, ◌∷◌, [], ◌+◌, refl, sym, ap, ◌∙◌, length, length-append, arith, append-nil, true}
 use Rattle.std.specs.List.{list_any}
-use Rattle.std.specs.Vec.Iter.{into_iter_items, into_iter_len}
+use Rattle.std.specs.Vec.Iter.{into_iter_items}
 use Rattle.std.proofs.lemmas.List.{nil_from_length}
 use Rattle.pres.specs.declared.errors.BindErr.TheVariants as err
-use Rattle.pres.specs.Faces.{at}
 use Rattle.pres.specs.Faults.{is_heavy}
 use Rattle.pres.specs.Drafts.{drawn}
 use Rattle.pres.proofs.Drawn.{handed_on}
-use Rattle.pres.proofs.Tabling.{IsStage, within, refusal_is, addable, was_heavy, was_light, heavy_there, next_stage, light_on, all_light, first_stage}
+use Rattle.pres.proofs.Tabling.{within, refusal_is, addable, was_heavy, was_light, heavy_there, next_stage, light_on, all_light, first_stage}
 use Rattle.pres.proofs.draft.Draft.build.Goals as goal
 
 pub loop-entry-init : goal.loop-entry-init
 loop-entry-init c = record {
-    next = tt;
-    finite = tt;
-    long = omega (arith, c.into_iter-entry-iterator.ensures.into_iter_gives.1, ap length c.into_iter-entry-iterator.ensures.into_iter_gives.0, c.into_entries-entry-items.result.ok.0);
-    stage = first_stage c.args.self _ _ _ _ c.new-mint.ensures c.new-pres.ensures c.into_iter-entry-iterator.ensures.into_iter_gives.0 c.into_entries-entry-items.ensures.nodes c.into_entries-entry-items.ensures.shapes;
-    light = rw c.new-mint.ensures refl;
-  }
+  next = tt;
+  finite = tt;
+  long = omega (arith, c.into_iter-entry-iterator.ensures.into_iter_gives.1, ap length c.into_iter-entry-iterator.ensures.into_iter_gives.0, c.into_entries-entry-items.result.ok.0);
+  stage = first_stage c.args.self _ _ _ _ c.new-mint.ensures c.new-pres.ensures c.into_iter-entry-iterator.ensures.into_iter_gives.0 c.into_entries-entry-items.ensures.nodes c.into_entries-entry-items.ensures.shapes;
+  light = rw c.new-mint.ensures refl;
+}
 
 pub add-requires : goal.add-requires
 add-requires c =
@@ -59,6 +58,9 @@ returns-clause-nodes c = sym (append-nil c.loop-entry.mint) ∙ (rw (none_left c
 
 pub returns-clause-shapes : goal.returns-clause-shapes
 returns-clause-shapes c = sym (append-nil c.loop-entry.pres) ∙ (rw (none_left c) at c.loop-entry.invariant.stage).shapes
+
+pub returns-clause-named : goal.returns-clause-named
+returns-clause-named c = rw (returns-clause-nodes c, returns-clause-shapes c) c.into_entries-entry-items.ensures.sketch.named
 
 pub returns-clause-light : goal.returns-clause-light
 returns-clause-light c = all_light c.args.self _ _ c.into_entries-entry-items.ensures.sketch (rw (none_left c) at c.loop-entry.invariant.stage) c.loop-entry.invariant.light

@@ -1,4 +1,4 @@
-use Rattle.std.proofs.Common.{◌≡◌, ◌++◌, ◌∷◌, [], ap, refl, ◌∙◌}
+use Rattle.std.proofs.Common.{◌≡◌, ◌++◌, [], refl, ◌∙◌}
 use Rattle.aoi.specs.Shapes as aoi
 use Rattle.pres.specs.Faces.{values, parts_at}
 use Rattle.pres.specs.Made.{made, made_inside}

@@ -1,6 +1,5 @@
-use Rattle.std.proofs.Common.{◌∙◌, map, ◌++◌}
-use Rattle.pres.specs.Offers.{offer, offer_at}
-use Rattle.pres.specs.Drafts.{drawn, known}
+use Rattle.std.proofs.Common.{◌∙◌}
+use Rattle.pres.specs.Drafts.{known}
 use Rattle.pres.proofs.Exchange.{op_left, op_nodes, op_listed}
 use Rattle.pres.proofs.draft.Draft.draw_operations.Goals as goal
 

@@ -1,11 +1,11 @@
-use Rattle.std.proofs.Common.{◌≡◌, ◌+◌, pos, refl, ap, sym, ◌∙◌, length, drop, arith, FitsSigned, rules, []}
+use Rattle.std.proofs.Common.{◌≡◌, ◌+◌, ap, ◌∙◌, drop, FitsSigned, rules}
 use Rattle.std.specs.Int.{w128}
 use Rattle.std.proofs.lemmas.Int.{to_z-of_z}
 use Rattle.std.proofs.Math.ListN.{drop_of_length-le}
 use Rattle.pres.specs.Faces.{no_other}
 use Rattle.pres.specs.Offers.{raised}
-use Rattle.pres.specs.Drafts.{drawn, known}
-use Rattle.pres.proofs.Exchange.{raise_left, raise_nodes, raise_room, raise_arms, raises_end, AreSoFar}
+use Rattle.pres.specs.Drafts.{known}
+use Rattle.pres.proofs.Exchange.{raise_left, raise_nodes, raise_arms, raises_end}
 use Rattle.pres.proofs.draft.Draft.draw_raises.Goals as goal
 
 pub loop-k-preserved : goal.loop-k-preserved
@@ -30,5 +30,5 @@ loop-k-preserved c =
 pub returns-clause-arms : goal.returns-clause-arms
 returns-clause-arms c =
     let over : raised (known c.args.self.now) (1 + c.loop-k.k) (drop c.loop-k.k c.args.raises.now) ≡ no_other =
-      ap (raised (known c.args.self.now) (1 + c.loop-k.k)) (drop_of_length-le c.args.raises.now c.loop-k-test.false) in
+    ap (raised (known c.args.self.now) (1 + c.loop-k.k)) (drop_of_length-le c.args.raises.now c.loop-k-test.false) in
     raises_end _ _ _ (rw over at c.loop-k.invariant.arms)

@@ -1,4 +1,4 @@
-use Rattle.std.proofs.Common.{◌≡◌, ◌+◌, ◌++◌, IsTrue, pos, length, drop, None}
+use Rattle.std.proofs.Common.{◌≡◌, ◌+◌, ◌++◌, IsTrue, pos, length, drop}
 use Rattle.std.specs.List.{AllByRecursion}
 use Rattle.pres.specs.Faces.{arm, at}
 use Rattle.pres.specs.Made.{made_raised}

@@ -1,4 +1,3 @@
-use Rattle.std.proofs.Common.{ap}
 use Rattle.aoi.specs.Shapes as aoi
 use Rattle.pres.specs.Drafts.{known}
 use Rattle.pres.proofs.Drawn.{values_by, node_behind, drawn_as, on_ok, if_ok}

@@ -1,9 +1,7 @@
-use Rattle.std.proofs.Common.{◌∙◌, ◌++◌, ap, sym, length, subst}
-use Rattle.std.specs.List.{AllByRecursion}
-use Rattle.aoi.specs.Shapes as aoi
-use Rattle.pres.specs.Made.{made_in_types, made_in_interfaces, all_made}
-use Rattle.pres.specs.Drafts.{drawn, known, Grows, IsDrawableInterface, AreOffered}
-use Rattle.pres.proofs.Drawn.{on_ok, if_ok, cause_more, handed_on, overflows_more}
+use Rattle.std.proofs.Common.{◌∙◌, ◌++◌, ap}
+use Rattle.pres.specs.Made.{made_in_interfaces}
+use Rattle.pres.specs.Drafts.{drawn, known, Grows}
+use Rattle.pres.proofs.Drawn.{on_ok, handed_on, overflows_more}
 use Rattle.pres.proofs.Whole.{all_nodes, types_first, all_offers, types_count}
 use Rattle.pres.proofs.draft.Draft.draw_unit.Goals as goal
 
