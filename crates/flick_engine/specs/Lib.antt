@@ -1,0 +1,5 @@
+pub mod Procedures
+pub mod Operations
+pub mod Messages
+pub mod Received
+pub mod Laws
