@@ -11,9 +11,13 @@ use Rattle.flick_engine.specs.declared.procedures.Procedure.{Procedure}
 use Rattle.flick_engine.specs.declared.seek.Naming.{Naming}
 use Rattle.flick_engine.specs.declared.seek.Naming.TheVariants.{Operation as AnOperation, NoInterface, NoOperation}
 
--- the numbers of an interface's procedures, and 0 where it gets procedure 0
+-- the number of the procedure that an interface gets, if it gets one
+abbrev pub added : Interface → List ℕ
+added i = if gets_null back.Xdr i then 0 ∷ [] else []
+
+-- the numbers of an interface's procedures
 abbrev pub numbers : Interface → List ℕ
-numbers i = map (λ (op : Operation). op.proc_no) i.ops ++ (if gets_null back.Xdr i then 0 ∷ [] else [])
+numbers i = map (λ (op : Operation). op.proc_no) i.ops ++ added i
 
 -- the procedures of an interface
 abbrev pub procedures_of : Interface → List Procedure

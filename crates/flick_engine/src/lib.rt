@@ -15,6 +15,3 @@ pub use engine::Engine;
 pub use errors::{MarshalErr, MessageErr};
 pub use laws::messages_are_something;
 pub use requests::Request;
-
-
-

@@ -41,7 +41,14 @@ impl Engine {
         let procedure = self.procedure(op);
         let id = self.request(op);
         let mut body = Octets::new(alloc);
-        plain_send(Encoding::Xdr, self.bound().mint(), id, LEAD, value, &mut body)?;
+        plain_send(
+            Encoding::Xdr,
+            self.bound().mint(),
+            id,
+            LEAD,
+            value,
+            &mut body,
+        )?;
         if body.len() > LONGEST - LEAD {
             return Err(MarshalErr::Long);
         }

@@ -1,7 +1,7 @@
 // The operations of an engine: their procedures, the nodes of their requests, and how calls name them.
-ghost use Rattle.std.specs.Prelude.{◌≡◌, ◌<◌, length};
+ghost use Rattle.std.specs.Prelude.{◌≡◌, ◌<◌, ◌^◌, length};
 ghost use Rattle.mint.specs.Types.{type_at};
-ghost use Rattle.flick_engine.specs.Procedures.{procedure_of, named};
+ghost use Rattle.flick_engine.specs.Procedures.{procedures, procedure_of, named};
 ghost use Rattle.flick_engine.specs.Messages.{request_type};
 ghost use Rattle.flick_engine.specs.Operations.{IsBelow};
 
@@ -12,12 +12,22 @@ use back_xdr::OncCall;
 use mint::table::NodeId;
 
 impl Engine {
+    /// Each operation is a procedure, and they are few. It does nothing.
+    fn operations_are_procedures(&self)
+        ensures many { length (procedures self.now.unit.interfaces) ≡ length self.now.ops }
+        ensures few { length self.now.ops < 2 ^ 32 }
+    {
+        let bound = self.bound();
+        let _ops = bound.ops();
+        bound.unit().interfaces_are_apart();
+    }
+
     /// The procedure that is an operation.
     pub(crate) fn procedure(&self, op: u32) -> Procedure
         requires { op < length self.now.ops }
         ensures { result ≡ procedure_of self.now op }
     {
-        let ops = self.bound().ops();
+        self.operations_are_procedures();
         procedure_at(self.bound().unit().interfaces().as_slice(), op as usize)
     }
 
@@ -38,8 +48,7 @@ impl Engine {
         ensures value { result ≡ named self.now call.now }
         ensures below { IsBelow (length self.now.ops) result }
     {
-        let unit = self.bound().unit();
-        unit.interfaces_are_apart();
-        seek(unit.interfaces().as_slice(), 0, call)
+        self.operations_are_procedures();
+        seek(self.bound().unit().interfaces().as_slice(), 0, call)
     }
 }

@@ -1,6 +1,7 @@
 // The procedures of interfaces.
 ghost use Rattle.std.specs.Prelude.{◌≡◌, ◌+◌, ◌<◌, ◌^◌, ◌==◌, length, slice_get, slice_index, Some};
-ghost use Rattle.std.specs.List.{position_from};
+ghost use Rattle.std.specs.List.{list_any, position_from};
+ghost use Rattle.aoi.specs.declared.interfaces.Operation.{Operation as SpecOperation};
 ghost use Rattle.wire_def.specs.declared.encoding.Back.TheVariants.{Xdr};
 ghost use Rattle.pres.specs.Offers.{gets_null};
 ghost use Rattle.flick_engine.specs.Procedures.{numbers, procedures};
@@ -15,23 +16,25 @@ pub(crate) struct Procedure {
     pub(crate) number: u32,
 }
 
+/// Whether one of the operations has the procedure number.
+fn has_number(ops: &[Operation], number: u32) -> bool
+    ensures { result ≡ list_any (λ (op : SpecOperation). op.proc_no == number) ops.now }
+{
+    ops.iter().any(|op| op.proc_no == number)
+}
+
 /// Whether an interface has no procedure 0 of its own, and so gets one.
 fn gets_null(i: &Interface) -> bool
     ensures { result ≡ gets_null Xdr i.now }
 {
-    for op in i.ops.as_slice() {
-        if op.proc_no == 0 {
-            return false;
-        }
-    }
-    true
+    !has_number(i.ops.as_slice(), 0)
 }
 
 /// How many procedures an interface has.
 pub(crate) fn count(i: &Interface) -> usize
     ensures { result ≡ length (numbers i.now) }
 {
-    let own = i.ops.len();
+    let own = i.ops.as_slice().len();
     if gets_null(i) { own + 1 } else { own }
 }
 
@@ -79,5 +82,9 @@ pub(crate) fn place_of(i: &Interface, first: u32, number: u32) -> Option<u32>
         }
         place += 1;
     }
-    if number == 0 { Some(place) } else { None }
+    if number == 0 && gets_null(i) {
+        Some(place)
+    } else {
+        None
+    }
 }

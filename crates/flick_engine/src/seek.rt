@@ -1,6 +1,6 @@
 // The operation that a call names.
 ghost use Rattle.std.specs.Prelude.{◌≡◌, ◌+◌, ◌<◌, ◌^◌, length};
-ghost use Rattle.flick_engine.specs.Procedures.{procedures, named_from, is_called};
+ghost use Rattle.flick_engine.specs.Procedures.{procedures, named_from, is_called, operation_at};
 
 use crate::procedures::{count, place_of};
 use aoi::Interface;
@@ -23,6 +23,15 @@ fn is_called(call: &OncCall, i: &Interface) -> bool
     call.program == i.program && call.version == i.version
 }
 
+fn operation_at(place: Option<u32>) -> Naming
+    ensures { result ≡ operation_at place }
+{
+    match place {
+        Some(op) => Naming::Operation(op),
+        None => Naming::NoOperation,
+    }
+}
+
 /// The operation that a call names, where those of the interfaces are counted from a number.
 pub(crate) fn seek(interfaces: &[Interface], first: u32, call: &OncCall) -> Naming
     requires { first + length (procedures interfaces.now) < 2 ^ 32 }
@@ -31,10 +40,7 @@ pub(crate) fn seek(interfaces: &[Interface], first: u32, call: &OncCall) -> Nami
     let mut first = first;
     for i in interfaces {
         if is_called(call, i) {
-            return match place_of(i, first, call.proc_no) {
-                Some(op) => Naming::Operation(op),
-                None => Naming::NoOperation,
-            };
+            return operation_at(place_of(i, first, call.proc_no));
         }
         first += count(i) as u32;
     }

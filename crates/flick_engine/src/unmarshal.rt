@@ -19,11 +19,7 @@ use wire_def::Encoding;
 
 impl Engine {
     /// Reads the request of a message.
-    pub fn unmarshal(
-        &self,
-        alloc: Global,
-        view: &mut RecvView<'_>,
-    ) -> Result<Request, MessageErr>
+    pub fn unmarshal(&self, alloc: Global, view: &mut RecvView<'_>) -> Result<Request, MessageErr>
         requires start { view.old.pos ≡ 0 }
         ensures read { Answers self.now view.old.octets result }
         ensures op { IfOk result (λ r. r.op < length self.now.ops) }

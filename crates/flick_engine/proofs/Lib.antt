@@ -1,0 +1,5 @@
+mod Seeking
+mod Counting
+mod Deciding
+mod Existing
+mod Answering
