@@ -13,8 +13,7 @@ use Rattle.pres.specs.Faces.{Face, faces}
 use Rattle.pres.specs.Offers.{gets_null, null_offer, offer, offer_at, offers, offers_of, offers_from, type_faces}
 use Rattle.flick_engine.specs.declared.seek.Naming.{Naming}
 use Rattle.flick_engine.specs.declared.seek.Naming.TheVariants as naming
-use Rattle.flick_engine.specs.Procedures.{added, numbers, procedures_of, procedures, is_called, operation_at, named_from}
-use Rattle.flick_engine.specs.Operations.{IsBelow}
+use Rattle.flick_engine.specs.Procedures.{added, numbers, procedures_of, procedures, is_called, operation_at, named_from, IsBelow}
 
 as_many : {A B : Type 0} (b : Bool) (x : A) (y : B) → length (if b then x ∷ [] else []) ≡ length (if b then y ∷ [] else [])
 as_many true x y = refl

@@ -3,3 +3,4 @@ mod Counting
 mod Deciding
 mod Existing
 mod Answering
+mod Back

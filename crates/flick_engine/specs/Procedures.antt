@@ -1,5 +1,5 @@
 -- How calls name the operations of a unit.
-use Rattle.std.specs.Prelude.{ℕ, ◌+◌, ◌==◌, Bool, ◌&&◌, List, [], ◌∷◌, ◌++◌, map, flat_map, length, slice_index_or, Option, Some, None, if◌then◌else◌}
+use Rattle.std.specs.Prelude.{ℕ, ◌+◌, ◌<◌, ◌==◌, Bool, ◌&&◌, List, [], ◌∷◌, ◌++◌, map, flat_map, length, slice_index_or, Option, Some, None, if◌then◌else◌}
 use Rattle.std.specs.List.{position_from}
 use Rattle.wire_def.specs.declared.encoding.Back.TheVariants as back
 use Rattle.aoi.specs.declared.interfaces.Interface.{Interface}
@@ -9,7 +9,7 @@ use Rattle.pres.specs.Bindings.{Binding}
 use Rattle.pres.specs.Offers.{gets_null}
 use Rattle.flick_engine.specs.declared.procedures.Procedure.{Procedure}
 use Rattle.flick_engine.specs.declared.seek.Naming.{Naming}
-use Rattle.flick_engine.specs.declared.seek.Naming.TheVariants.{Operation as AnOperation, NoInterface, NoOperation}
+use Rattle.flick_engine.specs.declared.seek.Naming.TheVariants.{Operation as one, NoInterface, NoOperation}
 
 -- the number of the procedure that an interface gets, if it gets one
 abbrev pub added : Interface → List ℕ
@@ -39,7 +39,7 @@ is_called c i = c.program == i.program && c.version == i.version
 
 abbrev pub operation_at : Option ℕ → Naming
 operation_at None = NoOperation
-operation_at (Some op) = AnOperation op
+operation_at (Some op) = one op
 
 -- the first interface that is called, and its first operation with the call's procedure number, where the operations of the interfaces are counted from k
 abbrev pub named_from : ℕ → List Interface → OncCall → Naming
@@ -49,3 +49,8 @@ named_from k (i ∷ is) c = if is_called c i then operation_at (position_from (�
 -- the operation that a call names
 abbrev pub named : Binding → OncCall → Naming
 named b c = named_from 0 b.unit.interfaces c
+
+-- an operation that is named is one of so many
+abbrev pub IsBelow : ℕ → Naming → Type 0
+IsBelow n (one op) = op < n
+IsBelow n _ = Unit {0}

@@ -1,8 +1,13 @@
-// Laws of what messages are, as contracts of a function that does nothing.
-ghost use Rattle.flick_engine.specs.Laws.{IsDetermined, IsSomething};
+// The laws of messages, each the contract of a function that does nothing.
+ghost use Rattle.flick_engine.specs.Laws.{IsDetermined, IsReadBack, IsSomething};
 
-/// Octets are one message or have one first fault.
-pub fn messages_are_something()
+/// Octets are a request or have a first fault: one of them, and no other.
+pub fn messages_are_decided()
     ensures determined { IsDetermined }
     ensures something { IsSomething }
+{}
+
+/// What is sent is what is received.
+pub fn messages_are_read_back()
+    ensures { IsReadBack }
 {}

@@ -1,9 +1,8 @@
 // The operations of an engine: their procedures, the nodes of their requests, and how calls name them.
 ghost use Rattle.std.specs.Prelude.{◌≡◌, ◌<◌, ◌^◌, length};
 ghost use Rattle.mint.specs.Types.{type_at};
-ghost use Rattle.flick_engine.specs.Procedures.{procedures, procedure_of, named};
+ghost use Rattle.flick_engine.specs.Procedures.{procedures, procedure_of, named, IsBelow};
 ghost use Rattle.flick_engine.specs.Messages.{request_type};
-ghost use Rattle.flick_engine.specs.Operations.{IsBelow};
 
 use crate::engine::Engine;
 use crate::procedures::{Procedure, procedure_at};
