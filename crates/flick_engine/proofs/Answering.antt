@@ -10,7 +10,7 @@ use Rattle.pres.specs.Bindings.{Binding}
 use Rattle.flick_engine.specs.declared.errors.MessageErr.TheVariants as err
 use Rattle.flick_engine.specs.declared.seek.Naming.TheVariants.{Operation}
 use Rattle.flick_engine.specs.Messages.{request_type}
-use Rattle.flick_engine.specs.Received.{Names, ReadCall, IsExactly}
+use Rattle.flick_engine.specs.Received.{Names, IsExactly}
 use Rattle.flick_engine.proofs.Deciding.{exactly}
 
 -- the head of a call lies within the message

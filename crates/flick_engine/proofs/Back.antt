@@ -1,5 +1,5 @@
 -- What is sent is what is received.
-use Rattle.std.proofs.Common.{◌≡◌, ◌≤◌, ℕ, List, [], ◌++◌, length, take, drop, refl, ap, sym, ◌∙◌, arith, length-append}
+use Rattle.std.proofs.Common.{◌≡◌, ℕ, List, [], ◌++◌, take, drop, refl, arith, length-append}
 use Rattle.std.proofs.lemmas.List.{take_at, drop_at}
 use Rattle.wire_def.proofs.Xdr.{xdr_sent}
 use Rattle.wire_def.specs.declared.encoding.Encoding.TheVariants.{Xdr}

@@ -1,24 +1,22 @@
 -- What a message is, is determined, since it is what reading from left to right gives.
-use Rattle.std.proofs.Common.{◌≡◌, ◌≢◌, ◌+◌, ◌<◌, ◌≤◌, ℕ, Bool, true, false, List, [], ◌∷◌, ◌++◌, Result, Ok, Err, length, take, drop, refl, ap, sym, ◌∙◌, arith, append-nil, subst}
-use Rattle.std.specs.Prelude.{◌↔◌, nat_lt, if◌then◌else◌}
+use Rattle.std.proofs.Common.{◌≡◌, ◌+◌, ◌<◌, ℕ, List, [], ◌∷◌, ◌++◌, Result, Ok, Err, length, take, drop, refl, ap, sym, ◌∙◌, arith, append-nil, subst}
+use Rattle.std.specs.Prelude.{nat_lt, if◌then◌else◌}
 use Rattle.std.proofs.lemmas.Bool.{lt-ltb, le-ltb}
-use Rattle.std.proofs.lemmas.List.{length-drop, length-take, take-append-drop, drop_all}
+use Rattle.std.proofs.lemmas.List.{length-drop, length-take, take-append-drop}
 use Rattle.mint.specs.Types.{Ty}
 use Rattle.mint.specs.Values.{Val}
 use Rattle.wire_def.specs.declared.encoding.Encoding.TheVariants.{Xdr}
-use Rattle.wire_def.specs.declared.fault.Fault.{Fault}
 use Rattle.wire_def.specs.declared.fault.FaultKind.{FaultKind}
 use Rattle.wire_def.specs.declared.fault.HeadErr.{HeadErr}
 use Rattle.wire_def.specs.Grammar.{Reading, got, stop}
 use Rattle.wire_def.specs.Reading.{read}
-use Rattle.wire_def.specs.Spells.{Spells, IsSpelling}
-use Rattle.wire_def.specs.Stops.{Stops}
+use Rattle.wire_def.specs.Spells.{IsSpelling}
 use Rattle.wire_def.proofs.Xdr.{xdr_grammar}
 use Rattle.plain_wire.specs.Answered.{FirstSpell}
 use Rattle.back_xdr.specs.declared.call.OncCall.{OncCall}
 use Rattle.back_xdr.specs.Call.{Call}
 use Rattle.back_xdr.specs.Heads.{call, read_head, StopsWith}
-use Rattle.back_xdr.specs.Told.{BeginsCall, call_told}
+use Rattle.back_xdr.specs.Told.{call_told}
 use Rattle.back_xdr.proofs.Lawful.{begun, stopped}
 use Rattle.pres.specs.Bindings.{Binding}
 use Rattle.flick_engine.specs.declared.errors.MessageErr.{MessageErr}
@@ -27,7 +25,7 @@ use Rattle.flick_engine.specs.declared.seek.Naming.{Naming}
 use Rattle.flick_engine.specs.declared.seek.Naming.TheVariants as naming
 use Rattle.flick_engine.specs.Procedures.{named}
 use Rattle.flick_engine.specs.Messages.{request_type}
-use Rattle.flick_engine.specs.Received.{Asked, IsShort, Begins, Names, Called, ReadCall, IsExactly}
+use Rattle.flick_engine.specs.Received.{Asked, IsShort, Names, ReadCall, IsExactly}
 
 -- ---- reading from left to right
 

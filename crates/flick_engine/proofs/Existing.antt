@@ -1,10 +1,9 @@
 -- Octets are always something.
-use Rattle.std.proofs.Common.{◌≡◌, ◌⊎◌, inl, inr, ◌+◌, ◌<◌, ◌≤◌, ℕ, Bool, true, false, List, [], ◌∷◌, ◌++◌, Result, Ok, Err, length, take, drop, refl, ap, sym, ◌∙◌, arith, append-nil, length-append}
+use Rattle.std.proofs.Common.{◌≡◌, ◌⊎◌, inl, inr, ◌+◌, ◌<◌, ◌≤◌, ℕ, Bool, true, false, List, [], ◌∷◌, ◌++◌, Result, Ok, Err, length, take, drop, refl, ap, arith, append-nil, length-append}
 use Rattle.std.specs.Prelude.{nat_lt}
 use Rattle.std.proofs.lemmas.Bool.{ltb-true, ltb-false}
 use Rattle.std.proofs.lemmas.List.{length-drop, take-append-drop, take_at}
 use Rattle.mint.specs.Sound.{IsSound}
-use Rattle.mint.specs.Types.{Ty}
 use Rattle.mint.specs.Values.{Val}
 use Rattle.wire_def.specs.declared.encoding.Encoding.TheVariants.{Xdr}
 use Rattle.wire_def.specs.declared.fault.HeadErr.{HeadErr}
@@ -25,7 +24,7 @@ use Rattle.flick_engine.specs.declared.seek.Naming.{Naming}
 use Rattle.flick_engine.specs.declared.seek.Naming.TheVariants as naming
 use Rattle.flick_engine.specs.Procedures.{named}
 use Rattle.flick_engine.specs.Messages.{request_type}
-use Rattle.flick_engine.specs.Received.{Asked, IsShort, Begins, Names, ReadCall}
+use Rattle.flick_engine.specs.Received.{Asked, IsShort, Names, ReadCall}
 
 above_or_not : (m n : ℕ) (t : Bool) → nat_lt m n ≡ t → (m < n) ⊎ (n ≤ m)
 above_or_not m n true is = inl (ltb-true m n is)

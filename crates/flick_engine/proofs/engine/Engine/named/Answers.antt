@@ -1,4 +1,4 @@
-use Rattle.std.proofs.Common.{ap, length, zero-add}
+use Rattle.std.proofs.Common.{length, zero-add}
 use Rattle.flick_engine.specs.Procedures.{procedures, named_from, IsBelow}
 use Rattle.flick_engine.proofs.Counting.{named_below}
 use Rattle.flick_engine.proofs.engine.Engine.named.Goals as goal

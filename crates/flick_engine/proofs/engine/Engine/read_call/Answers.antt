@@ -1,4 +1,4 @@
-use Rattle.std.proofs.Common.{sym, ◌∙◌}
+use Rattle.std.proofs.Common.{sym}
 use Rattle.flick_engine.proofs.Deciding.{exactly}
 use Rattle.flick_engine.proofs.engine.Engine.read_call.Goals as goal
 
