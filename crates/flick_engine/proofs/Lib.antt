@@ -4,3 +4,4 @@ mod Deciding
 mod Existing
 mod Answering
 mod Back
+mod Naming

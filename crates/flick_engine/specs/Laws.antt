@@ -24,6 +24,14 @@ IsDetermined = (b : Binding) (o : List ℕ) (x y : Result Asked MessageErr) → 
 abbrev pub IsSomething : Type 0
 IsSomething = (b : Binding) → ((op : ℕ) → IsSound (request_type b op)) → (o : List ℕ) → AreOctets o → (x : Result Asked MessageErr) × ReadCall b o x
 
+-- the procedure that a call calls
+abbrev pub called_by : OncCall → Procedure
+called_by c = record { program = c.program; version = c.version; number = c.proc_no }
+
+-- the operation that a call names is the procedure that it calls
+abbrev pub IsNamedRight : Type 0
+IsNamedRight = (b : Binding) (c : OncCall) (op : ℕ) → named b c ≡ Operation op → procedure_of b op ≡ called_by c
+
 -- numbers that words can hold
 abbrev pub AreWords : Procedure → Type 0
 AreWords p = IsWord p.program × IsWord p.version × IsWord p.number

@@ -13,5 +13,5 @@ mod unmarshal;
 
 pub use engine::Engine;
 pub use errors::{MarshalErr, MessageErr};
-pub use laws::{messages_are_decided, messages_are_read_back};
+pub use laws::{calls_are_named_right, messages_are_decided, messages_are_read_back};
 pub use requests::Request;

@@ -31,7 +31,7 @@ impl Engine {
     }
 
     /// The node of what goes into an operation.
-    pub(crate) fn request(&self, op: u32) -> NodeId
+    pub fn request(&self, op: u32) -> NodeId
         requires { op < length self.now.ops }
         ensures node { result < length self.now.nodes }
         ensures type_ { type_at self.now.nodes result ≡ request_type self.now op }
