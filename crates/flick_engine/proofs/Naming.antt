@@ -1,16 +1,14 @@
 -- The operation that a call names is the procedure that it calls.
-use Rattle.std.proofs.Common.{◌≡◌, ◌+◌, ◌<◌, ℕ, zero, suc, Bool, true, false, List, [], ◌∷◌, ◌++◌, Option, Some, None, map, length, get_or, refl, ap, sym, ◌∙◌, arith}
+use Rattle.std.proofs.Common.{◌≡◌, ◌+◌, ◌<◌, ℕ, suc, Bool, true, false, List, [], ◌∷◌, Option, Some, None, length, get_or, refl, ◌∙◌, arith}
 use Rattle.std.specs.Prelude.{◌==◌, ◌&&◌, if◌then◌else◌}
 use Rattle.std.specs.List.{position_from}
 use Rattle.std.proofs.lemmas.Bool.{eqb-true}
 use Rattle.std.proofs.lemmas.List.{length-map, get_or-map, get_or_append_left, get_or-append-add}
 use Rattle.aoi.specs.declared.interfaces.Interface.{Interface}
 use Rattle.back_xdr.specs.declared.call.OncCall.{OncCall}
-use Rattle.pres.specs.Bindings.{Binding}
 use Rattle.flick_engine.specs.declared.procedures.Procedure.{Procedure}
-use Rattle.flick_engine.specs.declared.seek.Naming.{Naming}
 use Rattle.flick_engine.specs.declared.seek.Naming.TheVariants.{Operation}
-use Rattle.flick_engine.specs.Procedures.{numbers, procedures_of, procedures, procedure_of, is_called, operation_at, named_from, named}
+use Rattle.flick_engine.specs.Procedures.{numbers, procedures_of, procedures, is_called, operation_at, named_from}
 use Rattle.flick_engine.specs.Laws.{called_by, IsNamedRight}
 
 abbrev none : Procedure
@@ -56,7 +54,7 @@ in_first k i is c op called (j, at, below, same) =
     let number : get_or (numbers i) j 0 ≡ c.proc_no = eqb-true _ _ same in
     let long : j < length (procedures_of i) = omega (arith, below, length-map (numbers i) (procedure_in i)) in
     let here : get_or (procedures (i ∷ is)) j none ≡ procedure_in i (get_or (numbers i) j 0) =
-        get_or_append_left (procedures_of i) (procedures is) none j long ∙ get_or-map (procedure_in i) (numbers i) j 0 none below in
+    get_or_append_left (procedures_of i) (procedures is) none j long ∙ get_or-map (procedure_in i) (numbers i) j 0 none below in
     (j, at, here ∙ rw (number, ← program, ← version) refl)
 
 named_step : (k : ℕ) (i : Interface) (is : List Interface) (c : OncCall) (op : ℕ) (t : Bool) → is_called c i ≡ t → (named_from (k + length (numbers i)) is c ≡ Operation op → IsAt (k + length (numbers i)) is c op)
