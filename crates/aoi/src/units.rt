@@ -82,14 +82,6 @@ impl Unit {
         &self.interfaces
     }
 
-    /// What holds of the interfaces of each unit. It does nothing.
-    pub fn interfaces_are_apart(&self)
-        ensures few { length self.now.interfaces ≤ 64 }
-        ensures apart { AreApart self.now.interfaces }
-    {
-        let _interfaces = &self.interfaces;
-    }
-
     /// Puts a type behind the others, and gives its number, counted from 0.
     pub fn add_type(&mut self, name: Name, ty: Ty) -> Result<u32, NoMemory>
         requires { length self.old.types < 2 ^ 32 }
@@ -117,6 +109,14 @@ impl Unit {
         }
         self.interfaces.push(i)?;
         Ok(())
+    }
+
+    /// What holds of the interfaces of each unit. It does nothing.
+    pub fn interfaces_are_apart(&self)
+        ensures few { length self.now.interfaces ≤ 64 }
+        ensures apart { AreApart self.now.interfaces }
+    {
+        let _interfaces = &self.interfaces;
     }
 }
 

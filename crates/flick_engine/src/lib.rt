@@ -15,3 +15,6 @@ pub use engine::Engine;
 pub use errors::{MarshalErr, MessageErr};
 pub use laws::{calls_are_named_right, messages_are_decided, messages_are_read_back};
 pub use requests::Request;
+
+#[cfg(test)]
+mod tests;
