@@ -1,6 +1,6 @@
 // The unit of a file.
 ghost use Rattle.std.specs.Prelude.{◌≡◌, ◌<◌, ◌≤◌, ◌^◌, ◌⊎◌, ◌↔◌, [], ◌∷◌, ◌++◌, length, true, false, IfOk, OnOk, OnErr, IsTrue};
-ghost use Rattle.aoi.specs.Units.{is_twice};
+ghost use Rattle.aoi.specs.Units.{is_twice, AreApart};
 ghost use Rattle.aoi.specs.declared.units.UnitErr.TheVariants.{NoMemory as WantOfMemory};
 
 use crate::{Interface, Interfaces, Ty, Types};
@@ -117,6 +117,14 @@ impl Unit {
         }
         self.interfaces.push(i)?;
         Ok(())
+    }
+
+    /// What holds of the interfaces of each unit. It does nothing.
+    pub fn interfaces_are_apart(&self)
+        ensures few { length self.now.interfaces ≤ 64 }
+        ensures apart { AreApart self.now.interfaces }
+    {
+        let _interfaces = &self.interfaces;
     }
 }
 

@@ -1,11 +1,14 @@
-//! A buffer whose space is ensured before it is written, and which counts what its calls cost.
+//! A buffer whose space is ensured before it is written, and which counts what its calls cost; and
+//! a message that is read.
 #![tactic(auto)]
 
 mod buffer;
 mod tally;
+mod view;
 
 pub use buffer::SendBuf;
 pub use tally::Tally;
+pub use view::RecvView;
 
 #[cfg(test)]
 mod tests;

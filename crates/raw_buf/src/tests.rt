@@ -35,3 +35,12 @@ fn numbers_are_stored_in_both_orders(rt: HostRuntime) -> Result<(), Fail> {
     assert_eq!(rt; buf.spent(), cost);
     Ok(())
 }
+
+#[test]
+fn a_view_begins_at_the_first_octet(rt: HostRuntime) -> Result<(), Fail> {
+    let view = RecvView::new(b"\x01\x02\x03");
+    assert_eq!(rt; view.pos(), 0);
+    assert_eq!(rt; view.tests(), 0);
+    assert_eq!(rt; view.rest(), b"\x01\x02\x03".as_slice());
+    Ok(())
+}

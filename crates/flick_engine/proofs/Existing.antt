@@ -1,0 +1,86 @@
+-- Octets are always something.
+use Rattle.std.proofs.Common.{◌≡◌, ◌⊎◌, inl, inr, ◌+◌, ◌<◌, ◌≤◌, ℕ, Bool, true, false, List, [], ◌∷◌, ◌++◌, Result, Ok, Err, length, take, drop, refl, ap, arith, append-nil, length-append}
+use Rattle.std.specs.Prelude.{nat_lt}
+use Rattle.std.proofs.lemmas.Bool.{ltb-true, ltb-false}
+use Rattle.std.proofs.lemmas.List.{length-drop, take-append-drop, take_at}
+use Rattle.mint.specs.Sound.{IsSound}
+use Rattle.mint.specs.Values.{Val}
+use Rattle.wire_def.specs.declared.encoding.Encoding.TheVariants.{Xdr}
+use Rattle.wire_def.specs.declared.fault.HeadErr.{HeadErr}
+use Rattle.wire_def.specs.Grammar.{AreOctets}
+use Rattle.wire_def.specs.Laws.{BeginsSpelled, HasFault}
+use Rattle.wire_def.specs.Spells.{IsSpelling}
+use Rattle.wire_def.proofs.Grammars.{octets_behind}
+use Rattle.wire_def.proofs.Xdr.{xdr_decided}
+use Rattle.back_xdr.specs.declared.call.OncCall.{OncCall}
+use Rattle.back_xdr.specs.Call.{Call}
+use Rattle.back_xdr.specs.Heads.{call, BeginsWith, StopsWith}
+use Rattle.back_xdr.specs.Told.{call_told}
+use Rattle.back_xdr.proofs.Lawful.{heads_are_decided}
+use Rattle.pres.specs.Bindings.{Binding}
+use Rattle.flick_engine.specs.declared.errors.MessageErr.{MessageErr}
+use Rattle.flick_engine.specs.declared.errors.MessageErr.TheVariants as err
+use Rattle.flick_engine.specs.declared.seek.Naming.{Naming}
+use Rattle.flick_engine.specs.declared.seek.Naming.TheVariants as naming
+use Rattle.flick_engine.specs.Procedures.{named}
+use Rattle.flick_engine.specs.Messages.{request_type}
+use Rattle.flick_engine.specs.Received.{Asked, IsShort, Names, ReadCall}
+
+above_or_not : (m n : ℕ) (t : Bool) → nat_lt m n ≡ t → (m < n) ⊎ (n ≤ m)
+above_or_not m n true is = inl (ltb-true m n is)
+above_or_not m n false is = inr (ltb-false m n is)
+
+module _ (b : Binding) (sound : (op : ℕ) → IsSound (request_type b op)) (o : List ℕ) (oct : AreOctets o) where
+  abbrev Something : Type 0
+  Something = (x : Result Asked MessageErr) × ReadCall b o x
+
+  -- a body that begins with a value's spelling
+  spelled : (c : OncCall) (op : ℕ) → Names b o c (naming.Operation op) → (a rest : List ℕ) (v : Val) → drop c.used o ≡ a ++ rest → IsSpelling Xdr (request_type b op) c.used a v → Something
+  spelled c op names a [] v is spells = (
+    Ok (record { op = op; head = c.head; value = v }),
+    (c, op, names, (refl, refl, rw (is, append-nil) spells)),
+  )
+  spelled c op names a (x ∷ rest) v is spells = (
+    Err (err.Trailing (c.used + length a)),
+    (
+      c,
+      op,
+      names,
+      (
+        v,
+        length a,
+        record {
+          there = omega (arith, ap length is, length-append a (x ∷ rest));
+          spelled = rw (is, take_at a (x ∷ rest) (length a) refl) spells;
+        },
+        refl,
+        omega (arith, ap length is, length-append a (x ∷ rest), length-drop c.used o),
+      ),
+    ),
+  )
+
+  -- a body
+  body : (c : OncCall) (op : ℕ) → Names b o c (naming.Operation op) → BeginsSpelled Xdr (request_type b op) c.used (drop c.used o) ⊎ HasFault Xdr (request_type b op) c.used (drop c.used o) → Something
+  body c op names (inl (a, rest, v, is, spells)) = spelled c op names a rest v is spells
+  body c op names (inr (k, at, stops)) = (Err (err.Body (record { kind = k; at = at })), (c, op, names, stops))
+
+  -- a call that names this
+  behind : (c : OncCall) (n : Naming) → Names b o c n → c.used ≤ length o → Something
+  behind c naming.NoInterface names within = (Err err.NoInterface, (c, names))
+  behind c naming.NoOperation names within = (Err err.NoOperation, (c, names))
+  behind c (naming.Operation op) names within =
+      let octets : AreOctets (drop c.used o) = octets_behind (take c.used o) (drop c.used o) (rw take-append-drop oct) in
+      let short : c.used + length (drop c.used o) ≤ 4194304 = omega (arith, length-drop c.used o, names.0.0) in
+      body c op names (xdr_decided (request_type b op) (sound op) c.used (drop c.used o) octets short).either
+
+  -- a head, or its fault
+  head : IsShort o → ((h : Call) × (used : ℕ) × BeginsWith call o h used) ⊎ ((e : HeadErr) × StopsWith call o e) → Something
+  head short (inl (h, used, begins)) = behind (call_told h used) (named b (call_told h used)) ((short, (h, used, begins, refl)), refl) begins.0
+  head short (inr (e, stops)) = (Err (err.Head e), (short, stops))
+
+  size : (4194304 < length o) ⊎ IsShort o → Something
+  size (inl long) = (Err err.Long, long)
+  size (inr short) = head short (heads_are_decided call o oct).either
+
+  pub something : Something
+  something = size (above_or_not 4194304 (length o) (nat_lt 4194304 (length o)) refl)

@@ -1,0 +1,7 @@
+mod Seeking
+mod Counting
+mod Deciding
+mod Existing
+mod Answering
+mod Back
+mod Naming

@@ -1,0 +1,4 @@
+pub mod Procedures
+pub mod Messages
+pub mod Received
+pub mod Laws

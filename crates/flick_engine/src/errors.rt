@@ -1,0 +1,51 @@
+// Why there is no message, or no request.
+ghost use Rattle.std.specs.Prelude.{◌≡◌};
+ghost use Rattle.flick_engine.specs.declared.errors.MarshalErr.TheVariants.{NoMemory as NoMessage};
+ghost use Rattle.flick_engine.specs.declared.errors.MessageErr.TheVariants.{NoMemory as NoRequest};
+
+use kit_base::NoMemory;
+use wire_def::{Fault, HeadErr};
+
+/// Why a request has no message.
+#[derive(Clone, Copy, Debug, PartialEq, Eq)]
+pub enum MarshalErr {
+    /// The message would have more than 4,194,304 octets.
+    Long,
+    /// No memory was there.
+    NoMemory,
+}
+
+impl From<NoMemory> for MarshalErr {
+    ghost from_gives = { λ _ e. e ≡ NoMessage };
+
+    fn from(_: NoMemory) -> MarshalErr {
+        MarshalErr::NoMemory
+    }
+}
+
+/// Why octets are no message of an interface. Places are counted from the first octet.
+#[derive(Clone, Copy, Debug, PartialEq, Eq)]
+pub enum MessageErr {
+    /// There are more than 4,194,304 octets.
+    Long,
+    /// The head is cut off or wrong.
+    Head(HeadErr),
+    /// No interface has the call's program and version.
+    NoInterface,
+    /// The interface has no operation with the call's procedure number.
+    NoOperation,
+    /// The body is cut off or wrong.
+    Body(Fault),
+    /// Octets follow the body from this place on.
+    Trailing(usize),
+    /// No memory was there.
+    NoMemory,
+}
+
+impl From<NoMemory> for MessageErr {
+    ghost from_gives = { λ _ e. e ≡ NoRequest };
+
+    fn from(_: NoMemory) -> MessageErr {
+        MessageErr::NoMemory
+    }
+}

@@ -1,0 +1,90 @@
+// The procedures of interfaces.
+ghost use Rattle.std.specs.Prelude.{◌≡◌, ◌+◌, ◌<◌, ◌^◌, ◌==◌, length, slice_get, slice_index, Some};
+ghost use Rattle.std.specs.List.{list_any, position_from};
+ghost use Rattle.aoi.specs.declared.interfaces.Operation.{Operation as SpecOperation};
+ghost use Rattle.wire_def.specs.declared.encoding.Back.TheVariants.{Xdr};
+ghost use Rattle.pres.specs.Offers.{gets_null};
+ghost use Rattle.flick_engine.specs.Procedures.{numbers, procedures};
+
+use aoi::{Interface, Operation};
+
+/// A procedure: its program, the program's version, and its number.
+#[derive(Clone, Copy, Debug, PartialEq, Eq)]
+pub(crate) struct Procedure {
+    pub(crate) program: u32,
+    pub(crate) version: u32,
+    pub(crate) number: u32,
+}
+
+/// Whether one of the operations has the procedure number.
+fn has_number(ops: &[Operation], number: u32) -> bool
+    ensures { result ≡ list_any (λ (op : SpecOperation). op.proc_no == number) ops.now }
+{
+    ops.iter().any(|op| op.proc_no == number)
+}
+
+/// Whether an interface has no procedure 0 of its own, and so gets one.
+fn gets_null(i: &Interface) -> bool
+    ensures { result ≡ gets_null Xdr i.now }
+{
+    !has_number(i.ops.as_slice(), 0)
+}
+
+/// How many procedures an interface has.
+pub(crate) fn count(i: &Interface) -> usize
+    ensures { result ≡ length (numbers i.now) }
+{
+    let own = i.ops.as_slice().len();
+    if gets_null(i) { own + 1 } else { own }
+}
+
+/// The number of an interface's procedure by its place, counted from 0.
+fn number(i: &Interface, place: usize) -> u32
+    requires { place < length (numbers i.now) }
+    ensures { result ≡ slice_index (numbers i.now) place }
+{
+    match i.ops.get(place) {
+        Some(op) => op.proc_no,
+        None => 0,
+    }
+}
+
+/// The procedure at a place, counted from 0 over all interfaces.
+pub(crate) fn procedure_at(interfaces: &[Interface], place: usize) -> Procedure
+    requires { place < length (procedures interfaces.now) }
+    ensures { slice_get (procedures interfaces.now) place ≡ Some result }
+{
+    let Some((i, others)) = interfaces.split_first() else {
+        unreachable!()
+    };
+    let own = count(i);
+    if place < own {
+        let number = number(i, place);
+        Procedure {
+            program: i.program,
+            version: i.version,
+            number,
+        }
+    } else {
+        procedure_at(others, place - own)
+    }
+}
+
+/// The place of an interface's first procedure with the number, where they are counted from a place.
+pub(crate) fn place_of(i: &Interface, first: u32, number: u32) -> Option<u32>
+    requires { first + length (numbers i.now) < 2 ^ 32 }
+    ensures { result ≡ position_from (λ n. n == number) first (numbers i.now) }
+{
+    let mut place = first;
+    for op in i.ops.as_slice() {
+        if op.proc_no == number {
+            return Some(place);
+        }
+        place += 1;
+    }
+    if number == 0 && gets_null(i) {
+        Some(place)
+    } else {
+        None
+    }
+}

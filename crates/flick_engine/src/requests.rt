@@ -1,0 +1,12 @@
+// Requests, as messages bring them.
+use mint::value::Value;
+use wire_def::Head;
+
+/// A request for an operation.
+#[derive(Drop)]
+pub struct Request {
+    /// The number of the operation among those of the binding, from 0.
+    pub op: u32,
+    pub head: Head,
+    pub value: Value,
+}

@@ -1,0 +1,89 @@
+// Messages as requests.
+ghost use Rattle.std.specs.Prelude.{◌≡◌, ◌<◌, ◌+◌, length, IfOk};
+ghost use Rattle.mint.specs.Typed.{IsWellTyped};
+ghost use Rattle.mint.specs.Values.{seen};
+ghost use Rattle.flick_engine.specs.Messages.{request_type};
+ghost use Rattle.flick_engine.specs.Procedures.{named};
+ghost use Rattle.flick_engine.specs.Received.{Answers, Begins};
+
+use crate::engine::Engine;
+use crate::errors::MessageErr;
+use crate::marshal::LONGEST;
+use crate::requests::Request;
+use crate::seek::Naming;
+use back_xdr::{OncCall, read_call};
+use plain_wire::{Read, plain_read};
+use raw_buf::RecvView;
+use std::alloc::Global;
+use wire_def::Encoding;
+
+impl Engine {
+    /// Reads the request of a message.
+    pub fn unmarshal(&self, alloc: Global, view: &mut RecvView<'_>) -> Result<Request, MessageErr>
+        requires start { view.old.pos ≡ 0 }
+        ensures read { Answers self.now view.old.octets result }
+        ensures op { IfOk result (λ r. r.op < length self.now.ops) }
+        ensures typed { IfOk result (λ r. IsWellTyped (request_type self.now r.op) (seen r.value)) }
+    {
+        let message = view.rest();
+        if message.len() > LONGEST {
+            return Err(MessageErr::Long);
+        }
+        match read_call(message) {
+            Ok(call) => self.read_call(alloc, &call, message),
+            Err(fault) => Err(MessageErr::Head(fault)),
+        }
+    }
+
+    /// Reads the request of a message that begins with this head.
+    fn read_call(
+        &self,
+        alloc: Global,
+        call: &OncCall,
+        message: &[u8],
+    ) -> Result<Request, MessageErr>
+        requires { Begins message.now call.now }
+        ensures read { Answers self.now message.now result }
+        ensures op { IfOk result (λ r. r.op < length self.now.ops) }
+        ensures typed { IfOk result (λ r. IsWellTyped (request_type self.now r.op) (seen r.value)) }
+    {
+        match self.named(call) {
+            Naming::Operation(op) => self.read_body(alloc, op, call, message),
+            Naming::NoInterface => Err(MessageErr::NoInterface),
+            Naming::NoOperation => Err(MessageErr::NoOperation),
+        }
+    }
+
+    /// Reads the request of a message that calls this operation.
+    fn read_body(
+        &self,
+        alloc: Global,
+        op: u32,
+        call: &OncCall,
+        message: &[u8],
+    ) -> Result<Request, MessageErr>
+        requires op { op < length self.now.ops }
+        requires begins { Begins message.now call.now }
+        requires named { named self.now call.now ≡ Naming.Operation op }
+        ensures read { Answers self.now message.now result }
+        ensures op { IfOk result (λ r. r.op < length self.now.ops) }
+        ensures typed { IfOk result (λ r. IsWellTyped (request_type self.now r.op) (seen r.value)) }
+    {
+        let mint = self.bound().mint();
+        let id = self.request(op);
+        match plain_read(alloc, Encoding::Xdr, mint, id, call.used, message)? {
+            Read::Value(value, used) => {
+                let end = call.used + used;
+                if end < message.len() {
+                    return Err(MessageErr::Trailing(end));
+                }
+                Ok(Request {
+                    op,
+                    head: call.head,
+                    value,
+                })
+            }
+            Read::Stop(fault) => Err(MessageErr::Body(fault)),
+        }
+    }
+}
