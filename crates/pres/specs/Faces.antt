@@ -1,5 +1,5 @@
 -- Types with the names that stand in JSON: what a node and its shape unfold to.
-use Rattle.std.specs.Prelude.{◌≡◌, Bool, ℕ, ℤ, List, [], ◌∷◌, ◌++◌, zip, Option, None, Some, slice_index_or, if◌then◌else◌, int_lt}
+use Rattle.std.specs.Prelude.{ℕ, ℤ, List, [], ◌∷◌, ◌++◌, zip, Option, None, Some, slice_index_or, if◌then◌else◌, int_lt}
 use Rattle.std.specs.Ordering.{int_eq}
 use Rattle.mint.specs.declared.kind.Kind.{Kind}
 use Rattle.mint.specs.declared.kind.Count.{Count}

@@ -1,1 +1,4 @@
 pub mod Faces
+pub mod Named
+pub mod Offers
+pub mod Bindings

@@ -1,0 +1,34 @@
+-- A unit with the nodes that stand for it.
+use Rattle.std.specs.Prelude.{◌≡◌, ◌<◌, List, map, length}
+use Rattle.std.specs.List.{AllByRecursion}
+use Rattle.mint.specs.declared.node.Node.{Node}
+use Rattle.wire_def.specs.declared.encoding.Back.{Back}
+use Rattle.aoi.specs.Units.{Parts as UnitParts}
+use Rattle.aoi.specs.Sound.{IsSound}
+use Rattle.pres.specs.declared.shape.Shape.{Shape}
+use Rattle.pres.specs.declared.ops.Op.{Op}
+use Rattle.pres.specs.Faces.{faces}
+use Rattle.pres.specs.Named.{AreNamed}
+use Rattle.pres.specs.Offers.{offers, offer_at}
+
+-- nodes, their shapes, and the operations of a unit over a back end
+pub record Binding : Type 0 where
+  pub nodes : List Node
+  pub shapes : List Shape
+  pub ops : List Op
+  pub unit : UnitParts
+  pub back : Back
+
+-- an operation whose messages are nodes
+pub record IsPlaced (b : Binding) (o : Op) : Type 0 where
+  pub request : o.request < length b.nodes
+  pub reply : o.reply < length b.nodes
+
+-- a binding whose operations stand for those of its unit
+pub record IsBinding (b : Binding) : Type 0 where
+  -- each node has the names that belong to it
+  pub named : AreNamed b.nodes b.shapes
+  pub sound : IsSound b.unit
+  pub placed : AllByRecursion (IsPlaced b) b.ops
+  -- the operations are the unit's, in order
+  pub offered : map (offer_at (faces b.nodes b.shapes)) b.ops ≡ offers b.unit b.back

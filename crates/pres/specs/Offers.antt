@@ -1,0 +1,131 @@
+-- What types stand for, and the messages that a back end has for the operations of a unit.
+use Rattle.std.specs.Prelude.{Bool, true, false, not, ◌&&◌, ◌||◌, ◌==◌, ℕ, suc, ℤ, pos, List, [], ◌∷◌, ◌++◌, map, if◌then◌else◌, int_lt}
+use Rattle.std.specs.List.{list_any}
+use Rattle.mint.specs.declared.kind.Kind.TheVariants as kind
+use Rattle.mint.specs.declared.kind.Count.{Count}
+use Rattle.mint.specs.Types.{text, row_of}
+use Rattle.wire_def.specs.declared.encoding.Back.{Back}
+use Rattle.wire_def.specs.declared.encoding.Back.TheVariants as back
+use Rattle.aoi.specs.declared.interfaces.Interface.{Interface}
+use Rattle.aoi.specs.declared.interfaces.Operation.{Operation}
+use Rattle.aoi.specs.declared.interfaces.Raise.{Raise}
+use Rattle.aoi.specs.Shapes as aoi
+use Rattle.aoi.specs.Units.{Parts as UnitParts}
+use Rattle.pres.specs.declared.ops.Op.{Op}
+use Rattle.pres.specs.Faces.{Sign, number, item, Face, nothing, scalar, numbers, values, members, list, choice, maybe, Parts, no_parts, part, Arms, no_other, other, arm, at}
+
+-- elements of a type: numbers other than Bool stand together
+abbrev pub elements : Count → Face → Face
+elements c (scalar (number kind.Bool)) = list c (scalar (number kind.Bool))
+elements c (scalar (number k)) = numbers (row_of k c)
+elements c f = list c f
+
+-- what a tag's type is a tag of
+abbrev pub sign_in : Face → Sign
+sign_in (scalar s) = s
+sign_in _ = number kind.U32
+
+-- an arm put among arms of rising numbers
+abbrev pub put_arm : ℤ → Face → Arms → Arms
+put_arm n f (arm m g arms) = if int_lt n m then arm n f (arm m g arms) else arm m g (put_arm n f arms)
+put_arm n f arms = arm n f arms
+
+-- what a type stands for, over what the types before it stand for
+abbrev mutual
+  pub face_of : List Face → aoi.Shape → Face
+  face_of fs aoi.void = nothing
+  face_of fs (aoi.number k) = scalar (number k)
+  face_of fs (aoi.enumeration items) = scalar (item items)
+  face_of fs (aoi.text c) = numbers (text c)
+  face_of fs (aoi.array s c) = elements c (face_of fs s)
+  face_of fs (aoi.structure ms) = members (parts_of fs ms)
+  face_of fs (aoi.choice tag arms) = choice (sign_in (face_of fs tag)) (arms_of fs arms)
+  face_of fs (aoi.optional s) = maybe (face_of fs s)
+  face_of fs (aoi.named k) = at fs k
+
+  pub parts_of : List Face → aoi.Members → Parts
+  parts_of fs aoi.no_more = no_parts
+  parts_of fs (aoi.member n s ms) = part n (face_of fs s) (parts_of fs ms)
+
+  -- arms stand by their numbers
+  pub arms_of : List Face → aoi.Arms → Arms
+  arms_of fs aoi.no_default = no_other
+  arms_of fs (aoi.default s) = other (face_of fs s)
+  arms_of fs (aoi.arm n s arms) = put_arm n (face_of fs s) (arms_of fs arms)
+
+-- the faces fs, and behind them those of types that may name them
+abbrev pub faces_of : List Face → List aoi.Shape → List Face
+faces_of fs [] = fs
+faces_of fs (s ∷ ss) = faces_of (fs ++ face_of fs s ∷ []) ss
+
+-- what the types of a unit stand for
+unfoldable pub type_faces : UnitParts → List Face
+type_faces u = faces_of [] (aoi.shapes u.types)
+
+-- parts without their names
+abbrev pub unnamed : Parts → Parts
+unnamed no_parts = no_parts
+unnamed (part n f ps) = part [] f (unnamed ps)
+
+-- the parameters of an operation in one direction
+abbrev pub parameters : List Face → aoi.Members → Parts
+parameters fs ms = unnamed (parts_of fs ms)
+
+-- exceptions, by numbers from k up
+abbrev pub raised : List Face → ℕ → List Raise → Arms
+raised fs k [] = no_other
+raised fs k (r ∷ rs) = arm (pos k) (members (parts_of fs (aoi.members r.members))) (raised fs (suc k) rs)
+
+-- what comes back: the result and the parameters out, or an exception
+abbrev pub reply_of : List Face → Operation → Face
+reply_of fs op = choice (number kind.U32) (arm (pos 0) (values (part [] (face_of fs (aoi.seen op.result)) (parameters fs (aoi.members op.outs)))) (raised fs 1 op.raises))
+
+-- an operation of an interface, with the faces of its messages
+pub record Offer : Type 0 where
+  pub interface : ℕ
+  pub name : List ℕ
+  pub request : Face
+  pub reply : Face
+  pub has_reply : Bool
+
+abbrev pub is_cdr : Back → Bool
+is_cdr back.CdrBig = true
+is_cdr back.CdrLittle = true
+is_cdr _ = false
+
+abbrev pub is_xdr : Back → Bool
+is_xdr back.Xdr = true
+is_xdr _ = false
+
+-- a reply is awaited, of each operation over cdr, else of each that is not oneway
+abbrev pub is_answered : Back → Operation → Bool
+is_answered b op = is_cdr b || not op.oneway
+
+-- an operation of the unit
+abbrev pub offer : List Face → Back → ℕ → Operation → Offer
+offer fs b k op = record { interface = k; name = op.name; request = values (parameters fs (aoi.members op.ins)); reply = reply_of fs op; has_reply = is_answered b op }
+
+-- procedure 0, which takes nothing and answers nothing
+abbrev pub null_offer : ℕ → Offer
+null_offer k = record { interface = k; name = 48 ∷ []; request = values no_parts; reply = choice (number kind.U32) (arm (pos 0) (values (part [] nothing no_parts)) no_other); has_reply = true }
+
+-- over Xdr an interface without procedure 0 gets one
+abbrev pub gets_null : Back → Interface → Bool
+gets_null b i = is_xdr b && not (list_any (λ (op : Operation). op.proc_no == 0) i.ops)
+
+-- the operations of an interface, and the one that it gets
+abbrev pub offers_of : List Face → Back → ℕ → Interface → List Offer
+offers_of fs b k i = map (offer fs b k) i.ops ++ (if gets_null b i then null_offer k ∷ [] else [])
+
+-- those of interfaces, counted from k
+abbrev pub offers_from : List Face → Back → ℕ → List Interface → List Offer
+offers_from fs b k [] = []
+offers_from fs b k (i ∷ is) = offers_of fs b k i ++ offers_from fs b (suc k) is
+
+-- the operations that a back end has messages for
+abbrev pub offers : UnitParts → Back → List Offer
+offers u b = offers_from (type_faces u) b 0 u.interfaces
+
+-- what an operation is, over the faces of a table's nodes
+abbrev pub offer_at : List Face → Op → Offer
+offer_at fs o = record { interface = o.interface; name = o.name; request = at fs o.request; reply = at fs o.reply; has_reply = o.has_reply }

@@ -1,0 +1,105 @@
+// A unit that is bound to a back end.
+ghost use Rattle.std.specs.Prelude.{◌≡◌, ◌≤◌, length, slice_get, Some, IfNone, IfSome};
+ghost use Rattle.mint.specs.Types.{HasChildrenBelow, type_at};
+ghost use Rattle.pres.specs.Bindings.{IsBinding};
+ghost use Rattle.pres.specs.Faces.{face_at, faces, level, type_of};
+ghost use Rattle.pres.specs.Named.{IsNamed};
+
+use crate::{Ops, Pres, Shape};
+use aoi::Unit;
+use mint::node::Node;
+use mint::table::{Mint, NodeId};
+use std::marker::Model;
+use wire_def::Back;
+
+/// A unit with the nodes that stand for its operations.
+#[derive(Drop)]
+pub struct Bound {
+    mint: Mint,
+    pres: Pres,
+    ops: Ops,
+    unit: Unit,
+    back: Back,
+}
+
+impl Model for Bound {
+    ghost use Rattle.pres.specs.Bindings.{Binding, IsBinding};
+    ghost use Rattle.std.specs.Coded.{codes};
+    ghost use Rattle.aoi.specs.contracts.types.Ty as t;
+    ghost use Rattle.aoi.specs.contracts.types.Field as f;
+
+    ghost Value = { Binding };
+
+    ghost coded = { Prim.hlevel (codes, t.the_row.coded, f.the_row.coded) };
+
+    ghost view = { λ b. record { nodes = b.mint; shapes = b.pres; ops = b.ops; unit = b.unit; back = b.back } };
+
+    ghost invariant = { λ b. IsBinding (record { nodes = b.mint; shapes = b.pres; ops = b.ops; unit = b.unit; back = b.back }) };
+}
+
+impl Bound {
+    /// Nodes, shapes and operations that stand for a unit.
+    pub(crate) fn of_parts(mint: Mint, pres: Pres, ops: Ops, unit: Unit, back: Back) -> Bound
+        requires { IsBinding (record { nodes = mint; shapes = pres; ops = ops; unit = unit; back = back }) }
+        ensures { result ≡ record { nodes = mint; shapes = pres; ops = ops; unit = unit; back = back } }
+    {
+        Bound {
+            mint,
+            pres,
+            ops,
+            unit,
+            back,
+        }
+    }
+
+    /// The nodes.
+    pub fn mint(&self) -> &Mint
+        ensures { result.now ≡ self.now.nodes }
+    {
+        &self.mint
+    }
+
+    /// The shapes of the nodes, in order.
+    pub fn pres(&self) -> &Pres
+        ensures { result.now ≡ self.now.shapes }
+    {
+        &self.pres
+    }
+
+    /// The operations.
+    pub fn ops(&self) -> &Ops
+        ensures value { result.now ≡ self.now.ops }
+        ensures stands { IsBinding self.now }
+    {
+        &self.ops
+    }
+
+    /// The unit.
+    pub fn unit(&self) -> &Unit
+        ensures { result.now ≡ self.now.unit }
+    {
+        &self.unit
+    }
+
+    /// The back end.
+    pub fn back(&self) -> Back
+        ensures { result ≡ self.now.back }
+    {
+        self.back
+    }
+
+    /// A node and its shape.
+    pub fn part(&self, id: NodeId) -> Option<(&Node, &Shape)>
+        ensures node { IfSome result (λ p. slice_get self.now.nodes id ≡ Some p.0.now) }
+        ensures shape { IfSome result (λ p. slice_get self.now.shapes id ≡ Some p.1.now) }
+        ensures none { IfNone result (length self.now.nodes ≤ id) }
+        ensures below { IfSome result (λ p. HasChildrenBelow id p.0.now) }
+        ensures named { IfSome result (λ p. IsNamed p.0.now p.1.now) }
+        ensures is { IfSome result (λ p. face_at self.now.nodes self.now.shapes id ≡ level (faces self.now.nodes self.now.shapes) p.0.now p.1.now) }
+        ensures type_ { type_at self.now.nodes id ≡ type_of (face_at self.now.nodes self.now.shapes id) }
+    {
+        let node = self.mint.node(id)?;
+        let shape = self.pres.get(id as usize)?;
+        Some((node, shape))
+    }
+}
