@@ -1,16 +1,23 @@
 -- What a tree shows is what is read of it.
-use Rattle.std.proofs.Common.{◌≡◌, ℕ, ℤ, Bool, true, false, Option, Some, None, option_map, option_and_then, refl, sym, ap, ◌∙◌, ◌==◌, IsTrue, MatchBool, int_eq, arith}
+use Rattle.std.proofs.Common.{◌≡◌, ℕ, ℤ, Bool, true, false, Option, Some, None, option_map, option_and_then, refl, sym, ap, ◌∙◌, ◌==◌, IsTrue, MatchBool, int_eq, arith, is_some}
 use Rattle.std.proofs.lemmas.Bool.Decides.{nat_tests}
 use Rattle.std.specs.Prelude.{if◌then◌else◌, codes}
 use Rattle.std.specs.Option.{IsSomeAnd}
 use Rattle.mint.specs.Values.{Val, void, num, row, group, items, arm, absent, present, Vals, no_more, val}
-use Rattle.pres.specs.Faces.{Face, Parts, no_parts, part, Arms}
+use Rattle.pres.specs.Faces.{Face, Parts, no_parts, part, Arms, type_of}
 use Rattle.pres.specs.Faces as face
 use Rattle.serde_json.specs.Data.{Data, Items, no_items, item, Members}
 use Rattle.serde_json.specs.Data as json
 use Rattle.json_shape.proofs.Options.{mapped_from, stepped_from, tested_from, one_some}
+use Rattle.serde_json.specs.Find.{as_null}
 use Rattle.json_shape.specs.Scalars.{sign_in, array_in, kind_of}
-use Rattle.json_shape.specs.Presents.{size, count, is_arm, member_of, tag_in, behind_tag, Shows, ShowEach, ShowInOrder, ShowByName, ShowsArm}
+use Rattle.json_shape.specs.Presents.{size, count, is_arm, member_of, tag_in, behind_tag, Presents, Shows, ShowEach, ShowInOrder, ShowByName, ShowsArm}
+use Rattle.json_shape.specs.Gives.{Gives}
+use Rattle.json_shape.specs.declared.errors.ShapeErr.{ShapeErr}
+use Rattle.json_shape.specs.declared.errors.ShapeErr.TheVariants as errors
+use Rattle.mint.specs.Types.{Ty}
+use Rattle.mint.specs.Typed.{IsWellTyped}
+use Rattle.std.specs.Prelude.{Err}
 use Rattle.json_shape.specs.Reading.{before, each, maybe_in, value_of, in_order, by_name, behind}
 
 both : (a : Option Val) (b : Option Vals) (v : Val) (vs : Vals) → a ≡ Some v → b ≡ Some vs → before a b ≡ Some (val v vs)
@@ -162,3 +169,29 @@ mutual
   behind_found face.no_other n j v h = absurd cc
   behind_found (face.other f) n j v h = found f j v h
   behind_found (face.arm m f arms) n j v h = arm_found (int_eq n m) (Shows f j v) (ShowsArm arms n j v) (value_of f j) (behind arms n j) v (found f j v) (behind_found arms n j v) h
+
+pub null_read : (j : Data) → true ≡ is_some (as_null j) → value_of face.nothing j ≡ Some void
+unfolding value_of
+null_read json.null h = refl
+null_read _ h = absurd cc
+
+pub null_missed : (j : Data) → false ≡ is_some (as_null j) → value_of face.nothing j ≡ None
+unfolding value_of
+null_missed json.null h = absurd cc
+null_missed _ h = refl
+
+-- a light value of the type that is read is presented, and no other one is
+pub read_presents : (f : Face) (j : Data) (v : Val) (t : Ty) → t ≡ type_of f → value_of f j ≡ Some v → IsWellTyped t v → Presents f j v
+read_presents f j v t same is typed = record { shows = found f j v is; typed = rw same at typed }
+
+pub none_presented : (f : Face) (j : Data) → value_of f j ≡ None → (v : Val) → ¬ Presents f j v
+none_presented f j none v p = let is = sym none ∙ shown f j v p.shows in absurd cc
+
+pub misfit_presented : (f : Face) (j : Data) (w : Val) (t : Ty) → t ≡ type_of f → value_of f j ≡ Some w → ¬ IsWellTyped t w → (v : Val) → ¬ Presents f j v
+misfit_presented f j w t same is misfit v p =
+    let one : v ≡ w = one_some v w (sym (shown f j v p.shows) ∙ is) in
+    misfit (rw (same, ← one) p.typed)
+
+pub shape_gives_none : {X A : Type 0} (seen_by : X → A) (e : ShapeErr) (there : Option A) → Gives seen_by (Err e) there → e ≡ errors.Shape → there ≡ None
+shape_gives_none seen_by errors.Shape there h is = h
+shape_gives_none seen_by errors.NoMemory there h is = absurd cc

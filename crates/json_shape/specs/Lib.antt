@@ -1,3 +1,4 @@
+pub mod Gives
 pub mod Laws
 pub mod Named
 pub mod Presents

@@ -23,10 +23,19 @@ abbrev pub count : Parts → ℕ
 count no_parts = 0
 count (part n f ps) = count ps + 1
 
--- no members besides these two
+-- the members of a tree that is an object
+abbrev pub members_in : Data → Members
+members_in (json.object ms) = ms
+members_in _ = no_members
+
+-- the members of a choice
+abbrev pub is_arm_key : List ℕ → Bool
+is_arm_key k = bytes_eq k (codes "tag") || bytes_eq k (codes "value")
+
+-- no members besides these
 abbrev pub is_arm : Members → Bool
 is_arm no_members = true
-is_arm (member k j ms) = (bytes_eq k (codes "tag") || bytes_eq k (codes "value")) && is_arm ms
+is_arm (member k j ms) = is_arm_key k && is_arm ms
 
 -- the member of a name
 abbrev pub member_of : List ℕ → Members → Option Data

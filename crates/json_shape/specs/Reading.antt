@@ -24,23 +24,33 @@ maybe_in f no_items = Some absent
 maybe_in f (item j no_items) = option_map present (f j)
 maybe_in f _ = None
 
+-- what is read of an array
+abbrev pub in_array : (Items → Option Vals) → Data → Option Vals
+in_array f j = option_and_then f (as_array j)
+
+-- what is read of an object with so many members
+abbrev pub in_object : ℕ → (Members → Option Vals) → Data → Option Vals
+in_object n f j = option_and_then (λ ms. if size ms == n then f ms else None) (as_object j)
+
 -- the value that a tree shows
 unfoldable mutual
   pub value_of : Face → Data → Option Val
   value_of face.nothing j = option_map (λ _. void) (as_null j)
   value_of (face.scalar s) j = option_map num (sign_in s j)
   value_of (face.numbers a) j = option_map (row (kind_of a)) (array_in a j)
-  value_of (face.values ps) j = option_map group (option_and_then (in_order ps) (as_array j))
-  value_of (face.members ps) j = option_map group (option_and_then (λ ms. if size ms == count ps then by_name ps ms else None) (as_object j))
-  value_of (face.list c f) j = option_map items (option_and_then (each (value_of f)) (as_array j))
+  value_of (face.values ps) j = option_map group (in_array (in_order ps) j)
+  value_of (face.members ps) j = option_map group (in_object (count ps) (by_name ps) j)
+  value_of (face.list c f) j = option_map items (in_array (each (value_of f)) j)
   value_of (face.choice s arms) j = option_and_then (λ ms. if is_arm ms then option_and_then (λ n. option_map (arm n) (behind arms n (behind_tag ms))) (tag_in s ms) else None) (as_object j)
   value_of (face.maybe f) j = option_and_then (maybe_in (value_of f)) (as_array j)
 
+  -- the parts in order
   pub in_order : Parts → Items → Option Vals
   in_order no_parts no_items = Some no_more
   in_order (part n f ps) (item j js) = before (value_of f j) (in_order ps js)
   in_order _ _ = None
 
+  -- the parts by their names
   pub by_name : Parts → Members → Option Vals
   by_name no_parts ms = Some no_more
   by_name (part n f ps) ms = before (option_and_then (value_of f) (member_of n ms)) (by_name ps ms)

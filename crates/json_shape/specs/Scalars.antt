@@ -25,11 +25,15 @@ only _ = None
 abbrev pub ranged : Kind → ℤ → Option ℤ
 ranged k n = if in_range k n then Some n else None
 
+-- a whole number of a kind
+abbrev pub whole_in : Kind → Data → Option ℤ
+whole_in k j = option_and_then (ranged k) (option_and_then as_integer (as_number j))
+
 -- the number of a kind that a tree is: false or true, a string of one character, or a whole number
 abbrev pub number_in : Kind → Data → Option ℤ
 number_in kind.Bool j = option_map flag (as_bool j)
 number_in kind.Char j = option_and_then only (octets_in j)
-number_in k j = option_and_then (ranged k) (option_and_then as_integer (as_number j))
+number_in k j = whole_in k j
 
 -- the number of the first item of a name
 abbrev pub number_named : ItemList → List ℕ → Option ℤ

@@ -11,8 +11,11 @@ use Rattle.serde_json.specs.Find.{as_str}
 abbrev pub text_of : List ℕ → List ℕ
 text_of octets = encode_utf8_all octets
 
+abbrev pub is_octet : ℕ → Bool
+is_octet c = nat_lt c 256
+
 abbrev pub are_octets : List ℕ → Bool
-are_octets = list_all (λ c. nat_lt c 256)
+are_octets = list_all is_octet
 
 -- the octets of a string, where no character is above U+00FF
 abbrev pub octets_of : List ℕ → Option (List ℕ)

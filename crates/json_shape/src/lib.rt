@@ -1,6 +1,14 @@
 //! Values as JSON and back, by the names that an interface gives them.
 #![tactic(auto)]
 
+mod errors;
 mod laws;
+mod objects;
+mod reading;
+mod rows;
+mod scalars;
+mod texts;
 
+pub use errors::ShapeErr;
 pub use laws::{json_presents_one_value, written_json_presents};
+pub use reading::to_value;

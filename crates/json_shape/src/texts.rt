@@ -1,0 +1,61 @@
+// Strings that stand for octets.
+ghost use Rattle.std.specs.Prelude.{IfOk, ◌≡◌, string_bytes};
+ghost use Rattle.serde_json.specs.View.{view};
+ghost use Rattle.json_shape.specs.Gives.{Gives};
+ghost use Rattle.json_shape.specs.Texts.{octets_of, octets_in, hex_in, text_of};
+
+use crate::errors::ShapeErr;
+use hex::FromHexError;
+use kit_base::{NoMemory, Octets};
+use serde_json::Value as Json;
+use std::alloc::Global;
+
+/// The octets that are a string's characters.
+fn octets_of(alloc: Global, text: &str) -> Result<Octets, ShapeErr>
+    ensures { Gives (λ o. o) result (octets_of text.now) }
+{
+    let mut octets = Octets::new(alloc);
+    for c in text.chars() {
+        let code = u32::from(c);
+        if code > 255 {
+            return Err(ShapeErr::Shape);
+        }
+        octets.push(code as u8)?;
+    }
+    Ok(octets)
+}
+
+/// The octets that a string has as characters.
+pub(crate) fn octets_in(alloc: Global, json: &Json) -> Result<Octets, ShapeErr>
+    ensures { Gives (λ o. o) result (octets_in (view json.now)) }
+{
+    match json.as_str() {
+        Some(text) => octets_of(alloc, text),
+        None => Err(ShapeErr::Shape),
+    }
+}
+
+/// The octets that a string has in hexadecimal digits.
+pub(crate) fn hex_in(alloc: Global, json: &Json) -> Result<Vec<u8>, ShapeErr>
+    ensures { Gives (λ o. o.items) result (hex_in (view json.now)) }
+{
+    let Some(text) = json.as_str() else {
+        return Err(ShapeErr::Shape);
+    };
+    match hex::decode(alloc, text.as_bytes()) {
+        Ok(octets) => Ok(octets),
+        Err(FromHexError::OutOfMemory) => Err(ShapeErr::NoMemory),
+        Err(_) => Err(ShapeErr::Shape),
+    }
+}
+
+/// The string of octets.
+pub(crate) fn text_of(alloc: Global, octets: &[u8]) -> Result<String, NoMemory>
+    ensures { IfOk result (λ s. string_bytes s ≡ text_of octets.now) }
+{
+    let mut text = String::new(alloc);
+    for octet in octets {
+        text.push(char::from(*octet))?;
+    }
+    Ok(text)
+}
