@@ -4,5 +4,8 @@ pub mod Fields
 pub mod Letters
 pub mod Members
 pub mod Options
+pub mod Passing
 pub mod Seen
 pub mod Shown
+pub mod Written
+pub mod WrittenScalars

@@ -8,8 +8,8 @@ use Rattle.mint.specs.Types.{Array, text, row_of}
 use Rattle.pres.specs.Faces.{ItemList, Sign, number, item}
 use Rattle.serde_json.specs.Data.{Data, Items, no_items}
 use Rattle.serde_json.specs.Data as json
-use Rattle.serde_json.specs.Find.{as_bool, as_number, as_integer, as_array}
-use Rattle.json_shape.specs.Texts.{octets_in, hex_in}
+use Rattle.serde_json.specs.Find.{as_bool, as_number, as_integer, as_str, as_array}
+use Rattle.json_shape.specs.Texts.{text_of, octets_in, hex_in}
 
 -- the number of false and of true
 abbrev pub flag : Bool → ℤ
@@ -35,15 +35,15 @@ number_in kind.Bool j = option_map flag (as_bool j)
 number_in kind.Char j = option_and_then only (octets_in j)
 number_in k j = whole_in k j
 
--- the number of the first item of a name
+-- the number of the first item whose name a string is
 abbrev pub number_named : ItemList → List ℕ → Option ℤ
-number_named [] name = None
-number_named (i ∷ items) name = if bytes_eq i.0 name then Some i.1 else number_named items name
+number_named [] s = None
+number_named (i ∷ items) s = if bytes_eq (text_of i.0) s then Some i.1 else number_named items s
 
 -- the number that a tree is, or that of the item which a string names
 abbrev pub sign_in : Sign → Data → Option ℤ
 sign_in (number k) j = number_in k j
-sign_in (item items) j = option_and_then (number_named items) (octets_in j)
+sign_in (item items) j = option_and_then (number_named items) (as_str j)
 
 -- the numbers that the trees of an array are
 abbrev pub each_in : Kind → Items → Option (List ℤ)

@@ -53,7 +53,7 @@ fn value(alloc: Global, bound: &Bound, id: NodeId, json: &Json) -> Result<Value,
     match node {
         Node::Void => nothing(json),
         Node::Num(kind) => Ok(Value::Num(number(alloc, *kind, json)?)),
-        Node::Enum(_) => Ok(Value::Num(item(alloc, items_of(shape), json)?)),
+        Node::Enum(_) => Ok(Value::Num(item(items_of(shape), json)?)),
         Node::Text(_) => Ok(Value::Row(text(alloc, json)?)),
         Node::Row(kind, _) => Ok(Value::Row(row(alloc, *kind, json)?)),
         Node::Group(ids) => group(alloc, bound, id, ids, shape, json),

@@ -7,7 +7,7 @@ ghost use Rattle.json_shape.specs.Gives.{Gives};
 ghost use Rattle.json_shape.specs.Scalars.{number_in, number_named, sign_in, whole_in};
 
 use crate::errors::ShapeErr;
-use crate::texts::octets_in;
+use crate::texts::{is_text_of, octets_in};
 use kit_base::Name;
 use mint::kind::Kind;
 use mint::node::Tag;
@@ -69,18 +69,20 @@ pub(crate) fn items_of(shape: &Shape) -> &[(Name, i32)]
 }
 
 /// The number of the item that the JSON names.
-pub(crate) fn item(alloc: Global, items: &[(Name, i32)], json: &Json) -> Result<i128, ShapeErr>
+pub(crate) fn item(items: &[(Name, i32)], json: &Json) -> Result<i128, ShapeErr>
     ensures { Gives (λ n. n) result (sign_in (item items.now) (view json.now)) }
 {
-    let name = octets_in(alloc, json)?;
-    number_named(items, name.as_slice())
+    match json.as_str() {
+        Some(text) => number_named(items, text),
+        None => Err(ShapeErr::Shape),
+    }
 }
 
-fn number_named(items: &[(Name, i32)], name: &[u8]) -> Result<i128, ShapeErr>
-    ensures { Gives (λ n. n) result (number_named items.now name.now) }
+fn number_named(items: &[(Name, i32)], text: &str) -> Result<i128, ShapeErr>
+    ensures { Gives (λ n. n) result (number_named items.now text.now) }
 {
-    for (other, n) in items {
-        if other.as_slice() == name {
+    for (name, n) in items {
+        if is_text_of(name.as_slice(), text) {
             return Ok(i128::from(*n));
         }
     }
@@ -98,6 +100,6 @@ pub(crate) fn sign(
 {
     match tag {
         Tag::Num(kind) => number(alloc, *kind, json),
-        Tag::Enum(_) => item(alloc, items_of(shape), json),
+        Tag::Enum(_) => item(items_of(shape), json),
     }
 }

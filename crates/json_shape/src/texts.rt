@@ -1,5 +1,7 @@
 // Strings that stand for octets.
-ghost use Rattle.std.specs.Prelude.{IfOk, ◌≡◌, string_bytes};
+ghost use Rattle.std.specs.Prelude.{IfNone, IfOk, IfSome, IsUtf8, ◌≡◌, ◌≢◌, ◌++◌, ℕ, List, string_bytes};
+ghost use Rattle.std.specs.Str.{bytes_eq};
+ghost use Rattle.std.specs.Str.Iter.{chars_rest};
 ghost use Rattle.serde_json.specs.View.{view};
 ghost use Rattle.json_shape.specs.Gives.{Gives};
 ghost use Rattle.json_shape.specs.Texts.{octets_of, octets_in, hex_in, text_of};
@@ -9,6 +11,7 @@ use hex::FromHexError;
 use kit_base::{NoMemory, Octets};
 use serde_json::Value as Json;
 use std::alloc::Global;
+use std::str::Chars;
 
 /// The octets that are a string's characters.
 fn octets_of(alloc: Global, text: &str) -> Result<Octets, ShapeErr>
@@ -58,4 +61,35 @@ pub(crate) fn text_of(alloc: Global, octets: &[u8]) -> Result<String, NoMemory>
         text.push(char::from(*octet))?;
     }
     Ok(text)
+}
+
+/// What stands behind the string of the octets.
+pub(crate) fn behind<'a>(octets: &[u8], chars: Chars<'a>) -> Option<Chars<'a>>
+    requires { IsUtf8 (chars_rest chars) }
+    ensures some { IfSome result (λ r. IsUtf8 (chars_rest r) × (chars_rest chars.entry ≡ text_of octets.now ++ chars_rest r)) }
+    ensures none { IfNone result ((more : List ℕ) → chars_rest chars.entry ≢ text_of octets.now ++ more) }
+{
+    let mut rest = chars;
+    for octet in octets {
+        let Some(c) = rest.next() else {
+            return None;
+        };
+        if u32::from(c) != u32::from(*octet) {
+            return None;
+        }
+    }
+    Some(rest)
+}
+
+/// Whether a string is that of the octets.
+pub(crate) fn is_text_of(octets: &[u8], text: &str) -> bool
+    ensures { result ≡ bytes_eq (text_of octets.now) text.now }
+{
+    match behind(octets, text.chars()) {
+        Some(mut rest) => match rest.next() {
+            None => true,
+            Some(_) => false,
+        },
+        None => false,
+    }
 }
