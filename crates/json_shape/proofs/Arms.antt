@@ -12,6 +12,7 @@ use Rattle.serde_json.specs.Data as json
 use Rattle.serde_json.specs.Find.{as_object}
 use Rattle.json_shape.specs.Presents.{is_arm, members_in, tag_in, behind_tag}
 use Rattle.json_shape.specs.Reading.{value_of, behind}
+use Rattle.json_shape.specs.Written.{json_of, behind_json}
 
 read_at : (fs : List Face) (b : Bool) (i : ℕ) (rest : Option ℕ) (k : ℕ) (x : Option Val) (j : Data) → cond b (Some i) rest ≡ Some k → (rest ≡ Some k → x ≡ value_of (at fs k) j) → cond b (value_of (at fs i) j) x ≡ value_of (at fs k) j
 read_at fs true i rest k x j is more =
@@ -58,3 +59,27 @@ pub choice_read : (s : Sign) (arms : Arms) (j : Data) → true ≡ option_map_or
 unfolding value_of
 choice_read s arms (json.object ms) h = rw (sym h) refl
 choice_read s arms _ h = absurd cc
+
+json_at : (fs : List Face) (b : Bool) (i : ℕ) (rest : Option ℕ) (k : ℕ) (x : Data) (v : Val) → cond b (Some i) rest ≡ Some k → (rest ≡ Some k → x ≡ json_of (at fs k) v) → cond b (json_of (at fs i) v) x ≡ json_of (at fs k) v
+json_at fs true i rest k x v is more =
+    let same : i ≡ k = cc in
+    rw same refl
+json_at fs false i rest k x v is more = more is
+
+pub arm_written : (fs : List Face) (arms : List (ℤ × ℕ)) (o : Option ℕ) (n : ℤ) (k : ℕ) (v : Val) → arm_found arms o n ≡ Some k → behind_json (arms_at fs arms o) n v ≡ json_of (at fs k) v
+arm_written fs [] None n k v is = absurd cc
+arm_written fs [] (Some i) n k v is =
+    let same : i ≡ k = cc in
+    rw same refl
+arm_written fs (a ∷ arms) o n k v is = json_at fs (int_eq n a.0) a.1 (arm_found arms o n) k (behind_json (arms_at fs arms o) n v) v is (λ f. arm_written fs arms o n k v f)
+
+null_at : (fs : List Face) (b : Bool) (i : ℕ) (rest : Option ℕ) (x : Data) (v : Val) → cond b (Some i) rest ≡ None → (rest ≡ None → x ≡ json.null) → cond b (json_of (at fs i) v) x ≡ json.null
+null_at fs true i rest x v is more = absurd cc
+null_at fs false i rest x v is more = more is
+
+pub arm_null : (fs : List Face) (arms : List (ℤ × ℕ)) (o : Option ℕ) (n : ℤ) (v : Val) → arm_found arms o n ≡ None → behind_json (arms_at fs arms o) n v ≡ json.null
+arm_null fs [] None n v is = refl
+arm_null fs [] (Some i) n v is = absurd cc
+arm_null fs (a ∷ arms) o n v is = null_at fs (int_eq n a.0) a.1 (arm_found arms o n) (behind_json (arms_at fs arms o) n v) v is (λ f. arm_null fs arms o n v f)
+
+pub ruleset arms_written = (arm_written, arm_null, arm_below)

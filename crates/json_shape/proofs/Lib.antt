@@ -1,6 +1,7 @@
 pub mod Arms
 pub mod Blocks
 pub mod Fields
+pub mod Items
 pub mod Letters
 pub mod Members
 pub mod Options

@@ -23,7 +23,7 @@ use Rattle.serde_json.specs.Find.{of_integer, as_integer}
 use Rattle.json_shape.specs.Named.{is_named_sign}
 use Rattle.json_shape.specs.Texts.{is_octet, are_octets, octets_of, octets_in, hex_in, text_of}
 use Rattle.json_shape.specs.Scalars.{flag, only, ranged, whole_in, number_in, number_named, sign_in, each_in, row_in, array_in, kind_of}
-use Rattle.json_shape.specs.Written.{letters, number_json, name_of, sign_json, each_json, row_json, array_json}
+use Rattle.json_shape.specs.Written.{letters, number_tree, number_json, name_of, sign_json, each_json, row_json}
 
 pub left_true : (a b : Bool) → (a && b) ≡ true → a ≡ true
 left_true true b h = refl
@@ -86,10 +86,13 @@ truth_written (pos (suc zero)) h = refl
 truth_written (pos (suc (suc n))) h = absurd (omega (arith, ltb-true (suc (suc n)) 2 h))
 truth_written (negsuc n) h = absurd (omega (arith, ltb-true n 0 h))
 
+tree_written : (k : Kind) (n : ℤ) → in_range k n ≡ true → number_in k (number_tree k n) ≡ Some n
+tree_written kind.Bool n h = ap Some (truth_written n h)
+tree_written kind.Char n h = letter_written n h
+tree_written k n h = whole_written k n h
+
 pub number_written : (k : Kind) (n : ℤ) → in_range k n ≡ true → number_in k (number_json k n) ≡ Some n
-number_written kind.Bool n h = ap Some (truth_written n h)
-number_written kind.Char n h = letter_written n h
-number_written k n h = whole_written k n h
+number_written k n h = rw h (tree_written k n h)
 
 each_written : (k : Kind) (ns : List ℤ) → list_all (in_range k) ns ≡ true → each_in k (each_json k ns) ≡ Some ns
 each_written k [] h = refl
@@ -107,9 +110,9 @@ letters_small (n ∷ ns) h =
     let here = left_true (in_range kind.Char n) (not (int_eq n (pos 0))) (left_true (is_letter n) (list_all is_letter ns) h) in
     rw (here, letters_small ns (right_true (is_letter n) (list_all is_letter ns) h)) refl
 
-pub array_written : (a : Array) (k : Kind) (ns : List ℤ) → IsArray a k ns → (k ≡ kind_of a) × (array_in a (array_json a ns) ≡ Some ns)
-array_written (text c) k ns h = (h.0, letters_written ns (letters_small ns h.2))
-array_written (row_of k' c) k ns h = (h.0, row_written k' ns h.2)
+pub array_written : (a : Array) (k : Kind) (ns : List ℤ) → IsArray a k ns → (k ≡ kind_of a) × (array_in a (row_json k ns) ≡ Some ns)
+array_written (text c) k ns h = (h.0, rw h.0 (letters_written ns (letters_small ns h.2)))
+array_written (row_of k' c) k ns h = (h.0, rw h.0 (row_written k' ns h.2))
 
 -- items of enums
 

@@ -4,7 +4,7 @@ use Rattle.std.specs.Ordering.{int_eq}
 use Rattle.hex.specs.Hex.{encode_lower}
 use Rattle.mint.specs.declared.kind.Kind.{Kind}
 use Rattle.mint.specs.declared.kind.Kind.TheVariants as kind
-use Rattle.mint.specs.Types.{Array, text, row_of}
+use Rattle.mint.specs.Kinds.{in_range}
 use Rattle.mint.specs.Values.{Val, void, num, row, group, items, arm, absent, present, Vals, no_more, val}
 use Rattle.pres.specs.Faces.{Face, Parts, no_parts, part, Arms, ItemList, Sign}
 use Rattle.pres.specs.Faces as face
@@ -16,11 +16,15 @@ use Rattle.json_shape.specs.Texts.{text_of}
 abbrev pub letters : List ℤ → Data
 letters ns = string (text_of (map nat_abs ns))
 
--- a number of a kind: false or true, a string of one character, or a whole number
+-- false or true, a string of one character, or a whole number
+abbrev pub number_tree : Kind → ℤ → Data
+number_tree kind.Bool n = boolean (not (int_eq n (pos 0)))
+number_tree kind.Char n = letters (n ∷ [])
+number_tree k n = number (of_integer n)
+
+-- a number of a kind; null where it is out of range
 abbrev pub number_json : Kind → ℤ → Data
-number_json kind.Bool n = boolean (not (int_eq n (pos 0)))
-number_json kind.Char n = letters (n ∷ [])
-number_json k n = number (of_integer n)
+number_json k n = if in_range k n then number_tree k n else null
 
 -- the first name with a number
 abbrev pub name_of : ItemList → ℤ → List ℕ
@@ -43,10 +47,6 @@ row_json kind.Octet ns = string (encode_lower (map nat_abs ns))
 row_json kind.Char ns = letters ns
 row_json k ns = array (each_json k ns)
 
-abbrev pub array_json : Array → List ℤ → Data
-array_json (text c) ns = letters ns
-array_json (row_of k c) ns = row_json k ns
-
 -- the values of a list as the items of an array
 abbrev pub items_json : (Val → Data) → Vals → Items
 items_json f no_more = no_items
@@ -60,7 +60,7 @@ arm_json tag behind = object (put (codes "tag") tag (put (codes "value") behind 
 abbrev mutual
   pub json_of : Face → Val → Data
   json_of (face.scalar s) (num n) = sign_json s n
-  json_of (face.numbers a) (row k ns) = array_json a ns
+  json_of (face.numbers a) (row k ns) = row_json k ns
   json_of (face.values ps) (group vs) = array (in_order_json ps vs)
   json_of (face.members ps) (group vs) = object (by_name_json ps vs)
   json_of (face.list c f) (items vs) = array (items_json (json_of f) vs)

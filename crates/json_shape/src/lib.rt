@@ -3,12 +3,15 @@
 
 mod errors;
 mod laws;
+mod numbers;
 mod objects;
 mod reading;
 mod rows;
 mod scalars;
 mod texts;
+mod writing;
 
 pub use errors::ShapeErr;
 pub use laws::{json_presents_one_value, written_json_presents};
 pub use reading::to_value;
+pub use writing::to_json;
