@@ -4,6 +4,7 @@ pub mod Fields
 pub mod Items
 pub mod Letters
 pub mod Members
+pub mod Naming
 pub mod Options
 pub mod Passing
 pub mod Seen

@@ -31,7 +31,13 @@ pub fn to_json(
     requires id { id < length bound.now.nodes }
     requires typed { IsWellTyped (type_at bound.now.nodes id) (seen value.now) }
     ensures json { IfOk result (λ j. view j ≡ json_of (face_at bound.now.nodes bound.now.shapes id) (seen value.now)) }
+    ensures presents { IfOk result (λ j. Presents (face_at bound.now.nodes bound.now.shapes id) (view j) (seen value.now)) }
 {
+    // The names in a binding differ, and a node is of the type of its face.
+    let _ops = bound.ops();
+    let Some(_) = bound.part(id) else {
+        unreachable!()
+    };
     json(alloc, bound, id, value)
 }
 
