@@ -6,12 +6,14 @@ mod laws;
 mod numbers;
 mod objects;
 mod reading;
+mod records;
 mod rows;
 mod scalars;
 mod texts;
 mod writing;
 
-pub use errors::ShapeErr;
+pub use errors::{RecordErr, ShapeErr};
 pub use laws::{json_presents_one_value, written_json_presents};
 pub use reading::to_value;
+pub use records::RequestRec;
 pub use writing::to_json;
