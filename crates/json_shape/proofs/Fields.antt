@@ -12,7 +12,7 @@ use Rattle.serde_json.specs.View.{view, items_view}
 use Rattle.json_shape.specs.Presents.{count, member_of, members_in}
 use Rattle.json_shape.specs.Reading.{before, each, value_of, in_order, by_name}
 use Rattle.json_shape.specs.Texts.{text_of}
-use Rattle.json_shape.proofs.Members.{get-members}
+use Rattle.json_shape.proofs.Lookups.{get-members}
 
 -- values behind values
 abbrev pub joined : Vals → Vals → Vals

@@ -3,8 +3,9 @@ pub mod Blocks
 pub mod Fields
 pub mod Items
 pub mod Letters
-pub mod Members
+pub mod Lookups
 pub mod Naming
+pub mod Sources
 pub mod Options
 pub mod Passing
 pub mod Seen

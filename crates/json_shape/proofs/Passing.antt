@@ -1,9 +1,10 @@
 -- Strings that begin with the string of octets.
-use Rattle.std.proofs.Common.{◌≡◌, ℕ, suc, ◌<◌, ◌≤◌, ◌+◌, List, [], ◌∷◌, ◌++◌, length, get_or, take, drop, Bool, true, false, encode_utf8, encode_utf8_all, IsUtf8, bytes_eq, refl, sym, ap, ◌∙◌, arith, add-one, append_assoc, append-nil, length-append}
+use Rattle.std.proofs.Common.{◌≡◌, ℕ, suc, ◌<◌, ◌≤◌, ◌+◌, List, [], ◌∷◌, ◌++◌, length, get_or, take, drop, Bool, true, false, encode_utf8, encode_utf8_all, IsUtf8, bytes_eq, nat_eq, refl, sym, ap, ◌∙◌, arith, add-one, append_assoc, append-nil, length-append}
 use Rattle.std.proofs.Math.Seq.{drop-cons, take-suc}
 use Rattle.std.proofs.lemmas.List.{drop_all, take_all, nil_from_length}
 use Rattle.std.proofs.lemmas.Str.{IsUtf8-past_char, encode_same, encodes-append, length-encode, len_utf8_bounds}
 use Rattle.std.proofs.lemmas.Slice.Eq.{bytes_eq-Decides}
+use Rattle.std.proofs.lemmas.Bool.Decides.{Decides-eqb}
 use Rattle.json_shape.specs.Texts.{text_of}
 
 -- the string of the first octets is behind us, and what may still come is that of the others
@@ -56,3 +57,16 @@ is_false false h = refl
 -- a string that does not begin so
 pub other_text : (octets text : List ℕ) → ((more : List ℕ) → text ≡ text_of octets ++ more → ⊥) → bytes_eq (text_of octets) text ≡ false
 other_text octets text h = is_false (bytes_eq (text_of octets) text) (λ e. h [] (sym ((bytes_eq-Decides (text_of octets) text).0 e) ∙ sym (append-nil (text_of octets))))
+
+same_front : (p xs ys : List ℕ) → bytes_eq (p ++ xs) (p ++ ys) ≡ bytes_eq xs ys
+same_front [] xs ys = refl
+same_front (c ∷ p) xs ys =
+    let test : nat_eq c c ≡ true = (Decides-eqb c c).1 refl in
+    rw test (same_front p xs ys)
+
+-- the string of octets and others, once that of the octets is passed
+pub peeled : (a b text rest : List ℕ) → text ≡ text_of a ++ rest → bytes_eq (text_of (a ++ b)) text ≡ bytes_eq (text_of b) rest
+peeled a b text rest is = rw (encodes-append a b, is) (same_front (text_of a) (text_of b) rest)
+
+pub unpeeled : (a b text : List ℕ) → ((more : List ℕ) → text ≡ text_of a ++ more → ⊥) → bytes_eq (text_of (a ++ b)) text ≡ false
+unpeeled a b text h = is_false (bytes_eq (text_of (a ++ b)) text) (λ e. h (text_of b) (sym ((bytes_eq-Decides (text_of (a ++ b)) text).0 e) ∙ encodes-append a b))

@@ -6,6 +6,7 @@ pub mod Operations
 pub mod Presents
 pub mod Reading
 pub mod Records
+pub mod Replies
 pub mod Requests
 pub mod Scalars
 pub mod Texts

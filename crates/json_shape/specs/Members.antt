@@ -3,6 +3,7 @@ use Rattle.std.specs.Prelude.{Bool, true, false, ◌&&◌, ◌||◌, not, ℕ, �
 use Rattle.std.specs.Option.{option_map_or}
 use Rattle.std.specs.Str.{bytes_eq}
 use Rattle.wire_def.specs.declared.encoding.Back.{Back}
+use Rattle.wire_def.specs.declared.head.Head.{Head}
 use Rattle.wire_def.specs.declared.encoding.Back.TheVariants as back
 use Rattle.serde_json.specs.Data.{Data, array, no_items, object, no_members, Members, member}
 use Rattle.serde_json.specs.Data as json
@@ -31,6 +32,11 @@ abbrev pub head_key : Back → List ℕ
 head_key back.Xdr = codes "xid"
 head_key back.Mach = codes "remote"
 head_key _ = codes "id"
+
+-- the first head number of a head
+abbrev pub head_word : Back → Head → ℕ
+head_word back.Mach h = h.remote
+head_word _ h = h.id
 
 -- a whole number from 0 to 2^32 - 1
 abbrev pub word_in : Data → Option ℕ

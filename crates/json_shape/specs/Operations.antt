@@ -17,7 +17,7 @@ interface_name is k = slice_index_or (map (λ i. i.name) is) k []
 
 -- the name of an operation in a record: its interface's name, a dot, and its own
 abbrev pub dotted : List Interface → Op → List ℕ
-dotted is o = interface_name is o.interface ++ codes "." ++ o.name
+dotted is o = interface_name is o.interface ++ (codes "." ++ o.name)
 
 -- the first operation of a name, with its number, from number k on
 abbrev pub op_from : List Interface → List ℕ → ℕ → List Op → Option (ℕ × Op)

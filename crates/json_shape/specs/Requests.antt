@@ -13,7 +13,7 @@ use Rattle.serde_json.specs.Data.{Data, Members, no_members, number, unsigned, s
 use Rattle.serde_json.specs.Find.{get}
 use Rattle.json_shape.specs.declared.errors.RecordErr.{RecordErr}
 use Rattle.json_shape.specs.declared.errors.RecordErr.TheVariants as errors
-use Rattle.json_shape.specs.Members.{has_only, is_mach, is_cdr, head_key, head_number, is_text, is_list, text_at, number_at, list_at}
+use Rattle.json_shape.specs.Members.{has_only, is_mach, is_cdr, head_key, head_word, head_number, is_text, is_list, text_at, number_at, list_at}
 use Rattle.json_shape.specs.Operations.{dotted, op_named, is_oneway}
 use Rattle.json_shape.specs.Records.{Begun}
 use Rattle.json_shape.specs.Texts.{text_of}
@@ -54,9 +54,7 @@ request_of b j = if is_request b.back j then asked_of b j (op_named b (text_at (
 
 -- a head's numbers before other members
 abbrev pub head_json : Back → Head → Members → Members
-head_json back.Mach h ms = put (codes "remote") (number (unsigned h.remote)) (put (codes "local") (number (unsigned h.local)) ms)
-head_json back.Xdr h ms = put (codes "xid") (number (unsigned h.id)) ms
-head_json _ h ms = put (codes "id") (number (unsigned h.id)) ms
+head_json b h ms = put (head_key b) (number (unsigned (head_word b h))) (if is_mach b then put (codes "local") (number (unsigned h.local)) ms else ms)
 
 -- the request record of a value
 abbrev pub request_json : Binding → Op → Head → Val → Data

@@ -3,10 +3,13 @@
 
 mod errors;
 mod laws;
+mod members;
 mod numbers;
 mod objects;
+mod operations;
 mod reading;
 mod records;
+mod requests;
 mod rows;
 mod scalars;
 mod texts;
@@ -16,4 +19,5 @@ pub use errors::{RecordErr, ShapeErr};
 pub use laws::{json_presents_one_value, written_json_presents};
 pub use reading::to_value;
 pub use records::RequestRec;
+pub use requests::read_request;
 pub use writing::to_json;

@@ -81,15 +81,23 @@ pub(crate) fn behind<'a>(octets: &[u8], chars: Chars<'a>) -> Option<Chars<'a>>
     Some(rest)
 }
 
-/// Whether a string is that of the octets.
-pub(crate) fn is_text_of(octets: &[u8], text: &str) -> bool
-    ensures { result ≡ bytes_eq (text_of octets.now) text.now }
+/// Whether what is left of a string is that of the octets.
+pub(crate) fn is_rest_of(octets: &[u8], chars: Chars<'_>) -> bool
+    requires { IsUtf8 (chars_rest chars) }
+    ensures { result ≡ bytes_eq (text_of octets.now) (chars_rest chars.entry) }
 {
-    match behind(octets, text.chars()) {
+    match behind(octets, chars) {
         Some(mut rest) => match rest.next() {
             None => true,
             Some(_) => false,
         },
         None => false,
     }
+}
+
+/// Whether a string is that of the octets.
+pub(crate) fn is_text_of(octets: &[u8], text: &str) -> bool
+    ensures { result ≡ bytes_eq (text_of octets.now) text.now }
+{
+    is_rest_of(octets, text.chars())
 }

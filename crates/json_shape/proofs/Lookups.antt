@@ -13,6 +13,7 @@ use Rattle.serde_json.specs.Find.{get, get_member, as_array, as_object}
 use Rattle.serde_json.specs.View.{members_view, items_view}
 use Rattle.json_shape.specs.Presents.{size, count, is_arm, is_arm_key, members_in}
 use Rattle.json_shape.specs.Reading.{value_of, in_object, by_name}
+use Rattle.json_shape.specs.Members.{each_key}
 
 pub size-members : (ms : List (String Global × Value)) → size (members_view ms) ≡ length ms
 size-members [] = refl
@@ -55,3 +56,10 @@ unfolding value_of
 maybe_many f [] j is h = absurd (omega (arith, h))
 maybe_many f (v ∷ []) j is h = absurd (omega (arith, h))
 maybe_many f (v ∷ w ∷ vs) j is h = rw (← is) refl
+
+keyed_entries : (p : List ℕ → Bool) (ms : List (String Global × Value)) → list_all (λ k. p (string_bytes k)) (map (λ (e : String Global × Value). e.0) ms) ≡ each_key p (members_view ms)
+keyed_entries p [] = refl
+keyed_entries p (m ∷ ms) = ap (λ (b : Bool). p (string_bytes m.0) && b) (keyed_entries p ms)
+
+pub keyed : (p : List ℕ → Bool) (m : BTreeMap (String Global) Value) → list_all (λ k. p (string_bytes k)) (keys m) ≡ each_key p (members_view m.entries)
+keyed p m = keyed_entries p m.entries
