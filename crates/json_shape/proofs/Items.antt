@@ -89,3 +89,13 @@ module _ (fs : List Face) where
       let key : name ≡ text_of (get_or names i e) = is_name ∙ ap text_of same_e in
       let rest : ms ≡ by_name_json (parts_at fs (drop (suc i) names) (drop (suc i) ids)) (all_seen (drop (suc i) vs)) = rw add-one at behind in
       rw (drop-cons ids i 0, drop-cons names i e, drop-cons vs i d, key, here, rest) refl
+
+-- items that are copied
+pub copied_more : (vs : List Json) (i : ℕ) (d : Json) (front : List Json) (v : Json) → i < length vs → d ≡ get_or vs i d → view v ≡ view d
+    → behind_items (items_view front) (items_view (drop i vs)) ≡ behind_items (items_view (front ++ v ∷ [])) (items_view (drop (i + 1) vs))
+copied_more vs i d front v h same is =
+    let here : view (get_or vs i d) ≡ view v = ap view (sym same) ∙ sym is in
+    rw (add-one, drop-cons vs i d) (ap (λ (j : Data). behind_items (items_view front) (item j (items_view (drop (suc i) vs)))) here ∙ sym (behind_push front v (items_view (drop (suc i) vs))))
+
+pub copied_done : (vs : List Json) (i : ℕ) (front : List Json) (all : Items) → length vs ≤ i → behind_items (items_view front) (items_view (drop i vs)) ≡ all → items_view front ≡ all
+copied_done vs i front all h is = sym (ap (λ (ws : List Json). behind_items (items_view front) (items_view ws)) (drop_all i vs h) ∙ behind_none (items_view front)) ∙ is

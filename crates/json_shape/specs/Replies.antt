@@ -1,6 +1,8 @@
 -- Reply records.
-use Rattle.std.specs.Prelude.{Bool, true, not, ◌&&◌, ◌||◌, is_some, is_none, ℕ, zero, suc, ℤ, pos, List, [], ◌∷◌, map, Option, Some, None, option_map, unwrap_or, Result, Ok, Err, if◌then◌else◌, slice_index_or, codes}
+use Rattle.std.specs.Prelude.{Bool, true, not, ◌&&◌, ◌||◌, is_some, is_none, ℕ, zero, suc, ℤ, pos, negsuc, length, nat_lt, List, [], ◌∷◌, map, Option, Some, None, option_map, unwrap_or, Result, Ok, Err, if◌then◌else◌, slice_index_or, codes}
 use Rattle.std.specs.Str.{bytes_eq}
+use Rattle.mint.specs.Types.{Ty}
+use Rattle.mint.specs.Typed.{IsWellTyped}
 use Rattle.mint.specs.Values.{Val, arm, seen}
 use Rattle.wire_def.specs.declared.encoding.Back.{Back}
 use Rattle.wire_def.specs.declared.head.Head.{Head}
@@ -83,11 +85,20 @@ reply_of b j = if is_reply b.back j then answered_of b j (op_named b (text_at (c
 abbrev pub raise_name : List Raise → ℕ → List ℕ
 raise_name rs k = slice_index_or (map (λ r. r.name) rs) k []
 
--- the members of an answer, or of an exception
+-- the members of an answer
+abbrev pub given_members : Option Items → Members
+given_members (Some (item result outs)) = put (codes "result") result (put (codes "outs") (array outs) no_members)
+given_members _ = no_members
+
+-- the members of the exception at a place
+abbrev pub raised_members : List Raise → ℕ → Data → Members
+raised_members rs k j = if nat_lt k (length rs) then put (codes "raise") (string (text_of (raise_name rs k))) (put (codes "members") j no_members) else no_members
+
+-- the members of an answer, or of an exception, by the number of the arm
 abbrev pub behind_members : List Raise → ℤ → Data → Members
-behind_members rs (pos zero) (array (item result outs)) = put (codes "result") result (put (codes "outs") (array outs) no_members)
-behind_members rs (pos (suc k)) j = put (codes "raise") (string (text_of (raise_name rs k))) (put (codes "members") j no_members)
-behind_members rs _ j = no_members
+behind_members rs (pos zero) j = given_members (as_array j)
+behind_members rs (pos (suc k)) j = raised_members rs k j
+behind_members rs (negsuc k) j = no_members
 
 -- the members of a reply's value
 abbrev pub answer_members : List Raise → Face → Val → Members
@@ -97,18 +108,37 @@ answer_members rs _ _ = no_members
 abbrev pub word : ℕ → Data
 word n = number (unsigned n)
 
--- a refusal as an array: its name, and what it says
+-- the name of a refusal
+abbrev pub refusal_name : Refusal → List ℕ
+refusal_name refusal.ProgUnavail = codes "PROG_UNAVAIL"
+refusal_name (refusal.ProgMismatch low high) = codes "PROG_MISMATCH"
+refusal_name refusal.ProcUnavail = codes "PROC_UNAVAIL"
+refusal_name refusal.GarbageArgs = codes "GARBAGE_ARGS"
+refusal_name refusal.SystemErr = codes "SYSTEM_ERR"
+refusal_name (refusal.RpcMismatch low high) = codes "RPC_MISMATCH"
+refusal_name (refusal.AuthError status) = codes "AUTH_ERROR"
+refusal_name (refusal.SystemException id minor completion) = codes "SYSTEM_EXCEPTION"
+refusal_name (refusal.UserException id) = codes "USER_EXCEPTION"
+refusal_name (refusal.RetCode code) = codes "RETCODE"
+
+-- what a refusal says
+abbrev pub refusal_says : Refusal → Items
+refusal_says (refusal.ProgMismatch low high) = item (word low) (item (word high) no_items)
+refusal_says (refusal.RpcMismatch low high) = item (word low) (item (word high) no_items)
+refusal_says (refusal.AuthError status) = item (word status) no_items
+refusal_says (refusal.SystemException id minor completion) = item (string (text_of id)) (item (word minor) (item (word completion) no_items))
+refusal_says (refusal.UserException id) = item (string (text_of id)) no_items
+refusal_says (refusal.RetCode code) = item (number (of_integer code)) no_items
+refusal_says _ = no_items
+
+-- a refusal as the items of an array
 abbrev pub refusal_json : Refusal → Items
-refusal_json refusal.ProgUnavail = item (string (codes "PROG_UNAVAIL")) no_items
-refusal_json (refusal.ProgMismatch low high) = item (string (codes "PROG_MISMATCH")) (item (word low) (item (word high) no_items))
-refusal_json refusal.ProcUnavail = item (string (codes "PROC_UNAVAIL")) no_items
-refusal_json refusal.GarbageArgs = item (string (codes "GARBAGE_ARGS")) no_items
-refusal_json refusal.SystemErr = item (string (codes "SYSTEM_ERR")) no_items
-refusal_json (refusal.RpcMismatch low high) = item (string (codes "RPC_MISMATCH")) (item (word low) (item (word high) no_items))
-refusal_json (refusal.AuthError status) = item (string (codes "AUTH_ERROR")) (item (word status) no_items)
-refusal_json (refusal.SystemException id minor completion) = item (string (codes "SYSTEM_EXCEPTION")) (item (string (text_of id)) (item (word minor) (item (word completion) no_items)))
-refusal_json (refusal.UserException id) = item (string (codes "USER_EXCEPTION")) (item (string (text_of id)) no_items)
-refusal_json (refusal.RetCode code) = item (string (codes "RETCODE")) (item (number (of_integer code)) no_items)
+refusal_json why = item (string (refusal_name why)) (refusal_says why)
+
+-- an answer that is well typed
+abbrev pub IsOutcome : Ty → Outcome → Type 0
+IsOutcome t (Answer value) = IsWellTyped t (seen value)
+IsOutcome t (Refused why) = Unit {0}
 
 -- the members of what a call came to
 abbrev pub outcome_members : List Raise → Face → Outcome → Members

@@ -42,7 +42,7 @@ fn letter(alloc: Global, n: &i128) -> Result<Json, NoMemory>
 }
 
 /// The string of the octets.
-fn string(alloc: Global, octets: &[u8]) -> Result<Json, NoMemory>
+pub(crate) fn string(alloc: Global, octets: &[u8]) -> Result<Json, NoMemory>
     ensures { IfOk result (λ j. view j ≡ string (text_of octets.now)) }
 {
     Ok(Json::String(text_of(alloc, octets)?))

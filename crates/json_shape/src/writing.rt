@@ -98,7 +98,7 @@ fn alone(alloc: Global, json: Json) -> Result<Json, NoMemory>
 }
 
 /// The object of a tag and what stands behind it.
-fn arm_json(alloc: Global, tag: Json, behind: Json) -> Result<Json, NoMemory>
+pub(crate) fn arm_json(alloc: Global, tag: Json, behind: Json) -> Result<Json, NoMemory>
     ensures { IfOk result (λ j. view j ≡ arm_json (view tag) (view behind)) }
 {
     let mut members = Map::new(alloc);
@@ -201,7 +201,7 @@ fn items(
 /// The value of the number's arm.
 #[cycle(write)]
 #[tactic(auto, using(crate::proofs::Arms::arms_written))]
-fn arm(
+pub(crate) fn arm(
     alloc: Global,
     bound: &Bound,
     id: NodeId,
