@@ -1,8 +1,6 @@
 -- The arm that is found among the arms of a choice.
-use Rattle.std.proofs.Common.{◌≡◌, ℕ, ◌<◌, ℤ, List, [], ◌∷◌, Option, None, Some, refl, int_eq, Bool, true, false, cond, IsTrue, option_map, option_and_then, sym, ◌∙◌}
-use Rattle.std.specs.Prelude.{codes, unwrap_or}
+use Rattle.std.proofs.Common.{◌≡◌, ℕ, ◌<◌, ℤ, List, [], ◌∷◌, Option, None, Some, refl, int_eq, Bool, true, false, cond, option_map, option_and_then, sym}
 use Rattle.std.specs.Option.{option_map_or}
-use Rattle.std.proofs.Common.{Bor}
 use Rattle.mint.specs.Types.{ArmsBelow, IsBelow}
 use Rattle.mint.specs.Arms.{arm_found}
 use Rattle.mint.specs.Values.{Val, arm}

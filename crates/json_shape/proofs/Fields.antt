@@ -1,5 +1,5 @@
 -- One more field or element.
-use Rattle.std.proofs.Common.{◌≡◌, ℕ, suc, ◌<◌, ◌≤◌, ◌+◌, List, [], ◌∷◌, ◌++◌, length, get_or, drop, map, Option, Some, None, option_map, option_and_then, refl, sym, ap, ◌∙◌, arith, add-one}
+use Rattle.std.proofs.Common.{◌≡◌, ℕ, suc, ◌<◌, ◌≤◌, ◌+◌, List, [], ◌∷◌, ◌++◌, length, get_or, drop, Option, Some, None, option_map, option_and_then, refl, sym, ap, ◌∙◌, arith, add-one}
 use Rattle.std.proofs.Math.Seq.{drop-cons}
 use Rattle.std.proofs.lemmas.List.{drop_all}
 use Rattle.mint.specs.Values.{Val, Vals, no_more, val, seen, all_seen}
@@ -37,6 +37,7 @@ count-parts fs [] (i ∷ ids) = omega (arith, count-parts fs [] ids)
 count-parts fs (n ∷ names) (i ∷ ids) = omega (arith, count-parts fs names ids)
 
 pub ruleset elements = (joined-no_more, joined_one, all_seen-push)
+
 pub ruleset fields = (joined-no_more, joined_one, all_seen-push, count-parts)
 
 -- one value more before those that are read

@@ -1,5 +1,5 @@
 -- The faces of nodes with their shapes have different names.
-use Rattle.std.proofs.Common.{◌≡◌, ℕ, zero, suc, ℤ, List, [], ◌∷◌, ◌++◌, length, get_or, map, Bool, true, false, ◌&&◌, Option, Some, None, Result, Ok, Err, IsTrue, IfOk, zip, refl, sym, ap, ◌∙◌, arith}
+use Rattle.std.proofs.Common.{◌≡◌, ℕ, zero, suc, ℤ, List, [], ◌∷◌, ◌++◌, length, Bool, true, false, ◌&&◌, Option, Some, None, Result, Ok, Err, IfOk, zip, refl, ap, ◌∙◌, arith}
 use Rattle.std.specs.List.{list_all}
 use Rattle.std.proofs.lemmas.List.Folds.{list_all-append}
 use Rattle.kit_base.specs.declared.errors.NoMemory.{NoMemory}
@@ -13,10 +13,8 @@ use Rattle.mint.specs.Values.{Val}
 use Rattle.aoi.specs.Sound.{are_distinct}
 use Rattle.pres.specs.declared.shape.Shape.{Shape}
 use Rattle.pres.specs.declared.shape.Shape.TheVariants.{Plain, FieldNames, LabelNames}
-use Rattle.pres.specs.Faces.{Face, Parts, no_parts, part, Arms, at, parts_at, other_at, arms_at, sign_of, group_face, level, faces_from, faces, face_at, type_of}
-use Rattle.pres.specs.Faces as face
+use Rattle.pres.specs.Faces.{Face, at, parts_at, other_at, arms_at, sign_of, group_face, level, faces_from, faces, face_at, type_of}
 use Rattle.pres.specs.Named.{IsTagShape, IsGroupShape, IsNamed, AreNamed}
-use Rattle.serde_json.specs.Data.{Data}
 use Rattle.serde_json.specs.declared.value.Value.{Value as Json}
 use Rattle.serde_json.specs.View.{view}
 use Rattle.json_shape.specs.Named.{names_of, is_named_sign, is_named, are_parts_named, are_arms_named}

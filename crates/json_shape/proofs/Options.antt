@@ -1,5 +1,5 @@
 -- Values that may be there.
-use Rattle.std.proofs.Common.{◌≡◌, Option, Some, None, option_map, option_and_then, refl, sym, ap, ◌∙◌, Bool, true, false}
+use Rattle.std.proofs.Common.{◌≡◌, Option, Some, None, option_map, option_and_then, refl, Bool, true, false}
 use Rattle.std.specs.Prelude.{if◌then◌else◌}
 
 -- what a mapped value was

@@ -1,7 +1,7 @@
 -- What a tree shows is what is read of it.
-use Rattle.std.proofs.Common.{◌≡◌, ℕ, ℤ, Bool, true, false, Option, Some, None, option_map, option_and_then, refl, sym, ap, ◌∙◌, ◌==◌, IsTrue, MatchBool, int_eq, arith, is_some}
+use Rattle.std.proofs.Common.{◌≡◌, ℤ, Bool, true, false, Option, Some, None, option_map, option_and_then, refl, sym, ap, ◌∙◌, ◌==◌, MatchBool, int_eq, arith, is_some}
 use Rattle.std.proofs.lemmas.Bool.Decides.{nat_tests}
-use Rattle.std.specs.Prelude.{if◌then◌else◌, codes}
+use Rattle.std.specs.Prelude.{if◌then◌else◌}
 use Rattle.std.specs.Option.{IsSomeAnd}
 use Rattle.mint.specs.Values.{Val, void, num, row, group, items, arm, absent, present, Vals, no_more, val}
 use Rattle.pres.specs.Faces.{Face, Parts, no_parts, part, Arms, type_of}
@@ -18,7 +18,7 @@ use Rattle.json_shape.specs.declared.errors.ShapeErr.TheVariants as errors
 use Rattle.mint.specs.Types.{Ty}
 use Rattle.mint.specs.Typed.{IsWellTyped}
 use Rattle.std.specs.Prelude.{Err}
-use Rattle.json_shape.specs.Reading.{before, each, maybe_in, value_of, in_order, by_name, behind}
+use Rattle.json_shape.specs.Reading.{before, each, value_of, in_order, by_name, behind}
 
 both : (a : Option Val) (b : Option Vals) (v : Val) (vs : Vals) → a ≡ Some v → b ≡ Some vs → before a b ≡ Some (val v vs)
 both a b v vs p q = rw (p, q) refl
@@ -60,6 +60,7 @@ never_less (Some w) (Some ws) h = cc
 
 mutual
   unfolding value_of
+
   pub shown : (f : Face) (j : Data) (v : Val) → Shows f j v → value_of f j ≡ Some v
   shown face.nothing json.null void h = refl
   shown (face.scalar s) j (num n) h = ap (option_map num) h
@@ -112,6 +113,7 @@ arm_found false P Q x y v f g h = g h
 -- no value of another sort is read
 mutual
   unfolding value_of
+
   pub found : (f : Face) (j : Data) (v : Val) → value_of f j ≡ Some v → Shows f j v
   found face.nothing json.null v h = let e : void ≡ v = cc in rw (← e) tt
   found face.nothing _ v h = absurd cc

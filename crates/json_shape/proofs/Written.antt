@@ -1,24 +1,23 @@
 -- The tree that is written for a value shows it.
-use Rattle.std.proofs.Common.{◌≡◌, ℕ, ◌+◌, ℤ, List, [], ◌∷◌, Bool, true, false, ◌&&◌, ◌||◌, not, int_eq, Option, Some, None, IsTrue, MatchBool, Ordering, Less, Equal, Greater, nat_cmp, bytes_eq, refl, sym, ap, ◌∙◌, arith}
-use Rattle.std.specs.Prelude.{if◌then◌else◌, codes}
-use Rattle.std.specs.Option.{IsSomeAnd}
+use Rattle.std.proofs.Common.{◌≡◌, ℕ, ◌+◌, ℤ, List, Bool, true, false, ◌||◌, not, int_eq, Some, None, MatchBool, Ordering, Less, Equal, Greater, nat_cmp, bytes_eq, refl, sym, ◌∙◌, arith}
+use Rattle.std.specs.Prelude.{if◌then◌else◌}
 use Rattle.std.specs.List.{list_any}
 use Rattle.std.specs.Ordering.{match_ordering}
 use Rattle.std.specs.Cmp.Lexicographic.{slice_cmp}
 use Rattle.std.proofs.lemmas.Slice.Eq.{bytes_eq-Decides}
 use Rattle.std.proofs.lemmas.Str.{encodes_same}
 use Rattle.mint.specs.Values.{Val, void, num, row, group, items, arm, absent, present, Vals, no_more, val}
-use Rattle.mint.specs.Typed.{IsOf, AreOf, IsOfArm, Each, IsWellTyped}
+use Rattle.mint.specs.Typed.{IsOf, AreOf, IsOfArm, Each}
 use Rattle.aoi.specs.Sound.{are_distinct}
 use Rattle.pres.specs.Faces.{Face, Parts, no_parts, part, Arms, type_of, types_of, arm_types_of}
 use Rattle.pres.specs.Faces as face
-use Rattle.serde_json.specs.Data.{Data, Items, no_items, item, Members, no_members, member, put}
+use Rattle.serde_json.specs.Data.{Data, Members, no_members, member, put}
 use Rattle.serde_json.specs.Find.{get_member}
 use Rattle.serde_json.proofs.Views.{get_member-put, get_member-put_other}
 use Rattle.json_shape.specs.Named.{is_named_sign, names_of, is_named, are_parts_named, are_arms_named}
-use Rattle.json_shape.specs.Presents.{size, count, is_arm, member_of, tag_in, behind_tag, ShowEach, Shows, ShowInOrder, ShowByName, ShowsArm, Presents}
+use Rattle.json_shape.specs.Presents.{size, count, member_of, ShowEach, Shows, ShowInOrder, ShowByName, ShowsArm}
 use Rattle.json_shape.specs.Texts.{text_of}
-use Rattle.json_shape.specs.Written.{sign_json, items_json, arm_json, json_of, in_order_json, by_name_json, behind_json}
+use Rattle.json_shape.specs.Written.{items_json, json_of, in_order_json, by_name_json, behind_json}
 use Rattle.json_shape.proofs.WrittenScalars.{left_true, right_true, sign_written, array_written}
 
 each_shows : (f : Face) (P : Val → Type 0) → ((v : Val) → P v → Shows f (json_of f v) v) → (vs : Vals) → Each P vs → ShowEach (Shows f) (items_json (json_of f) vs) vs
@@ -57,11 +56,11 @@ missing (part m f ps) no_more q h = refl
 missing (part m f ps) (val v vs) q h =
     let two = neither (bytes_eq m q) (is_name (names_of ps) q) h in
     other_member q m (json_of f v) (by_name_json ps vs) (swapped m q two.0) ∙ missing ps vs q two.1 where
-  swapped : (a b : List ℕ) → bytes_eq a b ≡ false → bytes_eq b a ≡ false
-  swapped a b h = step (bytes_eq b a) refl where
-    step : (t : Bool) → bytes_eq b a ≡ t → t ≡ false
-    step false is = refl
-    step true is = let same : bytes_eq a b ≡ true = (bytes_eq-Decides a b).1 (sym ((bytes_eq-Decides b a).0 is)) in absurd cc
+      swapped : (a b : List ℕ) → bytes_eq a b ≡ false → bytes_eq b a ≡ false
+      swapped a b h = step (bytes_eq b a) refl where
+        step : (t : Bool) → bytes_eq b a ≡ t → t ≡ false
+        step false is = refl
+        step true is = let same : bytes_eq a b ≡ true = (bytes_eq-Decides a b).1 (sym ((bytes_eq-Decides b a).0 is)) in absurd cc
 
 size-put : (k : List ℕ) (d : Data) (ms : Members) → get_member k ms ≡ None → size (put k d ms) ≡ size ms + 1
 size-put k d no_members h = refl

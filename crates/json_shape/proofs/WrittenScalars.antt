@@ -1,28 +1,27 @@
 -- Numbers, items, texts and rows that are written are read.
-use Rattle.std.proofs.Common.{◌≡◌, ℕ, zero, suc, ◌<◌, ◌+◌, ℤ, pos, negsuc, List, [], ◌∷◌, length, map, Bool, true, false, ◌&&◌, ◌||◌, not, nat_lt, nat_abs, int_eq, int_lt, cond, Option, Some, None, option_map, option_and_then, IsTrue, chars, bytes_eq, refl, sym, ap, ◌∙◌, arith}
-use Rattle.std.specs.Prelude.{if◌then◌else◌, slice_index}
+use Rattle.std.proofs.Common.{◌≡◌, ℕ, zero, suc, ◌<◌, ℤ, pos, negsuc, List, [], ◌∷◌, map, Bool, true, false, ◌&&◌, ◌||◌, not, nat_lt, nat_abs, int_eq, int_lt, Some, option_map, option_and_then, bytes_eq, refl, ap, arith}
+use Rattle.std.specs.Prelude.{if◌then◌else◌}
 use Rattle.std.specs.List.{list_all, list_any}
-use Rattle.std.proofs.Math.Utf8.{scalar, scalars, low_scalar}
-use Rattle.std.proofs.lemmas.Bool.{ltb-true, lt-ltb}
-use Rattle.std.proofs.lemmas.Bool.Decides.{nat_tests, Decides-int_eq}
+use Rattle.std.proofs.Math.Utf8.{scalars, low_scalar}
+use Rattle.std.proofs.lemmas.Bool.{ltb-true}
+use Rattle.std.proofs.lemmas.Bool.Decides.{Decides-int_eq}
 use Rattle.std.proofs.lemmas.Slice.Eq.{bytes_eq-Decides}
 use Rattle.std.proofs.lemmas.Str.{chars-encodes, encodes_same}
 use Rattle.hex.specs.Hex.{IsBytes, encode_lower}
 use Rattle.hex.proofs.HexLemmas.{decode_of-encode_lower}
 use Rattle.mint.specs.declared.kind.Kind.{Kind}
 use Rattle.mint.specs.declared.kind.Kind.TheVariants as kind
-use Rattle.mint.specs.declared.kind.Count.{Count}
 use Rattle.mint.specs.Kinds.{in_range, is_letter}
 use Rattle.mint.specs.Types.{Array, text, row_of}
-use Rattle.mint.specs.Typed.{is_scalar, IsScalar, IsArray}
+use Rattle.mint.specs.Typed.{IsScalar, IsArray}
 use Rattle.aoi.specs.Sound.{are_distinct}
 use Rattle.pres.specs.Faces.{ItemList, Sign, put_in, labels_of, scalar_of}
 use Rattle.pres.specs.Faces as face
-use Rattle.serde_json.specs.Data.{Data, number, string, array}
+use Rattle.serde_json.specs.Data.{number, string}
 use Rattle.serde_json.specs.Find.{of_integer, as_integer}
 use Rattle.json_shape.specs.Named.{is_named_sign}
 use Rattle.json_shape.specs.Texts.{is_octet, are_octets, octets_of, octets_in, hex_in, text_of}
-use Rattle.json_shape.specs.Scalars.{flag, only, ranged, whole_in, number_in, number_named, sign_in, each_in, row_in, array_in, kind_of}
+use Rattle.json_shape.specs.Scalars.{flag, only, whole_in, number_in, number_named, sign_in, each_in, row_in, array_in, kind_of}
 use Rattle.json_shape.specs.Written.{letters, number_tree, number_json, name_of, sign_json, each_json, row_json}
 
 pub left_true : (a b : Bool) → (a && b) ≡ true → a ≡ true
@@ -130,9 +129,11 @@ put_any p m (l ∷ ls) h = step (put_any p m ls) (int_eq m l) (int_lt m l) h whe
   behind true b false d h f = refl
   behind false b true d h f = refl
   behind false b false d h f = f h
+
   either : (a b : Bool) → b ≡ true → (a || b) ≡ true
   either true b h = refl
   either false b h = h
+
   step : (list_any p (put_in m ls) ≡ true → (p m || list_any p ls) ≡ true) → (s t : Bool) → list_any p (if s then l ∷ ls else (if t then m ∷ l ∷ ls else l ∷ put_in m ls)) ≡ true → (p m || list_any p (l ∷ ls)) ≡ true
   step f true t h = either (p m) (list_any p (l ∷ ls)) h
   step f false true h = h
@@ -164,8 +165,10 @@ names_later i items n name new names = record {
   either : (a b : Bool) → b ≡ true → (a || b) ≡ true
   either true b h = refl
   either false b h = h
+
   clash : i.0 ≡ name → ⊥
   clash same = let twice : is_name (map (λ i. i.0) items) i.0 ≡ true = rw same names.there in let no : not true ≡ true = rw twice at new in absurd cc
+
   later : (b : Bool) → (b ≡ true → ⊥) → (if b then Some i.1 else number_named items (text_of name)) ≡ Some n
   later true h = absurd (h refl)
   later false h = names.named
@@ -175,6 +178,7 @@ names [] n h distinct = absurd cc
 names (i ∷ items) n h distinct = step (λ k. names items n k (right_true (not (is_name (map (λ i. i.0) items) i.0)) (are_distinct (map (λ i. i.0) items)) distinct)) (int_eq i.1 n) refl h where
   new : not (is_name (map (λ i. i.0) items) i.0) ≡ true
   new = left_true (not (is_name (map (λ i. i.0) items) i.0)) (are_distinct (map (λ i. i.0) items)) distinct
+
   step : (has_number items n ≡ true → Names items n (name_of items n)) → (b : Bool) → int_eq i.1 n ≡ b → (b || has_number items n) ≡ true → Names (i ∷ items) n (if b then i.0 else name_of items n)
   step f true is h = names_first i items n is
   step f false is h = names_later i items n (name_of items n) new (f h)

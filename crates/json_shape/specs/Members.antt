@@ -1,7 +1,6 @@
 -- The members of records.
-use Rattle.std.specs.Prelude.{Bool, true, false, ◌&&◌, ◌||◌, not, ℕ, ◌^◌, nat_lt, List, Option, Some, None, option_and_then, option_map, unwrap_or, is_some, is_none, if◌then◌else◌, codes}
+use Rattle.std.specs.Prelude.{Bool, true, false, ◌&&◌, ℕ, ◌^◌, nat_lt, List, Option, Some, None, option_and_then, unwrap_or, is_some, if◌then◌else◌, codes}
 use Rattle.std.specs.Option.{option_map_or}
-use Rattle.std.specs.Str.{bytes_eq}
 use Rattle.wire_def.specs.declared.encoding.Back.{Back}
 use Rattle.wire_def.specs.declared.head.Head.{Head}
 use Rattle.wire_def.specs.declared.encoding.Back.TheVariants as back

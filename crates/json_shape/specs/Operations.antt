@@ -1,5 +1,5 @@
 -- The operations that records name.
-use Rattle.std.specs.Prelude.{Bool, true, false, not, ◌&&◌, ◌++◌, ℕ, suc, List, [], ◌∷◌, map, Option, Some, None, if◌then◌else◌, slice_index_or, codes}
+use Rattle.std.specs.Prelude.{Bool, false, ◌++◌, ℕ, suc, List, [], ◌∷◌, map, Option, Some, None, if◌then◌else◌, slice_index_or, codes}
 use Rattle.std.specs.Option.{option_map_or}
 use Rattle.std.specs.Str.{bytes_eq}
 use Rattle.wire_def.specs.declared.encoding.Back.{Back}

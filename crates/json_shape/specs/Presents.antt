@@ -1,5 +1,5 @@
 -- When JSON presents a value.
-use Rattle.std.specs.Prelude.{◌≡◌, ◌+◌, ◌||◌, ◌&&◌, ℕ, ℤ, Bool, true, List, IsTrue, Option, Some, None, option_and_then, unwrap_or, codes, MatchBool}
+use Rattle.std.specs.Prelude.{◌≡◌, ◌+◌, ◌||◌, ◌&&◌, ℕ, ℤ, Bool, true, List, IsTrue, Option, Some, option_and_then, unwrap_or, codes, MatchBool}
 use Rattle.std.specs.Option.{IsSomeAnd}
 use Rattle.std.specs.Ordering.{int_eq}
 use Rattle.std.specs.Str.{bytes_eq}

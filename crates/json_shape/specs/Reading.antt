@@ -1,5 +1,5 @@
 -- Reading a value from JSON.
-use Rattle.std.specs.Prelude.{ℕ, ℤ, Bool, ◌==◌, Option, Some, None, if◌then◌else◌, option_and_then, option_map}
+use Rattle.std.specs.Prelude.{ℕ, ℤ, ◌==◌, Option, Some, None, if◌then◌else◌, option_and_then, option_map}
 use Rattle.std.specs.Ordering.{int_eq}
 use Rattle.mint.specs.Values.{Val, void, num, row, group, items, arm, absent, present, Vals, no_more, val}
 use Rattle.pres.specs.Faces.{Face, Parts, no_parts, part, Arms}

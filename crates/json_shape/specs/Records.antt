@@ -1,5 +1,5 @@
 -- What records come to.
-use Rattle.std.specs.Prelude.{◌≡◌, ℕ, List, Result, Ok, Err}
+use Rattle.std.specs.Prelude.{◌≡◌, ℕ, Result, Ok, Err}
 use Rattle.mint.specs.Values.{Val, seen}
 use Rattle.pres.specs.Faces.{Face}
 use Rattle.serde_json.specs.Data.{Data}

@@ -1,5 +1,5 @@
 -- Reply records.
-use Rattle.std.specs.Prelude.{Bool, true, not, ◌&&◌, ◌||◌, is_some, is_none, ℕ, zero, suc, ℤ, pos, negsuc, length, nat_lt, List, [], ◌∷◌, map, Option, Some, None, option_map, unwrap_or, Result, Ok, Err, if◌then◌else◌, slice_index_or, codes}
+use Rattle.std.specs.Prelude.{Bool, true, ◌&&◌, ◌||◌, is_some, is_none, ℕ, zero, suc, ℤ, pos, negsuc, length, nat_lt, List, [], ◌∷◌, map, Option, Some, None, option_map, unwrap_or, Result, Ok, Err, if◌then◌else◌, slice_index_or, codes}
 use Rattle.std.specs.Str.{bytes_eq}
 use Rattle.mint.specs.Types.{Ty}
 use Rattle.mint.specs.Typed.{IsWellTyped}

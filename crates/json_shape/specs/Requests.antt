@@ -1,5 +1,5 @@
 -- Request records.
-use Rattle.std.specs.Prelude.{Bool, true, not, ◌&&◌, ◌||◌, ◌==◌, is_some, ℕ, List, [], Option, Some, None, Result, Ok, Err, if◌then◌else◌, codes}
+use Rattle.std.specs.Prelude.{Bool, true, not, ◌&&◌, ◌||◌, ◌==◌, is_some, ℕ, List, Option, Some, None, Result, Ok, Err, if◌then◌else◌, codes}
 use Rattle.std.specs.Str.{bytes_eq}
 use Rattle.mint.specs.Values.{Val}
 use Rattle.wire_def.specs.declared.encoding.Back.{Back}
@@ -13,7 +13,7 @@ use Rattle.serde_json.specs.Data.{Data, Members, no_members, number, unsigned, s
 use Rattle.serde_json.specs.Find.{get}
 use Rattle.json_shape.specs.declared.errors.RecordErr.{RecordErr}
 use Rattle.json_shape.specs.declared.errors.RecordErr.TheVariants as errors
-use Rattle.json_shape.specs.Members.{has_only, is_mach, is_cdr, head_key, head_word, head_number, is_text, is_list, text_at, number_at, list_at}
+use Rattle.json_shape.specs.Members.{has_only, is_mach, head_key, head_word, head_number, is_text, is_list, text_at, number_at, list_at}
 use Rattle.json_shape.specs.Operations.{dotted, op_named, is_oneway}
 use Rattle.json_shape.specs.Records.{Begun}
 use Rattle.json_shape.specs.Texts.{text_of}

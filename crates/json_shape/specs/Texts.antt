@@ -1,5 +1,5 @@
 -- Strings that stand for octets, one character each.
-use Rattle.std.specs.Prelude.{ℕ, List, Option, Some, None, if◌then◌else◌, nat_lt, option_and_then, option_map, map, Bool, ℤ, pos}
+use Rattle.std.specs.Prelude.{ℕ, List, Option, Some, None, if◌then◌else◌, nat_lt, option_and_then, Bool}
 use Rattle.std.specs.List.{list_all}
 use Rattle.std.specs.Str.{chars, encode_utf8_all}
 use Rattle.std.specs.Result.{result_ok}

@@ -1,11 +1,11 @@
 -- The tree that is written for a value.
-use Rattle.std.specs.Prelude.{ℕ, ℤ, pos, Bool, not, List, [], ◌∷◌, map, nat_abs, if◌then◌else◌, codes}
+use Rattle.std.specs.Prelude.{ℕ, ℤ, pos, not, List, [], ◌∷◌, map, nat_abs, if◌then◌else◌, codes}
 use Rattle.std.specs.Ordering.{int_eq}
 use Rattle.hex.specs.Hex.{encode_lower}
 use Rattle.mint.specs.declared.kind.Kind.{Kind}
 use Rattle.mint.specs.declared.kind.Kind.TheVariants as kind
 use Rattle.mint.specs.Kinds.{in_range}
-use Rattle.mint.specs.Values.{Val, void, num, row, group, items, arm, absent, present, Vals, no_more, val}
+use Rattle.mint.specs.Values.{Val, num, row, group, items, arm, absent, present, Vals, no_more, val}
 use Rattle.pres.specs.Faces.{Face, Parts, no_parts, part, Arms, ItemList, Sign}
 use Rattle.pres.specs.Faces as face
 use Rattle.serde_json.specs.Data.{Data, null, boolean, number, string, array, object, Items, no_items, item, Members, no_members, put}

@@ -59,11 +59,7 @@ fn whole(kind: Kind, n: &i128) -> Json
 }
 
 /// The name of the first item with a number.
-pub(crate) fn item_json(
-    alloc: Global,
-    items: &[(Name, i32)],
-    n: &i128,
-) -> Result<Json, NoMemory>
+pub(crate) fn item_json(alloc: Global, items: &[(Name, i32)], n: &i128) -> Result<Json, NoMemory>
     ensures { IfOk result (λ j. view j ≡ sign_json (item items.now) n.now) }
 {
     for (name, m) in items {
@@ -75,12 +71,7 @@ pub(crate) fn item_json(
 }
 
 /// The JSON of a tag.
-pub(crate) fn sign_json(
-    alloc: Global,
-    tag: &Tag,
-    shape: &Shape,
-    n: &i128,
-) -> Result<Json, NoMemory>
+pub(crate) fn sign_json(alloc: Global, tag: &Tag, shape: &Shape, n: &i128) -> Result<Json, NoMemory>
     ensures { IfOk result (λ j. view j ≡ sign_json (sign_of tag.now shape.now) n.now) }
 {
     match tag {
@@ -111,9 +102,7 @@ fn numbers(alloc: Global, kind: Kind, row: &Row) -> Result<Json, NoMemory>
 {
     let mut list = Vec::new(alloc);
     for i in 0..row.len() {
-        let Some(n) = row.get(i) else {
-            unreachable!()
-        };
+        let Some(n) = row.get(i) else { unreachable!() };
         list.push(number_json(alloc, kind, &n)?)?;
     }
     Ok(Json::Array(list))

@@ -52,10 +52,7 @@ pub(crate) fn dotted(alloc: Global, interfaces: &[Interface], op: &Op) -> Result
 }
 
 /// The first operation that a string names, with its number.
-pub(crate) fn op_named<'a>(
-    bound: &'a Bound,
-    text: &str,
-) -> Result<Option<(u32, &'a Op)>, NoMemory>
+pub(crate) fn op_named<'a>(bound: &'a Bound, text: &str) -> Result<Option<(u32, &'a Op)>, NoMemory>
     ensures found { IfOk result (λ o. option_map (λ p. (p.0, p.1.now)) o ≡ op_named bound.now text.now) }
     ensures placed { IfOk result (λ o. IfSome o (λ p. IsPlaced bound.now p.1.now)) }
 {

@@ -193,7 +193,14 @@ fn in_order(
 
 #[cycle(read)]
 #[tactic(auto, unfolding(crate::specs::Reading::value_of))]
-fn items(alloc: Global, bound: &Bound, id: NodeId, item: NodeId, size: Count, json: &Json) -> Result<Value, ShapeErr>
+fn items(
+    alloc: Global,
+    bound: &Bound,
+    id: NodeId,
+    item: NodeId,
+    size: Count,
+    json: &Json,
+) -> Result<Value, ShapeErr>
     requires id { id < length bound.now.nodes }
     requires below { item < id }
     ensures { Gives seen result (value_of (list size (face_at bound.now.nodes bound.now.shapes item)) (view json.now)) }
@@ -206,7 +213,13 @@ fn items(alloc: Global, bound: &Bound, id: NodeId, item: NodeId, size: Count, js
 
 #[cycle(read)]
 #[tactic(auto, using(crate::proofs::Fields::elements))]
-fn each(alloc: Global, bound: &Bound, id: NodeId, item: NodeId, list: &[Json]) -> Result<Values, ShapeErr>
+fn each(
+    alloc: Global,
+    bound: &Bound,
+    id: NodeId,
+    item: NodeId,
+    list: &[Json],
+) -> Result<Values, ShapeErr>
     requires id { id < length bound.now.nodes }
     requires below { item < id }
     ensures { Gives all_seen result (each (value_of (face_at bound.now.nodes bound.now.shapes item)) (items_view list.now)) }
@@ -220,7 +233,13 @@ fn each(alloc: Global, bound: &Bound, id: NodeId, item: NodeId, list: &[Json]) -
 
 #[cycle(read)]
 #[tactic(auto, unfolding(crate::specs::Reading::value_of))]
-fn maybe(alloc: Global, bound: &Bound, id: NodeId, item: NodeId, json: &Json) -> Result<Value, ShapeErr>
+fn maybe(
+    alloc: Global,
+    bound: &Bound,
+    id: NodeId,
+    item: NodeId,
+    json: &Json,
+) -> Result<Value, ShapeErr>
     requires id { id < length bound.now.nodes }
     requires below { item < id }
     ensures { Gives seen result (value_of (maybe (face_at bound.now.nodes bound.now.shapes item)) (view json.now)) }

@@ -99,7 +99,12 @@ fn head_in(bound: &Bound, number: u32, json: &Json) -> Head
 {
     let back = bound.back();
     let id = number_at(json, head_key(back));
-    head_of(back, id, number_at(json, "local"), !is_oneway(bound, number))
+    head_of(
+        back,
+        id,
+        number_at(json, "local"),
+        !is_oneway(bound, number),
+    )
 }
 
 /// The record whose operation and head are known, of the value that the JSON presents.

@@ -90,12 +90,7 @@ fn number_named(items: &[(Name, i32)], text: &str) -> Result<i128, ShapeErr>
 }
 
 /// The number that the JSON is for a tag.
-pub(crate) fn sign(
-    alloc: Global,
-    tag: &Tag,
-    shape: &Shape,
-    json: &Json,
-) -> Result<i128, ShapeErr>
+pub(crate) fn sign(alloc: Global, tag: &Tag, shape: &Shape, json: &Json) -> Result<i128, ShapeErr>
     ensures { Gives (λ n. n) result (sign_in (sign_of tag.now shape.now) (view json.now)) }
 {
     match tag {

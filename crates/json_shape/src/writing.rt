@@ -22,12 +22,7 @@ use serde_json::{Map, Value as Json, put};
 use std::alloc::Global;
 
 /// The JSON of a value that is well typed for a node.
-pub fn to_json(
-    alloc: Global,
-    bound: &Bound,
-    id: NodeId,
-    value: &Value,
-) -> Result<Json, NoMemory>
+pub fn to_json(alloc: Global, bound: &Bound, id: NodeId, value: &Value) -> Result<Json, NoMemory>
     requires id { id < length bound.now.nodes }
     requires typed { IsWellTyped (type_at bound.now.nodes id) (seen value.now) }
     ensures json { IfOk result (λ j. view j ≡ json_of (face_at bound.now.nodes bound.now.shapes id) (seen value.now)) }

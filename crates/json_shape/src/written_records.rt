@@ -40,7 +40,12 @@ pub fn write_request(
         unreachable!()
     };
     let mut members = Map::new(alloc);
-    put(&mut members, alloc, "args", to_json(alloc, bound, operation.request, value)?)?;
+    put(
+        &mut members,
+        alloc,
+        "args",
+        to_json(alloc, bound, operation.request, value)?,
+    )?;
     put_head(alloc, bound.back(), head, &mut members)?;
     let name = dotted(alloc, bound.unit().interfaces().as_slice(), operation)?;
     put(&mut members, alloc, "op", string(alloc, name.as_slice())?)?;
@@ -59,7 +64,12 @@ fn put_head(
     if is_mach(back) {
         put(members, alloc, "local", Json::from(head.local))?;
     }
-    put(members, alloc, head_key(back), Json::from(head_word(back, head)))?;
+    put(
+        members,
+        alloc,
+        head_key(back),
+        Json::from(head_word(back, head)),
+    )?;
     Ok(())
 }
 
@@ -80,9 +90,13 @@ pub fn write_reply(
         unreachable!()
     };
     let back = bound.back();
-    let mut members =
-        outcome_members(alloc, bound, raises(bound, op), operation.reply, outcome)?;
-    put(&mut members, alloc, head_key(back), Json::from(head_word(back, head)))?;
+    let mut members = outcome_members(alloc, bound, raises(bound, op), operation.reply, outcome)?;
+    put(
+        &mut members,
+        alloc,
+        head_key(back),
+        Json::from(head_word(back, head)),
+    )?;
     let name = dotted(alloc, bound.unit().interfaces().as_slice(), operation)?;
     put(&mut members, alloc, "op", string(alloc, name.as_slice())?)?;
     Ok(Json::Object(members))
@@ -108,7 +122,12 @@ fn refused_members(alloc: Global, why: &Refusal) -> Result<Map<String, Json>, No
     ensures { IfOk result (λ m. members_view m.entries ≡ put (codes "refused") (array (refusal_json why.now)) no_members) }
 {
     let mut members = Map::new(alloc);
-    put(&mut members, alloc, "refused", Json::Array(refusal(alloc, why)?))?;
+    put(
+        &mut members,
+        alloc,
+        "refused",
+        Json::Array(refusal(alloc, why)?),
+    )?;
     Ok(members)
 }
 
@@ -119,10 +138,8 @@ fn refusal(alloc: Global, why: &Refusal) -> Result<Vec<Json>, NoMemory>
     let mut list = Vec::new(alloc);
     list.push(Json::try_from_str(alloc, refusal_name(why))?)?;
     match why {
-        Refusal::ProgUnavail
-        | Refusal::ProcUnavail
-        | Refusal::GarbageArgs
-        | Refusal::SystemErr => {}
+        Refusal::ProgUnavail | Refusal::ProcUnavail | Refusal::GarbageArgs | Refusal::SystemErr =>
+            {}
         Refusal::ProgMismatch(low, high) | Refusal::RpcMismatch(low, high) => {
             list.push(Json::from(*low))?;
             list.push(Json::from(*high))?;
@@ -235,6 +252,11 @@ fn raised_members(
         return Ok(members);
     }
     put(&mut members, alloc, "members", json)?;
-    put(&mut members, alloc, "raise", string(alloc, raise_name(raises, k))?)?;
+    put(
+        &mut members,
+        alloc,
+        "raise",
+        string(alloc, raise_name(raises, k))?,
+    )?;
     Ok(members)
 }

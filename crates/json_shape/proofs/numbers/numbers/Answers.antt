@@ -1,4 +1,4 @@
-use Rattle.std.proofs.Common.{rules, SFits, sym, ◌∙◌, ap, arith}
+use Rattle.std.proofs.Common.{rules, SFits, sym, ◌∙◌, ap}
 use Rattle.std.specs.Int.{w128}
 use Rattle.std.proofs.lemmas.Int.{to_z-of_z}
 use Rattle.serde_json.specs.Data.{array}

@@ -1,4 +1,4 @@
-use Rattle.std.proofs.Common.{sym, ◌∙◌, ap, codes, ◌++◌}
+use Rattle.std.proofs.Common.{sym, ◌∙◌, codes, ◌++◌}
 use Rattle.std.specs.Str.Iter.{chars_rest}
 use Rattle.json_shape.specs.Operations.{interface_name}
 use Rattle.json_shape.proofs.Passing.{peeled, unpeeled}

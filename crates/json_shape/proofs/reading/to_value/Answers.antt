@@ -1,4 +1,3 @@
-use Rattle.std.proofs.Common.{sym, ◌∙◌, IsTrue}
 use Rattle.mint.specs.Values.{seen}
 use Rattle.mint.specs.Typed.{IsWellTyped}
 use Rattle.mint.specs.Types.{type_at}
