@@ -1,0 +1,4 @@
+pub mod Appending
+pub mod Folding
+pub mod Pieces
+pub mod Rebasing

@@ -1,0 +1,59 @@
+-- When a send code goes through a type in order.
+use Rattle.std.specs.Prelude.{◌≡◌, ◌⊎◌, ℕ, suc, ◌+◌, ◌-◌, ◌<◌, ◌≤◌, List, [], ◌∷◌, ◌++◌, length, Option, None, Some, option_map}
+use Rattle.mint.specs.declared.kind.Count.{Count}
+use Rattle.mint.specs.declared.kind.Count.TheVariants.{Exactly}
+use Rattle.mint.specs.Types.{Ty, void_type, scalar_type, array_type, group_type, items_type, choice_type, maybe_type, Tys, no_fields, field, Arms, no_other, others, arm_type}
+use Rattle.cast_stub.specs.Block.{Block, stop, align, chunk, each, switch, if_there, call, Cases, no_default, default, case}
+use Rattle.cast_stub.specs.Append.{append}
+
+-- how many puts and aligns a block of chunks and aligns alone has
+abbrev pub flat : Block → Option ℕ
+flat stop = Some 0
+flat (chunk s ps r) = option_map (λ n. length ps + n) (flat r)
+flat (align a r) = option_map suc (flat r)
+flat _ = None
+
+-- chunks and aligns alone, with at most so many puts and aligns
+abbrev pub IsFlat : ℕ → Block → Type 0
+IsFlat most b = (n : ℕ) × (flat b ≡ Some n) × (n ≤ most)
+
+-- chunks and aligns, a loop whose turn is chunks and aligns, and chunks and aligns
+abbrev pub IsLoop : List ℕ → Block → Type 0
+IsLoop p b = (before : Block) × (turn : Block) × (behind : Block) × (k : ℕ) × (l : ℕ) × (m : ℕ)
+    × (b ≡ append before (each p turn behind)) × (flat before ≡ Some k) × (flat turn ≡ Some l) × (flat behind ≡ Some m)
+    × (l ≤ 3) × (k + (l - 1) + m ≤ 3)
+
+-- what stands before the loop over a list
+abbrev pub IsCount : Count → Block → Type 0
+IsCount (Exactly n) b = b ≡ stop
+IsCount _ b = IsFlat 3 b
+
+-- codes that go through a type: of calls below a number, for the value at a path
+abbrev pub Going : Type 1
+Going = ℕ → List ℕ → Block → Type 0
+
+-- a child's own code, or one call of such a code
+abbrev pub Child : (ℕ → Option Block) → Going → Going
+Child subs F below p b = F below p b ⊎ ((k : ℕ) × (code : Block) × (b ≡ call k p stop) × (k < below) × (subs k ≡ Some code) × F k [] code)
+
+abbrev mutual
+  -- each operation in the type's order, at the path of its value
+  pub Follows : (ℕ → Option Block) → Ty → Going
+  Follows subs void_type below p b = IsFlat 0 b
+  Follows subs (scalar_type s) below p b = IsFlat 3 b
+  Follows subs (array_type a) below p b = IsLoop p b
+  Follows subs (group_type ts) below p b = FieldsFollow subs ts 0 below p b
+  Follows subs (items_type c t) below p b = (a : Block) × (body : Block) × (b ≡ append a (each p body stop)) × IsCount c a × Child subs (Follows subs t) below [] body
+  Follows subs (choice_type s arms) below p b = (a : Block) × (cases : Cases) × (b ≡ append a (switch p cases stop)) × IsFlat 3 a × ArmsFollow subs arms below cases
+  Follows subs (maybe_type t) below p b = (a : Block) × (body : Block) × (b ≡ append a (if_there p body stop)) × IsFlat 3 a × Child subs (Follows subs t) below [] body
+
+  -- the fields, the first of them of this number
+  pub FieldsFollow : (ℕ → Option Block) → Tys → ℕ → Going
+  FieldsFollow subs no_fields i below p b = b ≡ stop
+  FieldsFollow subs (field t ts) i below p b = (a : Block) × (r : Block) × (b ≡ append a r) × Child subs (Follows subs t) below (p ++ i ∷ []) a × FieldsFollow subs ts (suc i) below p r
+
+  -- a body for each arm, and for the default
+  pub ArmsFollow : (ℕ → Option Block) → Arms → ℕ → Cases → Type 0
+  ArmsFollow subs no_other below cases = cases ≡ no_default
+  ArmsFollow subs (others t) below cases = (b : Block) × (cases ≡ default b) × Child subs (Follows subs t) below [] b
+  ArmsFollow subs (arm_type n t arms) below cases = (b : Block) × (cs : Cases) × (cases ≡ case n b cs) × Child subs (Follows subs t) below [] b × ArmsFollow subs arms below cs

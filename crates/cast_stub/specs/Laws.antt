@@ -1,0 +1,29 @@
+-- The laws of steps and of the folds over them.
+use Rattle.std.specs.Prelude.{◌≡◌, ℕ, ◌≤◌, List, ◌++◌, Some}
+use Rattle.mint.specs.Values.{Val}
+use Rattle.wire_def.specs.declared.head.Head.{Head}
+use Rattle.cast_stub.specs.Parts.{on_some, at}
+use Rattle.cast_stub.specs.Block.{Block}
+use Rattle.cast_stub.specs.Append.{append, rebase}
+use Rattle.cast_stub.specs.Steps.{Step, Calls, both, steps}
+use Rattle.cast_stub.specs.Meaning.{wrote, costs, sum, HasRoom}
+
+-- the steps of a block behind a block
+abbrev pub CodeBehindCode : Type 0
+CodeBehindCode = (c : Calls) (h : Head) (a b : Block) (v : Val) → steps c h (append a b) v ≡ both (steps c h a v) (steps c h b v)
+
+-- a part's code on the whole
+abbrev pub CodeForPart : Type 0
+CodeForPart = (c : Calls) (h : Head) (q : List ℕ) (b : Block) (v w : Val) → at q v ≡ Some w → steps c h (rebase q b) v ≡ steps c h b w
+
+-- room that is there stays with more of it
+abbrev pub MoreRoom : Type 0
+MoreRoom = (p a b : ℕ) (ss : List Step) → a ≤ b → HasRoom p a ss → HasRoom p b ss
+
+-- what steps behind steps write
+abbrev pub WrittenInTurn : Type 0
+WrittenInTurn = (base : ℕ) (o : List ℕ) (a b : List Step) → wrote base o (a ++ b) ≡ on_some (wrote base o a) (λ p. wrote base p b)
+
+-- what steps behind steps cost
+abbrev pub CostsAdd : Type 0
+CostsAdd = (a b : List Step) → costs (a ++ b) ≡ sum (costs a) (costs b)

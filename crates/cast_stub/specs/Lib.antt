@@ -1,0 +1,9 @@
+pub mod Append
+pub mod Block
+pub mod Follows
+pub mod Laws
+pub mod Meaning
+pub mod Parts
+pub mod Puts
+pub mod Steps
+pub mod Subs

@@ -1,0 +1,28 @@
+// The laws of stub code, each the contract of a function that does nothing.
+ghost use Rattle.cast_stub.specs.Laws.{CodeBehindCode, CodeForPart, CostsAdd, MoreRoom, WrittenInTurn};
+
+/// The steps of code behind code are the steps of the first and then those of the second.
+pub fn code_behind_code()
+    ensures { CodeBehindCode }
+{}
+
+/// Code that is made for a part of a value does the same on the whole, once the part's path stands
+/// in front of its paths.
+pub fn code_for_a_part()
+    ensures { CodeForPart }
+{}
+
+/// Steps whose room is ensured have it also where more octets are ensured.
+pub fn more_room_never_harms()
+    ensures { MoreRoom }
+{}
+
+/// Steps behind steps write behind what the first have written.
+pub fn steps_write_in_turn()
+    ensures { WrittenInTurn }
+{}
+
+/// Steps behind steps cost the sum.
+pub fn costs_add_up()
+    ensures { CostsAdd }
+{}

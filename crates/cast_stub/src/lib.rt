@@ -1,0 +1,18 @@
+//! Stub code: the operations of programs that send and receive a message, and what they mean.
+//!
+//! A send code is run as a list of steps. What the steps write, what they cost and whether their
+//! room is ensured are three folds over that list, in the definitions of this crate.
+#![tactic(auto)]
+
+mod laws;
+mod put;
+mod recv;
+mod send;
+
+pub use laws::{
+    code_behind_code, code_for_a_part, costs_add_up, more_room_never_harms, steps_write_in_turn,
+};
+pub use put::{HeadField, Path, Put, Puts};
+pub use recv::{Get, Gets, RecvCases, RecvCode, RecvOp, RecvOps, RecvSubs};
+pub use send::{SendCases, SendCode, SendOp, SendOps, SendSubs};
+

@@ -1,0 +1,49 @@
+// Code that sends.
+use crate::put::{Path, Puts};
+use kit_base::Listed;
+use wire_def::Order;
+
+/// Operations, in order.
+pub type SendOps = Listed<SendOp>;
+
+/// The bodies of a switch, each with its number.
+pub type SendCases = Listed<(i128, SendOps)>;
+
+/// Codes that call one another by their places.
+pub type SendSubs = Listed<SendOps>;
+
+/// Operations, and the codes that their calls name.
+#[derive(Drop)]
+pub struct SendCode {
+    pub ops: SendOps,
+    pub subs: SendSubs,
+}
+
+/// An operation that sends.
+#[derive(Drop)]
+pub enum SendOp {
+    /// So many octets are ensured.
+    Ensure(u32),
+    /// A length is multiplied and raised, and so many octets are ensured: path, factor, summand.
+    EnsureRow(Path, u32, u32),
+    /// Zeros up to a multiple.
+    Align(u32),
+    /// So many octets, each stored by a put.
+    Chunk(u32, Puts),
+    /// The image of a row.
+    RowCopy(Path),
+    /// The image of a row, the octets of each number in the other order.
+    RowSwap(Path),
+    /// Each number of a row in four octets.
+    RowWide(Path, Order),
+    /// The body for each element, which is its current value.
+    Each(Path, SendOps),
+    /// The body of the arm's number, or else the last one, on the arm's value.
+    Switch(Path, SendCases, Option<SendOps>),
+    /// The body on the value, where there is one.
+    Some(Path, SendOps),
+    /// The code of a number, on the value at a path.
+    Call(u32, Path),
+    /// Four octets at a place of the message: the length so far, less a number.
+    Patch(u32, u32, Order),
+}
