@@ -10,7 +10,7 @@ use Rattle.aoi.specs.Units.{AreApart}
 use Rattle.back_xdr.specs.declared.call.OncCall.{OncCall}
 use Rattle.pres.specs.Bindings.{Binding, IsBinding}
 use Rattle.pres.specs.Faces.{Face, faces}
-use Rattle.pres.specs.Offers.{gets_null, null_offer, offer, offer_at, offers, offers_of, offers_from, type_faces}
+use Rattle.pres.specs.Offers.{gets_null, null_operation, gotten, operations, offer, offer_at, offers, offers_from, type_faces}
 use Rattle.flick_engine.specs.declared.seek.Naming.{Naming}
 use Rattle.flick_engine.specs.declared.seek.Naming.TheVariants as naming
 use Rattle.flick_engine.specs.Procedures.{added, numbers, procedures_of, procedures, is_called, operation_at, named_from, IsBelow}
@@ -32,10 +32,10 @@ length-procedures i is = length-append (procedures_of i) (procedures is) ∙ ap 
 length-offers : (fs : List Face) (k : ℕ) (is : List Interface) → length (offers_from fs back.Xdr k is) ≡ length (procedures is)
 length-offers fs k [] = refl
 length-offers fs k (i ∷ is) =
-    let one = as_many {B = ℕ} (gets_null back.Xdr i) (null_offer k) 0 in
-    let own = length-append (map (offer fs back.Xdr k) i.ops) (if gets_null back.Xdr i then null_offer k ∷ [] else []) in
-    let mapped = length-map i.ops (offer fs back.Xdr k) in
-    let all = length-append (offers_of fs back.Xdr k i) (offers_from fs back.Xdr (suc k) is) in
+    let one = as_many {B = ℕ} (gets_null back.Xdr i) null_operation 0 in
+    let own = length-append i.ops (gotten back.Xdr i) in
+    let mapped = length-map (operations back.Xdr i) (offer fs back.Xdr k) in
+    let all = length-append (map (offer fs back.Xdr k) (operations back.Xdr i)) (offers_from fs back.Xdr (suc k) is) in
     omega (arith, one, own, mapped, all, length-numbers i, length-procedures i is, length-offers fs (suc k) is)
 
 -- each operation is a procedure
