@@ -1,5 +1,6 @@
 pub mod Arms
 pub mod Blocks
+pub mod Deciding
 pub mod Fields
 pub mod Items
 pub mod Letters

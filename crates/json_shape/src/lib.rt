@@ -18,7 +18,7 @@ mod writing;
 mod written_records;
 
 pub use errors::{RecordErr, ShapeErr};
-pub use laws::{json_presents_one_value, written_json_presents};
+pub use laws::{json_is_decided, json_presents_one_value, written_json_presents};
 pub use reading::to_value;
 pub use records::RequestRec;
 pub use replies::read_reply;
