@@ -26,5 +26,8 @@ pub use requests::read_request;
 pub use writing::to_json;
 pub use written_records::{write_reply, write_request};
 
+
+#[cfg(test)]
+mod record_tests;
 #[cfg(test)]
 mod tests;

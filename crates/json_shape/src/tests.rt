@@ -191,7 +191,7 @@ fn a_row_is_written_in_the_way_of_its_kind(rt: HostRuntime) -> Result<(), Fail> 
 #[test]
 fn octets_are_characters(rt: HostRuntime) -> Result<(), Fail> {
     let alloc = rt.alloc();
-    assert_eq!(rt; text_of(alloc, &[65, 233])?.as_bytes(), &[65, 195, 169]);
+    assert_eq!(rt; text_of(alloc, &[65, 233])?.as_bytes(), [65u8, 195, 169].as_slice());
     Ok(())
 }
 
