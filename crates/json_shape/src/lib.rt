@@ -25,3 +25,9 @@ pub use replies::read_reply;
 pub use requests::read_request;
 pub use writing::to_json;
 pub use written_records::{write_reply, write_request};
+
+
+#[cfg(test)]
+mod record_tests;
+#[cfg(test)]
+mod tests;

@@ -1,5 +1,5 @@
 // The operations that records name.
-ghost use Rattle.std.specs.Prelude.{◌≡◌, ◌==◌, IfOk, IfSome, None, option_map, slice_index_or};
+ghost use Rattle.std.specs.Prelude.{◌≡◌, ◌==◌, IfOk, IfSome, None, Some, option_map, slice_get, slice_index_or};
 ghost use Rattle.std.specs.Str.{bytes_eq};
 ghost use Rattle.std.specs.List.{list_any};
 ghost use Rattle.aoi.specs.declared.interfaces.Operation.{Operation};
@@ -54,6 +54,7 @@ pub(crate) fn dotted(alloc: Global, interfaces: &[Interface], op: &Op) -> Result
 /// The first operation that a string names, with its number.
 pub(crate) fn op_named<'a>(bound: &'a Bound, text: &str) -> Result<Option<(u32, &'a Op)>, NoMemory>
     ensures found { IfOk result (λ o. option_map (λ p. (p.0, p.1.now)) o ≡ op_named bound.now text.now) }
+    ensures there { IfOk result (λ o. IfSome o (λ p. slice_get bound.now.ops p.0 ≡ Some p.1.now)) }
     ensures placed { IfOk result (λ o. IfSome o (λ p. IsPlaced bound.now p.1.now)) }
 {
     let interfaces = bound.unit().interfaces().as_slice();

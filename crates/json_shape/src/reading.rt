@@ -1,6 +1,7 @@
 // Values from JSON.
 ghost use Rattle.std.specs.Prelude.{◌≡◌, ◌<◌, [], length, IfErr, IfOk, option_map};
-ghost use Rattle.mint.specs.Types.{AreBelow, ArmsBelow, IsBelow};
+ghost use Rattle.mint.specs.Typed.{IsWellTyped};
+ghost use Rattle.mint.specs.Types.{AreBelow, ArmsBelow, IsBelow, type_at};
 ghost use Rattle.mint.specs.Values.{Val, seen, all_seen, arm as behind_number};
 ghost use Rattle.pres.specs.Faces.{faces, face_at, parts_at, arms_at, sign_of, group_face, list, choice, maybe, nothing};
 ghost use Rattle.pres.specs.Named.{IsGroupShape};
@@ -27,6 +28,7 @@ use std::alloc::Global;
 pub fn to_value(alloc: Global, bound: &Bound, id: NodeId, json: &Json) -> Result<Value, ShapeErr>
     requires { id < length bound.now.nodes }
     ensures value { IfOk result (λ v. Presents (face_at bound.now.nodes bound.now.shapes id) (view json.now) (seen v)) }
+    ensures typed { IfOk result (λ v. IsWellTyped (type_at bound.now.nodes id) (seen v)) }
     ensures shape { IfErr result (λ e. e ≡ ShapeErr.Shape → (v : Val) → ¬ Presents (face_at bound.now.nodes bound.now.shapes id) (view json.now) v) }
 {
     // A node is of the type of its face.

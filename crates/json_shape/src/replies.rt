@@ -1,5 +1,8 @@
 // Reply records.
-ghost use Rattle.std.specs.Prelude.{◌≡◌, IfOk, is_some, if◌then◌else◌, option_map, codes};
+ghost use Rattle.std.specs.Prelude.{◌≡◌, ◌<◌, length, true, slice_get, IfOk, IfSome, is_some, if◌then◌else◌, option_map, codes};
+ghost use Rattle.mint.specs.Typed.{IsWellTyped};
+ghost use Rattle.mint.specs.Types.{type_at};
+ghost use Rattle.mint.specs.Values.{seen};
 ghost use Rattle.serde_json.specs.Data.{item};
 ghost use Rattle.serde_json.specs.Find.{get};
 ghost use Rattle.serde_json.specs.View.{view, items_view};
@@ -24,7 +27,10 @@ use wire_def::Back;
 
 /// The reply that a record presents.
 pub fn read_reply(alloc: Global, bound: &Bound, json: &Json) -> Result<RequestRec, RecordErr>
-    ensures { Comes (reply_of bound.now (view json.now)) result }
+    ensures comes { Comes (reply_of bound.now (view json.now)) result }
+    ensures op { IfOk result (λ r. r.op < length bound.now.ops) }
+    ensures reply { IfOk result (λ r. IfSome (slice_get bound.now.ops r.op) (λ o. o.has_reply ≡ true)) }
+    ensures typed { IfOk result (λ r. IfSome (slice_get bound.now.ops r.op) (λ o. IsWellTyped (type_at bound.now.nodes o.reply) (seen r.value))) }
 {
     let back = bound.back();
     if !is_reply(back, json) {

@@ -1,5 +1,8 @@
 // Request records.
-ghost use Rattle.std.specs.Prelude.{◌≡◌, ◌<◌, length, not, codes, Ok};
+ghost use Rattle.std.specs.Prelude.{◌≡◌, ◌<◌, length, not, codes, slice_get, IfOk, IfSome, Ok};
+ghost use Rattle.mint.specs.Typed.{IsWellTyped};
+ghost use Rattle.mint.specs.Types.{type_at};
+ghost use Rattle.mint.specs.Values.{seen};
 ghost use Rattle.pres.specs.Faces.{face_at};
 ghost use Rattle.serde_json.specs.View.{view};
 ghost use Rattle.json_shape.specs.Members.{number_at, head_key};
@@ -22,7 +25,9 @@ use wire_def::{Back, Head, Order};
 
 /// The request that a record presents.
 pub fn read_request(alloc: Global, bound: &Bound, json: &Json) -> Result<RequestRec, RecordErr>
-    ensures { Comes (request_of bound.now (view json.now)) result }
+    ensures comes { Comes (request_of bound.now (view json.now)) result }
+    ensures op { IfOk result (λ r. r.op < length bound.now.ops) }
+    ensures typed { IfOk result (λ r. IfSome (slice_get bound.now.ops r.op) (λ o. IsWellTyped (type_at bound.now.nodes o.request) (seen r.value))) }
 {
     if !is_request(bound.back(), json) {
         return Err(RecordErr::Request);
@@ -117,7 +122,9 @@ pub(crate) fn finish(
     json: &Json,
 ) -> Result<RequestRec, RecordErr>
     requires { node < length bound.now.nodes }
-    ensures { Comes (Ok (record { op = op; head = head; face = face_at bound.now.nodes bound.now.shapes node; tree = view json.now })) result }
+    ensures op { IfOk result (λ r. r.op ≡ op) }
+    ensures typed { IfOk result (λ r. IsWellTyped (type_at bound.now.nodes node) (seen r.value)) }
+    ensures comes { Comes (Ok (record { op = op; head = head; face = face_at bound.now.nodes bound.now.shapes node; tree = view json.now })) result }
 {
     match to_value(alloc, bound, node, json) {
         Ok(value) => Ok(RequestRec { op, head, value }),
