@@ -1,13 +1,13 @@
 -- A code behind a code, and an operation as a piece in front of others.
-use Rattle.std.proofs.Common.{◌≡◌, ℕ, List, [], ◌∷◌, length, if◌then◌else◌, ◌+◌, ◌*◌, subst, Some, None, refl, sym, ap, ◌∙◌, append_assoc}
+use Rattle.std.proofs.Common.{◌≡◌, [], ◌∷◌, length, if◌then◌else◌, ◌+◌, ◌*◌, subst, Some, None, refl, sym, ap, ◌∙◌, append_assoc}
 use Rattle.mint.specs.Values.{Val, arm_in}
 use Rattle.wire_def.specs.declared.head.Head.{Head}
-use Rattle.cast_stub.specs.declared.send.SendOp.{SendOp, fold-SendOp, out-SendOp, map-SendOp, fold_out-SendOp}
+use Rattle.cast_stub.specs.declared.send.SendOp.{SendOp, out-SendOp, map-SendOp, fold_out-SendOp}
 use Rattle.cast_stub.specs.declared.send.SendOp.TheOpen.{SendOp-F}
 use Rattle.cast_stub.specs.Parts.{on_some, at, elements_in, length_in}
 use Rattle.cast_stub.specs.Puts.{filled}
 use Rattle.cast_stub.specs.Block.{Block, stop, ensure, ensure_row, align, chunk, row_copy, row_swap, row_wide, each, switch, if_there, call, patch, Piece, piece_level, op_seen}
-use Rattle.cast_stub.specs.Steps.{Step, Room, Pad, Stored, Patched, Steps, both, over, if_present, copy_steps, swap_steps, wide_steps, is_width, Calls, steps, case_steps}
+use Rattle.cast_stub.specs.Steps.{Room, Pad, Stored, Patched, Steps, both, over, if_present, copy_steps, swap_steps, wide_steps, is_width, Calls, steps, case_steps}
 use Rattle.cast_stub.specs.Append.{append}
 
 pub both_assoc : (a b c : Steps) → both (both a b) c ≡ both a (both b c)

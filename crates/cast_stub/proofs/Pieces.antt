@@ -1,12 +1,12 @@
 -- Each operation as a piece of a block.
-use Rattle.std.proofs.Common.{◌≡◌, ℕ, ℤ, List, [], ◌∷◌, Option, Some, None, ap, sym, ◌∙◌}
+use Rattle.std.proofs.Common.{◌≡◌, ℕ, ℤ, List, Option, Some, None, ap, sym, ◌∙◌}
 use Rattle.wire_def.specs.declared.head.Order.{Order}
 use Rattle.cast_stub.specs.declared.put.Put.{Put}
-use Rattle.cast_stub.specs.declared.send.SendOp.{SendOp, fold-SendOp}
+use Rattle.cast_stub.specs.declared.send.SendOp.{SendOp}
 use Rattle.cast_stub.specs.declared.send.SendOp.TheOpen.{SendOp-F}
 use Rattle.cast_stub.specs.declared.send.SendOp.TheVariants as op
 use Rattle.cast_stub.specs.declared.send.SendOp.TheFolds.{fold-roll-SendOp}
-use Rattle.cast_stub.specs.Block.{Block, ensure, ensure_row, align, chunk, row_copy, row_swap, row_wide, each, switch, if_there, call, patch, Piece, piece_level, joined, op_seen, code_seen, cases_seen}
+use Rattle.cast_stub.specs.Block.{ensure, ensure_row, align, chunk, row_copy, row_swap, row_wide, each, switch, if_there, call, patch, Piece, piece_level, op_seen, code_seen, cases_seen}
 
 pub seen-Ensure : (n : ℕ) → op_seen (op.Ensure n) ≡ ensure n
 seen-Ensure n = ap op_seen (sym (op.rolls-Ensure n)) ∙ fold-roll-SendOp Piece piece_level (SendOp-F.Ensure n)

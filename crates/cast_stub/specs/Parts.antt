@@ -1,7 +1,6 @@
 -- Parts of a value, and the numbers that a put takes of them.
 use Rattle.std.specs.Prelude.{ℕ, zero, suc, ℤ, pos, List, [], ◌∷◌, length, map, Option, None, Some}
-use Rattle.mint.specs.declared.kind.Kind.{Kind}
-use Rattle.mint.specs.Values.{Val, void, num, row, group, items, arm, absent, present, Vals, no_more, val, vals_of, count}
+use Rattle.mint.specs.Values.{Val, num, row, group, items, arm, absent, present, Vals, no_more, val, vals_of, count}
 
 -- what a function gives of something, if it is there
 abbrev pub on_some : {A B : Type 0} → Option A → (A → Option B) → Option B

@@ -1,5 +1,5 @@
 -- The octets of a put, and those of a chunk.
-use Rattle.std.specs.Prelude.{ℕ, zero, suc, ◌+◌, ◌-◌, ◌*◌, ◌^◌, ℤ, pos, negsuc, List, [], ◌∷◌, replicate, Option, None, Some, option_map, Bool, nat_eq, nat_lt, if◌then◌else◌, ◌&&◌, ◌||◌}
+use Rattle.std.specs.Prelude.{ℕ, zero, suc, ◌+◌, ◌-◌, ◌*◌, ◌^◌, ℤ, pos, negsuc, List, [], ◌∷◌, replicate, Option, None, Some, option_map, nat_eq, nat_lt, if◌then◌else◌, ◌&&◌}
 use Rattle.kit_base.specs.Bytes.{le}
 use Rattle.mint.specs.Values.{Val}
 use Rattle.wire_def.specs.declared.head.Order.{Order}

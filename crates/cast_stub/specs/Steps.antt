@@ -1,5 +1,5 @@
 -- What a send code does: the list of its steps.
-use Rattle.std.specs.Prelude.{ℕ, zero, suc, ◌+◌, ◌*◌, ℤ, List, [], ◌∷◌, ◌++◌, length, reverse, Option, None, Some, Bool, nat_eq, if◌then◌else◌, ◌||◌}
+use Rattle.std.specs.Prelude.{ℕ, ◌+◌, ◌*◌, ℤ, List, [], ◌∷◌, ◌++◌, length, reverse, Option, None, Some, Bool, nat_eq, if◌then◌else◌, ◌||◌}
 use Rattle.std.specs.Ordering.{int_eq}
 use Rattle.mint.specs.declared.kind.Kind.{Kind}
 use Rattle.mint.specs.Values.{Val, absent, present, Vals, no_more, val, row_in, arm_in}

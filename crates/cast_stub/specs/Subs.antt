@@ -1,5 +1,5 @@
 -- The codes that calls name.
-use Rattle.std.specs.Prelude.{ℕ, zero, suc, List, Option, None, Some, option_map, slice_get}
+use Rattle.std.specs.Prelude.{ℕ, zero, suc, List, Option, None, option_map, slice_get}
 use Rattle.mint.specs.Values.{Val}
 use Rattle.wire_def.specs.declared.head.Head.{Head}
 use Rattle.cast_stub.specs.declared.send.SendOp.{SendOp}

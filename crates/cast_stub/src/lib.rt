@@ -15,3 +15,6 @@ pub use laws::{
 pub use put::{HeadField, Path, Put, Puts};
 pub use recv::{Get, Gets, RecvCases, RecvCode, RecvOp, RecvOps, RecvSubs};
 pub use send::{SendCases, SendCode, SendOp, SendOps, SendSubs};
+
+#[cfg(test)]
+mod tests;
