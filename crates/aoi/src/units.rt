@@ -82,6 +82,14 @@ impl Unit {
         &self.interfaces
     }
 
+    /// How many interfaces there are, at most 64.
+    pub fn interface_count(&self) -> usize
+        ensures value { result ≡ length self.now.interfaces }
+        ensures most { result ≤ 64 }
+    {
+        self.interfaces.len()
+    }
+
     /// Puts a type behind the others, and gives its number, counted from 0.
     pub fn add_type(&mut self, name: Name, ty: Ty) -> Result<u32, NoMemory>
         requires { length self.old.types < 2 ^ 32 }

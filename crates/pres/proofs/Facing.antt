@@ -18,7 +18,7 @@ use Rattle.pres.specs.Named.{IsNamed, AreNamed, IsTagShape}
 -- ---- a face stands at its level
 
 -- two lists of faces that are alike below k
-abbrev AgreeBelow : ℕ → List Face → List Face → Type 0
+abbrev pub AgreeBelow : ℕ → List Face → List Face → Type 0
 AgreeBelow k fs gs = (i : ℕ) → i < k → at fs i ≡ at gs i
 
 parts_agree : (k : ℕ) (fs gs : List Face) (names : List (List ℕ)) (is : List ℕ) → AgreeBelow k fs gs → AreBelow k is → parts_at fs names is ≡ parts_at gs names is
@@ -30,7 +30,7 @@ other_agree : (k : ℕ) (fs gs : List Face) (o : Option ℕ) → AgreeBelow k fs
 other_agree k fs gs None same below = refl
 other_agree k fs gs (Some i) same below = ap other (same i below)
 
-arms_agree : (k : ℕ) (fs gs : List Face) (arms : List (ℤ × ℕ)) (o : Option ℕ) → AgreeBelow k fs gs → AllByRecursion (λ a. a.1 < k) arms → IsBelow k o
+pub arms_agree : (k : ℕ) (fs gs : List Face) (arms : List (ℤ × ℕ)) (o : Option ℕ) → AgreeBelow k fs gs → AllByRecursion (λ a. a.1 < k) arms → IsBelow k o
     → arms_at fs arms o ≡ arms_at gs arms o
 arms_agree k fs gs [] o same below last = other_agree k fs gs o same last
 arms_agree k fs gs (a ∷ arms) o same below last = rw (same a.1 below.0, arms_agree k fs gs arms o same below.1 last) refl
@@ -41,7 +41,7 @@ group_agree k fs gs ids (FieldNames names) same below = ap members (parts_agree 
 group_agree k fs gs ids (LabelNames items) same below = ap values (parts_agree k fs gs [] ids same below)
 
 -- a level sees only the children
-level_agree : (k : ℕ) (fs gs : List Face) (n : Node) (s : Shape) → AgreeBelow k fs gs → HasChildrenBelow k n → level fs n s ≡ level gs n s
+pub level_agree : (k : ℕ) (fs gs : List Face) (n : Node) (s : Shape) → AgreeBelow k fs gs → HasChildrenBelow k n → level fs n s ≡ level gs n s
 level_agree k fs gs node.Void s same below = refl
 level_agree k fs gs (node.Num x) s same below = refl
 level_agree k fs gs (node.Enum x) s same below = refl
@@ -114,7 +114,7 @@ tag_type (tag.Enum labels) Plain named = absurd named
 tag_type (tag.Enum labels) (FieldNames names) named = absurd named
 tag_type (tag.Enum labels) (LabelNames items) named = ap mint.label (sym named.labels)
 
-level_type : (fs : List Face) (n : Node) (s : Shape) → IsNamed n s → type_of (level fs n s) ≡ mint.level (map type_of fs) n
+pub level_type : (fs : List Face) (n : Node) (s : Shape) → IsNamed n s → type_of (level fs n s) ≡ mint.level (map type_of fs) n
 level_type fs node.Void s named = refl
 level_type fs (node.Num x) s named = refl
 level_type fs (node.Enum labels) s named = ap scalar_type (tag_type (tag.Enum labels) s named)

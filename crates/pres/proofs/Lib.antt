@@ -1,1 +1,12 @@
 pub mod Facing
+pub mod Drafting
+pub mod Ordered
+pub mod Drawn
+pub mod Exchange
+pub mod Whole
+pub mod Measures
+pub mod Rises
+pub mod Soundly
+pub mod SoundUnit
+pub mod Tabling
+pub mod Faulty

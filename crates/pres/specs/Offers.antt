@@ -1,6 +1,7 @@
 -- What types stand for, and the messages that a back end has for the operations of a unit.
-use Rattle.std.specs.Prelude.{Bool, true, false, not, ◌&&◌, ◌||◌, ◌==◌, ℕ, suc, ℤ, pos, List, [], ◌∷◌, ◌++◌, map, if◌then◌else◌, int_lt}
+use Rattle.std.specs.Prelude.{Bool, true, false, not, ◌&&◌, ◌||◌, ◌==◌, ℕ, suc, ℤ, pos, List, [], ◌∷◌, ◌++◌, map, Option, None, Some, if◌then◌else◌, int_lt}
 use Rattle.std.specs.List.{list_any}
+use Rattle.mint.specs.declared.kind.Kind.{Kind}
 use Rattle.mint.specs.declared.kind.Kind.TheVariants as kind
 use Rattle.mint.specs.declared.kind.Count.{Count}
 use Rattle.mint.specs.Types.{text, row_of}
@@ -9,16 +10,26 @@ use Rattle.wire_def.specs.declared.encoding.Back.TheVariants as back
 use Rattle.aoi.specs.declared.interfaces.Interface.{Interface}
 use Rattle.aoi.specs.declared.interfaces.Operation.{Operation}
 use Rattle.aoi.specs.declared.interfaces.Raise.{Raise}
+use Rattle.aoi.specs.declared.types.Ty.{Void}
 use Rattle.aoi.specs.Shapes as aoi
 use Rattle.aoi.specs.Units.{Parts as UnitParts}
 use Rattle.pres.specs.declared.ops.Op.{Op}
 use Rattle.pres.specs.Faces.{Sign, number, item, Face, nothing, scalar, numbers, values, members, list, choice, maybe, Parts, no_parts, part, Arms, no_other, other, arm, at}
 
--- elements of a type: numbers other than Bool stand together
+-- the kind of numbers that stand together where a list has them as elements; those of Bool do not
+abbrev pub packed : Face → Option Kind
+packed (scalar (number kind.Bool)) = None
+packed (scalar (number k)) = Some k
+packed _ = None
+
+-- a row of a kind, or else a list
+abbrev pub elements_by : Option Kind → Count → Face → Face
+elements_by None c f = list c f
+elements_by (Some k) c f = numbers (row_of k c)
+
+-- elements of a type
 abbrev pub elements : Count → Face → Face
-elements c (scalar (number kind.Bool)) = list c (scalar (number kind.Bool))
-elements c (scalar (number k)) = numbers (row_of k c)
-elements c f = list c f
+elements c f = elements_by (packed f) c f
 
 -- what a tag's type is a tag of
 abbrev pub sign_in : Face → Sign
@@ -71,14 +82,26 @@ unnamed (part n f ps) = part [] f (unnamed ps)
 abbrev pub parameters : List Face → aoi.Members → Parts
 parameters fs ms = unnamed (parts_of fs ms)
 
+-- an exception, which is a struct
+abbrev pub exception : Raise → aoi.Shape
+exception r = aoi.structure (aoi.members r.members)
+
 -- exceptions, by numbers from k up
 abbrev pub raised : List Face → ℕ → List Raise → Arms
 raised fs k [] = no_other
-raised fs k (r ∷ rs) = arm (pos k) (members (parts_of fs (aoi.members r.members))) (raised fs (suc k) rs)
+raised fs k (r ∷ rs) = arm (pos k) (face_of fs (exception r)) (raised fs (suc k) rs)
 
--- what comes back: the result and the parameters out, or an exception
+-- what goes in
+abbrev pub request_of : List Face → Operation → Face
+request_of fs op = values (parameters fs (aoi.members op.ins))
+
+-- the result, and the parameters out
+abbrev pub answer_of : List Face → Operation → Face
+answer_of fs op = values (part [] (face_of fs (aoi.seen op.result)) (parameters fs (aoi.members op.outs)))
+
+-- what comes back: the answer, or an exception
 abbrev pub reply_of : List Face → Operation → Face
-reply_of fs op = choice (number kind.U32) (arm (pos 0) (values (part [] (face_of fs (aoi.seen op.result)) (parameters fs (aoi.members op.outs)))) (raised fs 1 op.raises))
+reply_of fs op = choice (number kind.U32) (arm (pos 0) (answer_of fs op) (raised fs 1 op.raises))
 
 -- an operation of an interface, with the faces of its messages
 pub record Offer : Type 0 where
@@ -103,24 +126,28 @@ is_answered b op = is_cdr b || not op.oneway
 
 -- an operation of the unit
 abbrev pub offer : List Face → Back → ℕ → Operation → Offer
-offer fs b k op = record { interface = k; name = op.name; request = values (parameters fs (aoi.members op.ins)); reply = reply_of fs op; has_reply = is_answered b op }
+offer fs b k op = record { interface = k; name = op.name; request = request_of fs op; reply = reply_of fs op; has_reply = is_answered b op }
 
 -- procedure 0, which takes nothing and answers nothing
-abbrev pub null_offer : ℕ → Offer
-null_offer k = record { interface = k; name = 48 ∷ []; request = values no_parts; reply = choice (number kind.U32) (arm (pos 0) (values (part [] nothing no_parts)) no_other); has_reply = true }
+abbrev pub null_operation : Operation
+null_operation = record { name = 48 ∷ []; proc_no = 0; slot = 0; ins = []; outs = []; result = Void; raises = []; oneway = false }
 
 -- over Xdr an interface without procedure 0 gets one
 abbrev pub gets_null : Back → Interface → Bool
 gets_null b i = is_xdr b && not (list_any (λ (op : Operation). op.proc_no == 0) i.ops)
 
--- the operations of an interface, and the one that it gets
-abbrev pub offers_of : List Face → Back → ℕ → Interface → List Offer
-offers_of fs b k i = map (offer fs b k) i.ops ++ (if gets_null b i then null_offer k ∷ [] else [])
+-- the operation that an interface gets
+abbrev pub gotten : Back → Interface → List Operation
+gotten b i = if gets_null b i then null_operation ∷ [] else []
 
--- those of interfaces, counted from k
+-- the operations of an interface, and the one that it gets
+abbrev pub operations : Back → Interface → List Operation
+operations b i = i.ops ++ gotten b i
+
+-- the operations of interfaces, counted from k
 abbrev pub offers_from : List Face → Back → ℕ → List Interface → List Offer
 offers_from fs b k [] = []
-offers_from fs b k (i ∷ is) = offers_of fs b k i ++ offers_from fs b (suc k) is
+offers_from fs b k (i ∷ is) = map (offer fs b k) (operations b i) ++ offers_from fs b (suc k) is
 
 -- the operations that a back end has messages for
 abbrev pub offers : UnitParts → Back → List Offer

@@ -1,10 +1,27 @@
 //! How the data of a program stands for the messages of an interface.
 #![tactic(auto)]
 
+mod binding;
 mod bound;
+mod build;
+mod draft;
+mod drawing;
+mod errors;
+mod faults;
+mod messages;
+mod naming;
 mod ops;
+mod scalars;
 mod shape;
+mod sizes;
+mod sorting;
+mod units;
 
+pub use binding::bind;
 pub use bound::Bound;
+pub use errors::BindErr;
 pub use ops::{Op, Ops};
 pub use shape::{Pres, Shape};
+
+#[cfg(test)]
+mod tests;

@@ -1,0 +1,153 @@
+use Rattle.std.proofs.Common.{◌≡◌, ℕ, [], ◌∷◌, ◌++◌, ◌-◌, refl, ap, ◌∙◌, length, arith, rules, None}
+use Rattle.std.specs.Option.{option_map}
+use Rattle.aoi.specs.declared.types.Ty.{the_lemmas}
+use Rattle.aoi.specs.Shapes as aoi
+use Rattle.aoi.proofs.Seen.{choice_seen}
+use Rattle.pres.specs.Faces.{arms_at, choice}
+use Rattle.pres.specs.Made.{made_behind}
+use Rattle.pres.specs.Offers.{face_of, sign_in}
+use Rattle.pres.specs.Drafts.{drawn, known}
+use Rattle.pres.proofs.Drawn.{both, overflows_more, grows_twice, field_left, field_nodes, field_ids, members_by, names_each, arm_drawable, other_drawable, arms_drawable_alone, arm_nodes, arm_room, arm_on, behind_split, choice_arms, choice_nodes, made_split, node_behind, drawn_as, behind_overflows, next_overflows, last_overflows, on_ok, if_ok, if_err, handed_on}
+use Rattle.pres.proofs.draft.Draft.+draw.Goals as goal
+
+-- ---- fields
+
+pub draw_fields-loop-field-preserved : goal.draw_fields-loop-field-preserved
+draw_fields-loop-field-preserved t c =
+    let fs = known c.args.self.now in
+    let fields = c.args.fields.now in
+    let i = c.loop-field.field-index in
+    let f = c.field-item.result in
+    let inv = c.loop-field.invariant in
+    let g = c.in_ok-id.ensures.grows in
+    let ids = field_ids fs fields i f c.loop-field.self c.draw.new.self _ c.loop-field.ids c.push.new.self c.in_ok-id.id _ c.loop-field-test.true c.field-item.is g inv.below (rw inv.same at c.in_ok-id.ensures.id) c.in_ok-push.ensures.ok inv.ids in
+    record {
+      same = g.types ∙ inv.same;
+      nodes = field_nodes fs fields i f _ _ _ c.loop-field-test.true c.field-item.is inv.nodes (rw inv.same at g.nodes);
+      below = ids.0;
+      ids = ids.1;
+      left = (field_left _ fields i f c.loop-field-test.true c.field-item.is inv.left).1;
+    }
+
+pub draw_struct-draw_fields-requires : goal.draw_struct-draw_fields-requires
+draw_struct-draw_fields-requires t c = (search (rules, the_lemmas), (both _ _ c.requires).1)
+
+pub draw_struct-push-requires-clause-named : goal.draw_struct-push-requires-clause-named
+draw_struct-push-requires-clause-named t c = record {
+  each = ap length c.in_ok-names.ensures ∙ names_each _ _ _ _ c.in_ok-ids.ensures.ids.are;
+  distinct = rw c.in_ok-names.ensures ((both _ _ c.requires).0);
+}
+
+pub draw_struct-returns-clause-grows : goal.draw_struct-returns-clause-grows
+draw_struct-returns-clause-grows t c =
+    let fs = known c.args.self.now in
+    let same = members_by c.draw_fields.new.self fs _ _ (aoi.members c.args.fields.now) c.in_ok-ids.ensures.ids c.in_ok-names.ensures in
+    on_ok _ _ _ (node_behind _ _ _ _ _ _ same c.in_ok-ids.ensures.grows) c.push.ensures.grows
+
+pub draw_struct-returns-clause-id : goal.draw_struct-returns-clause-id
+draw_struct-returns-clause-id t c =
+    let fs = known c.args.self.now in
+    let same = members_by c.draw_fields.new.self fs _ _ (aoi.members c.args.fields.now) c.in_ok-ids.ensures.ids c.in_ok-names.ensures in
+    if_ok _ _ _ (λ id. drawn_as _ id _ _ same) c.push.ensures.id
+
+-- ---- arms
+
+pub draw_arms-draw-requires : goal.draw_arms-draw-requires
+draw_arms-draw-requires t c =
+    (search (rules, the_lemmas), rw c.loop-i.invariant.same (arm_drawable (length (known c.args.self.now)) c.args.arms.now None (length c.args.arms.now - 1 - c.loop-i.i) _ c.requires (omega (arith, c.loop-i-test.true)) c.index-arms-arms.is))
+
+pub draw_arms-returns-in_err-id-clause-cause : goal.draw_arms-returns-in_err-id-clause-cause
+draw_arms-returns-in_err-id-clause-cause t c =
+    let fs = known c.args.self.now in
+    let inv = c.loop-i.invariant in
+    let e = c.in_err-id.field-0.0 in
+    let room = arm_room fs None c.args.arms.now c.loop-i.i _ _ _ c.loop-i-test.true c.index-arms-arms.is inv.nodes in
+    handed_on _ e _ c.from_residual.ensures.1 (overflows_more _ _ e (rw inv.same at c.in_err-id.ensures.cause) room)
+
+pub draw_arms-loop-i-preserved : goal.draw_arms-loop-i-preserved
+draw_arms-loop-i-preserved t c =
+    let fs = known c.args.self.now in
+    let arms = c.args.arms.now in
+    let inv = c.loop-i.invariant in
+    let g = c.in_ok-id.ensures.grows in
+    record {
+      same = g.types ∙ inv.same;
+      nodes = arm_nodes fs None arms c.loop-i.i _ _ _ _ c.loop-i-test.true c.index-arms-arms.is inv.nodes (rw inv.same at g.nodes);
+      arms = arm_on fs None arms c.loop-i.i _ _ _ _ _ _ _ _ c.loop-i-test.true c.index-arms-arms.is g (rw inv.same at c.in_ok-id.ensures.id) c.in_ok-put_arm.ensures inv.arms;
+    }
+
+-- ---- a choice
+
+pub draw-draw_other-requires : goal.draw-draw_other-requires
+draw-draw_other-requires t c =
+    let drawable = rw (ap aoi.seen c.in-Union.is ∙ choice_seen c.in-Union.tag c.in-Union.arms c.in-Union.other) at c.requires in
+    (search (rules, the_lemmas), other_drawable _ c.in-Union.arms _ ((both _ _ drawable).1))
+
+pub draw-draw_arms-requires : goal.draw-draw_arms-requires
+draw-draw_arms-requires t c =
+    let drawable = rw (ap aoi.seen c.in-Union.is ∙ choice_seen c.in-Union.tag c.in-Union.arms c.in-Union.other) at c.requires in
+    (search (rules, the_lemmas), rw (c.in_ok-other-in-Union.ensures.grows.types, c.as_slice-in-Union.ensures) (arms_drawable_alone _ _ c.in-Union.arms ((both _ _ drawable).1)))
+
+pub draw-draw_choice-requires-clause-tag : goal.draw-draw_choice-requires-clause-tag
+draw-draw_choice-requires-clause-tag t c =
+    let drawable = rw (ap aoi.seen c.in-Union.is ∙ choice_seen c.in-Union.tag c.in-Union.arms c.in-Union.other) at c.requires in
+    rw (c.in_ok-arms-in-Union.ensures.grows.types, c.in_ok-other-in-Union.ensures.grows.types, c.deref-in-Union.ensures) ((both _ _ drawable).0)
+
+pub draw-returns-in_err-other-in-Union-clause-cause : goal.draw-returns-in_err-other-in-Union-clause-cause
+draw-returns-in_err-other-in-Union-clause-cause t c =
+    let fs = known c.args.self.now in
+    let o = option_map (λ b. aoi.seen b.value) c.in-Union.other in
+    let e = c.in_err-other-in-Union.field-0.0 in
+    let arms = c.in-Union.arms in
+    let rest = made_behind fs (aoi.arms_seen arms None) ++ face_of fs (aoi.choice (aoi.seen c.in-Union.tag.value) (aoi.arms_seen arms o)) ∷ [] in
+    let seen_is = ap aoi.seen c.in-Union.is ∙ choice_seen c.in-Union.tag arms c.in-Union.other in
+    handed_on _ e _ c.from_residual.ensures.1 (rw seen_is (behind_overflows _ _ rest _ e (made_split fs o arms _) c.in_err-other-in-Union.ensures.cause))
+
+pub draw-returns-in_err-arms-in-Union-clause-cause : goal.draw-returns-in_err-arms-in-Union-clause-cause
+draw-returns-in_err-arms-in-Union-clause-cause t c =
+    let fs = known c.args.self.now in
+    let o = option_map (λ b. aoi.seen b.value) c.in-Union.other in
+    let e = c.in_err-arms-in-Union.field-0.0 in
+    let arms = c.in-Union.arms in
+    let last = face_of fs (aoi.choice (aoi.seen c.in-Union.tag.value) (aoi.arms_seen arms o)) ∷ [] in
+    let seen_is = ap aoi.seen c.in-Union.is ∙ choice_seen c.in-Union.tag arms c.in-Union.other in
+    let g = c.in_ok-other-in-Union.ensures.grows in
+    handed_on _ e _ c.from_residual-in_err-arms-in-Union.ensures.1
+    (rw seen_is (next_overflows _ _ _ _ last _ e (made_split fs o arms _) g.nodes (rw (g.types, c.as_slice-in-Union.ensures) at c.in_err-arms-in-Union.ensures.cause)))
+
+choice_is : (t : ℕ) (c : goal.draw-After-draw_choice t)
+    → choice (sign_in (face_of (known c.draw_arms.new.self) (aoi.seen c.deref-in-Union.result.now))) (arms_at (drawn c.draw_arms.new.self) c.in_ok-arms-in-Union.arms c.in_ok-other-in-Union.other)
+    ≡ face_of (known c.args.self.now) (aoi.choice (aoi.seen c.in-Union.tag.value) (aoi.arms_seen c.in-Union.arms (option_map (λ b. aoi.seen b.value) c.in-Union.other)))
+choice_is t c =
+    let fs = known c.args.self.now in
+    let o = option_map (λ b. aoi.seen b.value) c.in-Union.other in
+    let g = c.in_ok-other-in-Union.ensures.grows in
+    let h = rw (g.types, c.as_slice-in-Union.ensures) at c.in_ok-arms-in-Union.ensures.grows in
+    let listed = rw (g.types, c.as_slice-in-Union.ensures) at c.in_ok-arms-in-Union.ensures.arms in
+    let whole = choice_arms fs o c.in-Union.arms _ _ _ _ _ h c.in_ok-other-in-Union.ensures.other listed in
+    rw (whole.are, h.types, g.types, c.deref-in-Union.ensures) refl
+
+pub draw-returns-in_ok-arms-in-Union-clause-grows : goal.draw-returns-in_ok-arms-in-Union-clause-grows
+draw-returns-in_ok-arms-in-Union-clause-grows t c =
+    let fs = known c.args.self.now in
+    let o = option_map (λ b. aoi.seen b.value) c.in-Union.other in
+    let g = c.in_ok-other-in-Union.ensures.grows in
+    let h = rw (g.types, c.as_slice-in-Union.ensures) at c.in_ok-arms-in-Union.ensures.grows in
+    let seen_is = ap aoi.seen c.in-Union.is ∙ choice_seen c.in-Union.tag c.in-Union.arms c.in-Union.other in
+    rw seen_is (on_ok _ _ _ (choice_nodes _ _ _ _ _ _ _ _ _ (behind_split fs o c.in-Union.arms) (choice_is t c) g h) c.draw_choice.ensures.grows)
+
+pub draw-returns-in_ok-arms-in-Union-clause-id : goal.draw-returns-in_ok-arms-in-Union-clause-id
+draw-returns-in_ok-arms-in-Union-clause-id t c =
+    let seen_is = ap aoi.seen c.in-Union.is ∙ choice_seen c.in-Union.tag c.in-Union.arms c.in-Union.other in
+    rw seen_is (if_ok _ _ _ (λ id. drawn_as _ id _ _ (choice_is t c)) c.draw_choice.ensures.id)
+
+pub draw-returns-in_ok-arms-in-Union-clause-cause : goal.draw-returns-in_ok-arms-in-Union-clause-cause
+draw-returns-in_ok-arms-in-Union-clause-cause t c =
+    let fs = known c.args.self.now in
+    let o = option_map (λ b. aoi.seen b.value) c.in-Union.other in
+    let g = c.in_ok-other-in-Union.ensures.grows in
+    let h = rw (g.types, c.as_slice-in-Union.ensures) at c.in_ok-arms-in-Union.ensures.grows in
+    let seen_is = ap aoi.seen c.in-Union.is ∙ choice_seen c.in-Union.tag c.in-Union.arms c.in-Union.other in
+    let two = grows_twice _ _ _ _ _ g h in
+    let all = ap (λ z. z ++ face_of fs (aoi.choice (aoi.seen c.in-Union.tag.value) (aoi.arms_seen c.in-Union.arms o)) ∷ []) (behind_split fs o c.in-Union.arms) in
+    rw seen_is (if_err _ _ _ (λ e h. last_overflows _ _ _ _ _ _ e all two.nodes h) c.draw_choice.ensures.cause)

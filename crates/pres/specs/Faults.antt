@@ -1,0 +1,84 @@
+-- Why a unit is not bound.
+use Rattle.std.specs.Prelude.{Bool, not, ◌&&◌, ◌||◌, ◌==◌, nat_lt, ℕ, suc, ◌+◌, List, length, sum_by, Option, None, Some, if◌then◌else◌}
+use Rattle.std.specs.List.{list_any}
+use Rattle.mint.specs.Blank.{blank, depth}
+use Rattle.mint.specs.Values.{weight}
+use Rattle.wire_def.specs.declared.encoding.Back.{Back}
+use Rattle.aoi.specs.declared.interfaces.Interface.{Interface}
+use Rattle.aoi.specs.declared.interfaces.Operation.{Operation}
+use Rattle.aoi.specs.declared.interfaces.Raise.{Raise}
+use Rattle.aoi.specs.Units.{Parts as UnitParts}
+use Rattle.pres.specs.declared.errors.BindErr.{BindErr}
+use Rattle.pres.specs.declared.errors.BindErr.TheVariants as err
+use Rattle.pres.specs.Faces.{Face, nothing, scalar, numbers, values, members, list, choice, maybe, Parts, no_parts, part, Arms, no_other, other, arm, type_of}
+use Rattle.pres.specs.Offers.{Offer, offers, is_cdr}
+use Rattle.pres.specs.Made.{all_made}
+
+-- an operation that raises exceptions
+abbrev pub raises : Operation → Bool
+raises op = not (length op.raises == 0)
+
+abbrev pub has_raises : UnitParts → Bool
+has_raises u = list_any (λ (i : Interface). list_any raises i.ops) u.interfaces
+
+-- more than 32 levels
+abbrev pub is_deep : Face → Bool
+is_deep f = nat_lt 32 (depth (type_of f))
+
+-- a blank value of weight above 1,048,576
+abbrev pub is_heavy : Face → Bool
+is_heavy f = nat_lt 1048576 (weight (blank (type_of f)))
+
+-- how many nodes stand in the tree
+abbrev mutual
+  pub spread : Face → ℕ
+  spread nothing = 1
+  spread (scalar s) = 1
+  spread (numbers a) = 1
+  spread (values ps) = suc (spread_inside ps)
+  spread (members ps) = suc (spread_inside ps)
+  spread (list c f) = suc (spread f)
+  spread (choice s arms) = suc (spread_behind arms)
+  spread (maybe f) = suc (spread f)
+
+  pub spread_inside : Parts → ℕ
+  spread_inside no_parts = 0
+  spread_inside (part n f ps) = spread f + spread_inside ps
+
+  pub spread_behind : Arms → ℕ
+  spread_behind no_other = 0
+  spread_behind (other f) = spread f
+  spread_behind (arm n f arms) = spread f + spread_behind arms
+
+-- the nodes in an operation's request and reply
+abbrev pub spread_of : Offer → ℕ
+spread_of o = spread o.request + spread o.reply
+
+-- more than 16,777,216 octets
+abbrev pub is_long : List ℕ → Bool
+is_long name = nat_lt 16777216 (length name)
+
+-- an operation whose name, or the id of an exception of which, is long
+abbrev pub has_long : Operation → Bool
+has_long op = is_long op.name || list_any (λ (r : Raise). is_long r.id) op.raises
+
+-- an interface with a long name in it
+abbrev pub has_long_in : Interface → Bool
+has_long_in i = is_long i.name || list_any has_long i.ops
+
+-- operations of which one spreads over more than 65,536 nodes, or all over more than 262,144
+abbrev pub is_spread : List Offer → Bool
+is_spread os = list_any (λ o. nat_lt 65536 (spread_of o)) os || nat_lt 262144 (sum_by spread_of os)
+
+abbrev pub is_wide : UnitParts → Back → Bool
+is_wide u b = list_any has_long_in u.interfaces || is_spread (offers u b)
+
+-- the first reason
+abbrev pub bind_fault : UnitParts → Back → Option BindErr
+bind_fault u b =
+    if not (is_cdr b) && has_raises u then Some err.Raises
+    else (if nat_lt 65536 (length (all_made u b)) then Some err.Many
+    else (if list_any is_deep (all_made u b) then Some err.Deep
+    else (if list_any is_heavy (all_made u b) then Some err.Heavy
+    else (if is_wide u b then Some err.Wide
+    else None))))

@@ -1,0 +1,65 @@
+-- How deep faces are, and over how many nodes they spread, up to one more than is allowed.
+use Rattle.std.specs.Prelude.{Bool, ◌||◌, nat_lt, ℕ, suc, ◌+◌, min, max, List, [], ◌∷◌, slice_index_or, sum_by, Option, None, Some, ℤ}
+use Rattle.std.specs.List.{list_any}
+use Rattle.mint.specs.Blank.{depth, fields_depth, arms_depth}
+use Rattle.mint.specs.declared.node.Node.{Node}
+use Rattle.mint.specs.declared.node.Node.TheVariants as node
+use Rattle.pres.specs.declared.ops.Op.{Op}
+use Rattle.pres.specs.declared.sizes.Size.{Size}
+use Rattle.pres.specs.Faces.{Face, Parts, Arms, type_of, types_of, arm_types_of}
+use Rattle.pres.specs.Faults.{spread, spread_inside, spread_behind}
+
+abbrev pub sized : ℕ → ℕ → Size
+sized d n = record { depth = min d 33; nodes = min n 65537 }
+
+-- the size of a face
+abbrev pub size_of : Face → Size
+size_of f = sized (depth (type_of f)) (spread f)
+
+abbrev pub size_inside : Parts → Size
+size_inside ps = sized (fields_depth (types_of ps)) (spread_inside ps)
+
+abbrev pub size_behind : Arms → Size
+size_behind arms = sized (arms_depth (arm_types_of arms)) (spread_behind arms)
+
+-- what stands side by side
+abbrev pub beside : Size → Size → Size
+beside a b = sized (max a.depth b.depth) (a.nodes + b.nodes)
+
+-- a node over others
+abbrev pub over : Size → Size
+over a = sized (suc a.depth) (suc a.nodes)
+
+abbrev pub no_size : Size
+no_size = sized 0 0
+
+abbrev pub at : List Size → ℕ → Size
+at sizes i = slice_index_or sizes i (sized 1 1)
+
+abbrev pub inside_at : List Size → List ℕ → Size
+inside_at sizes [] = no_size
+inside_at sizes (i ∷ is) = beside (at sizes i) (inside_at sizes is)
+
+abbrev pub other_at : List Size → Option ℕ → Size
+other_at sizes None = no_size
+other_at sizes (Some i) = at sizes i
+
+abbrev pub behind_at : List Size → List (ℤ × ℕ) → Option ℕ → Size
+behind_at sizes [] o = other_at sizes o
+behind_at sizes (a ∷ arms) o = beside (at sizes a.1) (behind_at sizes arms o)
+
+-- the size of a node, over those of the nodes before it
+abbrev pub size_at : List Size → Node → Size
+size_at sizes (node.Group ids) = over (inside_at sizes ids)
+size_at sizes (node.Items i c) = over (at sizes i)
+size_at sizes (node.Choice t arms o) = over (behind_at sizes arms o)
+size_at sizes (node.Maybe i) = over (at sizes i)
+size_at sizes _ = sized 1 1
+
+-- the nodes of an operation's messages, each up to the limit
+abbrev pub nodes_of : List Size → Op → ℕ
+nodes_of sizes o = (at sizes o.request).nodes + (at sizes o.reply).nodes
+
+-- operations with too many nodes, one of them or all
+abbrev pub is_over : List Size → List Op → Bool
+is_over sizes ops = list_any (λ o. nat_lt 65536 (nodes_of sizes o)) ops || nat_lt 262144 (sum_by (nodes_of sizes) ops)

@@ -1,0 +1,126 @@
+// Why a unit is not bound.
+ghost use Rattle.std.specs.Prelude.{◌≡◌, ◌<◌, nat_lt, length};
+ghost use Rattle.std.specs.List.{list_any, AllByRecursion};
+ghost use Rattle.aoi.specs.declared.interfaces.Interface.{Interface as InterfaceRecord};
+ghost use Rattle.pres.specs.declared.ops.Op.{Op as OpRecord};
+ghost use Rattle.pres.specs.declared.sizes.Size.{Size as SizeRecord};
+ghost use Rattle.pres.specs.Faults.{raises, is_long, has_long, has_long_in};
+ghost use Rattle.pres.specs.Sizes.{is_over};
+
+use crate::Op;
+use crate::sizes::Size;
+use aoi::{Interface, Operation, Raise};
+use kit_base::Name;
+
+/// The most octets of a name.
+const NAME: usize = 16_777_216;
+
+/// The most nodes in the request and the reply of an operation.
+const EACH: u64 = 65_536;
+
+/// The most nodes in all requests and replies.
+const ALL: u64 = 262_144;
+
+fn is_raise_in(ops: &[Operation]) -> bool
+    ensures { result ≡ list_any raises ops.now }
+{
+    for op in ops {
+        if op.raises.len() != 0 {
+            return true;
+        }
+    }
+    false
+}
+
+/// Whether an operation raises exceptions.
+pub(crate) fn has_raises(interfaces: &[Interface]) -> bool
+    ensures { result ≡ list_any (λ (i : InterfaceRecord). list_any raises i.ops) interfaces.now }
+{
+    for i in interfaces {
+        if is_raise_in(i.ops.as_slice()) {
+            return true;
+        }
+    }
+    false
+}
+
+fn is_long(name: &Name) -> bool
+    ensures { result ≡ is_long name.now }
+{
+    name.len() > NAME
+}
+
+fn is_long_id(raises: &[Raise]) -> bool
+    ensures { result ≡ list_any (λ r. is_long r.id) raises.now }
+{
+    for raise in raises {
+        if is_long(&raise.id) {
+            return true;
+        }
+    }
+    false
+}
+
+fn has_long(op: &Operation) -> bool
+    ensures { result ≡ has_long op.now }
+{
+    is_long(&op.name) || is_long_id(op.raises.as_slice())
+}
+
+fn is_long_in(ops: &[Operation]) -> bool
+    ensures { result ≡ list_any has_long ops.now }
+{
+    for op in ops {
+        if has_long(op) {
+            return true;
+        }
+    }
+    false
+}
+
+fn has_long_in(i: &Interface) -> bool
+    ensures { result ≡ has_long_in i.now }
+{
+    is_long(&i.name) || is_long_in(i.ops.as_slice())
+}
+
+/// Whether a name or an id is too long.
+pub(crate) fn has_long_names(interfaces: &[Interface]) -> bool
+    ensures { result ≡ list_any has_long_in interfaces.now }
+{
+    for i in interfaces {
+        if has_long_in(i) {
+            return true;
+        }
+    }
+    false
+}
+
+/// Whether a type has too many levels.
+pub(crate) fn is_deep(sizes: &[Size]) -> bool
+    ensures { result ≡ list_any (λ (s : SizeRecord). nat_lt 32 s.depth) sizes.now }
+{
+    for size in sizes {
+        if size.depth > 32 {
+            return true;
+        }
+    }
+    false
+}
+
+/// Whether the messages of an operation, or of all, spread over too many nodes.
+pub(crate) fn is_over(sizes: &[Size], ops: &[Op]) -> bool
+    requires { AllByRecursion (λ (o : OpRecord). (o.request < length sizes.now) × (o.reply < length sizes.now)) ops.now }
+    ensures { result ≡ is_over sizes.now ops.now }
+{
+    let mut total: u64 = 0;
+    for op in ops {
+        let request = u64::from(sizes[op.request as usize].nodes);
+        let reply = u64::from(sizes[op.reply as usize].nodes);
+        if request + reply > EACH {
+            return true;
+        }
+        total = (total + request + reply).min(ALL + 1);
+    }
+    total > ALL
+}

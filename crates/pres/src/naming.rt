@@ -1,0 +1,55 @@
+// Copies of the names of a unit.
+ghost use Rattle.std.specs.Prelude.{◌≡◌, map, IfOk, IsTrue};
+ghost use Rattle.aoi.specs.Shapes.{members};
+ghost use Rattle.aoi.specs.Sound.{are_distinct, names_of};
+ghost use Rattle.pres.specs.Faces.{item, sign_of};
+ghost use Rattle.pres.specs.Named.{IsTagShape};
+
+use crate::Shape;
+use crate::sorting::labels_of;
+use aoi::{Field, Items};
+use kit_base::{Name, NoMemory, Words};
+use mint::node::Tag;
+use std::alloc::Global;
+
+/// A copy of a name.
+pub(crate) fn copy_name(alloc: Global, name: &Name) -> Result<Name, NoMemory>
+    ensures { IfOk result (λ n. n ≡ name.now) }
+{
+    let mut copy = Name::new(alloc);
+    copy.append(name.as_slice())?;
+    Ok(copy)
+}
+
+/// The names of fields.
+pub(crate) fn field_names(alloc: Global, fields: &[Field]) -> Result<Words, NoMemory>
+    ensures { IfOk result (λ ws. ws ≡ names_of (members fields.now)) }
+{
+    let mut names = Words::new(alloc);
+    for field in fields {
+        names.push(copy_name(alloc, &field.name)?)?;
+    }
+    Ok(names)
+}
+
+/// A copy of the items of an enum.
+pub(crate) fn copy_items(alloc: Global, items: &Items) -> Result<Items, NoMemory>
+    ensures { IfOk result (λ is. is ≡ items.now) }
+{
+    let mut copies = Items::new(alloc);
+    for (name, n) in items.as_slice() {
+        copies.push((copy_name(alloc, name)?, *n))?;
+    }
+    Ok(copies)
+}
+
+/// The tag that is an enum.
+pub(crate) fn enum_tag(alloc: Global, items: &Items) -> Result<(Tag, Shape), NoMemory>
+    requires { IsTrue (are_distinct (map (λ i. i.0) items.now)) }
+    ensures named { IfOk result (λ t. IsTagShape t.0 t.1) }
+    ensures sign { IfOk result (λ t. sign_of t.0 t.1 ≡ item items.now) }
+{
+    let labels = labels_of(alloc, items)?;
+    let names = copy_items(alloc, items)?;
+    Ok((Tag::Enum(labels), Shape::LabelNames(names)))
+}
