@@ -22,3 +22,6 @@ pub use bound::Bound;
 pub use errors::BindErr;
 pub use ops::{Op, Ops};
 pub use shape::{Pres, Shape};
+
+#[cfg(test)]
+mod tests;
