@@ -26,7 +26,6 @@ pub use requests::read_request;
 pub use writing::to_json;
 pub use written_records::{write_reply, write_request};
 
-
 #[cfg(test)]
 mod record_tests;
 #[cfg(test)]

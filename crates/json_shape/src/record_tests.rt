@@ -168,8 +168,16 @@ fn reply_again(alloc: Global, bound: &Bound, text: &str) -> Result<String, NoMem
 
 /// An argument of `f`, and what is written of it, or nothing.
 const ARGUMENTS: [(Sample, &str, &str); 33] = [
-    (Sample::Struct, "{\"b\":true,\"a\":1}", "{\"a\":1,\"b\":true}"),
-    (Sample::Struct, "{\"a\":1,\"b\":true,\"a\":2}", "{\"a\":2,\"b\":true}"),
+    (
+        Sample::Struct,
+        "{\"b\":true,\"a\":1}",
+        "{\"a\":1,\"b\":true}",
+    ),
+    (
+        Sample::Struct,
+        "{\"a\":1,\"b\":true,\"a\":2}",
+        "{\"a\":2,\"b\":true}",
+    ),
     (Sample::Struct, "{\"a\":1}", ""),
     (Sample::Struct, "{\"a\":1,\"b\":true,\"c\":0}", ""),
     (Sample::Struct, "{\"a\":1,\"c\":true}", ""),
@@ -190,7 +198,11 @@ const ARGUMENTS: [(Sample, &str, &str); 33] = [
     (Sample::Row, "[1,65535]", "[1,65535]"),
     (Sample::Row, "[1]", ""),
     (Sample::Row, "[1,2,3]", ""),
-    (Sample::Union, "{\"tag\":1,\"value\":5}", "{\"tag\":1,\"value\":5}"),
+    (
+        Sample::Union,
+        "{\"tag\":1,\"value\":5}",
+        "{\"tag\":1,\"value\":5}",
+    ),
     (Sample::Union, "{\"tag\":2}", "{\"tag\":2,\"value\":null}"),
     (Sample::Union, "{\"tag\":1}", ""),
     (Sample::Union, "{\"tag\":3}", ""),
@@ -325,7 +337,11 @@ fn a_refusal_is_its_name_and_its_numbers(rt: HostRuntime) -> Result<(), Fail> {
     assert_eq!(rt; answer.as_str(), "[\"PROG_MISMATCH\",1,2]");
     let answer = refused(alloc, &bound, Refusal::AuthError(1))?;
     assert_eq!(rt; answer.as_str(), "[\"AUTH_ERROR\",1]");
-    let answer = refused(alloc, &bound, Refusal::SystemException(name(alloc, b"a")?, 1, 2))?;
+    let answer = refused(
+        alloc,
+        &bound,
+        Refusal::SystemException(name(alloc, b"a")?, 1, 2),
+    )?;
     assert_eq!(rt; answer.as_str(), "[\"SYSTEM_EXCEPTION\",\"a\",1,2]");
     let answer = refused(alloc, &bound, Refusal::UserException(name(alloc, b"a")?))?;
     assert_eq!(rt; answer.as_str(), "[\"USER_EXCEPTION\",\"a\"]");

@@ -113,7 +113,11 @@ const ROWS: [(Kind, &str, Option<&[i128]>); 14] = [
     (Kind::I8, "[128]", None),
     (Kind::I8, "[1.0]", None),
     (Kind::U8, "\"00\"", None),
-    (Kind::U64, "[18446744073709551615]", Some(&[18_446_744_073_709_551_615])),
+    (
+        Kind::U64,
+        "[18446744073709551615]",
+        Some(&[18_446_744_073_709_551_615]),
+    ),
 ];
 
 #[test]
@@ -135,8 +139,16 @@ fn written(alloc: Global, kind: Kind, n: i128) -> Json {
 /// Numbers, and what is written of them.
 const WRITTEN: [(Kind, i128, &str); 8] = [
     (Kind::Octet, 255, "255"),
-    (Kind::I64, -9_223_372_036_854_775_808, "-9223372036854775808"),
-    (Kind::U64, 18_446_744_073_709_551_615, "18446744073709551615"),
+    (
+        Kind::I64,
+        -9_223_372_036_854_775_808,
+        "-9223372036854775808",
+    ),
+    (
+        Kind::U64,
+        18_446_744_073_709_551_615,
+        "18446744073709551615",
+    ),
     (Kind::Bool, 1, "true"),
     (Kind::Bool, 0, "false"),
     (Kind::Char, 65, "\"A\""),
@@ -170,8 +182,14 @@ fn an_item_is_read_by_its_name_and_written_by_the_first(rt: HostRuntime) -> Resu
     ];
     assert_eq!(rt; item(&items, &tree(alloc, "\"ROT\"")), Ok(0));
     assert_eq!(rt; item(&items, &tree(alloc, "\"GREEN\"")), Ok(1));
-    assert_eq!(rt; item(&items, &tree(alloc, "\"GREE\"")), Err(ShapeErr::Shape));
-    assert_eq!(rt; item(&items, &tree(alloc, "\"GREENS\"")), Err(ShapeErr::Shape));
+    assert_eq!(rt;
+        item(&items, &tree(alloc, "\"GREE\"")),
+        Err(ShapeErr::Shape)
+    );
+    assert_eq!(rt;
+        item(&items, &tree(alloc, "\"GREENS\"")),
+        Err(ShapeErr::Shape)
+    );
     assert_eq!(rt; item(&items, &tree(alloc, "0")), Err(ShapeErr::Shape));
     let text = item_json(alloc, &items, &0)?.to_string(alloc)?;
     assert_eq!(rt; text.as_str(), "\"RED\"");
@@ -191,7 +209,10 @@ fn a_row_is_written_in_the_way_of_its_kind(rt: HostRuntime) -> Result<(), Fail> 
 #[test]
 fn octets_are_characters(rt: HostRuntime) -> Result<(), Fail> {
     let alloc = rt.alloc();
-    assert_eq!(rt; text_of(alloc, &[65, 233])?.as_bytes(), [65u8, 195, 169].as_slice());
+    assert_eq!(rt;
+        text_of(alloc, &[65, 233])?.as_bytes(),
+        [65u8, 195, 169].as_slice()
+    );
     Ok(())
 }
 
@@ -202,7 +223,12 @@ const KEYS: [(Back, &str, bool, bool); 8] = [
     (Back::CdrBig, "{\"id\":2}", true, true),
     (Back::CdrLittle, "{\"xid\":2}", false, false),
     (Back::Mach, "{\"remote\":1,\"local\":2}", true, false),
-    (Back::Mach, "{\"remote\":1,\"result\":2,\"outs\":3}", false, true),
+    (
+        Back::Mach,
+        "{\"remote\":1,\"result\":2,\"outs\":3}",
+        false,
+        true,
+    ),
     (Back::Xdr, "{\"raise\":1,\"members\":2}", false, true),
     (Back::Xdr, "[]", false, false),
 ];
@@ -221,7 +247,10 @@ fn records_have_their_members_alone(rt: HostRuntime) {
 fn a_head_number_is_a_whole_number_of_32_bits(rt: HostRuntime) {
     let alloc = rt.alloc();
     assert_eq!(rt; head_number(None), Some(0));
-    assert_eq!(rt; head_number(Some(&tree(alloc, "4294967295"))), Some(4_294_967_295));
+    assert_eq!(rt;
+        head_number(Some(&tree(alloc, "4294967295"))),
+        Some(4_294_967_295)
+    );
     assert_eq!(rt; head_number(Some(&tree(alloc, "4294967296"))), None);
     assert_eq!(rt; head_number(Some(&tree(alloc, "-1"))), None);
     assert_eq!(rt; head_number(Some(&tree(alloc, "1.0"))), None);
