@@ -10,7 +10,7 @@ use Rattle.pres.specs.declared.draft.Entry.{Entry}
 use Rattle.pres.specs.declared.shape.Shape.{Shape}
 use Rattle.pres.specs.Faces.{Face, nothing, at, level, faces_from, faces}
 use Rattle.pres.specs.Named.{IsNamed, AreNamed}
-use Rattle.pres.specs.Drafts.{Sketch, IsSketch, drawn, known, Grows, IsDrawn, AreDrawn}
+use Rattle.pres.specs.Drafts.{Sketch, IsSketch, drawn, known, Grows, IsDrawn}
 use Rattle.pres.proofs.Facing.{face_at-level}
 
 -- ---- one more node
@@ -110,11 +110,6 @@ known-length s = length-map s.types (at (drawn s))
 
 -- ---- at a place
 
-pub get_there : {A : Type 0} (es : List A) (i : ℕ) (e : A) → i < length es → e ≡ get_or es i e → slice_get es i ≡ Some e
-get_there [] i e h is = absurd (omega arith)
-get_there (d ∷ es) zero e h is = ap Some (sym is)
-get_there (d ∷ es) (suc i) e h is = get_there es i e (omega arith) is
-
 pub entry_there : {A X : Type 0} (f : A → X) (es : List A) (i : ℕ) (e : A) → i < length es → e ≡ get_or es i e → slice_get (map f es) i ≡ Some (f e)
 entry_there f [] i e h is = absurd (omega arith)
 entry_there f (d ∷ es) zero e h is = ap (λ z. Some (f z)) (sym is)
@@ -167,16 +162,4 @@ pub drawn_stays : (old new : Sketch) (more : List Face) (id : ℕ) (f : Face) �
 drawn_stays old new more id f g d = record {
   below = rw g.nodes (omega (arith, d.below, length-append (drawn old) more));
   is = rw g.nodes (get_or-append (drawn old) more nothing id d.below ∙ d.is);
-}
-
-pub all_stay : (old new : Sketch) (more : List Face) (ids : List ℕ) (fs : List Face) → Grows old new more → AreDrawn old ids fs → AreDrawn new ids fs
-all_stay old new more ids fs g d = record {
-  below = rw g.nodes (below_more (length (drawn old)) _ ids (omega (arith, length-append (drawn old) more)) d.below);
-  are = rw g.nodes (at_stays (drawn old) more ids d.below ∙ d.are);
-}
-
-pub one_more_drawn : (s : Sketch) (ids : List ℕ) (fs : List Face) (id : ℕ) (f : Face) → AreDrawn s ids fs → IsDrawn s id f → AreDrawn s (ids ++ id ∷ []) (fs ++ f ∷ [])
-one_more_drawn s ids fs id f ds d = record {
-  below = below_push _ ids id ds.below d.below;
-  are = map-append (at (drawn s)) ids (id ∷ []) ∙ rw (ds.are, d.is) refl;
 }

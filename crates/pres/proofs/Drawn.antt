@@ -14,7 +14,6 @@ use Rattle.aoi.specs.declared.types.Field.{Field}
 use Rattle.aoi.specs.Shapes as aoi
 use Rattle.aoi.specs.Sound.{names_of}
 use Rattle.pres.specs.declared.errors.BindErr.{BindErr}
-use Rattle.pres.specs.declared.errors.BindErr.TheVariants as err
 use Rattle.pres.specs.Faces.{Face, nothing, scalar, number, item, numbers, values, members, list, choice, maybe, Arms, no_other, other, arm, at, parts_at, arms_at}
 use Rattle.pres.specs.Made.{made, made_inside, made_behind}
 use Rattle.pres.specs.Offers.{face_of, parts_of, arms_of, packed, sign_in, unnamed, put_arm}
@@ -30,9 +29,6 @@ both false b h = absurd (true≢false (sym h))
 
 pub overflows_more : (fs gs : List Face) (e : BindErr) → Overflows fs e → length fs ≤ length gs → Overflows gs e
 overflows_more fs gs e h le = λ ne. ((h ne).0, omega (arith, (h ne).1, le))
-
-pub no_memory : (fs : List Face) (e : BindErr) → e ≡ err.NoMemory → Overflows fs e
-no_memory fs e is = λ ne. absurd (ne is)
 
 pub grows_twice : (a b c : Sketch) (xs ys : List Face) → Grows a b xs → Grows b c ys → Grows a c (xs ++ ys)
 grows_twice a b c xs ys g h = record {
@@ -86,12 +82,6 @@ field_nodes fs fields i f mid new all lt is h new_is =
     ap (λ z. z ++ made_inside fs (aoi.members (drop (i + 1) fields))) new_is
     ∙ append_assoc mid (made fs (aoi.seen f.ty)) (made_inside fs (aoi.members (drop (i + 1) fields)))
     ∙ (rw (cut_fields fields i f lt is) at h)
-
-pub field_room : (fs : List Face) (fields : List Field) (i : ℕ) (f : Field) (mid all : List Face) → i < length fields → f ≡ get_or fields i f
-    → mid ++ made_inside fs (aoi.members (drop i fields)) ≡ all → length (mid ++ made fs (aoi.seen f.ty)) ≤ length all
-field_room fs fields i f mid all lt is h =
-    let whole = field_nodes fs fields i f mid (mid ++ made fs (aoi.seen f.ty)) all lt is h refl in
-    omega (arith, ap length whole, length-append (mid ++ made fs (aoi.seen f.ty)) (made_inside fs (aoi.members (drop (i + 1) fields))))
 
 pub field_ids : (fs : List Face) (fields : List Field) (i : ℕ) (f : Field) (mid new : Sketch) (more : List Face) (ids ids' : List ℕ) (id : ℕ) (all : List Face) → i < length fields → f ≡ get_or fields i f
     → Grows mid new more → AllByRecursion (λ j. j < length (drawn mid)) ids → IsDrawn new id (face_of fs (aoi.seen f.ty)) → ids' ≡ ids ++ id ∷ []

@@ -56,12 +56,6 @@ pub raise_nodes : (fs : List Face) (rs : List Raise) (i : ℕ) (r : Raise) (mid 
 raise_nodes fs rs i r mid new all lt is h new_is =
     ap (λ z. z ++ made_raised fs (drop (i + 1) rs)) new_is ∙ append_assoc mid (made fs (exception r)) (made_raised fs (drop (i + 1) rs)) ∙ (rw (cut_raises rs i r lt is) at h)
 
-pub raise_room : (fs : List Face) (rs : List Raise) (i : ℕ) (r : Raise) (mid all : List Face) → i < length rs → r ≡ get_or rs i r
-    → mid ++ made_raised fs (drop i rs) ≡ all → length (mid ++ made fs (exception r)) ≤ length all
-raise_room fs rs i r mid all lt is h =
-    let whole = raise_nodes fs rs i r mid (mid ++ made fs (exception r)) all lt is h refl in
-    omega (arith, ap length whole, length-append (mid ++ made fs (exception r)) (made_raised fs (drop (i + 1) rs)))
-
 -- the arms so far, and those of the exceptions left
 pub record AreSoFar (s : Sketch) (arms : List (ℤ × ℕ)) (rest all : Arms) : Type 0 where
   pub below : ArmsBelow (length (drawn s)) arms
@@ -113,12 +107,6 @@ pub op_nodes : (fs : List Face) (ops : List Operation) (i : ℕ) (op : Operation
     → mid ++ made_by fs (drop i ops) ≡ all → new ≡ mid ++ (made_request fs op ++ made_reply fs op) → new ++ made_by fs (drop (i + 1) ops) ≡ all
 op_nodes fs ops i op mid new all lt is h new_is =
     ap (λ z. z ++ made_by fs (drop (i + 1) ops)) new_is ∙ append_assoc mid (made_request fs op ++ made_reply fs op) (made_by fs (drop (i + 1) ops)) ∙ (rw (cut_ops ops i op lt is) at h)
-
-pub op_room : (fs : List Face) (ops : List Operation) (i : ℕ) (op : Operation) (mid all : List Face) → i < length ops → op ≡ get_or ops i op
-    → mid ++ made_by fs (drop i ops) ≡ all → length (mid ++ (made_request fs op ++ made_reply fs op)) ≤ length all
-op_room fs ops i op mid all lt is h =
-    let whole = op_nodes fs ops i op mid (mid ++ (made_request fs op ++ made_reply fs op)) all lt is h refl in
-    omega (arith, ap length whole, length-append (mid ++ (made_request fs op ++ made_reply fs op)) (made_by fs (drop (i + 1) ops)))
 
 placed_more : (n m : ℕ) (os : List Op) → n ≤ m → AllByRecursion (λ (o : Op). (o.request < n) × (o.reply < n)) os → AllByRecursion (λ (o : Op). (o.request < m) × (o.reply < m)) os
 placed_more n m [] le h = tt

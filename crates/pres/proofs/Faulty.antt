@@ -24,12 +24,6 @@ use Rattle.pres.specs.Offers.{offers, offer_at, is_cdr}
 use Rattle.pres.specs.Sizes as sizes
 use Rattle.pres.specs.Sizes.{size_of, nodes_of, is_over}
 
-pub raises_first : (u : UnitParts) (b : Back) → (not (is_cdr b) && has_raises u) ≡ true → bind_fault u b ≡ Some err.Raises
-raises_first u b h = rw h refl
-
-pub many_next : (u : UnitParts) (b : Back) → (not (is_cdr b) && has_raises u) ≡ false → 65536 < length (all_made u b) → bind_fault u b ≡ Some err.Many
-many_next u b h m = rw (h, lt-ltb 65536 (length (all_made u b)) m) refl
-
 pub deep_next : (u : UnitParts) (b : Back) → (not (is_cdr b) && has_raises u) ≡ false → length (all_made u b) ≤ 65536 → list_any is_deep (all_made u b) ≡ true → bind_fault u b ≡ Some err.Deep
 deep_next u b h m d = rw (h, le-ltb 65536 (length (all_made u b)) m, d) refl
 

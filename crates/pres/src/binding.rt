@@ -59,8 +59,9 @@ fn draw(alloc: Global, unit: &Unit, back: Back) -> Result<(Mint, Pres, Ops), Bin
     Ok((mint, pres, ops))
 }
 
-/// Binds a unit to a back end: gives it the nodes of its types and messages. The first reason of
-/// the definition refuses it, in time that is linear in the unit: a type is never unfolded.
+/// Binds a unit to a back end: gives it the nodes of its types and messages, or the first reason
+/// why not. No type is unfolded: the work is that of the unit as it is written, and the sorting of
+/// its labels and arms.
 pub fn bind(alloc: Global, unit: Unit, back: Back) -> Result<Bound, BindErr>
     requires { IsSound unit }
     ensures unit { IfOk result (λ b. b.unit ≡ unit) }
