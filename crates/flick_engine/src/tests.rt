@@ -1,8 +1,6 @@
 //! Messages worked out by hand from RFC 5531 and RFC 4506.
 use super::{Engine, MarshalErr, MessageErr, Request};
-use aoi::{
-    Field, Fields, Interface, Operation, Operations, Raises, Ty, Unit, is_sound,
-};
+use aoi::{Field, Fields, Interface, Operation, Operations, Raises, Ty, Unit, is_sound};
 use kit_base::{Listed, Name, NoMemory, Octets};
 use mint::fits::fits;
 use mint::kind::{Count, Kind};
@@ -39,10 +37,7 @@ fn pair(alloc: Global) -> Result<Ty, NoMemory> {
 
 // `opaque<>`
 fn blob(alloc: Global) -> Result<Ty, NoMemory> {
-    Ok(Ty::Array(
-        Box::new(alloc, Ty::Num(Kind::Octet))?,
-        Count::Any,
-    ))
+    Ok(Ty::Array(Box::new(alloc, Ty::Num(Kind::Octet))?, Count::Any))
 }
 
 // `program CALC { version V { int ADD(TY) = 1; } = 1; } = 0x20000001;`
@@ -191,7 +186,10 @@ fn procedure_0_is_added(rt: HostRuntime) -> Result<(), Fail> {
     assert_eq!(rt; engine.bound().ops().len(), 2);
     let mut buf = SendBuf::new(alloc)?;
     let nothing = Value::Group(Listed::new(alloc));
-    assert_eq!(rt; marshal(alloc, &engine, 1, &nothing, &mut buf), Some(Ok(())));
+    assert_eq!(rt;
+        marshal(alloc, &engine, 1, &nothing, &mut buf),
+        Some(Ok(()))
+    );
     let call = b"\
         \0\0\0\x07\0\0\0\0\0\0\0\x02\x20\0\0\x01\0\0\0\x01\0\0\0\0\
         \0\0\0\0\0\0\0\0\0\0\0\0\0\0\0\0";
@@ -229,11 +227,21 @@ fn the_first_thing_that_is_wrong_is_told(rt: HostRuntime) -> Result<(), Fail> {
         ("another_version", 19, 2, 48, MessageErr::NoInterface),
         ("another_procedure", 23, 9, 48, MessageErr::NoOperation),
         ("body_is_cut", 0, 0, 46, MessageErr::Body(cut)),
-        ("procedure_0_takes_nothing", 23, 0, 48, MessageErr::Trailing(40)),
+        (
+            "procedure_0_takes_nothing",
+            23,
+            0,
+            48,
+            MessageErr::Trailing(40),
+        ),
     ];
     for (case, at, octet, len, fault) in cases {
         let message = changed(alloc, at, octet, len)?;
-        assert_eq!(rt; refusal(alloc, &engine, message.as_slice()), Some(fault), "{case}");
+        assert_eq!(rt;
+            refusal(alloc, &engine, message.as_slice()),
+            Some(fault),
+            "{case}"
+        );
     }
     Ok(())
 }
@@ -272,6 +280,9 @@ fn a_message_has_at_most_4194304_octets(rt: HostRuntime) -> Result<(), Fail> {
     let sent = marshal(alloc, &engine, 0, &value, &mut buf);
     assert_eq!(rt; sent, Some(Err(MarshalErr::Long)));
     let message = vec![in alloc; 0; 4_194_305]?;
-    assert_eq!(rt; refusal(alloc, &engine, message.as_slice()), Some(MessageErr::Long));
+    assert_eq!(rt;
+        refusal(alloc, &engine, message.as_slice()),
+        Some(MessageErr::Long)
+    );
     Ok(())
 }
