@@ -10,21 +10,17 @@ use Rattle.aoi.specs.Units.{AreApart}
 use Rattle.back_xdr.specs.declared.call.OncCall.{OncCall}
 use Rattle.pres.specs.Bindings.{Binding, IsBinding}
 use Rattle.pres.specs.Faces.{Face, faces}
-use Rattle.pres.specs.Offers.{gets_null, null_operation, gotten, operations, offer, offer_at, offers, offers_from, type_faces}
+use Rattle.pres.specs.Offers.{gets_null, gotten, null_operation, operations, offer, offer_at, offers, offers_from, type_faces}
 use Rattle.flick_engine.specs.declared.seek.Naming.{Naming}
 use Rattle.flick_engine.specs.declared.seek.Naming.TheVariants as naming
-use Rattle.flick_engine.specs.Procedures.{added, numbers, procedures_of, procedures, is_called, operation_at, named_from, IsBelow}
+use Rattle.flick_engine.specs.Procedures.{numbers, procedures_of, procedures, is_called, operation_at, named_from, IsBelow}
 
-as_many : {A B : Type 0} (b : Bool) (x : A) (y : B) → length (if b then x ∷ [] else []) ≡ length (if b then y ∷ [] else [])
-as_many true x y = refl
-as_many false x y = refl
+at_most_one : (b : Bool) → length (if b then null_operation ∷ [] else []) ≤ 1
+at_most_one true = omega arith
+at_most_one false = omega arith
 
-at_most_one : (b : Bool) (x : ℕ) → length (if b then x ∷ [] else []) ≤ 1
-at_most_one true x = omega arith
-at_most_one false x = omega arith
-
-length-numbers : (i : Interface) → length (numbers i) ≡ length i.ops + length (added i)
-length-numbers i = length-append (map (λ (op : Operation). op.proc_no) i.ops) (added i) ∙ ap (λ n. n + length (added i)) (length-map i.ops (λ (op : Operation). op.proc_no))
+length-numbers : (i : Interface) → length (numbers i) ≡ length (operations back.Xdr i)
+length-numbers i = length-map (operations back.Xdr i) (λ (op : Operation). op.proc_no)
 
 length-procedures : (i : Interface) (is : List Interface) → length (procedures (i ∷ is)) ≡ length (numbers i) + length (procedures is)
 length-procedures i is = length-append (procedures_of i) (procedures is) ∙ ap (λ n. n + length (procedures is)) (length-map (numbers i) _)
@@ -32,11 +28,9 @@ length-procedures i is = length-append (procedures_of i) (procedures is) ∙ ap 
 length-offers : (fs : List Face) (k : ℕ) (is : List Interface) → length (offers_from fs back.Xdr k is) ≡ length (procedures is)
 length-offers fs k [] = refl
 length-offers fs k (i ∷ is) =
-    let one = as_many {B = ℕ} (gets_null back.Xdr i) null_operation 0 in
-    let own = length-append i.ops (gotten back.Xdr i) in
-    let mapped = length-map (operations back.Xdr i) (offer fs back.Xdr k) in
+    let own = length-map (operations back.Xdr i) (offer fs back.Xdr k) in
     let all = length-append (map (offer fs back.Xdr k) (operations back.Xdr i)) (offers_from fs back.Xdr (suc k) is) in
-    omega (arith, one, own, mapped, all, length-numbers i, length-procedures i is, length-offers fs (suc k) is)
+    omega (arith, own, all, length-numbers i, length-procedures i is, length-offers fs (suc k) is)
 
 -- each operation is a procedure
 pub counted : (b : Binding) → IsBinding b → b.back ≡ back.Xdr → length (procedures b.unit.interfaces) ≡ length b.ops
@@ -48,8 +42,8 @@ counted b stands xdr =
 pub few : (is : List Interface) → AreApart is → length (procedures is) ≤ 257 * length is
 few [] apart = omega arith
 few (i ∷ is) apart =
-    let one : length (added i) ≤ 1 = at_most_one (gets_null back.Xdr i) 0 in
-    omega (arith, one, length-numbers i, length-procedures i is, apart.1, few is apart.2)
+    let one : length (gotten back.Xdr i) ≤ 1 = at_most_one (gets_null back.Xdr i) in
+    omega (arith, one, length-append i.ops (gotten back.Xdr i), length-numbers i, length-procedures i is, apart.1, few is apart.2)
 
 more : (n m : ℕ) (x : Naming) → IsBelow n x → n ≤ m → IsBelow m x
 more n m (naming.Operation op) below h = omega arith

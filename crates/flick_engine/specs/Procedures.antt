@@ -1,23 +1,19 @@
 -- How calls name the operations of a unit.
-use Rattle.std.specs.Prelude.{ℕ, ◌+◌, ◌<◌, ◌==◌, Bool, ◌&&◌, List, [], ◌∷◌, ◌++◌, map, flat_map, length, slice_index_or, Option, Some, None, if◌then◌else◌}
+use Rattle.std.specs.Prelude.{ℕ, ◌+◌, ◌<◌, ◌==◌, Bool, ◌&&◌, List, [], ◌∷◌, map, flat_map, length, slice_index_or, Option, Some, None, if◌then◌else◌}
 use Rattle.std.specs.List.{position_from}
 use Rattle.wire_def.specs.declared.encoding.Back.TheVariants as back
 use Rattle.aoi.specs.declared.interfaces.Interface.{Interface}
 use Rattle.aoi.specs.declared.interfaces.Operation.{Operation}
 use Rattle.back_xdr.specs.declared.call.OncCall.{OncCall}
 use Rattle.pres.specs.Bindings.{Binding}
-use Rattle.pres.specs.Offers.{gets_null}
+use Rattle.pres.specs.Offers.{operations}
 use Rattle.flick_engine.specs.declared.procedures.Procedure.{Procedure}
 use Rattle.flick_engine.specs.declared.seek.Naming.{Naming}
 use Rattle.flick_engine.specs.declared.seek.Naming.TheVariants.{Operation as one, NoInterface, NoOperation}
 
--- the number of the procedure that an interface gets, if it gets one
-abbrev pub added : Interface → List ℕ
-added i = if gets_null back.Xdr i then 0 ∷ [] else []
-
 -- the numbers of an interface's procedures
 abbrev pub numbers : Interface → List ℕ
-numbers i = map (λ (op : Operation). op.proc_no) i.ops ++ added i
+numbers i = map (λ (op : Operation). op.proc_no) (operations back.Xdr i)
 
 -- the procedures of an interface
 abbrev pub procedures_of : Interface → List Procedure

@@ -43,9 +43,11 @@ fn number(i: &Interface, place: usize) -> u32
     requires { place < length (numbers i.now) }
     ensures { result ≡ slice_index (numbers i.now) place }
 {
-    match i.ops.get(place) {
-        Some(op) => op.proc_no,
-        None => 0,
+    let ops = i.ops.as_slice();
+    if place < ops.len() {
+        ops[place].proc_no
+    } else {
+        0
     }
 }
 

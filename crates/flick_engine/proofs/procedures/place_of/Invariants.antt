@@ -2,12 +2,14 @@ use Rattle.std.proofs.Common.{◌≡◌, ◌+◌, ◌++◌, map, drop}
 use Rattle.std.specs.Prelude.{◌==◌}
 use Rattle.std.specs.List.{position_from}
 use Rattle.aoi.specs.declared.interfaces.Operation.{Operation}
-use Rattle.flick_engine.specs.Procedures.{numbers, added}
+use Rattle.wire_def.specs.declared.encoding.Back.TheVariants as back
+use Rattle.pres.specs.Offers.{gotten}
+use Rattle.flick_engine.specs.Procedures.{numbers}
 use Rattle.flick_engine.proofs.procedures.place_of.Given as goal
 
 -- the first place among all procedures is that among those that are left
 abbrev pub invariant-loop-op : goal.invariant-loop-op
 invariant-loop-op l = record {
   place : l.place ≡ l.first + l.op-index;
-  left : position_from (λ n. n == l.number) l.first (numbers l.i) ≡ position_from (λ n. n == l.number) l.place (map (λ (op : Operation). op.proc_no) (drop l.op-index l.op-items) ++ added l.i);
+  left : position_from (λ n. n == l.number) l.first (numbers l.i) ≡ position_from (λ n. n == l.number) l.place (map (λ (op : Operation). op.proc_no) (drop l.op-index l.op-items ++ gotten back.Xdr l.i));
 }
