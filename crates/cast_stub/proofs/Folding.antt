@@ -2,7 +2,7 @@
 use Rattle.std.proofs.Common.{◌≡◌, ℕ, ◌+◌, ◌-◌, ◌≤◌, max, List, [], ◌∷◌, ◌++◌, length, replicate, Option, Some, None, refl, sym, ap, ◌∙◌, arith, add_assoc}
 use Rattle.wire_def.specs.Scalars.{gap}
 use Rattle.cast_stub.specs.Parts.{on_some}
-use Rattle.cast_stub.specs.Steps.{Step, Room, Pad, Stored, Copied, Patched}
+use Rattle.cast_stub.specs.Steps.{Step, Room, Pad, Stored, Widened, Copied, Patched}
 use Rattle.cast_stub.specs.Meaning.{patched, wrote, Cost, no_cost, sum, cost_of, costs, HasRoom}
 
 pub room-more : (p a b : ℕ) (ss : List Step) → a ≤ b → HasRoom p a ss → HasRoom p b ss
@@ -10,6 +10,7 @@ room-more p a b [] le h = tt
 room-more p a b (Room n ∷ ss) le h = room-more p (max n a) (max n b) ss (omega arith) h
 room-more p a b (Pad x ∷ ss) le h = (omega (arith, h.0), room-more (p + gap p x) (a - gap p x) (b - gap p x) ss (omega arith) h.1)
 room-more p a b (Stored o k ∷ ss) le h = (omega (arith, h.0), room-more (p + length o) (a - length o) (b - length o) ss (omega arith) h.1)
+room-more p a b (Widened o k ∷ ss) le h = (omega (arith, h.0), room-more (p + length o) (a - length o) (b - length o) ss (omega arith) h.1)
 room-more p a b (Copied o ∷ ss) le h = (omega (arith, h.0), room-more (p + length o) (a - length o) (b - length o) ss (omega arith) h.1)
 room-more p a b (Patched at sub order ∷ ss) le h = room-more p a b ss le h
 
@@ -23,6 +24,7 @@ wrote-append base o [] b = refl
 wrote-append base o (Room n ∷ a) b = wrote-append base o a b
 wrote-append base o (Pad x ∷ a) b = wrote-append base (o ++ replicate (gap (base + length o) x) 0) a b
 wrote-append base o (Stored os k ∷ a) b = wrote-append base (o ++ os) a b
+wrote-append base o (Widened os k ∷ a) b = wrote-append base (o ++ os) a b
 wrote-append base o (Copied os ∷ a) b = wrote-append base (o ++ os) a b
 wrote-append base o (Patched at sub order ∷ a) b = then_wrote (patched base at sub order o) base a b (λ p. wrote-append base p a b)
 

@@ -1,5 +1,5 @@
 -- What steps write, what they cost, and whether the room that they need is ensured.
-use Rattle.std.specs.Prelude.{ℕ, ◌+◌, ◌-◌, ◌^◌, ◌≤◌, max, List, [], ◌∷◌, ◌++◌, length, replicate, Option, None, Some, option_map, nat_le, if◌then◌else◌, ◌&&◌}
+use Rattle.std.specs.Prelude.{ℕ, ◌+◌, ◌-◌, ◌^◌, ◌%◌, ◌≤◌, max, List, [], ◌∷◌, ◌++◌, length, replicate, Option, None, Some, option_map, nat_le, if◌then◌else◌, ◌&&◌}
 use Rattle.kit_base.specs.Bytes.{written}
 use Rattle.mint.specs.Values.{Val}
 use Rattle.mint.specs.Types.{Ty}
@@ -10,7 +10,7 @@ use Rattle.wire_def.specs.Scalars.{gap}
 use Rattle.raw_buf.specs.Buf.{in_order}
 use Rattle.cast_stub.specs.declared.send.SendCode.{SendCode}
 use Rattle.cast_stub.specs.Parts.{on_some, IsThere}
-use Rattle.cast_stub.specs.Steps.{Step, Room, Pad, Stored, Copied, Patched, Steps}
+use Rattle.cast_stub.specs.Steps.{Step, Room, Pad, Stored, Widened, Copied, Patched, Steps}
 use Rattle.cast_stub.specs.Subs.{sent_steps}
 
 -- ---- octets
@@ -19,7 +19,7 @@ use Rattle.cast_stub.specs.Subs.{sent_steps}
 abbrev pub patched : ℕ → ℕ → ℕ → Order → List ℕ → Option (List ℕ)
 patched base at sub order o =
     if nat_le base at && nat_le (at + 4) (base + length o)
-    then Some (written o (at - base) (in_order order 4 (base + length o + 2 ^ 32 - sub))) else None
+    then Some (written o (at - base) (in_order order 4 ((base + length o + 2 ^ 32 - sub) % 2 ^ 32))) else None
 
 -- octets that stand from a base on, and behind them what the steps append
 abbrev pub wrote : ℕ → List ℕ → List Step → Option (List ℕ)
@@ -27,6 +27,7 @@ wrote base o [] = Some o
 wrote base o (Room n ∷ ss) = wrote base o ss
 wrote base o (Pad a ∷ ss) = wrote base (o ++ replicate (gap (base + length o) a) 0) ss
 wrote base o (Stored os k ∷ ss) = wrote base (o ++ os) ss
+wrote base o (Widened os k ∷ ss) = wrote base (o ++ os) ss
 wrote base o (Copied os ∷ ss) = wrote base (o ++ os) ss
 wrote base o (Patched at sub order ∷ ss) = on_some (patched base at sub order o) (λ a. wrote base a ss)
 
@@ -53,6 +54,7 @@ abbrev pub cost_of : Step → Cost
 cost_of (Room n) = record no_cost { checks = 1 }
 cost_of (Pad a) = record no_cost { moves = 1 }
 cost_of (Stored os k) = record no_cost { moves = 1; stores = k }
+cost_of (Widened os k) = record no_cost { moves = 1; stores = k }
 cost_of (Copied os) = record no_cost { rows = 1 }
 cost_of (Patched at sub order) = record no_cost { stores = 1 }
 
@@ -72,6 +74,7 @@ HasRoom p a [] = Unit {0}
 HasRoom p a (Room n ∷ ss) = HasRoom p (max n a) ss
 HasRoom p a (Pad x ∷ ss) = (gap p x ≤ a) × HasRoom (p + gap p x) (a - gap p x) ss
 HasRoom p a (Stored os k ∷ ss) = (length os ≤ a) × HasRoom (p + length os) (a - length os) ss
+HasRoom p a (Widened os k ∷ ss) = (length os ≤ a) × HasRoom (p + length os) (a - length os) ss
 HasRoom p a (Copied os ∷ ss) = (length os ≤ a) × HasRoom (p + length os) (a - length os) ss
 HasRoom p a (Patched at sub order ∷ ss) = HasRoom p a ss
 

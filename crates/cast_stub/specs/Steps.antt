@@ -20,6 +20,8 @@ pub data Step : Type 0 where
   Pad : ℕ → Step
   -- octets, by so many stores
   Stored : List ℕ → ℕ → Step
+  -- the numbers of a row, each by a store
+  Widened : List ℕ → ℕ → Step
   -- the octets of a row
   Copied : List ℕ → Step
   -- four octets at a place: the length so far, less a number
@@ -67,7 +69,7 @@ abbrev pub swap_steps : List ℕ → Val → Steps
 swap_steps p v = on_some (on_some (at p v) row_in) (λ r. Some (Copied (swapped r.0 r.1) ∷ []))
 
 abbrev pub wide_steps : List ℕ → Order → Val → Steps
-wide_steps p o v = on_some (on_some (at p v) row_in) (λ r. on_some (wide o r.1) (λ os. Some (Stored os (length r.1) ∷ [])))
+wide_steps p o v = on_some (on_some (at p v) row_in) (λ r. on_some (wide o r.1) (λ os. Some (Widened os (length r.1) ∷ [])))
 
 -- ---- operations with bodies
 
