@@ -27,6 +27,8 @@ pub use writing::to_json;
 pub use written_records::{write_reply, write_request};
 
 #[cfg(test)]
+mod fixtures;
+#[cfg(test)]
 mod record_tests;
 #[cfg(test)]
-mod tests;
+mod value_tests;
