@@ -6,9 +6,10 @@ from values import Array, Bool, Enum, Number, Opaque, Pointer, String, Struct, V
 
 NUMBERS = ["int", "unsigned int", "unsigned", "long", "unsigned long", "short", "unsigned short", "char", "unsigned char",
            "hyper", "unsigned hyper", "u_char", "u_short", "u_int", "u_long"]
-ODD_TREES = [None, True, False, 0, -1, 1, 2 ** 31, 2 ** 32, -2 ** 63, 2 ** 64 - 1, 2 ** 64, 1.0, 1e2, "", "0", "00", "FF", "é", "\0", "\u0100", [],
-             [[]], {}, {"tag": 0}, {"tag": 1, "value": None}]
-ODD_WORDS = ["00000000", "00000001", "00000002", "00000191", "000000ff", "ffffff80", "7fffffff", "80000000", "ffffffff", "00000100"]
+ODD_TREES = [None, True, False, 0, -1, 1, 128, -129, 256, 2 ** 15, -2 ** 15 - 1, 2 ** 16, 2 ** 31, -2 ** 31 - 1, 2 ** 32, -2 ** 63, 2 ** 64 - 1, 2 ** 64, 1.0, 1e2,
+             "", "0", "00", "FF", "é", "\0", "\u0100", [], [[]], {}, {"tag": 0}, {"tag": 1, "value": None}]
+ODD_WORDS = ["00000000", "00000001", "00000002", "00000080", "000000ff", "00000100", "00000191", "00008000", "0000ffff", "00010000", "7fffffff",
+             "80000000", "ffff7fff", "ffffff7f", "ffffff80", "ffffffff"]
 ODD_LINES = ["", "\r", "0", "0g", "[", "null", '{"op":"\\ud800"}', "\ufeff{}", "-0", "1e400", "01", "[" * 128 + "]" * 128, "\u00e9"]
 
 
@@ -22,7 +23,7 @@ class FileMaker:
 
     def type(self):
         small = [name for name, size in self.sizes.items() if size < 60]
-        return self.rng.choice([self.rng.choice(NUMBERS + ["bool"]), *(self.rng.choice(small) for _ in small[:2])])
+        return self.rng.choice([self.rng.choice([*NUMBERS, *["bool"] * 4]), *(self.rng.choice(small) for _ in small[:2])])
 
     def declaration(self, name):
         """The text of a declaration, and its size."""
@@ -135,22 +136,40 @@ def request_lines(rng, interfaces, count):
         name, _, types = rng.choice(interface.operations)
         args = [ty.tree(sample(rng, ty)) for ty in types]
         record = {"op": f"{interface.name}.{name}", "xid": rng.choice([0, 1, 2 ** 32 - 1]), "args": args}
-        record = mutated(rng, record) if rng.random() < 0.4 else record
+        if args and rng.random() < 0.5:
+            k = rng.randrange(len(args))
+            record["args"] = [*args[:k], mutated(rng, args[k]), *args[k + 1:]]
+        elif rng.random() < 0.2:
+            record = mutated(rng, record)
         line = json.dumps(record, ensure_ascii=rng.random() < 0.5, separators=rng.choice([(",", ":"), (" , ", " : ")]))
         yield (rng.choice(ODD_LINES) if rng.random() < 0.05 else line).encode()
 
 
 def call_lines(rng, interfaces, requests):
     """Lines of `unmarshal`: calls of the requests that have one, most of them wrong somewhere."""
-    for answer in (marshal(interfaces, line) for line in requests):
-        if answer.startswith("!"):
-            continue
-        at = rng.randrange(len(answer) // 2) * 2
-        place = at // 8 * 8
-        behind = 80 + rng.randrange(max(1, (len(answer) - 80) // 8)) * 8
-        word = rng.choice(ODD_WORDS)
-        yield from (line.encode() for line in rng.sample([
-            answer, answer.upper(), answer[:at], answer[:at + 1], f"{answer}{word}", f"{answer[:at]}01{answer[at + 2:]}",
-            f"{answer[:place]}{word}{answer[place + 8:]}", f"{answer[:behind]}{word}{answer[behind + 8:]}",
-            f"{answer[:48]}00000001000000{rng.choice(['05', '90', '91'])}{'ab' * 5}{rng.choice(['000000', '000001'])}{answer[64:]}",
-        ], 4))
+    for call in (marshal(interfaces, line) for line in requests):
+        if not call.startswith("!"):
+            yield from (line.encode() for line in [call, *head_lines(rng, call), *(body_line(rng, call) for _ in range(5 if len(call) > 80 else 0))])
+
+
+def exchanged(call, place, text):
+    """A call with other digits from a place on."""
+    return call[:place] + text + call[place + len(text):]
+
+
+def head_lines(rng, call):
+    """Some lines that are a call with another head, cut, or with octets behind it."""
+    at = rng.randrange(len(call) // 2) * 2
+    word = rng.choice(ODD_WORDS)
+    body = f"00000001000000{rng.choice(['05', '90', '91'])}{'ab' * 5}{rng.choice(['000000', '000001'])}"
+    return rng.sample([call.upper(), call[:at], call[:at + 1], call + word, call[:-8], exchanged(call, at, "01"), exchanged(call, rng.randrange(10) * 8, word),
+                       call[:48] + body + call[64:], call[:64] + body + call[80:]], 3)
+
+
+def body_line(rng, call):
+    """A call with another word, or another octet, in its body."""
+    words = (len(call) - 80) // 8
+    place = 80 + 8 * rng.choice([rng.randrange(words), rng.randrange(min(words, 3))])
+    word = call[place:place + 8]
+    near = f"{(int(word, 16) + rng.choice([-1, 1, 2, 256])) % 2 ** 32:08x}"
+    return rng.choice([exchanged(call, place, rng.choice(ODD_WORDS)), exchanged(call, place, near), exchanged(call, place + 2 * rng.randrange(4), rng.choice(["00", "01", "ff"]))])
