@@ -9,8 +9,7 @@ use Rattle.kit_base.specs.declared.lines.Line.{Line}
 use Rattle.kit_base.specs.declared.lines.Line.TheVariants.{Long}
 use Rattle.kit_base.specs.Lines.{State, Passed, Advances, pending, lines, lines_from, lines_behind, line_of, HasNoEnd}
 use Rattle.kit_base.proofs.Cutting.{advances-trans, lines-long, lines_behind-append}
-use Rattle.flick_top.specs.declared.task.Job.{Job}
-use Rattle.flick_top.specs.Answer.{answers}
+use Rattle.flick_top.specs.Answer.{Answering, answers}
 use Rattle.flick_top.specs.Statement.{has_end, ended_part}
 use Rattle.flick_top.proofs.Prefix.{fresh}
 
@@ -101,10 +100,10 @@ ended_lines s u got ls n most new passed none unended =
     append_cancel_right (lines n (ended_part got)) ls (Long ∷ []) (sym parts ∙ begun ∙ ap (λ (l : List Line). ls ++ l) behind)
 
 -- the answers are those of the lines that ended in the octets taken
-pub wrote-ended : (before now after : Option (List ℕ)) (s t u : State) (ls : List Line) (job : Job) (held held' : Option (List ℕ)) (n most : ℕ) → s ≡ fresh n most
-    → Advances before now s t ls → Advances now after t u [] → HasNoEnd u.kept → u.ended ≡ false → Appends held held' (answers job ls)
-    → (taken : List ℕ) × Consumes before after taken × Appends held held' (answers job (lines n (ended_part taken)))
-wrote-ended before now after s t u ls job held held' n most new p q none unended wrote =
+pub wrote-ended : (before now after : Option (List ℕ)) (s t u : State) (ls : List Line) (f : Answering) (held held' : Option (List ℕ)) (n most : ℕ) → s ≡ fresh n most
+    → Advances before now s t ls → Advances now after t u [] → HasNoEnd u.kept → u.ended ≡ false → Appends held held' (answers f ls)
+    → (taken : List ℕ) × Consumes before after taken × Appends held held' (answers f (lines n (ended_part taken)))
+wrote-ended before now after s t u ls f held held' n most new p q none unended wrote =
     let (got, consumed, passed) = advances-trans before now after s t u ls [] p q in
     let same : lines n (ended_part got) ≡ ls = ended_lines s u got (ls ++ []) n most new passed none unended ∙ append-nil ls in
-    (got, consumed, subst (λ (l : List Line). Appends held held' (answers job l)) (sym same) wrote)
+    (got, consumed, subst (λ (l : List Line). Appends held held' (answers f l)) (sym same) wrote)

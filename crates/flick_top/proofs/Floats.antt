@@ -1,18 +1,23 @@
--- A record has no float.
-use Rattle.std.proofs.Common.{◌≡◌, ℕ, List, [], ◌∷◌, Bool, true, false, Ordering, Less, Equal, Greater, nat_cmp, refl}
-use Rattle.std.specs.Prelude.{◌||◌, ℤ, pos, negsuc}
+-- What is written has no float.
+use Rattle.std.proofs.Common.{◌≡◌, ℕ, ℤ, List, [], ◌∷◌, Bool, true, false, Ordering, Less, Equal, Greater, nat_cmp, refl, codes}
+use Rattle.std.specs.Prelude.{◌||◌, pos, negsuc, if◌then◌else◌}
 use Rattle.std.specs.Cmp.Lexicographic.{slice_cmp}
-use Rattle.std.specs.Ordering.{match_ordering}
-use Rattle.std.specs.Int.{w32, cast_signed}
-use Rattle.serde_json.specs.Data.{Data, Members, no_members, member, put}
+use Rattle.std.specs.Ordering.{match_ordering, int_eq}
+use Rattle.mint.specs.declared.kind.Kind.{Kind}
+use Rattle.mint.specs.declared.kind.Kind.TheVariants as kind
+use Rattle.mint.specs.Kinds.{in_range}
+use Rattle.mint.specs.Values.{Val, void, num, row, group, items, arm, absent, present, Vals, no_more, val}
+use Rattle.wire_def.specs.declared.encoding.Back.TheVariants.{Xdr}
+use Rattle.wire_def.specs.declared.head.Head.{Head}
+use Rattle.pres.specs.declared.ops.Op.{Op}
+use Rattle.pres.specs.Bindings.{Binding}
+use Rattle.pres.specs.Faces.{Face, Parts, no_parts, part, Arms, Sign, face_at}
+use Rattle.pres.specs.Faces as face
+use Rattle.serde_json.specs.Data.{Data, null, number, unsigned, Items, no_items, item, Members, no_members, member, put}
 use Rattle.serde_json.specs.Find.{is_float, of_integer}
-use Rattle.serde_json.specs.Written.{has_float, members_have_float}
-use Rattle.flick_top.specs.declared.form.Form.{Form}
-use Rattle.flick_top.specs.declared.form.Width.{Width}
-use Rattle.flick_top.specs.declared.form.Width.TheVariants.{Signed, Unsigned}
-use Rattle.flick_top.specs.declared.request.Request.{Request}
-use Rattle.flick_top.specs.Field.{FieldView}
-use Rattle.flick_top.specs.Record.{datum, members_of, record_tree}
+use Rattle.serde_json.specs.Written.{has_float, items_have_float, members_have_float}
+use Rattle.json_shape.specs.Requests.{request_json}
+use Rattle.json_shape.specs.Written.{number_tree, number_json, sign_json, each_json, row_json, items_json, json_of, in_order_json, by_name_json, behind_json}
 
 neither : (a b : Bool) → a ≡ false → b ≡ false → (a || b) ≡ false
 neither a b p q = rw (p, q) refl
@@ -44,14 +49,130 @@ integer-float : (z : ℤ) → is_float (of_integer z) ≡ false
 integer-float (pos n) = refl
 integer-float (negsuc n) = refl
 
-datum-float : (w : Width) (n : ℕ) → has_float (datum w n) ≡ false
-datum-float Signed n = integer-float (cast_signed w32 n)
-datum-float Unsigned n = refl
+if-float : (t : Bool) (a b : Data) → has_float a ≡ false → has_float b ≡ false → has_float (if t then a else b) ≡ false
+if-float true a b p q = p
+if-float false a b p q = q
 
-members-float : (fs : List FieldView) (ns : List ℕ) → members_have_float (members_of fs ns) ≡ false
-members-float [] ns = refl
-members-float (f ∷ fs) [] = refl
-members-float (f ∷ fs) (n ∷ ns) = put-float f.name (datum f.width n) (members_of fs ns) (datum-float f.width n) (members-float fs ns)
+tree-float : (k : Kind) (n : ℤ) → has_float (number_tree k n) ≡ false
+tree-float kind.Octet n = integer-float n
+tree-float kind.I8 n = integer-float n
+tree-float kind.U8 n = integer-float n
+tree-float kind.Char n = refl
+tree-float kind.I16 n = integer-float n
+tree-float kind.U16 n = integer-float n
+tree-float kind.I32 n = integer-float n
+tree-float kind.U32 n = integer-float n
+tree-float kind.I64 n = integer-float n
+tree-float kind.U64 n = integer-float n
+tree-float kind.Bool n = refl
 
-pub record-float : (f : Form) (r : Request) → has_float (record_tree f r) ≡ false
-record-float f r = rw (members-float f.fields r.numbers) refl
+number-float : (k : Kind) (n : ℤ) → has_float (number_json k n) ≡ false
+number-float k n = if-float (in_range k n) (number_tree k n) null (tree-float k n) refl
+
+sign-float : (s : Sign) (n : ℤ) → has_float (sign_json s n) ≡ false
+sign-float (face.number k) n = number-float k n
+sign-float (face.item is) n = refl
+
+each-float : (k : Kind) (ns : List ℤ) → items_have_float (each_json k ns) ≡ false
+each-float k [] = refl
+each-float k (n ∷ ns) = neither (has_float (number_json k n)) (items_have_float (each_json k ns)) (number-float k n) (each-float k ns)
+
+row-float : (k : Kind) (ns : List ℤ) → has_float (row_json k ns) ≡ false
+row-float kind.Octet ns = refl
+row-float kind.I8 ns = each-float kind.I8 ns
+row-float kind.U8 ns = each-float kind.U8 ns
+row-float kind.Char ns = refl
+row-float kind.I16 ns = each-float kind.I16 ns
+row-float kind.U16 ns = each-float kind.U16 ns
+row-float kind.I32 ns = each-float kind.I32 ns
+row-float kind.U32 ns = each-float kind.U32 ns
+row-float kind.I64 ns = each-float kind.I64 ns
+row-float kind.U64 ns = each-float kind.U64 ns
+row-float kind.Bool ns = each-float kind.Bool ns
+
+list-float : (f : Val → Data) → ((v : Val) → has_float (f v) ≡ false) → (vs : Vals) → items_have_float (items_json f vs) ≡ false
+list-float f all no_more = refl
+list-float f all (val v vs) = neither (has_float (f v)) (items_have_float (items_json f vs)) (all v) (list-float f all vs)
+
+mutual
+  json-float : (f : Face) (v : Val) → has_float (json_of f v) ≡ false
+  json-float face.nothing v = refl
+  json-float (face.scalar s) (num n) = sign-float s n
+  json-float (face.scalar s) void = refl
+  json-float (face.scalar s) (row k ns) = refl
+  json-float (face.scalar s) (group vs) = refl
+  json-float (face.scalar s) (items vs) = refl
+  json-float (face.scalar s) (arm n v) = refl
+  json-float (face.scalar s) absent = refl
+  json-float (face.scalar s) (present v) = refl
+  json-float (face.numbers a) (row k ns) = row-float k ns
+  json-float (face.numbers a) void = refl
+  json-float (face.numbers a) (num n) = refl
+  json-float (face.numbers a) (group vs) = refl
+  json-float (face.numbers a) (items vs) = refl
+  json-float (face.numbers a) (arm n v) = refl
+  json-float (face.numbers a) absent = refl
+  json-float (face.numbers a) (present v) = refl
+  json-float (face.values ps) (group vs) = order-float ps vs
+  json-float (face.values ps) void = refl
+  json-float (face.values ps) (num n) = refl
+  json-float (face.values ps) (row k ns) = refl
+  json-float (face.values ps) (items vs) = refl
+  json-float (face.values ps) (arm n v) = refl
+  json-float (face.values ps) absent = refl
+  json-float (face.values ps) (present v) = refl
+  json-float (face.members ps) (group vs) = names-float ps vs
+  json-float (face.members ps) void = refl
+  json-float (face.members ps) (num n) = refl
+  json-float (face.members ps) (row k ns) = refl
+  json-float (face.members ps) (items vs) = refl
+  json-float (face.members ps) (arm n v) = refl
+  json-float (face.members ps) absent = refl
+  json-float (face.members ps) (present v) = refl
+  json-float (face.list c f) (items vs) = list-float (json_of f) (json-float f) vs
+  json-float (face.list c f) void = refl
+  json-float (face.list c f) (num n) = refl
+  json-float (face.list c f) (row k ns) = refl
+  json-float (face.list c f) (group vs) = refl
+  json-float (face.list c f) (arm n v) = refl
+  json-float (face.list c f) absent = refl
+  json-float (face.list c f) (present v) = refl
+  json-float (face.choice s arms) (arm n v) =
+      put-float (codes "tag") (sign_json s n) (put (codes "value") (behind_json arms n v) no_members) (sign-float s n)
+      (put-float (codes "value") (behind_json arms n v) no_members (behind-float arms n v) refl)
+  json-float (face.choice s arms) void = refl
+  json-float (face.choice s arms) (num n) = refl
+  json-float (face.choice s arms) (row k ns) = refl
+  json-float (face.choice s arms) (group vs) = refl
+  json-float (face.choice s arms) (items vs) = refl
+  json-float (face.choice s arms) absent = refl
+  json-float (face.choice s arms) (present v) = refl
+  json-float (face.maybe f) absent = refl
+  json-float (face.maybe f) (present v) = neither (has_float (json_of f v)) false (json-float f v) refl
+  json-float (face.maybe f) void = refl
+  json-float (face.maybe f) (num n) = refl
+  json-float (face.maybe f) (row k ns) = refl
+  json-float (face.maybe f) (group vs) = refl
+  json-float (face.maybe f) (items vs) = refl
+  json-float (face.maybe f) (arm n v) = refl
+
+  order-float : (ps : Parts) (vs : Vals) → items_have_float (in_order_json ps vs) ≡ false
+  order-float no_parts vs = refl
+  order-float (part n f ps) no_more = refl
+  order-float (part n f ps) (val v vs) = neither (has_float (json_of f v)) (items_have_float (in_order_json ps vs)) (json-float f v) (order-float ps vs)
+
+  names-float : (ps : Parts) (vs : Vals) → members_have_float (by_name_json ps vs) ≡ false
+  names-float no_parts vs = refl
+  names-float (part n f ps) no_more = refl
+  names-float (part n f ps) (val v vs) = put-float _ (json_of f v) (by_name_json ps vs) (json-float f v) (names-float ps vs)
+
+  behind-float : (arms : Arms) (n : ℤ) (v : Val) → has_float (behind_json arms n v) ≡ false
+  behind-float face.no_other n v = refl
+  behind-float (face.other f) n v = json-float f v
+  behind-float (face.arm m f arms) n v = if-float (int_eq n m) (json_of f v) (behind_json arms n v) (json-float f v) (behind-float arms n v)
+
+-- the record of a request over Xdr
+pub record-float : (b : Binding) (op : Op) (h : Head) (v : Val) → b.back ≡ Xdr → has_float (request_json b op h v) ≡ false
+record-float b op h v xdr =
+    rw xdr (put-float (codes "op") _ _ refl (put-float (codes "xid") _ _ refl
+      (put-float (codes "args") (json_of (face_at b.nodes b.shapes op.request) v) no_members (json-float (face_at b.nodes b.shapes op.request) v) refl)))

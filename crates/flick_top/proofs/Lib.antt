@@ -1,13 +1,9 @@
-pub mod Bodies
 pub mod Completing
-pub mod Counting
+pub mod Determined
 pub mod Ended
+pub mod Existing
 pub mod Floats
 pub mod Front
 pub mod Prefix
-pub mod Receiving
-pub mod Says
 pub mod Stops
-pub mod Units
-pub mod Trees
 pub mod Turning

@@ -8,8 +8,7 @@ use Rattle.kit_base.specs.declared.lines.Line.{Line}
 use Rattle.kit_base.specs.Lines.{State, Advances, KnowsEnd, pending, lines}
 use Rattle.kit_base.proofs.Cutting.{advances-trans}
 use Rattle.flick_top.proofs.Turning.{answers-push}
-use Rattle.flick_top.specs.declared.task.Job.{Job}
-use Rattle.flick_top.specs.Answer.{answers, answer_to}
+use Rattle.flick_top.specs.Answer.{Answering, answers}
 
 -- a front of these octets was appended
 abbrev pub WroteFront : Option (List ℕ) → Option (List ℕ) → List ℕ → Type 0
@@ -25,7 +24,7 @@ lines-split input rest s t ls kept skips (got, consumed, passed) knows =
     let begun : lines s.longest (got ++ rest) ≡ pending s (got ++ rest) = rw (kept, skips) in
     ap (lines s.longest) consumed ∙ begun ∙ passed.answers rest knows
 
-pub wrote-answers : (input : List ℕ) (before after : Option (List ℕ)) (s t : State) (ls : List Line) (f : Job) (held held' : Option (List ℕ)) → before ≡ Some input → s.kept ≡ [] → s.skips ≡ false
+pub wrote-answers : (input : List ℕ) (before after : Option (List ℕ)) (s t : State) (ls : List Line) (f : Answering) (held held' : Option (List ℕ)) → before ≡ Some input → s.kept ≡ [] → s.skips ≡ false
     → Advances before after s t ls → KnowsEnd t after → Appends held held' (answers f ls) → WroteFront held held' (answers f (lines s.longest input))
 wrote-answers input before None s t ls f held held' told kept skips advances knows wrote =
     let (got, consumed, passed) = subst (λ (o : Option (List ℕ)). Advances o None s t ls) told advances in absurd consumed
@@ -33,12 +32,12 @@ wrote-answers input before (Some rest) s t ls f held held' told kept skips advan
     let moved = subst (λ (o : Option (List ℕ)). Advances o (Some rest) s t ls) told advances in (
       answers f ls,
       answers f (pending t rest),
-      ap (answers f) (lines-split input rest s t ls kept skips moved knows) ∙ flat_map-append (answer_to f) ls (pending t rest),
+      ap (answers f) (lines-split input rest s t ls kept skips moved knows) ∙ flat_map-append f ls (pending t rest),
       wrote,
     )
 
 -- the same, for a reader that was made with a longest line
-pub front-answers : (input : List ℕ) (before after : Option (List ℕ)) (s t : State) (ls : List Line) (f : Job) (held held' : Option (List ℕ)) (n most : ℕ)
+pub front-answers : (input : List ℕ) (before after : Option (List ℕ)) (s t : State) (ls : List Line) (f : Answering) (held held' : Option (List ℕ)) (n most : ℕ)
     → s ≡ fresh n most → before ≡ Some input
     → Advances before after s t ls → KnowsEnd t after → Appends held held' (answers f ls) → WroteFront held held' (answers f (lines n input))
 front-answers input before after s t ls f held held' n most new told advances knows wrote =
@@ -51,23 +50,23 @@ front-part held held' whole done more (front, rest, e, wrote) x w =
     (front, rest ++ x, w ∙ ap (λ (l : List ℕ). l ++ x) e ∙ append_assoc front rest x, wrote)
 
 -- the answers so far, and a front of the next
-pub front-next : (held held' held'' : Option (List ℕ)) (f : Job) (ls : List Line) (line : Line) → Appends held held' (answers f ls) → WroteFront held' held'' (answer_to f line)
+pub front-next : (held held' held'' : Option (List ℕ)) (f : Answering) (ls : List Line) (line : Line) → Appends held held' (answers f ls) → WroteFront held' held'' (f line)
     → WroteFront held held'' (answers f (ls ++ line ∷ []))
 front-next held held' held'' f ls line wrote (front, rest, e, more) =
     (answers f ls ++ front, rest, answers-push f ls line ∙ ap (λ (l : List ℕ). answers f ls ++ l) e ∙ sym (append_assoc (answers f ls) front rest), Appends-trans held held' held'' (answers f ls) front wrote more)
 
-front_split : (input : List ℕ) (before after : Option (List ℕ)) (s t : State) (ls : List Line) (f : Job) → before ≡ Some input → s.kept ≡ [] → s.skips ≡ false
+front_split : (input : List ℕ) (before after : Option (List ℕ)) (s t : State) (ls : List Line) (f : Answering) → before ≡ Some input → s.kept ≡ [] → s.skips ≡ false
     → Advances before after s t ls → KnowsEnd t after → (x : List ℕ) × (answers f (lines s.longest input) ≡ answers f ls ++ x)
 front_split input before None s t ls f told kept skips advances knows =
     let (got, consumed, passed) = subst (λ (o : Option (List ℕ)). Advances o None s t ls) told advances in absurd consumed
 front_split input before (Some rest) s t ls f told kept skips advances knows =
     let moved = subst (λ (o : Option (List ℕ)). Advances o (Some rest) s t ls) told advances in
-    (answers f (pending t rest), ap (answers f) (lines-split input rest s t ls kept skips moved knows) ∙ flat_map-append (answer_to f) ls (pending t rest))
+    (answers f (pending t rest), ap (answers f) (lines-split input rest s t ls kept skips moved knows) ∙ flat_map-append f ls (pending t rest))
 
 -- a write that failed wrote a front of its line
-pub front-failed : (input : List ℕ) (before now after : Option (List ℕ)) (s t u : State) (ls : List Line) (line : Line) (f : Job) (held held' held'' : Option (List ℕ)) (n most : ℕ)
+pub front-failed : (input : List ℕ) (before now after : Option (List ℕ)) (s t u : State) (ls : List Line) (line : Line) (f : Answering) (held held' held'' : Option (List ℕ)) (n most : ℕ)
     → s ≡ fresh n most → before ≡ Some input
-    → Advances before now s t ls → Advances now after t u (line ∷ []) → KnowsEnd u after → Appends held held' (answers f ls) → WroteFront held' held'' (answer_to f line)
+    → Advances before now s t ls → Advances now after t u (line ∷ []) → KnowsEnd u after → Appends held held' (answers f ls) → WroteFront held' held'' (f line)
     → WroteFront held held'' (answers f (lines n input))
 front-failed input before now after s t u ls line f held held' held'' n most new told p q knows wrote part =
     let both = advances-trans before now after s t u ls (line ∷ []) p q in

@@ -4,14 +4,12 @@ use Rattle.std.specs.Prelude.{Option, ◌||◌}
 use Rattle.std.specs.Io.KnownBytes.{Appends}
 use Rattle.std.proofs.KnownBytes.{Appends-trans}
 use Rattle.std.proofs.lemmas.Grind.{flat_map-append}
-use Rattle.kit_base.specs.Causes.{raised}
 use Rattle.kit_base.specs.declared.lines.Line.{Line}
 use Rattle.kit_base.specs.Lines.{State, Advances}
 use Rattle.kit_base.proofs.Cutting.{advances-trans}
 use Rattle.flick_top.specs.declared.task.Job.{Job}
-use Rattle.flick_top.specs.Answer.{answers, answer_to, refuses, is_refusal, is_message, messages}
-use Rattle.flick_top.specs.Counted.{counted}
-use Rattle.flick_top.proofs.Counting.{raised-messages}
+use Rattle.flick_top.specs.Answer.{Answering, IsAnswering, IsAnswer, answers, refuses, is_refusal}
+use Rattle.flick_top.proofs.Determined.{one_answer}
 
 or_assoc : (a b c : Bool) → (a || (b || c)) ≡ ((a || b) || c)
 or_assoc true b c = refl
@@ -21,21 +19,29 @@ or_false : (a : Bool) → (a || false) ≡ a
 or_false true = refl
 or_false false = refl
 
-refuses-push : (job : Job) (ls : List Line) (line : Line) → refuses job (ls ++ line ∷ []) ≡ (refuses job ls || is_refusal (answer_to job line))
-refuses-push job [] line = or_false (is_refusal (answer_to job line))
-refuses-push job (l ∷ ls) line = ap (λ (b : Bool). is_refusal (answer_to job l) || b) (refuses-push job ls line) ∙ or_assoc (is_refusal (answer_to job l)) (refuses job ls) (is_refusal (answer_to job line))
+refuses-push : (f : Answering) (ls : List Line) (line : Line) → refuses f (ls ++ line ∷ []) ≡ (refuses f ls || is_refusal (f line))
+refuses-push f [] line = or_false (is_refusal (f line))
+refuses-push f (l ∷ ls) line = ap (λ (b : Bool). is_refusal (f l) || b) (refuses-push f ls line) ∙ or_assoc (is_refusal (f l)) (refuses f ls) (is_refusal (f line))
 
-pub answers-push : (job : Job) (ls : List Line) (line : Line) → answers job (ls ++ line ∷ []) ≡ answers job ls ++ answer_to job line
-answers-push job ls line = flat_map-append (answer_to job) ls (line ∷ []) ∙ ap (λ (l : List ℕ). answers job ls ++ l) (append-nil (answer_to job line))
+pub answers-push : (f : Answering) (ls : List Line) (line : Line) → answers f (ls ++ line ∷ []) ≡ answers f ls ++ f line
+answers-push f ls line = flat_map-append f ls (line ∷ []) ∙ ap (λ (l : List ℕ). answers f ls ++ l) (append-nil (f line))
 
-pub one_more : (left left' left'' : Option (List ℕ)) (s t u : State) (held held' held'' : Option (List ℕ)) (job : Job) (ls : List Line) (line : Line) (refused refused' : Bool) (n now next : ℕ)
-    → Advances left left' s t ls → Advances left' left'' t u (line ∷ []) → Appends held held' (answers job ls) → Appends held' held'' (answer_to job line)
-    → refused ≡ refuses job ls → refused' ≡ (refused || is_refusal (answer_to job line)) → now ≡ raised n (messages job ls) → next ≡ counted (is_message job line) now
-    → (more : List Line) × Advances left left'' s u more × Appends held held'' (answers job more) × (refused' ≡ refuses job more) × (next ≡ raised n (messages job more))
-one_more left left' left'' s t u held held' held'' job ls line refused refused' n now next p q a b r r' k k' = (
+-- whatever answers the lines of a job, these were written for lines, and that one is a refusal was told
+abbrev pub AreWritten : Job → List Line → Option (List ℕ) → Option (List ℕ) → Bool → Type 0
+AreWritten job ls held held' refused = (f : Answering) → IsAnswering job f → Appends held held' (answers f ls) × (refused ≡ refuses f ls)
+
+pub one_more : (left left' left'' : Option (List ℕ)) (s t u : State) (held held' held'' : Option (List ℕ)) (job : Job) (ls : List Line) (line : Line) (refused refused' : Bool) (answer : List ℕ)
+    → Advances left left' s t ls → Advances left' left'' t u (line ∷ []) → AreWritten job ls held held' refused → IsAnswer job line answer → Appends held' held'' answer
+    → refused' ≡ (refused || is_refusal answer)
+    → (more : List Line) × Advances left left'' s u more × AreWritten job more held held'' refused'
+one_more left left' left'' s t u held held' held'' job ls line refused refused' answer p q written is a r' = (
   ls ++ line ∷ [],
   advances-trans left left' left'' s t u ls (line ∷ []) p q,
-  subst (Appends held held'') (sym (answers-push job ls line)) (Appends-trans held held' held'' (answers job ls) (answer_to job line) a b),
-  r' ∙ ap (λ (x : Bool). x || is_refusal (answer_to job line)) r ∙ sym (refuses-push job ls line),
-  k' ∙ ap (counted (is_message job line)) k ∙ sym (raised-messages job n ls line),
+  λ f all.
+    let (before, told) = written f all in
+    let same : answer ≡ f line = one_answer job line answer (f line) is (all line) in
+    (
+      subst (Appends held held'') (sym (answers-push f ls line)) (Appends-trans held held' held'' (answers f ls) (f line) before (subst (Appends held' held'') same a)),
+      r' ∙ ap (λ (x : List ℕ). refused || is_refusal x) same ∙ ap (λ (x : Bool). x || is_refusal (f line)) told ∙ sym (refuses-push f ls line),
+    ),
 )

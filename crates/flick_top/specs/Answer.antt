@@ -1,33 +1,36 @@
 -- The answers to the lines of an input.
-use Rattle.std.specs.Prelude.{ℕ, List, [], ◌∷◌, ◌++◌, Bool, false, ◌||◌, ◌==◌, is_some, Option, Some, None, codes, flat_map, count_by}
-use Rattle.hex.specs.Hex.{encode_lower, decode_of}
+use Rattle.std.specs.Prelude.{◌≡◌, ℕ, List, [], ◌∷◌, ◌++◌, Bool, false, ◌||◌, ◌==◌, Option, Some, None, codes, flat_map}
+use Rattle.hex.specs.Hex.{decode_of}
 use Rattle.kit_base.specs.declared.lines.Line.{Line}
 use Rattle.kit_base.specs.declared.lines.Line.TheVariants.{Text, Long, End}
-use Rattle.flick_top.specs.declared.form.Form.{Form}
-use Rattle.flick_top.specs.declared.request.Request.{Request}
+use Rattle.pres.specs.Bindings.{Binding}
 use Rattle.flick_top.specs.declared.task.Job.{Job}
 use Rattle.flick_top.specs.declared.task.Job.TheVariants.{Marshal, Unmarshal}
-use Rattle.flick_top.specs.Message.{message}
-use Rattle.flick_top.specs.Refusal.{record_or_refusal}
-use Rattle.flick_top.specs.Request.{request_of}
+use Rattle.flick_top.specs.Marshalled.{IsMarshalled}
+use Rattle.flick_top.specs.Unmarshalled.{IsUnmarshalled}
 
--- the message of a request in hexadecimal digits, or a refusal
-abbrev pub hex_or_refusal : Form → Option Request → List ℕ
-hex_or_refusal f None = codes "! form"
-hex_or_refusal f (Some request) = encode_lower (message f request)
+-- the answer to the octets of a line
+abbrev pub IsAnswerTo : Job → List ℕ → List ℕ → Type 0
+IsAnswerTo (Marshal b) octets a = IsMarshalled b octets a
+IsAnswerTo (Unmarshal b) octets a = IsUnmarshalled b octets a
 
 -- the answer to a line, with its line feed
-abbrev pub answer_to : Job → Line → List ℕ
-answer_to (Marshal f) (Text octets) = hex_or_refusal f (request_of f octets) ++ 10 ∷ []
-answer_to (Marshal f) Long = codes "! form\n"
-answer_to (Marshal f) End = []
-answer_to (Unmarshal f) (Text octets) = record_or_refusal f (decode_of octets) ++ 10 ∷ []
-answer_to (Unmarshal f) Long = codes "! long\n"
-answer_to (Unmarshal f) End = []
+abbrev pub IsAnswer : Job → Line → List ℕ → Type 0
+IsAnswer job (Text octets) answer = (a : List ℕ) × IsAnswerTo job octets a × (answer ≡ a ++ 10 ∷ [])
+IsAnswer job Long answer = answer ≡ codes "! long\n"
+IsAnswer job End answer = answer ≡ []
+
+-- an answer to each line
+abbrev pub Answering : Type 0
+Answering = Line → List ℕ
+
+-- each answer is the answer to its line
+abbrev pub IsAnswering : Job → Answering → Type 0
+IsAnswering job f = (line : Line) → IsAnswer job line (f line)
 
 -- the answers, in order
-abbrev pub answers : Job → List Line → List ℕ
-answers job ls = flat_map (answer_to job) ls
+abbrev pub answers : Answering → List Line → List ℕ
+answers f ls = flat_map f ls
 
 -- an answer that begins with `!`
 abbrev pub is_refusal : List ℕ → Bool
@@ -35,17 +38,6 @@ is_refusal [] = false
 is_refusal (x ∷ xs) = x == 33
 
 -- one of the answers is a refusal
-abbrev pub refuses : Job → List Line → Bool
-refuses job [] = false
-refuses job (l ∷ ls) = is_refusal (answer_to job l) || refuses job ls
-
--- the line is answered by a message
-abbrev pub is_message : Job → Line → Bool
-is_message (Marshal f) (Text octets) = is_some (request_of f octets)
-is_message (Marshal f) Long = false
-is_message (Marshal f) End = false
-is_message (Unmarshal f) line = false
-
--- how many lines are answered by a message
-abbrev pub messages : Job → List Line → ℕ
-messages job ls = count_by (is_message job) ls
+abbrev pub refuses : Answering → List Line → Bool
+refuses f [] = false
+refuses f (l ∷ ls) = is_refusal (f l) || refuses f ls

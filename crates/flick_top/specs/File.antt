@@ -1,5 +1,6 @@
--- What the content of a file is told to be: a form, or what is said instead.
+-- What the content of a file comes to: a unit that is bound, or what is said instead.
 use Rattle.std.specs.Prelude.{◌≡◌, ◌⊎◌, ℕ, List, length, nat_le, MatchBool, Option, Some, None, Result, Ok, Err}
+use Rattle.wire_def.specs.declared.encoding.Back.TheVariants.{Xdr}
 use Rattle.idl_lex.specs.declared.kinds.Front.TheVariants.{Onc}
 use Rattle.idl_lex.specs.declared.kinds.Token.{Token}
 use Rattle.idl_lex.specs.declared.lexing.LexErr.{LexErr}
@@ -7,39 +8,37 @@ use Rattle.idl_lex.specs.Lexed.{AreTokens, IsFirstFault}
 use Rattle.onc_syntax.specs.declared.tree.Def.{Def}
 use Rattle.onc_syntax.specs.Derivation.{Derives, FailsAt}
 use Rattle.aoi.specs.declared.faults.NameErr.{NameErr}
-use Rattle.aoi.specs.Plain.{PlainUnit}
+use Rattle.aoi.specs.Plain.{PlainUnit, plain}
+use Rattle.aoi.specs.Units.{Parts}
 use Rattle.front_onc.specs.Resolved.{resolved}
-use Rattle.flick_top.specs.declared.form.Form.{Form}
+use Rattle.pres.specs.declared.errors.BindErr.{BindErr}
+use Rattle.pres.specs.Bindings.{Binding, IsBinding}
+use Rattle.pres.specs.Faults.{bind_fault}
 use Rattle.flick_top.specs.declared.saying.Saying.{Saying}
-use Rattle.flick_top.specs.declared.saying.Saying.TheVariants.{NoFile, TooLarge, Lex, Syntax, Name, NoForm}
-use Rattle.flick_top.specs.Form.{form_of}
+use Rattle.flick_top.specs.declared.saying.Saying.TheVariants.{NoFile, TooLarge, Lex, Syntax, Name, Bind}
 
 -- the greatest length of a file, in octets
 abbrev pub longest_file : ℕ
 longest_file = 1048576
 
--- what a file came to
+-- what a file comes to
 abbrev pub Told : Type 0
-Told = Result Form Saying
+Told = Result Binding Saying
 
--- the form that was made, or what is said where none was
-abbrev pub form_or_saying : Option Form → Told
-form_or_saying None = Err NoForm
-form_or_saying (Some form) = Ok form
+-- a unit that has this reason against it, or else is bound
+abbrev pub BoundSays : Parts → Option BindErr → Told → Type 0
+BoundSays u (Some e) told = told ≡ Err (Bind e)
+BoundSays u None told = (b : Binding) × IsBinding b × (b.unit ≡ u) × (b.back ≡ Xdr) × (told ≡ Ok b)
 
--- the form of a unit, or the first fault of its names
-abbrev pub unit_says : Result PlainUnit NameErr → Told
-unit_says (Ok unit) = form_or_saying (form_of unit)
-unit_says (Err error) = Err (Name error)
-
--- what a tree says
-abbrev pub tree_says : List Def → Told
-tree_says tree = unit_says (resolved tree)
+-- what a unit of such a plain tree says, or the first fault of its names
+abbrev pub UnitSays : Result PlainUnit NameErr → Told → Type 0
+UnitSays (Err error) told = told ≡ Err (Name error)
+UnitSays (Ok tree) told = (u : Parts) × (plain u ≡ tree) × BoundSays u (bind_fault u Xdr) told
 
 -- tokens have a tree, which says it; or none, and the line of the first definition that fails is said
 abbrev pub TokensSay : List Token → Told → Type 0
 TokensSay tokens told =
-    ((tree : List Def) × Derives tree tokens × (told ≡ tree_says tree))
+    ((tree : List Def) × Derives tree tokens × UnitSays (resolved tree) told)
     ⊎ ((line : ℕ) × ((tree : List Def) → Derives tree tokens → ⊥) × FailsAt tokens line × (told ≡ Err (Syntax line)))
 
 -- a text has tokens, which say it; or its first fault is said

@@ -2,11 +2,13 @@
 use Rattle.std.specs.Prelude.{ℕ, List, [], ◌++◌, codes, decimal}
 use Rattle.idl_lex.specs.declared.lexing.LexErr.{LexErr}
 use Rattle.idl_lex.specs.declared.lexing.LexErr.TheVariants as lex
+use Rattle.pres.specs.declared.errors.BindErr.{BindErr}
+use Rattle.pres.specs.declared.errors.BindErr.TheVariants as bind
 use Rattle.aoi.specs.declared.faults.NameFault.{NameFault}
 use Rattle.aoi.specs.declared.faults.NameFault.TheVariants as name
 use Rattle.flick_top.specs.declared.saying.TheConstants.{USAGE, VERSION}
 use Rattle.flick_top.specs.declared.saying.Saying.{Saying}
-use Rattle.flick_top.specs.declared.saying.Saying.TheVariants.{Help, Version, NoShape, NoFile, TooLarge, Lex, Syntax, Name, NoForm}
+use Rattle.flick_top.specs.declared.saying.Saying.TheVariants.{Help, Version, NoShape, NoFile, TooLarge, Lex, Syntax, Name, Bind}
 use Rattle.flick_top.specs.declared.status.Status.{Status}
 use Rattle.flick_top.specs.declared.status.Status.TheVariants.{Done, Usage, File}
 
@@ -41,6 +43,15 @@ name_name name.Oneway = codes "Oneway"
 name_name name.Port = codes "Port"
 name_name name.NoMemory = codes "NoMemory"
 
+-- the name of a reason why a unit is not bound
+abbrev pub bind_name : BindErr → List ℕ
+bind_name bind.Raises = codes "Raises"
+bind_name bind.Many = codes "Many"
+bind_name bind.Deep = codes "Deep"
+bind_name bind.Heavy = codes "Heavy"
+bind_name bind.Wide = codes "Wide"
+bind_name bind.NoMemory = codes "NoMemory"
+
 -- what is written
 abbrev pub said : Saying → List ℕ
 said Help = USAGE.now
@@ -51,7 +62,7 @@ said TooLarge = codes "? size\n"
 said (Lex fault) = codes "? lex " ++ lex_name fault ++ codes " " ++ decimal (place_of fault) ++ codes "\n"
 said (Syntax line) = codes "? syntax " ++ decimal line ++ codes "\n"
 said (Name error) = codes "? name " ++ name_name error.fault ++ codes " " ++ decimal error.decl ++ codes "\n"
-said NoForm = codes "? form\n"
+said (Bind reason) = codes "? bind " ++ bind_name reason ++ codes "\n"
 
 -- how a call ends that says it
 abbrev pub ending : Saying → Status

@@ -1,19 +1,16 @@
 -- The promise of `flick`: what its status says of what it wrote, took and met outside.
--- `over` is the defined output as a function of the input: that of the task to which the words come over the files (Output).
+-- `over` is the defined output as a function of the input.
 use Rattle.std.specs.Prelude.{◌≡◌, ◌⊎◌, ℕ, ◌<◌, ◌≤◌, List, [], ◌∷◌, ◌++◌, length, Bool, if◌then◌else◌, ◌==◌, Option, Some}
 use Rattle.std.specs.List.{list_any}
 use Rattle.std.specs.Io.KnownBytes.{Appends, Consumes}
-use Rattle.kit_base.specs.Causes.{Rose, raised}
+use Rattle.kit_base.specs.Causes.{Rose}
 use Rattle.flick_top.specs.declared.task.Task.{Task}
-use Rattle.flick_top.specs.Output.{Out, most_input}
+use Rattle.flick_top.specs.Answer.{Answering}
+use Rattle.flick_top.specs.Output.{Files, IsTask, IsAnswered, Out, out_of, most_input}
 
 -- what the source told at entry
 abbrev pub Input : Type 0
 Input = Option (List ℕ)
-
--- there is such a task, but where the shelf failed or memory is wanted
-abbrev pub ComesTo : (Task → Type 0) → ℕ → Type 0
-ComesTo IsTask status = (status ≡ 6 → ⊥) → (status ≡ 7 → ⊥) → (task : Task) × IsTask task
 
 -- a status of 0 to 3 is that of the output, and exactly its octets were appended, whatever counts rose
 abbrev pub Writes : (List ℕ → Out) → Input → Option (List ℕ) → Option (List ℕ) → ℕ → Type 0
@@ -39,6 +36,25 @@ abbrev pub WritesEnded : (List ℕ → Out) → Input → Input → Option (List
 WritesEnded over left left' held held' status =
     status ≡ 4 → (input : List ℕ) → left ≡ Some input → (taken : List ℕ) × Consumes left left' taken × Appends held held' (over (ended_part taken)).octets
 
+-- what was written of an output, by the status
+pub record Writing (over : List ℕ → Out) (left left' : Input) (held held' : Option (List ℕ)) (status : ℕ) : Type 0 where
+  pub output : Writes over left held held' status
+  pub front : WritesFront over left held held'
+  pub ended : WritesEnded over left left' held held' status
+
+-- the words come to a task whose lines have these answers, of whose output this holds
+abbrev pub Does : List (List ℕ) → Files → ((List ℕ → Out) → Type 0) → Type 0
+Does words files Holds = (task : Task) × (f : Answering) × IsTask words files task × IsAnswered task f × Holds (out_of task f)
+
+-- the shelf failed or memory was wanted before there was a task, and nothing was written
+abbrev pub Fails : Option (List ℕ) → Option (List ℕ) → ℕ → Type 0
+Fails held held' status = ((status ≡ 6) ⊎ (status ≡ 7)) × Appends held held' []
+
+-- the output of the task to which the words come over the files was written
+abbrev pub Works : List (List ℕ) → Files → Input → Input → Option (List ℕ) → Option (List ℕ) → ℕ → Type 0
+Works words files left left' held held' status =
+    Fails held held' status ⊎ Does words files (λ over. Writing over left left' held held' status)
+
 -- with status 2 and 6 nothing was appended
 abbrev pub WritesNothing : Option (List ℕ) → Option (List ℕ) → ℕ → Type 0
 WritesNothing held held' status = (status ≡ 2) ⊎ (status ≡ 6) → Appends held held' []
@@ -60,7 +76,3 @@ abbrev pub Completes : Input → Input → Type 0 → Type 0 → Type 0 → ℕ 
 Completes left left' SourceRose SinkRose ShelfRose status =
     (input : List ℕ) → left ≡ Some input → (taken : List ℕ) → Consumes left left' taken → length taken ≤ most_input
     → (SourceRose → ⊥) → (SinkRose → ⊥) → (ShelfRose → ⊥) → (status ≤ 3) ⊎ (status ≡ 7)
-
--- with status 0 and 1 the checks of the buffer rose by the number of messages
-abbrev pub Counts : (List ℕ → ℕ) → Input → ℕ → ℕ → ℕ → Type 0
-Counts messages left checks checks' status = status ≤ 1 → (input : List ℕ) → left ≡ Some input → checks' ≡ raised checks (messages input)

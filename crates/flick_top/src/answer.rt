@@ -1,10 +1,10 @@
 // The answer to a line.
-ghost use Rattle.std.specs.Prelude.{◌≡◌, ◌∷◌, ◌++◌, [], IfOk, OnOk};
-ghost use Rattle.flick_top.specs.Answer.{answer_to, is_message, is_refusal};
-ghost use Rattle.flick_top.specs.Counted.{counted};
+ghost use Rattle.std.specs.Prelude.{◌≡◌, IfOk};
+ghost use Rattle.flick_top.specs.Answer.{IsAnswer, IsAnswerTo, is_refusal};
 
 use crate::marshal::marshal;
 use crate::task::Job;
+use crate::text::{copied, ended};
 use crate::unmarshal::unmarshal;
 use kit_base::{Line, NoMemory, Octets};
 use raw_buf::SendBuf;
@@ -17,38 +17,28 @@ pub fn answer_to(
     line: &Line,
     buf: &mut SendBuf,
 ) -> Result<Octets, NoMemory>
-    ensures octets { IfOk result (λ o. o ≡ answer_to job.now line.now) }
-    ensures checks { OnOk result (buf.new.spent.checks ≡ counted (is_message job.now line.now) buf.old.spent.checks) }
+    ensures { IfOk result (λ o. IsAnswer job.now line.now o) }
 {
-    match (job, line) {
-        (_, Line::End) => Ok(Octets::new(alloc)),
-        (Job::Marshal(form), Line::Text(text)) => {
-            ended(marshal(alloc, form, text.as_slice(), buf)?)
-        }
-        (Job::Marshal(_), Line::Long) => fixed(alloc, b"! form\n"),
-        (Job::Unmarshal(form), Line::Text(text)) => {
-            ended(unmarshal(alloc, form, text.as_slice())?)
-        }
-        (Job::Unmarshal(_), Line::Long) => fixed(alloc, b"! long\n"),
+    match line {
+        Line::End => Ok(Octets::new(alloc)),
+        Line::Long => copied(alloc, b"! long\n"),
+        Line::Text(text) => ended(answer_to_text(alloc, job, text.as_slice(), buf)?),
     }
 }
 
-/// The same octets, in memory of their own.
-fn fixed(alloc: Global, octets: &[u8]) -> Result<Octets, NoMemory>
-    ensures { IfOk result (λ o. o ≡ octets.now) }
+/// The answer to the octets of a line, without its line feed.
+fn answer_to_text(
+    alloc: Global,
+    job: &Job,
+    text: &[u8],
+    buf: &mut SendBuf,
+) -> Result<Octets, NoMemory>
+    ensures { IfOk result (λ o. IsAnswerTo job.now text.now o) }
 {
-    let mut out = Octets::new(alloc);
-    out.append(octets)?;
-    Ok(out)
-}
-
-/// An answer with its line feed.
-fn ended(answer: Octets) -> Result<Octets, NoMemory>
-    ensures { IfOk result (λ o. o ≡ answer ++ 10 ∷ []) }
-{
-    let mut out = answer;
-    out.push(10)?;
-    Ok(out)
+    match job {
+        Job::Marshal(engine) => marshal(alloc, engine, text, buf),
+        Job::Unmarshal(engine) => unmarshal(alloc, engine, text),
+    }
 }
 
 /// Whether an answer is a refusal.

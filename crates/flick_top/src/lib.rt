@@ -2,20 +2,15 @@
 #![tactic(auto)]
 
 mod answer;
-mod call;
 mod command;
 mod file;
-mod form;
 mod marshal;
-mod received;
-mod record;
-mod request;
 mod saying;
 mod status;
 mod task;
+mod text;
 mod top;
 mod turns;
-mod unit_form;
 mod unmarshal;
 
 pub use top::flick;

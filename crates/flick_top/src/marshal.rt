@@ -1,34 +1,95 @@
 // The answers of `marshal`.
-ghost use Rattle.std.specs.Prelude.{◌≡◌, IfOk, OnOk, is_some};
-ghost use Rattle.flick_top.specs.Answer.{hex_or_refusal};
-ghost use Rattle.flick_top.specs.Counted.{counted};
-ghost use Rattle.flick_top.specs.Request.{request_of};
+ghost use Rattle.std.specs.Prelude.{◌≡◌, ◌<◌, ◌≤◌, length, nat_le, IfOk, IfSome, option_map, slice_get};
+ghost use Rattle.serde_json.specs.View.{view};
+ghost use Rattle.mint.specs.Typed.{IsWellTyped};
+ghost use Rattle.mint.specs.Types.{type_at};
+ghost use Rattle.mint.specs.Values.{seen};
+ghost use Rattle.flick_engine.specs.Messages.{message};
+ghost use Rattle.flick_top.specs.Marshalled.{tree_of, record_refusal, digits_of, IsMarshalled, IsOfRecord};
+ghost use Rattle.json_shape.specs.Requests.{request_of};
 
-use crate::call::put_call;
-use crate::form::Form;
-use crate::request::read_request;
+use crate::text::copied;
+use flick_engine::{Engine, MarshalErr};
+use json_shape::{RecordErr, RequestRec, read_request};
 use kit_base::{NoMemory, Octets};
 use raw_buf::SendBuf;
+use serde_json::{Category, Value as Json};
 use std::alloc::Global;
 
-/// The answer of `marshal` to the octets of a line, without its line feed.
+/// The answer of `marshal` to a line, without its line feed. The message is made in the buffer.
 pub fn marshal(
     alloc: Global,
-    form: &Form,
+    engine: &Engine,
     line: &[u8],
     buf: &mut SendBuf,
 ) -> Result<Octets, NoMemory>
-    ensures octets { IfOk result (λ o. o ≡ hex_or_refusal form.now (request_of form.now line.now)) }
-    ensures checks { OnOk result (buf.new.spent.checks ≡ counted (is_some (request_of form.now line.now)) buf.old.spent.checks) }
+    ensures { IfOk result (λ o. IsMarshalled engine.now line.now o) }
 {
-    let mut out = Octets::new(alloc);
-    match read_request(alloc, form, line)? {
-        Some(request) => {
-            put_call(form, &request, buf)?;
-            let text = hex::encode(alloc, buf.octets())?;
-            out.append(text.as_bytes())?;
-        }
-        None => out.append(b"! form")?,
+    match tree_of(alloc, line)? {
+        Some(json) => of_tree(alloc, engine, &json, buf),
+        None => copied(alloc, b"! json"),
     }
-    Ok(out)
+}
+
+/// The tree of a line, where it is JSON.
+fn tree_of(alloc: Global, line: &[u8]) -> Result<Option<Json>, NoMemory>
+    ensures { IfOk result (λ o. option_map view o ≡ tree_of line.now) }
+{
+    let Ok(text) = str::from_utf8(line) else {
+        return Ok(None);
+    };
+    match Json::from_str(alloc, text) {
+        Ok(json) => Ok(Some(json)),
+        Err(error) => {
+            if error.classify() == Category::Memory {
+                return Err(NoMemory);
+            }
+            Ok(None)
+        }
+    }
+}
+
+fn of_tree(
+    alloc: Global,
+    engine: &Engine,
+    json: &Json,
+    buf: &mut SendBuf,
+) -> Result<Octets, NoMemory>
+    ensures { IfOk result (λ o. IsOfRecord engine.now (request_of engine.now (view json.now)) o) }
+{
+    match read_request(alloc, engine.bound(), json) {
+        Ok(record) => digits_of(alloc, engine, &record, buf),
+        Err(RecordErr::NoMemory) => Err(NoMemory),
+        Err(refusal) => copied(alloc, record_refusal(refusal).as_bytes()),
+    }
+}
+
+fn record_refusal(refusal: RecordErr) -> &'static str
+    ensures { result.now ≡ record_refusal refusal }
+{
+    match refusal {
+        RecordErr::Request => "! request",
+        RecordErr::Op => "! op",
+        RecordErr::Head => "! head",
+        RecordErr::Shape => "! value",
+        RecordErr::NoMemory => "",
+    }
+}
+
+/// The message of a request in hexadecimal digits, unless it is too long.
+fn digits_of(
+    alloc: Global,
+    engine: &Engine,
+    record: &RequestRec,
+    buf: &mut SendBuf,
+) -> Result<Octets, NoMemory>
+    requires op { record.now.op < length engine.now.ops }
+    requires typed { IfSome (slice_get engine.now.ops record.now.op) (λ o. IsWellTyped (type_at engine.now.nodes o.request) (seen record.now.value)) }
+    ensures { IfOk result (λ o. o ≡ digits_of (message engine.now record.now.op record.now.head (seen record.now.value))) }
+{
+    match engine.marshal(alloc, record.op, &record.head, &record.value, buf) {
+        Ok(()) => copied(alloc, hex::encode(alloc, buf.octets())?.as_bytes()),
+        Err(MarshalErr::Long) => copied(alloc, b"! long"),
+        Err(MarshalErr::NoMemory) => Err(NoMemory),
+    }
 }

@@ -1,11 +1,13 @@
 // What is said in place of answers.
 ghost use Rattle.std.specs.Prelude.{◌≡◌, IfOk, string_bytes};
-ghost use Rattle.flick_top.specs.Saying.{said, ending, lex_name, place_of, name_name};
+ghost use Rattle.flick_top.specs.Saying.{said, ending, lex_name, place_of, name_name, bind_name};
 
 use crate::status::Status;
+use crate::text::copied;
 use aoi::{NameErr, NameFault};
 use idl_lex::LexErr;
 use kit_base::{NoMemory, Octets};
+use pres::BindErr;
 use std::alloc::Global;
 
 /// The page that `--help` writes.
@@ -55,8 +57,8 @@ pub enum Saying {
     Syntax(u32),
     /// A name of the file is not resolved.
     Name(NameErr),
-    /// The file is accepted, and is not one whose messages are made.
-    NoForm,
+    /// The unit of the file is not bound to the back end.
+    Bind(BindErr),
 }
 
 impl Saying {
@@ -76,7 +78,10 @@ impl Saying {
                 format!(in alloc; "? syntax {line}\n")?.as_bytes(),
             ),
             Saying::Name(fault) => copied(alloc, name_text(alloc, fault)?.as_bytes()),
-            Saying::NoForm => copied(alloc, b"? form\n"),
+            Saying::Bind(reason) => copied(
+                alloc,
+                format!(in alloc; "? bind {}\n", bind_name(reason))?.as_bytes(),
+            ),
         }
     }
 
@@ -90,15 +95,6 @@ impl Saying {
             _ => Status::File,
         }
     }
-}
-
-/// The same octets, in memory of their own.
-fn copied(alloc: Global, octets: &[u8]) -> Result<Octets, NoMemory>
-    ensures { IfOk result (λ o. o ≡ octets.now) }
-{
-    let mut out = Octets::new(alloc);
-    out.append(octets)?;
-    Ok(out)
 }
 
 fn lex_text(alloc: Global, fault: LexErr) -> Result<String, NoMemory>
@@ -151,5 +147,18 @@ fn name_name(fault: NameFault) -> &'static str
         NameFault::Oneway => "Oneway",
         NameFault::Port => "Port",
         NameFault::NoMemory => "NoMemory",
+    }
+}
+
+fn bind_name(reason: BindErr) -> &'static str
+    ensures { result.now ≡ bind_name reason }
+{
+    match reason {
+        BindErr::Raises => "Raises",
+        BindErr::Many => "Many",
+        BindErr::Deep => "Deep",
+        BindErr::Heavy => "Heavy",
+        BindErr::Wide => "Wide",
+        BindErr::NoMemory => "NoMemory",
     }
 }

@@ -1,13 +1,14 @@
 // What a command comes to, once its words and its file are read.
 ghost use Rattle.std.specs.Prelude.{◌≡◌, ◌≤◌, List, ℕ, Option, Some, IfOk, IfErr, ◌⊎◌};
 ghost use Rattle.kit_base.specs.Causes.{Rose};
-ghost use Rattle.flick_top.specs.Output.{Files, IsTask};
+ghost use Rattle.flick_top.specs.Answer.{Answering, IsAnswering};
+ghost use Rattle.flick_top.specs.Output.{Files, IsTask, IsAnswered};
 ghost use Rattle.flick_top.specs.File.{FileSays};
 
 use crate::command::{Command, command_of, path_of};
 use crate::file::{LONGEST_FILE, told_by};
-use crate::form::Form;
 use crate::saying::Saying;
+use flick_engine::Engine;
 use kit_base::{NoMemory, Shelf, ShelfErr, Words};
 use std::alloc::Global;
 
@@ -15,9 +16,21 @@ use std::alloc::Global;
 #[derive(Drop)]
 pub enum Job {
     /// Each request record by the message of its call.
-    Marshal(Form),
+    Marshal(Engine),
     /// Each call by its request record.
-    Unmarshal(Form),
+    Unmarshal(Engine),
+}
+
+impl Job {
+    /// Each line has an answer. It does nothing.
+    fn lines_are_answered(&self)
+        ensures { (f : Answering) × IsAnswering self.now f }
+    {
+        match self {
+            Job::Marshal(engine) => engine.bound().mint().types_are_sound(),
+            Job::Unmarshal(engine) => engine.bound().mint().types_are_sound(),
+        }
+    }
 }
 
 /// What is left to do when the files are read.
@@ -27,6 +40,18 @@ pub enum Task {
     Say(Saying),
     /// To answer the lines of the input.
     Answer(Job),
+}
+
+impl Task {
+    /// Each line has an answer. It does nothing.
+    pub fn lines_are_answered(&self)
+        ensures { (f : Answering) × IsAnswered self.now f }
+    {
+        match self {
+            Task::Say(_) => {}
+            Task::Answer(job) => job.lines_are_answered(),
+        }
+    }
 }
 
 /// Why there is no task.
@@ -49,31 +74,31 @@ pub fn task_of<F: Shelf>(alloc: Global, words: &Words, shelf: &mut F) -> Result<
     match command {
         Command::Help => Ok(Task::Say(Saying::Help)),
         Command::Version => Ok(Task::Say(Saying::Version)),
-        Command::Marshal => match form_at(alloc, path_of(words), shelf)? {
-            Ok(form) => Ok(Task::Answer(Job::Marshal(form))),
+        Command::Marshal => match engine_at(alloc, path_of(words), shelf)? {
+            Ok(engine) => Ok(Task::Answer(Job::Marshal(engine))),
             Err(saying) => Ok(Task::Say(saying)),
         },
-        Command::Unmarshal => match form_at(alloc, path_of(words), shelf)? {
-            Ok(form) => Ok(Task::Answer(Job::Unmarshal(form))),
+        Command::Unmarshal => match engine_at(alloc, path_of(words), shelf)? {
+            Ok(engine) => Ok(Task::Answer(Job::Unmarshal(engine))),
             Err(saying) => Ok(Task::Say(saying)),
         },
     }
 }
 
-/// The form that the file at a path says, or what is said instead. One octet more than the
+/// What is bound of the file at a path, or what is said instead. One octet more than the
 /// greatest length tells a longer one.
-fn form_at<F: Shelf>(
+fn engine_at<F: Shelf>(
     alloc: Global,
     path: &[u8],
     shelf: &mut F,
-) -> Result<Result<Form, Saying>, TaskErr>
-    ensures form { IfOk result (λ form. (files : Files) → F.files shelf.old ≡ Some files → FileSays (files path.now) form) }
+) -> Result<Result<Engine, Saying>, TaskErr>
+    ensures told { IfOk result (λ told. (files : Files) → F.files shelf.old ≡ Some files → FileSays (files path.now) told) }
     ensures later { F.faults shelf.old ≤ F.faults shelf.new }
     ensures cause { IfErr result (λ e. e ≡ TaskErr.Shelf → Rose (F.faults shelf.old) (F.faults shelf.new)) }
 {
     match shelf.read_file(alloc, path, LONGEST_FILE + 1) {
         Ok(text) => match told_by(alloc, text.as_slice()) {
-            Ok(form) => Ok(form),
+            Ok(told) => Ok(told),
             Err(NoMemory) => Err(TaskErr::NoMemory),
         },
         Err(ShelfErr::Absent) => Ok(Err(Saying::NoFile)),

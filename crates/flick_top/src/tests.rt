@@ -145,6 +145,6 @@ fn a_sink_that_takes_few_octets_gets_the_same(rt: HostRuntime) -> Result<(), Fai
         &mut buf,
     );
     assert_eq!(rt; status, 1);
-    assert_eq!(rt; sink.held(), b"! form\n".as_slice());
+    assert_eq!(rt; sink.held(), b"! request\n".as_slice());
     Ok(())
 }

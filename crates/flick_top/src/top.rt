@@ -1,9 +1,8 @@
 // The top call.
 ghost use Rattle.std.specs.Prelude.{◌≡◌, ◌≤◌, Some};
 ghost use Rattle.kit_base.specs.Causes.{Rose};
-ghost use Rattle.flick_top.specs.Output.{Files, IsTask, out_of, messages_of};
-ghost use Rattle.flick_top.specs.declared.task.Task.{Task};
-ghost use Rattle.flick_top.specs.Statement.{ComesTo, Writes, WritesFront, WritesEnded, WritesNothing, TakesMore, TakesAtMost, ComesBy, Completes, Counts};
+ghost use Rattle.flick_top.specs.Output.{Files};
+ghost use Rattle.flick_top.specs.Statement.{Works, WritesNothing, TakesMore, TakesAtMost, ComesBy, Completes};
 
 use crate::status::Status;
 use crate::task::{TaskErr, task_of};
@@ -24,10 +23,7 @@ pub fn flick<F: Shelf, S: Source, K: Sink>(
     output: &mut K,
     buf: &mut SendBuf,
 ) -> u8
-    ensures task { (files : Files) → F.files shelf.old ≡ Some files → ComesTo (IsTask words.now files) result }
-    ensures output { (files : Files) → F.files shelf.old ≡ Some files → (task : Task) → IsTask words.now files task → Writes (out_of task) (S.left input.old) (K.held output.old) (K.held output.new) result }
-    ensures front { (files : Files) → F.files shelf.old ≡ Some files → (task : Task) → IsTask words.now files task → WritesFront (out_of task) (S.left input.old) (K.held output.old) (K.held output.new) }
-    ensures ended { (files : Files) → F.files shelf.old ≡ Some files → (task : Task) → IsTask words.now files task → WritesEnded (out_of task) (S.left input.old) (S.left input.new) (K.held output.old) (K.held output.new) result }
+    ensures work { (files : Files) → F.files shelf.old ≡ Some files → Works words.now files (S.left input.old) (S.left input.new) (K.held output.old) (K.held output.new) result }
     ensures nothing { WritesNothing (K.held output.old) (K.held output.new) result }
     ensures more { TakesMore (S.left input.old) (S.left input.new) result }
     ensures at_most { TakesAtMost (S.left input.old) (S.left input.new) result }
@@ -35,11 +31,13 @@ pub fn flick<F: Shelf, S: Source, K: Sink>(
     ensures sink { ComesBy 5 (K.faults output.old) (K.faults output.new) result }
     ensures shelf { ComesBy 6 (F.faults shelf.old) (F.faults shelf.new) result }
     ensures completes { Completes (S.left input.old) (S.left input.new) (Rose (S.faults input.old) (S.faults input.new)) (Rose (K.faults output.old) (K.faults output.new)) (Rose (F.faults shelf.old) (F.faults shelf.new)) result }
-    ensures counts { (files : Files) → F.files shelf.old ≡ Some files → (task : Task) → IsTask words.now files task → Counts (messages_of task) (S.left input.old) buf.old.spent.checks buf.new.spent.checks result }
     ensures range { result ≤ 8 }
 {
     match task_of(alloc, words, shelf) {
-        Ok(task) => perform(alloc, &task, input, output, buf).number(),
+        Ok(task) => {
+            task.lines_are_answered();
+            perform(alloc, &task, input, output, buf).number()
+        }
         Err(TaskErr::Shelf) => Status::Shelf.number(),
         Err(TaskErr::NoMemory) => Status::Memory.number(),
     }

@@ -2,9 +2,10 @@
 ghost use Rattle.std.specs.Prelude.{◌≡◌, ◌≢◌, ◌≤◌, ◌||◌, ℕ, List, [], ◌++◌, if◌then◌else◌};
 ghost use Rattle.std.specs.Io.KnownBytes.{Appends};
 ghost use Rattle.kit_base.specs.Causes.{Rose};
-ghost use Rattle.flick_top.specs.Output.{out_of, messages_of};
+ghost use Rattle.flick_top.specs.Answer.{Answering, IsAnswering};
+ghost use Rattle.flick_top.specs.Output.{out_of, IsAnswered};
 ghost use Rattle.flick_top.specs.Saying.{said, ending};
-ghost use Rattle.flick_top.specs.Statement.{Writes, WritesFront, WritesEnded, WritesNothing, TakesMore, TakesAtMost, ComesBy, Counts};
+ghost use Rattle.flick_top.specs.Statement.{Writes, WritesFront, WritesEnded, WritesNothing, TakesMore, TakesAtMost, ComesBy};
 ghost use Rattle.flick_top.specs.Status.{number_of};
 ghost use Rattle.flick_top.specs.Turn.{status_at};
 ghost use Rattle.flick_top.specs.declared.task.Task.TheVariants.{Answer};
@@ -29,15 +30,14 @@ pub fn perform<S: Source, K: Sink>(
     output: &mut K,
     buf: &mut SendBuf,
 ) -> Status
-    ensures output { Writes (out_of task.now) (S.left input.old) (K.held output.old) (K.held output.new) (number_of result) }
-    ensures front { WritesFront (out_of task.now) (S.left input.old) (K.held output.old) (K.held output.new) }
-    ensures ended { WritesEnded (out_of task.now) (S.left input.old) (S.left input.new) (K.held output.old) (K.held output.new) (number_of result) }
+    ensures output { (f : Answering) → IsAnswered task.now f → Writes (out_of task.now f) (S.left input.old) (K.held output.old) (K.held output.new) (number_of result) }
+    ensures front { (f : Answering) → IsAnswered task.now f → WritesFront (out_of task.now f) (S.left input.old) (K.held output.old) (K.held output.new) }
+    ensures ended { (f : Answering) → IsAnswered task.now f → WritesEnded (out_of task.now f) (S.left input.old) (S.left input.new) (K.held output.old) (K.held output.new) (number_of result) }
     ensures nothing { WritesNothing (K.held output.old) (K.held output.new) (number_of result) }
     ensures more { TakesMore (S.left input.old) (S.left input.new) (number_of result) }
     ensures at_most { TakesAtMost (S.left input.old) (S.left input.new) (number_of result) }
     ensures source { ComesBy 4 (S.faults input.old) (S.faults input.new) (number_of result) }
     ensures sink { ComesBy 5 (K.faults output.old) (K.faults output.new) (number_of result) }
-    ensures counts { Counts (messages_of task.now) (S.left input.old) buf.old.spent.checks buf.new.spent.checks (number_of result) }
     ensures shelf { result ≢ Status.Shelf }
 {
     match task {
@@ -71,14 +71,13 @@ fn answer_lines<S: Source, K: Sink>(
     output: &mut K,
     buf: &mut SendBuf,
 ) -> Status
-    ensures output { Writes (out_of (Answer job.now)) (S.left input.old) (K.held output.old) (K.held output.new) (number_of result) }
-    ensures front { WritesFront (out_of (Answer job.now)) (S.left input.old) (K.held output.old) (K.held output.new) }
-    ensures ended { WritesEnded (out_of (Answer job.now)) (S.left input.old) (S.left input.new) (K.held output.old) (K.held output.new) (number_of result) }
+    ensures output { (f : Answering) → IsAnswering job.now f → Writes (out_of (Answer job.now) f) (S.left input.old) (K.held output.old) (K.held output.new) (number_of result) }
+    ensures front { (f : Answering) → IsAnswering job.now f → WritesFront (out_of (Answer job.now) f) (S.left input.old) (K.held output.old) (K.held output.new) }
+    ensures ended { (f : Answering) → IsAnswering job.now f → WritesEnded (out_of (Answer job.now) f) (S.left input.old) (S.left input.new) (K.held output.old) (K.held output.new) (number_of result) }
     ensures more { TakesMore (S.left input.old) (S.left input.new) (number_of result) }
     ensures at_most { TakesAtMost (S.left input.old) (S.left input.new) (number_of result) }
     ensures source { ComesBy 4 (S.faults input.old) (S.faults input.new) (number_of result) }
     ensures sink { ComesBy 5 (K.faults output.old) (K.faults output.new) (number_of result) }
-    ensures counts { Counts (messages_of (Answer job.now)) (S.left input.old) buf.old.spent.checks buf.new.spent.checks (number_of result) }
     ensures others { (result ≢ Status.Usage) × (result ≢ Status.File) × (result ≢ Status.Shelf) }
 {
     let mut lines = Lines::new(alloc, LONGEST_LINE, MOST_INPUT);

@@ -1,49 +1,77 @@
 // The answers of `unmarshal`.
-ghost use Rattle.std.specs.Prelude.{◌≡◌, IfOk, string_bytes};
-ghost use Rattle.hex.specs.Hex.{decode_of};
-ghost use Rattle.flick_top.specs.Refusal.{fault_name, text_of, record_or_refusal};
+ghost use Rattle.std.specs.Prelude.{◌≡◌, ◌<◌, length, IfOk, Ok, slice_get, string_bytes};
+ghost use Rattle.mint.specs.Typed.{IsWellTyped};
+ghost use Rattle.mint.specs.Values.{seen};
+ghost use Rattle.flick_engine.specs.Messages.{request_type};
+ghost use Rattle.flick_engine.specs.Received.{asked};
+ghost use Rattle.flick_top.specs.Unmarshalled.{head_name, kind_name, message_refusal, record_text, IsOfOctets, IsUnmarshalled};
 
-use crate::form::Form;
-use crate::received::{Received, receive};
-use crate::record::record_text;
+use crate::text::copied;
+use flick_engine::{Engine, MessageErr, Request};
 use hex::FromHexError;
+use json_shape::write_request;
 use kit_base::{NoMemory, Octets};
+use raw_buf::RecvView;
 use std::alloc::Global;
-use wire_def::HeadErr;
+use wire_def::{FaultKind, HeadErr};
 
-/// The answer of `unmarshal` to the octets of a line, without its line feed.
-pub fn unmarshal(alloc: Global, form: &Form, line: &[u8]) -> Result<Octets, NoMemory>
-    ensures { IfOk result (λ o. o ≡ record_or_refusal form.now (decode_of line.now)) }
+/// The answer of `unmarshal` to a line, without its line feed.
+pub fn unmarshal(alloc: Global, engine: &Engine, line: &[u8]) -> Result<Octets, NoMemory>
+    ensures { IfOk result (λ o. IsUnmarshalled engine.now line.now o) }
 {
-    let mut out = Octets::new(alloc);
     match hex::decode(alloc, line) {
-        Ok(message) => {
-            let received = receive(alloc, form, message.as_slice())?;
-            out.append(text_of(alloc, form, &received)?.as_bytes())?;
-        }
-        Err(FromHexError::OutOfMemory) => return Err(NoMemory),
-        Err(_) => out.append(b"! hex")?,
+        Ok(message) => of_octets(alloc, engine, message.as_slice()),
+        Err(FromHexError::OutOfMemory) => Err(NoMemory),
+        Err(_) => copied(alloc, b"! hex"),
     }
-    Ok(out)
 }
 
-/// The refusal of a message, or its request record.
-fn text_of(alloc: Global, form: &Form, received: &Received) -> Result<String, NoMemory>
-    ensures { IfOk result (λ s. string_bytes s ≡ text_of form.now received.now) }
+/// The answer to a message.
+fn of_octets(alloc: Global, engine: &Engine, message: &[u8]) -> Result<Octets, NoMemory>
+    ensures { IfOk result (λ o. IsOfOctets engine.now (Ok message.now) o) }
 {
-    let text = match received {
-        Received::Head(fault) => format!(in alloc; "! head {}", fault_name(*fault))?,
-        Received::Interface => String::from_str(alloc, "! interface")?,
-        Received::Operation => String::from_str(alloc, "! operation")?,
-        Received::Short(at) => format!(in alloc; "! body Short {at}")?,
-        Received::Trailing(at) => format!(in alloc; "! trailing {at}")?,
-        Received::Called(request) => record_text(alloc, form, request)?,
+    let mut view = RecvView::new(message);
+    match engine.unmarshal(alloc, &mut view) {
+        Ok(request) => copied(alloc, record_text(alloc, engine, &request)?.as_bytes()),
+        Err(MessageErr::NoMemory) => Err(NoMemory),
+        Err(refusal) => copied(alloc, refusal_text(alloc, refusal)?.as_bytes()),
+    }
+}
+
+/// The record of a request as JSON without blanks.
+fn record_text(alloc: Global, engine: &Engine, request: &Request) -> Result<String, NoMemory>
+    requires op { request.now.op < length engine.now.ops }
+    requires typed { IsWellTyped (request_type engine.now request.now.op) (seen request.now.value) }
+    ensures { IfOk result (λ s. string_bytes s ≡ record_text engine.now (slice_get engine.now.ops request.now.op) (asked request.now)) }
+{
+    let record = write_request(
+        alloc,
+        engine.bound(),
+        request.op,
+        &request.head,
+        &request.value,
+    )?;
+    Ok(record.to_string(alloc)?)
+}
+
+/// Why octets are no message.
+fn refusal_text(alloc: Global, refusal: MessageErr) -> Result<String, NoMemory>
+    ensures { IfOk result (λ s. string_bytes s ≡ message_refusal refusal) }
+{
+    let text = match refusal {
+        MessageErr::Long => String::from_str(alloc, "! long")?,
+        MessageErr::Head(fault) => format!(in alloc; "! head {}", head_name(fault))?,
+        MessageErr::NoInterface => String::from_str(alloc, "! interface")?,
+        MessageErr::NoOperation => String::from_str(alloc, "! operation")?,
+        MessageErr::Body(fault) => format!(in alloc; "! body {} {}", kind_name(fault.kind), fault.at)?,
+        MessageErr::Trailing(at) => format!(in alloc; "! trailing {at}")?,
+        MessageErr::NoMemory => String::new(alloc),
     };
     Ok(text)
 }
 
-fn fault_name(fault: HeadErr) -> &'static str
-    ensures { result.now ≡ fault_name fault }
+fn head_name(fault: HeadErr) -> &'static str
+    ensures { result.now ≡ head_name fault }
 {
     match fault {
         HeadErr::Short => "Short",
@@ -57,5 +85,18 @@ fn fault_name(fault: HeadErr) -> &'static str
         HeadErr::Cred => "Cred",
         HeadErr::Complex => "Complex",
         HeadErr::Item => "Item",
+    }
+}
+
+fn kind_name(kind: FaultKind) -> &'static str
+    ensures { result.now ≡ kind_name kind }
+{
+    match kind {
+        FaultKind::Short => "Short",
+        FaultKind::OverBound => "OverBound",
+        FaultKind::BadValue => "BadValue",
+        FaultKind::BadPad => "BadPad",
+        FaultKind::BadText => "BadText",
+        FaultKind::BadItem => "BadItem",
     }
 }

@@ -185,6 +185,15 @@ found_below (m ∷ nodes) (suc i) n is = let less = found_below nodes i n is in 
 pub sound_found : (nodes : List Node) (sizes : List Size) (i : ℕ) (n : Node) → AreMeasured nodes sizes → slice_get nodes i ≡ Some n → IsSound (type_at nodes i)
 sound_found nodes sizes i n are is = sound_at (unfolded nodes) i are.sound (rw (length-unfolded nodes) (found_below nodes i n is))
 
+at_sound : (ts : List Ty) (i : ℕ) → AllByRecursion IsSound ts → IsSound (at ts i)
+at_sound [] i all = refl
+at_sound (t ∷ ts) zero all = all.0
+at_sound (t ∷ ts) (suc i) all = at_sound ts i all.1
+
+-- the type of each number is sound, also where there is no such node
+pub each_sound : (nodes : List Node) (sizes : List Size) → AreMeasured nodes sizes → (i : ℕ) → IsSound (type_at nodes i)
+each_sound nodes sizes are i = at_sound (unfolded nodes) i are.sound
+
 get_there : {A : Type 0} (es : List A) (i : ℕ) (e : A) → i < length es → e ≡ get_or es i e → slice_get es i ≡ Some e
 get_there [] i e h is = absurd (omega arith)
 get_there (d ∷ es) zero e h is = ap Some (sym is)

@@ -1,6 +1,6 @@
 //! A table of nodes.
 
-ghost use Rattle.std.specs.Prelude.{◌≡◌, [], ◌∷◌, ◌++◌, ◌<◌, ◌≤◌, length, slice_get, None, IfOk, OnOk, OnErr, IfSome};
+ghost use Rattle.std.specs.Prelude.{◌≡◌, ℕ, [], ◌∷◌, ◌++◌, ◌<◌, ◌≤◌, length, slice_get, None, IfOk, OnOk, OnErr, IfSome};
 ghost use Rattle.std.specs.Option.{option_copied};
 ghost use Rattle.mint.specs.Blank.{blank, depth};
 ghost use Rattle.mint.specs.Measured.{size_of};
@@ -72,6 +72,13 @@ impl Mint {
             Some(entry) => Some(&entry.node),
             None => None,
         }
+    }
+
+    /// The type of each node is sound. It does nothing.
+    pub fn types_are_sound(&self)
+        ensures { (id : ℕ) → IsSound (type_at self.now id) }
+    {
+        let _count = self.entries.len();
     }
 
     /// The size of the type of a node.

@@ -274,6 +274,7 @@ fn children_stand_before_their_node(rt: HostRuntime) {
     assert_eq!(rt; added(&mut mint, Node::Maybe(0)), 1);
     assert!(rt; matches!(mint.node(1), Some(Node::Maybe(0))));
     assert!(rt; mint.node(2).is_none());
+    mint.types_are_sound();
 }
 
 #[test]

@@ -5,7 +5,7 @@ use Rattle.kit_base.specs.declared.lines.LineErr.TheVariants.{Failed, TooMuch}
 use Rattle.kit_base.specs.Lines.{State}
 use Rattle.kit_base.proofs.Cutting.{advances-refl, answered-line}
 use Rattle.flick_top.specs.Status.{number_of}
-use Rattle.flick_top.proofs.Counting.{raised-zero}
+use Rattle.flick_top.proofs.Determined.{one_answer}
 use Rattle.flick_top.proofs.Ended.{wrote-ended}
 use Rattle.flick_top.proofs.Prefix.{front-answers, front-failed, took-more, took-at_most-next}
 use Rattle.flick_top.proofs.Stops.{failed-of, too_much-of}
@@ -14,7 +14,7 @@ use Rattle.flick_top.proofs.turns.answer_lines.Goals as goal
 
 pub turns-init : goal.turns-init
 turns-init g c = record {
-  answered = ([], advances-refl _ _, Appends-nil _, refl, sym (raised-zero _));
+  answered = ([], advances-refl _ _, λ f all. (Appends-nil _, refl));
   knows_end = λ e. absurd (cc (e, ap (λ (s : State). s.ended) c.new-lines.ensures));
   fresh = ap (λ (s : State). s.error) c.new-lines.ensures;
   within = omega (arith, ap (λ (s : State). s.taken) c.new-lines.ensures);
@@ -24,13 +24,13 @@ turns-init g c = record {
 
 pub turns-preserved : goal.turns-preserved
 turns-preserved g c =
-    let (ls, advances, appends, refused, checks) = c.turns.invariant.answered in
+    let (ls, advances, written) = c.turns.invariant.answered in
     let is_line : c.in-Ok.line ≡ End → ⊥ = c.is_end.ensures.line c.if-is_end.false in
     let turn = rw (answered-line c.in-Ok.line is_line) at c.in-Ok.ensures.lines in
-    let wrote = rw (c.as_slice-in-turns.ensures, c.in-Ok-answer_to.ensures.octets) at c.in_default-write_whole.ensures.ok in
-    let found = rw (c.is_refusal.ensures, c.as_slice.ensures, c.in-Ok-answer_to.ensures.octets) at c.either-refused.ensures in
+    let wrote = rw c.as_slice-in-turns.ensures at c.in_default-write_whole.ensures.ok in
+    let found = rw (c.is_refusal.ensures, c.as_slice.ensures) at c.either-refused.ensures in
     record {
-      answered = one_more _ _ _ _ _ _ _ _ _ _ ls c.in-Ok.line _ _ _ _ _ advances turn appends wrote refused found checks c.in-Ok-answer_to.ensures.checks;
+      answered = one_more _ _ _ _ _ _ _ _ _ _ ls c.in-Ok.line _ _ _ advances turn written c.in-Ok-answer_to.ensures wrote found;
       knows_end = c.next.ensures.knows_end c.turns.invariant.knows_end;
       fresh = c.in-Ok.ensures.fresh;
       within = c.in-Ok.ensures.within c.turns.invariant.fresh (λ e. absurd (cc e)) (λ e. absurd (cc e));
@@ -40,13 +40,13 @@ turns-preserved g c =
 
 pub turns-preserved-in_default-write_whole : goal.turns-preserved-in_default-write_whole
 turns-preserved-in_default-write_whole g c =
-    let (ls, advances, appends, refused, checks) = c.turns.invariant.answered in
+    let (ls, advances, written) = c.turns.invariant.answered in
     let is_line : c.in-Ok.line ≡ End → ⊥ = c.is_end.ensures.line c.if-is_end.false in
     let turn = rw (answered-line c.in-Ok.line is_line) at c.in-Ok.ensures.lines in
-    let wrote = rw (c.as_slice-in-turns.ensures, c.in-Ok-answer_to.ensures.octets) at c.in_default-write_whole.ensures.ok in
-    let found = rw (c.is_refusal.ensures, c.as_slice.ensures, c.in-Ok-answer_to.ensures.octets) at c.either-refused.ensures in
+    let wrote = rw c.as_slice-in-turns.ensures at c.in_default-write_whole.ensures.ok in
+    let found = rw (c.is_refusal.ensures, c.as_slice.ensures) at c.either-refused.ensures in
     record {
-      answered = one_more _ _ _ _ _ _ _ _ _ _ ls c.in-Ok.line _ _ _ _ _ advances turn appends wrote refused found checks c.in-Ok-answer_to.ensures.checks;
+      answered = one_more _ _ _ _ _ _ _ _ _ _ ls c.in-Ok.line _ _ _ advances turn written c.in-Ok-answer_to.ensures wrote found;
       knows_end = c.next.ensures.knows_end c.turns.invariant.knows_end;
       fresh = c.in-Ok.ensures.fresh;
       within = c.in-Ok.ensures.within c.turns.invariant.fresh (λ e. absurd (cc e)) (λ e. absurd (cc e));
@@ -55,56 +55,57 @@ turns-preserved-in_default-write_whole g c =
     }
 
 pub returns-in-Err-clause-front : goal.returns-in-Err-clause-front
-returns-in-Err-clause-front g c = λ octets told.
-    let (ls, advances, appends, refused, checks) = c.turns.invariant.answered in
-    front-answers octets _ _ c.new-lines.result _ ls c.args.job.now _ _ _ _ c.new-lines.ensures told advances c.turns.invariant.knows_end appends
+returns-in-Err-clause-front g c = λ f all octets told.
+    let (ls, advances, written) = c.turns.invariant.answered in
+    front-answers octets _ _ c.new-lines.result _ ls f _ _ _ _ c.new-lines.ensures told advances c.turns.invariant.knows_end (written f all).0
 
 pub returns-then-is_end-clause-front : goal.returns-then-is_end-clause-front
-returns-then-is_end-clause-front g c = λ octets told.
-    let (ls, advances, appends, refused, checks) = c.turns.invariant.answered in
-    front-answers octets _ _ c.new-lines.result _ ls c.args.job.now _ _ _ _ c.new-lines.ensures told advances c.turns.invariant.knows_end appends
+returns-then-is_end-clause-front g c = λ f all octets told.
+    let (ls, advances, written) = c.turns.invariant.answered in
+    front-answers octets _ _ c.new-lines.result _ ls f _ _ _ _ c.new-lines.ensures told advances c.turns.invariant.knows_end (written f all).0
 
 pub returns-in_default-clause-front : goal.returns-in_default-clause-front
-returns-in_default-clause-front g c = λ octets told.
-    let (ls, advances, appends, refused, checks) = c.turns.invariant.answered in
-    front-answers octets _ _ c.new-lines.result _ ls c.args.job.now _ _ _ _ c.new-lines.ensures told advances c.turns.invariant.knows_end appends
+returns-in_default-clause-front g c = λ f all octets told.
+    let (ls, advances, written) = c.turns.invariant.answered in
+    front-answers octets _ _ c.new-lines.result _ ls f _ _ _ _ c.new-lines.ensures told advances c.turns.invariant.knows_end (written f all).0
 
 pub returns-in-Err-write_whole-clause-front : goal.returns-in-Err-write_whole-clause-front
-returns-in-Err-write_whole-clause-front g c = λ octets told.
-    let (ls, advances, appends, refused, checks) = c.turns.invariant.answered in
+returns-in-Err-write_whole-clause-front g c = λ f all octets told.
+    let (ls, advances, written) = c.turns.invariant.answered in
     let is_line : c.in-Ok.line ≡ End → ⊥ = c.is_end.ensures.line c.if-is_end.false in
     let turn = rw (answered-line c.in-Ok.line is_line) at c.in-Ok.ensures.lines in
-    let part = rw (c.as_slice-in-turns.ensures, c.in-Ok-answer_to.ensures.octets) at c.in-Err-write_whole.ensures.err in
-    front-failed octets _ _ _ c.new-lines.result _ _ ls c.in-Ok.line c.args.job.now _ _ _ _ _ c.new-lines.ensures told advances turn (c.next.ensures.knows_end c.turns.invariant.knows_end) appends part
+    let same = one_answer c.args.job.now c.in-Ok.line _ (f c.in-Ok.line) c.in-Ok-answer_to.ensures (all c.in-Ok.line) in
+    let part = rw (c.as_slice-in-turns.ensures, same) at c.in-Err-write_whole.ensures.err in
+    front-failed octets _ _ _ c.new-lines.result _ _ ls c.in-Ok.line f _ _ _ _ _ c.new-lines.ensures told advances turn (c.next.ensures.knows_end c.turns.invariant.knows_end) (written f all).0 part
 
 pub returns-in-Err-clause-more : goal.returns-in-Err-clause-more
 returns-in-Err-clause-more g c = λ eight.
-    let (ls, advances, appends, refused, checks) = c.turns.invariant.answered in
+    let (ls, advances, written) = c.turns.invariant.answered in
     let error : c.in-Err.error ≡ TooMuch = too_much-of c.in-Err.error (ap number_of (sym c.status_at.ensures) ∙ eight) in
     took-more _ _ _ c.new-lines.result _ _ ls _ _ c.new-lines.ensures advances c.in-Err.ensures.lines (c.next.ensures.too_much c.turns.invariant.fresh (c.in-Err.is ∙ ap Err error))
 
 pub returns-in-Err-clause-at_most : goal.returns-in-Err-clause-at_most
 returns-in-Err-clause-at_most g c = λ six.
-    let (ls, advances, appends, refused, checks) = c.turns.invariant.answered in
+    let (ls, advances, written) = c.turns.invariant.answered in
     let error : c.in-Err.error ≡ Failed = failed-of c.in-Err.error (omega (arith, ap number_of c.status_at.ensures, six)) in
     let within = c.next.ensures.within c.turns.invariant.fresh (λ e. absurd (cc (e, c.in-Err.is, error))) (λ e. absurd (cc (e, c.in-Err.is, error))) in
     took-at_most-next _ _ _ c.new-lines.result _ _ ls [] _ _ c.new-lines.ensures advances c.in-Err.ensures.lines within
 
 pub returns-then-is_end-clause-at_most : goal.returns-then-is_end-clause-at_most
 returns-then-is_end-clause-at_most g c = λ six.
-    let (ls, advances, appends, refused, checks) = c.turns.invariant.answered in
+    let (ls, advances, written) = c.turns.invariant.answered in
     let within = c.in-Ok.ensures.within c.turns.invariant.fresh (λ e. absurd (cc e)) (λ e. absurd (cc e)) in
     took-at_most-next _ _ _ c.new-lines.result _ _ ls _ _ _ c.new-lines.ensures advances c.in-Ok.ensures.lines within
 
 pub returns-in-Err-write_whole-clause-at_most : goal.returns-in-Err-write_whole-clause-at_most
 returns-in-Err-write_whole-clause-at_most g c = λ six.
-    let (ls, advances, appends, refused, checks) = c.turns.invariant.answered in
+    let (ls, advances, written) = c.turns.invariant.answered in
     let within = c.in-Ok.ensures.within c.turns.invariant.fresh (λ e. absurd (cc e)) (λ e. absurd (cc e)) in
     took-at_most-next _ _ _ c.new-lines.result _ _ ls _ _ _ c.new-lines.ensures advances c.in-Ok.ensures.lines within
 
 pub returns-in-Err-clause-ended : goal.returns-in-Err-clause-ended
-returns-in-Err-clause-ended g c = λ four octets told.
-    let (ls, advances, appends, refused, checks) = c.turns.invariant.answered in
+returns-in-Err-clause-ended g c = λ f all four octets told.
+    let (ls, advances, written) = c.turns.invariant.answered in
     let error : c.in-Err.error ≡ Failed = failed-of c.in-Err.error (omega (arith, ap number_of c.status_at.ensures, four)) in
     let failed = c.next.ensures.failed c.turns.invariant.fresh (c.in-Err.is ∙ ap Err error) in
-    wrote-ended _ _ _ c.new-lines.result _ _ ls c.args.job.now _ _ _ _ c.new-lines.ensures advances c.in-Err.ensures.lines failed.1 failed.2 appends
+    wrote-ended _ _ _ c.new-lines.result _ _ ls f _ _ _ _ c.new-lines.ensures advances c.in-Err.ensures.lines failed.1 failed.2 (written f all).0

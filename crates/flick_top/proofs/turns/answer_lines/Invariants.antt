@@ -1,17 +1,14 @@
 use Rattle.std.proofs.Common.{◌≡◌, ◌≤◌, List, None}
-use Rattle.std.specs.Io.KnownBytes.{Appends}
-use Rattle.kit_base.specs.Causes.{raised}
 use Rattle.kit_base.specs.declared.lines.Line.{Line}
 use Rattle.kit_base.specs.Lines.{Advances, KnowsEnd, work}
-use Rattle.flick_top.specs.Answer.{answers, refuses, messages}
+use Rattle.flick_top.proofs.Turning.{AreWritten}
 use Rattle.flick_top.proofs.turns.answer_lines.Given as goal
 
 -- The lines so far are answered.
 abbrev pub invariant-turns : goal.invariant-turns
 invariant-turns g l = record {
   answered : (ls : List Line) × Advances (g.S.Source.left l.initial.input) (g.S.Source.left l.input) l.initial.lines l.lines ls
-      × Appends (g.K.Sink.held l.initial.output) (g.K.Sink.held l.output) (answers l.job ls)
-      × (l.refused ≡ refuses l.job ls) × (l.buf.spent.checks ≡ raised l.initial.buf.spent.checks (messages l.job ls));
+      × AreWritten l.job ls (g.K.Sink.held l.initial.output) (g.K.Sink.held l.output) l.refused;
   knows_end : KnowsEnd l.lines (g.S.Source.left l.input);
   fresh : l.lines.error ≡ None;
   within : l.lines.taken ≤ l.lines.most;

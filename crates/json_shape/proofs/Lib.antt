@@ -1,0 +1,15 @@
+pub mod Arms
+pub mod Blocks
+pub mod Deciding
+pub mod Fields
+pub mod Items
+pub mod Letters
+pub mod Lookups
+pub mod Naming
+pub mod Sources
+pub mod Options
+pub mod Passing
+pub mod Seen
+pub mod Shown
+pub mod Written
+pub mod WrittenScalars

@@ -1,0 +1,7 @@
+use Rattle.std.specs.Str.Iter.{chars_rest}
+use Rattle.json_shape.proofs.Passing.{Passing}
+use Rattle.json_shape.proofs.texts.behind.Given as goal
+
+-- The string of the octets before the index is passed.
+abbrev pub invariant-loop-octet : goal.invariant-loop-octet
+invariant-loop-octet l = Passing l.octets l.octet-index (chars_rest l.chars) (chars_rest l.rest)

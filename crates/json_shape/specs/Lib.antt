@@ -1,0 +1,13 @@
+pub mod Gives
+pub mod Laws
+pub mod Members
+pub mod Named
+pub mod Operations
+pub mod Presents
+pub mod Reading
+pub mod Records
+pub mod Replies
+pub mod Requests
+pub mod Scalars
+pub mod Texts
+pub mod Written

@@ -1,0 +1,64 @@
+// Members of objects.
+ghost use Rattle.std.specs.Prelude.{◌≡◌, IfOk, false, option_map, string_bytes};
+ghost use Rattle.std.specs.Option.{option_map_or};
+ghost use Rattle.std.specs.List.{list_all};
+ghost use Rattle.std.specs.BTreeMap.{keys};
+ghost use Rattle.pres.specs.Faces.{sign_of};
+ghost use Rattle.serde_json.specs.View.{view};
+ghost use Rattle.serde_json.specs.Find.{get, as_object};
+ghost use Rattle.json_shape.specs.Gives.{Gives};
+ghost use Rattle.json_shape.specs.Presents.{is_arm, is_arm_key, members_in, tag_in};
+ghost use Rattle.json_shape.specs.Texts.{text_of};
+
+use crate::errors::ShapeErr;
+use crate::scalars::sign;
+use crate::texts::text_of;
+use kit_base::NoMemory;
+use mint::node::Tag;
+use pres::Shape;
+use serde_json::{Map, Value as Json};
+use std::alloc::Global;
+
+/// The member of a name.
+pub(crate) fn member<'a>(
+    alloc: Global,
+    name: &[u8],
+    json: &'a Json,
+) -> Result<Option<&'a Json>, NoMemory>
+    ensures { IfOk result (λ o. option_map (λ j. view j.now) o ≡ get (text_of name.now) (view json.now)) }
+{
+    let key = text_of(alloc, name)?;
+    Ok(json.get(key.as_str()))
+}
+
+/// Whether the JSON is an object without members besides those of a choice.
+pub(crate) fn has_arm_members(json: &Json) -> bool
+    ensures { result ≡ option_map_or is_arm (as_object (view json.now)) false }
+{
+    let Some(members) = json.as_object() else {
+        return false;
+    };
+    has_arm_keys(members)
+}
+
+fn has_arm_keys(members: &Map<String, Json>) -> bool
+    ensures { result ≡ list_all (λ k. is_arm_key (string_bytes k)) (keys members.now) }
+{
+    members.keys().all(|k| is_arm_key(k.as_str()))
+}
+
+fn is_arm_key(key: &str) -> bool
+    ensures { result ≡ is_arm_key key.now }
+{
+    key == "tag" || key == "value"
+}
+
+/// The number of the tag.
+pub(crate) fn tag_in(alloc: Global, tag: &Tag, shape: &Shape, json: &Json) -> Result<i128, ShapeErr>
+    ensures { Gives (λ n. n) result (tag_in (sign_of tag.now shape.now) (members_in (view json.now))) }
+{
+    match json.get("tag") {
+        Some(found) => sign(alloc, tag, shape, found),
+        None => Err(ShapeErr::Shape),
+    }
+}

@@ -1,0 +1,100 @@
+// Numbers and items of enums.
+ghost use Rattle.std.specs.Prelude.{◌≡◌};
+ghost use Rattle.mint.specs.declared.kind.Kind.TheVariants as kind;
+ghost use Rattle.serde_json.specs.View.{view};
+ghost use Rattle.pres.specs.Faces.{items_in, sign_of, item};
+ghost use Rattle.json_shape.specs.Gives.{Gives};
+ghost use Rattle.json_shape.specs.Scalars.{number_in, number_named, sign_in, whole_in};
+
+use crate::errors::ShapeErr;
+use crate::texts::{is_text_of, octets_in};
+use kit_base::Name;
+use mint::kind::Kind;
+use mint::node::Tag;
+use pres::Shape;
+use serde_json::Value as Json;
+use std::alloc::Global;
+
+/// The number of a kind that the JSON is.
+pub(crate) fn number(alloc: Global, kind: Kind, json: &Json) -> Result<i128, ShapeErr>
+    ensures { Gives (λ n. n) result (number_in kind (view json.now)) }
+{
+    match kind {
+        Kind::Bool => truth(json),
+        Kind::Char => letter(alloc, json),
+        _ => whole(kind, json),
+    }
+}
+
+fn truth(json: &Json) -> Result<i128, ShapeErr>
+    ensures { Gives (λ n. n) result (number_in kind.Bool (view json.now)) }
+{
+    match json.as_bool() {
+        Some(true) => Ok(1),
+        Some(false) => Ok(0),
+        None => Err(ShapeErr::Shape),
+    }
+}
+
+fn letter(alloc: Global, json: &Json) -> Result<i128, ShapeErr>
+    ensures { Gives (λ n. n) result (number_in kind.Char (view json.now)) }
+{
+    let octets = octets_in(alloc, json)?;
+    match octets.as_slice() {
+        [octet] => Ok(i128::from(*octet)),
+        _ => Err(ShapeErr::Shape),
+    }
+}
+
+fn whole(kind: Kind, json: &Json) -> Result<i128, ShapeErr>
+    ensures { Gives (λ n. n) result (whole_in kind (view json.now)) }
+{
+    let Some(number) = json.as_number() else {
+        return Err(ShapeErr::Shape);
+    };
+    match number.as_i128() {
+        Some(n) if kind.has(n) => Ok(n),
+        _ => Err(ShapeErr::Shape),
+    }
+}
+
+/// The items that a shape names.
+pub(crate) fn items_of(shape: &Shape) -> &[(Name, i32)]
+    ensures { result.now ≡ items_in shape.now }
+{
+    match shape {
+        Shape::LabelNames(items) => items.as_slice(),
+        _ => &[],
+    }
+}
+
+/// The number of the item that the JSON names.
+pub(crate) fn item(items: &[(Name, i32)], json: &Json) -> Result<i128, ShapeErr>
+    ensures { Gives (λ n. n) result (sign_in (item items.now) (view json.now)) }
+{
+    match json.as_str() {
+        Some(text) => number_named(items, text),
+        None => Err(ShapeErr::Shape),
+    }
+}
+
+fn number_named(items: &[(Name, i32)], text: &str) -> Result<i128, ShapeErr>
+    ensures { Gives (λ n. n) result (number_named items.now text.now) }
+{
+    for (name, n) in items {
+        if is_text_of(name.as_slice(), text) {
+            return Ok(i128::from(*n));
+        }
+    }
+    Err(ShapeErr::Shape)
+}
+
+/// The number that the JSON is for a tag.
+pub(crate) fn sign(alloc: Global, tag: &Tag, shape: &Shape, json: &Json) -> Result<i128, ShapeErr>
+    ensures { Gives (λ n. n) result (sign_in (sign_of tag.now shape.now) (view json.now)) }
+{
+    match tag {
+        Tag::Num(kind) => number(alloc, *kind, json),
+        Tag::Enum(_) => item(items_of(shape), json),
+    }
+}

@@ -1,0 +1,103 @@
+// Strings that stand for octets.
+ghost use Rattle.std.specs.Prelude.{IfNone, IfOk, IfSome, IsUtf8, ◌≡◌, ◌≢◌, ◌++◌, ℕ, List, string_bytes};
+ghost use Rattle.std.specs.Str.{bytes_eq};
+ghost use Rattle.std.specs.Str.Iter.{chars_rest};
+ghost use Rattle.serde_json.specs.View.{view};
+ghost use Rattle.json_shape.specs.Gives.{Gives};
+ghost use Rattle.json_shape.specs.Texts.{octets_of, octets_in, hex_in, text_of};
+
+use crate::errors::ShapeErr;
+use hex::FromHexError;
+use kit_base::{NoMemory, Octets};
+use serde_json::Value as Json;
+use std::alloc::Global;
+use std::str::Chars;
+
+/// The octets that are a string's characters.
+fn octets_of(alloc: Global, text: &str) -> Result<Octets, ShapeErr>
+    ensures { Gives (λ o. o) result (octets_of text.now) }
+{
+    let mut octets = Octets::new(alloc);
+    for c in text.chars() {
+        let code = u32::from(c);
+        if code > 255 {
+            return Err(ShapeErr::Shape);
+        }
+        octets.push(code as u8)?;
+    }
+    Ok(octets)
+}
+
+/// The octets that a string has as characters.
+pub(crate) fn octets_in(alloc: Global, json: &Json) -> Result<Octets, ShapeErr>
+    ensures { Gives (λ o. o) result (octets_in (view json.now)) }
+{
+    match json.as_str() {
+        Some(text) => octets_of(alloc, text),
+        None => Err(ShapeErr::Shape),
+    }
+}
+
+/// The octets that a string has in hexadecimal digits.
+pub(crate) fn hex_in(alloc: Global, json: &Json) -> Result<Vec<u8>, ShapeErr>
+    ensures { Gives (λ o. o.items) result (hex_in (view json.now)) }
+{
+    let Some(text) = json.as_str() else {
+        return Err(ShapeErr::Shape);
+    };
+    match hex::decode(alloc, text.as_bytes()) {
+        Ok(octets) => Ok(octets),
+        Err(FromHexError::OutOfMemory) => Err(ShapeErr::NoMemory),
+        Err(_) => Err(ShapeErr::Shape),
+    }
+}
+
+/// The string of octets.
+pub(crate) fn text_of(alloc: Global, octets: &[u8]) -> Result<String, NoMemory>
+    ensures { IfOk result (λ s. string_bytes s ≡ text_of octets.now) }
+{
+    let mut text = String::new(alloc);
+    for octet in octets {
+        text.push(char::from(*octet))?;
+    }
+    Ok(text)
+}
+
+/// What stands behind the string of the octets.
+pub(crate) fn behind<'a>(octets: &[u8], chars: Chars<'a>) -> Option<Chars<'a>>
+    requires { IsUtf8 (chars_rest chars) }
+    ensures some { IfSome result (λ r. IsUtf8 (chars_rest r) × (chars_rest chars.entry ≡ text_of octets.now ++ chars_rest r)) }
+    ensures none { IfNone result ((more : List ℕ) → chars_rest chars.entry ≢ text_of octets.now ++ more) }
+{
+    let mut rest = chars;
+    for octet in octets {
+        let Some(c) = rest.next() else {
+            return None;
+        };
+        if u32::from(c) != u32::from(*octet) {
+            return None;
+        }
+    }
+    Some(rest)
+}
+
+/// Whether what is left of a string is that of the octets.
+pub(crate) fn is_rest_of(octets: &[u8], chars: Chars<'_>) -> bool
+    requires { IsUtf8 (chars_rest chars) }
+    ensures { result ≡ bytes_eq (text_of octets.now) (chars_rest chars.entry) }
+{
+    match behind(octets, chars) {
+        Some(mut rest) => match rest.next() {
+            None => true,
+            Some(_) => false,
+        },
+        None => false,
+    }
+}
+
+/// Whether a string is that of the octets.
+pub(crate) fn is_text_of(octets: &[u8], text: &str) -> bool
+    ensures { result ≡ bytes_eq (text_of octets.now) text.now }
+{
+    is_rest_of(octets, text.chars())
+}
