@@ -1,0 +1,191 @@
+"""ONC calls (RFC 5531, section 9) and their request records, over the operations of an interface file."""
+import json
+import re
+from itertools import accumulate
+
+from values import Fault, NoValue, Reader
+
+LONGEST_LINE = 8_388_608
+LONGEST_MESSAGE = 4_194_304
+DEEPEST = 127
+
+
+class Interface:
+    """A version of a program; operations are triples of name, number and the types of the parameters."""
+
+    def __init__(self, name, program, version, operations):
+        self.name, self.program, self.version, self.operations = name, program, version, list(operations)
+        if all(number != 0 for _, number, _ in operations):
+            self.operations.append(("0", 0, []))
+
+
+class NoTree(Exception):
+    """A line that is no JSON."""
+
+
+class NotWhole:
+    """A number of JSON that is not written as a whole number of 64 bits."""
+
+
+def whole(text):
+    n = int(text)
+    if text != "-0" and -2 ** 63 <= n < 2 ** 64:
+        return n
+    return fraction(text)
+
+
+def fraction(text):
+    if abs(float(text)) == float("inf"):
+        raise NoTree
+    return NotWhole()
+
+
+def no_constant(_):
+    raise NoTree
+
+
+STRING = re.compile(r'"(?:[^"\\]|\\.)*"')
+
+
+def is_readable(text):
+    """Whether a text of JSON has no half of a surrogate pair, and is nested no deeper than is read."""
+    if any(0xd800 <= ord(c) < 0xe000 for string in STRING.findall(text) for c in json.loads(string)):
+        return False
+    steps = ({"[": 1, "{": 1, "]": -1, "}": -1}.get(c, 0) for c in STRING.sub("", text))
+    return max(accumulate(steps), default=0) <= DEEPEST
+
+
+def tree_of(line):
+    """The tree of a line: objects are dicts, in which the last member of a name counts."""
+    try:
+        tree = json.loads(text := line.decode(), parse_int=whole, parse_float=fraction, parse_constant=no_constant)
+    except (ValueError, RecursionError):
+        raise NoTree from None
+    if not is_readable(text):
+        raise NoTree
+    return tree
+
+
+def text_of(tree):
+    """JSON without blanks, members in the order of their names' octets."""
+    if isinstance(tree, dict):
+        return "{" + ",".join(f"{text_of(k)}:{text_of(tree[k])}" for k in sorted(tree, key=str.encode)) + "}"
+    if isinstance(tree, list):
+        return "[" + ",".join(map(text_of, tree)) + "]"
+    return json.dumps(tree, ensure_ascii=False)
+
+
+def word(n):
+    return n.to_bytes(4, "big")
+
+
+def message_of(interface, operation, xid, values):
+    """The call of an operation, with empty credentials and verifier."""
+    numbers = (xid, 0, 2, interface.program, interface.version, operation[1], 0, 0, 0, 0)
+    return b"".join(map(word, numbers)) + b"".join(ty.send(v) for ty, v in zip(operation[2], values))
+
+
+def is_record(tree):
+    """Whether a tree is a request record, whatever its operation and value."""
+    if not isinstance(tree, dict) or not set(tree) <= {"op", "xid", "args"} or not isinstance(tree.get("op"), str):
+        return False
+    xid = tree.get("xid", 0)
+    return type(xid) is int and 0 <= xid < 2 ** 32 and isinstance(tree.get("args", []), list)
+
+
+def marshal(interfaces, line):
+    """The answer to a line of request records."""
+    if len(line) > LONGEST_LINE:
+        return "! long"
+    try:
+        tree = tree_of(line)
+    except NoTree:
+        return "! json"
+    if not is_record(tree):
+        return "! request"
+    named = [(i, op) for i in interfaces for op in i.operations if f"{i.name}.{op[0]}" == tree["op"]]
+    if not named:
+        return "! op"
+    interface, operation = named[0]
+    args = tree.get("args", [])
+    try:
+        if len(args) != len(operation[2]):
+            raise NoValue
+        values = [ty.value(arg) for ty, arg in zip(operation[2], args)]
+    except NoValue:
+        return "! value"
+    message = message_of(interface, operation, tree.get("xid", 0), values)
+    return message.hex() if len(message) <= LONGEST_MESSAGE else "! long"
+
+
+class HeadFault(Exception):
+    """The first item of a head that is cut off or wrong."""
+
+
+def auth(reader):
+    """A credential or verifier: any flavour, up to 400 octets."""
+    reader.item(4)
+    length = int.from_bytes(reader.item(4), "big")
+    if length > 400:
+        raise HeadFault("Cred")
+    for _ in range(length):
+        reader.item(1)
+    reader.padding(length)
+
+
+def read_head(reader):
+    """The transaction, and the numbers of program, version and procedure."""
+    try:
+        xid = int.from_bytes(reader.item(4), "big")
+        if reader.item(4) != word(0):
+            raise HeadFault("Type")
+        if reader.item(4) != word(2):
+            raise HeadFault("Version")
+        numbers = [int.from_bytes(reader.item(4), "big") for _ in range(3)]
+        auth(reader)
+        auth(reader)
+    except Fault as fault:
+        raise HeadFault("Short" if str(fault).startswith("Short") else "Pad") from None
+    return xid, *numbers
+
+
+def unmarshal(interfaces, line):
+    """The answer to a line of hexadecimal digits."""
+    if len(line) > LONGEST_LINE:
+        return "! long"
+    if len(line) % 2 or any(c not in b"0123456789abcdefABCDEF" for c in line):
+        return "! hex"
+    message = bytes.fromhex(line.decode())
+    reader = Reader(message, 0)
+    try:
+        xid, program, version, procedure = read_head(reader)
+    except HeadFault as fault:
+        return f"! head {fault}"
+    called = [i for i in interfaces if (i.program, i.version) == (program, version)]
+    if not called:
+        return "! interface"
+    operations = [op for op in called[0].operations if op[1] == procedure]
+    if not operations:
+        return "! operation"
+    name, _, types = operations[0]
+    try:
+        args = [ty.tree(ty.read(reader)) for ty in types]
+    except Fault as fault:
+        return f"! body {fault}"
+    if reader.at < len(message):
+        return f"! trailing {reader.at}"
+    return text_of({"op": f"{called[0].name}.{name}", "xid": xid, "args": args})
+
+
+COMMANDS = {"marshal": marshal, "unmarshal": unmarshal}
+
+
+def lines_of(octets):
+    """The lines of an input: without a carriage return at their end, and none without octets."""
+    return [line for line in (line.removesuffix(b"\r") for line in octets.split(b"\n")) if line]
+
+
+def answers(command, interfaces, octets):
+    """What a command writes over an input, and its status."""
+    told = [COMMANDS[command](interfaces, line) for line in lines_of(octets)]
+    return "".join(f"{answer}\n" for answer in told).encode(), int(any(answer.startswith("!") for answer in told))

@@ -1,0 +1,175 @@
+"""Random interface files, request lines and calls, by a seeded generator."""
+import json
+
+from calls import marshal
+from values import Array, Bool, Enum, Number, Opaque, Pointer, String, Struct, Void
+
+NUMBERS = ["int", "unsigned int", "unsigned", "long", "unsigned long", "short", "unsigned short", "char", "unsigned char",
+           "hyper", "unsigned hyper", "u_char", "u_short", "u_int", "u_long"]
+ODD_TREES = [None, True, False, 0, -1, 1, 128, -129, 256, 2 ** 15, -2 ** 15 - 1, 2 ** 16, 2 ** 31, -2 ** 31 - 1, 2 ** 32, -2 ** 63, 2 ** 64 - 1, 2 ** 64, 1.0, 1e2,
+             "", "0", "00", "FF", "é", "\0", "\u0100", [], [[]], {}, {"tag": 0}, {"tag": 1, "value": None}]
+ODD_WORDS = ["00000000", "00000001", "00000002", "00000080", "000000ff", "00000100", "00000191", "00008000", "0000ffff", "00010000", "7fffffff",
+             "80000000", "ffff7fff", "ffffff7f", "ffffff80", "ffffffff"]
+ODD_LINES = ["", "\r", "0", "0g", "[", "null", '{"op":"\\ud800"}', "\ufeff{}", "-0", "1e400", "01", "[" * 128 + "]" * 128, "\u00e9"]
+
+
+class FileMaker:
+    """An interface file; each type has a greatest size, so that no value grows without end."""
+
+    def __init__(self, rng):
+        self.rng = rng
+        self.sizes = {}
+        self.tags = {name: range(-2 if name[0] not in "u" else 0, 5) for name in NUMBERS} | {"bool": ["TRUE", "FALSE", 0, 1]}
+
+    def type(self):
+        small = [name for name, size in self.sizes.items() if size < 60]
+        return self.rng.choice([self.rng.choice([*NUMBERS, *["bool"] * 4]), *(self.rng.choice(small) for _ in small[:2])])
+
+    def declaration(self, name):
+        """The text of a declaration, and its size."""
+        rng, n = self.rng, self.rng.randint(1, 4)
+        count = rng.choice([f"[{n}]", f"<{n}>", "<>", "<0>" if rng.random() < 0.1 else "<7>"])
+        form = rng.choice(["plain", "plain", "array", "pointer", "opaque", "string"])
+        if form == "opaque":
+            return f"opaque {name}{count}", 2
+        if form == "string":
+            return f"string {name}{rng.choice(['<>', f'<{n}>'])}", 2
+        element = self.type()
+        size = self.sizes.get(element, 1)
+        return {"plain": (f"{element} {name}", size), "array": (f"{element} {name}{count}", 4 * size), "pointer": (f"{element} *{name}", size)}[form]
+
+    def enum(self, name):
+        items, number = [], -1
+        for k in range(self.rng.randint(1, 4)):
+            number = self.rng.choice([number + 1, self.rng.choice([-2 ** 31, -1, 0, 1, 2 ** 31 - 1])])
+            number = min(number, 2 ** 31 - 1)
+            items.append((f"{name}_{k}", number))
+        self.tags[name] = [item for item, _ in items]
+        self.numbers.update(items)
+        self.sizes[name] = 1
+        return f"enum {name} {{ {', '.join(f'{item} = {n}' for item, n in items)} }};"
+
+    def struct(self, name):
+        fields = [self.declaration(field) for field in self.rng.sample(["a", "b", "B", "zeta", "_x", "a1"], self.rng.randint(1, 5))]
+        self.sizes[name] = sum(size for _, size in fields)
+        return f"struct {name} {{ {' '.join(f'{text};' for text, _ in fields)} }};"
+
+    def union(self, name):
+        tag = self.rng.choice(list(self.tags))
+        labels = {self.numbers.get(label, label): label for label in self.tags[tag]}
+        chosen = self.rng.sample(list(labels.values()), self.rng.randint(1, len(labels)))
+        arms, sizes = [], [1]
+        for k, label in enumerate(chosen):
+            text, size = self.rng.choice([("void", 1), self.declaration(f"arm{k}")])
+            sizes.append(size)
+            shared = self.rng.random() < 0.2 and label != chosen[-1]
+            arms.append(f"case {label}:" if shared else f"case {label}: {text};")
+        if self.rng.random() < 0.5:
+            arms.append(f"default: {self.rng.choice(['void', self.declaration('other')[0]])};")
+            sizes.append(60)
+        self.sizes[name] = max(sizes)
+        return f"union {name} switch ({tag} t) {{ {' '.join(arms)} }};"
+
+    def typedef(self, name):
+        text, self.sizes[name] = self.declaration(name)
+        return f"typedef {text};"
+
+    def text(self):
+        self.numbers = {"TRUE": 1, "FALSE": 0}
+        definitions = [self.rng.choice([self.enum, self.struct, self.struct, self.union, self.union, self.typedef])(f"t{k}")
+                       for k in range(self.rng.randint(1, 8))]
+        versions = []
+        for v in range(self.rng.randint(1, 3)):
+            numbers = self.rng.sample([0, 1, 2, 7, 2 ** 32 - 1], self.rng.randint(1, 4))
+            procedures = [f"{self.rng.choice(['void', 'int', 'string'])} F{k}({self.parameters()}) = {n};" for k, n in enumerate(numbers)]
+            versions.append(f"version V{v} {{ {' '.join(procedures)} }} = {v};")
+        return "\n".join([*definitions, f"program P {{ {' '.join(versions)} }} = {self.rng.choice([0, 1, 2 ** 29, 2 ** 32 - 1])};", ""])
+
+    def parameters(self):
+        known = list(self.sizes)
+        return ", ".join(self.rng.choice([*NUMBERS[:2], "string", *known[-3:]]) for _ in range(self.rng.randint(0, 3))) or "void"
+
+
+def sample(rng, ty):
+    """A value of a type."""
+    if isinstance(ty, Void):
+        return None
+    if isinstance(ty, Enum):
+        return rng.choice(ty.items)[1]
+    if isinstance(ty, Bool):
+        return rng.randint(0, 1)
+    if isinstance(ty, Number):
+        return rng.choice([ty.least, ty.greatest, 0, 1, rng.randint(ty.least, ty.greatest)])
+    if isinstance(ty, Opaque):
+        return bytes(rng.randint(int(isinstance(ty, String)), 255) for _ in range(length(rng, ty.count)))
+    if isinstance(ty, Array):
+        return [sample(rng, ty.element) for _ in range(length(rng, ty.count))]
+    if isinstance(ty, Pointer):
+        return rng.choice([None, [sample(rng, ty.array.element)]])
+    if isinstance(ty, Struct):
+        return [sample(rng, field) for _, field in ty.fields]
+    tags = [n for n in [*ty.arms, sample(rng, ty.tag)] if ty.arm(n) is not None]
+    tag = rng.choice(tags)
+    return tag, sample(rng, ty.arm(tag))
+
+
+def length(rng, count):
+    return count.bound if count.exact else rng.randint(0, 4 if count.bound is None else min(4, count.bound))
+
+
+def mutated(rng, tree):
+    """A tree with one part of it exchanged, dropped or added."""
+    if isinstance(tree, dict) and tree and rng.random() < 0.8:
+        key = rng.choice(list(tree))
+        other = {k: v for k, v in tree.items() if k != key}
+        return rng.choice([other | {key: mutated(rng, tree[key])}] * 4 + [other, tree | {rng.choice(["id", "value", "c"]): None}])
+    if isinstance(tree, list) and tree and rng.random() < 0.8:
+        k = rng.randrange(len(tree))
+        return rng.choice([[*tree[:k], mutated(rng, tree[k]), *tree[k + 1:]]] * 4 + [tree[:k] + tree[k + 1:], [*tree, tree[k]]])
+    return rng.choice(ODD_TREES)
+
+
+def request_lines(rng, interfaces, count):
+    """Lines of `marshal`: records, most of them right, and others."""
+    for _ in range(count):
+        interface = rng.choice(interfaces)
+        name, _, types = rng.choice(interface.operations)
+        args = [ty.tree(sample(rng, ty)) for ty in types]
+        record = {"op": f"{interface.name}.{name}", "xid": rng.choice([0, 1, 2 ** 32 - 1]), "args": args}
+        if args and rng.random() < 0.5:
+            k = rng.randrange(len(args))
+            record["args"] = [*args[:k], mutated(rng, args[k]), *args[k + 1:]]
+        elif rng.random() < 0.2:
+            record = mutated(rng, record)
+        line = json.dumps(record, ensure_ascii=rng.random() < 0.5, separators=rng.choice([(",", ":"), (" , ", " : ")]))
+        yield (rng.choice(ODD_LINES) if rng.random() < 0.05 else line).encode()
+
+
+def call_lines(rng, interfaces, requests):
+    """Lines of `unmarshal`: calls of the requests that have one, most of them wrong somewhere."""
+    for call in (marshal(interfaces, line) for line in requests):
+        if not call.startswith("!"):
+            yield from (line.encode() for line in [call, *head_lines(rng, call), *(body_line(rng, call) for _ in range(5 if len(call) > 80 else 0))])
+
+
+def exchanged(call, place, text):
+    """A call with other digits from a place on."""
+    return call[:place] + text + call[place + len(text):]
+
+
+def head_lines(rng, call):
+    """Some lines that are a call with another head, cut, or with octets behind it."""
+    at = rng.randrange(len(call) // 2) * 2
+    word = rng.choice(ODD_WORDS)
+    body = f"00000001000000{rng.choice(['05', '90', '91'])}{'ab' * 5}{rng.choice(['000000', '000001'])}"
+    return rng.sample([call.upper(), call[:at], call[:at + 1], call + word, call[:-8], exchanged(call, at, "01"), exchanged(call, rng.randrange(10) * 8, word),
+                       call[:48] + body + call[64:], call[:64] + body + call[80:]], 3)
+
+
+def body_line(rng, call):
+    """A call with another word, or another octet, in its body."""
+    words = (len(call) - 80) // 8
+    place = 80 + 8 * rng.choice([rng.randrange(words), rng.randrange(min(words, 3))])
+    word = call[place:place + 8]
+    near = f"{(int(word, 16) + rng.choice([-1, 1, 2, 256])) % 2 ** 32:08x}"
+    return rng.choice([exchanged(call, place, rng.choice(ODD_WORDS)), exchanged(call, place, near), exchanged(call, place + 2 * rng.randrange(4), rng.choice(["00", "01", "ff"]))])
