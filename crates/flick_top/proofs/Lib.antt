@@ -1,9 +1,12 @@
+pub mod Alike
 pub mod Completing
 pub mod Determined
 pub mod Ended
 pub mod Existing
 pub mod Floats
 pub mod Front
+pub mod Outputs
 pub mod Prefix
 pub mod Stops
 pub mod Turning
+pub mod Twins
