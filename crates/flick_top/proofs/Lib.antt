@@ -1,3 +1,4 @@
+pub mod Alike
 pub mod Completing
 pub mod Determined
 pub mod Ended
@@ -5,9 +6,11 @@ pub mod Existing
 pub mod Floats
 pub mod Front
 pub mod Options
+pub mod Outputs
 pub mod Prefix
 pub mod Recorded
 pub mod Stops
 pub mod Trees
 pub mod Turning
+pub mod Twins
 pub mod Written

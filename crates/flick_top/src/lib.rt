@@ -4,6 +4,7 @@
 mod answer;
 mod command;
 mod file;
+mod laws;
 mod marshal;
 mod saying;
 mod status;
@@ -13,6 +14,7 @@ mod top;
 mod turns;
 mod unmarshal;
 
+pub use laws::outputs_are_determined;
 pub use top::flick;
 
 #[cfg(test)]
