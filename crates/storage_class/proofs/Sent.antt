@@ -1,5 +1,5 @@
 -- What is sent over XDR has a length that the span of its type allows.
-use Rattle.std.proofs.Common.{◌≡◌, ℕ, ◌+◌, ◌*◌, ◌%◌, ◌≤◌, ℤ, pos, List, [], ◌∷◌, length, Bool, true, false, cond, refl, sym, ◌∙◌, ap, int_eq, arith, length-append, zero-add, add-zero, suc-mul}
+use Rattle.std.proofs.Common.{◌≡◌, ℕ, ◌+◌, ◌*◌, ◌≤◌, ℤ, pos, List, [], ◌∷◌, length, Bool, true, false, cond, refl, sym, ap, int_eq, arith, length-append, zero-add, add-zero, suc-mul}
 use Rattle.std.proofs.Math.Nat.{zero-mul, mul-le-mul_right}
 use Rattle.std.specs.Prelude.{MatchBool}
 use Rattle.std.specs.Int.{byte_len}
@@ -19,7 +19,7 @@ use Rattle.wire_def.specs.Send.{flag, send_each, send, send_fields, send_arm}
 use Rattle.wire_def.proofs.Lawful.{xdr_wide}
 use Rattle.storage_class.specs.declared.span.Span.{Span}
 use Rattle.storage_class.specs.declared.span.Span.TheVariants.{Fixed, Bounded, Unbounded}
-use Rattle.storage_class.specs.Classing.{exactly, loose, behind, either, times, HasLength}
+use Rattle.storage_class.specs.Classing.{exactly, loose, either, times, HasLength}
 use Rattle.storage_class.specs.Spans.{scalar_span, counted_span, element_length, elements_length, span, fields_span, arms_span}
 use Rattle.storage_class.proofs.Within.{exactly_within, at_most_within, exactly_loosely, at_most_loosely, loose_within, nothing_within, behind_within, first_within, second_within}
 

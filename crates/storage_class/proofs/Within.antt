@@ -1,8 +1,8 @@
 -- Lengths of wholes, from those of their parts.
-use Rattle.std.proofs.Common.{◌≡◌, ℕ, ◌+◌, ◌*◌, ◌≤◌, max, nat_le, Bool, true, false, cond, Option, None, Some, refl, arith}
+use Rattle.std.proofs.Common.{◌≡◌, ℕ, ◌+◌, ◌≤◌, nat_le, Bool, true, false, cond, arith}
 use Rattle.storage_class.specs.declared.span.Span.{Span}
 use Rattle.storage_class.specs.declared.span.Span.TheVariants.{Fixed, Bounded, Unbounded}
-use Rattle.storage_class.specs.Classing.{exactly, at_most, top, loose, behind, either, HasLength}
+use Rattle.storage_class.specs.Classing.{exactly, at_most, loose, behind, either, HasLength}
 
 told : (b : Bool) (s : Span) (l : ℕ) → HasLength s l → HasLength (cond b s Unbounded) l
 told true s l h = h

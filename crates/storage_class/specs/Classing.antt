@@ -24,10 +24,12 @@ abbrev pub loose : Span → Span
 loose (Fixed n) = Bounded n
 loose s = s
 
+-- the greatest length of two parts together
 abbrev pub sum_of_tops : Option ℕ → Option ℕ → Span
 sum_of_tops (Some m) (Some n) = at_most (m + n)
 sum_of_tops _ _ = Unbounded
 
+-- the greatest length of one of two parts, whichever there is
 abbrev pub greater_top : Option ℕ → Option ℕ → Span
 greater_top (Some m) (Some n) = Bounded (max m n)
 greater_top _ _ = Unbounded

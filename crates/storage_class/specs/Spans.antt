@@ -13,6 +13,7 @@ use Rattle.storage_class.specs.declared.span.Span.{Span}
 use Rattle.storage_class.specs.declared.span.Span.TheVariants.{Fixed, Bounded, Unbounded}
 use Rattle.storage_class.specs.Classing.{exactly, loose, behind, either, times}
 
+-- the octets of a scalar's width
 abbrev pub scalar_span : Encoding → Scalar → Span
 scalar_span e s = Fixed (byte_len (width_of e s))
 
@@ -30,10 +31,12 @@ element_length e a = if is_octets a then 1 else byte_len (width_of e (number (ki
 abbrev pub elements_length : Encoding → Array → ℕ → ℕ
 elements_length e a n = n * element_length e a + trailing e a n
 
+-- a row or a text
 abbrev pub array_span : Encoding → Array → Span
 array_span e a = counted_span e (count_of a) (λ n. exactly (elements_length e a n))
 
 abbrev mutual
+  -- what is sent of a value of the type
   pub span : Encoding → Ty → Span
   span e void_type = Fixed 0
   span e (scalar_type s) = scalar_span e s
@@ -43,6 +46,7 @@ abbrev mutual
   span e (choice_type s arms) = behind (scalar_span e s) (arms_span e arms)
   span e (maybe_type t) = behind (scalar_span e flag) (loose (span e t))
 
+  -- fields, one behind the other
   pub fields_span : Encoding → Tys → Span
   fields_span e no_fields = Fixed 0
   fields_span e (field t ts) = behind (span e t) (fields_span e ts)

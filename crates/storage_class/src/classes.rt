@@ -60,7 +60,7 @@ impl Classes {
         self.spans.push(span)
     }
 
-    /// The class of a node.
+    /// The class of a node. Takes no memory.
     pub fn max(&self, id: NodeId) -> Class
         requires { id < length self.now }
         ensures { result ≡ class_of (slice_index_or self.now id Span.Unbounded) }

@@ -14,7 +14,7 @@ use mint::table::{Mint, NodeId};
 use std::alloc::Global;
 use wire_def::Encoding;
 
-/// The class of each node of a table.
+/// The class of each node of a table, in one step for each node and each child.
 pub fn classify(alloc: Global, enc: Encoding, mint: &Mint) -> Result<Classes, NoMemory>
     requires xdr { enc ≡ Xdr }
     ensures all { IfOk result (λ c. length c ≡ length mint.now) }

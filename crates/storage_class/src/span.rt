@@ -5,8 +5,11 @@ ghost use Rattle.storage_class.specs.Classing.{at_most, behind, either, exactly,
 /// What is known of a length: the length, its bound, or nothing.
 #[derive(Clone, Copy, Debug, PartialEq, Eq)]
 pub enum Span {
+    /// Each length is this.
     Fixed(u32),
+    /// No length is above this.
     Bounded(u32),
+    /// No bound is known, or it is above 4,294,967,295.
     Unbounded,
 }
 

@@ -1,7 +1,4 @@
-use Rattle.std.proofs.Common.{◌≡◌, ◌<◌, ◌+◌, ◌-◌, suc, length, drop, arith, pos}
-use Rattle.mint.specs.Types.{unfolded, arms_at}
-use Rattle.wire_def.specs.declared.encoding.Encoding.TheVariants.{Xdr}
-use Rattle.storage_class.specs.Spans.{arms_span}
+use Rattle.std.proofs.Common.{◌≡◌, ◌-◌, suc, arith, pos}
 use Rattle.storage_class.proofs.Known.{arm_before}
 use Rattle.storage_class.proofs.nodes.arms_span.Goals as goal
 
