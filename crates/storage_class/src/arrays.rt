@@ -3,8 +3,8 @@ ghost use Rattle.std.specs.Prelude.{◌≡◌, ◌+◌};
 ghost use Rattle.mint.specs.Types.{text, row_of};
 ghost use Rattle.wire_def.specs.Scalars.{gap};
 ghost use Rattle.wire_def.specs.declared.encoding.Encoding.TheVariants.{Xdr};
-ghost use Rattle.storage_class.specs.Spans.{array_span, counted_span, elements_length};
-ghost use Rattle.storage_class.specs.Classing.{exactly, times};
+ghost use Rattle.storage_class.specs.Spans.{array_span, counted_span};
+ghost use Rattle.storage_class.specs.Classing.{times};
 
 use crate::scalars::width;
 use crate::span::Span;

@@ -1,6 +1,6 @@
 // The span of each node, from those of the nodes before it.
-ghost use Rattle.std.specs.Prelude.{◌≡◌, ◌<◌, ◌≤◌, length, IfOk};
-ghost use Rattle.mint.specs.Types.{level, type_at, unfolded, fields_at, arms_at, AreBelow, ArmsBelow, IsBelow, HasChildrenBelow};
+ghost use Rattle.std.specs.Prelude.{◌≡◌, ◌<◌, length, IfOk};
+ghost use Rattle.mint.specs.Types.{type_at, unfolded, fields_at, arms_at, AreBelow, ArmsBelow, IsBelow};
 ghost use Rattle.wire_def.specs.declared.encoding.Encoding.TheVariants.{Xdr};
 ghost use Rattle.storage_class.specs.Spans.{span, fields_span, arms_span, AreSpans};
 

@@ -1,6 +1,6 @@
 // Spans, and those of wholes from those of their parts.
 ghost use Rattle.std.specs.Prelude.{◌≡◌, ◌+◌, ◌*◌};
-ghost use Rattle.storage_class.specs.Classing.{at_most, behind, either, exactly, greater_top, loose, sum_of_tops, times, top};
+ghost use Rattle.storage_class.specs.Classing.{at_most, behind, either, exactly, loose, sum_of_tops, times, top};
 
 /// What is known of a length: the length, its bound, or nothing.
 #[derive(Clone, Copy, Debug, PartialEq, Eq)]
