@@ -1,5 +1,5 @@
 -- A value is well typed or it is not; so a tree presents a value or none.
-use Rattle.std.proofs.Common.{◌≡◌, ◌⊎◌, inl, inr, ℕ, ◌<◌, ◌≤◌, ℤ, List, length, Bool, true, false, ltb, leb, int_eq, IsTrue, MatchBool, refl, Option, Some, None, arith, ◌==◌}
+use Rattle.std.proofs.Common.{◌≡◌, ◌⊎◌, inl, inr, ℕ, ◌<◌, ◌≤◌, ℤ, List, length, Bool, true, false, ltb, leb, int_eq, IsTrue, MatchBool, refl, Option, Some, None, arith}
 use Rattle.std.specs.List.{list_all}
 use Rattle.std.proofs.lemmas.Bool.{ltb-true, lt-ltb, leb-true, le-leb}
 use Rattle.mint.specs.declared.kind.Kind.{Kind}
@@ -8,8 +8,8 @@ use Rattle.mint.specs.declared.kind.Count.{Count}
 use Rattle.mint.specs.declared.kind.Count.TheVariants.{Exactly, AtMost, Any}
 use Rattle.mint.specs.Kinds.{Allows, in_range, is_letter}
 use Rattle.mint.specs.Values.{Val, void, num, row, group, items, arm, absent, present, Vals, no_more, val, count, weight}
-use Rattle.mint.specs.Types.{Scalar, Array, text, row_of, Ty, void_type, scalar_type, array_type, group_type, items_type, choice_type, maybe_type, Tys, no_fields, field, Arms, no_other, others, arm_type}
-use Rattle.mint.specs.Typed.{is_scalar, IsScalar, IsArray, IsOf, AreOf, IsOfArm, Each, IsWellTyped}
+use Rattle.mint.specs.Types.{Array, text, row_of, Ty, void_type, scalar_type, array_type, group_type, items_type, choice_type, maybe_type, Tys, no_fields, field, Arms, no_other, others, arm_type}
+use Rattle.mint.specs.Typed.{is_scalar, IsArray, IsOf, AreOf, IsOfArm, Each, IsWellTyped}
 use Rattle.pres.specs.Faces.{Face, type_of}
 use Rattle.serde_json.specs.Data.{Data}
 use Rattle.json_shape.specs.Laws.{IsPresented, ValueOrNone}

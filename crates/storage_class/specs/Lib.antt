@@ -1,0 +1,3 @@
+pub mod Classing
+pub mod Spans
+pub mod Laws

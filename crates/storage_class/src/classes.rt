@@ -1,0 +1,74 @@
+// Classes of the nodes of a table.
+ghost use Rattle.std.specs.Prelude.{◌≡◌, ◌<◌, [], ◌∷◌, ◌++◌, length, OnOk, OnErr, Some, slice_get, slice_index_or};
+ghost use Rattle.storage_class.specs.Classing.{class_of};
+
+use crate::span::Span;
+use kit_base::{Listed, NoMemory};
+use mint::table::NodeId;
+use std::alloc::Global;
+use std::marker::Model;
+
+/// How long what is sent of a type is.
+#[derive(Clone, Copy, Debug, PartialEq, Eq)]
+pub enum Class {
+    /// The length from a position, by its remainder modulo 8.
+    Fixed([u32; 8]),
+    /// The greatest length.
+    Bounded(u64),
+    /// No bound is known, or it is above 4,294,967,295.
+    Unbounded,
+}
+
+/// The spans of a table's nodes, in order.
+#[derive(Drop)]
+pub struct Classes {
+    spans: Listed<Span>,
+}
+
+impl Model for Classes {
+    ghost use Rattle.std.specs.Prelude.{List};
+    ghost use Rattle.storage_class.specs.declared.span.Span.{Span};
+
+    ghost Value = { List Span };
+
+    ghost view = { λ c. c.spans };
+}
+
+impl Classes {
+    /// Of no nodes.
+    pub(crate) fn new(alloc: Global) -> Classes
+        ensures { result ≡ [] }
+    {
+        Classes {
+            spans: Listed::new(alloc),
+        }
+    }
+
+    /// The span of a node.
+    pub(crate) fn span(&self, id: NodeId) -> Span
+        requires { id < length self.now }
+        ensures { slice_get self.now id ≡ Some result }
+    {
+        self.spans.as_slice()[id as usize]
+    }
+
+    /// Puts the span of the next node behind the others.
+    pub(crate) fn push(&mut self, span: Span) -> Result<(), NoMemory>
+        ensures ok { OnOk result (self.new ≡ self.old ++ span ∷ []) }
+        ensures err { OnErr result (self.new ≡ self.old) }
+    {
+        self.spans.push(span)
+    }
+
+    /// The class of a node. Takes no memory.
+    pub fn max(&self, id: NodeId) -> Class
+        requires { id < length self.now }
+        ensures { result ≡ class_of (slice_index_or self.now id Span.Unbounded) }
+    {
+        match self.span(id) {
+            Span::Fixed(n) => Class::Fixed([n; 8]),
+            Span::Bounded(n) => Class::Bounded(u64::from(n)),
+            Span::Unbounded => Class::Unbounded,
+        }
+    }
+}
