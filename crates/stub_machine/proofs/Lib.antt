@@ -1,0 +1,7 @@
+pub mod Filling
+pub mod Folds
+pub mod PartLaws
+pub mod Picks
+pub mod Rooms
+pub mod Running
+pub mod Whole

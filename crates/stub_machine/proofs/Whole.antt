@@ -1,0 +1,42 @@
+-- A run as a whole.
+use Rattle.std.proofs.Common.{◌≡◌, ℕ, ◌+◌, ◌<◌, List, [], ◌++◌, length, Option, None, Some, option_map, refl, sym, ap, subst, ◌∙◌, arith, length-append}
+use Rattle.std.proofs.lemmas.List.{append-nil}
+use Rattle.raw_buf.specs.Buf.{Buf}
+use Rattle.cast_stub.specs.Parts.{on_some, IsThere}
+use Rattle.cast_stub.specs.Steps.{Step, Steps}
+use Rattle.cast_stub.specs.Meaning.{wrote, costs, HasRoom, AreCovered}
+use Rattle.cast_stub.proofs.Folding.{room-more}
+use Rattle.cast_stub.proofs.Rowless.{NoRow}
+use Rattle.stub_machine.specs.Run.{state_of, ran, Runs, Ends}
+use Rattle.stub_machine.specs.Sending.{paid, most, IsLong}
+use Rattle.stub_machine.proofs.Rooms.{state, room-runs, LeadsTo, ran-leads}
+
+pub covered-runs : (x : Steps) (b : Buf) → AreCovered x (length b.done) → NoRow x → Runs x (state_of b)
+covered-runs None b h g = absurd h
+covered-runs (Some ss) b h g =
+    let none : length b.done ≡ length b.done + length {A = ℕ} [] = omega arith in
+    let room : HasRoom (length b.done + length {A = ℕ} []) (length b.front) ss = subst (λ (k : ℕ). HasRoom k (length b.front) ss) none (room-more (length b.done) 0 (length b.front) ss (omega arith) h.1) in
+    subst (λ (d : List ℕ). IsThere (ran ss (state d (length b.front) b.tally b.spent))) (append-nil b.done) (room-runs b.done [] (length b.front) b.tally b.spent ss h.0 room g)
+
+-- exactly the octets of the steps are appended, at their cost
+pub record Sent (x : Steps) (b c : Buf) : Type 0 where
+  pub done : option_map (λ o. b.done ++ o) (on_some x (wrote (length b.done) [])) ≡ Some c.done
+  pub tally : option_map (paid b.tally) (option_map costs x) ≡ Some c.tally
+  pub spent : option_map (paid b.spent) (option_map costs x) ≡ Some c.spent
+  pub long : most < length c.done → IsLong (length b.done) (on_some x (wrote (length b.done) []))
+
+sent_of : (ss : List Step) (z : Option (List ℕ)) (b c : Buf) → wrote (length b.done) [] ss ≡ z → IsThere z → ran ss (state_of b) ≡ Some (state_of c) → Sent (Some ss) b c
+sent_of ss None b c e there r = absurd there
+sent_of ss (Some w) b c e there r =
+    let whole : ran ss (state (b.done ++ []) (length b.front) b.tally b.spent) ≡ Some (state_of c) = subst (λ (d : List ℕ). ran ss (state d (length b.front) b.tally b.spent) ≡ Some (state_of c)) (sym (append-nil b.done)) r in
+    let l = ran-leads b.done [] w (length b.front) b.tally b.spent ss (state_of c) e whole in
+    record {
+      done = ap (option_map (λ o. b.done ++ o)) e ∙ ap Some (sym l.done);
+      tally = ap Some (sym l.tally);
+      spent = ap Some (sym l.spent);
+      long = λ over. subst (IsLong (length b.done)) (sym e) (omega (arith, over, ap length l.done, length-append b.done w));
+    }
+
+pub ends-sent : (x : Steps) (b c : Buf) → AreCovered x (length b.done) → Ends x (state_of b) (state_of c) → Sent x b c
+ends-sent None b c h e = absurd h
+ends-sent (Some ss) b c h e = sent_of ss (wrote (length b.done) [] ss) b c refl h.0 e

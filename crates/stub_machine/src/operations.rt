@@ -1,0 +1,337 @@
+// The operations of a send code.
+ghost use Rattle.std.specs.Prelude.{◌≡◌, ◌<◌, ◌+◌, ◌-◌, ◌^◌, ◌%◌, [], ◌∷◌, OnOk, Some, map, length, slice_index_or, drop, pos};
+ghost use Rattle.mint.specs.Values.{seen, all_seen, vals_of, num};
+ghost use Rattle.cast_stub.specs.Parts.{elements_in, on_some};
+ghost use Rattle.cast_stub.specs.Block.{Block, stop, op_seen};
+ghost use Rattle.cast_stub.specs.Steps.{Room, Patched, steps, over, code_steps, each_steps, some_steps, if_present, align_steps, row_room};
+ghost use Rattle.cast_stub.specs.Subs.{calls_of, call_steps, deepest};
+ghost use Rattle.stub_machine.specs.Run.{ended, state_of, Runs, Ends};
+
+use crate::parts::{arm_at, length_of, part, position};
+use crate::puts::run_chunk;
+use cast_stub::{Path, SendOp, SendOps, SendSubs};
+use kit_base::NoMemory;
+use mint::row::Row;
+use mint::value::{Value, Values};
+use raw_buf::SendBuf;
+use wire_def::{Head, Order};
+
+/// Runs operations on a value: their calls stand at most `calls` within one another, and they
+/// themselves less than `nested`.
+#[cycle(run)]
+#[tactic(auto, using(crate::proofs::Running::running))]
+pub fn run_block(
+    subs: &SendSubs,
+    calls: u32,
+    nested: u32,
+    code: &SendOps,
+    head: &Head,
+    value: &Value,
+    buf: &mut SendBuf,
+) -> Result<(), NoMemory>
+    requires { Runs (code_steps (calls_of subs.now head.now calls) head.now code.now (seen value.now)) (state_of buf.old) }
+    ensures { OnOk result (Ends (code_steps (calls_of subs.now head.now calls) head.now code.now (seen value.now)) (state_of buf.old) (state_of buf.new)) }
+{
+    for op in code.as_slice() {
+        run_op(subs, calls, nested, op, head, value, buf)?;
+    }
+    Ok(())
+}
+
+// Runs one operation.
+#[cycle(run)]
+#[tactic(auto, using(crate::proofs::Running::running))]
+fn run_op(
+    subs: &SendSubs,
+    calls: u32,
+    nested: u32,
+    op: &SendOp,
+    head: &Head,
+    value: &Value,
+    buf: &mut SendBuf,
+) -> Result<(), NoMemory>
+    requires { Runs (steps (calls_of subs.now head.now calls) head.now (op_seen op.now stop) (seen value.now)) (state_of buf.old) }
+    ensures { OnOk result ((r : Block) → ended (steps (calls_of subs.now head.now calls) head.now (op_seen op.now r) (seen value.now)) (state_of buf.old) ≡ ended (steps (calls_of subs.now head.now calls) head.now r (seen value.now)) (state_of buf.new)) }
+{
+    if nested == 0 {
+        return Err(NoMemory);
+    }
+    let nested = nested - 1;
+    match op {
+        SendOp::Ensure(n) => run_ensure(*n, buf),
+        SendOp::EnsureRow(path, unit, extra) => run_ensure_row(path, *unit, *extra, value, buf),
+        SendOp::Align(a) => {
+            run_align(*a, buf);
+            Ok(())
+        }
+        SendOp::Chunk(size, puts) => {
+            run_chunk(*size, puts, head, value, buf);
+            Ok(())
+        }
+        SendOp::Each(path, body) => run_each(subs, calls, nested, path, body, head, value, buf),
+        SendOp::RowCopy(_) => unreachable!(),
+        SendOp::RowSwap(_) => unreachable!(),
+        SendOp::RowWide(_, _) => unreachable!(),
+        SendOp::Switch(path, cases, other) => {
+            let Some((n, inner)) = arm_at(path, value) else {
+                unreachable!()
+            };
+            match position(cases, n) {
+                Some(i) => run_block(
+                    subs,
+                    calls,
+                    nested,
+                    &cases.as_slice()[i].1,
+                    head,
+                    inner,
+                    buf,
+                ),
+                None => match other {
+                    Some(body) => run_block(subs, calls, nested, body, head, inner, buf),
+                    None => unreachable!(),
+                },
+            }
+        }
+        SendOp::Some(path, body) => run_some(subs, calls, nested, path, body, head, value, buf),
+        SendOp::Call(k, path) => run_called(subs, calls, nested, *k, path, head, value, buf),
+        SendOp::Patch(at, sub, order) => {
+            run_patch(*at, *sub, *order, buf);
+            Ok(())
+        }
+    }
+}
+
+// Ensures so many octets.
+fn run_ensure(n: u32, buf: &mut SendBuf) -> Result<(), NoMemory>
+    ensures { OnOk result (Ends (Some (Room n ∷ [])) (state_of buf.old) (state_of buf.new)) }
+{
+    buf.ensure(n as usize)
+}
+
+// Ensures octets for a list.
+fn run_ensure_row(
+    path: &Path,
+    unit: u32,
+    extra: u32,
+    value: &Value,
+    buf: &mut SendBuf,
+) -> Result<(), NoMemory>
+    requires { Runs (row_room path.now unit extra (seen value.now)) (state_of buf.old) }
+    ensures { OnOk result (Ends (row_room path.now unit extra (seen value.now)) (state_of buf.old) (state_of buf.new)) }
+{
+    let Some(here) = part(path, value) else {
+        unreachable!()
+    };
+    let Some(n) = length_of(here) else {
+        unreachable!()
+    };
+    let Some(octets) = n.checked_mul(unit as usize) else {
+        return Err(NoMemory);
+    };
+    let Some(room) = octets.checked_add(extra as usize) else {
+        return Err(NoMemory);
+    };
+    buf.ensure(room)
+}
+
+// Appends zeros up to a multiple.
+fn run_align(a: u32, buf: &mut SendBuf)
+    requires { Runs (align_steps a) (state_of buf.old) }
+    ensures { Ends (align_steps a) (state_of buf.old) (state_of buf.new) }
+{
+    buf.align(a as usize);
+}
+
+// Stores the length so far, less a number, over four octets.
+fn run_patch(at: u32, sub: u32, order: Order, buf: &mut SendBuf)
+    requires { Runs (Some (Patched at sub order ∷ [])) (state_of buf.old) }
+    ensures { Ends (Some (Patched at sub order ∷ [])) (state_of buf.old) (state_of buf.new) }
+{
+    let length = length_less(buf.octets().len(), sub);
+    buf.patch4(at as usize, order, length);
+}
+
+// A length less a number, modulo 2^32.
+fn length_less(n: usize, sub: u32) -> u32
+    ensures { result ≡ (n + 2 ^ 32 - sub) % 2 ^ 32 }
+{
+    ((n as u128 + 4_294_967_296 - u128::from(sub)) % 4_294_967_296) as u32
+}
+
+// Runs a body on each element of the value at a path.
+#[cycle(run)]
+#[tactic(auto, using(crate::proofs::Running::running))]
+fn run_each(
+    subs: &SendSubs,
+    calls: u32,
+    nested: u32,
+    path: &Path,
+    body: &SendOps,
+    head: &Head,
+    value: &Value,
+    buf: &mut SendBuf,
+) -> Result<(), NoMemory>
+    requires { Runs (each_steps (calls_of subs.now head.now calls) head.now path.now body.now (seen value.now)) (state_of buf.old) }
+    ensures { OnOk result (Ends (each_steps (calls_of subs.now head.now calls) head.now path.now body.now (seen value.now)) (state_of buf.old) (state_of buf.new)) }
+{
+    let Some(here) = part(path, value) else {
+        unreachable!()
+    };
+    run_elements(subs, calls, nested, body, head, here, buf)
+}
+
+// Runs a body on each element.
+#[cycle(run)]
+#[tactic(auto, using(crate::proofs::Running::running))]
+fn run_elements(
+    subs: &SendSubs,
+    calls: u32,
+    nested: u32,
+    body: &SendOps,
+    head: &Head,
+    value: &Value,
+    buf: &mut SendBuf,
+) -> Result<(), NoMemory>
+    requires { Runs (on_some (elements_in (seen value.now)) (over (code_steps (calls_of subs.now head.now calls) head.now body.now))) (state_of buf.old) }
+    ensures { OnOk result (Ends (on_some (elements_in (seen value.now)) (over (code_steps (calls_of subs.now head.now calls) head.now body.now))) (state_of buf.old) (state_of buf.new)) }
+{
+    match value {
+        Value::Items(values) => run_items(subs, calls, nested, body, head, values, buf),
+        Value::Row(row) => run_numbers(subs, calls, nested, body, head, row, buf),
+        _ => unreachable!(),
+    }
+}
+
+// Runs a body on each value.
+#[cycle(run)]
+#[tactic(auto, using(crate::proofs::Running::running))]
+fn run_items(
+    subs: &SendSubs,
+    calls: u32,
+    nested: u32,
+    body: &SendOps,
+    head: &Head,
+    values: &Values,
+    buf: &mut SendBuf,
+) -> Result<(), NoMemory>
+    requires { Runs (over (code_steps (calls_of subs.now head.now calls) head.now body.now) (all_seen values.now)) (state_of buf.old) }
+    ensures { OnOk result (Ends (over (code_steps (calls_of subs.now head.now calls) head.now body.now) (all_seen values.now)) (state_of buf.old) (state_of buf.new)) }
+{
+    for value in values.as_slice() {
+        run_block(subs, calls, nested, body, head, value, buf)?;
+    }
+    Ok(())
+}
+
+// Runs a body on each number of a row.
+#[cycle(run)]
+#[tactic(auto, using(crate::proofs::Running::running))]
+fn run_numbers(
+    subs: &SendSubs,
+    calls: u32,
+    nested: u32,
+    body: &SendOps,
+    head: &Head,
+    row: &Row,
+    buf: &mut SendBuf,
+) -> Result<(), NoMemory>
+    requires { Runs (over (code_steps (calls_of subs.now head.now calls) head.now body.now) (vals_of (map num row.now.numbers))) (state_of buf.old) }
+    ensures { OnOk result (Ends (over (code_steps (calls_of subs.now head.now calls) head.now body.now) (vals_of (map num row.now.numbers))) (state_of buf.old) (state_of buf.new)) }
+{
+    for i in 0..row.len() {
+        let number = number_at(row, i);
+        run_block(subs, calls, nested, body, head, &number, buf)?;
+    }
+    Ok(())
+}
+
+// The number at a place of a row, as a value.
+#[tactic(auto, using(crate::proofs::Running::values))]
+fn number_at(row: &Row, i: usize) -> Value
+    requires { i < length row.now.numbers }
+    ensures { seen result ≡ num (slice_index_or row.now.numbers i (pos 0)) }
+{
+    match row.get(i) {
+        Some(n) => Value::Num(n),
+        None => unreachable!(),
+    }
+}
+
+// Runs a body on the value that may be there at a path.
+#[cycle(run)]
+#[tactic(auto, using(crate::proofs::Running::running))]
+fn run_some(
+    subs: &SendSubs,
+    calls: u32,
+    nested: u32,
+    path: &Path,
+    body: &SendOps,
+    head: &Head,
+    value: &Value,
+    buf: &mut SendBuf,
+) -> Result<(), NoMemory>
+    requires { Runs (some_steps (calls_of subs.now head.now calls) head.now path.now body.now (seen value.now)) (state_of buf.old) }
+    ensures { OnOk result (Ends (some_steps (calls_of subs.now head.now calls) head.now path.now body.now (seen value.now)) (state_of buf.old) (state_of buf.new)) }
+{
+    let Some(here) = part(path, value) else {
+        unreachable!()
+    };
+    run_present(subs, calls, nested, body, head, here, buf)
+}
+
+// Runs a body on the value that may be there.
+#[cycle(run)]
+#[tactic(auto, using(crate::proofs::Running::running))]
+fn run_present(
+    subs: &SendSubs,
+    calls: u32,
+    nested: u32,
+    body: &SendOps,
+    head: &Head,
+    value: &Value,
+    buf: &mut SendBuf,
+) -> Result<(), NoMemory>
+    requires { Runs (if_present (code_steps (calls_of subs.now head.now calls) head.now body.now) (seen value.now)) (state_of buf.old) }
+    ensures { OnOk result (Ends (if_present (code_steps (calls_of subs.now head.now calls) head.now body.now) (seen value.now)) (state_of buf.old) (state_of buf.new)) }
+{
+    match value {
+        Value::Opt(None) => Ok(()),
+        Value::Opt(Some(inner)) => run_block(subs, calls, nested, body, head, inner, buf),
+        _ => unreachable!(),
+    }
+}
+
+// Runs the code of a number on the value at a path.
+#[cycle(run)]
+#[tactic(auto, using(crate::proofs::Running::running))]
+fn run_called(
+    subs: &SendSubs,
+    calls: u32,
+    nested: u32,
+    k: u32,
+    path: &Path,
+    head: &Head,
+    value: &Value,
+    buf: &mut SendBuf,
+) -> Result<(), NoMemory>
+    requires { Runs (call_steps (calls_of subs.now head.now calls) k path.now (seen value.now)) (state_of buf.old) }
+    ensures { OnOk result (Ends (call_steps (calls_of subs.now head.now calls) k path.now (seen value.now)) (state_of buf.old) (state_of buf.new)) }
+{
+    if calls == 0 {
+        return Err(NoMemory);
+    }
+    let Some(here) = part(path, value) else {
+        unreachable!()
+    };
+    match subs.get(k as usize) {
+        Some(code) => run_block(subs, calls - 1, nested, code, head, here, buf),
+        None => Err(NoMemory),
+    }
+}
+
+/// How many calls may stand within one another.
+pub fn deepest_call() -> u32
+    ensures { result ≡ deepest }
+{
+    4096
+}

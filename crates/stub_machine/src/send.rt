@@ -1,0 +1,60 @@
+// A send code that is run as a whole.
+ghost use Rattle.std.specs.Prelude.{◌≡◌, ◌≤◌, ◌<◌, ◌+◌, ◌++◌, length, option_map, Some, Err, OnOk};
+ghost use Rattle.mint.specs.Values.{seen};
+ghost use Rattle.cast_stub.specs.Meaning.{meaning, cost, AreCovered};
+ghost use Rattle.cast_stub.specs.Rowless.{HasNoRow};
+ghost use Rattle.cast_stub.specs.Subs.{sent_steps};
+ghost use Rattle.stub_machine.specs.Sending.{most, paid, IsLong};
+
+use crate::operations::{deepest_call, run_block};
+use cast_stub::SendCode;
+use mint::value::Value;
+use raw_buf::SendBuf;
+use wire_def::Head;
+
+/// Why a run was refused.
+#[derive(Clone, Copy, Debug, PartialEq, Eq)]
+pub enum SendErr {
+    /// The buffer would hold more than 4,194,304 octets.
+    Long,
+    /// Memory was wanted, or operations stand too deep within one another.
+    NoMemory,
+}
+
+/// The octets that a message has at most.
+const MOST: usize = 4_194_304;
+
+/// How many operations may stand within one another, which bounds the stack.
+const NESTED: u32 = 8192;
+
+/// Appends the octets that a code means for a value, at the code's cost.
+///
+/// After a refusal the buffer has some of them, and is fit for `clear`.
+pub fn run_send(
+    code: &SendCode,
+    head: &Head,
+    value: &Value,
+    buf: &mut SendBuf,
+) -> Result<(), SendErr>
+    requires covered { AreCovered (sent_steps code.now head.now (seen value.now)) (length buf.old.done) }
+    requires no_row { HasNoRow code.now }
+    ensures done { OnOk result (option_map (λ o. buf.old.done ++ o) (meaning code.now head.now (seen value.now) (length buf.old.done)) ≡ Some buf.new.done) }
+    ensures tally { OnOk result (option_map (paid buf.old.tally) (cost code.now head.now (seen value.now)) ≡ Some buf.new.tally) }
+    ensures spent { OnOk result (option_map (paid buf.old.spent) (cost code.now head.now (seen value.now)) ≡ Some buf.new.spent) }
+    ensures short { OnOk result (length buf.new.done ≤ most) }
+    ensures long { (result ≡ Err SendErr.Long) → IsLong (length buf.old.done) (meaning code.now head.now (seen value.now) (length buf.old.done)) }
+{
+    match run_block(
+        &code.subs,
+        deepest_call(),
+        NESTED,
+        &code.ops,
+        head,
+        value,
+        buf,
+    ) {
+        Ok(()) if buf.octets().len() > MOST => Err(SendErr::Long),
+        Ok(()) => Ok(()),
+        Err(_) => Err(SendErr::NoMemory),
+    }
+}
