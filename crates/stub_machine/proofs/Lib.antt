@@ -1,5 +1,6 @@
 pub mod Filling
 pub mod Folds
+pub mod Growing
 pub mod PartLaws
 pub mod Picks
 pub mod Rooms

@@ -36,7 +36,7 @@ written-front a b octets at h =
     let e : length a + (at - length a) ≡ at = omega arith in
     ap (λ (k : ℕ). written (a ++ b) k octets) (sym e) ∙ written-behind a b octets (at - length a)
 
-four : (order : Order) (n : ℕ) → length (in_order order 4 n) ≡ 4
+pub four : (order : Order) (n : ℕ) → length (in_order order 4 n) ≡ 4
 four Big n = refl
 four Little n = refl
 

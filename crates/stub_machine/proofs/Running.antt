@@ -51,6 +51,12 @@ block_fits c h v ops i d s t left lt same r =
     let first : Runs (steps c h (op_seen (get_or ops i d) (code_seen (drop (i + 1) ops))) v) t = subst (λ (b : Block). Runs (steps c h b v) t) (code-drop ops i d lt) whole in
     subst (λ (o : SendOp). Runs (steps c h (op_seen o stop) v) t) (sym same) (op-runs c h (get_or ops i d) (code_seen (drop (i + 1) ops)) v t first)
 
+pub block_step : (c : Calls) (h : Head) (v : Val) (ops : List SendOp) (i : ℕ) (d : SendOp) (s t u : State) → Left (code_steps c h ops v) (code_steps c h (drop i ops) v) s t → i < length ops → d ≡ get_or ops i d
+    → ((r : Block) → ended (steps c h (op_seen d r) v) t ≡ ended (steps c h r v) u) → Left (code_steps c h ops v) (code_steps c h (drop (i + 1) ops) v) s u
+block_step c h v ops i d s t u left lt same e =
+    let rest = code_seen (drop (i + 1) ops) in
+    left ∙ ap (λ (b : Block). ended (steps c h b v) t) (code-drop ops i d lt) ∙ ap (λ (o : SendOp). ended (steps c h (op_seen o rest) v) t) (sym same) ∙ e rest
+
 pub items_fit : (f : Val → Steps) (vs : List Value) (i : ℕ) (d : Value) (s t : State) → Left (over f (all_seen vs)) (over f (all_seen (drop i vs))) s t → i < length vs → d ≡ get_or vs i d → Runs (over f (all_seen vs)) s → Runs (f (seen d)) t
 items_fit f vs i d s t left lt same r =
     let whole : Runs (over f (all_seen (drop i vs))) t = left-runs (over f (all_seen vs)) (over f (all_seen (drop i vs))) s t left r in

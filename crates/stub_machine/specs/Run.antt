@@ -1,5 +1,5 @@
 -- Where steps lead that are run one after the other.
-use Rattle.std.specs.Prelude.{◌≡◌, ℕ, zero, suc, ◌+◌, ◌-◌, ◌^◌, ◌%◌, max, List, [], ◌∷◌, ◌++◌, length, replicate, Option, None, Some, nat_le, if◌then◌else◌}
+use Rattle.std.specs.Prelude.{◌≡◌, ℕ, zero, suc, ◌+◌, ◌-◌, ◌^◌, ◌%◌, ◌≤◌, max, List, [], ◌∷◌, ◌++◌, length, replicate, Option, None, Some, nat_le, if◌then◌else◌}
 use Rattle.kit_base.specs.Bytes.{written}
 use Rattle.wire_def.specs.Scalars.{gap}
 use Rattle.raw_buf.specs.declared.tally.Tally.{Tally}
@@ -55,3 +55,7 @@ Runs x s = IsThere (ended x s)
 -- they lead from a state to a state
 abbrev pub Ends : Steps → State → State → Type 0
 Ends x s t = ended x s ≡ Some t
+
+-- wherever they lead from a state, there are no fewer octets than in the other
+pub record Grown (x : Steps) (s t : State) : Type 0 where
+  pub grows : (u : State) → Ends x s u → length t.done ≤ length u.done

@@ -1,11 +1,11 @@
 // The operations of a send code.
-ghost use Rattle.std.specs.Prelude.{◌≡◌, ◌<◌, ◌+◌, ◌-◌, ◌^◌, ◌%◌, [], ◌∷◌, OnOk, Some, map, length, slice_index_or, drop, pos};
+ghost use Rattle.std.specs.Prelude.{◌≡◌, ◌<◌, ◌+◌, ◌-◌, ◌^◌, ◌%◌, [], ◌∷◌, OnOk, OnErr, Some, map, length, slice_index_or, drop, pos};
 ghost use Rattle.mint.specs.Values.{seen, all_seen, vals_of, num};
 ghost use Rattle.cast_stub.specs.Parts.{elements_in, on_some};
 ghost use Rattle.cast_stub.specs.Block.{Block, stop, op_seen};
 ghost use Rattle.cast_stub.specs.Steps.{Room, Patched, steps, over, code_steps, each_steps, some_steps, if_present, align_steps, row_room};
 ghost use Rattle.cast_stub.specs.Subs.{calls_of, call_steps, deepest};
-ghost use Rattle.stub_machine.specs.Run.{ended, state_of, Runs, Ends};
+ghost use Rattle.stub_machine.specs.Run.{ended, state_of, Runs, Ends, Grown};
 
 use crate::parts::{arm_at, length_of, part, position};
 use crate::puts::run_chunk;
@@ -16,10 +16,24 @@ use mint::value::{Value, Values};
 use raw_buf::SendBuf;
 use wire_def::{Head, Order};
 
+/// The octets that a buffer has at most at the end.
+pub const MOST: usize = 4_194_304;
+
+/// A run was broken off: memory was wanted, operations stand too deep within one another, or the
+/// buffer has more octets than it may at the end.
+#[derive(Clone, Copy, Debug, PartialEq, Eq)]
+pub struct Stopped;
+
+impl From<NoMemory> for Stopped {
+    fn from(_: NoMemory) -> Stopped {
+        Stopped
+    }
+}
+
 /// Runs operations on a value: their calls stand at most `calls` within one another, and they
 /// themselves less than `nested`.
 #[cycle(run)]
-#[tactic(auto, using(crate::proofs::Running::running))]
+#[tactic(auto, using(crate::proofs::Running::running, crate::proofs::Growing::growing))]
 pub fn run_block(
     subs: &SendSubs,
     calls: u32,
@@ -28,19 +42,23 @@ pub fn run_block(
     head: &Head,
     value: &Value,
     buf: &mut SendBuf,
-) -> Result<(), NoMemory>
+) -> Result<(), Stopped>
     requires { Runs (code_steps (calls_of subs.now head.now calls) head.now code.now (seen value.now)) (state_of buf.old) }
-    ensures { OnOk result (Ends (code_steps (calls_of subs.now head.now calls) head.now code.now (seen value.now)) (state_of buf.old) (state_of buf.new)) }
+    ensures ok { OnOk result (Ends (code_steps (calls_of subs.now head.now calls) head.now code.now (seen value.now)) (state_of buf.old) (state_of buf.new)) }
+    ensures err { OnErr result (Grown (code_steps (calls_of subs.now head.now calls) head.now code.now (seen value.now)) (state_of buf.old) (state_of buf.new)) }
 {
     for op in code.as_slice() {
         run_op(subs, calls, nested, op, head, value, buf)?;
+        if buf.octets().len() > MOST {
+            return Err(Stopped);
+        }
     }
     Ok(())
 }
 
 // Runs one operation.
 #[cycle(run)]
-#[tactic(auto, using(crate::proofs::Running::running))]
+#[tactic(auto, using(crate::proofs::Running::running, crate::proofs::Growing::growing))]
 fn run_op(
     subs: &SendSubs,
     calls: u32,
@@ -49,12 +67,13 @@ fn run_op(
     head: &Head,
     value: &Value,
     buf: &mut SendBuf,
-) -> Result<(), NoMemory>
+) -> Result<(), Stopped>
     requires { Runs (steps (calls_of subs.now head.now calls) head.now (op_seen op.now stop) (seen value.now)) (state_of buf.old) }
-    ensures { OnOk result ((r : Block) → ended (steps (calls_of subs.now head.now calls) head.now (op_seen op.now r) (seen value.now)) (state_of buf.old) ≡ ended (steps (calls_of subs.now head.now calls) head.now r (seen value.now)) (state_of buf.new)) }
+    ensures ok { OnOk result ((r : Block) → ended (steps (calls_of subs.now head.now calls) head.now (op_seen op.now r) (seen value.now)) (state_of buf.old) ≡ ended (steps (calls_of subs.now head.now calls) head.now r (seen value.now)) (state_of buf.new)) }
+    ensures err { OnErr result (Grown (steps (calls_of subs.now head.now calls) head.now (op_seen op.now stop) (seen value.now)) (state_of buf.old) (state_of buf.new)) }
 {
     if nested == 0 {
-        return Err(NoMemory);
+        return Err(Stopped);
     }
     let nested = nested - 1;
     match op {
@@ -102,10 +121,12 @@ fn run_op(
 }
 
 // Ensures so many octets.
-fn run_ensure(n: u32, buf: &mut SendBuf) -> Result<(), NoMemory>
-    ensures { OnOk result (Ends (Some (Room n ∷ [])) (state_of buf.old) (state_of buf.new)) }
+fn run_ensure(n: u32, buf: &mut SendBuf) -> Result<(), Stopped>
+    ensures ok { OnOk result (Ends (Some (Room n ∷ [])) (state_of buf.old) (state_of buf.new)) }
+    ensures err { OnErr result (buf.new ≡ buf.old) }
 {
-    buf.ensure(n as usize)
+    buf.ensure(n as usize)?;
+    Ok(())
 }
 
 // Ensures octets for a list.
@@ -115,9 +136,10 @@ fn run_ensure_row(
     extra: u32,
     value: &Value,
     buf: &mut SendBuf,
-) -> Result<(), NoMemory>
+) -> Result<(), Stopped>
     requires { Runs (row_room path.now unit extra (seen value.now)) (state_of buf.old) }
-    ensures { OnOk result (Ends (row_room path.now unit extra (seen value.now)) (state_of buf.old) (state_of buf.new)) }
+    ensures ok { OnOk result (Ends (row_room path.now unit extra (seen value.now)) (state_of buf.old) (state_of buf.new)) }
+    ensures err { OnErr result (buf.new ≡ buf.old) }
 {
     let Some(here) = part(path, value) else {
         unreachable!()
@@ -126,12 +148,13 @@ fn run_ensure_row(
         unreachable!()
     };
     let Some(octets) = n.checked_mul(unit as usize) else {
-        return Err(NoMemory);
+        return Err(Stopped);
     };
     let Some(room) = octets.checked_add(extra as usize) else {
-        return Err(NoMemory);
+        return Err(Stopped);
     };
-    buf.ensure(room)
+    buf.ensure(room)?;
+    Ok(())
 }
 
 // Appends zeros up to a multiple.
@@ -160,7 +183,7 @@ fn length_less(n: usize, sub: u32) -> u32
 
 // Runs a body on each element of the value at a path.
 #[cycle(run)]
-#[tactic(auto, using(crate::proofs::Running::running))]
+#[tactic(auto, using(crate::proofs::Running::running, crate::proofs::Growing::growing))]
 fn run_each(
     subs: &SendSubs,
     calls: u32,
@@ -170,9 +193,10 @@ fn run_each(
     head: &Head,
     value: &Value,
     buf: &mut SendBuf,
-) -> Result<(), NoMemory>
+) -> Result<(), Stopped>
     requires { Runs (each_steps (calls_of subs.now head.now calls) head.now path.now body.now (seen value.now)) (state_of buf.old) }
-    ensures { OnOk result (Ends (each_steps (calls_of subs.now head.now calls) head.now path.now body.now (seen value.now)) (state_of buf.old) (state_of buf.new)) }
+    ensures ok { OnOk result (Ends (each_steps (calls_of subs.now head.now calls) head.now path.now body.now (seen value.now)) (state_of buf.old) (state_of buf.new)) }
+    ensures err { OnErr result (Grown (each_steps (calls_of subs.now head.now calls) head.now path.now body.now (seen value.now)) (state_of buf.old) (state_of buf.new)) }
 {
     let Some(here) = part(path, value) else {
         unreachable!()
@@ -182,7 +206,7 @@ fn run_each(
 
 // Runs a body on each element.
 #[cycle(run)]
-#[tactic(auto, using(crate::proofs::Running::running))]
+#[tactic(auto, using(crate::proofs::Running::running, crate::proofs::Growing::growing))]
 fn run_elements(
     subs: &SendSubs,
     calls: u32,
@@ -191,9 +215,10 @@ fn run_elements(
     head: &Head,
     value: &Value,
     buf: &mut SendBuf,
-) -> Result<(), NoMemory>
+) -> Result<(), Stopped>
     requires { Runs (on_some (elements_in (seen value.now)) (over (code_steps (calls_of subs.now head.now calls) head.now body.now))) (state_of buf.old) }
-    ensures { OnOk result (Ends (on_some (elements_in (seen value.now)) (over (code_steps (calls_of subs.now head.now calls) head.now body.now))) (state_of buf.old) (state_of buf.new)) }
+    ensures ok { OnOk result (Ends (on_some (elements_in (seen value.now)) (over (code_steps (calls_of subs.now head.now calls) head.now body.now))) (state_of buf.old) (state_of buf.new)) }
+    ensures err { OnErr result (Grown (on_some (elements_in (seen value.now)) (over (code_steps (calls_of subs.now head.now calls) head.now body.now))) (state_of buf.old) (state_of buf.new)) }
 {
     match value {
         Value::Items(values) => run_items(subs, calls, nested, body, head, values, buf),
@@ -204,7 +229,7 @@ fn run_elements(
 
 // Runs a body on each value.
 #[cycle(run)]
-#[tactic(auto, using(crate::proofs::Running::running))]
+#[tactic(auto, using(crate::proofs::Running::running, crate::proofs::Growing::growing))]
 fn run_items(
     subs: &SendSubs,
     calls: u32,
@@ -213,9 +238,10 @@ fn run_items(
     head: &Head,
     values: &Values,
     buf: &mut SendBuf,
-) -> Result<(), NoMemory>
+) -> Result<(), Stopped>
     requires { Runs (over (code_steps (calls_of subs.now head.now calls) head.now body.now) (all_seen values.now)) (state_of buf.old) }
-    ensures { OnOk result (Ends (over (code_steps (calls_of subs.now head.now calls) head.now body.now) (all_seen values.now)) (state_of buf.old) (state_of buf.new)) }
+    ensures ok { OnOk result (Ends (over (code_steps (calls_of subs.now head.now calls) head.now body.now) (all_seen values.now)) (state_of buf.old) (state_of buf.new)) }
+    ensures err { OnErr result (Grown (over (code_steps (calls_of subs.now head.now calls) head.now body.now) (all_seen values.now)) (state_of buf.old) (state_of buf.new)) }
 {
     for value in values.as_slice() {
         run_block(subs, calls, nested, body, head, value, buf)?;
@@ -225,7 +251,7 @@ fn run_items(
 
 // Runs a body on each number of a row.
 #[cycle(run)]
-#[tactic(auto, using(crate::proofs::Running::running))]
+#[tactic(auto, using(crate::proofs::Running::running, crate::proofs::Growing::growing))]
 fn run_numbers(
     subs: &SendSubs,
     calls: u32,
@@ -234,9 +260,10 @@ fn run_numbers(
     head: &Head,
     row: &Row,
     buf: &mut SendBuf,
-) -> Result<(), NoMemory>
+) -> Result<(), Stopped>
     requires { Runs (over (code_steps (calls_of subs.now head.now calls) head.now body.now) (vals_of (map num row.now.numbers))) (state_of buf.old) }
-    ensures { OnOk result (Ends (over (code_steps (calls_of subs.now head.now calls) head.now body.now) (vals_of (map num row.now.numbers))) (state_of buf.old) (state_of buf.new)) }
+    ensures ok { OnOk result (Ends (over (code_steps (calls_of subs.now head.now calls) head.now body.now) (vals_of (map num row.now.numbers))) (state_of buf.old) (state_of buf.new)) }
+    ensures err { OnErr result (Grown (over (code_steps (calls_of subs.now head.now calls) head.now body.now) (vals_of (map num row.now.numbers))) (state_of buf.old) (state_of buf.new)) }
 {
     for i in 0..row.len() {
         let number = number_at(row, i);
@@ -259,7 +286,7 @@ fn number_at(row: &Row, i: usize) -> Value
 
 // Runs a body on the value that may be there at a path.
 #[cycle(run)]
-#[tactic(auto, using(crate::proofs::Running::running))]
+#[tactic(auto, using(crate::proofs::Running::running, crate::proofs::Growing::growing))]
 fn run_some(
     subs: &SendSubs,
     calls: u32,
@@ -269,9 +296,10 @@ fn run_some(
     head: &Head,
     value: &Value,
     buf: &mut SendBuf,
-) -> Result<(), NoMemory>
+) -> Result<(), Stopped>
     requires { Runs (some_steps (calls_of subs.now head.now calls) head.now path.now body.now (seen value.now)) (state_of buf.old) }
-    ensures { OnOk result (Ends (some_steps (calls_of subs.now head.now calls) head.now path.now body.now (seen value.now)) (state_of buf.old) (state_of buf.new)) }
+    ensures ok { OnOk result (Ends (some_steps (calls_of subs.now head.now calls) head.now path.now body.now (seen value.now)) (state_of buf.old) (state_of buf.new)) }
+    ensures err { OnErr result (Grown (some_steps (calls_of subs.now head.now calls) head.now path.now body.now (seen value.now)) (state_of buf.old) (state_of buf.new)) }
 {
     let Some(here) = part(path, value) else {
         unreachable!()
@@ -281,7 +309,7 @@ fn run_some(
 
 // Runs a body on the value that may be there.
 #[cycle(run)]
-#[tactic(auto, using(crate::proofs::Running::running))]
+#[tactic(auto, using(crate::proofs::Running::running, crate::proofs::Growing::growing))]
 fn run_present(
     subs: &SendSubs,
     calls: u32,
@@ -290,9 +318,10 @@ fn run_present(
     head: &Head,
     value: &Value,
     buf: &mut SendBuf,
-) -> Result<(), NoMemory>
+) -> Result<(), Stopped>
     requires { Runs (if_present (code_steps (calls_of subs.now head.now calls) head.now body.now) (seen value.now)) (state_of buf.old) }
-    ensures { OnOk result (Ends (if_present (code_steps (calls_of subs.now head.now calls) head.now body.now) (seen value.now)) (state_of buf.old) (state_of buf.new)) }
+    ensures ok { OnOk result (Ends (if_present (code_steps (calls_of subs.now head.now calls) head.now body.now) (seen value.now)) (state_of buf.old) (state_of buf.new)) }
+    ensures err { OnErr result (Grown (if_present (code_steps (calls_of subs.now head.now calls) head.now body.now) (seen value.now)) (state_of buf.old) (state_of buf.new)) }
 {
     match value {
         Value::Opt(None) => Ok(()),
@@ -303,7 +332,7 @@ fn run_present(
 
 // Runs the code of a number on the value at a path.
 #[cycle(run)]
-#[tactic(auto, using(crate::proofs::Running::running))]
+#[tactic(auto, using(crate::proofs::Running::running, crate::proofs::Growing::growing))]
 fn run_called(
     subs: &SendSubs,
     calls: u32,
@@ -313,19 +342,20 @@ fn run_called(
     head: &Head,
     value: &Value,
     buf: &mut SendBuf,
-) -> Result<(), NoMemory>
+) -> Result<(), Stopped>
     requires { Runs (call_steps (calls_of subs.now head.now calls) k path.now (seen value.now)) (state_of buf.old) }
-    ensures { OnOk result (Ends (call_steps (calls_of subs.now head.now calls) k path.now (seen value.now)) (state_of buf.old) (state_of buf.new)) }
+    ensures ok { OnOk result (Ends (call_steps (calls_of subs.now head.now calls) k path.now (seen value.now)) (state_of buf.old) (state_of buf.new)) }
+    ensures err { OnErr result (Grown (call_steps (calls_of subs.now head.now calls) k path.now (seen value.now)) (state_of buf.old) (state_of buf.new)) }
 {
     if calls == 0 {
-        return Err(NoMemory);
+        return Err(Stopped);
     }
     let Some(here) = part(path, value) else {
         unreachable!()
     };
     match subs.get(k as usize) {
         Some(code) => run_block(subs, calls - 1, nested, code, head, here, buf),
-        None => Err(NoMemory),
+        None => Err(Stopped),
     }
 }
 

@@ -6,7 +6,7 @@ ghost use Rattle.cast_stub.specs.Rowless.{HasNoRow};
 ghost use Rattle.cast_stub.specs.Subs.{sent_steps};
 ghost use Rattle.stub_machine.specs.Sending.{most, paid, IsLong};
 
-use crate::operations::{deepest_call, run_block};
+use crate::operations::{MOST, Stopped, deepest_call, run_block};
 use cast_stub::SendCode;
 use mint::value::Value;
 use raw_buf::SendBuf;
@@ -20,9 +20,6 @@ pub enum SendErr {
     /// Memory was wanted, or operations stand too deep within one another.
     NoMemory,
 }
-
-/// The octets that a message has at most.
-const MOST: usize = 4_194_304;
 
 /// How many operations may stand within one another, which bounds the stack.
 const NESTED: u32 = 8192;
@@ -53,8 +50,8 @@ pub fn run_send(
         value,
         buf,
     ) {
-        Ok(()) if buf.octets().len() > MOST => Err(SendErr::Long),
+        _ if buf.octets().len() > MOST => Err(SendErr::Long),
         Ok(()) => Ok(()),
-        Err(_) => Err(SendErr::NoMemory),
+        Err(Stopped) => Err(SendErr::NoMemory),
     }
 }
