@@ -30,25 +30,38 @@ impl From<NoMemory> for Stopped {
     }
 }
 
-/// Runs operations on a value: their calls stand at most `calls` within one another, and they
-/// themselves less than `nested`.
+/// What a run has throughout: the codes that calls name, and the head.
+#[derive(Drop)]
+pub struct Machine<'a> {
+    pub subs: &'a SendSubs,
+    pub head: &'a Head,
+}
+
+/// How much deeper a run may go.
+#[derive(Clone, Copy, Debug, PartialEq, Eq)]
+pub struct Depth {
+    /// Calls within one another.
+    pub calls: u32,
+    /// Operations within one another.
+    pub nested: u32,
+}
+
+/// Runs operations on a value.
 #[cycle(run)]
 #[tactic(auto, using(crate::proofs::Running::running, crate::proofs::Growing::growing))]
 pub fn run_block(
-    subs: &SendSubs,
-    calls: u32,
-    nested: u32,
+    machine: &Machine<'_>,
+    depth: Depth,
     code: &SendOps,
-    head: &Head,
     value: &Value,
     buf: &mut SendBuf,
 ) -> Result<(), Stopped>
-    requires { Runs (code_steps (calls_of subs.now head.now calls) head.now code.now (seen value.now)) (state_of buf.old) }
-    ensures ok { OnOk result (Ends (code_steps (calls_of subs.now head.now calls) head.now code.now (seen value.now)) (state_of buf.old) (state_of buf.new)) }
-    ensures err { OnErr result (Grown (code_steps (calls_of subs.now head.now calls) head.now code.now (seen value.now)) (state_of buf.old) (state_of buf.new)) }
+    requires { Runs (code_steps (calls_of machine.now.subs.now machine.now.head.now depth.calls) machine.now.head.now code.now (seen value.now)) (state_of buf.old) }
+    ensures ok { OnOk result (Ends (code_steps (calls_of machine.now.subs.now machine.now.head.now depth.calls) machine.now.head.now code.now (seen value.now)) (state_of buf.old) (state_of buf.new)) }
+    ensures err { OnErr result (Grown (code_steps (calls_of machine.now.subs.now machine.now.head.now depth.calls) machine.now.head.now code.now (seen value.now)) (state_of buf.old) (state_of buf.new)) }
 {
     for op in code.as_slice() {
-        run_op(subs, calls, nested, op, head, value, buf)?;
+        run_op(machine, depth, op, value, buf)?;
         if buf.octets().len() > MOST {
             return Err(Stopped);
         }
@@ -60,22 +73,23 @@ pub fn run_block(
 #[cycle(run)]
 #[tactic(auto, using(crate::proofs::Running::running, crate::proofs::Growing::growing))]
 fn run_op(
-    subs: &SendSubs,
-    calls: u32,
-    nested: u32,
+    machine: &Machine<'_>,
+    depth: Depth,
     op: &SendOp,
-    head: &Head,
     value: &Value,
     buf: &mut SendBuf,
 ) -> Result<(), Stopped>
-    requires { Runs (steps (calls_of subs.now head.now calls) head.now (op_seen op.now stop) (seen value.now)) (state_of buf.old) }
-    ensures ok { OnOk result ((r : Block) → ended (steps (calls_of subs.now head.now calls) head.now (op_seen op.now r) (seen value.now)) (state_of buf.old) ≡ ended (steps (calls_of subs.now head.now calls) head.now r (seen value.now)) (state_of buf.new)) }
-    ensures err { OnErr result (Grown (steps (calls_of subs.now head.now calls) head.now (op_seen op.now stop) (seen value.now)) (state_of buf.old) (state_of buf.new)) }
+    requires { Runs (steps (calls_of machine.now.subs.now machine.now.head.now depth.calls) machine.now.head.now (op_seen op.now stop) (seen value.now)) (state_of buf.old) }
+    ensures ok { OnOk result ((r : Block) → ended (steps (calls_of machine.now.subs.now machine.now.head.now depth.calls) machine.now.head.now (op_seen op.now r) (seen value.now)) (state_of buf.old) ≡ ended (steps (calls_of machine.now.subs.now machine.now.head.now depth.calls) machine.now.head.now r (seen value.now)) (state_of buf.new)) }
+    ensures err { OnErr result (Grown (steps (calls_of machine.now.subs.now machine.now.head.now depth.calls) machine.now.head.now (op_seen op.now stop) (seen value.now)) (state_of buf.old) (state_of buf.new)) }
 {
-    if nested == 0 {
+    if depth.nested == 0 {
         return Err(Stopped);
     }
-    let nested = nested - 1;
+    let depth = Depth {
+        nested: depth.nested - 1,
+        ..depth
+    };
     match op {
         SendOp::Ensure(n) => run_ensure(*n, buf),
         SendOp::EnsureRow(path, unit, extra) => run_ensure_row(path, *unit, *extra, value, buf),
@@ -84,10 +98,10 @@ fn run_op(
             Ok(())
         }
         SendOp::Chunk(size, puts) => {
-            run_chunk(*size, puts, head, value, buf);
+            run_chunk(*size, puts, machine.head, value, buf);
             Ok(())
         }
-        SendOp::Each(path, body) => run_each(subs, calls, nested, path, body, head, value, buf),
+        SendOp::Each(path, body) => run_each(machine, depth, path, body, value, buf),
         SendOp::RowCopy(_) => unreachable!(),
         SendOp::RowSwap(_) => unreachable!(),
         SendOp::RowWide(_, _) => unreachable!(),
@@ -97,22 +111,20 @@ fn run_op(
             };
             match position(cases, n) {
                 Some(i) => run_block(
-                    subs,
-                    calls,
-                    nested,
+                    machine,
+                    depth,
                     &cases.as_slice()[i].1,
-                    head,
                     inner,
                     buf,
                 ),
                 None => match other {
-                    Some(body) => run_block(subs, calls, nested, body, head, inner, buf),
+                    Some(body) => run_block(machine, depth, body, inner, buf),
                     None => unreachable!(),
                 },
             }
         }
-        SendOp::Some(path, body) => run_some(subs, calls, nested, path, body, head, value, buf),
-        SendOp::Call(k, path) => run_called(subs, calls, nested, *k, path, head, value, buf),
+        SendOp::Some(path, body) => run_some(machine, depth, path, body, value, buf),
+        SendOp::Call(k, path) => run_called(machine, depth, *k, path, value, buf),
         SendOp::Patch(at, sub, order) => {
             run_patch(*at, *sub, *order, buf);
             Ok(())
@@ -185,44 +197,40 @@ fn length_less(n: usize, sub: u32) -> u32
 #[cycle(run)]
 #[tactic(auto, using(crate::proofs::Running::running, crate::proofs::Growing::growing))]
 fn run_each(
-    subs: &SendSubs,
-    calls: u32,
-    nested: u32,
+    machine: &Machine<'_>,
+    depth: Depth,
     path: &Path,
     body: &SendOps,
-    head: &Head,
     value: &Value,
     buf: &mut SendBuf,
 ) -> Result<(), Stopped>
-    requires { Runs (each_steps (calls_of subs.now head.now calls) head.now path.now body.now (seen value.now)) (state_of buf.old) }
-    ensures ok { OnOk result (Ends (each_steps (calls_of subs.now head.now calls) head.now path.now body.now (seen value.now)) (state_of buf.old) (state_of buf.new)) }
-    ensures err { OnErr result (Grown (each_steps (calls_of subs.now head.now calls) head.now path.now body.now (seen value.now)) (state_of buf.old) (state_of buf.new)) }
+    requires { Runs (each_steps (calls_of machine.now.subs.now machine.now.head.now depth.calls) machine.now.head.now path.now body.now (seen value.now)) (state_of buf.old) }
+    ensures ok { OnOk result (Ends (each_steps (calls_of machine.now.subs.now machine.now.head.now depth.calls) machine.now.head.now path.now body.now (seen value.now)) (state_of buf.old) (state_of buf.new)) }
+    ensures err { OnErr result (Grown (each_steps (calls_of machine.now.subs.now machine.now.head.now depth.calls) machine.now.head.now path.now body.now (seen value.now)) (state_of buf.old) (state_of buf.new)) }
 {
     let Some(here) = part(path, value) else {
         unreachable!()
     };
-    run_elements(subs, calls, nested, body, head, here, buf)
+    run_elements(machine, depth, body, here, buf)
 }
 
 // Runs a body on each element.
 #[cycle(run)]
 #[tactic(auto, using(crate::proofs::Running::running, crate::proofs::Growing::growing))]
 fn run_elements(
-    subs: &SendSubs,
-    calls: u32,
-    nested: u32,
+    machine: &Machine<'_>,
+    depth: Depth,
     body: &SendOps,
-    head: &Head,
     value: &Value,
     buf: &mut SendBuf,
 ) -> Result<(), Stopped>
-    requires { Runs (on_some (elements_in (seen value.now)) (over (code_steps (calls_of subs.now head.now calls) head.now body.now))) (state_of buf.old) }
-    ensures ok { OnOk result (Ends (on_some (elements_in (seen value.now)) (over (code_steps (calls_of subs.now head.now calls) head.now body.now))) (state_of buf.old) (state_of buf.new)) }
-    ensures err { OnErr result (Grown (on_some (elements_in (seen value.now)) (over (code_steps (calls_of subs.now head.now calls) head.now body.now))) (state_of buf.old) (state_of buf.new)) }
+    requires { Runs (on_some (elements_in (seen value.now)) (over (code_steps (calls_of machine.now.subs.now machine.now.head.now depth.calls) machine.now.head.now body.now))) (state_of buf.old) }
+    ensures ok { OnOk result (Ends (on_some (elements_in (seen value.now)) (over (code_steps (calls_of machine.now.subs.now machine.now.head.now depth.calls) machine.now.head.now body.now))) (state_of buf.old) (state_of buf.new)) }
+    ensures err { OnErr result (Grown (on_some (elements_in (seen value.now)) (over (code_steps (calls_of machine.now.subs.now machine.now.head.now depth.calls) machine.now.head.now body.now))) (state_of buf.old) (state_of buf.new)) }
 {
     match value {
-        Value::Items(values) => run_items(subs, calls, nested, body, head, values, buf),
-        Value::Row(row) => run_numbers(subs, calls, nested, body, head, row, buf),
+        Value::Items(values) => run_items(machine, depth, body, values, buf),
+        Value::Row(row) => run_numbers(machine, depth, body, row, buf),
         _ => unreachable!(),
     }
 }
@@ -231,20 +239,18 @@ fn run_elements(
 #[cycle(run)]
 #[tactic(auto, using(crate::proofs::Running::running, crate::proofs::Growing::growing))]
 fn run_items(
-    subs: &SendSubs,
-    calls: u32,
-    nested: u32,
+    machine: &Machine<'_>,
+    depth: Depth,
     body: &SendOps,
-    head: &Head,
     values: &Values,
     buf: &mut SendBuf,
 ) -> Result<(), Stopped>
-    requires { Runs (over (code_steps (calls_of subs.now head.now calls) head.now body.now) (all_seen values.now)) (state_of buf.old) }
-    ensures ok { OnOk result (Ends (over (code_steps (calls_of subs.now head.now calls) head.now body.now) (all_seen values.now)) (state_of buf.old) (state_of buf.new)) }
-    ensures err { OnErr result (Grown (over (code_steps (calls_of subs.now head.now calls) head.now body.now) (all_seen values.now)) (state_of buf.old) (state_of buf.new)) }
+    requires { Runs (over (code_steps (calls_of machine.now.subs.now machine.now.head.now depth.calls) machine.now.head.now body.now) (all_seen values.now)) (state_of buf.old) }
+    ensures ok { OnOk result (Ends (over (code_steps (calls_of machine.now.subs.now machine.now.head.now depth.calls) machine.now.head.now body.now) (all_seen values.now)) (state_of buf.old) (state_of buf.new)) }
+    ensures err { OnErr result (Grown (over (code_steps (calls_of machine.now.subs.now machine.now.head.now depth.calls) machine.now.head.now body.now) (all_seen values.now)) (state_of buf.old) (state_of buf.new)) }
 {
     for value in values.as_slice() {
-        run_block(subs, calls, nested, body, head, value, buf)?;
+        run_block(machine, depth, body, value, buf)?;
     }
     Ok(())
 }
@@ -253,21 +259,19 @@ fn run_items(
 #[cycle(run)]
 #[tactic(auto, using(crate::proofs::Running::running, crate::proofs::Growing::growing))]
 fn run_numbers(
-    subs: &SendSubs,
-    calls: u32,
-    nested: u32,
+    machine: &Machine<'_>,
+    depth: Depth,
     body: &SendOps,
-    head: &Head,
     row: &Row,
     buf: &mut SendBuf,
 ) -> Result<(), Stopped>
-    requires { Runs (over (code_steps (calls_of subs.now head.now calls) head.now body.now) (vals_of (map num row.now.numbers))) (state_of buf.old) }
-    ensures ok { OnOk result (Ends (over (code_steps (calls_of subs.now head.now calls) head.now body.now) (vals_of (map num row.now.numbers))) (state_of buf.old) (state_of buf.new)) }
-    ensures err { OnErr result (Grown (over (code_steps (calls_of subs.now head.now calls) head.now body.now) (vals_of (map num row.now.numbers))) (state_of buf.old) (state_of buf.new)) }
+    requires { Runs (over (code_steps (calls_of machine.now.subs.now machine.now.head.now depth.calls) machine.now.head.now body.now) (vals_of (map num row.now.numbers))) (state_of buf.old) }
+    ensures ok { OnOk result (Ends (over (code_steps (calls_of machine.now.subs.now machine.now.head.now depth.calls) machine.now.head.now body.now) (vals_of (map num row.now.numbers))) (state_of buf.old) (state_of buf.new)) }
+    ensures err { OnErr result (Grown (over (code_steps (calls_of machine.now.subs.now machine.now.head.now depth.calls) machine.now.head.now body.now) (vals_of (map num row.now.numbers))) (state_of buf.old) (state_of buf.new)) }
 {
     for i in 0..row.len() {
         let number = number_at(row, i);
-        run_block(subs, calls, nested, body, head, &number, buf)?;
+        run_block(machine, depth, body, &number, buf)?;
     }
     Ok(())
 }
@@ -288,44 +292,40 @@ fn number_at(row: &Row, i: usize) -> Value
 #[cycle(run)]
 #[tactic(auto, using(crate::proofs::Running::running, crate::proofs::Growing::growing))]
 fn run_some(
-    subs: &SendSubs,
-    calls: u32,
-    nested: u32,
+    machine: &Machine<'_>,
+    depth: Depth,
     path: &Path,
     body: &SendOps,
-    head: &Head,
     value: &Value,
     buf: &mut SendBuf,
 ) -> Result<(), Stopped>
-    requires { Runs (some_steps (calls_of subs.now head.now calls) head.now path.now body.now (seen value.now)) (state_of buf.old) }
-    ensures ok { OnOk result (Ends (some_steps (calls_of subs.now head.now calls) head.now path.now body.now (seen value.now)) (state_of buf.old) (state_of buf.new)) }
-    ensures err { OnErr result (Grown (some_steps (calls_of subs.now head.now calls) head.now path.now body.now (seen value.now)) (state_of buf.old) (state_of buf.new)) }
+    requires { Runs (some_steps (calls_of machine.now.subs.now machine.now.head.now depth.calls) machine.now.head.now path.now body.now (seen value.now)) (state_of buf.old) }
+    ensures ok { OnOk result (Ends (some_steps (calls_of machine.now.subs.now machine.now.head.now depth.calls) machine.now.head.now path.now body.now (seen value.now)) (state_of buf.old) (state_of buf.new)) }
+    ensures err { OnErr result (Grown (some_steps (calls_of machine.now.subs.now machine.now.head.now depth.calls) machine.now.head.now path.now body.now (seen value.now)) (state_of buf.old) (state_of buf.new)) }
 {
     let Some(here) = part(path, value) else {
         unreachable!()
     };
-    run_present(subs, calls, nested, body, head, here, buf)
+    run_present(machine, depth, body, here, buf)
 }
 
 // Runs a body on the value that may be there.
 #[cycle(run)]
 #[tactic(auto, using(crate::proofs::Running::running, crate::proofs::Growing::growing))]
 fn run_present(
-    subs: &SendSubs,
-    calls: u32,
-    nested: u32,
+    machine: &Machine<'_>,
+    depth: Depth,
     body: &SendOps,
-    head: &Head,
     value: &Value,
     buf: &mut SendBuf,
 ) -> Result<(), Stopped>
-    requires { Runs (if_present (code_steps (calls_of subs.now head.now calls) head.now body.now) (seen value.now)) (state_of buf.old) }
-    ensures ok { OnOk result (Ends (if_present (code_steps (calls_of subs.now head.now calls) head.now body.now) (seen value.now)) (state_of buf.old) (state_of buf.new)) }
-    ensures err { OnErr result (Grown (if_present (code_steps (calls_of subs.now head.now calls) head.now body.now) (seen value.now)) (state_of buf.old) (state_of buf.new)) }
+    requires { Runs (if_present (code_steps (calls_of machine.now.subs.now machine.now.head.now depth.calls) machine.now.head.now body.now) (seen value.now)) (state_of buf.old) }
+    ensures ok { OnOk result (Ends (if_present (code_steps (calls_of machine.now.subs.now machine.now.head.now depth.calls) machine.now.head.now body.now) (seen value.now)) (state_of buf.old) (state_of buf.new)) }
+    ensures err { OnErr result (Grown (if_present (code_steps (calls_of machine.now.subs.now machine.now.head.now depth.calls) machine.now.head.now body.now) (seen value.now)) (state_of buf.old) (state_of buf.new)) }
 {
     match value {
         Value::Opt(None) => Ok(()),
-        Value::Opt(Some(inner)) => run_block(subs, calls, nested, body, head, inner, buf),
+        Value::Opt(Some(inner)) => run_block(machine, depth, body, inner, buf),
         _ => unreachable!(),
     }
 }
@@ -334,27 +334,29 @@ fn run_present(
 #[cycle(run)]
 #[tactic(auto, using(crate::proofs::Running::running, crate::proofs::Growing::growing))]
 fn run_called(
-    subs: &SendSubs,
-    calls: u32,
-    nested: u32,
+    machine: &Machine<'_>,
+    depth: Depth,
     k: u32,
     path: &Path,
-    head: &Head,
     value: &Value,
     buf: &mut SendBuf,
 ) -> Result<(), Stopped>
-    requires { Runs (call_steps (calls_of subs.now head.now calls) k path.now (seen value.now)) (state_of buf.old) }
-    ensures ok { OnOk result (Ends (call_steps (calls_of subs.now head.now calls) k path.now (seen value.now)) (state_of buf.old) (state_of buf.new)) }
-    ensures err { OnErr result (Grown (call_steps (calls_of subs.now head.now calls) k path.now (seen value.now)) (state_of buf.old) (state_of buf.new)) }
+    requires { Runs (call_steps (calls_of machine.now.subs.now machine.now.head.now depth.calls) k path.now (seen value.now)) (state_of buf.old) }
+    ensures ok { OnOk result (Ends (call_steps (calls_of machine.now.subs.now machine.now.head.now depth.calls) k path.now (seen value.now)) (state_of buf.old) (state_of buf.new)) }
+    ensures err { OnErr result (Grown (call_steps (calls_of machine.now.subs.now machine.now.head.now depth.calls) k path.now (seen value.now)) (state_of buf.old) (state_of buf.new)) }
 {
-    if calls == 0 {
+    if depth.calls == 0 {
         return Err(Stopped);
     }
+    let deeper = Depth {
+        calls: depth.calls - 1,
+        ..depth
+    };
     let Some(here) = part(path, value) else {
         unreachable!()
     };
-    match subs.get(k as usize) {
-        Some(code) => run_block(subs, calls - 1, nested, code, head, here, buf),
+    match machine.subs.get(k as usize) {
+        Some(code) => run_block(machine, deeper, code, here, buf),
         None => Err(Stopped),
     }
 }

@@ -6,7 +6,7 @@ ghost use Rattle.cast_stub.specs.Rowless.{HasNoRow};
 ghost use Rattle.cast_stub.specs.Subs.{sent_steps};
 ghost use Rattle.stub_machine.specs.Sending.{most, paid, IsLong};
 
-use crate::operations::{MOST, Stopped, deepest_call, run_block};
+use crate::operations::{Depth, MOST, Machine, Stopped, deepest_call, run_block};
 use cast_stub::SendCode;
 use mint::value::Value;
 use raw_buf::SendBuf;
@@ -41,15 +41,15 @@ pub fn run_send(
     ensures short { OnOk result (length buf.new.done ≤ most) }
     ensures long { (result ≡ Err SendErr.Long) → IsLong (length buf.old.done) (meaning code.now head.now (seen value.now) (length buf.old.done)) }
 {
-    match run_block(
-        &code.subs,
-        deepest_call(),
-        NESTED,
-        &code.ops,
+    let machine = Machine {
+        subs: &code.subs,
         head,
-        value,
-        buf,
-    ) {
+    };
+    let depth = Depth {
+        calls: deepest_call(),
+        nested: NESTED,
+    };
+    match run_block(&machine, depth, &code.ops, value, buf) {
         _ if buf.octets().len() > MOST => Err(SendErr::Long),
         Ok(()) => Ok(()),
         Err(Stopped) => Err(SendErr::NoMemory),
