@@ -1,5 +1,5 @@
 -- One operation, element or number more.
-use Rattle.std.proofs.Common.{◌≡◌, ℕ, ℤ, pos, zero, suc, slice_get, ◌+◌, ◌<◌, ◌≤◌, List, [], ◌∷◌, ◌++◌, length, drop, get_or, map, Option, Some, None, refl, sym, ap, subst, ◌∙◌, add-one, arith, Bool, true, false, if◌then◌else◌}
+use Rattle.std.proofs.Common.{◌≡◌, ℕ, ℤ, pos, zero, suc, slice_get, option_map, ◌+◌, ◌<◌, ◌≤◌, List, [], ◌∷◌, ◌++◌, length, drop, get_or, map, Option, Some, None, refl, sym, ap, subst, ◌∙◌, add-one, arith, Bool, true, false, if◌then◌else◌}
 use Rattle.std.specs.Ordering.{int_eq}
 use Rattle.std.proofs.Math.Seq.{drop-cons}
 use Rattle.std.proofs.lemmas.List.{drop_all}
@@ -20,7 +20,7 @@ use Rattle.mint.specs.Row.{image_of}
 use Rattle.wire_def.specs.declared.head.Order.{Order}
 use Rattle.stub_machine.specs.Run.{State, ended, state_of, Runs, Ends}
 use Rattle.cast_stub.specs.Parts.{on_some, IsThere, at}
-use Rattle.cast_stub.specs.Subs.{call_steps}
+use Rattle.cast_stub.specs.Subs.{call_steps, calls_of}
 use Rattle.stub_machine.proofs.Folds.{first-ends, first-runs, op-runs}
 
 -- where a run is: what is left from here ends as the whole
@@ -117,6 +117,23 @@ pub call_runs : (c : Calls) (h : Head) (v : Val) (o : SendOp) (k : ℕ) (path : 
 call_runs c h v o k path s is r =
     first-runs (call_steps c k path v) (Some []) s (subst (λ (p : Piece). Runs (steps c h (p stop) v) s) (ap op_seen is ∙ seen-Call k path) r)
 
+-- ---- calls that are not there
+
+none_runs : (o : Option Val) (f : Val → Steps) (s : State) → ((w : Val) → f w ≡ None) → Runs (on_some o f) s → ⊥
+none_runs None f s e r = r
+none_runs (Some w) f s e r = subst (λ (x : Steps). Runs x s) (e w) r
+
+pub no_calls_left : (subs : List (List SendOp)) (h : Head) (n k : ℕ) (path : List ℕ) (v : Val) (s : State) → n ≡ 0 → Runs (call_steps (calls_of subs h n) k path v) s → ⊥
+no_calls_left subs h n k path v s e r =
+    none_runs (at path v) (calls_of subs h 0 k) s (λ w. refl) (subst (λ (m : ℕ). Runs (call_steps (calls_of subs h m) k path v) s) e r)
+
+no_sub : (subs : List (List SendOp)) (h : Head) (n k : ℕ) (w : Val) → slice_get subs k ≡ None → calls_of subs h n k w ≡ None
+no_sub subs h zero k w e = refl
+no_sub subs h (suc n) k w e = ap (λ (o : Option (List SendOp)). on_some (option_map code_seen o) (λ b. steps (calls_of subs h n) h b w)) e
+
+pub no_code : (subs : List (List SendOp)) (h : Head) (n k : ℕ) (path : List ℕ) (v : Val) (s : State) → slice_get subs k ≡ None → Runs (call_steps (calls_of subs h n) k path v) s → ⊥
+no_code subs h n k path v s e r = none_runs (at path v) (calls_of subs h n k) s (λ w. no_sub subs h n k w e) r
+
 -- ---- rows are not run
 
 never : (x : Steps) (s : State) → ended x s ≡ None → Runs (both x (Some [])) s → ⊥
@@ -145,7 +162,7 @@ pub row_wide_never : (c : Calls) (h : Head) (v : Val) (o : SendOp) (path : List 
 row_wide_never c h v o path order s is r =
     never (wide_steps path order v) s (wide_never (on_some (at path v) row_in) order s) (subst (λ (p : Piece). Runs (steps c h (p stop) v) s) (ap op_seen is ∙ seen-RowWide path order) r)
 
-pub ruleset running = (left-runs, each_runs, each_ends, some_runs, some_ends, call_runs, call_ends, row_copy_never, row_swap_never, row_wide_never)
+pub ruleset running = (left-runs, each_runs, each_ends, some_runs, some_ends, call_runs, call_ends, row_copy_never, row_swap_never, row_wide_never, no_calls_left, no_code)
 
 pub number_seen : (ns : List ℤ) (i : ℕ) (n : ℤ) → slice_get ns i ≡ Some n → seen (value.Num n) ≡ num (get_or ns i (pos 0))
 number_seen [] i n h = absurd cc

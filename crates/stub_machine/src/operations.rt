@@ -110,13 +110,7 @@ fn run_op(
                 unreachable!()
             };
             match position(cases, n) {
-                Some(i) => run_block(
-                    machine,
-                    depth,
-                    &cases.as_slice()[i].1,
-                    inner,
-                    buf,
-                ),
+                Some(i) => run_block(machine, depth, &cases.as_slice()[i].1, inner, buf),
                 None => match other {
                     Some(body) => run_block(machine, depth, body, inner, buf),
                     None => unreachable!(),
@@ -346,7 +340,7 @@ fn run_called(
     ensures err { OnErr result (Grown (call_steps (calls_of machine.now.subs.now machine.now.head.now depth.calls) k path.now (seen value.now)) (state_of buf.old) (state_of buf.new)) }
 {
     if depth.calls == 0 {
-        return Err(Stopped);
+        unreachable!()
     }
     let deeper = Depth {
         calls: depth.calls - 1,
@@ -357,7 +351,7 @@ fn run_called(
     };
     match machine.subs.get(k as usize) {
         Some(code) => run_block(machine, deeper, code, here, buf),
-        None => Err(Stopped),
+        None => unreachable!(),
     }
 }
 
