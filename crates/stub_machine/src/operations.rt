@@ -1,34 +1,21 @@
-// The operations of a send code.
-ghost use Rattle.std.specs.Prelude.{◌≡◌, ◌<◌, ◌+◌, ◌-◌, ◌^◌, ◌%◌, [], ◌∷◌, OnOk, OnErr, Some, map, length, slice_index_or, drop, pos};
+// The operations of a send code, one after the other and one within another.
+ghost use Rattle.std.specs.Prelude.{◌≡◌, ◌<◌, OnOk, OnErr, map, length, slice_index_or, pos};
 ghost use Rattle.mint.specs.Values.{seen, all_seen, vals_of, num};
 ghost use Rattle.cast_stub.specs.Parts.{elements_in, on_some};
 ghost use Rattle.cast_stub.specs.Block.{Block, stop, op_seen};
-ghost use Rattle.cast_stub.specs.Steps.{Room, Patched, steps, over, code_steps, each_steps, some_steps, if_present, align_steps, row_room};
+ghost use Rattle.cast_stub.specs.Steps.{steps, over, code_steps, each_steps, some_steps, if_present};
 ghost use Rattle.cast_stub.specs.Subs.{calls_of, call_steps, deepest};
 ghost use Rattle.stub_machine.specs.Run.{ended, state_of, Runs, Ends, Grown};
 
-use crate::parts::{arm_at, length_of, part, position};
+use crate::errors::{MOST, Stopped};
+use crate::parts::{arm_at, part, position};
 use crate::puts::run_chunk;
+use crate::single::{run_align, run_ensure, run_ensure_row, run_patch};
 use cast_stub::{Path, SendOp, SendOps, SendSubs};
-use kit_base::NoMemory;
 use mint::row::Row;
 use mint::value::{Value, Values};
 use raw_buf::SendBuf;
-use wire_def::{Head, Order};
-
-/// The octets that a buffer has at most at the end.
-pub const MOST: usize = 4_194_304;
-
-/// A run was broken off: memory was wanted, operations stand too deep within one another, or the
-/// buffer has more octets than it may at the end.
-#[derive(Clone, Copy, Debug, PartialEq, Eq)]
-pub struct Stopped;
-
-impl From<NoMemory> for Stopped {
-    fn from(_: NoMemory) -> Stopped {
-        Stopped
-    }
-}
+use wire_def::Head;
 
 /// What a run has throughout: the codes that calls name, and the head.
 #[derive(Drop)]
@@ -124,67 +111,6 @@ fn run_op(
             Ok(())
         }
     }
-}
-
-// Ensures so many octets.
-fn run_ensure(n: u32, buf: &mut SendBuf) -> Result<(), Stopped>
-    ensures ok { OnOk result (Ends (Some (Room n ∷ [])) (state_of buf.old) (state_of buf.new)) }
-    ensures err { OnErr result (buf.new ≡ buf.old) }
-{
-    buf.ensure(n as usize)?;
-    Ok(())
-}
-
-// Ensures octets for a list.
-fn run_ensure_row(
-    path: &Path,
-    unit: u32,
-    extra: u32,
-    value: &Value,
-    buf: &mut SendBuf,
-) -> Result<(), Stopped>
-    requires { Runs (row_room path.now unit extra (seen value.now)) (state_of buf.old) }
-    ensures ok { OnOk result (Ends (row_room path.now unit extra (seen value.now)) (state_of buf.old) (state_of buf.new)) }
-    ensures err { OnErr result (buf.new ≡ buf.old) }
-{
-    let Some(here) = part(path, value) else {
-        unreachable!()
-    };
-    let Some(n) = length_of(here) else {
-        unreachable!()
-    };
-    let Some(octets) = n.checked_mul(unit as usize) else {
-        return Err(Stopped);
-    };
-    let Some(room) = octets.checked_add(extra as usize) else {
-        return Err(Stopped);
-    };
-    buf.ensure(room)?;
-    Ok(())
-}
-
-// Appends zeros up to a multiple.
-fn run_align(a: u32, buf: &mut SendBuf)
-    requires { Runs (align_steps a) (state_of buf.old) }
-    ensures { Ends (align_steps a) (state_of buf.old) (state_of buf.new) }
-{
-    buf.align(a as usize);
-}
-
-// Stores the length so far, less a number, over four octets.
-fn run_patch(at: u32, sub: u32, order: Order, buf: &mut SendBuf)
-    requires { Runs (Some (Patched at sub order ∷ [])) (state_of buf.old) }
-    ensures { Ends (Some (Patched at sub order ∷ [])) (state_of buf.old) (state_of buf.new) }
-{
-    let length = length_less(buf.octets().len(), sub);
-    buf.patch4(at as usize, order, length);
-}
-
-// A length less a number, modulo 2^32.
-fn length_less(n: usize, sub: u32) -> u32
-    ensures { result ≡ (n + 2 ^ 32 - sub) % 2 ^ 32 }
-{
-    ((n as u128 + 4_294_967_296 - u128::from(sub)) % 4_294_967_296) as u32
 }
 
 // Runs a body on each element of the value at a path.

@@ -6,20 +6,12 @@ ghost use Rattle.cast_stub.specs.Rowless.{HasNoRow};
 ghost use Rattle.cast_stub.specs.Subs.{sent_steps};
 ghost use Rattle.stub_machine.specs.Sending.{most, paid, IsLong};
 
-use crate::operations::{Depth, MOST, Machine, Stopped, deepest_call, run_block};
+use crate::errors::{MOST, SendErr, Stopped};
+use crate::operations::{Depth, Machine, deepest_call, run_block};
 use cast_stub::SendCode;
 use mint::value::Value;
 use raw_buf::SendBuf;
 use wire_def::Head;
-
-/// Why a run was refused.
-#[derive(Clone, Copy, Debug, PartialEq, Eq)]
-pub enum SendErr {
-    /// The buffer would hold more than 4,194,304 octets.
-    Long,
-    /// Memory was wanted, or operations stand too deep within one another.
-    NoMemory,
-}
 
 /// How many operations may stand within one another, which bounds the stack.
 const NESTED: u32 = 8192;
