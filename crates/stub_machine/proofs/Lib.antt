@@ -1,3 +1,4 @@
+pub mod Examples
 pub mod Filling
 pub mod Folds
 pub mod Growing

@@ -145,18 +145,24 @@ fn five(alloc: Global) -> Result<SendOp, NoMemory>
     one_put(alloc, 1, Put::Const(0, octets))
 }
 
+// A body for 1, and one for every other number.
+fn switch_of(alloc: Global, one: SendOps, other: SendOps) -> Result<SendOp, NoMemory>
+    ensures { IfOk result (λ o. op_seen o ≡ switch [] (case (pos 1) (code_seen one) (default (code_seen other)))) }
+{
+    let mut cases = SendCases::new(alloc);
+    cases.push((1, one))?;
+    Ok(SendOp::Switch(Path::new(alloc), cases, Some(other)))
+}
+
 // An octet for 1, and for every other number the value in two octets.
-#[tactic(auto, using(cast_stub::proofs::Pieces::pieces))]
 fn choice(alloc: Global) -> Result<SendOp, NoMemory>
     ensures { IfOk result (λ o. op_seen o ≡ switch [] (case (pos 1) (chunk 1 (put.Const 0 (5 ∷ []) ∷ []) stop) (default (chunk 2 (put.Num 0 [] 2 order.Little ∷ []) stop)))) }
 {
     let mut one = SendOps::new(alloc);
     one.push(five(alloc)?)?;
-    let mut cases = SendCases::new(alloc);
-    cases.push((1, one))?;
     let mut other = SendOps::new(alloc);
     other.push(one_put(alloc, 2, Put::Num(0, Path::new(alloc), 2, Order::Little))?)?;
-    Ok(SendOp::Switch(Path::new(alloc), cases, Some(other)))
+    switch_of(alloc, one, other)
 }
 
 // A choice, and a word of the head behind it; the length less 4 stands at the front.
