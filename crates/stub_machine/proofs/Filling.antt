@@ -11,7 +11,7 @@ use Rattle.wire_def.specs.declared.head.Head.{Head}
 use Rattle.cast_stub.specs.declared.put.Put.{Put}
 use Rattle.cast_stub.specs.Parts.{on_some, IsThere}
 use Rattle.cast_stub.specs.Puts.{Cells, placed, put_octets, offset, put_one, put_all, full, filled}
-use Rattle.cast_stub.specs.Steps.{Step, Stored, chunk_steps}
+use Rattle.cast_stub.specs.Steps.{Stored, chunk_steps}
 use Rattle.stub_machine.specs.Run.{State, Runs, Ends, ran, state_of, stored_times}
 use Rattle.stub_machine.specs.Putting.{octets_in, Writes, Over, OverAll}
 

@@ -1,13 +1,12 @@
 -- What is done only grows.
-use Rattle.std.proofs.Common.{◌≡◌, ℕ, ℤ, pos, ◌+◌, ◌-◌, ◌<◌, ◌≤◌, List, [], ◌∷◌, ◌++◌, length, drop, get_or, map, replicate, Option, Some, None, refl, sym, ap, subst, ◌∙◌, arith, Bool, true, false, nat_le, if◌then◌else◌, length-append, Result, Ok, Err, OnErr}
+use Rattle.std.proofs.Common.{◌≡◌, ℕ, ℤ, pos, ◌+◌, ◌<◌, ◌≤◌, List, [], ◌∷◌, ◌++◌, length, drop, get_or, map, replicate, Option, Some, None, refl, sym, ap, subst, ◌∙◌, arith, Bool, true, false, nat_le, if◌then◌else◌, length-append, Result, Ok, Err, OnErr}
 use Rattle.std.proofs.lemmas.Bool.{leb-true}
 use Rattle.kit_base.specs.Bytes.{written}
 use Rattle.mint.specs.declared.value.Value.{Value}
 use Rattle.mint.specs.Values.{Val, seen, all_seen, vals_of, num}
 use Rattle.wire_def.specs.Scalars.{gap}
 use Rattle.wire_def.specs.declared.head.Head.{Head}
-use Rattle.raw_buf.specs.declared.tally.Tally.{Tally}
-use Rattle.raw_buf.specs.Buf.{Buf, in_order, moved}
+use Rattle.raw_buf.specs.Buf.{Buf}
 use Rattle.cast_stub.specs.declared.send.SendOp.{SendOp}
 use Rattle.cast_stub.specs.declared.send.SendOp.TheVariants as op
 use Rattle.cast_stub.specs.Parts.{on_some}
@@ -16,7 +15,7 @@ use Rattle.cast_stub.specs.Steps.{Step, Room, Pad, Stored, Widened, Copied, Patc
 use Rattle.cast_stub.specs.Subs.{call_steps}
 use Rattle.cast_stub.proofs.Appending.{steps-append, op-append}
 use Rattle.cast_stub.proofs.Pieces.{seen-Each, seen-Some, seen-Switch, seen-Call}
-use Rattle.stub_machine.specs.Run.{State, state_of, stored_times, appended, act, ran, ended, Ends, Grown}
+use Rattle.stub_machine.specs.Run.{State, state_of, act, ran, ended, Ends, Grown}
 use Rattle.stub_machine.proofs.Folds.{ended-both}
 use Rattle.stub_machine.proofs.Rooms.{length-written, four}
 use Rattle.stub_machine.proofs.Running.{Left, block_step, code-drop, over-drop, numbers-drop}

@@ -1,12 +1,12 @@
 -- Parts of a value, and of its tree.
-use Rattle.std.proofs.Common.{◌≡◌, ℕ, zero, suc, ◌+◌, ◌<◌, List, [], ◌∷◌, length, drop, get_or, map, Option, Some, None, option_map, slice_get, Bor, refl, sym, ap, ◌∙◌, add-one, arith}
+use Rattle.std.proofs.Common.{◌≡◌, ℕ, zero, suc, ◌+◌, ◌<◌, List, [], ◌∷◌, length, drop, get_or, Option, Some, None, option_map, slice_get, Bor, refl, sym, ap, ◌∙◌, add-one}
 use Rattle.std.specs.Option.{option_copied}
 use Rattle.std.proofs.Math.Seq.{drop-cons}
 use Rattle.mint.specs.declared.value.Value.{Value}
 use Rattle.mint.specs.declared.value.Value.TheOpen.{Value-F}
 use Rattle.mint.specs.declared.value.Value.TheVariants.{Items, rolls-Items}
 use Rattle.mint.specs.declared.value.Value.TheFolds.{fold-roll-Value}
-use Rattle.mint.specs.Values.{Val, Vals, items, seen, seen_level, all_seen, count, vals_of}
+use Rattle.mint.specs.Values.{Val, items, seen, seen_level, all_seen, count}
 use Rattle.cast_stub.specs.Parts.{on_some, field, in_group, at}
 
 pub count-all_seen : (vs : List Value) → count (all_seen vs) ≡ length vs

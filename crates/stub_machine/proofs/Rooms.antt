@@ -9,12 +9,12 @@ use Rattle.wire_def.specs.Scalars.{gap}
 use Rattle.wire_def.specs.declared.head.Order.{Order}
 use Rattle.wire_def.specs.declared.head.Order.TheVariants.{Big, Little}
 use Rattle.raw_buf.specs.declared.tally.Tally.{Tally}
-use Rattle.raw_buf.specs.Buf.{Buf, in_order, checked, moved, stored}
+use Rattle.raw_buf.specs.Buf.{in_order, checked, moved, stored}
 use Rattle.cast_stub.specs.Parts.{on_some, IsThere}
-use Rattle.cast_stub.specs.Steps.{Step, Room, Pad, Stored, Widened, Copied, Patched, Steps}
-use Rattle.cast_stub.specs.Meaning.{patched, wrote, Cost, no_cost, sum, cost_of, costs, HasRoom, AreCovered}
+use Rattle.cast_stub.specs.Steps.{Step, Room, Pad, Stored, Widened, Copied, Patched}
+use Rattle.cast_stub.specs.Meaning.{wrote, Cost, no_cost, sum, cost_of, costs, HasRoom}
 use Rattle.cast_stub.specs.Rowless.{GiveNoRow}
-use Rattle.stub_machine.specs.Run.{State, state_of, stored_times, appended, act, ran, ended, Runs, Ends}
+use Rattle.stub_machine.specs.Run.{State, stored_times, appended, ran}
 use Rattle.stub_machine.specs.Sending.{paid}
 
 abbrev pub state : List ℕ → ℕ → Tally → Tally → State

@@ -1,24 +1,21 @@
 -- One operation, element or number more.
-use Rattle.std.proofs.Common.{◌≡◌, ℕ, ℤ, pos, zero, suc, slice_get, option_map, ◌+◌, ◌<◌, ◌≤◌, List, [], ◌∷◌, ◌++◌, length, drop, get_or, map, Option, Some, None, refl, sym, ap, subst, ◌∙◌, add-one, arith, Bool, true, false, if◌then◌else◌}
-use Rattle.std.specs.Ordering.{int_eq}
+use Rattle.std.proofs.Common.{◌≡◌, ℕ, ℤ, pos, zero, suc, slice_get, option_map, ◌+◌, ◌<◌, ◌≤◌, List, [], ◌∷◌, length, drop, get_or, map, Option, Some, None, refl, sym, ap, subst, ◌∙◌, add-one, arith}
 use Rattle.std.proofs.Math.Seq.{drop-cons}
-use Rattle.std.proofs.lemmas.List.{drop_all}
 use Rattle.mint.specs.declared.value.Value.{Value}
 use Rattle.mint.specs.declared.value.Value.TheOpen.{Value-F}
 use Rattle.mint.specs.declared.value.Value.TheVariants as value
 use Rattle.mint.specs.declared.value.Value.TheFolds.{fold-roll-Value}
 use Rattle.cast_stub.proofs.Pieces.{seen-Each, seen-Some, seen-Switch, seen-Call, seen-RowCopy, seen-RowSwap, seen-RowWide}
-use Rattle.mint.specs.Values.{Val, Vals, no_more, val, num, arm, seen, seen_level, all_seen, vals_of, row_in}
-use Rattle.raw_buf.specs.Buf.{Buf}
+use Rattle.mint.specs.Values.{Val, num, seen, seen_level, all_seen, vals_of, row_in}
 use Rattle.wire_def.specs.declared.head.Head.{Head}
 use Rattle.cast_stub.specs.declared.send.SendOp.{SendOp}
 use Rattle.cast_stub.specs.declared.send.SendOp.TheVariants as op
-use Rattle.cast_stub.specs.Block.{Block, stop, Piece, op_seen, code_seen, cases_seen}
-use Rattle.cast_stub.specs.Steps.{Step, Steps, Calls, both, steps, over, code_steps, each_steps, some_steps, switch_steps, case_steps, Copied, Widened, swapped, wide, copy_steps, swap_steps, wide_steps}
+use Rattle.cast_stub.specs.Block.{Block, stop, Piece, op_seen, code_seen}
+use Rattle.cast_stub.specs.Steps.{Steps, Calls, both, steps, over, code_steps, each_steps, some_steps, switch_steps, Copied, Widened, swapped, wide, copy_steps, swap_steps, wide_steps}
 use Rattle.mint.specs.declared.kind.Kind.{Kind}
 use Rattle.mint.specs.Row.{image_of}
 use Rattle.wire_def.specs.declared.head.Order.{Order}
-use Rattle.stub_machine.specs.Run.{State, ended, state_of, Runs, Ends}
+use Rattle.stub_machine.specs.Run.{State, ended, Runs, Ends}
 use Rattle.cast_stub.specs.Parts.{on_some, IsThere, at}
 use Rattle.cast_stub.specs.Subs.{call_steps, calls_of}
 use Rattle.stub_machine.proofs.Folds.{first-ends, first-runs, op-runs}

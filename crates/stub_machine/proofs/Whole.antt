@@ -9,7 +9,7 @@ use Rattle.cast_stub.proofs.Folding.{room-more}
 use Rattle.cast_stub.proofs.Rowless.{NoRow}
 use Rattle.stub_machine.specs.Run.{State, state_of, ran, Runs, Ends, Grown}
 use Rattle.stub_machine.specs.Sending.{paid, most, IsLong}
-use Rattle.stub_machine.proofs.Rooms.{state, room-runs, LeadsTo, ran-leads}
+use Rattle.stub_machine.proofs.Rooms.{state, room-runs, ran-leads}
 
 pub covered-runs : (x : Steps) (b : Buf) → AreCovered x (length b.done) → NoRow x → Runs x (state_of b)
 covered-runs None b h g = absurd h

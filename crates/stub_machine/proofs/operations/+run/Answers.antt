@@ -1,12 +1,11 @@
-use Rattle.std.proofs.Common.{rules, ◌≡◌, ◌<◌, arith, length, sym, ap, subst, ◌∙◌, refl, List, ℤ, Option, OnOk, OnErr}
-use Rattle.mint.specs.Values.{seen, all_seen, vals_of, num, Val, arm}
+use Rattle.std.proofs.Common.{◌<◌, arith, length, sym, subst, List, OnOk, OnErr}
+use Rattle.mint.specs.Values.{seen, all_seen, Val}
 use Rattle.mint.specs.declared.value.Value.{Value}
 use Rattle.cast_stub.specs.declared.send.SendOp.{SendOp}
-use Rattle.cast_stub.specs.Steps.{Steps, code_steps, over, case_steps}
+use Rattle.cast_stub.specs.Steps.{Steps, code_steps, over}
 use Rattle.stub_machine.specs.Run.{state_of, Runs, Ends}
-use Rattle.cast_stub.specs.Block.{cases_seen}
 use Rattle.cast_stub.specs.Subs.{calls_of}
-use Rattle.stub_machine.proofs.Running.{Left, block_fits, block_step, items_fit, items_step, numbers_fit, numbers_step, each_ends, call_ends, switch_ends, switch_runs}
+use Rattle.stub_machine.proofs.Running.{block_fits, block_step, items_fit, items_step, numbers_fit, numbers_step, call_ends, switch_ends, switch_runs}
 use Rattle.stub_machine.proofs.Growing.{block_broken, block_grown, items_grown, numbers_grown, each_grown, switch_grown, err_map, on_err}
 use Rattle.stub_machine.specs.Run.{Grown}
 use Rattle.stub_machine.proofs.Picks.{picked_body, default_steps, nothing_steps, ok_map}

@@ -1,9 +1,9 @@
 use Rattle.std.proofs.Common.{drop, map}
-use Rattle.mint.specs.Values.{seen, all_seen, vals_of, num, arm}
+use Rattle.mint.specs.Values.{seen, all_seen, vals_of, num}
 use Rattle.cast_stub.specs.Subs.{calls_of}
-use Rattle.cast_stub.specs.Steps.{code_steps, over, case_steps}
+use Rattle.cast_stub.specs.Steps.{code_steps, over}
 use Rattle.stub_machine.specs.Run.{state_of}
-use Rattle.std.proofs.Common.{◌≡◌, ◌+◌, ◌*◌}
+use Rattle.std.proofs.Common.{◌+◌, ◌*◌}
 use Rattle.stub_machine.proofs.Running.{Left}
 use Rattle.stub_machine.proofs.operations.+run.Given as goal
 

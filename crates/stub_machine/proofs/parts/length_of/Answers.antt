@@ -1,5 +1,5 @@
-use Rattle.std.proofs.Common.{rules, ◌≡◌, Some, ap, sym, ◌∙◌}
-use Rattle.mint.specs.Values.{seen, all_seen, items}
+use Rattle.std.proofs.Common.{Some, ap, sym, ◌∙◌}
+use Rattle.mint.specs.Values.{seen}
 use Rattle.cast_stub.specs.Parts.{length_in}
 use Rattle.stub_machine.proofs.PartLaws.{count-all_seen, seen-Items}
 use Rattle.stub_machine.proofs.parts.length_of.Goals as goal

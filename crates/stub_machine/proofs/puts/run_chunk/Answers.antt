@@ -1,4 +1,4 @@
-use Rattle.std.proofs.Common.{◌≡◌, arith, length, ap, subst, ◌<◌, ◌≤◌, IsTrue}
+use Rattle.std.proofs.Common.{arith}
 use Rattle.mint.specs.Values.{seen}
 use Rattle.stub_machine.specs.Run.{state_of}
 use Rattle.stub_machine.proofs.Filling.{chunk-runs, chunk-ends}

@@ -1,9 +1,9 @@
-use Rattle.std.proofs.Common.{◌≡◌, arith, length, ap, subst, sym, ◌<◌, ◌≤◌, List, Option, ℕ, None, replicate}
+use Rattle.std.proofs.Common.{subst, sym, List, None, replicate}
 use Rattle.mint.specs.Values.{seen}
 use Rattle.cast_stub.specs.declared.put.Put.{Put}
 use Rattle.cast_stub.specs.Parts.{IsThere}
 use Rattle.cast_stub.specs.Puts.{put_all}
-use Rattle.stub_machine.proofs.Filling.{PutsLeft, puts_start, puts_fit, puts_step, puts_end}
+use Rattle.stub_machine.proofs.Filling.{puts_start, puts_fit, puts_step, puts_end}
 use Rattle.stub_machine.proofs.puts.run_puts.Goals as goal
 
 pub loop-put-init : goal.loop-put-init

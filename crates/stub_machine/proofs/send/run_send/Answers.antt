@@ -1,7 +1,7 @@
-use Rattle.std.proofs.Common.{◌≡◌, OnOk, OnErr, ◌+◌, ◌<◌, ◌≤◌, ℕ, length, arith, ap, subst, sym}
+use Rattle.std.proofs.Common.{OnOk, OnErr, ℕ, length, arith, ap, subst, sym}
 use Rattle.mint.specs.Values.{seen}
 use Rattle.cast_stub.specs.Steps.{code_steps}
-use Rattle.cast_stub.specs.Subs.{calls_of, deepest, sent_steps}
+use Rattle.cast_stub.specs.Subs.{calls_of, sent_steps}
 use Rattle.cast_stub.proofs.Rowless.{rowless-sent}
 use Rattle.stub_machine.specs.Run.{state_of, Runs, Ends, Grown}
 use Rattle.stub_machine.proofs.Whole.{covered-runs, ends-sent, broken-long}
