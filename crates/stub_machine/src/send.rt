@@ -13,8 +13,9 @@ use mint::value::Value;
 use raw_buf::SendBuf;
 use wire_def::Head;
 
-/// How many operations may stand within one another, which bounds the stack.
-const NESTED: u32 = 8192;
+/// How many operations may stand within one another, which bounds the stack: 4,096 calls, and
+/// bodies besides.
+const NESTED: u32 = 4224;
 
 /// Appends the octets that a code means for a value, at the code's cost.
 ///
