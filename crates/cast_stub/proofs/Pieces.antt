@@ -44,3 +44,5 @@ seen-Call k path = ap op_seen (sym (op.rolls-Call k path)) ∙ fold-roll-SendOp 
 
 pub seen-Patch : (at sub : ℕ) (order : Order) → op_seen (op.Patch at sub order) ≡ patch at sub order
 seen-Patch at sub order = ap op_seen (sym (op.rolls-Patch at sub order)) ∙ fold-roll-SendOp Piece piece_level (SendOp-F.Patch at sub order)
+
+pub ruleset pieces = (seen-Ensure, seen-EnsureRow, seen-Align, seen-Chunk, seen-RowCopy, seen-RowSwap, seen-RowWide, seen-Each, seen-Switch, seen-Some, seen-Call, seen-Patch)

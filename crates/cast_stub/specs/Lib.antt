@@ -5,5 +5,6 @@ pub mod Laws
 pub mod Meaning
 pub mod Parts
 pub mod Puts
+pub mod Rowless
 pub mod Steps
 pub mod Subs

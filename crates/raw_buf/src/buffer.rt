@@ -1,6 +1,7 @@
 // The buffer.
-ghost use Rattle.std.specs.Prelude.{◌≡◌, ◌<◌, ◌≤◌, ◌+◌, ◌-◌, ◌^◌, List, ℕ, [], ◌++◌, length, take, drop, OnOk, OnErr, IfOk};
+ghost use Rattle.std.specs.Prelude.{◌≡◌, ◌<◌, ◌≤◌, ◌+◌, ◌-◌, ◌^◌, List, ℕ, [], ◌++◌, length, take, drop, replicate, OnOk, OnErr, IfOk};
 ghost use Rattle.kit_base.specs.Bytes.{written};
+ghost use Rattle.wire_def.specs.Scalars.{gap};
 ghost use Rattle.raw_buf.specs.Buf.{Ensures, IsWidth, in_order, moved, stored, checked, none};
 
 use crate::Tally;
@@ -104,10 +105,8 @@ impl SendBuf {
         ensures tally { self.new.tally ≡ stored self.old.tally }
         ensures spent { self.new.spent ≡ stored self.old.spent }
     {
-        let start = self.len + off;
-        write_at(&mut self.memory, start, octets);
-        self.tally.stores = self.tally.stores.saturating_add(1);
-        self.spent.stores = self.spent.stores.saturating_add(1);
+        self.store(off, octets);
+        self.count_store();
     }
 
     /// Moves the first n octets of the space to those that are done.
@@ -122,6 +121,35 @@ impl SendBuf {
         self.ahead -= n;
         self.tally.moves = self.tally.moves.saturating_add(1);
         self.spent.moves = self.spent.moves.saturating_add(1);
+    }
+
+    /// Appends zeros up to a multiple of a.
+    pub fn align(&mut self, a: usize)
+        requires width { IsWidth a }
+        requires within { gap (length self.old.done) a ≤ length self.old.front }
+        ensures done { self.new.done ≡ self.old.done ++ replicate (gap (length self.old.done) a) 0 }
+        ensures front { self.new.front ≡ drop (gap (length self.old.done) a) self.old.front }
+        ensures tally { self.new.tally ≡ moved self.old.tally }
+        ensures spent { self.new.spent ≡ moved self.old.spent }
+    {
+        let count = (a - self.octets().len() % a) % a;
+        self.store_zeros(count);
+        self.advance(count);
+    }
+
+    /// Stores a number of 32 bits over octets that are done.
+    pub fn patch4(&mut self, at: usize, order: Order, v: u32)
+        requires within { at + 4 ≤ length self.old.done }
+        ensures done { self.new.done ≡ written self.old.done at (in_order order 4 v) }
+        ensures front { self.new.front ≡ self.old.front }
+        ensures tally { self.new.tally ≡ stored self.old.tally }
+        ensures spent { self.new.spent ≡ stored self.old.spent }
+    {
+        match order {
+            Order::Big => self.overwrite(at, &v.to_be_bytes()),
+            Order::Little => self.overwrite(at, &v.to_le_bytes()),
+        }
+        self.count_store();
     }
 
     /// The octets so far.
@@ -152,6 +180,49 @@ impl SendBuf {
         self.len = 0;
         self.ahead = 0;
         self.tally = NOTHING;
+    }
+
+    fn store(&mut self, off: usize, octets: &[u8])
+        requires { off + length octets.now ≤ length self.old.front }
+        ensures done { self.new.done ≡ self.old.done }
+        ensures front { self.new.front ≡ written self.old.front off octets.now }
+        ensures tally { self.new.tally ≡ self.old.tally }
+        ensures spent { self.new.spent ≡ self.old.spent }
+    {
+        let start = self.len + off;
+        write_at(&mut self.memory, start, octets);
+    }
+
+    fn store_zeros(&mut self, count: usize)
+        requires within { count ≤ length self.old.front }
+        requires few { count < 8 }
+        ensures done { self.new.done ≡ self.old.done }
+        ensures front { self.new.front ≡ replicate count 0 ++ drop count self.old.front }
+        ensures tally { self.new.tally ≡ self.old.tally }
+        ensures spent { self.new.spent ≡ self.old.spent }
+    {
+        let zeros = [0u8; 8];
+        self.store(0, &zeros[..count]);
+    }
+
+    fn overwrite(&mut self, at: usize, octets: &[u8])
+        requires { at + length octets.now ≤ length self.old.done }
+        ensures done { self.new.done ≡ written self.old.done at octets.now }
+        ensures front { self.new.front ≡ self.old.front }
+        ensures tally { self.new.tally ≡ self.old.tally }
+        ensures spent { self.new.spent ≡ self.old.spent }
+    {
+        write_at(&mut self.memory, at, octets);
+    }
+
+    fn count_store(&mut self)
+        ensures done { self.new.done ≡ self.old.done }
+        ensures front { self.new.front ≡ self.old.front }
+        ensures tally { self.new.tally ≡ stored self.old.tally }
+        ensures spent { self.new.spent ≡ stored self.old.spent }
+    {
+        self.tally.stores = self.tally.stores.saturating_add(1);
+        self.spent.stores = self.spent.stores.saturating_add(1);
     }
 }
 

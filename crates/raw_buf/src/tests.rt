@@ -44,3 +44,38 @@ fn a_view_begins_at_the_first_octet(rt: HostRuntime) -> Result<(), Fail> {
     assert_eq!(rt; view.rest(), b"\x01\x02\x03".as_slice());
     Ok(())
 }
+
+#[test]
+fn gaps_are_filled_with_zeros(rt: HostRuntime) -> Result<(), Fail> {
+    let mut buf = SendBuf::new(rt.alloc())?;
+    buf.ensure(8)?;
+    buf.put(0, 4, Order::Big, 0xffff_ffff);
+    buf.align(4);
+    buf.advance(1);
+    buf.align(2);
+    buf.align(4);
+    assert_eq!(rt; buf.octets(), b"\xff\x00\x00\x00".as_slice());
+    let cost = Tally {
+        checks: 1,
+        moves: 4,
+        stores: 1,
+        rows: 0,
+    };
+    assert_eq!(rt; buf.tally(), cost);
+    assert_eq!(rt; buf.spent(), cost);
+    Ok(())
+}
+
+#[test]
+fn octets_that_are_done_are_patched(rt: HostRuntime) -> Result<(), Fail> {
+    let mut buf = SendBuf::new(rt.alloc())?;
+    buf.ensure(6)?;
+    buf.put_const(0, b"abcdef");
+    buf.advance(6);
+    buf.patch4(1, Order::Big, 0x0102_0304);
+    assert_eq!(rt; buf.octets(), b"a\x01\x02\x03\x04f".as_slice());
+    buf.patch4(2, Order::Little, 5);
+    assert_eq!(rt; buf.octets(), b"a\x01\x05\x00\x00\x00".as_slice());
+    assert_eq!(rt; buf.tally().stores, 3);
+    Ok(())
+}

@@ -1,0 +1,174 @@
+-- One operation, element or number more.
+use Rattle.std.proofs.Common.{◌≡◌, ℕ, ℤ, pos, zero, suc, slice_get, option_map, ◌+◌, ◌<◌, ◌≤◌, List, [], ◌∷◌, length, drop, get_or, map, Option, Some, None, refl, sym, ap, subst, ◌∙◌, add-one, arith}
+use Rattle.std.proofs.Math.Seq.{drop-cons}
+use Rattle.mint.specs.declared.value.Value.{Value}
+use Rattle.mint.specs.declared.value.Value.TheOpen.{Value-F}
+use Rattle.mint.specs.declared.value.Value.TheVariants as value
+use Rattle.mint.specs.declared.value.Value.TheFolds.{fold-roll-Value}
+use Rattle.cast_stub.proofs.Pieces.{seen-Each, seen-Some, seen-Switch, seen-Call, seen-RowCopy, seen-RowSwap, seen-RowWide}
+use Rattle.mint.specs.Values.{Val, num, seen, seen_level, all_seen, vals_of, row_in}
+use Rattle.wire_def.specs.declared.head.Head.{Head}
+use Rattle.cast_stub.specs.declared.send.SendOp.{SendOp}
+use Rattle.cast_stub.specs.declared.send.SendOp.TheVariants as op
+use Rattle.cast_stub.specs.Block.{Block, stop, Piece, op_seen, code_seen}
+use Rattle.cast_stub.specs.Steps.{Steps, Calls, both, steps, over, code_steps, each_steps, some_steps, switch_steps, Copied, Widened, swapped, wide, copy_steps, swap_steps, wide_steps}
+use Rattle.mint.specs.declared.kind.Kind.{Kind}
+use Rattle.mint.specs.Row.{image_of}
+use Rattle.wire_def.specs.declared.head.Order.{Order}
+use Rattle.stub_machine.specs.Run.{State, ended, Runs, Ends}
+use Rattle.cast_stub.specs.Parts.{on_some, IsThere, at}
+use Rattle.cast_stub.specs.Subs.{call_steps, calls_of}
+use Rattle.stub_machine.proofs.Folds.{first-ends, first-runs, op-runs}
+
+-- where a run is: what is left from here ends as the whole
+abbrev pub Left : Steps → Steps → State → State → Type 0
+Left all left s t = ended all s ≡ ended left t
+
+pub left-runs : (all left : Steps) (s t : State) → Left all left s t → Runs all s → Runs left t
+left-runs all left s t e r = subst IsThere e r
+
+-- ---- operations
+
+pub code-drop : (ops : List SendOp) (i : ℕ) (d : SendOp) → i < length ops → code_seen (drop i ops) ≡ op_seen (get_or ops i d) (code_seen (drop (i + 1) ops))
+code-drop ops i d h = rw (add-one, drop-cons ops i d) refl
+
+-- ---- elements
+
+pub over-drop : (f : Val → Steps) (vs : List Value) (i : ℕ) (d : Value) → i < length vs → over f (all_seen (drop i vs)) ≡ both (f (seen (get_or vs i d))) (over f (all_seen (drop (i + 1) vs)))
+over-drop f vs i d h = rw (add-one, drop-cons vs i d) refl
+
+pub numbers-drop : (f : Val → Steps) (ns : List ℤ) (i : ℕ) (d : ℤ) → i < length ns → over f (vals_of (map num (drop i ns))) ≡ both (f (num (get_or ns i d))) (over f (vals_of (map num (drop (i + 1) ns))))
+numbers-drop f ns i d h = rw (add-one, drop-cons ns i d) refl
+
+-- ---- steps of the loops
+
+pub block_fits : (c : Calls) (h : Head) (v : Val) (ops : List SendOp) (i : ℕ) (d : SendOp) (s t : State) → Left (code_steps c h ops v) (code_steps c h (drop i ops) v) s t → i < length ops → d ≡ get_or ops i d → Runs (code_steps c h ops v) s → Runs (steps c h (op_seen d stop) v) t
+block_fits c h v ops i d s t left lt same r =
+    let whole : Runs (code_steps c h (drop i ops) v) t = left-runs (code_steps c h ops v) (code_steps c h (drop i ops) v) s t left r in
+    let first : Runs (steps c h (op_seen (get_or ops i d) (code_seen (drop (i + 1) ops))) v) t = subst (λ (b : Block). Runs (steps c h b v) t) (code-drop ops i d lt) whole in
+    subst (λ (o : SendOp). Runs (steps c h (op_seen o stop) v) t) (sym same) (op-runs c h (get_or ops i d) (code_seen (drop (i + 1) ops)) v t first)
+
+pub block_step : (c : Calls) (h : Head) (v : Val) (ops : List SendOp) (i : ℕ) (d : SendOp) (s t u : State) → Left (code_steps c h ops v) (code_steps c h (drop i ops) v) s t → i < length ops → d ≡ get_or ops i d
+    → ((r : Block) → ended (steps c h (op_seen d r) v) t ≡ ended (steps c h r v) u) → Left (code_steps c h ops v) (code_steps c h (drop (i + 1) ops) v) s u
+block_step c h v ops i d s t u left lt same e =
+    let rest = code_seen (drop (i + 1) ops) in
+    left ∙ ap (λ (b : Block). ended (steps c h b v) t) (code-drop ops i d lt) ∙ ap (λ (o : SendOp). ended (steps c h (op_seen o rest) v) t) (sym same) ∙ e rest
+
+pub items_fit : (f : Val → Steps) (vs : List Value) (i : ℕ) (d : Value) (s t : State) → Left (over f (all_seen vs)) (over f (all_seen (drop i vs))) s t → i < length vs → d ≡ get_or vs i d → Runs (over f (all_seen vs)) s → Runs (f (seen d)) t
+items_fit f vs i d s t left lt same r =
+    let whole : Runs (over f (all_seen (drop i vs))) t = left-runs (over f (all_seen vs)) (over f (all_seen (drop i vs))) s t left r in
+    let first : Runs (f (seen (get_or vs i d))) t = first-runs (f (seen (get_or vs i d))) (over f (all_seen (drop (i + 1) vs))) t (subst (λ (x : Steps). Runs x t) (over-drop f vs i d lt) whole) in
+    subst (λ (o : Value). Runs (f (seen o)) t) (sym same) first
+
+pub items_step : (f : Val → Steps) (vs : List Value) (i : ℕ) (d : Value) (s t u : State) → Left (over f (all_seen vs)) (over f (all_seen (drop i vs))) s t → i < length vs → d ≡ get_or vs i d → Ends (f (seen d)) t u
+    → Left (over f (all_seen vs)) (over f (all_seen (drop (i + 1) vs))) s u
+items_step f vs i d s t u left lt same e =
+    left ∙ ap (λ (x : Steps). ended x t) (over-drop f vs i d lt)
+    ∙ first-ends (f (seen (get_or vs i d))) (over f (all_seen (drop (i + 1) vs))) t u (subst (λ (o : Value). Ends (f (seen o)) t u) same e)
+
+pub numbers_fit : (f : Val → Steps) (ns : List ℤ) (i : ℕ) (s t : State) → Left (over f (vals_of (map num ns))) (over f (vals_of (map num (drop i ns)))) s t → i < length ns → Runs (over f (vals_of (map num ns))) s → Runs (f (num (get_or ns i (pos 0)))) t
+numbers_fit f ns i s t left lt r =
+    let whole : Runs (over f (vals_of (map num (drop i ns)))) t = left-runs (over f (vals_of (map num ns))) (over f (vals_of (map num (drop i ns)))) s t left r in
+    first-runs (f (num (get_or ns i (pos 0)))) (over f (vals_of (map num (drop (i + 1) ns)))) t (subst (λ (x : Steps). Runs x t) (numbers-drop f ns i (pos 0) lt) whole)
+
+pub numbers_step : (f : Val → Steps) (ns : List ℤ) (i : ℕ) (s t u : State) → Left (over f (vals_of (map num ns))) (over f (vals_of (map num (drop i ns)))) s t → i < length ns → Ends (f (num (get_or ns i (pos 0)))) t u
+    → Left (over f (vals_of (map num ns))) (over f (vals_of (map num (drop (i + 1) ns)))) s u
+numbers_step f ns i s t u left lt e =
+    left ∙ ap (λ (x : Steps). ended x t) (numbers-drop f ns i (pos 0) lt)
+    ∙ first-ends (f (num (get_or ns i (pos 0)))) (over f (vals_of (map num (drop (i + 1) ns)))) t u e
+
+-- ---- operations by cases
+
+pub each_ends : (c : Calls) (h : Head) (v : Val) (o : SendOp) (path : List ℕ) (body : List SendOp) (s t : State) → o ≡ op.Each path body → Ends (each_steps c h path body v) s t → (r : Block) → ended (steps c h (op_seen o r) v) s ≡ ended (steps c h r v) t
+each_ends c h v o path body s t is e r =
+    ap (λ (p : Piece). ended (steps c h (p r) v) s) (ap op_seen is ∙ seen-Each path body) ∙ first-ends (each_steps c h path body v) (steps c h r v) s t e
+
+pub each_runs : (c : Calls) (h : Head) (v : Val) (o : SendOp) (path : List ℕ) (body : List SendOp) (s : State) → o ≡ op.Each path body → Runs (steps c h (op_seen o stop) v) s → Runs (each_steps c h path body v) s
+each_runs c h v o path body s is r =
+    first-runs (each_steps c h path body v) (Some []) s (subst (λ (p : Piece). Runs (steps c h (p stop) v) s) (ap op_seen is ∙ seen-Each path body) r)
+
+pub seen-Num : (n : ℤ) → seen (value.Num n) ≡ num n
+seen-Num n = ap seen (sym (value.rolls-Num n)) ∙ fold-roll-Value Val seen_level (Value-F.Num n)
+
+pub some_ends : (c : Calls) (h : Head) (v : Val) (o : SendOp) (path : List ℕ) (body : List SendOp) (s t : State) → o ≡ op.Some path body → Ends (some_steps c h path body v) s t → (r : Block) → ended (steps c h (op_seen o r) v) s ≡ ended (steps c h r v) t
+some_ends c h v o path body s t is e r =
+    ap (λ (p : Piece). ended (steps c h (p r) v) s) (ap op_seen is ∙ seen-Some path body) ∙ first-ends (some_steps c h path body v) (steps c h r v) s t e
+
+pub some_runs : (c : Calls) (h : Head) (v : Val) (o : SendOp) (path : List ℕ) (body : List SendOp) (s : State) → o ≡ op.Some path body → Runs (steps c h (op_seen o stop) v) s → Runs (some_steps c h path body v) s
+some_runs c h v o path body s is r =
+    first-runs (some_steps c h path body v) (Some []) s (subst (λ (p : Piece). Runs (steps c h (p stop) v) s) (ap op_seen is ∙ seen-Some path body) r)
+
+pub switch_ends : (c : Calls) (h : Head) (v : Val) (o : SendOp) (path : List ℕ) (cases : List (ℤ × List SendOp)) (other : Option (List SendOp)) (s t : State) → o ≡ op.Switch path cases other → Ends (switch_steps c h path cases other v) s t → (r : Block) → ended (steps c h (op_seen o r) v) s ≡ ended (steps c h r v) t
+switch_ends c h v o path cases other s t is e r =
+    ap (λ (p : Piece). ended (steps c h (p r) v) s) (ap op_seen is ∙ seen-Switch path cases other) ∙ first-ends (switch_steps c h path cases other v) (steps c h r v) s t e
+
+pub switch_runs : (c : Calls) (h : Head) (v : Val) (o : SendOp) (path : List ℕ) (cases : List (ℤ × List SendOp)) (other : Option (List SendOp)) (s : State) → o ≡ op.Switch path cases other → Runs (steps c h (op_seen o stop) v) s → Runs (switch_steps c h path cases other v) s
+switch_runs c h v o path cases other s is r =
+    first-runs (switch_steps c h path cases other v) (Some []) s (subst (λ (p : Piece). Runs (steps c h (p stop) v) s) (ap op_seen is ∙ seen-Switch path cases other) r)
+
+pub call_ends : (c : Calls) (h : Head) (v : Val) (o : SendOp) (k : ℕ) (path : List ℕ) (s t : State) → o ≡ op.Call k path → Ends (call_steps c k path v) s t → (r : Block) → ended (steps c h (op_seen o r) v) s ≡ ended (steps c h r v) t
+call_ends c h v o k path s t is e r =
+    ap (λ (p : Piece). ended (steps c h (p r) v) s) (ap op_seen is ∙ seen-Call k path) ∙ first-ends (call_steps c k path v) (steps c h r v) s t e
+
+pub call_runs : (c : Calls) (h : Head) (v : Val) (o : SendOp) (k : ℕ) (path : List ℕ) (s : State) → o ≡ op.Call k path → Runs (steps c h (op_seen o stop) v) s → Runs (call_steps c k path v) s
+call_runs c h v o k path s is r =
+    first-runs (call_steps c k path v) (Some []) s (subst (λ (p : Piece). Runs (steps c h (p stop) v) s) (ap op_seen is ∙ seen-Call k path) r)
+
+-- ---- calls that are not there
+
+none_runs : (o : Option Val) (f : Val → Steps) (s : State) → ((w : Val) → f w ≡ None) → Runs (on_some o f) s → ⊥
+none_runs None f s e r = r
+none_runs (Some w) f s e r = subst (λ (x : Steps). Runs x s) (e w) r
+
+pub no_calls_left : (subs : List (List SendOp)) (h : Head) (n k : ℕ) (path : List ℕ) (v : Val) (s : State) → n ≡ 0 → Runs (call_steps (calls_of subs h n) k path v) s → ⊥
+no_calls_left subs h n k path v s e r =
+    none_runs (at path v) (calls_of subs h 0 k) s (λ w. refl) (subst (λ (m : ℕ). Runs (call_steps (calls_of subs h m) k path v) s) e r)
+
+no_sub : (subs : List (List SendOp)) (h : Head) (n k : ℕ) (w : Val) → slice_get subs k ≡ None → calls_of subs h n k w ≡ None
+no_sub subs h zero k w e = refl
+no_sub subs h (suc n) k w e = ap (λ (o : Option (List SendOp)). on_some (option_map code_seen o) (λ b. steps (calls_of subs h n) h b w)) e
+
+pub no_code : (subs : List (List SendOp)) (h : Head) (n k : ℕ) (path : List ℕ) (v : Val) (s : State) → slice_get subs k ≡ None → Runs (call_steps (calls_of subs h n) k path v) s → ⊥
+no_code subs h n k path v s e r = none_runs (at path v) (calls_of subs h n k) s (λ w. no_sub subs h n k w e) r
+
+-- ---- rows are not run
+
+never : (x : Steps) (s : State) → ended x s ≡ None → Runs (both x (Some [])) s → ⊥
+never x s e r = subst IsThere e (first-runs x (Some []) s r)
+
+copied_never : (o : Option (Kind × List ℤ)) (f : Kind × List ℤ → List ℕ) (s : State) → ended (on_some o (λ r. Some (Copied (f r) ∷ []))) s ≡ None
+copied_never None f s = refl
+copied_never (Some r) f s = refl
+
+wide_never : (o : Option (Kind × List ℤ)) (order : Order) (s : State) → ended (on_some o (λ r. on_some (wide order r.1) (λ os. Some (Widened os (length r.1) ∷ [])))) s ≡ None
+wide_never None order s = refl
+wide_never (Some r) order s = widened_never (wide order r.1) where
+  widened_never : (z : Option (List ℕ)) → ended (on_some z (λ os. Some (Widened os (length r.1) ∷ []))) s ≡ None
+  widened_never None = refl
+  widened_never (Some os) = refl
+
+pub row_copy_never : (c : Calls) (h : Head) (v : Val) (o : SendOp) (path : List ℕ) (s : State) → o ≡ op.RowCopy path → Runs (steps c h (op_seen o stop) v) s → ⊥
+row_copy_never c h v o path s is r =
+    never (copy_steps path v) s (copied_never (on_some (at path v) row_in) (λ r. image_of r.0 r.1) s) (subst (λ (p : Piece). Runs (steps c h (p stop) v) s) (ap op_seen is ∙ seen-RowCopy path) r)
+
+pub row_swap_never : (c : Calls) (h : Head) (v : Val) (o : SendOp) (path : List ℕ) (s : State) → o ≡ op.RowSwap path → Runs (steps c h (op_seen o stop) v) s → ⊥
+row_swap_never c h v o path s is r =
+    never (swap_steps path v) s (copied_never (on_some (at path v) row_in) (λ r. swapped r.0 r.1) s) (subst (λ (p : Piece). Runs (steps c h (p stop) v) s) (ap op_seen is ∙ seen-RowSwap path) r)
+
+pub row_wide_never : (c : Calls) (h : Head) (v : Val) (o : SendOp) (path : List ℕ) (order : Order) (s : State) → o ≡ op.RowWide path order → Runs (steps c h (op_seen o stop) v) s → ⊥
+row_wide_never c h v o path order s is r =
+    never (wide_steps path order v) s (wide_never (on_some (at path v) row_in) order s) (subst (λ (p : Piece). Runs (steps c h (p stop) v) s) (ap op_seen is ∙ seen-RowWide path order) r)
+
+pub ruleset running = (left-runs, each_runs, each_ends, some_runs, some_ends, call_runs, call_ends, row_copy_never, row_swap_never, row_wide_never, no_calls_left, no_code)
+
+pub number_seen : (ns : List ℤ) (i : ℕ) (n : ℤ) → slice_get ns i ≡ Some n → seen (value.Num n) ≡ num (get_or ns i (pos 0))
+number_seen [] i n h = absurd cc
+number_seen (m ∷ ns) zero n h = seen-Num n ∙ cc
+number_seen (m ∷ ns) (suc i) n h = number_seen ns i n h
+
+pub number_missing : (ns : List ℤ) (i : ℕ) → slice_get ns i ≡ None → length ns ≤ i
+number_missing [] i h = omega arith
+number_missing (m ∷ ns) zero h = absurd cc
+number_missing (m ∷ ns) (suc i) h = let more = number_missing ns i h in omega arith
+
+pub ruleset values = (number_seen, number_missing)

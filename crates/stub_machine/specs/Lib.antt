@@ -1,0 +1,4 @@
+pub mod Picking
+pub mod Putting
+pub mod Run
+pub mod Sending

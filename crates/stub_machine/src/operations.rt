@@ -1,0 +1,289 @@
+// The operations of a send code, one after the other and one within another.
+ghost use Rattle.std.specs.Prelude.{◌≡◌, ◌<◌, OnOk, OnErr, map, length, slice_index_or, pos};
+ghost use Rattle.mint.specs.Values.{seen, all_seen, vals_of, num};
+ghost use Rattle.cast_stub.specs.Parts.{elements_in, on_some};
+ghost use Rattle.cast_stub.specs.Block.{Block, stop, op_seen};
+ghost use Rattle.cast_stub.specs.Steps.{steps, over, code_steps, each_steps, some_steps, if_present};
+ghost use Rattle.cast_stub.specs.Subs.{calls_of, call_steps, deepest};
+ghost use Rattle.stub_machine.specs.Run.{ended, state_of, Runs, Ends, Grown};
+
+use crate::errors::{MOST, Stopped};
+use crate::parts::{arm_at, part, position};
+use crate::puts::run_chunk;
+use crate::single::{run_align, run_ensure, run_ensure_row, run_patch};
+use cast_stub::{Path, SendOp, SendOps, SendSubs};
+use mint::row::Row;
+use mint::value::{Value, Values};
+use raw_buf::SendBuf;
+use wire_def::Head;
+
+/// What a run has throughout: the codes that calls name, and the head.
+#[derive(Drop)]
+pub struct Machine<'a> {
+    pub subs: &'a SendSubs,
+    pub head: &'a Head,
+}
+
+/// How much deeper a run may go.
+#[derive(Clone, Copy, Debug, PartialEq, Eq)]
+pub struct Depth {
+    /// Calls within one another.
+    pub calls: u32,
+    /// Operations within one another.
+    pub nested: u32,
+}
+
+/// Runs operations on a value.
+#[cycle(run)]
+#[tactic(auto, using(crate::proofs::Running::running, crate::proofs::Growing::growing))]
+pub fn run_block(
+    machine: &Machine<'_>,
+    depth: Depth,
+    code: &SendOps,
+    value: &Value,
+    buf: &mut SendBuf,
+) -> Result<(), Stopped>
+    requires { Runs (code_steps (calls_of machine.now.subs.now machine.now.head.now depth.calls) machine.now.head.now code.now (seen value.now)) (state_of buf.old) }
+    ensures ok { OnOk result (Ends (code_steps (calls_of machine.now.subs.now machine.now.head.now depth.calls) machine.now.head.now code.now (seen value.now)) (state_of buf.old) (state_of buf.new)) }
+    ensures err { OnErr result (Grown (code_steps (calls_of machine.now.subs.now machine.now.head.now depth.calls) machine.now.head.now code.now (seen value.now)) (state_of buf.old) (state_of buf.new)) }
+{
+    for op in code.as_slice() {
+        run_op(machine, depth, op, value, buf)?;
+        if buf.octets().len() > MOST {
+            return Err(Stopped);
+        }
+    }
+    Ok(())
+}
+
+// Runs one operation.
+#[cycle(run)]
+#[tactic(auto, using(crate::proofs::Running::running, crate::proofs::Growing::growing))]
+fn run_op(
+    machine: &Machine<'_>,
+    depth: Depth,
+    op: &SendOp,
+    value: &Value,
+    buf: &mut SendBuf,
+) -> Result<(), Stopped>
+    requires { Runs (steps (calls_of machine.now.subs.now machine.now.head.now depth.calls) machine.now.head.now (op_seen op.now stop) (seen value.now)) (state_of buf.old) }
+    ensures ok { OnOk result ((r : Block) → ended (steps (calls_of machine.now.subs.now machine.now.head.now depth.calls) machine.now.head.now (op_seen op.now r) (seen value.now)) (state_of buf.old) ≡ ended (steps (calls_of machine.now.subs.now machine.now.head.now depth.calls) machine.now.head.now r (seen value.now)) (state_of buf.new)) }
+    ensures err { OnErr result (Grown (steps (calls_of machine.now.subs.now machine.now.head.now depth.calls) machine.now.head.now (op_seen op.now stop) (seen value.now)) (state_of buf.old) (state_of buf.new)) }
+{
+    if depth.nested == 0 {
+        return Err(Stopped);
+    }
+    let depth = Depth {
+        nested: depth.nested - 1,
+        ..depth
+    };
+    match op {
+        SendOp::Ensure(n) => run_ensure(*n, buf),
+        SendOp::EnsureRow(path, unit, extra) => run_ensure_row(path, *unit, *extra, value, buf),
+        SendOp::Align(a) => {
+            run_align(*a, buf);
+            Ok(())
+        }
+        SendOp::Chunk(size, puts) => {
+            run_chunk(*size, puts, machine.head, value, buf);
+            Ok(())
+        }
+        SendOp::Each(path, body) => run_each(machine, depth, path, body, value, buf),
+        SendOp::RowCopy(_) => unreachable!(),
+        SendOp::RowSwap(_) => unreachable!(),
+        SendOp::RowWide(_, _) => unreachable!(),
+        SendOp::Switch(path, cases, other) => {
+            let Some((n, inner)) = arm_at(path, value) else {
+                unreachable!()
+            };
+            match position(cases, n) {
+                Some(i) => run_block(machine, depth, &cases.as_slice()[i].1, inner, buf),
+                None => match other {
+                    Some(body) => run_block(machine, depth, body, inner, buf),
+                    None => unreachable!(),
+                },
+            }
+        }
+        SendOp::Some(path, body) => run_some(machine, depth, path, body, value, buf),
+        SendOp::Call(k, path) => run_called(machine, depth, *k, path, value, buf),
+        SendOp::Patch(at, sub, order) => {
+            run_patch(*at, *sub, *order, buf);
+            Ok(())
+        }
+    }
+}
+
+// Runs a body on each element of the value at a path.
+#[cycle(run)]
+#[tactic(auto, using(crate::proofs::Running::running, crate::proofs::Growing::growing))]
+fn run_each(
+    machine: &Machine<'_>,
+    depth: Depth,
+    path: &Path,
+    body: &SendOps,
+    value: &Value,
+    buf: &mut SendBuf,
+) -> Result<(), Stopped>
+    requires { Runs (each_steps (calls_of machine.now.subs.now machine.now.head.now depth.calls) machine.now.head.now path.now body.now (seen value.now)) (state_of buf.old) }
+    ensures ok { OnOk result (Ends (each_steps (calls_of machine.now.subs.now machine.now.head.now depth.calls) machine.now.head.now path.now body.now (seen value.now)) (state_of buf.old) (state_of buf.new)) }
+    ensures err { OnErr result (Grown (each_steps (calls_of machine.now.subs.now machine.now.head.now depth.calls) machine.now.head.now path.now body.now (seen value.now)) (state_of buf.old) (state_of buf.new)) }
+{
+    let Some(here) = part(path, value) else {
+        unreachable!()
+    };
+    run_elements(machine, depth, body, here, buf)
+}
+
+// Runs a body on each element.
+#[cycle(run)]
+#[tactic(auto, using(crate::proofs::Running::running, crate::proofs::Growing::growing))]
+fn run_elements(
+    machine: &Machine<'_>,
+    depth: Depth,
+    body: &SendOps,
+    value: &Value,
+    buf: &mut SendBuf,
+) -> Result<(), Stopped>
+    requires { Runs (on_some (elements_in (seen value.now)) (over (code_steps (calls_of machine.now.subs.now machine.now.head.now depth.calls) machine.now.head.now body.now))) (state_of buf.old) }
+    ensures ok { OnOk result (Ends (on_some (elements_in (seen value.now)) (over (code_steps (calls_of machine.now.subs.now machine.now.head.now depth.calls) machine.now.head.now body.now))) (state_of buf.old) (state_of buf.new)) }
+    ensures err { OnErr result (Grown (on_some (elements_in (seen value.now)) (over (code_steps (calls_of machine.now.subs.now machine.now.head.now depth.calls) machine.now.head.now body.now))) (state_of buf.old) (state_of buf.new)) }
+{
+    match value {
+        Value::Items(values) => run_items(machine, depth, body, values, buf),
+        Value::Row(row) => run_numbers(machine, depth, body, row, buf),
+        _ => unreachable!(),
+    }
+}
+
+// Runs a body on each value.
+#[cycle(run)]
+#[tactic(auto, using(crate::proofs::Running::running, crate::proofs::Growing::growing))]
+fn run_items(
+    machine: &Machine<'_>,
+    depth: Depth,
+    body: &SendOps,
+    values: &Values,
+    buf: &mut SendBuf,
+) -> Result<(), Stopped>
+    requires { Runs (over (code_steps (calls_of machine.now.subs.now machine.now.head.now depth.calls) machine.now.head.now body.now) (all_seen values.now)) (state_of buf.old) }
+    ensures ok { OnOk result (Ends (over (code_steps (calls_of machine.now.subs.now machine.now.head.now depth.calls) machine.now.head.now body.now) (all_seen values.now)) (state_of buf.old) (state_of buf.new)) }
+    ensures err { OnErr result (Grown (over (code_steps (calls_of machine.now.subs.now machine.now.head.now depth.calls) machine.now.head.now body.now) (all_seen values.now)) (state_of buf.old) (state_of buf.new)) }
+{
+    for value in values.as_slice() {
+        run_block(machine, depth, body, value, buf)?;
+    }
+    Ok(())
+}
+
+// Runs a body on each number of a row.
+#[cycle(run)]
+#[tactic(auto, using(crate::proofs::Running::running, crate::proofs::Growing::growing))]
+fn run_numbers(
+    machine: &Machine<'_>,
+    depth: Depth,
+    body: &SendOps,
+    row: &Row,
+    buf: &mut SendBuf,
+) -> Result<(), Stopped>
+    requires { Runs (over (code_steps (calls_of machine.now.subs.now machine.now.head.now depth.calls) machine.now.head.now body.now) (vals_of (map num row.now.numbers))) (state_of buf.old) }
+    ensures ok { OnOk result (Ends (over (code_steps (calls_of machine.now.subs.now machine.now.head.now depth.calls) machine.now.head.now body.now) (vals_of (map num row.now.numbers))) (state_of buf.old) (state_of buf.new)) }
+    ensures err { OnErr result (Grown (over (code_steps (calls_of machine.now.subs.now machine.now.head.now depth.calls) machine.now.head.now body.now) (vals_of (map num row.now.numbers))) (state_of buf.old) (state_of buf.new)) }
+{
+    for i in 0..row.len() {
+        let number = number_at(row, i);
+        run_block(machine, depth, body, &number, buf)?;
+    }
+    Ok(())
+}
+
+// The number at a place of a row, as a value.
+#[tactic(auto, using(crate::proofs::Running::values))]
+fn number_at(row: &Row, i: usize) -> Value
+    requires { i < length row.now.numbers }
+    ensures { seen result ≡ num (slice_index_or row.now.numbers i (pos 0)) }
+{
+    match row.get(i) {
+        Some(n) => Value::Num(n),
+        None => unreachable!(),
+    }
+}
+
+// Runs a body on the value that may be there at a path.
+#[cycle(run)]
+#[tactic(auto, using(crate::proofs::Running::running, crate::proofs::Growing::growing))]
+fn run_some(
+    machine: &Machine<'_>,
+    depth: Depth,
+    path: &Path,
+    body: &SendOps,
+    value: &Value,
+    buf: &mut SendBuf,
+) -> Result<(), Stopped>
+    requires { Runs (some_steps (calls_of machine.now.subs.now machine.now.head.now depth.calls) machine.now.head.now path.now body.now (seen value.now)) (state_of buf.old) }
+    ensures ok { OnOk result (Ends (some_steps (calls_of machine.now.subs.now machine.now.head.now depth.calls) machine.now.head.now path.now body.now (seen value.now)) (state_of buf.old) (state_of buf.new)) }
+    ensures err { OnErr result (Grown (some_steps (calls_of machine.now.subs.now machine.now.head.now depth.calls) machine.now.head.now path.now body.now (seen value.now)) (state_of buf.old) (state_of buf.new)) }
+{
+    let Some(here) = part(path, value) else {
+        unreachable!()
+    };
+    run_present(machine, depth, body, here, buf)
+}
+
+// Runs a body on the value that may be there.
+#[cycle(run)]
+#[tactic(auto, using(crate::proofs::Running::running, crate::proofs::Growing::growing))]
+fn run_present(
+    machine: &Machine<'_>,
+    depth: Depth,
+    body: &SendOps,
+    value: &Value,
+    buf: &mut SendBuf,
+) -> Result<(), Stopped>
+    requires { Runs (if_present (code_steps (calls_of machine.now.subs.now machine.now.head.now depth.calls) machine.now.head.now body.now) (seen value.now)) (state_of buf.old) }
+    ensures ok { OnOk result (Ends (if_present (code_steps (calls_of machine.now.subs.now machine.now.head.now depth.calls) machine.now.head.now body.now) (seen value.now)) (state_of buf.old) (state_of buf.new)) }
+    ensures err { OnErr result (Grown (if_present (code_steps (calls_of machine.now.subs.now machine.now.head.now depth.calls) machine.now.head.now body.now) (seen value.now)) (state_of buf.old) (state_of buf.new)) }
+{
+    match value {
+        Value::Opt(None) => Ok(()),
+        Value::Opt(Some(inner)) => run_block(machine, depth, body, inner, buf),
+        _ => unreachable!(),
+    }
+}
+
+// Runs the code of a number on the value at a path.
+#[cycle(run)]
+#[tactic(auto, using(crate::proofs::Running::running, crate::proofs::Growing::growing))]
+fn run_called(
+    machine: &Machine<'_>,
+    depth: Depth,
+    k: u32,
+    path: &Path,
+    value: &Value,
+    buf: &mut SendBuf,
+) -> Result<(), Stopped>
+    requires { Runs (call_steps (calls_of machine.now.subs.now machine.now.head.now depth.calls) k path.now (seen value.now)) (state_of buf.old) }
+    ensures ok { OnOk result (Ends (call_steps (calls_of machine.now.subs.now machine.now.head.now depth.calls) k path.now (seen value.now)) (state_of buf.old) (state_of buf.new)) }
+    ensures err { OnErr result (Grown (call_steps (calls_of machine.now.subs.now machine.now.head.now depth.calls) k path.now (seen value.now)) (state_of buf.old) (state_of buf.new)) }
+{
+    if depth.calls == 0 {
+        unreachable!()
+    }
+    let deeper = Depth {
+        calls: depth.calls - 1,
+        ..depth
+    };
+    let Some(here) = part(path, value) else {
+        unreachable!()
+    };
+    match machine.subs.get(k as usize) {
+        Some(code) => run_block(machine, deeper, code, here, buf),
+        None => unreachable!(),
+    }
+}
+
+/// How many calls may stand within one another.
+pub fn deepest_call() -> u32
+    ensures { result ≡ deepest }
+{
+    4096
+}

@@ -1,0 +1,133 @@
+// Parts of a value, and the numbers that a put takes of them.
+ghost use Rattle.std.specs.Prelude.{◌≡◌, ◌+◌, ◌*◌, ℕ, pos, length, option_map};
+ghost use Rattle.mint.specs.Values.{seen, all_seen};
+ghost use Rattle.cast_stub.specs.Parts.{at, field, in_group, number_in, tag_in, flag_in, length_in, on_some};
+ghost use Rattle.std.specs.Ordering.{int_eq};
+ghost use Rattle.mint.specs.Values.{arm_in};
+ghost use Rattle.stub_machine.specs.Picking.{PickedAt};
+
+use cast_stub::{Path, SendCases};
+use mint::value::{Value, Values};
+
+/// The value of a field, where there is a group that has it.
+fn field_of(value: &Value, n: u32) -> Option<&Value>
+    ensures { option_map (λ w. seen w.now) result ≡ in_group n (seen value.now) }
+{
+    match value {
+        Value::Group(values) => nth(values, n),
+        _ => None,
+    }
+}
+
+// The value at a place.
+#[tactic(auto, using(crate::proofs::PartLaws::parts))]
+fn nth(values: &Values, n: u32) -> Option<&Value>
+    ensures { option_map (λ w. seen w.now) result ≡ field n (all_seen values.now) }
+{
+    values.get(n as usize)
+}
+
+/// The part at a path.
+#[tactic(auto, using(crate::proofs::PartLaws::parts))]
+pub fn part<'a>(path: &Path, value: &'a Value) -> Option<&'a Value>
+    ensures { option_map (λ w. seen w.now) result ≡ at path.now (seen value.now) }
+{
+    let mut here = value;
+    for n in path.as_slice() {
+        match field_of(here, *n) {
+            Some(next) => here = next,
+            None => return None,
+        }
+    }
+    Some(here)
+}
+
+/// The number that a value is.
+pub fn number_of(value: &Value) -> Option<i128>
+    ensures { result ≡ number_in (seen value.now) }
+{
+    match value {
+        Value::Num(n) => Some(*n),
+        _ => None,
+    }
+}
+
+/// How many elements a value has.
+#[tactic(auto, using(crate::proofs::PartLaws::parts))]
+pub fn length_of(value: &Value) -> Option<usize>
+    ensures { result ≡ length_in (seen value.now) }
+{
+    match value {
+        Value::Items(values) => Some(values.len()),
+        Value::Row(row) => Some(row.len()),
+        _ => None,
+    }
+}
+
+/// The tag that a value has.
+pub fn tag_of(value: &Value) -> Option<i128>
+    ensures { result ≡ tag_in (seen value.now) }
+{
+    match value {
+        Value::Arm(n, _) => Some(*n),
+        _ => None,
+    }
+}
+
+/// Whether a value is there, as a number.
+pub fn flag_of(value: &Value) -> Option<i128>
+    ensures { result ≡ flag_in (seen value.now) }
+{
+    match value {
+        Value::Opt(None) => Some(0),
+        Value::Opt(Some(_)) => Some(1),
+        _ => None,
+    }
+}
+
+/// A length that is multiplied, and a number more.
+pub fn scaled(n: usize, mul: u32, add: u32) -> i128
+    ensures { result ≡ pos (n * mul + add) }
+{
+    (n as i128) * i128::from(mul) + i128::from(add)
+}
+
+/// The tag and the value behind it, at a path.
+#[tactic(auto, using(crate::proofs::PartLaws::parts))]
+pub fn arm_at<'a>(path: &Path, value: &'a Value) -> Option<(&'a i128, &'a Value)>
+    ensures { option_map (λ a. (a.0.now, seen a.1.now)) result ≡ on_some (at path.now (seen value.now)) arm_in }
+{
+    match part(path, value) {
+        Some(here) => arm(here),
+        None => None,
+    }
+}
+
+// The tag of an arm, and the value behind it.
+fn arm(value: &Value) -> Option<(&i128, &Value)>
+    ensures { option_map (λ a. (a.0.now, seen a.1.now)) result ≡ arm_in (seen value.now) }
+{
+    match value {
+        Value::Arm(n, inner) => Some((n, inner)),
+        _ => None,
+    }
+}
+
+/// The place of the body of a number.
+pub fn position(cases: &SendCases, n: &i128) -> Option<usize>
+    ensures { PickedAt cases.now n.now result }
+{
+    for (i, case) in cases.as_slice().iter().enumerate() {
+        if same(n, &case.0) {
+            return Some(i);
+        }
+    }
+    None
+}
+
+// Whether two numbers are the same.
+fn same(n: &i128, m: &i128) -> bool
+    ensures { result ≡ int_eq n.now m.now }
+{
+    *n == *m
+}

@@ -1,0 +1,50 @@
+// A send code that is run as a whole.
+ghost use Rattle.std.specs.Prelude.{◌≡◌, ◌≤◌, ◌<◌, ◌+◌, ◌++◌, length, option_map, Some, Err, OnOk};
+ghost use Rattle.mint.specs.Values.{seen};
+ghost use Rattle.cast_stub.specs.Meaning.{meaning, cost, AreCovered};
+ghost use Rattle.cast_stub.specs.Rowless.{HasNoRow};
+ghost use Rattle.cast_stub.specs.Subs.{sent_steps};
+ghost use Rattle.stub_machine.specs.Sending.{most, paid, IsLong};
+
+use crate::errors::{MOST, SendErr, Stopped};
+use crate::operations::{Depth, Machine, deepest_call, run_block};
+use cast_stub::SendCode;
+use mint::value::Value;
+use raw_buf::SendBuf;
+use wire_def::Head;
+
+/// How many operations may stand within one another, which bounds the stack: 4,096 calls, and
+/// bodies besides.
+const NESTED: u32 = 4224;
+
+/// Appends the octets that a code means for a value, at the code's cost.
+///
+/// After a refusal the buffer has some of them, and is fit for `clear`.
+pub fn run_send(
+    code: &SendCode,
+    head: &Head,
+    value: &Value,
+    buf: &mut SendBuf,
+) -> Result<(), SendErr>
+    requires covered { AreCovered (sent_steps code.now head.now (seen value.now)) (length buf.old.done) }
+    requires no_row { HasNoRow code.now }
+    ensures done { OnOk result (option_map (λ o. buf.old.done ++ o) (meaning code.now head.now (seen value.now) (length buf.old.done)) ≡ Some buf.new.done) }
+    ensures tally { OnOk result (option_map (paid buf.old.tally) (cost code.now head.now (seen value.now)) ≡ Some buf.new.tally) }
+    ensures spent { OnOk result (option_map (paid buf.old.spent) (cost code.now head.now (seen value.now)) ≡ Some buf.new.spent) }
+    ensures short { OnOk result (length buf.new.done ≤ most) }
+    ensures long { (result ≡ Err SendErr.Long) → IsLong (length buf.old.done) (meaning code.now head.now (seen value.now) (length buf.old.done)) }
+{
+    let machine = Machine {
+        subs: &code.subs,
+        head,
+    };
+    let depth = Depth {
+        calls: deepest_call(),
+        nested: NESTED,
+    };
+    match run_block(&machine, depth, &code.ops, value, buf) {
+        _ if buf.octets().len() > MOST => Err(SendErr::Long),
+        Ok(()) => Ok(()),
+        Err(Stopped) => Err(SendErr::NoMemory),
+    }
+}
