@@ -1,12 +1,12 @@
 -- Code that is made piece by piece.
-use Rattle.std.proofs.Common.{◌≡◌, ℕ, ℤ, zero, suc, ◌+◌, ◌<◌, ◌≤◌, List, [], ◌∷◌, ◌++◌, length, get_or, map, Option, Some, None, option_map, refl, sym, ap, ◌∙◌, arith}
+use Rattle.std.proofs.Common.{◌≡◌, ℕ, ℤ, suc, ◌+◌, ◌<◌, ◌≤◌, List, [], ◌∷◌, ◌++◌, length, get_or, map, Option, refl, sym, ap, ◌∙◌, arith}
 use Rattle.std.proofs.Math.ListN.{take}
 use Rattle.std.proofs.lemmas.List.{take_all, take_more, length-take-le}
 use Rattle.std.specs.Prelude.{Result, Ok, Err, OnOk}
 use Rattle.kit_base.specs.declared.errors.NoMemory.{NoMemory}
 use Rattle.cast_stub.specs.declared.send.SendOp.{SendOp}
 use Rattle.cast_stub.specs.declared.send.SendOp.TheVariants as op
-use Rattle.cast_stub.specs.Block.{Block, stop, call, Cases, default, case, switch, Piece, op_seen, code_seen, cases_seen}
+use Rattle.cast_stub.specs.Block.{Block, stop, call, Cases, case, switch, Piece, op_seen, code_seen, cases_seen}
 use Rattle.cast_stub.specs.Append.{append}
 use Rattle.cast_stub.proofs.Pieces.{seen-Align, seen-Chunk, seen-Each, seen-Some, seen-Call, seen-Switch}
 use Rattle.cast_stub.proofs.Appending.{append-stop}

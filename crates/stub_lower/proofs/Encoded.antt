@@ -1,15 +1,14 @@
 -- What an encoding's leaves append: a scalar, a count, an array.
-use Rattle.std.proofs.Common.{◌≡◌, ℕ, zero, suc, ◌+◌, ◌-◌, ◌*◌, ◌%◌, ◌<◌, ◌≤◌, ℤ, pos, negsuc, List, [], ◌∷◌, ◌++◌, length, map, replicate, Option, Some, None, refl, sym, ap, subst, ◌∙◌, arith, append_assoc, length-append, IsTrue, Bool, true, false, ◌&&◌, not}
+use Rattle.std.proofs.Common.{◌≡◌, ℕ, zero, suc, ◌+◌, ◌*◌, ◌%◌, ◌<◌, ℤ, pos, negsuc, List, [], ◌∷◌, ◌++◌, length, map, replicate, Option, Some, refl, sym, ap, subst, ◌∙◌, arith, length-append, IsTrue, Bool, true, false, ◌&&◌, not}
 use Rattle.std.specs.Prelude.{nat_lt}
 use Rattle.std.specs.List.{list_all, list_any}
-use Rattle.std.specs.Int.{w32, byte_len}
 use Rattle.std.specs.Ordering.{int_eq}
 use Rattle.std.proofs.lemmas.Bool.{ltb-true, lt-ltb}
 use Rattle.mint.specs.declared.kind.Kind.{Kind}
 use Rattle.mint.specs.declared.kind.Kind.TheVariants as kind
 use Rattle.mint.specs.declared.kind.Count.{Count}
 use Rattle.mint.specs.declared.kind.Count.TheVariants.{Exactly, AtMost, Any}
-use Rattle.mint.specs.Kinds.{Allows, IsInRange, in_range, is_letter}
+use Rattle.mint.specs.Kinds.{Allows, in_range, is_letter}
 use Rattle.mint.specs.Types.{Scalar, number, label, Array, text, row_of}
 use Rattle.mint.specs.Typed.{IsScalar, IsArray}
 use Rattle.mint.specs.Values.{Val, num, row, vals_of}
@@ -18,20 +17,19 @@ use Rattle.wire_def.specs.declared.encoding.Encoding.TheVariants.{Xdr}
 use Rattle.wire_def.specs.declared.head.Head.{Head}
 use Rattle.wire_def.specs.declared.head.Order.TheVariants.{Big}
 use Rattle.wire_def.specs.Scalars.{gap, scalar_octets, number_octets, residue, width_of}
-use Rattle.wire_def.specs.Arrays.{natural, counted, count_of, kind_of, is_octets, count_octets, trailing, element_octets, elements_octets, array_octets}
+use Rattle.wire_def.specs.Arrays.{natural, counted, count_octets, element_octets, elements_octets, array_octets}
 use Rattle.cast_stub.specs.declared.put.Put.{Put}
 use Rattle.cast_stub.specs.declared.put.Put.TheVariants as put
 use Rattle.cast_stub.specs.Parts.{on_some, at, length_in}
 use Rattle.cast_stub.specs.Puts.{put_octets, offset, word}
 use Rattle.cast_stub.specs.Block.{Block, stop, align, chunk, each}
 use Rattle.cast_stub.specs.Append.{append}
-use Rattle.cast_stub.specs.Steps.{Step, Pad, Steps, both, Calls, steps, over, chunk_steps, align_steps}
-use Rattle.cast_stub.specs.Meaning.{wrote}
+use Rattle.cast_stub.specs.Steps.{Steps, Calls, steps, over, chunk_steps}
 use Rattle.cast_stub.proofs.Appending.{steps-append}
 use Rattle.stub_lower.specs.Lowered.{IsPlace}
-use Rattle.stub_lower.specs.Codes.{order_of, scalar_width, element_width, scalar_code, number_put, count_code, turn_code, behind_code, array_code}
-use Rattle.stub_lower.proofs.Writing.{place_sum, place_zero, Writes, both-writes, none-writes, writes_same, writes_stop, Sends, both-sends, none-sends, sends_same, sends_stop, put-writes}
-use Rattle.stub_lower.proofs.Words.{word-number, word-octet, word_32_pos, xdr_octets}
+use Rattle.stub_lower.specs.Codes.{order_of, scalar_width, scalar_code, count_code, array_code}
+use Rattle.stub_lower.proofs.Writing.{place_sum, Writes, both-writes, none-writes, writes_same, writes_stop, Sends, both-sends, none-sends, sends_stop, put-writes}
+use Rattle.stub_lower.proofs.Words.{word-number, word-octet, xdr_octets}
 
 -- what has to be known of an encoding, so that lowered code sends what it says: that a scalar whose put gives its number
 abbrev pub ScalarsSend : Encoding → Type 0

@@ -1,17 +1,17 @@
 -- The code of a node goes through its type in order.
-use Rattle.std.proofs.Common.{◌≡◌, ◌⊎◌, inl, inr, ℕ, suc, ◌+◌, ◌-◌, ◌<◌, ◌≤◌, ℤ, List, [], ◌∷◌, ◌++◌, length, Option, Some, None, refl, arith}
+use Rattle.std.proofs.Common.{◌≡◌, inr, ℕ, suc, ◌<◌, ◌≤◌, ℤ, List, [], ◌∷◌, Option, Some, None, refl, arith}
 use Rattle.mint.specs.declared.kind.Kind.{Kind}
 use Rattle.mint.specs.declared.kind.Kind.TheVariants as kind
 use Rattle.mint.specs.declared.kind.Count.{Count}
 use Rattle.mint.specs.declared.kind.Count.TheVariants.{Exactly, AtMost, Any}
 use Rattle.mint.specs.declared.node.Node.{Node}
 use Rattle.mint.specs.declared.node.Node.TheVariants as node
-use Rattle.mint.specs.Types.{number, label, Array, text, row_of, Ty, at, fields_at, arms_at, scalar_of, level, HasChildrenBelow, AreBelow, ArmsBelow, IsBelow}
+use Rattle.mint.specs.Types.{Array, text, row_of, Ty, at, fields_at, arms_at, scalar_of, level, HasChildrenBelow, AreBelow, ArmsBelow, IsBelow}
 use Rattle.wire_def.specs.declared.encoding.Encoding.TheVariants.{Xdr}
 use Rattle.cast_stub.specs.declared.put.Put.{Put}
-use Rattle.cast_stub.specs.Block.{Block, stop, align, chunk, each, switch, if_there, call, Cases, default, case}
+use Rattle.cast_stub.specs.Block.{Block, stop, align, call}
 use Rattle.cast_stub.specs.Follows.{flat, IsFlat, IsLoop, IsCount, Child, Follows, FieldsFollow, ArmsFollow}
-use Rattle.stub_lower.specs.Codes.{element_width, scalar_code, number_put, count_code, turn_code, behind_code, array_code, number_code, tag_code, flag_code, call_here, calls_from, cases_at, node_code}
+use Rattle.stub_lower.specs.Codes.{scalar_code, count_code, turn_code, array_code, tag_code, flag_code, call_here, calls_from, cases_at, node_code}
 
 -- ---- what XDR gives
 

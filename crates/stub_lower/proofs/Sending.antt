@@ -1,13 +1,10 @@
 -- The code of a node sends its values, over those of its parts.
-use Rattle.std.proofs.Common.{◌≡◌, ℕ, zero, suc, ◌+◌, ◌<◌, ◌≤◌, max, ℤ, pos, List, [], ◌∷◌, ◌++◌, length, Option, Some, None, refl, sym, ap, subst, ◌∙◌, arith, IsTrue, Bool, true, false, if◌then◌else◌, MatchBool}
+use Rattle.std.proofs.Common.{◌≡◌, ℕ, suc, ◌+◌, ◌<◌, ◌≤◌, ℤ, pos, List, [], ◌∷◌, ◌++◌, length, Option, Some, None, refl, sym, ap, subst, ◌∙◌, arith, Bool, true, false, if◌then◌else◌, MatchBool}
 use Rattle.std.proofs.lemmas.List.{append-nil}
 use Rattle.std.specs.List.{AllByRecursion}
 use Rattle.std.specs.Ordering.{int_eq}
-use Rattle.mint.specs.declared.kind.Kind.TheVariants as kind
-use Rattle.mint.specs.declared.kind.Count.{Count}
 use Rattle.mint.specs.declared.node.Node.{Node}
 use Rattle.mint.specs.declared.node.Node.TheVariants as node
-use Rattle.mint.specs.Kinds.{Allows}
 use Rattle.mint.specs.Blank.{depth, fields_depth, arms_depth}
 use Rattle.mint.specs.Types.{Scalar, number, label, text, row_of, Ty, at, fields_at, arms_at, scalar_of, level, HasChildrenBelow, ArmsBelow, IsBelow}
 use Rattle.mint.specs.Typed.{IsOf, AreOf, IsOfArm, Each, IsScalar}
@@ -17,14 +14,13 @@ use Rattle.wire_def.specs.declared.head.Head.{Head}
 use Rattle.wire_def.specs.Send.{send, send_fields, send_each, send_arm, flag}
 use Rattle.wire_def.specs.Scalars.{scalar_octets}
 use Rattle.wire_def.specs.Arrays.{count_octets}
-use Rattle.cast_stub.specs.declared.put.Put.{Put}
 use Rattle.cast_stub.specs.declared.put.Put.TheVariants as put
 use Rattle.cast_stub.specs.Parts.{on_some, field}
 use Rattle.cast_stub.specs.Parts as part
 use Rattle.cast_stub.specs.Puts.{word}
-use Rattle.cast_stub.specs.Block.{Block, stop, chunk, each, switch, if_there, call}
+use Rattle.cast_stub.specs.Block.{Block, stop, each, switch, if_there}
 use Rattle.cast_stub.specs.Append.{append}
-use Rattle.cast_stub.specs.Steps.{Steps, both, Calls, steps, case_steps, over}
+use Rattle.cast_stub.specs.Steps.{Steps, Calls, steps, case_steps, over}
 use Rattle.cast_stub.proofs.Appending.{steps-append}
 use Rattle.stub_lower.specs.Codes.{order_of, scalar_width, count_code, tag_code, flag_code, call_here, calls_from, cases_at, node_code}
 use Rattle.stub_lower.proofs.Writing.{Sends, both-sends, none-sends, sends_same, sends_stop}

@@ -1,10 +1,10 @@
 -- In the code of a node each loop over numbers has the one shape.
-use Rattle.std.proofs.Common.{◌≡◌, ℕ, suc, ℤ, List, [], ◌∷◌, Option, Some, None, refl, Bool, true, false}
+use Rattle.std.proofs.Common.{ℕ, suc, ℤ, List, [], ◌∷◌, Option, Some, None, refl, Bool, true, false}
 use Rattle.mint.specs.declared.kind.Count.{Count}
 use Rattle.mint.specs.declared.kind.Count.TheVariants.{Exactly, AtMost, Any}
 use Rattle.mint.specs.declared.node.Node.{Node}
 use Rattle.mint.specs.declared.node.Node.TheVariants as node
-use Rattle.mint.specs.Types.{number, label, Array, text, row_of, Ty, array_type, at, arms_at, scalar_of, level}
+use Rattle.mint.specs.Types.{number, Array, text, row_of, Ty, array_type, arms_at, scalar_of, level}
 use Rattle.wire_def.specs.declared.encoding.Encoding.{Encoding}
 use Rattle.wire_def.specs.declared.encoding.Encoding.TheVariants.{Xdr, CdrBig, CdrLittle, Mach}
 use Rattle.wire_def.specs.Arrays.{counted, count_of, is_octets}

@@ -20,7 +20,7 @@ use Rattle.cast_stub.specs.Parts.{on_some}
 use Rattle.cast_stub.specs.Block.{Block, code_seen}
 use Rattle.cast_stub.specs.Follows.{Follows}
 use Rattle.cast_stub.specs.Meaning.{wrote}
-use Rattle.cast_stub.specs.Steps.{Steps, steps}
+use Rattle.cast_stub.specs.Steps.{steps}
 use Rattle.cast_stub.specs.Subs.{called, deepest, sub_at}
 use Rattle.stub_lower.specs.Codes.{node_code}
 use Rattle.stub_lower.specs.Turns.{HasTurns}

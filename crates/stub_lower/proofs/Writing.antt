@@ -1,5 +1,5 @@
 -- What steps append, piece by piece.
-use Rattle.std.proofs.Common.{◌≡◌, ℕ, zero, suc, ◌+◌, ◌%◌, List, [], ◌∷◌, ◌++◌, length, map, replicate, Option, Some, None, option_map, refl, sym, ap, subst, ◌∙◌, arith, append_assoc, length-append}
+use Rattle.std.proofs.Common.{◌≡◌, ℕ, ◌+◌, List, [], ◌∷◌, ◌++◌, length, map, replicate, Some, None, option_map, refl, sym, ap, subst, ◌∙◌, arith, append_assoc, length-append}
 use Rattle.std.proofs.lemmas.List.{append-nil}
 use Rattle.mint.specs.Values.{Val}
 use Rattle.wire_def.specs.declared.encoding.Encoding.{Encoding}
@@ -8,7 +8,7 @@ use Rattle.wire_def.specs.declared.head.Head.{Head}
 use Rattle.cast_stub.specs.declared.put.Put.{Put}
 use Rattle.cast_stub.specs.Parts.{on_some}
 use Rattle.cast_stub.specs.Puts.{put_octets, offset, placed, full}
-use Rattle.cast_stub.specs.Steps.{Step, Steps, both, chunk_steps}
+use Rattle.cast_stub.specs.Steps.{Steps, both, chunk_steps}
 use Rattle.cast_stub.specs.Meaning.{wrote}
 use Rattle.cast_stub.proofs.Folding.{wrote-append}
 use Rattle.stub_lower.specs.Lowered.{IsPlace}

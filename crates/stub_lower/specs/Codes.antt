@@ -1,7 +1,6 @@
 -- The code of a node over those of its parts, which it calls.
 use Rattle.std.specs.Prelude.{◌≡◌, ℕ, suc, ℤ, List, [], ◌∷◌, Option, None, Some, Bool, true, if◌then◌else◌}
 use Rattle.std.specs.Int.{byte_len}
-use Rattle.mint.specs.declared.kind.Kind.TheVariants as kind
 use Rattle.mint.specs.declared.kind.Count.{Count}
 use Rattle.mint.specs.declared.kind.Count.TheVariants.{Exactly}
 use Rattle.mint.specs.declared.node.Node.{Node}

@@ -1,5 +1,5 @@
 -- What the codes of a table are to be.
-use Rattle.std.specs.Prelude.{◌≡◌, ℕ, ◌%◌, List, [], Option, Some, slice_get}
+use Rattle.std.specs.Prelude.{◌≡◌, ℕ, ◌%◌, List, [], Some, slice_get}
 use Rattle.mint.specs.declared.node.Node.{Node}
 use Rattle.mint.specs.Types.{type_at}
 use Rattle.mint.specs.Typed.{IsWellTyped}

@@ -1,4 +1,3 @@
-use Rattle.std.proofs.Common.{◌≡◌}
 use Rattle.stub_lower.proofs.Building.{calls_turn}
 use Rattle.stub_lower.proofs.nodes.add_calls.Goals as goal
 
