@@ -2,9 +2,9 @@
 ghost use Rattle.std.specs.Prelude.{◌≡◌, [], length, OnOk, IfOk};
 ghost use Rattle.wire_def.specs.declared.encoding.Encoding.TheVariants.{Xdr};
 ghost use Rattle.cast_stub.specs.Append.{append};
-ghost use Rattle.cast_stub.specs.Block.{stop, switch, code_seen, cases_seen};
+ghost use Rattle.cast_stub.specs.Block.{stop, each, switch, if_there, code_seen, cases_seen};
 ghost use Rattle.mint.specs.Types.{scalar_of};
-ghost use Rattle.stub_lower.specs.Codes.{IsCall, calls_from, cases_at, default_at, flag_code, tag_code, node_code};
+ghost use Rattle.stub_lower.specs.Codes.{call_here, IsCall, calls_from, cases_at, default_at, flag_code, tag_code, node_code};
 ghost use Rattle.stub_lower.specs.Lowered.{CodesSend, CodesFollow, CodesTurn};
 
 use crate::leaves::{add_count, add_number, add_row, add_scalar, add_text, order_of, width_of};
@@ -52,10 +52,7 @@ fn node_code(alloc: Global, enc: Encoding, node: &Node) -> Result<SendOps, NoMem
         Node::Group(ids) => add_calls(alloc, ids, &mut out)?,
         Node::Items(id, count) => {
             add_count(alloc, enc, *count, &mut out)?;
-            add(
-                &mut out,
-                SendOp::Each(Path::new(alloc), call_of(alloc, *id)?),
-            )?
+            add_each(alloc, *id, &mut out)?
         }
         Node::Choice(tag, arms, other) => {
             add_tag(alloc, enc, tag, &mut out)?;
@@ -63,10 +60,7 @@ fn node_code(alloc: Global, enc: Encoding, node: &Node) -> Result<SendOps, NoMem
         }
         Node::Maybe(id) => {
             add_flag(alloc, enc, &mut out)?;
-            add(
-                &mut out,
-                SendOp::Some(Path::new(alloc), call_of(alloc, *id)?),
-            )?
+            add_value(alloc, *id, &mut out)?
         }
     }
     Ok(out)
@@ -84,6 +78,24 @@ fn add_calls(alloc: Global, ids: &NodeIds, out: &mut SendOps) -> Result<(), NoMe
         }
     }
     Ok(())
+}
+
+/// Puts a call for each element.
+#[tactic(auto, using(crate::proofs::Building::building))]
+fn add_each(alloc: Global, id: u32, out: &mut SendOps) -> Result<(), NoMemory>
+    ensures { OnOk result (code_seen out.new ≡ append (code_seen out.old) (each [] (call_here id) stop)) }
+{
+    let body = call_of(alloc, id)?;
+    add(out, SendOp::Each(Path::new(alloc), body))
+}
+
+/// Puts a call for the value that may be there.
+#[tactic(auto, using(crate::proofs::Building::building))]
+fn add_value(alloc: Global, id: u32, out: &mut SendOps) -> Result<(), NoMemory>
+    ensures { OnOk result (code_seen out.new ≡ append (code_seen out.old) (if_there [] (call_here id) stop)) }
+{
+    let body = call_of(alloc, id)?;
+    add(out, SendOp::Some(Path::new(alloc), body))
 }
 
 /// Puts the code of an arm's number.
