@@ -54,7 +54,7 @@ pub coded_leads : (ns : List ℕ) (code : SendCode) → IsCoded ns code → Lead
 coded_leads ns code is h v p fits =
     let long : 4 + 4 * length ns ≡ suc (suc (suc (suc (length (words ns))))) = omega (arith, length-words ns) in
     subst (λ (b : Block). on_some (steps (calls_of code.subs h deepest) h b v) (wrote p []) ≡ Some (words (h.id ∷ ns))) (sym is)
-      (chunk_leads (calls_of code.subs h deepest) h v p (4 + 4 * length ns) (words ns) fits.id long)
+    (chunk_leads (calls_of code.subs h deepest) h v p (4 + 4 * length ns) (words ns) fits.id long)
 
 pub coded_chunks : (ns : List ℕ) (code : SendCode) → IsCoded ns code → AreChunks code
 coded_chunks ns code is = (2, rw is refl, omega arith)

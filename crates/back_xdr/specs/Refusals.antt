@@ -1,7 +1,7 @@
 -- The replies that refuse a call (RFC 5531, section 9), with an empty verifier.
-use Rattle.std.specs.Prelude.{◌≡◌, ℕ, List, [], ◌∷◌, ◌++◌, Option, None, Some, option_map}
+use Rattle.std.specs.Prelude.{ℕ, List, [], ◌∷◌, Option, None, Some, option_map}
 use Rattle.wire_def.specs.declared.outcome.Refusal.{Refusal}
-use Rattle.wire_def.specs.declared.outcome.Refusal.TheVariants.{ProgUnavail, ProgMismatch, ProcUnavail, GarbageArgs, SystemErr, RpcMismatch, AuthError}
+use Rattle.wire_def.specs.declared.outcome.Refusal.TheVariants.{ProgUnavail, ProgMismatch, ProcUnavail, GarbageArgs, SystemErr, RpcMismatch, AuthError, SystemException, UserException, RetCode}
 use Rattle.back_xdr.specs.Leads.{words}
 
 -- the numbers of an accepted call's reply: the message type, accepted, a verifier of flavour and length 0, and the state
@@ -25,7 +25,10 @@ refusal_numbers _ = None
 
 -- a refusal that a call over XDR may have
 abbrev pub IsOwn : Refusal → Type 0
-IsOwn r = (ns : List ℕ) × (refusal_numbers r ≡ Some ns)
+IsOwn (SystemException id minor completion) = ⊥
+IsOwn (UserException id) = ⊥
+IsOwn (RetCode n) = ⊥
+IsOwn _ = Unit {0}
 
 -- the octets of the reply
 abbrev pub refusal_octets : ℕ → Refusal → Option (List ℕ)

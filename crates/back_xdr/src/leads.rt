@@ -75,12 +75,7 @@ pub fn lead_call(alloc: Global, bound: &Bound, op: u32) -> Result<SendCode, NoMe
 }
 
 /// The head of an operation's answer, which is the same for every operation and arm.
-pub fn lead_reply(
-    alloc: Global,
-    _bound: &Bound,
-    _op: u32,
-    _arm: u32,
-) -> Result<SendCode, NoMemory>
+pub fn lead_reply(alloc: Global, _bound: &Bound, _op: u32, _arm: u32) -> Result<SendCode, NoMemory>
     ensures means { IfOk result (λ code. Leads (λ h. answer_lead h.id) code) }
     ensures chunks { IfOk result AreChunks }
 {

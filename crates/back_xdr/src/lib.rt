@@ -15,6 +15,8 @@ mod refusals;
 mod reply;
 mod shared;
 #[cfg(test)]
+mod stub_tests;
+#[cfg(test)]
 mod tests;
 mod words;
 

@@ -54,7 +54,7 @@ fn number(i: &Interface, place: usize) -> u32
 }
 
 /// The procedure at a place, counted from 0 over all interfaces.
-pub fn procedure_at(interfaces: &[Interface], place: usize) -> Procedure
+pub(crate) fn procedure_at(interfaces: &[Interface], place: usize) -> Procedure
     requires { place < length (procedures interfaces.now) }
     ensures { slice_get (procedures interfaces.now) place ≡ Some result }
 {
