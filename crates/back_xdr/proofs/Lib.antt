@@ -5,3 +5,5 @@ pub mod Replies
 pub mod Lawful
 pub mod Steps
 pub mod Exact
+pub mod Counting
+pub mod Coding

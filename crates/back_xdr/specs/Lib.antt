@@ -6,3 +6,7 @@ pub mod Heads
 pub mod Laws
 pub mod Told
 pub mod Readers
+pub mod Procedures
+pub mod Leads
+pub mod Coded
+pub mod Refusals

@@ -8,12 +8,21 @@ mod auth;
 mod call;
 mod cursor;
 mod laws;
+mod leads;
+mod lowering;
+pub mod procedures;
+mod refusals;
 mod reply;
 mod shared;
+#[cfg(test)]
+mod stub_tests;
 #[cfg(test)]
 mod tests;
 mod words;
 
 pub use call::{OncCall, read_call};
 pub use laws::{begins_or_stops, heads_are_read};
+pub use leads::{lead_call, lead_reply};
+pub use lowering::lower_send;
+pub use refusals::put_refusal;
 pub use reply::read_reply;

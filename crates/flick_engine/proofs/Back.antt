@@ -7,9 +7,10 @@ use Rattle.wire_def.specs.Send.{send}
 use Rattle.back_xdr.specs.Call.{Call, call_octets}
 use Rattle.back_xdr.specs.Told.{BeginsCall}
 use Rattle.back_xdr.specs.Words.{IsWord}
-use Rattle.flick_engine.specs.declared.procedures.Procedure.{Procedure}
-use Rattle.flick_engine.specs.Procedures.{procedure_of}
-use Rattle.flick_engine.specs.Messages.{lead, request_type}
+use Rattle.back_xdr.specs.declared.procedures.Procedure.{Procedure}
+use Rattle.back_xdr.specs.Procedures.{procedure_of}
+use Rattle.back_xdr.specs.Leads.{lead}
+use Rattle.flick_engine.specs.Messages.{request_type}
 use Rattle.flick_engine.specs.Laws.{AreWords, call_of, IsReadBack}
 
 -- a call without credentials and verifier

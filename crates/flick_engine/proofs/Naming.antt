@@ -6,9 +6,10 @@ use Rattle.std.proofs.lemmas.Bool.{eqb-true}
 use Rattle.std.proofs.lemmas.List.{length-map, get_or-map, get_or_append_left, get_or-append-add}
 use Rattle.aoi.specs.declared.interfaces.Interface.{Interface}
 use Rattle.back_xdr.specs.declared.call.OncCall.{OncCall}
-use Rattle.flick_engine.specs.declared.procedures.Procedure.{Procedure}
+use Rattle.back_xdr.specs.declared.procedures.Procedure.{Procedure}
 use Rattle.flick_engine.specs.declared.seek.Naming.TheVariants.{Operation}
-use Rattle.flick_engine.specs.Procedures.{numbers, procedures_of, procedures, is_called, operation_at, named_from}
+use Rattle.back_xdr.specs.Procedures.{numbers, procedures_of, procedures}
+use Rattle.flick_engine.specs.Procedures.{is_called, operation_at, named_from}
 use Rattle.flick_engine.specs.Laws.{called_by, IsNamedRight}
 
 abbrev none : Procedure

@@ -5,7 +5,8 @@ use Rattle.std.specs.List.{position_from}
 use Rattle.std.proofs.lemmas.List.{drop_more}
 use Rattle.aoi.specs.declared.interfaces.Interface.{Interface}
 use Rattle.back_xdr.specs.declared.call.OncCall.{OncCall}
-use Rattle.flick_engine.specs.Procedures.{numbers, is_called, operation_at, named_from}
+use Rattle.back_xdr.specs.Procedures.{numbers}
+use Rattle.flick_engine.specs.Procedures.{is_called, operation_at, named_from}
 
 chosen : {A : Type 0} (b : Bool) (x y : A) → b ≡ true → (if b then x else y) ≡ x
 chosen true x y e = refl

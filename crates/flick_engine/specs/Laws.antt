@@ -10,9 +10,10 @@ use Rattle.back_xdr.specs.Told.{shared_head}
 use Rattle.back_xdr.specs.Words.{IsWord}
 use Rattle.pres.specs.Bindings.{Binding}
 use Rattle.flick_engine.specs.declared.errors.MessageErr.{MessageErr}
-use Rattle.flick_engine.specs.declared.procedures.Procedure.{Procedure}
+use Rattle.back_xdr.specs.declared.procedures.Procedure.{Procedure}
 use Rattle.flick_engine.specs.declared.seek.Naming.TheVariants.{Operation}
-use Rattle.flick_engine.specs.Procedures.{procedure_of, named}
+use Rattle.back_xdr.specs.Procedures.{procedure_of}
+use Rattle.flick_engine.specs.Procedures.{named}
 use Rattle.flick_engine.specs.Messages.{request_type, message}
 use Rattle.flick_engine.specs.Received.{Asked, IsShort, ReadCall}
 

@@ -1,23 +1,14 @@
 -- The messages of calls (RFC 5531, section 9), with empty credentials and verifier.
-use Rattle.std.specs.Prelude.{ℕ, List, [], ◌∷◌, ◌++◌, map, flat_map, slice_index_or}
-use Rattle.kit_base.specs.Bytes.{be}
+use Rattle.std.specs.Prelude.{ℕ, List, ◌++◌, map, slice_index_or}
 use Rattle.mint.specs.Types.{Ty, type_at}
 use Rattle.mint.specs.Values.{Val}
 use Rattle.wire_def.specs.declared.encoding.Encoding.TheVariants.{Xdr}
 use Rattle.wire_def.specs.declared.head.Head.{Head}
 use Rattle.wire_def.specs.Send.{send}
+use Rattle.back_xdr.specs.Leads.{lead}
+use Rattle.back_xdr.specs.Procedures.{procedure_of}
 use Rattle.pres.specs.declared.ops.Op.{Op}
 use Rattle.pres.specs.Bindings.{Binding}
-use Rattle.flick_engine.specs.declared.procedures.Procedure.{Procedure}
-use Rattle.flick_engine.specs.Procedures.{procedure_of}
-
--- words of four octets each, the most significant octet first
-abbrev pub words : List ℕ → List ℕ
-words numbers = flat_map (be 4) numbers
-
--- the head of a call: the transaction, the message type, the version of the protocol, what is called, and two bodies of flavour and length 0
-abbrev pub lead : Procedure → ℕ → List ℕ
-lead p id = words (id ∷ 0 ∷ 2 ∷ p.program ∷ p.version ∷ p.number ∷ 0 ∷ 0 ∷ 0 ∷ 0 ∷ [])
 
 -- the type of what goes into an operation
 abbrev pub request_type : Binding → ℕ → Ty

@@ -1,33 +1,12 @@
 -- How calls name the operations of a unit.
-use Rattle.std.specs.Prelude.{ℕ, ◌+◌, ◌<◌, ◌==◌, Bool, ◌&&◌, List, [], ◌∷◌, map, flat_map, length, slice_index_or, Option, Some, None, if◌then◌else◌}
+use Rattle.std.specs.Prelude.{ℕ, ◌+◌, ◌<◌, ◌==◌, Bool, ◌&&◌, List, [], ◌∷◌, length, Option, Some, None, if◌then◌else◌}
 use Rattle.std.specs.List.{position_from}
-use Rattle.wire_def.specs.declared.encoding.Back.TheVariants as back
 use Rattle.aoi.specs.declared.interfaces.Interface.{Interface}
-use Rattle.aoi.specs.declared.interfaces.Operation.{Operation}
 use Rattle.back_xdr.specs.declared.call.OncCall.{OncCall}
+use Rattle.back_xdr.specs.Procedures.{numbers}
 use Rattle.pres.specs.Bindings.{Binding}
-use Rattle.pres.specs.Offers.{operations}
-use Rattle.flick_engine.specs.declared.procedures.Procedure.{Procedure}
 use Rattle.flick_engine.specs.declared.seek.Naming.{Naming}
 use Rattle.flick_engine.specs.declared.seek.Naming.TheVariants.{Operation as one, NoInterface, NoOperation}
-
--- the numbers of an interface's procedures
-abbrev pub numbers : Interface → List ℕ
-numbers i = map (λ (op : Operation). op.proc_no) (operations back.Xdr i)
-
--- the procedures of an interface
-abbrev pub procedures_of : Interface → List Procedure
-procedures_of i = map (λ n. record { program = i.program; version = i.version; number = n }) (numbers i)
-
--- the procedures of interfaces, in the order of the operations that they offer
-abbrev pub procedures : List Interface → List Procedure
-procedures is = flat_map procedures_of is
-
--- the procedure that is an operation
-abbrev pub procedure_of : Binding → ℕ → Procedure
-procedure_of b op = slice_index_or (procedures b.unit.interfaces) op (record { program = 0; version = 0; number = 0 })
-
--- ---- which operation a call names
 
 -- an interface with the call's program and version
 abbrev pub is_called : OncCall → Interface → Bool

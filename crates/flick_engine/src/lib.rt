@@ -6,7 +6,6 @@ mod errors;
 mod laws;
 mod marshal;
 mod operations;
-mod procedures;
 mod requests;
 mod seek;
 mod unmarshal;

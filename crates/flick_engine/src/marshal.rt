@@ -3,11 +3,12 @@ ghost use Rattle.std.specs.Prelude.{◌≡◌, ◌<◌, ◌≤◌, ◌+◌, ◌+
 ghost use Rattle.kit_base.specs.Bytes.{be};
 ghost use Rattle.mint.specs.Typed.{IsWellTyped};
 ghost use Rattle.mint.specs.Values.{seen};
-ghost use Rattle.flick_engine.specs.Messages.{words, lead, request_type, message};
+ghost use Rattle.back_xdr.specs.Leads.{words, lead};
+ghost use Rattle.flick_engine.specs.Messages.{request_type, message};
 
 use crate::engine::Engine;
 use crate::errors::MarshalErr;
-use crate::procedures::Procedure;
+use back_xdr::procedures::Procedure;
 use kit_base::Octets;
 use mint::value::Value;
 use plain_wire::plain_send;

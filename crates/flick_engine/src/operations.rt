@@ -1,13 +1,14 @@
 // The operations of an engine: their procedures, the nodes of their requests, and how calls name them.
 ghost use Rattle.std.specs.Prelude.{◌≡◌, ◌<◌, ◌^◌, length};
 ghost use Rattle.mint.specs.Types.{type_at};
-ghost use Rattle.flick_engine.specs.Procedures.{procedures, procedure_of, named, IsBelow};
+ghost use Rattle.back_xdr.specs.Procedures.{procedures, procedure_of};
+ghost use Rattle.flick_engine.specs.Procedures.{named, IsBelow};
 ghost use Rattle.flick_engine.specs.Messages.{request_type};
 
 use crate::engine::Engine;
-use crate::procedures::{Procedure, procedure_at};
 use crate::seek::{Naming, seek};
 use back_xdr::OncCall;
+use back_xdr::procedures::{Procedure, operations_are_procedures, procedure_of};
 use mint::table::NodeId;
 
 impl Engine {
@@ -16,9 +17,7 @@ impl Engine {
         ensures many { length (procedures self.now.unit.interfaces) ≡ length self.now.ops }
         ensures few { length self.now.ops < 2 ^ 32 }
     {
-        let bound = self.bound();
-        let _ops = bound.ops();
-        bound.unit().interfaces_are_apart();
+        operations_are_procedures(self.bound());
     }
 
     /// The procedure that is an operation.
@@ -26,8 +25,7 @@ impl Engine {
         requires { op < length self.now.ops }
         ensures { result ≡ procedure_of self.now op }
     {
-        self.operations_are_procedures();
-        procedure_at(self.bound().unit().interfaces().as_slice(), op as usize)
+        procedure_of(self.bound(), op)
     }
 
     /// The node of what goes into an operation.

@@ -1,10 +1,11 @@
 // The operation that a call names.
 ghost use Rattle.std.specs.Prelude.{◌≡◌, ◌+◌, ◌<◌, ◌^◌, length};
-ghost use Rattle.flick_engine.specs.Procedures.{procedures, named_from, is_called, operation_at};
+ghost use Rattle.back_xdr.specs.Procedures.{procedures};
+ghost use Rattle.flick_engine.specs.Procedures.{named_from, is_called, operation_at};
 
-use crate::procedures::{count, place_of};
 use aoi::Interface;
 use back_xdr::OncCall;
+use back_xdr::procedures::{count, place_of};
 
 /// What a call names.
 #[derive(Clone, Copy, Debug, PartialEq, Eq)]

@@ -20,7 +20,8 @@ use Rattle.pres.specs.Faces.{Face, number, values, choice, part, Arms, arm}
 use Rattle.pres.specs.Faults.{raises, has_raises, is_deep, is_heavy, is_long, has_long, has_long_in, is_spread, is_wide, bind_fault}
 use Rattle.pres.specs.Made.{made, made_inside, made_raised, made_by, made_in_types, made_in_interfaces, all_made}
 use Rattle.pres.specs.Offers.{face_of, type_faces, parameters, exception, raised, Offer, is_cdr, is_xdr, offer, null_operation, gotten, operations, offers_from, offers}
-use Rattle.flick_engine.specs.Procedures.{numbers, procedures_of, procedures, is_called, operation_at, named_from}
+use Rattle.back_xdr.specs.Procedures.{numbers, procedures_of, procedures}
+use Rattle.flick_engine.specs.Procedures.{is_called, operation_at, named_from}
 
 -- ---- lists whose items have one image
 

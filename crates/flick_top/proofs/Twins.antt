@@ -32,10 +32,13 @@ use Rattle.json_shape.specs.Texts.{text_of}
 use Rattle.json_shape.specs.Written.{json_of}
 use Rattle.flick_engine.specs.declared.errors.MessageErr.{MessageErr}
 use Rattle.flick_engine.specs.declared.errors.MessageErr.TheVariants as err
-use Rattle.flick_engine.specs.Procedures.{procedures, procedure_of, named, IsBelow}
-use Rattle.flick_engine.specs.Messages.{lead, request_type, message}
+use Rattle.back_xdr.specs.Leads.{lead}
+use Rattle.back_xdr.specs.Procedures.{procedures, procedure_of}
+use Rattle.flick_engine.specs.Procedures.{named, IsBelow}
+use Rattle.flick_engine.specs.Messages.{request_type, message}
 use Rattle.flick_engine.specs.Received.{Asked, ReadCall}
-use Rattle.flick_engine.proofs.Counting.{counted, named_below}
+use Rattle.back_xdr.proofs.Counting.{counted}
+use Rattle.flick_engine.proofs.Counting.{named_below}
 use Rattle.flick_top.specs.Marshalled.{digits_of, IsMessage, IsOfRecord, IsOfTree}
 use Rattle.flick_top.specs.Unmarshalled.{record_text, answer_text, IsOfOctets}
 use Rattle.flick_top.proofs.Alike.{AreAlike, offers_alike, procedures_alike, named_alike, names_alike}

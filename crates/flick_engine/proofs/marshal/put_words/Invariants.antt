@@ -1,5 +1,5 @@
 use Rattle.std.proofs.Common.{◌≡◌, ◌+◌, ◌*◌, ◌++◌, length, take}
-use Rattle.flick_engine.specs.Messages.{words}
+use Rattle.back_xdr.specs.Leads.{words}
 use Rattle.flick_engine.proofs.marshal.put_words.Given as goal
 
 abbrev pub invariant-loop-number : goal.invariant-loop-number

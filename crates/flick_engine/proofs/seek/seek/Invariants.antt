@@ -1,5 +1,6 @@
 use Rattle.std.proofs.Common.{◌≡◌, ◌+◌, length, drop}
-use Rattle.flick_engine.specs.Procedures.{procedures, named_from}
+use Rattle.back_xdr.specs.Procedures.{procedures}
+use Rattle.flick_engine.specs.Procedures.{named_from}
 use Rattle.flick_engine.proofs.seek.seek.Given as goal
 
 -- what the call names among all interfaces it names among those that are left

@@ -1,5 +1,6 @@
 use Rattle.std.proofs.Common.{length, zero-add}
-use Rattle.flick_engine.specs.Procedures.{procedures, named_from, IsBelow}
+use Rattle.back_xdr.specs.Procedures.{procedures}
+use Rattle.flick_engine.specs.Procedures.{named_from, IsBelow}
 use Rattle.flick_engine.proofs.Counting.{named_below}
 use Rattle.flick_engine.proofs.engine.Engine.named.Goals as goal
 

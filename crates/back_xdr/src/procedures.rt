@@ -1,19 +1,21 @@
-// The procedures of interfaces.
+//! The procedures of interfaces.
+
 ghost use Rattle.std.specs.Prelude.{◌≡◌, ◌+◌, ◌<◌, ◌^◌, ◌==◌, length, slice_get, slice_index, Some};
 ghost use Rattle.std.specs.List.{list_any, position_from};
 ghost use Rattle.aoi.specs.declared.interfaces.Operation.{Operation as SpecOperation};
 ghost use Rattle.wire_def.specs.declared.encoding.Back.TheVariants.{Xdr};
 ghost use Rattle.pres.specs.Offers.{gets_null};
-ghost use Rattle.flick_engine.specs.Procedures.{numbers, procedures};
+ghost use Rattle.back_xdr.specs.Procedures.{numbers, procedures, procedure_of};
 
 use aoi::{Interface, Operation};
+use pres::Bound;
 
 /// A procedure: its program, the program's version, and its number.
 #[derive(Clone, Copy, Debug, PartialEq, Eq)]
-pub(crate) struct Procedure {
-    pub(crate) program: u32,
-    pub(crate) version: u32,
-    pub(crate) number: u32,
+pub struct Procedure {
+    pub program: u32,
+    pub version: u32,
+    pub number: u32,
 }
 
 /// Whether one of the operations has the procedure number.
@@ -31,7 +33,7 @@ fn gets_null(i: &Interface) -> bool
 }
 
 /// How many procedures an interface has.
-pub(crate) fn count(i: &Interface) -> usize
+pub fn count(i: &Interface) -> usize
     ensures { result ≡ length (numbers i.now) }
 {
     let own = i.ops.as_slice().len();
@@ -73,7 +75,7 @@ pub(crate) fn procedure_at(interfaces: &[Interface], place: usize) -> Procedure
 }
 
 /// The place of an interface's first procedure with the number, where they are counted from a place.
-pub(crate) fn place_of(i: &Interface, first: u32, number: u32) -> Option<u32>
+pub fn place_of(i: &Interface, first: u32, number: u32) -> Option<u32>
     requires { first + length (numbers i.now) < 2 ^ 32 }
     ensures { result ≡ position_from (λ n. n == number) first (numbers i.now) }
 {
@@ -89,4 +91,24 @@ pub(crate) fn place_of(i: &Interface, first: u32, number: u32) -> Option<u32>
     } else {
         None
     }
+}
+
+/// Each operation of a bound unit is a procedure, and they are few. It does nothing.
+pub fn operations_are_procedures(bound: &Bound)
+    requires xdr { bound.now.back ≡ Xdr }
+    ensures many { length (procedures bound.now.unit.interfaces) ≡ length bound.now.ops }
+    ensures few { length bound.now.ops < 2 ^ 32 }
+{
+    let _ops = bound.ops();
+    bound.unit().interfaces_are_apart();
+}
+
+/// The procedure that is an operation of a bound unit.
+pub fn procedure_of(bound: &Bound, op: u32) -> Procedure
+    requires xdr { bound.now.back ≡ Xdr }
+    requires op { op < length bound.now.ops }
+    ensures { result ≡ procedure_of bound.now op }
+{
+    operations_are_procedures(bound);
+    procedure_at(bound.unit().interfaces().as_slice(), op as usize)
 }

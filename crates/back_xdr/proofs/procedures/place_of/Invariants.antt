@@ -4,8 +4,8 @@ use Rattle.std.specs.List.{position_from}
 use Rattle.aoi.specs.declared.interfaces.Operation.{Operation}
 use Rattle.wire_def.specs.declared.encoding.Back.TheVariants as back
 use Rattle.pres.specs.Offers.{gotten}
-use Rattle.flick_engine.specs.Procedures.{numbers}
-use Rattle.flick_engine.proofs.procedures.place_of.Given as goal
+use Rattle.back_xdr.specs.Procedures.{numbers}
+use Rattle.back_xdr.proofs.procedures.place_of.Given as goal
 
 -- the first place among all procedures is that among those that are left
 abbrev pub invariant-loop-op : goal.invariant-loop-op

@@ -1,0 +1,22 @@
+//! The code that sends the values of each node.
+
+ghost use Rattle.std.specs.Prelude.{◌≡◌, length, IfOk};
+ghost use Rattle.wire_def.specs.declared.encoding.Encoding.TheVariants.{Xdr};
+ghost use Rattle.stub_lower.specs.Lowered.{CodesSend, CodesFollow, CodesTurn};
+
+use cast_stub::SendSubs;
+use kit_base::NoMemory;
+use mint::table::Mint;
+use std::alloc::Global;
+use stub_lower::lower;
+use wire_def::Encoding;
+
+/// The codes that send the nodes of a table over XDR, each at its node's place.
+pub fn lower_send(alloc: Global, mint: &Mint) -> Result<SendSubs, NoMemory>
+    ensures many { IfOk result (λ subs. length subs ≡ length mint.now) }
+    ensures means { IfOk result (λ subs. CodesSend Xdr mint.now subs) }
+    ensures follows { IfOk result (λ subs. CodesFollow mint.now subs) }
+    ensures rows { IfOk result (λ subs. CodesTurn Xdr mint.now subs) }
+{
+    lower(alloc, Encoding::Xdr, mint)
+}

@@ -1,0 +1,53 @@
+//! The replies that refuse a call.
+
+ghost use Rattle.std.specs.Prelude.{◌≡◌, ◌≤◌, ◌+◌, ◌*◌, [], ◌∷◌, ◌++◌, length, Some, OnOk};
+ghost use Rattle.kit_base.specs.Bytes.{be};
+ghost use Rattle.back_xdr.specs.Leads.{words};
+ghost use Rattle.back_xdr.specs.Refusals.{IsOwn, refusal_octets};
+
+use kit_base::NoMemory;
+use raw_buf::SendBuf;
+use wire_def::{Head, Order, Refusal};
+
+/// Writes the reply that refuses a call into an empty buffer, with an empty verifier.
+pub fn put_refusal(refusal: &Refusal, head: &Head, buf: &mut SendBuf) -> Result<(), NoMemory>
+    requires empty { buf.old.done ≡ [] }
+    requires own { IsOwn refusal.now }
+    ensures { OnOk result (refusal_octets head.now.id refusal.now ≡ Some buf.new.done) }
+{
+    let id = head.id;
+    match refusal {
+        Refusal::ProgUnavail => put_words(&[id, 1, 0, 0, 0, 1], buf),
+        Refusal::ProgMismatch(low, high) => put_words(&[id, 1, 0, 0, 0, 2, *low, *high], buf),
+        Refusal::ProcUnavail => put_words(&[id, 1, 0, 0, 0, 3], buf),
+        Refusal::GarbageArgs => put_words(&[id, 1, 0, 0, 0, 4], buf),
+        Refusal::SystemErr => put_words(&[id, 1, 0, 0, 0, 5], buf),
+        Refusal::RpcMismatch(low, high) => put_words(&[id, 1, 1, 0, *low, *high], buf),
+        Refusal::AuthError(why) => put_words(&[id, 1, 1, 1, *why], buf),
+        Refusal::SystemException(_, _, _) => unreachable!(),
+        Refusal::UserException(_) => unreachable!(),
+        Refusal::RetCode(_) => unreachable!(),
+    }
+}
+
+/// Puts words into space that it ensures.
+fn put_words(numbers: &[u32], buf: &mut SendBuf) -> Result<(), NoMemory>
+    requires { length numbers.now ≤ 8 }
+    ensures { OnOk result (buf.new.done ≡ buf.old.done ++ words numbers.now) }
+{
+    buf.ensure(4 * numbers.len())?;
+    for number in numbers {
+        put_word(*number, buf);
+    }
+    Ok(())
+}
+
+/// Puts a word into the space that is ensured.
+fn put_word(n: u32, buf: &mut SendBuf)
+    requires { 4 ≤ length buf.old.front }
+    ensures done { buf.new.done ≡ buf.old.done ++ be 4 n }
+    ensures ahead { length buf.new.front + 4 ≡ length buf.old.front }
+{
+    buf.put(0, 4, Order::Big, u64::from(n));
+    buf.advance(4);
+}

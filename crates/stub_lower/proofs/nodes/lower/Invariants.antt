@@ -1,0 +1,5 @@
+use Rattle.stub_lower.proofs.Whole.{AreLowered}
+use Rattle.stub_lower.proofs.nodes.lower.Given as goal
+
+abbrev pub invariant-loop-id : goal.invariant-loop-id
+invariant-loop-id l = AreLowered l.fn.enc l.mint l.id l.subs

@@ -1,0 +1,4 @@
+pub mod Codes
+pub mod Leads
+pub mod Lowered
+pub mod Turns

@@ -1,0 +1,138 @@
+// What an encoding gives: how a number, a count and the elements of an array are sent.
+ghost use Rattle.std.specs.Prelude.{◌≡◌, [], ◌∷◌, OnOk};
+ghost use Rattle.mint.specs.Types.{number, text, row_of};
+ghost use Rattle.cast_stub.specs.Append.{append};
+ghost use Rattle.cast_stub.specs.Block.{stop, chunk, each, code_seen};
+ghost use Rattle.stub_lower.specs.Codes.{order_of, scalar_width, scalar_code, number_put, count_code, behind_code, array_code};
+
+use crate::ops::{add, add_chunk};
+use cast_stub::{Path, Put, SendOp, SendOps};
+use kit_base::NoMemory;
+use mint::kind::{Count, Kind};
+use std::alloc::Global;
+use wire_def::{Encoding, Order};
+
+/// Which octet of a number comes first.
+pub(crate) fn order_of(enc: Encoding) -> Order
+    ensures { result ≡ order_of enc }
+{
+    match enc {
+        Encoding::Xdr | Encoding::CdrBig => Order::Big,
+        Encoding::CdrLittle | Encoding::Mach => Order::Little,
+    }
+}
+
+/// The octets of a number of a kind.
+pub(crate) fn width_of(enc: Encoding, kind: Kind) -> u32
+    ensures { result ≡ scalar_width enc (number kind) }
+{
+    match (kind, enc) {
+        (Kind::I64 | Kind::U64, _) => 8,
+        (Kind::I32 | Kind::U32, _) | (_, Encoding::Xdr) => 4,
+        (Kind::I16 | Kind::U16, _) => 2,
+        _ => 1,
+    }
+}
+
+/// Puts the code of a scalar behind the last operation; the put is that of its number.
+#[tactic(auto, using(crate::proofs::Building::building))]
+pub(crate) fn add_scalar(
+    alloc: Global,
+    enc: Encoding,
+    width: u32,
+    put: Put,
+    out: &mut SendOps,
+) -> Result<(), NoMemory>
+    ensures { OnOk result (code_seen out.new ≡ append (code_seen out.old) (scalar_code enc width put)) }
+{
+    match enc {
+        Encoding::Xdr => add_chunk(alloc, width, put, out),
+        _ => Ok(()),
+    }
+}
+
+/// Puts the code of the current value, a number of so many octets.
+#[tactic(auto, using(crate::proofs::Building::building))]
+pub(crate) fn add_number(
+    alloc: Global,
+    enc: Encoding,
+    width: u32,
+    out: &mut SendOps,
+) -> Result<(), NoMemory>
+    ensures { OnOk result (code_seen out.new ≡ append (code_seen out.old) (scalar_code enc width (number_put enc width))) }
+{
+    let put = Put::Num(0, Path::new(alloc), width, order_of(enc));
+    add_scalar(alloc, enc, width, put, out)
+}
+
+/// Puts the code of a count, which a fixed length has not.
+#[tactic(auto, using(crate::proofs::Building::building))]
+pub(crate) fn add_count(
+    alloc: Global,
+    enc: Encoding,
+    count: Count,
+    out: &mut SendOps,
+) -> Result<(), NoMemory>
+    ensures { OnOk result (code_seen out.new ≡ append (code_seen out.old) (count_code enc count)) }
+{
+    let width = width_of(enc, Kind::U32);
+    let put = Put::Count(0, Path::new(alloc), 1, 0, width, order_of(enc));
+    match count {
+        Count::Exactly(_) => Ok(()),
+        _ => add_scalar(alloc, enc, width, put, out),
+    }
+}
+
+/// Puts a loop over the numbers of an array, each of so many octets, and what follows them; the
+/// numbers are single octets or not.
+#[tactic(auto, using(crate::proofs::Building::building))]
+fn add_loop(
+    alloc: Global,
+    enc: Encoding,
+    width: u32,
+    octets: bool,
+    out: &mut SendOps,
+) -> Result<(), NoMemory>
+    ensures { OnOk result (code_seen out.new ≡ append (code_seen out.old) (each [] (chunk width (number_put enc width ∷ []) stop) (behind_code enc octets))) }
+{
+    let put = Put::Num(0, Path::new(alloc), width, order_of(enc));
+    let mut turn = SendOps::new(alloc);
+    add_chunk(alloc, width, put, &mut turn)?;
+    add(out, SendOp::Each(Path::new(alloc), turn))?;
+    match (enc, octets) {
+        (Encoding::Xdr, true) => add(out, SendOp::Align(4)),
+        _ => Ok(()),
+    }
+}
+
+/// Puts the code of a text.
+#[tactic(auto, using(crate::proofs::Building::building))]
+pub(crate) fn add_text(
+    alloc: Global,
+    enc: Encoding,
+    count: Count,
+    out: &mut SendOps,
+) -> Result<(), NoMemory>
+    ensures { OnOk result (code_seen out.new ≡ append (code_seen out.old) (array_code enc (text count))) }
+{
+    add_count(alloc, enc, count, out)?;
+    add_loop(alloc, enc, 1, true, out)
+}
+
+/// Puts the code of a row.
+#[tactic(auto, using(crate::proofs::Building::building))]
+pub(crate) fn add_row(
+    alloc: Global,
+    enc: Encoding,
+    kind: Kind,
+    count: Count,
+    out: &mut SendOps,
+) -> Result<(), NoMemory>
+    ensures { OnOk result (code_seen out.new ≡ append (code_seen out.old) (array_code enc (row_of kind count))) }
+{
+    add_count(alloc, enc, count, out)?;
+    match kind {
+        Kind::Octet => add_loop(alloc, enc, 1, true, out),
+        _ => add_loop(alloc, enc, width_of(enc, kind), false, out),
+    }
+}

@@ -1,0 +1,12 @@
+//! From types to stub code that sends: the code of each node of a table.
+//!
+//! What every encoding has in common stands in `nodes`, what an encoding gives in `leaves`.
+#![tactic(auto)]
+
+mod leaves;
+mod nodes;
+mod ops;
+#[cfg(test)]
+mod tests;
+
+pub use nodes::lower;
