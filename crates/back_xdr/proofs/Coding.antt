@@ -1,5 +1,5 @@
 -- A head as one chunk appends its octets.
-use Rattle.std.proofs.Common.{◌≡◌, ℕ, zero, suc, ◌+◌, ◌*◌, ◌^◌, ◌<◌, ◌≤◌, List, [], ◌∷◌, ◌++◌, length, map, pos, replicate, Option, Some, None, option_map, refl, sym, ap, subst, ◌∙◌, arith, length-append, Bool, true, false, if◌then◌else◌}
+use Rattle.std.proofs.Common.{◌≡◌, ℕ, suc, ◌+◌, ◌*◌, ◌<◌, List, [], ◌∷◌, ◌++◌, length, map, pos, replicate, Option, Some, None, option_map, refl, sym, ap, subst, arith, length-append, Bool, true, false, if◌then◌else◌}
 use Rattle.std.specs.Prelude.{nat_lt, Result, Ok, Err, IfOk}
 use Rattle.kit_base.specs.declared.errors.NoMemory.{NoMemory}
 use Rattle.std.proofs.lemmas.Bool.{lt-ltb}
@@ -12,12 +12,12 @@ use Rattle.cast_stub.specs.declared.put.Put.TheVariants as put
 use Rattle.cast_stub.specs.declared.send.SendCode.{SendCode}
 use Rattle.cast_stub.specs.Parts.{on_some}
 use Rattle.cast_stub.specs.Puts.{word, filled, placed, full}
-use Rattle.cast_stub.specs.Block.{Block, stop, chunk, code_seen}
+use Rattle.cast_stub.specs.Block.{Block, stop, chunk}
 use Rattle.cast_stub.specs.Steps.{Calls, steps}
 use Rattle.cast_stub.specs.Subs.{calls_of, deepest}
-use Rattle.cast_stub.specs.Meaning.{wrote, meaning}
+use Rattle.cast_stub.specs.Meaning.{wrote}
 use Rattle.cast_stub.proofs.Pieces.{seen-Chunk}
-use Rattle.stub_lower.specs.Leads.{IsHead, Leads, AreChunks}
+use Rattle.stub_lower.specs.Leads.{Leads, AreChunks}
 use Rattle.back_xdr.specs.Leads.{words}
 use Rattle.back_xdr.specs.Coded.{IsCoded}
 
