@@ -28,124 +28,95 @@ fn words(rt: &HostRuntime, list: &[&[u8]]) -> Result<Words, NoMemory> {
     Ok(all)
 }
 
-fn marshal(rt: &HostRuntime) -> Result<Words, NoMemory> {
-    words(rt, &[b"marshal", b"onc", b"xdr", b"calc.x"])
+/// Where the ends of a run fail: the numbers of the calls, and whether the file is there.
+#[derive(Clone, Copy)]
+struct Ends<'a> {
+    has_file: bool,
+    shelf_fails: &'a [&'a [u8]],
+    source_fails: &'a [&'a [u8]],
+    sink_fails: &'a [&'a [u8]],
 }
 
-fn shelf(rt: &HostRuntime, fails: &[&[u8]]) -> Result<MemShelf, NoMemory> {
-    let mut shelf = MemShelf::new(rt.alloc(), words(rt, fails)?);
-    shelf.add(b"calc.x", CALC)?;
-    Ok(shelf)
-}
+const NO_FAULT: Ends<'static> = Ends {
+    has_file: true,
+    shelf_fails: &[],
+    source_fails: &[],
+    sink_fails: &[],
+};
 
-#[test]
-fn a_request_is_answered_by_its_call(rt: HostRuntime) -> Result<(), Fail> {
-    let mut shelf = shelf(&rt, &[])?;
-    let mut source = MemSource::new(octets(&rt, LINE)?, words(&rt, &[])?, 1);
-    let mut sink = MemSink::sure(rt.alloc())?;
+/// The status of `marshal onc xdr calc.x` over an input, and what was written. The source gives 60
+/// octets a read, the sink takes one a write.
+fn ran(rt: &HostRuntime, ends: &Ends<'_>, input: &[u8]) -> Result<(u8, Octets), NoMemory> {
+    let command = words(rt, &[b"marshal", b"onc", b"xdr", b"calc.x"])?;
+    let mut shelf = MemShelf::new(rt.alloc(), words(rt, ends.shelf_fails)?);
+    if ends.has_file {
+        shelf.add(b"calc.x", CALC)?;
+    }
+    let mut source = MemSource::new(octets(rt, input)?, words(rt, ends.source_fails)?, 60);
+    let mut sink = MemSink::new(rt.alloc(), words(rt, ends.sink_fails)?, 1)?;
     let mut buf = SendBuf::new(rt.alloc())?;
     let status = flick(
         rt.alloc(),
-        &marshal(&rt)?,
+        &command,
         &mut shelf,
         &mut source,
         &mut sink,
         &mut buf,
     );
+    Ok((status, octets(rt, sink.held())?))
+}
+
+#[test]
+fn a_request_is_answered_by_its_call(rt: HostRuntime) -> Result<(), Fail> {
+    let (status, held) = ran(&rt, &NO_FAULT, LINE)?;
     assert_eq!(rt; status, 0);
-    assert_eq!(rt; sink.held(), HEX);
-    assert_eq!(rt; buf.octets().len(), 48);
+    assert_eq!(rt; held.as_slice(), HEX);
     outputs_are_determined();
     Ok(())
 }
 
 #[test]
-fn a_sink_that_fails_at_its_second_write_holds_one_answer(rt: HostRuntime) -> Result<(), Fail> {
-    let mut shelf = shelf(&rt, &[])?;
-    let mut source = MemSource::sure(octets(&rt, TWO_LINES)?);
-    let mut sink = MemSink::new(rt.alloc(), words(&rt, &[b"2"])?, 4096)?;
-    let mut buf = SendBuf::new(rt.alloc())?;
-    let status = flick(
-        rt.alloc(),
-        &marshal(&rt)?,
-        &mut shelf,
-        &mut source,
-        &mut sink,
-        &mut buf,
-    );
-    assert_eq!(rt; status, 5);
-    assert_eq!(rt; sink.held(), HEX);
+fn what_is_no_record_is_refused(rt: HostRuntime) -> Result<(), Fail> {
+    let (status, held) = ran(&rt, &NO_FAULT, b"{}\n")?;
+    assert_eq!(rt; status, 1);
+    assert_eq!(rt; held.as_slice(), b"! request\n".as_slice());
     Ok(())
 }
 
 #[test]
-fn a_source_that_fails_leaves_the_answers_of_ended_lines(rt: HostRuntime) -> Result<(), Fail> {
-    for (fail, held) in [(b"1".as_slice(), b"".as_slice()), (b"2".as_slice(), HEX)] {
-        let mut shelf = shelf(&rt, &[])?;
-        let mut source = MemSource::new(octets(&rt, TWO_LINES)?, words(&rt, &[fail])?, 60);
-        let mut sink = MemSink::sure(rt.alloc())?;
-        let mut buf = SendBuf::new(rt.alloc())?;
-        let status = flick(
-            rt.alloc(),
-            &marshal(&rt)?,
-            &mut shelf,
-            &mut source,
-            &mut sink,
-            &mut buf,
-        );
-        assert_eq!(rt; status, 4);
-        assert_eq!(rt; sink.held(), held);
+fn ends_that_fail_leave_a_front(rt: HostRuntime) -> Result<(), Fail> {
+    // The first answer has 97 octets, so that the sink fails at the second; the source at its
+    // first read, and behind a line; the shelf.
+    let table = [
+        (b"".as_slice(), b"".as_slice(), b"98".as_slice(), 5, HEX),
+        (b"", b"1", b"", 4, b""),
+        (b"", b"2", b"", 4, HEX),
+        (b"1", b"", b"", 6, b""),
+    ];
+    for (shelf, source, sink, status, held) in table {
+        let ends = Ends {
+            has_file: true,
+            shelf_fails: &[shelf],
+            source_fails: &[source],
+            sink_fails: &[sink],
+        };
+        let (found, wrote) = ran(&rt, &ends, TWO_LINES)?;
+        assert_eq!(rt; found, status);
+        assert_eq!(rt; wrote.as_slice(), held);
     }
     Ok(())
 }
 
 #[test]
-fn a_file_that_is_absent_or_fails_is_told(rt: HostRuntime) -> Result<(), Fail> {
-    let mut empty = MemShelf::new(rt.alloc(), words(&rt, &[])?);
-    let mut source = MemSource::sure(octets(&rt, LINE)?);
-    let mut sink = MemSink::sure(rt.alloc())?;
-    let mut buf = SendBuf::new(rt.alloc())?;
-    let command = marshal(&rt)?;
-    let absent = flick(
-        rt.alloc(),
-        &command,
-        &mut empty,
-        &mut source,
-        &mut sink,
-        &mut buf,
-    );
-    assert_eq!(rt; absent, 3);
-    assert_eq!(rt; sink.held(), b"? file\n".as_slice());
-    let mut failing = shelf(&rt, &[b"1"])?;
-    let mut unwritten = MemSink::sure(rt.alloc())?;
-    let failed = flick(
-        rt.alloc(),
-        &command,
-        &mut failing,
-        &mut source,
-        &mut unwritten,
-        &mut buf,
-    );
-    assert_eq!(rt; failed, 6);
-    assert_eq!(rt; unwritten.held(), b"".as_slice());
-    Ok(())
-}
-
-#[test]
-fn a_sink_that_takes_few_octets_gets_the_same(rt: HostRuntime) -> Result<(), Fail> {
-    let mut shelf = shelf(&rt, &[])?;
-    let mut source = MemSource::sure(octets(&rt, b"{}\n")?);
-    let mut sink = MemSink::new(rt.alloc(), words(&rt, &[])?, 1)?;
-    let mut buf = SendBuf::new(rt.alloc())?;
-    let status = flick(
-        rt.alloc(),
-        &marshal(&rt)?,
-        &mut shelf,
-        &mut source,
-        &mut sink,
-        &mut buf,
-    );
-    assert_eq!(rt; status, 1);
-    assert_eq!(rt; sink.held(), b"! request\n".as_slice());
+fn a_file_that_is_absent_is_told(rt: HostRuntime) -> Result<(), Fail> {
+    let ends = Ends {
+        has_file: false,
+        shelf_fails: &[],
+        source_fails: &[],
+        sink_fails: &[],
+    };
+    let (status, held) = ran(&rt, &ends, LINE)?;
+    assert_eq!(rt; status, 3);
+    assert_eq!(rt; held.as_slice(), b"? file\n".as_slice());
     Ok(())
 }
