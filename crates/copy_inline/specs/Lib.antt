@@ -1,0 +1,3 @@
+pub mod Inlined
+pub mod Spliced
+pub mod Turned
