@@ -1,0 +1,5 @@
+pub mod Bounds
+pub mod Covered
+pub mod Filled
+pub mod Rooms
+pub mod TypedParts

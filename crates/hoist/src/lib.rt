@@ -1,0 +1,6 @@
+//! Ensures in front of the operations of stub code.
+#![tactic(auto)]
+
+mod laws;
+
+pub use laws::{bounds_hold, hoisting_covers};
