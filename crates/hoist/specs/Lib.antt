@@ -1,3 +1,4 @@
 pub mod Bound
 pub mod Hoisted
 pub mod Laws
+pub mod Regions
