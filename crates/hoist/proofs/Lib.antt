@@ -2,6 +2,8 @@ pub mod Bounds
 pub mod Covered
 pub mod Filled
 pub mod Grouping
+pub mod Quiet
 pub mod Rooms
 pub mod TypedParts
+pub mod Ways
 pub mod Weighing

@@ -14,7 +14,7 @@ use Rattle.hoist.specs.Hoisted.{Pending, nothing, octets, row, Hoisted, some_oct
 abbrev pub checks : List Step → ℕ
 checks ss = (costs ss).checks
 
-checks-append : (a b : List Step) → checks (a ++ b) ≡ checks a + checks b
+pub checks-append : (a b : List Step) → checks (a ++ b) ≡ checks a + checks b
 checks-append a b = ap (λ (c : Cost). c.checks) (costs-append a b)
 
 abbrev pub spent : Steps → ℕ
@@ -103,9 +103,6 @@ module _ (c : Calls) (h : Head) (v : Val) where
     spent_fits (Some ss) e = let f = up (steps c h b v) p le in omega (arith, e, f)
 
   module _ (own : Steps) (quiet : spent own ≡ 0) where
-    abbrev after_least : Hoisted → ℕ
-    after_least y = weigh (both own (steps c h y.0 v)) (low y.1)
-
     behind_own : (s : Steps) (a b d : ℕ) → a ≤ b + d → weigh (both own s) a ≤ weigh s b + d
     behind_own s a b d le = let x = weigh_quiet own s a quiet in let y = weigh_more s a b d le in omega (arith, x, y)
 

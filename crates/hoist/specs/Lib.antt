@@ -1,3 +1,4 @@
+pub mod Bare
 pub mod Bound
 pub mod Hoisted
 pub mod Laws
