@@ -26,15 +26,15 @@ quiet_both None y e f = refl
 quiet_both (Some x) None e f = refl
 quiet_both (Some x) (Some y) e f = omega (arith, checks-append x y, e, f)
 
-quiet_on : {A : Type 0} (x : Option A) (f : A → Steps) → ((a : A) → spent (f a) ≡ 0) → spent (on_some x f) ≡ 0
+pub quiet_on : {A : Type 0} (x : Option A) (f : A → Steps) → ((a : A) → spent (f a) ≡ 0) → spent (on_some x f) ≡ 0
 quiet_on None f go = refl
 quiet_on (Some a) f go = go a
 
-quiet_over : (f : Val → Steps) (vs : Vals) → ((w : Val) → spent (f w) ≡ 0) → spent (over f vs) ≡ 0
+pub quiet_over : (f : Val → Steps) (vs : Vals) → ((w : Val) → spent (f w) ≡ 0) → spent (over f vs) ≡ 0
 quiet_over f no_more go = refl
 quiet_over f (val v vs) go = quiet_both (f v) (over f vs) (go v) (quiet_over f vs go)
 
-quiet_present : (f : Val → Steps) (v : Val) → ((w : Val) → spent (f w) ≡ 0) → spent (if_present f v) ≡ 0
+pub quiet_present : (f : Val → Steps) (v : Val) → ((w : Val) → spent (f w) ≡ 0) → spent (if_present f v) ≡ 0
 quiet_present f absent go = refl
 quiet_present f (present v) go = go v
 quiet_present f _ go = refl
