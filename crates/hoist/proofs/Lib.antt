@@ -2,6 +2,7 @@ pub mod Bounds
 pub mod Covered
 pub mod Filled
 pub mod Grouping
+pub mod Heavy
 pub mod Light
 pub mod Quiet
 pub mod Rooms

@@ -44,10 +44,14 @@ or_zero (Some n) = n
 abbrev pub light_or : Option ℕ → List Part → List Part
 light_or x ps = if is_light x then lone (or_zero x) else ps
 
--- the parts of each element behind a break
+-- the parts of each element, a break behind each
+abbrev pub with_breaks : (Val → List Part) → Vals → List Part
+with_breaks f no_more = []
+with_breaks f (val v vs) = f v ++ break_part ∷ with_breaks f vs
+
+-- breaks around the parts of each element
 abbrev pub broken : (Val → List Part) → Vals → List Part
-broken f no_more = break_part ∷ []
-broken f (val v vs) = break_part ∷ (f v ++ broken f vs)
+broken f vs = break_part ∷ with_breaks f vs
 
 abbrev mutual
   -- the parts of a value, in order
