@@ -150,7 +150,7 @@ module _ (z : Sizes) (sizes : AreSizes z) (c : Calls) (h : Head) where
     count_keeps Any b r e is = (flat_keeps b r e.0 e.1 is).0
 
     -- chunks and aligns before bodies that ensure by themselves
-    flat_fits : (b r : Block) (k n : ℕ) (ps : List Part) → follows.flat b ≡ Some n → 1 ≤ k → G r ≤ load ps → G (append b r) ≤ load (lone k ++ ps)
+    pub flat_fits : (b r : Block) (k n : ℕ) (ps : List Part) → follows.flat b ≡ Some n → 1 ≤ k → G r ≤ load ps → G (append b r) ≤ load (lone k ++ ps)
     flat_fits b r k n ps e one le =
         let a = flat_adds z sizes c h v t0 b r n e in
         let g = greatest_more (append b r) in

@@ -3,9 +3,11 @@ pub mod Covered
 pub mod Filled
 pub mod Grouping
 pub mod Heavy
+pub mod Keeping
 pub mod Light
 pub mod Quiet
 pub mod Rooms
+pub mod Sparing
 pub mod TypedParts
 pub mod Ways
 pub mod Weighing

@@ -35,7 +35,7 @@ small_role z p t0 t n way is top =
     ap (λ (b : Bool). if b then is_small (top_at z (ty_at p t0) - 1) else role_at z (ty_at p t0)) way
     ∙ ap (λ (x : Option Ty). is_small (top_at z x - 1)) is ∙ ap (λ (x : Option ℕ). is_small (or_zero x - 1)) top
 
-high_same : (p : Pending) → high (raised 0 p) ≤ high p
+pub high_same : (p : Pending) → high (raised 0 p) ≤ high p
 high_same nothing = omega arith
 high_same (octets m j) = omega arith
 high_same (row p u m) = omega arith
