@@ -3,4 +3,6 @@
 
 mod laws;
 
-pub use laws::{bounds_hold, hoisting_covers};
+pub use laws::{
+    bounds_hold, hoisting_covers, hoisting_is_sparing, hoisting_keeps_code, hoisting_keeps_steps,
+};
