@@ -8,6 +8,7 @@ pub mod Light
 pub mod Quiet
 pub mod Rooms
 pub mod Sparing
+pub mod Sparse
 pub mod TypedParts
 pub mod Ways
 pub mod Weighing

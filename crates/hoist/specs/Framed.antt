@@ -1,11 +1,13 @@
 -- Code between a lead and a patch; and what hoisting keeps.
 use Rattle.std.specs.Prelude.{◌≡◌, ℕ, ◌+◌, List, [], ◌∷◌, Option, None, Some, option_map}
-use Rattle.mint.specs.Types.{Ty}
+use Rattle.mint.specs.Types.{Ty, items_type, Arms, no_other, others, arm_type}
 use Rattle.cast_stub.specs.Block.{Block, stop, ensure, ensure_row, align, chunk, row_copy, row_swap, row_wide, each, switch, if_there, call, patch, Cases, no_default, default, case}
 use Rattle.cast_stub.specs.Append.{append}
 use Rattle.cast_stub.specs.Steps.{Step, Room, Pad, Stored, Widened, Copied, Patched}
 use Rattle.cast_stub.specs.Follows.{Follows}
 use Rattle.copy_inline.specs.Inlined.{no_subs}
+use Rattle.hoist.specs.Bare.{IsBare}
+use Rattle.hoist.specs.Bound.{ty_at, present_at, arms_at}
 
 -- the octets of chunks alone
 abbrev pub lead_length : Block → Option ℕ
@@ -54,3 +56,37 @@ without_room (Stored os k ∷ ss) = Stored os k ∷ without_room ss
 without_room (Widened os k ∷ ss) = Widened os k ∷ without_room ss
 without_room (Copied os ∷ ss) = Copied os ∷ without_room ss
 without_room (Patched at sub order ∷ ss) = Patched at sub order ∷ without_room ss
+
+-- ---- loops over rows
+
+-- a fact of the elements of a list, or another where it is none
+abbrev pub OfItems : Option Ty → (Ty → Type 0) → Type 0 → Type 0
+OfItems (Some (items_type c t)) P Q = P t
+OfItems _ P Q = Q
+
+-- a fact of a type, if it is there
+abbrev pub IfTyped : {A : Type 0} → Option A → (A → Type 0) → Type 0
+IfTyped None P = Unit {0}
+IfTyped (Some a) P = P a
+
+abbrev mutual
+  -- no ensure stands in the body of a loop over a row or text
+  pub RowsAreBare : Ty → Block → Type 0
+  RowsAreBare t stop = Unit {0}
+  RowsAreBare t (ensure n r) = RowsAreBare t r
+  RowsAreBare t (ensure_row p u e r) = RowsAreBare t r
+  RowsAreBare t (align a r) = RowsAreBare t r
+  RowsAreBare t (chunk s ps r) = RowsAreBare t r
+  RowsAreBare t (row_copy p r) = RowsAreBare t r
+  RowsAreBare t (row_swap p r) = RowsAreBare t r
+  RowsAreBare t (row_wide p o r) = RowsAreBare t r
+  RowsAreBare t (each p b r) = OfItems (ty_at p t) (λ u. RowsAreBare u b) (IsBare b) × RowsAreBare t r
+  RowsAreBare t (switch p cs r) = IfTyped (arms_at p t) (λ arms. CasesRowsAreBare arms cs) × RowsAreBare t r
+  RowsAreBare t (if_there p b r) = IfTyped (present_at p t) (λ u. RowsAreBare u b) × RowsAreBare t r
+  RowsAreBare t (call k p r) = RowsAreBare t r
+  RowsAreBare t (patch a s o r) = RowsAreBare t r
+
+  pub CasesRowsAreBare : Arms → Cases → Type 0
+  CasesRowsAreBare (others t) (default b) = RowsAreBare t b
+  CasesRowsAreBare (arm_type n t arms) (case m b cs) = RowsAreBare t b × CasesRowsAreBare arms cs
+  CasesRowsAreBare _ _ = Unit {0}

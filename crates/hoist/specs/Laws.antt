@@ -9,7 +9,7 @@ use Rattle.cast_stub.specs.Block.{Block}
 use Rattle.cast_stub.specs.Steps.{Step, Calls, steps}
 use Rattle.cast_stub.specs.Meaning.{HasRoom, costs}
 use Rattle.hoist.specs.Hoisted.{Roles, closed, hoisted, IsTaken}
-use Rattle.hoist.specs.Framed.{IsFramed, unensured, without_room}
+use Rattle.hoist.specs.Framed.{IsFramed, unensured, without_room, RowsAreBare}
 use Rattle.hoist.specs.Regions.{Sizes, AreSizes, roles, regions}
 
 -- hoisted code has room for all that it appends, from every position, whatever the roles are
@@ -30,3 +30,11 @@ HoistingKeepsCode = (ro : Roles) (t : Ty) (b : Block) → unensured (closed (hoi
 abbrev pub HoistingIsSparing : Type 0
 HoistingIsSparing = (z : Sizes) (c : Calls) (h : Head) (t : Ty) (n : ℕ) (b : Block) (v : Val) (ss : List Step) → AreSizes z → IsSound t → IsFramed n t b → IsOf t v
     → steps c h (closed (hoisted (roles z) t b)) v ≡ Some ss → (costs ss).checks ≤ regions z n t v
+
+-- it ensures nothing within a loop over a row or text
+abbrev pub HoistingSparesRows : Type 0
+HoistingSparesRows = (ro : Roles) (t : Ty) (b : Block) → IsTaken ro t b → RowsAreBare t (closed (hoisted ro t b))
+
+-- code that goes through a type is taken, by the sizes of types
+abbrev pub FramedIsTaken : Type 0
+FramedIsTaken = (z : Sizes) (t : Ty) (n : ℕ) (b : Block) → AreSizes z → IsFramed n t b → IsTaken (roles z) t b
