@@ -79,11 +79,11 @@ abbrev IsRow : Pending → Type 0
 IsRow (row p u n) = Unit {0}
 IsRow _ = ⊥
 
-loop_row : (role : Role) (n u : Option ℕ) (p : List ℕ) → role ≡ is_row → IsThere u → (m : ℕ) × (loop_plan role n u p ≡ loop p m)
+pub loop_row : (role : Role) (n u : Option ℕ) (p : List ℕ) → role ≡ is_row → IsThere u → (m : ℕ) × (loop_plan role n u p ≡ loop p m)
 loop_row role n None p e there = absurd there
 loop_row role n (Some m) p e there = (m, ap (λ (r : Role). loop_plan r n (Some m) p) e)
 
-heavy_role : (z : Sizes) (p : List ℕ) (t0 t : Ty) → on_way z p t0 ≡ false → ty_at p t0 ≡ Some t → roles z t0 p ≡ role_of z t
+pub heavy_role : (z : Sizes) (p : List ℕ) (t0 t : Ty) → on_way z p t0 ≡ false → ty_at p t0 ≡ Some t → roles z t0 p ≡ role_of z t
 heavy_role z p t0 t way is =
     ap (λ (b : Bool). if b then is_small (top_at z (ty_at p t0) - 1) else role_at z (ty_at p t0)) way ∙ ap (role_at z) is
 

@@ -9,6 +9,7 @@ pub mod Quiet
 pub mod Rooms
 pub mod Sparing
 pub mod Sparse
+pub mod Taken
 pub mod TypedParts
 pub mod Ways
 pub mod Weighing

@@ -22,7 +22,7 @@ use Rattle.hoist.proofs.Weighing.{spent, weigh, weigh_less, weigh_quiet, low, hi
 use Rattle.hoist.proofs.Quiet.{quiet, case_quiet, quiet_over, quiet_present, quiet_on, quiet_chunk, quiet_align, mapped, bare, arms_bare, flat_bare, own}
 use Rattle.hoist.proofs.Ways.{AreFrom, from-first, from-next, from-head, ty-field, way-field, some_of, loop_bound, array_there, items_there, choice_there, maybe_there}
 
-loop_small : (role : Role) (n u : Option ℕ) (p : List ℕ) (k : ℕ) → role ≡ is_small k → IsThere n → (m : ℕ) × (loop_plan role n u p ≡ small m k)
+pub loop_small : (role : Role) (n u : Option ℕ) (p : List ℕ) (k : ℕ) → role ≡ is_small k → IsThere n → (m : ℕ) × (loop_plan role n u p ≡ small m k)
 loop_small role None u p k e there = absurd there
 loop_small role (Some m) u p k e there = (m, ap (λ (r : Role). loop_plan r (Some m) u p) e)
 

@@ -1,6 +1,6 @@
 // The laws of hoisting, each the contract of a function that does nothing.
 ghost use Rattle.hoist.specs.Bound.{BoundsHold};
-ghost use Rattle.hoist.specs.Laws.{HoistingCovers, HoistingIsSparing, HoistingKeepsCode, HoistingKeepsSteps};
+ghost use Rattle.hoist.specs.Laws.{FramedIsTaken, HoistingCovers, HoistingIsSparing, HoistingKeepsCode, HoistingKeepsSteps, HoistingSparesRows};
 
 /// A block appends at most its bound.
 pub fn bounds_hold()
@@ -25,4 +25,14 @@ pub fn hoisting_keeps_code()
 /// Hoisted code looks at the buffer at most once for each region.
 pub fn hoisting_is_sparing()
     ensures { HoistingIsSparing }
+{}
+
+/// Hoisted code ensures nothing within a loop over a row or text.
+pub fn hoisting_spares_rows()
+    ensures { HoistingSparesRows }
+{}
+
+/// Code that goes through a type, between a lead and a patch, is taken.
+pub fn framed_code_is_taken()
+    ensures { FramedIsTaken }
 {}

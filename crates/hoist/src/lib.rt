@@ -4,5 +4,6 @@
 mod laws;
 
 pub use laws::{
-    bounds_hold, hoisting_covers, hoisting_is_sparing, hoisting_keeps_code, hoisting_keeps_steps,
+    bounds_hold, framed_code_is_taken, hoisting_covers, hoisting_is_sparing, hoisting_keeps_code,
+    hoisting_keeps_steps, hoisting_spares_rows,
 };
