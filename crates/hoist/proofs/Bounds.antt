@@ -1,10 +1,9 @@
 -- A block appends at most its bound.
-use Rattle.std.proofs.Common.{◌≡◌, ℕ, zero, suc, ◌+◌, ◌-◌, ◌*◌, ◌%◌, ◌≤◌, max, ℤ, List, [], ◌∷◌, ◌++◌, length, Option, None, Some, refl, sym, ap, subst, ◌∙◌, arith, Bool, true, false, if◌then◌else◌, MatchBool}
+use Rattle.std.proofs.Common.{◌≡◌, ℕ, zero, suc, ◌+◌, ◌-◌, ◌*◌, ◌≤◌, max, ℤ, List, [], ◌∷◌, ◌++◌, length, Option, None, Some, refl, ap, subst, arith, Bool, true, false, if◌then◌else◌, MatchBool}
 use Rattle.std.specs.Ordering.{int_eq}
 use Rattle.std.proofs.lemmas.Bool.Decides.{Decides-int_eq}
 use Rattle.mint.specs.declared.kind.Count.{Count}
 use Rattle.mint.specs.declared.kind.Count.TheVariants.{Exactly, AtMost, Any}
-use Rattle.mint.specs.Kinds.{Allows}
 use Rattle.mint.specs.Types.{Ty, Arms, no_other, others, arm_type}
 use Rattle.mint.specs.Typed.{IsOf, IsOfArm, Each}
 use Rattle.mint.specs.Values.{Val, Vals, no_more, val, count, arm_in}
@@ -17,7 +16,7 @@ use Rattle.cast_stub.specs.Block.{Block, stop, ensure, ensure_row, align, chunk,
 use Rattle.cast_stub.specs.Steps.{Step, Room, Pad, Stored, Widened, Copied, Patched, Steps, both, over, if_present, Calls, steps, case_steps, chunk_steps, align_steps, is_width}
 use Rattle.hoist.specs.Bound.{most, plus, times, greater, bound, cases_bound, appended, Within, BoundsHold, element_at, present_at, arms_at}
 use Rattle.hoist.proofs.Filled.{length-filled}
-use Rattle.hoist.proofs.TypedParts.{AreElements, each-part, some-part, switch-part, split}
+use Rattle.hoist.proofs.TypedParts.{AreElements, each-part, some-part, switch-part}
 
 pub no_bound : (x : Steps) → Within x None
 no_bound None = tt
@@ -150,13 +149,13 @@ module _ (c : Calls) (h : Head) where
     bounds (row_wide p o r) t v typed = no_bound (steps c h (row_wide p o r) v)
     bounds (each p b r) t v typed =
         within-both (on_some (on_some (at p v) elements_in) (over (steps c h b))) (steps c h r v) (on_some (element_at p t) (λ e. times (most e.1) (bound e.0 b))) (bound t r)
-          (within-each (steps c h b) (λ u. bound u b) p t v typed (λ u w. bounds b u w)) (bounds r t v typed)
+        (within-each (steps c h b) (λ u. bound u b) p t v typed (λ u w. bounds b u w)) (bounds r t v typed)
     bounds (switch p cs r) t v typed =
         within-both (on_some (on_some (at p v) arm_in) (λ a. case_steps c h cs a.0 a.1)) (steps c h r v) (on_some (arms_at p t) (λ arms. cases_bound arms cs)) (bound t r)
-          (within-switch (λ n w. case_steps c h cs n w) (λ arms. cases_bound arms cs) p t v typed (λ arms n w o. case_bounds cs arms n w o)) (bounds r t v typed)
+        (within-switch (λ n w. case_steps c h cs n w) (λ arms. cases_bound arms cs) p t v typed (λ arms n w o. case_bounds cs arms n w o)) (bounds r t v typed)
     bounds (if_there p b r) t v typed =
         within-both (on_some (at p v) (if_present (steps c h b))) (steps c h r v) (on_some (present_at p t) (λ u. bound u b)) (bound t r)
-          (within-some (steps c h b) (λ u. bound u b) p t v typed (λ u w. bounds b u w)) (bounds r t v typed)
+        (within-some (steps c h b) (λ u. bound u b) p t v typed (λ u w. bounds b u w)) (bounds r t v typed)
     bounds (call k p r) t v typed = no_bound (steps c h (call k p r) v)
     bounds (patch a s o r) t v typed = subst (Within (steps c h (patch a s o r) v)) (none_more (bound t r)) (within-both (Some (Patched a s o ∷ [])) (steps c h r v) (Some 0) (bound t r) (λ (p : ℕ). omega arith) (bounds r t v typed))
 

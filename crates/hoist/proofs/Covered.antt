@@ -1,19 +1,18 @@
 -- Hoisted code has room for all that it appends.
-use Rattle.std.proofs.Common.{◌≡◌, ℕ, zero, suc, ◌+◌, ◌-◌, ◌*◌, ◌≤◌, ℤ, List, [], ◌∷◌, Option, None, Some, refl, sym, ap, subst, ◌∙◌, arith, Bool, true, false, nat_lt, if◌then◌else◌, MatchBool}
+use Rattle.std.proofs.Common.{◌≡◌, ℕ, zero, suc, ◌+◌, ◌-◌, ℤ, List, [], ◌∷◌, Option, None, Some, refl, sym, ap, subst, ◌∙◌, arith, Bool, true, false, nat_lt, if◌then◌else◌, MatchBool}
 use Rattle.std.specs.Ordering.{int_eq}
 use Rattle.mint.specs.declared.kind.Count.{Count}
-use Rattle.mint.specs.Types.{Ty, void_type, scalar_type, array_type, group_type, items_type, choice_type, maybe_type, Arms, no_other, others, arm_type}
+use Rattle.mint.specs.Types.{Ty, items_type, Arms, no_other, others, arm_type}
 use Rattle.mint.specs.Typed.{IsOf, IsOfArm}
-use Rattle.mint.specs.Values.{Val, Vals, count, arm_in}
+use Rattle.mint.specs.Values.{Val, Vals, arm_in}
 use Rattle.wire_def.specs.declared.head.Head.{Head}
 use Rattle.cast_stub.specs.Parts.{on_some, at, elements_in}
 use Rattle.cast_stub.specs.Block.{Block, stop, ensure, ensure_row, align, chunk, row_copy, row_swap, row_wide, each, switch, if_there, call, patch, Cases, no_default, default, case}
-use Rattle.cast_stub.specs.Steps.{Step, Room, Patched, Steps, both, over, if_present, Calls, steps, case_steps, chunk_steps, align_steps}
-use Rattle.cast_stub.specs.Meaning.{HasRoom}
+use Rattle.cast_stub.specs.Steps.{Patched, Steps, both, over, if_present, Calls, steps, case_steps, chunk_steps, align_steps}
 use Rattle.hoist.specs.Bound.{ty_at, most, times, bound, cases_bound, Within, element_at, present_at, arms_at, elements_type}
-use Rattle.hoist.specs.Hoisted.{Pending, nothing, octets, row, Hoisted, some_octets, closed, Plan, flat, small, loop, apart, raised, enough, beside, settled, Role, is_small, is_row, is_break, Roles, loop_plan, body_plan, each_plan, some_plan, switch_plan, kept, items_in_type, items_at, or_void, or_none, hoisted, cases_hoisted, InType, WhereApart, IsTaken, CasesTaken}
+use Rattle.hoist.specs.Hoisted.{Pending, nothing, octets, row, Hoisted, some_octets, closed, Plan, flat, small, loop, apart, enough, beside, settled, Role, is_small, is_row, is_break, Roles, loop_plan, body_plan, each_plan, some_plan, switch_plan, kept, items_in_type, items_at, or_void, or_none, hoisted, cases_hoisted, InType, WhereApart, IsTaken, CasesTaken}
 use Rattle.hoist.specs.Laws.{HoistingCovers}
-use Rattle.hoist.proofs.TypedParts.{length_at, split, AreElements, each-part, some-part, switch-part}
+use Rattle.hoist.proofs.TypedParts.{length_at, split, each-part, some-part, switch-part}
 use Rattle.hoist.proofs.Bounds.{bounded, within-each, within-some, within-switch, within-align, within-chunk, within-over, case-bounded, no_steps}
 use Rattle.hoist.proofs.Rooms.{times_or, Rooms, no_rooms, rooms_none, rooms_more, rooms_first, rooms_behind, rooms_ensured, rooms_row, rooms-over}
 
@@ -89,8 +88,8 @@ big-within : (f : Val → Steps) (g : Ty → Option ℕ) (p : List ℕ) (t : Ty)
 big-within f g p t v u h is go =
     let e = split (element_at p t) (λ (x : Ty × Count). g x.0) u is in
     each-part f p t v e.0 (λ (s : Steps). Within s (Some (times_or (length_at p v) u))) h e.1 (no_steps (Some (times_or (length_at p v) u)))
-      (λ (vs : Vals) long a. subst (λ (z : Option ℕ). Within (over f vs) (Some (times_or z u))) (sym long)
-        (within-over f (e.0).0 u vs a.typed (λ (x : Val) o. subst (Within (f x)) e.2 (go (e.0).0 x o))))
+    (λ (vs : Vals) long a. subst (λ (z : Option ℕ). Within (over f vs) (Some (times_or z u))) (sym long)
+    (within-over f (e.0).0 u vs a.typed (λ (x : Val) o. subst (Within (f x)) e.2 (go (e.0).0 x o))))
 
 abbrev pair : Ty → Count → Ty × Count
 pair t n = (t, n)
@@ -138,39 +137,39 @@ module _ (c : Calls) (h : Head) (ro : Roles) where
     good (chunk s ps r) t v taken typed = settled_good c h (flat s) (chunk_steps s ps h v) (hoisted ro t r) v (within-chunk h v ps s) (good r t v taken typed)
     good (patch a s o r) t v taken typed =
         rooms_more (both (Some (Patched a s o ∷ [])) (steps c h (hoisted ro t r).0 v)) (want (hoisted ro t r).1 v + 0) (want (hoisted ro t r).1 v) (omega arith)
-          (rooms_first (Some (Patched a s o ∷ [])) (steps c h (hoisted ro t r).0 v) 0 (want (hoisted ro t r).1 v) (λ (p : ℕ). omega arith) (good r t v taken typed))
+        (rooms_first (Some (Patched a s o ∷ [])) (steps c h (hoisted ro t r).0 v) 0 (want (hoisted ro t r).1 v) (λ (p : ℕ). omega arith) (good r t v taken typed))
     good (each p b r) t v taken typed =
         settled_good c h (each_plan ro t p b) (on_some (on_some (at p v) elements_in) (over (steps c h (kept (each_plan ro t p b) b (closed (hoisted ro (or_void (items_at p t)) b)))))) (hoisted ro t r) v
-          (loop_fits (λ (d : Block). on_some (on_some (at p v) elements_in) (over (steps c h d))) (ro t p) (on_some (element_at p t) (λ e. times (most e.1) (bound e.0 b))) (on_some (element_at p t) (λ e. bound e.0 b)) p b (closed (hoisted ro (or_void (items_at p t)) b)) v
-            (InType (items_at p t) (λ u. IsTaken ro u b))
-            (within-each (steps c h b) (λ u. bound u b) p t v typed (λ u w. bounded c h b u w))
-            (λ (k : ℕ) is. big-within (steps c h b) (λ u. bound u b) p t v k typed is (λ u w. bounded c h b u w))
-            (λ tk. apart_each (λ u w. steps c h (closed (hoisted ro u b)) w) (λ u. IsTaken ro u b) p t v (items_at p t) typed refl tk (λ (u : Ty) (w : Val) tk' o. closed_good c h (hoisted ro u b) w (good b u w tk' o)))
-            taken.0)
-          (good r t v taken.1 typed)
+        (loop_fits (λ (d : Block). on_some (on_some (at p v) elements_in) (over (steps c h d))) (ro t p) (on_some (element_at p t) (λ e. times (most e.1) (bound e.0 b))) (on_some (element_at p t) (λ e. bound e.0 b)) p b (closed (hoisted ro (or_void (items_at p t)) b)) v
+        (InType (items_at p t) (λ u. IsTaken ro u b))
+        (within-each (steps c h b) (λ u. bound u b) p t v typed (λ u w. bounded c h b u w))
+        (λ (k : ℕ) is. big-within (steps c h b) (λ u. bound u b) p t v k typed is (λ u w. bounded c h b u w))
+        (λ tk. apart_each (λ u w. steps c h (closed (hoisted ro u b)) w) (λ u. IsTaken ro u b) p t v (items_at p t) typed refl tk (λ (u : Ty) (w : Val) tk' o. closed_good c h (hoisted ro u b) w (good b u w tk' o)))
+        taken.0)
+        (good r t v taken.1 typed)
     good (if_there p b r) t v taken typed =
         settled_good c h (some_plan ro t p b) (on_some (at p v) (if_present (steps c h (kept (some_plan ro t p b) b (closed (hoisted ro (or_void (present_at p t)) b)))))) (hoisted ro t r) v
-          (body_fits (λ (d : Block). on_some (at p v) (if_present (steps c h d))) (ro t p) (on_some (present_at p t) (λ u. bound u b)) b (closed (hoisted ro (or_void (present_at p t)) b)) v
-            (InType (present_at p t) (λ u. IsTaken ro u b))
-            (within-some (steps c h b) (λ u. bound u b) p t v typed (λ u w. bounded c h b u w))
-            (λ tk. apart_some (λ u w. steps c h (closed (hoisted ro u b)) w) (λ u. IsTaken ro u b) p t v (present_at p t) typed refl tk (λ (u : Ty) (w : Val) tk' o. closed_good c h (hoisted ro u b) w (good b u w tk' o)))
-            taken.0)
-          (good r t v taken.1 typed)
+        (body_fits (λ (d : Block). on_some (at p v) (if_present (steps c h d))) (ro t p) (on_some (present_at p t) (λ u. bound u b)) b (closed (hoisted ro (or_void (present_at p t)) b)) v
+        (InType (present_at p t) (λ u. IsTaken ro u b))
+        (within-some (steps c h b) (λ u. bound u b) p t v typed (λ u w. bounded c h b u w))
+        (λ tk. apart_some (λ u w. steps c h (closed (hoisted ro u b)) w) (λ u. IsTaken ro u b) p t v (present_at p t) typed refl tk (λ (u : Ty) (w : Val) tk' o. closed_good c h (hoisted ro u b) w (good b u w tk' o)))
+        taken.0)
+        (good r t v taken.1 typed)
     good (switch p cs r) t v taken typed =
         settled_good c h (switch_plan ro t p cs) (on_some (on_some (at p v) arm_in) (λ a. case_steps c h (kept (switch_plan ro t p cs) cs (cases_hoisted ro (or_none (arms_at p t)) cs)) a.0 a.1)) (hoisted ro t r) v
-          (body_fits (λ (d : Cases). on_some (on_some (at p v) arm_in) (λ a. case_steps c h d a.0 a.1)) (ro t p) (on_some (arms_at p t) (λ arms. cases_bound arms cs)) cs (cases_hoisted ro (or_none (arms_at p t)) cs) v
-            (InType (arms_at p t) (λ arms. CasesTaken ro arms cs))
-            (within-switch (λ n w. case_steps c h cs n w) (λ arms. cases_bound arms cs) p t v typed (λ arms n w o. case-bounded c h cs arms n w o))
-            (λ tk. apart_switch (λ arms n w. case_steps c h (cases_hoisted ro arms cs) n w) (λ arms. CasesTaken ro arms cs) p t v (arms_at p t) typed refl tk (λ (arms : Arms) (n : ℤ) (w : Val) tk' o. case_good cs arms n w tk' o))
-            taken.0)
-          (good r t v taken.1 typed)
+        (body_fits (λ (d : Cases). on_some (on_some (at p v) arm_in) (λ a. case_steps c h d a.0 a.1)) (ro t p) (on_some (arms_at p t) (λ arms. cases_bound arms cs)) cs (cases_hoisted ro (or_none (arms_at p t)) cs) v
+        (InType (arms_at p t) (λ arms. CasesTaken ro arms cs))
+        (within-switch (λ n w. case_steps c h cs n w) (λ arms. cases_bound arms cs) p t v typed (λ arms n w o. case-bounded c h cs arms n w o))
+        (λ tk. apart_switch (λ arms n w. case_steps c h (cases_hoisted ro arms cs) n w) (λ arms. CasesTaken ro arms cs) p t v (arms_at p t) typed refl tk (λ (arms : Arms) (n : ℤ) (w : Val) tk' o. case_good cs arms n w tk' o))
+        taken.0)
+        (good r t v taken.1 typed)
 
     case_good : (cs : Cases) (arms : Arms) (n : ℤ) (w : Val) → CasesTaken ro arms cs → IsOfArm arms n w → Rooms (case_steps c h (cases_hoisted ro arms cs) n w) 0
     case_good (default b) (others t) n w taken o = closed_good c h (hoisted ro t b) w (good b t w taken o)
     case_good (case m b cs) (arm_type k t arms) n w taken o =
         arm_rooms (int_eq n m) (IsOf t w) (IsOfArm arms n w) (steps c h (closed (hoisted ro t b)) w) (case_steps c h (cases_hoisted ro arms cs) n w)
-          (subst (λ (z : ℤ). MatchBool (int_eq n z) (IsOf t w) (IsOfArm arms n w)) taken.0 o)
-          (λ o'. closed_good c h (hoisted ro t b) w (good b t w taken.1 o')) (λ o'. case_good cs arms n w taken.2 o')
+        (subst (λ (z : ℤ). MatchBool (int_eq n z) (IsOf t w) (IsOfArm arms n w)) taken.0 o)
+        (λ o'. closed_good c h (hoisted ro t b) w (good b t w taken.1 o')) (λ o'. case_good cs arms n w taken.2 o')
     case_good no_default no_other n w taken o = absurd o
     case_good no_default _ n w taken o = absurd taken
     case_good (default b) _ n w taken o = absurd taken

@@ -1,8 +1,7 @@
 -- Groups of parts, told by the octets that fill them.
-use Rattle.std.proofs.Common.{◌≡◌, ℕ, zero, suc, ◌+◌, ◌-◌, ◌*◌, ◌≤◌, min, Bool, true, false, nat_le, if◌then◌else◌, List, [], ◌∷◌, ◌++◌, Option, None, Some, refl, sym, ap, ◌∙◌, arith, append_assoc}
+use Rattle.std.proofs.Common.{◌≡◌, ℕ, zero, suc, ◌+◌, ◌*◌, ◌≤◌, min, Bool, true, false, nat_le, if◌then◌else◌, List, [], ◌∷◌, ◌++◌, Option, None, Some, refl, ap, ◌∙◌, arith, append_assoc}
 use Rattle.std.proofs.lemmas.Bool.Decides.{nat_tests}
 use Rattle.mint.specs.Values.{Val, Vals, no_more, val}
-use Rattle.hoist.specs.Hoisted.{enough}
 use Rattle.hoist.specs.Regions.{Part, small_part, row_part, break_part, lone, groups, with_breaks}
 
 -- octets of parts: those of the small ones up to a row or a break, and the whole of what is behind

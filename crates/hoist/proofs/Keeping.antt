@@ -1,5 +1,5 @@
 -- Hoisted code makes the same steps, but for the room that it ensures.
-use Rattle.std.proofs.Common.{◌≡◌, ℕ, zero, suc, ◌+◌, ◌-◌, ◌*◌, ℤ, List, [], ◌∷◌, ◌++◌, Option, None, Some, option_map, refl, sym, ap, subst, ◌∙◌, Bool, true, false, nat_lt, if◌then◌else◌}
+use Rattle.std.proofs.Common.{◌≡◌, ℕ, zero, suc, ◌+◌, ◌-◌, ◌*◌, ℤ, List, [], ◌∷◌, ◌++◌, Option, None, Some, option_map, refl, sym, ap, ◌∙◌, Bool, true, false, nat_lt, if◌then◌else◌}
 use Rattle.std.specs.Ordering.{int_eq}
 use Rattle.mint.specs.Types.{Ty, Arms, no_other, others, arm_type}
 use Rattle.mint.specs.Values.{Val, Vals, no_more, val, items, row as row_value, absent, present, arm_in}
@@ -8,7 +8,7 @@ use Rattle.cast_stub.specs.Parts.{on_some, at, elements_in, length_in}
 use Rattle.cast_stub.specs.Block.{Block, stop, ensure, ensure_row, align, chunk, row_copy, row_swap, row_wide, each, switch, if_there, call, patch, Cases, no_default, default, case}
 use Rattle.cast_stub.specs.Steps.{Step, Room, Pad, Stored, Widened, Copied, Patched, Steps, both, over, if_present, Calls, steps, case_steps, chunk_steps, align_steps}
 use Rattle.hoist.specs.Framed.{without_room, unensured, cases_unensured}
-use Rattle.hoist.specs.Hoisted.{Pending, nothing, octets, row, Hoisted, some_octets, closed, Plan, flat, small, loop, apart, raised, enough, beside, settled, Roles, Role, is_small, is_row, is_break, loop_plan, body_plan, each_plan, some_plan, switch_plan, kept, items_at, or_void, or_none, hoisted, cases_hoisted}
+use Rattle.hoist.specs.Hoisted.{Pending, nothing, octets, row, Hoisted, some_octets, closed, Plan, flat, small, loop, apart, enough, beside, settled, Roles, Role, is_small, is_row, is_break, loop_plan, body_plan, each_plan, some_plan, switch_plan, kept, items_at, or_void, or_none, hoisted, cases_hoisted}
 use Rattle.hoist.specs.Bound.{element_at, present_at, arms_at, most, times, bound, cases_bound}
 use Rattle.hoist.specs.Laws.{HoistingKeepsSteps, HoistingKeepsCode}
 use Rattle.hoist.proofs.TypedParts.{length_at}
@@ -158,21 +158,21 @@ module _ (c : Calls) (h : Head) (ro : Roles) where
     keeps (each p b r) t v =
         let b' = closed (hoisted ro (or_void (items_at p t)) b) in
         op_same (λ (d : Block). on_some (on_some (at p v) elements_in) (over (steps c h d))) (each_plan ro t p b) b b' (hoisted ro t r) r v
-          (loop_owns (ro t p) (on_some (element_at p t) (λ e. times (most e.1) (bound e.0 b))) (on_some (element_at p t) (λ e. bound e.0 b)) p v (on_some (on_some (at p v) elements_in) (over (steps c h (kept (each_plan ro t p b) b b')))) (each_reads p v (steps c h (kept (each_plan ro t p b) b b'))))
-          (same_on (on_some (at p v) elements_in) (over (steps c h b')) (over (steps c h b)) (λ (vs : Vals). same_over (steps c h b') (steps c h b) vs (λ (w : Val). whole_same (hoisted ro (or_void (items_at p t)) b) b w (keeps b (or_void (items_at p t)) w))))
-          (keeps r t v)
+        (loop_owns (ro t p) (on_some (element_at p t) (λ e. times (most e.1) (bound e.0 b))) (on_some (element_at p t) (λ e. bound e.0 b)) p v (on_some (on_some (at p v) elements_in) (over (steps c h (kept (each_plan ro t p b) b b')))) (each_reads p v (steps c h (kept (each_plan ro t p b) b b'))))
+        (same_on (on_some (at p v) elements_in) (over (steps c h b')) (over (steps c h b)) (λ (vs : Vals). same_over (steps c h b') (steps c h b) vs (λ (w : Val). whole_same (hoisted ro (or_void (items_at p t)) b) b w (keeps b (or_void (items_at p t)) w))))
+        (keeps r t v)
     keeps (if_there p b r) t v =
         let b' = closed (hoisted ro (or_void (present_at p t)) b) in
         op_same (λ (d : Block). on_some (at p v) (if_present (steps c h d))) (some_plan ro t p b) b b' (hoisted ro t r) r v
-          (body_owns (ro t p) (on_some (present_at p t) (λ u. bound u b)) v (on_some (at p v) (if_present (steps c h (kept (some_plan ro t p b) b b')))))
-          (same_on (at p v) (if_present (steps c h b')) (if_present (steps c h b)) (λ (w : Val). same_present (steps c h b') (steps c h b) w (λ (u : Val). whole_same (hoisted ro (or_void (present_at p t)) b) b u (keeps b (or_void (present_at p t)) u))))
-          (keeps r t v)
+        (body_owns (ro t p) (on_some (present_at p t) (λ u. bound u b)) v (on_some (at p v) (if_present (steps c h (kept (some_plan ro t p b) b b')))))
+        (same_on (at p v) (if_present (steps c h b')) (if_present (steps c h b)) (λ (w : Val). same_present (steps c h b') (steps c h b) w (λ (u : Val). whole_same (hoisted ro (or_void (present_at p t)) b) b u (keeps b (or_void (present_at p t)) u))))
+        (keeps r t v)
     keeps (switch p cs r) t v =
         let cs' = cases_hoisted ro (or_none (arms_at p t)) cs in
         op_same (λ (d : Cases). on_some (on_some (at p v) arm_in) (λ a. case_steps c h d a.0 a.1)) (switch_plan ro t p cs) cs cs' (hoisted ro t r) r v
-          (body_owns (ro t p) (on_some (arms_at p t) (λ arms. cases_bound arms cs)) v (on_some (on_some (at p v) arm_in) (λ a. case_steps c h (kept (switch_plan ro t p cs) cs cs') a.0 a.1)))
-          (same_on (on_some (at p v) arm_in) (λ a. case_steps c h cs' a.0 a.1) (λ a. case_steps c h cs a.0 a.1) (λ (a : ℤ × Val). cases_keep cs (or_none (arms_at p t)) a.0 a.1))
-          (keeps r t v)
+        (body_owns (ro t p) (on_some (arms_at p t) (λ arms. cases_bound arms cs)) v (on_some (on_some (at p v) arm_in) (λ a. case_steps c h (kept (switch_plan ro t p cs) cs cs') a.0 a.1)))
+        (same_on (on_some (at p v) arm_in) (λ a. case_steps c h cs' a.0 a.1) (λ a. case_steps c h cs a.0 a.1) (λ (a : ℤ × Val). cases_keep cs (or_none (arms_at p t)) a.0 a.1))
+        (keeps r t v)
     keeps stop t v = (refl, tt)
     keeps (ensure n r) t v = (refl, tt)
     keeps (ensure_row p u e r) t v = (refl, tt)

@@ -13,3 +13,4 @@ pub mod Taken
 pub mod TypedParts
 pub mod Ways
 pub mod Weighing
+pub mod Worked

@@ -1,13 +1,12 @@
 -- What the code of a small part adds.
-use Rattle.std.proofs.Common.{◌≡◌, ◌⊎◌, inl, inr, ℕ, zero, suc, ◌+◌, ◌-◌, ◌*◌, ◌≤◌, ℤ, List, [], ◌∷◌, ◌++◌, length, Option, None, Some, option_map, refl, sym, ap, subst, ◌∙◌, arith, Bool, true, false, ◌&&◌, ◌||◌, if◌then◌else◌}
+use Rattle.std.proofs.Common.{◌≡◌, ℕ, zero, suc, ◌+◌, ◌-◌, ◌≤◌, ℤ, List, [], ◌∷◌, ◌++◌, length, Option, None, Some, refl, sym, ap, subst, ◌∙◌, arith, Bool, true, false, ◌&&◌, ◌||◌, if◌then◌else◌}
 use Rattle.mint.specs.declared.kind.Count.{Count}
 use Rattle.mint.specs.declared.kind.Count.TheVariants.{Exactly, AtMost, Any}
-use Rattle.mint.specs.Types.{Ty, void_type, scalar_type, array_type, group_type, items_type, choice_type, maybe_type, Tys, no_fields, field, Arms, no_other, others, arm_type}
+use Rattle.mint.specs.Types.{Ty, void_type, scalar_type, array_type, group_type, items_type, choice_type, maybe_type, Tys, no_fields, field}
 use Rattle.mint.specs.Values.{Val, arm_in}
 use Rattle.wire_def.specs.declared.head.Head.{Head}
-use Rattle.cast_stub.specs.declared.put.Put.{Put}
 use Rattle.cast_stub.specs.Parts.{on_some, at, elements_in, IsThere}
-use Rattle.cast_stub.specs.Block.{Block, stop, ensure, ensure_row, align, chunk, row_copy, row_swap, row_wide, each, switch, if_there, call, patch, Cases}
+use Rattle.cast_stub.specs.Block.{Block, stop, align, chunk, each, switch, if_there, Cases}
 use Rattle.cast_stub.specs.Append.{append}
 use Rattle.cast_stub.specs.Steps.{Steps, both, over, if_present, Calls, steps, case_steps, chunk_steps, align_steps}
 use Rattle.cast_stub.specs.Follows as follows
@@ -15,12 +14,12 @@ use Rattle.cast_stub.specs.Follows.{IsFlat, IsCount, Going, Child, Follows, Fiel
 use Rattle.copy_inline.specs.Inlined.{no_subs}
 use Rattle.copy_inline.proofs.Blocks.{append-assoc}
 use Rattle.hoist.specs.Bare.{IsBare, CasesBare}
-use Rattle.hoist.specs.Bound.{ty_at, most, times, bound, cases_bound, element_at, present_at, arms_at, plus}
-use Rattle.hoist.specs.Hoisted.{Pending, nothing, octets, row, Hoisted, some_octets, closed, Plan, flat, small, loop, apart, raised, settled, Role, is_small, is_row, is_break, loop_plan, body_plan, each_plan, some_plan, switch_plan, kept, items_at, or_void, or_none, hoisted, cases_hoisted}
+use Rattle.hoist.specs.Bound.{ty_at, bound, cases_bound, element_at, present_at, arms_at, plus}
+use Rattle.hoist.specs.Hoisted.{Pending, nothing, octets, row, Hoisted, closed, Plan, flat, small, raised, settled, Role, is_small, loop_plan, body_plan, each_plan, some_plan, switch_plan, kept, items_at, or_void, or_none, hoisted, cases_hoisted}
 use Rattle.hoist.specs.Regions.{Sizes, AreSizes, on_way, roles, role_at, top_at, or_zero, is_light, fields_top, is_hollow, are_hollow}
 use Rattle.hoist.proofs.Weighing.{spent, weigh, weigh_less, weigh_quiet, low, high, least, greatest, flat_least, small_least}
 use Rattle.hoist.proofs.Quiet.{quiet, case_quiet, quiet_over, quiet_present, quiet_on, quiet_chunk, quiet_align, mapped, bare, arms_bare, flat_bare, own}
-use Rattle.hoist.proofs.Ways.{AreFrom, from-first, from-next, from-head, ty-field, way-field, some_of, loop_bound, array_there, items_there, choice_there, maybe_there}
+use Rattle.hoist.proofs.Ways.{AreFrom, from-first, from-next, from-head, ty-field, way-field, loop_bound, array_there, items_there, choice_there, maybe_there}
 
 pub loop_small : (role : Role) (n u : Option ℕ) (p : List ℕ) (k : ℕ) → role ≡ is_small k → IsThere n → (m : ℕ) × (loop_plan role n u p ≡ small m k)
 loop_small role None u p k e there = absurd there
@@ -80,19 +79,19 @@ module _ (z : Sizes) (sizes : AreSizes z) (c : Calls) (h : Head) (v : Val) (t0 :
   each_light p b r t n way is top there bare =
       let s = loop_small (roles z t0 p) (loop_bound p t0 b) (on_some (element_at p t0) (λ e. bound e.0 b)) p (n - 1) (small_role z p t0 t n way is top) there in
       op_small (λ (d : Block). on_some (on_some (at p v) elements_in) (over (steps c h d))) (each_plan (roles z) t0 p b) s.0 (n - 1) b (closed (hoisted (roles z) (or_void (items_at p t0)) b)) (hoisted (roles z) t0 r) s.1
-        (quiet_on (on_some (at p v) elements_in) (over (steps c h b)) (λ vs. quiet_over (steps c h b) vs (λ (w : Val). quiet c h b w bare)))
+      (quiet_on (on_some (at p v) elements_in) (over (steps c h b)) (λ vs. quiet_over (steps c h b) vs (λ (w : Val). quiet c h b w bare)))
 
   some_light : (p : List ℕ) (b r : Block) (t : Ty) (n : ℕ) → on_way z p t0 ≡ true → ty_at p t0 ≡ Some t → z.top t ≡ Some n → IsThere (on_some (present_at p t0) (λ u. bound u b)) → IsBare b → least_of (if_there p b r) ≤ least_of r + (n - 1)
   some_light p b r t n way is top there bare =
       let s = body_small (roles z t0 p) (on_some (present_at p t0) (λ u. bound u b)) (n - 1) (small_role z p t0 t n way is top) there in
       op_small (λ (d : Block). on_some (at p v) (if_present (steps c h d))) (some_plan (roles z) t0 p b) s.0 (n - 1) b (closed (hoisted (roles z) (or_void (present_at p t0)) b)) (hoisted (roles z) t0 r) s.1
-        (quiet_on (at p v) (if_present (steps c h b)) (λ (w : Val). quiet_present (steps c h b) w (λ (u : Val). quiet c h b u bare)))
+      (quiet_on (at p v) (if_present (steps c h b)) (λ (w : Val). quiet_present (steps c h b) w (λ (u : Val). quiet c h b u bare)))
 
   switch_light : (p : List ℕ) (cs : Cases) (r : Block) (t : Ty) (n : ℕ) → on_way z p t0 ≡ true → ty_at p t0 ≡ Some t → z.top t ≡ Some n → IsThere (on_some (arms_at p t0) (λ arms. cases_bound arms cs)) → CasesBare cs → least_of (switch p cs r) ≤ least_of r + (n - 1)
   switch_light p cs r t n way is top there bare =
       let s = body_small (roles z t0 p) (on_some (arms_at p t0) (λ arms. cases_bound arms cs)) (n - 1) (small_role z p t0 t n way is top) there in
       op_small (λ (d : Cases). on_some (on_some (at p v) arm_in) (λ a. case_steps c h d a.0 a.1)) (switch_plan (roles z) t0 p cs) s.0 (n - 1) cs (cases_hoisted (roles z) (or_none (arms_at p t0)) cs) (hoisted (roles z) t0 r) s.1
-        (quiet_on (on_some (at p v) arm_in) (λ a. case_steps c h cs a.0 a.1) (λ (a : ℤ × Val). case_quiet c h cs a.0 a.1 bare))
+      (quiet_on (on_some (at p v) arm_in) (λ a. case_steps c h cs a.0 a.1) (λ (a : ℤ × Val). case_quiet c h cs a.0 a.1 bare))
 
   top_there : (t : Ty) (n : ℕ) → z.top t ≡ Some n → IsThere (z.top t)
   top_there t n e = subst IsThere (sym e) tt

@@ -1,23 +1,22 @@
 -- Code that goes through a type ensures nothing, and is bounded where the type is.
-use Rattle.std.proofs.Common.{◌≡◌, ◌⊎◌, inl, inr, ℕ, zero, suc, ◌+◌, ◌-◌, ◌*◌, ◌≤◌, ℤ, List, [], ◌∷◌, ◌++◌, length, Option, None, Some, option_map, refl, sym, ap, subst, ◌∙◌, arith, Bool, true, false, if◌then◌else◌}
+use Rattle.std.proofs.Common.{◌≡◌, inl, inr, ℕ, suc, ◌+◌, ℤ, List, [], ◌∷◌, ◌++◌, length, Option, None, Some, option_map, refl, sym, subst, arith, Bool, true, false, if◌then◌else◌}
 use Rattle.std.specs.Ordering.{int_eq}
-use Rattle.std.proofs.lemmas.Bool.Decides.{Decides-int_eq}
 use Rattle.mint.specs.declared.kind.Count.{Count}
 use Rattle.mint.specs.declared.kind.Count.TheVariants.{Exactly, AtMost, Any}
-use Rattle.mint.specs.Types.{Array, text, row_of, Ty, void_type, scalar_type, array_type, group_type, items_type, choice_type, maybe_type, Tys, no_fields, field, Arms, no_other, others, arm_type}
+use Rattle.mint.specs.Types.{Ty, void_type, scalar_type, array_type, group_type, items_type, choice_type, maybe_type, Tys, no_fields, field, Arms, no_other, others, arm_type}
 use Rattle.mint.specs.Values.{Val, Vals, no_more, val, absent, present, arm_in}
 use Rattle.wire_def.specs.declared.head.Head.{Head}
 use Rattle.cast_stub.specs.declared.put.Put.{Put}
-use Rattle.cast_stub.specs.Parts.{on_some, at, elements_in, IsThere}
+use Rattle.cast_stub.specs.Parts.{on_some, at, elements_in}
 use Rattle.cast_stub.specs.Puts.{filled}
 use Rattle.cast_stub.specs.Block.{Block, stop, ensure, ensure_row, align, chunk, row_copy, row_swap, row_wide, each, switch, if_there, call, patch, Cases, no_default, default, case}
 use Rattle.cast_stub.specs.Append.{append}
-use Rattle.cast_stub.specs.Steps.{Step, Pad, Stored, Copied, Widened, Patched, Steps, both, over, if_present, Calls, steps, case_steps, chunk_steps, align_steps, copy_steps, swap_steps, wide_steps, is_width}
+use Rattle.cast_stub.specs.Steps.{Pad, Stored, Patched, Steps, both, over, if_present, Calls, steps, case_steps, chunk_steps, align_steps, is_width}
 use Rattle.cast_stub.specs.Follows as follows
 use Rattle.cast_stub.specs.Follows.{IsFlat, IsLoop, IsCount, Going, Child, Follows, FieldsFollow, ArmsFollow}
 use Rattle.copy_inline.specs.Inlined.{no_subs}
 use Rattle.hoist.specs.Bare.{IsBare, CasesBare}
-use Rattle.hoist.proofs.Weighing.{spent, checks, checks-append}
+use Rattle.hoist.proofs.Weighing.{spent, checks-append}
 
 -- ---- nothing is ensured
 
@@ -63,13 +62,13 @@ module _ (c : Calls) (h : Head) where
     quiet (row_wide p o r) v bare = absurd bare
     quiet (each p b r) v bare =
         quiet_both (on_some (on_some (at p v) elements_in) (over (steps c h b))) (steps c h r v)
-          (quiet_on (on_some (at p v) elements_in) (over (steps c h b)) (λ (vs : Vals). quiet_over (steps c h b) vs (λ (w : Val). quiet b w bare.0))) (quiet r v bare.1)
+        (quiet_on (on_some (at p v) elements_in) (over (steps c h b)) (λ (vs : Vals). quiet_over (steps c h b) vs (λ (w : Val). quiet b w bare.0))) (quiet r v bare.1)
     quiet (switch p cs r) v bare =
         quiet_both (on_some (on_some (at p v) arm_in) (λ a. case_steps c h cs a.0 a.1)) (steps c h r v)
-          (quiet_on (on_some (at p v) arm_in) (λ a. case_steps c h cs a.0 a.1) (λ (a : ℤ × Val). case_quiet cs a.0 a.1 bare.0)) (quiet r v bare.1)
+        (quiet_on (on_some (at p v) arm_in) (λ a. case_steps c h cs a.0 a.1) (λ (a : ℤ × Val). case_quiet cs a.0 a.1 bare.0)) (quiet r v bare.1)
     quiet (if_there p b r) v bare =
         quiet_both (on_some (at p v) (if_present (steps c h b))) (steps c h r v)
-          (quiet_on (at p v) (if_present (steps c h b)) (λ (w : Val). quiet_present (steps c h b) w (λ (u : Val). quiet b u bare.0))) (quiet r v bare.1)
+        (quiet_on (at p v) (if_present (steps c h b)) (λ (w : Val). quiet_present (steps c h b) w (λ (u : Val). quiet b u bare.0))) (quiet r v bare.1)
     quiet (patch a s o r) v bare = quiet_both (Some (Patched a s o ∷ [])) (steps c h r v) refl (quiet r v bare)
 
     pub case_quiet : (cs : Cases) (n : ℤ) (w : Val) → CasesBare cs → spent (case_steps c h cs n w) ≡ 0

@@ -1,5 +1,5 @@
 -- Room for steps, by what they append.
-use Rattle.std.proofs.Common.{◌≡◌, ℕ, zero, suc, ◌+◌, ◌-◌, ◌*◌, ◌≤◌, max, List, [], ◌∷◌, ◌++◌, length, Option, None, Some, refl, sym, ap, subst, ◌∙◌, arith}
+use Rattle.std.proofs.Common.{◌≡◌, ℕ, ◌+◌, ◌-◌, ◌*◌, ◌≤◌, max, List, [], ◌∷◌, ◌++◌, length, Option, None, Some, refl, ap, subst, ◌∙◌, arith}
 use Rattle.mint.specs.Types.{Ty}
 use Rattle.mint.specs.Typed.{IsOf, Each}
 use Rattle.mint.specs.Values.{Val, Vals, no_more, val}

@@ -1,21 +1,19 @@
 -- Code between a lead and a patch.
-use Rattle.std.proofs.Common.{◌≡◌, ℕ, zero, suc, ◌+◌, ◌*◌, ◌≤◌, List, [], ◌∷◌, ◌++◌, length, Option, None, Some, option_map, refl, sym, ap, subst, ◌∙◌, arith, append_assoc}
+use Rattle.std.proofs.Common.{◌≡◌, ℕ, zero, suc, ◌+◌, ◌≤◌, List, [], ◌++◌, length, Some, option_map, refl, sym, ap, subst, arith}
 use Rattle.std.proofs.lemmas.List.{append-nil}
 use Rattle.mint.specs.Types.{Ty}
-use Rattle.mint.specs.Typed.{IsOf}
-use Rattle.mint.specs.Sound.{IsSound}
 use Rattle.mint.specs.Values.{Val}
 use Rattle.wire_def.specs.declared.head.Head.{Head}
 use Rattle.cast_stub.specs.declared.put.Put.{Put}
 use Rattle.cast_stub.specs.Block.{Block, stop, chunk, patch}
 use Rattle.cast_stub.specs.Append.{append}
-use Rattle.cast_stub.specs.Steps.{Step, Steps, both, Calls, steps, chunk_steps}
+use Rattle.cast_stub.specs.Steps.{Steps, both, Calls, steps, chunk_steps}
 use Rattle.cast_stub.specs.Follows as follows
-use Rattle.hoist.specs.Framed.{lead_length, IsTail, IsFramed}
-use Rattle.hoist.specs.Hoisted.{Pending, nothing, octets, row, Hoisted, flat, raised, settled, closed, hoisted}
+use Rattle.hoist.specs.Framed.{lead_length, IsTail}
+use Rattle.hoist.specs.Hoisted.{Hoisted, flat, raised, settled, hoisted}
 use Rattle.hoist.specs.Laws.{HoistingIsSparing}
-use Rattle.hoist.specs.Regions.{Sizes, AreSizes, Part, lone, parts, groups, regions, roles}
-use Rattle.hoist.proofs.Grouping.{load, loaded, load_some}
+use Rattle.hoist.specs.Regions.{Sizes, AreSizes, Part, lone, parts, regions, roles}
+use Rattle.hoist.proofs.Grouping.{load, loaded}
 use Rattle.hoist.proofs.Heavy.{heavy, flat_fits}
 use Rattle.hoist.proofs.Light.{greatest_of, high_same}
 use Rattle.hoist.proofs.Quiet.{mapped, quiet_chunk}
@@ -65,8 +63,8 @@ sparing z c h t n b v ss sizes sound framed typed met =
     let body = heavy z sizes c h t v sound typed framed.3 [] framed.1 framed.2 t v [] refl refl refl framed.6 tail in
     let all = lead_fits z sizes c h v t framed.0 (append framed.1 framed.2) n (parts z t v ++ []) framed.5 body in
     let whole : greatest c h v (hoisted (roles z) t b) ≤ load (lone n ++ parts z t v) =
-        subst (λ (x : Block). greatest c h v (hoisted (roles z) t x) ≤ load (lone n ++ parts z t v)) (sym framed.4)
-          (subst (λ (x : List Part). greatest c h v (hoisted (roles z) t (append framed.0 (append framed.1 framed.2))) ≤ load (lone n ++ x)) (append-nil (parts z t v)) all) in
+    subst (λ (x : Block). greatest c h v (hoisted (roles z) t x) ≤ load (lone n ++ parts z t v)) (sym framed.4)
+    (subst (λ (x : List Part). greatest c h v (hoisted (roles z) t (append framed.0 (append framed.1 framed.2))) ≤ load (lone n ++ x)) (append-nil (parts z t v)) all) in
     let l = loaded (lone n ++ parts z t v) in
     let fits = closed_fits c h v (hoisted (roles z) t b) (regions z n t v) (omega (arith, whole, l)) in
     subst (λ (x : Steps). spent x ≤ regions z n t v) met fits

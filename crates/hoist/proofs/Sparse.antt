@@ -1,14 +1,14 @@
 -- Hoisted code ensures nothing within a loop over a row or text.
-use Rattle.std.proofs.Common.{◌≡◌, ℕ, zero, suc, ◌+◌, ◌-◌, ◌*◌, ℤ, List, [], ◌∷◌, Option, None, Some, refl, sym, ap, subst, ◌∙◌, Bool, true, false, nat_lt, if◌then◌else◌}
+use Rattle.std.proofs.Common.{◌≡◌, ℕ, ◌-◌, List, Option, None, Some, refl, sym, subst, Bool, true, false, nat_lt, if◌then◌else◌}
 use Rattle.std.specs.Ordering.{int_eq}
 use Rattle.mint.specs.declared.kind.Count.{Count}
-use Rattle.mint.specs.Types.{Array, text, row_of, Ty, void_type, scalar_type, array_type, group_type, items_type, choice_type, maybe_type, Arms, no_other, others, arm_type}
+use Rattle.mint.specs.Types.{Ty, void_type, scalar_type, array_type, group_type, items_type, choice_type, maybe_type, Arms, no_other, others, arm_type}
 use Rattle.cast_stub.specs.Parts.{on_some, IsThere}
 use Rattle.cast_stub.specs.Block.{Block, stop, ensure, ensure_row, align, chunk, row_copy, row_swap, row_wide, each, switch, if_there, call, patch, Cases, no_default, default, case}
 use Rattle.hoist.specs.Bare.{IsBare, CasesBare}
-use Rattle.hoist.specs.Bound.{ty_at, most, plus, times, greater, bound, cases_bound, element_at, present_at, arms_at, elements_type}
+use Rattle.hoist.specs.Bound.{ty_at, most, plus, times, greater, bound, cases_bound, element_at, present_at, arms_at}
 use Rattle.hoist.specs.Framed.{OfItems, IfTyped, RowsAreBare, CasesRowsAreBare}
-use Rattle.hoist.specs.Hoisted.{Pending, nothing, octets, row, Hoisted, closed, Plan, flat, small, loop, apart, enough, beside, settled, Roles, Role, is_small, is_row, is_break, loop_plan, body_plan, each_plan, some_plan, switch_plan, kept, items_in_type, items_at, or_void, or_none, hoisted, cases_hoisted, InType, WhereApart, IsTaken, CasesTaken}
+use Rattle.hoist.specs.Hoisted.{nothing, octets, row, Hoisted, closed, Plan, flat, small, loop, apart, enough, beside, settled, Roles, Role, is_small, is_row, is_break, loop_plan, body_plan, each_plan, some_plan, switch_plan, kept, items_in_type, items_at, or_void, or_none, hoisted, cases_hoisted, InType, WhereApart, IsTaken, CasesTaken}
 use Rattle.hoist.specs.Laws.{HoistingSparesRows}
 
 -- ---- bounded code is bare
@@ -162,30 +162,33 @@ module _ (ro : Roles) where
     rows (align a r) t taken = settled_rows (flat (a - 1)) (hoisted ro t r) t (rows r t taken)
     rows (chunk s ps r) t taken = settled_rows (flat s) (hoisted ro t r) t (rows r t taken)
     rows (patch a s o r) t taken = rows r t taken
-    rows (each p b r) t taken =
-        (loop_rows (ro t p) (on_some (element_at p t) (λ e. times (most e.1) (bound e.0 b))) (on_some (element_at p t) (λ e. bound e.0 b)) p b (closed (hoisted ro (or_void (items_at p t)) b))
+    rows (each p b r) t taken = (
+      loop_rows (ro t p) (on_some (element_at p t) (λ e. times (most e.1) (bound e.0 b))) (on_some (element_at p t) (λ e. bound e.0 b)) p b (closed (hoisted ro (or_void (items_at p t)) b))
           (λ (d : Block). OfItems (ty_at p t) (λ u. RowsAreBare u d) (IsBare d)) (InType (items_at p t) (λ u. IsTaken ro u b))
           (λ h. kept_rows p t b (from_on (element_at p t) (λ e. times (most e.1) (bound e.0 b)) (IsBare b) h (λ (e : Ty × Count) j. bound_bare b e.0 (times_there (most e.1) (bound e.0 b) j))))
           (λ h. kept_rows p t b (from_on (element_at p t) (λ e. bound e.0 b) (IsBare b) h (λ (e : Ty × Count) j. bound_bare b e.0 j)))
           (λ tk. apart_items (ty_at p t) (λ u. IsTaken ro u b) RowsAreBare IsBare (λ u. closed (hoisted ro u b)) tk (λ (u : Ty) k. closed_rows (hoisted ro u b) u (rows b u k)))
           taken.0,
-         settled_rows (each_plan ro t p b) (hoisted ro t r) t (rows r t taken.1)) where
+      settled_rows (each_plan ro t p b) (hoisted ro t r) t (rows r t taken.1),
+    ) where
       kept_rows : (p : List ℕ) (t : Ty) (b : Block) → IsBare b → OfItems (ty_at p t) (λ u. RowsAreBare u b) (IsBare b)
       kept_rows p t b bare = of_items (ty_at p t) (λ u. RowsAreBare u b) (IsBare b) (λ (u : Ty). bare_rows b u bare) bare
-    rows (if_there p b r) t taken =
-        (body_rows (ro t p) (on_some (present_at p t) (λ u. bound u b)) b (closed (hoisted ro (or_void (present_at p t)) b))
+    rows (if_there p b r) t taken = (
+      body_rows (ro t p) (on_some (present_at p t) (λ u. bound u b)) b (closed (hoisted ro (or_void (present_at p t)) b))
           (λ (d : Block). IfTyped (present_at p t) (λ u. RowsAreBare u d)) (InType (present_at p t) (λ u. IsTaken ro u b))
           (λ h. if_typed (present_at p t) (λ u. RowsAreBare u b) (λ (u : Ty). bare_rows b u (from_on (present_at p t) (λ u. bound u b) (IsBare b) h (λ (u : Ty) j. bound_bare b u j))))
           (λ tk. apart_typed (present_at p t) (λ u. IsTaken ro u b) RowsAreBare or_void (λ u. closed (hoisted ro u b)) (λ a. refl) tk (λ (u : Ty) k. closed_rows (hoisted ro u b) u (rows b u k)))
           taken.0,
-         settled_rows (some_plan ro t p b) (hoisted ro t r) t (rows r t taken.1))
-    rows (switch p cs r) t taken =
-        (body_rows (ro t p) (on_some (arms_at p t) (λ arms. cases_bound arms cs)) cs (cases_hoisted ro (or_none (arms_at p t)) cs)
+      settled_rows (some_plan ro t p b) (hoisted ro t r) t (rows r t taken.1),
+    )
+    rows (switch p cs r) t taken = (
+      body_rows (ro t p) (on_some (arms_at p t) (λ arms. cases_bound arms cs)) cs (cases_hoisted ro (or_none (arms_at p t)) cs)
           (λ (d : Cases). IfTyped (arms_at p t) (λ arms. CasesRowsAreBare arms d)) (InType (arms_at p t) (λ arms. CasesTaken ro arms cs))
           (λ h. if_typed (arms_at p t) (λ arms. CasesRowsAreBare arms cs) (λ (arms : Arms). bare_cases cs arms (from_on (arms_at p t) (λ arms. cases_bound arms cs) (CasesBare cs) h (λ (a : Arms) j. cases_bound_bare cs a j))))
           (λ tk. apart_typed (arms_at p t) (λ arms. CasesTaken ro arms cs) CasesRowsAreBare or_none (λ arms. cases_hoisted ro arms cs) (λ a. refl) tk (λ (arms : Arms) k. cases_rows cs arms k))
           taken.0,
-         settled_rows (switch_plan ro t p cs) (hoisted ro t r) t (rows r t taken.1))
+      settled_rows (switch_plan ro t p cs) (hoisted ro t r) t (rows r t taken.1),
+    )
     rows (ensure n r) t taken = absurd taken
     rows (ensure_row p u e r) t taken = absurd taken
     rows (row_copy p r) t taken = absurd taken

@@ -1,19 +1,19 @@
 -- Code that goes through a type is taken.
-use Rattle.std.proofs.Common.{◌≡◌, ◌⊎◌, inl, inr, ℕ, zero, suc, ◌+◌, ◌-◌, ◌*◌, ◌≤◌, ℤ, List, [], ◌∷◌, ◌++◌, length, Option, None, Some, option_map, refl, sym, ap, subst, ◌∙◌, Bool, true, false, ◌||◌}
+use Rattle.std.proofs.Common.{◌≡◌, ℕ, suc, ◌+◌, ◌-◌, List, [], ◌∷◌, ◌++◌, length, Option, None, Some, refl, sym, ap, subst, ◌∙◌, Bool, true, false, ◌||◌}
 use Rattle.mint.specs.declared.kind.Count.{Count}
 use Rattle.mint.specs.declared.kind.Count.TheVariants.{Exactly, AtMost, Any}
 use Rattle.mint.specs.Types.{Ty, void_type, scalar_type, array_type, group_type, items_type, choice_type, maybe_type, Tys, no_fields, field, Arms, no_other, others, arm_type}
 use Rattle.cast_stub.specs.Parts.{on_some, IsThere}
-use Rattle.cast_stub.specs.Block.{Block, stop, ensure, ensure_row, align, chunk, row_copy, row_swap, row_wide, each, switch, if_there, call, patch, Cases, no_default, default, case}
+use Rattle.cast_stub.specs.Block.{Block, stop, align, chunk, each, switch, if_there, patch, Cases}
 use Rattle.cast_stub.specs.Append.{append}
 use Rattle.cast_stub.specs.Follows as follows
 use Rattle.cast_stub.specs.Follows.{IsFlat, IsCount, Going, Child, Follows, FieldsFollow, ArmsFollow}
 use Rattle.cast_stub.proofs.Appending.{append-stop}
 use Rattle.copy_inline.specs.Inlined.{no_subs}
 use Rattle.copy_inline.proofs.Blocks.{append-assoc}
-use Rattle.hoist.specs.Bound.{ty_at, most, plus, times, bound, cases_bound, element_at, present_at, arms_at, present_type, arms_type}
-use Rattle.hoist.specs.Framed.{lead_length, IsTail, IsFramed}
-use Rattle.hoist.specs.Hoisted.{Plan, flat, small, loop, apart, Role, is_small, is_row, is_break, loop_plan, each_plan, some_plan, switch_plan, items_in_type, items_at, InType, WhereApart, IsTaken, CasesTaken}
+use Rattle.hoist.specs.Bound.{ty_at, plus, bound, element_at, present_at, arms_at, present_type, arms_type}
+use Rattle.hoist.specs.Framed.{lead_length, IsTail}
+use Rattle.hoist.specs.Hoisted.{Plan, flat, small, loop, apart, each_plan, some_plan, switch_plan, items_in_type, items_at, InType, WhereApart, IsTaken, CasesTaken}
 use Rattle.hoist.specs.Laws.{FramedIsTaken}
 use Rattle.hoist.specs.Regions.{Sizes, AreSizes, on_way, roles, is_light, fields_top}
 use Rattle.hoist.proofs.Heavy.{loop_row, heavy_role}
@@ -73,14 +73,14 @@ module _ (z : Sizes) (sizes : AreSizes z) where
         let u = on_some (element_at p t0) (λ y. bound y.0 f.1) in
         let T = InType (items_at p t0) (λ y. IsTaken (roles z) y f.1) in
         let plan : WhereApart (each_plan (roles z) t0 p f.1) T =
-            either (on_way z p t0) (WhereApart (each_plan (roles z) t0 p f.1) T)
-              (λ w.
-                let top = some_of (z.top (array_type a)) (way w) in
-                let s = loop_small (roles z t0 p) n u p (top.0 - 1) (small_role z p t0 (array_type a) top.0 w is top.1) (array_there z sizes a p f.1 f.4 t0 is (way w) f.8) in
-                not_apart (each_plan (roles z) t0 p f.1) (small s.0 (top.0 - 1)) T s.1 tt)
-              (λ w.
-                let s = loop_row (roles z t0 p) n u p (heavy_role z p t0 (array_type a) w is) (row_turn_there z sizes a p f.1 f.4 t0 is f.8) in
-                not_apart (each_plan (roles z) t0 p f.1) (loop p s.0) T s.1 tt) in
+        either (on_way z p t0) (WhereApart (each_plan (roles z) t0 p f.1) T)
+        (λ w.
+        let top = some_of (z.top (array_type a)) (way w) in
+        let s = loop_small (roles z t0 p) n u p (top.0 - 1) (small_role z p t0 (array_type a) top.0 w is top.1) (array_there z sizes a p f.1 f.4 t0 is (way w) f.8) in
+        not_apart (each_plan (roles z) t0 p f.1) (small s.0 (top.0 - 1)) T s.1 tt)
+        (λ w.
+        let s = loop_row (roles z t0 p) n u p (heavy_role z p t0 (array_type a) w is) (row_turn_there z sizes a p f.1 f.4 t0 is f.8) in
+        not_apart (each_plan (roles z) t0 p f.1) (loop p s.0) T s.1 tt) in
         subst (IsTaken (roles z) t0) (sym e) (flat_taken t0 f.0 (each p f.1 (append f.2 r)) f.3 f.7 (plan, flat_taken t0 f.2 r f.5 f.9 h))
     taken (group_type ts) below p b r t0 is way f h = fields_taken ts 0 ts below p b r t0 is (from-first ts) (λ w. let n = some_of (z.top (group_type ts)) (way w) in subst IsThere (sym (sizes.group ts n.0 n.1).1) tt) f h
     taken (items_type k t) below p b r t0 is way f h =
@@ -108,7 +108,7 @@ module _ (z : Sizes) (sizes : AreSizes z) where
         let head = from-head i all t ts from in
         let on = way-field z p i t0 (group_type all) t is head in
         let way' : on_way z (p ++ i ∷ []) t0 ≡ true → IsThere (z.top t) =
-            λ w. one_of (on_way z p t0) (is_light (z.top t)) (IsThere (z.top t)) (sym on ∙ w) (λ a. (tops (z.top t) (fields_top z ts) (way a)).0) (light_there (z.top t)) in
+        λ w. one_of (on_way z p t0) (is_light (z.top t)) (IsThere (z.top t)) (sym on ∙ w) (λ a. (tops (z.top t) (fields_top z ts) (way a)).0) (light_there (z.top t)) in
         let rest = fields_taken ts (suc i) all below p f.1 r t0 is (from-next i all t ts from) (λ w. (tops (z.top t) (fields_top z ts) (way w)).1) f.4 h in
         subst (IsTaken (roles z) t0) (sym e) (taken t below (p ++ i ∷ []) f.0 (append f.1 r) t0 (ty-field p i t0 (group_type all) t is head) way' (own (Follows no_subs t) below (p ++ i ∷ []) f.0 f.3) rest)
 
@@ -118,7 +118,7 @@ module _ (z : Sizes) (sizes : AreSizes z) where
         subst (CasesTaken (roles z) (others t)) (sym f.1) (subst (IsTaken (roles z) t) (append-stop f.0) (taken t below [] f.0 stop t refl (light_there (z.top t)) (own (Follows no_subs t) below [] f.0 f.2) tt))
     arms_taken (arm_type n t arms) below cs f =
         subst (CasesTaken (roles z) (arm_type n t arms)) (sym f.2)
-          (refl, subst (IsTaken (roles z) t) (append-stop f.0) (taken t below [] f.0 stop t refl (light_there (z.top t)) (own (Follows no_subs t) below [] f.0 f.3) tt), arms_taken arms below f.1 f.4)
+        (refl, subst (IsTaken (roles z) t) (append-stop f.0) (taken t below [] f.0 stop t refl (light_there (z.top t)) (own (Follows no_subs t) below [] f.0 f.3) tt), arms_taken arms below f.1 f.4)
 
   lead_taken : (t : Ty) (b r : Block) (n : ℕ) → lead_length b ≡ Some n → IsTaken (roles z) t r → IsTaken (roles z) t (append b r)
   lead_taken t stop r n e h = h
@@ -133,4 +133,4 @@ module _ (z : Sizes) (sizes : AreSizes z) where
 pub framed_taken : FramedIsTaken
 framed_taken z t n b sizes f =
     subst (IsTaken (roles z) t) (sym f.4)
-      (lead_taken z sizes t f.0 (append f.1 f.2) n f.5 (taken z sizes t f.3 [] f.1 f.2 t refl (light_there (z.top t)) f.6 (tail_taken z sizes t f.2 f.7)))
+    (lead_taken z sizes t f.0 (append f.1 f.2) n f.5 (taken z sizes t f.3 [] f.1 f.2 t refl (light_there (z.top t)) f.6 (tail_taken z sizes t f.2 f.7)))

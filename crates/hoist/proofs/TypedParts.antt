@@ -1,16 +1,16 @@
 -- The parts of a value of a type are of the types of the parts.
-use Rattle.std.proofs.Common.{◌≡◌, ℕ, zero, suc, ◌≤◌, ℤ, List, [], ◌∷◌, length, map, Option, None, Some, refl, sym, ap, subst, ◌∙◌, Bool, true, false, IsTrue, ◌&&◌}
+use Rattle.std.proofs.Common.{◌≡◌, ℕ, zero, suc, ℤ, List, [], ◌∷◌, length, map, Option, None, Some, refl, sym, ap, subst, ◌∙◌, Bool, true, false, IsTrue, ◌&&◌}
 use Rattle.std.specs.List.{list_all}
 use Rattle.mint.specs.declared.kind.Kind.{Kind}
 use Rattle.mint.specs.declared.kind.Kind.TheVariants as kind
 use Rattle.mint.specs.declared.kind.Count.{Count}
 use Rattle.mint.specs.Kinds.{Allows, in_range, is_letter}
-use Rattle.mint.specs.Types.{Scalar, number, label, Array, text, row_of, Ty, void_type, scalar_type, array_type, group_type, items_type, choice_type, maybe_type, Tys, no_fields, field, Arms}
+use Rattle.mint.specs.Types.{number, text, row_of, Ty, scalar_type, array_type, group_type, items_type, choice_type, maybe_type, Tys, no_fields, field, Arms}
 use Rattle.mint.specs.Typed.{IsOf, AreOf, IsOfArm, Each}
-use Rattle.mint.specs.Values.{Val, void, num, row, group, items, arm, absent, present, Vals, no_more, val, vals_of, count, arm_in}
+use Rattle.mint.specs.Values.{Val, num, row, group, items, arm, absent, present, Vals, no_more, val, vals_of, count, arm_in}
 use Rattle.cast_stub.specs.Parts.{on_some, at, in_group, elements_in, length_in}
 use Rattle.cast_stub.specs.Parts as part
-use Rattle.cast_stub.specs.Steps.{Step, Steps, over, if_present}
+use Rattle.cast_stub.specs.Steps.{Steps, over, if_present}
 use Rattle.hoist.specs.Bound.{field_type, in_group_type, ty_at, elements_type, present_type, arms_type, element_at, present_at, arms_at}
 
 field-typed : (n : ℕ) (ts : Tys) (vs : Vals) (u : Ty) (w : Val) → AreOf ts vs → field_type n ts ≡ Some u → part.field n vs ≡ Some w → IsOf u w
@@ -102,12 +102,13 @@ pub each-part : (f : Val → Steps) (p : List ℕ) (t : Ty) (v : Val) (e : Ty ×
 each-part f p t v e Q h is none go =
     let u = split (ty_at p t) elements_type e is in
     at_part (at p v) refl u.0 u.1 u.2 where
-  at_elements : (w : Val) → at p v ≡ Some w → (u : Ty) → elements_type u ≡ Some e → IsOf u w → (x : Option Vals) → elements_in w ≡ x → Q (on_some x (over f))
-  at_elements w there u of o None same = none
-  at_elements w there u of o (Some vs) same = go vs (ap (λ (x : Option Val). on_some x length_in) there ∙ length-count w vs same) (elements-typed u w e vs o of same)
-  at_part : (y : Option Val) → at p v ≡ y → (u : Ty) → ty_at p t ≡ Some u → elements_type u ≡ Some e → Q (on_some (on_some y elements_in) (over f))
-  at_part None there u typed of = none
-  at_part (Some w) there u typed of = at_elements w there u of (at-typed p t v u w h typed there) (elements_in w) refl
+      at_elements : (w : Val) → at p v ≡ Some w → (u : Ty) → elements_type u ≡ Some e → IsOf u w → (x : Option Vals) → elements_in w ≡ x → Q (on_some x (over f))
+      at_elements w there u of o None same = none
+      at_elements w there u of o (Some vs) same = go vs (ap (λ (x : Option Val). on_some x length_in) there ∙ length-count w vs same) (elements-typed u w e vs o of same)
+
+      at_part : (y : Option Val) → at p v ≡ y → (u : Ty) → ty_at p t ≡ Some u → elements_type u ≡ Some e → Q (on_some (on_some y elements_in) (over f))
+      at_part None there u typed of = none
+      at_part (Some w) there u typed of = at_elements w there u of (at-typed p t v u w h typed there) (elements_in w) refl
 
 -- of steps on the value that may be there
 pub some-part : (f : Val → Steps) (p : List ℕ) (t : Ty) (v : Val) (u : Ty) (Q : Steps → Type 0) → IsOf t v → present_at p t ≡ Some u → Q None → Q (Some [])
@@ -115,14 +116,15 @@ pub some-part : (f : Val → Steps) (p : List ℕ) (t : Ty) (v : Val) (u : Ty) (
 some-part f p t v u Q h is none nothing go =
     let m = split (ty_at p t) present_type u is in
     at_part (at p v) refl m.0 m.1 m.2 where
-  of_maybe : (m : Ty) (w : Val) → present_type m ≡ Some u → IsOf m w → Q (if_present f w)
-  of_maybe (maybe_type t) absent e o = nothing
-  of_maybe (maybe_type t) (present w) e o = let s : t ≡ u = cc in go w (subst (λ (x : Ty). IsOf x w) s o)
-  of_maybe (maybe_type t) _ e o = absurd o
-  of_maybe _ w e o = absurd cc
-  at_part : (y : Option Val) → at p v ≡ y → (m : Ty) → ty_at p t ≡ Some m → present_type m ≡ Some u → Q (on_some y (if_present f))
-  at_part None there m typed of = none
-  at_part (Some w) there m typed of = of_maybe m w of (at-typed p t v m w h typed there)
+      of_maybe : (m : Ty) (w : Val) → present_type m ≡ Some u → IsOf m w → Q (if_present f w)
+      of_maybe (maybe_type t) absent e o = nothing
+      of_maybe (maybe_type t) (present w) e o = let s : t ≡ u = cc in go w (subst (λ (x : Ty). IsOf x w) s o)
+      of_maybe (maybe_type t) _ e o = absurd o
+      of_maybe _ w e o = absurd cc
+
+      at_part : (y : Option Val) → at p v ≡ y → (m : Ty) → ty_at p t ≡ Some m → present_type m ≡ Some u → Q (on_some y (if_present f))
+      at_part None there m typed of = none
+      at_part (Some w) there m typed of = of_maybe m w of (at-typed p t v m w h typed there)
 
 -- of steps on the value of the arm
 pub switch-part : (f : ℤ → Val → Steps) (p : List ℕ) (t : Ty) (v : Val) (arms : Arms) (Q : Steps → Type 0) → IsOf t v → arms_at p t ≡ Some arms → Q None
@@ -130,10 +132,11 @@ pub switch-part : (f : ℤ → Val → Steps) (p : List ℕ) (t : Ty) (v : Val) 
 switch-part f p t v arms Q h is none go =
     let m = split (ty_at p t) arms_type arms is in
     at_part (at p v) refl m.0 m.1 m.2 where
-  of_choice : (m : Ty) (w : Val) → arms_type m ≡ Some arms → IsOf m w → Q (on_some (arm_in w) (λ a. f a.0 a.1))
-  of_choice (choice_type s as') (arm n w) e o = let s : as' ≡ arms = cc in go n w (subst (λ (x : Arms). IsOfArm x n w) s o.1)
-  of_choice (choice_type s as') _ e o = absurd o
-  of_choice _ w e o = absurd cc
-  at_part : (y : Option Val) → at p v ≡ y → (m : Ty) → ty_at p t ≡ Some m → arms_type m ≡ Some arms → Q (on_some (on_some y arm_in) (λ a. f a.0 a.1))
-  at_part None there m typed of = none
-  at_part (Some w) there m typed of = of_choice m w of (at-typed p t v m w h typed there)
+      of_choice : (m : Ty) (w : Val) → arms_type m ≡ Some arms → IsOf m w → Q (on_some (arm_in w) (λ a. f a.0 a.1))
+      of_choice (choice_type s as') (arm n w) e o = let s : as' ≡ arms = cc in go n w (subst (λ (x : Arms). IsOfArm x n w) s o.1)
+      of_choice (choice_type s as') _ e o = absurd o
+      of_choice _ w e o = absurd cc
+
+      at_part : (y : Option Val) → at p v ≡ y → (m : Ty) → ty_at p t ≡ Some m → arms_type m ≡ Some arms → Q (on_some (on_some y arm_in) (λ a. f a.0 a.1))
+      at_part None there m typed of = none
+      at_part (Some w) there m typed of = of_choice m w of (at-typed p t v m w h typed there)

@@ -1,15 +1,15 @@
 -- The way to a field, and bounds of code that goes through a type.
-use Rattle.std.proofs.Common.{◌≡◌, ◌⊎◌, inl, inr, ℕ, zero, suc, ◌+◌, ◌-◌, ◌*◌, ◌≤◌, max, ℤ, List, [], ◌∷◌, ◌++◌, length, Option, None, Some, option_map, refl, sym, ap, subst, ◌∙◌, arith, Bool, true, false, ◌||◌, if◌then◌else◌}
+use Rattle.std.proofs.Common.{◌≡◌, ℕ, suc, ◌+◌, ◌-◌, ℤ, List, [], ◌∷◌, ◌++◌, length, Option, None, Some, refl, sym, ap, subst, ◌∙◌, arith, Bool, true, false, ◌||◌, if◌then◌else◌}
 use Rattle.std.specs.Ordering.{int_eq}
 use Rattle.std.proofs.lemmas.Bool.Decides.{Decides-int_eq}
 use Rattle.mint.specs.declared.kind.Kind.TheVariants as kind
 use Rattle.mint.specs.declared.kind.Count.{Count}
 use Rattle.mint.specs.declared.kind.Count.TheVariants.{Exactly, AtMost, Any}
 use Rattle.mint.specs.Types.{Scalar, number, Array, text, row_of, Ty, void_type, scalar_type, array_type, group_type, items_type, choice_type, maybe_type, Tys, no_fields, field, Arms, no_other, others, arm_type}
-use Rattle.mint.specs.Values.{Val, Vals, no_more, val, group}
+use Rattle.mint.specs.Values.{Val, Vals, group}
 use Rattle.cast_stub.specs.Parts.{on_some, at, in_group, IsThere}
 use Rattle.cast_stub.specs.Parts as part
-use Rattle.cast_stub.specs.Block.{Block, stop, ensure, ensure_row, align, chunk, row_copy, row_swap, row_wide, each, switch, if_there, call, patch, Cases, no_default, default, case}
+use Rattle.cast_stub.specs.Block.{Block, stop, align, chunk, each, switch, if_there, patch, Cases}
 use Rattle.cast_stub.specs.Append.{append}
 use Rattle.cast_stub.specs.Follows as follows
 use Rattle.cast_stub.specs.Follows.{IsFlat, IsLoop, IsCount, Going, Child, Follows, FieldsFollow, ArmsFollow}
@@ -157,29 +157,29 @@ module _ (z : Sizes) (sizes : AreSizes z) where
         let u = array-element p t0 a e in
         let x = loop_there p t0 u.0 (count_in a) h.1 u.1 (sizes.array a top) (flat_there u.0 h.1 h.4 h.8) in
         subst (λ (y : Block). IsThere (bound t0 y)) (sym h.6)
-          (bound-append t0 h.0 (each p h.1 h.2) (flat_there t0 h.0 h.3 h.7) (there_plus (loop_bound p t0 h.1) (bound t0 h.2) x (flat_there t0 h.2 h.5 h.9)))
+        (bound-append t0 h.0 (each p h.1 h.2) (flat_there t0 h.0 h.3 h.7) (there_plus (loop_bound p t0 h.1) (bound t0 h.2) x (flat_there t0 h.2 h.5 h.9)))
     there (group_type ts) below p b t0 e top h =
         let n = some_of (z.top (group_type ts)) top in
         let m = sizes.group ts n.0 n.1 in
         fields_there ts 0 ts below p b t0 e (from-first ts) (subst IsThere (sym m.1) tt) h
     there (items_type c t) below p b t0 e top h =
         subst (λ (y : Block). IsThere (bound t0 y)) (sym h.2)
-          (bound-append t0 h.0 (each p h.1 stop) (count_there t0 c h.0 h.3) (there_plus (loop_bound p t0 h.1) (Some 0) (items_given c t p h.1 t0 e top (there t below [] h.1 t refl (sizes.items c t top).1 (own (Follows no_subs t) below [] h.1 h.4))) tt))
+        (bound-append t0 h.0 (each p h.1 stop) (count_there t0 c h.0 h.3) (there_plus (loop_bound p t0 h.1) (Some 0) (items_given c t p h.1 t0 e top (there t below [] h.1 t refl (sizes.items c t top).1 (own (Follows no_subs t) below [] h.1 h.4))) tt))
     there (choice_type s arms) below p b t0 e top h =
         subst (λ (y : Block). IsThere (bound t0 y)) (sym h.2)
-          (bound-append t0 h.0 (switch p h.1 stop) (flat_there t0 h.0 (h.3).0 (h.3).1) (there_plus (on_some (arms_at p t0) (λ x. cases_bound x h.1)) (Some 0) (choice_given s arms p h.1 t0 e (arms_there arms below h.1 (sizes.choice s arms top) h.4)) tt))
+        (bound-append t0 h.0 (switch p h.1 stop) (flat_there t0 h.0 (h.3).0 (h.3).1) (there_plus (on_some (arms_at p t0) (λ x. cases_bound x h.1)) (Some 0) (choice_given s arms p h.1 t0 e (arms_there arms below h.1 (sizes.choice s arms top) h.4)) tt))
     there (maybe_type t) below p b t0 e top h =
         subst (λ (y : Block). IsThere (bound t0 y)) (sym h.2)
-          (bound-append t0 h.0 (if_there p h.1 stop) (flat_there t0 h.0 (h.3).0 (h.3).1) (there_plus (on_some (present_at p t0) (λ u. bound u h.1)) (Some 0) (maybe_given t p h.1 t0 e (there t below [] h.1 t refl (sizes.maybe t top) (own (Follows no_subs t) below [] h.1 h.4))) tt))
+        (bound-append t0 h.0 (if_there p h.1 stop) (flat_there t0 h.0 (h.3).0 (h.3).1) (there_plus (on_some (present_at p t0) (λ u. bound u h.1)) (Some 0) (maybe_given t p h.1 t0 e (there t below [] h.1 t refl (sizes.maybe t top) (own (Follows no_subs t) below [] h.1 h.4))) tt))
 
     fields_there : (ts : Tys) (i : ℕ) (all : Tys) (below : ℕ) (p : List ℕ) (b : Block) (t0 : Ty) → ty_at p t0 ≡ Some (group_type all) → AreFrom i all ts → IsThere (fields_top z ts) → FieldsFollow no_subs ts i below p b → IsThere (bound t0 b)
     fields_there no_fields i all below p b t0 e from top h = subst (λ (y : Block). IsThere (bound t0 y)) (sym h) tt
     fields_there (field t ts) i all below p b t0 e from top h =
         let tops = there_parts (z.top t) (fields_top z ts) top in
         subst (λ (y : Block). IsThere (bound t0 y)) (sym h.2)
-          (bound-append t0 h.0 h.1
-            (there t below (p ++ i ∷ []) h.0 t0 (ty-field p i t0 (group_type all) t e (from-head i all t ts from)) tops.0 (own (Follows no_subs t) below (p ++ i ∷ []) h.0 h.3))
-            (fields_there ts (suc i) all below p h.1 t0 e (from-next i all t ts from) tops.1 h.4))
+        (bound-append t0 h.0 h.1
+        (there t below (p ++ i ∷ []) h.0 t0 (ty-field p i t0 (group_type all) t e (from-head i all t ts from)) tops.0 (own (Follows no_subs t) below (p ++ i ∷ []) h.0 h.3))
+        (fields_there ts (suc i) all below p h.1 t0 e (from-next i all t ts from) tops.1 h.4))
 
     arms_there : (arms : Arms) (below : ℕ) (cs : Cases) → ArmsBounded z arms → ArmsFollow no_subs arms below cs → IsThere (cases_bound arms cs)
     arms_there no_other below cs top h = subst (λ (y : Cases). IsThere (cases_bound no_other y)) (sym h) tt
@@ -187,7 +187,7 @@ module _ (z : Sizes) (sizes : AreSizes z) where
     arms_there (arm_type n t arms) below cs top h =
         let both = there_greater (bound t h.0) (cases_bound arms h.1) (there t below [] h.0 t refl top.0 (own (Follows no_subs t) below [] h.0 h.3)) (arms_there arms below h.1 top.1 h.4) in
         subst (λ (y : Cases). IsThere (cases_bound (arm_type n t arms) y)) (sym h.2)
-          (subst (λ (q : Bool). IsThere (if q then greater (bound t h.0) (cases_bound arms h.1) else None)) (sym (int_refl n)) both)
+        (subst (λ (q : Bool). IsThere (if q then greater (bound t h.0) (cases_bound arms h.1) else None)) (sym (int_refl n)) both)
 
   pub array_there : (a : Array) (p : List ℕ) (b : Block) (n : ℕ) (t0 : Ty) → ty_at p t0 ≡ Some (array_type a) → IsThere (z.top (array_type a)) → follows.flat b ≡ Some n → IsThere (loop_bound p t0 b)
   array_there a p b n t0 e top f = let u = array-element p t0 a e in loop_there p t0 u.0 (count_in a) b u.1 (sizes.array a top) (flat_there u.0 b n f)

@@ -1,14 +1,14 @@
 -- What hoisted code ensures, weighed against groups of parts.
-use Rattle.std.proofs.Common.{◌≡◌, ℕ, zero, suc, ◌+◌, ◌-◌, ◌*◌, ◌<◌, ◌≤◌, Bool, true, false, nat_lt, List, [], ◌∷◌, ◌++◌, length, Option, None, Some, refl, sym, ap, subst, ◌∙◌, arith}
+use Rattle.std.proofs.Common.{◌≡◌, ℕ, zero, suc, ◌+◌, ◌*◌, ◌<◌, ◌≤◌, Bool, true, false, nat_lt, List, [], ◌∷◌, ◌++◌, Option, None, Some, refl, ap, arith}
 use Rattle.std.proofs.lemmas.Bool.Decides.{nat_tests}
 use Rattle.mint.specs.Values.{Val}
 use Rattle.wire_def.specs.declared.head.Head.{Head}
 use Rattle.cast_stub.specs.Parts.{on_some, at, length_in}
-use Rattle.cast_stub.specs.Block.{Block, ensure, ensure_row}
+use Rattle.cast_stub.specs.Block.{ensure, ensure_row}
 use Rattle.cast_stub.specs.Steps.{Step, Room, Steps, both, Calls, steps}
 use Rattle.cast_stub.specs.Meaning.{Cost, costs}
 use Rattle.cast_stub.proofs.Folding.{costs-append}
-use Rattle.hoist.specs.Hoisted.{Pending, nothing, octets, row, Hoisted, some_octets, closed, Plan, flat, small, loop, apart, raised, enough, beside, settled}
+use Rattle.hoist.specs.Hoisted.{Pending, nothing, octets, row, Hoisted, some_octets, closed, flat, small, loop, apart, raised, beside, settled}
 
 -- how often steps look at the buffer
 abbrev pub checks : List Step → ℕ
@@ -98,6 +98,7 @@ module _ (c : Calls) (h : Head) (v : Val) where
     up (Some ss) nothing e = omega (arith, e)
     up (Some ss) (octets n j) e = omega (arith, e)
     up (Some ss) (row q u n) e = omega (arith, e)
+
     spent_fits : (s : Steps) → weigh s 0 ≤ weigh (steps c h b v) (whole p + 0) → spent s ≤ g
     spent_fits None e = omega arith
     spent_fits (Some ss) e = let f = up (steps c h b v) p le in omega (arith, e, f)
@@ -152,6 +153,6 @@ module _ (c : Calls) (h : Head) (v : Val) where
       let y = weigh_both own (steps c h (closed x) v) 0 in
       let z = weigh_spent (steps c h (closed x) v) in
       omega (arith, f, y, z, le) where
-    weigh_spent : (s : Steps) → weigh s 0 ≤ 8192 * spent s
-    weigh_spent None = omega arith
-    weigh_spent (Some ss) = omega arith
+        weigh_spent : (s : Steps) → weigh s 0 ≤ 8192 * spent s
+        weigh_spent None = omega arith
+        weigh_spent (Some ss) = omega arith

@@ -1,6 +1,6 @@
 -- Code between a lead and a patch; and what hoisting keeps.
 use Rattle.std.specs.Prelude.{◌≡◌, ℕ, ◌+◌, List, [], ◌∷◌, Option, None, Some, option_map}
-use Rattle.mint.specs.Types.{Ty, items_type, Arms, no_other, others, arm_type}
+use Rattle.mint.specs.Types.{Ty, items_type, Arms, others, arm_type}
 use Rattle.cast_stub.specs.Block.{Block, stop, ensure, ensure_row, align, chunk, row_copy, row_swap, row_wide, each, switch, if_there, call, patch, Cases, no_default, default, case}
 use Rattle.cast_stub.specs.Append.{append}
 use Rattle.cast_stub.specs.Steps.{Step, Room, Pad, Stored, Widened, Copied, Patched}

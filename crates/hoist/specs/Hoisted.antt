@@ -1,9 +1,8 @@
 -- Ensures in front of operations, from the last operation to the first.
-use Rattle.std.specs.Prelude.{◌≡◌, ℕ, zero, suc, ◌+◌, ◌-◌, ℤ, List, Option, None, Some, nat_lt, Bool, true, false}
-use Rattle.mint.specs.declared.kind.Count.{Count}
+use Rattle.std.specs.Prelude.{◌≡◌, ℕ, zero, suc, ◌+◌, ◌-◌, List, Option, None, Some, nat_lt, Bool, true, false}
 use Rattle.mint.specs.Types.{Ty, void_type, items_type, Arms, no_other, others, arm_type}
 use Rattle.cast_stub.specs.Parts.{on_some}
-use Rattle.cast_stub.specs.Block.{Block, stop, ensure, ensure_row, align, chunk, row_copy, row_swap, row_wide, each, switch, if_there, call, patch, Cases, no_default, default, case}
+use Rattle.cast_stub.specs.Block.{Block, stop, ensure, ensure_row, align, chunk, each, switch, if_there, patch, Cases, no_default, default, case}
 use Rattle.hoist.specs.Bound.{ty_at, most, times, element_at, present_at, arms_at, bound, cases_bound}
 
 -- what is ensured in front of the operations so far

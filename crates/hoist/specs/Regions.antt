@@ -2,11 +2,11 @@
 use Rattle.std.specs.Prelude.{◌≡◌, ℕ, zero, suc, ◌+◌, ◌-◌, ◌≤◌, Bool, true, false, ◌&&◌, ◌||◌, nat_le, if◌then◌else◌, ℤ, List, [], ◌∷◌, ◌++◌, Option, None, Some}
 use Rattle.std.specs.Ordering.{int_eq}
 use Rattle.mint.specs.declared.kind.Count.{Count}
-use Rattle.mint.specs.declared.kind.Count.TheVariants.{Exactly, AtMost, Any}
+use Rattle.mint.specs.declared.kind.Count.TheVariants.{Exactly}
 use Rattle.mint.specs.Types.{Scalar, Array, text, row_of, Ty, void_type, scalar_type, array_type, group_type, items_type, choice_type, maybe_type, Tys, no_fields, field, Arms, no_other, others, arm_type}
 use Rattle.mint.specs.Sound.{IsSound}
-use Rattle.mint.specs.Values.{Val, void, num, row, group, items, arm, absent, present, Vals, no_more, val}
-use Rattle.cast_stub.specs.Parts.{on_some, IsThere}
+use Rattle.mint.specs.Values.{Val, group, items, arm, absent, present, Vals, no_more, val}
+use Rattle.cast_stub.specs.Parts.{IsThere}
 use Rattle.hoist.specs.Bound.{in_group_type, ty_at, most, plus}
 use Rattle.hoist.specs.Hoisted.{enough, Role, is_small, is_row, is_break, Roles}
 
