@@ -5,6 +5,7 @@ pub mod Grouping
 pub mod Heavy
 pub mod Keeping
 pub mod Light
+pub mod Nodes
 pub mod Quiet
 pub mod Rooms
 pub mod Sparing
