@@ -1,7 +1,6 @@
 -- Hoisted code looks at the buffer at most once for each group of parts.
-use Rattle.std.proofs.Common.{◌≡◌, ℕ, suc, ◌+◌, ◌-◌, ◌*◌, ◌≤◌, ℤ, List, [], ◌∷◌, ◌++◌, length, Option, None, Some, refl, sym, ap, subst, ◌∙◌, arith, append_assoc, Bool, true, false, nat_le, ◌||◌, if◌then◌else◌, MatchBool}
+use Rattle.std.proofs.Common.{◌≡◌, ℕ, suc, ◌+◌, ◌-◌, ◌*◌, ◌≤◌, ℤ, List, [], ◌∷◌, ◌++◌, length, Option, None, Some, refl, sym, ap, subst, ◌∙◌, arith, append_assoc, Bool, true, false, ◌||◌, if◌then◌else◌, MatchBool}
 use Rattle.std.proofs.lemmas.List.{append-nil}
-use Rattle.std.proofs.lemmas.Bool.Decides.{nat_tests}
 use Rattle.std.specs.Ordering.{int_eq}
 use Rattle.mint.specs.declared.kind.Count.{Count}
 use Rattle.mint.specs.declared.kind.Count.TheVariants.{Exactly, AtMost, Any}
@@ -11,7 +10,6 @@ use Rattle.mint.specs.Sound.{IsSound, AreSound, ArmsSound}
 use Rattle.mint.specs.Values.{Val, group, items, arm, absent, present, Vals, no_more, val, arm_in}
 use Rattle.wire_def.specs.declared.head.Head.{Head}
 use Rattle.cast_stub.specs.Parts.{on_some, at, elements_in, IsThere}
-use Rattle.cast_stub.specs.Parts as part
 use Rattle.cast_stub.specs.Block.{Block, stop, align, chunk, each, switch, if_there, Cases}
 use Rattle.cast_stub.specs.Append.{append}
 use Rattle.cast_stub.specs.Steps.{Steps, both, over, if_present, Calls, steps, case_steps, chunk_steps, align_steps}
@@ -22,75 +20,14 @@ use Rattle.copy_inline.specs.Inlined.{no_subs}
 use Rattle.copy_inline.proofs.Blocks.{append-assoc}
 use Rattle.hoist.specs.Bare.{IsBare}
 use Rattle.hoist.specs.Bound.{ty_at, most, times, bound, cases_bound, element_at, present_at, arms_at, present_type, arms_type}
-use Rattle.hoist.specs.Hoisted.{Pending, nothing, octets, row, Hoisted, closed, Plan, flat, loop, apart, settled, Role, is_small, is_row, is_break, loop_plan, body_plan, each_plan, some_plan, switch_plan, kept, items_at, items_in_type, or_void, or_none, hoisted, cases_hoisted}
-use Rattle.hoist.specs.Regions.{Sizes, AreSizes, Part, row_part, break_part, lone, is_light, light_or, or_zero, with_breaks, broken, parts, fields_parts, arm_parts, groups, on_way, roles, role_at, role_of, is_hollow, top_at}
+use Rattle.hoist.specs.Hoisted.{nothing, octets, row, Hoisted, closed, Plan, flat, apart, settled, Role, is_row, is_break, loop_plan, body_plan, each_plan, some_plan, switch_plan, kept, items_at, items_in_type, or_void, or_none, hoisted, cases_hoisted}
+use Rattle.hoist.specs.Regions.{Sizes, AreSizes, Part, row_part, break_part, lone, is_light, with_breaks, broken, parts, fields_parts, arm_parts, groups, on_way, roles, is_hollow}
 use Rattle.hoist.proofs.Grouping.{load, loaded, apart_groups, total, broken_groups, load_lone, load_some, load_small}
 use Rattle.hoist.proofs.Weighing.{spent, checks-append, weigh, weigh_quiet, weigh_less, low, high, least, greatest, greatest_least, closed_fits, loop_greatest, apart_greatest}
 use Rattle.hoist.proofs.Quiet.{quiet, quiet_over, quiet_on, quiet_chunk, quiet_align, mapped, bare, flat_bare, own}
 use Rattle.hoist.proofs.Ways.{AreFrom, from-first, from-next, from-head, ty-field, way-field, at-field, turn_there, row_turn_there}
 use Rattle.hoist.proofs.Light.{flat_adds, light, hollow}
-
-either_way : (x : Bool) (G : Type 0) → (x ≡ true → G) → (x ≡ false → G) → G
-either_way true G f g = f refl
-either_way false G f g = g refl
-
-light_top : (x : Option ℕ) → is_light x ≡ true → (n : ℕ) × (x ≡ Some n) × (n ≤ 8192)
-light_top None e = absurd cc
-light_top (Some n) e = (n, refl, grind (arith, nat_tests, e))
-
-pub light_is : (n : ℕ) (x : Option ℕ) → x ≡ Some n → n ≤ 8192 → is_light x ≡ true
-light_is n x e le = let t : nat_le n 8192 ≡ true = grind (arith, nat_tests, le) in ap is_light e ∙ t
-
-light_parts : (x : Option ℕ) (ps : List Part) (n : ℕ) → is_light x ≡ true → x ≡ Some n → light_or x ps ≡ lone n
-light_parts x ps n e f = ap (λ (b : Bool). if b then lone (or_zero x) else ps) e ∙ ap (λ (y : Option ℕ). lone (or_zero y)) f
-
-heavy_or : (x : Option ℕ) (ps : List Part) → is_light x ≡ false → light_or x ps ≡ ps
-heavy_or x ps e = ap (λ (b : Bool). if b then lone (or_zero x) else ps) e
-
-parts_are : (z : Sizes) (t : Ty) (w : Val) → (ps : List Part) × (parts z t w ≡ light_or (z.top t) ps)
-parts_are z (group_type ts) (group vs) = (_, refl)
-parts_are z (array_type a) w = (_, refl)
-parts_are z (items_type k t) (items vs) = (_, refl)
-parts_are z (choice_type s arms) (arm n w) = (_, refl)
-parts_are z (maybe_type t) absent = (_, refl)
-parts_are z (maybe_type t) (present w) = (_, refl)
-parts_are z _ _ = ([], refl)
-
-low_high : (p : Pending) → low p ≤ high p
-low_high nothing = omega arith
-low_high (octets n j) = omega arith
-low_high (row p u n) = omega arith
-
--- the values of fields from a number on
-abbrev ValuesFrom : ℕ → Vals → Vals → Type 0
-ValuesFrom i all vs = (j : ℕ) → part.field (i + j) all ≡ part.field j vs
-
-values-first : (vs : Vals) → ValuesFrom 0 vs vs
-values-first vs j = let e : 0 + j ≡ j = omega arith in ap (λ (k : ℕ). part.field k vs) e
-
-values-next : (i : ℕ) (all : Vals) (w : Val) (vs : Vals) → ValuesFrom i all (val w vs) → ValuesFrom (suc i) all vs
-values-next i all w vs h j = let e : suc i + j ≡ i + suc j = omega arith in ap (λ (k : ℕ). part.field k all) e ∙ h (suc j)
-
-values-head : (i : ℕ) (all : Vals) (w : Val) (vs : Vals) → ValuesFrom i all (val w vs) → part.field i all ≡ Some w
-values-head i all w vs h = let e : i ≡ i + 0 = omega arith in ap (λ (k : ℕ). part.field k all) e ∙ h 0
-
--- a row is pending
-abbrev IsRow : Pending → Type 0
-IsRow (row p u n) = Unit {0}
-IsRow _ = ⊥
-
-pub loop_row : (role : Role) (n u : Option ℕ) (p : List ℕ) → role ≡ is_row → IsThere u → (m : ℕ) × (loop_plan role n u p ≡ loop p m)
-loop_row role n None p e there = absurd there
-loop_row role n (Some m) p e there = (m, ap (λ (r : Role). loop_plan r n (Some m) p) e)
-
-pub heavy_role : (z : Sizes) (p : List ℕ) (t0 t : Ty) → on_way z p t0 ≡ false → ty_at p t0 ≡ Some t → roles z t0 p ≡ role_of z t
-heavy_role z p t0 t way is =
-    ap (λ (b : Bool). if b then is_small (top_at z (ty_at p t0) - 1) else role_at z (ty_at p t0)) way ∙ ap (role_at z) is
-
-row_settled : (p : List ℕ) (u : ℕ) (x : Hoisted) → IsRow (settled (loop p u) x).1
-row_settled p u (b, nothing) = tt
-row_settled p u (b, octets n j) = tt
-row_settled p u (b, row q w m) = tt
+use Rattle.hoist.proofs.Standing.{either_way, light_top, light_is, light_parts, heavy_or, parts_are, low_high, ValuesFrom, values-first, values-next, values-head, IsRow, loop_row, heavy_role, row_settled}
 
 module _ (z : Sizes) (sizes : AreSizes z) (c : Calls) (h : Head) where
   module _ (v : Val) (t0 : Ty) where

@@ -10,6 +10,7 @@ pub mod Quiet
 pub mod Rooms
 pub mod Sparing
 pub mod Sparse
+pub mod Standing
 pub mod Taken
 pub mod TypedParts
 pub mod Ways

@@ -1,18 +1,18 @@
 -- Nodes of parts, and bounds of operations in front of others.
-use Rattle.std.proofs.Common.{◌≡◌, ℕ, zero, suc, ◌+◌, ◌-◌, ◌<◌, ℤ, List, [], ◌∷◌, length, drop, get_or, Option, Some, None, option_map, refl, sym, ap, ◌∙◌, arith, add-one, Bool, true, false, if◌then◌else◌}
+use Rattle.std.proofs.Common.{◌≡◌, ℕ, zero, suc, ◌+◌, ◌<◌, ℤ, List, [], ◌∷◌, length, drop, get_or, Option, Some, None, option_map, refl, sym, ap, ◌∙◌, arith, add-one, Bool, true, false, if◌then◌else◌}
 use Rattle.std.specs.Prelude.{slice_get}
 use Rattle.std.proofs.Math.Seq.{drop-cons}
 use Rattle.std.specs.Ordering.{int_eq}
 use Rattle.mint.specs.declared.kind.Count.{Count}
 use Rattle.mint.specs.declared.node.Node.{Node}
 use Rattle.mint.specs.Types.{arms_at as arms_at_nodes}
-use Rattle.mint.specs.Types.{type_at, Scalar, Ty, scalar_type, group_type, at, fields_at}
+use Rattle.mint.specs.Types.{type_at, Scalar, Ty, scalar_type, at, fields_at}
 use Rattle.cast_stub.specs.declared.send.SendOp.{SendOp}
 use Rattle.cast_stub.specs.declared.send.SendOp.TheVariants as op
 use Rattle.cast_stub.specs.Parts.{on_some}
-use Rattle.cast_stub.specs.Block.{Block, stop, each, switch, if_there, Cases, Piece, op_seen, code_seen, cases_seen}
+use Rattle.cast_stub.specs.Block.{Block, Piece, op_seen, code_seen, cases_seen}
 use Rattle.cast_stub.proofs.Pieces.{seen-Ensure, seen-EnsureRow, seen-Align, seen-Chunk, seen-RowCopy, seen-RowSwap, seen-RowWide, seen-Each, seen-Some, seen-Call, seen-Patch, seen-Switch}
-use Rattle.hoist.specs.Bound.{field_type, in_group_type, ty_at, most, times, plus, greater, bound, cases_bound, element_at, present_at, arms_at, elements_type, present_type, arms_type}
+use Rattle.hoist.specs.Bound.{field_type, ty_at, most, times, plus, greater, bound, cases_bound, element_at, present_at, arms_at, elements_type}
 
 abbrev pair : Ty → Count → Ty × Count
 pair t n = (t, n)
@@ -72,7 +72,7 @@ pub arm_before : (us : List Ty) (arms : List (ℤ × ℕ)) (o : Option ℕ) (bod
 arm_before us arms o bodies last i d d' n rest h k behind is =
     is ∙ ap (λ (x : Option ℕ). if int_eq (get_or arms i d).0 (get_or bodies i d').0 then greater (bound (at us (get_or arms i d).1) (code_seen (get_or bodies i d').1)) x else None) behind
     ∙ sym (ap (λ (l : List (ℤ × ℕ)). cases_bound (arms_at_nodes us l o) (cases_seen (drop i bodies) last)) (drop-cons arms i d h)
-           ∙ ap (λ (l : List (ℤ × List SendOp)). cases_bound (arms_at_nodes us (get_or arms i d ∷ drop (suc i) arms) o) (cases_seen l last)) (drop-cons bodies i d' k))
+    ∙ ap (λ (l : List (ℤ × List SendOp)). cases_bound (arms_at_nodes us (get_or arms i d ∷ drop (suc i) arms) o) (cases_seen l last)) (drop-cons bodies i d' k))
 
 -- a switch in front of others
 pub switch_turn : (t : Ty) (o : SendOp) (path : List ℕ) (cases : List (ℤ × List SendOp)) (other : Option (List SendOp)) (n : Option ℕ) → o ≡ op.Switch path cases other → n ≡ on_some (arms_at path t) (λ arms. cases_bound arms (cases_seen cases other))

@@ -16,7 +16,7 @@ use Rattle.hoist.specs.Framed.{lead_length, IsTail}
 use Rattle.hoist.specs.Hoisted.{Plan, flat, small, loop, apart, each_plan, some_plan, switch_plan, items_in_type, items_at, InType, WhereApart, IsTaken, CasesTaken}
 use Rattle.hoist.specs.Laws.{FramedIsTaken}
 use Rattle.hoist.specs.Regions.{Sizes, AreSizes, on_way, roles, is_light, fields_top}
-use Rattle.hoist.proofs.Heavy.{loop_row, heavy_role}
+use Rattle.hoist.proofs.Standing.{loop_row, heavy_role}
 use Rattle.hoist.proofs.Light.{loop_small, small_role}
 use Rattle.hoist.proofs.Quiet.{mapped, own}
 use Rattle.hoist.proofs.Ways.{AreFrom, from-first, from-next, from-head, ty-field, way-field, some_of, loop_bound, array_there, row_turn_there}

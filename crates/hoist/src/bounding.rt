@@ -133,7 +133,12 @@ fn loop_bound(mint: &Mint, id: NodeId, path: &Path, body: &SendOps) -> Result<Op
         Node::Items(item, count) => times(*count, bound(mint, *item, body)?),
         Node::Text(count) => times(*count, turn_bound(body)?),
         Node::Row(_, count) => times(*count, turn_bound(body)?),
-        Node::Void | Node::Num(_) | Node::Enum(_) | Node::Group(_) | Node::Choice(_, _, _) | Node::Maybe(_) => Ok(None),
+        Node::Void
+        | Node::Num(_)
+        | Node::Enum(_)
+        | Node::Group(_)
+        | Node::Choice(_, _, _)
+        | Node::Maybe(_) => Ok(None),
     }
 }
 
@@ -151,7 +156,14 @@ fn some_bound(mint: &Mint, id: NodeId, path: &Path, body: &SendOps) -> Result<Op
     };
     match node {
         Node::Maybe(item) => bound(mint, *item, body),
-        Node::Void | Node::Num(_) | Node::Enum(_) | Node::Text(_) | Node::Row(_, _) | Node::Group(_) | Node::Items(_, _) | Node::Choice(_, _, _) => Ok(None),
+        Node::Void
+        | Node::Num(_)
+        | Node::Enum(_)
+        | Node::Text(_)
+        | Node::Row(_, _)
+        | Node::Group(_)
+        | Node::Items(_, _)
+        | Node::Choice(_, _, _) => Ok(None),
     }
 }
 
@@ -175,7 +187,14 @@ fn switch_bound(
     };
     match node {
         Node::Choice(_, arms, other) => arms_bound(mint, part, arms, *other, cases, last),
-        Node::Void | Node::Num(_) | Node::Enum(_) | Node::Text(_) | Node::Row(_, _) | Node::Group(_) | Node::Items(_, _) | Node::Maybe(_) => Ok(None),
+        Node::Void
+        | Node::Num(_)
+        | Node::Enum(_)
+        | Node::Text(_)
+        | Node::Row(_, _)
+        | Node::Group(_)
+        | Node::Items(_, _)
+        | Node::Maybe(_) => Ok(None),
     }
 }
 

@@ -5,9 +5,12 @@ mod bounding;
 mod laws;
 mod parts;
 
+pub use bounding::bound;
 pub use laws::{
     bounds_hold, framed_code_is_taken, hoisting_covers, hoisting_is_sparing, hoisting_keeps_code,
     hoisting_keeps_steps, hoisting_spares_rows,
 };
-pub use bounding::bound;
 pub use parts::node_at;
+
+#[cfg(test)]
+mod tests;

@@ -1,4 +1,4 @@
-use Rattle.std.proofs.Common.{length, ℤ, ◌+◌, ◌*◌, ◌<◌, arith, drop, suc, ◌-◌, pos, ◌≡◌, List, Option, ℕ, IfOk, ap, sym, subst, ◌∙◌}
+use Rattle.std.proofs.Common.{length, ℤ, arith, drop, ◌≡◌, List, Option, ℕ, IfOk, ap, sym, subst, ◌∙◌}
 use Rattle.mint.specs.declared.kind.Kind.TheVariants as kind
 use Rattle.mint.specs.Types.{number, level, unfolded, type_at}
 use Rattle.mint.specs.Types.{arms_at as mint_arms}
@@ -15,14 +15,14 @@ use Rattle.hoist.proofs.bounding.+bound.Goals as goal
 pub loop_bound-returns-in_ok-turn_bound-in-Text : goal.loop_bound-returns-in_ok-turn_bound-in-Text
 loop_bound-returns-in_ok-turn_bound-in-Text t c =
     subst (λ (x : Option ℕ). IfOk c.times-in-Text.result (λ n. n ≡ x))
-      (row_loop c.args.mint.now c.args.id c.in-Some.part c.args.path.now (number kind.Char) c.in-Text.count c.in_ok-turn_bound-in-Text.field-0 (code_seen c.args.body.now) (c.in-Some.ensures.is ∙ ap (λ (p : List ℕ). ty_at p (type_at c.args.mint.now c.args.id)) c.as_slice.ensures) (ap elements_type (c.in-Some-node.ensures.is ∙ ap (level (unfolded c.args.mint.now)) c.in-Text.is)) (c.in_ok-turn_bound-in-Text.ensures (number kind.Char)))
-      c.times-in-Text.ensures
+    (row_loop c.args.mint.now c.args.id c.in-Some.part c.args.path.now (number kind.Char) c.in-Text.count c.in_ok-turn_bound-in-Text.field-0 (code_seen c.args.body.now) (c.in-Some.ensures.is ∙ ap (λ (p : List ℕ). ty_at p (type_at c.args.mint.now c.args.id)) c.as_slice.ensures) (ap elements_type (c.in-Some-node.ensures.is ∙ ap (level (unfolded c.args.mint.now)) c.in-Text.is)) (c.in_ok-turn_bound-in-Text.ensures (number kind.Char)))
+    c.times-in-Text.ensures
 
 pub loop_bound-returns-in_ok-turn_bound-in-Row : goal.loop_bound-returns-in_ok-turn_bound-in-Row
 loop_bound-returns-in_ok-turn_bound-in-Row t c =
     subst (λ (x : Option ℕ). IfOk c.times-in-Row.result (λ n. n ≡ x))
-      (row_loop c.args.mint.now c.args.id c.in-Some.part c.args.path.now (number c.in-Row.field-0) c.in-Row.count c.in_ok-turn_bound-in-Row.field-0 (code_seen c.args.body.now) (c.in-Some.ensures.is ∙ ap (λ (p : List ℕ). ty_at p (type_at c.args.mint.now c.args.id)) c.as_slice.ensures) (ap elements_type (c.in-Some-node.ensures.is ∙ ap (level (unfolded c.args.mint.now)) c.in-Row.is)) (c.in_ok-turn_bound-in-Row.ensures (number c.in-Row.field-0)))
-      c.times-in-Row.ensures
+    (row_loop c.args.mint.now c.args.id c.in-Some.part c.args.path.now (number c.in-Row.field-0) c.in-Row.count c.in_ok-turn_bound-in-Row.field-0 (code_seen c.args.body.now) (c.in-Some.ensures.is ∙ ap (λ (p : List ℕ). ty_at p (type_at c.args.mint.now c.args.id)) c.as_slice.ensures) (ap elements_type (c.in-Some-node.ensures.is ∙ ap (level (unfolded c.args.mint.now)) c.in-Row.is)) (c.in_ok-turn_bound-in-Row.ensures (number c.in-Row.field-0)))
+    c.times-in-Row.ensures
 
 pub bound-returns : goal.bound-returns
 bound-returns t c =
@@ -32,7 +32,7 @@ bound-returns t c =
 pub arms_bound-returns-then-arms-bodies : goal.arms_bound-returns-then-arms-bodies
 arms_bound-returns-then-arms-bodies t c =
     uneven (unfolded c.args.mint.now) c.args.arms.now c.args.other c.args.cases.now c.args.last.now
-      (λ e. absurd (c.if-arms-bodies.true (ap length c.as_slice-arms.ensures ∙ e ∙ sym (ap length c.as_slice-bodies.ensures))))
+    (λ e. absurd (c.if-arms-bodies.true (ap length c.as_slice-arms.ensures ∙ e ∙ sym (ap length c.as_slice-bodies.ensures))))
 
 pub arms_bound-returns : goal.arms_bound-returns
 arms_bound-returns t c =
@@ -46,7 +46,7 @@ arms_bound-returns t c =
 pub op_bound-returns-in-Switch : goal.op_bound-returns-in-Switch
 op_bound-returns-in-Switch t c =
     IfOk-weaker c.switch_bound.result
-      (λ n. n ≡ on_some (arms_at c.in-Switch.path (type_at c.args.mint.now c.args.id)) (λ arms. cases_bound arms (cases_seen c.in-Switch.cases c.in-Switch.other)))
-      (λ n. (r : Block) → bound (type_at c.args.mint.now c.args.id) (op_seen c.args.op.now r) ≡ plus n (bound (type_at c.args.mint.now c.args.id) r))
-      (λ n e. switch_turn (type_at c.args.mint.now c.args.id) c.args.op.now c.in-Switch.path c.in-Switch.cases c.in-Switch.other n c.in-Switch.is e)
-      c.switch_bound.ensures
+    (λ n. n ≡ on_some (arms_at c.in-Switch.path (type_at c.args.mint.now c.args.id)) (λ arms. cases_bound arms (cases_seen c.in-Switch.cases c.in-Switch.other)))
+    (λ n. (r : Block) → bound (type_at c.args.mint.now c.args.id) (op_seen c.args.op.now r) ≡ plus n (bound (type_at c.args.mint.now c.args.id) r))
+    (λ n e. switch_turn (type_at c.args.mint.now c.args.id) c.args.op.now c.in-Switch.path c.in-Switch.cases c.in-Switch.other n c.in-Switch.is e)
+    c.switch_bound.ensures
