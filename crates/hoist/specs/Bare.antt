@@ -18,6 +18,7 @@ abbrev mutual
   IsBare (call k p r) = ⊥
   IsBare (patch a s o r) = IsBare r
 
+  -- the same of the bodies of a switch
   pub CasesBare : Cases → Type 0
   CasesBare no_default = Unit {0}
   CasesBare (default b) = IsBare b

@@ -15,11 +15,13 @@ use Rattle.cast_stub.specs.Steps.{Step, Room, Pad, Stored, Widened, Copied, Patc
 
 -- ---- types of parts
 
+-- the type of a field
 abbrev pub field_type : ℕ → Tys → Option Ty
 field_type n no_fields = None
 field_type zero (field t ts) = Some t
 field_type (suc n) (field t ts) = field_type n ts
 
+-- the type of a field of a group
 abbrev pub in_group_type : ℕ → Ty → Option Ty
 in_group_type n (group_type ts) = field_type n ts
 in_group_type n _ = None
@@ -46,12 +48,15 @@ abbrev pub arms_type : Ty → Option Arms
 arms_type (choice_type s arms) = Some arms
 arms_type _ = None
 
+-- the elements of the part at a path
 abbrev pub element_at : List ℕ → Ty → Option (Ty × Count)
 element_at p t = on_some (ty_at p t) elements_type
 
+-- the value that may be there at a path
 abbrev pub present_at : List ℕ → Ty → Option Ty
 present_at p t = on_some (ty_at p t) present_type
 
+-- the arms of the part at a path
 abbrev pub arms_at : List ℕ → Ty → Option Arms
 arms_at p t = on_some (ty_at p t) arms_type
 
@@ -63,16 +68,19 @@ most (Exactly m) = Some m
 most (AtMost m) = Some m
 most Any = None
 
+-- one bound and another
 abbrev pub plus : Option ℕ → Option ℕ → Option ℕ
 plus None n = None
 plus (Some m) None = None
 plus (Some m) (Some n) = Some (m + n)
 
+-- a bound so many times
 abbrev pub times : Option ℕ → Option ℕ → Option ℕ
 times None n = None
 times (Some m) None = None
 times (Some m) (Some n) = Some (m * n)
 
+-- the greater of two bounds
 abbrev pub greater : Option ℕ → Option ℕ → Option ℕ
 greater None n = None
 greater (Some m) None = None
@@ -115,5 +123,6 @@ Within None n = Unit {0}
 Within (Some ss) None = Unit {0}
 Within (Some ss) (Some n) = (p : ℕ) → appended p ss ≤ n
 
+-- steps append at most the bound of their code
 abbrev pub BoundsHold : Type 0
 BoundsHold = (c : Calls) (h : Head) (b : Block) (t : Ty) (v : Val) → IsOf t v → Within (steps c h b v) (bound t b)

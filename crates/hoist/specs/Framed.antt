@@ -42,6 +42,7 @@ abbrev mutual
   unensured (call k p r) = call k p (unensured r)
   unensured (patch a s o r) = patch a s o (unensured r)
 
+  -- the same of the bodies of a switch
   pub cases_unensured : Cases → Cases
   cases_unensured no_default = no_default
   cases_unensured (default b) = default (unensured b)
@@ -86,6 +87,7 @@ abbrev mutual
   RowsAreBare t (call k p r) = RowsAreBare t r
   RowsAreBare t (patch a s o r) = RowsAreBare t r
 
+  -- the same of the bodies of a switch
   pub CasesRowsAreBare : Arms → Cases → Type 0
   CasesRowsAreBare (others t) (default b) = RowsAreBare t b
   CasesRowsAreBare (arm_type n t arms) (case m b cs) = RowsAreBare t b × CasesRowsAreBare arms cs

@@ -75,21 +75,26 @@ pub data Role : Type 0 where
 abbrev pub Roles : Type 0
 Roles = Ty → List ℕ → Role
 
+-- the plan of a loop, by its bound and that of one turn
 abbrev pub loop_plan : Role → Option ℕ → Option ℕ → List ℕ → Plan
 loop_plan (is_small k) (Some n) u p = small n k
 loop_plan is_row n (Some u) p = loop p u
 loop_plan _ n u p = apart
 
+-- the plan of other bodies, by their bound
 abbrev pub body_plan : Role → Option ℕ → Plan
 body_plan (is_small k) (Some n) = small n k
 body_plan _ n = apart
 
+-- the plan of an `each`
 abbrev pub each_plan : Roles → Ty → List ℕ → Block → Plan
 each_plan ro t p b = loop_plan (ro t p) (on_some (element_at p t) (λ e. times (most e.1) (bound e.0 b))) (on_some (element_at p t) (λ e. bound e.0 b)) p
 
+-- the plan of a `some`
 abbrev pub some_plan : Roles → Ty → List ℕ → Block → Plan
 some_plan ro t p b = body_plan (ro t p) (on_some (present_at p t) (λ u. bound u b))
 
+-- the plan of a `switch`
 abbrev pub switch_plan : Roles → Ty → List ℕ → Cases → Plan
 switch_plan ro t p cs = body_plan (ro t p) (on_some (arms_at p t) (λ arms. cases_bound arms cs))
 
@@ -103,13 +108,16 @@ abbrev pub items_in_type : Ty → Option Ty
 items_in_type (items_type c t) = Some t
 items_in_type _ = None
 
+-- the type of the elements at a path
 abbrev pub items_at : List ℕ → Ty → Option Ty
 items_at p t = on_some (ty_at p t) items_in_type
 
+-- a type, or that of nothing
 abbrev pub or_void : Option Ty → Ty
 or_void None = void_type
 or_void (Some t) = t
 
+-- arms, or none
 abbrev pub or_none : Option Arms → Arms
 or_none None = no_other
 or_none (Some arms) = arms
@@ -160,6 +168,7 @@ abbrev mutual
   IsTaken ro t (switch p cs r) = WhereApart (switch_plan ro t p cs) (InType (arms_at p t) (λ arms. CasesTaken ro arms cs)) × IsTaken ro t r
   IsTaken ro t _ = ⊥
 
+  -- the same of the bodies of a switch, in the order of the arms
   pub CasesTaken : Roles → Arms → Cases → Type 0
   CasesTaken ro no_other no_default = Unit {0}
   CasesTaken ro (others t) (default b) = IsTaken ro t b

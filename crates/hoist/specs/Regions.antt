@@ -21,6 +21,7 @@ pub record Sizes : Type 0 where
 
 -- ---- parts
 
+-- a piece of a value: so many octets at most, a row, or the border of a body
 pub data Part : Type 0 where
   small_part : ℕ → Part
   row_part : Part
@@ -36,6 +37,7 @@ abbrev pub is_light : Option ℕ → Bool
 is_light None = false
 is_light (Some n) = nat_le n enough
 
+-- a greatest length, or 0
 abbrev pub or_zero : Option ℕ → ℕ
 or_zero None = 0
 or_zero (Some n) = n
@@ -64,10 +66,12 @@ abbrev mutual
   parts z (maybe_type t) (present v) = light_or (z.top (maybe_type t)) (lone (z.front (maybe_type t)) ++ break_part ∷ (parts z t v ++ break_part ∷ []))
   parts z t _ = light_or (z.top t) []
 
+  -- those of fields
   pub fields_parts : Sizes → Tys → Vals → List Part
   fields_parts z (field t ts) (val v vs) = parts z t v ++ fields_parts z ts vs
   fields_parts z _ _ = []
 
+  -- those of the arm of a number
   pub arm_parts : Sizes → Arms → ℤ → Val → List Part
   arm_parts z no_other n v = []
   arm_parts z (others t) n v = parts z t v
@@ -90,6 +94,7 @@ regions z n t v = groups None (lone n ++ parts z t v)
 
 -- ---- roles
 
+-- whether there is a type that is so
 abbrev pub further_on : Option Ty → (Ty → Bool) → Bool
 further_on None f = false
 further_on (Some t) f = f t
@@ -105,13 +110,16 @@ is_alike z (array_type a) = true
 is_alike z (items_type c t) = z.fixed t
 is_alike z _ = false
 
+-- the role of a part that is not small
 abbrev pub role_of : Sizes → Ty → Role
 role_of z t = if is_alike z t then is_row else is_break
 
+-- the same, of a part that may be there
 abbrev pub role_at : Sizes → Option Ty → Role
 role_at z None = is_break
 role_at z (Some t) = role_of z t
 
+-- the greatest length at a path, or 0
 abbrev pub top_at : Sizes → Option Ty → ℕ
 top_at z None = 0
 top_at z (Some t) = or_zero (z.top t)
@@ -122,6 +130,7 @@ roles z t p = if on_way z p t then is_small (top_at z (ty_at p t) - 1) else role
 
 -- ---- sizes that belong together
 
+-- the greatest lengths of fields together
 abbrev pub fields_top : Sizes → Tys → Option ℕ
 fields_top z no_fields = Some 0
 fields_top z (field t ts) = plus (z.top t) (fields_top z ts)
@@ -133,15 +142,18 @@ abbrev mutual
   is_hollow (group_type ts) = are_hollow ts
   is_hollow _ = false
 
+  -- the same of fields
   pub are_hollow : Tys → Bool
   are_hollow no_fields = true
   are_hollow (field t ts) = is_hollow t && are_hollow ts
 
+-- each arm has a greatest length
 abbrev pub ArmsBounded : Sizes → Arms → Type 0
 ArmsBounded z no_other = Unit {0}
 ArmsBounded z (others t) = IsThere (z.top t)
 ArmsBounded z (arm_type n t arms) = IsThere (z.top t) × ArmsBounded z arms
 
+-- the count of a row or text
 abbrev pub count_in : Array → Count
 count_in (text c) = c
 count_in (row_of k c) = c
@@ -151,6 +163,7 @@ abbrev pub IsCounted : Count → Type 0
 IsCounted (Exactly n) = ⊥
 IsCounted _ = Unit {0}
 
+-- sizes of wholes that follow from those of their parts
 pub record AreSizes (z : Sizes) : Type 0 where
   pub nothing : z.top void_type ≡ Some 0
   pub scalar : (s : Scalar) → (n : ℕ) × (z.top (scalar_type s) ≡ Some n) × (1 ≤ n) × (n ≤ enough)
