@@ -34,6 +34,7 @@ abbrev mutual
   HasNoCall (call k p r) = ⊥
   HasNoCall (patch a s o r) = HasNoCall r
 
+  -- the same of the bodies of a switch
   pub CasesHaveNoCall : Cases → Type 0
   CasesHaveNoCall no_default = Unit {0}
   CasesHaveNoCall (default b) = HasNoCall b
@@ -43,6 +44,7 @@ abbrev mutual
 abbrev pub AllFollow : List Node → List (List SendOp) → Type 0
 AllFollow nodes subs = (k : ℕ) (b : Block) → sub_at subs k ≡ Some b → Follows (sub_at subs) (type_at nodes k) k [] b
 
+-- no codes
 abbrev pub no_subs : ℕ → Option Block
 no_subs k = None
 

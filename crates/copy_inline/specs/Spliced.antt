@@ -21,6 +21,7 @@ abbrev mutual
   spliced code (call k p r) = append (rebase p (code k)) (spliced code r)
   spliced code (patch a s o r) = patch a s o (spliced code r)
 
+  -- the same of the bodies of a switch
   pub cases_spliced : (ℕ → Block) → Cases → Cases
   cases_spliced code no_default = no_default
   cases_spliced code (default b) = default (spliced code b)
@@ -40,5 +41,6 @@ inlined subs (suc n) k = spliced_or_stop (inlined subs n) (subs k)
 abbrev pub pairs_seen : List (ℤ × List SendOp) → List (ℤ × Block)
 pairs_seen cases = map (λ c. (c.0, code_seen c.1)) cases
 
+-- the same with a code for each call
 abbrev pub pairs_spliced : (ℕ → Block) → List (ℤ × List SendOp) → List (ℤ × Block)
 pairs_spliced code cases = map (λ c. (c.0, spliced code (code_seen c.1))) cases

@@ -18,6 +18,7 @@ abbrev pub Loops : Type 1
 Loops = Array → List ℕ → Block → Type 0
 
 abbrev mutual
+  -- each operation in the type's order, loops over rows being such
   pub FollowsBy : Loops → (ℕ → Option Block) → Ty → Going
   FollowsBy L subs void_type below p b = IsFlat 0 b
   FollowsBy L subs (scalar_type s) below p b = IsFlat 3 b
@@ -27,10 +28,12 @@ abbrev mutual
   FollowsBy L subs (choice_type s arms) below p b = (a : Block) × (cases : Cases) × (b ≡ append a (switch p cases stop)) × IsFlat 3 a × ArmsFollowBy L subs arms below cases
   FollowsBy L subs (maybe_type t) below p b = (a : Block) × (body : Block) × (b ≡ append a (if_there p body stop)) × IsFlat 3 a × Child subs (FollowsBy L subs t) below [] body
 
+  -- the fields, the first of them of this number
   pub FieldsFollowBy : Loops → (ℕ → Option Block) → Tys → ℕ → Going
   FieldsFollowBy L subs no_fields i below p b = b ≡ stop
   FieldsFollowBy L subs (field t ts) i below p b = (a : Block) × (r : Block) × (b ≡ append a r) × Child subs (FollowsBy L subs t) below (p ++ i ∷ []) a × FieldsFollowBy L subs ts (suc i) below p r
 
+  -- a body for each arm, and for the default
   pub ArmsFollowBy : Loops → (ℕ → Option Block) → Arms → ℕ → Cases → Type 0
   ArmsFollowBy L subs no_other below cases = cases ≡ no_default
   ArmsFollowBy L subs (others t) below cases = (b : Block) × (cases ≡ default b) × Child subs (FollowsBy L subs t) below [] b

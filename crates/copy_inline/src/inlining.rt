@@ -16,7 +16,7 @@ use std::alloc::Global;
 
 // How many calls and bodies may stand within one another. More are refused as want of memory, so
 // that the native stack is enough.
-const NESTED: u32 = 8192;
+const NESTED: u32 = 1024;
 
 // The operations of a code behind those of `out`, for the part at the prefix.
 #[cycle(inline)]

@@ -1,0 +1,52 @@
+use Rattle.std.proofs.Common.{length, ℤ, arith, drop, ◌≡◌, List, Option, ℕ, IfOk, ap, sym, subst, ◌∙◌}
+use Rattle.mint.specs.declared.kind.Kind.TheVariants as kind
+use Rattle.mint.specs.Types.{number, level, unfolded, type_at}
+use Rattle.mint.specs.Types.{arms_at as mint_arms}
+use Rattle.cast_stub.specs.declared.send.SendOp.{SendOp}
+use Rattle.cast_stub.specs.Block.{code_seen, cases_seen}
+use Rattle.hoist.specs.Bound.{elements_type, ty_at, bound, cases_bound}
+use Rattle.std.proofs.lemmas.Result.{IfOk-weaker}
+use Rattle.cast_stub.specs.Block.{Block, op_seen}
+use Rattle.cast_stub.specs.Parts.{on_some}
+use Rattle.hoist.specs.Bound.{plus, arms_at}
+use Rattle.hoist.proofs.Nodes.{row_loop, uneven, switch_turn}
+use Rattle.hoist.proofs.bounding.+bound.Goals as goal
+
+pub loop_bound-returns-in_ok-turn_bound-in-Text : goal.loop_bound-returns-in_ok-turn_bound-in-Text
+loop_bound-returns-in_ok-turn_bound-in-Text t c =
+    subst (λ (x : Option ℕ). IfOk c.times-in-Text.result (λ n. n ≡ x))
+    (row_loop c.args.mint.now c.args.id c.in-Some.part c.args.path.now (number kind.Char) c.in-Text.count c.in_ok-turn_bound-in-Text.field-0 (code_seen c.args.body.now) (c.in-Some.ensures.is ∙ ap (λ (p : List ℕ). ty_at p (type_at c.args.mint.now c.args.id)) c.as_slice.ensures) (ap elements_type (c.in-Some-node.ensures.is ∙ ap (level (unfolded c.args.mint.now)) c.in-Text.is)) (c.in_ok-turn_bound-in-Text.ensures (number kind.Char)))
+    c.times-in-Text.ensures
+
+pub loop_bound-returns-in_ok-turn_bound-in-Row : goal.loop_bound-returns-in_ok-turn_bound-in-Row
+loop_bound-returns-in_ok-turn_bound-in-Row t c =
+    subst (λ (x : Option ℕ). IfOk c.times-in-Row.result (λ n. n ≡ x))
+    (row_loop c.args.mint.now c.args.id c.in-Some.part c.args.path.now (number c.in-Row.field-0) c.in-Row.count c.in_ok-turn_bound-in-Row.field-0 (code_seen c.args.body.now) (c.in-Some.ensures.is ∙ ap (λ (p : List ℕ). ty_at p (type_at c.args.mint.now c.args.id)) c.as_slice.ensures) (ap elements_type (c.in-Some-node.ensures.is ∙ ap (level (unfolded c.args.mint.now)) c.in-Row.is)) (c.in_ok-turn_bound-in-Row.ensures (number c.in-Row.field-0)))
+    c.times-in-Row.ensures
+
+pub bound-returns : goal.bound-returns
+bound-returns t c =
+    let zero : c.loop-i.i ≡ 0 = omega (arith, c.loop-i-test.false) in
+    c.loop-i.invariant ∙ ap (λ k. bound (type_at c.args.mint.now c.args.id) (code_seen (drop k c.as_slice-list.result.now))) zero ∙ ap (λ (l : List SendOp). bound (type_at c.args.mint.now c.args.id) (code_seen l)) c.as_slice-list.ensures
+
+pub arms_bound-returns-then-arms-bodies : goal.arms_bound-returns-then-arms-bodies
+arms_bound-returns-then-arms-bodies t c =
+    uneven (unfolded c.args.mint.now) c.args.arms.now c.args.other c.args.cases.now c.args.last.now
+    (λ e. absurd (c.if-arms-bodies.true (ap length c.as_slice-arms.ensures ∙ e ∙ sym (ap length c.as_slice-bodies.ensures))))
+
+pub arms_bound-returns : goal.arms_bound-returns
+arms_bound-returns t c =
+    let zero : c.loop-i.i ≡ 0 = omega (arith, c.loop-i-test.false) in
+    let us = unfolded c.args.mint.now in
+    c.loop-i.invariant
+    ∙ ap (λ k. cases_bound (mint_arms us (drop k c.as_slice-arms.result.now) c.args.other) (cases_seen (drop k c.as_slice-bodies.result.now) c.args.last.now)) zero
+    ∙ ap (λ (l : List (ℤ × ℕ)). cases_bound (mint_arms us l c.args.other) (cases_seen c.as_slice-bodies.result.now c.args.last.now)) c.as_slice-arms.ensures
+    ∙ ap (λ (l : List (ℤ × List SendOp)). cases_bound (mint_arms us c.args.arms.now c.args.other) (cases_seen l c.args.last.now)) c.as_slice-bodies.ensures
+
+pub op_bound-returns-in-Switch : goal.op_bound-returns-in-Switch
+op_bound-returns-in-Switch t c =
+    IfOk-weaker c.switch_bound.result
+    (λ n. n ≡ on_some (arms_at c.in-Switch.path (type_at c.args.mint.now c.args.id)) (λ arms. cases_bound arms (cases_seen c.in-Switch.cases c.in-Switch.other)))
+    (λ n. (r : Block) → bound (type_at c.args.mint.now c.args.id) (op_seen c.args.op.now r) ≡ plus n (bound (type_at c.args.mint.now c.args.id) r))
+    (λ n e. switch_turn (type_at c.args.mint.now c.args.id) c.args.op.now c.in-Switch.path c.in-Switch.cases c.in-Switch.other n c.in-Switch.is e)
+    c.switch_bound.ensures

@@ -1,0 +1,128 @@
+-- The most octets that a block appends, by the type of its value.
+use Rattle.std.specs.Prelude.{ℕ, zero, suc, ◌+◌, ◌-◌, ◌*◌, ◌≤◌, max, List, [], ◌∷◌, length, Option, None, Some, if◌then◌else◌}
+use Rattle.std.specs.Ordering.{int_eq}
+use Rattle.mint.specs.declared.kind.Kind.TheVariants as kind
+use Rattle.mint.specs.declared.kind.Count.{Count}
+use Rattle.mint.specs.declared.kind.Count.TheVariants.{Exactly, AtMost, Any}
+use Rattle.mint.specs.Types.{number, text, row_of, Ty, scalar_type, array_type, group_type, items_type, choice_type, maybe_type, Tys, no_fields, field, Arms, no_other, others, arm_type}
+use Rattle.mint.specs.Typed.{IsOf}
+use Rattle.mint.specs.Values.{Val}
+use Rattle.wire_def.specs.declared.head.Head.{Head}
+use Rattle.wire_def.specs.Scalars.{gap}
+use Rattle.cast_stub.specs.Parts.{on_some}
+use Rattle.cast_stub.specs.Block.{Block, stop, align, chunk, each, switch, if_there, patch, Cases, no_default, default, case}
+use Rattle.cast_stub.specs.Steps.{Step, Room, Pad, Stored, Widened, Copied, Patched, Steps, Calls, steps}
+
+-- ---- types of parts
+
+-- the type of a field
+abbrev pub field_type : ℕ → Tys → Option Ty
+field_type n no_fields = None
+field_type zero (field t ts) = Some t
+field_type (suc n) (field t ts) = field_type n ts
+
+-- the type of a field of a group
+abbrev pub in_group_type : ℕ → Ty → Option Ty
+in_group_type n (group_type ts) = field_type n ts
+in_group_type n _ = None
+
+-- the type of the part at a path
+abbrev pub ty_at : List ℕ → Ty → Option Ty
+ty_at [] t = Some t
+ty_at (n ∷ p) t = on_some (in_group_type n t) (ty_at p)
+
+-- the type of an element, and the count
+abbrev pub elements_type : Ty → Option (Ty × Count)
+elements_type (items_type c t) = Some (t, c)
+elements_type (array_type (row_of k c)) = Some (scalar_type (number k), c)
+elements_type (array_type (text c)) = Some (scalar_type (number kind.Char), c)
+elements_type _ = None
+
+-- the type of the value that may be there
+abbrev pub present_type : Ty → Option Ty
+present_type (maybe_type t) = Some t
+present_type _ = None
+
+-- the types behind a tag
+abbrev pub arms_type : Ty → Option Arms
+arms_type (choice_type s arms) = Some arms
+arms_type _ = None
+
+-- the elements of the part at a path
+abbrev pub element_at : List ℕ → Ty → Option (Ty × Count)
+element_at p t = on_some (ty_at p t) elements_type
+
+-- the value that may be there at a path
+abbrev pub present_at : List ℕ → Ty → Option Ty
+present_at p t = on_some (ty_at p t) present_type
+
+-- the arms of the part at a path
+abbrev pub arms_at : List ℕ → Ty → Option Arms
+arms_at p t = on_some (ty_at p t) arms_type
+
+-- ---- bounds
+
+-- the greatest length of a list
+abbrev pub most : Count → Option ℕ
+most (Exactly m) = Some m
+most (AtMost m) = Some m
+most Any = None
+
+-- one bound and another
+abbrev pub plus : Option ℕ → Option ℕ → Option ℕ
+plus None n = None
+plus (Some m) None = None
+plus (Some m) (Some n) = Some (m + n)
+
+-- a bound so many times
+abbrev pub times : Option ℕ → Option ℕ → Option ℕ
+times None n = None
+times (Some m) None = None
+times (Some m) (Some n) = Some (m * n)
+
+-- the greater of two bounds
+abbrev pub greater : Option ℕ → Option ℕ → Option ℕ
+greater None n = None
+greater (Some m) None = None
+greater (Some m) (Some n) = Some (max m n)
+
+-- the most octets that code without ensures, rows as a block and calls appends, if they are bounded
+abbrev mutual
+  pub bound : Ty → Block → Option ℕ
+  bound t stop = Some 0
+  bound t (align a r) = plus (Some (a - 1)) (bound t r)
+  bound t (chunk s ps r) = plus (Some s) (bound t r)
+  bound t (each p b r) = plus (on_some (element_at p t) (λ e. times (most e.1) (bound e.0 b))) (bound t r)
+  bound t (switch p cs r) = plus (on_some (arms_at p t) (λ arms. cases_bound arms cs)) (bound t r)
+  bound t (if_there p b r) = plus (on_some (present_at p t) (λ u. bound u b)) (bound t r)
+  bound t (patch a s o r) = bound t r
+  bound t _ = None
+
+  -- the same of bodies that stand in the order of the arms
+  pub cases_bound : Arms → Cases → Option ℕ
+  cases_bound no_other no_default = Some 0
+  cases_bound (others t) (default b) = bound t b
+  cases_bound (arm_type n t arms) (case m b cs) = if int_eq n m then greater (bound t b) (cases_bound arms cs) else None
+  cases_bound _ _ = None
+
+-- ---- what they bound
+
+-- how many octets steps append from a position on
+abbrev pub appended : ℕ → List Step → ℕ
+appended p [] = 0
+appended p (Room n ∷ ss) = appended p ss
+appended p (Pad a ∷ ss) = gap p a + appended (p + gap p a) ss
+appended p (Stored os k ∷ ss) = length os + appended (p + length os) ss
+appended p (Widened os k ∷ ss) = length os + appended (p + length os) ss
+appended p (Copied os ∷ ss) = length os + appended (p + length os) ss
+appended p (Patched at sub order ∷ ss) = appended p ss
+
+-- steps append at most so many octets from anywhere, if both are there
+abbrev pub Within : Steps → Option ℕ → Type 0
+Within None n = Unit {0}
+Within (Some ss) None = Unit {0}
+Within (Some ss) (Some n) = (p : ℕ) → appended p ss ≤ n
+
+-- steps append at most the bound of their code
+abbrev pub BoundsHold : Type 0
+BoundsHold = (c : Calls) (h : Head) (b : Block) (t : Ty) (v : Val) → IsOf t v → Within (steps c h b v) (bound t b)

@@ -1,0 +1,6 @@
+pub mod Bare
+pub mod Bound
+pub mod Framed
+pub mod Hoisted
+pub mod Laws
+pub mod Regions

@@ -1,0 +1,16 @@
+//! Ensures in front of the operations of stub code.
+#![tactic(auto)]
+
+mod bounding;
+mod laws;
+mod parts;
+
+pub use bounding::bound;
+pub use laws::{
+    bounds_hold, framed_code_is_taken, hoisting_covers, hoisting_is_sparing, hoisting_keeps_code,
+    hoisting_keeps_steps, hoisting_spares_rows,
+};
+pub use parts::node_at;
+
+#[cfg(test)]
+mod tests;
