@@ -1,7 +1,7 @@
-mod Seeking
-mod Counting
-mod Deciding
-mod Existing
-mod Answering
-mod Back
-mod Naming
+pub mod Seeking
+pub mod Counting
+pub mod Deciding
+pub mod Existing
+pub mod Answering
+pub mod Back
+pub mod Naming

@@ -1,13 +1,15 @@
 -- Each line has an answer.
-use Rattle.std.proofs.Common.{◌≡◌, ◌⊎◌, inl, inr, ℕ, ◌<◌, List, [], ◌∷◌, ◌++◌, Result, Ok, Err, Option, Some, None, refl, sym}
-use Rattle.std.specs.Prelude.{codes, slice_index}
+use Rattle.std.proofs.Common.{◌≡◌, ◌⊎◌, inl, inr, ℕ, ◌<◌, List, [], ◌∷◌, ◌++◌, Result, Ok, Err, Option, Some, None, refl, sym, subst, map}
+use Rattle.std.specs.Prelude.{codes, slice_index, slice_index_or}
 use Rattle.hex.specs.Hex.{decode_of, IsBytes}
 use Rattle.hex.specs.declared.error.FromHexError.{FromHexError}
 use Rattle.hex.proofs.HexLemmas.{decode_of-ok}
 use Rattle.kit_base.specs.declared.lines.Line.{Line}
 use Rattle.kit_base.specs.declared.lines.Line.TheVariants.{Text, Long, End}
 use Rattle.mint.specs.Sound.{IsSound}
+use Rattle.mint.specs.Types.{type_at}
 use Rattle.mint.specs.Values.{Val}
+use Rattle.pres.specs.declared.ops.Op.{Op}
 use Rattle.pres.specs.Bindings.{Binding}
 use Rattle.serde_json.specs.Data.{Data}
 use Rattle.wire_def.specs.Grammar.{AreOctets}
@@ -20,6 +22,7 @@ use Rattle.json_shape.specs.Requests.{request_of}
 use Rattle.json_shape.proofs.Deciding.{value_or_none}
 use Rattle.flick_engine.proofs.Existing.{something}
 use Rattle.flick_engine.specs.Messages.{request_type, message}
+use Rattle.flick_top.specs.declared.saying.Saying.{Saying}
 use Rattle.flick_top.specs.declared.task.Job.{Job}
 use Rattle.flick_top.specs.declared.task.Job.TheVariants.{Marshal, Unmarshal}
 use Rattle.flick_top.specs.declared.task.Task.{Task}
@@ -53,7 +56,7 @@ of_tree b (Some tree) = of_record b (request_of b tree)
 of_octets : (b : Binding) → AreSound b → (line : List ℕ) (o : Result (List ℕ) FromHexError) → decode_of line ≡ o → (a : List ℕ) × IsOfOctets b o a
 of_octets b sound line (Err e) is = (codes "! hex", refl)
 of_octets b sound line (Ok o) is =
-    let octets : AreOctets o = all_octets o (decode_of-ok line o is).2 in
+    let octets : AreOctets o = all_octets o (decode_of-ok line o is).3 in
     let (x, reads) = something b sound o octets in
     (answer_text b x, (x, reads, refl))
 
@@ -70,7 +73,14 @@ of_line job sound End = ([], refl)
 pub all_lines : (job : Job) → AreSound (bound_of job) → (f : Answering) × IsAnswering job f
 all_lines job sound = (λ line. (of_line job sound line).0, λ line. (of_line job sound line).1)
 
+-- the types of a binding's table are sound, and so are those of its requests
+pub all_sound : (b : Binding) → ((id : ℕ) → IsSound (type_at b.nodes id)) → AreSound b
+all_sound b sound op = sound (slice_index_or (map (λ (o : Op). o.request) b.ops) op 0)
+
+-- the same for a job that is known to be this one
+pub some_answers : (job known : Job) → job ≡ known → AreSound (bound_of known) → (f : Answering) × IsAnswering job f
+some_answers job known is sound = subst (λ (j : Job). (f : Answering) × IsAnswering j f) (sym is) (all_lines known sound)
+
 -- a task that only says something answers no line
-pub no_lines : (t : Task) → (s : (job : Job) → t ≡ Answer job → ⊥) → (f : Answering) × IsAnswered t f
-no_lines (Say saying) s = (λ line. [], tt)
-no_lines (Answer job) s = absurd (s job refl)
+pub no_lines : (t : Task) (saying : Saying) → t ≡ Say saying → (f : Answering) × IsAnswered t f
+no_lines t saying is = (λ line. [], subst (λ (u : Task). IsAnswered u (λ line. [])) (sym is) tt)

@@ -7,16 +7,19 @@ use Rattle.mint.specs.declared.kind.Kind.{Kind}
 use Rattle.mint.specs.declared.kind.Kind.TheVariants as kind
 use Rattle.mint.specs.Kinds.{in_range}
 use Rattle.mint.specs.Values.{Val, void, num, row, group, items, arm, absent, present, Vals, no_more, val}
-use Rattle.wire_def.specs.declared.encoding.Back.TheVariants.{Xdr}
+use Rattle.wire_def.specs.declared.encoding.Back.{Back}
 use Rattle.wire_def.specs.declared.head.Head.{Head}
 use Rattle.pres.specs.declared.ops.Op.{Op}
 use Rattle.pres.specs.Bindings.{Binding}
 use Rattle.pres.specs.Faces.{Face, Parts, no_parts, part, Arms, Sign, face_at}
 use Rattle.pres.specs.Faces as face
-use Rattle.serde_json.specs.Data.{Data, null, number, unsigned, Items, no_items, item, Members, no_members, member, put}
+use Rattle.serde_json.specs.Data.{Data, null, number, unsigned, string, Items, no_items, item, Members, no_members, member, put}
 use Rattle.serde_json.specs.Find.{is_float, of_integer}
 use Rattle.serde_json.specs.Written.{has_float, items_have_float, members_have_float}
-use Rattle.json_shape.specs.Requests.{request_json}
+use Rattle.json_shape.specs.Operations.{dotted}
+use Rattle.json_shape.specs.Members.{is_mach, head_key, head_word}
+use Rattle.json_shape.specs.Requests.{head_json, request_json}
+use Rattle.json_shape.specs.Texts.{text_of}
 use Rattle.json_shape.specs.Written.{number_tree, number_json, sign_json, each_json, row_json, items_json, json_of, in_order_json, by_name_json, behind_json}
 
 neither : (a b : Bool) → a ≡ false → b ≡ false → (a || b) ≡ false
@@ -171,8 +174,16 @@ mutual
   behind-float (face.other f) n v = json-float f v
   behind-float (face.arm m f arms) n v = if-float (int_eq n m) (json_of f v) (behind_json arms n v) (json-float f v) (behind-float arms n v)
 
--- the record of a request over Xdr
-pub record-float : (b : Binding) (op : Op) (h : Head) (v : Val) → b.back ≡ Xdr → has_float (request_json b op h v) ≡ false
-record-float b op h v xdr =
-    rw xdr (put-float (codes "op") _ _ refl (put-float (codes "xid") _ _ refl
-      (put-float (codes "args") (json_of (face_at b.nodes b.shapes op.request) v) no_members (json-float (face_at b.nodes b.shapes op.request) v) refl)))
+local-float : (t : Bool) (n : ℕ) (ms : Members) → members_have_float ms ≡ false → members_have_float (if t then put (codes "local") (number (unsigned n)) ms else ms) ≡ false
+local-float true n ms p = put-float (codes "local") (number (unsigned n)) ms refl p
+local-float false n ms p = p
+
+head-float : (b : Back) (h : Head) (ms : Members) → members_have_float ms ≡ false → members_have_float (head_json b h ms) ≡ false
+head-float b h ms p = put-float (head_key b) (number (unsigned (head_word b h))) (if is_mach b then put (codes "local") (number (unsigned h.local)) ms else ms) refl (local-float (is_mach b) h.local ms p)
+
+-- the record of a request
+pub record-float : (b : Binding) (op : Op) (h : Head) (v : Val) → has_float (request_json b op h v) ≡ false
+record-float b op h v =
+    let args = json_of (face_at b.nodes b.shapes op.request) v in
+    put-float (codes "op") (string (text_of (dotted b.unit.interfaces op))) (head_json b.back h (put (codes "args") args no_members)) refl
+    (head-float b.back h (put (codes "args") args no_members) (put-float (codes "args") args no_members (json-float (face_at b.nodes b.shapes op.request) v) refl))

@@ -4,6 +4,10 @@ pub mod Ended
 pub mod Existing
 pub mod Floats
 pub mod Front
+pub mod Options
 pub mod Prefix
+pub mod Recorded
 pub mod Stops
+pub mod Trees
 pub mod Turning
+pub mod Written

@@ -1,5 +1,5 @@
 // The answers of `marshal`.
-ghost use Rattle.std.specs.Prelude.{◌≡◌, ◌<◌, ◌≤◌, length, nat_le, IfOk, IfSome, option_map, slice_get};
+ghost use Rattle.std.specs.Prelude.{◌≡◌, ◌≢◌, ◌<◌, length, IfOk, IfSome, OnOk, option_map, slice_get};
 ghost use Rattle.serde_json.specs.View.{view};
 ghost use Rattle.mint.specs.Typed.{IsWellTyped};
 ghost use Rattle.mint.specs.Types.{type_at};
@@ -59,20 +59,21 @@ fn of_tree(
 {
     match read_request(alloc, engine.bound(), json) {
         Ok(record) => digits_of(alloc, engine, &record, buf),
-        Err(RecordErr::NoMemory) => Err(NoMemory),
-        Err(refusal) => copied(alloc, record_refusal(refusal).as_bytes()),
+        Err(refusal) => refused(alloc, refusal),
     }
 }
 
-fn record_refusal(refusal: RecordErr) -> &'static str
-    ensures { result.now ≡ record_refusal refusal }
+/// The answer to what is no request.
+fn refused(alloc: Global, refusal: RecordErr) -> Result<Octets, NoMemory>
+    ensures told { IfOk result (λ o. o ≡ record_refusal refusal) }
+    ensures memory { OnOk result (refusal ≢ RecordErr.NoMemory) }
 {
     match refusal {
-        RecordErr::Request => "! request",
-        RecordErr::Op => "! op",
-        RecordErr::Head => "! head",
-        RecordErr::Shape => "! value",
-        RecordErr::NoMemory => "",
+        RecordErr::Request => copied(alloc, b"! request"),
+        RecordErr::Op => copied(alloc, b"! op"),
+        RecordErr::Head => copied(alloc, b"! head"),
+        RecordErr::Shape => copied(alloc, b"! value"),
+        RecordErr::NoMemory => Err(NoMemory),
     }
 }
 

@@ -1,5 +1,5 @@
 // The answers of `unmarshal`.
-ghost use Rattle.std.specs.Prelude.{◌≡◌, ◌<◌, length, IfOk, Ok, slice_get, string_bytes};
+ghost use Rattle.std.specs.Prelude.{◌≡◌, ◌≢◌, ◌<◌, length, IfOk, OnOk, Ok, slice_get, string_bytes};
 ghost use Rattle.mint.specs.Typed.{IsWellTyped};
 ghost use Rattle.mint.specs.Values.{seen};
 ghost use Rattle.flick_engine.specs.Messages.{request_type};
@@ -33,7 +33,6 @@ fn of_octets(alloc: Global, engine: &Engine, message: &[u8]) -> Result<Octets, N
     let mut view = RecvView::new(message);
     match engine.unmarshal(alloc, &mut view) {
         Ok(request) => copied(alloc, record_text(alloc, engine, &request)?.as_bytes()),
-        Err(MessageErr::NoMemory) => Err(NoMemory),
         Err(refusal) => copied(alloc, refusal_text(alloc, refusal)?.as_bytes()),
     }
 }
@@ -56,16 +55,21 @@ fn record_text(alloc: Global, engine: &Engine, request: &Request) -> Result<Stri
 
 /// Why octets are no message.
 fn refusal_text(alloc: Global, refusal: MessageErr) -> Result<String, NoMemory>
-    ensures { IfOk result (λ s. string_bytes s ≡ message_refusal refusal) }
+    ensures told { IfOk result (λ s. string_bytes s ≡ message_refusal refusal) }
+    ensures memory { OnOk result (refusal ≢ MessageErr.NoMemory) }
 {
     let text = match refusal {
         MessageErr::Long => String::from_str(alloc, "! long")?,
         MessageErr::Head(fault) => format!(in alloc; "! head {}", head_name(fault))?,
         MessageErr::NoInterface => String::from_str(alloc, "! interface")?,
         MessageErr::NoOperation => String::from_str(alloc, "! operation")?,
-        MessageErr::Body(fault) => format!(in alloc; "! body {} {}", kind_name(fault.kind), fault.at)?,
+        MessageErr::Body(fault) => format!(in alloc;
+            "! body {} {}",
+            kind_name(fault.kind),
+            fault.at
+        )?,
         MessageErr::Trailing(at) => format!(in alloc; "! trailing {at}")?,
-        MessageErr::NoMemory => String::new(alloc),
+        MessageErr::NoMemory => return Err(NoMemory),
     };
     Ok(text)
 }
