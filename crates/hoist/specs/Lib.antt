@@ -4,3 +4,4 @@ pub mod Framed
 pub mod Hoisted
 pub mod Laws
 pub mod Regions
+pub mod SpanSizes

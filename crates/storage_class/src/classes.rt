@@ -45,7 +45,7 @@ impl Classes {
     }
 
     /// The span of a node.
-    pub(crate) fn span(&self, id: NodeId) -> Span
+    pub fn span(&self, id: NodeId) -> Span
         requires { id < length self.now }
         ensures { slice_get self.now id ≡ Some result }
     {

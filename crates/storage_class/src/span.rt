@@ -33,7 +33,8 @@ impl Span {
         }
     }
 
-    fn top(self) -> Option<u32>
+    /// The greatest length, if there is one.
+    pub fn top(self) -> Option<u32>
         ensures { result ≡ top self }
     {
         match self {
