@@ -1,4 +1,5 @@
 pub mod Bounds
+pub mod Copied
 pub mod Covered
 pub mod Filled
 pub mod Grouping
@@ -6,7 +7,10 @@ pub mod Heavy
 pub mod Keeping
 pub mod Light
 pub mod Nodes
+pub mod OnWay
+pub mod Planned
 pub mod Quiet
+pub mod Reversed
 pub mod Rooms
 pub mod Sparing
 pub mod Sparse

@@ -1,9 +1,14 @@
 //! Ensures in front of the operations of stub code.
 #![tactic(auto)]
 
+mod ahead;
 mod bounding;
+mod copying;
 mod laws;
 mod parts;
+mod pass;
+mod plans;
+mod roles;
 
 pub use bounding::bound;
 pub use laws::{
@@ -11,6 +16,7 @@ pub use laws::{
     hoisting_keeps_steps, hoisting_spares_rows,
 };
 pub use parts::node_at;
+pub use pass::hoist;
 
 #[cfg(test)]
 mod tests;
