@@ -8,6 +8,7 @@ pub mod Light
 pub mod Nodes
 pub mod Quiet
 pub mod Rooms
+pub mod SpanSizes
 pub mod Sparing
 pub mod Sparse
 pub mod Standing
@@ -16,3 +17,4 @@ pub mod TypedParts
 pub mod Ways
 pub mod Weighing
 pub mod Worked
+pub mod WorkedSizes
