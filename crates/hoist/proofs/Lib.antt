@@ -12,6 +12,7 @@ pub mod Planned
 pub mod Quiet
 pub mod Reversed
 pub mod Rooms
+pub mod SpanSizes
 pub mod Sparing
 pub mod Sparse
 pub mod Standing
@@ -20,3 +21,4 @@ pub mod TypedParts
 pub mod Ways
 pub mod Weighing
 pub mod Worked
+pub mod WorkedSizes
