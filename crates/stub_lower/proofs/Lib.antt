@@ -4,7 +4,6 @@ pub mod Building
 pub mod Encoded
 pub mod Following
 pub mod Sending
-pub mod Turning
 pub mod Whole
 pub mod Words
 pub mod Writing
