@@ -1,5 +1,4 @@
 pub mod Adding
-pub mod Blocks
 pub mod Building
 pub mod Encoded
 pub mod Following
