@@ -1,5 +1,5 @@
 -- A head as one chunk appends its octets.
-use Rattle.std.proofs.Common.{◌≡◌, ℕ, suc, ◌+◌, ◌*◌, ◌<◌, List, [], ◌∷◌, ◌++◌, length, map, replicate, Option, Some, None, option_map, refl, sym, ap, subst, arith, length-append}
+use Rattle.std.proofs.Common.{◌≡◌, ℕ, suc, ◌+◌, ◌*◌, ◌<◌, List, [], ◌∷◌, ◌++◌, length, Some, refl, sym, subst, arith, length-append}
 use Rattle.std.specs.Prelude.{Result, Ok, Err, IfOk}
 use Rattle.kit_base.specs.declared.errors.NoMemory.{NoMemory}
 use Rattle.kit_base.specs.Bytes.{be}
@@ -10,28 +10,20 @@ use Rattle.cast_stub.specs.declared.put.HeadField.TheVariants.{Id}
 use Rattle.cast_stub.specs.declared.put.Put.TheVariants as put
 use Rattle.cast_stub.specs.declared.send.SendCode.{SendCode}
 use Rattle.cast_stub.specs.Parts.{on_some}
-use Rattle.cast_stub.specs.Puts.{filled, placed, full}
+use Rattle.cast_stub.specs.Puts.{filled}
 use Rattle.cast_stub.specs.Block.{Block, stop, chunk}
 use Rattle.cast_stub.specs.Steps.{Calls, steps}
 use Rattle.cast_stub.specs.Subs.{calls_of, deepest}
 use Rattle.cast_stub.specs.Meaning.{wrote}
 use Rattle.cast_stub.proofs.Pieces.{seen-Chunk}
-use Rattle.cast_stub.proofs.Putting.{word_of}
+use Rattle.cast_stub.proofs.Putting.{word_of, placed_whole, full_whole}
 use Rattle.stub_lower.specs.Leads.{Leads, AreChunks}
-use Rattle.back_xdr.specs.Leads.{words}
+use Rattle.raw_buf.specs.Words.{words}
 use Rattle.back_xdr.specs.Coded.{IsCoded}
 
 length-words : (ns : List ℕ) → length (words ns) ≡ 4 * length ns
 length-words [] = refl
 length-words (n ∷ ns) = let l = length-words ns in omega (arith, l, length-append (be 4 n) (words ns))
-
-placed_whole : (os : List ℕ) → placed 0 os (replicate (length os) None) ≡ Some (map Some os)
-placed_whole [] = refl
-placed_whole (o ∷ os) = ap (option_map (λ ds. Some o ∷ ds)) (placed_whole os)
-
-full_whole : (os : List ℕ) → full (map Some os) ≡ Some os
-full_whole [] = refl
-full_whole (o ∷ os) = ap (option_map (λ l. o ∷ l)) (full_whole os)
 
 -- four octets and others behind them
 filled_by : (h : Head) (v : Val) (os : List ℕ) → h.id < 4294967296 → filled (suc (suc (suc (suc (length os))))) (put.Head 0 Id 4 Big ∷ put.Const 4 os ∷ []) h v ≡ Some (be 4 h.id ++ os)
