@@ -9,6 +9,7 @@ pub mod Light
 pub mod Nodes
 pub mod OnWay
 pub mod Planned
+pub mod Promised
 pub mod Quiet
 pub mod Reversed
 pub mod Rooms
