@@ -11,6 +11,7 @@ pub mod Nodes
 pub mod OnWay
 pub mod Passing
 pub mod Planned
+pub mod Promised
 pub mod Quiet
 pub mod Reversed
 pub mod Rooms
