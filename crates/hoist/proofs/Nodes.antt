@@ -45,13 +45,6 @@ none-more (Some n) = let e : 0 + n ≡ n = omega arith in ap (λ (k : ℕ). Some
 
 pub ruleset nodes = (field-at, no-elements, no-value, no-arms, code-drop, none-more, seen-Ensure, seen-EnsureRow, seen-Align, seen-Chunk, seen-RowCopy, seen-RowSwap, seen-RowWide, seen-Each, seen-Some, seen-Call, seen-Patch, seen-Switch)
 
--- the bound of a loop over a row or text
-pub row_loop : (nodes : List Node) (id part : ℕ) (path : List ℕ) (s : Scalar) (n : Count) (turn : Option ℕ) (body : Block) → Some (type_at nodes part) ≡ ty_at path (type_at nodes id) → elements_type (type_at nodes part) ≡ Some (pair (scalar_type s) n) → turn ≡ bound (scalar_type s) body
-    → times (most n) turn ≡ on_some (element_at path (type_at nodes id)) (λ e. times (most e.1) (bound e.0 body))
-row_loop nodes id part path s n turn body is of same =
-    let e : element_at path (type_at nodes id) ≡ Some (pair (scalar_type s) n) = ap (λ (x : Option Ty). on_some x elements_type) (sym is) ∙ of in
-    ap (times (most n)) same ∙ ap (λ (x : Option (Ty × Count)). on_some x (λ e. times (most e.1) (bound e.0 body))) (sym e)
-
 -- ---- arms and bodies in step
 
 pub uneven : (us : List Ty) (arms : List (ℤ × ℕ)) (o : Option ℕ) (bodies : List (ℤ × List SendOp)) (last : Option (List SendOp)) → (length arms ≡ length bodies → ⊥) → None ≡ cases_bound (arms_at_nodes us arms o) (cases_seen bodies last)
