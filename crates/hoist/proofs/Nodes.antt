@@ -4,16 +4,15 @@ use Rattle.std.specs.Prelude.{slice_get}
 use Rattle.std.proofs.Math.Seq.{drop-cons}
 use Rattle.std.specs.Ordering.{int_eq}
 use Rattle.mint.specs.declared.kind.Count.{Count}
-use Rattle.mint.specs.declared.node.Node.{Node}
 use Rattle.mint.specs.Types.{arms_at as arms_at_nodes}
-use Rattle.mint.specs.Types.{type_at, Scalar, Ty, scalar_type, at, fields_at}
+use Rattle.mint.specs.Types.{Scalar, Ty, scalar_type, at, fields_at}
 use Rattle.cast_stub.specs.declared.send.SendOp.{SendOp}
 use Rattle.cast_stub.specs.declared.send.SendOp.TheVariants as op
 use Rattle.cast_stub.specs.Parts.{on_some}
 use Rattle.cast_stub.specs.Block.{Block, Piece, op_seen, code_seen, cases_seen}
-use Rattle.cast_stub.specs.PartTypes.{field_type, ty_at}
+use Rattle.cast_stub.specs.PartTypes.{field_type}
 use Rattle.cast_stub.proofs.Pieces.{seen-Ensure, seen-EnsureRow, seen-Align, seen-Chunk, seen-RowCopy, seen-RowSwap, seen-RowWide, seen-Each, seen-Some, seen-Call, seen-Patch, seen-Switch}
-use Rattle.hoist.specs.Bound.{most, times, plus, greater, bound, cases_bound, element_at, present_at, arms_at, elements_type}
+use Rattle.hoist.specs.Bound.{plus, greater, bound, cases_bound, element_at, present_at, arms_at}
 
 abbrev pair : Ty → Count → Ty × Count
 pair t n = (t, n)
