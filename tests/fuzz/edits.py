@@ -217,13 +217,13 @@ def edited_message(rng, message, others):
     return message, None
 
 
-def as_line(rng, message):
-    """A message in digits, at times in capitals, with other line ends, or with a digit too few or too many."""
+def as_line(rng, message, form):
+    """A message in digits, at times in capitals, with other line ends, or with a digit edited, and the form of its answer or None."""
     line = message.hex()
     kind = rng.random()
     if kind < 0.03:
-        return line.upper().encode()
+        return line.upper().encode(), form
     if kind < 0.05:
         at = rng.randrange(len(line) + 1)
-        return (line[:at] + rng.choice(["", "0", "g", " ", "0x", "\x80"]) + line[at + rng.randrange(2):]).encode("latin-1")
-    return f"{line}\r".encode() if kind < 0.06 else line.encode()
+        return (line[:at] + rng.choice(["", "0", "g", " ", "0x", "\x80"]) + line[at + rng.randrange(2):]).encode("latin-1"), None
+    return f"{line}\r".encode() if kind < 0.06 else line.encode(), form
