@@ -1,10 +1,14 @@
-"""The interface files that edits begin with, and right requests over them."""
+"""The interface files that edits begin with, and right requests over them, by the types that the model reads."""
 import json
 import os
 import random
 from importlib.machinery import SourceFileLoader
 from importlib.util import module_from_spec, spec_from_loader
 from typing import NamedTuple
+
+from files import interfaces_of
+from samples import sample
+from values import Array, Opaque, Pointer, Struct, Union
 
 TOP = os.path.dirname(os.path.dirname(os.path.dirname(os.path.abspath(__file__))))
 LONGEST_SEED = 50_000
@@ -45,7 +49,6 @@ def texts(front):
 
 def interfaces_in(text):
     """The interfaces of a text, where the model reads it: it looks for no faults."""
-    from files import interfaces_of
     try:
         return interfaces_of(text)
     except (AssertionError, KeyError, IndexError, ValueError, AttributeError, TypeError):
@@ -54,7 +57,6 @@ def interfaces_in(text):
 
 def weight(ty, known):
     """About how many items a sampled value of a type has at most."""
-    from values import Array, Opaque, Pointer, Struct, Union
     if id(ty) not in known:
         element = ty.array.element if isinstance(ty, Pointer) else getattr(ty, "element", None)
         fields = [field for _, field in ty.fields] if isinstance(ty, Struct) else [*ty.arms.values(), ty.default] if isinstance(ty, Union) else [element]
@@ -76,7 +78,6 @@ def sources(front):
 
 def requests(rng, source, count):
     """Right request lines over a source, and some of those that stand beside it."""
-    from samples import sample
     lines = []
     for _ in range(count if source.interfaces else 0):
         interface = rng.choice(source.interfaces)
