@@ -18,4 +18,6 @@ pub use laws::outputs_are_determined;
 pub use top::flick;
 
 #[cfg(test)]
+mod memory_tests;
+#[cfg(test)]
 mod tests;

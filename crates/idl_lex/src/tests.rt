@@ -194,3 +194,21 @@ fn the_text_of_a_fault_is_its_name(rt: HostRuntime) -> Result<(), Fail> {
     assert_eq!(rt; text.as_str(), "OpenComment");
     Ok(())
 }
+
+// Where an allocation fails, as tests/fail_alloc has it, this looks at what is told.
+#[test]
+fn where_memory_ends_no_other_fault_is_told(rt: HostRuntime) {
+    for (text, want) in [
+        (
+            "const A = 0x1F; /* x */\n# 1\n% y\nstruct s { int a<017>; };",
+            Ok(16),
+        ),
+        ("struct s { a 08", Err(LexErr::BadOctet(13))),
+    ] {
+        match lex(rt.alloc(), Front::Onc, text.as_bytes()) {
+            Ok(tokens) => assert_eq!(rt; Ok(tokens.as_slice().len()), want),
+            Err(LexErr::NoMemory) => {}
+            Err(fault) => assert_eq!(rt; Err(fault), want),
+        }
+    }
+}

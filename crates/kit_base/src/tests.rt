@@ -210,3 +210,20 @@ fn std_ends_pass_octets_on(rt: HostRuntime) -> Result<(), Fail> {
     assert!(rt; write_whole(&mut sink, b"ab").is_ok());
     Ok(())
 }
+
+// Where an allocation fails, as tests/fail_alloc has it, this looks at what is told.
+#[test]
+fn where_memory_ends_no_other_line_is_told(rt: HostRuntime) -> Result<(), Fail> {
+    let text = octets(&rt, b"ab\r\nlonger\nc")?;
+    let mut source = MemSource::new(text, Words::new(rt.alloc()), 3);
+    let mut lines = Lines::new(rt.alloc(), 4, 100);
+    for want in [b"ab".as_slice(), b"".as_slice(), b"c".as_slice()] {
+        match lines.next(&mut source) {
+            Ok(Line::Text(line)) => assert!(rt; line.as_slice() == want),
+            Ok(Line::Long) => assert!(rt; want.is_empty()),
+            Err(LineErr::NoMemory) => return Ok(()),
+            _ => assert!(rt; false),
+        }
+    }
+    Ok(())
+}

@@ -316,3 +316,23 @@ fn rows_and_lists_hold_something(rt: HostRuntime) {
         None
     );
 }
+
+// Where an allocation fails, as tests/fail_alloc has it, this looks at what is told.
+#[test]
+fn where_memory_ends_no_other_fault_is_told(rt: HostRuntime) {
+    let alloc = rt.alloc();
+    let mut mint = Mint::new(alloc);
+    for _ in 0..20 {
+        match mint.add(Node::Num(Kind::I32)) {
+            Ok(_) => {}
+            Err(MintErr::NoMemory) => return,
+            Err(_) => assert!(rt; false),
+        }
+    }
+    let mut cases = Arms::new(alloc);
+    if cases.append([(1, 0), (2, 1)].as_slice()).is_err() {
+        return;
+    }
+    let told = refused(&mut mint, Node::Choice(Tag::Num(Kind::I32), cases, Some(2)));
+    assert!(rt; told.is_none() || told == Some(MintErr::NoMemory));
+}

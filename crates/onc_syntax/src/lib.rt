@@ -19,6 +19,8 @@ pub use tree::{
 };
 
 #[cfg(test)]
+mod memory_tests;
+#[cfg(test)]
 mod printed;
 #[cfg(test)]
 mod tests;
