@@ -1,5 +1,6 @@
 pub mod Adding
 pub mod Blocks
+pub mod Copied
 pub mod Emitting
 mod Followed
 mod Free

@@ -2,6 +2,7 @@
 //! value at the call's path.
 #![tactic(auto)]
 
+pub mod copies;
 pub mod copying;
 mod inlining;
 

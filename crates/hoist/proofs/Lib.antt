@@ -1,5 +1,4 @@
 pub mod Bounds
-pub mod Copied
 pub mod Covered
 pub mod Filled
 pub mod Grouping

@@ -3,7 +3,6 @@
 
 mod ahead;
 mod bounding;
-mod copying;
 mod laws;
 mod parts;
 mod pass;

@@ -9,10 +9,10 @@ ghost use Rattle.hoist.specs.Hoisted.{closed, hoisted, cases_hoisted, kept, item
 ghost use Rattle.hoist.specs.Seen.{AreClasses, AreHoisted, ArmsTaken, IsHoisted, behind, plan_seen, xdr_roles, InFront};
 
 use crate::ahead::{Ahead, Plan, flush, raise, settle};
-use crate::copying::{copy_body, copy_cases, copy_last, copy_path, copy_puts};
 use crate::parts::node_at;
 use crate::plans::{each_plan, some_plan, switch_plan};
 use cast_stub::{Path, SendCases, SendCode, SendOp, SendOps, SendSubs};
+use copy_inline::copies::{copy_body, copy_cases, copy_last, copy_path, copy_puts};
 use kit_base::NoMemory;
 use mint::node::{Arms, Node};
 use mint::table::{Mint, NodeId};

@@ -1,8 +1,9 @@
-// Copies of code.
-ghost use Rattle.std.specs.Prelude.{◌≡◌, IfOk};
+//! Copies of code.
 
+ghost use Rattle.std.specs.Prelude.{◌≡◌, ◌++◌, OnOk, IfOk};
+
+use crate::copying::puts_behind;
 use cast_stub::{Path, Puts, SendCases, SendOp, SendOps};
-use copy_inline::copying::puts_behind;
 use kit_base::NoMemory;
 use std::alloc::Global;
 
@@ -11,7 +12,7 @@ use std::alloc::Global;
 const NESTED: u32 = 1024;
 
 /// The same path.
-pub(crate) fn copy_path(alloc: Global, path: &Path) -> Result<Path, NoMemory>
+pub fn copy_path(alloc: Global, path: &Path) -> Result<Path, NoMemory>
     ensures { IfOk result (λ p. p ≡ path.now) }
 {
     let mut copy = Path::new(alloc);
@@ -21,7 +22,7 @@ pub(crate) fn copy_path(alloc: Global, path: &Path) -> Result<Path, NoMemory>
 
 /// The same puts.
 #[tactic(auto, using(crate::proofs::Copied::copied))]
-pub(crate) fn copy_puts(alloc: Global, puts: &Puts) -> Result<Puts, NoMemory>
+pub fn copy_puts(alloc: Global, puts: &Puts) -> Result<Puts, NoMemory>
     ensures { IfOk result (λ ps. ps ≡ puts.now) }
 {
     puts_behind(alloc, &Path::new(alloc), puts)
@@ -99,22 +100,32 @@ fn last_copy(
     }
 }
 
+/// Puts the same operations behind those of `out`.
+pub fn put_copies(alloc: Global, ops: &SendOps, out: &mut SendOps) -> Result<(), NoMemory>
+    ensures { OnOk result (out.new ≡ out.old ++ ops.now) }
+{
+    for op in ops.as_slice() {
+        out.push(copy_op(alloc, NESTED, op)?)?;
+    }
+    Ok(())
+}
+
 /// The same body.
-pub(crate) fn copy_body(alloc: Global, body: &SendOps) -> Result<SendOps, NoMemory>
+pub fn copy_body(alloc: Global, body: &SendOps) -> Result<SendOps, NoMemory>
     ensures { IfOk result (λ b. b ≡ body.now) }
 {
     copy_ops(alloc, NESTED, body)
 }
 
 /// The same bodies of a switch.
-pub(crate) fn copy_cases(alloc: Global, cases: &SendCases) -> Result<SendCases, NoMemory>
+pub fn copy_cases(alloc: Global, cases: &SendCases) -> Result<SendCases, NoMemory>
     ensures { IfOk result (λ cs. cs ≡ cases.now) }
 {
     cases_copy(alloc, NESTED, cases)
 }
 
 /// The same body of every other number.
-pub(crate) fn copy_last(alloc: Global, last: &Option<SendOps>) -> Result<Option<SendOps>, NoMemory>
+pub fn copy_last(alloc: Global, last: &Option<SendOps>) -> Result<Option<SendOps>, NoMemory>
     ensures { IfOk result (λ l. l ≡ last.now) }
 {
     last_copy(alloc, NESTED, last)

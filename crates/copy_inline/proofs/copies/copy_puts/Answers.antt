@@ -2,8 +2,8 @@ use Rattle.std.proofs.Common.{◌≡◌, map, ap, ◌∙◌, List, ℕ}
 use Rattle.std.proofs.lemmas.Result.{IfOk-weaker}
 use Rattle.cast_stub.specs.declared.put.Put.{Put}
 use Rattle.cast_stub.specs.Append.{put_rebased}
-use Rattle.hoist.proofs.Copied.{same-puts}
-use Rattle.hoist.proofs.copying.copy_puts.Goals as goal
+use Rattle.copy_inline.proofs.Copied.{same-puts}
+use Rattle.copy_inline.proofs.copies.copy_puts.Goals as goal
 
 pub returns : goal.returns
 returns c =

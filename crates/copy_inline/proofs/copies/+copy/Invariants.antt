@@ -1,6 +1,6 @@
 use Rattle.std.proofs.Common.{◌≡◌, ◌+◌, ◌*◌}
 use Rattle.std.proofs.Math.ListN.{take}
-use Rattle.hoist.proofs.copying.+copy.Given as goal
+use Rattle.copy_inline.proofs.copies.+copy.Given as goal
 
 abbrev pub decreases-copy_op : goal.decreases-copy_op
 decreases-copy_op l = 4 * l.nested + 1
