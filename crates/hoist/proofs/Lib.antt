@@ -1,4 +1,5 @@
 pub mod Bounds
+pub mod Copied
 pub mod Covered
 pub mod Filled
 pub mod Grouping
@@ -6,8 +7,12 @@ pub mod Heavy
 pub mod Keeping
 pub mod Light
 pub mod Nodes
+pub mod OnWay
+pub mod Planned
 pub mod Quiet
+pub mod Reversed
 pub mod Rooms
+pub mod SpanSizes
 pub mod Sparing
 pub mod Sparse
 pub mod Standing
@@ -16,3 +21,4 @@ pub mod TypedParts
 pub mod Ways
 pub mod Weighing
 pub mod Worked
+pub mod WorkedSizes

@@ -4,6 +4,7 @@ use Rattle.mint.specs.Types.{Ty}
 use Rattle.mint.specs.Typed.{IsOf}
 use Rattle.mint.specs.Sound.{IsSound}
 use Rattle.mint.specs.Values.{Val}
+use Rattle.wire_def.specs.declared.encoding.Encoding.{Encoding}
 use Rattle.wire_def.specs.declared.head.Head.{Head}
 use Rattle.cast_stub.specs.Block.{Block}
 use Rattle.cast_stub.specs.Steps.{Step, Calls, steps}
@@ -11,6 +12,7 @@ use Rattle.cast_stub.specs.Meaning.{HasRoom, costs}
 use Rattle.hoist.specs.Hoisted.{Roles, closed, hoisted, IsTaken}
 use Rattle.hoist.specs.Framed.{IsFramed, unensured, without_room, RowsAreBare}
 use Rattle.hoist.specs.Regions.{Sizes, AreSizes, roles, regions}
+use Rattle.hoist.specs.SpanSizes.{sizes}
 
 -- hoisted code has room for all that it appends, from every position, whatever the roles are
 abbrev pub HoistingCovers : Type 0
@@ -38,3 +40,7 @@ HoistingSparesRows = (ro : Roles) (t : Ty) (b : Block) → IsTaken ro t b → Ro
 -- code that goes through a type is taken, by the sizes of types
 abbrev pub FramedIsTaken : Type 0
 FramedIsTaken = (z : Sizes) (t : Ty) (n : ℕ) (b : Block) → AreSizes z → IsFramed n t b → IsTaken (roles z) t b
+
+-- the spans of an encoding are sizes that belong together
+abbrev pub SpansAreSizes : Encoding → Type 0
+SpansAreSizes e = AreSizes (sizes e)

@@ -3,5 +3,7 @@ pub mod Bound
 pub mod Framed
 pub mod Hoisted
 pub mod Laws
+pub mod Pass
 pub mod Regions
+pub mod Seen
 pub mod SpanSizes

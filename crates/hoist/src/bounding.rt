@@ -1,5 +1,5 @@
 // The most octets that code appends.
-ghost use Rattle.std.specs.Prelude.{◌≡◌, ◌<◌, [], length, IfOk, None, Some, if◌then◌else◌};
+ghost use Rattle.std.specs.Prelude.{◌≡◌, ◌<◌, [], length, option_map, IfOk, None, Some, if◌then◌else◌};
 ghost use Rattle.std.specs.Ordering.{int_eq};
 ghost use Rattle.mint.specs.Types.{Scalar, scalar_type, type_at, unfolded, others_at, ArmsBelow, IsBelow};
 ghost use Rattle.mint.specs.Types.{arms_at as mint_arms};
@@ -46,21 +46,21 @@ fn times(count: Count, turn: Option<u32>) -> Result<Option<u32>, NoMemory>
     }
 }
 
-// The most that a turn over numbers appends.
+// The most that operations on a number append.
 #[tactic(auto, using(crate::proofs::Nodes::nodes))]
-fn turn_bound(ops: &SendOps) -> Result<Option<u32>, NoMemory>
+pub(crate) fn number_bound(ops: &SendOps) -> Result<Option<u32>, NoMemory>
     ensures { IfOk result (λ n. (s : Scalar) → n ≡ bound (scalar_type s) (code_seen ops.now)) }
 {
     let list = ops.as_slice();
     let mut sum = Some(0);
     for i in (0..list.len()).rev() {
-        sum = plus(turn_op_bound(&list[i]), sum)?;
+        sum = plus(number_op_bound(&list[i]), sum)?;
     }
     Ok(sum)
 }
 
 #[tactic(auto, using(crate::proofs::Nodes::nodes))]
-fn turn_op_bound(op: &SendOp) -> Option<u32>
+fn number_op_bound(op: &SendOp) -> Option<u32>
     ensures { (s : Scalar) → (r : Block) → bound (scalar_type s) (op_seen op.now r) ≡ plus result (bound (scalar_type s) r) }
 {
     match op {
@@ -117,11 +117,57 @@ fn op_bound(mint: &Mint, id: NodeId, op: &SendOp) -> Result<Option<u32>, NoMemor
     }
 }
 
+// The most that a loop over the part at a path appends.
 #[cycle(bound)]
 #[tactic(auto, using(crate::proofs::Nodes::nodes))]
-fn loop_bound(mint: &Mint, id: NodeId, path: &Path, body: &SendOps) -> Result<Option<u32>, NoMemory>
+pub(crate) fn loop_bound(
+    mint: &Mint,
+    id: NodeId,
+    path: &Path,
+    body: &SendOps,
+) -> Result<Option<u32>, NoMemory>
     requires { id < length mint.now }
     ensures { IfOk result (λ n. n ≡ on_some (element_at path.now (type_at mint.now id)) (λ e. times (most e.1) (bound e.0 (code_seen body.now)))) }
+{
+    let Some(count) = count_at(mint, id, path) else {
+        return Ok(None);
+    };
+    times(count, turn_bound(mint, id, path, body)?)
+}
+
+// The count of the list at a path.
+fn count_at(mint: &Mint, id: NodeId, path: &Path) -> Option<Count>
+    requires { id < length mint.now }
+    ensures { result ≡ option_map (λ e. e.1) (element_at path.now (type_at mint.now id)) }
+{
+    let Some(part) = node_at(mint, id, path.as_slice()) else {
+        return None;
+    };
+    let Some(node) = mint.node(part) else {
+        unreachable!()
+    };
+    match node {
+        Node::Items(_, count) | Node::Text(count) | Node::Row(_, count) => Some(*count),
+        Node::Void
+        | Node::Num(_)
+        | Node::Enum(_)
+        | Node::Group(_)
+        | Node::Choice(_, _, _)
+        | Node::Maybe(_) => None,
+    }
+}
+
+/// The most that one turn of a loop over the part at a path appends.
+#[cycle(bound)]
+#[tactic(auto, using(crate::proofs::Nodes::nodes))]
+pub(crate) fn turn_bound(
+    mint: &Mint,
+    id: NodeId,
+    path: &Path,
+    body: &SendOps,
+) -> Result<Option<u32>, NoMemory>
+    requires { id < length mint.now }
+    ensures { IfOk result (λ n. n ≡ on_some (element_at path.now (type_at mint.now id)) (λ e. bound e.0 (code_seen body.now))) }
 {
     let Some(part) = node_at(mint, id, path.as_slice()) else {
         return Ok(None);
@@ -130,9 +176,8 @@ fn loop_bound(mint: &Mint, id: NodeId, path: &Path, body: &SendOps) -> Result<Op
         unreachable!()
     };
     match node {
-        Node::Items(item, count) => times(*count, bound(mint, *item, body)?),
-        Node::Text(count) => times(*count, turn_bound(body)?),
-        Node::Row(_, count) => times(*count, turn_bound(body)?),
+        Node::Items(item, _) => bound(mint, *item, body),
+        Node::Text(_) | Node::Row(_, _) => number_bound(body),
         Node::Void
         | Node::Num(_)
         | Node::Enum(_)
@@ -144,7 +189,12 @@ fn loop_bound(mint: &Mint, id: NodeId, path: &Path, body: &SendOps) -> Result<Op
 
 #[cycle(bound)]
 #[tactic(auto, using(crate::proofs::Nodes::nodes))]
-fn some_bound(mint: &Mint, id: NodeId, path: &Path, body: &SendOps) -> Result<Option<u32>, NoMemory>
+pub(crate) fn some_bound(
+    mint: &Mint,
+    id: NodeId,
+    path: &Path,
+    body: &SendOps,
+) -> Result<Option<u32>, NoMemory>
     requires { id < length mint.now }
     ensures { IfOk result (λ n. n ≡ on_some (present_at path.now (type_at mint.now id)) (λ u. bound u (code_seen body.now))) }
 {
@@ -169,7 +219,7 @@ fn some_bound(mint: &Mint, id: NodeId, path: &Path, body: &SendOps) -> Result<Op
 
 #[cycle(bound)]
 #[tactic(auto, using(crate::proofs::Nodes::nodes))]
-fn switch_bound(
+pub(crate) fn switch_bound(
     mint: &Mint,
     id: NodeId,
     path: &Path,

@@ -1,6 +1,7 @@
 // The laws of hoisting, each the contract of a function that does nothing.
+ghost use Rattle.wire_def.specs.declared.encoding.Encoding.TheVariants.{Xdr};
 ghost use Rattle.hoist.specs.Bound.{BoundsHold};
-ghost use Rattle.hoist.specs.Laws.{FramedIsTaken, HoistingCovers, HoistingIsSparing, HoistingKeepsCode, HoistingKeepsSteps, HoistingSparesRows};
+ghost use Rattle.hoist.specs.Laws.{FramedIsTaken, HoistingCovers, HoistingIsSparing, HoistingKeepsCode, HoistingKeepsSteps, HoistingSparesRows, SpansAreSizes};
 
 /// A block appends at most its bound.
 pub fn bounds_hold()
@@ -35,4 +36,9 @@ pub fn hoisting_spares_rows()
 /// Code that goes through a type, between a lead and a patch, is taken.
 pub fn framed_code_is_taken()
     ensures { FramedIsTaken }
+{}
+
+/// The sizes of types by their spans over XDR are such as `hoisting_is_sparing` asks for.
+pub fn spans_are_sizes()
+    ensures { SpansAreSizes Xdr }
 {}

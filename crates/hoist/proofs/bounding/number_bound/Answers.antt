@@ -3,7 +3,7 @@ use Rattle.mint.specs.Types.{Scalar, scalar_type}
 use Rattle.cast_stub.specs.declared.send.SendOp.{SendOp}
 use Rattle.cast_stub.specs.Block.{code_seen}
 use Rattle.hoist.specs.Bound.{bound}
-use Rattle.hoist.proofs.bounding.turn_bound.Goals as goal
+use Rattle.hoist.proofs.bounding.number_bound.Goals as goal
 
 pub returns : goal.returns
 returns c = λ (s : Scalar).

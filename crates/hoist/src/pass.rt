@@ -1,0 +1,305 @@
+// The pass: ensures in front of operations, from the last operation to the first.
+ghost use Rattle.std.specs.Prelude.{◌≡◌, ◌<◌, [], length, reverse, IfOk};
+ghost use Rattle.mint.specs.Types.{type_at, unfolded, others_at, ArmsBelow, IsBelow};
+ghost use Rattle.cast_stub.specs.Block.{stop, op_seen, code_seen, cases_seen};
+ghost use Rattle.hoist.specs.Bound.{present_at, arms_at};
+ghost use Rattle.hoist.specs.Framed.{RowsAreBare};
+ghost use Rattle.hoist.specs.Pass.{AddsEnsures, IsCoveredFor, IsGiven, IsSparing, SendsTheSame};
+ghost use Rattle.hoist.specs.Hoisted.{closed, hoisted, cases_hoisted, kept, items_at, or_void, or_none, InType, IsTaken, CasesTaken, WhereApart};
+ghost use Rattle.hoist.specs.Seen.{AreClasses, AreHoisted, ArmsTaken, IsHoisted, behind, plan_seen, xdr_roles, InFront};
+
+use crate::ahead::{Ahead, Plan, flush, raise, settle};
+use crate::copying::{copy_body, copy_cases, copy_last, copy_path, copy_puts};
+use crate::parts::node_at;
+use crate::plans::{each_plan, some_plan, switch_plan};
+use cast_stub::{Path, SendCases, SendCode, SendOp, SendOps, SendSubs};
+use kit_base::NoMemory;
+use mint::node::{Arms, Node};
+use mint::table::{Mint, NodeId};
+use std::alloc::Global;
+use storage_class::Classes;
+
+// Operations in their order, given from the last to the first.
+fn in_order(alloc: Global, back: Vec<SendOp>) -> Result<SendOps, NoMemory>
+    ensures { IfOk result (λ ops. ops ≡ reverse back.items) }
+{
+    let mut rest = back;
+    let mut ops = SendOps::new(alloc);
+    while let Some(op) = rest.pop() {
+        ops.push(op)?;
+    }
+    Ok(ops)
+}
+
+/// The operations with ensures in front, for a value of the node.
+#[cycle(hoist)]
+pub(crate) fn hoist_ops(
+    alloc: Global,
+    mint: &Mint,
+    classes: &Classes,
+    id: NodeId,
+    ops: &SendOps,
+) -> Result<SendOps, NoMemory>
+    requires id { id < length mint.now }
+    requires classes { AreClasses mint.now classes.now }
+    requires taken { IsTaken xdr_roles (type_at mint.now id) (code_seen ops.now) }
+    ensures { IfOk result (λ os. code_seen os ≡ closed (hoisted xdr_roles (type_at mint.now id) (code_seen ops.now))) }
+{
+    let list = ops.as_slice();
+    let mut back = Vec::new(alloc);
+    let mut ahead = Ahead::Nothing;
+    for i in (0..list.len()).rev() {
+        ahead = hoist_op(alloc, mint, classes, id, &list[i], &mut back, ahead)?;
+    }
+    flush(&mut back, ahead)?;
+    in_order(alloc, back)
+}
+
+// An operation in front of those that were gone over.
+#[cycle(hoist)]
+fn hoist_op(
+    alloc: Global,
+    mint: &Mint,
+    classes: &Classes,
+    id: NodeId,
+    op: &SendOp,
+    back: &mut Vec<SendOp>,
+    ahead: Ahead,
+) -> Result<Ahead, NoMemory>
+    requires id { id < length mint.now }
+    requires classes { AreClasses mint.now classes.now }
+    requires taken { IsTaken xdr_roles (type_at mint.now id) (op_seen op.now stop) }
+    ensures { IfOk result (λ then. InFront (type_at mint.now id) op.now (behind back.old.items ahead) (behind back.new.items then)) }
+{
+    match op {
+        SendOp::Align(a) => {
+            back.push(SendOp::Align(*a))?;
+            raise(ahead, a.saturating_sub(1))
+        }
+        SendOp::Chunk(size, puts) => {
+            back.push(SendOp::Chunk(*size, copy_puts(alloc, puts)?))?;
+            raise(ahead, *size)
+        }
+        SendOp::Patch(at, sub, order) => {
+            back.push(SendOp::Patch(*at, *sub, *order))?;
+            Ok(ahead)
+        }
+        SendOp::Each(path, body) => {
+            let plan = each_plan(mint, classes, id, path, body)?;
+            let inner = each_body(alloc, mint, classes, id, path, body, plan)?;
+            let then = settle(back, ahead, plan, copy_path(alloc, path)?)?;
+            back.push(SendOp::Each(copy_path(alloc, path)?, inner))?;
+            Ok(then)
+        }
+        SendOp::Some(path, body) => {
+            let plan = some_plan(mint, classes, id, path, body)?;
+            let inner = some_body(alloc, mint, classes, id, path, body, plan)?;
+            let then = settle(back, ahead, plan, copy_path(alloc, path)?)?;
+            back.push(SendOp::Some(copy_path(alloc, path)?, inner))?;
+            Ok(then)
+        }
+        SendOp::Switch(path, cases, last) => {
+            let plan = switch_plan(mint, classes, id, path, cases, last)?;
+            let (bodies, other) = switch_bodies(alloc, mint, classes, id, path, cases, last, plan)?;
+            let then = settle(back, ahead, plan, copy_path(alloc, path)?)?;
+            back.push(SendOp::Switch(copy_path(alloc, path)?, bodies, other))?;
+            Ok(then)
+        }
+        SendOp::Ensure(_)
+        | SendOp::EnsureRow(_, _, _)
+        | SendOp::RowCopy(_)
+        | SendOp::RowSwap(_)
+        | SendOp::RowWide(_, _)
+        | SendOp::Call(_, _) => unreachable!(),
+    }
+}
+
+// The body of a loop.
+#[cycle(hoist)]
+fn each_body(
+    alloc: Global,
+    mint: &Mint,
+    classes: &Classes,
+    id: NodeId,
+    path: &Path,
+    body: &SendOps,
+    plan: Plan,
+) -> Result<SendOps, NoMemory>
+    requires id { id < length mint.now }
+    requires classes { AreClasses mint.now classes.now }
+    requires taken { WhereApart (plan_seen path.now plan) (InType (items_at path.now (type_at mint.now id)) (λ u. IsTaken xdr_roles u (code_seen body.now))) }
+    ensures { IfOk result (λ b. code_seen b ≡ kept (plan_seen path.now plan) (code_seen body.now) (closed (hoisted xdr_roles (or_void (items_at path.now (type_at mint.now id))) (code_seen body.now)))) }
+{
+    match plan {
+        Plan::Small(_, _) | Plan::Loop(_) => copy_body(alloc, body),
+        Plan::Apart => {
+            let Some(part) = node_at(mint, id, path.as_slice()) else {
+                unreachable!()
+            };
+            let Some(Node::Items(item, _)) = mint.node(part) else {
+                unreachable!()
+            };
+            hoist_ops(alloc, mint, classes, *item, body)
+        }
+    }
+}
+
+// The body for a value that may be there.
+#[cycle(hoist)]
+fn some_body(
+    alloc: Global,
+    mint: &Mint,
+    classes: &Classes,
+    id: NodeId,
+    path: &Path,
+    body: &SendOps,
+    plan: Plan,
+) -> Result<SendOps, NoMemory>
+    requires id { id < length mint.now }
+    requires classes { AreClasses mint.now classes.now }
+    requires taken { WhereApart (plan_seen path.now plan) (InType (present_at path.now (type_at mint.now id)) (λ u. IsTaken xdr_roles u (code_seen body.now))) }
+    ensures { IfOk result (λ b. code_seen b ≡ kept (plan_seen path.now plan) (code_seen body.now) (closed (hoisted xdr_roles (or_void (present_at path.now (type_at mint.now id))) (code_seen body.now)))) }
+{
+    match plan {
+        Plan::Small(_, _) | Plan::Loop(_) => copy_body(alloc, body),
+        Plan::Apart => {
+            let Some(part) = node_at(mint, id, path.as_slice()) else {
+                unreachable!()
+            };
+            let Some(Node::Maybe(item)) = mint.node(part) else {
+                unreachable!()
+            };
+            hoist_ops(alloc, mint, classes, *item, body)
+        }
+    }
+}
+
+// The bodies of a switch, and that of every other number.
+#[cycle(hoist)]
+fn switch_bodies(
+    alloc: Global,
+    mint: &Mint,
+    classes: &Classes,
+    id: NodeId,
+    path: &Path,
+    cases: &SendCases,
+    last: &Option<SendOps>,
+    plan: Plan,
+) -> Result<(SendCases, Option<SendOps>), NoMemory>
+    requires id { id < length mint.now }
+    requires classes { AreClasses mint.now classes.now }
+    requires taken { WhereApart (plan_seen path.now plan) (InType (arms_at path.now (type_at mint.now id)) (λ arms. CasesTaken xdr_roles arms (cases_seen cases.now last.now))) }
+    ensures { IfOk result (λ b. cases_seen b.0 b.1 ≡ kept (plan_seen path.now plan) (cases_seen cases.now last.now) (cases_hoisted xdr_roles (or_none (arms_at path.now (type_at mint.now id))) (cases_seen cases.now last.now))) }
+{
+    match plan {
+        Plan::Small(_, _) | Plan::Loop(_) => {
+            Ok((copy_cases(alloc, cases)?, copy_last(alloc, last)?))
+        }
+        Plan::Apart => {
+            let Some(part) = node_at(mint, id, path.as_slice()) else {
+                unreachable!()
+            };
+            let Some(Node::Choice(_, arms, other)) = mint.node(part) else {
+                unreachable!()
+            };
+            let bodies = hoist_cases(alloc, mint, classes, part, arms, cases)?;
+            let rest = hoist_last(alloc, mint, classes, part, *other, last)?;
+            Ok((bodies, rest))
+        }
+    }
+}
+
+// The bodies of arms, each by itself.
+#[cycle(hoist)]
+fn hoist_cases(
+    alloc: Global,
+    mint: &Mint,
+    classes: &Classes,
+    id: NodeId,
+    arms: &Arms,
+    cases: &SendCases,
+) -> Result<SendCases, NoMemory>
+    requires id { id < length mint.now }
+    requires classes { AreClasses mint.now classes.now }
+    requires arms { ArmsBelow id arms.now }
+    requires taken { ArmsTaken (unfolded mint.now) arms.now cases.now }
+    ensures { IfOk result (λ bodies. AreHoisted (unfolded mint.now) arms.now cases.now bodies) }
+{
+    let arms = arms.as_slice();
+    let cases = cases.as_slice();
+    let mut bodies = SendCases::new(alloc);
+    for i in 0..cases.len() {
+        bodies.push(hoist_case(alloc, mint, classes, id, &arms[i], &cases[i])?)?;
+    }
+    Ok(bodies)
+}
+
+// The body of an arm.
+#[cycle(hoist)]
+fn hoist_case(
+    alloc: Global,
+    mint: &Mint,
+    classes: &Classes,
+    id: NodeId,
+    arm: &(i128, NodeId),
+    case: &(i128, SendOps),
+) -> Result<(i128, SendOps), NoMemory>
+    requires id { id < length mint.now }
+    requires classes { AreClasses mint.now classes.now }
+    requires arm { arm.now.1 < id }
+    requires taken { IsTaken xdr_roles (type_at mint.now arm.now.1) (code_seen case.now.1) }
+    ensures { IfOk result (λ body. IsHoisted (type_at mint.now arm.now.1) case.now body) }
+{
+    Ok((case.0, hoist_ops(alloc, mint, classes, arm.1, &case.1)?))
+}
+
+// The body of every other number.
+#[cycle(hoist)]
+fn hoist_last(
+    alloc: Global,
+    mint: &Mint,
+    classes: &Classes,
+    id: NodeId,
+    other: Option<NodeId>,
+    last: &Option<SendOps>,
+) -> Result<Option<SendOps>, NoMemory>
+    requires id { id < length mint.now }
+    requires classes { AreClasses mint.now classes.now }
+    requires other { IsBelow id other }
+    requires taken { CasesTaken xdr_roles (others_at (unfolded mint.now) other) (cases_seen [] last.now) }
+    ensures { IfOk result (λ rest. cases_seen [] rest ≡ cases_hoisted xdr_roles (others_at (unfolded mint.now) other) (cases_seen [] last.now)) }
+{
+    match last {
+        Some(body) => match other {
+            Some(child) => Ok(Some(hoist_ops(alloc, mint, classes, child, body)?)),
+            None => unreachable!(),
+        },
+        None => Ok(None),
+    }
+}
+
+/// Code with ensures in front of its operations, as few as one for each region of a value. The code
+/// is a lead of chunks, inlined code for the node, and at most one patch.
+pub fn hoist(
+    alloc: Global,
+    code: &SendCode,
+    mint: &Mint,
+    id: NodeId,
+    classes: &Classes,
+) -> Result<SendCode, NoMemory>
+    requires id { id < length mint.now }
+    requires classes { AreClasses mint.now classes.now }
+    requires given { IsGiven (type_at mint.now id) code.now }
+    ensures same { IfOk result (λ r. SendsTheSame code.now r) }
+    ensures adds { IfOk result (λ r. AddsEnsures code.now r) }
+    ensures covered { IfOk result (λ r. IsCoveredFor (type_at mint.now id) code.now r) }
+    ensures sparing { IfOk result (λ r. IsSparing (type_at mint.now id) code.now r) }
+    ensures rows { IfOk result (λ r. RowsAreBare (type_at mint.now id) (code_seen r.ops)) }
+    ensures subs { IfOk result (λ r. r.subs ≡ []) }
+{
+    mint.types_are_sound();
+    Ok(SendCode {
+        ops: hoist_ops(alloc, mint, classes, id, &code.ops)?,
+        subs: SendSubs::new(alloc),
+    })
+}
