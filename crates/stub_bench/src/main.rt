@@ -5,16 +5,15 @@
 mod copies;
 mod counting;
 mod shapes;
-mod standin;
 #[cfg(test)]
 mod tests;
 
 use crate::counting::count;
 use crate::shapes::{Shape, shape_of, table_of};
-use crate::standin::hoist;
 use anyhow::{Result, bail};
 use back_xdr::lower_send;
 use copy_inline::inline;
+use hoist::hoist;
 use std::alloc::Global;
 use std::env;
 use storage_class::classify;
