@@ -1,3 +1,7 @@
--- Plans by the roles of operations.
-use Rattle.std.proofs.Common.{◌≡◌, ℕ, List, Option, Some, None, refl, sym, ap, ◌∙◌}
-use Rattle.hoist.specs.Hoisted.{Plan, small, loop, apart, Role, is_small, is_row, is_break, loop_plan, body_plan}
+-- Plans by the roles of operations and the bounds of their bodies.
+use Rattle.std.proofs.Common.{◌≡◌, ℕ, List, Option, Some, None, ap, ◌∙◌}
+use Rattle.hoist.specs.Hoisted.{Plan, Role, loop_plan, body_plan}
+
+-- the plan of a loop, by what its role and its bounds are
+pub loop-is : (role role' : Role) (n n' u u' : Option ℕ) (p : List ℕ) → role ≡ role' → n ≡ n' → u ≡ u' → loop_plan role n u p ≡ loop_plan role' n' u' p
+loop-is role role' n n' u u' p e f g = ap (λ (r : Role). loop_plan r n u p) e ∙ ap (λ (m : Option ℕ). loop_plan role' m u p) f ∙ ap (λ (m : Option ℕ). loop_plan role' n' m p) g

@@ -24,7 +24,6 @@ fn small_plan(most: Option<u32>, k: u32) -> Plan
 }
 
 /// The plan of a loop.
-#[tactic(auto, using(crate::proofs::Planned::planned))]
 pub(crate) fn each_plan(
     mint: &Mint,
     classes: &Classes,
@@ -50,7 +49,6 @@ pub(crate) fn each_plan(
 }
 
 /// The plan of a body for a value that may be there.
-#[tactic(auto, using(crate::proofs::Planned::planned))]
 pub(crate) fn some_plan(
     mint: &Mint,
     classes: &Classes,
@@ -69,7 +67,6 @@ pub(crate) fn some_plan(
 }
 
 /// The plan of the bodies of a switch.
-#[tactic(auto, using(crate::proofs::Planned::planned))]
 pub(crate) fn switch_plan(
     mint: &Mint,
     classes: &Classes,

@@ -69,7 +69,6 @@ fn field_node(mint: &Mint, id: NodeId, i: u32) -> Option<NodeId>
 }
 
 // Whether a node on the way to the part at a path is small.
-#[tactic(auto, using(crate::proofs::OnWay::on_way))]
 fn is_on_way(mint: &Mint, classes: &Classes, id: NodeId, path: &[u32]) -> bool
     requires id { id < length mint.now }
     requires classes { AreClasses mint.now classes.now }

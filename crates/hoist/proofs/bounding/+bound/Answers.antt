@@ -12,18 +12,6 @@ use Rattle.hoist.specs.Bound.{plus, arms_at}
 use Rattle.hoist.proofs.Nodes.{row_loop, uneven, switch_turn}
 use Rattle.hoist.proofs.bounding.+bound.Goals as goal
 
-pub loop_bound-returns-in_ok-turn_bound-in-Text : goal.loop_bound-returns-in_ok-turn_bound-in-Text
-loop_bound-returns-in_ok-turn_bound-in-Text t c =
-    subst (λ (x : Option ℕ). IfOk c.times-in-Text.result (λ n. n ≡ x))
-    (row_loop c.args.mint.now c.args.id c.in-Some.part c.args.path.now (number kind.Char) c.in-Text.count c.in_ok-turn_bound-in-Text.field-0 (code_seen c.args.body.now) (c.in-Some.ensures.is ∙ ap (λ (p : List ℕ). ty_at p (type_at c.args.mint.now c.args.id)) c.as_slice.ensures) (ap elements_type (c.in-Some-node.ensures.is ∙ ap (level (unfolded c.args.mint.now)) c.in-Text.is)) (c.in_ok-turn_bound-in-Text.ensures (number kind.Char)))
-    c.times-in-Text.ensures
-
-pub loop_bound-returns-in_ok-turn_bound-in-Row : goal.loop_bound-returns-in_ok-turn_bound-in-Row
-loop_bound-returns-in_ok-turn_bound-in-Row t c =
-    subst (λ (x : Option ℕ). IfOk c.times-in-Row.result (λ n. n ≡ x))
-    (row_loop c.args.mint.now c.args.id c.in-Some.part c.args.path.now (number c.in-Row.field-0) c.in-Row.count c.in_ok-turn_bound-in-Row.field-0 (code_seen c.args.body.now) (c.in-Some.ensures.is ∙ ap (λ (p : List ℕ). ty_at p (type_at c.args.mint.now c.args.id)) c.as_slice.ensures) (ap elements_type (c.in-Some-node.ensures.is ∙ ap (level (unfolded c.args.mint.now)) c.in-Row.is)) (c.in_ok-turn_bound-in-Row.ensures (number c.in-Row.field-0)))
-    c.times-in-Row.ensures
-
 pub bound-returns : goal.bound-returns
 bound-returns t c =
     let zero : c.loop-i.i ≡ 0 = omega (arith, c.loop-i-test.false) in

@@ -34,3 +34,6 @@ decreases-last_bound l = 8 * l.id + 2
 
 abbrev pub decreases-arm_bound : goal.decreases-arm_bound
 decreases-arm_bound l = 8 * l.id + 2
+
+abbrev pub decreases-turn_bound : goal.decreases-turn_bound
+decreases-turn_bound l = 8 * l.id + 3

@@ -1,4 +1,4 @@
-use Rattle.std.proofs.Common.{◌≡◌, map, ap, sym, ◌∙◌, List, ℕ, IfOk}
+use Rattle.std.proofs.Common.{◌≡◌, map, ap, ◌∙◌, List, ℕ, IfOk}
 use Rattle.std.proofs.lemmas.Result.{IfOk-weaker}
 use Rattle.cast_stub.specs.declared.put.Put.{Put}
 use Rattle.cast_stub.specs.Append.{put_rebased}
@@ -7,5 +7,5 @@ use Rattle.hoist.proofs.copying.copy_puts.Goals as goal
 
 pub returns : goal.returns
 returns c =
-    IfOk-weaker c.puts_behind-2.result (λ (ps : List Put). ps ≡ map (put_rebased c.new.result.now) c.args.puts.now) (λ (ps : List Put). ps ≡ c.args.puts.now)
+    IfOk-weaker c.puts_behind-2.result _ (λ (ps : List Put). ps ≡ c.args.puts.now)
     (λ (ps : List Put) e. e ∙ ap (λ (q : List ℕ). map (put_rebased q) c.args.puts.now) c.new.ensures ∙ same-puts c.args.puts.now) c.puts_behind-2.ensures
