@@ -32,8 +32,12 @@ use Rattle.stub_lower.specs.Lowered.{CodesSend, CodesFollow}
 use Rattle.stub_machine.proofs.Rooms.{length-written, four}
 use Rattle.copy_inline.specs.Inlined.{Does, Goes, AllFollow, no_subs}
 use Rattle.hoist.specs.Bare.{IsBare, CasesBare}
+use Rattle.std.proofs.lemmas.Bool.{le-leb, leb-true}
+use Rattle.hoist.specs.Pass.{IsGiven, AddsEnsures, IsCoveredFor}
 use Rattle.hoist.specs.Framed.{IsFramed, IsTail, lead_length, unensured, cases_unensured}
 use Rattle.hoist.proofs.Quiet.{mapped, bare, bare-append}
+use Rattle.back_xdr.specs.declared.procedures.Procedure.{Procedure}
+use Rattle.back_xdr.specs.Leads.{lead}
 use Rattle.stub_bench.specs.Ready.{IsLead, IsBoth, IsReady}
 
 -- ---- rows
@@ -111,6 +115,28 @@ opened (Some a) f b e = (a, refl, e)
 there : {A : Type 0} (x : Option A) (a : A) → x ≡ Some a → IsThere x
 there x a e = subst IsThere (sym e) tt
 
+record Within (x y : Bool) (z : List ℕ) (f : List ℕ → Option (List ℕ)) : Type 0 where
+  pub first : x ≡ true
+  pub second : y ≡ true
+  pub rest : IsThere (f z)
+
+within : (x y : Bool) (z : List ℕ) (f : List ℕ → Option (List ℕ)) → IsThere (on_some (if x && y then Some z else None) f) → Within x y z f
+within true true z f h = record { first = refl; second = refl; rest = h }
+within true false z f h = absurd h
+within false y z f h = absurd h
+
+patch_there : (x y : Bool) (z : List ℕ) (f : List ℕ → Option (List ℕ)) → x ≡ true → y ≡ true → IsThere (f z) → IsThere (on_some (if x && y then Some z else None) f)
+patch_there true true z f d e h = h
+patch_there true false z f d e h = absurd cc
+patch_there false y z f d e h = absurd cc
+
+joined : (x y : Steps) (a b : List Step) → x ≡ Some a → y ≡ Some b → both x y ≡ Some (a ++ b)
+joined x y a b d e = rw (d, e) refl
+
+seen_at : (x : Option (List SendOp)) (b : Block) → option_map code_seen x ≡ Some b → (ops : List SendOp) × (x ≡ Some ops) × (code_seen ops ≡ b)
+seen_at None b e = absurd cc
+seen_at (Some ops) b e = (ops, refl, cc)
+
 -- whether steps write goes by lengths alone
 shifted : (ss : List Step) (p base : ℕ) (o o' : List ℕ) → base ≤ p → base + length o' ≡ p + length o → IsThere (wrote p o ss) → IsThere (wrote base o' ss)
 shifted [] p base o o' le e h = tt
@@ -119,8 +145,82 @@ shifted (Pad a ∷ ss) p base o o' le e h =
     let far = replicate (gap (p + length o) a) 0 in
     let near = replicate (gap (base + length o') a) 0 in
     let gaps : gap (base + length o') a ≡ gap (p + length o) a = ap (λ n. gap n a) e in
-    shifted ss p base (o ++ far) (o' ++ near) le (omega (arith, e, gaps, length-append o far, length-append o' near, length-replicate (gap (p + length o) a) 0, length-replicate (gap (base + length o') a) 0)) h
+    shifted ss p base (o ++ far) (o' ++ near) le (omega (arith, e, gaps, length-append o far, length-append o' near, length-replicate {A = ℕ} (gap (p + length o) a) 0, length-replicate {A = ℕ} (gap (base + length o') a) 0)) h
 shifted (Stored os k ∷ ss) p base o o' le e h = shifted ss p base (o ++ os) (o' ++ os) le (omega (arith, e, length-append o os, length-append o' os)) h
 shifted (Widened os k ∷ ss) p base o o' le e h = shifted ss p base (o ++ os) (o' ++ os) le (omega (arith, e, length-append o os, length-append o' os)) h
 shifted (Copied os ∷ ss) p base o o' le e h = shifted ss p base (o ++ os) (o' ++ os) le (omega (arith, e, length-append o os, length-append o' os)) h
-shifted (Patched at sub order ∷ ss) p base o o' le e h = ?
+shifted (Patched at sub order ∷ ss) p base o o' le e h =
+    let far = in_order order 4 ((p + length o + 2 ^ 32 - sub) % 2 ^ 32) in
+    let near = in_order order 4 ((base + length o' + 2 ^ 32 - sub) % 2 ^ 32) in
+    let w = within (nat_le p at) (nat_le (at + 4) (p + length o)) (written o (at - p) far) (λ z. wrote p z ss) h in
+    let low : p ≤ at = leb-true p at w.first in
+    let high : at + 4 ≤ p + length o = leb-true (at + 4) (p + length o) w.second in
+    let long : length (written o (at - p) far) ≡ length o = length-written (at - p) far o (omega (arith, four order ((p + length o + 2 ^ 32 - sub) % 2 ^ 32))) in
+    let long' : length (written o' (at - base) near) ≡ length o' = length-written (at - base) near o' (omega (arith, e, four order ((base + length o' + 2 ^ 32 - sub) % 2 ^ 32))) in
+    patch_there (nat_le base at) (nat_le (at + 4) (base + length o')) (written o' (at - base) near) (λ z. wrote base z ss) (le-leb base at (omega arith)) (le-leb (at + 4) (base + length o') (omega (arith, e)))
+    (shifted ss p base (written o (at - p) far) (written o' (at - base) near) le (omega (arith, e, long, long')) w.rest)
+
+-- ---- a lead and a body
+
+-- code that goes through its node, called or not
+followed : (nodes : List Node) (subs : List (List SendOp)) → CodesFollow nodes subs → AllFollow nodes subs
+followed nodes subs all k b e =
+    let m = seen_at (slice_get subs k) b e in
+    subst (λ (x : Block). Follows (sub_at subs) (type_at nodes k) k [] x) m.2 (all k m.0 m.1)
+
+pub alone_given : (nodes : List Node) (id : ℕ) (subs : List (List SendOp)) (code : SendCode) → IsSound (type_at nodes id) → CodesFollow nodes subs → Goes subs id code → code.subs ≡ [] → IsGiven (type_at nodes id) code
+alone_given nodes id subs code sound follows goes none =
+    (none, 0, (stop, code_seen code.ops, stop, id, sym (append-stop (code_seen code.ops)), refl, goes nodes sound (followed nodes subs follows), tt))
+
+module _ (nodes : List Node) (id : ℕ) (subs : List (List SendOp)) (lead body given : SendCode)
+    (sound : IsSound (type_at nodes id)) (known : id < length subs)
+    (sends : CodesSend Xdr nodes subs) (follows : CodesFollow nodes subs)
+    (is_lead : IsLead lead) (does : Does subs id body) (goes : Goes subs id body) (no_subs' : body.subs ≡ []) (both' : IsBoth lead body given) where
+  through : Follows no_subs (type_at nodes id) id [] (code_seen body.ops)
+  through = goes nodes sound (followed nodes subs follows)
+
+  pub is_given : IsGiven (type_at nodes id) given
+  is_given =
+      let first = chunks-length (code_seen lead.ops) (is_lead.chunks).0 ((is_lead.chunks).1) in
+      (both'.subs, first.0, (code_seen lead.ops, code_seen body.ops, stop, id, both'.ops ∙ ap (append (code_seen lead.ops)) (sym (append-stop (code_seen body.ops))), first.1, through, tt))
+
+  is_bare : IsBare (code_seen given.ops)
+  is_bare = subst IsBare (sym both'.ops) (bare-append (code_seen lead.ops) (code_seen body.ops) (chunks-bare (code_seen lead.ops) (is_lead.chunks).0 ((is_lead.chunks).1)) (bare (type_at nodes id) id [] (code_seen body.ops) through))
+
+  -- what the lead and the body do
+  lead_steps : (h : Head) (v : Val) (o : List ℕ) → meaning lead h v 0 ≡ Some o → (ls : List Step) × (steps (calls_of given.subs h deepest) h (code_seen lead.ops) v ≡ Some ls) × (wrote 0 [] ls ≡ Some o)
+  lead_steps h v o e =
+      let m = opened (sent_steps lead h v) (wrote 0 []) o e in
+      (m.0, chunks-steps (calls_of given.subs h deepest) (calls_of lead.subs h deepest) h v (code_seen lead.ops) (is_lead.chunks).0 ((is_lead.chunks).1) ∙ m.1, m.2)
+
+  body_steps : (h : Head) (v : Val) (p : ℕ) → p % 4 ≡ 0 → IsWellTyped (type_at nodes id) v → (ss : List Step) × (steps (calls_of given.subs h deepest) h (code_seen body.ops) v ≡ Some ss) × IsThere (wrote p [] ss)
+  body_steps h v p place typed =
+      let ops = get_or subs id [] in
+      let found : slice_get subs id ≡ Some ops = slice_get-get_or subs id [] known in
+      let sent = sends id ops found h v p place typed in
+      let m = opened (sent_steps (record { ops = ops; subs = subs }) h v) (wrote p []) (send Xdr (type_at nodes id) p v) sent in
+      let same : sent_steps body h v ≡ Some m.0 = does ops h v m.0 found m.1 in
+      (m.0, ap (λ (l : List (List SendOp)). steps (calls_of l h deepest) h (code_seen body.ops) v) (both'.subs ∙ sym no_subs') ∙ same, there (wrote p [] m.0) (send Xdr (type_at nodes id) p v) m.2)
+
+  is_there : (h : Head) (v : Val) → IsHead h → IsWellTyped (type_at nodes id) v → IsThere (meaning given h v 0)
+  is_there h v head typed =
+      let w = is_lead.words h v head in
+      let l = lead_steps h v w.0 w.1 in
+      let b = body_steps h v (length w.0) w.2 typed in
+      subst (λ (x : Steps). IsThere (on_some x (wrote 0 [])))
+      (sym (ap (λ (x : Block). steps (calls_of given.subs h deepest) h x v) both'.ops ∙ steps-append (calls_of given.subs h deepest) h (code_seen lead.ops) (code_seen body.ops) v ∙ joined _ _ l.0 b.0 l.1 b.1))
+      (subst IsThere (sym (wrote-append 0 [] l.0 b.0 ∙ ap (λ (x : Option (List ℕ)). on_some x (λ q. wrote 0 q b.0)) l.2)) (shifted b.0 (length w.0) 0 [] w.0 (omega arith) (omega arith) b.2))
+
+  pub is_ready : (code : SendCode) → AddsEnsures given code → IsCoveredFor (type_at nodes id) given code → code.subs ≡ [] → IsReady (type_at nodes id) code
+  is_ready code adds covered none =
+      record {
+        no_row = record {
+          ops = ensured-rowless (code_seen code.ops) (subst IsRowless (sym adds) (bare-rowless (code_seen given.ops) is_bare));
+          subs = λ k b e. absurd (let n : sub_at [] k ≡ Some b = subst (λ (l : List (List SendOp)). sub_at l k ≡ Some b) none e in cc);
+        };
+        covered = λ h v head typed. covered h v 0 typed.is_of (is_there h v head typed);
+      }
+
+-- the octets of a head are whole words
+pub whole_words : (p : Procedure) (id : ℕ) → length (lead p id) % 4 ≡ 0
+whole_words p id = refl

@@ -2,7 +2,6 @@
 // PASS SHAPE SIZE.
 #![tactic(auto)]
 
-mod copies;
 mod counting;
 mod shapes;
 #[cfg(test)]
@@ -83,6 +82,7 @@ fn run(alloc: Global, last: Pass, shape: Shape, size: u32) -> Result<Operations>
     if last == Pass::Classify {
         return Ok(operations);
     }
+    table.types_are_sound();
     match hoist(alloc, &code, &table, id, &classes) {
         Ok(code) => {
             operations.hoisted = count(&code.ops);

@@ -1,7 +1,7 @@
 // The head of a call.
 ghost use Rattle.std.specs.Prelude.{◌≡◌, IfOk};
 ghost use Rattle.wire_def.specs.declared.encoding.Back.TheVariants.{Xdr};
-ghost use Rattle.stub_lower.specs.Leads.{AreChunks};
+ghost use Rattle.stub_bench.specs.Ready.{IsLead};
 
 use aoi::{Fields, Interface, Operation, Operations, Raises, Ty, Unit, is_sound};
 use back_xdr::lead_call;
@@ -70,7 +70,7 @@ fn bound(alloc: Global) -> Result<Bound, NoMemory>
 
 /// Its code.
 pub fn lead(alloc: Global) -> Result<SendCode, NoMemory>
-    ensures { IfOk result AreChunks }
+    ensures { IfOk result IsLead }
 {
     let bound = bound(alloc)?;
     if bound.ops().len() == 0 {

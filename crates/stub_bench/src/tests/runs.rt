@@ -1,11 +1,16 @@
 // Messages made by stub code, against the plain walk.
-ghost use Rattle.std.specs.Prelude.{◌<◌, length};
+ghost use Rattle.std.specs.Prelude.{◌≡◌, ◌<◌, length, IfOk};
+ghost use Rattle.mint.specs.Types.{type_at};
+ghost use Rattle.mint.specs.Typed.{IsWellTyped};
+ghost use Rattle.mint.specs.Values.{seen};
+ghost use Rattle.hoist.specs.Seen.{AreClasses};
+ghost use Rattle.stub_bench.specs.Ready.{IsBoth, IsReady};
 
+use super::copies::put_copies;
 use super::lead::{HEAD, OCTETS, lead};
 use super::regions::regions;
 use super::types::{Form, table_of};
 use super::values::{Plan, value_of};
-use crate::copies::{NESTED, put_copies};
 use back_xdr::lower_send;
 use cast_stub::{SendCode, SendSubs};
 use copy_inline::inline;
@@ -32,21 +37,30 @@ pub struct Outcome {
     pub regions: u64,
 }
 
-/// The code of a message: the head of a call, and a value of the node.
-fn message(
-    alloc: Global,
-    table: &Mint,
-    id: NodeId,
-    classes: &Classes,
-) -> Result<SendCode, NoMemory> {
-    let subs = lower_send(alloc, table)?;
-    let body = inline(alloc, &subs, id)?;
-    let mut ops = lead(alloc)?.ops;
-    put_copies(alloc, NESTED, &body.ops, &mut ops)?;
-    let whole = SendCode {
+/// The operations of both, one behind the other.
+#[tactic(auto, using(copy_inline::proofs::Adding::adding))]
+fn both(alloc: Global, lead: SendCode, body: &SendCode) -> Result<SendCode, NoMemory>
+    ensures { IfOk result (λ code. IsBoth lead body.now code) }
+{
+    let mut ops = lead.ops;
+    put_copies(alloc, &body.ops, &mut ops)?;
+    Ok(SendCode {
         ops,
         subs: SendSubs::new(alloc),
-    };
+    })
+}
+
+/// The code of a message: the head of a call, and a value of the node.
+fn message(alloc: Global, table: &Mint, id: NodeId, classes: &Classes) -> Result<SendCode, NoMemory>
+    requires id { id < length table.now }
+    requires classes { AreClasses table.now classes.now }
+    ensures { IfOk result (λ code. IsReady (type_at table.now id) code) }
+{
+    table.types_are_sound();
+    let subs = lower_send(alloc, table)?;
+    let body = inline(alloc, &subs, id)?;
+    let head = lead(alloc)?;
+    let whole = both(alloc, head, &body)?;
     hoist(alloc, &whole, table, id, classes)
 }
 
@@ -57,7 +71,10 @@ fn is_plain(
     id: NodeId,
     value: &Value,
     octets: &[u8],
-) -> Result<bool, NoMemory> {
+) -> Result<bool, NoMemory>
+    requires id { id < length table.now }
+    requires typed { IsWellTyped (type_at table.now id) (seen value.now) }
+{
     let mut plain = Octets::new(alloc);
     plain.append(OCTETS)?;
     plain_send(Encoding::Xdr, table, id, 40, value, &mut plain)?;
@@ -72,7 +89,12 @@ fn sent(
     classes: &Classes,
     code: &SendCode,
     value: &Value,
-) -> Result<Outcome, NoMemory> {
+) -> Result<Outcome, NoMemory>
+    requires id { id < length table.now }
+    requires classes { length classes.now ≡ length table.now }
+    requires ready { IsReady (type_at table.now id) code.now }
+    requires typed { IsWellTyped (type_at table.now id) (seen value.now) }
+{
     let mut buf = SendBuf::new(alloc)?;
     match run_send(code, &HEAD, value, &mut buf) {
         Ok(()) => Ok(Outcome {
@@ -92,7 +114,11 @@ fn goes_well(
     classes: &Classes,
     code: &SendCode,
     plan: &Plan,
-) -> Result<bool, NoMemory> {
+) -> Result<bool, NoMemory>
+    requires id { id < length table.now }
+    requires classes { length classes.now ≡ length table.now }
+    requires ready { IsReady (type_at table.now id) code.now }
+{
     let value = value_of(alloc, table, id, plan)?;
     if !fits(table, id, &value) {
         return Ok(false);
