@@ -1,17 +1,16 @@
 -- That hoisted code behind a lead may be run.
-use Rattle.std.proofs.Common.{◌≡◌, ℕ, ◌+◌, ◌-◌, ◌^◌, ◌%◌, ◌<◌, ◌≤◌, List, [], ◌∷◌, ◌++◌, length, replicate, get_or, Option, None, Some, option_map, refl, sym, ap, subst, ◌∙◌, arith, length-append, Bool, true, false, ◌&&◌, nat_le, if◌then◌else◌}
+use Rattle.std.proofs.Common.{◌≡◌, ℕ, ◌+◌, ◌-◌, ◌^◌, ◌%◌, ◌<◌, ◌≤◌, List, [], ◌∷◌, ◌++◌, length, replicate, get_or, Option, None, Some, option_map, Result, Ok, Err, IfOk, refl, sym, ap, subst, ◌∙◌, arith, length-append, Bool, true, false, ◌&&◌, nat_le, if◌then◌else◌}
 use Rattle.std.specs.Prelude.{slice_get}
 use Rattle.std.proofs.lemmas.List.{length-replicate}
 use Rattle.std.proofs.lemmas.Option.{slice_get-get_or}
 use Rattle.kit_base.specs.Bytes.{written}
 use Rattle.mint.specs.declared.node.Node.{Node}
-use Rattle.mint.specs.Types.{Ty, type_at}
-use Rattle.mint.specs.Typed.{IsOf, IsWellTyped}
+use Rattle.mint.specs.Types.{type_at}
+use Rattle.mint.specs.Typed.{IsWellTyped}
 use Rattle.mint.specs.Sound.{IsSound}
 use Rattle.mint.specs.Values.{Val}
 use Rattle.wire_def.specs.declared.encoding.Encoding.TheVariants.{Xdr}
 use Rattle.wire_def.specs.declared.head.Head.{Head}
-use Rattle.wire_def.specs.declared.head.Order.{Order}
 use Rattle.wire_def.specs.Scalars.{gap}
 use Rattle.wire_def.specs.Send.{send}
 use Rattle.raw_buf.specs.Buf.{in_order}
@@ -20,21 +19,21 @@ use Rattle.cast_stub.specs.declared.send.SendOp.{SendOp}
 use Rattle.cast_stub.specs.Append.{append}
 use Rattle.cast_stub.specs.Block.{Block, stop, ensure, ensure_row, align, chunk, row_copy, row_swap, row_wide, each, switch, if_there, call, patch, Cases, no_default, default, case, code_seen}
 use Rattle.cast_stub.specs.Follows.{Follows}
-use Rattle.cast_stub.specs.Meaning.{patched, wrote, meaning, AreCovered}
+use Rattle.cast_stub.specs.Meaning.{wrote, meaning}
 use Rattle.cast_stub.specs.Parts.{on_some, IsThere}
-use Rattle.cast_stub.specs.Rowless.{IsRowless, AreRowless, HasNoRow}
+use Rattle.cast_stub.specs.Rowless.{IsRowless, AreRowless}
 use Rattle.cast_stub.specs.Steps.{Step, Room, Pad, Stored, Widened, Copied, Patched, Steps, Calls, both, chunk_steps, steps}
 use Rattle.cast_stub.specs.Subs.{sub_at, calls_of, sent_steps, deepest}
 use Rattle.cast_stub.proofs.Appending.{append-stop, steps-append}
 use Rattle.cast_stub.proofs.Folding.{wrote-append}
-use Rattle.stub_lower.specs.Leads.{IsHead, chunk_puts, AreChunks}
+use Rattle.stub_lower.specs.Leads.{IsHead, chunk_puts, AreChunks, Leads}
 use Rattle.stub_lower.specs.Lowered.{CodesSend, CodesFollow}
 use Rattle.stub_machine.proofs.Rooms.{length-written, four}
 use Rattle.copy_inline.specs.Inlined.{Does, Goes, AllFollow, no_subs}
 use Rattle.hoist.specs.Bare.{IsBare, CasesBare}
 use Rattle.std.proofs.lemmas.Bool.{le-leb, leb-true}
 use Rattle.hoist.specs.Pass.{IsGiven, AddsEnsures, IsCoveredFor}
-use Rattle.hoist.specs.Framed.{IsFramed, IsTail, lead_length, unensured, cases_unensured}
+use Rattle.hoist.specs.Framed.{lead_length, unensured, cases_unensured}
 use Rattle.hoist.proofs.Quiet.{mapped, bare, bare-append}
 use Rattle.back_xdr.specs.declared.procedures.Procedure.{Procedure}
 use Rattle.back_xdr.specs.Leads.{lead}
@@ -211,7 +210,7 @@ module _ (nodes : List Node) (id : ℕ) (subs : List (List SendOp)) (lead body g
       (sym (ap (λ (x : Block). steps (calls_of given.subs h deepest) h x v) both'.ops ∙ steps-append (calls_of given.subs h deepest) h (code_seen lead.ops) (code_seen body.ops) v ∙ joined _ _ l.0 b.0 l.1 b.1))
       (subst IsThere (sym (wrote-append 0 [] l.0 b.0 ∙ ap (λ (x : Option (List ℕ)). on_some x (λ q. wrote 0 q b.0)) l.2)) (shifted b.0 (length w.0) 0 [] w.0 (omega arith) (omega arith) b.2))
 
-  pub is_ready : (code : SendCode) → AddsEnsures given code → IsCoveredFor (type_at nodes id) given code → code.subs ≡ [] → IsReady (type_at nodes id) code
+  is_ready : (code : SendCode) → AddsEnsures given code → IsCoveredFor (type_at nodes id) given code → code.subs ≡ [] → IsReady (type_at nodes id) code
   is_ready code adds covered none =
       record {
         no_row = record {
@@ -221,6 +220,14 @@ module _ (nodes : List Node) (id : ℕ) (subs : List (List SendOp)) (lead body g
         covered = λ h v head typed. covered h v 0 typed.is_of (is_there h v head typed);
       }
 
+  pub hoisted_ready : {E : Type 0} (r : Result SendCode E) → IfOk r (AddsEnsures given) → IfOk r (IsCoveredFor (type_at nodes id) given) → IfOk r (λ (code : SendCode). code.subs ≡ []) → IfOk r (IsReady (type_at nodes id))
+  hoisted_ready (Ok code) adds covered none = is_ready code adds covered none
+  hoisted_ready (Err e) adds covered none = tt
+
 -- the octets of a head are whole words
-pub whole_words : (p : Procedure) (id : ℕ) → length (lead p id) % 4 ≡ 0
+whole_words : (p : Procedure) (id : ℕ) → length (lead p id) % 4 ≡ 0
 whole_words p id = refl
+
+pub lead_ready : {E : Type 0} (r : Result SendCode E) (p : Procedure) → IfOk r (Leads (λ h. lead p h.id)) → IfOk r AreChunks → IfOk r IsLead
+lead_ready (Ok code) p means chunks = record { chunks = chunks; words = λ h v head. (lead p h.id, means h v 0 head, whole_words p h.id) }
+lead_ready (Err e) p means chunks = tt
