@@ -1,8 +1,7 @@
 -- A head as one chunk appends its octets.
-use Rattle.std.proofs.Common.{◌≡◌, ℕ, suc, ◌+◌, ◌*◌, ◌<◌, List, [], ◌∷◌, ◌++◌, length, map, pos, replicate, Option, Some, None, option_map, refl, sym, ap, subst, arith, length-append, Bool, true, false, if◌then◌else◌}
-use Rattle.std.specs.Prelude.{nat_lt, Result, Ok, Err, IfOk}
+use Rattle.std.proofs.Common.{◌≡◌, ℕ, suc, ◌+◌, ◌*◌, ◌<◌, List, [], ◌∷◌, ◌++◌, length, Some, refl, sym, subst, arith, length-append}
+use Rattle.std.specs.Prelude.{Result, Ok, Err, IfOk}
 use Rattle.kit_base.specs.declared.errors.NoMemory.{NoMemory}
-use Rattle.std.proofs.lemmas.Bool.{lt-ltb}
 use Rattle.kit_base.specs.Bytes.{be}
 use Rattle.mint.specs.Values.{Val}
 use Rattle.wire_def.specs.declared.head.Head.{Head}
@@ -11,35 +10,20 @@ use Rattle.cast_stub.specs.declared.put.HeadField.TheVariants.{Id}
 use Rattle.cast_stub.specs.declared.put.Put.TheVariants as put
 use Rattle.cast_stub.specs.declared.send.SendCode.{SendCode}
 use Rattle.cast_stub.specs.Parts.{on_some}
-use Rattle.cast_stub.specs.Puts.{word, filled, placed, full}
+use Rattle.cast_stub.specs.Puts.{filled}
 use Rattle.cast_stub.specs.Block.{Block, stop, chunk}
 use Rattle.cast_stub.specs.Steps.{Calls, steps}
 use Rattle.cast_stub.specs.Subs.{calls_of, deepest}
 use Rattle.cast_stub.specs.Meaning.{wrote}
 use Rattle.cast_stub.proofs.Pieces.{seen-Chunk}
+use Rattle.cast_stub.proofs.Putting.{word_of, placed_whole, full_whole}
 use Rattle.stub_lower.specs.Leads.{Leads, AreChunks}
-use Rattle.back_xdr.specs.Leads.{words}
+use Rattle.raw_buf.specs.Words.{words}
 use Rattle.back_xdr.specs.Coded.{IsCoded}
 
 length-words : (ns : List ℕ) → length (words ns) ≡ 4 * length ns
 length-words [] = refl
 length-words (n ∷ ns) = let l = length-words ns in omega (arith, l, length-append (be 4 n) (words ns))
-
-if_so : (b : Bool) (n : ℕ) → b ≡ true → (if b then Some n else None) ≡ Some n
-if_so true n e = refl
-if_so false n e = absurd cc
-
--- the word of a number that it can hold
-word_of : (n : ℕ) → n < 4294967296 → word 4 Big (pos n) ≡ Some (be 4 n)
-word_of n h = ap (λ (o : Option ℕ). on_some o (λ (m : ℕ). Some (be 4 m))) (if_so (nat_lt n 4294967296) n (lt-ltb n 4294967296 h))
-
-placed_whole : (os : List ℕ) → placed 0 os (replicate (length os) None) ≡ Some (map Some os)
-placed_whole [] = refl
-placed_whole (o ∷ os) = ap (option_map (λ ds. Some o ∷ ds)) (placed_whole os)
-
-full_whole : (os : List ℕ) → full (map Some os) ≡ Some os
-full_whole [] = refl
-full_whole (o ∷ os) = ap (option_map (λ l. o ∷ l)) (full_whole os)
 
 -- four octets and others behind them
 filled_by : (h : Head) (v : Val) (os : List ℕ) → h.id < 4294967296 → filled (suc (suc (suc (suc (length os))))) (put.Head 0 Id 4 Big ∷ put.Const 4 os ∷ []) h v ≡ Some (be 4 h.id ++ os)

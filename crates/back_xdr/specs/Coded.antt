@@ -5,7 +5,7 @@ use Rattle.cast_stub.specs.declared.put.HeadField.TheVariants.{Id}
 use Rattle.cast_stub.specs.declared.put.Put.TheVariants as put
 use Rattle.cast_stub.specs.declared.send.SendCode.{SendCode}
 use Rattle.cast_stub.specs.Block.{stop, chunk, code_seen}
-use Rattle.back_xdr.specs.Leads.{words}
+use Rattle.raw_buf.specs.Words.{words}
 
 -- the transaction, and words behind it
 abbrev pub IsCoded : List ℕ → SendCode → Type 0

@@ -1,11 +1,7 @@
 -- The heads that are sent (RFC 5531, section 9), with empty credentials and verifier.
-use Rattle.std.specs.Prelude.{ℕ, List, [], ◌∷◌, flat_map}
-use Rattle.kit_base.specs.Bytes.{be}
+use Rattle.std.specs.Prelude.{ℕ, List, [], ◌∷◌}
+use Rattle.raw_buf.specs.Words.{words}
 use Rattle.back_xdr.specs.declared.procedures.Procedure.{Procedure}
-
--- words of four octets each, the most significant octet first
-abbrev pub words : List ℕ → List ℕ
-words numbers = flat_map (be 4) numbers
 
 -- the head of a call: the transaction, the message type, the version of the protocol, what is called, and two bodies of flavour and length 0
 abbrev pub lead : Procedure → ℕ → List ℕ

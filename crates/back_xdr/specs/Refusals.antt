@@ -2,7 +2,7 @@
 use Rattle.std.specs.Prelude.{ℕ, List, [], ◌∷◌, Option, None, Some, option_map}
 use Rattle.wire_def.specs.declared.outcome.Refusal.{Refusal}
 use Rattle.wire_def.specs.declared.outcome.Refusal.TheVariants.{ProgUnavail, ProgMismatch, ProcUnavail, GarbageArgs, SystemErr, RpcMismatch, AuthError, SystemException, UserException, RetCode}
-use Rattle.back_xdr.specs.Leads.{words}
+use Rattle.raw_buf.specs.Words.{words}
 
 -- the numbers of an accepted call's reply: the message type, accepted, a verifier of flavour and length 0, and the state
 abbrev pub accepted_with : List ℕ → List ℕ

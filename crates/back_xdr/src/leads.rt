@@ -4,7 +4,8 @@ ghost use Rattle.std.specs.Prelude.{◌≡◌, ◌<◌, ◌≤◌, ◌∷◌, le
 ghost use Rattle.wire_def.specs.declared.encoding.Back.TheVariants.{Xdr};
 ghost use Rattle.stub_lower.specs.Leads.{Leads, AreChunks};
 ghost use Rattle.back_xdr.specs.Coded.{IsCoded};
-ghost use Rattle.back_xdr.specs.Leads.{words, lead, answer_lead};
+ghost use Rattle.raw_buf.specs.Words.{words};
+ghost use Rattle.back_xdr.specs.Leads.{lead, answer_lead};
 ghost use Rattle.back_xdr.specs.Procedures.{procedure_of};
 
 use crate::procedures::procedure_of;

@@ -2,7 +2,10 @@
 
 ghost use Rattle.std.specs.Prelude.{◌≡◌, length, IfOk};
 ghost use Rattle.wire_def.specs.declared.encoding.Encoding.TheVariants.{Xdr};
-ghost use Rattle.stub_lower.specs.Lowered.{CodesSend, CodesFollow, CodesTurn};
+ghost use Rattle.cast_stub.specs.Follows.{AllFollow};
+ghost use Rattle.cast_stub.specs.Turned.{AllTurned};
+ghost use Rattle.stub_lower.specs.Layouts.{layout_of};
+ghost use Rattle.stub_lower.specs.Lowered.{CodesSend};
 
 use cast_stub::SendSubs;
 use kit_base::NoMemory;
@@ -15,8 +18,8 @@ use wire_def::Encoding;
 pub fn lower_send(alloc: Global, mint: &Mint) -> Result<SendSubs, NoMemory>
     ensures many { IfOk result (λ subs. length subs ≡ length mint.now) }
     ensures means { IfOk result (λ subs. CodesSend Xdr mint.now subs) }
-    ensures follows { IfOk result (λ subs. CodesFollow mint.now subs) }
-    ensures rows { IfOk result (λ subs. CodesTurn Xdr mint.now subs) }
+    ensures follows { IfOk result (λ subs. AllFollow mint.now subs) }
+    ensures rows { IfOk result (λ subs. AllTurned (layout_of Xdr) mint.now subs) }
 {
     lower(alloc, Encoding::Xdr, mint)
 }

@@ -1,13 +1,12 @@
 //! The replies that refuse a call.
 
-ghost use Rattle.std.specs.Prelude.{◌≡◌, ◌≤◌, ◌+◌, ◌*◌, [], ◌∷◌, ◌++◌, length, Some, OnOk};
-ghost use Rattle.kit_base.specs.Bytes.{be};
-ghost use Rattle.back_xdr.specs.Leads.{words};
+ghost use Rattle.std.specs.Prelude.{◌≡◌, ◌≤◌, [], ◌∷◌, ◌++◌, length, Some, OnOk};
+ghost use Rattle.raw_buf.specs.Words.{words};
 ghost use Rattle.back_xdr.specs.Refusals.{IsOwn, refusal_octets};
 
 use kit_base::NoMemory;
 use raw_buf::SendBuf;
-use wire_def::{Head, Order, Refusal};
+use wire_def::{Head, Refusal};
 
 /// Writes the reply that refuses a call into an empty buffer, with an empty verifier.
 pub fn put_refusal(refusal: &Refusal, head: &Head, buf: &mut SendBuf) -> Result<(), NoMemory>
@@ -36,18 +35,6 @@ fn put_words(numbers: &[u32], buf: &mut SendBuf) -> Result<(), NoMemory>
     ensures { OnOk result (buf.new.done ≡ buf.old.done ++ words numbers.now) }
 {
     buf.ensure(4 * numbers.len())?;
-    for number in numbers {
-        put_word(*number, buf);
-    }
+    buf.put_words(numbers);
     Ok(())
-}
-
-/// Puts a word into the space that is ensured.
-fn put_word(n: u32, buf: &mut SendBuf)
-    requires { 4 ≤ length buf.old.front }
-    ensures done { buf.new.done ≡ buf.old.done ++ be 4 n }
-    ensures ahead { length buf.new.front + 4 ≡ length buf.old.front }
-{
-    buf.put(0, 4, Order::Big, u64::from(n));
-    buf.advance(4);
 }

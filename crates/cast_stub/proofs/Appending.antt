@@ -1,12 +1,12 @@
 -- A code behind a code, and an operation as a piece in front of others.
-use Rattle.std.proofs.Common.{◌≡◌, [], ◌∷◌, length, if◌then◌else◌, ◌+◌, ◌*◌, subst, Some, None, refl, sym, ap, ◌∙◌, append_assoc}
+use Rattle.std.proofs.Common.{◌≡◌, List, [], ◌∷◌, ◌++◌, length, if◌then◌else◌, ◌+◌, ◌*◌, subst, Some, None, refl, sym, ap, ◌∙◌, append_assoc}
 use Rattle.mint.specs.Values.{Val, arm_in}
 use Rattle.wire_def.specs.declared.head.Head.{Head}
 use Rattle.cast_stub.specs.declared.send.SendOp.{SendOp, out-SendOp, map-SendOp, fold_out-SendOp}
 use Rattle.cast_stub.specs.declared.send.SendOp.TheOpen.{SendOp-F}
 use Rattle.cast_stub.specs.Parts.{on_some, at, elements_in, length_in}
 use Rattle.cast_stub.specs.Puts.{filled}
-use Rattle.cast_stub.specs.Block.{Block, stop, ensure, ensure_row, align, chunk, row_copy, row_swap, row_wide, each, switch, if_there, call, patch, Piece, piece_level, op_seen}
+use Rattle.cast_stub.specs.Block.{Block, stop, ensure, ensure_row, align, chunk, row_copy, row_swap, row_wide, each, switch, if_there, call, patch, Piece, piece_level, op_seen, code_seen}
 use Rattle.cast_stub.specs.Steps.{Room, Pad, Stored, Patched, Steps, both, over, if_present, copy_steps, swap_steps, wide_steps, is_width, Calls, steps, case_steps}
 use Rattle.cast_stub.specs.Append.{append}
 
@@ -72,3 +72,23 @@ append-stop (switch p cs r) = ap (switch p cs) (append-stop r)
 append-stop (if_there p a r) = ap (if_there p a) (append-stop r)
 append-stop (call k p r) = ap (call k p) (append-stop r)
 append-stop (patch a s o r) = ap (patch a s o) (append-stop r)
+
+pub append-assoc : (a b c : Block) → append (append a b) c ≡ append a (append b c)
+append-assoc stop b c = refl
+append-assoc (ensure n r) b c = ap (ensure n) (append-assoc r b c)
+append-assoc (ensure_row p u e r) b c = ap (ensure_row p u e) (append-assoc r b c)
+append-assoc (align a r) b c = ap (align a) (append-assoc r b c)
+append-assoc (chunk s ps r) b c = ap (chunk s ps) (append-assoc r b c)
+append-assoc (row_copy p r) b c = ap (row_copy p) (append-assoc r b c)
+append-assoc (row_swap p r) b c = ap (row_swap p) (append-assoc r b c)
+append-assoc (row_wide p o r) b c = ap (row_wide p o) (append-assoc r b c)
+append-assoc (each p w r) b c = ap (each p w) (append-assoc r b c)
+append-assoc (switch p cs r) b c = ap (switch p cs) (append-assoc r b c)
+append-assoc (if_there p w r) b c = ap (if_there p w) (append-assoc r b c)
+append-assoc (call k p r) b c = ap (call k p) (append-assoc r b c)
+append-assoc (patch x s o r) b c = ap (patch x s o) (append-assoc r b c)
+
+-- operations behind operations
+pub code_seen-append : (a b : List SendOp) → code_seen (a ++ b) ≡ append (code_seen a) (code_seen b)
+code_seen-append [] b = refl
+code_seen-append (o ∷ a) b = ap (op_seen o) (code_seen-append a b) ∙ sym (op-append o (code_seen a) (code_seen b))

@@ -1,6 +1,8 @@
 pub mod Appending
+mod Covering
 pub mod Folding
 pub mod Pieces
+pub mod Putting
 pub mod Rebasing
 pub mod Rowless
 pub mod Worked

@@ -2,7 +2,7 @@
 use Rattle.std.proofs.Common.{◌≡◌, ℕ, pos, negsuc, List, [], ◌∷◌, Option, Some, None, refl, true, inl, arith}
 use Rattle.mint.specs.declared.kind.Kind.TheVariants.{Char, I16, I32, I64}
 use Rattle.mint.specs.declared.kind.Count.TheVariants.{Any}
-use Rattle.mint.specs.Types.{number, scalar_type, items_type}
+use Rattle.mint.specs.Types.{number, void_type, scalar_type, group_type, items_type, no_fields, field}
 use Rattle.mint.specs.Row.{octets_of}
 use Rattle.mint.specs.Values.{Val, void, num, row, group, items, arm, absent, present, no_more, val}
 use Rattle.wire_def.specs.declared.head.Head.{Head}
@@ -15,6 +15,8 @@ use Rattle.cast_stub.specs.Steps.{Room, Pad, Stored, steps}
 use Rattle.cast_stub.specs.Subs.{no_calls}
 use Rattle.cast_stub.specs.Meaning.{wrote, Cost, costs, HasRoom}
 use Rattle.cast_stub.specs.Follows.{Follows}
+use Rattle.cast_stub.specs.PartTypes.{ty_at}
+use Rattle.cast_stub.specs.Turned.{IsNumber}
 
 -- id 1, remote port 258, local port 3
 abbrev the_head : Head
@@ -114,3 +116,20 @@ not_enough h = omega (arith, h.1.0)
 -- the code of a list goes through its type, and four puts are too many for one number
 in_order : Follows (λ k. None) (items_type Any (scalar_type (number I32))) 0 [] (chunk 4 (put.Count 0 [] 1 0 4 Big ∷ []) (each [] (chunk 4 (put.Num 0 [] 4 Big ∷ []) stop) stop))
 in_order = (chunk 4 (put.Count 0 [] 1 0 4 Big ∷ []) stop, chunk 4 (put.Num 0 [] 4 Big ∷ []) stop, refl, (1, refl, omega arith), inl (1, refl, omega arith))
+
+-- the type of the part at a path, and none behind the last field or below a scalar
+a_part_type : ty_at (1 ∷ 0 ∷ []) (group_type (field void_type (field (group_type (field (scalar_type (number I64)) no_fields)) no_fields))) ≡ Some (scalar_type (number I64))
+a_part_type = refl
+
+no_part_type : ty_at (1 ∷ []) (group_type (field void_type no_fields)) ≡ None
+no_part_type = refl
+
+nothing_below : ty_at (0 ∷ []) (scalar_type (number I64)) ≡ None
+nothing_below = refl
+
+-- a turn that is one number, and one of the other order
+a_number : IsNumber (Some (4, Big)) (chunk 4 (put.Num 0 [] 4 Big ∷ []) stop)
+a_number = refl
+
+the_other_order : IsNumber (Some (4, Big)) (chunk 4 (put.Num 0 [] 4 Little ∷ []) stop) → ⊥
+the_other_order h = cc

@@ -1,10 +1,13 @@
 pub mod Append
 pub mod Block
+pub mod CallFree
 pub mod Follows
 pub mod Laws
 pub mod Meaning
+pub mod PartTypes
 pub mod Parts
 pub mod Puts
 pub mod Rowless
 pub mod Steps
 pub mod Subs
+pub mod Turned

@@ -10,6 +10,7 @@ use Rattle.wire_def.specs.Scalars.{gap}
 use Rattle.raw_buf.specs.Buf.{in_order}
 use Rattle.cast_stub.specs.declared.send.SendCode.{SendCode}
 use Rattle.cast_stub.specs.Parts.{on_some, IsThere}
+use Rattle.cast_stub.specs.Puts.{IsHead}
 use Rattle.cast_stub.specs.Steps.{Step, Room, Pad, Stored, Widened, Copied, Patched, Steps}
 use Rattle.cast_stub.specs.Subs.{sent_steps}
 
@@ -83,6 +84,6 @@ abbrev pub AreCovered : Steps → ℕ → Type 0
 AreCovered None p = ⊥
 AreCovered (Some ss) p = IsThere (wrote p [] ss) × HasRoom p 0 ss
 
--- at a position, for every head and every value of the type
+-- at a position, for every head of numbers that words can hold and every value of the type
 abbrev pub IsCovered : Ty → ℕ → SendCode → Type 0
-IsCovered t p code = (h : Head) (v : Val) → IsWellTyped t v → AreCovered (sent_steps code h v) p
+IsCovered t p code = (h : Head) (v : Val) → IsHead h → IsWellTyped t v → AreCovered (sent_steps code h v) p

@@ -1,5 +1,5 @@
 -- The octets of a put, and those of a chunk.
-use Rattle.std.specs.Prelude.{ℕ, zero, suc, ◌+◌, ◌-◌, ◌*◌, ◌^◌, ℤ, pos, negsuc, List, [], ◌∷◌, replicate, Option, None, Some, option_map, nat_eq, nat_lt, if◌then◌else◌, ◌&&◌}
+use Rattle.std.specs.Prelude.{ℕ, zero, suc, ◌+◌, ◌-◌, ◌*◌, ◌^◌, ◌<◌, ℤ, pos, negsuc, List, [], ◌∷◌, replicate, Option, None, Some, option_map, nat_eq, nat_lt, if◌then◌else◌, ◌&&◌}
 use Rattle.kit_base.specs.Bytes.{le}
 use Rattle.mint.specs.Values.{Val}
 use Rattle.wire_def.specs.declared.head.Order.{Order}
@@ -33,6 +33,12 @@ abbrev pub head_number : HeadField → Head → ℕ
 head_number Id h = h.id
 head_number Remote h = h.remote
 head_number Local h = h.local
+
+-- a head of numbers that words can hold
+pub record IsHead (h : Head) : Type 0 where
+  pub id : h.id < 2 ^ 32
+  pub remote : h.remote < 2 ^ 32
+  pub local : h.local < 2 ^ 32
 
 -- the octets of a put
 abbrev pub put_octets : Head → Put → Val → Option (List ℕ)

@@ -12,6 +12,10 @@ use Rattle.cast_stub.specs.Steps.{Steps, Calls, steps, code_steps}
 abbrev pub no_calls : Calls
 no_calls k v = None
 
+-- no codes
+abbrev pub no_subs : ℕ → Option Block
+no_subs k = None
+
 -- the codes of a list, where calls stand within one another at most so many deep
 abbrev pub called : (ℕ → Option Block) → Head → ℕ → Calls
 called subs h zero k v = None

@@ -6,11 +6,10 @@ use Rattle.cast_stub.specs.declared.send.SendOp.{SendOp}
 use Rattle.cast_stub.specs.declared.send.SendOp.TheVariants as op
 use Rattle.cast_stub.specs.Block.{Block, stop, Piece, op_seen, code_seen, cases_seen, Cases, default, case, switch}
 use Rattle.cast_stub.specs.Append.{append, rebase}
-use Rattle.cast_stub.proofs.Appending.{append-stop}
+use Rattle.cast_stub.proofs.Appending.{append-stop, append-assoc, code_seen-append}
 use Rattle.cast_stub.proofs.Pieces.{seen-Ensure, seen-EnsureRow, seen-Align, seen-Chunk, seen-RowCopy, seen-RowSwap, seen-RowWide, seen-Each, seen-Some, seen-Call, seen-Patch, seen-Switch}
 use Rattle.copy_inline.specs.Spliced.{spliced, cases_spliced, pairs_seen, pairs_spliced}
-use Rattle.copy_inline.proofs.Adding.{code_seen-append}
-use Rattle.copy_inline.proofs.Blocks.{append-assoc, rebase-append, rebase-rebase, rebase-none, spliced-append}
+use Rattle.copy_inline.proofs.Blocks.{rebase-append, rebase-rebase, rebase-none, spliced-append}
 
 -- a loop's step
 pub one_more : (inl : ℕ → Block) (q : List ℕ) (ops : List SendOp) (i : ℕ) (d : SendOp) (old mid new : Block) → i < length ops → d ≡ get_or ops i d

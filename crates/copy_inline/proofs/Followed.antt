@@ -8,11 +8,11 @@ use Rattle.mint.specs.Blank.{depth, fields_depth, arms_depth}
 use Rattle.cast_stub.specs.declared.put.Put.{Put}
 use Rattle.cast_stub.specs.Block.{Block, stop, ensure, ensure_row, align, chunk, row_copy, row_swap, row_wide, each, switch, if_there, call, patch, Cases}
 use Rattle.cast_stub.specs.Append.{append, rebase, put_rebased}
-use Rattle.cast_stub.specs.Follows.{flat, IsFlat, IsLoop, IsCount, Going, Child}
+use Rattle.cast_stub.specs.Subs.{no_subs}
+use Rattle.cast_stub.specs.Follows.{flat, IsFlat, IsLoop, IsCount, Going, Child, Loops, FollowsBy, FieldsFollowBy, ArmsFollowBy}
+use Rattle.cast_stub.specs.Turned.{Layout, IsTurned}
 use Rattle.cast_stub.proofs.Appending.{append-stop}
 use Rattle.copy_inline.specs.Spliced.{spliced, cases_spliced, spliced_or_stop, inlined}
-use Rattle.copy_inline.specs.Inlined.{no_subs}
-use Rattle.copy_inline.specs.Turned.{Loops, FollowsBy, FieldsFollowBy, ArmsFollowBy, Layout, IsTurned}
 use Rattle.copy_inline.proofs.Blocks.{rebase-append, spliced-append}
 
 -- ---- chunks and aligns

@@ -2,8 +2,8 @@
 use Rattle.std.proofs.Common.{ℕ, zero, suc, List, Option, Some, None}
 use Rattle.cast_stub.specs.Block.{Block, stop, ensure, ensure_row, align, chunk, row_copy, row_swap, row_wide, each, switch, if_there, call, patch, Cases, no_default, default, case}
 use Rattle.cast_stub.specs.Append.{append, rebase}
+use Rattle.cast_stub.specs.CallFree.{HasNoCall, CasesHaveNoCall}
 use Rattle.copy_inline.specs.Spliced.{spliced, cases_spliced, spliced_or_stop, inlined}
-use Rattle.copy_inline.specs.Inlined.{HasNoCall, CasesHaveNoCall}
 
 append_free : (a b : Block) → HasNoCall a → HasNoCall b → HasNoCall (append a b)
 append_free stop b h k = k

@@ -12,16 +12,16 @@ use Rattle.cast_stub.specs.Block.{Block, code_seen}
 use Rattle.cast_stub.specs.Append.{append, rebase}
 use Rattle.cast_stub.specs.Steps.{steps}
 use Rattle.cast_stub.specs.Parts.{on_some}
-use Rattle.cast_stub.specs.Subs.{called, deepest, sub_at, calls_of}
-use Rattle.cast_stub.specs.Follows.{IsLoop}
+use Rattle.cast_stub.specs.Subs.{no_subs, called, deepest, sub_at, calls_of}
+use Rattle.cast_stub.specs.CallFree.{HasNoCall}
+use Rattle.cast_stub.specs.Follows.{IsLoop, Loops, FollowsBy}
+use Rattle.cast_stub.specs.Turned.{IsTurned}
 use Rattle.copy_inline.specs.Spliced.{inlined, spliced_or_stop, spliced}
-use Rattle.copy_inline.specs.Inlined.{Does, HasNoCall, no_subs, Goes}
-use Rattle.copy_inline.specs.Turned.{Loops, FollowsBy, IsTurned, Turns}
+use Rattle.copy_inline.specs.Inlined.{Does, Goes, Turns}
 use Rattle.copy_inline.proofs.Blocks.{rebase-none}
 use Rattle.copy_inline.proofs.Same.{agrees}
 use Rattle.copy_inline.proofs.Free.{inlined_free}
 use Rattle.copy_inline.proofs.Followed.{AreKept, goes, loops_kept, turns_kept}
-use Rattle.copy_inline.proofs.Plain.{plain, by_loops}
 
 -- the code of a number, behind nothing and for the whole
 pub plainly : (subs : List (List SendOp)) (k n : ℕ) (empty out : List SendOp) (here : List ℕ) → n ≡ 1 + deepest → empty ≡ [] → here ≡ []
@@ -57,9 +57,7 @@ module _ (L : Loops) (kept : AreKept L) (subs : List (List SendOp)) (k : ℕ) (o
       subst (FollowsBy L no_subs t k []) same made
 
 pub does_go : (subs : List (List SendOp)) (k : ℕ) (ops : List SendOp) → k < length subs → code_seen ops ≡ inlined (sub_at subs) (suc deepest) k → Goes subs k (record { ops = ops; subs = [] })
-does_go subs k ops there is nodes sound all =
-    plain no_subs (type_at nodes k) k [] (code_seen ops)
-    (by (λ a. IsLoop) loops_kept subs k ops there is (type_at nodes k) sound (λ (b : Block) e. by_loops (sub_at subs) (type_at nodes k) k [] b (all k b e)))
+does_go subs k ops there is nodes sound all = by (λ a. IsLoop) loops_kept subs k ops there is (type_at nodes k) sound (all k)
 
 pub does_turn : (subs : List (List SendOp)) (k : ℕ) (ops : List SendOp) → k < length subs → code_seen ops ≡ inlined (sub_at subs) (suc deepest) k → Turns subs k (record { ops = ops; subs = [] })
 does_turn subs k ops there is layout nodes sound all =

@@ -1,3 +1,2 @@
 pub mod Inlined
 pub mod Spliced
-pub mod Turned

@@ -4,8 +4,8 @@ ghost use Rattle.std.specs.Prelude.{◌≡◌, ◌<◌, ◌+◌, [], length, OnO
 ghost use Rattle.cast_stub.specs.Append.{append, rebase};
 ghost use Rattle.cast_stub.specs.Block.{stop, op_seen, code_seen};
 ghost use Rattle.cast_stub.specs.Subs.{sub_at, deepest};
-ghost use Rattle.copy_inline.specs.Inlined.{Does, HasNoCall, Goes};
-ghost use Rattle.copy_inline.specs.Turned.{Turns};
+ghost use Rattle.cast_stub.specs.CallFree.{HasNoCall};
+ghost use Rattle.copy_inline.specs.Inlined.{Does, Goes, Turns};
 ghost use Rattle.copy_inline.specs.Spliced.{spliced, inlined, pairs_seen, pairs_spliced};
 
 use crate::copying::{add, path_behind, puts_behind};

@@ -1,9 +1,8 @@
 // Requests as messages.
-ghost use Rattle.std.specs.Prelude.{◌≡◌, ◌<◌, ◌≤◌, ◌+◌, ◌++◌, ◌*◌, length, OnOk};
-ghost use Rattle.kit_base.specs.Bytes.{be};
+ghost use Rattle.std.specs.Prelude.{◌≡◌, ◌<◌, ◌≤◌, ◌+◌, ◌++◌, length, OnOk};
 ghost use Rattle.mint.specs.Typed.{IsWellTyped};
 ghost use Rattle.mint.specs.Values.{seen};
-ghost use Rattle.back_xdr.specs.Leads.{words, lead};
+ghost use Rattle.back_xdr.specs.Leads.{lead};
 ghost use Rattle.flick_engine.specs.Messages.{request_type, message};
 
 use crate::engine::Engine;
@@ -14,7 +13,7 @@ use mint::value::Value;
 use plain_wire::plain_send;
 use raw_buf::SendBuf;
 use std::alloc::Global;
-use wire_def::{Encoding, Head, Order};
+use wire_def::{Encoding, Head};
 
 /// The most octets of a message.
 pub(crate) const LONGEST: usize = 4_194_304;
@@ -60,27 +59,6 @@ impl Engine {
     }
 }
 
-/// Puts a word into the space that is ensured.
-fn put_word(n: u32, buf: &mut SendBuf)
-    requires { 4 ≤ length buf.old.front }
-    ensures done { buf.new.done ≡ buf.old.done ++ be 4 n }
-    ensures ahead { length buf.new.front + 4 ≡ length buf.old.front }
-{
-    buf.put(0, 4, Order::Big, u64::from(n));
-    buf.advance(4);
-}
-
-/// Puts words into the space that is ensured.
-fn put_words(numbers: &[u32], buf: &mut SendBuf)
-    requires { 4 * length numbers.now ≤ length buf.old.front }
-    ensures done { buf.new.done ≡ buf.old.done ++ words numbers.now }
-    ensures ahead { length buf.new.front + 4 * length numbers.now ≡ length buf.old.front }
-{
-    for number in numbers {
-        put_word(*number, buf);
-    }
-}
-
 /// Puts the head of a call into the space that is ensured.
 fn put_lead(procedure: &Procedure, id: u32, buf: &mut SendBuf)
     requires { 40 ≤ length buf.old.front }
@@ -99,7 +77,7 @@ fn put_lead(procedure: &Procedure, id: u32, buf: &mut SendBuf)
         0,
         0,
     ];
-    put_words(&numbers, buf);
+    buf.put_words(&numbers);
 }
 
 /// Puts octets into the space that is ensured.

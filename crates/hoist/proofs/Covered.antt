@@ -9,7 +9,8 @@ use Rattle.wire_def.specs.declared.head.Head.{Head}
 use Rattle.cast_stub.specs.Parts.{on_some, at, elements_in}
 use Rattle.cast_stub.specs.Block.{Block, stop, ensure, ensure_row, align, chunk, row_copy, row_swap, row_wide, each, switch, if_there, call, patch, Cases, no_default, default, case}
 use Rattle.cast_stub.specs.Steps.{Patched, Steps, both, over, if_present, Calls, steps, case_steps, chunk_steps, align_steps}
-use Rattle.hoist.specs.Bound.{ty_at, most, times, bound, cases_bound, Within, element_at, present_at, arms_at, elements_type}
+use Rattle.cast_stub.specs.PartTypes.{ty_at}
+use Rattle.hoist.specs.Bound.{most, times, bound, cases_bound, Within, element_at, present_at, arms_at, elements_type}
 use Rattle.hoist.specs.Hoisted.{Pending, nothing, octets, row, Hoisted, some_octets, closed, Plan, flat, small, loop, apart, enough, beside, settled, Role, is_small, is_row, is_break, Roles, loop_plan, body_plan, each_plan, some_plan, switch_plan, kept, items_in_type, items_at, or_void, or_none, hoisted, cases_hoisted, InType, WhereApart, IsTaken, CasesTaken}
 use Rattle.hoist.specs.Laws.{HoistingCovers}
 use Rattle.hoist.proofs.TypedParts.{length_at, split, each-part, some-part, switch-part}

@@ -15,11 +15,11 @@ use Rattle.cast_stub.specs.Append.{append}
 use Rattle.cast_stub.specs.Steps.{Steps, both, over, if_present, Calls, steps, case_steps, chunk_steps, align_steps}
 use Rattle.cast_stub.specs.Follows as follows
 use Rattle.cast_stub.specs.Follows.{IsFlat, IsCount, Going, Child, Follows, FieldsFollow, ArmsFollow}
-use Rattle.cast_stub.proofs.Appending.{append-stop}
-use Rattle.copy_inline.specs.Inlined.{no_subs}
-use Rattle.copy_inline.proofs.Blocks.{append-assoc}
+use Rattle.cast_stub.specs.Subs.{no_subs}
+use Rattle.cast_stub.specs.PartTypes.{ty_at}
+use Rattle.cast_stub.proofs.Appending.{append-stop, append-assoc}
 use Rattle.hoist.specs.Bare.{IsBare}
-use Rattle.hoist.specs.Bound.{ty_at, most, times, bound, cases_bound, element_at, present_at, arms_at, present_type, arms_type}
+use Rattle.hoist.specs.Bound.{most, times, bound, cases_bound, element_at, present_at, arms_at, present_type, arms_type}
 use Rattle.hoist.specs.Hoisted.{nothing, octets, row, Hoisted, closed, Plan, flat, apart, settled, Role, is_row, is_break, loop_plan, body_plan, each_plan, some_plan, switch_plan, kept, items_at, items_in_type, or_void, or_none, hoisted, cases_hoisted}
 use Rattle.hoist.specs.Regions.{Sizes, AreSizes, Part, row_part, break_part, lone, is_light, with_breaks, broken, parts, fields_parts, arm_parts, groups, on_way, roles, is_hollow}
 use Rattle.hoist.proofs.Grouping.{load, loaded, apart_groups, total, broken_groups, load_lone, load_some, load_small}

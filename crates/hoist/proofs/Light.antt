@@ -11,10 +11,11 @@ use Rattle.cast_stub.specs.Append.{append}
 use Rattle.cast_stub.specs.Steps.{Steps, both, over, if_present, Calls, steps, case_steps, chunk_steps, align_steps}
 use Rattle.cast_stub.specs.Follows as follows
 use Rattle.cast_stub.specs.Follows.{IsFlat, IsCount, Going, Child, Follows, FieldsFollow, ArmsFollow}
-use Rattle.copy_inline.specs.Inlined.{no_subs}
-use Rattle.copy_inline.proofs.Blocks.{append-assoc}
+use Rattle.cast_stub.specs.Subs.{no_subs}
+use Rattle.cast_stub.specs.PartTypes.{ty_at}
+use Rattle.cast_stub.proofs.Appending.{append-assoc}
 use Rattle.hoist.specs.Bare.{IsBare, CasesBare}
-use Rattle.hoist.specs.Bound.{ty_at, bound, cases_bound, element_at, present_at, arms_at, plus}
+use Rattle.hoist.specs.Bound.{bound, cases_bound, element_at, present_at, arms_at, plus}
 use Rattle.hoist.specs.Hoisted.{Pending, nothing, octets, row, Hoisted, closed, Plan, flat, small, raised, settled, Role, is_small, loop_plan, body_plan, each_plan, some_plan, switch_plan, kept, items_at, or_void, or_none, hoisted, cases_hoisted}
 use Rattle.hoist.specs.Regions.{Sizes, AreSizes, on_way, roles, role_at, top_at, or_zero, is_light, fields_top, is_hollow, are_hollow}
 use Rattle.hoist.proofs.Weighing.{spent, weigh, weigh_less, weigh_quiet, low, high, least, greatest, flat_least, small_least}

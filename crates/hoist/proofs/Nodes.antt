@@ -11,8 +11,9 @@ use Rattle.cast_stub.specs.declared.send.SendOp.{SendOp}
 use Rattle.cast_stub.specs.declared.send.SendOp.TheVariants as op
 use Rattle.cast_stub.specs.Parts.{on_some}
 use Rattle.cast_stub.specs.Block.{Block, Piece, op_seen, code_seen, cases_seen}
+use Rattle.cast_stub.specs.PartTypes.{field_type, ty_at}
 use Rattle.cast_stub.proofs.Pieces.{seen-Ensure, seen-EnsureRow, seen-Align, seen-Chunk, seen-RowCopy, seen-RowSwap, seen-RowWide, seen-Each, seen-Some, seen-Call, seen-Patch, seen-Switch}
-use Rattle.hoist.specs.Bound.{field_type, ty_at, most, times, plus, greater, bound, cases_bound, element_at, present_at, arms_at, elements_type}
+use Rattle.hoist.specs.Bound.{most, times, plus, greater, bound, cases_bound, element_at, present_at, arms_at, elements_type}
 
 abbrev pair : Ty → Count → Ty × Count
 pair t n = (t, n)

@@ -1,8 +1,8 @@
 -- Steps of the way to a part.
 use Rattle.std.proofs.Common.{◌≡◌, ℕ, List, [], ◌∷◌, length, Bool, true, false, ◌||◌, Option, Some, None, refl, sym, ap, ◌∙◌}
 use Rattle.mint.specs.Types.{Ty}
-use Rattle.hoist.specs.Bound.{in_group_type}
 use Rattle.hoist.specs.Regions.{Sizes, is_light, further_on, on_way}
+use Rattle.cast_stub.specs.PartTypes.{in_group_type}
 
 -- a small first node is on each way
 pub light-first : (z : Sizes) (p : List ℕ) (t : Ty) → true ≡ is_light (z.top t) → true ≡ on_way z p t

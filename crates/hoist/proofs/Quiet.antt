@@ -14,7 +14,7 @@ use Rattle.cast_stub.specs.Append.{append}
 use Rattle.cast_stub.specs.Steps.{Pad, Stored, Patched, Steps, both, over, if_present, Calls, steps, case_steps, chunk_steps, align_steps, is_width}
 use Rattle.cast_stub.specs.Follows as follows
 use Rattle.cast_stub.specs.Follows.{IsFlat, IsLoop, IsCount, Going, Child, Follows, FieldsFollow, ArmsFollow}
-use Rattle.copy_inline.specs.Inlined.{no_subs}
+use Rattle.cast_stub.specs.Subs.{no_subs}
 use Rattle.hoist.specs.Bare.{IsBare, CasesBare}
 use Rattle.hoist.proofs.Weighing.{spent, checks-append}
 

@@ -7,7 +7,7 @@ use Rattle.mint.specs.declared.kind.Count.TheVariants.{Exactly, AtMost, Any}
 use Rattle.mint.specs.Types.{Scalar, number, Array, text, row_of, Ty, void_type, scalar_type, array_type, group_type, items_type, choice_type, maybe_type, Tys, no_fields, field, Arms, no_other, others, arm_type}
 use Rattle.wire_def.specs.declared.encoding.Encoding.TheVariants.{Xdr}
 use Rattle.wire_def.specs.Scalars.{at_least_32, own_width, width_of}
-use Rattle.wire_def.specs.Arrays.{counted, kind_of, is_octets}
+use Rattle.wire_def.specs.Arrays.{counted, kind_of, is_octets, count_of}
 use Rattle.wire_def.specs.Send.{flag}
 use Rattle.wire_def.proofs.Sound.{fills, fields_fill, IsCount, TakesRoom, FieldsTakeRoom, room}
 use Rattle.storage_class.specs.declared.span.Span.{Span}
@@ -16,7 +16,7 @@ use Rattle.storage_class.specs.Classing.{exactly, at_most, top, loose, behind, e
 use Rattle.storage_class.specs.Spans.{scalar_span, counted_span, element_length, elements_length, span, fields_span, arms_span}
 use Rattle.cast_stub.specs.Parts.{IsThere}
 use Rattle.hoist.specs.Bound.{most}
-use Rattle.hoist.specs.Regions.{AreSizes, fields_top, is_hollow, are_hollow, ArmsBounded, IsCounted, count_in}
+use Rattle.hoist.specs.Regions.{AreSizes, fields_top, is_hollow, are_hollow, ArmsBounded, IsCounted}
 use Rattle.hoist.specs.SpanSizes.{is_fixed, count_length, sizes}
 
 -- ---- greatest lengths of wholes
@@ -88,7 +88,7 @@ counted_there (Exactly n) f h = tt
 counted_there (AtMost n) f h = tt
 counted_there Any f h = h
 
-array_there : (a : Array) → IsThere (top (span Xdr (array_type a))) → IsThere (most (count_in a))
+array_there : (a : Array) → IsThere (top (span Xdr (array_type a))) → IsThere (most (count_of a))
 array_there (text c) h = counted_there c _ h
 array_there (row_of k c) h = counted_there c _ h
 

@@ -5,8 +5,9 @@ use Rattle.mint.specs.declared.kind.Count.{Count}
 use Rattle.mint.specs.Types.{Ty, void_type, scalar_type, array_type, group_type, items_type, choice_type, maybe_type, Arms, no_other, others, arm_type}
 use Rattle.cast_stub.specs.Parts.{on_some, IsThere}
 use Rattle.cast_stub.specs.Block.{Block, stop, ensure, ensure_row, align, chunk, row_copy, row_swap, row_wide, each, switch, if_there, call, patch, Cases, no_default, default, case}
+use Rattle.cast_stub.specs.PartTypes.{ty_at}
 use Rattle.hoist.specs.Bare.{IsBare, CasesBare}
-use Rattle.hoist.specs.Bound.{ty_at, most, plus, times, greater, bound, cases_bound, element_at, present_at, arms_at}
+use Rattle.hoist.specs.Bound.{most, plus, times, greater, bound, cases_bound, element_at, present_at, arms_at}
 use Rattle.hoist.specs.Framed.{OfItems, IfTyped, RowsAreBare, CasesRowsAreBare}
 use Rattle.hoist.specs.Hoisted.{nothing, octets, row, Hoisted, closed, Plan, flat, small, loop, apart, enough, beside, settled, Roles, Role, is_small, is_row, is_break, loop_plan, body_plan, each_plan, some_plan, switch_plan, kept, items_in_type, items_at, or_void, or_none, hoisted, cases_hoisted, InType, WhereApart, IsTaken, CasesTaken}
 use Rattle.hoist.specs.Laws.{HoistingSparesRows}

@@ -5,7 +5,7 @@ use Rattle.mint.specs.Types.{Ty, array_type, group_type, items_type, choice_type
 use Rattle.mint.specs.Values.{Val, group, items, arm, absent, present, Vals, val}
 use Rattle.cast_stub.specs.Parts.{on_some, at, elements_in, IsThere}
 use Rattle.cast_stub.specs.Parts as part
-use Rattle.hoist.specs.Bound.{ty_at}
+use Rattle.cast_stub.specs.PartTypes.{ty_at}
 use Rattle.hoist.specs.Hoisted.{Pending, nothing, octets, row, Hoisted, loop, settled, Role, is_small, is_row, loop_plan}
 use Rattle.hoist.specs.Regions.{Sizes, Part, lone, is_light, light_or, or_zero, parts, on_way, roles, role_at, role_of, top_at}
 use Rattle.hoist.proofs.Weighing.{low, high}

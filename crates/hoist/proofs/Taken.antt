@@ -8,10 +8,10 @@ use Rattle.cast_stub.specs.Block.{Block, stop, align, chunk, each, switch, if_th
 use Rattle.cast_stub.specs.Append.{append}
 use Rattle.cast_stub.specs.Follows as follows
 use Rattle.cast_stub.specs.Follows.{IsFlat, IsCount, Going, Child, Follows, FieldsFollow, ArmsFollow}
-use Rattle.cast_stub.proofs.Appending.{append-stop}
-use Rattle.copy_inline.specs.Inlined.{no_subs}
-use Rattle.copy_inline.proofs.Blocks.{append-assoc}
-use Rattle.hoist.specs.Bound.{ty_at, plus, bound, element_at, present_at, arms_at, present_type, arms_type}
+use Rattle.cast_stub.specs.Subs.{no_subs}
+use Rattle.cast_stub.specs.PartTypes.{ty_at}
+use Rattle.cast_stub.proofs.Appending.{append-stop, append-assoc}
+use Rattle.hoist.specs.Bound.{plus, bound, element_at, present_at, arms_at, present_type, arms_type}
 use Rattle.hoist.specs.Framed.{lead_length, IsTail}
 use Rattle.hoist.specs.Hoisted.{Plan, flat, small, loop, apart, each_plan, some_plan, switch_plan, items_in_type, items_at, InType, WhereApart, IsTaken, CasesTaken}
 use Rattle.hoist.specs.Laws.{FramedIsTaken}

@@ -13,11 +13,13 @@ use Rattle.cast_stub.specs.Block.{Block, stop, align, chunk, each, switch, if_th
 use Rattle.cast_stub.specs.Append.{append}
 use Rattle.cast_stub.specs.Follows as follows
 use Rattle.cast_stub.specs.Follows.{IsFlat, IsLoop, IsCount, Going, Child, Follows, FieldsFollow, ArmsFollow}
+use Rattle.cast_stub.specs.Subs.{no_subs}
+use Rattle.cast_stub.specs.PartTypes.{field_type, in_group_type, ty_at}
 use Rattle.cast_stub.proofs.Rebasing.{at-append}
-use Rattle.copy_inline.specs.Inlined.{no_subs}
-use Rattle.hoist.specs.Bound.{field_type, in_group_type, ty_at, most, plus, times, greater, bound, cases_bound, element_at, present_at, arms_at, elements_type, present_type, arms_type}
-use Rattle.hoist.specs.Regions.{Sizes, on_way, further_on, is_light, AreSizes, fields_top, ArmsBounded, count_in}
+use Rattle.hoist.specs.Bound.{most, plus, times, greater, bound, cases_bound, element_at, present_at, arms_at, elements_type, present_type, arms_type}
+use Rattle.hoist.specs.Regions.{Sizes, on_way, further_on, is_light, AreSizes, fields_top, ArmsBounded}
 use Rattle.hoist.proofs.Quiet.{mapped, own}
+use Rattle.wire_def.specs.Arrays.{count_of}
 
 -- ---- ways
 
@@ -125,7 +127,7 @@ pair t n = (t, n)
 pub items-element : (p : List ℕ) (t0 : Ty) (c : Count) (t : Ty) → ty_at p t0 ≡ Some (items_type c t) → element_at p t0 ≡ Some (pair t c)
 items-element p t0 c t e = ap (λ (x : Option Ty). on_some x elements_type) e
 
-pub array-element : (p : List ℕ) (t0 : Ty) (a : Array) → ty_at p t0 ≡ Some (array_type a) → (u : Ty) × (element_at p t0 ≡ Some (pair u (count_in a)))
+pub array-element : (p : List ℕ) (t0 : Ty) (a : Array) → ty_at p t0 ≡ Some (array_type a) → (u : Ty) × (element_at p t0 ≡ Some (pair u (count_of a)))
 array-element p t0 (text c) e = (scalar_type (number kind.Char), ap (λ (x : Option Ty). on_some x elements_type) e)
 array-element p t0 (row_of k c) e = (scalar_type (number k), ap (λ (x : Option Ty). on_some x elements_type) e)
 
@@ -155,7 +157,7 @@ module _ (z : Sizes) (sizes : AreSizes z) where
     there (scalar_type s) below p b t0 e top h = flat_there t0 b h.0 h.1
     there (array_type a) below p b t0 e top h =
         let u = array-element p t0 a e in
-        let x = loop_there p t0 u.0 (count_in a) h.1 u.1 (sizes.array a top) (flat_there u.0 h.1 h.4 h.8) in
+        let x = loop_there p t0 u.0 (count_of a) h.1 u.1 (sizes.array a top) (flat_there u.0 h.1 h.4 h.8) in
         subst (λ (y : Block). IsThere (bound t0 y)) (sym h.6)
         (bound-append t0 h.0 (each p h.1 h.2) (flat_there t0 h.0 h.3 h.7) (there_plus (loop_bound p t0 h.1) (bound t0 h.2) x (flat_there t0 h.2 h.5 h.9)))
     there (group_type ts) below p b t0 e top h =
@@ -190,7 +192,7 @@ module _ (z : Sizes) (sizes : AreSizes z) where
         (subst (λ (q : Bool). IsThere (if q then greater (bound t h.0) (cases_bound arms h.1) else None)) (sym (int_refl n)) both)
 
   pub array_there : (a : Array) (p : List ℕ) (b : Block) (n : ℕ) (t0 : Ty) → ty_at p t0 ≡ Some (array_type a) → IsThere (z.top (array_type a)) → follows.flat b ≡ Some n → IsThere (loop_bound p t0 b)
-  array_there a p b n t0 e top f = let u = array-element p t0 a e in loop_there p t0 u.0 (count_in a) b u.1 (sizes.array a top) (flat_there u.0 b n f)
+  array_there a p b n t0 e top f = let u = array-element p t0 a e in loop_there p t0 u.0 (count_of a) b u.1 (sizes.array a top) (flat_there u.0 b n f)
 
   pub items_there : (c : Count) (t : Ty) (below : ℕ) (p : List ℕ) (b : Block) (t0 : Ty) → ty_at p t0 ≡ Some (items_type c t) → IsThere (z.top (items_type c t)) → Follows no_subs t below [] b → IsThere (loop_bound p t0 b)
   items_there c t below p b t0 e top h = items_given c t p b t0 e top (there t below [] b t refl (sizes.items c t top).1 h)
@@ -206,4 +208,4 @@ module _ (z : Sizes) (sizes : AreSizes z) where
   turn_there c t below p b t0 e top h = there_on (element_at p t0) (λ (x : Ty × Count). bound x.0 b) (pair t c) (items-element p t0 c t e) (there t below [] b t refl top h)
 
   pub row_turn_there : (a : Array) (p : List ℕ) (b : Block) (n : ℕ) (t0 : Ty) → ty_at p t0 ≡ Some (array_type a) → follows.flat b ≡ Some n → IsThere (on_some (element_at p t0) (λ e. bound e.0 b))
-  row_turn_there a p b n t0 e f = let u = array-element p t0 a e in there_on (element_at p t0) (λ (x : Ty × Count). bound x.0 b) (pair u.0 (count_in a)) u.1 (flat_there u.0 b n f)
+  row_turn_there a p b n t0 e f = let u = array-element p t0 a e in there_on (element_at p t0) (λ (x : Ty × Count). bound x.0 b) (pair u.0 (count_of a)) u.1 (flat_there u.0 b n f)

@@ -1,35 +1,20 @@
 -- The most octets that a block appends, by the type of its value.
-use Rattle.std.specs.Prelude.{ℕ, zero, suc, ◌+◌, ◌-◌, ◌*◌, ◌≤◌, max, List, [], ◌∷◌, length, Option, None, Some, if◌then◌else◌}
+use Rattle.std.specs.Prelude.{ℕ, ◌+◌, ◌-◌, ◌*◌, ◌≤◌, max, List, [], ◌∷◌, length, Option, None, Some, if◌then◌else◌}
 use Rattle.std.specs.Ordering.{int_eq}
 use Rattle.mint.specs.declared.kind.Kind.TheVariants as kind
 use Rattle.mint.specs.declared.kind.Count.{Count}
 use Rattle.mint.specs.declared.kind.Count.TheVariants.{Exactly, AtMost, Any}
-use Rattle.mint.specs.Types.{number, text, row_of, Ty, scalar_type, array_type, group_type, items_type, choice_type, maybe_type, Tys, no_fields, field, Arms, no_other, others, arm_type}
+use Rattle.mint.specs.Types.{number, text, row_of, Ty, scalar_type, array_type, items_type, choice_type, maybe_type, Arms, no_other, others, arm_type}
 use Rattle.mint.specs.Typed.{IsOf}
 use Rattle.mint.specs.Values.{Val}
 use Rattle.wire_def.specs.declared.head.Head.{Head}
 use Rattle.wire_def.specs.Scalars.{gap}
 use Rattle.cast_stub.specs.Parts.{on_some}
+use Rattle.cast_stub.specs.PartTypes.{ty_at}
 use Rattle.cast_stub.specs.Block.{Block, stop, align, chunk, each, switch, if_there, patch, Cases, no_default, default, case}
 use Rattle.cast_stub.specs.Steps.{Step, Room, Pad, Stored, Widened, Copied, Patched, Steps, Calls, steps}
 
 -- ---- types of parts
-
--- the type of a field
-abbrev pub field_type : ℕ → Tys → Option Ty
-field_type n no_fields = None
-field_type zero (field t ts) = Some t
-field_type (suc n) (field t ts) = field_type n ts
-
--- the type of a field of a group
-abbrev pub in_group_type : ℕ → Ty → Option Ty
-in_group_type n (group_type ts) = field_type n ts
-in_group_type n _ = None
-
--- the type of the part at a path
-abbrev pub ty_at : List ℕ → Ty → Option Ty
-ty_at [] t = Some t
-ty_at (n ∷ p) t = on_some (in_group_type n t) (ty_at p)
 
 -- the type of an element, and the count
 abbrev pub elements_type : Ty → Option (Ty × Count)

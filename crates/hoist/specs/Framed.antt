@@ -5,9 +5,10 @@ use Rattle.cast_stub.specs.Block.{Block, stop, ensure, ensure_row, align, chunk,
 use Rattle.cast_stub.specs.Append.{append}
 use Rattle.cast_stub.specs.Steps.{Step, Room, Pad, Stored, Widened, Copied, Patched}
 use Rattle.cast_stub.specs.Follows.{Follows}
-use Rattle.copy_inline.specs.Inlined.{no_subs}
+use Rattle.cast_stub.specs.Subs.{no_subs}
+use Rattle.cast_stub.specs.PartTypes.{ty_at}
 use Rattle.hoist.specs.Bare.{IsBare}
-use Rattle.hoist.specs.Bound.{ty_at, present_at, arms_at}
+use Rattle.hoist.specs.Bound.{present_at, arms_at}
 
 -- the octets of chunks alone
 abbrev pub lead_length : Block → Option ℕ

@@ -3,7 +3,8 @@ use Rattle.std.specs.Prelude.{◌≡◌, ℕ, zero, suc, ◌+◌, ◌-◌, List,
 use Rattle.mint.specs.Types.{Ty, void_type, items_type, Arms, no_other, others, arm_type}
 use Rattle.cast_stub.specs.Parts.{on_some}
 use Rattle.cast_stub.specs.Block.{Block, stop, ensure, ensure_row, align, chunk, each, switch, if_there, patch, Cases, no_default, default, case}
-use Rattle.hoist.specs.Bound.{ty_at, most, times, element_at, present_at, arms_at, bound, cases_bound}
+use Rattle.cast_stub.specs.PartTypes.{ty_at}
+use Rattle.hoist.specs.Bound.{most, times, element_at, present_at, arms_at, bound, cases_bound}
 
 -- what is ensured in front of the operations so far
 pub data Pending : Type 0 where

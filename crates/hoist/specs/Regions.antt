@@ -6,8 +6,10 @@ use Rattle.mint.specs.declared.kind.Count.TheVariants.{Exactly}
 use Rattle.mint.specs.Types.{Scalar, Array, text, row_of, Ty, void_type, scalar_type, array_type, group_type, items_type, choice_type, maybe_type, Tys, no_fields, field, Arms, no_other, others, arm_type}
 use Rattle.mint.specs.Sound.{IsSound}
 use Rattle.mint.specs.Values.{Val, group, items, arm, absent, present, Vals, no_more, val}
+use Rattle.wire_def.specs.Arrays.{count_of}
 use Rattle.cast_stub.specs.Parts.{IsThere}
-use Rattle.hoist.specs.Bound.{in_group_type, ty_at, most, plus}
+use Rattle.cast_stub.specs.PartTypes.{in_group_type, ty_at}
+use Rattle.hoist.specs.Bound.{most, plus}
 use Rattle.hoist.specs.Hoisted.{enough, Role, is_small, is_row, is_break, Roles}
 
 -- what is known of the lengths of what is sent
@@ -153,11 +155,6 @@ ArmsBounded z no_other = Unit {0}
 ArmsBounded z (others t) = IsThere (z.top t)
 ArmsBounded z (arm_type n t arms) = IsThere (z.top t) × ArmsBounded z arms
 
--- the count of a row or text
-abbrev pub count_in : Array → Count
-count_in (text c) = c
-count_in (row_of k c) = c
-
 -- a list that is sent with its count
 abbrev pub IsCounted : Count → Type 0
 IsCounted (Exactly n) = ⊥
@@ -168,7 +165,7 @@ pub record AreSizes (z : Sizes) : Type 0 where
   pub nothing : z.top void_type ≡ Some 0
   pub scalar : (s : Scalar) → (n : ℕ) × (z.top (scalar_type s) ≡ Some n) × (1 ≤ n) × (n ≤ enough)
   pub group : (ts : Tys) (n : ℕ) → z.top (group_type ts) ≡ Some n → (m : ℕ) × (fields_top z ts ≡ Some m) × (m ≤ n)
-  pub array : (a : Array) → IsThere (z.top (array_type a)) → IsThere (most (count_in a))
+  pub array : (a : Array) → IsThere (z.top (array_type a)) → IsThere (most (count_of a))
   pub items : (c : Count) (t : Ty) → IsThere (z.top (items_type c t)) → IsThere (most c) × IsThere (z.top t)
   pub choice : (s : Scalar) (arms : Arms) → IsThere (z.top (choice_type s arms)) → ArmsBounded z arms
   pub maybe : (t : Ty) → IsThere (z.top (maybe_type t)) → IsThere (z.top t)

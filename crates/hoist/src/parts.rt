@@ -1,7 +1,7 @@
 // The nodes of parts.
 ghost use Rattle.std.specs.Prelude.{◌≡◌, ◌<◌, ◌≤◌, length, option_map, IfSome};
 ghost use Rattle.mint.specs.Types.{type_at};
-ghost use Rattle.hoist.specs.Bound.{ty_at};
+ghost use Rattle.cast_stub.specs.PartTypes.{ty_at};
 
 use mint::node::Node;
 use mint::table::{Mint, NodeId};

@@ -4,10 +4,10 @@ ghost use Rattle.wire_def.specs.declared.encoding.Encoding.TheVariants.{Xdr};
 ghost use Rattle.mint.specs.Types.{type_at};
 ghost use Rattle.storage_class.specs.Classing.{top};
 ghost use Rattle.storage_class.specs.Spans.{span};
-ghost use Rattle.hoist.specs.Bound.{in_group_type};
 ghost use Rattle.hoist.specs.Regions.{on_way, is_light, is_alike, role_at, top_at};
 ghost use Rattle.hoist.specs.SpanSizes.{sizes, is_fixed};
 ghost use Rattle.hoist.specs.Seen.{AreClasses, role_seen, xdr_roles};
+ghost use Rattle.cast_stub.specs.PartTypes.{in_group_type};
 
 use crate::parts::node_at;
 use mint::node::Node;

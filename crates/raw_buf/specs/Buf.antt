@@ -1,5 +1,5 @@
 -- A buffer as its octets, the space ensured behind them, and what its calls have cost.
-use Rattle.std.specs.Prelude.{◌≡◌, ◌⊎◌, ℕ, max, List, [], length, take}
+use Rattle.std.specs.Prelude.{◌≡◌, ◌⊎◌, ℕ, max, List, length, take}
 use Rattle.kit_base.specs.Bytes.{be, le}
 use Rattle.kit_base.specs.Causes.{raised}
 use Rattle.wire_def.specs.declared.head.Order.{Order}

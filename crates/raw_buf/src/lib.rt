@@ -5,6 +5,7 @@
 mod buffer;
 mod tally;
 mod view;
+mod words;
 
 pub use buffer::SendBuf;
 pub use tally::Tally;

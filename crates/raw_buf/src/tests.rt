@@ -79,3 +79,25 @@ fn octets_that_are_done_are_patched(rt: HostRuntime) -> Result<(), Fail> {
     assert_eq!(rt; buf.tally().stores, 3);
     Ok(())
 }
+
+#[test]
+fn words_are_appended_in_turn(rt: HostRuntime) -> Result<(), Fail> {
+    let mut buf = SendBuf::new(rt.alloc())?;
+    buf.ensure(12)?;
+    buf.put_word(0x0102_0304);
+    buf.put_words(&[5, 0xffff_fffe]);
+    buf.put_words(&[]);
+    assert_eq!(rt;
+        buf.octets(),
+        b"\x01\x02\x03\x04\x00\x00\x00\x05\xff\xff\xff\xfe".as_slice()
+    );
+    let cost = Tally {
+        checks: 1,
+        moves: 3,
+        stores: 3,
+        rows: 0,
+    };
+    assert_eq!(rt; buf.tally(), cost);
+    assert_eq!(rt; buf.spent(), cost);
+    Ok(())
+}

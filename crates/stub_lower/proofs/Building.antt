@@ -9,9 +9,8 @@ use Rattle.cast_stub.specs.declared.send.SendOp.TheVariants as op
 use Rattle.cast_stub.specs.Block.{Block, stop, call, Cases, case, switch, Piece, op_seen, code_seen, cases_seen}
 use Rattle.cast_stub.specs.Append.{append}
 use Rattle.cast_stub.proofs.Pieces.{seen-Align, seen-Chunk, seen-Each, seen-Some, seen-Call, seen-Switch}
-use Rattle.cast_stub.proofs.Appending.{append-stop}
+use Rattle.cast_stub.proofs.Appending.{append-stop, append-assoc}
 use Rattle.stub_lower.specs.Codes.{call_here, calls_from, default_at, cases_at, IsCall}
-use Rattle.stub_lower.proofs.Blocks.{append-assoc}
 
 pub ruleset building = (seen-Align, seen-Chunk, seen-Each, seen-Some, seen-Call, seen-Switch, append-stop, append-assoc)
 

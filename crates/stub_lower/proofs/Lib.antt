@@ -1,10 +1,8 @@
 pub mod Adding
-pub mod Blocks
 pub mod Building
 pub mod Encoded
 pub mod Following
 pub mod Sending
-pub mod Turning
 pub mod Whole
 pub mod Words
 pub mod Writing

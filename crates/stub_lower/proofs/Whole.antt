@@ -6,7 +6,7 @@ use Rattle.std.proofs.lemmas.List.{take_all}
 use Rattle.mint.specs.declared.node.Node.{Node}
 use Rattle.mint.specs.Blank.{depth}
 use Rattle.mint.specs.Sound.{IsSound}
-use Rattle.mint.specs.Types.{Ty, group_type, items_type, choice_type, maybe_type, type_at, unfolded, level, HasChildrenBelow, IsTable}
+use Rattle.mint.specs.Types.{Array, Ty, group_type, items_type, choice_type, maybe_type, type_at, unfolded, level, HasChildrenBelow, IsTable}
 use Rattle.mint.specs.Typed.{IsOf}
 use Rattle.mint.specs.Values.{Val}
 use Rattle.mint.proofs.Unfolding.{type_at-level}
@@ -18,17 +18,17 @@ use Rattle.wire_def.specs.Send.{send}
 use Rattle.cast_stub.specs.declared.send.SendOp.{SendOp}
 use Rattle.cast_stub.specs.Parts.{on_some}
 use Rattle.cast_stub.specs.Block.{Block, code_seen}
-use Rattle.cast_stub.specs.Follows.{Follows}
+use Rattle.cast_stub.specs.Follows.{IsLoop, Loops, FollowsBy, AllFollow}
 use Rattle.cast_stub.specs.Meaning.{wrote}
 use Rattle.cast_stub.specs.Steps.{steps}
 use Rattle.cast_stub.specs.Subs.{called, deepest, sub_at}
-use Rattle.stub_lower.specs.Codes.{node_code}
-use Rattle.stub_lower.specs.Turns.{HasTurns}
-use Rattle.stub_lower.specs.Lowered.{CodesSend, CodesFollow, CodesTurn}
+use Rattle.cast_stub.specs.Turned.{IsTurned, AllTurned}
+use Rattle.stub_lower.specs.Codes.{array_code, node_code}
+use Rattle.stub_lower.specs.Layouts.{layout_of}
+use Rattle.stub_lower.specs.Lowered.{CodesSend}
 use Rattle.stub_lower.proofs.Encoded.{xdr_scalar, xdr_array}
-use Rattle.stub_lower.proofs.Following.{node-follows}
+use Rattle.stub_lower.proofs.Following.{array_turned, array_loops, node-follows}
 use Rattle.stub_lower.proofs.Sending.{node-sends}
-use Rattle.stub_lower.proofs.Turning.{node-turns}
 use Rattle.stub_lower.proofs.Writing.{Sends}
 
 -- ---- node by node
@@ -130,30 +130,28 @@ module _ (e : Encoding) (nodes : List Node) (subs : List (List SendOp)) (whole :
   sub_is : (k : ℕ) (m : Node) → slice_get nodes k ≡ Some m → sub_at subs k ≡ Some (node_code e m)
   sub_is k m is = get-map code_seen subs k ∙ ap (λ (l : List Block). slice_get l k) all_codes ∙ sym (get-map (node_code e) nodes k) ∙ ap (option_map (node_code e)) is
 
-  code_of : (k : ℕ) (ops : List SendOp) → slice_get subs k ≡ Some ops → Stands e nodes k (code_seen ops)
-  code_of k ops is = stands e nodes k (slice_get nodes k) (code_seen ops) refl
-      (sym (ap (option_map code_seen) is) ∙ get-map code_seen subs k ∙ ap (λ (l : List Block). slice_get l k) all_codes ∙ sym (get-map (node_code e) nodes k))
+  code_at : (k : ℕ) (b : Block) → sub_at subs k ≡ Some b → Stands e nodes k b
+  code_at k b is = stands e nodes k (slice_get nodes k) b refl (sym is ∙ get-map code_seen subs k ∙ ap (λ (l : List Block). slice_get l k) all_codes ∙ sym (get-map (node_code e) nodes k))
 
-  pub codes_turn : CodesTurn e nodes subs
-  codes_turn k ops is =
-      let s = code_of k ops is in
-      subst (λ (b : Block). HasTurns e b (type_at nodes k)) (sym s.made) (subst (HasTurns e (node_code e s.node)) (sym (type_at-level nodes k s.node below s.is)) (node-turns e (unfolded nodes) s.node))
+  code_of : (k : ℕ) (ops : List SendOp) → slice_get subs k ≡ Some ops → Stands e nodes k (code_seen ops)
+  code_of k ops is = code_at k (code_seen ops) (ap (option_map code_seen) is)
 
 -- ---- over XDR
 
 module _ (nodes : List Node) (subs : List (List SendOp)) (whole : AreLowered Xdr nodes (length nodes) subs) where
-  follows : (n k : ℕ) (m : Node) → k < n → slice_get nodes k ≡ Some m → Follows (sub_at subs) (type_at nodes k) k [] (node_code Xdr m)
-  follows zero k m lt is = absurd (omega (arith, lt))
-  follows (suc n) k m lt is =
-      subst (λ (t : Ty). Follows (sub_at subs) t k [] (node_code Xdr m)) (sym (type_at-level nodes k m (below Xdr nodes subs whole) is))
-      (node-follows (sub_at subs) (unfolded nodes) k
-      (λ (i : ℕ) i_lt. let f = found nodes i (omega (arith, i_lt, in_list nodes k m is)) in (node_code Xdr f.node, sub_is Xdr nodes subs whole i f.node f.is, follows n i f.node (omega (arith, i_lt, lt)) f.is))
-      m (below Xdr nodes subs whole k m is))
+  module _ (L : Loops) (array : (a : Array) → L a [] (array_code Xdr a)) where
+    follows : (n k : ℕ) (m : Node) → k < n → slice_get nodes k ≡ Some m → FollowsBy L (sub_at subs) (type_at nodes k) k [] (node_code Xdr m)
+    follows zero k m lt is = absurd (omega (arith, lt))
+    follows (suc n) k m lt is =
+        subst (λ (t : Ty). FollowsBy L (sub_at subs) t k [] (node_code Xdr m)) (sym (type_at-level nodes k m (below Xdr nodes subs whole) is))
+        (node-follows L array (sub_at subs) (unfolded nodes) k
+        (λ (i : ℕ) i_lt. let f = found nodes i (omega (arith, i_lt, in_list nodes k m is)) in (node_code Xdr f.node, sub_is Xdr nodes subs whole i f.node f.is, follows n i f.node (omega (arith, i_lt, lt)) f.is))
+        m (below Xdr nodes subs whole k m is))
 
-  pub codes_follow : CodesFollow nodes subs
-  codes_follow k ops is =
-      let s = code_of Xdr nodes subs whole k ops is in
-      subst (Follows (sub_at subs) (type_at nodes k) k []) (sym s.made) (follows (suc k) k s.node (omega arith) s.is)
+    pub codes_follow : (k : ℕ) (b : Block) → sub_at subs k ≡ Some b → FollowsBy L (sub_at subs) (type_at nodes k) k [] b
+    codes_follow k b is =
+        let s = code_at Xdr nodes subs whole k b is in
+        subst (FollowsBy L (sub_at subs) (type_at nodes k) k []) (sym s.made) (follows (suc k) k s.node (omega arith) s.is)
 
   -- a node's code, where calls may stand so deep within one another
   node_sent : (h : Head) (n k : ℕ) (m : Node) (p : ℕ) (v : Val) → slice_get nodes k ≡ Some m → depth (type_at nodes k) ≤ suc n → IsOf (type_at nodes k) v
@@ -201,5 +199,10 @@ ended e nodes id count subs all past within whole =
 pub all_send : (e : Encoding) (nodes : List Node) (subs : List (List SendOp)) → e ≡ Xdr → AreLowered e nodes (length nodes) subs → CodesSend e nodes subs
 all_send e nodes subs xdr whole = subst (λ (f : Encoding). CodesSend f nodes subs) (sym xdr) (codes_send nodes subs (subst (λ (f : Encoding). AreLowered f nodes (length nodes) subs) xdr whole))
 
-pub all_follow : (e : Encoding) (nodes : List Node) (subs : List (List SendOp)) → e ≡ Xdr → AreLowered e nodes (length nodes) subs → CodesFollow nodes subs
-all_follow e nodes subs xdr whole = codes_follow nodes subs (subst (λ (f : Encoding). AreLowered f nodes (length nodes) subs) xdr whole)
+pub all_follow : (e : Encoding) (nodes : List Node) (subs : List (List SendOp)) → e ≡ Xdr → AreLowered e nodes (length nodes) subs → AllFollow nodes subs
+all_follow e nodes subs xdr whole = codes_follow nodes subs (subst (λ (f : Encoding). AreLowered f nodes (length nodes) subs) xdr whole) (λ a. IsLoop) array_loops
+
+pub all_turned : (e : Encoding) (nodes : List Node) (subs : List (List SendOp)) → e ≡ Xdr → AreLowered e nodes (length nodes) subs → AllTurned (layout_of e) nodes subs
+all_turned e nodes subs xdr whole =
+    subst (λ (f : Encoding). AllTurned (layout_of f) nodes subs) (sym xdr)
+    (codes_follow nodes subs (subst (λ (f : Encoding). AreLowered f nodes (length nodes) subs) xdr whole) (IsTurned (layout_of Xdr)) array_turned)

@@ -1,5 +1,5 @@
 -- The octets of a number, as a put stores it and as it is sent.
-use Rattle.std.proofs.Common.{◌≡◌, ℕ, ◌-◌, ◌%◌, ◌<◌, ◌≤◌, ℤ, pos, negsuc, [], ◌∷◌, Option, Some, None, refl, ap, ◌∙◌, arith, Bool, true, false, if◌then◌else◌, IsTrue}
+use Rattle.std.proofs.Common.{◌≡◌, ℕ, ◌-◌, ◌%◌, ◌<◌, ◌≤◌, ℤ, pos, negsuc, [], ◌∷◌, Option, Some, refl, ap, ◌∙◌, arith, IsTrue}
 use Rattle.std.specs.Prelude.{nat_lt}
 use Rattle.std.specs.Int.{w32, w64}
 use Rattle.std.proofs.lemmas.Bool.{ltb-true, lt-ltb}
@@ -13,16 +13,13 @@ use Rattle.wire_def.specs.declared.head.Order.TheVariants.{Big}
 use Rattle.wire_def.specs.Scalars.{gap, scalar_octets, number_octets, residue, width_of}
 use Rattle.cast_stub.specs.Parts.{on_some}
 use Rattle.cast_stub.specs.Puts.{word}
+use Rattle.cast_stub.proofs.Putting.{if_so, word_of}
 use Rattle.stub_lower.specs.Codes.{scalar_width}
-
-if_so : (b : Bool) (n : ℕ) → b ≡ true → (if b then Some n else None) ≡ Some n
-if_so true n e = refl
-if_so false n e = absurd cc
 
 pub word_32_pos : (n : ℕ) → n < 4294967296 → word 4 Big (pos n) ≡ Some (number_octets Xdr w32 (residue w32 (pos n)))
 word_32_pos n h =
     let same : n ≡ n % 4294967296 = omega arith in
-    ap (λ (o : Option ℕ). on_some o (λ (m : ℕ). Some (be 4 m))) (if_so (nat_lt n 4294967296) n (lt-ltb n 4294967296 h)) ∙ ap (λ (m : ℕ). Some (be 4 m)) same
+    word_of n h ∙ ap (λ (m : ℕ). Some (be 4 m)) same
 
 word_32_neg : (n : ℕ) → n < 2147483648 → word 4 Big (negsuc n) ≡ Some (number_octets Xdr w32 (residue w32 (negsuc n)))
 word_32_neg n h =

@@ -1,5 +1,5 @@
 -- What steps append, piece by piece.
-use Rattle.std.proofs.Common.{◌≡◌, ℕ, ◌+◌, List, [], ◌∷◌, ◌++◌, length, map, replicate, Some, None, option_map, refl, sym, ap, subst, ◌∙◌, arith, append_assoc, length-append}
+use Rattle.std.proofs.Common.{◌≡◌, ℕ, ◌+◌, List, [], ◌∷◌, ◌++◌, length, Some, None, refl, sym, ap, subst, ◌∙◌, arith, append_assoc, length-append}
 use Rattle.std.proofs.lemmas.List.{append-nil}
 use Rattle.mint.specs.Values.{Val}
 use Rattle.wire_def.specs.declared.encoding.Encoding.{Encoding}
@@ -7,10 +7,11 @@ use Rattle.wire_def.specs.declared.encoding.Encoding.TheVariants.{Xdr, CdrBig, C
 use Rattle.wire_def.specs.declared.head.Head.{Head}
 use Rattle.cast_stub.specs.declared.put.Put.{Put}
 use Rattle.cast_stub.specs.Parts.{on_some}
-use Rattle.cast_stub.specs.Puts.{put_octets, offset, placed, full}
+use Rattle.cast_stub.specs.Puts.{put_octets, offset}
 use Rattle.cast_stub.specs.Steps.{Steps, both, chunk_steps}
 use Rattle.cast_stub.specs.Meaning.{wrote}
 use Rattle.cast_stub.proofs.Folding.{wrote-append}
+use Rattle.cast_stub.proofs.Putting.{placed_whole, full_whole}
 use Rattle.stub_lower.specs.Lowered.{IsPlace}
 
 -- ---- positions that an encoding speaks of
@@ -72,14 +73,6 @@ pub sends_stop : (e : Encoding) (x : Steps) (p : ℕ) (o : List ℕ) → Sends e
 sends_stop e x p o h = sends_same e (both x (Some [])) p (o ++ []) o (append-nil o) (both-sends e x (Some []) p o [] h (none-sends e (p + length o)))
 
 -- ---- a put that fills its chunk
-
-placed_whole : (os : List ℕ) → placed 0 os (replicate (length os) None) ≡ Some (map Some os)
-placed_whole [] = refl
-placed_whole (o ∷ os) = ap (option_map (λ ds. Some o ∷ ds)) (placed_whole os)
-
-full_whole : (os : List ℕ) → full (map Some os) ≡ Some os
-full_whole [] = refl
-full_whole (o ∷ os) = ap (option_map (λ l. o ∷ l)) (full_whole os)
 
 pub put-writes : (w : ℕ) (x : Put) (h : Head) (v : Val) (os : List ℕ) (p : ℕ) → offset x ≡ 0 → put_octets h x v ≡ Some os → length os ≡ w → Writes (chunk_steps w (x ∷ []) h v) p os
 put-writes w x h v os p first is long base front at =

@@ -1,16 +1,11 @@
 -- Code for the head in front of a message's body.
-use Rattle.std.specs.Prelude.{◌≡◌, ℕ, ◌+◌, ◌<◌, ◌≤◌, ◌^◌, List, length, Option, None, Some, option_map}
+use Rattle.std.specs.Prelude.{◌≡◌, ℕ, ◌+◌, ◌≤◌, List, length, Option, None, Some, option_map}
 use Rattle.mint.specs.Values.{Val}
 use Rattle.wire_def.specs.declared.head.Head.{Head}
 use Rattle.cast_stub.specs.declared.send.SendCode.{SendCode}
+use Rattle.cast_stub.specs.Puts.{IsHead}
 use Rattle.cast_stub.specs.Block.{Block, stop, chunk, code_seen}
 use Rattle.cast_stub.specs.Meaning.{meaning}
-
--- a head of numbers that words can hold
-pub record IsHead (h : Head) : Type 0 where
-  pub id : h.id < 2 ^ 32
-  pub remote : h.remote < 2 ^ 32
-  pub local : h.local < 2 ^ 32
 
 -- code that appends these octets of a head, whatever the value is and wherever it begins
 abbrev pub Leads : (Head → List ℕ) → SendCode → Type 0

@@ -1,4 +1,4 @@
 pub mod Codes
+pub mod Layouts
 pub mod Leads
 pub mod Lowered
-pub mod Turns

@@ -1,5 +1,5 @@
 -- What the codes of a table are to be.
-use Rattle.std.specs.Prelude.{◌≡◌, ℕ, ◌%◌, List, [], Some, slice_get}
+use Rattle.std.specs.Prelude.{◌≡◌, ℕ, ◌%◌, List, Some, slice_get}
 use Rattle.mint.specs.declared.node.Node.{Node}
 use Rattle.mint.specs.Types.{type_at}
 use Rattle.mint.specs.Typed.{IsWellTyped}
@@ -9,11 +9,7 @@ use Rattle.wire_def.specs.declared.encoding.Encoding.TheVariants.{Xdr, Mach}
 use Rattle.wire_def.specs.declared.head.Head.{Head}
 use Rattle.wire_def.specs.Send.{send}
 use Rattle.cast_stub.specs.declared.send.SendOp.{SendOp}
-use Rattle.cast_stub.specs.Block.{code_seen}
-use Rattle.cast_stub.specs.Subs.{sub_at}
 use Rattle.cast_stub.specs.Meaning.{meaning}
-use Rattle.cast_stub.specs.Follows.{Follows}
-use Rattle.stub_lower.specs.Turns.{HasTurns}
 
 -- a position that the encoding speaks of: items of XDR and Mach begin at multiples of 4
 abbrev pub IsPlace : Encoding → ℕ → Type 0
@@ -26,11 +22,3 @@ abbrev pub CodesSend : Encoding → List Node → List (List SendOp) → Type 0
 CodesSend e nodes subs = (k : ℕ) (ops : List SendOp) → slice_get subs k ≡ Some ops
     → (h : Head) (v : Val) (p : ℕ) → IsPlace e p → IsWellTyped (type_at nodes k) v
     → meaning (record { ops = ops; subs = subs }) h v p ≡ Some (send e (type_at nodes k) p v)
-
--- each code goes through its node in order
-abbrev pub CodesFollow : List Node → List (List SendOp) → Type 0
-CodesFollow nodes subs = (k : ℕ) (ops : List SendOp) → slice_get subs k ≡ Some ops → Follows (sub_at subs) (type_at nodes k) k [] (code_seen ops)
-
--- in each code the loops over numbers have the one shape
-abbrev pub CodesTurn : Encoding → List Node → List (List SendOp) → Type 0
-CodesTurn e nodes subs = (k : ℕ) (ops : List SendOp) → slice_get subs k ≡ Some ops → HasTurns e (code_seen ops) (type_at nodes k)

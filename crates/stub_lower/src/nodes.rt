@@ -3,9 +3,12 @@ ghost use Rattle.std.specs.Prelude.{◌≡◌, [], length, OnOk, IfOk};
 ghost use Rattle.wire_def.specs.declared.encoding.Encoding.TheVariants.{Xdr};
 ghost use Rattle.cast_stub.specs.Append.{append};
 ghost use Rattle.cast_stub.specs.Block.{stop, each, switch, if_there, code_seen, cases_seen};
+ghost use Rattle.cast_stub.specs.Follows.{AllFollow};
+ghost use Rattle.cast_stub.specs.Turned.{AllTurned};
 ghost use Rattle.mint.specs.Types.{scalar_of};
 ghost use Rattle.stub_lower.specs.Codes.{call_here, IsCall, calls_from, cases_at, default_at, flag_code, tag_code, node_code};
-ghost use Rattle.stub_lower.specs.Lowered.{CodesSend, CodesFollow, CodesTurn};
+ghost use Rattle.stub_lower.specs.Layouts.{layout_of};
+ghost use Rattle.stub_lower.specs.Lowered.{CodesSend};
 
 use crate::leaves::{add_count, add_number, add_row, add_scalar, add_text, order_of, width_of};
 use crate::ops::{add, call_of, path_of};
@@ -23,8 +26,8 @@ pub fn lower(alloc: Global, enc: Encoding, mint: &Mint) -> Result<SendSubs, NoMe
     requires xdr { enc ≡ Xdr }
     ensures many { IfOk result (λ subs. length subs ≡ length mint.now) }
     ensures means { IfOk result (λ subs. CodesSend enc mint.now subs) }
-    ensures follows { IfOk result (λ subs. CodesFollow mint.now subs) }
-    ensures rows { IfOk result (λ subs. CodesTurn enc mint.now subs) }
+    ensures follows { IfOk result (λ subs. AllFollow mint.now subs) }
+    ensures rows { IfOk result (λ subs. AllTurned (layout_of enc) mint.now subs) }
 {
     let mut subs = SendSubs::new(alloc);
     let count = mint.len() as u32;

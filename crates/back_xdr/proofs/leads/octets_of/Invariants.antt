@@ -1,5 +1,5 @@
 use Rattle.std.proofs.Common.{◌≡◌, take}
-use Rattle.back_xdr.specs.Leads.{words}
+use Rattle.raw_buf.specs.Words.{words}
 use Rattle.back_xdr.proofs.leads.octets_of.Given as goal
 
 abbrev pub invariant-loop-number : goal.invariant-loop-number

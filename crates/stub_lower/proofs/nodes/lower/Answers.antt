@@ -1,4 +1,4 @@
-use Rattle.stub_lower.proofs.Whole.{one_more, ended, all_send, all_follow, codes_turn}
+use Rattle.stub_lower.proofs.Whole.{one_more, ended, all_send, all_follow, all_turned}
 use Rattle.stub_lower.proofs.nodes.lower.Goals as goal
 
 pub loop-id-preserved : goal.loop-id-preserved
@@ -11,4 +11,4 @@ pub returns-clause-follows : goal.returns-clause-follows
 returns-clause-follows c = all_follow c.args.enc c.args.mint.now c.loop-id.subs c.requires.xdr (ended c.args.enc c.args.mint.now c.loop-id.id _ c.loop-id.subs c.len-count.ensures.value c.loop-id-test.false c.loop-id.auto.id-end c.loop-id.invariant)
 
 pub returns-clause-rows : goal.returns-clause-rows
-returns-clause-rows c = codes_turn c.args.enc c.args.mint.now c.loop-id.subs (ended c.args.enc c.args.mint.now c.loop-id.id _ c.loop-id.subs c.len-count.ensures.value c.loop-id-test.false c.loop-id.auto.id-end c.loop-id.invariant)
+returns-clause-rows c = all_turned c.args.enc c.args.mint.now c.loop-id.subs c.requires.xdr (ended c.args.enc c.args.mint.now c.loop-id.id _ c.loop-id.subs c.len-count.ensures.value c.loop-id-test.false c.loop-id.auto.id-end c.loop-id.invariant)
