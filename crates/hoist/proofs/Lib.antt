@@ -4,11 +4,14 @@ pub mod Covered
 pub mod Filled
 pub mod Grouping
 pub mod Heavy
+pub mod InStep
 pub mod Keeping
 pub mod Light
 pub mod Nodes
 pub mod OnWay
+pub mod Passing
 pub mod Planned
+pub mod Promised
 pub mod Quiet
 pub mod Reversed
 pub mod Rooms
