@@ -1,6 +1,6 @@
 //! The replies that refuse a call.
 
-ghost use Rattle.std.specs.Prelude.{◌≡◌, ◌≤◌, [], ◌∷◌, ◌++◌, length, Some, OnOk};
+ghost use Rattle.std.specs.Prelude.{◌≡◌, ◌≤◌, [], ◌∷◌, ◌++◌, length, Some, OnErr, OnOk};
 ghost use Rattle.raw_buf.specs.Words.{words};
 ghost use Rattle.back_xdr.specs.Refusals.{IsOwn, refusal_octets};
 
@@ -8,11 +8,13 @@ use kit_base::NoMemory;
 use raw_buf::SendBuf;
 use wire_def::{Head, Refusal};
 
-/// Writes the reply that refuses a call into an empty buffer, with an empty verifier.
+/// Writes the reply that refuses a call into an empty buffer, with an empty verifier. After want of
+/// memory the buffer is as it was.
 pub fn put_refusal(refusal: &Refusal, head: &Head, buf: &mut SendBuf) -> Result<(), NoMemory>
     requires empty { buf.old.done ≡ [] }
     requires own { IsOwn refusal.now }
-    ensures { OnOk result (refusal_octets head.now.id refusal.now ≡ Some buf.new.done) }
+    ensures ok { OnOk result (refusal_octets head.now.id refusal.now ≡ Some buf.new.done) }
+    ensures err { OnErr result (buf.new ≡ buf.old) }
 {
     let id = head.id;
     match refusal {
@@ -32,7 +34,8 @@ pub fn put_refusal(refusal: &Refusal, head: &Head, buf: &mut SendBuf) -> Result<
 /// Puts words into space that it ensures.
 fn put_words(numbers: &[u32], buf: &mut SendBuf) -> Result<(), NoMemory>
     requires { length numbers.now ≤ 8 }
-    ensures { OnOk result (buf.new.done ≡ buf.old.done ++ words numbers.now) }
+    ensures ok { OnOk result (buf.new.done ≡ buf.old.done ++ words numbers.now) }
+    ensures err { OnErr result (buf.new ≡ buf.old) }
 {
     buf.ensure(4 * numbers.len())?;
     buf.put_words(numbers);

@@ -1,5 +1,5 @@
 // Requests as messages.
-ghost use Rattle.std.specs.Prelude.{◌≡◌, ◌<◌, ◌≤◌, ◌+◌, ◌++◌, length, OnOk};
+ghost use Rattle.std.specs.Prelude.{◌≡◌, ◌<◌, ◌≤◌, ◌+◌, ◌++◌, [], length, OnErr, OnOk};
 ghost use Rattle.mint.specs.Typed.{IsWellTyped};
 ghost use Rattle.mint.specs.Values.{seen};
 ghost use Rattle.back_xdr.specs.Leads.{lead};
@@ -22,7 +22,8 @@ pub(crate) const LONGEST: usize = 4_194_304;
 const LEAD: usize = 40;
 
 impl Engine {
-    /// Makes the message of a request in a buffer.
+    /// Makes the message of a request in a buffer, whatever it held; where there is none, the buffer
+    /// is empty.
     pub fn marshal(
         &self,
         alloc: Global,
@@ -35,6 +36,7 @@ impl Engine {
         requires typed { IsWellTyped (request_type self.now op) (seen value.now) }
         ensures ok { OnOk result (buf.new.done ≡ message self.now op head.now (seen value.now)) }
         ensures short { OnOk result (length (message self.now op head.now (seen value.now)) ≤ 4194304) }
+        ensures err { OnErr result (buf.new.done ≡ []) }
         ensures long { (result ≡ Err MarshalErr.Long) → 4194304 < length (message self.now op head.now (seen value.now)) }
     {
         buf.clear();

@@ -18,10 +18,11 @@ use std::alloc::Global;
 use wire_def::Encoding;
 
 impl Engine {
-    /// Reads the request of a message.
+    /// Reads the request of a message. The view stays at its first octet.
     pub fn unmarshal(&self, alloc: Global, view: &mut RecvView<'_>) -> Result<Request, MessageErr>
         requires start { view.old.pos ≡ 0 }
         ensures read { Answers self.now view.old.octets result }
+        ensures same { view.new ≡ view.old }
         ensures op { IfOk result (λ r. r.op < length self.now.ops) }
         ensures typed { IfOk result (λ r. IsWellTyped (request_type self.now r.op) (seen r.value)) }
     {

@@ -4,7 +4,7 @@ use Rattle.std.proofs.Math.ListN.{take}
 use Rattle.std.proofs.lemmas.List.{take_more, take_all}
 use Rattle.mint.specs.Types.{Ty, at, arms_at, others_at, ArmsBelow}
 use Rattle.cast_stub.specs.declared.send.SendOp.{SendOp}
-use Rattle.cast_stub.specs.Block.{Block, stop, ensure, ensure_row, align, chunk, row_copy, row_swap, row_wide, each, switch, if_there, call, patch, Cases, case, op_seen, code_seen, cases_seen}
+use Rattle.cast_stub.specs.Block.{Block, stop, ensure, ensure_row, align, chunk, row_copy, row_swap, row_wide, each, switch, if_there, call, patch, case, op_seen, code_seen, cases_seen}
 use Rattle.cast_stub.specs.Append.{append}
 use Rattle.cast_stub.proofs.Appending.{op-append}
 use Rattle.hoist.specs.Hoisted.{closed, hoisted, cases_hoisted, IsTaken, CasesTaken}

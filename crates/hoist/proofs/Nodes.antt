@@ -4,16 +4,15 @@ use Rattle.std.specs.Prelude.{slice_get}
 use Rattle.std.proofs.Math.Seq.{drop-cons}
 use Rattle.std.specs.Ordering.{int_eq}
 use Rattle.mint.specs.declared.kind.Count.{Count}
-use Rattle.mint.specs.declared.node.Node.{Node}
 use Rattle.mint.specs.Types.{arms_at as arms_at_nodes}
-use Rattle.mint.specs.Types.{type_at, Scalar, Ty, scalar_type, at, fields_at}
+use Rattle.mint.specs.Types.{Scalar, Ty, scalar_type, at, fields_at}
 use Rattle.cast_stub.specs.declared.send.SendOp.{SendOp}
 use Rattle.cast_stub.specs.declared.send.SendOp.TheVariants as op
 use Rattle.cast_stub.specs.Parts.{on_some}
 use Rattle.cast_stub.specs.Block.{Block, Piece, op_seen, code_seen, cases_seen}
-use Rattle.cast_stub.specs.PartTypes.{field_type, ty_at}
+use Rattle.cast_stub.specs.PartTypes.{field_type}
 use Rattle.cast_stub.proofs.Pieces.{seen-Ensure, seen-EnsureRow, seen-Align, seen-Chunk, seen-RowCopy, seen-RowSwap, seen-RowWide, seen-Each, seen-Some, seen-Call, seen-Patch, seen-Switch}
-use Rattle.hoist.specs.Bound.{most, times, plus, greater, bound, cases_bound, element_at, present_at, arms_at, elements_type}
+use Rattle.hoist.specs.Bound.{plus, greater, bound, cases_bound, element_at, present_at, arms_at}
 
 abbrev pair : Ty → Count → Ty × Count
 pair t n = (t, n)
@@ -44,13 +43,6 @@ none-more None = refl
 none-more (Some n) = let e : 0 + n ≡ n = omega arith in ap (λ (k : ℕ). Some k) e
 
 pub ruleset nodes = (field-at, no-elements, no-value, no-arms, code-drop, none-more, seen-Ensure, seen-EnsureRow, seen-Align, seen-Chunk, seen-RowCopy, seen-RowSwap, seen-RowWide, seen-Each, seen-Some, seen-Call, seen-Patch, seen-Switch)
-
--- the bound of a loop over a row or text
-pub row_loop : (nodes : List Node) (id part : ℕ) (path : List ℕ) (s : Scalar) (n : Count) (turn : Option ℕ) (body : Block) → Some (type_at nodes part) ≡ ty_at path (type_at nodes id) → elements_type (type_at nodes part) ≡ Some (pair (scalar_type s) n) → turn ≡ bound (scalar_type s) body
-    → times (most n) turn ≡ on_some (element_at path (type_at nodes id)) (λ e. times (most e.1) (bound e.0 body))
-row_loop nodes id part path s n turn body is of same =
-    let e : element_at path (type_at nodes id) ≡ Some (pair (scalar_type s) n) = ap (λ (x : Option Ty). on_some x elements_type) (sym is) ∙ of in
-    ap (times (most n)) same ∙ ap (λ (x : Option (Ty × Count)). on_some x (λ e. times (most e.1) (bound e.0 body))) (sym e)
 
 -- ---- arms and bodies in step
 

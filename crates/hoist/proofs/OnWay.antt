@@ -1,5 +1,5 @@
 -- Steps of the way to a part.
-use Rattle.std.proofs.Common.{◌≡◌, ℕ, List, [], ◌∷◌, length, Bool, true, false, ◌||◌, Option, Some, None, refl, sym, ap, ◌∙◌}
+use Rattle.std.proofs.Common.{◌≡◌, ℕ, List, [], ◌∷◌, length, Bool, true, false, ◌||◌, Option, ap, ◌∙◌}
 use Rattle.mint.specs.Types.{Ty}
 use Rattle.hoist.specs.Regions.{Sizes, is_light, further_on, on_way}
 use Rattle.cast_stub.specs.PartTypes.{in_group_type}

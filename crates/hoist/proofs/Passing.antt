@@ -1,5 +1,5 @@
 -- Operations put in front of code that was gone over.
-use Rattle.std.proofs.Common.{◌≡◌, ℕ, ℤ, ◌-◌, List, [], ◌∷◌, ◌++◌, Option, Some, None, refl, sym, ap, ◌∙◌, subst}
+use Rattle.std.proofs.Common.{◌≡◌, ℕ, ℤ, ◌-◌, List, [], ◌∷◌, ◌++◌, Option, Some, refl, sym, ap, ◌∙◌, subst}
 use Rattle.std.specs.Prelude.{reverse}
 use Rattle.mint.specs.Types.{Scalar, Ty, choice_type, Arms}
 use Rattle.wire_def.specs.declared.head.Order.{Order}

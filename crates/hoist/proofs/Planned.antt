@@ -1,6 +1,6 @@
 -- Plans by the roles of operations and the bounds of their bodies.
-use Rattle.std.proofs.Common.{◌≡◌, ℕ, List, Option, Some, None, ap, ◌∙◌}
-use Rattle.hoist.specs.Hoisted.{Plan, Role, loop_plan, body_plan}
+use Rattle.std.proofs.Common.{◌≡◌, ℕ, List, Option, ap, ◌∙◌}
+use Rattle.hoist.specs.Hoisted.{Role, loop_plan}
 
 -- the plan of a loop, by what its role and its bounds are
 pub loop-is : (role role' : Role) (n n' u u' : Option ℕ) (p : List ℕ) → role ≡ role' → n ≡ n' → u ≡ u' → loop_plan role n u p ≡ loop_plan role' n' u' p

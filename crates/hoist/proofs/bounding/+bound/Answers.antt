@@ -1,16 +1,14 @@
-use Rattle.std.proofs.Common.{length, ℤ, arith, drop, ◌≡◌, List, Option, ℕ, IfOk, ap, sym, subst, ◌∙◌}
-use Rattle.mint.specs.declared.kind.Kind.TheVariants as kind
-use Rattle.mint.specs.Types.{number, level, unfolded, type_at}
+use Rattle.std.proofs.Common.{length, ℤ, arith, drop, ◌≡◌, List, ℕ, ap, sym, ◌∙◌}
+use Rattle.mint.specs.Types.{unfolded, type_at}
 use Rattle.mint.specs.Types.{arms_at as mint_arms}
 use Rattle.cast_stub.specs.declared.send.SendOp.{SendOp}
 use Rattle.cast_stub.specs.Block.{code_seen, cases_seen}
-use Rattle.hoist.specs.Bound.{elements_type, bound, cases_bound}
+use Rattle.hoist.specs.Bound.{bound, cases_bound}
 use Rattle.std.proofs.lemmas.Result.{IfOk-weaker}
 use Rattle.cast_stub.specs.Block.{Block, op_seen}
 use Rattle.cast_stub.specs.Parts.{on_some}
-use Rattle.cast_stub.specs.PartTypes.{ty_at}
 use Rattle.hoist.specs.Bound.{plus, arms_at}
-use Rattle.hoist.proofs.Nodes.{row_loop, uneven, switch_turn}
+use Rattle.hoist.proofs.Nodes.{uneven, switch_turn}
 use Rattle.hoist.proofs.bounding.+bound.Goals as goal
 
 pub bound-returns : goal.bound-returns

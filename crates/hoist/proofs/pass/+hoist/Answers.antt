@@ -22,9 +22,19 @@ hoist_cases-hoist_case-requires t c =
     let us = unfolded c.args.mint.now in
     let taken = subst (λ (l : List (ℤ × ℕ)). ArmsTaken us l c.as_slice-cases.result.now) (sym c.as_slice-arms.ensures) (subst (λ (l : List (ℤ × List SendOp)). ArmsTaken us c.args.arms.now l) (sym c.as_slice-cases.ensures) c.requires.taken) in
     let within : c.loop-i.i < length c.as_slice-arms.result.now = omega (arith, c.loop-i-test.true, as-many us c.as_slice-arms.result.now c.as_slice-cases.result.now taken) in
-    let below = subst (ArmsBelow c.args.id) (sym c.as_slice-arms.ensures) c.requires.arms in
-    (omega arith, (c.requires.id, (c.requires.classes, (arm-below c.args.id c.as_slice-arms.result.now c.loop-i.i _ within below,
-    this-taken us c.as_slice-arms.result.now c.as_slice-cases.result.now c.loop-i.i _ c.index-cases-i.result c.loop-i-test.true c.index-cases-i.is taken))))
+    let below = subst (ArmsBelow c.args.id) (sym c.as_slice-arms.ensures) c.requires.arms in (
+      omega arith,
+      (
+        c.requires.id,
+        (
+          c.requires.classes,
+          (
+            arm-below c.args.id c.as_slice-arms.result.now c.loop-i.i _ within below,
+            this-taken us c.as_slice-arms.result.now c.as_slice-cases.result.now c.loop-i.i _ c.index-cases-i.result c.loop-i-test.true c.index-cases-i.is taken,
+          ),
+        ),
+      ),
+    )
 
 pub hoist_cases-loop-i-preserved : goal.hoist_cases-loop-i-preserved
 hoist_cases-loop-i-preserved t c =
@@ -36,13 +46,20 @@ pub hoist_cases-returns : goal.hoist_cases-returns
 hoist_cases-returns t c =
     let us = unfolded c.args.mint.now in
     let so_far = subst (λ (l : List (ℤ × ℕ)). AreHoisted us (take c.loop-i.i l) (take c.loop-i.i c.args.cases.now) c.loop-i.bodies) c.as_slice-arms.ensures
-        (subst (λ (l : List (ℤ × List SendOp)). AreHoisted us (take c.loop-i.i c.as_slice-arms.result.now) (take c.loop-i.i l) c.loop-i.bodies) c.as_slice-cases.ensures c.loop-i.invariant) in
+    (subst (λ (l : List (ℤ × List SendOp)). AreHoisted us (take c.loop-i.i c.as_slice-arms.result.now) (take c.loop-i.i l) c.loop-i.bodies) c.as_slice-cases.ensures c.loop-i.invariant) in
     all-hoisted us c.args.arms.now c.args.cases.now c.loop-i.bodies c.loop-i.i c.requires.taken (omega (arith, c.loop-i-test.false, ap length c.as_slice-cases.ensures)) so_far
 
 pub hoist_op-switch_bodies-requires : goal.hoist_op-switch_bodies-requires
-hoist_op-switch_bodies-requires t c =
-    (omega arith, (c.requires.id, (c.requires.classes,
-    switch-taken (type_at c.args.mint.now c.args.id) c.args.op.now c.in-Switch.path c.in-Switch.cases c.in-Switch.last c.in_ok-plan-in-Switch.plan c.in-Switch.is c.in_ok-plan-in-Switch.ensures c.requires.taken)))
+hoist_op-switch_bodies-requires t c = (
+  omega arith,
+  (
+    c.requires.id,
+    (
+      c.requires.classes,
+      switch-taken (type_at c.args.mint.now c.args.id) c.args.op.now c.in-Switch.path c.in-Switch.cases c.in-Switch.last c.in_ok-plan-in-Switch.plan c.in-Switch.is c.in_ok-plan-in-Switch.ensures c.requires.taken,
+    ),
+  ),
+)
 
 pub hoist_op-returns-in_ok-push-in-Align : goal.hoist_op-returns-in_ok-push-in-Align
 hoist_op-returns-in_ok-push-in-Align t c =
@@ -82,9 +99,16 @@ pub hoist_ops-hoist_op-requires : goal.hoist_ops-hoist_op-requires
 hoist_ops-hoist_op-requires t c =
     let ty = type_at c.args.mint.now c.args.id in
     let taken = subst (λ (l : List SendOp). IsTaken xdr_roles ty (code_seen l)) (sym c.as_slice-list.ensures) c.requires.taken in
-    let within : c.loop-i.i - 1 < length c.as_slice-list.result.now = omega (arith, c.loop-i-test.true, c.loop-i.auto.i) in
-    (omega arith, (c.requires.id, (c.requires.classes,
-    subst (λ (o : SendOp). IsTaken xdr_roles ty (op_seen o stop)) (sym c.index-list-i.is) (op-taken ty c.as_slice-list.result.now (c.loop-i.i - 1) c.index-list-i.result within taken))))
+    let within : c.loop-i.i - 1 < length c.as_slice-list.result.now = omega (arith, c.loop-i-test.true, c.loop-i.auto.i) in (
+      omega arith,
+      (
+        c.requires.id,
+        (
+          c.requires.classes,
+          subst (λ (o : SendOp). IsTaken xdr_roles ty (op_seen o stop)) (sym c.index-list-i.is) (op-taken ty c.as_slice-list.result.now (c.loop-i.i - 1) c.index-list-i.result within taken),
+        ),
+      ),
+    )
 
 pub hoist_ops-returns : goal.hoist_ops-returns
 hoist_ops-returns t c =
@@ -98,19 +122,19 @@ pub switch_bodies-hoist_cases-requires : goal.switch_bodies-hoist_cases-requires
 switch_bodies-hoist_cases-requires t c =
     let us = unfolded c.args.mint.now in
     let taken = switch-apart (type_at c.args.mint.now c.args.id) c.args.path.now c.args.plan (type_at c.args.mint.now c.in-Some.part) _ (mint_arms us c.in-Some-Choice.arms c.in-Some-Choice.other) (cases_seen c.args.cases.now c.args.last.now)
-        c.in-Apart.is (c.in-Some.ensures.is ∙ ap (λ (p : List ℕ). ty_at p (type_at c.args.mint.now c.args.id)) c.as_slice.ensures) (c.in-Some-Choice.ensures.is ∙ ap (level us) c.in-Some-Choice.field-0-is) c.requires.taken in
+    c.in-Apart.is (c.in-Some.ensures.is ∙ ap (λ (p : List ℕ). ty_at p (type_at c.args.mint.now c.args.id)) c.as_slice.ensures) (c.in-Some-Choice.ensures.is ∙ ap (level us) c.in-Some-Choice.field-0-is) c.requires.taken in
     (omega (arith, c.in-Some.ensures.below), (omega (arith, c.requires.id, c.in-Some.ensures.below), (c.requires.classes, (search rules, (arms-taken us c.in-Some-Choice.arms c.in-Some-Choice.other c.args.cases.now c.args.last.now taken).0))))
 
 pub switch_bodies-hoist_last-requires : goal.switch_bodies-hoist_last-requires
 switch_bodies-hoist_last-requires t c =
     let us = unfolded c.args.mint.now in
     let taken = switch-apart (type_at c.args.mint.now c.args.id) c.args.path.now c.args.plan (type_at c.args.mint.now c.in-Some.part) _ (mint_arms us c.in-Some-Choice.arms c.in-Some-Choice.other) (cases_seen c.args.cases.now c.args.last.now)
-        c.in-Apart.is (c.in-Some.ensures.is ∙ ap (λ (p : List ℕ). ty_at p (type_at c.args.mint.now c.args.id)) c.as_slice.ensures) (c.in-Some-Choice.ensures.is ∙ ap (level us) c.in-Some-Choice.field-0-is) c.requires.taken in
+    c.in-Apart.is (c.in-Some.ensures.is ∙ ap (λ (p : List ℕ). ty_at p (type_at c.args.mint.now c.args.id)) c.as_slice.ensures) (c.in-Some-Choice.ensures.is ∙ ap (level us) c.in-Some-Choice.field-0-is) c.requires.taken in
     (omega (arith, c.in-Some.ensures.below), (omega (arith, c.requires.id, c.in-Some.ensures.below), (c.requires.classes, (search rules, (arms-taken us c.in-Some-Choice.arms c.in-Some-Choice.other c.args.cases.now c.args.last.now taken).1))))
 
 pub switch_bodies-returns-in_ok-rest-in-Apart : goal.switch_bodies-returns-in_ok-rest-in-Apart
 switch_bodies-returns-in_ok-rest-in-Apart t c =
     let us = unfolded c.args.mint.now in
     switch-kept (type_at c.args.mint.now c.args.id) c.args.path.now c.args.plan (type_at c.args.mint.now c.in-Some.part) _ (mint_arms us c.in-Some-Choice.arms c.in-Some-Choice.other) (cases_seen c.args.cases.now c.args.last.now) _
-        c.in-Apart.is (c.in-Some.ensures.is ∙ ap (λ (p : List ℕ). ty_at p (type_at c.args.mint.now c.args.id)) c.as_slice.ensures) (c.in-Some-Choice.ensures.is ∙ ap (level us) c.in-Some-Choice.field-0-is)
-        (cases-hoisted us c.in-Some-Choice.arms c.in-Some-Choice.other c.args.cases.now c.in_ok-bodies-in-Apart.bodies c.args.last.now c.in_ok-rest-in-Apart.rest c.in_ok-bodies-in-Apart.ensures c.in_ok-rest-in-Apart.ensures)
+    c.in-Apart.is (c.in-Some.ensures.is ∙ ap (λ (p : List ℕ). ty_at p (type_at c.args.mint.now c.args.id)) c.as_slice.ensures) (c.in-Some-Choice.ensures.is ∙ ap (level us) c.in-Some-Choice.field-0-is)
+    (cases-hoisted us c.in-Some-Choice.arms c.in-Some-Choice.other c.args.cases.now c.in_ok-bodies-in-Apart.bodies c.args.last.now c.in_ok-rest-in-Apart.rest c.in_ok-bodies-in-Apart.ensures c.in_ok-rest-in-Apart.ensures)

@@ -1,4 +1,4 @@
-use Rattle.std.proofs.Common.{◌≡◌, ◌+◌, ◌*◌, drop, List}
+use Rattle.std.proofs.Common.{◌≡◌, ◌+◌, ◌*◌, drop}
 use Rattle.std.proofs.Math.ListN.{take}
 use Rattle.mint.specs.Types.{type_at, unfolded}
 use Rattle.cast_stub.specs.Block.{code_seen}
