@@ -18,18 +18,19 @@ use Rattle.cast_stub.specs.declared.send.SendCode.{SendCode}
 use Rattle.cast_stub.specs.declared.send.SendOp.{SendOp}
 use Rattle.cast_stub.specs.Append.{append}
 use Rattle.cast_stub.specs.Block.{Block, stop, ensure, ensure_row, align, chunk, row_copy, row_swap, row_wide, each, switch, if_there, call, patch, Cases, no_default, default, case, code_seen}
-use Rattle.cast_stub.specs.Follows.{Follows}
+use Rattle.cast_stub.specs.Follows.{Follows, AllFollow}
+use Rattle.cast_stub.specs.Puts.{IsHead}
 use Rattle.cast_stub.specs.Meaning.{wrote, meaning}
 use Rattle.cast_stub.specs.Parts.{on_some, IsThere}
 use Rattle.cast_stub.specs.Rowless.{IsRowless, AreRowless}
 use Rattle.cast_stub.specs.Steps.{Step, Room, Pad, Stored, Widened, Copied, Patched, Steps, Calls, both, chunk_steps, steps}
-use Rattle.cast_stub.specs.Subs.{sub_at, calls_of, sent_steps, deepest}
+use Rattle.cast_stub.specs.Subs.{sub_at, calls_of, sent_steps, deepest, no_subs}
 use Rattle.cast_stub.proofs.Appending.{append-stop, steps-append}
 use Rattle.cast_stub.proofs.Folding.{wrote-append}
-use Rattle.stub_lower.specs.Leads.{IsHead, chunk_puts, AreChunks, Leads}
-use Rattle.stub_lower.specs.Lowered.{CodesSend, CodesFollow}
+use Rattle.stub_lower.specs.Leads.{chunk_puts, AreChunks, Leads}
+use Rattle.stub_lower.specs.Lowered.{CodesSend}
 use Rattle.stub_machine.proofs.Rooms.{length-written, four}
-use Rattle.copy_inline.specs.Inlined.{Does, Goes, AllFollow, no_subs}
+use Rattle.copy_inline.specs.Inlined.{Does, Goes}
 use Rattle.hoist.specs.Bare.{IsBare, CasesBare}
 use Rattle.std.proofs.lemmas.Bool.{le-leb, leb-true}
 use Rattle.hoist.specs.Pass.{IsGiven, AddsEnsures, IsCoveredFor}
@@ -132,10 +133,6 @@ patch_there false y z f d e h = absurd cc
 joined : (x y : Steps) (a b : List Step) → x ≡ Some a → y ≡ Some b → both x y ≡ Some (a ++ b)
 joined x y a b d e = rw (d, e) refl
 
-seen_at : (x : Option (List SendOp)) (b : Block) → option_map code_seen x ≡ Some b → (ops : List SendOp) × (x ≡ Some ops) × (code_seen ops ≡ b)
-seen_at None b e = absurd cc
-seen_at (Some ops) b e = (ops, refl, cc)
-
 -- whether steps write goes by lengths alone
 shifted : (ss : List Step) (p base : ℕ) (o o' : List ℕ) → base ≤ p → base + length o' ≡ p + length o → IsThere (wrote p o ss) → IsThere (wrote base o' ss)
 shifted [] p base o o' le e h = tt
@@ -161,22 +158,16 @@ shifted (Patched at sub order ∷ ss) p base o o' le e h =
 
 -- ---- a lead and a body
 
--- code that goes through its node, called or not
-followed : (nodes : List Node) (subs : List (List SendOp)) → CodesFollow nodes subs → AllFollow nodes subs
-followed nodes subs all k b e =
-    let m = seen_at (slice_get subs k) b e in
-    subst (λ (x : Block). Follows (sub_at subs) (type_at nodes k) k [] x) m.2 (all k m.0 m.1)
-
-pub alone_given : (nodes : List Node) (id : ℕ) (subs : List (List SendOp)) (code : SendCode) → IsSound (type_at nodes id) → CodesFollow nodes subs → Goes subs id code → code.subs ≡ [] → IsGiven (type_at nodes id) code
+pub alone_given : (nodes : List Node) (id : ℕ) (subs : List (List SendOp)) (code : SendCode) → IsSound (type_at nodes id) → AllFollow nodes subs → Goes subs id code → code.subs ≡ [] → IsGiven (type_at nodes id) code
 alone_given nodes id subs code sound follows goes none =
-    (none, 0, (stop, code_seen code.ops, stop, id, sym (append-stop (code_seen code.ops)), refl, goes nodes sound (followed nodes subs follows), tt))
+    (none, 0, (stop, code_seen code.ops, stop, id, sym (append-stop (code_seen code.ops)), refl, goes nodes sound follows, tt))
 
 module _ (nodes : List Node) (id : ℕ) (subs : List (List SendOp)) (lead body given : SendCode)
     (sound : IsSound (type_at nodes id)) (known : id < length subs)
-    (sends : CodesSend Xdr nodes subs) (follows : CodesFollow nodes subs)
+    (sends : CodesSend Xdr nodes subs) (follows : AllFollow nodes subs)
     (is_lead : IsLead lead) (does : Does subs id body) (goes : Goes subs id body) (no_subs' : body.subs ≡ []) (both' : IsBoth lead body given) where
   through : Follows no_subs (type_at nodes id) id [] (code_seen body.ops)
-  through = goes nodes sound (followed nodes subs follows)
+  through = goes nodes sound follows
 
   pub is_given : IsGiven (type_at nodes id) given
   is_given =

@@ -1,16 +1,15 @@
 -- When the code of a message may be run.
 use Rattle.std.specs.Prelude.{◌≡◌, ℕ, ◌%◌, List, [], length, Some}
 use Rattle.mint.specs.Types.{Ty}
-use Rattle.mint.specs.Typed.{IsWellTyped}
 use Rattle.mint.specs.Values.{Val}
 use Rattle.wire_def.specs.declared.head.Head.{Head}
 use Rattle.cast_stub.specs.declared.send.SendCode.{SendCode}
 use Rattle.cast_stub.specs.Append.{append}
 use Rattle.cast_stub.specs.Block.{code_seen}
-use Rattle.cast_stub.specs.Meaning.{meaning, AreCovered}
+use Rattle.cast_stub.specs.Meaning.{meaning, IsCovered}
+use Rattle.cast_stub.specs.Puts.{IsHead}
 use Rattle.cast_stub.specs.Rowless.{HasNoRow}
-use Rattle.cast_stub.specs.Subs.{sent_steps}
-use Rattle.stub_lower.specs.Leads.{IsHead, AreChunks}
+use Rattle.stub_lower.specs.Leads.{AreChunks}
 
 -- chunks, which append whole words whatever the value is
 pub record IsLead (code : SendCode) : Type 0 where
@@ -25,4 +24,4 @@ pub record IsBoth (lead body code : SendCode) : Type 0 where
 -- at the front of a message, for every head and every value of the type
 pub record IsReady (t : Ty) (code : SendCode) : Type 0 where
   pub no_row : HasNoRow code
-  pub covered : (h : Head) (v : Val) → IsHead h → IsWellTyped t v → AreCovered (sent_steps code h v) 0
+  pub covered : IsCovered t 0 code

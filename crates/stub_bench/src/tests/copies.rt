@@ -17,7 +17,7 @@ fn copy_path(alloc: Global, path: &Path) -> Result<Path, NoMemory>
     Ok(copy)
 }
 
-#[tactic(auto, using(crate::proofs::Copied::copied))]
+#[tactic(auto, using(hoist::proofs::Copied::copied))]
 fn copy_puts(alloc: Global, puts: &Puts) -> Result<Puts, NoMemory>
     ensures { IfOk result (λ ps. ps ≡ puts.now) }
 {

@@ -2,7 +2,7 @@ use Rattle.std.proofs.Common.{◌≡◌, map, ap, ◌∙◌, List, ℕ}
 use Rattle.std.proofs.lemmas.Result.{IfOk-weaker}
 use Rattle.cast_stub.specs.declared.put.Put.{Put}
 use Rattle.cast_stub.specs.Append.{put_rebased}
-use Rattle.stub_bench.proofs.Copied.{same-puts}
+use Rattle.hoist.proofs.Copied.{same-puts}
 use Rattle.stub_bench.proofs.tests.copies.copy_puts.Goals as goal
 
 pub returns : goal.returns

@@ -5,7 +5,7 @@ use Rattle.wire_def.specs.declared.head.Order.TheVariants.{Big}
 use Rattle.raw_buf.specs.Buf.{Buf}
 use Rattle.cast_stub.specs.Meaning.{AreCovered}
 use Rattle.cast_stub.specs.Subs.{sent_steps}
-use Rattle.stub_lower.specs.Leads.{IsHead}
+use Rattle.cast_stub.specs.Puts.{IsHead}
 use Rattle.stub_bench.proofs.tests.runs.sent.Goals as goal
 
 abbrev head : Head
