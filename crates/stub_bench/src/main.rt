@@ -1,0 +1,115 @@
+// Makes the code of a type and puts ensures into it, so that what an operation costs can be counted:
+// PASS SHAPE SIZE.
+#![tactic(auto)]
+
+mod counting;
+mod shapes;
+#[cfg(test)]
+mod tests;
+
+use crate::counting::count;
+use crate::shapes::{Shape, shape_of, table_of};
+use anyhow::{Result, bail};
+use back_xdr::lower_send;
+use copy_inline::inline;
+use hoist::hoist;
+use std::alloc::Global;
+use std::env;
+use storage_class::classify;
+use wire_def::Encoding;
+
+/// How far a run goes, so that the cost of a pass is the difference of two runs.
+#[derive(Clone, Copy, PartialEq, Eq)]
+enum Pass {
+    Make,
+    Lower,
+    Inline,
+    Classify,
+    Hoist,
+}
+
+fn pass_of(word: &str) -> Option<Pass> {
+    match word {
+        "make" => Some(Pass::Make),
+        "lower" => Some(Pass::Lower),
+        "inline" => Some(Pass::Inline),
+        "classify" => Some(Pass::Classify),
+        "hoist" => Some(Pass::Hoist),
+        _ => None,
+    }
+}
+
+/// The numbers of operations behind each pass, 0 where it was not made.
+#[derive(Clone, Copy)]
+struct Operations {
+    lowered: u64,
+    inlined: u64,
+    hoisted: u64,
+}
+
+/// Makes the passes, as far as the last goes.
+fn run(alloc: Global, last: Pass, shape: Shape, size: u32) -> Result<Operations> {
+    let mut operations = Operations {
+        lowered: 0,
+        inlined: 0,
+        hoisted: 0,
+    };
+    let Ok((table, id)) = table_of(alloc, shape, size) else {
+        bail!("no table");
+    };
+    if last == Pass::Make || id as usize >= table.len() {
+        return Ok(operations);
+    }
+    let Ok(subs) = lower_send(alloc, &table) else {
+        bail!("no memory to lower");
+    };
+    for code in subs.as_slice() {
+        operations.lowered = operations.lowered.saturating_add(count(code));
+    }
+    if last == Pass::Lower {
+        return Ok(operations);
+    }
+    let Ok(code) = inline(alloc, &subs, id) else {
+        bail!("no memory to inline");
+    };
+    operations.inlined = count(&code.ops);
+    if last == Pass::Inline {
+        return Ok(operations);
+    }
+    let Ok(classes) = classify(alloc, Encoding::Xdr, &table) else {
+        bail!("no memory to classify");
+    };
+    if last == Pass::Classify {
+        return Ok(operations);
+    }
+    table.types_are_sound();
+    match hoist(alloc, &code, &table, id, &classes) {
+        Ok(code) => {
+            operations.hoisted = count(&code.ops);
+            Ok(operations)
+        }
+        Err(_) => bail!("no memory to hoist"),
+    }
+}
+
+fn main(rt: HostRuntime) -> Result<()> {
+    let mut words = env::args(&rt)?.skip(1);
+    let last = words.next().and_then(|word| pass_of(word.as_str()));
+    let shape = words.next().and_then(|word| shape_of(word.as_str()));
+    let size = words
+        .next()
+        .and_then(|word| word.as_str().parse::<u32>().ok());
+    match (last, shape, size) {
+        (Some(last), Some(shape), Some(size)) => {
+            let made = run(rt.alloc(), last, shape, size)?;
+            println!(rt;
+                "operations: {} lowered, {} inlined, {} hoisted",
+                made.lowered, made.inlined, made.hoisted
+            )?;
+            Ok(())
+        }
+        _ => bail!(
+            "usage: stub_bench make|lower|inline|classify|hoist fields|lists|deep|bounded|pairs|arms SIZE"
+        ),
+    }
+}

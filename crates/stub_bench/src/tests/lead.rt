@@ -1,0 +1,80 @@
+// The head of a call.
+ghost use Rattle.std.specs.Prelude.{◌≡◌, IfOk};
+ghost use Rattle.wire_def.specs.declared.encoding.Back.TheVariants.{Xdr};
+ghost use Rattle.stub_bench.specs.Ready.{IsLead};
+
+use aoi::{Fields, Interface, Operation, Operations, Raises, Ty, Unit, is_sound};
+use back_xdr::lead_call;
+use cast_stub::SendCode;
+use kit_base::{Name, NoMemory};
+use mint::kind::Kind;
+use pres::{Bound, bind};
+use std::alloc::Global;
+use wire_def::{Back, Head, Order};
+
+/// The head of the message.
+pub const HEAD: Head = Head {
+    id: 9,
+    remote: 0,
+    local: 0,
+    wants: true,
+    order: Order::Big,
+};
+
+/// Its octets over XDR, for procedure 7 of version 3 of program 0x20000001.
+pub const OCTETS: &[u8; 40] =
+    b"\x00\x00\x00\x09\x00\x00\x00\x00\x00\x00\x00\x02\x20\x00\x00\x01\x00\x00\x00\x03\x00\x00\x00\x07\x00\x00\x00\x00\x00\x00\x00\x00\x00\x00\x00\x00\x00\x00\x00\x00";
+
+fn name(alloc: Global, text: &[u8]) -> Result<Name, NoMemory> {
+    let mut name = Name::new(alloc);
+    name.append(text)?;
+    Ok(name)
+}
+
+// `version V { int GET(void) = 7; } = 3;` of that program
+fn clock(alloc: Global) -> Result<Interface, NoMemory> {
+    let mut ops = Operations::new(alloc);
+    ops.push(Operation {
+        name: name(alloc, b"GET")?,
+        proc_no: 7,
+        slot: 0,
+        ins: Fields::new(alloc),
+        outs: Fields::new(alloc),
+        result: Ty::Num(Kind::I32),
+        raises: Raises::new(alloc),
+        oneway: false,
+    })?;
+    Ok(Interface {
+        name: name(alloc, b"CLOCK.V")?,
+        program: 0x2000_0001,
+        version: 3,
+        base: 1000,
+        slots: 1,
+        ops,
+    })
+}
+
+fn bound(alloc: Global) -> Result<Bound, NoMemory>
+    ensures { IfOk result (λ b. b.back ≡ Xdr) }
+{
+    let mut unit = Unit::new(alloc);
+    let added = unit.add_interface(clock(alloc)?);
+    if added.is_err() || !is_sound(&unit) {
+        return Err(NoMemory);
+    }
+    match bind(alloc, unit, Back::Xdr) {
+        Ok(bound) => Ok(bound),
+        Err(_) => Err(NoMemory),
+    }
+}
+
+/// Its code.
+pub fn lead(alloc: Global) -> Result<SendCode, NoMemory>
+    ensures { IfOk result IsLead }
+{
+    let bound = bound(alloc)?;
+    if bound.ops().len() == 0 {
+        return Err(NoMemory);
+    }
+    lead_call(alloc, &bound, 0)
+}
