@@ -1,6 +1,5 @@
 //! Values of every form of node, sent by hoisted code: the octets of the plain walk, with at most as
 //! many looks at the buffer as the value has regions.
-mod copies;
 mod lead;
 mod regions;
 mod runs;

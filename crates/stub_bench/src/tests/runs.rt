@@ -6,13 +6,13 @@ ghost use Rattle.mint.specs.Values.{seen};
 ghost use Rattle.hoist.specs.Seen.{AreClasses};
 ghost use Rattle.stub_bench.specs.Ready.{IsBoth, IsReady};
 
-use super::copies::put_copies;
 use super::lead::{HEAD, OCTETS, lead};
 use super::regions::regions;
 use super::types::{Form, table_of};
 use super::values::{Plan, value_of};
 use back_xdr::lower_send;
 use cast_stub::{SendCode, SendSubs};
+use copy_inline::copies::put_copies;
 use copy_inline::inline;
 use hoist::hoist;
 use kit_base::{NoMemory, Octets};
