@@ -25,10 +25,19 @@ fn words_of(alloc: Global, arguments: env::Args) -> Result<Words, NoMemory> {
     Ok(words)
 }
 
+/// The status where the process does not give its arguments.
+fn status_of(error: &io::Error) -> u8 {
+    match error.kind() {
+        io::ErrorKind::OutOfMemory => NO_MEMORY,
+        _ => NO_ARGUMENTS,
+    }
+}
+
 fn main(rt: HostRuntime) -> ExitCode {
     let alloc = rt.alloc();
-    let Ok(arguments) = env::args(&rt) else {
-        return ExitCode::from(NO_ARGUMENTS);
+    let arguments = match env::args(&rt) {
+        Ok(arguments) => arguments,
+        Err(error) => return ExitCode::from(status_of(&error)),
     };
     let Ok(words) = words_of(alloc, arguments) else {
         return ExitCode::from(NO_MEMORY);
