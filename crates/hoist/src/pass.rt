@@ -290,6 +290,7 @@ pub fn hoist(
     requires id { id < length mint.now }
     requires classes { AreClasses mint.now classes.now }
     requires given { IsGiven (type_at mint.now id) code.now }
+    ensures is { IfOk result (λ r. code_seen r.ops ≡ closed (hoisted xdr_roles (type_at mint.now id) (code_seen code.now.ops))) }
     ensures same { IfOk result (λ r. SendsTheSame code.now r) }
     ensures adds { IfOk result (λ r. AddsEnsures code.now r) }
     ensures covered { IfOk result (λ r. IsCoveredFor (type_at mint.now id) code.now r) }
