@@ -1,5 +1,5 @@
--- When a fault may be told: only where the count of faults of the object that was handed in rose.
-use Rattle.std.specs.Prelude.{ℕ, ◌+◌, ◌-◌, ◌^◌, ◌≤◌, min, max, Result, OnErr}
+-- When a fault is told: where the count of faults of the object that was handed in rose, and there alone.
+use Rattle.std.specs.Prelude.{◌≡◌, ℕ, ◌+◌, ◌-◌, ◌^◌, ◌≤◌, min, max, Result, OnOk, OnErr}
 
 -- a count of 64 bits raised by k: at its last value it stands
 abbrev pub raised : ℕ → ℕ → ℕ
@@ -9,7 +9,8 @@ raised n k = max n (min (n + k) (2 ^ 64 - 1))
 abbrev pub Rose : ℕ → ℕ → Type 0
 Rose before now = raised before 1 ≤ now
 
--- the count never falls, and a refusal comes only where it rose
+-- the count never falls, a refusal comes only where it rose, and without one it stands
 pub record HasCause {T E : Type 0} (before now : ℕ) (result : Result T E) : Type 0 where
   pub later : before ≤ now
   pub failed : OnErr result (Rose before now)
+  pub ok : OnOk result (before ≡ now)

@@ -6,6 +6,7 @@
 
 mod decimal;
 mod errors;
+mod line_text;
 mod lines;
 mod listed;
 mod mem_shelf;

@@ -6,7 +6,8 @@ ghost use Rattle.std.specs.Io.KnownBytes.{Consumes, IsAtEnd};
 ghost use Rattle.kit_base.specs.declared.lines.Line.TheVariants.{Long};
 ghost use Rattle.kit_base.specs.declared.lines.LineErr.{LineErr};
 
-use crate::{Failed, NoMemory, Octets, Source};
+use crate::line_text::{find_end, read_line};
+use crate::{Failed, Octets, Source};
 use std::alloc::Global;
 use std::marker::Model;
 
@@ -58,9 +59,11 @@ impl Model for Lines {
 
     ghost view = { λ s. record { longest = s.longest; most = s.most; kept = drop s.from s.buffer.items; skips = s.skips; ended = s.ended; taken = s.taken; error = s.error } };
 
-    // No line ends in the octets of a begun line that were searched already.
+    // No line ends in the octets of a begun line that were searched already. The buffer holds a
+    // longest line, its carriage return and a piece at most.
     ghost invariant = { λ s. (s.from ≤ length s.buffer.items) × (s.taken ≤ s.most + 1) × (s.most < 2 ^ 64 - 1)
-        × (s.from + s.searched ≤ length s.buffer.items) × HasNoEnd (take s.searched (drop s.from s.buffer.items)) };
+        × (s.from + s.searched ≤ length s.buffer.items) × HasNoEnd (take s.searched (drop s.from s.buffer.items))
+        × (length s.buffer.items ≤ s.longest + 65537) };
 }
 
 impl Lines {
@@ -83,11 +86,19 @@ impl Lines {
         }
     }
 
+    /// No more is kept than a longest line, its carriage return and a piece. It does nothing.
+    pub fn keeps_little(&self)
+        ensures { length self.now.kept ≤ self.now.longest + 65537 }
+    {
+        let _ = &self.buffer;
+    }
+
     /// The next line, past empty ones.
     pub fn next<S: Source>(&mut self, source: &mut S) -> Result<Line, LineErr>
         ensures lines { Advances (S.left source.old) (S.left source.new) self.old self.new (answered result) }
         ensures knows_end { KnowsEnd self.old (S.left source.old) → KnowsEnd self.new (S.left source.new) }
         ensures later { S.faults source.old ≤ S.faults source.new }
+        ensures told { result ≢ Err LineErr.Failed → S.faults source.old ≡ S.faults source.new }
         ensures falls { IfOk result (λ line. line ≢ Line.End → work self.new < work self.old) }
         ensures again { (e : LineErr) → self.old.error ≡ Some e → (result ≡ Err e) × (self.new ≡ self.old) }
         ensures fresh { OnOk result (self.new.error ≡ None) }
@@ -114,6 +125,7 @@ impl Lines {
         ensures knows_end { KnowsEnd self.old (S.left source.old) → KnowsEnd self.new (S.left source.new) }
         ensures end { result ≡ Ok Line.End → (pending self.new [] ≡ []) × (self.new.ended ≡ true) }
         ensures later { S.faults source.old ≤ S.faults source.new }
+        ensures told { result ≢ Err LineErr.Failed → S.faults source.old ≡ S.faults source.new }
         ensures failed { result ≡ Err LineErr.Failed → Rose (S.faults source.old) (S.faults source.new) × HasNoEnd self.new.kept × (self.new.ended ≡ false) }
         ensures too_much { result ≡ Err LineErr.TooMuch → self.new.most < self.new.taken }
         ensures within { result ≢ Err LineErr.TooMuch → result ≢ Err LineErr.NoMemory → self.new.taken ≤ self.new.most }
@@ -147,6 +159,7 @@ impl Lines {
         ensures err { IfErr result (λ e. (e ≡ LineErr.NoMemory) × (self.new ≡ self.old)) }
         ensures whole { IfOk result (λ c. IsFound c → work self.new < work self.old) }
         ensures open_end { IfOk result (λ c. c ≡ Cut.NoEnd → HasNoEnd self.new.kept × (work self.new ≤ work self.old)) }
+        ensures small { IfOk result (λ c. c ≡ Cut.NoEnd → length self.new.kept ≤ self.new.longest + 1) }
         ensures same { (self.new.ended ≡ self.old.ended) × (self.new.error ≡ self.old.error) }
     {
         let Some(end) = self.find() else {
@@ -258,6 +271,7 @@ impl Lines {
     fn refill<S: Source>(&mut self, source: &mut S) -> Result<(), LineErr>
         requires room { self.old.taken ≤ self.old.most }
         requires more { self.old.ended ≡ false }
+        requires small { length self.old.kept ≤ self.old.longest + 1 }
         ensures kept { take (length self.old.kept) self.new.kept ≡ self.old.kept }
         ensures got { Consumes (S.left source.old) (S.left source.new) (drop (length self.old.kept) self.new.kept) }
         ensures count { self.new.taken + length self.old.kept ≡ self.old.taken + length self.new.kept }
@@ -270,6 +284,7 @@ impl Lines {
         ensures same { (self.new.longest ≡ self.old.longest) × (self.new.most ≡ self.old.most) × (self.new.skips ≡ self.old.skips) × (self.new.error ≡ self.old.error) }
         ensures err { OnErr result (self.new.ended ≡ self.old.ended) }
         ensures later { S.faults source.old ≤ S.faults source.new }
+        ensures told { result ≢ Err LineErr.Failed → S.faults source.old ≡ S.faults source.new }
         ensures failed { result ≡ Err LineErr.Failed → Rose (S.faults source.old) (S.faults source.new) }
         ensures too_much { result ≢ Err LineErr.TooMuch }
     {
@@ -293,50 +308,6 @@ enum Cut {
     NoEnd,
 }
 
-/// Where the first line ends, where none ends before `from`.
-fn find_end(octets: &[u8], from: usize) -> Option<usize>
-    requires within { from ≤ length octets.now }
-    requires searched { HasNoEnd (take from octets.now) }
-    ensures found { IfSome result (λ i. (i < length octets.now) × HasNoEnd (take i octets.now) × (octets.now ≡ take i octets.now ++ 10 ∷ drop (i + 1) octets.now)) }
-    ensures none { IfNone result (HasNoEnd octets.now) }
-{
-    for i in from..octets.len() {
-        if octets[i] == 10 {
-            return Some(i);
-        }
-    }
-    None
-}
-
-/// What is answered for the octets of a line.
-fn read_line(alloc: Global, longest: u32, octets: &[u8]) -> Result<Option<Line>, LineErr>
-    ensures lines { IfOk result (λ o. option_to_list o ≡ line_of longest octets.now) }
-    ensures no_end { IfOk result (λ o. o ≢ Some Line.End) }
-    ensures err { IfErr result (λ e. e ≡ LineErr.NoMemory) }
-{
-    let line = without_return(octets);
-    if line.is_empty() {
-        return Ok(None);
-    }
-    if line.len() > longest as usize {
-        return Ok(Some(Line::Long));
-    }
-    let mut text = Octets::new(alloc);
-    match text.append(line) {
-        Ok(()) => Ok(Some(Line::Text(text))),
-        Err(NoMemory) => Err(LineErr::NoMemory),
-    }
-}
-
-fn without_return(octets: &[u8]) -> &[u8]
-    ensures { result.now ≡ chomp octets.now }
-{
-    match octets.last() {
-        Some(13) => &octets[..octets.len() - 1],
-        _ => octets,
-    }
-}
-
 fn discard_front(buffer: &mut Vec<u8>, n: usize)
     requires { n ≤ length buffer.old.items }
     ensures { buffer.new.items ≡ drop n buffer.old.items }
@@ -353,10 +324,11 @@ fn read_behind<S: Source>(
     requires { length piece.old ≤ 65536 }
     ensures kept { take (length buffer.old.items) buffer.new.items ≡ buffer.old.items }
     ensures got { Consumes (S.left source.old) (S.left source.new) (drop (length buffer.old.items) buffer.new.items) }
-    ensures count { IfOk result (λ n. (length buffer.new.items ≡ length buffer.old.items + n) × (n ≤ length piece.old)) }
+    ensures count { IfOk result (λ n. (length buffer.new.items ≡ length buffer.old.items + n) × (n ≤ length piece.old) × (n ≤ 65536)) }
     ensures none { OnErr result (buffer.new.items ≡ buffer.old.items) }
     ensures end { IfOk result (λ n. n ≡ 0 → 0 < length piece.old → IsAtEnd (S.left source.new)) }
     ensures later { S.faults source.old ≤ S.faults source.new }
+    ensures told { result ≢ Err LineErr.Failed → S.faults source.old ≡ S.faults source.new }
     ensures failed { result ≡ Err LineErr.Failed → Rose (S.faults source.old) (S.faults source.new) }
     ensures too_much { result ≢ Err LineErr.TooMuch }
 {

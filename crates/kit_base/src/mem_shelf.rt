@@ -1,5 +1,5 @@
 // A shelf in memory.
-ghost use Rattle.std.specs.Prelude.{◌≡◌, ◌≤◌, ◌↔◌, [], ◌∷◌, ◌++◌, length, take, Some, None, OnOk, OnErr, IfOk, IfErr, IsErrOf, true, false};
+ghost use Rattle.std.specs.Prelude.{◌≡◌, ◌≢◌, ◌≤◌, ◌↔◌, [], ◌∷◌, ◌++◌, length, take, Some, None, OnOk, OnErr, IfOk, IfErr, IsErrOf, true, false};
 ghost use Rattle.std.specs.Option.{option_copied};
 ghost use Rattle.kit_base.specs.Causes.{Rose};
 ghost use Rattle.kit_base.specs.Memory.{HasFile, LacksFile, content_of, fails_next, called, fresh};
@@ -93,6 +93,7 @@ impl Shelf for MemShelf {
         ensures absent { IsErrOf result ShelfErr.Absent → LacksFile (Some (content_of self.old.files)) path.now }
         ensures later { self.old.plan.faults ≤ self.new.plan.faults }
         ensures failed { IsErrOf result ShelfErr.Failed → Rose self.old.plan.faults self.new.plan.faults }
+        ensures told { result ≢ Err ShelfErr.Failed → self.old.plan.faults ≡ self.new.plan.faults }
         ensures listed { IsErrOf result ShelfErr.Failed ↔ (fails_next self.old.plan ≡ true) }
     {
         if self.fails_now() {

@@ -1,5 +1,5 @@
 // What gives octets, what takes them, and what has files by their paths.
-ghost use Rattle.std.specs.Prelude.{◌≡◌, ◌<◌, ◌≤◌, List, ℕ, Bool, [], ◌++◌, length, take, OnOk, OnErr, IfOk, IsErrOf, Option, Some, None, IsSome, IsNone, MatchResult};
+ghost use Rattle.std.specs.Prelude.{◌≡◌, ◌≢◌, ◌<◌, ◌≤◌, List, ℕ, Bool, [], ◌++◌, length, take, OnOk, OnErr, IfOk, IsErrOf, Option, Some, None, IsSome, IsNone, MatchResult};
 ghost use Rattle.std.specs.Io.{ReadsAtMost, WritesAtMost};
 ghost use Rattle.std.specs.Io.KnownBytes.{ReadConsumes, WriteAppends, Appends};
 ghost use Rattle.kit_base.specs.Causes.{Rose, HasCause};
@@ -58,7 +58,8 @@ pub trait Shelf {
         ensures bound { IfOk result (λ octets. length octets ≤ most) }
         ensures absent { IsErrOf result ShelfErr.Absent → LacksFile (files self.old) path.now }
         ensures later { faults self.old ≤ faults self.new }
-        ensures failed { IsErrOf result ShelfErr.Failed → Rose (faults self.old) (faults self.new) };
+        ensures failed { IsErrOf result ShelfErr.Failed → Rose (faults self.old) (faults self.new) }
+        ensures told { result ≢ Err ShelfErr.Failed → faults self.old ≡ faults self.new };
 }
 
 /// Writes all the octets. After a refusal a front of them was appended.

@@ -5,7 +5,7 @@ use Rattle.kit_base.proofs.Cutting.{advances-trans, advances-refl, advances-pass
 use Rattle.kit_base.proofs.lines.Lines.step_on.Goals as goal
 
 pub loop-self-init : goal.loop-self-init
-loop-self-init g c = record { lines = advances-refl _ _; knows_end = λ h. h; later = omega arith; fewer = omega arith; same = refl }
+loop-self-init g c = record { lines = advances-refl _ _; knows_end = λ h. h; stands = refl; fewer = omega arith; same = refl }
 
 pub returns-in-Found-Some-clause-lines : goal.returns-in-Found-Some-clause-lines
 returns-in-Found-Some-clause-lines g c =
@@ -29,7 +29,7 @@ loop-self-preserved g c =
       lines = advances-trans _ _ _ _ _ _ _ _ c.loop-self.invariant.lines (advances-trans _ _ _ _ _ _ _ _ (advances-passed _ _ _ _ cut)
           (drop (length c.cut.new.self.kept) c.refill.new.self.kept, c.refill.ensures.got, passed-refill _ _ c.refill.ensures.kept c.refill.ensures.count c.refill.ensures.same.0 c.refill.ensures.same.1 c.refill.ensures.same.2 unended));
       knows_end = λ h. c.in_default.ensures.end;
-      later = omega arith;
+      stands = c.loop-self.invariant.stands ∙ c.in_default.ensures.told (λ e. absurd (cc e));
       fewer = omega (arith, ((rw c.in-NoEnd.is at c.in_ok-line.ensures.open_end) refl).1, c.in_default.ensures.falls, c.loop-self.invariant.fewer);
       same = c.refill.ensures.same.3 ∙ c.cut.ensures.same.1 ∙ c.loop-self.invariant.same;
     }

@@ -1,0 +1,50 @@
+// Where a line ends, and what is answered for its octets.
+ghost use Rattle.std.specs.Prelude.{◌≡◌, ◌≢◌, ◌<◌, ◌≤◌, ◌+◌, ◌∷◌, ◌++◌, length, take, drop, IfOk, IfErr, IfSome, IfNone, Some, option_to_list};
+ghost use Rattle.kit_base.specs.Lines.{line_of, HasNoEnd, chomp};
+
+use crate::{Line, LineErr, NoMemory, Octets};
+use std::alloc::Global;
+
+/// Where the first line ends, where none ends before `from`.
+pub(crate) fn find_end(octets: &[u8], from: usize) -> Option<usize>
+    requires within { from ≤ length octets.now }
+    requires searched { HasNoEnd (take from octets.now) }
+    ensures found { IfSome result (λ i. (i < length octets.now) × HasNoEnd (take i octets.now) × (octets.now ≡ take i octets.now ++ 10 ∷ drop (i + 1) octets.now)) }
+    ensures none { IfNone result (HasNoEnd octets.now) }
+{
+    for i in from..octets.len() {
+        if octets[i] == 10 {
+            return Some(i);
+        }
+    }
+    None
+}
+
+/// What is answered for the octets of a line.
+pub(crate) fn read_line(alloc: Global, longest: u32, octets: &[u8]) -> Result<Option<Line>, LineErr>
+    ensures lines { IfOk result (λ o. option_to_list o ≡ line_of longest octets.now) }
+    ensures no_end { IfOk result (λ o. o ≢ Some Line.End) }
+    ensures err { IfErr result (λ e. e ≡ LineErr.NoMemory) }
+{
+    let line = without_return(octets);
+    if line.is_empty() {
+        return Ok(None);
+    }
+    if line.len() > longest as usize {
+        return Ok(Some(Line::Long));
+    }
+    let mut text = Octets::new(alloc);
+    match text.append(line) {
+        Ok(()) => Ok(Some(Line::Text(text))),
+        Err(NoMemory) => Err(LineErr::NoMemory),
+    }
+}
+
+fn without_return(octets: &[u8]) -> &[u8]
+    ensures { result.now ≡ chomp octets.now }
+{
+    match octets.last() {
+        Some(13) => &octets[..octets.len() - 1],
+        _ => octets,
+    }
+}
