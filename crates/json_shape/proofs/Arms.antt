@@ -1,9 +1,9 @@
 -- The arm that is found among the arms of a choice.
-use Rattle.std.proofs.Common.{◌≡◌, ℕ, ◌<◌, ℤ, List, [], ◌∷◌, Option, None, Some, refl, int_eq, Bool, true, false, cond, option_map, option_and_then, sym}
+use Rattle.std.proofs.Common.{◌≡◌, ℕ, ℤ, List, [], ◌∷◌, Option, None, Some, refl, int_eq, Bool, true, false, cond, option_map, option_and_then, sym}
 use Rattle.std.specs.Option.{option_map_or}
-use Rattle.mint.specs.Types.{ArmsBelow, IsBelow}
 use Rattle.mint.specs.Arms.{arm_found}
 use Rattle.mint.specs.Values.{Val, arm}
+use Rattle.mint.proofs.Arms.{arm_below}
 use Rattle.pres.specs.Faces.{Face, Arms, Sign, at, arms_at, choice}
 use Rattle.serde_json.specs.Data.{Data}
 use Rattle.serde_json.specs.Data as json
@@ -35,19 +35,6 @@ unfolding value_of
 arm_missed fs [] None n j is = refl
 arm_missed fs [] (Some i) n j is = absurd cc
 arm_missed fs (a ∷ arms) o n j is = none_at fs (int_eq n a.0) a.1 (arm_found arms o n) (behind (arms_at fs arms o) n j) j is (λ f. arm_missed fs arms o n j f)
-
-below_at : (b : Bool) (j : ℕ) (rest : Option ℕ) (k i : ℕ) → cond b (Some j) rest ≡ Some i → j < k → (rest ≡ Some i → i < k) → i < k
-below_at true j rest k i e h more =
-    let same : j ≡ i = cc in
-    rw same at h
-below_at false j rest k i e h more = more e
-
-pub arm_below : (arms : List (ℤ × ℕ)) (o : Option ℕ) (n : ℤ) (k i : ℕ) → arm_found arms o n ≡ Some i → ArmsBelow k arms → IsBelow k o → i < k
-arm_below [] None n k i e h j = absurd cc
-arm_below [] (Some m) n k i e h j =
-    let same : m ≡ i = cc in
-    rw same at j
-arm_below (a ∷ arms) o n k i e h j = below_at (int_eq n a.0) a.1 (arm_found arms o n) k i e h.0 (λ f. arm_below arms o n k i f h.1 j)
 
 pub ruleset arms = (arm_read, arm_missed, arm_below)
 

@@ -1,7 +1,9 @@
+pub mod Arms
 pub mod BlankTyped
 pub mod Blanks
 pub mod Fitting
 pub mod Images
 pub mod Measuring
+pub mod Octets
 pub mod Seen
 pub mod Unfolding

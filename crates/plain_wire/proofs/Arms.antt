@@ -1,8 +1,8 @@
 -- The arm that is found among the arms of a choice.
-use Rattle.std.proofs.Common.{◌≡◌, ℕ, ◌<◌, ℤ, List, [], ◌∷◌, Option, None, Some, refl, int_eq, Bool, true, false, cond}
+use Rattle.std.proofs.Common.{◌≡◌, ℕ, ℤ, List, [], ◌∷◌, Option, None, Some, refl, int_eq, Bool, true, false, cond}
 use Rattle.std.specs.Prelude.{MatchBool}
 use Rattle.mint.specs.Values.{Val}
-use Rattle.mint.specs.Types.{Ty, at, arms_at, ArmsBelow, IsBelow}
+use Rattle.mint.specs.Types.{Ty, at, arms_at}
 use Rattle.mint.specs.Arms.{arm_found}
 use Rattle.mint.specs.Typed.{IsOf, IsOfArm}
 use Rattle.wire_def.specs.declared.encoding.Encoding.{Encoding}
@@ -45,16 +45,3 @@ module _ (us : List Ty) (n : ℤ) where
       let same : j ≡ i = cc in
       rw same refl
   arm_sent e (a ∷ arms) o p v i is = sent_at e (int_eq n a.0) a.1 (arm_found arms o n) p v (send_arm e (arms_at us arms o) n p v) i is (λ f. arm_sent e arms o p v i f)
-
-below_at : (b : Bool) (j : ℕ) (rest : Option ℕ) (k i : ℕ) → cond b (Some j) rest ≡ Some i → j < k → (rest ≡ Some i → i < k) → i < k
-below_at true j rest k i e h more =
-    let same : j ≡ i = cc in
-    rw same at h
-below_at false j rest k i e h more = more e
-
-pub arm_below : (arms : List (ℤ × ℕ)) (o : Option ℕ) (n : ℤ) (k i : ℕ) → arm_found arms o n ≡ Some i → ArmsBelow k arms → IsBelow k o → i < k
-arm_below [] None n k i e h j = absurd cc
-arm_below [] (Some m) n k i e h j =
-    let same : m ≡ i = cc in
-    rw same at j
-arm_below (a ∷ arms) o n k i e h j = below_at (int_eq n a.0) a.1 (arm_found arms o n) k i e h.0 (λ f. arm_below arms o n k i f h.1 j)

@@ -19,7 +19,7 @@ use Rattle.mint.specs.Types.{row_of, number, Scalar, Ty, Tys, field, at, fields_
 use Rattle.mint.specs.Arms.{arm_found}
 use Rattle.mint.specs.Typed.{has_arm}
 use Rattle.wire_def.specs.Send.{flag}
-use Rattle.plain_wire.proofs.Arms.{arm_below}
+use Rattle.mint.proofs.Arms.{arm_below}
 use Rattle.wire_def.specs.Reading.{read, read_fields, read_arm}
 use Rattle.wire_def.specs.Arrays.{read_element, read_octet, read_zeros}
 use Rattle.wire_def.specs.Grammar.{Reader, Reading, got, stop, map_got, times}

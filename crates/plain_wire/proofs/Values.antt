@@ -10,7 +10,8 @@ use Rattle.std.proofs.lemmas.List.{drop_all}
 use Rattle.mint.specs.declared.value.Value.{Value}
 use Rattle.wire_def.specs.declared.encoding.Encoding.{Encoding}
 use Rattle.wire_def.specs.Send.{send, send_fields, send_each}
-use Rattle.plain_wire.proofs.Arms.{arm_typed, arm_none, arm_sent, arm_below}
+use Rattle.mint.proofs.Arms.{arm_below}
+use Rattle.plain_wire.proofs.Arms.{arm_typed, arm_none, arm_sent}
 use Rattle.plain_wire.proofs.Steps.{xdr}
 
 pub count-all_seen : (vs : List Value) → count (all_seen vs) ≡ length vs
