@@ -5,5 +5,6 @@ pub mod Fitting
 pub mod Images
 pub mod Measuring
 pub mod Octets
+pub mod Places
 pub mod Seen
 pub mod Unfolding

@@ -2,7 +2,7 @@ use Rattle.std.proofs.Common.{◌≡◌, ◌≤◌, ◌+◌, ◌*◌, length, So
 use Rattle.std.specs.Int.{w128}
 use Rattle.std.proofs.lemmas.Int.{to_z-of_z}
 use Rattle.mint.specs.Row.{Numbers, numbers_of}
-use Rattle.mint.proofs.Images.{place_within, number_got, none_got}
+use Rattle.mint.proofs.Places.{place_within, number_got, none_got}
 use Rattle.mint.proofs.row.Row.get.Goals as goal
 
 pub overflow_mul-at : goal.overflow_mul-at

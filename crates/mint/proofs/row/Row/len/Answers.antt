@@ -1,6 +1,6 @@
 use Rattle.std.proofs.Common.{length, ap}
 use Rattle.mint.specs.Row.{Numbers}
-use Rattle.mint.proofs.Images.{numbers_many}
+use Rattle.mint.proofs.Places.{numbers_many}
 use Rattle.mint.proofs.row.Row.len.Goals as goal
 
 pub returns : goal.returns
