@@ -1,4 +1,5 @@
 pub mod Appending
+pub mod Codes
 mod Covering
 pub mod Folding
 pub mod Pieces

@@ -1,5 +1,6 @@
 -- A part's code on the whole.
 use Rattle.std.proofs.Common.{◌≡◌, ℕ, suc, List, [], ◌∷◌, ◌++◌, map, length, replicate, pos, ◌+◌, ◌*◌, Option, Some, None, refl, sym, ap, ◌∙◌}
+use Rattle.std.proofs.lemmas.List.{length-map}
 use Rattle.mint.specs.Values.{Val}
 use Rattle.wire_def.specs.declared.head.Head.{Head}
 use Rattle.cast_stub.specs.declared.put.Put.{Put}
@@ -51,17 +52,13 @@ put_all-rebase h q [] v w cs e = refl
 put_all-rebase h q (p ∷ ps) v w cs e =
     rw (put-rebase h q p v w e, offset-rebase q p) (on_some_same (on_some (put_octets h p w) (λ os. placed (offset p) os cs)) (put_all h v (map (put_rebased q) ps)) (put_all h w ps) (λ ds. put_all-rebase h q ps v w ds e))
 
-length-map : (f : Put → Put) (ps : List Put) → length (map f ps) ≡ length ps
-length-map f [] = refl
-length-map f (p ∷ ps) = ap suc (length-map f ps)
-
 -- code made for a part, seen from the whole; where the part is there
 pub steps-rebase : (c : Calls) (h : Head) (q : List ℕ) (b : Block) (v w : Val) → at q v ≡ Some w → steps c h (rebase q b) v ≡ steps c h b w
 steps-rebase c h q stop v w e = refl
 steps-rebase c h q (ensure n r) v w e = ap (both (Some (Room n ∷ []))) (steps-rebase c h q r v w e)
 steps-rebase c h q (ensure_row p u x r) v w e = rw (at-rebase q p v w e, steps-rebase c h q r v w e) refl
 steps-rebase c h q (align a r) v w e = rw (steps-rebase c h q r v w e) refl
-steps-rebase c h q (chunk s ps r) v w e = rw (put_all-rebase h q ps v w (replicate s None) e, length-map (put_rebased q) ps, steps-rebase c h q r v w e) refl
+steps-rebase c h q (chunk s ps r) v w e = rw (put_all-rebase h q ps v w (replicate s None) e, length-map ps (put_rebased q), steps-rebase c h q r v w e) refl
 steps-rebase c h q (row_copy p r) v w e = rw (at-rebase q p v w e, steps-rebase c h q r v w e) refl
 steps-rebase c h q (row_swap p r) v w e = rw (at-rebase q p v w e, steps-rebase c h q r v w e) refl
 steps-rebase c h q (row_wide p o r) v w e = rw (at-rebase q p v w e, steps-rebase c h q r v w e) refl

@@ -1,7 +1,7 @@
 -- One operation more, for a part, calls put in their place.
 use Rattle.std.proofs.Common.{option_map, ◌≡◌, ℕ, ℤ, ◌+◌, ◌<◌, List, [], ◌∷◌, ◌++◌, length, get_or, map, Option, Some, None, refl, sym, ap, ◌∙◌}
 use Rattle.std.proofs.Math.ListN.{take}
-use Rattle.std.proofs.lemmas.List.{take_more}
+use Rattle.std.proofs.lemmas.List.{map-append, take_more}
 use Rattle.cast_stub.specs.declared.send.SendOp.{SendOp}
 use Rattle.cast_stub.specs.declared.send.SendOp.TheVariants as op
 use Rattle.cast_stub.specs.Block.{Block, stop, Piece, op_seen, code_seen, cases_seen, Cases, default, case, switch}
@@ -43,10 +43,6 @@ cases_same inl (b ∷ bs) (c ∷ cs) last other e f =
     let rest : pairs_seen bs ≡ pairs_spliced inl cs = cc in
     ap (λ (x : ℤ × Block). case x.0 x.1 (cases_seen bs last)) first ∙ ap (case c.0 (spliced inl (code_seen c.1))) (cases_same inl bs cs last other rest f)
 
-map-more : {A B : Type 0} (f : A → B) (xs : List A) (x : A) → map f (xs ++ x ∷ []) ≡ map f xs ++ f x ∷ []
-map-more f [] x = refl
-map-more f (y ∷ xs) x = ap (λ l. f y ∷ l) (map-more f xs x)
-
 abbrev seen_pair : ℤ × List SendOp → ℤ × Block
 seen_pair c = (c.0, code_seen c.1)
 
@@ -63,8 +59,8 @@ pub bodies_turn : (inl : ℕ → Block) (cases : List (ℤ × List SendOp)) (i :
 bodies_turn inl cases i d x bodies bodies' body lt same so_far is made b =
     let more : take (i + 1) cases ≡ take i cases ++ d ∷ [] = take_more cases i d lt ∙ ap (λ (x : ℤ × List SendOp). take i cases ++ x ∷ []) (sym same) in
     let one : seen_pair x ≡ flat_pair inl d = ap seen_pair is ∙ ap (pair d.0) made in
-    ap pairs_seen b ∙ map-more seen_pair bodies x ∙ ap (λ (l : List (ℤ × Block)). l ++ seen_pair x ∷ []) so_far ∙ ap (λ (y : ℤ × Block). pairs_spliced inl (take i cases) ++ y ∷ []) one
-    ∙ sym (ap (pairs_spliced inl) more ∙ map-more (flat_pair inl) (take i cases) d)
+    ap pairs_seen b ∙ map-append seen_pair bodies (x ∷ []) ∙ ap (λ (l : List (ℤ × Block)). l ++ seen_pair x ∷ []) so_far ∙ ap (λ (y : ℤ × Block). pairs_spliced inl (take i cases) ++ y ∷ []) one
+    ∙ sym (ap (pairs_spliced inl) more ∙ map-append (flat_pair inl) (take i cases) (d ∷ []))
 
 pub switch_is : (inl : ℕ → Block) (q path path' : List ℕ) (o : SendOp) (cases bodies : List (ℤ × List SendOp)) (other last : Option (List SendOp)) → o ≡ op.Switch path cases other → path' ≡ q ++ path → pairs_seen bodies ≡ pairs_spliced inl cases → option_map code_seen last ≡ option_map (λ b. spliced inl (code_seen b)) other
     → op_seen (op.Switch path' bodies last) stop ≡ rebase q (spliced inl (op_seen o stop))

@@ -1,6 +1,6 @@
 -- Code that goes through a type goes through it with its calls replaced.
 use Rattle.std.proofs.Common.{◌≡◌, inl, inr, ℕ, zero, suc, ◌+◌, ◌<◌, ◌≤◌, List, [], ◌∷◌, ◌++◌, map, length, Option, Some, None, option_map, refl, sym, ap, subst, ◌∙◌, arith, append_assoc}
-use Rattle.std.proofs.lemmas.List.{append-nil}
+use Rattle.std.proofs.lemmas.List.{length-map, append-nil}
 use Rattle.mint.specs.declared.kind.Count.{Count}
 use Rattle.mint.specs.declared.kind.Count.TheVariants.{Exactly, AtMost, Any}
 use Rattle.mint.specs.Types.{Array, Ty, void_type, scalar_type, array_type, group_type, items_type, choice_type, maybe_type, Tys, no_fields, field, Arms, no_other, others, arm_type}
@@ -17,13 +17,9 @@ use Rattle.copy_inline.proofs.Blocks.{rebase-append, spliced-append}
 
 -- ---- chunks and aligns
 
-length-map : (f : Put → Put) (ps : List Put) → length (map f ps) ≡ length ps
-length-map f [] = refl
-length-map f (p ∷ ps) = ap suc (length-map f ps)
-
 flat-rebase : (q : List ℕ) (b : Block) → flat (rebase q b) ≡ flat b
 flat-rebase q stop = refl
-flat-rebase q (chunk s ps r) = rw (length-map (put_rebased q) ps, flat-rebase q r) refl
+flat-rebase q (chunk s ps r) = rw (length-map ps (put_rebased q), flat-rebase q r) refl
 flat-rebase q (align a r) = ap (option_map suc) (flat-rebase q r)
 flat-rebase q (ensure n r) = refl
 flat-rebase q (ensure_row p u e r) = refl
@@ -69,7 +65,7 @@ pub record AreKept (L : Loops) : Type 0 where
   pub rebased : (a : Array) (q p : List ℕ) (b : Block) → L a p b → L a (q ++ p) (rebase q b)
   pub spliced_too : (code : ℕ → Block) (a : Array) (p : List ℕ) (b : Block) → L a p b → L a p (spliced code b)
 
-own : (F : Going) (below : ℕ) (p : List ℕ) (b : Block) → Child no_subs F below p b → F below p b
+pub own : (F : Going) (below : ℕ) (p : List ℕ) (b : Block) → Child no_subs F below p b → F below p b
 own F below p b (inl f) = f
 own F below p b (inr c) = absurd (let none = c.4 in cc)
 

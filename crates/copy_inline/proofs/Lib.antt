@@ -2,7 +2,7 @@ pub mod Adding
 pub mod Blocks
 pub mod Copied
 pub mod Emitting
-mod Followed
+pub mod Followed
 mod Free
 mod Same
 mod Whole

@@ -1,5 +1,6 @@
 -- A chunk has as many octets as it says.
 use Rattle.std.proofs.Common.{◌≡◌, ℕ, zero, suc, List, [], ◌∷◌, length, replicate, Option, Some, None, option_map, refl, sym, ap, ◌∙◌}
+use Rattle.std.proofs.lemmas.List.{length-replicate}
 use Rattle.mint.specs.Values.{Val}
 use Rattle.wire_def.specs.declared.head.Head.{Head}
 use Rattle.cast_stub.specs.declared.put.Put.{Put}
@@ -36,10 +37,6 @@ long-all h v (p ∷ ps) cs ds e =
     let k = split_one (put_octets h p v) (offset p) cs m.0 m.1 in
     long-all h v ps m.0 ds m.2 ∙ long-placed (offset p) k.0 cs m.0 k.2
 
-length-blank : (n : ℕ) → length (replicate {A = Option ℕ} n None) ≡ n
-length-blank zero = refl
-length-blank (suc n) = ap suc (length-blank n)
-
 full-long : (cs : Cells) (o : List ℕ) → full cs ≡ Some o → length o ≡ length cs
 full-long [] o e = let s : [] ≡ o = cc in ap length (sym s)
 full-long (None ∷ cs) o e = absurd cc
@@ -51,4 +48,4 @@ full-long (Some x ∷ cs) o e = more (full cs) x o (length cs) e (full-long cs) 
 pub length-filled : (h : Head) (v : Val) (ps : List Put) (a : ℕ) (o : List ℕ) → filled a ps h v ≡ Some o → length o ≡ a
 length-filled h v ps a o e =
     let m = split_full (put_all h v ps (replicate a None)) o e in
-    full-long m.0 o m.2 ∙ long-all h v ps (replicate a None) m.0 m.1 ∙ length-blank a
+    full-long m.0 o m.2 ∙ long-all h v ps (replicate a None) m.0 m.1 ∙ length-replicate a None

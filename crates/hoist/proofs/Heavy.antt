@@ -24,7 +24,8 @@ use Rattle.hoist.specs.Hoisted.{nothing, octets, row, Hoisted, closed, Plan, fla
 use Rattle.hoist.specs.Regions.{Sizes, AreSizes, Part, row_part, break_part, lone, is_light, with_breaks, broken, parts, fields_parts, arm_parts, groups, on_way, roles, is_hollow}
 use Rattle.hoist.proofs.Grouping.{load, loaded, apart_groups, total, broken_groups, load_lone, load_some, load_small}
 use Rattle.hoist.proofs.Weighing.{spent, checks-append, weigh, weigh_quiet, weigh_less, low, high, least, greatest, greatest_least, closed_fits, loop_greatest, apart_greatest}
-use Rattle.hoist.proofs.Quiet.{quiet, quiet_over, quiet_on, quiet_chunk, quiet_align, mapped, bare, flat_bare, own}
+use Rattle.copy_inline.proofs.Followed.{own}
+use Rattle.hoist.proofs.Quiet.{quiet, quiet_over, quiet_on, quiet_chunk, quiet_align, mapped, bare, flat_bare}
 use Rattle.hoist.proofs.Ways.{AreFrom, from-first, from-next, from-head, ty-field, way-field, at-field, turn_there, row_turn_there}
 use Rattle.hoist.proofs.Light.{flat_adds, light, hollow}
 use Rattle.hoist.proofs.Standing.{either_way, light_top, light_is, light_parts, heavy_or, parts_are, low_high, ValuesFrom, values-first, values-next, values-head, IsRow, loop_row, heavy_role, row_settled}

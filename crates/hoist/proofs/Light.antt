@@ -19,7 +19,8 @@ use Rattle.hoist.specs.Bound.{bound, cases_bound, element_at, present_at, arms_a
 use Rattle.hoist.specs.Hoisted.{Pending, nothing, octets, row, Hoisted, closed, Plan, flat, small, raised, settled, Role, is_small, loop_plan, body_plan, each_plan, some_plan, switch_plan, kept, items_at, or_void, or_none, hoisted, cases_hoisted}
 use Rattle.hoist.specs.Regions.{Sizes, AreSizes, on_way, roles, role_at, top_at, or_zero, is_light, fields_top, is_hollow, are_hollow}
 use Rattle.hoist.proofs.Weighing.{spent, weigh, weigh_less, weigh_quiet, low, high, least, greatest, flat_least, small_least}
-use Rattle.hoist.proofs.Quiet.{quiet, case_quiet, quiet_over, quiet_present, quiet_on, quiet_chunk, quiet_align, mapped, bare, arms_bare, flat_bare, own}
+use Rattle.copy_inline.proofs.Followed.{own}
+use Rattle.hoist.proofs.Quiet.{quiet, case_quiet, quiet_over, quiet_present, quiet_on, quiet_chunk, quiet_align, mapped, bare, arms_bare, flat_bare}
 use Rattle.hoist.proofs.Ways.{AreFrom, from-first, from-next, from-head, ty-field, way-field, loop_bound, array_there, items_there, choice_there, maybe_there}
 
 pub loop_small : (role : Role) (n u : Option ℕ) (p : List ℕ) (k : ℕ) → role ≡ is_small k → IsThere n → (m : ℕ) × (loop_plan role n u p ≡ small m k)

@@ -11,6 +11,7 @@ use Rattle.cast_stub.specs.declared.send.SendOp.TheVariants as op
 use Rattle.cast_stub.specs.Parts.{on_some}
 use Rattle.cast_stub.specs.Block.{Block, Piece, op_seen, code_seen, cases_seen}
 use Rattle.cast_stub.specs.PartTypes.{field_type}
+use Rattle.cast_stub.proofs.Codes.{code-drop}
 use Rattle.cast_stub.proofs.Pieces.{seen-Ensure, seen-EnsureRow, seen-Align, seen-Chunk, seen-RowCopy, seen-RowSwap, seen-RowWide, seen-Each, seen-Some, seen-Call, seen-Patch, seen-Switch}
 use Rattle.hoist.specs.Bound.{plus, greater, bound, cases_bound, element_at, present_at, arms_at}
 
@@ -34,9 +35,6 @@ no-value (n ∷ p) s = refl
 pub no-arms : (p : List ℕ) (s : Scalar) → arms_at p (scalar_type s) ≡ None
 no-arms [] s = refl
 no-arms (n ∷ p) s = refl
-
-pub code-drop : (ops : List SendOp) (i : ℕ) (d : SendOp) → i < length ops → code_seen (drop i ops) ≡ op_seen (get_or ops i d) (code_seen (drop (i + 1) ops))
-code-drop ops i d h = rw (add-one, drop-cons ops i d) refl
 
 pub none-more : (m : Option ℕ) → plus (Some 0) m ≡ m
 none-more None = refl

@@ -15,6 +15,7 @@ use Rattle.cast_stub.specs.Steps.{Pad, Stored, Patched, Steps, both, over, if_pr
 use Rattle.cast_stub.specs.Follows as follows
 use Rattle.cast_stub.specs.Follows.{IsFlat, IsLoop, IsCount, Going, Child, Follows, FieldsFollow, ArmsFollow}
 use Rattle.cast_stub.specs.Subs.{no_subs}
+use Rattle.copy_inline.proofs.Followed.{own}
 use Rattle.hoist.specs.Bare.{IsBare, CasesBare}
 use Rattle.hoist.proofs.Weighing.{spent, checks-append}
 
@@ -107,10 +108,6 @@ count_bare : (c : Count) (b : Block) → IsCount c b → IsBare b
 count_bare (Exactly n) b h = subst IsBare (sym h) tt
 count_bare (AtMost n) b h = flat_bare b h.0 h.1
 count_bare Any b h = flat_bare b h.0 h.1
-
-pub own : (F : Going) (below : ℕ) (p : List ℕ) (b : Block) → Child no_subs F below p b → F below p b
-own F below p b (inl f) = f
-own F below p b (inr c) = absurd (let none = c.4 in cc)
 
 mutual
   pub bare : (t : Ty) (below : ℕ) (p : List ℕ) (b : Block) → Follows no_subs t below p b → IsBare b

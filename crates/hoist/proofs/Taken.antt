@@ -18,7 +18,8 @@ use Rattle.hoist.specs.Laws.{FramedIsTaken}
 use Rattle.hoist.specs.Regions.{Sizes, AreSizes, on_way, roles, is_light, fields_top}
 use Rattle.hoist.proofs.Standing.{loop_row, heavy_role}
 use Rattle.hoist.proofs.Light.{loop_small, small_role}
-use Rattle.hoist.proofs.Quiet.{mapped, own}
+use Rattle.copy_inline.proofs.Followed.{own}
+use Rattle.hoist.proofs.Quiet.{mapped}
 use Rattle.hoist.proofs.Ways.{AreFrom, from-first, from-next, from-head, ty-field, way-field, some_of, loop_bound, array_there, row_turn_there}
 
 not_apart : (plan other : Plan) (T : Type 0) → plan ≡ other → WhereApart other T → WhereApart plan T

@@ -18,7 +18,8 @@ use Rattle.cast_stub.specs.PartTypes.{field_type, in_group_type, ty_at}
 use Rattle.cast_stub.proofs.Rebasing.{at-append}
 use Rattle.hoist.specs.Bound.{most, plus, times, greater, bound, cases_bound, element_at, present_at, arms_at, elements_type, present_type, arms_type}
 use Rattle.hoist.specs.Regions.{Sizes, on_way, further_on, is_light, AreSizes, fields_top, ArmsBounded}
-use Rattle.hoist.proofs.Quiet.{mapped, own}
+use Rattle.copy_inline.proofs.Followed.{own}
+use Rattle.hoist.proofs.Quiet.{mapped}
 use Rattle.wire_def.specs.Arrays.{count_of}
 
 -- ---- ways

@@ -8,7 +8,7 @@ use Rattle.hex.specs.Hex.{encode_lower}
 use Rattle.serde_json.specs.Data.{string}
 use Rattle.json_shape.specs.Texts.{text_of}
 use Rattle.json_shape.specs.Written.{row_json}
-use Rattle.json_shape.proofs.WrittenScalars.{left_true, right_true}
+use Rattle.wire_def.proofs.ScalarGrammar.{left_true, right_true}
 use Rattle.mint.specs.declared.kind.Kind.{Kind}
 use Rattle.mint.specs.declared.kind.Kind.TheVariants as kind
 use Rattle.mint.specs.Kinds.{in_range, word}

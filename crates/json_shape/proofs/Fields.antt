@@ -4,6 +4,7 @@ use Rattle.std.proofs.Math.Seq.{drop-cons}
 use Rattle.std.proofs.lemmas.List.{drop_all}
 use Rattle.mint.specs.Values.{Val, Vals, no_more, val, seen, all_seen}
 use Rattle.mint.specs.declared.value.Value.{Value}
+use Rattle.mint.proofs.Seen.{joined, joined-no_more, joined_one, all_seen-push}
 use Rattle.pres.specs.Faces.{Face, at, parts_at}
 use Rattle.serde_json.specs.declared.value.Value.{Value as Json}
 use Rattle.serde_json.specs.Data.{Data, Members}
@@ -13,23 +14,6 @@ use Rattle.json_shape.specs.Presents.{count, member_of, members_in}
 use Rattle.json_shape.specs.Reading.{before, each, value_of, in_order, by_name}
 use Rattle.json_shape.specs.Texts.{text_of}
 use Rattle.json_shape.proofs.Lookups.{get-members}
-
--- values behind values
-abbrev pub joined : Vals → Vals → Vals
-joined no_more vs = vs
-joined (val v us) vs = val v (joined us vs)
-
-pub joined-no_more : (us : Vals) → joined us no_more ≡ us
-joined-no_more no_more = refl
-joined-no_more (val v us) = ap (val v) (joined-no_more us)
-
-pub joined_one : (us : Vals) (v : Val) (vs : Vals) → joined (joined us (val v no_more)) vs ≡ joined us (val v vs)
-joined_one no_more v vs = refl
-joined_one (val u us) v vs = ap (val u) (joined_one us v vs)
-
-pub all_seen-push : (xs : List Value) (x : Value) → all_seen (xs ++ x ∷ []) ≡ joined (all_seen xs) (val (seen x) no_more)
-all_seen-push [] x = refl
-all_seen-push (y ∷ xs) x = ap (val (seen y)) (all_seen-push xs x)
 
 pub count-parts : (fs : List Face) (names : List (List ℕ)) (ids : List ℕ) → count (parts_at fs names ids) ≡ length ids
 count-parts fs names [] = refl

@@ -21,7 +21,7 @@ use Rattle.json_shape.specs.Named.{names_of, is_named_sign, is_named, are_parts_
 use Rattle.json_shape.specs.Presents.{Presents}
 use Rattle.json_shape.specs.Written.{json_of}
 use Rattle.json_shape.proofs.Written.{shows_written}
-use Rattle.json_shape.proofs.WrittenScalars.{left_true, right_true}
+use Rattle.wire_def.proofs.ScalarGrammar.{left_true, right_true}
 
 named_at : (fs : List Face) (i : ℕ) → list_all is_named fs ≡ true → is_named (at fs i) ≡ true
 named_at [] i h = refl

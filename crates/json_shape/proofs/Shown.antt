@@ -10,7 +10,8 @@ use Rattle.serde_json.specs.Data.{Data, Items, no_items, item, Members}
 use Rattle.serde_json.specs.Data as json
 use Rattle.json_shape.proofs.Options.{mapped_from, stepped_from, tested_from, one_some}
 use Rattle.serde_json.specs.Find.{as_null}
-use Rattle.json_shape.specs.Scalars.{sign_in, array_in, kind_of}
+use Rattle.wire_def.specs.Arrays.{kind_of}
+use Rattle.json_shape.specs.Scalars.{sign_in, array_in}
 use Rattle.json_shape.specs.Presents.{size, count, is_arm, member_of, tag_in, behind_tag, Presents, Shows, ShowEach, ShowInOrder, ShowByName, ShowsArm}
 use Rattle.json_shape.specs.Gives.{Gives}
 use Rattle.json_shape.specs.declared.errors.ShapeErr.{ShapeErr}

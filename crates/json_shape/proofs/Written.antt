@@ -18,16 +18,14 @@ use Rattle.json_shape.specs.Named.{is_named_sign, names_of, is_named, are_parts_
 use Rattle.json_shape.specs.Presents.{size, count, member_of, ShowEach, Shows, ShowInOrder, ShowByName, ShowsArm}
 use Rattle.json_shape.specs.Texts.{text_of}
 use Rattle.json_shape.specs.Written.{items_json, json_of, in_order_json, by_name_json, behind_json}
-use Rattle.json_shape.proofs.WrittenScalars.{left_true, right_true, sign_written, array_written}
+use Rattle.wire_def.proofs.ScalarGrammar.{left_true, right_true}
+use Rattle.json_shape.proofs.WrittenScalars.{sign_written, array_written, is_name}
 
 each_shows : (f : Face) (P : Val → Type 0) → ((v : Val) → P v → Shows f (json_of f v) v) → (vs : Vals) → Each P vs → ShowEach (Shows f) (items_json (json_of f) vs) vs
 each_shows f P one no_more h = tt
 each_shows f P one (val v vs) h = (one v h.0, each_shows f P one vs h.1)
 
 -- ---- members of objects
-
-abbrev is_name : List (List ℕ) → List ℕ → Bool
-is_name names name = list_any (λ m. bytes_eq m name) names
 
 -- a member of another name stays
 other_member : (m n : List ℕ) (d : Data) (ms : Members) → bytes_eq m n ≡ false → member_of m (put (text_of n) d ms) ≡ member_of m ms

@@ -21,16 +21,10 @@ use Rattle.serde_json.specs.Data.{number, string}
 use Rattle.serde_json.specs.Find.{of_integer, as_integer}
 use Rattle.json_shape.specs.Named.{is_named_sign}
 use Rattle.json_shape.specs.Texts.{is_octet, are_octets, octets_of, octets_in, hex_in, text_of}
-use Rattle.json_shape.specs.Scalars.{flag, only, whole_in, number_in, number_named, sign_in, each_in, row_in, array_in, kind_of}
+use Rattle.wire_def.specs.Arrays.{kind_of}
+use Rattle.json_shape.specs.Scalars.{flag, only, whole_in, number_in, number_named, sign_in, each_in, row_in, array_in}
 use Rattle.json_shape.specs.Written.{letters, number_tree, number_json, name_of, sign_json, each_json, row_json}
-
-pub left_true : (a b : Bool) → (a && b) ≡ true → a ≡ true
-left_true true b h = refl
-left_true false b h = h
-
-pub right_true : (a b : Bool) → (a && b) ≡ true → b ≡ true
-right_true true b h = h
-right_true false b h = absurd cc
+use Rattle.wire_def.proofs.ScalarGrammar.{left_true, right_true}
 
 -- octets are characters
 octet_scalars : (os : List ℕ) → are_octets os ≡ true → scalars os ≡ true
@@ -118,7 +112,7 @@ array_written (row_of k' c) k ns h = (h.0, rw h.0 (row_written k' ns h.2))
 abbrev has_number : ItemList → ℤ → Bool
 has_number items n = list_any (λ i. int_eq i.1 n) items
 
-abbrev is_name : List (List ℕ) → List ℕ → Bool
+abbrev pub is_name : List (List ℕ) → List ℕ → Bool
 is_name names name = list_any (λ m. bytes_eq m name) names
 
 put_any : (p : ℤ → Bool) (m : ℤ) (ls : List ℤ) → list_any p (put_in m ls) ≡ true → (p m || list_any p ls) ≡ true

@@ -21,11 +21,6 @@ abbrev pub is_mach : Back → Bool
 is_mach back.Mach = true
 is_mach _ = false
 
-abbrev pub is_cdr : Back → Bool
-is_cdr back.CdrBig = true
-is_cdr back.CdrLittle = true
-is_cdr _ = false
-
 -- the key of the first head number
 abbrev pub head_key : Back → List ℕ
 head_key back.Xdr = codes "xid"

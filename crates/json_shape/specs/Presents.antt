@@ -11,7 +11,8 @@ use Rattle.serde_json.specs.Data.{Data, Items, no_items, item, Members, no_membe
 use Rattle.serde_json.specs.Data as json
 use Rattle.serde_json.specs.Find.{get_member}
 use Rattle.json_shape.specs.Texts.{text_of}
-use Rattle.json_shape.specs.Scalars.{sign_in, array_in, kind_of}
+use Rattle.wire_def.specs.Arrays.{kind_of}
+use Rattle.json_shape.specs.Scalars.{sign_in, array_in}
 
 -- how many members an object has
 abbrev pub size : Members → ℕ

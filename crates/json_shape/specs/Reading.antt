@@ -6,7 +6,8 @@ use Rattle.pres.specs.Faces.{Face, Parts, no_parts, part, Arms}
 use Rattle.pres.specs.Faces as face
 use Rattle.serde_json.specs.Data.{Data, Items, no_items, item, Members}
 use Rattle.serde_json.specs.Find.{as_null, as_array, as_object}
-use Rattle.json_shape.specs.Scalars.{sign_in, array_in, kind_of}
+use Rattle.wire_def.specs.Arrays.{kind_of}
+use Rattle.json_shape.specs.Scalars.{sign_in, array_in}
 use Rattle.json_shape.specs.Presents.{size, count, is_arm, member_of, tag_in, behind_tag}
 
 -- one value before others

@@ -56,11 +56,6 @@ row_in kind.Octet j = option_map (map pos) (hex_in j)
 row_in kind.Char j = option_map (map pos) (octets_in j)
 row_in k j = option_and_then (each_in k) (as_array j)
 
--- the kind of the numbers of a text or a row
-abbrev pub kind_of : Array → Kind
-kind_of (text c) = kind.Char
-kind_of (row_of k c) = k
-
 -- the numbers of a text, or of a row
 abbrev pub array_in : Array → Data → Option (List ℤ)
 array_in (text c) j = option_map (map pos) (octets_in j)

@@ -4,7 +4,7 @@ ghost use Rattle.std.specs.List.{list_all};
 ghost use Rattle.std.specs.BTreeMap.{keys};
 ghost use Rattle.serde_json.specs.Find.{as_str};
 ghost use Rattle.serde_json.specs.View.{view};
-ghost use Rattle.json_shape.specs.Members.{has_only, head_key, head_word, is_mach, is_cdr, word_in, head_number, is_text, is_list, is_table, text_at, number_at};
+ghost use Rattle.json_shape.specs.Members.{has_only, head_key, head_word, is_mach, word_in, head_number, is_text, is_list, is_table, text_at, number_at};
 ghost use Rattle.json_shape.specs.Requests.{is_request_key};
 ghost use Rattle.json_shape.specs.Replies.{is_reply_key};
 

@@ -14,11 +14,7 @@ use Rattle.mint.specs.Types.{Scalar, number, label, Array, text, row_of, Ty, voi
 use Rattle.mint.specs.Typed.{is_scalar, Each, IsOf, AreOf, IsWellTyped}
 use Rattle.mint.specs.Blank.{least, first_of, blank, blanks, blank_arm, blank_array, blank_scalar, copies}
 use Rattle.mint.specs.Sound.{is_labelled, are_labels, rise_from, are_tagged, are_arms, arm_numbers, is_armless, IsSound, AreSound, ArmsSound}
-use Rattle.mint.proofs.Measuring.{Taken, level_taken, sound_taken}
-
-split : (a b : Bool) → a && b ≡ true → (a ≡ true) × (b ≡ true)
-split true b h = (refl, h)
-split false b h = absurd cc
+use Rattle.mint.proofs.Measuring.{Taken, level_taken, sound_taken, split}
 
 joined : (a b : Bool) → a ≡ true → b ≡ true → a && b ≡ true
 joined true b g h = h

@@ -11,7 +11,7 @@ use Rattle.mint.proofs.Measuring.{arms_first, arms_none}
 use Rattle.mint.specs.Values.{seen, void, arm, Val, Vals, no_more, val, vals_of, list_of}
 use Rattle.mint.specs.Blank.{blank, blank_arm, blank_scalar, copies}
 
-vals_of-list_of : (vs : Vals) → vals_of (list_of vs) ≡ vs
+pub vals_of-list_of : (vs : Vals) → vals_of (list_of vs) ≡ vs
 vals_of-list_of no_more = refl
 vals_of-list_of (val v vs) = ap (val v) (vals_of-list_of vs)
 

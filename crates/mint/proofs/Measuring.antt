@@ -55,7 +55,7 @@ sound_taken t h = level_taken t (sound_level t h)
 
 -- ---- children below
 
-split : (a b : Bool) → a && b ≡ true → (a ≡ true) × (b ≡ true)
+pub split : (a b : Bool) → a && b ≡ true → (a ≡ true) × (b ≡ true)
 split true b h = (refl, h)
 split false b h = absurd cc
 
@@ -141,7 +141,7 @@ pub length-unfolded : (nodes : List Node) → length (unfolded nodes) ≡ length
 unfolding unfolded
 length-unfolded nodes = omega (arith, length_from [] nodes)
 
-found : (nodes : List Node) (n m : Node) (k : ℕ) → slice_get (nodes ++ n ∷ []) k ≡ Some m → (slice_get nodes k ≡ Some m) ⊎ ((k ≡ length nodes) × (n ≡ m))
+pub found : (nodes : List Node) (n m : Node) (k : ℕ) → slice_get (nodes ++ n ∷ []) k ≡ Some m → (slice_get nodes k ≡ Some m) ⊎ ((k ≡ length nodes) × (n ≡ m))
 found [] n m zero is = inr (refl, cc)
 found [] n m (suc k) is = absurd cc
 found (x ∷ nodes) n m zero is = inl is

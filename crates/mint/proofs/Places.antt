@@ -61,3 +61,8 @@ number_got k o ns i w n e same h is =
 
 pub none_got : (k : Kind) (o : List ℕ) (ns : List ℤ) (i w : ℕ) → w ≡ width k → numbers_of k o ≡ ns → length o / w ≤ i → None ≡ slice_get ns i
 none_got k o ns i w e same h = rw (← same) (sym (number_past k o i (rw e at h)))
+
+pub number_missing : (ns : List ℤ) (i : ℕ) → slice_get ns i ≡ None → length ns ≤ i
+number_missing [] i h = omega arith
+number_missing (m ∷ ns) zero h = absurd cc
+number_missing (m ∷ ns) (suc i) h = let more = number_missing ns i h in omega arith

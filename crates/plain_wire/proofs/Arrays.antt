@@ -12,6 +12,7 @@ use Rattle.wire_def.specs.declared.encoding.Encoding.TheVariants.{Xdr}
 use Rattle.wire_def.specs.Scalars.{scalar_octets}
 use Rattle.wire_def.specs.Arrays.{natural, is_octets, element_octets, elements_octets, array_octets}
 use Rattle.plain_wire.specs.Sending.{octets_in_full, numbers_in_full}
+use Rattle.wire_def.proofs.ScalarGrammar.{left_true, right_true}
 
 -- where each element is one octet
 elements_are_octets : (one : ℕ → ℤ → List ℕ) → ((p : ℕ) (n : ℤ) → one p n ≡ natural n ∷ []) → (p : ℕ) (ns : List ℤ) → elements_octets one p ns ≡ map natural ns
@@ -47,14 +48,6 @@ other_row k c p ns is = rw (is, same_elements (element_octets Xdr (row_of k c)) 
 pub other_row_octets : (k : Kind) (c : Count) (p : ℕ) (ns : List ℤ) → (k ≡ kind.Octet → ⊥) → array_octets Xdr (row_of k c) p ns ≡ numbers_in_full k c p ns
 other_row_octets kind.Octet c p ns other = absurd (other refl)
 other_row_octets k c p ns other = other_row k c p ns refl
-
-pub left_true : (a b : Bool) → a && b ≡ true → a ≡ true
-left_true true b h = refl
-left_true false b h = absurd cc
-
-pub right_true : (a b : Bool) → a && b ≡ true → b ≡ true
-right_true true b h = h
-right_true false b h = absurd cc
 
 and_true : (a b : Bool) → a ≡ true → b ≡ true → a && b ≡ true
 and_true true b h j = j

@@ -10,7 +10,7 @@ use Rattle.mint.specs.Kinds.{in_range, word}
 use Rattle.mint.specs.Row.{octets_of, image_of}
 use Rattle.mint.proofs.Octets.{octet_numbers, whole_octets, not_bool}
 use Rattle.wire_def.specs.Arrays.{natural}
-use Rattle.plain_wire.proofs.Arrays.{left_true, right_true}
+use Rattle.wire_def.proofs.ScalarGrammar.{left_true, right_true}
 
 octet_image : (k : Kind) (n : ℤ) → word k ≡ w8 → in_range kind.Octet n ≡ true → octets_of k n ≡ natural n ∷ []
 unfolding octets_of

@@ -18,6 +18,7 @@ use Rattle.mint.specs.Values.{Val, Vals, no_more, val, arm, present, seen, all_s
 use Rattle.mint.specs.Types.{row_of, number, Scalar, Ty, Tys, field, at, fields_at, arms_at, choice_type, maybe_type}
 use Rattle.mint.specs.Arms.{arm_found}
 use Rattle.mint.specs.Typed.{has_arm}
+use Rattle.mint.proofs.Seen.{seen-Some, joined, joined-no_more, joined_one, all_seen-push}
 use Rattle.wire_def.specs.Send.{flag}
 use Rattle.mint.proofs.Arms.{arm_below}
 use Rattle.wire_def.specs.Reading.{read, read_fields, read_arm}
@@ -104,23 +105,6 @@ module _ {A : Type 0} (r : Reader FaultKind A) (front : List A) where
   pub front_none : (p : ℕ) (o : List ℕ) → with_front front (times r 0 p o) ≡ got front p o
   front_none p o = ap (λ z. got z p o) (append-nil front)
 
--- values behind values
-abbrev pub joined : Vals → Vals → Vals
-joined no_more vs = vs
-joined (val v us) vs = val v (joined us vs)
-
-pub joined-no_more : (us : Vals) → joined us no_more ≡ us
-joined-no_more no_more = refl
-joined-no_more (val v us) = ap (val v) (joined-no_more us)
-
-joined_one : (us : Vals) (v : Val) (vs : Vals) → joined (joined us (val v no_more)) vs ≡ joined us (val v vs)
-joined_one no_more v vs = refl
-joined_one (val u us) v vs = ap (val u) (joined_one us v vs)
-
-pub all_seen-push : (xs : List Value) (x : Value) → all_seen (xs ++ x ∷ []) ≡ joined (all_seen xs) (val (seen x) no_more)
-all_seen-push [] x = refl
-all_seen-push (y ∷ xs) x = ap (val (seen y)) (all_seen-push xs x)
-
 module _ (front : Vals) (t : Ty) (ts : Tys) (p : ℕ) (o : List ℕ) where
   pub fields_got : (v : Val) (q : ℕ) (rest : List ℕ) → read Xdr t p o ≡ got v q rest → map_got (joined front) (read_fields Xdr (field t ts) p o) ≡ map_got (joined (joined front (val v no_more))) (read_fields Xdr ts q rest)
   unfolding read
@@ -200,8 +184,5 @@ fields_none us ids k front p o h = rw (drop_all k ids h) (ap (λ z. got z p o) (
 
 pub seen-Arm : (n : ℤ) (b : Box Value Global) → seen (Arm n b) ≡ arm n (seen b.value)
 seen-Arm n b = search (rules, the_lemmas)
-
-pub seen-Some : (b : Box Value Global) → seen (Opt (Some b)) ≡ present (seen b.value)
-seen-Some b = search (rules, the_lemmas)
 
 pub ruleset readers = (front_next, front_stop, front_none, joined-no_more, all_seen-push, map-push, fields_next, fields_broken, fields_none, arm_below, choice_got, choice_stop, choice_none, maybe_got, seen-Some)

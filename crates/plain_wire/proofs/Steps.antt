@@ -14,9 +14,10 @@ use Rattle.mint.specs.declared.kind.Kind.TheVariants as kind
 use Rattle.mint.specs.declared.kind.Count.{Count}
 use Rattle.mint.specs.declared.kind.Count.TheVariants.{Exactly}
 use Rattle.mint.specs.Types.{Scalar, number}
+use Rattle.mint.proofs.Places.{number_missing}
 use Rattle.wire_def.specs.declared.encoding.Encoding.TheVariants.{Xdr}
 use Rattle.wire_def.specs.Scalars.{scalar_octets, residue, width_of, gap}
-use Rattle.plain_wire.proofs.Arrays.{left_true, right_true}
+use Rattle.wire_def.proofs.ScalarGrammar.{left_true, right_true}
 use Rattle.wire_def.specs.Arrays.{natural, counted, count_octets, elements_octets}
 
 -- over XDR a scalar has no gap
@@ -79,11 +80,6 @@ pub number_got : (ns : List ℤ) (i : ℕ) (n : ℤ) → slice_get ns i ≡ Some
 number_got [] i n h = absurd cc
 number_got (m ∷ ns) zero n h = cc
 number_got (m ∷ ns) (suc i) n h = number_got ns i n h
-
-pub number_missing : (ns : List ℤ) (i : ℕ) → slice_get ns i ≡ None → length ns ≤ i
-number_missing [] i h = omega arith
-number_missing (m ∷ ns) zero h = absurd cc
-number_missing (m ∷ ns) (suc i) h = let more = number_missing ns i h in omega arith
 
 pub ruleset equations = (number_got, number_missing, to_z-of_z, octets_left, octets_none, numbers_left, numbers_none, passes_at, append_assoc, length-append, append-nil)
 

@@ -11,22 +11,13 @@ use Rattle.mint.specs.declared.value.Value.{Value}
 use Rattle.wire_def.specs.declared.encoding.Encoding.{Encoding}
 use Rattle.wire_def.specs.Send.{send, send_fields, send_each}
 use Rattle.mint.proofs.Arms.{arm_below}
+use Rattle.mint.proofs.Fitting.{count-all_seen, are_many}
 use Rattle.plain_wire.proofs.Arms.{arm_typed, arm_none, arm_sent}
 use Rattle.plain_wire.proofs.Steps.{xdr}
-
-pub count-all_seen : (vs : List Value) → count (all_seen vs) ≡ length vs
-count-all_seen [] = refl
-count-all_seen (v ∷ vs) = ap suc (count-all_seen vs)
 
 pub are_more : (us : List Ty) (is : List ℕ) (vs : List Value) (k : ℕ) (d : Value) → k < length is → k < length vs → AreOf (fields_at us (drop k is)) (all_seen (drop k vs))
     → IsOf (at us (get_or is k 0)) (seen (get_or vs k d)) × AreOf (fields_at us (drop (k + 1) is)) (all_seen (drop (k + 1) vs))
 are_more us is vs k d h j p = rw add-one (rw (drop-cons is k 0, drop-cons vs k d) at p)
-
-pub are_many : (us : List Ty) (is : List ℕ) (vs : List Value) → AreOf (fields_at us is) (all_seen vs) → length is ≡ length vs
-are_many us [] [] h = refl
-are_many us [] (v ∷ vs) h = absurd h
-are_many us (i ∷ is) [] h = absurd h
-are_many us (i ∷ is) (v ∷ vs) h = ap suc (are_many us is vs h.1)
 
 pub fields_left : (e : Encoding) (us : List Ty) (is : List ℕ) (vs : List Value) (k p : ℕ) (d : Value) → k < length is → k < length vs
     → send_fields e (fields_at us (drop k is)) p (all_seen (drop k vs))

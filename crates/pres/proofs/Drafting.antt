@@ -6,6 +6,7 @@ use Rattle.std.proofs.Math.Seq.{get_or-append_seam}
 use Rattle.std.proofs.lemmas.List.{length-map, map-append}
 use Rattle.mint.specs.declared.node.Node.{Node}
 use Rattle.mint.specs.Types.{HasChildrenBelow, IsTable}
+use Rattle.mint.proofs.Measuring.{found}
 use Rattle.pres.specs.declared.draft.Entry.{Entry}
 use Rattle.pres.specs.declared.shape.Shape.{Shape}
 use Rattle.pres.specs.Faces.{Face, nothing, at, level, faces_from, faces}
@@ -43,12 +44,6 @@ named_push [] [] n s named is = (is, tt)
 named_push [] (r ∷ ss) n s named is = absurd named
 named_push (m ∷ ns) [] n s named is = absurd named
 named_push (m ∷ ns) (r ∷ ss) n s named is = (named.0, named_push ns ss n s named.1 is)
-
-found : (nodes : List Node) (n m : Node) (k : ℕ) → slice_get (nodes ++ n ∷ []) k ≡ Some m → (slice_get nodes k ≡ Some m) ⊎ ((k ≡ length nodes) × (n ≡ m))
-found [] n m zero is = inr (refl, cc)
-found [] n m (suc k) is = absurd cc
-found (x ∷ nodes) n m zero is = inl is
-found (x ∷ nodes) n m (suc k) is = elim (found nodes n m k is) [ inl there ↦ inl there | inr last ↦ inr (ap suc last.0, last.1) ]
 
 table_push : (nodes : List Node) (n : Node) → IsTable nodes → HasChildrenBelow (length nodes) n → IsTable (nodes ++ n ∷ [])
 table_push nodes n table below k m is =

@@ -8,7 +8,7 @@ use Rattle.raw_buf.specs.declared.tally.Tally.{Tally}
 use Rattle.raw_buf.specs.Buf.{moved, stored}
 use Rattle.raw_buf.specs.Words.{words, worded}
 
-abbrev tally : ℕ → ℕ → ℕ → ℕ → Tally
+abbrev pub tally : ℕ → ℕ → ℕ → ℕ → Tally
 tally a b c d = record { checks = a; moves = b; stores = c; rows = d }
 
 same_tally : (a b b' c c' d : ℕ) → b ≡ b' → c ≡ c' → tally a b c d ≡ tally a b' c' d

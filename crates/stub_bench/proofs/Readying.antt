@@ -29,7 +29,7 @@ use Rattle.cast_stub.proofs.Appending.{append-stop, steps-append}
 use Rattle.cast_stub.proofs.Folding.{wrote-append}
 use Rattle.stub_lower.specs.Leads.{chunk_puts, AreChunks, Leads}
 use Rattle.stub_lower.specs.Lowered.{CodesSend}
-use Rattle.stub_machine.proofs.Rooms.{length-written, four}
+use Rattle.stub_machine.proofs.Rooms.{length-written, four, within}
 use Rattle.copy_inline.specs.Inlined.{Does, Goes}
 use Rattle.hoist.specs.Bare.{IsBare, CasesBare}
 use Rattle.std.proofs.lemmas.Bool.{le-leb, leb-true}
@@ -114,16 +114,6 @@ opened (Some a) f b e = (a, refl, e)
 
 there : {A : Type 0} (x : Option A) (a : A) → x ≡ Some a → IsThere x
 there x a e = subst IsThere (sym e) tt
-
-record Within (x y : Bool) (z : List ℕ) (f : List ℕ → Option (List ℕ)) : Type 0 where
-  pub first : x ≡ true
-  pub second : y ≡ true
-  pub rest : IsThere (f z)
-
-within : (x y : Bool) (z : List ℕ) (f : List ℕ → Option (List ℕ)) → IsThere (on_some (if x && y then Some z else None) f) → Within x y z f
-within true true z f h = record { first = refl; second = refl; rest = h }
-within true false z f h = absurd h
-within false y z f h = absurd h
 
 patch_there : (x y : Bool) (z : List ℕ) (f : List ℕ → Option (List ℕ)) → x ≡ true → y ≡ true → IsThere (f z) → IsThere (on_some (if x && y then Some z else None) f)
 patch_there true true z f d e h = h

@@ -1,7 +1,7 @@
 -- Code that is made piece by piece.
 use Rattle.std.proofs.Common.{◌≡◌, ℕ, ℤ, suc, ◌+◌, ◌<◌, ◌≤◌, List, [], ◌∷◌, ◌++◌, length, get_or, map, Option, refl, sym, ap, ◌∙◌, arith}
 use Rattle.std.proofs.Math.ListN.{take}
-use Rattle.std.proofs.lemmas.List.{take_all, take_more, length-take-le}
+use Rattle.std.proofs.lemmas.List.{map-append, take_all, take_more, length-take-le}
 use Rattle.std.specs.Prelude.{Result, Ok, Err, OnOk}
 use Rattle.kit_base.specs.declared.errors.NoMemory.{NoMemory}
 use Rattle.cast_stub.specs.declared.send.SendOp.{SendOp}
@@ -47,17 +47,13 @@ AreCalls cases arms = map shown cases ≡ map arm_shown arms
 pair_same : (c : ℤ × List SendOp) (n : ℤ) (i : ℕ) → IsCall c n i → shown c ≡ arm_shown (n, i)
 pair_same c n i h = rw (h.0, h.1) refl
 
-map-more : {A B : Type 0} (f : A → B) (xs : List A) (x : A) → map f (xs ++ x ∷ []) ≡ map f xs ++ f x ∷ []
-map-more f [] x = refl
-map-more f (y ∷ xs) x = ap (λ l. f y ∷ l) (map-more f xs x)
-
 pub cases_turn : (arms : List (ℤ × ℕ)) (i : ℕ) (d : ℤ × ℕ) (c : ℤ × List SendOp) (n : ℤ) (id : ℕ) (cases new : List (ℤ × List SendOp)) → i < length arms → n ≡ (get_or arms i d).0 → id ≡ (get_or arms i d).1
     → IsCall c n id → AreCalls cases (take i arms) → new ≡ cases ++ c ∷ [] → AreCalls new (take (i + 1) arms)
 cases_turn arms i d c n id cases new lt first second known so_far is =
     let a = get_or arms i d in
     let one : shown c ≡ arm_shown a = pair_same c n id known ∙ ap (λ (m : ℤ). arm_shown (m, id)) first ∙ ap (λ (j : ℕ). arm_shown (a.0, j)) second in
-    ap (map shown) is ∙ map-more shown cases c ∙ ap (λ (l : List (ℤ × Block)). l ++ shown c ∷ []) so_far ∙ ap (λ (x : ℤ × Block). map arm_shown (take i arms) ++ x ∷ []) one
-    ∙ sym (ap (map arm_shown) (take_more arms i d lt) ∙ map-more arm_shown (take i arms) a)
+    ap (map shown) is ∙ map-append shown cases (c ∷ []) ∙ ap (λ (l : List (ℤ × Block)). l ++ shown c ∷ []) so_far ∙ ap (λ (x : ℤ × Block). map arm_shown (take i arms) ++ x ∷ []) one
+    ∙ sym (ap (map arm_shown) (take_more arms i d lt) ∙ map-append arm_shown (take i arms) (a ∷ []))
 
 -- cases of numbers and blocks
 abbrev cases_on : List (ℤ × Block) → Cases → Cases

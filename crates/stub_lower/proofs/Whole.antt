@@ -2,7 +2,7 @@
 use Rattle.std.proofs.Common.{◌≡◌, ◌⊎◌, inl, inr, ℕ, zero, suc, ◌+◌, ◌<◌, ◌≤◌, List, [], ◌∷◌, ◌++◌, length, map, Option, Some, None, option_map, slice_get, refl, sym, ap, subst, ◌∙◌, arith}
 use Rattle.std.proofs.Math.ListN.{take}
 use Rattle.std.proofs.Math.Nat.{eq-or-lt_of_le}
-use Rattle.std.proofs.lemmas.List.{take_all}
+use Rattle.std.proofs.lemmas.List.{length-map, map-append, take_all}
 use Rattle.mint.specs.declared.node.Node.{Node}
 use Rattle.mint.specs.Blank.{depth}
 use Rattle.mint.specs.Sound.{IsSound}
@@ -49,10 +49,6 @@ take_at (x ∷ nodes) (suc k) m e =
     let one : suc k + 1 ≡ suc (k + 1) = omega arith in
     ap (λ (n : ℕ). take n (x ∷ nodes)) one ∙ ap (λ (l : List Node). x ∷ l) (take_at nodes k m e)
 
-map-more : {A B : Type 0} (f : A → B) (xs : List A) (x : A) → map f (xs ++ x ∷ []) ≡ map f xs ++ f x ∷ []
-map-more f [] x = refl
-map-more f (y ∷ xs) x = ap (λ l. f y ∷ l) (map-more f xs x)
-
 same_node : (nodes : List Node) (k : ℕ) (m n : Node) → slice_get nodes k ≡ Some m → slice_get nodes k ≡ Some n → m ≡ n
 same_node nodes k m n e d = let s : Some m ≡ Some n = sym e ∙ d in cc
 
@@ -74,8 +70,8 @@ none_lowered e nodes = record { codes = refl; known = λ j m lt is. absurd (omeg
 pub one_more : (e : Encoding) (nodes : List Node) (k : ℕ) (m : Node) (subs new : List (List SendOp)) (code : List SendOp) → Some m ≡ slice_get nodes k → HasChildrenBelow k m → IsSound (type_at nodes k)
     → AreLowered e nodes k subs → code_seen code ≡ node_code e m → new ≡ subs ++ code ∷ [] → AreLowered e nodes (k + 1) new
 one_more e nodes k m subs new code found below sound so_far made is = record {
-  codes = ap (map code_seen) is ∙ map-more code_seen subs code ∙ ap (λ (l : List Block). l ++ code_seen code ∷ []) so_far.codes ∙ ap (λ (c : Block). map (node_code e) (take k nodes) ++ c ∷ []) made
-      ∙ sym (ap (map (node_code e)) (take_at nodes k m (sym found)) ∙ map-more (node_code e) (take k nodes) m);
+  codes = ap (map code_seen) is ∙ map-append code_seen subs (code ∷ []) ∙ ap (λ (l : List Block). l ++ code_seen code ∷ []) so_far.codes ∙ ap (λ (c : Block). map (node_code e) (take k nodes) ++ c ∷ []) made
+      ∙ sym (ap (map (node_code e)) (take_at nodes k m (sym found)) ∙ map-append (node_code e) (take k nodes) (m ∷ []));
   known = known_more nodes k m (sym found) below sound so_far.known;
 }
 
@@ -96,10 +92,6 @@ stands : (e : Encoding) (nodes : List Node) (k : ℕ) (o : Option Node) (code : 
 stands e nodes k None code is same = absurd cc
 stands e nodes k (Some m) code is same = record { node = m; is = is; made = cc }
 
-length-map : {A B : Type 0} (f : A → B) (xs : List A) → length (map f xs) ≡ length xs
-length-map f [] = refl
-length-map f (x ∷ xs) = ap suc (length-map f xs)
-
 in_list : (nodes : List Node) (k : ℕ) (m : Node) → slice_get nodes k ≡ Some m → k < length nodes
 in_list [] k m e = absurd cc
 in_list (x ∷ nodes) zero m e = omega arith
@@ -119,7 +111,7 @@ module _ (e : Encoding) (nodes : List Node) (subs : List (List SendOp)) (whole :
   all_codes = whole.codes ∙ ap (map (node_code e)) (take_all (length nodes) nodes (omega arith))
 
   pub many : length subs ≡ length nodes
-  many = sym (length-map code_seen subs) ∙ ap length all_codes ∙ length-map (node_code e) nodes
+  many = sym (length-map subs code_seen) ∙ ap length all_codes ∙ length-map nodes (node_code e)
 
   below : IsTable nodes
   below k m is = (whole.known k m (in_list nodes k m is) is).0

@@ -1,7 +1,7 @@
 -- Octets that are put one after the other fill a chunk.
 use Rattle.std.proofs.Common.{◌≡◌, ℕ, zero, suc, ◌+◌, ◌-◌, ◌<◌, ◌≤◌, List, [], ◌∷◌, ◌++◌, length, take, drop, get_or, replicate, Option, Some, None, option_map, refl, sym, ap, subst, ◌∙◌, add-one, arith, length-append, length-drop, Bool, true, false, nat_le, if◌then◌else◌}
 use Rattle.std.proofs.Math.Seq.{drop-cons}
-use Rattle.std.proofs.lemmas.List.{length-take-le, drop_all}
+use Rattle.std.proofs.lemmas.List.{length-replicate, length-take-le, drop_all}
 use Rattle.std.proofs.lemmas.Bool.{leb-true, le-leb}
 use Rattle.raw_buf.specs.declared.tally.Tally.{Tally}
 use Rattle.mint.specs.Values.{Val}
@@ -14,6 +14,7 @@ use Rattle.cast_stub.specs.Puts.{Cells, placed, put_octets, offset, put_one, put
 use Rattle.cast_stub.specs.Steps.{Stored, chunk_steps}
 use Rattle.stub_machine.specs.Run.{State, Runs, Ends, ran, state_of, stored_times}
 use Rattle.stub_machine.specs.Putting.{octets_in, Writes, Over, OverAll}
+use Rattle.stub_machine.proofs.Rooms.{state, length-written}
 
 pub there_then : {A B : Type 0} (z : Option A) (f : A → Option B) → IsThere (on_some z f) → IsThere z
 there_then None f h = h
@@ -38,11 +39,6 @@ written-is (suc n) os [] h = absurd (omega arith)
 written-is (suc n) os (b ∷ f) h =
     let e : suc n + length os ≡ suc (n + length os) = omega arith in
     rw e (ap (λ l. b ∷ l) (written-is n os f (omega arith)))
-
-length-written : (n : ℕ) (os f : List ℕ) → n + length os ≤ length f → length (written f n os) ≡ length f
-length-written n os f h =
-    length-append (take n f ++ os) (drop (n + length os) f)
-    ∙ (omega (arith, length-append (take n f) os, length-drop (n + length os) f, length-take-le n f (omega arith)))
 
 -- ---- cells
 
@@ -161,13 +157,9 @@ filled_at : (z : Option Cells) (size : ℕ) (f : List ℕ) → LongAll z size �
 filled_at None size f long over there = absurd over
 filled_at (Some cs) size f long over there = full-over cs f over there ∙ ap (λ k. Some (take k f)) long
 
-length-blank : (n : ℕ) → length (replicate {A = Option ℕ} n None) ≡ n
-length-blank zero = refl
-length-blank (suc n) = ap suc (length-blank n)
-
 pub filled-over : (h : Head) (v : Val) (ps : List Put) (size : ℕ) (f : List ℕ) → OverAll (put_all h v ps (replicate size None)) f → IsThere (filled size ps h v) → filled size ps h v ≡ Some (take size f)
 filled-over h v ps size f over there =
-    filled_at (put_all h v ps (replicate size None)) size f (subst (LongAll (put_all h v ps (replicate size None))) (length-blank size) (long-put_all h v ps (replicate size None))) over there
+    filled_at (put_all h v ps (replicate size None)) size f (subst (LongAll (put_all h v ps (replicate size None))) (length-replicate size None) (long-put_all h v ps (replicate size None))) over there
 
 full-long : (cs : Cells) (os : List ℕ) → full cs ≡ Some os → length os ≡ length cs
 full-long [] os e = let s : [] ≡ os = cc in ap length (sym s)
@@ -183,7 +175,7 @@ filled_long (Some cs) size os long e = full-long cs os e ∙ long
 
 pub length-filled : (h : Head) (v : Val) (ps : List Put) (size : ℕ) (os : List ℕ) → filled size ps h v ≡ Some os → length os ≡ size
 length-filled h v ps size os e =
-    filled_long (put_all h v ps (replicate size None)) size os (subst (LongAll (put_all h v ps (replicate size None))) (length-blank size) (long-put_all h v ps (replicate size None))) e
+    filled_long (put_all h v ps (replicate size None)) size os (subst (LongAll (put_all h v ps (replicate size None))) (length-replicate size None) (long-put_all h v ps (replicate size None))) e
 
 -- ---- what a loop over puts keeps
 
@@ -255,9 +247,6 @@ chunk-runs h v ps size s r =
 appended_at : (b : Bool) (t u : State) → b ≡ true → t ≡ u → on_some (if b then Some t else None) (ran []) ≡ Some u
 appended_at true t u e same = ap Some same
 appended_at false t u e same = absurd cc
-
-abbrev state : List ℕ → ℕ → Tally → Tally → State
-state d a t u = record { done = d; ahead = a; tally = t; spent = u }
 
 state_same : (d d' : List ℕ) (a a' : ℕ) (t t' u u' : Tally) → d ≡ d' → a ≡ a' → t ≡ t' → u ≡ u' → state d a t u ≡ state d' a' t' u'
 state_same d d' a a' t t' u u' p q r s = rw (p, q, r, s) refl

@@ -18,7 +18,8 @@ use Rattle.cast_stub.proofs.Pieces.{seen-Each, seen-Some, seen-Switch, seen-Call
 use Rattle.stub_machine.specs.Run.{State, state_of, act, ran, ended, Ends, Grown}
 use Rattle.stub_machine.proofs.Folds.{ended-both}
 use Rattle.stub_machine.proofs.Rooms.{length-written, four}
-use Rattle.stub_machine.proofs.Running.{Left, block_step, code-drop, over-drop, numbers-drop}
+use Rattle.cast_stub.proofs.Codes.{code-drop}
+use Rattle.stub_machine.proofs.Running.{Left, block_step, over-drop, numbers-drop}
 
 -- ---- single steps
 

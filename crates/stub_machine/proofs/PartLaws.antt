@@ -9,10 +9,6 @@ use Rattle.mint.specs.declared.value.Value.TheFolds.{fold-roll-Value}
 use Rattle.mint.specs.Values.{Val, items, seen, seen_level, all_seen, count}
 use Rattle.cast_stub.specs.Parts.{on_some, field, in_group, at}
 
-pub count-all_seen : (vs : List Value) → count (all_seen vs) ≡ length vs
-count-all_seen [] = refl
-count-all_seen (v ∷ vs) = ap suc (count-all_seen vs)
-
 pub seen-Items : (vs : List Value) → seen (Items vs) ≡ items (all_seen vs)
 seen-Items vs = ap seen (sym (rolls-Items vs)) ∙ fold-roll-Value Val seen_level (Value-F.Items vs)
 

@@ -10,6 +10,8 @@ use Rattle.wire_def.specs.declared.head.Order.{Order}
 use Rattle.wire_def.specs.declared.head.Order.TheVariants.{Big, Little}
 use Rattle.raw_buf.specs.declared.tally.Tally.{Tally}
 use Rattle.raw_buf.specs.Buf.{in_order, checked, moved, stored}
+use Rattle.raw_buf.proofs.Views.{written-behind}
+use Rattle.raw_buf.proofs.Wording.{tally}
 use Rattle.cast_stub.specs.Parts.{on_some, IsThere}
 use Rattle.cast_stub.specs.Steps.{Step, Room, Pad, Stored, Widened, Copied, Patched}
 use Rattle.cast_stub.specs.Meaning.{wrote, Cost, no_cost, sum, cost_of, costs, HasRoom}
@@ -26,10 +28,6 @@ pub length-written : (n : ℕ) (os f : List ℕ) → n + length os ≤ length f 
 length-written n os f h =
     length-append (take n f ++ os) (drop (n + length os) f)
     ∙ (omega (arith, length-append (take n f) os, length-drop (n + length os) f, length-take-le n f (omega arith)))
-
-written-behind : (a b octets : List ℕ) (off : ℕ) → written (a ++ b) (length a + off) octets ≡ a ++ written b off octets
-written-behind a b octets off =
-    rw (take-append-add a b off, add_assoc (length a) off (length octets), drop-append-add a b (off + length octets), append_assoc a (take off b) octets, append_assoc a (take off b ++ octets) (drop (off + length octets) b))
 
 written-front : (a b octets : List ℕ) (at : ℕ) → length a ≤ at → written (a ++ b) at octets ≡ a ++ written b (at - length a) octets
 written-front a b octets at h =
@@ -57,12 +55,12 @@ put-long d o at sub order h k =
     let x = in_order order 4 ((length d + length o + 2 ^ 32 - sub) % 2 ^ 32) in
     length-written (at - length d) x o (omega (arith, four order ((length d + length o + 2 ^ 32 - sub) % 2 ^ 32)))
 
-record Within (x y : Bool) (z : List ℕ) (f : List ℕ → Option (List ℕ)) : Type 0 where
+pub record Within (x y : Bool) (z : List ℕ) (f : List ℕ → Option (List ℕ)) : Type 0 where
   pub first : x ≡ true
   pub second : y ≡ true
   pub rest : IsThere (f z)
 
-within : (x y : Bool) (z : List ℕ) (f : List ℕ → Option (List ℕ)) → IsThere (on_some (if x && y then Some z else None) f) → Within x y z f
+pub within : (x y : Bool) (z : List ℕ) (f : List ℕ → Option (List ℕ)) → IsThere (on_some (if x && y then Some z else None) f) → Within x y z f
 within true true z f h = record { first = refl; second = refl; rest = h }
 within true false z f h = absurd h
 within false y z f h = absurd h
@@ -116,9 +114,6 @@ raised-zero n = omega arith
 
 raised-sum : (n a b : ℕ) → raised (raised n a) b ≡ raised n (a + b)
 raised-sum n a b = omega arith
-
-abbrev tally : ℕ → ℕ → ℕ → ℕ → Tally
-tally a b c d = record { checks = a; moves = b; stores = c; rows = d }
 
 same_tally : (a a' b b' c c' d d' : ℕ) → a ≡ a' → b ≡ b' → c ≡ c' → d ≡ d' → tally a b c d ≡ tally a' b' c' d'
 same_tally a a' b b' c c' d d' p q r s = rw (p, q, r, s) refl

@@ -14,10 +14,12 @@ use Rattle.cast_stub.specs.Block.{Block, stop, Piece, op_seen, code_seen}
 use Rattle.cast_stub.specs.Steps.{Steps, Calls, both, steps, over, code_steps, each_steps, some_steps, switch_steps, Copied, Widened, swapped, wide, copy_steps, swap_steps, wide_steps}
 use Rattle.mint.specs.declared.kind.Kind.{Kind}
 use Rattle.mint.specs.Row.{image_of}
+use Rattle.mint.proofs.Places.{number_missing}
 use Rattle.wire_def.specs.declared.head.Order.{Order}
 use Rattle.stub_machine.specs.Run.{State, ended, Runs, Ends}
 use Rattle.cast_stub.specs.Parts.{on_some, IsThere, at}
 use Rattle.cast_stub.specs.Subs.{call_steps, calls_of}
+use Rattle.cast_stub.proofs.Codes.{code-drop}
 use Rattle.stub_machine.proofs.Folds.{first-ends, first-runs, op-runs}
 
 -- where a run is: what is left from here ends as the whole
@@ -28,9 +30,6 @@ pub left-runs : (all left : Steps) (s t : State) → Left all left s t → Runs 
 left-runs all left s t e r = subst IsThere e r
 
 -- ---- operations
-
-pub code-drop : (ops : List SendOp) (i : ℕ) (d : SendOp) → i < length ops → code_seen (drop i ops) ≡ op_seen (get_or ops i d) (code_seen (drop (i + 1) ops))
-code-drop ops i d h = rw (add-one, drop-cons ops i d) refl
 
 -- ---- elements
 
@@ -165,10 +164,5 @@ pub number_seen : (ns : List ℤ) (i : ℕ) (n : ℤ) → slice_get ns i ≡ Som
 number_seen [] i n h = absurd cc
 number_seen (m ∷ ns) zero n h = seen-Num n ∙ cc
 number_seen (m ∷ ns) (suc i) n h = number_seen ns i n h
-
-pub number_missing : (ns : List ℤ) (i : ℕ) → slice_get ns i ≡ None → length ns ≤ i
-number_missing [] i h = omega arith
-number_missing (m ∷ ns) zero h = absurd cc
-number_missing (m ∷ ns) (suc i) h = let more = number_missing ns i h in omega arith
 
 pub ruleset values = (number_seen, number_missing)

@@ -82,6 +82,10 @@ pub left_true : (a b : Bool) → a && b ≡ true → a ≡ true
 left_true true b h = refl
 left_true false b h = absurd cc
 
+pub right_true : (a b : Bool) → a && b ≡ true → b ≡ true
+right_true true b h = h
+right_true false b h = absurd cc
+
 label_fits : (labels : List ℤ) (n : ℤ) → IsScalar (label labels) n → FitsIn true w32 n
 unfolding FitsIn
 label_fits labels (pos n) h = ltb-true _ _ (left_true _ _ h)

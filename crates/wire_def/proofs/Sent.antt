@@ -20,11 +20,7 @@ use Rattle.wire_def.specs.Scalars.{full, gap, residue, width_of, alignment_of, W
 use Rattle.wire_def.specs.Arrays.{natural, counted, count_octets, CountSpells, OctetSpells, kind_of, element_octets, elements_octets, ElementSpells, array_octets, ArraySpells}
 use Rattle.wire_def.specs.Send.{flag, send_each, send, send_fields, send_arm}
 use Rattle.wire_def.specs.Spells.{Spells, FieldsSpell, ArmSpells}
-use Rattle.wire_def.proofs.ScalarGrammar.{left_true}
-
-pub right_true : (a b : Bool) → a && b ≡ true → b ≡ true
-right_true true b h = h
-right_true false b h = absurd cc
+use Rattle.wire_def.proofs.ScalarGrammar.{left_true, right_true}
 
 full_pos : (w : Width) → 0 < full w
 full_pos w8 = omega arith

@@ -8,6 +8,7 @@ use Rattle.mint.specs.declared.kind.Count.{Count}
 use Rattle.mint.specs.Values.{Val, void, num, row, group, items, arm, absent, present, Vals, no_more, val, count, list_of, vals_of}
 use Rattle.mint.specs.Types.{Scalar, Array, Ty, void_type, scalar_type, array_type, group_type, items_type, choice_type, maybe_type, Tys, no_fields, field, Arms, no_other, others, arm_type}
 use Rattle.mint.specs.Typed.{has_arm}
+use Rattle.mint.proofs.Blanks.{vals_of-list_of}
 use Rattle.wire_def.specs.declared.encoding.Encoding.{Encoding}
 use Rattle.wire_def.specs.declared.fault.FaultKind.{FaultKind}
 use Rattle.wire_def.specs.declared.fault.FaultKind.TheVariants.{BadValue}
@@ -20,10 +21,6 @@ use Rattle.wire_def.specs.Stops.{Stops, FieldsStop, ArmStops}
 use Rattle.wire_def.specs.Reading.{read, read_fields, read_arm, read_behind}
 use Rattle.wire_def.proofs.Grammars.{done, mapped, both_are, times_are, tested_are, reshaped}
 use Rattle.wire_def.proofs.ArrayGrammar.{ScalarsAre, count_is, array_is, times_length}
-
-vals_of-list_of : (vs : Vals) → vals_of (list_of vs) ≡ vs
-vals_of-list_of no_more = refl
-vals_of-list_of (val v vs) = ap (val v) (vals_of-list_of vs)
 
 list_of-vals_of : (xs : List Val) → list_of (vals_of xs) ≡ xs
 list_of-vals_of [] = refl

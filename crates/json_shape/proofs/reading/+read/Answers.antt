@@ -6,7 +6,8 @@ use Rattle.pres.specs.Faces.{faces, face_at, level, parts_at}
 use Rattle.serde_json.specs.declared.value.Value.{Value as Json}
 use Rattle.serde_json.specs.View.{view}
 use Rattle.json_shape.specs.Reading.{value_of}
-use Rattle.json_shape.proofs.Fields.{all_seen-push, count-parts, each_more, each_done, in_order_more, in_order_done, in_order_unlike, by_name_more, by_name_missed, by_name_done}
+use Rattle.mint.proofs.Seen.{all_seen-push}
+use Rattle.json_shape.proofs.Fields.{count-parts, each_more, each_done, in_order_more, in_order_done, in_order_unlike, by_name_more, by_name_missed, by_name_done}
 use Rattle.json_shape.proofs.Lookups.{size-members, object_alike, object_unlike, maybe_many}
 use Rattle.json_shape.proofs.reading.+read.Goals as goal
 

@@ -5,7 +5,7 @@ use Rattle.pres.specs.Faces.{faces, face_at, parts_at}
 use Rattle.serde_json.specs.View.{view, items_view}
 use Rattle.json_shape.specs.Presents.{members_in}
 use Rattle.json_shape.specs.Reading.{value_of, each, in_order, by_name}
-use Rattle.json_shape.proofs.Fields.{joined}
+use Rattle.mint.proofs.Seen.{joined}
 use Rattle.json_shape.proofs.reading.+read.Given as goal
 
 abbrev pub decreases-value : goal.decreases-value

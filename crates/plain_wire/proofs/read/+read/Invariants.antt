@@ -4,7 +4,8 @@ use Rattle.mint.specs.Types.{type_at, unfolded, fields_at}
 use Rattle.wire_def.specs.declared.encoding.Encoding.TheVariants.{Xdr}
 use Rattle.wire_def.specs.Grammar.{times, map_got}
 use Rattle.wire_def.specs.Reading.{read, read_fields}
-use Rattle.plain_wire.proofs.Reading.{with_front, joined}
+use Rattle.mint.proofs.Seen.{joined}
+use Rattle.plain_wire.proofs.Reading.{with_front}
 use Rattle.plain_wire.proofs.read.+read.Given as goal
 
 abbrev pub decreases-value : goal.decreases-value

@@ -4,7 +4,8 @@ use Rattle.mint.specs.Types.{type_at, unfolded, fields_at}
 use Rattle.wire_def.specs.Send.{send, send_fields}
 use Rattle.wire_def.specs.declared.encoding.Encoding.TheVariants.{Xdr}
 use Rattle.plain_wire.proofs.Steps.{breaks, goes_on}
-use Rattle.plain_wire.proofs.Values.{count-all_seen, all_at, are_here, are_many, are_more, fields_left, each_left}
+use Rattle.mint.proofs.Fitting.{count-all_seen, are_many}
+use Rattle.plain_wire.proofs.Values.{all_at, are_here, are_more, fields_left, each_left}
 use Rattle.plain_wire.proofs.send.+put.Goals as goal
 
 pub put_choice-returns-in_err-behind : goal.put_choice-returns-in_err-behind

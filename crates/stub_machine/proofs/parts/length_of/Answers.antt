@@ -1,7 +1,8 @@
 use Rattle.std.proofs.Common.{Some, ap, sym, ◌∙◌}
 use Rattle.mint.specs.Values.{seen}
 use Rattle.cast_stub.specs.Parts.{length_in}
-use Rattle.stub_machine.proofs.PartLaws.{count-all_seen, seen-Items}
+use Rattle.mint.proofs.Fitting.{count-all_seen}
+use Rattle.stub_machine.proofs.PartLaws.{seen-Items}
 use Rattle.stub_machine.proofs.parts.length_of.Goals as goal
 
 pub returns-in-Items : goal.returns-in-Items
