@@ -1,5 +1,5 @@
 -- How many numbers an image has, and what stands where.
-use Rattle.std.proofs.Common.{◌≡◌, ℕ, zero, suc, ◌+◌, ◌-◌, ◌*◌, ◌/◌, ◌<◌, ◌≤◌, ℤ, List, [], ◌∷◌, length, take, drop, None, Some, slice_get, sym, ap, ◌∙◌, arith}
+use Rattle.std.proofs.Common.{◌≡◌, ℕ, zero, suc, ◌+◌, ◌-◌, ◌*◌, ◌/◌, ◌<◌, ◌≤◌, ℤ, List, [], ◌∷◌, length, take, drop, None, Some, slice_get, refl, sym, ap, ◌∙◌, arith}
 use Rattle.std.proofs.lemmas.List.{drop-drop}
 use Rattle.mint.specs.declared.kind.Kind.{Kind}
 use Rattle.mint.specs.declared.kind.Kind.TheVariants as kind
