@@ -1,5 +1,5 @@
 // Names, values and types.
-ghost use Rattle.std.specs.Prelude.{◌≡◌};
+ghost use Rattle.std.specs.Prelude.{◌≡◌, IfErr};
 ghost use Rattle.syntax_kit.specs.Reading.{Gives, begins_with};
 ghost use Rattle.onc_syntax.specs.Readers.{is_name, name_at, value_at, int_in, is_int, int_at, prefix_in, is_prefix, prefix_at, type_at};
 
@@ -117,7 +117,8 @@ fn begins_prefix(tokens: &[Token]) -> bool
 
 /// A word for a kind of number.
 fn int_word(tokens: &[Token]) -> Result<(IntWord, &[Token]), Halt>
-    ensures { Gives (λ x. (x.0, x.1.now)) result (int_at tokens.now) }
+    ensures read { Gives (λ x. (x.0, x.1.now)) result (int_at tokens.now) }
+    ensures fault { IfErr result (λ e. e ≡ Halt.Syntax) }
 {
     match tokens {
         [first, rest @ ..] => match int_of(first) {
@@ -130,7 +131,8 @@ fn int_word(tokens: &[Token]) -> Result<(IntWord, &[Token]), Halt>
 
 /// A prefix.
 fn prefix(tokens: &[Token]) -> Result<(Prefix, &[Token]), Halt>
-    ensures { Gives (λ x. (x.0, x.1.now)) result (prefix_at tokens.now) }
+    ensures read { Gives (λ x. (x.0, x.1.now)) result (prefix_at tokens.now) }
+    ensures fault { IfErr result (λ e. e ≡ Halt.Syntax) }
 {
     match tokens {
         [first, rest @ ..] => match prefix_of(first) {

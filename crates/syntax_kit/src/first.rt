@@ -1,5 +1,5 @@
 // The first token of some tokens.
-ghost use Rattle.std.specs.Prelude.{◌≡◌, map, Some, IfOk};
+ghost use Rattle.std.specs.Prelude.{◌≡◌, map, Some, IfOk, IfErr};
 ghost use Rattle.syntax_kit.specs.Reading.{Gives, begins_with, begins_other, word_is, mark_is, word_at, mark_at, number_at, is_in, id_at, is_id, flag_at};
 
 use crate::Halt;
@@ -59,7 +59,8 @@ pub fn stands_before(tokens: &[Token], mark: &[u8]) -> bool
 
 /// What stands behind the word.
 pub fn word<'a>(tokens: &'a [Token], word: &[u8]) -> Result<&'a [Token], Halt>
-    ensures { Gives (λ x. (tt, x.now)) result (word_at word.now tokens.now) }
+    ensures read { Gives (λ x. (tt, x.now)) result (word_at word.now tokens.now) }
+    ensures fault { IfErr result (λ e. e ≡ Halt.Syntax) }
 {
     match tokens {
         [first, rest @ ..] if is_word(first, word) => Ok(rest),
@@ -69,7 +70,8 @@ pub fn word<'a>(tokens: &'a [Token], word: &[u8]) -> Result<&'a [Token], Halt>
 
 /// What stands behind the mark.
 pub fn mark<'a>(tokens: &'a [Token], mark: &[u8]) -> Result<&'a [Token], Halt>
-    ensures { Gives (λ x. (tt, x.now)) result (mark_at mark.now tokens.now) }
+    ensures read { Gives (λ x. (tt, x.now)) result (mark_at mark.now tokens.now) }
+    ensures fault { IfErr result (λ e. e ≡ Halt.Syntax) }
 {
     match tokens {
         [first, rest @ ..] if is_mark(first, mark) => Ok(rest),
@@ -79,7 +81,8 @@ pub fn mark<'a>(tokens: &'a [Token], mark: &[u8]) -> Result<&'a [Token], Halt>
 
 /// The number, and what stands behind it.
 pub fn number(tokens: &[Token]) -> Result<(i128, &[Token]), Halt>
-    ensures { Gives (λ x. (x.0, x.1.now)) result (number_at tokens.now) }
+    ensures read { Gives (λ x. (x.0, x.1.now)) result (number_at tokens.now) }
+    ensures fault { IfErr result (λ e. e ≡ Halt.Syntax) }
 {
     match tokens {
         [
