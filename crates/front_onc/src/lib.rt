@@ -19,6 +19,10 @@ pub use meaning::{Form, Meaning, Tag, Use};
 pub use resolving::{files_are_whole, resolve};
 
 #[cfg(test)]
+mod memory_tests;
+#[cfg(test)]
 mod printed;
 #[cfg(test)]
 mod tests;
+#[cfg(test)]
+mod unit_tests;
