@@ -61,6 +61,7 @@ impl Draft {
         ensures grows { OnOk result (Grows self.old self.new (level (drawn self.old) node shape ∷ [])) }
         ensures id { IfOk result (λ id. IsDrawn self.new id (level (drawn self.old) node shape)) }
         ensures cause { IfErr result (λ e. Overflows (drawn self.old ++ level (drawn self.old) node shape ∷ []) e) }
+        ensures memory { IfErr result (λ e. e ≡ BindErr.NoMemory → length (drawn self.old) < 65536) }
     {
         let id = self.len();
         if id >= NODES {

@@ -24,4 +24,8 @@ pub use ops::{Op, Ops};
 pub use shape::{Pres, Shape};
 
 #[cfg(test)]
-mod tests;
+mod fixtures;
+#[cfg(test)]
+mod limit_tests;
+#[cfg(test)]
+mod node_tests;
