@@ -1,7 +1,11 @@
 // Messages as requests.
-ghost use Rattle.std.specs.Prelude.{◌≡◌, ◌<◌, ◌+◌, length, IfOk};
+ghost use Rattle.std.specs.Prelude.{◌≡◌, ◌≢◌, ◌↔◌, ◌<◌, ◌+◌, ℕ, length, drop, Err, IfOk};
 ghost use Rattle.mint.specs.Typed.{IsWellTyped};
-ghost use Rattle.mint.specs.Values.{seen};
+ghost use Rattle.mint.specs.Values.{Val, seen};
+ghost use Rattle.wire_def.specs.declared.encoding.Encoding.TheVariants.{Xdr};
+ghost use Rattle.wire_def.specs.declared.fault.FaultKind.{FaultKind};
+ghost use Rattle.wire_def.specs.Stops.{Stops};
+ghost use Rattle.plain_wire.specs.Answered.{IsValue, IsStop, FirstSpell};
 ghost use Rattle.flick_engine.specs.Messages.{request_type};
 ghost use Rattle.flick_engine.specs.Procedures.{named};
 ghost use Rattle.flick_engine.specs.Received.{Answers, Begins};
@@ -72,7 +76,29 @@ impl Engine {
     {
         let mint = self.bound().mint();
         let id = self.request(op);
-        match plain_read(alloc, Encoding::Xdr, mint, id, call.used, message)? {
+        let read = plain_read(alloc, Encoding::Xdr, mint, id, call.used, message)?;
+        self.told_by_body(op, call, message, read)
+    }
+
+    /// The request of a message whose body was read so. It wants no memory.
+    fn told_by_body(
+        &self,
+        op: u32,
+        call: &OncCall,
+        message: &[u8],
+        read: Read,
+    ) -> Result<Request, MessageErr>
+        requires op { op < length self.now.ops }
+        requires begins { Begins message.now call.now }
+        requires named { named self.now call.now ≡ Naming.Operation op }
+        requires value { (v : Val) (used : ℕ) → IsValue read v used ↔ FirstSpell Xdr (request_type self.now op) call.now.used (drop call.now.used message.now) v used }
+        requires stop { (k : FaultKind) (at : ℕ) → IsStop read k at ↔ Stops Xdr (request_type self.now op) call.now.used (drop call.now.used message.now) k at }
+        ensures read { Answers self.now message.now result }
+        ensures op { IfOk result (λ r. r.op < length self.now.ops) }
+        ensures typed { IfOk result (λ r. IsWellTyped (request_type self.now r.op) (seen r.value)) }
+        ensures memory { result ≢ Err MessageErr.NoMemory }
+    {
+        match read {
             Read::Value(value, used) => {
                 let end = call.used + used;
                 if end < message.len() {

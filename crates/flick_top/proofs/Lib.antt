@@ -13,4 +13,5 @@ pub mod Stops
 pub mod Trees
 pub mod Turning
 pub mod Twins
+pub mod WholeLines
 pub mod Written

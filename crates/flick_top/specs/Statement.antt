@@ -1,6 +1,6 @@
 -- The promise of `flick`: what its status says of what it wrote, took and met outside.
 -- `over` is the defined output as a function of the input.
-use Rattle.std.specs.Prelude.{◌≡◌, ◌⊎◌, ℕ, ◌<◌, ◌≤◌, List, [], ◌∷◌, ◌++◌, length, Bool, if◌then◌else◌, ◌==◌, Option, Some}
+use Rattle.std.specs.Prelude.{◌≡◌, ◌≢◌, ◌⊎◌, ℕ, ◌<◌, ◌≤◌, List, [], ◌∷◌, ◌++◌, length, Bool, if◌then◌else◌, ◌==◌, Option, Some}
 use Rattle.std.specs.List.{list_any}
 use Rattle.std.specs.Io.KnownBytes.{Appends, Consumes}
 use Rattle.kit_base.specs.Causes.{Rose}
@@ -67,9 +67,25 @@ TakesMore left left' status = status ≡ 8 → (taken : List ℕ) × Consumes le
 abbrev pub TakesAtMost : Input → Input → ℕ → Type 0
 TakesAtMost left left' status = status ≤ 6 → (taken : List ℕ) × Consumes left left' taken × (length taken ≤ most_input)
 
+-- with status 2, 3 and 6 nothing was taken
+abbrev pub TakesNothing : Input → Input → ℕ → Type 0
+TakesNothing left left' status = (status ≡ 2) ⊎ ((status ≡ 3) ⊎ (status ≡ 6)) → Consumes left left' []
+
+-- empty, or ended by a line feed
+abbrev pub AreWholeLines : List ℕ → Type 0
+AreWholeLines octets = (octets ≡ []) ⊎ ((front : List ℕ) × (octets ≡ front ++ 10 ∷ []))
+
+-- unless the status is 5, no line was appended in part
+abbrev pub WritesWholeLines : Option (List ℕ) → Option (List ℕ) → ℕ → Type 0
+WritesWholeLines held held' status = status ≢ 5 → (octets : List ℕ) × Appends held held' octets × AreWholeLines octets
+
 -- a status comes only where this count of faults rose
 abbrev pub ComesBy : ℕ → ℕ → ℕ → ℕ → Type 0
 ComesBy of before now status = status ≡ of → Rose before now
+
+-- with any other status this count of faults stands, so where it rose the status tells it
+abbrev pub StandsUnless : ℕ → ℕ → ℕ → ℕ → Type 0
+StandsUnless of before now status = status ≢ of → before ≡ now
 
 -- where the source tells, at most the greatest input was taken and no count of faults rose, the status is 0 to 3, or 7 for want of memory
 abbrev pub Completes : Input → Input → Type 0 → Type 0 → Type 0 → ℕ → Type 0

@@ -1,5 +1,5 @@
 // The answers of `marshal`.
-ghost use Rattle.std.specs.Prelude.{◌≡◌, ◌≢◌, ◌<◌, length, IfOk, IfSome, OnOk, option_map, slice_get};
+ghost use Rattle.std.specs.Prelude.{◌≡◌, ◌≢◌, ◌<◌, length, IfOk, IfSome, IsUtf8, OnErr, OnOk, option_map, slice_get};
 ghost use Rattle.serde_json.specs.View.{view};
 ghost use Rattle.mint.specs.Typed.{IsWellTyped};
 ghost use Rattle.mint.specs.Types.{type_at};
@@ -31,9 +31,10 @@ pub fn marshal(
     }
 }
 
-/// The tree of a line, where it is JSON.
+/// The tree of a line, where it is JSON. Of what is no text none is read, and no memory is wanted.
 fn tree_of(alloc: Global, line: &[u8]) -> Result<Option<Json>, NoMemory>
-    ensures { IfOk result (λ o. option_map view o ≡ tree_of line.now) }
+    ensures value { IfOk result (λ o. option_map view o ≡ tree_of line.now) }
+    ensures memory { OnErr result (IsUtf8 line.now) }
 {
     let Ok(text) = str::from_utf8(line) else {
         return Ok(None);

@@ -1,5 +1,5 @@
 // What a command comes to, once its words and its file are read.
-ghost use Rattle.std.specs.Prelude.{◌≡◌, ◌≤◌, List, ℕ, Option, Some, IfOk, IfErr, ◌⊎◌};
+ghost use Rattle.std.specs.Prelude.{◌≡◌, ◌≢◌, ◌≤◌, List, ℕ, Option, Some, IfOk, IfErr, ◌⊎◌};
 ghost use Rattle.kit_base.specs.Causes.{Rose};
 ghost use Rattle.flick_top.specs.Answer.{Answering, IsAnswering};
 ghost use Rattle.flick_top.specs.Output.{Files, IsTask, IsAnswered};
@@ -67,6 +67,7 @@ pub fn task_of<F: Shelf>(alloc: Global, words: &Words, shelf: &mut F) -> Result<
     ensures task { IfOk result (λ task. (files : Files) → F.files shelf.old ≡ Some files → IsTask words.now files task) }
     ensures later { F.faults shelf.old ≤ F.faults shelf.new }
     ensures cause { IfErr result (λ e. e ≡ TaskErr.Shelf → Rose (F.faults shelf.old) (F.faults shelf.new)) }
+    ensures stands { result ≢ Err TaskErr.Shelf → F.faults shelf.old ≡ F.faults shelf.new }
 {
     let Some(command) = command_of(words) else {
         return Ok(Task::Say(Saying::NoShape));
@@ -95,6 +96,7 @@ fn engine_at<F: Shelf>(
     ensures told { IfOk result (λ told. (files : Files) → F.files shelf.old ≡ Some files → FileSays (files path.now) told) }
     ensures later { F.faults shelf.old ≤ F.faults shelf.new }
     ensures cause { IfErr result (λ e. e ≡ TaskErr.Shelf → Rose (F.faults shelf.old) (F.faults shelf.new)) }
+    ensures stands { result ≢ Err TaskErr.Shelf → F.faults shelf.old ≡ F.faults shelf.new }
 {
     match shelf.read_file(alloc, path, LONGEST_FILE + 1) {
         Ok(text) => match told_by(alloc, text.as_slice()) {

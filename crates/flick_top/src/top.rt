@@ -2,7 +2,7 @@
 ghost use Rattle.std.specs.Prelude.{◌≡◌, ◌≤◌, Some};
 ghost use Rattle.kit_base.specs.Causes.{Rose};
 ghost use Rattle.flick_top.specs.Output.{Files};
-ghost use Rattle.flick_top.specs.Statement.{Works, WritesNothing, TakesMore, TakesAtMost, ComesBy, Completes};
+ghost use Rattle.flick_top.specs.Statement.{Works, WritesNothing, WritesWholeLines, TakesMore, TakesAtMost, TakesNothing, ComesBy, StandsUnless, Completes};
 
 use crate::status::Status;
 use crate::task::{TaskErr, task_of};
@@ -25,11 +25,16 @@ pub fn flick<F: Shelf, S: Source, K: Sink>(
 ) -> u8
     ensures work { (files : Files) → F.files shelf.old ≡ Some files → Works words.now files (S.left input.old) (S.left input.new) (K.held output.old) (K.held output.new) result }
     ensures nothing { WritesNothing (K.held output.old) (K.held output.new) result }
+    ensures lines { WritesWholeLines (K.held output.old) (K.held output.new) result }
     ensures more { TakesMore (S.left input.old) (S.left input.new) result }
     ensures at_most { TakesAtMost (S.left input.old) (S.left input.new) result }
+    ensures unread { TakesNothing (S.left input.old) (S.left input.new) result }
     ensures source { ComesBy 4 (S.faults input.old) (S.faults input.new) result }
     ensures sink { ComesBy 5 (K.faults output.old) (K.faults output.new) result }
     ensures shelf { ComesBy 6 (F.faults shelf.old) (F.faults shelf.new) result }
+    ensures source_told { StandsUnless 4 (S.faults input.old) (S.faults input.new) result }
+    ensures sink_told { StandsUnless 5 (K.faults output.old) (K.faults output.new) result }
+    ensures shelf_told { StandsUnless 6 (F.faults shelf.old) (F.faults shelf.new) result }
     ensures completes { Completes (S.left input.old) (S.left input.new) (Rose (S.faults input.old) (S.faults input.new)) (Rose (K.faults output.old) (K.faults output.new)) (Rose (F.faults shelf.old) (F.faults shelf.new)) result }
     ensures range { result ≤ 8 }
 {

@@ -5,7 +5,7 @@ ghost use Rattle.kit_base.specs.Causes.{Rose};
 ghost use Rattle.flick_top.specs.Answer.{Answering, IsAnswering};
 ghost use Rattle.flick_top.specs.Output.{out_of, IsAnswered};
 ghost use Rattle.flick_top.specs.Saying.{said, ending};
-ghost use Rattle.flick_top.specs.Statement.{Writes, WritesFront, WritesEnded, WritesNothing, TakesMore, TakesAtMost, ComesBy};
+ghost use Rattle.flick_top.specs.Statement.{Writes, WritesFront, WritesEnded, WritesNothing, WritesWholeLines, TakesMore, TakesAtMost, TakesNothing, ComesBy, StandsUnless};
 ghost use Rattle.flick_top.specs.Status.{number_of};
 ghost use Rattle.flick_top.specs.Turn.{status_at};
 ghost use Rattle.flick_top.specs.declared.task.Task.TheVariants.{Answer};
@@ -33,11 +33,15 @@ pub fn perform<S: Source, K: Sink>(
     ensures output { (f : Answering) → IsAnswered task.now f → Writes (out_of task.now f) (S.left input.old) (K.held output.old) (K.held output.new) (number_of result) }
     ensures front { (f : Answering) → IsAnswered task.now f → WritesFront (out_of task.now f) (S.left input.old) (K.held output.old) (K.held output.new) }
     ensures ended { (f : Answering) → IsAnswered task.now f → WritesEnded (out_of task.now f) (S.left input.old) (S.left input.new) (K.held output.old) (K.held output.new) (number_of result) }
+    ensures lines { (f : Answering) → IsAnswered task.now f → WritesWholeLines (K.held output.old) (K.held output.new) (number_of result) }
     ensures nothing { WritesNothing (K.held output.old) (K.held output.new) (number_of result) }
     ensures more { TakesMore (S.left input.old) (S.left input.new) (number_of result) }
     ensures at_most { TakesAtMost (S.left input.old) (S.left input.new) (number_of result) }
+    ensures unread { TakesNothing (S.left input.old) (S.left input.new) (number_of result) }
     ensures source { ComesBy 4 (S.faults input.old) (S.faults input.new) (number_of result) }
     ensures sink { ComesBy 5 (K.faults output.old) (K.faults output.new) (number_of result) }
+    ensures source_told { StandsUnless 4 (S.faults input.old) (S.faults input.new) (number_of result) }
+    ensures sink_told { StandsUnless 5 (K.faults output.old) (K.faults output.new) (number_of result) }
     ensures shelf { result ≢ Status.Shelf }
 {
     match task {
@@ -51,7 +55,9 @@ fn say<K: Sink>(alloc: Global, saying: Saying, output: &mut K) -> Status
     ensures output { number_of result ≤ 3 → (result ≡ ending saying) × Appends (K.held output.old) (K.held output.new) (said saying) }
     ensures front { (front : List ℕ) × (rest : List ℕ) × (said saying ≡ front ++ rest) × Appends (K.held output.old) (K.held output.new) front }
     ensures nothing { result ≡ Status.Usage → Appends (K.held output.old) (K.held output.new) [] }
+    ensures lines { WritesWholeLines (K.held output.old) (K.held output.new) (number_of result) }
     ensures sink { result ≡ Status.Sink → Rose (K.faults output.old) (K.faults output.new) }
+    ensures sink_told { StandsUnless 5 (K.faults output.old) (K.faults output.new) (number_of result) }
     ensures others { (result ≢ Status.Source) × (result ≢ Status.Shelf) × (result ≢ Status.Length) }
 {
     let Ok(text) = saying.octets(alloc) else {
@@ -74,10 +80,13 @@ fn answer_lines<S: Source, K: Sink>(
     ensures output { (f : Answering) → IsAnswering job.now f → Writes (out_of (Answer job.now) f) (S.left input.old) (K.held output.old) (K.held output.new) (number_of result) }
     ensures front { (f : Answering) → IsAnswering job.now f → WritesFront (out_of (Answer job.now) f) (S.left input.old) (K.held output.old) (K.held output.new) }
     ensures ended { (f : Answering) → IsAnswering job.now f → WritesEnded (out_of (Answer job.now) f) (S.left input.old) (S.left input.new) (K.held output.old) (K.held output.new) (number_of result) }
+    ensures lines { (f : Answering) → IsAnswering job.now f → WritesWholeLines (K.held output.old) (K.held output.new) (number_of result) }
     ensures more { TakesMore (S.left input.old) (S.left input.new) (number_of result) }
     ensures at_most { TakesAtMost (S.left input.old) (S.left input.new) (number_of result) }
     ensures source { ComesBy 4 (S.faults input.old) (S.faults input.new) (number_of result) }
     ensures sink { ComesBy 5 (K.faults output.old) (K.faults output.new) (number_of result) }
+    ensures source_told { StandsUnless 4 (S.faults input.old) (S.faults input.new) (number_of result) }
+    ensures sink_told { StandsUnless 5 (K.faults output.old) (K.faults output.new) (number_of result) }
     ensures others { (result ≢ Status.Usage) × (result ≢ Status.File) × (result ≢ Status.Shelf) }
 {
     let mut lines = Lines::new(alloc, LONGEST_LINE, MOST_INPUT);

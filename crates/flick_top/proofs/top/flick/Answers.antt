@@ -19,3 +19,8 @@ returns-in-Ok-clause-work g c = λ files told.
         ended = rw c.number.ensures (c.perform.ensures.ended f all);
       },
     )
+
+pub returns-in-Ok-clause-lines : goal.returns-in-Ok-clause-lines
+returns-in-Ok-clause-lines g c =
+    let (f, all) = c.lines_are_answered.ensures in
+    rw c.number.ensures (c.perform.ensures.lines f all)

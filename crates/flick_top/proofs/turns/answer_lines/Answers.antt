@@ -1,15 +1,18 @@
 use Rattle.std.proofs.Common.{arith, ◌≡◌, [], refl, sym, ap, ◌∙◌, Err}
 use Rattle.std.proofs.KnownBytes.{Appends-nil}
 use Rattle.kit_base.specs.declared.lines.Line.TheVariants.{End}
+use Rattle.kit_base.specs.declared.lines.LineErr.{LineErr}
 use Rattle.kit_base.specs.declared.lines.LineErr.TheVariants.{Failed, TooMuch}
 use Rattle.kit_base.specs.Lines.{State}
 use Rattle.kit_base.proofs.Cutting.{advances-refl, answered-line}
 use Rattle.flick_top.specs.Status.{number_of}
+use Rattle.flick_top.specs.Turn.{status_at}
 use Rattle.flick_top.proofs.Determined.{one_answer}
 use Rattle.flick_top.proofs.Ended.{wrote-ended}
 use Rattle.flick_top.proofs.Prefix.{front-answers, front-failed, took-more, took-at_most-next}
 use Rattle.flick_top.proofs.Stops.{failed-of, too_much-of}
 use Rattle.flick_top.proofs.Turning.{one_more}
+use Rattle.flick_top.proofs.WholeLines.{wrote-whole}
 use Rattle.flick_top.proofs.turns.answer_lines.Goals as goal
 
 pub turns-init : goal.turns-init
@@ -18,8 +21,8 @@ turns-init g c = record {
   knows_end = λ e. absurd (cc (e, ap (λ (s : State). s.ended) c.new-lines.ensures));
   fresh = ap (λ (s : State). s.error) c.new-lines.ensures;
   within = omega (arith, ap (λ (s : State). s.taken) c.new-lines.ensures);
-  reads = omega arith;
-  writes = omega arith;
+  reads = refl;
+  writes = refl;
 }
 
 pub turns-preserved : goal.turns-preserved
@@ -34,8 +37,8 @@ turns-preserved g c =
       knows_end = c.next.ensures.knows_end c.turns.invariant.knows_end;
       fresh = c.in-Ok.ensures.fresh;
       within = c.in-Ok.ensures.within c.turns.invariant.fresh (λ e. absurd (cc e)) (λ e. absurd (cc e));
-      reads = omega arith;
-      writes = omega arith;
+      reads = c.turns.invariant.reads ∙ c.in-Ok.ensures.told (λ e. absurd (cc e));
+      writes = c.turns.invariant.writes ∙ c.in_default-write_whole.ensures.cause.ok;
     }
 
 pub turns-preserved-in_default-write_whole : goal.turns-preserved-in_default-write_whole
@@ -50,8 +53,8 @@ turns-preserved-in_default-write_whole g c =
       knows_end = c.next.ensures.knows_end c.turns.invariant.knows_end;
       fresh = c.in-Ok.ensures.fresh;
       within = c.in-Ok.ensures.within c.turns.invariant.fresh (λ e. absurd (cc e)) (λ e. absurd (cc e));
-      reads = omega arith;
-      writes = omega arith;
+      reads = c.turns.invariant.reads ∙ c.in-Ok.ensures.told (λ e. absurd (cc e));
+      writes = c.turns.invariant.writes ∙ c.in_default-write_whole.ensures.cause.ok;
     }
 
 pub returns-in-Err-clause-front : goal.returns-in-Err-clause-front
@@ -109,3 +112,34 @@ returns-in-Err-clause-ended g c = λ f all four octets told.
     let error : c.in-Err.error ≡ Failed = failed-of c.in-Err.error (omega (arith, ap number_of c.status_at.ensures, four)) in
     let failed = c.next.ensures.failed c.turns.invariant.fresh (c.in-Err.is ∙ ap Err error) in
     wrote-ended _ _ _ c.new-lines.result _ _ ls f _ _ _ _ c.new-lines.ensures advances c.in-Err.ensures.lines failed.1 failed.2 (written f all).0
+
+pub returns-in-Err-clause-source_told : goal.returns-in-Err-clause-source_told
+returns-in-Err-clause-source_told g c = λ other.
+    let read : c.next.result ≡ Err Failed → ⊥ = λ e.
+    let error : c.in-Err.error ≡ Failed = cc (e, c.in-Err.is) in
+    other (ap number_of c.status_at.ensures ∙ ap (λ (x : LineErr). number_of (status_at x)) error) in
+    c.turns.invariant.reads ∙ c.next.ensures.told read
+
+pub returns-then-is_end-clause-source_told : goal.returns-then-is_end-clause-source_told
+returns-then-is_end-clause-source_told g c = λ other. c.turns.invariant.reads ∙ c.in-Ok.ensures.told (λ e. absurd (cc e))
+
+pub returns-in_default-clause-source_told : goal.returns-in_default-clause-source_told
+returns-in_default-clause-source_told g c = λ other. c.turns.invariant.reads ∙ c.in-Ok.ensures.told (λ e. absurd (cc e))
+
+pub returns-in-Err-write_whole-clause-source_told : goal.returns-in-Err-write_whole-clause-source_told
+returns-in-Err-write_whole-clause-source_told g c = λ other. c.turns.invariant.reads ∙ c.in-Ok.ensures.told (λ e. absurd (cc e))
+
+pub returns-in-Err-clause-lines : goal.returns-in-Err-clause-lines
+returns-in-Err-clause-lines g c = λ f all other.
+    let (ls, advances, written) = c.turns.invariant.answered in
+    wrote-whole c.args.job.now f ls _ _ all (written f all).0
+
+pub returns-then-is_end-clause-lines : goal.returns-then-is_end-clause-lines
+returns-then-is_end-clause-lines g c = λ f all other.
+    let (ls, advances, written) = c.turns.invariant.answered in
+    wrote-whole c.args.job.now f ls _ _ all (written f all).0
+
+pub returns-in_default-clause-lines : goal.returns-in_default-clause-lines
+returns-in_default-clause-lines g c = λ f all other.
+    let (ls, advances, written) = c.turns.invariant.answered in
+    wrote-whole c.args.job.now f ls _ _ all (written f all).0

@@ -12,8 +12,8 @@ invariant-turns g l = record {
   knows_end : KnowsEnd l.lines (g.S.Source.left l.input);
   fresh : l.lines.error ≡ None;
   within : l.lines.taken ≤ l.lines.most;
-  reads : g.S.Source.faults l.initial.input ≤ g.S.Source.faults l.input;
-  writes : g.K.Sink.faults l.initial.output ≤ g.K.Sink.faults l.output;
+  reads : g.S.Source.faults l.initial.input ≡ g.S.Source.faults l.input;
+  writes : g.K.Sink.faults l.initial.output ≡ g.K.Sink.faults l.output;
 }
 
 abbrev pub decreases-turns : goal.decreases-turns

@@ -1,31 +1,7 @@
-use Rattle.std.proofs.Common.{arith, refl}
-use Rattle.mint.specs.Values.{seen}
-use Rattle.flick_engine.proofs.Answering.{body_within, is_trailing, is_request}
-use Rattle.flick_engine.proofs.Deciding.{exactly}
 use Rattle.flick_engine.proofs.engine.Engine.read_body.Goals as goal
 
-pub overflow_add-end : goal.overflow_add-end
-overflow_add-end c =
-    let first = rw (c.mint-mint.ensures, c.bound.ensures.value, c.request-id.ensures.type_) at ((c.in_ok-value.ensures.value (seen c.in-Value.value) c.in-Value.used).0 (rw c.in-Value.is (refl, refl))) in
-    let within = body_within c.args.self.now c.args.message.now c.args.call.now c.args.op (c.requires.begins, c.requires.named) _ _ first in
-    omega (arith, within, c.requires.begins.0)
+pub told_by_body-requires-clause-value : goal.told_by_body-requires-clause-value
+told_by_body-requires-clause-value c = rw (c.mint-mint.ensures, c.bound.ensures.value, c.request-id.ensures.type_) at c.in_ok-read.ensures.value
 
-pub returns-then-end-message-clause-read : goal.returns-then-end-message-clause-read
-returns-then-end-message-clause-read c =
-    let first = rw (c.mint-mint.ensures, c.bound.ensures.value, c.request-id.ensures.type_) at ((c.in_ok-value.ensures.value (seen c.in-Value.value) c.in-Value.used).0 (rw c.in-Value.is (refl, refl))) in
-    is_trailing c.args.self.now c.args.message.now c.args.call.now c.args.op (c.requires.begins, c.requires.named) _ _ first c.if-end-message.true
-
-pub returns-else-end-message-clause-read : goal.returns-else-end-message-clause-read
-returns-else-end-message-clause-read c =
-    let first = rw (c.mint-mint.ensures, c.bound.ensures.value, c.request-id.ensures.type_) at ((c.in_ok-value.ensures.value (seen c.in-Value.value) c.in-Value.used).0 (rw c.in-Value.is (refl, refl))) in
-    is_request c.args.self.now c.args.message.now c.args.call.now c.args.op (c.requires.begins, c.requires.named) _ _ first (omega (arith, c.if-end-message.false))
-
-pub returns-else-end-message-clause-typed : goal.returns-else-end-message-clause-typed
-returns-else-end-message-clause-typed c =
-    let first = rw (c.mint-mint.ensures, c.bound.ensures.value, c.request-id.ensures.type_) at ((c.in_ok-value.ensures.value (seen c.in-Value.value) c.in-Value.used).0 (rw c.in-Value.is (refl, refl))) in
-    first.spelled.typed
-
-pub returns-in-Stop-clause-read : goal.returns-in-Stop-clause-read
-returns-in-Stop-clause-read c =
-    let stops = rw (c.mint-mint.ensures, c.bound.ensures.value, c.request-id.ensures.type_) at ((c.in_ok-value.ensures.stop c.in-Stop.fault.kind c.in-Stop.fault.at).0 (rw c.in-Stop.is (refl, refl))) in
-    exactly c.args.self.now c.args.message.now _ (c.args.call.now, c.args.op, (c.requires.begins, c.requires.named), stops)
+pub told_by_body-requires-clause-stop : goal.told_by_body-requires-clause-stop
+told_by_body-requires-clause-stop c = rw (c.mint-mint.ensures, c.bound.ensures.value, c.request-id.ensures.type_) at c.in_ok-read.ensures.stop
