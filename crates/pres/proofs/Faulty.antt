@@ -17,6 +17,7 @@ use Rattle.pres.specs.Bindings.{Binding, IsPlaced, IsBinding}
 use Rattle.pres.specs.Drafts.{Sketch, drawn, AreOffered}
 use Rattle.pres.specs.Named.{AreNamed}
 use Rattle.pres.proofs.Drafting.{faces-length}
+use Rattle.pres.proofs.Rises.{neither}
 use Rattle.pres.specs.Faces.{Face, nothing, at, type_of, faces}
 use Rattle.pres.specs.Faults.{has_raises, is_deep, is_heavy, spread, spread_of, is_spread, has_long_in, is_wide, bind_fault}
 use Rattle.pres.specs.Made.{all_made}
@@ -72,10 +73,6 @@ each_exact fs o h =
 any_over : (fs : List Face) (os : List Op) → list_any (λ o. nat_lt 65536 (nodes_of (map size_of fs) o)) os ≡ list_any (λ o. nat_lt 65536 (spread_of o)) (map (offer_at fs) os)
 any_over fs [] = refl
 any_over fs (o ∷ os) = rw (each_over fs o, any_over fs os) refl
-
-neither : (a b : Bool) → (a || b) ≡ false → (a ≡ false) × (b ≡ false)
-neither true b h = absurd (true≢false h)
-neither false b h = (refl, h)
 
 sum_exact : (fs : List Face) (os : List Op) → list_any (λ o. nat_lt 65536 (spread_of o)) (map (offer_at fs) os) ≡ false → sum_by (nodes_of (map size_of fs)) os ≡ sum_by spread_of (map (offer_at fs) os)
 sum_exact fs [] h = refl

@@ -6,6 +6,7 @@ pub mod Exchange
 pub mod Whole
 pub mod Measures
 pub mod Rises
+pub mod Regular
 pub mod Soundly
 pub mod SoundUnit
 pub mod Tabling

@@ -24,7 +24,8 @@ use Rattle.pres.specs.Offers.{face_of, faces_of, type_faces, exception, raised, 
 use Rattle.pres.specs.Drafts.{is_drawable, are_drawable, arms_drawable, AreDrawable, IsDrawableOperation, IsDrawableInterface, IsDrawableUnit}
 use Rattle.pres.specs.Regular.{IsRegular, AreRegular}
 use Rattle.pres.proofs.Drawn.{both}
-use Rattle.pres.proofs.Soundly.{regular_both, regular_one, Standing, made_regular, made_weighs, inside_regular, void_or}
+use Rattle.pres.proofs.Regular.{regular_both, regular_one}
+use Rattle.pres.proofs.Soundly.{Standing, made_regular, made_weighs, inside_regular, void_or}
 
 -- ---- what is sound is drawable
 

@@ -23,6 +23,7 @@ use Rattle.pres.specs.Regular.{is_ranged, IsRegular, AreRegular}
 use Rattle.pres.proofs.Facing.{level_agree, level_type, named_at}
 use Rattle.pres.proofs.Drafting.{drawn-length, level-at}
 use Rattle.pres.proofs.Measures.{at_take}
+use Rattle.pres.proofs.Rises.{neither}
 
 ids_below : (k : ℕ) (is : List ℕ) → AreBelow k is → list_all (λ i. nat_lt i k) is ≡ true
 ids_below k [] h = refl
@@ -55,10 +56,6 @@ regular_at : (fs : List Face) (k : ℕ) → AreRegular fs → k < length fs → 
 regular_at [] k h lt = absurd (omega arith)
 regular_at (f ∷ fs) zero h lt = h.0
 regular_at (f ∷ fs) (suc k) h lt = regular_at fs k h.1 (omega arith)
-
-neither : (a b : Bool) → (a || b) ≡ false → (a ≡ false) × (b ≡ false)
-neither true b h = absurd (true≢false h)
-neither false b h = (refl, h)
 
 none_at : (p : Face → Bool) (fs : List Face) (k : ℕ) → list_any p fs ≡ false → k < length fs → p (at fs k) ≡ false
 none_at p [] k h lt = absurd (omega arith)
