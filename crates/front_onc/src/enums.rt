@@ -31,7 +31,8 @@ fn item_number(
     previous: Option<i32>,
     v: &Option<Value>,
 ) -> Result<i128, NameErr>
-    ensures { Gives (λ x. x) result (item_number scope.now d previous v.now) }
+    ensures value { Gives (λ x. x) result (item_number scope.now d previous v.now) }
+    ensures exact { result ≡ item_number scope.now d previous v.now }
 {
     match v {
         Some(v) => value(scope, d, v),
@@ -41,7 +42,8 @@ fn item_number(
 
 /// A number of 32 signed bits.
 fn short(d: u32, n: i128) -> Result<i32, NameErr>
-    ensures { Gives (λ x. x) result (short d n) }
+    ensures value { Gives (λ x. x) result (short d n) }
+    ensures exact { result ≡ short d n }
 {
     match i32::try_from(n) {
         Ok(n) => Ok(n),

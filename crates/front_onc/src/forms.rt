@@ -31,6 +31,7 @@ pub(crate) fn name_of(decl: &Decl) -> &Name
 /// What a declaration makes of its type, where its name may be taken.
 pub(crate) fn form(scope: &Scope, number: u32, taken: bool, decl: &Decl) -> Result<Form, NameErr>
     ensures value { Gives (λ x. x) result (form scope.now number taken decl.now) }
+    ensures exact { result ≡ form scope.now number taken decl.now }
     ensures free { OnOk result (taken ≡ false) }
 {
     match decl {

@@ -1,5 +1,5 @@
 // Procedures.
-ghost use Rattle.std.specs.Prelude.{◌≡◌, ◌≤◌, [], ◌∷◌, map, length, IfOk, OnOk};
+ghost use Rattle.std.specs.Prelude.{◌≡◌, ◌≤◌, [], ◌∷◌, map, length, IfOk, IfErr, OnOk, Err};
 ghost use Rattle.aoi.specs.Shapes.{seen, seen_field};
 ghost use Rattle.aoi.specs.Plain.{plain_operation};
 ghost use Rattle.front_onc.specs.Answers.{Gives};
@@ -24,7 +24,8 @@ const OPERATIONS: usize = 256;
 
 /// The type of a result.
 fn result_of(scope: &Scope, d: u32, t: &ProcType) -> Result<Ty, NameErr>
-    ensures { Gives seen result (result_of scope.now d t.now) }
+    ensures value { Gives seen result (result_of scope.now d t.now) }
+    ensures stop { IfErr result (λ e. result_of scope.now d t.now ≡ Err e) }
 {
     match t {
         ProcType::Void => Ok(Ty::Void),
@@ -35,7 +36,8 @@ fn result_of(scope: &Scope, d: u32, t: &ProcType) -> Result<Ty, NameErr>
 
 /// The type of one parameter of several.
 fn parameter(scope: &Scope, d: u32, t: &ProcType) -> Result<Ty, NameErr>
-    ensures { Gives seen result (parameter scope.now d t.now) }
+    ensures value { Gives seen result (parameter scope.now d t.now) }
+    ensures stop { IfErr result (λ e. parameter scope.now d t.now ≡ Err e) }
 {
     match t {
         ProcType::Void => Err(NameErr {

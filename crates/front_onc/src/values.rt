@@ -13,7 +13,8 @@ use onc_syntax::{IntWord, TypeName, Value};
 
 /// A fault, where it holds.
 pub(crate) fn refuse(fault: NameFault, decl: u32, holds: bool) -> Result<(), NameErr>
-    ensures { Gives (λ x. x) result (refused fault decl holds) }
+    ensures value { Gives (λ x. x) result (refused fault decl holds) }
+    ensures exact { result ≡ refused fault decl holds }
 {
     if holds {
         return Err(NameErr { fault, decl });
@@ -87,7 +88,8 @@ pub(crate) fn number_of(scope: &Scope, decl: u32, v: &Value) -> Result<u32, Name
 
 /// A length, from 1.
 pub(crate) fn exactly(scope: &Scope, decl: u32, v: &Value) -> Result<Count, NameErr>
-    ensures { Gives (λ x. x) result (exactly scope.now decl v.now) }
+    ensures value { Gives (λ x. x) result (exactly scope.now decl v.now) }
+    ensures exact { result ≡ exactly scope.now decl v.now }
 {
     let n = value(scope, decl, v)?;
     Ok(Count::Exactly(natural(1, decl, n)?))
@@ -95,7 +97,8 @@ pub(crate) fn exactly(scope: &Scope, decl: u32, v: &Value) -> Result<Count, Name
 
 /// A bound, from 0, or none.
 pub(crate) fn at_most(scope: &Scope, decl: u32, v: &Option<Value>) -> Result<Count, NameErr>
-    ensures { Gives (λ x. x) result (at_most scope.now decl v.now) }
+    ensures value { Gives (λ x. x) result (at_most scope.now decl v.now) }
+    ensures exact { result ≡ at_most scope.now decl v.now }
 {
     let Some(v) = v else {
         return Ok(Count::Any);
@@ -122,7 +125,8 @@ fn kind_of(unsigned: bool, word: IntWord) -> Kind
 
 /// The type that a name stands for.
 fn use_of(decl: u32, meaning: Option<Meaning>) -> Result<Use, NameErr>
-    ensures { Gives (λ x. x) result (use_of decl meaning) }
+    ensures value { Gives (λ x. x) result (use_of decl meaning) }
+    ensures exact { result ≡ use_of decl meaning }
 {
     let fault = match meaning {
         Some(Meaning::Type(u)) => return Ok(u),
@@ -135,7 +139,8 @@ fn use_of(decl: u32, meaning: Option<Meaning>) -> Result<Use, NameErr>
 
 /// A type by its words or its name.
 pub(crate) fn type_use(scope: &Scope, decl: u32, t: &TypeName) -> Result<Use, NameErr>
-    ensures { Gives (λ x. x) result (type_use scope.now decl t.now) }
+    ensures value { Gives (λ x. x) result (type_use scope.now decl t.now) }
+    ensures exact { result ≡ type_use scope.now decl t.now }
 {
     match t {
         TypeName::Int(unsigned, word) => Ok(Use::Number(kind_of(*unsigned, *word))),
