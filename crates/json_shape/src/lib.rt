@@ -29,6 +29,8 @@ pub use written_records::{write_reply, write_request};
 #[cfg(test)]
 mod fixtures;
 #[cfg(test)]
+mod memory_tests;
+#[cfg(test)]
 mod record_tests;
 #[cfg(test)]
 mod value_tests;
