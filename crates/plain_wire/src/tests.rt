@@ -1,7 +1,7 @@
 //! Octets worked out by hand from RFC 4506.
 mod compounds;
-mod numbers;
 mod rows;
+mod scalars;
 
 use super::{Read, plain_read, plain_send};
 use kit_base::{Listed, NoMemory, Octets};
