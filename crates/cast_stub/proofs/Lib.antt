@@ -5,5 +5,7 @@ pub mod Folding
 pub mod Pieces
 pub mod Putting
 pub mod Rebasing
+pub mod RecvAppending
+pub mod RecvPieces
 pub mod Rowless
 pub mod Worked

@@ -24,3 +24,4 @@ pub mod Ways
 pub mod Weighing
 pub mod Worked
 pub mod WorkedSizes
+mod Least

@@ -17,7 +17,7 @@ use Rattle.cast_stub.proofs.Appending.{append-assoc}
 use Rattle.hoist.specs.Bare.{IsBare, CasesBare}
 use Rattle.hoist.specs.Bound.{bound, cases_bound, element_at, present_at, arms_at, plus}
 use Rattle.hoist.specs.Hoisted.{Pending, nothing, octets, row, Hoisted, closed, Plan, flat, small, raised, settled, Role, is_small, loop_plan, body_plan, each_plan, some_plan, switch_plan, kept, items_at, or_void, or_none, hoisted, cases_hoisted}
-use Rattle.hoist.specs.Regions.{Sizes, AreSizes, on_way, roles, role_at, top_at, or_zero, is_light, fields_top, is_hollow, are_hollow}
+use Rattle.hoist.specs.Regions.{Sizes, AreSizes, on_way, roles, role_at, weight_at, is_light, fields_top, fields_weight, is_hollow, are_hollow}
 use Rattle.hoist.proofs.Weighing.{spent, weigh, weigh_less, weigh_quiet, low, high, least, greatest, flat_least, small_least}
 use Rattle.copy_inline.proofs.Followed.{own}
 use Rattle.hoist.proofs.Quiet.{quiet, case_quiet, quiet_over, quiet_present, quiet_on, quiet_chunk, quiet_align, mapped, bare, arms_bare, flat_bare}
@@ -31,10 +31,10 @@ body_small : (role : Role) (n : Option ℕ) (k : ℕ) → role ≡ is_small k �
 body_small role None k e there = absurd there
 body_small role (Some m) k e there = (m, ap (λ (r : Role). body_plan r (Some m)) e)
 
-pub small_role : (z : Sizes) (p : List ℕ) (t0 t : Ty) (n : ℕ) → on_way z p t0 ≡ true → ty_at p t0 ≡ Some t → z.top t ≡ Some n → roles z t0 p ≡ is_small (n - 1)
-small_role z p t0 t n way is top =
-    ap (λ (b : Bool). if b then is_small (top_at z (ty_at p t0) - 1) else role_at z (ty_at p t0)) way
-    ∙ ap (λ (x : Option Ty). is_small (top_at z x - 1)) is ∙ ap (λ (x : Option ℕ). is_small (or_zero x - 1)) top
+pub small_role : (z : Sizes) (p : List ℕ) (t0 t : Ty) → on_way z p t0 ≡ true → ty_at p t0 ≡ Some t → roles z t0 p ≡ is_small (z.weight t)
+small_role z p t0 t way is =
+    ap (λ (b : Bool). if b then is_small (weight_at z (ty_at p t0)) else role_at z (ty_at p t0)) way
+    ∙ ap (λ (x : Option Ty). is_small (weight_at z x)) is
 
 pub high_same : (p : Pending) → high (raised 0 p) ≤ high p
 high_same nothing = omega arith
@@ -77,22 +77,22 @@ module _ (z : Sizes) (sizes : AreSizes z) (c : Calls) (h : Head) (v : Val) (t0 :
   op_small O plan n k b b' x e q =
       subst (λ (y : Plan). weigh (both (O (kept y b b')) (steps c h (settled y x).0 v)) (low (settled y x).1) ≤ least c h v x + k) (sym e) (small_least c h v (O b) q n k x)
 
-  each_light : (p : List ℕ) (b r : Block) (t : Ty) (n : ℕ) → on_way z p t0 ≡ true → ty_at p t0 ≡ Some t → z.top t ≡ Some n → IsThere (loop_bound p t0 b) → IsBare b → least_of (each p b r) ≤ least_of r + (n - 1)
+  each_light : (p : List ℕ) (b r : Block) (t : Ty) (n : ℕ) → on_way z p t0 ≡ true → ty_at p t0 ≡ Some t → z.top t ≡ Some n → IsThere (loop_bound p t0 b) → IsBare b → least_of (each p b r) ≤ least_of r + (z.weight t)
   each_light p b r t n way is top there bare =
-      let s = loop_small (roles z t0 p) (loop_bound p t0 b) (on_some (element_at p t0) (λ e. bound e.0 b)) p (n - 1) (small_role z p t0 t n way is top) there in
-      op_small (λ (d : Block). on_some (on_some (at p v) elements_in) (over (steps c h d))) (each_plan (roles z) t0 p b) s.0 (n - 1) b (closed (hoisted (roles z) (or_void (items_at p t0)) b)) (hoisted (roles z) t0 r) s.1
+      let s = loop_small (roles z t0 p) (loop_bound p t0 b) (on_some (element_at p t0) (λ e. bound e.0 b)) p (z.weight t) (small_role z p t0 t way is) there in
+      op_small (λ (d : Block). on_some (on_some (at p v) elements_in) (over (steps c h d))) (each_plan (roles z) t0 p b) s.0 (z.weight t) b (closed (hoisted (roles z) (or_void (items_at p t0)) b)) (hoisted (roles z) t0 r) s.1
       (quiet_on (on_some (at p v) elements_in) (over (steps c h b)) (λ vs. quiet_over (steps c h b) vs (λ (w : Val). quiet c h b w bare)))
 
-  some_light : (p : List ℕ) (b r : Block) (t : Ty) (n : ℕ) → on_way z p t0 ≡ true → ty_at p t0 ≡ Some t → z.top t ≡ Some n → IsThere (on_some (present_at p t0) (λ u. bound u b)) → IsBare b → least_of (if_there p b r) ≤ least_of r + (n - 1)
+  some_light : (p : List ℕ) (b r : Block) (t : Ty) (n : ℕ) → on_way z p t0 ≡ true → ty_at p t0 ≡ Some t → z.top t ≡ Some n → IsThere (on_some (present_at p t0) (λ u. bound u b)) → IsBare b → least_of (if_there p b r) ≤ least_of r + (z.weight t)
   some_light p b r t n way is top there bare =
-      let s = body_small (roles z t0 p) (on_some (present_at p t0) (λ u. bound u b)) (n - 1) (small_role z p t0 t n way is top) there in
-      op_small (λ (d : Block). on_some (at p v) (if_present (steps c h d))) (some_plan (roles z) t0 p b) s.0 (n - 1) b (closed (hoisted (roles z) (or_void (present_at p t0)) b)) (hoisted (roles z) t0 r) s.1
+      let s = body_small (roles z t0 p) (on_some (present_at p t0) (λ u. bound u b)) (z.weight t) (small_role z p t0 t way is) there in
+      op_small (λ (d : Block). on_some (at p v) (if_present (steps c h d))) (some_plan (roles z) t0 p b) s.0 (z.weight t) b (closed (hoisted (roles z) (or_void (present_at p t0)) b)) (hoisted (roles z) t0 r) s.1
       (quiet_on (at p v) (if_present (steps c h b)) (λ (w : Val). quiet_present (steps c h b) w (λ (u : Val). quiet c h b u bare)))
 
-  switch_light : (p : List ℕ) (cs : Cases) (r : Block) (t : Ty) (n : ℕ) → on_way z p t0 ≡ true → ty_at p t0 ≡ Some t → z.top t ≡ Some n → IsThere (on_some (arms_at p t0) (λ arms. cases_bound arms cs)) → CasesBare cs → least_of (switch p cs r) ≤ least_of r + (n - 1)
+  switch_light : (p : List ℕ) (cs : Cases) (r : Block) (t : Ty) (n : ℕ) → on_way z p t0 ≡ true → ty_at p t0 ≡ Some t → z.top t ≡ Some n → IsThere (on_some (arms_at p t0) (λ arms. cases_bound arms cs)) → CasesBare cs → least_of (switch p cs r) ≤ least_of r + (z.weight t)
   switch_light p cs r t n way is top there bare =
-      let s = body_small (roles z t0 p) (on_some (arms_at p t0) (λ arms. cases_bound arms cs)) (n - 1) (small_role z p t0 t n way is top) there in
-      op_small (λ (d : Cases). on_some (on_some (at p v) arm_in) (λ a. case_steps c h d a.0 a.1)) (switch_plan (roles z) t0 p cs) s.0 (n - 1) cs (cases_hoisted (roles z) (or_none (arms_at p t0)) cs) (hoisted (roles z) t0 r) s.1
+      let s = body_small (roles z t0 p) (on_some (arms_at p t0) (λ arms. cases_bound arms cs)) (z.weight t) (small_role z p t0 t way is) there in
+      op_small (λ (d : Cases). on_some (on_some (at p v) arm_in) (λ a. case_steps c h d a.0 a.1)) (switch_plan (roles z) t0 p cs) s.0 (z.weight t) cs (cases_hoisted (roles z) (or_none (arms_at p t0)) cs) (hoisted (roles z) t0 r) s.1
       (quiet_on (on_some (at p v) arm_in) (λ a. case_steps c h cs a.0 a.1) (λ (a : ℤ × Val). case_quiet c h cs a.0 a.1 bare))
 
   top_there : (t : Ty) (n : ℕ) → z.top t ≡ Some n → IsThere (z.top t)
@@ -104,47 +104,50 @@ module _ (z : Sizes) (sizes : AreSizes z) (c : Calls) (h : Head) (v : Val) (t0 :
   split_tops (Some i) (Some j) n e = (i, j, refl, refl, cc)
 
   mutual
-    pub light : (t : Ty) (below : ℕ) (p : List ℕ) (b r : Block) (n : ℕ) → on_way z p t0 ≡ true → ty_at p t0 ≡ Some t → z.top t ≡ Some n → Follows no_subs t below p b → least_of (append b r) ≤ least_of r + (n - 1)
-    light void_type below p b r n way is top f = let e = flat_adds b r f.0 f.1 in omega (arith, e)
-    light (scalar_type s) below p b r n way is top f = let e = flat_adds b r f.0 f.1 in omega (arith, e)
-    light (array_type a) below p b r n way is top f =
+    weighs : (t : Ty) (below : ℕ) (p : List ℕ) (b r : Block) (n : ℕ) → on_way z p t0 ≡ true → ty_at p t0 ≡ Some t → z.top t ≡ Some n → Follows no_subs t below p b → least_of (append b r) ≤ least_of r + z.weight t
+    weighs void_type below p b r n way is top f = let e = flat_adds b r f.0 f.1 in omega (arith, e)
+    weighs (scalar_type s) below p b r n way is top f = let e = flat_adds b r f.0 f.1 in omega (arith, e)
+    weighs (array_type a) below p b r n way is top f =
         let e : append b r ≡ append f.0 (each p f.1 (append f.2 r)) = ap (λ (x : Block). append x r) f.6 ∙ append-assoc f.0 (each p f.1 f.2) r in
         let before = flat_adds f.0 (each p f.1 (append f.2 r)) f.3 f.7 in
         let op = each_light p f.1 (append f.2 r) (array_type a) n way is top (array_there z sizes a p f.1 f.4 t0 is (top_there (array_type a) n top) f.8) (flat_bare f.1 f.4 f.8) in
         let behind = flat_adds f.2 r f.5 f.9 in
-        subst (λ (x : Block). least_of x ≤ least_of r + (n - 1)) (sym e) (omega (arith, before, op, behind))
-    light (group_type ts) below p b r n way is top f =
+        subst (λ (x : Block). least_of x ≤ least_of r + z.weight (array_type a)) (sym e) (omega (arith, before, op, behind))
+    weighs (group_type ts) below p b r n way is top f =
         let m = sizes.group ts n top in
         let e = fields_light ts 0 ts below p b r m.0 way is (from-first ts) m.1 f in
-        omega (arith, e, m.2)
-    light (items_type k t) below p b r n way is top f =
+        omega (arith, e, sizes.fields ts n top)
+    weighs (items_type k t) below p b r n way is top f =
         let e : append b r ≡ append f.0 (each p f.1 r) = ap (λ (x : Block). append x r) f.2 ∙ append-assoc f.0 (each p f.1 stop) r in
         let body = own (Follows no_subs t) below [] f.1 f.4 in
         let before = count_adds k f.0 (each p f.1 r) f.3 in
         let op = each_light p f.1 r (items_type k t) n way is top (items_there z sizes k t below p f.1 t0 is (top_there (items_type k t) n top) body) (bare t below [] f.1 body) in
-        subst (λ (x : Block). least_of x ≤ least_of r + (n - 1)) (sym e) (omega (arith, before, op))
-    light (choice_type s arms) below p b r n way is top f =
+        subst (λ (x : Block). least_of x ≤ least_of r + z.weight (items_type k t)) (sym e) (omega (arith, before, op))
+    weighs (choice_type s arms) below p b r n way is top f =
         let e : append b r ≡ append f.0 (switch p f.1 r) = ap (λ (x : Block). append x r) f.2 ∙ append-assoc f.0 (switch p f.1 stop) r in
         let before = flat_adds f.0 (switch p f.1 r) (f.3).0 (f.3).1 in
         let op = switch_light p f.1 r (choice_type s arms) n way is top (choice_there z sizes s arms below p f.1 t0 is (top_there (choice_type s arms) n top) f.4) (arms_bare arms below f.1 f.4) in
-        subst (λ (x : Block). least_of x ≤ least_of r + (n - 1)) (sym e) (omega (arith, before, op))
-    light (maybe_type t) below p b r n way is top f =
+        subst (λ (x : Block). least_of x ≤ least_of r + z.weight (choice_type s arms)) (sym e) (omega (arith, before, op))
+    weighs (maybe_type t) below p b r n way is top f =
         let e : append b r ≡ append f.0 (if_there p f.1 r) = ap (λ (x : Block). append x r) f.2 ∙ append-assoc f.0 (if_there p f.1 stop) r in
         let body = own (Follows no_subs t) below [] f.1 f.4 in
         let before = flat_adds f.0 (if_there p f.1 r) (f.3).0 (f.3).1 in
         let op = some_light p f.1 r (maybe_type t) n way is top (maybe_there z sizes t below p f.1 t0 is (top_there (maybe_type t) n top) body) (bare t below [] f.1 body) in
-        subst (λ (x : Block). least_of x ≤ least_of r + (n - 1)) (sym e) (omega (arith, before, op))
+        subst (λ (x : Block). least_of x ≤ least_of r + z.weight (maybe_type t)) (sym e) (omega (arith, before, op))
 
-    fields_light : (ts : Tys) (i : ℕ) (all : Tys) (below : ℕ) (p : List ℕ) (b r : Block) (n : ℕ) → on_way z p t0 ≡ true → ty_at p t0 ≡ Some (group_type all) → AreFrom i all ts → fields_top z ts ≡ Some n → FieldsFollow no_subs ts i below p b → least_of (append b r) ≤ least_of r + (n - 1)
-    fields_light no_fields i all below p b r n way is from top f = subst (λ (x : Block). least_of (append x r) ≤ least_of r + (n - 1)) (sym f) (omega arith)
+    fields_light : (ts : Tys) (i : ℕ) (all : Tys) (below : ℕ) (p : List ℕ) (b r : Block) (n : ℕ) → on_way z p t0 ≡ true → ty_at p t0 ≡ Some (group_type all) → AreFrom i all ts → fields_top z ts ≡ Some n → FieldsFollow no_subs ts i below p b → least_of (append b r) ≤ least_of r + fields_weight z ts
+    fields_light no_fields i all below p b r n way is from top f = subst (λ (x : Block). least_of (append x r) ≤ least_of r + 0) (sym f) (omega arith)
     fields_light (field t ts) i all below p b r n way is from top f =
         let tops = split_tops (z.top t) (fields_top z ts) n top in
         let e : append b r ≡ append f.0 (append f.1 r) = ap (λ (x : Block). append x r) f.2 ∙ append-assoc f.0 f.1 r in
         let head = from-head i all t ts from in
         let on : on_way z (p ++ i ∷ []) t0 ≡ true = way-field z p i t0 (group_type all) t is head ∙ ap (λ (x : Bool). x || is_light (z.top t)) way in
-        let first = light t below (p ++ i ∷ []) f.0 (append f.1 r) tops.0 on (ty-field p i t0 (group_type all) t is head) tops.2 (own (Follows no_subs t) below (p ++ i ∷ []) f.0 f.3) in
+        let first = weighs t below (p ++ i ∷ []) f.0 (append f.1 r) tops.0 on (ty-field p i t0 (group_type all) t is head) tops.2 (own (Follows no_subs t) below (p ++ i ∷ []) f.0 f.3) in
         let rest = fields_light ts (suc i) all below p f.1 r tops.1 way is (from-next i all t ts from) tops.3 f.4 in
-        subst (λ (x : Block). least_of x ≤ least_of r + (n - 1)) (sym e) (omega (arith, first, rest, tops.4))
+        subst (λ (x : Block). least_of x ≤ least_of r + fields_weight z (field t ts)) (sym e) (omega (arith, first, rest))
+
+  pub light : (t : Ty) (below : ℕ) (p : List ℕ) (b r : Block) (n : ℕ) → on_way z p t0 ≡ true → ty_at p t0 ≡ Some t → z.top t ≡ Some n → Follows no_subs t below p b → least_of (append b r) ≤ least_of r + (n - 1)
+  light t below p b r n way is top f = omega (arith, weighs t below p b r n way is top f, sizes.weight t n top)
 
   -- ---- code of what has no octets
 

@@ -3,7 +3,7 @@ use Rattle.std.proofs.Common.{◌≡◌, ℕ, ◌++◌, ◌≤◌, List, [], ◌
 use Rattle.mint.specs.Types.{Ty}
 use Rattle.mint.specs.Sound.{IsSound}
 use Rattle.mint.specs.Values.{Val}
-use Rattle.wire_def.specs.declared.encoding.Encoding.TheVariants.{Xdr}
+use Rattle.wire_def.specs.declared.encoding.Encoding.{Encoding}
 use Rattle.wire_def.specs.declared.head.Head.{Head}
 use Rattle.cast_stub.specs.declared.send.SendCode.{SendCode}
 use Rattle.cast_stub.specs.Block.{Block, code_seen}
@@ -15,7 +15,7 @@ use Rattle.hoist.specs.Framed.{unensured, without_room, RowsAreBare}
 use Rattle.hoist.specs.Hoisted.{closed, hoisted, IsTaken}
 use Rattle.hoist.specs.Pass.{IsGiven, SendsTheSame, AddsEnsures, IsCoveredFor, IsSparing}
 use Rattle.hoist.specs.Regions.{regions}
-use Rattle.hoist.specs.Seen.{xdr_roles}
+use Rattle.hoist.specs.Seen.{span_roles}
 use Rattle.hoist.specs.SpanSizes.{sizes}
 use Rattle.hoist.proofs.Covered.{covers}
 use Rattle.hoist.proofs.Keeping.{keeps_steps, keeps_code}
@@ -24,8 +24,8 @@ use Rattle.hoist.proofs.Sparing as spare
 use Rattle.hoist.proofs.Sparse.{spares_rows}
 use Rattle.hoist.proofs.Taken.{framed_taken}
 
-pub given-taken : (t : Ty) (given : SendCode) → IsGiven t given → IsTaken xdr_roles t (code_seen given.ops)
-given-taken t given is = framed_taken (sizes Xdr) t is.1 (code_seen given.ops) are_sizes is.2
+pub given-taken : (enc : Encoding) (t : Ty) (given : SendCode) → IsGiven t given → IsTaken (span_roles enc) t (code_seen given.ops)
+given-taken enc t given is = framed_taken (sizes enc) t is.1 (code_seen given.ops) (are_sizes enc) is.2
 
 -- ---- what is written does not depend on room
 
@@ -53,36 +53,36 @@ written-same p (Some ss) = wrote-same p ss []
 
 -- ---- hoisted code without codes to call
 
-module _ (given code : SendCode) (t : Ty) (e : code_seen code.ops ≡ closed (hoisted xdr_roles t (code_seen given.ops))) (from : given.subs ≡ []) (to : code.subs ≡ []) where
+module _ (enc : Encoding) (given code : SendCode) (t : Ty) (e : code_seen code.ops ≡ closed (hoisted (span_roles enc) t (code_seen given.ops))) (from : given.subs ≡ []) (to : code.subs ≡ []) where
   abbrev by-calls : Head → Calls
   by-calls h = calls_of code.subs h deepest
 
   -- its steps, as the laws speak of them
-  met : (h : Head) (v : Val) → steps (by-calls h) h (closed (hoisted xdr_roles t (code_seen given.ops))) v ≡ sent_steps code h v
+  met : (h : Head) (v : Val) → steps (by-calls h) h (closed (hoisted (span_roles enc) t (code_seen given.ops))) v ≡ sent_steps code h v
   met h v = ap (λ (b : Block). steps (by-calls h) h b v) (sym e)
 
   same-steps : (h : Head) (v : Val) → option_map without_room (sent_steps code h v) ≡ option_map without_room (sent_steps given h v)
   same-steps h v =
-      ap (option_map without_room) (sym (met h v)) ∙ keeps_steps xdr_roles (by-calls h) h t (code_seen given.ops) v
+      ap (option_map without_room) (sym (met h v)) ∙ keeps_steps (span_roles enc) (by-calls h) h t (code_seen given.ops) v
       ∙ ap (λ subs. option_map without_room (steps (calls_of subs h deepest) h (code_seen given.ops) v)) (to ∙ sym from)
 
   pub sends-same : SendsTheSame given code
   sends-same h v p = sym (written-same p (sent_steps code h v)) ∙ ap (written p) (same-steps h v) ∙ written-same p (sent_steps given h v)
 
   pub adds-ensures : AddsEnsures given code
-  adds-ensures = ap unensured e ∙ keeps_code xdr_roles t (code_seen given.ops)
+  adds-ensures = ap unensured e ∙ keeps_code (span_roles enc) t (code_seen given.ops)
 
-  pub covered-for : IsTaken xdr_roles t (code_seen given.ops) → IsCoveredFor t given code
+  pub covered-for : IsTaken (span_roles enc) t (code_seen given.ops) → IsCoveredFor t given code
   covered-for taken h v p typed there = cut (sent_steps code h v) (met h v) (subst IsThere (sym (sends-same h v p)) there) where
-    cut : (x : Steps) → steps (by-calls h) h (closed (hoisted xdr_roles t (code_seen given.ops))) v ≡ x → IsThere (written p x) → AreCovered x p
+    cut : (x : Steps) → steps (by-calls h) h (closed (hoisted (span_roles enc) t (code_seen given.ops))) v ≡ x → IsThere (written p x) → AreCovered x p
     cut None is writes = absurd writes
-    cut (Some ss) is writes = (writes, covers xdr_roles (by-calls h) h t (code_seen given.ops) v ss p taken typed is)
+    cut (Some ss) is writes = (writes, covers (span_roles enc) (by-calls h) h t (code_seen given.ops) v ss p taken typed is)
 
-  pub sparing : IsSound t → IsSparing t given code
+  pub sparing : IsSound t → IsSparing enc t given code
   sparing sound n h v framed typed = cut (sent_steps code h v) (met h v) where
-    cut : (x : Steps) → steps (by-calls h) h (closed (hoisted xdr_roles t (code_seen given.ops))) v ≡ x → IfSome (option_map costs x) (λ c. c.checks ≤ regions (sizes Xdr) n t v)
+    cut : (x : Steps) → steps (by-calls h) h (closed (hoisted (span_roles enc) t (code_seen given.ops))) v ≡ x → IfSome (option_map costs x) (λ c. c.checks ≤ regions (sizes enc) n t v)
     cut None is = tt
-    cut (Some ss) is = spare.sparing (sizes Xdr) (by-calls h) h t n (code_seen given.ops) v ss are_sizes sound framed typed is
+    cut (Some ss) is = spare.sparing (sizes enc) (by-calls h) h t n (code_seen given.ops) v ss (are_sizes enc) sound framed typed is
 
-  pub bare-rows : IsTaken xdr_roles t (code_seen given.ops) → RowsAreBare t (code_seen code.ops)
-  bare-rows taken = subst (RowsAreBare t) (sym e) (spares_rows xdr_roles t (code_seen given.ops) taken)
+  pub bare-rows : IsTaken (span_roles enc) t (code_seen given.ops) → RowsAreBare t (code_seen code.ops)
+  bare-rows taken = subst (RowsAreBare t) (sym e) (spares_rows (span_roles enc) t (code_seen given.ops) taken)

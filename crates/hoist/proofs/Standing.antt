@@ -7,7 +7,7 @@ use Rattle.cast_stub.specs.Parts.{on_some, at, elements_in, IsThere}
 use Rattle.cast_stub.specs.Parts as part
 use Rattle.cast_stub.specs.PartTypes.{ty_at}
 use Rattle.hoist.specs.Hoisted.{Pending, nothing, octets, row, Hoisted, loop, settled, Role, is_small, is_row, loop_plan}
-use Rattle.hoist.specs.Regions.{Sizes, Part, lone, is_light, light_or, or_zero, parts, on_way, roles, role_at, role_of, top_at}
+use Rattle.hoist.specs.Regions.{Sizes, Part, lone, is_light, light_or, or_zero, parts, on_way, roles, role_at, role_of, weight_at}
 use Rattle.hoist.proofs.Weighing.{low, high}
 
 pub either_way : (x : Bool) (G : Type 0) → (x ≡ true → G) → (x ≡ false → G) → G
@@ -65,7 +65,7 @@ loop_row role n (Some m) p e there = (m, ap (λ (r : Role). loop_plan r n (Some 
 
 pub heavy_role : (z : Sizes) (p : List ℕ) (t0 t : Ty) → on_way z p t0 ≡ false → ty_at p t0 ≡ Some t → roles z t0 p ≡ role_of z t
 heavy_role z p t0 t way is =
-    ap (λ (b : Bool). if b then is_small (top_at z (ty_at p t0) - 1) else role_at z (ty_at p t0)) way ∙ ap (role_at z) is
+    ap (λ (b : Bool). if b then is_small (weight_at z (ty_at p t0)) else role_at z (ty_at p t0)) way ∙ ap (role_at z) is
 
 pub row_settled : (p : List ℕ) (u : ℕ) (x : Hoisted) → IsRow (settled (loop p u) x).1
 row_settled p u (b, nothing) = tt

@@ -76,9 +76,8 @@ module _ (z : Sizes) (sizes : AreSizes z) where
         let plan : WhereApart (each_plan (roles z) t0 p f.1) T =
         either (on_way z p t0) (WhereApart (each_plan (roles z) t0 p f.1) T)
         (λ w.
-        let top = some_of (z.top (array_type a)) (way w) in
-        let s = loop_small (roles z t0 p) n u p (top.0 - 1) (small_role z p t0 (array_type a) top.0 w is top.1) (array_there z sizes a p f.1 f.4 t0 is (way w) f.8) in
-        not_apart (each_plan (roles z) t0 p f.1) (small s.0 (top.0 - 1)) T s.1 tt)
+        let s = loop_small (roles z t0 p) n u p (z.weight (array_type a)) (small_role z p t0 (array_type a) w is) (array_there z sizes a p f.1 f.4 t0 is (way w) f.8) in
+        not_apart (each_plan (roles z) t0 p f.1) (small s.0 (z.weight (array_type a))) T s.1 tt)
         (λ w.
         let s = loop_row (roles z t0 p) n u p (heavy_role z p t0 (array_type a) w is) (row_turn_there z sizes a p f.1 f.4 t0 is f.8) in
         not_apart (each_plan (roles z) t0 p f.1) (loop p s.0) T s.1 tt) in

@@ -28,7 +28,7 @@ fixed (scalar_type s) = true
 fixed _ = false
 
 abbrev sizes : Sizes
-sizes = record { top = top; fixed = fixed; front = λ t. 4 }
+sizes = record { top = top; fixed = fixed; front = λ t. 4; weight = λ t. 3 }
 
 abbrev number_at : List ℕ → Block → Block
 number_at p r = chunk 4 (put.Num 0 p 4 Big ∷ []) r

@@ -4,7 +4,8 @@ use Rattle.mint.specs.declared.kind.Kind.TheVariants.{I16, I32, I64, Octet}
 use Rattle.mint.specs.declared.kind.Count.{Count}
 use Rattle.mint.specs.declared.kind.Count.TheVariants.{Exactly, AtMost, Any}
 use Rattle.mint.specs.Types.{Ty, void_type, number, scalar_type, text, row_of, array_type, group_type, items_type, choice_type, maybe_type, field, no_fields, arm_type, others}
-use Rattle.wire_def.specs.declared.encoding.Encoding.TheVariants.{Xdr}
+use Rattle.wire_def.specs.declared.encoding.Encoding.TheVariants.{Xdr, CdrBig}
+use Rattle.storage_class.specs.Classing.{length_at, run}
 use Rattle.hoist.specs.SpanSizes.{sizes}
 
 abbrev int : Ty
@@ -36,6 +37,7 @@ short = (refl, refl, refl)
 
 -- 4 + 8
 two_numbers : Has (group_type (field int (field hyper no_fields))) (Some 12) true 0
+unfolding length_at
 two_numbers = (refl, refl, refl)
 
 -- a count, and 3 * 4
@@ -44,6 +46,7 @@ up_to_three = (refl, refl, refl)
 
 -- 3 * 8, and no count
 three : Has (items_type (Exactly 3) hyper) (Some 24) true 0
+unfolding length_at run
 three = (refl, refl, refl)
 
 -- 2 * (4 + 3 * 4)
@@ -87,3 +90,11 @@ most_told = (refl, refl, refl)
 -- 3 zeros behind the octets make it 4,294,967,296
 too_long : Has (opaque (Exactly 4294967293)) None false 0
 too_long = (refl, refl, refl)
+
+-- over CDR two numbers of 64 bits have 23 octets at most, though each has 15
+abbrev two_hypers : Ty
+two_hypers = group_type (field hyper (field hyper no_fields))
+
+two_in_cdr : ((sizes CdrBig).top two_hypers ≡ Some 23) × ((sizes CdrBig).top hyper ≡ Some 15) × ((sizes CdrBig).weight two_hypers ≡ 15) × ((sizes CdrBig).weight hyper ≡ 7)
+unfolding length_at
+two_in_cdr = (refl, refl, refl, refl)

@@ -3,7 +3,7 @@ use Rattle.std.specs.Prelude.{◌≡◌, ℕ, ◌≤◌, [], IfSome}
 use Rattle.mint.specs.Types.{Ty}
 use Rattle.mint.specs.Typed.{IsOf}
 use Rattle.mint.specs.Values.{Val}
-use Rattle.wire_def.specs.declared.encoding.Encoding.TheVariants.{Xdr}
+use Rattle.wire_def.specs.declared.encoding.Encoding.{Encoding}
 use Rattle.wire_def.specs.declared.head.Head.{Head}
 use Rattle.cast_stub.specs.declared.send.SendCode.{SendCode}
 use Rattle.cast_stub.specs.Block.{code_seen}
@@ -31,5 +31,5 @@ abbrev pub IsCoveredFor : Ty → SendCode → SendCode → Type 0
 IsCoveredFor t given code = (h : Head) (v : Val) (p : ℕ) → IsOf t v → IsThere (meaning given h v p) → AreCovered (sent_steps code h v) p
 
 -- at most one look at the buffer for each region, however the first chunks are taken for a lead
-abbrev pub IsSparing : Ty → SendCode → SendCode → Type 0
-IsSparing t given code = (n : ℕ) (h : Head) (v : Val) → IsFramed n t (code_seen given.ops) → IsOf t v → IfSome (cost code h v) (λ c. c.checks ≤ regions (sizes Xdr) n t v)
+abbrev pub IsSparing : Encoding → Ty → SendCode → SendCode → Type 0
+IsSparing e t given code = (n : ℕ) (h : Head) (v : Val) → IsFramed n t (code_seen given.ops) → IsOf t v → IfSome (cost code h v) (λ c. c.checks ≤ regions (sizes e) n t v)

@@ -20,6 +20,8 @@ pub record Sizes : Type 0 where
   pub fixed : Ty → Bool
   -- the greatest length of what stands before the elements, the arm or the value
   pub front : Ty → ℕ
+  -- what an operation over it weighs where it is small
+  pub weight : Ty → ℕ
 
 -- ---- parts
 
@@ -121,14 +123,14 @@ abbrev pub role_at : Sizes → Option Ty → Role
 role_at z None = is_break
 role_at z (Some t) = role_of z t
 
--- the greatest length at a path, or 0
-abbrev pub top_at : Sizes → Option Ty → ℕ
-top_at z None = 0
-top_at z (Some t) = or_zero (z.top t)
+-- the weight at a path, or 0
+abbrev pub weight_at : Sizes → Option Ty → ℕ
+weight_at z None = 0
+weight_at z (Some t) = z.weight t
 
--- what the sizes make of operations: small where a node on the way is, of one less than the greatest length
+-- what the sizes make of operations: small where a node on the way is, of the weight of the part
 abbrev pub roles : Sizes → Roles
-roles z t p = if on_way z p t then is_small (top_at z (ty_at p t) - 1) else role_at z (ty_at p t)
+roles z t p = if on_way z p t then is_small (weight_at z (ty_at p t)) else role_at z (ty_at p t)
 
 -- ---- sizes that belong together
 
@@ -136,6 +138,11 @@ roles z t p = if on_way z p t then is_small (top_at z (ty_at p t) - 1) else role
 abbrev pub fields_top : Sizes → Tys → Option ℕ
 fields_top z no_fields = Some 0
 fields_top z (field t ts) = plus (z.top t) (fields_top z ts)
+
+-- the weights of fields together
+abbrev pub fields_weight : Sizes → Tys → ℕ
+fields_weight z no_fields = 0
+fields_weight z (field t ts) = z.weight t + fields_weight z ts
 
 -- a type without octets
 abbrev mutual
@@ -164,7 +171,10 @@ IsCounted _ = Unit {0}
 pub record AreSizes (z : Sizes) : Type 0 where
   pub nothing : z.top void_type ≡ Some 0
   pub scalar : (s : Scalar) → (n : ℕ) × (z.top (scalar_type s) ≡ Some n) × (1 ≤ n) × (n ≤ enough)
-  pub group : (ts : Tys) (n : ℕ) → z.top (group_type ts) ≡ Some n → (m : ℕ) × (fields_top z ts ≡ Some m) × (m ≤ n)
+  pub group : (ts : Tys) (n : ℕ) → z.top (group_type ts) ≡ Some n → (m : ℕ) × (fields_top z ts ≡ Some m)
+  -- fields weigh no more than their group, and nothing as much as its greatest length
+  pub fields : (ts : Tys) (n : ℕ) → z.top (group_type ts) ≡ Some n → fields_weight z ts ≤ z.weight (group_type ts)
+  pub weight : (t : Ty) (n : ℕ) → z.top t ≡ Some n → z.weight t ≤ n - 1
   pub array : (a : Array) → IsThere (z.top (array_type a)) → IsThere (most (count_of a))
   pub items : (c : Count) (t : Ty) → IsThere (z.top (items_type c t)) → IsThere (most c) × IsThere (z.top t)
   pub choice : (s : Scalar) (arms : Arms) → IsThere (z.top (choice_type s arms)) → ArmsBounded z arms

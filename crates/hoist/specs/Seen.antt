@@ -2,7 +2,7 @@
 use Rattle.std.specs.Prelude.{◌≡◌, ℕ, ℤ, List, [], ◌∷◌, length, reverse}
 use Rattle.mint.specs.declared.node.Node.{Node}
 use Rattle.mint.specs.Types.{Ty, at}
-use Rattle.wire_def.specs.declared.encoding.Encoding.TheVariants.{Xdr}
+use Rattle.wire_def.specs.declared.encoding.Encoding.{Encoding}
 use Rattle.storage_class.specs.declared.span.Span.{Span}
 use Rattle.storage_class.specs.Spans.{AreSpans}
 use Rattle.cast_stub.specs.declared.send.SendOp.{SendOp}
@@ -36,30 +36,30 @@ role_seen role.Break = is_break
 abbrev pub behind : List SendOp → Ahead → Hoisted
 behind back a = (code_seen (reverse back), ahead_seen a)
 
--- the roles by the spans of XDR
-abbrev pub xdr_roles : Roles
-xdr_roles = roles (sizes Xdr)
+-- the roles by the spans of an encoding
+abbrev pub span_roles : Encoding → Roles
+span_roles e = roles (sizes e)
 
 -- spans of the nodes of a table
-abbrev pub AreClasses : List Node → List Span → Type 0
-AreClasses nodes spans = (length spans ≡ length nodes) × AreSpans Xdr nodes spans
+abbrev pub AreClasses : Encoding → List Node → List Span → Type 0
+AreClasses e nodes spans = (length spans ≡ length nodes) × AreSpans e nodes spans
 
 -- wherever the first is hoisted code, the second is that with an operation in front
-abbrev pub InFront : Ty → SendOp → Hoisted → Hoisted → Type 0
-InFront t o x y = (r : Block) → hoisted xdr_roles t r ≡ x → hoisted xdr_roles t (op_seen o r) ≡ y
+abbrev pub InFront : Encoding → Ty → SendOp → Hoisted → Hoisted → Type 0
+InFront e t o x y = (r : Block) → hoisted (span_roles e) t r ≡ x → hoisted (span_roles e) t (op_seen o r) ≡ y
 
 -- a body is that of the same number, hoisted by itself
-abbrev pub IsHoisted : Ty → ℤ × List SendOp → ℤ × List SendOp → Type 0
-IsHoisted t c b = (b.0 ≡ c.0) × (code_seen b.1 ≡ closed (hoisted xdr_roles t (code_seen c.1)))
+abbrev pub IsHoisted : Encoding → Ty → ℤ × List SendOp → ℤ × List SendOp → Type 0
+IsHoisted e t c b = (b.0 ≡ c.0) × (code_seen b.1 ≡ closed (hoisted (span_roles e) t (code_seen c.1)))
 
 -- so are bodies, in step with arms
-abbrev pub AreHoisted : List Ty → List (ℤ × ℕ) → List (ℤ × List SendOp) → List (ℤ × List SendOp) → Type 0
-AreHoisted us [] [] [] = Unit {0}
-AreHoisted us (a ∷ arms) (c ∷ cases) (b ∷ bodies) = IsHoisted (at us a.1) c b × AreHoisted us arms cases bodies
-AreHoisted us _ _ _ = ⊥
+abbrev pub AreHoisted : Encoding → List Ty → List (ℤ × ℕ) → List (ℤ × List SendOp) → List (ℤ × List SendOp) → Type 0
+AreHoisted e us [] [] [] = Unit {0}
+AreHoisted e us (a ∷ arms) (c ∷ cases) (b ∷ bodies) = IsHoisted e (at us a.1) c b × AreHoisted e us arms cases bodies
+AreHoisted e us _ _ _ = ⊥
 
 -- bodies in step with arms are taken
-abbrev pub ArmsTaken : List Ty → List (ℤ × ℕ) → List (ℤ × List SendOp) → Type 0
-ArmsTaken us [] [] = Unit {0}
-ArmsTaken us (a ∷ arms) (c ∷ cases) = IsTaken xdr_roles (at us a.1) (code_seen c.1) × ArmsTaken us arms cases
-ArmsTaken us _ _ = ⊥
+abbrev pub ArmsTaken : Encoding → List Ty → List (ℤ × ℕ) → List (ℤ × List SendOp) → Type 0
+ArmsTaken e us [] [] = Unit {0}
+ArmsTaken e us (a ∷ arms) (c ∷ cases) = IsTaken (span_roles e) (at us a.1) (code_seen c.1) × ArmsTaken e us arms cases
+ArmsTaken e us _ _ = ⊥

@@ -1,5 +1,5 @@
 // The laws of hoisting, each the contract of a function that does nothing.
-ghost use Rattle.wire_def.specs.declared.encoding.Encoding.TheVariants.{Xdr};
+ghost use Rattle.wire_def.specs.declared.encoding.Encoding.{Encoding};
 ghost use Rattle.hoist.specs.Bound.{BoundsHold};
 ghost use Rattle.hoist.specs.Laws.{FramedIsTaken, HoistingCovers, HoistingIsSparing, HoistingKeepsCode, HoistingKeepsSteps, HoistingSparesRows, SpansAreSizes};
 
@@ -40,5 +40,5 @@ pub fn framed_code_is_taken()
 
 /// The sizes of types by their spans over XDR are such as `hoisting_is_sparing` asks for.
 pub fn spans_are_sizes()
-    ensures { SpansAreSizes Xdr }
+    ensures { (e : Encoding) → SpansAreSizes e }
 {}

@@ -1,5 +1,5 @@
 // One list type, and the lists of octets and of words made of it.
-ghost use Rattle.std.specs.Prelude.{◌≡◌, [], ◌∷◌, ◌++◌, length, slice_get, OnOk, OnErr};
+ghost use Rattle.std.specs.Prelude.{◌≡◌, [], ◌∷◌, ◌++◌, ◌<◌, length, slice_get, slice_set, Some, OnOk, OnErr};
 ghost use Rattle.std.specs.Option.{option_copied};
 
 use crate::NoMemory;
@@ -45,6 +45,15 @@ impl<T> Listed<T> {
         ensures { option_copied result ≡ slice_get self.now i }
     {
         self.items.get(i)
+    }
+
+    /// Exchanges the item at a place for another.
+    pub fn exchange(&mut self, at: usize, item: &mut T)
+        requires { at < length self.old }
+        ensures items { self.new ≡ slice_set self.old at item.old }
+        ensures item { slice_get self.old at ≡ Some item.new }
+    {
+        std::mem::swap(&mut self.items[at], item);
     }
 
     /// The items.

@@ -1,5 +1,5 @@
 -- The octets of an array, by the sort of its elements.
-use Rattle.std.proofs.Common.{◌≡◌, ℕ, ◌+◌, ℤ, List, [], ◌∷◌, length, map, Bool, ◌&&◌, true, false, not, int_eq, refl, ap, pos, negsuc}
+use Rattle.std.proofs.Common.{◌≡◌, ℕ, ◌+◌, ◌<◌, arith, ℤ, List, [], ◌∷◌, length, map, Bool, ◌&&◌, true, false, not, int_eq, refl, ap, pos, negsuc}
 use Rattle.std.proofs.lemmas.List.{append-nil}
 use Rattle.std.specs.List.{list_all}
 use Rattle.mint.specs.declared.kind.Kind.{Kind}
@@ -8,10 +8,11 @@ use Rattle.mint.specs.declared.kind.Count.{Count}
 use Rattle.mint.specs.Kinds.{in_range, is_letter}
 use Rattle.mint.specs.Types.{Array, text, row_of, number}
 use Rattle.wire_def.specs.declared.encoding.Encoding.{Encoding}
-use Rattle.wire_def.specs.declared.encoding.Encoding.TheVariants.{Xdr}
-use Rattle.wire_def.specs.Scalars.{scalar_octets}
-use Rattle.wire_def.specs.Arrays.{natural, is_octets, element_octets, elements_octets, array_octets}
-use Rattle.plain_wire.specs.Sending.{octets_in_full, numbers_in_full}
+use Rattle.wire_def.specs.declared.encoding.Encoding.TheVariants.{Xdr, CdrBig, CdrLittle, Mach}
+use Rattle.wire_def.specs.Scalars.{gap, scalar_octets}
+use Rattle.wire_def.specs.Arrays.{natural, is_octets, element_octets, elements_octets, array_octets, trailing}
+use Rattle.plain_wire.specs.Sending.{IsPlain, elements_of, in_full}
+use Rattle.plain_wire.proofs.Steps.{equations, row_head}
 use Rattle.wire_def.proofs.ScalarGrammar.{left_true, right_true}
 
 -- where each element is one octet
@@ -33,21 +34,23 @@ unfolding elements_octets
 same_elements one two same p [] = refl
 same_elements one two same p (n ∷ ns) = rw (same p n, same_elements one two same (p + length (two p n)) ns) refl
 
-pub text_octets : (c : Count) (p : ℕ) (ns : List ℤ) → array_octets Xdr (text c) p ns ≡ octets_in_full c p ns
-unfolding array_octets
-text_octets c p ns = rw (elements_are_octets (element_octets Xdr (text c)) (octet_element Xdr (text c) refl)) refl
+pub text_elements : (e : Encoding) (c : Count) (p : ℕ) (ns : List ℤ) → elements_of e (text c) p ns ≡ map natural ns
+text_elements e c p ns = elements_are_octets (element_octets e (text c)) (octet_element e (text c) refl) p ns
 
-pub octet_row_octets : (c : Count) (p : ℕ) (ns : List ℤ) → array_octets Xdr (row_of kind.Octet c) p ns ≡ octets_in_full c p ns
-unfolding array_octets
-octet_row_octets c p ns = rw (elements_are_octets (element_octets Xdr (row_of kind.Octet c)) (octet_element Xdr (row_of kind.Octet c) refl)) refl
+pub octet_elements : (e : Encoding) (c : Count) (p : ℕ) (ns : List ℤ) → elements_of e (row_of kind.Octet c) p ns ≡ map natural ns
+octet_elements e c p ns = elements_are_octets (element_octets e (row_of kind.Octet c)) (octet_element e (row_of kind.Octet c) refl) p ns
 
-other_row : (k : Kind) (c : Count) (p : ℕ) (ns : List ℤ) → is_octets (row_of k c) ≡ false → array_octets Xdr (row_of k c) p ns ≡ numbers_in_full k c p ns
-unfolding array_octets
-other_row k c p ns is = rw (is, same_elements (element_octets Xdr (row_of k c)) (scalar_octets Xdr (number k)) (scalar_element Xdr k c is), append-nil) refl
+other_row : (e : Encoding) (k : Kind) (c : Count) (p : ℕ) (ns : List ℤ) → is_octets (row_of k c) ≡ false → elements_of e (row_of k c) p ns ≡ elements_octets (scalar_octets e (number k)) p ns
+other_row e k c p ns is = same_elements (element_octets e (row_of k c)) (scalar_octets e (number k)) (scalar_element e k c is) p ns
 
-pub other_row_octets : (k : Kind) (c : Count) (p : ℕ) (ns : List ℤ) → (k ≡ kind.Octet → ⊥) → array_octets Xdr (row_of k c) p ns ≡ numbers_in_full k c p ns
-other_row_octets kind.Octet c p ns other = absurd (other refl)
-other_row_octets k c p ns other = other_row k c p ns refl
+pub other_elements : (e : Encoding) (k : Kind) (c : Count) (p : ℕ) (ns : List ℤ) → (k ≡ kind.Octet → ⊥) → elements_of e (row_of k c) p ns ≡ elements_octets (scalar_octets e (number k)) p ns
+other_elements e kind.Octet c p ns other = absurd (other refl)
+other_elements e k c p ns other = other_row e k c p ns refl
+
+-- an array is its head, its elements and its end
+pub array_in_full : (e : Encoding) (a : Array) (p : ℕ) (ns : List ℤ) → array_octets e a p ns ≡ in_full e a p ns
+unfolding array_octets
+array_in_full e a p ns = refl
 
 and_true : (a b : Bool) → a ≡ true → b ≡ true → a && b ≡ true
 and_true true b h j = j
@@ -64,4 +67,29 @@ letters_fit (n ∷ ns) h =
     let char : in_range kind.Char n ≡ true = left_true (in_range kind.Char n) (not (int_eq n (pos 0))) (left_true (is_letter n) (list_all is_letter ns) h) in
     and_true (in_range kind.Octet n) _ (char_octet n char) (letters_fit ns (right_true (is_letter n) _ h))
 
-pub ruleset rows = (text_octets, octet_row_octets, other_row_octets, letters_fit)
+pub ruleset rows = (octet_elements, other_elements)
+
+pub gap_few : (n : ℕ) → gap n 4 < 8
+gap_few n = omega arith
+
+pub xdr_other : (k : Kind) (c : Count) (n : ℕ) → (k ≡ kind.Octet → ⊥) → 0 ≡ trailing Xdr (row_of k c) n
+xdr_other kind.Octet c n other = absurd (other refl)
+xdr_other k c n other = refl
+
+pub row_ends : (e : Encoding) (k : Kind) (c : Count) (n : ℕ) → IsPlain e → (e ≡ Xdr → ⊥) → 0 ≡ trailing e (row_of k c) n
+row_ends Xdr k c n h other = absurd (other refl)
+row_ends CdrBig k c n h other = refl
+row_ends CdrLittle k c n h other = refl
+row_ends Mach k c n h other = absurd h
+
+pub text_ends : (e : Encoding) (c : Count) (n : ℕ) → IsPlain e → (e ≡ Xdr → ⊥) → 1 ≡ trailing e (text c) n
+text_ends Xdr c n h other = absurd (other refl)
+text_ends CdrBig c n h other = refl
+text_ends CdrLittle c n h other = refl
+text_ends Mach c n h other = absurd h
+
+pub ruleset tails = (gap_few, xdr_other, row_ends, text_ends)
+
+pub ruleset texts = (equations, text_elements, letters_fit)
+
+pub ruleset wholes = (equations, row_head, array_in_full)

@@ -1,3 +1,5 @@
+mod Words
+mod Gaps
 pub mod Arms
 pub mod Reading
 pub mod Blocks

@@ -1,51 +1,109 @@
 -- Octets are appended one after the other.
-use Rattle.std.proofs.Common.{◌≡◌, ℕ, ◌+◌, ◌-◌, ◌%◌, ◌<◌, ◌≤◌, ℤ, pos, List, [], ◌∷◌, ◌++◌, length, refl, sym, ap, ◌∙◌, ◌⊎◌, inl, inr, append_assoc, length-append, arith, add-one, map, drop, get_or, zero, suc, Bool, true, Result, Ok, Err, Option, Some, None}
+use Rattle.std.proofs.Common.{◌≡◌, ℕ, ◌+◌, ◌-◌, ◌%◌, ◌<◌, ◌≤◌, ℤ, pos, negsuc, List, [], ◌∷◌, ◌++◌, length, refl, sym, ap, ◌∙◌, ◌⊎◌, inl, inr, append_assoc, length-append, arith, add-one, map, drop, replicate, get_or, zero, suc, Bool, true, false, Result, Ok, Err, Option, Some, None}
 use Rattle.std.specs.Result.{IsErr}
 use Rattle.kit_base.specs.declared.errors.NoMemory.{NoMemory}
-use Rattle.plain_wire.specs.Sending.{Appends, IsPrefixed}
+use Rattle.plain_wire.specs.Sending.{Appends, IsPrefixed, IsPlain, aligned}
 use Rattle.std.specs.List.{list_all, slice_get}
 use Rattle.std.proofs.lemmas.List.{append-nil, drop_all}
 use Rattle.std.proofs.Math.Seq.{drop-cons}
 use Rattle.std.proofs.lemmas.Int.{to_z-of_z}
-use Rattle.std.specs.Int.{w32, w64, byte_len}
-use Rattle.kit_base.specs.Bytes.{be}
+use Rattle.std.specs.Int.{Width, w32, w64, byte_len}
 use Rattle.mint.specs.declared.kind.Kind.{Kind}
 use Rattle.mint.specs.declared.kind.Kind.TheVariants as kind
 use Rattle.mint.specs.declared.kind.Count.{Count}
 use Rattle.mint.specs.declared.kind.Count.TheVariants.{Exactly}
-use Rattle.mint.specs.Types.{Scalar, number}
+use Rattle.mint.specs.Types.{Scalar, number, label, text, row_of}
+use Rattle.mint.specs.Typed.{IsScalar}
 use Rattle.mint.proofs.Places.{number_missing}
-use Rattle.wire_def.specs.declared.encoding.Encoding.TheVariants.{Xdr}
-use Rattle.wire_def.specs.Scalars.{scalar_octets, residue, width_of, gap}
-use Rattle.wire_def.proofs.ScalarGrammar.{left_true, right_true}
-use Rattle.wire_def.specs.Arrays.{natural, counted, count_octets, elements_octets}
+use Rattle.wire_def.specs.declared.encoding.Encoding.{Encoding}
+use Rattle.wire_def.specs.declared.encoding.Encoding.TheVariants.{Xdr, CdrBig, CdrLittle, Mach}
+use Rattle.wire_def.specs.Scalars.{is_signed, scalar_octets, number_octets, residue, width_of, alignment_of, gap}
+use Rattle.wire_def.specs.Lone.{lone_octets}
+use Rattle.wire_def.proofs.ScalarGrammar.{left_true, right_true, FitsIn, fits_in, half_half}
+use Rattle.wire_def.specs.Arrays.{natural, counted, count_octets, elements_octets, head_octets}
+use Rattle.plain_wire.specs.Widths.{FitsWidth}
 
--- over XDR a scalar has no gap
-pub xdr_octets : (s : Scalar) (p : ℕ) (n : ℤ) → scalar_octets Xdr s p n ≡ be (byte_len (width_of Xdr s)) (residue (width_of Xdr s) n)
+-- a scalar is a gap and a number
+pub scalar_aligned : (e : Encoding) (s : Scalar) (p : ℕ) (n : ℤ) → scalar_octets e s p n ≡ aligned e s p n
 unfolding scalar_octets
-xdr_octets s p n =
-    let none : gap p 1 ≡ 0 = omega arith in
-    rw none refl
+scalar_aligned e s p n = refl
 
-pub wide : (k : Kind) (p : ℕ) (n : ℤ) → (k ≡ kind.I64) ⊎ (k ≡ kind.U64) → scalar_octets Xdr (number k) p n ≡ be 8 (residue w64 n)
-wide k p n (inl e) = rw e (xdr_octets (number kind.I64) p n)
-wide k p n (inr e) = rw e (xdr_octets (number kind.U64) p n)
+fitting : (signed : Bool) (w : Width) (n : ℤ) → FitsIn signed w n → FitsWidth w n
+unfolding FitsIn
+fitting true w (pos n) h = omega (arith, half_half w)
+fitting true w (negsuc n) h = h
+fitting false w (pos n) h = h
+fitting false w (negsuc n) h = absurd h
 
-pub narrow : (k : Kind) (p : ℕ) (n : ℤ) → (k ≡ kind.I64 → ⊥) → (k ≡ kind.U64 → ⊥) → scalar_octets Xdr (number k) p n ≡ be 4 (residue w32 n)
-narrow kind.I64 p n a b = absurd (a refl)
-narrow kind.U64 p n a b = absurd (b refl)
-narrow k p n a b = xdr_octets (number k) p n
+pub fits_width : (e : Encoding) (s : Scalar) (n : ℤ) → IsScalar s n → FitsWidth (width_of e s) n
+fits_width e s n h = fitting (is_signed s) (width_of e s) n (fits_in e s n h)
 
-pub count_exactly : (m p n : ℕ) → count_octets Xdr (Exactly m) p n ≡ []
+pub ruleset scalars = (to_z-of_z, scalar_aligned, fits_width)
+
+-- a number that travels by itself is its scalar
+pub lone_scalar : (e : Encoding) (s : Scalar) (p : ℕ) (n : ℤ) → IsPlain e → lone_octets e s p n ≡ scalar_octets e s p n
+lone_scalar Xdr s p n h = refl
+lone_scalar CdrBig s p n h = refl
+lone_scalar CdrLittle s p n h = refl
+lone_scalar Mach s p n h = absurd h
+
+-- a label is an integer of 32 bits
+pub label_octets : (e : Encoding) (ls : List ℤ) (p : ℕ) (n : ℤ) → lone_octets e (label ls) p n ≡ lone_octets e (number kind.I32) p n
+unfolding scalar_octets
+label_octets Xdr ls p n = refl
+label_octets CdrBig ls p n = refl
+label_octets CdrLittle ls p n = refl
+label_octets Mach ls p n = refl
+
+pub label_number : (ls : List ℤ) (n : ℤ) → IsScalar (label ls) n → IsScalar (number kind.I32) n
+label_number ls n h = left_true _ _ h
+
+pub ruleset lones = (to_z-of_z, lone_scalar, label_octets, label_number)
+
+pub count_exactly : (e : Encoding) (m p n : ℕ) → count_octets e (Exactly m) p n ≡ []
 unfolding count_octets
-count_exactly m p n = refl
+count_exactly e m p n = refl
 
-pub count_other : (c : Count) (p n : ℕ) → ((m : ℕ) → c ≡ Exactly m → ⊥) → count_octets Xdr c p n ≡ be 4 (residue w32 (pos n))
+pub count_other : (e : Encoding) (c : Count) (p n : ℕ) → ((m : ℕ) → c ≡ Exactly m → ⊥) → count_octets e c p n ≡ lone_octets e counted p (pos n)
 unfolding count_octets
-count_other (Exactly m) p n other = absurd (other m refl)
-count_other _ p n other = xdr_octets counted p (pos n)
+count_other e (Exactly m) p n other = absurd (other m refl)
+count_other e _ p n other = refl
 
-pub ruleset xdr = (to_z-of_z, wide, narrow, xdr_octets, count_exactly, count_other, append-nil)
+-- a length of 2 ^ 32 is sent as 0
+pub ended_wraps : (e : Encoding) (p n : ℕ) → n < 4294967296 → 4294967295 ≤ n → scalar_octets e counted p (pos 0) ≡ scalar_octets e counted p (pos (suc n))
+unfolding scalar_octets
+ended_wraps e p n few many =
+    let is : n ≡ 4294967295 = omega arith in
+    rw is (wraps e) where
+  wraps : (e : Encoding) → replicate (gap p (alignment_of e counted)) 0 ++ number_octets e (width_of e counted) (residue (width_of e counted) (pos 0))
+      ≡ replicate (gap p (alignment_of e counted)) 0 ++ number_octets e (width_of e counted) (residue (width_of e counted) (pos (suc 4294967295)))
+  wraps Xdr = refl
+  wraps CdrBig = refl
+  wraps CdrLittle = refl
+  wraps Mach = refl
+
+pub ruleset counts = (to_z-of_z, count_exactly, count_other, append-nil, ended_wraps)
+
+pub cdr_text : (e : Encoding) (c : Count) (p n : ℕ) → (e ≡ CdrBig) ⊎ (e ≡ CdrLittle) → head_octets e (text c) p n ≡ scalar_octets e counted p (pos (suc n))
+unfolding head_octets
+cdr_text e c p n (inl is) = rw is refl
+cdr_text e c p n (inr is) = rw is refl
+
+pub other_text : (e : Encoding) (c : Count) (p n : ℕ) → IsPlain e → (e ≡ CdrBig → ⊥) → (e ≡ CdrLittle → ⊥) → head_octets e (text c) p n ≡ count_octets e c p n
+unfolding head_octets
+other_text Xdr c p n h a b = refl
+other_text CdrBig c p n h a b = absurd (a refl)
+other_text CdrLittle c p n h a b = absurd (b refl)
+other_text Mach c p n h a b = absurd h
+
+pub row_head : (e : Encoding) (k : Kind) (c : Count) (p n : ℕ) → IsPlain e → head_octets e (row_of k c) p n ≡ count_octets e c p n
+unfolding head_octets
+row_head Xdr k c p n h = refl
+row_head CdrBig k c p n h = refl
+row_head CdrLittle k c p n h = refl
+row_head Mach k c p n h = absurd h
+
+pub ruleset heads = (to_z-of_z, cdr_text, other_text, row_head)
 
 -- what is left over is at least one more
 pub octets_left : (ns : List ℤ) (i : ℕ) → i < length ns → map natural (drop i ns) ≡ natural (get_or ns i (pos 0)) ∷ map natural (drop (i + 1) ns)
@@ -74,6 +132,13 @@ pub breaks : (r : Result ℕ NoMemory) (d : NoMemory) (old mid new o x more : Li
 breaks (Ok n) d old mid new o x more p q failed whole grown (rest, is, long) = absurd cc
 breaks (Err d') d old mid new o x more p q failed whole grown (rest, is, long) =
     (rest ++ more, whole ∙ sym (append_assoc mid x more) ∙ ap (λ z. z ++ more) is ∙ append_assoc new rest more, omega arith)
+
+-- two calls, one after the other
+pub both_appended : (r : Result ℕ NoMemory) (old mid new o x : List ℕ) (p q : ℕ) → mid ≡ old ++ o → q + length old ≡ p + length mid → Appends mid new q x r → Appends old new p (o ++ x) r
+both_appended (Ok n) old mid new o x p q first placed (second, behind) =
+    (second ∙ ap (λ z. z ++ x) first ∙ append_assoc old o x, omega arith)
+both_appended (Err d) old mid new o x p q first placed (rest, is, long) =
+    (rest, sym (append_assoc old o x) ∙ ap (λ z. z ++ x) (sym first) ∙ is, omega (arith, ap length first, length-append old o))
 
 -- the number at a place that there is
 pub number_got : (ns : List ℤ) (i : ℕ) (n : ℤ) → slice_get ns i ≡ Some n → get_or ns i (pos 0) ≡ n

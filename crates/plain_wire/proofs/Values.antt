@@ -3,9 +3,11 @@ use Rattle.std.proofs.Common.{◌≡◌, ℕ, suc, ◌+◌, ◌<◌, ◌≤◌, 
 use Rattle.std.proofs.Common.{zero}
 use Rattle.std.specs.List.{AllByRecursion}
 use Rattle.std.proofs.Math.Seq.{drop-cons}
-use Rattle.mint.specs.Values.{Val, seen, all_seen, count}
-use Rattle.mint.specs.Types.{Ty, at, fields_at}
-use Rattle.mint.specs.Typed.{IsOf, AreOf}
+use Rattle.mint.specs.declared.kind.Kind.{Kind}
+use Rattle.mint.specs.declared.kind.Count.{Count}
+use Rattle.mint.specs.Values.{Val, void, num, row, group, items, arm, absent, present, row_in, seen, all_seen, count}
+use Rattle.mint.specs.Types.{Ty, at, fields_at, array_type, row_of}
+use Rattle.mint.specs.Typed.{IsOf, IsArray, AreOf}
 use Rattle.std.proofs.lemmas.List.{drop_all}
 use Rattle.mint.specs.declared.value.Value.{Value}
 use Rattle.wire_def.specs.declared.encoding.Encoding.{Encoding}
@@ -13,7 +15,8 @@ use Rattle.wire_def.specs.Send.{send, send_fields, send_each}
 use Rattle.mint.proofs.Arms.{arm_below}
 use Rattle.mint.proofs.Fitting.{count-all_seen, are_many}
 use Rattle.plain_wire.proofs.Arms.{arm_typed, arm_none, arm_sent}
-use Rattle.plain_wire.proofs.Steps.{xdr}
+use Rattle.std.proofs.lemmas.Int.{to_z-of_z}
+use Rattle.std.proofs.lemmas.List.{append-nil}
 
 pub are_more : (us : List Ty) (is : List ℕ) (vs : List Value) (k : ℕ) (d : Value) → k < length is → k < length vs → AreOf (fields_at us (drop k is)) (all_seen (drop k vs))
     → IsOf (at us (get_or is k 0)) (seen (get_or vs k d)) × AreOf (fields_at us (drop (k + 1) is)) (all_seen (drop (k + 1) vs))
@@ -40,7 +43,23 @@ fields_none e us is vs k p h = rw (drop_all k is h) refl
 pub each_none : (one : ℕ → Val → List ℕ) (vs : List Value) (k p : ℕ) → length vs ≤ k → send_each one p (all_seen (drop k vs)) ≡ []
 each_none one vs k p h = rw (drop_all k vs h) refl
 
-pub ruleset values = (xdr, append_assoc, length-append, fields_none, each_none, count-all_seen, are_many, are_here, arm_typed, arm_none, arm_sent, arm_below)
+-- a row of the type
+pub row_typed : (t : Ty) (v : Val) (k l : Kind) (c : Count) (ns : List ℤ) → t ≡ array_type (row_of l c) → Some (k, ns) ≡ row_in v → IsOf t v → IsArray (row_of l c) k ns
+row_typed t (row k' ns') k l c ns is there h =
+    let pair : (k, ns) ≡ (k', ns') = cc in
+    let one : k ≡ k' = ap (λ (x : Kind × List ℤ). x.0) pair in
+    let two : ns ≡ ns' = ap (λ (x : Kind × List ℤ). x.1) pair in
+    let typed : IsArray (row_of l c) k' ns' = rw is at h in
+    rw (one, two) typed
+row_typed t void k l c ns is there h = absurd cc
+row_typed t (num n) k l c ns is there h = absurd cc
+row_typed t (group vs) k l c ns is there h = absurd cc
+row_typed t (items vs) k l c ns is there h = absurd cc
+row_typed t (arm n v) k l c ns is there h = absurd cc
+row_typed t absent k l c ns is there h = absurd cc
+row_typed t (present v) k l c ns is there h = absurd cc
+
+pub ruleset values = (to_z-of_z, append-nil, append_assoc, length-append, fields_none, each_none, count-all_seen, are_many, are_here, arm_typed, arm_none, arm_sent, arm_below)
 
 pub all_at : (k : ℕ) (is : List ℕ) (i : ℕ) → i < length is → AllByRecursion (λ x. x < k) is → get_or is i 0 < k
 all_at k [] i h p = absurd (omega arith)

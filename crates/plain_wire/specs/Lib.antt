@@ -1,3 +1,4 @@
+pub mod Widths
 pub mod Readers
 pub mod Answered
 pub mod Sending

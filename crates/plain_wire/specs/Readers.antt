@@ -1,17 +1,20 @@
 -- What a reader has given.
-use Rattle.std.specs.Prelude.{◌≡◌, ℕ, ℤ, nat_lt, true, map, List, Result, Ok, Err}
+use Rattle.std.specs.Prelude.{◌≡◌, ℕ, ◌+◌, ℤ, nat_lt, Bool, true, map, drop, length, List, Result, Ok, Err, if◌then◌else◌}
+use Rattle.std.specs.Int.{Width}
 use Rattle.mint.specs.declared.kind.Kind.{Kind}
 use Rattle.mint.specs.declared.kind.Count.{Count}
 use Rattle.mint.specs.declared.value.Value.{Value}
 use Rattle.mint.specs.Row.{Numbers}
-use Rattle.mint.specs.Types.{number, row_of, text}
+use Rattle.mint.specs.Types.{Scalar, row_of, text}
+use Rattle.mint.specs.Typed.{is_scalar}
 use Rattle.mint.specs.Values.{Val, seen}
-use Rattle.wire_def.specs.declared.encoding.Encoding.TheVariants.{Xdr}
+use Rattle.wire_def.specs.declared.encoding.Encoding.{Encoding}
 use Rattle.wire_def.specs.declared.fault.FaultKind.{FaultKind}
-use Rattle.wire_def.specs.declared.fault.FaultKind.TheVariants.{BadPad, BadText}
-use Rattle.wire_def.specs.Grammar.{Reading, got, stop, Reader, map_got, both, times}
+use Rattle.wire_def.specs.declared.fault.FaultKind.TheVariants.{Short, BadText, BadValue}
+use Rattle.wire_def.specs.Grammar.{Reading, got, stop, Reader, map_got, both, times, tested}
 use Rattle.wire_def.specs.Scalars.{is_signed, width_of, number_of, read_word}
-use Rattle.wire_def.specs.Arrays.{read_element, read_octet, read_zeros, trailing}
+use Rattle.wire_def.specs.Lone.{read_lone}
+use Rattle.wire_def.specs.Arrays.{natural, counted, read_element, read_octet, read_tail}
 use Rattle.plain_wire.specs.declared.cursor.Cursor.{Cursor}
 use Rattle.plain_wire.specs.declared.cursor.ReadError.{ReadError}
 use Rattle.plain_wire.specs.declared.cursor.ReadError.TheVariants as errors
@@ -39,9 +42,21 @@ numbers_in r = r.numbers
 abbrev pub all_values : List Value → List Val
 all_values vs = map seen vs
 
--- a number of a kind's width
-abbrev pub read_bits : Kind → Reader FaultKind ℤ
-read_bits k p o = map_got (number_of (is_signed (number k)) (width_of Xdr (number k))) (read_word Xdr 1 (width_of Xdr (number k)) p o)
+-- so many octets, passed over, up to where a number begins
+unfoldable pub read_gap : ℕ → Reader FaultKind (Unit {0})
+read_gap n p o = if nat_lt (length o) n then stop Short (p + n) else got tt (p + n) (drop n o)
+
+-- a number of a width, with a sign or without
+abbrev pub read_bits : Encoding → Bool → Width → Reader FaultKind ℤ
+read_bits e signed w p o = map_got (number_of signed w) (read_word e 1 w p o)
+
+-- one of a scalar's numbers, where it begins
+abbrev pub read_here : Encoding → Scalar → Reader FaultKind ℤ
+read_here e s = tested (read_bits e (is_signed s) (width_of e s)) (is_scalar s) BadValue (λ p. p)
+
+-- a count by itself
+abbrev pub read_counted : Encoding → Reader FaultKind ℕ
+read_counted e p o = map_got natural (read_lone e counted p o)
 
 -- an octet of a row
 abbrev pub any_octet : Reader FaultKind ℤ
@@ -51,10 +66,10 @@ any_octet = read_octet (λ b. true) BadText
 abbrev pub any_letter : Reader FaultKind ℤ
 any_letter = read_octet (λ b. nat_lt 0 b) BadText
 
--- the elements of a row, and the zeros behind them
-abbrev pub elements_read : Kind → Count → ℕ → Reader FaultKind (List ℤ)
-elements_read k c n p o = map_got (λ x. x.0) (both (times (read_element Xdr (row_of k c)) n) (λ _. read_zeros (trailing Xdr (row_of k c) n) BadPad) p o)
+-- the elements of a row, and what stands behind them
+abbrev pub elements_read : Encoding → Kind → Count → ℕ → Reader FaultKind (List ℤ)
+elements_read e k c n p o = map_got (λ x. x.0) (both (times (read_element e (row_of k c)) n) (λ _. read_tail e (row_of k c) n) p o)
 
--- the octets of a text, and the zeros behind them
-abbrev pub letters_read : Count → ℕ → Reader FaultKind (List ℤ)
-letters_read c n p o = map_got (λ x. x.0) (both (times any_letter n) (λ _. read_zeros (trailing Xdr (text c) n) BadPad) p o)
+-- the octets of a text, and what stands behind them
+abbrev pub letters_read : Encoding → Count → ℕ → Reader FaultKind (List ℤ)
+letters_read e c n p o = map_got (λ x. x.0) (both (times any_letter n) (λ _. read_tail e (text c) n) p o)

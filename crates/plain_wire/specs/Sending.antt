@@ -1,12 +1,11 @@
 -- What a call that appends octets has done.
-use Rattle.std.specs.Prelude.{◌≡◌, ℕ, ℤ, ◌+◌, ◌≤◌, List, ◌++◌, length, map, replicate, Result, Ok, Err}
+use Rattle.std.specs.Prelude.{◌≡◌, ℕ, ℤ, ◌+◌, ◌≤◌, List, ◌++◌, length, replicate, Result, Ok, Err}
 use Rattle.kit_base.specs.declared.errors.NoMemory.{NoMemory}
-use Rattle.mint.specs.declared.kind.Kind.{Kind}
-use Rattle.mint.specs.declared.kind.Count.{Count}
-use Rattle.mint.specs.Types.{number}
-use Rattle.wire_def.specs.declared.encoding.Encoding.TheVariants.{Xdr}
-use Rattle.wire_def.specs.Scalars.{gap, scalar_octets}
-use Rattle.wire_def.specs.Arrays.{natural, count_octets, elements_octets}
+use Rattle.mint.specs.Types.{Scalar, Array}
+use Rattle.wire_def.specs.declared.encoding.Encoding.{Encoding}
+pub use Rattle.wire_def.specs.Lone.{IsPlain}
+use Rattle.wire_def.specs.Scalars.{gap, width_of, alignment_of, number_octets, residue}
+use Rattle.wire_def.specs.Arrays.{element_octets, elements_octets, head_octets, trailing}
 use Rattle.wire_def.specs.Send.{followed}
 
 -- the octets were appended, and the position went past them; or some were, and with those that are left all would have been
@@ -22,14 +21,18 @@ IsNear p old = p ≤ 4194304 + length old
 abbrev pub IsPrefixed : List ℕ → List ℕ → List ℕ → Type 0
 IsPrefixed old new o = (a : List ℕ) × (b : List ℕ) × (o ≡ a ++ b) × (new ≡ old ++ a)
 
--- octets, and zeros up to a multiple of 4
-abbrev pub padded : ℕ → List ℤ → List ℕ
-padded p ns = followed p (map natural ns) (λ q. replicate (gap (length ns) 4) 0)
+-- the elements of an array, one after the other
+abbrev pub elements_of : Encoding → Array → ℕ → List ℤ → List ℕ
+elements_of e a p ns = elements_octets (element_octets e a) p ns
 
--- a count, octets, and zeros up to a multiple of 4
-abbrev pub octets_in_full : Count → ℕ → List ℤ → List ℕ
-octets_in_full c p ns = followed p (count_octets Xdr c p (length ns)) (λ q. padded q ns)
+-- elements, and what stands behind them
+abbrev pub ended : Encoding → Array → ℕ → List ℤ → List ℕ
+ended e a p ns = followed p (elements_of e a p ns) (λ q. replicate (trailing e a (length ns)) 0)
 
--- a count, and each number by itself
-abbrev pub numbers_in_full : Kind → Count → ℕ → List ℤ → List ℕ
-numbers_in_full k c p ns = followed p (count_octets Xdr c p (length ns)) (λ q. elements_octets (λ r n. scalar_octets Xdr (number k) r n) q ns)
+-- what gives the length, the elements, and what stands behind them
+abbrev pub in_full : Encoding → Array → ℕ → List ℤ → List ℕ
+in_full e a p ns = followed p (head_octets e a p (length ns)) (λ q. ended e a q ns)
+
+-- zeros up to the alignment, and a number's octets
+abbrev pub aligned : Encoding → Scalar → ℕ → ℤ → List ℕ
+aligned e s p n = followed p (replicate (gap p (alignment_of e s)) 0) (λ q. number_octets e (width_of e s) (residue (width_of e s) n))

@@ -11,6 +11,7 @@ mod read_scalar;
 mod send;
 mod send_array;
 mod send_scalar;
+mod widths;
 
 pub use read::{Read, plain_read};
 pub use send::plain_send;

@@ -7,13 +7,13 @@ ghost use Rattle.wire_def.specs.Grammar.{AreOctets, times};
 ghost use Rattle.wire_def.specs.Stops.{Stops};
 ghost use Rattle.wire_def.specs.Reading.{read, read_fields};
 ghost use Rattle.wire_def.specs.declared.fault.FaultKind.{FaultKind};
-ghost use Rattle.wire_def.specs.declared.encoding.Encoding.TheVariants.{Xdr};
+ghost use Rattle.plain_wire.specs.Sending.{IsPlain};
 ghost use Rattle.plain_wire.specs.Readers.{Gives, all_values};
 ghost use Rattle.plain_wire.specs.Answered.{IsValue, IsStop, FirstSpell};
 
 use crate::cursor::{Cursor, ReadError, stop};
 use crate::read_array::{row, text};
-use crate::read_scalar::{count, number, one_label, scalar};
+use crate::read_scalar::{count, lone, one_label, scalar, scalar_at};
 use kit_base::{Listed, NoMemory};
 use mint::kind::{Count, Kind};
 use mint::node::{Arms, Node, NodeIds, Tag, arm_of};
@@ -41,7 +41,7 @@ pub fn plain_read(
     pos: usize,
     message: &[u8],
 ) -> Result<Read, NoMemory>
-    requires xdr { enc ≡ Xdr }
+    requires plain { IsPlain enc }
     requires id { id < length mint.now }
     requires within { pos ≤ length message.now }
     requires short { length message.now ≤ 4194304 }
@@ -55,7 +55,7 @@ pub fn plain_read(
         unreachable!()
     };
     let rest = octets_from(message, pos);
-    match value(alloc, mint, id, Cursor { place: pos, rest }) {
+    match value(alloc, enc, mint, id, Cursor { place: pos, rest }) {
         Ok((read, next)) => Ok(Read::Value(read, next.place - pos)),
         Err(ReadError::Stop(fault)) => Ok(Read::Stop(fault)),
         Err(ReadError::NoMemory) => Err(NoMemory),
@@ -76,12 +76,14 @@ fn octets_from(message: &[u8], place: usize) -> &[u8]
 #[tactic(auto, using(crate::proofs::Reading::readers), unfolding(wire_def::specs::Reading::read))]
 fn value<'a>(
     alloc: Global,
+    enc: Encoding,
     mint: &Mint,
     id: u32,
     at: Cursor<'a>,
 ) -> Result<(Value, Cursor<'a>), ReadError>
-    requires { id < length mint.now }
-    ensures { Gives seen result (read Xdr (type_at mint.now id) at.entry.place at.entry.rest.now) }
+    requires plain { IsPlain enc }
+    requires id { id < length mint.now }
+    ensures { Gives seen result (read enc (type_at mint.now id) at.entry.place at.entry.rest.now) }
 {
     let Some(node) = mint.node(id) else {
         unreachable!()
@@ -89,28 +91,28 @@ fn value<'a>(
     match node {
         Node::Void => Ok((Value::Void, at)),
         Node::Num(kind) => {
-            let (n, next) = number(*kind, at)?;
+            let (n, next) = lone(enc, *kind, at)?;
             Ok((Value::Num(n), next))
         }
         Node::Enum(labels) => {
-            let (n, next) = one_label(labels, at)?;
+            let (n, next) = one_label(enc, labels, at)?;
             Ok((Value::Num(n), next))
         }
         Node::Text(bound) => {
-            let (numbers, next) = text(alloc, *bound, at)?;
+            let (numbers, next) = text(alloc, enc, *bound, at)?;
             Ok((Value::Row(numbers), next))
         }
         Node::Row(kind, bound) => {
-            let (numbers, next) = row(alloc, *kind, *bound, at)?;
+            let (numbers, next) = row(alloc, enc, *kind, *bound, at)?;
             Ok((Value::Row(numbers), next))
         }
         Node::Group(ids) => {
-            let (values, next) = fields(alloc, mint, id, ids, at)?;
+            let (values, next) = fields(alloc, enc, mint, id, ids, at)?;
             Ok((Value::Group(values), next))
         }
-        Node::Items(item, bound) => items(alloc, mint, id, *item, *bound, at),
-        Node::Choice(tag, arms, other) => choice(alloc, mint, id, tag, arms, *other, at),
-        Node::Maybe(item) => maybe(alloc, mint, id, *item, at),
+        Node::Items(item, bound) => items(alloc, enc, mint, id, *item, *bound, at),
+        Node::Choice(tag, arms, other) => choice(alloc, enc, mint, id, tag, arms, *other, at),
+        Node::Maybe(item) => maybe(alloc, enc, mint, id, *item, at),
     }
 }
 
@@ -118,19 +120,21 @@ fn value<'a>(
 #[tactic(auto, using(crate::proofs::Reading::readers), unfolding(wire_def::specs::Reading::read))]
 fn fields<'a>(
     alloc: Global,
+    enc: Encoding,
     mint: &Mint,
     id: u32,
     ids: &NodeIds,
     at: Cursor<'a>,
 ) -> Result<(Values, Cursor<'a>), ReadError>
+    requires plain { IsPlain enc }
     requires id { id < length mint.now }
     requires below { AreBelow id ids.now }
-    ensures { Gives all_seen result (read_fields Xdr (fields_at (unfolded mint.now) ids.now) at.entry.place at.entry.rest.now) }
+    ensures { Gives all_seen result (read_fields enc (fields_at (unfolded mint.now) ids.now) at.entry.place at.entry.rest.now) }
 {
     let mut values = Listed::new(alloc);
     let mut at = at;
     for field in ids.as_slice() {
-        let (read, next) = value(alloc, mint, *field, at)?;
+        let (read, next) = value(alloc, enc, mint, *field, at)?;
         values.push(read)?;
         at = next;
     }
@@ -141,18 +145,20 @@ fn fields<'a>(
 #[tactic(auto, using(crate::proofs::Reading::readers), unfolding(wire_def::specs::Reading::read))]
 fn items<'a>(
     alloc: Global,
+    enc: Encoding,
     mint: &Mint,
     id: u32,
     item: u32,
     bound: Count,
     at: Cursor<'a>,
 ) -> Result<(Value, Cursor<'a>), ReadError>
+    requires plain { IsPlain enc }
     requires id { id < length mint.now }
     requires below { item < id }
-    ensures { Gives seen result (read Xdr (items_type bound (type_at mint.now item)) at.entry.place at.entry.rest.now) }
+    ensures { Gives seen result (read enc (items_type bound (type_at mint.now item)) at.entry.place at.entry.rest.now) }
 {
-    let (n, next) = count(bound, at)?;
-    let (values, last) = each(alloc, mint, id, item, n, next)?;
+    let (n, next) = count(enc, bound, at)?;
+    let (values, last) = each(alloc, enc, mint, id, item, n, next)?;
     Ok((Value::Items(values), last))
 }
 
@@ -160,20 +166,22 @@ fn items<'a>(
 #[tactic(auto, using(crate::proofs::Reading::readers), unfolding(wire_def::specs::Reading::read))]
 fn each<'a>(
     alloc: Global,
+    enc: Encoding,
     mint: &Mint,
     id: u32,
     item: u32,
     n: usize,
     at: Cursor<'a>,
 ) -> Result<(Values, Cursor<'a>), ReadError>
+    requires plain { IsPlain enc }
     requires id { id < length mint.now }
     requires below { item < id }
-    ensures { Gives all_values result (times (read Xdr (type_at mint.now item)) n at.entry.place at.entry.rest.now) }
+    ensures { Gives all_values result (times (read enc (type_at mint.now item)) n at.entry.place at.entry.rest.now) }
 {
     let mut values = Listed::new(alloc);
     let mut at = at;
     for _i in 0..n {
-        let (read, next) = value(alloc, mint, item, at)?;
+        let (read, next) = value(alloc, enc, mint, item, at)?;
         values.push(read)?;
         at = next;
     }
@@ -184,6 +192,7 @@ fn each<'a>(
 #[tactic(auto, using(crate::proofs::Reading::readers), unfolding(wire_def::specs::Reading::read))]
 fn choice<'a>(
     alloc: Global,
+    enc: Encoding,
     mint: &Mint,
     id: u32,
     tag: &Tag,
@@ -191,18 +200,19 @@ fn choice<'a>(
     other: Option<u32>,
     at: Cursor<'a>,
 ) -> Result<(Value, Cursor<'a>), ReadError>
+    requires plain { IsPlain enc }
     requires id { id < length mint.now }
     requires below { ArmsBelow id arms.now }
     requires other { IsBelow id other }
-    ensures { Gives seen result (read Xdr (choice_type (scalar_of tag.now) (arms_at (unfolded mint.now) arms.now other)) at.entry.place at.entry.rest.now) }
+    ensures { Gives seen result (read enc (choice_type (scalar_of tag.now) (arms_at (unfolded mint.now) arms.now other)) at.entry.place at.entry.rest.now) }
 {
-    let (n, next) = scalar(tag, at)?;
+    let (n, next) = scalar(enc, tag, at)?;
     match arm_of(arms, other, &n) {
         Some(item) => {
-            let (inner, last) = value(alloc, mint, item, next)?;
+            let (inner, last) = value(alloc, enc, mint, item, next)?;
             Ok((Value::Arm(n, boxed(alloc, inner)?), last))
         }
-        None => Err(stop(FaultKind::BadValue, at.place)),
+        None => Err(stop(FaultKind::BadValue, scalar_at(enc, tag, at.place))),
     }
 }
 
@@ -210,20 +220,22 @@ fn choice<'a>(
 #[tactic(auto, using(crate::proofs::Reading::readers), unfolding(wire_def::specs::Reading::read))]
 fn maybe<'a>(
     alloc: Global,
+    enc: Encoding,
     mint: &Mint,
     id: u32,
     item: u32,
     at: Cursor<'a>,
 ) -> Result<(Value, Cursor<'a>), ReadError>
+    requires plain { IsPlain enc }
     requires id { id < length mint.now }
     requires below { item < id }
-    ensures { Gives seen result (read Xdr (maybe_type (type_at mint.now item)) at.entry.place at.entry.rest.now) }
+    ensures { Gives seen result (read enc (maybe_type (type_at mint.now item)) at.entry.place at.entry.rest.now) }
 {
-    let (n, next) = number(Kind::Bool, at)?;
+    let (n, next) = lone(enc, Kind::Bool, at)?;
     if n == 0 {
         return Ok((Value::Opt(None), next));
     }
-    let (inner, last) = value(alloc, mint, item, next)?;
+    let (inner, last) = value(alloc, enc, mint, item, next)?;
     Ok((Value::Opt(Some(boxed(alloc, inner)?)), last))
 }
 

@@ -5,21 +5,20 @@ ghost use Rattle.std.specs.List.{position};
 ghost use Rattle.mint.specs.Kinds.{above};
 ghost use Rattle.mint.specs.Types.{row_of, text, number};
 ghost use Rattle.mint.specs.declared.kind.Kind.TheVariants as kind;
-ghost use Rattle.mint.specs.declared.kind.Count.{Count};
 ghost use Rattle.wire_def.specs.Grammar.{times};
 ghost use Rattle.wire_def.specs.Scalars.{read_scalar};
-ghost use Rattle.wire_def.specs.Arrays.{read_zeros, read_element, read_array, trailing};
-ghost use Rattle.wire_def.specs.declared.encoding.Encoding.TheVariants.{Xdr};
-ghost use Rattle.wire_def.specs.declared.fault.FaultKind.TheVariants.{BadPad};
+ghost use Rattle.wire_def.specs.Arrays.{read_zeros, read_element, read_array, read_tail};
+ghost use Rattle.plain_wire.specs.Sending.{IsPlain};
 ghost use Rattle.plain_wire.specs.Readers.{any_octet, any_letter, letters_read, elements_read, nothing, numbers_in, Gives};
 
 use crate::cursor::{Cursor, ReadError, stop};
-use crate::read_scalar::{count, number};
+use crate::read_scalar::{number, row_head, text_head};
+use crate::widths::{behind_row, behind_text, fault_behind};
 use kit_base::NoMemory;
 use mint::kind::{Count, Kind};
 use mint::row::Row;
 use std::alloc::Global;
-use wire_def::FaultKind;
+use wire_def::{Encoding, FaultKind};
 
 /// So many octets.
 #[tactic(auto, using(crate::proofs::Blocks::blocks))]
@@ -88,35 +87,36 @@ fn octet(at: Cursor<'_>) -> Result<(u8, Cursor<'_>), ReadError>
     }
 }
 
-/// So many zeros, at most three, behind octets.
+/// So many zeros.
 #[tactic(auto, using(crate::proofs::Reading::pads))]
-fn zeros(n: usize, at: Cursor<'_>) -> Result<((), Cursor<'_>), ReadError>
-    ensures { Gives nothing result (read_zeros n BadPad at.entry.place at.entry.rest.now) }
+fn zeros(n: usize, fault: FaultKind, at: Cursor<'_>) -> Result<((), Cursor<'_>), ReadError>
+    ensures { Gives nothing result (read_zeros n fault at.entry.place at.entry.rest.now) }
 {
     if n == 0 {
         return Ok(((), at));
     }
     let (pad, next) = octet(at)?;
     if pad != 0 {
-        return Err(stop(FaultKind::BadPad, at.place));
+        return Err(stop(fault, at.place));
     }
-    zeros(n - 1, next)
+    zeros(n - 1, fault, next)
 }
 
 /// So many numbers, each by itself.
 fn numbers(
     alloc: Global,
+    enc: Encoding,
     kind: Kind,
     n: usize,
     at: Cursor<'_>,
 ) -> Result<(Row, Cursor<'_>), ReadError>
-    ensures numbers { Gives numbers_in result (times (read_scalar Xdr (number kind)) n at.entry.place at.entry.rest.now) }
+    ensures numbers { Gives numbers_in result (times (read_scalar enc (number kind)) n at.entry.place at.entry.rest.now) }
     ensures kind { IfOk result (λ x. x.0.kind ≡ kind) }
 {
     let mut row = Row::new(alloc, kind);
     let mut at = at;
     for _i in 0..n {
-        let (m, next) = number(kind, at)?;
+        let (m, next) = number(enc, kind, at)?;
         row.push(m)?;
         at = next;
     }
@@ -127,12 +127,13 @@ fn numbers(
 #[tactic(auto, using(crate::proofs::Reading::elements))]
 fn elements(
     alloc: Global,
+    enc: Encoding,
     kind: Kind,
     bound: Count,
     n: usize,
     at: Cursor<'_>,
 ) -> Result<(Row, Cursor<'_>), ReadError>
-    ensures numbers { Gives numbers_in result (times (read_element Xdr (row_of kind bound)) n at.entry.place at.entry.rest.now) }
+    ensures numbers { Gives numbers_in result (times (read_element enc (row_of kind bound)) n at.entry.place at.entry.rest.now) }
     ensures kind { IfOk result (λ x. x.0.kind ≡ kind) }
 {
     match kind {
@@ -140,33 +141,54 @@ fn elements(
             let (piece, next) = octets(n, at)?;
             Ok((row_of_octets(alloc, kind, piece)?, next))
         }
-        _ => numbers(alloc, kind, n, at),
+        _ => numbers(alloc, enc, kind, n, at),
     }
 }
 
-/// How many octets stand behind a row's elements.
-fn pads(kind: Kind, n: usize) -> usize
-    ensures { (bound : Count) → result ≡ trailing Xdr (row_of kind bound) n }
+/// What stands behind a row's elements.
+#[tactic(auto, using(crate::proofs::Words::tails))]
+fn behind_elements(
+    enc: Encoding,
+    kind: Kind,
+    bound: Count,
+    n: usize,
+    at: Cursor<'_>,
+) -> Result<((), Cursor<'_>), ReadError>
+    requires { IsPlain enc }
+    ensures { Gives nothing result (read_tail enc (row_of kind bound) n at.entry.place at.entry.rest.now) }
 {
-    match kind {
-        Kind::Octet => (4 - n % 4) % 4,
-        _ => 0,
-    }
+    zeros(behind_row(enc, kind, n), fault_behind(enc), at)
 }
 
-/// Elements, and the zeros behind them.
-fn padded_elements(
+/// What stands behind a text's octets.
+#[tactic(auto, using(crate::proofs::Words::tails))]
+fn behind_letters(
+    enc: Encoding,
+    bound: Count,
+    n: usize,
+    at: Cursor<'_>,
+) -> Result<((), Cursor<'_>), ReadError>
+    requires { IsPlain enc }
+    ensures { Gives nothing result (read_tail enc (text bound) n at.entry.place at.entry.rest.now) }
+{
+    zeros(behind_text(enc, n), fault_behind(enc), at)
+}
+
+/// Elements, and what stands behind them.
+fn ended_elements(
     alloc: Global,
+    enc: Encoding,
     kind: Kind,
     bound: Count,
     n: usize,
     at: Cursor<'_>,
 ) -> Result<(Row, Cursor<'_>), ReadError>
-    ensures numbers { Gives numbers_in result (elements_read kind bound n at.entry.place at.entry.rest.now) }
+    requires { IsPlain enc }
+    ensures numbers { Gives numbers_in result (elements_read enc kind bound n at.entry.place at.entry.rest.now) }
     ensures kind { IfOk result (λ x. x.0.kind ≡ kind) }
 {
-    let (row, next) = elements(alloc, kind, bound, n, at)?;
-    let ((), last) = zeros(pads(kind, n), next)?;
+    let (row, next) = elements(alloc, enc, kind, bound, n, at)?;
+    let ((), last) = behind_elements(enc, kind, bound, n, next)?;
     Ok((row, last))
 }
 
@@ -174,29 +196,33 @@ fn padded_elements(
 #[tactic(auto, unfolding(wire_def::specs::Arrays::read_array))]
 pub(crate) fn row(
     alloc: Global,
+    enc: Encoding,
     kind: Kind,
     bound: Count,
     at: Cursor<'_>,
 ) -> Result<(Row, Cursor<'_>), ReadError>
-    ensures numbers { Gives numbers_in result (read_array Xdr (row_of kind bound) at.entry.place at.entry.rest.now) }
+    requires { IsPlain enc }
+    ensures numbers { Gives numbers_in result (read_array enc (row_of kind bound) at.entry.place at.entry.rest.now) }
     ensures kind { IfOk result (λ x. x.0.kind ≡ kind) }
 {
-    let (n, next) = count(bound, at)?;
-    padded_elements(alloc, kind, bound, n, next)
+    let (n, next) = row_head(enc, kind, bound, at)?;
+    ended_elements(alloc, enc, kind, bound, n, next)
 }
 
-/// The octets of a text, and the zeros behind them.
-fn padded_letters(
+/// The octets of a text, and what stands behind them.
+fn ended_letters(
     alloc: Global,
+    enc: Encoding,
     bound: Count,
     n: usize,
     at: Cursor<'_>,
 ) -> Result<(Row, Cursor<'_>), ReadError>
-    ensures numbers { Gives numbers_in result (letters_read bound n at.entry.place at.entry.rest.now) }
+    requires { IsPlain enc }
+    ensures numbers { Gives numbers_in result (letters_read enc bound n at.entry.place at.entry.rest.now) }
     ensures kind { IfOk result (λ x. x.0.kind ≡ kind.Char) }
 {
     let (piece, next) = letters(n, at)?;
-    let ((), last) = zeros((4 - n % 4) % 4, next)?;
+    let ((), last) = behind_letters(enc, bound, n, next)?;
     Ok((row_of_octets(alloc, Kind::Char, piece)?, last))
 }
 
@@ -204,12 +230,14 @@ fn padded_letters(
 #[tactic(auto, unfolding(wire_def::specs::Arrays::read_array, wire_def::specs::Arrays::read_element))]
 pub(crate) fn text(
     alloc: Global,
+    enc: Encoding,
     bound: Count,
     at: Cursor<'_>,
 ) -> Result<(Row, Cursor<'_>), ReadError>
-    ensures numbers { Gives numbers_in result (read_array Xdr (text bound) at.entry.place at.entry.rest.now) }
+    requires { IsPlain enc }
+    ensures numbers { Gives numbers_in result (read_array enc (text bound) at.entry.place at.entry.rest.now) }
     ensures kind { IfOk result (λ x. x.0.kind ≡ kind.Char) }
 {
-    let (n, next) = count(bound, at)?;
-    padded_letters(alloc, bound, n, next)
+    let (n, next) = text_head(enc, bound, at)?;
+    ended_letters(alloc, enc, bound, n, next)
 }

@@ -4,13 +4,12 @@ ghost use Rattle.std.specs.Prelude.{◌≡◌, ◌≤◌, ◌<◌, ◌++◌, len
 ghost use Rattle.mint.specs.Values.{seen, all_seen, items, present};
 ghost use Rattle.mint.specs.Types.{maybe_type, items_type, type_at, unfolded, fields_at, arms_at, scalar_of, AreBelow, ArmsBelow, IsBelow};
 ghost use Rattle.mint.specs.Typed.{IsWellTyped, IsOf, AreOf, IsOfArm, Each, IsScalar};
-ghost use Rattle.wire_def.specs.Scalars.{scalar_octets};
+ghost use Rattle.wire_def.specs.Lone.{lone_octets};
 ghost use Rattle.wire_def.specs.Send.{followed, send, send_fields, send_each, send_arm};
-ghost use Rattle.wire_def.specs.declared.encoding.Encoding.TheVariants.{Xdr};
-ghost use Rattle.plain_wire.specs.Sending.{Appends, IsNear, IsPrefixed};
+ghost use Rattle.plain_wire.specs.Sending.{Appends, IsNear, IsPlain, IsPrefixed};
 
 use crate::send_array::{put_row, put_text};
-use crate::send_scalar::{put_count, put_label, put_number, put_scalar};
+use crate::send_scalar::{put_count, put_label, put_lone, put_scalar};
 use kit_base::{NoMemory, Octets};
 use mint::kind::{Count, Kind};
 use mint::node::{Arms, Node, NodeIds, Tag, arm_of};
@@ -28,14 +27,14 @@ pub fn plain_send(
     value: &Value,
     out: &mut Octets,
 ) -> Result<(), NoMemory>
-    requires xdr { enc ≡ Xdr }
+    requires plain { IsPlain enc }
     requires id { id < length mint.now }
     requires near { pos ≤ 4194304 }
     requires typed { IsWellTyped (type_at mint.now id) (seen value.now) }
     ensures ok { OnOk result (out.new ≡ out.old ++ send enc (type_at mint.now id) pos (seen value.now)) }
     ensures err { OnErr result (IsPrefixed out.old out.new (send enc (type_at mint.now id) pos (seen value.now))) }
 {
-    put_value(mint, id, pos, value, out)?;
+    put_value(enc, mint, id, pos, value, out)?;
     Ok(())
 }
 
@@ -43,16 +42,18 @@ pub fn plain_send(
 #[cycle(put)]
 #[tactic(auto, using(crate::proofs::Values::values), unfolding(wire_def::specs::Send::send))]
 fn put_value(
+    enc: Encoding,
     mint: &Mint,
     id: u32,
     place: usize,
     value: &Value,
     out: &mut Octets,
 ) -> Result<usize, NoMemory>
+    requires plain { IsPlain enc }
     requires id { id < length mint.now }
     requires typed { IsOf (type_at mint.now id) (seen value.now) }
     requires near { IsNear place out.old }
-    ensures { Appends out.old out.new place (send Xdr (type_at mint.now id) place (seen value.now)) result }
+    ensures { Appends out.old out.new place (send enc (type_at mint.now id) place (seen value.now)) result }
 {
     let Some(node) = mint.node(id) else {
         unreachable!()
@@ -60,36 +61,36 @@ fn put_value(
     match node {
         Node::Void => Ok(place),
         Node::Num(kind) => match value.as_num() {
-            Some(n) => put_number(*kind, place, &n, out),
+            Some(n) => put_lone(enc, *kind, place, &n, out),
             None => unreachable!(),
         },
         Node::Enum(labels) => match value.as_num() {
-            Some(n) => put_label(labels, place, &n, out),
+            Some(n) => put_label(enc, labels, place, &n, out),
             None => unreachable!(),
         },
         Node::Text(bound) => match value.as_row() {
-            Some(row) => put_text(*bound, place, row, out),
+            Some(row) => put_text(enc, *bound, place, row, out),
             None => unreachable!(),
         },
         Node::Row(kind, bound) => match value.as_row() {
-            Some(row) => put_row(*kind, *bound, place, row, out),
+            Some(row) => put_row(enc, *kind, *bound, place, row, out),
             None => unreachable!(),
         },
         Node::Group(ids) => match value.as_group() {
-            Some(values) => put_fields(mint, id, ids, place, values, out),
+            Some(values) => put_fields(enc, mint, id, ids, place, values, out),
             None => unreachable!(),
         },
         Node::Items(item, bound) => match value.as_items() {
-            Some(values) => put_items(mint, id, *item, *bound, place, values, out),
+            Some(values) => put_items(enc, mint, id, *item, *bound, place, values, out),
             None => unreachable!(),
         },
         Node::Choice(tag, arms, other) => match value.as_arm() {
-            Some((n, inner)) => put_choice(mint, id, tag, arms, *other, place, &n, inner, out),
+            Some((n, inner)) => put_choice(enc, mint, id, tag, arms, *other, place, &n, inner, out),
             None => unreachable!(),
         },
         Node::Maybe(item) => match value.as_opt() {
-            Some(None) => put_number(Kind::Bool, place, &0, out),
-            Some(Some(inner)) => put_present(mint, id, *item, place, inner, out),
+            Some(None) => put_lone(enc, Kind::Bool, place, &0, out),
+            Some(Some(inner)) => put_present(enc, mint, id, *item, place, inner, out),
             None => unreachable!(),
         },
     }
@@ -98,6 +99,7 @@ fn put_value(
 #[cycle(put)]
 #[tactic(auto, using(crate::proofs::Values::values), unfolding(wire_def::specs::Send::send))]
 fn put_fields(
+    enc: Encoding,
     mint: &Mint,
     id: u32,
     ids: &NodeIds,
@@ -105,17 +107,18 @@ fn put_fields(
     values: &Values,
     out: &mut Octets,
 ) -> Result<usize, NoMemory>
+    requires plain { IsPlain enc }
     requires id { id < length mint.now }
     requires below { AreBelow id ids.now }
     requires typed { AreOf (fields_at (unfolded mint.now) ids.now) (all_seen values.now) }
     requires near { IsNear place out.old }
-    ensures { Appends out.old out.new place (send_fields Xdr (fields_at (unfolded mint.now) ids.now) place (all_seen values.now)) result }
+    ensures { Appends out.old out.new place (send_fields enc (fields_at (unfolded mint.now) ids.now) place (all_seen values.now)) result }
 {
     let ids = ids.as_slice();
     let values = values.as_slice();
     let mut at = place;
     for (i, field) in ids.iter().enumerate() {
-        at = put_value(mint, *field, at, &values[i], out)?;
+        at = put_value(enc, mint, *field, at, &values[i], out)?;
     }
     Ok(at)
 }
@@ -123,6 +126,7 @@ fn put_fields(
 #[cycle(put)]
 #[tactic(auto, using(crate::proofs::Values::values), unfolding(wire_def::specs::Send::send))]
 fn put_items(
+    enc: Encoding,
     mint: &Mint,
     id: u32,
     item: u32,
@@ -131,19 +135,21 @@ fn put_items(
     values: &Values,
     out: &mut Octets,
 ) -> Result<usize, NoMemory>
+    requires plain { IsPlain enc }
     requires id { id < length mint.now }
     requires below { item < id }
     requires typed { IsOf (items_type bound (type_at mint.now item)) (items (all_seen values.now)) }
     requires near { IsNear place out.old }
-    ensures { Appends out.old out.new place (send Xdr (items_type bound (type_at mint.now item)) place (items (all_seen values.now))) result }
+    ensures { Appends out.old out.new place (send enc (items_type bound (type_at mint.now item)) place (items (all_seen values.now))) result }
 {
-    let behind = put_count(bound, place, values.len(), out)?;
-    put_each(mint, id, item, behind, values, out)
+    let behind = put_count(enc, bound, place, values.len(), out)?;
+    put_each(enc, mint, id, item, behind, values, out)
 }
 
 #[cycle(put)]
 #[tactic(auto, using(crate::proofs::Values::values), unfolding(wire_def::specs::Send::send))]
 fn put_each(
+    enc: Encoding,
     mint: &Mint,
     id: u32,
     item: u32,
@@ -151,15 +157,16 @@ fn put_each(
     values: &Values,
     out: &mut Octets,
 ) -> Result<usize, NoMemory>
+    requires plain { IsPlain enc }
     requires id { id < length mint.now }
     requires below { item < id }
     requires typed { Each (IsOf (type_at mint.now item)) (all_seen values.now) }
     requires near { IsNear place out.old }
-    ensures { Appends out.old out.new place (send_each (send Xdr (type_at mint.now item)) place (all_seen values.now)) result }
+    ensures { Appends out.old out.new place (send_each (send enc (type_at mint.now item)) place (all_seen values.now)) result }
 {
     let mut at = place;
     for value in values.as_slice() {
-        at = put_value(mint, item, at, value, out)?;
+        at = put_value(enc, mint, item, at, value, out)?;
     }
     Ok(at)
 }
@@ -167,6 +174,7 @@ fn put_each(
 #[cycle(put)]
 #[tactic(auto, using(crate::proofs::Values::values), unfolding(wire_def::specs::Send::send))]
 fn put_choice(
+    enc: Encoding,
     mint: &Mint,
     id: u32,
     tag: &Tag,
@@ -177,21 +185,23 @@ fn put_choice(
     inner: &Value,
     out: &mut Octets,
 ) -> Result<usize, NoMemory>
+    requires plain { IsPlain enc }
     requires id { id < length mint.now }
     requires below { ArmsBelow id arms.now }
     requires other { IsBelow id other }
     requires tagged { IsScalar (scalar_of tag.now) n.now }
     requires typed { IsOfArm (arms_at (unfolded mint.now) arms.now other) n.now (seen inner.now) }
     requires near { IsNear place out.old }
-    ensures { Appends out.old out.new place (followed place (scalar_octets Xdr (scalar_of tag.now) place n.now) (λ q. send_arm Xdr (arms_at (unfolded mint.now) arms.now other) n.now q (seen inner.now))) result }
+    ensures { Appends out.old out.new place (followed place (lone_octets enc (scalar_of tag.now) place n.now) (λ q. send_arm enc (arms_at (unfolded mint.now) arms.now other) n.now q (seen inner.now))) result }
 {
-    let behind = put_scalar(tag, place, n, out)?;
-    put_arm(mint, id, arms, other, behind, n, inner, out)
+    let behind = put_scalar(enc, tag, place, n, out)?;
+    put_arm(enc, mint, id, arms, other, behind, n, inner, out)
 }
 
 #[cycle(put)]
 #[tactic(auto, using(crate::proofs::Values::values), unfolding(wire_def::specs::Send::send))]
 fn put_arm(
+    enc: Encoding,
     mint: &Mint,
     id: u32,
     arms: &Arms,
@@ -201,15 +211,16 @@ fn put_arm(
     inner: &Value,
     out: &mut Octets,
 ) -> Result<usize, NoMemory>
+    requires plain { IsPlain enc }
     requires id { id < length mint.now }
     requires below { ArmsBelow id arms.now }
     requires other { IsBelow id other }
     requires typed { IsOfArm (arms_at (unfolded mint.now) arms.now other) n.now (seen inner.now) }
     requires near { IsNear place out.old }
-    ensures { Appends out.old out.new place (send_arm Xdr (arms_at (unfolded mint.now) arms.now other) n.now place (seen inner.now)) result }
+    ensures { Appends out.old out.new place (send_arm enc (arms_at (unfolded mint.now) arms.now other) n.now place (seen inner.now)) result }
 {
     match arm_of(arms, other, n) {
-        Some(item) => put_value(mint, item, place, inner, out),
+        Some(item) => put_value(enc, mint, item, place, inner, out),
         None => unreachable!(),
     }
 }
@@ -217,6 +228,7 @@ fn put_arm(
 #[cycle(put)]
 #[tactic(auto, using(crate::proofs::Values::values), unfolding(wire_def::specs::Send::send))]
 fn put_present(
+    enc: Encoding,
     mint: &Mint,
     id: u32,
     item: u32,
@@ -224,12 +236,13 @@ fn put_present(
     inner: &Value,
     out: &mut Octets,
 ) -> Result<usize, NoMemory>
+    requires plain { IsPlain enc }
     requires id { id < length mint.now }
     requires below { item < id }
     requires typed { IsOf (type_at mint.now item) (seen inner.now) }
     requires near { IsNear place out.old }
-    ensures { Appends out.old out.new place (send Xdr (maybe_type (type_at mint.now item)) place (present (seen inner.now))) result }
+    ensures { Appends out.old out.new place (send enc (maybe_type (type_at mint.now item)) place (present (seen inner.now))) result }
 {
-    let behind = put_number(Kind::Bool, place, &1, out)?;
-    put_value(mint, item, behind, inner, out)
+    let behind = put_lone(enc, Kind::Bool, place, &1, out)?;
+    put_value(enc, mint, item, behind, inner, out)
 }

@@ -9,13 +9,14 @@ ghost use Rattle.std.specs.Int.{w8};
 ghost use Rattle.mint.specs.declared.kind.Kind.TheVariants as kind;
 ghost use Rattle.wire_def.specs.Scalars.{scalar_octets};
 ghost use Rattle.wire_def.specs.Arrays.{natural, elements_octets, array_octets};
-ghost use Rattle.wire_def.specs.declared.encoding.Encoding.TheVariants.{Xdr};
-ghost use Rattle.plain_wire.specs.Sending.{Appends, IsNear, padded, octets_in_full, numbers_in_full};
+ghost use Rattle.plain_wire.specs.Sending.{Appends, IsNear, IsPlain, elements_of, ended};
 
-use crate::send_scalar::{put, put_count, put_number};
+use crate::widths::{behind_row, behind_text};
+use crate::send_scalar::{put, put_count, put_number, put_text_head, put_zeros};
 use kit_base::{NoMemory, Octets};
 use mint::kind::{Count, Kind};
 use mint::row::Row;
+use wire_def::Encoding;
 
 /// Puts each number of a row as one octet: its image, as one block.
 #[tactic(auto, using(crate::proofs::Images::images))]
@@ -31,6 +32,7 @@ fn put_octets(place: usize, row: &Row, out: &mut Octets) -> Result<usize, NoMemo
 /// Puts the number at a place of a row.
 #[tactic(auto, using(crate::proofs::Steps::equations))]
 fn put_at(
+    enc: Encoding,
     kind: Kind,
     place: usize,
     row: &Row,
@@ -40,99 +42,38 @@ fn put_at(
     requires there { i < length row.now.numbers }
     requires fits { IsTrue (list_all (in_range kind) row.now.numbers) }
     requires near { IsNear place out.old }
-    ensures { Appends out.old out.new place (scalar_octets Xdr (number kind) place (slice_index_or row.now.numbers i (pos 0))) result }
+    ensures { Appends out.old out.new place (scalar_octets enc (number kind) place (slice_index_or row.now.numbers i (pos 0))) result }
 {
     match row.get(i) {
-        Some(n) => put_number(kind, place, &n, out),
+        Some(n) => put_number(enc, kind, place, &n, out),
         None => unreachable!(),
     }
 }
 
 /// Puts each number of a row by itself.
 #[tactic(auto, using(crate::proofs::Steps::equations))]
-fn put_numbers(kind: Kind, place: usize, row: &Row, out: &mut Octets) -> Result<usize, NoMemory>
+fn put_numbers(
+    enc: Encoding,
+    kind: Kind,
+    place: usize,
+    row: &Row,
+    out: &mut Octets,
+) -> Result<usize, NoMemory>
     requires fits { IsTrue (list_all (in_range kind) row.now.numbers) }
     requires near { IsNear place out.old }
-    ensures { Appends out.old out.new place (elements_octets (λ p n. scalar_octets Xdr (number kind) p n) place row.now.numbers) result }
+    ensures { Appends out.old out.new place (elements_octets (λ p n. scalar_octets enc (number kind) p n) place row.now.numbers) result }
 {
     let mut at = place;
     for i in 0..row.len() {
-        at = put_at(kind, at, row, i, out)?;
+        at = put_at(enc, kind, at, row, i, out)?;
     }
     Ok(at)
 }
 
-/// Puts at most three octets 0.
-fn put_zeros(count: usize, place: usize, out: &mut Octets) -> Result<usize, NoMemory>
-    requires few { count < 4 }
-    requires near { IsNear place out.old }
-    ensures { Appends out.old out.new place (replicate count 0) result }
-{
-    let zeros = [0u8; 3];
-    put(place, &zeros[..count], out)
-}
-
-/// Puts octets, and zeros up to a multiple of 4.
-#[tactic(auto, using(crate::proofs::Steps::equations))]
-fn put_padded(place: usize, row: &Row, out: &mut Octets) -> Result<usize, NoMemory>
-    requires kind { word row.now.kind ≡ w8 }
-    requires octets { IsTrue (list_all (in_range kind.Octet) row.now.numbers) }
-    requires near { IsNear place out.old }
-    ensures { Appends out.old out.new place (padded place row.now.numbers) result }
-{
-    let behind = put_octets(place, row, out)?;
-    put_zeros((4 - row.len() % 4) % 4, behind, out)
-}
-
-/// Puts the count, the octets, and the zeros behind them.
-#[tactic(auto, using(crate::proofs::Steps::equations))]
-fn put_octet_row(bound: Count, place: usize, row: &Row, out: &mut Octets) -> Result<usize, NoMemory>
-    requires allowed { Allows bound (length row.now.numbers) }
-    requires kind { word row.now.kind ≡ w8 }
-    requires octets { IsTrue (list_all (in_range kind.Octet) row.now.numbers) }
-    requires near { IsNear place out.old }
-    ensures { Appends out.old out.new place (octets_in_full bound place row.now.numbers) result }
-{
-    let behind = put_count(bound, place, row.len(), out)?;
-    put_padded(behind, row, out)
-}
-
-/// Puts the count, and each number by itself.
-#[tactic(auto, using(crate::proofs::Steps::equations))]
-fn put_number_row(
-    kind: Kind,
-    bound: Count,
-    place: usize,
-    row: &Row,
-    out: &mut Octets,
-) -> Result<usize, NoMemory>
-    requires allowed { Allows bound (length row.now.numbers) }
-    requires fits { IsTrue (list_all (in_range kind) row.now.numbers) }
-    requires near { IsNear place out.old }
-    ensures { Appends out.old out.new place (numbers_in_full kind bound place row.now.numbers) result }
-{
-    let behind = put_count(bound, place, row.len(), out)?;
-    put_numbers(kind, behind, row, out)
-}
-
-/// Puts a text.
+/// Puts the elements of a row.
 #[tactic(auto, using(crate::proofs::Arrays::rows))]
-pub(crate) fn put_text(
-    bound: Count,
-    place: usize,
-    row: &Row,
-    out: &mut Octets,
-) -> Result<usize, NoMemory>
-    requires typed { IsArray (text bound) row.now.kind row.now.numbers }
-    requires near { IsNear place out.old }
-    ensures { Appends out.old out.new place (array_octets Xdr (text bound) place row.now.numbers) result }
-{
-    put_octet_row(bound, place, row, out)
-}
-
-/// Puts a row.
-#[tactic(auto, using(crate::proofs::Arrays::rows))]
-pub(crate) fn put_row(
+fn put_elements(
+    enc: Encoding,
     kind: Kind,
     bound: Count,
     place: usize,
@@ -141,10 +82,84 @@ pub(crate) fn put_row(
 ) -> Result<usize, NoMemory>
     requires typed { IsArray (row_of kind bound) row.now.kind row.now.numbers }
     requires near { IsNear place out.old }
-    ensures { Appends out.old out.new place (array_octets Xdr (row_of kind bound) place row.now.numbers) result }
+    ensures { Appends out.old out.new place (elements_of enc (row_of kind bound) place row.now.numbers) result }
 {
     match kind {
-        Kind::Octet => put_octet_row(bound, place, row, out),
-        _ => put_number_row(kind, bound, place, row, out),
+        Kind::Octet => put_octets(place, row, out),
+        _ => put_numbers(enc, kind, place, row, out),
     }
+}
+
+/// Puts a row's elements, and what stands behind them.
+#[tactic(auto, using(crate::proofs::Steps::equations))]
+fn put_ended_row(
+    enc: Encoding,
+    kind: Kind,
+    bound: Count,
+    place: usize,
+    row: &Row,
+    out: &mut Octets,
+) -> Result<usize, NoMemory>
+    requires plain { IsPlain enc }
+    requires typed { IsArray (row_of kind bound) row.now.kind row.now.numbers }
+    requires near { IsNear place out.old }
+    ensures { Appends out.old out.new place (ended enc (row_of kind bound) place row.now.numbers) result }
+{
+    let behind = put_elements(enc, kind, bound, place, row, out)?;
+    put_zeros(behind_row(enc, kind, row.len()), behind, out)
+}
+
+/// Puts a text's octets, and what stands behind them.
+#[tactic(auto, using(crate::proofs::Arrays::texts))]
+fn put_ended_text(
+    enc: Encoding,
+    bound: Count,
+    place: usize,
+    row: &Row,
+    out: &mut Octets,
+) -> Result<usize, NoMemory>
+    requires plain { IsPlain enc }
+    requires typed { IsArray (text bound) row.now.kind row.now.numbers }
+    requires near { IsNear place out.old }
+    ensures { Appends out.old out.new place (ended enc (text bound) place row.now.numbers) result }
+{
+    let behind = put_octets(place, row, out)?;
+    put_zeros(behind_text(enc, row.len()), behind, out)
+}
+
+/// Puts a text.
+#[tactic(auto, using(crate::proofs::Arrays::wholes))]
+pub(crate) fn put_text(
+    enc: Encoding,
+    bound: Count,
+    place: usize,
+    row: &Row,
+    out: &mut Octets,
+) -> Result<usize, NoMemory>
+    requires plain { IsPlain enc }
+    requires typed { IsArray (text bound) row.now.kind row.now.numbers }
+    requires near { IsNear place out.old }
+    ensures { Appends out.old out.new place (array_octets enc (text bound) place row.now.numbers) result }
+{
+    let behind = put_text_head(enc, bound, place, row.len(), out)?;
+    put_ended_text(enc, bound, behind, row, out)
+}
+
+/// Puts a row.
+#[tactic(auto, using(crate::proofs::Arrays::wholes))]
+pub(crate) fn put_row(
+    enc: Encoding,
+    kind: Kind,
+    bound: Count,
+    place: usize,
+    row: &Row,
+    out: &mut Octets,
+) -> Result<usize, NoMemory>
+    requires plain { IsPlain enc }
+    requires typed { IsArray (row_of kind bound) row.now.kind row.now.numbers }
+    requires near { IsNear place out.old }
+    ensures { Appends out.old out.new place (array_octets enc (row_of kind bound) place row.now.numbers) result }
+{
+    let behind = put_count(enc, bound, place, row.len(), out)?;
+    put_ended_row(enc, kind, bound, behind, row, out)
 }

@@ -1,19 +1,21 @@
 //! Numbers, labels and counts as octets (RFC 4506 sections 4.1 to 4.5).
 
-ghost use Rattle.std.specs.Prelude.{◌≡◌, ◌≤◌, ◌<◌, ◌+◌, pos, negsuc, ◌≤ℤ◌, ◌<ℤ◌, length};
-ghost use Rattle.std.specs.Int.{w32, w64};
-ghost use Rattle.kit_base.specs.Bytes.{be};
-ghost use Rattle.mint.specs.Types.{number, label, scalar_of};
+ghost use Rattle.std.specs.Prelude.{◌≡◌, ◌≤◌, ◌<◌, ◌+◌, pos, negsuc, ◌≤ℤ◌, ◌<ℤ◌, length, replicate, suc};
+ghost use Rattle.std.specs.Int.{w8, w16, w32, w64};
+ghost use Rattle.mint.specs.Types.{number, label, scalar_of, text};
 ghost use Rattle.mint.specs.Typed.{IsScalar};
 ghost use Rattle.mint.specs.Kinds.{Allows};
-ghost use Rattle.wire_def.specs.Scalars.{residue, scalar_octets};
-ghost use Rattle.wire_def.specs.Arrays.{count_octets};
-ghost use Rattle.wire_def.specs.declared.encoding.Encoding.TheVariants.{Xdr};
-ghost use Rattle.plain_wire.specs.Sending.{Appends, IsNear};
+ghost use Rattle.wire_def.specs.Scalars.{number_octets, residue, scalar_octets};
+ghost use Rattle.wire_def.specs.Lone.{lone_octets};
+ghost use Rattle.wire_def.specs.Arrays.{counted, count_octets, head_octets};
+ghost use Rattle.plain_wire.specs.Sending.{Appends, IsNear, IsPlain, aligned};
+ghost use Rattle.plain_wire.specs.Widths.{width_in, FitsWidth};
 
+use crate::widths::{Size, gap_of, size_of};
 use kit_base::{NoMemory, Octets};
 use mint::kind::{Count, Kind};
 use mint::node::{Labels, Tag};
+use wire_def::Encoding;
 
 /// Puts octets behind those that are there, and gives the position behind them.
 pub(crate) fn put(place: usize, piece: &[u8], out: &mut Octets) -> Result<usize, NoMemory>
@@ -23,6 +25,16 @@ pub(crate) fn put(place: usize, piece: &[u8], out: &mut Octets) -> Result<usize,
     let before = out.len();
     out.append(piece)?;
     Ok(place + (out.as_slice().len() - before))
+}
+
+/// Puts at most seven octets 0.
+pub(crate) fn put_zeros(count: usize, place: usize, out: &mut Octets) -> Result<usize, NoMemory>
+    requires few { count < 8 }
+    requires near { IsNear place out.old }
+    ensures { Appends out.old out.new place (replicate count 0) result }
+{
+    let zeros = [0u8; 7];
+    put(place, &zeros[..count], out)
 }
 
 /// A number modulo 2 to the 64.
@@ -51,29 +63,65 @@ fn residue_32(n: i128) -> u32
     }
 }
 
-/// Puts four octets.
-fn put_32(place: usize, n: i128, out: &mut Octets) -> Result<usize, NoMemory>
-    requires low { negsuc 2147483647 ≤ℤ n }
-    requires high { n <ℤ pos 4294967296 }
-    requires near { IsNear place out.old }
-    ensures { Appends out.old out.new place (be 4 (residue w32 n)) result }
+/// A number modulo 2 to the 16.
+fn residue_16(n: i128) -> u16
+    requires low { negsuc 32767 ≤ℤ n }
+    requires high { n <ℤ pos 65536 }
+    ensures { result ≡ residue w16 n }
 {
-    put(place, &residue_32(n).to_be_bytes(), out)
+    if n < 0 {
+        (n + 65536) as u16
+    } else {
+        n as u16
+    }
 }
 
-/// Puts eight octets.
-fn put_64(place: usize, n: i128, out: &mut Octets) -> Result<usize, NoMemory>
-    requires low { negsuc 9223372036854775807 ≤ℤ n }
-    requires high { n <ℤ pos 18446744073709551616 }
-    requires near { IsNear place out.old }
-    ensures { Appends out.old out.new place (be 8 (residue w64 n)) result }
+/// A number modulo 2 to the 8.
+fn residue_8(n: i128) -> u8
+    requires low { negsuc 127 ≤ℤ n }
+    requires high { n <ℤ pos 256 }
+    ensures { result ≡ residue w8 n }
 {
-    put(place, &residue_64(n).to_be_bytes(), out)
+    if n < 0 {
+        (n + 256) as u8
+    } else {
+        n as u8
+    }
 }
 
-/// Puts a number of a kind.
-#[tactic(auto, using(crate::proofs::Steps::xdr))]
+/// Puts a number in its octets, in the order of the encoding.
+#[tactic(auto, using(crate::proofs::Gaps::widths))]
+fn put_word(
+    enc: Encoding,
+    size: Size,
+    place: usize,
+    n: &i128,
+    out: &mut Octets,
+) -> Result<usize, NoMemory>
+    requires fits { FitsWidth (width_in size) n.now }
+    requires near { IsNear place out.old }
+    ensures { Appends out.old out.new place (number_octets enc (width_in size) (residue (width_in size) n.now)) result }
+{
+    match enc {
+        Encoding::Xdr | Encoding::CdrBig => match size {
+            Size::One => put(place, &residue_8(*n).to_be_bytes(), out),
+            Size::Two => put(place, &residue_16(*n).to_be_bytes(), out),
+            Size::Four => put(place, &residue_32(*n).to_be_bytes(), out),
+            Size::Eight => put(place, &residue_64(*n).to_be_bytes(), out),
+        },
+        _ => match size {
+            Size::One => put(place, &residue_8(*n).to_le_bytes(), out),
+            Size::Two => put(place, &residue_16(*n).to_le_bytes(), out),
+            Size::Four => put(place, &residue_32(*n).to_le_bytes(), out),
+            Size::Eight => put(place, &residue_64(*n).to_le_bytes(), out),
+        },
+    }
+}
+
+/// Puts a number of a kind, aligned.
+#[tactic(auto, using(crate::proofs::Steps::scalars))]
 pub(crate) fn put_number(
+    enc: Encoding,
     kind: Kind,
     place: usize,
     n: &i128,
@@ -81,61 +129,112 @@ pub(crate) fn put_number(
 ) -> Result<usize, NoMemory>
     requires fits { IsScalar (number kind) n.now }
     requires near { IsNear place out.old }
-    ensures { Appends out.old out.new place (scalar_octets Xdr (number kind) place n.now) result }
+    ensures { Appends out.old out.new place (scalar_octets enc (number kind) place n.now) result }
 {
-    match kind {
-        Kind::I64 | Kind::U64 => put_64(place, *n, out),
-        _ => put_32(place, *n, out),
-    }
+    let behind = put_zeros(gap_of(enc, kind, place), place, out)?;
+    put_word(enc, size_of(enc, kind), behind, n, out)
+}
+
+/// Puts a number that travels by itself.
+#[tactic(auto, using(crate::proofs::Steps::lones))]
+pub(crate) fn put_lone(
+    enc: Encoding,
+    kind: Kind,
+    place: usize,
+    n: &i128,
+    out: &mut Octets,
+) -> Result<usize, NoMemory>
+    requires plain { IsPlain enc }
+    requires fits { IsScalar (number kind) n.now }
+    requires near { IsNear place out.old }
+    ensures { Appends out.old out.new place (lone_octets enc (number kind) place n.now) result }
+{
+    put_number(enc, kind, place, n, out)
 }
 
 /// Puts one of an enum's labels.
-#[tactic(auto, using(crate::proofs::Steps::xdr))]
+#[tactic(auto, using(crate::proofs::Steps::lones))]
 pub(crate) fn put_label(
+    enc: Encoding,
     _labels: &Labels,
     place: usize,
     n: &i128,
     out: &mut Octets,
 ) -> Result<usize, NoMemory>
+    requires plain { IsPlain enc }
     requires fits { IsScalar (label _labels.now) n.now }
     requires near { IsNear place out.old }
-    ensures { Appends out.old out.new place (scalar_octets Xdr (label _labels.now) place n.now) result }
+    ensures { Appends out.old out.new place (lone_octets enc (label _labels.now) place n.now) result }
 {
-    put_32(place, *n, out)
+    put_lone(enc, Kind::I32, place, n, out)
 }
 
 /// Puts a number of a discriminant.
-#[tactic(auto, using(crate::proofs::Steps::xdr))]
 pub(crate) fn put_scalar(
+    enc: Encoding,
     tag: &Tag,
     place: usize,
     n: &i128,
     out: &mut Octets,
 ) -> Result<usize, NoMemory>
+    requires plain { IsPlain enc }
     requires fits { IsScalar (scalar_of tag.now) n.now }
     requires near { IsNear place out.old }
-    ensures { Appends out.old out.new place (scalar_octets Xdr (scalar_of tag.now) place n.now) result }
+    ensures { Appends out.old out.new place (lone_octets enc (scalar_of tag.now) place n.now) result }
 {
     match tag {
-        Tag::Num(kind) => put_number(*kind, place, n, out),
-        Tag::Enum(labels) => put_label(labels, place, n, out),
+        Tag::Num(kind) => put_lone(enc, *kind, place, n, out),
+        Tag::Enum(labels) => put_label(enc, labels, place, n, out),
     }
 }
 
 /// Puts the count of a list, where it travels.
-#[tactic(auto, using(crate::proofs::Steps::xdr))]
+#[tactic(auto, using(crate::proofs::Steps::counts))]
 pub(crate) fn put_count(
+    enc: Encoding,
     bound: Count,
     place: usize,
     n: usize,
     out: &mut Octets,
 ) -> Result<usize, NoMemory>
+    requires plain { IsPlain enc }
     requires allowed { Allows bound n }
     requires near { IsNear place out.old }
-    ensures { Appends out.old out.new place (count_octets Xdr bound place n) result }
+    ensures { Appends out.old out.new place (count_octets enc bound place n) result }
 {
     match bound {
         Count::Exactly(_) => Ok(place),
-        _ => put_32(place, n as i128, out),
+        _ => put_lone(enc, Kind::U32, place, &(n as i128), out),
+    }
+}
+
+/// Puts the length of a text with the octet behind it, modulo 2 to the 32.
+#[tactic(auto, using(crate::proofs::Steps::counts))]
+fn put_ended(enc: Encoding, place: usize, n: usize, out: &mut Octets) -> Result<usize, NoMemory>
+    requires few { n < 4294967296 }
+    requires near { IsNear place out.old }
+    ensures { Appends out.old out.new place (scalar_octets enc counted place (pos (suc n))) result }
+{
+    let length = if n < 4294967295 { n + 1 } else { 0 };
+    put_number(enc, Kind::U32, place, &(length as i128), out)
+}
+
+/// Puts what gives the length of a text.
+#[tactic(auto, using(crate::proofs::Steps::heads))]
+pub(crate) fn put_text_head(
+    enc: Encoding,
+    bound: Count,
+    place: usize,
+    n: usize,
+    out: &mut Octets,
+) -> Result<usize, NoMemory>
+    requires plain { IsPlain enc }
+    requires allowed { Allows bound n }
+    requires near { IsNear place out.old }
+    ensures { Appends out.old out.new place (head_octets enc (text bound) place n) result }
+{
+    match enc {
+        Encoding::CdrBig | Encoding::CdrLittle => put_ended(enc, place, n, out),
+        _ => put_count(enc, bound, place, n, out),
     }
 }

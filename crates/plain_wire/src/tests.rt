@@ -1,4 +1,5 @@
 //! Octets worked out by hand from RFC 4506.
+mod cdr;
 mod compounds;
 mod rows;
 mod scalars;

@@ -1,5 +1,8 @@
 -- A message that is read, as its octets, the place where reading is, and what was tested.
-use Rattle.std.specs.Prelude.{ℕ, List}
+use Rattle.std.specs.Prelude.{ℕ, List, Option, None, Some, nat_eq, if◌then◌else◌}
+use Rattle.std.specs.Int.{Width, w8, w16, w32, w64, from_be_bytes, from_le_bytes}
+use Rattle.wire_def.specs.declared.head.Order.{Order}
+use Rattle.wire_def.specs.declared.head.Order.TheVariants.{Big, Little}
 
 pub record View : Type 0 where
   -- the message
@@ -10,3 +13,21 @@ pub record View : Type 0 where
   pub near : ℕ
   -- the tests of whether octets are there
   pub tests : ℕ
+
+-- the width of a number of so many octets
+abbrev pub width_in : ℕ → Option Width
+width_in w = if nat_eq w 1 then Some w8 else if nat_eq w 2 then Some w16 else if nat_eq w 4 then Some w32 else if nat_eq w 8 then Some w64 else None
+
+-- the same, where there is one
+abbrev pub width_as : ℕ → Width
+width_as w = if nat_eq w 1 then w8 else if nat_eq w 2 then w16 else if nat_eq w 4 then w32 else w64
+
+-- the number of octets, in an order
+abbrev pub loaded : Order → Width → List ℕ → ℕ
+loaded Big x o = from_be_bytes x o
+loaded Little x o = from_le_bytes x o
+
+-- the number of octets as many as a width has
+abbrev pub loaded_of : Order → Option Width → List ℕ → ℕ
+loaded_of o None os = 0
+loaded_of o (Some x) os = loaded o x os

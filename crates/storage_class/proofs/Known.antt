@@ -3,7 +3,7 @@ use Rattle.std.proofs.Common.{◌≡◌, ℕ, zero, suc, ◌<◌, ℤ, List, [],
 use Rattle.std.proofs.Math.Seq.{drop-cons}
 use Rattle.mint.specs.declared.node.Node.{Node}
 use Rattle.mint.specs.Types.{arms_at, type_at, unfolded, ArmsBelow}
-use Rattle.wire_def.specs.declared.encoding.Encoding.TheVariants.{Xdr}
+use Rattle.wire_def.specs.declared.encoding.Encoding.{Encoding}
 use Rattle.storage_class.specs.declared.span.Span.{Span}
 use Rattle.storage_class.specs.Classing.{either}
 use Rattle.storage_class.specs.Spans.{span, arms_span, AreSpans}
@@ -17,11 +17,11 @@ some_same : (x y : Span) → Some x ≡ Some y → x ≡ y
 some_same x y h = cc
 
 -- the span of an arm and those behind it
-pub arm_before : (nodes : List Node) (known : List Span) (arms : List (ℤ × ℕ)) (o : Option ℕ) (i : ℕ) (d : ℤ × ℕ) (s rest : Span)
-    → ArmsBelow (length known) arms → AreSpans Xdr nodes known → i < length arms
-    → slice_get known (get_or arms i d).1 ≡ Some s → rest ≡ arms_span Xdr (arms_at (unfolded nodes) (drop (suc i) arms) o)
-    → either s rest ≡ arms_span Xdr (arms_at (unfolded nodes) (drop i arms) o)
-arm_before nodes known arms o i d s rest below are h is behind =
-    let same : s ≡ span Xdr (type_at nodes (get_or arms i d).1) = some_same s _ (sym is ∙ are (get_or arms i d).1 (arm_below (length known) arms i d below h)) in
-    let one = ap (λ z. arms_span Xdr (arms_at (unfolded nodes) z o)) (drop-cons arms i d h) in
-    ap (λ z. either z rest) same ∙ ap (λ z. either (span Xdr (type_at nodes (get_or arms i d).1)) z) behind ∙ sym one
+pub arm_before : (e : Encoding) (nodes : List Node) (known : List Span) (arms : List (ℤ × ℕ)) (o : Option ℕ) (i : ℕ) (d : ℤ × ℕ) (s rest : Span)
+    → ArmsBelow (length known) arms → AreSpans e nodes known → i < length arms
+    → slice_get known (get_or arms i d).1 ≡ Some s → rest ≡ arms_span e (arms_at (unfolded nodes) (drop (suc i) arms) o)
+    → either s rest ≡ arms_span e (arms_at (unfolded nodes) (drop i arms) o)
+arm_before e nodes known arms o i d s rest below are h is behind =
+    let same : s ≡ span e (type_at nodes (get_or arms i d).1) = some_same s _ (sym is ∙ are (get_or arms i d).1 (arm_below (length known) arms i d below h)) in
+    let one = ap (λ z. arms_span e (arms_at (unfolded nodes) z o)) (drop-cons arms i d h) in
+    ap (λ z. either z rest) same ∙ ap (λ z. either (span e (type_at nodes (get_or arms i d).1)) z) behind ∙ sym one

@@ -1,8 +1,8 @@
--- What is sent over XDR has a length that the span of its type allows.
-use Rattle.std.proofs.Common.{◌≡◌, ℕ, ◌+◌, ◌*◌, ◌≤◌, ℤ, pos, List, [], ◌∷◌, length, Bool, true, false, cond, refl, sym, ap, int_eq, arith, length-append, zero-add, add-zero, suc-mul}
+-- What is sent has a length that the span of its type allows.
+use Rattle.std.proofs.Common.{◌≡◌, ◌⊎◌, inl, inr, ℕ, zero, suc, ◌+◌, ◌*◌, ◌%◌, ◌≤◌, ℤ, pos, List, [], ◌∷◌, ◌++◌, length, Bool, true, false, cond, refl, sym, ap, ◌∙◌, int_eq, arith, length-append, zero-add, add-zero, suc-mul}
 use Rattle.std.proofs.Math.Nat.{zero-mul, mul-le-mul_right}
 use Rattle.std.specs.Prelude.{MatchBool}
-use Rattle.std.specs.Int.{byte_len}
+use Rattle.std.specs.Int.{Width, w8, w16, w32, w64, byte_len}
 use Rattle.std.proofs.lemmas.List.{length-replicate}
 use Rattle.mint.specs.declared.kind.Kind.TheVariants as kind
 use Rattle.mint.specs.declared.kind.Count.{Count}
@@ -12,38 +12,135 @@ use Rattle.mint.specs.Kinds.{Allows}
 use Rattle.mint.specs.Values.{Val, void, num, row, group, items, arm, absent, present, Vals, no_more, val, count}
 use Rattle.mint.specs.Types.{Scalar, number, Array, text, row_of, Ty, void_type, scalar_type, array_type, group_type, items_type, choice_type, maybe_type, Tys, no_fields, field, Arms, no_other, others, arm_type}
 use Rattle.mint.specs.Typed.{IsArray, IsOf, AreOf, IsOfArm, Each}
-use Rattle.wire_def.specs.declared.encoding.Encoding.TheVariants.{Xdr}
-use Rattle.wire_def.specs.Scalars.{gap, residue, width_of, scalar_octets}
-use Rattle.wire_def.specs.Arrays.{counted, count_of, is_octets, trailing, count_octets, element_octets, elements_octets, array_octets}
+use Rattle.wire_def.specs.declared.encoding.Encoding.{Encoding}
+use Rattle.wire_def.specs.declared.encoding.Encoding.TheVariants.{Xdr, CdrBig, CdrLittle, Mach}
+use Rattle.wire_def.specs.Scalars.{gap, own_width, width_of, alignment_of, scalar_octets}
+use Rattle.kit_base.specs.Bytes.{le}
+use Rattle.wire_def.specs.Lone.{IsPlain, filling, unit_name, unit_bits, units_of, short_word, lone_octets}
+use Rattle.wire_def.specs.Described.{is_long, long_mark, long_words, described_octets}
+use Rattle.wire_def.specs.Arrays.{counted, count_of, kind_of, is_octets, trailing, count_octets, head_octets, element_octets, elements_octets, array_octets}
 use Rattle.wire_def.specs.Send.{flag, send_each, send, send_fields, send_arm}
-use Rattle.wire_def.proofs.Lawful.{xdr_wide}
+use Rattle.wire_def.proofs.Words.{IsOwn, is8, is16, is32, is64, own_of}
+use Rattle.wire_def.proofs.Short.{scalar_long}
 use Rattle.storage_class.specs.declared.span.Span.{Span}
 use Rattle.storage_class.specs.declared.span.Span.TheVariants.{Fixed, Bounded, Unbounded}
-use Rattle.storage_class.specs.Classing.{exactly, loose, either, times, HasLength}
-use Rattle.storage_class.specs.Spans.{scalar_span, counted_span, element_length, elements_length, span, fields_span, arms_span}
-use Rattle.storage_class.proofs.Within.{exactly_within, at_most_within, exactly_loosely, at_most_loosely, loose_within, nothing_within, behind_within, first_within, second_within}
+use Rattle.storage_class.specs.Classing.{from_each, length_at, run, greatest, exactly, top, loose, behind, either, times, times_top, HasLength}
+use Rattle.storage_class.specs.Spans.{lone_length, scalar_span, element_length, elements_length, first_gap, wide_gap, described_length, array_length, array_most, array_counted, text_counted, items_span, span, fields_span, arms_span}
+use Rattle.storage_class.proofs.Within.{exactly_within, at_most_within, loose_within, nothing_within, behind_within, first_within, second_within}
+use Rattle.storage_class.proofs.Residues.{from_each_at, run_at, length_most}
 
-scalar_long : (s : Scalar) (p : ℕ) (n : ℤ) → length (scalar_octets Xdr s p n) ≡ byte_len (width_of Xdr s)
-unfolding scalar_octets
-scalar_long s p n =
-    let none : gap p 1 ≡ 0 = omega arith in
-    rw none ((xdr_wide s).len (residue (width_of Xdr s) n))
+-- ---- scalars
 
--- elements within a span for each number of them that is allowed, behind their count
-counted_within : (c : Count) (p n l : ℕ) (f : ℕ → Span) → Allows c n → HasLength (f n) l → ((m : ℕ) → n ≤ m → HasLength (loose (f m)) l)
-    → HasLength (counted_span Xdr c f) (length (count_octets Xdr c p n) + l)
-unfolding count_octets
-counted_within (Exactly m) p n l f h exact most = rw (zero-add, ← h) exact
-counted_within (AtMost m) p n l f h exact most = behind_within (scalar_span Xdr counted) (loose (f m)) (length (scalar_octets Xdr counted p (pos n))) l (scalar_long counted p (pos n)) (most m h.0)
-counted_within Any p n l f h exact most = tt
+gap_turns : (w : Width) → IsOwn w → (p : ℕ) → gap (p % 8) (byte_len w) ≡ gap p (byte_len w)
+gap_turns _ is8 p = omega arith
+gap_turns _ is16 p = omega arith
+gap_turns _ is32 p = omega arith
+gap_turns _ is64 p = omega arith
+
+no_gap : (p : ℕ) → gap p 1 ≡ 0
+no_gap p = omega arith
+
+lone_turns : (e : Encoding) (s : Scalar) (p : ℕ) → lone_length e s (p % 8) ≡ lone_length e s p
+lone_turns Xdr s p = omega (arith, no_gap (p % 8), no_gap p)
+lone_turns CdrBig s p = ap (λ n. n + byte_len (width_of CdrBig s)) (gap_turns (own_width s) (own_of CdrBig s) p)
+lone_turns CdrLittle s p = ap (λ n. n + byte_len (width_of CdrLittle s)) (gap_turns (own_width s) (own_of CdrLittle s) p)
+lone_turns Mach s p = refl
+
+lone_counts : (e : Encoding) (s : Scalar) (p : ℕ) (n : ℤ) → length (lone_octets e s p n) ≡ lone_length e s p
+lone_counts Xdr s p n = scalar_long Xdr s p n
+lone_counts CdrBig s p n = scalar_long CdrBig s p n
+lone_counts CdrLittle s p n = scalar_long CdrLittle s p n
+lone_counts Mach s p n =
+    let inside = scalar_long Mach s (p + 4) n in
+    simp (length-append, length-replicate) (omega (arith, inside, no_gap (p + 4)))
+
+lone_long : (e : Encoding) (s : Scalar) (p : ℕ) (n : ℤ) → HasLength (scalar_span e s) p (length (lone_octets e s p n))
+lone_long e s p n = lone_counts e s p n ∙ sym (from_each_at (lone_length e s) (lone_turns e s) p)
 
 -- ---- arrays
 
-element_long : (a : Array) (p : ℕ) (n : ℤ) → length (element_octets Xdr a p n) ≡ element_length Xdr a
+abbrev first : ℕ → ℕ → ℕ → ℕ
+first w p zero = 0
+first w p (suc n) = gap p w
+
+-- elements whose octets are as many as what they are aligned to
+module _ (w : Width) (own : IsOwn w) (one : ℕ → ℤ → List ℕ) (each : (p : ℕ) (n : ℤ) → length (one p n) ≡ gap p (byte_len w) + byte_len w) where
+  aligned : (v : Width) → IsOwn v → (p : ℕ) → gap (p + (gap p (byte_len v) + byte_len v)) (byte_len v) ≡ 0
+  aligned _ is8 p = omega arith
+  aligned _ is16 p = omega arith
+  aligned _ is32 p = omega arith
+  aligned _ is64 p = omega arith
+
+  more_aligned : (n p : ℕ) → gap p (byte_len w) ≡ 0 → first (byte_len w) p n ≡ 0
+  more_aligned zero p h = refl
+  more_aligned (suc n) p h = h
+
+  elements_aligned : (p : ℕ) (ns : List ℤ) → length (elements_octets one p ns) ≡ first (byte_len w) p (length ns) + length ns * byte_len w
+  unfolding elements_octets
+  elements_aligned p [] = omega (arith, zero-mul (byte_len w))
+  elements_aligned p (n ∷ ns) =
+      let here = each p n in
+      let rest = elements_aligned (p + length (one p n)) ns in
+      let none = more_aligned (length ns) (p + length (one p n)) (rw (← here) at (aligned w own p)) in
+      rw (length-append, suc-mul) (omega (arith, here, rest, none))
+
+-- the width of an array's elements where they are aligned
+abbrev own_element : Array → Width
+own_element (text c) = w8
+own_element (row_of k c) = own_width (number k)
+
+element_own : (a : Array) → IsOwn (own_element a)
+element_own (text c) = is8
+element_own (row_of k c) = own_of CdrBig (number k)
+
+octet_gap : (p : ℕ) → 1 ≡ gap p 1 + 1
+octet_gap p = omega arith
+
+big_element : (a : Array) (p : ℕ) (n : ℤ) → length (element_octets CdrBig a p n) ≡ gap p (byte_len (own_element a)) + byte_len (own_element a)
 unfolding element_octets
-element_long (text c) p n = refl
-element_long (row_of kind.Octet c) p n = refl
-element_long (row_of k c) p n = scalar_long (number k) p n
+big_element (text c) p n = octet_gap p
+big_element (row_of kind.Octet c) p n = octet_gap p
+big_element (row_of k c) p n = scalar_long CdrBig (number k) p n
+
+little_element : (a : Array) (p : ℕ) (n : ℤ) → length (element_octets CdrLittle a p n) ≡ gap p (byte_len (own_element a)) + byte_len (own_element a)
+unfolding element_octets
+little_element (text c) p n = octet_gap p
+little_element (row_of kind.Octet c) p n = octet_gap p
+little_element (row_of k c) p n = scalar_long CdrLittle (number k) p n
+
+-- the elements of an array from a position, and what stands behind them
+abbrev body_length : Encoding → Array → ℕ → ℕ → ℕ
+body_length Xdr a n p = elements_length Xdr a n
+body_length Mach a n p = elements_length Mach a n
+body_length e a n p = first_gap a p n + elements_length e a n
+
+big_lengths : (a : Array) → byte_len (own_element a) ≡ element_length CdrBig a
+big_lengths (text c) = refl
+big_lengths (row_of kind.Octet c) = refl
+big_lengths (row_of kind.I8 c) = refl
+big_lengths (row_of kind.U8 c) = refl
+big_lengths (row_of kind.Char c) = refl
+big_lengths (row_of kind.I16 c) = refl
+big_lengths (row_of kind.U16 c) = refl
+big_lengths (row_of kind.I32 c) = refl
+big_lengths (row_of kind.U32 c) = refl
+big_lengths (row_of kind.I64 c) = refl
+big_lengths (row_of kind.U64 c) = refl
+big_lengths (row_of kind.Bool c) = refl
+
+little_lengths : (a : Array) → element_length CdrLittle a ≡ element_length CdrBig a
+little_lengths (text c) = refl
+little_lengths (row_of k c) = refl
+
+first_gaps : (a : Array) (p n : ℕ) → first (byte_len (own_element a)) p n ≡ first_gap a p n
+first_gaps a p zero = refl
+first_gaps a p (suc n) = ap (λ w. gap p w) (big_lengths a)
+
+xdr_element : (a : Array) (p : ℕ) (n : ℤ) → length (element_octets Xdr a p n) ≡ element_length Xdr a
+unfolding element_octets
+xdr_element (text c) p n = refl
+xdr_element (row_of kind.Octet c) p n = refl
+xdr_element (row_of k c) p n = let long = scalar_long Xdr (number k) p n in omega (arith, long, no_gap p)
 
 elements_long : (k : ℕ) (one : ℕ → ℤ → List ℕ) → ((p : ℕ) (n : ℤ) → length (one p n) ≡ k) → (p : ℕ) (ns : List ℤ) → length (elements_octets one p ns) ≡ length ns * k
 unfolding elements_octets
@@ -53,93 +150,278 @@ elements_long k one each p (n ∷ ns) =
     let rest = elements_long k one each (p + length (one p n)) ns in
     rw (length-append, suc-mul) (omega arith)
 
+body_long : (e : Encoding) → IsPlain e → (a : Array) (p : ℕ) (ns : List ℤ) → length (elements_octets (element_octets e a) p ns) + trailing e a (length ns) ≡ body_length e a (length ns) p
+body_long Xdr h a p ns = ap (λ z. z + trailing Xdr a (length ns)) (elements_long (element_length Xdr a) (element_octets Xdr a) (xdr_element a) p ns)
+body_long CdrBig h a p ns =
+    let long = elements_aligned (own_element a) (element_own a) (element_octets CdrBig a) (big_element a) p ns in
+    let same : length ns * byte_len (own_element a) ≡ length ns * element_length CdrBig a = ap (λ z. length ns * z) (big_lengths a) in
+    omega (arith, long, same, first_gaps a p (length ns))
+body_long CdrLittle h a p ns =
+    let long = elements_aligned (own_element a) (element_own a) (element_octets CdrLittle a) (little_element a) p ns in
+    let same : length ns * byte_len (own_element a) ≡ length ns * element_length CdrLittle a = ap (λ z. length ns * z) (big_lengths a ∙ sym (little_lengths a)) in
+    omega (arith, long, same, first_gaps a p (length ns))
+body_long Mach h a p ns = absurd h
+
+exact_length : (f : ℕ → ℕ) → ((p : ℕ) → f (p % 8) ≡ f p) → (p l : ℕ) → l ≡ f p → HasLength (exactly (from_each f)) p l
+exact_length f turns p l h = exactly_within (from_each f) p l (h ∙ sym (from_each_at f turns p))
+
+-- ---- rows over CDR
+
+row_gap : (k : Kind) (c : Count) (p n : ℕ) → first_gap (row_of k c) (p % 8) n ≡ first_gap (row_of k c) p n
+row_gap k c p zero = refl
+row_gap k c p (suc n) =
+    let same = big_lengths (row_of k c) in
+    rw (← same) (gap_turns (own_element (row_of k c)) (element_own (row_of k c)) p)
+
+first_most : (a : Array) (q n : ℕ) → q % 4 ≡ 0 → first_gap a q n ≤ wide_gap a
+first_most a q zero h = omega arith
+first_most (text c) q (suc n) h = omega arith
+first_most (row_of kind.Octet c) q (suc n) h = omega arith
+first_most (row_of kind.I8 c) q (suc n) h = omega arith
+first_most (row_of kind.U8 c) q (suc n) h = omega arith
+first_most (row_of kind.Char c) q (suc n) h = omega arith
+first_most (row_of kind.I16 c) q (suc n) h = omega (arith, h)
+first_most (row_of kind.U16 c) q (suc n) h = omega (arith, h)
+first_most (row_of kind.I32 c) q (suc n) h = omega (arith, h)
+first_most (row_of kind.U32 c) q (suc n) h = omega (arith, h)
+first_most (row_of kind.I64 c) q (suc n) h = omega (arith, h)
+first_most (row_of kind.U64 c) q (suc n) h = omega (arith, h)
+first_most (row_of kind.Bool c) q (suc n) h = omega arith
+
+-- behind a count elements begin at a multiple of 4
+behind_count : (p : ℕ) → (p + (gap p 4 + 4)) % 4 ≡ 0
+behind_count p = omega arith
+
+count_few : (p : ℕ) → gap p 4 + 4 ≤ 7
+count_few p = omega arith
+
+grown : (a : Array) (e : Encoding) (n m : ℕ) → IsPlain e → n ≤ m → n * element_length e a ≤ m * element_length e a
+grown a e n m h le = mul-le-mul_right (element_length e a) le
+
+text_fits : (e : Encoding) → (e ≡ CdrBig) ⊎ (e ≡ CdrLittle) → (c : Count) (p n l : ℕ) → Allows c n → l ≤ 8 + n → HasLength (text_counted e c) p l
+text_fits e (inl is) (Exactly m) p n l ok few = rw is (at_most_within (array_most CdrBig (text (Exactly m)) m) p l (omega (arith, ok, few)))
+text_fits e (inl is) (AtMost m) p n l ok few = rw is (at_most_within (array_most CdrBig (text (AtMost m)) m) p l (omega (arith, ok.0, few)))
+text_fits e (inl is) Any p n l ok few = tt
+text_fits e (inr is) (Exactly m) p n l ok few = rw is (at_most_within (array_most CdrLittle (text (Exactly m)) m) p l (omega (arith, ok, few)))
+text_fits e (inr is) (AtMost m) p n l ok few = rw is (at_most_within (array_most CdrLittle (text (AtMost m)) m) p l (omega (arith, ok.0, few)))
+text_fits e (inr is) Any p n l ok few = tt
+
+big_row : (k : Kind) (c : Count) (p : ℕ) (ns : List ℤ) → Allows c (length ns) → HasLength (array_counted CdrBig (row_of k c) c) p (length (array_octets CdrBig (row_of k c) p ns))
+unfolding array_octets head_octets count_octets
+big_row k (Exactly m) p ns h =
+    let body = body_long CdrBig tt (row_of k (Exactly m)) p ns in
+    let turns = λ (q : ℕ). ap (λ z. z + elements_length CdrBig (row_of k (Exactly m)) m) (row_gap k (Exactly m) q m) in
+    let whole = body ∙ ap (λ z. body_length CdrBig (row_of k (Exactly m)) z p) h in
+    exact_length (array_length CdrBig (row_of k (Exactly m)) m) turns p _ (simp (length-append, length-replicate, add-zero) (omega (arith, whole)))
+big_row k (AtMost m) p ns h =
+    let a = row_of k (AtMost m) in
+    let head = scalar_octets CdrBig counted p (pos (length ns)) in
+    let long : length head ≡ gap p 4 + 4 = scalar_long CdrBig counted p (pos (length ns)) in
+    let body = body_long CdrBig tt a (p + length head) ns in
+    let front = first_most a (p + length head) (length ns) (rw long (behind_count p)) in
+    let less = grown a CdrBig (length ns) m tt h.0 in
+    at_most_within (array_most CdrBig a m) p _ (simp (length-append, length-replicate) (omega (arith, long, body, front, less, count_few p)))
+big_row k Any p ns h = tt
+
+big_text : (c : Count) (p : ℕ) (ns : List ℤ) → Allows c (length ns) → HasLength (text_counted CdrBig c) p (length (array_octets CdrBig (text c) p ns))
+unfolding array_octets head_octets
+big_text c p ns h =
+    let head = scalar_octets CdrBig counted p (pos (suc (length ns))) in
+    let long : length head ≡ gap p 4 + 4 = scalar_long CdrBig counted p (pos (suc (length ns))) in
+    let body = body_long CdrBig tt (text c) (p + length head) ns in
+    let front = first_most (text c) (p + length head) (length ns) (rw long (behind_count p)) in
+    let all : length (array_octets CdrBig (text c) p ns) ≤ 8 + length ns = simp (length-append, length-replicate) (omega (arith, long, body, front, count_few p)) in
+    text_fits CdrBig (inl refl) c p (length ns) _ h all
+
+little_row : (k : Kind) (c : Count) (p : ℕ) (ns : List ℤ) → Allows c (length ns) → HasLength (array_counted CdrLittle (row_of k c) c) p (length (array_octets CdrLittle (row_of k c) p ns))
+unfolding array_octets head_octets count_octets
+little_row k (Exactly m) p ns h =
+    let body = body_long CdrLittle tt (row_of k (Exactly m)) p ns in
+    let turns = λ (q : ℕ). ap (λ z. z + elements_length CdrLittle (row_of k (Exactly m)) m) (row_gap k (Exactly m) q m) in
+    let whole = body ∙ ap (λ z. body_length CdrLittle (row_of k (Exactly m)) z p) h in
+    exact_length (array_length CdrLittle (row_of k (Exactly m)) m) turns p _ (simp (length-append, length-replicate, add-zero) (omega (arith, whole)))
+little_row k (AtMost m) p ns h =
+    let a = row_of k (AtMost m) in
+    let head = scalar_octets CdrLittle counted p (pos (length ns)) in
+    let long : length head ≡ gap p 4 + 4 = scalar_long CdrLittle counted p (pos (length ns)) in
+    let body = body_long CdrLittle tt a (p + length head) ns in
+    let front = first_most a (p + length head) (length ns) (rw long (behind_count p)) in
+    let less = grown a CdrLittle (length ns) m tt h.0 in
+    at_most_within (array_most CdrLittle a m) p _ (simp (length-append, length-replicate) (omega (arith, long, body, front, less, count_few p)))
+little_row k Any p ns h = tt
+
+little_text : (c : Count) (p : ℕ) (ns : List ℤ) → Allows c (length ns) → HasLength (text_counted CdrLittle c) p (length (array_octets CdrLittle (text c) p ns))
+unfolding array_octets head_octets
+little_text c p ns h =
+    let head = scalar_octets CdrLittle counted p (pos (suc (length ns))) in
+    let long : length head ≡ gap p 4 + 4 = scalar_long CdrLittle counted p (pos (suc (length ns))) in
+    let body = body_long CdrLittle tt (text c) (p + length head) ns in
+    let front = first_most (text c) (p + length head) (length ns) (rw long (behind_count p)) in
+    let all : length (array_octets CdrLittle (text c) p ns) ≤ 8 + length ns = simp (length-append, length-replicate) (omega (arith, long, body, front, count_few p)) in
+    text_fits CdrLittle (inr refl) c p (length ns) _ h all
+
+-- ---- over XDR
+
 -- more elements have no fewer octets behind them
 padding_grows : (b : Bool) (k n m : ℕ) → n ≤ m → n * cond b 1 k + cond b (gap n 4) 0 ≤ m * cond b 1 k + cond b (gap m 4) 0
 padding_grows true k n m h = omega arith
 padding_grows false k n m h = omega (arith, mul-le-mul_right k h)
 
-array_within : (a : Array) (p : ℕ) (ns : List ℤ) → Allows (count_of a) (length ns) → HasLength (span Xdr (array_type a)) (length (array_octets Xdr a p ns))
-unfolding array_octets
-array_within a p ns h =
-    let head = count_octets Xdr (count_of a) p (length ns) in
-    let body = elements_octets (element_octets Xdr a) (p + length head) ns in
-    let long : length body ≡ length ns * element_length Xdr a = elements_long (element_length Xdr a) (element_octets Xdr a) (element_long a) (p + length head) ns in
-    let all : length body + trailing Xdr a (length ns) ≡ elements_length Xdr a (length ns) = ap (λ z. z + trailing Xdr a (length ns)) long in
-    let fits = counted_within (count_of a) p (length ns) (elements_length Xdr a (length ns)) (λ n. exactly (elements_length Xdr a n)) h
-    (exactly_within (elements_length Xdr a (length ns)) (elements_length Xdr a (length ns)) refl)
-    (λ m j. exactly_loosely (elements_length Xdr a m) (elements_length Xdr a (length ns)) (padding_grows (is_octets a) _ (length ns) m j)) in
-    simp (length-append, length-replicate, long) fits
+xdr_array : (a : Array) (c : Count) (p : ℕ) (ns : List ℤ) → c ≡ count_of a → Allows c (length ns) → HasLength (array_counted Xdr a c) p (length (array_octets Xdr a p ns))
+unfolding array_octets head_octets count_octets
+xdr_array a (Exactly m) p ns is h =
+    let body = body_long Xdr tt a (p + length (count_octets Xdr (Exactly m) p (length ns))) ns in
+    let whole = body ∙ ap (λ z. elements_length Xdr a z) h in
+    let none : length (count_octets Xdr (Exactly m) p (length ns)) ≡ 0 = refl in
+    rw (← is) (exact_length (array_length Xdr a m) (λ q. refl) p _ (simp (length-append, length-replicate) (omega (arith, whole, none))))
+xdr_array a (AtMost m) p ns is h =
+    let head = scalar_octets Xdr counted p (pos (length ns)) in
+    let long : length head ≡ gap p 1 + 4 = scalar_long Xdr counted p (pos (length ns)) in
+    let body = body_long Xdr tt a (p + length head) ns in
+    let less = padding_grows (is_octets a) (byte_len (width_of Xdr (number (Rattle.wire_def.specs.Arrays.kind_of a)))) (length ns) m h.0 in
+    rw (← is) (at_most_within (array_most Xdr a m) p _ (simp (length-append, length-replicate) (omega (arith, long, no_gap p, body, less))))
+xdr_array a Any p ns is h = tt
+
+-- ---- Mach messages
+
+mach_element : (a : Array) (p : ℕ) (n : ℤ) → length (element_octets Mach a p n) ≡ element_length Mach a
+unfolding element_octets
+mach_element (text c) p n = refl
+mach_element (row_of kind.Octet c) p n = refl
+mach_element (row_of k c) p n = let long = scalar_long Mach (number k) p n in omega (arith, long, no_gap p)
+
+described_counts : (a : Array) (n : ℕ) → length (described_octets (count_of a) (number (kind_of a)) n) ≡ described_length a
+unfolding described_octets
+described_counts a n = by (is_long (count_of a) (number (kind_of a))) where
+  by : (b : Bool) → length (cond b (le 4 long_mark ++ le 8 (long_words (unit_name (number (kind_of a))) (unit_bits (number (kind_of a))) (n * units_of (number (kind_of a))))) (le 4 (short_word (unit_name (number (kind_of a))) (unit_bits (number (kind_of a))) (n * units_of (number (kind_of a)))))) ≡ cond b 12 4
+  by true = refl
+  by false = refl
+
+mach_width : (a : Array) → element_length Mach a ≡ byte_len (width_of Mach (number (kind_of a)))
+mach_width (text c) = refl
+mach_width (row_of kind.Octet c) = refl
+mach_width (row_of kind.I8 c) = refl
+mach_width (row_of kind.U8 c) = refl
+mach_width (row_of kind.Char c) = refl
+mach_width (row_of kind.I16 c) = refl
+mach_width (row_of kind.U16 c) = refl
+mach_width (row_of kind.I32 c) = refl
+mach_width (row_of kind.U32 c) = refl
+mach_width (row_of kind.I64 c) = refl
+mach_width (row_of kind.U64 c) = refl
+mach_width (row_of kind.Bool c) = refl
+
+filled_grows : (x y : ℕ) → x ≤ y → x + gap x 4 ≤ y + gap y 4
+filled_grows x y h = omega arith
+
+mach_grows : (a : Array) (n m : ℕ) → n ≤ m → elements_length Mach a n ≤ elements_length Mach a m
+mach_grows a n m h =
+    let w : ℕ = byte_len (width_of Mach (number (kind_of a))) in
+    rw mach_width (filled_grows (n * w) (m * w) (mul-le-mul_right w h))
+
+mach_body : (a : Array) (p : ℕ) (ns : List ℤ) → length (elements_octets (element_octets Mach a) p ns) + trailing Mach a (length ns) ≡ elements_length Mach a (length ns)
+mach_body a p ns = ap (λ z. z + trailing Mach a (length ns)) (elements_long (element_length Mach a) (element_octets Mach a) (mach_element a) p ns)
+
+mach_array : (a : Array) (c : Count) (p : ℕ) (ns : List ℤ) → c ≡ count_of a → Allows c (length ns) → HasLength (array_counted Mach a c) p (length (array_octets Mach a p ns))
+unfolding array_octets head_octets
+mach_array a (Exactly m) p ns is h =
+    let head = described_octets (count_of a) (number (kind_of a)) (length ns) in
+    let body = mach_body a (p + length head) ns ∙ ap (λ z. elements_length Mach a z) h in
+    exact_length (array_length Mach a m) (λ q. refl) p _ (simp (length-append, length-replicate) (omega (arith, described_counts a (length ns), body)))
+mach_array a (AtMost m) p ns is h =
+    let head = described_octets (count_of a) (number (kind_of a)) (length ns) in
+    let body = mach_body a (p + length head) ns in
+    at_most_within (array_most Mach a m) p _ (simp (length-append, length-replicate) (omega (arith, described_counts a (length ns), body, mach_grows a (length ns) m h.0)))
+mach_array a Any p ns is h = tt
+
+array_within : (e : Encoding) (a : Array) (p : ℕ) (ns : List ℤ) → Allows (count_of a) (length ns) → HasLength (span e (array_type a)) p (length (array_octets e a p ns))
+array_within Xdr a p ns ok = xdr_array a (count_of a) p ns refl ok
+array_within CdrBig (text c) p ns ok = big_text c p ns ok
+array_within CdrBig (row_of k c) p ns ok = big_row k c p ns ok
+array_within CdrLittle (text c) p ns ok = little_text c p ns ok
+array_within CdrLittle (row_of k c) p ns ok = little_row k c p ns ok
+array_within Mach a p ns ok = mach_array a (count_of a) p ns refl ok
 
 -- ---- lists
 
-each_exact : (t : Ty) (k : ℕ) (one : ℕ → Val → List ℕ) → ((p : ℕ) (v : Val) → IsOf t v → length (one p v) ≡ k) → (p : ℕ) (vs : Vals) → Each (IsOf t) vs
-    → length (send_each one p vs) ≡ count vs * k
-each_exact t k one each p no_more h = sym (zero-mul k)
-each_exact t k one each p (val v vs) h =
-    let here = each p v h.0 in
-    let rest = each_exact t k one each (p + length (one p v)) vs h.1 in
-    rw (length-append, suc-mul) (omega arith)
-
-each_most : (t : Ty) (k : ℕ) (one : ℕ → Val → List ℕ) → ((p : ℕ) (v : Val) → IsOf t v → length (one p v) ≤ k) → (p : ℕ) (vs : Vals) → Each (IsOf t) vs
-    → length (send_each one p vs) ≤ count vs * k
-each_most t k one each p no_more h = omega arith
-each_most t k one each p (val v vs) h =
-    let here = each p v h.0 in
-    let rest = each_most t k one each (p + length (one p v)) vs h.1 in
-    rw (length-append, suc-mul) (omega arith)
+count_within : (e : Encoding) (p n : ℕ) → HasLength (scalar_span e counted) p (length (lone_octets e counted p (pos n)))
+count_within e p n = lone_long e counted p (pos n)
 
 module _ (t : Ty) (one : ℕ → Val → List ℕ) where
-  times_within : (s : Span) → ((p : ℕ) (v : Val) → IsOf t v → HasLength s (length (one p v))) → (p : ℕ) (vs : Vals) → Each (IsOf t) vs
-      → HasLength (times (count vs) s) (length (send_each one p vs))
-  times_within (Fixed k) each p vs h = exactly_within (count vs * k) _ (each_exact t k one each p vs h)
-  times_within (Bounded k) each p vs h = at_most_within (count vs * k) _ (each_most t k one each p vs h)
+  each_run : (f : List ℕ) → ((p : ℕ) (v : Val) → IsOf t v → length (one p v) ≡ length_at f p) → (p : ℕ) (vs : Vals) → Each (IsOf t) vs → length (send_each one p vs) ≡ run (count vs) f p
+  unfolding run
+  each_run f each p no_more h = refl
+  each_run f each p (val v vs) h =
+      let here = each p v h.0 in
+      let rest = each_run f each (p + length (one p v)) vs h.1 in
+      rw length-append (rw (← here) (ap (λ z. length (one p v) + z) rest))
+
+  each_most : (k : ℕ) → ((p : ℕ) (v : Val) → IsOf t v → length (one p v) ≤ k) → (p : ℕ) (vs : Vals) → Each (IsOf t) vs → length (send_each one p vs) ≤ count vs * k
+  each_most k each p no_more h = omega arith
+  each_most k each p (val v vs) h =
+      let here = each p v h.0 in
+      let rest = each_most k each (p + length (one p v)) vs h.1 in
+      rw (length-append, suc-mul) (omega arith)
+
+  times_within : (s : Span) → ((p : ℕ) (v : Val) → IsOf t v → HasLength s p (length (one p v))) → (p : ℕ) (vs : Vals) → Each (IsOf t) vs
+      → HasLength (times (count vs) s) p (length (send_each one p vs))
+  times_within (Fixed f) each p vs h = exactly_within (from_each (run (count vs) f)) p _ (each_run f each p vs h ∙ sym (run_at (count vs) f p))
+  times_within (Bounded k) each p vs h = at_most_within (count vs * k) p _ (each_most k each p vs h)
   times_within Unbounded each p vs h = tt
 
-  times_loosely : (s : Span) → ((p : ℕ) (v : Val) → IsOf t v → HasLength s (length (one p v))) → (p : ℕ) (vs : Vals) → Each (IsOf t) vs
-      → (m : ℕ) → count vs ≤ m → HasLength (loose (times m s)) (length (send_each one p vs))
-  times_loosely (Fixed k) each p vs h m j = exactly_loosely (m * k) _ (omega (arith, each_exact t k one each p vs h, mul-le-mul_right k j))
-  times_loosely (Bounded k) each p vs h m j = at_most_loosely (m * k) _ (omega (arith, each_most t k one each p vs h, mul-le-mul_right k j))
-  times_loosely Unbounded each p vs h m j = tt
+  times_most : (s : Span) → ((p : ℕ) (v : Val) → IsOf t v → HasLength s p (length (one p v))) → (p : ℕ) (vs : Vals) → Each (IsOf t) vs
+      → (m : ℕ) → count vs ≤ m → HasLength (times_top m (top s)) p (length (send_each one p vs))
+  times_most (Fixed f) each p vs h m j =
+      let one_most : (q : ℕ) (v : Val) → IsOf t v → length (one q v) ≤ greatest f = λ q v ok. let most = length_most f q in omega (arith, each q v ok, most) in
+      at_most_within (m * greatest f) p _ (omega (arith, each_most (greatest f) one_most p vs h, mul-le-mul_right (greatest f) j))
+  times_most (Bounded k) each p vs h m j = at_most_within (m * k) p _ (omega (arith, each_most k each p vs h, mul-le-mul_right k j))
+  times_most Unbounded each p vs h m j = tt
 
--- ---- types
+items_within : (e : Encoding) (c : Count) (t : Ty) (p : ℕ) (vs : Vals) → Allows c (count vs) → Each (IsOf t) vs
+    → ((p : ℕ) (v : Val) → IsOf t v → HasLength (span e t) p (length (send e t p v)))
+    → HasLength (items_span e c (span e t)) p (length (count_octets e c p (count vs)) + length (send_each (send e t) (p + length (count_octets e c p (count vs))) vs))
+unfolding count_octets
+items_within e (Exactly m) t p vs ok h each = rw (zero-add, add-zero, ← ok) (times_within t (send e t) (span e t) each p vs h)
+items_within e (AtMost m) t p vs ok h each =
+    let q : ℕ = p + length (lone_octets e counted p (pos (count vs))) in
+    behind_within (scalar_span e counted) (times_top m (top (span e t))) p _ _ (lone_long e counted p (pos (count vs))) (times_most t (send e t) (span e t) each q vs h m ok.0)
+items_within e Any t p vs ok h each = tt
 
-arm_at : (b : Bool) (P Q : Type 0) (x y : List ℕ) (s rest : Span) → (P → HasLength s (length x)) → (Q → HasLength rest (length y)) → MatchBool b P Q → HasLength (either s rest) (length (cond b x y))
-arm_at true P Q x y s rest f g h = first_within s rest (length x) (f h)
-arm_at false P Q x y s rest f g h = second_within s rest (length y) (g h)
+arm_at : (b : Bool) (P Q : Type 0) (x y : List ℕ) (s rest : Span) (p : ℕ) → (P → HasLength s p (length x)) → (Q → HasLength rest p (length y)) → MatchBool b P Q → HasLength (either s rest) p (length (cond b x y))
+arm_at true P Q x y s rest p f g h = first_within s rest p (length x) (f h)
+arm_at false P Q x y s rest p f g h = second_within s rest p (length y) (g h)
 
 array_typed : (a : Array) (k : Kind) (ns : List ℤ) → IsArray a k ns → Allows (count_of a) (length ns)
 array_typed (text c) k ns h = h.1
 array_typed (row_of k' c) k ns h = h.1
 
-mutual
-  unfolding send
+module _ (e : Encoding) where
+  mutual
+    unfolding send
 
-  pub sent_within : (t : Ty) (p : ℕ) (v : Val) → IsOf t v → HasLength (span Xdr t) (length (send Xdr t p v))
-  sent_within void_type p void h = refl
-  sent_within (scalar_type s) p (num n) h = scalar_long s p n
-  sent_within (array_type a) p (row k ns) h = array_within a p ns (array_typed a k ns h)
-  sent_within (group_type ts) p (group vs) h = fields_within ts p vs h
-  sent_within (items_type c t) p (items vs) h =
-      let q = p + length (count_octets Xdr c p (count vs)) in
-      rw length-append (counted_within c p (count vs) (length (send_each (send Xdr t) q vs)) (λ n. times n (span Xdr t)) h.0
-      (times_within t (send Xdr t) (span Xdr t) (sent_within t) q vs h.1)
-      (times_loosely t (send Xdr t) (span Xdr t) (sent_within t) q vs h.1))
-  sent_within (choice_type s arms) p (arm n v) h =
-      rw length-append (behind_within (scalar_span Xdr s) (arms_span Xdr arms) _ _ (scalar_long s p n) (arm_within arms n (p + length (scalar_octets Xdr s p n)) v h.1))
-  sent_within (maybe_type t) p absent h =
-      rw add-zero at (behind_within (scalar_span Xdr flag) (loose (span Xdr t)) (length (scalar_octets Xdr flag p (pos 0))) 0 (scalar_long flag p (pos 0)) (nothing_within (span Xdr t)))
-  sent_within (maybe_type t) p (present v) h =
-      rw length-append (behind_within (scalar_span Xdr flag) (loose (span Xdr t)) _ _ (scalar_long flag p (pos 1)) (loose_within (span Xdr t) _ (sent_within t (p + length (scalar_octets Xdr flag p (pos 1))) v h)))
-  sent_within _ p _ h = absurd h
+    pub sent_within : (t : Ty) (p : ℕ) (v : Val) → IsOf t v → HasLength (span e t) p (length (send e t p v))
+    sent_within void_type p void h = sym (from_each_at (λ q. 0) (λ q. refl) p)
+    sent_within (scalar_type s) p (num n) h = lone_long e s p n
+    sent_within (array_type a) p (row k ns) h = array_within e a p ns (array_typed a k ns h)
+    sent_within (group_type ts) p (group vs) h = fields_within ts p vs h
+    sent_within (items_type c t) p (items vs) h = rw length-append (items_within e c t p vs h.0 h.1 (sent_within t))
+    sent_within (choice_type s arms) p (arm n v) h =
+        rw length-append (behind_within (scalar_span e s) (arms_span e arms) p _ _ (lone_long e s p n) (arm_within arms n (p + length (lone_octets e s p n)) v h.1))
+    sent_within (maybe_type t) p absent h =
+        rw add-zero at (behind_within (scalar_span e flag) (loose (span e t)) p (length (lone_octets e flag p (pos 0))) 0 (lone_long e flag p (pos 0)) (nothing_within (span e t) (p + length (lone_octets e flag p (pos 0)))))
+    sent_within (maybe_type t) p (present v) h =
+        let q : ℕ = p + length (lone_octets e flag p (pos 1)) in
+        rw length-append (behind_within (scalar_span e flag) (loose (span e t)) p _ _ (lone_long e flag p (pos 1)) (loose_within (span e t) q _ (sent_within t q v h)))
+    sent_within _ p _ h = absurd h
 
-  fields_within : (ts : Tys) (p : ℕ) (vs : Vals) → AreOf ts vs → HasLength (fields_span Xdr ts) (length (send_fields Xdr ts p vs))
-  fields_within no_fields p no_more h = refl
-  fields_within (field t ts) p (val v vs) h =
-      rw length-append (behind_within (span Xdr t) (fields_span Xdr ts) _ _ (sent_within t p v h.0) (fields_within ts (p + length (send Xdr t p v)) vs h.1))
-  fields_within _ p _ h = absurd h
+    fields_within : (ts : Tys) (p : ℕ) (vs : Vals) → AreOf ts vs → HasLength (fields_span e ts) p (length (send_fields e ts p vs))
+    fields_within no_fields p no_more h = sym (from_each_at (λ q. 0) (λ q. refl) p)
+    fields_within (field t ts) p (val v vs) h =
+        rw length-append (behind_within (span e t) (fields_span e ts) p _ _ (sent_within t p v h.0) (fields_within ts (p + length (send e t p v)) vs h.1))
+    fields_within _ p _ h = absurd h
 
-  arm_within : (arms : Arms) (n : ℤ) (p : ℕ) (v : Val) → IsOfArm arms n v → HasLength (arms_span Xdr arms) (length (send_arm Xdr arms n p v))
-  arm_within no_other n p v h = absurd h
-  arm_within (others t) n p v h = loose_within (span Xdr t) _ (sent_within t p v h)
-  arm_within (arm_type m t arms) n p v h =
-      arm_at (int_eq n m) (IsOf t v) (IsOfArm arms n v) (send Xdr t p v) (send_arm Xdr arms n p v) (span Xdr t) (arms_span Xdr arms) (sent_within t p v) (arm_within arms n p v) h
+    arm_within : (arms : Arms) (n : ℤ) (p : ℕ) (v : Val) → IsOfArm arms n v → HasLength (arms_span e arms) p (length (send_arm e arms n p v))
+    arm_within no_other n p v h = absurd h
+    arm_within (others t) n p v h = loose_within (span e t) p _ (sent_within t p v h)
+    arm_within (arm_type m t arms) n p v h =
+        arm_at (int_eq n m) (IsOf t v) (IsOfArm arms n v) (send e t p v) (send_arm e arms n p v) (span e t) (arms_span e arms) p (sent_within t p v) (arm_within arms n p v) h

@@ -1,68 +1,63 @@
 -- Lengths of wholes, from those of their parts.
-use Rattle.std.proofs.Common.{◌≡◌, ℕ, ◌+◌, ◌≤◌, nat_le, Bool, true, false, cond, arith}
+use Rattle.std.proofs.Common.{◌≡◌, ℕ, ◌+◌, ◌*◌, ◌≤◌, nat_le, List, Bool, true, false, cond, sym, ◌∙◌, arith}
+use Rattle.std.specs.List.{list_all}
 use Rattle.storage_class.specs.declared.span.Span.{Span}
 use Rattle.storage_class.specs.declared.span.Span.TheVariants.{Fixed, Bounded, Unbounded}
-use Rattle.storage_class.specs.Classing.{exactly, at_most, loose, behind, either, HasLength}
+use Rattle.storage_class.specs.Classing.{from_each, length_at, length_behind, greatest, exactly, at_most, top, loose, behind, either, times_top, HasLength}
+use Rattle.storage_class.proofs.Residues.{behind_at, length_most}
 
-told : (b : Bool) (s : Span) (l : ℕ) → HasLength s l → HasLength (cond b s Unbounded) l
-told true s l h = h
-told false s l h = tt
+told : (b : Bool) (s : Span) (p l : ℕ) → HasLength s p l → HasLength (cond b s Unbounded) p l
+told true s p l h = h
+told false s p l h = tt
 
-pub exactly_within : (n l : ℕ) → l ≡ n → HasLength (exactly n) l
-exactly_within n l h = told (nat_le n 4294967295) (Fixed n) l h
+pub exactly_within : (f : List ℕ) (p l : ℕ) → l ≡ length_at f p → HasLength (exactly f) p l
+exactly_within f p l h = told (list_all (λ n. nat_le n 4294967295) f) (Fixed f) p l h
 
-pub at_most_within : (n l : ℕ) → l ≤ n → HasLength (at_most n) l
-at_most_within n l h = told (nat_le n 4294967295) (Bounded n) l h
+pub at_most_within : (n p l : ℕ) → l ≤ n → HasLength (at_most n) p l
+at_most_within n p l h = told (nat_le n 4294967295) (Bounded n) p l h
 
-loosely : (b : Bool) (s : Span) (l : ℕ) → HasLength (loose s) l → HasLength (loose (cond b s Unbounded)) l
-loosely true s l h = h
-loosely false s l h = tt
+pub loose_within : (s : Span) (p l : ℕ) → HasLength s p l → HasLength (loose s) p l
+loose_within (Fixed f) p l h = let most = length_most f p in omega (arith, h, most)
+loose_within (Bounded n) p l h = h
+loose_within Unbounded p l h = tt
 
-pub exactly_loosely : (n l : ℕ) → l ≤ n → HasLength (loose (exactly n)) l
-exactly_loosely n l h = loosely (nat_le n 4294967295) (Fixed n) l h
+pub nothing_within : (s : Span) (p : ℕ) → HasLength (loose s) p 0
+nothing_within (Fixed n) p = omega arith
+nothing_within (Bounded n) p = omega arith
+nothing_within Unbounded p = tt
 
-pub at_most_loosely : (n l : ℕ) → l ≤ n → HasLength (loose (at_most n)) l
-at_most_loosely n l h = loosely (nat_le n 4294967295) (Bounded n) l h
+pub behind_within : (a b : Span) (p k l : ℕ) → HasLength a p k → HasLength b (p + k) l → HasLength (behind a b) p (k + l)
+behind_within (Fixed f) (Fixed g) p k l h j =
+    let whole = behind_at f g p in
+    let second : l ≡ length_at g (p + length_at f p) = rw h at j in
+    exactly_within (from_each (length_behind f g)) p (k + l) (omega (arith, h, second, whole))
+behind_within (Fixed f) (Bounded n) p k l h j = let most = length_most f p in at_most_within (greatest f + n) p (k + l) (omega (arith, h, most))
+behind_within (Fixed f) Unbounded p k l h j = tt
+behind_within (Bounded m) (Fixed g) p k l h j = let most = length_most g (p + k) in at_most_within (m + greatest g) p (k + l) (omega (arith, j, most))
+behind_within (Bounded m) (Bounded n) p k l h j = at_most_within (m + n) p (k + l) (omega arith)
+behind_within (Bounded m) Unbounded p k l h j = tt
+behind_within Unbounded (Fixed n) p k l h j = tt
+behind_within Unbounded (Bounded n) p k l h j = tt
+behind_within Unbounded Unbounded p k l h j = tt
 
-pub loose_within : (s : Span) (l : ℕ) → HasLength s l → HasLength (loose s) l
-loose_within (Fixed n) l h = omega arith
-loose_within (Bounded n) l h = h
-loose_within Unbounded l h = tt
+pub first_within : (a b : Span) (p l : ℕ) → HasLength a p l → HasLength (either a b) p l
+first_within (Fixed f) (Fixed g) p l h = let most = length_most f p in omega (arith, h, most)
+first_within (Fixed f) (Bounded n) p l h = let most = length_most f p in omega (arith, h, most)
+first_within (Fixed f) Unbounded p l h = tt
+first_within (Bounded m) (Fixed g) p l h = omega arith
+first_within (Bounded m) (Bounded n) p l h = omega arith
+first_within (Bounded m) Unbounded p l h = tt
+first_within Unbounded (Fixed n) p l h = tt
+first_within Unbounded (Bounded n) p l h = tt
+first_within Unbounded Unbounded p l h = tt
 
-pub nothing_within : (s : Span) → HasLength (loose s) 0
-nothing_within (Fixed n) = omega arith
-nothing_within (Bounded n) = omega arith
-nothing_within Unbounded = tt
-
-pub behind_within : (a b : Span) (k l : ℕ) → HasLength a k → HasLength b l → HasLength (behind a b) (k + l)
-behind_within (Fixed m) (Fixed n) k l h j = exactly_within (m + n) (k + l) (omega arith)
-behind_within (Fixed m) (Bounded n) k l h j = at_most_within (m + n) (k + l) (omega arith)
-behind_within (Fixed m) Unbounded k l h j = tt
-behind_within (Bounded m) (Fixed n) k l h j = at_most_within (m + n) (k + l) (omega arith)
-behind_within (Bounded m) (Bounded n) k l h j = at_most_within (m + n) (k + l) (omega arith)
-behind_within (Bounded m) Unbounded k l h j = tt
-behind_within Unbounded (Fixed n) k l h j = tt
-behind_within Unbounded (Bounded n) k l h j = tt
-behind_within Unbounded Unbounded k l h j = tt
-
-pub first_within : (a b : Span) (l : ℕ) → HasLength a l → HasLength (either a b) l
-first_within (Fixed m) (Fixed n) l h = omega arith
-first_within (Fixed m) (Bounded n) l h = omega arith
-first_within (Fixed m) Unbounded l h = tt
-first_within (Bounded m) (Fixed n) l h = omega arith
-first_within (Bounded m) (Bounded n) l h = omega arith
-first_within (Bounded m) Unbounded l h = tt
-first_within Unbounded (Fixed n) l h = tt
-first_within Unbounded (Bounded n) l h = tt
-first_within Unbounded Unbounded l h = tt
-
-pub second_within : (a b : Span) (l : ℕ) → HasLength b l → HasLength (either a b) l
-second_within (Fixed m) (Fixed n) l h = omega arith
-second_within (Fixed m) (Bounded n) l h = omega arith
-second_within (Fixed m) Unbounded l h = tt
-second_within (Bounded m) (Fixed n) l h = omega arith
-second_within (Bounded m) (Bounded n) l h = omega arith
-second_within (Bounded m) Unbounded l h = tt
-second_within Unbounded (Fixed n) l h = tt
-second_within Unbounded (Bounded n) l h = tt
-second_within Unbounded Unbounded l h = tt
+pub second_within : (a b : Span) (p l : ℕ) → HasLength b p l → HasLength (either a b) p l
+second_within (Fixed f) (Fixed g) p l h = let most = length_most g p in omega (arith, h, most)
+second_within (Fixed f) (Bounded n) p l h = omega arith
+second_within (Fixed f) Unbounded p l h = tt
+second_within (Bounded m) (Fixed g) p l h = let most = length_most g p in omega (arith, h, most)
+second_within (Bounded m) (Bounded n) p l h = omega arith
+second_within (Bounded m) Unbounded p l h = tt
+second_within Unbounded (Fixed n) p l h = tt
+second_within Unbounded (Bounded n) p l h = tt
+second_within Unbounded Unbounded p l h = tt

@@ -1,13 +1,40 @@
 -- Classes of storage, and how that of a whole follows from those of its parts.
-use Rattle.std.specs.Prelude.{ℕ, ◌+◌, ◌*◌, ◌≡◌, ◌≤◌, max, nat_le, if◌then◌else◌, Option, None, Some, replicate}
+use Rattle.std.specs.Prelude.{ℕ, zero, suc, ◌+◌, ◌*◌, ◌%◌, ◌≡◌, ◌≤◌, max, nat_le, if◌then◌else◌, List, [], ◌∷◌, slice_index_or, Option, None, Some}
+use Rattle.std.specs.List.{list_all}
 use Rattle.storage_class.specs.declared.span.Span.{Span}
 use Rattle.storage_class.specs.declared.span.Span.TheVariants.{Fixed, Bounded, Unbounded}
 use Rattle.storage_class.specs.declared.classes.Class.{Class}
 use Rattle.storage_class.specs.declared.classes.Class.TheVariants as class
 
--- a length, which is told up to 4,294,967,295
-abbrev pub exactly : ℕ → Span
-exactly n = if nat_le n 4294967295 then Fixed n else Unbounded
+-- ---- lengths by the remainder of the position modulo 8
+
+-- one for each remainder
+abbrev pub from_each : (ℕ → ℕ) → List ℕ
+from_each f = f 0 ∷ f 1 ∷ f 2 ∷ f 3 ∷ f 4 ∷ f 5 ∷ f 6 ∷ f 7 ∷ []
+
+-- that from a position
+unfoldable pub length_at : List ℕ → ℕ → ℕ
+length_at f p = slice_index_or f (p % 8) 0
+
+-- that of one part and another behind it
+abbrev pub length_behind : List ℕ → List ℕ → ℕ → ℕ
+length_behind f g p = length_at f p + length_at g (p + length_at f p)
+
+-- that of so many parts one behind the other
+unfoldable pub run : ℕ → List ℕ → ℕ → ℕ
+run zero f p = 0
+run (suc n) f p = length_at f p + run n f (p + length_at f p)
+
+-- the greatest
+abbrev pub greatest : List ℕ → ℕ
+greatest [] = 0
+greatest (n ∷ ns) = max n (greatest ns)
+
+-- ---- spans
+
+-- lengths, which are told where none is above 4,294,967,295
+abbrev pub exactly : List ℕ → Span
+exactly f = if list_all (λ n. nat_le n 4294967295) f then Fixed f else Unbounded
 
 -- a greatest length, which is told up to the same number
 abbrev pub at_most : ℕ → Span
@@ -15,13 +42,13 @@ at_most n = if nat_le n 4294967295 then Bounded n else Unbounded
 
 -- the greatest length, if there is one
 abbrev pub top : Span → Option ℕ
-top (Fixed n) = Some n
+top (Fixed f) = Some (greatest f)
 top (Bounded n) = Some n
 top Unbounded = None
 
 -- the same bound, where the length may be less
 abbrev pub loose : Span → Span
-loose (Fixed n) = Bounded n
+loose (Fixed f) = Bounded (greatest f)
 loose s = s
 
 -- the greatest length of two parts together
@@ -34,9 +61,14 @@ abbrev pub greater_top : Option ℕ → Option ℕ → Span
 greater_top (Some m) (Some n) = Bounded (max m n)
 greater_top _ _ = Unbounded
 
+-- the greatest length of so many parts
+abbrev pub times_top : ℕ → Option ℕ → Span
+times_top n (Some m) = at_most (n * m)
+times_top n None = Unbounded
+
 -- one part behind another
 abbrev pub behind : Span → Span → Span
-behind (Fixed m) (Fixed n) = exactly (m + n)
+behind (Fixed f) (Fixed g) = exactly (from_each (length_behind f g))
 behind a b = sum_of_tops (top a) (top b)
 
 -- one of two parts
@@ -45,18 +77,17 @@ either a b = greater_top (top a) (top b)
 
 -- so many parts one behind the other
 abbrev pub times : ℕ → Span → Span
-times n (Fixed m) = exactly (n * m)
-times n (Bounded m) = at_most (n * m)
-times n Unbounded = Unbounded
+times n (Fixed f) = exactly (from_each (run n f))
+times n s = times_top n (top s)
 
--- lengths of the class; over XDR a fixed one is the same from every position
+-- lengths of the class
 abbrev pub class_of : Span → Class
-class_of (Fixed n) = class.Fixed (replicate 8 n)
+class_of (Fixed f) = class.Fixed f
 class_of (Bounded n) = class.Bounded n
 class_of Unbounded = class.Unbounded
 
--- a length that a span allows
-abbrev pub HasLength : Span → ℕ → Type 0
-HasLength (Fixed n) l = l ≡ n
-HasLength (Bounded n) l = l ≤ n
-HasLength Unbounded l = Unit {0}
+-- a length that a span allows from a position
+abbrev pub HasLength : Span → ℕ → ℕ → Type 0
+HasLength (Fixed f) p l = l ≡ length_at f p
+HasLength (Bounded n) p l = l ≤ n
+HasLength Unbounded p l = Unit {0}

@@ -10,4 +10,4 @@ use Rattle.storage_class.specs.Spans.{span}
 
 -- what is sent of a value of the type, from any position, has a length that the span allows
 abbrev pub SentWithinSpan : Encoding → Type 0
-SentWithinSpan e = (t : Ty) (p : ℕ) (v : Val) → IsOf t v → HasLength (span e t) (length (send e t p v))
+SentWithinSpan e = (t : Ty) (p : ℕ) (v : Val) → IsOf t v → HasLength (span e t) p (length (send e t p v))

@@ -1,27 +1,31 @@
 -- The span of a type: how long what is sent of its values is, by cases on the type.
-use Rattle.std.specs.Prelude.{◌≡◌, ℕ, ◌+◌, ◌*◌, ◌<◌, List, length, Some, slice_get, if◌then◌else◌}
+use Rattle.std.specs.Prelude.{◌≡◌, ℕ, zero, suc, ◌+◌, ◌*◌, ◌<◌, List, length, Some, slice_get, if◌then◌else◌}
 use Rattle.std.specs.Int.{byte_len}
 use Rattle.mint.specs.declared.kind.Count.{Count}
 use Rattle.mint.specs.declared.kind.Count.TheVariants.{Exactly, AtMost, Any}
 use Rattle.mint.specs.declared.node.Node.{Node}
-use Rattle.mint.specs.Types.{Scalar, number, Array, Ty, void_type, scalar_type, array_type, group_type, items_type, choice_type, maybe_type, Tys, no_fields, field, Arms, no_other, others, arm_type, type_at}
+use Rattle.mint.specs.declared.kind.Kind.TheVariants as kind
+use Rattle.mint.specs.Types.{Scalar, number, Array, text, row_of, Ty, void_type, scalar_type, array_type, group_type, items_type, choice_type, maybe_type, Tys, no_fields, field, Arms, no_other, others, arm_type, type_at}
 use Rattle.wire_def.specs.declared.encoding.Encoding.{Encoding}
-use Rattle.wire_def.specs.Scalars.{width_of}
+use Rattle.wire_def.specs.declared.encoding.Encoding.TheVariants.{Xdr, CdrBig, CdrLittle, Mach}
+use Rattle.wire_def.specs.Scalars.{gap, alignment_of, width_of}
+use Rattle.wire_def.specs.Lone.{filling}
+use Rattle.wire_def.specs.Described.{is_long}
 use Rattle.wire_def.specs.Arrays.{counted, count_of, kind_of, is_octets, trailing}
 use Rattle.wire_def.specs.Send.{flag}
 use Rattle.storage_class.specs.declared.span.Span.{Span}
 use Rattle.storage_class.specs.declared.span.Span.TheVariants.{Fixed, Bounded, Unbounded}
-use Rattle.storage_class.specs.Classing.{exactly, loose, behind, either, times}
+use Rattle.storage_class.specs.Classing.{from_each, exactly, at_most, top, loose, behind, either, times, times_top}
 
--- the octets of a scalar's width
+-- the octets of a scalar by itself from a position
+abbrev pub lone_length : Encoding → Scalar → ℕ → ℕ
+lone_length Mach s p = 4 + (byte_len (width_of Mach s) + filling s)
+lone_length e s p = gap p (alignment_of e s) + byte_len (width_of e s)
+
 abbrev pub scalar_span : Encoding → Scalar → Span
-scalar_span e s = Fixed (byte_len (width_of e s))
+scalar_span e s = Fixed (from_each (lone_length e s))
 
--- elements, of the span for their number, behind the count if it is sent
-abbrev pub counted_span : Encoding → Count → (ℕ → Span) → Span
-counted_span e (Exactly n) elements = elements n
-counted_span e (AtMost n) elements = behind (scalar_span e counted) (loose (elements n))
-counted_span e Any elements = Unbounded
+-- ---- rows and texts
 
 -- the octets of an array's element
 abbrev pub element_length : Encoding → Array → ℕ
@@ -31,24 +35,72 @@ element_length e a = if is_octets a then 1 else byte_len (width_of e (number (ki
 abbrev pub elements_length : Encoding → Array → ℕ → ℕ
 elements_length e a n = n * element_length e a + trailing e a n
 
--- a row or a text
+-- the octets in front of aligned elements, of which there may be none
+abbrev pub first_gap : Array → ℕ → ℕ → ℕ
+first_gap a p zero = 0
+first_gap a p (suc n) = gap p (element_length CdrBig a)
+
+-- the octets in front of the elements of a row of 64 bits behind its count
+abbrev pub wide_gap : Array → ℕ
+wide_gap (row_of kind.I64 c) = 4
+wide_gap (row_of kind.U64 c) = 4
+wide_gap _ = 0
+
+-- the octets of a descriptor
+abbrev pub described_length : Array → ℕ
+described_length a = if is_long (count_of a) (number (kind_of a)) then 12 else 4
+
+-- an array of a fixed length from a position
+abbrev pub array_length : Encoding → Array → ℕ → ℕ → ℕ
+array_length Xdr a n p = elements_length Xdr a n
+array_length Mach a n p = described_length a + elements_length Mach a n
+array_length e a n p = first_gap a p n + elements_length e a n
+
+-- an array of at most so many elements
+abbrev pub array_most : Encoding → Array → ℕ → ℕ
+array_most Xdr a n = 4 + elements_length Xdr a n
+array_most Mach a n = described_length a + elements_length Mach a n
+array_most e a n = 7 + (wide_gap a + elements_length e a n)
+
+-- by the count
+abbrev pub array_counted : Encoding → Array → Count → Span
+array_counted e a (Exactly n) = exactly (from_each (array_length e a n))
+array_counted e a (AtMost n) = at_most (array_most e a n)
+array_counted e a Any = Unbounded
+
+-- a text over CDR, which has a length in front and an octet behind also where its count is fixed
+abbrev pub text_counted : Encoding → Count → Span
+text_counted e (Exactly n) = at_most (array_most e (text (Exactly n)) n)
+text_counted e (AtMost n) = at_most (array_most e (text (AtMost n)) n)
+text_counted e Any = Unbounded
+
 abbrev pub array_span : Encoding → Array → Span
-array_span e a = counted_span e (count_of a) (λ n. exactly (elements_length e a n))
+array_span CdrBig (text c) = text_counted CdrBig c
+array_span CdrLittle (text c) = text_counted CdrLittle c
+array_span e a = array_counted e a (count_of a)
+
+-- ---- types
+
+-- a list of so many elements
+abbrev pub items_span : Encoding → Count → Span → Span
+items_span e (Exactly n) s = times n s
+items_span e (AtMost n) s = behind (scalar_span e counted) (times_top n (top s))
+items_span e Any s = Unbounded
 
 abbrev mutual
   -- what is sent of a value of the type
   pub span : Encoding → Ty → Span
-  span e void_type = Fixed 0
+  span e void_type = Fixed (from_each (λ p. 0))
   span e (scalar_type s) = scalar_span e s
   span e (array_type a) = array_span e a
   span e (group_type ts) = fields_span e ts
-  span e (items_type c t) = counted_span e c (λ n. times n (span e t))
+  span e (items_type c t) = items_span e c (span e t)
   span e (choice_type s arms) = behind (scalar_span e s) (arms_span e arms)
   span e (maybe_type t) = behind (scalar_span e flag) (loose (span e t))
 
   -- fields, one behind the other
   pub fields_span : Encoding → Tys → Span
-  fields_span e no_fields = Fixed 0
+  fields_span e no_fields = Fixed (from_each (λ p. 0))
   fields_span e (field t ts) = behind (span e t) (fields_span e ts)
 
   -- whichever arm there is

@@ -1,53 +1,178 @@
-// Spans of texts, rows and lists over XDR.
-ghost use Rattle.std.specs.Prelude.{◌≡◌, ◌+◌};
+// Spans of texts, rows and lists.
+ghost use Rattle.std.specs.Prelude.{◌≡◌, ◌+◌, ◌<◌};
 ghost use Rattle.mint.specs.Types.{text, row_of};
+ghost use Rattle.wire_def.specs.declared.encoding.Encoding.TheVariants.{CdrBig};
 ghost use Rattle.wire_def.specs.Scalars.{gap};
-ghost use Rattle.wire_def.specs.declared.encoding.Encoding.TheVariants.{Xdr};
-ghost use Rattle.storage_class.specs.Spans.{array_span, counted_span};
-ghost use Rattle.storage_class.specs.Classing.{times};
+ghost use Rattle.wire_def.specs.Lone.{IsPlain};
+ghost use Rattle.storage_class.specs.Classing.{exactly, from_each};
+ghost use Rattle.storage_class.specs.Spans.{array_span, array_length, array_most, element_length, elements_length, items_span};
 
-use crate::scalars::width;
-use crate::span::Span;
+use crate::scalars::number_span;
+use crate::span::{Span, at_most, exactly};
 use mint::kind::{Count, Kind};
+use wire_def::Encoding;
 
-/// The span of a count that is sent.
-pub(crate) const WORD: Span = Span::Fixed(4);
-
-/// Octets up to a multiple of 4.
-fn padded(n: u32) -> u64
-    ensures { result ≡ n + gap n 4 }
+/// The octets of a row's element.
+#[tactic(auto, using(crate::proofs::Eights::arrays))]
+fn element(enc: Encoding, kind: Kind, _count: Count) -> u64
+    requires { IsPlain enc }
+    ensures is { result ≡ element_length enc (row_of kind _count) }
+    ensures few { result < 9 }
 {
-    (u64::from(n) + 3) / 4 * 4
+    match enc {
+        Encoding::Xdr => match kind {
+            Kind::I64 | Kind::U64 => 8,
+            Kind::Octet => 1,
+            _ => 4,
+        },
+        _ => match kind {
+            Kind::I64 | Kind::U64 => 8,
+            Kind::I32 | Kind::U32 => 4,
+            Kind::I16 | Kind::U16 => 2,
+            _ => 1,
+        },
+    }
 }
 
-/// The span of octets that stand together.
-pub(crate) fn octets(count: Count) -> Span
-    ensures { result ≡ array_span Xdr (text count) }
+/// The octets of a row's elements, and of those behind them.
+#[tactic(auto, using(crate::proofs::Eights::arrays))]
+fn elements(enc: Encoding, kind: Kind, count: Count, n: u32) -> u64
+    requires { IsPlain enc }
+    ensures is { result ≡ elements_length enc (row_of kind count) n }
+    ensures few { result < 34359738376 }
 {
-    match count {
-        Count::Exactly(n) => Span::exactly(padded(n)),
-        Count::AtMost(n) => WORD.behind(Span::exactly(padded(n)).loose()),
-        Count::Any => Span::Unbounded,
+    let n = u64::from(n);
+    match enc {
+        Encoding::Xdr => match kind {
+            Kind::Octet => (n + 3) / 4 * 4,
+            _ => n * element(enc, kind, count),
+        },
+        _ => n * element(enc, kind, count),
+    }
+}
+
+/// The octets from a place to where a row's first element begins over CDR.
+#[tactic(auto, using(crate::proofs::Eights::arrays))]
+fn gap_before(kind: Kind, _count: Count, place: u64) -> u64
+    requires { place < 8 }
+    ensures is { result ≡ gap place (element_length CdrBig (row_of kind _count)) }
+    ensures few { result < 8 }
+{
+    match kind {
+        Kind::I64 | Kind::U64 => (8 - place % 8) % 8,
+        Kind::I32 | Kind::U32 => (4 - place % 4) % 4,
+        Kind::I16 | Kind::U16 => (2 - place % 2) % 2,
+        _ => 0,
+    }
+}
+
+/// The octets of a row of a fixed length from a position.
+#[tactic(auto, using(crate::proofs::Eights::arrays))]
+fn row_at(enc: Encoding, kind: Kind, count: Count, n: u32, place: u64) -> u64
+    requires plain { IsPlain enc }
+    requires eighth { place < 8 }
+    ensures { result ≡ array_length enc (row_of kind count) n place }
+{
+    let all = elements(enc, kind, count, n);
+    match enc {
+        Encoding::Xdr => all,
+        _ => {
+            if n == 0 {
+                all
+            } else {
+                gap_before(kind, count, place) + all
+            }
+        }
+    }
+}
+
+/// The span of a row of a fixed length.
+fn row_exactly(enc: Encoding, kind: Kind, count: Count, n: u32) -> Span
+    requires plain { IsPlain enc }
+    ensures { result ≡ exactly (from_each (array_length enc (row_of kind count) n)) }
+{
+    exactly(&[
+        row_at(enc, kind, count, n, 0),
+        row_at(enc, kind, count, n, 1),
+        row_at(enc, kind, count, n, 2),
+        row_at(enc, kind, count, n, 3),
+        row_at(enc, kind, count, n, 4),
+        row_at(enc, kind, count, n, 5),
+        row_at(enc, kind, count, n, 6),
+        row_at(enc, kind, count, n, 7),
+    ])
+}
+
+/// The most octets of a row of at most so many elements.
+#[tactic(auto, using(crate::proofs::Eights::arrays))]
+fn row_most(enc: Encoding, kind: Kind, count: Count, n: u32) -> u64
+    requires plain { IsPlain enc }
+    ensures { result ≡ array_most enc (row_of kind count) n }
+{
+    let all = elements(enc, kind, count, n);
+    match enc {
+        Encoding::Xdr => 4 + all,
+        _ => match kind {
+            Kind::I64 | Kind::U64 => 7 + (4 + all),
+            _ => 7 + (0 + all),
+        },
     }
 }
 
 /// The span of a row.
-pub(crate) fn row(kind: Kind, count: Count) -> Span
-    ensures { result ≡ array_span Xdr (row_of kind count) }
+#[tactic(auto, using(crate::proofs::Eights::arrays))]
+pub(crate) fn row(enc: Encoding, kind: Kind, count: Count) -> Span
+    requires { IsPlain enc }
+    ensures { result ≡ array_span enc (row_of kind count) }
 {
-    match kind {
-        Kind::Octet => octets(count),
-        _ => items(count, Span::Fixed(width(kind))),
+    match count {
+        Count::Exactly(n) => row_exactly(enc, kind, count, n),
+        Count::AtMost(n) => at_most(row_most(enc, kind, count, n)),
+        Count::Any => Span::Unbounded,
+    }
+}
+
+/// The octets of a text of a fixed length from a position, and of what stands behind them.
+#[tactic(auto, using(crate::proofs::Eights::arrays))]
+fn letters(enc: Encoding, _count: Count, n: u32) -> u64
+    requires { IsPlain enc }
+    ensures is { result ≡ elements_length enc (text _count) n }
+    ensures few { result < 4294967304 }
+{
+    let n = u64::from(n);
+    match enc {
+        Encoding::Xdr => (n + 3) / 4 * 4,
+        _ => n + 1,
+    }
+}
+
+/// The span of a text.
+#[tactic(auto, using(crate::proofs::Eights::arrays))]
+pub(crate) fn octets(enc: Encoding, count: Count) -> Span
+    requires { IsPlain enc }
+    ensures { result ≡ array_span enc (text count) }
+{
+    match enc {
+        Encoding::Xdr => match count {
+            Count::Exactly(n) => exactly(&[letters(enc, count, n); 8]),
+            Count::AtMost(n) => at_most(4 + letters(enc, count, n)),
+            Count::Any => Span::Unbounded,
+        },
+        _ => match count {
+            Count::Exactly(n) | Count::AtMost(n) => at_most(7 + (0 + letters(enc, count, n))),
+            Count::Any => Span::Unbounded,
+        },
     }
 }
 
 /// The span of a list.
-pub(crate) fn items(count: Count, item: Span) -> Span
-    ensures { result ≡ counted_span Xdr count (λ n. times n item) }
+pub(crate) fn items(enc: Encoding, count: Count, item: Span) -> Span
+    requires { IsPlain enc }
+    ensures { result ≡ items_span enc count item }
 {
     match count {
         Count::Exactly(n) => item.times(n),
-        Count::AtMost(n) => WORD.behind(item.times(n).loose()),
+        Count::AtMost(n) => number_span(enc, Kind::U32).behind(item.times_top(n)),
         Count::Any => Span::Unbounded,
     }
 }

@@ -66,7 +66,7 @@ impl Classes {
         ensures { result ≡ class_of (slice_index_or self.now id Span.Unbounded) }
     {
         match self.span(id) {
-            Span::Fixed(n) => Class::Fixed([n; 8]),
+            Span::Fixed(f) => Class::Fixed(f),
             Span::Bounded(n) => Class::Bounded(u64::from(n)),
             Span::Unbounded => Class::Unbounded,
         }

@@ -1,44 +1,134 @@
 // Spans, and those of wholes from those of their parts.
-ghost use Rattle.std.specs.Prelude.{◌≡◌, ◌+◌, ◌*◌};
-ghost use Rattle.storage_class.specs.Classing.{at_most, behind, either, exactly, loose, sum_of_tops, times, top};
+ghost use Rattle.std.specs.Prelude.{◌≡◌, ◌<◌, ◌≤◌, ◌+◌, ◌*◌, Some, option_map, IsTrue, nat_le};
+ghost use Rattle.std.specs.List.{list_all};
+ghost use Rattle.storage_class.specs.Classing.{at_most, behind, either, exactly, from_each, greatest, length_at, length_behind, loose, run, sum_of_tops, times, times_top, top};
 
 /// What is known of a length: the length, its bound, or nothing.
 #[derive(Clone, Copy, Debug, PartialEq, Eq)]
 pub enum Span {
-    /// Each length is this.
-    Fixed(u32),
+    /// The length from a position, by its remainder modulo 8.
+    Fixed([u32; 8]),
     /// No length is above this.
     Bounded(u32),
     /// No bound is known, or it is above 4,294,967,295.
     Unbounded,
 }
 
+/// The length from a position.
+#[tactic(auto, unfolding(crate::specs::Classing::length_at))]
+fn at(f: &[u32; 8], place: u64) -> u64
+    ensures is { result ≡ length_at f.now place }
+    ensures few { result ≤ 4294967295 }
+{
+    u64::from(f[(place % 8) as usize])
+}
+
+/// The length from a position of one part and another behind it.
+fn behind_at(f: &[u32; 8], g: &[u32; 8], place: u64) -> u64
+    requires { place < 8 }
+    ensures { result ≡ length_behind f.now g.now place }
+{
+    let m = at(f, place);
+    m + at(g, place + m)
+}
+
+/// The greatest length.
+#[tactic(auto, using(crate::proofs::Eights::eights))]
+fn greatest(f: &[u32; 8]) -> u32
+    ensures { result ≡ greatest f.now }
+{
+    let low = f[0].max(f[1].max(f[2].max(f[3])));
+    let high = f[4].max(f[5].max(f[6].max(f[7])));
+    low.max(high)
+}
+
+/// Whether each length can be told.
+fn are_told(f: &[u64; 8]) -> bool
+    ensures { result ≡ list_all (λ n. nat_le n 4294967295) f.now }
+{
+    f.iter().all(|n| *n <= 4294967295)
+}
+
+/// Lengths that can be told.
+#[tactic(auto, using(crate::proofs::Eights::eights))]
+fn told(f: &[u64; 8]) -> [u32; 8]
+    requires { IsTrue (list_all (λ n. nat_le n 4294967295) f.now) }
+    ensures { result ≡ f.now }
+{
+    [
+        f[0] as u32,
+        f[1] as u32,
+        f[2] as u32,
+        f[3] as u32,
+        f[4] as u32,
+        f[5] as u32,
+        f[6] as u32,
+        f[7] as u32,
+    ]
+}
+
+/// Lengths, unless one is too great.
+pub(crate) fn exactly(f: &[u64; 8]) -> Span
+    ensures { result ≡ exactly f.now }
+{
+    if are_told(f) {
+        Span::Fixed(told(f))
+    } else {
+        Span::Unbounded
+    }
+}
+
+/// One part and another behind it.
+fn one_behind(f: &[u32; 8], g: &[u32; 8]) -> Span
+    ensures { result ≡ exactly (from_each (length_behind f.now g.now)) }
+{
+    exactly(&[
+        behind_at(f, g, 0),
+        behind_at(f, g, 1),
+        behind_at(f, g, 2),
+        behind_at(f, g, 3),
+        behind_at(f, g, 4),
+        behind_at(f, g, 5),
+        behind_at(f, g, 6),
+        behind_at(f, g, 7),
+    ])
+}
+
+/// So many parts, by halves.
+#[tactic(auto, using(crate::proofs::Powers::powers))]
+fn power(f: &[u32; 8], n: u32) -> Span
+    ensures { result ≡ exactly (from_each (run n f.now)) }
+{
+    if n == 0 {
+        return Span::Fixed([0; 8]);
+    }
+    let half = power(f, n / 2);
+    let even = half.behind(half);
+    if n % 2 == 0 {
+        even
+    } else {
+        Span::Fixed(*f).behind(even)
+    }
+}
+
+/// A greatest length, unless it is too great.
+pub(crate) fn at_most(n: u64) -> Span
+    ensures { result ≡ at_most n }
+{
+    match u32::try_from(n) {
+        Ok(n) => Span::Bounded(n),
+        Err(_) => Span::Unbounded,
+    }
+}
+
 impl Span {
-    /// A length, unless it is too great.
-    pub(crate) fn exactly(n: u64) -> Span
-        ensures { result ≡ exactly n }
-    {
-        match u32::try_from(n) {
-            Ok(n) => Span::Fixed(n),
-            Err(_) => Span::Unbounded,
-        }
-    }
-
-    fn at_most(n: u64) -> Span
-        ensures { result ≡ at_most n }
-    {
-        match u32::try_from(n) {
-            Ok(n) => Span::Bounded(n),
-            Err(_) => Span::Unbounded,
-        }
-    }
-
     /// The greatest length, if there is one.
     pub fn top(self) -> Option<u32>
         ensures { result ≡ top self }
     {
         match self {
-            Span::Fixed(n) | Span::Bounded(n) => Some(n),
+            Span::Fixed(f) => Some(greatest(&f)),
+            Span::Bounded(n) => Some(n),
             Span::Unbounded => None,
         }
     }
@@ -48,7 +138,7 @@ impl Span {
         ensures { result ≡ loose self }
     {
         match self {
-            Span::Fixed(n) => Span::Bounded(n),
+            Span::Fixed(f) => Span::Bounded(greatest(&f)),
             other => other,
         }
     }
@@ -58,7 +148,7 @@ impl Span {
         ensures { result ≡ behind self next }
     {
         match (self, next) {
-            (Span::Fixed(m), Span::Fixed(n)) => Span::exactly(u64::from(m) + u64::from(n)),
+            (Span::Fixed(f), Span::Fixed(g)) => one_behind(&f, &g),
             _ => sum_of_tops(self.top(), next.top()),
         }
     }
@@ -78,9 +168,18 @@ impl Span {
         ensures { result ≡ times n self }
     {
         match self {
-            Span::Fixed(m) => Span::exactly(u64::from(n) * u64::from(m)),
-            Span::Bounded(m) => Span::at_most(u64::from(n) * u64::from(m)),
-            Span::Unbounded => Span::Unbounded,
+            Span::Fixed(f) => power(&f, n),
+            _ => self.times_top(n),
+        }
+    }
+
+    /// The greatest length of so many parts.
+    pub(crate) fn times_top(self, n: u32) -> Span
+        ensures { result ≡ times_top n (top self) }
+    {
+        match self.top() {
+            Some(m) => at_most(u64::from(n) * u64::from(m)),
+            None => Span::Unbounded,
         }
     }
 }
@@ -89,7 +188,7 @@ fn sum_of_tops(m: Option<u32>, n: Option<u32>) -> Span
     ensures { result ≡ sum_of_tops m n }
 {
     match (m, n) {
-        (Some(m), Some(n)) => Span::at_most(u64::from(m) + u64::from(n)),
+        (Some(m), Some(n)) => at_most(u64::from(m) + u64::from(n)),
         _ => Span::Unbounded,
     }
 }

@@ -83,7 +83,7 @@ fn run(alloc: Global, last: Pass, shape: Shape, size: u32) -> Result<Operations>
         return Ok(operations);
     }
     table.types_are_sound();
-    match hoist(alloc, &code, &table, id, &classes) {
+    match hoist(alloc, Encoding::Xdr, &code, &table, id, &classes) {
         Ok(code) => {
             operations.hoisted = count(&code.ops);
             Ok(operations)

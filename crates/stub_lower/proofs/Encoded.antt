@@ -16,8 +16,9 @@ use Rattle.wire_def.specs.declared.encoding.Encoding.{Encoding}
 use Rattle.wire_def.specs.declared.encoding.Encoding.TheVariants.{Xdr}
 use Rattle.wire_def.specs.declared.head.Head.{Head}
 use Rattle.wire_def.specs.declared.head.Order.TheVariants.{Big}
-use Rattle.wire_def.specs.Scalars.{gap, scalar_octets, number_octets, residue, width_of}
-use Rattle.wire_def.specs.Arrays.{natural, counted, count_octets, element_octets, elements_octets, array_octets}
+use Rattle.wire_def.specs.Scalars.{gap, scalar_octets, number_octets, residue, own_width, width_of, alignment_of}
+use Rattle.wire_def.specs.Lone.{lone_octets}
+use Rattle.wire_def.specs.Arrays.{natural, counted, count_octets, head_octets, trailing, is_octets, element_octets, elements_octets, array_octets}
 use Rattle.cast_stub.specs.declared.put.Put.{Put}
 use Rattle.cast_stub.specs.declared.put.Put.TheVariants as put
 use Rattle.cast_stub.specs.Parts.{on_some, at, length_in}
@@ -29,30 +30,34 @@ use Rattle.cast_stub.proofs.Appending.{steps-append}
 use Rattle.stub_lower.specs.Lowered.{IsPlace}
 use Rattle.stub_lower.specs.Codes.{order_of, scalar_width, scalar_code, count_code, array_code}
 use Rattle.stub_lower.proofs.Writing.{place_sum, Writes, both-writes, none-writes, writes_same, writes_stop, Sends, both-sends, none-sends, sends_stop, put-writes}
-use Rattle.stub_lower.proofs.Words.{word-number, word-octet, xdr_octets}
+use Rattle.wire_def.proofs.Words.{IsOwn, is8, is16, is32, is64, own_of, wide}
+use Rattle.stub_lower.proofs.Words.{order_octets, width_same, scalar_word, word-octet}
 
 -- what has to be known of an encoding, so that lowered code sends what it says: that a scalar whose put gives its number
 abbrev pub ScalarsSend : Encoding → Type 0
 ScalarsSend e = (c : Calls) (h : Head) (s : Scalar) (n : ℤ) (x : Put) (v : Val) (p : ℕ) → IsScalar s n → offset x ≡ 0 → put_octets h x v ≡ word (scalar_width e s) (order_of e) n
-    → Sends e (steps c h (scalar_code e (scalar_width e s) x) v) p (scalar_octets e s p n)
+    → Sends e (steps c h (scalar_code e (scalar_width e s) x) v) p (lone_octets e s p n)
 
 -- and an array are sent
 abbrev pub ArraysSend : Encoding → Type 0
-ArraysSend e = (c : Calls) (h : Head) (a : Array) (k : Kind) (ns : List ℤ) (p : ℕ) → IsArray a k ns → Sends e (steps c h (array_code e a) (row k ns)) p (array_octets e a p ns)
+ArraysSend e = (c : Calls) (h : Head) (a : Array) (k : Kind) (ns : List ℤ) (p : ℕ) → IsArray a k ns → length ns < 268435456 → Sends e (steps c h (array_code e a) (row k ns)) p (array_octets e a p ns)
 
 -- ---- a scalar over XDR
 
-first_true : (a b : Bool) → IsTrue (a && b) → IsTrue a
+-- over XDR a scalar has no gap
+xdr_octets : (s : Scalar) (p : ℕ) (n : ℤ) → scalar_octets Xdr s p n ≡ number_octets Xdr (width_of Xdr s) (residue (width_of Xdr s) n)
+unfolding scalar_octets
+xdr_octets s p n =
+    let none : gap p 1 ≡ 0 = omega arith in
+    rw none refl
+
+pub first_true : (a b : Bool) → IsTrue (a && b) → IsTrue a
 first_true true b e = refl
 first_true false b e = e
 
-second_true : (a b : Bool) → IsTrue (a && b) → IsTrue b
+pub second_true : (a b : Bool) → IsTrue (a && b) → IsTrue b
 second_true true b e = e
 second_true false b e = absurd cc
-
-scalar_word : (s : Scalar) (n : ℤ) → IsScalar s n → word (scalar_width Xdr s) Big n ≡ Some (number_octets Xdr (width_of Xdr s) (residue (width_of Xdr s) n))
-scalar_word (number k) n h = word-number k n h
-scalar_word (label ls) n h = word-number kind.I32 n (first_true (in_range kind.I32 n) (list_any (λ l. int_eq l n) ls) h)
 
 scalar_long : (s : Scalar) (m : ℕ) → length (number_octets Xdr (width_of Xdr s) m) ≡ scalar_width Xdr s
 scalar_long (label ls) m = refl
@@ -90,7 +95,7 @@ chunk-sends h s n x v p typed first is ok =
     let long : length os ≡ scalar_width Xdr s = scalar_long s (residue (width_of Xdr s) n) in
     let same : os ≡ scalar_octets Xdr s p n = sym (xdr_octets s p n) in (
       subst (λ (o : List ℕ). IsPlace Xdr (length o)) same (subst (IsPlace Xdr) (sym long) (scalar_placed s)),
-      writes_same (chunk_steps (scalar_width Xdr s) (x ∷ []) h v) p os (scalar_octets Xdr s p n) same (put-writes (scalar_width Xdr s) x h v os p first (is ∙ scalar_word s n typed) long),
+      writes_same (chunk_steps (scalar_width Xdr s) (x ∷ []) h v) p os (scalar_octets Xdr s p n) same (put-writes (scalar_width Xdr s) x h v os p first (is ∙ scalar_word Xdr s n typed) long),
     )
 
 pub xdr_scalar : ScalarsSend Xdr
@@ -98,11 +103,11 @@ xdr_scalar c h s n x v p typed first is = sends_stop Xdr (chunk_steps (scalar_wi
 
 -- ---- a count
 
-below_full : (m : ℕ) → m < 4294967296 → IsScalar counted (pos m)
+pub below_full : (m : ℕ) → m < 4294967296 → IsScalar counted (pos m)
 below_full m lt = lt-ltb m 4294967296 lt
 
-counted-sends : (e : Encoding) → ScalarsSend e → (c : Calls) (h : Head) (v : Val) (n p : ℕ) → length_in v ≡ Some n → n < 4294967296
-    → Sends e (steps c h (scalar_code e (scalar_width e counted) (put.Count 0 [] 1 0 (scalar_width e counted) (order_of e))) v) p (scalar_octets e counted p (pos n))
+pub counted-sends : (e : Encoding) → ScalarsSend e → (c : Calls) (h : Head) (v : Val) (n p : ℕ) → length_in v ≡ Some n → n < 4294967296
+    → Sends e (steps c h (scalar_code e (scalar_width e counted) (put.Count 0 [] 1 0 (scalar_width e counted) (order_of e))) v) p (lone_octets e counted p (pos n))
 counted-sends e scalar c h v n p is lt =
     let one : n * 1 + 0 ≡ n = omega arith in
     scalar c h counted (pos n) (put.Count 0 [] 1 0 (scalar_width e counted) (order_of e)) v p (below_full n lt) refl
@@ -117,7 +122,7 @@ count-sends e scalar c h Any v n p is ok = counted-sends e scalar c h v n p is o
 
 -- ---- the numbers of an array, one after the other
 
-over-writes : (one : ℕ → ℤ → List ℕ) (f : Val → Steps) (test : ℤ → Bool) (ns : List ℤ) (p : ℕ) → IsTrue (list_all test ns) → ((n : ℤ) (q : ℕ) → IsTrue (test n) → Writes (f (num n)) q (one q n))
+pub over-writes : (one : ℕ → ℤ → List ℕ) (f : Val → Steps) (test : ℤ → Bool) (ns : List ℤ) (p : ℕ) → IsTrue (list_all test ns) → ((n : ℤ) (q : ℕ) → IsTrue (test n) → Writes (f (num n)) q (one q n))
     → Writes (over f (vals_of (map num ns))) p (elements_octets one p ns)
 unfolding elements_octets
 over-writes one f test [] p all each_one = none-writes p
@@ -142,12 +147,12 @@ abbrev octet_turn : Block
 octet_turn = chunk 1 (put.Num 0 [] 1 Big ∷ []) stop
 
 octet-writes : (c : Calls) (h : Head) (n : ℤ) (q : ℕ) → IsTrue (in_range kind.Octet n) → Writes (steps c h octet_turn (num n)) q (octet_one q n)
-octet-writes c h (pos n) q typed = writes_stop (chunk_steps 1 (put.Num 0 [] 1 Big ∷ []) h (num (pos n))) q (n ∷ []) (put-writes 1 (put.Num 0 [] 1 Big) h (num (pos n)) (n ∷ []) q refl (word-octet n (ltb-true n 256 typed)) refl)
+octet-writes c h (pos n) q typed = writes_stop (chunk_steps 1 (put.Num 0 [] 1 Big ∷ []) h (num (pos n))) q (n ∷ []) (put-writes 1 (put.Num 0 [] 1 Big) h (num (pos n)) (n ∷ []) q refl (word-octet Big n (ltb-true n 256 typed)) refl)
 octet-writes c h (negsuc n) q typed = absurd (none n typed) where
   none : (m : ℕ) → IsTrue (nat_lt m 0) → ⊥
   none m t = omega (arith, ltb-true m 0 t)
 
-octets_long : (p : ℕ) (ns : List ℤ) → length (elements_octets octet_one p ns) ≡ length ns
+pub octets_long : (p : ℕ) (ns : List ℤ) → length (elements_octets octet_one p ns) ≡ length ns
 unfolding elements_octets
 octets_long p [] = refl
 octets_long p (n ∷ ns) = ap suc (octets_long (p + 1) ns)
@@ -207,7 +212,7 @@ numbers-send c h b k ns p ok all =
     (over-sends Xdr (scalar_octets Xdr (number k)) (steps c h turn) (in_range k) ns (p + length head) all (number-sends c h k)) (none-sends Xdr (p + length head + length els))))
 
 -- the letters of a text are octets
-letters_are_octets : (ns : List ℤ) → IsTrue (list_all is_letter ns) → IsTrue (list_all (in_range kind.Octet) ns)
+pub letters_are_octets : (ns : List ℤ) → IsTrue (list_all is_letter ns) → IsTrue (list_all (in_range kind.Octet) ns)
 letters_are_octets [] h = refl
 letters_are_octets (n ∷ ns) h = both_true (in_range kind.Octet n) (list_all (in_range kind.Octet) ns) (letter n (first_true (is_letter n) (list_all is_letter ns) h)) (letters_are_octets ns (second_true (is_letter n) (list_all is_letter ns) h)) where
   both_true : (a b : Bool) → IsTrue a → IsTrue b → IsTrue (a && b)
@@ -228,16 +233,16 @@ of_kind c h b m k ns p typed =
     (numbers-send c h b m ns p typed.1 typed.2)
 
 pub xdr_array : ArraysSend Xdr
-unfolding array_octets element_octets
-xdr_array c h (text b) k ns p typed = octets-send c h b k ns p typed.1 (letters_are_octets ns typed.2)
-xdr_array c h (row_of kind.Octet b) k ns p typed = octets-send c h b k ns p typed.1 typed.2
-xdr_array c h (row_of kind.I8 b) k ns p typed = of_kind c h b kind.I8 k ns p typed
-xdr_array c h (row_of kind.U8 b) k ns p typed = of_kind c h b kind.U8 k ns p typed
-xdr_array c h (row_of kind.Char b) k ns p typed = of_kind c h b kind.Char k ns p typed
-xdr_array c h (row_of kind.I16 b) k ns p typed = of_kind c h b kind.I16 k ns p typed
-xdr_array c h (row_of kind.U16 b) k ns p typed = of_kind c h b kind.U16 k ns p typed
-xdr_array c h (row_of kind.I32 b) k ns p typed = of_kind c h b kind.I32 k ns p typed
-xdr_array c h (row_of kind.U32 b) k ns p typed = of_kind c h b kind.U32 k ns p typed
-xdr_array c h (row_of kind.I64 b) k ns p typed = of_kind c h b kind.I64 k ns p typed
-xdr_array c h (row_of kind.U64 b) k ns p typed = of_kind c h b kind.U64 k ns p typed
-xdr_array c h (row_of kind.Bool b) k ns p typed = of_kind c h b kind.Bool k ns p typed
+unfolding array_octets element_octets head_octets
+xdr_array c h (text b) k ns p typed few = octets-send c h b k ns p typed.1 (letters_are_octets ns typed.2)
+xdr_array c h (row_of kind.Octet b) k ns p typed few = octets-send c h b k ns p typed.1 typed.2
+xdr_array c h (row_of kind.I8 b) k ns p typed few = of_kind c h b kind.I8 k ns p typed
+xdr_array c h (row_of kind.U8 b) k ns p typed few = of_kind c h b kind.U8 k ns p typed
+xdr_array c h (row_of kind.Char b) k ns p typed few = of_kind c h b kind.Char k ns p typed
+xdr_array c h (row_of kind.I16 b) k ns p typed few = of_kind c h b kind.I16 k ns p typed
+xdr_array c h (row_of kind.U16 b) k ns p typed few = of_kind c h b kind.U16 k ns p typed
+xdr_array c h (row_of kind.I32 b) k ns p typed few = of_kind c h b kind.I32 k ns p typed
+xdr_array c h (row_of kind.U32 b) k ns p typed few = of_kind c h b kind.U32 k ns p typed
+xdr_array c h (row_of kind.I64 b) k ns p typed few = of_kind c h b kind.I64 k ns p typed
+xdr_array c h (row_of kind.U64 b) k ns p typed few = of_kind c h b kind.U64 k ns p typed
+xdr_array c h (row_of kind.Bool b) k ns p typed few = of_kind c h b kind.Bool k ns p typed

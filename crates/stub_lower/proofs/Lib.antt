@@ -6,3 +6,4 @@ pub mod Sending
 pub mod Whole
 pub mod Words
 pub mod Writing
+pub mod Cdr

@@ -12,7 +12,7 @@ use Rattle.mint.specs.Values.{Val}
 use Rattle.mint.proofs.Unfolding.{type_at-level}
 use Rattle.mint.proofs.Measuring.{sound_taken}
 use Rattle.wire_def.specs.declared.encoding.Encoding.{Encoding}
-use Rattle.wire_def.specs.declared.encoding.Encoding.TheVariants.{Xdr}
+use Rattle.wire_def.specs.declared.encoding.Encoding.TheVariants.{Xdr, CdrBig, CdrLittle, Mach}
 use Rattle.wire_def.specs.declared.head.Head.{Head}
 use Rattle.wire_def.specs.Send.{send}
 use Rattle.cast_stub.specs.declared.send.SendOp.{SendOp}
@@ -26,9 +26,11 @@ use Rattle.cast_stub.specs.Turned.{IsTurned, AllTurned}
 use Rattle.stub_lower.specs.Codes.{array_code, node_code}
 use Rattle.stub_lower.specs.Layouts.{layout_of}
 use Rattle.stub_lower.specs.Lowered.{CodesSend}
-use Rattle.stub_lower.proofs.Encoded.{xdr_scalar, xdr_array}
-use Rattle.stub_lower.proofs.Following.{array_turned, array_loops, node-follows}
-use Rattle.stub_lower.proofs.Sending.{node-sends}
+use Rattle.wire_def.specs.Lone.{IsPlain}
+use Rattle.stub_lower.proofs.Encoded.{ScalarsSend, ArraysSend, xdr_scalar, xdr_array}
+use Rattle.stub_lower.proofs.Cdr.{big_scalar, big_array, little_scalar, little_array}
+use Rattle.stub_lower.proofs.Following.{turned, loops, node-follows}
+use Rattle.stub_lower.proofs.Sending.{Is, node-sends}
 use Rattle.stub_lower.proofs.Writing.{Sends}
 
 -- ---- node by node
@@ -130,31 +132,43 @@ module _ (e : Encoding) (nodes : List Node) (subs : List (List SendOp)) (whole :
 
 -- ---- over XDR
 
-module _ (nodes : List Node) (subs : List (List SendOp)) (whole : AreLowered Xdr nodes (length nodes) subs) where
-  module _ (L : Loops) (array : (a : Array) → L a [] (array_code Xdr a)) where
-    follows : (n k : ℕ) (m : Node) → k < n → slice_get nodes k ≡ Some m → FollowsBy L (sub_at subs) (type_at nodes k) k [] (node_code Xdr m)
+scalars : (e : Encoding) → IsPlain e → ScalarsSend e
+scalars Xdr h = xdr_scalar
+scalars CdrBig h = big_scalar
+scalars CdrLittle h = little_scalar
+scalars Mach h = absurd h
+
+arrays : (e : Encoding) → IsPlain e → ArraysSend e
+arrays Xdr h = xdr_array
+arrays CdrBig h = big_array
+arrays CdrLittle h = little_array
+arrays Mach h = absurd h
+
+module _ (e : Encoding) (plain : IsPlain e) (nodes : List Node) (subs : List (List SendOp)) (whole : AreLowered e nodes (length nodes) subs) where
+  module _ (L : Loops) (array : (a : Array) → L a [] (array_code e a)) where
+    follows : (n k : ℕ) (m : Node) → k < n → slice_get nodes k ≡ Some m → FollowsBy L (sub_at subs) (type_at nodes k) k [] (node_code e m)
     follows zero k m lt is = absurd (omega (arith, lt))
     follows (suc n) k m lt is =
-        subst (λ (t : Ty). FollowsBy L (sub_at subs) t k [] (node_code Xdr m)) (sym (type_at-level nodes k m (below Xdr nodes subs whole) is))
-        (node-follows L array (sub_at subs) (unfolded nodes) k
-        (λ (i : ℕ) i_lt. let f = found nodes i (omega (arith, i_lt, in_list nodes k m is)) in (node_code Xdr f.node, sub_is Xdr nodes subs whole i f.node f.is, follows n i f.node (omega (arith, i_lt, lt)) f.is))
-        m (below Xdr nodes subs whole k m is))
+        subst (λ (t : Ty). FollowsBy L (sub_at subs) t k [] (node_code e m)) (sym (type_at-level nodes k m (below e nodes subs whole) is))
+        (node-follows e L array (sub_at subs) (unfolded nodes) k
+        (λ (i : ℕ) i_lt. let f = found nodes i (omega (arith, i_lt, in_list nodes k m is)) in (node_code e f.node, sub_is e nodes subs whole i f.node f.is, follows n i f.node (omega (arith, i_lt, lt)) f.is))
+        m (below e nodes subs whole k m is))
 
     pub codes_follow : (k : ℕ) (b : Block) → sub_at subs k ≡ Some b → FollowsBy L (sub_at subs) (type_at nodes k) k [] b
     codes_follow k b is =
-        let s = code_at Xdr nodes subs whole k b is in
+        let s = code_at e nodes subs whole k b is in
         subst (FollowsBy L (sub_at subs) (type_at nodes k) k []) (sym s.made) (follows (suc k) k s.node (omega arith) s.is)
 
   -- a node's code, where calls may stand so deep within one another
-  node_sent : (h : Head) (n k : ℕ) (m : Node) (p : ℕ) (v : Val) → slice_get nodes k ≡ Some m → depth (type_at nodes k) ≤ suc n → IsOf (type_at nodes k) v
-      → ((i : ℕ) (q : ℕ) (w : Val) → i < length nodes → depth (type_at nodes i) ≤ n → IsOf (type_at nodes i) w → Sends Xdr (called (sub_at subs) h n i w) q (send Xdr (type_at nodes i) q w))
-      → Sends Xdr (steps (called (sub_at subs) h n) h (node_code Xdr m) v) p (send Xdr (type_at nodes k) p v)
+  node_sent : (h : Head) (n k : ℕ) (m : Node) (p : ℕ) (v : Val) → slice_get nodes k ≡ Some m → depth (type_at nodes k) ≤ suc n → Is (type_at nodes k) v
+      → ((i : ℕ) (q : ℕ) (w : Val) → i < length nodes → depth (type_at nodes i) ≤ n → Is (type_at nodes i) w → Sends e (called (sub_at subs) h n i w) q (send e (type_at nodes i) q w))
+      → Sends e (steps (called (sub_at subs) h n) h (node_code e m) v) p (send e (type_at nodes k) p v)
   node_sent h n k m p v is low typed part =
-      let same : type_at nodes k ≡ level (unfolded nodes) m = type_at-level nodes k m (below Xdr nodes subs whole) is in
-      subst (λ (t : Ty). Sends Xdr (steps (called (sub_at subs) h n) h (node_code Xdr m) v) p (send Xdr t p v)) (sym same)
-      (node-sends Xdr xdr_scalar xdr_array (unfolded nodes) h (called (sub_at subs) h n) n k
+      let same : type_at nodes k ≡ level (unfolded nodes) m = type_at-level nodes k m (below e nodes subs whole) is in
+      subst (λ (t : Ty). Sends e (steps (called (sub_at subs) h n) h (node_code e m) v) p (send e t p v)) (sym same)
+      (node-sends e (scalars e plain) (arrays e plain) (unfolded nodes) h (called (sub_at subs) h n) n k
       (λ (i : ℕ) (q : ℕ) (w : Val) lt d ty. part i q w (omega (arith, lt, in_list nodes k m is)) d ty)
-      m p v (below Xdr nodes subs whole k m is) (subst (λ (t : Ty). depth t ≤ suc n) same low) (subst (λ (t : Ty). IsOf t v) same typed))
+      m p v (below e nodes subs whole k m is) (subst (λ (t : Ty). depth t ≤ suc n) same low) (subst (λ (t : Ty). IsOf t v) same typed.0) typed.1)
 
   depth_some : (t : Ty) → 1 ≤ depth t
   depth_some (group_type ts) = omega arith
@@ -163,23 +177,23 @@ module _ (nodes : List Node) (subs : List (List SendOp)) (whole : AreLowered Xdr
   depth_some (maybe_type t) = omega arith
   depth_some _ = omega arith
 
-  call_sent : (h : Head) (n k : ℕ) (p : ℕ) (v : Val) → k < length nodes → depth (type_at nodes k) ≤ n → IsOf (type_at nodes k) v → Sends Xdr (called (sub_at subs) h n k v) p (send Xdr (type_at nodes k) p v)
+  call_sent : (h : Head) (n k : ℕ) (p : ℕ) (v : Val) → k < length nodes → depth (type_at nodes k) ≤ n → Is (type_at nodes k) v → Sends e (called (sub_at subs) h n k v) p (send e (type_at nodes k) p v)
   call_sent h zero k p v lt low typed = absurd (omega (arith, low, depth_some (type_at nodes k)))
   call_sent h (suc n) k p v lt low typed =
       let f = found nodes k lt in
-      subst (λ (o : Option Block). Sends Xdr (on_some o (λ b. steps (called (sub_at subs) h n) h b v)) p (send Xdr (type_at nodes k) p v)) (sym (sub_is Xdr nodes subs whole k f.node f.is))
+      subst (λ (o : Option Block). Sends e (on_some o (λ b. steps (called (sub_at subs) h n) h b v)) p (send e (type_at nodes k) p v)) (sym (sub_is e nodes subs whole k f.node f.is))
       (node_sent h n k f.node p v f.is low typed (λ (i : ℕ) (q : ℕ) (w : Val) l d ty. call_sent h n i q w l d ty))
 
   enough : 32 ≤ suc deepest
   unfolding deepest
   enough = omega arith
 
-  pub codes_send : CodesSend Xdr nodes subs
+  pub codes_send : CodesSend e nodes subs
   codes_send k ops is h v p place typed =
-      let s = code_of Xdr nodes subs whole k ops is in
-      let shallow : depth (type_at nodes k) ≤ suc deepest = omega (arith, enough, (sound_taken (type_at nodes k) (sound Xdr nodes subs whole k s.node s.is)).shallow) in
-      subst (λ (b : Block). on_some (steps (called (sub_at subs) h deepest) h b v) (wrote p []) ≡ Some (send Xdr (type_at nodes k) p v)) (sym s.made)
-      ((node_sent h deepest k s.node p v s.is shallow typed.is_of (λ (i : ℕ) (q : ℕ) (w : Val) l d ty. call_sent h deepest i q w l d ty) place).1 p [] (omega arith))
+      let s = code_of e nodes subs whole k ops is in
+      let shallow : depth (type_at nodes k) ≤ suc deepest = omega (arith, enough, (sound_taken (type_at nodes k) (sound e nodes subs whole k s.node s.is)).shallow) in
+      subst (λ (b : Block). on_some (steps (called (sub_at subs) h deepest) h b v) (wrote p []) ≡ Some (send e (type_at nodes k) p v)) (sym s.made)
+      ((node_sent h deepest k s.node p v s.is shallow (typed.is_of, typed.light) (λ (i : ℕ) (q : ℕ) (w : Val) l d ty. call_sent h deepest i q w l d ty) place).1 p [] (omega arith))
 
 -- ---- at the end of the table
 
@@ -188,13 +202,11 @@ ended e nodes id count subs all past within whole =
     let same : id ≡ length nodes = omega (arith, all, past, within) in
     subst (λ (n : ℕ). AreLowered e nodes n subs) same whole
 
-pub all_send : (e : Encoding) (nodes : List Node) (subs : List (List SendOp)) → e ≡ Xdr → AreLowered e nodes (length nodes) subs → CodesSend e nodes subs
-all_send e nodes subs xdr whole = subst (λ (f : Encoding). CodesSend f nodes subs) (sym xdr) (codes_send nodes subs (subst (λ (f : Encoding). AreLowered f nodes (length nodes) subs) xdr whole))
+pub all_send : (e : Encoding) (nodes : List Node) (subs : List (List SendOp)) → IsPlain e → AreLowered e nodes (length nodes) subs → CodesSend e nodes subs
+all_send e nodes subs plain whole = codes_send e plain nodes subs whole
 
-pub all_follow : (e : Encoding) (nodes : List Node) (subs : List (List SendOp)) → e ≡ Xdr → AreLowered e nodes (length nodes) subs → AllFollow nodes subs
-all_follow e nodes subs xdr whole = codes_follow nodes subs (subst (λ (f : Encoding). AreLowered f nodes (length nodes) subs) xdr whole) (λ a. IsLoop) array_loops
+pub all_follow : (e : Encoding) (nodes : List Node) (subs : List (List SendOp)) → IsPlain e → AreLowered e nodes (length nodes) subs → AllFollow nodes subs
+all_follow e nodes subs plain whole = codes_follow e plain nodes subs whole (λ a. IsLoop) (loops e plain)
 
-pub all_turned : (e : Encoding) (nodes : List Node) (subs : List (List SendOp)) → e ≡ Xdr → AreLowered e nodes (length nodes) subs → AllTurned (layout_of e) nodes subs
-all_turned e nodes subs xdr whole =
-    subst (λ (f : Encoding). AllTurned (layout_of f) nodes subs) (sym xdr)
-    (codes_follow nodes subs (subst (λ (f : Encoding). AreLowered f nodes (length nodes) subs) xdr whole) (IsTurned (layout_of Xdr)) array_turned)
+pub all_turned : (e : Encoding) (nodes : List Node) (subs : List (List SendOp)) → IsPlain e → AreLowered e nodes (length nodes) subs → AllTurned (layout_of e) nodes subs
+all_turned e nodes subs plain whole = codes_follow e plain nodes subs whole (IsTurned (layout_of e)) (turned e plain)

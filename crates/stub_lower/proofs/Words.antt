@@ -1,80 +1,103 @@
 -- The octets of a number, as a put stores it and as it is sent.
-use Rattle.std.proofs.Common.{◌≡◌, ℕ, ◌-◌, ◌%◌, ◌<◌, ◌≤◌, ℤ, pos, negsuc, [], ◌∷◌, Option, Some, refl, ap, ◌∙◌, arith, IsTrue}
+use Rattle.std.proofs.Common.{◌≡◌, ℕ, ◌+◌, ◌-◌, ◌%◌, ◌<◌, ◌≤◌, ℤ, pos, negsuc, [], ◌∷◌, length, Bool, true, false, Option, Some, refl, ap, ◌∙◌, arith, IsTrue}
 use Rattle.std.specs.Prelude.{nat_lt}
-use Rattle.std.specs.Int.{w32, w64}
+use Rattle.std.specs.Int.{Width, w8, w16, w32, w64, byte_len}
 use Rattle.std.proofs.lemmas.Bool.{ltb-true, lt-ltb}
-use Rattle.kit_base.specs.Bytes.{be}
 use Rattle.mint.specs.declared.kind.Kind.{Kind}
 use Rattle.mint.specs.declared.kind.Kind.TheVariants as kind
-use Rattle.mint.specs.Kinds.{IsInRange}
-use Rattle.mint.specs.Types.{Scalar, number}
-use Rattle.wire_def.specs.declared.encoding.Encoding.TheVariants.{Xdr}
-use Rattle.wire_def.specs.declared.head.Order.TheVariants.{Big}
-use Rattle.wire_def.specs.Scalars.{gap, scalar_octets, number_octets, residue, width_of}
+use Rattle.mint.specs.Types.{Scalar, number, label}
+use Rattle.mint.specs.Typed.{IsScalar}
+use Rattle.raw_buf.specs.Buf.{in_order}
+use Rattle.wire_def.specs.declared.encoding.Encoding.{Encoding}
+use Rattle.wire_def.specs.declared.encoding.Encoding.TheVariants.{Xdr, CdrBig, CdrLittle, Mach}
+use Rattle.wire_def.specs.declared.head.Order.{Order}
+use Rattle.wire_def.specs.declared.head.Order.TheVariants.{Big, Little}
+use Rattle.wire_def.specs.Scalars.{full, half, is_signed, number_octets, residue, width_of}
+use Rattle.wire_def.proofs.ScalarGrammar.{FitsIn, fits_in, half_half}
+use Rattle.wire_def.proofs.Words.{IsOwn, is8, is16, is32, is64, own_of}
 use Rattle.cast_stub.specs.Parts.{on_some}
 use Rattle.cast_stub.specs.Puts.{word}
-use Rattle.cast_stub.proofs.Putting.{if_so, word_of}
-use Rattle.stub_lower.specs.Codes.{scalar_width}
+use Rattle.cast_stub.proofs.Putting.{if_so}
+use Rattle.stub_lower.specs.Codes.{order_of, scalar_width}
 
-pub word_32_pos : (n : ℕ) → n < 4294967296 → word 4 Big (pos n) ≡ Some (number_octets Xdr w32 (residue w32 (pos n)))
-word_32_pos n h =
+pos_8 : (o : Order) (n : ℕ) → n < 256 → word 1 o (pos n) ≡ Some (in_order o 1 (residue w8 (pos n)))
+pos_8 o n h =
+    let same : n ≡ n % 256 = omega arith in
+    ap (λ (x : Option ℕ). on_some x (λ (m : ℕ). Some (in_order o 1 m))) (if_so (nat_lt n 256) n (lt-ltb n 256 h)) ∙ ap (λ (m : ℕ). Some (in_order o 1 m)) same
+
+neg_8 : (o : Order) (n : ℕ) → n < 128 → word 1 o (negsuc n) ≡ Some (in_order o 1 (residue w8 (negsuc n)))
+neg_8 o n h =
+    let same : 255 - n ≡ 255 - n % 256 = omega arith in
+    ap (λ (x : Option ℕ). on_some x (λ (m : ℕ). Some (in_order o 1 m))) (if_so (nat_lt n 128) (255 - n) (lt-ltb n 128 h)) ∙ ap (λ (m : ℕ). Some (in_order o 1 m)) same
+
+pos_16 : (o : Order) (n : ℕ) → n < 65536 → word 2 o (pos n) ≡ Some (in_order o 2 (residue w16 (pos n)))
+pos_16 o n h =
+    let same : n ≡ n % 65536 = omega arith in
+    ap (λ (x : Option ℕ). on_some x (λ (m : ℕ). Some (in_order o 2 m))) (if_so (nat_lt n 65536) n (lt-ltb n 65536 h)) ∙ ap (λ (m : ℕ). Some (in_order o 2 m)) same
+
+neg_16 : (o : Order) (n : ℕ) → n < 32768 → word 2 o (negsuc n) ≡ Some (in_order o 2 (residue w16 (negsuc n)))
+neg_16 o n h =
+    let same : 65535 - n ≡ 65535 - n % 65536 = omega arith in
+    ap (λ (x : Option ℕ). on_some x (λ (m : ℕ). Some (in_order o 2 m))) (if_so (nat_lt n 32768) (65535 - n) (lt-ltb n 32768 h)) ∙ ap (λ (m : ℕ). Some (in_order o 2 m)) same
+
+pos_32 : (o : Order) (n : ℕ) → n < 4294967296 → word 4 o (pos n) ≡ Some (in_order o 4 (residue w32 (pos n)))
+pos_32 o n h =
     let same : n ≡ n % 4294967296 = omega arith in
-    word_of n h ∙ ap (λ (m : ℕ). Some (be 4 m)) same
+    ap (λ (x : Option ℕ). on_some x (λ (m : ℕ). Some (in_order o 4 m))) (if_so (nat_lt n 4294967296) n (lt-ltb n 4294967296 h)) ∙ ap (λ (m : ℕ). Some (in_order o 4 m)) same
 
-word_32_neg : (n : ℕ) → n < 2147483648 → word 4 Big (negsuc n) ≡ Some (number_octets Xdr w32 (residue w32 (negsuc n)))
-word_32_neg n h =
+neg_32 : (o : Order) (n : ℕ) → n < 2147483648 → word 4 o (negsuc n) ≡ Some (in_order o 4 (residue w32 (negsuc n)))
+neg_32 o n h =
     let same : 4294967295 - n ≡ 4294967295 - n % 4294967296 = omega arith in
-    ap (λ (o : Option ℕ). on_some o (λ (m : ℕ). Some (be 4 m))) (if_so (nat_lt n 2147483648) (4294967295 - n) (lt-ltb n 2147483648 h)) ∙ ap (λ (m : ℕ). Some (be 4 m)) same
+    ap (λ (x : Option ℕ). on_some x (λ (m : ℕ). Some (in_order o 4 m))) (if_so (nat_lt n 2147483648) (4294967295 - n) (lt-ltb n 2147483648 h)) ∙ ap (λ (m : ℕ). Some (in_order o 4 m)) same
 
-word_64_pos : (n : ℕ) → n < 18446744073709551616 → word 8 Big (pos n) ≡ Some (number_octets Xdr w64 (residue w64 (pos n)))
-word_64_pos n h =
+pos_64 : (o : Order) (n : ℕ) → n < 18446744073709551616 → word 8 o (pos n) ≡ Some (in_order o 8 (residue w64 (pos n)))
+pos_64 o n h =
     let same : n ≡ n % 18446744073709551616 = omega arith in
-    ap (λ (o : Option ℕ). on_some o (λ (m : ℕ). Some (be 8 m))) (if_so (nat_lt n 18446744073709551616) n (lt-ltb n 18446744073709551616 h)) ∙ ap (λ (m : ℕ). Some (be 8 m)) same
+    ap (λ (x : Option ℕ). on_some x (λ (m : ℕ). Some (in_order o 8 m))) (if_so (nat_lt n 18446744073709551616) n (lt-ltb n 18446744073709551616 h)) ∙ ap (λ (m : ℕ). Some (in_order o 8 m)) same
 
-word_64_neg : (n : ℕ) → n < 9223372036854775808 → word 8 Big (negsuc n) ≡ Some (number_octets Xdr w64 (residue w64 (negsuc n)))
-word_64_neg n h =
+neg_64 : (o : Order) (n : ℕ) → n < 9223372036854775808 → word 8 o (negsuc n) ≡ Some (in_order o 8 (residue w64 (negsuc n)))
+neg_64 o n h =
     let same : 18446744073709551615 - n ≡ 18446744073709551615 - n % 18446744073709551616 = omega arith in
-    ap (λ (o : Option ℕ). on_some o (λ (m : ℕ). Some (be 8 m))) (if_so (nat_lt n 9223372036854775808) (18446744073709551615 - n) (lt-ltb n 9223372036854775808 h)) ∙ ap (λ (m : ℕ). Some (be 8 m)) same
+    ap (λ (x : Option ℕ). on_some x (λ (m : ℕ). Some (in_order o 8 m))) (if_so (nat_lt n 9223372036854775808) (18446744073709551615 - n) (lt-ltb n 9223372036854775808 h)) ∙ ap (λ (m : ℕ). Some (in_order o 8 m)) same
 
-small : (n c : ℕ) → c ≤ 4294967296 → IsTrue (nat_lt n c) → word 4 Big (pos n) ≡ Some (number_octets Xdr w32 (residue w32 (pos n)))
-small n c le h = word_32_pos n (omega (arith, ltb-true n c h))
+-- a number with or without a sign, where the width has room for it
+word_signed : (signed : Bool) (w : Width) → IsOwn w → (o : Order) (z : ℤ) → FitsIn signed w z → word (byte_len w) o z ≡ Some (in_order o (byte_len w) (residue w z))
+unfolding FitsIn
+word_signed true _ is8 o (pos n) h = pos_8 o n (omega arith)
+word_signed true _ is8 o (negsuc n) h = neg_8 o n h
+word_signed true _ is16 o (pos n) h = pos_16 o n (omega arith)
+word_signed true _ is16 o (negsuc n) h = neg_16 o n h
+word_signed true _ is32 o (pos n) h = pos_32 o n (omega arith)
+word_signed true _ is32 o (negsuc n) h = neg_32 o n h
+word_signed true _ is64 o (pos n) h = pos_64 o n (omega arith)
+word_signed true _ is64 o (negsuc n) h = neg_64 o n h
+word_signed false _ is8 o (pos n) h = pos_8 o n h
+word_signed false _ is16 o (pos n) h = pos_16 o n h
+word_signed false _ is32 o (pos n) h = pos_32 o n h
+word_signed false _ is64 o (pos n) h = pos_64 o n h
+word_signed false w own o (negsuc n) h = absurd h
 
-low : (n c : ℕ) → c ≤ 2147483648 → IsTrue (nat_lt n c) → word 4 Big (negsuc n) ≡ Some (number_octets Xdr w32 (residue w32 (negsuc n)))
-low n c le h = word_32_neg n (omega (arith, ltb-true n c h))
+pub order_octets : (e : Encoding) (w : Width) (m : ℕ) → in_order (order_of e) (byte_len w) m ≡ number_octets e w m
+order_octets Xdr w m = refl
+order_octets CdrBig w m = refl
+order_octets CdrLittle w m = refl
+order_octets Mach w m = refl
 
-pub word-number : (k : Kind) (z : ℤ) → IsInRange k z → word (scalar_width Xdr (number k)) Big z ≡ Some (number_octets Xdr (width_of Xdr (number k)) (residue (width_of Xdr (number k)) z))
-word-number kind.I64 (pos n) h = word_64_pos n (omega (arith, ltb-true n 9223372036854775808 h))
-word-number kind.I64 (negsuc n) h = word_64_neg n (ltb-true n 9223372036854775808 h)
-word-number kind.U64 (pos n) h = word_64_pos n (ltb-true n 18446744073709551616 h)
-word-number kind.U64 (negsuc n) h = word_64_neg n (omega (arith, ltb-true n 0 h))
-word-number kind.Octet (pos n) h = small n 256 (omega arith) h
-word-number kind.Octet (negsuc n) h = low n 0 (omega arith) h
-word-number kind.I8 (pos n) h = small n 128 (omega arith) h
-word-number kind.I8 (negsuc n) h = low n 128 (omega arith) h
-word-number kind.U8 (pos n) h = small n 256 (omega arith) h
-word-number kind.U8 (negsuc n) h = low n 0 (omega arith) h
-word-number kind.Char (pos n) h = small n 256 (omega arith) h
-word-number kind.Char (negsuc n) h = low n 0 (omega arith) h
-word-number kind.I16 (pos n) h = small n 32768 (omega arith) h
-word-number kind.I16 (negsuc n) h = low n 32768 (omega arith) h
-word-number kind.U16 (pos n) h = small n 65536 (omega arith) h
-word-number kind.U16 (negsuc n) h = low n 0 (omega arith) h
-word-number kind.I32 (pos n) h = small n 2147483648 (omega arith) h
-word-number kind.I32 (negsuc n) h = low n 2147483648 (omega arith) h
-word-number kind.U32 (pos n) h = small n 4294967296 (omega arith) h
-word-number kind.U32 (negsuc n) h = low n 0 (omega arith) h
-word-number kind.Bool (pos n) h = small n 2 (omega arith) h
-word-number kind.Bool (negsuc n) h = low n 0 (omega arith) h
+pub width_same : (e : Encoding) (s : Scalar) → scalar_width e s ≡ byte_len (width_of e s)
+width_same e (number k) = refl
+width_same Xdr (label ls) = refl
+width_same CdrBig (label ls) = refl
+width_same CdrLittle (label ls) = refl
+width_same Mach (label ls) = refl
+
+-- a scalar of the encoding, as it is sent
+pub scalar_word : (e : Encoding) (s : Scalar) (z : ℤ) → IsScalar s z → word (scalar_width e s) (order_of e) z ≡ Some (number_octets e (width_of e s) (residue (width_of e s) z))
+scalar_word e s z h =
+    ap (λ (n : ℕ). word n (order_of e) z) (width_same e s)
+    ∙ word_signed (is_signed s) (width_of e s) (own_of e s) (order_of e) z (fits_in e s z h)
+    ∙ ap Some (order_octets e (width_of e s) (residue (width_of e s) z))
 
 -- an octet by itself
-pub word-octet : (n : ℕ) → n < 256 → word 1 Big (pos n) ≡ Some (n ∷ [])
-word-octet n h =
-    let same : n % 256 ≡ n = omega arith in
-    ap (λ (o : Option ℕ). on_some o (λ (m : ℕ). Some (be 1 m))) (if_so (nat_lt n 256) n (lt-ltb n 256 h)) ∙ ap (λ (m : ℕ). Some (m ∷ [])) same
-
--- over XDR a scalar has no gap
-pub xdr_octets : (s : Scalar) (p : ℕ) (n : ℤ) → scalar_octets Xdr s p n ≡ number_octets Xdr (width_of Xdr s) (residue (width_of Xdr s) n)
-unfolding scalar_octets
-xdr_octets s p n =
-    let none : gap p 1 ≡ 0 = omega arith in
-    rw none refl
+pub word-octet : (o : Order) (n : ℕ) → n < 256 → word 1 o (pos n) ≡ Some (n ∷ [])
+word-octet Big n h = let same : n % 256 % 256 ≡ n = omega arith in pos_8 Big n h ∙ ap (λ (m : ℕ). Some (m ∷ [])) same
+word-octet Little n h = let same : n % 256 % 256 ≡ n = omega arith in pos_8 Little n h ∙ ap (λ (m : ℕ). Some (m ∷ [])) same

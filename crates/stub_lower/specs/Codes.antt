@@ -1,13 +1,14 @@
 -- The code of a node over those of its parts, which it calls.
-use Rattle.std.specs.Prelude.{◌≡◌, ℕ, suc, ℤ, List, [], ◌∷◌, Option, None, Some, Bool, true, if◌then◌else◌}
+use Rattle.std.specs.Prelude.{◌≡◌, ℕ, zero, suc, ℤ, List, [], ◌∷◌, Option, None, Some, Bool, true, false, nat_eq, if◌then◌else◌}
 use Rattle.std.specs.Int.{byte_len}
+use Rattle.mint.specs.declared.kind.Kind.TheVariants as kind
 use Rattle.mint.specs.declared.kind.Count.{Count}
 use Rattle.mint.specs.declared.kind.Count.TheVariants.{Exactly}
 use Rattle.mint.specs.declared.node.Node.{Node}
 use Rattle.mint.specs.declared.node.Node.TheVariants as node
 use Rattle.mint.specs.Types.{Scalar, number, label, Array, text, row_of, scalar_of}
 use Rattle.wire_def.specs.declared.encoding.Encoding.{Encoding}
-use Rattle.wire_def.specs.declared.encoding.Encoding.TheVariants.{Xdr, CdrBig}
+use Rattle.wire_def.specs.declared.encoding.Encoding.TheVariants.{Xdr, CdrBig, CdrLittle, Mach}
 use Rattle.wire_def.specs.declared.head.Order.{Order}
 use Rattle.wire_def.specs.declared.head.Order.TheVariants.{Big, Little}
 use Rattle.wire_def.specs.Scalars.{width_of}
@@ -36,10 +37,27 @@ scalar_width e (number k) = byte_len (width_of e (number k))
 abbrev pub element_width : Encoding → Array → ℕ
 element_width e a = if is_octets a then 1 else scalar_width e (number (kind_of a))
 
--- a scalar of a width, given its put
+-- a length that is not fixed
+abbrev pub is_free : Count → Bool
+is_free (Exactly m) = false
+is_free _ = true
+
+-- numbers of 64 bits whose padding stands only before a first element
+abbrev pub is_gapped : Array → Bool
+is_gapped (row_of kind.I64 c) = is_free c
+is_gapped (row_of kind.U64 c) = is_free c
+is_gapped _ = false
+
+-- code at a multiple of a width
+abbrev pub aligned : ℕ → Block → Block
+aligned w b = if nat_eq w 1 then b else align w b
+
+-- a scalar of a width, given its put; over CDR behind its alignment
 abbrev pub scalar_code : Encoding → ℕ → Put → Block
 scalar_code Xdr w x = chunk w (x ∷ []) stop
-scalar_code _ w x = stop
+scalar_code CdrBig w x = aligned w (chunk w (x ∷ []) stop)
+scalar_code CdrLittle w x = aligned w (chunk w (x ∷ []) stop)
+scalar_code Mach w x = stop
 
 -- the put of the current value, a number of the width
 abbrev pub number_put : Encoding → ℕ → Put
@@ -50,14 +68,48 @@ abbrev pub count_code : Encoding → Count → Block
 count_code e (Exactly m) = stop
 count_code e _ = scalar_code e (scalar_width e counted) (put.Count 0 [] 1 0 (scalar_width e counted) (order_of e))
 
--- one element of an array
-abbrev pub turn_code : Encoding → Array → Block
-turn_code e a = chunk (element_width e a) (number_put e (element_width e a) ∷ []) stop
+-- the length of a text over CDR, with the octet behind it
+abbrev pub ended_code : Encoding → Block
+ended_code e = scalar_code e (scalar_width e counted) (put.Count 0 [] 1 1 (scalar_width e counted) (order_of e))
 
--- behind the elements of an array, which are single octets or not
-abbrev pub behind_code : Encoding → Bool → Block
-behind_code Xdr true = align 4 stop
-behind_code _ octets = stop
+-- before the elements of a row over CDR: the count, or the alignment of a first element
+abbrev pub row_code : Encoding → ℕ → Count → Block
+row_code e w (Exactly zero) = stop
+row_code e w (Exactly (suc m)) = aligned w stop
+row_code e w c = count_code e c
+
+-- before the elements of an array
+abbrev pub head_code : Encoding → Array → Block
+head_code CdrBig (text c) = ended_code CdrBig
+head_code CdrBig (row_of k c) = row_code CdrBig (element_width CdrBig (row_of k c)) c
+head_code CdrLittle (text c) = ended_code CdrLittle
+head_code CdrLittle (row_of k c) = row_code CdrLittle (element_width CdrLittle (row_of k c)) c
+head_code e a = count_code e (count_of a)
+
+-- the chunk of one number
+abbrev pub number_chunk : Encoding → ℕ → Block
+number_chunk e w = chunk w (number_put e w ∷ []) stop
+
+-- the same, aligned by itself or not
+abbrev pub gapped_turn : Encoding → ℕ → Bool → Block
+gapped_turn e w gapped = if gapped then align 8 (number_chunk e w) else number_chunk e w
+
+-- one element of an array, which over CDR is aligned by itself where there may be none
+abbrev pub turn_code : Encoding → Array → Block
+turn_code CdrBig a = gapped_turn CdrBig (element_width CdrBig a) (is_gapped a)
+turn_code CdrLittle a = gapped_turn CdrLittle (element_width CdrLittle a) (is_gapped a)
+turn_code e a = number_chunk e (element_width e a)
+
+-- the octet behind a text over CDR
+abbrev pub end_code : Block
+end_code = chunk 1 (put.Const 0 (0 ∷ []) ∷ []) stop
+
+-- behind the elements of an array
+abbrev pub behind_code : Encoding → Array → Block
+behind_code Xdr a = if is_octets a then align 4 stop else stop
+behind_code CdrBig (text c) = end_code
+behind_code CdrLittle (text c) = end_code
+behind_code _ a = stop
 
 -- ---- what nodes have over every encoding
 
@@ -90,7 +142,7 @@ number_code e s = scalar_code e (scalar_width e s) (number_put e (scalar_width e
 
 -- a text, a row
 abbrev pub array_code : Encoding → Array → Block
-array_code e a = append (count_code e (count_of a)) (each [] (turn_code e a) (behind_code e (is_octets a)))
+array_code e a = append (head_code e a) (each [] (turn_code e a) (behind_code e a))
 
 -- the tag of an arm
 abbrev pub tag_code : Encoding → Scalar → Block

@@ -1,13 +1,15 @@
 // What an encoding gives: how a number, a count and the elements of an array are sent.
-ghost use Rattle.std.specs.Prelude.{◌≡◌, [], ◌∷◌, OnOk};
+ghost use Rattle.std.specs.Prelude.{◌≡◌, [], ◌∷◌, OnOk, IfOk};
 ghost use Rattle.mint.specs.Types.{number, text, row_of};
 ghost use Rattle.cast_stub.specs.Append.{append};
 ghost use Rattle.cast_stub.specs.Block.{stop, chunk, each, code_seen};
-ghost use Rattle.stub_lower.specs.Codes.{order_of, scalar_width, scalar_code, number_put, count_code, behind_code, array_code};
+ghost use Rattle.mint.specs.declared.kind.Count.{Count};
+ghost use Rattle.wire_def.specs.Lone.{IsPlain};
+ghost use Rattle.stub_lower.specs.Codes.{aligned, order_of, scalar_width, element_width, scalar_code, number_put, gapped_turn, count_code, ended_code, end_code, row_code, is_gapped, array_code};
 
 use crate::ops::{add, add_chunk};
 use cast_stub::{Path, Put, SendOp, SendOps};
-use kit_base::NoMemory;
+use kit_base::{NoMemory, Octets};
 use mint::kind::{Count, Kind};
 use std::alloc::Global;
 use wire_def::{Encoding, Order};
@@ -28,9 +30,34 @@ pub(crate) fn width_of(enc: Encoding, kind: Kind) -> u32
 {
     match (kind, enc) {
         (Kind::I64 | Kind::U64, _) => 8,
-        (Kind::I32 | Kind::U32, _) | (_, Encoding::Xdr) => 4,
+        (Kind::I32 | Kind::U32, _) | (_, Encoding::Xdr) | (Kind::Bool, Encoding::Mach) => 4,
         (Kind::I16 | Kind::U16, _) => 2,
         _ => 1,
+    }
+}
+
+/// Puts an alignment behind the last operation.
+#[tactic(auto, using(crate::proofs::Building::building))]
+fn add_align(width: u32, out: &mut SendOps) -> Result<(), NoMemory>
+    ensures { OnOk result (code_seen out.new ≡ append (code_seen out.old) (aligned width stop)) }
+{
+    if width == 1 {
+        Ok(())
+    } else {
+        add(out, SendOp::Align(width))
+    }
+}
+
+/// Puts a chunk behind the last operation, at a multiple of its size, which one put fills.
+#[tactic(auto, using(crate::proofs::Building::building))]
+fn add_aligned(alloc: Global, width: u32, put: Put, out: &mut SendOps) -> Result<(), NoMemory>
+    ensures { OnOk result (code_seen out.new ≡ append (code_seen out.old) (aligned width (chunk width (put ∷ []) stop))) }
+{
+    if width == 1 {
+        add_chunk(alloc, width, put, out)
+    } else {
+        add(out, SendOp::Align(width))?;
+        add_chunk(alloc, width, put, out)
     }
 }
 
@@ -47,7 +74,8 @@ pub(crate) fn add_scalar(
 {
     match enc {
         Encoding::Xdr => add_chunk(alloc, width, put, out),
-        _ => Ok(()),
+        Encoding::CdrBig | Encoding::CdrLittle => add_aligned(alloc, width, put, out),
+        Encoding::Mach => Ok(()),
     }
 }
 
@@ -83,25 +111,70 @@ pub(crate) fn add_count(
     }
 }
 
-/// Puts a loop over the numbers of an array, each of so many octets, and what follows them; the
-/// numbers are single octets or not.
+/// The code of one number of an array, aligned by itself or not.
+#[tactic(auto, using(crate::proofs::Building::building))]
+fn turn(alloc: Global, enc: Encoding, width: u32, gapped: bool) -> Result<SendOps, NoMemory>
+    ensures { IfOk result (λ code. code_seen code ≡ gapped_turn enc width gapped) }
+{
+    let put = Put::Num(0, Path::new(alloc), width, order_of(enc));
+    let mut code = SendOps::new(alloc);
+    if gapped {
+        add(&mut code, SendOp::Align(8))?;
+    }
+    add_chunk(alloc, width, put, &mut code)?;
+    Ok(code)
+}
+
+/// Puts a loop over the numbers of an array.
 #[tactic(auto, using(crate::proofs::Building::building))]
 fn add_loop(
     alloc: Global,
     enc: Encoding,
     width: u32,
-    octets: bool,
+    gapped: bool,
     out: &mut SendOps,
 ) -> Result<(), NoMemory>
-    ensures { OnOk result (code_seen out.new ≡ append (code_seen out.old) (each [] (chunk width (number_put enc width ∷ []) stop) (behind_code enc octets))) }
+    ensures { OnOk result (code_seen out.new ≡ append (code_seen out.old) (each [] (gapped_turn enc width gapped) stop)) }
 {
-    let put = Put::Num(0, Path::new(alloc), width, order_of(enc));
-    let mut turn = SendOps::new(alloc);
-    add_chunk(alloc, width, put, &mut turn)?;
-    add(out, SendOp::Each(Path::new(alloc), turn))?;
-    match (enc, octets) {
-        (Encoding::Xdr, true) => add(out, SendOp::Align(4)),
-        _ => Ok(()),
+    let code = turn(alloc, enc, width, gapped)?;
+    add(out, SendOp::Each(Path::new(alloc), code))
+}
+
+/// Puts the code of a text's length, with the octet behind it.
+#[tactic(auto, using(crate::proofs::Building::building))]
+fn add_ended(alloc: Global, enc: Encoding, out: &mut SendOps) -> Result<(), NoMemory>
+    ensures { OnOk result (code_seen out.new ≡ append (code_seen out.old) (ended_code enc)) }
+{
+    let width = width_of(enc, Kind::U32);
+    let put = Put::Count(0, Path::new(alloc), 1, 1, width, order_of(enc));
+    add_scalar(alloc, enc, width, put, out)
+}
+
+/// Puts the octet 0 behind a text.
+#[tactic(auto, using(crate::proofs::Building::building))]
+fn add_end(alloc: Global, out: &mut SendOps) -> Result<(), NoMemory>
+    ensures { OnOk result (code_seen out.new ≡ append (code_seen out.old) end_code) }
+{
+    let mut octets = Octets::new(alloc);
+    octets.push(0)?;
+    add_chunk(alloc, 1, Put::Const(0, octets), out)
+}
+
+/// Puts what stands before the elements of a row over CDR.
+#[tactic(auto, using(crate::proofs::Building::building))]
+fn add_row_head(
+    alloc: Global,
+    enc: Encoding,
+    width: u32,
+    count: Count,
+    out: &mut SendOps,
+) -> Result<(), NoMemory>
+    ensures { OnOk result (code_seen out.new ≡ append (code_seen out.old) (row_code enc width count)) }
+{
+    match count {
+        Count::Exactly(0) => Ok(()),
+        Count::Exactly(_) => add_align(width, out),
+        _ => add_count(alloc, enc, count, out),
     }
 }
 
@@ -113,10 +186,42 @@ pub(crate) fn add_text(
     count: Count,
     out: &mut SendOps,
 ) -> Result<(), NoMemory>
+    requires { IsPlain enc }
     ensures { OnOk result (code_seen out.new ≡ append (code_seen out.old) (array_code enc (text count))) }
 {
-    add_count(alloc, enc, count, out)?;
-    add_loop(alloc, enc, 1, true, out)
+    match enc {
+        Encoding::Xdr => {
+            add_count(alloc, enc, count, out)?;
+            add_loop(alloc, enc, 1, false, out)?;
+            add(out, SendOp::Align(4))
+        }
+        _ => {
+            add_ended(alloc, enc, out)?;
+            add_loop(alloc, enc, 1, false, out)?;
+            add_end(alloc, out)
+        }
+    }
+}
+
+/// Whether each number of a row is aligned by itself over CDR.
+fn is_gapped(kind: Kind, count: Count) -> bool
+    ensures { result ≡ is_gapped (row_of kind count) }
+{
+    match (kind, count) {
+        (Kind::I64 | Kind::U64, Count::Exactly(_)) => false,
+        (Kind::I64 | Kind::U64, _) => true,
+        _ => false,
+    }
+}
+
+/// The octets of a row's element.
+fn element_width(enc: Encoding, kind: Kind) -> u32
+    ensures { (count : Count) → result ≡ element_width enc (row_of kind count) }
+{
+    match kind {
+        Kind::Octet => 1,
+        _ => width_of(enc, kind),
+    }
 }
 
 /// Puts the code of a row.
@@ -128,11 +233,21 @@ pub(crate) fn add_row(
     count: Count,
     out: &mut SendOps,
 ) -> Result<(), NoMemory>
+    requires { IsPlain enc }
     ensures { OnOk result (code_seen out.new ≡ append (code_seen out.old) (array_code enc (row_of kind count))) }
 {
-    add_count(alloc, enc, count, out)?;
-    match kind {
-        Kind::Octet => add_loop(alloc, enc, 1, true, out),
-        _ => add_loop(alloc, enc, width_of(enc, kind), false, out),
+    match enc {
+        Encoding::Xdr => {
+            add_count(alloc, enc, count, out)?;
+            add_loop(alloc, enc, element_width(enc, kind), false, out)?;
+            match kind {
+                Kind::Octet => add(out, SendOp::Align(4)),
+                _ => Ok(()),
+            }
+        }
+        _ => {
+            add_row_head(alloc, enc, element_width(enc, kind), count, out)?;
+            add_loop(alloc, enc, element_width(enc, kind), is_gapped(kind, count), out)
+        }
     }
 }

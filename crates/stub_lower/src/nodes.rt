@@ -1,6 +1,6 @@
 // The code of each node of a table.
 ghost use Rattle.std.specs.Prelude.{◌≡◌, [], length, OnOk, IfOk};
-ghost use Rattle.wire_def.specs.declared.encoding.Encoding.TheVariants.{Xdr};
+ghost use Rattle.wire_def.specs.Lone.{IsPlain};
 ghost use Rattle.cast_stub.specs.Append.{append};
 ghost use Rattle.cast_stub.specs.Block.{stop, each, switch, if_there, code_seen, cases_seen};
 ghost use Rattle.cast_stub.specs.Follows.{AllFollow};
@@ -23,7 +23,7 @@ use wire_def::Encoding;
 /// The codes that send the nodes of a table, each at its node's place; a node's parts are calls of
 /// their codes.
 pub fn lower(alloc: Global, enc: Encoding, mint: &Mint) -> Result<SendSubs, NoMemory>
-    requires xdr { enc ≡ Xdr }
+    requires plain { IsPlain enc }
     ensures many { IfOk result (λ subs. length subs ≡ length mint.now) }
     ensures means { IfOk result (λ subs. CodesSend enc mint.now subs) }
     ensures follows { IfOk result (λ subs. AllFollow mint.now subs) }
@@ -43,6 +43,7 @@ pub fn lower(alloc: Global, enc: Encoding, mint: &Mint) -> Result<SendSubs, NoMe
 /// The code of a node.
 #[tactic(auto, using(crate::proofs::Building::building))]
 fn node_code(alloc: Global, enc: Encoding, node: &Node) -> Result<SendOps, NoMemory>
+    requires { IsPlain enc }
     ensures { IfOk result (λ code. code_seen code ≡ node_code enc node.now) }
 {
     let mut out = SendOps::new(alloc);

@@ -1,14 +1,7 @@
 -- The laws, from reading being one function.
 use Rattle.std.proofs.Common.{◌≡◌, ◌⊎◌, inl, inr, ℕ, ◌+◌, List, [], ◌++◌, length, refl}
 use Rattle.std.proofs.lemmas.List.{append-nil}
-use Rattle.mint.specs.declared.kind.Kind.TheVariants as kind
-use Rattle.mint.specs.Types.{Scalar, number, label}
-use Rattle.wire_def.specs.declared.encoding.Encoding.TheVariants.{Xdr}
 use Rattle.wire_def.specs.Grammar.{Reading, got, stop, Reader, Spelling, Stopping, AreOctets, IsGrammar}
-use Rattle.wire_def.specs.Scalars.{width_of}
-use Rattle.wire_def.proofs.Words.{IsWide, wide32, wide64}
-use Rattle.wire_def.proofs.ScalarGrammar.{scalar_is}
-use Rattle.wire_def.proofs.ArrayGrammar.{ScalarsAre}
 
 module _ {E A : Type 0} {r : Reader E A} {S : Spelling A} {F : Stopping E} (g : IsGrammar r S F) where
   pub one_value : (p : ℕ) (o : List ℕ) (v w : A) → S p o v → S p o w → v ≡ w
@@ -41,12 +34,3 @@ module _ {E A : Type 0} {r : Reader E A} {S : Spelling A} {F : Stopping E} (g : 
       let first : r p o ≡ stop k at = g.stops p o k at f in
       let second : r p o ≡ stop l place = g.stops p o l place h in
       (cc, cc)
-
-pub xdr_wide : (s : Scalar) → IsWide Xdr (width_of Xdr s)
-xdr_wide (label labels) = wide32
-xdr_wide (number kind.I64) = wide64
-xdr_wide (number kind.U64) = wide64
-xdr_wide (number _) = wide32
-
-pub xdr_scalars : ScalarsAre Xdr
-xdr_scalars s = scalar_is Xdr s (xdr_wide s)

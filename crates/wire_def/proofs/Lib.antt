@@ -1,6 +1,8 @@
 pub mod Grammars
 pub mod Words
 pub mod ScalarGrammar
+pub mod LoneGrammar
+pub mod DescribedGrammar
 pub mod ArrayGrammar
 pub mod TypeGrammar
 pub mod Lawful
@@ -9,4 +11,6 @@ pub mod Short
 pub mod Sound
 pub mod Room
 pub mod Typing
+pub mod Encodings
 pub mod Xdr
+mod Worked

@@ -9,14 +9,17 @@ use Rattle.mint.specs.declared.kind.Count.TheVariants.{Exactly, AtMost, Any}
 use Rattle.mint.specs.Values.{Val, void, num, row, group, items, arm, absent, present, Vals, no_more, val, count, list_of, weight, weights}
 use Rattle.mint.specs.Types.{Scalar, number, Array, text, row_of, Ty, void_type, scalar_type, array_type, group_type, items_type, choice_type, maybe_type, Tys, no_fields, field, Arms, no_other, others, arm_type}
 use Rattle.wire_def.specs.declared.encoding.Encoding.{Encoding}
+use Rattle.wire_def.specs.declared.encoding.Encoding.TheVariants.{Xdr, CdrBig, CdrLittle, Mach}
 use Rattle.wire_def.specs.Grammar.{Spelling, SpellTimes}
 use Rattle.wire_def.specs.Scalars.{residue, width_of, WordSpells, ScalarSpells}
-use Rattle.wire_def.specs.Arrays.{CountSpells, OctetSpells, count_of, ElementSpells, ArraySpells}
+use Rattle.wire_def.specs.Lone.{LoneSpells}
+use Rattle.wire_def.specs.Arrays.{counted, CountSpells, HeadSpells, OctetSpells, count_of, kind_of, ElementSpells, ArraySpells}
 use Rattle.wire_def.specs.Spells.{Spells, FieldsSpell, ArmSpells}
 use Rattle.mint.specs.Blank.{depth, fields_depth, arms_depth}
 use Rattle.mint.specs.Sound.{IsSound}
 use Rattle.wire_def.proofs.Sound.{fills, fields_fill, IsCount, TakesRoom, FieldsTakeRoom, ArmsTakeRoom, room, shallow}
-use Rattle.wire_def.proofs.Words.{IsWide}
+use Rattle.wire_def.proofs.Words.{wide}
+use Rattle.wire_def.proofs.DescribedGrammar.{described_long}
 
 byte_len_least : (w : Width) → 1 ≤ byte_len w
 byte_len_least w8 = omega arith
@@ -55,18 +58,41 @@ each_heavy S k one (val v vs) p o (a, b, is, first, more) =
     let behind = each_heavy S k one vs (p + length a) b more in
     rw (is, length-append) (omega (arith, here, behind))
 
-module _ (e : Encoding) (wide : (s : Scalar) → IsWide e (width_of e s)) where
+scalar_long : (e : Encoding) (s : Scalar) (p : ℕ) (o : List ℕ) (n : ℤ) → ScalarSpells e s p o n → 1 ≤ length o
+unfolding ScalarSpells WordSpells
+scalar_long e s p o n ((junk, len, is, lt), ok) =
+    let long = (wide e s).len (residue (width_of e s) n) in
+    rw (is, length-append) (omega (arith, long, byte_len_least (width_of e s)))
+
+lone_long : (e : Encoding) (s : Scalar) (p : ℕ) (o : List ℕ) (n : ℤ) → LoneSpells e s p o n → 1 ≤ length o
+lone_long Xdr s p o n h = scalar_long Xdr s p o n h
+lone_long CdrBig s p o n h = scalar_long CdrBig s p o n h
+lone_long CdrLittle s p o n h = scalar_long CdrLittle s p o n h
+lone_long Mach s p o n (a, b, is, first, (c, d, is', second, third)) =
+    let long = scalar_long Mach s (p + length a) c n second in
+    rw (is, is', length-append, length-append) (omega (arith, long))
+
+head_either : (e : Encoding) (a : Array) (p : ℕ) (o : List ℕ) (n : ℕ) → HeadSpells e a p o n → CountSpells e (count_of a) p o n ⊎ 1 ≤ length o
+unfolding HeadSpells
+head_either Xdr a p o n h = inl h
+head_either Mach a p o n h = inr (described_long (count_of a) (number (kind_of a)) p o n h)
+head_either CdrBig (text c) p o n h = inr (scalar_long CdrBig counted p o (pos (suc n)) h.0)
+head_either CdrBig (row_of k c) p o n h = inl h
+head_either CdrLittle (text c) p o n h = inr (scalar_long CdrLittle counted p o (pos (suc n)) h.0)
+head_either CdrLittle (row_of k c) p o n h = inl h
+
+module _ (e : Encoding) where
   scalar_room : (s : Scalar) (p : ℕ) (o : List ℕ) (n : ℤ) → ScalarSpells e s p o n → 1 ≤ length o
-  unfolding ScalarSpells WordSpells
-  scalar_room s p o n ((junk, len, is, lt), ok) =
-      let long = (wide s).len (residue (width_of e s) n) in
-      rw (is, length-append) (omega (arith, long, byte_len_least (width_of e s)))
+  scalar_room s p o n h = scalar_long e s p o n h
+
+  lone_room : (s : Scalar) (p : ℕ) (o : List ℕ) (n : ℤ) → LoneSpells e s p o n → 1 ≤ length o
+  lone_room s p o n h = lone_long e s p o n h
 
   count_room : (c : Count) (p : ℕ) (o : List ℕ) (n : ℕ) → IsCount c → CountSpells e c p o n → 1 ≤ length o + n
   unfolding CountSpells
   count_room (Exactly m) p o n some h = omega (arith, h.1)
-  count_room (AtMost m) p o n some h = omega (arith, scalar_room _ p o (pos n) h.0)
-  count_room Any p o n some h = omega (arith, scalar_room _ p o (pos n) h)
+  count_room (AtMost m) p o n some h = omega (arith, lone_room _ p o (pos n) h.0)
+  count_room Any p o n some h = omega (arith, lone_room _ p o (pos n) h)
 
   octet_room : (test : ℕ → Bool) (p : ℕ) (o : List ℕ) (n : ℤ) → OctetSpells test p o n → 1 ≤ length o
   unfolding OctetSpells
@@ -78,10 +104,13 @@ module _ (e : Encoding) (wide : (s : Scalar) → IsWide e (width_of e s)) where
   element_room (row_of kind.Octet c) p o n h = octet_room _ p o n h
   element_room (row_of k c) p o n h = scalar_room (number k) p o n h
 
+  head_room : (a : Array) (p : ℕ) (o : List ℕ) (n : ℕ) → IsCount (count_of a) → HeadSpells e a p o n → 1 ≤ length o + n
+  head_room a p o n some h = elim (head_either e a p o n h) [ inl count ↦ count_room (count_of a) p o n some count | inr long ↦ omega (arith, long) ]
+
   array_room : (a : Array) (p : ℕ) (o : List ℕ) (ns : List ℤ) → IsCount (count_of a) → ArraySpells e a p o ns → (1 ≤ length o) × (length ns ≤ length o)
   unfolding ArraySpells
   array_room a p o ns some (x, y, is, head, (u, v, is', elements, tail)) =
-      let first = count_room (count_of a) p x (length ns) some head in
+      let first = head_room a p x (length ns) some head in
       let second = each_room (ElementSpells e a) (element_room a) (length ns) (p + length x) u ns elements in
       let long : length o ≡ length x + (length u + length v) = omega (arith, ap length is, length-append x y, ap length is', length-append u v) in
       (omega (arith, first, second, long), omega (arith, second, long))
@@ -95,7 +124,7 @@ module _ (e : Encoding) (wide : (s : Scalar) → IsWide e (width_of e s)) where
   mutual
     pub filled : (t : Ty) → TakesRoom t → fills t ≡ true → (p : ℕ) (o : List ℕ) (v : Val) → Spells e t p o v → 1 ≤ length o
     filled void_type r f p o v h = absurd cc
-    filled (scalar_type s) r f p o (num n) h = scalar_room s p o n h
+    filled (scalar_type s) r f p o (num n) h = lone_room s p o n h
     filled (array_type a) r f p o (row k ns) h = (array_room a p o ns r h.1).0
     filled (group_type ts) r f p o (group vs) h = fields_filled ts r f p o vs h
     filled (items_type c t) r f p o (items vs) (a, b, is, first, more) =
@@ -103,11 +132,11 @@ module _ (e : Encoding) (wide : (s : Scalar) → IsWide e (width_of e s)) where
         let behind = each_room (Spells e t) (filled t r.2 r.1) (count vs) (p + length a) b (list_of vs) more in
         rw (is, length-append) (omega (arith, head, behind))
     filled (choice_type s arms) r f p o (arm n v) (a, b, is, first, more) =
-        let head = scalar_room s p a n first.0 in
+        let head = lone_room s p a n first.0 in
         rw (is, length-append) (omega (arith, head))
-    filled (maybe_type t) r f p o absent h = scalar_room _ p o (pos 0) h
+    filled (maybe_type t) r f p o absent h = lone_room _ p o (pos 0) h
     filled (maybe_type t) r f p o (present v) (a, b, is, first, more) =
-        let head = scalar_room _ p a (pos 1) first in
+        let head = lone_room _ p a (pos 1) first in
         rw (is, length-append) (omega (arith, head))
     filled _ r f p o v h = absurd h
 
@@ -123,7 +152,7 @@ module _ (e : Encoding) (wide : (s : Scalar) → IsWide e (width_of e s)) where
   mutual
     pub heavy : (t : Ty) → TakesRoom t → (d : ℕ) → depth t ≤ d → (p : ℕ) (o : List ℕ) (v : Val) → Spells e t p o v → weight v ≤ suc d * length o
     heavy void_type r d deep p o void h = omega arith
-    heavy (scalar_type s) r d deep p o (num n) h = some d (length o) (scalar_room s p o n h)
+    heavy (scalar_type s) r d deep p o (num n) h = some d (length o) (lone_room s p o n h)
     heavy (array_type a) r d deep p o (row k ns) h = array_heavy a d p o ns deep r h.1
     heavy (group_type ts) r d deep p o (group vs) h = fields_heavy ts r d (omega arith) p o vs h
     heavy (items_type c t) r zero deep p o v h = absurd (omega arith)
@@ -138,7 +167,7 @@ module _ (e : Encoding) (wide : (s : Scalar) → IsWide e (width_of e s)) where
         let behind = arm_heavy arms r d (omega arith) n (p + length a) b v more in
         let long : length b ≤ length o = omega (arith, ap length is, length-append a b) in
         omega (arith, behind, one_more d (length b) (length o) long all)
-    heavy (maybe_type t) r d deep p o absent h = some d (length o) (scalar_room _ p o (pos 0) h)
+    heavy (maybe_type t) r d deep p o absent h = some d (length o) (lone_room _ p o (pos 0) h)
     heavy (maybe_type t) r zero deep p o v h = absurd (omega arith)
     heavy (maybe_type t) r (suc d) deep p o (present v) (a, b, is, first, more) =
         let all = filled (maybe_type t) r refl p o (present v) (a, b, is, first, more) in

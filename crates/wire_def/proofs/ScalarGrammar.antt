@@ -8,15 +8,15 @@ use Rattle.mint.specs.declared.kind.Kind.TheVariants as kind
 use Rattle.mint.specs.Types.{Scalar, number, label}
 use Rattle.mint.specs.Typed.{is_scalar, IsScalar}
 use Rattle.wire_def.specs.declared.encoding.Encoding.{Encoding}
-use Rattle.wire_def.specs.declared.encoding.Encoding.TheVariants.{Xdr}
+use Rattle.wire_def.specs.declared.encoding.Encoding.TheVariants.{Xdr, CdrBig, CdrLittle, Mach}
 use Rattle.wire_def.specs.declared.fault.FaultKind.{FaultKind}
 use Rattle.wire_def.specs.declared.fault.FaultKind.TheVariants.{BadValue}
 use Rattle.wire_def.specs.Grammar.{Spelling, Parts, IsGrammar}
 use Rattle.wire_def.specs.Scalars.{full, half, residue, number_of, is_signed, own_width, at_least_32, width_of, alignment_of, scalar_place, WordSpells, WordStops, ScalarSpells, ScalarStops, read_scalar}
 use Rattle.wire_def.proofs.Grammars.{mapped, tested_are, reshaped}
-use Rattle.wire_def.proofs.Words.{IsWide, word_is}
+use Rattle.wire_def.proofs.Words.{wide, word_is}
 
-half_half : (w : Width) → half w + half w ≡ full w
+pub half_half : (w : Width) → half w + half w ≡ full w
 half_half w8 = refl
 half_half w16 = refl
 half_half w32 = refl
@@ -26,7 +26,7 @@ small : (m n : ℕ) → m < n → m % n ≡ m
 small m n h = mod-eq_of_lt h
 
 -- the number of the bits of a number
-FitsIn : Bool → Width → ℤ → Type 0
+unfoldable pub FitsIn : Bool → Width → ℤ → Type 0
 FitsIn true w (pos n) = n < half w
 FitsIn true w (negsuc n) = n < half w
 FitsIn false w (pos n) = n < full w
@@ -107,11 +107,24 @@ own_fits : (s : Scalar) (n : ℤ) → IsScalar s n → FitsIn (is_signed s) (own
 own_fits (number k) n h = kind_fits k n h
 own_fits (label labels) n h = label_fits labels n h
 
-fits_in : (e : Encoding) (s : Scalar) (n : ℤ) → IsScalar s n → FitsIn (is_signed s) (width_of e s) n
+pub fits_in : (e : Encoding) (s : Scalar) (n : ℤ) → IsScalar s n → FitsIn (is_signed s) (width_of e s) n
 fits_in Xdr s n h = wider (is_signed s) (own_width s) n (own_fits s n h)
-fits_in _ s n h = own_fits s n h
+fits_in Mach (number kind.Bool) n h = wider false w8 n (own_fits (number kind.Bool) n h)
+fits_in Mach (label labels) n h = own_fits (label labels) n h
+fits_in Mach (number kind.Octet) n h = own_fits (number kind.Octet) n h
+fits_in Mach (number kind.I8) n h = own_fits (number kind.I8) n h
+fits_in Mach (number kind.U8) n h = own_fits (number kind.U8) n h
+fits_in Mach (number kind.Char) n h = own_fits (number kind.Char) n h
+fits_in Mach (number kind.I16) n h = own_fits (number kind.I16) n h
+fits_in Mach (number kind.U16) n h = own_fits (number kind.U16) n h
+fits_in Mach (number kind.I32) n h = own_fits (number kind.I32) n h
+fits_in Mach (number kind.U32) n h = own_fits (number kind.U32) n h
+fits_in Mach (number kind.I64) n h = own_fits (number kind.I64) n h
+fits_in Mach (number kind.U64) n h = own_fits (number kind.U64) n h
+fits_in CdrBig s n h = own_fits s n h
+fits_in CdrLittle s n h = own_fits s n h
 
-module _ (e : Encoding) (s : Scalar) (wide : IsWide e (width_of e s)) where
+module _ (e : Encoding) (s : Scalar) where
   abbrev w : Width
   w = width_of e s
 
@@ -125,7 +138,7 @@ module _ (e : Encoding) (s : Scalar) (wide : IsWide e (width_of e s)) where
   pub scalar_is : IsGrammar (read_scalar e s) (ScalarSpells e s) (ScalarStops e s)
   unfolding ScalarSpells ScalarStops read_scalar WordSpells
   scalar_is = reshaped
-      (tested_are (is_scalar s) BadValue (scalar_place e s) (mapped (number_of (is_signed s) w) BitsSpell (word_is e a w wide) (λ p o m h. (m, refl, h)) (λ p o n h. h)))
+      (tested_are (is_scalar s) BadValue (scalar_place e s) (mapped (number_of (is_signed s) w) BitsSpell (word_is e a w (wide e s)) (λ p o m h. (m, refl, h)) (λ p o n h. h)))
       (λ p o. refl)
       (λ p o n h. ((residue w n, number_residue (is_signed s) w n (fits_in e s n h.1), h.0), h.1))
       (λ p o n h. (subst (λ z. WordSpells e a w p o z) (sym (residue_number (is_signed s) w h.0.0 h.0.2.3) ∙ ap (residue w) h.0.1) h.0.2, h.1))

@@ -1,4 +1,4 @@
--- Every type is a grammar where scalars are.
+-- Every type is a grammar.
 use Rattle.std.proofs.Common.{◌≡◌, ◌⊎◌, inl, inr, ℕ, zero, suc, ◌+◌, ℤ, pos, negsuc, List, [], ◌∷◌, ◌++◌, length, Bool, true, false, cond, refl, sym, ap, ◌∙◌, ◌↔◌, arith}
 use Rattle.std.proofs.lemmas.List.{append-nil}
 use Rattle.std.specs.Prelude.{MatchBool}
@@ -10,17 +10,20 @@ use Rattle.mint.specs.Types.{Scalar, Array, Ty, void_type, scalar_type, array_ty
 use Rattle.mint.specs.Typed.{has_arm}
 use Rattle.mint.proofs.Blanks.{vals_of-list_of}
 use Rattle.wire_def.specs.declared.encoding.Encoding.{Encoding}
+use Rattle.wire_def.specs.declared.encoding.Encoding.TheVariants.{Xdr, CdrBig, CdrLittle, Mach}
 use Rattle.wire_def.specs.declared.fault.FaultKind.{FaultKind}
 use Rattle.wire_def.specs.declared.fault.FaultKind.TheVariants.{BadValue}
 use Rattle.wire_def.specs.Grammar.{Reader, Spelling, Stopping, Parts, SpellTimes, IsGrammar}
-use Rattle.wire_def.specs.Scalars.{ScalarSpells, ScalarStops, scalar_place}
+use Rattle.wire_def.specs.Scalars.{ScalarSpells}
+use Rattle.wire_def.specs.Lone.{LoneSpells, LoneStops}
 use Rattle.wire_def.specs.Arrays.{CountSpells, ArraySpells, kind_of}
 use Rattle.wire_def.specs.Send.{flag}
 use Rattle.wire_def.specs.Spells.{Spells, FieldsSpell, ArmSpells, TagSpells}
 use Rattle.wire_def.specs.Stops.{Stops, FieldsStop, ArmStops}
 use Rattle.wire_def.specs.Reading.{read, read_fields, read_arm, read_behind}
 use Rattle.wire_def.proofs.Grammars.{done, mapped, both_are, times_are, tested_are, reshaped}
-use Rattle.wire_def.proofs.ArrayGrammar.{ScalarsAre, count_is, array_is, times_length}
+use Rattle.wire_def.proofs.ArrayGrammar.{count_is, array_is, times_length}
+use Rattle.wire_def.proofs.LoneGrammar.{lone_is, pass_is}
 
 list_of-vals_of : (xs : List Val) → list_of (vals_of xs) ≡ xs
 list_of-vals_of [] = refl
@@ -57,12 +60,18 @@ module _ (e : Encoding) (c : Count) (t : Ty) where
 
 -- ---- flags
 
-flags : (e : Encoding) (p : ℕ) (o : List ℕ) (n : ℤ) → ScalarSpells e flag p o n → (n ≡ pos 0) ⊎ (n ≡ pos 1)
+scalar_flags : (e : Encoding) (p : ℕ) (o : List ℕ) (n : ℤ) → ScalarSpells e flag p o n → (n ≡ pos 0) ⊎ (n ≡ pos 1)
 unfolding ScalarSpells
-flags e p o (pos zero) h = inl refl
-flags e p o (pos (suc zero)) h = inr refl
-flags e p o (pos (suc (suc n))) h = absurd (omega (arith, ltb-true (suc (suc n)) 2 h.1))
-flags e p o (negsuc n) h = absurd (omega (arith, ltb-true n 0 h.1))
+scalar_flags e p o (pos zero) h = inl refl
+scalar_flags e p o (pos (suc zero)) h = inr refl
+scalar_flags e p o (pos (suc (suc n))) h = absurd (omega (arith, ltb-true (suc (suc n)) 2 h.1))
+scalar_flags e p o (negsuc n) h = absurd (omega (arith, ltb-true n 0 h.1))
+
+flags : (e : Encoding) (p : ℕ) (o : List ℕ) (n : ℤ) → LoneSpells e flag p o n → (n ≡ pos 0) ⊎ (n ≡ pos 1)
+flags Xdr p o n h = scalar_flags Xdr p o n h
+flags CdrBig p o n h = scalar_flags CdrBig p o n h
+flags CdrLittle p o n h = scalar_flags CdrLittle p o n h
+flags Mach p o n (a, b, is, first, (c, d, is', second, third)) = scalar_flags Mach (p + length a) c n second
 
 -- what may stand behind a flag
 BehindSpells : Spelling Val → ℤ → Spelling Val
@@ -80,7 +89,7 @@ behind_is g (pos (suc n)) = mapped present _ g (λ p o x h. (x, refl, h)) (λ p 
 behind_is g (negsuc n) = mapped present _ g (λ p o x h. (x, refl, h)) (λ p o y h. h)
 
 module _ (e : Encoding) (t : Ty) where
-  maybe_forth : (p : ℕ) (o : List ℕ) (n : ℤ) (v : Val) (a b : List ℕ) → o ≡ a ++ b → ScalarSpells e flag p a n → BehindSpells (Spells e t) n (p + length a) b v → Spells e (maybe_type t) p o v
+  maybe_forth : (p : ℕ) (o : List ℕ) (n : ℤ) (v : Val) (a b : List ℕ) → o ≡ a ++ b → LoneSpells e flag p a n → BehindSpells (Spells e t) n (p + length a) b v → Spells e (maybe_type t) p o v
   unfolding BehindSpells
   maybe_forth p o (pos zero) v a b is first (none, same) =
       rw (← same, is, none, append-nil) first
@@ -88,13 +97,13 @@ module _ (e : Encoding) (t : Ty) where
   maybe_forth p o (pos (suc (suc n))) v a b is first second = elim (flags e p a (pos (suc (suc n))) first) [ inl h ↦ absurd cc | inr h ↦ absurd cc ]
   maybe_forth p o (negsuc n) v a b is first second = elim (flags e p a (negsuc n) first) [ inl h ↦ absurd cc | inr h ↦ absurd cc ]
 
-  maybe_back : (p : ℕ) (o : List ℕ) (v : Val) → Spells e (maybe_type t) p o v → (x : ℤ × Val) × (x.1 ≡ v) × Parts p o (λ a. ScalarSpells e flag p a x.0) (λ q b. BehindSpells (Spells e t) x.0 q b x.1)
+  maybe_back : (p : ℕ) (o : List ℕ) (v : Val) → Spells e (maybe_type t) p o v → (x : ℤ × Val) × (x.1 ≡ v) × Parts p o (λ a. LoneSpells e flag p a x.0) (λ q b. BehindSpells (Spells e t) x.0 q b x.1)
   unfolding BehindSpells
   maybe_back p o absent h = ((pos 0, absent), refl, (o, [], sym (append-nil o), h, (refl, refl)))
   maybe_back p o (present v) (a, b, is, first, second) = ((pos 1, present v), refl, (a, b, is, first, (v, refl, second)))
   maybe_back p o _ h = absurd h
 
-  maybe_stops_to : (p : ℕ) (o : List ℕ) (k : FaultKind) (at : ℕ) (n : ℤ) (a b : List ℕ) → o ≡ a ++ b → ScalarSpells e flag p a n → BehindStops (Stops e t) n (p + length a) b k at → Stops e (maybe_type t) p o k at
+  maybe_stops_to : (p : ℕ) (o : List ℕ) (k : FaultKind) (at : ℕ) (n : ℤ) (a b : List ℕ) → o ≡ a ++ b → LoneSpells e flag p a n → BehindStops (Stops e t) n (p + length a) b k at → Stops e (maybe_type t) p o k at
   unfolding BehindStops
   maybe_stops_to p o k at (pos zero) a b is first f = absurd f
   maybe_stops_to p o k at (pos (suc zero)) a b is first f = inr (a, b, is, first, f)
@@ -102,20 +111,20 @@ module _ (e : Encoding) (t : Ty) where
   maybe_stops_to p o k at (negsuc n) a b is first f = elim (flags e p a (negsuc n) first) [ inl h ↦ absurd cc | inr h ↦ absurd cc ]
 
   maybe_stops : (p : ℕ) (o : List ℕ) (k : FaultKind) (at : ℕ)
-      → Stops e (maybe_type t) p o k at ↔ (ScalarStops e flag p o k at ⊎ ((n : ℤ) × Parts p o (λ a. ScalarSpells e flag p a n) (λ q b. BehindStops (Stops e t) n q b k at)))
+      → Stops e (maybe_type t) p o k at ↔ (LoneStops e flag p o k at ⊎ ((n : ℤ) × Parts p o (λ a. LoneSpells e flag p a n) (λ q b. BehindStops (Stops e t) n q b k at)))
   unfolding BehindStops
   maybe_stops p o k at = (to, from) where
-    to : Stops e (maybe_type t) p o k at → ScalarStops e flag p o k at ⊎ ((n : ℤ) × Parts p o (λ a. ScalarSpells e flag p a n) (λ q b. BehindStops (Stops e t) n q b k at))
+    to : Stops e (maybe_type t) p o k at → LoneStops e flag p o k at ⊎ ((n : ℤ) × Parts p o (λ a. LoneSpells e flag p a n) (λ q b. BehindStops (Stops e t) n q b k at))
     to (inl f) = inl f
     to (inr h) = inr (pos 1, h)
 
-    from : ScalarStops e flag p o k at ⊎ ((n : ℤ) × Parts p o (λ a. ScalarSpells e flag p a n) (λ q b. BehindStops (Stops e t) n q b k at)) → Stops e (maybe_type t) p o k at
+    from : LoneStops e flag p o k at ⊎ ((n : ℤ) × Parts p o (λ a. LoneSpells e flag p a n) (λ q b. BehindStops (Stops e t) n q b k at)) → Stops e (maybe_type t) p o k at
     from (inl f) = inl f
     from (inr (n, (a, b, is, first, f))) = maybe_stops_to p o k at n a b is first f
 
 -- ---- the values of each type
 
-scalar_back : (e : Encoding) (s : Scalar) (p : ℕ) (o : List ℕ) (v : Val) → Spells e (scalar_type s) p o v → (n : ℤ) × (num n ≡ v) × ScalarSpells e s p o n
+scalar_back : (e : Encoding) (s : Scalar) (p : ℕ) (o : List ℕ) (v : Val) → Spells e (scalar_type s) p o v → (n : ℤ) × (num n ≡ v) × LoneSpells e s p o n
 scalar_back e s p o (num n) h = (n, refl, h)
 scalar_back e s p o _ h = absurd h
 
@@ -157,21 +166,21 @@ no_arm e n = record {
 mutual
   unfolding read
 
-  pub type_is : (e : Encoding) → ScalarsAre e → (t : Ty) → IsGrammar (read e t) (Spells e t) (Stops e t)
-  type_is e g void_type = done void _ (λ p. refl) (void_only e)
-  type_is e g (scalar_type s) = mapped num _ (g s) (λ p o x h. h) (scalar_back e s)
-  type_is e g (array_type a) = mapped (row (kind_of a)) _ (array_is e g a) (λ p o x h. (refl, h)) (array_back e a)
-  type_is e g (group_type ts) = mapped group _ (fields_are e g ts) (λ p o x h. h) (group_back e ts)
-  type_is e g (items_type c t) = mapped (λ x. items (vals_of x.1)) _ (both_are (count_is e g c) (λ n. times_are n (type_is e g t))) (items_forth e c t) (items_back e c t)
-  type_is e g (choice_type s arms) = mapped (λ x. arm x.0 x.1) _ (both_are (tested_are (has_arm arms) BadValue (scalar_place e s) (g s)) (λ n. arm_is e g arms n)) (λ p o x h. h) (choice_back e s arms)
-  type_is e g (maybe_type t) = reshaped (mapped (λ x. x.1) (Spells e (maybe_type t)) (both_are (g flag) (λ n. behind_is (type_is e g t) n)) (λ p o x h. maybe_forth e t p o x.0 x.1 h.0 h.1 h.2 h.3 h.4) (maybe_back e t))
+  pub type_is : (e : Encoding) → (t : Ty) → IsGrammar (read e t) (Spells e t) (Stops e t)
+  type_is e void_type = done void _ (λ p. refl) (void_only e)
+  type_is e (scalar_type s) = mapped num _ (lone_is e s) (λ p o x h. h) (scalar_back e s)
+  type_is e (array_type a) = mapped (row (kind_of a)) _ (array_is e a) (λ p o x h. (refl, h)) (array_back e a)
+  type_is e (group_type ts) = mapped group _ (fields_are e ts) (λ p o x h. h) (group_back e ts)
+  type_is e (items_type c t) = mapped (λ x. items (vals_of x.1)) _ (both_are (count_is e c) (λ n. times_are n (type_is e t))) (items_forth e c t) (items_back e c t)
+  type_is e (choice_type s arms) = mapped (λ x. arm x.0 x.1) _ (both_are (pass_is e s (has_arm arms) BadValue) (λ n. arm_is e arms n)) (λ p o x h. h) (choice_back e s arms)
+  type_is e (maybe_type t) = reshaped (mapped (λ x. x.1) (Spells e (maybe_type t)) (both_are (lone_is e flag) (λ n. behind_is (type_is e t) n)) (λ p o x h. maybe_forth e t p o x.0 x.1 h.0 h.1 h.2 h.3 h.4) (maybe_back e t))
       (λ p o. refl) (λ p o x h. h) (λ p o x h. h) (λ p o k at. (maybe_stops e t p o k at).0) (λ p o k at. (maybe_stops e t p o k at).1)
 
-  pub fields_are : (e : Encoding) → ScalarsAre e → (ts : Tys) → IsGrammar (read_fields e ts) (FieldsSpell e ts) (FieldsStop e ts)
-  fields_are e g no_fields = done no_more _ (λ p. refl) (none_only e)
-  fields_are e g (field t ts) = mapped (λ x. val x.0 x.1) _ (both_are (type_is e g t) (λ v. fields_are e g ts)) (λ p o x h. h) (field_back e t ts)
+  pub fields_are : (e : Encoding) → (ts : Tys) → IsGrammar (read_fields e ts) (FieldsSpell e ts) (FieldsStop e ts)
+  fields_are e no_fields = done no_more _ (λ p. refl) (none_only e)
+  fields_are e (field t ts) = mapped (λ x. val x.0 x.1) _ (both_are (type_is e t) (λ v. fields_are e ts)) (λ p o x h. h) (field_back e t ts)
 
-  pub arm_is : (e : Encoding) → ScalarsAre e → (arms : Arms) (n : ℤ) → IsGrammar (read_arm e arms n) (ArmSpells e arms n) (ArmStops e arms n)
-  arm_is e g no_other n = no_arm e n
-  arm_is e g (others t) n = type_is e g t
-  arm_is e g (arm_type m t arms) n = chosen (int_eq n m) (type_is e g t) (arm_is e g arms n)
+  pub arm_is : (e : Encoding) → (arms : Arms) (n : ℤ) → IsGrammar (read_arm e arms n) (ArmSpells e arms n) (ArmStops e arms n)
+  arm_is e no_other n = no_arm e n
+  arm_is e (others t) n = type_is e t
+  arm_is e (arm_type m t arms) n = chosen (int_eq n m) (type_is e t) (arm_is e arms n)

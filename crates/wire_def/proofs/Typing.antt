@@ -13,11 +13,14 @@ use Rattle.mint.specs.Values.{Val, void, num, row, group, items, arm, absent, pr
 use Rattle.mint.specs.Types.{Scalar, number, Array, text, row_of, Ty, void_type, scalar_type, array_type, group_type, items_type, choice_type, maybe_type, Tys, no_fields, field, Arms, no_other, others, arm_type}
 use Rattle.mint.specs.Typed.{IsScalar, IsArray, IsOf, AreOf, IsOfArm, Each}
 use Rattle.wire_def.specs.declared.encoding.Encoding.{Encoding}
+use Rattle.wire_def.specs.declared.encoding.Encoding.TheVariants.{Xdr, CdrBig, CdrLittle, Mach}
 use Rattle.wire_def.specs.Grammar.{Spelling, AreOctets, SpellTimes}
 use Rattle.wire_def.specs.Scalars.{ScalarSpells}
-use Rattle.wire_def.specs.Arrays.{counted, CountSpells, OctetSpells, count_of, kind_of, may_stand, ElementSpells, ArraySpells}
+use Rattle.wire_def.specs.Lone.{LoneSpells}
+use Rattle.wire_def.specs.Arrays.{counted, CountSpells, EndedSpells, HeadSpells, OctetSpells, count_of, kind_of, may_stand, ElementSpells, ArraySpells}
 use Rattle.wire_def.specs.Spells.{Spells, FieldsSpell, ArmSpells}
 use Rattle.wire_def.proofs.Grammars.{octets_behind, octets_before}
+use Rattle.wire_def.proofs.DescribedGrammar.{allows, described_typed}
 use Rattle.wire_def.proofs.Sent.{is_element}
 
 both_true : (a b : Bool) → a ≡ true → b ≡ true → a && b ≡ true
@@ -32,11 +35,31 @@ scalar_typed : (e : Encoding) (s : Scalar) (p : ℕ) (o : List ℕ) (n : ℤ) �
 unfolding ScalarSpells
 scalar_typed e s p o n h = h.1
 
+lone_typed : (e : Encoding) (s : Scalar) (p : ℕ) (o : List ℕ) (n : ℤ) → LoneSpells e s p o n → IsScalar s n
+lone_typed Xdr s p o n h = scalar_typed Xdr s p o n h
+lone_typed CdrBig s p o n h = scalar_typed CdrBig s p o n h
+lone_typed CdrLittle s p o n h = scalar_typed CdrLittle s p o n h
+lone_typed Mach s p o n (a, b, is, first, (c, d, is', second, third)) = scalar_typed Mach s (p + length a) c n second
+
 count_typed : (e : Encoding) (c : Count) (p : ℕ) (o : List ℕ) (n : ℕ) → CountSpells e c p o n → Allows c n
 unfolding CountSpells
 count_typed e (Exactly m) p o n h = sym h.1
-count_typed e (AtMost m) p o n h = (leb-true n m h.1, ltb-true n 4294967296 (scalar_typed e counted p o (pos n) h.0))
-count_typed e Any p o n h = ltb-true n 4294967296 (scalar_typed e counted p o (pos n) h)
+count_typed e (AtMost m) p o n h = (leb-true n m h.1, ltb-true n 4294967296 (lone_typed e counted p o (pos n) h.0))
+count_typed e Any p o n h = ltb-true n 4294967296 (lone_typed e counted p o (pos n) h)
+
+ended_typed : (e : Encoding) (c : Count) (p : ℕ) (o : List ℕ) (n : ℕ) → EndedSpells e c p o n → Allows c n
+ended_typed e c p o n (first, ok) =
+    let many : suc n < 4294967296 = ltb-true (suc n) 4294967296 (scalar_typed e counted p o (pos (suc n)) first) in
+    allows c n (omega arith) ok
+
+head_typed : (e : Encoding) (a : Array) (p : ℕ) (o : List ℕ) (n : ℕ) → HeadSpells e a p o n → Allows (count_of a) n
+unfolding HeadSpells
+head_typed Xdr a p o n h = count_typed Xdr (count_of a) p o n h
+head_typed Mach a p o n h = described_typed (count_of a) (number (kind_of a)) p o n h
+head_typed CdrBig (text c) p o n h = ended_typed CdrBig c p o n h
+head_typed CdrBig (row_of k c) p o n h = count_typed CdrBig c p o n h
+head_typed CdrLittle (text c) p o n h = ended_typed CdrLittle c p o n h
+head_typed CdrLittle (row_of k c) p o n h = count_typed CdrLittle c p o n h
 
 octet_fits : (test : ℕ → Bool) (p : ℕ) (o : List ℕ) (n : ℤ) → AreOctets o → OctetSpells test p o n → (b : ℕ) × (n ≡ pos b) × (b < 256) × (test b ≡ true)
 unfolding OctetSpells
@@ -75,7 +98,7 @@ unfolding ArraySpells
 array_typed e a p o ns oct (x, y, is, head, (u, v, is', elements, tail)) =
     let behind = octets_behind x y (rw is at oct) in
     let there = octets_before u v (rw is' at behind) in
-    (count_typed e (count_of a) p x (length ns) head, elements_typed (ElementSpells e a) (is_element a) (element_typed e a) (length ns) (p + length x) u ns there elements)
+    (head_typed e a p x (length ns) head, elements_typed (ElementSpells e a) (is_element a) (element_typed e a) (length ns) (p + length x) u ns there elements)
 
 row_typed : (e : Encoding) (a : Array) (p : ℕ) (o : List ℕ) (k : Kind) (ns : List ℤ) → AreOctets o → (k ≡ kind_of a) × ArraySpells e a p o ns → IsArray a k ns
 row_typed e (text c) p o k ns oct h = let m = array_typed e (text c) p o ns oct h.1 in (h.0, m.0, m.1)
@@ -90,7 +113,7 @@ each_typed S P one (val v vs) p o oct (a, b, is, first, more) =
 mutual
   pub typed : (e : Encoding) (t : Ty) (p : ℕ) (o : List ℕ) (v : Val) → AreOctets o → Spells e t p o v → IsOf t v
   typed e void_type p o void oct h = tt
-  typed e (scalar_type s) p o (num n) oct h = scalar_typed e s p o n h
+  typed e (scalar_type s) p o (num n) oct h = lone_typed e s p o n h
   typed e (array_type a) p o (row k ns) oct h = row_typed e a p o k ns oct h
   typed e (group_type ts) p o (group vs) oct h = fields_typed e ts p o vs oct h
   typed e (items_type c t) p o (items vs) oct (a, b, is, first, more) =
@@ -98,7 +121,7 @@ mutual
       (count_typed e c p a (count vs) first, each_typed (Spells e t) (IsOf t) (typed e t) vs (p + length a) b (octets_behind a b whole) more)
   typed e (choice_type s arms) p o (arm n v) oct (a, b, is, first, more) =
       let whole = rw is at oct in
-      (scalar_typed e s p a n first.0, arm_typed e arms n (p + length a) b v (octets_behind a b whole) more)
+      (lone_typed e s p a n first.0, arm_typed e arms n (p + length a) b v (octets_behind a b whole) more)
   typed e (maybe_type t) p o absent oct h = tt
   typed e (maybe_type t) p o (present v) oct (a, b, is, first, more) =
       let whole = rw is at oct in

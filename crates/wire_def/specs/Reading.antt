@@ -7,14 +7,14 @@ use Rattle.mint.specs.Typed.{has_arm}
 use Rattle.wire_def.specs.declared.encoding.Encoding.{Encoding}
 use Rattle.wire_def.specs.declared.fault.FaultKind.{FaultKind}
 use Rattle.wire_def.specs.declared.fault.FaultKind.TheVariants.{BadValue}
-use Rattle.wire_def.specs.Grammar.{Reading, got, stop, Reader, map_got, both, times, tested}
-use Rattle.wire_def.specs.Scalars.{read_scalar, scalar_place}
+use Rattle.wire_def.specs.Grammar.{Reading, got, stop, Reader, map_got, both, times}
+use Rattle.wire_def.specs.Lone.{read_lone, read_pass}
 use Rattle.wire_def.specs.Arrays.{read_count, read_array, kind_of}
 use Rattle.wire_def.specs.Send.{flag}
 
 -- a discriminant that has an arm, read from a position
 abbrev pub read_tag : Encoding → Scalar → Arms → Reader FaultKind ℤ
-read_tag e s arms = tested (read_scalar e s) (has_arm arms) BadValue (scalar_place e s)
+read_tag e s arms = read_pass e s (has_arm arms) BadValue
 
 -- the value behind a flag
 abbrev pub read_behind : Reader FaultKind Val → ℤ → Reader FaultKind Val
@@ -25,12 +25,12 @@ read_behind r _ p o = map_got present (r p o)
 unfoldable mutual
   pub read : Encoding → Ty → ℕ → List ℕ → Reading FaultKind Val
   read e void_type p o = got void p o
-  read e (scalar_type s) p o = map_got num (read_scalar e s p o)
+  read e (scalar_type s) p o = map_got num (read_lone e s p o)
   read e (array_type a) p o = map_got (row (kind_of a)) (read_array e a p o)
   read e (group_type ts) p o = map_got group (read_fields e ts p o)
   read e (items_type c t) p o = map_got (λ x. items (vals_of x.1)) (both (read_count e c) (λ n. times (read e t) n) p o)
   read e (choice_type s arms) p o = map_got (λ x. arm x.0 x.1) (both (read_tag e s arms) (λ n q b. read_arm e arms n q b) p o)
-  read e (maybe_type t) p o = map_got (λ x. x.1) (both (read_scalar e flag) (λ n. read_behind (read e t) n) p o)
+  read e (maybe_type t) p o = map_got (λ x. x.1) (both (read_lone e flag) (λ n. read_behind (read e t) n) p o)
 
   pub read_fields : Encoding → Tys → ℕ → List ℕ → Reading FaultKind Vals
   read_fields e no_fields p o = got no_more p o

@@ -6,7 +6,7 @@ use Rattle.mint.specs.declared.kind.Kind.TheVariants as kind
 use Rattle.mint.specs.Types.{Scalar, number, label}
 use Rattle.mint.specs.Typed.{is_scalar, IsScalar}
 use Rattle.wire_def.specs.declared.encoding.Encoding.{Encoding}
-use Rattle.wire_def.specs.declared.encoding.Encoding.TheVariants.{Xdr, CdrBig, CdrLittle}
+use Rattle.wire_def.specs.declared.encoding.Encoding.TheVariants.{Xdr, CdrBig, CdrLittle, Mach}
 use Rattle.wire_def.specs.declared.fault.FaultKind.{FaultKind}
 use Rattle.wire_def.specs.declared.fault.FaultKind.TheVariants.{Short, BadValue}
 use Rattle.wire_def.specs.Grammar.{got, stop, Reader, Spelling, Stopping, map_got, tested, Parts}
@@ -67,9 +67,10 @@ at_least_32 w8 = w32
 at_least_32 w16 = w32
 at_least_32 w = w
 
--- the width and the alignment that a scalar travels with
+-- the width that a scalar travels with; a boolean of a Mach message is a unit of 32 bits
 abbrev pub width_of : Encoding → Scalar → Width
 width_of Xdr s = at_least_32 (own_width s)
+width_of Mach (number kind.Bool) = w32
 width_of _ s = own_width s
 
 -- what the position of a scalar is a multiple of

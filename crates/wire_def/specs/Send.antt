@@ -5,7 +5,7 @@ use Rattle.mint.specs.declared.kind.Kind.TheVariants as kind
 use Rattle.mint.specs.Values.{Val, num, row, group, items, arm, absent, present, Vals, no_more, val, count}
 use Rattle.mint.specs.Types.{Scalar, number, Ty, scalar_type, array_type, group_type, items_type, choice_type, maybe_type, Tys, field, Arms, no_other, others, arm_type}
 use Rattle.wire_def.specs.declared.encoding.Encoding.{Encoding}
-use Rattle.wire_def.specs.Scalars.{scalar_octets}
+use Rattle.wire_def.specs.Lone.{lone_octets}
 use Rattle.wire_def.specs.Arrays.{count_octets, array_octets}
 
 -- the octets, and those that begin behind them
@@ -24,13 +24,13 @@ flag = number kind.Bool
 -- the octets of a value of the type from the position; of the values of fields; of the value of the number's arm
 unfoldable mutual
   pub send : Encoding → Ty → ℕ → Val → List ℕ
-  send e (scalar_type s) p (num n) = scalar_octets e s p n
+  send e (scalar_type s) p (num n) = lone_octets e s p n
   send e (array_type a) p (row k ns) = array_octets e a p ns
   send e (group_type ts) p (group vs) = send_fields e ts p vs
   send e (items_type c t) p (items vs) = followed p (count_octets e c p (count vs)) (λ q. send_each (send e t) q vs)
-  send e (choice_type s arms) p (arm n v) = followed p (scalar_octets e s p n) (λ q. send_arm e arms n q v)
-  send e (maybe_type t) p absent = scalar_octets e flag p (pos 0)
-  send e (maybe_type t) p (present v) = followed p (scalar_octets e flag p (pos 1)) (λ q. send e t q v)
+  send e (choice_type s arms) p (arm n v) = followed p (lone_octets e s p n) (λ q. send_arm e arms n q v)
+  send e (maybe_type t) p absent = lone_octets e flag p (pos 0)
+  send e (maybe_type t) p (present v) = followed p (lone_octets e flag p (pos 1)) (λ q. send e t q v)
   send e _ p _ = []
 
   pub send_fields : Encoding → Tys → ℕ → Vals → List ℕ

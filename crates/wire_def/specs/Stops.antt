@@ -1,5 +1,5 @@
 -- The first fault of octets that no value is spelled by, and its place.
-use Rattle.std.specs.Prelude.{◌≡◌, ◌⊎◌, ℕ, ℤ, pos, List, false, MatchBool}
+use Rattle.std.specs.Prelude.{◌≡◌, ◌⊎◌, ℕ, ℤ, pos, List, MatchBool}
 use Rattle.std.specs.Ordering.{int_eq}
 use Rattle.mint.specs.Values.{Val}
 use Rattle.mint.specs.Types.{Scalar, Ty, void_type, scalar_type, array_type, group_type, items_type, choice_type, maybe_type, Tys, no_fields, field, Arms, no_other, others, arm_type}
@@ -8,26 +8,25 @@ use Rattle.wire_def.specs.declared.encoding.Encoding.{Encoding}
 use Rattle.wire_def.specs.declared.fault.FaultKind.{FaultKind}
 use Rattle.wire_def.specs.declared.fault.FaultKind.TheVariants.{BadValue}
 use Rattle.wire_def.specs.Grammar.{Stopping, Parts, StopTimes}
-use Rattle.wire_def.specs.Scalars.{ScalarSpells, ScalarStops, scalar_place}
+use Rattle.wire_def.specs.Lone.{LoneSpells, LoneStops, PassStops}
 use Rattle.wire_def.specs.Arrays.{CountSpells, CountStops, ArrayStops}
 use Rattle.wire_def.specs.Send.{flag}
 use Rattle.wire_def.specs.Spells.{Spells, TagSpells}
 
 -- a tag stops as a scalar, or has no arm
 abbrev pub TagStops : Encoding → Scalar → Arms → Stopping FaultKind
-TagStops e s arms p o k at = ScalarStops e s p o k at
-    ⊎ ((n : ℤ) × Parts p o (λ a. ScalarSpells e s p a n) (λ q b. (has_arm arms n ≡ false) × (k ≡ BadValue) × (at ≡ scalar_place e s p)))
+TagStops e s arms = PassStops e s (has_arm arms) BadValue
 
 -- the first fault of a value's octets; of the fields, behind those before it; of the number's arm
 abbrev mutual
   pub Stops : Encoding → Ty → ℕ → List ℕ → FaultKind → ℕ → Type 0
   Stops e void_type p o k at = ⊥
-  Stops e (scalar_type s) p o k at = ScalarStops e s p o k at
+  Stops e (scalar_type s) p o k at = LoneStops e s p o k at
   Stops e (array_type a) p o k at = ArrayStops e a p o k at
   Stops e (group_type ts) p o k at = FieldsStop e ts p o k at
   Stops e (items_type c t) p o k at = CountStops e c p o k at ⊎ ((n : ℕ) × Parts p o (λ a. CountSpells e c p a n) (λ q b. StopTimes (Spells e t) (Stops e t) n q b k at))
   Stops e (choice_type s arms) p o k at = TagStops e s arms p o k at ⊎ ((n : ℤ) × Parts p o (λ a. TagSpells e s arms p a n) (λ q b. ArmStops e arms n q b k at))
-  Stops e (maybe_type t) p o k at = ScalarStops e flag p o k at ⊎ Parts p o (λ a. ScalarSpells e flag p a (pos 1)) (λ q b. Stops e t q b k at)
+  Stops e (maybe_type t) p o k at = LoneStops e flag p o k at ⊎ Parts p o (λ a. LoneSpells e flag p a (pos 1)) (λ q b. Stops e t q b k at)
 
   pub FieldsStop : Encoding → Tys → ℕ → List ℕ → FaultKind → ℕ → Type 0
   FieldsStop e no_fields p o k at = ⊥

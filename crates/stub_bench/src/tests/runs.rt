@@ -4,6 +4,7 @@ ghost use Rattle.mint.specs.Types.{type_at};
 ghost use Rattle.mint.specs.Typed.{IsWellTyped};
 ghost use Rattle.mint.specs.Values.{seen};
 ghost use Rattle.hoist.specs.Seen.{AreClasses};
+ghost use Rattle.wire_def.specs.declared.encoding.Encoding.TheVariants.{Xdr};
 ghost use Rattle.stub_bench.specs.Ready.{IsBoth, IsReady};
 
 use super::lead::{HEAD, OCTETS, lead};
@@ -53,7 +54,7 @@ fn both(alloc: Global, lead: SendCode, body: &SendCode) -> Result<SendCode, NoMe
 /// The code of a message: the head of a call, and a value of the node.
 fn message(alloc: Global, table: &Mint, id: NodeId, classes: &Classes) -> Result<SendCode, NoMemory>
     requires id { id < length table.now }
-    requires classes { AreClasses table.now classes.now }
+    requires classes { AreClasses Xdr table.now classes.now }
     ensures { IfOk result (λ code. IsReady (type_at table.now id) code) }
 {
     table.types_are_sound();
@@ -61,7 +62,7 @@ fn message(alloc: Global, table: &Mint, id: NodeId, classes: &Classes) -> Result
     let body = inline(alloc, &subs, id)?;
     let head = lead(alloc)?;
     let whole = both(alloc, head, &body)?;
-    hoist(alloc, &whole, table, id, classes)
+    hoist(alloc, Encoding::Xdr, &whole, table, id, classes)
 }
 
 /// Whether octets are the head's and those of the plain walk.

@@ -11,5 +11,5 @@ choice-returns-in_ok-boxed-in-Some t c =
     let fits : SFits w128 c.in_ok-n.n = search rules in
     let same = to_z-of_z w128 c.in_ok-n.n fits in
     let found : arm_found c.args.arms.now c.args.other c.in_ok-n.n ≡ Some c.in-Some.item = sym (rw same at c.in-Some.ensures) in
-    let whole = choice_got (scalar_of c.args.tag.now) (unfolded c.args.mint.now) c.args.arms.now c.args.other c.args.at.place c.args.at.rest.now c.in_ok-n.n c.in_ok-n.next.place c.in_ok-n.next.rest.now c.in_ok-n.ensures c.in-Some.item _ _ _ found c.in_ok-inner-in-Some.ensures in
+    let whole = choice_got c.args.enc c.requires.plain (scalar_of c.args.tag.now) (unfolded c.args.mint.now) c.args.arms.now c.args.other c.args.at.place c.args.at.rest.now c.in_ok-n.n c.in_ok-n.next.place c.in_ok-n.next.rest.now c.in_ok-n.ensures c.in-Some.item _ _ _ found c.in_ok-inner-in-Some.ensures in
     rw (same, seen-Arm, c.in_ok-boxed-in-Some.ensures) whole

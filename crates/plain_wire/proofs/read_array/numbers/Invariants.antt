@@ -1,6 +1,5 @@
 use Rattle.std.proofs.Common.{◌≡◌, ◌-◌}
 use Rattle.mint.specs.Types.{number}
-use Rattle.wire_def.specs.declared.encoding.Encoding.TheVariants.{Xdr}
 use Rattle.wire_def.specs.Grammar.{times}
 use Rattle.wire_def.specs.Scalars.{read_scalar}
 use Rattle.plain_wire.proofs.Reading.{with_front}
@@ -9,5 +8,5 @@ use Rattle.plain_wire.proofs.read_array.numbers.Given as goal
 abbrev pub invariant-loop-i : goal.invariant-loop-i
 invariant-loop-i l = record {
   kind : l.row.kind ≡ l.kind;
-  told : with_front l.row.numbers (times (read_scalar Xdr (number l.kind)) (l.n - l._i) l.at.place l.at.rest.now) ≡ times (read_scalar Xdr (number l.kind)) l.n l.fn.at.place l.fn.at.rest.now;
+  told : with_front l.row.numbers (times (read_scalar l.enc (number l.kind)) (l.n - l._i) l.at.place l.at.rest.now) ≡ times (read_scalar l.enc (number l.kind)) l.n l.fn.at.place l.fn.at.rest.now;
 }

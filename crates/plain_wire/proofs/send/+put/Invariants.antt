@@ -5,7 +5,7 @@ use Rattle.mint.specs.declared.value.Value.{Value}
 use Rattle.mint.specs.Values.{all_seen}
 use Rattle.mint.specs.Types.{type_at, unfolded, fields_at}
 use Rattle.mint.specs.Typed.{IsOf, AreOf, Each}
-use Rattle.wire_def.specs.declared.encoding.Encoding.TheVariants.{Xdr}
+use Rattle.wire_def.specs.declared.encoding.Encoding.{Encoding}
 use Rattle.wire_def.specs.Send.{send, send_fields, send_each}
 use Rattle.plain_wire.proofs.send.+put.Given as goal
 
@@ -30,20 +30,20 @@ decreases-put_arm l = l.id + l.id + l.id
 abbrev pub decreases-put_present : goal.decreases-put_present
 decreases-put_present l = l.id + l.id + l.id
 
-pub record FieldsLeft (T : List Node) (ids : List ℕ) (values : List Value) (old new : List ℕ) (place at i : ℕ) : Type 0 where
+pub record FieldsLeft (e : Encoding) (T : List Node) (ids : List ℕ) (values : List Value) (old new : List ℕ) (place at i : ℕ) : Type 0 where
   pub typed : AreOf (fields_at (unfolded T) (drop i ids)) (all_seen (drop i values))
-  pub told : old ++ send_fields Xdr (fields_at (unfolded T) ids) place (all_seen values) ≡ new ++ send_fields Xdr (fields_at (unfolded T) (drop i ids)) at (all_seen (drop i values))
+  pub told : old ++ send_fields e (fields_at (unfolded T) ids) place (all_seen values) ≡ new ++ send_fields e (fields_at (unfolded T) (drop i ids)) at (all_seen (drop i values))
   pub placed : at + length old ≡ place + length new
   pub grown : length old ≤ length new
 
 abbrev pub invariant-put_fields-loop-i : goal.invariant-put_fields-loop-i
-invariant-put_fields-loop-i l = FieldsLeft l.mint l.ids l.values l.fn.out l.out l.place l.at l.i
+invariant-put_fields-loop-i l = FieldsLeft l.enc l.mint l.ids l.values l.fn.out l.out l.place l.at l.i
 
-pub record EachLeft (T : List Node) (item : ℕ) (values : List Value) (old new : List ℕ) (place at i : ℕ) : Type 0 where
+pub record EachLeft (e : Encoding) (T : List Node) (item : ℕ) (values : List Value) (old new : List ℕ) (place at i : ℕ) : Type 0 where
   pub typed : Each (IsOf (type_at T item)) (all_seen (drop i values))
-  pub told : old ++ send_each (send Xdr (type_at T item)) place (all_seen values) ≡ new ++ send_each (send Xdr (type_at T item)) at (all_seen (drop i values))
+  pub told : old ++ send_each (send e (type_at T item)) place (all_seen values) ≡ new ++ send_each (send e (type_at T item)) at (all_seen (drop i values))
   pub placed : at + length old ≡ place + length new
   pub grown : length old ≤ length new
 
 abbrev pub invariant-put_each-loop-value : goal.invariant-put_each-loop-value
-invariant-put_each-loop-value l = EachLeft l.mint l.item l.value-items l.fn.out l.out l.place l.at l.value-index
+invariant-put_each-loop-value l = EachLeft l.enc l.mint l.item l.value-items l.fn.out l.out l.place l.at l.value-index

@@ -4,7 +4,6 @@ use Rattle.kit_base.specs.declared.errors.NoMemory.{NoMemory}
 use Rattle.mint.specs.Types.{type_at}
 use Rattle.mint.specs.Values.{seen}
 use Rattle.wire_def.specs.Send.{send}
-use Rattle.wire_def.specs.declared.encoding.Encoding.TheVariants.{Xdr}
 use Rattle.plain_wire.specs.Sending.{IsPrefixed}
 use Rattle.plain_wire.proofs.Steps.{appended}
 use Rattle.plain_wire.proofs.send.plain_send.Goals as goal
@@ -15,7 +14,7 @@ on_err (Err e) h = h
 
 pub returns-in_err-put_value-clause-err : goal.returns-in_err-put_value-clause-err
 returns-in_err-put_value-clause-err c =
-    let o = send Xdr (type_at c.args.mint.now c.args.id) c.args.pos (seen c.args.value.now) in
+    let o = send c.args.enc (type_at c.args.mint.now c.args.id) c.args.pos (seen c.args.value.now) in
     let cut = c.in_err-put_value.ensures in
     let prefix : IsPrefixed c.args.out.now c.put_value.new.out o = appended c.args.out.now c.put_value.new.out o cut.0 cut.1 cut.2 in
-    rw c.requires.xdr (on_err c.from_residual.result prefix)
+    (on_err c.from_residual.result prefix)

@@ -1,5 +1,5 @@
-use Rattle.wire_def.proofs.Xdr.{xdr_none_begins}
+use Rattle.wire_def.proofs.Encodings.{none_begins}
 use Rattle.wire_def.proofs.laws.no_spelling_begins_another.Goals as goal
 
 pub returns : goal.returns
-returns c = xdr_none_begins
+returns c = none_begins

@@ -1,5 +1,5 @@
-use Rattle.wire_def.proofs.Xdr.{xdr_sent}
+use Rattle.wire_def.proofs.Encodings.{sent_spells}
 use Rattle.wire_def.proofs.laws.sent_is_spelled.Goals as goal
 
 pub returns : goal.returns
-returns c = xdr_sent
+returns c = sent_spells

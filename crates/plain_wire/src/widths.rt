@@ -1,0 +1,111 @@
+//! How many octets a number has, and how many stand in front of it.
+
+ghost use Rattle.std.specs.Prelude.{◌≡◌, ◌<◌};
+ghost use Rattle.mint.specs.Types.{number, row_of, text};
+ghost use Rattle.mint.specs.declared.kind.Count.{Count};
+ghost use Rattle.wire_def.specs.Scalars.{gap, alignment_of, is_signed, width_of};
+ghost use Rattle.wire_def.specs.Arrays.{trailing, ill_ended};
+ghost use Rattle.plain_wire.specs.Sending.{IsPlain};
+ghost use Rattle.plain_wire.specs.Widths.{width_in};
+
+use mint::kind::Kind;
+use wire_def::{Encoding, FaultKind};
+
+/// How many octets a number has.
+#[derive(Clone, Copy)]
+pub(crate) enum Size {
+    One,
+    Two,
+    Four,
+    Eight,
+}
+
+/// The octets of a kind's numbers over an encoding.
+pub(crate) fn size_of(enc: Encoding, kind: Kind) -> Size
+    ensures { width_in result ≡ width_of enc (number kind) }
+{
+    match enc {
+        Encoding::Xdr => match kind {
+            Kind::I64 | Kind::U64 => Size::Eight,
+            _ => Size::Four,
+        },
+        Encoding::Mach => match kind {
+            Kind::I64 | Kind::U64 => Size::Eight,
+            Kind::I32 | Kind::U32 | Kind::Bool => Size::Four,
+            Kind::I16 | Kind::U16 => Size::Two,
+            _ => Size::One,
+        },
+        _ => match kind {
+            Kind::I64 | Kind::U64 => Size::Eight,
+            Kind::I32 | Kind::U32 => Size::Four,
+            Kind::I16 | Kind::U16 => Size::Two,
+            _ => Size::One,
+        },
+    }
+}
+
+/// The octets from a place to where a number of a kind begins.
+#[tactic(auto, using(crate::proofs::Gaps::gaps))]
+pub(crate) fn gap_of(enc: Encoding, kind: Kind, place: usize) -> usize
+    ensures is { result ≡ gap place (alignment_of enc (number kind)) }
+    ensures few { result < 8 }
+{
+    match enc {
+        Encoding::CdrBig | Encoding::CdrLittle => match kind {
+            Kind::I64 | Kind::U64 => (8 - place % 8) % 8,
+            Kind::I32 | Kind::U32 => (4 - place % 4) % 4,
+            Kind::I16 | Kind::U16 => (2 - place % 2) % 2,
+            _ => 0,
+        },
+        _ => 0,
+    }
+}
+
+/// How many octets stand behind a row's elements.
+#[tactic(auto, using(crate::proofs::Arrays::tails))]
+pub(crate) fn behind_row(enc: Encoding, kind: Kind, n: usize) -> usize
+    requires plain { IsPlain enc }
+    ensures is { (bound : Count) → result ≡ trailing enc (row_of kind bound) n }
+    ensures few { result < 8 }
+{
+    match enc {
+        Encoding::Xdr => match kind {
+            Kind::Octet => (4 - n % 4) % 4,
+            _ => 0,
+        },
+        _ => 0,
+    }
+}
+
+/// How many octets stand behind a text.
+#[tactic(auto, using(crate::proofs::Arrays::tails))]
+pub(crate) fn behind_text(enc: Encoding, n: usize) -> usize
+    requires plain { IsPlain enc }
+    ensures is { (bound : Count) → result ≡ trailing enc (text bound) n }
+    ensures few { result < 8 }
+{
+    match enc {
+        Encoding::Xdr => (4 - n % 4) % 4,
+        _ => 1,
+    }
+}
+
+/// What is wrong with an octet behind an array that is not 0.
+pub(crate) fn fault_behind(enc: Encoding) -> FaultKind
+    ensures { result ≡ ill_ended enc }
+{
+    match enc {
+        Encoding::Xdr => FaultKind::BadPad,
+        _ => FaultKind::BadText,
+    }
+}
+
+/// Whether the numbers of a kind are in two's complement.
+pub(crate) fn has_sign(kind: Kind) -> bool
+    ensures { result ≡ is_signed (number kind) }
+{
+    match kind {
+        Kind::I8 | Kind::I16 | Kind::I32 | Kind::I64 => true,
+        _ => false,
+    }
+}

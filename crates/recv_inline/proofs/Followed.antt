@@ -1,0 +1,190 @@
+-- Code that goes through a type goes through it with its calls replaced.
+use Rattle.std.proofs.Common.{◌≡◌, inl, inr, ℕ, zero, suc, ◌+◌, ◌<◌, ◌≤◌, List, [], ◌∷◌, ◌++◌, map, length, Option, Some, None, option_map, refl, sym, ap, subst, ◌∙◌, arith, append_assoc}
+use Rattle.std.proofs.lemmas.List.{length-map, append-nil}
+use Rattle.mint.specs.declared.kind.Count.{Count}
+use Rattle.mint.specs.declared.kind.Count.TheVariants.{Exactly, AtMost, Any}
+use Rattle.mint.specs.Types.{Array, Ty, void_type, scalar_type, array_type, group_type, items_type, choice_type, maybe_type, Tys, no_fields, field, Arms, no_other, others, arm_type}
+use Rattle.mint.specs.Blank.{depth, fields_depth, arms_depth}
+use Rattle.cast_stub.specs.declared.recv.Get.{Get}
+use Rattle.cast_stub.specs.RecvBlock.{Recv, finish, need, need_row, skip_any, skip_zero, pass, desc, row_block, row_wide, each, switch, if_there, call, Cases}
+use Rattle.cast_stub.specs.RecvAppend.{append, rebase, get_rebased}
+use Rattle.cast_stub.specs.Got.{no_subs}
+use Rattle.cast_stub.specs.Traces.{descs, IsFlat, IsLoop, IsCount, Going, Child, Loops, TracesBy, FieldsTraceBy, ArmsTraceBy, IsTurned}
+use Rattle.cast_stub.specs.Turned.{Layout}
+use Rattle.cast_stub.proofs.RecvAppending.{append-finish}
+use Rattle.recv_inline.specs.Spliced.{spliced, cases_spliced, spliced_or_stop, inlined}
+use Rattle.recv_inline.proofs.Blocks.{rebase-append, spliced-append}
+
+-- ---- tests, skips and takes
+
+descs-rebase : (q : List ℕ) (b : Recv) → descs (rebase q b) ≡ descs b
+descs-rebase q finish = refl
+descs-rebase q (need n r) = descs-rebase q r
+descs-rebase q (skip_any a r) = descs-rebase q r
+descs-rebase q (skip_zero a r) = descs-rebase q r
+descs-rebase q (pass n gs r) = descs-rebase q r
+descs-rebase q (desc p name size mul r) = ap (option_map suc) (descs-rebase q r)
+descs-rebase q (need_row p u e r) = refl
+descs-rebase q (row_block p o r) = refl
+descs-rebase q (row_wide p o r) = refl
+descs-rebase q (each p b r) = refl
+descs-rebase q (switch p cs r) = refl
+descs-rebase q (if_there p b r) = refl
+descs-rebase q (call k p r) = refl
+
+mapped : (f : ℕ → ℕ) (x : Option ℕ) (n : ℕ) → option_map f x ≡ Some n → (m : ℕ) × (x ≡ Some m)
+mapped f None n e = absurd cc
+mapped f (Some m) n e = (m, refl)
+
+spliced-flat : (code : ℕ → Recv) (b : Recv) (n : ℕ) → descs b ≡ Some n → spliced code b ≡ b
+spliced-flat code finish n e = refl
+spliced-flat code (need k r) n e = ap (need k) (spliced-flat code r n e)
+spliced-flat code (skip_any k r) n e = ap (skip_any k) (spliced-flat code r n e)
+spliced-flat code (skip_zero k r) n e = ap (skip_zero k) (spliced-flat code r n e)
+spliced-flat code (pass k gs r) n e = ap (pass k gs) (spliced-flat code r n e)
+spliced-flat code (desc p name size mul r) n e = let m = mapped suc (descs r) n e in ap (desc p name size mul) (spliced-flat code r m.0 m.1)
+spliced-flat code _ n e = absurd cc
+
+flat_rebased : (q : List ℕ) (b : Recv) → IsFlat b → IsFlat (rebase q b)
+flat_rebased q b h = descs-rebase q b ∙ h
+
+flat_spliced : (code : ℕ → Recv) (b : Recv) → IsFlat b → IsFlat (spliced code b)
+flat_spliced code b h = subst IsFlat (sym (spliced-flat code b 0 h)) h
+
+none_rebased : (q : List ℕ) (b : Recv) → b ≡ finish → rebase q b ≡ finish
+none_rebased q b h = ap (rebase q) h
+
+none_spliced : (code : ℕ → Recv) (b : Recv) → b ≡ finish → spliced code b ≡ finish
+none_spliced code b h = ap (spliced code) h
+
+count_rebased : (c : Count) (q : List ℕ) (b : Recv) → IsCount c b → IsCount c (rebase q b)
+count_rebased (Exactly n) q b h = ap (rebase q) h
+count_rebased (AtMost n) q b h = flat_rebased q b h
+count_rebased Any q b h = flat_rebased q b h
+
+count_spliced : (code : ℕ → Recv) (c : Count) (b : Recv) → IsCount c b → IsCount c (spliced code b)
+count_spliced code (Exactly n) b h = ap (spliced code) h
+count_spliced code (AtMost n) b h = flat_spliced code b h
+count_spliced code Any b h = flat_spliced code b h
+
+-- ---- for a part, and with calls replaced
+
+-- loops that stay what they are
+pub record AreKept (L : Loops) : Type 0 where
+  pub rebased : (a : Array) (q p : List ℕ) (b : Recv) → L a p b → L a (q ++ p) (rebase q b)
+  pub spliced_too : (code : ℕ → Recv) (a : Array) (p : List ℕ) (b : Recv) → L a p b → L a p (spliced code b)
+
+pub own : (F : Going) (below : ℕ) (p : List ℕ) (b : Recv) → Child no_subs F below p b → F below p b
+own F below p b (inl f) = f
+own F below p b (inr c) = absurd (let none = c.4 in cc)
+
+module _ (L : Loops) (kept : AreKept L) where
+  mutual
+    rebased : (t : Ty) (below : ℕ) (q p : List ℕ) (b : Recv) → TracesBy L no_subs t below p b → TracesBy L no_subs t below (q ++ p) (rebase q b)
+    rebased void_type below q p b h = none_rebased q b h
+    rebased (scalar_type s) below q p b h = flat_rebased q b h
+    rebased (array_type a) below q p b h = kept.rebased a q p b h
+    rebased (group_type ts) below q p b h = fields_rebased ts 0 below q p b h
+    rebased (items_type c t) below q p b h = (rebase q h.0, h.1, ap (rebase q) h.2 ∙ rebase-append q h.0 (each p h.1 finish), count_rebased c q h.0 h.3, h.4)
+    rebased (choice_type s arms) below q p b h = (rebase q h.0, h.1, ap (rebase q) h.2 ∙ rebase-append q h.0 (switch p h.1 finish), flat_rebased q h.0 h.3, h.4)
+    rebased (maybe_type t) below q p b h = (rebase q h.0, h.1, ap (rebase q) h.2 ∙ rebase-append q h.0 (if_there p h.1 finish), flat_rebased q h.0 h.3, h.4)
+
+    fields_rebased : (ts : Tys) (i below : ℕ) (q p : List ℕ) (b : Recv) → FieldsTraceBy L no_subs ts i below p b → FieldsTraceBy L no_subs ts i below (q ++ p) (rebase q b)
+    fields_rebased no_fields i below q p b h = ap (rebase q) h
+    fields_rebased (field t ts) i below q p b h =
+        let one = rebased t below q (p ++ i ∷ []) h.0 (own (TracesBy L no_subs t) below (p ++ i ∷ []) h.0 h.3) in (
+          rebase q h.0,
+          rebase q h.1,
+          ap (rebase q) h.2 ∙ rebase-append q h.0 h.1,
+          inl (subst (λ (x : List ℕ). TracesBy L no_subs t below x (rebase q h.0)) (sym (append_assoc q p (i ∷ []))) one),
+          fields_rebased ts (suc i) below q p h.1 h.4,
+        )
+
+  module _ (subs : ℕ → Option Recv) where
+    -- what inlining makes of code that goes through a type
+    abbrev pub Goes : Ty → Type 0
+    Goes t = (n below then : ℕ) (p : List ℕ) (b : Recv) → depth t ≤ n → TracesBy L subs t below p b → TracesBy L no_subs t then p (spliced (inlined subs n) b)
+
+    child : (t : Ty) (n below then : ℕ) (p : List ℕ) (b : Recv) → depth t < n → Goes t → Child subs (TracesBy L subs t) below p b → TracesBy L no_subs t then p (spliced (inlined subs n) b)
+    child t n below then p b lt go (inl f) = go n below then p b (omega arith) f
+    child t zero below then p b lt go (inr c) = absurd (omega (arith, lt))
+    child t (suc n) below then p b lt go (inr c) =
+        let code = spliced (inlined subs n) c.1 in
+        let body : TracesBy L no_subs t then [] code = go n c.0 then [] c.1 (omega arith) c.5 in
+        let moved : TracesBy L no_subs t then (p ++ []) (rebase p code) = rebased t then p [] code body in
+        let is : rebase p code ≡ spliced (inlined subs (suc n)) b =
+        ap (λ (o : Option Recv). rebase p (spliced_or_stop (inlined subs n) o)) (sym c.4) ∙ sym (append-finish (rebase p (inlined subs (suc n) c.0))) ∙ sym (ap (spliced (inlined subs (suc n))) c.2) in
+        subst (TracesBy L no_subs t then p) is (subst (λ (q : List ℕ). TracesBy L no_subs t then q (rebase p code)) (append-nil p) moved)
+
+    mutual
+      pub goes : (t : Ty) → Goes t
+      goes void_type n below then p b le h = none_spliced (inlined subs n) b h
+      goes (scalar_type s) n below then p b le h = flat_spliced (inlined subs n) b h
+      goes (array_type a) n below then p b le h = kept.spliced_too (inlined subs n) a p b h
+      goes (group_type ts) n below then p b le h = fields_go ts 0 n below then p b (omega arith) h
+      goes (items_type c t) n below then p b le h = (
+        spliced (inlined subs n) h.0,
+        spliced (inlined subs n) h.1,
+        ap (spliced (inlined subs n)) h.2 ∙ spliced-append (inlined subs n) h.0 (each p h.1 finish),
+        count_spliced (inlined subs n) c h.0 h.3,
+        inl (child t n below then [] h.1 (omega arith) (goes t) h.4),
+      )
+      goes (choice_type s arms) n below then p b le h = (
+        spliced (inlined subs n) h.0,
+        cases_spliced (inlined subs n) h.1,
+        ap (spliced (inlined subs n)) h.2 ∙ spliced-append (inlined subs n) h.0 (switch p h.1 finish),
+        flat_spliced (inlined subs n) h.0 h.3,
+        arms_go arms n below then h.1 (omega arith) h.4,
+      )
+      goes (maybe_type t) n below then p b le h = (
+        spliced (inlined subs n) h.0,
+        spliced (inlined subs n) h.1,
+        ap (spliced (inlined subs n)) h.2 ∙ spliced-append (inlined subs n) h.0 (if_there p h.1 finish),
+        flat_spliced (inlined subs n) h.0 h.3,
+        inl (child t n below then [] h.1 (omega arith) (goes t) h.4),
+      )
+
+      fields_go : (ts : Tys) (i n below then : ℕ) (p : List ℕ) (b : Recv) → fields_depth ts < n → FieldsTraceBy L subs ts i below p b → FieldsTraceBy L no_subs ts i then p (spliced (inlined subs n) b)
+      fields_go no_fields i n below then p b lt h = ap (spliced (inlined subs n)) h
+      fields_go (field t ts) i n below then p b lt h = (
+        spliced (inlined subs n) h.0,
+        spliced (inlined subs n) h.1,
+        ap (spliced (inlined subs n)) h.2 ∙ spliced-append (inlined subs n) h.0 h.1,
+        inl (child t n below then (p ++ i ∷ []) h.0 (omega arith) (goes t) h.3),
+        fields_go ts (suc i) n below then p h.1 (omega arith) h.4,
+      )
+
+      arms_go : (arms : Arms) (n below then : ℕ) (cs : Cases) → arms_depth arms < n → ArmsTraceBy L subs arms below cs → ArmsTraceBy L no_subs arms then (cases_spliced (inlined subs n) cs)
+      arms_go no_other n below then cs lt h = ap (cases_spliced (inlined subs n)) h
+      arms_go (others t) n below then cs lt h =
+          (spliced (inlined subs n) h.0, ap (cases_spliced (inlined subs n)) h.1, inl (child t n below then [] h.0 (omega arith) (goes t) h.2))
+      arms_go (arm_type m t arms) n below then cs lt h = (
+        spliced (inlined subs n) h.0,
+        cases_spliced (inlined subs n) h.1,
+        ap (cases_spliced (inlined subs n)) h.2,
+        inl (child t n below then [] h.0 (omega arith) (goes t) h.3),
+        arms_go arms n below then h.1 (omega arith) h.4,
+      )
+
+-- ---- loops
+
+whole : (code : ℕ → Recv) (p : List ℕ) (before turn behind b : Recv) (k m : ℕ) → b ≡ append before (each p turn behind) → descs before ≡ Some k → IsFlat turn → descs behind ≡ Some m → spliced code b ≡ b
+whole code p before turn behind b k m is x y z =
+    ap (spliced code) is ∙ spliced-append code before (each p turn behind)
+    ∙ rw (spliced-flat code before k x, spliced-flat code turn 0 y, spliced-flat code behind m z) (sym is)
+
+pub loops_kept : AreKept (λ a. IsLoop)
+loops_kept = record { rebased = moved; spliced_too = same } where
+  moved : (a : Array) (q p : List ℕ) (b : Recv) → IsLoop p b → IsLoop (q ++ p) (rebase q b)
+  moved a q p b h = (rebase q h.0, h.1, rebase q h.2, h.3, h.4, ap (rebase q) h.5 ∙ rebase-append q h.0 (each p h.1 h.2), descs-rebase q h.0 ∙ h.6, h.7, descs-rebase q h.2 ∙ h.8, h.9)
+
+  same : (code : ℕ → Recv) (a : Array) (p : List ℕ) (b : Recv) → IsLoop p b → IsLoop p (spliced code b)
+  same code a p b h = subst (IsLoop p) (sym (whole code p h.0 h.1 h.2 b h.3 h.4 h.5 h.6 h.7 h.8)) h
+
+pub turns_kept : (layout : Layout) → AreKept (IsTurned layout)
+turns_kept layout = record { rebased = moved; spliced_too = same } where
+  moved : (a : Array) (q p : List ℕ) (b : Recv) → IsTurned layout a p b → IsTurned layout a (q ++ p) (rebase q b)
+  moved a q p b h = (rebase q h.0, h.1, rebase q h.2, h.3, h.4, ap (rebase q) h.5 ∙ rebase-append q h.0 (each p h.1 h.2), descs-rebase q h.0 ∙ h.6, h.7, descs-rebase q h.2 ∙ h.8, h.9, h.10)
+
+  same : (code : ℕ → Recv) (a : Array) (p : List ℕ) (b : Recv) → IsTurned layout a p b → IsTurned layout a p (spliced code b)
+  same code a p b h = subst (IsTurned layout a p) (sym (whole code p h.0 h.1 h.2 b h.3 h.4 h.5 h.6 h.7 h.8)) h

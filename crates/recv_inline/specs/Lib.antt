@@ -1,0 +1,3 @@
+pub mod CallFree
+pub mod Inlined
+pub mod Spliced

@@ -1,0 +1,75 @@
+//! Copies of what operations hold, for a part of the value.
+
+ghost use Rattle.std.specs.Prelude.{◌≡◌, ◌++◌, map, OnOk, IfOk};
+ghost use Rattle.cast_stub.specs.RecvAppend.{append, get_rebased};
+ghost use Rattle.cast_stub.specs.RecvBlock.{finish, op_seen, code_seen};
+
+use cast_stub::{Get, Path, Gets, RecvOp, RecvOps};
+use kit_base::{NoMemory, Octets};
+use std::alloc::Global;
+
+/// The path from the whole, of a path from the part at the prefix.
+pub fn path_behind(alloc: Global, prefix: &Path, path: &Path) -> Result<Path, NoMemory>
+    ensures { IfOk result (λ p. p ≡ prefix.now ++ path.now) }
+{
+    let mut copy = Path::new(alloc);
+    copy.append(prefix.as_slice())?;
+    copy.append(path.as_slice())?;
+    Ok(copy)
+}
+
+// The same octets.
+fn copy_octets(alloc: Global, octets: &Octets) -> Result<Octets, NoMemory>
+    ensures { IfOk result (λ o. o ≡ octets.now) }
+{
+    let mut copy = Octets::new(alloc);
+    copy.append(octets.as_slice())?;
+    Ok(copy)
+}
+
+// The put for the whole, of a put for the part at the prefix.
+fn get_behind(alloc: Global, prefix: &Path, get: &Get) -> Result<Get, NoMemory>
+    ensures { IfOk result (λ p. p ≡ get_rebased prefix.now get.now) }
+{
+    match get {
+        Get::Num(off, path, width, order) => {
+            Ok(Get::Num(*off, path_behind(alloc, prefix, path)?, *width, *order))
+        }
+        Get::Tag(off, path, width, order) => {
+            Ok(Get::Tag(*off, path_behind(alloc, prefix, path)?, *width, *order))
+        }
+        Get::Flag(off, path, width, order) => {
+            Ok(Get::Flag(*off, path_behind(alloc, prefix, path)?, *width, *order))
+        }
+        Get::Count(off, path, factor, summand, width, order) => {
+            Ok(Get::Count(
+                *off,
+                path_behind(alloc, prefix, path)?,
+                *factor,
+                *summand,
+                *width,
+                *order,
+            ))
+        }
+        Get::Const(off, octets) => Ok(Get::Const(*off, copy_octets(alloc, octets)?)),
+    }
+}
+
+/// The gets for the whole, of gets for the part at the prefix.
+pub fn gets_behind(alloc: Global, prefix: &Path, gets: &Gets) -> Result<Gets, NoMemory>
+    ensures { IfOk result (λ ps. ps ≡ map (get_rebased prefix.now) gets.now) }
+{
+    let mut copy = Gets::new(alloc);
+    for get in gets.as_slice() {
+        copy.push(get_behind(alloc, prefix, get)?)?;
+    }
+    Ok(copy)
+}
+
+// Gets an operation behind the last.
+#[tactic(auto, using(crate::proofs::Adding::adding))]
+pub(crate) fn add(out: &mut RecvOps, op: RecvOp) -> Result<(), NoMemory>
+    ensures { OnOk result (code_seen out.new ≡ append (code_seen out.old) (op_seen op finish)) }
+{
+    out.push(op)
+}

@@ -1,0 +1,52 @@
+// Code that is made operation by operation.
+ghost use Rattle.std.specs.Prelude.{◌≡◌, [], ◌∷◌, OnOk, IfOk};
+ghost use Rattle.cast_stub.specs.RecvAppend.{append};
+ghost use Rattle.cast_stub.specs.RecvBlock.{finish, code_seen, op_seen, need, pass};
+ghost use Rattle.recv_lower.specs.Codes.{call_here};
+
+use cast_stub::{Path, Get, Gets, RecvOp, RecvOps};
+use kit_base::NoMemory;
+use std::alloc::Global;
+
+/// Puts an operation behind the last.
+#[tactic(auto, using(crate::proofs::Adding::adding))]
+pub(crate) fn add(out: &mut RecvOps, op: RecvOp) -> Result<(), NoMemory>
+    ensures { OnOk result (code_seen out.new ≡ append (code_seen out.old) (op_seen op finish)) }
+{
+    out.push(op)
+}
+
+/// Puts a test and a take behind the last operation, with one get.
+#[tactic(auto, using(crate::proofs::Building::building))]
+pub(crate) fn add_take(
+    alloc: Global,
+    width: u32,
+    get: Get,
+    out: &mut RecvOps,
+) -> Result<(), NoMemory>
+    ensures { OnOk result (code_seen out.new ≡ append (code_seen out.old) (need width (pass width (get ∷ []) finish))) }
+{
+    let mut gets = Gets::new(alloc);
+    gets.push(get)?;
+    add(out, RecvOp::Need(width))?;
+    add(out, RecvOp::Take(width, gets))
+}
+
+/// The path of a field.
+pub(crate) fn path_of(alloc: Global, field: u32) -> Result<Path, NoMemory>
+    ensures { IfOk result (λ p. p ≡ field ∷ []) }
+{
+    let mut path = Path::new(alloc);
+    path.push(field)?;
+    Ok(path)
+}
+
+/// A call of a node's code on the current value.
+#[tactic(auto, using(crate::proofs::Building::building))]
+pub(crate) fn call_of(alloc: Global, id: u32) -> Result<RecvOps, NoMemory>
+    ensures { IfOk result (λ code. code_seen code ≡ call_here id) }
+{
+    let mut code = RecvOps::new(alloc);
+    add(&mut code, RecvOp::Call(id, Path::new(alloc)))?;
+    Ok(code)
+}

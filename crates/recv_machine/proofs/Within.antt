@@ -1,0 +1,236 @@
+-- What is done to a part of a draft: it is taken out, changed and put back.
+use Rattle.std.proofs.Common.{◌≡◌, ◌⊎◌, inl, inr, ℕ, zero, suc, ◌+◌, ◌<◌, ◌≤◌, List, [], ◌∷◌, length, take, drop, Option, None, Some, option_map, refl, sym, ap, subst, ◌∙◌, Bool, true, false, if◌then◌else◌, arith}
+use Rattle.std.specs.Prelude.{Result, Ok, Err, nat_le, nat_eq, ◌&&◌}
+use Rattle.std.proofs.lemmas.Bool.{leb-true, leb-false, le-leb, eqb-true, eq-eqb}
+use Rattle.std.specs.Int.{Width, w8, w16, w32, w64}
+use Rattle.std.specs.Cmp.Lexicographic.{pointwise}
+use Rattle.wire_def.specs.declared.head.Order.{Order}
+use Rattle.raw_buf.specs.Buf.{IsWidth}
+use Rattle.raw_buf.specs.View.{width_in, width_as, loaded, loaded_of}
+use Rattle.cast_stub.specs.declared.recv.Get.{Get}
+use Rattle.cast_stub.specs.Parts.{on_some, IsThere}
+use Rattle.cast_stub.specs.Draft.{Draft, raw, digit, listed, lined, tagged, flagged, done, fields, Drafts, no_draft, draft}
+use Rattle.cast_stub.specs.Fill.{Place, Run, gives, refuses, strays, Filler, then_run, map_run, if_some, if_passed, at_field, in_fields, within, field_at, part, into, word_at, word_got, const_got, same_octets}
+use Rattle.recv_machine.specs.declared.errors.Halt.{Halt}
+use Rattle.recv_machine.specs.declared.errors.Halt.TheVariants.{Refused, NoMemory}
+use Rattle.recv_machine.specs.Drawn.{put_part, put_field}
+use Rattle.recv_machine.specs.Ran.{Holds, Ran, Gave}
+
+-- a part that was changed, put back
+abbrev pub replaced : List ℕ → Draft → Draft → Place → Run Draft
+replaced p d y t = if_some (put_part p y d) (λ e. gives e t)
+
+mapped : {A B C : Type 0} (h : B → C) (q : A → Option B) (z : Run A) → map_run h (then_run z (λ y t. if_some (q y) (λ e. gives e t))) ≡ then_run z (λ y t. if_some (option_map h (q y)) (λ e. gives e t))
+mapped {B = B} h q (gives y t) = either (q y) where
+  either : (o : Option B) → map_run h (if_some o (λ e. gives e t)) ≡ if_some (option_map h o) (λ e. gives e t)
+  either None = refl
+  either (Some e) = refl
+mapped h q refuses = refl
+mapped h q strays = refl
+
+module _ (f : Filler) (x : Draft) (s : Place) where
+  Is : List ℕ → Type 0
+  Is p = (d : Draft) → part p d ≡ Some x → within p f d s ≡ then_run (f x s) (λ y t. if_some (put_part p y d) (λ e. gives e t))
+
+  field_is : (p : List ℕ) → Is p → (n : ℕ) (ds : Drafts) → on_some (field_at n ds) (part p) ≡ Some x → at_field n (within p f) ds s ≡ then_run (f x s) (λ y t. if_some (put_field n p y ds) (λ e. gives e t))
+  unfolding Is
+  field_is p h n no_draft e = absurd cc
+  field_is p h zero (draft d ds) e = ap (map_run (λ z. draft z ds)) (h d e) ∙ mapped (λ z. draft z ds) (λ y. put_part p y d) (f x s)
+  field_is p h (suc n) (draft d ds) e = ap (map_run (draft d)) (field_is p h n ds e) ∙ mapped (draft d) (λ y. put_field n p y ds) (f x s)
+
+  is_all : (p : List ℕ) → Is p
+  unfolding Is
+  is_all [] d e =
+      let same : d ≡ x = cc in
+      ap (λ (z : Draft). f z s) same ∙ alone (f x s) where
+    alone : (z : Run Draft) → z ≡ then_run z (λ y t. gives y t)
+    alone (gives y t) = refl
+    alone refuses = refl
+    alone strays = refl
+  is_all (n ∷ p) (fields ds) e = ap (map_run fields) (field_is p (is_all p) n ds e) ∙ mapped fields (λ y. put_field n p y ds) (f x s)
+  is_all (n ∷ p) (raw t) e = absurd cc
+  is_all (n ∷ p) (digit a) e = absurd cc
+  is_all (n ∷ p) (listed t m) e = absurd cc
+  is_all (n ∷ p) (lined a m) e = absurd cc
+  is_all (n ∷ p) (tagged m t) e = absurd cc
+  is_all (n ∷ p) (flagged t) e = absurd cc
+  is_all (n ∷ p) (done v) e = absurd cc
+
+pub within_is : (f : Filler) (x : Draft) (s : Place) (p : List ℕ) (d : Draft) → part p d ≡ Some x → within p f d s ≡ then_run (f x s) (replaced p d)
+unfolding Is
+within_is f x s p d e = is_all f x s p d e
+
+-- ---- where there is no part
+
+map_strays : {A B : Type 0} (h : A → B) (z : Run A) → z ≡ strays → map_run h z ≡ strays
+map_strays h z e = ap (map_run h) e
+
+no_field : (f : Filler) (s : Place) (p : List ℕ) → ((d : Draft) → part p d ≡ None → within p f d s ≡ strays) → (n : ℕ) (ds : Drafts) → on_some (field_at n ds) (part p) ≡ None → at_field n (within p f) ds s ≡ strays
+no_field f s p h n no_draft e = refl
+no_field f s p h zero (draft d ds) e = map_strays (λ z. draft z ds) (within p f d s) (h d e)
+no_field f s p h (suc n) (draft d ds) e = map_strays (draft d) (at_field n (within p f) ds s) (no_field f s p h n ds e)
+
+pub no_part : (f : Filler) (s : Place) (p : List ℕ) (d : Draft) → part p d ≡ None → within p f d s ≡ strays
+no_part f s [] d e = absurd cc
+no_part f s (n ∷ p) (fields ds) e = map_strays fields (at_field n (within p f) ds s) (no_field f s p (no_part f s p) n ds e)
+no_part f s (n ∷ p) (raw t) e = refl
+no_part f s (n ∷ p) (digit a) e = refl
+no_part f s (n ∷ p) (listed t m) e = refl
+no_part f s (n ∷ p) (lined a m) e = refl
+no_part f s (n ∷ p) (tagged m t) e = refl
+no_part f s (n ∷ p) (flagged t) e = refl
+no_part f s (n ∷ p) (done v) e = refl
+
+pub within_there : (f : Filler) (s : Place) (p : List ℕ) (d : Draft) → Holds (within p f d s) → IsThere (part p d)
+within_there f s p d h = checked (part p d) refl where
+  checked : (o : Option Draft) → part p d ≡ o → IsThere o
+  checked (Some x) e = tt
+  checked None e = subst Holds (no_part f s p d e) h
+
+pub first_holds : {A B : Type 0} (x : Run A) (f : A → Place → Run B) → Holds (then_run x f) → Holds x
+first_holds (gives y t) f h = tt
+first_holds refuses f h = tt
+first_holds strays f h = h
+
+pub within_holds : (f : Filler) (s : Place) (p : List ℕ) (d x : Draft) → part p d ≡ Some x → Holds (within p f d s) → Holds (f x s)
+within_holds f s p d x e h = first_holds (f x s) (replaced p d) (subst Holds (within_is f x s p d e) h)
+
+-- ---- and it can be put back
+
+there_map : {A B : Type 0} (h : A → B) (o : Option A) → IsThere o → IsThere (option_map h o)
+there_map h (Some a) t = tt
+there_map h None t = absurd t
+
+put_field_there : (p : List ℕ) (y x : Draft) → ((d : Draft) → part p d ≡ Some x → IsThere (put_part p y d)) → (n : ℕ) (ds : Drafts) → on_some (field_at n ds) (part p) ≡ Some x → IsThere (put_field n p y ds)
+put_field_there p y x h n no_draft e = absurd cc
+put_field_there p y x h zero (draft d ds) e = there_map (λ z. draft z ds) (put_part p y d) (h d e)
+put_field_there p y x h (suc n) (draft d ds) e = there_map (draft d) (put_field n p y ds) (put_field_there p y x h n ds e)
+
+pub put_is_there : (p : List ℕ) (y x d : Draft) → part p d ≡ Some x → IsThere (put_part p y d)
+put_is_there [] y x d e = tt
+put_is_there (n ∷ p) y x (fields ds) e = there_map fields (put_field n p y ds) (put_field_there p y x (put_is_there p y x) n ds e)
+put_is_there (n ∷ p) y x (raw t) e = absurd cc
+put_is_there (n ∷ p) y x (digit a) e = absurd cc
+put_is_there (n ∷ p) y x (listed t m) e = absurd cc
+put_is_there (n ∷ p) y x (lined a m) e = absurd cc
+put_is_there (n ∷ p) y x (tagged m t) e = absurd cc
+put_is_there (n ∷ p) y x (flagged t) e = absurd cc
+put_is_there (n ∷ p) y x (done v) e = absurd cc
+
+-- the part was taken out of d, which has become d'
+pub put_fits : (p : List ℕ) (y x d d' : Draft) → part p d ≡ Some x → ((z : Draft) → put_part p z d' ≡ put_part p z d) → IsThere (put_part p y d')
+put_fits p y x d d' e same = subst IsThere (sym (same y)) (put_is_there p y x d e)
+
+pub at_gives : (f : Filler) (p : List ℕ) (d d' x y e : Draft) (s t : Place) → part p d ≡ Some x → ((z : Draft) → put_part p z d' ≡ put_part p z d) → f x s ≡ gives y t → put_part p y d' ≡ Some e → within p f d s ≡ gives e t
+at_gives f p d d' x y e s t is same ran put =
+    within_is f x s p d is ∙ ap (λ (z : Run Draft). then_run z (replaced p d)) ran ∙ ap (λ (o : Option Draft). if_some o (λ e. gives e t)) (sym (same y) ∙ put)
+
+pub at_halts : {X : Type 0} (f : Filler) (p : List ℕ) (d x e : Draft) (s t u : Place) (halt : Halt) (view : X → Draft) → part p d ≡ Some x → Gave view (Err halt) t (f x s) → Ran (Err halt) e u (within p f d s)
+at_halts f p d x e s t u Refused view is ran = within_is f x s p d is ∙ ap (λ (z : Run Draft). then_run z (replaced p d)) ran
+at_halts f p d x e s t u NoMemory view is ran = tt
+
+-- the same of a part that is changed in place
+pub at_halts_in : (f : Filler) (p : List ℕ) (d x y e : Draft) (s t u : Place) (halt : Halt) → part p d ≡ Some x → Ran (Err halt) y t (f x s) → Ran (Err halt) e u (within p f d s)
+at_halts_in f p d x y e s t u Refused is ran = within_is f x s p d is ∙ ap (λ (z : Run Draft). then_run z (replaced p d)) ran
+at_halts_in f p d x y e s t u NoMemory is ran = tt
+
+-- ---- words
+
+pub not_width : (g : Get) (off : ℕ) (p : List ℕ) (w : ℕ) (o : Order) (d : Draft) (s : Place) → width_in w ≡ None → word_got g off p w o d s ≡ refuses
+not_width g off p w o d s e = ap (λ (z : Option Width). if_passed z (λ x. if nat_le (off + w) s.near then within p (into g x (loaded o x (take w (drop off s.left)))) d s else strays)) e
+
+width_is : (w : ℕ) → IsWidth w → width_in w ≡ Some (width_as w)
+width_is w (inl e) = subst (λ (n : ℕ). width_in n ≡ Some (width_as n)) (sym e) refl
+width_is w (inr (inl e)) = subst (λ (n : ℕ). width_in n ≡ Some (width_as n)) (sym e) refl
+width_is w (inr (inr (inl e))) = subst (λ (n : ℕ). width_in n ≡ Some (width_as n)) (sym e) refl
+width_is w (inr (inr (inr e))) = subst (λ (n : ℕ). width_in n ≡ Some (width_as n)) (sym e) refl
+
+abbrev pub word_of : ℕ → ℕ → Order → Place → ℕ
+word_of off w o s = loaded_of o (width_in w) (take w (drop off s.left))
+
+word_near : (g : Get) (off : ℕ) (p : List ℕ) (w : ℕ) (o : Order) (d : Draft) (s : Place) → IsWidth w
+    → word_got g off p w o d s ≡ (if nat_le (off + w) s.near then within p (into g (width_as w) (word_of off w o s)) d s else strays)
+word_near g off p w o d s h =
+    ap (λ (z : Option Width). if_passed z (λ x. if nat_le (off + w) s.near then within p (into g x (loaded o x (take w (drop off s.left)))) d s else strays)) (width_is w h)
+    ∙ ap (λ (z : Option Width). if nat_le (off + w) s.near then within p (into g (width_as w) (loaded_of o z (take w (drop off s.left)))) d s else strays) (sym (width_is w h))
+
+pub word_fits : (g : Get) (off : ℕ) (p : List ℕ) (w : ℕ) (o : Order) (d : Draft) (s : Place) → IsWidth w → Holds (word_got g off p w o d s) → off + w ≤ s.near
+word_fits g off p w o d s h holds = checked (nat_le (off + w) s.near) refl (subst Holds (word_near g off p w o d s h) holds) where
+  checked : (b : Bool) → nat_le (off + w) s.near ≡ b → Holds (if b then within p (into g (width_as w) (word_of off w o s)) d s else strays) → off + w ≤ s.near
+  checked true e k = leb-true (off + w) s.near e
+  checked false e k = absurd k
+
+pub word_is : (g : Get) (off : ℕ) (p : List ℕ) (w : ℕ) (o : Order) (d : Draft) (s : Place) → IsWidth w → off + w ≤ s.near → word_got g off p w o d s ≡ within p (into g (width_as w) (word_of off w o s)) d s
+word_is g off p w o d s h near =
+    word_near g off p w o d s h ∙ ap (λ (b : Bool). if b then within p (into g (width_as w) (word_of off w o s)) d s else strays) (le-leb (off + w) s.near near)
+
+-- a word that is taken, for the part at a path
+module _ (g : Get) (off : ℕ) (p q : List ℕ) (w : ℕ) (o : Order) (d : Draft) (s : Place) (wide : IsWidth w) (same : q ≡ p) (holds : Holds (word_got g off p w o d s)) where
+  held : Holds (word_got g off q w o d s)
+  held = subst (λ (r : List ℕ). Holds (word_got g off r w o d s)) (sym same) holds
+
+  near : off + w ≤ s.near
+  near = word_fits g off q w o d s wide held
+
+  within_so : word_got g off p w o d s ≡ within q (into g (width_as w) (word_of off w o s)) d s
+  within_so = ap (λ (r : List ℕ). word_got g off r w o d s) (sym same) ∙ word_is g off q w o d s wide near
+
+  inner : Holds (within q (into g (width_as w) (word_of off w o s)) d s)
+  inner = subst Holds within_so holds
+
+  pub word_there : IsThere (part q d)
+  word_there = within_there (into g (width_as w) (word_of off w o s)) s q d inner
+
+  pub word_holds : (m : ℕ) (x : Draft) → m ≡ word_of off w o s → part q d ≡ Some x → Holds (into g (width_as w) m x s)
+  word_holds m x is e = subst (λ (n : ℕ). Holds (into g (width_as w) n x s)) (sym is) (within_holds (into g (width_as w) (word_of off w o s)) s q d x e inner)
+
+  pub word_gives : (m : ℕ) (d' x y e : Draft) → m ≡ word_of off w o s → part q d ≡ Some x → ((z : Draft) → put_part q z d' ≡ put_part q z d) → into g (width_as w) m x s ≡ gives y s → put_part q y d' ≡ Some e
+      → word_got g off p w o d s ≡ gives e s
+  word_gives m d' x y e is there rest ran put =
+      within_so ∙ at_gives (into g (width_as w) (word_of off w o s)) q d d' x y e s s there rest (ap (λ (n : ℕ). into g (width_as w) n x s) (sym is) ∙ ran) put
+
+  pub word_halts : {X : Type 0} (m : ℕ) (x e : Draft) (halt : Halt) (view : X → Draft) → m ≡ word_of off w o s → part q d ≡ Some x → Gave view (Err halt) s (into g (width_as w) m x s) → Ran (Err halt) e s (word_got g off p w o d s)
+  word_halts m x e halt view is there ran =
+      subst (λ (z : Run Draft). Ran (Err halt) e s z) (sym within_so)
+      (at_halts (into g (width_as w) (word_of off w o s)) q d x e s s s halt view there (subst (λ (n : ℕ). Gave view (Err halt) s (into g (width_as w) n x s)) is ran))
+
+-- ---- octets that must be these
+
+pub same_alike : (a b : List ℕ) → same_octets a b ≡ true → a ≡ b
+same_alike [] [] e = refl
+same_alike [] (y ∷ b) e = absurd cc
+same_alike (x ∷ a) [] e = absurd cc
+same_alike (x ∷ a) (y ∷ b) e = ap (λ (z : ℕ). z ∷ a) (eqb-true x y (first_true (nat_eq x y) (same_octets a b) e)) ∙ ap (λ (l : List ℕ). y ∷ l) (same_alike a b (second_true (nat_eq x y) (same_octets a b) e)) where
+  first_true : (g h : Bool) → (g && h) ≡ true → g ≡ true
+  first_true true h e = refl
+  first_true false h e = e
+
+  second_true : (g h : Bool) → (g && h) ≡ true → h ≡ true
+  second_true true h e = e
+  second_true false h e = absurd cc
+
+pub same_itself : (a : List ℕ) → same_octets a a ≡ true
+same_itself [] = refl
+same_itself (x ∷ a) = ap (λ (g : Bool). g && same_octets a a) (eq-eqb x x refl) ∙ same_itself a
+
+pub ruleset octets = (same_itself)
+
+pub const_fits : (off : ℕ) (os : List ℕ) (d : Draft) (s : Place) → Holds (const_got off os d s) → off + length os ≤ s.near
+const_fits off os d s h = checked (nat_le (off + length os) s.near) refl h where
+  checked : (b : Bool) → nat_le (off + length os) s.near ≡ b → Holds (if b then (if same_octets os (take (length os) (drop off s.left)) then gives d s else refuses) else strays) → off + length os ≤ s.near
+  checked true e k = leb-true (off + length os) s.near e
+  checked false e k = absurd k
+
+pub const_is : (off : ℕ) (os : List ℕ) (d : Draft) (s : Place) → off + length os ≤ s.near → const_got off os d s ≡ (if same_octets os (take (length os) (drop off s.left)) then gives d s else refuses)
+const_is off os d s h = ap (λ (b : Bool). if b then (if same_octets os (take (length os) (drop off s.left)) then gives d s else refuses) else strays) (le-leb (off + length os) s.near h)
+
+pub ruleset constants = (const_fits, const_is)
+
+alike : (a b : List ℕ) → pointwise nat_eq a b ≡ same_octets a b
+alike [] [] = refl
+alike [] (y ∷ b) = refl
+alike (x ∷ a) [] = refl
+alike (x ∷ a) (y ∷ b) = ap (λ (g : Bool). nat_eq x y && g) (alike a b)
+
+pub pointwise_alike : (a b x y : List ℕ) (n : ℕ) → a ≡ x → b ≡ take n y → n ≡ length x → pointwise nat_eq a b ≡ same_octets x (take (length x) y)
+pointwise_alike a b x y n e f g = alike a b ∙ ap (λ (l : List ℕ). same_octets l b) e ∙ ap (same_octets x) (f ∙ ap (λ (m : ℕ). take m y) g)

@@ -1,0 +1,56 @@
+use Rattle.std.proofs.Common.{◌≡◌, ◌+◌, ◌*◌, ◌-◌, ◌++◌, drop, map}
+use Rattle.mint.specs.Types.{type_at}
+use Rattle.mint.specs.Values.{seen}
+use Rattle.cast_stub.specs.RecvBlock.{code_seen}
+use Rattle.cast_stub.specs.Draft.{fresh, digit}
+use Rattle.wire_def.specs.Arrays.{kind_of}
+use Rattle.cast_stub.specs.Fill.{fill, map_run, runs, settled, settled_number}
+use Rattle.cast_stub.specs.Got.{calls_of}
+use Rattle.recv_machine.specs.Drawn.{drawn, array_at}
+use Rattle.recv_machine.specs.Ran.{place_of}
+use Rattle.recv_machine.proofs.run.+run.Given as goal
+
+abbrev pub invariant-run_block-loop-op : goal.invariant-run_block-loop-op
+invariant-run_block-loop-op l =
+    fill (calls_of l.subs l.calls) (code_seen l.op-items) (drawn l.mint l.fn.draft) (place_of l.fn.view) ≡ fill (calls_of l.subs l.calls) (code_seen (drop l.op-index l.op-items)) (drawn l.mint l.draft) (place_of l.view)
+
+abbrev pub invariant-run_items-loop : goal.invariant-run_items-loop
+invariant-run_items-loop l =
+    runs (λ u. settled (fill (calls_of l.subs l.calls) (code_seen l.body) (fresh (type_at l.mint l.item)) u)) l.n (place_of l.fn.view)
+    ≡ map_run (λ vs. map seen l.values ++ vs) (runs (λ u. settled (fill (calls_of l.subs l.calls) (code_seen l.body) (fresh (type_at l.mint l.item)) u)) (l.n - l.counter) (place_of l.view))
+
+abbrev pub decreases-run_block : goal.decreases-run_block
+decreases-run_block l = 16 * l.nested + 1
+
+abbrev pub decreases-run_op : goal.decreases-run_op
+decreases-run_op l = 16 * l.nested
+
+abbrev pub decreases-run_called : goal.decreases-run_called
+decreases-run_called l = 16 * l.nested + 2
+
+abbrev pub decreases-run_fresh : goal.decreases-run_fresh
+decreases-run_fresh l = 16 * l.nested + 2
+
+abbrev pub decreases-run_some : goal.decreases-run_some
+decreases-run_some l = 16 * l.nested + 3
+
+abbrev pub decreases-run_switch : goal.decreases-run_switch
+decreases-run_switch l = 16 * l.nested + 3
+
+abbrev pub decreases-run_items : goal.decreases-run_items
+decreases-run_items l = 16 * l.nested + 3
+
+abbrev pub decreases-run_each : goal.decreases-run_each
+decreases-run_each l = 16 * l.nested + 4
+
+abbrev pub invariant-run_numbers-loop : goal.invariant-run_numbers-loop
+invariant-run_numbers-loop l =
+    (runs (λ u. settled_number (fill (calls_of l.subs l.calls) (code_seen l.body) (digit (array_at l.mint l.id)) u)) l.n (place_of l.fn.view)
+    ≡ map_run (λ vs. l.row.numbers ++ vs) (runs (λ u. settled_number (fill (calls_of l.subs l.calls) (code_seen l.body) (digit (array_at l.mint l.id)) u)) (l.n - l.counter) (place_of l.view)))
+    × (l.row.kind ≡ kind_of (array_at l.mint l.id))
+
+abbrev pub decreases-run_digit : goal.decreases-run_digit
+decreases-run_digit l = 16 * l.nested + 2
+
+abbrev pub decreases-run_numbers : goal.decreases-run_numbers
+decreases-run_numbers l = 16 * l.nested + 3

@@ -1,0 +1,33 @@
+// The body of a number.
+ghost use Rattle.std.specs.Prelude.{◌≡◌};
+ghost use Rattle.std.specs.Option.{option_copied};
+ghost use Rattle.std.specs.Ordering.{int_eq};
+ghost use Rattle.recv_machine.specs.Picking.{Picks};
+
+use cast_stub::{RecvCases, RecvOps};
+
+/// The body of a number, or that of every other.
+pub fn body_of<'a>(
+    cases: &'a RecvCases,
+    other: &'a Option<RecvOps>,
+    n: &i128,
+) -> Option<&'a RecvOps>
+    ensures { Picks cases.now other.now n.now (option_copied result) }
+{
+    for case in cases.as_slice() {
+        if same(n, &case.0) {
+            return Some(&case.1);
+        }
+    }
+    match other {
+        Some(body) => Some(body),
+        None => None,
+    }
+}
+
+// Whether two numbers are the same.
+fn same(n: &i128, m: &i128) -> bool
+    ensures { result ≡ int_eq n.now m.now }
+{
+    *n == *m
+}

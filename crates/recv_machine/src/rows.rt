@@ -1,0 +1,132 @@
+// Tests for as many octets as a length tells.
+ghost use Rattle.std.specs.Prelude.{◌≡◌, ◌+◌, ◌*◌, option_map};
+ghost use Rattle.cast_stub.specs.Draft.{length_in, done};
+ghost use Rattle.mint.specs.Values.{seen};
+ghost use Rattle.cast_stub.specs.Fill.{in_draft, field_at, part, if_some, needed};
+ghost use Rattle.recv_machine.specs.Drawn.{drawn, all_drawn};
+ghost use Rattle.recv_machine.specs.Ran.{place_of, Holds, Ran};
+
+use crate::draft::{Filling, Fillings};
+use crate::errors::Halt;
+use cast_stub::Path;
+use mint::node::Node;
+use mint::table::Mint;
+use mint::value::Value;
+use raw_buf::RecvView;
+
+// The draft at a place.
+#[tactic(auto, using(crate::proofs::Looking::fields))]
+fn nth<'a>(mint: &Mint, fields: &'a Fillings, n: u32) -> Option<&'a Filling>
+    ensures { option_map (λ w. drawn mint.now w.now) result ≡ field_at n (all_drawn mint.now fields.now) }
+{
+    fields.get(n as usize)
+}
+
+// The draft of a field, where there is a struct that has it.
+#[tactic(auto, using(crate::proofs::Drafting::drawing))]
+fn field_of<'a>(mint: &Mint, draft: &'a Filling, n: u32) -> Option<&'a Filling>
+    ensures { option_map (λ w. drawn mint.now w.now) result ≡ in_draft n (drawn mint.now draft.now) }
+{
+    match draft {
+        Filling::Fields(fields) => nth(mint, fields, n),
+        Filling::Raw(_) => None,
+        Filling::Digit(_) => None,
+        Filling::Listed(_, _) => None,
+        Filling::Lined(_, _) => None,
+        Filling::Tagged(_, _) => None,
+        Filling::Flagged(_) => None,
+        Filling::Done(_) => None,
+    }
+}
+
+// The part at a path.
+#[tactic(auto, using(crate::proofs::Looking::parts))]
+fn part_at<'a>(mint: &Mint, draft: &'a Filling, path: &Path) -> Option<&'a Filling>
+    ensures { option_map (λ w. drawn mint.now w.now) result ≡ part path.now (drawn mint.now draft.now) }
+{
+    let mut here = draft;
+    for n in path.as_slice() {
+        match field_of(mint, here, *n) {
+            Some(next) => here = next,
+            None => return None,
+        }
+    }
+    Some(here)
+}
+
+// How many elements a list, row or text has.
+#[tactic(auto, using(crate::proofs::Looking::lengths))]
+fn length_at(mint: &Mint, draft: &Filling) -> Option<usize>
+    ensures { result ≡ length_in (drawn mint.now draft.now) }
+{
+    match draft {
+        Filling::Raw(id) => {
+            let Some(node) = mint.node(*id) else {
+                return None;
+            };
+            match node {
+                Node::Items(_, count) => Some(count.least() as usize),
+                Node::Text(count) => Some(count.least() as usize),
+                Node::Row(_, count) => Some(count.least() as usize),
+                Node::Void => None,
+                Node::Num(_) => None,
+                Node::Enum(_) => None,
+                Node::Group(_) => None,
+                Node::Choice(_, _, _) => None,
+                Node::Maybe(_) => None,
+            }
+        }
+        Filling::Listed(_, n) => Some(*n as usize),
+        Filling::Lined(_, n) => Some(*n as usize),
+        Filling::Done(value) => length_of_value(mint, value),
+        Filling::Digit(_) => None,
+        Filling::Tagged(_, _) => None,
+        Filling::Flagged(_) => None,
+        Filling::Fields(_) => None,
+    }
+}
+
+// How many elements a value has that was read.
+#[tactic(auto, using(crate::proofs::Looking::lengths))]
+fn length_of_value(mint: &Mint, value: &Value) -> Option<usize>
+    ensures { result ≡ length_in (done (seen value.now)) }
+{
+    match value {
+        Value::Items(values) => Some(values.len()),
+        Value::Row(row) => Some(row.len()),
+        Value::Void => None,
+        Value::Num(_) => None,
+        Value::Group(_) => None,
+        Value::Arm(_, _) => None,
+        Value::Opt(None) => None,
+        Value::Opt(Some(_)) => None,
+    }
+}
+
+/// Sees that so many octets follow as the length of a part, multiplied and raised.
+pub fn need_row(
+    mint: &Mint,
+    path: &Path,
+    unit: u32,
+    extra: u32,
+    draft: &Filling,
+    view: &mut RecvView<'_>,
+) -> Result<(), Halt>
+    requires { Holds (if_some (part path.now (drawn mint.now draft.now)) (λ x. if_some (length_in x) (λ n. needed (n * unit + extra) (drawn mint.now draft.now) (place_of view.old)))) }
+    ensures { Ran result (drawn mint.now draft.now) (place_of view.new) (if_some (part path.now (drawn mint.now draft.now)) (λ x. if_some (length_in x) (λ n. needed (n * unit + extra) (drawn mint.now draft.now) (place_of view.old)))) }
+{
+    let Some(part) = part_at(mint, draft, path) else {
+        unreachable!()
+    };
+    let Some(n) = length_at(mint, part) else {
+        unreachable!()
+    };
+    let wanted = (n as u128) * u128::from(unit) + u128::from(extra);
+    if wanted > (view.rest().len() as u128) {
+        return Err(Halt::Refused);
+    }
+    match view.need(wanted as usize) {
+        true => Ok(()),
+        false => Err(Halt::Refused),
+    }
+}

@@ -1,0 +1,76 @@
+// The value that a draft has become.
+ghost use Rattle.std.specs.Prelude.{◌≡◌, Some, IfOk};
+ghost use Rattle.mint.specs.Blank.{blank};
+ghost use Rattle.mint.specs.Types.{type_at};
+ghost use Rattle.mint.specs.Values.{seen, all_seen};
+ghost use Rattle.cast_stub.specs.Draft.{settle, settles};
+ghost use Rattle.cast_stub.specs.Parts.{IsThere};
+ghost use Rattle.recv_machine.specs.Drawn.{drawn, all_drawn};
+
+use crate::draft::{Filling, Fillings};
+use kit_base::NoMemory;
+use mint::blank_value::blank;
+use mint::table::Mint;
+use mint::value::{Value, Values};
+use std::alloc::Global;
+
+// The blank value of a node; there is none, where the node is not there.
+#[tactic(auto, using(crate::proofs::Becoming::settling))]
+fn blank_at(alloc: Global, mint: &Mint, id: u32) -> Result<Value, NoMemory>
+    ensures { IfOk result (λ v. seen v ≡ blank (type_at mint.now id)) }
+{
+    match mint.node(id) {
+        Some(_) => blank(alloc, mint, id),
+        None => Ok(Value::Void),
+    }
+}
+
+/// The value of a draft in which nothing waits to be filled.
+#[cycle(settle)]
+#[tactic(auto, using(crate::proofs::Becoming::settling))]
+pub fn settle(
+    alloc: Global,
+    mint: &Mint,
+    nested: u32,
+    draft: Filling,
+) -> Result<Value, NoMemory>
+    requires { IsThere (settle (drawn mint.now draft)) }
+    ensures { IfOk result (λ v. settle (drawn mint.now draft) ≡ Some (seen v)) }
+{
+    if nested == 0 {
+        return Err(NoMemory);
+    }
+    match draft {
+        Filling::Raw(id) => blank_at(alloc, mint, id),
+        Filling::Digit(_) => unreachable!(),
+        Filling::Listed(_, _) => unreachable!(),
+        Filling::Lined(_, _) => unreachable!(),
+        Filling::Tagged(_, _) => unreachable!(),
+        Filling::Flagged(_) => unreachable!(),
+        Filling::Done(value) => Ok(value),
+        Filling::Fields(fields) => {
+            Ok(Value::Group(settle_all(alloc, mint, nested - 1, fields)?))
+        }
+    }
+}
+
+#[cycle(settle)]
+#[tactic(auto, using(crate::proofs::Becoming::settling))]
+fn settle_all(
+    alloc: Global,
+    mint: &Mint,
+    nested: u32,
+    fields: Fillings,
+) -> Result<Values, NoMemory>
+    requires { IsThere (settles (all_drawn mint.now fields)) }
+    ensures { IfOk result (λ vs. settles (all_drawn mint.now fields) ≡ Some (all_seen vs)) }
+{
+    let mut values = Values::new(alloc);
+    let mut rest = fields;
+    for i in 0..rest.len() {
+        let mut field = Filling::Raw(0);
+        rest.exchange(i, &mut field);
+        values.push(settle(alloc, mint, nested, field)?)?;
+    }
+    Ok(values)
+}

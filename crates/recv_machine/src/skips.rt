@@ -1,0 +1,76 @@
+// Octets that are passed up to a multiple.
+ghost use Rattle.std.specs.Prelude.{◌≡◌, ◌<◌, Bool, not, take};
+ghost use Rattle.cast_stub.specs.Steps.{is_width};
+ghost use Rattle.cast_stub.specs.Fill.{skipped, all_zero};
+ghost use Rattle.recv_machine.specs.Drawn.{drawn, any_octets};
+ghost use Rattle.recv_machine.specs.Ran.{place_of, Ran};
+
+use crate::draft::Filling;
+use crate::errors::Halt;
+use mint::table::Mint;
+use raw_buf::RecvView;
+
+// Whether it is a number that positions are multiples of.
+fn is_multiple(a: u32) -> bool
+    ensures { result ≡ is_width a }
+{
+    a == 1 || a == 2 || a == 4 || a == 8
+}
+
+// Whether octets are all 0.
+#[tactic(auto, using(crate::proofs::Skipping::zeros))]
+fn are_zeros(octets: &[u8]) -> bool
+    ensures { result ≡ all_zero octets.now }
+{
+    for octet in octets {
+        if *octet != 0 {
+            return false;
+        }
+    }
+    true
+}
+
+/// Octets up to a multiple, whatever they are.
+pub fn skip_any(
+    mint: &Mint,
+    a: u32,
+    draft: &Filling,
+    view: &mut RecvView<'_>,
+) -> Result<(), Halt>
+    ensures { Ran result (drawn mint.now draft.now) (place_of view.new) (skipped any_octets a (drawn mint.now draft.now) (place_of view.old)) }
+{
+    if !is_multiple(a) {
+        return Err(Halt::Refused);
+    }
+    let a = a as usize;
+    let k = (a - view.pos() % a) % a;
+    if !view.need(k) {
+        return Err(Halt::Refused);
+    }
+    view.take(k);
+    Ok(())
+}
+
+/// Octets up to a multiple, which are 0.
+pub fn skip_zero(
+    mint: &Mint,
+    a: u32,
+    draft: &Filling,
+    view: &mut RecvView<'_>,
+) -> Result<(), Halt>
+    ensures { Ran result (drawn mint.now draft.now) (place_of view.new) (skipped all_zero a (drawn mint.now draft.now) (place_of view.old)) }
+{
+    if !is_multiple(a) {
+        return Err(Halt::Refused);
+    }
+    let a = a as usize;
+    let k = (a - view.pos() % a) % a;
+    if !view.need(k) {
+        return Err(Halt::Refused);
+    }
+    if !are_zeros(view.peek(0, k)) {
+        return Err(Halt::Refused);
+    }
+    view.take(k);
+    Ok(())
+}

@@ -1,0 +1,4 @@
+use Rattle.storage_class.proofs.span.+power.Given as goal
+
+abbrev pub decreases-power : goal.decreases-power
+decreases-power l = l.n
