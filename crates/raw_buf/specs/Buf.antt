@@ -1,5 +1,5 @@
 -- A buffer as its octets, the space ensured behind them, and what its calls have cost.
-use Rattle.std.specs.Prelude.{◌≡◌, ◌⊎◌, ℕ, max, List, length, take}
+use Rattle.std.specs.Prelude.{◌≡◌, ◌≤◌, ◌⊎◌, ℕ, max, List, length, take}
 use Rattle.kit_base.specs.Bytes.{be, le}
 use Rattle.kit_base.specs.Causes.{raised}
 use Rattle.wire_def.specs.declared.head.Order.{Order}
@@ -40,6 +40,13 @@ moved t = record t { moves = raised t.moves 1 }
 -- one store more
 abbrev pub stored : Tally → Tally
 stored t = record t { stores = raised t.stores 1 }
+
+-- no count is less than it was
+pub record NoneFell (old new : Tally) : Type 0 where
+  pub checks : old.checks ≤ new.checks
+  pub moves : old.moves ≤ new.moves
+  pub stores : old.stores ≤ new.stores
+  pub rows : old.rows ≤ new.rows
 
 -- n octets are ensured, those that were stay
 pub record Ensures (n : ℕ) (old new : Buf) : Type 0 where
