@@ -1,5 +1,5 @@
 -- A unit is sound where its plain tree is.
-use Rattle.std.proofs.Common.{◌≡◌, ℕ, ◌&&◌, List, [], ◌∷◌, map, refl, ap, ◌∙◌}
+use Rattle.std.proofs.Common.{◌≡◌, Bool, true, false, ℕ, ◌&&◌, List, [], ◌∷◌, map, refl, sym, ap, ◌∙◌}
 use Rattle.std.specs.List.{list_all}
 use Rattle.std.proofs.lemmas.List.{length-map}
 use Rattle.aoi.specs.declared.types.Ty.{Ty}
@@ -26,7 +26,7 @@ interfaces_plain : (types : List Shape) (is : List Interface) → list_all (is_s
 interfaces_plain types [] = refl
 interfaces_plain types (i ∷ is) = rw (operations_plain types i.slots i.ops, interfaces_plain types is) refl
 
-types_plain : (ts : List (List ℕ × Ty)) → shapes ts ≡ map (λ (t : List ℕ × Shape). t.1) (map (λ (t : List ℕ × Ty). (t.0, seen t.1)) ts)
+pub types_plain : (ts : List (List ℕ × Ty)) → shapes ts ≡ map (λ (t : List ℕ × Shape). t.1) (map (λ (t : List ℕ × Ty). (t.0, seen t.1)) ts)
 types_plain [] = refl
 types_plain (t ∷ ts) = ap (λ z. seen t.1 ∷ z) (types_plain ts)
 
@@ -36,3 +36,16 @@ sound_plain u =
   where
     interfaces_step : is_sound u ≡ (are_sound_types (shapes u.types) 0 (shapes u.types) && list_all (is_sound_plain_interface (shapes u.types)) (map plain_interface u.interfaces))
     interfaces_step = ap (λ z. are_sound_types (shapes u.types) 0 (shapes u.types) && z) (interfaces_plain (shapes u.types) u.interfaces)
+
+-- a unit's types, and then its interfaces
+pub sound_then : (u : Parts) (ts : List (List ℕ × Ty)) (is : List Interface) (a r : Bool) → ts ≡ u.types → is ≡ u.interfaces → a ≡ are_sound_types (shapes ts) 0 (shapes ts) → a ≡ true
+    → r ≡ list_all (is_sound_interface (shapes ts)) is → r ≡ is_sound_plain (plain u)
+sound_then u ts is a r t i a_is all r_is =
+    let types : are_sound_types (shapes u.types) 0 (shapes u.types) ≡ true = ap (λ z. are_sound_types (shapes z) 0 (shapes z)) (sym t) ∙ sym a_is ∙ all in
+    r_is ∙ ap (λ z. list_all (is_sound_interface (shapes z)) is) t ∙ ap (list_all (is_sound_interface (shapes u.types))) i
+    ∙ sym (ap (λ z. z && list_all (is_sound_interface (shapes u.types)) u.interfaces) types) ∙ sound_plain u
+
+pub sound_else : (u : Parts) (ts : List (List ℕ × Ty)) (a : Bool) → ts ≡ u.types → a ≡ are_sound_types (shapes ts) 0 (shapes ts) → a ≡ false → a ≡ is_sound_plain (plain u)
+sound_else u ts a t a_is none =
+    let types : are_sound_types (shapes u.types) 0 (shapes u.types) ≡ false = ap (λ z. are_sound_types (shapes z) 0 (shapes z)) (sym t) ∙ sym a_is ∙ none in
+    none ∙ sym (ap (λ z. z && list_all (is_sound_interface (shapes u.types)) u.interfaces) types) ∙ sound_plain u

@@ -2,3 +2,4 @@ pub mod Shapes
 pub mod Units
 pub mod Sound
 pub mod Plain
+pub mod Stored

@@ -1,5 +1,5 @@
 -- Units as plain trees.
-use Rattle.std.specs.Prelude.{Bool, ◌&&◌, nat_le, nat_lt, ℕ, ◌+◌, ◌-◌, ◌^◌, List, map, length}
+use Rattle.std.specs.Prelude.{IsTrue, Bool, ◌&&◌, nat_le, nat_lt, ℕ, ◌+◌, ◌-◌, ◌^◌, List, map, length}
 use Rattle.std.specs.List.{list_all}
 use Rattle.aoi.specs.declared.interfaces.Interface.{Interface}
 use Rattle.aoi.specs.declared.interfaces.Operation.{Operation}
@@ -76,3 +76,6 @@ plain_shapes u = map (λ t. t.1) u.types
 -- a unit that is sound, seen as plain trees
 abbrev pub is_sound_plain : PlainUnit → Bool
 is_sound_plain u = are_sound_types (plain_shapes u) 0 (plain_shapes u) && list_all (is_sound_plain_interface (plain_shapes u)) u.interfaces
+
+abbrev pub IsSoundPlain : PlainUnit → Type 0
+IsSoundPlain u = IsTrue (is_sound_plain u)

@@ -49,7 +49,9 @@ pub enum NameFault {
 /// The first fault of a file, and the declaration that it is in, counted from 1.
 #[derive(Clone, Copy, Debug, PartialEq, Eq)]
 pub struct NameErr {
+    /// What is wrong.
     pub fault: NameFault,
+    /// The number of the declaration, from 1; 0 where there was no memory.
     pub decl: u32,
 }
 

@@ -5,8 +5,11 @@ use kit_base::{Listed, Name};
 /// An exception, with the id that stands for it in a message.
 #[derive(Debug, Drop)]
 pub struct Raise {
+    /// Its name.
     pub name: Name,
+    /// The repository id that messages have for it.
     pub id: Name,
+    /// Its members, as those of a struct.
     pub members: Fields,
 }
 
@@ -16,13 +19,21 @@ pub type Raises = Listed<Raise>;
 /// An operation. An inout parameter stands in `ins` and in `outs`.
 #[derive(Debug, Drop)]
 pub struct Operation {
+    /// Its name.
     pub name: Name,
+    /// The number of its procedure in an ONC program.
     pub proc_no: u32,
+    /// The place of its message ids, from 0, below the slots of its interface.
     pub slot: u32,
+    /// The parameters that go in, in order.
     pub ins: Fields,
+    /// The parameters that come out, in order.
     pub outs: Fields,
+    /// The type of what it returns, or `Void`.
     pub result: Ty,
+    /// The exceptions that it raises, at most 4,095.
     pub raises: Raises,
+    /// Whether no reply is sent.
     pub oneway: bool,
 }
 
@@ -32,11 +43,17 @@ pub type Operations = Listed<Operation>;
 /// An interface. Its operations have message ids from `base` up, below `base` plus `slots`.
 #[derive(Debug, Drop)]
 pub struct Interface {
+    /// Its name, which no other interface of the unit has.
     pub name: Name,
+    /// The number of its ONC program.
     pub program: u32,
+    /// The number of its version of that program.
     pub version: u32,
+    /// The least message id.
     pub base: u32,
+    /// How many message ids there are for requests.
     pub slots: u32,
+    /// Its operations, in order, at most 256.
     pub ops: Operations,
 }
 

@@ -13,6 +13,3 @@ pub use interfaces::{Interface, Interfaces, Operation, Operations, Raise, Raises
 pub use soundness::{is_sound, unfolded};
 pub use types::{Field, Fields, Items, Ty, Types, UnionArms};
 pub use units::{Unit, UnitErr};
-
-#[cfg(test)]
-mod tests;

@@ -3,6 +3,7 @@ ghost use Rattle.std.specs.Prelude.{◌≡◌, ◌≤◌, length, map, None, ◌
 ghost use Rattle.std.specs.List.{list_all, list_any};
 ghost use Rattle.std.specs.Option.{option_map};
 ghost use Rattle.std.specs.Ordering.{int_eq};
+ghost use Rattle.aoi.specs.Plain.{plain, is_sound_plain};
 ghost use Rattle.aoi.specs.Shapes.{seen, members, shapes, structure, arms_seen, default_of};
 ghost use Rattle.aoi.specs.Sound.{is_tag, is_of_tag, is_open, is_some_count, is_sound_enum, are_sound_labels, is_sound_union, name_in, unfolded, or_void, is_sound_type, are_sound, are_sound_arms, are_sound_types, is_sound_raise, is_sound_operation, is_sound_interface, is_sound, has_arm, has_member};
 
@@ -22,7 +23,7 @@ const RAISES: usize = 4095;
 /// Whether the types and interfaces of a unit are sound. It takes time of the square of the longest
 /// list of names.
 pub fn is_sound(unit: &Unit) -> bool
-    ensures { result ≡ is_sound unit.now }
+    ensures { result ≡ is_sound_plain (plain unit.now) }
 {
     let types = unit.types().as_slice();
     are_sound_types(types) && are_sound_interfaces(unit.interfaces().as_slice(), types)

@@ -14,18 +14,26 @@ pub type UnionArms = Listed<(i128, Ty)>;
 /// Types, each with its name.
 pub type Types = Listed<(Name, Ty)>;
 
-/// A type.
+/// A type, as an interface file declares it.
 #[cycle(ty)]
 #[derive(Debug, Drop)]
 pub enum Ty {
+    /// Nothing: a result, an arm or a default without a value.
     Void,
+    /// A number of a kind, or a truth value.
     Num(Kind),
+    /// An enumeration: the name of each item, and its number.
     Enum(Items),
+    /// A string, of so many octets without 0.
     Text(Count),
+    /// An array or a sequence: the type of its elements, and how many there are.
     Array(Box<Ty>, Count),
+    /// A struct: its fields, each with its name.
     Struct(Fields),
-    /// The tag, the arms, and what stands behind every other number.
+    /// A discriminated union: the type of its discriminant, the arms, each with the number that chooses it,
+    /// and the default, which every other number chooses.
     Union(Box<Ty>, UnionArms, Option<Box<Ty>>),
+    /// A value or none, as a pointer that may be null.
     Optional(Box<Ty>),
     /// A type of the unit by its number, counted from 0.
     Named(u32),
@@ -35,6 +43,8 @@ pub enum Ty {
 #[cycle(ty)]
 #[derive(Debug, Drop)]
 pub struct Field {
+    /// Its name.
     pub name: Name,
+    /// Its type.
     pub ty: Ty,
 }

@@ -4,10 +4,12 @@ use Rattle.std.proofs.lemmas.Bool.{leb-true, le-leb}
 use Rattle.wire_def.specs.declared.fault.HeadErr.TheVariants.{Cred}
 use Rattle.wire_def.specs.Grammar.{Spelling, Parts, IsGrammar}
 use Rattle.wire_def.specs.Scalars.{gap}
+use Rattle.wire_def.specs.HeadItems.{BodySpells}
 use Rattle.wire_def.proofs.Grammars.{mapped, both_are}
+use Rattle.wire_def.proofs.HeadItems.{body_is}
 use Rattle.back_xdr.specs.Words.{word, IsWord, WordSpells, up_to, PassSpells}
-use Rattle.back_xdr.specs.Auth.{Auth, AuthSpells, AuthStops, BodySpells, read_auth}
-use Rattle.back_xdr.proofs.Items.{word_is, pass_is, body_is, pad_is}
+use Rattle.back_xdr.specs.Auth.{Auth, AuthSpells, AuthStops, read_auth}
+use Rattle.back_xdr.proofs.Items.{word_is, pass_is, pad_is}
 
 -- the items of one, in their order
 abbrev Items : Spelling (ℕ × (ℕ × (List ℕ × Unit {0})))

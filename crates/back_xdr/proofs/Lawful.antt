@@ -36,19 +36,19 @@ module _ (w : Way) (o : List ℕ) where
   either oct (got h used rest) is = inl (h, used, begins oct h used rest is)
   either oct (stop e at) is = inr (e, (at, (heads_are_read w).faulty 0 o e at oct is))
 
-  not_both : (h : HeadOf w) (used : ℕ) (e : HeadErr) → BeginsWith w o h used → StopsWith w o e → ⊥
+  pub not_both : (h : HeadOf w) (used : ℕ) (e : HeadErr) → BeginsWith w o h used → StopsWith w o e → ⊥
   not_both h used e b (at, f) =
       let first = begun h used b in
       let second = stopped e at f in
       cc
 
-  one_head : (h j : HeadOf w) (used m : ℕ) → BeginsWith w o h used → BeginsWith w o j m → (h ≡ j) × (used ≡ m)
+  pub one_head : (h j : HeadOf w) (used m : ℕ) → BeginsWith w o h used → BeginsWith w o j m → (h ≡ j) × (used ≡ m)
   one_head h j used m b c =
       let first = begun h used b in
       let second = begun j m c in
       (cc, cc)
 
-  one_fault : (d e : HeadErr) → StopsWith w o d → StopsWith w o e → d ≡ e
+  pub one_fault : (d e : HeadErr) → StopsWith w o d → StopsWith w o e → d ≡ e
   one_fault d e (at, f) (at', g) =
       let first = stopped d at f in
       let second = stopped e at' g in

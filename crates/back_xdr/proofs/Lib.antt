@@ -7,3 +7,10 @@ pub mod Steps
 pub mod Exact
 pub mod Counting
 pub mod Coding
+pub mod Wording
+pub mod Finding
+pub mod NamedBelow
+pub mod NamedRight
+pub mod Heading
+pub mod Sent
+pub mod Refusing

@@ -3,7 +3,8 @@ use Rattle.std.proofs.Common.{◌≡◌, ℕ, zero, suc, ◌+◌, ◌-◌, ◌�
 use Rattle.std.proofs.lemmas.Bool.{le-ltb}
 use Rattle.wire_def.specs.declared.fault.HeadErr.TheVariants.{Short, Pad}
 use Rattle.wire_def.specs.Grammar.{got, stop}
-use Rattle.back_xdr.specs.Auth.{read_body, read_pad}
+use Rattle.wire_def.specs.HeadItems.{read_body}
+use Rattle.back_xdr.specs.Auth.{read_pad}
 
 pub body_there : (n p : ℕ) (o : List ℕ) → n ≤ length o → read_body n p o ≡ got (take n o) (p + n) (drop n o)
 unfolding read_body

@@ -1,10 +1,11 @@
 -- Credentials and verifiers (RFC 5531, section 8.2).
-use Rattle.std.specs.Prelude.{◌≡◌, ℕ, zero, suc, ◌+◌, ◌<◌, ◌≤◌, List, [], ◌∷◌, ◌++◌, length, take, drop, replicate, nat_lt, if◌then◌else◌}
+use Rattle.std.specs.Prelude.{◌≡◌, ℕ, zero, suc, ◌+◌, ◌≤◌, List, [], ◌∷◌, ◌++◌, length, replicate}
 use Rattle.wire_def.specs.declared.fault.HeadErr.{HeadErr}
 use Rattle.wire_def.specs.declared.fault.HeadErr.TheVariants.{Short, Pad, Cred}
-use Rattle.wire_def.specs.Grammar.{got, stop, Reader, Spelling, Stopping, map_got, both}
+use Rattle.wire_def.specs.Grammar.{got, stop, Reader, Spelling, Stopping, map_got, both, StopsInOrder}
+use Rattle.wire_def.specs.HeadItems.{BodySpells, BodyStops, read_body}
 use Rattle.wire_def.specs.Scalars.{gap}
-use Rattle.back_xdr.specs.Words.{word, IsWord, WordSpells, WordStops, read_word, up_to, PassSpells, PassStops, read_pass, StopsInOrder}
+use Rattle.back_xdr.specs.Words.{word, IsWord, WordSpells, WordStops, read_word, up_to, PassSpells, PassStops, read_pass}
 
 -- credentials or a verifier: a flavour, and a body that has a meaning for the flavour alone
 pub record Auth : Type 0 where
@@ -22,18 +23,6 @@ IsAuth a = IsWord a.flavour × (length a.body ≤ 400)
 -- credentials or a verifier as octets
 unfoldable pub AuthSpells : Spelling Auth
 AuthSpells p o a = (o ≡ auth_octets a) × IsAuth a
-
--- so many octets
-abbrev pub BodySpells : ℕ → Spelling (List ℕ)
-BodySpells n p o body = (o ≡ body) × (length body ≡ n)
-
--- fewer octets than so many
-abbrev pub BodyStops : ℕ → Stopping HeadErr
-BodyStops n p o k at = (length o < n) × (k ≡ Short) × (at ≡ p)
-
--- so many octets, from the front
-unfoldable pub read_body : ℕ → Reader HeadErr (List ℕ)
-read_body n p o = if nat_lt (length o) n then stop Short p else got (take n o) (p + n) (drop n o)
 
 -- the first of so many pad octets that is not there, or not 0
 unfoldable pub PadStops : ℕ → Stopping HeadErr

@@ -1,8 +1,19 @@
 -- Laws of the heads.
-use Rattle.std.specs.Prelude.{◌≡◌, ◌⊎◌, ℕ, List}
+use Rattle.std.specs.Prelude.{◌≡◌, ◌⊎◌, ◌↔◌, ℕ, List, ◌++◌, Some}
 use Rattle.wire_def.specs.declared.fault.HeadErr.{HeadErr}
 use Rattle.wire_def.specs.Grammar.{AreOctets, IsGrammar}
+use Rattle.wire_def.specs.declared.outcome.Refusal.{Refusal}
+use Rattle.call_kit.specs.declared.called.Naming.TheVariants.{Operation}
+use Rattle.pres.specs.Bindings.{Binding}
+use Rattle.back_xdr.specs.declared.call.OncCall.{OncCall}
+use Rattle.back_xdr.specs.declared.procedures.Procedure.{Procedure}
 use Rattle.back_xdr.specs.Heads.{Way, HeadOf, HeadSpells, HeadStops, read_head, BeginsWith, StopsWith}
+use Rattle.back_xdr.specs.Leads.{lead, lead_length}
+use Rattle.back_xdr.specs.Procedures.{procedure_of}
+use Rattle.back_xdr.specs.Refusals.{IsOwn, refusal_octets}
+use Rattle.back_xdr.specs.Seeking.{named}
+use Rattle.back_xdr.specs.Told.{BeginsCall, shared_head}
+use Rattle.back_xdr.specs.Words.{IsWord}
 
 -- a message begins with a head or stops with a fault, one of the two, and which head and which fault is determined
 pub record IsDecided (w : Way) (message : List ℕ) : Type 0 where
@@ -18,3 +29,27 @@ HeadsAreDecided = (w : Way) (message : List ℕ) → AreOctets message → IsDec
 -- what is read is spelled, and where reading stops there is the fault
 abbrev pub HeadsAreRead : Type 0
 HeadsAreRead = (w : Way) → IsGrammar (read_head w) (HeadSpells w) (HeadStops w)
+
+-- the procedure that a call calls
+abbrev pub called_by : OncCall → Procedure
+called_by c = record { program = c.program; version = c.version; number = c.proc_no }
+
+-- the operation that a call names is the procedure that it calls
+abbrev pub IsNamedRight : Type 0
+IsNamedRight = (b : Binding) (c : OncCall) (op : ℕ) → named b c ≡ Operation op → procedure_of b op ≡ called_by c
+
+-- numbers that words can hold
+abbrev pub AreWords : Procedure → Type 0
+AreWords p = IsWord p.program × IsWord p.version × IsWord p.number
+
+-- what is told of the head that is sent of a procedure
+abbrev pub call_of : Procedure → ℕ → OncCall
+call_of p id = record { head = shared_head id; program = p.program; version = p.version; proc_no = p.number; used = lead_length }
+
+-- the head that is sent is read as the call of its procedure, whatever follows
+abbrev pub LeadsAreRead : Type 0
+LeadsAreRead = (p : Procedure) (id : ℕ) (o : List ℕ) → IsWord id → AreWords p → BeginsCall (lead p id ++ o) (call_of p id)
+
+-- the refusals of this format are those that have octets
+abbrev pub OwnHaveOctets : Type 0
+OwnHaveOctets = (r : Refusal) (id : ℕ) → IsOwn r ↔ ((o : List ℕ) × (refusal_octets id r ≡ Some o))

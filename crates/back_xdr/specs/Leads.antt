@@ -10,3 +10,11 @@ lead p id = words (id ∷ 0 ∷ 2 ∷ p.program ∷ p.version ∷ p.number ∷ 0
 -- the head of an answer: the transaction, the message type, accepted, a verifier of flavour and length 0, and the status of success
 abbrev pub answer_lead : ℕ → List ℕ
 answer_lead id = words (id ∷ 1 ∷ 0 ∷ 0 ∷ 0 ∷ 0 ∷ [])
+
+-- the length of the head of a call, whatever it says
+abbrev pub lead_length : ℕ
+lead_length = 40
+
+-- the length of the head of an answer
+abbrev pub answer_lead_length : ℕ
+answer_lead_length = 24

@@ -7,6 +7,7 @@ pub mod Laws
 pub mod Told
 pub mod Readers
 pub mod Procedures
+pub mod Seeking
 pub mod Leads
 pub mod Coded
 pub mod Refusals

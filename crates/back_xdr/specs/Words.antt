@@ -1,10 +1,10 @@
--- The words that heads are made of, and the order of their items.
-use Rattle.std.specs.Prelude.{◌≡◌, ◌⊎◌, ℕ, ◌+◌, ◌^◌, ◌<◌, List, length, take, drop, Bool, false, IsTrue, ◌==◌, nat_lt, nat_le, if◌then◌else◌}
+-- The words that heads are made of.
+use Rattle.std.specs.Prelude.{◌≡◌, ℕ, ◌+◌, ◌^◌, ◌<◌, List, length, take, drop, Bool, ◌==◌, nat_lt, nat_le, if◌then◌else◌}
 use Rattle.std.specs.Int.{w32, from_be_bytes}
 use Rattle.kit_base.specs.Bytes.{be}
 use Rattle.wire_def.specs.declared.fault.HeadErr.{HeadErr}
 use Rattle.wire_def.specs.declared.fault.HeadErr.TheVariants.{Short}
-use Rattle.wire_def.specs.Grammar.{got, stop, Reader, Spelling, Stopping, tested, Parts}
+use Rattle.wire_def.specs.Grammar.{got, stop, Reader, Spelling, Stopping, tested, TestedSpells, TestedStops}
 
 -- the octets of a word: four, the most significant first (RFC 4506, section 4.2)
 abbrev pub word : ℕ → List ℕ
@@ -38,19 +38,12 @@ up_to m n = nat_le n m
 
 -- a word that passes
 abbrev pub PassSpells : (ℕ → Bool) → Spelling ℕ
-PassSpells test p o n = WordSpells p o n × IsTrue (test n)
+PassSpells test = TestedSpells WordSpells test
 
 -- a word that is cut off, or does not pass, which is this fault
 abbrev pub PassStops : (ℕ → Bool) → HeadErr → Stopping HeadErr
-PassStops test fault p o k at = WordStops p o k at
-    ⊎ ((n : ℕ) × Parts p o (λ a. WordSpells p a n) (λ q b. (test n ≡ false) × (k ≡ fault) × (at ≡ p)))
+PassStops test fault = TestedStops WordSpells WordStops test fault (λ p. p)
 
 -- the number of a word that passes, or the fault
 abbrev pub read_pass : (ℕ → Bool) → HeadErr → Reader HeadErr ℕ
 read_pass test fault = tested read_word test fault (λ p. p)
-
--- ---- items in their order
-
--- the first stop of an item and of what follows it: the item stops, or it stands there and what follows stops
-abbrev pub StopsInOrder : {A : Type 0} → Spelling A → Stopping HeadErr → (A → Stopping HeadErr) → Stopping HeadErr
-StopsInOrder {A} Spells Stops Behind p o k at = Stops p o k at ⊎ ((x : A) × Parts p o (λ a. Spells p a x) (λ q b. Behind x q b k at))

@@ -1,6 +1,7 @@
 //! Credentials and verifiers (RFC 5531 section 8.2), which are passed over.
 
-ghost use Rattle.back_xdr.specs.Auth.{read_auth, read_body, read_pad};
+ghost use Rattle.wire_def.specs.HeadItems.{read_body};
+ghost use Rattle.back_xdr.specs.Auth.{read_auth, read_pad};
 ghost use Rattle.back_xdr.specs.Readers.{Passes};
 
 use crate::cursor::Cursor;
@@ -11,7 +12,7 @@ use wire_def::HeadErr;
 const LONGEST_BODY: u32 = 400;
 
 /// So many octets, whatever they are.
-#[tactic(auto, unfolding(crate::specs::Auth::read_body))]
+#[tactic(auto, unfolding(wire_def::specs::HeadItems::read_body))]
 fn body(n: usize, at: Cursor<'_>) -> Result<Cursor<'_>, HeadErr>
     ensures { Passes result (read_body n at.entry.place at.entry.rest.now) }
 {

@@ -1,6 +1,6 @@
 //! The laws of the heads, each the contract of a function that does nothing.
 
-ghost use Rattle.back_xdr.specs.Laws.{HeadsAreDecided, HeadsAreRead};
+ghost use Rattle.back_xdr.specs.Laws.{HeadsAreDecided, HeadsAreRead, IsNamedRight, LeadsAreRead, OwnHaveOctets};
 
 /// A message begins with a head, or there is a first item that is cut off or wrong: one of the
 /// two, and the head, its length and the fault are determined.
@@ -11,4 +11,19 @@ pub fn begins_or_stops()
 /// What is read from left to right is spelled, and where reading stops there is the first fault.
 pub fn heads_are_read()
     ensures { HeadsAreRead }
+{}
+
+/// The operation that a call names is the procedure that it calls.
+pub fn calls_are_named_right()
+    ensures { IsNamedRight }
+{}
+
+/// The head that is sent of an operation is read as its call.
+pub fn leads_are_read()
+    ensures { LeadsAreRead }
+{}
+
+/// A refusal has octets exactly where a call over this back end may have it.
+pub fn own_refusals_have_octets()
+    ensures { OwnHaveOctets }
 {}

@@ -11,18 +11,21 @@ mod laws;
 mod leads;
 mod lowering;
 pub mod procedures;
+mod putting;
 mod refusals;
 mod reply;
+mod seek;
 mod shared;
-#[cfg(test)]
-mod stub_tests;
-#[cfg(test)]
-mod tests;
 mod words;
 
 pub use call::{OncCall, read_call};
-pub use laws::{begins_or_stops, heads_are_read};
+pub use laws::{
+    begins_or_stops, calls_are_named_right, heads_are_read, leads_are_read,
+    own_refusals_have_octets,
+};
 pub use leads::{lead_call, lead_reply};
 pub use lowering::lower_send;
+pub use putting::{answer_lead_length, lead_length, put_lead};
 pub use refusals::put_refusal;
 pub use reply::read_reply;
+pub use seek::{ENCODING, read_called};

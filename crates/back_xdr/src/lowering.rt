@@ -4,7 +4,7 @@ ghost use Rattle.std.specs.Prelude.{◌≡◌, length, IfOk};
 ghost use Rattle.wire_def.specs.declared.encoding.Encoding.TheVariants.{Xdr};
 ghost use Rattle.cast_stub.specs.Follows.{AllFollow};
 ghost use Rattle.cast_stub.specs.Turned.{AllTurned};
-ghost use Rattle.stub_lower.specs.Layouts.{layout_of};
+ghost use Rattle.cast_stub.specs.Layouts.{layout_of};
 ghost use Rattle.stub_lower.specs.Lowered.{CodesSend};
 
 use cast_stub::SendSubs;

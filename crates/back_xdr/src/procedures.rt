@@ -1,8 +1,8 @@
 //! The procedures of interfaces.
 
-ghost use Rattle.std.specs.Prelude.{◌≡◌, ◌+◌, ◌<◌, ◌^◌, ◌==◌, length, slice_get, slice_index, Some};
+ghost use Rattle.std.specs.Prelude.{◌≡◌, ◌+◌, ◌<◌, ◌^◌, ◌==◌, length, map, slice_get, slice_index, Some};
 ghost use Rattle.std.specs.List.{list_any, position_from};
-ghost use Rattle.aoi.specs.declared.interfaces.Operation.{Operation as SpecOperation};
+ghost use Rattle.aoi.specs.Plain.{PlainOperation, plain_operation, plain_interface};
 ghost use Rattle.wire_def.specs.declared.encoding.Back.TheVariants.{Xdr};
 ghost use Rattle.pres.specs.Offers.{gets_null};
 ghost use Rattle.back_xdr.specs.Procedures.{numbers, procedures, procedure_of};
@@ -20,21 +20,26 @@ pub struct Procedure {
 
 /// Whether one of the operations has the procedure number.
 fn has_number(ops: &[Operation], number: u32) -> bool
-    ensures { result ≡ list_any (λ (op : SpecOperation). op.proc_no == number) ops.now }
+    ensures { result ≡ list_any (λ (op : PlainOperation). op.proc_no == number) (map plain_operation ops.now) }
 {
-    ops.iter().any(|op| op.proc_no == number)
+    for own in ops {
+        if own.proc_no == number {
+            return true;
+        }
+    }
+    false
 }
 
 /// Whether an interface has no procedure 0 of its own, and so gets one.
 fn gets_null(i: &Interface) -> bool
-    ensures { result ≡ gets_null Xdr i.now }
+    ensures { result ≡ gets_null Xdr (plain_interface i.now) }
 {
     !has_number(i.ops.as_slice(), 0)
 }
 
 /// How many procedures an interface has.
 pub fn count(i: &Interface) -> usize
-    ensures { result ≡ length (numbers i.now) }
+    ensures { result ≡ length (numbers (plain_interface i.now)) }
 {
     let own = i.ops.as_slice().len();
     if gets_null(i) { own + 1 } else { own }
@@ -42,8 +47,8 @@ pub fn count(i: &Interface) -> usize
 
 /// The number of an interface's procedure by its place, counted from 0.
 fn number(i: &Interface, place: usize) -> u32
-    requires { place < length (numbers i.now) }
-    ensures { result ≡ slice_index (numbers i.now) place }
+    requires { place < length (numbers (plain_interface i.now)) }
+    ensures { result ≡ slice_index (numbers (plain_interface i.now)) place }
 {
     let ops = i.ops.as_slice();
     if place < ops.len() {
@@ -55,8 +60,8 @@ fn number(i: &Interface, place: usize) -> u32
 
 /// The procedure at a place, counted from 0 over all interfaces.
 pub(crate) fn procedure_at(interfaces: &[Interface], place: usize) -> Procedure
-    requires { place < length (procedures interfaces.now) }
-    ensures { slice_get (procedures interfaces.now) place ≡ Some result }
+    requires { place < length (procedures (map plain_interface interfaces.now)) }
+    ensures { slice_get (procedures (map plain_interface interfaces.now)) place ≡ Some result }
 {
     let Some((i, others)) = interfaces.split_first() else {
         unreachable!()
@@ -76,8 +81,8 @@ pub(crate) fn procedure_at(interfaces: &[Interface], place: usize) -> Procedure
 
 /// The place of an interface's first procedure with the number, where they are counted from a place.
 pub fn place_of(i: &Interface, first: u32, number: u32) -> Option<u32>
-    requires { first + length (numbers i.now) < 2 ^ 32 }
-    ensures { result ≡ position_from (λ n. n == number) first (numbers i.now) }
+    requires { first + length (numbers (plain_interface i.now)) < 2 ^ 32 }
+    ensures { result ≡ position_from (λ n. n == number) first (numbers (plain_interface i.now)) }
 {
     let mut place = first;
     for op in i.ops.as_slice() {

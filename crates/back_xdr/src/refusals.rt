@@ -1,6 +1,7 @@
 //! The replies that refuse a call.
 
 ghost use Rattle.std.specs.Prelude.{◌≡◌, ◌≤◌, [], ◌∷◌, ◌++◌, length, Some, OnErr, OnOk};
+ghost use Rattle.raw_buf.specs.Buf.{NoneFell};
 ghost use Rattle.raw_buf.specs.Words.{words};
 ghost use Rattle.back_xdr.specs.Refusals.{IsOwn, refusal_octets};
 
@@ -15,6 +16,7 @@ pub fn put_refusal(refusal: &Refusal, head: &Head, buf: &mut SendBuf) -> Result<
     requires own { IsOwn refusal.now }
     ensures ok { OnOk result (refusal_octets head.now.id refusal.now ≡ Some buf.new.done) }
     ensures err { OnErr result (buf.new ≡ buf.old) }
+    ensures spent { NoneFell buf.old.spent buf.new.spent }
 {
     let id = head.id;
     match refusal {
@@ -36,6 +38,7 @@ fn put_words(numbers: &[u32], buf: &mut SendBuf) -> Result<(), NoMemory>
     requires { length numbers.now ≤ 8 }
     ensures ok { OnOk result (buf.new.done ≡ buf.old.done ++ words numbers.now) }
     ensures err { OnErr result (buf.new ≡ buf.old) }
+    ensures spent { NoneFell buf.old.spent buf.new.spent }
 {
     buf.ensure(4 * numbers.len())?;
     buf.put_words(numbers);

@@ -1,7 +1,11 @@
+pub mod Adding
 pub mod Appending
 pub mod Codes
+pub mod Copied
 mod Covering
+pub mod Entering
 pub mod Folding
+pub mod Followed
 pub mod Pieces
 pub mod Putting
 pub mod Rebasing

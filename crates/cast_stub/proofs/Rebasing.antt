@@ -1,12 +1,13 @@
 -- A part's code on the whole.
-use Rattle.std.proofs.Common.{◌≡◌, ℕ, suc, List, [], ◌∷◌, ◌++◌, map, length, replicate, pos, ◌+◌, ◌*◌, Option, Some, None, refl, sym, ap, ◌∙◌}
+use Rattle.std.proofs.Common.{◌≡◌, ℕ, List, [], ◌∷◌, ◌++◌, map, replicate, pos, ◌+◌, ◌*◌, Option, Some, None, refl, sym, ap, ◌∙◌}
 use Rattle.std.proofs.lemmas.List.{length-map}
 use Rattle.mint.specs.Values.{Val}
 use Rattle.wire_def.specs.declared.head.Head.{Head}
 use Rattle.cast_stub.specs.declared.put.Put.{Put}
 use Rattle.cast_stub.specs.declared.put.Put.TheVariants as put
 use Rattle.cast_stub.specs.Parts.{on_some, in_group, at, length_in, number_in, tag_in, flag_in}
-use Rattle.cast_stub.specs.Puts.{word, descriptor, put_octets, offset, Cells, placed, put_all}
+use Rattle.cast_stub.specs.Puts.{word, put_octets, offset, Cells, placed, put_all}
+use Rattle.wire_def.specs.Descriptors.{descriptor}
 use Rattle.cast_stub.specs.Block.{Block, stop, ensure, ensure_row, align, chunk, row_copy, row_swap, row_wide, each, switch, if_there, call, patch}
 use Rattle.cast_stub.specs.Steps.{Room, Patched, both, Calls, steps}
 use Rattle.cast_stub.specs.Append.{put_rebased, rebase}

@@ -6,7 +6,7 @@ use Rattle.cast_stub.specs.RecvBlock.{Recv, finish, need, need_row, skip_any, sk
 use Rattle.cast_stub.specs.RecvAppend.{append}
 use Rattle.cast_stub.specs.Draft.{Draft, length_in}
 use Rattle.cast_stub.specs.Fill.{Place, Run, gives, refuses, strays, then_run, if_some, needed, passed, skipped, all_zero, all_got, part, within, fill_each, fill_arm, fill_present, Callees, fill, fill_case}
-use Rattle.std.specs.Prelude.{true, ◌*◌, ◌+◌, ℕ}
+use Rattle.std.specs.Prelude.{true, ◌*◌, ◌+◌}
 
 pub regrouped : {A B C : Type 0} (x : Run A) (f : A → Place → Run C) (g : A → Place → Run B) (h : B → Place → Run C) → ((y : A) (t : Place) → f y t ≡ then_run (g y t) h) → then_run x f ≡ then_run (then_run x g) h
 regrouped (gives y t) f g h e = e y t

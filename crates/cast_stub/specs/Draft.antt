@@ -1,5 +1,5 @@
 -- A value that is being filled: what is known of it so far.
-use Rattle.std.specs.Prelude.{ℕ, zero, suc, ℤ, List, [], ◌∷◌, ◌++◌, length, Option, None, Some, option_map, if◌then◌else◌}
+use Rattle.std.specs.Prelude.{ℕ, ℤ, length, Option, None, Some, option_map, if◌then◌else◌}
 use Rattle.std.specs.Ordering.{int_eq}
 use Rattle.mint.specs.Blank.{blank, least}
 use Rattle.mint.specs.Types.{Array, Ty, array_type, group_type, items_type, Tys, no_fields, field, Arms, no_other, others, arm_type}

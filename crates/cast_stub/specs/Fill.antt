@@ -5,12 +5,11 @@ use Rattle.std.specs.Ordering.{int_eq}
 use Rattle.kit_base.specs.Causes.{raised}
 use Rattle.mint.specs.declared.kind.Count.{Count}
 use Rattle.mint.specs.declared.kind.Count.TheVariants.{Exactly, AtMost, Any}
-use Rattle.mint.specs.declared.kind.Kind.{Kind}
 use Rattle.mint.specs.Blank.{least}
 use Rattle.mint.specs.Kinds.{in_range, is_letter}
 use Rattle.mint.specs.Types.{Scalar, number, Array, text, row_of, Ty, scalar_type, array_type, items_type, choice_type, maybe_type, Arms}
 use Rattle.mint.specs.Typed.{is_scalar}
-use Rattle.mint.specs.Values.{Val, num_in, num, row, items, arm, absent, present, Vals, vals_of}
+use Rattle.mint.specs.Values.{Val, num_in, num, row, items, arm, absent, present, vals_of}
 use Rattle.wire_def.specs.declared.head.Order.{Order}
 use Rattle.wire_def.specs.Scalars.{gap, is_signed, number_of}
 use Rattle.wire_def.specs.Arrays.{count_of, kind_of}

@@ -10,7 +10,7 @@ use Rattle.wire_def.specs.Scalars.{is_signed, number_of}
 use Rattle.wire_def.specs.Arrays.{count_of, kind_of}
 use Rattle.raw_buf.specs.View.{width_in, loaded}
 use Rattle.cast_stub.specs.Draft.{raw, lined, done, Draft}
-use Rattle.cast_stub.specs.Fill.{Place, Run, gives, strays, Filler, Going, if_some, if_passed, is_digit}
+use Rattle.cast_stub.specs.Fill.{gives, strays, Filler, Going, if_some, if_passed, is_digit}
 
 -- so many numbers of a width, where each is one of the array's
 abbrev pub numbers_at : Array → Order → Width → ℕ → ℕ → List ℕ → Option (List ℤ)

@@ -1,5 +1,5 @@
 -- What a receive code gives, and when it gives what the octets spell.
-use Rattle.std.specs.Prelude.{◌≡◌, ℕ, zero, suc, ◌+◌, ◌-◌, ◌≤◌, List, length, take, drop, Option, None, Some, option_map, slice_get}
+use Rattle.std.specs.Prelude.{◌≡◌, ℕ, zero, suc, ◌+◌, ◌≤◌, List, length, take, drop, Option, None, option_map, slice_get}
 use Rattle.mint.specs.Values.{Val}
 use Rattle.mint.specs.Types.{Ty}
 use Rattle.wire_def.specs.declared.encoding.Encoding.{Encoding}

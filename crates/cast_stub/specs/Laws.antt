@@ -1,10 +1,13 @@
 -- The laws of steps and of the folds over them.
-use Rattle.std.specs.Prelude.{◌≡◌, ℕ, ◌≤◌, List, ◌++◌, Some}
+use Rattle.std.specs.Prelude.{◌≡◌, ℕ, ◌≤◌, List, [], ◌++◌, Some}
 use Rattle.mint.specs.Values.{Val}
 use Rattle.wire_def.specs.declared.head.Head.{Head}
 use Rattle.cast_stub.specs.Parts.{on_some, at}
 use Rattle.cast_stub.specs.Block.{Block}
 use Rattle.cast_stub.specs.Append.{append, rebase}
+use Rattle.cast_stub.specs.CallFree.{HasNoCall}
+use Rattle.cast_stub.specs.Entered.{Entries, entered}
+use Rattle.cast_stub.specs.Kept.{unensured}
 use Rattle.cast_stub.specs.Steps.{Step, Calls, both, steps}
 use Rattle.cast_stub.specs.Meaning.{wrote, costs, sum, HasRoom}
 
@@ -27,3 +30,15 @@ WrittenInTurn = (base : ℕ) (o : List ℕ) (a b : List Step) → wrote base o (
 -- what steps behind steps cost
 abbrev pub CostsAdd : Type 0
 CostsAdd = (a b : List Step) → costs (a ++ b) ≡ sum (costs a) (costs b)
+
+-- the calls that a block behind a block runs
+abbrev pub CallsInTurn : Type 0
+CallsInTurn = (e : Entries) (a b : Block) (v : Val) → entered e (append a b) v ≡ entered e a v ++ entered e b v
+
+-- ensures run no call
+abbrev pub EnsuresRunNoCall : Type 0
+EnsuresRunNoCall = (e : Entries) (b : Block) (v : Val) → entered e (unensured b) v ≡ entered e b v
+
+-- code without calls runs none
+abbrev pub NoCallRunsNone : Type 0
+NoCallRunsNone = (e : Entries) (b : Block) (v : Val) → HasNoCall b → entered e b v ≡ []

@@ -1,12 +1,17 @@
 pub mod Append
+pub mod Bare
 pub mod Block
 pub mod CallFree
 pub mod Draft
+pub mod Entered
 pub mod Fill
 pub mod FillRows
 pub mod Follows
+pub mod Framed
 pub mod Got
+pub mod Kept
 pub mod Laws
+pub mod Layouts
 pub mod Meaning
 pub mod PartTypes
 pub mod Parts

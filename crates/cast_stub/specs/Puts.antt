@@ -1,9 +1,9 @@
 -- The octets of a put, and those of a chunk.
-use Rattle.std.specs.Prelude.{ℕ, zero, suc, ◌+◌, ◌-◌, ◌*◌, ◌^◌, ◌<◌, ℤ, pos, negsuc, List, [], ◌∷◌, replicate, Option, None, Some, option_map, nat_eq, nat_lt, if◌then◌else◌, ◌&&◌}
-use Rattle.kit_base.specs.Bytes.{le}
+use Rattle.std.specs.Prelude.{ℕ, zero, suc, ◌+◌, ◌-◌, ◌*◌, ◌^◌, ◌<◌, ℤ, pos, negsuc, List, [], ◌∷◌, replicate, Option, None, Some, option_map, nat_eq, nat_lt, if◌then◌else◌}
 use Rattle.mint.specs.Values.{Val}
 use Rattle.wire_def.specs.declared.head.Order.{Order}
 use Rattle.wire_def.specs.declared.head.Head.{Head}
+use Rattle.wire_def.specs.Descriptors.{descriptor}
 use Rattle.raw_buf.specs.Buf.{in_order}
 use Rattle.cast_stub.specs.declared.put.HeadField.{HeadField}
 use Rattle.cast_stub.specs.declared.put.HeadField.TheVariants.{Id, Remote, Local}
@@ -23,10 +23,6 @@ half_of w = if nat_eq w 1 then Some (2 ^ 7) else if nat_eq w 2 then Some (2 ^ 15
 -- the octets of a number, in two's complement
 abbrev pub word : ℕ → Order → ℤ → Option (List ℕ)
 word w o z = on_some (on_some (half_of w) (λ h. wrapped h z)) (λ n. Some (in_order o w n))
-
--- a short Mach descriptor: name, size and number, and the flag of data that stand in the message
-abbrev pub descriptor : ℕ → ℕ → ℕ → Option (List ℕ)
-descriptor name size n = if nat_lt name 256 && (nat_lt size 256 && nat_lt n 4096) then Some (le 4 (name + size * 256 + n * 65536 + 268435456)) else None
 
 -- the number that a head has in a field
 abbrev pub head_number : HeadField → Head → ℕ

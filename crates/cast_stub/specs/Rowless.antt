@@ -1,5 +1,6 @@
 -- Code without row operations.
 use Rattle.std.specs.Prelude.{◌≡◌, ℕ, List, [], ◌∷◌, Some}
+use Rattle.cast_stub.specs.declared.send.SendOp.{SendOp}
 use Rattle.cast_stub.specs.declared.send.SendCode.{SendCode}
 use Rattle.cast_stub.specs.Block.{Block, stop, ensure, ensure_row, align, chunk, row_copy, row_swap, row_wide, each, switch, if_there, call, patch, Cases, no_default, default, case, code_seen}
 use Rattle.cast_stub.specs.Steps.{Step, Room, Pad, Stored, Widened, Copied, Patched}
@@ -27,10 +28,14 @@ abbrev mutual
   AreRowless (default b) = IsRowless b
   AreRowless (case n b cs) = IsRowless b × AreRowless cs
 
+-- codes without row operations
+abbrev pub HaveNoRow : List (List SendOp) → Type 0
+HaveNoRow subs = (k : ℕ) (b : Block) → sub_at subs k ≡ Some b → IsRowless b
+
 -- a send code without row operations, in the codes that its calls name too
 pub record HasNoRow (code : SendCode) : Type 0 where
   pub ops : IsRowless (code_seen code.ops)
-  pub subs : (k : ℕ) (b : Block) → sub_at code.subs k ≡ Some b → IsRowless b
+  pub subs : HaveNoRow code.subs
 
 -- steps that give no row as a block
 abbrev pub GiveNoRow : List Step → Type 0

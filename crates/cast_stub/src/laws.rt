@@ -1,5 +1,5 @@
 // The laws of stub code, each the contract of a function that does nothing.
-ghost use Rattle.cast_stub.specs.Laws.{CodeBehindCode, CodeForPart, CostsAdd, MoreRoom, WrittenInTurn};
+ghost use Rattle.cast_stub.specs.Laws.{CallsInTurn, CodeBehindCode, CodeForPart, CostsAdd, EnsuresRunNoCall, MoreRoom, NoCallRunsNone, WrittenInTurn};
 
 /// The steps of code behind code are the steps of the first and then those of the second.
 pub fn code_behind_code()
@@ -25,4 +25,19 @@ pub fn steps_write_in_turn()
 /// Steps behind steps cost the sum.
 pub fn costs_add_up()
     ensures { CostsAdd }
+{}
+
+/// Code behind code runs the calls of the first and then those of the second.
+pub fn calls_run_in_turn()
+    ensures { CallsInTurn }
+{}
+
+/// Ensures that are left out take no call with them.
+pub fn ensures_run_no_call()
+    ensures { EnsuresRunNoCall }
+{}
+
+/// Code without calls runs none.
+pub fn code_without_calls_runs_none()
+    ensures { NoCallRunsNone }
 {}

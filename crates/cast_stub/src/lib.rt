@@ -4,17 +4,18 @@
 //! room is ensured are three folds over that list, in the definitions of this crate.
 #![tactic(auto)]
 
+pub mod copies;
+pub mod copying;
 mod laws;
+pub mod layouts;
 mod put;
 mod recv;
 mod send;
 
 pub use laws::{
-    code_behind_code, code_for_a_part, costs_add_up, more_room_never_harms, steps_write_in_turn,
+    calls_run_in_turn, code_behind_code, code_for_a_part, code_without_calls_runs_none,
+    costs_add_up, ensures_run_no_call, more_room_never_harms, steps_write_in_turn,
 };
 pub use put::{HeadField, Path, Put, Puts};
 pub use recv::{Get, Gets, RecvCases, RecvCode, RecvOp, RecvOps, RecvSubs};
 pub use send::{SendCases, SendCode, SendOp, SendOps, SendSubs};
-
-#[cfg(test)]
-mod tests;

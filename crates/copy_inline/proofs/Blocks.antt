@@ -5,6 +5,7 @@ use Rattle.cast_stub.specs.declared.put.Put.TheVariants as put
 use Rattle.cast_stub.specs.Block.{Block, stop, ensure, ensure_row, align, chunk, row_copy, row_swap, row_wide, each, switch, if_there, call, patch}
 use Rattle.cast_stub.specs.Append.{append, put_rebased, rebase}
 use Rattle.cast_stub.proofs.Appending.{append-assoc}
+use Rattle.cast_stub.proofs.Copied.{same-puts}
 use Rattle.copy_inline.specs.Spliced.{spliced, cases_spliced}
 
 pub rebase-append : (q : List ℕ) (a b : Block) → rebase q (append a b) ≡ append (rebase q a) (rebase q b)
@@ -65,22 +66,9 @@ spliced-append inl (if_there p w r) b = ap (if_there p (spliced inl w)) (spliced
 spliced-append inl (call k p r) b = ap (append (rebase p (inl k))) (spliced-append inl r b) ∙ sym (append-assoc (rebase p (inl k)) (spliced inl r) (spliced inl b))
 spliced-append inl (patch x s o r) b = ap (patch x s o) (spliced-append inl r b)
 
-put_rebased-none : (x : Put) → put_rebased [] x ≡ x
-put_rebased-none (put.Num off path w o) = refl
-put_rebased-none (put.Tag off path w o) = refl
-put_rebased-none (put.Flag off path w o) = refl
-put_rebased-none (put.Count off path m a w o) = refl
-put_rebased-none (put.Short off path name size m) = refl
-put_rebased-none (put.Const off os) = refl
-put_rebased-none (put.Head off f w o) = refl
-
-pub puts_rebased-none : (xs : List Put) → map (put_rebased []) xs ≡ xs
-puts_rebased-none [] = refl
-puts_rebased-none (x ∷ xs) = rw (put_rebased-none x, puts_rebased-none xs) refl
-
 pub rebase-none : (a : Block) → rebase [] a ≡ a
 rebase-none stop = refl
-rebase-none (chunk s ps r) = rw (puts_rebased-none ps, rebase-none r) refl
+rebase-none (chunk s ps r) = rw (same-puts ps, rebase-none r) refl
 rebase-none (ensure n r) = ap (ensure n) (rebase-none r)
 rebase-none (ensure_row p u e r) = ap (ensure_row p u e) (rebase-none r)
 rebase-none (align a r) = ap (align a) (rebase-none r)

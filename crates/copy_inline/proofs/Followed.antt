@@ -12,6 +12,7 @@ use Rattle.cast_stub.specs.Subs.{no_subs}
 use Rattle.cast_stub.specs.Follows.{flat, IsFlat, IsLoop, IsCount, Going, Child, Loops, FollowsBy, FieldsFollowBy, ArmsFollowBy}
 use Rattle.cast_stub.specs.Turned.{Layout, IsTurned}
 use Rattle.cast_stub.proofs.Appending.{append-stop}
+use Rattle.cast_stub.proofs.Followed.{own, mapped}
 use Rattle.copy_inline.specs.Spliced.{spliced, cases_spliced, spliced_or_stop, inlined}
 use Rattle.copy_inline.proofs.Blocks.{rebase-append, spliced-append}
 
@@ -31,10 +32,6 @@ flat-rebase q (switch p cs r) = refl
 flat-rebase q (if_there p b r) = refl
 flat-rebase q (call k p r) = refl
 flat-rebase q (patch a s o r) = refl
-
-mapped : (f : ℕ → ℕ) (x : Option ℕ) (n : ℕ) → option_map f x ≡ Some n → (m : ℕ) × (x ≡ Some m)
-mapped f None n e = absurd cc
-mapped f (Some m) n e = (m, refl)
 
 spliced-flat : (code : ℕ → Block) (b : Block) (n : ℕ) → flat b ≡ Some n → spliced code b ≡ b
 spliced-flat code stop n e = refl
@@ -64,10 +61,6 @@ count_spliced code Any b h = flat_spliced code 3 b h
 pub record AreKept (L : Loops) : Type 0 where
   pub rebased : (a : Array) (q p : List ℕ) (b : Block) → L a p b → L a (q ++ p) (rebase q b)
   pub spliced_too : (code : ℕ → Block) (a : Array) (p : List ℕ) (b : Block) → L a p b → L a p (spliced code b)
-
-pub own : (F : Going) (below : ℕ) (p : List ℕ) (b : Block) → Child no_subs F below p b → F below p b
-own F below p b (inl f) = f
-own F below p b (inr c) = absurd (let none = c.4 in cc)
 
 module _ (L : Loops) (kept : AreKept L) where
   mutual

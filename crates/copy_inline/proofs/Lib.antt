@@ -1,8 +1,7 @@
-pub mod Adding
 pub mod Blocks
-pub mod Copied
 pub mod Emitting
 pub mod Followed
 mod Free
+pub mod Shallow
 mod Same
 mod Whole

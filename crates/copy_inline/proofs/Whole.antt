@@ -17,7 +17,9 @@ use Rattle.cast_stub.specs.CallFree.{HasNoCall}
 use Rattle.cast_stub.specs.Follows.{IsLoop, Loops, FollowsBy}
 use Rattle.cast_stub.specs.Turned.{IsTurned}
 use Rattle.copy_inline.specs.Spliced.{inlined, spliced_or_stop, spliced}
-use Rattle.copy_inline.specs.Inlined.{Does, Goes, Turns}
+use Rattle.cast_stub.specs.Rowless.{IsRowless, HasNoRow}
+use Rattle.cast_stub.proofs.Followed.{through_rowless}
+use Rattle.copy_inline.specs.Inlined.{Does, Goes, GoThroughTypes, Turns}
 use Rattle.copy_inline.proofs.Blocks.{rebase-none}
 use Rattle.copy_inline.proofs.Same.{agrees}
 use Rattle.copy_inline.proofs.Free.{inlined_free}
@@ -62,3 +64,16 @@ does_go subs k ops there is nodes sound all = by (λ a. IsLoop) loops_kept subs 
 pub does_turn : (subs : List (List SendOp)) (k : ℕ) (ops : List SendOp) → k < length subs → code_seen ops ≡ inlined (sub_at subs) (suc deepest) k → Turns subs k (record { ops = ops; subs = [] })
 does_turn subs k ops there is layout nodes sound all =
     by (IsTurned layout) (turns_kept layout) subs k ops there is (type_at nodes k) sound (all k)
+
+-- no codes
+nothing_there : (k : ℕ) (b : Block) → sub_at [] k ≡ Some b → IsRowless b
+nothing_there k b e = absurd cc
+
+pub does_rowless : (subs : List (List SendOp)) (k : ℕ) (ops : List SendOp) (left : List (List SendOp)) → k < length subs → GoThroughTypes subs → code_seen ops ≡ inlined (sub_at subs) (suc deepest) k → left ≡ []
+    → HasNoRow (record { ops = ops; subs = left })
+does_rowless subs k ops left there given is none =
+    let through = does_go subs k ops there is given.0 (given.1 k) given.2 in
+    record {
+      ops = through_rowless (type_at given.0 k) k [] (code_seen ops) through;
+      subs = λ j b e. nothing_there j b (subst (λ (l : List (List SendOp)). sub_at l j ≡ Some b) none e);
+    }

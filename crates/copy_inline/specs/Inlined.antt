@@ -13,6 +13,10 @@ use Rattle.cast_stub.specs.Subs.{no_subs, sent_steps}
 use Rattle.cast_stub.specs.Follows.{FollowsBy, Follows, AllFollow}
 use Rattle.cast_stub.specs.Turned.{Layout, IsTurned, AllTurned}
 
+-- codes that go through the types of one table
+abbrev pub GoThroughTypes : List (List SendOp) → Type 0
+GoThroughTypes subs = (nodes : List Node) × ((k : ℕ) → IsSound (type_at nodes k)) × AllFollow nodes subs
+
 -- a code that makes the steps of the code at a place of a list, wherever these are defined
 abbrev pub Does : List (List SendOp) → ℕ → SendCode → Type 0
 Does subs id code = (ops : List SendOp) (h : Head) (v : Val) (ss : List Step) → slice_get subs id ≡ Some ops

@@ -1,2 +1,3 @@
 pub mod Inlined
+pub mod Nested
 pub mod Spliced

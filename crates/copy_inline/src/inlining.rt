@@ -1,22 +1,25 @@
 //! Each call replaced by the code that it names.
 
-ghost use Rattle.std.specs.Prelude.{◌≡◌, ◌<◌, ◌+◌, [], length, OnOk, IfOk, option_map};
+ghost use Rattle.std.specs.Prelude.{◌≡◌, ◌<◌, ◌≤◌, ◌+◌, [], length, None, OnOk, IfOk, option_map};
 ghost use Rattle.cast_stub.specs.Append.{append, rebase};
-ghost use Rattle.cast_stub.specs.Block.{stop, op_seen, code_seen};
+ghost use Rattle.cast_stub.specs.Block.{stop, op_seen, code_seen, cases_seen};
 ghost use Rattle.cast_stub.specs.Subs.{sub_at, deepest};
 ghost use Rattle.cast_stub.specs.CallFree.{HasNoCall};
-ghost use Rattle.copy_inline.specs.Inlined.{Does, Goes, Turns};
+ghost use Rattle.cast_stub.specs.Rowless.{HasNoRow};
+ghost use Rattle.copy_inline.specs.Inlined.{Does, Goes, GoThroughTypes, Turns};
+ghost use Rattle.copy_inline.specs.Nested.{CasesAre, IsShallow, OfCode, Within};
 ghost use Rattle.copy_inline.specs.Spliced.{spliced, inlined, pairs_seen, pairs_spliced};
 
-use crate::copying::{add, path_behind, puts_behind};
+use cast_stub::copies::case_of;
+use cast_stub::copying::{add, path_behind, puts_behind};
 use cast_stub::{Path, SendCases, SendCode, SendOp, SendOps, SendSubs};
 use kit_base::NoMemory;
 use mint::table::NodeId;
 use std::alloc::Global;
 
-// How many calls and bodies may stand within one another. More are refused as want of memory, so
-// that the native stack is enough.
-const NESTED: u32 = 1024;
+// How many levels the code of a node has at most: two for each of the 32 levels of a type, a body and
+// the code that it calls, and two for a row.
+const LEVELS: u32 = 66;
 
 // The operations of a code behind those of `out`, for the part at the prefix.
 #[cycle(inline)]
@@ -30,10 +33,13 @@ fn put_code(
     code: &SendOps,
     out: &mut SendOps,
 ) -> Result<(), NoMemory>
+    requires calls { nested ≤ calls }
+    requires levels { IsShallow (sub_at subs.now) nested (code_seen code.now) }
     ensures { OnOk result (code_seen out.new ≡ append (code_seen out.old) (rebase prefix.now (spliced (inlined (sub_at subs.now) calls) (code_seen code.now)))) }
 {
+    let inner = nested - 1;
     for op in code.as_slice() {
-        put_op(alloc, subs, calls, nested, prefix, op, out)?;
+        put_op(alloc, subs, calls, inner, prefix, op, out)?;
     }
     Ok(())
 }
@@ -50,11 +56,10 @@ fn put_op(
     op: &SendOp,
     out: &mut SendOps,
 ) -> Result<(), NoMemory>
+    requires calls { nested < calls }
+    requires levels { Within (sub_at subs.now) (IsShallow (sub_at subs.now) nested) (op_seen op.now stop) }
     ensures { OnOk result (code_seen out.new ≡ append (code_seen out.old) (rebase prefix.now (spliced (inlined (sub_at subs.now) calls) (op_seen op.now stop)))) }
 {
-    if nested == 0 {
-        return Err(NoMemory);
-    }
     match op {
         SendOp::Ensure(n) => add(out, SendOp::Ensure(*n)),
         SendOp::EnsureRow(path, unit, extra) => {
@@ -76,16 +81,16 @@ fn put_op(
             )
         }
         SendOp::Each(path, body) => {
-            let inner = body_of(alloc, subs, calls, nested - 1, body)?;
+            let inner = body_of(alloc, subs, calls, nested, body)?;
             add(out, SendOp::Each(path_behind(alloc, prefix, path)?, inner))
         }
         SendOp::Some(path, body) => {
-            let inner = body_of(alloc, subs, calls, nested - 1, body)?;
+            let inner = body_of(alloc, subs, calls, nested, body)?;
             add(out, SendOp::Some(path_behind(alloc, prefix, path)?, inner))
         }
         SendOp::Switch(path, cases, other) => {
-            let bodies = bodies_of(alloc, subs, calls, nested - 1, cases)?;
-            let last = last_of(alloc, subs, calls, nested - 1, other)?;
+            let bodies = bodies_of(alloc, subs, calls, nested, cases)?;
+            let last = last_of(alloc, subs, calls, nested, other)?;
             add(
                 out,
                 SendOp::Switch(path_behind(alloc, prefix, path)?, bodies, last),
@@ -93,7 +98,7 @@ fn put_op(
         }
         SendOp::Call(k, path) => {
             let part = path_behind(alloc, prefix, path)?;
-            put_called(alloc, subs, calls, nested - 1, &part, *k, out)
+            put_called(alloc, subs, calls, nested, &part, *k, out)
         }
         SendOp::Patch(at, sub, order) => add(out, SendOp::Patch(*at, *sub, *order)),
     }
@@ -109,6 +114,8 @@ fn body_of(
     nested: u32,
     body: &SendOps,
 ) -> Result<SendOps, NoMemory>
+    requires calls { nested ≤ calls }
+    requires levels { IsShallow (sub_at subs.now) nested (code_seen body.now) }
     ensures { IfOk result (λ code. code_seen code ≡ spliced (inlined (sub_at subs.now) calls) (code_seen body.now)) }
 {
     let mut inner = SendOps::new(alloc);
@@ -127,6 +134,8 @@ fn bodies_of(
     nested: u32,
     cases: &SendCases,
 ) -> Result<SendCases, NoMemory>
+    requires calls { nested ≤ calls }
+    requires levels { CasesAre (IsShallow (sub_at subs.now) nested) (cases_seen cases.now None) }
     ensures { IfOk result (λ bodies. pairs_seen bodies ≡ pairs_spliced (inlined (sub_at subs.now) calls) cases.now) }
 {
     let mut bodies = SendCases::new(alloc);
@@ -147,6 +156,8 @@ fn last_of(
     nested: u32,
     other: &Option<SendOps>,
 ) -> Result<Option<SendOps>, NoMemory>
+    requires calls { nested ≤ calls }
+    requires levels { CasesAre (IsShallow (sub_at subs.now) nested) (cases_seen [] other.now) }
     ensures { IfOk result (λ last. option_map code_seen last ≡ option_map (λ b. spliced (inlined (sub_at subs.now) calls) (code_seen b)) other.now) }
 {
     match other {
@@ -167,44 +178,39 @@ fn put_called(
     k: u32,
     out: &mut SendOps,
 ) -> Result<(), NoMemory>
+    requires calls { nested < calls }
+    requires levels { OfCode (sub_at subs.now k) (IsShallow (sub_at subs.now) nested) }
     ensures { OnOk result (code_seen out.new ≡ append (code_seen out.old) (rebase part.now (inlined (sub_at subs.now) calls k))) }
 {
-    if calls == 0 {
-        return Err(NoMemory);
-    }
     match subs.get(k as usize) {
         Some(code) => put_code(alloc, subs, calls - 1, nested, part, code, out),
-        None => Err(NoMemory),
+        None => unreachable!(),
     }
-}
-
-// A number and its body.
-fn case_of(n: &i128, body: SendOps) -> (i128, SendOps)
-    ensures number { result.0 ≡ n.now }
-    ensures body { result.1 ≡ body }
-{
-    (*n, body)
 }
 
 // How many calls stand within one another at most, and the code itself.
 fn levels() -> u32
-    ensures { result ≡ 1 + deepest }
+    ensures is { result ≡ 1 + deepest }
+    ensures few { 66 < result }
 {
     4097
 }
 
-/// The code of a node, each call replaced by the code that it names.
+/// The code of a node, each call replaced by the code that it names. The codes go through the nodes of
+/// one table.
 pub fn inline(alloc: Global, subs: &SendSubs, id: NodeId) -> Result<SendCode, NoMemory>
-    requires { id < length subs.now }
+    requires id { id < length subs.now }
+    requires types { GoThroughTypes subs.now }
     ensures steps { IfOk result (λ code. Does subs.now id code) }
     ensures subs { IfOk result (λ code. code.subs ≡ []) }
     ensures calls { IfOk result (λ code. HasNoCall (code_seen code.ops)) }
+    ensures no_row { IfOk result HasNoRow }
     ensures follows { IfOk result (λ code. Goes subs.now id code) }
     ensures turned { IfOk result (λ code. Turns subs.now id code) }
 {
     let mut ops = SendOps::new(alloc);
     let here = Path::new(alloc);
-    put_called(alloc, subs, levels(), NESTED, &here, id, &mut ops)?;
+    put_called(alloc, subs, levels(), LEVELS, &here, id, &mut ops)?;
     Ok(SendCode {
         ops,
         subs: SendSubs::new(alloc),

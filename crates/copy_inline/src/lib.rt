@@ -2,11 +2,6 @@
 //! value at the call's path.
 #![tactic(auto)]
 
-pub mod copies;
-pub mod copying;
 mod inlining;
 
 pub use inlining::inline;
-
-#[cfg(test)]
-mod tests;

@@ -2,26 +2,28 @@
 use Rattle.std.proofs.Common.{◌≡◌, ◌+◌, ◌<◌, ◌≤◌, ℕ, List, Err, Ok, length, take, drop, refl, arith}
 use Rattle.std.proofs.lemmas.List.{length-drop, take_all}
 use Rattle.mint.specs.Values.{Val}
-use Rattle.wire_def.specs.declared.encoding.Encoding.TheVariants.{Xdr}
 use Rattle.plain_wire.specs.Answered.{FirstSpell}
-use Rattle.back_xdr.specs.declared.call.OncCall.{OncCall}
-use Rattle.back_xdr.specs.Told.{BeginsCall}
+use Rattle.call_kit.specs.declared.called.Called.{Called}
+use Rattle.call_kit.specs.declared.called.Naming.TheVariants.{Operation}
+use Rattle.call_kit.specs.Calls.{IsOneHead}
 use Rattle.pres.specs.Bindings.{Binding}
 use Rattle.flick_engine.specs.declared.errors.MessageErr.TheVariants as err
-use Rattle.flick_engine.specs.declared.seek.Naming.TheVariants.{Operation}
+use Rattle.flick_engine.specs.Backs.{Begins}
 use Rattle.flick_engine.specs.Messages.{request_type}
 use Rattle.flick_engine.specs.Received.{Names, IsExactly}
+use Rattle.flick_engine.proofs.HeadsOfBacks.{one_head}
 use Rattle.flick_engine.proofs.Deciding.{exactly}
 
 -- the head of a call lies within the message
-pub head_within : (o : List ℕ) (c : OncCall) → BeginsCall o c → c.used ≤ length o
-head_within o c (h, used, begins, is) = rw (← is) begins.0
+pub head_within : (b : Binding) (o : List ℕ) (c : Called) → Begins b o c → c.used ≤ length o
+head_within b o c begins = (one_head b o).within c begins
 
-module _ (b : Binding) (o : List ℕ) (c : OncCall) (op : ℕ) (names : Names b o c (Operation op)) (v : Val) (used : ℕ) (spells : FirstSpell Xdr (request_type b op) c.used (drop c.used o) v used) where
+module _ (b : Binding) (o : List ℕ) (c : Called) (op : ℕ) (names : Names b o c (Operation op)) (v : Val) (used : ℕ)
+    (spells : FirstSpell c.encoding (request_type b op) c.used (drop c.used o) v used) where
   -- a body lies within the message
   pub body_within : c.used + used ≤ length o
   body_within =
-      let within = head_within o c names.0.1 in
+      let within = head_within b o c names.1 in
       omega (arith, within, spells.there, length-drop c.used o)
 
   -- octets follow

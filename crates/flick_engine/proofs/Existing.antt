@@ -5,37 +5,34 @@ use Rattle.std.proofs.lemmas.Bool.{ltb-true, ltb-false}
 use Rattle.std.proofs.lemmas.List.{length-drop, take-append-drop, take_at}
 use Rattle.mint.specs.Sound.{IsSound}
 use Rattle.mint.specs.Values.{Val}
-use Rattle.wire_def.specs.declared.encoding.Encoding.TheVariants.{Xdr}
 use Rattle.wire_def.specs.declared.fault.HeadErr.{HeadErr}
 use Rattle.wire_def.specs.Grammar.{AreOctets}
 use Rattle.wire_def.specs.Laws.{BeginsSpelled, HasFault}
 use Rattle.wire_def.specs.Spells.{IsSpelling}
+use Rattle.wire_def.proofs.Encodings.{decided}
 use Rattle.wire_def.proofs.Grammars.{octets_behind}
-use Rattle.wire_def.proofs.Xdr.{xdr_decided}
-use Rattle.back_xdr.specs.declared.call.OncCall.{OncCall}
-use Rattle.back_xdr.specs.Call.{Call}
-use Rattle.back_xdr.specs.Heads.{call, BeginsWith, StopsWith}
-use Rattle.back_xdr.specs.Told.{call_told}
-use Rattle.back_xdr.proofs.Lawful.{heads_are_decided}
+use Rattle.call_kit.specs.declared.called.Called.{Called}
+use Rattle.call_kit.specs.declared.called.Naming.{Naming}
+use Rattle.call_kit.specs.declared.called.Naming.TheVariants as naming
+use Rattle.call_kit.specs.Calls.{IsOneHead, HasHead}
 use Rattle.pres.specs.Bindings.{Binding}
 use Rattle.flick_engine.specs.declared.errors.MessageErr.{MessageErr}
 use Rattle.flick_engine.specs.declared.errors.MessageErr.TheVariants as err
-use Rattle.flick_engine.specs.declared.seek.Naming.{Naming}
-use Rattle.flick_engine.specs.declared.seek.Naming.TheVariants as naming
-use Rattle.flick_engine.specs.Procedures.{named}
+use Rattle.flick_engine.specs.Backs.{IsMade, Begins, Stops}
 use Rattle.flick_engine.specs.Messages.{request_type}
 use Rattle.flick_engine.specs.Received.{Asked, IsShort, Names, ReadCall}
+use Rattle.flick_engine.proofs.HeadsOfBacks.{one_head, has_head}
 
 above_or_not : (m n : ℕ) (t : Bool) → nat_lt m n ≡ t → (m < n) ⊎ (n ≤ m)
 above_or_not m n true is = inl (ltb-true m n is)
 above_or_not m n false is = inr (ltb-false m n is)
 
-module _ (b : Binding) (sound : (op : ℕ) → IsSound (request_type b op)) (o : List ℕ) (oct : AreOctets o) where
+module _ (b : Binding) (made : IsMade b.back) (sound : (op : ℕ) → IsSound (request_type b op)) (o : List ℕ) (oct : AreOctets o) where
   abbrev Something : Type 0
   Something = (x : Result Asked MessageErr) × ReadCall b o x
 
   -- a body that begins with a value's spelling
-  spelled : (c : OncCall) (op : ℕ) → Names b o c (naming.Operation op) → (a rest : List ℕ) (v : Val) → drop c.used o ≡ a ++ rest → IsSpelling Xdr (request_type b op) c.used a v → Something
+  spelled : (c : Called) (op : ℕ) → Names b o c (naming.Operation op) → (a rest : List ℕ) (v : Val) → drop c.used o ≡ a ++ rest → IsSpelling c.encoding (request_type b op) c.used a v → Something
   spelled c op names a [] v is spells = (
     Ok (record { op = op; head = c.head; value = v }),
     (c, op, names, (refl, refl, rw (is, append-nil) spells)),
@@ -60,27 +57,29 @@ module _ (b : Binding) (sound : (op : ℕ) → IsSound (request_type b op)) (o :
   )
 
   -- a body
-  body : (c : OncCall) (op : ℕ) → Names b o c (naming.Operation op) → BeginsSpelled Xdr (request_type b op) c.used (drop c.used o) ⊎ HasFault Xdr (request_type b op) c.used (drop c.used o) → Something
+  body : (c : Called) (op : ℕ) → Names b o c (naming.Operation op)
+      → BeginsSpelled c.encoding (request_type b op) c.used (drop c.used o) ⊎ HasFault c.encoding (request_type b op) c.used (drop c.used o) → Something
   body c op names (inl (a, rest, v, is, spells)) = spelled c op names a rest v is spells
   body c op names (inr (k, at, stops)) = (Err (err.Body (record { kind = k; at = at })), (c, op, names, stops))
 
   -- a call that names this
-  behind : (c : OncCall) (n : Naming) → Names b o c n → c.used ≤ length o → Something
-  behind c naming.NoInterface names within = (Err err.NoInterface, (c, names))
-  behind c naming.NoOperation names within = (Err err.NoOperation, (c, names))
-  behind c (naming.Operation op) names within =
+  behind : (c : Called) (n : Naming) → Names b o c n → Something
+  behind c naming.NoInterface names = (Err err.NoInterface, (c, names))
+  behind c naming.NoOperation names = (Err err.NoOperation, (c, names))
+  behind c (naming.Operation op) names =
       let octets : AreOctets (drop c.used o) = octets_behind (take c.used o) (drop c.used o) (rw take-append-drop oct) in
-      let short : c.used + length (drop c.used o) ≤ 4194304 = omega (arith, length-drop c.used o, names.0.0) in
-      body c op names (xdr_decided (request_type b op) (sound op) c.used (drop c.used o) octets short).either
+      let within = (one_head b o).within c names.1 in
+      let short : c.used + length (drop c.used o) ≤ 4194304 = omega (arith, length-drop c.used o, within, names.0) in
+      body c op names (decided c.encoding (request_type b op) (sound op) c.used (drop c.used o) octets short).either
 
   -- a head, or its fault
-  head : IsShort o → ((h : Call) × (used : ℕ) × BeginsWith call o h used) ⊎ ((e : HeadErr) × StopsWith call o e) → Something
-  head short (inl (h, used, begins)) = behind (call_told h used) (named b (call_told h used)) ((short, (h, used, begins, refl)), refl) begins.0
+  head : IsShort o → HasHead (Begins b o) (Stops b.back o) → Something
+  head short (inl (c, begins)) = behind c c.naming (short, begins, refl)
   head short (inr (e, stops)) = (Err (err.Head e), (short, stops))
 
   size : (4194304 < length o) ⊎ IsShort o → Something
   size (inl long) = (Err err.Long, long)
-  size (inr short) = head short (heads_are_decided call o oct).either
+  size (inr short) = head short (has_head b made o oct)
 
   pub something : Something
   something = size (above_or_not 4194304 (length o) (nat_lt 4194304 (length o)) refl)

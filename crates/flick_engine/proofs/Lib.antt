@@ -1,7 +1,5 @@
-pub mod Seeking
-pub mod Counting
+pub mod HeadsOfBacks
 pub mod Deciding
 pub mod Existing
 pub mod Answering
 pub mod Back
-pub mod Naming

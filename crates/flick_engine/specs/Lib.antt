@@ -1,4 +1,5 @@
-pub mod Procedures
+pub mod Backs
+pub mod Engines
 pub mod Messages
 pub mod Received
 pub mod Laws

@@ -1,22 +1,19 @@
 -- What the octets of a message are for the operations of a binding.
 use Rattle.std.specs.Prelude.{◌≡◌, ◌↔◌, ℕ, ◌+◌, ◌<◌, ◌≤◌, List, length, drop, Result, Ok, Err}
 use Rattle.mint.specs.Values.{Val, seen}
-use Rattle.wire_def.specs.declared.encoding.Encoding.TheVariants.{Xdr}
 use Rattle.wire_def.specs.declared.head.Head.{Head}
 use Rattle.wire_def.specs.Spells.{IsSpelling}
-use Rattle.wire_def.specs.Stops.{Stops}
+use Rattle.wire_def.specs.Stops as bodies
 use Rattle.plain_wire.specs.Answered.{FirstSpell}
-use Rattle.back_xdr.specs.declared.call.OncCall.{OncCall}
-use Rattle.back_xdr.specs.Heads.{call, StopsWith}
-use Rattle.back_xdr.specs.Told.{BeginsCall}
+use Rattle.call_kit.specs.declared.called.Called.{Called}
+use Rattle.call_kit.specs.declared.called.Naming.{Naming}
+use Rattle.call_kit.specs.declared.called.Naming.TheVariants.{Operation, NoInterface, NoOperation}
 use Rattle.pres.specs.Bindings.{Binding}
 use Rattle.flick_engine.specs.declared.requests.Request.{Request}
 use Rattle.flick_engine.specs.declared.errors.MessageErr.{MessageErr}
 use Rattle.flick_engine.specs.declared.errors.MessageErr.TheVariants as err
-use Rattle.flick_engine.specs.declared.seek.Naming.{Naming}
-use Rattle.flick_engine.specs.declared.seek.Naming.TheVariants.{Operation, NoInterface, NoOperation}
-use Rattle.flick_engine.specs.Procedures.{named}
-use Rattle.flick_engine.specs.Messages.{request_type}
+use Rattle.flick_engine.specs.Backs.{Begins, Stops}
+use Rattle.flick_engine.specs.Messages.{longest_message, request_type}
 
 -- an operation, and the head and the value of a call of it
 pub record Asked : Type 0 where
@@ -26,34 +23,30 @@ pub record Asked : Type 0 where
 
 -- at most so many octets as a message may have
 abbrev pub IsShort : List ℕ → Type 0
-IsShort o = length o ≤ 4194304
+IsShort o = length o ≤ longest_message
 
--- the octets begin with the head of this call
-abbrev pub Begins : List ℕ → OncCall → Type 0
-Begins o c = IsShort o × BeginsCall o c
+-- the octets begin with the head of a call that names this
+abbrev pub Names : Binding → List ℕ → Called → Naming → Type 0
+Names b o c n = IsShort o × Begins b o c × (c.naming ≡ n)
 
--- they begin with the head of a call that names this
-abbrev pub Names : Binding → List ℕ → OncCall → Naming → Type 0
-Names b o c n = Begins o c × (named b c ≡ n)
-
--- they begin with the head of a call that names an operation, and there is this behind the head
-abbrev pub Called : Binding → List ℕ → (OncCall → ℕ → Type 0) → Type 0
-Called b o Behind = (c : OncCall) × (op : ℕ) × Names b o c (Operation op) × Behind c op
+-- they begin with the head of a call that names an operation, and there is this after the head
+abbrev pub Calls : Binding → List ℕ → (Called → ℕ → Type 0) → Type 0
+Calls b o After = (c : Called) × (op : ℕ) × Names b o c (Operation op) × After c op
 
 -- what a message is: the first of these that holds. Places are counted from its first octet.
 abbrev pub ReadCall : Binding → List ℕ → Result Asked MessageErr → Type 0
-ReadCall b o (Err err.Long) = 4194304 < length o
-ReadCall b o (Err (err.Head e)) = IsShort o × StopsWith call o e
-ReadCall b o (Err err.NoInterface) = (c : OncCall) × Names b o c NoInterface
-ReadCall b o (Err err.NoOperation) = (c : OncCall) × Names b o c NoOperation
--- the octets behind the head stop with the fault
-ReadCall b o (Err (err.Body f)) = Called b o (λ c op. Stops Xdr (request_type b op) c.used (drop c.used o) f.kind f.at)
+ReadCall b o (Err err.Long) = longest_message < length o
+ReadCall b o (Err (err.Head e)) = IsShort o × Stops b.back o e
+ReadCall b o (Err err.NoInterface) = (c : Called) × Names b o c NoInterface
+ReadCall b o (Err err.NoOperation) = (c : Called) × Names b o c NoOperation
+-- the octets after the head stop with the fault
+ReadCall b o (Err (err.Body f)) = Calls b o (λ c op. bodies.Stops c.encoding (request_type b op) c.used (drop c.used o) f.kind f.at)
 -- they begin with a value's, and others follow at the place
-ReadCall b o (Err (err.Trailing at)) = Called b o (λ c op.
-    (v : Val) × (used : ℕ) × FirstSpell Xdr (request_type b op) c.used (drop c.used o) v used × (at ≡ c.used + used) × (at < length o))
+ReadCall b o (Err (err.Trailing at)) = Calls b o (λ c op.
+    (v : Val) × (used : ℕ) × FirstSpell c.encoding (request_type b op) c.used (drop c.used o) v used × (at ≡ c.used + used) × (at < length o))
 -- they are a value's
-ReadCall b o (Ok r) = Called b o (λ c op.
-    (r.op ≡ op) × (r.head ≡ c.head) × IsSpelling Xdr (request_type b op) c.used (drop c.used o) r.value)
+ReadCall b o (Ok r) = Calls b o (λ c op.
+    (r.op ≡ op) × (r.head ≡ c.head) × IsSpelling c.encoding (request_type b op) c.used (drop c.used o) r.value)
 ReadCall b o (Err err.NoMemory) = ⊥
 
 -- a request, its value seen as its plain tree

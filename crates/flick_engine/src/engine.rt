@@ -1,6 +1,6 @@
 // An engine.
-ghost use Rattle.std.specs.Prelude.{◌≡◌, ◌<◌, length, IfOk, slice_get, Some};
-ghost use Rattle.wire_def.specs.declared.encoding.Back.TheVariants as back;
+ghost use Rattle.std.specs.Prelude.{◌≡◌, IfOk};
+ghost use Rattle.flick_engine.specs.Backs.{IsMade};
 
 use kit_base::NoMemory;
 use pres::Bound;
@@ -14,35 +14,33 @@ pub struct Engine {
 }
 
 impl Model for Engine {
-    ghost use Rattle.std.specs.Prelude.{◌≡◌};
-    ghost use Rattle.pres.specs.Bindings.{Binding};
-    ghost use Rattle.wire_def.specs.declared.encoding.Back.TheVariants.{Xdr};
+    ghost use Rattle.flick_engine.specs.Engines.{Compiled};
+    ghost use Rattle.flick_engine.specs.Backs.{IsMade};
     ghost use Rattle.std.specs.Coded.{codes};
-    ghost use Rattle.aoi.specs.contracts.types.Ty as t;
-    ghost use Rattle.aoi.specs.contracts.types.Field as f;
+    ghost use Rattle.aoi.specs.Stored.{coded_shape, coded_members};
 
-    ghost Value = { Binding };
+    ghost Value = { Compiled };
 
-    ghost coded = { Prim.hlevel (codes, t.the_row.coded, f.the_row.coded) };
+    ghost coded = { Prim.hlevel (codes, coded_shape, coded_members) };
 
-    ghost view = { λ e. e.bound };
+    ghost view = { λ e. record { binding = e.bound } };
 
-    ghost invariant = { λ e. e.bound.back ≡ Xdr };
+    ghost invariant = { λ e. IsMade e.bound.back };
 }
 
 impl Engine {
     /// An engine for what is bound.
     pub fn compile(_alloc: Global, bound: Bound) -> Result<Engine, NoMemory>
-        requires xdr { bound.back ≡ back.Xdr }
-        ensures { IfOk result (λ e. e ≡ bound) }
+        requires made { IsMade bound.back }
+        ensures { IfOk result (λ e. e.binding ≡ bound) }
     {
         Ok(Engine { bound })
     }
 
     /// What is bound.
     pub fn bound(&self) -> &Bound
-        ensures value { result.now ≡ self.now }
-        ensures xdr { self.now.back ≡ back.Xdr }
+        ensures value { result.now ≡ self.now.binding }
+        ensures made { IsMade self.now.binding.back }
     {
         &self.bound
     }

@@ -1,61 +1,64 @@
 // Messages as requests.
-ghost use Rattle.std.specs.Prelude.{◌≡◌, ◌≢◌, ◌↔◌, ◌<◌, ◌+◌, ℕ, length, drop, Err, IfOk};
+ghost use Rattle.std.specs.Prelude.{◌≡◌, ◌≢◌, ◌↔◌, ◌<◌, ◌+◌, ℕ, length, drop, Ok, Err, IfOk, IfErr};
 ghost use Rattle.mint.specs.Typed.{IsWellTyped};
 ghost use Rattle.mint.specs.Values.{Val, seen};
-ghost use Rattle.wire_def.specs.declared.encoding.Encoding.TheVariants.{Xdr};
 ghost use Rattle.wire_def.specs.declared.fault.FaultKind.{FaultKind};
+ghost use Rattle.wire_def.specs.Lone.{IsPlain};
 ghost use Rattle.wire_def.specs.Stops.{Stops};
 ghost use Rattle.plain_wire.specs.Answered.{IsValue, IsStop, FirstSpell};
 ghost use Rattle.flick_engine.specs.Messages.{request_type};
-ghost use Rattle.flick_engine.specs.Procedures.{named};
-ghost use Rattle.flick_engine.specs.Received.{Answers, Begins};
+ghost use Rattle.flick_engine.specs.Received.{Answers, IsExactly, Names};
 
 use crate::engine::Engine;
 use crate::errors::MessageErr;
 use crate::marshal::LONGEST;
 use crate::requests::Request;
-use crate::seek::Naming;
-use back_xdr::{OncCall, read_call};
+use call_kit::{Called, Naming};
 use plain_wire::{Read, plain_read};
 use raw_buf::RecvView;
 use std::alloc::Global;
-use wire_def::Encoding;
 
 impl Engine {
-    /// Reads the request of a message. The view stays at its first octet.
+    /// Reads the request of a message. Where the view then stands is not said.
     pub fn unmarshal(&self, alloc: Global, view: &mut RecvView<'_>) -> Result<Request, MessageErr>
         requires start { view.old.pos ≡ 0 }
-        ensures read { Answers self.now view.old.octets result }
-        ensures same { view.new ≡ view.old }
-        ensures op { IfOk result (λ r. r.op < length self.now.ops) }
-        ensures typed { IfOk result (λ r. IsWellTyped (request_type self.now r.op) (seen r.value)) }
+        ensures read { Answers self.now.binding view.old.octets result }
+        ensures op { IfOk result (λ r. r.op < length self.now.binding.ops) }
+        ensures typed { IfOk result (λ r. IsWellTyped (request_type self.now.binding r.op) (seen r.value)) }
     {
-        let message = view.rest();
-        if message.len() > LONGEST {
-            return Err(MessageErr::Long);
-        }
-        match read_call(message) {
-            Ok(call) => self.read_call(alloc, &call, message),
-            Err(fault) => Err(MessageErr::Head(fault)),
+        self.read_message(alloc, view.rest())
+    }
+
+    /// Reads the request of a message from its octets.
+    fn read_message(&self, alloc: Global, message: &[u8]) -> Result<Request, MessageErr>
+        ensures read { Answers self.now.binding message.now result }
+        ensures op { IfOk result (λ r. r.op < length self.now.binding.ops) }
+        ensures typed { IfOk result (λ r. IsWellTyped (request_type self.now.binding r.op) (seen r.value)) }
+    {
+        match self.begin(message) {
+            Ok((called, op)) => self.read_body(alloc, op, &called, message),
+            Err(fault) => Err(fault),
         }
     }
 
-    /// Reads the request of a message that begins with this head.
-    fn read_call(
-        &self,
-        alloc: Global,
-        call: &OncCall,
-        message: &[u8],
-    ) -> Result<Request, MessageErr>
-        requires { Begins message.now call.now }
-        ensures read { Answers self.now message.now result }
-        ensures op { IfOk result (λ r. r.op < length self.now.ops) }
-        ensures typed { IfOk result (λ r. IsWellTyped (request_type self.now r.op) (seen r.value)) }
+    /// The operation that a message calls, and what its head says. It wants no memory.
+    fn begin(&self, message: &[u8]) -> Result<(Called, u32), MessageErr>
+        ensures ok { IfOk result (λ r. Names self.now.binding message.now r.0 (Naming.Operation r.1)) }
+        ensures op { IfOk result (λ r. r.1 < length self.now.binding.ops) }
+        ensures plain { IfOk result (λ r. IsPlain r.0.encoding) }
+        ensures err { IfErr result (λ e. IsExactly self.now.binding message.now (Err e)) }
+        ensures memory { result ≢ Err MessageErr.NoMemory }
     {
-        match self.named(call) {
-            Naming::Operation(op) => self.read_body(alloc, op, call, message),
-            Naming::NoInterface => Err(MessageErr::NoInterface),
-            Naming::NoOperation => Err(MessageErr::NoOperation),
+        if message.len() > LONGEST {
+            return Err(MessageErr::Long);
+        }
+        match self.read_head(message) {
+            Ok(called) => match called.naming {
+                Naming::Operation(op) => Ok((called, op)),
+                Naming::NoInterface => Err(MessageErr::NoInterface),
+                Naming::NoOperation => Err(MessageErr::NoOperation),
+            },
+            Err(fault) => Err(MessageErr::Head(fault)),
         }
     }
 
@@ -64,49 +67,48 @@ impl Engine {
         &self,
         alloc: Global,
         op: u32,
-        call: &OncCall,
+        called: &Called,
         message: &[u8],
     ) -> Result<Request, MessageErr>
-        requires op { op < length self.now.ops }
-        requires begins { Begins message.now call.now }
-        requires named { named self.now call.now ≡ Naming.Operation op }
-        ensures read { Answers self.now message.now result }
-        ensures op { IfOk result (λ r. r.op < length self.now.ops) }
-        ensures typed { IfOk result (λ r. IsWellTyped (request_type self.now r.op) (seen r.value)) }
+        requires op { op < length self.now.binding.ops }
+        requires names { Names self.now.binding message.now called.now (Naming.Operation op) }
+        requires plain { IsPlain called.now.encoding }
+        ensures read { Answers self.now.binding message.now result }
+        ensures op { IfOk result (λ r. r.op < length self.now.binding.ops) }
+        ensures typed { IfOk result (λ r. IsWellTyped (request_type self.now.binding r.op) (seen r.value)) }
     {
         let mint = self.bound().mint();
         let id = self.request(op);
-        let read = plain_read(alloc, Encoding::Xdr, mint, id, call.used, message)?;
-        self.told_by_body(op, call, message, read)
+        let read = plain_read(alloc, called.encoding, mint, id, called.used, message)?;
+        self.told_by_body(op, called, message, read)
     }
 
     /// The request of a message whose body was read so. It wants no memory.
     fn told_by_body(
         &self,
         op: u32,
-        call: &OncCall,
+        called: &Called,
         message: &[u8],
         read: Read,
     ) -> Result<Request, MessageErr>
-        requires op { op < length self.now.ops }
-        requires begins { Begins message.now call.now }
-        requires named { named self.now call.now ≡ Naming.Operation op }
-        requires value { (v : Val) (used : ℕ) → IsValue read v used ↔ FirstSpell Xdr (request_type self.now op) call.now.used (drop call.now.used message.now) v used }
-        requires stop { (k : FaultKind) (at : ℕ) → IsStop read k at ↔ Stops Xdr (request_type self.now op) call.now.used (drop call.now.used message.now) k at }
-        ensures read { Answers self.now message.now result }
-        ensures op { IfOk result (λ r. r.op < length self.now.ops) }
-        ensures typed { IfOk result (λ r. IsWellTyped (request_type self.now r.op) (seen r.value)) }
+        requires op { op < length self.now.binding.ops }
+        requires names { Names self.now.binding message.now called.now (Naming.Operation op) }
+        requires value { (v : Val) (used : ℕ) → IsValue read v used ↔ FirstSpell called.now.encoding (request_type self.now.binding op) called.now.used (drop called.now.used message.now) v used }
+        requires stop { (k : FaultKind) (at : ℕ) → IsStop read k at ↔ Stops called.now.encoding (request_type self.now.binding op) called.now.used (drop called.now.used message.now) k at }
+        ensures read { Answers self.now.binding message.now result }
+        ensures op { IfOk result (λ r. r.op < length self.now.binding.ops) }
+        ensures typed { IfOk result (λ r. IsWellTyped (request_type self.now.binding r.op) (seen r.value)) }
         ensures memory { result ≢ Err MessageErr.NoMemory }
     {
         match read {
             Read::Value(value, used) => {
-                let end = call.used + used;
+                let end = called.used + used;
                 if end < message.len() {
                     return Err(MessageErr::Trailing(end));
                 }
                 Ok(Request {
                     op,
-                    head: call.head,
+                    head: called.head,
                     value,
                 })
             }

@@ -1,6 +1,5 @@
 -- A line has one answer.
-use Rattle.std.proofs.Common.{◌≡◌, inl, inr, ℕ, List, [], ◌∷◌, ◌++◌, Result, Ok, Err, Option, Some, None, sym, ◌∙◌, ap, subst}
-use Rattle.std.specs.Prelude.{codes}
+use Rattle.std.proofs.Common.{◌≡◌, inl, inr, ℕ, List, [], ◌∷◌, ◌++◌, Result, Ok, Err, Option, Some, None, sym, ◌∙◌, ap}
 use Rattle.hex.specs.Hex.{decode_of}
 use Rattle.hex.specs.declared.error.FromHexError.{FromHexError}
 use Rattle.kit_base.specs.declared.lines.Line.{Line}
@@ -42,8 +41,8 @@ one_of_octets b (Err e) x y p q = p ∙ sym q
 one_of_octets b (Ok o) x y (v, p, e) (w, q, f) = e ∙ ap (answer_text b) (determined b o v w p q) ∙ sym f
 
 one_to : (job : Job) (octets x y : List ℕ) → IsAnswerTo job octets x → IsAnswerTo job octets y → x ≡ y
-one_to (Marshal b) octets x y p q = one_of_tree b (tree_of octets) x y p q
-one_to (Unmarshal b) octets x y p q = one_of_octets b (decode_of octets) x y p q
+one_to (Marshal e) octets x y p q = one_of_tree e.binding (tree_of octets) x y p q
+one_to (Unmarshal e) octets x y p q = one_of_octets e.binding (decode_of octets) x y p q
 
 pub one_answer : (job : Job) (line : Line) (x y : List ℕ) → IsAnswer job line x → IsAnswer job line y → x ≡ y
 one_answer job (Text octets) x y (a, p, e) (c, q, f) = e ∙ ap (λ (l : List ℕ). l ++ 10 ∷ []) (one_to job octets a c p q) ∙ sym f

@@ -13,7 +13,7 @@ use Rattle.pres.specs.declared.ops.Op.{Op}
 use Rattle.pres.specs.Bindings.{Binding}
 use Rattle.pres.specs.Faces.{Face, Parts, no_parts, part, Arms, Sign, face_at}
 use Rattle.pres.specs.Faces as face
-use Rattle.serde_json.specs.Data.{Data, null, number, unsigned, string, Items, no_items, item, Members, no_members, member, put}
+use Rattle.serde_json.specs.Data.{Data, null, number, unsigned, string, Members, no_members, member, put}
 use Rattle.serde_json.specs.Find.{is_float, of_integer}
 use Rattle.serde_json.specs.Written.{has_float, items_have_float, members_have_float}
 use Rattle.json_shape.specs.Operations.{dotted}

@@ -1,6 +1,6 @@
 -- What a record that was read, or refused, is answered.
 use Rattle.std.proofs.Common.{◌≡◌, inl, inr, ℕ, List, Result, Ok, Err, refl, sym, ap, ◌∙◌, subst}
-use Rattle.mint.specs.Values.{Val, seen}
+use Rattle.mint.specs.Values.{seen}
 use Rattle.wire_def.specs.declared.head.Head.{Head}
 use Rattle.pres.specs.Bindings.{Binding}
 use Rattle.json_shape.specs.declared.errors.RecordErr.{RecordErr}

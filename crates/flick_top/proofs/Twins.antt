@@ -1,4 +1,4 @@
--- Bindings of units of one plain tree answer alike over Xdr.
+-- Bindings of one unit answer alike over Xdr, whatever numbers their nodes have.
 use Rattle.std.proofs.Common.{◌≡◌, inl, inr, ℕ, zero, suc, ◌+◌, ◌<◌, ◌≤◌, List, [], ◌∷◌, ◌++◌, map, length, drop, Bool, true, false, Option, Some, None, Result, Ok, Err, refl, sym, ap, ◌∙◌, subst, arith}
 use Rattle.std.specs.Prelude.{codes, not, slice_get, slice_index_or, if◌then◌else◌}
 use Rattle.std.specs.Str.{bytes_eq}
@@ -7,14 +7,13 @@ use Rattle.mint.specs.Types.{Ty}
 use Rattle.mint.specs.Values.{Val}
 use Rattle.wire_def.specs.declared.encoding.Back.{Back}
 use Rattle.wire_def.specs.declared.encoding.Back.TheVariants.{Xdr}
-use Rattle.wire_def.specs.declared.encoding.Encoding.TheVariants as encoding
 use Rattle.wire_def.specs.declared.head.Head.{Head}
 use Rattle.wire_def.specs.declared.head.Order.TheVariants.{Big}
 use Rattle.wire_def.specs.Send.{send}
 use Rattle.wire_def.specs.Spells.{IsSpelling}
-use Rattle.wire_def.specs.Stops.{Stops}
+use Rattle.wire_def.specs.Stops as bodies
 use Rattle.back_xdr.specs.declared.call.OncCall.{OncCall}
-use Rattle.aoi.specs.declared.interfaces.Interface.{Interface}
+use Rattle.aoi.specs.Plain.{PlainUnit, PlainInterface}
 use Rattle.pres.specs.declared.ops.Op.{Op}
 use Rattle.pres.specs.Bindings.{Binding, IsBinding}
 use Rattle.pres.specs.Faces.{Face, at, faces, type_of}
@@ -32,20 +31,24 @@ use Rattle.json_shape.specs.Texts.{text_of}
 use Rattle.json_shape.specs.Written.{json_of}
 use Rattle.flick_engine.specs.declared.errors.MessageErr.{MessageErr}
 use Rattle.flick_engine.specs.declared.errors.MessageErr.TheVariants as err
-use Rattle.back_xdr.specs.Leads.{lead}
+use Rattle.back_xdr.specs.Leads as xdr_leads
 use Rattle.back_xdr.specs.Procedures.{procedures, procedure_of}
-use Rattle.flick_engine.specs.Procedures.{named, IsBelow}
+use Rattle.call_kit.specs.declared.called.Called.{Called}
+use Rattle.call_kit.specs.declared.called.Naming.{Naming}
+use Rattle.call_kit.specs.declared.called.Naming.TheVariants.{Operation}
+use Rattle.call_kit.specs.Calls.{IsBelow}
+use Rattle.back_xdr.specs.Seeking.{named, named_from, called, Calls}
+use Rattle.flick_engine.specs.Backs.{encoding, lead_over, lead, BeginsOver, Begins, Stops}
 use Rattle.flick_engine.specs.Messages.{request_type, message}
-use Rattle.flick_engine.specs.Received.{Asked, ReadCall}
+use Rattle.flick_engine.specs.Received.{Asked, Names, ReadCall}
 use Rattle.back_xdr.proofs.Counting.{counted}
-use Rattle.flick_engine.proofs.Counting.{named_below}
+use Rattle.back_xdr.proofs.NamedBelow.{named_below}
 use Rattle.flick_top.specs.Marshalled.{digits_of, IsMessage, IsOfRecord, IsOfTree}
 use Rattle.flick_top.specs.Unmarshalled.{record_text, answer_text, IsOfOctets}
-use Rattle.flick_top.proofs.Alike.{AreAlike, offers_alike, procedures_alike, named_alike, names_alike}
 
--- bindings over Xdr, of units of one plain tree
+-- bindings over Xdr of one unit
 pub record AreTwins (b c : Binding) : Type 0 where
-  pub units : AreAlike b.unit c.unit
+  pub units : b.unit ≡ c.unit
   pub one : IsBinding b
   pub other : IsBinding c
   pub one_xdr : b.back ≡ Xdr
@@ -65,7 +68,7 @@ backs_alike : (b c : Binding) → AreTwins b c → b.back ≡ c.back
 backs_alike b c t = t.one_xdr ∙ sym t.other_xdr
 
 ops_alike : (b c : Binding) → AreTwins b c → AreSame (faces_in b) (faces_in c) b.ops c.ops
-ops_alike b c t = t.one.offered ∙ ap (offers b.unit) (backs_alike b c t) ∙ offers_alike b.unit c.unit c.back t.units ∙ sym t.other.offered
+ops_alike b c t = t.one.offered ∙ ap (offers b.unit) (backs_alike b c t) ∙ ap (λ (u : PlainUnit). offers u c.back) t.units ∙ sym t.other.offered
 
 first_same : (fs gs : List Face) (o p : Op) (os ps : List Op) → AreSame fs gs (o ∷ os) (p ∷ ps) → offer_at fs o ≡ offer_at gs p
 first_same fs gs o p os ps e = cc e
@@ -93,17 +96,28 @@ place_same : {A : Type 0} (xs ys : List A) (n : ℕ) (d : A) → xs ≡ ys → s
 place_same xs ys n d e = ap (λ zs. slice_index_or zs n d) e
 
 procedure_alike : (b c : Binding) → AreTwins b c → (op : ℕ) → procedure_of b op ≡ procedure_of c op
-procedure_alike b c t op = place_same _ _ op _ (procedures_alike b.unit c.unit t.units)
+procedure_alike b c t op = place_same _ _ op _ (ap (λ (u : PlainUnit). procedures u.interfaces) t.units)
+
+-- the head of an operation's call
+lead_alike : (b c : Binding) → AreTwins b c → (op : ℕ) (h : Head) → lead b op h ≡ lead c op h
+lead_alike b c t op h =
+    ap (λ (k : Back). lead_over k b op h) t.one_xdr
+    ∙ ap (λ z. xdr_leads.lead z h.id) (procedure_alike b c t op)
+    ∙ ap (λ (k : Back). lead_over k c op h) (sym t.other_xdr)
 
 message_alike : (b c : Binding) → AreTwins b c → (op : ℕ) → op < length b.ops → (h : Head) (v : Val) → message b op h v ≡ message c op h v
 message_alike b c t op below h v =
-    ap (λ z. lead z h.id ++ send encoding.Xdr (request_type b op) 40 v) (procedure_alike b c t op)
-    ∙ ap (λ (ty : Ty). lead (procedure_of c op) h.id ++ send encoding.Xdr ty 40 v) (request_alike b c t op below)
+    ap (λ (l : List ℕ). l ++ send (encoding b.back) (request_type b op) (length l) v) (lead_alike b c t op h)
+    ∙ ap (λ (k : Back). lead c op h ++ send (encoding k) (request_type b op) (length (lead c op h)) v) (backs_alike b c t)
+    ∙ ap (λ (ty : Ty). lead c op h ++ send (encoding c.back) ty (length (lead c op h)) v) (request_alike b c t op below)
 
-dotted_alike : (fs gs : List Face) (is js : List Interface) (o p : Op) → map (λ (i : Interface). i.name) is ≡ map (λ (i : Interface). i.name) js → offer_at fs o ≡ offer_at gs p → dotted is o ≡ dotted js p
+names_alike : (b c : Binding) → AreTwins b c → map (λ (i : PlainInterface). i.name) b.unit.interfaces ≡ map (λ (i : PlainInterface). i.name) c.unit.interfaces
+names_alike b c t = ap (λ (u : PlainUnit). map (λ (i : PlainInterface). i.name) u.interfaces) t.units
+
+dotted_alike : (fs gs : List Face) (is js : List PlainInterface) (o p : Op) → map (λ (i : PlainInterface). i.name) is ≡ map (λ (i : PlainInterface). i.name) js → offer_at fs o ≡ offer_at gs p → dotted is o ≡ dotted js p
 dotted_alike fs gs is js o p names e =
     ap (λ (ns : List (List ℕ)). slice_index_or ns o.interface [] ++ (codes "." ++ o.name)) names
-    ∙ ap (λ (x : Offer). slice_index_or (map (λ (i : Interface). i.name) js) x.interface [] ++ (codes "." ++ x.name)) e
+    ∙ ap (λ (x : Offer). slice_index_or (map (λ (i : PlainInterface). i.name) js) x.interface [] ++ (codes "." ++ x.name)) e
 
 -- ---- records
 
@@ -119,7 +133,7 @@ either_found n fs gs true false x y v w e h g = absurd (cc e)
 either_found n fs gs false true x y v w e h g = absurd (cc e)
 either_found n fs gs false false x y v w e h g = g
 
-found_alike : (n : ℕ) (fs gs : List Face) (is js : List Interface) (s : List ℕ) (k : ℕ) (os ps : List Op) → map (λ (i : Interface). i.name) is ≡ map (λ (i : Interface). i.name) js
+found_alike : (n : ℕ) (fs gs : List Face) (is js : List PlainInterface) (s : List ℕ) (k : ℕ) (os ps : List Op) → map (λ (i : PlainInterface). i.name) is ≡ map (λ (i : PlainInterface). i.name) js
     → AreSame fs gs os ps → k + length os ≤ n → AreFound n fs gs (op_from is s k os) (op_from js s k ps)
 found_alike n fs gs is js s k [] [] names e fits = tt
 found_alike n fs gs is js s k [] (p ∷ ps) names e fits = absurd (none_same fs gs p ps e)
@@ -169,7 +183,7 @@ record_over : (b c : Binding) → AreTwins b c → (j : Data) (a : List ℕ) →
 record_over b c t j a h =
     let s = text_at (codes "op") j in
     let found : AreFound (length b.ops) (faces_in b) (faces_in c) (op_named b s) (op_named c s) =
-    found_alike (length b.ops) (faces_in b) (faces_in c) b.unit.interfaces c.unit.interfaces s 0 b.ops c.ops (names_alike b.unit c.unit t.units) (ops_alike b c t) (omega arith) in
+    found_alike (length b.ops) (faces_in b) (faces_in c) b.unit.interfaces c.unit.interfaces s 0 b.ops c.ops (names_alike b c t) (ops_alike b c t) (omega arith) in
     request_over b c (is_request b.back j) (is_request c.back j) (asked_of b j (op_named b s)) (asked_of c j (op_named c s)) a
     (ap (λ (k : Back). is_request k j) (backs_alike b c t)) (found_over b c t j (op_named b s) (op_named c s) a found) h
 
@@ -184,21 +198,45 @@ below_ops b stands xdr k =
     let all : 0 + length (procedures b.unit.interfaces) ≡ length b.ops = omega (arith, counted b stands xdr) in
     subst (λ (n : ℕ). IsBelow n (named b k)) all (named_below 0 b.unit.interfaces k)
 
+-- what a call that names this says
+abbrev called_with : OncCall → Naming → Called
+called_with k n = record { naming = n; head = k.head; encoding = encoding Xdr; used = k.used }
+
+called_alike : (b c : Binding) → AreTwins b c → (k : OncCall) → called b k ≡ called c k
+called_alike b c t k = ap (called_with k) (ap (λ (u : PlainUnit). named_from 0 u.interfaces k) t.units)
+
+calls_over : (b c : Binding) → AreTwins b c → (o : List ℕ) (k : Called) → Calls b o k → Calls c o k
+calls_over b c t o k (call, begins, is) = (call, begins, sym (called_alike b c t call) ∙ is)
+
+begins_over : (b c : Binding) → AreTwins b c → (o : List ℕ) (k : Called) → Begins b o k → Begins c o k
+begins_over b c t o k h =
+    subst (λ (x : Back). BeginsOver x c o k) (sym t.other_xdr) (calls_over b c t o k (subst (λ (x : Back). BeginsOver x b o k) t.one_xdr h))
+
+begins_below : (b c : Binding) → AreTwins b c → (o : List ℕ) (k : Called) → Begins b o k → IsBelow (length b.ops) k.naming
+begins_below b c t o k h = go (subst (λ (x : Back). BeginsOver x b o k) t.one_xdr h) where
+  go : Calls b o k → IsBelow (length b.ops) k.naming
+  go (call, begins, is) = subst (λ (x : Called). IsBelow (length b.ops) x.naming) is (below_ops b t.one t.one_xdr call)
+
+-- the request of an operation that a message names
+named_request : (b c : Binding) → AreTwins b c → (o : List ℕ) (k : Called) (op : ℕ) → Names b o k (Operation op) → request_type b op ≡ request_type c op
+named_request b c t o k op (short, begins, is) =
+    request_alike b c t op (subst (λ n. IsBelow (length b.ops) n) is (begins_below b c t o k begins))
+
+names_over : (b c : Binding) → AreTwins b c → (o : List ℕ) (k : Called) (n : Naming) → Names b o k n → Names c o k n
+names_over b c t o k n (short, begins, is) = (short, begins_over b c t o k begins, is)
+
 read_over : (b c : Binding) → AreTwins b c → (o : List ℕ) (x : Result Asked MessageErr) → ReadCall b o x → ReadCall c o x
 read_over b c t o (Err err.Long) h = h
-read_over b c t o (Err (err.Head e)) h = h
-read_over b c t o (Err err.NoInterface) (k, (begins, is)) = (k, (begins, sym (named_alike b.unit c.unit k t.units) ∙ is))
-read_over b c t o (Err err.NoOperation) (k, (begins, is)) = (k, (begins, sym (named_alike b.unit c.unit k t.units) ∙ is))
-read_over b c t o (Err (err.Body f)) (k, op, (begins, is), stops) =
-    let below : op < length b.ops = subst (λ n. IsBelow (length b.ops) n) is (below_ops b t.one t.one_xdr k) in
-    (k, op, (begins, sym (named_alike b.unit c.unit k t.units) ∙ is), subst (λ (ty : Ty). Stops encoding.Xdr ty k.used (drop k.used o) f.kind f.at) (request_alike b c t op below) stops)
-read_over b c t o (Err (err.Trailing at)) (k, op, (begins, is), (v, used, spells, place, more)) =
-    let below : op < length b.ops = subst (λ n. IsBelow (length b.ops) n) is (below_ops b t.one t.one_xdr k) in
-    (k, op, (begins, sym (named_alike b.unit c.unit k t.units) ∙ is), (v, used, rw (← request_alike b c t op below) spells, place, more))
+read_over b c t o (Err (err.Head e)) (short, stops) = (short, subst (λ (x : Back). Stops x o e) (backs_alike b c t) stops)
+read_over b c t o (Err err.NoInterface) (k, names) = (k, names_over b c t o k _ names)
+read_over b c t o (Err err.NoOperation) (k, names) = (k, names_over b c t o k _ names)
+read_over b c t o (Err (err.Body f)) (k, op, names, stops) =
+    (k, op, names_over b c t o k _ names, subst (λ (ty : Ty). bodies.Stops k.encoding ty k.used (drop k.used o) f.kind f.at) (named_request b c t o k op names) stops)
+read_over b c t o (Err (err.Trailing at)) (k, op, names, (v, used, spells, place, more)) =
+    (k, op, names_over b c t o k _ names, (v, used, rw (← named_request b c t o k op names) spells, place, more))
 read_over b c t o (Err err.NoMemory) h = absurd h
-read_over b c t o (Ok r) (k, op, (begins, is), (same, head, spells)) =
-    let below : op < length b.ops = subst (λ n. IsBelow (length b.ops) n) is (below_ops b t.one t.one_xdr k) in
-    (k, op, (begins, sym (named_alike b.unit c.unit k t.units) ∙ is), (same, head, subst (λ (ty : Ty). IsSpelling encoding.Xdr ty k.used (drop k.used o) r.value) (request_alike b c t op below) spells))
+read_over b c t o (Ok r) (k, op, names, (same, head, spells)) =
+    (k, op, names_over b c t o k _ names, (same, head, subst (λ (ty : Ty). IsSpelling k.encoding ty k.used (drop k.used o) r.value) (named_request b c t o k op names) spells))
 
 -- a request record of an operation of this name over a back end
 abbrev json_with : List ℕ → Back → Face → Head → Val → Data
@@ -206,7 +244,7 @@ json_with name k f h v = object (put (codes "op") (string (text_of name)) (head_
 
 json_alike : (b c : Binding) → AreTwins b c → (o p : Op) (h : Head) (v : Val) → offer_at (faces_in b) o ≡ offer_at (faces_in c) p → request_json b o h v ≡ request_json c p h v
 json_alike b c t o p h v same =
-    ap (λ (d : List ℕ). json_with d b.back (at (faces_in b) o.request) h v) (dotted_alike (faces_in b) (faces_in c) b.unit.interfaces c.unit.interfaces o p (names_alike b.unit c.unit t.units) same)
+    ap (λ (d : List ℕ). json_with d b.back (at (faces_in b) o.request) h v) (dotted_alike (faces_in b) (faces_in c) b.unit.interfaces c.unit.interfaces o p (names_alike b c t) same)
     ∙ ap (λ (k : Back). json_with (dotted c.unit.interfaces p) k (at (faces_in b) o.request) h v) (backs_alike b c t)
     ∙ ap (λ (z : Offer). json_with (dotted c.unit.interfaces p) c.back z.request h v) same
 

@@ -20,7 +20,7 @@ IsEnded octets = (front : List ℕ) × (octets ≡ front ++ 10 ∷ [])
 behind : (xs ys : List ℕ) → IsEnded ys → IsEnded (xs ++ ys)
 behind xs ys (front, e) = (xs ++ front, ap (λ (l : List ℕ). xs ++ l) e ∙ sym (append_assoc xs front (10 ∷ [])))
 
-both_whole : (xs ys : List ℕ) → AreWholeLines xs → AreWholeLines ys → AreWholeLines (xs ++ ys)
+pub both_whole : (xs ys : List ℕ) → AreWholeLines xs → AreWholeLines ys → AreWholeLines (xs ++ ys)
 both_whole xs ys first (inr ended) = inr (behind xs ys ended)
 both_whole xs ys (inl e) (inl f) = inl (rw (e, f))
 both_whole xs ys (inr (front, e)) (inl f) = inr (front, ap (λ (l : List ℕ). xs ++ l) f ∙ append-nil xs ∙ e)
@@ -63,7 +63,6 @@ place_ended head word place = behind (head ++ word ++ codes " " ++ place) (codes
 pub said-whole : (saying : Saying) → AreWholeLines (said saying)
 said-whole sayings.Help = inr (ended_by USAGE.now refl)
 said-whole sayings.Version = inr (ended_by VERSION.now refl)
-said-whole sayings.NoShape = inl refl
 said-whole sayings.NoFile = inr (codes "? file", refl)
 said-whole sayings.TooLarge = inr (codes "? size", refl)
 said-whole (sayings.Lex fault) = inr (place_ended (codes "? lex ") (lex_name fault) (decimal (place_of fault)))

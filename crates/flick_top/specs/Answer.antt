@@ -1,9 +1,7 @@
 -- The answers to the lines of an input.
-use Rattle.std.specs.Prelude.{◌≡◌, ℕ, List, [], ◌∷◌, ◌++◌, Bool, false, ◌||◌, ◌==◌, Option, Some, None, codes, flat_map}
-use Rattle.hex.specs.Hex.{decode_of}
+use Rattle.std.specs.Prelude.{◌≡◌, ℕ, List, [], ◌∷◌, ◌++◌, Bool, false, ◌||◌, ◌==◌, codes, flat_map}
 use Rattle.kit_base.specs.declared.lines.Line.{Line}
 use Rattle.kit_base.specs.declared.lines.Line.TheVariants.{Text, Long, End}
-use Rattle.pres.specs.Bindings.{Binding}
 use Rattle.flick_top.specs.declared.task.Job.{Job}
 use Rattle.flick_top.specs.declared.task.Job.TheVariants.{Marshal, Unmarshal}
 use Rattle.flick_top.specs.Marshalled.{IsMarshalled}
@@ -11,8 +9,8 @@ use Rattle.flick_top.specs.Unmarshalled.{IsUnmarshalled}
 
 -- the answer to the octets of a line
 abbrev pub IsAnswerTo : Job → List ℕ → List ℕ → Type 0
-IsAnswerTo (Marshal b) octets a = IsMarshalled b octets a
-IsAnswerTo (Unmarshal b) octets a = IsUnmarshalled b octets a
+IsAnswerTo (Marshal e) octets a = IsMarshalled e.binding octets a
+IsAnswerTo (Unmarshal e) octets a = IsUnmarshalled e.binding octets a
 
 -- the answer to a line, with its line feed
 abbrev pub IsAnswer : Job → Line → List ℕ → Type 0

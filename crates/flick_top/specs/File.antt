@@ -1,53 +1,55 @@
--- What the content of a file comes to: a unit that is bound, or what is said instead.
-use Rattle.std.specs.Prelude.{◌≡◌, ◌⊎◌, ℕ, List, length, nat_le, MatchBool, Option, Some, None, Result, Ok, Err}
-use Rattle.wire_def.specs.declared.encoding.Back.TheVariants.{Xdr}
-use Rattle.idl_lex.specs.declared.kinds.Front.TheVariants.{Onc}
-use Rattle.idl_lex.specs.declared.kinds.Token.{Token}
-use Rattle.idl_lex.specs.declared.lexing.LexErr.{LexErr}
-use Rattle.idl_lex.specs.Lexed.{AreTokens, IsFirstFault}
-use Rattle.onc_syntax.specs.declared.tree.Def.{Def}
-use Rattle.onc_syntax.specs.Derivation.{Derives, FailsAt}
-use Rattle.aoi.specs.declared.faults.NameErr.{NameErr}
-use Rattle.aoi.specs.Plain.{PlainUnit, plain}
+-- What the content of a file comes to: a unit, and what is made of it over a back end, or what is said instead.
+use Rattle.std.specs.Prelude.{◌≡◌, ℕ, List, length, nat_le, MatchBool, Option, Some, None, Result, Ok, Err}
+use Rattle.wire_def.specs.declared.encoding.Back.{Back}
+use Rattle.idl_lex.specs.declared.kinds.Front.{Front}
+use Rattle.aoi.specs.Plain.{PlainUnit, plain, IsSoundPlain}
 use Rattle.aoi.specs.Units.{Parts}
-use Rattle.front_onc.specs.Resolved.{resolved}
 use Rattle.pres.specs.declared.errors.BindErr.{BindErr}
 use Rattle.pres.specs.Bindings.{Binding, IsBinding}
+use Rattle.pres.specs.Faces.{faces}
 use Rattle.pres.specs.Faults.{bind_fault}
+use Rattle.pres.specs.Made.{all_made}
+use Rattle.flick_engine.specs.Engines.{Compiled}
 use Rattle.flick_top.specs.declared.saying.Saying.{Saying}
-use Rattle.flick_top.specs.declared.saying.Saying.TheVariants.{NoFile, TooLarge, Lex, Syntax, Name, Bind}
+use Rattle.flick_top.specs.declared.saying.Saying.TheVariants.{NoFile, TooLarge, Bind}
+use Rattle.flick_top.specs.Fronts.{Read, UnitOf}
 
 -- the greatest length of a file, in octets
 abbrev pub longest_file : ℕ
 longest_file = 1048576
 
--- what a file comes to
+-- what the content of a file says, where there is the file
+abbrev pub FileSays : Front → Option (List ℕ) → Read → Type 0
+FileSays front None read = read ≡ Err NoFile
+FileSays front (Some text) read = MatchBool (nat_le (length text) longest_file) (UnitOf front text read) (read ≡ Err TooLarge)
+
+-- what was read, as a plain tree
+abbrev pub plainly : Result Parts Saying → Read
+plainly (Ok u) = Ok (plain u)
+plainly (Err saying) = Err saying
+
+-- a unit that was read is sound
+abbrev pub IsSoundly : Result Parts Saying → Type 0
+IsSoundly (Ok u) = IsSoundPlain (plain u)
+IsSoundly (Err saying) = Unit {0}
+
+-- an engine, or what is said instead
 abbrev pub Told : Type 0
-Told = Result Binding Saying
+Told = Result Compiled Saying
+
+-- a unit over a back end: a binding whose nodes are those that the unit makes
+pub record IsOver (u : PlainUnit) (k : Back) (b : Binding) : Type 0 where
+  pub stands : IsBinding b
+  pub unit : b.unit ≡ u
+  pub back : b.back ≡ k
+  pub nodes : faces b.nodes b.shapes ≡ all_made u k
 
 -- a unit that has this reason against it, or else is bound
-abbrev pub BoundSays : Parts → Option BindErr → Told → Type 0
-BoundSays u (Some e) told = told ≡ Err (Bind e)
-BoundSays u None told = (b : Binding) × IsBinding b × (b.unit ≡ u) × (b.back ≡ Xdr) × (told ≡ Ok b)
+abbrev pub BindSays : PlainUnit → Back → Option BindErr → Told → Type 0
+BindSays u back (Some e) told = told ≡ Err (Bind e)
+BindSays u back None told = (b : Binding) × IsOver u back b × (told ≡ Ok (record { binding = b }))
 
--- what a unit of such a plain tree says, or the first fault of its names
-abbrev pub UnitSays : Result PlainUnit NameErr → Told → Type 0
-UnitSays (Err error) told = told ≡ Err (Name error)
-UnitSays (Ok tree) told = (u : Parts) × (plain u ≡ tree) × BoundSays u (bind_fault u Xdr) told
-
--- tokens have a tree, which says it; or none, and the line of the first definition that fails is said
-abbrev pub TokensSay : List Token → Told → Type 0
-TokensSay tokens told =
-    ((tree : List Def) × Derives tree tokens × UnitSays (resolved tree) told)
-    ⊎ ((line : ℕ) × ((tree : List Def) → Derives tree tokens → ⊥) × FailsAt tokens line × (told ≡ Err (Syntax line)))
-
--- a text has tokens, which say it; or its first fault is said
-abbrev pub TextSays : List ℕ → Told → Type 0
-TextSays text told =
-    ((tokens : List Token) × AreTokens Onc text tokens × TokensSay tokens told)
-    ⊎ ((fault : LexErr) × IsFirstFault Onc text fault × (told ≡ Err (Lex fault)))
-
--- what the content of a file says, where there is the file
-abbrev pub FileSays : Option (List ℕ) → Told → Type 0
-FileSays None told = told ≡ Err NoFile
-FileSays (Some text) told = MatchBool (nat_le (length text) longest_file) (TextSays text told) (told ≡ Err TooLarge)
+-- what was read, over a back end
+abbrev pub BoundSays : Back → Read → Told → Type 0
+BoundSays back (Err saying) told = told ≡ Err saying
+BoundSays back (Ok u) told = BindSays u back (bind_fault u back) told

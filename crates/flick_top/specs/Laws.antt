@@ -1,4 +1,4 @@
--- A law of what is written.
+-- Laws of what is written.
 use Rattle.std.specs.Prelude.{◌≡◌, ℕ, List}
 use Rattle.flick_top.specs.declared.task.Task.{Task}
 use Rattle.flick_top.specs.Answer.{Answering}
@@ -8,3 +8,7 @@ use Rattle.flick_top.specs.Output.{Files, IsTask, IsAnswered, out_of}
 abbrev pub OneOutput : Type 0
 OneOutput = (words : List (List ℕ)) (files : Files) (t u : Task) (f g : Answering) → IsTask words files t → IsTask words files u → IsAnswered t f → IsAnswered u g
     → (input : List ℕ) → out_of t f input ≡ out_of u g input
+
+-- all words and files have a task
+abbrev pub WordsHaveTasks : Type 0
+WordsHaveTasks = (words : List (List ℕ)) (files : Files) → (task : Task) × IsTask words files task

@@ -1,6 +1,7 @@
 pub mod Answer
 pub mod Command
 pub mod File
+pub mod Fronts
 pub mod Laws
 pub mod Marshalled
 pub mod Output

@@ -11,7 +11,7 @@ use Rattle.json_shape.specs.declared.errors.RecordErr.TheVariants as errors
 use Rattle.json_shape.specs.Presents.{Presents}
 use Rattle.json_shape.specs.Records.{Begun}
 use Rattle.json_shape.specs.Requests.{request_of}
-use Rattle.flick_engine.specs.Messages.{message}
+use Rattle.flick_engine.specs.Messages.{longest_message, message}
 
 -- the tree of a line, where it is JSON
 abbrev pub tree_of : List ℕ → Option Data
@@ -27,7 +27,7 @@ record_refusal errors.NoMemory = codes ""
 
 -- a message in hexadecimal digits, where it has at most 4,194,304 octets
 abbrev pub digits_of : List ℕ → List ℕ
-digits_of m = if nat_le (length m) 4194304 then encode_lower m else codes "! long"
+digits_of m = if nat_le (length m) longest_message then encode_lower m else codes "! long"
 
 -- the message of the value that the record presents, or the refusal where it presents none
 abbrev pub IsMessage : Binding → Begun → List ℕ → Type 0

@@ -1,5 +1,5 @@
 -- What is said in place of answers, and how a call ends that says it.
-use Rattle.std.specs.Prelude.{ℕ, List, [], ◌++◌, codes, decimal}
+use Rattle.std.specs.Prelude.{ℕ, List, ◌++◌, codes, decimal}
 use Rattle.idl_lex.specs.declared.lexing.LexErr.{LexErr}
 use Rattle.idl_lex.specs.declared.lexing.LexErr.TheVariants as lex
 use Rattle.pres.specs.declared.errors.BindErr.{BindErr}
@@ -8,9 +8,9 @@ use Rattle.aoi.specs.declared.faults.NameFault.{NameFault}
 use Rattle.aoi.specs.declared.faults.NameFault.TheVariants as name
 use Rattle.flick_top.specs.declared.saying.TheConstants.{USAGE, VERSION}
 use Rattle.flick_top.specs.declared.saying.Saying.{Saying}
-use Rattle.flick_top.specs.declared.saying.Saying.TheVariants.{Help, Version, NoShape, NoFile, TooLarge, Lex, Syntax, Name, Bind}
+use Rattle.flick_top.specs.declared.saying.Saying.TheVariants.{Help, Version, NoFile, TooLarge, Lex, Syntax, Name, Bind}
 use Rattle.flick_top.specs.declared.status.Status.{Status}
-use Rattle.flick_top.specs.declared.status.Status.TheVariants.{Done, Usage, File}
+use Rattle.flick_top.specs.declared.status.Status.TheVariants.{Done, File}
 
 -- the name of a fault of a text
 abbrev pub lex_name : LexErr → List ℕ
@@ -56,7 +56,6 @@ bind_name bind.NoMemory = codes "NoMemory"
 abbrev pub said : Saying → List ℕ
 said Help = USAGE.now
 said Version = VERSION.now
-said NoShape = []
 said NoFile = codes "? file\n"
 said TooLarge = codes "? size\n"
 said (Lex fault) = codes "? lex " ++ lex_name fault ++ codes " " ++ decimal (place_of fault) ++ codes "\n"
@@ -68,5 +67,9 @@ said (Bind reason) = codes "? bind " ++ bind_name reason ++ codes "\n"
 abbrev pub ending : Saying → Status
 ending Help = Done
 ending Version = Done
-ending NoShape = Usage
-ending _ = File
+ending NoFile = File
+ending TooLarge = File
+ending (Lex fault) = File
+ending (Syntax line) = File
+ending (Name error) = File
+ending (Bind reason) = File

@@ -1,11 +1,13 @@
 -- The promise of `flick`: what its status says of what it wrote, took and met outside.
 -- `over` is the defined output as a function of the input.
-use Rattle.std.specs.Prelude.{◌≡◌, ◌≢◌, ◌⊎◌, ℕ, ◌<◌, ◌≤◌, List, [], ◌∷◌, ◌++◌, length, Bool, if◌then◌else◌, ◌==◌, Option, Some}
+use Rattle.std.specs.Prelude.{◌≡◌, ◌≢◌, ◌⊎◌, ◌↔◌, ℕ, ◌<◌, ◌≤◌, List, [], ◌∷◌, ◌++◌, length, Bool, if◌then◌else◌, ◌==◌, Option, None, Some}
 use Rattle.std.specs.List.{list_any}
-use Rattle.std.specs.Io.KnownBytes.{Appends, Consumes}
+use Rattle.std.specs.Io.KnownBytes.{Appends, Consumes, IsAtEnd}
 use Rattle.kit_base.specs.Causes.{Rose}
+use Rattle.flick_top.specs.declared.task.Job.{Job}
 use Rattle.flick_top.specs.declared.task.Task.{Task}
 use Rattle.flick_top.specs.Answer.{Answering}
+use Rattle.flick_top.specs.Command.{command_of, HasFile}
 use Rattle.flick_top.specs.Output.{Files, IsTask, IsAnswered, Out, out_of, most_input}
 
 -- what the source told at entry
@@ -36,24 +38,46 @@ abbrev pub WritesEnded : (List ℕ → Out) → Input → Input → Option (List
 WritesEnded over left left' held held' status =
     status ≡ 4 → (input : List ℕ) → left ≡ Some input → (taken : List ℕ) × Consumes left left' taken × Appends held held' (over (ended_part taken)).octets
 
--- what was written of an output, by the status
-pub record Writing (over : List ℕ → Out) (left left' : Input) (held held' : Option (List ℕ)) (status : ℕ) : Type 0 where
-  pub output : Writes over left held held' status
-  pub front : WritesFront over left held held'
-  pub ended : WritesEnded over left left' held held' status
+-- a task that answers no lines takes nothing from the source, which has not failed, nor given too much
+abbrev pub LeavesInput : Option Job → Input → Input → ℕ → ℕ → ℕ → Type 0
+LeavesInput lines left left' before now status = lines ≡ None → Consumes left left' [] × (before ≡ now) × (status ≢ 4) × (status ≢ 8)
 
--- the words come to a task whose lines have these answers, of whose output this holds
-abbrev pub Does : List (List ℕ) → Files → ((List ℕ → Out) → Type 0) → Type 0
-Does words files Holds = (task : Task) × (f : Answering) × IsTask words files task × IsAnswered task f × Holds (out_of task f)
+-- where lines are answered, with status 0 and 1 the input is at its end
+abbrev pub EndsInput : Option Job → Input → ℕ → Type 0
+EndsInput lines left' status = lines ≢ None → status ≤ 1 → IsAtEnd left'
 
--- the shelf failed or memory was wanted before there was a task, and nothing was written
-abbrev pub Fails : Option (List ℕ) → Option (List ℕ) → ℕ → Type 0
-Fails held held' status = ((status ≡ 6) ⊎ (status ≡ 7)) × Appends held held' []
+-- what was taken and written of a task, by the status
+pub record Writing (task : Task) (f : Answering) (left left' : Input) (before now : ℕ) (held held' : Option (List ℕ)) (status : ℕ) : Type 0 where
+  pub output : Writes (out_of task f) left held held' status
+  pub front : WritesFront (out_of task f) left held held'
+  pub ended : WritesEnded (out_of task f) left left' held held' status
+  pub unread : LeavesInput task.lines left left' before now status
+  pub at_end : EndsInput task.lines left' status
 
--- the output of the task to which the words come over the files was written
-abbrev pub Works : List (List ℕ) → Files → Input → Input → Option (List ℕ) → Option (List ℕ) → ℕ → Type 0
-Works words files left left' held held' status =
-    Fails held held' status ⊎ Does words files (λ over. Writing over left left' held held' status)
+-- the words come to a task, and its lines have these answers, of which this holds
+abbrev pub Does : List (List ℕ) → Files → (Task → Answering → Type 0) → Type 0
+Does words files Holds = (task : Task) × (f : Answering) × IsTask words files task × IsAnswered task f × Holds task f
+
+-- the shelf failed or memory was wanted before there was a task, nothing was taken, and nothing was written
+abbrev pub Fails : Input → Input → Option (List ℕ) → Option (List ℕ) → ℕ → Type 0
+Fails left left' held held' status = ((status ≡ 6) ⊎ (status ≡ 7)) × Consumes left left' [] × Appends held held' []
+
+-- the work of the task to which the words come over the files was done
+abbrev pub Works : List (List ℕ) → Files → Input → Input → ℕ → ℕ → Option (List ℕ) → Option (List ℕ) → ℕ → Type 0
+Works words files left left' before now held held' status =
+    Fails left left' held held' status ⊎ Does words files (λ task f. Writing task f left left' before now held held' status)
+
+-- status 2 comes exactly where the words have no shape
+abbrev pub IsUsage : List (List ℕ) → ℕ → Type 0
+IsUsage words status = (status ≡ 2) ↔ (command_of words ≡ None)
+
+-- status 6 comes only where the words name a file
+abbrev pub NeedsFile : List (List ℕ) → ℕ → Type 0
+NeedsFile words status = status ≡ 6 → HasFile words
+
+-- what was taken is a prefix of what was there
+abbrev pub TakesFront : Input → Input → Type 0
+TakesFront left left' = (taken : List ℕ) × Consumes left left' taken
 
 -- with status 2 and 6 nothing was appended
 abbrev pub WritesNothing : Option (List ℕ) → Option (List ℕ) → ℕ → Type 0

@@ -3,7 +3,6 @@ use Rattle.std.specs.Prelude.{◌≡◌, ℕ, List, [], ◌++◌, slice_get, Opt
 use Rattle.hex.specs.Hex.{decode_of}
 use Rattle.hex.specs.declared.error.FromHexError.{FromHexError}
 use Rattle.serde_json.specs.Written.{compact_text}
-use Rattle.wire_def.specs.declared.fault.Fault.{Fault}
 use Rattle.wire_def.specs.declared.fault.FaultKind.{FaultKind}
 use Rattle.wire_def.specs.declared.fault.FaultKind.TheVariants as kinds
 use Rattle.wire_def.specs.declared.fault.HeadErr.{HeadErr}

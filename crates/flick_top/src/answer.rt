@@ -1,5 +1,6 @@
 // The answer to a line.
 ghost use Rattle.std.specs.Prelude.{◌≡◌, IfOk};
+ghost use Rattle.raw_buf.specs.Buf.{NoneFell};
 ghost use Rattle.flick_top.specs.Answer.{IsAnswer, IsAnswerTo, is_refusal};
 
 use crate::marshal::marshal;
@@ -17,7 +18,8 @@ pub fn answer_to(
     line: &Line,
     buf: &mut SendBuf,
 ) -> Result<Octets, NoMemory>
-    ensures { IfOk result (λ o. IsAnswer job.now line.now o) }
+    ensures value { IfOk result (λ o. IsAnswer job.now line.now o) }
+    ensures spent { NoneFell buf.old.spent buf.new.spent }
 {
     match line {
         Line::End => Ok(Octets::new(alloc)),
@@ -33,7 +35,8 @@ fn answer_to_text(
     text: &[u8],
     buf: &mut SendBuf,
 ) -> Result<Octets, NoMemory>
-    ensures { IfOk result (λ o. IsAnswerTo job.now text.now o) }
+    ensures value { IfOk result (λ o. IsAnswerTo job.now text.now o) }
+    ensures spent { NoneFell buf.old.spent buf.new.spent }
 {
     match job {
         Job::Marshal(engine) => marshal(alloc, engine, text, buf),

@@ -1,20 +1,17 @@
-// What the content of a file says.
-ghost use Rattle.std.specs.Prelude.{◌≡◌, ◌≤◌, Some, Err, IfOk, length};
-ghost use Rattle.aoi.specs.declared.faults.NameFault.TheVariants.{NoMemory as WantOfMemory};
-ghost use Rattle.flick_top.specs.declared.saying.Saying.TheVariants as sayings;
-ghost use Rattle.aoi.specs.Sound.{IsSound};
-ghost use Rattle.wire_def.specs.declared.encoding.Back.TheVariants.{Xdr};
-ghost use Rattle.front_onc.specs.Resolved.{IsWhole, resolved};
+// What the content of a file comes to.
+ghost use Rattle.std.specs.Prelude.{◌≡◌, Some, IfOk};
+ghost use Rattle.aoi.specs.Plain.{plain, IsSoundPlain};
 ghost use Rattle.pres.specs.Faults.{bind_fault};
-ghost use Rattle.flick_top.specs.File.{FileSays, TextSays, TokensSay, UnitSays, BoundSays};
+ghost use Rattle.flick_engine.specs.Backs.{IsMade};
+ghost use Rattle.flick_top.specs.File.{FileSays, BindSays, BoundSays, IsSoundly, plainly};
+ghost use Rattle.flick_top.specs.Fronts.{IsRead};
 
+use crate::fronts::unit_of;
 use crate::saying::Saying;
-use aoi::{NameErr, NameFault, Unit};
+use aoi::Unit;
 use flick_engine::Engine;
-use front_onc::{files_are_whole, resolve};
-use idl_lex::{Front, LexErr, Tokens, lex};
+use idl_lex::Front;
 use kit_base::NoMemory;
-use onc_syntax::{SyntaxErr, Tree, parse};
 use pres::{BindErr, bind};
 use std::alloc::Global;
 use wire_def::Back;
@@ -22,65 +19,47 @@ use wire_def::Back;
 /// The greatest length of a file, in octets.
 pub const LONGEST_FILE: u32 = 1_048_576;
 
-/// What is bound of the content of a file, or what is said instead.
-pub fn told_by(alloc: Global, content: &[u8]) -> Result<Result<Engine, Saying>, NoMemory>
-    ensures { IfOk result (λ told. FileSays (Some content.now) told) }
+/// The unit of a file's content, or what is said instead.
+pub fn read_content(
+    alloc: Global,
+    front: Front,
+    content: &[u8],
+) -> Result<Result<Unit, Saying>, NoMemory>
+    requires read { IsRead front }
+    ensures says { IfOk result (λ read. FileSays front (Some content.now) (plainly read)) }
+    ensures sound { IfOk result IsSoundly }
 {
     if content.len() > LONGEST_FILE as usize {
         return Ok(Err(Saying::TooLarge));
     }
-    told_by_text(alloc, content)
+    unit_of(alloc, front, content)
 }
 
-fn told_by_text(alloc: Global, text: &[u8]) -> Result<Result<Engine, Saying>, NoMemory>
-    requires { length text.now ≤ 1048576 }
-    ensures { IfOk result (λ told. TextSays text.now told) }
+/// What is made over a back end of what was read, or what is said instead.
+pub fn made_of(
+    alloc: Global,
+    back: Back,
+    read: Result<Unit, Saying>,
+) -> Result<Result<Engine, Saying>, NoMemory>
+    requires made { IsMade back }
+    requires sound { IsSoundly read }
+    ensures { IfOk result (λ told. BoundSays back (plainly read) told) }
 {
-    match lex(alloc, Front::Onc, text) {
-        Ok(tokens) => told_by_tokens(alloc, &tokens),
-        Err(LexErr::NoMemory) => Err(NoMemory),
-        Err(fault) => Ok(Err(Saying::Lex(fault))),
+    match read {
+        Ok(unit) => bound_to(alloc, back, unit),
+        Err(saying) => Ok(Err(saying)),
     }
 }
 
-fn told_by_tokens(alloc: Global, tokens: &Tokens) -> Result<Result<Engine, Saying>, NoMemory>
-    ensures { IfOk result (λ told. TokensSay tokens.now told) }
+/// The engine of a unit over a back end, or the first reason against it.
+fn bound_to(alloc: Global, back: Back, unit: Unit) -> Result<Result<Engine, Saying>, NoMemory>
+    requires made { IsMade back }
+    requires sound { IsSoundPlain (plain unit) }
+    ensures { IfOk result (λ told. BindSays (plain unit) back (bind_fault (plain unit) back) told) }
 {
-    files_are_whole();
-    match parse(alloc, tokens) {
-        Ok(tree) => told_by_tree(alloc, &tree),
-        Err(SyntaxErr::NoMemory) => Err(NoMemory),
-        Err(SyntaxErr::Syntax(line)) => Ok(Err(Saying::Syntax(line))),
-    }
-}
-
-fn told_by_tree(alloc: Global, tree: &Tree) -> Result<Result<Engine, Saying>, NoMemory>
-    requires { IsWhole tree.now }
-    ensures { IfOk result (λ told. UnitSays (resolved tree.now) told) }
-{
-    match resolve(alloc, tree) {
-        Ok(unit) => told_by_unit(alloc, unit),
-        Err(error) => told_by_fault(error),
-    }
-}
-
-fn told_by_unit(alloc: Global, unit: Unit) -> Result<Result<Engine, Saying>, NoMemory>
-    requires { IsSound unit }
-    ensures { IfOk result (λ told. BoundSays unit (bind_fault unit Xdr) told) }
-{
-    match bind(alloc, unit, Back::Xdr) {
+    match bind(alloc, unit, back) {
         Ok(bound) => Ok(Ok(Engine::compile(alloc, bound)?)),
         Err(BindErr::NoMemory) => Err(NoMemory),
         Err(reason) => Ok(Err(Saying::Bind(reason))),
-    }
-}
-
-/// What is said of a name that is not resolved.
-fn told_by_fault(error: NameErr) -> Result<Result<Engine, Saying>, NoMemory>
-    ensures { IfOk result (λ told. (error.fault ≡ WantOfMemory → ⊥) × (told ≡ Err (sayings.Name error))) }
-{
-    match error.fault {
-        NameFault::NoMemory => Err(NoMemory),
-        _ => Ok(Err(Saying::Name(error))),
     }
 }

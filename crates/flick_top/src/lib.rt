@@ -4,6 +4,7 @@
 mod answer;
 mod command;
 mod file;
+mod fronts;
 mod laws;
 mod marshal;
 mod saying;
@@ -14,10 +15,5 @@ mod top;
 mod turns;
 mod unmarshal;
 
-pub use laws::outputs_are_determined;
+pub use laws::{outputs_are_determined, words_have_tasks};
 pub use top::flick;
-
-#[cfg(test)]
-mod memory_tests;
-#[cfg(test)]
-mod tests;

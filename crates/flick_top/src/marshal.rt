@@ -4,6 +4,7 @@ ghost use Rattle.serde_json.specs.View.{view};
 ghost use Rattle.mint.specs.Typed.{IsWellTyped};
 ghost use Rattle.mint.specs.Types.{type_at};
 ghost use Rattle.mint.specs.Values.{seen};
+ghost use Rattle.raw_buf.specs.Buf.{NoneFell};
 ghost use Rattle.flick_engine.specs.Messages.{message};
 ghost use Rattle.flick_top.specs.Marshalled.{tree_of, record_refusal, digits_of, IsMarshalled, IsOfRecord};
 ghost use Rattle.json_shape.specs.Requests.{request_of};
@@ -23,7 +24,8 @@ pub fn marshal(
     line: &[u8],
     buf: &mut SendBuf,
 ) -> Result<Octets, NoMemory>
-    ensures { IfOk result (λ o. IsMarshalled engine.now line.now o) }
+    ensures value { IfOk result (λ o. IsMarshalled engine.now.binding line.now o) }
+    ensures spent { NoneFell buf.old.spent buf.new.spent }
 {
     match tree_of(alloc, line)? {
         Some(json) => of_tree(alloc, engine, &json, buf),
@@ -56,7 +58,8 @@ fn of_tree(
     json: &Json,
     buf: &mut SendBuf,
 ) -> Result<Octets, NoMemory>
-    ensures { IfOk result (λ o. IsOfRecord engine.now (request_of engine.now (view json.now)) o) }
+    ensures value { IfOk result (λ o. IsOfRecord engine.now.binding (request_of engine.now.binding (view json.now)) o) }
+    ensures spent { NoneFell buf.old.spent buf.new.spent }
 {
     match read_request(alloc, engine.bound(), json) {
         Ok(record) => digits_of(alloc, engine, &record, buf),
@@ -85,9 +88,10 @@ fn digits_of(
     record: &RequestRec,
     buf: &mut SendBuf,
 ) -> Result<Octets, NoMemory>
-    requires op { record.now.op < length engine.now.ops }
-    requires typed { IfSome (slice_get engine.now.ops record.now.op) (λ o. IsWellTyped (type_at engine.now.nodes o.request) (seen record.now.value)) }
-    ensures { IfOk result (λ o. o ≡ digits_of (message engine.now record.now.op record.now.head (seen record.now.value))) }
+    requires op { record.now.op < length engine.now.binding.ops }
+    requires typed { IfSome (slice_get engine.now.binding.ops record.now.op) (λ o. IsWellTyped (type_at engine.now.binding.nodes o.request) (seen record.now.value)) }
+    ensures value { IfOk result (λ o. o ≡ digits_of (message engine.now.binding record.now.op record.now.head (seen record.now.value))) }
+    ensures spent { NoneFell buf.old.spent buf.new.spent }
 {
     match engine.marshal(alloc, record.op, &record.head, &record.value, buf) {
         Ok(()) => copied(alloc, hex::encode(alloc, buf.octets())?.as_bytes()),

@@ -38,15 +38,13 @@ status:\n\
 /// The line that `--version` writes.
 pub const VERSION: &[u8] = b"flick 0.1.0\n";
 
-/// A command that does not look at its input says one of these.
+/// What is said in place of answers.
 #[derive(Clone, Copy, Debug, PartialEq, Eq)]
 pub enum Saying {
     /// The page of usage.
     Help,
     /// The line with name and version.
     Version,
-    /// Nothing, since the words have no shape.
-    NoShape,
     /// The file is not there.
     NoFile,
     /// The file has more octets than one may have.
@@ -69,7 +67,6 @@ impl Saying {
         match self {
             Saying::Help => copied(alloc, USAGE),
             Saying::Version => copied(alloc, VERSION),
-            Saying::NoShape => Ok(Octets::new(alloc)),
             Saying::NoFile => copied(alloc, b"? file\n"),
             Saying::TooLarge => copied(alloc, b"? size\n"),
             Saying::Lex(fault) => copied(alloc, lex_text(alloc, fault)?.as_bytes()),
@@ -91,8 +88,12 @@ impl Saying {
     {
         match self {
             Saying::Help | Saying::Version => Status::Done,
-            Saying::NoShape => Status::Usage,
-            _ => Status::File,
+            Saying::NoFile
+            | Saying::TooLarge
+            | Saying::Lex(_)
+            | Saying::Syntax(_)
+            | Saying::Name(_)
+            | Saying::Bind(_) => Status::File,
         }
     }
 }

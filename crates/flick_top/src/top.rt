@@ -1,9 +1,11 @@
 // The top call.
 ghost use Rattle.std.specs.Prelude.{◌≡◌, ◌≤◌, Some};
 ghost use Rattle.kit_base.specs.Causes.{Rose};
+ghost use Rattle.raw_buf.specs.Buf.{NoneFell};
 ghost use Rattle.flick_top.specs.Output.{Files};
-ghost use Rattle.flick_top.specs.Statement.{Works, WritesNothing, WritesWholeLines, TakesMore, TakesAtMost, TakesNothing, ComesBy, StandsUnless, Completes};
+ghost use Rattle.flick_top.specs.Statement.{Works, IsUsage, NeedsFile, TakesFront, WritesNothing, WritesWholeLines, TakesMore, TakesAtMost, TakesNothing, ComesBy, StandsUnless, Completes};
 
+use crate::command::command_of;
 use crate::status::Status;
 use crate::task::{TaskErr, task_of};
 use crate::turns::perform;
@@ -23,12 +25,16 @@ pub fn flick<F: Shelf, S: Source, K: Sink>(
     output: &mut K,
     buf: &mut SendBuf,
 ) -> u8
-    ensures work { (files : Files) → F.files shelf.old ≡ Some files → Works words.now files (S.left input.old) (S.left input.new) (K.held output.old) (K.held output.new) result }
+    ensures work { (files : Files) → F.files shelf.old ≡ Some files → Works words.now files (S.left input.old) (S.left input.new) (S.faults input.old) (S.faults input.new) (K.held output.old) (K.held output.new) result }
+    ensures usage { IsUsage words.now result }
+    ensures file { NeedsFile words.now result }
     ensures nothing { WritesNothing (K.held output.old) (K.held output.new) result }
     ensures lines { WritesWholeLines (K.held output.old) (K.held output.new) result }
+    ensures taken { TakesFront (S.left input.old) (S.left input.new) }
     ensures more { TakesMore (S.left input.old) (S.left input.new) result }
     ensures at_most { TakesAtMost (S.left input.old) (S.left input.new) result }
     ensures unread { TakesNothing (S.left input.old) (S.left input.new) result }
+    ensures files { F.files shelf.new ≡ F.files shelf.old }
     ensures source { ComesBy 4 (S.faults input.old) (S.faults input.new) result }
     ensures sink { ComesBy 5 (K.faults output.old) (K.faults output.new) result }
     ensures shelf { ComesBy 6 (F.faults shelf.old) (F.faults shelf.new) result }
@@ -36,9 +42,13 @@ pub fn flick<F: Shelf, S: Source, K: Sink>(
     ensures sink_told { StandsUnless 5 (K.faults output.old) (K.faults output.new) result }
     ensures shelf_told { StandsUnless 6 (F.faults shelf.old) (F.faults shelf.new) result }
     ensures completes { Completes (S.left input.old) (S.left input.new) (Rose (S.faults input.old) (S.faults input.new)) (Rose (K.faults output.old) (K.faults output.new)) (Rose (F.faults shelf.old) (F.faults shelf.new)) result }
+    ensures spent { NoneFell buf.old.spent buf.new.spent }
     ensures range { result ≤ 8 }
 {
-    match task_of(alloc, words, shelf) {
+    let Some(command) = command_of(words) else {
+        return Status::Usage.number();
+    };
+    match task_of(alloc, words, command, shelf) {
         Ok(task) => {
             task.lines_are_answered();
             perform(alloc, &task, input, output, buf).number()

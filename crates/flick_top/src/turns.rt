@@ -1,17 +1,14 @@
 // The lines of the input, and what is written of them.
-ghost use Rattle.std.specs.Prelude.{◌≡◌, ◌≢◌, ◌≤◌, ◌||◌, ℕ, List, [], ◌++◌, if◌then◌else◌};
-ghost use Rattle.std.specs.Io.KnownBytes.{Appends};
-ghost use Rattle.kit_base.specs.Causes.{Rose};
+ghost use Rattle.std.specs.Prelude.{◌≡◌, ◌≢◌, ◌≤◌, ◌||◌, if◌then◌else◌};
+ghost use Rattle.std.specs.Io.KnownBytes.{IsAtEnd};
+ghost use Rattle.raw_buf.specs.Buf.{NoneFell};
 ghost use Rattle.flick_top.specs.Answer.{Answering, IsAnswering};
-ghost use Rattle.flick_top.specs.Output.{out_of, IsAnswered};
-ghost use Rattle.flick_top.specs.Saying.{said, ending};
-ghost use Rattle.flick_top.specs.Statement.{Writes, WritesFront, WritesEnded, WritesNothing, WritesWholeLines, TakesMore, TakesAtMost, TakesNothing, ComesBy, StandsUnless};
+ghost use Rattle.flick_top.specs.Output.{answers_out, out_of, IsAnswered};
+ghost use Rattle.flick_top.specs.Statement.{Writes, WritesFront, WritesEnded, WritesNothing, WritesWholeLines, TakesMore, TakesAtMost, TakesNothing, TakesFront, LeavesInput, EndsInput, ComesBy, StandsUnless};
 ghost use Rattle.flick_top.specs.Status.{number_of};
-ghost use Rattle.flick_top.specs.Turn.{status_at};
-ghost use Rattle.flick_top.specs.declared.task.Task.TheVariants.{Answer};
+ghost use Rattle.flick_top.specs.Turn.{status_at, IsReady};
 
 use crate::answer::{answer_to, is_refusal};
-use crate::saying::Saying;
 use crate::status::Status;
 use crate::task::{Job, Task};
 use kit_base::{Failed, LineErr, Lines, Sink, Source, write_whole};
@@ -22,7 +19,7 @@ const LONGEST_LINE: u32 = 8_388_608;
 
 const MOST_INPUT: u64 = 1_073_741_824;
 
-/// Does a task.
+/// Does a task: writes its text, and then answers the lines of the input, where it answers lines.
 pub fn perform<S: Source, K: Sink>(
     alloc: Global,
     task: &Task,
@@ -30,42 +27,32 @@ pub fn perform<S: Source, K: Sink>(
     output: &mut K,
     buf: &mut SendBuf,
 ) -> Status
+    requires ready { IsReady task.now }
     ensures output { (f : Answering) → IsAnswered task.now f → Writes (out_of task.now f) (S.left input.old) (K.held output.old) (K.held output.new) (number_of result) }
     ensures front { (f : Answering) → IsAnswered task.now f → WritesFront (out_of task.now f) (S.left input.old) (K.held output.old) (K.held output.new) }
     ensures ended { (f : Answering) → IsAnswered task.now f → WritesEnded (out_of task.now f) (S.left input.old) (S.left input.new) (K.held output.old) (K.held output.new) (number_of result) }
     ensures lines { (f : Answering) → IsAnswered task.now f → WritesWholeLines (K.held output.old) (K.held output.new) (number_of result) }
-    ensures nothing { WritesNothing (K.held output.old) (K.held output.new) (number_of result) }
+    ensures unread { LeavesInput task.now.lines (S.left input.old) (S.left input.new) (S.faults input.old) (S.faults input.new) (number_of result) }
+    ensures at_end { EndsInput task.now.lines (S.left input.new) (number_of result) }
+    ensures taken { TakesFront (S.left input.old) (S.left input.new) }
     ensures more { TakesMore (S.left input.old) (S.left input.new) (number_of result) }
     ensures at_most { TakesAtMost (S.left input.old) (S.left input.new) (number_of result) }
-    ensures unread { TakesNothing (S.left input.old) (S.left input.new) (number_of result) }
+    ensures none_taken { TakesNothing (S.left input.old) (S.left input.new) (number_of result) }
+    ensures nothing { WritesNothing (K.held output.old) (K.held output.new) (number_of result) }
     ensures source { ComesBy 4 (S.faults input.old) (S.faults input.new) (number_of result) }
     ensures sink { ComesBy 5 (K.faults output.old) (K.faults output.new) (number_of result) }
     ensures source_told { StandsUnless 4 (S.faults input.old) (S.faults input.new) (number_of result) }
     ensures sink_told { StandsUnless 5 (K.faults output.old) (K.faults output.new) (number_of result) }
+    ensures usage { result ≢ Status.Usage }
     ensures shelf { result ≢ Status.Shelf }
+    ensures spent { NoneFell buf.old.spent buf.new.spent }
 {
-    match task {
-        Task::Say(saying) => say(alloc, *saying, output),
-        Task::Answer(job) => answer_lines(alloc, job, input, output, buf),
+    if let Err(Failed) = write_whole(output, task.text.as_slice()) {
+        return Status::Sink;
     }
-}
-
-/// Writes what is said.
-fn say<K: Sink>(alloc: Global, saying: Saying, output: &mut K) -> Status
-    ensures output { number_of result ≤ 3 → (result ≡ ending saying) × Appends (K.held output.old) (K.held output.new) (said saying) }
-    ensures front { (front : List ℕ) × (rest : List ℕ) × (said saying ≡ front ++ rest) × Appends (K.held output.old) (K.held output.new) front }
-    ensures nothing { result ≡ Status.Usage → Appends (K.held output.old) (K.held output.new) [] }
-    ensures lines { WritesWholeLines (K.held output.old) (K.held output.new) (number_of result) }
-    ensures sink { result ≡ Status.Sink → Rose (K.faults output.old) (K.faults output.new) }
-    ensures sink_told { StandsUnless 5 (K.faults output.old) (K.faults output.new) (number_of result) }
-    ensures others { (result ≢ Status.Source) × (result ≢ Status.Shelf) × (result ≢ Status.Length) }
-{
-    let Ok(text) = saying.octets(alloc) else {
-        return Status::Memory;
-    };
-    match write_whole(output, text.as_slice()) {
-        Ok(()) => saying.status(),
-        Err(Failed) => Status::Sink,
+    match &task.lines {
+        Some(job) => answer_lines(alloc, job, input, output, buf),
+        None => task.status,
     }
 }
 
@@ -77,9 +64,9 @@ fn answer_lines<S: Source, K: Sink>(
     output: &mut K,
     buf: &mut SendBuf,
 ) -> Status
-    ensures output { (f : Answering) → IsAnswering job.now f → Writes (out_of (Answer job.now) f) (S.left input.old) (K.held output.old) (K.held output.new) (number_of result) }
-    ensures front { (f : Answering) → IsAnswering job.now f → WritesFront (out_of (Answer job.now) f) (S.left input.old) (K.held output.old) (K.held output.new) }
-    ensures ended { (f : Answering) → IsAnswering job.now f → WritesEnded (out_of (Answer job.now) f) (S.left input.old) (S.left input.new) (K.held output.old) (K.held output.new) (number_of result) }
+    ensures output { (f : Answering) → IsAnswering job.now f → Writes (answers_out f) (S.left input.old) (K.held output.old) (K.held output.new) (number_of result) }
+    ensures front { (f : Answering) → IsAnswering job.now f → WritesFront (answers_out f) (S.left input.old) (K.held output.old) (K.held output.new) }
+    ensures ended { (f : Answering) → IsAnswering job.now f → WritesEnded (answers_out f) (S.left input.old) (S.left input.new) (K.held output.old) (K.held output.new) (number_of result) }
     ensures lines { (f : Answering) → IsAnswering job.now f → WritesWholeLines (K.held output.old) (K.held output.new) (number_of result) }
     ensures more { TakesMore (S.left input.old) (S.left input.new) (number_of result) }
     ensures at_most { TakesAtMost (S.left input.old) (S.left input.new) (number_of result) }
@@ -88,6 +75,9 @@ fn answer_lines<S: Source, K: Sink>(
     ensures source_told { StandsUnless 4 (S.faults input.old) (S.faults input.new) (number_of result) }
     ensures sink_told { StandsUnless 5 (K.faults output.old) (K.faults output.new) (number_of result) }
     ensures others { (result ≢ Status.Usage) × (result ≢ Status.File) × (result ≢ Status.Shelf) }
+    ensures at_end { number_of result ≤ 1 → IsAtEnd (S.left input.new) }
+    ensures taken { TakesFront (S.left input.old) (S.left input.new) }
+    ensures spent { NoneFell buf.old.spent buf.new.spent }
 {
     let mut lines = Lines::new(alloc, LONGEST_LINE, MOST_INPUT);
     let mut refused = false;

@@ -17,7 +17,7 @@ use wire_def::{FaultKind, HeadErr};
 
 /// The answer of `unmarshal` to a line, without its line feed.
 pub fn unmarshal(alloc: Global, engine: &Engine, line: &[u8]) -> Result<Octets, NoMemory>
-    ensures { IfOk result (λ o. IsUnmarshalled engine.now line.now o) }
+    ensures { IfOk result (λ o. IsUnmarshalled engine.now.binding line.now o) }
 {
     match hex::decode(alloc, line) {
         Ok(message) => of_octets(alloc, engine, message.as_slice()),
@@ -28,7 +28,7 @@ pub fn unmarshal(alloc: Global, engine: &Engine, line: &[u8]) -> Result<Octets, 
 
 /// The answer to a message.
 fn of_octets(alloc: Global, engine: &Engine, message: &[u8]) -> Result<Octets, NoMemory>
-    ensures { IfOk result (λ o. IsOfOctets engine.now (Ok message.now) o) }
+    ensures { IfOk result (λ o. IsOfOctets engine.now.binding (Ok message.now) o) }
 {
     let mut view = RecvView::new(message);
     match engine.unmarshal(alloc, &mut view) {
@@ -39,9 +39,9 @@ fn of_octets(alloc: Global, engine: &Engine, message: &[u8]) -> Result<Octets, N
 
 /// The record of a request as JSON without blanks.
 fn record_text(alloc: Global, engine: &Engine, request: &Request) -> Result<String, NoMemory>
-    requires op { request.now.op < length engine.now.ops }
-    requires typed { IsWellTyped (request_type engine.now request.now.op) (seen request.now.value) }
-    ensures { IfOk result (λ s. string_bytes s ≡ record_text engine.now (slice_get engine.now.ops request.now.op) (asked request.now)) }
+    requires op { request.now.op < length engine.now.binding.ops }
+    requires typed { IsWellTyped (request_type engine.now.binding request.now.op) (seen request.now.value) }
+    ensures { IfOk result (λ s. string_bytes s ≡ record_text engine.now.binding (slice_get engine.now.binding.ops request.now.op) (asked request.now)) }
 {
     let record = write_request(
         alloc,

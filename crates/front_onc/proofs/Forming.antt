@@ -13,7 +13,7 @@ use Rattle.onc_syntax.specs.declared.tree.Decl.TheVariants as D
 use Rattle.onc_syntax.specs.declared.tree.Member.{Member}
 use Rattle.front_onc.specs.declared.meaning.Form.{Form}
 use Rattle.front_onc.specs.declared.meaning.Form.TheVariants as F
-use Rattle.front_onc.specs.Answers.{Answer, refused, natural, fault}
+use Rattle.name_kit.specs.Answers.{Answer, refused, natural, fault}
 use Rattle.front_onc.specs.Names.{Scope, value, type_use, has}
 use Rattle.front_onc.specs.Declarations.{exactly, at_most, form, shape, name_of, members_on}
 use Rattle.front_onc.specs.Resolved.{is_some_list}

@@ -26,7 +26,7 @@ use Rattle.front_onc.specs.declared.meaning.Form.{Form}
 use Rattle.front_onc.specs.declared.meaning.Form.TheVariants as F
 use Rattle.front_onc.specs.declared.meaning.Meaning.{Meaning}
 use Rattle.front_onc.specs.declared.meaning.Meaning.TheVariants as M
-use Rattle.front_onc.specs.Answers.{refused, given}
+use Rattle.name_kit.specs.Answers.{refused, given}
 use Rattle.front_onc.specs.Names.{Scope, value, type_use, is_declared}
 use Rattle.front_onc.specs.State.{State, counted, declared, with_type}
 use Rattle.front_onc.specs.Declarations.{form, shape, tag_of, tag_of_use, shape_of_use, name_of, exactly, at_most, typedef, members_on, struct_on}

@@ -7,7 +7,7 @@ use Rattle.aoi.specs.declared.faults.NameFault.TheVariants.{Twice, Limit}
 use Rattle.onc_syntax.specs.declared.tree.Item.{Item}
 use Rattle.front_onc.specs.declared.meaning.Meaning.{Meaning}
 use Rattle.front_onc.specs.declared.meaning.Meaning.TheVariants.{Constant}
-use Rattle.front_onc.specs.Answers.{Answer, refused}
+use Rattle.name_kit.specs.Answers.{Answer, refused}
 use Rattle.front_onc.specs.Names.{Scope, is_declared}
 use Rattle.front_onc.specs.State.{State, declared}
 use Rattle.front_onc.specs.Enums.{with_label, is_label, item_number, short, item_on, items_on, is_item}

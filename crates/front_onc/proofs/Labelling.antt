@@ -20,7 +20,7 @@ use Rattle.front_onc.specs.declared.meaning.Tag.TheVariants as tag
 use Rattle.front_onc.specs.declared.meaning.Use.{Use}
 use Rattle.front_onc.specs.declared.meaning.Use.TheVariants.{Number, Declared}
 use Rattle.front_onc.specs.declared.meaning.Form.{Form}
-use Rattle.front_onc.specs.Answers.{refused}
+use Rattle.name_kit.specs.Answers.{refused}
 use Rattle.front_onc.specs.Names.{Scope, value, has}
 use Rattle.front_onc.specs.State.{State}
 use Rattle.front_onc.specs.Declarations.{form, shape, name_of, shape_of_use, tag_of_use}

@@ -15,7 +15,7 @@ use Rattle.onc_syntax.specs.declared.tree.Procedure.{Procedure}
 use Rattle.onc_syntax.specs.declared.tree.Version.{Version}
 use Rattle.front_onc.specs.declared.meaning.Use.{Use}
 use Rattle.front_onc.specs.declared.meaning.Use.TheVariants.{Number, Declared}
-use Rattle.front_onc.specs.Answers.{Answer, refused}
+use Rattle.name_kit.specs.Answers.{Answer, refused}
 use Rattle.front_onc.specs.Names.{Scope, type_use, has}
 use Rattle.front_onc.specs.State.{State, counted}
 use Rattle.front_onc.specs.Declarations.{shape_of_use}

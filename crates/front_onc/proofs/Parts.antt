@@ -2,7 +2,7 @@
 use Rattle.std.proofs.Common.{◌≡◌, ℕ, Bool, true, false, refl}
 use Rattle.std.specs.Prelude.{Ok, Err}
 use Rattle.aoi.specs.declared.faults.NameFault.{NameFault}
-use Rattle.front_onc.specs.Answers.{Answer, and_then, refused}
+use Rattle.name_kit.specs.Answers.{Answer, and_then, refused}
 
 -- what stands in front is given, and the rest follows from it
 pub record Then {A B : Type 0} (a : Answer A) (f : A → Answer B) (b : B) : Type 0 where

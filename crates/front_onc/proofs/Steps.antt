@@ -3,7 +3,7 @@ use Rattle.std.proofs.Common.{◌≡◌, ℕ, ℤ, suc, ◌+◌, ◌<◌, List, 
 use Rattle.std.specs.Prelude.{Ok}
 use Rattle.std.proofs.Math.Seq.{drop-cons}
 use Rattle.onc_syntax.specs.declared.tree.Item.{Item}
-use Rattle.front_onc.specs.Answers.{Answer, and_then}
+use Rattle.name_kit.specs.Answers.{Answer, and_then}
 use Rattle.front_onc.specs.State.{State}
 use Rattle.front_onc.specs.Enums.{item_on, items_on}
 

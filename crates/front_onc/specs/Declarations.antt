@@ -15,7 +15,7 @@ use Rattle.front_onc.specs.declared.meaning.Use.{Use}
 use Rattle.front_onc.specs.declared.meaning.Use.TheVariants.{Number, Declared}
 use Rattle.front_onc.specs.declared.meaning.Form.{Form}
 use Rattle.front_onc.specs.declared.meaning.Form.TheVariants as F
-use Rattle.front_onc.specs.Answers.{Answer, and_then, refused, natural}
+use Rattle.name_kit.specs.Answers.{Answer, and_then, refused, natural}
 use Rattle.front_onc.specs.Names.{Scope, has, is_declared, value, type_use}
 use Rattle.front_onc.specs.State.{State, with_type}
 

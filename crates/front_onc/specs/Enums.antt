@@ -11,7 +11,7 @@ use Rattle.onc_syntax.specs.declared.tree.Value.{Value}
 use Rattle.onc_syntax.specs.declared.tree.Item.{Item}
 use Rattle.front_onc.specs.declared.meaning.Tag.TheVariants as tag
 use Rattle.front_onc.specs.declared.meaning.Meaning.TheVariants as M
-use Rattle.front_onc.specs.Answers.{Answer, fault, and_then, refused}
+use Rattle.name_kit.specs.Answers.{Answer, fault, and_then, refused}
 use Rattle.front_onc.specs.Names.{Scope, is_declared, value}
 use Rattle.front_onc.specs.State.{State, declared, with_type}
 

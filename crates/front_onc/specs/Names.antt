@@ -15,7 +15,7 @@ use Rattle.front_onc.specs.declared.meaning.Use.{Use}
 use Rattle.front_onc.specs.declared.meaning.Use.TheVariants.{Number}
 use Rattle.front_onc.specs.declared.meaning.Meaning.{Meaning}
 use Rattle.front_onc.specs.declared.meaning.Meaning.TheVariants as M
-use Rattle.front_onc.specs.Answers.{Answer, fault}
+use Rattle.name_kit.specs.Answers.{Answer, fault}
 
 -- names in the order of their declarations, each with what it stands for
 abbrev pub Scope : Type 0

@@ -14,7 +14,7 @@ use Rattle.front_onc.specs.declared.meaning.Tag.{Tag}
 use Rattle.front_onc.specs.declared.meaning.Tag.TheVariants as tag
 use Rattle.front_onc.specs.declared.meaning.Use.{Use}
 use Rattle.front_onc.specs.declared.meaning.Form.{Form}
-use Rattle.front_onc.specs.Answers.{Answer, and_then, refused}
+use Rattle.name_kit.specs.Answers.{Answer, and_then, refused}
 use Rattle.front_onc.specs.Names.{Scope, has, is_declared, value, type_use}
 use Rattle.front_onc.specs.State.{State, with_type}
 use Rattle.front_onc.specs.Declarations.{name_of, form, shape_of_use, shape, tag_of_use}

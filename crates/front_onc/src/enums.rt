@@ -1,7 +1,7 @@
 // Enums.
 ghost use Rattle.std.specs.Prelude.{◌≡◌, ◌≤◌, [], ◌∷◌, None, false, IfOk, OnOk};
 ghost use Rattle.aoi.specs.Shapes.{seen, enumeration};
-ghost use Rattle.front_onc.specs.Answers.{Gives};
+ghost use Rattle.name_kit.specs.Answers.{Gives};
 ghost use Rattle.front_onc.specs.Held.{state};
 ghost use Rattle.front_onc.specs.Enums.{next, item_number, short, item_on, items_on, is_item, enum_on};
 
@@ -83,9 +83,7 @@ fn item(
 fn owned(alloc: Global, name: &[u8], n: i32) -> Result<(Name, i32), NoMemory>
     ensures { IfOk result (λ i. i ≡ (name.now, n)) }
 {
-    let mut owned = Name::new(alloc);
-    owned.append(name)?;
-    Ok((owned, n))
+    Ok((Name::from_slice(alloc, name)?, n))
 }
 
 /// Declares the items of an enum, and gives them with their numbers.

@@ -1,15 +1,16 @@
 // What declarations make of their types.
 ghost use Rattle.std.specs.Prelude.{◌≡◌, false, IfOk, OnOk};
 ghost use Rattle.aoi.specs.Shapes.{seen, array, optional};
-ghost use Rattle.front_onc.specs.Answers.{Gives};
+ghost use Rattle.name_kit.specs.Answers.{Gives};
 ghost use Rattle.front_onc.specs.Declarations.{form, name_of, shape, shape_of_use, tag_of, tag_of_use};
 
 use crate::names::Scope;
-use crate::values::{at_most, exactly, refuse, type_use};
+use crate::values::{at_most, exactly, type_use};
 use crate::{Form, NameErr, NameFault, Tag, Use};
 use aoi::Ty;
 use kit_base::{Name, NoMemory};
 use mint::kind::{Count, Kind};
+use name_kit::refuse;
 use onc_syntax::Decl;
 use std::alloc::Global;
 

@@ -16,13 +16,5 @@ mod values;
 
 pub use aoi::{NameErr, NameFault};
 pub use meaning::{Form, Meaning, Tag, Use};
+pub use onc_syntax::{SyntaxErr, Tree, parse};
 pub use resolving::{files_are_whole, resolve};
-
-#[cfg(test)]
-mod memory_tests;
-#[cfg(test)]
-mod printed;
-#[cfg(test)]
-mod tests;
-#[cfg(test)]
-mod unit_tests;

@@ -2,7 +2,7 @@
 ghost use Rattle.std.specs.Prelude.{◌≡◌, ◌≤◌, [], ◌∷◌, map, length, IfOk, IfErr, OnOk, Err};
 ghost use Rattle.aoi.specs.Shapes.{seen, seen_field};
 ghost use Rattle.aoi.specs.Plain.{plain_operation};
-ghost use Rattle.front_onc.specs.Answers.{Gives};
+ghost use Rattle.name_kit.specs.Answers.{Gives};
 ghost use Rattle.front_onc.specs.Held.{state};
 ghost use Rattle.front_onc.specs.Programs.{result_of, parameter, argument, parameters_on, is_void, parameters, procedure_on, procedures_on, operation, operations};
 
@@ -10,12 +10,13 @@ use crate::forms::ty_of_use;
 use crate::names::{Names, Scope};
 use crate::numbers::{add_number, has_number};
 use crate::state::Resolver;
-use crate::values::{number_of, refuse, type_use};
+use crate::values::{number_of, type_use};
 use crate::{NameErr, NameFault};
 use aoi::{Field, Fields, Operation, Operations, Raises, Ty};
 use indexmap::IndexSet;
 use kit_base::{Name, NoMemory};
 use mint::kind::Count;
+use name_kit::refuse;
 use onc_syntax::{ProcType, Procedure};
 use std::alloc::Global;
 
@@ -110,10 +111,8 @@ fn operation(
 ) -> Result<Operation, NoMemory>
     ensures { IfOk result (λ o. plain_operation o ≡ operation slot name.now proc_no (map seen_field ins) (seen ty)) }
 {
-    let mut owned = Name::new(alloc);
-    owned.append(name)?;
     Ok(Operation {
-        name: owned,
+        name: Name::from_slice(alloc, name)?,
         proc_no,
         slot,
         ins,

@@ -1,7 +1,7 @@
 // Versions and programs.
 ghost use Rattle.std.specs.Prelude.{◌≡◌, ◌<◌, ◌≤◌, ◌+◌, ◌++◌, [], map, length, false, codes, IfOk, OnOk};
 ghost use Rattle.aoi.specs.Plain.{plain_interface, plain_operation};
-ghost use Rattle.front_onc.specs.Answers.{Gives, given};
+ghost use Rattle.name_kit.specs.Answers.{Gives, given};
 ghost use Rattle.front_onc.specs.Held.{state};
 ghost use Rattle.front_onc.specs.Names.{has};
 ghost use Rattle.front_onc.specs.Programs.{interface, number_of, version_offered, version_on, versions_on, program_on};
@@ -9,10 +9,11 @@ ghost use Rattle.front_onc.specs.Programs.{interface, number_of, version_offered
 use crate::names::Names;
 use crate::procedures::operations;
 use crate::state::{Resolver, want};
-use crate::values::{number_of, refuse};
+use crate::values::number_of;
 use crate::{Meaning, NameErr, NameFault};
 use aoi::{Interface, Operations};
 use kit_base::{Name, NoMemory};
+use name_kit::refuse;
 use onc_syntax::{Value, Version};
 use std::alloc::Global;
 
@@ -23,8 +24,7 @@ const INTERFACES: usize = 64;
 fn interface_name(alloc: Global, program: &[u8], version: &[u8]) -> Result<Name, NoMemory>
     ensures { IfOk result (λ name. name ≡ program.now ++ codes "." ++ version.now) }
 {
-    let mut name = Name::new(alloc);
-    name.append(program)?;
+    let mut name = Name::from_slice(alloc, program)?;
     name.append(b".")?;
     name.append(version)?;
     Ok(name)

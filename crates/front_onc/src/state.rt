@@ -2,7 +2,7 @@
 ghost use Rattle.std.specs.Prelude.{◌≡◌, ◌<◌, ◌≤◌, ◌+◌, false, length, IfOk, IfErr, OnOk, OnErr};
 ghost use Rattle.aoi.specs.Shapes.{seen};
 ghost use Rattle.aoi.specs.Plain.{plain_interface};
-ghost use Rattle.front_onc.specs.Answers.{Gives, refused};
+ghost use Rattle.name_kit.specs.Answers.{Gives, refused};
 ghost use Rattle.front_onc.specs.Names.{is_declared};
 ghost use Rattle.front_onc.specs.Held.{state};
 ghost use Rattle.front_onc.specs.Programs.{offered};
@@ -13,11 +13,11 @@ ghost use Rattle.aoi.specs.declared.faults.NameFault.TheVariants.{NoMemory as Wa
 
 use crate::names::Scope;
 use crate::numbers::{add_label, is_label};
-use crate::values::refuse;
 use crate::{Meaning, NameErr, NameFault, Tag, Use};
 use aoi::{Interface, Ty, Unit, UnitErr};
 use indexmap::IndexSet;
 use kit_base::{Name, NoMemory};
+use name_kit::refuse;
 use std::alloc::Global;
 use std::marker::Model;
 
@@ -129,9 +129,7 @@ impl Resolver {
         if self.unit.types().len() > u32::MAX as usize {
             return Err(want());
         }
-        let mut owned = Name::new(alloc);
-        owned.append(name)?;
-        let k = self.unit.add_type(owned, ty)?;
+        let k = self.unit.add_type(Name::from_slice(alloc, name)?, ty)?;
         self.scope
             .declare(alloc, name, Meaning::Type(Use::Declared(k, tag)))?;
         Ok(())

@@ -1,7 +1,7 @@
 // Typedefs and structs.
 ghost use Rattle.std.specs.Prelude.{◌≡◌, [], map, IfOk};
 ghost use Rattle.aoi.specs.Shapes.{seen_field, seen, members, structure, members_of};
-ghost use Rattle.front_onc.specs.Answers.{Gives};
+ghost use Rattle.name_kit.specs.Answers.{Gives};
 ghost use Rattle.front_onc.specs.Held.{state};
 ghost use Rattle.front_onc.specs.Declarations.{members_on, shape, typedef, struct_on};
 
@@ -18,10 +18,8 @@ use std::alloc::Global;
 fn field(alloc: Global, name: &[u8], form: Form) -> Result<Field, NoMemory>
     ensures { IfOk result (λ f. seen_field f ≡ (name.now, shape form)) }
 {
-    let mut owned = Name::new(alloc);
-    owned.append(name)?;
     Ok(Field {
-        name: owned,
+        name: Name::from_slice(alloc, name)?,
         ty: ty(alloc, form)?,
     })
 }

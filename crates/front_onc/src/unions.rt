@@ -2,7 +2,7 @@
 ghost use Rattle.std.specs.Prelude.{◌≡◌, [], ◌∷◌, ◌++◌, IfOk, OnOk};
 ghost use Rattle.std.specs.Option.{option_map};
 ghost use Rattle.aoi.specs.Shapes.{Shape, seen, choice, arms_of, default_of, arms_seen};
-ghost use Rattle.front_onc.specs.Answers.{Gives};
+ghost use Rattle.name_kit.specs.Answers.{Gives};
 ghost use Rattle.front_onc.specs.Held.{state, arms_held};
 ghost use Rattle.front_onc.specs.Unions.{is_of, label_on, labels_on, arm_shape, arms_for, arm_on, case_on, cases_on, other, is_other, union_shape, union_on};
 
@@ -10,11 +10,12 @@ use crate::forms::{form, name_of, tag_of_use, ty, ty_of_use};
 use crate::names::{Names, Scope};
 use crate::numbers::{add_integer, behind, has_integer};
 use crate::state::{LABELS, Resolver};
-use crate::values::{refuse, type_use, value};
+use crate::values::{type_use, value};
 use crate::{Form, NameErr, NameFault, Tag, Use};
 use aoi::{Ty, UnionArms};
 use indexmap::IndexSet;
 use kit_base::NoMemory;
+use name_kit::refuse;
 use onc_syntax::{Arm, Case, Label, Union};
 use std::alloc::Global;
 

@@ -1,6 +1,6 @@
 // Values, and types by their names.
 ghost use Rattle.std.specs.Prelude.{◌≡◌};
-ghost use Rattle.front_onc.specs.Answers.{Gives, natural, refused};
+ghost use Rattle.name_kit.specs.Answers.{Gives};
 ghost use Rattle.front_onc.specs.Names.{value, signed, constant, kind_of, use_of, type_use};
 ghost use Rattle.front_onc.specs.Declarations.{exactly, at_most};
 ghost use Rattle.front_onc.specs.Programs.{number_of};
@@ -9,32 +9,8 @@ ghost use Rattle.front_onc.specs.declared.meaning.Meaning.{Meaning as MeaningDat
 use crate::names::Scope;
 use crate::{Meaning, NameErr, NameFault, Use};
 use mint::kind::{Count, Kind};
+use name_kit::natural;
 use onc_syntax::{IntWord, TypeName, Value};
-
-/// A fault, where it holds.
-pub(crate) fn refuse(fault: NameFault, decl: u32, holds: bool) -> Result<(), NameErr>
-    ensures value { Gives (λ x. x) result (refused fault decl holds) }
-    ensures exact { result ≡ refused fault decl holds }
-{
-    if holds {
-        return Err(NameErr { fault, decl });
-    }
-    Ok(())
-}
-
-/// A number from a lowest one up to 2^32 - 1.
-pub(crate) fn natural(low: u32, decl: u32, n: i128) -> Result<u32, NameErr>
-    ensures value { Gives (λ x. x) result (natural low decl n) }
-    ensures exact { result ≡ natural low decl n }
-{
-    if n < i128::from(low) || 4294967295 < n {
-        return Err(NameErr {
-            fault: NameFault::Range,
-            decl,
-        });
-    }
-    Ok(n as u32)
-}
 
 /// The number of a value.
 pub(crate) fn value(scope: &Scope, decl: u32, v: &Value) -> Result<i128, NameErr>

@@ -9,8 +9,8 @@ use Rattle.wire_def.specs.declared.head.Head.{Head}
 use Rattle.cast_stub.specs.Parts.{on_some, at, elements_in}
 use Rattle.cast_stub.specs.Block.{Block, stop, ensure, ensure_row, align, chunk, row_copy, row_swap, row_wide, each, switch, if_there, call, patch, Cases, no_default, default, case}
 use Rattle.cast_stub.specs.Steps.{Patched, Steps, both, over, if_present, Calls, steps, case_steps, chunk_steps, align_steps}
-use Rattle.cast_stub.specs.PartTypes.{ty_at}
-use Rattle.hoist.specs.Bound.{most, times, bound, cases_bound, Within, element_at, present_at, arms_at, elements_type}
+use Rattle.cast_stub.specs.PartTypes.{ty_at, element_at, present_at, arms_at, elements_type}
+use Rattle.hoist.specs.Bound.{most, times, bound, cases_bound, Within}
 use Rattle.hoist.specs.Hoisted.{Pending, nothing, octets, row, Hoisted, some_octets, closed, Plan, flat, small, loop, apart, enough, beside, settled, Role, is_small, is_row, is_break, Roles, loop_plan, body_plan, each_plan, some_plan, switch_plan, kept, items_in_type, items_at, or_void, or_none, hoisted, cases_hoisted, InType, WhereApart, IsTaken, CasesTaken}
 use Rattle.hoist.specs.Laws.{HoistingCovers}
 use Rattle.hoist.proofs.TypedParts.{length_at, split, each-part, some-part, switch-part}
@@ -147,7 +147,7 @@ module _ (c : Calls) (h : Head) (ro : Roles) where
         (λ (k : ℕ) is. big-within (steps c h b) (λ u. bound u b) p t v k typed is (λ u w. bounded c h b u w))
         (λ tk. apart_each (λ u w. steps c h (closed (hoisted ro u b)) w) (λ u. IsTaken ro u b) p t v (items_at p t) typed refl tk (λ (u : Ty) (w : Val) tk' o. closed_good c h (hoisted ro u b) w (good b u w tk' o)))
         taken.0)
-        (good r t v taken.1 typed)
+        (good r t v taken.2 typed)
     good (if_there p b r) t v taken typed =
         settled_good c h (some_plan ro t p b) (on_some (at p v) (if_present (steps c h (kept (some_plan ro t p b) b (closed (hoisted ro (or_void (present_at p t)) b)))))) (hoisted ro t r) v
         (body_fits (λ (d : Block). on_some (at p v) (if_present (steps c h d))) (ro t p) (on_some (present_at p t) (λ u. bound u b)) b (closed (hoisted ro (or_void (present_at p t)) b)) v

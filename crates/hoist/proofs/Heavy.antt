@@ -16,15 +16,15 @@ use Rattle.cast_stub.specs.Steps.{Steps, both, over, if_present, Calls, steps, c
 use Rattle.cast_stub.specs.Follows as follows
 use Rattle.cast_stub.specs.Follows.{IsFlat, IsCount, Going, Child, Follows, FieldsFollow, ArmsFollow}
 use Rattle.cast_stub.specs.Subs.{no_subs}
-use Rattle.cast_stub.specs.PartTypes.{ty_at}
+use Rattle.cast_stub.specs.PartTypes.{ty_at, element_at, present_at, arms_at, present_type, arms_type}
 use Rattle.cast_stub.proofs.Appending.{append-stop, append-assoc}
-use Rattle.hoist.specs.Bare.{IsBare}
-use Rattle.hoist.specs.Bound.{most, times, bound, cases_bound, element_at, present_at, arms_at, present_type, arms_type}
+use Rattle.cast_stub.specs.Bare.{IsBare}
+use Rattle.hoist.specs.Bound.{most, times, bound, cases_bound}
 use Rattle.hoist.specs.Hoisted.{nothing, octets, row, Hoisted, closed, Plan, flat, apart, settled, Role, is_row, is_break, loop_plan, body_plan, each_plan, some_plan, switch_plan, kept, items_at, items_in_type, or_void, or_none, hoisted, cases_hoisted}
 use Rattle.hoist.specs.Regions.{Sizes, AreSizes, Part, row_part, break_part, lone, is_light, with_breaks, broken, parts, fields_parts, arm_parts, groups, on_way, roles, is_hollow}
 use Rattle.hoist.proofs.Grouping.{load, loaded, apart_groups, total, broken_groups, load_lone, load_some, load_small}
 use Rattle.hoist.proofs.Weighing.{spent, checks-append, weigh, weigh_quiet, weigh_less, low, high, least, greatest, greatest_least, closed_fits, loop_greatest, apart_greatest}
-use Rattle.copy_inline.proofs.Followed.{own}
+use Rattle.cast_stub.proofs.Followed.{own}
 use Rattle.hoist.proofs.Quiet.{quiet, quiet_over, quiet_on, quiet_chunk, quiet_align, mapped, bare, flat_bare}
 use Rattle.hoist.proofs.Ways.{AreFrom, from-first, from-next, from-head, ty-field, way-field, at-field, turn_there, row_turn_there}
 use Rattle.hoist.proofs.Light.{flat_adds, light, hollow}

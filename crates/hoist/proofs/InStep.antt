@@ -105,7 +105,7 @@ both-taken enc t (call k p r) b h = absurd h
 both-taken enc t (align a r) b h = both-taken enc t r b h
 both-taken enc t (chunk s ps r) b h = both-taken enc t r b h
 both-taken enc t (patch a s o r) b h = both-taken enc t r b h
-both-taken enc t (each p c r) b h = let k = both-taken enc t r b h.1 in ((h.0, k.0), k.1)
+both-taken enc t (each p c r) b h = let k = both-taken enc t r b h.2 in ((h.0, h.1, k.0), k.1)
 both-taken enc t (if_there p c r) b h = let k = both-taken enc t r b h.1 in ((h.0, k.0), k.1)
 both-taken enc t (switch p cs r) b h = let k = both-taken enc t r b h.1 in ((h.0, k.0), k.1)
 

@@ -7,9 +7,10 @@ use Rattle.wire_def.specs.declared.head.Head.{Head}
 use Rattle.cast_stub.specs.Parts.{on_some, at, elements_in, length_in}
 use Rattle.cast_stub.specs.Block.{Block, stop, ensure, ensure_row, align, chunk, row_copy, row_swap, row_wide, each, switch, if_there, call, patch, Cases, no_default, default, case}
 use Rattle.cast_stub.specs.Steps.{Step, Room, Pad, Stored, Widened, Copied, Patched, Steps, both, over, if_present, Calls, steps, case_steps, chunk_steps, align_steps}
-use Rattle.hoist.specs.Framed.{without_room, unensured, cases_unensured}
+use Rattle.cast_stub.specs.Kept.{without_room, unensured, cases_unensured}
 use Rattle.hoist.specs.Hoisted.{Pending, nothing, octets, row, Hoisted, some_octets, closed, Plan, flat, small, loop, apart, enough, beside, settled, Roles, Role, is_small, is_row, is_break, loop_plan, body_plan, each_plan, some_plan, switch_plan, kept, items_at, or_void, or_none, hoisted, cases_hoisted}
-use Rattle.hoist.specs.Bound.{element_at, present_at, arms_at, most, times, bound, cases_bound}
+use Rattle.hoist.specs.Bound.{most, times, bound, cases_bound}
+use Rattle.cast_stub.specs.PartTypes.{element_at, present_at, arms_at}
 use Rattle.hoist.specs.Laws.{HoistingKeepsSteps, HoistingKeepsCode}
 use Rattle.hoist.proofs.TypedParts.{length_at}
 

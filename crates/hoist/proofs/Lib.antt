@@ -1,10 +1,12 @@
 pub mod Bounds
 pub mod Covered
+pub mod EnsuredRows
 pub mod Filled
 pub mod Grouping
 pub mod Heavy
 pub mod InStep
 pub mod Keeping
+mod Least
 pub mod Light
 pub mod Nodes
 pub mod OnWay
@@ -14,6 +16,7 @@ pub mod Promised
 pub mod Quiet
 pub mod Reversed
 pub mod Rooms
+pub mod Rowless
 pub mod SpanSizes
 pub mod Sparing
 pub mod Sparse
@@ -24,4 +27,3 @@ pub mod Ways
 pub mod Weighing
 pub mod Worked
 pub mod WorkedSizes
-mod Least

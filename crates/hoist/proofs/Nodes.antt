@@ -10,10 +10,10 @@ use Rattle.cast_stub.specs.declared.send.SendOp.{SendOp}
 use Rattle.cast_stub.specs.declared.send.SendOp.TheVariants as op
 use Rattle.cast_stub.specs.Parts.{on_some}
 use Rattle.cast_stub.specs.Block.{Block, Piece, op_seen, code_seen, cases_seen}
-use Rattle.cast_stub.specs.PartTypes.{field_type}
+use Rattle.cast_stub.specs.PartTypes.{field_type, element_at, present_at, arms_at}
 use Rattle.cast_stub.proofs.Codes.{code-drop}
 use Rattle.cast_stub.proofs.Pieces.{seen-Ensure, seen-EnsureRow, seen-Align, seen-Chunk, seen-RowCopy, seen-RowSwap, seen-RowWide, seen-Each, seen-Some, seen-Call, seen-Patch, seen-Switch}
-use Rattle.hoist.specs.Bound.{plus, greater, bound, cases_bound, element_at, present_at, arms_at}
+use Rattle.hoist.specs.Bound.{plus, greater, bound, cases_bound}
 
 abbrev pair : Ty → Count → Ty × Count
 pair t n = (t, n)

@@ -14,8 +14,7 @@ use Rattle.hoist.specs.declared.ahead.Ahead.{Ahead}
 use Rattle.hoist.specs.declared.ahead.Plan.{Plan as CodePlan}
 use Rattle.hoist.specs.declared.ahead.Plan.TheVariants as code_plan
 use Rattle.cast_stub.specs.Parts.{on_some}
-use Rattle.cast_stub.specs.PartTypes.{ty_at}
-use Rattle.hoist.specs.Bound.{present_at, present_type, arms_at, arms_type}
+use Rattle.cast_stub.specs.PartTypes.{ty_at, present_at, present_type, arms_at, arms_type}
 use Rattle.hoist.specs.Hoisted.{Pending, Hoisted, Plan, flat, raised, settled, closed, hoisted, cases_hoisted, kept, each_plan, some_plan, switch_plan, items_at, items_in_type, or_void, or_none, InType, WhereApart, IsTaken, CasesTaken}
 use Rattle.hoist.specs.Seen.{ahead_seen, plan_seen, behind, span_roles, InFront}
 use Rattle.hoist.proofs.Reversed.{behind-push}

@@ -11,13 +11,16 @@ use Rattle.cast_stub.specs.Meaning.{patched, wrote, costs, AreCovered}
 use Rattle.cast_stub.specs.Parts.{on_some, IsThere}
 use Rattle.cast_stub.specs.Steps.{Step, Room, Pad, Stored, Widened, Copied, Patched, Steps, Calls, steps}
 use Rattle.cast_stub.specs.Subs.{deepest, calls_of, sent_steps}
-use Rattle.hoist.specs.Framed.{unensured, without_room, RowsAreBare}
+use Rattle.cast_stub.specs.Kept.{unensured, without_room, SendsTheSame, AddsEnsures, IsCoveredFor}
+use Rattle.cast_stub.specs.Bare.{RowsAreBare}
 use Rattle.hoist.specs.Hoisted.{closed, hoisted, IsTaken}
-use Rattle.hoist.specs.Pass.{IsGiven, SendsTheSame, AddsEnsures, IsCoveredFor, IsSparing}
+use Rattle.hoist.specs.Pass.{IsGiven, EnsuresRows, IsSparing}
+use Rattle.hoist.specs.Rows.{RowsEnsured}
 use Rattle.hoist.specs.Regions.{regions}
 use Rattle.hoist.specs.Seen.{span_roles}
 use Rattle.hoist.specs.SpanSizes.{sizes}
 use Rattle.hoist.proofs.Covered.{covers}
+use Rattle.hoist.proofs.EnsuredRows.{ensures_rows}
 use Rattle.hoist.proofs.Keeping.{keeps_steps, keeps_code}
 use Rattle.hoist.proofs.SpanSizes.{are_sizes}
 use Rattle.hoist.proofs.Sparing as spare
@@ -86,3 +89,6 @@ module _ (enc : Encoding) (given code : SendCode) (t : Ty) (e : code_seen code.o
 
   pub bare-rows : IsTaken (span_roles enc) t (code_seen given.ops) → RowsAreBare t (code_seen code.ops)
   bare-rows taken = subst (RowsAreBare t) (sym e) (spares_rows (span_roles enc) t (code_seen given.ops) taken)
+
+  pub big-rows : IsTaken (span_roles enc) t (code_seen given.ops) → EnsuresRows enc t code
+  big-rows taken = subst (RowsEnsured (span_roles enc) t None) (sym e) (ensures_rows (span_roles enc) t (code_seen given.ops) taken)

@@ -15,8 +15,8 @@ use Rattle.cast_stub.specs.Steps.{Pad, Stored, Patched, Steps, both, over, if_pr
 use Rattle.cast_stub.specs.Follows as follows
 use Rattle.cast_stub.specs.Follows.{IsFlat, IsLoop, IsCount, Going, Child, Follows, FieldsFollow, ArmsFollow}
 use Rattle.cast_stub.specs.Subs.{no_subs}
-use Rattle.copy_inline.proofs.Followed.{own}
-use Rattle.hoist.specs.Bare.{IsBare, CasesBare}
+use Rattle.cast_stub.proofs.Followed.{own}
+use Rattle.cast_stub.specs.Bare.{IsBare, CasesBare}
 use Rattle.hoist.proofs.Weighing.{spent, checks-append}
 
 -- ---- nothing is ensured

@@ -9,7 +9,7 @@ use Rattle.cast_stub.specs.Block.{Block, stop, chunk, patch}
 use Rattle.cast_stub.specs.Append.{append}
 use Rattle.cast_stub.specs.Steps.{Steps, both, Calls, steps, chunk_steps}
 use Rattle.cast_stub.specs.Follows as follows
-use Rattle.hoist.specs.Framed.{lead_length, IsTail}
+use Rattle.cast_stub.specs.Framed.{lead_length, IsTail}
 use Rattle.hoist.specs.Hoisted.{Hoisted, flat, raised, settled, hoisted}
 use Rattle.hoist.specs.Laws.{HoistingIsSparing}
 use Rattle.hoist.specs.Regions.{Sizes, AreSizes, Part, lone, parts, regions, roles}

@@ -5,11 +5,10 @@ use Rattle.mint.specs.declared.kind.Count.{Count}
 use Rattle.mint.specs.Types.{Ty, void_type, scalar_type, array_type, group_type, items_type, choice_type, maybe_type, Arms, no_other, others, arm_type}
 use Rattle.cast_stub.specs.Parts.{on_some, IsThere}
 use Rattle.cast_stub.specs.Block.{Block, stop, ensure, ensure_row, align, chunk, row_copy, row_swap, row_wide, each, switch, if_there, call, patch, Cases, no_default, default, case}
-use Rattle.cast_stub.specs.PartTypes.{ty_at}
-use Rattle.hoist.specs.Bare.{IsBare, CasesBare}
-use Rattle.hoist.specs.Bound.{most, plus, times, greater, bound, cases_bound, element_at, present_at, arms_at}
-use Rattle.hoist.specs.Framed.{OfItems, IfTyped, RowsAreBare, CasesRowsAreBare}
-use Rattle.hoist.specs.Hoisted.{nothing, octets, row, Hoisted, closed, Plan, flat, small, loop, apart, enough, beside, settled, Roles, Role, is_small, is_row, is_break, loop_plan, body_plan, each_plan, some_plan, switch_plan, kept, items_in_type, items_at, or_void, or_none, hoisted, cases_hoisted, InType, WhereApart, IsTaken, CasesTaken}
+use Rattle.cast_stub.specs.PartTypes.{ty_at, element_at, present_at, arms_at}
+use Rattle.cast_stub.specs.Bare.{IsBare, CasesBare, OfItems, IfTyped, RowsAreBare, CasesRowsAreBare}
+use Rattle.hoist.specs.Bound.{most, plus, times, greater, bound, cases_bound}
+use Rattle.hoist.specs.Hoisted.{nothing, octets, row, Hoisted, closed, Plan, flat, small, loop, apart, enough, beside, settled, Roles, Role, is_small, is_row, is_break, loop_plan, body_plan, turn_bound, each_plan, some_plan, switch_plan, kept, items_in_type, items_at, or_void, or_none, hoisted, cases_hoisted, InType, WhereApart, IsTaken, CasesTaken}
 use Rattle.hoist.specs.Laws.{HoistingSparesRows}
 
 -- ---- bounded code is bare
@@ -152,7 +151,7 @@ apart_items (Some (choice_type s arms)) T P Q f taken go = absurd taken
 apart_items (Some (maybe_type t)) T P Q f taken go = absurd taken
 apart_items None T P Q f taken go = absurd taken
 
-apart_typed : {A B : Type 0} (x : Option A) (T : A → Type 0) (P : A → B → Type 0) (d : Option A → A) (f : A → B) → ((a : A) → d (Some a) ≡ a) → InType x T → ((a : A) → T a → P a (f a)) → IfTyped x (λ a. P a (f (d x)))
+pub apart_typed : {A B : Type 0} (x : Option A) (T : A → Type 0) (P : A → B → Type 0) (d : Option A → A) (f : A → B) → ((a : A) → d (Some a) ≡ a) → InType x T → ((a : A) → T a → P a (f a)) → IfTyped x (λ a. P a (f (d x)))
 apart_typed None T P d f e taken go = absurd taken
 apart_typed (Some a) T P d f e taken go = subst (λ y. P a (f y)) (sym (e a)) (go a taken)
 
@@ -164,13 +163,13 @@ module _ (ro : Roles) where
     rows (chunk s ps r) t taken = settled_rows (flat s) (hoisted ro t r) t (rows r t taken)
     rows (patch a s o r) t taken = rows r t taken
     rows (each p b r) t taken = (
-      loop_rows (ro t p) (on_some (element_at p t) (λ e. times (most e.1) (bound e.0 b))) (on_some (element_at p t) (λ e. bound e.0 b)) p b (closed (hoisted ro (or_void (items_at p t)) b))
+      loop_rows (ro t p) (on_some (element_at p t) (λ e. times (most e.1) (bound e.0 b))) (turn_bound p t b) p b (closed (hoisted ro (or_void (items_at p t)) b))
           (λ (d : Block). OfItems (ty_at p t) (λ u. RowsAreBare u d) (IsBare d)) (InType (items_at p t) (λ u. IsTaken ro u b))
           (λ h. kept_rows p t b (from_on (element_at p t) (λ e. times (most e.1) (bound e.0 b)) (IsBare b) h (λ (e : Ty × Count) j. bound_bare b e.0 (times_there (most e.1) (bound e.0 b) j))))
           (λ h. kept_rows p t b (from_on (element_at p t) (λ e. bound e.0 b) (IsBare b) h (λ (e : Ty × Count) j. bound_bare b e.0 j)))
           (λ tk. apart_items (ty_at p t) (λ u. IsTaken ro u b) RowsAreBare IsBare (λ u. closed (hoisted ro u b)) tk (λ (u : Ty) k. closed_rows (hoisted ro u b) u (rows b u k)))
           taken.0,
-      settled_rows (each_plan ro t p b) (hoisted ro t r) t (rows r t taken.1),
+      settled_rows (each_plan ro t p b) (hoisted ro t r) t (rows r t taken.2),
     ) where
       kept_rows : (p : List ℕ) (t : Ty) (b : Block) → IsBare b → OfItems (ty_at p t) (λ u. RowsAreBare u b) (IsBare b)
       kept_rows p t b bare = of_items (ty_at p t) (λ u. RowsAreBare u b) (IsBare b) (λ (u : Ty). bare_rows b u bare) bare

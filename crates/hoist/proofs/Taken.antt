@@ -1,5 +1,5 @@
 -- Code that goes through a type is taken.
-use Rattle.std.proofs.Common.{◌≡◌, ℕ, suc, ◌+◌, ◌-◌, List, [], ◌∷◌, ◌++◌, length, Option, None, Some, refl, sym, ap, subst, ◌∙◌, Bool, true, false, ◌||◌}
+use Rattle.std.proofs.Common.{◌≡◌, ℕ, suc, ◌+◌, ◌-◌, List, [], ◌∷◌, ◌++◌, length, Option, None, Some, refl, sym, ap, subst, ◌∙◌, Bool, true, false, ◌||◌, if◌then◌else◌}
 use Rattle.mint.specs.declared.kind.Count.{Count}
 use Rattle.mint.specs.declared.kind.Count.TheVariants.{Exactly, AtMost, Any}
 use Rattle.mint.specs.Types.{Ty, void_type, scalar_type, array_type, group_type, items_type, choice_type, maybe_type, Tys, no_fields, field, Arms, no_other, others, arm_type}
@@ -9,18 +9,18 @@ use Rattle.cast_stub.specs.Append.{append}
 use Rattle.cast_stub.specs.Follows as follows
 use Rattle.cast_stub.specs.Follows.{IsFlat, IsCount, Going, Child, Follows, FieldsFollow, ArmsFollow}
 use Rattle.cast_stub.specs.Subs.{no_subs}
-use Rattle.cast_stub.specs.PartTypes.{ty_at}
+use Rattle.cast_stub.specs.PartTypes.{ty_at, element_at, present_at, arms_at, present_type, arms_type}
 use Rattle.cast_stub.proofs.Appending.{append-stop, append-assoc}
-use Rattle.hoist.specs.Bound.{plus, bound, element_at, present_at, arms_at, present_type, arms_type}
-use Rattle.hoist.specs.Framed.{lead_length, IsTail}
-use Rattle.hoist.specs.Hoisted.{Plan, flat, small, loop, apart, each_plan, some_plan, switch_plan, items_in_type, items_at, InType, WhereApart, IsTaken, CasesTaken}
+use Rattle.hoist.specs.Bound.{plus, bound}
+use Rattle.cast_stub.specs.Framed.{lead_length, IsTail}
+use Rattle.hoist.specs.Hoisted.{Plan, flat, small, loop, apart, Role, is_small, is_row, is_break, IfRow, turn_bound, each_plan, some_plan, switch_plan, items_in_type, items_at, InType, WhereApart, IsTaken, CasesTaken}
 use Rattle.hoist.specs.Laws.{FramedIsTaken}
-use Rattle.hoist.specs.Regions.{Sizes, AreSizes, on_way, roles, is_light, fields_top}
+use Rattle.hoist.specs.Regions.{Sizes, AreSizes, on_way, roles, role_at, weight_at, is_light, fields_top}
 use Rattle.hoist.proofs.Standing.{loop_row, heavy_role}
 use Rattle.hoist.proofs.Light.{loop_small, small_role}
-use Rattle.copy_inline.proofs.Followed.{own}
+use Rattle.cast_stub.proofs.Followed.{own}
 use Rattle.hoist.proofs.Quiet.{mapped}
-use Rattle.hoist.proofs.Ways.{AreFrom, from-first, from-next, from-head, ty-field, way-field, some_of, loop_bound, array_there, row_turn_there}
+use Rattle.hoist.proofs.Ways.{AreFrom, from-first, from-next, from-head, ty-field, way-field, some_of, loop_bound, array_there, row_turn_there, turn_there}
 
 not_apart : (plan other : Plan) (T : Type 0) → plan ≡ other → WhereApart other T → WhereApart plan T
 not_apart plan other T e h = subst (λ (y : Plan). WhereApart y T) (sym e) h
@@ -30,6 +30,17 @@ any_plan (flat n) T h = tt
 any_plan (small n k) T h = tt
 any_plan (loop p u) T h = tt
 any_plan apart T h = h
+
+any_row : (role : Role) (T : Type 0) → T → IfRow role T
+any_row is_row T h = h
+any_row (is_small k) T h = tt
+any_row is_break T h = tt
+
+-- a role that is that of a row only where a test holds
+row_where : (way test : Bool) (k : ℕ) (T : Type 0) → (test ≡ true → T) → IfRow (if way then is_small k else if test then is_row else is_break) T
+row_where true test k T go = tt
+row_where false true k T go = go refl
+row_where false false k T go = tt
 
 in_type : {A : Type 0} (x : Option A) (P : A → Type 0) (a : A) → x ≡ Some a → P a → InType x P
 in_type x P a e h = subst (λ y. InType y P) (sym e) h
@@ -52,6 +63,12 @@ tops (Some m) None h = absurd h
 tops (Some m) (Some n) h = (tt, tt)
 
 module _ (z : Sizes) (sizes : AreSizes z) where
+  -- elements of one length
+  items_turn : (t0 : Ty) (p : List ℕ) (k : Count) (t : Ty) → ty_at p t0 ≡ Some (items_type k t) → (T : Type 0) → (z.fixed t ≡ true → T) → IfRow (roles z t0 p) T
+  items_turn t0 p k t is T go =
+      subst (λ (x : Option Ty). IfRow (if on_way z p t0 then is_small (weight_at z (ty_at p t0)) else role_at z x) T) (sym is)
+      (row_where (on_way z p t0) (z.fixed t) (weight_at z (ty_at p t0)) T go)
+
   module _ (t0 : Ty) where
     flat_taken : (b r : Block) (n : ℕ) → follows.flat b ≡ Some n → IsTaken (roles z) t0 r → IsTaken (roles z) t0 (append b r)
     flat_taken stop r n e h = h
@@ -81,14 +98,16 @@ module _ (z : Sizes) (sizes : AreSizes z) where
         (λ w.
         let s = loop_row (roles z t0 p) n u p (heavy_role z p t0 (array_type a) w is) (row_turn_there z sizes a p f.1 f.4 t0 is f.8) in
         not_apart (each_plan (roles z) t0 p f.1) (loop p s.0) T s.1 tt) in
-        subst (IsTaken (roles z) t0) (sym e) (flat_taken t0 f.0 (each p f.1 (append f.2 r)) f.3 f.7 (plan, flat_taken t0 f.2 r f.5 f.9 h))
+        let turn = any_row (roles z t0 p) (IsThere (turn_bound p t0 f.1)) (row_turn_there z sizes a p f.1 f.4 t0 is f.8) in
+        subst (IsTaken (roles z) t0) (sym e) (flat_taken t0 f.0 (each p f.1 (append f.2 r)) f.3 f.7 (plan, turn, flat_taken t0 f.2 r f.5 f.9 h))
     taken (group_type ts) below p b r t0 is way f h = fields_taken ts 0 ts below p b r t0 is (from-first ts) (λ w. let n = some_of (z.top (group_type ts)) (way w) in subst IsThere (sym (sizes.group ts n.0 n.1).1) tt) f h
     taken (items_type k t) below p b r t0 is way f h =
         let e : append b r ≡ append f.0 (each p f.1 r) = ap (λ (x : Block). append x r) f.2 ∙ append-assoc f.0 (each p f.1 stop) r in
         let body = subst (IsTaken (roles z) t) (append-stop f.1) (taken t below [] f.1 stop t refl (light_there (z.top t)) (own (Follows no_subs t) below [] f.1 f.4) tt) in
         let T = InType (items_at p t0) (λ y. IsTaken (roles z) y f.1) in
         let plan = any_plan (each_plan (roles z) t0 p f.1) T (in_type (items_at p t0) (λ y. IsTaken (roles z) y f.1) t (ap (λ (x : Option Ty). on_some x items_in_type) is) body) in
-        subst (IsTaken (roles z) t0) (sym e) (count_taken t0 k f.0 (each p f.1 r) f.3 (plan, h))
+        let turn = items_turn t0 p k t is (IsThere (turn_bound p t0 f.1)) (λ x. turn_there z sizes k t below p f.1 t0 is (sizes.fixed t x) (own (Follows no_subs t) below [] f.1 f.4)) in
+        subst (IsTaken (roles z) t0) (sym e) (count_taken t0 k f.0 (each p f.1 r) f.3 (plan, turn, h))
     taken (choice_type s arms) below p b r t0 is way f h =
         let e : append b r ≡ append f.0 (switch p f.1 r) = ap (λ (x : Block). append x r) f.2 ∙ append-assoc f.0 (switch p f.1 stop) r in
         let T = InType (arms_at p t0) (λ y. CasesTaken (roles z) y f.1) in

@@ -11,8 +11,7 @@ use Rattle.mint.specs.Values.{Val, num, row, group, items, arm, absent, present,
 use Rattle.cast_stub.specs.Parts.{on_some, at, in_group, elements_in, length_in}
 use Rattle.cast_stub.specs.Parts as part
 use Rattle.cast_stub.specs.Steps.{Steps, over, if_present}
-use Rattle.cast_stub.specs.PartTypes.{field_type, in_group_type, ty_at}
-use Rattle.hoist.specs.Bound.{elements_type, present_type, arms_type, element_at, present_at, arms_at}
+use Rattle.cast_stub.specs.PartTypes.{field_type, in_group_type, ty_at, elements_type, present_type, arms_type, element_at, present_at, arms_at}
 
 field-typed : (n : ℕ) (ts : Tys) (vs : Vals) (u : Ty) (w : Val) → AreOf ts vs → field_type n ts ≡ Some u → part.field n vs ≡ Some w → IsOf u w
 field-typed n no_fields vs u w h e f = absurd cc

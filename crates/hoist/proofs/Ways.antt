@@ -14,11 +14,11 @@ use Rattle.cast_stub.specs.Append.{append}
 use Rattle.cast_stub.specs.Follows as follows
 use Rattle.cast_stub.specs.Follows.{IsFlat, IsLoop, IsCount, Going, Child, Follows, FieldsFollow, ArmsFollow}
 use Rattle.cast_stub.specs.Subs.{no_subs}
-use Rattle.cast_stub.specs.PartTypes.{field_type, in_group_type, ty_at}
+use Rattle.cast_stub.specs.PartTypes.{field_type, in_group_type, ty_at, element_at, present_at, arms_at, elements_type, present_type, arms_type}
 use Rattle.cast_stub.proofs.Rebasing.{at-append}
-use Rattle.hoist.specs.Bound.{most, plus, times, greater, bound, cases_bound, element_at, present_at, arms_at, elements_type, present_type, arms_type}
+use Rattle.hoist.specs.Bound.{most, plus, times, greater, bound, cases_bound}
 use Rattle.hoist.specs.Regions.{Sizes, on_way, further_on, is_light, AreSizes, fields_top, ArmsBounded}
-use Rattle.copy_inline.proofs.Followed.{own}
+use Rattle.cast_stub.proofs.Followed.{own}
 use Rattle.hoist.proofs.Quiet.{mapped}
 use Rattle.wire_def.specs.Arrays.{count_of}
 

@@ -1,49 +1,17 @@
 -- The most octets that a block appends, by the type of its value.
 use Rattle.std.specs.Prelude.{ℕ, ◌+◌, ◌-◌, ◌*◌, ◌≤◌, max, List, [], ◌∷◌, length, Option, None, Some, if◌then◌else◌}
 use Rattle.std.specs.Ordering.{int_eq}
-use Rattle.mint.specs.declared.kind.Kind.TheVariants as kind
 use Rattle.mint.specs.declared.kind.Count.{Count}
 use Rattle.mint.specs.declared.kind.Count.TheVariants.{Exactly, AtMost, Any}
-use Rattle.mint.specs.Types.{number, text, row_of, Ty, scalar_type, array_type, items_type, choice_type, maybe_type, Arms, no_other, others, arm_type}
+use Rattle.mint.specs.Types.{Ty, Arms, no_other, others, arm_type}
 use Rattle.mint.specs.Typed.{IsOf}
 use Rattle.mint.specs.Values.{Val}
 use Rattle.wire_def.specs.declared.head.Head.{Head}
 use Rattle.wire_def.specs.Scalars.{gap}
 use Rattle.cast_stub.specs.Parts.{on_some}
-use Rattle.cast_stub.specs.PartTypes.{ty_at}
+use Rattle.cast_stub.specs.PartTypes.{element_at, present_at, arms_at}
 use Rattle.cast_stub.specs.Block.{Block, stop, align, chunk, each, switch, if_there, patch, Cases, no_default, default, case}
 use Rattle.cast_stub.specs.Steps.{Step, Room, Pad, Stored, Widened, Copied, Patched, Steps, Calls, steps}
-
--- ---- types of parts
-
--- the type of an element, and the count
-abbrev pub elements_type : Ty → Option (Ty × Count)
-elements_type (items_type c t) = Some (t, c)
-elements_type (array_type (row_of k c)) = Some (scalar_type (number k), c)
-elements_type (array_type (text c)) = Some (scalar_type (number kind.Char), c)
-elements_type _ = None
-
--- the type of the value that may be there
-abbrev pub present_type : Ty → Option Ty
-present_type (maybe_type t) = Some t
-present_type _ = None
-
--- the types behind a tag
-abbrev pub arms_type : Ty → Option Arms
-arms_type (choice_type s arms) = Some arms
-arms_type _ = None
-
--- the elements of the part at a path
-abbrev pub element_at : List ℕ → Ty → Option (Ty × Count)
-element_at p t = on_some (ty_at p t) elements_type
-
--- the value that may be there at a path
-abbrev pub present_at : List ℕ → Ty → Option Ty
-present_at p t = on_some (ty_at p t) present_type
-
--- the arms of the part at a path
-abbrev pub arms_at : List ℕ → Ty → Option Arms
-arms_at p t = on_some (ty_at p t) arms_type
 
 -- ---- bounds
 

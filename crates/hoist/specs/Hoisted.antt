@@ -1,10 +1,10 @@
 -- Ensures in front of operations, from the last operation to the first.
 use Rattle.std.specs.Prelude.{◌≡◌, ℕ, zero, suc, ◌+◌, ◌-◌, List, Option, None, Some, nat_lt, Bool, true, false}
 use Rattle.mint.specs.Types.{Ty, void_type, items_type, Arms, no_other, others, arm_type}
-use Rattle.cast_stub.specs.Parts.{on_some}
+use Rattle.cast_stub.specs.Parts.{on_some, IsThere}
 use Rattle.cast_stub.specs.Block.{Block, stop, ensure, ensure_row, align, chunk, each, switch, if_there, patch, Cases, no_default, default, case}
-use Rattle.cast_stub.specs.PartTypes.{ty_at}
-use Rattle.hoist.specs.Bound.{most, times, element_at, present_at, arms_at, bound, cases_bound}
+use Rattle.cast_stub.specs.PartTypes.{ty_at, element_at, present_at, arms_at}
+use Rattle.hoist.specs.Bound.{most, times, bound, cases_bound}
 
 -- what is ensured in front of the operations so far
 pub data Pending : Type 0 where
@@ -87,9 +87,13 @@ abbrev pub body_plan : Role → Option ℕ → Plan
 body_plan (is_small k) (Some n) = small n k
 body_plan _ n = apart
 
+-- the bound of one turn of a loop
+abbrev pub turn_bound : List ℕ → Ty → Block → Option ℕ
+turn_bound p t b = on_some (element_at p t) (λ e. bound e.0 b)
+
 -- the plan of an `each`
 abbrev pub each_plan : Roles → Ty → List ℕ → Block → Plan
-each_plan ro t p b = loop_plan (ro t p) (on_some (element_at p t) (λ e. times (most e.1) (bound e.0 b))) (on_some (element_at p t) (λ e. bound e.0 b)) p
+each_plan ro t p b = loop_plan (ro t p) (on_some (element_at p t) (λ e. times (most e.1) (bound e.0 b))) (turn_bound p t b) p
 
 -- the plan of a `some`
 abbrev pub some_plan : Roles → Ty → List ℕ → Block → Plan
@@ -152,19 +156,25 @@ abbrev pub InType : {A : Type 0} → Option A → (A → Type 0) → Type 0
 InType None P = ⊥
 InType (Some a) P = P a
 
+-- a fact of a loop over elements that are alike
+abbrev pub IfRow : Role → Type 0 → Type 0
+IfRow is_row P = P
+IfRow _ P = Unit {0}
+
 -- bodies that are hoisted by themselves
 abbrev pub WhereApart : Plan → Type 0 → Type 0
 WhereApart apart P = P
 WhereApart _ P = Unit {0}
 
 abbrev mutual
-  -- without ensures, rows as a block and calls; bodies that are hoisted by themselves are of parts that are there
+  -- without ensures, rows as a block and calls; bodies that are hoisted by themselves are of parts that are there, and
+  -- turns over elements that are alike are bounded
   pub IsTaken : Roles → Ty → Block → Type 0
   IsTaken ro t stop = Unit {0}
   IsTaken ro t (align a r) = IsTaken ro t r
   IsTaken ro t (chunk s ps r) = IsTaken ro t r
   IsTaken ro t (patch a s o r) = IsTaken ro t r
-  IsTaken ro t (each p b r) = WhereApart (each_plan ro t p b) (InType (items_at p t) (λ u. IsTaken ro u b)) × IsTaken ro t r
+  IsTaken ro t (each p b r) = WhereApart (each_plan ro t p b) (InType (items_at p t) (λ u. IsTaken ro u b)) × IfRow (ro t p) (IsThere (turn_bound p t b)) × IsTaken ro t r
   IsTaken ro t (if_there p b r) = WhereApart (some_plan ro t p b) (InType (present_at p t) (λ u. IsTaken ro u b)) × IsTaken ro t r
   IsTaken ro t (switch p cs r) = WhereApart (switch_plan ro t p cs) (InType (arms_at p t) (λ arms. CasesTaken ro arms cs)) × IsTaken ro t r
   IsTaken ro t _ = ⊥

@@ -1,5 +1,5 @@
 -- The laws of hoisting.
-use Rattle.std.specs.Prelude.{◌≡◌, ℕ, ◌≤◌, List, Some, option_map}
+use Rattle.std.specs.Prelude.{◌≡◌, ℕ, ◌≤◌, List, None, Some, option_map}
 use Rattle.mint.specs.Types.{Ty}
 use Rattle.mint.specs.Typed.{IsOf}
 use Rattle.mint.specs.Sound.{IsSound}
@@ -10,7 +10,10 @@ use Rattle.cast_stub.specs.Block.{Block}
 use Rattle.cast_stub.specs.Steps.{Step, Calls, steps}
 use Rattle.cast_stub.specs.Meaning.{HasRoom, costs}
 use Rattle.hoist.specs.Hoisted.{Roles, closed, hoisted, IsTaken}
-use Rattle.hoist.specs.Framed.{IsFramed, unensured, without_room, RowsAreBare}
+use Rattle.cast_stub.specs.Framed.{IsFramed}
+use Rattle.cast_stub.specs.Kept.{unensured, without_room}
+use Rattle.cast_stub.specs.Bare.{RowsAreBare}
+use Rattle.hoist.specs.Rows.{RowsEnsured}
 use Rattle.hoist.specs.Regions.{Sizes, AreSizes, roles, regions}
 use Rattle.hoist.specs.SpanSizes.{sizes}
 
@@ -36,6 +39,10 @@ HoistingIsSparing = (z : Sizes) (c : Calls) (h : Head) (t : Ty) (n : ℕ) (b : B
 -- it ensures nothing within a loop over a row or text
 abbrev pub HoistingSparesRows : Type 0
 HoistingSparesRows = (ro : Roles) (t : Ty) (b : Block) → IsTaken ro t b → RowsAreBare t (closed (hoisted ro t b))
+
+-- it ensures each big row by the length of its list
+abbrev pub HoistingEnsuresRows : Type 0
+HoistingEnsuresRows = (ro : Roles) (t : Ty) (b : Block) → IsTaken ro t b → RowsEnsured ro t None (closed (hoisted ro t b))
 
 -- code that goes through a type is taken, by the sizes of types
 abbrev pub FramedIsTaken : Type 0

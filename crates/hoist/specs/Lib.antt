@@ -1,9 +1,8 @@
-pub mod Bare
 pub mod Bound
-pub mod Framed
 pub mod Hoisted
 pub mod Laws
 pub mod Pass
 pub mod Regions
+pub mod Rows
 pub mod Seen
 pub mod SpanSizes

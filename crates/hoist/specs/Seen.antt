@@ -1,10 +1,7 @@
 -- What the code keeps, as what the definitions speak of.
 use Rattle.std.specs.Prelude.{◌≡◌, ℕ, ℤ, List, [], ◌∷◌, length, reverse}
-use Rattle.mint.specs.declared.node.Node.{Node}
 use Rattle.mint.specs.Types.{Ty, at}
 use Rattle.wire_def.specs.declared.encoding.Encoding.{Encoding}
-use Rattle.storage_class.specs.declared.span.Span.{Span}
-use Rattle.storage_class.specs.Spans.{AreSpans}
 use Rattle.cast_stub.specs.declared.send.SendOp.{SendOp}
 use Rattle.cast_stub.specs.Block.{Block, op_seen, code_seen}
 use Rattle.hoist.specs.declared.ahead.Ahead.{Ahead}
@@ -39,10 +36,6 @@ behind back a = (code_seen (reverse back), ahead_seen a)
 -- the roles by the spans of an encoding
 abbrev pub span_roles : Encoding → Roles
 span_roles e = roles (sizes e)
-
--- spans of the nodes of a table
-abbrev pub AreClasses : Encoding → List Node → List Span → Type 0
-AreClasses e nodes spans = (length spans ≡ length nodes) × AreSpans e nodes spans
 
 -- wherever the first is hoisted code, the second is that with an operation in front
 abbrev pub InFront : Encoding → Ty → SendOp → Hoisted → Hoisted → Type 0

@@ -5,7 +5,8 @@ ghost use Rattle.mint.specs.Types.{Scalar, scalar_type, type_at, unfolded, other
 ghost use Rattle.mint.specs.Types.{arms_at as mint_arms};
 ghost use Rattle.cast_stub.specs.Block.{Block, op_seen, code_seen, cases_seen};
 ghost use Rattle.cast_stub.specs.Parts.{on_some};
-ghost use Rattle.hoist.specs.Bound.{bound, most, plus, times, greater, element_at, present_at, arms_at, cases_bound};
+ghost use Rattle.hoist.specs.Bound.{bound, most, plus, times, greater, cases_bound};
+ghost use Rattle.cast_stub.specs.PartTypes.{element_at, present_at, arms_at};
 
 use crate::parts::node_at;
 use cast_stub::{Path, SendCases, SendOp, SendOps};

@@ -1,7 +1,7 @@
 // The laws of hoisting, each the contract of a function that does nothing.
 ghost use Rattle.wire_def.specs.declared.encoding.Encoding.{Encoding};
 ghost use Rattle.hoist.specs.Bound.{BoundsHold};
-ghost use Rattle.hoist.specs.Laws.{FramedIsTaken, HoistingCovers, HoistingIsSparing, HoistingKeepsCode, HoistingKeepsSteps, HoistingSparesRows, SpansAreSizes};
+ghost use Rattle.hoist.specs.Laws.{FramedIsTaken, HoistingCovers, HoistingEnsuresRows, HoistingIsSparing, HoistingKeepsCode, HoistingKeepsSteps, HoistingSparesRows, SpansAreSizes};
 
 /// A block appends at most its bound.
 pub fn bounds_hold()
@@ -33,12 +33,17 @@ pub fn hoisting_spares_rows()
     ensures { HoistingSparesRows }
 {}
 
+/// Hoisted code ensures each big row by the length of its list.
+pub fn hoisting_ensures_rows()
+    ensures { HoistingEnsuresRows }
+{}
+
 /// Code that goes through a type, between a lead and a patch, is taken.
 pub fn framed_code_is_taken()
     ensures { FramedIsTaken }
 {}
 
-/// The sizes of types by their spans over XDR are such as `hoisting_is_sparing` asks for.
+/// The sizes of types by their spans over an encoding are such as `hoisting_is_sparing` asks for.
 pub fn spans_are_sizes()
     ensures { (e : Encoding) → SpansAreSizes e }
 {}

@@ -2,23 +2,25 @@
 ghost use Rattle.std.specs.Prelude.{◌≡◌, ◌<◌, [], length, reverse, IfOk};
 ghost use Rattle.mint.specs.Types.{type_at, unfolded, others_at, ArmsBelow, IsBelow};
 ghost use Rattle.cast_stub.specs.Block.{stop, op_seen, code_seen, cases_seen};
-ghost use Rattle.hoist.specs.Bound.{present_at, arms_at};
-ghost use Rattle.hoist.specs.Framed.{RowsAreBare};
-ghost use Rattle.hoist.specs.Pass.{AddsEnsures, IsCoveredFor, IsGiven, IsSparing, SendsTheSame};
+ghost use Rattle.storage_class.specs.Spans.{AreClasses};
+ghost use Rattle.cast_stub.specs.PartTypes.{present_at, arms_at};
+ghost use Rattle.cast_stub.specs.Bare.{RowsAreBare};
+ghost use Rattle.cast_stub.specs.Rowless.{HasNoRow};
+ghost use Rattle.hoist.specs.Pass.{EnsuresRows, IsGiven, IsSparing};
+ghost use Rattle.cast_stub.specs.Kept.{AddsEnsures, IsCoveredFor, SendsTheSame};
 ghost use Rattle.hoist.specs.Hoisted.{closed, hoisted, cases_hoisted, kept, items_at, or_void, or_none, InType, IsTaken, CasesTaken, WhereApart};
-ghost use Rattle.hoist.specs.Seen.{AreClasses, AreHoisted, ArmsTaken, IsHoisted, behind, plan_seen, span_roles, InFront};
+ghost use Rattle.hoist.specs.Seen.{AreHoisted, ArmsTaken, IsHoisted, behind, plan_seen, span_roles, InFront};
 
 use crate::ahead::{Ahead, Plan, flush, raise, settle};
 use crate::parts::node_at;
 use crate::plans::{each_plan, some_plan, switch_plan};
+use cast_stub::copies::{copy_cases, copy_last, copy_ops, copy_path, copy_puts};
 use cast_stub::{Path, SendCases, SendCode, SendOp, SendOps, SendSubs};
-use copy_inline::copies::{copy_body, copy_cases, copy_last, copy_path, copy_puts};
 use kit_base::NoMemory;
 use mint::node::{Arms, Node};
 use mint::table::{Mint, NodeId};
 use std::alloc::Global;
 use storage_class::Classes;
-use wire_def::Encoding;
 
 // Operations in their order, given from the last to the first.
 fn in_order(alloc: Global, back: Vec<SendOp>) -> Result<SendOps, NoMemory>
@@ -36,22 +38,21 @@ fn in_order(alloc: Global, back: Vec<SendOp>) -> Result<SendOps, NoMemory>
 #[cycle(hoist)]
 pub(crate) fn hoist_ops(
     alloc: Global,
-    enc: Encoding,
     mint: &Mint,
     classes: &Classes,
     id: NodeId,
     ops: &SendOps,
 ) -> Result<SendOps, NoMemory>
     requires id { id < length mint.now }
-    requires classes { AreClasses enc mint.now classes.now }
-    requires taken { IsTaken (span_roles enc) (type_at mint.now id) (code_seen ops.now) }
-    ensures { IfOk result (λ os. code_seen os ≡ closed (hoisted (span_roles enc) (type_at mint.now id) (code_seen ops.now))) }
+    requires classes { AreClasses mint.now classes.now }
+    requires taken { IsTaken (span_roles classes.now.enc) (type_at mint.now id) (code_seen ops.now) }
+    ensures { IfOk result (λ os. code_seen os ≡ closed (hoisted (span_roles classes.now.enc) (type_at mint.now id) (code_seen ops.now))) }
 {
     let list = ops.as_slice();
     let mut back = Vec::new(alloc);
     let mut ahead = Ahead::Nothing;
     for i in (0..list.len()).rev() {
-        ahead = hoist_op(alloc, enc, mint, classes, id, &list[i], &mut back, ahead)?;
+        ahead = hoist_op(alloc, mint, classes, id, &list[i], &mut back, ahead)?;
     }
     flush(&mut back, ahead)?;
     in_order(alloc, back)
@@ -61,7 +62,6 @@ pub(crate) fn hoist_ops(
 #[cycle(hoist)]
 fn hoist_op(
     alloc: Global,
-    enc: Encoding,
     mint: &Mint,
     classes: &Classes,
     id: NodeId,
@@ -70,9 +70,9 @@ fn hoist_op(
     ahead: Ahead,
 ) -> Result<Ahead, NoMemory>
     requires id { id < length mint.now }
-    requires classes { AreClasses enc mint.now classes.now }
-    requires taken { IsTaken (span_roles enc) (type_at mint.now id) (op_seen op.now stop) }
-    ensures { IfOk result (λ then. InFront enc (type_at mint.now id) op.now (behind back.old.items ahead) (behind back.new.items then)) }
+    requires classes { AreClasses mint.now classes.now }
+    requires taken { IsTaken (span_roles classes.now.enc) (type_at mint.now id) (op_seen op.now stop) }
+    ensures { IfOk result (λ then. InFront classes.now.enc (type_at mint.now id) op.now (behind back.old.items ahead) (behind back.new.items then)) }
 {
     match op {
         SendOp::Align(a) => {
@@ -88,22 +88,22 @@ fn hoist_op(
             Ok(ahead)
         }
         SendOp::Each(path, body) => {
-            let plan = each_plan(enc, mint, classes, id, path, body)?;
-            let inner = each_body(alloc, enc, mint, classes, id, path, body, plan)?;
+            let plan = each_plan(mint, classes, id, path, body)?;
+            let inner = each_body(alloc, mint, classes, id, path, body, plan)?;
             let then = settle(back, ahead, plan, copy_path(alloc, path)?)?;
             back.push(SendOp::Each(copy_path(alloc, path)?, inner))?;
             Ok(then)
         }
         SendOp::Some(path, body) => {
-            let plan = some_plan(enc, mint, classes, id, path, body)?;
-            let inner = some_body(alloc, enc, mint, classes, id, path, body, plan)?;
+            let plan = some_plan(mint, classes, id, path, body)?;
+            let inner = some_body(alloc, mint, classes, id, path, body, plan)?;
             let then = settle(back, ahead, plan, copy_path(alloc, path)?)?;
             back.push(SendOp::Some(copy_path(alloc, path)?, inner))?;
             Ok(then)
         }
         SendOp::Switch(path, cases, last) => {
-            let plan = switch_plan(enc, mint, classes, id, path, cases, last)?;
-            let (bodies, other) = switch_bodies(alloc, enc, mint, classes, id, path, cases, last, plan)?;
+            let plan = switch_plan(mint, classes, id, path, cases, last)?;
+            let (bodies, other) = switch_bodies(alloc, mint, classes, id, path, cases, last, plan)?;
             let then = settle(back, ahead, plan, copy_path(alloc, path)?)?;
             back.push(SendOp::Switch(copy_path(alloc, path)?, bodies, other))?;
             Ok(then)
@@ -121,7 +121,6 @@ fn hoist_op(
 #[cycle(hoist)]
 fn each_body(
     alloc: Global,
-    enc: Encoding,
     mint: &Mint,
     classes: &Classes,
     id: NodeId,
@@ -130,12 +129,12 @@ fn each_body(
     plan: Plan,
 ) -> Result<SendOps, NoMemory>
     requires id { id < length mint.now }
-    requires classes { AreClasses enc mint.now classes.now }
-    requires taken { WhereApart (plan_seen path.now plan) (InType (items_at path.now (type_at mint.now id)) (λ u. IsTaken (span_roles enc) u (code_seen body.now))) }
-    ensures { IfOk result (λ b. code_seen b ≡ kept (plan_seen path.now plan) (code_seen body.now) (closed (hoisted (span_roles enc) (or_void (items_at path.now (type_at mint.now id))) (code_seen body.now)))) }
+    requires classes { AreClasses mint.now classes.now }
+    requires taken { WhereApart (plan_seen path.now plan) (InType (items_at path.now (type_at mint.now id)) (λ u. IsTaken (span_roles classes.now.enc) u (code_seen body.now))) }
+    ensures { IfOk result (λ b. code_seen b ≡ kept (plan_seen path.now plan) (code_seen body.now) (closed (hoisted (span_roles classes.now.enc) (or_void (items_at path.now (type_at mint.now id))) (code_seen body.now)))) }
 {
     match plan {
-        Plan::Small(_, _) | Plan::Loop(_) => copy_body(alloc, body),
+        Plan::Small(_, _) | Plan::Loop(_) => copy_ops(alloc, body),
         Plan::Apart => {
             let Some(part) = node_at(mint, id, path.as_slice()) else {
                 unreachable!()
@@ -143,7 +142,7 @@ fn each_body(
             let Some(Node::Items(item, _)) = mint.node(part) else {
                 unreachable!()
             };
-            hoist_ops(alloc, enc, mint, classes, *item, body)
+            hoist_ops(alloc, mint, classes, *item, body)
         }
     }
 }
@@ -152,7 +151,6 @@ fn each_body(
 #[cycle(hoist)]
 fn some_body(
     alloc: Global,
-    enc: Encoding,
     mint: &Mint,
     classes: &Classes,
     id: NodeId,
@@ -161,12 +159,12 @@ fn some_body(
     plan: Plan,
 ) -> Result<SendOps, NoMemory>
     requires id { id < length mint.now }
-    requires classes { AreClasses enc mint.now classes.now }
-    requires taken { WhereApart (plan_seen path.now plan) (InType (present_at path.now (type_at mint.now id)) (λ u. IsTaken (span_roles enc) u (code_seen body.now))) }
-    ensures { IfOk result (λ b. code_seen b ≡ kept (plan_seen path.now plan) (code_seen body.now) (closed (hoisted (span_roles enc) (or_void (present_at path.now (type_at mint.now id))) (code_seen body.now)))) }
+    requires classes { AreClasses mint.now classes.now }
+    requires taken { WhereApart (plan_seen path.now plan) (InType (present_at path.now (type_at mint.now id)) (λ u. IsTaken (span_roles classes.now.enc) u (code_seen body.now))) }
+    ensures { IfOk result (λ b. code_seen b ≡ kept (plan_seen path.now plan) (code_seen body.now) (closed (hoisted (span_roles classes.now.enc) (or_void (present_at path.now (type_at mint.now id))) (code_seen body.now)))) }
 {
     match plan {
-        Plan::Small(_, _) | Plan::Loop(_) => copy_body(alloc, body),
+        Plan::Small(_, _) | Plan::Loop(_) => copy_ops(alloc, body),
         Plan::Apart => {
             let Some(part) = node_at(mint, id, path.as_slice()) else {
                 unreachable!()
@@ -174,7 +172,7 @@ fn some_body(
             let Some(Node::Maybe(item)) = mint.node(part) else {
                 unreachable!()
             };
-            hoist_ops(alloc, enc, mint, classes, *item, body)
+            hoist_ops(alloc, mint, classes, *item, body)
         }
     }
 }
@@ -183,7 +181,6 @@ fn some_body(
 #[cycle(hoist)]
 fn switch_bodies(
     alloc: Global,
-    enc: Encoding,
     mint: &Mint,
     classes: &Classes,
     id: NodeId,
@@ -193,9 +190,9 @@ fn switch_bodies(
     plan: Plan,
 ) -> Result<(SendCases, Option<SendOps>), NoMemory>
     requires id { id < length mint.now }
-    requires classes { AreClasses enc mint.now classes.now }
-    requires taken { WhereApart (plan_seen path.now plan) (InType (arms_at path.now (type_at mint.now id)) (λ arms. CasesTaken (span_roles enc) arms (cases_seen cases.now last.now))) }
-    ensures { IfOk result (λ b. cases_seen b.0 b.1 ≡ kept (plan_seen path.now plan) (cases_seen cases.now last.now) (cases_hoisted (span_roles enc) (or_none (arms_at path.now (type_at mint.now id))) (cases_seen cases.now last.now))) }
+    requires classes { AreClasses mint.now classes.now }
+    requires taken { WhereApart (plan_seen path.now plan) (InType (arms_at path.now (type_at mint.now id)) (λ arms. CasesTaken (span_roles classes.now.enc) arms (cases_seen cases.now last.now))) }
+    ensures { IfOk result (λ b. cases_seen b.0 b.1 ≡ kept (plan_seen path.now plan) (cases_seen cases.now last.now) (cases_hoisted (span_roles classes.now.enc) (or_none (arms_at path.now (type_at mint.now id))) (cases_seen cases.now last.now))) }
 {
     match plan {
         Plan::Small(_, _) | Plan::Loop(_) => {
@@ -208,8 +205,8 @@ fn switch_bodies(
             let Some(Node::Choice(_, arms, other)) = mint.node(part) else {
                 unreachable!()
             };
-            let bodies = hoist_cases(alloc, enc, mint, classes, part, arms, cases)?;
-            let rest = hoist_last(alloc, enc, mint, classes, part, *other, last)?;
+            let bodies = hoist_cases(alloc, mint, classes, part, arms, cases)?;
+            let rest = hoist_last(alloc, mint, classes, part, *other, last)?;
             Ok((bodies, rest))
         }
     }
@@ -219,7 +216,6 @@ fn switch_bodies(
 #[cycle(hoist)]
 fn hoist_cases(
     alloc: Global,
-    enc: Encoding,
     mint: &Mint,
     classes: &Classes,
     id: NodeId,
@@ -227,16 +223,16 @@ fn hoist_cases(
     cases: &SendCases,
 ) -> Result<SendCases, NoMemory>
     requires id { id < length mint.now }
-    requires classes { AreClasses enc mint.now classes.now }
+    requires classes { AreClasses mint.now classes.now }
     requires arms { ArmsBelow id arms.now }
-    requires taken { ArmsTaken enc (unfolded mint.now) arms.now cases.now }
-    ensures { IfOk result (λ bodies. AreHoisted enc (unfolded mint.now) arms.now cases.now bodies) }
+    requires taken { ArmsTaken classes.now.enc (unfolded mint.now) arms.now cases.now }
+    ensures { IfOk result (λ bodies. AreHoisted classes.now.enc (unfolded mint.now) arms.now cases.now bodies) }
 {
     let arms = arms.as_slice();
     let cases = cases.as_slice();
     let mut bodies = SendCases::new(alloc);
     for i in 0..cases.len() {
-        bodies.push(hoist_case(alloc, enc, mint, classes, id, &arms[i], &cases[i])?)?;
+        bodies.push(hoist_case(alloc, mint, classes, id, &arms[i], &cases[i])?)?;
     }
     Ok(bodies)
 }
@@ -245,7 +241,6 @@ fn hoist_cases(
 #[cycle(hoist)]
 fn hoist_case(
     alloc: Global,
-    enc: Encoding,
     mint: &Mint,
     classes: &Classes,
     id: NodeId,
@@ -253,19 +248,18 @@ fn hoist_case(
     case: &(i128, SendOps),
 ) -> Result<(i128, SendOps), NoMemory>
     requires id { id < length mint.now }
-    requires classes { AreClasses enc mint.now classes.now }
+    requires classes { AreClasses mint.now classes.now }
     requires arm { arm.now.1 < id }
-    requires taken { IsTaken (span_roles enc) (type_at mint.now arm.now.1) (code_seen case.now.1) }
-    ensures { IfOk result (λ body. IsHoisted enc (type_at mint.now arm.now.1) case.now body) }
+    requires taken { IsTaken (span_roles classes.now.enc) (type_at mint.now arm.now.1) (code_seen case.now.1) }
+    ensures { IfOk result (λ body. IsHoisted classes.now.enc (type_at mint.now arm.now.1) case.now body) }
 {
-    Ok((case.0, hoist_ops(alloc, enc, mint, classes, arm.1, &case.1)?))
+    Ok((case.0, hoist_ops(alloc, mint, classes, arm.1, &case.1)?))
 }
 
 // The body of every other number.
 #[cycle(hoist)]
 fn hoist_last(
     alloc: Global,
-    enc: Encoding,
     mint: &Mint,
     classes: &Classes,
     id: NodeId,
@@ -273,14 +267,14 @@ fn hoist_last(
     last: &Option<SendOps>,
 ) -> Result<Option<SendOps>, NoMemory>
     requires id { id < length mint.now }
-    requires classes { AreClasses enc mint.now classes.now }
+    requires classes { AreClasses mint.now classes.now }
     requires other { IsBelow id other }
-    requires taken { CasesTaken (span_roles enc) (others_at (unfolded mint.now) other) (cases_seen [] last.now) }
-    ensures { IfOk result (λ rest. cases_seen [] rest ≡ cases_hoisted (span_roles enc) (others_at (unfolded mint.now) other) (cases_seen [] last.now)) }
+    requires taken { CasesTaken (span_roles classes.now.enc) (others_at (unfolded mint.now) other) (cases_seen [] last.now) }
+    ensures { IfOk result (λ rest. cases_seen [] rest ≡ cases_hoisted (span_roles classes.now.enc) (others_at (unfolded mint.now) other) (cases_seen [] last.now)) }
 {
     match last {
         Some(body) => match other {
-            Some(child) => Ok(Some(hoist_ops(alloc, enc, mint, classes, child, body)?)),
+            Some(child) => Ok(Some(hoist_ops(alloc, mint, classes, child, body)?)),
             None => unreachable!(),
         },
         None => Ok(None),
@@ -291,26 +285,28 @@ fn hoist_last(
 /// is a lead of chunks, inlined code for the node, and at most one patch.
 pub fn hoist(
     alloc: Global,
-    enc: Encoding,
     code: &SendCode,
     mint: &Mint,
     id: NodeId,
     classes: &Classes,
 ) -> Result<SendCode, NoMemory>
     requires id { id < length mint.now }
-    requires classes { AreClasses enc mint.now classes.now }
+    requires classes { AreClasses mint.now classes.now }
     requires given { IsGiven (type_at mint.now id) code.now }
-    ensures is { IfOk result (λ r. code_seen r.ops ≡ closed (hoisted (span_roles enc) (type_at mint.now id) (code_seen code.now.ops))) }
+    // What it keeps.
     ensures same { IfOk result (λ r. SendsTheSame code.now r) }
     ensures adds { IfOk result (λ r. AddsEnsures code.now r) }
-    ensures covered { IfOk result (λ r. IsCoveredFor (type_at mint.now id) code.now r) }
-    ensures sparing { IfOk result (λ r. IsSparing enc (type_at mint.now id) code.now r) }
-    ensures rows { IfOk result (λ r. RowsAreBare (type_at mint.now id) (code_seen r.ops)) }
+    ensures no_row { IfOk result (λ r. HasNoRow r) }
     ensures subs { IfOk result (λ r. r.subs ≡ []) }
+    // The room that it ensures.
+    ensures covered { IfOk result (λ r. IsCoveredFor (type_at mint.now id) code.now r) }
+    ensures sparing { IfOk result (λ r. IsSparing classes.now.enc (type_at mint.now id) code.now r) }
+    ensures big { IfOk result (λ r. EnsuresRows classes.now.enc (type_at mint.now id) r) }
+    ensures rows { IfOk result (λ r. RowsAreBare (type_at mint.now id) (code_seen r.ops)) }
 {
     mint.types_are_sound();
     Ok(SendCode {
-        ops: hoist_ops(alloc, enc, mint, classes, id, &code.ops)?,
+        ops: hoist_ops(alloc, mint, classes, id, &code.ops)?,
         subs: SendSubs::new(alloc),
     })
 }

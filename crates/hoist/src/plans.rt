@@ -2,8 +2,9 @@
 ghost use Rattle.std.specs.Prelude.{◌≡◌, ◌<◌, ℕ, List, length, IfOk};
 ghost use Rattle.mint.specs.Types.{type_at};
 ghost use Rattle.cast_stub.specs.Block.{code_seen, cases_seen};
+ghost use Rattle.storage_class.specs.Spans.{AreClasses};
 ghost use Rattle.hoist.specs.Hoisted.{is_small, body_plan, each_plan, some_plan, switch_plan};
-ghost use Rattle.hoist.specs.Seen.{AreClasses, plan_seen, span_roles};
+ghost use Rattle.hoist.specs.Seen.{plan_seen, span_roles};
 
 use crate::ahead::Plan;
 use crate::bounding::{loop_bound, some_bound, switch_bound, turn_bound};
@@ -12,7 +13,6 @@ use cast_stub::{Path, SendCases, SendOps};
 use kit_base::NoMemory;
 use mint::table::{Mint, NodeId};
 use storage_class::Classes;
-use wire_def::Encoding;
 
 // The plan of what appends at most so many octets, if that is bounded.
 fn small_plan(most: Option<u32>, k: u32) -> Plan
@@ -26,7 +26,6 @@ fn small_plan(most: Option<u32>, k: u32) -> Plan
 
 /// The plan of a loop.
 pub(crate) fn each_plan(
-    enc: Encoding,
     mint: &Mint,
     classes: &Classes,
     id: NodeId,
@@ -34,10 +33,10 @@ pub(crate) fn each_plan(
     body: &SendOps,
 ) -> Result<Plan, NoMemory>
     requires id { id < length mint.now }
-    requires classes { AreClasses enc mint.now classes.now }
-    ensures { IfOk result (λ x. plan_seen path.now x ≡ each_plan (span_roles enc) (type_at mint.now id) path.now (code_seen body.now)) }
+    requires classes { AreClasses mint.now classes.now }
+    ensures { IfOk result (λ x. plan_seen path.now x ≡ each_plan (span_roles classes.now.enc) (type_at mint.now id) path.now (code_seen body.now)) }
 {
-    match part_role(enc, mint, classes, id, path.as_slice()) {
+    match part_role(mint, classes, id, path.as_slice()) {
         Role::Small(k) => match loop_bound(mint, id, path, body)? {
             Some(n) => Ok(Plan::Small(n, k)),
             None => Ok(Plan::Apart),
@@ -52,7 +51,6 @@ pub(crate) fn each_plan(
 
 /// The plan of a body for a value that may be there.
 pub(crate) fn some_plan(
-    enc: Encoding,
     mint: &Mint,
     classes: &Classes,
     id: NodeId,
@@ -60,10 +58,10 @@ pub(crate) fn some_plan(
     body: &SendOps,
 ) -> Result<Plan, NoMemory>
     requires id { id < length mint.now }
-    requires classes { AreClasses enc mint.now classes.now }
-    ensures { IfOk result (λ x. plan_seen path.now x ≡ some_plan (span_roles enc) (type_at mint.now id) path.now (code_seen body.now)) }
+    requires classes { AreClasses mint.now classes.now }
+    ensures { IfOk result (λ x. plan_seen path.now x ≡ some_plan (span_roles classes.now.enc) (type_at mint.now id) path.now (code_seen body.now)) }
 {
-    match part_role(enc, mint, classes, id, path.as_slice()) {
+    match part_role(mint, classes, id, path.as_slice()) {
         Role::Small(k) => Ok(small_plan(some_bound(mint, id, path, body)?, k)),
         Role::Row | Role::Break => Ok(Plan::Apart),
     }
@@ -71,7 +69,6 @@ pub(crate) fn some_plan(
 
 /// The plan of the bodies of a switch.
 pub(crate) fn switch_plan(
-    enc: Encoding,
     mint: &Mint,
     classes: &Classes,
     id: NodeId,
@@ -80,10 +77,10 @@ pub(crate) fn switch_plan(
     last: &Option<SendOps>,
 ) -> Result<Plan, NoMemory>
     requires id { id < length mint.now }
-    requires classes { AreClasses enc mint.now classes.now }
-    ensures { IfOk result (λ x. plan_seen path.now x ≡ switch_plan (span_roles enc) (type_at mint.now id) path.now (cases_seen cases.now last.now)) }
+    requires classes { AreClasses mint.now classes.now }
+    ensures { IfOk result (λ x. plan_seen path.now x ≡ switch_plan (span_roles classes.now.enc) (type_at mint.now id) path.now (cases_seen cases.now last.now)) }
 {
-    match part_role(enc, mint, classes, id, path.as_slice()) {
+    match part_role(mint, classes, id, path.as_slice()) {
         Role::Small(k) => Ok(small_plan(switch_bound(mint, id, path, cases, last)?, k)),
         Role::Row | Role::Break => Ok(Plan::Apart),
     }

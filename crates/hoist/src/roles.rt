@@ -2,17 +2,16 @@
 ghost use Rattle.std.specs.Prelude.{◌≡◌, ◌<◌, ◌-◌, length, option_map, IfSome};
 ghost use Rattle.mint.specs.Types.{type_at};
 ghost use Rattle.storage_class.specs.Classing.{top};
-ghost use Rattle.storage_class.specs.Spans.{span};
+ghost use Rattle.storage_class.specs.Spans.{span, AreClasses};
 ghost use Rattle.hoist.specs.Regions.{on_way, is_light, is_alike, role_at, weight_at};
 ghost use Rattle.hoist.specs.SpanSizes.{sizes, is_fixed, least, weight_of};
-ghost use Rattle.hoist.specs.Seen.{AreClasses, role_seen, span_roles};
+ghost use Rattle.hoist.specs.Seen.{role_seen, span_roles};
 ghost use Rattle.cast_stub.specs.PartTypes.{in_group_type};
 
 use crate::parts::node_at;
 use mint::node::Node;
 use mint::table::{Mint, NodeId};
 use storage_class::{Classes, Span};
-use wire_def::Encoding;
 
 /// What an operation over a part is.
 #[derive(Clone, Copy)]
@@ -25,19 +24,19 @@ pub(crate) enum Role {
 }
 
 // The greatest length of a node, if there is one.
-fn top_of(enc: Encoding, mint: &Mint, classes: &Classes, id: NodeId) -> Option<u32>
+fn top_of(mint: &Mint, classes: &Classes, id: NodeId) -> Option<u32>
     requires id { id < length mint.now }
-    requires classes { AreClasses enc mint.now classes.now }
-    ensures { result ≡ top (span enc (type_at mint.now id)) }
+    requires classes { AreClasses mint.now classes.now }
+    ensures { result ≡ top (span classes.now.enc (type_at mint.now id)) }
 {
     classes.span(id).top()
 }
 
 // Whether all values of a node have one length.
-fn is_fixed(enc: Encoding, mint: &Mint, classes: &Classes, id: NodeId) -> bool
+fn is_fixed(mint: &Mint, classes: &Classes, id: NodeId) -> bool
     requires id { id < length mint.now }
-    requires classes { AreClasses enc mint.now classes.now }
-    ensures { result ≡ is_fixed (span enc (type_at mint.now id)) }
+    requires classes { AreClasses mint.now classes.now }
+    ensures { result ≡ is_fixed (span classes.now.enc (type_at mint.now id)) }
 {
     matches!(classes.span(id), Span::Fixed(_))
 }
@@ -69,35 +68,35 @@ fn field_node(mint: &Mint, id: NodeId, i: u32) -> Option<NodeId>
 }
 
 // Whether a node on the way to the part at a path is small.
-fn is_on_way(enc: Encoding, mint: &Mint, classes: &Classes, id: NodeId, path: &[u32]) -> bool
+fn is_on_way(mint: &Mint, classes: &Classes, id: NodeId, path: &[u32]) -> bool
     requires id { id < length mint.now }
-    requires classes { AreClasses enc mint.now classes.now }
-    ensures { result ≡ on_way (sizes enc) path.now (type_at mint.now id) }
+    requires classes { AreClasses mint.now classes.now }
+    ensures { result ≡ on_way (sizes classes.now.enc) path.now (type_at mint.now id) }
 {
-    if is_light(top_of(enc, mint, classes, id)) {
+    if is_light(top_of(mint, classes, id)) {
         return true;
     }
     let Some((first, rest)) = path.split_first() else {
         return false;
     };
     match field_node(mint, id, *first) {
-        Some(child) => is_on_way(enc, mint, classes, child, rest),
+        Some(child) => is_on_way(mint, classes, child, rest),
         None => false,
     }
 }
 
 // Whether the elements of a part are of one length.
-fn is_alike(enc: Encoding, mint: &Mint, classes: &Classes, id: NodeId) -> bool
+fn is_alike(mint: &Mint, classes: &Classes, id: NodeId) -> bool
     requires id { id < length mint.now }
-    requires classes { AreClasses enc mint.now classes.now }
-    ensures { result ≡ is_alike (sizes enc) (type_at mint.now id) }
+    requires classes { AreClasses mint.now classes.now }
+    ensures { result ≡ is_alike (sizes classes.now.enc) (type_at mint.now id) }
 {
     let Some(node) = mint.node(id) else {
         unreachable!()
     };
     match node {
         Node::Text(_) | Node::Row(_, _) => true,
-        Node::Items(item, _) => is_fixed(enc, mint, classes, *item),
+        Node::Items(item, _) => is_fixed(mint, classes, *item),
         Node::Void
         | Node::Num(_)
         | Node::Enum(_)
@@ -129,10 +128,10 @@ fn weight_of(span: Span) -> u32
 }
 
 // What an operation over a part weighs where it is small.
-fn small_length(enc: Encoding, mint: &Mint, classes: &Classes, part: Option<NodeId>) -> u32
+fn small_length(mint: &Mint, classes: &Classes, part: Option<NodeId>) -> u32
     requires part { IfSome part (λ r. r < length mint.now) }
-    requires classes { AreClasses enc mint.now classes.now }
-    ensures { result ≡ weight_at (sizes enc) (option_map (type_at mint.now) part) }
+    requires classes { AreClasses mint.now classes.now }
+    ensures { result ≡ weight_at (sizes classes.now.enc) (option_map (type_at mint.now) part) }
 {
     match part {
         Some(id) => weight_of(classes.span(id)),
@@ -141,15 +140,15 @@ fn small_length(enc: Encoding, mint: &Mint, classes: &Classes, part: Option<Node
 }
 
 // What an operation over a part is that is not small.
-fn role_of(enc: Encoding, mint: &Mint, classes: &Classes, part: Option<NodeId>) -> Role
+fn role_of(mint: &Mint, classes: &Classes, part: Option<NodeId>) -> Role
     requires part { IfSome part (λ r. r < length mint.now) }
-    requires classes { AreClasses enc mint.now classes.now }
-    ensures { role_seen result ≡ role_at (sizes enc) (option_map (type_at mint.now) part) }
+    requires classes { AreClasses mint.now classes.now }
+    ensures { role_seen result ≡ role_at (sizes classes.now.enc) (option_map (type_at mint.now) part) }
 {
     let Some(id) = part else {
         return Role::Break;
     };
-    if is_alike(enc, mint, classes, id) {
+    if is_alike(mint, classes, id) {
         Role::Row
     } else {
         Role::Break
@@ -157,15 +156,15 @@ fn role_of(enc: Encoding, mint: &Mint, classes: &Classes, part: Option<NodeId>) 
 }
 
 /// What an operation over the part at a path is.
-pub(crate) fn part_role(enc: Encoding, mint: &Mint, classes: &Classes, id: NodeId, path: &[u32]) -> Role
+pub(crate) fn part_role(mint: &Mint, classes: &Classes, id: NodeId, path: &[u32]) -> Role
     requires id { id < length mint.now }
-    requires classes { AreClasses enc mint.now classes.now }
-    ensures { role_seen result ≡ (span_roles enc) (type_at mint.now id) path.now }
+    requires classes { AreClasses mint.now classes.now }
+    ensures { role_seen result ≡ span_roles classes.now.enc (type_at mint.now id) path.now }
 {
     let part = node_at(mint, id, path);
-    if is_on_way(enc, mint, classes, id, path) {
-        Role::Small(small_length(enc, mint, classes, part))
+    if is_on_way(mint, classes, id, path) {
+        Role::Small(small_length(mint, classes, part))
     } else {
-        role_of(enc, mint, classes, part)
+        role_of(mint, classes, part)
     }
 }

@@ -3,3 +3,4 @@ pub mod Digits
 pub mod Firsts
 pub mod Standing
 pub mod Reading
+pub mod Deciding

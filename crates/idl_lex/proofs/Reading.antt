@@ -80,7 +80,7 @@ pub record So (front : Front) (text : List ℕ) (line at : ℕ) (tokens : List T
   pub line_is : line ≡ line_behind (take at text)
   pub within : at ≤ length text
 
-go_on_at : (front : Front) (text : List ℕ) (line at n line' : ℕ) (tokens : List Token) (kind : Option TokenKind) → So front text line at tokens → at < length text
+pub go_on_at : (front : Front) (text : List ℕ) (line at n line' : ℕ) (tokens : List Token) (kind : Option TokenKind) → So front text line at tokens → at < length text
     → shown (piece_at front (take at text) (drop at text)) ≡ Ok (kind, n) → n ≤ length (drop at text)
     → line' ≡ min (line + line_feeds (take n (drop at text))) (2 ^ 32 - 1)
     → So front text line' (at + n) (tokens ++ token_on line kind)
@@ -115,7 +115,7 @@ go_on front text before rest line at n line' tokens tokens' kind s lt before_is 
     (subst (λ z. n ≤ length z) rest_is fits)
     (subst (λ z. line' ≡ min (line + line_feeds (take n z)) (2 ^ 32 - 1)) rest_is line_is))
 
-first_fault : (front : Front) (text : List ℕ) (line at : ℕ) (tokens : List Token) (e : LexErr) → So front text line at tokens → at < length text
+pub first_fault : (front : Front) (text : List ℕ) (line at : ℕ) (tokens : List Token) (e : LexErr) → So front text line at tokens → at < length text
     → shown (piece_at front (take at text) (drop at text)) ≡ Err e → IsFirstFault front text e
 first_fault front text line at tokens e s lt read =
     let rest = drop at text in

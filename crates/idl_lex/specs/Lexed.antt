@@ -1,5 +1,5 @@
 -- The tokens of a text, or its first fault.
-use Rattle.std.specs.Prelude.{◌≡◌, ◌≢◌, ◌&&◌, ℕ, List, [], ◌∷◌, ◌++◌, length, take, Option, Some, None, if◌then◌else◌}
+use Rattle.std.specs.Prelude.{◌≡◌, ◌≢◌, ◌⊎◌, ◌&&◌, ℕ, List, [], ◌∷◌, ◌++◌, length, take, Option, Some, None, if◌then◌else◌}
 use Rattle.idl_lex.specs.Classes.{is_digit, begins}
 use Rattle.idl_lex.specs.Numbers.{digit_count, is_number}
 use Rattle.idl_lex.specs.Lines.{line_behind, is_hash_line}
@@ -46,6 +46,10 @@ pub record IsFirstFault (front : Front) (text : List ℕ) (fault : LexErr) : Typ
 -- tokens are those of a whole text
 abbrev pub AreTokens : Front → List ℕ → List Token → Type 0
 AreTokens front text tokens = (pieces : List Piece) × ArePieces front text pieces × (tokens ≡ tokens_behind [] pieces)
+
+-- each text has tokens, or a first fault
+abbrev pub TextsAreDecided : Front → Type 0
+TextsAreDecided front = (text : List ℕ) → ((tokens : List Token) × AreTokens front text tokens) ⊎ ((fault : LexErr) × IsFirstFault front text fault)
 
 -- why a text has no tokens; want of memory tells nothing of it
 abbrev pub Explains : Front → List ℕ → LexErr → Type 0

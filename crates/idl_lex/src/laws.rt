@@ -1,7 +1,7 @@
 // Laws of pieces and faults. Each function does nothing; its contract is the law.
 ghost use Rattle.std.specs.Prelude.{◌≡◌, List, ℕ};
 ghost use Rattle.idl_lex.specs.Pieces.{Piece};
-ghost use Rattle.idl_lex.specs.Lexed.{ArePieces, IsFirstFault};
+ghost use Rattle.idl_lex.specs.Lexed.{ArePieces, IsFirstFault, TextsAreDecided};
 ghost use Rattle.idl_lex.specs.declared.kinds.Front.{Front};
 ghost use Rattle.idl_lex.specs.declared.lexing.LexErr.{LexErr};
 
@@ -13,6 +13,11 @@ pub fn pieces_are_determined()
 /// The first fault of a text is determined.
 pub fn fault_is_determined()
     ensures { (front : Front) (text : List ℕ) (e f : LexErr) → IsFirstFault front text e → IsFirstFault front text f → e ≡ f }
+{}
+
+/// A text has tokens or a first fault.
+pub fn texts_are_decided()
+    ensures { (front : Front) → TextsAreDecided front }
 {}
 
 /// A text has not both pieces and a fault.

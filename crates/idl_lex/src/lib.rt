@@ -14,8 +14,7 @@ mod numbers;
 mod pieces;
 
 pub use kinds::{Front, Token, TokenKind, Tokens};
-pub use laws::{fault_is_determined, pieces_are_determined, pieces_leave_no_fault};
+pub use laws::{
+    fault_is_determined, pieces_are_determined, pieces_leave_no_fault, texts_are_decided,
+};
 pub use lexing::{LexErr, lex};
-
-#[cfg(test)]
-mod tests;

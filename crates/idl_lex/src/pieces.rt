@@ -7,7 +7,7 @@ ghost use Rattle.idl_lex.specs.Pieces.{count_to_close, begins_twin, mark_count, 
 ghost use Rattle.idl_lex.specs.Reads.{Gives, shown, comment_of, number_of, mark_of, piece_at};
 
 use crate::{Front, LexErr, TokenKind, classes, lines, numbers};
-use kit_base::{NoMemory, Octets};
+use kit_base::Octets;
 use std::alloc::Global;
 
 /// The kind of the token that the first piece is, where it is one, and how many octets it has.
@@ -40,14 +40,6 @@ pub(crate) fn piece(
     mark(alloc, before, text)
 }
 
-fn copied(alloc: Global, octets: &[u8]) -> Result<Octets, NoMemory>
-    ensures { IfOk result (λ o. o ≡ octets.now) }
-{
-    let mut copy = Octets::new(alloc);
-    copy.append(octets)?;
-    Ok(copy)
-}
-
 /// How many octets stand up to the first `*/` and with it.
 fn count_to_close(text: &[u8]) -> Option<usize>
     ensures count { result ≡ count_to_close text.now }
@@ -78,7 +70,7 @@ fn word(alloc: Global, text: &[u8]) -> Result<(Option<TokenKind>, usize), LexErr
     ensures within { IfOk result (λ x. (0 < x.1) × (x.1 ≤ length text.now)) }
 {
     let n = classes::word_octets(text);
-    let name = copied(alloc, &text[..n])?;
+    let name = Octets::from_slice(alloc, &text[..n])?;
     Ok((Some(TokenKind::Name(name)), n))
 }
 
@@ -128,7 +120,7 @@ fn mark(alloc: Global, before: &[u8], text: &[u8]) -> Result<(Option<TokenKind>,
 {
     let n = mark_count(text);
     if n > 0 {
-        let mark = copied(alloc, &text[..n])?;
+        let mark = Octets::from_slice(alloc, &text[..n])?;
         return Ok((Some(TokenKind::Mark(mark)), n));
     }
     if lines::is_hash_line(before, text) {

@@ -1,8 +1,8 @@
 -- One more field or element.
-use Rattle.std.proofs.Common.{◌≡◌, ℕ, suc, ◌<◌, ◌≤◌, ◌+◌, List, [], ◌∷◌, ◌++◌, length, get_or, drop, Option, Some, None, option_map, option_and_then, refl, sym, ap, ◌∙◌, arith, add-one}
+use Rattle.std.proofs.Common.{◌≡◌, ℕ, suc, ◌<◌, ◌≤◌, ◌+◌, List, [], ◌∷◌, length, get_or, drop, Option, Some, None, option_map, option_and_then, refl, sym, ap, ◌∙◌, arith, add-one}
 use Rattle.std.proofs.Math.Seq.{drop-cons}
 use Rattle.std.proofs.lemmas.List.{drop_all}
-use Rattle.mint.specs.Values.{Val, Vals, no_more, val, seen, all_seen}
+use Rattle.mint.specs.Values.{Val, Vals, no_more, val, seen}
 use Rattle.mint.specs.declared.value.Value.{Value}
 use Rattle.mint.proofs.Seen.{joined, joined-no_more, joined_one, all_seen-push}
 use Rattle.pres.specs.Faces.{Face, at, parts_at}

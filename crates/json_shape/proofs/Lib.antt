@@ -9,6 +9,7 @@ pub mod Naming
 pub mod Sources
 pub mod Options
 pub mod Passing
+pub mod ReadBack
 pub mod Seen
 pub mod Shown
 pub mod Written

@@ -1,7 +1,6 @@
 -- The tree that is written for a value shows it.
 use Rattle.std.proofs.Common.{◌≡◌, ℕ, ◌+◌, ℤ, List, Bool, true, false, ◌||◌, not, int_eq, Some, None, MatchBool, Ordering, Less, Equal, Greater, nat_cmp, bytes_eq, refl, sym, ◌∙◌, arith}
 use Rattle.std.specs.Prelude.{if◌then◌else◌}
-use Rattle.std.specs.List.{list_any}
 use Rattle.std.specs.Ordering.{match_ordering}
 use Rattle.std.specs.Cmp.Lexicographic.{slice_cmp}
 use Rattle.std.proofs.lemmas.Slice.Eq.{bytes_eq-Decides}
@@ -31,11 +30,11 @@ each_shows f P one (val v vs) h = (one v h.0, each_shows f P one vs h.1)
 other_member : (m n : List ℕ) (d : Data) (ms : Members) → bytes_eq m n ≡ false → member_of m (put (text_of n) d ms) ≡ member_of m ms
 other_member m n d ms h = get_member-put_other (text_of m) (text_of n) d ms (λ e. let same : bytes_eq m n ≡ true = (bytes_eq-Decides m n).1 (encodes_same m n e) in absurd cc)
 
-neither : (a b : Bool) → (a || b) ≡ false → (a ≡ false) × (b ≡ false)
+pub neither : (a b : Bool) → (a || b) ≡ false → (a ≡ false) × (b ≡ false)
 neither true b h = absurd cc
 neither false b h = (refl, h)
 
-not_true : (a : Bool) → not a ≡ true → a ≡ false
+pub not_true : (a : Bool) → not a ≡ true → a ≡ false
 not_true true h = absurd cc
 not_true false h = refl
 

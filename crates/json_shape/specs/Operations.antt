@@ -3,24 +3,22 @@ use Rattle.std.specs.Prelude.{Bool, false, ◌++◌, ℕ, suc, List, [], ◌∷�
 use Rattle.std.specs.Option.{option_map_or}
 use Rattle.std.specs.Str.{bytes_eq}
 use Rattle.wire_def.specs.declared.encoding.Back.{Back}
-use Rattle.aoi.specs.declared.interfaces.Interface.{Interface}
-use Rattle.aoi.specs.declared.interfaces.Operation.{Operation}
-use Rattle.aoi.specs.declared.interfaces.Raise.{Raise}
+use Rattle.aoi.specs.Plain.{PlainRaise, PlainOperation, PlainInterface}
 use Rattle.pres.specs.declared.ops.Op.{Op}
 use Rattle.pres.specs.Bindings.{Binding}
 use Rattle.pres.specs.Offers.{gets_null}
 use Rattle.json_shape.specs.Texts.{text_of}
 
 -- the name of an interface
-abbrev pub interface_name : List Interface → ℕ → List ℕ
+abbrev pub interface_name : List PlainInterface → ℕ → List ℕ
 interface_name is k = slice_index_or (map (λ i. i.name) is) k []
 
 -- the name of an operation in a record: its interface's name, a dot, and its own
-abbrev pub dotted : List Interface → Op → List ℕ
+abbrev pub dotted : List PlainInterface → Op → List ℕ
 dotted is o = interface_name is o.interface ++ (codes "." ++ o.name)
 
 -- the first operation of a name, with its number, from number k on
-abbrev pub op_from : List Interface → List ℕ → ℕ → List Op → Option (ℕ × Op)
+abbrev pub op_from : List PlainInterface → List ℕ → ℕ → List Op → Option (ℕ × Op)
 op_from is s k [] = None
 op_from is s k (o ∷ os) = if bytes_eq (text_of (dotted is o)) s then Some (k, o) else op_from is s (suc k) os
 
@@ -29,21 +27,21 @@ abbrev pub op_named : Binding → List ℕ → Option (ℕ × Op)
 op_named b s = op_from b.unit.interfaces s 0 b.ops
 
 -- the operations of an interface as its file has them, and none for a procedure that it gets
-abbrev pub sources_of : Back → Interface → List (Option Operation)
+abbrev pub sources_of : Back → PlainInterface → List (Option PlainOperation)
 sources_of b i = map (λ op. Some op) i.ops ++ (if gets_null b i then None ∷ [] else [])
 
 -- those of all interfaces, in the order of the operations of the back end
-abbrev pub sources : Back → List Interface → List (Option Operation)
+abbrev pub sources : Back → List PlainInterface → List (Option PlainOperation)
 sources b [] = []
 sources b (i ∷ is) = sources_of b i ++ sources b is
 
 -- the operation of a number, as its file has it
-abbrev pub source : Binding → ℕ → Option Operation
+abbrev pub source : Binding → ℕ → Option PlainOperation
 source b k = slice_index_or (sources b.back b.unit.interfaces) k None
 
 abbrev pub is_oneway : Binding → ℕ → Bool
 is_oneway b k = option_map_or (λ op. op.oneway) (source b k) false
 
 -- the exceptions of an operation
-abbrev pub raises : Binding → ℕ → List Raise
+abbrev pub raises : Binding → ℕ → List PlainRaise
 raises b k = option_map_or (λ op. op.raises) (source b k) []

@@ -10,7 +10,7 @@ use Rattle.wire_def.specs.declared.outcome.Outcome.{Outcome}
 use Rattle.wire_def.specs.declared.outcome.Outcome.TheVariants.{Answer, Refused}
 use Rattle.wire_def.specs.declared.outcome.Refusal.{Refusal}
 use Rattle.wire_def.specs.declared.outcome.Refusal.TheVariants as refusal
-use Rattle.aoi.specs.declared.interfaces.Raise.{Raise}
+use Rattle.aoi.specs.Plain.{PlainRaise}
 use Rattle.pres.specs.declared.ops.Op.{Op}
 use Rattle.pres.specs.Bindings.{Binding}
 use Rattle.pres.specs.Faces.{Face, choice, face_at}
@@ -43,7 +43,7 @@ abbrev pub is_reply : Back → Data → Bool
 is_reply b j = has_only (is_reply_key b) j && is_text (get (codes "op") j) && is_some (head_number (get (head_key b) j)) && (if is_some (get (codes "raise") j) then is_raised j else is_given j)
 
 -- the place, from k on, of the first exception whose name a string is
-abbrev pub raise_from : List ℕ → ℕ → List Raise → Option ℕ
+abbrev pub raise_from : List ℕ → ℕ → List PlainRaise → Option ℕ
 raise_from s k [] = None
 raise_from s k (r ∷ rs) = if bytes_eq (text_of r.name) s then Some k else raise_from s (suc k) rs
 
@@ -56,11 +56,11 @@ abbrev pub given_tree : Data → Data
 given_tree j = arm_json (number (unsigned 0)) (array (item (any_at (codes "result") j) (items_of (list_at (codes "outs") j))))
 
 -- the k-th exception as a choice of arm k: its members
-abbrev pub raised_tree : List Raise → Data → Option Data
+abbrev pub raised_tree : List PlainRaise → Data → Option Data
 raised_tree rs j = option_map (λ k. arm_json (number (unsigned k)) (table_at (codes "members") j)) (raise_from (text_at (codes "raise") j) 1 rs)
 
 -- a reply as a choice, unless it is an exception that the operation does not list
-abbrev pub reply_tree : List Raise → Data → Option Data
+abbrev pub reply_tree : List PlainRaise → Data → Option Data
 reply_tree rs j = if is_some (get (codes "raise") j) then raised_tree rs j else Some (given_tree j)
 
 -- the reply of an operation
@@ -82,7 +82,7 @@ reply_of b j = if is_reply b.back j then answered_of b j (op_named b (text_at (c
 -- ---- what is written
 
 -- the name of the exception at a place
-abbrev pub raise_name : List Raise → ℕ → List ℕ
+abbrev pub raise_name : List PlainRaise → ℕ → List ℕ
 raise_name rs k = slice_index_or (map (λ r. r.name) rs) k []
 
 -- the members of an answer
@@ -91,17 +91,17 @@ given_members (Some (item result outs)) = put (codes "result") result (put (code
 given_members _ = no_members
 
 -- the members of the exception at a place
-abbrev pub raised_members : List Raise → ℕ → Data → Members
+abbrev pub raised_members : List PlainRaise → ℕ → Data → Members
 raised_members rs k j = if nat_lt k (length rs) then put (codes "raise") (string (text_of (raise_name rs k))) (put (codes "members") j no_members) else no_members
 
 -- the members of an answer, or of an exception, by the number of the arm
-abbrev pub behind_members : List Raise → ℤ → Data → Members
+abbrev pub behind_members : List PlainRaise → ℤ → Data → Members
 behind_members rs (pos zero) j = given_members (as_array j)
 behind_members rs (pos (suc k)) j = raised_members rs k j
 behind_members rs (negsuc k) j = no_members
 
 -- the members of a reply's value
-abbrev pub answer_members : List Raise → Face → Val → Members
+abbrev pub answer_members : List PlainRaise → Face → Val → Members
 answer_members rs (choice s arms) (arm n v) = behind_members rs n (behind_json arms n v)
 answer_members rs _ _ = no_members
 
@@ -141,7 +141,7 @@ IsOutcome t (Answer value) = IsWellTyped t (seen value)
 IsOutcome t (Refused why) = Unit {0}
 
 -- the members of what a call came to
-abbrev pub outcome_members : List Raise → Face → Outcome → Members
+abbrev pub outcome_members : List PlainRaise → Face → Outcome → Members
 outcome_members rs f (Answer value) = answer_members rs f (seen value)
 outcome_members rs f (Refused why) = put (codes "refused") (array (refusal_json why)) no_members
 

@@ -1,6 +1,6 @@
-//! Types and bindings that the tests share. Where memory runs out a piece is missing, and a test fails.
+//! Bindings that the tests read records of. Where memory runs out a piece is missing, and a test fails.
 use aoi::{Field, Fields, Interface, Operation, Operations, Raise, Raises, Ty, Unit, is_sound};
-use kit_base::{Listed, Name};
+use kit_base::Name;
 use mint::kind::{Count, Kind};
 use pres::{Bound, bind};
 use serde_json::Value as Json;
@@ -8,7 +8,7 @@ use std::alloc::Global;
 use wire_def::Back;
 
 /// A name; a part of it where memory runs out.
-pub fn name(alloc: Global, text: &[u8]) -> Name {
+fn name(alloc: Global, text: &[u8]) -> Name {
     let mut name = Name::new(alloc);
     let _ = name.append(text);
     name
@@ -24,81 +24,8 @@ fn field(alloc: Global, text: &[u8], ty: Ty) -> Fields {
     fields
 }
 
-/// Types, each with other JSON.
-#[derive(Clone, Copy)]
-pub enum Sample {
-    Number(Kind),
-    Enum,
-    Text,
-    Row(Kind),
-    List,
-    Struct,
-    Union,
-    NamedUnion,
-    Maybe,
-}
-
-/// The type of a sample.
-pub fn type_of(alloc: Global, which: Sample) -> Ty {
-    match which {
-        Sample::Number(kind) => Ty::Num(kind),
-        Sample::Enum => colours(alloc),
-        Sample::Text => Ty::Text(Count::AtMost(3)),
-        Sample::Row(kind) => array(alloc, Ty::Num(kind), Count::Exactly(2)),
-        Sample::List => array(alloc, Ty::Text(Count::Any), Count::AtMost(2)),
-        Sample::Struct => pair(alloc),
-        Sample::Union => union(alloc, Ty::Num(Kind::U32)),
-        Sample::NamedUnion => union(alloc, colours(alloc)),
-        Sample::Maybe => optional(alloc, Ty::Num(Kind::I32)),
-    }
-}
-
-fn array(alloc: Global, item: Ty, count: Count) -> Ty {
-    match Box::new(alloc, item) {
-        Ok(item) => Ty::Array(item, count),
-        Err(_) => Ty::Void,
-    }
-}
-
-fn optional(alloc: Global, item: Ty) -> Ty {
-    match Box::new(alloc, item) {
-        Ok(item) => Ty::Optional(item),
-        Err(_) => Ty::Void,
-    }
-}
-
-/// A struct of a number and a truth.
-fn pair(alloc: Global) -> Ty {
-    let mut fields = field(alloc, b"a", Ty::Num(Kind::I32));
-    let _ = fields.push(Field {
-        name: name(alloc, b"b"),
-        ty: Ty::Num(Kind::Bool),
-    });
-    Ty::Struct(fields)
-}
-
-/// An enum with two names of one number.
-fn colours(alloc: Global) -> Ty {
-    let mut items = Listed::new(alloc);
-    let _ = items.push((name(alloc, b"RED"), 0));
-    let _ = items.push((name(alloc, b"GREEN"), 1));
-    let _ = items.push((name(alloc, b"ROT"), 0));
-    Ty::Enum(items)
-}
-
-/// Nothing at 0, and a number at 1.
-fn union(alloc: Global, tag: Ty) -> Ty {
-    let mut arms = Listed::new(alloc);
-    let _ = arms.push((0, Ty::Void));
-    let _ = arms.push((1, Ty::Num(Kind::I32)));
-    match Box::new(alloc, tag) {
-        Ok(tag) => Ty::Union(tag, arms, None),
-        Err(_) => Ty::Void,
-    }
-}
-
 /// An exception `E` of one text.
-pub fn exceptions(alloc: Global) -> Raises {
+fn exceptions(alloc: Global) -> Raises {
     let mut raises = Raises::new(alloc);
     let _ = raises.push(Raise {
         name: name(alloc, b"E"),
@@ -143,16 +70,6 @@ fn bound(alloc: Global, unit: Unit, back: Back) -> Option<Bound> {
         return None;
     }
     bind(alloc, unit, back).ok()
-}
-
-/// A binding of `I.f`, which takes one sample.
-pub fn taking(alloc: Global, which: Sample) -> Option<Bound> {
-    let ty = type_of(alloc, which);
-    bound(
-        alloc,
-        unit(alloc, operation(alloc, ty, Raises::new(alloc), false)),
-        Back::Xdr,
-    )
 }
 
 /// A binding of `I.f`, which takes a number and never answers.

@@ -18,7 +18,9 @@ mod writing;
 mod written_records;
 
 pub use errors::{RecordErr, ShapeErr};
-pub use laws::{json_is_decided, json_presents_one_value, written_json_presents};
+pub use laws::{
+    json_is_decided, json_presents_one_value, records_are_read_back, written_json_presents,
+};
 pub use reading::to_value;
 pub use records::RequestRec;
 pub use replies::read_reply;
@@ -29,8 +31,4 @@ pub use written_records::{write_reply, write_request};
 #[cfg(test)]
 mod fixtures;
 #[cfg(test)]
-mod memory_tests;
-#[cfg(test)]
 mod record_tests;
-#[cfg(test)]
-mod value_tests;

@@ -1,10 +1,8 @@
 // The operations that records name.
-ghost use Rattle.std.specs.Prelude.{◌≡◌, ◌==◌, IfOk, IfSome, None, Some, option_map, slice_get, slice_index_or};
+ghost use Rattle.std.specs.Prelude.{◌≡◌, IfOk, IfSome, None, Some, map, option_map, slice_get, slice_index_or};
 ghost use Rattle.std.specs.Str.{bytes_eq};
-ghost use Rattle.std.specs.List.{list_any};
-ghost use Rattle.aoi.specs.declared.interfaces.Operation.{Operation};
+ghost use Rattle.aoi.specs.Plain.{plain_raise, plain_operation, plain_interface};
 ghost use Rattle.pres.specs.Bindings.{IsPlaced};
-ghost use Rattle.pres.specs.Offers.{gets_null};
 ghost use Rattle.json_shape.specs.Operations.{interface_name, dotted, op_named, sources, source, is_oneway, raises};
 ghost use Rattle.json_shape.specs.Replies.{raise_from, raise_name};
 ghost use Rattle.json_shape.specs.Texts.{text_of};
@@ -12,14 +10,14 @@ ghost use Rattle.json_shape.specs.Texts.{text_of};
 use crate::texts::{behind, is_rest_of, is_text_of};
 use aoi::{Interface, Operation, Raise};
 use kit_base::{NoMemory, Octets};
-use pres::{Bound, Op};
+use pres::{Bound, Op, gets_null};
 use std::alloc::Global;
 use wire_def::Back;
 
 /// The name of an interface.
 #[tactic(auto, using(crate::proofs::Sources::lists))]
 fn interface_name(interfaces: &[Interface], k: u32) -> &[u8]
-    ensures { result.now ≡ interface_name interfaces.now k }
+    ensures { result.now ≡ interface_name (map plain_interface interfaces.now) k }
 {
     match interfaces.get(k as usize) {
         Some(interface) => interface.name.as_slice(),
@@ -29,7 +27,7 @@ fn interface_name(interfaces: &[Interface], k: u32) -> &[u8]
 
 /// Whether a string names an operation.
 fn is_dotted(interfaces: &[Interface], op: &Op, text: &str) -> bool
-    ensures { result ≡ bytes_eq (text_of (dotted interfaces.now op.now)) text.now }
+    ensures { result ≡ bytes_eq (text_of (dotted (map plain_interface interfaces.now) op.now)) text.now }
 {
     let Some(rest) = behind(interface_name(interfaces, op.interface), text.chars()) else {
         return false;
@@ -42,7 +40,7 @@ fn is_dotted(interfaces: &[Interface], op: &Op, text: &str) -> bool
 
 /// The name of an operation in a record.
 pub(crate) fn dotted(alloc: Global, interfaces: &[Interface], op: &Op) -> Result<Octets, NoMemory>
-    ensures { IfOk result (λ o. o ≡ dotted interfaces.now op.now) }
+    ensures { IfOk result (λ o. o ≡ dotted (map plain_interface interfaces.now) op.now) }
 {
     let mut name = Octets::new(alloc);
     name.append(interface_name(interfaces, op.interface))?;
@@ -70,27 +68,10 @@ pub(crate) fn op_named<'a>(bound: &'a Bound, text: &str) -> Result<Option<(u32, 
     Ok(None)
 }
 
-fn has_null(operations: &[Operation]) -> bool
-    ensures { result ≡ list_any (λ (op : Operation). op.proc_no == 0) operations.now }
-{
-    for op in operations {
-        if op.proc_no == 0 {
-            return true;
-        }
-    }
-    false
-}
-
-fn gets_null(back: Back, interface: &Interface) -> bool
-    ensures { result ≡ gets_null back interface.now }
-{
-    back == Back::Xdr && !has_null(interface.ops.as_slice())
-}
-
 /// The operation of a number, as its file has it.
 #[tactic(auto, using(crate::proofs::Sources::lists))]
 fn source_in(interfaces: &[Interface], back: Back, k: u32) -> Option<&Operation>
-    ensures { option_map (λ o. o.now) result ≡ slice_index_or (sources back interfaces.now) k None }
+    ensures { option_map (λ o. plain_operation o.now) result ≡ slice_index_or (sources back (map plain_interface interfaces.now)) k None }
 {
     let mut left = k as usize;
     for interface in interfaces {
@@ -110,7 +91,7 @@ fn source_in(interfaces: &[Interface], back: Back, k: u32) -> Option<&Operation>
 }
 
 fn source(bound: &Bound, k: u32) -> Option<&Operation>
-    ensures { option_map (λ o. o.now) result ≡ source bound.now k }
+    ensures { option_map (λ o. plain_operation o.now) result ≡ source bound.now k }
 {
     source_in(bound.unit().interfaces().as_slice(), bound.back(), k)
 }
@@ -127,7 +108,7 @@ pub(crate) fn is_oneway(bound: &Bound, k: u32) -> bool
 
 /// The exceptions of an operation.
 pub(crate) fn raises(bound: &Bound, k: u32) -> &[Raise]
-    ensures { result.now ≡ raises bound.now k }
+    ensures { map plain_raise result.now ≡ raises bound.now k }
 {
     match source(bound, k) {
         Some(op) => op.raises.as_slice(),
@@ -137,7 +118,7 @@ pub(crate) fn raises(bound: &Bound, k: u32) -> &[Raise]
 
 /// The number of the first exception that a string names, from 1.
 pub(crate) fn raise_named(raises: &[Raise], text: &str) -> Result<Option<u32>, NoMemory>
-    ensures { IfOk result (λ k. k ≡ raise_from text.now 1 raises.now) }
+    ensures { IfOk result (λ k. k ≡ raise_from text.now 1 (map plain_raise raises.now)) }
 {
     for (i, raise) in raises.iter().enumerate() {
         if is_text_of(raise.name.as_slice(), text) {
@@ -154,7 +135,7 @@ pub(crate) fn raise_named(raises: &[Raise], text: &str) -> Result<Option<u32>, N
 /// The name of the exception at a place.
 #[tactic(auto, using(crate::proofs::Sources::lists))]
 pub(crate) fn raise_name(raises: &[Raise], k: usize) -> &[u8]
-    ensures { result.now ≡ raise_name raises.now k }
+    ensures { result.now ≡ raise_name (map plain_raise raises.now) k }
 {
     match raises.get(k) {
         Some(raise) => raise.name.as_slice(),

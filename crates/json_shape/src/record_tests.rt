@@ -1,9 +1,9 @@
-use crate::fixtures::{Sample, name, raising, silent, taking, tree};
+// Records over Mach, of an operation without a reply, and over CDR, of one that raises an exception.
+use crate::fixtures::{raising, silent, tree};
 use crate::{RecordErr, read_reply, read_request, write_reply, write_request};
-use mint::kind::Kind;
 use pres::Bound;
 use std::alloc::Global;
-use wire_def::{Head, Order, Outcome, Refusal};
+use wire_def::Outcome;
 
 /// The record that is written of the request that is read.
 fn request_again(alloc: Global, bound: &Bound, text: &str) -> Result<String, RecordErr> {
@@ -86,14 +86,6 @@ const REQUESTS: [(&str, Result<&str, RecordErr>); 14] = [
     ),
 ];
 
-#[test]
-fn a_request_is_read_or_its_first_refusal_told(rt: HostRuntime) {
-    let alloc = rt.alloc();
-    for (text, want) in REQUESTS {
-        assert!(rt; is_request(alloc, text, want), "{text}");
-    }
-}
-
 /// Replies of an operation that raises an exception.
 const REPLIES: [(&str, Result<&str, RecordErr>); 14] = [
     (
@@ -131,80 +123,12 @@ const REPLIES: [(&str, Result<&str, RecordErr>); 14] = [
 ];
 
 #[test]
-fn a_reply_is_read_or_its_first_refusal_told(rt: HostRuntime) {
+fn records_of_back_ends_without_commands_are_read_or_refused(rt: HostRuntime) {
     let alloc = rt.alloc();
+    for (text, want) in REQUESTS {
+        assert!(rt; is_request(alloc, text, want), "{text}");
+    }
     for (text, want) in REPLIES {
         assert!(rt; is_reply(alloc, text, want), "{text}");
     }
-}
-
-fn is_silent(alloc: Global, text: &str) -> bool {
-    match silent(alloc) {
-        Some(bound) => is_wanted(reply_again(alloc, &bound, text), Err(RecordErr::Op)),
-        None => false,
-    }
-}
-
-#[test]
-fn an_operation_without_a_reply_has_no_reply_record(rt: HostRuntime) {
-    let alloc = rt.alloc();
-    assert!(rt; is_silent(alloc, "{\"op\":\"I.f\",\"result\":true}"));
-}
-
-/// A head of the number 3.
-const HEAD: Head = Head {
-    id: 3,
-    remote: 0,
-    local: 0,
-    wants: true,
-    order: Order::Big,
-};
-
-/// What is written of a refusal.
-fn refused(alloc: Global, bound: &Bound, why: Refusal, want: &str) -> bool {
-    let Some(op) = bound.ops().get(0) else {
-        return false;
-    };
-    if !op.has_reply {
-        return false;
-    }
-    match write_reply(alloc, bound, 0, &HEAD, &Outcome::Refused(why)) {
-        Ok(json) => json.get("refused") == Some(&tree(alloc, want)),
-        Err(_) => false,
-    }
-}
-
-fn is_refused(alloc: Global, why: Refusal, want: &str) -> bool {
-    match taking(alloc, Sample::Number(Kind::I32)) {
-        Some(bound) => refused(alloc, &bound, why, want),
-        None => false,
-    }
-}
-
-#[test]
-fn a_refusal_is_its_name_and_its_numbers(rt: HostRuntime) {
-    let alloc = rt.alloc();
-    assert!(rt; is_refused(alloc, Refusal::ProgUnavail, "[\"PROG_UNAVAIL\"]"));
-    assert!(rt;
-        is_refused(
-            alloc,
-            Refusal::ProgMismatch(1, 2),
-            "[\"PROG_MISMATCH\",1,2]"
-        )
-    );
-    assert!(rt; is_refused(alloc, Refusal::ProcUnavail, "[\"PROC_UNAVAIL\"]"));
-    assert!(rt; is_refused(alloc, Refusal::GarbageArgs, "[\"GARBAGE_ARGS\"]"));
-    assert!(rt; is_refused(alloc, Refusal::SystemErr, "[\"SYSTEM_ERR\"]"));
-    assert!(rt; is_refused(alloc, Refusal::RpcMismatch(2, 2), "[\"RPC_MISMATCH\",2,2]"));
-    assert!(rt; is_refused(alloc, Refusal::AuthError(1), "[\"AUTH_ERROR\",1]"));
-    assert!(rt; is_refused(alloc, Refusal::RetCode(-303), "[\"RETCODE\",-303]"));
-}
-
-#[test]
-fn a_refusal_tells_the_id_of_its_exception(rt: HostRuntime) {
-    let alloc = rt.alloc();
-    let system = Refusal::SystemException(name(alloc, b"a"), 1, 2);
-    assert!(rt; is_refused(alloc, system, "[\"SYSTEM_EXCEPTION\",\"a\",1,2]"));
-    let user = Refusal::UserException(name(alloc, b"a"));
-    assert!(rt; is_refused(alloc, user, "[\"USER_EXCEPTION\",\"a\"]"));
 }

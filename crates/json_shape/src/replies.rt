@@ -1,5 +1,6 @@
 // Reply records.
-ghost use Rattle.std.specs.Prelude.{◌≡◌, ◌<◌, length, true, slice_get, IfOk, IfSome, is_some, if◌then◌else◌, option_map, codes};
+ghost use Rattle.std.specs.Prelude.{◌≡◌, ◌<◌, length, map, true, slice_get, IfOk, IfSome, is_some, if◌then◌else◌, option_map, codes};
+ghost use Rattle.aoi.specs.Plain.{plain_raise};
 ghost use Rattle.mint.specs.Typed.{IsWellTyped};
 ghost use Rattle.mint.specs.Types.{type_at};
 ghost use Rattle.mint.specs.Values.{seen};
@@ -86,7 +87,7 @@ fn is_raised(json: &Json) -> bool
 
 /// The reply as a choice, unless it is an exception that is not listed.
 fn reply_tree(alloc: Global, raises: &[Raise], json: &Json) -> Result<Option<Json>, NoMemory>
-    ensures { IfOk result (λ o. option_map view o ≡ reply_tree raises.now (view json.now)) }
+    ensures { IfOk result (λ o. option_map view o ≡ reply_tree (map plain_raise raises.now) (view json.now)) }
 {
     if json.get("raise").is_some() {
         return raised_tree(alloc, raises, json);
@@ -95,7 +96,7 @@ fn reply_tree(alloc: Global, raises: &[Raise], json: &Json) -> Result<Option<Jso
 }
 
 fn raised_tree(alloc: Global, raises: &[Raise], json: &Json) -> Result<Option<Json>, NoMemory>
-    ensures { IfOk result (λ o. option_map view o ≡ raised_tree raises.now (view json.now)) }
+    ensures { IfOk result (λ o. option_map view o ≡ raised_tree (map plain_raise raises.now) (view json.now)) }
 {
     let Some(number) = raise_named(raises, text_at(json, "raise"))? else {
         return Ok(None);

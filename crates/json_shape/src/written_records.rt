@@ -1,5 +1,6 @@
 // Records that are written.
-ghost use Rattle.std.specs.Prelude.{◌≡◌, ◌<◌, length, true, codes, IfOk, IfSome, OnOk, slice_get, option_map};
+ghost use Rattle.std.specs.Prelude.{◌≡◌, ◌<◌, length, map, true, codes, IfOk, IfSome, OnOk, slice_get, option_map};
+ghost use Rattle.aoi.specs.Plain.{plain_raise};
 ghost use Rattle.mint.specs.Typed.{IsWellTyped};
 ghost use Rattle.mint.specs.Types.{type_at};
 ghost use Rattle.mint.specs.Values.{seen};
@@ -110,7 +111,7 @@ fn outcome_members(
     outcome: &Outcome,
 ) -> Result<Map<String, Json>, NoMemory>
     requires { node < length bound.now.nodes }
-    ensures { IfOk result (λ m. members_view m.entries ≡ outcome_members raises.now (face_at bound.now.nodes bound.now.shapes node) outcome.now) }
+    ensures { IfOk result (λ m. members_view m.entries ≡ outcome_members (map plain_raise raises.now) (face_at bound.now.nodes bound.now.shapes node) outcome.now) }
 {
     match outcome {
         Outcome::Answer(value) => answer_members(alloc, bound, raises, node, value),
@@ -182,7 +183,7 @@ fn answer_members(
     value: &Value,
 ) -> Result<Map<String, Json>, NoMemory>
     requires { node < length bound.now.nodes }
-    ensures { IfOk result (λ m. members_view m.entries ≡ answer_members raises.now (face_at bound.now.nodes bound.now.shapes node) (seen value.now)) }
+    ensures { IfOk result (λ m. members_view m.entries ≡ answer_members (map plain_raise raises.now) (face_at bound.now.nodes bound.now.shapes node) (seen value.now)) }
 {
     let Some((choice, _)) = bound.part(node) else {
         unreachable!()
@@ -204,7 +205,7 @@ fn behind_members(
     n: &i128,
     json: Json,
 ) -> Result<Map<String, Json>, NoMemory>
-    ensures { IfOk result (λ m. members_view m.entries ≡ behind_members raises.now n.now (view json)) }
+    ensures { IfOk result (λ m. members_view m.entries ≡ behind_members (map plain_raise raises.now) n.now (view json)) }
 {
     match usize::try_from(*n) {
         Ok(0) => given_members(alloc, json),
@@ -245,7 +246,7 @@ fn raised_members(
     k: usize,
     json: Json,
 ) -> Result<Map<String, Json>, NoMemory>
-    ensures { IfOk result (λ m. members_view m.entries ≡ raised_members raises.now k (view json)) }
+    ensures { IfOk result (λ m. members_view m.entries ≡ raised_members (map plain_raise raises.now) k (view json)) }
 {
     let mut members = Map::new(alloc);
     if k >= raises.len() {

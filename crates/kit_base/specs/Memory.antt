@@ -1,8 +1,9 @@
 -- What the ends in memory are seen as, and what a shelf tells of a file.
-use Rattle.std.specs.Prelude.{◌≡◌, ℕ, ◌-◌, List, [], ◌∷◌, take, length, Option, Some, None, Bool, if◌then◌else◌}
+use Rattle.std.specs.Prelude.{◌≡◌, ℕ, ◌-◌, List, [], ◌∷◌, ◌++◌, take, drop, length, Option, Some, None, Bool, Result, Ok, Err, is_err, if◌then◌else◌}
 use Rattle.std.specs.Str.{bytes_eq}
 use Rattle.kit_base.specs.Causes.{raised}
 use Rattle.kit_base.specs.Decimal.{is_listed}
+use Rattle.kit_base.specs.declared.errors.Failed.{Failed}
 
 -- where files are told, there is one at the path, and this is its front
 abbrev pub HasFile : Option (List ℕ → Option (List ℕ)) → List ℕ → ℕ → List ℕ → Type 0
@@ -51,6 +52,15 @@ pub record Fed : Type 0 where
   pub most : ℕ
   pub plan : Planned
 
+-- what is left of a content after a read
+abbrev pub left_after : List ℕ → Result ℕ Failed → List ℕ
+left_after left (Ok n) = drop n left
+left_after left (Err e) = left
+
+-- a source after a call that answered so
+abbrev pub fed : Fed → Result ℕ Failed → Fed
+fed s result = record s { left = left_after s.left result; plan = called s.plan (is_err result) }
+
 -- a sink that fails only where no room is left
 pub record Held : Type 0 where
   pub held : List ℕ
@@ -61,6 +71,15 @@ pub record Taken : Type 0 where
   pub held : List ℕ
   pub most : ℕ
   pub plan : Planned
+
+-- what is held after a write of this piece
+abbrev pub held_after : List ℕ → List ℕ → Result ℕ Failed → List ℕ
+held_after held piece (Ok n) = held ++ take n piece
+held_after held piece (Err e) = held
+
+-- a sink after a call that was handed this piece and answered so
+abbrev pub taken : Taken → List ℕ → Result ℕ Failed → Taken
+taken s piece result = record s { held = held_after s.held piece result; plan = called s.plan (is_err result) }
 
 -- the octets that still fit behind these
 abbrev pub room_of : List ℕ → ℕ

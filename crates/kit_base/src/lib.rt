@@ -6,6 +6,7 @@
 
 mod decimal;
 mod errors;
+pub mod limits;
 mod line_text;
 mod lines;
 mod listed;

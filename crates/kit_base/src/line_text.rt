@@ -33,9 +33,8 @@ pub(crate) fn read_line(alloc: Global, longest: u32, octets: &[u8]) -> Result<Op
     if line.len() > longest as usize {
         return Ok(Some(Line::Long));
     }
-    let mut text = Octets::new(alloc);
-    match text.append(line) {
-        Ok(()) => Ok(Some(Line::Text(text))),
+    match Octets::from_slice(alloc, line) {
+        Ok(text) => Ok(Some(Line::Text(text))),
         Err(NoMemory) => Err(LineErr::NoMemory),
     }
 }

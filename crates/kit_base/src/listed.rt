@@ -1,5 +1,5 @@
 // One list type, and the lists of octets and of words made of it.
-ghost use Rattle.std.specs.Prelude.{◌≡◌, [], ◌∷◌, ◌++◌, ◌<◌, length, slice_get, slice_set, Some, OnOk, OnErr};
+ghost use Rattle.std.specs.Prelude.{◌≡◌, [], ◌∷◌, ◌++◌, ◌<◌, length, slice_get, slice_set, Some, IfOk, OnOk, OnErr};
 ghost use Rattle.std.specs.Option.{option_copied};
 
 use crate::NoMemory;
@@ -83,6 +83,15 @@ impl<T: Drop> Listed<T> {
 }
 
 impl<T: Copy> Listed<T> {
+    /// A list of these items. A refusal leaves nothing.
+    pub fn from_slice(alloc: Global, items: &[T]) -> Result<Listed<T>, NoMemory>
+        ensures { IfOk result (λ list. list ≡ items.now) }
+    {
+        let mut list = Listed::new(alloc);
+        list.append(items)?;
+        Ok(list)
+    }
+
     /// Puts a piece behind the last item.
     pub fn append(&mut self, piece: &[T]) -> Result<(), NoMemory>
         ensures ok { OnOk result (self.new ≡ self.old ++ piece.now) }

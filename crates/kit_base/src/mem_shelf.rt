@@ -51,14 +51,9 @@ impl MemShelf {
         ensures ok { OnOk result (self.new ≡ record self.old { files = self.old.files ++ (path.now, content.now) ∷ [] }) }
         ensures err { OnErr result (self.new ≡ self.old) }
     {
-        let mut name = Octets::new(self.alloc);
-        name.append(path)?;
-        let mut octets = Octets::new(self.alloc);
-        octets.append(content)?;
-        self.files.push(File {
-            path: name,
-            content: octets,
-        })?;
+        let path = Octets::from_slice(self.alloc, path)?;
+        let content = Octets::from_slice(self.alloc, content)?;
+        self.files.push(File { path, content })?;
         Ok(())
     }
 
@@ -95,6 +90,7 @@ impl Shelf for MemShelf {
         ensures failed { IsErrOf result ShelfErr.Failed → Rose self.old.plan.faults self.new.plan.faults }
         ensures told { result ≢ Err ShelfErr.Failed → self.old.plan.faults ≡ self.new.plan.faults }
         ensures listed { IsErrOf result ShelfErr.Failed ↔ (fails_next self.old.plan ≡ true) }
+        ensures after { self.new ≡ record self.old { plan = called self.old.plan (fails_next self.old.plan) } }
     {
         if self.fails_now() {
             return Err(ShelfErr::Failed);
@@ -111,9 +107,8 @@ fn copy_up_to(alloc: Global, content: &[u8], most: u32) -> Result<Octets, ShelfE
     ensures err { IfErr result (λ e. e ≡ ShelfErr.NoMemory) }
 {
     let count = content.len().min(most as usize);
-    let mut octets = Octets::new(alloc);
-    match octets.append(&content[..count]) {
-        Ok(()) => Ok(octets),
+    match Octets::from_slice(alloc, &content[..count]) {
+        Ok(octets) => Ok(octets),
         Err(NoMemory) => Err(ShelfErr::NoMemory),
     }
 }

@@ -3,7 +3,7 @@ ghost use Rattle.std.specs.Prelude.{◌≡◌, ◌<◌, ◌≤◌, ◌-◌, ◌+
 ghost use Rattle.std.specs.Io.{WritesAtMost};
 ghost use Rattle.std.specs.Io.KnownBytes.{WriteAppends};
 ghost use Rattle.kit_base.specs.Causes.{HasCause};
-ghost use Rattle.kit_base.specs.Memory.{fails_next, called, faulted, fresh, room_of};
+ghost use Rattle.kit_base.specs.Memory.{fails_next, called, faulted, fresh, room_of, taken};
 
 use crate::plan::Plan;
 use crate::{Failed, NoMemory, Sink, Words};
@@ -186,6 +186,7 @@ impl Sink for MemSink {
         ensures bytes { WriteAppends (Some self.old.held) (Some self.new.held) result piece.now }
         ensures cause { HasCause self.old.plan.faults self.new.plan.faults result }
         ensures size { IfOk result (λ n. n ≡ min (min self.old.most (length piece.now)) (room_of self.old.held)) }
+        ensures after { self.new ≡ taken self.old piece.now result }
         ensures listed { fails_next self.old.plan ≡ true → IsTrue (is_err result) }
         ensures full { OnErr result (fails_next self.old.plan ≡ false → room_of self.old.held ≡ 0) }
     {

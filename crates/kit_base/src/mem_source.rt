@@ -3,7 +3,7 @@ ghost use Rattle.std.specs.Prelude.{◌≡◌, ◌≤◌, ◌↔◌, [], length,
 ghost use Rattle.std.specs.Io.{ReadsAtMost};
 ghost use Rattle.std.specs.Io.KnownBytes.{ReadConsumes};
 ghost use Rattle.kit_base.specs.Causes.{HasCause};
-ghost use Rattle.kit_base.specs.Memory.{fails_next, called, fresh};
+ghost use Rattle.kit_base.specs.Memory.{fails_next, called, fed, fresh};
 
 use crate::plan::Plan;
 use crate::{Failed, Octets, Source, Words};
@@ -148,7 +148,7 @@ impl Source for MemSource {
         ensures cause { HasCause self.old.plan.faults self.new.plan.faults result }
         ensures plan { IsTrue (is_ok result) ↔ (fails_next self.old.plan ≡ false) }
         ensures size { IfOk result (λ n. n ≡ min self.old.most (min (length self.old.left) (length into.old))) }
-        ensures after { self.new.plan ≡ called self.old.plan (is_err result) }
+        ensures after { self.new ≡ fed self.old result }
     {
         if self.fails_now() {
             return Err(Failed);

@@ -5,9 +5,7 @@ use super::*;
 use std::test::Fail;
 
 fn octets(rt: &HostRuntime, text: &[u8]) -> Result<Octets, NoMemory> {
-    let mut all = Octets::new(rt.alloc());
-    all.append(text)?;
-    Ok(all)
+    Octets::from_slice(rt.alloc(), text)
 }
 
 fn words(rt: &HostRuntime, text: &[u8]) -> Result<Words, NoMemory> {
@@ -67,32 +65,6 @@ impl Sink for Noting {
 }
 
 #[test]
-fn too_much_comes_at_once(rt: HostRuntime) -> Result<(), Fail> {
-    let mut source = MemSource::sure(octets(&rt, b"abc\ndef")?);
-    let mut lines = Lines::new(rt.alloc(), 9, 5);
-    assert!(rt; matches!(lines.next(&mut source), Err(LineErr::TooMuch)));
-    assert!(rt; matches!(lines.next(&mut source), Err(LineErr::TooMuch)));
-    Ok(())
-}
-
-#[test]
-fn lines_are_cut_whatever_the_reads(rt: HostRuntime) -> Result<(), Fail> {
-    for most in [1usize, 2, 3, 100] {
-        let text = octets(&rt, b"ab\r\n\n\r\nlonger\nfour\r\nlonger\r\nc\r")?;
-        let mut source = MemSource::new(text, Words::new(rt.alloc()), most.max(1));
-        let mut lines = Lines::new(rt.alloc(), 4, 100);
-        assert!(rt; gives(&mut lines, &mut source, b"ab"), "by {most}");
-        assert!(rt; matches!(lines.next(&mut source), Ok(Line::Long)));
-        assert!(rt; gives(&mut lines, &mut source, b"four"), "by {most}");
-        assert!(rt; matches!(lines.next(&mut source), Ok(Line::Long)));
-        assert!(rt; gives(&mut lines, &mut source, b"c"), "by {most}");
-        assert!(rt; matches!(lines.next(&mut source), Ok(Line::End)));
-        assert!(rt; matches!(lines.next(&mut source), Ok(Line::End)));
-    }
-    Ok(())
-}
-
-#[test]
 fn a_failed_read_is_told_and_stays(rt: HostRuntime) -> Result<(), Fail> {
     let mut source = MemSource::new(octets(&rt, b"ab\ncd\n")?, words(&rt, b"2")?, 3);
     let mut lines = Lines::new(rt.alloc(), 4, 100);
@@ -135,79 +107,6 @@ fn a_write_is_handed_all_that_is_left(rt: HostRuntime) -> Result<(), Fail> {
     assert!(rt; write_whole(&mut sink, b"0123456789").is_ok());
     assert_eq!(rt; sink.handed, [10, 6, 2, 0]);
     assert_eq!(rt; sink.inner.held(), b"0123456789".as_slice());
-    Ok(())
-}
-
-#[test]
-fn a_listed_write_fails(rt: HostRuntime) -> Result<(), Fail> {
-    let mut sink = MemSink::new(rt.alloc(), words(&rt, b"2")?, 4)?;
-    assert!(rt; write_whole(&mut sink, b"0123456789").is_err());
-    assert_eq!(rt; sink.held(), b"0123".as_slice());
-    assert!(rt; write_whole(&mut sink, b"x").is_ok());
-    assert_eq!(rt; sink.held(), b"0123x".as_slice());
-    Ok(())
-}
-
-#[test]
-fn a_sink_in_memory_has_16_mib(rt: HostRuntime) -> Result<(), Fail> {
-    let mut sink = MemSink::sure(rt.alloc())?;
-    let piece = vec![in rt.alloc(); 7u8; 8_388_608]?;
-    assert!(rt; write_whole(&mut sink, &piece).is_ok());
-    assert!(rt; write_whole(&mut sink, &piece).is_ok());
-    assert_eq!(rt; sink.held().len(), 16_777_216);
-    assert!(rt; write_whole(&mut sink, b"").is_ok());
-    assert!(rt; write_whole(&mut sink, b"x").is_err());
-    Ok(())
-}
-
-#[test]
-fn a_shelf_finds_its_file(rt: HostRuntime) -> Result<(), Fail> {
-    let mut shelf = MemShelf::new(rt.alloc(), words(&rt, b"4")?);
-    shelf.add(b"a.x", b"12345")?;
-    for (most, front) in [(3, b"123".as_slice()), (5, b"12345".as_slice())] {
-        match shelf.read_file(rt.alloc(), b"a.x", most) {
-            Ok(octets) => assert_eq!(rt; octets.as_slice(), front),
-            Err(_) => assert!(rt; false),
-        }
-    }
-    assert!(rt;
-        matches!(
-            shelf.read_file(rt.alloc(), b"b.x", 3),
-            Err(ShelfErr::Absent)
-        )
-    );
-    assert!(rt;
-        matches!(
-            shelf.read_file(rt.alloc(), b"a.x", 3),
-            Err(ShelfErr::Failed)
-        )
-    );
-    assert!(rt; shelf.read_file(rt.alloc(), b"a.x", 3).is_ok());
-    Ok(())
-}
-
-#[test]
-fn lists_keep_their_items(rt: HostRuntime) -> Result<(), Fail> {
-    let mut list = Octets::new(rt.alloc());
-    list.push(7)?;
-    list.append(b"ab")?;
-    assert_eq!(rt;
-        (list.len(), list.get(2), list.get(3)),
-        (3, Some(&98), None)
-    );
-    list.clear();
-    assert_eq!(rt; list.len(), 0);
-    Ok(())
-}
-
-#[test]
-fn std_ends_pass_octets_on(rt: HostRuntime) -> Result<(), Fail> {
-    let mut source = StdSource::new(b"ab\n".as_slice());
-    let mut lines = Lines::new(rt.alloc(), 4, 100);
-    assert!(rt; gives(&mut lines, &mut source, b"ab"));
-    assert!(rt; matches!(lines.next(&mut source), Ok(Line::End)));
-    let mut sink = StdSink::new(Vec::new(rt.alloc()));
-    assert!(rt; write_whole(&mut sink, b"ab").is_ok());
     Ok(())
 }
 

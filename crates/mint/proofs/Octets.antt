@@ -1,5 +1,5 @@
 -- Numbers that octets spell: each takes one, and none of them is a Bool.
-use Rattle.std.proofs.Common.{◌≡◌, ℕ, ◌/◌, ◌%◌, ◌<◌, pos, List, [], ◌∷◌, length, map, refl, ap, arith}
+use Rattle.std.proofs.Common.{◌≡◌, ℕ, ◌/◌, ◌%◌, pos, List, [], ◌∷◌, length, map, refl, ap, arith}
 use Rattle.std.proofs.Math.Nat.{div-one}
 use Rattle.mint.specs.declared.kind.Kind.{Kind}
 use Rattle.mint.specs.declared.kind.Kind.TheVariants as kind

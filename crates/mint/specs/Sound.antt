@@ -1,6 +1,7 @@
 -- The types that a table may hold.
 use Rattle.std.specs.Prelude.{Bool, true, false, ◌&&◌, ◌||◌, not, if◌then◌else◌, nat_lt, nat_le, nat_eq, int_lt, ◌≡◌, ℕ, ℤ, List, [], ◌∷◌, length, Option, None, Some}
 use Rattle.std.specs.List.{list_all}
+use Rattle.kit_base.specs.Limits.{deepest, heaviest_blank, most_nodes}
 use Rattle.mint.specs.declared.kind.Kind.TheVariants as kind
 use Rattle.mint.specs.declared.kind.Count.{Count}
 use Rattle.mint.specs.declared.kind.Count.TheVariants.{Exactly}
@@ -76,8 +77,8 @@ level_refusal t =
     if is_unfit t then Some err.Kind
     else (if is_empty t then Some err.Empty
     else (if is_mislabelled t then Some err.Labels
-    else (if nat_lt 32 (depth t) then Some err.Deep
-    else (if nat_lt 1048576 (weight (blank t)) then Some err.Heavy
+    else (if nat_lt deepest (depth t) then Some err.Deep
+    else (if nat_lt heaviest_blank (weight (blank t)) then Some err.Heavy
     else None))))
 
 -- a child that stands before the node of number k
@@ -95,7 +96,7 @@ children_below k _ = true
 -- why a table does not take a node
 abbrev pub refusal : List Node → Node → Option MintErr
 refusal nodes n =
-    if nat_le 65536 (length nodes) then Some err.Many
+    if nat_le most_nodes (length nodes) then Some err.Many
     else (if not (children_below (length nodes) n) then Some err.Forward
     else level_refusal (level (unfolded nodes) n))
 

@@ -4,6 +4,7 @@ use Rattle.std.specs.Ordering.{int_eq}
 use Rattle.mint.specs.declared.kind.Kind.{Kind}
 use Rattle.mint.specs.declared.kind.Kind.TheVariants as kind
 use Rattle.std.specs.List.{list_all, list_any}
+use Rattle.kit_base.specs.Limits.{heaviest}
 use Rattle.mint.specs.Kinds.{in_range, is_letter, Allows}
 use Rattle.mint.specs.Values.{Val, void, num, row, group, items, arm, absent, present, Vals, no_more, val, count, weight}
 use Rattle.mint.specs.Types.{Scalar, number, label, Array, text, row_of, Ty, void_type, scalar_type, array_type, group_type, items_type, choice_type, maybe_type, Tys, no_fields, field, Arms, no_other, others, arm_type}
@@ -55,4 +56,4 @@ abbrev mutual
 
 pub record IsWellTyped (t : Ty) (v : Val) : Type 0 where
   pub is_of : IsOf t v
-  pub light : weight v ≤ 268435456
+  pub light : weight v ≤ heaviest

@@ -2,6 +2,7 @@
 
 ghost use Rattle.std.specs.Prelude.{List, map, ◌≢◌, ◌≡◌, ◌∷◌, [], ◌++◌, ◌<◌, ◌≤◌, ◌+◌, length, IfOk, IfErr, OnOk, OnErr, None, Some, nat_lt, nat_le, ◌&&◌, true};
 ghost use Rattle.std.specs.List.{list_all};
+ghost use Rattle.kit_base.specs.Limits.{deepest};
 ghost use Rattle.mint.specs.Blank.{blank, depth, fields_depth, arms_depth, least, blanks, blank_arm};
 ghost use Rattle.mint.specs.Kinds.{in_range};
 ghost use Rattle.mint.specs.Measured.{size_of};
@@ -15,6 +16,7 @@ use crate::kind::{Count, Kind};
 use crate::node::{Arms, Labels, Node, NodeIds, Tag};
 use crate::size::Size;
 use crate::table::{Mint, NodeId};
+use kit_base::limits::{DEEPEST, HEAVIEST_BLANK, MOST_NODES};
 
 impl Mint {
     /// Puts a node behind the others, and gives its number. Only children that stand before it
@@ -38,7 +40,7 @@ impl Mint {
         ensures taken { OnOk result (refusal self.now node.now ≡ None) }
         ensures cause { IfErr result (λ e. refusal self.now node.now ≡ Some e) }
     {
-        if self.len() >= 65_536 {
+        if self.len() >= MOST_NODES {
             return Err(MintErr::Many);
         }
         if !has_children_below(node, self.len() as NodeId) {
@@ -64,11 +66,11 @@ impl Mint {
             return Err(MintErr::Labels);
         }
         let depth = self.depth(node);
-        if depth > 32 {
+        if depth > DEEPEST {
             return Err(MintErr::Deep);
         }
         let weight = self.blank_weight(node);
-        if weight > 1_048_576 {
+        if weight > u128::from(HEAVIEST_BLANK) {
             return Err(MintErr::Heavy);
         }
         Ok(Size {
@@ -127,7 +129,7 @@ impl Mint {
     fn fields_depth(&self, ids: &NodeIds) -> u32
         requires { AreBelow (length self.now) ids.now }
         ensures value { result ≡ fields_depth (fields_at (unfolded self.now) ids.now) }
-        ensures bound { result ≤ 32 }
+        ensures bound { result ≤ deepest }
     {
         let mut deepest = 0;
         for id in ids.as_slice() {
@@ -140,7 +142,7 @@ impl Mint {
         requires arms { ArmsBelow (length self.now) arms.now }
         requires other { IsBelow (length self.now) other }
         ensures value { result ≡ arms_depth (arms_at (unfolded self.now) arms.now other) }
-        ensures bound { result ≤ 32 }
+        ensures bound { result ≤ deepest }
     {
         let mut deepest = 0;
         for (_, id) in arms.as_slice() {

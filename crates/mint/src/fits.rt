@@ -12,6 +12,7 @@ use crate::kind::{Count, Kind};
 use crate::node::{Arms, Labels, Node, NodeIds, Tag};
 use crate::table::Mint;
 use crate::value::{Row, Value, Values};
+use kit_base::limits::HEAVIEST;
 
 impl Tag {
     /// Whether a number is one of the tag's.
@@ -213,5 +214,5 @@ pub fn fits(mint: &Mint, id: u32, value: &Value) -> bool
     requires { id < length mint.now }
     ensures { IsTrue result ↔ IsWellTyped (type_at mint.now id) (seen value.now) }
 {
-    is_of(mint, id, value) && take_weight(268435456, value).is_some()
+    is_of(mint, id, value) && take_weight(HEAVIEST, value).is_some()
 }

@@ -3,6 +3,7 @@
 
 ghost use Rattle.std.specs.Prelude.{List, IsTrue, ℕ, ℤ, ◌≡◌, ◌≢◌, ◌≤◌, ◌<◌, ◌%◌, length};
 ghost use Rattle.std.specs.List.{list_all, AllByRecursion};
+ghost use Rattle.kit_base.specs.Limits.{deepest, heaviest_blank};
 ghost use Rattle.mint.specs.Blank.{blank, depth};
 ghost use Rattle.mint.specs.Kinds.{in_range, width};
 ghost use Rattle.mint.specs.Row.{image_of, numbers_of};
@@ -22,8 +23,8 @@ pub fn images_are_exact()
 
 /// What a table holds is small.
 pub fn sound_types_are_small()
-    ensures depth { (t : Ty) → IsSound t → depth t ≤ 32 }
-    ensures weight { (t : Ty) → IsSound t → weight (blank t) ≤ 1048576 }
+    ensures depth { (t : Ty) → IsSound t → depth t ≤ deepest }
+    ensures weight { (t : Ty) → IsSound t → weight (blank t) ≤ heaviest_blank }
 {}
 
 /// The blank value of what a table holds is well typed.

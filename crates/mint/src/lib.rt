@@ -12,8 +12,4 @@ pub mod node;
 pub mod row;
 mod size;
 pub mod table;
-#[cfg(test)]
-mod tests;
 pub mod value;
-#[cfg(test)]
-mod value_tests;

@@ -2,6 +2,7 @@
 
 ghost use Rattle.std.specs.Prelude.{◌≡◌, ℕ, [], ◌∷◌, ◌++◌, ◌<◌, ◌≤◌, length, slice_get, None, IfOk, OnOk, OnErr, IfSome};
 ghost use Rattle.std.specs.Option.{option_copied};
+ghost use Rattle.kit_base.specs.Limits.{most_nodes, deepest, heaviest_blank};
 ghost use Rattle.mint.specs.Blank.{blank, depth};
 ghost use Rattle.mint.specs.Measured.{size_of};
 ghost use Rattle.mint.specs.Sound.{IsSound, refusal};
@@ -56,7 +57,7 @@ impl Mint {
     /// The number of nodes.
     pub fn len(&self) -> usize
         ensures value { result ≡ length self.now }
-        ensures most { result ≤ 65536 }
+        ensures most { result ≤ most_nodes }
     {
         self.entries.len()
     }
@@ -85,8 +86,8 @@ impl Mint {
     pub(crate) fn size(&self, id: NodeId) -> Size
         requires { id < length self.now }
         ensures value { result ≡ size_of (type_at self.now id) }
-        ensures depth { result.depth ≤ 32 }
-        ensures weight { result.weight ≤ 1048576 }
+        ensures depth { result.depth ≤ deepest }
+        ensures weight { result.weight ≤ heaviest_blank }
     {
         self.entries[id as usize].size
     }

@@ -1,5 +1,5 @@
 -- The tokens of a tree, production by production.
-use Rattle.std.specs.Prelude.{◌≡◌, ◌≤◌, ◌∷◌, ◌++◌, length, ℕ, List, Option, codes}
+use Rattle.std.specs.Prelude.{◌⊎◌, ℕ, List, Option, codes}
 use Rattle.syntax_kit.specs.Grammar.{Text, word, mark, number, id, ◌&◌, maybe, when, each, some, joined, kinds}
 use Rattle.onc_syntax.specs.Words.{onc_words}
 use Rattle.onc_syntax.specs.declared.tree.Value.{Value}
@@ -26,8 +26,8 @@ use Rattle.onc_syntax.specs.declared.tree.Union.{Union as UnionDef}
 use Rattle.onc_syntax.specs.declared.tree.Def.{Def}
 use Rattle.onc_syntax.specs.declared.tree.Def.TheVariants as F
 use Rattle.idl_lex.specs.declared.kinds.Token.{Token}
-use Rattle.onc_syntax.specs.declared.parsing.SyntaxErr.{SyntaxErr}
-use Rattle.onc_syntax.specs.declared.parsing.SyntaxErr.TheVariants as E
+use Rattle.syntax_kit.specs.declared.errors.SyntaxErr.{SyntaxErr}
+use Rattle.syntax_kit.specs.Files.{FailsAt as file_fails_at, Explains as explains}
 
 -- an identifier: a name that is none of the words
 abbrev pub name : List ℕ → Text
@@ -148,18 +148,15 @@ file ds = each (λ d. def d & mark (codes ";")) ds
 abbrev pub Derives : List Def → List Token → Type 0
 Derives tree tokens = file tree (kinds tokens)
 
--- The line of the first token behind the longest front of the tokens that has a tree.
-pub record FailsAt (tokens : List Token) (line : ℕ) : Type 0 where
-  pub front : List Token
-  pub token : Token
-  pub rest : List Token
-  pub parts : tokens ≡ front ++ token ∷ rest
-  pub tree : List Def
-  pub derives : Derives tree front
-  pub longest : (other : List Def) (a b : List Token) → Derives other a → tokens ≡ a ++ b → length a ≤ length front
-  pub line_is : line ≡ token.line
+-- the line of the first token after the longest prefix of the tokens that has a tree
+abbrev pub FailsAt : List Token → ℕ → Type 0
+FailsAt tokens line = file_fails_at (λ d. def d & mark (codes ";")) tokens line
 
--- A fault that stands: no tree has the tokens, and the line is the one where they fail. Want of memory is free.
+-- why a file has no tree
 abbrev pub Explains : SyntaxErr → List Token → Type 0
-Explains (E.Syntax line) tokens = ((tree : List Def) → Derives tree tokens → ⊥) × FailsAt tokens line
-Explains E.NoMemory tokens = Unit {0}
+Explains fault tokens = explains (λ d. def d & mark (codes ";")) fault tokens
+
+-- all tokens have a tree, or have none and a line at which they fail
+abbrev pub TokensAreDecided : Type 0
+TokensAreDecided = (tokens : List Token)
+    → ((tree : List Def) × Derives tree tokens) ⊎ ((line : ℕ) × ((tree : List Def) → Derives tree tokens → ⊥) × FailsAt tokens line)

@@ -12,15 +12,9 @@ mod tree;
 mod types;
 mod unions;
 
-pub use parsing::{SyntaxErr, one_tree, parse};
+pub use parsing::{one_tree, parse, tokens_are_decided};
+pub use syntax_kit::SyntaxErr;
 pub use tree::{
     Arm, Case, Decl, Def, IntWord, Item, Items, Label, Member, Prefix, ProcType, Procedure, Tree,
     TypeName, Union, Value, Version,
 };
-
-#[cfg(test)]
-mod memory_tests;
-#[cfg(test)]
-mod printed;
-#[cfg(test)]
-mod tests;

@@ -1,36 +1,14 @@
 // The tree of a file.
 ghost use Rattle.std.specs.Prelude.{◌≡◌, IfOk, IfErr, List};
 ghost use Rattle.idl_lex.specs.declared.kinds.Token.{Token};
-ghost use Rattle.onc_syntax.specs.Derivation.{Derives, Explains};
-ghost use Rattle.onc_syntax.specs.declared.parsing.SyntaxErr.TheVariants.{NoMemory as WantOfMemory};
+ghost use Rattle.onc_syntax.specs.Derivation.{Derives, Explains, TokensAreDecided};
 ghost use Rattle.onc_syntax.specs.declared.tree.Def.{Def};
 
 use crate::Tree;
 use crate::definitions::ended;
 use idl_lex::Tokens;
-use kit_base::NoMemory;
 use std::alloc::Global;
-use syntax_kit::Halt;
-use thiserror::Error;
-
-/// Why there is no tree.
-#[derive(Clone, Copy, Debug, PartialEq, Eq, Error)]
-pub enum SyntaxErr {
-    /// No tree has these tokens; the line of the first token behind the longest front that has one.
-    #[error("Syntax")]
-    Syntax(u32),
-    /// No memory was there.
-    #[error("NoMemory")]
-    NoMemory,
-}
-
-impl From<NoMemory> for SyntaxErr {
-    ghost from_gives = { λ _ e. e ≡ WantOfMemory };
-
-    fn from(_: NoMemory) -> SyntaxErr {
-        SyntaxErr::NoMemory
-    }
-}
+use syntax_kit::{Halt, SyntaxErr};
 
 /// The tree that has these tokens.
 pub fn parse(alloc: Global, tokens: &Tokens) -> Result<Tree, SyntaxErr>
@@ -55,4 +33,9 @@ pub fn parse(alloc: Global, tokens: &Tokens) -> Result<Tree, SyntaxErr>
 /// Tokens derive from at most one tree.
 pub fn one_tree()
     ensures { (a b : List Def) (tokens : List Token) → Derives a tokens → Derives b tokens → a ≡ b }
+{}
+
+/// All tokens have a tree, or have none and a line at which they fail.
+pub fn tokens_are_decided()
+    ensures { TokensAreDecided }
 {}

@@ -10,13 +10,12 @@ use Rattle.mint.specs.Sound.{IsSound}
 use Rattle.wire_def.specs.Spells.{Spells}
 use Rattle.wire_def.specs.Stops.{Stops}
 use Rattle.wire_def.specs.Reading.{read}
-use Rattle.wire_def.specs.Laws.{ReadingIsGrammar, SpelledIsTyped, BodiesAreLight}
+use Rattle.wire_def.specs.Laws.{BeginsWith, ReadingIsGrammar, SpelledIsTyped, BodiesAreLight}
 use Rattle.wire_def.proofs.Grammars.{octets_before}
-use Rattle.plain_wire.specs.Answered.{FirstSpell}
 
 module _ (e : Encoding) (grammar : ReadingIsGrammar e) (t : Ty) (p : ℕ) (o : List ℕ) where
   -- the first octets are read as what they spell
-  reads : (v : Val) (used : ℕ) → FirstSpell e t p o v used → read e t p o ≡ got v (p + used) (drop used o)
+  reads : (v : Val) (used : ℕ) → BeginsWith e t p o v used → read e t p o ≡ got v (p + used) (drop used o)
   reads v used h =
       let long : length (take used o) ≡ used = omega (arith, length-take used o, h.there) in
       let whole : take used o ++ drop used o ≡ o = take-append-drop used o in
@@ -30,9 +29,9 @@ module _ (e : Encoding) (grammar : ReadingIsGrammar e) (t : Ty) (p : ℕ) (o : L
     no h = let f = (grammar t).stops p o k at h in cc
 
   -- where reading stopped nothing is spelled
-  pub stop_no_value : (k : FaultKind) (at : ℕ) → read e t p o ≡ stop k at → (v : Val) (used : ℕ) → ⊥ ↔ FirstSpell e t p o v used
+  pub stop_no_value : (k : FaultKind) (at : ℕ) → read e t p o ≡ stop k at → (v : Val) (used : ℕ) → ⊥ ↔ BeginsWith e t p o v used
   stop_no_value k at is v used = (λ h. absurd h, no) where
-    no : FirstSpell e t p o v used → ⊥
+    no : BeginsWith e t p o v used → ⊥
     no h = let f = reads v used h in cc
 
   -- where reading stopped there is this fault alone
@@ -46,12 +45,12 @@ module _ (e : Encoding) (grammar : ReadingIsGrammar e) (t : Ty) (p : ℕ) (o : L
 
   -- where a value was read it is spelled, and no other is
   pub value_is_value : SpelledIsTyped e → BodiesAreLight e → IsSound t → AreOctets o → p + length o ≤ 4194304 → (w : Val) (q : ℕ) (rest : List ℕ) → read e t p o ≡ got w q rest
-      → (v : Val) (used : ℕ) → ((w ≡ v) × (q - p ≡ used)) ↔ FirstSpell e t p o v used
+      → (v : Val) (used : ℕ) → ((w ≡ v) × (q - p ≡ used)) ↔ BeginsWith e t p o v used
   value_is_value typed light sound oct short w q rest is v used = (to, from) where
     here : (a : List ℕ) × (o ≡ a ++ rest) × (q ≡ p + length a) × Spells e t p a w
     here = (grammar t).spelled p o w q rest oct is
 
-    to : (w ≡ v) × (q - p ≡ used) → FirstSpell e t p o v used
+    to : (w ≡ v) × (q - p ≡ used) → BeginsWith e t p o v used
     to (same, many) =
         let a : List ℕ = here.0 in
         let long : length a ≡ used = omega (arith, here.2, many) in
@@ -66,7 +65,7 @@ module _ (e : Encoding) (grammar : ReadingIsGrammar e) (t : Ty) (p : ℕ) (o : L
           });
         }
 
-    from : FirstSpell e t p o v used → (w ≡ v) × (q - p ≡ used)
+    from : BeginsWith e t p o v used → (w ≡ v) × (q - p ≡ used)
     from h =
         let f = reads v used h in
         let past : q ≡ p + used = cc in

@@ -1,5 +1,5 @@
 -- The image of a row whose numbers are octets is these octets.
-use Rattle.std.proofs.Common.{◌≡◌, ℕ, ◌%◌, ◌<◌, ℤ, pos, negsuc, List, [], ◌∷◌, map, true, refl, ap, arith}
+use Rattle.std.proofs.Common.{◌≡◌, ◌%◌, ◌<◌, ℤ, pos, negsuc, List, [], ◌∷◌, map, true, refl, ap, arith}
 use Rattle.std.specs.List.{list_all}
 use Rattle.std.specs.Int.{w8}
 use Rattle.std.proofs.Math.Nat.{mod-eq_of_lt}

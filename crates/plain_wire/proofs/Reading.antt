@@ -1,23 +1,23 @@
 -- Values as they are read.
-use Rattle.std.proofs.Common.{◌≡◌, ℕ, ◌+◌, ◌-◌, ◌<◌, ◌≤◌, List, length, take, drop, nat_lt, cond, refl, arith, add-zero}
+use Rattle.std.proofs.Common.{◌≡◌, ℕ, ◌+◌, ◌-◌, ◌<◌, ◌≤◌, List, length, drop, cond, refl, arith}
 use Rattle.std.specs.Prelude.{if◌then◌else◌}
-use Rattle.std.specs.Int.{w32, w64, from_be_bytes}
 use Rattle.wire_def.specs.declared.encoding.Encoding.{Encoding}
 use Rattle.wire_def.specs.declared.encoding.Encoding.TheVariants.{Xdr, CdrBig, CdrLittle, Mach}
 use Rattle.wire_def.specs.Lone.{read_lone, read_pass}
 use Rattle.plain_wire.specs.Sending.{IsPlain}
 use Rattle.wire_def.specs.declared.fault.FaultKind.TheVariants.{Short, BadValue}
 use Rattle.std.proofs.Common.{ℤ, pos, negsuc, Option, Some, None, Bool, map, int_eq, is_some, zero, suc, add-one, sub-one, sym, ap, append_assoc, [], ◌∷◌, ◌++◌, true, false}
+use Rattle.std.proofs.lemmas.Int.{to_z-of_z}
 use Rattle.std.proofs.lemmas.List.{append-nil}
 use Rattle.wire_def.specs.declared.fault.FaultKind.{FaultKind}
 use Rattle.mint.specs.declared.kind.Kind.{Kind}
 use Rattle.mint.specs.declared.kind.Kind.TheVariants as kind
 use Rattle.mint.specs.declared.kind.Count.{Count}
-use Rattle.mint.specs.declared.value.Value.{Value, Arm, Opt, the_lemmas}
+use Rattle.mint.specs.declared.value.Value.{Value, Arm, the_lemmas}
 use Rattle.std.proofs.Common.{rules, Box, Global, get_or}
 use Rattle.std.proofs.Math.Seq.{drop-cons}
 use Rattle.std.proofs.lemmas.List.{drop_all}
-use Rattle.mint.specs.Values.{Val, Vals, no_more, val, arm, present, seen, all_seen}
+use Rattle.mint.specs.Values.{Val, Vals, no_more, val, arm, present, seen}
 use Rattle.mint.specs.Types.{row_of, number, Scalar, Ty, Tys, field, at, fields_at, arms_at, choice_type, maybe_type}
 use Rattle.mint.specs.Arms.{arm_found}
 use Rattle.mint.specs.Typed.{has_arm}
@@ -26,8 +26,8 @@ use Rattle.wire_def.specs.Send.{flag}
 use Rattle.mint.proofs.Arms.{arm_below}
 use Rattle.wire_def.specs.Reading.{read, read_fields, read_arm}
 use Rattle.wire_def.specs.Arrays.{read_element, read_octet, read_zeros}
-use Rattle.wire_def.specs.Grammar.{Reader, Reading, got, stop, map_got, times, tested}
-use Rattle.plain_wire.specs.Readers.{any_octet}
+use Rattle.wire_def.specs.Grammar.{Reader, Reading, got, stop, then_on, map_got, times, tested}
+use Rattle.plain_wire.specs.Readers.{any_octet, lists}
 use Rattle.wire_def.specs.Scalars.{read_scalar, scalar_place}
 
 -- what was read before, and what is still read
@@ -145,18 +145,40 @@ pass_read CdrBig s test p o h = refl
 pass_read CdrLittle s test p o h = refl
 pass_read Mach s test p o h = absurd h
 
-module _ (e : Encoding) (plain : IsPlain e) (s : Scalar) (us : List Ty) (arms : List (ℤ × ℕ)) (other : Option ℕ) (p : ℕ) (o : List ℕ) (n : ℤ) (q : ℕ) (rest : List ℕ) (tag : read_lone e s p o ≡ got n q rest) where
-  pub choice_got : (i : ℕ) (v : Val) (m : ℕ) (b : List ℕ) → arm_found arms other n ≡ Some i → read e (at us i) q rest ≡ got v m b → read e (choice_type s (arms_at us arms other)) p o ≡ got (arm n v) m b
-  unfolding read
-  choice_got i v m b found is = rw (pass_read e s (has_arm (arms_at us arms other)) p o plain, tag, arm_is_there us arms other n (Some i) found, arm_read e us arms other n i q rest found, is) refl
+module _ (e : Encoding) (plain : IsPlain e) (s : Scalar) (arms : List (ℤ × ℕ)) (other : Option ℕ) (p : ℕ) (o : List ℕ) where
+  -- a number with an arm, without one, or none
+  pub tag_got : (n : ℤ) (q : ℕ) (rest : List ℕ) (i : ℕ) → read_lone e s p o ≡ got n q rest → arm_found arms other n ≡ Some i → read_pass e s (lists arms other) BadValue p o ≡ got n q rest
+  tag_got n q rest i tag found = rw (pass_read e s (lists arms other) p o plain, tag, found) refl
 
-  pub choice_stop : (i : ℕ) (k : FaultKind) (place : ℕ) → arm_found arms other n ≡ Some i → read e (at us i) q rest ≡ stop k place → read e (choice_type s (arms_at us arms other)) p o ≡ stop k place
-  unfolding read
-  choice_stop i k place found is = rw (pass_read e s (has_arm (arms_at us arms other)) p o plain, tag, arm_is_there us arms other n (Some i) found, arm_read e us arms other n i q rest found, is) refl
+  pub tag_none : (n : ℤ) (q : ℕ) (rest : List ℕ) → read_lone e s p o ≡ got n q rest → arm_found arms other n ≡ None → read_pass e s (lists arms other) BadValue p o ≡ stop BadValue (scalar_place e s p)
+  tag_none n q rest tag found = rw (pass_read e s (lists arms other) p o plain, tag, found) refl
 
-  pub choice_none : arm_found arms other n ≡ None → read e (choice_type s (arms_at us arms other)) p o ≡ stop BadValue (scalar_place e s p)
+  pub tag_stop : (k : FaultKind) (place : ℕ) → read_lone e s p o ≡ stop k place → read_pass e s (lists arms other) BadValue p o ≡ stop k place
+  tag_stop k place tag = rw (pass_read e s (lists arms other) p o plain, tag) refl
+
+pub ruleset tags = (to_z-of_z, tag_got, tag_none, tag_stop)
+
+module _ (e : Encoding) (plain : IsPlain e) (s : Scalar) (us : List Ty) (arms : List (ℤ × ℕ)) (other : Option ℕ) (p : ℕ) (o : List ℕ) where
+  -- the same tag, whether its arms are types or nodes
+  same_tag : read_pass e s (has_arm (arms_at us arms other)) BadValue p o ≡ read_pass e s (lists arms other) BadValue p o
+  same_tag = rw (pass_read e s (has_arm (arms_at us arms other)) p o plain, pass_read e s (lists arms other) p o plain) (same (read_lone e s p o)) where
+    same : (r : Reading FaultKind ℤ)
+        → then_on r (λ n q rest. if has_arm (arms_at us arms other) n then got n q rest else stop BadValue (scalar_place e s p)) ≡ then_on r (λ n q rest. if lists arms other n then got n q rest else stop BadValue (scalar_place e s p))
+    same (got n q rest) = rw (arm_is_there us arms other n (arm_found arms other n) refl) refl
+    same (stop k at) = refl
+
+  module _ (n : ℤ) (q : ℕ) (rest : List ℕ) (i : ℕ) (found : arm_found arms other n ≡ Some i) (tag : read_pass e s (lists arms other) BadValue p o ≡ got n q rest) where
+    pub choice_got : (v : Val) (m : ℕ) (b : List ℕ) → read e (at us i) q rest ≡ got v m b → read e (choice_type s (arms_at us arms other)) p o ≡ got (arm n v) m b
+    unfolding read
+    choice_got v m b is = rw (same_tag, tag, arm_read e us arms other n i q rest found, is) refl
+
+    pub choice_stop : (k : FaultKind) (place : ℕ) → read e (at us i) q rest ≡ stop k place → read e (choice_type s (arms_at us arms other)) p o ≡ stop k place
+    unfolding read
+    choice_stop k place is = rw (same_tag, tag, arm_read e us arms other n i q rest found, is) refl
+
+  pub choice_none : (k : FaultKind) (place : ℕ) → read_pass e s (lists arms other) BadValue p o ≡ stop k place → read e (choice_type s (arms_at us arms other)) p o ≡ stop k place
   unfolding read
-  choice_none found = rw (pass_read e s (has_arm (arms_at us arms other)) p o plain, tag, arm_is_there us arms other n None found) refl
+  choice_none k place is = rw (same_tag, is) refl
 
 pub maybe_got : (e : Encoding) (t : Ty) (p : ℕ) (o : List ℕ) (n : ℤ) (q : ℕ) (rest : List ℕ) (v : Val) (m : ℕ) (b : List ℕ) → read_lone e flag p o ≡ got n q rest → (n ≡ pos 0 → ⊥) → read e t q rest ≡ got v m b → read e (maybe_type t) p o ≡ got (present v) m b
 unfolding read

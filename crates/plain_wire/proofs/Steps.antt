@@ -7,7 +7,7 @@ use Rattle.std.specs.List.{list_all, slice_get}
 use Rattle.std.proofs.lemmas.List.{append-nil, drop_all}
 use Rattle.std.proofs.Math.Seq.{drop-cons}
 use Rattle.std.proofs.lemmas.Int.{to_z-of_z}
-use Rattle.std.specs.Int.{Width, w32, w64, byte_len}
+use Rattle.std.specs.Int.{Width}
 use Rattle.mint.specs.declared.kind.Kind.{Kind}
 use Rattle.mint.specs.declared.kind.Kind.TheVariants as kind
 use Rattle.mint.specs.declared.kind.Count.{Count}
@@ -75,12 +75,12 @@ unfolding scalar_octets
 ended_wraps e p n few many =
     let is : n ≡ 4294967295 = omega arith in
     rw is (wraps e) where
-  wraps : (e : Encoding) → replicate (gap p (alignment_of e counted)) 0 ++ number_octets e (width_of e counted) (residue (width_of e counted) (pos 0))
-      ≡ replicate (gap p (alignment_of e counted)) 0 ++ number_octets e (width_of e counted) (residue (width_of e counted) (pos (suc 4294967295)))
-  wraps Xdr = refl
-  wraps CdrBig = refl
-  wraps CdrLittle = refl
-  wraps Mach = refl
+      wraps : (e : Encoding) → replicate (gap p (alignment_of e counted)) 0 ++ number_octets e (width_of e counted) (residue (width_of e counted) (pos 0))
+          ≡ replicate (gap p (alignment_of e counted)) 0 ++ number_octets e (width_of e counted) (residue (width_of e counted) (pos (suc 4294967295)))
+      wraps Xdr = refl
+      wraps CdrBig = refl
+      wraps CdrLittle = refl
+      wraps Mach = refl
 
 pub ruleset counts = (to_z-of_z, count_exactly, count_other, append-nil, ended_wraps)
 

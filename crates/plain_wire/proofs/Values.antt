@@ -5,7 +5,7 @@ use Rattle.std.specs.List.{AllByRecursion}
 use Rattle.std.proofs.Math.Seq.{drop-cons}
 use Rattle.mint.specs.declared.kind.Kind.{Kind}
 use Rattle.mint.specs.declared.kind.Count.{Count}
-use Rattle.mint.specs.Values.{Val, void, num, row, group, items, arm, absent, present, row_in, seen, all_seen, count}
+use Rattle.mint.specs.Values.{Val, void, num, row, group, items, arm, absent, present, row_in, seen, all_seen}
 use Rattle.mint.specs.Types.{Ty, at, fields_at, array_type, row_of}
 use Rattle.mint.specs.Typed.{IsOf, IsArray, AreOf}
 use Rattle.std.proofs.lemmas.List.{drop_all}

@@ -1,8 +1,8 @@
 -- Numbers, counts and lengths as they are read.
-use Rattle.std.proofs.Common.{◌≡◌, ◌⊎◌, inl, inr, ℕ, zero, suc, ◌+◌, ◌-◌, ◌<◌, ◌≤◌, ℤ, pos, negsuc, List, length, take, drop, Bool, true, false, nat_lt, cond, ltb, refl, sym, ap, arith, zero-add, add-zero, add_assoc}
+use Rattle.std.proofs.Common.{◌≡◌, ◌⊎◌, inl, inr, ℕ, zero, suc, ◌+◌, ◌-◌, ℤ, pos, List, length, take, drop, Bool, true, false, nat_lt, cond, ltb, refl, sym, ap, arith, zero-add, add-zero, add_assoc}
 use Rattle.std.specs.Prelude.{if◌then◌else◌}
 use Rattle.std.specs.Int.{Width, w32, byte_len}
-use Rattle.std.proofs.lemmas.Bool.{ltb-false, ltb-true, le-ltb, lt-ltb, cases_lt}
+use Rattle.std.proofs.lemmas.Bool.{le-ltb, lt-ltb, cases_lt}
 use Rattle.std.proofs.lemmas.List.{length-drop}
 use Rattle.std.proofs.lemmas.Int.{to_z-of_z}
 use Rattle.mint.specs.declared.kind.Kind.{Kind}
@@ -14,12 +14,12 @@ use Rattle.wire_def.specs.declared.encoding.Encoding.{Encoding}
 use Rattle.wire_def.specs.declared.encoding.Encoding.TheVariants.{Xdr, CdrBig, CdrLittle, Mach}
 use Rattle.wire_def.specs.declared.fault.FaultKind.{FaultKind}
 use Rattle.wire_def.specs.declared.fault.FaultKind.TheVariants.{Short, BadValue}
-use Rattle.wire_def.specs.Grammar.{Reading, got, stop, then_on, map_got, tested}
+use Rattle.wire_def.specs.Grammar.{Reading, got, stop, then_on, map_got}
 use Rattle.wire_def.specs.Scalars.{gap, alignment_of, is_signed, width_of, octets_number, number_of, read_word, read_scalar, scalar_place}
-use Rattle.wire_def.specs.Lone.{read_lone, lone_place}
-use Rattle.wire_def.specs.Arrays.{natural, counted, is_some, less_one, read_count, read_ended, read_head, read_zeros, read_tail, trailing, ill_ended}
+use Rattle.wire_def.specs.Lone.{read_lone}
+use Rattle.wire_def.specs.Arrays.{is_some, less_one, read_count, read_ended, read_head, read_zeros, read_tail, trailing, ill_ended}
 use Rattle.plain_wire.specs.Sending.{IsPlain}
-use Rattle.plain_wire.specs.Readers.{read_gap, read_bits, read_here, read_counted}
+use Rattle.plain_wire.specs.Readers.{read_gap, read_here}
 
 pub word_here : (e : Encoding) (w : Width) (p : ℕ) (o : List ℕ) → read_word e 1 w p o ≡ (if nat_lt (length o) (byte_len w) then stop Short p else got (octets_number e w (take (byte_len w) o)) (p + byte_len w) (drop (byte_len w) o))
 unfolding read_word
@@ -33,19 +33,19 @@ pub ruleset words = (word_here)
 word_behind : (e : Encoding) (a : ℕ) (w : Width) (p : ℕ) (o : List ℕ) → read_word e a w p o ≡ then_on (read_gap (gap p a) p o) (λ x q b. read_word e 1 w q b)
 unfolding read_word read_gap
 word_behind e a w p o = elim (cases_lt (length o) (gap p a)) [
-    | inl lt ↦
-        let short : ltb (length o) (gap p a + byte_len w) ≡ true = lt-ltb _ _ (omega arith) in
-        rw (short, lt-ltb _ _ lt) refl
-    | inr le ↦
-        let none : gap (p + gap p a) 1 ≡ 0 = omega arith in
-        let there : ltb (length o) (gap p a) ≡ false = le-ltb _ _ le in
-        let long : length (drop (gap p a) o) ≡ length o - gap p a = length-drop (gap p a) o in
-        let same : ltb (length (drop (gap p a) o)) (byte_len w) ≡ ltb (length o) (gap p a + byte_len w) = elim (cases_lt (length o) (gap p a + byte_len w)) [
-          | inl few ↦ rw (lt-ltb _ _ few) (lt-ltb _ _ (omega arith))
-          | inr many ↦ rw (le-ltb _ _ many) (le-ltb _ _ (omega arith))
-        ] in
-        rw (there, none, zero-add, add-zero, same, add_assoc) refl
-  ]
+  | inl lt ↦
+      let short : ltb (length o) (gap p a + byte_len w) ≡ true = lt-ltb _ _ (omega arith) in
+      rw (short, lt-ltb _ _ lt) refl
+  | inr le ↦
+      let none : gap (p + gap p a) 1 ≡ 0 = omega arith in
+      let there : ltb (length o) (gap p a) ≡ false = le-ltb _ _ le in
+      let long : length (drop (gap p a) o) ≡ length o - gap p a = length-drop (gap p a) o in
+      let same : ltb (length (drop (gap p a) o)) (byte_len w) ≡ ltb (length o) (gap p a + byte_len w) = elim (cases_lt (length o) (gap p a + byte_len w)) [
+        | inl few ↦ rw (lt-ltb _ _ few) (lt-ltb _ _ (omega arith))
+        | inr many ↦ rw (le-ltb _ _ many) (le-ltb _ _ (omega arith))
+      ] in
+      rw (there, none, zero-add, add-zero, same, add_assoc) refl
+]
 
 gap_got : (n p : ℕ) (o : List ℕ) (x : Unit {0}) (q : ℕ) (b : List ℕ) → read_gap n p o ≡ got x q b → q ≡ p + n
 unfolding read_gap

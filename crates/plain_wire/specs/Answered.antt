@@ -1,10 +1,8 @@
 -- What reading a message answers.
-use Rattle.std.specs.Prelude.{◌≡◌, ℕ, ◌≤◌, List, length, take}
-use Rattle.mint.specs.Types.{Ty}
+use Rattle.std.specs.Prelude.{◌≡◌, ℕ}
 use Rattle.mint.specs.Values.{Val, seen}
-use Rattle.wire_def.specs.declared.encoding.Encoding.{Encoding}
 use Rattle.wire_def.specs.declared.fault.FaultKind.{FaultKind}
-use Rattle.wire_def.specs.Spells.{IsSpelling}
+pub use Rattle.wire_def.specs.Laws.{BeginsWith as FirstSpell}
 use Rattle.plain_wire.specs.declared.read.Read.{Read}
 use Rattle.plain_wire.specs.declared.read.Read.TheVariants.{Value, Stop}
 
@@ -17,8 +15,3 @@ IsValue (Stop f) v used = ⊥
 abbrev pub IsStop : Read → FaultKind → ℕ → Type 0
 IsStop (Value w n) k at = ⊥
 IsStop (Stop f) k at = (f.kind ≡ k) × (f.at ≡ at)
-
--- the first octets, so many, spell the value from the position
-pub record FirstSpell (e : Encoding) (t : Ty) (p : ℕ) (o : List ℕ) (v : Val) (used : ℕ) : Type 0 where
-  pub there : used ≤ length o
-  pub spelled : IsSpelling e t p (take used o) v

@@ -1,5 +1,5 @@
 -- What a reader has given.
-use Rattle.std.specs.Prelude.{◌≡◌, ℕ, ◌+◌, ℤ, nat_lt, Bool, true, map, drop, length, List, Result, Ok, Err, if◌then◌else◌}
+use Rattle.std.specs.Prelude.{◌≡◌, ℕ, ◌+◌, ℤ, nat_lt, Bool, true, map, drop, length, List, Option, is_some, Result, Ok, Err, if◌then◌else◌}
 use Rattle.std.specs.Int.{Width}
 use Rattle.mint.specs.declared.kind.Kind.{Kind}
 use Rattle.mint.specs.declared.kind.Count.{Count}
@@ -7,8 +7,10 @@ use Rattle.mint.specs.declared.value.Value.{Value}
 use Rattle.mint.specs.Row.{Numbers}
 use Rattle.mint.specs.Types.{Scalar, row_of, text}
 use Rattle.mint.specs.Typed.{is_scalar}
+use Rattle.mint.specs.Arms.{arm_found}
 use Rattle.mint.specs.Values.{Val, seen}
 use Rattle.wire_def.specs.declared.encoding.Encoding.{Encoding}
+use Rattle.wire_def.specs.declared.fault.Fault.{Fault}
 use Rattle.wire_def.specs.declared.fault.FaultKind.{FaultKind}
 use Rattle.wire_def.specs.declared.fault.FaultKind.TheVariants.{Short, BadText, BadValue}
 use Rattle.wire_def.specs.Grammar.{Reading, got, stop, Reader, map_got, both, times, tested}
@@ -24,6 +26,11 @@ abbrev pub Gives : {X A : Type 0} → (X → A) → Result (X × Cursor) ReadErr
 Gives view (Ok x) reading = reading ≡ got (view x.0) x.1.place x.1.rest.now
 Gives view (Err errors.NoMemory) reading = Unit {0}
 Gives view (Err (errors.Stop f)) reading = reading ≡ stop f.kind f.at
+
+-- what was given by what takes no memory, seen by view, is what reading gives
+abbrev pub Reads : {X A : Type 0} → (X → A) → Result (X × Cursor) Fault → Reading FaultKind A → Type 0
+Reads view (Ok x) reading = reading ≡ got (view x.0) x.1.place x.1.rest.now
+Reads view (Err f) reading = reading ≡ stop f.kind f.at
 
 -- the views of a count, of a number, of nothing, of a row and of values
 
@@ -41,6 +48,14 @@ numbers_in r = r.numbers
 
 abbrev pub all_values : List Value → List Val
 all_values vs = map seen vs
+
+-- the number of a discriminant that is given with its arm
+abbrev pub number_of_tag : ℤ × ℕ → ℤ
+number_of_tag x = x.0
+
+-- whether a number has one of these arms
+abbrev pub lists : List (ℤ × ℕ) → Option ℕ → ℤ → Bool
+lists arms other n = is_some (arm_found arms other n)
 
 -- so many octets, passed over, up to where a number begins
 unfoldable pub read_gap : ℕ → Reader FaultKind (Unit {0})

@@ -1,6 +1,7 @@
 -- What a call that appends octets has done.
 use Rattle.std.specs.Prelude.{◌≡◌, ℕ, ℤ, ◌+◌, ◌≤◌, List, ◌++◌, length, replicate, Result, Ok, Err}
 use Rattle.kit_base.specs.declared.errors.NoMemory.{NoMemory}
+use Rattle.kit_base.specs.Limits.{longest_message}
 use Rattle.mint.specs.Types.{Scalar, Array}
 use Rattle.wire_def.specs.declared.encoding.Encoding.{Encoding}
 pub use Rattle.wire_def.specs.Lone.{IsPlain}
@@ -15,7 +16,7 @@ Appends old new p o (Err _) = (rest : List ℕ) × (old ++ o ≡ new ++ rest) ×
 
 -- a position that lies hardly behind the octets, so that no position overflows
 abbrev pub IsNear : ℕ → List ℕ → Type 0
-IsNear p old = p ≤ 4194304 + length old
+IsNear p old = p ≤ longest_message + length old
 
 -- a prefix of the octets was appended
 abbrev pub IsPrefixed : List ℕ → List ℕ → List ℕ → Type 0

@@ -1,5 +1,5 @@
 -- How many octets a number has.
-use Rattle.std.specs.Prelude.{ℕ, ◌<◌, ℤ, pos, negsuc}
+use Rattle.std.specs.Prelude.{◌<◌, ℤ, pos, negsuc}
 use Rattle.std.specs.Int.{Width, w8, w16, w32, w64}
 use Rattle.wire_def.specs.Scalars.{full, half}
 use Rattle.plain_wire.specs.declared.widths.Size.{Size}

@@ -1,6 +1,7 @@
 //! Where reading is, and why it ends.
 
 ghost use Rattle.std.specs.Prelude.{◌≡◌, ◌≤◌, ◌+◌, length};
+ghost use Rattle.kit_base.specs.Limits.{longest_message};
 
 use kit_base::NoMemory;
 use wire_def::{Fault, FaultKind};
@@ -10,7 +11,7 @@ use wire_def::{Fault, FaultKind};
 pub(crate) struct Cursor<'a> {
     pub(crate) place: usize,
     pub(crate) rest: &'a [u8],
-    ghost within: { place + length rest.now ≤ 4194304 },
+    ghost within: { place + length rest.now ≤ longest_message },
 }
 
 /// Why nothing was read.
@@ -31,9 +32,20 @@ impl From<NoMemory> for ReadError {
     }
 }
 
+impl From<Fault> for ReadError {
+    ghost use Rattle.std.specs.Prelude.{◌≡◌};
+    ghost use Rattle.plain_wire.specs.declared.cursor.ReadError.TheVariants as errors;
+
+    ghost from_gives = { λ fault e. e ≡ errors.Stop fault };
+
+    fn from(fault: Fault) -> ReadError {
+        ReadError::Stop(fault)
+    }
+}
+
 /// A fault at a place.
-pub(crate) fn stop(kind: FaultKind, at: usize) -> ReadError
-    ensures { result ≡ ReadError.Stop (record { kind = kind; at = at }) }
+pub(crate) fn stop(kind: FaultKind, at: usize) -> Fault
+    ensures { result ≡ record { kind = kind; at = at } }
 {
-    ReadError::Stop(Fault { kind, at })
+    Fault { kind, at }
 }

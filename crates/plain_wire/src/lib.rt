@@ -15,6 +15,3 @@ mod widths;
 
 pub use read::{Read, plain_read};
 pub use send::plain_send;
-
-#[cfg(test)]
-mod tests;

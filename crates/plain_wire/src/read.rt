@@ -1,15 +1,20 @@
 //! Values of a node's type from octets.
 
-ghost use Rattle.std.specs.Prelude.{IfOk, ◌≡◌, ◌≤◌, ◌<◌, ◌↔◌, ℕ, length, drop};
+ghost use Rattle.std.specs.Prelude.{IfOk, ◌≡◌, ◌≤◌, ◌<◌, ◌↔◌, ℕ, length, drop, Some};
+ghost use Rattle.kit_base.specs.Limits.{longest_message};
+ghost use Rattle.mint.specs.Arms.{arm_found};
 ghost use Rattle.mint.specs.Values.{Val, seen, all_seen};
 ghost use Rattle.mint.specs.Types.{type_at, unfolded, fields_at, arms_at, scalar_of, items_type, choice_type, maybe_type, AreBelow, ArmsBelow, IsBelow};
 ghost use Rattle.wire_def.specs.Grammar.{AreOctets, times};
+ghost use Rattle.wire_def.specs.Lone.{read_pass};
+ghost use Rattle.wire_def.specs.Laws.{BeginsWith};
 ghost use Rattle.wire_def.specs.Stops.{Stops};
 ghost use Rattle.wire_def.specs.Reading.{read, read_fields};
 ghost use Rattle.wire_def.specs.declared.fault.FaultKind.{FaultKind};
+ghost use Rattle.wire_def.specs.declared.fault.FaultKind.TheVariants.{BadValue};
 ghost use Rattle.plain_wire.specs.Sending.{IsPlain};
-ghost use Rattle.plain_wire.specs.Readers.{Gives, all_values};
-ghost use Rattle.plain_wire.specs.Answered.{IsValue, IsStop, FirstSpell};
+ghost use Rattle.plain_wire.specs.Readers.{Gives, Reads, all_values, number_of_tag, lists};
+ghost use Rattle.plain_wire.specs.Answered.{IsValue, IsStop};
 
 use crate::cursor::{Cursor, ReadError, stop};
 use crate::read_array::{row, text};
@@ -44,8 +49,8 @@ pub fn plain_read(
     requires plain { IsPlain enc }
     requires id { id < length mint.now }
     requires within { pos ≤ length message.now }
-    requires short { length message.now ≤ 4194304 }
-    ensures value { IfOk result (λ r. (v : Val) (used : ℕ) → IsValue r v used ↔ FirstSpell enc (type_at mint.now id) pos (drop pos message.now) v used) }
+    requires short { length message.now ≤ longest_message }
+    ensures value { IfOk result (λ r. (v : Val) (used : ℕ) → IsValue r v used ↔ BeginsWith enc (type_at mint.now id) pos (drop pos message.now) v used) }
     ensures stop { IfOk result (λ r. (k : FaultKind) (at : ℕ) → IsStop r k at ↔ Stops enc (type_at mint.now id) pos (drop pos message.now) k at) }
 {
     reading_is_a_grammar();
@@ -206,12 +211,27 @@ fn choice<'a>(
     requires other { IsBelow id other }
     ensures { Gives seen result (read enc (choice_type (scalar_of tag.now) (arms_at (unfolded mint.now) arms.now other)) at.entry.place at.entry.rest.now) }
 {
+    let ((n, item), next) = tag_with_arm(enc, tag, arms, other, at)?;
+    let (inner, last) = value(alloc, enc, mint, item, next)?;
+    Ok((Value::Arm(n, boxed(alloc, inner)?), last))
+}
+
+/// A discriminant's number, and the node of its arm.
+#[tactic(auto, using(crate::proofs::Reading::tags))]
+fn tag_with_arm<'a>(
+    enc: Encoding,
+    tag: &Tag,
+    arms: &Arms,
+    other: Option<u32>,
+    at: Cursor<'a>,
+) -> Result<((i128, u32), Cursor<'a>), Fault>
+    requires { IsPlain enc }
+    ensures arm { IfOk result (λ x. arm_found arms.now other x.0.0 ≡ Some x.0.1) }
+    ensures read { Reads number_of_tag result (read_pass enc (scalar_of tag.now) (lists arms.now other) BadValue at.entry.place at.entry.rest.now) }
+{
     let (n, next) = scalar(enc, tag, at)?;
     match arm_of(arms, other, &n) {
-        Some(item) => {
-            let (inner, last) = value(alloc, enc, mint, item, next)?;
-            Ok((Value::Arm(n, boxed(alloc, inner)?), last))
-        }
+        Some(item) => Ok(((n, item), next)),
         None => Err(stop(FaultKind::BadValue, scalar_at(enc, tag, at.place))),
     }
 }

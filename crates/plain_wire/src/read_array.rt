@@ -9,7 +9,7 @@ ghost use Rattle.wire_def.specs.Grammar.{times};
 ghost use Rattle.wire_def.specs.Scalars.{read_scalar};
 ghost use Rattle.wire_def.specs.Arrays.{read_zeros, read_element, read_array, read_tail};
 ghost use Rattle.plain_wire.specs.Sending.{IsPlain};
-ghost use Rattle.plain_wire.specs.Readers.{any_octet, any_letter, letters_read, elements_read, nothing, numbers_in, Gives};
+ghost use Rattle.plain_wire.specs.Readers.{any_octet, any_letter, letters_read, elements_read, nothing, numbers_in, Gives, Reads};
 
 use crate::cursor::{Cursor, ReadError, stop};
 use crate::read_scalar::{number, row_head, text_head};
@@ -18,12 +18,12 @@ use kit_base::NoMemory;
 use mint::kind::{Count, Kind};
 use mint::row::Row;
 use std::alloc::Global;
-use wire_def::{Encoding, FaultKind};
+use wire_def::{Encoding, Fault, FaultKind};
 
 /// So many octets.
 #[tactic(auto, using(crate::proofs::Blocks::blocks))]
-fn octets(n: usize, at: Cursor<'_>) -> Result<(&[u8], Cursor<'_>), ReadError>
-    ensures { Gives (λ o. map pos o.now) result (times any_octet n at.entry.place at.entry.rest.now) }
+fn octets(n: usize, at: Cursor<'_>) -> Result<(&[u8], Cursor<'_>), Fault>
+    ensures { Reads (λ o. map pos o.now) result (times any_octet n at.entry.place at.entry.rest.now) }
 {
     if at.rest.len() < n {
         return Err(stop(FaultKind::Short, at.place + at.rest.len()));
@@ -53,8 +53,8 @@ fn zero_in(octets: &[u8]) -> Option<usize>
 
 /// So many octets of a text.
 #[tactic(auto, using(crate::proofs::Blocks::blocks))]
-fn letters(n: usize, at: Cursor<'_>) -> Result<(&[u8], Cursor<'_>), ReadError>
-    ensures { Gives (λ o. map pos o.now) result (times any_letter n at.entry.place at.entry.rest.now) }
+fn letters(n: usize, at: Cursor<'_>) -> Result<(&[u8], Cursor<'_>), Fault>
+    ensures { Reads (λ o. map pos o.now) result (times any_letter n at.entry.place at.entry.rest.now) }
 {
     if let Some(i) = zero_in(first(n, at.rest)) {
         return Err(stop(FaultKind::BadText, at.place + i));
@@ -75,8 +75,8 @@ fn row_of_octets(alloc: Global, kind: Kind, octets: &[u8]) -> Result<Row, NoMemo
 
 /// An octet.
 #[tactic(auto, unfolding(wire_def::specs::Arrays::read_octet))]
-fn octet(at: Cursor<'_>) -> Result<(u8, Cursor<'_>), ReadError>
-    ensures { Gives (λ o. pos o) result (any_octet at.entry.place at.entry.rest.now) }
+fn octet(at: Cursor<'_>) -> Result<(u8, Cursor<'_>), Fault>
+    ensures { Reads (λ o. pos o) result (any_octet at.entry.place at.entry.rest.now) }
 {
     match at.rest {
         [] => Err(stop(FaultKind::Short, at.place)),
@@ -89,8 +89,8 @@ fn octet(at: Cursor<'_>) -> Result<(u8, Cursor<'_>), ReadError>
 
 /// So many zeros.
 #[tactic(auto, using(crate::proofs::Reading::pads))]
-fn zeros(n: usize, fault: FaultKind, at: Cursor<'_>) -> Result<((), Cursor<'_>), ReadError>
-    ensures { Gives nothing result (read_zeros n fault at.entry.place at.entry.rest.now) }
+fn zeros(n: usize, fault: FaultKind, at: Cursor<'_>) -> Result<((), Cursor<'_>), Fault>
+    ensures { Reads nothing result (read_zeros n fault at.entry.place at.entry.rest.now) }
 {
     if n == 0 {
         return Ok(((), at));
@@ -153,9 +153,9 @@ fn behind_elements(
     bound: Count,
     n: usize,
     at: Cursor<'_>,
-) -> Result<((), Cursor<'_>), ReadError>
+) -> Result<((), Cursor<'_>), Fault>
     requires { IsPlain enc }
-    ensures { Gives nothing result (read_tail enc (row_of kind bound) n at.entry.place at.entry.rest.now) }
+    ensures { Reads nothing result (read_tail enc (row_of kind bound) n at.entry.place at.entry.rest.now) }
 {
     zeros(behind_row(enc, kind, n), fault_behind(enc), at)
 }
@@ -167,9 +167,9 @@ fn behind_letters(
     bound: Count,
     n: usize,
     at: Cursor<'_>,
-) -> Result<((), Cursor<'_>), ReadError>
+) -> Result<((), Cursor<'_>), Fault>
     requires { IsPlain enc }
-    ensures { Gives nothing result (read_tail enc (text bound) n at.entry.place at.entry.rest.now) }
+    ensures { Reads nothing result (read_tail enc (text bound) n at.entry.place at.entry.rest.now) }
 {
     zeros(behind_text(enc, n), fault_behind(enc), at)
 }

@@ -2,6 +2,7 @@
 
 ghost use Rattle.std.specs.Prelude.{◌≡◌, ◌<◌, ◌≤◌, IfOk};
 ghost use Rattle.std.specs.Int.{w8, w16, w32, w64};
+ghost use Rattle.kit_base.specs.Limits.{longest_message};
 ghost use Rattle.mint.specs.Kinds.{IsInRange};
 ghost use Rattle.mint.specs.Types.{number, label, scalar_of, text, row_of};
 ghost use Rattle.wire_def.specs.Scalars.{number_of, read_word, read_scalar, scalar_place};
@@ -10,20 +11,20 @@ ghost use Rattle.wire_def.specs.Arrays.{read_count, read_ended, read_head};
 ghost use Rattle.wire_def.specs.Described.{allowed};
 ghost use Rattle.plain_wire.specs.Sending.{IsPlain};
 ghost use Rattle.plain_wire.specs.Widths.{width_in};
-ghost use Rattle.plain_wire.specs.Readers.{Gives, same, itself, nothing, read_gap, read_bits, read_here, read_counted};
+ghost use Rattle.plain_wire.specs.Readers.{Reads, same, itself, nothing, read_gap, read_bits, read_here, read_counted};
 
-use crate::cursor::{Cursor, ReadError, stop};
+use crate::cursor::{Cursor, stop};
 use crate::widths::{Size, gap_of, has_sign, size_of};
 use mint::fits::has_label;
 use mint::kind::{Count, Kind};
 use mint::node::{Labels, Tag};
-use wire_def::{Encoding, FaultKind};
+use wire_def::{Encoding, Fault, FaultKind};
 
 /// The octets up to where a number begins.
 #[tactic(auto, unfolding(crate::specs::Readers::read_gap))]
-fn skip(n: usize, at: Cursor<'_>) -> Result<((), Cursor<'_>), ReadError>
+fn skip(n: usize, at: Cursor<'_>) -> Result<((), Cursor<'_>), Fault>
     requires { n < 8 }
-    ensures { Gives nothing result (read_gap n at.entry.place at.entry.rest.now) }
+    ensures { Reads nothing result (read_gap n at.entry.place at.entry.rest.now) }
 {
     if at.rest.len() < n {
         return Err(stop(FaultKind::Short, at.place + n));
@@ -35,8 +36,8 @@ fn skip(n: usize, at: Cursor<'_>) -> Result<((), Cursor<'_>), ReadError>
 
 /// One octet.
 #[tactic(auto, using(crate::proofs::Words::words))]
-fn word_8(enc: Encoding, at: Cursor<'_>) -> Result<(u8, Cursor<'_>), ReadError>
-    ensures { Gives same result (read_word enc 1 w8 at.entry.place at.entry.rest.now) }
+fn word_8(enc: Encoding, at: Cursor<'_>) -> Result<(u8, Cursor<'_>), Fault>
+    ensures { Reads same result (read_word enc 1 w8 at.entry.place at.entry.rest.now) }
 {
     if at.rest.len() < 1 {
         return Err(stop(FaultKind::Short, at.place));
@@ -53,8 +54,8 @@ fn word_8(enc: Encoding, at: Cursor<'_>) -> Result<(u8, Cursor<'_>), ReadError>
 
 /// Two octets.
 #[tactic(auto, using(crate::proofs::Words::words))]
-fn word_16(enc: Encoding, at: Cursor<'_>) -> Result<(u16, Cursor<'_>), ReadError>
-    ensures { Gives same result (read_word enc 1 w16 at.entry.place at.entry.rest.now) }
+fn word_16(enc: Encoding, at: Cursor<'_>) -> Result<(u16, Cursor<'_>), Fault>
+    ensures { Reads same result (read_word enc 1 w16 at.entry.place at.entry.rest.now) }
 {
     if at.rest.len() < 2 {
         return Err(stop(FaultKind::Short, at.place));
@@ -71,8 +72,8 @@ fn word_16(enc: Encoding, at: Cursor<'_>) -> Result<(u16, Cursor<'_>), ReadError
 
 /// Four octets.
 #[tactic(auto, using(crate::proofs::Words::words))]
-fn word_32(enc: Encoding, at: Cursor<'_>) -> Result<(u32, Cursor<'_>), ReadError>
-    ensures { Gives same result (read_word enc 1 w32 at.entry.place at.entry.rest.now) }
+fn word_32(enc: Encoding, at: Cursor<'_>) -> Result<(u32, Cursor<'_>), Fault>
+    ensures { Reads same result (read_word enc 1 w32 at.entry.place at.entry.rest.now) }
 {
     if at.rest.len() < 4 {
         return Err(stop(FaultKind::Short, at.place));
@@ -89,8 +90,8 @@ fn word_32(enc: Encoding, at: Cursor<'_>) -> Result<(u32, Cursor<'_>), ReadError
 
 /// Eight octets.
 #[tactic(auto, using(crate::proofs::Words::words))]
-fn word_64(enc: Encoding, at: Cursor<'_>) -> Result<(u64, Cursor<'_>), ReadError>
-    ensures { Gives same result (read_word enc 1 w64 at.entry.place at.entry.rest.now) }
+fn word_64(enc: Encoding, at: Cursor<'_>) -> Result<(u64, Cursor<'_>), Fault>
+    ensures { Reads same result (read_word enc 1 w64 at.entry.place at.entry.rest.now) }
 {
     if at.rest.len() < 8 {
         return Err(stop(FaultKind::Short, at.place));
@@ -173,8 +174,8 @@ fn bits(
     signed: bool,
     size: Size,
     at: Cursor<'_>,
-) -> Result<(i128, Cursor<'_>), ReadError>
-    ensures { Gives itself result (read_bits enc signed (width_in size) at.entry.place at.entry.rest.now) }
+) -> Result<(i128, Cursor<'_>), Fault>
+    ensures { Reads itself result (read_bits enc signed (width_in size) at.entry.place at.entry.rest.now) }
 {
     match size {
         Size::One => {
@@ -198,9 +199,9 @@ fn bits(
 
 /// A number of a kind, where it begins.
 #[tactic(auto, using(crate::proofs::Words::kinds))]
-fn number_here(enc: Encoding, kind: Kind, at: Cursor<'_>) -> Result<(i128, Cursor<'_>), ReadError>
+fn number_here(enc: Encoding, kind: Kind, at: Cursor<'_>) -> Result<(i128, Cursor<'_>), Fault>
     ensures ranged { IfOk result (λ x. IsInRange kind x.0) }
-    ensures read { Gives itself result (read_here enc (number kind) at.entry.place at.entry.rest.now) }
+    ensures read { Reads itself result (read_here enc (number kind) at.entry.place at.entry.rest.now) }
 {
     let (n, next) = bits(enc, has_sign(kind), size_of(enc, kind), at)?;
     if kind.has(n) {
@@ -212,13 +213,9 @@ fn number_here(enc: Encoding, kind: Kind, at: Cursor<'_>) -> Result<(i128, Curso
 
 /// A number of a kind.
 #[tactic(auto, using(crate::proofs::Words::scalars))]
-pub(crate) fn number(
-    enc: Encoding,
-    kind: Kind,
-    at: Cursor<'_>,
-) -> Result<(i128, Cursor<'_>), ReadError>
+pub(crate) fn number(enc: Encoding, kind: Kind, at: Cursor<'_>) -> Result<(i128, Cursor<'_>), Fault>
     ensures ranged { IfOk result (λ x. IsInRange kind x.0) }
-    ensures read { Gives itself result (read_scalar enc (number kind) at.entry.place at.entry.rest.now) }
+    ensures read { Reads itself result (read_scalar enc (number kind) at.entry.place at.entry.rest.now) }
 {
     let ((), there) = skip(gap_of(enc, kind, at.place), at)?;
     number_here(enc, kind, there)
@@ -226,14 +223,10 @@ pub(crate) fn number(
 
 /// A number that travels by itself.
 #[tactic(auto, using(crate::proofs::Words::lones))]
-pub(crate) fn lone(
-    enc: Encoding,
-    kind: Kind,
-    at: Cursor<'_>,
-) -> Result<(i128, Cursor<'_>), ReadError>
+pub(crate) fn lone(enc: Encoding, kind: Kind, at: Cursor<'_>) -> Result<(i128, Cursor<'_>), Fault>
     requires { IsPlain enc }
     ensures ranged { IfOk result (λ x. IsInRange kind x.0) }
-    ensures read { Gives itself result (read_lone enc (number kind) at.entry.place at.entry.rest.now) }
+    ensures read { Reads itself result (read_lone enc (number kind) at.entry.place at.entry.rest.now) }
 {
     number(enc, kind, at)
 }
@@ -244,8 +237,8 @@ fn label_here<'a>(
     enc: Encoding,
     labels: &Labels,
     at: Cursor<'a>,
-) -> Result<(i128, Cursor<'a>), ReadError>
-    ensures { Gives itself result (read_here enc (label labels.now) at.entry.place at.entry.rest.now) }
+) -> Result<(i128, Cursor<'a>), Fault>
+    ensures { Reads itself result (read_here enc (label labels.now) at.entry.place at.entry.rest.now) }
 {
     let (n, next) = bits(enc, true, Size::Four, at)?;
     if has_label(labels, n) {
@@ -261,9 +254,9 @@ pub(crate) fn one_label<'a>(
     enc: Encoding,
     labels: &Labels,
     at: Cursor<'a>,
-) -> Result<(i128, Cursor<'a>), ReadError>
+) -> Result<(i128, Cursor<'a>), Fault>
     requires { IsPlain enc }
-    ensures { Gives itself result (read_lone enc (label labels.now) at.entry.place at.entry.rest.now) }
+    ensures { Reads itself result (read_lone enc (label labels.now) at.entry.place at.entry.rest.now) }
 {
     let ((), there) = skip(gap_of(enc, Kind::I32, at.place), at)?;
     label_here(enc, labels, there)
@@ -274,9 +267,9 @@ pub(crate) fn scalar<'a>(
     enc: Encoding,
     tag: &Tag,
     at: Cursor<'a>,
-) -> Result<(i128, Cursor<'a>), ReadError>
+) -> Result<(i128, Cursor<'a>), Fault>
     requires { IsPlain enc }
-    ensures { Gives itself result (read_lone enc (scalar_of tag.now) at.entry.place at.entry.rest.now) }
+    ensures { Reads itself result (read_lone enc (scalar_of tag.now) at.entry.place at.entry.rest.now) }
 {
     match tag {
         Tag::Num(kind) => lone(enc, *kind, at),
@@ -287,7 +280,7 @@ pub(crate) fn scalar<'a>(
 /// Where a number of a discriminant begins.
 #[tactic(auto, using(crate::proofs::Words::labels))]
 pub(crate) fn scalar_at(enc: Encoding, tag: &Tag, place: usize) -> usize
-    requires { place ≤ 4194304 }
+    requires { place ≤ longest_message }
     ensures { result ≡ scalar_place enc (scalar_of tag.now) place }
 {
     match tag {
@@ -298,9 +291,9 @@ pub(crate) fn scalar_at(enc: Encoding, tag: &Tag, place: usize) -> usize
 
 /// A count by itself.
 #[tactic(auto, using(crate::proofs::Words::counts))]
-fn one_count(enc: Encoding, at: Cursor<'_>) -> Result<(usize, Cursor<'_>), ReadError>
+fn one_count(enc: Encoding, at: Cursor<'_>) -> Result<(usize, Cursor<'_>), Fault>
     requires { IsPlain enc }
-    ensures { Gives same result (read_counted enc at.entry.place at.entry.rest.now) }
+    ensures { Reads same result (read_counted enc at.entry.place at.entry.rest.now) }
 {
     let (n, next) = lone(enc, Kind::U32, at)?;
     Ok((n as usize, next))
@@ -323,9 +316,9 @@ pub(crate) fn count(
     enc: Encoding,
     bound: Count,
     at: Cursor<'_>,
-) -> Result<(usize, Cursor<'_>), ReadError>
+) -> Result<(usize, Cursor<'_>), Fault>
     requires { IsPlain enc }
-    ensures { Gives same result (read_count enc bound at.entry.place at.entry.rest.now) }
+    ensures { Reads same result (read_count enc bound at.entry.place at.entry.rest.now) }
 {
     match bound {
         Count::Exactly(m) => Ok((m as usize, at)),
@@ -344,9 +337,9 @@ pub(crate) fn count(
 
 /// The length of a text that has an octet 0 behind it.
 #[tactic(auto, using(crate::proofs::Words::counts))]
-fn ended(enc: Encoding, bound: Count, at: Cursor<'_>) -> Result<(usize, Cursor<'_>), ReadError>
+fn ended(enc: Encoding, bound: Count, at: Cursor<'_>) -> Result<(usize, Cursor<'_>), Fault>
     requires { IsPlain enc }
-    ensures { Gives same result (read_ended enc bound at.entry.place at.entry.rest.now) }
+    ensures { Reads same result (read_ended enc bound at.entry.place at.entry.rest.now) }
 {
     let (m, next) = one_count(enc, at)?;
     let place = at.place + gap_of(enc, Kind::U32, at.place);
@@ -367,9 +360,9 @@ pub(crate) fn text_head(
     enc: Encoding,
     bound: Count,
     at: Cursor<'_>,
-) -> Result<(usize, Cursor<'_>), ReadError>
+) -> Result<(usize, Cursor<'_>), Fault>
     requires { IsPlain enc }
-    ensures { Gives same result (read_head enc (text bound) at.entry.place at.entry.rest.now) }
+    ensures { Reads same result (read_head enc (text bound) at.entry.place at.entry.rest.now) }
 {
     match enc {
         Encoding::CdrBig | Encoding::CdrLittle => ended(enc, bound, at),
@@ -384,9 +377,9 @@ pub(crate) fn row_head(
     kind: Kind,
     bound: Count,
     at: Cursor<'_>,
-) -> Result<(usize, Cursor<'_>), ReadError>
+) -> Result<(usize, Cursor<'_>), Fault>
     requires { IsPlain enc }
-    ensures { Gives same result (read_head enc (row_of kind bound) at.entry.place at.entry.rest.now) }
+    ensures { Reads same result (read_head enc (row_of kind bound) at.entry.place at.entry.rest.now) }
 {
     count(enc, bound, at)
 }

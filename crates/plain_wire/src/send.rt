@@ -1,6 +1,7 @@
 //! Values of a node's type as octets.
 
 ghost use Rattle.std.specs.Prelude.{◌≡◌, ◌≤◌, ◌<◌, ◌++◌, length, OnOk, OnErr};
+ghost use Rattle.kit_base.specs.Limits.{longest_message};
 ghost use Rattle.mint.specs.Values.{seen, all_seen, items, present};
 ghost use Rattle.mint.specs.Types.{maybe_type, items_type, type_at, unfolded, fields_at, arms_at, scalar_of, AreBelow, ArmsBelow, IsBelow};
 ghost use Rattle.mint.specs.Typed.{IsWellTyped, IsOf, AreOf, IsOfArm, Each, IsScalar};
@@ -29,7 +30,7 @@ pub fn plain_send(
 ) -> Result<(), NoMemory>
     requires plain { IsPlain enc }
     requires id { id < length mint.now }
-    requires near { pos ≤ 4194304 }
+    requires near { pos ≤ longest_message }
     requires typed { IsWellTyped (type_at mint.now id) (seen value.now) }
     ensures ok { OnOk result (out.new ≡ out.old ++ send enc (type_at mint.now id) pos (seen value.now)) }
     ensures err { OnErr result (IsPrefixed out.old out.new (send enc (type_at mint.now id) pos (seen value.now))) }

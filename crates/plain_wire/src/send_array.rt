@@ -11,8 +11,8 @@ ghost use Rattle.wire_def.specs.Scalars.{scalar_octets};
 ghost use Rattle.wire_def.specs.Arrays.{natural, elements_octets, array_octets};
 ghost use Rattle.plain_wire.specs.Sending.{Appends, IsNear, IsPlain, elements_of, ended};
 
-use crate::widths::{behind_row, behind_text};
 use crate::send_scalar::{put, put_count, put_number, put_text_head, put_zeros};
+use crate::widths::{behind_row, behind_text};
 use kit_base::{NoMemory, Octets};
 use mint::kind::{Count, Kind};
 use mint::row::Row;

@@ -69,11 +69,7 @@ fn residue_16(n: i128) -> u16
     requires high { n <ℤ pos 65536 }
     ensures { result ≡ residue w16 n }
 {
-    if n < 0 {
-        (n + 65536) as u16
-    } else {
-        n as u16
-    }
+    if n < 0 { (n + 65536) as u16 } else { n as u16 }
 }
 
 /// A number modulo 2 to the 8.
@@ -82,11 +78,7 @@ fn residue_8(n: i128) -> u8
     requires high { n <ℤ pos 256 }
     ensures { result ≡ residue w8 n }
 {
-    if n < 0 {
-        (n + 256) as u8
-    } else {
-        n as u8
-    }
+    if n < 0 { (n + 256) as u8 } else { n as u8 }
 }
 
 /// Puts a number in its octets, in the order of the encoding.

@@ -173,7 +173,7 @@ arm_room fs o arms i a old mid lt is mid_is =
     let k : ℕ = length arms - (i + 1) in
     omega (arith, ap length whole, length-append old (made_behind fs (aoi.arms_seen (drop k arms) o)), length-append old (made_behind fs (aoi.arms_seen arms o)), behind_room fs o arms k)
 
-below_pair : (n : ℕ) (a : ℤ × ℕ) (arms : List (ℤ × ℕ)) → a.1 < n → ArmsBelow n arms → ArmsBelow n (put_pair a arms)
+pub below_pair : (n : ℕ) (a : ℤ × ℕ) (arms : List (ℤ × ℕ)) → a.1 < n → ArmsBelow n arms → ArmsBelow n (put_pair a arms)
 below_pair n a [] h below = (h, tt)
 below_pair n a (b ∷ arms) h below = by (int_lt a.0 b.0) (below_pair n a arms h below.1) where
   by : (t : Bool) → ArmsBelow n (put_pair a arms) → ArmsBelow n (if t then a ∷ b ∷ arms else b ∷ put_pair a arms)

@@ -5,10 +5,9 @@ use Rattle.std.proofs.Math.ListN.{get_or-append}
 use Rattle.std.proofs.Math.Seq.{drop-cons}
 use Rattle.std.proofs.lemmas.List.{map-append}
 use Rattle.mint.specs.Types.{ArmsBelow}
-use Rattle.aoi.specs.declared.interfaces.Interface.{Interface}
 use Rattle.aoi.specs.declared.interfaces.Operation.{Operation}
 use Rattle.aoi.specs.declared.interfaces.Raise.{Raise}
-use Rattle.aoi.specs.Shapes as aoi
+use Rattle.aoi.specs.Plain.{PlainOperation, PlainInterface, plain_raise, plain_operation}
 use Rattle.wire_def.specs.declared.encoding.Back.{Back}
 use Rattle.pres.specs.declared.ops.Op.{Op}
 use Rattle.pres.specs.Faces.{Face, nothing, values, Arms, no_other, other, arm, at, parts_at, arms_at}
@@ -20,11 +19,11 @@ use Rattle.pres.proofs.Drawn.{with_end, arms_stay, unnamed_by}
 
 -- ---- an answer
 
-pub answer_by : (a s : Sketch) (more : List Face) (op : Operation) (id : ℕ) (outs ids : List ℕ) (fs : List Face) → Grows a s more → IsDrawn a id (face_of fs (aoi.seen op.result))
-    → AreDrawn s outs (faces_inside fs (aoi.members op.outs)) → ids ≡ id ∷ outs → values (parts_at (drawn s) [] ids) ≡ answer_of fs op
+pub answer_by : (a s : Sketch) (more : List Face) (op : PlainOperation) (id : ℕ) (outs ids : List ℕ) (fs : List Face) → Grows a s more → IsDrawn a id (face_of fs op.result)
+    → AreDrawn s outs (faces_inside fs op.outs) → ids ≡ id ∷ outs → values (parts_at (drawn s) [] ids) ≡ answer_of fs op
 answer_by a s more op id outs ids fs g d ds is =
-    let first : at (drawn s) id ≡ face_of fs (aoi.seen op.result) = (drawn_stays a s more id _ g d).is in
-    let rest : parts_at (drawn s) [] outs ≡ unnamed (parts_of fs (aoi.members op.outs)) = unnamed_by (drawn s) fs outs (aoi.members op.outs) ds.are in
+    let first : at (drawn s) id ≡ face_of fs op.result = (drawn_stays a s more id _ g d).is in
+    let rest : parts_at (drawn s) [] outs ≡ unnamed (parts_of fs op.outs) = unnamed_by (drawn s) fs outs op.outs ds.are in
     rw (is, first, rest) refl
 
 -- ---- exceptions
@@ -47,14 +46,14 @@ arms_below_push : (n : ℕ) (arms : List (ℤ × ℕ)) (a : ℤ × ℕ) → Arms
 arms_below_push n [] a below h = (h, tt)
 arms_below_push n (b ∷ arms) a below h = (below.0, arms_below_push n arms a below.1 h)
 
-pub raise_left : (n : ℕ) (rs : List Raise) (i : ℕ) (r : Raise) → i < length rs → r ≡ get_or rs i r → AllByRecursion (λ r. IsTrue (is_drawable n (exception r))) (drop i rs)
-    → IsTrue (is_drawable n (exception r)) × AllByRecursion (λ r. IsTrue (is_drawable n (exception r))) (drop (i + 1) rs)
+pub raise_left : (n : ℕ) (rs : List Raise) (i : ℕ) (r : Raise) → i < length rs → r ≡ get_or rs i r → AllByRecursion (λ r. IsTrue (is_drawable n (exception r))) (map plain_raise (drop i rs))
+    → IsTrue (is_drawable n (exception (plain_raise r))) × AllByRecursion (λ r. IsTrue (is_drawable n (exception r))) (map plain_raise (drop (i + 1) rs))
 raise_left n rs i r lt is h = rw (cut_raises rs i r lt is) at h
 
 pub raise_nodes : (fs : List Face) (rs : List Raise) (i : ℕ) (r : Raise) (mid new all : List Face) → i < length rs → r ≡ get_or rs i r
-    → mid ++ made_raised fs (drop i rs) ≡ all → new ≡ mid ++ made fs (exception r) → new ++ made_raised fs (drop (i + 1) rs) ≡ all
+    → mid ++ made_raised fs (map plain_raise (drop i rs)) ≡ all → new ≡ mid ++ made fs (exception (plain_raise r)) → new ++ made_raised fs (map plain_raise (drop (i + 1) rs)) ≡ all
 raise_nodes fs rs i r mid new all lt is h new_is =
-    ap (λ z. z ++ made_raised fs (drop (i + 1) rs)) new_is ∙ append_assoc mid (made fs (exception r)) (made_raised fs (drop (i + 1) rs)) ∙ (rw (cut_raises rs i r lt is) at h)
+    ap (λ z. z ++ made_raised fs (map plain_raise (drop (i + 1) rs))) new_is ∙ append_assoc mid (made fs (exception (plain_raise r))) (made_raised fs (map plain_raise (drop (i + 1) rs))) ∙ (rw (cut_raises rs i r lt is) at h)
 
 -- the arms so far, and those of the exceptions left
 pub record AreSoFar (s : Sketch) (arms : List (ℤ × ℕ)) (rest all : Arms) : Type 0 where
@@ -62,22 +61,22 @@ pub record AreSoFar (s : Sketch) (arms : List (ℤ × ℕ)) (rest all : Arms) : 
   pub are : with_end (arms_at (drawn s) arms None) rest ≡ all
 
 pub raise_arms : (fs : List Face) (rs : List Raise) (i : ℕ) (r : Raise) (mid new : Sketch) (more : List Face) (arms arms' : List (ℤ × ℕ)) (n : ℤ) (id : ℕ) (all : Arms) → i < length rs → r ≡ get_or rs i r
-    → Grows mid new more → IsDrawn new id (face_of fs (exception r)) → n ≡ pos (1 + i) → arms' ≡ arms ++ (n, id) ∷ []
-    → AreSoFar mid arms (raised fs (1 + i) (drop i rs)) all → AreSoFar new arms' (raised fs (1 + (i + 1)) (drop (i + 1) rs)) all
+    → Grows mid new more → IsDrawn new id (face_of fs (exception (plain_raise r))) → n ≡ pos (1 + i) → arms' ≡ arms ++ (n, id) ∷ []
+    → AreSoFar mid arms (raised fs (1 + i) (map plain_raise (drop i rs))) all → AreSoFar new arms' (raised fs (1 + (i + 1)) (map plain_raise (drop (i + 1) rs))) all
 raise_arms fs rs i r mid new more arms arms' n id all lt is g d n_is arms_are so =
     let still = arms_stay mid new more arms None _ g (record { below = so.below; other = tt; are = refl }) in
     let next : suc (1 + i) ≡ 1 + (i + 1) = omega arith in
-    let rest : Arms = raised fs (1 + (i + 1)) (drop (i + 1) rs) in
-    let cut : raised fs (1 + i) (drop i rs) ≡ arm (pos (1 + i)) (face_of fs (exception r)) rest = ap (raised fs (1 + i)) (cut_raises rs i r lt is) ∙ ap (λ k. arm (pos (1 + i)) (face_of fs (exception r)) (raised fs k (drop (i + 1) rs))) next in
-    let old : with_end (arms_at (drawn mid) arms None) (arm (pos (1 + i)) (face_of fs (exception r)) rest) ≡ all = ap (with_end (arms_at (drawn mid) arms None)) (sym cut) ∙ so.are in
-    let grown : arms_at (drawn new) arms' None ≡ with_end (arms_at (drawn mid) arms None) (arm (pos (1 + i)) (face_of fs (exception r)) no_other) =
+    let rest : Arms = raised fs (1 + (i + 1)) (map plain_raise (drop (i + 1) rs)) in
+    let cut : raised fs (1 + i) (map plain_raise (drop i rs)) ≡ arm (pos (1 + i)) (face_of fs (exception (plain_raise r))) rest = ap (λ z. raised fs (1 + i) (map plain_raise z)) (cut_raises rs i r lt is) ∙ ap (λ k. arm (pos (1 + i)) (face_of fs (exception (plain_raise r))) (raised fs k (map plain_raise (drop (i + 1) rs)))) next in
+    let old : with_end (arms_at (drawn mid) arms None) (arm (pos (1 + i)) (face_of fs (exception (plain_raise r))) rest) ≡ all = ap (with_end (arms_at (drawn mid) arms None)) (sym cut) ∙ so.are in
+    let grown : arms_at (drawn new) arms' None ≡ with_end (arms_at (drawn mid) arms None) (arm (pos (1 + i)) (face_of fs (exception (plain_raise r))) no_other) =
     ap (λ z. arms_at (drawn new) z None) arms_are ∙ arms_at-push (drawn new) arms (n, id)
     ∙ ap (λ z. with_end z (arm n (at (drawn new) id) no_other)) still.are
     ∙ ap (λ z. with_end (arms_at (drawn mid) arms None) (arm n z no_other)) d.is
-    ∙ ap (λ z. with_end (arms_at (drawn mid) arms None) (arm z (face_of fs (exception r)) no_other)) n_is in
+    ∙ ap (λ z. with_end (arms_at (drawn mid) arms None) (arm z (face_of fs (exception (plain_raise r))) no_other)) n_is in
     record {
       below = subst (ArmsBelow (length (drawn new))) (sym arms_are) (arms_below_push (length (drawn new)) arms (n, id) still.below d.below);
-      are = ap (λ z. with_end z rest) grown ∙ with_one (arms_at (drawn mid) arms None) (pos (1 + i)) (face_of fs (exception r)) rest ∙ old;
+      are = ap (λ z. with_end z rest) grown ∙ with_one (arms_at (drawn mid) arms None) (pos (1 + i)) (face_of fs (exception (plain_raise r))) rest ∙ old;
     }
 
 ends_none : (fs : List Face) (arms : List (ℤ × ℕ)) → with_end (arms_at fs arms None) no_other ≡ arms_at fs arms None
@@ -99,16 +98,16 @@ cut_ops ops i op lt is =
     let next : i + 1 ≡ suc i = omega arith in
     rw next (drop-cons ops i op lt ∙ ap (λ z. z ∷ drop (suc i) ops) (sym is))
 
-pub op_left : (n : ℕ) (ops : List Operation) (i : ℕ) (op : Operation) → i < length ops → op ≡ get_or ops i op → AllByRecursion (IsDrawableOperation n) (drop i ops)
-    → IsDrawableOperation n op × AllByRecursion (IsDrawableOperation n) (drop (i + 1) ops)
+pub op_left : (n : ℕ) (ops : List Operation) (i : ℕ) (op : Operation) → i < length ops → op ≡ get_or ops i op → AllByRecursion (IsDrawableOperation n) (map plain_operation (drop i ops))
+    → IsDrawableOperation n (plain_operation op) × AllByRecursion (IsDrawableOperation n) (map plain_operation (drop (i + 1) ops))
 op_left n ops i op lt is h = rw (cut_ops ops i op lt is) at h
 
 pub op_nodes : (fs : List Face) (ops : List Operation) (i : ℕ) (op : Operation) (mid new all : List Face) → i < length ops → op ≡ get_or ops i op
-    → mid ++ made_by fs (drop i ops) ≡ all → new ≡ mid ++ (made_request fs op ++ made_reply fs op) → new ++ made_by fs (drop (i + 1) ops) ≡ all
+    → mid ++ made_by fs (map plain_operation (drop i ops)) ≡ all → new ≡ mid ++ (made_request fs (plain_operation op) ++ made_reply fs (plain_operation op)) → new ++ made_by fs (map plain_operation (drop (i + 1) ops)) ≡ all
 op_nodes fs ops i op mid new all lt is h new_is =
-    ap (λ z. z ++ made_by fs (drop (i + 1) ops)) new_is ∙ append_assoc mid (made_request fs op ++ made_reply fs op) (made_by fs (drop (i + 1) ops)) ∙ (rw (cut_ops ops i op lt is) at h)
+    ap (λ z. z ++ made_by fs (map plain_operation (drop (i + 1) ops))) new_is ∙ append_assoc mid (made_request fs (plain_operation op) ++ made_reply fs (plain_operation op)) (made_by fs (map plain_operation (drop (i + 1) ops))) ∙ (rw (cut_ops ops i op lt is) at h)
 
-placed_more : (n m : ℕ) (os : List Op) → n ≤ m → AllByRecursion (λ (o : Op). (o.request < n) × (o.reply < n)) os → AllByRecursion (λ (o : Op). (o.request < m) × (o.reply < m)) os
+pub placed_more : (n m : ℕ) (os : List Op) → n ≤ m → AllByRecursion (λ (o : Op). (o.request < n) × (o.reply < n)) os → AllByRecursion (λ (o : Op). (o.request < m) × (o.reply < m)) os
 placed_more n m [] le h = tt
 placed_more n m (o ∷ os) le h = ((omega (arith, h.0.0, le), omega (arith, h.0.1, le)), placed_more n m os le h.1)
 
@@ -116,7 +115,7 @@ placed_push : (n : ℕ) (os : List Op) (o : Op) → AllByRecursion (λ (o : Op).
 placed_push n [] o h a b = ((a, b), tt)
 placed_push n (p ∷ os) o h a b = (h.0, placed_push n os o h.1 a b)
 
-offers_stay : (fs more : List Face) (os : List Op) → AllByRecursion (λ (o : Op). (o.request < length fs) × (o.reply < length fs)) os → map (offer_at (fs ++ more)) os ≡ map (offer_at fs) os
+pub offers_stay : (fs more : List Face) (os : List Op) → AllByRecursion (λ (o : Op). (o.request < length fs) × (o.reply < length fs)) os → map (offer_at (fs ++ more)) os ≡ map (offer_at fs) os
 offers_stay fs more [] h = refl
 offers_stay fs more (o ∷ os) h = rw (get_or-append fs more nothing o.request h.0.0, get_or-append fs more nothing o.reply h.0.1, offers_stay fs more os h.1) refl
 
@@ -136,16 +135,17 @@ listed_push s os os' o f rest all is d l = record {
 }
 
 pub op_listed : (fs : List Face) (b : Back) (k : ℕ) (ops : List Operation) (i : ℕ) (op : Operation) (mid new : Sketch) (more : List Face) (os os' : List Op) (o : Op) (all : List Offer) → i < length ops → op ≡ get_or ops i op
-    → Grows mid new more → IsOffered new o (offer fs b k op) → os' ≡ os ++ o ∷ []
-    → AreListed mid os (map (offer fs b k) (drop i ops)) all → AreListed new os' (map (offer fs b k) (drop (i + 1) ops)) all
+    → Grows mid new more → IsOffered new o (offer fs b k (plain_operation op)) → os' ≡ os ++ o ∷ []
+    → AreListed mid os (map (offer fs b k) (map plain_operation (drop i ops))) all → AreListed new os' (map (offer fs b k) (map plain_operation (drop (i + 1) ops))) all
 op_listed fs b k ops i op mid new more os os' o all lt is g d os_is l =
-    let cut : map (offer fs b k) (drop i ops) ≡ offer fs b k op ∷ map (offer fs b k) (drop (i + 1) ops) = ap (map (offer fs b k)) (cut_ops ops i op lt is) in
-    listed_push new os os' o (offer fs b k op) _ all os_is d (listed_stay mid new more os _ all g (subst (λ z. AreListed mid os z all) cut l))
+    let cut : map (offer fs b k) (map plain_operation (drop i ops)) ≡ offer fs b k (plain_operation op) ∷ map (offer fs b k) (map plain_operation (drop (i + 1) ops)) =
+    ap (λ z. map (offer fs b k) (map plain_operation z)) (cut_ops ops i op lt is) in
+    listed_push new os os' o (offer fs b k (plain_operation op)) _ all os_is d (listed_stay mid new more os _ all g (subst (λ z. AreListed mid os z all) cut l))
 
 pub listed_none : (s : Sketch) (os : List Op) (all : List Offer) → AreListed s os [] all → AreOffered s os all
 listed_none s os all l = record { placed = l.placed; are = sym (append-nil (map (offer_at (drawn s)) os)) ∙ l.are }
 
-pub one_gotten : (b : Back) (i : Interface) (fs : List Face) (k : ℕ) (old new : Sketch) (more : List Face) (os os' : List Op) (o : Op) (op : Operation) → true ≡ gets_null b i
+pub one_gotten : (b : Back) (i : PlainInterface) (fs : List Face) (k : ℕ) (old new : Sketch) (more : List Face) (os os' : List Op) (o : Op) (op : PlainOperation) → true ≡ gets_null b i
     → AreOffered old os (map (offer_at (drawn old)) os) → Grows old new more → op ≡ null_operation → IsOffered new o (offer fs b k op) → os' ≡ os ++ o ∷ []
     → AreOffered new os' (map (offer_at (drawn old)) os ++ map (offer fs b k) (gotten b i))
 one_gotten b i fs k old new more os os' o op gets l g op_is d os_is =

@@ -6,12 +6,11 @@ use Rattle.std.proofs.lemmas.List.Sums.{sum_by-cons}
 use Rattle.std.proofs.Math.ListN.{get_or-map}
 use Rattle.mint.specs.Blank.{depth}
 use Rattle.wire_def.specs.declared.encoding.Back.{Back}
-use Rattle.aoi.specs.Units.{Parts as UnitParts}
+use Rattle.aoi.specs.Plain.{PlainUnit, IsSoundPlain}
 use Rattle.pres.specs.declared.errors.BindErr.TheVariants as err
 use Rattle.pres.specs.declared.ops.Op.{Op}
 use Rattle.pres.specs.declared.sizes.Size.{Size}
 use Rattle.mint.specs.declared.node.Node.{Node}
-use Rattle.aoi.specs.Sound.{IsSound}
 use Rattle.pres.specs.declared.shape.Shape.{Shape}
 use Rattle.pres.specs.Bindings.{Binding, IsPlaced, IsBinding}
 use Rattle.pres.specs.Drafts.{Sketch, drawn, AreOffered}
@@ -25,16 +24,19 @@ use Rattle.pres.specs.Offers.{offers, offer_at, is_cdr}
 use Rattle.pres.specs.Sizes as sizes
 use Rattle.pres.specs.Sizes.{size_of, nodes_of, is_over}
 
-pub deep_next : (u : UnitParts) (b : Back) → (not (is_cdr b) && has_raises u) ≡ false → length (all_made u b) ≤ 65536 → list_any is_deep (all_made u b) ≡ true → bind_fault u b ≡ Some err.Deep
+pub raises_next : (u : PlainUnit) (b : Back) → (not (is_cdr b) && has_raises u) ≡ true → bind_fault u b ≡ Some err.Raises
+raises_next u b h = rw h refl
+
+pub deep_next : (u : PlainUnit) (b : Back) → (not (is_cdr b) && has_raises u) ≡ false → length (all_made u b) ≤ 65536 → list_any is_deep (all_made u b) ≡ true → bind_fault u b ≡ Some err.Deep
 deep_next u b h m d = rw (h, le-ltb 65536 (length (all_made u b)) m, d) refl
 
-pub heavy_next : (u : UnitParts) (b : Back) → (not (is_cdr b) && has_raises u) ≡ false → length (all_made u b) ≤ 65536 → list_any is_deep (all_made u b) ≡ false → list_any is_heavy (all_made u b) ≡ true → bind_fault u b ≡ Some err.Heavy
+pub heavy_next : (u : PlainUnit) (b : Back) → (not (is_cdr b) && has_raises u) ≡ false → length (all_made u b) ≤ 65536 → list_any is_deep (all_made u b) ≡ false → list_any is_heavy (all_made u b) ≡ true → bind_fault u b ≡ Some err.Heavy
 heavy_next u b h m d w = rw (h, le-ltb 65536 (length (all_made u b)) m, d, w) refl
 
-pub wide_next : (u : UnitParts) (b : Back) → (not (is_cdr b) && has_raises u) ≡ false → length (all_made u b) ≤ 65536 → list_any is_deep (all_made u b) ≡ false → list_any is_heavy (all_made u b) ≡ false → is_wide u b ≡ true → bind_fault u b ≡ Some err.Wide
+pub wide_next : (u : PlainUnit) (b : Back) → (not (is_cdr b) && has_raises u) ≡ false → length (all_made u b) ≤ 65536 → list_any is_deep (all_made u b) ≡ false → list_any is_heavy (all_made u b) ≡ false → is_wide u b ≡ true → bind_fault u b ≡ Some err.Wide
 wide_next u b h m d w x = rw (h, le-ltb 65536 (length (all_made u b)) m, d, w, x) refl
 
-pub none_at_last : (u : UnitParts) (b : Back) → (not (is_cdr b) && has_raises u) ≡ false → length (all_made u b) ≤ 65536 → list_any is_deep (all_made u b) ≡ false → list_any is_heavy (all_made u b) ≡ false → is_wide u b ≡ false → bind_fault u b ≡ None
+pub none_at_last : (u : PlainUnit) (b : Back) → (not (is_cdr b) && has_raises u) ≡ false → length (all_made u b) ≤ 65536 → list_any is_deep (all_made u b) ≡ false → list_any is_heavy (all_made u b) ≡ false → is_wide u b ≡ false → bind_fault u b ≡ None
 none_at_last u b h m d w x = rw (h, le-ltb 65536 (length (all_made u b)) m, d, w, x) refl
 
 -- ---- sizes
@@ -90,7 +92,7 @@ over_spread fs os = by (list_any (λ o. nat_lt 65536 (spread_of o)) (map (offer_
 
 -- ---- the binding
 
-pub wide_is : (u : UnitParts) (b : Back) (fs : List Face) (ss : List Size) (os : List Op) → ss ≡ map size_of fs → map (offer_at fs) os ≡ offers u b → (list_any has_long_in u.interfaces || is_over ss os) ≡ is_wide u b
+pub wide_is : (u : PlainUnit) (b : Back) (fs : List Face) (ss : List Size) (os : List Op) → ss ≡ map size_of fs → map (offer_at fs) os ≡ offers u b → (list_any has_long_in u.interfaces || is_over ss os) ≡ is_wide u b
 wide_is u b fs ss os sizes_are offers_are = ap (λ z. list_any has_long_in u.interfaces || z) (ap (λ z. is_over z os) sizes_are ∙ over_spread fs os ∙ ap is_spread offers_are)
 
 pub placed_by : (b : Binding) (n : ℕ) (os : List Op) → n ≡ length b.nodes → AllByRecursion (λ (o : Op). (o.request < n) × (o.reply < n)) os → AllByRecursion (IsPlaced b) os
@@ -104,7 +106,7 @@ pub table_faces : (s : Sketch) (m : List Node) (ps : List Shape) → m ≡ s.nod
 unfolding drawn
 table_faces s m ps m_is ps_is = rw (m_is, ps_is) refl
 
-pub bound : (s : Sketch) (b : Binding) → IsSound b.unit → AreNamed b.nodes b.shapes → b.nodes ≡ s.nodes → b.shapes ≡ s.shapes → AreOffered s b.ops (offers b.unit b.back) → IsBinding b
+pub bound : (s : Sketch) (b : Binding) → IsSoundPlain b.unit → AreNamed b.nodes b.shapes → b.nodes ≡ s.nodes → b.shapes ≡ s.shapes → AreOffered s b.ops (offers b.unit b.back) → IsBinding b
 bound s b sound named ns ss o =
     let same : faces b.nodes b.shapes ≡ drawn s = table_faces s b.nodes b.shapes ns ss in
     let long : length (drawn s) ≡ length b.nodes = ap length (sym same) ∙ faces-length b.nodes b.shapes named in

@@ -11,3 +11,5 @@ pub mod Soundly
 pub mod SoundUnit
 pub mod Tabling
 pub mod Faulty
+pub mod Building
+pub mod Existing

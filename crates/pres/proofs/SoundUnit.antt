@@ -1,5 +1,5 @@
 -- A sound unit can be drawn, and its nodes are regular.
-use Rattle.std.proofs.Common.{◌≡◌, IsTrue, Bool, true, false, not, ◌&&◌, ◌==◌, ℕ, suc, ◌+◌, ◌-◌, ◌^◌, ◌<◌, ◌≤◌, ℤ, pos, List, [], ◌∷◌, ◌++◌, length, map, nat_lt, nat_le, if◌then◌else◌, Some, refl, sym, ap, ◌∙◌, subst, arith, rules, length-append, slice_index_or, ◌⊎◌, inl, inr}
+use Rattle.std.proofs.Common.{◌≡◌, IsTrue, Bool, true, false, not, ◌&&◌, ◌==◌, ℕ, suc, ◌+◌, ◌-◌, ◌^◌, ◌<◌, ◌≤◌, ℤ, pos, List, [], ◌∷◌, ◌++◌, length, map, nat_lt, nat_le, if◌then◌else◌, Some, refl, sym, ap, ◌∙◌, subst, arith, length-append, slice_index_or, ◌⊎◌, inl, inr}
 use Rattle.std.specs.List.{list_all, AllByRecursion}
 use Rattle.std.proofs.Math.ListN.{get_or-append}
 use Rattle.std.proofs.Math.Seq.{get_or-append_seam, take-length}
@@ -11,13 +11,9 @@ use Rattle.mint.specs.Blank.{blank}
 use Rattle.mint.specs.Values.{weight}
 use Rattle.mint.specs.Sound.{arm_numbers, rise_from}
 use Rattle.wire_def.specs.declared.encoding.Back.{Back}
-use Rattle.aoi.specs.declared.types.Ty.{Void, the_lemmas}
-use Rattle.aoi.specs.declared.interfaces.Interface.{Interface}
-use Rattle.aoi.specs.declared.interfaces.Operation.{Operation}
-use Rattle.aoi.specs.declared.interfaces.Raise.{Raise}
 use Rattle.aoi.specs.Shapes as aoi
-use Rattle.aoi.specs.Units.{Parts as UnitParts}
-use Rattle.aoi.specs.Sound.{are_distinct, count_different, names_of, has_member, unfolded, is_sound_union, is_some_count, or_void, is_sound_type, are_sound, are_sound_arms, are_sound_types, is_sound_raise, is_sound_operation, is_sound_interface, is_sound}
+use Rattle.aoi.specs.Plain.{PlainRaise, PlainOperation, PlainInterface, PlainUnit, plain_shapes, is_sound_plain_raise, is_sound_plain_operation, is_sound_plain_interface, is_sound_plain}
+use Rattle.aoi.specs.Sound.{are_distinct, count_different, names_of, has_member, unfolded, is_sound_union, is_some_count, or_void, is_sound_type, are_sound, are_sound_arms, are_sound_types}
 use Rattle.pres.specs.Faces.{Face, nothing, type_of, arm_types_of}
 use Rattle.pres.specs.Made.{made, made_inside, made_in_types, made_raised, made_request, made_answer, made_reply, made_by, made_in_interfaces, all_made}
 use Rattle.pres.specs.Offers.{face_of, faces_of, type_faces, exception, raised, reply_of, null_operation, gets_null, gotten}
@@ -79,21 +75,21 @@ types_drawable ss l (s ∷ rest) h =
     (drawable ss l s p.0, types_drawable ss (suc l) rest (rw next at p.1))
 
 -- the parts of a sound operation
-record IsSoundOperation (ss : List aoi.Shape) (op : Operation) : Type 0 where
-  ins : are_sound ss (length ss) (aoi.members op.ins) ≡ true
-  outs : are_sound ss (length ss) (aoi.members op.outs) ≡ true
-  result : or_void (aoi.seen op.result) (is_sound_type ss (length ss) (aoi.seen op.result)) ≡ true
+record IsSoundOperation (ss : List aoi.Shape) (op : PlainOperation) : Type 0 where
+  ins : are_sound ss (length ss) op.ins ≡ true
+  outs : are_sound ss (length ss) op.outs ≡ true
+  result : or_void op.result (is_sound_type ss (length ss) op.result) ≡ true
   few : length op.raises ≤ 4095
-  raises : list_all (is_sound_raise ss) op.raises ≡ true
+  raises : list_all (is_sound_plain_raise ss) op.raises ≡ true
 
-operation_parts : (ss : List aoi.Shape) (slots : ℕ) (op : Operation) → is_sound_operation ss slots op ≡ true → IsSoundOperation ss op
+operation_parts : (ss : List aoi.Shape) (slots : ℕ) (op : PlainOperation) → is_sound_plain_operation ss slots op ≡ true → IsSoundOperation ss op
 operation_parts ss slots op h =
     let n : ℕ = length ss in
-    let i : Bool = are_sound ss n (aoi.members op.ins) in
-    let o : Bool = are_sound ss n (aoi.members op.outs) in
-    let r : Bool = or_void (aoi.seen op.result) (is_sound_type ss n (aoi.seen op.result)) in
+    let i : Bool = are_sound ss n op.ins in
+    let o : Bool = are_sound ss n op.outs in
+    let r : Bool = or_void op.result (is_sound_type ss n op.result) in
     let f : Bool = nat_le (length op.raises) 4095 in
-    let e : Bool = list_all (is_sound_raise ss) op.raises in
+    let e : Bool = list_all (is_sound_plain_raise ss) op.raises in
     let a = both ((((i && o) && r) && f) && e) (nat_lt op.slot slots) h in
     let b = both (((i && o) && r) && f) e a.0 in
     let c = both ((i && o) && r) f b.0 in
@@ -101,39 +97,39 @@ operation_parts ss slots op h =
     let g = both i o d.0 in
     record { ins = g.0; outs = g.1; result = d.1; few = leb-true (length op.raises) 4095 c.1; raises = b.1 }
 
-raises_drawable : (ss : List aoi.Shape) (rs : List Raise) → list_all (is_sound_raise ss) rs ≡ true → AllByRecursion (λ r. IsTrue (is_drawable (length ss) (exception r))) rs
+raises_drawable : (ss : List aoi.Shape) (rs : List PlainRaise) → list_all (is_sound_plain_raise ss) rs ≡ true → AllByRecursion (λ r. IsTrue (is_drawable (length ss) (exception r))) rs
 raises_drawable ss [] h = tt
 raises_drawable ss (r ∷ rs) h =
-    let p = both (is_sound_raise ss r) (list_all (is_sound_raise ss) rs) h in
-    let q = both (are_distinct (names_of (aoi.members r.members))) (are_sound ss (length ss) (aoi.members r.members)) p.0 in
-    (rw (q.0, all_drawable ss (length ss) (aoi.members r.members) q.1) refl, raises_drawable ss rs p.1)
+    let p = both (is_sound_plain_raise ss r) (list_all (is_sound_plain_raise ss) rs) h in
+    let q = both (are_distinct (names_of r.members)) (are_sound ss (length ss) r.members) p.0 in
+    (rw (q.0, all_drawable ss (length ss) r.members q.1) refl, raises_drawable ss rs p.1)
 
-operation_drawable : (ss : List aoi.Shape) (op : Operation) → IsSoundOperation ss op → IsDrawableOperation (length ss) op
+operation_drawable : (ss : List aoi.Shape) (op : PlainOperation) → IsSoundOperation ss op → IsDrawableOperation (length ss) op
 operation_drawable ss op s = record {
-  ins = all_drawable ss (length ss) (aoi.members op.ins) s.ins;
-  outs = all_drawable ss (length ss) (aoi.members op.outs) s.outs;
-  result = or_drawable ss (length ss) (aoi.seen op.result) s.result (drawable ss (length ss) (aoi.seen op.result));
+  ins = all_drawable ss (length ss) op.ins s.ins;
+  outs = all_drawable ss (length ss) op.outs s.outs;
+  result = or_drawable ss (length ss) op.result s.result (drawable ss (length ss) op.result);
   raises = raises_drawable ss op.raises s.raises;
 }
 
-operations_drawable : (ss : List aoi.Shape) (slots : ℕ) (ops : List Operation) → list_all (is_sound_operation ss slots) ops ≡ true → AllByRecursion (IsDrawableOperation (length ss)) ops
+operations_drawable : (ss : List aoi.Shape) (slots : ℕ) (ops : List PlainOperation) → list_all (is_sound_plain_operation ss slots) ops ≡ true → AllByRecursion (IsDrawableOperation (length ss)) ops
 operations_drawable ss slots [] h = tt
 operations_drawable ss slots (op ∷ ops) h =
-    let p = both (is_sound_operation ss slots op) (list_all (is_sound_operation ss slots) ops) h in
+    let p = both (is_sound_plain_operation ss slots op) (list_all (is_sound_plain_operation ss slots) ops) h in
     (operation_drawable ss op (operation_parts ss slots op p.0), operations_drawable ss slots ops p.1)
 
-interfaces_drawable : (ss : List aoi.Shape) (is : List Interface) → list_all (is_sound_interface ss) is ≡ true → AllByRecursion (IsDrawableInterface (length ss)) is
+interfaces_drawable : (ss : List aoi.Shape) (is : List PlainInterface) → list_all (is_sound_plain_interface ss) is ≡ true → AllByRecursion (IsDrawableInterface (length ss)) is
 interfaces_drawable ss [] h = tt
 interfaces_drawable ss (i ∷ is) h =
-    let p = both (is_sound_interface ss i) (list_all (is_sound_interface ss) is) h in
-    let q = both (nat_le (i.base + i.slots + 100) (2 ^ 31 - 1)) (list_all (is_sound_operation ss i.slots) i.ops) p.0 in
+    let p = both (is_sound_plain_interface ss i) (list_all (is_sound_plain_interface ss) is) h in
+    let q = both (nat_le (i.base + i.slots + 100) (2 ^ 31 - 1)) (list_all (is_sound_plain_operation ss i.slots) i.ops) p.0 in
     (operations_drawable ss i.slots i.ops q.1, interfaces_drawable ss is p.1)
 
-pub unit_drawable : (u : UnitParts) → is_sound u ≡ true → IsDrawableUnit u
+pub unit_drawable : (u : PlainUnit) → is_sound_plain u ≡ true → IsDrawableUnit u
 unit_drawable u h =
-    let ss : List aoi.Shape = aoi.shapes u.types in
-    let p = both (are_sound_types ss 0 ss) (list_all (is_sound_interface ss) u.interfaces) h in
-    let count : length ss ≡ length u.types = length-map u.types (λ t. aoi.seen t.1) in
+    let ss : List aoi.Shape = plain_shapes u in
+    let p = both (are_sound_types ss 0 ss) (list_all (is_sound_plain_interface ss) u.interfaces) h in
+    let count : length ss ≡ length u.types = length-map u.types (λ (t : List ℕ × aoi.Shape). t.1) in
     record {
       types = types_drawable ss 0 ss p.0;
       interfaces = subst (λ n. AllByRecursion (IsDrawableInterface n) u.interfaces) count (interfaces_drawable ss u.interfaces p.1);
@@ -175,21 +171,21 @@ types_regular ss fs l (s ∷ rest) long st same h =
     let shift : suc l + length rest ≡ l + suc (length rest) = omega arith in
     (regular_both (made fs s) _ (made_regular ss fs l s st p.0) on.0, rw (← shift) on.1)
 
-raised_numbers : (fs : List Face) (k : ℕ) (rs : List Raise) → rise_from (Some (pos k)) (arm_numbers (arm_types_of (raised fs (suc k) rs))) ≡ true
+raised_numbers : (fs : List Face) (k : ℕ) (rs : List PlainRaise) → rise_from (Some (pos k)) (arm_numbers (arm_types_of (raised fs (suc k) rs))) ≡ true
 raised_numbers fs k [] = refl
 raised_numbers fs k (r ∷ rs) = let up : nat_lt k (suc k) ≡ true = lt-ltb k (suc k) (omega arith) in rw (up, raised_numbers fs (suc k) rs) refl
 
-raised_count : (fs : List Face) (k : ℕ) (rs : List Raise) → length (arm_numbers (arm_types_of (raised fs k rs))) ≡ length rs
+raised_count : (fs : List Face) (k : ℕ) (rs : List PlainRaise) → length (arm_numbers (arm_types_of (raised fs k rs))) ≡ length rs
 raised_count fs k [] = refl
 raised_count fs k (r ∷ rs) = ap suc (raised_count fs (suc k) rs)
 
-raised_ranged : (fs : List Face) (k : ℕ) (rs : List Raise) → k + length rs ≤ 4096 → list_all (in_range kind.U32) (arm_numbers (arm_types_of (raised fs k rs))) ≡ true
+raised_ranged : (fs : List Face) (k : ℕ) (rs : List PlainRaise) → k + length rs ≤ 4096 → list_all (in_range kind.U32) (arm_numbers (arm_types_of (raised fs k rs))) ≡ true
 raised_ranged fs k [] few = refl
 raised_ranged fs k (r ∷ rs) few =
     let here : nat_lt k 4294967296 ≡ true = lt-ltb k 4294967296 (omega (arith, few)) in
     rw (here, raised_ranged fs (suc k) rs (omega (arith, few))) refl
 
-reply_regular : (fs : List Face) (op : Operation) → length op.raises ≤ 4095 → IsRegular (type_of (reply_of fs op))
+reply_regular : (fs : List Face) (op : PlainOperation) → length op.raises ≤ 4095 → IsRegular (type_of (reply_of fs op))
 reply_regular fs op few =
     let ns : List ℤ = arm_numbers (arm_types_of (raised fs 1 op.raises)) in
     let count : nat_le (suc (length ns)) 4096 ≡ true = le-leb _ _ (omega (arith, few, raised_count fs 1 op.raises)) in
@@ -197,57 +193,54 @@ reply_regular fs op few =
     let range : list_all (in_range kind.U32) ns ≡ true = raised_ranged fs 1 op.raises (omega (arith, few)) in
     record { fit = refl; full = refl; labelled = λ r. rw (count, rise, range) refl }
 
-raises_regular : (ss : List aoi.Shape) (fs : List Face) (rs : List Raise) → Standing ss fs (length ss) → list_all (is_sound_raise ss) rs ≡ true → AreRegular (made_raised fs rs)
+raises_regular : (ss : List aoi.Shape) (fs : List Face) (rs : List PlainRaise) → Standing ss fs (length ss) → list_all (is_sound_plain_raise ss) rs ≡ true → AreRegular (made_raised fs rs)
 raises_regular ss fs [] st h = tt
 raises_regular ss fs (r ∷ rs) st h =
-    let p = both (is_sound_raise ss r) (list_all (is_sound_raise ss) rs) h in
-    let q = both (are_distinct (names_of (aoi.members r.members))) (are_sound ss (length ss) (aoi.members r.members)) p.0 in
+    let p = both (is_sound_plain_raise ss r) (list_all (is_sound_plain_raise ss) rs) h in
+    let q = both (are_distinct (names_of r.members)) (are_sound ss (length ss) r.members) p.0 in
     regular_both (made fs (exception r)) (made_raised fs rs)
-    (regular_one (made_inside fs (aoi.members r.members)) _ (inside_regular ss fs (length ss) (aoi.members r.members) st q.1) (record { fit = refl; full = refl; labelled = λ r. refl }))
+    (regular_one (made_inside fs r.members) _ (inside_regular ss fs (length ss) r.members st q.1) (record { fit = refl; full = refl; labelled = λ r. refl }))
     (raises_regular ss fs rs st p.1)
 
-operation_regular : (ss : List aoi.Shape) (fs : List Face) (op : Operation) → Standing ss fs (length ss) → IsSoundOperation ss op → AreRegular (made_request fs op ++ made_reply fs op)
+operation_regular : (ss : List aoi.Shape) (fs : List Face) (op : PlainOperation) → Standing ss fs (length ss) → IsSoundOperation ss op → AreRegular (made_request fs op ++ made_reply fs op)
 operation_regular ss fs op st s =
     let n : ℕ = length ss in
-    let result : AreRegular (made fs (aoi.seen op.result)) = void_or ss fs n (aoi.seen op.result) s.result (made_regular ss fs n (aoi.seen op.result) st) in
-    let outs : AreRegular (made_inside fs (aoi.members op.outs)) = inside_regular ss fs n (aoi.members op.outs) st s.outs in
-    let answer : AreRegular (made_answer fs op) = regular_one _ _ (regular_both (made fs (aoi.seen op.result)) (made_inside fs (aoi.members op.outs)) result outs) (record { fit = refl; full = refl; labelled = λ r. refl }) in
+    let result : AreRegular (made fs op.result) = void_or ss fs n op.result s.result (made_regular ss fs n op.result st) in
+    let outs : AreRegular (made_inside fs op.outs) = inside_regular ss fs n op.outs st s.outs in
+    let answer : AreRegular (made_answer fs op) = regular_one _ _ (regular_both (made fs op.result) (made_inside fs op.outs) result outs) (record { fit = refl; full = refl; labelled = λ r. refl }) in
     regular_both (made_request fs op) (made_reply fs op)
-    (regular_one (made_inside fs (aoi.members op.ins)) _ (inside_regular ss fs n (aoi.members op.ins) st s.ins) (record { fit = refl; full = refl; labelled = λ r. refl }))
+    (regular_one (made_inside fs op.ins) _ (inside_regular ss fs n op.ins st s.ins) (record { fit = refl; full = refl; labelled = λ r. refl }))
     (regular_one (made_answer fs op ++ made_raised fs op.raises) _ (regular_both (made_answer fs op) (made_raised fs op.raises) answer (raises_regular ss fs op.raises st s.raises)) (reply_regular fs op s.few))
 
-operations_regular : (ss : List aoi.Shape) (fs : List Face) (slots : ℕ) (ops : List Operation) → Standing ss fs (length ss) → list_all (is_sound_operation ss slots) ops ≡ true → AreRegular (made_by fs ops)
+operations_regular : (ss : List aoi.Shape) (fs : List Face) (slots : ℕ) (ops : List PlainOperation) → Standing ss fs (length ss) → list_all (is_sound_plain_operation ss slots) ops ≡ true → AreRegular (made_by fs ops)
 operations_regular ss fs slots [] st h = tt
 operations_regular ss fs slots (op ∷ ops) st h =
-    let p = both (is_sound_operation ss slots op) (list_all (is_sound_operation ss slots) ops) h in
+    let p = both (is_sound_plain_operation ss slots op) (list_all (is_sound_plain_operation ss slots) ops) h in
     regular_both (made_request fs op ++ made_reply fs op) (made_by fs ops) (operation_regular ss fs op st (operation_parts ss slots op p.0)) (operations_regular ss fs slots ops st p.1)
 
-seen-Void : aoi.seen Void ≡ aoi.void
-seen-Void = search (rules, the_lemmas)
-
 null_sound : (ss : List aoi.Shape) → IsSoundOperation ss null_operation
-null_sound ss = record { ins = refl; outs = refl; result = ap (λ s. or_void s (is_sound_type ss (length ss) s)) seen-Void; few = omega arith; raises = refl }
+null_sound ss = record { ins = refl; outs = refl; result = refl; few = omega arith; raises = refl }
 
-gotten_regular : (ss : List aoi.Shape) (fs : List Face) (b : Back) (i : Interface) → Standing ss fs (length ss) → AreRegular (made_by fs (gotten b i))
+gotten_regular : (ss : List aoi.Shape) (fs : List Face) (b : Back) (i : PlainInterface) → Standing ss fs (length ss) → AreRegular (made_by fs (gotten b i))
 gotten_regular ss fs b i st = by (gets_null b i) where
   by : (t : Bool) → AreRegular (made_by fs (if t then null_operation ∷ [] else []))
   by true = regular_both (made_request fs null_operation ++ made_reply fs null_operation) [] (operation_regular ss fs null_operation st (null_sound ss)) tt
   by false = tt
 
-interfaces_regular : (ss : List aoi.Shape) (fs : List Face) (b : Back) (is : List Interface) → Standing ss fs (length ss) → list_all (is_sound_interface ss) is ≡ true → AreRegular (made_in_interfaces fs b is)
+interfaces_regular : (ss : List aoi.Shape) (fs : List Face) (b : Back) (is : List PlainInterface) → Standing ss fs (length ss) → list_all (is_sound_plain_interface ss) is ≡ true → AreRegular (made_in_interfaces fs b is)
 interfaces_regular ss fs b [] st h = tt
 interfaces_regular ss fs b (i ∷ is) st h =
-    let p = both (is_sound_interface ss i) (list_all (is_sound_interface ss) is) h in
-    let q = both (nat_le (i.base + i.slots + 100) (2 ^ 31 - 1)) (list_all (is_sound_operation ss i.slots) i.ops) p.0 in
+    let p = both (is_sound_plain_interface ss i) (list_all (is_sound_plain_interface ss) is) h in
+    let q = both (nat_le (i.base + i.slots + 100) (2 ^ 31 - 1)) (list_all (is_sound_plain_operation ss i.slots) i.ops) p.0 in
     regular_both (made_by fs i.ops ++ made_by fs (gotten b i)) (made_in_interfaces fs b is)
     (regular_both (made_by fs i.ops) (made_by fs (gotten b i)) (operations_regular ss fs i.slots i.ops st q.1) (gotten_regular ss fs b i st))
     (interfaces_regular ss fs b is st p.1)
 
-pub unit_regular : (u : UnitParts) (b : Back) → is_sound u ≡ true → AreRegular (all_made u b)
+pub unit_regular : (u : PlainUnit) (b : Back) → is_sound_plain u ≡ true → AreRegular (all_made u b)
 unfolding all_made type_faces
 unit_regular u b h =
-    let ss : List aoi.Shape = aoi.shapes u.types in
-    let p = both (are_sound_types ss 0 ss) (list_all (is_sound_interface ss) u.interfaces) h in
+    let ss : List aoi.Shape = plain_shapes u in
+    let p = both (are_sound_types ss 0 ss) (list_all (is_sound_plain_interface ss) u.interfaces) h in
     let none : Standing ss [] 0 = record { sound = λ k lt. absurd (omega (arith, lt)); named = λ k lt. absurd (omega (arith, lt)); weigh = λ k lt. absurd (omega (arith, lt)) } in
     let front = types_regular ss [] 0 ss refl none (λ k. let same : 0 + k ≡ k = omega arith in rw same refl) p.0 in
     let same : 0 + length ss ≡ length ss = omega arith in

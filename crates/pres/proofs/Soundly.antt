@@ -15,7 +15,7 @@ use Rattle.mint.specs.Types.{text}
 use Rattle.mint.specs.Sound.{is_labelled, is_armless, arm_numbers, rise_from}
 use Rattle.aoi.specs.Shapes as aoi
 use Rattle.aoi.specs.Sound.{are_distinct, are_different, names_of, numbers_of, has_member, has_arm, name_in, unfolded, is_tag, is_of_tag, is_some_count, is_sound_enum, is_sound_union, or_void, is_sound_type, are_sound, are_sound_arms}
-use Rattle.pres.specs.Faces.{ItemList, Sign, number, item, Face, nothing, numbers, list, choice, Arms, no_other, other, arm, at, labels_of, scalar_of, type_of, arm_types_of}
+use Rattle.pres.specs.Faces.{ItemList, Sign, number, item, Face, nothing, choice, Arms, no_other, other, arm, at, labels_of, scalar_of, type_of, arm_types_of}
 use Rattle.pres.specs.Made.{made, made_inside, made_behind}
 use Rattle.pres.specs.Offers.{sign_in, put_arm, face_of, arms_of}
 use Rattle.pres.specs.Regular.{is_ranged, IsRegular, AreRegular}

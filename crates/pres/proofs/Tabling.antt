@@ -1,5 +1,5 @@
 -- Nodes that are put into a table, one after another.
-use Rattle.std.proofs.Common.{◌≡◌, Bool, true, false, ◌||◌, ℕ, zero, suc, ◌+◌, ◌<◌, ℤ, List, [], ◌∷◌, ◌++◌, map, take, drop, length, nat_lt, nat_le, if◌then◌else◌, Option, None, Some, slice_get, refl, sym, ap, ◌∙◌, length-append, append_assoc, append-nil, arith, true≢false}
+use Rattle.std.proofs.Common.{◌≡◌, ◌≢◌, Bool, true, false, ◌||◌, ℕ, zero, suc, ◌+◌, ◌<◌, ℤ, List, [], ◌∷◌, ◌++◌, map, take, drop, length, nat_lt, nat_le, if◌then◌else◌, Option, None, Some, slice_get, refl, sym, ap, ◌∙◌, length-append, append_assoc, append-nil, arith}
 use Rattle.std.specs.List.{list_any, list_all}
 use Rattle.std.proofs.Math.ListN.{drop_of_length-le}
 use Rattle.std.proofs.Math.Seq.{drop-cons}
@@ -14,6 +14,8 @@ use Rattle.mint.specs.Types as mint
 use Rattle.mint.specs.Types.{unfolded, AreBelow, ArmsBelow, IsBelow, HasChildrenBelow}
 use Rattle.mint.proofs.Unfolding.{unfolded-push}
 use Rattle.pres.specs.declared.draft.Entry.{Entry}
+use Rattle.pres.specs.declared.errors.BindErr.{BindErr}
+use Rattle.pres.specs.declared.errors.BindErr.TheVariants as bind
 use Rattle.pres.specs.declared.shape.Shape.{Shape}
 use Rattle.pres.specs.Faces.{Face, nothing, at, level, type_of}
 use Rattle.pres.specs.Faults.{is_deep, is_heavy}
@@ -117,6 +119,13 @@ refusal_is s m ps e rest is st regular shallow ranged =
 pub addable : (r : Option MintErr) (b : Bool) → r ≡ (if b then Some err.Heavy else None) → (e : MintErr) → r ≡ Some e → e ≡ err.Heavy
 addable r true is e h = let same : Some e ≡ Some err.Heavy = sym h ∙ is in cc
 addable r false is e h = absurd cc
+
+-- what a table's refusal comes to
+pub told_cause : (refused : MintErr) (e : BindErr) (r : Option MintErr) → (refused ≡ err.Heavy → e ≡ bind.Heavy) → (refused ≡ err.NoMemory → e ≡ bind.NoMemory) → ((refused ≢ err.NoMemory) → r ≡ Some refused)
+    → ((refused ≢ err.NoMemory) → refused ≡ err.Heavy) → e ≢ bind.NoMemory → (e ≡ bind.Heavy) × (r ≡ Some err.Heavy)
+told_cause refused e r heavy memory is alone ne =
+    let other : refused ≢ err.NoMemory = λ same. ne (memory same) in
+    (heavy (alone other), is other ∙ ap Some (alone other))
 
 pub was_heavy : (r : Option MintErr) (b : Bool) → r ≡ (if b then Some err.Heavy else None) → r ≡ Some err.Heavy → b ≡ true
 was_heavy r true is h = refl

@@ -3,8 +3,7 @@ use Rattle.std.specs.Prelude.{◌≡◌, ◌<◌, List, map, length}
 use Rattle.std.specs.List.{AllByRecursion}
 use Rattle.mint.specs.declared.node.Node.{Node}
 use Rattle.wire_def.specs.declared.encoding.Back.{Back}
-use Rattle.aoi.specs.Units.{Parts as UnitParts}
-use Rattle.aoi.specs.Sound.{IsSound}
+use Rattle.aoi.specs.Plain.{PlainUnit, IsSoundPlain}
 use Rattle.pres.specs.declared.shape.Shape.{Shape}
 use Rattle.pres.specs.declared.ops.Op.{Op}
 use Rattle.pres.specs.Faces.{faces}
@@ -16,7 +15,7 @@ pub record Binding : Type 0 where
   pub nodes : List Node
   pub shapes : List Shape
   pub ops : List Op
-  pub unit : UnitParts
+  pub unit : PlainUnit
   pub back : Back
 
 -- an operation whose messages are nodes
@@ -28,7 +27,7 @@ pub record IsPlaced (b : Binding) (o : Op) : Type 0 where
 pub record IsBinding (b : Binding) : Type 0 where
   -- each node has the names that belong to it
   pub named : AreNamed b.nodes b.shapes
-  pub sound : IsSound b.unit
+  pub sound : IsSoundPlain b.unit
   pub placed : AllByRecursion (IsPlaced b) b.ops
   -- the operations are the unit's, in order
   pub offered : map (offer_at (faces b.nodes b.shapes)) b.ops ≡ offers b.unit b.back

@@ -6,9 +6,7 @@ use Rattle.mint.specs.Types.{IsTable, ArmsBelow, IsBelow}
 use Rattle.mint.specs.declared.node.Node.{Node}
 use Rattle.aoi.specs.Shapes as aoi
 use Rattle.aoi.specs.Sound.{are_distinct, names_of}
-use Rattle.aoi.specs.Units.{Parts as UnitParts}
-use Rattle.aoi.specs.declared.interfaces.Interface.{Interface}
-use Rattle.aoi.specs.declared.interfaces.Operation.{Operation}
+use Rattle.aoi.specs.Plain.{PlainOperation, PlainInterface, PlainUnit, plain_shapes}
 use Rattle.pres.specs.declared.ops.Op.{Op}
 use Rattle.pres.specs.declared.shape.Shape.{Shape}
 use Rattle.pres.specs.declared.errors.BindErr.{BindErr}
@@ -98,10 +96,10 @@ pub record AreArms (s : Sketch) (arms : List (ℤ × ℕ)) (o : Option ℕ) (fs 
   pub are : arms_at (drawn s) arms o ≡ fs
 
 -- an operation whose types are drawable
-pub record IsDrawableOperation (n : ℕ) (op : Operation) : Type 0 where
-  pub ins : IsTrue (are_drawable n (aoi.members op.ins))
-  pub outs : IsTrue (are_drawable n (aoi.members op.outs))
-  pub result : IsTrue (is_drawable n (aoi.seen op.result))
+pub record IsDrawableOperation (n : ℕ) (op : PlainOperation) : Type 0 where
+  pub ins : IsTrue (are_drawable n op.ins)
+  pub outs : IsTrue (are_drawable n op.outs)
+  pub result : IsTrue (is_drawable n op.result)
   pub raises : AllByRecursion (λ r. IsTrue (is_drawable n (exception r))) op.raises
 
 -- an operation as an offer
@@ -121,10 +119,10 @@ AreDrawable n [] = Unit {0}
 AreDrawable n (s ∷ ss) = IsTrue (is_drawable n s) × AreDrawable (suc n) ss
 
 -- an interface whose operations are drawable
-abbrev pub IsDrawableInterface : ℕ → Interface → Type 0
+abbrev pub IsDrawableInterface : ℕ → PlainInterface → Type 0
 IsDrawableInterface n i = AllByRecursion (IsDrawableOperation n) i.ops
 
 -- a unit whose types and operations are drawable
-pub record IsDrawableUnit (u : UnitParts) : Type 0 where
-  pub types : AreDrawable 0 (aoi.shapes u.types)
+pub record IsDrawableUnit (u : PlainUnit) : Type 0 where
+  pub types : AreDrawable 0 (plain_shapes u)
   pub interfaces : AllByRecursion (IsDrawableInterface (length u.types)) u.interfaces

@@ -4,10 +4,7 @@ use Rattle.std.specs.List.{list_any}
 use Rattle.mint.specs.Blank.{blank, depth}
 use Rattle.mint.specs.Values.{weight}
 use Rattle.wire_def.specs.declared.encoding.Back.{Back}
-use Rattle.aoi.specs.declared.interfaces.Interface.{Interface}
-use Rattle.aoi.specs.declared.interfaces.Operation.{Operation}
-use Rattle.aoi.specs.declared.interfaces.Raise.{Raise}
-use Rattle.aoi.specs.Units.{Parts as UnitParts}
+use Rattle.aoi.specs.Plain.{PlainRaise, PlainOperation, PlainInterface, PlainUnit}
 use Rattle.pres.specs.declared.errors.BindErr.{BindErr}
 use Rattle.pres.specs.declared.errors.BindErr.TheVariants as err
 use Rattle.pres.specs.Faces.{Face, nothing, scalar, numbers, values, members, list, choice, maybe, Parts, no_parts, part, Arms, no_other, other, arm, type_of}
@@ -15,11 +12,15 @@ use Rattle.pres.specs.Offers.{Offer, offers, is_cdr}
 use Rattle.pres.specs.Made.{all_made}
 
 -- an operation that raises exceptions
-abbrev pub raises : Operation → Bool
+abbrev pub raises : PlainOperation → Bool
 raises op = not (length op.raises == 0)
 
-abbrev pub has_raises : UnitParts → Bool
-has_raises u = list_any (λ (i : Interface). list_any raises i.ops) u.interfaces
+abbrev pub has_raises : PlainUnit → Bool
+has_raises u = list_any (λ (i : PlainInterface). list_any raises i.ops) u.interfaces
+
+-- an operation raises what the messages of the back end cannot tell
+abbrev pub is_raised_in_vain : PlainUnit → Back → Bool
+is_raised_in_vain u b = not (is_cdr b) && has_raises u
 
 -- more than 32 levels
 abbrev pub is_deep : Face → Bool
@@ -59,24 +60,24 @@ abbrev pub is_long : List ℕ → Bool
 is_long name = nat_lt 16777216 (length name)
 
 -- an operation whose name, or the id of an exception of which, is long
-abbrev pub has_long : Operation → Bool
-has_long op = is_long op.name || list_any (λ (r : Raise). is_long r.id) op.raises
+abbrev pub has_long : PlainOperation → Bool
+has_long op = is_long op.name || list_any (λ (r : PlainRaise). is_long r.id) op.raises
 
 -- an interface with a long name in it
-abbrev pub has_long_in : Interface → Bool
+abbrev pub has_long_in : PlainInterface → Bool
 has_long_in i = is_long i.name || list_any has_long i.ops
 
 -- operations of which one spreads over more than 65,536 nodes, or all over more than 262,144
 abbrev pub is_spread : List Offer → Bool
 is_spread os = list_any (λ o. nat_lt 65536 (spread_of o)) os || nat_lt 262144 (sum_by spread_of os)
 
-abbrev pub is_wide : UnitParts → Back → Bool
+abbrev pub is_wide : PlainUnit → Back → Bool
 is_wide u b = list_any has_long_in u.interfaces || is_spread (offers u b)
 
 -- the first reason
-abbrev pub bind_fault : UnitParts → Back → Option BindErr
+abbrev pub bind_fault : PlainUnit → Back → Option BindErr
 bind_fault u b =
-    if not (is_cdr b) && has_raises u then Some err.Raises
+    if is_raised_in_vain u b then Some err.Raises
     else (if nat_lt 65536 (length (all_made u b)) then Some err.Many
     else (if list_any is_deep (all_made u b) then Some err.Deep
     else (if list_any is_heavy (all_made u b) then Some err.Heavy

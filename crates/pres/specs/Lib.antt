@@ -8,3 +8,4 @@ pub mod Drafts
 pub mod Rising
 pub mod Sizes
 pub mod Regular
+pub mod Laws

@@ -3,11 +3,8 @@ use Rattle.std.specs.Prelude.{List, [], ◌∷◌, ◌++◌, Option, None, Some}
 use Rattle.mint.specs.declared.kind.Kind.{Kind}
 use Rattle.mint.specs.Types.{text}
 use Rattle.wire_def.specs.declared.encoding.Back.{Back}
-use Rattle.aoi.specs.declared.interfaces.Interface.{Interface}
-use Rattle.aoi.specs.declared.interfaces.Operation.{Operation}
-use Rattle.aoi.specs.declared.interfaces.Raise.{Raise}
 use Rattle.aoi.specs.Shapes as aoi
-use Rattle.aoi.specs.Units.{Parts as UnitParts}
+use Rattle.aoi.specs.Plain.{PlainRaise, PlainOperation, PlainInterface, PlainUnit, plain_shapes}
 use Rattle.pres.specs.Faces.{number, item, Face, nothing, scalar, numbers}
 use Rattle.pres.specs.Offers.{packed, face_of, type_faces, exception, request_of, answer_of, reply_of, gotten}
 
@@ -46,32 +43,32 @@ made_in_types fs [] = []
 made_in_types fs (s ∷ ss) = made fs s ++ made_in_types (fs ++ face_of fs s ∷ []) ss
 
 -- those of exceptions
-abbrev pub made_raised : List Face → List Raise → List Face
+abbrev pub made_raised : List Face → List PlainRaise → List Face
 made_raised fs [] = []
 made_raised fs (r ∷ rs) = made fs (exception r) ++ made_raised fs rs
 
 -- those of a request: its parameters, and itself
-abbrev pub made_request : List Face → Operation → List Face
-made_request fs op = made_inside fs (aoi.members op.ins) ++ request_of fs op ∷ []
+abbrev pub made_request : List Face → PlainOperation → List Face
+made_request fs op = made_inside fs op.ins ++ request_of fs op ∷ []
 
 -- those of an answer: the result, the parameters out, and itself
-abbrev pub made_answer : List Face → Operation → List Face
-made_answer fs op = (made fs (aoi.seen op.result) ++ made_inside fs (aoi.members op.outs)) ++ answer_of fs op ∷ []
+abbrev pub made_answer : List Face → PlainOperation → List Face
+made_answer fs op = (made fs op.result ++ made_inside fs op.outs) ++ answer_of fs op ∷ []
 
 -- those of a reply: the answer, the exceptions, and itself
-abbrev pub made_reply : List Face → Operation → List Face
+abbrev pub made_reply : List Face → PlainOperation → List Face
 made_reply fs op = (made_answer fs op ++ made_raised fs op.raises) ++ reply_of fs op ∷ []
 
 -- those of operations
-abbrev pub made_by : List Face → List Operation → List Face
+abbrev pub made_by : List Face → List PlainOperation → List Face
 made_by fs [] = []
 made_by fs (op ∷ ops) = (made_request fs op ++ made_reply fs op) ++ made_by fs ops
 
 -- those of interfaces
-abbrev pub made_in_interfaces : List Face → Back → List Interface → List Face
+abbrev pub made_in_interfaces : List Face → Back → List PlainInterface → List Face
 made_in_interfaces fs b [] = []
 made_in_interfaces fs b (i ∷ is) = (made_by fs i.ops ++ made_by fs (gotten b i)) ++ made_in_interfaces fs b is
 
 -- those of a unit
-unfoldable pub all_made : UnitParts → Back → List Face
-all_made u b = made_in_types [] (aoi.shapes u.types) ++ made_in_interfaces (type_faces u) b u.interfaces
+unfoldable pub all_made : PlainUnit → Back → List Face
+all_made u b = made_in_types [] (plain_shapes u) ++ made_in_interfaces (type_faces u) b u.interfaces

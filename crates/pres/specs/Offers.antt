@@ -7,12 +7,8 @@ use Rattle.mint.specs.declared.kind.Count.{Count}
 use Rattle.mint.specs.Types.{text, row_of}
 use Rattle.wire_def.specs.declared.encoding.Back.{Back}
 use Rattle.wire_def.specs.declared.encoding.Back.TheVariants as back
-use Rattle.aoi.specs.declared.interfaces.Interface.{Interface}
-use Rattle.aoi.specs.declared.interfaces.Operation.{Operation}
-use Rattle.aoi.specs.declared.interfaces.Raise.{Raise}
-use Rattle.aoi.specs.declared.types.Ty.{Void}
 use Rattle.aoi.specs.Shapes as aoi
-use Rattle.aoi.specs.Units.{Parts as UnitParts}
+use Rattle.aoi.specs.Plain.{PlainRaise, PlainOperation, PlainInterface, PlainUnit, plain_shapes}
 use Rattle.pres.specs.declared.ops.Op.{Op}
 use Rattle.pres.specs.Faces.{Sign, number, item, Face, nothing, scalar, numbers, values, members, list, choice, maybe, Parts, no_parts, part, Arms, no_other, other, arm, at}
 
@@ -70,8 +66,8 @@ faces_of fs [] = fs
 faces_of fs (s ∷ ss) = faces_of (fs ++ face_of fs s ∷ []) ss
 
 -- what the types of a unit stand for
-unfoldable pub type_faces : UnitParts → List Face
-type_faces u = faces_of [] (aoi.shapes u.types)
+unfoldable pub type_faces : PlainUnit → List Face
+type_faces u = faces_of [] (plain_shapes u)
 
 -- parts without their names
 abbrev pub unnamed : Parts → Parts
@@ -83,24 +79,24 @@ abbrev pub parameters : List Face → aoi.Members → Parts
 parameters fs ms = unnamed (parts_of fs ms)
 
 -- an exception, which is a struct
-abbrev pub exception : Raise → aoi.Shape
-exception r = aoi.structure (aoi.members r.members)
+abbrev pub exception : PlainRaise → aoi.Shape
+exception r = aoi.structure r.members
 
 -- exceptions, by numbers from k up
-abbrev pub raised : List Face → ℕ → List Raise → Arms
+abbrev pub raised : List Face → ℕ → List PlainRaise → Arms
 raised fs k [] = no_other
 raised fs k (r ∷ rs) = arm (pos k) (face_of fs (exception r)) (raised fs (suc k) rs)
 
 -- what goes in
-abbrev pub request_of : List Face → Operation → Face
-request_of fs op = values (parameters fs (aoi.members op.ins))
+abbrev pub request_of : List Face → PlainOperation → Face
+request_of fs op = values (parameters fs op.ins)
 
 -- the result, and the parameters out
-abbrev pub answer_of : List Face → Operation → Face
-answer_of fs op = values (part [] (face_of fs (aoi.seen op.result)) (parameters fs (aoi.members op.outs)))
+abbrev pub answer_of : List Face → PlainOperation → Face
+answer_of fs op = values (part [] (face_of fs op.result) (parameters fs op.outs))
 
 -- what comes back: the answer, or an exception
-abbrev pub reply_of : List Face → Operation → Face
+abbrev pub reply_of : List Face → PlainOperation → Face
 reply_of fs op = choice (number kind.U32) (arm (pos 0) (answer_of fs op) (raised fs 1 op.raises))
 
 -- an operation of an interface, with the faces of its messages
@@ -121,36 +117,36 @@ is_xdr back.Xdr = true
 is_xdr _ = false
 
 -- a reply is awaited, of each operation over cdr, else of each that is not oneway
-abbrev pub is_answered : Back → Operation → Bool
+abbrev pub is_answered : Back → PlainOperation → Bool
 is_answered b op = is_cdr b || not op.oneway
 
 -- an operation of the unit
-abbrev pub offer : List Face → Back → ℕ → Operation → Offer
+abbrev pub offer : List Face → Back → ℕ → PlainOperation → Offer
 offer fs b k op = record { interface = k; name = op.name; request = request_of fs op; reply = reply_of fs op; has_reply = is_answered b op }
 
 -- procedure 0, which takes nothing and answers nothing
-abbrev pub null_operation : Operation
-null_operation = record { name = 48 ∷ []; proc_no = 0; slot = 0; ins = []; outs = []; result = Void; raises = []; oneway = false }
+abbrev pub null_operation : PlainOperation
+null_operation = record { name = 48 ∷ []; proc_no = 0; slot = 0; ins = aoi.no_more; outs = aoi.no_more; result = aoi.void; raises = []; oneway = false }
 
 -- over Xdr an interface without procedure 0 gets one
-abbrev pub gets_null : Back → Interface → Bool
-gets_null b i = is_xdr b && not (list_any (λ (op : Operation). op.proc_no == 0) i.ops)
+abbrev pub gets_null : Back → PlainInterface → Bool
+gets_null b i = is_xdr b && not (list_any (λ (op : PlainOperation). op.proc_no == 0) i.ops)
 
 -- the operation that an interface gets
-abbrev pub gotten : Back → Interface → List Operation
+abbrev pub gotten : Back → PlainInterface → List PlainOperation
 gotten b i = if gets_null b i then null_operation ∷ [] else []
 
 -- the operations of an interface, and the one that it gets
-abbrev pub operations : Back → Interface → List Operation
+abbrev pub operations : Back → PlainInterface → List PlainOperation
 operations b i = i.ops ++ gotten b i
 
 -- the operations of interfaces, counted from k
-abbrev pub offers_from : List Face → Back → ℕ → List Interface → List Offer
+abbrev pub offers_from : List Face → Back → ℕ → List PlainInterface → List Offer
 offers_from fs b k [] = []
 offers_from fs b k (i ∷ is) = map (offer fs b k) (operations b i) ++ offers_from fs b (suc k) is
 
 -- the operations that a back end has messages for
-abbrev pub offers : UnitParts → Back → List Offer
+abbrev pub offers : PlainUnit → Back → List Offer
 offers u b = offers_from (type_faces u) b 0 u.interfaces
 
 -- what an operation is, over the faces of a table's nodes

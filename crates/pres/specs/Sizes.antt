@@ -4,10 +4,11 @@ use Rattle.std.specs.List.{list_any}
 use Rattle.mint.specs.Blank.{depth, fields_depth, arms_depth}
 use Rattle.mint.specs.declared.node.Node.{Node}
 use Rattle.mint.specs.declared.node.Node.TheVariants as node
+use Rattle.aoi.specs.Plain.{PlainUnit}
 use Rattle.pres.specs.declared.ops.Op.{Op}
 use Rattle.pres.specs.declared.sizes.Size.{Size}
 use Rattle.pres.specs.Faces.{Face, Parts, Arms, type_of, types_of, arm_types_of}
-use Rattle.pres.specs.Faults.{spread, spread_inside, spread_behind}
+use Rattle.pres.specs.Faults.{spread, spread_inside, spread_behind, has_long_in}
 
 abbrev pub sized : ℕ → ℕ → Size
 sized d n = record { depth = min d 33; nodes = min n 65537 }
@@ -56,6 +57,10 @@ size_at sizes (node.Choice t arms o) = over (behind_at sizes arms o)
 size_at sizes (node.Maybe i) = over (at sizes i)
 size_at sizes _ = sized 1 1
 
+-- a size of too many levels
+abbrev pub has_deep : List Size → Bool
+has_deep sizes = list_any (λ (s : Size). nat_lt 32 s.depth) sizes
+
 -- the nodes of an operation's messages, each up to the limit
 abbrev pub nodes_of : List Size → Op → ℕ
 nodes_of sizes o = (at sizes o.request).nodes + (at sizes o.reply).nodes
@@ -63,3 +68,7 @@ nodes_of sizes o = (at sizes o.request).nodes + (at sizes o.reply).nodes
 -- operations with too many nodes, one of them or all
 abbrev pub is_over : List Size → List Op → Bool
 is_over sizes ops = list_any (λ o. nat_lt 65536 (nodes_of sizes o)) ops || nat_lt 262144 (sum_by (nodes_of sizes) ops)
+
+-- a unit with a long name in it, or operations with too many nodes
+abbrev pub is_too_wide : PlainUnit → List Size → List Op → Bool
+is_too_wide u sizes ops = list_any has_long_in u.interfaces || is_over sizes ops

@@ -1,5 +1,6 @@
 // A unit that is bound to a back end.
 ghost use Rattle.std.specs.Prelude.{◌≡◌, ◌≤◌, length, slice_get, Some, IfNone, IfSome};
+ghost use Rattle.aoi.specs.Plain.{plain};
 ghost use Rattle.mint.specs.Types.{HasChildrenBelow, type_at};
 ghost use Rattle.pres.specs.Bindings.{IsBinding};
 ghost use Rattle.pres.specs.Faces.{face_at, faces, level, type_of};
@@ -25,23 +26,23 @@ pub struct Bound {
 impl Model for Bound {
     ghost use Rattle.pres.specs.Bindings.{Binding, IsBinding};
     ghost use Rattle.std.specs.Coded.{codes};
-    ghost use Rattle.aoi.specs.contracts.types.Ty as t;
-    ghost use Rattle.aoi.specs.contracts.types.Field as f;
+    ghost use Rattle.aoi.specs.Plain.{plain};
+    ghost use Rattle.aoi.specs.Stored.{coded_shape, coded_members};
 
     ghost Value = { Binding };
 
-    ghost coded = { Prim.hlevel (codes, t.the_row.coded, f.the_row.coded) };
+    ghost coded = { Prim.hlevel (codes, coded_shape, coded_members) };
 
-    ghost view = { λ b. record { nodes = b.mint; shapes = b.pres; ops = b.ops; unit = b.unit; back = b.back } };
+    ghost view = { λ b. record { nodes = b.mint; shapes = b.pres; ops = b.ops; unit = plain b.unit; back = b.back } };
 
-    ghost invariant = { λ b. IsBinding (record { nodes = b.mint; shapes = b.pres; ops = b.ops; unit = b.unit; back = b.back }) };
+    ghost invariant = { λ b. IsBinding (record { nodes = b.mint; shapes = b.pres; ops = b.ops; unit = plain b.unit; back = b.back }) };
 }
 
 impl Bound {
     /// Nodes, shapes and operations that stand for a unit.
     pub(crate) fn of_parts(mint: Mint, pres: Pres, ops: Ops, unit: Unit, back: Back) -> Bound
-        requires { IsBinding (record { nodes = mint; shapes = pres; ops = ops; unit = unit; back = back }) }
-        ensures { result ≡ record { nodes = mint; shapes = pres; ops = ops; unit = unit; back = back } }
+        requires { IsBinding (record { nodes = mint; shapes = pres; ops = ops; unit = plain unit; back = back }) }
+        ensures { result ≡ record { nodes = mint; shapes = pres; ops = ops; unit = plain unit; back = back } }
     {
         Bound {
             mint,
@@ -76,7 +77,7 @@ impl Bound {
 
     /// The unit.
     pub fn unit(&self) -> &Unit
-        ensures { result.now ≡ self.now.unit }
+        ensures { plain result.now ≡ self.now.unit }
     {
         &self.unit
     }

@@ -41,6 +41,19 @@ fn is_ranged(node: &Node)
     }
 }
 
+/// What a unit is told where a table refuses a node as too heavy, or has no memory. It takes no memory.
+fn told(refused: MintErr) -> BindErr
+    requires { (refused ≢ MintErr.NoMemory) → refused ≡ MintHeavy }
+    ensures heavy { refused ≡ MintHeavy → result ≡ BindErr.Heavy }
+    ensures memory { refused ≡ MintErr.NoMemory → result ≡ BindErr.NoMemory }
+{
+    match refused {
+        MintErr::Heavy => BindErr::Heavy,
+        MintErr::NoMemory => BindErr::NoMemory,
+        _ => unreachable!(),
+    }
+}
+
 /// Puts a node into a table that refuses it as too heavy alone.
 fn add(mint: &mut Mint, node: Node) -> Result<(), BindErr>
     requires { (e : Refusal) → refusal mint.old node ≡ Some e → e ≡ MintHeavy }
@@ -50,9 +63,7 @@ fn add(mint: &mut Mint, node: Node) -> Result<(), BindErr>
 {
     match mint.add(node) {
         Ok(_) => Ok(()),
-        Err(MintErr::Heavy) => Err(BindErr::Heavy),
-        Err(MintErr::NoMemory) => Err(BindErr::NoMemory),
-        Err(_) => unreachable!(),
+        Err(refused) => Err(told(refused)),
     }
 }
 

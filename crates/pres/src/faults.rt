@@ -1,7 +1,7 @@
 // Why a unit is not bound.
-ghost use Rattle.std.specs.Prelude.{◌≡◌, ◌<◌, nat_lt, length};
+ghost use Rattle.std.specs.Prelude.{◌≡◌, ◌<◌, nat_lt, length, map};
 ghost use Rattle.std.specs.List.{list_any, AllByRecursion};
-ghost use Rattle.aoi.specs.declared.interfaces.Interface.{Interface as InterfaceRecord};
+ghost use Rattle.aoi.specs.Plain.{PlainRaise, PlainInterface, plain_raise, plain_operation, plain_interface};
 ghost use Rattle.pres.specs.declared.ops.Op.{Op as OpRecord};
 ghost use Rattle.pres.specs.declared.sizes.Size.{Size as SizeRecord};
 ghost use Rattle.pres.specs.Faults.{raises, is_long, has_long, has_long_in};
@@ -22,7 +22,7 @@ const EACH: u64 = 65_536;
 const ALL: u64 = 262_144;
 
 fn is_raise_in(ops: &[Operation]) -> bool
-    ensures { result ≡ list_any raises ops.now }
+    ensures { result ≡ list_any raises (map plain_operation ops.now) }
 {
     for op in ops {
         if op.raises.len() != 0 {
@@ -34,7 +34,7 @@ fn is_raise_in(ops: &[Operation]) -> bool
 
 /// Whether an operation raises exceptions.
 pub(crate) fn has_raises(interfaces: &[Interface]) -> bool
-    ensures { result ≡ list_any (λ (i : InterfaceRecord). list_any raises i.ops) interfaces.now }
+    ensures { result ≡ list_any (λ (i : PlainInterface). list_any raises i.ops) (map plain_interface interfaces.now) }
 {
     for i in interfaces {
         if is_raise_in(i.ops.as_slice()) {
@@ -51,7 +51,7 @@ fn is_long(name: &Name) -> bool
 }
 
 fn is_long_id(raises: &[Raise]) -> bool
-    ensures { result ≡ list_any (λ r. is_long r.id) raises.now }
+    ensures { result ≡ list_any (λ (r : PlainRaise). is_long r.id) (map plain_raise raises.now) }
 {
     for raise in raises {
         if is_long(&raise.id) {
@@ -62,13 +62,13 @@ fn is_long_id(raises: &[Raise]) -> bool
 }
 
 fn has_long(op: &Operation) -> bool
-    ensures { result ≡ has_long op.now }
+    ensures { result ≡ has_long (plain_operation op.now) }
 {
     is_long(&op.name) || is_long_id(op.raises.as_slice())
 }
 
 fn is_long_in(ops: &[Operation]) -> bool
-    ensures { result ≡ list_any has_long ops.now }
+    ensures { result ≡ list_any has_long (map plain_operation ops.now) }
 {
     for op in ops {
         if has_long(op) {
@@ -79,14 +79,14 @@ fn is_long_in(ops: &[Operation]) -> bool
 }
 
 fn has_long_in(i: &Interface) -> bool
-    ensures { result ≡ has_long_in i.now }
+    ensures { result ≡ has_long_in (plain_interface i.now) }
 {
     is_long(&i.name) || is_long_in(i.ops.as_slice())
 }
 
 /// Whether a name or an id is too long.
 pub(crate) fn has_long_names(interfaces: &[Interface]) -> bool
-    ensures { result ≡ list_any has_long_in interfaces.now }
+    ensures { result ≡ list_any has_long_in (map plain_interface interfaces.now) }
 {
     for i in interfaces {
         if has_long_in(i) {

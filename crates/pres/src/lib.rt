@@ -8,6 +8,7 @@ mod draft;
 mod drawing;
 mod errors;
 mod faults;
+mod laws;
 mod messages;
 mod naming;
 mod ops;
@@ -20,12 +21,7 @@ mod units;
 pub use binding::bind;
 pub use bound::Bound;
 pub use errors::BindErr;
+pub use laws::units_are_bound;
+pub use messages::gets_null;
 pub use ops::{Op, Ops};
 pub use shape::{Pres, Shape};
-
-#[cfg(test)]
-mod fixtures;
-#[cfg(test)]
-mod limit_tests;
-#[cfg(test)]
-mod node_tests;

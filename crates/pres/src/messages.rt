@@ -1,7 +1,8 @@
 // The nodes of messages.
 ghost use Rattle.std.specs.Prelude.{◌≡◌, ◌+◌, ◌==◌, ◌<◌, [], ◌∷◌, ◌++◌, ℕ, List, map, length, pos, IfOk, IfErr, OnOk, IsTrue, None};
 ghost use Rattle.std.specs.List.{AllByRecursion, list_any};
-ghost use Rattle.aoi.specs.Shapes.{seen, members};
+ghost use Rattle.aoi.specs.Plain.{PlainOperation, plain_raise, plain_operation, plain_interface};
+ghost use Rattle.aoi.specs.Shapes.{members};
 ghost use Rattle.pres.specs.Drafts.{Grows, IsDrawn, AreArms, Overflows, drawn, known, is_drawable, are_drawable, IsDrawableOperation, IsOffered, AreOffered};
 ghost use Rattle.pres.specs.Faces.{arm, at};
 ghost use Rattle.pres.specs.Made.{made_request, made_answer, made_raised, made_reply, made_by};
@@ -33,7 +34,7 @@ fn is_xdr(back: Back) -> bool
 
 /// Whether one of the operations is procedure 0.
 fn has_null(ops: &[Operation]) -> bool
-    ensures { result ≡ list_any (λ (op : Operation). op.proc_no == 0) ops.now }
+    ensures { result ≡ list_any (λ (op : PlainOperation). op.proc_no == 0) (map plain_operation ops.now) }
 {
     for op in ops {
         if op.proc_no == 0 {
@@ -43,16 +44,16 @@ fn has_null(ops: &[Operation]) -> bool
     false
 }
 
-/// Whether an interface gets procedure 0.
-pub(crate) fn gets_null(back: Back, i: &Interface) -> bool
-    ensures { result ≡ gets_null back i.now }
+/// Whether an interface gets procedure 0 over a back end.
+pub fn gets_null(back: Back, i: &Interface) -> bool
+    ensures { result ≡ gets_null back (plain_interface i.now) }
 {
     is_xdr(back) && !has_null(i.ops.as_slice())
 }
 
 /// Procedure 0, which takes nothing and answers nothing.
 pub(crate) fn null_operation(alloc: Global) -> Result<Operation, NoMemory>
-    ensures { IfOk result (λ op. op ≡ null_operation) }
+    ensures { IfOk result (λ op. plain_operation op ≡ null_operation) }
 {
     let mut name = Name::new(alloc);
     name.append(b"0")?;
@@ -79,9 +80,9 @@ impl Draft {
     /// Draws what goes in.
     fn draw_request(&mut self, alloc: Global, op: &Operation) -> Result<NodeId, BindErr>
         requires { IsTrue (are_drawable (length (known self.old)) (members op.now.ins)) }
-        ensures grows { OnOk result (Grows self.old self.new (made_request (known self.old) op.now)) }
-        ensures id { IfOk result (λ id. IsDrawn self.new id (request_of (known self.old) op.now)) }
-        ensures cause { IfErr result (λ e. Overflows (drawn self.old ++ made_request (known self.old) op.now) e) }
+        ensures grows { OnOk result (Grows self.old self.new (made_request (known self.old) (plain_operation op.now))) }
+        ensures id { IfOk result (λ id. IsDrawn self.new id (request_of (known self.old) (plain_operation op.now))) }
+        ensures cause { IfErr result (λ e. Overflows (drawn self.old ++ made_request (known self.old) (plain_operation op.now)) e) }
     {
         let ids = self.draw_fields(alloc, op.ins.as_slice())?;
         self.push(Node::Group(ids), Shape::Plain)
@@ -89,10 +90,10 @@ impl Draft {
 
     /// Draws the result, and the parameters out.
     fn draw_answer(&mut self, alloc: Global, op: &Operation) -> Result<NodeId, BindErr>
-        requires { IsDrawableOperation (length (known self.old)) op.now }
-        ensures grows { OnOk result (Grows self.old self.new (made_answer (known self.old) op.now)) }
-        ensures id { IfOk result (λ id. IsDrawn self.new id (answer_of (known self.old) op.now)) }
-        ensures cause { IfErr result (λ e. Overflows (drawn self.old ++ made_answer (known self.old) op.now) e) }
+        requires { IsDrawableOperation (length (known self.old)) (plain_operation op.now) }
+        ensures grows { OnOk result (Grows self.old self.new (made_answer (known self.old) (plain_operation op.now))) }
+        ensures id { IfOk result (λ id. IsDrawn self.new id (answer_of (known self.old) (plain_operation op.now))) }
+        ensures cause { IfErr result (λ e. Overflows (drawn self.old ++ made_answer (known self.old) (plain_operation op.now)) e) }
     {
         let id = self.draw(alloc, &op.result)?;
         let outs = self.draw_fields(alloc, op.outs.as_slice())?;
@@ -110,10 +111,10 @@ impl Draft {
         raises: &[Raise],
     ) -> Result<Arms, BindErr>
         requires answer { answer < length (drawn self.old) }
-        requires raises { AllByRecursion (λ r. IsTrue (is_drawable (length (known self.old)) (exception r))) raises.now }
-        ensures grows { OnOk result (Grows self.old self.new (made_raised (known self.old) raises.now)) }
-        ensures arms { IfOk result (λ arms. AreArms self.new arms None (arm (pos 0) (at (drawn self.old) answer) (raised (known self.old) 1 raises.now))) }
-        ensures cause { IfErr result (λ e. Overflows (drawn self.old ++ made_raised (known self.old) raises.now) e) }
+        requires raises { AllByRecursion (λ r. IsTrue (is_drawable (length (known self.old)) (exception r))) (map plain_raise raises.now) }
+        ensures grows { OnOk result (Grows self.old self.new (made_raised (known self.old) (map plain_raise raises.now))) }
+        ensures arms { IfOk result (λ arms. AreArms self.new arms None (arm (pos 0) (at (drawn self.old) answer) (raised (known self.old) 1 (map plain_raise raises.now)))) }
+        ensures cause { IfErr result (λ e. Overflows (drawn self.old ++ made_raised (known self.old) (map plain_raise raises.now)) e) }
     {
         let mut arms = Arms::new(alloc);
         arms.push((0, answer))?;
@@ -126,10 +127,10 @@ impl Draft {
 
     /// Draws what comes back.
     fn draw_reply(&mut self, alloc: Global, op: &Operation) -> Result<NodeId, BindErr>
-        requires { IsDrawableOperation (length (known self.old)) op.now }
-        ensures grows { OnOk result (Grows self.old self.new (made_reply (known self.old) op.now)) }
-        ensures id { IfOk result (λ id. IsDrawn self.new id (reply_of (known self.old) op.now)) }
-        ensures cause { IfErr result (λ e. Overflows (drawn self.old ++ made_reply (known self.old) op.now) e) }
+        requires { IsDrawableOperation (length (known self.old)) (plain_operation op.now) }
+        ensures grows { OnOk result (Grows self.old self.new (made_reply (known self.old) (plain_operation op.now))) }
+        ensures id { IfOk result (λ id. IsDrawn self.new id (reply_of (known self.old) (plain_operation op.now))) }
+        ensures cause { IfErr result (λ e. Overflows (drawn self.old ++ made_reply (known self.old) (plain_operation op.now)) e) }
     {
         let answer = self.draw_answer(alloc, op)?;
         let arms = self.draw_raises(alloc, answer, op.raises.as_slice())?;
@@ -144,10 +145,10 @@ impl Draft {
         k: u32,
         op: &Operation,
     ) -> Result<Op, BindErr>
-        requires { IsDrawableOperation (length (known self.old)) op.now }
-        ensures grows { OnOk result (Grows self.old self.new (made_request (known self.old) op.now ++ made_reply (known self.old) op.now)) }
-        ensures op { IfOk result (λ o. IsOffered self.new o (offer (known self.old) back k op.now)) }
-        ensures cause { IfErr result (λ e. Overflows (drawn self.old ++ (made_request (known self.old) op.now ++ made_reply (known self.old) op.now)) e) }
+        requires { IsDrawableOperation (length (known self.old)) (plain_operation op.now) }
+        ensures grows { OnOk result (Grows self.old self.new (made_request (known self.old) (plain_operation op.now) ++ made_reply (known self.old) (plain_operation op.now))) }
+        ensures op { IfOk result (λ o. IsOffered self.new o (offer (known self.old) back k (plain_operation op.now))) }
+        ensures cause { IfErr result (λ e. Overflows (drawn self.old ++ (made_request (known self.old) (plain_operation op.now) ++ made_reply (known self.old) (plain_operation op.now))) e) }
     {
         let name = copy_name(alloc, &op.name)?;
         let request = self.draw_request(alloc, op)?;
@@ -171,11 +172,11 @@ impl Draft {
         ops: &[Operation],
         list: &mut Ops,
     ) -> Result<(), BindErr>
-        requires ops { AllByRecursion (IsDrawableOperation (length (known self.old))) ops.now }
+        requires ops { AllByRecursion (IsDrawableOperation (length (known self.old))) (map plain_operation ops.now) }
         requires offered { AreOffered self.old list.old (map (offer_at (drawn self.old)) list.old) }
-        ensures grows { OnOk result (Grows self.old self.new (made_by (known self.old) ops.now)) }
-        ensures offers { OnOk result (AreOffered self.new list.new (map (offer_at (drawn self.old)) list.old ++ map (offer (known self.old) back k) ops.now)) }
-        ensures cause { IfErr result (λ e. Overflows (drawn self.old ++ made_by (known self.old) ops.now) e) }
+        ensures grows { OnOk result (Grows self.old self.new (made_by (known self.old) (map plain_operation ops.now))) }
+        ensures offers { OnOk result (AreOffered self.new list.new (map (offer_at (drawn self.old)) list.old ++ map (offer (known self.old) back k) (map plain_operation ops.now))) }
+        ensures cause { IfErr result (λ e. Overflows (drawn self.old ++ made_by (known self.old) (map plain_operation ops.now)) e) }
     {
         for op in ops {
             let op = self.draw_operation(alloc, back, k, op)?;

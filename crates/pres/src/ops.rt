@@ -7,11 +7,13 @@ use mint::table::NodeId;
 pub struct Op {
     /// The number of its interface in the unit, from 0.
     pub interface: u32,
+    /// Its own name, without that of its interface.
     pub name: Name,
     /// The group of what goes in.
     pub request: NodeId,
     /// The choice of what comes back: arm 0 is the answer, arm k the k-th exception.
     pub reply: NodeId,
+    /// Whether a reply is awaited.
     pub has_reply: bool,
 }
 

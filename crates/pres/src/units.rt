@@ -1,6 +1,7 @@
 // The nodes of a unit.
 ghost use Rattle.std.specs.Prelude.{◌≡◌, ◌≤◌, [], ◌∷◌, ◌++◌, map, length, IfOk, IfErr, OnOk};
 ghost use Rattle.std.specs.List.{AllByRecursion};
+ghost use Rattle.aoi.specs.Plain.{plain, plain_interface};
 ghost use Rattle.aoi.specs.Shapes.{shapes};
 ghost use Rattle.pres.specs.Drafts.{Grows, Overflows, drawn, known, AreDrawable, IsDrawableOperation, IsDrawableInterface, IsDrawableUnit, AreOffered};
 ghost use Rattle.pres.specs.Made.{made_by, made_in_types, made_in_interfaces, all_made};
@@ -25,9 +26,9 @@ impl Draft {
         list: &mut Ops,
     ) -> Result<(), BindErr>
         requires { AreOffered self.old list.old (map (offer_at (drawn self.old)) list.old) }
-        ensures grows { OnOk result (Grows self.old self.new (made_by (known self.old) (gotten back i.now))) }
-        ensures offers { OnOk result (AreOffered self.new list.new (map (offer_at (drawn self.old)) list.old ++ map (offer (known self.old) back k) (gotten back i.now))) }
-        ensures cause { IfErr result (λ e. Overflows (drawn self.old ++ made_by (known self.old) (gotten back i.now)) e) }
+        ensures grows { OnOk result (Grows self.old self.new (made_by (known self.old) (gotten back (plain_interface i.now)))) }
+        ensures offers { OnOk result (AreOffered self.new list.new (map (offer_at (drawn self.old)) list.old ++ map (offer (known self.old) back k) (gotten back (plain_interface i.now)))) }
+        ensures cause { IfErr result (λ e. Overflows (drawn self.old ++ made_by (known self.old) (gotten back (plain_interface i.now))) e) }
     {
         if !gets_null(back, i) {
             return Ok(());
@@ -47,11 +48,11 @@ impl Draft {
         i: &Interface,
         list: &mut Ops,
     ) -> Result<(), BindErr>
-        requires ops { IsDrawableInterface (length (known self.old)) i.now }
+        requires ops { IsDrawableInterface (length (known self.old)) (plain_interface i.now) }
         requires offered { AreOffered self.old list.old (map (offer_at (drawn self.old)) list.old) }
-        ensures grows { OnOk result (Grows self.old self.new (made_by (known self.old) i.now.ops ++ made_by (known self.old) (gotten back i.now))) }
-        ensures offers { OnOk result (AreOffered self.new list.new (map (offer_at (drawn self.old)) list.old ++ map (offer (known self.old) back k) (operations back i.now))) }
-        ensures cause { IfErr result (λ e. Overflows (drawn self.old ++ (made_by (known self.old) i.now.ops ++ made_by (known self.old) (gotten back i.now))) e) }
+        ensures grows { OnOk result (Grows self.old self.new (made_by (known self.old) (plain_interface i.now).ops ++ made_by (known self.old) (gotten back (plain_interface i.now)))) }
+        ensures offers { OnOk result (AreOffered self.new list.new (map (offer_at (drawn self.old)) list.old ++ map (offer (known self.old) back k) (operations back (plain_interface i.now)))) }
+        ensures cause { IfErr result (λ e. Overflows (drawn self.old ++ (made_by (known self.old) (plain_interface i.now).ops ++ made_by (known self.old) (gotten back (plain_interface i.now)))) e) }
     {
         self.draw_operations(alloc, back, k, i.ops.as_slice(), list)?;
         self.draw_gotten(alloc, back, k, i, list)?;
@@ -66,10 +67,10 @@ impl Draft {
         interfaces: &[Interface],
     ) -> Result<Ops, BindErr>
         requires few { length interfaces.now ≤ 64 }
-        requires interfaces { AllByRecursion (IsDrawableInterface (length (known self.old))) interfaces.now }
-        ensures grows { OnOk result (Grows self.old self.new (made_in_interfaces (known self.old) back interfaces.now)) }
-        ensures offers { IfOk result (λ list. AreOffered self.new list (offers_from (known self.old) back 0 interfaces.now)) }
-        ensures cause { IfErr result (λ e. Overflows (drawn self.old ++ made_in_interfaces (known self.old) back interfaces.now) e) }
+        requires interfaces { AllByRecursion (IsDrawableInterface (length (known self.old))) (map plain_interface interfaces.now) }
+        ensures grows { OnOk result (Grows self.old self.new (made_in_interfaces (known self.old) back (map plain_interface interfaces.now))) }
+        ensures offers { IfOk result (λ list. AreOffered self.new list (offers_from (known self.old) back 0 (map plain_interface interfaces.now))) }
+        ensures cause { IfErr result (λ e. Overflows (drawn self.old ++ made_in_interfaces (known self.old) back (map plain_interface interfaces.now)) e) }
     {
         let mut list = Ops::new(alloc);
         for (k, i) in interfaces.iter().enumerate() {
@@ -103,10 +104,10 @@ impl Draft {
     ) -> Result<Ops, BindErr>
         requires nodes { drawn self.old ≡ [] }
         requires types { known self.old ≡ [] }
-        requires drawable { IsDrawableUnit unit.now }
-        ensures nodes { OnOk result (drawn self.new ≡ all_made unit.now back) }
-        ensures offers { IfOk result (λ list. AreOffered self.new list (offers unit.now back)) }
-        ensures cause { IfErr result (λ e. Overflows (all_made unit.now back) e) }
+        requires drawable { IsDrawableUnit (plain unit.now) }
+        ensures nodes { OnOk result (drawn self.new ≡ all_made (plain unit.now) back) }
+        ensures offers { IfOk result (λ list. AreOffered self.new list (offers (plain unit.now) back)) }
+        ensures cause { IfErr result (λ e. Overflows (all_made (plain unit.now) back) e) }
     {
         let _few = unit.interface_count();
         self.draw_types(alloc, unit.types().as_slice())?;

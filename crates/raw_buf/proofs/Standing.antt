@@ -9,10 +9,11 @@ none_fell-refl t = record { checks = omega arith; moves = omega arith; stores = 
 
 pub none_fell-trans : (a b c : Tally) → NoneFell a b → NoneFell b c → NoneFell a c
 none_fell-trans a b c h k = record {
-    checks = omega (arith, h.checks, k.checks);
-    moves = omega (arith, h.moves, k.moves);
-    stores = omega (arith, h.stores, k.stores);
-    rows = omega (arith, h.rows, k.rows) }
+  checks = omega (arith, h.checks, k.checks);
+  moves = omega (arith, h.moves, k.moves);
+  stores = omega (arith, h.stores, k.stores);
+  rows = omega (arith, h.rows, k.rows);
+}
 
 raised-least : (n k : ℕ) → n ≤ raised n k
 raised-least n k = omega arith

@@ -10,6 +10,3 @@ mod words;
 pub use buffer::SendBuf;
 pub use tally::Tally;
 pub use view::RecvView;
-
-#[cfg(test)]
-mod tests;

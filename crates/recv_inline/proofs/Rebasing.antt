@@ -227,13 +227,13 @@ all_lifts q (g ∷ gs) = behind q (all_got (map (get_rebased q) gs)) (all_got gs
 row_lifts : (q p : List ℕ) (u k : ℕ) → Lifts q (λ d s. if_some (part (q ++ p) d) (λ x. if_some (length_in x) (λ n. needed (n * u + k) d s))) (λ d s. if_some (part p d) (λ x. if_some (length_in x) (λ n. needed (n * u + k) d s)))
 row_lifts q p u k d x s e =
     ap (λ (o : Option Draft). if_some o (λ y. if_some (length_in y) (λ n. needed (n * u + k) d s))) (part-append q p d ∙ ap (λ (o : Option Draft). on_some o (part p)) e) ∙ looked (part p x) where
-  many : (o : Option ℕ) → if_some o (λ n. needed (n * u + k) d s) ≡ then_run (if_some o (λ n. needed (n * u + k) x s)) (replaced q d)
-  many None = refl
-  many (Some n) = idle_lifts q (needed (n * u + k)) (needed_idle (n * u + k)) d x s e
+      many : (o : Option ℕ) → if_some o (λ n. needed (n * u + k) d s) ≡ then_run (if_some o (λ n. needed (n * u + k) x s)) (replaced q d)
+      many None = refl
+      many (Some n) = idle_lifts q (needed (n * u + k)) (needed_idle (n * u + k)) d x s e
 
-  looked : (o : Option Draft) → if_some o (λ y. if_some (length_in y) (λ n. needed (n * u + k) d s)) ≡ then_run (if_some o (λ y. if_some (length_in y) (λ n. needed (n * u + k) x s))) (replaced q d)
-  looked None = refl
-  looked (Some y) = many (length_in y)
+      looked : (o : Option Draft) → if_some o (λ y. if_some (length_in y) (λ n. needed (n * u + k) d s)) ≡ then_run (if_some o (λ y. if_some (length_in y) (λ n. needed (n * u + k) x s))) (replaced q d)
+      looked None = refl
+      looked (Some y) = many (length_in y)
 
 -- code that is made for a part, on the whole: where the part is there, the part is filled and put back
 pub fill-rebase : (c : Callees) (q : List ℕ) (b : Recv) → Lifts q (fill c (rebase q b)) (fill c b)

@@ -1,31 +1,13 @@
 //! Copies of what operations hold, for a part of the value.
 
-ghost use Rattle.std.specs.Prelude.{◌≡◌, ◌++◌, map, OnOk, IfOk};
+ghost use Rattle.std.specs.Prelude.{◌≡◌, map, OnOk, IfOk};
 ghost use Rattle.cast_stub.specs.RecvAppend.{append, get_rebased};
 ghost use Rattle.cast_stub.specs.RecvBlock.{finish, op_seen, code_seen};
 
-use cast_stub::{Get, Path, Gets, RecvOp, RecvOps};
-use kit_base::{NoMemory, Octets};
+use cast_stub::copying::{copy_octets, path_behind};
+use cast_stub::{Get, Gets, Path, RecvOp, RecvOps};
+use kit_base::NoMemory;
 use std::alloc::Global;
-
-/// The path from the whole, of a path from the part at the prefix.
-pub fn path_behind(alloc: Global, prefix: &Path, path: &Path) -> Result<Path, NoMemory>
-    ensures { IfOk result (λ p. p ≡ prefix.now ++ path.now) }
-{
-    let mut copy = Path::new(alloc);
-    copy.append(prefix.as_slice())?;
-    copy.append(path.as_slice())?;
-    Ok(copy)
-}
-
-// The same octets.
-fn copy_octets(alloc: Global, octets: &Octets) -> Result<Octets, NoMemory>
-    ensures { IfOk result (λ o. o ≡ octets.now) }
-{
-    let mut copy = Octets::new(alloc);
-    copy.append(octets.as_slice())?;
-    Ok(copy)
-}
 
 // The put for the whole, of a put for the part at the prefix.
 fn get_behind(alloc: Global, prefix: &Path, get: &Get) -> Result<Get, NoMemory>

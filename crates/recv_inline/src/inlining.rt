@@ -9,7 +9,8 @@ ghost use Rattle.recv_inline.specs.CallFree.{HasNoCall};
 ghost use Rattle.recv_inline.specs.Inlined.{Does, Goes, Turns};
 ghost use Rattle.recv_inline.specs.Spliced.{spliced, inlined, pairs_seen, pairs_spliced};
 
-use crate::copying::{add, path_behind, gets_behind};
+use crate::copying::{add, gets_behind};
+use cast_stub::copying::path_behind;
 use cast_stub::{Path, RecvCases, RecvCode, RecvOp, RecvOps, RecvSubs};
 use kit_base::NoMemory;
 use mint::table::NodeId;

@@ -28,8 +28,8 @@ use Rattle.cast_stub.specs.RecvAppend.{append}
 use Rattle.cast_stub.specs.Draft.{Draft, raw, digit, lined, done, settle}
 use Rattle.cast_stub.specs.Fill.{Place, Run, gives, refuses, strays, Filler, Going, then_run, map_run, settled_number, runs, needed, passed, all_zero, is_digit, num_into, count_into, fill_each, fill_row, Callees, fill}
 use Rattle.cast_stub.proofs.RecvAppending.{fill-append}
-use Rattle.stub_lower.specs.Codes.{scalar_width, element_width}
-use Rattle.stub_lower.specs.Lowered.{IsPlace}
+use Rattle.cast_stub.specs.Layouts.{scalar_width, element_width}
+use Rattle.wire_def.specs.Places.{IsPlace}
 use Rattle.recv_lower.specs.Codes.{number_get, count_code, turn_code, behind_code, array_code}
 use Rattle.recv_lower.proofs.Agreeing.{Agrees, Same, Settles, Counts, agrees-then, agrees-map, agrees-read, agrees-given, agrees-number, agrees-runs}
 use Rattle.recv_lower.proofs.Encoded.{tested_place, passed_place, pass_tested, word_run, Reads, taken, ScalarsRead, xdr_scalar, count-reads, octets_dropped, then_gives}
@@ -73,32 +73,32 @@ array-reads e scalar plain c a counts K elements end s here oct =
     (looped d n t opens k o) (λ (y : Draft) (z : List ℤ × Unit {0}) h. h)))
     (λ (y : Draft) (z : ℕ × (List ℤ × Unit {0})) h. h))
     (λ (y : Draft) (z : List ℤ) h. h)) where
-  Numbers : Draft → List ℤ → Type 0
-  Numbers d ns = settle d ≡ Some (row (kind_of a) ns)
+      Numbers : Draft → List ℤ → Type 0
+      Numbers d ns = settle d ≡ Some (row (kind_of a) ns)
 
-  Whole : Draft → ℕ × (List ℤ × Unit {0}) → Type 0
-  Whole d x = settle d ≡ Some (row (kind_of a) x.1.0)
+      Whole : Draft → ℕ × (List ℤ × Unit {0}) → Type 0
+      Whole d x = settle d ≡ Some (row (kind_of a) x.1.0)
 
-  Pairs : ℕ → Draft → List ℤ × Unit {0} → Type 0
-  Pairs n d x = settle d ≡ Some (row (kind_of a) x.0)
+      Pairs : ℕ → Draft → List ℤ × Unit {0} → Type 0
+      Pairs n d x = settle d ≡ Some (row (kind_of a) x.0)
 
-  Opens : Draft → ℕ → Type 0
-  Opens d n = (f : Filler) (t : Place) → fill_each f d t ≡ fill_row f a n t
+      Opens : Draft → ℕ → Type 0
+      Opens d n = (f : Filler) (t : Place) → fill_each f d t ≡ fill_row f a n t
 
-  fixed : (m : ℕ) → count_of a ≡ Exactly m → Opens (raw (array_type a)) m
-  fixed m same f t = ap (λ (b : Count). fill_row f a (least b) t) same
+      fixed : (m : ℕ) → count_of a ≡ Exactly m → Opens (raw (array_type a)) m
+      fixed m same f t = ap (λ (b : Count). fill_row f a (least b) t) same
 
-  looped : (d : Draft) (n : ℕ) (t : Place) → Opens d n → IsPlace e t.pos → AreOctets t.left
-      → Agrees (IsPlace e) (Pairs n) (fill c (each [] (turn_code e a) (behind_code e (is_octets a))) d t) (both (times (read_element e a) n) (λ _. read_tail e a n) t.pos t.left)
-  looped d n t opens k o =
-      subst (λ (x : Run Draft). Agrees (IsPlace e) (Pairs n) (then_run x (fill c (behind_code e (is_octets a)))) (both (times (read_element e a) n) (λ _. read_tail e a n) t.pos t.left)) (sym (opens (fill c (turn_code e a)) t))
-      (agrees-then (K n) (IsPlace e) (λ (y : Draft) (ns : List ℤ). y ≡ done (row (kind_of a) ns)) (Pairs n) (fill_row (fill c (turn_code e a)) a n t) (times (read_element e a) n t.pos t.left)
-      (fill c (behind_code e (is_octets a))) (λ ns q rest. map_got (λ z. (ns, z)) (read_tail e a n q rest))
-      (agrees-given (K n) Same (λ (y : Draft) (ns : List ℤ). y ≡ done (row (kind_of a) ns)) (runs (λ u. settled_number (fill c (turn_code e a) (digit a) u)) n t) (times (read_element e a) n t.pos t.left) (λ ns. done (row (kind_of a) ns))
-      (elements n t k o) (λ (x : List ℤ) (y : List ℤ) same. ap (λ (ns : List ℤ). done (row (kind_of a) ns)) same))
-      (λ (y : Draft) (ns : List ℤ) (u : Place) is k2 o2.
-      agrees-read (IsPlace e) (λ (x : Draft) (z : Unit {0}). x ≡ y) (Pairs n) (fill c (behind_code e (is_octets a)) y u) (read_tail e a n u.pos u.left) (λ z. (ns, z))
-      (end n y u k2 o2) (λ (x : Draft) (z : Unit {0}) same. ap settle (same ∙ is))))
+      looped : (d : Draft) (n : ℕ) (t : Place) → Opens d n → IsPlace e t.pos → AreOctets t.left
+          → Agrees (IsPlace e) (Pairs n) (fill c (each [] (turn_code e a) (behind_code e (is_octets a))) d t) (both (times (read_element e a) n) (λ _. read_tail e a n) t.pos t.left)
+      looped d n t opens k o =
+          subst (λ (x : Run Draft). Agrees (IsPlace e) (Pairs n) (then_run x (fill c (behind_code e (is_octets a)))) (both (times (read_element e a) n) (λ _. read_tail e a n) t.pos t.left)) (sym (opens (fill c (turn_code e a)) t))
+          (agrees-then (K n) (IsPlace e) (λ (y : Draft) (ns : List ℤ). y ≡ done (row (kind_of a) ns)) (Pairs n) (fill_row (fill c (turn_code e a)) a n t) (times (read_element e a) n t.pos t.left)
+          (fill c (behind_code e (is_octets a))) (λ ns q rest. map_got (λ z. (ns, z)) (read_tail e a n q rest))
+          (agrees-given (K n) Same (λ (y : Draft) (ns : List ℤ). y ≡ done (row (kind_of a) ns)) (runs (λ u. settled_number (fill c (turn_code e a) (digit a) u)) n t) (times (read_element e a) n t.pos t.left) (λ ns. done (row (kind_of a) ns))
+          (elements n t k o) (λ (x : List ℤ) (y : List ℤ) same. ap (λ (ns : List ℤ). done (row (kind_of a) ns)) same))
+          (λ (y : Draft) (ns : List ℤ) (u : Place) is k2 o2.
+          agrees-read (IsPlace e) (λ (x : Draft) (z : Unit {0}). x ≡ y) (Pairs n) (fill c (behind_code e (is_octets a)) y u) (read_tail e a n u.pos u.left) (λ z. (ns, z))
+          (end n y u k2 o2) (λ (x : Draft) (z : Unit {0}) same. ap settle (same ∙ is))))
 
 -- ---- octets over XDR
 
@@ -130,31 +130,31 @@ module _ (c : Callees) (a : Array) (test : ℕ → Bool) (fault : FaultKind) (pa
   octet-read s oct =
       subst (λ (x : Run Draft). Agrees (λ (q : ℕ). q ≡ s.pos + 1) Counts x (read_octet test fault s.pos s.left)) (sym (word_run c 1 w8 (get.Num 0 [] 1 Big) (digit a) s (λ x m u. num_into x m (digit a) u) refl (λ (t : Place). refl)))
       (cases s.left refl) where
-    good : (b : ℕ) (o : List ℕ) → s.left ≡ b ∷ o → AreOctets o → (g : Bool)
-        → Agrees (λ (q : ℕ). q ≡ s.pos + 1) Counts (then_run (if g then gives (done (num (pos b))) (tested_place 1 s) else refuses) (λ y u. then_run (passed 1 y u) (fill c finish))) (if g then got (pos b) (s.pos + 1) o else stop fault s.pos)
-    good b o is more true =
-        subst (λ (x : Run Draft). Agrees (λ (q : ℕ). q ≡ s.pos + 1) Counts (then_run x (fill c finish)) (got (pos b) (s.pos + 1) o)) (sym (pass_tested 1 (done (num (pos b))) s))
-        (refl, refl, ap (drop 1) is, refl, more)
-    good b o is more false = tt
+        good : (b : ℕ) (o : List ℕ) → s.left ≡ b ∷ o → AreOctets o → (g : Bool)
+            → Agrees (λ (q : ℕ). q ≡ s.pos + 1) Counts (then_run (if g then gives (done (num (pos b))) (tested_place 1 s) else refuses) (λ y u. then_run (passed 1 y u) (fill c finish))) (if g then got (pos b) (s.pos + 1) o else stop fault s.pos)
+        good b o is more true =
+            subst (λ (x : Run Draft). Agrees (λ (q : ℕ). q ≡ s.pos + 1) Counts (then_run x (fill c finish)) (got (pos b) (s.pos + 1) o)) (sym (pass_tested 1 (done (num (pos b))) s))
+            (refl, refl, ap (drop 1) is, refl, more)
+        good b o is more false = tt
 
-    cases : (l : List ℕ) → s.left ≡ l
-        → Agrees (λ (q : ℕ). q ≡ s.pos + 1) Counts
-        (if nat_lt (length s.left) 1 then refuses else then_run (num_into w8 (from_be_bytes w8 (take 1 s.left)) (digit a) (tested_place 1 s)) (λ y u. then_run (passed 1 y u) (fill c finish)))
-        (read_octet test fault s.pos s.left)
-    cases [] is = subst (λ (l : List ℕ). Agrees (λ (q : ℕ). q ≡ s.pos + 1) Counts
-        (if nat_lt (length l) 1 then refuses else then_run (num_into w8 (from_be_bytes w8 (take 1 l)) (digit a) (tested_place 1 s)) (λ y u. then_run (passed 1 y u) (fill c finish)))
-        (read_octet test fault s.pos l)) (sym is) tt
-    cases (b ∷ o) is =
-        let all : AreOctets (b ∷ o) = subst AreOctets is oct in
-        let enough : nat_lt (length (b ∷ o)) 1 ≡ false = le-ltb (length (b ∷ o)) 1 (omega arith) in
-        subst (λ (l : List ℕ). Agrees (λ (q : ℕ). q ≡ s.pos + 1) Counts
-        (if nat_lt (length l) 1 then refuses else then_run (num_into w8 (from_be_bytes w8 (take 1 l)) (digit a) (tested_place 1 s)) (λ y u. then_run (passed 1 y u) (fill c finish)))
-        (read_octet test fault s.pos l)) (sym is)
-        (subst (λ (g : Bool). Agrees (λ (q : ℕ). q ≡ s.pos + 1) Counts
-        (if g then refuses else then_run (num_into w8 (from_be_bytes w8 (take 1 (b ∷ o))) (digit a) (tested_place 1 s)) (λ y u. then_run (passed 1 y u) (fill c finish)))
-        (if test b then got (pos b) (s.pos + 1) o else stop fault s.pos)) (sym enough)
-        (subst (λ (x : Run Draft). Agrees (λ (q : ℕ). q ≡ s.pos + 1) Counts (then_run x (λ y u. then_run (passed 1 y u) (fill c finish))) (if test b then got (pos b) (s.pos + 1) o else stop fault s.pos))
-        (sym (passes b (tested_place 1 s) all.0)) (good b o is all.1 (test b))))
+        cases : (l : List ℕ) → s.left ≡ l
+            → Agrees (λ (q : ℕ). q ≡ s.pos + 1) Counts
+            (if nat_lt (length s.left) 1 then refuses else then_run (num_into w8 (from_be_bytes w8 (take 1 s.left)) (digit a) (tested_place 1 s)) (λ y u. then_run (passed 1 y u) (fill c finish)))
+            (read_octet test fault s.pos s.left)
+        cases [] is = subst (λ (l : List ℕ). Agrees (λ (q : ℕ). q ≡ s.pos + 1) Counts
+            (if nat_lt (length l) 1 then refuses else then_run (num_into w8 (from_be_bytes w8 (take 1 l)) (digit a) (tested_place 1 s)) (λ y u. then_run (passed 1 y u) (fill c finish)))
+            (read_octet test fault s.pos l)) (sym is) tt
+        cases (b ∷ o) is =
+            let all : AreOctets (b ∷ o) = subst AreOctets is oct in
+            let enough : nat_lt (length (b ∷ o)) 1 ≡ false = le-ltb (length (b ∷ o)) 1 (omega arith) in
+            subst (λ (l : List ℕ). Agrees (λ (q : ℕ). q ≡ s.pos + 1) Counts
+            (if nat_lt (length l) 1 then refuses else then_run (num_into w8 (from_be_bytes w8 (take 1 l)) (digit a) (tested_place 1 s)) (λ y u. then_run (passed 1 y u) (fill c finish)))
+            (read_octet test fault s.pos l)) (sym is)
+            (subst (λ (g : Bool). Agrees (λ (q : ℕ). q ≡ s.pos + 1) Counts
+            (if g then refuses else then_run (num_into w8 (from_be_bytes w8 (take 1 (b ∷ o))) (digit a) (tested_place 1 s)) (λ y u. then_run (passed 1 y u) (fill c finish)))
+            (if test b then got (pos b) (s.pos + 1) o else stop fault s.pos)) (sym enough)
+            (subst (λ (x : Run Draft). Agrees (λ (q : ℕ). q ≡ s.pos + 1) Counts (then_run x (λ y u. then_run (passed 1 y u) (fill c finish))) (if test b then got (pos b) (s.pos + 1) o else stop fault s.pos))
+            (sym (passes b (tested_place 1 s) all.0)) (good b o is all.1 (test b))))
 
   octet-elements : (n : ℕ) (s : Place) → AreOctets s.left → Agrees (λ (q : ℕ). q ≡ s.pos + n) Same (runs (λ u. settled_number (fill c octet_turn (digit a) u)) n s) (times (read_octet test fault) n s.pos s.left)
   octet-elements n s oct =
@@ -207,22 +207,22 @@ zeros-read c k d s same oct =
     subst (λ (m : ℕ). Agrees (IsPlace Xdr) (λ (y : Draft) (z : Unit {0}). y ≡ d) (fill c (skip_zero 4 finish) d s) (read_zeros m BadPad s.pos s.left)) same
     (subst (λ (x : Run Draft). Agrees (IsPlace Xdr) (λ (y : Draft) (z : Unit {0}). y ≡ d) (then_run x (fill c finish)) (read_zeros (gap s.pos 4) BadPad s.pos s.left)) (sym (skips (nat_lt (length s.left) (gap s.pos 4))))
     (decided (nat_lt (length s.left) (gap s.pos 4)) (all_zero (take (gap s.pos 4) s.left)) (read_zeros (gap s.pos 4) BadPad s.pos s.left) (zeros (gap s.pos 4) BadPad s.pos s.left))) where
-  skips : (short : Bool) → then_run (if short then refuses else gives d (tested_place (gap s.pos 4) s)) (λ x t. if all_zero (take (gap s.pos 4) t.left) then passed (gap s.pos 4) x t else refuses)
-      ≡ (if short then refuses else (if all_zero (take (gap s.pos 4) s.left) then passed (gap s.pos 4) d (tested_place (gap s.pos 4) s) else refuses))
-  skips true = refl
-  skips false = refl
+      skips : (short : Bool) → then_run (if short then refuses else gives d (tested_place (gap s.pos 4) s)) (λ x t. if all_zero (take (gap s.pos 4) t.left) then passed (gap s.pos 4) x t else refuses)
+          ≡ (if short then refuses else (if all_zero (take (gap s.pos 4) s.left) then passed (gap s.pos 4) d (tested_place (gap s.pos 4) s) else refuses))
+      skips true = refl
+      skips false = refl
 
-  decided : (short good : Bool) (r : Reading FaultKind (Unit {0})) → Zeros short good (gap s.pos 4) s.pos s.left r
-      → Agrees (IsPlace Xdr) (λ (y : Draft) (z : Unit {0}). y ≡ d)
-      (then_run (if short then refuses else (if good then passed (gap s.pos 4) d (tested_place (gap s.pos 4) s) else refuses)) (fill c finish)) r
-  decided true good (stop x at) h = tt
-  decided true good (got z q rest) h = absurd h
-  decided false false (stop x at) h = tt
-  decided false false (got z q rest) h = absurd h
-  decided false true r h =
-      subst (λ (z : Reading FaultKind (Unit {0})). Agrees (IsPlace Xdr) (λ (y : Draft) (u : Unit {0}). y ≡ d) (then_run (passed (gap s.pos 4) d (tested_place (gap s.pos 4) s)) (fill c finish)) z) (sym h)
-      (subst (λ (x : Run Draft). Agrees (IsPlace Xdr) (λ (y : Draft) (u : Unit {0}). y ≡ d) (then_run x (fill c finish)) (got tt (s.pos + gap s.pos 4) (drop (gap s.pos 4) s.left))) (sym (pass_tested (gap s.pos 4) d s))
-      (refl, refl, refl, omega arith, octets_dropped (gap s.pos 4) s.left oct))
+      decided : (short good : Bool) (r : Reading FaultKind (Unit {0})) → Zeros short good (gap s.pos 4) s.pos s.left r
+          → Agrees (IsPlace Xdr) (λ (y : Draft) (z : Unit {0}). y ≡ d)
+          (then_run (if short then refuses else (if good then passed (gap s.pos 4) d (tested_place (gap s.pos 4) s) else refuses)) (fill c finish)) r
+      decided true good (stop x at) h = tt
+      decided true good (got z q rest) h = absurd h
+      decided false false (stop x at) h = tt
+      decided false false (got z q rest) h = absurd h
+      decided false true r h =
+          subst (λ (z : Reading FaultKind (Unit {0})). Agrees (IsPlace Xdr) (λ (y : Draft) (u : Unit {0}). y ≡ d) (then_run (passed (gap s.pos 4) d (tested_place (gap s.pos 4) s)) (fill c finish)) z) (sym h)
+          (subst (λ (x : Run Draft). Agrees (IsPlace Xdr) (λ (y : Draft) (u : Unit {0}). y ≡ d) (then_run x (fill c finish)) (got tt (s.pos + gap s.pos 4) (drop (gap s.pos 4) s.left))) (sym (pass_tested (gap s.pos 4) d s))
+          (refl, refl, refl, omega arith, octets_dropped (gap s.pos 4) s.left oct))
 
 -- ---- the arrays of XDR
 
@@ -231,13 +231,13 @@ octets_elements : (c : Callees) (a : Array) (test : ℕ → Bool) (fault : Fault
     → Agrees (λ (q : ℕ). gap q 4 ≡ gap n 4) Same (runs (λ u. settled_number (fill c octet_turn (digit a) u)) n s) (times (read_octet test fault) n s.pos s.left)
 octets_elements c a test fault passes n s here oct =
     wider (runs (λ u. settled_number (fill c octet_turn (digit a) u)) n s) (times (read_octet test fault) n s.pos s.left) (octet-elements c a test fault passes n s oct) where
-  wider : (x : Run (List ℤ)) (r : Reading FaultKind (List ℤ)) → Agrees (λ (q : ℕ). q ≡ s.pos + n) Same x r → Agrees (λ (q : ℕ). gap q 4 ≡ gap n 4) Same x r
-  wider (gives y t) (got z q rest) h = (h.0, h.1, h.2, omega (arith, h.3, here), h.4)
-  wider (gives y t) (stop x at) h = absurd h
-  wider refuses (stop x at) h = tt
-  wider refuses (got z q rest) h = absurd h
-  wider strays (stop x at) h = absurd h
-  wider strays (got z q rest) h = absurd h
+      wider : (x : Run (List ℤ)) (r : Reading FaultKind (List ℤ)) → Agrees (λ (q : ℕ). q ≡ s.pos + n) Same x r → Agrees (λ (q : ℕ). gap q 4 ≡ gap n 4) Same x r
+      wider (gives y t) (got z q rest) h = (h.0, h.1, h.2, omega (arith, h.3, here), h.4)
+      wider (gives y t) (stop x at) h = absurd h
+      wider refuses (stop x at) h = tt
+      wider refuses (got z q rest) h = absurd h
+      wider strays (stop x at) h = absurd h
+      wider strays (got z q rest) h = absurd h
 
 both_true : (a b : Bool) → a ≡ true → b ≡ true → (a && b) ≡ true
 both_true true b t u = u
@@ -251,8 +251,8 @@ letter_passes b (suc n) t lt =
     let letter : is_letter z ≡ true = both_true (in_range kind.Char z) (not (int_eq z (pos 0))) (lt-ltb (suc n) 256 lt) ((Decides-not (int_eq z (pos 0)) (Decides-int_eq z (pos 0))).1 (λ e. differs n e)) in
     ap (λ (g : Bool). if g then gives (done (num z)) t else refuses) letter
     ∙ sym (ap (λ (g : Bool). if g then gives (done (num (pos (suc n)))) t else refuses) some) where
-  differs : (m : ℕ) → pos (suc m) ≡ pos 0 → ⊥
-  differs m e = cc
+      differs : (m : ℕ) → pos (suc m) ≡ pos 0 → ⊥
+      differs m e = cc
 
 octet_passes : (b : Count) → IsOctetArray (row_of kind.Octet b) (λ x. true)
 octet_passes b n t lt = ap (λ (g : Bool). if g then gives (done (num (pos n))) t else refuses) (lt-ltb n 256 lt)
@@ -267,8 +267,8 @@ numbers_elements c k b n s here oct =
     agrees-number (IsPlace Xdr) (fill c turn (digit (row_of k b)) t) (read_scalar Xdr (number k) t.pos t.left)
     (subst (λ (x : Run Draft). Agrees (IsPlace Xdr) Counts x (read_scalar Xdr (number k) t.pos t.left)) (sym (r.is ∙ then_gives r.number (λ z. done (num z))))
     (agrees-given (IsPlace Xdr) Same Counts r.number (read_scalar Xdr (number k) t.pos t.left) (λ z. done (num z)) r.agrees (λ (x : ℤ) (y : ℤ) same. ap (λ (z : ℤ). Some (num z)) same)))) here oct where
-  turn : Recv
-  turn = need (scalar_width Xdr (number k)) (pass (scalar_width Xdr (number k)) (number_get Xdr (scalar_width Xdr (number k)) ∷ []) finish)
+      turn : Recv
+      turn = need (scalar_width Xdr (number k)) (pass (scalar_width Xdr (number k)) (number_get Xdr (scalar_width Xdr (number k)) ∷ []) finish)
 
 nothing_behind : (c : Callees) (n : ℕ) (d : Draft) (s : Place) → IsPlace Xdr s.pos → AreOctets s.left
     → Agrees (IsPlace Xdr) (λ (y : Draft) (z : Unit {0}). y ≡ d) (fill c finish d s) (read_zeros 0 BadPad s.pos s.left)

@@ -26,8 +26,8 @@ use Rattle.cast_stub.specs.RecvBlock.{Recv, finish, need, pass}
 use Rattle.cast_stub.specs.Draft.{Draft, settle}
 use Rattle.cast_stub.specs.Fill as filling
 use Rattle.cast_stub.specs.Fill.{Place, Run, gives, refuses, strays, Filler, then_run, map_run, if_passed, needed, passed, word_at, scalar_into, length_of, length_into, count_into, allows, all_got, Callees, fill}
-use Rattle.stub_lower.specs.Codes.{order_of, scalar_width}
-use Rattle.stub_lower.specs.Lowered.{IsPlace}
+use Rattle.cast_stub.specs.Layouts.{order_of, scalar_width}
+use Rattle.wire_def.specs.Places.{IsPlace}
 use Rattle.recv_lower.specs.Codes.{scalar_code, count_code}
 use Rattle.recv_lower.proofs.Agreeing.{Agrees, Same, agrees-then, agrees-map, agrees-read}
 
@@ -188,25 +188,25 @@ xdr_scalar c t g d f s here oct does =
       is = word_run c W (width_of Xdr t) g d s (λ x m u. scalar_into t f x m u) (width_is t) does ∙ made (nat_lt (length s.left) W) (is_scalar t n) (f n) refl;
       agrees = subst (λ (r : Reading FaultKind ℤ). Agrees (IsPlace Xdr) Same (run_of t W s (nat_lt (length s.left) W) (is_scalar t n)) r) (sym (xdr_scalar_read t s.pos s.left)) (same (nat_lt (length s.left) W) (is_scalar t n) refl);
     } where
-  made : (short good : Bool) (o : Option Draft) → o ≡ f (first_number t (scalar_width Xdr t) s.left)
-      → (if short then refuses else then_run (if good then if_passed o (λ y. gives y (tested_place (scalar_width Xdr t) s)) else refuses) (λ y u. then_run (passed (scalar_width Xdr t) y u) (fill c finish)))
-      ≡ then_run (run_of t (scalar_width Xdr t) s short good) (taken f)
-  made true good o e = refl
-  made false true (Some y) e =
-      ap (λ (x : Run Draft). then_run x (fill c finish)) (pass_tested (scalar_width Xdr t) y s)
-      ∙ ap (λ (z : Option Draft). if_passed z (λ d. gives d (passed_place (scalar_width Xdr t) s))) e
-  made false true None e = ap (λ (z : Option Draft). if_passed z (λ d. gives d (passed_place (scalar_width Xdr t) s))) e
-  made false false o e = refl
+      made : (short good : Bool) (o : Option Draft) → o ≡ f (first_number t (scalar_width Xdr t) s.left)
+          → (if short then refuses else then_run (if good then if_passed o (λ y. gives y (tested_place (scalar_width Xdr t) s)) else refuses) (λ y u. then_run (passed (scalar_width Xdr t) y u) (fill c finish)))
+          ≡ then_run (run_of t (scalar_width Xdr t) s short good) (taken f)
+      made true good o e = refl
+      made false true (Some y) e =
+          ap (λ (x : Run Draft). then_run x (fill c finish)) (pass_tested (scalar_width Xdr t) y s)
+          ∙ ap (λ (z : Option Draft). if_passed z (λ d. gives d (passed_place (scalar_width Xdr t) s))) e
+      made false true None e = ap (λ (z : Option Draft). if_passed z (λ d. gives d (passed_place (scalar_width Xdr t) s))) e
+      made false false o e = refl
 
-  same : (short good : Bool) → is_scalar t (first_number t (scalar_width Xdr t) s.left) ≡ good
-      → Agrees (IsPlace Xdr) Same (run_of t (scalar_width Xdr t) s short good)
-      (then_on (map_got (number_of (is_signed t) (width_of Xdr t)) (if short then stop Short (s.pos + 0) else got (from_be_bytes (width_of Xdr t) (take (scalar_width Xdr t) s.left)) (s.pos + scalar_width Xdr t) (drop (scalar_width Xdr t) s.left)))
-      (λ n q rest. if is_scalar t n then got n q rest else stop BadValue (s.pos + gap s.pos 1)))
-  same true good e = tt
-  same false true e = subst (λ (b : Bool). Agrees (IsPlace Xdr) Same (run_of t (scalar_width Xdr t) s false true) (if b then got (first_number t (scalar_width Xdr t) s.left) (s.pos + scalar_width Xdr t) (drop (scalar_width Xdr t) s.left) else stop BadValue (s.pos + gap s.pos 1)))
-      (sym e) (refl, refl, refl, omega (arith, here, width_placed t), octets_dropped (scalar_width Xdr t) s.left oct)
-  same false false e = subst (λ (b : Bool). Agrees (IsPlace Xdr) Same (run_of t (scalar_width Xdr t) s false false) (if b then got (first_number t (scalar_width Xdr t) s.left) (s.pos + scalar_width Xdr t) (drop (scalar_width Xdr t) s.left) else stop BadValue (s.pos + gap s.pos 1)))
-      (sym e) tt
+      same : (short good : Bool) → is_scalar t (first_number t (scalar_width Xdr t) s.left) ≡ good
+          → Agrees (IsPlace Xdr) Same (run_of t (scalar_width Xdr t) s short good)
+          (then_on (map_got (number_of (is_signed t) (width_of Xdr t)) (if short then stop Short (s.pos + 0) else got (from_be_bytes (width_of Xdr t) (take (scalar_width Xdr t) s.left)) (s.pos + scalar_width Xdr t) (drop (scalar_width Xdr t) s.left)))
+          (λ n q rest. if is_scalar t n then got n q rest else stop BadValue (s.pos + gap s.pos 1)))
+      same true good e = tt
+      same false true e = subst (λ (b : Bool). Agrees (IsPlace Xdr) Same (run_of t (scalar_width Xdr t) s false true) (if b then got (first_number t (scalar_width Xdr t) s.left) (s.pos + scalar_width Xdr t) (drop (scalar_width Xdr t) s.left) else stop BadValue (s.pos + gap s.pos 1)))
+          (sym e) (refl, refl, refl, omega (arith, here, width_placed t), octets_dropped (scalar_width Xdr t) s.left oct)
+      same false false e = subst (λ (b : Bool). Agrees (IsPlace Xdr) Same (run_of t (scalar_width Xdr t) s false false) (if b then got (first_number t (scalar_width Xdr t) s.left) (s.pos + scalar_width Xdr t) (drop (scalar_width Xdr t) s.left) else stop BadValue (s.pos + gap s.pos 1)))
+          (sym e) tt
 
 -- ---- a count
 
@@ -248,10 +248,10 @@ length_taken : (b : Count) (f : ℕ → Draft) (x : Width) (m : ℕ) (u : Place)
 length_taken (Exactly k) f x m u h = absurd h
 length_taken (AtMost k) f x m u h =
     ap (λ (o : Option ℕ). if_passed o (λ n. if allows (AtMost k) n then gives (f n) u else refuses)) (plain_length m) ∙ decided (nat_lt m 4294967296) (nat_le m k) where
-  decided : (a b : Bool) → (if (a && b) then gives (f m) u else refuses) ≡ (if a then if_passed (if b then Some (f m) else None) (λ d. gives d u) else refuses)
-  decided true true = refl
-  decided true false = refl
-  decided false b = refl
+      decided : (a b : Bool) → (if (a && b) then gives (f m) u else refuses) ≡ (if a then if_passed (if b then Some (f m) else None) (λ d. gives d u) else refuses)
+      decided true true = refl
+      decided true false = refl
+      decided false b = refl
 length_taken Any f x m u h =
     ap (λ (o : Option ℕ). if_passed o (λ n. if allows Any n then gives (f n) u else refuses)) (plain_length m)
 
@@ -275,9 +275,9 @@ count-reads e scalar plain c (AtMost m) f d s P here oct into made fixed =
     (λ n q rest. if nat_le n m then got n q rest else stop OverBound (lone_place e counted s.pos))
     (agrees-read (IsPlace e) Same (λ (z : ℤ) (n : ℕ). natural z ≡ n) r.number (read_lone e counted s.pos s.left) natural r.agrees (λ (a : ℤ) (z : ℤ) same. ap natural same))
     (λ (z : ℤ) (n : ℕ) (t : Place) same k o. subst (λ (i : ℕ). Agrees (IsPlace e) P (taken (counted_draft (AtMost m) f) z t) (if nat_le i m then got i t.pos t.left else stop OverBound (lone_place e counted s.pos))) same (bounded z t k o (nat_le (natural z) m)))) where
-  bounded : (z : ℤ) (t : Place) → IsPlace e t.pos → AreOctets t.left → (g : Bool) → Agrees (IsPlace e) P (if_passed (if g then Some (f (natural z)) else None) (λ y. gives y t)) (if g then got (natural z) t.pos t.left else stop OverBound (lone_place e counted s.pos))
-  bounded z t k o true = (made (natural z), refl, refl, k, o)
-  bounded z t k o false = tt
+      bounded : (z : ℤ) (t : Place) → IsPlace e t.pos → AreOctets t.left → (g : Bool) → Agrees (IsPlace e) P (if_passed (if g then Some (f (natural z)) else None) (λ y. gives y t)) (if g then got (natural z) t.pos t.left else stop OverBound (lone_place e counted s.pos))
+      bounded z t k o true = (made (natural z), refl, refl, k, o)
+      bounded z t k o false = tt
 count-reads e scalar plain c Any f d s P here oct into made fixed =
     let w : ℕ = scalar_width e counted in
     let r = lones e scalar plain c counted (get.Count 0 [] 1 0 w (order_of e)) d (counted_draft Any f) s here oct

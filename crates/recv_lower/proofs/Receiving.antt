@@ -27,8 +27,8 @@ use Rattle.cast_stub.specs.RecvAppend.{append}
 use Rattle.cast_stub.specs.Draft.{Draft, raw, listed, tagged, flagged, done, fields, Drafts, no_draft, draft, fresh, all_fresh, settle, settles, type_of_arm}
 use Rattle.cast_stub.specs.Fill.{Place, Run, gives, refuses, strays, Filler, if_passed, then_run, map_run, settled, runs, arm_draft, flag_draft, at_field, within, fill_each, fill_items, fill_arm, fill_present, Callees, fill, fill_case}
 use Rattle.cast_stub.proofs.RecvAppending.{fill-append}
-use Rattle.stub_lower.specs.Codes.{order_of, scalar_width}
-use Rattle.stub_lower.specs.Lowered.{IsPlace}
+use Rattle.cast_stub.specs.Layouts.{order_of, scalar_width}
+use Rattle.wire_def.specs.Places.{IsPlace}
 use Rattle.recv_lower.specs.Codes.{count_code, tag_code, flag_code, call_here, calls_from, cases_at, node_code, number_code, number_get}
 use Rattle.recv_lower.proofs.Agreeing.{Agrees, Same, Settles, agrees-then, agrees-map, agrees-read, agrees-given, agrees-finish, agrees-settled, agrees-runs}
 use Rattle.recv_lower.proofs.Encoded.{Reads, taken, ScalarsRead, lones, pass_plain, count-reads, then_gives}
@@ -103,11 +103,11 @@ module _ (e : Encoding) (scalar : ScalarsRead e) (plain : IsPlain e) (array : Ar
       (fields-read is (suc j) (λ ds. front (draft opened.0 ds)) (λ vs. back (val v vs)) t (reaches_more j front opened.0 reach) (holds_more front back opened.0 v opened.2 hold) below.1 (omega arith) k o)
       (λ (y : Draft) (vs : Vals) h. h))))
       (λ (d : Draft) (x : Val × Vals) h. h)) where
-    Pairs : Draft → Val × Vals → Type 0
-    Pairs d x = settle d ≡ Some (group (back (val x.0 x.1)))
+        Pairs : Draft → Val × Vals → Type 0
+        Pairs d x = settle d ≡ Some (group (back (val x.0 x.1)))
 
-    Opened : Draft → Val → Type 0
-    Opened d v = (x : Draft) × (d ≡ fields (front (draft x (all_fresh (fields_at us is))))) × (settle x ≡ Some v)
+        Opened : Draft → Val → Type 0
+        Opened d v = (x : Draft) × (d ≡ fields (front (draft x (all_fresh (fields_at us is))))) × (settle x ≡ Some v)
 
   map_same : {A : Type 0} (x : Run A) → x ≡ map_run (λ y. y) x
   map_same (gives y t) = refl
@@ -145,17 +145,17 @@ module _ (e : Encoding) (scalar : ScalarsRead e) (plain : IsPlain e) (array : Ar
       (λ (vs : List Val) (ws : List Val) same. ap (λ (l : List Val). Some (items (vals_of l))) same))))
       (λ (y : Draft) (vs : List Val) h. h)))
       (λ (d : Draft) (y : ℕ × List Val) h. h) where
-    Whole : Draft → ℕ × List Val → Type 0
-    Whole d y = settle d ≡ Some (items (vals_of y.1))
+        Whole : Draft → ℕ × List Val → Type 0
+        Whole d y = settle d ≡ Some (items (vals_of y.1))
 
-    Listed : Draft → List Val → Type 0
-    Listed d vs = settle d ≡ Some (items (vals_of vs))
+        Listed : Draft → List Val → Type 0
+        Listed d vs = settle d ≡ Some (items (vals_of vs))
 
-    Opens : Draft → ℕ → Type 0
-    Opens d m = (f : Filler) (t : Place) → fill_each f d t ≡ fill_items f (at us i) m t
+        Opens : Draft → ℕ → Type 0
+        Opens d m = (f : Filler) (t : Place) → fill_each f d t ≡ fill_items f (at us i) m t
 
-    fixed : (m : ℕ) → x ≡ Exactly m → Opens (raw (items_type x (at us i))) m
-    fixed m same f t = ap (λ (y : Count). fill_items f (at us i) (least y) t) same
+        fixed : (m : ℕ) → x ≡ Exactly m → Opens (raw (items_type x (at us i))) m
+        fixed m same f t = ap (λ (y : Count). fill_items f (at us i) (least y) t) same
 
   -- ---- a union
 
@@ -169,15 +169,15 @@ module _ (e : Encoding) (scalar : ScalarsRead e) (plain : IsPlain e) (array : Ar
       subst (λ (t : Ty). Agrees (IsPlace e) Settles (fill c (call_here i) (fresh t) s) (read e (at us i) s.pos s.left)) same (here-reads i s last low here oct)
   arms-read (a ∷ arms) other m T s below last low is here oct =
       either (int_eq m a.0) is (here-reads a.1 s below.0 (omega (arith, low)) here oct) (λ h. arms-read arms other m T s below.1 last (omega (arith, low)) h here oct) where
-    either : (t : Bool) → (if t then Some (at us a.1) else type_of_arm (arms_at us arms other) m) ≡ Some T
-        → Agrees (IsPlace e) Settles (fill c (call_here a.1) (fresh (at us a.1)) s) (read e (at us a.1) s.pos s.left)
-        → (type_of_arm (arms_at us arms other) m ≡ Some T → Agrees (IsPlace e) Settles (fill_case c (cases_at arms other) m (fresh T) s) (read_arm e (arms_at us arms other) m s.pos s.left))
-        → Agrees (IsPlace e) Settles (if t then fill c (call_here a.1) (fresh T) s else fill_case c (cases_at arms other) m (fresh T) s)
-        (if t then read e (at us a.1) s.pos s.left else read_arm e (arms_at us arms other) m s.pos s.left)
-    either true h first rest =
-        let same : at us a.1 ≡ T = cc in
-        subst (λ (t : Ty). Agrees (IsPlace e) Settles (fill c (call_here a.1) (fresh t) s) (read e (at us a.1) s.pos s.left)) same first
-    either false h first rest = rest h
+        either : (t : Bool) → (if t then Some (at us a.1) else type_of_arm (arms_at us arms other) m) ≡ Some T
+            → Agrees (IsPlace e) Settles (fill c (call_here a.1) (fresh (at us a.1)) s) (read e (at us a.1) s.pos s.left)
+            → (type_of_arm (arms_at us arms other) m ≡ Some T → Agrees (IsPlace e) Settles (fill_case c (cases_at arms other) m (fresh T) s) (read_arm e (arms_at us arms other) m s.pos s.left))
+            → Agrees (IsPlace e) Settles (if t then fill c (call_here a.1) (fresh T) s else fill_case c (cases_at arms other) m (fresh T) s)
+            (if t then read e (at us a.1) s.pos s.left else read_arm e (arms_at us arms other) m s.pos s.left)
+        either true h first rest =
+            let same : at us a.1 ≡ T = cc in
+            subst (λ (t : Ty). Agrees (IsPlace e) Settles (fill c (call_here a.1) (fresh t) s) (read e (at us a.1) s.pos s.left)) same first
+        either false h first rest = rest h
 
   -- a number has an arm where it has a type
   has-type : (A : Arms) (z : ℤ) → has_arm A z ≡ is_some (type_of_arm A z)
@@ -198,13 +198,13 @@ module _ (e : Encoding) (scalar : ScalarsRead e) (plain : IsPlain e) (array : Ar
       (agrees-then (IsPlace e) (IsPlace e) Same Tags r.number (read_scalar e t s.pos s.left) (taken (arm_draft A)) (λ z q o. if has_arm A z then got z q o else stop BadValue (scalar_place e t s.pos)) r.agrees
       (λ (z : ℤ) (y : ℤ) (u : Place) same k o. subst (λ (w : ℤ). Agrees (IsPlace e) Tags (taken (arm_draft A) z u) (if has_arm A w then got w u.pos u.left else stop BadValue (scalar_place e t s.pos))) same
       (subst (λ (g : Bool). Agrees (IsPlace e) Tags (taken (arm_draft A) z u) (if g then got z u.pos u.left else stop BadValue (scalar_place e t s.pos))) (sym (has-type A z)) (held z u k o (type_of_arm A z) refl))))) where
-    Tags : Draft → ℤ → Type 0
-    Tags d z = (T : Ty) × (d ≡ tagged z T) × (type_of_arm A z ≡ Some T)
+        Tags : Draft → ℤ → Type 0
+        Tags d z = (T : Ty) × (d ≡ tagged z T) × (type_of_arm A z ≡ Some T)
 
-    held : (z : ℤ) (u : Place) → IsPlace e u.pos → AreOctets u.left → (g : Option Ty) → type_of_arm A z ≡ g
-        → Agrees (IsPlace e) Tags (if_passed (option_map (tagged z) g) (λ d. gives d u)) (if is_some g then got z u.pos u.left else stop BadValue (scalar_place e t s.pos))
-    held z u k o (Some T) is = ((T, refl, is), refl, refl, k, o)
-    held z u k o None is = tt
+        held : (z : ℤ) (u : Place) → IsPlace e u.pos → AreOctets u.left → (g : Option Ty) → type_of_arm A z ≡ g
+            → Agrees (IsPlace e) Tags (if_passed (option_map (tagged z) g) (λ d. gives d u)) (if is_some g then got z u.pos u.left else stop BadValue (scalar_place e t s.pos))
+        held z u k o (Some T) is = ((T, refl, is), refl, refl, k, o)
+        held z u k o None is = tt
 
   choice-read : (t : Scalar) (arms : List (ℤ × ℕ)) (other : Option ℕ) (s : Place) → ArmsBelow b arms → IsBelow b other → arms_depth (arms_at us arms other) ≤ n → IsPlace e s.pos → AreOctets s.left
       → Agrees (IsPlace e) Settles (fill c (append (tag_code e t) (switch [] (cases_at arms other) finish)) (raw (choice_type t (arms_at us arms other))) s) (read e (choice_type t (arms_at us arms other)) s.pos s.left)
@@ -220,14 +220,14 @@ module _ (e : Encoding) (scalar : ScalarsRead e) (plain : IsPlain e) (array : Ar
       (agrees-settled (IsPlace e) (fill_case c (cases_at arms other) m (fresh tag.0) u) (read_arm e A m u.pos u.left) (arms-read arms other m tag.0 u below last low tag.2 k o))
       (λ (v : Val) (w : Val) same. ap (λ (x : Val). Some (arm m x)) same)))))
       (λ (d : Draft) (x : ℤ × Val) h. h) where
-    A : Arms
-    A = arms_at us arms other
+        A : Arms
+        A = arms_at us arms other
 
-    Whole : Draft → ℤ × Val → Type 0
-    Whole d x = settle d ≡ Some (arm x.0 x.1)
+        Whole : Draft → ℤ × Val → Type 0
+        Whole d x = settle d ≡ Some (arm x.0 x.1)
 
-    Tags : Draft → ℤ → Type 0
-    Tags d z = (T : Ty) × (d ≡ tagged z T) × (type_of_arm A z ≡ Some T)
+        Tags : Draft → ℤ → Type 0
+        Tags d z = (T : Ty) × (d ≡ tagged z T) × (type_of_arm A z ≡ Some T)
 
   -- ---- an optional value
 
@@ -241,50 +241,50 @@ module _ (e : Encoding) (scalar : ScalarsRead e) (plain : IsPlain e) (array : Ar
       (subst (λ (x : Run Draft). Agrees (IsPlace e) Flags x (read_lone e flag s.pos s.left)) (sym r.is) (flagged_so r.number (read_lone e flag s.pos s.left) r.agrees))
       (λ (d : Draft) (m : ℤ) (u : Place) is k o. behind d m u is k o))
       (λ (d : Draft) (x : ℤ × Val) h. h) where
-    Whole : Draft → ℤ × Val → Type 0
-    Whole d x = settle d ≡ Some x.1
+        Whole : Draft → ℤ × Val → Type 0
+        Whole d x = settle d ≡ Some x.1
 
-    Flags : Draft → ℤ → Type 0
-    Flags d z = flag_draft (at us i) z ≡ Some d
+        Flags : Draft → ℤ → Type 0
+        Flags d z = flag_draft (at us i) z ≡ Some d
 
-    one_flag : (z : ℤ) (t : Place) → IsPlace e t.pos → AreOctets t.left → Agrees (IsPlace e) Flags (taken (flag_draft (at us i)) z t) (got z t.pos t.left)
-    one_flag (pos zero) t k o = (refl, refl, refl, k, o)
-    one_flag (pos (suc m)) t k o = (refl, refl, refl, k, o)
-    one_flag (negsuc m) t k o = (refl, refl, refl, k, o)
+        one_flag : (z : ℤ) (t : Place) → IsPlace e t.pos → AreOctets t.left → Agrees (IsPlace e) Flags (taken (flag_draft (at us i)) z t) (got z t.pos t.left)
+        one_flag (pos zero) t k o = (refl, refl, refl, k, o)
+        one_flag (pos (suc m)) t k o = (refl, refl, refl, k, o)
+        one_flag (negsuc m) t k o = (refl, refl, refl, k, o)
 
-    flagged_so : (x : Run ℤ) (r : Reading FaultKind ℤ) → Agrees (IsPlace e) Same x r → Agrees (IsPlace e) Flags (then_run x (taken (flag_draft (at us i)))) r
-    flagged_so (gives z t) (got y q o) h =
-        subst (λ (w : ℤ). Agrees (IsPlace e) Flags (taken (flag_draft (at us i)) z t) (got w q o)) h.0
-        (subst (λ (m : ℕ). Agrees (IsPlace e) Flags (taken (flag_draft (at us i)) z t) (got z m o)) h.1
-        (subst (λ (l : List ℕ). Agrees (IsPlace e) Flags (taken (flag_draft (at us i)) z t) (got z t.pos l)) h.2
-        (one_flag z t (subst (IsPlace e) (sym h.1) h.3) (subst AreOctets (sym h.2) h.4))))
-    flagged_so (gives z t) (stop x at) h = absurd h
-    flagged_so refuses (stop x at) h = tt
-    flagged_so refuses (got y q o) h = absurd h
-    flagged_so strays (stop x at) h = absurd h
-    flagged_so strays (got y q o) h = absurd h
+        flagged_so : (x : Run ℤ) (r : Reading FaultKind ℤ) → Agrees (IsPlace e) Same x r → Agrees (IsPlace e) Flags (then_run x (taken (flag_draft (at us i)))) r
+        flagged_so (gives z t) (got y q o) h =
+            subst (λ (w : ℤ). Agrees (IsPlace e) Flags (taken (flag_draft (at us i)) z t) (got w q o)) h.0
+            (subst (λ (m : ℕ). Agrees (IsPlace e) Flags (taken (flag_draft (at us i)) z t) (got z m o)) h.1
+            (subst (λ (l : List ℕ). Agrees (IsPlace e) Flags (taken (flag_draft (at us i)) z t) (got z t.pos l)) h.2
+            (one_flag z t (subst (IsPlace e) (sym h.1) h.3) (subst AreOctets (sym h.2) h.4))))
+        flagged_so (gives z t) (stop x at) h = absurd h
+        flagged_so refuses (stop x at) h = tt
+        flagged_so refuses (got y q o) h = absurd h
+        flagged_so strays (stop x at) h = absurd h
+        flagged_so strays (got y q o) h = absurd h
 
-    there : (m : ℤ) (u : Place) → IsPlace e u.pos → AreOctets u.left
-        → Agrees (IsPlace e) Whole (fill c (if_there [] (call_here i) finish) (flagged (at us i)) u) (map_got (λ y. (m, y)) (map_got present (read e (at us i) u.pos u.left)))
-    there m u k o =
-        agrees-finish (IsPlace e) Whole (fill_present (fill c (call_here i)) (flagged (at us i)) u) (map_got (λ y. (m, y)) (map_got present (read e (at us i) u.pos u.left))) c
-        (agrees-read (IsPlace e) Settles Whole (fill_present (fill c (call_here i)) (flagged (at us i)) u) (map_got present (read e (at us i) u.pos u.left)) (λ y. (m, y))
-        (agrees-map (IsPlace e) Same Settles (settled (fill c (call_here i) (fresh (at us i)) u)) (read e (at us i) u.pos u.left) (λ v. done (present v)) present
-        (agrees-settled (IsPlace e) (fill c (call_here i) (fresh (at us i)) u) (read e (at us i) u.pos u.left) (here-reads i u below low k o))
-        (λ (v : Val) (w : Val) same. ap (λ (x : Val). Some (present x)) same))
-        (λ (d : Draft) (v : Val) h. h))
+        there : (m : ℤ) (u : Place) → IsPlace e u.pos → AreOctets u.left
+            → Agrees (IsPlace e) Whole (fill c (if_there [] (call_here i) finish) (flagged (at us i)) u) (map_got (λ y. (m, y)) (map_got present (read e (at us i) u.pos u.left)))
+        there m u k o =
+            agrees-finish (IsPlace e) Whole (fill_present (fill c (call_here i)) (flagged (at us i)) u) (map_got (λ y. (m, y)) (map_got present (read e (at us i) u.pos u.left))) c
+            (agrees-read (IsPlace e) Settles Whole (fill_present (fill c (call_here i)) (flagged (at us i)) u) (map_got present (read e (at us i) u.pos u.left)) (λ y. (m, y))
+            (agrees-map (IsPlace e) Same Settles (settled (fill c (call_here i) (fresh (at us i)) u)) (read e (at us i) u.pos u.left) (λ v. done (present v)) present
+            (agrees-settled (IsPlace e) (fill c (call_here i) (fresh (at us i)) u) (read e (at us i) u.pos u.left) (here-reads i u below low k o))
+            (λ (v : Val) (w : Val) same. ap (λ (x : Val). Some (present x)) same))
+            (λ (d : Draft) (v : Val) h. h))
 
-    behind : (d : Draft) (m : ℤ) (u : Place) → Flags d m → IsPlace e u.pos → AreOctets u.left
-        → Agrees (IsPlace e) Whole (fill c (if_there [] (call_here i) finish) d u) (map_got (λ y. (m, y)) (read_behind (read e (at us i)) m u.pos u.left))
-    behind d (pos zero) u is k o =
-        let same : done absent ≡ d = cc in
-        subst (λ (x : Draft). Agrees (IsPlace e) Whole (fill c (if_there [] (call_here i) finish) x u) (got (pos 0, absent) u.pos u.left)) same (refl, refl, refl, k, o)
-    behind d (pos (suc m)) u is k o =
-        let same : flagged (at us i) ≡ d = cc in
-        subst (λ (x : Draft). Agrees (IsPlace e) Whole (fill c (if_there [] (call_here i) finish) x u) (map_got (λ y. (pos (suc m), y)) (map_got present (read e (at us i) u.pos u.left)))) same (there (pos (suc m)) u k o)
-    behind d (negsuc m) u is k o =
-        let same : flagged (at us i) ≡ d = cc in
-        subst (λ (x : Draft). Agrees (IsPlace e) Whole (fill c (if_there [] (call_here i) finish) x u) (map_got (λ y. (negsuc m, y)) (map_got present (read e (at us i) u.pos u.left)))) same (there (negsuc m) u k o)
+        behind : (d : Draft) (m : ℤ) (u : Place) → Flags d m → IsPlace e u.pos → AreOctets u.left
+            → Agrees (IsPlace e) Whole (fill c (if_there [] (call_here i) finish) d u) (map_got (λ y. (m, y)) (read_behind (read e (at us i)) m u.pos u.left))
+        behind d (pos zero) u is k o =
+            let same : done absent ≡ d = cc in
+            subst (λ (x : Draft). Agrees (IsPlace e) Whole (fill c (if_there [] (call_here i) finish) x u) (got (pos 0, absent) u.pos u.left)) same (refl, refl, refl, k, o)
+        behind d (pos (suc m)) u is k o =
+            let same : flagged (at us i) ≡ d = cc in
+            subst (λ (x : Draft). Agrees (IsPlace e) Whole (fill c (if_there [] (call_here i) finish) x u) (map_got (λ y. (pos (suc m), y)) (map_got present (read e (at us i) u.pos u.left)))) same (there (pos (suc m)) u k o)
+        behind d (negsuc m) u is k o =
+            let same : flagged (at us i) ≡ d = cc in
+            subst (λ (x : Draft). Agrees (IsPlace e) Whole (fill c (if_there [] (call_here i) finish) x u) (map_got (λ y. (negsuc m, y)) (map_got present (read e (at us i) u.pos u.left)))) same (there (negsuc m) u k o)
 
   -- ---- every node
 

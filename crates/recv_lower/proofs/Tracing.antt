@@ -12,7 +12,7 @@ use Rattle.cast_stub.specs.declared.recv.Get.{Get}
 use Rattle.cast_stub.specs.RecvBlock.{Recv, finish, skip_zero, call}
 use Rattle.cast_stub.specs.Traces.{descs, IsFlat, IsLoop, IsCount, Child, Loops, TracesBy, FieldsTraceBy, ArmsTraceBy, IsTurned}
 use Rattle.recv_lower.specs.Codes.{scalar_code, count_code, turn_code, array_code, tag_code, flag_code, call_here, calls_from, cases_at, node_code}
-use Rattle.stub_lower.specs.Layouts.{layout_of}
+use Rattle.cast_stub.specs.Layouts.{layout_of}
 
 -- ---- what XDR gives
 

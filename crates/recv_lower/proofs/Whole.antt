@@ -22,8 +22,8 @@ use Rattle.cast_stub.specs.Fill.{Place, Run, fill, settled, if_some}
 use Rattle.cast_stub.specs.Subs.{deepest}
 use Rattle.cast_stub.specs.Got.{called, sub_at, IsExact}
 use Rattle.cast_stub.specs.Traces.{Loops, TracesBy, IsLoop, IsTurned, AllTrace, AllTurned}
-use Rattle.stub_lower.specs.Lowered.{IsPlace}
-use Rattle.stub_lower.specs.Layouts.{layout_of}
+use Rattle.wire_def.specs.Places.{IsPlace}
+use Rattle.cast_stub.specs.Layouts.{layout_of}
 use Rattle.recv_lower.specs.Codes.{array_code, node_code}
 use Rattle.recv_lower.specs.Lowered.{CodesReceive}
 use Rattle.recv_lower.proofs.Agreeing.{Agrees, Settles, agrees-settled}

@@ -14,7 +14,7 @@ use Rattle.cast_stub.specs.declared.recv.Get.TheVariants as get
 use Rattle.cast_stub.specs.declared.recv.RecvOp.{RecvOp}
 use Rattle.cast_stub.specs.RecvBlock.{Recv, finish, need, skip_zero, pass, each, switch, if_there, call, Cases, no_default, default, case, code_seen}
 use Rattle.cast_stub.specs.RecvAppend.{append}
-use Rattle.stub_lower.specs.Codes.{order_of, scalar_width, element_width}
+use Rattle.cast_stub.specs.Layouts.{order_of, scalar_width, element_width}
 
 -- ---- what an encoding gives
 

@@ -5,7 +5,7 @@ use Rattle.mint.specs.Types.{type_at}
 use Rattle.wire_def.specs.declared.encoding.Encoding.{Encoding}
 use Rattle.cast_stub.specs.declared.recv.RecvOp.{RecvOp}
 use Rattle.cast_stub.specs.Got.{IsSoundCode}
-use Rattle.stub_lower.specs.Lowered.{IsPlace}
+use Rattle.wire_def.specs.Places.{IsPlace}
 
 -- each code gives the value of its node that the octets spell, wherever it begins, or stops where they spell none
 abbrev pub CodesReceive : Encoding → List Node → List (List RecvOp) → Type 0

@@ -3,37 +3,16 @@ ghost use Rattle.std.specs.Prelude.{◌≡◌, [], ◌∷◌, OnOk};
 ghost use Rattle.mint.specs.Types.{number, text, row_of};
 ghost use Rattle.cast_stub.specs.RecvAppend.{append};
 ghost use Rattle.cast_stub.specs.RecvBlock.{finish, need, pass, each, code_seen};
-ghost use Rattle.stub_lower.specs.Codes.{order_of, scalar_width};
+ghost use Rattle.cast_stub.specs.Layouts.{order_of, scalar_width};
 ghost use Rattle.recv_lower.specs.Codes.{scalar_code, number_get, count_code, behind_code, array_code};
 
 use crate::ops::{add, add_take};
+use cast_stub::layouts::{order_of, width_of};
 use cast_stub::{Get, Path, RecvOp, RecvOps};
 use kit_base::NoMemory;
 use mint::kind::{Count, Kind};
 use std::alloc::Global;
-use wire_def::{Encoding, Order};
-
-/// Which octet of a number comes first.
-pub(crate) fn order_of(enc: Encoding) -> Order
-    ensures { result ≡ order_of enc }
-{
-    match enc {
-        Encoding::Xdr | Encoding::CdrBig => Order::Big,
-        Encoding::CdrLittle | Encoding::Mach => Order::Little,
-    }
-}
-
-/// The octets of a number of a kind.
-pub(crate) fn width_of(enc: Encoding, kind: Kind) -> u32
-    ensures { result ≡ scalar_width enc (number kind) }
-{
-    match (kind, enc) {
-        (Kind::I64 | Kind::U64, _) => 8,
-        (Kind::I32 | Kind::U32, _) | (_, Encoding::Xdr) | (Kind::Bool, Encoding::Mach) => 4,
-        (Kind::I16 | Kind::U16, _) => 2,
-        _ => 1,
-    }
-}
+use wire_def::Encoding;
 
 /// Puts the code of a scalar behind the last operation; the get is that of its number.
 #[tactic(auto, using(crate::proofs::Building::building))]

@@ -6,11 +6,13 @@ ghost use Rattle.cast_stub.specs.RecvBlock.{finish, each, switch, if_there, code
 ghost use Rattle.cast_stub.specs.Traces.{AllTrace, AllTurned};
 ghost use Rattle.mint.specs.Types.{scalar_of};
 ghost use Rattle.recv_lower.specs.Codes.{call_here, IsCall, calls_from, cases_at, default_at, flag_code, tag_code, node_code};
-ghost use Rattle.stub_lower.specs.Layouts.{layout_of};
+ghost use Rattle.cast_stub.specs.Layouts.{layout_of};
 ghost use Rattle.recv_lower.specs.Lowered.{CodesReceive};
 
-use crate::leaves::{add_count, add_number, add_row, add_scalar, add_text, order_of, width_of};
-use crate::ops::{add, call_of, path_of};
+use crate::leaves::{add_count, add_number, add_row, add_scalar, add_text};
+use crate::ops::{add, call_of};
+use cast_stub::copying::path_of;
+use cast_stub::layouts::{order_of, width_of};
 use cast_stub::{Get, Path, RecvCases, RecvOp, RecvOps, RecvSubs};
 use kit_base::NoMemory;
 use mint::kind::Kind;

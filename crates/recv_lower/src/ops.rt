@@ -4,7 +4,7 @@ ghost use Rattle.cast_stub.specs.RecvAppend.{append};
 ghost use Rattle.cast_stub.specs.RecvBlock.{finish, code_seen, op_seen, need, pass};
 ghost use Rattle.recv_lower.specs.Codes.{call_here};
 
-use cast_stub::{Path, Get, Gets, RecvOp, RecvOps};
+use cast_stub::{Get, Gets, Path, RecvOp, RecvOps};
 use kit_base::NoMemory;
 use std::alloc::Global;
 
@@ -30,15 +30,6 @@ pub(crate) fn add_take(
     gets.push(get)?;
     add(out, RecvOp::Need(width))?;
     add(out, RecvOp::Take(width, gets))
-}
-
-/// The path of a field.
-pub(crate) fn path_of(alloc: Global, field: u32) -> Result<Path, NoMemory>
-    ensures { IfOk result (λ p. p ≡ field ∷ []) }
-{
-    let mut path = Path::new(alloc);
-    path.push(field)?;
-    Ok(path)
 }
 
 /// A call of a node's code on the current value.

@@ -77,9 +77,9 @@ tag_taken : (us : List Ty) (t : Scalar) (arms : List (ℤ × ℕ)) (other : Opti
 tag_taken us t arms other x m n o s e f =
     passed_tag (is_scalar t (number_of (is_signed t) x m)) (number_of (is_signed t) x m) n (arm_draft (arms_at us arms other)) s e
     ∙ ap (λ (z : Option Ty). if_passed (option_map (tagged n) z) (λ d. gives d s)) (found_type us arms other n ∙ ap (option_map (at us)) f) ∙ ends o where
-  ends : (z : Option ℕ) → if_passed (option_map (tagged n) (option_map (at us) z)) (λ d. gives d s) ≡ if_passed (option_map (λ i. tagged n (at us i)) z) (λ d. gives d s)
-  ends None = refl
-  ends (Some i) = refl
+      ends : (z : Option ℕ) → if_passed (option_map (tagged n) (option_map (at us) z)) (λ d. gives d s) ≡ if_passed (option_map (λ i. tagged n (at us i)) z) (λ d. gives d s)
+      ends None = refl
+      ends (Some i) = refl
 
 module _ (ns : List Node) (old : Filling) (id : ℕ) (nd : Node) (tag : Tag) (arms : List (ℤ × ℕ)) (other : Option ℕ) (x : Width) (m : ℕ) (n : ℤ) (s : Place)
     (is : old ≡ filling.Raw id) (leveled : type_at ns id ≡ level (unfolded ns) nd) (choice : nd ≡ node.Choice tag arms other) (passes : passing x m (scalar_of tag) ≡ Some n) where

@@ -324,7 +324,8 @@ module _ (f : Going ℤ) (n i : ℕ) (s0 s : Place) (front : List ℤ) (lt : i <
 
   pub number_turn : (r : Numbers) (k k' : Kind) (x y : ℤ) (t : Place) → f s ≡ gives x t → k ≡ k' → y ≡ x → r ≡ record { kind = k; numbers = front ++ y ∷ [] }
       → (runs f n s0 ≡ map_run (λ vs. r.numbers ++ vs) (runs f (n - (i + 1)) t)) × (r.kind ≡ k')
-  number_turn r k k' x y t ran same one is =
-      (unfolded_once ∙ ap (λ (z : Run ℤ). map_run (λ vs. front ++ vs) (then_run z (λ x t. map_run (λ xs. x ∷ xs) (runs f (n - (i + 1)) t)))) ran
-      ∙ behind_first x (runs f (n - (i + 1)) t) ∙ ap (λ (l : List ℤ). map_run (λ vs. l ++ vs) (runs f (n - (i + 1)) t)) (sym (ap (λ (q : Numbers). q.numbers) is ∙ ap (λ (z : ℤ). front ++ z ∷ []) one)),
-      ap (λ (q : Numbers). q.kind) is ∙ same)
+  number_turn r k k' x y t ran same one is = (
+    unfolded_once ∙ ap (λ (z : Run ℤ). map_run (λ vs. front ++ vs) (then_run z (λ x t. map_run (λ xs. x ∷ xs) (runs f (n - (i + 1)) t)))) ran
+        ∙ behind_first x (runs f (n - (i + 1)) t) ∙ ap (λ (l : List ℤ). map_run (λ vs. l ++ vs) (runs f (n - (i + 1)) t)) (sym (ap (λ (q : Numbers). q.numbers) is ∙ ap (λ (z : ℤ). front ++ z ∷ []) one)),
+    ap (λ (q : Numbers). q.kind) is ∙ same,
+  )

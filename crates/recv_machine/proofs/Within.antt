@@ -43,10 +43,10 @@ module _ (f : Filler) (x : Draft) (s : Place) where
   is_all [] d e =
       let same : d ≡ x = cc in
       ap (λ (z : Draft). f z s) same ∙ alone (f x s) where
-    alone : (z : Run Draft) → z ≡ then_run z (λ y t. gives y t)
-    alone (gives y t) = refl
-    alone refuses = refl
-    alone strays = refl
+        alone : (z : Run Draft) → z ≡ then_run z (λ y t. gives y t)
+        alone (gives y t) = refl
+        alone refuses = refl
+        alone strays = refl
   is_all (n ∷ p) (fields ds) e = ap (map_run fields) (field_is p (is_all p) n ds e) ∙ mapped fields (λ y. put_field n p y ds) (f x s)
   is_all (n ∷ p) (raw t) e = absurd cc
   is_all (n ∷ p) (digit a) e = absurd cc

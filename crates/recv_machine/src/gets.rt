@@ -31,17 +31,15 @@ fn signed(width: u32, m: u64) -> i128
 {
     let n = i128::from(m);
     match width {
-        1 => {
-            if n < 128 { n } else { n - 256 }
-        }
-        2 => {
-            if n < 32768 { n } else { n - 65536 }
-        }
-        4 => {
-            if n < 2147483648 { n } else { n - 4294967296 }
-        }
+        1 => { if n < 128 { n } else { n - 256 } }
+        2 => { if n < 32768 { n } else { n - 65536 } }
+        4 => { if n < 2147483648 { n } else { n - 4294967296 } }
         _ => {
-            if n < 9223372036854775808 { n } else { n - 18446744073709551616 }
+            if n < 9223372036854775808 {
+                n
+            } else {
+                n - 18446744073709551616
+            }
         }
     }
 }
@@ -457,12 +455,7 @@ fn run_const(off: u32, octets: &Octets, view: &RecvView<'_>) -> bool
 
 // One get.
 #[tactic(auto, using(crate::proofs::Within::constants))]
-fn run_get(
-    mint: &Mint,
-    get: &Get,
-    draft: &mut Filling,
-    view: &RecvView<'_>,
-) -> Result<(), Halt>
+fn run_get(mint: &Mint, get: &Get, draft: &mut Filling, view: &RecvView<'_>) -> Result<(), Halt>
     requires { Holds (got get.now (drawn mint.now draft.old) (place_of view.now)) }
     ensures { Ran result (drawn mint.now draft.new) (place_of view.now) (got get.now (drawn mint.now draft.old) (place_of view.now)) }
 {

@@ -3,6 +3,7 @@ ghost use Rattle.std.specs.Prelude.{◌≡◌, IfOk};
 ghost use Rattle.mint.specs.Types.{type_at};
 ghost use Rattle.cast_stub.specs.Got.{received};
 ghost use Rattle.recv_machine.specs.Ran.{place_of, Holds, IsGot};
+ghost use Rattle.cast_stub.specs.Subs.{deepest};
 
 use crate::errors::Halt;
 use crate::run::run_fresh;
@@ -12,7 +13,6 @@ use mint::table::Mint;
 use mint::value::Value;
 use raw_buf::RecvView;
 use std::alloc::Global;
-ghost use Rattle.cast_stub.specs.Subs.{deepest};
 
 /// How many operations may stand within one another, which bounds the stack.
 const NESTED: u32 = 4224;
@@ -44,7 +44,16 @@ pub fn run_recv(
     requires { Holds (received code.now (type_at mint.now id) (place_of view.old)) }
     ensures { IfOk result (λ got. IsGot got (place_of view.new) (received code.now (type_at mint.now id) (place_of view.old))) }
 {
-    match run_fresh(alloc, &code.subs, mint, deepest_call(), NESTED, &code.ops, id, view) {
+    match run_fresh(
+        alloc,
+        &code.subs,
+        mint,
+        deepest_call(),
+        NESTED,
+        &code.ops,
+        id,
+        view,
+    ) {
         Ok(value) => Ok(Got::Value(value)),
         Err(Halt::Refused) => Ok(Got::Not),
         Err(Halt::NoMemory) => Err(NoMemory),

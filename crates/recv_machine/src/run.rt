@@ -79,9 +79,7 @@ fn run_op(
                 false => Err(Halt::Refused),
             }
         }
-        RecvOp::NeedRow(path, unit, extra) => {
-            need_row(mint, path, *unit, *extra, draft, view)
-        }
+        RecvOp::NeedRow(path, unit, extra) => { need_row(mint, path, *unit, *extra, draft, view) }
         RecvOp::SkipAny(a) => skip_any(mint, *a, draft, view),
         RecvOp::SkipZero(a) => skip_zero(mint, *a, draft, view),
         RecvOp::Take(n, gets) => {
@@ -429,7 +427,15 @@ fn run_each(
             match node {
                 Node::Items(item, count) => {
                     match run_items(
-                        alloc, subs, mint, calls, nested, body, *item, count.least(), view,
+                        alloc,
+                        subs,
+                        mint,
+                        calls,
+                        nested,
+                        body,
+                        *item,
+                        count.least(),
+                        view,
                     ) {
                         Ok(values) => Ok(Filling::Done(Value::Items(values))),
                         Err(halt) => Err(halt),
@@ -437,7 +443,15 @@ fn run_each(
                 }
                 Node::Text(count) => {
                     match run_numbers(
-                        alloc, subs, mint, calls, nested, body, id, count.least(), view,
+                        alloc,
+                        subs,
+                        mint,
+                        calls,
+                        nested,
+                        body,
+                        id,
+                        count.least(),
+                        view,
                     ) {
                         Ok(row) => Ok(Filling::Done(Value::Row(row))),
                         Err(halt) => Err(halt),
@@ -445,7 +459,15 @@ fn run_each(
                 }
                 Node::Row(_, count) => {
                     match run_numbers(
-                        alloc, subs, mint, calls, nested, body, id, count.least(), view,
+                        alloc,
+                        subs,
+                        mint,
+                        calls,
+                        nested,
+                        body,
+                        id,
+                        count.least(),
+                        view,
                     ) {
                         Ok(row) => Ok(Filling::Done(Value::Row(row))),
                         Err(halt) => Err(halt),

@@ -28,12 +28,7 @@ fn blank_at(alloc: Global, mint: &Mint, id: u32) -> Result<Value, NoMemory>
 /// The value of a draft in which nothing waits to be filled.
 #[cycle(settle)]
 #[tactic(auto, using(crate::proofs::Becoming::settling))]
-pub fn settle(
-    alloc: Global,
-    mint: &Mint,
-    nested: u32,
-    draft: Filling,
-) -> Result<Value, NoMemory>
+pub fn settle(alloc: Global, mint: &Mint, nested: u32, draft: Filling) -> Result<Value, NoMemory>
     requires { IsThere (settle (drawn mint.now draft)) }
     ensures { IfOk result (λ v. settle (drawn mint.now draft) ≡ Some (seen v)) }
 {
@@ -56,12 +51,7 @@ pub fn settle(
 
 #[cycle(settle)]
 #[tactic(auto, using(crate::proofs::Becoming::settling))]
-fn settle_all(
-    alloc: Global,
-    mint: &Mint,
-    nested: u32,
-    fields: Fillings,
-) -> Result<Values, NoMemory>
+fn settle_all(alloc: Global, mint: &Mint, nested: u32, fields: Fillings) -> Result<Values, NoMemory>
     requires { IsThere (settles (all_drawn mint.now fields)) }
     ensures { IfOk result (λ vs. settles (all_drawn mint.now fields) ≡ Some (all_seen vs)) }
 {

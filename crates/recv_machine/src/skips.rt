@@ -31,12 +31,7 @@ fn are_zeros(octets: &[u8]) -> bool
 }
 
 /// Octets up to a multiple, whatever they are.
-pub fn skip_any(
-    mint: &Mint,
-    a: u32,
-    draft: &Filling,
-    view: &mut RecvView<'_>,
-) -> Result<(), Halt>
+pub fn skip_any(mint: &Mint, a: u32, draft: &Filling, view: &mut RecvView<'_>) -> Result<(), Halt>
     ensures { Ran result (drawn mint.now draft.now) (place_of view.new) (skipped any_octets a (drawn mint.now draft.now) (place_of view.old)) }
 {
     if !is_multiple(a) {
@@ -52,12 +47,7 @@ pub fn skip_any(
 }
 
 /// Octets up to a multiple, which are 0.
-pub fn skip_zero(
-    mint: &Mint,
-    a: u32,
-    draft: &Filling,
-    view: &mut RecvView<'_>,
-) -> Result<(), Halt>
+pub fn skip_zero(mint: &Mint, a: u32, draft: &Filling, view: &mut RecvView<'_>) -> Result<(), Halt>
     ensures { Ran result (drawn mint.now draft.now) (place_of view.new) (skipped all_zero a (drawn mint.now draft.now) (place_of view.old)) }
 {
     if !is_multiple(a) {

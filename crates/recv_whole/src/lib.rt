@@ -1,8 +1,8 @@
 //! Values received by stub code, from types to octets.
 #![tactic(auto)]
 
-mod whole;
 #[cfg(test)]
 mod tests;
+mod whole;
 
 pub use whole::receive;

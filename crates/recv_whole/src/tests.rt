@@ -47,20 +47,48 @@ fn behind(alloc: Global, id: u32, octets: &[u8]) -> Result<(usize, u64), NoMemor
 
 #[test]
 fn values_of_each_form(rt: HostRuntime) -> Result<(), Fail> {
-    assert_eq!(rt; behind(rt.alloc(), 0, [255, 255, 255, 254].as_slice())?, (4, 1));
-    assert_eq!(rt; behind(rt.alloc(), 1, [0, 0, 0, 3, 97, 98, 99, 0].as_slice())?, (8, 5));
-    assert_eq!(rt; behind(rt.alloc(), 3, [0, 0, 0, 1, 0, 0, 0, 5, 0, 0, 0, 0].as_slice())?, (12, 4));
-    assert_eq!(rt; behind(rt.alloc(), 4, [0, 0, 0, 7, 0, 0, 0, 9].as_slice())?, (8, 2));
+    assert_eq!(rt;
+        behind(rt.alloc(), 0, [255, 255, 255, 254].as_slice())?,
+        (4, 1)
+    );
+    assert_eq!(rt;
+        behind(rt.alloc(), 1, [0, 0, 0, 3, 97, 98, 99, 0].as_slice())?,
+        (8, 5)
+    );
+    assert_eq!(rt;
+        behind(
+            rt.alloc(),
+            3,
+            [0, 0, 0, 1, 0, 0, 0, 5, 0, 0, 0, 0].as_slice()
+        )?,
+        (12, 4)
+    );
+    assert_eq!(rt;
+        behind(rt.alloc(), 4, [0, 0, 0, 7, 0, 0, 0, 9].as_slice())?,
+        (8, 2)
+    );
     assert_eq!(rt; behind(rt.alloc(), 5, [0, 0, 0, 0, 1].as_slice())?, (4, 1));
-    assert_eq!(rt; behind(rt.alloc(), 5, [0, 0, 0, 1, 0, 0, 0, 1].as_slice())?, (8, 2));
+    assert_eq!(rt;
+        behind(rt.alloc(), 5, [0, 0, 0, 1, 0, 0, 0, 1].as_slice())?,
+        (8, 2)
+    );
     Ok(())
 }
 
 #[test]
 fn octets_that_are_no_value(rt: HostRuntime) -> Result<(), Fail> {
-    assert_eq!(rt; behind(rt.alloc(), 0, [255, 255, 255].as_slice())?, (999, 0));
-    assert_eq!(rt; behind(rt.alloc(), 1, [0, 0, 0, 3, 97, 98, 99, 1].as_slice())?, (999, 0));
-    assert_eq!(rt; behind(rt.alloc(), 1, [0, 0, 0, 9, 97, 98, 99, 1].as_slice())?, (999, 0));
+    assert_eq!(rt;
+        behind(rt.alloc(), 0, [255, 255, 255].as_slice())?,
+        (999, 0)
+    );
+    assert_eq!(rt;
+        behind(rt.alloc(), 1, [0, 0, 0, 3, 97, 98, 99, 1].as_slice())?,
+        (999, 0)
+    );
+    assert_eq!(rt;
+        behind(rt.alloc(), 1, [0, 0, 0, 9, 97, 98, 99, 1].as_slice())?,
+        (999, 0)
+    );
     assert_eq!(rt; behind(rt.alloc(), 3, [0, 0, 0, 4].as_slice())?, (999, 0));
     assert_eq!(rt; behind(rt.alloc(), 4, [0, 0, 0, 8].as_slice())?, (999, 0));
     assert_eq!(rt; behind(rt.alloc(), 5, [0, 0, 0, 2].as_slice())?, (999, 0));

@@ -109,6 +109,17 @@ abbrev mutual
   arms_span e (others t) = loose (span e t)
   arms_span e (arm_type n t arms) = either (span e t) (arms_span e arms)
 
+-- ---- tables
+
+-- spans over an encoding, one for each node of a table
+pub record Spanned : Type 0 where
+  pub enc : Encoding
+  pub spans : List Span
+
 -- spans of the first nodes of a table
 abbrev pub AreSpans : Encoding → List Node → List Span → Type 0
 AreSpans e nodes spans = (i : ℕ) → i < length spans → slice_get spans i ≡ Some (span e (type_at nodes i))
+
+-- the spans of all nodes of a table
+abbrev pub AreClasses : List Node → Spanned → Type 0
+AreClasses nodes c = (length c.spans ≡ length nodes) × AreSpans c.enc nodes c.spans

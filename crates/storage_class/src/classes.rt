@@ -7,6 +7,7 @@ use kit_base::{Listed, NoMemory};
 use mint::table::NodeId;
 use std::alloc::Global;
 use std::marker::Model;
+use wire_def::Encoding;
 
 /// How long what is sent of a type is.
 #[derive(Clone, Copy, Debug, PartialEq, Eq)]
@@ -19,51 +20,61 @@ pub enum Class {
     Unbounded,
 }
 
-/// The spans of a table's nodes, in order.
+/// The spans of a table's nodes over an encoding, in order.
 #[derive(Drop)]
 pub struct Classes {
+    enc: Encoding,
     spans: Listed<Span>,
 }
 
 impl Model for Classes {
-    ghost use Rattle.std.specs.Prelude.{List};
-    ghost use Rattle.storage_class.specs.declared.span.Span.{Span};
+    ghost use Rattle.storage_class.specs.Spans.{Spanned};
 
-    ghost Value = { List Span };
+    ghost Value = { Spanned };
 
-    ghost view = { λ c. c.spans };
+    ghost view = { λ c. record { enc = c.enc; spans = c.spans } };
 }
 
 impl Classes {
     /// Of no nodes.
-    pub(crate) fn new(alloc: Global) -> Classes
-        ensures { result ≡ [] }
+    pub(crate) fn new(alloc: Global, enc: Encoding) -> Classes
+        ensures enc { result.enc ≡ enc }
+        ensures spans { result.spans ≡ [] }
     {
         Classes {
+            enc,
             spans: Listed::new(alloc),
         }
     }
 
+    /// The encoding that the spans are of.
+    pub fn enc(&self) -> Encoding
+        ensures { result ≡ self.now.enc }
+    {
+        self.enc
+    }
+
     /// The span of a node.
     pub fn span(&self, id: NodeId) -> Span
-        requires { id < length self.now }
-        ensures { slice_get self.now id ≡ Some result }
+        requires { id < length self.now.spans }
+        ensures { slice_get self.now.spans id ≡ Some result }
     {
         self.spans.as_slice()[id as usize]
     }
 
     /// Puts the span of the next node behind the others.
     pub(crate) fn push(&mut self, span: Span) -> Result<(), NoMemory>
-        ensures ok { OnOk result (self.new ≡ self.old ++ span ∷ []) }
-        ensures err { OnErr result (self.new ≡ self.old) }
+        ensures enc { self.new.enc ≡ self.old.enc }
+        ensures ok { OnOk result (self.new.spans ≡ self.old.spans ++ span ∷ []) }
+        ensures err { OnErr result (self.new.spans ≡ self.old.spans) }
     {
         self.spans.push(span)
     }
 
     /// The class of a node. Takes no memory.
     pub fn max(&self, id: NodeId) -> Class
-        requires { id < length self.now }
-        ensures { result ≡ class_of (slice_index_or self.now id Span.Unbounded) }
+        requires { id < length self.now.spans }
+        ensures { result ≡ class_of (slice_index_or self.now.spans id Span.Unbounded) }
     {
         match self.span(id) {
             Span::Fixed(f) => Class::Fixed(f),

@@ -12,6 +12,3 @@ pub use classes::{Class, Classes};
 pub use laws::sent_is_within_the_span;
 pub use nodes::classify;
 pub use span::Span;
-
-#[cfg(test)]
-mod tests;

@@ -2,7 +2,7 @@
 ghost use Rattle.std.specs.Prelude.{◌≡◌, ◌<◌, length, IfOk};
 ghost use Rattle.mint.specs.Types.{type_at, unfolded, fields_at, arms_at, AreBelow, ArmsBelow, IsBelow};
 ghost use Rattle.wire_def.specs.Lone.{IsPlain};
-ghost use Rattle.storage_class.specs.Spans.{span, fields_span, arms_span, AreSpans};
+ghost use Rattle.storage_class.specs.Spans.{span, fields_span, arms_span, AreSpans, AreClasses};
 
 use crate::arrays::{items, octets, row};
 use crate::classes::Classes;
@@ -18,10 +18,10 @@ use wire_def::Encoding;
 /// The class of each node of a table, in one step for each node and each child.
 pub fn classify(alloc: Global, enc: Encoding, mint: &Mint) -> Result<Classes, NoMemory>
     requires plain { IsPlain enc }
-    ensures all { IfOk result (λ c. length c ≡ length mint.now) }
-    ensures spans { IfOk result (λ c. AreSpans enc mint.now c) }
+    ensures encoding { IfOk result (λ c. c.enc ≡ enc) }
+    ensures spans { IfOk result (λ c. AreClasses mint.now c) }
 {
-    let mut classes = Classes::new(alloc);
+    let mut classes = Classes::new(alloc, enc);
     for id in 0..mint.len() {
         let span = node_span(enc, mint, &classes, id as NodeId);
         classes.push(span)?;
@@ -33,8 +33,8 @@ pub fn classify(alloc: Global, enc: Encoding, mint: &Mint) -> Result<Classes, No
 fn node_span(enc: Encoding, mint: &Mint, known: &Classes, id: NodeId) -> Span
     requires plain { IsPlain enc }
     requires id { id < length mint.now }
-    requires all { length known.now ≡ id }
-    requires known { AreSpans enc mint.now known.now }
+    requires all { length known.now.spans ≡ id }
+    requires known { AreSpans enc mint.now known.now.spans }
     ensures { result ≡ span enc (type_at mint.now id) }
 {
     let Some(node) = mint.node(id) else {
@@ -57,8 +57,8 @@ fn node_span(enc: Encoding, mint: &Mint, known: &Classes, id: NodeId) -> Span
 
 /// The span of fields, one behind the other.
 fn fields_span(enc: Encoding, mint: &Mint, known: &Classes, ids: &NodeIds) -> Span
-    requires below { AreBelow (length known.now) ids.now }
-    requires known { AreSpans enc mint.now known.now }
+    requires below { AreBelow (length known.now.spans) ids.now }
+    requires known { AreSpans enc mint.now known.now.spans }
     ensures { result ≡ fields_span enc (fields_at (unfolded mint.now) ids.now) }
 {
     let ids = ids.as_slice();
@@ -77,9 +77,9 @@ fn arms_span(
     arms: &Arms,
     other: Option<NodeId>,
 ) -> Span
-    requires arms { ArmsBelow (length known.now) arms.now }
-    requires other { IsBelow (length known.now) other }
-    requires known { AreSpans enc mint.now known.now }
+    requires arms { ArmsBelow (length known.now.spans) arms.now }
+    requires other { IsBelow (length known.now.spans) other }
+    requires known { AreSpans enc mint.now known.now.spans }
     ensures { result ≡ arms_span enc (arms_at (unfolded mint.now) arms.now other) }
 {
     let arms = arms.as_slice();

@@ -4,8 +4,6 @@
 
 mod counting;
 mod shapes;
-#[cfg(test)]
-mod tests;
 
 use crate::counting::count;
 use crate::shapes::{Shape, shape_of, table_of};
@@ -69,6 +67,7 @@ fn run(alloc: Global, last: Pass, shape: Shape, size: u32) -> Result<Operations>
     if last == Pass::Lower {
         return Ok(operations);
     }
+    table.types_are_sound();
     let Ok(code) = inline(alloc, &subs, id) else {
         bail!("no memory to inline");
     };
@@ -82,8 +81,7 @@ fn run(alloc: Global, last: Pass, shape: Shape, size: u32) -> Result<Operations>
     if last == Pass::Classify {
         return Ok(operations);
     }
-    table.types_are_sound();
-    match hoist(alloc, Encoding::Xdr, &code, &table, id, &classes) {
+    match hoist(alloc, &code, &table, id, &classes) {
         Ok(code) => {
             operations.hoisted = count(&code.ops);
             Ok(operations)

@@ -29,8 +29,9 @@ use Rattle.cast_stub.specs.Block.{Block, stop, align, chunk, each}
 use Rattle.cast_stub.specs.Append.{append}
 use Rattle.cast_stub.specs.Steps.{Steps, Calls, steps, over, chunk_steps, align_steps}
 use Rattle.cast_stub.proofs.Appending.{steps-append}
-use Rattle.stub_lower.specs.Lowered.{IsPlace}
-use Rattle.stub_lower.specs.Codes.{order_of, scalar_width, element_width, aligned, scalar_code, ended_code, number_put, number_chunk, count_code, row_code, end_code, array_code}
+use Rattle.wire_def.specs.Places.{IsPlace}
+use Rattle.stub_lower.specs.Codes.{aligned, scalar_code, ended_code, number_put, number_chunk, count_code, row_code, end_code, array_code}
+use Rattle.cast_stub.specs.Layouts.{order_of, scalar_width, element_width}
 use Rattle.stub_lower.proofs.Writing.{Writes, both-writes, none-writes, writes_same, writes_stop, Sends, put-writes}
 use Rattle.stub_lower.proofs.Encoded.{ScalarsSend, ArraysSend, count-sends, first_true, second_true, letters_are_octets, octets_long, over-writes}
 use Rattle.stub_lower.proofs.Words.{order_octets, width_same, scalar_word, word-octet}

@@ -27,8 +27,9 @@ use Rattle.cast_stub.specs.Block.{Block, stop, align, chunk, each}
 use Rattle.cast_stub.specs.Append.{append}
 use Rattle.cast_stub.specs.Steps.{Steps, Calls, steps, over, chunk_steps}
 use Rattle.cast_stub.proofs.Appending.{steps-append}
-use Rattle.stub_lower.specs.Lowered.{IsPlace}
-use Rattle.stub_lower.specs.Codes.{order_of, scalar_width, scalar_code, count_code, array_code}
+use Rattle.wire_def.specs.Places.{IsPlace}
+use Rattle.stub_lower.specs.Codes.{scalar_code, count_code, array_code}
+use Rattle.cast_stub.specs.Layouts.{order_of, scalar_width}
 use Rattle.stub_lower.proofs.Writing.{place_sum, Writes, both-writes, none-writes, writes_same, writes_stop, Sends, both-sends, none-sends, sends_stop, put-writes}
 use Rattle.wire_def.proofs.Words.{IsOwn, is8, is16, is32, is64, own_of, wide}
 use Rattle.stub_lower.proofs.Words.{order_octets, width_same, scalar_word, word-octet}

@@ -16,7 +16,7 @@ use Rattle.cast_stub.specs.Block.{Block, stop, align, chunk, call}
 use Rattle.cast_stub.specs.Follows.{flat, IsFlat, IsLoop, IsCount, Child, Loops, FollowsBy, FieldsFollowBy, ArmsFollowBy}
 use Rattle.cast_stub.specs.Turned.{IsTurned}
 use Rattle.stub_lower.specs.Codes.{aligned, scalar_code, count_code, ended_code, number_chunk, end_code, turn_code, array_code, tag_code, flag_code, call_here, calls_from, cases_at, node_code}
-use Rattle.stub_lower.specs.Layouts.{layout_of}
+use Rattle.cast_stub.specs.Layouts.{layout_of}
 
 -- ---- what an encoding gives
 

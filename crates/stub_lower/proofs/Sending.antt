@@ -22,7 +22,8 @@ use Rattle.cast_stub.specs.Block.{Block, stop, each, switch, if_there}
 use Rattle.cast_stub.specs.Append.{append}
 use Rattle.cast_stub.specs.Steps.{Steps, Calls, steps, case_steps, over}
 use Rattle.cast_stub.proofs.Appending.{steps-append}
-use Rattle.stub_lower.specs.Codes.{order_of, scalar_width, count_code, tag_code, flag_code, call_here, calls_from, cases_at, node_code}
+use Rattle.stub_lower.specs.Codes.{count_code, tag_code, flag_code, call_here, calls_from, cases_at, node_code}
+use Rattle.cast_stub.specs.Layouts.{order_of, scalar_width}
 use Rattle.stub_lower.proofs.Writing.{Sends, both-sends, none-sends, sends_same, sends_stop}
 use Rattle.stub_lower.proofs.Encoded.{ScalarsSend, ArraysSend, count-sends}
 

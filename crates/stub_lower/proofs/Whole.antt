@@ -24,7 +24,7 @@ use Rattle.cast_stub.specs.Steps.{steps}
 use Rattle.cast_stub.specs.Subs.{called, deepest, sub_at}
 use Rattle.cast_stub.specs.Turned.{IsTurned, AllTurned}
 use Rattle.stub_lower.specs.Codes.{array_code, node_code}
-use Rattle.stub_lower.specs.Layouts.{layout_of}
+use Rattle.cast_stub.specs.Layouts.{layout_of}
 use Rattle.stub_lower.specs.Lowered.{CodesSend}
 use Rattle.wire_def.specs.Lone.{IsPlain}
 use Rattle.stub_lower.proofs.Encoded.{ScalarsSend, ArraysSend, xdr_scalar, xdr_array}

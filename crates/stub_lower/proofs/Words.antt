@@ -18,7 +18,7 @@ use Rattle.wire_def.proofs.Words.{IsOwn, is8, is16, is32, is64, own_of}
 use Rattle.cast_stub.specs.Parts.{on_some}
 use Rattle.cast_stub.specs.Puts.{word}
 use Rattle.cast_stub.proofs.Putting.{if_so}
-use Rattle.stub_lower.specs.Codes.{order_of, scalar_width}
+use Rattle.cast_stub.specs.Layouts.{order_of, scalar_width}
 
 pos_8 : (o : Order) (n : ℕ) → n < 256 → word 1 o (pos n) ≡ Some (in_order o 1 (residue w8 (pos n)))
 pos_8 o n h =

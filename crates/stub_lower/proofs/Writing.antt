@@ -12,7 +12,7 @@ use Rattle.cast_stub.specs.Steps.{Steps, both, chunk_steps}
 use Rattle.cast_stub.specs.Meaning.{wrote}
 use Rattle.cast_stub.proofs.Folding.{wrote-append}
 use Rattle.cast_stub.proofs.Putting.{placed_whole, full_whole}
-use Rattle.stub_lower.specs.Lowered.{IsPlace}
+use Rattle.wire_def.specs.Places.{IsPlace}
 
 -- ---- positions that an encoding speaks of
 

@@ -1,7 +1,5 @@
 -- The code of a node over those of its parts, which it calls.
 use Rattle.std.specs.Prelude.{◌≡◌, ℕ, zero, suc, ℤ, List, [], ◌∷◌, Option, None, Some, Bool, true, false, nat_eq, if◌then◌else◌}
-use Rattle.std.specs.Int.{byte_len}
-use Rattle.mint.specs.declared.kind.Kind.TheVariants as kind
 use Rattle.mint.specs.declared.kind.Count.{Count}
 use Rattle.mint.specs.declared.kind.Count.TheVariants.{Exactly}
 use Rattle.mint.specs.declared.node.Node.{Node}
@@ -9,44 +7,16 @@ use Rattle.mint.specs.declared.node.Node.TheVariants as node
 use Rattle.mint.specs.Types.{Scalar, number, label, Array, text, row_of, scalar_of}
 use Rattle.wire_def.specs.declared.encoding.Encoding.{Encoding}
 use Rattle.wire_def.specs.declared.encoding.Encoding.TheVariants.{Xdr, CdrBig, CdrLittle, Mach}
-use Rattle.wire_def.specs.declared.head.Order.{Order}
-use Rattle.wire_def.specs.declared.head.Order.TheVariants.{Big, Little}
-use Rattle.wire_def.specs.Scalars.{width_of}
-use Rattle.wire_def.specs.Arrays.{counted, count_of, kind_of, is_octets}
+use Rattle.wire_def.specs.Arrays.{counted, count_of, is_octets}
 use Rattle.wire_def.specs.Send.{flag}
 use Rattle.cast_stub.specs.declared.put.Put.{Put}
 use Rattle.cast_stub.specs.declared.put.Put.TheVariants as put
 use Rattle.cast_stub.specs.declared.send.SendOp.{SendOp}
 use Rattle.cast_stub.specs.Block.{Block, stop, align, chunk, each, switch, if_there, call, Cases, no_default, default, case, code_seen}
 use Rattle.cast_stub.specs.Append.{append}
+use Rattle.cast_stub.specs.Layouts.{order_of, scalar_width, element_width, is_gapped}
 
 -- ---- what an encoding gives
-
--- which octet of a number comes first
-abbrev pub order_of : Encoding → Order
-order_of Xdr = Big
-order_of CdrBig = Big
-order_of _ = Little
-
--- the octets of a scalar; a label is a word
-abbrev pub scalar_width : Encoding → Scalar → ℕ
-scalar_width e (label labels) = 4
-scalar_width e (number k) = byte_len (width_of e (number k))
-
--- the octets of an element of an array
-abbrev pub element_width : Encoding → Array → ℕ
-element_width e a = if is_octets a then 1 else scalar_width e (number (kind_of a))
-
--- a length that is not fixed
-abbrev pub is_free : Count → Bool
-is_free (Exactly m) = false
-is_free _ = true
-
--- numbers of 64 bits whose padding stands only before a first element
-abbrev pub is_gapped : Array → Bool
-is_gapped (row_of kind.I64 c) = is_free c
-is_gapped (row_of kind.U64 c) = is_free c
-is_gapped _ = false
 
 -- code at a multiple of a width
 abbrev pub aligned : ℕ → Block → Block

@@ -1,4 +1,3 @@
 pub mod Codes
-pub mod Layouts
 pub mod Leads
 pub mod Lowered

@@ -1,21 +1,15 @@
 -- What the codes of a table are to be.
-use Rattle.std.specs.Prelude.{◌≡◌, ℕ, ◌%◌, List, Some, slice_get}
+use Rattle.std.specs.Prelude.{◌≡◌, ℕ, List, Some, slice_get}
 use Rattle.mint.specs.declared.node.Node.{Node}
 use Rattle.mint.specs.Types.{type_at}
 use Rattle.mint.specs.Typed.{IsWellTyped}
 use Rattle.mint.specs.Values.{Val}
 use Rattle.wire_def.specs.declared.encoding.Encoding.{Encoding}
-use Rattle.wire_def.specs.declared.encoding.Encoding.TheVariants.{Xdr, Mach}
 use Rattle.wire_def.specs.declared.head.Head.{Head}
+use Rattle.wire_def.specs.Places.{IsPlace}
 use Rattle.wire_def.specs.Send.{send}
 use Rattle.cast_stub.specs.declared.send.SendOp.{SendOp}
 use Rattle.cast_stub.specs.Meaning.{meaning}
-
--- a position that the encoding speaks of: items of XDR and Mach begin at multiples of 4
-abbrev pub IsPlace : Encoding → ℕ → Type 0
-IsPlace Xdr p = p % 4 ≡ 0
-IsPlace Mach p = p % 4 ≡ 0
-IsPlace _ p = Unit {0}
 
 -- each code appends what is sent of its node, for every head and value, wherever it begins
 abbrev pub CodesSend : Encoding → List Node → List (List SendOp) → Type 0

@@ -5,36 +5,17 @@ ghost use Rattle.cast_stub.specs.Append.{append};
 ghost use Rattle.cast_stub.specs.Block.{stop, chunk, each, code_seen};
 ghost use Rattle.mint.specs.declared.kind.Count.{Count};
 ghost use Rattle.wire_def.specs.Lone.{IsPlain};
-ghost use Rattle.stub_lower.specs.Codes.{aligned, order_of, scalar_width, element_width, scalar_code, number_put, gapped_turn, count_code, ended_code, end_code, row_code, is_gapped, array_code};
+ghost use Rattle.stub_lower.specs.Codes.{aligned, scalar_code, number_put, gapped_turn, count_code, ended_code, end_code, row_code, array_code};
+ghost use Rattle.cast_stub.specs.Layouts.{order_of, scalar_width, element_width, is_gapped};
 
-use crate::ops::{add, add_chunk};
+use crate::ops::add_chunk;
+use cast_stub::copying::add;
+use cast_stub::layouts::{order_of, width_of};
 use cast_stub::{Path, Put, SendOp, SendOps};
 use kit_base::{NoMemory, Octets};
 use mint::kind::{Count, Kind};
 use std::alloc::Global;
-use wire_def::{Encoding, Order};
-
-/// Which octet of a number comes first.
-pub(crate) fn order_of(enc: Encoding) -> Order
-    ensures { result ≡ order_of enc }
-{
-    match enc {
-        Encoding::Xdr | Encoding::CdrBig => Order::Big,
-        Encoding::CdrLittle | Encoding::Mach => Order::Little,
-    }
-}
-
-/// The octets of a number of a kind.
-pub(crate) fn width_of(enc: Encoding, kind: Kind) -> u32
-    ensures { result ≡ scalar_width enc (number kind) }
-{
-    match (kind, enc) {
-        (Kind::I64 | Kind::U64, _) => 8,
-        (Kind::I32 | Kind::U32, _) | (_, Encoding::Xdr) | (Kind::Bool, Encoding::Mach) => 4,
-        (Kind::I16 | Kind::U16, _) => 2,
-        _ => 1,
-    }
-}
+use wire_def::Encoding;
 
 /// Puts an alignment behind the last operation.
 #[tactic(auto, using(crate::proofs::Building::building))]
@@ -247,7 +228,13 @@ pub(crate) fn add_row(
         }
         _ => {
             add_row_head(alloc, enc, element_width(enc, kind), count, out)?;
-            add_loop(alloc, enc, element_width(enc, kind), is_gapped(kind, count), out)
+            add_loop(
+                alloc,
+                enc,
+                element_width(enc, kind),
+                is_gapped(kind, count),
+                out,
+            )
         }
     }
 }

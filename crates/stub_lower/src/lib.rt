@@ -6,7 +6,5 @@
 mod leaves;
 mod nodes;
 mod ops;
-#[cfg(test)]
-mod tests;
 
 pub use nodes::lower;

@@ -4,14 +4,18 @@ ghost use Rattle.wire_def.specs.Lone.{IsPlain};
 ghost use Rattle.cast_stub.specs.Append.{append};
 ghost use Rattle.cast_stub.specs.Block.{stop, each, switch, if_there, code_seen, cases_seen};
 ghost use Rattle.cast_stub.specs.Follows.{AllFollow};
+ghost use Rattle.cast_stub.specs.Rowless.{HaveNoRow};
 ghost use Rattle.cast_stub.specs.Turned.{AllTurned};
 ghost use Rattle.mint.specs.Types.{scalar_of};
 ghost use Rattle.stub_lower.specs.Codes.{call_here, IsCall, calls_from, cases_at, default_at, flag_code, tag_code, node_code};
-ghost use Rattle.stub_lower.specs.Layouts.{layout_of};
+ghost use Rattle.cast_stub.specs.Layouts.{layout_of};
 ghost use Rattle.stub_lower.specs.Lowered.{CodesSend};
 
-use crate::leaves::{add_count, add_number, add_row, add_scalar, add_text, order_of, width_of};
-use crate::ops::{add, call_of, path_of};
+use crate::leaves::{add_count, add_number, add_row, add_scalar, add_text};
+use crate::ops::call_of;
+use cast_stub::copies::case_of;
+use cast_stub::copying::{add, path_of};
+use cast_stub::layouts::{order_of, width_of};
 use cast_stub::{Path, Put, SendCases, SendOp, SendOps, SendSubs};
 use kit_base::NoMemory;
 use mint::kind::Kind;
@@ -28,6 +32,7 @@ pub fn lower(alloc: Global, enc: Encoding, mint: &Mint) -> Result<SendSubs, NoMe
     ensures means { IfOk result (λ subs. CodesSend enc mint.now subs) }
     ensures follows { IfOk result (λ subs. AllFollow mint.now subs) }
     ensures rows { IfOk result (λ subs. AllTurned (layout_of enc) mint.now subs) }
+    ensures no_row { IfOk result HaveNoRow }
 {
     let mut subs = SendSubs::new(alloc);
     let count = mint.len() as u32;
@@ -160,12 +165,4 @@ fn call_for(alloc: Global, n: &i128, id: u32) -> Result<(i128, SendOps), NoMemor
 {
     let body = call_of(alloc, id)?;
     Ok(case_of(n, body))
-}
-
-/// The body of a number.
-fn case_of(n: &i128, body: SendOps) -> (i128, SendOps)
-    ensures number { result.0 ≡ n.now }
-    ensures body { result.1 ≡ body }
-{
-    (*n, body)
 }

@@ -4,17 +4,10 @@ ghost use Rattle.cast_stub.specs.Append.{append};
 ghost use Rattle.cast_stub.specs.Block.{stop, code_seen, op_seen, chunk};
 ghost use Rattle.stub_lower.specs.Codes.{call_here};
 
+use cast_stub::copying::add;
 use cast_stub::{Path, Put, Puts, SendOp, SendOps};
 use kit_base::NoMemory;
 use std::alloc::Global;
-
-/// Puts an operation behind the last.
-#[tactic(auto, using(crate::proofs::Adding::adding))]
-pub(crate) fn add(out: &mut SendOps, op: SendOp) -> Result<(), NoMemory>
-    ensures { OnOk result (code_seen out.new ≡ append (code_seen out.old) (op_seen op stop)) }
-{
-    out.push(op)
-}
 
 /// Puts a chunk behind the last operation, which one put fills.
 #[tactic(auto, using(crate::proofs::Building::building))]
@@ -29,15 +22,6 @@ pub(crate) fn add_chunk(
     let mut puts = Puts::new(alloc);
     puts.push(put)?;
     add(out, SendOp::Chunk(width, puts))
-}
-
-/// The path of a field.
-pub(crate) fn path_of(alloc: Global, field: u32) -> Result<Path, NoMemory>
-    ensures { IfOk result (λ p. p ≡ field ∷ []) }
-{
-    let mut path = Path::new(alloc);
-    path.push(field)?;
-    Ok(path)
 }
 
 /// A call of a node's code on the current value.

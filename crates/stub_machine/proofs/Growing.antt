@@ -7,6 +7,7 @@ use Rattle.mint.specs.Values.{Val, seen, all_seen, vals_of, num}
 use Rattle.wire_def.specs.Scalars.{gap}
 use Rattle.wire_def.specs.declared.head.Head.{Head}
 use Rattle.raw_buf.specs.Buf.{Buf}
+use Rattle.raw_buf.proofs.Standing.{none_fell-refl, none_fell-trans}
 use Rattle.cast_stub.specs.declared.send.SendOp.{SendOp}
 use Rattle.cast_stub.specs.declared.send.SendOp.TheVariants as op
 use Rattle.cast_stub.specs.Parts.{on_some}
@@ -69,7 +70,7 @@ ended-grows (Some ss) s u e = ran-grows ss s u e
 -- ---- parts of a run
 
 pub grown-same : (x : Steps) (s : State) → Grown x s s
-grown-same x s = record { grows = ended-grows x s }
+grown-same x s = record { grows = ended-grows x s; spent = none_fell-refl s.spent }
 
 pub grown-kept : (x : Steps) (b c : Buf) → c ≡ b → Grown x (state_of b) (state_of c)
 grown-kept x b c e = subst (λ (d : Buf). Grown x (state_of b) (state_of d)) (sym e) (grown-same x (state_of b))
@@ -79,13 +80,14 @@ first-grown x y s t g = record {
   grows = λ (u : State) e.
       let k = split (ended x s) (ended y) u (sym (ended-both x y s) ∙ e) in
       omega (arith, g.grows k.0 k.1, ended-grows y k.0 u k.2);
+  spent = g.spent;
 }
 
 pub left-grown : (all left : Steps) (s t : State) → Left all left s t → Grown all s t
-left-grown all left s t l = record { grows = λ (u : State) e. ended-grows left t u (sym l ∙ e) }
+left-grown all left s t l = record { grows = λ (u : State) e. ended-grows left t u (sym l.same ∙ e); spent = l.spent }
 
 pub grown-behind : (all left : Steps) (s t u : State) → Left all left s t → Grown left t u → Grown all s u
-grown-behind all left s t u l g = record { grows = λ (w : State) e. g.grows w (sym l ∙ e) }
+grown-behind all left s t u l g = record { grows = λ (w : State) e. g.grows w (sym l.same ∙ e); spent = none_fell-trans s.spent t.spent u.spent l.spent g.spent }
 
 -- ---- where a loop is broken off
 

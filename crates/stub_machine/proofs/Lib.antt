@@ -6,4 +6,6 @@ pub mod PartLaws
 pub mod Picks
 pub mod Rooms
 pub mod Running
+pub mod Sizes
+pub mod Spending
 pub mod Whole

@@ -20,14 +20,24 @@ use Rattle.stub_machine.specs.Run.{State, ended, Runs, Ends}
 use Rattle.cast_stub.specs.Parts.{on_some, IsThere, at}
 use Rattle.cast_stub.specs.Subs.{call_steps, calls_of}
 use Rattle.cast_stub.proofs.Codes.{code-drop}
+use Rattle.raw_buf.specs.Buf.{NoneFell}
+use Rattle.raw_buf.proofs.Standing.{none_fell-refl, none_fell-trans}
 use Rattle.stub_machine.proofs.Folds.{first-ends, first-runs, op-runs}
+use Rattle.stub_machine.proofs.Spending.{ended-stands}
 
--- where a run is: what is left from here ends as the whole
-abbrev pub Left : Steps → Steps → State → State → Type 0
-Left all left s t = ended all s ≡ ended left t
+-- where a run is: what is left from here ends as the whole, and no count of what was spent fell
+pub record Left (all left : Steps) (s t : State) : Type 0 where
+  pub same : ended all s ≡ ended left t
+  pub spent : NoneFell s.spent t.spent
+
+pub left-refl : (x : Steps) (s : State) → Left x x s s
+left-refl x s = record { same = refl; spent = none_fell-refl s.spent }
+
+pub left-ends : (x : Steps) (s t : State) → Left x (Some []) s t → Ends x s t
+left-ends x s t l = l.same
 
 pub left-runs : (all left : Steps) (s t : State) → Left all left s t → Runs all s → Runs left t
-left-runs all left s t e r = subst IsThere e r
+left-runs all left s t l r = subst IsThere l.same r
 
 -- ---- operations
 
@@ -51,7 +61,10 @@ pub block_step : (c : Calls) (h : Head) (v : Val) (ops : List SendOp) (i : ℕ) 
     → ((r : Block) → ended (steps c h (op_seen d r) v) t ≡ ended (steps c h r v) u) → Left (code_steps c h ops v) (code_steps c h (drop (i + 1) ops) v) s u
 block_step c h v ops i d s t u left lt same e =
     let rest = code_seen (drop (i + 1) ops) in
-    left ∙ ap (λ (b : Block). ended (steps c h b v) t) (code-drop ops i d lt) ∙ ap (λ (o : SendOp). ended (steps c h (op_seen o rest) v) t) (sym same) ∙ e rest
+    record {
+      same = left.same ∙ ap (λ (b : Block). ended (steps c h b v) t) (code-drop ops i d lt) ∙ ap (λ (o : SendOp). ended (steps c h (op_seen o rest) v) t) (sym same) ∙ e rest;
+      spent = none_fell-trans s.spent t.spent u.spent left.spent (ended-stands (steps c h (op_seen d stop) v) t u (e stop));
+    }
 
 pub items_fit : (f : Val → Steps) (vs : List Value) (i : ℕ) (d : Value) (s t : State) → Left (over f (all_seen vs)) (over f (all_seen (drop i vs))) s t → i < length vs → d ≡ get_or vs i d → Runs (over f (all_seen vs)) s → Runs (f (seen d)) t
 items_fit f vs i d s t left lt same r =
@@ -61,9 +74,11 @@ items_fit f vs i d s t left lt same r =
 
 pub items_step : (f : Val → Steps) (vs : List Value) (i : ℕ) (d : Value) (s t u : State) → Left (over f (all_seen vs)) (over f (all_seen (drop i vs))) s t → i < length vs → d ≡ get_or vs i d → Ends (f (seen d)) t u
     → Left (over f (all_seen vs)) (over f (all_seen (drop (i + 1) vs))) s u
-items_step f vs i d s t u left lt same e =
-    left ∙ ap (λ (x : Steps). ended x t) (over-drop f vs i d lt)
-    ∙ first-ends (f (seen (get_or vs i d))) (over f (all_seen (drop (i + 1) vs))) t u (subst (λ (o : Value). Ends (f (seen o)) t u) same e)
+items_step f vs i d s t u left lt same e = record {
+  same = left.same ∙ ap (λ (x : Steps). ended x t) (over-drop f vs i d lt)
+      ∙ first-ends (f (seen (get_or vs i d))) (over f (all_seen (drop (i + 1) vs))) t u (subst (λ (o : Value). Ends (f (seen o)) t u) same e);
+  spent = none_fell-trans s.spent t.spent u.spent left.spent (ended-stands (f (seen d)) t u e);
+}
 
 pub numbers_fit : (f : Val → Steps) (ns : List ℤ) (i : ℕ) (s t : State) → Left (over f (vals_of (map num ns))) (over f (vals_of (map num (drop i ns)))) s t → i < length ns → Runs (over f (vals_of (map num ns))) s → Runs (f (num (get_or ns i (pos 0)))) t
 numbers_fit f ns i s t left lt r =
@@ -72,9 +87,11 @@ numbers_fit f ns i s t left lt r =
 
 pub numbers_step : (f : Val → Steps) (ns : List ℤ) (i : ℕ) (s t u : State) → Left (over f (vals_of (map num ns))) (over f (vals_of (map num (drop i ns)))) s t → i < length ns → Ends (f (num (get_or ns i (pos 0)))) t u
     → Left (over f (vals_of (map num ns))) (over f (vals_of (map num (drop (i + 1) ns)))) s u
-numbers_step f ns i s t u left lt e =
-    left ∙ ap (λ (x : Steps). ended x t) (numbers-drop f ns i (pos 0) lt)
-    ∙ first-ends (f (num (get_or ns i (pos 0)))) (over f (vals_of (map num (drop (i + 1) ns)))) t u e
+numbers_step f ns i s t u left lt e = record {
+  same = left.same ∙ ap (λ (x : Steps). ended x t) (numbers-drop f ns i (pos 0) lt)
+      ∙ first-ends (f (num (get_or ns i (pos 0)))) (over f (vals_of (map num (drop (i + 1) ns)))) t u e;
+  spent = none_fell-trans s.spent t.spent u.spent left.spent (ended-stands (f (num (get_or ns i (pos 0)))) t u e);
+}
 
 -- ---- operations by cases
 
@@ -129,6 +146,14 @@ no_sub subs h (suc n) k w e = ap (λ (o : Option (List SendOp)). on_some (option
 
 pub no_code : (subs : List (List SendOp)) (h : Head) (n k : ℕ) (path : List ℕ) (v : Val) (s : State) → slice_get subs k ≡ None → Runs (call_steps (calls_of subs h n) k path v) s → ⊥
 no_code subs h n k path v s e r = none_runs (at path v) (calls_of subs h n k) s (λ w. no_sub subs h n k w e) r
+
+-- the code of a call is what it runs, one call deeper
+pub call_is : (subs : List (List SendOp)) (h : Head) (n m k : ℕ) (path : List ℕ) (code : List SendOp) (v w : Val) → n ≡ suc m → at path v ≡ Some w → slice_get subs k ≡ Some code
+    → call_steps (calls_of subs h n) k path v ≡ code_steps (calls_of subs h m) h code w
+call_is subs h n m k path code v w deep here is =
+    ap (λ (x : ℕ). on_some (at path v) (calls_of subs h x k)) deep
+    ∙ ap (λ (o : Option Val). on_some o (calls_of subs h (suc m) k)) here
+    ∙ ap (λ (o : Option (List SendOp)). on_some (option_map code_seen o) (λ b. steps (calls_of subs h m) h b w)) is
 
 -- ---- rows are not run
 

@@ -1,7 +1,7 @@
 -- A run as a whole.
 use Rattle.std.proofs.Common.{◌≡◌, ℕ, ◌+◌, ◌<◌, List, [], ◌++◌, length, Option, None, Some, option_map, refl, sym, ap, subst, ◌∙◌, arith, length-append, Result, Ok, Err, OnOk, OnErr}
 use Rattle.std.proofs.lemmas.List.{append-nil}
-use Rattle.raw_buf.specs.Buf.{Buf}
+use Rattle.raw_buf.specs.Buf.{Buf, NoneFell}
 use Rattle.cast_stub.specs.Parts.{on_some, IsThere}
 use Rattle.cast_stub.specs.Steps.{Step, Steps}
 use Rattle.cast_stub.specs.Meaning.{wrote, costs, HasRoom, AreCovered}
@@ -9,6 +9,7 @@ use Rattle.cast_stub.proofs.Folding.{room-more}
 use Rattle.cast_stub.proofs.Rowless.{NoRow}
 use Rattle.stub_machine.specs.Run.{State, state_of, ran, Runs, Ends, Grown}
 use Rattle.stub_machine.specs.Sending.{paid, most, IsLong}
+use Rattle.stub_machine.proofs.Spending.{ended-stands}
 use Rattle.stub_machine.proofs.Rooms.{state, room-runs, ran-leads}
 
 pub covered-runs : (x : Steps) (b : Buf) → AreCovered x (length b.done) → NoRow x → Runs x (state_of b)
@@ -61,3 +62,8 @@ pub broken-long : {A E : Type 0} (r : Result A E) (x : Steps) (b c : Buf) → Ar
     → IsLong (length b.done) (on_some x (wrote (length b.done) []))
 broken-long (Ok a) x b c h runs e g over = let s = ends-sent x b c h e in s.long over
 broken-long (Err a) x b c h runs e g over = grown-long x b c h runs g over
+
+-- what was spent does not fall, however a run ends
+pub run-stands : {A E : Type 0} (r : Result A E) (x : Steps) (s t : State) → OnOk r (Ends x s t) → OnErr r (Grown x s t) → NoneFell s.spent t.spent
+run-stands (Ok a) x s t e g = ended-stands x s t e
+run-stands (Err a) x s t e g = g.spent

@@ -3,7 +3,7 @@ use Rattle.std.specs.Prelude.{◌≡◌, ℕ, zero, suc, ◌+◌, ◌-◌, ◌^�
 use Rattle.kit_base.specs.Bytes.{written}
 use Rattle.wire_def.specs.Scalars.{gap}
 use Rattle.raw_buf.specs.declared.tally.Tally.{Tally}
-use Rattle.raw_buf.specs.Buf.{Buf, in_order, checked, moved, stored}
+use Rattle.raw_buf.specs.Buf.{Buf, NoneFell, in_order, checked, moved, stored}
 use Rattle.cast_stub.specs.Parts.{on_some, IsThere}
 use Rattle.cast_stub.specs.Steps.{Step, Room, Pad, Stored, Widened, Copied, Patched, Steps}
 
@@ -56,6 +56,8 @@ Runs x s = IsThere (ended x s)
 abbrev pub Ends : Steps → State → State → Type 0
 Ends x s t = ended x s ≡ Some t
 
--- wherever they lead from a state, there are no fewer octets than in the other
+-- a state where steps from another were broken off: wherever they lead, there are no fewer octets than
+-- here, and no count of what was spent fell so far
 pub record Grown (x : Steps) (s t : State) : Type 0 where
   pub grows : (u : State) → Ends x s u → length t.done ≤ length u.done
+  pub spent : NoneFell s.spent t.spent

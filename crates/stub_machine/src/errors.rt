@@ -6,20 +6,29 @@ use kit_base::NoMemory;
 pub enum SendErr {
     /// The buffer would hold more than 4,194,304 octets.
     Long,
-    /// Memory was wanted, or operations stand too deep within one another.
+    /// Out of memory.
     NoMemory,
 }
 
 /// The octets that a buffer has at most at the end.
 pub const MOST: usize = 4_194_304;
 
-/// A run was broken off: memory was wanted, operations stand too deep within one another, or the
-/// buffer has more octets than it may at the end.
+/// Why a run was broken off.
 #[derive(Clone, Copy, Debug, PartialEq, Eq)]
-pub struct Stopped;
+pub enum Stopped {
+    /// The buffer has more octets than it may at the end.
+    Long,
+    /// Out of memory.
+    NoMemory,
+}
 
 impl From<NoMemory> for Stopped {
-    fn from(_: NoMemory) -> Stopped {
-        Stopped
+    ghost use Rattle.std.specs.Prelude.{◌≡◌};
+    ghost use Rattle.stub_machine.specs.declared.errors.Stopped.TheVariants as stopped;
+
+    ghost from_gives = { λ _ e. e ≡ stopped.NoMemory };
+
+    fn from(_refused: NoMemory) -> Stopped {
+        Stopped::NoMemory
     }
 }

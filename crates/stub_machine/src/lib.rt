@@ -10,6 +10,3 @@ mod single;
 
 pub use errors::SendErr;
 pub use send::run_send;
-
-#[cfg(test)]
-mod tests;

@@ -1,11 +1,12 @@
 // The operations of a send code, one after the other and one within another.
-ghost use Rattle.std.specs.Prelude.{◌≡◌, ◌<◌, OnOk, OnErr, map, length, slice_index_or, pos};
+ghost use Rattle.std.specs.Prelude.{◌≡◌, ◌<◌, Err, OnOk, OnErr, map, length, slice_index_or, pos};
 ghost use Rattle.mint.specs.Values.{seen, all_seen, vals_of, num};
 ghost use Rattle.cast_stub.specs.Parts.{elements_in, on_some};
 ghost use Rattle.cast_stub.specs.Block.{Block, stop, op_seen};
 ghost use Rattle.cast_stub.specs.Steps.{steps, over, code_steps, each_steps, some_steps, if_present};
 ghost use Rattle.cast_stub.specs.Subs.{calls_of, call_steps, deepest};
 ghost use Rattle.stub_machine.specs.Run.{ended, state_of, Runs, Ends, Grown};
+ghost use Rattle.stub_machine.specs.Sending.{most};
 
 use crate::errors::{MOST, Stopped};
 use crate::parts::{arm_at, part, position};
@@ -24,33 +25,25 @@ pub struct Machine<'a> {
     pub head: &'a Head,
 }
 
-/// How much deeper a run may go.
-#[derive(Clone, Copy, Debug, PartialEq, Eq)]
-pub struct Depth {
-    /// Calls within one another.
-    pub calls: u32,
-    /// Operations within one another.
-    pub nested: u32,
-}
-
-/// Runs operations on a value.
+/// Runs operations on a value, where at most so many calls stand within one another.
 #[cycle(run)]
 #[tactic(auto, using(crate::proofs::Running::running, crate::proofs::Growing::growing))]
 pub fn run_block(
     machine: &Machine<'_>,
-    depth: Depth,
+    calls: u32,
     code: &SendOps,
     value: &Value,
     buf: &mut SendBuf,
 ) -> Result<(), Stopped>
-    requires { Runs (code_steps (calls_of machine.now.subs.now machine.now.head.now depth.calls) machine.now.head.now code.now (seen value.now)) (state_of buf.old) }
-    ensures ok { OnOk result (Ends (code_steps (calls_of machine.now.subs.now machine.now.head.now depth.calls) machine.now.head.now code.now (seen value.now)) (state_of buf.old) (state_of buf.new)) }
-    ensures err { OnErr result (Grown (code_steps (calls_of machine.now.subs.now machine.now.head.now depth.calls) machine.now.head.now code.now (seen value.now)) (state_of buf.old) (state_of buf.new)) }
+    requires { Runs (code_steps (calls_of machine.now.subs.now machine.now.head.now calls) machine.now.head.now code.now (seen value.now)) (state_of buf.old) }
+    ensures ok { OnOk result (Ends (code_steps (calls_of machine.now.subs.now machine.now.head.now calls) machine.now.head.now code.now (seen value.now)) (state_of buf.old) (state_of buf.new)) }
+    ensures err { OnErr result (Grown (code_steps (calls_of machine.now.subs.now machine.now.head.now calls) machine.now.head.now code.now (seen value.now)) (state_of buf.old) (state_of buf.new)) }
+    ensures long { (result ≡ Err Stopped.Long) → most < length buf.new.done }
 {
     for op in code.as_slice() {
-        run_op(machine, depth, op, value, buf)?;
+        run_op(machine, calls, op, value, buf)?;
         if buf.octets().len() > MOST {
-            return Err(Stopped);
+            return Err(Stopped::Long);
         }
     }
     Ok(())
@@ -61,22 +54,16 @@ pub fn run_block(
 #[tactic(auto, using(crate::proofs::Running::running, crate::proofs::Growing::growing))]
 fn run_op(
     machine: &Machine<'_>,
-    depth: Depth,
+    calls: u32,
     op: &SendOp,
     value: &Value,
     buf: &mut SendBuf,
 ) -> Result<(), Stopped>
-    requires { Runs (steps (calls_of machine.now.subs.now machine.now.head.now depth.calls) machine.now.head.now (op_seen op.now stop) (seen value.now)) (state_of buf.old) }
-    ensures ok { OnOk result ((r : Block) → ended (steps (calls_of machine.now.subs.now machine.now.head.now depth.calls) machine.now.head.now (op_seen op.now r) (seen value.now)) (state_of buf.old) ≡ ended (steps (calls_of machine.now.subs.now machine.now.head.now depth.calls) machine.now.head.now r (seen value.now)) (state_of buf.new)) }
-    ensures err { OnErr result (Grown (steps (calls_of machine.now.subs.now machine.now.head.now depth.calls) machine.now.head.now (op_seen op.now stop) (seen value.now)) (state_of buf.old) (state_of buf.new)) }
+    requires { Runs (steps (calls_of machine.now.subs.now machine.now.head.now calls) machine.now.head.now (op_seen op.now stop) (seen value.now)) (state_of buf.old) }
+    ensures ok { OnOk result ((r : Block) → ended (steps (calls_of machine.now.subs.now machine.now.head.now calls) machine.now.head.now (op_seen op.now r) (seen value.now)) (state_of buf.old) ≡ ended (steps (calls_of machine.now.subs.now machine.now.head.now calls) machine.now.head.now r (seen value.now)) (state_of buf.new)) }
+    ensures err { OnErr result (Grown (steps (calls_of machine.now.subs.now machine.now.head.now calls) machine.now.head.now (op_seen op.now stop) (seen value.now)) (state_of buf.old) (state_of buf.new)) }
+    ensures long { (result ≡ Err Stopped.Long) → most < length buf.new.done }
 {
-    if depth.nested == 0 {
-        return Err(Stopped);
-    }
-    let depth = Depth {
-        nested: depth.nested - 1,
-        ..depth
-    };
     match op {
         SendOp::Ensure(n) => run_ensure(*n, buf),
         SendOp::EnsureRow(path, unit, extra) => run_ensure_row(path, *unit, *extra, value, buf),
@@ -88,7 +75,7 @@ fn run_op(
             run_chunk(*size, puts, machine.head, value, buf);
             Ok(())
         }
-        SendOp::Each(path, body) => run_each(machine, depth, path, body, value, buf),
+        SendOp::Each(path, body) => run_each(machine, calls, path, body, value, buf),
         SendOp::RowCopy(_) => unreachable!(),
         SendOp::RowSwap(_) => unreachable!(),
         SendOp::RowWide(_, _) => unreachable!(),
@@ -97,15 +84,15 @@ fn run_op(
                 unreachable!()
             };
             match position(cases, n) {
-                Some(i) => run_block(machine, depth, &cases.as_slice()[i].1, inner, buf),
+                Some(i) => run_block(machine, calls, &cases.as_slice()[i].1, inner, buf),
                 None => match other {
-                    Some(body) => run_block(machine, depth, body, inner, buf),
+                    Some(body) => run_block(machine, calls, body, inner, buf),
                     None => unreachable!(),
                 },
             }
         }
-        SendOp::Some(path, body) => run_some(machine, depth, path, body, value, buf),
-        SendOp::Call(k, path) => run_called(machine, depth, *k, path, value, buf),
+        SendOp::Some(path, body) => run_some(machine, calls, path, body, value, buf),
+        SendOp::Call(k, path) => run_called(machine, calls, *k, path, value, buf),
         SendOp::Patch(at, sub, order) => {
             run_patch(*at, *sub, *order, buf);
             Ok(())
@@ -118,20 +105,21 @@ fn run_op(
 #[tactic(auto, using(crate::proofs::Running::running, crate::proofs::Growing::growing))]
 fn run_each(
     machine: &Machine<'_>,
-    depth: Depth,
+    calls: u32,
     path: &Path,
     body: &SendOps,
     value: &Value,
     buf: &mut SendBuf,
 ) -> Result<(), Stopped>
-    requires { Runs (each_steps (calls_of machine.now.subs.now machine.now.head.now depth.calls) machine.now.head.now path.now body.now (seen value.now)) (state_of buf.old) }
-    ensures ok { OnOk result (Ends (each_steps (calls_of machine.now.subs.now machine.now.head.now depth.calls) machine.now.head.now path.now body.now (seen value.now)) (state_of buf.old) (state_of buf.new)) }
-    ensures err { OnErr result (Grown (each_steps (calls_of machine.now.subs.now machine.now.head.now depth.calls) machine.now.head.now path.now body.now (seen value.now)) (state_of buf.old) (state_of buf.new)) }
+    requires { Runs (each_steps (calls_of machine.now.subs.now machine.now.head.now calls) machine.now.head.now path.now body.now (seen value.now)) (state_of buf.old) }
+    ensures ok { OnOk result (Ends (each_steps (calls_of machine.now.subs.now machine.now.head.now calls) machine.now.head.now path.now body.now (seen value.now)) (state_of buf.old) (state_of buf.new)) }
+    ensures err { OnErr result (Grown (each_steps (calls_of machine.now.subs.now machine.now.head.now calls) machine.now.head.now path.now body.now (seen value.now)) (state_of buf.old) (state_of buf.new)) }
+    ensures long { (result ≡ Err Stopped.Long) → most < length buf.new.done }
 {
     let Some(here) = part(path, value) else {
         unreachable!()
     };
-    run_elements(machine, depth, body, here, buf)
+    run_elements(machine, calls, body, here, buf)
 }
 
 // Runs a body on each element.
@@ -139,18 +127,19 @@ fn run_each(
 #[tactic(auto, using(crate::proofs::Running::running, crate::proofs::Growing::growing))]
 fn run_elements(
     machine: &Machine<'_>,
-    depth: Depth,
+    calls: u32,
     body: &SendOps,
     value: &Value,
     buf: &mut SendBuf,
 ) -> Result<(), Stopped>
-    requires { Runs (on_some (elements_in (seen value.now)) (over (code_steps (calls_of machine.now.subs.now machine.now.head.now depth.calls) machine.now.head.now body.now))) (state_of buf.old) }
-    ensures ok { OnOk result (Ends (on_some (elements_in (seen value.now)) (over (code_steps (calls_of machine.now.subs.now machine.now.head.now depth.calls) machine.now.head.now body.now))) (state_of buf.old) (state_of buf.new)) }
-    ensures err { OnErr result (Grown (on_some (elements_in (seen value.now)) (over (code_steps (calls_of machine.now.subs.now machine.now.head.now depth.calls) machine.now.head.now body.now))) (state_of buf.old) (state_of buf.new)) }
+    requires { Runs (on_some (elements_in (seen value.now)) (over (code_steps (calls_of machine.now.subs.now machine.now.head.now calls) machine.now.head.now body.now))) (state_of buf.old) }
+    ensures ok { OnOk result (Ends (on_some (elements_in (seen value.now)) (over (code_steps (calls_of machine.now.subs.now machine.now.head.now calls) machine.now.head.now body.now))) (state_of buf.old) (state_of buf.new)) }
+    ensures err { OnErr result (Grown (on_some (elements_in (seen value.now)) (over (code_steps (calls_of machine.now.subs.now machine.now.head.now calls) machine.now.head.now body.now))) (state_of buf.old) (state_of buf.new)) }
+    ensures long { (result ≡ Err Stopped.Long) → most < length buf.new.done }
 {
     match value {
-        Value::Items(values) => run_items(machine, depth, body, values, buf),
-        Value::Row(row) => run_numbers(machine, depth, body, row, buf),
+        Value::Items(values) => run_items(machine, calls, body, values, buf),
+        Value::Row(row) => run_numbers(machine, calls, body, row, buf),
         _ => unreachable!(),
     }
 }
@@ -160,17 +149,18 @@ fn run_elements(
 #[tactic(auto, using(crate::proofs::Running::running, crate::proofs::Growing::growing))]
 fn run_items(
     machine: &Machine<'_>,
-    depth: Depth,
+    calls: u32,
     body: &SendOps,
     values: &Values,
     buf: &mut SendBuf,
 ) -> Result<(), Stopped>
-    requires { Runs (over (code_steps (calls_of machine.now.subs.now machine.now.head.now depth.calls) machine.now.head.now body.now) (all_seen values.now)) (state_of buf.old) }
-    ensures ok { OnOk result (Ends (over (code_steps (calls_of machine.now.subs.now machine.now.head.now depth.calls) machine.now.head.now body.now) (all_seen values.now)) (state_of buf.old) (state_of buf.new)) }
-    ensures err { OnErr result (Grown (over (code_steps (calls_of machine.now.subs.now machine.now.head.now depth.calls) machine.now.head.now body.now) (all_seen values.now)) (state_of buf.old) (state_of buf.new)) }
+    requires { Runs (over (code_steps (calls_of machine.now.subs.now machine.now.head.now calls) machine.now.head.now body.now) (all_seen values.now)) (state_of buf.old) }
+    ensures ok { OnOk result (Ends (over (code_steps (calls_of machine.now.subs.now machine.now.head.now calls) machine.now.head.now body.now) (all_seen values.now)) (state_of buf.old) (state_of buf.new)) }
+    ensures err { OnErr result (Grown (over (code_steps (calls_of machine.now.subs.now machine.now.head.now calls) machine.now.head.now body.now) (all_seen values.now)) (state_of buf.old) (state_of buf.new)) }
+    ensures long { (result ≡ Err Stopped.Long) → most < length buf.new.done }
 {
     for value in values.as_slice() {
-        run_block(machine, depth, body, value, buf)?;
+        run_block(machine, calls, body, value, buf)?;
     }
     Ok(())
 }
@@ -180,18 +170,19 @@ fn run_items(
 #[tactic(auto, using(crate::proofs::Running::running, crate::proofs::Growing::growing))]
 fn run_numbers(
     machine: &Machine<'_>,
-    depth: Depth,
+    calls: u32,
     body: &SendOps,
     row: &Row,
     buf: &mut SendBuf,
 ) -> Result<(), Stopped>
-    requires { Runs (over (code_steps (calls_of machine.now.subs.now machine.now.head.now depth.calls) machine.now.head.now body.now) (vals_of (map num row.now.numbers))) (state_of buf.old) }
-    ensures ok { OnOk result (Ends (over (code_steps (calls_of machine.now.subs.now machine.now.head.now depth.calls) machine.now.head.now body.now) (vals_of (map num row.now.numbers))) (state_of buf.old) (state_of buf.new)) }
-    ensures err { OnErr result (Grown (over (code_steps (calls_of machine.now.subs.now machine.now.head.now depth.calls) machine.now.head.now body.now) (vals_of (map num row.now.numbers))) (state_of buf.old) (state_of buf.new)) }
+    requires { Runs (over (code_steps (calls_of machine.now.subs.now machine.now.head.now calls) machine.now.head.now body.now) (vals_of (map num row.now.numbers))) (state_of buf.old) }
+    ensures ok { OnOk result (Ends (over (code_steps (calls_of machine.now.subs.now machine.now.head.now calls) machine.now.head.now body.now) (vals_of (map num row.now.numbers))) (state_of buf.old) (state_of buf.new)) }
+    ensures err { OnErr result (Grown (over (code_steps (calls_of machine.now.subs.now machine.now.head.now calls) machine.now.head.now body.now) (vals_of (map num row.now.numbers))) (state_of buf.old) (state_of buf.new)) }
+    ensures long { (result ≡ Err Stopped.Long) → most < length buf.new.done }
 {
     for i in 0..row.len() {
         let number = number_at(row, i);
-        run_block(machine, depth, body, &number, buf)?;
+        run_block(machine, calls, body, &number, buf)?;
     }
     Ok(())
 }
@@ -213,20 +204,21 @@ fn number_at(row: &Row, i: usize) -> Value
 #[tactic(auto, using(crate::proofs::Running::running, crate::proofs::Growing::growing))]
 fn run_some(
     machine: &Machine<'_>,
-    depth: Depth,
+    calls: u32,
     path: &Path,
     body: &SendOps,
     value: &Value,
     buf: &mut SendBuf,
 ) -> Result<(), Stopped>
-    requires { Runs (some_steps (calls_of machine.now.subs.now machine.now.head.now depth.calls) machine.now.head.now path.now body.now (seen value.now)) (state_of buf.old) }
-    ensures ok { OnOk result (Ends (some_steps (calls_of machine.now.subs.now machine.now.head.now depth.calls) machine.now.head.now path.now body.now (seen value.now)) (state_of buf.old) (state_of buf.new)) }
-    ensures err { OnErr result (Grown (some_steps (calls_of machine.now.subs.now machine.now.head.now depth.calls) machine.now.head.now path.now body.now (seen value.now)) (state_of buf.old) (state_of buf.new)) }
+    requires { Runs (some_steps (calls_of machine.now.subs.now machine.now.head.now calls) machine.now.head.now path.now body.now (seen value.now)) (state_of buf.old) }
+    ensures ok { OnOk result (Ends (some_steps (calls_of machine.now.subs.now machine.now.head.now calls) machine.now.head.now path.now body.now (seen value.now)) (state_of buf.old) (state_of buf.new)) }
+    ensures err { OnErr result (Grown (some_steps (calls_of machine.now.subs.now machine.now.head.now calls) machine.now.head.now path.now body.now (seen value.now)) (state_of buf.old) (state_of buf.new)) }
+    ensures long { (result ≡ Err Stopped.Long) → most < length buf.new.done }
 {
     let Some(here) = part(path, value) else {
         unreachable!()
     };
-    run_present(machine, depth, body, here, buf)
+    run_present(machine, calls, body, here, buf)
 }
 
 // Runs a body on the value that may be there.
@@ -234,18 +226,19 @@ fn run_some(
 #[tactic(auto, using(crate::proofs::Running::running, crate::proofs::Growing::growing))]
 fn run_present(
     machine: &Machine<'_>,
-    depth: Depth,
+    calls: u32,
     body: &SendOps,
     value: &Value,
     buf: &mut SendBuf,
 ) -> Result<(), Stopped>
-    requires { Runs (if_present (code_steps (calls_of machine.now.subs.now machine.now.head.now depth.calls) machine.now.head.now body.now) (seen value.now)) (state_of buf.old) }
-    ensures ok { OnOk result (Ends (if_present (code_steps (calls_of machine.now.subs.now machine.now.head.now depth.calls) machine.now.head.now body.now) (seen value.now)) (state_of buf.old) (state_of buf.new)) }
-    ensures err { OnErr result (Grown (if_present (code_steps (calls_of machine.now.subs.now machine.now.head.now depth.calls) machine.now.head.now body.now) (seen value.now)) (state_of buf.old) (state_of buf.new)) }
+    requires { Runs (if_present (code_steps (calls_of machine.now.subs.now machine.now.head.now calls) machine.now.head.now body.now) (seen value.now)) (state_of buf.old) }
+    ensures ok { OnOk result (Ends (if_present (code_steps (calls_of machine.now.subs.now machine.now.head.now calls) machine.now.head.now body.now) (seen value.now)) (state_of buf.old) (state_of buf.new)) }
+    ensures err { OnErr result (Grown (if_present (code_steps (calls_of machine.now.subs.now machine.now.head.now calls) machine.now.head.now body.now) (seen value.now)) (state_of buf.old) (state_of buf.new)) }
+    ensures long { (result ≡ Err Stopped.Long) → most < length buf.new.done }
 {
     match value {
         Value::Opt(None) => Ok(()),
-        Value::Opt(Some(inner)) => run_block(machine, depth, body, inner, buf),
+        Value::Opt(Some(inner)) => run_block(machine, calls, body, inner, buf),
         _ => unreachable!(),
     }
 }
@@ -255,28 +248,25 @@ fn run_present(
 #[tactic(auto, using(crate::proofs::Running::running, crate::proofs::Growing::growing))]
 fn run_called(
     machine: &Machine<'_>,
-    depth: Depth,
+    calls: u32,
     k: u32,
     path: &Path,
     value: &Value,
     buf: &mut SendBuf,
 ) -> Result<(), Stopped>
-    requires { Runs (call_steps (calls_of machine.now.subs.now machine.now.head.now depth.calls) k path.now (seen value.now)) (state_of buf.old) }
-    ensures ok { OnOk result (Ends (call_steps (calls_of machine.now.subs.now machine.now.head.now depth.calls) k path.now (seen value.now)) (state_of buf.old) (state_of buf.new)) }
-    ensures err { OnErr result (Grown (call_steps (calls_of machine.now.subs.now machine.now.head.now depth.calls) k path.now (seen value.now)) (state_of buf.old) (state_of buf.new)) }
+    requires { Runs (call_steps (calls_of machine.now.subs.now machine.now.head.now calls) k path.now (seen value.now)) (state_of buf.old) }
+    ensures ok { OnOk result (Ends (call_steps (calls_of machine.now.subs.now machine.now.head.now calls) k path.now (seen value.now)) (state_of buf.old) (state_of buf.new)) }
+    ensures err { OnErr result (Grown (call_steps (calls_of machine.now.subs.now machine.now.head.now calls) k path.now (seen value.now)) (state_of buf.old) (state_of buf.new)) }
+    ensures long { (result ≡ Err Stopped.Long) → most < length buf.new.done }
 {
-    if depth.calls == 0 {
+    if calls == 0 {
         unreachable!()
     }
-    let deeper = Depth {
-        calls: depth.calls - 1,
-        ..depth
-    };
     let Some(here) = part(path, value) else {
         unreachable!()
     };
     match machine.subs.get(k as usize) {
-        Some(code) => run_block(machine, deeper, code, here, buf),
+        Some(code) => run_block(machine, calls - 1, code, here, buf),
         None => unreachable!(),
     }
 }

@@ -3,7 +3,8 @@ ghost use Rattle.std.specs.Prelude.{◌≡◌, ◌≤◌, ◌<◌, ◌+◌, ◌*
 ghost use Rattle.kit_base.specs.Bytes.{le};
 ghost use Rattle.mint.specs.Values.{seen};
 ghost use Rattle.cast_stub.specs.Parts.{on_some, at, number_in, tag_in, flag_in, length_in, IsThere};
-ghost use Rattle.cast_stub.specs.Puts.{wrapped, half_of, word, descriptor, put_octets, offset, put_all};
+ghost use Rattle.cast_stub.specs.Puts.{wrapped, half_of, word, put_octets, offset, put_all};
+ghost use Rattle.wire_def.specs.Descriptors.{descriptor};
 ghost use Rattle.cast_stub.specs.Steps.{chunk_steps};
 ghost use Rattle.stub_machine.specs.Putting.{octets_in, Writes, OverAll};
 ghost use Rattle.stub_machine.specs.Run.{state_of, stored_times, Runs, Ends};

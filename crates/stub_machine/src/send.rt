@@ -1,21 +1,18 @@
 // A send code that is run as a whole.
 ghost use Rattle.std.specs.Prelude.{◌≡◌, ◌≤◌, ◌<◌, ◌+◌, ◌++◌, length, option_map, Some, Err, OnOk};
 ghost use Rattle.mint.specs.Values.{seen};
+ghost use Rattle.raw_buf.specs.Buf.{NoneFell};
 ghost use Rattle.cast_stub.specs.Meaning.{meaning, cost, AreCovered};
 ghost use Rattle.cast_stub.specs.Rowless.{HasNoRow};
 ghost use Rattle.cast_stub.specs.Subs.{sent_steps};
 ghost use Rattle.stub_machine.specs.Sending.{most, paid, IsLong};
 
-use crate::errors::{MOST, SendErr, Stopped};
-use crate::operations::{Depth, Machine, deepest_call, run_block};
+use crate::errors::{MOST, SendErr};
+use crate::operations::{Machine, deepest_call, run_block};
 use cast_stub::SendCode;
 use mint::value::Value;
 use raw_buf::SendBuf;
 use wire_def::Head;
-
-/// How many operations may stand within one another, which bounds the stack: 4,096 calls, and
-/// bodies besides.
-const NESTED: u32 = 4224;
 
 /// Appends the octets that a code means for a value, at the code's cost.
 ///
@@ -32,19 +29,17 @@ pub fn run_send(
     ensures tally { OnOk result (option_map (paid buf.old.tally) (cost code.now head.now (seen value.now)) ≡ Some buf.new.tally) }
     ensures spent { OnOk result (option_map (paid buf.old.spent) (cost code.now head.now (seen value.now)) ≡ Some buf.new.spent) }
     ensures short { OnOk result (length buf.new.done ≤ most) }
+    ensures memory { (result ≡ Err SendErr.NoMemory) → length buf.new.done ≤ most }
+    ensures stands { NoneFell buf.old.spent buf.new.spent }
     ensures long { (result ≡ Err SendErr.Long) → IsLong (length buf.old.done) (meaning code.now head.now (seen value.now) (length buf.old.done)) }
 {
     let machine = Machine {
         subs: &code.subs,
         head,
     };
-    let depth = Depth {
-        calls: deepest_call(),
-        nested: NESTED,
-    };
-    match run_block(&machine, depth, &code.ops, value, buf) {
+    match run_block(&machine, deepest_call(), &code.ops, value, buf) {
         _ if buf.octets().len() > MOST => Err(SendErr::Long),
         Ok(()) => Ok(()),
-        Err(Stopped) => Err(SendErr::NoMemory),
+        Err(_) => Err(SendErr::NoMemory),
     }
 }

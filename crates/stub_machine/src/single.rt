@@ -1,5 +1,5 @@
 // Operations without bodies.
-ghost use Rattle.std.specs.Prelude.{◌≡◌, ◌+◌, ◌-◌, ◌^◌, ◌%◌, [], ◌∷◌, OnOk, OnErr, Some};
+ghost use Rattle.std.specs.Prelude.{◌≡◌, ◌≢◌, ◌+◌, ◌-◌, ◌^◌, ◌%◌, [], ◌∷◌, Err, OnOk, OnErr, Some};
 ghost use Rattle.mint.specs.Values.{seen};
 ghost use Rattle.cast_stub.specs.Steps.{Room, Patched, align_steps, row_room};
 ghost use Rattle.stub_machine.specs.Run.{state_of, Runs, Ends};
@@ -15,6 +15,7 @@ use wire_def::Order;
 pub fn run_ensure(n: u32, buf: &mut SendBuf) -> Result<(), Stopped>
     ensures ok { OnOk result (Ends (Some (Room n ∷ [])) (state_of buf.old) (state_of buf.new)) }
     ensures err { OnErr result (buf.new ≡ buf.old) }
+    ensures memory { result ≢ Err Stopped.Long }
 {
     buf.ensure(n as usize)?;
     Ok(())
@@ -31,6 +32,7 @@ pub fn run_ensure_row(
     requires { Runs (row_room path.now unit extra (seen value.now)) (state_of buf.old) }
     ensures ok { OnOk result (Ends (row_room path.now unit extra (seen value.now)) (state_of buf.old) (state_of buf.new)) }
     ensures err { OnErr result (buf.new ≡ buf.old) }
+    ensures memory { result ≢ Err Stopped.Long }
 {
     let Some(here) = part(path, value) else {
         unreachable!()
@@ -39,10 +41,10 @@ pub fn run_ensure_row(
         unreachable!()
     };
     let Some(octets) = n.checked_mul(unit as usize) else {
-        return Err(Stopped);
+        return Err(Stopped::NoMemory);
     };
     let Some(room) = octets.checked_add(extra as usize) else {
-        return Err(Stopped);
+        return Err(Stopped::NoMemory);
     };
     buf.ensure(room)?;
     Ok(())

@@ -3,3 +3,4 @@ pub mod Leaves
 pub mod Lists
 pub mod Loops
 pub mod Productions
+pub mod Files

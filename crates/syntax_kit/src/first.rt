@@ -4,7 +4,7 @@ ghost use Rattle.syntax_kit.specs.Reading.{Gives, begins_with, begins_other, wor
 
 use crate::Halt;
 use idl_lex::{Token, TokenKind};
-use kit_base::{Name, NoMemory};
+use kit_base::Name;
 use std::alloc::Global;
 
 /// Whether the token is this word.
@@ -108,14 +108,6 @@ fn is_one(name: &[u8], words: &[&[u8]]) -> bool
     false
 }
 
-fn copied(alloc: Global, name: &Name) -> Result<Name, NoMemory>
-    ensures { IfOk result (λ n. n ≡ name.now) }
-{
-    let mut copy = Name::new(alloc);
-    copy.append(name.as_slice())?;
-    Ok(copy)
-}
-
 /// A name that is none of the words, and what stands behind it.
 pub fn id<'a>(
     alloc: Global,
@@ -127,7 +119,7 @@ pub fn id<'a>(
     match tokens {
         [first, rest @ ..] => match &first.kind {
             TokenKind::Name(name) if !is_one(name.as_slice(), words) => Ok((
-                copied(alloc, name)?,
+                Name::from_slice(alloc, name.as_slice())?,
                 rest,
             )),
             _ => Err(Halt::Syntax),

@@ -1,15 +1,14 @@
 //! Readers of trees from the front of a list of tokens: one token, lists of items, and their laws.
 #![tactic(auto)]
 
+mod errors;
 mod first;
 mod halt;
 mod items;
 
+pub use errors::SyntaxErr;
 pub use first::{
     begins, begins_id, begins_mark, flag, id, is_mark, is_word, mark, number, stands_before, word,
 };
 pub use halt::Halt;
 pub use items::{Production, behind_mark, joined, some_until, some_while, until, while_word};
-
-#[cfg(test)]
-mod tests;

@@ -4,12 +4,12 @@ use Rattle.std.proofs.lemmas.Bool.{ltb-true}
 use Rattle.mint.specs.declared.kind.Kind.TheVariants as kind
 use Rattle.mint.specs.declared.kind.Count.{Count}
 use Rattle.mint.specs.declared.kind.Count.TheVariants.{Exactly, AtMost, Any}
-use Rattle.mint.specs.Types.{Scalar, number, Array, text, row_of}
+use Rattle.mint.specs.Types.{number, Array, text, row_of}
 use Rattle.wire_def.specs.declared.encoding.Encoding.{Encoding}
 use Rattle.wire_def.specs.declared.encoding.Encoding.TheVariants.{Xdr, CdrBig, CdrLittle, Mach}
 use Rattle.wire_def.specs.declared.fault.FaultKind.{FaultKind}
 use Rattle.wire_def.specs.declared.fault.FaultKind.TheVariants.{OverBound, BadPad, BadText}
-use Rattle.wire_def.specs.Grammar.{Reading, got, stop, Spelling, Stopping, AreOctets, Parts, SpellTimes, StopTimes, IsGrammar, map_got, tested}
+use Rattle.wire_def.specs.Grammar.{got, stop, Spelling, AreOctets, Parts, SpellTimes, IsGrammar, map_got, tested}
 use Rattle.wire_def.specs.Scalars.{scalar_place, ScalarSpells, ScalarStops, read_scalar}
 use Rattle.wire_def.specs.Lone.{lone_place, LoneSpells, LoneStops, read_lone}
 use Rattle.wire_def.specs.Arrays.{natural, counted, CountSpells, CountStops, read_count, OctetSpells, OctetStops, read_octet, ZerosStop, read_zeros, count_of, kind_of, may_stand, is_some, less_one, EndedSpells, EndedStops, read_ended, HeadSpells, HeadStops, read_head, trailing, TailSpells, TailStops, read_tail, ElementSpells, ElementStops, read_element, ArraySpells, ArrayStops, read_array}

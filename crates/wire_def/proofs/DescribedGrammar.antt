@@ -1,8 +1,8 @@
 -- Descriptors of arrays are a grammar, and what is sent is one.
-use Rattle.std.proofs.Common.{◌≡◌, ◌⊎◌, inl, inr, ℕ, zero, suc, ◌+◌, ◌*◌, ◌-◌, ◌/◌, ◌%◌, ◌^◌, ◌<◌, ◌≤◌, List, [], ◌∷◌, ◌++◌, length, Bool, true, false, ◌&&◌, IsTrue, cond, ltb, refl, sym, ap, ◌∙◌, arith}
-use Rattle.std.specs.Prelude.{MatchBool, nat_eq, nat_le}
+use Rattle.std.proofs.Common.{◌≡◌, ◌⊎◌, ℕ, ◌+◌, ◌*◌, ◌-◌, ◌/◌, ◌%◌, ◌^◌, ◌<◌, ◌≤◌, List, [], ◌++◌, length, Bool, true, false, ◌&&◌, cond, refl, sym, arith}
+use Rattle.std.specs.Prelude.{MatchBool, nat_eq}
 use Rattle.std.specs.Int.{w32, w64}
-use Rattle.std.proofs.lemmas.Bool.{ltb-false, ltb-true, le-leb, leb-true, le-ltb, lt-ltb, eq-eqb, eqb-true}
+use Rattle.std.proofs.lemmas.Bool.{ltb-false, le-leb, leb-true, eq-eqb, eqb-true}
 use Rattle.std.proofs.lemmas.List.{append-nil}
 use Rattle.std.proofs.Math.Nat.{mul-le-mul_left, mul-le-mul_right}
 use Rattle.kit_base.specs.Bytes.{le}
@@ -13,9 +13,9 @@ use Rattle.mint.specs.Kinds.{Allows}
 use Rattle.mint.specs.Types.{Scalar, number, label}
 use Rattle.wire_def.specs.declared.encoding.Encoding.TheVariants.{Mach}
 use Rattle.wire_def.specs.declared.fault.FaultKind.{FaultKind}
-use Rattle.wire_def.specs.declared.fault.FaultKind.TheVariants.{Short, OverBound, BadItem}
-use Rattle.wire_def.specs.Grammar.{Reading, Reader, Spelling, Stopping, got, stop, AreOctets, Parts, both, map_got, tested, IsGrammar}
-use Rattle.wire_def.specs.Scalars.{gap, WordSpells, WordStops, read_word}
+use Rattle.wire_def.specs.declared.fault.FaultKind.TheVariants.{OverBound, BadItem}
+use Rattle.wire_def.specs.Grammar.{Reading, Reader, Spelling, Stopping, got, stop, Parts, both, map_got, tested, IsGrammar}
+use Rattle.wire_def.specs.Scalars.{gap, WordSpells}
 use Rattle.wire_def.specs.Lone.{unit_name, unit_bits, units_of, short_word}
 use Rattle.wire_def.specs.Described.{allowed, is_long, long_mark, long_words, described_octets, is_marked, takes, has_form, widened, is_whole, elements_in, is_fixed, is_right, told_before, FirstSpells, FirstStops, read_first, RestSpells, RestStops, read_rest, FormSpells, FormStops, ManySpell, DescribedSpells, DescribedStops, read_described}
 use Rattle.wire_def.proofs.Grammars.{done, mapped, both_are, tested_are}

@@ -1,6 +1,6 @@
 -- What is put together of grammars is one.
 use Rattle.std.proofs.Common.{◌≡◌, ◌⊎◌, inl, inr, ℕ, zero, suc, ◌+◌, List, [], ◌∷◌, ◌++◌, length, Bool, true, false, IsTrue, cond, refl, sym, ap, subst, ◌∙◌, append_assoc, length-append, add_assoc, add-zero, arith}
-use Rattle.wire_def.specs.Grammar.{Reading, got, stop, Reader, Spelling, Stopping, AreOctets, then_on, map_got, both, times, tested, Parts, SpellTimes, StopTimes, IsGrammar}
+use Rattle.wire_def.specs.Grammar.{Reading, got, stop, Reader, Spelling, Stopping, AreOctets, then_on, map_got, both, times, tested, Parts, SpellTimes, StopTimes, StopsInOrder, TestedSpells, TestedStops, IsGrammar}
 
 pub octets_behind : (a b : List ℕ) → AreOctets (a ++ b) → AreOctets b
 octets_behind [] b h = h
@@ -57,7 +57,7 @@ mapped {E} {A} {B} {r} {S} {F} f T g forth back = record {
 -- one after the other
 pub both_are : {E A B : Type 0} {r : Reader E A} {S : Spelling A} {F : Stopping E} {s : A → Reader E B} {T : A → Spelling B} {G : A → Stopping E}
     → IsGrammar r S F → ((x : A) → IsGrammar (s x) (T x) (G x))
-    → IsGrammar (both r s) (λ p o xy. Parts p o (λ a. S p a xy.0) (λ q b. T xy.0 q b xy.1)) (λ p o k at. F p o k at ⊎ ((x : A) × Parts p o (λ a. S p a x) (λ q b. G x q b k at)))
+    → IsGrammar (both r s) (λ p o xy. Parts p o (λ a. S p a xy.0) (λ q b. T xy.0 q b xy.1)) (StopsInOrder S F G)
 both_are {E} {A} {B} {r} {S} {F} {s} {T} {G} g h = record {
   reads = λ p o rest xy t.
       let first = g.reads p t.0 (t.1 ++ rest) xy.0 t.3 in
@@ -153,7 +153,7 @@ tested_stop true x q rest k k' p at e = absurd cc
 tested_stop false x q rest k k' p at e = (refl, cc, cc)
 
 pub tested_are : {E A : Type 0} {r : Reader E A} {S : Spelling A} {F : Stopping E} (test : A → Bool) (k0 : E) (place : ℕ → ℕ) → IsGrammar r S F
-    → IsGrammar (tested r test k0 place) (λ p o x. S p o x × IsTrue (test x)) (λ p o k at. F p o k at ⊎ ((x : A) × Parts p o (λ a. S p a x) (λ q b. (test x ≡ false) × (k ≡ k0) × (at ≡ place p))))
+    → IsGrammar (tested r test k0 place) (TestedSpells S test) (TestedStops S F test k0 place)
 tested_are {E} {A} {r} {S} {F} test k0 place g = record {
   reads = λ p o rest x s. rw (g.reads p o rest x s.0, s.1) refl;
   spelled = λ p o x q rest oct e.

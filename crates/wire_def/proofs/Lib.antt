@@ -2,6 +2,7 @@ pub mod Grammars
 pub mod Words
 pub mod ScalarGrammar
 pub mod LoneGrammar
+pub mod HeadItems
 pub mod DescribedGrammar
 pub mod ArrayGrammar
 pub mod TypeGrammar
@@ -14,3 +15,5 @@ pub mod Typing
 pub mod Encodings
 pub mod Xdr
 mod Worked
+mod WorkedFaults
+pub mod DescriptorRows

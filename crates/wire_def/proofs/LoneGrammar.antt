@@ -1,17 +1,16 @@
 -- Scalars by themselves are grammars.
-use Rattle.std.proofs.Common.{◌≡◌, ◌⊎◌, inl, inr, ℕ, ◌+◌, ◌<◌, ◌≤◌, ℤ, List, [], ◌∷◌, ◌++◌, length, take, drop, Bool, true, false, IsTrue, cond, ltb, refl, sym, ap, ◌∙◌, arith}
+use Rattle.std.proofs.Common.{◌≡◌, ℕ, ◌+◌, ◌≤◌, ℤ, List, ◌++◌, length, take, drop, Bool, false, IsTrue, ltb, refl, sym, ap, ◌∙◌, arith}
 use Rattle.std.specs.Prelude.{nat_eq}
 use Rattle.std.specs.Int.{w32}
 use Rattle.std.proofs.lemmas.Bool.{ltb-false, ltb-true, le-ltb, lt-ltb, eq-eqb, eqb-true}
 use Rattle.std.proofs.lemmas.List.{drop_at, take-append-drop, length-take, length-append}
-use Rattle.mint.specs.declared.kind.Kind.TheVariants as kind
-use Rattle.mint.specs.Types.{Scalar, number, label}
+use Rattle.mint.specs.Types.{Scalar}
 use Rattle.wire_def.specs.declared.encoding.Encoding.{Encoding}
 use Rattle.wire_def.specs.declared.encoding.Encoding.TheVariants.{Xdr, CdrBig, CdrLittle, Mach}
 use Rattle.wire_def.specs.declared.fault.FaultKind.{FaultKind}
 use Rattle.wire_def.specs.declared.fault.FaultKind.TheVariants.{Short, BadItem}
-use Rattle.wire_def.specs.Grammar.{Reader, Spelling, Stopping, got, stop, AreOctets, Parts, IsGrammar}
-use Rattle.wire_def.specs.Scalars.{WordSpells, scalar_place, ScalarSpells, ScalarStops, read_scalar}
+use Rattle.wire_def.specs.Grammar.{Reader, Spelling, Stopping, got, stop, AreOctets, IsGrammar}
+use Rattle.wire_def.specs.Scalars.{scalar_place, ScalarSpells}
 use Rattle.wire_def.specs.Lone.{AnySpell, AnyStop, read_any, scalar_word, DescSpells, DescStops, read_desc, filling, ItemSpells, ItemStops, read_item, LoneSpells, LoneStops, read_lone, PassSpells, PassStops, read_pass}
 use Rattle.wire_def.proofs.Grammars.{mapped, both_are, tested_are, reshaped}
 use Rattle.wire_def.proofs.Words.{picked_got, picked_stop, word_is, desc_wide}

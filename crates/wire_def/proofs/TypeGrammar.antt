@@ -21,7 +21,7 @@ use Rattle.wire_def.specs.Send.{flag}
 use Rattle.wire_def.specs.Spells.{Spells, FieldsSpell, ArmSpells, TagSpells}
 use Rattle.wire_def.specs.Stops.{Stops, FieldsStop, ArmStops}
 use Rattle.wire_def.specs.Reading.{read, read_fields, read_arm, read_behind}
-use Rattle.wire_def.proofs.Grammars.{done, mapped, both_are, times_are, tested_are, reshaped}
+use Rattle.wire_def.proofs.Grammars.{done, mapped, both_are, times_are, reshaped}
 use Rattle.wire_def.proofs.ArrayGrammar.{count_is, array_is, times_length}
 use Rattle.wire_def.proofs.LoneGrammar.{lone_is, pass_is}
 

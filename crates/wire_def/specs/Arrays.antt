@@ -152,7 +152,7 @@ EndedSpells e c p o n = ScalarSpells e counted p o (pos (suc n)) × IsTrue (allo
 abbrev pub EndedStops : Encoding → Count → Stopping FaultKind
 EndedStops e c p o k at =
     (ScalarStops e counted p o k at
-        ⊎ ((m : ℤ) × Parts p o (λ a. ScalarSpells e counted p a m) (λ q b. (is_some m ≡ false) × (k ≡ BadText) × (at ≡ scalar_place e counted p))))
+    ⊎ ((m : ℤ) × Parts p o (λ a. ScalarSpells e counted p a m) (λ q b. (is_some m ≡ false) × (k ≡ BadText) × (at ≡ scalar_place e counted p))))
     ⊎ ((n : ℕ) × Parts p o (λ a. ScalarSpells e counted p a (pos (suc n))) (λ q b. (allowed c n ≡ false) × (k ≡ OverBound) × (at ≡ scalar_place e counted p)))
 
 abbrev pub read_ended : Encoding → Count → Reader FaultKind ℕ

@@ -1,5 +1,5 @@
 -- Descriptors in front of the rows and texts of Mach messages, in their two forms.
-use Rattle.std.specs.Prelude.{◌≡◌, ◌⊎◌, ℕ, ◌+◌, ◌*◌, ◌-◌, ◌/◌, ◌%◌, ◌^◌, ◌<◌, List, [], ◌++◌, Bool, true, false, ◌&&◌, IsTrue, MatchBool, nat_lt, nat_le, nat_eq, if◌then◌else◌}
+use Rattle.std.specs.Prelude.{◌≡◌, ◌⊎◌, ℕ, ◌+◌, ◌*◌, ◌-◌, ◌/◌, ◌%◌, ◌^◌, List, [], ◌++◌, Bool, true, false, ◌&&◌, IsTrue, MatchBool, nat_lt, nat_le, nat_eq, if◌then◌else◌}
 use Rattle.std.specs.Int.{w32, w64}
 use Rattle.kit_base.specs.Bytes.{le}
 use Rattle.mint.specs.declared.kind.Kind.TheVariants as kind
@@ -8,7 +8,7 @@ use Rattle.mint.specs.declared.kind.Count.TheVariants.{Exactly, AtMost, Any}
 use Rattle.mint.specs.Types.{Scalar, number}
 use Rattle.wire_def.specs.declared.encoding.Encoding.TheVariants.{Mach}
 use Rattle.wire_def.specs.declared.fault.FaultKind.{FaultKind}
-use Rattle.wire_def.specs.declared.fault.FaultKind.TheVariants.{Short, OverBound, BadItem}
+use Rattle.wire_def.specs.declared.fault.FaultKind.TheVariants.{OverBound, BadItem}
 use Rattle.wire_def.specs.Grammar.{Reading, got, stop, Reader, Spelling, Stopping, map_got, both, tested, Parts}
 use Rattle.wire_def.specs.Scalars.{WordSpells, WordStops, read_word}
 use Rattle.wire_def.specs.Lone.{unit_name, unit_bits, units_of, short_word}
@@ -126,7 +126,7 @@ DescribedSpells c s p o n = ManySpell c s p o n × IsTrue (allowed c n)
 unfoldable pub DescribedStops : Count → Scalar → Stopping FaultKind
 DescribedStops c s p o k at =
     (FormStops c s p o k at
-        ⊎ ((x : ℕ × ℕ) × Parts p o (λ a. FormSpells c s p a x) (λ q b. (is_right c s x.1 ≡ false) × (k ≡ BadItem) × (at ≡ p))))
+    ⊎ ((x : ℕ × ℕ) × Parts p o (λ a. FormSpells c s p a x) (λ q b. (is_right c s x.1 ≡ false) × (k ≡ BadItem) × (at ≡ p))))
     ⊎ ((n : ℕ) × Parts p o (λ a. ManySpell c s p a n) (λ q b. (allowed c n ≡ false) × (k ≡ OverBound) × (at ≡ p)))
 
 unfoldable pub read_described : Count → Scalar → Reader FaultKind ℕ

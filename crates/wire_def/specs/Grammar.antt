@@ -1,5 +1,5 @@
 -- Reading octets from left to right: what is read, how it is spelled, and where reading stops.
-use Rattle.std.specs.Prelude.{◌≡◌, ◌⊎◌, ℕ, zero, suc, ◌+◌, ◌<◌, List, [], ◌∷◌, ◌++◌, length, Bool, if◌then◌else◌}
+use Rattle.std.specs.Prelude.{◌≡◌, ◌⊎◌, ℕ, zero, suc, ◌+◌, ◌<◌, List, [], ◌∷◌, ◌++◌, length, Bool, false, IsTrue, if◌then◌else◌}
 use Rattle.std.specs.List.{AllByRecursion}
 
 -- a value with the position behind it and the octets left, or the first fault and its place
@@ -64,6 +64,19 @@ SpellTimes S _ p o _ = ⊥
 abbrev pub StopTimes : {E A : Type 0} → Spelling A → Stopping E → ℕ → Stopping E
 StopTimes S F zero p o k at = ⊥
 StopTimes {E} {A} S F (suc n) p o k at = F p o k at ⊎ ((x : A) × Parts p o (λ a. S p a x) (λ q b. StopTimes S F n q b k at))
+
+-- the first stop of a part and of what follows it: the part stops, or it stands there and what follows stops
+abbrev pub StopsInOrder : {E A : Type 0} → Spelling A → Stopping E → (A → Stopping E) → Stopping E
+StopsInOrder {E} {A} S F Behind p o k at = F p o k at ⊎ ((x : A) × Parts p o (λ a. S p a x) (λ q b. Behind x q b k at))
+
+-- a value that passes the test
+abbrev pub TestedSpells : {A : Type 0} → Spelling A → (A → Bool) → Spelling A
+TestedSpells S test p o x = S p o x × IsTrue (test x)
+
+-- a stop, or a value that does not pass, which is this fault at the place for the position
+abbrev pub TestedStops : {E A : Type 0} → Spelling A → Stopping E → (A → Bool) → E → (ℕ → ℕ) → Stopping E
+TestedStops {E} {A} S F test fault place p o k at =
+    F p o k at ⊎ ((x : A) × Parts p o (λ a. S p a x) (λ q b. (test x ≡ false) × (k ≡ fault) × (at ≡ place p)))
 
 -- ---- what holds them together
 

@@ -1,16 +1,28 @@
 -- Laws of the byte grammars.
-use Rattle.std.specs.Prelude.{◌≡◌, ◌⊎◌, ℕ, ◌+◌, ◌*◌, ◌≤◌, List, [], ◌++◌, length}
+use Rattle.std.specs.Prelude.{◌≡◌, ◌≢◌, ◌⊎◌, ◌↔◌, ℕ, ◌+◌, ◌*◌, ◌≤◌, List, [], ◌++◌, length, take}
+use Rattle.kit_base.specs.Limits.{longest_message}
 use Rattle.mint.specs.Values.{Val, weight}
 use Rattle.mint.specs.Types.{Ty}
 use Rattle.mint.specs.Sound.{IsSound}
 use Rattle.mint.specs.Typed.{IsOf, IsWellTyped}
 use Rattle.wire_def.specs.declared.encoding.Encoding.{Encoding}
+use Rattle.wire_def.specs.declared.encoding.Encoding.TheVariants.{Mach}
 use Rattle.wire_def.specs.declared.fault.FaultKind.{FaultKind}
 use Rattle.wire_def.specs.Grammar.{AreOctets, IsGrammar}
+use Rattle.wire_def.specs.Lone.{IsPlain}
 use Rattle.wire_def.specs.Send.{send}
 use Rattle.wire_def.specs.Spells.{Spells, IsSpelling}
 use Rattle.wire_def.specs.Stops.{Stops}
 use Rattle.wire_def.specs.Reading.{read}
+
+-- an encoding has no descriptors exactly where it is not that of Mach messages
+abbrev pub PlainIsNotMach : Encoding → Type 0
+PlainIsNotMach e = IsPlain e ↔ (e ≢ Mach)
+
+-- the first octets, so many, spell the value from the position
+pub record BeginsWith (e : Encoding) (t : Ty) (p : ℕ) (o : List ℕ) (v : Val) (used : ℕ) : Type 0 where
+  pub there : used ≤ length o
+  pub spelled : IsSpelling e t p (take used o) v
 
 -- what is sent of a well-typed value is a spelling of it
 abbrev pub SentSpells : Encoding → Type 0
@@ -44,7 +56,7 @@ pub record IsDecided (e : Encoding) (t : Ty) (p : ℕ) (o : List ℕ) : Type 0 w
 
 -- so it is for the octets of a message, which has at most 4,194,304
 abbrev pub SpelledOrStopped : Encoding → Type 0
-SpelledOrStopped e = (t : Ty) → IsSound t → (p : ℕ) (o : List ℕ) → AreOctets o → p + length o ≤ 4194304 → IsDecided e t p o
+SpelledOrStopped e = (t : Ty) → IsSound t → (p : ℕ) (o : List ℕ) → AreOctets o → p + length o ≤ longest_message → IsDecided e t p o
 
 -- octets that are a value make it one of the type
 abbrev pub SpelledIsTyped : Encoding → Type 0
@@ -52,7 +64,7 @@ SpelledIsTyped e = (t : Ty) (p : ℕ) (o : List ℕ) (v : Val) → AreOctets o �
 
 -- a body that a message can hold is no value above this weight
 abbrev pub BodiesAreLight : Encoding → Type 0
-BodiesAreLight e = (t : Ty) → IsSound t → (p : ℕ) (o : List ℕ) (v : Val) → length o ≤ 4194304 → Spells e t p o v → weight v ≤ 138412032
+BodiesAreLight e = (t : Ty) → IsSound t → (p : ℕ) (o : List ℕ) (v : Val) → length o ≤ longest_message → Spells e t p o v → weight v ≤ 138412032
 
 -- what is read is spelled, and where reading stops there is the fault
 abbrev pub ReadingIsGrammar : Encoding → Type 0

@@ -1,5 +1,5 @@
 -- Scalars that travel by themselves: over XDR and CDR their octets, in Mach messages items behind descriptors.
-use Rattle.std.specs.Prelude.{◌≡◌, ◌⊎◌, ℕ, ◌+◌, ◌*◌, ◌^◌, ◌<◌, ℤ, List, ◌++◌, length, drop, replicate, Bool, false, IsTrue, nat_lt, nat_eq, if◌then◌else◌}
+use Rattle.std.specs.Prelude.{◌≡◌, ◌⊎◌, ℕ, ◌+◌, ◌*◌, ◌^◌, ◌<◌, ℤ, List, ◌++◌, length, drop, replicate, Bool, false, nat_lt, nat_eq, if◌then◌else◌}
 use Rattle.std.specs.Int.{w32, byte_len}
 use Rattle.kit_base.specs.Bytes.{le}
 use Rattle.mint.specs.declared.kind.Kind.TheVariants as kind
@@ -8,7 +8,7 @@ use Rattle.wire_def.specs.declared.encoding.Encoding.{Encoding}
 use Rattle.wire_def.specs.declared.encoding.Encoding.TheVariants.{Mach}
 use Rattle.wire_def.specs.declared.fault.FaultKind.{FaultKind}
 use Rattle.wire_def.specs.declared.fault.FaultKind.TheVariants.{Short, BadItem}
-use Rattle.wire_def.specs.Grammar.{got, stop, Reader, Spelling, Stopping, map_got, both, tested, Parts}
+use Rattle.wire_def.specs.Grammar.{got, stop, Reader, Spelling, Stopping, map_got, both, tested, Parts, TestedSpells, TestedStops}
 use Rattle.wire_def.specs.Scalars.{gap, width_of, scalar_octets, scalar_place, WordSpells, WordStops, read_word, ScalarSpells, ScalarStops, read_scalar}
 
 -- an encoding without descriptors
@@ -124,15 +124,14 @@ read_lone e s = read_scalar e s
 -- ---- a scalar by itself whose number passes a test; in an item the test comes before what fills it up
 
 abbrev pub PassSpells : Encoding → Scalar → (ℤ → Bool) → Spelling ℤ
-PassSpells e s test p o n = LoneSpells e s p o n × IsTrue (test n)
+PassSpells e s test = TestedSpells (LoneSpells e s) test
 
 -- a scalar that stops, or does not pass
 abbrev pub TestStops : Encoding → Scalar → (ℤ → Bool) → FaultKind → Stopping FaultKind
-TestStops e s test fault p o k at = ScalarStops e s p o k at
-    ⊎ ((n : ℤ) × Parts p o (λ a. ScalarSpells e s p a n) (λ q b. (test n ≡ false) × (k ≡ fault) × (at ≡ scalar_place e s p)))
+TestStops e s test fault = TestedStops (ScalarSpells e s) (ScalarStops e s) test fault (scalar_place e s)
 
 abbrev pub PassStops : Encoding → Scalar → (ℤ → Bool) → FaultKind → Stopping FaultKind
-PassStops Mach s test fault = ItemStops s (λ p o n. ScalarSpells Mach s p o n × IsTrue (test n)) (TestStops Mach s test fault)
+PassStops Mach s test fault = ItemStops s (TestedSpells (ScalarSpells Mach s) test) (TestStops Mach s test fault)
 PassStops e s test fault = TestStops e s test fault
 
 abbrev pub read_pass : Encoding → Scalar → (ℤ → Bool) → FaultKind → Reader FaultKind ℤ

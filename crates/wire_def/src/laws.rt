@@ -1,7 +1,12 @@
 //! The laws of the byte grammars, each the contract of a function that does nothing.
 
-ghost use Rattle.wire_def.specs.Laws.{BodiesAreLight, NoneBegins, OneValue, ReadingIsGrammar, SentIsShort, SentSpells, SpelledIsTyped, SpelledOrStopped};
+ghost use Rattle.wire_def.specs.Laws.{BodiesAreLight, NoneBegins, OneValue, PlainIsNotMach, ReadingIsGrammar, SentIsShort, SentSpells, SpelledIsTyped, SpelledOrStopped};
 ghost use Rattle.wire_def.specs.declared.encoding.Encoding.{Encoding};
+
+/// The encodings without descriptors are all but that of Mach messages.
+pub fn plain_is_not_mach()
+    ensures { (e : Encoding) → PlainIsNotMach e }
+{}
 
 /// What is sent of a well-typed value is a spelling of it.
 pub fn sent_is_spelled()

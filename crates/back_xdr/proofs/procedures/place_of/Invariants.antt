@@ -1,7 +1,7 @@
 use Rattle.std.proofs.Common.{◌≡◌, ◌+◌, ◌++◌, map, drop}
 use Rattle.std.specs.Prelude.{◌==◌}
 use Rattle.std.specs.List.{position_from}
-use Rattle.aoi.specs.declared.interfaces.Operation.{Operation}
+use Rattle.aoi.specs.Plain.{PlainOperation, plain_operation, plain_interface}
 use Rattle.wire_def.specs.declared.encoding.Back.TheVariants as back
 use Rattle.pres.specs.Offers.{gotten}
 use Rattle.back_xdr.specs.Procedures.{numbers}
@@ -11,5 +11,5 @@ use Rattle.back_xdr.proofs.procedures.place_of.Given as goal
 abbrev pub invariant-loop-op : goal.invariant-loop-op
 invariant-loop-op l = record {
   place : l.place ≡ l.first + l.op-index;
-  left : position_from (λ n. n == l.number) l.first (numbers l.i) ≡ position_from (λ n. n == l.number) l.place (map (λ (op : Operation). op.proc_no) (drop l.op-index l.op-items ++ gotten back.Xdr l.i));
+  left : position_from (λ n. n == l.number) l.first (numbers (plain_interface l.i)) ≡ position_from (λ n. n == l.number) l.place (map (λ (op : PlainOperation). op.proc_no) (map plain_operation (drop l.op-index l.op-items) ++ gotten back.Xdr (plain_interface l.i)));
 }

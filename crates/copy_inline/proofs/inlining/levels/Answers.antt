@@ -1,7 +1,7 @@
-use Rattle.std.proofs.Common.{refl}
+use Rattle.std.proofs.Common.{refl, arith}
 use Rattle.cast_stub.specs.Subs.{deepest}
 use Rattle.copy_inline.proofs.inlining.levels.Goals as goal
 
 pub returns : goal.returns
 unfolding deepest
-returns c = refl
+returns c = record { is = refl; few = omega arith }

@@ -3,9 +3,9 @@ use Rattle.flick_top.proofs.Options.{if-ok, if-ok-and}
 use Rattle.flick_top.proofs.Recorded.{of-value, refused-at}
 use Rattle.flick_top.proofs.marshal.of_tree.Goals as goal
 
-pub returns-in-Ok : goal.returns-in-Ok
-returns-in-Ok c = if-ok _ _ _ (of-value c.args.engine.now _ c.in-Ok.record (rw c.bound.ensures.value at c.in-Ok.ensures.comes)) c.digits_of.ensures
+pub returns-in-Ok-clause-value : goal.returns-in-Ok-clause-value
+returns-in-Ok-clause-value c = if-ok _ _ _ (of-value c.args.engine.now.binding _ c.in-Ok.record (rw c.bound.ensures.value at c.in-Ok.ensures.comes)) c.digits_of.ensures.value
 
-pub returns-in-Err : goal.returns-in-Err
-returns-in-Err c =
-    if-ok-and _ _ _ _ (refused-at c.args.engine.now c.bound.result.now (view c.args.json.now) c.in-Err.refusal c.bound.ensures.value c.in-Err.ensures.comes) c.refused.ensures.told c.refused.ensures.memory
+pub returns-in-Err-clause-value : goal.returns-in-Err-clause-value
+returns-in-Err-clause-value c =
+    if-ok-and _ _ _ _ (refused-at c.args.engine.now.binding c.bound.result.now (view c.args.json.now) c.in-Err.refusal c.bound.ensures.value c.in-Err.ensures.comes) c.refused.ensures.told c.refused.ensures.memory

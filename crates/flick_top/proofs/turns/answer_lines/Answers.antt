@@ -5,12 +5,14 @@ use Rattle.kit_base.specs.declared.lines.LineErr.{LineErr}
 use Rattle.kit_base.specs.declared.lines.LineErr.TheVariants.{Failed, TooMuch}
 use Rattle.kit_base.specs.Lines.{State}
 use Rattle.kit_base.proofs.Cutting.{advances-refl, answered-line}
+use Rattle.raw_buf.proofs.Standing.{none_fell-refl, none_fell-trans}
 use Rattle.flick_top.specs.Status.{number_of}
 use Rattle.flick_top.specs.Turn.{status_at}
 use Rattle.flick_top.proofs.Determined.{one_answer}
 use Rattle.flick_top.proofs.Ended.{wrote-ended}
 use Rattle.flick_top.proofs.Prefix.{front-answers, front-failed, took-more, took-at_most-next}
 use Rattle.flick_top.proofs.Stops.{failed-of, too_much-of}
+use Rattle.flick_top.proofs.Tasking.{took}
 use Rattle.flick_top.proofs.Turning.{one_more}
 use Rattle.flick_top.proofs.WholeLines.{wrote-whole}
 use Rattle.flick_top.proofs.turns.answer_lines.Goals as goal
@@ -23,6 +25,7 @@ turns-init g c = record {
   within = omega (arith, ap (λ (s : State). s.taken) c.new-lines.ensures);
   reads = refl;
   writes = refl;
+  spent = none_fell-refl _;
 }
 
 pub turns-preserved : goal.turns-preserved
@@ -33,12 +36,13 @@ turns-preserved g c =
     let wrote = rw c.as_slice-in-turns.ensures at c.in_default-write_whole.ensures.ok in
     let found = rw (c.is_refusal.ensures, c.as_slice.ensures) at c.either-refused.ensures in
     record {
-      answered = one_more _ _ _ _ _ _ _ _ _ _ ls c.in-Ok.line _ _ _ advances turn written c.in-Ok-answer_to.ensures wrote found;
+      answered = one_more _ _ _ _ _ _ _ _ _ _ ls c.in-Ok.line _ _ _ advances turn written c.in-Ok-answer_to.ensures.value wrote found;
       knows_end = c.next.ensures.knows_end c.turns.invariant.knows_end;
       fresh = c.in-Ok.ensures.fresh;
       within = c.in-Ok.ensures.within c.turns.invariant.fresh (λ e. absurd (cc e)) (λ e. absurd (cc e));
       reads = c.turns.invariant.reads ∙ c.in-Ok.ensures.told (λ e. absurd (cc e));
       writes = c.turns.invariant.writes ∙ c.in_default-write_whole.ensures.cause.ok;
+      spent = none_fell-trans _ _ _ c.turns.invariant.spent c.in-Ok-answer_to.ensures.spent;
     }
 
 pub turns-preserved-in_default-write_whole : goal.turns-preserved-in_default-write_whole
@@ -49,12 +53,13 @@ turns-preserved-in_default-write_whole g c =
     let wrote = rw c.as_slice-in-turns.ensures at c.in_default-write_whole.ensures.ok in
     let found = rw (c.is_refusal.ensures, c.as_slice.ensures) at c.either-refused.ensures in
     record {
-      answered = one_more _ _ _ _ _ _ _ _ _ _ ls c.in-Ok.line _ _ _ advances turn written c.in-Ok-answer_to.ensures wrote found;
+      answered = one_more _ _ _ _ _ _ _ _ _ _ ls c.in-Ok.line _ _ _ advances turn written c.in-Ok-answer_to.ensures.value wrote found;
       knows_end = c.next.ensures.knows_end c.turns.invariant.knows_end;
       fresh = c.in-Ok.ensures.fresh;
       within = c.in-Ok.ensures.within c.turns.invariant.fresh (λ e. absurd (cc e)) (λ e. absurd (cc e));
       reads = c.turns.invariant.reads ∙ c.in-Ok.ensures.told (λ e. absurd (cc e));
       writes = c.turns.invariant.writes ∙ c.in_default-write_whole.ensures.cause.ok;
+      spent = none_fell-trans _ _ _ c.turns.invariant.spent c.in-Ok-answer_to.ensures.spent;
     }
 
 pub returns-in-Err-clause-front : goal.returns-in-Err-clause-front
@@ -77,7 +82,7 @@ returns-in-Err-write_whole-clause-front g c = λ f all octets told.
     let (ls, advances, written) = c.turns.invariant.answered in
     let is_line : c.in-Ok.line ≡ End → ⊥ = c.is_end.ensures.line c.if-is_end.false in
     let turn = rw (answered-line c.in-Ok.line is_line) at c.in-Ok.ensures.lines in
-    let same = one_answer c.args.job.now c.in-Ok.line _ (f c.in-Ok.line) c.in-Ok-answer_to.ensures (all c.in-Ok.line) in
+    let same = one_answer c.args.job.now c.in-Ok.line _ (f c.in-Ok.line) c.in-Ok-answer_to.ensures.value (all c.in-Ok.line) in
     let part = rw (c.as_slice-in-turns.ensures, same) at c.in-Err-write_whole.ensures.err in
     front-failed octets _ _ _ c.new-lines.result _ _ ls c.in-Ok.line f _ _ _ _ _ c.new-lines.ensures told advances turn (c.next.ensures.knows_end c.turns.invariant.knows_end) (written f all).0 part
 
@@ -143,3 +148,35 @@ pub returns-in_default-clause-lines : goal.returns-in_default-clause-lines
 returns-in_default-clause-lines g c = λ f all other.
     let (ls, advances, written) = c.turns.invariant.answered in
     wrote-whole c.args.job.now f ls _ _ all (written f all).0
+
+pub returns-in-Err-clause-taken : goal.returns-in-Err-clause-taken
+returns-in-Err-clause-taken g c =
+    let (ls, advances, written) = c.turns.invariant.answered in
+    took _ _ _ _ _ _ ls _ advances c.in-Err.ensures.lines
+
+pub returns-then-is_end-clause-taken : goal.returns-then-is_end-clause-taken
+returns-then-is_end-clause-taken g c =
+    let (ls, advances, written) = c.turns.invariant.answered in
+    took _ _ _ _ _ _ ls _ advances c.in-Ok.ensures.lines
+
+pub returns-in_default-clause-taken : goal.returns-in_default-clause-taken
+returns-in_default-clause-taken g c =
+    let (ls, advances, written) = c.turns.invariant.answered in
+    took _ _ _ _ _ _ ls _ advances c.in-Ok.ensures.lines
+
+pub returns-in-Err-write_whole-clause-taken : goal.returns-in-Err-write_whole-clause-taken
+returns-in-Err-write_whole-clause-taken g c =
+    let (ls, advances, written) = c.turns.invariant.answered in
+    took _ _ _ _ _ _ ls _ advances c.in-Ok.ensures.lines
+
+pub returns-in-Err-clause-spent : goal.returns-in-Err-clause-spent
+returns-in-Err-clause-spent g c = c.turns.invariant.spent
+
+pub returns-then-is_end-clause-spent : goal.returns-then-is_end-clause-spent
+returns-then-is_end-clause-spent g c = c.turns.invariant.spent
+
+pub returns-in_default-clause-spent : goal.returns-in_default-clause-spent
+returns-in_default-clause-spent g c = none_fell-trans _ _ _ c.turns.invariant.spent c.answer_to.ensures.spent
+
+pub returns-in-Err-write_whole-clause-spent : goal.returns-in-Err-write_whole-clause-spent
+returns-in-Err-write_whole-clause-spent g c = none_fell-trans _ _ _ c.turns.invariant.spent c.in-Ok-answer_to.ensures.spent

@@ -1,6 +1,7 @@
 use Rattle.std.proofs.Common.{◌≡◌, ◌≤◌, List, None}
 use Rattle.kit_base.specs.declared.lines.Line.{Line}
 use Rattle.kit_base.specs.Lines.{Advances, KnowsEnd, work}
+use Rattle.raw_buf.specs.Buf.{NoneFell}
 use Rattle.flick_top.proofs.Turning.{AreWritten}
 use Rattle.flick_top.proofs.turns.answer_lines.Given as goal
 
@@ -13,6 +14,7 @@ invariant-turns g l = record {
   fresh : l.lines.error ≡ None;
   within : l.lines.taken ≤ l.lines.most;
   reads : g.S.Source.faults l.initial.input ≡ g.S.Source.faults l.input;
+  spent : NoneFell l.initial.buf.spent l.buf.spent;
   writes : g.K.Sink.faults l.initial.output ≡ g.K.Sink.faults l.output;
 }
 

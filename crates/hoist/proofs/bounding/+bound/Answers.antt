@@ -7,7 +7,8 @@ use Rattle.hoist.specs.Bound.{bound, cases_bound}
 use Rattle.std.proofs.lemmas.Result.{IfOk-weaker}
 use Rattle.cast_stub.specs.Block.{Block, op_seen}
 use Rattle.cast_stub.specs.Parts.{on_some}
-use Rattle.hoist.specs.Bound.{plus, arms_at}
+use Rattle.hoist.specs.Bound.{plus}
+use Rattle.cast_stub.specs.PartTypes.{arms_at}
 use Rattle.hoist.proofs.Nodes.{uneven, switch_turn}
 use Rattle.hoist.proofs.bounding.+bound.Goals as goal
 

@@ -1,5 +1,4 @@
 use Rattle.std.proofs.Common.{refl, arith}
-use Rattle.mint.specs.Types.{number}
 use Rattle.plain_wire.proofs.Steps.{breaks, both_appended, scalar_aligned}
 use Rattle.plain_wire.proofs.send_scalar.put_number.Goals as goal
 

@@ -1,9 +1,9 @@
-use Rattle.std.proofs.Common.{◌≡◌, drop}
+use Rattle.std.proofs.Common.{◌≡◌, drop, map}
 use Rattle.std.specs.List.{list_any}
-use Rattle.aoi.specs.declared.interfaces.Raise.{Raise}
+use Rattle.aoi.specs.Plain.{PlainRaise, plain_raise}
 use Rattle.pres.specs.Faults.{is_long}
 use Rattle.pres.proofs.faults.is_long_id.Given as goal
 
 -- none so far
 abbrev pub invariant-loop-raise : goal.invariant-loop-raise
-invariant-loop-raise l = list_any (λ (r : Raise). is_long r.id) l.raises ≡ list_any (λ (r : Raise). is_long r.id) (drop l.raise-index l.raises)
+invariant-loop-raise l = list_any (λ (r : PlainRaise). is_long r.id) (map plain_raise l.raises) ≡ list_any (λ (r : PlainRaise). is_long r.id) (map plain_raise (drop l.raise-index l.raises))

@@ -1,4 +1,5 @@
 use Rattle.stub_lower.proofs.Whole.{one_more, ended, all_send, all_follow, all_turned}
+use Rattle.cast_stub.proofs.Followed.{follow_rowless}
 use Rattle.stub_lower.proofs.nodes.lower.Goals as goal
 
 pub loop-id-preserved : goal.loop-id-preserved
@@ -12,3 +13,8 @@ returns-clause-follows c = all_follow c.args.enc c.args.mint.now c.loop-id.subs 
 
 pub returns-clause-rows : goal.returns-clause-rows
 returns-clause-rows c = all_turned c.args.enc c.args.mint.now c.loop-id.subs c.requires.plain (ended c.args.enc c.args.mint.now c.loop-id.id _ c.loop-id.subs c.len-count.ensures.value c.loop-id-test.false c.loop-id.auto.id-end c.loop-id.invariant)
+
+pub returns-clause-no_row : goal.returns-clause-no_row
+returns-clause-no_row c =
+    follow_rowless c.args.mint.now c.loop-id.subs
+    (all_follow c.args.enc c.args.mint.now c.loop-id.subs c.requires.plain (ended c.args.enc c.args.mint.now c.loop-id.id _ c.loop-id.subs c.len-count.ensures.value c.loop-id-test.false c.loop-id.auto.id-end c.loop-id.invariant))

@@ -4,7 +4,8 @@ use Rattle.cast_stub.specs.Steps.{code_steps}
 use Rattle.cast_stub.specs.Subs.{calls_of, sent_steps}
 use Rattle.cast_stub.proofs.Rowless.{rowless-sent}
 use Rattle.stub_machine.specs.Run.{state_of, Runs, Ends, Grown}
-use Rattle.stub_machine.proofs.Whole.{covered-runs, ends-sent, broken-long}
+use Rattle.stub_machine.proofs.Spending.{ended-stands}
+use Rattle.stub_machine.proofs.Whole.{covered-runs, ends-sent, broken-long, run-stands}
 use Rattle.stub_machine.proofs.send.run_send.Goals as goal
 
 pub run_block-requires : goal.run_block-requires
@@ -53,3 +54,17 @@ returns-then-octets-gt-MOST-clause-long c =
     let ok = subst (λ (n : ℕ). OnOk c.run_block.result (Ends (code_steps (calls_of code.subs head n) head code.ops v) (state_of b) (state_of after))) c.deepest_call.ensures c.run_block.ensures.ok in
     let err = subst (λ (n : ℕ). OnErr c.run_block.result (Grown (code_steps (calls_of code.subs head n) head code.ops v) (state_of b) (state_of after))) c.deepest_call.ensures c.run_block.ensures.err in
     λ is. broken-long c.run_block.result (sent_steps code head v) b after c.requires.covered runs ok err (omega (arith, ap length c.octets.ensures))
+
+pub returns-then-octets-gt-MOST-clause-stands : goal.returns-then-octets-gt-MOST-clause-stands
+returns-then-octets-gt-MOST-clause-stands c =
+    let code = c.args.code.now in
+    let head = c.args.head.now in
+    let v = seen c.args.value.now in
+    run-stands c.run_block.result (code_steps (calls_of code.subs head _) head code.ops v) (state_of c.args.buf.now) (state_of c.run_block.new.buf) c.run_block.ensures.ok c.run_block.ensures.err
+
+pub returns-in-Ok-clause-stands : goal.returns-in-Ok-clause-stands
+returns-in-Ok-clause-stands c =
+    let code = c.args.code.now in
+    let head = c.args.head.now in
+    let v = seen c.args.value.now in
+    ended-stands (code_steps (calls_of code.subs head _) head code.ops v) (state_of c.args.buf.now) (state_of c.run_block.new.buf) c.in-Ok.ensures.ok

@@ -7,18 +7,18 @@ use Rattle.flick_engine.proofs.engine.Engine.told_by_body.Goals as goal
 pub overflow_add-end : goal.overflow_add-end
 overflow_add-end c =
     let first = (c.requires.value (seen c.in-Value.value) c.in-Value.used).0 (rw c.in-Value.is (refl, refl)) in
-    let within = body_within c.args.self.now c.args.message.now c.args.call.now c.args.op (c.requires.begins, c.requires.named) _ _ first in
-    omega (arith, within, c.requires.begins.0)
+    let within = body_within c.args.self.now.binding c.args.message.now c.args.called.now c.args.op c.requires.names _ _ first in
+    omega (arith, within, c.requires.names.0)
 
 pub returns-then-end-message-clause-read : goal.returns-then-end-message-clause-read
 returns-then-end-message-clause-read c =
     let first = (c.requires.value (seen c.in-Value.value) c.in-Value.used).0 (rw c.in-Value.is (refl, refl)) in
-    is_trailing c.args.self.now c.args.message.now c.args.call.now c.args.op (c.requires.begins, c.requires.named) _ _ first c.if-end-message.true
+    is_trailing c.args.self.now.binding c.args.message.now c.args.called.now c.args.op c.requires.names _ _ first c.if-end-message.true
 
 pub returns-else-end-message-clause-read : goal.returns-else-end-message-clause-read
 returns-else-end-message-clause-read c =
     let first = (c.requires.value (seen c.in-Value.value) c.in-Value.used).0 (rw c.in-Value.is (refl, refl)) in
-    is_request c.args.self.now c.args.message.now c.args.call.now c.args.op (c.requires.begins, c.requires.named) _ _ first (omega (arith, c.if-end-message.false))
+    is_request c.args.self.now.binding c.args.message.now c.args.called.now c.args.op c.requires.names _ _ first (omega (arith, c.if-end-message.false))
 
 pub returns-else-end-message-clause-typed : goal.returns-else-end-message-clause-typed
 returns-else-end-message-clause-typed c =
@@ -28,4 +28,4 @@ returns-else-end-message-clause-typed c =
 pub returns-in-Stop-clause-read : goal.returns-in-Stop-clause-read
 returns-in-Stop-clause-read c =
     let stops = (c.requires.stop c.in-Stop.fault.kind c.in-Stop.fault.at).0 (rw c.in-Stop.is (refl, refl)) in
-    exactly c.args.self.now c.args.message.now _ (c.args.call.now, c.args.op, (c.requires.begins, c.requires.named), stops)
+    exactly c.args.self.now.binding c.args.message.now _ (c.args.called.now, c.args.op, c.requires.names, stops)

@@ -1,7 +1,8 @@
-use Rattle.std.proofs.Common.{◌≡◌, ◌+◌, ap, ◌∙◌, drop, FitsSigned, rules}
+use Rattle.std.proofs.Common.{◌≡◌, ◌+◌, ap, ◌∙◌, drop, map, FitsSigned, rules}
 use Rattle.std.specs.Int.{w128}
 use Rattle.std.proofs.lemmas.Int.{to_z-of_z}
 use Rattle.std.proofs.Math.ListN.{drop_of_length-le}
+use Rattle.aoi.specs.Plain.{plain_raise}
 use Rattle.pres.specs.Faces.{no_other}
 use Rattle.pres.specs.Offers.{raised}
 use Rattle.pres.specs.Drafts.{known}
@@ -29,6 +30,6 @@ loop-k-preserved c =
 
 pub returns-clause-arms : goal.returns-clause-arms
 returns-clause-arms c =
-    let over : raised (known c.args.self.now) (1 + c.loop-k.k) (drop c.loop-k.k c.args.raises.now) ≡ no_other =
-    ap (raised (known c.args.self.now) (1 + c.loop-k.k)) (drop_of_length-le c.args.raises.now c.loop-k-test.false) in
+    let over : raised (known c.args.self.now) (1 + c.loop-k.k) (map plain_raise (drop c.loop-k.k c.args.raises.now)) ≡ no_other =
+    ap (λ z. raised (known c.args.self.now) (1 + c.loop-k.k) (map plain_raise z)) (drop_of_length-le c.args.raises.now c.loop-k-test.false) in
     raises_end _ _ _ (rw over at c.loop-k.invariant.arms)

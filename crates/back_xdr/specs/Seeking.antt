@@ -1,0 +1,42 @@
+-- What calls name, and what their heads say, over a binding.
+use Rattle.std.specs.Prelude.{◌≡◌, ℕ, ◌+◌, ◌==◌, Bool, ◌&&◌, List, [], ◌∷◌, length, Option, Some, None, if◌then◌else◌}
+use Rattle.std.specs.List.{position_from}
+use Rattle.wire_def.specs.declared.encoding.Encoding.{Encoding}
+use Rattle.wire_def.specs.declared.encoding.Encoding.TheVariants.{Xdr}
+use Rattle.aoi.specs.Plain.{PlainInterface}
+use Rattle.call_kit.specs.declared.called.Called.{Called}
+use Rattle.call_kit.specs.declared.called.Naming.{Naming}
+use Rattle.call_kit.specs.declared.called.Naming.TheVariants.{Operation as one, NoInterface, NoOperation}
+use Rattle.back_xdr.specs.declared.call.OncCall.{OncCall}
+use Rattle.back_xdr.specs.Procedures.{numbers}
+use Rattle.back_xdr.specs.Told.{BeginsCall}
+use Rattle.pres.specs.Bindings.{Binding}
+
+-- how bodies are laid out
+abbrev pub encoding : Encoding
+encoding = Xdr
+
+-- an interface with the call's program and version
+abbrev pub is_called : OncCall → PlainInterface → Bool
+is_called c i = c.program == i.program && c.version == i.version
+
+abbrev pub operation_at : Option ℕ → Naming
+operation_at None = NoOperation
+operation_at (Some op) = one op
+
+-- the first interface that is called, and its first operation with the call's procedure number, where the operations of the interfaces are counted from k
+abbrev pub named_from : ℕ → List PlainInterface → OncCall → Naming
+named_from k [] c = NoInterface
+named_from k (i ∷ is) c = if is_called c i then operation_at (position_from (λ n. n == c.proc_no) k (numbers i)) else named_from (k + length (numbers i)) is c
+
+-- the operation that a call names
+abbrev pub named : Binding → OncCall → Naming
+named b c = named_from 0 b.unit.interfaces c
+
+-- what the head of a call says
+abbrev pub called : Binding → OncCall → Called
+called b c = record { naming = named b c; head = c.head; encoding = encoding; used = c.used }
+
+-- a message begins with the head of a call that says this
+abbrev pub Calls : Binding → List ℕ → Called → Type 0
+Calls b o told = (c : OncCall) × BeginsCall o c × (called b c ≡ told)

@@ -1,0 +1,27 @@
+//! What is told of a call.
+
+use wire_def::{Encoding, Head};
+
+/// What a call names.
+#[derive(Clone, Copy, Debug, PartialEq, Eq)]
+pub enum Naming {
+    /// An operation by its number among those of the binding, from 0.
+    Operation(u32),
+    /// No interface is the one that is called.
+    NoInterface,
+    /// The interface has no such operation.
+    NoOperation,
+}
+
+/// What the head of a message says of its call. The body follows the head.
+#[derive(Clone, Copy, Debug, PartialEq, Eq)]
+pub struct Called {
+    /// What the call names.
+    pub naming: Naming,
+    /// The fields that back ends share.
+    pub head: Head,
+    /// How the body is laid out.
+    pub encoding: Encoding,
+    /// How many octets the head takes.
+    pub used: usize,
+}

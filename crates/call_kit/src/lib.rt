@@ -1,0 +1,6 @@
+//! What the head of a message says of its call, whatever the back end.
+#![tactic(auto)]
+
+mod called;
+
+pub use called::{Called, Naming};

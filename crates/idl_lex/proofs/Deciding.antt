@@ -1,0 +1,105 @@
+-- A text has tokens or a first fault.
+use Rattle.std.proofs.Common.{◌≡◌, ◌⊎◌, inl, inr, ℕ, zero, suc, ◌+◌, ◌-◌, ◌^◌, ◌<◌, ◌≤◌, min, List, [], ◌∷◌, ◌++◌, length, take, drop, Ok, Err, Bool, true, false, refl, sym, subst, ◌∙◌, ap, arith}
+use Rattle.std.specs.List.{take_while, prefix_len}
+use Rattle.std.proofs.lemmas.Bool.{false≢true, cases_lt}
+use Rattle.std.proofs.lemmas.List.{drop_all, length-take, length-append}
+use Rattle.std.proofs.Math.Seq.{take-length}
+use Rattle.idl_lex.specs.Classes.{is_blank, is_in_line, is_letter, is_word_octet, begins}
+use Rattle.idl_lex.specs.Numbers.{is_number}
+use Rattle.idl_lex.specs.Lines.{line_feeds}
+use Rattle.idl_lex.specs.Pieces.{Piece, blanks, comment, skipped_line, name, number, mark, octets_of, kind_of, opens_comment, mark_count, IsPieceOf, AllStand}
+use Rattle.idl_lex.specs.Lexed.{token_on, AreTokens, IsFirstFault, TextsAreDecided}
+use Rattle.idl_lex.specs.Reads.{Read, shown, piece_at}
+use Rattle.idl_lex.specs.declared.kinds.Front.{Front}
+use Rattle.idl_lex.specs.declared.kinds.Token.{Token}
+use Rattle.idl_lex.specs.declared.lexing.LexErr.{LexErr}
+use Rattle.idl_lex.proofs.Firsts.{is_other, skipped_is_other, other_blank}
+use Rattle.idl_lex.proofs.Standing.{piece_is_read, IsRead}
+use Rattle.idl_lex.proofs.Reading.{So, go_on_at, first_fault}
+
+-- ---- a piece has octets
+
+-- a run of octets of a class, where the first is one
+run_has : (is : ℕ → Bool) (text : List ℕ) → begins is text ≡ true → 0 < length (take_while is text)
+run_has is [] h = absurd (false≢true h)
+run_has is (o ∷ os) h =
+    let some : 0 < prefix_len is (o ∷ os) = rw h (omega arith) in
+    omega (arith, length-take (prefix_len is (o ∷ os)) (o ∷ os), some)
+
+blank_or_in_line : (o : ℕ) → is_blank o ≡ false → is_in_line o ≡ true
+blank_or_in_line o h = grind arith
+
+begins_in_line : (text : List ℕ) → begins is_other text ≡ true → begins is_in_line text ≡ true
+begins_in_line [] h = absurd (false≢true h)
+begins_in_line (o ∷ os) h = blank_or_in_line o (other_blank (o ∷ os) h)
+
+begins_word : (text : List ℕ) → begins is_letter text ≡ true → begins is_word_octet text ≡ true
+begins_word [] h = absurd (false≢true h)
+begins_word (o ∷ os) h = rw h refl
+
+begins_some : (is : ℕ → Bool) (text : List ℕ) → begins is text ≡ true → 0 < length text
+begins_some is [] h = absurd (false≢true h)
+begins_some is (o ∷ os) h = omega arith
+
+comment_some : (text : List ℕ) → opens_comment text ≡ true → 0 < length text
+comment_some [] h = absurd (false≢true h)
+comment_some (o ∷ os) h = omega arith
+
+mark_some : (text : List ℕ) → 0 < mark_count text → 0 < length text
+mark_some [] h = absurd (omega arith)
+mark_some (o ∷ os) h = omega arith
+
+number_some : (os : List ℕ) → is_number os ≡ true → 0 < length os
+number_some [] h = absurd (false≢true h)
+number_some (o ∷ os) h = omega arith
+
+piece_has_octets : (front : Front) (before text : List ℕ) (p : Piece) → IsPieceOf front before p text → 0 < length (octets_of p)
+piece_has_octets front before text (blanks os) h = rw h.1 (run_has is_blank text h.0)
+piece_has_octets front before text (comment os) h = rw h.1.2 (omega (arith, length-take (2 + h.1.0) text, comment_some text h.0))
+piece_has_octets front before text (skipped_line os) h = rw h.1 (run_has is_in_line text (begins_in_line text (skipped_is_other front before text h.0)))
+piece_has_octets front before text (name os) h = rw h.1 (run_has is_word_octet text (begins_word text h.0))
+piece_has_octets front before text (number os) h = number_some os h.2
+piece_has_octets front before text (mark os) h = rw h.1 (omega (arith, length-take (mark_count text) text, mark_some text h.0, h.0))
+
+-- ---- a text from its front to its end
+
+module _ (front : Front) (text : List ℕ) where
+  abbrev Fault : Type 0
+  Fault = (fault : LexErr) × IsFirstFault front text fault
+
+  -- one piece more, or the first fault
+  abbrev Step : ℕ → Type 0
+  Step at = ((line' : ℕ) × (at' : ℕ) × (tokens' : List Token) × So front text line' at' tokens' × (at < at')) ⊎ Fault
+
+  step : (line at : ℕ) (tokens : List Token) → So front text line at tokens → at < length text → Step at
+  step line at tokens s lt = next (piece_at front (take at text) (drop at text)) refl where
+    next : (r : Read) → piece_at front (take at text) (drop at text) ≡ r → Step at
+    next (Ok p) is =
+        let rest = drop at text in
+        let n = length (octets_of p) in
+        let read : IsRead front (take at text) rest (Ok p) = subst (λ z. IsRead front (take at text) rest z) is (piece_is_read front (take at text) rest) in
+        let some : 0 < n = piece_has_octets front (take at text) rest p read.1 in
+        let fits : n ≤ length rest = omega (arith, ap length read.0, length-append (octets_of p) (drop n rest)) in
+        let line' = min (line + line_feeds (take n rest)) (2 ^ 32 - 1) in
+        inl (line', at + n, tokens ++ token_on line (kind_of p), go_on_at front text line at n line' tokens (kind_of p) s lt (ap shown is) fits refl, omega (arith, some))
+    next (Err e) is = inr (e, first_fault front text line at tokens e s lt (ap shown is))
+
+  whole : (line at : ℕ) (tokens : List Token) → So front text line at tokens → length text ≤ at → AreTokens front text tokens
+  whole line at tokens s end =
+      let there : at ≡ length text = omega (arith, s.within) in
+      let all : take at text ≡ text = ap (λ z. take z text) there ∙ take-length text in
+      (s.pieces, (sym (s.before_is ∙ all), subst (λ z. AllStand front [] s.pieces z) (drop_all at text end) s.stand), s.tokens_are)
+
+  decide : (n line at : ℕ) (tokens : List Token) → So front text line at tokens → length text - at ≤ n → ((tokens : List Token) × AreTokens front text tokens) ⊎ Fault
+  decide zero line at tokens s few = inl (tokens, whole line at tokens s (omega (arith, few)))
+  decide (suc n) line at tokens s few = elim (cases_lt at (length text)) [
+    | inl lt ↦ elim (step line at tokens s lt) [
+      | inl (line', at', tokens', t, more) ↦ decide n line' at' tokens' t (omega (arith, few, more))
+      | inr fault ↦ inr fault
+    ]
+    | inr end ↦ inl (tokens, whole line at tokens s end)
+  ]
+
+pub decided : (front : Front) → TextsAreDecided front
+decided front text =
+    decide front text (length text) 1 0 [] (record { pieces = []; before_is = refl; stand = tt; tokens_are = refl; line_is = refl; within = omega arith }) (omega arith)

@@ -1,0 +1,165 @@
+// What is asked of the nodes of a case.
+ghost use Rattle.std.specs.Prelude.{◌<◌, ◌≤◌, length, IfOk};
+ghost use Rattle.wire_def.specs.Lone.{IsPlain};
+
+use crate::codes::stub;
+use crate::heads::{refused, reply};
+use crate::nodes::{Made, build, table_of};
+use crate::parts::{Bad, member, octets, told, word};
+use crate::values::value_of;
+use hex::encode;
+use kit_base::Octets;
+use mint::blank_value::blank;
+use mint::copying::copy_value;
+use mint::fits::fits;
+use mint::table::{Mint, NodeId};
+use mint::value::Value;
+use plain_wire::{Read, plain_read, plain_send};
+use serde_json::{Category, Value as Json};
+use std::alloc::Global;
+use storage_class::classify;
+use wire_def::Encoding;
+
+/// The answer to a case.
+pub fn answer(alloc: Global, line: &str) -> Result<String, Bad> {
+    let row = match Json::from_str(alloc, line) {
+        Ok(row) => row,
+        Err(error) if error.classify() == Category::Memory => return Err(Bad::NoMemory),
+        Err(_) => return Err(Bad::Row("no JSON")),
+    };
+    match member(&row, "ask")?.as_str() {
+        Some("add") => add(alloc, &row),
+        Some("fits") => is_of(alloc, &row),
+        Some("send") => send(alloc, &row),
+        Some("read") => read(alloc, &row),
+        Some("span") => span(alloc, &row),
+        Some("stub") => stub(alloc, &row),
+        Some("reply") => reply(alloc, octets(alloc, member(&row, "octets")?)?.as_slice()),
+        Some("refuse") => refused(alloc, member(&row, "why")?),
+        _ => Err(Bad::Row("nothing is asked")),
+    }
+}
+
+/// How the values of a case are laid out.
+pub fn encoding(row: &Json) -> Result<Encoding, Bad>
+    ensures { IfOk result IsPlain }
+{
+    match member(row, "in")?.as_str() {
+        Some("xdr") => Ok(Encoding::Xdr),
+        Some("cdr_big") => Ok(Encoding::CdrBig),
+        Some("cdr_little") => Ok(Encoding::CdrLittle),
+        _ => Err(Bad::Row("no encoding")),
+    }
+}
+
+/// The node of a case: the one that `id` names, or the last.
+pub fn id_of(row: &Json, table: &Mint) -> Result<NodeId, Bad>
+    ensures { IfOk result (λ id. id < length table.now) }
+{
+    let id = match row.get("id") {
+        Some(id) => word(id)?,
+        None => (table.len() as NodeId).wrapping_sub(1),
+    };
+    if (id as usize) < table.len() {
+        Ok(id)
+    } else {
+        Err(Bad::Row("no such node"))
+    }
+}
+
+/// The value of a case: `value`, or the blank one.
+pub fn value_at(alloc: Global, row: &Json, table: &Mint, id: NodeId) -> Result<Value, Bad>
+    requires { id < length table.now }
+{
+    match row.get("value") {
+        Some(json) => value_of(alloc, json),
+        None => Ok(blank(alloc, table, id)?),
+    }
+}
+
+/// The position at which a value begins, 0 where none is told.
+fn place_of(row: &Json) -> Result<usize, Bad>
+    ensures { IfOk result (λ at. at ≤ 4194304) }
+{
+    let at = match row.get("at") {
+        Some(at) => word(at)?,
+        None => 0,
+    };
+    if at <= 4_194_304 {
+        Ok(at as usize)
+    } else {
+        Err(Bad::Row("no place in a message"))
+    }
+}
+
+/// How many nodes the table has, or which was refused.
+fn add(alloc: Global, row: &Json) -> Result<String, Bad> {
+    match build(alloc, row)? {
+        Made::Table(table) => Ok(format!(in alloc; "taken {}", table.len())?),
+        Made::Refused(error, place) => Ok(format!(in alloc; "{error:?} {place}")?),
+    }
+}
+
+/// Whether the value is of the node's type.
+fn is_of(alloc: Global, row: &Json) -> Result<String, Bad> {
+    let table = table_of(alloc, row)?;
+    let id = id_of(row, &table)?;
+    let value = value_at(alloc, row, &table, id)?;
+    told(
+        alloc,
+        if fits(&table, id, &value) {
+            "yes"
+        } else {
+            "no"
+        },
+    )
+}
+
+/// The octets of a copy of the value, by the plain walk.
+fn send(alloc: Global, row: &Json) -> Result<String, Bad> {
+    let enc = encoding(row)?;
+    let at = place_of(row)?;
+    let table = table_of(alloc, row)?;
+    let id = id_of(row, &table)?;
+    let value = value_at(alloc, row, &table, id)?;
+    if !fits(&table, id, &value) {
+        return told(alloc, "no value");
+    }
+    let copy = copy_value(alloc, &value)?;
+    let mut out = Octets::new(alloc);
+    plain_send(enc, &table, id, at, &copy, &mut out)?;
+    Ok(encode(alloc, out.as_slice())?)
+}
+
+/// How many octets a value took and what it is sent as from the same position, or the first fault.
+fn read(alloc: Global, row: &Json) -> Result<String, Bad> {
+    let enc = encoding(row)?;
+    let at = place_of(row)?;
+    let table = table_of(alloc, row)?;
+    let id = id_of(row, &table)?;
+    let message = octets(alloc, member(row, "octets")?)?;
+    if at > message.len() || message.len() > 4_194_304 {
+        return Err(Bad::Row("no place in the message"));
+    }
+    match plain_read(alloc, enc, &table, id, at, message.as_slice())? {
+        Read::Stop(fault) => Ok(format!(in alloc; "{:?} {}", fault.kind, fault.at)?),
+        Read::Value(value, used) => {
+            if !fits(&table, id, &value) {
+                return told(alloc, "no value");
+            }
+            let mut out = Octets::new(alloc);
+            plain_send(enc, &table, id, at, &value, &mut out)?;
+            let digits = encode(alloc, out.as_slice())?;
+            Ok(format!(in alloc; "{used} {digits}")?)
+        }
+    }
+}
+
+/// How long what is sent of the node is.
+fn span(alloc: Global, row: &Json) -> Result<String, Bad> {
+    let enc = encoding(row)?;
+    let table = table_of(alloc, row)?;
+    let id = id_of(row, &table)?;
+    let classes = classify(alloc, enc, &table)?;
+    Ok(format!(in alloc; "{:?}", classes.max(id))?)
+}

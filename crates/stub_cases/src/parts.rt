@@ -1,0 +1,96 @@
+// The parts of a case: members, numbers, octets.
+use hex::FromHexError;
+use kit_base::{NoMemory, Octets};
+use mint::errors::MintErr;
+use serde_json::Value as Json;
+use std::alloc::{AllocError, Global};
+
+/// Why a case has no answer.
+#[derive(Clone, Copy, Debug)]
+pub enum Bad {
+    /// The row is none of the forms.
+    Row(&'static str),
+    NoMemory,
+}
+
+impl From<NoMemory> for Bad {
+    fn from(_: NoMemory) -> Bad {
+        Bad::NoMemory
+    }
+}
+
+impl From<AllocError> for Bad {
+    fn from(_: AllocError) -> Bad {
+        Bad::NoMemory
+    }
+}
+
+/// A member of an object.
+pub fn member<'a>(json: &'a Json, name: &str) -> Result<&'a Json, Bad> {
+    match json.get(name) {
+        Some(part) => Ok(part),
+        None => Err(Bad::Row("a member is absent")),
+    }
+}
+
+/// An element of an array.
+pub fn part(json: &Json, place: usize) -> Result<&Json, Bad> {
+    match json.get(place) {
+        Some(part) => Ok(part),
+        None => Err(Bad::Row("an element is absent")),
+    }
+}
+
+/// The elements of an array.
+pub fn list(json: &Json) -> Result<&[Json], Bad> {
+    match json.as_array() {
+        Some(all) => Ok(all.as_slice()),
+        None => Err(Bad::Row("no array")),
+    }
+}
+
+/// A number of 64 bits.
+fn plain(json: &Json) -> Result<i128, Bad> {
+    match (json.as_i64(), json.as_u64()) {
+        (Some(n), _) => Ok(i128::from(n)),
+        (None, Some(n)) => Ok(i128::from(n)),
+        (None, None) => Err(Bad::Row("no number")),
+    }
+}
+
+/// A number, or `{"sum": [N, N]}` for one beyond 64 bits.
+pub fn number(json: &Json) -> Result<i128, Bad> {
+    match json.get("sum") {
+        Some(pair) => Ok(plain(part(pair, 0)?)?.wrapping_add(plain(part(pair, 1)?)?)),
+        None => plain(json),
+    }
+}
+
+/// A number of 32 bits.
+pub fn word(json: &Json) -> Result<u32, Bad> {
+    match json.as_u64() {
+        Some(n) if n < 4_294_967_296 => Ok(n as u32),
+        _ => Err(Bad::Row("no number of 32 bits")),
+    }
+}
+
+/// The octets of hexadecimal digits.
+pub fn octets(alloc: Global, json: &Json) -> Result<Octets, Bad> {
+    let Some(digits) = json.as_str() else {
+        return Err(Bad::Row("no digits"));
+    };
+    match hex::decode(alloc, digits) {
+        Ok(octets) => {
+            let mut all = Octets::new(alloc);
+            all.append(&octets)?;
+            Ok(all)
+        }
+        Err(FromHexError::OutOfMemory) => Err(Bad::NoMemory),
+        Err(_) => Err(Bad::Row("no digits")),
+    }
+}
+
+/// The answer that is a word.
+pub fn told(alloc: Global, text: &str) -> Result<String, Bad> {
+    Ok(format!(in alloc; "{text}")?)
+}
