@@ -1,0 +1,334 @@
+"""Values of the nodes of a table: how they are sent over XDR (RFC 4506) and over CDR in either order,
+what values a plan gives, how long what is sent of a node is, and into how many regions a value falls.
+
+Nodes and values have the form of the cases of tests/layers. As all of the model it is written from the
+standards and docs/, with nothing of the crates in it.
+"""
+WIDTHS = {"octet": 1, "i8": 1, "u8": 1, "char": 1, "bool": 1, "i16": 2, "u16": 2, "i32": 4, "u32": 4, "i64": 8, "u64": 8}
+SIGNED = {"i8", "i16", "i32", "i64"}
+ENOUGH = 8192
+
+
+def least(kind):
+    return -2 ** (8 * WIDTHS[kind] - 1) if kind in SIGNED else 0
+
+
+def greatest(kind):
+    return 1 if kind == "bool" else least(kind) + 2 ** (8 * WIDTHS[kind]) - 1
+
+
+def count_of(node, place):
+    """The count of a node: None for any, or the word and the number."""
+    return next(iter(node[place].items())) if len(node) > place else (None, None)
+
+
+def is_exact(node, place):
+    return count_of(node, place)[0] == "exactly"
+
+
+def tag_kind(tag):
+    """An enum travels as a signed number of 32 bits."""
+    return tag if isinstance(tag, str) else "i32"
+
+
+def arm_of(node, n):
+    return next((child for label, child in node[2] if label == n), node[3] if len(node) > 3 else None)
+
+
+def numbers_of(value):
+    """The numbers of a row."""
+    if "of" in value:
+        return value["of"]
+    image, width = bytes.fromhex(value["image"]), WIDTHS[value["row"]]
+    return [int.from_bytes(image[i:i + width], "little", signed=value["row"] in SIGNED) for i in range(0, len(image), width)]
+
+
+class Xdr:
+    """Numbers in four or eight octets, flags in four, octets filled up to a multiple of 4."""
+
+    def __init__(self):
+        self.octets = b""
+
+    def number(self, kind, n):
+        width = max(4, WIDTHS[kind])
+        self.octets += (n % 2 ** (8 * width)).to_bytes(width, "big")
+
+    def flag(self, there):
+        self.number("bool", there)
+
+    def count(self, node, place, length):
+        if not is_exact(node, place):
+            self.number("u32", length)
+
+    def block(self, octets):
+        self.octets += octets + bytes(-len(octets) % 4)
+
+    def text(self, node, octets):
+        self.count(node, 1, len(octets))
+        self.block(octets)
+
+    def row(self, node, value):
+        numbers = numbers_of(value)
+        self.count(node, 2, len(numbers))
+        if node[1] == "octet":
+            self.block(bytes(numbers))
+        else:
+            for n in numbers:
+                self.number(node[1], n)
+
+
+class Cdr(Xdr):
+    """Each number at a multiple of its width, counted from the first octet of the message."""
+
+    def __init__(self, order, at):
+        self.order, self.at, self.octets = order, at, b""
+
+    def number(self, kind, n):
+        width = WIDTHS[kind]
+        self.octets += bytes(-(self.at + len(self.octets)) % width)
+        self.octets += (n % 2 ** (8 * width)).to_bytes(width, self.order)
+
+    def block(self, octets):
+        self.octets += octets
+
+    def text(self, node, octets):
+        self.number("u32", len(octets) + 1)
+        self.octets += octets + b"\0"
+
+
+def put(out, nodes, id, value):
+    """Appends a value of a node."""
+    node = nodes[id]
+    form = node[0]
+    if form == "num":
+        out.number(node[1], int(value))
+    elif form == "enum":
+        out.number("i32", value)
+    elif form == "text":
+        out.text(node, bytes(numbers_of(value)))
+    elif form == "row":
+        out.row(node, value)
+    elif form == "group":
+        for child, inner in zip(node[1], value["group"]):
+            put(out, nodes, child, inner)
+    elif form == "items":
+        out.count(node, 2, len(value["items"]))
+        for inner in value["items"]:
+            put(out, nodes, node[1], inner)
+    elif form == "choice":
+        n, inner = value["arm"]
+        out.number(tag_kind(node[1]), n)
+        put(out, nodes, arm_of(node, n), inner)
+    elif form == "maybe":
+        out.flag(len(value["opt"]))
+        for inner in value["opt"]:
+            put(out, nodes, node[1], inner)
+
+
+def sent(encoding, nodes, id, value, at=0):
+    """The octets of a value that begins at a position."""
+    out = Xdr() if encoding == "xdr" else Cdr({"cdr_big": "big", "cdr_little": "little"}[encoding], at)
+    put(out, nodes, id, value)
+    return out.octets
+
+
+# ---- values by a plan
+
+def length(node, place, wanted):
+    word, n = count_of(node, place)
+    return {"exactly": n, "most": min(wanted, n or 0), None: wanted}[word]
+
+
+def number(kind, first, i):
+    n = first + i % 100
+    return n if least(kind) <= n <= greatest(kind) else 1
+
+
+def row(kind, count, first):
+    width = WIDTHS[kind]
+    return {"row": kind, "image": b"".join((number(kind, first, i) % 2 ** (8 * width)).to_bytes(width, "little") for i in range(count)).hex()}
+
+
+def planned(nodes, id, plan, arm=None):
+    """The value of a node that a plan gives: `items` and `numbers` are lengths, where they may be so; `arm` is the
+    place of a union's arm, else the default or the first; `there` says whether there is what may be there; numbers
+    begin at `first`."""
+    node, arm = nodes[id], plan["arm"] if arm is None else arm
+    form = node[0]
+    if form == "num":
+        return number(node[1], plan["first"], id)
+    if form == "enum":
+        return 5
+    if form == "text":
+        return row("char", length(node, 1, plan["numbers"]), 25)
+    if form == "row":
+        return row(node[1], length(node, 2, plan["numbers"]), plan["first"])
+    if form == "group":
+        return {"group": [planned(nodes, child, plan, arm) for child in node[1]]}
+    if form == "items":
+        return {"items": [planned(nodes, node[1], plan, arm + i) for i in range(length(node, 2, plan["items"]))]}
+    if form == "choice":
+        n, child = node[2][arm] if arm < len(node[2]) else (77, node[3]) if len(node) > 3 else node[2][0]
+        return {"arm": [n, planned(nodes, child, plan, arm)]}
+    if form == "maybe":
+        return {"opt": [planned(nodes, node[1], plan, arm)] if plan["there"] else []}
+    return None
+
+
+# ---- how long what is sent is: from each position modulo 8, or the greatest length, or neither
+
+def width_of(encoding, kind):
+    return max(4, WIDTHS[kind]) if encoding == "xdr" else WIDTHS[kind]
+
+
+def scalar(encoding, kind):
+    width = width_of(encoding, kind)
+    return [width if encoding == "xdr" else -at % width + width for at in range(8)]
+
+
+def top(span):
+    return max(span) if isinstance(span, list) else span
+
+
+def after(first, second):
+    """One part and another after it."""
+    if isinstance(first, list) and isinstance(second, list):
+        return [first[at] + second[(at + first[at]) % 8] for at in range(8)]
+    return None if None in (top(first), top(second)) else top(first) + top(second)
+
+
+def repeated(span, times):
+    """So many parts, by halves."""
+    if not isinstance(span, list):
+        return None if span is None else span * times
+    if times == 0:
+        return [0] * 8
+    half = repeated(span, times // 2)
+    return after(span, after(half, half)) if times % 2 else after(half, half)
+
+
+def block(encoding, node, place, unit, last):
+    """So many octets after their count, in whole units, and a last one."""
+    word, n = count_of(node, place)
+    if word is None:
+        return None
+    octets = -(-n // unit) * unit + last
+    return [octets] * 8 if word == "exactly" else top(scalar(encoding, "u32")) + octets
+
+
+def listed(encoding, node, element, aligned):
+    """So many elements after their count; `aligned` is what stands before the first at most, where no other has any."""
+    word, n = count_of(node, 2)
+    if word is None:
+        return None
+    if word == "exactly":
+        return repeated(element, n)
+    if top(element) is None:
+        return None
+    each = n * top(element) if aligned is None else aligned[0] + n * aligned[1]
+    return top(scalar(encoding, "u32")) + each
+
+
+def span(encoding, nodes, id):
+    node = nodes[id]
+    form = node[0]
+    if form == "num":
+        return scalar(encoding, node[1])
+    if form == "enum":
+        return scalar(encoding, "i32")
+    if form == "text":
+        return block(encoding, node, 1, 4, 0) if encoding == "xdr" else block(encoding, node, 1, 1, 1)
+    if form == "row" and node[1] == "octet":
+        return block(encoding, node, 2, 4 if encoding == "xdr" else 1, 0)
+    if form == "row":
+        width = width_of(encoding, node[1])
+        # A count ends at a multiple of 4.
+        return listed(encoding, node, scalar(encoding, node[1]), (4 if encoding != "xdr" and width == 8 else 0, width))
+    if form == "group":
+        whole = [0] * 8
+        for child in reversed(node[1]):
+            whole = after(span(encoding, nodes, child), whole)
+        return whole
+    if form == "items":
+        return listed(encoding, node, span(encoding, nodes, node[1]), None)
+    if form == "choice":
+        tops = [top(span(encoding, nodes, child)) for child in [*(child for _, child in node[2]), *node[3:]]]
+        return after(scalar(encoding, tag_kind(node[1])), None if None in tops else max(tops))
+    if form == "maybe":
+        return after(scalar(encoding, "bool"), top(span(encoding, nodes, node[1])))
+    return [0] * 8
+
+
+# ---- regions
+
+class Regions:
+    """The regions of a value so far, and the octets of the one that is open."""
+
+    def __init__(self, encoding, nodes):
+        self.encoding, self.nodes = encoding, nodes
+        self.spans = {}
+        self.count, self.open = 0, None
+
+    def small(self, n):
+        if n:
+            if self.open is None or self.open + n > ENOUGH:
+                self.count, self.open = self.count + 1, 0
+            self.open += n
+
+    def row(self):
+        self.count, self.open = self.count + 1, None
+
+    def border(self):
+        self.open = None
+
+    def span(self, id):
+        if id not in self.spans:
+            self.spans[id] = span(self.encoding, self.nodes, id)
+        return self.spans[id]
+
+    def number(self, kind):
+        self.small(top(scalar(self.encoding, kind)))
+
+    def length(self, node, place):
+        if not is_exact(node, place):
+            self.number("u32")
+
+    def fall(self, id, value):
+        """The parts of a value, from left to right."""
+        node = self.nodes[id]
+        form, most = node[0], top(self.span(id))
+        if most is not None and most <= ENOUGH:
+            self.small(most)
+        elif form == "group":
+            for child, inner in zip(node[1], value["group"]):
+                self.fall(child, inner)
+        elif form in ("text", "row"):
+            self.length(node, 1 if form == "text" else 2)
+            self.row()
+        elif form == "items":
+            self.length(node, 2)
+            if isinstance(self.span(node[1]), list):
+                self.row()
+            else:
+                self.apart([(node[1], inner) for inner in value["items"]])
+        elif form == "choice":
+            self.number(tag_kind(node[1]))
+            self.apart([(arm_of(node, value["arm"][0]), value["arm"][1])])
+        elif form == "maybe":
+            self.number("bool")
+            self.apart([(node[1], inner) for inner in value["opt"]])
+
+    def apart(self, parts):
+        """Parts between borders."""
+        self.border()
+        for id, value in parts:
+            self.fall(id, value)
+            self.border()
+
+
+def regions(encoding, nodes, id, value, lead):
+    """How many regions a value has after a lead of so many octets."""
+    whole = Regions(encoding, nodes)
+    whole.small(lead)
+    whole.fall(id, value)
+    return whole.count
