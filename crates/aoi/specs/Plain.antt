@@ -1,6 +1,7 @@
 -- Units as plain trees.
 use Rattle.std.specs.Prelude.{IsTrue, Bool, ◌&&◌, nat_le, nat_lt, ℕ, ◌+◌, ◌-◌, ◌^◌, List, map, length}
 use Rattle.std.specs.List.{list_all}
+use Rattle.kit_base.specs.Limits.{most_raises}
 use Rattle.aoi.specs.declared.interfaces.Interface.{Interface}
 use Rattle.aoi.specs.declared.interfaces.Operation.{Operation}
 use Rattle.aoi.specs.declared.interfaces.Raise.{Raise}
@@ -62,7 +63,7 @@ is_sound_plain_operation types slots op =
     are_sound types (length types) op.ins
     && are_sound types (length types) op.outs
     && or_void op.result (is_sound_type types (length types) op.result)
-    && nat_le (length op.raises) 4095
+    && nat_le (length op.raises) most_raises
     && list_all (is_sound_plain_raise types) op.raises
     && nat_lt op.slot slots
 

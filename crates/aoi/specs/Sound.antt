@@ -6,6 +6,7 @@ use Rattle.std.specs.Str.{bytes_eq}
 use Rattle.mint.specs.declared.kind.Count.{Count}
 use Rattle.mint.specs.declared.kind.Count.TheVariants.{Exactly}
 use Rattle.mint.specs.Kinds.{in_range}
+use Rattle.kit_base.specs.Limits.{most_labels, most_raises}
 use Rattle.aoi.specs.declared.interfaces.Interface.{Interface}
 use Rattle.aoi.specs.declared.interfaces.Operation.{Operation}
 use Rattle.aoi.specs.declared.interfaces.Raise.{Raise}
@@ -90,7 +91,7 @@ is_sound_enum items =
     -- it has an item
     not (length items == 0)
     -- its items have at most 4,096 different numbers
-    && nat_le (count_different (map (λ i. i.1) items)) 4096
+    && nat_le (count_different (map (λ i. i.1) items)) most_labels
     -- and different names
     && are_distinct (map (λ i. i.0) items)
 
@@ -101,7 +102,7 @@ are_sound_labels tag there numbers =
     -- it has an arm or a default
     && there
     -- it has at most 4,096 arms
-    && nat_le (length numbers) 4096
+    && nat_le (length numbers) most_labels
     -- their numbers are all of the tag
     && list_all (is_of_tag tag) numbers
     -- and no two are equal
@@ -160,7 +161,7 @@ is_sound_operation types slots op =
     -- but may be the result
     && or_void (seen op.result) (is_sound_type types (length types) (seen op.result))
     -- an operation raises at most 4,095 exceptions
-    && nat_le (length op.raises) 4095
+    && nat_le (length op.raises) most_raises
     && list_all (is_sound_raise types) op.raises
     -- its slot is one of the interface's
     && nat_lt op.slot slots

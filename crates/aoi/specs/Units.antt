@@ -2,6 +2,7 @@
 use Rattle.std.specs.Prelude.{Bool, ◌&&◌, ◌||◌, ◌==◌, ◌≤◌, ◌≡◌, false, ℕ, List, [], ◌∷◌, length}
 use Rattle.std.specs.List.{list_any}
 use Rattle.std.specs.Str.{bytes_eq}
+use Rattle.kit_base.specs.Limits.{most_operations}
 use Rattle.aoi.specs.declared.types.Ty.{Ty}
 use Rattle.aoi.specs.declared.interfaces.Interface.{Interface}
 
@@ -18,7 +19,7 @@ are_twins i j = bytes_eq i.name j.name || (i.program == j.program && i.version =
 abbrev pub is_twice : Interface → List Interface → Bool
 is_twice i others = list_any (λ j. are_twins j i) others
 
--- interfaces of which no two are twins, each with at most 256 operations
+-- interfaces of which no two are twins, each with few operations
 abbrev pub AreApart : List Interface → Type 0
 AreApart [] = Unit {0}
-AreApart (i ∷ is) = (list_any (are_twins i) is ≡ false) × (length i.ops ≤ 256) × AreApart is
+AreApart (i ∷ is) = (list_any (are_twins i) is ≡ false) × (length i.ops ≤ most_operations) × AreApart is

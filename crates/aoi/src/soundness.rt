@@ -12,13 +12,8 @@ use crate::distinct::{
 };
 use crate::{Field, Interface, Operation, Raise, Ty, Unit};
 use kit_base::Name;
+use kit_base::limits::{MOST_LABELS, MOST_RAISES};
 use mint::kind::Count;
-
-/// The most different numbers of an enum, and the most arms of a union.
-const LABELS: usize = 4096;
-
-/// The most exceptions that an operation raises.
-const RAISES: usize = 4095;
 
 /// Whether the types and interfaces of a unit are sound. It takes time of the square of the longest
 /// list of names.
@@ -172,7 +167,7 @@ fn is_some_count(count: Count) -> bool
 fn is_sound_enum(items: &[(Name, i32)]) -> bool
     ensures { result ≡ is_sound_enum items.now }
 {
-    !items.is_empty() && count_item_numbers(items) <= LABELS && are_items_distinct(items)
+    !items.is_empty() && count_item_numbers(items) <= MOST_LABELS && are_items_distinct(items)
 }
 
 /// The number of the type that a type names, if it is a name.
@@ -244,7 +239,7 @@ fn are_sound_labels(tag: &Ty, there: bool, arms: &[(i128, Ty)]) -> bool
 {
     is_tag(tag)
         && there
-        && arms.len() <= LABELS
+        && arms.len() <= MOST_LABELS
         && are_of_tag(tag, arms)
         && are_arms_different(arms)
 }
@@ -290,7 +285,7 @@ fn is_sound_operation(types: &[(Name, Ty)], slots: u32, op: &Operation) -> bool
     are_sound(op.ins.as_slice(), types, types.len())
         && are_sound(op.outs.as_slice(), types, types.len())
         && is_sound_or_void(&op.result, types, types.len())
-        && op.raises.len() <= RAISES
+        && op.raises.len() <= MOST_RAISES
         && are_sound_raises(op.raises.as_slice(), types)
         && op.slot < slots
 }

@@ -1,9 +1,11 @@
 // The unit of a file.
 ghost use Rattle.std.specs.Prelude.{◌≡◌, ◌<◌, ◌≤◌, ◌^◌, ◌⊎◌, ◌↔◌, [], ◌∷◌, ◌++◌, length, true, false, IfOk, OnOk, OnErr, IsTrue};
+ghost use Rattle.kit_base.specs.Limits.{most_interfaces, most_operations};
 ghost use Rattle.aoi.specs.Units.{is_twice, AreApart};
 ghost use Rattle.aoi.specs.declared.units.UnitErr.TheVariants.{NoMemory as WantOfMemory};
 
 use crate::{Interface, Interfaces, Ty, Types};
+use kit_base::limits::{MOST_INTERFACES, MOST_OPERATIONS};
 use kit_base::{Name, NoMemory};
 use std::alloc::Global;
 use std::marker::Model;
@@ -27,12 +29,6 @@ impl From<NoMemory> for UnitErr {
     }
 }
 
-/// The most interfaces of a unit.
-const INTERFACES: usize = 64;
-
-/// The most operations of an interface.
-const OPERATIONS: usize = 256;
-
 /// The types and interfaces of a file.
 #[derive(Drop)]
 pub struct Unit {
@@ -42,6 +38,7 @@ pub struct Unit {
 
 impl Model for Unit {
     ghost use Rattle.std.specs.Prelude.{◌≤◌, length};
+    ghost use Rattle.kit_base.specs.Limits.{most_interfaces};
     ghost use Rattle.aoi.specs.Units.{Parts, AreApart};
     ghost use Rattle.std.specs.Coded.{codes};
     ghost use Rattle.aoi.specs.contracts.types.Ty as t;
@@ -53,7 +50,7 @@ impl Model for Unit {
 
     ghost view = { λ u. record { types = u.types; interfaces = u.interfaces } };
 
-    ghost invariant = { λ u. (length u.interfaces ≤ 64) × AreApart u.interfaces };
+    ghost invariant = { λ u. (length u.interfaces ≤ most_interfaces) × AreApart u.interfaces };
 }
 
 impl Unit {
@@ -85,7 +82,7 @@ impl Unit {
     /// How many interfaces there are, at most 64.
     pub fn interface_count(&self) -> usize
         ensures value { result ≡ length self.now.interfaces }
-        ensures most { result ≤ 64 }
+        ensures most { result ≤ most_interfaces }
     {
         self.interfaces.len()
     }
@@ -107,12 +104,12 @@ impl Unit {
         ensures ok { OnOk result (self.new ≡ record self.old { interfaces = self.old.interfaces ++ i ∷ [] }) }
         ensures err { OnErr result (self.new ≡ self.old) }
         ensures twice { (result ≡ Err UnitErr.Twice) ↔ (is_twice i self.old.interfaces ≡ true) }
-        ensures many { (result ≡ Err UnitErr.Many) ↔ ((is_twice i self.old.interfaces ≡ false) × ((64 ≤ length self.old.interfaces) ⊎ (256 < length i.ops))) }
+        ensures many { (result ≡ Err UnitErr.Many) ↔ ((is_twice i self.old.interfaces ≡ false) × ((most_interfaces ≤ length self.old.interfaces) ⊎ (most_operations < length i.ops))) }
     {
         if is_twice(&i, self.interfaces.as_slice()) {
             return Err(UnitErr::Twice);
         }
-        if self.interfaces.len() >= INTERFACES || i.ops.len() > OPERATIONS {
+        if self.interfaces.len() >= MOST_INTERFACES || i.ops.len() > MOST_OPERATIONS {
             return Err(UnitErr::Many);
         }
         self.interfaces.push(i)?;
@@ -121,7 +118,7 @@ impl Unit {
 
     /// What holds of the interfaces of each unit. It does nothing.
     pub fn interfaces_are_apart(&self)
-        ensures few { length self.now.interfaces ≤ 64 }
+        ensures few { length self.now.interfaces ≤ most_interfaces }
         ensures apart { AreApart self.now.interfaces }
     {
         let _interfaces = &self.interfaces;

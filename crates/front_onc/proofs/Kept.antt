@@ -3,6 +3,7 @@ use Rattle.std.proofs.Common.{◌≡◌, ℕ, ℤ, Bool, true, false, List, [], 
 use Rattle.std.specs.Prelude.{Ok}
 use Rattle.std.specs.Str.{bytes_eq}
 use Rattle.std.proofs.lemmas.Bool.{or_parts, or_from}
+use Rattle.kit_base.specs.Limits.{most_labels}
 use Rattle.aoi.specs.declared.faults.NameFault.TheVariants.{Twice, Limit}
 use Rattle.onc_syntax.specs.declared.tree.Item.{Item}
 use Rattle.front_onc.specs.declared.meaning.Meaning.{Meaning}
@@ -25,7 +26,7 @@ pub label_scope : (d k place : ℕ) (s t : State) (n : ℤ) → with_label d k p
 label_scope d k place s t n =
     let next = record s { labels = s.labels ++ (k, n) ∷ [] } in
     label_scope_by (is_label k n s.labels) s t _ (λ h.
-    let x = then_ok (refused Limit d (nat_le 4096 (length s.labels - place))) (λ _. Ok next) t h in
+    let x = then_ok (refused Limit d (nat_le most_labels (length s.labels - place))) (λ _. Ok next) t h in
     ap (λ z. z.scope) (sym (ok_same next t x.rest)))
 
 pub item_keeps : (name : List ℕ) (d k place : ℕ) (s : State) (previous : Option ℤ) (i : Item) (r : State × ℤ) → item_on d k place s previous i ≡ Ok r

@@ -6,6 +6,7 @@ use Rattle.std.specs.Ordering.{int_eq}
 use Rattle.std.proofs.lemmas.Bool.{or_parts, and_parts, and_from, leb-false, le-leb, lt-ltb}
 use Rattle.std.proofs.lemmas.List.{length-append}
 use Rattle.std.proofs.lemmas.List.Folds.{list_all-append}
+use Rattle.kit_base.specs.Limits.{most_labels}
 use Rattle.mint.specs.declared.kind.Kind.{Kind}
 use Rattle.aoi.specs.declared.faults.NameFault.TheVariants.{Label, Limit, NotType}
 use Rattle.aoi.specs.Shapes.{Shape, void, number, enumeration, text, array, structure, choice, optional, named, Arms, no_default, default, arms_of}
@@ -35,7 +36,7 @@ use Rattle.front_onc.proofs.Different.{different_push}
 
 pub record NumbersAre (labels : List (ℕ × ℤ)) (t : Tag) (ns : List ℤ) : Type 0 where
   pub different : are_different ns ≡ true
-  pub few : length ns ≤ 4096
+  pub few : length ns ≤ most_labels
   pub all : list_all (is_of labels t) ns ≡ true
 
 not_negated : (b : Bool) → not b ≡ false → b ≡ true
@@ -58,9 +59,9 @@ label_added scope labels t d ns out l are h =
     let n = a.given in
     let bad = not (is_of labels t n) || list_any (int_eq n) ns in
     let b = then_ok (refused Label d bad) _ out a.rest in
-    let c = then_ok (refused Limit d (nat_le 4096 (length ns))) _ out b.rest in
+    let c = then_ok (refused Limit d (nat_le most_labels (length ns))) _ out b.rest in
     let parts = or_parts (not (is_of labels t n)) (list_any (int_eq n) ns) (refused_ok Label d bad b.given b.first) in
-    let room = leb-false 4096 (length ns) (refused_ok Limit d _ c.given c.first) in
+    let room = leb-false most_labels (length ns) (refused_ok Limit d _ c.given c.first) in
     let count = length-append ns (n ∷ []) in
     let same = ok_same (ns ++ n ∷ []) out c.rest in
     let all : NumbersAre labels t (ns ++ n ∷ []) = record {
@@ -258,7 +259,7 @@ union_sound s d u tree out is used some h =
     let fits = use_fits types s.labels u used (refused_ok NotType d (is_other t) a.given a.first) in
     let numbers : numbers_of (arms_of b.given.arms c.given) ≡ b.given.numbers = numbers_arms b.given.arms c.given last.numbers ∙ are.arms in
     let end_ = unfolded (length types) types (length types) (shape_of_use u) in
-    let few : nat_le (length (numbers_of (arms_of b.given.arms c.given))) 4096 ≡ true = ap (λ z. nat_le (length z) 4096) numbers ∙ le-leb _ _ are.numbers.few in
+    let few : nat_le (length (numbers_of (arms_of b.given.arms c.given))) most_labels ≡ true = ap (λ z. nat_le (length z) most_labels) numbers ∙ le-leb _ _ are.numbers.few in
     let all : list_all (is_of_tag end_) (numbers_of (arms_of b.given.arms c.given)) ≡ true = ap (list_all (is_of_tag end_)) numbers ∙ all_of (is_of s.labels t) (is_of_tag end_) b.given.numbers fits.of are.numbers.all in
     let different : are_different (numbers_of (arms_of b.given.arms c.given)) ≡ true = ap are_different numbers ∙ are.numbers.different in
     let has = some_arm b.given.arms c.given (ap is_some_list are.arms ∙ there) in

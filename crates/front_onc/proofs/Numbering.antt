@@ -8,6 +8,7 @@ use Rattle.std.proofs.lemmas.Bool.{or_parts, or_from, not_from_false, and_from, 
 use Rattle.std.proofs.lemmas.Bool.Decides.{Decides-int_eq}
 use Rattle.std.proofs.lemmas.List.{length-append}
 use Rattle.std.proofs.lemmas.List.Folds.{list_any-append}
+use Rattle.kit_base.specs.Limits.{most_labels}
 use Rattle.aoi.specs.declared.faults.NameFault.TheVariants.{Twice, Limit}
 use Rattle.aoi.specs.Sound.{is_sound_enum, are_distinct, count_different}
 use Rattle.onc_syntax.specs.declared.tree.Item.{Item}
@@ -37,7 +38,7 @@ pub record LabelsAre (k place : ℕ) (base labels : List (ℕ × ℤ)) (ns : Lis
   pub own : (n : ℤ) → is_label k n labels ≡ list_any (int_eq n) ns
   pub others : (j : ℕ) (n : ℤ) → j ≢ k → is_label j n labels ≡ is_label j n base
   pub count : length labels ≡ place + count_different ns
-  pub few : count_different ns ≤ 4096
+  pub few : count_different ns ≤ most_labels
 
 -- what the items so far have made of a state
 pub record ItemsAre (k place : ℕ) (s t : State) (items : List Item_) : Type 0 where
@@ -66,7 +67,7 @@ other_label j k n m labels ne = label_last j k n m labels ∙ rw ne (or_false (i
 
 -- labels that have a number more, or had it
 abbrev pub Labelled : ℕ → ℕ → List (ℕ × ℤ) → List (ℕ × ℤ) → ℤ → Type 0
-Labelled k place old new n = ((is_label k n old ≡ true) × (new ≡ old)) ⊎ ((is_label k n old ≡ false) × (new ≡ old ++ (k, n) ∷ []) × (length old - place < 4096))
+Labelled k place old new n = ((is_label k n old ≡ true) × (new ≡ old)) ⊎ ((is_label k n old ≡ false) × (new ≡ old ++ (k, n) ∷ []) × (length old - place < most_labels))
 
 absorbed : (x y : Bool) → (y ≡ true → x ≡ true) → x ≡ (x || y)
 absorbed true y f = refl
@@ -110,13 +111,13 @@ abbrev state_is : State → Answer State
 state_is s = Ok s
 
 label_by : (b : Bool) (d k place : ℕ) (s t : State) (n : ℤ) → is_label k n s.labels ≡ b
-    → (if b then state_is s else and_then (refused Limit d (nat_le 4096 (length s.labels - place))) (λ _. state_is (record s { labels = s.labels ++ (k, n) ∷ [] }))) ≡ state_is t → LabelIs k place s t n
+    → (if b then state_is s else and_then (refused Limit d (nat_le most_labels (length s.labels - place))) (λ _. state_is (record s { labels = s.labels ++ (k, n) ∷ [] }))) ≡ state_is t → LabelIs k place s t n
 label_by true d k place s t n is h =
     let same = sym (ok_same s t h) in
     record { types = ap (λ z. z.types) same; interfaces = ap (λ z. z.interfaces) same; versions = ap (λ z. z.versions) same; scope = ap (λ z. z.scope) same; labels = inl (is, ap (λ z. z.labels) same) }
 label_by false d k place s t n is h =
-    let a = then_ok (refused Limit d (nat_le 4096 (length s.labels - place))) (λ _. state_is (record s { labels = s.labels ++ (k, n) ∷ [] })) t h in
-    let few = leb-false 4096 (length s.labels - place) (refused_ok Limit d _ a.given a.first) in
+    let a = then_ok (refused Limit d (nat_le most_labels (length s.labels - place))) (λ _. state_is (record s { labels = s.labels ++ (k, n) ∷ [] })) t h in
+    let few = leb-false most_labels (length s.labels - place) (refused_ok Limit d _ a.given a.first) in
     let same = sym (ok_same (record s { labels = s.labels ++ (k, n) ∷ [] }) t a.rest) in
     record { types = ap (λ z. z.types) same; interfaces = ap (λ z. z.interfaces) same; versions = ap (λ z. z.versions) same; scope = ap (λ z. z.scope) same; labels = inr (is, ap (λ z. z.labels) same, few) }
 

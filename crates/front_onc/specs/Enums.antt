@@ -3,6 +3,7 @@ use Rattle.std.specs.Prelude.{Bool, nat_le, ◌&&◌, ◌||◌, ◌==◌, ℕ, �
 use Rattle.std.specs.List.{list_any}
 use Rattle.std.specs.Ordering.{int_eq}
 use Rattle.std.specs.Str.{bytes_eq}
+use Rattle.kit_base.specs.Limits.{most_labels}
 use Rattle.mint.specs.Kinds.{in_range}
 use Rattle.mint.specs.declared.kind.Kind.TheVariants as kind
 use Rattle.aoi.specs.declared.faults.NameFault.TheVariants.{Twice, Limit, Range}
@@ -37,7 +38,7 @@ short d n = if in_range kind.I32 n then Ok n else fault Range d
 abbrev pub with_label : ℕ → ℕ → ℕ → State → ℤ → Answer State
 with_label d k place s n =
     if is_label k n s.labels then Ok s
-    else and_then (refused Limit d (nat_le 4096 (length s.labels - place))) (λ _. Ok (record s { labels = s.labels ++ (k, n) ∷ [] }))
+    else and_then (refused Limit d (nat_le most_labels (length s.labels - place))) (λ _. Ok (record s { labels = s.labels ++ (k, n) ∷ [] }))
 
 -- an item is a constant, and its number one of the enum's
 abbrev pub item_on : ℕ → ℕ → ℕ → State → Option ℤ → Item → Answer (State × ℤ)

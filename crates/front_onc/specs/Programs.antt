@@ -3,6 +3,7 @@ use Rattle.std.specs.Prelude.{Bool, true, false, nat_le, nat_eq, ◌&&◌, ◌||
 use Rattle.std.specs.List.{list_any}
 use Rattle.std.specs.Str.{bytes_eq}
 use Rattle.std.specs.Fmt.{decimal}
+use Rattle.kit_base.specs.Limits.{most_interfaces, most_operations}
 use Rattle.mint.specs.declared.kind.Count.TheVariants.{Any}
 use Rattle.aoi.specs.declared.faults.NameFault.TheVariants.{Limit, OutOfScope, Twice}
 use Rattle.aoi.specs.Shapes.{Shape, void, text, no_more, members_of}
@@ -69,7 +70,7 @@ abbrev pub procedure_on : Scope → ℕ → Procedures → Procedure → Answer 
 procedure_on scope d ps p =
     and_then (result_of scope d p.result) (λ result.
     and_then (refused Twice d (has p.name ps.names)) (λ _.
-    and_then (refused Limit d (nat_le 256 (length ps.ops))) (λ _.
+    and_then (refused Limit d (nat_le most_operations (length ps.ops))) (λ _.
     and_then (parameters scope d p.parameters) (λ ins.
     and_then (number_of scope d p.number) (λ n.
     and_then (refused Twice d (list_any (nat_eq n) ps.numbers)) (λ _.
@@ -114,7 +115,7 @@ version_offered d program (Some n) name version ops s = offered d (interface s.v
 abbrev pub version_on : ℕ → List ℕ → Option ℕ → List (List ℕ) → State → Version → Answer State
 version_on d program number names s v =
     and_then (refused Twice d (has v.name names)) (λ _.
-    and_then (refused Limit d (nat_le 64 s.versions)) (λ _.
+    and_then (refused Limit d (nat_le most_interfaces s.versions)) (λ _.
     and_then (operations s v.procedures) (λ r.
     and_then (number_of r.0.scope d v.number) (λ n.
     version_offered d program number v.name n r.1 r.0))))

@@ -2,6 +2,7 @@
 use Rattle.std.specs.Prelude.{Bool, true, false, not, nat_le, ◌||◌, ℕ, ℤ, List, [], ◌∷◌, ◌++◌, map, length, drop, Option, Some, None, Ok}
 use Rattle.std.specs.List.{list_any}
 use Rattle.std.specs.Ordering.{int_eq}
+use Rattle.kit_base.specs.Limits.{most_labels}
 use Rattle.mint.specs.Kinds.{in_range}
 use Rattle.aoi.specs.declared.faults.NameFault.TheVariants.{Twice, Label, Limit, NotType}
 use Rattle.aoi.specs.Shapes.{Shape, void, choice, Arms, default_of, arms_of}
@@ -31,7 +32,7 @@ abbrev pub label_on : Scope → List (ℕ × ℤ) → Tag → ℕ → List ℤ �
 label_on scope labels tag d numbers l =
     and_then (value scope d l.value) (λ n.
     and_then (refused Label d (not (is_of labels tag n) || list_any (int_eq n) numbers)) (λ _.
-    and_then (refused Limit d (nat_le 4096 (length numbers))) (λ _.
+    and_then (refused Limit d (nat_le most_labels (length numbers))) (λ _.
     Ok (numbers ++ n ∷ []))))
 
 -- the labels of a case behind those that stand before them

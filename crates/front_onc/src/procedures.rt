@@ -1,5 +1,6 @@
 // Procedures.
 ghost use Rattle.std.specs.Prelude.{◌≡◌, ◌≤◌, [], ◌∷◌, map, length, IfOk, IfErr, OnOk, Err};
+ghost use Rattle.kit_base.specs.Limits.{most_operations};
 ghost use Rattle.aoi.specs.Shapes.{seen, seen_field};
 ghost use Rattle.aoi.specs.Plain.{plain_operation};
 ghost use Rattle.name_kit.specs.Answers.{Gives};
@@ -14,14 +15,12 @@ use crate::values::{number_of, type_use};
 use crate::{NameErr, NameFault};
 use aoi::{Field, Fields, Operation, Operations, Raises, Ty};
 use indexmap::IndexSet;
+use kit_base::limits::MOST_OPERATIONS;
 use kit_base::{Name, NoMemory};
 use mint::kind::Count;
 use name_kit::refuse;
 use onc_syntax::{ProcType, Procedure};
 use std::alloc::Global;
-
-/// The most procedures of a version.
-const OPERATIONS: usize = 256;
 
 /// The type of a result.
 fn result_of(scope: &Scope, d: u32, t: &ProcType) -> Result<Ty, NameErr>
@@ -134,7 +133,7 @@ fn procedure(
     p: &Procedure,
 ) -> Result<(), NameErr>
     ensures value { Gives (λ _. record { names = names.new; numbers = numbers.new.keys; ops = map plain_operation ops.new }) result (procedure_on scope.now d (record { names = names.old; numbers = numbers.old.keys; ops = map plain_operation ops.old }) p.now) }
-    ensures few { OnOk result (length ops.new ≤ 256) }
+    ensures few { OnOk result (length ops.new ≤ most_operations) }
 {
     let name = p.name.as_slice();
     let ty = result_of(scope, d, &p.result)?;
@@ -145,7 +144,7 @@ fn procedure(
         });
     }
     let place = ops.len();
-    if place >= OPERATIONS {
+    if place >= MOST_OPERATIONS {
         return Err(NameErr {
             fault: NameFault::Limit,
             decl: d,
@@ -174,7 +173,7 @@ fn procedures(
     list: &[Procedure],
 ) -> Result<Operations, NameErr>
     ensures value { Gives (λ ops. (state r.new, record { names = names.new; numbers = numbers.new.keys; ops = map plain_operation ops })) result (procedures_on (state r.old) (record { names = names.old; numbers = numbers.old.keys; ops = [] }) list.now) }
-    ensures few { IfOk result (λ ops. length ops ≤ 256) }
+    ensures few { IfOk result (λ ops. length ops ≤ most_operations) }
     ensures scope { OnOk result (r.new.scope ≡ r.old.scope) }
     ensures versions { OnOk result (r.new.versions ≡ r.old.versions) }
 {
@@ -193,7 +192,7 @@ pub(crate) fn operations(
     list: &[Procedure],
 ) -> Result<Operations, NameErr>
     ensures value { Gives (λ ops. (state r.new, map plain_operation ops)) result (operations (state r.old) list.now) }
-    ensures few { IfOk result (λ ops. length ops ≤ 256) }
+    ensures few { IfOk result (λ ops. length ops ≤ most_operations) }
     ensures scope { OnOk result (r.new.scope ≡ r.old.scope) }
     ensures versions { OnOk result (r.new.versions ≡ r.old.versions) }
 {

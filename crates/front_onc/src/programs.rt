@@ -1,5 +1,6 @@
 // Versions and programs.
 ghost use Rattle.std.specs.Prelude.{◌≡◌, ◌<◌, ◌≤◌, ◌+◌, ◌++◌, [], map, length, false, codes, IfOk, OnOk};
+ghost use Rattle.kit_base.specs.Limits.{most_interfaces, most_operations};
 ghost use Rattle.aoi.specs.Plain.{plain_interface, plain_operation};
 ghost use Rattle.name_kit.specs.Answers.{Gives, given};
 ghost use Rattle.front_onc.specs.Held.{state};
@@ -12,13 +13,11 @@ use crate::state::{Resolver, want};
 use crate::values::number_of;
 use crate::{Meaning, NameErr, NameFault};
 use aoi::{Interface, Operations};
+use kit_base::limits::MOST_INTERFACES;
 use kit_base::{Name, NoMemory};
 use name_kit::refuse;
 use onc_syntax::{Value, Version};
 use std::alloc::Global;
-
-/// The most interfaces.
-const INTERFACES: usize = 64;
 
 /// A program's name, a dot, and a version's name.
 fn interface_name(alloc: Global, program: &[u8], version: &[u8]) -> Result<Name, NoMemory>
@@ -40,8 +39,8 @@ fn interface(
     version: u32,
     ops: Operations,
 ) -> Result<Interface, NoMemory>
-    requires place { place < 64 }
-    requires few { length ops ≤ 256 }
+    requires place { place < most_interfaces }
+    requires few { length ops ≤ most_operations }
     ensures value { IfOk result (λ i. plain_interface i ≡ interface place program.now number name.now version (map plain_operation ops)) }
     ensures ops { IfOk result (λ i. i.ops ≡ ops) }
 {
@@ -66,8 +65,8 @@ fn offer(
     version: u32,
     ops: Operations,
 ) -> Result<(), NameErr>
-    requires place { r.old.versions < 64 }
-    requires few { length ops ≤ 256 }
+    requires place { r.old.versions < most_interfaces }
+    requires few { length ops ≤ most_operations }
     ensures value { Gives (λ _. state r.new) result (version_offered d program.now number name.now version (map plain_operation ops) (state r.old)) }
     ensures scope { r.new.scope ≡ r.old.scope }
 {
@@ -100,7 +99,7 @@ fn version(
             decl: d,
         });
     }
-    if r.versions() >= INTERFACES {
+    if r.versions() >= MOST_INTERFACES {
         return Err(NameErr {
             fault: NameFault::Limit,
             decl: d,

@@ -1,5 +1,6 @@
 // What is declared so far.
 ghost use Rattle.std.specs.Prelude.{◌≡◌, ◌<◌, ◌≤◌, ◌+◌, false, length, IfOk, IfErr, OnOk, OnErr};
+ghost use Rattle.kit_base.specs.Limits.{most_interfaces, most_operations};
 ghost use Rattle.aoi.specs.Shapes.{seen};
 ghost use Rattle.aoi.specs.Plain.{plain_interface};
 ghost use Rattle.name_kit.specs.Answers.{Gives, refused};
@@ -16,13 +17,11 @@ use crate::numbers::{add_label, is_label};
 use crate::{Meaning, NameErr, NameFault, Tag, Use};
 use aoi::{Interface, Ty, Unit, UnitErr};
 use indexmap::IndexSet;
+use kit_base::limits::MOST_LABELS;
 use kit_base::{Name, NoMemory};
 use name_kit::refuse;
 use std::alloc::Global;
 use std::marker::Model;
-
-/// The most different numbers of an enum, and the most labels of a union.
-pub(crate) const LABELS: usize = 4096;
 
 /// The names, the numbers of the enums, the unit, how many versions its programs have, and how many
 /// declarations there are.
@@ -170,7 +169,7 @@ impl Resolver {
         refuse(
             NameFault::Limit,
             d,
-            self.labels.len().saturating_sub(place) >= LABELS,
+            self.labels.len().saturating_sub(place) >= MOST_LABELS,
         )?;
         add_label(&mut self.labels, k, n)?;
         Ok(())
@@ -185,7 +184,7 @@ impl Resolver {
 
     /// Passes over a version whose program has no number.
     pub(crate) fn pass_version(&mut self)
-        requires { self.old.versions < 64 }
+        requires { self.old.versions < most_interfaces }
         ensures passed { state self.new ≡ record (state self.old) { versions = self.old.versions + 1 } }
         ensures scope { self.new.scope ≡ self.old.scope }
     {
@@ -194,8 +193,8 @@ impl Resolver {
 
     /// Puts an interface behind the others.
     pub(crate) fn offer(&mut self, d: u32, i: Interface) -> Result<(), NameErr>
-        requires place { self.old.versions < 64 }
-        requires few { length i.ops ≤ 256 }
+        requires place { self.old.versions < most_interfaces }
+        requires few { length i.ops ≤ most_operations }
         ensures value { Gives (λ _. state self.new) result (offered d (plain_interface i) (state self.old)) }
         ensures scope { self.new.scope ≡ self.old.scope }
     {

@@ -9,12 +9,13 @@ ghost use Rattle.front_onc.specs.Unions.{is_of, label_on, labels_on, arm_shape, 
 use crate::forms::{form, name_of, tag_of_use, ty, ty_of_use};
 use crate::names::{Names, Scope};
 use crate::numbers::{add_integer, behind, has_integer};
-use crate::state::{LABELS, Resolver};
+use crate::state::Resolver;
 use crate::values::{type_use, value};
 use crate::{Form, NameErr, NameFault, Tag, Use};
 use aoi::{Ty, UnionArms};
 use indexmap::IndexSet;
 use kit_base::NoMemory;
+use kit_base::limits::MOST_LABELS;
 use name_kit::refuse;
 use onc_syntax::{Arm, Case, Label, Union};
 use std::alloc::Global;
@@ -47,7 +48,7 @@ fn label(
             decl: d,
         });
     }
-    if numbers.len() >= LABELS {
+    if numbers.len() >= MOST_LABELS {
         return Err(NameErr {
             fault: NameFault::Limit,
             decl: d,

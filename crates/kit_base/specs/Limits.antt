@@ -32,3 +32,31 @@ heaviest_blank = 1048576
 -- the weight of the heaviest value
 abbrev pub heaviest : ℕ
 heaviest = 268435456
+
+-- the labels of the longest enum, and the arms of the longest discriminated union
+abbrev pub most_labels : ℕ
+most_labels = 4096
+
+-- the exceptions that one operation may raise
+abbrev pub most_raises : ℕ
+most_raises = 4095
+
+-- the interfaces of a unit
+abbrev pub most_interfaces : ℕ
+most_interfaces = 64
+
+-- the operations of one interface
+abbrev pub most_operations : ℕ
+most_operations = 256
+
+-- the octets of the longest name of an interface or operation, and of the longest id of an exception
+abbrev pub longest_name : ℕ
+longest_name = 16777216
+
+-- the nodes that the request and the reply of one operation unfold to
+abbrev pub most_operation_nodes : ℕ
+most_operation_nodes = 65536
+
+-- the nodes that the requests and replies of all operations unfold to
+abbrev pub most_unit_nodes : ℕ
+most_unit_nodes = 262144

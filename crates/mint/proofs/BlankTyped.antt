@@ -4,6 +4,7 @@ use Rattle.std.specs.List.{list_all}
 use Rattle.std.specs.Ordering.{int_eq}
 use Rattle.std.proofs.lemmas.Bool.Decides.{Decides-int_eq}
 use Rattle.std.proofs.lemmas.List.{length-replicate}
+use Rattle.kit_base.specs.Limits.{most_labels}
 use Rattle.mint.specs.declared.kind.Kind.{Kind}
 use Rattle.mint.specs.declared.kind.Kind.TheVariants as kind
 use Rattle.mint.specs.declared.kind.Count.{Count}
@@ -93,7 +94,7 @@ first_tagged : (s : Scalar) (n : ℤ) (t : Ty) (arms : Arms) → are_arms s (arm
 first_tagged s n t arms h =
     let ns = n ∷ arm_numbers arms in
     let tagged = split (are_tagged s ns) (not (is_armless (arm_type n t arms))) h in
-    let rising = split (nat_le (length ns) 4096) (rise_from None ns && list_all (is_scalar s) ns) tagged.0 in
+    let rising = split (nat_le (length ns) most_labels) (rise_from None ns && list_all (is_scalar s) ns) tagged.0 in
     let all = split (rise_from None ns) (list_all (is_scalar s) ns) rising.1 in
     (split (is_scalar s n) (list_all (is_scalar s) (arm_numbers arms)) all.1).0
 

@@ -1,7 +1,7 @@
 -- The types that a table may hold.
 use Rattle.std.specs.Prelude.{Bool, true, false, ◌&&◌, ◌||◌, not, if◌then◌else◌, nat_lt, nat_le, nat_eq, int_lt, ◌≡◌, ℕ, ℤ, List, [], ◌∷◌, length, Option, None, Some}
 use Rattle.std.specs.List.{list_all}
-use Rattle.kit_base.specs.Limits.{deepest, heaviest_blank, most_nodes}
+use Rattle.kit_base.specs.Limits.{deepest, heaviest_blank, most_labels, most_nodes}
 use Rattle.mint.specs.declared.kind.Kind.TheVariants as kind
 use Rattle.mint.specs.declared.kind.Count.{Count}
 use Rattle.mint.specs.declared.kind.Count.TheVariants.{Exactly}
@@ -41,7 +41,7 @@ rise_from (Some m) (n ∷ ns) = int_lt m n && rise_from (Some n) ns
 
 -- labels that an enum may have
 abbrev pub are_labels : List ℤ → Bool
-are_labels ns = list_all (in_range kind.I32) ns && (nat_lt 0 (length ns) && nat_le (length ns) 4096 && rise_from None ns)
+are_labels ns = list_all (in_range kind.I32) ns && (nat_lt 0 (length ns) && nat_le (length ns) most_labels && rise_from None ns)
 
 -- scalars that a node or a tag may have
 abbrev pub is_labelled : Scalar → Bool
@@ -55,7 +55,7 @@ arm_numbers _ = []
 
 -- numbers that the arms of a tag may list
 abbrev pub are_tagged : Scalar → List ℤ → Bool
-are_tagged s ns = nat_le (length ns) 4096 && (rise_from None ns && list_all (is_scalar s) ns)
+are_tagged s ns = nat_le (length ns) most_labels && (rise_from None ns && list_all (is_scalar s) ns)
 
 -- neither an arm nor a default
 abbrev pub is_armless : Arms → Bool

@@ -2,7 +2,7 @@
 
 ghost use Rattle.std.specs.Prelude.{List, map, ◌≢◌, ◌≡◌, ◌∷◌, [], ◌++◌, ◌<◌, ◌≤◌, ◌+◌, length, IfOk, IfErr, OnOk, OnErr, None, Some, nat_lt, nat_le, ◌&&◌, true};
 ghost use Rattle.std.specs.List.{list_all};
-ghost use Rattle.kit_base.specs.Limits.{deepest};
+ghost use Rattle.kit_base.specs.Limits.{deepest, most_labels};
 ghost use Rattle.mint.specs.Blank.{blank, depth, fields_depth, arms_depth, least, blanks, blank_arm};
 ghost use Rattle.mint.specs.Kinds.{in_range};
 ghost use Rattle.mint.specs.Measured.{size_of};
@@ -16,7 +16,7 @@ use crate::kind::{Count, Kind};
 use crate::node::{Arms, Labels, Node, NodeIds, Tag};
 use crate::size::Size;
 use crate::table::{Mint, NodeId};
-use kit_base::limits::{DEEPEST, HEAVIEST_BLANK, MOST_NODES};
+use kit_base::limits::{DEEPEST, HEAVIEST_BLANK, MOST_LABELS, MOST_NODES};
 
 impl Mint {
     /// Puts a node behind the others, and gives its number. Only children that stand before it
@@ -278,9 +278,9 @@ fn are_ranged(labels: &[i32])
 }
 
 fn are_few_rising(labels: &Labels) -> bool
-    ensures { result ≡ (nat_lt 0 (length labels.now) && nat_le (length labels.now) 4096 && rise_from None labels.now) }
+    ensures { result ≡ (nat_lt 0 (length labels.now) && nat_le (length labels.now) most_labels && rise_from None labels.now) }
 {
-    labels.len() > 0 && labels.len() <= 4096 && are_rising(labels.as_slice())
+    labels.len() > 0 && labels.len() <= MOST_LABELS && are_rising(labels.as_slice())
 }
 
 fn are_rising(labels: &[i32]) -> bool
@@ -315,7 +315,7 @@ fn is_armless(arms: &Arms, other: Option<NodeId>) -> bool
 fn are_tagged(tag: &Tag, arms: &[(i128, NodeId)]) -> bool
     ensures { result ≡ are_tagged (scalar_of tag.now) (map (λ a. a.0) arms.now) }
 {
-    arms.len() <= 4096 && are_rising_in(tag, arms)
+    arms.len() <= MOST_LABELS && are_rising_in(tag, arms)
 }
 
 fn are_rising_in(tag: &Tag, arms: &[(i128, NodeId)]) -> bool
