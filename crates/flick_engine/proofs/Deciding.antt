@@ -1,6 +1,7 @@
 -- What a message is, is determined, since it is what reading from left to right gives.
 use Rattle.std.proofs.Common.{◌≡◌, ◌+◌, ◌<◌, ℕ, List, [], ◌∷◌, ◌++◌, Option, Some, None, Result, Ok, Err, length, take, drop, refl, ap, sym, ◌∙◌, arith, append-nil, subst}
 use Rattle.std.proofs.lemmas.List.{length-drop, length-take, take-append-drop}
+use Rattle.kit_base.specs.Limits.{longest_message}
 use Rattle.mint.specs.Types.{Ty}
 use Rattle.mint.specs.Values.{Val}
 use Rattle.wire_def.specs.declared.encoding.Encoding.{Encoding}
@@ -19,7 +20,7 @@ use Rattle.pres.specs.Bindings.{Binding}
 use Rattle.flick_engine.specs.declared.errors.MessageErr.{MessageErr}
 use Rattle.flick_engine.specs.declared.errors.MessageErr.TheVariants as err
 use Rattle.flick_engine.specs.Backs.{Begins, Stops}
-use Rattle.flick_engine.specs.Messages.{longest_message, request_type}
+use Rattle.flick_engine.specs.Messages.{request_type}
 use Rattle.flick_engine.specs.Received.{Asked, IsShort, Names, ReadCall, IsExactly}
 use Rattle.flick_engine.proofs.HeadsOfBacks.{one_head}
 

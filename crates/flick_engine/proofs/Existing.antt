@@ -3,6 +3,7 @@ use Rattle.std.proofs.Common.{◌≡◌, ◌⊎◌, inl, inr, ◌+◌, ◌<◌, 
 use Rattle.std.specs.Prelude.{nat_lt}
 use Rattle.std.proofs.lemmas.Bool.{ltb-true, ltb-false}
 use Rattle.std.proofs.lemmas.List.{length-drop, take-append-drop, take_at}
+use Rattle.kit_base.specs.Limits.{longest_message}
 use Rattle.mint.specs.Sound.{IsSound}
 use Rattle.mint.specs.Values.{Val}
 use Rattle.wire_def.specs.declared.fault.HeadErr.{HeadErr}
@@ -69,7 +70,7 @@ module _ (b : Binding) (made : IsMade b.back) (sound : (op : ℕ) → IsSound (r
   behind c (naming.Operation op) names =
       let octets : AreOctets (drop c.used o) = octets_behind (take c.used o) (drop c.used o) (rw take-append-drop oct) in
       let within = (one_head b o).within c names.1 in
-      let short : c.used + length (drop c.used o) ≤ 4194304 = omega (arith, length-drop c.used o, within, names.0) in
+      let short : c.used + length (drop c.used o) ≤ longest_message = omega (arith, length-drop c.used o, within, names.0) in
       body c op names (decided c.encoding (request_type b op) (sound op) c.used (drop c.used o) octets short).either
 
   -- a head, or its fault
@@ -77,9 +78,9 @@ module _ (b : Binding) (made : IsMade b.back) (sound : (op : ℕ) → IsSound (r
   head short (inl (c, begins)) = behind c c.naming (short, begins, refl)
   head short (inr (e, stops)) = (Err (err.Head e), (short, stops))
 
-  size : (4194304 < length o) ⊎ IsShort o → Something
+  size : (longest_message < length o) ⊎ IsShort o → Something
   size (inl long) = (Err err.Long, long)
   size (inr short) = head short (has_head b made o oct)
 
   pub something : Something
-  something = size (above_or_not 4194304 (length o) (nat_lt 4194304 (length o)) refl)
+  something = size (above_or_not longest_message (length o) (nat_lt longest_message (length o)) refl)

@@ -1,5 +1,7 @@
+mod Places
 pub mod HeadsOfBacks
 pub mod Deciding
 pub mod Existing
 pub mod Answering
 pub mod Back
+pub mod Operating

@@ -8,12 +8,15 @@ use Rattle.wire_def.specs.declared.encoding.Encoding.TheVariants.{CdrBig, CdrLit
 use Rattle.wire_def.specs.declared.fault.HeadErr.{HeadErr}
 use Rattle.wire_def.specs.declared.head.Head.{Head}
 use Rattle.call_kit.specs.declared.called.Called.{Called}
+use Rattle.aoi.specs.Plain.{PlainInterface, PlainOperation}
 use Rattle.pres.specs.Bindings.{Binding}
+use Rattle.back_xdr.specs.declared.call.OncCall.{OncCall}
 use Rattle.back_xdr.specs.Heads as xdr
-use Rattle.back_xdr.specs.Laws.{AreWords, call_of}
+use Rattle.back_xdr.specs.Laws.{AreWords, call_of, called_by}
 use Rattle.back_xdr.specs.Leads as xdr_leads
 use Rattle.back_xdr.specs.Procedures.{procedure_of}
 use Rattle.back_xdr.specs.Seeking as xdr_seeking
+use Rattle.back_xdr.specs.Told.{BeginsCall}
 use Rattle.back_xdr.specs.Words.{IsWord}
 
 -- a back end that engines are made for
@@ -56,6 +59,11 @@ Begins b o c = BeginsOver b.back b o c
 abbrev pub Stops : Back → List ℕ → HeadErr → Type 0
 Stops back.Xdr o e = xdr.StopsWith xdr.call o e
 Stops _ o e = ⊥
+
+-- a message begins with the head of a call that asks for this operation of this interface
+abbrev pub AsksFor : Back → PlainInterface → PlainOperation → List ℕ → Type 0
+AsksFor back.Xdr i p o = (c : OncCall) × BeginsCall o c × (called_by c ≡ record { program = i.program; version = i.version; number = p.proc_no })
+AsksFor _ i p o = ⊥
 
 -- ---- the heads that are sent, as they are received
 

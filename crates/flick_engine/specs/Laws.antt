@@ -1,5 +1,5 @@
 -- Laws of what messages are.
-use Rattle.std.specs.Prelude.{◌≡◌, ℕ, List, Result, Ok}
+use Rattle.std.specs.Prelude.{◌≡◌, ◌<◌, ℕ, List, length, Result, Ok}
 use Rattle.mint.specs.Sound.{IsSound}
 use Rattle.mint.specs.Typed.{IsWellTyped}
 use Rattle.mint.specs.Values.{Val}
@@ -7,10 +7,14 @@ use Rattle.wire_def.specs.declared.head.Head.{Head}
 use Rattle.wire_def.specs.Grammar.{AreOctets}
 use Rattle.call_kit.specs.declared.called.Called.{Called}
 use Rattle.call_kit.specs.declared.called.Naming.TheVariants.{Operation}
-use Rattle.pres.specs.Bindings.{Binding}
+use Rattle.aoi.specs.Plain.{PlainInterface, PlainOperation}
+use Rattle.pres.specs.Bindings.{Binding, IsBinding}
+use Rattle.pres.specs.Faces.{type_of}
+use Rattle.pres.specs.Offers.{type_faces, request_of}
 use Rattle.flick_engine.specs.declared.errors.MessageErr.{MessageErr}
-use Rattle.flick_engine.specs.Backs.{IsMade, Says}
+use Rattle.flick_engine.specs.Backs.{IsMade, AsksFor, Begins, Says}
 use Rattle.flick_engine.specs.Messages.{request_type, message}
+use Rattle.flick_engine.specs.Operations.{IsOperation}
 use Rattle.flick_engine.specs.Received.{Asked, IsShort, ReadCall}
 
 -- what a message is, is determined
@@ -27,3 +31,13 @@ abbrev pub IsReadBack : Type 0
 IsReadBack = (b : Binding) (op : ℕ) (head : Head) (v : Val) (c : Called) → Says b op head c → c.naming ≡ Operation op
     → IsWellTyped (request_type b op) v → IsShort (message b op head v)
     → ReadCall b (message b op head v) (Ok (record { op = op; head = c.head; value = v }))
+
+-- each operation of a binding is one of its unit, and what goes into it are the parameters of that one
+abbrev pub AreTheUnits : Type 0
+AreTheUnits = (b : Binding) (op : ℕ) → IsBinding b → op < length b.ops
+    → (i : PlainInterface) × (p : PlainOperation) × IsOperation b op i p × (request_type b op ≡ type_of (request_of (type_faces b.unit) p))
+
+-- the operation that a message names is the one of the unit that its head asks for
+abbrev pub AreAskedFor : Type 0
+AreAskedFor = (b : Binding) (o : List ℕ) (c : Called) (op : ℕ) → Begins b o c → c.naming ≡ Operation op
+    → (i : PlainInterface) × (p : PlainOperation) × IsOperation b op i p × AsksFor b.back i p o

@@ -8,10 +8,6 @@ use Rattle.pres.specs.declared.ops.Op.{Op}
 use Rattle.pres.specs.Bindings.{Binding}
 use Rattle.flick_engine.specs.Backs.{encoding, lead}
 
--- the most octets of a message
-abbrev pub longest_message : ℕ
-longest_message = 4194304
-
 -- the type of what goes into an operation
 abbrev pub request_type : Binding → ℕ → Ty
 request_type b op = type_at b.nodes (slice_index_or (map (λ (o : Op). o.request) b.ops) op 0)

@@ -1,5 +1,6 @@
 -- What the octets of a message are for the operations of a binding.
 use Rattle.std.specs.Prelude.{◌≡◌, ◌↔◌, ℕ, ◌+◌, ◌<◌, ◌≤◌, List, length, drop, Result, Ok, Err}
+use Rattle.kit_base.specs.Limits.{longest_message}
 use Rattle.mint.specs.Values.{Val, seen}
 use Rattle.wire_def.specs.declared.head.Head.{Head}
 use Rattle.wire_def.specs.Spells.{IsSpelling}
@@ -13,7 +14,7 @@ use Rattle.flick_engine.specs.declared.requests.Request.{Request}
 use Rattle.flick_engine.specs.declared.errors.MessageErr.{MessageErr}
 use Rattle.flick_engine.specs.declared.errors.MessageErr.TheVariants as err
 use Rattle.flick_engine.specs.Backs.{Begins, Stops}
-use Rattle.flick_engine.specs.Messages.{longest_message, request_type}
+use Rattle.flick_engine.specs.Messages.{request_type}
 
 -- an operation, and the head and the value of a call of it
 pub record Asked : Type 0 where

@@ -1,5 +1,6 @@
 // What differs from one back end to another, from the crate of each.
 ghost use Rattle.std.specs.Prelude.{◌≡◌, ◌<◌, ◌≤◌, ◌+◌, ◌++◌, length, IfOk, IfErr, IfSome};
+ghost use Rattle.kit_base.specs.Limits.{longest_message};
 ghost use Rattle.wire_def.specs.declared.head.Head.{Head as SpecHead};
 ghost use Rattle.wire_def.specs.Lone.{IsPlain};
 ghost use Rattle.raw_buf.specs.Buf.{NoneFell};
@@ -38,7 +39,7 @@ impl Engine {
     pub(crate) fn lead_length(&self, op: u32) -> usize
         requires { op < length self.now.binding.ops }
         ensures length { (head : SpecHead) → length (lead self.now.binding op head) ≡ result }
-        ensures few { result ≤ 65536 }
+        ensures few { result ≤ longest_message }
     {
         match self.bound().back() {
             Back::Xdr => back_xdr::lead_length(),

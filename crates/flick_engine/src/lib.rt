@@ -13,5 +13,5 @@ mod unmarshal;
 pub use backs::back_of;
 pub use engine::Engine;
 pub use errors::{MarshalErr, MessageErr};
-pub use laws::{messages_are_decided, messages_are_read_back};
+pub use laws::{messages_are_decided, messages_are_read_back, operations_are_the_units};
 pub use requests::Request;

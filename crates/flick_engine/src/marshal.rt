@@ -1,22 +1,21 @@
 // Requests as messages.
 ghost use Rattle.std.specs.Prelude.{◌≡◌, ◌↔◌, ◌<◌, ◌≤◌, ◌+◌, ◌++◌, [], length, OnErr, OnOk, Err};
+ghost use Rattle.kit_base.specs.Limits.{longest_message};
 ghost use Rattle.mint.specs.Typed.{IsWellTyped};
 ghost use Rattle.mint.specs.Values.{seen};
 ghost use Rattle.raw_buf.specs.Buf.{NoneFell};
 ghost use Rattle.flick_engine.specs.Backs.{lead};
-ghost use Rattle.flick_engine.specs.Messages.{longest_message, request_type, message};
+ghost use Rattle.flick_engine.specs.Messages.{request_type, message};
 
 use crate::engine::Engine;
 use crate::errors::MarshalErr;
 use kit_base::Octets;
+use kit_base::limits::LONGEST_MESSAGE;
 use mint::value::Value;
 use plain_wire::plain_send;
 use raw_buf::SendBuf;
 use std::alloc::Global;
 use wire_def::Head;
-
-/// The most octets of a message.
-pub(crate) const LONGEST: usize = 4_194_304;
 
 impl Engine {
     /// Makes the message of a request in a buffer, whatever it held; where there is none, the buffer
@@ -62,7 +61,7 @@ impl Engine {
         ensures spent { NoneFell buf.old.spent buf.new.spent }
     {
         let position = self.lead_length(op);
-        if body.len() > LONGEST - position {
+        if body.len() > LONGEST_MESSAGE - position {
             return Err(MarshalErr::Long);
         }
         buf.ensure(position + body.len())?;

@@ -11,9 +11,9 @@ ghost use Rattle.flick_engine.specs.Received.{Answers, IsExactly, Names};
 
 use crate::engine::Engine;
 use crate::errors::MessageErr;
-use crate::marshal::LONGEST;
 use crate::requests::Request;
 use call_kit::{Called, Naming};
+use kit_base::limits::LONGEST_MESSAGE;
 use plain_wire::{Read, plain_read};
 use raw_buf::RecvView;
 use std::alloc::Global;
@@ -49,7 +49,7 @@ impl Engine {
         ensures err { IfErr result (λ e. IsExactly self.now.binding message.now (Err e)) }
         ensures memory { result ≢ Err MessageErr.NoMemory }
     {
-        if message.len() > LONGEST {
+        if message.len() > LONGEST_MESSAGE {
             return Err(MessageErr::Long);
         }
         match self.read_head(message) {

@@ -1,16 +1,16 @@
 -- What words name is known.
-use Rattle.std.proofs.Common.{◌≡◌, ℕ, Bool, true, false, List, [], ◌∷◌, Option, Some, None, refl}
+use Rattle.std.proofs.Common.{◌≡◌, ℕ, Bool, true, false, List, [], ◌∷◌, Option, Some, None}
 use Rattle.std.specs.Prelude.{IfSome, if◌then◌else◌, codes}
 use Rattle.std.specs.Str.{bytes_eq}
 use Rattle.idl_lex.specs.declared.kinds.Front.{Front}
-use Rattle.idl_lex.specs.declared.kinds.Front.TheVariants as front
 use Rattle.wire_def.specs.declared.encoding.Back.{Back}
-use Rattle.wire_def.specs.declared.encoding.Back.TheVariants as back
 use Rattle.flick_engine.specs.Backs.{IsMade, back_of}
+use Rattle.flick_engine.proofs.HeadsOfBacks.{back_made}
 use Rattle.flick_top.specs.declared.command.Command.TheVariants.{Help, Version}
 use Rattle.flick_top.specs.declared.command.Verb.{Verb}
 use Rattle.flick_top.specs.Command.{command_of, option_of, verb_of, over_file, IsKnown}
 use Rattle.flick_top.specs.Fronts.{front_of, IsRead}
+use Rattle.flick_top.proofs.UnitsOfFronts.{front_read}
 
 either : {A : Type 0} (b : Bool) (P : A → Type 0) (x y : Option A) → IfSome x P → IfSome y P → IfSome (if b then x else y) P
 either true P x y h g = h
@@ -18,12 +18,6 @@ either false P x y h g = g
 
 option_known : (word : List ℕ) → IfSome (option_of word) IsKnown
 option_known word = either (bytes_eq word (codes "--help")) IsKnown (Some Help) _ tt (either (bytes_eq word (codes "--version")) IsKnown (Some Version) None tt tt)
-
-front_read : (word : List ℕ) → IfSome (front_of word) IsRead
-front_read word = either (bytes_eq word (codes "onc")) IsRead (Some front.Onc) None tt tt
-
-back_made : (word : List ℕ) → IfSome (back_of word) IsMade
-back_made word = either (bytes_eq word (codes "xdr")) IsMade (Some back.Xdr) None tt tt
 
 over_known : (v : Option Verb) (f : Option Front) (b : Option Back) → IfSome f IsRead → IfSome b IsMade → IfSome (over_file v f b) IsKnown
 over_known None f b h g = tt
@@ -38,10 +32,3 @@ known (a ∷ b ∷ []) = tt
 known (a ∷ b ∷ c ∷ []) = tt
 known (verb ∷ front ∷ back ∷ file ∷ []) = over_known (verb_of verb) (front_of front) (back_of back) (front_read front) (back_made back)
 known (a ∷ b ∷ c ∷ d ∷ e ∷ words) = tt
-
--- ONC messages are the only ones that are made
-pub made_xdr : (k : Back) → IsMade k → k ≡ back.Xdr
-made_xdr back.Xdr made = refl
-made_xdr back.CdrBig made = absurd made
-made_xdr back.CdrLittle made = absurd made
-made_xdr back.Mach made = absurd made

@@ -1,18 +1,17 @@
 -- The words have one output over the files.
 use Rattle.std.proofs.Common.{◌≡◌, ℕ, List, [], ◌∷◌, ◌++◌, length, Bool, true, false, ◌||◌, Option, Some, None, Ok, Err, refl, sym, ap, ◌∙◌, subst}
-use Rattle.std.specs.Prelude.{nat_le, MatchBool, IfSome, if◌then◌else◌}
+use Rattle.std.specs.Prelude.{nat_le, MatchBool, if◌then◌else◌}
+use Rattle.kit_base.specs.Limits.{longest_file, longest_line}
 use Rattle.hex.specs.Hex.{decode_of}
 use Rattle.kit_base.specs.declared.lines.Line.{Line}
 use Rattle.kit_base.specs.declared.lines.Line.TheVariants.{Text, Long, End}
 use Rattle.kit_base.specs.Lines.{lines}
 use Rattle.wire_def.specs.declared.encoding.Back.{Back}
-use Rattle.wire_def.specs.declared.encoding.Back.TheVariants as back
 use Rattle.idl_lex.specs.declared.kinds.Front.{Front}
 use Rattle.aoi.specs.Plain.{PlainUnit}
 use Rattle.pres.specs.declared.errors.BindErr.{BindErr}
 use Rattle.pres.specs.Bindings.{Binding}
 use Rattle.pres.specs.Faults.{bind_fault}
-use Rattle.flick_engine.specs.Backs.{IsMade}
 use Rattle.flick_engine.specs.Engines.{Compiled}
 use Rattle.flick_top.specs.declared.command.Command.{Command}
 use Rattle.flick_top.specs.declared.command.Command.TheVariants as commands
@@ -26,14 +25,13 @@ use Rattle.flick_top.specs.declared.task.Job.{Job}
 use Rattle.flick_top.specs.declared.task.Job.TheVariants.{Marshal, Unmarshal}
 use Rattle.flick_top.specs.declared.task.Task.{Task}
 use Rattle.flick_top.specs.Answer.{Answering, IsAnswerTo, IsAnswer, IsAnswering, answers, is_refusal, refuses}
-use Rattle.flick_top.specs.Command.{command_of, word_at, IsKnown}
-use Rattle.flick_top.specs.File.{longest_file, Told, IsOver, BindSays, BoundSays, FileSays}
+use Rattle.flick_top.specs.Command.{command_of, word_at}
+use Rattle.flick_top.specs.File.{Told, IsOver, BindSays, BoundSays, FileSays}
 use Rattle.flick_top.specs.Fronts.{Read, UnitOf}
 use Rattle.flick_top.specs.Marshalled.{tree_of}
-use Rattle.flick_top.specs.Output.{longest_line, Files, saying_task, shapeless_task, job_of, task_over, IsOverFile, Comes, IsTask, AreAnswered, IsAnswered, Out, text_out, out_of}
+use Rattle.flick_top.specs.Output.{Files, saying_task, shapeless_task, job_of, task_over, IsOverFile, Comes, IsTask, AreAnswered, IsAnswered, Out, text_out, out_of}
 use Rattle.flick_top.proofs.Determined.{one_answer}
 use Rattle.flick_top.proofs.UnitsOfFronts.{one_unit}
-use Rattle.flick_top.proofs.Knowing.{known, made_xdr}
 use Rattle.flick_top.proofs.Twins.{AreTwins, tree_over, octets_over}
 
 -- ---- what a file says
@@ -57,19 +55,17 @@ AreTold _ _ = ⊥
 told_by : (r s x y : Told) → r ≡ x → s ≡ y → AreTold x y → AreTold r s
 told_by r s x y p q h = subst (λ (z : Told). AreTold z s) (sym p) (subst (λ (z : Told). AreTold x z) (sym q) h)
 
-twins : (k : Back) (u : PlainUnit) (b c : Binding) → IsMade k → IsOver u k b → IsOver u k c → AreTwins b c
-twins k u b c made one other =
-    let xdr : k ≡ back.Xdr = made_xdr k made in
-    record { units = one.unit ∙ sym other.unit; one = one.stands; other = other.stands; one_xdr = one.back ∙ xdr; other_xdr = other.back ∙ xdr }
+twins : (k : Back) (u : PlainUnit) (b c : Binding) → IsOver u k b → IsOver u k c → AreTwins b c
+twins k u b c one other = record { units = one.unit ∙ sym other.unit; backs = one.back ∙ sym other.back; one = one.stands; other = other.stands }
 
-bind_says : (k : Back) (u : PlainUnit) (e : Option BindErr) (r s : Told) → IsMade k → BindSays u k e r → BindSays u k e s → AreTold r s
-bind_says k u (Some e) r s made p q = told_by r s (Err (sayings.Bind e)) (Err (sayings.Bind e)) p q refl
-bind_says k u None r s made (b, one, p) (c, other, q) =
-    told_by r s (Ok (record { binding = b })) (Ok (record { binding = c })) p q (twins k u b c made one other)
+bind_says : (k : Back) (u : PlainUnit) (e : Option BindErr) (r s : Told) → BindSays u k e r → BindSays u k e s → AreTold r s
+bind_says k u (Some e) r s p q = told_by r s (Err (sayings.Bind e)) (Err (sayings.Bind e)) p q refl
+bind_says k u None r s (b, one, p) (c, other, q) =
+    told_by r s (Ok (record { binding = b })) (Ok (record { binding = c })) p q (twins k u b c one other)
 
-bound_says : (k : Back) (read : Read) (r s : Told) → IsMade k → BoundSays k read r → BoundSays k read s → AreTold r s
-bound_says k (Err e) r s made p q = told_by r s (Err e) (Err e) p q refl
-bound_says k (Ok u) r s made p q = bind_says k u (bind_fault u k) r s made p q
+bound_says : (k : Back) (read : Read) (r s : Told) → BoundSays k read r → BoundSays k read s → AreTold r s
+bound_says k (Err e) r s p q = told_by r s (Err e) (Err e) p q refl
+bound_says k (Ok u) r s p q = bind_says k u (bind_fault u k) r s p q
 
 -- ---- what the words come to
 
@@ -107,17 +103,17 @@ over_told v (Ok d) (Err f) t = absurd t
 over_told v (Err e) (Ok c) t = absurd t
 over_told v (Err e) (Err f) t = no_lines (saying_task e) (saying_task f) (saying_task f) refl (ap (λ (x : Saying). saying_task x) t) refl
 
-over_file : (n : Named) (content : Option (List ℕ)) (t u : Task) → IsMade n.back → IsOverFile n content t → IsOverFile n content u → AreTasks t u
-over_file n content t u made (x, r, px, pr, e) (y, s, py, ps, f) =
+over_file : (n : Named) (content : Option (List ℕ)) (t u : Task) → IsOverFile n content t → IsOverFile n content u → AreTasks t u
+over_file n content t u (x, r, px, pr, e) (y, s, py, ps, f) =
     let same : x ≡ y = file_says n.front content x y px py in
     tasks_by t u (task_over n.verb r) (task_over n.verb s) e f
-    (over_told n.verb r s (bound_says n.back y r s made (subst (λ (z : Read). BoundSays n.back z r) same pr) ps))
+    (over_told n.verb r s (bound_says n.back y r s (subst (λ (z : Read). BoundSays n.back z r) same pr) ps))
 
-over_files : (command : Option Command) (words : List (List ℕ)) (files : Files) (t u : Task) → IfSome command IsKnown → Comes command words files t → Comes command words files u → AreTasks t u
-over_files None words files t u all p q = no_lines t u shapeless_task refl p q
-over_files (Some commands.Help) words files t u all p q = no_lines t u (saying_task sayings.Help) refl p q
-over_files (Some commands.Version) words files t u all p q = no_lines t u (saying_task sayings.Version) refl p q
-over_files (Some (commands.Over n)) words files t u all p q = over_file n (files (word_at words n.file)) t u all.1 p q
+over_files : (command : Option Command) (words : List (List ℕ)) (files : Files) (t u : Task) → Comes command words files t → Comes command words files u → AreTasks t u
+over_files None words files t u p q = no_lines t u shapeless_task refl p q
+over_files (Some commands.Help) words files t u p q = no_lines t u (saying_task sayings.Help) refl p q
+over_files (Some commands.Version) words files t u p q = no_lines t u (saying_task sayings.Version) refl p q
+over_files (Some (commands.Over n)) words files t u p q = over_file n (files (word_at words n.file)) t u p q
 
 -- ---- what is written
 
@@ -165,4 +161,4 @@ tasks_output t u f g same h i input =
 
 pub one_output : (words : List (List ℕ)) (files : Files) (t u : Task) (f g : Answering) → IsTask words files t → IsTask words files u → IsAnswered t f → IsAnswered u g
     → (input : List ℕ) → out_of t f input ≡ out_of u g input
-one_output words files t u f g p q h i input = tasks_output t u f g (over_files (command_of words) words files t u (known words) p q) h i input
+one_output words files t u f g p q h i input = tasks_output t u f g (over_files (command_of words) words files t u p q) h i input

@@ -1,6 +1,7 @@
 -- All words and files have a task.
 use Rattle.std.proofs.Common.{◌≡◌, ℕ, Bool, true, false, List, length, Option, Some, None, Ok, Err, refl}
 use Rattle.std.specs.Prelude.{nat_le, MatchBool, IfSome}
+use Rattle.kit_base.specs.Limits.{longest_file}
 use Rattle.wire_def.specs.declared.encoding.Back.{Back}
 use Rattle.idl_lex.specs.declared.kinds.Front.{Front}
 use Rattle.aoi.specs.Plain.{PlainUnit, IsSoundPlain}
@@ -12,7 +13,7 @@ use Rattle.flick_top.specs.declared.command.Command.TheVariants as commands
 use Rattle.flick_top.specs.declared.saying.Saying.TheVariants as sayings
 use Rattle.flick_top.specs.declared.task.Task.{Task}
 use Rattle.flick_top.specs.Command.{command_of, word_at, IsKnown}
-use Rattle.flick_top.specs.File.{longest_file, Told, BindSays, BoundSays, FileSays}
+use Rattle.flick_top.specs.File.{Told, BindSays, BoundSays, FileSays}
 use Rattle.flick_top.specs.Fronts.{Read, IsRead, UnitOf}
 use Rattle.flick_top.specs.Laws.{WordsHaveTasks}
 use Rattle.flick_top.specs.Output.{Files, saying_task, shapeless_task, task_over, Comes, IsTask}

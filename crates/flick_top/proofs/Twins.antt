@@ -1,19 +1,17 @@
--- Bindings of one unit answer alike over Xdr, whatever numbers their nodes have.
+-- Bindings of one unit over one back end answer alike, whatever numbers their nodes have.
 use Rattle.std.proofs.Common.{◌≡◌, inl, inr, ℕ, zero, suc, ◌+◌, ◌<◌, ◌≤◌, List, [], ◌∷◌, ◌++◌, map, length, drop, Bool, true, false, Option, Some, None, Result, Ok, Err, refl, sym, ap, ◌∙◌, subst, arith}
-use Rattle.std.specs.Prelude.{codes, not, slice_get, slice_index_or, if◌then◌else◌}
+use Rattle.std.specs.Prelude.{codes, not, ◌&&◌, ◌==◌, slice_get, slice_index_or, if◌then◌else◌}
+use Rattle.std.specs.Option.{option_map_or}
 use Rattle.std.specs.Str.{bytes_eq}
 use Rattle.hex.specs.declared.error.FromHexError.{FromHexError}
 use Rattle.mint.specs.Types.{Ty}
 use Rattle.mint.specs.Values.{Val}
 use Rattle.wire_def.specs.declared.encoding.Back.{Back}
-use Rattle.wire_def.specs.declared.encoding.Back.TheVariants.{Xdr}
 use Rattle.wire_def.specs.declared.head.Head.{Head}
-use Rattle.wire_def.specs.declared.head.Order.TheVariants.{Big}
 use Rattle.wire_def.specs.Send.{send}
 use Rattle.wire_def.specs.Spells.{IsSpelling}
 use Rattle.wire_def.specs.Stops as bodies
-use Rattle.back_xdr.specs.declared.call.OncCall.{OncCall}
-use Rattle.aoi.specs.Plain.{PlainUnit, PlainInterface}
+use Rattle.aoi.specs.Plain.{PlainUnit, PlainInterface, PlainOperation}
 use Rattle.pres.specs.declared.ops.Op.{Op}
 use Rattle.pres.specs.Bindings.{Binding, IsBinding}
 use Rattle.pres.specs.Faces.{Face, at, faces, type_of}
@@ -23,36 +21,31 @@ use Rattle.serde_json.specs.Data.{Data, no_members, string, object, put}
 use Rattle.serde_json.specs.Written.{compact_text}
 use Rattle.json_shape.specs.declared.errors.RecordErr.{RecordErr}
 use Rattle.json_shape.specs.declared.errors.RecordErr.TheVariants as errors
-use Rattle.json_shape.specs.Members.{head_key, number_at, list_at, text_at}
-use Rattle.json_shape.specs.Operations.{dotted, op_from, op_named, is_oneway}
+use Rattle.json_shape.specs.Members.{is_mach, head_key, number_at, list_at, text_at}
+use Rattle.json_shape.specs.Operations.{dotted, op_from, op_named, sources, is_oneway}
 use Rattle.json_shape.specs.Records.{Begun}
-use Rattle.json_shape.specs.Requests.{head_of, is_request, is_unanswered, asked_of, request_of, head_json, request_json}
+use Rattle.json_shape.specs.Requests.{head_of, is_request, is_unanswered, asked, asked_of, request_of, head_json, request_json}
 use Rattle.json_shape.specs.Texts.{text_of}
 use Rattle.json_shape.specs.Written.{json_of}
 use Rattle.flick_engine.specs.declared.errors.MessageErr.{MessageErr}
 use Rattle.flick_engine.specs.declared.errors.MessageErr.TheVariants as err
-use Rattle.back_xdr.specs.Leads as xdr_leads
-use Rattle.back_xdr.specs.Procedures.{procedures, procedure_of}
 use Rattle.call_kit.specs.declared.called.Called.{Called}
 use Rattle.call_kit.specs.declared.called.Naming.{Naming}
 use Rattle.call_kit.specs.declared.called.Naming.TheVariants.{Operation}
 use Rattle.call_kit.specs.Calls.{IsBelow}
-use Rattle.back_xdr.specs.Seeking.{named, named_from, called, Calls}
 use Rattle.flick_engine.specs.Backs.{encoding, lead_over, lead, BeginsOver, Begins, Stops}
 use Rattle.flick_engine.specs.Messages.{request_type, message}
 use Rattle.flick_engine.specs.Received.{Asked, Names, ReadCall}
-use Rattle.back_xdr.proofs.Counting.{counted}
-use Rattle.back_xdr.proofs.NamedBelow.{named_below}
+use Rattle.flick_engine.proofs.HeadsOfBacks.{AreAlike, heads_alike}
 use Rattle.flick_top.specs.Marshalled.{digits_of, IsMessage, IsOfRecord, IsOfTree}
 use Rattle.flick_top.specs.Unmarshalled.{record_text, answer_text, IsOfOctets}
 
--- bindings over Xdr of one unit
+-- bindings of one unit over one back end
 pub record AreTwins (b c : Binding) : Type 0 where
   pub units : b.unit ≡ c.unit
+  pub backs : b.back ≡ c.back
   pub one : IsBinding b
   pub other : IsBinding c
-  pub one_xdr : b.back ≡ Xdr
-  pub other_xdr : c.back ≡ Xdr
 
 -- ---- operations
 
@@ -64,11 +57,8 @@ faces_in b = faces b.nodes b.shapes
 abbrev AreSame : List Face → List Face → List Op → List Op → Type 0
 AreSame fs gs os ps = map (offer_at fs) os ≡ map (offer_at gs) ps
 
-backs_alike : (b c : Binding) → AreTwins b c → b.back ≡ c.back
-backs_alike b c t = t.one_xdr ∙ sym t.other_xdr
-
 ops_alike : (b c : Binding) → AreTwins b c → AreSame (faces_in b) (faces_in c) b.ops c.ops
-ops_alike b c t = t.one.offered ∙ ap (offers b.unit) (backs_alike b c t) ∙ ap (λ (u : PlainUnit). offers u c.back) t.units ∙ sym t.other.offered
+ops_alike b c t = t.one.offered ∙ ap (offers b.unit) (t.backs) ∙ ap (λ (u : PlainUnit). offers u c.back) t.units ∙ sym t.other.offered
 
 first_same : (fs gs : List Face) (o p : Op) (os ps : List Op) → AreSame fs gs (o ∷ os) (p ∷ ps) → offer_at fs o ≡ offer_at gs p
 first_same fs gs o p os ps e = cc e
@@ -92,23 +82,14 @@ request_alike b c t op h =
     ∙ ap type_of (face_same (faces_in b) (faces_in c) b.ops c.ops op (ops_alike b c t) h)
     ∙ sym (type_at-face c.nodes c.shapes (slice_index_or (map (λ (o : Op). o.request) c.ops) op 0) t.other.named)
 
-place_same : {A : Type 0} (xs ys : List A) (n : ℕ) (d : A) → xs ≡ ys → slice_index_or xs n d ≡ slice_index_or ys n d
-place_same xs ys n d e = ap (λ zs. slice_index_or zs n d) e
-
-procedure_alike : (b c : Binding) → AreTwins b c → (op : ℕ) → procedure_of b op ≡ procedure_of c op
-procedure_alike b c t op = place_same _ _ op _ (ap (λ (u : PlainUnit). procedures u.interfaces) t.units)
-
 -- the head of an operation's call
 lead_alike : (b c : Binding) → AreTwins b c → (op : ℕ) (h : Head) → lead b op h ≡ lead c op h
-lead_alike b c t op h =
-    ap (λ (k : Back). lead_over k b op h) t.one_xdr
-    ∙ ap (λ z. xdr_leads.lead z h.id) (procedure_alike b c t op)
-    ∙ ap (λ (k : Back). lead_over k c op h) (sym t.other_xdr)
+lead_alike b c t op h = (heads_alike b c t.units t.one).leads op h ∙ ap (λ (k : Back). lead_over k c op h) t.backs
 
 message_alike : (b c : Binding) → AreTwins b c → (op : ℕ) → op < length b.ops → (h : Head) (v : Val) → message b op h v ≡ message c op h v
 message_alike b c t op below h v =
     ap (λ (l : List ℕ). l ++ send (encoding b.back) (request_type b op) (length l) v) (lead_alike b c t op h)
-    ∙ ap (λ (k : Back). lead c op h ++ send (encoding k) (request_type b op) (length (lead c op h)) v) (backs_alike b c t)
+    ∙ ap (λ (k : Back). lead c op h ++ send (encoding k) (request_type b op) (length (lead c op h)) v) (t.backs)
     ∙ ap (λ (ty : Ty). lead c op h ++ send (encoding c.back) ty (length (lead c op h)) v) (request_alike b c t op below)
 
 names_alike : (b c : Binding) → AreTwins b c → map (λ (i : PlainInterface). i.name) b.unit.interfaces ≡ map (λ (i : PlainInterface). i.name) c.unit.interfaces
@@ -146,31 +127,51 @@ found_alike n fs gs is js s k (o ∷ os) (p ∷ ps) names e fits =
     either_found n fs gs _ _ (Some (k, o)) (op_from is s (suc k) os) (Some (k, p)) (op_from js s (suc k) ps) test (refl, here, same)
     (found_alike n fs gs is js s (suc k) os ps names (rest_same fs gs o p os ps e) behind)
 
--- a request over Xdr
-abbrev begun_with : Data → ℕ → Face → Begun
-begun_with j n f = record { op = n; head = record { id = number_at (codes "xid") j; remote = 0; local = 0; wants = true; order = Big }; face = f; tree = list_at (codes "args") j }
+-- a request over a back end, of an operation that has a reply or none
+abbrev asked_over : Back → Bool → Data → ℕ → Face → Bool → Result Begun RecordErr
+asked_over k wants j n f reply =
+    if is_mach k && not reply && not (number_at (codes "local") j == 0) then Err errors.Head
+    else Ok (record { op = n; head = head_of k (number_at (head_key k) j) (number_at (codes "local") j) wants; face = f; tree = list_at (codes "args") j })
 
--- a request over a back end
-abbrev asked_over : Back → Bool → Data → ℕ → Op → Face → Result Begun RecordErr
-asked_over k wants j n o f = if is_unanswered k o j then Err errors.Head else Ok (record { op = n; head = head_of k (number_at (head_key k) j) (number_at (codes "local") j) wants; face = f; tree = list_at (codes "args") j })
+-- whether an operation of a unit is oneway
+abbrev oneway_over : Back → PlainUnit → ℕ → Bool
+oneway_over k u n = option_map_or (λ (p : PlainOperation). p.oneway) (slice_index_or (sources k u.interfaces) n None) false
 
-asked_xdr : (b : Binding) (j : Data) (x : ℕ × Op) → b.back ≡ Xdr → asked_of b j (Some x) ≡ Ok (begun_with j x.0 (at (faces_in b) x.1.request))
-asked_xdr b j x e = ap (λ (k : Back). asked_over k (not (is_oneway b x.0)) j x.0 x.1 (at (faces_in b) x.1.request)) e
+oneway_alike : (b c : Binding) → AreTwins b c → (n : ℕ) → is_oneway b n ≡ is_oneway c n
+oneway_alike b c t n = ap (λ (k : Back). oneway_over k b.unit n) t.backs ∙ ap (λ (u : PlainUnit). oneway_over c.back u n) t.units
+
+asked_alike : (b c : Binding) → AreTwins b c → (j : Data) (x y : ℕ × Op) → x.0 ≡ y.0 → offer_at (faces_in b) x.1 ≡ offer_at (faces_in c) y.1 → asked_of b j (Some x) ≡ asked_of c j (Some y)
+asked_alike b c t j x y number same =
+    let f : Face = at (faces_in b) x.1.request in
+    ap (λ (k : Back). asked_over k (not (is_oneway b x.0)) j x.0 f x.1.has_reply) t.backs
+    ∙ ap (λ (w : Bool). asked_over c.back (not w) j x.0 f x.1.has_reply) (oneway_alike b c t x.0)
+    ∙ ap (λ (n : ℕ). asked_over c.back (not (is_oneway c n)) j n f x.1.has_reply) number
+    ∙ ap (λ (z : Offer). asked_over c.back (not (is_oneway c y.0)) j y.0 z.request z.has_reply) same
+
+-- a request of one of so many operations, if it is a request
+abbrev IsOfFew : ℕ → Result Begun RecordErr → Type 0
+IsOfFew n (Err e) = Unit {0}
+IsOfFew n (Ok r) = r.op < n
+
+either_few : (n : ℕ) (p : Bool) (r : Begun) → r.op < n → IsOfFew n (if p then Err errors.Head else Ok r)
+either_few n true r h = tt
+either_few n false r h = h
 
 message_over : (b c : Binding) → AreTwins b c → (r : Begun) (a : List ℕ) → r.op < length b.ops → IsMessage b r a → IsMessage c r a
 message_over b c t r a below (inl (v, p, e)) = inl (v, p, e ∙ ap digits_of (message_alike b c t r.op below r.head v))
 message_over b c t r a below (inr h) = inr h
+
+begun_over : (b c : Binding) → AreTwins b c → (r : Result Begun RecordErr) (a : List ℕ) → IsOfFew (length b.ops) r → IsOfRecord b r a → IsOfRecord c r a
+begun_over b c t (Err e) a below h = h
+begun_over b c t (Ok r) a below h = message_over b c t r a below h
 
 found_over : (b c : Binding) → AreTwins b c → (j : Data) (x y : Option (ℕ × Op)) (a : List ℕ) → AreFound (length b.ops) (faces_in b) (faces_in c) x y → IsOfRecord b (asked_of b j x) a → IsOfRecord c (asked_of c j y) a
 found_over b c t j None None a f h = h
 found_over b c t j None (Some y) a f h = absurd f
 found_over b c t j (Some x) None a f h = absurd f
 found_over b c t j (Some x) (Some y) a (number, below, same) h =
-    let here : IsMessage b (begun_with j x.0 (at (faces_in b) x.1.request)) a = subst (λ (r : Result Begun RecordErr). IsOfRecord b r a) (asked_xdr b j x t.one_xdr) h in
-    let there : IsMessage c (begun_with j x.0 (at (faces_in b) x.1.request)) a = message_over b c t (begun_with j x.0 (at (faces_in b) x.1.request)) a below here in
-    let begun : begun_with j x.0 (at (faces_in b) x.1.request) ≡ begun_with j y.0 (at (faces_in c) y.1.request) =
-    ap (λ (n : ℕ). begun_with j n (at (faces_in b) x.1.request)) number ∙ ap (λ (z : Offer). begun_with j y.0 z.request) same in
-    subst (λ (r : Result Begun RecordErr). IsOfRecord c r a) (ap Ok begun ∙ sym (asked_xdr c j y t.other_xdr)) there
+    let few : IsOfFew (length b.ops) (asked_of b j (Some x)) = either_few (length b.ops) (is_unanswered b.back x.1 j) (asked b j x.0 x.1) below in
+    subst (λ (r : Result Begun RecordErr). IsOfRecord c r a) (asked_alike b c t j x y number same) (begun_over b c t (asked_of b j (Some x)) a few h)
 
 request_over : (b c : Binding) (p q : Bool) (x y : Result Begun RecordErr) (a : List ℕ) → p ≡ q → (IsOfRecord b x a → IsOfRecord c y a)
     → IsOfRecord b (if p then x else Err errors.Request) a → IsOfRecord c (if q then y else Err errors.Request) a
@@ -185,7 +186,7 @@ record_over b c t j a h =
     let found : AreFound (length b.ops) (faces_in b) (faces_in c) (op_named b s) (op_named c s) =
     found_alike (length b.ops) (faces_in b) (faces_in c) b.unit.interfaces c.unit.interfaces s 0 b.ops c.ops (names_alike b c t) (ops_alike b c t) (omega arith) in
     request_over b c (is_request b.back j) (is_request c.back j) (asked_of b j (op_named b s)) (asked_of c j (op_named c s)) a
-    (ap (λ (k : Back). is_request k j) (backs_alike b c t)) (found_over b c t j (op_named b s) (op_named c s) a found) h
+    (ap (λ (k : Back). is_request k j) (t.backs)) (found_over b c t j (op_named b s) (op_named c s) a found) h
 
 pub tree_over : (b c : Binding) → AreTwins b c → (tree : Option Data) (a : List ℕ) → IsOfTree b tree a → IsOfTree c tree a
 tree_over b c t None a h = h
@@ -193,29 +194,11 @@ tree_over b c t (Some j) a h = record_over b c t j a h
 
 -- ---- messages
 
-below_ops : (b : Binding) → IsBinding b → b.back ≡ Xdr → (k : OncCall) → IsBelow (length b.ops) (named b k)
-below_ops b stands xdr k =
-    let all : 0 + length (procedures b.unit.interfaces) ≡ length b.ops = omega (arith, counted b stands xdr) in
-    subst (λ (n : ℕ). IsBelow n (named b k)) all (named_below 0 b.unit.interfaces k)
-
--- what a call that names this says
-abbrev called_with : OncCall → Naming → Called
-called_with k n = record { naming = n; head = k.head; encoding = encoding Xdr; used = k.used }
-
-called_alike : (b c : Binding) → AreTwins b c → (k : OncCall) → called b k ≡ called c k
-called_alike b c t k = ap (called_with k) (ap (λ (u : PlainUnit). named_from 0 u.interfaces k) t.units)
-
-calls_over : (b c : Binding) → AreTwins b c → (o : List ℕ) (k : Called) → Calls b o k → Calls c o k
-calls_over b c t o k (call, begins, is) = (call, begins, sym (called_alike b c t call) ∙ is)
-
 begins_over : (b c : Binding) → AreTwins b c → (o : List ℕ) (k : Called) → Begins b o k → Begins c o k
-begins_over b c t o k h =
-    subst (λ (x : Back). BeginsOver x c o k) (sym t.other_xdr) (calls_over b c t o k (subst (λ (x : Back). BeginsOver x b o k) t.one_xdr h))
+begins_over b c t o k h = subst (λ (x : Back). BeginsOver x c o k) t.backs ((heads_alike b c t.units t.one).begins o k h)
 
 begins_below : (b c : Binding) → AreTwins b c → (o : List ℕ) (k : Called) → Begins b o k → IsBelow (length b.ops) k.naming
-begins_below b c t o k h = go (subst (λ (x : Back). BeginsOver x b o k) t.one_xdr h) where
-  go : Calls b o k → IsBelow (length b.ops) k.naming
-  go (call, begins, is) = subst (λ (x : Called). IsBelow (length b.ops) x.naming) is (below_ops b t.one t.one_xdr call)
+begins_below b c t o k h = (heads_alike b c t.units t.one).below o k h
 
 -- the request of an operation that a message names
 named_request : (b c : Binding) → AreTwins b c → (o : List ℕ) (k : Called) (op : ℕ) → Names b o k (Operation op) → request_type b op ≡ request_type c op
@@ -227,7 +210,7 @@ names_over b c t o k n (short, begins, is) = (short, begins_over b c t o k begin
 
 read_over : (b c : Binding) → AreTwins b c → (o : List ℕ) (x : Result Asked MessageErr) → ReadCall b o x → ReadCall c o x
 read_over b c t o (Err err.Long) h = h
-read_over b c t o (Err (err.Head e)) (short, stops) = (short, subst (λ (x : Back). Stops x o e) (backs_alike b c t) stops)
+read_over b c t o (Err (err.Head e)) (short, stops) = (short, subst (λ (x : Back). Stops x o e) (t.backs) stops)
 read_over b c t o (Err err.NoInterface) (k, names) = (k, names_over b c t o k _ names)
 read_over b c t o (Err err.NoOperation) (k, names) = (k, names_over b c t o k _ names)
 read_over b c t o (Err (err.Body f)) (k, op, names, stops) =
@@ -245,7 +228,7 @@ json_with name k f h v = object (put (codes "op") (string (text_of name)) (head_
 json_alike : (b c : Binding) → AreTwins b c → (o p : Op) (h : Head) (v : Val) → offer_at (faces_in b) o ≡ offer_at (faces_in c) p → request_json b o h v ≡ request_json c p h v
 json_alike b c t o p h v same =
     ap (λ (d : List ℕ). json_with d b.back (at (faces_in b) o.request) h v) (dotted_alike (faces_in b) (faces_in c) b.unit.interfaces c.unit.interfaces o p (names_alike b c t) same)
-    ∙ ap (λ (k : Back). json_with (dotted c.unit.interfaces p) k (at (faces_in b) o.request) h v) (backs_alike b c t)
+    ∙ ap (λ (k : Back). json_with (dotted c.unit.interfaces p) k (at (faces_in b) o.request) h v) (t.backs)
     ∙ ap (λ (z : Offer). json_with (dotted c.unit.interfaces p) c.back z.request h v) same
 
 text_alike : (b c : Binding) → AreTwins b c → (r : Asked) (os ps : List Op) (n : ℕ) → AreSame (faces_in b) (faces_in c) os ps → record_text b (slice_get os n) r ≡ record_text c (slice_get ps n) r

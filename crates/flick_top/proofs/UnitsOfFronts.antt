@@ -1,5 +1,7 @@
 -- A text has a unit that is sound, or a saying, and one alone, whatever its front end.
-use Rattle.std.proofs.Common.{◌≡◌, ◌⊎◌, inl, inr, ℕ, ◌≤◌, List, [], ◌∷◌, ◌++◌, length, Result, Ok, Err, refl, sym, ap, ◌∙◌, subst, arith}
+use Rattle.std.proofs.Common.{◌≡◌, ◌⊎◌, inl, inr, ℕ, ◌≤◌, List, [], ◌∷◌, ◌++◌, length, Bool, true, false, Option, Some, None, Result, Ok, Err, refl, sym, ap, ◌∙◌, subst, arith}
+use Rattle.std.specs.Prelude.{IfSome, if◌then◌else◌, codes}
+use Rattle.std.specs.Str.{bytes_eq}
 use Rattle.idl_lex.specs.declared.kinds.Front.{Front}
 use Rattle.idl_lex.specs.declared.kinds.Front.TheVariants as front
 use Rattle.idl_lex.specs.declared.kinds.Token.{Token}
@@ -16,7 +18,7 @@ use Rattle.front_onc.specs.Resolved.{resolved}
 use Rattle.front_onc.proofs.Derived.{derived_whole}
 use Rattle.front_onc.proofs.Whole.{resolved_sound}
 use Rattle.flick_top.specs.declared.saying.Saying.TheVariants as sayings
-use Rattle.flick_top.specs.Fronts.{Read, IsRead, in_words, OncTokensSay, OncTextSays, UnitOf}
+use Rattle.flick_top.specs.Fronts.{Read, IsRead, front_of, in_words, OncTokensSay, OncTextSays, UnitOf}
 
 -- ---- files in the ONC RPC language
 
@@ -75,6 +77,14 @@ text_has text (inl (tokens, are)) = tokens_have text tokens are (tokens_decided 
 text_has text (inr (fault, is)) = (Err (sayings.Lex fault), inr (fault, is, refl), tt)
 
 -- ---- each front end
+
+either : {A : Type 0} (b : Bool) (P : A → Type 0) (x y : Option A) → IfSome x P → IfSome y P → IfSome (if b then x else y) P
+either true P x y h g = h
+either false P x y h g = g
+
+-- what words name is read
+pub front_read : (word : List ℕ) → IfSome (front_of word) IsRead
+front_read word = either (bytes_eq word (codes "onc")) IsRead (Some front.Onc) None tt tt
 
 pub one_unit : (k : Front) (text : List ℕ) (r s : Read) → UnitOf k text r → UnitOf k text s → r ≡ s
 one_unit front.Onc text r s p q = onc_text text r s p q

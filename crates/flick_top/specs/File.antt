@@ -1,5 +1,6 @@
 -- What the content of a file comes to: a unit, and what is made of it over a back end, or what is said instead.
 use Rattle.std.specs.Prelude.{◌≡◌, ℕ, List, length, nat_le, MatchBool, Option, Some, None, Result, Ok, Err}
+use Rattle.kit_base.specs.Limits.{longest_file}
 use Rattle.wire_def.specs.declared.encoding.Back.{Back}
 use Rattle.idl_lex.specs.declared.kinds.Front.{Front}
 use Rattle.aoi.specs.Plain.{PlainUnit, plain, IsSoundPlain}
@@ -13,10 +14,6 @@ use Rattle.flick_engine.specs.Engines.{Compiled}
 use Rattle.flick_top.specs.declared.saying.Saying.{Saying}
 use Rattle.flick_top.specs.declared.saying.Saying.TheVariants.{NoFile, TooLarge, Bind}
 use Rattle.flick_top.specs.Fronts.{Read, UnitOf}
-
--- the greatest length of a file, in octets
-abbrev pub longest_file : ℕ
-longest_file = 1048576
 
 -- what the content of a file says, where there is the file
 abbrev pub FileSays : Front → Option (List ℕ) → Read → Type 0

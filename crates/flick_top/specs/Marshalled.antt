@@ -1,6 +1,7 @@
 -- The answers of `marshal`: the messages of request records.
 use Rattle.std.specs.Prelude.{◌≡◌, ◌⊎◌, ℕ, List, length, nat_le, ◌==◌, if◌then◌else◌, Option, Some, None, Result, Ok, Err, codes}
 use Rattle.std.specs.Str.Lossy.{utf8_valid_len}
+use Rattle.kit_base.specs.Limits.{longest_message}
 use Rattle.hex.specs.Hex.{encode_lower}
 use Rattle.serde_json.specs.Data.{Data}
 use Rattle.serde_json.specs.Read.{read}
@@ -11,7 +12,7 @@ use Rattle.json_shape.specs.declared.errors.RecordErr.TheVariants as errors
 use Rattle.json_shape.specs.Presents.{Presents}
 use Rattle.json_shape.specs.Records.{Begun}
 use Rattle.json_shape.specs.Requests.{request_of}
-use Rattle.flick_engine.specs.Messages.{longest_message, message}
+use Rattle.flick_engine.specs.Messages.{message}
 
 -- the tree of a line, where it is JSON
 abbrev pub tree_of : List ℕ → Option Data

@@ -1,5 +1,6 @@
 -- What a command comes to over the files, and what it then writes over an input.
 use Rattle.std.specs.Prelude.{◌≡◌, ℕ, List, [], ◌++◌, if◌then◌else◌, Option, Some, None, Ok, Err}
+use Rattle.kit_base.specs.Limits.{longest_line}
 use Rattle.kit_base.specs.Lines.{lines}
 use Rattle.flick_engine.specs.Engines.{Compiled}
 use Rattle.flick_top.specs.declared.command.Command.{Command}
@@ -20,14 +21,6 @@ use Rattle.flick_top.specs.File.{Told, FileSays, BoundSays}
 use Rattle.flick_top.specs.Fronts.{Read}
 use Rattle.flick_top.specs.Saying.{said, ending}
 use Rattle.flick_top.specs.Status.{number_of}
-
--- the greatest length of an input line, in octets
-abbrev pub longest_line : ℕ
-longest_line = 8388608
-
--- the greatest number of octets that a call takes from its source
-abbrev pub most_input : ℕ
-most_input = 1073741824
 
 -- files by their paths
 abbrev pub Files : Type 0

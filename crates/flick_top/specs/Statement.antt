@@ -3,12 +3,13 @@
 use Rattle.std.specs.Prelude.{◌≡◌, ◌≢◌, ◌⊎◌, ◌↔◌, ℕ, ◌<◌, ◌≤◌, List, [], ◌∷◌, ◌++◌, length, Bool, if◌then◌else◌, ◌==◌, Option, None, Some}
 use Rattle.std.specs.List.{list_any}
 use Rattle.std.specs.Io.KnownBytes.{Appends, Consumes, IsAtEnd}
+use Rattle.kit_base.specs.Limits.{most_input}
 use Rattle.kit_base.specs.Causes.{Rose}
 use Rattle.flick_top.specs.declared.task.Job.{Job}
 use Rattle.flick_top.specs.declared.task.Task.{Task}
 use Rattle.flick_top.specs.Answer.{Answering}
 use Rattle.flick_top.specs.Command.{command_of, HasFile}
-use Rattle.flick_top.specs.Output.{Files, IsTask, IsAnswered, Out, out_of, most_input}
+use Rattle.flick_top.specs.Output.{Files, IsTask, IsAnswered, Out, out_of}
 
 -- what the source told at entry
 abbrev pub Input : Type 0

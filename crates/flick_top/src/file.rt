@@ -12,12 +12,10 @@ use aoi::Unit;
 use flick_engine::Engine;
 use idl_lex::Front;
 use kit_base::NoMemory;
+use kit_base::limits::LONGEST_FILE;
 use pres::{BindErr, bind};
 use std::alloc::Global;
 use wire_def::Back;
-
-/// The greatest length of a file, in octets.
-pub const LONGEST_FILE: u32 = 1_048_576;
 
 /// The unit of a file's content, or what is said instead.
 pub fn read_content(

@@ -1,5 +1,6 @@
 // What differs from one front end to another: its name, and the unit of a text.
 ghost use Rattle.std.specs.Prelude.{◌≡◌, ◌≤◌, Err, IfOk, IfSome, length};
+ghost use Rattle.kit_base.specs.Limits.{longest_file};
 ghost use Rattle.aoi.specs.declared.faults.NameFault.TheVariants.{NoMemory as WantOfMemory};
 ghost use Rattle.front_onc.specs.Resolved.{IsWhole, resolved};
 ghost use Rattle.flick_top.specs.declared.saying.Saying.TheVariants as sayings;
@@ -28,7 +29,7 @@ pub fn front_of(word: &[u8]) -> Option<Front>
 /// The unit of a text, or what is said instead.
 pub fn unit_of(alloc: Global, front: Front, text: &[u8]) -> Result<Result<Unit, Saying>, NoMemory>
     requires read { IsRead front }
-    requires short { length text.now ≤ 1048576 }
+    requires short { length text.now ≤ longest_file }
     ensures says { IfOk result (λ read. UnitOf front text.now (plainly read)) }
     ensures sound { IfOk result IsSoundly }
 {
@@ -41,7 +42,7 @@ pub fn unit_of(alloc: Global, front: Front, text: &[u8]) -> Result<Result<Unit, 
 // ---- files in the ONC RPC language
 
 fn onc_unit(alloc: Global, text: &[u8]) -> Result<Result<Unit, Saying>, NoMemory>
-    requires { length text.now ≤ 1048576 }
+    requires { length text.now ≤ longest_file }
     ensures says { IfOk result (λ read. OncTextSays text.now (plainly read)) }
     ensures sound { IfOk result IsSoundly }
 {

@@ -10,12 +10,13 @@ ghost use Rattle.flick_top.specs.Turn.{IsReady};
 ghost use Rattle.flick_top.specs.declared.command.Named.{Named as SpecNamed};
 
 use crate::command::{Command, Named, Verb, word_at};
-use crate::file::{LONGEST_FILE, made_of, read_content};
+use crate::file::{made_of, read_content};
 use crate::saying::Saying;
 use crate::status::Status;
 use aoi::Unit;
 use flick_engine::Engine;
 use idl_lex::Front;
+use kit_base::limits::LONGEST_FILE;
 use kit_base::{NoMemory, Octets, Shelf, ShelfErr, Words};
 use std::alloc::Global;
 

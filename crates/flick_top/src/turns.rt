@@ -11,13 +11,10 @@ ghost use Rattle.flick_top.specs.Turn.{status_at, IsReady};
 use crate::answer::{answer_to, is_refusal};
 use crate::status::Status;
 use crate::task::{Job, Task};
+use kit_base::limits::{LONGEST_LINE, MOST_INPUT};
 use kit_base::{Failed, LineErr, Lines, Sink, Source, write_whole};
 use raw_buf::SendBuf;
 use std::alloc::Global;
-
-const LONGEST_LINE: u32 = 8_388_608;
-
-const MOST_INPUT: u64 = 1_073_741_824;
 
 /// Does a task: writes its text, and then answers the lines of the input, where it answers lines.
 pub fn perform<S: Source, K: Sink>(

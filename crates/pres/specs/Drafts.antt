@@ -1,6 +1,7 @@
 -- Nodes that are drawn for a unit before they stand in a table.
 use Rattle.std.specs.Prelude.{IsTrue, ◌≡◌, ◌≢◌, ◌<◌, ◌≤◌, Bool, true, ◌&&◌, nat_lt, ℕ, suc, ℤ, List, [], ◌∷◌, ◌++◌, map, length, Option, None, Some}
 use Rattle.std.specs.List.{AllByRecursion}
+use Rattle.kit_base.specs.Limits.{most_nodes}
 use Rattle.mint.specs.declared.kind.Kind.{Kind}
 use Rattle.mint.specs.Types.{IsTable, ArmsBelow, IsBelow}
 use Rattle.mint.specs.declared.node.Node.{Node}
@@ -32,7 +33,7 @@ known s = map (at (drawn s)) s.types
 pub record IsSketch (s : Sketch) : Type 0 where
   pub table : IsTable s.nodes
   pub named : AreNamed s.nodes s.shapes
-  pub few : length s.nodes ≤ 65536
+  pub few : length s.nodes ≤ most_nodes
   pub below : AllByRecursion (λ i. i < length s.nodes) s.types
 
 -- a sketch with nodes behind those of another
@@ -52,7 +53,7 @@ pub record AreDrawn (s : Sketch) (ids : List ℕ) (fs : List Face) : Type 0 wher
 
 -- the refusal where there would be too many nodes
 abbrev pub Overflows : List Face → BindErr → Type 0
-Overflows fs e = e ≢ err.NoMemory → (e ≡ err.Many) × (65536 < length fs)
+Overflows fs e = e ≢ err.NoMemory → (e ≡ err.Many) × (most_nodes < length fs)
 
 -- a type that names types below a limit, and whose enums and structs have different names
 abbrev mutual

@@ -1,6 +1,7 @@
 -- Why a unit is not bound.
 use Rattle.std.specs.Prelude.{Bool, not, ◌&&◌, ◌||◌, ◌==◌, nat_lt, ℕ, suc, ◌+◌, List, length, sum_by, Option, None, Some, if◌then◌else◌}
 use Rattle.std.specs.List.{list_any}
+use Rattle.kit_base.specs.Limits.{deepest, heaviest_blank, longest_name, most_nodes, most_operation_nodes, most_unit_nodes}
 use Rattle.mint.specs.Blank.{blank, depth}
 use Rattle.mint.specs.Values.{weight}
 use Rattle.wire_def.specs.declared.encoding.Back.{Back}
@@ -22,13 +23,13 @@ has_raises u = list_any (λ (i : PlainInterface). list_any raises i.ops) u.inter
 abbrev pub is_raised_in_vain : PlainUnit → Back → Bool
 is_raised_in_vain u b = not (is_cdr b) && has_raises u
 
--- more than 32 levels
+-- more levels than a type may have
 abbrev pub is_deep : Face → Bool
-is_deep f = nat_lt 32 (depth (type_of f))
+is_deep f = nat_lt deepest (depth (type_of f))
 
--- a blank value of weight above 1,048,576
+-- a blank value that is too heavy
 abbrev pub is_heavy : Face → Bool
-is_heavy f = nat_lt 1048576 (weight (blank (type_of f)))
+is_heavy f = nat_lt heaviest_blank (weight (blank (type_of f)))
 
 -- how many nodes stand in the tree
 abbrev mutual
@@ -55,9 +56,9 @@ abbrev mutual
 abbrev pub spread_of : Offer → ℕ
 spread_of o = spread o.request + spread o.reply
 
--- more than 16,777,216 octets
+-- more octets than a name may have
 abbrev pub is_long : List ℕ → Bool
-is_long name = nat_lt 16777216 (length name)
+is_long name = nat_lt longest_name (length name)
 
 -- an operation whose name, or the id of an exception of which, is long
 abbrev pub has_long : PlainOperation → Bool
@@ -67,9 +68,9 @@ has_long op = is_long op.name || list_any (λ (r : PlainRaise). is_long r.id) op
 abbrev pub has_long_in : PlainInterface → Bool
 has_long_in i = is_long i.name || list_any has_long i.ops
 
--- operations of which one spreads over more than 65,536 nodes, or all over more than 262,144
+-- operations of which one, or all together, spread over too many nodes
 abbrev pub is_spread : List Offer → Bool
-is_spread os = list_any (λ o. nat_lt 65536 (spread_of o)) os || nat_lt 262144 (sum_by spread_of os)
+is_spread os = list_any (λ o. nat_lt most_operation_nodes (spread_of o)) os || nat_lt most_unit_nodes (sum_by spread_of os)
 
 abbrev pub is_wide : PlainUnit → Back → Bool
 is_wide u b = list_any has_long_in u.interfaces || is_spread (offers u b)
@@ -78,7 +79,7 @@ is_wide u b = list_any has_long_in u.interfaces || is_spread (offers u b)
 abbrev pub bind_fault : PlainUnit → Back → Option BindErr
 bind_fault u b =
     if is_raised_in_vain u b then Some err.Raises
-    else (if nat_lt 65536 (length (all_made u b)) then Some err.Many
+    else (if nat_lt most_nodes (length (all_made u b)) then Some err.Many
     else (if list_any is_deep (all_made u b) then Some err.Deep
     else (if list_any is_heavy (all_made u b) then Some err.Heavy
     else (if is_wide u b then Some err.Wide

@@ -1,6 +1,7 @@
 -- How deep faces are, and over how many nodes they spread, up to one more than is allowed.
 use Rattle.std.specs.Prelude.{Bool, ◌||◌, nat_lt, ℕ, suc, ◌+◌, min, max, List, [], ◌∷◌, slice_index_or, sum_by, Option, None, Some, ℤ}
 use Rattle.std.specs.List.{list_any}
+use Rattle.kit_base.specs.Limits.{deepest, most_operation_nodes, most_unit_nodes}
 use Rattle.mint.specs.Blank.{depth, fields_depth, arms_depth}
 use Rattle.mint.specs.declared.node.Node.{Node}
 use Rattle.mint.specs.declared.node.Node.TheVariants as node
@@ -11,7 +12,7 @@ use Rattle.pres.specs.Faces.{Face, Parts, Arms, type_of, types_of, arm_types_of}
 use Rattle.pres.specs.Faults.{spread, spread_inside, spread_behind, has_long_in}
 
 abbrev pub sized : ℕ → ℕ → Size
-sized d n = record { depth = min d 33; nodes = min n 65537 }
+sized d n = record { depth = min d (suc deepest); nodes = min n (suc most_operation_nodes) }
 
 -- the size of a face
 abbrev pub size_of : Face → Size
@@ -59,7 +60,7 @@ size_at sizes _ = sized 1 1
 
 -- a size of too many levels
 abbrev pub has_deep : List Size → Bool
-has_deep sizes = list_any (λ (s : Size). nat_lt 32 s.depth) sizes
+has_deep sizes = list_any (λ (s : Size). nat_lt deepest s.depth) sizes
 
 -- the nodes of an operation's messages, each up to the limit
 abbrev pub nodes_of : List Size → Op → ℕ
@@ -67,7 +68,7 @@ nodes_of sizes o = (at sizes o.request).nodes + (at sizes o.reply).nodes
 
 -- operations with too many nodes, one of them or all
 abbrev pub is_over : List Size → List Op → Bool
-is_over sizes ops = list_any (λ o. nat_lt 65536 (nodes_of sizes o)) ops || nat_lt 262144 (sum_by (nodes_of sizes) ops)
+is_over sizes ops = list_any (λ o. nat_lt most_operation_nodes (nodes_of sizes o)) ops || nat_lt most_unit_nodes (sum_by (nodes_of sizes) ops)
 
 -- a unit with a long name in it, or operations with too many nodes
 abbrev pub is_too_wide : PlainUnit → List Size → List Op → Bool

@@ -1,5 +1,6 @@
 // Nodes of a unit, before they stand in a table.
 ghost use Rattle.std.specs.Prelude.{map, ◌≡◌, ◌<◌, ◌≤◌, [], ◌∷◌, ◌++◌, length, IfOk, IfErr, OnOk, OnErr, Some, slice_get};
+ghost use Rattle.kit_base.specs.Limits.{most_nodes};
 ghost use Rattle.mint.specs.Types.{HasChildrenBelow};
 ghost use Rattle.pres.specs.declared.draft.Entry.{Entry as EntryRecord};
 ghost use Rattle.pres.specs.Drafts.{IsSketch, Grows, IsDrawn, Overflows, drawn, known};
@@ -8,13 +9,11 @@ ghost use Rattle.pres.specs.Named.{IsNamed};
 
 use crate::{BindErr, Shape};
 use kit_base::NoMemory;
+use kit_base::limits::MOST_NODES;
 use mint::node::{Node, NodeIds};
 use mint::table::NodeId;
 use std::alloc::Global;
 use std::marker::Model;
-
-/// The most nodes of a table.
-const NODES: usize = 65_536;
 
 /// A node with its shape.
 #[derive(Drop)]
@@ -61,10 +60,10 @@ impl Draft {
         ensures grows { OnOk result (Grows self.old self.new (level (drawn self.old) node shape ∷ [])) }
         ensures id { IfOk result (λ id. IsDrawn self.new id (level (drawn self.old) node shape)) }
         ensures cause { IfErr result (λ e. Overflows (drawn self.old ++ level (drawn self.old) node shape ∷ []) e) }
-        ensures memory { IfErr result (λ e. e ≡ BindErr.NoMemory → length (drawn self.old) < 65536) }
+        ensures memory { IfErr result (λ e. e ≡ BindErr.NoMemory → length (drawn self.old) < most_nodes) }
     {
         let id = self.len();
-        if id >= NODES {
+        if id >= MOST_NODES {
             return Err(BindErr::Many);
         }
         self.put(node, shape)?;
@@ -72,7 +71,7 @@ impl Draft {
     }
 
     fn put(&mut self, node: Node, shape: Shape) -> Result<(), NoMemory>
-        requires room { length (drawn self.old) < 65536 }
+        requires room { length (drawn self.old) < most_nodes }
         requires below { HasChildrenBelow (length (drawn self.old)) node }
         requires named { IsNamed node shape }
         ensures grows { OnOk result (Grows self.old self.new (level (drawn self.old) node shape ∷ [])) }
@@ -113,7 +112,7 @@ impl Draft {
     /// How many nodes there are.
     pub(crate) fn len(&self) -> usize
         ensures value { result ≡ length (drawn self.now) }
-        ensures few { result ≤ 65536 }
+        ensures few { result ≤ most_nodes }
     {
         self.entries.len()
     }

@@ -1,6 +1,7 @@
 // Why a unit is not bound.
 ghost use Rattle.std.specs.Prelude.{◌≡◌, ◌<◌, nat_lt, length, map};
 ghost use Rattle.std.specs.List.{list_any, AllByRecursion};
+ghost use Rattle.kit_base.specs.Limits.{deepest};
 ghost use Rattle.aoi.specs.Plain.{PlainRaise, PlainInterface, plain_raise, plain_operation, plain_interface};
 ghost use Rattle.pres.specs.declared.ops.Op.{Op as OpRecord};
 ghost use Rattle.pres.specs.declared.sizes.Size.{Size as SizeRecord};
@@ -11,15 +12,7 @@ use crate::Op;
 use crate::sizes::Size;
 use aoi::{Interface, Operation, Raise};
 use kit_base::Name;
-
-/// The most octets of a name.
-const NAME: usize = 16_777_216;
-
-/// The most nodes in the request and the reply of an operation.
-const EACH: u64 = 65_536;
-
-/// The most nodes in all requests and replies.
-const ALL: u64 = 262_144;
+use kit_base::limits::{DEEPEST, LONGEST_NAME, MOST_OPERATION_NODES, MOST_UNIT_NODES};
 
 fn is_raise_in(ops: &[Operation]) -> bool
     ensures { result ≡ list_any raises (map plain_operation ops.now) }
@@ -47,7 +40,7 @@ pub(crate) fn has_raises(interfaces: &[Interface]) -> bool
 fn is_long(name: &Name) -> bool
     ensures { result ≡ is_long name.now }
 {
-    name.len() > NAME
+    name.len() > LONGEST_NAME
 }
 
 fn is_long_id(raises: &[Raise]) -> bool
@@ -98,10 +91,10 @@ pub(crate) fn has_long_names(interfaces: &[Interface]) -> bool
 
 /// Whether a type has too many levels.
 pub(crate) fn is_deep(sizes: &[Size]) -> bool
-    ensures { result ≡ list_any (λ (s : SizeRecord). nat_lt 32 s.depth) sizes.now }
+    ensures { result ≡ list_any (λ (s : SizeRecord). nat_lt deepest s.depth) sizes.now }
 {
     for size in sizes {
-        if size.depth > 32 {
+        if size.depth > DEEPEST {
             return true;
         }
     }
@@ -117,10 +110,10 @@ pub(crate) fn is_over(sizes: &[Size], ops: &[Op]) -> bool
     for op in ops {
         let request = u64::from(sizes[op.request as usize].nodes);
         let reply = u64::from(sizes[op.reply as usize].nodes);
-        if request + reply > EACH {
+        if request + reply > MOST_OPERATION_NODES {
             return true;
         }
-        total = (total + request + reply).min(ALL + 1);
+        total = (total + request + reply).min(MOST_UNIT_NODES + 1);
     }
-    total > ALL
+    total > MOST_UNIT_NODES
 }

@@ -1,21 +1,23 @@
 // How deep types are, and over how many nodes they spread.
 ghost use Rattle.std.specs.Prelude.{◌≡◌, ◌<◌, ◌≤◌, length, map, IfOk, List, ℕ};
 ghost use Rattle.std.specs.List.{AllByRecursion};
+ghost use Rattle.kit_base.specs.Limits.{most_nodes};
 ghost use Rattle.mint.specs.Types.{HasChildrenBelow, AreBelow, ArmsBelow, IsBelow};
 ghost use Rattle.pres.specs.Drafts.{drawn};
 ghost use Rattle.pres.specs.Sizes.{at, beside, over, sized, no_size, inside_at, behind_at, other_at, size_at, size_of};
 
 use crate::draft::Draft;
 use kit_base::NoMemory;
+use kit_base::limits::{DEEPEST, MOST_OPERATION_NODES};
 use mint::node::{Arms, Node, NodeIds};
 use mint::table::NodeId;
 use std::alloc::Global;
 
 /// The least depth that is refused.
-const DEEP: u32 = 33;
+const DEEP: u32 = DEEPEST + 1;
 
 /// The least number of nodes that is refused.
-const WIDE: u32 = 65_537;
+const WIDE: u32 = MOST_OPERATION_NODES as u32 + 1;
 
 /// A depth and a number of nodes, up to the least that are refused.
 #[derive(Clone, Copy, Debug, PartialEq, Eq)]
@@ -112,7 +114,7 @@ impl Draft {
     /// The sizes of all nodes.
     pub(crate) fn sizes(&self, alloc: Global) -> Result<Vec<Size>, NoMemory>
         ensures value { IfOk result (λ sizes. sizes.items ≡ map size_of (drawn self.now)) }
-        ensures few { length (drawn self.now) ≤ 65536 }
+        ensures few { length (drawn self.now) ≤ most_nodes }
     {
         let mut sizes = Vec::new(alloc);
         for id in 0..self.len() {
