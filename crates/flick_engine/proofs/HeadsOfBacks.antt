@@ -145,31 +145,41 @@ heads_alike b c units stands = alike_over b c units b.back stands refl
 abbrev IsAskedOver : Back → Binding → List ℕ → ℕ → Type 0
 IsAskedOver k b o op = (i : PlainInterface) × (p : PlainOperation) × (slice_get (operations_in k b.unit.interfaces) op ≡ Some (i, p)) × AsksFor k i p o
 
-abbrev procedure_in : PlainInterface → PlainOperation → Procedure
-procedure_in i p = record { program = i.program; version = i.version; number = p.proc_no }
+abbrev procedure_in : PlainInterface → ℕ → Procedure
+procedure_in i n = record { program = i.program; version = i.version; number = n }
 
 -- the procedure of an operation with its interface
 abbrev procedure_at : PlainInterface × PlainOperation → Procedure
-procedure_at q = procedure_in q.0 q.1
+procedure_at q = procedure_in q.0 q.1.proc_no
 
-xdr_first : (i : PlainInterface) → procedures_of i ≡ map procedure_at (map (λ (p : PlainOperation). (i, p)) (operations back.Xdr i))
-xdr_first i = map-map (λ n. record { program = i.program; version = i.version; number = n }) (λ (p : PlainOperation). p.proc_no) (operations back.Xdr i)
+abbrev no_procedure : Procedure
+no_procedure = record { program = 0; version = 0; number = 0 }
+
+abbrev with_interface : PlainInterface → List (PlainInterface × PlainOperation)
+with_interface i = map (λ (p : PlainOperation). (i, p)) (operations back.Xdr i)
+
+xdr_first : (i : PlainInterface) → procedures_of i ≡ map procedure_at (with_interface i)
+xdr_first i =
+    map-map (procedure_in i) (λ (p : PlainOperation). p.proc_no) (operations back.Xdr i)
     ∙ sym (map-map procedure_at (λ (p : PlainOperation). (i, p)) (operations back.Xdr i))
 
 xdr_procedures : (is : List PlainInterface) → procedures is ≡ map procedure_at (operations_in back.Xdr is)
 xdr_procedures [] = refl
 xdr_procedures (i ∷ is) =
-    ap (λ l. l ++ procedures is) (xdr_first i)
-    ∙ ap (λ l. map procedure_at (map (λ (p : PlainOperation). (i, p)) (operations back.Xdr i)) ++ l) (xdr_procedures is)
-    ∙ sym (map-append procedure_at (map (λ (p : PlainOperation). (i, p)) (operations back.Xdr i)) (operations_in back.Xdr is))
+    ap (λ (l : List Procedure). l ++ procedures is) (xdr_first i)
+    ∙ ap (λ (l : List Procedure). map procedure_at (with_interface i) ++ l) (xdr_procedures is)
+    ∙ sym (map-append procedure_at (with_interface i) (operations_in back.Xdr is))
 
 xdr_asked : (b : Binding) (o : List ℕ) (x : Called) (op : ℕ) → Calls b o x → x.naming ≡ Operation op → IsAskedOver back.Xdr b o op
 xdr_asked b o x op (call, begins, is) names =
+    let ps : List Procedure = procedures b.unit.interfaces in
     let same : named b call ≡ Operation op = ap (λ (y : Called). y.naming) is ∙ names in
-    let below : op < length (procedures b.unit.interfaces) = subst (IsBelow (length (procedures b.unit.interfaces))) same (named_below 0 b.unit.interfaces call) in
-    let there = slice_get-get_or (procedures b.unit.interfaces) op (record { program = 0; version = 0; number = 0 }) below in
-    let (q, at, of) = placed procedure_at (operations_in back.Xdr b.unit.interfaces) op (procedure_of b op) (rw (← xdr_procedures b.unit.interfaces) there) in
-    (q.0, q.1, at, (call, begins, sym (named_right b call op same) ∙ sym of))
+    let all : 0 + length ps ≡ length ps = omega arith in
+    let within : IsBelow (length ps) (named b call) = subst (λ (n : ℕ). IsBelow n (named b call)) all (named_below 0 b.unit.interfaces call) in
+    let below : op < length ps = subst (λ (n : Naming). IsBelow (length ps) n) same within in
+    let there : slice_get ps op ≡ Some (procedure_of b op) = slice_get-get_or ps op no_procedure below in
+    let (q, stands, of) = placed procedure_at (operations_in back.Xdr b.unit.interfaces) op (procedure_of b op) (ap (λ (l : List Procedure). slice_get l op) (sym (xdr_procedures b.unit.interfaces)) ∙ there) in
+    (q.0, q.1, stands, (call, begins, sym (named_right b call op same) ∙ sym of))
 
 asked_over : (k : Back) (b : Binding) (o : List ℕ) (x : Called) (op : ℕ) → BeginsOver k b o x → x.naming ≡ Operation op → IsAskedOver k b o op
 asked_over back.Xdr b o x op begins names = xdr_asked b o x op begins names
