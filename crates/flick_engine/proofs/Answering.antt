@@ -5,7 +5,6 @@ use Rattle.mint.specs.Values.{Val}
 use Rattle.plain_wire.specs.Answered.{FirstSpell}
 use Rattle.call_kit.specs.declared.called.Called.{Called}
 use Rattle.call_kit.specs.declared.called.Naming.TheVariants.{Operation}
-use Rattle.call_kit.specs.Calls.{IsOneHead}
 use Rattle.pres.specs.Bindings.{Binding}
 use Rattle.flick_engine.specs.declared.errors.MessageErr.TheVariants as err
 use Rattle.flick_engine.specs.Backs.{Begins}

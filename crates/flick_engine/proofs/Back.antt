@@ -1,5 +1,5 @@
 -- What is sent is what is received.
-use Rattle.std.proofs.Common.{◌≡◌, ℕ, List, ◌++◌, length, drop, refl, sym, subst}
+use Rattle.std.proofs.Common.{◌≡◌, ℕ, List, ◌++◌, length, drop, refl, sym}
 use Rattle.std.proofs.lemmas.List.{drop_at}
 use Rattle.mint.specs.Types.{Ty}
 use Rattle.mint.specs.Values.{Val}
@@ -11,7 +11,7 @@ use Rattle.wire_def.proofs.Encodings.{sent_spells}
 use Rattle.flick_engine.specs.Backs.{encoding, lead}
 use Rattle.flick_engine.specs.Messages.{request_type}
 use Rattle.flick_engine.specs.Laws.{IsReadBack}
-use Rattle.flick_engine.proofs.HeadsOfBacks.{IsReceived, received}
+use Rattle.flick_engine.proofs.HeadsOfBacks.{received}
 
 -- what is sent after a lead spells the value from the lead's end, by the names that a head gives to both
 spells_after : (e f : Encoding) (t : Ty) (lead : List ℕ) (used : ℕ) (v : Val) → f ≡ e → used ≡ length lead → IsWellTyped t v

@@ -15,7 +15,6 @@ use Rattle.plain_wire.specs.Answered.{FirstSpell}
 use Rattle.call_kit.specs.declared.called.Called.{Called}
 use Rattle.call_kit.specs.declared.called.Naming.{Naming}
 use Rattle.call_kit.specs.declared.called.Naming.TheVariants as naming
-use Rattle.call_kit.specs.Calls.{IsOneHead}
 use Rattle.pres.specs.Bindings.{Binding}
 use Rattle.flick_engine.specs.declared.errors.MessageErr.{MessageErr}
 use Rattle.flick_engine.specs.declared.errors.MessageErr.TheVariants as err

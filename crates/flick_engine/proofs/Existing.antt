@@ -6,7 +6,6 @@ use Rattle.std.proofs.lemmas.List.{length-drop, take-append-drop, take_at}
 use Rattle.kit_base.specs.Limits.{longest_message}
 use Rattle.mint.specs.Sound.{IsSound}
 use Rattle.mint.specs.Values.{Val}
-use Rattle.wire_def.specs.declared.fault.HeadErr.{HeadErr}
 use Rattle.wire_def.specs.Grammar.{AreOctets}
 use Rattle.wire_def.specs.Laws.{BeginsSpelled, HasFault}
 use Rattle.wire_def.specs.Spells.{IsSpelling}
@@ -15,7 +14,7 @@ use Rattle.wire_def.proofs.Grammars.{octets_behind}
 use Rattle.call_kit.specs.declared.called.Called.{Called}
 use Rattle.call_kit.specs.declared.called.Naming.{Naming}
 use Rattle.call_kit.specs.declared.called.Naming.TheVariants as naming
-use Rattle.call_kit.specs.Calls.{IsOneHead, HasHead}
+use Rattle.call_kit.specs.Calls.{HasHead}
 use Rattle.pres.specs.Bindings.{Binding}
 use Rattle.flick_engine.specs.declared.errors.MessageErr.{MessageErr}
 use Rattle.flick_engine.specs.declared.errors.MessageErr.TheVariants as err

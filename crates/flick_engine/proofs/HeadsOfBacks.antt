@@ -1,5 +1,5 @@
 -- What holds of the heads of each back end.
-use Rattle.std.proofs.Common.{◌≡◌, ◌⊎◌, inl, inr, ℕ, zero, suc, ◌+◌, ◌<◌, List, [], ◌∷◌, ◌++◌, map, length, Bool, true, false, Option, Some, None, refl, sym, ap, ◌∙◌, subst, arith}
+use Rattle.std.proofs.Common.{◌≡◌, ℕ, ◌+◌, ◌<◌, List, [], ◌∷◌, ◌++◌, map, length, Bool, true, false, Option, Some, None, refl, sym, ap, ◌∙◌, subst, arith}
 use Rattle.std.specs.Prelude.{IfSome, if◌then◌else◌, codes, slice_get, slice_index_or}
 use Rattle.std.specs.Str.{bytes_eq}
 use Rattle.std.proofs.lemmas.List.{map-append}
@@ -7,7 +7,6 @@ use Rattle.std.proofs.lemmas.Option.{slice_get-get_or}
 use Rattle.std.proofs.lemmas.Simd.{map-map}
 use Rattle.wire_def.specs.declared.encoding.Back.{Back}
 use Rattle.wire_def.specs.declared.encoding.Back.TheVariants as back
-use Rattle.wire_def.specs.declared.fault.HeadErr.{HeadErr}
 use Rattle.wire_def.specs.declared.head.Head.{Head}
 use Rattle.wire_def.specs.Grammar.{AreOctets}
 use Rattle.call_kit.specs.declared.called.Called.{Called}
@@ -19,7 +18,7 @@ use Rattle.pres.specs.Bindings.{Binding, IsBinding}
 use Rattle.pres.specs.Offers.{operations}
 use Rattle.back_xdr.specs.declared.call.OncCall.{OncCall}
 use Rattle.back_xdr.specs.declared.procedures.Procedure.{Procedure}
-use Rattle.back_xdr.specs.Laws.{call_of, called_by}
+use Rattle.back_xdr.specs.Laws.{call_of}
 use Rattle.back_xdr.specs.Leads as xdr_leads
 use Rattle.back_xdr.specs.Procedures.{procedures_of, procedures, procedure_of}
 use Rattle.back_xdr.specs.Seeking.{called, named, named_from, Calls}
@@ -28,8 +27,8 @@ use Rattle.back_xdr.proofs.Heading.{one_head_called, has_head_called}
 use Rattle.back_xdr.proofs.NamedBelow.{named_below}
 use Rattle.back_xdr.proofs.NamedRight.{named_right}
 use Rattle.back_xdr.proofs.Sent.{leads_read}
-use Rattle.flick_engine.specs.Backs.{IsMade, back_of, encoding, lead_over, lead, BeginsOver, Begins, AsksFor, Stops, SaysOver, Says}
-use Rattle.flick_engine.specs.Operations.{operations_in, IsOperation}
+use Rattle.flick_engine.specs.Backs.{IsMade, back_of, encoding, lead_over, BeginsOver, Begins, AsksFor, Stops, SaysOver, Says}
+use Rattle.flick_engine.specs.Operations.{operations_in}
 use Rattle.flick_engine.proofs.Places.{placed}
 
 -- ---- names

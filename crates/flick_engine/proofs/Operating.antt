@@ -6,7 +6,6 @@ use Rattle.std.proofs.lemmas.Simd.{map-map}
 use Rattle.wire_def.specs.declared.encoding.Back.{Back}
 use Rattle.aoi.specs.Plain.{PlainInterface, PlainOperation}
 use Rattle.pres.specs.declared.ops.Op.{Op}
-use Rattle.pres.specs.Bindings.{Binding, IsBinding}
 use Rattle.pres.specs.Faces.{Face, at, faces, type_of}
 use Rattle.pres.specs.Offers.{Offer, operations, offer, offers_from, offer_at, request_of, type_faces}
 use Rattle.pres.proofs.Facing.{type_at-face}
@@ -45,8 +44,7 @@ pub are_the_units : AreTheUnits
 are_the_units b op stands h =
     let all = ap (map request_in) stands.offered ∙ requests (type_faces b.unit) b.back 0 b.unit.interfaces in
     let there = ap (λ (l : List Face). slice_get l op) (sym all) ∙ face_there (faces b.nodes b.shapes) b.ops op h in
-    let (q, is, same) = placed (request_at (type_faces b.unit)) (operations_in b.back b.unit.interfaces) op _ there in
-    (
+    let (q, is, same) = placed (request_at (type_faces b.unit)) (operations_in b.back b.unit.interfaces) op _ there in (
       q.0,
       q.1,
       is,

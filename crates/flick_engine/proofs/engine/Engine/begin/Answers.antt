@@ -1,4 +1,4 @@
-use Rattle.std.proofs.Common.{arith, sym}
+use Rattle.std.proofs.Common.{arith}
 use Rattle.flick_engine.proofs.Deciding.{exactly}
 use Rattle.flick_engine.proofs.engine.Engine.begin.Goals as goal
 
