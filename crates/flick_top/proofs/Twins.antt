@@ -36,7 +36,7 @@ use Rattle.call_kit.specs.Calls.{IsBelow}
 use Rattle.flick_engine.specs.Backs.{encoding, lead_over, lead, BeginsOver, Begins, Stops}
 use Rattle.flick_engine.specs.Messages.{request_type, message}
 use Rattle.flick_engine.specs.Received.{Asked, Names, ReadCall}
-use Rattle.flick_engine.proofs.HeadsOfBacks.{AreAlike, heads_alike}
+use Rattle.flick_engine.proofs.HeadsOfBacks.{heads_alike}
 use Rattle.flick_top.specs.Marshalled.{digits_of, IsMessage, IsOfRecord, IsOfTree}
 use Rattle.flick_top.specs.Unmarshalled.{record_text, answer_text, IsOfOctets}
 
