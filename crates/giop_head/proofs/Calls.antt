@@ -1,5 +1,5 @@
 -- The heads of Request and LocateRequest messages are a grammar.
-use Rattle.std.proofs.Common.{◌≡◌, ℕ, zero, suc, List, Bool, refl, sym, subst, arith}
+use Rattle.std.proofs.Common.{◌≡◌, ℕ, zero, suc, List, Bool, refl, subst}
 use Rattle.wire_def.specs.declared.head.Order.{Order}
 use Rattle.wire_def.specs.Grammar.{Spelling, Parts, IsGrammar}
 use Rattle.wire_def.proofs.Grammars.{mapped, both_are}

@@ -1,11 +1,11 @@
 -- The header of a message is a grammar, whatever is expected.
-use Rattle.std.proofs.Common.{◌≡◌, ◌⊎◌, inl, inr, ℕ, zero, suc, ◌+◌, List, [], ◌∷◌, ◌++◌, length, Bool, true, false, cond, refl, sym, ap, ◌∙◌, add-zero, append-nil, arith}
-use Rattle.std.specs.Prelude.{Result, Ok, Err, ◌==◌, ◌||◌, ◌-◌, slice_index}
+use Rattle.std.proofs.Common.{◌≡◌, inl, inr, ℕ, suc, List, [], ◌++◌, Bool, true, false, cond, refl, sym, ap, ◌∙◌, add-zero, append-nil, arith}
+use Rattle.std.specs.Prelude.{Result, Ok, Err, ◌==◌, ◌-◌, slice_index}
 use Rattle.std.proofs.lemmas.Bool.{eqb-true, or_cases}
 use Rattle.wire_def.specs.declared.fault.HeadErr.{HeadErr}
 use Rattle.wire_def.specs.declared.fault.HeadErr.TheVariants.{Magic, Version, Type_, Size}
 use Rattle.wire_def.specs.declared.fault.HeadErr.TheVariants as fault
-use Rattle.wire_def.specs.Grammar.{got, stop, IsGrammar}
+use Rattle.wire_def.specs.Grammar.{IsGrammar}
 use Rattle.wire_def.proofs.Grammars.{mapped, both_are}
 use Rattle.wire_def.proofs.HeadItems.{body_is}
 use Rattle.giop_head.specs.declared.header.Heading.{Heading}

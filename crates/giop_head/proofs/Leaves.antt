@@ -1,6 +1,6 @@
 -- What the fields of heads are made of is a grammar each.
-use Rattle.std.proofs.Common.{◌≡◌, ℕ, zero, suc, ◌+◌, ◌-◌, ◌<◌, List, [], ◌∷◌, ◌++◌, length, take, Bool, true, false, cond, refl, sym, ap, subst, ◌∙◌, add-zero, length-append, arith}
-use Rattle.std.specs.Prelude.{◌==◌, if◌then◌else◌}
+use Rattle.std.proofs.Common.{◌≡◌, ℕ, zero, suc, ◌+◌, ◌-◌, List, [], ◌∷◌, ◌++◌, length, take, Bool, true, false, cond, refl, sym, ap, subst, ◌∙◌, add-zero, length-append, arith}
+use Rattle.std.specs.Prelude.{◌==◌}
 use Rattle.std.specs.Int.{w32}
 use Rattle.std.proofs.lemmas.Bool.{eq-eqb, eqb-true}
 use Rattle.std.proofs.lemmas.List.{take_at}
@@ -13,13 +13,13 @@ use Rattle.wire_def.specs.declared.fault.HeadErr.TheVariants.{Short, Item, Text,
 use Rattle.wire_def.specs.declared.encoding.Encoding.TheVariants.{CdrBig, CdrLittle}
 use Rattle.wire_def.specs.declared.head.Order.{Order}
 use Rattle.wire_def.specs.declared.head.Order.TheVariants.{Big, Little}
-use Rattle.wire_def.specs.Grammar.{Reading, got, stop, AreOctets, Spelling, Parts, IsGrammar, TestedSpells}
+use Rattle.wire_def.specs.Grammar.{Reading, got, stop, Parts, IsGrammar, TestedSpells}
 use Rattle.wire_def.specs.HeadItems.{BodySpells}
 use Rattle.wire_def.specs.Scalars.{gap, WordSpells, WordStops, read_word}
 use Rattle.wire_def.proofs.Grammars.{mapped, both_are, tested_are}
 use Rattle.wire_def.proofs.HeadItems.{body_is}
 use Rattle.wire_def.proofs.Words.{IsWide, wide, word_is}
-use Rattle.giop_head.specs.Items.{laid, LongSpells, LongStops, or_short, read_long, up_to, long_place, PassSpells, PassStops, read_pass, flag, FlagSpells, FlagStops, read_flag, SequenceSpells, SequenceStops, read_sequence, is_ended, StringSpells, StringStops, read_string, EndSpells, EndStops, read_end}
+use Rattle.giop_head.specs.Items.{laid, LongSpells, LongStops, or_short, read_long, up_to, long_place, PassSpells, PassStops, read_pass, FlagSpells, FlagStops, read_flag, SequenceSpells, SequenceStops, read_sequence, is_ended, StringSpells, StringStops, read_string, EndSpells, EndStops, read_end}
 use Rattle.giop_head.proofs.Ended.{ended_parts, parts_ended}
 
 -- ---- unsigned longs

@@ -1,8 +1,8 @@
 -- Service contexts and principals are passed over, one by one.
-use Rattle.std.proofs.Common.{◌≡◌, ℕ, zero, suc, ◌+◌, ◌-◌, ◌<◌, ◌≤◌, List, [], ◌∷◌, refl, arith}
+use Rattle.std.proofs.Common.{◌≡◌, ℕ, suc, ◌+◌, ◌-◌, ◌<◌, ◌≤◌, List, ◌∷◌, refl, arith}
 use Rattle.wire_def.specs.declared.fault.HeadErr.{HeadErr}
 use Rattle.wire_def.specs.declared.head.Order.{Order}
-use Rattle.wire_def.specs.Grammar.{Reading, got, stop, then_on, map_got, times, IsGrammar}
+use Rattle.wire_def.specs.Grammar.{Reading, got, stop, map_got, times, IsGrammar}
 use Rattle.wire_def.proofs.Grammars.{mapped, both_are, times_are}
 use Rattle.giop_head.specs.Items.{SequenceStops}
 use Rattle.giop_head.specs.Contexts.{Context, ContextSpells, ContextStops, read_context, ManySpell, ManyStop, pass_many, ContextsSpell, ContextsStop, pass_contexts, AnySequence, pass_sequence}

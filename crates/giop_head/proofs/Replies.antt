@@ -9,7 +9,7 @@ use Rattle.giop_head.specs.declared.header.Way.TheVariants.{Replies}
 use Rattle.giop_head.specs.Items.{LongSpells, PassSpells, StringSpells}
 use Rattle.giop_head.specs.Contexts.{ContextsSpell}
 use Rattle.giop_head.specs.Header.{HeaderSpells}
-use Rattle.giop_head.specs.Reply.{Fate, answer, user, system, Reply, SystemSpells, FateSpells, ReplySpells, SystemStops, StatusStops, FateStops, ReplyStops, read_system, read_status, read_fate, read_head_of_reply}
+use Rattle.giop_head.specs.Reply.{Fate, answer, user, system, SystemSpells, FateSpells, ReplySpells, SystemStops, StatusStops, FateStops, ReplyStops, read_system, read_status, read_fate, read_head_of_reply}
 use Rattle.giop_head.proofs.Leaves.{long_is, pass_is, string_is}
 use Rattle.giop_head.proofs.Passed.{contexts_are}
 use Rattle.giop_head.proofs.Headers.{header_is, is_expected, replies_one}

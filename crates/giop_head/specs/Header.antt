@@ -1,5 +1,5 @@
 -- The first 12 octets of a message (OMG CORBA, chapter GIOP, section on the message header).
-use Rattle.std.specs.Prelude.{◌≡◌, ℕ, zero, suc, ◌-◌, List, [], length, take, drop, Bool, ◌&&◌, ◌||◌, nat_le, ◌==◌, if◌then◌else◌, Result, Ok, Err, slice_index}
+use Rattle.std.specs.Prelude.{◌≡◌, ℕ, zero, suc, ◌-◌, List, length, take, drop, Bool, ◌&&◌, ◌||◌, nat_le, ◌==◌, if◌then◌else◌, Result, Ok, Err, slice_index}
 use Rattle.std.specs.Int.{w32}
 use Rattle.wire_def.specs.declared.fault.HeadErr.{HeadErr}
 use Rattle.wire_def.specs.declared.fault.HeadErr.TheVariants.{Magic, Version, Type_, Size}

@@ -1,5 +1,5 @@
 -- The heads of Reply messages (OMG CORBA, chapter GIOP, section on the Reply message).
-use Rattle.std.specs.Prelude.{◌≡◌, ℕ, zero, suc, List}
+use Rattle.std.specs.Prelude.{ℕ, zero, suc, List}
 use Rattle.wire_def.specs.declared.fault.HeadErr.{HeadErr}
 use Rattle.wire_def.specs.declared.head.Order.{Order}
 use Rattle.wire_def.specs.Grammar.{got, Reader, Spelling, Stopping, map_got, both, Parts, StopsInOrder}

@@ -29,7 +29,10 @@ pub enum GiopCall<'a> {
         used: usize,
     },
     /// A search for an object, by its key.
-    Locate { id: u32, key: &'a [u8] },
+    Locate {
+        id: u32,
+        key: &'a [u8],
+    },
 }
 
 /// Reads the head of a Request, or a LocateRequest, in either order. Service contexts and principal

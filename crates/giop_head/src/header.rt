@@ -11,7 +11,9 @@ use wire_def::{HeadErr, Order};
 
 /// The message types that heads of this crate have.
 const REQUEST: u8 = 0;
+
 const REPLY: u8 = 1;
+
 const LOCATE: u8 = 3;
 
 /// Which messages are expected.

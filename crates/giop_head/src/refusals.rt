@@ -10,6 +10,7 @@ use wire_def::{Head, Order, Refusal};
 
 /// The status of a reply with a user exception, and with a system exception.
 const USER: u32 = 1;
+
 const SYSTEM: u32 = 2;
 
 /// The octets of the longest repository id whose message has a size of 32 bits.

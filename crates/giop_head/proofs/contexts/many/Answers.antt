@@ -1,6 +1,4 @@
 use Rattle.std.proofs.Common.{rules}
-use Rattle.giop_head.specs.Readers.{Stopped}
-use Rattle.giop_head.specs.Contexts.{pass_many}
 use Rattle.giop_head.proofs.Passed.{one_stopped}
 use Rattle.giop_head.proofs.contexts.many.Goals as goal
 
