@@ -8,3 +8,5 @@ pub mod Replies
 pub mod Lawful
 pub mod Exact
 pub mod Putting
+pub mod Sending
+pub mod Sent
