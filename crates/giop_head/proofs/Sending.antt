@@ -5,7 +5,7 @@ use Rattle.std.proofs.lemmas.Bool.{le-leb}
 use Rattle.wire_def.specs.declared.head.Order.{Order}
 use Rattle.wire_def.specs.Grammar.{Parts}
 use Rattle.wire_def.specs.Scalars.{gap, WordSpells}
-use Rattle.giop_head.specs.Items.{LongSpells, PassSpells, flag, FlagSpells, SequenceSpells, HasNoZero, StringSpells}
+use Rattle.giop_head.specs.Items.{LongSpells, PassSpells, flag, FlagSpells, SequenceSpells, StringSpells}
 use Rattle.giop_head.specs.Contexts.{ContextsSpell, AnySequence}
 use Rattle.giop_head.specs.Call.{Request, RequestSpells}
 use Rattle.giop_head.specs.Reply.{Fate, answer, user, system, FateSpells}

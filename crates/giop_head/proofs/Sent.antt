@@ -1,7 +1,6 @@
 -- Heads that are sent are read as what they are sent for.
-use Rattle.std.proofs.Common.{◌≡◌, ℕ, suc, ◌+◌, ◌-◌, ◌≤◌, ◌<◌, ◌^◌, true, List, [], ◌∷◌, ◌++◌, length, take, drop, Some, refl, sym, ap, subst, ◌∙◌, append_assoc, length-append, arith}
-use Rattle.std.specs.Prelude.{◌==◌, ◌↔◌, Ok}
-use Rattle.std.specs.Int.{w32}
+use Rattle.std.proofs.Common.{◌≡◌, ℕ, ◌-◌, ◌≤◌, ◌<◌, ◌^◌, true, List, [], ◌∷◌, ◌++◌, length, take, refl, sym, ap, ◌∙◌, append_assoc, length-append, arith}
+use Rattle.std.specs.Prelude.{Ok}
 use Rattle.std.proofs.lemmas.Bool.{eq-eqb}
 use Rattle.std.proofs.lemmas.List.{take_at}
 use Rattle.mint.specs.declared.kind.Kind.TheVariants as kind
@@ -20,7 +19,7 @@ use Rattle.giop_head.specs.Reply.{Fate, answer, user, system, FateSpells}
 use Rattle.giop_head.specs.Items.{flag, LongSpells}
 use Rattle.giop_head.specs.Contexts.{ContextsSpell}
 use Rattle.giop_head.specs.Printed.{long_octets, then_long, then_sequence, then_string, order_octet, header_octets, with_size, request_octets}
-use Rattle.giop_head.specs.Laws.{IsRequest, IsFate, reply_octets, RequestsAreRead, RepliesAreRead, OwnHaveOctets}
+use Rattle.giop_head.specs.Laws.{reply_octets, RequestsAreRead, RepliesAreRead, OwnHaveOctets}
 use Rattle.giop_head.proofs.Sending.{request_puts, fated, reply_puts}
 
 -- a header in which the size is told

@@ -1,0 +1,5 @@
+pub mod Counting
+pub mod Coding
+pub mod Growing
+pub mod Naming
+pub mod Along

@@ -1,0 +1,4 @@
+pub mod Targets
+pub mod Leads
+pub mod Coded
+pub mod Laws
