@@ -4,12 +4,12 @@ use Rattle.wire_def.specs.declared.head.Order.{Order}
 use Rattle.wire_def.specs.Grammar.{Spelling, Parts, IsGrammar}
 use Rattle.wire_def.proofs.Grammars.{mapped, both_are}
 use Rattle.giop_head.specs.declared.header.Heading.{Heading}
-use Rattle.giop_head.specs.declared.header.Way.TheVariants.{Asks}
+use Rattle.giop_head.specs.declared.header.Way.TheVariants.{Asks, Requests}
 use Rattle.giop_head.specs.Header.{HeaderSpells}
-use Rattle.giop_head.specs.Call.{Request, RequestSpells, RequestStops, read_request, Search, SearchSpells, SearchStops, read_search, Call, request, search_for, CallSpells, AskedStops, CallStops, read_asked, read_head_of_call}
+use Rattle.giop_head.specs.Call.{Request, RequestSpells, RequestStops, read_request, Search, SearchSpells, SearchStops, read_search, Call, request, search_for, CallSpells, AskedStops, CallStops, read_asked, read_head_of_call, Ordered, OrderedSpells, OrderedStops, read_head_of_request}
 use Rattle.giop_head.proofs.Leaves.{long_is, flag_is, sequence_is, string_is, end_is}
 use Rattle.giop_head.proofs.Passed.{contexts_are, any_sequence_is}
-use Rattle.giop_head.proofs.Headers.{header_is, is_expected, asks_three}
+use Rattle.giop_head.proofs.Headers.{header_is, is_expected, asks_three, requests_zero}
 
 abbrev Fields : Type 0
 Fields = Unit {0} × (ℕ × (Bool × (List ℕ × (List ℕ × Unit {0}))))
@@ -52,3 +52,16 @@ pub call_is : (n : ℕ) → IsGrammar (read_head_of_call n) (CallSpells n) (Call
 call_is n = mapped (λ (x : Heading × Call). x.1) (CallSpells n) (both_are (header_is Asks n) (λ h. asked_is n h.order h.message_type))
     (λ p o x h. forth n x.0.order x.0.message_type p o x.1 h)
     (back n)
+
+-- ---- requests alone
+
+ordered_forth : (n : ℕ) (r : Order) (m : ℕ) (q : Request) (p : ℕ) (o : List ℕ) → Parts p o (λ a. HeaderSpells Requests n p a (record { order = r; message_type = m })) (λ q' b. RequestSpells r q' b q)
+    → OrderedSpells n p o (record { order = r; request = q })
+ordered_forth n r m q p o (a, b, is, header, fields) =
+    let none : m ≡ 0 = requests_zero m (is_expected Requests n a (record { order = r; message_type = m }) header.1) in
+    (a, b, is, subst (λ z. HeaderSpells Requests n p a (record { order = r; message_type = z })) none header, fields)
+
+pub ordered_is : (n : ℕ) → IsGrammar (read_head_of_request n) (OrderedSpells n) (OrderedStops n)
+ordered_is n = mapped (λ (x : Heading × Request). record { order = x.0.order; request = x.1 }) (OrderedSpells n) (both_are (header_is Requests n) (λ h. request_is h.order))
+    (λ p o x h. ordered_forth n x.0.order x.0.message_type x.1 p o h)
+    (λ p o y h. ((record { order = y.order; message_type = 0 }, y.request), refl, h))

@@ -10,7 +10,7 @@ use Rattle.wire_def.proofs.Grammars.{mapped, both_are}
 use Rattle.wire_def.proofs.HeadItems.{body_is}
 use Rattle.giop_head.specs.declared.header.Heading.{Heading}
 use Rattle.giop_head.specs.declared.header.Way.{Way}
-use Rattle.giop_head.specs.declared.header.Way.TheVariants.{Asks, Replies}
+use Rattle.giop_head.specs.declared.header.Way.TheVariants.{Asks, Requests, Replies}
 use Rattle.giop_head.specs.Header.{has_magic, has_version, has_order, expected, size_in, judged, header_of, HeaderSpells, HeaderStops, given, read_header}
 
 given_is : (d : Result Heading HeadErr) → IsGrammar (given d) (λ p o h. (o ≡ []) × (d ≡ Ok h)) (λ p o k at. (d ≡ Err k) × (at ≡ p))
@@ -70,3 +70,6 @@ asks_three m e = elim (or_cases (suc m == 0) (suc m == 3) e) [
 
 pub replies_one : (m : ℕ) → expected Replies m ≡ true → m ≡ 1
 replies_one m e = eqb-true m 1 e
+
+pub requests_zero : (m : ℕ) → expected Requests m ≡ true → m ≡ 0
+requests_zero m e = eqb-true m 0 e

@@ -4,14 +4,15 @@ use Rattle.std.proofs.lemmas.List.{take_at, take-append-drop, length-take}
 use Rattle.wire_def.specs.declared.fault.HeadErr.{HeadErr}
 use Rattle.wire_def.specs.Grammar.{Reading, got, stop, AreOctets}
 use Rattle.giop_head.specs.declared.header.Way.{Way}
-use Rattle.giop_head.specs.declared.header.Way.TheVariants.{Asks, Replies}
+use Rattle.giop_head.specs.declared.header.Way.TheVariants.{Asks, Requests, Replies}
 use Rattle.giop_head.specs.Heads.{HeadOf, HeadStops, read_head, BeginsWith, StopsWith}
 use Rattle.giop_head.specs.Laws.{IsDecided, HeadsAreDecided, HeadsAreRead}
-use Rattle.giop_head.proofs.Calls.{call_is}
+use Rattle.giop_head.proofs.Calls.{call_is, ordered_is}
 use Rattle.giop_head.proofs.Replies.{reply_is}
 
 pub heads_are_read : HeadsAreRead
 heads_are_read Asks n = call_is n
+heads_are_read Requests n = ordered_is n
 heads_are_read Replies n = reply_is n
 
 module _ (w : Way) (o : List ℕ) where

@@ -6,7 +6,7 @@ use Rattle.wire_def.specs.Grammar.{Reader, Spelling, Stopping, map_got, both, Pa
 use Rattle.giop_head.specs.Items.{LongSpells, LongStops, read_long, FlagSpells, FlagStops, read_flag, SequenceSpells, SequenceStops, read_sequence, StringSpells, StringStops, read_string, EndSpells, EndStops, read_end}
 use Rattle.giop_head.specs.Contexts.{ContextsSpell, ContextsStop, pass_contexts, AnySequence, pass_sequence}
 use Rattle.giop_head.specs.Header.{HeaderSpells, HeaderStops, read_header}
-use Rattle.giop_head.specs.declared.header.Way.TheVariants.{Asks}
+use Rattle.giop_head.specs.declared.header.Way.TheVariants.{Asks, Requests}
 
 -- a request: its id, whether a reply is wanted, the object's key, and the name of the operation
 pub record Request : Type 0 where
@@ -82,3 +82,20 @@ read_asked n r (suc m) p o = map_got (search_for r) (read_search r n p o)
 
 abbrev pub read_head_of_call : ℕ → Reader HeadErr Call
 read_head_of_call n p o = map_got (λ x. x.1) (both (read_header Asks n) (λ h. read_asked n h.order h.message_type) p o)
+
+-- ---- requests alone
+
+-- a request, and the order of its octets
+pub record Ordered : Type 0 where
+  pub order : Order
+  pub request : Request
+
+-- a header and the fields of a request
+abbrev pub OrderedSpells : ℕ → Spelling Ordered
+OrderedSpells n p o x = Parts p o (λ a. HeaderSpells Requests n p a (record { order = x.order; message_type = 0 })) (λ p1 o1. RequestSpells x.order p1 o1 x.request)
+
+abbrev pub OrderedStops : ℕ → Stopping HeadErr
+OrderedStops n = StopsInOrder (HeaderSpells Requests n) (HeaderStops Requests n) (λ h. RequestStops h.order)
+
+abbrev pub read_head_of_request : ℕ → Reader HeadErr Ordered
+read_head_of_request n p o = map_got (λ x. record { order = x.0.order; request = x.1 }) (both (read_header Requests n) (λ h. read_request h.order) p o)

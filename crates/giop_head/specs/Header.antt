@@ -11,7 +11,7 @@ use Rattle.wire_def.specs.HeadItems.{BodySpells, BodyStops, read_body}
 use Rattle.wire_def.specs.Scalars.{octets_number}
 use Rattle.giop_head.specs.declared.header.Heading.{Heading}
 use Rattle.giop_head.specs.declared.header.Way.{Way}
-use Rattle.giop_head.specs.declared.header.Way.TheVariants.{Asks, Replies}
+use Rattle.giop_head.specs.declared.header.Way.TheVariants.{Asks, Requests, Replies}
 use Rattle.giop_head.specs.Items.{laid}
 
 -- the letters GIOP
@@ -33,6 +33,7 @@ order_of (suc n) = Little
 -- the types of messages: 0 is a Request, 3 a LocateRequest, 1 a Reply
 abbrev pub expected : Way → ℕ → Bool
 expected Asks n = n == 0 || n == 3
+expected Requests n = n == 0
 expected Replies n = n == 1
 
 -- the number of octets behind the header, in the message's order

@@ -7,11 +7,12 @@ use Rattle.wire_def.specs.declared.head.Order.{Order}
 use Rattle.wire_def.specs.declared.reply.ReplyHead.{ReplyHead}
 use Rattle.wire_def.specs.declared.reply.Status.{Status}
 use Rattle.wire_def.specs.declared.reply.Status.TheVariants.{Answer, User, System}
-use Rattle.giop_head.specs.declared.header.Way.TheVariants.{Asks, Replies}
+use Rattle.giop_head.specs.declared.header.Way.TheVariants.{Asks, Requests, Replies}
 use Rattle.giop_head.specs.declared.call.GiopCall.{GiopCall}
 use Rattle.giop_head.specs.declared.call.GiopCall.TheVariants as calls
 use Rattle.giop_head.specs.declared.call.Asked.{Asked}
-use Rattle.giop_head.specs.Call.{Request, Search, Call, request, search_for}
+use Rattle.giop_head.specs.declared.call.GiopRequest.{GiopRequest}
+use Rattle.giop_head.specs.Call.{Request, Search, Call, request, search_for, Ordered}
 use Rattle.giop_head.specs.Reply.{Fate, answer, user, system, Reply}
 use Rattle.giop_head.specs.Heads.{BeginsWith}
 
@@ -46,6 +47,26 @@ call_told (search_for r s) used = sought s.id s.key
 -- a message begins with the head of a call, of which this is told
 abbrev pub BeginsCall : List ℕ → ToldCall → Type 0
 BeginsCall message told = (c : Call) × (used : ℕ) × BeginsWith Asks message c used × (call_told c used ≡ told)
+
+-- ---- requests alone
+
+-- what is told of a request, with the octets of key and name
+pub record ToldRequest : Type 0 where
+  pub head : Head
+  pub key : List ℕ
+  pub name : List ℕ
+  pub used : ℕ
+
+abbrev pub request_seen : GiopRequest → ToldRequest
+request_seen r = record { head = r.head; key = r.key.now; name = r.name.now; used = r.used }
+
+-- a request, by a head of so many octets
+abbrev pub request_told : Ordered → ℕ → ToldRequest
+request_told x used = record { head = shared_head x.request.id x.request.wants x.order; key = x.request.key; name = x.request.name; used = used }
+
+-- a message begins with the head of a request, of which this is told
+abbrev pub BeginsRequest : List ℕ → ToldRequest → Type 0
+BeginsRequest message told = (x : Ordered) × (used : ℕ) × BeginsWith Requests message x used × (request_told x used ≡ told)
 
 -- ---- replies
 

@@ -2,11 +2,11 @@
 
 ghost use Rattle.std.specs.Prelude.{◌≡◌, ◌↔◌};
 ghost use Rattle.wire_def.specs.declared.fault.HeadErr.{HeadErr};
-ghost use Rattle.giop_head.specs.declared.header.Way.TheVariants.{Asks};
-ghost use Rattle.giop_head.specs.Call.{read_head_of_call, read_request, read_search};
+ghost use Rattle.giop_head.specs.declared.header.Way.TheVariants.{Asks, Requests};
+ghost use Rattle.giop_head.specs.Call.{read_head_of_call, read_head_of_request, read_request, read_search};
 ghost use Rattle.giop_head.specs.Items.{read_end};
 ghost use Rattle.giop_head.specs.Heads.{StopsWith};
-ghost use Rattle.giop_head.specs.Told.{BeginsCall, ToldCall, Tells, asked_seen, call_seen, call_told, search_seen};
+ghost use Rattle.giop_head.specs.Told.{BeginsCall, BeginsRequest, ToldCall, ToldRequest, Tells, asked_seen, call_seen, call_told, request_seen, request_told, search_seen};
 ghost use Rattle.giop_head.specs.Readers.{Gives, Passing, seen_by, told};
 
 use crate::contexts::{any_sequence, contexts};
@@ -47,6 +47,42 @@ pub fn read_call(message: &[u8]) -> Result<GiopCall<'_>, HeadErr>
         rest: message,
     };
     call_at(message.len(), at)
+}
+
+/// The head of a request: the object's key, the name of the operation, and how many octets the head
+/// takes. The arguments follow it.
+#[derive(Clone, Copy, Debug)]
+pub struct GiopRequest<'a> {
+    pub head: Head,
+    pub key: &'a [u8],
+    pub name: &'a [u8],
+    pub used: usize,
+}
+
+/// Reads the head of a Request alone, in either order. Any other message has the fault of its type.
+pub fn read_request(message: &[u8]) -> Result<GiopRequest<'_>, HeadErr>
+    ensures spells { (request : ToldRequest) → Tells request_seen result request ↔ BeginsRequest message.now request }
+    ensures stops { (fault : HeadErr) → (result ≡ Err fault) ↔ StopsWith Requests message.now fault }
+{
+    heads_are_read();
+    let at = Cursor {
+        place: 0,
+        rest: message,
+    };
+    request_at(message.len(), at)
+}
+
+fn request_at(total: usize, at: Cursor<'_>) -> Result<GiopRequest<'_>, HeadErr>
+    ensures { seen_by request_seen result ≡ told request_told (read_head_of_request total at.entry.place at.entry.rest.now) }
+{
+    let (header, at) = header(Way::Requests, total, at)?;
+    let (asked, at) = request(header.order, at)?;
+    Ok(GiopRequest {
+        head: shared_head(asked.id, asked.wants, header.order),
+        key: asked.key,
+        name: asked.name,
+        used: at.place,
+    })
 }
 
 fn call_at(total: usize, at: Cursor<'_>) -> Result<GiopCall<'_>, HeadErr>

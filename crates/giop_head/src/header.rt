@@ -21,6 +21,8 @@ const LOCATE: u8 = 3;
 pub enum Way {
     /// Those that ask: a Request or a LocateRequest.
     Asks,
+    /// A Request.
+    Requests,
     /// A Reply.
     Replies,
 }
@@ -53,6 +55,7 @@ fn is_expected(way: Way, message_type: u8) -> bool
 {
     match way {
         Way::Asks => message_type == REQUEST || message_type == LOCATE,
+        Way::Requests => message_type == REQUEST,
         Way::Replies => message_type == REPLY,
     }
 }

@@ -14,7 +14,7 @@ mod refusals;
 mod reply;
 mod shared;
 
-pub use call::{GiopCall, read_call};
+pub use call::{GiopCall, GiopRequest, read_call, read_request};
 pub use header::{Heading, Way};
 pub use laws::{
     begins_or_stops, heads_are_read, own_refusals_have_octets, replies_are_read, requests_are_read,
