@@ -3,3 +3,5 @@ pub mod Coding
 pub mod Growing
 pub mod Naming
 pub mod Along
+pub mod NamedBelow
+pub mod Heading

@@ -5,7 +5,9 @@
 mod laws;
 mod leads;
 mod printing;
+mod seek;
 mod targets;
 
 pub use laws::leads_have_one_length;
 pub use leads::{lead_call, lead_reply, size_patch};
+pub use seek::read_called;

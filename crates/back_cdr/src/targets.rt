@@ -1,6 +1,6 @@
 //! The operations of interfaces, as requests name them.
 
-ghost use Rattle.std.specs.Prelude.{◌≡◌, ◌<◌, ◌≤◌, ◌-◌, [], length, map, slice_index_or};
+ghost use Rattle.std.specs.Prelude.{◌≡◌, ◌<◌, ◌≤◌, ◌^◌, ◌-◌, [], length, map, slice_index_or};
 ghost use Rattle.aoi.specs.Plain.{PlainRaise, plain_interface, plain_operation, plain_raise};
 ghost use Rattle.back_cdr.specs.Targets as defs;
 ghost use Rattle.back_cdr.specs.Targets.{IsCdr, no_target, target_in, target_of, targets};
@@ -35,12 +35,14 @@ fn operation_at(interfaces: &[Interface], place: usize) -> (&Interface, &Operati
     }
 }
 
-/// Each operation of a bound unit is one that requests name. It does nothing.
-fn operations_are_targets(bound: &Bound)
+/// Each operation of a bound unit is one that requests name, and they are few. It does nothing.
+pub(crate) fn operations_are_targets(bound: &Bound)
     requires { IsCdr bound.now.back }
-    ensures { length (targets bound.now.unit.interfaces) ≡ length bound.now.ops }
+    ensures many { length (targets bound.now.unit.interfaces) ≡ length bound.now.ops }
+    ensures few { length bound.now.ops < 2 ^ 32 }
 {
     let _ops = bound.ops();
+    bound.unit().interfaces_are_apart();
 }
 
 /// The operation of a bound unit, and its interface.

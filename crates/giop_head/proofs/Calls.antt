@@ -6,7 +6,7 @@ use Rattle.wire_def.proofs.Grammars.{mapped, both_are}
 use Rattle.giop_head.specs.declared.header.Heading.{Heading}
 use Rattle.giop_head.specs.declared.header.Way.TheVariants.{Asks, Requests}
 use Rattle.giop_head.specs.Header.{HeaderSpells}
-use Rattle.giop_head.specs.Call.{Request, RequestSpells, RequestStops, read_request, Search, SearchSpells, SearchStops, read_search, Call, request, search_for, CallSpells, AskedStops, CallStops, read_asked, read_head_of_call, Ordered, OrderedSpells, OrderedStops, read_head_of_request}
+use Rattle.giop_head.specs.Call.{Request, RequestSpells, RequestStops, read_request, Search, SearchSpells, SearchStops, read_search, Call, request, search_for, CallSpells, AskedStops, CallStops, read_asked, read_head_of_call, OrderedSpells, OrderedStops, read_head_of_request}
 use Rattle.giop_head.proofs.Leaves.{long_is, flag_is, sequence_is, string_is, end_is}
 use Rattle.giop_head.proofs.Passed.{contexts_are, any_sequence_is}
 use Rattle.giop_head.proofs.Headers.{header_is, is_expected, asks_three, requests_zero}
