@@ -5,3 +5,4 @@ pub mod Naming
 pub mod Along
 pub mod NamedBelow
 pub mod Heading
+pub mod NamedRight

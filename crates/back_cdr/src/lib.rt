@@ -8,6 +8,6 @@ mod printing;
 mod seek;
 mod targets;
 
-pub use laws::leads_have_one_length;
+pub use laws::{leads_have_one_length, requests_are_named_right};
 pub use leads::{lead_call, lead_reply, size_patch};
 pub use seek::read_called;
