@@ -1,7 +1,8 @@
-// Sends and reads large values, so that what an octet costs can be counted: VERB SHAPE COUNT.
+// Sends and reads large values, so that what an octet costs can be counted: VERB SHAPE COUNT [ENCODING].
 #![tactic(auto)]
 
-ghost use Rattle.std.specs.Prelude.{◌<◌, length, IfOk};
+ghost use Rattle.std.specs.Prelude.{◌<◌, length, IfOk, IfSome};
+ghost use Rattle.wire_def.specs.Lone.{IsPlain};
 
 use anyhow::{Result, bail};
 use kit_base::{NoMemory, Octets};
@@ -33,6 +34,10 @@ enum Shape {
     Structs,
     /// An opaque.
     Opaque,
+    /// A row of characters.
+    Chars,
+    /// A text.
+    Text,
 }
 
 fn verb_of(word: &str) -> Option<Verb> {
@@ -49,7 +54,22 @@ fn shape_of(word: &str) -> Option<Shape> {
         "ints" => Some(Shape::Ints),
         "structs" => Some(Shape::Structs),
         "opaque" => Some(Shape::Opaque),
+        "chars" => Some(Shape::Chars),
+        "text" => Some(Shape::Text),
         _ => None,
+    }
+}
+
+/// The encoding of a word: XDR where there is none.
+fn encoding_of(word: Option<&str>) -> Option<Encoding>
+    ensures { IfSome result IsPlain }
+{
+    match word {
+        None => Some(Encoding::Xdr),
+        Some("xdr") => Some(Encoding::Xdr),
+        Some("cdr-be") => Some(Encoding::CdrBig),
+        Some("cdr-le") => Some(Encoding::CdrLittle),
+        Some(_) => None,
     }
 }
 
@@ -59,6 +79,8 @@ fn table_of(alloc: Global, shape: Shape) -> Result<(Mint, u32)> {
     let id = match shape {
         Shape::Ints => table.add(Node::Row(Kind::I32, Count::Any)),
         Shape::Opaque => table.add(Node::Row(Kind::Octet, Count::Any)),
+        Shape::Chars => table.add(Node::Row(Kind::Char, Count::Any)),
+        Shape::Text => table.add(Node::Text(Count::Any)),
         Shape::Structs => {
             let Ok(number) = table.add(Node::Num(Kind::I32)) else {
                 bail!("no number");
@@ -101,10 +123,17 @@ fn list_of_structs(alloc: Global, count: u32) -> Result<Value, NoMemory> {
     Ok(Value::Items(items))
 }
 
-fn opaque(alloc: Global, count: u32) -> Result<Value, NoMemory> {
+fn octets_of(alloc: Global, count: u32) -> Result<Value, NoMemory> {
     let mut row = Row::new(alloc, Kind::Octet);
     let octets = vec![in alloc; 7u8; count as usize]?;
     row.append_image(&octets)?;
+    Ok(Value::Row(row))
+}
+
+fn letters_of(alloc: Global, count: u32) -> Result<Value, NoMemory> {
+    let mut row = Row::new(alloc, Kind::Char);
+    let letters = vec![in alloc; 97u8; count as usize]?;
+    row.append_image(&letters)?;
     Ok(Value::Row(row))
 }
 
@@ -112,12 +141,15 @@ fn value_of(alloc: Global, shape: Shape, count: u32) -> Result<Value, NoMemory> 
     match shape {
         Shape::Ints => row_of_ints(alloc, count),
         Shape::Structs => list_of_structs(alloc, count),
-        Shape::Opaque => opaque(alloc, count),
+        Shape::Opaque => octets_of(alloc, count),
+        Shape::Chars | Shape::Text => letters_of(alloc, count),
     }
 }
 
 /// Sends a value and reads it back, as far as the verb goes; answers how many octets that took.
-fn run(alloc: Global, verb: Verb, shape: Shape, count: u32) -> Result<usize> {
+fn run(alloc: Global, verb: Verb, shape: Shape, count: u32, enc: Encoding) -> Result<usize>
+    requires { IsPlain enc }
+{
     let (table, id) = table_of(alloc, shape)?;
     let Ok(value) = value_of(alloc, shape, count) else {
         bail!("no memory for the value");
@@ -129,7 +161,7 @@ fn run(alloc: Global, verb: Verb, shape: Shape, count: u32) -> Result<usize> {
         bail!("the value is not of the type");
     }
     let mut message = Octets::new(alloc);
-    if plain_send(Encoding::Xdr, &table, id, 0, &value, &mut message).is_err() {
+    if plain_send(enc, &table, id, 0, &value, &mut message).is_err() {
         bail!("no memory for the message");
     }
     if verb == Verb::Send {
@@ -138,7 +170,7 @@ fn run(alloc: Global, verb: Verb, shape: Shape, count: u32) -> Result<usize> {
     if message.len() > 4_194_304 {
         bail!("the message is too long");
     }
-    match plain_read(alloc, Encoding::Xdr, &table, id, 0, message.as_slice()) {
+    match plain_read(alloc, enc, &table, id, 0, message.as_slice()) {
         Ok(Read::Value(_, used)) => Ok(used),
         Ok(Read::Stop(_)) => bail!("a fault"),
         Err(NoMemory) => bail!("no memory to read"),
@@ -152,12 +184,19 @@ fn main(rt: HostRuntime) -> Result<()> {
     let count = words
         .next()
         .and_then(|word| word.as_str().parse::<u32>().ok());
-    match (verb, shape, count) {
-        (Some(verb), Some(shape), Some(count)) => {
-            let used = run(rt.alloc(), verb, shape, count)?;
+    let last = words.next();
+    let enc = encoding_of(match &last {
+        Some(word) => Some(word.as_str()),
+        None => None,
+    });
+    match (verb, shape, count, enc) {
+        (Some(verb), Some(shape), Some(count), Some(enc)) => {
+            let used = run(rt.alloc(), verb, shape, count, enc)?;
             println!(rt; "{used} octets")?;
             Ok(())
         }
-        _ => bail!("usage: wire_bench make|send|read ints|structs|opaque COUNT"),
+        _ => bail!(
+            "usage: wire_bench make|send|read ints|structs|opaque|chars|text COUNT [xdr|cdr-be|cdr-le]"
+        ),
     }
 }

@@ -1,0 +1,5 @@
+use Rattle.back_cdr.proofs.NamedRight.{named_right}
+use Rattle.back_cdr.proofs.laws.requests_are_named_right.Goals as goal
+
+pub returns : goal.returns
+returns c = named_right

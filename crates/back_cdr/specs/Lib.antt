@@ -1,0 +1,5 @@
+pub mod Targets
+pub mod Leads
+pub mod Coded
+pub mod Seeking
+pub mod Laws

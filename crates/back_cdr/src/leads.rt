@@ -1,0 +1,162 @@
+//! The heads that are sent, as code.
+
+ghost use Rattle.std.specs.Prelude.{◌≡◌, ◌<◌, ◌≤◌, ◌∷◌, [], length, take, drop, IfOk};
+ghost use Rattle.cast_stub.specs.Block.{chunk, op_seen, patch};
+ghost use Rattle.cast_stub.specs.declared.put.Put.TheVariants as put;
+ghost use Rattle.cast_stub.specs.declared.put.HeadField.TheVariants.{Id};
+ghost use Rattle.stub_lower.specs.Leads.{Leads, AreChunks};
+ghost use Rattle.back_cdr.specs.Coded.{IsCoded, with_id};
+ghost use Rattle.back_cdr.specs.Leads.{lead, reply_lead};
+ghost use Rattle.back_cdr.specs.Targets.{IsCdr, target_of};
+ghost use Rattle.back_cdr.specs.Targets as defs;
+
+use crate::printing::{answer, request, user};
+use crate::targets::{exception_of, operation_of, order_of};
+use cast_stub::{HeadField, Put, Puts, SendCode, SendOp, SendOps, SendSubs};
+use kit_base::{NoMemory, Octets};
+use pres::Bound;
+use std::alloc::Global;
+use wire_def::{Back, Order};
+
+/// One chunk of octets.
+#[tactic(auto, using(crate::proofs::Coding::coding))]
+fn constant(alloc: Global, octets: &[u8]) -> Result<SendOp, NoMemory>
+    ensures { IfOk result (λ op. op_seen op ≡ chunk (length octets.now) (put.Const 0 octets.now ∷ [])) }
+{
+    let size = match u32::try_from(octets.len()) {
+        Ok(size) => size,
+        Err(_) => return Err(NoMemory),
+    };
+    let mut puts = Puts::new(alloc);
+    puts.push(Put::Const(0, Octets::from_slice(alloc, octets)?))?;
+    Ok(SendOp::Chunk(size, puts))
+}
+
+/// One chunk of the request's id.
+#[tactic(auto, using(crate::proofs::Coding::coding))]
+fn id(alloc: Global, order: Order) -> Result<SendOp, NoMemory>
+    ensures { IfOk result (λ op. op_seen op ≡ chunk 4 (put.Head 0 Id 4 order ∷ [])) }
+{
+    let mut puts = Puts::new(alloc);
+    puts.push(Put::Head(0, HeadField::Id, 4, order))?;
+    Ok(SendOp::Chunk(4, puts))
+}
+
+/// The octets in front of the id.
+fn before_id(octets: &[u8]) -> &[u8]
+    requires { 20 ≤ length octets.now }
+    ensures { result.now ≡ take 16 octets.now }
+{
+    &octets[..16]
+}
+
+/// The octets behind the id.
+fn after_id(octets: &[u8]) -> &[u8]
+    requires { 20 ≤ length octets.now }
+    ensures { result.now ≡ drop 20 octets.now }
+{
+    &octets[20..]
+}
+
+/// Chunks of these octets, with the request's id from the 17th on.
+fn chunks_of(alloc: Global, order: Order, octets: &[u8]) -> Result<SendCode, NoMemory>
+    requires { 20 ≤ length octets.now }
+    ensures { IfOk result (λ code. IsCoded order octets.now code) }
+{
+    let mut ops = SendOps::new(alloc);
+    ops.push(constant(alloc, before_id(octets))?)?;
+    ops.push(id(alloc, order)?)?;
+    ops.push(constant(alloc, after_id(octets))?)?;
+    Ok(SendCode {
+        ops,
+        subs: SendSubs::new(alloc),
+    })
+}
+
+/// Code that is these octets, with the request's id from the 17th on.
+fn code_of(alloc: Global, order: Order, octets: &[u8]) -> Result<SendCode, NoMemory>
+    requires { 20 ≤ length octets.now }
+    ensures means { IfOk result (λ code. Leads (λ h. with_id order octets.now h.id) code) }
+    ensures chunks { IfOk result AreChunks }
+{
+    chunks_of(alloc, order, octets)
+}
+
+/// The order of the messages that are sent.
+fn sent_order(bound: &Bound) -> Order
+    ensures { result ≡ defs.order_of bound.now.back }
+{
+    order_of(bound.back())
+}
+
+/// The octets of the head of a request, with 0 as its id.
+fn call_octets(alloc: Global, order: Order, bound: &Bound, op: u32) -> Result<Octets, NoMemory>
+    requires cdr { IsCdr bound.now.back }
+    requires op { op < length bound.now.ops }
+    ensures { IfOk result (λ o. o ≡ lead order (target_of bound.now op) 0) }
+{
+    let (i, called) = operation_of(bound, op);
+    request(
+        alloc,
+        order,
+        !called.oneway,
+        i.name.as_slice(),
+        called.name.as_slice(),
+    )
+}
+
+/// The octets of the head of a reply, with 0 as its id.
+fn reply_octets(
+    alloc: Global,
+    order: Order,
+    bound: &Bound,
+    op: u32,
+    arm: u32,
+) -> Result<Octets, NoMemory>
+    requires cdr { IsCdr bound.now.back }
+    requires op { op < length bound.now.ops }
+    requires arm { arm ≤ length (target_of bound.now op).ids }
+    ensures { IfOk result (λ o. o ≡ reply_lead order (target_of bound.now op) arm 0) }
+{
+    if arm == 0 {
+        answer(alloc, order)
+    } else {
+        user(alloc, order, exception_of(bound, op, arm))
+    }
+}
+
+/// The head of an operation's request: the object's key is the name of its interface. The size is
+/// told by `size_patch`.
+pub fn lead_call(alloc: Global, bound: &Bound, op: u32) -> Result<SendCode, NoMemory>
+    requires cdr { IsCdr bound.now.back }
+    requires op { op < length bound.now.ops }
+    ensures means { IfOk result (λ code. Leads (λ h. lead (defs.order_of bound.now.back) (target_of bound.now op) h.id) code) }
+    ensures chunks { IfOk result AreChunks }
+{
+    let order = sent_order(bound);
+    let octets = call_octets(alloc, order, bound, op)?;
+    code_of(alloc, order, octets.as_slice())
+}
+
+/// The head of a reply to an operation: arm 0 is the answer, arm k the k-th of its exceptions. The
+/// size is told by `size_patch`.
+pub fn lead_reply(alloc: Global, bound: &Bound, op: u32, arm: u32) -> Result<SendCode, NoMemory>
+    requires cdr { IsCdr bound.now.back }
+    requires op { op < length bound.now.ops }
+    requires arm { arm ≤ length (target_of bound.now op).ids }
+    ensures means { IfOk result (λ code. Leads (λ h. reply_lead (defs.order_of bound.now.back) (target_of bound.now op) arm h.id) code) }
+    ensures chunks { IfOk result AreChunks }
+{
+    let order = sent_order(bound);
+    let octets = reply_octets(alloc, order, bound, op, arm)?;
+    code_of(alloc, order, octets.as_slice())
+}
+
+/// The operation that tells the size of a message, once all of it stands: the number of octets
+/// behind the 12 of the header.
+#[tactic(auto, using(crate::proofs::Coding::patching))]
+pub fn size_patch(back: Back) -> SendOp
+    ensures { op_seen result ≡ patch 8 12 (defs.order_of back) }
+{
+    SendOp::Patch(8, 12, order_of(back))
+}

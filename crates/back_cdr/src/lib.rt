@@ -1,0 +1,13 @@
+//! Requests over GIOP 1.0 (OMG CORBA, chapter GIOP), and CDR in either order: the heads that are
+//! sent, as code.
+#![tactic(auto)]
+
+mod laws;
+mod leads;
+mod printing;
+mod seek;
+mod targets;
+
+pub use laws::{leads_have_one_length, requests_are_named_right};
+pub use leads::{lead_call, lead_reply, size_patch};
+pub use seek::read_called;

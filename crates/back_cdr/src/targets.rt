@@ -1,0 +1,77 @@
+//! The operations of interfaces, as requests name them.
+
+ghost use Rattle.std.specs.Prelude.{◌≡◌, ◌<◌, ◌≤◌, ◌^◌, ◌-◌, [], length, map, slice_index_or};
+ghost use Rattle.aoi.specs.Plain.{PlainRaise, plain_interface, plain_operation, plain_raise};
+ghost use Rattle.back_cdr.specs.Targets as defs;
+ghost use Rattle.back_cdr.specs.Targets.{IsCdr, no_target, target_in, target_of, targets};
+
+use aoi::{Interface, Operation, Raise};
+use pres::Bound;
+use wire_def::{Back, Order};
+
+/// The order of the messages that a back end sends.
+pub(crate) fn order_of(back: Back) -> Order
+    ensures { result ≡ defs.order_of back }
+{
+    match back {
+        Back::CdrLittle => Order::Little,
+        _ => Order::Big,
+    }
+}
+
+/// The operation at a place, counted from 0 over all interfaces, and its interface.
+fn operation_at(interfaces: &[Interface], place: usize) -> (&Interface, &Operation)
+    requires { place < length (targets (map plain_interface interfaces.now)) }
+    ensures { slice_index_or (targets (map plain_interface interfaces.now)) place no_target ≡ target_in (plain_interface result.0.now) (plain_operation result.1.now) }
+{
+    let Some((i, others)) = interfaces.split_first() else {
+        unreachable!()
+    };
+    let ops = i.ops.as_slice();
+    if place < ops.len() {
+        (i, &ops[place])
+    } else {
+        operation_at(others, place - ops.len())
+    }
+}
+
+/// Each operation of a bound unit is one that requests name, and they are few. It does nothing.
+pub(crate) fn operations_are_targets(bound: &Bound)
+    requires { IsCdr bound.now.back }
+    ensures many { length (targets bound.now.unit.interfaces) ≡ length bound.now.ops }
+    ensures few { length bound.now.ops < 2 ^ 32 }
+{
+    let _ops = bound.ops();
+    bound.unit().interfaces_are_apart();
+}
+
+/// The operation of a bound unit, and its interface.
+pub(crate) fn operation_of(bound: &Bound, op: u32) -> (&Interface, &Operation)
+    requires cdr { IsCdr bound.now.back }
+    requires op { op < length bound.now.ops }
+    ensures { target_in (plain_interface result.0.now) (plain_operation result.1.now) ≡ target_of bound.now op }
+{
+    operations_are_targets(bound);
+    operation_at(bound.unit().interfaces().as_slice(), op as usize)
+}
+
+/// The repository id of an exception, by its place from 1.
+fn id_at(raises: &[Raise], arm: u32) -> &[u8]
+    requires some { 0 < arm }
+    requires there { arm ≤ length raises.now }
+    ensures { result.now ≡ slice_index_or (map (λ (r : PlainRaise). r.id) (map plain_raise raises.now)) (arm - 1) [] }
+{
+    raises[arm as usize - 1].id.as_slice()
+}
+
+/// The repository id of an operation's exception, by its place from 1.
+pub(crate) fn exception_of(bound: &Bound, op: u32, arm: u32) -> &[u8]
+    requires cdr { IsCdr bound.now.back }
+    requires op { op < length bound.now.ops }
+    requires some { 0 < arm }
+    requires there { arm ≤ length (target_of bound.now op).ids }
+    ensures { result.now ≡ slice_index_or (target_of bound.now op).ids (arm - 1) [] }
+{
+    let (_, called) = operation_of(bound, op);
+    id_at(called.raises.as_slice(), arm)
+}

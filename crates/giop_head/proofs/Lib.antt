@@ -1,0 +1,12 @@
+pub mod Ended
+pub mod Leaves
+pub mod Steps
+pub mod Passed
+pub mod Headers
+pub mod Calls
+pub mod Replies
+pub mod Lawful
+pub mod Exact
+pub mod Putting
+pub mod Sending
+pub mod Sent

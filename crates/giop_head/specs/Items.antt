@@ -1,0 +1,119 @@
+-- What the fields of heads are made of (OMG CORBA, chapter GIOP, section on CDR: primitive types, strings, sequences).
+use Rattle.std.specs.Prelude.{◌≡◌, ℕ, zero, suc, ◌+◌, ◌-◌, ◌<◌, List, [], ◌∷◌, ◌++◌, length, take, Bool, true, false, nat_le, ◌==◌, if◌then◌else◌}
+use Rattle.std.specs.Int.{w32}
+use Rattle.std.specs.List.{AllByRecursion}
+use Rattle.wire_def.specs.declared.encoding.Encoding.{Encoding}
+use Rattle.wire_def.specs.declared.encoding.Encoding.TheVariants.{CdrBig, CdrLittle}
+use Rattle.wire_def.specs.declared.fault.FaultKind.{FaultKind}
+use Rattle.wire_def.specs.declared.fault.HeadErr.{HeadErr}
+use Rattle.wire_def.specs.declared.fault.HeadErr.TheVariants.{Short, Item, Text, Size}
+use Rattle.wire_def.specs.declared.head.Order.{Order}
+use Rattle.wire_def.specs.declared.head.Order.TheVariants.{Big, Little}
+use Rattle.wire_def.specs.Grammar.{Reading, got, stop, Reader, Spelling, Stopping, map_got, both, tested, Parts, StopsInOrder, TestedSpells, TestedStops}
+use Rattle.wire_def.specs.HeadItems.{BodySpells, BodyStops, read_body}
+use Rattle.wire_def.specs.Scalars.{gap, WordSpells, read_word}
+
+-- how the octets of a message lie
+abbrev pub laid : Order → Encoding
+laid Big = CdrBig
+laid Little = CdrLittle
+
+-- ---- unsigned longs: four octets, the first at a multiple of 4, behind octets of any content
+
+abbrev pub LongSpells : Order → Spelling ℕ
+LongSpells r = WordSpells (laid r) 4 w32
+
+-- octets that end before the number does
+abbrev pub LongStops : Stopping HeadErr
+LongStops p o k at = (length o < gap p 4 + 4) × (k ≡ Short) × (at ≡ p + gap p 4)
+
+-- what was read, or that it is cut off
+abbrev pub or_short : {A : Type 0} → Reading FaultKind A → Reading HeadErr A
+or_short (got x p o) = got x p o
+or_short (stop k at) = stop Short at
+
+unfoldable pub read_long : Order → Reader HeadErr ℕ
+read_long r p o = or_short (read_word (laid r) 4 w32 p o)
+
+-- the numbers up to this one
+abbrev pub up_to : ℕ → ℕ → Bool
+up_to m n = nat_le n m
+
+-- where an unsigned long is
+abbrev pub long_place : ℕ → ℕ
+long_place p = p + gap p 4
+
+-- a number up to the greatest that the field can have
+abbrev pub PassSpells : Order → ℕ → Spelling ℕ
+PassSpells r m = TestedSpells (LongSpells r) (up_to m)
+
+abbrev pub PassStops : Order → ℕ → Stopping HeadErr
+PassStops r m = TestedStops (LongSpells r) LongStops (up_to m) Item long_place
+
+abbrev pub read_pass : Order → ℕ → Reader HeadErr ℕ
+read_pass r m = tested (read_long r) (up_to m) Item long_place
+
+-- ---- booleans: an octet 0 or 1
+
+abbrev pub flag : Bool → ℕ
+flag false = 0
+flag true = 1
+
+abbrev pub FlagSpells : Spelling Bool
+FlagSpells p o b = o ≡ flag b ∷ []
+
+unfoldable pub FlagStops : Stopping HeadErr
+FlagStops p [] k at = (k ≡ Short) × (at ≡ p)
+FlagStops p (suc (suc b) ∷ o) k at = (k ≡ Item) × (at ≡ p)
+FlagStops p (b ∷ o) k at = ⊥
+
+unfoldable pub read_flag : Reader HeadErr Bool
+read_flag p [] = stop Short p
+read_flag p (zero ∷ o) = got false (p + 1) o
+read_flag p (suc zero ∷ o) = got true (p + 1) o
+read_flag p (suc (suc b) ∷ o) = stop Item p
+
+-- ---- sequences of octets: their number, and they
+
+abbrev pub SequenceSpells : Order → Spelling (List ℕ)
+SequenceSpells r p o s = Parts p o (λ a. LongSpells r p a (length s)) (λ q b. b ≡ s)
+
+abbrev pub SequenceStops : Order → Stopping HeadErr
+SequenceStops r = StopsInOrder (LongSpells r) LongStops BodyStops
+
+unfoldable pub read_sequence : Order → Reader HeadErr (List ℕ)
+read_sequence r p o = map_got (λ x. x.1) (both (read_long r) read_body p o)
+
+-- ---- strings: the number of octets with the 0 at the end, the octets, the 0
+
+-- octets of which none is 0
+abbrev pub HasNoZero : List ℕ → Type 0
+HasNoZero s = AllByRecursion (λ b. 0 < b) s
+
+abbrev pub StringSpells : Order → Spelling (List ℕ)
+StringSpells r p o s = Parts p o (λ a. LongSpells r p a (suc (length s))) (λ q b. (b ≡ s ++ (0 ∷ [])) × HasNoZero s)
+
+-- whether there is an octet 0 at the end, and no other
+abbrev pub is_ended : List ℕ → Bool
+is_ended [] = false
+is_ended (zero ∷ []) = true
+is_ended (zero ∷ (b ∷ o)) = false
+is_ended (suc b ∷ o) = is_ended o
+
+-- a string that is cut off, has no octets, no 0 at the end, or another 0
+abbrev pub StringStops : Order → Stopping HeadErr
+StringStops r = StopsInOrder (LongSpells r) LongStops (λ n. TestedStops (BodySpells n) (BodyStops n) is_ended Text (λ p. p))
+
+unfoldable pub read_string : Order → Reader HeadErr (List ℕ)
+read_string r p o = map_got (λ x. take (x.0 - 1) x.1) (both (read_long r) (λ n. tested (read_body n) is_ended Text (λ p. p)) p o)
+
+-- ---- the end of a message of so many octets
+
+abbrev pub EndSpells : ℕ → Spelling (Unit {0})
+EndSpells n p o x = (o ≡ []) × (p ≡ n)
+
+abbrev pub EndStops : ℕ → Stopping HeadErr
+EndStops n p o k at = ((p == n) ≡ false) × (k ≡ Size) × (at ≡ p)
+
+abbrev pub read_end : ℕ → Reader HeadErr (Unit {0})
+read_end n p o = if p == n then got tt p o else stop Size p

@@ -1,0 +1,71 @@
+-- Laws of the heads.
+use Rattle.std.specs.Prelude.{◌≡◌, ◌⊎◌, ◌↔◌, ℕ, suc, ◌-◌, ◌^◌, ◌<◌, ◌≤◌, true, List, ◌++◌, length, Some}
+use Rattle.wire_def.specs.declared.fault.HeadErr.{HeadErr}
+use Rattle.wire_def.specs.Grammar.{AreOctets, IsGrammar}
+use Rattle.wire_def.specs.declared.head.Order.{Order}
+use Rattle.wire_def.specs.declared.outcome.Refusal.{Refusal}
+use Rattle.giop_head.specs.Items.{HasNoZero}
+use Rattle.giop_head.specs.Call.{Request}
+use Rattle.giop_head.specs.Reply.{Fate, answer, user, system}
+use Rattle.giop_head.specs.Printed.{request_octets, answer_octets, user_octets, system_octets, with_size, refusal_octets, IsOwn}
+use Rattle.giop_head.specs.Told.{shared_head, requested, BeginsCall, BeginsReply}
+use Rattle.giop_head.specs.declared.header.Way.{Way}
+use Rattle.giop_head.specs.Heads.{HeadOf, HeadSpells, HeadStops, read_head, BeginsWith, StopsWith}
+
+-- a message begins with a head or stops with a fault, one of the two, and which head and which fault is determined
+pub record IsDecided (w : Way) (message : List ℕ) : Type 0 where
+  pub either : ((h : HeadOf w) × (used : ℕ) × BeginsWith w message h used) ⊎ ((e : HeadErr) × StopsWith w message e)
+  pub not_both : (h : HeadOf w) (used : ℕ) (e : HeadErr) → BeginsWith w message h used → StopsWith w message e → ⊥
+  pub one_head : (h j : HeadOf w) (used m : ℕ) → BeginsWith w message h used → BeginsWith w message j m → (h ≡ j) × (used ≡ m)
+  pub one_fault : (d e : HeadErr) → StopsWith w message d → StopsWith w message e → d ≡ e
+
+-- so it is for each message
+abbrev pub HeadsAreDecided : Type 0
+HeadsAreDecided = (w : Way) (message : List ℕ) → AreOctets message → IsDecided w message
+
+-- what is read of a message of any length is spelled, and where reading stops there is the fault
+abbrev pub HeadsAreRead : Type 0
+HeadsAreRead = (w : Way) (n : ℕ) → IsGrammar (read_head w n) (HeadSpells w n) (HeadStops w n)
+
+-- ---- what is sent
+
+-- a number that an unsigned long can hold
+abbrev pub IsLong : ℕ → Type 0
+IsLong n = n < 2 ^ 32
+
+-- a request whose numbers and lengths are unsigned longs
+pub record IsRequest (q : Request) : Type 0 where
+  pub id : IsLong q.id
+  pub key : IsLong (length q.key)
+  pub name : IsLong (suc (length q.name))
+  pub letters : HasNoZero q.name
+
+-- a string
+abbrev pub IsString : List ℕ → Type 0
+IsString s = IsLong (suc (length s)) × HasNoZero s
+
+-- how a request may fare
+abbrev pub IsFate : Fate → Type 0
+IsFate answer = Unit {0}
+IsFate (user s) = IsString s
+IsFate (system s minor completion) = IsString s × (IsLong minor × (completion ≤ 2))
+
+-- the head of a reply
+abbrev pub reply_octets : Order → ℕ → Fate → List ℕ
+reply_octets r id answer = answer_octets r id
+reply_octets r id (user s) = user_octets r id s
+reply_octets r id (system s minor completion) = system_octets r id s minor completion
+
+-- the head that is sent of a request is read as that request, whatever follows
+abbrev pub RequestsAreRead : Type 0
+RequestsAreRead = (r : Order) (q : Request) (body : List ℕ) → IsRequest q → IsLong (length (request_octets r q ++ body) - 12)
+    → BeginsCall (with_size r (request_octets r q ++ body)) (requested (shared_head q.id q.wants r) q.key q.name (length (request_octets r q)))
+
+-- the head that is sent of a reply is read as that reply, whatever follows
+abbrev pub RepliesAreRead : Type 0
+RepliesAreRead = (r : Order) (id : ℕ) (f : Fate) (body : List ℕ) → IsLong id → IsFate f → IsLong (length (reply_octets r id f ++ body) - 12)
+    → BeginsReply (with_size r (reply_octets r id f ++ body)) (record { head = shared_head id true r; fate = Some f; used = length (reply_octets r id f) })
+
+-- the refusals of this format are those that have octets
+abbrev pub OwnHaveOctets : Type 0
+OwnHaveOctets = (r : Order) (id : ℕ) (refusal : Refusal) → IsOwn refusal ↔ ((o : List ℕ) × (refusal_octets r id refusal ≡ Some o))

@@ -1,0 +1,10 @@
+pub mod Items
+pub mod Contexts
+pub mod Header
+pub mod Call
+pub mod Reply
+pub mod Heads
+pub mod Told
+pub mod Readers
+pub mod Printed
+pub mod Laws

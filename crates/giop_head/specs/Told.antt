@@ -1,0 +1,102 @@
+-- What callers are told of a head.
+use Rattle.std.specs.Prelude.{◌≡◌, ℕ, Bool, true, List, Option, Some, None, Result, Ok, Err}
+use Rattle.std.specs.Borrow.{Bor}
+use Rattle.wire_def.specs.declared.fault.HeadErr.{HeadErr}
+use Rattle.wire_def.specs.declared.head.Head.{Head}
+use Rattle.wire_def.specs.declared.head.Order.{Order}
+use Rattle.wire_def.specs.declared.reply.ReplyHead.{ReplyHead}
+use Rattle.wire_def.specs.declared.reply.Status.{Status}
+use Rattle.wire_def.specs.declared.reply.Status.TheVariants.{Answer, User, System}
+use Rattle.giop_head.specs.declared.header.Way.TheVariants.{Asks, Requests, Replies}
+use Rattle.giop_head.specs.declared.call.GiopCall.{GiopCall}
+use Rattle.giop_head.specs.declared.call.GiopCall.TheVariants as calls
+use Rattle.giop_head.specs.declared.call.Asked.{Asked}
+use Rattle.giop_head.specs.declared.call.GiopRequest.{GiopRequest}
+use Rattle.giop_head.specs.Call.{Request, Search, Call, request, search_for, Ordered}
+use Rattle.giop_head.specs.Reply.{Fate, answer, user, system, Reply}
+use Rattle.giop_head.specs.Heads.{BeginsWith}
+
+-- of the fields that all back ends share these heads have the id, whether a reply is wanted, and the order
+abbrev pub shared_head : ℕ → Bool → Order → Head
+shared_head id wants order = record { id = id; remote = 0; local = 0; wants = wants; order = order }
+
+-- ---- calls
+
+-- what is told of a message that asks, with the octets of key and name
+pub data ToldCall : Type 0 where
+  requested : Head → List ℕ → List ℕ → ℕ → ToldCall
+  sought : ℕ → List ℕ → ToldCall
+
+abbrev pub call_seen : GiopCall → ToldCall
+call_seen (calls.Request head key name used) = requested head key.now name.now used
+call_seen (calls.Locate id key) = sought id key.now
+
+-- the fields of a request
+abbrev pub asked_seen : Asked → Request
+asked_seen a = record { id = a.id; wants = a.wants; key = a.key.now; name = a.name.now }
+
+-- the fields of a search
+abbrev pub search_seen : ℕ × Bor (List ℕ) → Search
+search_seen x = record { id = x.0; key = x.1.now }
+
+-- a request, by a head of so many octets, or a search
+abbrev pub call_told : Call → ℕ → ToldCall
+call_told (request r q) used = requested (shared_head q.id q.wants r) q.key q.name used
+call_told (search_for r s) used = sought s.id s.key
+
+-- a message begins with the head of a call, of which this is told
+abbrev pub BeginsCall : List ℕ → ToldCall → Type 0
+BeginsCall message told = (c : Call) × (used : ℕ) × BeginsWith Asks message c used × (call_told c used ≡ told)
+
+-- ---- requests alone
+
+-- what is told of a request, with the octets of key and name
+pub record ToldRequest : Type 0 where
+  pub head : Head
+  pub key : List ℕ
+  pub name : List ℕ
+  pub used : ℕ
+
+abbrev pub request_seen : GiopRequest → ToldRequest
+request_seen r = record { head = r.head; key = r.key.now; name = r.name.now; used = r.used }
+
+-- a request, by a head of so many octets
+abbrev pub request_told : Ordered → ℕ → ToldRequest
+request_told x used = record { head = shared_head x.request.id x.request.wants x.order; key = x.request.key; name = x.request.name; used = used }
+
+-- a message begins with the head of a request, of which this is told
+abbrev pub BeginsRequest : List ℕ → ToldRequest → Type 0
+BeginsRequest message told = (x : Ordered) × (used : ℕ) × BeginsWith Requests message x used × (request_told x used ≡ told)
+
+-- ---- replies
+
+-- what is told of a reply, with the octets of a repository id
+pub record ToldReply : Type 0 where
+  pub head : Head
+  pub fate : Option Fate
+  pub used : ℕ
+
+-- how a request fared; no other status is one of these messages
+abbrev pub fate_seen : Status → Option Fate
+fate_seen Answer = Some answer
+fate_seen (User id) = Some (user id.now)
+fate_seen (System id minor completion) = Some (system id.now minor completion)
+fate_seen _ = None
+
+abbrev pub reply_seen : ReplyHead → ToldReply
+reply_seen r = record { head = r.head; fate = fate_seen r.status; used = r.used }
+
+-- how a request fared, by a head of so many octets
+abbrev pub reply_told : Reply → ℕ → ToldReply
+reply_told r used = record { head = shared_head r.id true r.order; fate = Some r.fate; used = used }
+
+-- a message begins with the head of a reply, of which this is told
+abbrev pub BeginsReply : List ℕ → ToldReply → Type 0
+BeginsReply message told = (r : Reply) × (used : ℕ) × BeginsWith Replies message r used × (reply_told r used ≡ told)
+
+-- ---- results, seen so
+
+-- an answer of which this is told
+abbrev pub Tells : {A B : Type 0} → (A → B) → Result A HeadErr → B → Type 0
+Tells view (Ok x) told = view x ≡ told
+Tells view (Err e) told = ⊥

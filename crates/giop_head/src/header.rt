@@ -1,0 +1,124 @@
+//! The header of a message (OMG CORBA, chapter GIOP, section on the message header).
+
+ghost use Rattle.std.specs.Prelude.{◌≡◌, ◌≤◌, length};
+ghost use Rattle.giop_head.specs.Header as heads;
+ghost use Rattle.giop_head.specs.Header.{judged, read_header};
+ghost use Rattle.giop_head.specs.Readers.{Gives, same};
+
+use crate::cursor::Cursor;
+use crate::items::body;
+use wire_def::{HeadErr, Order};
+
+/// The message types that heads of this crate have.
+const REQUEST: u8 = 0;
+
+const REPLY: u8 = 1;
+
+const LOCATE: u8 = 3;
+
+/// Which messages are expected.
+#[derive(Clone, Copy)]
+pub enum Way {
+    /// Those that ask: a Request or a LocateRequest.
+    Asks,
+    /// A Request.
+    Requests,
+    /// A Reply.
+    Replies,
+}
+
+/// What a header says besides the size.
+#[derive(Clone, Copy)]
+pub struct Heading {
+    /// The order of all that follows.
+    pub order: Order,
+    /// The number of the message's type.
+    pub message_type: u8,
+}
+
+fn has_magic(octets: &[u8]) -> bool
+    requires { length octets.now ≡ 12 }
+    ensures { result ≡ heads.has_magic octets.now }
+{
+    octets[0] == b'G' && octets[1] == b'I' && octets[2] == b'O' && octets[3] == b'P'
+}
+
+fn has_version(octets: &[u8]) -> bool
+    requires { length octets.now ≡ 12 }
+    ensures { result ≡ heads.has_version octets.now }
+{
+    octets[4] == 1 && octets[5] == 0
+}
+
+fn is_expected(way: Way, message_type: u8) -> bool
+    ensures { result ≡ heads.expected way message_type }
+{
+    match way {
+        Way::Asks => message_type == REQUEST || message_type == LOCATE,
+        Way::Requests => message_type == REQUEST,
+        Way::Replies => message_type == REPLY,
+    }
+}
+
+fn order_of(octet: u8) -> Order
+    ensures { result ≡ heads.order_of octet }
+{
+    if octet == 0 {
+        Order::Big
+    } else {
+        Order::Little
+    }
+}
+
+/// How many octets follow the header.
+fn size_in(octets: &[u8]) -> u32
+    requires { length octets.now ≡ 12 }
+    ensures { result ≡ heads.size_in octets.now }
+{
+    let size = [octets[8], octets[9], octets[10], octets[11]];
+    match order_of(octets[6]) {
+        Order::Big => u32::from_be_bytes(size),
+        Order::Little => u32::from_le_bytes(size),
+    }
+}
+
+/// What the header of a message of so many octets says, or the first field that is wrong.
+#[tactic(auto, unfolding(crate::specs::Header::judged))]
+fn judged(way: Way, total: usize, octets: &[u8]) -> Result<Heading, HeadErr>
+    requires { length octets.now ≡ 12 }
+    ensures { result ≡ judged way total octets.now }
+{
+    if !has_magic(octets) {
+        return Err(HeadErr::Magic);
+    }
+    if !has_version(octets) {
+        return Err(HeadErr::Version);
+    }
+    if octets[6] > 1 {
+        return Err(HeadErr::Order);
+    }
+    if !is_expected(way, octets[7]) {
+        return Err(HeadErr::Type_);
+    }
+    if size_in(octets) as usize != total.saturating_sub(12) {
+        return Err(HeadErr::Size);
+    }
+    Ok(Heading {
+        order: order_of(octets[6]),
+        message_type: octets[7],
+    })
+}
+
+/// The header of a message of so many octets.
+#[tactic(auto, unfolding(crate::specs::Header::read_header))]
+pub(crate) fn header(
+    way: Way,
+    total: usize,
+    at: Cursor<'_>,
+) -> Result<(Heading, Cursor<'_>), HeadErr>
+    ensures { Gives same result (read_header way total at.entry.place at.entry.rest.now) }
+{
+    let (octets, next) = body(12, at)?;
+    let header = judged(way, total, octets)?;
+    Ok((header, next))
+}

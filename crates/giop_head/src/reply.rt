@@ -1,0 +1,73 @@
+//! The heads of replies (OMG CORBA, chapter GIOP, section on the Reply message).
+
+ghost use Rattle.std.specs.Prelude.{◌≡◌, ◌↔◌, Some};
+ghost use Rattle.wire_def.specs.Grammar.{map_got};
+ghost use Rattle.wire_def.specs.declared.fault.HeadErr.{HeadErr};
+ghost use Rattle.giop_head.specs.declared.header.Way.TheVariants.{Replies};
+ghost use Rattle.giop_head.specs.Reply.{read_fate, read_head_of_reply, read_system};
+ghost use Rattle.giop_head.specs.Heads.{StopsWith};
+ghost use Rattle.giop_head.specs.Told.{BeginsReply, ToldReply, Tells, fate_seen, reply_seen, reply_told};
+ghost use Rattle.giop_head.specs.Readers.{Gives, seen_by, told};
+
+use crate::contexts::contexts;
+use crate::cursor::Cursor;
+use crate::header::{Way, header};
+use crate::items::{long, long_up_to, string};
+use crate::laws::heads_are_read;
+use crate::shared::shared_head;
+use wire_def::{HeadErr, Order, ReplyHead, Status};
+
+/// Reads the head of a Reply, in either order. Service contexts are passed over, whatever they are.
+pub fn read_reply(message: &[u8]) -> Result<ReplyHead<'_>, HeadErr>
+    ensures spells { (reply : ToldReply) → Tells reply_seen result reply ↔ BeginsReply message.now reply }
+    ensures stops { (fault : HeadErr) → (result ≡ Err fault) ↔ StopsWith Replies message.now fault }
+{
+    heads_are_read();
+    let at = Cursor {
+        place: 0,
+        rest: message,
+    };
+    reply_at(message.len(), at)
+}
+
+fn reply_at(total: usize, at: Cursor<'_>) -> Result<ReplyHead<'_>, HeadErr>
+    ensures { seen_by reply_seen result ≡ told reply_told (read_head_of_reply total at.entry.place at.entry.rest.now) }
+{
+    let (header, at) = header(Way::Replies, total, at)?;
+    let order = header.order;
+    let at = contexts(order, at)?;
+    let (id, at) = long(order, at)?;
+    let (status, at) = fate(order, at)?;
+    Ok(ReplyHead {
+        head: shared_head(id, true, order),
+        status,
+        used: at.place,
+    })
+}
+
+/// How a request fared.
+#[tactic(auto, unfolding(crate::specs::Reply::read_fate))]
+fn fate(order: Order, at: Cursor<'_>) -> Result<(Status<'_>, Cursor<'_>), HeadErr>
+    ensures { Gives fate_seen result (map_got Some (read_fate order at.entry.place at.entry.rest.now)) }
+{
+    let (status, at) = long_up_to(2, order, at)?;
+    match status {
+        0 => Ok((Status::Answer, at)),
+        1 => {
+            let (id, at) = string(order, at)?;
+            Ok((Status::User(id), at))
+        }
+        _ => system(order, at),
+    }
+}
+
+/// A system exception.
+#[tactic(auto, unfolding(crate::specs::Reply::read_system))]
+fn system(order: Order, at: Cursor<'_>) -> Result<(Status<'_>, Cursor<'_>), HeadErr>
+    ensures { Gives fate_seen result (map_got Some (read_system order at.entry.place at.entry.rest.now)) }
+{
+    let (id, at) = string(order, at)?;
+    let (minor, at) = long(order, at)?;
+    let (completion, at) = long_up_to(2, order, at)?;
+    Ok((Status::System(id, minor, completion), at))
+}

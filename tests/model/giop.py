@@ -1,0 +1,257 @@
+"""Heads of GIOP messages, version 1.0 (OMG CORBA, chapter GIOP), in either order, and values read over CDR.
+
+As all of the model it is written from the standard and docs/, with nothing of the crates in it.
+"""
+from nodes import WIDTHS, arm_of, count_of, greatest, is_exact, least, sent, tag_kind
+
+REQUEST, REPLY, LOCATE_REQUEST, LOCATE_REPLY, MESSAGE_ERROR = 0, 1, 3, 4, 6
+USER, SYSTEM = 1, 2
+ORDERS = ("big", "little")
+ENCODINGS = {"cdr_big": "big", "cdr_little": "little"}
+
+
+class Stop(Exception):
+    """The first item that is cut off or wrong, and its place."""
+
+    def __init__(self, kind, at):
+        super().__init__(f"{kind} {at}")
+        self.kind = kind
+
+
+class Reading:
+    """The octets of a message from a place on."""
+
+    def __init__(self, octets, at, order):
+        self.octets, self.at, self.order = octets, at, order
+
+    def number(self, width, signed=False):
+        """A number at a multiple of its width, and where it begins."""
+        place = self.at + -self.at % width
+        if len(self.octets) < place + width:
+            raise Stop("Short", place)
+        self.at = place + width
+        return place, int.from_bytes(self.octets[place:self.at], self.order, signed=signed)
+
+    def block(self, length):
+        """So many octets: the first that is not there is the fault."""
+        if len(self.octets) - self.at < length:
+            raise Stop("Short", len(self.octets))
+        self.at += length
+        return self.octets[self.at - length:self.at]
+
+    def long(self, greatest=2 ** 32 - 1):
+        place, n = self.number(4)
+        if n > greatest:
+            raise Stop("Item", place)
+        return n
+
+    def flag(self):
+        place, n = self.number(1)
+        if n > 1:
+            raise Stop("Item", place)
+        return n == 1
+
+    def sequence(self):
+        return self.block(self.long())
+
+    def string(self):
+        """Octets without the NUL that ends them."""
+        octets = self.block(self.long())
+        if octets.find(b"\0") != len(octets) - 1 or not octets:
+            raise Stop("Text", self.at)
+        return octets[:-1]
+
+    def contexts(self):
+        for _ in range(self.long()):
+            self.long()
+            self.sequence()
+
+
+# ---- heads that are read
+
+def header(message, expected):
+    """The order and the type of a message, and what follows its header."""
+    if len(message) < 12:
+        raise Stop("Short", 0)
+    if message[:4] != b"GIOP":
+        raise Stop("Magic", 0)
+    if message[4:6] != b"\1\0":
+        raise Stop("Version", 4)
+    if message[6] > 1:
+        raise Stop("Order", 6)
+    if message[7] not in expected:
+        raise Stop("Type_", 7)
+    order = ORDERS[message[6]]
+    if int.from_bytes(message[8:12], order) != len(message) - 12:
+        raise Stop("Size", 8)
+    return order, message[7], Reading(message, 12, order)
+
+
+def read_call(message):
+    """What a Request or a LocateRequest says."""
+    order, kind, fields = header(message, (REQUEST, LOCATE_REQUEST))
+    if kind == LOCATE_REQUEST:
+        id, key = fields.long(), fields.sequence()
+        if fields.at != len(message):
+            raise Stop("Size", fields.at)
+        return {"ask": "locate", "id": id, "key": key}
+    fields.contexts()
+    id, wants, key, name = fields.long(), fields.flag(), fields.sequence(), fields.string()
+    fields.sequence()
+    return {"ask": "request", "id": id, "wants": wants, "order": order, "key": key, "name": name, "used": fields.at}
+
+
+def read_reply(message):
+    """What a Reply says: an answer, a user exception or a system exception."""
+    order, _, fields = header(message, (REPLY,))
+    fields.contexts()
+    id, status = fields.long(), fields.long(SYSTEM)
+    told = {"id": id, "order": order, "status": status}
+    if status in (USER, SYSTEM):
+        told["exception"] = fields.string()
+    if status == SYSTEM:
+        told["minor"], told["completion"] = fields.long(), fields.long(2)
+    return {**told, "used": fields.at}
+
+
+def told(read, message):
+    """The answer to a row of heads."""
+    try:
+        said = read(message)
+    except Stop as stop:
+        return stop.kind
+    order = {"big": "Big", "little": "Little"}.get(said.get("order"))
+    if said.get("ask") == "locate":
+        return f"locate {said['id']} {said['key'].hex() or '-'}"
+    if said.get("ask") == "request":
+        wants = "wants" if said["wants"] else "oneway"
+        return f"request {said['id']} {wants} {order} {said['key'].hex() or '-'} {said['name'].hex() or '-'} {said['used']}"
+    exception = f" {said['exception'].hex() or '-'}" if "exception" in said else ""
+    numbers = f" {said['minor']} {said['completion']}" if "minor" in said else ""
+    return f"{('answer', 'user', 'system')[said['status']]} {said['id']} {order}{exception}{numbers} {said['used']}"
+
+
+# ---- heads that are sent
+
+def long(order, n):
+    return n.to_bytes(4, order)
+
+
+def message(order, kind, fields):
+    """A header, and the octets of the fields."""
+    return b"GIOP\1\0" + bytes([ORDERS.index(order), kind]) + long(order, len(fields)) + fields
+
+
+def aligned(fields, width=4):
+    """Zeros up to a multiple of the width, counted from the message's first octet."""
+    return fields + bytes(-(12 + len(fields)) % width)
+
+
+def sequence(order, fields, octets):
+    return aligned(fields) + long(order, len(octets)) + octets
+
+
+def request_fields(order, id, wants, key, name):
+    """No contexts, id, whether a reply is wanted, key and name, and an empty principal."""
+    fields = long(order, 0) + long(order, id) + bytes([wants])
+    fields = sequence(order, fields, key.encode())
+    fields = sequence(order, fields, name.encode() + b"\0")
+    return sequence(order, fields, b"")
+
+
+def reply_fields(order, id, status):
+    return long(order, 0) + long(order, id) + long(order, status)
+
+
+def request(order, id, wants, key, name, nodes=(), values=()):
+    """A request whose arguments are values of nodes, each by its id and the table."""
+    fields = request_fields(order, id, wants, key, name)
+    encoding = f"cdr_{order}"
+    for (table, node), value in zip(nodes, values):
+        fields += sent(encoding, table, node, value, 12 + len(fields))
+    return message(order, REQUEST, fields)
+
+
+def refusal(order, id, exception, minor=None, completion=None):
+    """The reply that refuses a request by an exception."""
+    fields = sequence(order, reply_fields(order, id, USER if minor is None else SYSTEM), exception + b"\0")
+    if minor is not None:
+        fields = aligned(fields) + long(order, minor) + long(order, completion)
+    return message(order, REPLY, fields)
+
+
+# ---- values that are read
+
+def bound_of(node, place):
+    word, n = count_of(node, place)
+    return n if word == "most" else 2 ** 32 - 1
+
+
+def read_number(reading, kind, allowed=None):
+    place, n = reading.number(WIDTHS[kind], least(kind) < 0)
+    if not (n in allowed if allowed is not None else least(kind) <= n <= greatest(kind)):
+        raise Stop("BadValue", place)
+    return n
+
+
+def read_count(reading, node, place):
+    """The number of elements, which a fixed one does not travel with."""
+    if is_exact(node, place):
+        return count_of(node, place)[1]
+    at, n = reading.number(4)
+    if n > bound_of(node, place):
+        raise Stop("OverBound", at)
+    return n
+
+
+def read_text(reading, node):
+    at, n = reading.number(4)
+    if n == 0:
+        raise Stop("BadText", at)
+    if n - 1 > bound_of(node, 1):
+        raise Stop("OverBound", at)
+    for place in range(reading.at, reading.at + n):
+        if place >= len(reading.octets):
+            raise Stop("Short", place)
+        if (reading.octets[place] == 0) != (place == reading.at + n - 1):
+            raise Stop("BadText", place)
+    return {"row": "char", "of": list(reading.block(n)[:-1])}
+
+
+def read_value(reading, nodes, id):
+    """A value of a node."""
+    node = nodes[id]
+    form = node[0]
+    if form == "num":
+        return read_number(reading, node[1])
+    if form == "enum":
+        return read_number(reading, "i32", node[1])
+    if form == "text":
+        return read_text(reading, node)
+    if form == "row" and node[1] in ("octet", "char", "u8"):
+        return {"row": node[1], "of": list(reading.block(read_count(reading, node, 2)))}
+    if form == "row":
+        return {"row": node[1], "of": [read_number(reading, node[1]) for _ in range(read_count(reading, node, 2))]}
+    if form == "group":
+        return {"group": [read_value(reading, nodes, child) for child in node[1]]}
+    if form == "items":
+        return {"items": [read_value(reading, nodes, node[1]) for _ in range(read_count(reading, node, 2))]}
+    if form == "choice":
+        tag = node[1]
+        n = read_number(reading, tag_kind(tag), None if isinstance(tag, str) else tag)
+        if arm_of(node, n) is None:
+            raise Stop("BadValue", reading.at - WIDTHS[tag_kind(tag)])
+        return {"arm": [n, read_value(reading, nodes, arm_of(node, n))]}
+    if form == "maybe":
+        return {"opt": [read_value(reading, nodes, node[1])] if read_number(reading, "bool") else []}
+    return None
+
+
+def read_body(encoding, nodes, id, at, octets):
+    """How many octets a value takes from a place of a message and what it is sent as, or the first fault."""
+    reading = Reading(octets, at, ENCODINGS[encoding])
+    try:
+        value = read_value(reading, nodes, id)
+    except Stop as stop:
+        return str(stop)
+    return f"{reading.at - at} {sent(encoding, nodes, id, value, at).hex()}"
