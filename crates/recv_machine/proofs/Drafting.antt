@@ -15,7 +15,8 @@ use Rattle.recv_machine.specs.declared.draft.Filling.{Filling}
 use Rattle.recv_machine.specs.declared.draft.Filling.TheVariants as filling
 use Rattle.recv_machine.specs.declared.draft.Filling.TheOpen.{Filling-F}
 use Rattle.recv_machine.specs.declared.draft.Filling.TheFolds.{fold-roll-Filling}
-use Rattle.recv_machine.specs.Drawn.{array_at, drawn_level, drawn, all_drawn, put_part, put_field}
+use Rattle.recv_machine.specs.Drawn.{array_at, drawn_level, drawn, all_drawn}
+use Rattle.cast_stub.specs.PutPart.{put_part, put_field}
 
 pub drawn-Raw : (ns : List Node) (id : ℕ) → drawn ns (filling.Raw id) ≡ raw (type_at ns id)
 unfolding drawn

@@ -19,7 +19,8 @@ use Rattle.wire_def.specs.Scalars.{is_signed, number_of}
 use Rattle.wire_def.specs.Arrays.{kind_of}
 use Rattle.cast_stub.specs.Parts.{on_some}
 use Rattle.cast_stub.specs.Draft.{Draft, raw, digit, done, tagged, type_of_arm}
-use Rattle.cast_stub.specs.Fill.{Place, Run, gives, refuses, if_passed, is_digit, num_into, tag_into, arm_draft}
+use Rattle.cast_stub.specs.Into.{is_digit, num_into, tag_into, arm_draft}
+use Rattle.cast_stub.specs.Runs.{Place, Run, gives, refuses, if_passed}
 use Rattle.recv_machine.specs.declared.draft.Filling.{Filling}
 use Rattle.recv_machine.specs.declared.draft.Filling.TheVariants as filling
 use Rattle.recv_machine.specs.Drawn.{array_at, drawn, scalar_in, passing, digit_passing}

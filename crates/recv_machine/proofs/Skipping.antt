@@ -8,7 +8,8 @@ use Rattle.kit_base.specs.Causes.{raised}
 use Rattle.wire_def.specs.Scalars.{gap}
 use Rattle.cast_stub.specs.Steps.{is_width}
 use Rattle.cast_stub.specs.Draft.{Draft}
-use Rattle.cast_stub.specs.Fill.{Place, Run, gives, refuses, strays, then_run, needed, passed, skipped, all_zero}
+use Rattle.cast_stub.specs.Into.{needed, passed, skipped, all_zero}
+use Rattle.cast_stub.specs.Runs.{Place, Run, gives, refuses, strays, then_run}
 
 zero_or_not : (b : ℕ) (o : List ℕ) → b ≡ 0 → all_zero (b ∷ o) ≡ all_zero o
 zero_or_not zero o e = refl
