@@ -38,7 +38,7 @@ some_same : (a b : List ℕ) → Some a ≡ Some b → a ≡ b
 some_same a b e = cc
 
 pub returned : WhatIsSentIsReceived
-returned e t IsPlace sends receives means sound h v s octets rest place typed is left oct short =
+returned e t sends receives means sound h v s octets rest place typed is left oct short =
     let sent_octets : octets ≡ send e t s.pos v = some_same _ _ (sym is ∙ means h v s.pos place typed) in
     let first : take (length octets) s.left ≡ octets = ap (take (length octets)) left ∙ take-append_seam octets rest in
     let begins : BeginsWith e t s.pos s.left v (length octets) = record {
