@@ -13,7 +13,7 @@ use Rattle.cast_stub.specs.Parts.{on_some, IsThere}
 use Rattle.cast_stub.specs.RecvBlock.{Recv, finish, need, need_row, skip_any, skip_zero, pass, desc, row_block, row_wide, each, switch, if_there, call}
 use Rattle.cast_stub.specs.RecvAppend.{get_rebased, rebase}
 use Rattle.cast_stub.specs.Draft.{Draft, raw, digit, listed, lined, tagged, flagged, done, fields, Drafts, no_draft, draft, length_in}
-use Rattle.cast_stub.specs.Fill.{at_field, in_fields, within, field_at, in_draft, part, into, word_got, const_got, got, all_got, fill_each, fill_arm, fill_present, Callees, fill, fill_case}
+use Rattle.cast_stub.specs.Fill.{at_field, within, field_at, in_draft, part, into, const_got, got, all_got, fill_each, fill_arm, fill_present, Callees, fill, fill_case}
 use Rattle.cast_stub.specs.Into.{needed, passed, skipped, all_zero, word_at, same_octets}
 use Rattle.cast_stub.specs.Runs.{Place, Run, gives, refuses, strays, Filler, then_run, map_run, if_some, if_passed}
 use Rattle.cast_stub.specs.PutPart.{put_part, put_field}

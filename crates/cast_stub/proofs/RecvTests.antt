@@ -1,15 +1,15 @@
 -- What was tested before a run changes neither what it gives nor where it ends; its tests are added.
-use Rattle.std.proofs.Common.{◌≡◌, ℕ, zero, suc, ◌+◌, ◌-◌, ◌*◌, ◌≤◌, ℤ, List, [], ◌∷◌, length, take, drop, Option, None, Some, refl, sym, ap, subst, ◌∙◌, Bool, true, false, if◌then◌else◌, arith}
+use Rattle.std.proofs.Common.{◌≡◌, ℕ, zero, suc, ◌+◌, ◌-◌, ◌*◌, ◌≤◌, ℤ, List, [], ◌∷◌, length, take, drop, Option, None, Some, refl, sym, ap, subst, Bool, true, false, if◌then◌else◌, arith}
 use Rattle.std.specs.Prelude.{nat_eq, nat_le, nat_lt, max, ◌&&◌, ◌/◌, ◌%◌, ◌^◌}
 use Rattle.std.specs.Int.{Width, w16, w32}
 use Rattle.std.specs.Ordering.{int_eq}
 use Rattle.std.proofs.lemmas.Bool.{leb-true, le-leb}
 use Rattle.kit_base.specs.Causes.{raised}
 use Rattle.mint.specs.Blank.{least}
-use Rattle.mint.specs.Types.{Scalar, number, Array, Ty, void_type, scalar_type, array_type, group_type, items_type, choice_type, maybe_type}
+use Rattle.mint.specs.Types.{Scalar, number, Array, Ty, scalar_type, array_type, items_type, choice_type, maybe_type}
 use Rattle.mint.specs.declared.kind.Count.{Count}
 use Rattle.mint.specs.Typed.{is_scalar}
-use Rattle.mint.specs.Values.{Val, num_in, num, row, items, arm, absent, present, void, group, vals_of}
+use Rattle.mint.specs.Values.{Val, num_in, num, row, items, arm, absent, present, vals_of}
 use Rattle.wire_def.specs.declared.head.Order.{Order}
 use Rattle.wire_def.specs.Scalars.{gap, is_signed, number_of}
 use Rattle.wire_def.specs.Send.{flag}
@@ -19,15 +19,14 @@ use Rattle.mint.specs.Kinds.{width}
 use Rattle.raw_buf.specs.View.{width_in, loaded}
 use Rattle.cast_stub.specs.declared.recv.Get.{Get}
 use Rattle.cast_stub.specs.declared.recv.Get.TheVariants as get
-use Rattle.cast_stub.specs.declared.recv.RecvCode.{RecvCode}
 use Rattle.cast_stub.specs.Steps.{is_width}
 use Rattle.cast_stub.specs.Subs.{deepest}
 use Rattle.cast_stub.specs.RecvBlock.{Recv, finish, need, need_row, skip_any, skip_zero, pass, desc, row_block, row_wide, each, switch, if_there, call, Cases, no_default, default, case, code_seen}
 use Rattle.cast_stub.specs.Draft.{Draft, raw, digit, listed, lined, tagged, flagged, done, fields, Drafts, no_draft, draft, fresh, settle, length_in}
-use Rattle.cast_stub.specs.Into.{needed, passed, skipped, all_zero, word_at, is_digit, scalar_into, num_into, arm_draft, tag_into, flag_draft, flag_into, length_of, allows, length_into, count_into, same_octets, little, units_into, short_into, long_into, form_into, desc_into, numbers_at, fill_block, row_into, wide_into}
-use Rattle.cast_stub.specs.Fill.{at_field, in_fields, within, part, into, word_got, const_got, got, all_got, settled, settled_number, runs, fill_items, fill_row, fill_each, fill_arm, fill_present, Callees, fill, fill_case}
+use Rattle.cast_stub.specs.Into.{needed, passed, skipped, all_zero, is_digit, scalar_into, num_into, arm_draft, tag_into, flag_draft, flag_into, length_of, allows, length_into, count_into, same_octets, little, units_into, short_into, long_into, form_into, desc_into, numbers_at, fill_block, row_into, wide_into}
+use Rattle.cast_stub.specs.Fill.{at_field, within, part, into, word_got, got, all_got, settled, settled_number, runs, fill_items, fill_row, fill_each, fill_arm, fill_present, Callees, fill, fill_case}
 use Rattle.cast_stub.specs.Runs.{Place, Run, gives, refuses, strays, Going, Filler, then_run, map_run, if_some, if_passed, Holds}
-use Rattle.cast_stub.specs.Got.{called, calls_of, sub_at, received, given, not_given, told, got_by, untested}
+use Rattle.cast_stub.specs.Got.{called, calls_of, sub_at, received, told, untested}
 use Rattle.cast_stub.specs.Laws.{later, TestsAdd}
 
 module _ (k : ℕ) where

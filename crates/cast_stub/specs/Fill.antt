@@ -109,7 +109,7 @@ fill_each f (listed t n) s = fill_items f t n s
 fill_each f (lined a n) s = fill_row f a n s
 fill_each f _ s = strays
 
--- the value behind a union's number
+-- the value of a union's arm
 abbrev pub fill_arm : (ℤ → Filler) → Filler
 fill_arm f (tagged n t) s = map_run (λ v. done (arm n v)) (settled (f n (fresh t) s))
 fill_arm f _ s = strays

@@ -123,7 +123,7 @@ units_into right mul many n d s = if right then then_run (count_into mul 0 many 
 abbrev pub short_into : ℕ → ℕ → ℕ → ℕ → Filler
 short_into name size mul m d s = units_into (nat_eq (m % 256) name && nat_eq (m / 256 % 256) size) mul (m / 65536 % 4096) 4 d s
 
--- the long form: name and size in two octets each behind the first word, and the number in four
+-- the long form: name and size in two octets each after the first word, and the number in four
 abbrev pub long_into : ℕ → ℕ → ℕ → Filler
 long_into name size mul d s =
     then_run (needed 12 d s) (λ x t. units_into (nat_eq (little w16 4 2 t.left) name && nat_eq (little w16 6 2 t.left) size) mul (little w32 8 4 t.left) 12 x t)

@@ -1,6 +1,6 @@
 -- Code that goes through a type goes through it with its calls replaced.
-use Rattle.std.proofs.Common.{◌≡◌, inl, inr, ℕ, zero, suc, ◌+◌, ◌<◌, ◌≤◌, List, [], ◌∷◌, ◌++◌, map, length, Option, Some, None, option_map, refl, sym, ap, subst, ◌∙◌, arith, append_assoc}
-use Rattle.std.proofs.lemmas.List.{length-map, append-nil}
+use Rattle.std.proofs.Common.{◌≡◌, inl, inr, ℕ, zero, suc, ◌<◌, ◌≤◌, List, [], ◌∷◌, ◌++◌, map, Option, Some, option_map, refl, sym, ap, subst, ◌∙◌, arith, append_assoc}
+use Rattle.std.proofs.lemmas.List.{append-nil}
 use Rattle.mint.specs.declared.kind.Count.{Count}
 use Rattle.mint.specs.declared.kind.Count.TheVariants.{Exactly, AtMost, Any}
 use Rattle.mint.specs.Types.{Array, Ty, void_type, scalar_type, array_type, group_type, items_type, choice_type, maybe_type, Tys, no_fields, field, Arms, no_other, others, arm_type}
@@ -8,7 +8,7 @@ use Rattle.mint.specs.Blank.{depth, fields_depth, arms_depth}
 use Rattle.cast_stub.specs.declared.recv.Get.{Get}
 use Rattle.cast_stub.specs.declared.recv.Get.TheVariants as get
 use Rattle.cast_stub.specs.RecvBlock.{Recv, finish, need, need_row, skip_any, skip_zero, pass, desc, row_block, row_wide, each, switch, if_there, call, Cases}
-use Rattle.cast_stub.specs.RecvAppend.{append, rebase, get_rebased}
+use Rattle.cast_stub.specs.RecvAppend.{rebase, get_rebased}
 use Rattle.cast_stub.specs.Got.{no_subs}
 use Rattle.cast_stub.specs.Traces.{descs, IsGetAt, AreGetsAt, IsAt, IsFlat, IsLoop, IsCount, Going, Child, Loops, TracesBy, FieldsTraceBy, ArmsTraceBy, IsTurned}
 use Rattle.cast_stub.specs.Turned.{Layout}

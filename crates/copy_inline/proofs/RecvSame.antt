@@ -2,12 +2,12 @@
 use Rattle.std.proofs.Common.{◌≡◌, ℕ, zero, suc, ◌+◌, ◌*◌, ℤ, List, [], ◌∷◌, Option, Some, None, refl, sym, ap, subst, ◌∙◌, Bool, true, false, if◌then◌else◌}
 use Rattle.std.specs.Ordering.{int_eq}
 use Rattle.mint.specs.Types.{Ty, array_type, items_type, scalar_type, group_type, choice_type, maybe_type, void_type, Array}
-use Rattle.mint.specs.Values.{Val, Vals, num_in, num, row, group, void, items, arm, present, absent, vals_of}
+use Rattle.mint.specs.Values.{Val, num_in, num, row, group, void, items, arm, present, absent, vals_of}
 use Rattle.wire_def.specs.Arrays.{kind_of, count_of}
 use Rattle.mint.specs.Blank.{least}
 use Rattle.cast_stub.specs.RecvBlock.{Recv, finish, need, need_row, skip_any, skip_zero, pass, desc, row_block, row_wide, each, switch, if_there, call, Cases, no_default, default, case}
 use Rattle.cast_stub.specs.RecvAppend.{rebase}
-use Rattle.cast_stub.specs.Draft.{Draft, raw, digit, listed, lined, tagged, flagged, done, fields, Drafts, no_draft, draft, fresh, settle, length_in}
+use Rattle.cast_stub.specs.Draft.{Draft, raw, digit, listed, lined, tagged, flagged, done, fields, Drafts, no_draft, draft, fresh, length_in}
 use Rattle.cast_stub.specs.Fill.{all_got, at_field, within, part, settled, settled_number, runs, fill_items, fill_row, fill_each, fill_arm, fill_present, Callees, fill, fill_case}
 use Rattle.cast_stub.specs.Into.{needed, passed, skipped, all_zero, desc_into, row_into, wide_into}
 use Rattle.cast_stub.specs.Runs.{Place, Run, gives, refuses, strays, Filler, Going, then_run, map_run, if_some}

@@ -1,20 +1,17 @@
 -- Codes that receive, and go through the types of a table, have few levels.
-use Rattle.std.proofs.Common.{◌≡◌, inl, inr, ℕ, zero, suc, ◌+◌, ◌-◌, ◌*◌, ◌<◌, ◌≤◌, ℤ, List, [], ◌∷◌, ◌++◌, length, get_or, Option, Some, None, option_map, refl, sym, ap, subst, ◌∙◌, arith}
-use Rattle.std.specs.Prelude.{slice_get}
+use Rattle.std.proofs.Common.{◌≡◌, inl, inr, ℕ, zero, suc, ◌+◌, ◌-◌, ◌*◌, ◌<◌, ◌≤◌, ℤ, List, [], ◌∷◌, ◌++◌, length, get_or, Option, Some, None, option_map, sym, ap, subst, ◌∙◌, arith}
 use Rattle.std.proofs.lemmas.Option.{slice_get-get_or}
 use Rattle.mint.specs.declared.kind.Count.{Count}
 use Rattle.mint.specs.declared.kind.Count.TheVariants.{Exactly, AtMost, Any}
-use Rattle.mint.specs.declared.node.Node.{Node}
-use Rattle.mint.specs.Types.{Array, Ty, void_type, scalar_type, array_type, group_type, items_type, choice_type, maybe_type, Tys, no_fields, field, Arms, no_other, others, arm_type, type_at}
+use Rattle.mint.specs.Types.{Ty, void_type, scalar_type, array_type, group_type, items_type, choice_type, maybe_type, Tys, no_fields, field, Arms, no_other, others, arm_type, type_at}
 use Rattle.mint.specs.Blank.{depth, fields_depth, arms_depth}
-use Rattle.mint.specs.Sound.{IsSound}
 use Rattle.mint.proofs.Measuring.{sound_taken}
 use Rattle.cast_stub.specs.declared.recv.RecvOp.{RecvOp}
 use Rattle.cast_stub.specs.declared.recv.RecvOp.TheVariants as op
-use Rattle.cast_stub.specs.RecvBlock.{Recv, Piece, finish, need, need_row, skip_any, skip_zero, pass, desc, row_block, row_wide, each, switch, if_there, call, Cases, no_default, default, case, op_seen, code_seen, cases_seen}
+use Rattle.cast_stub.specs.RecvBlock.{Recv, Piece, finish, need, need_row, skip_any, skip_zero, pass, desc, row_block, row_wide, each, switch, if_there, call, Cases, op_seen, code_seen, cases_seen}
 use Rattle.cast_stub.specs.RecvAppend.{append}
 use Rattle.cast_stub.specs.Got.{sub_at}
-use Rattle.cast_stub.specs.Traces.{descs, IsFlat, IsLoop, IsCount, Going, Child, Traces, TracesBy, FieldsTraceBy, ArmsTraceBy, AllTrace}
+use Rattle.cast_stub.specs.Traces.{descs, IsLoop, IsCount, Child, Traces, FieldsTraceBy, ArmsTraceBy}
 use Rattle.cast_stub.proofs.RecvAppending.{op-append}
 use Rattle.cast_stub.proofs.Followed.{mapped}
 use Rattle.cast_stub.proofs.RecvPieces.{seen-Each, seen-Some, seen-Switch, seen-Call}

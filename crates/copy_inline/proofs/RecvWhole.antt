@@ -11,10 +11,10 @@ use Rattle.cast_stub.specs.declared.recv.RecvCode.{RecvCode}
 use Rattle.cast_stub.specs.RecvBlock.{Recv, code_seen}
 use Rattle.cast_stub.specs.RecvAppend.{append, rebase}
 use Rattle.cast_stub.specs.Subs.{deepest}
-use Rattle.cast_stub.specs.Got.{no_subs, called, sub_at, calls_of, received}
+use Rattle.cast_stub.specs.Got.{no_subs, called, sub_at, calls_of}
 use Rattle.cast_stub.specs.Draft.{Draft, fresh}
 use Rattle.cast_stub.specs.Fill.{fill, settled}
-use Rattle.cast_stub.specs.Runs.{Place, Run, gives, refuses, strays, if_some}
+use Rattle.cast_stub.specs.Runs.{Run, gives, refuses, strays, if_some}
 use Rattle.cast_stub.specs.Runs.{Holds}
 use Rattle.copy_inline.specs.RecvCallFree.{HasNoCall}
 use Rattle.cast_stub.specs.Traces.{IsLoop, Loops, TracesBy, IsTurned}

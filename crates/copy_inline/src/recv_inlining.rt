@@ -17,7 +17,7 @@ use kit_base::NoMemory;
 use mint::table::NodeId;
 use std::alloc::Global;
 
-// The operations of a code behind those of `out`, for the part at the prefix.
+// The operations of a code after those of `out`, for the part at the prefix.
 #[cycle(inline)]
 #[tactic(auto, using(crate::proofs::RecvEmitting::emitting))]
 fn put_code(
@@ -40,7 +40,7 @@ fn put_code(
     Ok(())
 }
 
-// The operation behind those of `out`, for the part at the prefix.
+// The operation after those of `out`, for the part at the prefix.
 #[cycle(inline)]
 #[tactic(auto, using(crate::proofs::RecvEmitting::emitting))]
 fn put_op(
@@ -169,7 +169,7 @@ fn last_of(
     }
 }
 
-// The code of a number behind the operations of `out`, for the part at a path.
+// The code of a number after the operations of `out`, for the part at a path.
 #[cycle(inline)]
 #[tactic(auto, using(crate::proofs::RecvEmitting::emitting))]
 fn put_called(

@@ -4,7 +4,7 @@ use Rattle.std.specs.Prelude.{nat_eq, nat_le, nat_lt, max, ◌&&◌, ◌/◌, �
 use Rattle.std.specs.Int.{Width, w16, w32}
 use Rattle.kit_base.specs.Causes.{raised}
 use Rattle.mint.specs.Types.{Array, number}
-use Rattle.mint.specs.Values.{Val, num}
+use Rattle.mint.specs.Values.{num}
 use Rattle.wire_def.specs.declared.head.Order.{Order}
 use Rattle.wire_def.specs.Scalars.{gap, is_signed, number_of}
 use Rattle.wire_def.specs.Arrays.{kind_of}
@@ -15,7 +15,7 @@ use Rattle.cast_stub.specs.declared.recv.Get.TheVariants as get
 use Rattle.cast_stub.specs.Steps.{is_width}
 use Rattle.cast_stub.specs.RecvBlock.{Recv, finish, need, need_row, skip_any, skip_zero, pass, desc, row_block, row_wide, each, switch, if_there, call}
 use Rattle.cast_stub.specs.Draft.{Draft, digit, done, length_in, settle}
-use Rattle.cast_stub.specs.Fill.{within, part, into, const_got, got, all_got, fill_each, fill_arm, fill_present, Callees, fill, fill_case}
+use Rattle.cast_stub.specs.Fill.{within, part, into, got, all_got, fill_each, fill_arm, fill_present, Callees, fill, fill_case}
 use Rattle.cast_stub.specs.Into.{needed, passed, skipped, all_zero, word_at, same_octets, is_digit, num_into, count_into, little, units_into, short_into, long_into, form_into, desc_into, row_into, wide_into}
 use Rattle.cast_stub.specs.Runs.{Place, Run, gives, refuses, strays, Filler, then_run, if_some, if_passed}
 use Rattle.cast_stub.specs.Got.{called}

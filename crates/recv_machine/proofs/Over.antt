@@ -1,5 +1,5 @@
 -- What loops over drafts go over.
-use Rattle.std.proofs.Common.{◌≡◌, ℕ, ℤ, List, Option, None, slice_get, refl, sym, ap, subst, ◌∙◌}
+use Rattle.std.proofs.Common.{◌≡◌, ℕ, ℤ, List, None, slice_get, refl, sym, ap, subst, ◌∙◌}
 use Rattle.mint.specs.declared.kind.Kind.{Kind}
 use Rattle.mint.specs.declared.kind.Count.{Count}
 use Rattle.mint.specs.declared.node.Node.{Node}
@@ -7,7 +7,6 @@ use Rattle.mint.specs.declared.node.Node.TheVariants as node
 use Rattle.mint.specs.Blank.{least}
 use Rattle.mint.specs.Types.{Array, text, row_of, Ty, void_type, array_type, items_type, type_at, level, unfolded}
 use Rattle.wire_def.specs.Arrays.{count_of}
-use Rattle.wire_def.specs.declared.head.Order.{Order}
 use Rattle.mint.specs.Values.{Val}
 use Rattle.cast_stub.specs.Draft.{Draft, raw, digit, listed, lined, tagged, flagged, done, fields, Drafts}
 use Rattle.recv_machine.specs.declared.draft.Filling.{Filling}
@@ -16,7 +15,7 @@ use Rattle.recv_machine.specs.declared.looping.Elements.{Elements}
 use Rattle.recv_machine.specs.declared.looping.Elements.TheVariants as elements
 use Rattle.recv_machine.specs.Drawn.{array_of, array_at, drawn}
 use Rattle.recv_machine.proofs.Drafting.{no_node}
-use Rattle.recv_machine.specs.Looping.{GoesOver, IsBlock, IsNoBlock}
+use Rattle.recv_machine.specs.Looping.{GoesOver}
 
 pub listed_over : (ns : List Node) (item n : ℕ) → GoesOver ns (elements.Values item n) (listed (type_at ns item) n)
 listed_over ns item n = ((λ (f : Filler) (s : Place). refl), record { narrow = λ o s. refl; wide = λ o s. refl })

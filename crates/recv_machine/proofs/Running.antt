@@ -1,7 +1,7 @@
 -- Operations that are run, one after the other.
-use Rattle.std.proofs.Common.{◌≡◌, ℕ, ℤ, zero, suc, ◌+◌, ◌-◌, ◌<◌, ◌≤◌, List, [], ◌∷◌, ◌++◌, length, drop, get_or, map, Option, None, Some, option_map, slice_get, refl, sym, ap, subst, ◌∙◌, add-one, arith, append_assoc}
-use Rattle.std.specs.Prelude.{Result, Ok, Err, Bool, true, false, if◌then◌else◌, not, ◌&&◌, pos, IsTrue}
-use Rattle.std.proofs.Common.{inl, inr}
+use Rattle.std.proofs.Common.{◌≡◌, ℕ, ℤ, suc, ◌+◌, ◌-◌, ◌<◌, ◌≤◌, List, [], ◌∷◌, ◌++◌, length, drop, get_or, map, Option, None, Some, option_map, slice_get, refl, sym, ap, subst, ◌∙◌, add-one, arith, append_assoc}
+use Rattle.std.specs.Prelude.{Err, Bool, true, false, if◌then◌else◌, not, ◌&&◌, pos, IsTrue}
+use Rattle.std.proofs.Common.{inl}
 use Rattle.std.specs.Ordering.{int_eq}
 use Rattle.std.proofs.Math.Seq.{drop-cons}
 use Rattle.std.proofs.lemmas.List.{drop_all, append-nil, map-append}
@@ -9,16 +9,13 @@ use Rattle.mint.specs.declared.value.Value.{Value}
 use Rattle.mint.specs.declared.value.Value.TheOpen.{Value-F}
 use Rattle.mint.specs.declared.value.Value.TheVariants as value
 use Rattle.mint.specs.declared.value.Value.TheFolds.{fold-roll-Value}
-use Rattle.mint.specs.declared.kind.Count.{Count}
 use Rattle.mint.specs.declared.node.Node.{Node}
-use Rattle.mint.specs.declared.node.Node.TheVariants as node
-use Rattle.mint.specs.Blank.{least}
-use Rattle.mint.specs.Types.{Ty, array_type, Array, text, row_of, type_at, level, unfolded}
+use Rattle.mint.specs.Types.{Ty, Array, text, row_of, type_at}
 use Rattle.mint.specs.Row.{Numbers}
 use Rattle.mint.specs.declared.kind.Kind.{Kind}
 use Rattle.mint.specs.declared.kind.Kind.TheVariants as kind
 use Rattle.mint.specs.Kinds.{in_range, IsInRange}
-use Rattle.wire_def.specs.Arrays.{kind_of, count_of}
+use Rattle.wire_def.specs.Arrays.{kind_of}
 use Rattle.recv_machine.proofs.Digits.{Keeps, fill_keeps, called_keeps, digit_become}
 use Rattle.recv_machine.specs.declared.draft.Filling.{Filling}
 use Rattle.recv_machine.specs.declared.draft.Filling.TheVariants as filling
@@ -29,9 +26,8 @@ use Rattle.cast_stub.specs.declared.recv.RecvOp.TheOpen.{RecvOp-F}
 use Rattle.cast_stub.specs.declared.recv.RecvOp.TheVariants as op
 use Rattle.cast_stub.specs.Parts.{IsThere}
 use Rattle.cast_stub.specs.RecvBlock.{Recv, finish, Piece, joined, cases_of, piece_level, op_seen, code_seen, cases_seen}
-use Rattle.cast_stub.specs.RecvAppend.{append}
-use Rattle.cast_stub.specs.Draft.{Draft, raw, digit, done, fresh, settle}
-use Rattle.cast_stub.specs.Fill.{within, part, fill, fill_case, fill_each, fill_items, fill_row, fill_arm, fill_present, runs, settled, settled_number, Callees}
+use Rattle.cast_stub.specs.Draft.{Draft, digit, done, fresh, settle}
+use Rattle.cast_stub.specs.Fill.{within, part, fill, fill_case, fill_each, fill_items, fill_arm, fill_present, runs, settled, settled_number, Callees}
 use Rattle.cast_stub.specs.Into.{is_digit, desc_into, row_into, wide_into}
 use Rattle.cast_stub.specs.Runs.{Place, Run, gives, refuses, strays, Filler, Going, then_run, map_run, if_some}
 use Rattle.wire_def.specs.declared.encoding.Encoding.{Encoding}
@@ -43,7 +39,7 @@ use Rattle.cast_stub.proofs.RecvAppending.{fill-append, op-append}
 use Rattle.cast_stub.proofs.RecvPieces.{seen-Need, seen-NeedRow, seen-SkipAny, seen-SkipZero, seen-Take, seen-Desc, seen-Row, seen-RowWide, seen-Each, seen-Switch, seen-Some, seen-Call}
 use Rattle.recv_machine.specs.declared.errors.Halt.{Halt}
 use Rattle.recv_machine.specs.declared.errors.Halt.TheVariants.{Refused, NoMemory}
-use Rattle.recv_machine.specs.Drawn.{drawn, array_of, array_at, numbers_in}
+use Rattle.recv_machine.specs.Drawn.{drawn, array_at, numbers_in}
 use Rattle.cast_stub.specs.PutPart.{put_part}
 use Rattle.recv_machine.specs.Acting.{part_path, acted}
 use Rattle.recv_machine.specs.Looping.{GoesOver}

@@ -1,21 +1,21 @@
 -- What is done to a part of a draft: it is taken out, changed and put back.
-use Rattle.std.proofs.Common.{◌≡◌, ◌⊎◌, inl, inr, ℕ, zero, suc, ◌+◌, ◌-◌, ◌<◌, ◌≤◌, List, [], ◌∷◌, length, take, drop, Option, None, Some, option_map, refl, sym, ap, subst, ◌∙◌, Bool, true, false, if◌then◌else◌, arith}
-use Rattle.std.specs.Prelude.{Result, Ok, Err, nat_le, nat_eq, ◌&&◌}
-use Rattle.std.proofs.lemmas.Bool.{leb-true, leb-false, le-leb, eqb-true, eq-eqb}
-use Rattle.std.specs.Int.{Width, w8, w16, w32, w64}
+use Rattle.std.proofs.Common.{◌≡◌, inl, inr, ℕ, ◌+◌, ◌-◌, ◌≤◌, List, [], ◌∷◌, length, take, drop, Option, None, Some, refl, sym, ap, subst, ◌∙◌, Bool, true, false, if◌then◌else◌, arith}
+use Rattle.std.specs.Prelude.{Err, nat_le, nat_eq, ◌&&◌}
+use Rattle.std.proofs.lemmas.Bool.{leb-true, le-leb, eqb-true, eq-eqb}
+use Rattle.std.specs.Int.{Width}
 use Rattle.std.specs.Cmp.Lexicographic.{pointwise}
 use Rattle.wire_def.specs.declared.head.Order.{Order}
 use Rattle.raw_buf.specs.Buf.{IsWidth}
 use Rattle.raw_buf.specs.View.{width_in, width_as, loaded, loaded_of}
 use Rattle.cast_stub.specs.declared.recv.Get.{Get}
-use Rattle.cast_stub.specs.Parts.{on_some, IsThere}
-use Rattle.cast_stub.specs.Draft.{Draft, raw, digit, listed, lined, tagged, flagged, done, fields, Drafts, no_draft, draft}
-use Rattle.cast_stub.specs.Fill.{at_field, in_fields, within, field_at, part, into, word_got, const_got}
-use Rattle.cast_stub.specs.Into.{word_at, same_octets}
-use Rattle.cast_stub.specs.Runs.{Place, Run, gives, refuses, strays, Filler, then_run, map_run, if_some, if_passed}
+use Rattle.cast_stub.specs.Parts.{IsThere}
+use Rattle.cast_stub.specs.Draft.{Draft}
+use Rattle.cast_stub.specs.Fill.{within, part, into, word_got, const_got}
+use Rattle.cast_stub.specs.Into.{same_octets}
+use Rattle.cast_stub.specs.Runs.{Place, Run, gives, refuses, strays, Filler, then_run, if_some, if_passed}
 use Rattle.recv_machine.specs.declared.errors.Halt.{Halt}
 use Rattle.recv_machine.specs.declared.errors.Halt.TheVariants.{Refused, NoMemory}
-use Rattle.cast_stub.specs.PutPart.{put_part, put_field}
+use Rattle.cast_stub.specs.PutPart.{put_part}
 use Rattle.cast_stub.proofs.RecvParts.{replaced, within_is, no_part, put_is_there}
 use Rattle.recv_machine.specs.Ran.{Ran, Gave}
 use Rattle.cast_stub.specs.Runs.{Holds}

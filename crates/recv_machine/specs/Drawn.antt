@@ -1,5 +1,5 @@
 -- What the draft of a machine stands for, over the nodes of a table.
-use Rattle.std.specs.Prelude.{ℕ, zero, suc, List, [], ◌∷◌, map, ℤ, Option, None, Some, option_map, if◌then◌else◌, Bool, true}
+use Rattle.std.specs.Prelude.{ℕ, List, [], ◌∷◌, map, ℤ, Option, None, Some, if◌then◌else◌, Bool, true}
 use Rattle.mint.specs.declared.node.Node.{Node}
 use Rattle.mint.specs.declared.kind.Count.{Count}
 use Rattle.mint.specs.declared.kind.Count.TheVariants.{Any}

@@ -1,7 +1,7 @@
 -- What loops over a draft go over.
 use Rattle.std.specs.Prelude.{◌≡◌, List, ℕ}
 use Rattle.mint.specs.declared.node.Node.{Node}
-use Rattle.mint.specs.Types.{Ty, type_at}
+use Rattle.mint.specs.Types.{type_at}
 use Rattle.wire_def.specs.declared.head.Order.{Order}
 use Rattle.cast_stub.specs.Draft.{Draft}
 use Rattle.cast_stub.specs.Fill.{fill_each, fill_items, fill_row}

@@ -5,8 +5,7 @@ use Rattle.wire_def.specs.declared.encoding.Encoding.{Encoding}
 use Rattle.wire_def.specs.Laws.{BeginsWith}
 use Rattle.raw_buf.specs.View.{View}
 use Rattle.cast_stub.specs.Got as stub
-use Rattle.cast_stub.specs.Draft.{Draft}
-use Rattle.cast_stub.specs.Runs.{Place, Run, gives, refuses, strays}
+use Rattle.cast_stub.specs.Runs.{Place, Run, gives, refuses}
 use Rattle.mint.specs.Row.{Numbers}
 use Rattle.mint.specs.Values.{Val, seen}
 use Rattle.recv_machine.specs.declared.recv.Got.{Got}

@@ -28,7 +28,7 @@ pub enum Filling {
     Listed(u32, u32),
     /// So many numbers of a node's row or text.
     Lined(u32, u32),
-    /// The number of a union, and the node behind it.
+    /// The number of a union, and the node of its arm.
     Tagged(i128, u32),
     /// A value of a node that is there.
     Flagged(u32),

@@ -215,7 +215,7 @@ fn run_some(
     }
 }
 
-// Fills the value behind a union's number.
+// Fills the value of a union's arm.
 #[cycle(run)]
 #[tactic(auto, using(crate::proofs::Running::running))]
 fn run_switch(

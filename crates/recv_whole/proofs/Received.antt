@@ -1,5 +1,5 @@
 -- Sound code that is inlined and run.
-use Rattle.std.proofs.Common.{◌≡◌, ◌⊎◌, inl, inr, ℕ, ◌+◌, ◌%◌, ◌<◌, ◌≤◌, List, [], length, get_or, drop, Some, None, sym, subst, ◌∙◌, arith, length-drop}
+use Rattle.std.proofs.Common.{◌≡◌, ◌⊎◌, inl, inr, ℕ, ◌%◌, ◌<◌, ◌≤◌, List, length, get_or, drop, Some, None, sym, subst, arith, length-drop}
 use Rattle.std.specs.Prelude.{slice_get}
 use Rattle.std.proofs.lemmas.Option.{slice_get_cases}
 use Rattle.kit_base.specs.Limits.{longest_message}
@@ -13,7 +13,7 @@ use Rattle.wire_def.specs.Places.{IsPlace}
 use Rattle.raw_buf.specs.View.{View}
 use Rattle.cast_stub.specs.declared.recv.RecvOp.{RecvOp}
 use Rattle.cast_stub.specs.declared.recv.RecvCode.{RecvCode}
-use Rattle.cast_stub.specs.Runs.{Place, Run, gives, refuses, strays, Holds}
+use Rattle.cast_stub.specs.Runs.{Run, gives, refuses, strays, Holds}
 use Rattle.cast_stub.specs.Got.{received, IsExact, IsSoundCode}
 use Rattle.stub_lower.specs.RecvLowered.{CodesReceive}
 use Rattle.copy_inline.specs.RecvInlined.{Does}

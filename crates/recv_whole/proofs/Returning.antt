@@ -1,5 +1,5 @@
 -- What stub code sends, stub code receives.
-use Rattle.std.proofs.Common.{◌≡◌, ℕ, ◌+◌, ◌≤◌, List, ◌++◌, length, take, drop, Some, refl, sym, ap, subst, ◌∙◌, arith, length-append}
+use Rattle.std.proofs.Common.{◌≡◌, ℕ, ◌+◌, List, ◌++◌, length, take, drop, Some, sym, ap, ◌∙◌, arith, length-append}
 use Rattle.std.proofs.lemmas.List.{take-append-drop, length-take}
 use Rattle.std.proofs.Math.Seq.{take-append_seam}
 use Rattle.mint.specs.Types.{Ty}
@@ -11,8 +11,8 @@ use Rattle.wire_def.specs.Laws.{BeginsWith}
 use Rattle.wire_def.specs.Reading.{read}
 use Rattle.wire_def.specs.Send.{send}
 use Rattle.wire_def.proofs.Encodings.{grammar, sent_spells}
-use Rattle.cast_stub.specs.Got.{IsExact, received, got_by, told, given}
-use Rattle.cast_stub.specs.Runs.{Place, Run, gives, refuses, strays}
+use Rattle.cast_stub.specs.Got.{IsExact, received, told, given}
+use Rattle.cast_stub.specs.Runs.{Run, gives, refuses, strays}
 use Rattle.recv_whole.specs.RoundTrip.{WhatIsSentIsReceived}
 
 module _ (e : Encoding) (t : Ty) (p : ℕ) (o : List ℕ) where

@@ -1,5 +1,5 @@
 -- A run that gives what the reader gives is exact.
-use Rattle.std.proofs.Common.{◌≡◌, ℕ, ◌+◌, ◌-◌, ◌≤◌, List, ◌++◌, length, take, drop, sym, ap, ◌∙◌, arith, length-append}
+use Rattle.std.proofs.Common.{◌≡◌, ℕ, ◌+◌, ◌≤◌, List, ◌++◌, length, take, drop, sym, ap, ◌∙◌, arith, length-append}
 use Rattle.std.proofs.lemmas.List.{take_at, take-append-drop, length-take}
 use Rattle.std.proofs.Math.Seq.{drop-append_seam}
 use Rattle.mint.specs.Types.{Ty}
@@ -8,7 +8,6 @@ use Rattle.mint.specs.Values.{Val}
 use Rattle.wire_def.specs.declared.encoding.Encoding.{Encoding}
 use Rattle.wire_def.specs.declared.fault.FaultKind.{FaultKind}
 use Rattle.wire_def.specs.Grammar.{Reading, got, stop, AreOctets}
-use Rattle.wire_def.specs.Spells.{Spells}
 use Rattle.wire_def.specs.Reading.{read}
 use Rattle.wire_def.proofs.Grammars.{octets_before}
 use Rattle.wire_def.proofs.Typing.{typed}

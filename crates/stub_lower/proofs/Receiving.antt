@@ -1,5 +1,5 @@
 -- The code of a node reads its values, over those of its parts.
-use Rattle.std.proofs.Common.{◌≡◌, ℕ, zero, suc, ◌+◌, ◌<◌, ◌≤◌, ℤ, pos, negsuc, List, [], ◌∷◌, ◌++◌, length, Option, Some, None, option_map, refl, sym, ap, subst, ◌∙◌, arith, Bool, true, false, if◌then◌else◌}
+use Rattle.std.proofs.Common.{◌≡◌, ℕ, zero, suc, ◌+◌, ◌<◌, ◌≤◌, ℤ, pos, negsuc, List, [], ◌∷◌, Option, Some, None, option_map, refl, sym, ap, subst, ◌∙◌, arith, Bool, true, false, if◌then◌else◌}
 use Rattle.std.specs.List.{AllByRecursion}
 use Rattle.std.proofs.Common.{is_some}
 use Rattle.std.specs.Ordering.{int_eq}
@@ -9,8 +9,8 @@ use Rattle.mint.specs.declared.node.Node.{Node}
 use Rattle.mint.specs.declared.node.Node.TheVariants as node
 use Rattle.mint.specs.Blank.{depth, fields_depth, arms_depth, least}
 use Rattle.mint.specs.Types.{Scalar, number, label, text, row_of, Ty, scalar_type, items_type, choice_type, maybe_type, at, fields_at, Arms, no_other, others, arm_type, arms_at, scalar_of, level, HasChildrenBelow, ArmsBelow, IsBelow}
-use Rattle.mint.specs.Typed.{has_arm, is_scalar}
-use Rattle.mint.specs.Values.{Val, void, num, row, group, items, arm, absent, present, Vals, no_more, val, vals_of}
+use Rattle.mint.specs.Typed.{has_arm}
+use Rattle.mint.specs.Values.{Val, num, group, items, arm, absent, present, Vals, no_more, val, vals_of}
 use Rattle.wire_def.specs.declared.encoding.Encoding.{Encoding}
 use Rattle.wire_def.specs.declared.fault.FaultKind.{FaultKind}
 use Rattle.wire_def.specs.declared.fault.FaultKind.TheVariants.{BadValue}
@@ -33,7 +33,7 @@ use Rattle.cast_stub.specs.Layouts.{order_of, scalar_width}
 use Rattle.wire_def.specs.Places.{IsPlace}
 use Rattle.stub_lower.specs.RecvCodes.{count_code, tag_code, flag_code, call_here, calls_from, cases_at, node_code, number_code, number_get}
 use Rattle.stub_lower.proofs.Agreeing.{Agrees, Same, Settles, agrees-then, agrees-map, agrees-read, agrees-given, agrees-finish, agrees-settled, agrees-runs}
-use Rattle.stub_lower.proofs.RecvEncoded.{Reads, taken, ScalarsRead, lones, pass_plain, count-reads, then_gives}
+use Rattle.stub_lower.proofs.RecvEncoded.{taken, ScalarsRead, lones, pass_plain, count-reads, then_gives}
 use Rattle.stub_lower.proofs.RecvArrays.{ArraysRead}
 
 -- code in front of other code

@@ -1,7 +1,7 @@
 -- What the code of a row or text reads over XDR.
-use Rattle.std.proofs.Common.{◌≡◌, ℕ, zero, suc, ◌+◌, ◌-◌, ◌%◌, ◌<◌, ◌≤◌, ℤ, pos, List, [], ◌∷◌, ◌++◌, length, take, drop, max, Option, Some, None, refl, sym, ap, subst, ◌∙◌, arith, IsTrue, Bool, true, false, ◌&&◌, if◌then◌else◌, not}
-use Rattle.std.specs.Prelude.{nat_lt, nat_le, nat_eq}
-use Rattle.std.specs.Int.{Width, w8, from_be_bytes}
+use Rattle.std.proofs.Common.{◌≡◌, ℕ, zero, suc, ◌+◌, ◌<◌, ℤ, pos, List, [], ◌∷◌, length, take, drop, Some, refl, sym, ap, subst, ◌∙◌, arith, Bool, true, false, ◌&&◌, if◌then◌else◌, not}
+use Rattle.std.specs.Prelude.{nat_lt}
+use Rattle.std.specs.Int.{w8, from_be_bytes}
 use Rattle.std.specs.Ordering.{int_eq}
 use Rattle.std.proofs.lemmas.Bool.{ltb-true, ltb-false, lt-ltb, le-ltb}
 use Rattle.std.proofs.lemmas.Bool.Decides.{Decides-int_eq, Decides-not}
@@ -11,30 +11,29 @@ use Rattle.mint.specs.declared.kind.Count.{Count}
 use Rattle.mint.specs.declared.kind.Count.TheVariants.{Exactly}
 use Rattle.mint.specs.Blank.{least}
 use Rattle.mint.specs.Kinds.{in_range, is_letter}
-use Rattle.mint.specs.Values.{Val, num, row}
-use Rattle.mint.specs.Types.{Scalar, number, Array, text, row_of, array_type}
+use Rattle.mint.specs.Values.{num, row}
+use Rattle.mint.specs.Types.{number, Array, text, row_of, array_type}
 use Rattle.wire_def.specs.declared.encoding.Encoding.{Encoding}
 use Rattle.wire_def.specs.declared.encoding.Encoding.TheVariants.{Xdr}
 use Rattle.wire_def.specs.declared.fault.FaultKind.{FaultKind}
 use Rattle.wire_def.specs.declared.fault.FaultKind.TheVariants.{Short, BadPad, BadText}
 use Rattle.wire_def.specs.declared.head.Order.TheVariants.{Big}
-use Rattle.wire_def.specs.Grammar.{Reading, got, stop, Reader, AreOctets, then_on, map_got, both, times}
+use Rattle.wire_def.specs.Grammar.{Reading, got, stop, Reader, AreOctets, map_got, both, times}
 use Rattle.wire_def.specs.Scalars.{gap, read_scalar}
 use Rattle.wire_def.specs.Lone.{IsPlain}
 use Rattle.wire_def.specs.Arrays.{count_of, kind_of, is_octets, may_stand, read_count, read_head, read_octet, read_zeros, read_element, read_tail, read_array}
 use Rattle.cast_stub.specs.declared.recv.Get.TheVariants as get
 use Rattle.cast_stub.specs.RecvBlock.{Recv, finish, need, skip_zero, pass, each}
-use Rattle.cast_stub.specs.RecvAppend.{append}
 use Rattle.cast_stub.specs.Draft.{Draft, raw, digit, lined, done, settle}
 use Rattle.cast_stub.specs.Fill.{settled_number, runs, fill_each, fill_row, Callees, fill}
-use Rattle.cast_stub.specs.Into.{needed, passed, all_zero, is_digit, num_into, count_into}
+use Rattle.cast_stub.specs.Into.{passed, all_zero, num_into}
 use Rattle.cast_stub.specs.Runs.{Place, Run, gives, refuses, strays, Filler, Going, then_run, map_run}
 use Rattle.cast_stub.proofs.RecvAppending.{fill-append}
-use Rattle.cast_stub.specs.Layouts.{scalar_width, element_width}
+use Rattle.cast_stub.specs.Layouts.{scalar_width}
 use Rattle.wire_def.specs.Places.{IsPlace}
 use Rattle.stub_lower.specs.RecvCodes.{number_get, count_code, turn_code, behind_code, array_code}
 use Rattle.stub_lower.proofs.Agreeing.{Agrees, Same, Settles, Counts, agrees-then, agrees-map, agrees-read, agrees-given, agrees-number, agrees-runs}
-use Rattle.stub_lower.proofs.RecvEncoded.{tested_place, passed_place, pass_tested, word_run, Reads, taken, ScalarsRead, xdr_scalar, count-reads, octets_dropped, then_gives}
+use Rattle.stub_lower.proofs.RecvEncoded.{tested_place, pass_tested, word_run, ScalarsRead, xdr_scalar, count-reads, octets_dropped, then_gives}
 
 -- what has to be known of an encoding: that an array is read
 abbrev pub ArraysRead : Encoding → Type 0

@@ -1,8 +1,8 @@
 -- What an encoding's leaves read: a scalar, a count.
-use Rattle.std.proofs.Common.{◌≡◌, ℕ, zero, suc, ◌+◌, ◌-◌, ◌*◌, ◌/◌, ◌%◌, ◌<◌, ◌≤◌, ℤ, pos, negsuc, List, [], ◌∷◌, ◌++◌, length, take, drop, max, Option, Some, None, refl, sym, ap, subst, ◌∙◌, arith, IsTrue, Bool, true, false, ◌&&◌, if◌then◌else◌}
+use Rattle.std.proofs.Common.{◌≡◌, ℕ, zero, suc, ◌+◌, ◌-◌, ◌*◌, ◌/◌, ◌≤◌, ℤ, List, [], ◌∷◌, length, take, drop, max, Option, Some, None, refl, sym, ap, subst, ◌∙◌, arith, Bool, true, false, ◌&&◌, if◌then◌else◌}
 use Rattle.std.specs.Prelude.{nat_lt, nat_le, nat_eq}
-use Rattle.std.specs.Int.{Width, w8, w16, w32, w64, byte_len, from_be_bytes}
-use Rattle.std.proofs.lemmas.Bool.{ltb-true, lt-ltb, le-leb, eq-eqb}
+use Rattle.std.specs.Int.{Width, byte_len, from_be_bytes}
+use Rattle.std.proofs.lemmas.Bool.{le-leb, eq-eqb}
 use Rattle.kit_base.specs.Causes.{raised}
 use Rattle.mint.specs.declared.kind.Kind.TheVariants as kind
 use Rattle.mint.specs.declared.kind.Count.{Count}
@@ -15,19 +15,19 @@ use Rattle.wire_def.specs.declared.fault.FaultKind.{FaultKind}
 use Rattle.wire_def.specs.declared.fault.FaultKind.TheVariants.{Short, BadValue, OverBound}
 use Rattle.wire_def.specs.declared.head.Order.{Order}
 use Rattle.wire_def.specs.declared.head.Order.TheVariants.{Big}
-use Rattle.wire_def.specs.Grammar.{Reading, got, stop, Reader, AreOctets, then_on, map_got, tested}
+use Rattle.wire_def.specs.Grammar.{Reading, got, stop, AreOctets, then_on, map_got, tested}
 use Rattle.wire_def.specs.Scalars.{gap, scalar_place, is_signed, number_of, width_of, read_word, read_scalar}
 use Rattle.wire_def.specs.Lone.{IsPlain, lone_place, read_lone, read_pass}
 use Rattle.wire_def.specs.Arrays.{counted, natural, read_count}
 use Rattle.raw_buf.specs.View.{width_in, loaded}
 use Rattle.cast_stub.specs.declared.recv.Get.{Get}
 use Rattle.cast_stub.specs.declared.recv.Get.TheVariants as get
-use Rattle.cast_stub.specs.RecvBlock.{Recv, finish, need, pass}
-use Rattle.cast_stub.specs.Draft.{Draft, settle}
+use Rattle.cast_stub.specs.RecvBlock.{finish, need, pass}
+use Rattle.cast_stub.specs.Draft.{Draft}
 use Rattle.cast_stub.specs.Fill as filling
 use Rattle.cast_stub.specs.Fill.{all_got, Callees, fill}
-use Rattle.cast_stub.specs.Into.{needed, passed, word_at, scalar_into, length_of, length_into, count_into, allows}
-use Rattle.cast_stub.specs.Runs.{Place, Run, gives, refuses, strays, Filler, then_run, map_run, if_passed}
+use Rattle.cast_stub.specs.Into.{passed, word_at, scalar_into, length_of, length_into, count_into, allows}
+use Rattle.cast_stub.specs.Runs.{Place, Run, gives, refuses, strays, then_run, map_run, if_passed}
 use Rattle.cast_stub.specs.Layouts.{order_of, scalar_width}
 use Rattle.wire_def.specs.Places.{IsPlace}
 use Rattle.stub_lower.specs.RecvCodes.{scalar_code, count_code}

@@ -1,18 +1,15 @@
 -- The codes of a whole table that receive.
-use Rattle.std.proofs.Common.{◌≡◌, ◌⊎◌, inl, inr, ℕ, zero, suc, ◌+◌, ◌<◌, ◌≤◌, List, [], ◌∷◌, ◌++◌, length, map, Option, Some, None, option_map, slice_get, refl, sym, ap, subst, ◌∙◌, arith}
+use Rattle.std.proofs.Common.{◌≡◌, ℕ, zero, suc, ◌+◌, ◌<◌, ◌≤◌, List, [], ◌∷◌, ◌++◌, length, map, Option, Some, None, option_map, slice_get, refl, sym, ap, subst, ◌∙◌, arith}
 use Rattle.std.proofs.Math.ListN.{take}
-use Rattle.std.proofs.Math.Nat.{eq-or-lt_of_le}
 use Rattle.std.proofs.lemmas.List.{length-map, map-append, take_all}
 use Rattle.mint.specs.declared.node.Node.{Node}
 use Rattle.mint.specs.Blank.{depth}
 use Rattle.mint.specs.Sound.{IsSound}
 use Rattle.mint.specs.Types.{Array, Ty, group_type, items_type, choice_type, maybe_type, type_at, unfolded, level, HasChildrenBelow, IsTable}
-use Rattle.mint.specs.Values.{Val}
 use Rattle.mint.proofs.Unfolding.{type_at-level}
 use Rattle.mint.proofs.Measuring.{sound_taken}
 use Rattle.wire_def.specs.declared.encoding.Encoding.{Encoding}
 use Rattle.wire_def.specs.declared.encoding.Encoding.TheVariants.{Xdr}
-use Rattle.wire_def.specs.declared.fault.FaultKind.{FaultKind}
 use Rattle.wire_def.specs.Grammar.{AreOctets}
 use Rattle.wire_def.specs.Reading.{read}
 use Rattle.cast_stub.specs.declared.recv.RecvOp.{RecvOp}
@@ -27,7 +24,7 @@ use Rattle.wire_def.specs.Places.{IsPlace}
 use Rattle.cast_stub.specs.Layouts.{layout_of}
 use Rattle.stub_lower.specs.RecvCodes.{array_code, node_code}
 use Rattle.stub_lower.specs.RecvLowered.{CodesReceive, CallsReceive}
-use Rattle.stub_lower.proofs.Whole.{AreKnown, take_at, known_more, get-map, in_list, Found, found}
+use Rattle.stub_lower.proofs.Whole.{AreKnown, take_at, known_more, get-map, in_list, found}
 use Rattle.stub_lower.proofs.Agreeing.{Agrees, Settles, agrees-settled}
 use Rattle.stub_lower.proofs.RecvEncoded.{xdr_scalar}
 use Rattle.stub_lower.proofs.RecvArrays.{xdr_array}

@@ -1,6 +1,5 @@
 -- The code of a node that receives goes through its type in order.
-use Rattle.std.proofs.Common.{◌≡◌, inr, ℕ, suc, ◌<◌, ◌≤◌, ℤ, List, [], ◌∷◌, Option, Some, None, refl, arith}
-use Rattle.mint.specs.declared.kind.Kind.{Kind}
+use Rattle.std.proofs.Common.{◌≡◌, inr, ℕ, suc, ◌<◌, ℤ, List, [], ◌∷◌, Option, Some, None, refl, arith}
 use Rattle.mint.specs.declared.kind.Kind.TheVariants as kind
 use Rattle.mint.specs.declared.kind.Count.{Count}
 use Rattle.mint.specs.declared.kind.Count.TheVariants.{Exactly, AtMost, Any}

@@ -15,7 +15,7 @@ use mint::kind::{Count, Kind};
 use std::alloc::Global;
 use wire_def::Encoding;
 
-/// Puts the code of a scalar behind the last operation; the get is that of its number.
+/// Puts the code of a scalar after the last operation; the get is that of its number.
 #[tactic(auto, using(crate::proofs::RecvBuilding::building))]
 pub(crate) fn add_scalar(
     alloc: Global,

@@ -9,7 +9,7 @@ use cast_stub::{Get, Gets, Path, RecvOp, RecvOps};
 use kit_base::NoMemory;
 use std::alloc::Global;
 
-/// Puts a test and a take behind the last operation, with one get.
+/// Puts a test and a take after the last operation, with one get.
 #[tactic(auto, using(crate::proofs::RecvBuilding::building))]
 pub(crate) fn add_take(
     alloc: Global,

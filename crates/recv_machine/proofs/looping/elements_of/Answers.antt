@@ -1,7 +1,3 @@
-use Rattle.std.proofs.Common.{ap, sym, subst, ◌∙◌}
-use Rattle.cast_stub.specs.Draft.{Draft}
-use Rattle.recv_machine.specs.Drawn.{drawn}
-use Rattle.recv_machine.specs.Looping.{GoesOver}
 use Rattle.recv_machine.specs.declared.looping.Elements.TheVariants as elements
 use Rattle.recv_machine.proofs.Drafting.{drawn-Raw, drawn-Digit, drawn-Listed, drawn-Lined, drawn-Tagged, drawn-Flagged, drawn-Done, drawn-Fields}
 use Rattle.recv_machine.proofs.Over.{over_same, listed_over, lined_over, digit_over, tagged_over, flagged_over, done_over, fields_over}

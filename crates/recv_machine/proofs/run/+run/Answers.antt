@@ -11,7 +11,7 @@ use Rattle.cast_stub.specs.Draft.{fresh, digit}
 use Rattle.cast_stub.specs.Fill.{fill, fill_case, fill_arm, settled, settled_number}
 use Rattle.cast_stub.specs.Got.{calls_of, sub_at}
 use Rattle.cast_stub.specs.Runs.{Filler, Holds}
-use Rattle.recv_machine.specs.Drawn.{drawn, array_at, numbers_in}
+use Rattle.recv_machine.specs.Drawn.{drawn, array_at}
 use Rattle.recv_machine.specs.Ran.{place_of, Gave, Ran}
 use Rattle.recv_machine.proofs.Drafting.{drawn-Digit}
 use Rattle.recv_machine.specs.Sizes.{code_size}

@@ -1,4 +1,4 @@
-use Rattle.std.proofs.Common.{◌≡◌, ◌+◌, ◌*◌, ◌-◌, ◌++◌, drop, map}
+use Rattle.std.proofs.Common.{◌≡◌, ◌+◌, ◌-◌, ◌++◌, drop, map}
 use Rattle.mint.specs.Types.{type_at}
 use Rattle.mint.specs.Values.{seen}
 use Rattle.wire_def.specs.Arrays.{kind_of}

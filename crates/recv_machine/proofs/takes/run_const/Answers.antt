@@ -1,5 +1,4 @@
-use Rattle.std.proofs.Common.{◌∙◌, ap}
-use Rattle.cast_stub.specs.Into.{same_octets}
+use Rattle.std.proofs.Common.{◌∙◌}
 use Rattle.recv_machine.proofs.Within.{pointwise_alike, slice_off}
 use Rattle.recv_machine.proofs.takes.run_const.Goals as goal
 
