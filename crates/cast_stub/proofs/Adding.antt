@@ -1,4 +1,7 @@
--- One operation more behind a code.
+-- One operation more after a code.
 use Rattle.cast_stub.proofs.Appending.{code_seen-append}
+use Rattle.cast_stub.proofs.RecvAppending as received
 
 pub ruleset adding = (code_seen-append)
+
+pub ruleset adding_received = (received.code_seen-append)

@@ -10,6 +10,9 @@ pub mod Pieces
 pub mod Putting
 pub mod Rebasing
 pub mod RecvAppending
+pub mod RecvParts
 pub mod RecvPieces
+pub mod RecvRebasing
+mod RecvTests
 pub mod Rowless
 pub mod Worked

@@ -5,7 +5,9 @@ use Rattle.cast_stub.specs.declared.recv.RecvOp.TheOpen.{RecvOp-F}
 use Rattle.cast_stub.specs.RecvBlock.{Recv, finish, need, need_row, skip_any, skip_zero, pass, desc, row_block, row_wide, each, switch, if_there, call, Piece, piece_level, op_seen, code_seen}
 use Rattle.cast_stub.specs.RecvAppend.{append}
 use Rattle.cast_stub.specs.Draft.{Draft, length_in}
-use Rattle.cast_stub.specs.Fill.{Place, Run, gives, refuses, strays, then_run, if_some, needed, passed, skipped, all_zero, all_got, part, within, fill_each, fill_arm, fill_present, Callees, fill, fill_case}
+use Rattle.cast_stub.specs.Fill.{all_got, part, within, fill_each, fill_arm, fill_present, Callees, fill, fill_case}
+use Rattle.cast_stub.specs.Into.{needed, passed, skipped, all_zero, desc_into, row_into, wide_into}
+use Rattle.cast_stub.specs.Runs.{Place, Run, gives, refuses, strays, then_run, if_some}
 use Rattle.std.specs.Prelude.{true, ◌*◌, ◌+◌}
 
 pub regrouped : {A B C : Type 0} (x : Run A) (f : A → Place → Run C) (g : A → Place → Run B) (h : B → Place → Run C) → ((y : A) (t : Place) → f y t ≡ then_run (g y t) h) → then_run x f ≡ then_run (then_run x g) h
@@ -29,9 +31,9 @@ fill-append c (skip_zero a r) b d s = regrouped (skipped all_zero a d s) (fill c
 fill-append c (pass n gs r) b d s =
     regrouped (all_got gs d s) (λ x t. then_run (passed n x t) (fill c (append r b))) (λ x t. then_run (passed n x t) (fill c r)) (fill c b)
     (λ (x : Draft) (t : Place). regrouped (passed n x t) (fill c (append r b)) (fill c r) (fill c b) (fill-append c r b))
-fill-append c (desc p name size mul r) b d s = refl
-fill-append c (row_block p o r) b d s = refl
-fill-append c (row_wide p o r) b d s = refl
+fill-append c (desc p name size mul r) b d s = regrouped (within p (desc_into name size mul) d s) (fill c (append r b)) (fill c r) (fill c b) (fill-append c r b)
+fill-append c (row_block p o r) b d s = regrouped (within p (row_into o) d s) (fill c (append r b)) (fill c r) (fill c b) (fill-append c r b)
+fill-append c (row_wide p o r) b d s = regrouped (within p (wide_into o) d s) (fill c (append r b)) (fill c r) (fill c b) (fill-append c r b)
 fill-append c (each p a r) b d s = regrouped (within p (fill_each (fill c a)) d s) (fill c (append r b)) (fill c r) (fill c b) (fill-append c r b)
 fill-append c (switch p cs r) b d s = regrouped (within p (fill_arm (fill_case c cs)) d s) (fill c (append r b)) (fill c r) (fill c b) (fill-append c r b)
 fill-append c (if_there p a r) b d s = regrouped (within p (fill_present (fill c a)) d s) (fill c (append r b)) (fill c r) (fill c b) (fill-append c r b)

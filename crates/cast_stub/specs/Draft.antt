@@ -17,7 +17,7 @@ mutual
     listed : Ty → ℕ → Draft
     -- a row or text, of which the length was read
     lined : Array → ℕ → Draft
-    -- a union, of which the number was read, and the type behind it
+    -- a union, of which the number was read, and the type of its arm
     tagged : ℤ → Ty → Draft
     -- a value of the type that is there
     flagged : Ty → Draft
@@ -62,7 +62,7 @@ length_in (done (items vs)) = Some (count vs)
 length_in (done (row k ns)) = Some (length ns)
 length_in _ = None
 
--- the type behind a number of a union, where there is one
+-- the type of the arm of a number, where there is one
 abbrev pub type_of_arm : Arms → ℤ → Option Ty
 type_of_arm no_other n = None
 type_of_arm (others t) n = Some t

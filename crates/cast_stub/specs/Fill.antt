@@ -1,161 +1,19 @@
 -- What a receive code does: it fills a draft from octets.
-use Rattle.std.specs.Prelude.{ℕ, zero, suc, ◌+◌, ◌-◌, ◌*◌, ◌/◌, ℤ, pos, List, [], ◌∷◌, length, take, drop, max, Option, None, Some, Bool, true, false, nat_eq, nat_lt, nat_le, if◌then◌else◌, ◌&&◌, option_map}
+use Rattle.std.specs.Prelude.{ℕ, zero, suc, ◌+◌, ◌*◌, ℤ, List, [], ◌∷◌, length, take, drop, Option, None, Some, true, nat_le, if◌then◌else◌}
 use Rattle.std.specs.Int.{Width}
 use Rattle.std.specs.Ordering.{int_eq}
-use Rattle.kit_base.specs.Causes.{raised}
-use Rattle.mint.specs.declared.kind.Count.{Count}
-use Rattle.mint.specs.declared.kind.Count.TheVariants.{Exactly, AtMost, Any}
 use Rattle.mint.specs.Blank.{least}
-use Rattle.mint.specs.Kinds.{in_range, is_letter}
-use Rattle.mint.specs.Types.{Scalar, number, Array, text, row_of, Ty, scalar_type, array_type, items_type, choice_type, maybe_type, Arms}
-use Rattle.mint.specs.Typed.{is_scalar}
-use Rattle.mint.specs.Values.{Val, num_in, num, row, items, arm, absent, present, vals_of}
+use Rattle.mint.specs.Types.{Array, Ty, array_type, items_type}
+use Rattle.mint.specs.Values.{Val, num_in, row, items, arm, absent, present, vals_of}
 use Rattle.wire_def.specs.declared.head.Order.{Order}
-use Rattle.wire_def.specs.Scalars.{gap, is_signed, number_of}
 use Rattle.wire_def.specs.Arrays.{count_of, kind_of}
-use Rattle.wire_def.specs.Send.{flag}
-use Rattle.raw_buf.specs.View.{width_in, loaded}
 use Rattle.cast_stub.specs.declared.recv.Get.{Get}
 use Rattle.cast_stub.specs.declared.recv.Get.TheVariants as get
 use Rattle.cast_stub.specs.Parts.{on_some}
-use Rattle.cast_stub.specs.Steps.{is_width}
 use Rattle.cast_stub.specs.RecvBlock.{Recv, finish, need, need_row, skip_any, skip_zero, pass, desc, row_block, row_wide, each, switch, if_there, call, Cases, no_default, default, case}
-use Rattle.cast_stub.specs.Draft.{Draft, raw, digit, listed, lined, tagged, flagged, done, fields, Drafts, no_draft, draft, fresh, settle, length_in, type_of_arm}
-
--- where a run is: the position, the octets that are left, how many of them are known to be there,
--- and the tests so far; a number of tests that has reached 2^64 - 1 stands
-pub record Place : Type 0 where
-  pub pos : ℕ
-  pub left : List ℕ
-  pub near : ℕ
-  pub tests : ℕ
-
--- what a run gives, that a test failed, or that the code looks where no test was or does not suit
--- what it fills
-pub data Run (A : Type 0) : Type 0 where
-  gives : A → Place → Run A
-  refuses : Run A
-  strays : Run A
-
--- from a place
-abbrev pub Going : Type 0 → Type 0
-Going A = Place → Run A
-
--- what is done to a draft
-abbrev pub Filler : Type 0
-Filler = Draft → Place → Run Draft
-
--- one after the other
-abbrev pub then_run : {A B : Type 0} → Run A → (A → Place → Run B) → Run B
-then_run (gives x s) f = f x s
-then_run refuses f = refuses
-then_run strays f = strays
-
--- what is given, seen otherwise
-abbrev pub map_run : {A B : Type 0} → (A → B) → Run A → Run B
-map_run f (gives x s) = gives (f x) s
-map_run f refuses = refuses
-map_run f strays = strays
-
--- something, where it is there
-abbrev pub if_some : {A B : Type 0} → Option A → (A → Run B) → Run B
-if_some None f = strays
-if_some (Some x) f = f x
-
--- something that passed its test
-abbrev pub if_passed : {A B : Type 0} → Option A → (A → Run B) → Run B
-if_passed None f = refuses
-if_passed (Some x) f = f x
-
--- ---- octets
-
--- so many octets follow
-abbrev pub needed : ℕ → Filler
-needed n d s =
-    if nat_lt (length s.left) n then refuses
-    else gives d (record { pos = s.pos; left = s.left; near = max n s.near; tests = raised s.tests 1 })
-
--- octets are passed that are known to be there
-abbrev pub passed : ℕ → Filler
-passed n d s =
-    if nat_le n s.near then gives d (record { pos = s.pos + n; left = drop n s.left; near = s.near - n; tests = s.tests })
-    else strays
-
-abbrev pub all_zero : List ℕ → Bool
-all_zero [] = true
-all_zero (zero ∷ o) = all_zero o
-all_zero (suc b ∷ o) = false
-
--- octets up to a multiple, any or zeros
-abbrev pub skipped : (List ℕ → Bool) → ℕ → Filler
-skipped test a d s =
-    if is_width a
-    then then_run (needed (gap s.pos a) d s) (λ d t. if test (take (gap s.pos a) t.left) then passed (gap s.pos a) d t else refuses)
-    else refuses
-
--- ---- numbers
-
--- the number of octets at an offset
-abbrev pub word_at : ℕ → ℕ → Order → Place → (Width → ℕ → Run Draft) → Run Draft
-word_at off w o s f =
-    if_passed (width_in w) (λ x. if nat_le (off + w) s.near then f x (loaded o x (take w (drop off s.left))) else strays)
-
-abbrev pub is_digit : Array → ℤ → Bool
-is_digit (text c) n = is_letter n
-is_digit (row_of k c) n = in_range k n
-
--- a number of a width for a scalar, of which a draft is made
-abbrev pub scalar_into : Scalar → (ℤ → Option Draft) → Width → ℕ → Place → Run Draft
-scalar_into t f x m s = if is_scalar t (number_of (is_signed t) x m) then if_passed (f (number_of (is_signed t) x m)) (λ d. gives d s) else refuses
-
--- a number, or an element of a row or text
-abbrev pub num_into : Width → ℕ → Filler
-num_into x m (raw (scalar_type t)) s = scalar_into t (λ n. Some (done (num n))) x m s
-num_into x m (digit a) s =
-    if is_digit a (number_of (is_signed (number (kind_of a))) x m) then gives (done (num (number_of (is_signed (number (kind_of a))) x m))) s else refuses
-num_into x m _ s = strays
-
--- the number of a union
-abbrev pub arm_draft : Arms → ℤ → Option Draft
-arm_draft arms n = option_map (tagged n) (type_of_arm arms n)
-
-abbrev pub tag_into : Width → ℕ → Filler
-tag_into x m (raw (choice_type t arms)) s = scalar_into t (arm_draft arms) x m s
-tag_into x m _ s = strays
-
--- whether a value is there
-abbrev pub flag_draft : Ty → ℤ → Option Draft
-flag_draft t (pos zero) = Some (done absent)
-flag_draft t _ = Some (flagged t)
-
-abbrev pub flag_into : Width → ℕ → Filler
-flag_into x m (raw (maybe_type t)) s = scalar_into flag (flag_draft t) x m s
-flag_into x m _ s = strays
-
--- the length whose multiple, raised, is the number
-abbrev pub length_of : ℕ → ℕ → ℕ → Option ℕ
-length_of mul add m =
-    if nat_lt 0 mul && nat_eq ((m - add) / mul * mul + add) m then Some ((m - add) / mul) else None
-
--- whether a count allows a length
-abbrev pub allows : Count → ℕ → Bool
-allows (Exactly m) n = nat_eq n m
-allows (AtMost m) n = nat_lt n 4294967296 && nat_le n m
-allows Any n = nat_lt n 4294967296
-
--- the length of a list, row or text
-abbrev pub length_into : Count → (ℕ → Draft) → ℕ → ℕ → ℕ → Place → Run Draft
-length_into c f mul add m s = if_passed (length_of mul add m) (λ n. if allows c n then gives (f n) s else refuses)
-
-abbrev pub count_into : ℕ → ℕ → ℕ → Filler
-count_into mul add m (raw (items_type c t)) s = length_into c (listed t) mul add m s
-count_into mul add m (raw (array_type a)) s = length_into (count_of a) (lined a) mul add m s
-count_into mul add m _ s = strays
-
-abbrev pub same_octets : List ℕ → List ℕ → Bool
-same_octets [] [] = true
-same_octets (a ∷ x) (b ∷ y) = nat_eq a b && same_octets x y
-same_octets _ _ = false
+use Rattle.cast_stub.specs.Draft.{Draft, raw, digit, listed, lined, tagged, flagged, done, fields, Drafts, no_draft, draft, fresh, settle, length_in}
+use Rattle.cast_stub.specs.Into.{needed, passed, skipped, all_zero, word_at, num_into, tag_into, flag_into, count_into, desc_into, row_into, wide_into, same_octets}
+use Rattle.cast_stub.specs.Runs.{Place, Run, gives, refuses, strays, Going, Filler, then_run, map_run, if_some}
 
 -- ---- parts
 
@@ -251,7 +109,7 @@ fill_each f (listed t n) s = fill_items f t n s
 fill_each f (lined a n) s = fill_row f a n s
 fill_each f _ s = strays
 
--- the value behind a union's number
+-- the value of a union's arm
 abbrev pub fill_arm : (ℤ → Filler) → Filler
 fill_arm f (tagged n t) s = map_run (λ v. done (arm n v)) (settled (f n (fresh t) s))
 fill_arm f _ s = strays
@@ -275,9 +133,9 @@ abbrev mutual
   fill c (skip_any a r) d s = then_run (skipped (λ o. true) a d s) (fill c r)
   fill c (skip_zero a r) d s = then_run (skipped all_zero a d s) (fill c r)
   fill c (pass n gs r) d s = then_run (all_got gs d s) (λ x t. then_run (passed n x t) (fill c r))
-  fill c (desc p name size mul r) d s = strays
-  fill c (row_block p o r) d s = strays
-  fill c (row_wide p o r) d s = strays
+  fill c (desc p name size mul r) d s = then_run (within p (desc_into name size mul) d s) (fill c r)
+  fill c (row_block p o r) d s = then_run (within p (row_into o) d s) (fill c r)
+  fill c (row_wide p o r) d s = then_run (within p (wide_into o) d s) (fill c r)
   fill c (each p b r) d s = then_run (within p (fill_each (fill c b)) d s) (fill c r)
   fill c (switch p cs r) d s = then_run (within p (fill_arm (fill_case c cs)) d s) (fill c r)
   fill c (if_there p b r) d s = then_run (within p (fill_present (fill c b)) d s) (fill c r)

@@ -1,16 +1,18 @@
 -- What a receive code gives, and when it gives what the octets spell.
-use Rattle.std.specs.Prelude.{◌≡◌, ℕ, zero, suc, ◌+◌, ◌≤◌, List, length, take, drop, Option, None, option_map, slice_get}
+use Rattle.std.specs.Prelude.{◌≡◌, ℕ, zero, suc, ◌+◌, ◌≤◌, List, length, drop, Option, None, option_map, slice_get}
+use Rattle.kit_base.specs.Limits.{longest_message}
 use Rattle.mint.specs.Values.{Val}
 use Rattle.mint.specs.Types.{Ty}
 use Rattle.wire_def.specs.declared.encoding.Encoding.{Encoding}
 use Rattle.wire_def.specs.Grammar.{AreOctets}
-use Rattle.wire_def.specs.Spells.{IsSpelling}
+use Rattle.wire_def.specs.Laws.{BeginsWith}
 use Rattle.cast_stub.specs.declared.recv.RecvOp.{RecvOp}
 use Rattle.cast_stub.specs.declared.recv.RecvCode.{RecvCode}
 use Rattle.cast_stub.specs.Subs.{deepest}
 use Rattle.cast_stub.specs.RecvBlock.{Recv, code_seen}
 use Rattle.cast_stub.specs.Draft.{fresh}
-use Rattle.cast_stub.specs.Fill.{Place, Run, gives, refuses, strays, Callees, fill, settled, if_some}
+use Rattle.cast_stub.specs.Fill.{Callees, fill, settled}
+use Rattle.cast_stub.specs.Runs.{Place, Run, gives, refuses, strays, if_some}
 
 -- no code
 abbrev pub no_calls : Callees
@@ -36,10 +38,23 @@ calls_of subs n = called (sub_at subs) n
 abbrev pub received : RecvCode → Ty → Place → Run Val
 received code t s = settled (fill (calls_of code.subs deepest) (code_seen code.ops) (fresh t) s)
 
--- the first octets, so many, spell the value from the position
-pub record BeginsWith (e : Encoding) (t : Ty) (p : ℕ) (o : List ℕ) (v : Val) (used : ℕ) : Type 0 where
-  pub there : used ≤ length o
-  pub spelled : IsSpelling e t p (take used o) v
+-- what a code gives: a value, the position after it, and the tests so far; or that it gives none
+pub data Got : Type 0 where
+  given : Val → ℕ → ℕ → Got
+  not_given : Got
+
+-- what a run gives; a run that strays gives none
+abbrev pub told : Run Val → Got
+told (gives v s) = given v s.pos s.tests
+told refuses = not_given
+told strays = not_given
+
+abbrev pub got_by : RecvCode → Ty → Place → Got
+got_by code t s = told (received code t s)
+
+-- octets from a position on, of which nothing was tested
+abbrev pub untested : ℕ → List ℕ → Place
+untested p o = record { pos = p; left = o; near = 0; tests = 0 }
 
 -- the value that the first octets spell, or none where they spell none; the run never strays
 abbrev pub IsExact : Encoding → Ty → ℕ → List ℕ → Run Val → Type 0
@@ -47,7 +62,7 @@ IsExact e t p o (gives v s) = (used : ℕ) × (s.pos ≡ p + used) × (s.left �
 IsExact e t p o refuses = (v : Val) (used : ℕ) → BeginsWith e t p o v used → ⊥
 IsExact e t p o strays = ⊥
 
--- so it is from each place at these positions, over the octets that a message can hold
+-- so it is from each place at these positions, whatever was tested before, over the octets that a message can hold
 abbrev pub IsSoundCode : Encoding → Ty → (ℕ → Type 0) → RecvCode → Type 0
-IsSoundCode e t IsPlace code = (s : Place) → IsPlace s.pos → AreOctets s.left → s.pos + length s.left ≤ 4194304
+IsSoundCode e t IsPlace code = (s : Place) → IsPlace s.pos → AreOctets s.left → s.pos + length s.left ≤ longest_message
     → IsExact e t s.pos s.left (received code t s)

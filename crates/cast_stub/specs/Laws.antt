@@ -7,6 +7,17 @@ use Rattle.cast_stub.specs.Block.{Block}
 use Rattle.cast_stub.specs.Append.{append, rebase}
 use Rattle.cast_stub.specs.CallFree.{HasNoCall}
 use Rattle.cast_stub.specs.Entered.{Entries, entered}
+use Rattle.kit_base.specs.Causes.{raised}
+use Rattle.mint.specs.Types.{Ty}
+use Rattle.cast_stub.specs.declared.recv.RecvCode.{RecvCode}
+use Rattle.cast_stub.specs.Draft.{Draft}
+use Rattle.cast_stub.specs.Fill.{Callees, fill, part}
+use Rattle.cast_stub.specs.Got.{Got, given, not_given, got_by, untested}
+use Rattle.cast_stub.specs.Got as by
+use Rattle.cast_stub.specs.PutPart.{put_part}
+use Rattle.cast_stub.specs.RecvAppend as received
+use Rattle.cast_stub.specs.RecvBlock.{Recv}
+use Rattle.cast_stub.specs.Runs.{Place, gives, then_run, if_some, Holds}
 use Rattle.cast_stub.specs.Kept.{unensured}
 use Rattle.cast_stub.specs.Steps.{Step, Calls, both, steps}
 use Rattle.cast_stub.specs.Meaning.{wrote, costs, sum, HasRoom}
@@ -42,3 +53,21 @@ EnsuresRunNoCall = (e : Entries) (b : Block) (v : Val) → entered e (unensured 
 -- code without calls runs none
 abbrev pub NoCallRunsNone : Type 0
 NoCallRunsNone = (e : Entries) (b : Block) (v : Val) → HasNoCall b → entered e b v ≡ []
+
+-- the run of a block after a block
+abbrev pub RecvAfterRecv : Type 0
+RecvAfterRecv = (c : Callees) (a b : Recv) (d : Draft) (s : Place) → fill c (received.append a b) d s ≡ then_run (fill c a d s) (fill c b)
+
+-- a part's code on the whole
+abbrev pub RecvForPart : Type 0
+RecvForPart = (c : Callees) (q : List ℕ) (b : Recv) (d x : Draft) (s : Place) → part q d ≡ Some x
+    → fill c (received.rebase q b) d s ≡ then_run (fill c b x s) (λ y t. if_some (put_part q y d) (λ e. gives e t))
+
+-- what is given, after so many tests
+abbrev pub later : ℕ → Got → Got
+later k (given v end tests) = given v end (raised k tests)
+later k not_given = not_given
+
+-- tests that were made before are added, and change nothing else
+abbrev pub TestsAdd : Type 0
+TestsAdd = (code : RecvCode) (t : Ty) (s : Place) → Holds (by.received code t (untested s.pos s.left)) → got_by code t s ≡ later s.tests (got_by code t (untested s.pos s.left))

@@ -5,6 +5,7 @@ use Rattle.mint.specs.declared.kind.Count.TheVariants.{Exactly}
 use Rattle.mint.specs.declared.node.Node.{Node}
 use Rattle.mint.specs.Types.{Array, Ty, void_type, scalar_type, array_type, group_type, items_type, choice_type, maybe_type, Tys, no_fields, field, Arms, no_other, others, arm_type, type_at}
 use Rattle.wire_def.specs.declared.head.Order.{Order}
+use Rattle.cast_stub.specs.declared.recv.Get.{Get}
 use Rattle.cast_stub.specs.declared.recv.Get.TheVariants as get
 use Rattle.cast_stub.specs.declared.recv.RecvOp.{RecvOp}
 use Rattle.cast_stub.specs.RecvBlock.{Recv, finish, need, skip_any, skip_zero, pass, desc, each, switch, if_there, call, Cases, no_default, default, case}
@@ -22,19 +23,49 @@ descs (pass n gs r) = descs r
 descs (desc p name size mul r) = option_map suc (descs r)
 descs _ = None
 
--- tests, skips and takes alone
-abbrev pub IsFlat : Recv → Type 0
-IsFlat b = descs b ≡ Some 0
+-- a get of the value at a path, or of octets that must be these
+abbrev pub IsGetAt : List ℕ → Get → Type 0
+IsGetAt p (get.Num off q w o) = q ≡ p
+IsGetAt p (get.Tag off q w o) = q ≡ p
+IsGetAt p (get.Flag off q w o) = q ≡ p
+IsGetAt p (get.Count off q mul add w o) = q ≡ p
+IsGetAt p (get.Const off os) = Unit {0}
+
+abbrev pub AreGetsAt : List ℕ → List Get → Type 0
+AreGetsAt p [] = Unit {0}
+AreGetsAt p (g ∷ gs) = IsGetAt p g × AreGetsAt p gs
+
+-- the gets and descriptors among tests, skips and takes are of the value at a path
+abbrev pub IsAt : List ℕ → Recv → Type 0
+IsAt p (need n r) = IsAt p r
+IsAt p (skip_any a r) = IsAt p r
+IsAt p (skip_zero a r) = IsAt p r
+IsAt p (pass n gs r) = AreGetsAt p gs × IsAt p r
+IsAt p (desc q name size mul r) = (q ≡ p) × IsAt p r
+IsAt p _ = Unit {0}
+
+-- tests, skips and takes alone, for the value at a path
+abbrev pub IsFlat : List ℕ → Recv → Type 0
+IsFlat p b = (descs b ≡ Some 0) × IsAt p b
 
 -- tests, skips and takes, perhaps a descriptor; a loop whose turn is tests, skips and takes; and such
-abbrev pub IsLoop : List ℕ → Recv → Type 0
-IsLoop p b = (before : Recv) × (turn : Recv) × (behind : Recv) × (k : ℕ) × (m : ℕ)
-    × (b ≡ append before (each p turn behind)) × (descs before ≡ Some k) × IsFlat turn × (descs behind ≡ Some m) × (k + m ≤ 1)
+pub record IsLoop (p : List ℕ) (b : Recv) : Type 0 where
+  pub before : Recv
+  pub turn : Recv
+  pub behind : Recv
+  -- how many descriptors stand before the loop and after it
+  pub first : ℕ
+  pub last : ℕ
+  pub whole : b ≡ append before (each p turn behind)
+  pub begins : (descs before ≡ Some first) × IsAt p before
+  pub turns : IsFlat [] turn
+  pub ends : (descs behind ≡ Some last) × IsAt p behind
+  pub few : first + last ≤ 1
 
--- what stands before the loop over a list
-abbrev pub IsCount : Count → Recv → Type 0
-IsCount (Exactly n) b = b ≡ finish
-IsCount _ b = IsFlat b
+-- what stands before the loop over the list at a path
+abbrev pub IsCount : List ℕ → Count → Recv → Type 0
+IsCount p (Exactly n) b = b ≡ finish
+IsCount p _ b = IsFlat p b
 
 -- codes that go through a type: of calls below a number, for the value at a path
 abbrev pub Going : Type 1
@@ -52,12 +83,12 @@ abbrev mutual
   -- each operation in the type's order, loops over rows being such
   pub TracesBy : Loops → (ℕ → Option Recv) → Ty → Going
   TracesBy L subs void_type below p b = b ≡ finish
-  TracesBy L subs (scalar_type s) below p b = IsFlat b
+  TracesBy L subs (scalar_type s) below p b = IsFlat p b
   TracesBy L subs (array_type a) below p b = L a p b
   TracesBy L subs (group_type ts) below p b = FieldsTraceBy L subs ts 0 below p b
-  TracesBy L subs (items_type c t) below p b = (a : Recv) × (body : Recv) × (b ≡ append a (each p body finish)) × IsCount c a × Child subs (TracesBy L subs t) below [] body
-  TracesBy L subs (choice_type s arms) below p b = (a : Recv) × (cases : Cases) × (b ≡ append a (switch p cases finish)) × IsFlat a × ArmsTraceBy L subs arms below cases
-  TracesBy L subs (maybe_type t) below p b = (a : Recv) × (body : Recv) × (b ≡ append a (if_there p body finish)) × IsFlat a × Child subs (TracesBy L subs t) below [] body
+  TracesBy L subs (items_type c t) below p b = (a : Recv) × (body : Recv) × (b ≡ append a (each p body finish)) × IsCount p c a × Child subs (TracesBy L subs t) below [] body
+  TracesBy L subs (choice_type s arms) below p b = (a : Recv) × (cases : Cases) × (b ≡ append a (switch p cases finish)) × IsFlat p a × ArmsTraceBy L subs arms below cases
+  TracesBy L subs (maybe_type t) below p b = (a : Recv) × (body : Recv) × (b ≡ append a (if_there p body finish)) × IsFlat p a × Child subs (TracesBy L subs t) below [] body
 
   -- the fields, the first of them of this number
   pub FieldsTraceBy : Loops → (ℕ → Option Recv) → Tys → ℕ → Going
@@ -80,9 +111,9 @@ IsNumber None b = Unit {0}
 IsNumber (Some x) b = b ≡ need x.0 (pass x.0 (get.Num 0 [] x.0 x.1 ∷ []) finish)
 
 -- a loop whose turn is one number, where the row may be received as a block
-abbrev pub IsTurned : Layout → Loops
-IsTurned layout a p b = (before : Recv) × (turn : Recv) × (behind : Recv) × (k : ℕ) × (m : ℕ)
-    × (b ≡ append before (each p turn behind)) × (descs before ≡ Some k) × IsFlat turn × (descs behind ≡ Some m) × (k + m ≤ 1) × IsNumber (layout a) turn
+pub record IsTurned (layout : Layout) (a : Array) (p : List ℕ) (b : Recv) : Type 0 where
+  pub loop : IsLoop p b
+  pub number : IsNumber (layout a) loop.turn
 
 -- each code of a list goes through the node of its number
 abbrev pub AllTrace : List Node → List (List RecvOp) → Type 0

@@ -10,6 +10,8 @@ mod laws;
 pub mod layouts;
 mod put;
 mod recv;
+pub mod recv_copying;
+mod recv_laws;
 mod send;
 
 pub use laws::{
@@ -18,4 +20,5 @@ pub use laws::{
 };
 pub use put::{HeadField, Path, Put, Puts};
 pub use recv::{Get, Gets, RecvCases, RecvCode, RecvOp, RecvOps, RecvSubs};
+pub use recv_laws::{earlier_tests_add, recv_code_after_code, recv_code_for_a_part};
 pub use send::{SendCases, SendCode, SendOp, SendOps, SendSubs};

@@ -1,15 +1,14 @@
 -- Code that goes through a type goes through it with its calls replaced.
-use Rattle.std.proofs.Common.{◌≡◌, inl, inr, ℕ, zero, suc, ◌+◌, ◌<◌, ◌≤◌, List, [], ◌∷◌, ◌++◌, map, length, Option, Some, None, option_map, refl, sym, ap, subst, ◌∙◌, arith, append_assoc}
+use Rattle.std.proofs.Common.{◌≡◌, inl, inr, ℕ, zero, suc, ◌+◌, ◌<◌, ◌≤◌, List, [], ◌∷◌, ◌++◌, length, Option, Some, option_map, refl, sym, ap, subst, ◌∙◌, arith, append_assoc}
 use Rattle.std.proofs.lemmas.List.{length-map, append-nil}
 use Rattle.mint.specs.declared.kind.Count.{Count}
 use Rattle.mint.specs.declared.kind.Count.TheVariants.{Exactly, AtMost, Any}
 use Rattle.mint.specs.Types.{Array, Ty, void_type, scalar_type, array_type, group_type, items_type, choice_type, maybe_type, Tys, no_fields, field, Arms, no_other, others, arm_type}
 use Rattle.mint.specs.Blank.{depth, fields_depth, arms_depth}
-use Rattle.cast_stub.specs.declared.put.Put.{Put}
 use Rattle.cast_stub.specs.Block.{Block, stop, ensure, ensure_row, align, chunk, row_copy, row_swap, row_wide, each, switch, if_there, call, patch, Cases}
 use Rattle.cast_stub.specs.Append.{append, rebase, put_rebased}
 use Rattle.cast_stub.specs.Subs.{no_subs}
-use Rattle.cast_stub.specs.Follows.{flat, IsFlat, IsLoop, IsCount, Going, Child, Loops, FollowsBy, FieldsFollowBy, ArmsFollowBy}
+use Rattle.cast_stub.specs.Follows.{flat, IsFlat, IsLoop, IsCount, Child, Loops, FollowsBy, FieldsFollowBy, ArmsFollowBy}
 use Rattle.cast_stub.specs.Turned.{Layout, IsTurned}
 use Rattle.cast_stub.proofs.Appending.{append-stop}
 use Rattle.cast_stub.proofs.Followed.{own, mapped}

@@ -1,20 +1,17 @@
 -- Codes that go through the types of a table have few levels.
-use Rattle.std.proofs.Common.{◌≡◌, inl, inr, ℕ, zero, suc, ◌+◌, ◌-◌, ◌*◌, ◌<◌, ◌≤◌, ℤ, List, [], ◌∷◌, ◌++◌, length, get_or, Option, Some, None, option_map, refl, sym, ap, subst, ◌∙◌, arith}
-use Rattle.std.specs.Prelude.{slice_get}
+use Rattle.std.proofs.Common.{◌≡◌, inl, inr, ℕ, zero, suc, ◌+◌, ◌-◌, ◌*◌, ◌<◌, ◌≤◌, ℤ, List, [], ◌∷◌, ◌++◌, length, get_or, Option, Some, None, option_map, sym, ap, subst, ◌∙◌, arith}
 use Rattle.std.proofs.lemmas.Option.{slice_get-get_or}
 use Rattle.mint.specs.declared.kind.Count.{Count}
 use Rattle.mint.specs.declared.kind.Count.TheVariants.{Exactly, AtMost, Any}
-use Rattle.mint.specs.declared.node.Node.{Node}
-use Rattle.mint.specs.Types.{Array, Ty, void_type, scalar_type, array_type, group_type, items_type, choice_type, maybe_type, Tys, no_fields, field, Arms, no_other, others, arm_type, type_at}
+use Rattle.mint.specs.Types.{Ty, void_type, scalar_type, array_type, group_type, items_type, choice_type, maybe_type, Tys, no_fields, field, Arms, no_other, others, arm_type, type_at}
 use Rattle.mint.specs.Blank.{depth, fields_depth, arms_depth}
-use Rattle.mint.specs.Sound.{IsSound}
 use Rattle.mint.proofs.Measuring.{sound_taken}
 use Rattle.cast_stub.specs.declared.send.SendOp.{SendOp}
 use Rattle.cast_stub.specs.declared.send.SendOp.TheVariants as op
-use Rattle.cast_stub.specs.Block.{Block, Piece, stop, ensure, ensure_row, align, chunk, row_copy, row_swap, row_wide, each, switch, if_there, call, patch, Cases, no_default, default, case, op_seen, code_seen, cases_seen}
+use Rattle.cast_stub.specs.Block.{Block, Piece, stop, ensure, ensure_row, align, chunk, row_copy, row_swap, row_wide, each, switch, if_there, call, patch, Cases, op_seen, code_seen, cases_seen}
 use Rattle.cast_stub.specs.Append.{append}
 use Rattle.cast_stub.specs.Subs.{sub_at}
-use Rattle.cast_stub.specs.Follows.{flat, IsFlat, IsLoop, IsCount, Going, Child, Follows, FieldsFollow, ArmsFollow, AllFollow}
+use Rattle.cast_stub.specs.Follows.{flat, IsCount, Child, Follows, FieldsFollow, ArmsFollow}
 use Rattle.cast_stub.proofs.Appending.{op-append}
 use Rattle.cast_stub.proofs.Followed.{mapped}
 use Rattle.cast_stub.proofs.Pieces.{seen-Each, seen-Some, seen-Switch, seen-Call}

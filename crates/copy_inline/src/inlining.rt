@@ -17,9 +17,9 @@ use kit_base::NoMemory;
 use mint::table::NodeId;
 use std::alloc::Global;
 
-// How many levels the code of a node has at most: two for each of the 32 levels of a type, a body and
-// the code that it calls, and two for a row.
-const LEVELS: u32 = 66;
+/// How many levels the code of a node has at most: two for each of the 32 levels of a type, a body and
+/// the code that it calls, and two for a row.
+pub(crate) const LEVELS: u32 = 66;
 
 // The operations of a code behind those of `out`, for the part at the prefix.
 #[cycle(inline)]
@@ -188,8 +188,8 @@ fn put_called(
     }
 }
 
-// How many calls stand within one another at most, and the code itself.
-fn levels() -> u32
+/// How many calls stand within one another at most, and the code itself.
+pub(crate) fn levels() -> u32
     ensures is { result ≡ 1 + deepest }
     ensures few { 66 < result }
 {

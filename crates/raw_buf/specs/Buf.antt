@@ -1,5 +1,5 @@
 -- A buffer as its octets, the space ensured behind them, and what its calls have cost.
-use Rattle.std.specs.Prelude.{◌≡◌, ◌≤◌, ◌⊎◌, ℕ, max, List, length, take}
+use Rattle.std.specs.Prelude.{◌≡◌, ◌≤◌, ◌+◌, ◌⊎◌, ℕ, max, List, length, take}
 use Rattle.kit_base.specs.Bytes.{be, le}
 use Rattle.kit_base.specs.Causes.{raised}
 use Rattle.wire_def.specs.declared.head.Order.{Order}
@@ -15,6 +15,8 @@ pub record Buf : Type 0 where
   pub tally : Tally
   -- the counts over the buffer's whole life
   pub spent : Tally
+  -- how many octets the memory holds
+  pub room : ℕ
 
 -- no calls
 abbrev pub none : Tally
@@ -48,10 +50,11 @@ pub record NoneFell (old new : Tally) : Type 0 where
   pub stores : old.stores ≤ new.stores
   pub rows : old.rows ≤ new.rows
 
--- n octets are ensured, those that were stay
+-- n octets are ensured, those that were stay, and the memory grows only where it must
 pub record Ensures (n : ℕ) (old new : Buf) : Type 0 where
   pub done : new.done ≡ old.done
   pub kept : take (length old.front) new.front ≡ old.front
   pub ahead : length new.front ≡ max n (length old.front)
+  pub room : new.room ≡ max old.room (length old.done + n)
   pub tally : new.tally ≡ checked old.tally
   pub spent : new.spent ≡ checked old.spent

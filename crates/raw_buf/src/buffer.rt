@@ -30,7 +30,7 @@ impl Model for SendBuf {
 
     ghost Value = { Buf };
 
-    ghost view = { λ b. record { done = take b.len b.memory.items; front = take b.ahead (drop b.len b.memory.items); tally = b.tally; spent = b.spent } };
+    ghost view = { λ b. record { done = take b.len b.memory.items; front = take b.ahead (drop b.len b.memory.items); tally = b.tally; spent = b.spent; room = length b.memory.items } };
 
     ghost invariant = { λ b. b.len + b.ahead ≤ length b.memory.items };
 }
@@ -45,7 +45,7 @@ const NOTHING: Tally = Tally {
 impl SendBuf {
     /// An empty buffer, which has spent nothing.
     pub fn new(alloc: Global) -> Result<SendBuf, NoMemory>
-        ensures { IfOk result (λ b. b ≡ record { done = []; front = []; tally = none; spent = none }) }
+        ensures { IfOk result (λ b. b ≡ record { done = []; front = []; tally = none; spent = none; room = 0 }) }
     {
         Ok(SendBuf {
             memory: Vec::new(alloc),
@@ -84,6 +84,7 @@ impl SendBuf {
         ensures front { self.new.front ≡ written self.old.front off (in_order order width v) }
         ensures tally { self.new.tally ≡ stored self.old.tally }
         ensures spent { self.new.spent ≡ stored self.old.spent }
+        ensures room { self.new.room ≡ self.old.room }
     {
         match order {
             Order::Big => {
@@ -104,6 +105,7 @@ impl SendBuf {
         ensures front { self.new.front ≡ written self.old.front off octets.now }
         ensures tally { self.new.tally ≡ stored self.old.tally }
         ensures spent { self.new.spent ≡ stored self.old.spent }
+        ensures room { self.new.room ≡ self.old.room }
     {
         self.store(off, octets);
         self.count_store();
@@ -116,6 +118,7 @@ impl SendBuf {
         ensures front { self.new.front ≡ drop n self.old.front }
         ensures tally { self.new.tally ≡ moved self.old.tally }
         ensures spent { self.new.spent ≡ moved self.old.spent }
+        ensures room { self.new.room ≡ self.old.room }
     {
         self.len += n;
         self.ahead -= n;
@@ -131,6 +134,7 @@ impl SendBuf {
         ensures front { self.new.front ≡ drop (gap (length self.old.done) a) self.old.front }
         ensures tally { self.new.tally ≡ moved self.old.tally }
         ensures spent { self.new.spent ≡ moved self.old.spent }
+        ensures room { self.new.room ≡ self.old.room }
     {
         let count = (a - self.octets().len() % a) % a;
         self.store_zeros(count);
@@ -144,6 +148,7 @@ impl SendBuf {
         ensures front { self.new.front ≡ self.old.front }
         ensures tally { self.new.tally ≡ stored self.old.tally }
         ensures spent { self.new.spent ≡ stored self.old.spent }
+        ensures room { self.new.room ≡ self.old.room }
     {
         match order {
             Order::Big => self.overwrite(at, &v.to_be_bytes()),
@@ -175,7 +180,7 @@ impl SendBuf {
 
     /// Begins anew. What was spent, and the memory, are kept.
     pub fn clear(&mut self)
-        ensures { self.new ≡ record { done = []; front = []; tally = none; spent = self.old.spent } }
+        ensures { self.new ≡ record { done = []; front = []; tally = none; spent = self.old.spent; room = self.old.room } }
     {
         self.len = 0;
         self.ahead = 0;
@@ -188,6 +193,7 @@ impl SendBuf {
         ensures front { self.new.front ≡ written self.old.front off octets.now }
         ensures tally { self.new.tally ≡ self.old.tally }
         ensures spent { self.new.spent ≡ self.old.spent }
+        ensures room { self.new.room ≡ self.old.room }
     {
         let start = self.len + off;
         write_at(&mut self.memory, start, octets);
@@ -200,6 +206,7 @@ impl SendBuf {
         ensures front { self.new.front ≡ replicate count 0 ++ drop count self.old.front }
         ensures tally { self.new.tally ≡ self.old.tally }
         ensures spent { self.new.spent ≡ self.old.spent }
+        ensures room { self.new.room ≡ self.old.room }
     {
         let zeros = [0u8; 8];
         self.store(0, &zeros[..count]);
@@ -211,6 +218,7 @@ impl SendBuf {
         ensures front { self.new.front ≡ self.old.front }
         ensures tally { self.new.tally ≡ self.old.tally }
         ensures spent { self.new.spent ≡ self.old.spent }
+        ensures room { self.new.room ≡ self.old.room }
     {
         write_at(&mut self.memory, at, octets);
     }
@@ -220,6 +228,7 @@ impl SendBuf {
         ensures front { self.new.front ≡ self.old.front }
         ensures tally { self.new.tally ≡ stored self.old.tally }
         ensures spent { self.new.spent ≡ stored self.old.spent }
+        ensures room { self.new.room ≡ self.old.room }
     {
         self.tally.stores = self.tally.stores.saturating_add(1);
         self.spent.stores = self.spent.stores.saturating_add(1);

@@ -3,10 +3,12 @@
 #![tactic(auto)]
 
 mod buffer;
+mod laws;
 mod tally;
 mod view;
 mod words;
 
 pub use buffer::SendBuf;
+pub use laws::puts_are_done;
 pub use tally::Tally;
 pub use view::RecvView;

@@ -57,7 +57,8 @@ impl<'a> RecvView<'a> {
 
     /// The octets that are left.
     pub fn rest(&self) -> &'a [u8]
-        ensures { result.now ≡ drop self.now.pos self.now.octets }
+        ensures value { result.now ≡ drop self.now.pos self.now.octets }
+        ensures near { self.now.near ≤ length result.now }
     {
         &self.octets[self.pos..]
     }
@@ -89,15 +90,6 @@ impl<'a> RecvView<'a> {
     {
         let rest = &self.octets[self.pos..];
         word(&rest[off..off + width], order)
-    }
-
-    /// The octets at an offset, which are known to be there.
-    pub fn peek(&self, off: usize, n: usize) -> &'a [u8]
-        requires { off + n ≤ self.now.near }
-        ensures { result.now ≡ take n (drop off (drop self.now.pos self.now.octets)) }
-    {
-        let rest = &self.octets[self.pos..];
-        &rest[off..off + n]
     }
 
     /// Passes n octets that are known to be there.

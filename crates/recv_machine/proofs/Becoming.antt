@@ -1,7 +1,7 @@
 -- Drafts that have become values.
-use Rattle.std.proofs.Common.{◌≡◌, ℕ, zero, suc, ◌+◌, ◌<◌, ◌≤◌, List, [], ◌∷◌, ◌++◌, length, drop, get_or, map, Option, None, Some, option_map, slice_get, refl, sym, ap, subst, ◌∙◌, add-one, arith}
+use Rattle.std.proofs.Common.{◌≡◌, ℕ, zero, suc, ◌+◌, ◌≤◌, List, [], ◌∷◌, ◌++◌, length, drop, Option, None, Some, option_map, slice_get, refl, sym, ap, subst, ◌∙◌, arith}
 use Rattle.std.specs.Prelude.{slice_set}
-use Rattle.std.proofs.Math.Seq.{drop-cons}
+use Rattle.std.proofs.Math.Seq.{drop-drop}
 use Rattle.std.proofs.lemmas.List.{drop_all}
 use Rattle.mint.specs.declared.node.Node.{Node}
 use Rattle.mint.specs.declared.value.Value.{Value}
@@ -13,6 +13,7 @@ use Rattle.mint.specs.Values.{Val, group, Vals, no_more, val, seen, seen_level, 
 use Rattle.mint.proofs.Seen.{seen-Void, joined, joined-no_more, joined_one, all_seen-push}
 use Rattle.cast_stub.specs.Parts.{IsThere, on_some}
 use Rattle.cast_stub.specs.Draft.{Draft, Drafts, no_draft, draft, settle, settles}
+use Rattle.cast_stub.specs.Draft as drafts
 use Rattle.recv_machine.specs.declared.draft.Filling.{Filling}
 use Rattle.recv_machine.specs.Drawn.{drawn, all_drawn}
 use Rattle.recv_machine.proofs.Drafting.{drawn-Raw, drawn-Digit, drawn-Listed, drawn-Lined, drawn-Tagged, drawn-Flagged, drawn-Done, drawn-Fields, no_node}
@@ -26,6 +27,25 @@ fields_there ds h = there_mapped (settles ds) group h
 
 pub ruleset settling = (drawn-Raw, drawn-Digit, drawn-Listed, drawn-Lined, drawn-Tagged, drawn-Flagged, drawn-Done, drawn-Fields, no_node, seen-Void, fields_there)
 
+-- ---- how many structs stand within one another
+
+abbrev mutual
+  pub draft_size : Draft → ℕ
+  draft_size (drafts.fields ds) = suc (drafts_size ds)
+  draft_size _ = 0
+
+  pub drafts_size : Drafts → ℕ
+  drafts_size no_draft = 0
+  drafts_size (draft d ds) = draft_size d + drafts_size ds
+
+field_size : (ns : List Node) (ds : List Filling) (i : ℕ) (d : Filling) → slice_get ds i ≡ Some d → draft_size (drawn ns d) ≤ drafts_size (all_drawn ns ds)
+field_size ns [] i d e = absurd cc
+field_size ns (x ∷ ds) zero d e = let s : x ≡ d = cc in omega (arith, ap (λ (y : Filling). draft_size (drawn ns y)) s)
+field_size ns (x ∷ ds) (suc i) d e = omega (arith, field_size ns ds i d e)
+
+pub fields_size : (ns : List Node) (d : Filling) (ds : List Filling) → d ≡ filling.Fields ds → draft_size (drawn ns d) ≡ suc (drafts_size (all_drawn ns ds))
+fields_size ns d ds is = ap (λ (x : Filling). draft_size (drawn ns x)) is ∙ ap draft_size (drawn-Fields ns ds)
+
 -- ---- one field more
 
 -- values in front of those of drafts
@@ -36,6 +56,8 @@ with_front front o = option_map (joined front) o
 pub record Settled (ns : List Node) (fields rest : List Filling) (values : List Value) (i : ℕ) : Type 0 where
   pub whole : settles (all_drawn ns fields) ≡ with_front (all_seen values) (settles (all_drawn ns (drop i rest)))
   pub many : length rest ≡ length fields
+  -- the fields that are left stand where they stood
+  pub left : drop i rest ≡ drop i fields
 
 dropped_set : (ds : List Filling) (i : ℕ) (x : Filling) → drop (i + 1) (slice_set ds i x) ≡ drop (i + 1) ds
 dropped_set [] i x = refl
@@ -73,6 +95,11 @@ settle_fits ns fields rest values i d h got there = checked (settle (drawn ns d)
       let none : settles (all_drawn ns fields) ≡ None = h.whole ∙ ap (λ (l : List Filling). with_front (all_seen values) (settles (all_drawn ns l))) split ∙ same_none (all_seen values) (settle (drawn ns d)) (settles (all_drawn ns (drop (i + 1) rest))) e in
       absurd (subst IsThere none there)
 
+one_off : (ds : List Filling) (i : ℕ) → drop 1 (drop i ds) ≡ drop (1 + i) ds
+one_off ds i =
+    let next : i + 1 ≡ 1 + i = omega arith in
+    drop-drop 1 i ds ∙ ap (λ (k : ℕ). drop k ds) next
+
 pub settle_turn : (ns : List Node) (fields rest rest' : List Filling) (values values' : List Value) (i : ℕ) (d hole : Filling) (v : Value) → Settled ns fields rest values i → slice_get rest i ≡ Some d → rest' ≡ slice_set rest i hole → settle (drawn ns d) ≡ Some (seen v) → values' ≡ values ++ v ∷ []
     → Settled ns fields rest' values' (i + 1)
 settle_turn ns fields rest rest' values values' i d hole v h got made is more = record {
@@ -86,10 +113,26 @@ settle_turn ns fields rest rest' values values' i d hole v h got made is more = 
       ∙ ap (λ (x : Vals). with_front x (settles (all_drawn ns (drop (i + 1) rest)))) (sym next)
       ∙ ap (λ (l : List Filling). with_front (all_seen values') (settles (all_drawn ns l))) (sym same);
   many = ap length made ∙ length-set rest i hole ∙ h.many;
+  left =
+      let next : i + 1 ≡ 1 + i = omega arith in
+      ap (drop (i + 1)) made ∙ dropped_set rest i hole ∙ ap (λ (k : ℕ). drop k rest) next ∙ sym (one_off rest i) ∙ ap (drop 1) h.left ∙ one_off fields i ∙ ap (λ (k : ℕ). drop k fields) (sym next);
 }
 
+drop-none : (none : List Filling) (i : ℕ) → none ≡ [] → drop i none ≡ []
+drop-none none zero e = e
+drop-none none (suc i) e = ap (drop (suc i)) e
+
+pub settle_less : (ns : List Node) (fields rest : List Filling) (values : List Value) (i : ℕ) (d : Filling) → Settled ns fields rest values i → slice_get rest i ≡ Some d → draft_size (drawn ns d) ≤ drafts_size (all_drawn ns fields)
+settle_less ns fields rest values i d h got =
+    let there : drop i fields ≡ d ∷ drop (i + 1) rest = sym h.left ∙ first_got rest i d got in
+    field_size ns fields i d (got_first fields i d (drop (i + 1) rest) there) where
+      got_first : (ds : List Filling) (i : ℕ) (d : Filling) (more : List Filling) → drop i ds ≡ d ∷ more → slice_get ds i ≡ Some d
+      got_first [] i d more e = let none : [] ≡ d ∷ more = sym (drop-none [] i refl) ∙ e in absurd cc
+      got_first (x ∷ ds) zero d more e = let s : x ≡ d = cc in ap (λ (y : Filling). Some y) s
+      got_first (x ∷ ds) (suc i) d more e = got_first ds i d more e
+
 pub settle_start : (ns : List Node) (fields : List Filling) → Settled ns fields fields [] 0
-settle_start ns fields = record { whole = nothing (settles (all_drawn ns fields)); many = refl } where
+settle_start ns fields = record { whole = nothing (settles (all_drawn ns fields)); many = refl; left = refl } where
   nothing : (o : Option Vals) → o ≡ with_front no_more o
   nothing None = refl
   nothing (Some vs) = refl

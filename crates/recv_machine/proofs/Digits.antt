@@ -1,20 +1,23 @@
 -- A number of a row stays one of the row's numbers.
 use Rattle.std.proofs.Common.{◌≡◌, ◌⊎◌, inl, inr, ℕ, zero, suc, ◌+◌, ◌-◌, ◌*◌, ℤ, List, [], ◌∷◌, length, take, drop, Option, Some, None, refl, sym, ap, subst, ◌∙◌, Bool, true, false, if◌then◌else◌}
-use Rattle.std.specs.Prelude.{nat_le, nat_lt, max}
-use Rattle.std.specs.Int.{Width}
+use Rattle.std.specs.Prelude.{nat_eq, nat_le, nat_lt, max, ◌&&◌, ◌/◌, ◌%◌, ◌^◌}
+use Rattle.std.specs.Int.{Width, w16, w32}
 use Rattle.kit_base.specs.Causes.{raised}
 use Rattle.mint.specs.Types.{Array, number}
-use Rattle.mint.specs.Values.{Val, num}
+use Rattle.mint.specs.Values.{num}
 use Rattle.wire_def.specs.declared.head.Order.{Order}
 use Rattle.wire_def.specs.Scalars.{gap, is_signed, number_of}
 use Rattle.wire_def.specs.Arrays.{kind_of}
+use Rattle.wire_def.specs.Described.{is_marked}
 use Rattle.raw_buf.specs.View.{width_in, loaded}
 use Rattle.cast_stub.specs.declared.recv.Get.{Get}
 use Rattle.cast_stub.specs.declared.recv.Get.TheVariants as get
 use Rattle.cast_stub.specs.Steps.{is_width}
 use Rattle.cast_stub.specs.RecvBlock.{Recv, finish, need, need_row, skip_any, skip_zero, pass, desc, row_block, row_wide, each, switch, if_there, call}
 use Rattle.cast_stub.specs.Draft.{Draft, digit, done, length_in, settle}
-use Rattle.cast_stub.specs.Fill.{Place, Run, gives, refuses, strays, Filler, then_run, if_some, if_passed, needed, passed, skipped, all_zero, within, part, into, word_at, const_got, same_octets, got, all_got, is_digit, num_into, fill_each, fill_arm, fill_present, Callees, fill, fill_case}
+use Rattle.cast_stub.specs.Fill.{within, part, into, got, all_got, fill_each, fill_arm, fill_present, Callees, fill, fill_case}
+use Rattle.cast_stub.specs.Into.{needed, passed, skipped, all_zero, word_at, same_octets, is_digit, num_into, count_into, little, units_into, short_into, long_into, form_into, desc_into, row_into, wide_into}
+use Rattle.cast_stub.specs.Runs.{Place, Run, gives, refuses, strays, Filler, then_run, if_some, if_passed}
 use Rattle.cast_stub.specs.Got.{called}
 
 module _ (a : Array) where
@@ -85,6 +88,34 @@ module _ (a : Array) where
   into_keeps (get.Count off p mul add w o) x m = strays_keeps (into (get.Count off p mul add w o) x m) (λ (s : Place). tt) (λ (n : ℤ) (s : Place). tt)
   into_keeps (get.Const off os) x m = strays_keeps (into (get.Const off os) x m) (λ (s : Place). tt) (λ (n : ℤ) (s : Place). tt)
 
+  -- a descriptor gives nothing of a draft that has no length to be read
+  module _ (d : Draft) (mul : ℕ) (none : (m : ℕ) (t : Place) → count_into mul 0 m d t ≡ strays) where
+    units_keeps : (right : Bool) (many n : ℕ) (s : Place) → Keeps (if right then then_run (count_into mul 0 many d s) (passed n) else refuses)
+    units_keeps true many n s = subst (λ (z : Run Draft). Keeps (then_run z (passed n))) (sym (none many s)) tt
+    units_keeps false many n s = tt
+
+    after_test : (short : Bool) (s : Place) (f : Filler) → Keeps (f d s) → Keeps (then_run (if short then refuses else gives d s) f)
+    after_test true s f h = tt
+    after_test false s f h = h
+
+    form_keeps : (long short : Bool) (name size first : ℕ) (s : Place) → Keeps (if long then long_into name size mul d s else if short then short_into name size mul first d s else refuses)
+    form_keeps true short name size first s =
+        let t : Place = record { pos = s.pos; left = s.left; near = max 12 s.near; tests = raised s.tests 1 } in
+        after_test (nat_lt (length s.left) 12) t (λ x t. units_into (nat_eq (little w16 4 2 t.left) name && nat_eq (little w16 6 2 t.left) size) mul (little w32 8 4 t.left) 12 x t)
+        (units_keeps (nat_eq (little w16 4 2 s.left) name && nat_eq (little w16 6 2 s.left) size) (little w32 8 4 s.left) 12 t)
+    form_keeps false true name size first s = units_keeps (nat_eq (first % 256) name && nat_eq (first / 256 % 256) size) (first / 65536 % 4096) 4 s
+    form_keeps false false name size first s = tt
+
+    desc_none : (name size : ℕ) (s : Place) → Keeps (desc_into name size mul d s)
+    desc_none name size s =
+        let t : Place = record { pos = s.pos; left = s.left; near = max 4 s.near; tests = raised s.tests 1 } in
+        after_test (nat_lt (length s.left) 4) t (λ x t. form_into name size mul (little w32 0 4 t.left) x t)
+        (form_keeps (is_marked (little w32 0 4 s.left)) (nat_eq (little w32 0 4 s.left / 2 ^ 28) 1) name size (little w32 0 4 s.left) t)
+
+  desc_keeps : (name size mul : ℕ) → Keeping (desc_into name size mul)
+  desc_keeps name size mul = strays_keeps (desc_into name size mul)
+      (λ (s : Place). desc_none (digit a) mul (λ (m : ℕ) (t : Place). refl) name size s) (λ (n : ℤ) (s : Place). desc_none (done (num n)) mul (λ (m : ℕ) (t : Place). refl) name size s)
+
   word_keeps : (off w : ℕ) (p : List ℕ) (o : Order) (g : Get) → Keeping (λ d s. word_at off w o s (λ x m. within p (into g x m) d s))
   word_keeps off w p o g d s h = wide (width_in w) where
     near : (b : Bool) (x : Width) (m : ℕ) → Keeps (if b then within p (into g x m) d s else strays)
@@ -125,9 +156,9 @@ module _ (a : Array) where
   fill_keeps c hc (skip_zero w r) d s h = keeps_then (skipped all_zero w d s) (fill c r) (skipped_keeps all_zero w d s h) (fill_keeps c hc r)
   fill_keeps c hc (pass n gs r) d s h =
       keeps_then (all_got gs d s) (λ x t. then_run (passed n x t) (fill c r)) (all_keeps gs d s h) (λ (x : Draft) (t : Place) k. keeps_then (passed n x t) (fill c r) (passed_keeps n x t k) (fill_keeps c hc r))
-  fill_keeps c hc (desc p name size mul r) d s h = tt
-  fill_keeps c hc (row_block p o r) d s h = tt
-  fill_keeps c hc (row_wide p o r) d s h = tt
+  fill_keeps c hc (desc p name size mul r) d s h = keeps_then (within p (desc_into name size mul) d s) (fill c r) (within_keeps p (desc_into name size mul) (desc_keeps name size mul) d s h) (fill_keeps c hc r)
+  fill_keeps c hc (row_block p o r) d s h = keeps_then (within p (row_into o) d s) (fill c r) (within_keeps p (row_into o) (strays_keeps (row_into o) (λ (t : Place). tt) (λ (n : ℤ) (t : Place). tt)) d s h) (fill_keeps c hc r)
+  fill_keeps c hc (row_wide p o r) d s h = keeps_then (within p (wide_into o) d s) (fill c r) (within_keeps p (wide_into o) (strays_keeps (wide_into o) (λ (t : Place). tt) (λ (n : ℤ) (t : Place). tt)) d s h) (fill_keeps c hc r)
   fill_keeps c hc (each p b r) d s h = keeps_then (within p (fill_each (fill c b)) d s) (fill c r)
       (within_keeps p (fill_each (fill c b)) (strays_keeps (fill_each (fill c b)) (λ (t : Place). tt) (λ (n : ℤ) (t : Place). tt)) d s h) (fill_keeps c hc r)
   fill_keeps c hc (switch p cs r) d s h = keeps_then (within p (fill_arm (fill_case c cs)) d s) (fill c r)

@@ -1,21 +1,22 @@
 -- Drafts by their variants, and parts that are taken out, changed and put back.
-use Rattle.std.proofs.Common.{◌≡◌, ℕ, ℤ, zero, suc, ◌+◌, ◌<◌, ◌≤◌, List, [], ◌∷◌, ◌++◌, length, drop, get_or, map, Option, None, Some, option_map, slice_get, refl, sym, ap, subst, ◌∙◌, add-one, arith}
+use Rattle.std.proofs.Common.{◌≡◌, ℕ, ℤ, zero, suc, ◌+◌, ◌<◌, ◌≤◌, List, [], ◌∷◌, ◌++◌, length, drop, get_or, Option, None, Some, option_map, slice_get, refl, sym, ap, subst, ◌∙◌, add-one, arith}
 use Rattle.std.specs.Prelude.{slice_set}
 use Rattle.std.proofs.Math.Seq.{drop-cons}
 use Rattle.mint.specs.declared.node.Node.{Node}
 use Rattle.mint.specs.declared.value.Value.{Value}
-use Rattle.mint.specs.Types.{Ty, void_type, at, unfolded, type_at, fields_at, Tys}
+use Rattle.mint.specs.Types.{Ty, void_type, at, unfolded, type_at, fields_at}
 use Rattle.mint.specs.Values.{seen}
 use Rattle.mint.proofs.Measuring.{length-unfolded}
 use Rattle.std.proofs.lemmas.List.{drop_all}
 use Rattle.cast_stub.specs.Parts.{IsThere, on_some}
 use Rattle.cast_stub.specs.Draft.{Draft, raw, digit, listed, lined, tagged, flagged, done, fields, Drafts, no_draft, draft, fresh, all_fresh}
-use Rattle.cast_stub.specs.Fill.{part, field_at}
+use Rattle.cast_stub.specs.Fill.{field_at}
 use Rattle.recv_machine.specs.declared.draft.Filling.{Filling}
 use Rattle.recv_machine.specs.declared.draft.Filling.TheVariants as filling
 use Rattle.recv_machine.specs.declared.draft.Filling.TheOpen.{Filling-F}
 use Rattle.recv_machine.specs.declared.draft.Filling.TheFolds.{fold-roll-Filling}
-use Rattle.recv_machine.specs.Drawn.{array_at, drawn_level, drawn, all_drawn, put_part, put_field}
+use Rattle.recv_machine.specs.Drawn.{array_at, drawn_level, drawn, all_drawn}
+use Rattle.cast_stub.specs.PutPart.{put_part, put_field}
 
 pub drawn-Raw : (ns : List Node) (id : ℕ) → drawn ns (filling.Raw id) ≡ raw (type_at ns id)
 unfolding drawn

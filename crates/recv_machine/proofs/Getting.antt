@@ -1,14 +1,11 @@
 -- Numbers that are put into drafts.
-use Rattle.std.proofs.Common.{◌≡◌, ℕ, ℤ, pos, zero, suc, ◌+◌, ◌*◌, ◌-◌, ◌/◌, ◌<◌, ◌≤◌, List, [], ◌∷◌, length, take, drop, Option, None, Some, option_map, slice_get, refl, sym, ap, subst, ◌∙◌, Bool, true, false, ◌&&◌, not, if◌then◌else◌, arith, is_some}
-use Rattle.std.specs.Prelude.{nat_lt, nat_le, nat_eq}
+use Rattle.std.proofs.Common.{◌≡◌, ℕ, ℤ, List, [], ◌∷◌, Option, None, Some, option_map, refl, sym, ap, ◌∙◌, Bool, true, false, if◌then◌else◌}
 use Rattle.std.specs.Int.{Width}
-use Rattle.std.proofs.lemmas.Int.{to_z-of_z}
 use Rattle.mint.specs.declared.node.Node.{Node}
-use Rattle.mint.specs.declared.value.Value.{Value}
 use Rattle.mint.specs.declared.value.Value.TheOpen.{Value-F}
 use Rattle.mint.specs.declared.value.Value.TheVariants as value
 use Rattle.mint.specs.declared.value.Value.TheFolds.{fold-roll-Value}
-use Rattle.mint.specs.Types.{Scalar, number, Array, text, row_of, Ty, void_type, scalar_type, array_type, group_type, items_type, choice_type, maybe_type, type_at, at, Arms, arms_at, level, unfolded, scalar_of}
+use Rattle.mint.specs.Types.{Scalar, number, Array, Ty, void_type, scalar_type, array_type, group_type, items_type, choice_type, maybe_type, type_at, at, arms_at, level, unfolded, scalar_of}
 use Rattle.mint.specs.Typed.{is_scalar}
 use Rattle.mint.specs.declared.node.Node.TheVariants as node
 use Rattle.mint.specs.declared.node.Tag.{Tag}
@@ -18,8 +15,9 @@ use Rattle.mint.specs.Values.{Val, num, absent, seen, seen_level}
 use Rattle.wire_def.specs.Scalars.{is_signed, number_of}
 use Rattle.wire_def.specs.Arrays.{kind_of}
 use Rattle.cast_stub.specs.Parts.{on_some}
-use Rattle.cast_stub.specs.Draft.{Draft, raw, digit, done, tagged, type_of_arm}
-use Rattle.cast_stub.specs.Fill.{Place, Run, gives, refuses, if_passed, is_digit, num_into, tag_into, arm_draft}
+use Rattle.cast_stub.specs.Draft.{Draft, raw, done, tagged, type_of_arm}
+use Rattle.cast_stub.specs.Into.{is_digit, num_into, tag_into, arm_draft}
+use Rattle.cast_stub.specs.Runs.{Place, gives, refuses, if_passed}
 use Rattle.recv_machine.specs.declared.draft.Filling.{Filling}
 use Rattle.recv_machine.specs.declared.draft.Filling.TheVariants as filling
 use Rattle.recv_machine.specs.Drawn.{array_at, drawn, scalar_in, passing, digit_passing}

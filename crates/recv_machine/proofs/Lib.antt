@@ -1,8 +1,11 @@
 pub mod Becoming
+pub mod Blocking
 pub mod Digits
 pub mod Drafting
 pub mod Getting
 pub mod Looking
+pub mod Over
 pub mod Running
+pub mod Sizing
 pub mod Skipping
 pub mod Within

@@ -1,12 +1,12 @@
 -- Parts of drafts that are looked at.
-use Rattle.std.proofs.Common.{◌≡◌, ℕ, zero, suc, ◌+◌, ◌<◌, ◌≤◌, List, [], ◌∷◌, length, drop, get_or, map, Option, None, Some, option_map, slice_get, refl, sym, ap, ◌∙◌, add-one}
+use Rattle.std.proofs.Common.{◌≡◌, ℕ, zero, suc, ◌+◌, ◌<◌, List, [], ◌∷◌, length, drop, get_or, Some, option_map, slice_get, refl, sym, ap, ◌∙◌, add-one}
 use Rattle.std.proofs.Math.Seq.{drop-cons}
 use Rattle.mint.specs.declared.node.Node.{Node}
 use Rattle.mint.specs.declared.value.Value.{Value}
 use Rattle.mint.specs.declared.value.Value.TheOpen.{Value-F}
 use Rattle.mint.specs.declared.value.Value.TheVariants as value
 use Rattle.mint.specs.declared.value.Value.TheFolds.{fold-roll-Value}
-use Rattle.mint.specs.Values.{Val, items, count, seen, seen_level, all_seen}
+use Rattle.mint.specs.Values.{Val, seen, seen_level}
 use Rattle.mint.proofs.Fitting.{count-all_seen}
 use Rattle.cast_stub.specs.Parts.{on_some}
 use Rattle.cast_stub.specs.Draft.{Draft, done, length_in}

@@ -1,7 +1,7 @@
 -- Operations that are run, one after the other.
-use Rattle.std.proofs.Common.{◌≡◌, ℕ, ℤ, zero, suc, ◌+◌, ◌-◌, ◌<◌, ◌≤◌, List, [], ◌∷◌, ◌++◌, length, drop, get_or, map, Option, None, Some, option_map, slice_get, refl, sym, ap, subst, ◌∙◌, add-one, arith, append_assoc}
-use Rattle.std.specs.Prelude.{Result, Ok, Err, Bool, true, false, if◌then◌else◌, not, ◌&&◌, pos, IsTrue}
-use Rattle.std.proofs.Common.{inl, inr}
+use Rattle.std.proofs.Common.{◌≡◌, ℕ, ℤ, suc, ◌+◌, ◌-◌, ◌<◌, ◌≤◌, List, [], ◌∷◌, ◌++◌, length, drop, get_or, map, Option, None, Some, option_map, slice_get, refl, sym, ap, subst, ◌∙◌, add-one, arith, append_assoc}
+use Rattle.std.specs.Prelude.{Err, Bool, true, false, if◌then◌else◌, not, ◌&&◌, pos, IsTrue}
+use Rattle.std.proofs.Common.{inl}
 use Rattle.std.specs.Ordering.{int_eq}
 use Rattle.std.proofs.Math.Seq.{drop-cons}
 use Rattle.std.proofs.lemmas.List.{drop_all, append-nil, map-append}
@@ -9,40 +9,48 @@ use Rattle.mint.specs.declared.value.Value.{Value}
 use Rattle.mint.specs.declared.value.Value.TheOpen.{Value-F}
 use Rattle.mint.specs.declared.value.Value.TheVariants as value
 use Rattle.mint.specs.declared.value.Value.TheFolds.{fold-roll-Value}
-use Rattle.mint.specs.declared.kind.Count.{Count}
 use Rattle.mint.specs.declared.node.Node.{Node}
-use Rattle.mint.specs.declared.node.Node.TheVariants as node
-use Rattle.mint.specs.Blank.{least}
-use Rattle.mint.specs.Types.{Ty, array_type, Array, text, row_of, type_at, level, unfolded}
+use Rattle.mint.specs.Types.{Ty, Array, text, row_of, type_at}
 use Rattle.mint.specs.Row.{Numbers}
 use Rattle.mint.specs.declared.kind.Kind.{Kind}
 use Rattle.mint.specs.declared.kind.Kind.TheVariants as kind
 use Rattle.mint.specs.Kinds.{in_range, IsInRange}
-use Rattle.wire_def.specs.Arrays.{kind_of, count_of}
+use Rattle.wire_def.specs.Arrays.{kind_of}
 use Rattle.recv_machine.proofs.Digits.{Keeps, fill_keeps, called_keeps, digit_become}
 use Rattle.recv_machine.specs.declared.draft.Filling.{Filling}
 use Rattle.recv_machine.specs.declared.draft.Filling.TheVariants as filling
 use Rattle.mint.specs.Values.{Val, num_in, num, row, arm, seen, seen_level, all_seen, vals_of}
 use Rattle.mint.specs.Values as values
-use Rattle.cast_stub.specs.declared.recv.RecvOp.{RecvOp}
+use Rattle.cast_stub.specs.declared.recv.RecvOp.{RecvOp, out-RecvOp, map-RecvOp, fold_out-RecvOp}
+use Rattle.cast_stub.specs.declared.recv.RecvOp.TheOpen.{RecvOp-F}
 use Rattle.cast_stub.specs.declared.recv.RecvOp.TheVariants as op
 use Rattle.cast_stub.specs.Parts.{IsThere}
-use Rattle.cast_stub.specs.RecvBlock.{Recv, finish, Piece, op_seen, code_seen, cases_seen}
-use Rattle.cast_stub.specs.RecvAppend.{append}
-use Rattle.cast_stub.specs.Draft.{Draft, raw, digit, done, fresh, settle}
-use Rattle.cast_stub.specs.Fill.{Place, Run, gives, refuses, strays, Filler, Going, then_run, map_run, if_some, within, part, fill, fill_case, fill_each, fill_items, fill_row, fill_arm, fill_present, runs, settled, settled_number, is_digit, Callees}
-use Rattle.cast_stub.specs.Got.{calls_of, called}
+use Rattle.cast_stub.specs.RecvBlock.{Recv, finish, Piece, joined, cases_of, piece_level, op_seen, code_seen, cases_seen}
+use Rattle.cast_stub.specs.Draft.{Draft, digit, done, fresh, settle}
+use Rattle.cast_stub.specs.Fill.{within, part, fill, fill_case, fill_each, fill_items, fill_arm, fill_present, runs, settled, settled_number, Callees}
+use Rattle.cast_stub.specs.Into.{is_digit, desc_into, row_into, wide_into}
+use Rattle.cast_stub.specs.Runs.{Place, Run, gives, refuses, strays, Filler, Going, then_run, map_run, if_some}
+use Rattle.wire_def.specs.declared.encoding.Encoding.{Encoding}
+use Rattle.wire_def.specs.Laws.{BeginsWith}
+use Rattle.cast_stub.specs.declared.recv.RecvCode.{RecvCode}
+use Rattle.cast_stub.specs.Subs.{deepest}
+use Rattle.cast_stub.specs.Got.{calls_of, called, received, IsExact}
 use Rattle.cast_stub.proofs.RecvAppending.{fill-append, op-append}
 use Rattle.cast_stub.proofs.RecvPieces.{seen-Need, seen-NeedRow, seen-SkipAny, seen-SkipZero, seen-Take, seen-Desc, seen-Row, seen-RowWide, seen-Each, seen-Switch, seen-Some, seen-Call}
 use Rattle.recv_machine.specs.declared.errors.Halt.{Halt}
 use Rattle.recv_machine.specs.declared.errors.Halt.TheVariants.{Refused, NoMemory}
-use Rattle.recv_machine.specs.Drawn.{drawn, array_of, array_at, numbers_in, put_part}
+use Rattle.recv_machine.specs.Drawn.{drawn, array_at, numbers_in}
+use Rattle.cast_stub.specs.PutPart.{put_part}
+use Rattle.recv_machine.specs.Acting.{part_path, acted}
+use Rattle.recv_machine.specs.Looping.{GoesOver}
+use Rattle.recv_machine.specs.declared.looping.Elements.TheVariants as elements
 use Rattle.recv_machine.specs.Picking.{picked, Picks}
-use Rattle.recv_machine.specs.Ran.{Holds, Ran, Gave}
+use Rattle.recv_machine.specs.Ran.{Ran, Gave}
+use Rattle.cast_stub.specs.Runs.{Holds}
 use Rattle.recv_machine.proofs.Drafting.{drawn-Raw, drawn-Digit, drawn-Listed, drawn-Lined, drawn-Tagged, drawn-Flagged, drawn-Done, drawn-Fields, no_node}
 use Rattle.recv_machine.proofs.Within.{first_holds, within_there, within_holds, at_gives, at_halts}
 
-pub ruleset running = (drawn-Raw, drawn-Digit, drawn-Listed, drawn-Lined, drawn-Tagged, drawn-Flagged, drawn-Done, drawn-Fields, no_node, seen-Need, seen-NeedRow, seen-SkipAny, seen-SkipZero, seen-Take, seen-Desc, seen-Row, seen-RowWide)
+pub ruleset running = (drawn-Raw, drawn-Digit, drawn-Listed, drawn-Lined, drawn-Tagged, drawn-Flagged, drawn-Done, drawn-Fields, seen-Need, seen-NeedRow, seen-SkipAny, seen-SkipZero, seen-Take, seen-Desc, seen-Row, seen-RowWide, seen-Each, seen-Switch, seen-Some, seen-Call)
 
 -- ---- one operation and those behind it
 
@@ -107,29 +115,43 @@ block_end c ops items i d0 d s0 s same past left = ap (λ (l : List RecvOp). fil
 -- ---- an operation on the part at a path
 
 -- what an operation does to the part at a path
-abbrev pub Acts : Callees → RecvOp → List ℕ → Filler → Type 0
-Acts c o p f = (d : Draft) (s : Place) → fill c (op_seen o finish) d s ≡ then_run (within p f d s) (fill c finish)
+abbrev pub Acts : Callees → Recv → List ℕ → Filler → Type 0
+Acts c b p f = (d : Draft) (s : Place) → fill c b d s ≡ then_run (within p f d s) (fill c finish)
 
-pub each_acts : (c : Callees) (o : RecvOp) (p : List ℕ) (body : List RecvOp) → o ≡ op.Each p body → Acts c o p (fill_each (fill c (code_seen body)))
-each_acts c o p body is d s = ap (λ (x : Piece). fill c (x finish) d s) (ap op_seen is ∙ seen-Each p body)
+level_acts : (c : Callees) (x : RecvOp-F Piece) (p : List ℕ) → part_path (piece_level x finish) ≡ Some p → Acts c (piece_level x finish) p (acted c (piece_level x finish))
+level_acts c (RecvOp-F.Desc path name size mul) p e d s = let same : path ≡ p = cc in ap (λ (q : List ℕ). then_run (within q (desc_into name size mul) d s) (fill c finish)) same
+level_acts c (RecvOp-F.Row path order) p e d s = let same : path ≡ p = cc in ap (λ (q : List ℕ). then_run (within q (row_into order) d s) (fill c finish)) same
+level_acts c (RecvOp-F.RowWide path order) p e d s = let same : path ≡ p = cc in ap (λ (q : List ℕ). then_run (within q (wide_into order) d s) (fill c finish)) same
+level_acts c (RecvOp-F.Each path code) p e d s = let same : path ≡ p = cc in ap (λ (q : List ℕ). then_run (within q (fill_each (fill c (joined code))) d s) (fill c finish)) same
+level_acts c (RecvOp-F.Switch path cases other) p e d s = let same : path ≡ p = cc in ap (λ (q : List ℕ). then_run (within q (fill_arm (fill_case c (cases_of cases other))) d s) (fill c finish)) same
+level_acts c (RecvOp-F.Some path code) p e d s = let same : path ≡ p = cc in ap (λ (q : List ℕ). then_run (within q (fill_present (fill c (joined code))) d s) (fill c finish)) same
+level_acts c (RecvOp-F.Call k path) p e d s = let same : path ≡ p = cc in ap (λ (q : List ℕ). then_run (within q (c k) d s) (fill c finish)) same
+level_acts c _ p e d s = absurd cc
 
-pub some_acts : (c : Callees) (o : RecvOp) (p : List ℕ) (body : List RecvOp) → o ≡ op.Some p body → Acts c o p (fill_present (fill c (code_seen body)))
-some_acts c o p body is d s = ap (λ (x : Piece). fill c (x finish) d s) (ap op_seen is ∙ seen-Some p body)
+op_acts : (c : Callees) (o : RecvOp) (p : List ℕ) → part_path (op_seen o finish) ≡ Some p → Acts c (op_seen o finish) p (acted c (op_seen o finish))
+op_acts c o p =
+    subst (λ (q : Piece). part_path (q finish) ≡ Some p → Acts c (q finish) p (acted c (q finish))) (sym (fold_out-RecvOp Piece piece_level o)) (level_acts c (map-RecvOp RecvOp Piece op_seen (out-RecvOp o)) p)
 
-pub switch_acts : (c : Callees) (o : RecvOp) (p : List ℕ) (cases : List (ℤ × List RecvOp)) (other : Option (List RecvOp)) → o ≡ op.Switch p cases other → Acts c o p (fill_arm (fill_case c (cases_seen cases other)))
-switch_acts c o p cases other is d s = ap (λ (x : Piece). fill c (x finish) d s) (ap op_seen is ∙ seen-Switch p cases other)
+pub each_acted : (c : Callees) (o : RecvOp) (p : List ℕ) (body : List RecvOp) → o ≡ op.Each p body → acted c (op_seen o finish) ≡ fill_each (fill c (code_seen body))
+each_acted c o p body is = ap (λ (x : Piece). acted c (x finish)) (ap op_seen is ∙ seen-Each p body)
 
-pub call_acts : (c : Callees) (o : RecvOp) (p : List ℕ) (k : ℕ) → o ≡ op.Call k p → Acts c o p (c k)
-call_acts c o p k is d s = ap (λ (x : Piece). fill c (x finish) d s) (ap op_seen is ∙ seen-Call k p)
+pub some_acted : (c : Callees) (o : RecvOp) (p : List ℕ) (body : List RecvOp) → o ≡ op.Some p body → acted c (op_seen o finish) ≡ fill_present (fill c (code_seen body))
+some_acted c o p body is = ap (λ (x : Piece). acted c (x finish)) (ap op_seen is ∙ seen-Some p body)
+
+pub switch_acted : (c : Callees) (o : RecvOp) (p : List ℕ) (cases : List (ℤ × List RecvOp)) (other : Option (List RecvOp)) → o ≡ op.Switch p cases other → acted c (op_seen o finish) ≡ fill_arm (fill_case c (cases_seen cases other))
+switch_acted c o p cases other is = ap (λ (x : Piece). acted c (x finish)) (ap op_seen is ∙ seen-Switch p cases other)
 
 alone : (c : Callees) (x : Run Draft) → then_run x (fill c finish) ≡ x
 alone c (gives y t) = refl
 alone c refuses = refl
 alone c strays = refl
 
-module _ (c : Callees) (o : RecvOp) (p q : List ℕ) (f : Filler) (d : Draft) (s : Place) (acts : Acts c o p f) (same : q ≡ p) where
+module _ (c : Callees) (o : RecvOp) (p q : List ℕ) (d : Draft) (s : Place) (at : part_path (op_seen o finish) ≡ Some p) (same : q ≡ p) where
+  abbrev pub f : Filler
+  f = acted c (op_seen o finish)
+
   whole : fill c (op_seen o finish) d s ≡ within q f d s
-  whole = acts d s ∙ alone c (within p f d s) ∙ ap (λ (r : List ℕ). within r f d s) (sym same)
+  whole = op_acts c o p at d s ∙ alone c (within p f d s) ∙ ap (λ (r : List ℕ). within r f d s) (sym same)
 
   pub part_there : Holds (fill c (op_seen o finish) d s) → IsThere (part q d)
   part_there h = within_there f s q d (subst Holds whole h)
@@ -154,14 +176,22 @@ list_given : (ns : List Node) (f : Filler) (T : Ty) (n : ℕ) (vs : List Value) 
 list_given ns f T n vs s t ran =
     ap (map_run (λ ws. done (values.items (vals_of ws)))) ran ∙ ap (λ (d : Draft). gives d t) (ap done (sym (seen-Items vs)) ∙ sym (drawn-Done ns (value.Items vs)))
 
-pub listed_given : (ns : List Node) (f : Filler) (old : Filling) (id n : ℕ) (vs : List Value) (s t : Place) → old ≡ filling.Listed id n → runs (λ u. settled (f (fresh (type_at ns id)) u)) n s ≡ gives (map seen vs) t
-    → fill_each f (drawn ns old) s ≡ gives (drawn ns (filling.Done (value.Items vs))) t
-listed_given ns f old id n vs s t is ran = ap (λ (d : Draft). fill_each f d s) (ap (drawn ns) is ∙ drawn-Listed ns id n) ∙ list_given ns f (type_at ns id) n vs s t ran
+held_list : {A B : Type 0} (h : A → B) (z : Run A) → Holds (map_run h z) → Holds z
+held_list h (gives vs t) k = tt
+held_list h refuses k = tt
+held_list h strays k = k
 
-pub raw_given : (ns : List Node) (f : Filler) (old : Filling) (id item n : ℕ) (c : Count) (nd : Node) (vs : List Value) (s t : Place) → old ≡ filling.Raw id → type_at ns id ≡ level (unfolded ns) nd → nd ≡ node.Items item c → n ≡ least c
-    → runs (λ u. settled (f (fresh (type_at ns item)) u)) n s ≡ gives (map seen vs) t → fill_each f (drawn ns old) s ≡ gives (drawn ns (filling.Done (value.Items vs))) t
-raw_given ns f old id item n c nd vs s t is leveled what many ran =
-    ap (λ (d : Draft). fill_each f d s) (ap (drawn ns) is ∙ drawn-Raw ns id ∙ ap raw (leveled ∙ ap (level (unfolded ns)) what)) ∙ ap (λ (m : ℕ). fill_items f (type_at ns item) m s) (sym many) ∙ list_given ns f (type_at ns item) n vs s t ran
+-- values of a node that a loop goes over
+module _ (ns : List Node) (f : Filler) (d : Draft) (item n : ℕ) (s : Place) (over : GoesOver ns (elements.Values item n) d) where
+  pub values_hold : Holds (fill_each f d s) → Holds (runs (λ u. settled (f (fresh (type_at ns item)) u)) n s)
+  values_hold h = held_list (λ vs. done (values.items (vals_of vs))) (runs (λ u. settled (f (fresh (type_at ns item)) u)) n s) (subst Holds (over.0 f s) h)
+
+  pub values_given : (vs : List Value) (t : Place) → runs (λ u. settled (f (fresh (type_at ns item)) u)) n s ≡ gives (map seen vs) t → fill_each f d s ≡ gives (drawn ns (filling.Done (value.Items vs))) t
+  values_given vs t ran = over.0 f s ∙ list_given ns f (type_at ns item) n vs s t ran
+
+  pub values_halt : {X Y : Type 0} (view : X → List Val) (view' : Y → Draft) (t u : Place) (halt : Halt) → Gave view (Err halt) t (runs (λ u. settled (f (fresh (type_at ns item)) u)) n s) → Gave view' (Err halt) u (fill_each f d s)
+  values_halt view view' t u Refused ran = over.0 f s ∙ ap (map_run (λ vs. done (values.items (vals_of vs)))) ran
+  values_halt view view' t u NoMemory ran = tt
 
 pub settle_holds : (x : Run Draft) (d : Draft) (t : Place) → x ≡ gives d t → Holds (settled x) → IsThere (settle d)
 settle_holds x d t is h = checked (settle d) (subst (λ (z : Run Draft). Holds (settled z)) is h) where
@@ -229,41 +259,25 @@ module _ (ns : List Node) (c : Callees) (cases : List (ℤ × List RecvOp)) (oth
 
 -- ---- the numbers of a row or text
 
-seen-Numbers : (r : Numbers) → seen (value.Row r) ≡ row r.kind r.numbers
+pub seen-Numbers : (r : Numbers) → seen (value.Row r) ≡ row r.kind r.numbers
 seen-Numbers r = ap seen (sym (value.rolls-Row r)) ∙ fold-roll-Value Val seen_level (Value-F.Row r)
 
-abbrev RowWhole : List Node → Filler → Filling → ℕ → ℕ → Place → Type 0
-RowWhole ns f old id n s = fill_each f (drawn ns old) s ≡ fill_row f (array_at ns id) n s
-
-pub lined_whole : (ns : List Node) (f : Filler) (old : Filling) (id n : ℕ) (s : Place) → old ≡ filling.Lined id n → RowWhole ns f old id n s
-lined_whole ns f old id n s is = ap (λ (d : Draft). fill_each f d s) (ap (drawn ns) is ∙ drawn-Lined ns id n)
-
-array_whole : (ns : List Node) (f : Filler) (old : Filling) (id n : ℕ) (a : Array) (s : Place) → old ≡ filling.Raw id → type_at ns id ≡ array_type a → n ≡ least (count_of a) → RowWhole ns f old id n s
-array_whole ns f old id n a s is type many =
-    ap (λ (d : Draft). fill_each f d s) (ap (drawn ns) is ∙ drawn-Raw ns id ∙ ap raw type) ∙ ap (λ (m : ℕ). fill_row f a m s) (sym many) ∙ ap (λ (t : Ty). fill_row f (array_of t) n s) (sym type)
-
-pub text_whole : (ns : List Node) (f : Filler) (old : Filling) (id n : ℕ) (c : Count) (nd : Node) (s : Place) → old ≡ filling.Raw id → type_at ns id ≡ level (unfolded ns) nd → nd ≡ node.Text c → n ≡ least c → RowWhole ns f old id n s
-text_whole ns f old id n c nd s is leveled what many = array_whole ns f old id n (text c) s is (leveled ∙ ap (level (unfolded ns)) what) many
-
-pub row_whole : (ns : List Node) (f : Filler) (old : Filling) (id n : ℕ) (k : Kind) (c : Count) (nd : Node) (s : Place) → old ≡ filling.Raw id → type_at ns id ≡ level (unfolded ns) nd → nd ≡ node.Row k c → n ≡ least c → RowWhole ns f old id n s
-row_whole ns f old id n k c nd s is leveled what many = array_whole ns f old id n (row_of k c) s is (leveled ∙ ap (level (unfolded ns)) what) many
-
-module _ (ns : List Node) (f : Filler) (old : Filling) (id n : ℕ) (s : Place) (whole : RowWhole ns f old id n s) where
+module _ (ns : List Node) (f : Filler) (d : Draft) (id n : ℕ) (s : Place) (over : GoesOver ns (elements.Numbers id n) d) where
   held_mapped : (z : Run (List ℤ)) → Holds (map_run (λ ms. done (row (kind_of (array_at ns id)) ms)) z) → Holds z
   held_mapped (gives ms t) h = tt
   held_mapped refuses h = tt
   held_mapped strays h = h
 
-  pub numbers_hold : Holds (fill_each f (drawn ns old) s) → Holds (runs (λ u. settled_number (f (digit (array_at ns id)) u)) n s)
-  numbers_hold h = held_mapped (runs (λ u. settled_number (f (digit (array_at ns id)) u)) n s) (subst Holds whole h)
+  pub numbers_hold : Holds (fill_each f d s) → Holds (runs (λ u. settled_number (f (digit (array_at ns id)) u)) n s)
+  numbers_hold h = held_mapped (runs (λ u. settled_number (f (digit (array_at ns id)) u)) n s) (subst Holds (over.looped f s) h)
 
-  pub numbers_given : (r : Numbers) (t : Place) → runs (λ u. settled_number (f (digit (array_at ns id)) u)) n s ≡ gives (numbers_in r) t → r.kind ≡ kind_of (array_at ns id) → fill_each f (drawn ns old) s ≡ gives (drawn ns (filling.Done (value.Row r))) t
+  pub numbers_given : (r : Numbers) (t : Place) → runs (λ u. settled_number (f (digit (array_at ns id)) u)) n s ≡ gives (numbers_in r) t → r.kind ≡ kind_of (array_at ns id) → fill_each f d s ≡ gives (drawn ns (filling.Done (value.Row r))) t
   numbers_given r t ran kind =
-      whole ∙ ap (map_run (λ ms. done (row (kind_of (array_at ns id)) ms))) ran
+      over.looped f s ∙ ap (map_run (λ ms. done (row (kind_of (array_at ns id)) ms))) ran
       ∙ ap (λ (d : Draft). gives d t) (ap (λ (k : Kind). done (row k r.numbers)) (sym kind) ∙ ap done (sym (seen-Numbers r)) ∙ sym (drawn-Done ns (value.Row r)))
 
-  pub numbers_halt : {X Y : Type 0} (view : X → List ℤ) (view' : Y → Draft) (t u : Place) (halt : Halt) → Gave view (Err halt) t (runs (λ u. settled_number (f (digit (array_at ns id)) u)) n s) → Gave view' (Err halt) u (fill_each f (drawn ns old) s)
-  numbers_halt view view' t u Refused ran = whole ∙ ap (map_run (λ ms. done (row (kind_of (array_at ns id)) ms))) ran
+  pub numbers_halt : {X Y : Type 0} (view : X → List ℤ) (view' : Y → Draft) (t u : Place) (halt : Halt) → Gave view (Err halt) t (runs (λ u. settled_number (f (digit (array_at ns id)) u)) n s) → Gave view' (Err halt) u (fill_each f d s)
+  numbers_halt view view' t u Refused ran = over.looped f s ∙ ap (map_run (λ ms. done (row (kind_of (array_at ns id)) ms))) ran
   numbers_halt view view' t u NoMemory ran = tt
 
 -- one number
@@ -289,7 +303,7 @@ num_there (arm m v) n e = absurd cc
 num_there (values.absent) n e = absurd cc
 num_there (values.present v) n e = absurd cc
 
-digit_ranged : (a : Array) (n : ℤ) → is_digit a n ≡ true → IsInRange (kind_of a) n
+pub digit_ranged : (a : Array) (n : ℤ) → is_digit a n ≡ true → IsInRange (kind_of a) n
 digit_ranged (text c) n e = first_true (in_range kind.Char n) (not (int_eq n (pos 0))) e where
   first_true : (b g : Bool) → (b && g) ≡ true → IsTrue b
   first_true true g h = refl
@@ -329,3 +343,22 @@ module _ (f : Going ℤ) (n i : ℕ) (s0 s : Place) (front : List ℤ) (lt : i <
         ∙ behind_first x (runs f (n - (i + 1)) t) ∙ ap (λ (l : List ℤ). map_run (λ vs. l ++ vs) (runs f (n - (i + 1)) t)) (sym (ap (λ (q : Numbers). q.numbers) is ∙ ap (λ (z : ℤ). front ++ z ∷ []) one)),
     ap (λ (q : Numbers). q.kind) is ∙ same,
   )
+
+pub numbers_end : (f : Going ℤ) (n i : ℕ) (s0 s : Place) (front : List ℤ) → n ≤ i → runs f n s0 ≡ map_run (λ vs. front ++ vs) (runs f (n - i) s) → runs f n s0 ≡ gives front s
+numbers_end f n i s0 s front past left =
+    let none : n - i ≡ 0 = omega (arith, past) in
+    left ∙ ap (λ (m : ℕ). map_run (λ vs. front ++ vs) (runs f m s)) none ∙ ap (λ (l : List ℤ). gives l s) (append-nil front)
+
+-- ---- a code that is called
+
+pub called_is : (subs : List (List RecvOp)) (n m k : ℕ) (code : List RecvOp) (d : Draft) (s : Place) → n ≡ suc m → slice_get subs k ≡ Some code → calls_of subs n k d s ≡ fill (calls_of subs m) (code_seen code) d s
+called_is subs n m k code d s e is =
+    ap (λ (j : ℕ). calls_of subs j k d s) e ∙ ap (λ (o : Option Recv). if_some o (λ b. fill (calls_of subs m) b d s)) (ap (option_map code_seen) is)
+
+-- ---- the whole run
+
+pub whole_is : (code : RecvCode) (t : Ty) (s : Place) (n : ℕ) (x : Run Val) → n ≡ deepest → settled (fill (calls_of code.subs n) (code_seen code.ops) (fresh t) s) ≡ x → received code t s ≡ x
+whole_is code t s n x same ran = ap (λ (m : ℕ). settled (fill (calls_of code.subs m) (code_seen code.ops) (fresh t) s)) (sym same) ∙ ran
+
+pub exactly : (e : Encoding) (t : Ty) (p : ℕ) (o : List ℕ) (x : Run Val) (v : Val) (s : Place) → x ≡ gives v s → IsExact e t p o x → (used : ℕ) × (s.pos ≡ p + used) × BeginsWith e t p o v used
+exactly e t p o x v s ran exact = let h = subst (IsExact e t p o) ran exact in (h.0, h.1, h.3)

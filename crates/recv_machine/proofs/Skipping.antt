@@ -1,6 +1,6 @@
 -- Octets that are passed up to a multiple.
-use Rattle.std.proofs.Common.{◌≡◌, ℕ, zero, suc, ◌+◌, ◌-◌, ◌%◌, ◌<◌, ◌≤◌, List, [], ◌∷◌, length, take, drop, get_or, max, refl, sym, ap, subst, ◌∙◌, Bool, true, false, not, if◌then◌else◌, add-one, arith}
-use Rattle.std.specs.Prelude.{nat_lt, nat_le}
+use Rattle.std.proofs.Common.{◌≡◌, ℕ, zero, suc, ◌+◌, ◌-◌, ◌<◌, ◌≤◌, List, ◌∷◌, length, take, drop, get_or, max, refl, sym, ap, ◌∙◌, Bool, true, false, if◌then◌else◌, add-one, arith}
+use Rattle.std.specs.Prelude.{nat_lt}
 use Rattle.std.proofs.Math.Seq.{drop-cons}
 use Rattle.std.proofs.lemmas.List.{drop_all}
 use Rattle.std.proofs.lemmas.Bool.{le-leb}
@@ -8,7 +8,8 @@ use Rattle.kit_base.specs.Causes.{raised}
 use Rattle.wire_def.specs.Scalars.{gap}
 use Rattle.cast_stub.specs.Steps.{is_width}
 use Rattle.cast_stub.specs.Draft.{Draft}
-use Rattle.cast_stub.specs.Fill.{Place, Run, gives, refuses, strays, then_run, needed, passed, skipped, all_zero}
+use Rattle.cast_stub.specs.Into.{needed, passed, skipped, all_zero}
+use Rattle.cast_stub.specs.Runs.{Place, gives, refuses, strays, then_run}
 
 zero_or_not : (b : ℕ) (o : List ℕ) → b ≡ 0 → all_zero (b ∷ o) ≡ all_zero o
 zero_or_not zero o e = refl

@@ -1,85 +1,24 @@
 -- What is done to a part of a draft: it is taken out, changed and put back.
-use Rattle.std.proofs.Common.{◌≡◌, ◌⊎◌, inl, inr, ℕ, zero, suc, ◌+◌, ◌<◌, ◌≤◌, List, [], ◌∷◌, length, take, drop, Option, None, Some, option_map, refl, sym, ap, subst, ◌∙◌, Bool, true, false, if◌then◌else◌, arith}
-use Rattle.std.specs.Prelude.{Result, Ok, Err, nat_le, nat_eq, ◌&&◌}
-use Rattle.std.proofs.lemmas.Bool.{leb-true, leb-false, le-leb, eqb-true, eq-eqb}
-use Rattle.std.specs.Int.{Width, w8, w16, w32, w64}
+use Rattle.std.proofs.Common.{◌≡◌, inl, inr, ℕ, ◌+◌, ◌-◌, ◌≤◌, List, [], ◌∷◌, length, take, drop, Option, None, Some, refl, sym, ap, subst, ◌∙◌, Bool, true, false, if◌then◌else◌, arith}
+use Rattle.std.specs.Prelude.{Err, nat_le, nat_eq, ◌&&◌}
+use Rattle.std.proofs.lemmas.Bool.{leb-true, le-leb, eqb-true, eq-eqb}
+use Rattle.std.specs.Int.{Width}
 use Rattle.std.specs.Cmp.Lexicographic.{pointwise}
 use Rattle.wire_def.specs.declared.head.Order.{Order}
 use Rattle.raw_buf.specs.Buf.{IsWidth}
 use Rattle.raw_buf.specs.View.{width_in, width_as, loaded, loaded_of}
 use Rattle.cast_stub.specs.declared.recv.Get.{Get}
-use Rattle.cast_stub.specs.Parts.{on_some, IsThere}
-use Rattle.cast_stub.specs.Draft.{Draft, raw, digit, listed, lined, tagged, flagged, done, fields, Drafts, no_draft, draft}
-use Rattle.cast_stub.specs.Fill.{Place, Run, gives, refuses, strays, Filler, then_run, map_run, if_some, if_passed, at_field, in_fields, within, field_at, part, into, word_at, word_got, const_got, same_octets}
+use Rattle.cast_stub.specs.Parts.{IsThere}
+use Rattle.cast_stub.specs.Draft.{Draft}
+use Rattle.cast_stub.specs.Fill.{within, part, into, word_got, const_got}
+use Rattle.cast_stub.specs.Into.{same_octets}
+use Rattle.cast_stub.specs.Runs.{Place, Run, gives, refuses, strays, Filler, then_run, if_some, if_passed}
 use Rattle.recv_machine.specs.declared.errors.Halt.{Halt}
 use Rattle.recv_machine.specs.declared.errors.Halt.TheVariants.{Refused, NoMemory}
-use Rattle.recv_machine.specs.Drawn.{put_part, put_field}
-use Rattle.recv_machine.specs.Ran.{Holds, Ran, Gave}
-
--- a part that was changed, put back
-abbrev pub replaced : List ℕ → Draft → Draft → Place → Run Draft
-replaced p d y t = if_some (put_part p y d) (λ e. gives e t)
-
-mapped : {A B C : Type 0} (h : B → C) (q : A → Option B) (z : Run A) → map_run h (then_run z (λ y t. if_some (q y) (λ e. gives e t))) ≡ then_run z (λ y t. if_some (option_map h (q y)) (λ e. gives e t))
-mapped {B = B} h q (gives y t) = either (q y) where
-  either : (o : Option B) → map_run h (if_some o (λ e. gives e t)) ≡ if_some (option_map h o) (λ e. gives e t)
-  either None = refl
-  either (Some e) = refl
-mapped h q refuses = refl
-mapped h q strays = refl
-
-module _ (f : Filler) (x : Draft) (s : Place) where
-  Is : List ℕ → Type 0
-  Is p = (d : Draft) → part p d ≡ Some x → within p f d s ≡ then_run (f x s) (λ y t. if_some (put_part p y d) (λ e. gives e t))
-
-  field_is : (p : List ℕ) → Is p → (n : ℕ) (ds : Drafts) → on_some (field_at n ds) (part p) ≡ Some x → at_field n (within p f) ds s ≡ then_run (f x s) (λ y t. if_some (put_field n p y ds) (λ e. gives e t))
-  unfolding Is
-  field_is p h n no_draft e = absurd cc
-  field_is p h zero (draft d ds) e = ap (map_run (λ z. draft z ds)) (h d e) ∙ mapped (λ z. draft z ds) (λ y. put_part p y d) (f x s)
-  field_is p h (suc n) (draft d ds) e = ap (map_run (draft d)) (field_is p h n ds e) ∙ mapped (draft d) (λ y. put_field n p y ds) (f x s)
-
-  is_all : (p : List ℕ) → Is p
-  unfolding Is
-  is_all [] d e =
-      let same : d ≡ x = cc in
-      ap (λ (z : Draft). f z s) same ∙ alone (f x s) where
-        alone : (z : Run Draft) → z ≡ then_run z (λ y t. gives y t)
-        alone (gives y t) = refl
-        alone refuses = refl
-        alone strays = refl
-  is_all (n ∷ p) (fields ds) e = ap (map_run fields) (field_is p (is_all p) n ds e) ∙ mapped fields (λ y. put_field n p y ds) (f x s)
-  is_all (n ∷ p) (raw t) e = absurd cc
-  is_all (n ∷ p) (digit a) e = absurd cc
-  is_all (n ∷ p) (listed t m) e = absurd cc
-  is_all (n ∷ p) (lined a m) e = absurd cc
-  is_all (n ∷ p) (tagged m t) e = absurd cc
-  is_all (n ∷ p) (flagged t) e = absurd cc
-  is_all (n ∷ p) (done v) e = absurd cc
-
-pub within_is : (f : Filler) (x : Draft) (s : Place) (p : List ℕ) (d : Draft) → part p d ≡ Some x → within p f d s ≡ then_run (f x s) (replaced p d)
-unfolding Is
-within_is f x s p d e = is_all f x s p d e
-
--- ---- where there is no part
-
-map_strays : {A B : Type 0} (h : A → B) (z : Run A) → z ≡ strays → map_run h z ≡ strays
-map_strays h z e = ap (map_run h) e
-
-no_field : (f : Filler) (s : Place) (p : List ℕ) → ((d : Draft) → part p d ≡ None → within p f d s ≡ strays) → (n : ℕ) (ds : Drafts) → on_some (field_at n ds) (part p) ≡ None → at_field n (within p f) ds s ≡ strays
-no_field f s p h n no_draft e = refl
-no_field f s p h zero (draft d ds) e = map_strays (λ z. draft z ds) (within p f d s) (h d e)
-no_field f s p h (suc n) (draft d ds) e = map_strays (draft d) (at_field n (within p f) ds s) (no_field f s p h n ds e)
-
-pub no_part : (f : Filler) (s : Place) (p : List ℕ) (d : Draft) → part p d ≡ None → within p f d s ≡ strays
-no_part f s [] d e = absurd cc
-no_part f s (n ∷ p) (fields ds) e = map_strays fields (at_field n (within p f) ds s) (no_field f s p (no_part f s p) n ds e)
-no_part f s (n ∷ p) (raw t) e = refl
-no_part f s (n ∷ p) (digit a) e = refl
-no_part f s (n ∷ p) (listed t m) e = refl
-no_part f s (n ∷ p) (lined a m) e = refl
-no_part f s (n ∷ p) (tagged m t) e = refl
-no_part f s (n ∷ p) (flagged t) e = refl
-no_part f s (n ∷ p) (done v) e = refl
+use Rattle.cast_stub.specs.PutPart.{put_part}
+use Rattle.cast_stub.proofs.RecvParts.{replaced, within_is, no_part, put_is_there}
+use Rattle.recv_machine.specs.Ran.{Ran, Gave}
+use Rattle.cast_stub.specs.Runs.{Holds}
 
 pub within_there : (f : Filler) (s : Place) (p : List ℕ) (d : Draft) → Holds (within p f d s) → IsThere (part p d)
 within_there f s p d h = checked (part p d) refl where
@@ -94,28 +33,6 @@ first_holds strays f h = h
 
 pub within_holds : (f : Filler) (s : Place) (p : List ℕ) (d x : Draft) → part p d ≡ Some x → Holds (within p f d s) → Holds (f x s)
 within_holds f s p d x e h = first_holds (f x s) (replaced p d) (subst Holds (within_is f x s p d e) h)
-
--- ---- and it can be put back
-
-there_map : {A B : Type 0} (h : A → B) (o : Option A) → IsThere o → IsThere (option_map h o)
-there_map h (Some a) t = tt
-there_map h None t = absurd t
-
-put_field_there : (p : List ℕ) (y x : Draft) → ((d : Draft) → part p d ≡ Some x → IsThere (put_part p y d)) → (n : ℕ) (ds : Drafts) → on_some (field_at n ds) (part p) ≡ Some x → IsThere (put_field n p y ds)
-put_field_there p y x h n no_draft e = absurd cc
-put_field_there p y x h zero (draft d ds) e = there_map (λ z. draft z ds) (put_part p y d) (h d e)
-put_field_there p y x h (suc n) (draft d ds) e = there_map (draft d) (put_field n p y ds) (put_field_there p y x h n ds e)
-
-pub put_is_there : (p : List ℕ) (y x d : Draft) → part p d ≡ Some x → IsThere (put_part p y d)
-put_is_there [] y x d e = tt
-put_is_there (n ∷ p) y x (fields ds) e = there_map fields (put_field n p y ds) (put_field_there p y x (put_is_there p y x) n ds e)
-put_is_there (n ∷ p) y x (raw t) e = absurd cc
-put_is_there (n ∷ p) y x (digit a) e = absurd cc
-put_is_there (n ∷ p) y x (listed t m) e = absurd cc
-put_is_there (n ∷ p) y x (lined a m) e = absurd cc
-put_is_there (n ∷ p) y x (tagged m t) e = absurd cc
-put_is_there (n ∷ p) y x (flagged t) e = absurd cc
-put_is_there (n ∷ p) y x (done v) e = absurd cc
 
 -- the part was taken out of d, which has become d'
 pub put_fits : (p : List ℕ) (y x d d' : Draft) → part p d ≡ Some x → ((z : Draft) → put_part p z d' ≡ put_part p z d) → IsThere (put_part p y d')
@@ -139,7 +56,7 @@ at_halts_in f p d x y e s t u NoMemory is ran = tt
 pub not_width : (g : Get) (off : ℕ) (p : List ℕ) (w : ℕ) (o : Order) (d : Draft) (s : Place) → width_in w ≡ None → word_got g off p w o d s ≡ refuses
 not_width g off p w o d s e = ap (λ (z : Option Width). if_passed z (λ x. if nat_le (off + w) s.near then within p (into g x (loaded o x (take w (drop off s.left)))) d s else strays)) e
 
-width_is : (w : ℕ) → IsWidth w → width_in w ≡ Some (width_as w)
+pub width_is : (w : ℕ) → IsWidth w → width_in w ≡ Some (width_as w)
 width_is w (inl e) = subst (λ (n : ℕ). width_in n ≡ Some (width_as n)) (sym e) refl
 width_is w (inr (inl e)) = subst (λ (n : ℕ). width_in n ≡ Some (width_as n)) (sym e) refl
 width_is w (inr (inr (inl e))) = subst (λ (n : ℕ). width_in n ≡ Some (width_as n)) (sym e) refl
@@ -189,10 +106,10 @@ module _ (g : Get) (off : ℕ) (p q : List ℕ) (w : ℕ) (o : Order) (d : Draft
   word_gives m d' x y e is there rest ran put =
       within_so ∙ at_gives (into g (width_as w) (word_of off w o s)) q d d' x y e s s there rest (ap (λ (n : ℕ). into g (width_as w) n x s) (sym is) ∙ ran) put
 
-  pub word_halts : {X : Type 0} (m : ℕ) (x e : Draft) (halt : Halt) (view : X → Draft) → m ≡ word_of off w o s → part q d ≡ Some x → Gave view (Err halt) s (into g (width_as w) m x s) → Ran (Err halt) e s (word_got g off p w o d s)
-  word_halts m x e halt view is there ran =
-      subst (λ (z : Run Draft). Ran (Err halt) e s z) (sym within_so)
-      (at_halts (into g (width_as w) (word_of off w o s)) q d x e s s s halt view there (subst (λ (n : ℕ). Gave view (Err halt) s (into g (width_as w) n x s)) is ran))
+  pub word_refuses : (m : ℕ) (x : Draft) → m ≡ word_of off w o s → part q d ≡ Some x → into g (width_as w) m x s ≡ refuses → word_got g off p w o d s ≡ refuses
+  word_refuses m x is there ran =
+      within_so ∙ within_is (into g (width_as w) (word_of off w o s)) x s q d there
+      ∙ ap (λ (z : Run Draft). then_run z (replaced q d)) (ap (λ (n : ℕ). into g (width_as w) n x s) (sym is) ∙ ran)
 
 -- ---- octets that must be these
 
@@ -234,3 +151,9 @@ alike (x ∷ a) (y ∷ b) = ap (λ (g : Bool). nat_eq x y && g) (alike a b)
 
 pub pointwise_alike : (a b x y : List ℕ) (n : ℕ) → a ≡ x → b ≡ take n y → n ≡ length x → pointwise nat_eq a b ≡ same_octets x (take (length x) y)
 pointwise_alike a b x y n e f g = alike a b ∙ ap (λ (l : List ℕ). same_octets l b) e ∙ ap (same_octets x) (f ∙ ap (λ (m : ℕ). take m y) g)
+
+-- octets from an offset on, so many
+pub slice_off : (off n : ℕ) (o rest : List ℕ) → o ≡ rest → take (off + n - off) (drop off o) ≡ take n (drop off rest)
+slice_off off n o rest same =
+    let many : off + n - off ≡ n = omega arith in
+    ap (λ (k : ℕ). take k (drop off o)) many ∙ ap (λ (l : List ℕ). take n (drop off l)) same

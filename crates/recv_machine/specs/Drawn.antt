@@ -1,5 +1,5 @@
 -- What the draft of a machine stands for, over the nodes of a table.
-use Rattle.std.specs.Prelude.{ℕ, zero, suc, List, [], ◌∷◌, map, ℤ, Option, None, Some, option_map, if◌then◌else◌, Bool, true}
+use Rattle.std.specs.Prelude.{ℕ, List, [], ◌∷◌, map, ℤ, Option, None, Some, if◌then◌else◌, Bool, true}
 use Rattle.mint.specs.declared.node.Node.{Node}
 use Rattle.mint.specs.declared.kind.Count.{Count}
 use Rattle.mint.specs.declared.kind.Count.TheVariants.{Any}
@@ -11,7 +11,7 @@ use Rattle.wire_def.specs.Arrays.{kind_of}
 use Rattle.mint.specs.Values.{seen}
 use Rattle.mint.specs.Row.{Numbers}
 use Rattle.cast_stub.specs.Draft.{Draft, raw, digit, listed, lined, tagged, flagged, done, fields, Drafts, no_draft, draft}
-use Rattle.cast_stub.specs.Fill.{is_digit, allows}
+use Rattle.cast_stub.specs.Into.{is_digit, allows}
 use Rattle.recv_machine.specs.declared.draft.Filling.{Filling, fold-Filling}
 use Rattle.recv_machine.specs.declared.draft.Filling.TheOpen.{Filling-F}
 
@@ -43,20 +43,6 @@ drawn nodes = fold-Filling Draft (drawn_level nodes)
 
 abbrev pub all_drawn : List Node → List Filling → Drafts
 all_drawn nodes ds = drafts_of (map (drawn nodes) ds)
-
--- ---- parts that are taken out and put back
-
-abbrev mutual
-  -- a draft with another part at a path
-  pub put_part : List ℕ → Draft → Draft → Option Draft
-  put_part [] y d = Some y
-  put_part (n ∷ p) y (fields ds) = option_map fields (put_field n p y ds)
-  put_part (n ∷ p) y _ = None
-
-  pub put_field : ℕ → List ℕ → Draft → Drafts → Option Drafts
-  put_field n p y no_draft = None
-  put_field zero p y (draft d ds) = option_map (λ x. draft x ds) (put_part p y d)
-  put_field (suc n) p y (draft d ds) = option_map (draft d) (put_field n p y ds)
 
 -- ---- numbers of nodes
 

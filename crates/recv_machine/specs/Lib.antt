@@ -1,3 +1,6 @@
+pub mod Acting
 pub mod Drawn
+pub mod Looping
 pub mod Picking
 pub mod Ran
+pub mod Sizes

@@ -3,7 +3,8 @@ use Rattle.std.specs.Prelude.{◌≡◌, ℤ, List, Option, None, Some}
 use Rattle.cast_stub.specs.declared.recv.RecvOp.{RecvOp}
 use Rattle.cast_stub.specs.RecvBlock.{code_seen, cases_seen}
 use Rattle.cast_stub.specs.Draft.{Draft}
-use Rattle.cast_stub.specs.Fill.{Place, Run, strays, Callees, fill, fill_case}
+use Rattle.cast_stub.specs.Fill.{Callees, fill, fill_case}
+use Rattle.cast_stub.specs.Runs.{Place, Run, strays}
 
 -- what a body does, or that there is none
 abbrev pub picked : Callees → Option (List RecvOp) → Draft → Place → Run Draft

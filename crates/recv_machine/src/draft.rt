@@ -5,7 +5,8 @@ ghost use Rattle.mint.specs.Values.{seen, all_seen};
 ghost use Rattle.cast_stub.specs.Draft.{Draft, fresh, all_fresh, settle, settles};
 ghost use Rattle.cast_stub.specs.Fill.{part, field_at};
 ghost use Rattle.cast_stub.specs.Parts.{IsThere, on_some};
-ghost use Rattle.recv_machine.specs.Drawn.{drawn, all_drawn, put_part, put_field};
+ghost use Rattle.recv_machine.specs.Drawn.{drawn, all_drawn};
+ghost use Rattle.cast_stub.specs.PutPart.{put_part, put_field};
 
 use kit_base::{Listed, NoMemory};
 use mint::node::{Node, NodeIds};
@@ -27,7 +28,7 @@ pub enum Filling {
     Listed(u32, u32),
     /// So many numbers of a node's row or text.
     Lined(u32, u32),
-    /// The number of a union, and the node behind it.
+    /// The number of a union, and the node of its arm.
     Tagged(i128, u32),
     /// A value of a node that is there.
     Flagged(u32),

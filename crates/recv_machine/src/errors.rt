@@ -1,4 +1,6 @@
 // Why a run ends before its code does.
+ghost use Rattle.recv_machine.specs.Ran.{IsTested};
+
 use kit_base::NoMemory;
 
 /// A run was broken off.
@@ -6,6 +8,27 @@ use kit_base::NoMemory;
 pub enum Halt {
     /// A test failed.
     Refused,
-    /// Memory was wanted, or operations stand too deep within one another.
+    /// Out of memory.
     NoMemory,
+}
+
+impl From<NoMemory> for Halt {
+    ghost use Rattle.std.specs.Prelude.{◌≡◌};
+    ghost use Rattle.recv_machine.specs.declared.errors.Halt.TheVariants as halt;
+
+    ghost from_gives = { λ _ e. e ≡ halt.NoMemory };
+
+    fn from(_refused: NoMemory) -> Halt {
+        Halt::NoMemory
+    }
+}
+
+/// A test that passed, or failed.
+pub fn tested(passed: bool) -> Result<(), Halt>
+    ensures { IsTested passed result }
+{
+    match passed {
+        true => Ok(()),
+        false => Err(Halt::Refused),
+    }
 }

@@ -1,19 +1,21 @@
-//! The machine that runs stub code which receives.
+//! The machine that runs stub code which receives: it reads a value from a message.
 #![tactic(auto)]
 
+mod blocks;
+mod counts;
+mod desc;
 mod draft;
 mod errors;
 mod gets;
+mod looping;
+mod machine;
+mod numbers;
 mod picking;
 mod recv;
 mod rows;
 mod run;
 mod settling;
 mod skips;
+mod takes;
 
-pub use draft::{Filling, Fillings, fresh, put_back, take_part};
-pub use errors::Halt;
-pub use gets::run_gets;
 pub use recv::{Got, run_recv};
-pub use run::run_block;
-pub use settling::settle;

@@ -2,7 +2,9 @@
 ghost use Rattle.std.specs.Prelude.{◌≡◌};
 ghost use Rattle.std.specs.Option.{option_copied};
 ghost use Rattle.std.specs.Ordering.{int_eq};
+ghost use Rattle.cast_stub.specs.RecvBlock.{cases_seen};
 ghost use Rattle.recv_machine.specs.Picking.{Picks};
+ghost use Rattle.recv_machine.specs.Sizes.{IsBody};
 
 use cast_stub::{RecvCases, RecvOps};
 
@@ -12,7 +14,8 @@ pub fn body_of<'a>(
     other: &'a Option<RecvOps>,
     n: &i128,
 ) -> Option<&'a RecvOps>
-    ensures { Picks cases.now other.now n.now (option_copied result) }
+    ensures picks { Picks cases.now other.now n.now (option_copied result) }
+    ensures within { IsBody (option_copied result) (cases_seen cases.now other.now) }
 {
     for case in cases.as_slice() {
         if same(n, &case.0) {

@@ -2,12 +2,14 @@
 ghost use Rattle.std.specs.Prelude.{◌≡◌, ◌+◌, ◌*◌, option_map};
 ghost use Rattle.cast_stub.specs.Draft.{length_in, done};
 ghost use Rattle.mint.specs.Values.{seen};
-ghost use Rattle.cast_stub.specs.Fill.{in_draft, field_at, part, if_some, needed};
+ghost use Rattle.cast_stub.specs.Fill.{in_draft, field_at, part};
+ghost use Rattle.cast_stub.specs.Into.{needed};
+ghost use Rattle.cast_stub.specs.Runs.{if_some};
 ghost use Rattle.recv_machine.specs.Drawn.{drawn, all_drawn};
-ghost use Rattle.recv_machine.specs.Ran.{place_of, Holds, Ran};
+ghost use Rattle.recv_machine.specs.Ran.{place_of, Tested};
+ghost use Rattle.cast_stub.specs.Runs.{Holds};
 
 use crate::draft::{Filling, Fillings};
-use crate::errors::Halt;
 use cast_stub::Path;
 use mint::node::Node;
 use mint::table::Mint;
@@ -111,9 +113,10 @@ pub fn need_row(
     extra: u32,
     draft: &Filling,
     view: &mut RecvView<'_>,
-) -> Result<(), Halt>
+) -> bool
     requires { Holds (if_some (part path.now (drawn mint.now draft.now)) (λ x. if_some (length_in x) (λ n. needed (n * unit + extra) (drawn mint.now draft.now) (place_of view.old)))) }
-    ensures { Ran result (drawn mint.now draft.now) (place_of view.new) (if_some (part path.now (drawn mint.now draft.now)) (λ x. if_some (length_in x) (λ n. needed (n * unit + extra) (drawn mint.now draft.now) (place_of view.old)))) }
+    ensures done { Tested result (drawn mint.now draft.now) (place_of view.new) (if_some (part path.now (drawn mint.now draft.now)) (λ x. if_some (length_in x) (λ n. needed (n * unit + extra) (drawn mint.now draft.now) (place_of view.old)))) }
+    ensures octets { view.new.octets ≡ view.old.octets }
 {
     let Some(part) = part_at(mint, draft, path) else {
         unreachable!()
@@ -123,10 +126,7 @@ pub fn need_row(
     };
     let wanted = (n as u128) * u128::from(unit) + u128::from(extra);
     if wanted > (view.rest().len() as u128) {
-        return Err(Halt::Refused);
+        return false;
     }
-    match view.need(wanted as usize) {
-        true => Ok(()),
-        false => Err(Halt::Refused),
-    }
+    view.need(wanted as usize)
 }

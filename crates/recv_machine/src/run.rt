@@ -1,53 +1,50 @@
 // The operations of a receive code, one after the other and one within another.
-ghost use Rattle.std.specs.Prelude.{IfOk, ◌≡◌, ◌≤◌, ◌+◌, length, drop, take, map};
+ghost use Rattle.std.specs.Prelude.{IfOk, ◌≡◌, Some, map};
 ghost use Rattle.mint.specs.Types.{type_at};
+ghost use Rattle.mint.specs.Kinds.{IsInRange};
 ghost use Rattle.mint.specs.Values.{seen};
-ghost use Rattle.wire_def.specs.Scalars.{gap};
+ghost use Rattle.wire_def.specs.Arrays.{kind_of};
 ghost use Rattle.cast_stub.specs.RecvBlock.{finish, op_seen, code_seen, cases_seen};
 ghost use Rattle.cast_stub.specs.Draft.{fresh, digit};
-ghost use Rattle.mint.specs.Kinds.{IsInRange};
-ghost use Rattle.wire_def.specs.Arrays.{kind_of};
-ghost use Rattle.cast_stub.specs.Fill.{fill, fill_case, fill_each, fill_items, fill_arm, fill_present, settled, settled_number, runs, skipped, all_zero};
+ghost use Rattle.cast_stub.specs.Fill.{fill, fill_case, fill_each, fill_arm, fill_present, settled, settled_number, runs};
 ghost use Rattle.cast_stub.specs.Got.{calls_of};
+ghost use Rattle.cast_stub.specs.Runs.{Holds};
+ghost use Rattle.recv_machine.specs.Acting.{acted, part_path};
 ghost use Rattle.recv_machine.specs.Drawn.{drawn, array_at, itself, numbers_in};
-ghost use Rattle.recv_machine.specs.Ran.{place_of, Holds, Ran, Gave};
+ghost use Rattle.recv_machine.specs.Ran.{place_of, Ran, Gave};
 
+use crate::blocks::{row_into, wide_into};
+use crate::desc::desc_into;
 use crate::draft::{Filling, fresh, put_back, take_part};
-use crate::errors::Halt;
-use crate::gets::run_gets;
+use crate::errors::{Halt, tested};
+use crate::looping::{Elements, elements_of};
+use crate::machine::Machine;
+use crate::numbers::kind_at;
 use crate::picking::body_of;
 use crate::rows::need_row;
 use crate::settling::settle;
 use crate::skips::{skip_any, skip_zero};
-use cast_stub::{Path, RecvCases, RecvOp, RecvOps, RecvSubs};
-use mint::kind::Kind;
-use mint::node::Node;
-use mint::table::Mint;
+use crate::takes::run_take;
+use cast_stub::{Path, RecvCases, RecvOp, RecvOps};
 use mint::value::{Row, Value, Values};
 use raw_buf::RecvView;
-use std::alloc::Global;
 
 /// Runs operations on a draft.
 #[cycle(run)]
 #[tactic(auto, using(crate::proofs::Running::running))]
 pub fn run_block(
-    alloc: Global,
-    subs: &RecvSubs,
-    mint: &Mint,
+    machine: &Machine<'_>,
     calls: u32,
-    nested: u32,
     code: &RecvOps,
     draft: &mut Filling,
     view: &mut RecvView<'_>,
 ) -> Result<(), Halt>
-    requires { Holds (fill (calls_of subs.now calls) (code_seen code.now) (drawn mint.now draft.old) (place_of view.old)) }
-    ensures { Ran result (drawn mint.now draft.new) (place_of view.new) (fill (calls_of subs.now calls) (code_seen code.now) (drawn mint.now draft.old) (place_of view.old)) }
+    requires { Holds (fill (calls_of machine.now.subs.now calls) (code_seen code.now) (drawn machine.now.mint.now draft.old) (place_of view.old)) }
+    ensures done { Ran result (drawn machine.now.mint.now draft.new) (place_of view.new) (fill (calls_of machine.now.subs.now calls) (code_seen code.now) (drawn machine.now.mint.now draft.old) (place_of view.old)) }
+    ensures octets { view.new.octets ≡ view.old.octets }
 {
     for op in code.as_slice() {
-        match run_op(alloc, subs, mint, calls, nested, op, draft, view) {
-            Ok(()) => {}
-            Err(halt) => return Err(halt),
-        }
+        run_op(machine, calls, op, draft, view)?;
     }
     Ok(())
 }
@@ -56,84 +53,89 @@ pub fn run_block(
 #[cycle(run)]
 #[tactic(auto, using(crate::proofs::Running::running))]
 fn run_op(
-    alloc: Global,
-    subs: &RecvSubs,
-    mint: &Mint,
+    machine: &Machine<'_>,
     calls: u32,
-    nested: u32,
     op: &RecvOp,
     draft: &mut Filling,
     view: &mut RecvView<'_>,
 ) -> Result<(), Halt>
-    requires { Holds (fill (calls_of subs.now calls) (op_seen op.now finish) (drawn mint.now draft.old) (place_of view.old)) }
-    ensures { Ran result (drawn mint.now draft.new) (place_of view.new) (fill (calls_of subs.now calls) (op_seen op.now finish) (drawn mint.now draft.old) (place_of view.old)) }
+    requires { Holds (fill (calls_of machine.now.subs.now calls) (op_seen op.now finish) (drawn machine.now.mint.now draft.old) (place_of view.old)) }
+    ensures done { Ran result (drawn machine.now.mint.now draft.new) (place_of view.new) (fill (calls_of machine.now.subs.now calls) (op_seen op.now finish) (drawn machine.now.mint.now draft.old) (place_of view.old)) }
+    ensures octets { view.new.octets ≡ view.old.octets }
 {
-    if nested == 0 {
-        return Err(Halt::NoMemory);
-    }
-    let nested = nested - 1;
     match op {
-        RecvOp::Need(n) => {
-            match view.need(*n as usize) {
-                true => Ok(()),
-                false => Err(Halt::Refused),
+        RecvOp::Need(n) => tested(view.need(*n as usize)),
+        RecvOp::NeedRow(path, unit, extra) => {
+            tested(need_row(machine.mint, path, *unit, *extra, draft, view))
+        }
+        RecvOp::SkipAny(a) => tested(skip_any(machine.mint, *a, draft, view)),
+        RecvOp::SkipZero(a) => tested(skip_zero(machine.mint, *a, draft, view)),
+        RecvOp::Take(n, gets) => tested(run_take(machine.mint, *n, gets, draft, view)),
+        RecvOp::Desc(path, _, _, _) => run_at(machine, calls, op, path, draft, view),
+        RecvOp::Row(path, _) => run_at(machine, calls, op, path, draft, view),
+        RecvOp::RowWide(path, _) => run_at(machine, calls, op, path, draft, view),
+        RecvOp::Each(path, _) => run_at(machine, calls, op, path, draft, view),
+        RecvOp::Switch(path, _, _) => run_at(machine, calls, op, path, draft, view),
+        RecvOp::Some(path, _) => run_at(machine, calls, op, path, draft, view),
+        RecvOp::Call(_, path) => run_at(machine, calls, op, path, draft, view),
+    }
+}
+
+// Runs an operation on the part at its path.
+#[cycle(run)]
+#[tactic(auto, using(crate::proofs::Running::running))]
+fn run_at(
+    machine: &Machine<'_>,
+    calls: u32,
+    op: &RecvOp,
+    path: &Path,
+    draft: &mut Filling,
+    view: &mut RecvView<'_>,
+) -> Result<(), Halt>
+    requires path { part_path (op_seen op.now finish) ≡ Some path.now }
+    requires holds { Holds (fill (calls_of machine.now.subs.now calls) (op_seen op.now finish) (drawn machine.now.mint.now draft.old) (place_of view.old)) }
+    ensures done { Ran result (drawn machine.now.mint.now draft.new) (place_of view.new) (fill (calls_of machine.now.subs.now calls) (op_seen op.now finish) (drawn machine.now.mint.now draft.old) (place_of view.old)) }
+    ensures octets { view.new.octets ≡ view.old.octets }
+{
+    let path = path.as_slice();
+    let part = take_part(machine.mint, draft, path, 0);
+    let new = act(machine, calls, op, part, view)?;
+    put_back(machine.mint, draft, path, 0, new);
+    Ok(())
+}
+
+// What an operation makes of the part at its path.
+#[cycle(run)]
+#[tactic(auto, using(crate::proofs::Running::running))]
+fn act(
+    machine: &Machine<'_>,
+    calls: u32,
+    op: &RecvOp,
+    part: Filling,
+    view: &mut RecvView<'_>,
+) -> Result<Filling, Halt>
+    requires { Holds (acted (calls_of machine.now.subs.now calls) (op_seen op.now finish) (drawn machine.now.mint.now part) (place_of view.old)) }
+    ensures done { Gave (drawn machine.now.mint.now) result (place_of view.new) (acted (calls_of machine.now.subs.now calls) (op_seen op.now finish) (drawn machine.now.mint.now part) (place_of view.old)) }
+    ensures octets { view.new.octets ≡ view.old.octets }
+{
+    match op {
+        RecvOp::Desc(_, name, size, mul) => {
+            match desc_into(machine.mint, *name, *size, *mul, &part, view) {
+                Some(new) => Ok(new),
+                None => Err(Halt::Refused),
             }
         }
-        RecvOp::NeedRow(path, unit, extra) => { need_row(mint, path, *unit, *extra, draft, view) }
-        RecvOp::SkipAny(a) => skip_any(mint, *a, draft, view),
-        RecvOp::SkipZero(a) => skip_zero(mint, *a, draft, view),
-        RecvOp::Take(n, gets) => {
-            match run_gets(mint, gets, draft, view) {
-                Ok(()) => {
-                    view.take(*n as usize);
-                    Ok(())
-                }
-                Err(halt) => Err(halt),
-            }
-        }
-        RecvOp::Desc(_, _, _, _) => unreachable!(),
-        RecvOp::Row(_, _) => unreachable!(),
-        RecvOp::RowWide(_, _) => unreachable!(),
-        RecvOp::Each(path, body) => {
-            let part = take_part(mint, draft, path.as_slice(), 0);
-            match run_each(alloc, subs, mint, calls, nested, body, part, view) {
-                Ok(new) => {
-                    put_back(mint, draft, path.as_slice(), 0, new);
-                    Ok(())
-                }
-                Err(halt) => Err(halt),
-            }
-        }
-        RecvOp::Switch(path, cases, other) => {
-            let part = take_part(mint, draft, path.as_slice(), 0);
-            match run_switch(alloc, subs, mint, calls, nested, cases, other, part, view) {
-                Ok(new) => {
-                    put_back(mint, draft, path.as_slice(), 0, new);
-                    Ok(())
-                }
-                Err(halt) => Err(halt),
-            }
-        }
-        RecvOp::Some(path, body) => {
-            let part = take_part(mint, draft, path.as_slice(), 0);
-            match run_some(alloc, subs, mint, calls, nested, body, part, view) {
-                Ok(new) => {
-                    put_back(mint, draft, path.as_slice(), 0, new);
-                    Ok(())
-                }
-                Err(halt) => Err(halt),
-            }
-        }
-        RecvOp::Call(k, path) => {
-            let part = take_part(mint, draft, path.as_slice(), 0);
-            match run_called(alloc, subs, mint, calls, nested, *k, part, view) {
-                Ok(new) => {
-                    put_back(mint, draft, path.as_slice(), 0, new);
-                    Ok(())
-                }
-                Err(halt) => Err(halt),
-            }
-        }
+        RecvOp::Row(_, order) => row_into(machine.alloc, machine.mint, *order, &part, view),
+        RecvOp::RowWide(_, order) => wide_into(machine.alloc, machine.mint, *order, &part, view),
+        RecvOp::Each(_, body) => run_each(machine, calls, body, part, view),
+        RecvOp::Switch(_, cases, other) => run_switch(machine, calls, cases, other, part, view),
+        RecvOp::Some(_, body) => run_some(machine, calls, body, part, view),
+        RecvOp::Call(k, _) => run_called(machine, calls, *k, part, view),
+        RecvOp::Need(_) => unreachable!(),
+        RecvOp::NeedRow(_, _, _) => unreachable!(),
+        RecvOp::SkipAny(_) => unreachable!(),
+        RecvOp::SkipZero(_) => unreachable!(),
+        RecvOp::Take(_, _) => unreachable!(),
     }
 }
 
@@ -141,28 +143,24 @@ fn run_op(
 #[cycle(run)]
 #[tactic(auto, using(crate::proofs::Running::running))]
 fn run_called(
-    alloc: Global,
-    subs: &RecvSubs,
-    mint: &Mint,
+    machine: &Machine<'_>,
     calls: u32,
-    nested: u32,
     k: u32,
     part: Filling,
     view: &mut RecvView<'_>,
 ) -> Result<Filling, Halt>
-    requires { Holds (calls_of subs.now calls k (drawn mint.now part) (place_of view.old)) }
-    ensures { Gave (drawn mint.now) result (place_of view.new) (calls_of subs.now calls k (drawn mint.now part) (place_of view.old)) }
+    requires { Holds (calls_of machine.now.subs.now calls k (drawn machine.now.mint.now part) (place_of view.old)) }
+    ensures done { Gave (drawn machine.now.mint.now) result (place_of view.new) (calls_of machine.now.subs.now calls k (drawn machine.now.mint.now part) (place_of view.old)) }
+    ensures octets { view.new.octets ≡ view.old.octets }
 {
     if calls == 0 {
         unreachable!()
     }
     let mut part = part;
-    match subs.get(k as usize) {
+    match machine.subs.get(k as usize) {
         Some(code) => {
-            match run_block(alloc, subs, mint, calls - 1, nested, code, &mut part, view) {
-                Ok(()) => Ok(part),
-                Err(halt) => Err(halt),
-            }
+            run_block(machine, calls - 1, code, &mut part, view)?;
+            Ok(part)
         }
         None => unreachable!(),
     }
@@ -172,60 +170,40 @@ fn run_called(
 #[cycle(run)]
 #[tactic(auto, using(crate::proofs::Running::running))]
 pub fn run_fresh(
-    alloc: Global,
-    subs: &RecvSubs,
-    mint: &Mint,
+    machine: &Machine<'_>,
     calls: u32,
-    nested: u32,
     body: &RecvOps,
     item: u32,
     view: &mut RecvView<'_>,
 ) -> Result<Value, Halt>
-    requires { Holds (settled (fill (calls_of subs.now calls) (code_seen body.now) (fresh (type_at mint.now item)) (place_of view.old))) }
-    ensures { Gave seen result (place_of view.new) (settled (fill (calls_of subs.now calls) (code_seen body.now) (fresh (type_at mint.now item)) (place_of view.old))) }
+    requires { Holds (settled (fill (calls_of machine.now.subs.now calls) (code_seen body.now) (fresh (type_at machine.now.mint.now item)) (place_of view.old))) }
+    ensures done { Gave seen result (place_of view.new) (settled (fill (calls_of machine.now.subs.now calls) (code_seen body.now) (fresh (type_at machine.now.mint.now item)) (place_of view.old))) }
+    ensures octets { view.new.octets ≡ view.old.octets }
 {
-    let Ok(start) = fresh(alloc, mint, item) else {
-        return Err(Halt::NoMemory);
-    };
-    let mut draft = start;
-    match run_block(alloc, subs, mint, calls, nested, body, &mut draft, view) {
-        Ok(()) => {
-            match settle(alloc, mint, nested, draft) {
-                Ok(value) => Ok(value),
-                Err(_) => Err(Halt::NoMemory),
-            }
-        }
-        Err(halt) => Err(halt),
-    }
+    let mut draft = fresh(machine.alloc, machine.mint, item)?;
+    run_block(machine, calls, body, &mut draft, view)?;
+    let value = settle(machine.alloc, machine.mint, draft)?;
+    Ok(value)
 }
 
 // Fills the value that may be there.
 #[cycle(run)]
 #[tactic(auto, using(crate::proofs::Running::running))]
 fn run_some(
-    alloc: Global,
-    subs: &RecvSubs,
-    mint: &Mint,
+    machine: &Machine<'_>,
     calls: u32,
-    nested: u32,
     body: &RecvOps,
     part: Filling,
     view: &mut RecvView<'_>,
 ) -> Result<Filling, Halt>
-    requires { Holds (fill_present (fill (calls_of subs.now calls) (code_seen body.now)) (drawn mint.now part) (place_of view.old)) }
-    ensures { Gave (drawn mint.now) result (place_of view.new) (fill_present (fill (calls_of subs.now calls) (code_seen body.now)) (drawn mint.now part) (place_of view.old)) }
+    requires { Holds (fill_present (fill (calls_of machine.now.subs.now calls) (code_seen body.now)) (drawn machine.now.mint.now part) (place_of view.old)) }
+    ensures done { Gave (drawn machine.now.mint.now) result (place_of view.new) (fill_present (fill (calls_of machine.now.subs.now calls) (code_seen body.now)) (drawn machine.now.mint.now part) (place_of view.old)) }
+    ensures octets { view.new.octets ≡ view.old.octets }
 {
     match part {
         Filling::Flagged(item) => {
-            match run_fresh(alloc, subs, mint, calls, nested, body, item, view) {
-                Ok(value) => {
-                    match Value::present(alloc, value) {
-                        Ok(whole) => Ok(Filling::Done(whole)),
-                        Err(_) => Err(Halt::NoMemory),
-                    }
-                }
-                Err(halt) => Err(halt),
-            }
+            let value = run_fresh(machine, calls, body, item, view)?;
+            Ok(Filling::Done(Value::present(machine.alloc, value)?))
         }
         Filling::Done(value) => Ok(Filling::Done(value)),
         Filling::Raw(_) => unreachable!(),
@@ -237,37 +215,28 @@ fn run_some(
     }
 }
 
-// Fills the value behind a union's number.
+// Fills the value of a union's arm.
 #[cycle(run)]
 #[tactic(auto, using(crate::proofs::Running::running))]
 fn run_switch(
-    alloc: Global,
-    subs: &RecvSubs,
-    mint: &Mint,
+    machine: &Machine<'_>,
     calls: u32,
-    nested: u32,
     cases: &RecvCases,
     other: &Option<RecvOps>,
     part: Filling,
     view: &mut RecvView<'_>,
 ) -> Result<Filling, Halt>
-    requires { Holds (fill_arm (fill_case (calls_of subs.now calls) (cases_seen cases.now other.now)) (drawn mint.now part) (place_of view.old)) }
-    ensures { Gave (drawn mint.now) result (place_of view.new) (fill_arm (fill_case (calls_of subs.now calls) (cases_seen cases.now other.now)) (drawn mint.now part) (place_of view.old)) }
+    requires { Holds (fill_arm (fill_case (calls_of machine.now.subs.now calls) (cases_seen cases.now other.now)) (drawn machine.now.mint.now part) (place_of view.old)) }
+    ensures done { Gave (drawn machine.now.mint.now) result (place_of view.new) (fill_arm (fill_case (calls_of machine.now.subs.now calls) (cases_seen cases.now other.now)) (drawn machine.now.mint.now part) (place_of view.old)) }
+    ensures octets { view.new.octets ≡ view.old.octets }
 {
     match part {
         Filling::Tagged(n, item) => {
             let Some(body) = body_of(cases, other, &n) else {
                 unreachable!()
             };
-            match run_fresh(alloc, subs, mint, calls, nested, body, item, view) {
-                Ok(value) => {
-                    match Value::arm(alloc, n, value) {
-                        Ok(whole) => Ok(Filling::Done(whole)),
-                        Err(_) => Err(Halt::NoMemory),
-                    }
-                }
-                Err(halt) => Err(halt),
-            }
+            let value = run_fresh(machine, calls, body, item, view)?;
+            Ok(Filling::Done(Value::arm(machine.alloc, n, value)?))
         }
         Filling::Raw(_) => unreachable!(),
         Filling::Digit(_) => unreachable!(),
@@ -283,85 +252,45 @@ fn run_switch(
 #[cycle(run)]
 #[tactic(auto, using(crate::proofs::Running::running))]
 fn run_items(
-    alloc: Global,
-    subs: &RecvSubs,
-    mint: &Mint,
+    machine: &Machine<'_>,
     calls: u32,
-    nested: u32,
     body: &RecvOps,
     item: u32,
     n: u32,
     view: &mut RecvView<'_>,
 ) -> Result<Values, Halt>
-    requires { Holds (runs (λ u. settled (fill (calls_of subs.now calls) (code_seen body.now) (fresh (type_at mint.now item)) u)) n (place_of view.old)) }
-    ensures { Gave (map seen) result (place_of view.new) (runs (λ u. settled (fill (calls_of subs.now calls) (code_seen body.now) (fresh (type_at mint.now item)) u)) n (place_of view.old)) }
+    requires { Holds (runs (λ u. settled (fill (calls_of machine.now.subs.now calls) (code_seen body.now) (fresh (type_at machine.now.mint.now item)) u)) n (place_of view.old)) }
+    ensures done { Gave (map seen) result (place_of view.new) (runs (λ u. settled (fill (calls_of machine.now.subs.now calls) (code_seen body.now) (fresh (type_at machine.now.mint.now item)) u)) n (place_of view.old)) }
+    ensures octets { view.new.octets ≡ view.old.octets }
 {
-    let mut values = Values::new(alloc);
+    let mut values = Values::new(machine.alloc);
     for _ in 0..n {
-        match run_fresh(alloc, subs, mint, calls, nested, body, item, view) {
-            Ok(value) => {
-                let Ok(()) = values.push(value) else {
-                    return Err(Halt::NoMemory);
-                };
-            }
-            Err(halt) => return Err(halt),
-        }
+        values.push(run_fresh(machine, calls, body, item, view)?)?;
     }
     Ok(values)
-}
-
-// The kind of the numbers of a node's row or text.
-#[tactic(auto, using(crate::proofs::Drafting::drafting))]
-fn kind_at(mint: &Mint, id: u32) -> Kind
-    ensures { result ≡ kind_of (array_at mint.now id) }
-{
-    let Some(node) = mint.node(id) else {
-        return Kind::Char;
-    };
-    match node {
-        Node::Row(kind, _) => *kind,
-        Node::Void => Kind::Char,
-        Node::Num(_) => Kind::Char,
-        Node::Enum(_) => Kind::Char,
-        Node::Text(_) => Kind::Char,
-        Node::Group(_) => Kind::Char,
-        Node::Items(_, _) => Kind::Char,
-        Node::Choice(_, _, _) => Kind::Char,
-        Node::Maybe(_) => Kind::Char,
-    }
 }
 
 // Fills a number of a node's row or text.
 #[cycle(run)]
 #[tactic(auto, using(crate::proofs::Running::running))]
 fn run_digit(
-    alloc: Global,
-    subs: &RecvSubs,
-    mint: &Mint,
+    machine: &Machine<'_>,
     calls: u32,
-    nested: u32,
     body: &RecvOps,
     id: u32,
     view: &mut RecvView<'_>,
 ) -> Result<i128, Halt>
-    requires { Holds (settled_number (fill (calls_of subs.now calls) (code_seen body.now) (digit (array_at mint.now id)) (place_of view.old))) }
-    ensures value { Gave itself result (place_of view.new) (settled_number (fill (calls_of subs.now calls) (code_seen body.now) (digit (array_at mint.now id)) (place_of view.old))) }
-    ensures ranged { IfOk result (λ n. IsInRange (kind_of (array_at mint.now id)) n) }
+    requires { Holds (settled_number (fill (calls_of machine.now.subs.now calls) (code_seen body.now) (digit (array_at machine.now.mint.now id)) (place_of view.old))) }
+    ensures done { Gave itself result (place_of view.new) (settled_number (fill (calls_of machine.now.subs.now calls) (code_seen body.now) (digit (array_at machine.now.mint.now id)) (place_of view.old))) }
+    ensures ranged { IfOk result (λ n. IsInRange (kind_of (array_at machine.now.mint.now id)) n) }
+    ensures octets { view.new.octets ≡ view.old.octets }
 {
     let mut draft = Filling::Digit(id);
-    match run_block(alloc, subs, mint, calls, nested, body, &mut draft, view) {
-        Ok(()) => {
-            match settle(alloc, mint, nested, draft) {
-                Ok(value) => {
-                    match value.as_num() {
-                        Some(n) => Ok(n),
-                        None => unreachable!(),
-                    }
-                }
-                Err(_) => Err(Halt::NoMemory),
-            }
-        }
-        Err(halt) => Err(halt),
+    run_block(machine, calls, body, &mut draft, view)?;
+    let value = settle(machine.alloc, machine.mint, draft)?;
+    match value.as_num() {
+        Some(n) => Ok(n),
+        None => unreachable!(),
     }
 }
 
@@ -369,30 +298,21 @@ fn run_digit(
 #[cycle(run)]
 #[tactic(auto, using(crate::proofs::Running::running))]
 fn run_numbers(
-    alloc: Global,
-    subs: &RecvSubs,
-    mint: &Mint,
+    machine: &Machine<'_>,
     calls: u32,
-    nested: u32,
     body: &RecvOps,
     id: u32,
     n: u32,
     view: &mut RecvView<'_>,
 ) -> Result<Row, Halt>
-    requires { Holds (runs (λ u. settled_number (fill (calls_of subs.now calls) (code_seen body.now) (digit (array_at mint.now id)) u)) n (place_of view.old)) }
-    ensures numbers { Gave numbers_in result (place_of view.new) (runs (λ u. settled_number (fill (calls_of subs.now calls) (code_seen body.now) (digit (array_at mint.now id)) u)) n (place_of view.old)) }
-    ensures kind { IfOk result (λ r. r.kind ≡ kind_of (array_at mint.now id)) }
+    requires { Holds (runs (λ u. settled_number (fill (calls_of machine.now.subs.now calls) (code_seen body.now) (digit (array_at machine.now.mint.now id)) u)) n (place_of view.old)) }
+    ensures done { Gave numbers_in result (place_of view.new) (runs (λ u. settled_number (fill (calls_of machine.now.subs.now calls) (code_seen body.now) (digit (array_at machine.now.mint.now id)) u)) n (place_of view.old)) }
+    ensures kind { IfOk result (λ r. r.kind ≡ kind_of (array_at machine.now.mint.now id)) }
+    ensures octets { view.new.octets ≡ view.old.octets }
 {
-    let mut row = Row::new(alloc, kind_at(mint, id));
+    let mut row = Row::new(machine.alloc, kind_at(machine.mint, id));
     for _ in 0..n {
-        match run_digit(alloc, subs, mint, calls, nested, body, id, view) {
-            Ok(number) => {
-                let Ok(()) = row.push(number) else {
-                    return Err(Halt::NoMemory);
-                };
-            }
-            Err(halt) => return Err(halt),
-        }
+        row.push(run_digit(machine, calls, body, id, view)?)?;
     }
     Ok(row)
 }
@@ -401,96 +321,25 @@ fn run_numbers(
 #[cycle(run)]
 #[tactic(auto, using(crate::proofs::Running::running))]
 fn run_each(
-    alloc: Global,
-    subs: &RecvSubs,
-    mint: &Mint,
+    machine: &Machine<'_>,
     calls: u32,
-    nested: u32,
     body: &RecvOps,
     part: Filling,
     view: &mut RecvView<'_>,
 ) -> Result<Filling, Halt>
-    requires { Holds (fill_each (fill (calls_of subs.now calls) (code_seen body.now)) (drawn mint.now part) (place_of view.old)) }
-    ensures { Gave (drawn mint.now) result (place_of view.new) (fill_each (fill (calls_of subs.now calls) (code_seen body.now)) (drawn mint.now part) (place_of view.old)) }
+    requires { Holds (fill_each (fill (calls_of machine.now.subs.now calls) (code_seen body.now)) (drawn machine.now.mint.now part) (place_of view.old)) }
+    ensures done { Gave (drawn machine.now.mint.now) result (place_of view.new) (fill_each (fill (calls_of machine.now.subs.now calls) (code_seen body.now)) (drawn machine.now.mint.now part) (place_of view.old)) }
+    ensures octets { view.new.octets ≡ view.old.octets }
 {
-    match part {
-        Filling::Listed(item, n) => {
-            match run_items(alloc, subs, mint, calls, nested, body, item, n, view) {
-                Ok(values) => Ok(Filling::Done(Value::Items(values))),
-                Err(halt) => Err(halt),
-            }
+    match elements_of(machine.mint, &part) {
+        Elements::Values(item, n) => {
+            let values = run_items(machine, calls, body, item, n, view)?;
+            Ok(Filling::Done(Value::Items(values)))
         }
-        Filling::Raw(id) => {
-            let Some(node) = mint.node(id) else {
-                unreachable!()
-            };
-            match node {
-                Node::Items(item, count) => {
-                    match run_items(
-                        alloc,
-                        subs,
-                        mint,
-                        calls,
-                        nested,
-                        body,
-                        *item,
-                        count.least(),
-                        view,
-                    ) {
-                        Ok(values) => Ok(Filling::Done(Value::Items(values))),
-                        Err(halt) => Err(halt),
-                    }
-                }
-                Node::Text(count) => {
-                    match run_numbers(
-                        alloc,
-                        subs,
-                        mint,
-                        calls,
-                        nested,
-                        body,
-                        id,
-                        count.least(),
-                        view,
-                    ) {
-                        Ok(row) => Ok(Filling::Done(Value::Row(row))),
-                        Err(halt) => Err(halt),
-                    }
-                }
-                Node::Row(_, count) => {
-                    match run_numbers(
-                        alloc,
-                        subs,
-                        mint,
-                        calls,
-                        nested,
-                        body,
-                        id,
-                        count.least(),
-                        view,
-                    ) {
-                        Ok(row) => Ok(Filling::Done(Value::Row(row))),
-                        Err(halt) => Err(halt),
-                    }
-                }
-                Node::Void => unreachable!(),
-                Node::Num(_) => unreachable!(),
-                Node::Enum(_) => unreachable!(),
-                Node::Group(_) => unreachable!(),
-                Node::Choice(_, _, _) => unreachable!(),
-                Node::Maybe(_) => unreachable!(),
-            }
+        Elements::Numbers(id, n) => {
+            let row = run_numbers(machine, calls, body, id, n, view)?;
+            Ok(Filling::Done(Value::Row(row)))
         }
-        Filling::Lined(id, n) => {
-            match run_numbers(alloc, subs, mint, calls, nested, body, id, n, view) {
-                Ok(row) => Ok(Filling::Done(Value::Row(row))),
-                Err(halt) => Err(halt),
-            }
-        }
-        Filling::Digit(_) => unreachable!(),
-        Filling::Tagged(_, _) => unreachable!(),
-        Filling::Flagged(_) => unreachable!(),
-        Filling::Done(_) => unreachable!(),
-        Filling::Fields(_) => unreachable!(),
+        Elements::Nothing => unreachable!(),
     }
 }

@@ -28,13 +28,10 @@ fn blank_at(alloc: Global, mint: &Mint, id: u32) -> Result<Value, NoMemory>
 /// The value of a draft in which nothing waits to be filled.
 #[cycle(settle)]
 #[tactic(auto, using(crate::proofs::Becoming::settling))]
-pub fn settle(alloc: Global, mint: &Mint, nested: u32, draft: Filling) -> Result<Value, NoMemory>
+pub fn settle(alloc: Global, mint: &Mint, draft: Filling) -> Result<Value, NoMemory>
     requires { IsThere (settle (drawn mint.now draft)) }
     ensures { IfOk result (λ v. settle (drawn mint.now draft) ≡ Some (seen v)) }
 {
-    if nested == 0 {
-        return Err(NoMemory);
-    }
     match draft {
         Filling::Raw(id) => blank_at(alloc, mint, id),
         Filling::Digit(_) => unreachable!(),
@@ -43,15 +40,13 @@ pub fn settle(alloc: Global, mint: &Mint, nested: u32, draft: Filling) -> Result
         Filling::Tagged(_, _) => unreachable!(),
         Filling::Flagged(_) => unreachable!(),
         Filling::Done(value) => Ok(value),
-        Filling::Fields(fields) => {
-            Ok(Value::Group(settle_all(alloc, mint, nested - 1, fields)?))
-        }
+        Filling::Fields(fields) => Ok(Value::Group(settle_all(alloc, mint, fields)?)),
     }
 }
 
 #[cycle(settle)]
 #[tactic(auto, using(crate::proofs::Becoming::settling))]
-fn settle_all(alloc: Global, mint: &Mint, nested: u32, fields: Fillings) -> Result<Values, NoMemory>
+fn settle_all(alloc: Global, mint: &Mint, fields: Fillings) -> Result<Values, NoMemory>
     requires { IsThere (settles (all_drawn mint.now fields)) }
     ensures { IfOk result (λ vs. settles (all_drawn mint.now fields) ≡ Some (all_seen vs)) }
 {
@@ -60,7 +55,7 @@ fn settle_all(alloc: Global, mint: &Mint, nested: u32, fields: Fillings) -> Resu
     for i in 0..rest.len() {
         let mut field = Filling::Raw(0);
         rest.exchange(i, &mut field);
-        values.push(settle(alloc, mint, nested, field)?)?;
+        values.push(settle(alloc, mint, field)?)?;
     }
     Ok(values)
 }

@@ -1,12 +1,11 @@
 // Octets that are passed up to a multiple.
 ghost use Rattle.std.specs.Prelude.{◌≡◌, ◌<◌, Bool, not, take};
 ghost use Rattle.cast_stub.specs.Steps.{is_width};
-ghost use Rattle.cast_stub.specs.Fill.{skipped, all_zero};
+ghost use Rattle.cast_stub.specs.Into.{skipped, all_zero};
 ghost use Rattle.recv_machine.specs.Drawn.{drawn, any_octets};
-ghost use Rattle.recv_machine.specs.Ran.{place_of, Ran};
+ghost use Rattle.recv_machine.specs.Ran.{place_of, Tested};
 
 use crate::draft::Filling;
-use crate::errors::Halt;
 use mint::table::Mint;
 use raw_buf::RecvView;
 
@@ -31,36 +30,38 @@ fn are_zeros(octets: &[u8]) -> bool
 }
 
 /// Octets up to a multiple, whatever they are.
-pub fn skip_any(mint: &Mint, a: u32, draft: &Filling, view: &mut RecvView<'_>) -> Result<(), Halt>
-    ensures { Ran result (drawn mint.now draft.now) (place_of view.new) (skipped any_octets a (drawn mint.now draft.now) (place_of view.old)) }
+pub fn skip_any(mint: &Mint, a: u32, draft: &Filling, view: &mut RecvView<'_>) -> bool
+    ensures done { Tested result (drawn mint.now draft.now) (place_of view.new) (skipped any_octets a (drawn mint.now draft.now) (place_of view.old)) }
+    ensures octets { view.new.octets ≡ view.old.octets }
 {
     if !is_multiple(a) {
-        return Err(Halt::Refused);
+        return false;
     }
     let a = a as usize;
     let k = (a - view.pos() % a) % a;
     if !view.need(k) {
-        return Err(Halt::Refused);
+        return false;
     }
     view.take(k);
-    Ok(())
+    true
 }
 
 /// Octets up to a multiple, which are 0.
-pub fn skip_zero(mint: &Mint, a: u32, draft: &Filling, view: &mut RecvView<'_>) -> Result<(), Halt>
-    ensures { Ran result (drawn mint.now draft.now) (place_of view.new) (skipped all_zero a (drawn mint.now draft.now) (place_of view.old)) }
+pub fn skip_zero(mint: &Mint, a: u32, draft: &Filling, view: &mut RecvView<'_>) -> bool
+    ensures done { Tested result (drawn mint.now draft.now) (place_of view.new) (skipped all_zero a (drawn mint.now draft.now) (place_of view.old)) }
+    ensures octets { view.new.octets ≡ view.old.octets }
 {
     if !is_multiple(a) {
-        return Err(Halt::Refused);
+        return false;
     }
     let a = a as usize;
     let k = (a - view.pos() % a) % a;
     if !view.need(k) {
-        return Err(Halt::Refused);
+        return false;
     }
-    if !are_zeros(view.peek(0, k)) {
-        return Err(Halt::Refused);
+    if !are_zeros(&view.rest()[..k]) {
+        return false;
     }
     view.take(k);
-    Ok(())
+    true
 }

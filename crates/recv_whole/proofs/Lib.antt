@@ -1,1 +1,3 @@
 pub mod Received
+pub mod Returning
+mod Worked

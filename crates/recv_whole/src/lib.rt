@@ -1,8 +1,9 @@
-//! Values received by stub code, from types to octets.
+//! Receiving by stub code as a whole: code that is lowered or inlined, and its run; and that what stub
+//! code sends, stub code receives.
 #![tactic(auto)]
 
-#[cfg(test)]
-mod tests;
+mod laws;
 mod whole;
 
-pub use whole::receive;
+pub use laws::what_is_sent_is_received;
+pub use whole::{inlined, lowered, receive};

@@ -1,11 +1,13 @@
 // Makes the code of a type and puts ensures into it, so that what an operation costs can be counted:
-// PASS SHAPE SIZE.
+// PASS SHAPE SIZE. Or reads a message, so that what a number costs can be: READING CONTENT SIZE.
 #![tactic(auto)]
 
 mod counting;
+mod receiving;
 mod shapes;
 
 use crate::counting::count;
+use crate::receiving::{content_of, read, reading_of};
 use crate::shapes::{Shape, shape_of, table_of};
 use anyhow::{Result, bail};
 use back_xdr::lower_send;
@@ -92,22 +94,35 @@ fn run(alloc: Global, last: Pass, shape: Shape, size: u32) -> Result<Operations>
 
 fn main(rt: HostRuntime) -> Result<()> {
     let mut words = env::args(&rt)?.skip(1);
-    let last = words.next().and_then(|word| pass_of(word.as_str()));
-    let shape = words.next().and_then(|word| shape_of(word.as_str()));
+    let Some(first) = words.next() else {
+        bail!("{USAGE}");
+    };
+    let Some(second) = words.next() else {
+        bail!("{USAGE}");
+    };
     let size = words
         .next()
         .and_then(|word| word.as_str().parse::<u32>().ok());
-    match (last, shape, size) {
-        (Some(last), Some(shape), Some(size)) => {
-            let made = run(rt.alloc(), last, shape, size)?;
-            println!(rt;
-                "operations: {} lowered, {} inlined, {} hoisted",
-                made.lowered, made.inlined, made.hoisted
-            )?;
+    let Some(size) = size else {
+        bail!("{USAGE}");
+    };
+    if let (Some(last), Some(shape)) = (pass_of(first.as_str()), shape_of(second.as_str())) {
+        let made = run(rt.alloc(), last, shape, size)?;
+        println!(rt;
+            "operations: {} lowered, {} inlined, {} hoisted",
+            made.lowered, made.inlined, made.hoisted
+        )?;
+        return Ok(());
+    }
+    match (reading_of(first.as_str()), content_of(second.as_str())) {
+        (Some(reading), Some(content)) => {
+            let value = read(rt.alloc(), reading, content, size)?;
+            println!(rt; "{}", if value { "a value" } else { "no value" })?;
             Ok(())
         }
-        _ => bail!(
-            "usage: stub_bench make|lower|inline|classify|hoist fields|lists|deep|bounded|pairs|arms SIZE"
-        ),
+        _ => bail!("{USAGE}"),
     }
 }
+
+const USAGE: &str =
+    "usage: stub_bench make|lower|inline|classify|hoist fields|lists|deep|bounded|pairs|arms SIZE, or prepare|receive|walk ints|structs|claim SIZE";

@@ -6,6 +6,7 @@ use crate::codes::stub;
 use crate::heads::{refused, reply};
 use crate::nodes::{Made, build, table_of};
 use crate::parts::{Bad, member, octets, told, word};
+use crate::received::received_case;
 use crate::values::value_of;
 use hex::encode;
 use kit_base::Octets;
@@ -34,6 +35,7 @@ pub fn answer(alloc: Global, line: &str) -> Result<String, Bad> {
         Some("read") => read(alloc, &row),
         Some("span") => span(alloc, &row),
         Some("stub") => stub(alloc, &row),
+        Some("receive") => received_case(alloc, &row),
         Some("reply") => reply(alloc, octets(alloc, member(&row, "octets")?)?.as_slice()),
         Some("refuse") => refused(alloc, member(&row, "why")?),
         _ => Err(Bad::Row("nothing is asked")),
@@ -78,7 +80,7 @@ pub fn value_at(alloc: Global, row: &Json, table: &Mint, id: NodeId) -> Result<V
 }
 
 /// The position at which a value begins, 0 where none is told.
-fn place_of(row: &Json) -> Result<usize, Bad>
+pub fn place_of(row: &Json) -> Result<usize, Bad>
     ensures { IfOk result (λ at. at ≤ 4194304) }
 {
     let at = match row.get("at") {

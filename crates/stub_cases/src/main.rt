@@ -8,6 +8,7 @@ mod heads;
 mod lead;
 mod nodes;
 mod parts;
+mod received;
 mod values;
 
 use crate::asks::answer;

@@ -1,8 +1,8 @@
 -- What the leaves of CDR append: numbers behind their alignment, texts that end, rows.
-use Rattle.std.proofs.Common.{◌≡◌, ◌⊎◌, inl, inr, ℕ, zero, suc, ◌+◌, ◌*◌, ◌%◌, ◌<◌, ◌≤◌, ℤ, pos, negsuc, List, [], ◌∷◌, ◌++◌, length, map, replicate, Option, Some, refl, sym, ap, subst, ◌∙◌, arith, append_assoc, length-append, IsTrue, Bool, true, false}
-use Rattle.std.specs.Prelude.{nat_lt, nat_eq}
+use Rattle.std.proofs.Common.{◌≡◌, ◌⊎◌, inl, inr, ℕ, zero, suc, ◌+◌, ◌*◌, ◌%◌, ◌<◌, ℤ, pos, negsuc, List, [], ◌∷◌, ◌++◌, length, map, replicate, Some, refl, sym, ap, subst, ◌∙◌, arith, append_assoc, length-append, IsTrue}
+use Rattle.std.specs.Prelude.{nat_lt}
 use Rattle.std.specs.List.{list_all}
-use Rattle.std.specs.Int.{Width, w8, w16, w32, w64, byte_len}
+use Rattle.std.specs.Int.{Width, byte_len}
 use Rattle.std.proofs.lemmas.Bool.{ltb-true, lt-ltb}
 use Rattle.std.proofs.lemmas.List.{append-nil, length-replicate}
 use Rattle.mint.specs.declared.kind.Kind.{Kind}
@@ -10,8 +10,8 @@ use Rattle.mint.specs.declared.kind.Kind.TheVariants as kind
 use Rattle.mint.specs.declared.kind.Count.{Count}
 use Rattle.mint.specs.declared.kind.Count.TheVariants.{Exactly, AtMost, Any}
 use Rattle.mint.specs.Kinds.{Allows, in_range}
-use Rattle.mint.specs.Types.{Scalar, number, label, Array, text, row_of}
-use Rattle.mint.specs.Typed.{IsScalar, IsArray}
+use Rattle.mint.specs.Types.{Scalar, number, text, row_of}
+use Rattle.mint.specs.Typed.{IsScalar}
 use Rattle.mint.specs.Values.{Val, num, row, vals_of}
 use Rattle.wire_def.specs.declared.encoding.Encoding.{Encoding}
 use Rattle.wire_def.specs.declared.encoding.Encoding.TheVariants.{CdrBig, CdrLittle}
@@ -23,18 +23,17 @@ use Rattle.wire_def.proofs.Words.{IsOwn, is8, is16, is32, is64, own_of, wide}
 use Rattle.wire_def.proofs.Short.{scalar_long}
 use Rattle.cast_stub.specs.declared.put.Put.{Put}
 use Rattle.cast_stub.specs.declared.put.Put.TheVariants as put
-use Rattle.cast_stub.specs.Parts.{on_some, length_in}
 use Rattle.cast_stub.specs.Puts.{put_octets, offset, word}
-use Rattle.cast_stub.specs.Block.{Block, stop, align, chunk, each}
+use Rattle.cast_stub.specs.Block.{Block, stop, chunk, each}
 use Rattle.cast_stub.specs.Append.{append}
 use Rattle.cast_stub.specs.Steps.{Steps, Calls, steps, over, chunk_steps, align_steps}
 use Rattle.cast_stub.proofs.Appending.{steps-append}
 use Rattle.wire_def.specs.Places.{IsPlace}
 use Rattle.stub_lower.specs.Codes.{aligned, scalar_code, ended_code, number_put, number_chunk, count_code, row_code, end_code, array_code}
-use Rattle.cast_stub.specs.Layouts.{order_of, scalar_width, element_width}
-use Rattle.stub_lower.proofs.Writing.{Writes, both-writes, none-writes, writes_same, writes_stop, Sends, put-writes}
-use Rattle.stub_lower.proofs.Encoded.{ScalarsSend, ArraysSend, count-sends, first_true, second_true, letters_are_octets, octets_long, over-writes}
-use Rattle.stub_lower.proofs.Words.{order_octets, width_same, scalar_word, word-octet}
+use Rattle.cast_stub.specs.Layouts.{order_of, scalar_width}
+use Rattle.stub_lower.proofs.Writing.{Writes, both-writes, none-writes, writes_same, writes_stop, put-writes}
+use Rattle.stub_lower.proofs.Encoded.{ScalarsSend, ArraysSend, count-sends, first_true, second_true, letters_are_octets, over-writes}
+use Rattle.stub_lower.proofs.Words.{width_same, scalar_word, word-octet}
 
 -- ---- alignment
 

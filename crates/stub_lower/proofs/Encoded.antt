@@ -1,7 +1,7 @@
 -- What an encoding's leaves append: a scalar, a count, an array.
 use Rattle.std.proofs.Common.{◌≡◌, ℕ, zero, suc, ◌+◌, ◌*◌, ◌%◌, ◌<◌, ℤ, pos, negsuc, List, [], ◌∷◌, ◌++◌, length, map, replicate, Option, Some, refl, sym, ap, subst, ◌∙◌, arith, length-append, IsTrue, Bool, true, false, ◌&&◌, not}
 use Rattle.std.specs.Prelude.{nat_lt}
-use Rattle.std.specs.List.{list_all, list_any}
+use Rattle.std.specs.List.{list_all}
 use Rattle.std.specs.Ordering.{int_eq}
 use Rattle.std.proofs.lemmas.Bool.{ltb-true, lt-ltb}
 use Rattle.mint.specs.declared.kind.Kind.{Kind}
@@ -16,9 +16,9 @@ use Rattle.wire_def.specs.declared.encoding.Encoding.{Encoding}
 use Rattle.wire_def.specs.declared.encoding.Encoding.TheVariants.{Xdr}
 use Rattle.wire_def.specs.declared.head.Head.{Head}
 use Rattle.wire_def.specs.declared.head.Order.TheVariants.{Big}
-use Rattle.wire_def.specs.Scalars.{gap, scalar_octets, number_octets, residue, own_width, width_of, alignment_of}
+use Rattle.wire_def.specs.Scalars.{gap, scalar_octets, number_octets, residue, width_of}
 use Rattle.wire_def.specs.Lone.{lone_octets}
-use Rattle.wire_def.specs.Arrays.{natural, counted, count_octets, head_octets, trailing, is_octets, element_octets, elements_octets, array_octets}
+use Rattle.wire_def.specs.Arrays.{natural, counted, count_octets, head_octets, element_octets, elements_octets, array_octets}
 use Rattle.cast_stub.specs.declared.put.Put.{Put}
 use Rattle.cast_stub.specs.declared.put.Put.TheVariants as put
 use Rattle.cast_stub.specs.Parts.{on_some, at, length_in}
@@ -31,8 +31,7 @@ use Rattle.wire_def.specs.Places.{IsPlace}
 use Rattle.stub_lower.specs.Codes.{scalar_code, count_code, array_code}
 use Rattle.cast_stub.specs.Layouts.{order_of, scalar_width}
 use Rattle.stub_lower.proofs.Writing.{place_sum, Writes, both-writes, none-writes, writes_same, writes_stop, Sends, both-sends, none-sends, sends_stop, put-writes}
-use Rattle.wire_def.proofs.Words.{IsOwn, is8, is16, is32, is64, own_of, wide}
-use Rattle.stub_lower.proofs.Words.{order_octets, width_same, scalar_word, word-octet}
+use Rattle.stub_lower.proofs.Words.{scalar_word, word-octet}
 
 -- what has to be known of an encoding, so that lowered code sends what it says: that a scalar whose put gives its number
 abbrev pub ScalarsSend : Encoding → Type 0

@@ -44,7 +44,7 @@ pub record AreLowered (e : Encoding) (nodes : List Node) (n : ℕ) (subs : List 
   pub codes : map code_seen subs ≡ map (node_code e) (take n nodes)
   pub known : AreKnown nodes n
 
-take_at : (nodes : List Node) (k : ℕ) (m : Node) → slice_get nodes k ≡ Some m → take (k + 1) nodes ≡ take k nodes ++ m ∷ []
+pub take_at : (nodes : List Node) (k : ℕ) (m : Node) → slice_get nodes k ≡ Some m → take (k + 1) nodes ≡ take k nodes ++ m ∷ []
 take_at [] k m e = absurd cc
 take_at (x ∷ nodes) zero m e = let s : x ≡ m = cc in ap (λ (y : Node). y ∷ []) s
 take_at (x ∷ nodes) (suc k) m e =
@@ -54,7 +54,7 @@ take_at (x ∷ nodes) (suc k) m e =
 same_node : (nodes : List Node) (k : ℕ) (m n : Node) → slice_get nodes k ≡ Some m → slice_get nodes k ≡ Some n → m ≡ n
 same_node nodes k m n e d = let s : Some m ≡ Some n = sym e ∙ d in cc
 
-known_more : (nodes : List Node) (k : ℕ) (m : Node) → slice_get nodes k ≡ Some m → HasChildrenBelow k m → IsSound (type_at nodes k) → AreKnown nodes k → AreKnown nodes (k + 1)
+pub known_more : (nodes : List Node) (k : ℕ) (m : Node) → slice_get nodes k ≡ Some m → HasChildrenBelow k m → IsSound (type_at nodes k) → AreKnown nodes k → AreKnown nodes (k + 1)
 known_more nodes k m is below sound known j n lt there = picked (eq-or-lt_of_le (omega (arith, lt))) where
   same : j ≡ k → HasChildrenBelow j n × IsSound (type_at nodes j)
   same e =
@@ -79,7 +79,7 @@ one_more e nodes k m subs new code found below sound so_far made is = record {
 
 -- ---- the whole table
 
-get-map : {A B : Type 0} (f : A → B) (xs : List A) (k : ℕ) → option_map f (slice_get xs k) ≡ slice_get (map f xs) k
+pub get-map : {A B : Type 0} (f : A → B) (xs : List A) (k : ℕ) → option_map f (slice_get xs k) ≡ slice_get (map f xs) k
 get-map f [] k = refl
 get-map f (x ∷ xs) zero = refl
 get-map f (x ∷ xs) (suc k) = get-map f xs k
@@ -94,16 +94,16 @@ stands : (e : Encoding) (nodes : List Node) (k : ℕ) (o : Option Node) (code : 
 stands e nodes k None code is same = absurd cc
 stands e nodes k (Some m) code is same = record { node = m; is = is; made = cc }
 
-in_list : (nodes : List Node) (k : ℕ) (m : Node) → slice_get nodes k ≡ Some m → k < length nodes
+pub in_list : (nodes : List Node) (k : ℕ) (m : Node) → slice_get nodes k ≡ Some m → k < length nodes
 in_list [] k m e = absurd cc
 in_list (x ∷ nodes) zero m e = omega arith
 in_list (x ∷ nodes) (suc k) m e = let h = in_list nodes k m e in omega arith
 
-record Found (nodes : List Node) (i : ℕ) : Type 0 where
-  node : Node
-  is : slice_get nodes i ≡ Some node
+pub record Found (nodes : List Node) (i : ℕ) : Type 0 where
+  pub node : Node
+  pub is : slice_get nodes i ≡ Some node
 
-found : (nodes : List Node) (i : ℕ) → i < length nodes → Found nodes i
+pub found : (nodes : List Node) (i : ℕ) → i < length nodes → Found nodes i
 found [] i h = absurd (omega arith)
 found (m ∷ nodes) zero h = record { node = m; is = refl }
 found (m ∷ nodes) (suc i) h = let f = found nodes i (omega arith) in record { node = f.node; is = f.is }

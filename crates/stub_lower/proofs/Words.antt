@@ -1,10 +1,8 @@
 -- The octets of a number, as a put stores it and as it is sent.
-use Rattle.std.proofs.Common.{◌≡◌, ℕ, ◌+◌, ◌-◌, ◌%◌, ◌<◌, ◌≤◌, ℤ, pos, negsuc, [], ◌∷◌, length, Bool, true, false, Option, Some, refl, ap, ◌∙◌, arith, IsTrue}
+use Rattle.std.proofs.Common.{◌≡◌, ℕ, ◌-◌, ◌%◌, ◌<◌, ℤ, pos, negsuc, [], ◌∷◌, Bool, true, false, Option, Some, refl, ap, ◌∙◌, arith}
 use Rattle.std.specs.Prelude.{nat_lt}
 use Rattle.std.specs.Int.{Width, w8, w16, w32, w64, byte_len}
-use Rattle.std.proofs.lemmas.Bool.{ltb-true, lt-ltb}
-use Rattle.mint.specs.declared.kind.Kind.{Kind}
-use Rattle.mint.specs.declared.kind.Kind.TheVariants as kind
+use Rattle.std.proofs.lemmas.Bool.{lt-ltb}
 use Rattle.mint.specs.Types.{Scalar, number, label}
 use Rattle.mint.specs.Typed.{IsScalar}
 use Rattle.raw_buf.specs.Buf.{in_order}
@@ -12,8 +10,8 @@ use Rattle.wire_def.specs.declared.encoding.Encoding.{Encoding}
 use Rattle.wire_def.specs.declared.encoding.Encoding.TheVariants.{Xdr, CdrBig, CdrLittle, Mach}
 use Rattle.wire_def.specs.declared.head.Order.{Order}
 use Rattle.wire_def.specs.declared.head.Order.TheVariants.{Big, Little}
-use Rattle.wire_def.specs.Scalars.{full, half, is_signed, number_octets, residue, width_of}
-use Rattle.wire_def.proofs.ScalarGrammar.{FitsIn, fits_in, half_half}
+use Rattle.wire_def.specs.Scalars.{is_signed, number_octets, residue, width_of}
+use Rattle.wire_def.proofs.ScalarGrammar.{FitsIn, fits_in}
 use Rattle.wire_def.proofs.Words.{IsOwn, is8, is16, is32, is64, own_of}
 use Rattle.cast_stub.specs.Parts.{on_some}
 use Rattle.cast_stub.specs.Puts.{word}

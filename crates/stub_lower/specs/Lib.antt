@@ -1,3 +1,5 @@
 pub mod Codes
 pub mod Leads
 pub mod Lowered
+pub mod RecvCodes
+pub mod RecvLowered

@@ -1,12 +1,13 @@
 use Rattle.std.proofs.Common.{◌+◌, ◌*◌}
-use Rattle.recv_machine.proofs.Becoming.{Settled}
+use Rattle.recv_machine.specs.Drawn.{drawn, all_drawn}
+use Rattle.recv_machine.proofs.Becoming.{draft_size, drafts_size, Settled}
 use Rattle.recv_machine.proofs.settling.+settle.Given as goal
 
 abbrev pub decreases-settle : goal.decreases-settle
-decreases-settle l = 2 * l.nested
+decreases-settle l = 2 * draft_size (drawn l.mint.now l.draft)
 
 abbrev pub decreases-settle_all : goal.decreases-settle_all
-decreases-settle_all l = 2 * l.nested + 1
+decreases-settle_all l = 2 * drafts_size (all_drawn l.mint.now l.fields) + 1
 
 abbrev pub invariant-settle_all-loop-i : goal.invariant-settle_all-loop-i
 invariant-settle_all-loop-i l = Settled l.mint l.fn.fields l.rest l.values l.i

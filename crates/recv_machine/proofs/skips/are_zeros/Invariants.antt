@@ -1,5 +1,5 @@
 use Rattle.std.proofs.Common.{◌≡◌, drop}
-use Rattle.cast_stub.specs.Fill.{all_zero}
+use Rattle.cast_stub.specs.Into.{all_zero}
 use Rattle.recv_machine.proofs.skips.are_zeros.Given as goal
 
 abbrev pub invariant-loop-octet : goal.invariant-loop-octet

@@ -10,4 +10,5 @@ loop-number-preserved c = record {
   front = c.put_word.ensures.front ∙ ap (drop 4) c.loop-number.invariant.front ∙ drop_more c.loop-number.number-index c.args.self.now.front;
   tally = c.put_word.ensures.tally ∙ ap (λ t. moved (stored t)) c.loop-number.invariant.tally ∙ worded_more c.loop-number.number-index c.args.self.now.tally;
   spent = c.put_word.ensures.spent ∙ ap (λ t. moved (stored t)) c.loop-number.invariant.spent ∙ worded_more c.loop-number.number-index c.args.self.now.spent;
+  room = c.put_word.ensures.room ∙ c.loop-number.invariant.room;
 }

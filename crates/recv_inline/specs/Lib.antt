@@ -1,3 +1,0 @@
-pub mod CallFree
-pub mod Inlined
-pub mod Spliced

@@ -1,9 +1,0 @@
-pub mod Adding
-pub mod Agreeing
-pub mod Arrays
-pub mod Building
-pub mod Encoded
-pub mod Exact
-pub mod Receiving
-pub mod Tracing
-pub mod Whole

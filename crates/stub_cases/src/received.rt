@@ -1,0 +1,189 @@
+// Octets received by stub code, lowered and inlined, beside the plain walk.
+ghost use Rattle.std.specs.Prelude.{◌≡◌, ◌<◌, ◌≤◌, ◌%◌, length, IfOk};
+ghost use Rattle.kit_base.specs.Limits.{longest_message};
+ghost use Rattle.mint.specs.Types.{type_at};
+ghost use Rattle.wire_def.specs.Places.{IsPlace};
+ghost use Rattle.wire_def.specs.declared.encoding.Encoding.TheVariants.{Xdr};
+ghost use Rattle.cast_stub.specs.Got.{IsSoundCode};
+
+use crate::asks::{id_of, place_of};
+use crate::nodes::table_of;
+use crate::parts::{Bad, member, octets, told, word};
+use cast_stub::RecvCode;
+use hex::encode;
+use kit_base::Octets;
+use kit_base::limits::LONGEST_MESSAGE;
+use mint::fits::fits;
+use mint::table::{Mint, NodeId};
+use mint::value::Value;
+use plain_wire::{Read, plain_read, plain_send};
+use raw_buf::RecvView;
+use recv_machine::Got;
+use recv_whole::{inlined, lowered, receive};
+use serde_json::Value as Json;
+use std::alloc::Global;
+use wire_def::Encoding;
+
+/// How many octets a value took and what it is sent as from the same position.
+fn value_told(
+    alloc: Global,
+    table: &Mint,
+    id: NodeId,
+    at: usize,
+    value: &Value,
+    used: usize,
+) -> Result<String, Bad>
+    requires id { id < length table.now }
+    requires at { at ≤ longest_message }
+{
+    if !fits(table, id, value) {
+        return told(alloc, "no value");
+    }
+    let mut out = Octets::new(alloc);
+    plain_send(Encoding::Xdr, table, id, at, value, &mut out)?;
+    let digits = encode(alloc, out.as_slice())?;
+    Ok(format!(in alloc; "{used} {digits}")?)
+}
+
+/// The same, as the plain walk reads it.
+fn walked(alloc: Global, table: &Mint, id: NodeId, at: usize, message: &[u8]) -> Result<String, Bad>
+    requires id { id < length table.now }
+    requires at { at ≤ length message.now }
+    requires short { length message.now ≤ longest_message }
+{
+    match plain_read(alloc, Encoding::Xdr, table, id, at, message)? {
+        Read::Value(value, used) => value_told(alloc, table, id, at, &value, used),
+        Read::Stop(_) => told(alloc, "Not"),
+    }
+}
+
+/// The same, by a code.
+fn received(
+    alloc: Global,
+    code: &RecvCode,
+    table: &Mint,
+    id: NodeId,
+    at: usize,
+    message: &[u8],
+) -> Result<String, Bad>
+    requires sound { IsSoundCode Xdr (type_at table.now id) (IsPlace Xdr) code.now }
+    requires id { id < length table.now }
+    requires place { at % 4 ≡ 0 }
+    requires at { at ≤ length message.now }
+    requires short { length message.now ≤ longest_message }
+{
+    let mut view = RecvView::new(message);
+    if !view.need(at) {
+        return Err(Bad::Row("no place in the message"));
+    }
+    view.take(at);
+    match receive(alloc, code, table, id, &mut view)? {
+        Got::Value(value) => {
+            let used = view.pos().saturating_sub(at);
+            value_told(alloc, table, id, at, &value, used)
+        }
+        Got::Not => told(alloc, "Not"),
+    }
+}
+
+/// What all three say, or how they differ.
+fn alike(
+    alloc: Global,
+    codes: (&RecvCode, &RecvCode),
+    table: &Mint,
+    id: NodeId,
+    at: usize,
+    message: &[u8],
+) -> Result<(bool, String), Bad>
+    requires lowered { IsSoundCode Xdr (type_at table.now id) (IsPlace Xdr) codes.0.now }
+    requires inlined { IsSoundCode Xdr (type_at table.now id) (IsPlace Xdr) codes.1.now }
+    requires id { id < length table.now }
+    requires place { at % 4 ≡ 0 }
+    requires at { at ≤ length message.now }
+    requires short { length message.now ≤ longest_message }
+{
+    let plain = walked(alloc, table, id, at, message)?;
+    let first = received(alloc, codes.0, table, id, at, message)?;
+    let second = received(alloc, codes.1, table, id, at, message)?;
+    if plain == first && plain == second {
+        return Ok((true, plain));
+    }
+    let all = format!(in alloc; "walked {plain}, lowered {first}, inlined {second}")?;
+    Ok((false, all))
+}
+
+/// How many cuts and changed octets, at every so many places, all three agree on; or where they differ.
+fn varied(
+    alloc: Global,
+    codes: (&RecvCode, &RecvCode),
+    table: &Mint,
+    id: NodeId,
+    step: usize,
+    message: &[u8],
+) -> Result<String, Bad>
+    requires lowered { IsSoundCode Xdr (type_at table.now id) (IsPlace Xdr) codes.0.now }
+    requires inlined { IsSoundCode Xdr (type_at table.now id) (IsPlace Xdr) codes.1.now }
+    requires id { id < length table.now }
+    requires step { 0 < step }
+    requires short { length message.now ≤ longest_message }
+{
+    let mut count = 0u64;
+    for i in 0..message.len() {
+        if i % step != 0 {
+            continue;
+        }
+        let (same, said) = alike(alloc, codes, table, id, 0, &message[..i])?;
+        if !same {
+            return Ok(format!(in alloc; "cut at {i}: {said}")?);
+        }
+        count = count.saturating_add(1);
+        for by in CHANGES {
+            let changed = changed(alloc, message, i, by)?;
+            let (same, said) = alike(alloc, codes, table, id, 0, changed.as_slice())?;
+            if !same {
+                return Ok(format!(in alloc; "changed at {i} by {by}: {said}")?);
+            }
+            count = count.saturating_add(1);
+        }
+    }
+    Ok(format!(in alloc; "{count} alike")?)
+}
+
+// What an octet is changed by: each bit, and all.
+const CHANGES: [u8; 9] = [1, 2, 4, 8, 16, 32, 64, 128, 255];
+
+/// The octets, of which one is another.
+fn changed(alloc: Global, message: &[u8], place: usize, by: u8) -> Result<Octets, Bad>
+    requires { place < length message.now }
+    ensures { IfOk result (λ o. length o ≡ length message.now) }
+{
+    let mut all = Octets::new(alloc);
+    all.append(&message[..place])?;
+    all.append([message[place] ^ by].as_slice())?;
+    all.append(&message[place + 1..])?;
+    Ok(all)
+}
+
+/// What a case's octets are received as; with `step`, how it is with cuts and changes of them.
+pub fn received_case(alloc: Global, row: &Json) -> Result<String, Bad> {
+    let at = place_of(row)?;
+    let table = table_of(alloc, row)?;
+    let id = id_of(row, &table)?;
+    let message = octets(alloc, member(row, "octets")?)?;
+    let message = message.as_slice();
+    if at % 4 != 0 || at > message.len() || message.len() > LONGEST_MESSAGE {
+        return Err(Bad::Row("no place in the message"));
+    }
+    let low = lowered(alloc, &table, id)?;
+    let flat = inlined(alloc, &table, id)?;
+    match row.get("step") {
+        Some(step) => {
+            let step = word(step)?;
+            if step == 0 {
+                return Err(Bad::Row("no step"));
+            }
+            varied(alloc, (&low, &flat), &table, id, step as usize, message)
+        }
+        None => Ok(alike(alloc, (&low, &flat), &table, id, at, message)?.1),
+    }
+}

@@ -1,0 +1,183 @@
+-- The codes of a whole table that receive.
+use Rattle.std.proofs.Common.{◌≡◌, ℕ, zero, suc, ◌+◌, ◌<◌, ◌≤◌, List, [], ◌∷◌, ◌++◌, length, map, Option, Some, None, option_map, slice_get, refl, sym, ap, subst, ◌∙◌, arith}
+use Rattle.std.proofs.Math.ListN.{take}
+use Rattle.std.proofs.lemmas.List.{length-map, map-append, take_all}
+use Rattle.mint.specs.declared.node.Node.{Node}
+use Rattle.mint.specs.Blank.{depth}
+use Rattle.mint.specs.Sound.{IsSound}
+use Rattle.mint.specs.Types.{Array, Ty, group_type, items_type, choice_type, maybe_type, type_at, unfolded, level, HasChildrenBelow, IsTable}
+use Rattle.mint.proofs.Unfolding.{type_at-level}
+use Rattle.mint.proofs.Measuring.{sound_taken}
+use Rattle.wire_def.specs.declared.encoding.Encoding.{Encoding}
+use Rattle.wire_def.specs.declared.encoding.Encoding.TheVariants.{Xdr}
+use Rattle.wire_def.specs.Grammar.{AreOctets}
+use Rattle.wire_def.specs.Reading.{read}
+use Rattle.cast_stub.specs.declared.recv.RecvOp.{RecvOp}
+use Rattle.cast_stub.specs.RecvBlock.{Recv, code_seen}
+use Rattle.cast_stub.specs.Draft.{Draft, fresh}
+use Rattle.cast_stub.specs.Fill.{fill, settled}
+use Rattle.cast_stub.specs.Runs.{Place, Run, gives, refuses, strays, then_run, if_some}
+use Rattle.cast_stub.specs.Subs.{deepest}
+use Rattle.cast_stub.specs.Got.{called, sub_at, IsExact}
+use Rattle.cast_stub.specs.Traces.{Loops, TracesBy, IsLoop, IsTurned, AllTrace, AllTurned}
+use Rattle.wire_def.specs.Places.{IsPlace}
+use Rattle.cast_stub.specs.Layouts.{layout_of}
+use Rattle.stub_lower.specs.RecvCodes.{array_code, node_code}
+use Rattle.stub_lower.specs.RecvLowered.{CodesReceive, CallsReceive}
+use Rattle.stub_lower.proofs.Whole.{AreKnown, take_at, known_more, get-map, in_list, found}
+use Rattle.stub_lower.proofs.Agreeing.{Agrees, Settles, agrees-settled}
+use Rattle.stub_lower.proofs.RecvEncoded.{xdr_scalar}
+use Rattle.stub_lower.proofs.RecvArrays.{xdr_array}
+use Rattle.stub_lower.proofs.Receiving.{node-reads}
+use Rattle.stub_lower.proofs.Exact.{exact}
+use Rattle.stub_lower.proofs.Tracing.{array_turned, array_loops, node-traces}
+
+-- ---- node by node
+
+-- the codes of the first nodes
+pub record AreLowered (e : Encoding) (nodes : List Node) (n : ℕ) (subs : List (List RecvOp)) : Type 0 where
+  pub codes : map code_seen subs ≡ map (node_code e) (take n nodes)
+  pub known : AreKnown nodes n
+
+pub none_lowered : (e : Encoding) (nodes : List Node) → AreLowered e nodes 0 []
+none_lowered e nodes = record { codes = refl; known = λ j m lt is. absurd (omega (arith, lt)) }
+
+pub one_more : (e : Encoding) (nodes : List Node) (k : ℕ) (m : Node) (subs new : List (List RecvOp)) (code : List RecvOp) → Some m ≡ slice_get nodes k → HasChildrenBelow k m → IsSound (type_at nodes k)
+    → AreLowered e nodes k subs → code_seen code ≡ node_code e m → new ≡ subs ++ code ∷ [] → AreLowered e nodes (k + 1) new
+one_more e nodes k m subs new code found below sound so_far made is = record {
+  codes = ap (map code_seen) is ∙ map-append code_seen subs (code ∷ []) ∙ ap (λ (l : List Recv). l ++ code_seen code ∷ []) so_far.codes ∙ ap (λ (c : Recv). map (node_code e) (take k nodes) ++ c ∷ []) made
+      ∙ sym (ap (map (node_code e)) (take_at nodes k m (sym found)) ∙ map-append (node_code e) (take k nodes) (m ∷ []));
+  known = known_more nodes k m (sym found) below sound so_far.known;
+}
+
+-- ---- the whole table
+
+-- a node and its code
+record Stands (e : Encoding) (nodes : List Node) (k : ℕ) (code : Recv) : Type 0 where
+  node : Node
+  is : slice_get nodes k ≡ Some node
+  made : code ≡ node_code e node
+
+stands : (e : Encoding) (nodes : List Node) (k : ℕ) (o : Option Node) (code : Recv) → slice_get nodes k ≡ o → Some code ≡ option_map (node_code e) o → Stands e nodes k code
+stands e nodes k None code is same = absurd cc
+stands e nodes k (Some m) code is same = record { node = m; is = is; made = cc }
+
+module _ (e : Encoding) (nodes : List Node) (subs : List (List RecvOp)) (whole : AreLowered e nodes (length nodes) subs) where
+  all_codes : map code_seen subs ≡ map (node_code e) nodes
+  all_codes = whole.codes ∙ ap (map (node_code e)) (take_all (length nodes) nodes (omega arith))
+
+  pub many : length subs ≡ length nodes
+  many = sym (length-map subs code_seen) ∙ ap length all_codes ∙ length-map nodes (node_code e)
+
+  below : IsTable nodes
+  below k m is = (whole.known k m (in_list nodes k m is) is).0
+
+  sound : (k : ℕ) (m : Node) → slice_get nodes k ≡ Some m → IsSound (type_at nodes k)
+  sound k m is = (whole.known k m (in_list nodes k m is) is).1
+
+  sub_is : (k : ℕ) (m : Node) → slice_get nodes k ≡ Some m → sub_at subs k ≡ Some (node_code e m)
+  sub_is k m is = get-map code_seen subs k ∙ ap (λ (l : List Recv). slice_get l k) all_codes ∙ sym (get-map (node_code e) nodes k) ∙ ap (option_map (node_code e)) is
+
+  code_at : (k : ℕ) (b : Recv) → sub_at subs k ≡ Some b → Stands e nodes k b
+  code_at k b is = stands e nodes k (slice_get nodes k) b refl (sym is ∙ get-map code_seen subs k ∙ ap (λ (l : List Recv). slice_get l k) all_codes ∙ sym (get-map (node_code e) nodes k))
+
+  code_of : (k : ℕ) (ops : List RecvOp) → slice_get subs k ≡ Some ops → Stands e nodes k (code_seen ops)
+  code_of k ops is = code_at k (code_seen ops) (ap (option_map code_seen) is)
+
+-- ---- over XDR
+
+module _ (nodes : List Node) (subs : List (List RecvOp)) (whole : AreLowered Xdr nodes (length nodes) subs) where
+  module _ (L : Loops) (array : (a : Array) → L a [] (array_code Xdr a)) where
+    traces : (n k : ℕ) (m : Node) → k < n → slice_get nodes k ≡ Some m → TracesBy L (sub_at subs) (type_at nodes k) k [] (node_code Xdr m)
+    traces zero k m lt is = absurd (omega (arith, lt))
+    traces (suc n) k m lt is =
+        subst (λ (t : Ty). TracesBy L (sub_at subs) t k [] (node_code Xdr m)) (sym (type_at-level nodes k m (below Xdr nodes subs whole) is))
+        (node-traces L array (sub_at subs) (unfolded nodes) k
+        (λ (i : ℕ) i_lt. let f = found nodes i (omega (arith, i_lt, in_list nodes k m is)) in (node_code Xdr f.node, sub_is Xdr nodes subs whole i f.node f.is, traces n i f.node (omega (arith, i_lt, lt)) f.is))
+        m (below Xdr nodes subs whole k m is))
+
+    pub codes_trace : (k : ℕ) (b : Recv) → sub_at subs k ≡ Some b → TracesBy L (sub_at subs) (type_at nodes k) k [] b
+    codes_trace k b is =
+        let s = code_at Xdr nodes subs whole k b is in
+        subst (TracesBy L (sub_at subs) (type_at nodes k) k []) (sym s.made) (traces (suc k) k s.node (omega arith) s.is)
+
+  -- a node's code, where calls may stand so deep within one another
+  node_read : (n k : ℕ) (m : Node) (s : Place) → slice_get nodes k ≡ Some m → depth (type_at nodes k) ≤ suc n → IsPlace Xdr s.pos → AreOctets s.left
+      → ((i : ℕ) (t : Place) → i < length nodes → depth (type_at nodes i) ≤ n → IsPlace Xdr t.pos → AreOctets t.left → Agrees (IsPlace Xdr) Settles (called (sub_at subs) n i (fresh (type_at nodes i)) t) (read Xdr (type_at nodes i) t.pos t.left))
+      → Agrees (IsPlace Xdr) Settles (fill (called (sub_at subs) n) (node_code Xdr m) (fresh (type_at nodes k)) s) (read Xdr (type_at nodes k) s.pos s.left)
+  node_read n k m s is low here oct part =
+      let same : type_at nodes k ≡ level (unfolded nodes) m = type_at-level nodes k m (below Xdr nodes subs whole) is in
+      subst (λ (t : Ty). Agrees (IsPlace Xdr) Settles (fill (called (sub_at subs) n) (node_code Xdr m) (fresh t) s) (read Xdr t s.pos s.left)) (sym same)
+      (node-reads Xdr xdr_scalar tt xdr_array (unfolded nodes) (called (sub_at subs) n) n k
+      (λ (i : ℕ) (t : Place) lt d p o. part i t (omega (arith, lt, in_list nodes k m is)) d p o)
+      m s (below Xdr nodes subs whole k m is) (subst (λ (t : Ty). depth t ≤ suc n) same low) here oct)
+
+  depth_some : (t : Ty) → 1 ≤ depth t
+  depth_some (group_type ts) = omega arith
+  depth_some (items_type c t) = omega arith
+  depth_some (choice_type s arms) = omega arith
+  depth_some (maybe_type t) = omega arith
+  depth_some _ = omega arith
+
+  call_read : (n k : ℕ) (s : Place) → k < length nodes → depth (type_at nodes k) ≤ n → IsPlace Xdr s.pos → AreOctets s.left
+      → Agrees (IsPlace Xdr) Settles (called (sub_at subs) n k (fresh (type_at nodes k)) s) (read Xdr (type_at nodes k) s.pos s.left)
+  call_read zero k s lt low here oct = absurd (omega (arith, low, depth_some (type_at nodes k)))
+  call_read (suc n) k s lt low here oct =
+      let f = found nodes k lt in
+      subst (λ (o : Option Recv). Agrees (IsPlace Xdr) Settles (if_some o (λ b. fill (called (sub_at subs) n) b (fresh (type_at nodes k)) s)) (read Xdr (type_at nodes k) s.pos s.left)) (sym (sub_is Xdr nodes subs whole k f.node f.is))
+      (node_read n k f.node s f.is low here oct (λ (i : ℕ) (t : Place) l d p o. call_read n i t l d p o))
+
+  enough : 32 ≤ suc deepest
+  unfolding deepest
+  enough = omega arith
+
+  pub codes_receive : CodesReceive Xdr nodes subs
+  codes_receive k ops is z place oct short =
+      let s = code_of Xdr nodes subs whole k ops is in
+      let here = sound Xdr nodes subs whole k s.node s.is in
+      let shallow : depth (type_at nodes k) ≤ suc deepest = omega (arith, enough, (sound_taken (type_at nodes k) here).shallow) in
+      subst (λ (b : Recv). IsExact Xdr (type_at nodes k) z.pos z.left (settled (fill (called (sub_at subs) deepest) b (fresh (type_at nodes k)) z))) (sym s.made)
+      (exact Xdr (type_at nodes k) here z.pos z.left oct short (IsPlace Xdr) (settled (fill (called (sub_at subs) deepest) (node_code Xdr s.node) (fresh (type_at nodes k)) z)) (read Xdr (type_at nodes k) z.pos z.left) refl
+      (agrees-settled (IsPlace Xdr) (fill (called (sub_at subs) deepest) (node_code Xdr s.node) (fresh (type_at nodes k)) z) (read Xdr (type_at nodes k) z.pos z.left)
+      (node_read deepest k s.node z s.is shallow place oct (λ (i : ℕ) (t : Place) l d q y. call_read deepest i t l d q y))))
+
+  alone : (x : Run Draft) → then_run x (λ d t. gives d t) ≡ x
+  alone (gives d t) = refl
+  alone refuses = refl
+  alone strays = refl
+
+  few : 32 ≤ deepest
+  unfolding deepest
+  few = omega arith
+
+  pub calls_receive : CallsReceive Xdr nodes subs
+  calls_receive k ops lt is z place oct short =
+      let f = found nodes k lt in
+      let here = sound Xdr nodes subs whole k f.node f.is in
+      let shallow : depth (type_at nodes k) ≤ deepest = omega (arith, few, (sound_taken (type_at nodes k) here).shallow) in
+      let run = called (sub_at subs) deepest k (fresh (type_at nodes k)) z in
+      subst (λ (b : Recv). IsExact Xdr (type_at nodes k) z.pos z.left (settled (fill (called (sub_at subs) deepest) b (fresh (type_at nodes k)) z))) (sym is)
+      (subst (λ (x : Run Draft). IsExact Xdr (type_at nodes k) z.pos z.left (settled x)) (sym (alone run))
+      (exact Xdr (type_at nodes k) here z.pos z.left oct short (IsPlace Xdr) (settled run) (read Xdr (type_at nodes k) z.pos z.left) refl
+      (agrees-settled (IsPlace Xdr) run (read Xdr (type_at nodes k) z.pos z.left) (call_read deepest k z lt shallow place oct))))
+
+-- ---- at the end of the table
+
+pub ended : (e : Encoding) (nodes : List Node) (id count : ℕ) (subs : List (List RecvOp)) → count ≡ length nodes → count ≤ id → id ≤ count → AreLowered e nodes id subs → AreLowered e nodes (length nodes) subs
+ended e nodes id count subs all past within whole =
+    let same : id ≡ length nodes = omega (arith, all, past, within) in
+    subst (λ (n : ℕ). AreLowered e nodes n subs) same whole
+
+pub all_receive : (e : Encoding) (nodes : List Node) (subs : List (List RecvOp)) → e ≡ Xdr → AreLowered e nodes (length nodes) subs → CodesReceive e nodes subs
+all_receive e nodes subs xdr whole = subst (λ (f : Encoding). CodesReceive f nodes subs) (sym xdr) (codes_receive nodes subs (subst (λ (f : Encoding). AreLowered f nodes (length nodes) subs) xdr whole))
+
+pub all_trace : (e : Encoding) (nodes : List Node) (subs : List (List RecvOp)) → e ≡ Xdr → AreLowered e nodes (length nodes) subs → AllTrace nodes subs
+all_trace e nodes subs xdr whole = codes_trace nodes subs (subst (λ (f : Encoding). AreLowered f nodes (length nodes) subs) xdr whole) (λ a. IsLoop) array_loops
+
+pub all_turned : (e : Encoding) (nodes : List Node) (subs : List (List RecvOp)) → e ≡ Xdr → AreLowered e nodes (length nodes) subs → AllTurned (layout_of e) nodes subs
+all_turned e nodes subs xdr whole =
+    subst (λ (f : Encoding). AllTurned (layout_of f) nodes subs) (sym xdr)
+    (codes_trace nodes subs (subst (λ (f : Encoding). AreLowered f nodes (length nodes) subs) xdr whole) (IsTurned (layout_of Xdr)) array_turned)
+
+pub all_calls_receive : (e : Encoding) (nodes : List Node) (subs : List (List RecvOp)) → e ≡ Xdr → AreLowered e nodes (length nodes) subs → CallsReceive e nodes subs
+all_calls_receive e nodes subs xdr whole = subst (λ (f : Encoding). CallsReceive f nodes subs) (sym xdr) (calls_receive nodes subs (subst (λ (f : Encoding). AreLowered f nodes (length nodes) subs) xdr whole))

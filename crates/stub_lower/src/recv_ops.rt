@@ -1,0 +1,36 @@
+// Code that is made operation by operation.
+ghost use Rattle.std.specs.Prelude.{◌≡◌, [], ◌∷◌, OnOk, IfOk};
+ghost use Rattle.cast_stub.specs.RecvAppend.{append};
+ghost use Rattle.cast_stub.specs.RecvBlock.{finish, code_seen, op_seen, need, pass};
+ghost use Rattle.stub_lower.specs.RecvCodes.{call_here};
+
+use cast_stub::recv_copying::add;
+use cast_stub::{Get, Gets, Path, RecvOp, RecvOps};
+use kit_base::NoMemory;
+use std::alloc::Global;
+
+/// Puts a test and a take after the last operation, with one get.
+#[tactic(auto, using(crate::proofs::RecvBuilding::building))]
+pub(crate) fn add_take(
+    alloc: Global,
+    width: u32,
+    get: Get,
+    out: &mut RecvOps,
+) -> Result<(), NoMemory>
+    ensures { OnOk result (code_seen out.new ≡ append (code_seen out.old) (need width (pass width (get ∷ []) finish))) }
+{
+    let mut gets = Gets::new(alloc);
+    gets.push(get)?;
+    add(out, RecvOp::Need(width))?;
+    add(out, RecvOp::Take(width, gets))
+}
+
+/// A call of a node's code on the current value.
+#[tactic(auto, using(crate::proofs::RecvBuilding::building))]
+pub(crate) fn call_of(alloc: Global, id: u32) -> Result<RecvOps, NoMemory>
+    ensures { IfOk result (λ code. code_seen code ≡ call_here id) }
+{
+    let mut code = RecvOps::new(alloc);
+    add(&mut code, RecvOp::Call(id, Path::new(alloc)))?;
+    Ok(code)
+}
