@@ -1,19 +1,21 @@
 -- A text has tokens or a first fault.
-use Rattle.std.proofs.Common.{◌≡◌, ◌⊎◌, inl, inr, ℕ, zero, suc, ◌+◌, ◌-◌, ◌^◌, ◌<◌, ◌≤◌, min, List, [], ◌∷◌, ◌++◌, length, take, drop, Ok, Err, Bool, true, false, refl, sym, subst, ◌∙◌, ap, arith}
+use Rattle.std.proofs.Common.{◌≡◌, ◌⊎◌, inl, inr, ℕ, zero, suc, ◌+◌, ◌-◌, ◌^◌, ◌<◌, ◌≤◌, min, List, [], ◌∷◌, ◌++◌, length, take, drop, Option, Some, None, Ok, Err, Bool, ◌&&◌, true, false, refl, sym, subst, ◌∙◌, ap, arith}
 use Rattle.std.specs.List.{take_while, prefix_len}
-use Rattle.std.proofs.lemmas.Bool.{false≢true, cases_lt}
+use Rattle.std.proofs.lemmas.Bool.{cond_both, false≢true, cases_lt}
 use Rattle.std.proofs.lemmas.List.{drop_all, length-take, length-append}
 use Rattle.std.proofs.Math.Seq.{take-length}
+use Rattle.std.proofs.lemmas.Option.{none-some}
 use Rattle.idl_lex.specs.Classes.{is_blank, is_in_line, is_letter, is_word_octet, begins}
 use Rattle.idl_lex.specs.Numbers.{is_number}
 use Rattle.idl_lex.specs.Lines.{line_feeds}
-use Rattle.idl_lex.specs.Pieces.{Piece, blanks, comment, skipped_line, name, number, mark, octets_of, kind_of, opens_comment, mark_count, IsPieceOf, AllStand}
+use Rattle.idl_lex.specs.Quotes.{is_backslash, is_single, is_plain, escape_of, of_length, escaped_at, plain_at, character_at}
+use Rattle.idl_lex.specs.Pieces.{Piece, blanks, comment, skipped_line, name, number, character, string, mark, octets_of, kind_of, opens_comment, mark_count, IsPieceOf, AllStand}
 use Rattle.idl_lex.specs.Lexed.{token_on, AreTokens, IsFirstFault, TextsAreDecided}
 use Rattle.idl_lex.specs.Reads.{Read, shown, piece_at}
 use Rattle.idl_lex.specs.declared.kinds.Front.{Front}
 use Rattle.idl_lex.specs.declared.kinds.Token.{Token}
 use Rattle.idl_lex.specs.declared.lexing.LexErr.{LexErr}
-use Rattle.idl_lex.proofs.Firsts.{is_other, skipped_is_other, other_blank}
+use Rattle.idl_lex.proofs.Firsts.{is_other, skipped_is_other, quote_is_other, other_blank}
 use Rattle.idl_lex.proofs.Standing.{piece_is_read, IsRead}
 use Rattle.idl_lex.proofs.Reading.{So, go_on_at, first_fault}
 
@@ -53,12 +55,43 @@ number_some : (os : List ℕ) → is_number os ≡ true → 0 < length os
 number_some [] h = absurd (false≢true h)
 number_some (o ∷ os) h = omega arith
 
+other_some : (text : List ℕ) → begins is_other text ≡ true → 0 < length text
+other_some text h = begins_some is_other text h
+
+same_some : (x y : ℕ × ℕ) → Some x ≡ Some y → x ≡ y
+same_some x y e = cc
+
+length_some : (m n : ℕ) (c : ℕ) (o : Option ℕ) → of_length m o ≡ Some (c, n) → n ≡ m
+length_some m n c None h = absurd (none-some _ h)
+length_some m n c (Some d) h = sym (ap (λ x. x.1) (same_some (d, m) (c, n) h))
+
+escaped_some : (c n : ℕ) (os : List ℕ) → escaped_at os ≡ Some (c, n) → 0 < n
+escaped_some c n [] h = absurd (none-some _ h)
+escaped_some c n (o ∷ os) h =
+    cond_both (begins is_single os) (of_length 4 (escape_of o)) None (λ z. z ≡ Some (c, n) → 0 < n)
+    (λ yes e. omega (arith, length_some 4 n c (escape_of o) e)) (λ not e. absurd (none-some _ e)) h
+
+plain_some : (c n o : ℕ) (os : List ℕ) → plain_at o os ≡ Some (c, n) → 0 < n
+plain_some c n o os h =
+    cond_both (is_plain o && begins is_single os) (Some (o, 3)) None (λ z. z ≡ Some (c, n) → 0 < n)
+    (λ yes e. omega (arith, ap (λ x. x.1) (same_some (o, 3) (c, n) e))) (λ not e. absurd (none-some _ e)) h
+
+character_some : (c n : ℕ) (text : List ℕ) → character_at text ≡ Some (c, n) → 0 < n
+character_some c n [] h = absurd (none-some _ h)
+character_some c n (q ∷ []) h = absurd (none-some _ h)
+character_some c n (q ∷ o ∷ os) h =
+    cond_both (is_backslash o) (escaped_at os) (plain_at o os) (λ z. z ≡ Some (c, n) → 0 < n)
+    (λ yes e. escaped_some c n os e) (λ not e. plain_some c n o os e) h
+
 piece_has_octets : (front : Front) (before text : List ℕ) (p : Piece) → IsPieceOf front before p text → 0 < length (octets_of p)
 piece_has_octets front before text (blanks os) h = rw h.1 (run_has is_blank text h.0)
 piece_has_octets front before text (comment os) h = rw h.1.2 (omega (arith, length-take (2 + h.1.0) text, comment_some text h.0))
 piece_has_octets front before text (skipped_line os) h = rw h.1 (run_has is_in_line text (begins_in_line text (skipped_is_other front before text h.0)))
 piece_has_octets front before text (name os) h = rw h.1 (run_has is_word_octet text (begins_word text h.0))
 piece_has_octets front before text (number os) h = number_some os h.2
+piece_has_octets front before text (character code os) h =
+    rw h.2.2 (omega (arith, length-take h.2.0 text, other_some text (quote_is_other front text h.0), character_some code h.2.0 text h.2.1))
+piece_has_octets front before text (string codes os) h = rw h.2.3 (omega (arith, length-take (1 + h.2.0) text, other_some text (quote_is_other front text h.0)))
 piece_has_octets front before text (mark os) h = rw h.1 (omega (arith, length-take (mark_count text) text, mark_some text h.0, h.0))
 
 -- ---- a text from its front to its end

@@ -1,9 +1,10 @@
 -- The first octet of a text tells which sort of piece comes first.
 use Rattle.std.proofs.Common.{◌≡◌, ℕ, ◌<◌, List, [], ◌∷◌, Bool, true, false, not, ◌||◌, nat_eq, refl, sym, subst, ◌∙◌, inl, inr, codes, arith}
-use Rattle.std.specs.List.{list_any, list_all}
+use Rattle.std.specs.List.{list_any, list_all, starts_with}
 use Rattle.std.proofs.lemmas.Bool.{and_parts, or_cases, or_parts, not-true, eqb-true, false_from_ne_true, false≢true}
 use Rattle.idl_lex.specs.Classes.{is_blank, is_letter, is_digit, begins}
 use Rattle.idl_lex.specs.Lines.{is_hash_line, is_skipped_by, is_skipped}
+use Rattle.idl_lex.specs.Quotes.{is_quote, opens_quote}
 use Rattle.idl_lex.specs.Pieces.{opens_comment, is_mark_octet, begins_twin, mark_count}
 use Rattle.idl_lex.specs.declared.kinds.Front.{Front}
 use Rattle.idl_lex.specs.declared.kinds.Front.TheVariants.{Onc, Corba, Mig}
@@ -64,7 +65,8 @@ comment_is_other (o ∷ os) h = other_at 47 o refl (sym (eqb-true 47 o (and_part
 skipped_by_is_other : (front : Front) (before text : List ℕ) → is_skipped_by front before text ≡ true → begins is_other text ≡ true
 skipped_by_is_other Onc before [] h = absurd (false≢true h)
 skipped_by_is_other Onc before (o ∷ os) h = other_at 37 o refl (eqb-true o 37 (and_parts _ _ h).0)
-skipped_by_is_other Corba before text h = absurd (false≢true h)
+skipped_by_is_other Corba before [] h = absurd (false≢true h)
+skipped_by_is_other Corba before (o ∷ os) h = other_at 47 o refl (sym (eqb-true 47 o (and_parts _ _ h).0))
 skipped_by_is_other Mig before text h = absurd (false≢true h)
 
 hash_is_other : (before text : List ℕ) → is_hash_line before text ≡ true → begins is_other text ≡ true
@@ -113,12 +115,66 @@ hash_opens_none : (before text : List ℕ) → is_hash_line before text ≡ true
 hash_opens_none before [] h = absurd (false≢true h)
 hash_opens_none before (o ∷ os) h = let e = eqb-true o 35 (and_parts _ _ h).0 in rw e refl
 
+slashes_open_none : (text : List ℕ) → starts_with nat_eq text (codes "//") ≡ true → opens_comment text ≡ false
+slashes_open_none [] h = absurd (false≢true h)
+slashes_open_none (o ∷ []) h = absurd (false≢true (and_parts _ _ h).1)
+slashes_open_none (o ∷ p ∷ os) h =
+    let e = eqb-true 47 o (and_parts _ _ h).0 in
+    let f = eqb-true 47 p (and_parts _ _ (and_parts _ _ h).1).0 in
+    rw (sym e, sym f) refl
+
 skipped_by_opens_none : (front : Front) (before text : List ℕ) → is_skipped_by front before text ≡ true → opens_comment text ≡ false
 skipped_by_opens_none Onc before [] h = absurd (false≢true h)
 skipped_by_opens_none Onc before (o ∷ os) h = let e = eqb-true o 37 (and_parts _ _ h).0 in rw e refl
-skipped_by_opens_none Corba before text h = absurd (false≢true h)
+skipped_by_opens_none Corba before text h = slashes_open_none text h
 skipped_by_opens_none Mig before text h = absurd (false≢true h)
 
 pub skipped_opens_none : (front : Front) (before text : List ℕ) → is_skipped front before text ≡ true → opens_comment text ≡ false
 skipped_opens_none front before text h =
     elim (or_cases _ _ h) [ inl a ↦ hash_opens_none before text (and_parts _ _ a).0 | inr b ↦ skipped_by_opens_none front before text b ]
+
+-- ---- what begins with a quote
+
+quote_other : (o : ℕ) → is_quote o ≡ true → is_other o ≡ true
+quote_other o h = elim (or_cases _ _ h) [ inl a ↦ other_at 39 o refl (eqb-true o 39 a) | inr b ↦ other_at 34 o refl (eqb-true o 34 b) ]
+
+pub quote_is_other : (front : Front) (text : List ℕ) → opens_quote front text ≡ true → begins is_other text ≡ true
+quote_is_other Corba [] h = absurd (false≢true h)
+quote_is_other Corba (o ∷ os) h = quote_other o h
+quote_is_other Onc text h = absurd (false≢true h)
+quote_is_other Mig text h = absurd (false≢true h)
+
+-- a text that begins with a quote has no other sort of piece
+quote_is : (P : ℕ → Bool) → P 39 ≡ false → P 34 ≡ false → (o : ℕ) → is_quote o ≡ true → P o ≡ false
+quote_is P s d o h = elim (or_cases _ _ h) [ inl a ↦ subst (λ z. P z ≡ false) (sym (eqb-true o 39 a)) s | inr b ↦ subst (λ z. P z ≡ false) (sym (eqb-true o 34 b)) d ]
+
+pub quote_opens_none : (front : Front) (text : List ℕ) → opens_quote front text ≡ true → opens_comment text ≡ false
+quote_opens_none Corba [] h = absurd (false≢true h)
+quote_opens_none Corba (o ∷ os) h = quote_is (λ z. opens_comment (z ∷ os)) refl refl o h
+quote_opens_none Onc text h = absurd (false≢true h)
+quote_opens_none Mig text h = absurd (false≢true h)
+
+pub quote_no_hash : (front : Front) (before text : List ℕ) → opens_quote front text ≡ true → is_hash_line before text ≡ false
+quote_no_hash Corba before [] h = absurd (false≢true h)
+quote_no_hash Corba before (o ∷ os) h = quote_is (λ z. is_hash_line before (z ∷ os)) refl refl o h
+quote_no_hash Onc before text h = absurd (false≢true h)
+quote_no_hash Mig before text h = absurd (false≢true h)
+
+pub quote_skips_none : (front : Front) (before text : List ℕ) → opens_quote front text ≡ true → is_skipped front before text ≡ false
+quote_skips_none Corba before [] h = absurd (false≢true h)
+quote_skips_none Corba before (o ∷ os) h = quote_is (λ z. is_skipped Corba before (z ∷ os)) refl refl o h
+quote_skips_none Onc before text h = absurd (false≢true h)
+quote_skips_none Mig before text h = absurd (false≢true h)
+
+no_mark : (o : ℕ) (os : List ℕ) → is_quote o ≡ true → mark_count (o ∷ os) ≡ 0
+no_mark o os h = elim (or_cases _ _ h) [ inl a ↦ (let e = eqb-true o 39 a in rw e refl) | inr b ↦ (let e = eqb-true o 34 b in rw e refl) ]
+
+mark_or_quote : (o : ℕ) (os : List ℕ) (b : Bool) → is_quote o ≡ b → 0 < mark_count (o ∷ os) → b ≡ false
+mark_or_quote o os true e more = absurd (omega (arith, more, no_mark o os e))
+mark_or_quote o os false e more = refl
+
+pub mark_no_quote : (front : Front) (text : List ℕ) → 0 < mark_count text → opens_quote front text ≡ false
+mark_no_quote Corba [] more = refl
+mark_no_quote Corba (o ∷ os) more = mark_or_quote o os (is_quote o) refl more
+mark_no_quote Onc text more = refl
+mark_no_quote Mig text more = refl

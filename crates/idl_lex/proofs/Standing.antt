@@ -6,14 +6,15 @@ use Rattle.std.proofs.lemmas.List.{append-nil, append_cancel_left}
 use Rattle.idl_lex.specs.Classes.{is_blank, is_in_line, is_letter, is_digit, is_word_octet, begins}
 use Rattle.idl_lex.specs.Numbers.{digit_count, is_number, value_of}
 use Rattle.idl_lex.specs.Lines.{is_hash_line, is_skipped}
-use Rattle.idl_lex.specs.Pieces.{Piece, blanks, comment, skipped_line, name, number, mark, octets_of, all_octets, opens_comment, count_to_close, mark_count, IsPieceOf, Stands, AllStand}
+use Rattle.idl_lex.specs.Quotes.{is_single, opens_quote, character_at, string_count}
+use Rattle.idl_lex.specs.Pieces.{Piece, blanks, comment, skipped_line, name, number, character, string, mark, octets_of, all_octets, opens_comment, count_to_close, mark_count, IsPieceOf, Stands, AllStand}
 use Rattle.idl_lex.specs.Lexed.{fault_at, ArePieces, IsFirstFault}
-use Rattle.idl_lex.specs.Reads.{Read, comment_of, number_of, mark_of, piece_at}
+use Rattle.idl_lex.specs.Reads.{Read, comment_of, number_of, character_of, string_of, quoted_of, mark_of, piece_at}
 use Rattle.idl_lex.specs.declared.kinds.Front.{Front}
 use Rattle.idl_lex.specs.declared.kinds.Front.TheVariants.{Onc, Corba, Mig}
 use Rattle.idl_lex.specs.declared.lexing.LexErr.{LexErr}
 use Rattle.idl_lex.specs.declared.lexing.LexErr.TheVariants.{BadOctet, Wide, Directive}
-use Rattle.idl_lex.proofs.Firsts.{begins_no_blank, begins_digit_no_blank, begins_digit_no_letter, other_blank, other_letter, other_digit, comment_is_other, skipped_is_other, mark_is_other, letter_opens_none, digit_opens_none, digit_no_hash, skipped_opens_none}
+use Rattle.idl_lex.proofs.Firsts.{begins_no_blank, begins_digit_no_blank, begins_digit_no_letter, other_blank, other_letter, other_digit, comment_is_other, skipped_is_other, mark_is_other, letter_opens_none, digit_opens_none, digit_no_hash, skipped_opens_none, quote_is_other, quote_opens_none, quote_no_hash, quote_skips_none, mark_no_quote}
 
 -- ---- what is read
 
@@ -52,6 +53,22 @@ mark_is_read front before text opens digit skips =
     (λ hash. rw (opens, digit, hash) refl))
     (λ some. (cut n text, (omega (arith, eqb-false n 0 some), refl, opens, skips)))
 
+character_is_read : (front : Front) (before text : List ℕ) (c : Option (ℕ × ℕ)) → opens_quote front text ≡ true → opens_comment text ≡ false → begins is_digit text ≡ false
+    → begins is_single text ≡ true → character_at text ≡ c → IsRead front before text (character_of (length before) text c)
+character_is_read front before text None quote opens digit single is = let hash = quote_no_hash front before text quote in rw (opens, digit, hash) refl
+character_is_read front before text (Some x) quote opens digit single is = (cut x.1 text, (quote, single, (x.1, is, refl)))
+
+string_is_read : (front : Front) (before text : List ℕ) (c : Option ℕ) → opens_quote front text ≡ true → opens_comment text ≡ false → begins is_digit text ≡ false
+    → begins is_single text ≡ false → string_count false (drop 1 text) ≡ c → IsRead front before text (string_of (length before) text c)
+string_is_read front before text None quote opens digit single is = let hash = quote_no_hash front before text quote in rw (opens, digit, hash) refl
+string_is_read front before text (Some n) quote opens digit single is = (cut (1 + n) text, (quote, single, (n, is, refl, refl)))
+
+quoted_is_read : (front : Front) (before text : List ℕ) → opens_quote front text ≡ true → opens_comment text ≡ false → begins is_digit text ≡ false → IsRead front before text (quoted_of (length before) text)
+quoted_is_read front before text quote opens digit =
+    cond_both (begins is_single text) _ _ (IsRead front before text)
+    (λ yes. character_is_read front before text (character_at text) quote opens digit yes refl)
+    (λ single. string_is_read front before text (string_count false (drop 1 text)) quote opens digit single refl)
+
 pub piece_is_read : (front : Front) (before text : List ℕ) → IsRead front before text (piece_at front before text)
 piece_is_read front before text =
     let P : Read → Type 0 = IsRead front before text in
@@ -60,7 +77,8 @@ piece_is_read front before text =
     (λ opens. cond_both (begins is_letter text) _ _ P (λ yes. (cut (prefix_len is_word_octet text) text, (yes, refl)))
     (λ letter. cond_both (begins is_digit text) _ _ P (λ yes. number_is_read front before text yes)
     (λ digit. cond_both (is_skipped front before text) _ _ P (λ yes. (cut (prefix_len is_in_line text) text, (yes, refl)))
-    (λ skips. mark_is_read front before text opens digit skips)))))
+    (λ skips. cond_both (opens_quote front text) _ _ P (λ yes. quoted_is_read front before text yes opens digit)
+    (λ quote. mark_is_read front before text opens digit skips))))))
 
 -- ---- what stands is read
 
@@ -86,13 +104,30 @@ stands_is_read front before text (number os) h =
     let opens = digit_opens_none text h.0 in
     let small = lt-ltb _ _ h.3 in
     rw (blank, opens, letter, h.0, sym h.1, h.2, small) refl
+stands_is_read front before text (character code os) h =
+    let other = quote_is_other front text h.0 in
+    let blank = other_blank text other in
+    let letter = other_letter text other in
+    let digit = other_digit text other in
+    let opens = quote_opens_none front text h.0 in
+    let skips = quote_skips_none front before text h.0 in
+    rw (blank, opens, letter, digit, skips, h.0, h.1, h.2.1, h.2.2) refl
+stands_is_read front before text (string codes os) h =
+    let other = quote_is_other front text h.0 in
+    let blank = other_blank text other in
+    let letter = other_letter text other in
+    let digit = other_digit text other in
+    let opens = quote_opens_none front text h.0 in
+    let skips = quote_skips_none front before text h.0 in
+    rw (blank, opens, letter, digit, skips, h.0, h.1, h.2.1, h.2.2, h.2.3) refl
 stands_is_read front before text (mark os) h =
+    let quote = mark_no_quote front text h.0 in
     let other = mark_is_other text h.0 in
     let blank = other_blank text other in
     let letter = other_letter text other in
     let digit = other_digit text other in
     let some : (mark_count text == 0) ≡ false = ne_eqb _ _ (omega (arith, h.0)) in
-    rw (blank, h.2, letter, digit, h.3, some, sym h.1) refl
+    rw (blank, h.2, letter, digit, h.3, quote, some, sym h.1) refl
 
 -- ---- pieces of a text
 
@@ -104,6 +139,12 @@ nothing_at_end Corba before (skipped_line os) h = false≢true h.0
 nothing_at_end Mig before (skipped_line os) h = false≢true h.0
 nothing_at_end front before (name os) h = false≢true h.0
 nothing_at_end front before (number os) h = false≢true h.0
+nothing_at_end Onc before (character code os) h = false≢true h.0
+nothing_at_end Corba before (character code os) h = false≢true h.0
+nothing_at_end Mig before (character code os) h = false≢true h.0
+nothing_at_end Onc before (string codes os) h = false≢true h.0
+nothing_at_end Corba before (string codes os) h = false≢true h.0
+nothing_at_end Mig before (string codes os) h = false≢true h.0
 nothing_at_end front before (mark os) h = absurd (omega (arith, h.0))
 
 -- no piece stands

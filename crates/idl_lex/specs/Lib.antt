@@ -1,6 +1,7 @@
 pub mod Classes
 pub mod Numbers
 pub mod Lines
+pub mod Quotes
 pub mod Pieces
 pub mod Lexed
 pub mod Reads

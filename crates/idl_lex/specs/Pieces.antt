@@ -1,13 +1,14 @@
 -- The pieces of a text, and when octets are one.
-use Rattle.std.specs.Prelude.{◌≡◌, Bool, true, false, ◌&&◌, ◌==◌, ℕ, suc, ◌+◌, ◌^◌, ◌<◌, pos, List, [], ◌∷◌, ◌++◌, take, drop, Option, Some, None, codes, nat_eq, if◌then◌else◌}
+use Rattle.std.specs.Prelude.{◌≡◌, Bool, true, false, ◌&&◌, ◌==◌, ℕ, suc, ◌+◌, ◌-◌, ◌^◌, ◌<◌, pos, List, [], ◌∷◌, ◌++◌, take, drop, Option, Some, None, codes, nat_eq, if◌then◌else◌}
 use Rattle.std.specs.List.{list_any, take_while, starts_with}
 use Rattle.std.specs.Option.{option_map}
 use Rattle.idl_lex.specs.Classes.{is_blank, is_in_line, is_letter, is_digit, is_word_octet, begins}
 use Rattle.idl_lex.specs.Numbers.{digit_count, is_number, value_of}
 use Rattle.idl_lex.specs.Lines.{is_skipped}
+use Rattle.idl_lex.specs.Quotes.{is_single, opens_quote, character_at, string_count, spelled}
 use Rattle.idl_lex.specs.declared.kinds.Front.{Front}
 use Rattle.idl_lex.specs.declared.kinds.TokenKind.{TokenKind}
-use Rattle.idl_lex.specs.declared.kinds.TokenKind.TheVariants.{Name, Number, Mark}
+use Rattle.idl_lex.specs.declared.kinds.TokenKind.TheVariants.{Name, Number, Char, Text, Mark}
 
 -- a text that begins a comment
 abbrev pub opens_comment : List ℕ → Bool
@@ -42,6 +43,9 @@ pub data Piece : Type 0 where
   skipped_line : List ℕ → Piece
   name : List ℕ → Piece
   number : List ℕ → Piece
+  -- a character by its code, and a string by its characters' codes, each with its octets and quotes
+  character : ℕ → List ℕ → Piece
+  string : List ℕ → List ℕ → Piece
   mark : List ℕ → Piece
 
 -- the octets of a piece
@@ -51,6 +55,8 @@ octets_of (comment os) = os
 octets_of (skipped_line os) = os
 octets_of (name os) = os
 octets_of (number os) = os
+octets_of (character code os) = os
+octets_of (string codes os) = os
 octets_of (mark os) = os
 
 -- the octets of pieces, one after the other
@@ -65,6 +71,8 @@ kind_of (comment os) = None
 kind_of (skipped_line os) = None
 kind_of (name os) = Some (Name os)
 kind_of (number os) = Some (Number (pos (value_of os)))
+kind_of (character code os) = Some (Char code)
+kind_of (string codes os) = Some (Text codes)
 kind_of (mark os) = Some (Mark os)
 
 -- octets are a piece at a place: `before` is what stands before it, `text` is the octets and all that stands behind them, and of its sort the piece is the longest that comes first there
@@ -74,6 +82,10 @@ IsPieceOf front before (comment os) text = (opens_comment text ≡ true) × ((n 
 IsPieceOf front before (skipped_line os) text = (is_skipped front before text ≡ true) × (os ≡ take_while is_in_line text)
 IsPieceOf front before (name os) text = (begins is_letter text ≡ true) × (os ≡ take_while is_word_octet text)
 IsPieceOf front before (number os) text = (begins is_digit text ≡ true) × (os ≡ take (digit_count text) text) × (is_number os ≡ true) × (value_of os < 2 ^ 127)
+IsPieceOf front before (character code os) text = (opens_quote front text ≡ true) × (begins is_single text ≡ true) × ((n : ℕ) × (character_at text ≡ Some (code, n)) × (os ≡ take n text))
+IsPieceOf front before (string codes os) text =
+    (opens_quote front text ≡ true) × (begins is_single text ≡ false)
+    × ((n : ℕ) × (string_count false (drop 1 text) ≡ Some n) × (codes ≡ spelled false (take (n - 1) (drop 1 text))) × (os ≡ take (1 + n) text))
 IsPieceOf front before (mark os) text = (0 < mark_count text) × (os ≡ take (mark_count text) text) × (opens_comment text ≡ false) × (is_skipped front before text ≡ false)
 
 -- a piece that stands behind pieces and before octets

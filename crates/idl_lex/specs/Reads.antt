@@ -1,10 +1,11 @@
 -- What each function of the lexer reads.
-use Rattle.std.specs.Prelude.{◌≡◌, ◌==◌, nat_lt, ℕ, ◌+◌, ◌^◌, List, length, take, drop, Option, Some, None, Result, Ok, Err, if◌then◌else◌}
+use Rattle.std.specs.Prelude.{◌≡◌, ◌==◌, false, nat_lt, ℕ, ◌+◌, ◌-◌, ◌^◌, List, length, take, drop, Option, Some, None, Result, Ok, Err, if◌then◌else◌}
 use Rattle.std.specs.List.{prefix_len}
 use Rattle.idl_lex.specs.Classes.{is_blank, is_in_line, is_letter, is_digit, is_word_octet, begins}
 use Rattle.idl_lex.specs.Numbers.{digit_count, is_number, value_of}
 use Rattle.idl_lex.specs.Lines.{is_hash_line, is_skipped}
-use Rattle.idl_lex.specs.Pieces.{Piece, blanks, comment, skipped_line, name, number, mark, octets_of, kind_of, opens_comment, count_to_close, mark_count}
+use Rattle.idl_lex.specs.Quotes.{is_single, opens_quote, character_at, string_count, spelled}
+use Rattle.idl_lex.specs.Pieces.{Piece, blanks, comment, skipped_line, name, number, character, string, mark, octets_of, kind_of, opens_comment, count_to_close, mark_count}
 use Rattle.idl_lex.specs.declared.kinds.Front.{Front}
 use Rattle.idl_lex.specs.declared.kinds.TokenKind.{TokenKind}
 use Rattle.idl_lex.specs.declared.lexing.LexErr.{LexErr}
@@ -31,6 +32,18 @@ comment_of at text (Some n) = Ok (comment (take (2 + n) text))
 abbrev pub number_of : ℕ → List ℕ → Read
 number_of at os = if is_number os then if nat_lt (value_of os) (2 ^ 127) then Ok (number os) else Err (Wide at) else Err (BadOctet at)
 
+abbrev pub character_of : ℕ → List ℕ → Option (ℕ × ℕ) → Read
+character_of at text None = Err (BadOctet at)
+character_of at text (Some x) = Ok (character x.0 (take x.1 text))
+
+abbrev pub string_of : ℕ → List ℕ → Option ℕ → Read
+string_of at text None = Err (BadOctet at)
+string_of at text (Some n) = Ok (string (spelled false (take (n - 1) (drop 1 text))) (take (1 + n) text))
+
+-- a character or a string
+abbrev pub quoted_of : ℕ → List ℕ → Read
+quoted_of at text = if begins is_single text then character_of at text (character_at text) else string_of at text (string_count false (drop 1 text))
+
 abbrev pub mark_of : List ℕ → List ℕ → ℕ → Read
 mark_of before text n =
     if n == 0 then if is_hash_line before text then Err (Directive (length before)) else Err (BadOctet (length before))
@@ -44,4 +57,5 @@ piece_at front before text =
     else if begins is_letter text then Ok (name (take (prefix_len is_word_octet text) text))
     else if begins is_digit text then number_of (length before) (take (digit_count text) text)
     else if is_skipped front before text then Ok (skipped_line (take (prefix_len is_in_line text) text))
+    else if opens_quote front text then quoted_of (length before) text
     else mark_of before text (mark_count text)

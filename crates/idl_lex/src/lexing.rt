@@ -1,6 +1,6 @@
 // The tokens of a text.
-ghost use Rattle.std.specs.Prelude.{◌≡◌, ◌++◌, IfOk, IfErr, OnOk};
-ghost use Rattle.idl_lex.specs.Lexed.{AreTokens, Explains, token_on};
+ghost use Rattle.std.specs.Prelude.{◌≡◌, true, ◌++◌, IfOk, IfErr, OnOk};
+ghost use Rattle.idl_lex.specs.Lexed.{has_rules, AreTokens, Explains, token_on};
 ghost use Rattle.idl_lex.specs.declared.lexing.LexErr.TheVariants.{NoMemory as WantOfMemory};
 
 use crate::lines::line_past;
@@ -40,9 +40,9 @@ impl From<NoMemory> for LexErr {
 
 /// The tokens of a text, or its first fault.
 ///
-/// The rules of [`Front::Onc`] stand; until those of the other fronts do, they are not asked for.
+/// The rules of CORBA and ONC stand; until those of [`Front::Mig`] do, it is not asked for.
 pub fn lex(alloc: Global, front: Front, text: &[u8]) -> Result<Tokens, LexErr>
-    requires { front ≡ Front.Onc }
+    requires { has_rules front ≡ true }
     ensures value { IfOk result (λ tokens. AreTokens front text.now tokens) }
     ensures stop { IfErr result (λ fault. Explains front text.now fault) }
 {

@@ -1,7 +1,7 @@
 //! The tokens of interface files.
 //!
 //! [`lex`] reads a text once from left to right and gives its tokens, each with its line, or the
-//! first fault with its place. The rules of ONC files stand; those of the other fronts are added as
+//! first fault with its place. The rules of CORBA and ONC files stand; those of MIG are added as
 //! further cases of [`Front`].
 #![tactic(auto)]
 
@@ -12,6 +12,7 @@ mod lexing;
 mod lines;
 mod numbers;
 mod pieces;
+mod quotes;
 
 pub use kinds::{Front, Token, TokenKind, Tokens};
 pub use laws::{

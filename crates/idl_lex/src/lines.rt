@@ -56,17 +56,18 @@ fn is_marker(text: &[u8]) -> bool
     }
 }
 
-/// Whether the line is skipped by the rules of one front.
+/// Whether the text is skipped to its line's end by the rules of one front.
 fn is_skipped_by(front: Front, before: &[u8], text: &[u8]) -> bool
     ensures { result ≡ is_skipped_by front before.now text.now }
 {
     match front {
         Front::Onc => text.first() == Some(&b'%') && is_first(before),
-        Front::Corba | Front::Mig => false,
+        Front::Corba => text.starts_with(b"//"),
+        Front::Mig => false,
     }
 }
 
-/// Whether the line is skipped whose rest comes first.
+/// Whether the text is skipped to its line's end.
 pub(crate) fn is_skipped(front: Front, before: &[u8], text: &[u8]) -> bool
     ensures { result ≡ is_skipped front before.now text.now }
 {

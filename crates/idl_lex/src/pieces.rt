@@ -6,7 +6,7 @@ ghost use Rattle.idl_lex.specs.Numbers.{digit_count};
 ghost use Rattle.idl_lex.specs.Pieces.{count_to_close, begins_twin, mark_count, name};
 ghost use Rattle.idl_lex.specs.Reads.{Gives, shown, comment_of, number_of, mark_of, piece_at};
 
-use crate::{Front, LexErr, TokenKind, classes, lines, numbers};
+use crate::{Front, LexErr, TokenKind, classes, lines, numbers, quotes};
 use kit_base::Octets;
 use std::alloc::Global;
 
@@ -36,6 +36,9 @@ pub(crate) fn piece(
     }
     if lines::is_skipped(front, before, text) {
         return Ok((None, classes::in_line(text)));
+    }
+    if quotes::opens_quote(front, text) {
+        return quotes::quoted(alloc, before.len(), text);
     }
     mark(alloc, before, text)
 }
