@@ -1,0 +1,18 @@
+//! The expressions of CORBA IDL (CORBA, chapter on IDL syntax and semantics, "Constant declaration").
+//!
+//! [`expression`] reads one from the front of some tokens; [`Expr`] is its tree.
+#![tactic(auto)]
+
+mod expressions;
+mod laws;
+mod leaves;
+mod names;
+mod operators;
+mod tree;
+
+pub use expressions::expression;
+pub use idl_const::{BinaryOp, UnaryOp};
+pub use laws::one_expression;
+pub use names::{begins_identifier, scoped};
+pub use operators::closes;
+pub use tree::{Expr, Identifier, Leaf, Node, ScopedName};
