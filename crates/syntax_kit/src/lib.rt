@@ -5,6 +5,7 @@ mod errors;
 mod first;
 mod halt;
 mod items;
+mod nested;
 
 pub use errors::SyntaxErr;
 pub use first::{
@@ -12,3 +13,4 @@ pub use first::{
 };
 pub use halt::Halt;
 pub use items::{Production, behind_mark, joined, some_until, some_while, until, while_word};
+pub use nested::{Nested, each_nested, joined_nested, some_nested};

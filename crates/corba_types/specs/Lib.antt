@@ -1,0 +1,4 @@
+pub mod Levels
+pub mod TypesFall
+pub mod Spelling
+pub mod Readers

@@ -1,0 +1,13 @@
+//! The types of CORBA IDL (CORBA, chapter on IDL syntax and semantics, "Type declaration").
+//!
+//! [`type_name`] reads one from the front of some tokens; [`TypeName`] is its tree.
+#![tactic(auto)]
+
+mod ints;
+mod simple;
+mod tree;
+mod types;
+
+pub use ints::{begins_int, int};
+pub use tree::{Base, Int, IntSize, Simple, TypeName, TypeNode};
+pub use types::type_name;
