@@ -1,24 +1,22 @@
 -- What is spelled is read.
-use Rattle.std.proofs.Common.{◌≡◌, ◌⊎◌, inl, inr, ℕ, zero, suc, ◌+◌, ◌-◌, ◌<◌, ◌≤◌, max, List, [], ◌∷◌, ◌++◌, drop, Option, Some, None, Bool, true, false, ◌&&◌, not, cond, ◌==◌, nat_le, refl, sym, ap, subst, ◌∙◌, append_assoc, arith}
+use Rattle.std.proofs.Common.{◌≡◌, inl, inr, ℕ, zero, suc, ◌+◌, ◌-◌, ◌<◌, ◌≤◌, max, List, [], ◌∷◌, ◌++◌, Option, Some, None, Bool, true, false, ◌&&◌, ◌==◌, nat_le, refl, sym, ap, subst, ◌∙◌, append_assoc, arith}
 use Rattle.std.specs.Prelude.{codes}
 use Rattle.std.proofs.lemmas.Bool.{le-leb, eq-eqb, ne_eqb, cases_lt}
 use Rattle.idl_lex.specs.declared.kinds.Token.{Token}
-use Rattle.idl_lex.specs.declared.kinds.TokenKind.{TokenKind}
 use Rattle.idl_lex.specs.declared.kinds.TokenKind.TheVariants as K
-use Rattle.syntax_kit.specs.Reading.{Read, Reader, mark_is, begins_with, token_at, both, then_on}
-use Rattle.syntax_kit.specs.Grammar.{Text, mark, ◌&◌, kinds, IsGrammar}
+use Rattle.syntax_kit.specs.Reading.{Reader, mark_is, begins_with}
+use Rattle.syntax_kit.specs.Grammar.{mark, ◌&◌, kinds}
 use Rattle.syntax_kit.proofs.Grammars.{parted}
-use Rattle.syntax_kit.proofs.Leaves.{one_kind, equal_bytes, same_bytes, begins_so, begins_not, leads_mark, Apart, apart_mark}
+use Rattle.syntax_kit.proofs.Leaves.{one_kind, same_bytes, begins_so, begins_not, Apart, apart_mark}
 use Rattle.idl_const.specs.declared.tree.UnaryOp.{UnaryOp}
 use Rattle.idl_const.specs.declared.tree.BinaryOp.{BinaryOp}
 use Rattle.idl_const.specs.declared.tree.BinaryOp.TheVariants as B
 use Rattle.corba_exprs.specs.declared.tree.Leaf.{Leaf}
 use Rattle.corba_exprs.specs.Trees.{Tree, leaf, unary, binary}
-use Rattle.corba_exprs.specs.Spelling.{leaf_text, unary_spell, binary_spell, looseness, bare, within}
-use Rattle.corba_exprs.specs.Readers.{Levelled, leaf_at, is_unary, unary_in, is_right, is_joint, closes, binary_in, operator_of, operator_at, over, chain_on, climb, primary_at, primary_of, within_at}
+use Rattle.corba_exprs.specs.Spelling.{leaf_text, unary_spell, binary_spell, looseness, within}
+use Rattle.corba_exprs.specs.Readers.{Levelled, is_unary, is_right, is_joint, closes, operator_at, over, chain_on, climb, primary_at, within_at}
 use Rattle.corba_exprs.proofs.LeavesRead.{NameMay, is_leaf, leads_leaf, leaf_is, unary_is, leads_unary}
-use Rattle.corba_exprs.proofs.Within.{more}
-use Rattle.corba_exprs.proofs.Closing.{first_kind, binary_back, joint_operator, goes_on}
+use Rattle.corba_exprs.proofs.Closing.{binary_back, joint_operator, goes_on}
 
 -- what may stand behind an expression: no part of a name, no operator that binds less loosely, and between `<` and `>` a token that goes on or ends there
 pub record May (angle : Bool) (loose : ℕ) (rest : List Token) : Type 0 where
@@ -110,6 +108,7 @@ module _ (n : ℕ) (reads : Reads n) (chains : (d : ℕ) → Chains n d) where
       let no_open = begins_not (mark_is (codes "(")) leads_leaf (apart_mark is_leaf (codes "(") refl) l front rest s in
       let no_unary = begins_not is_unary leads_leaf apart_unary l front rest s in
       rw (no_open, no_unary, leaf_is.again l front rest s may) refl
+
   by_unary : (angle : Bool) (op : UnaryOp) (a : Tree) (front rest : List Token) (m : ℕ) → n ≤ m → (mark (unary_spell op) & within n 0 a) (kinds front) → May angle 0 rest
       → (h : ℕ) × (h ≤ suc n) × (primary_at (within_at m) angle (front ++ rest) ≡ Some ((unary op a, h), rest))
   by_unary angle op a front rest m le s may =
@@ -132,7 +131,7 @@ module _ (n : ℕ) (reads : Reads n) (chains : (d : ℕ) → Chains n d) where
       let c = one_kind q.1 (K.Mark (codes ")")) (q.4 ∙ s.4.4) in
       let r = reads false 6 t q.0 (c.0 ∷ rest) m le (subst (within n 6 t) (sym q.3) s.4.3) (before_close c.0 rest c.2) in
       let parts : front ++ rest ≡ o.0 ∷ (q.0 ++ (c.0 ∷ rest)) =
-          ap (λ z. z ++ rest) (p.2 ∙ ap (λ z. z ++ p.1) o.1 ∙ ap (λ z. o.0 ∷ z) (q.2 ∙ ap (λ z. q.0 ++ z) c.1)) ∙ ap (λ z. o.0 ∷ z) (append_assoc q.0 (c.0 ∷ []) rest) in
+      ap (λ z. z ++ rest) (p.2 ∙ ap (λ z. z ++ p.1) o.1 ∙ ap (λ z. o.0 ∷ z) (q.2 ∙ ap (λ z. q.0 ++ z) c.1)) ∙ ap (λ z. o.0 ∷ z) (append_assoc q.0 (c.0 ∷ []) rest) in
       (suc r.0, omega (arith, r.1), ap (primary_at (within_at m) angle) parts ∙ closed m angle o.0 c.0 (q.0 ++ (c.0 ∷ rest)) rest (t, r.0) o.2 c.2 r.2)
     where
       closed : (m : ℕ) (angle : Bool) (o c : Token) (us rest : List Token) (x : Levelled) → o.kind ≡ K.Mark (codes "(") → c.kind ≡ K.Mark (codes ")") → within_at m false 6 us ≡ Some (x, c ∷ rest)
@@ -174,7 +173,7 @@ module _ (n : ℕ) (reads : Reads n) (chains : (d : ℕ) → Chains n d) where
       let step : chain_on (within_at m angle d) (operator_at angle d) (suc m) x.1 (a, x.0) (o.0 ∷ (q.1 ++ rest)) ≡ chain_on (within_at m angle d) (operator_at angle d) (suc m) (x.1 - 1) (binary op a b, suc (max x.0 y.0)) rest =
       stepped (within_at m angle d) (operator_at angle d) (suc m) x.1 (x.1 - 1) (a, x.0) (b, y.0) op o.0 (q.1 ++ rest) rest some goes y.2 low in
       let parts : front ++ rest ≡ p.0 ++ (o.0 ∷ (q.1 ++ rest)) =
-          ap (λ z. z ++ rest) (p.2 ∙ ap (λ z. p.0 ++ z) (q.2 ∙ ap (λ z. z ++ q.1) o.1)) ∙ append_assoc p.0 (o.0 ∷ q.1) rest in
+      ap (λ z. z ++ rest) (p.2 ∙ ap (λ z. p.0 ++ z) (q.2 ∙ ap (λ z. z ++ q.1) o.1)) ∙ append_assoc p.0 (o.0 ∷ q.1) rest in
       (suc (max x.0 y.0), x.1 - 1, omega (arith, x.2, y.1), omega (arith, x.3, some), rw parts (x.4 ∙ step))
     where
       stepped : (operand : Reader Levelled) (op : List Token → Option BinaryOp) (levels more_ left : ℕ) (x y : Levelled) (o : BinaryOp) (t : Token) (ts rest : List Token) → more_ ≡ suc left

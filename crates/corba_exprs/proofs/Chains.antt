@@ -1,5 +1,5 @@
 -- A loop over operators reads what `chain_on` reads.
-use Rattle.std.proofs.Common.{◌≡◌, ℕ, zero, suc, ◌+◌, ◌-◌, ◌<◌, ◌≤◌, max, List, drop, Option, Some, None, Bool, true, false, refl, sym, ap, ◌∙◌, nat_le, arith}
+use Rattle.std.proofs.Common.{◌≡◌, ℕ, suc, ◌+◌, ◌<◌, ◌≤◌, max, List, drop, Option, Some, None, Bool, true, false, refl, sym, ◌∙◌, nat_le, arith}
 use Rattle.std.proofs.lemmas.Bool.{le-leb, lt-leb}
 use Rattle.idl_lex.specs.declared.kinds.Token.{Token}
 use Rattle.idl_const.specs.declared.tree.BinaryOp.{BinaryOp}

@@ -1,12 +1,11 @@
 -- An expression between `<` and `>` is not taken for what stands after a type.
-use Rattle.std.proofs.Common.{◌≡◌, ◌⊎◌, inl, inr, ℕ, zero, suc, ◌<◌, List, [], ◌∷◌, ◌++◌, Option, Some, None, Bool, true, false, ◌&&◌, ◌||◌, not, cond, ◌==◌, refl, sym, ap, subst, ◌∙◌, append_assoc}
+use Rattle.std.proofs.Common.{◌≡◌, inl, inr, ℕ, zero, suc, List, [], ◌∷◌, ◌++◌, Some, Bool, true, false, ◌&&◌, refl, sym, ap, subst, ◌∙◌, append_assoc}
 use Rattle.std.specs.Prelude.{codes}
-use Rattle.std.proofs.lemmas.Bool.{eq-eqb}
 use Rattle.idl_lex.specs.declared.kinds.Token.{Token}
 use Rattle.idl_lex.specs.declared.kinds.TokenKind.{TokenKind}
 use Rattle.idl_lex.specs.declared.kinds.TokenKind.TheVariants as K
-use Rattle.syntax_kit.specs.Reading.{mark_is, begins_with}
-use Rattle.syntax_kit.specs.Grammar.{Text, mark, ◌&◌, each, joined, kinds}
+use Rattle.syntax_kit.specs.Reading.{begins_with}
+use Rattle.syntax_kit.specs.Grammar.{mark, ◌&◌, each, joined, kinds}
 use Rattle.syntax_kit.proofs.Grammars.{parted}
 use Rattle.syntax_kit.proofs.Leaves.{one_kind}
 use Rattle.idl_const.specs.declared.tree.UnaryOp.{UnaryOp}
@@ -14,12 +13,11 @@ use Rattle.idl_const.specs.declared.tree.UnaryOp.TheVariants as U
 use Rattle.idl_const.specs.declared.tree.BinaryOp.{BinaryOp}
 use Rattle.idl_const.specs.declared.tree.BinaryOp.TheVariants as B
 use Rattle.corba_exprs.specs.declared.tree.Identifier.{Identifier}
-use Rattle.corba_exprs.specs.declared.tree.ScopedName.{ScopedName}
 use Rattle.corba_exprs.specs.declared.tree.Leaf.{Leaf}
 use Rattle.corba_exprs.specs.declared.tree.Leaf.TheVariants as L
 use Rattle.corba_exprs.specs.Trees.{Tree, leaf, unary, binary}
 use Rattle.corba_exprs.specs.Spelling.{identifier, scoped, leaf_text, unary_spell, binary_spell, looseness, within}
-use Rattle.corba_exprs.specs.Readers.{binary_in, is_joint, is_after, is_identifier, closes, operator_at}
+use Rattle.corba_exprs.specs.Readers.{binary_in, is_joint, is_after, is_identifier, closes}
 
 pub first_kind : (ts : List Token) (k : TokenKind) (ks : List TokenKind) → kinds ts ≡ k ∷ ks → (t : Token) × (us : List Token) × (ts ≡ t ∷ us) × (t.kind ≡ k) × (kinds us ≡ ks)
 first_kind [] k ks e = absurd cc

@@ -1,8 +1,7 @@
 -- Expressions: what is read is what is spelled.
-use Rattle.std.proofs.Common.{◌≡◌, ℕ, ◌≤◌, ◌<◌, List, [], ◌∷◌, ◌++◌, Option, Some, None, Bool, true, false, refl, sym, ap, subst, ◌∙◌, arith}
+use Rattle.std.proofs.Common.{◌≡◌, ℕ, List, [], ◌∷◌, Bool, false, refl, sym, ap, subst, arith}
 use Rattle.idl_lex.specs.declared.kinds.Token.{Token}
 use Rattle.idl_lex.specs.declared.kinds.TokenKind.{TokenKind}
-use Rattle.syntax_kit.specs.Reading.{map_read}
 use Rattle.syntax_kit.specs.Grammar.{kinds, IsGrammar}
 use Rattle.syntax_kit.proofs.Grammars.{map_some, one_tree}
 use Rattle.corba_exprs.specs.Trees.{Tree}

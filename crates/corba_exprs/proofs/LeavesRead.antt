@@ -1,15 +1,15 @@
 -- Identifiers, scoped names, literals and operators: what is read is what is spelled.
-use Rattle.std.proofs.Common.{◌≡◌, ◌⊎◌, inl, inr, ℕ, List, [], ◌∷◌, ◌++◌, Option, Some, None, Bool, true, false, ◌||◌, cond, refl, sym, ap, subst, ◌∙◌}
+use Rattle.std.proofs.Common.{◌≡◌, ◌⊎◌, inl, inr, ℕ, List, [], ◌∷◌, Some, None, Bool, true, false, ◌||◌, cond, refl, sym, ap, subst, ◌∙◌}
 use Rattle.std.specs.Prelude.{codes, is_some}
 use Rattle.std.specs.Str.{bytes_eq}
 use Rattle.idl_lex.specs.declared.kinds.Token.{Token}
 use Rattle.idl_lex.specs.declared.kinds.TokenKind.{TokenKind}
 use Rattle.idl_lex.specs.declared.kinds.TokenKind.TheVariants as K
-use Rattle.syntax_kit.specs.Reading.{mark_is, word_is, begins_with, token_at, flag_at, joined_at, is_id}
-use Rattle.syntax_kit.specs.Grammar.{Text, one, word, mark, ◌&◌, one_of, when, joined, id, kinds, IsGrammar, Leads, Any}
+use Rattle.syntax_kit.specs.Reading.{mark_is, begins_with, token_at}
+use Rattle.syntax_kit.specs.Grammar.{Text, mark, ◌&◌, one_of, when, joined, id, IsGrammar, Leads, Any}
 use Rattle.syntax_kit.proofs.Grammars.{mapped_is, both_is, either_is}
-use Rattle.syntax_kit.proofs.Leaves.{token_is, same_bytes, equal_bytes, id_reads, leads_id, leads_mark, leads_both, leads_either, begins_so, begins_not, Apart, apart_mark}
-use Rattle.syntax_kit.proofs.Productions.{weaker, flag_reads, apart_id, leads_when, leads_by}
+use Rattle.syntax_kit.proofs.Leaves.{token_is, same_bytes, id_reads, leads_id, leads_mark, leads_either, begins_so, begins_not, Apart, apart_mark}
+use Rattle.syntax_kit.proofs.Productions.{weaker, flag_reads, leads_when, leads_by}
 use Rattle.syntax_kit.proofs.Lists.{joined_is, leads_joined}
 use Rattle.idl_const.specs.declared.tree.UnaryOp.{UnaryOp}
 use Rattle.idl_const.specs.declared.tree.UnaryOp.TheVariants as U
@@ -17,7 +17,7 @@ use Rattle.corba_exprs.specs.declared.tree.Identifier.{Identifier}
 use Rattle.corba_exprs.specs.declared.tree.ScopedName.{ScopedName}
 use Rattle.corba_exprs.specs.declared.tree.Leaf.{Leaf}
 use Rattle.corba_exprs.specs.declared.tree.Leaf.TheVariants as L
-use Rattle.corba_exprs.specs.Words.{corba_words, plain}
+use Rattle.corba_exprs.specs.Words.{corba_words}
 use Rattle.corba_exprs.specs.Spelling.{identifier, scoped, leaf_text, unary_spell}
 use Rattle.corba_exprs.specs.Readers.{is_identifier, identifier_of, identifier_at, scoped_of, scoped_at, truth_in, literal_in, is_literal, leaf_of, leaf_at, unary_of, unary_in, is_unary}
 

@@ -1,22 +1,21 @@
 -- What is read of an expression is spelled, within the levels that it takes.
-use Rattle.std.proofs.Common.{◌≡◌, ◌⊎◌, inl, inr, ℕ, zero, suc, ◌+◌, ◌<◌, ◌≤◌, max, List, [], ◌∷◌, ◌++◌, drop, Option, Some, None, Bool, true, false, ◌&&◌, not, cond, ◌==◌, nat_le, refl, sym, ap, subst, ◌∙◌, append_assoc, arith}
+use Rattle.std.proofs.Common.{◌≡◌, inl, inr, ℕ, zero, suc, ◌≤◌, max, List, [], ◌∷◌, ◌++◌, drop, Option, Some, None, Bool, true, false, ◌&&◌, cond, ◌==◌, nat_le, refl, sym, ap, subst, ◌∙◌, append_assoc, arith}
 use Rattle.std.specs.Prelude.{codes}
 use Rattle.std.specs.Str.{bytes_eq}
-use Rattle.std.proofs.lemmas.Bool.{and_parts, eqb-true, leb-true}
+use Rattle.std.proofs.lemmas.Bool.{eqb-true, leb-true}
 use Rattle.std.proofs.lemmas.List.{append-nil}
 use Rattle.idl_lex.specs.declared.kinds.Token.{Token}
 use Rattle.idl_lex.specs.declared.kinds.TokenKind.{TokenKind}
 use Rattle.idl_lex.specs.declared.kinds.TokenKind.TheVariants as K
-use Rattle.syntax_kit.specs.Reading.{Read, Reader, then_on, mark_is, mark_at, begins_with, token_at, both, behind, before, either, map_read}
-use Rattle.syntax_kit.specs.Grammar.{Text, mark, ◌&◌, one_of, kinds, IsGrammar, Any}
+use Rattle.syntax_kit.specs.Reading.{Read, Reader, then_on, mark_is, mark_at, begins_with, token_at, both, behind, before, either}
+use Rattle.syntax_kit.specs.Grammar.{Text, kinds}
 use Rattle.syntax_kit.proofs.Grammars.{then_some, read_is, map_some, cond_some, kinds-append}
 use Rattle.syntax_kit.proofs.Leaves.{same_bytes, mark_reads}
 use Rattle.idl_const.specs.declared.tree.UnaryOp.{UnaryOp}
 use Rattle.idl_const.specs.declared.tree.BinaryOp.{BinaryOp}
 use Rattle.idl_const.specs.declared.tree.BinaryOp.TheVariants as B
-use Rattle.corba_exprs.specs.declared.tree.Leaf.{Leaf}
 use Rattle.corba_exprs.specs.Trees.{Tree, leaf, unary, binary}
-use Rattle.corba_exprs.specs.Spelling.{leaf_text, unary_spell, binary_spell, looseness, bare, within}
+use Rattle.corba_exprs.specs.Spelling.{binary_spell, looseness, bare, within}
 use Rattle.corba_exprs.specs.Readers.{Levelled, leaf_at, is_unary, unary_in, binary_of, by_operator, binary_in, operator_of, operator_at, over, kept_in, chain_on, climb, primary_at, primary_of, within_at}
 use Rattle.corba_exprs.proofs.LeavesRead.{leaf_is, unary_is}
 
@@ -141,8 +140,11 @@ module _ (n : ℕ) (operand : Bool → ℕ → Reader Levelled) (found : (angle 
       let us_is : us ≡ t.0 ∷ (a.1.0 ++ m.0.1) = t.2 ∙ ap (λ w. t.0 ∷ w) (sym (ap (drop 1) t.2) ∙ a.1.1) in
       let b = next (over o y z) m.0.1 (f0 ++ t.0 ∷ a.1.0) (leb-true _ _ low.0) (joined_up o loose y z f0 a.1.0 t.0 t.4 t.3 s a.1.2) low.1 in (
         b.0,
-        (t.0 ∷ (a.1.0 ++ b.1.0), us_is ∙ ap (λ w. t.0 ∷ w) (ap (λ w. a.1.0 ++ w) b.1.1 ∙ sym (append_assoc a.1.0 b.1.0 rest)),
-        subst (λ w. within x.1 (suc loose) x.0 (kinds w)) (append_assoc f0 (t.0 ∷ a.1.0) b.1.0) b.1.2),
+        (
+          t.0 ∷ (a.1.0 ++ b.1.0),
+          us_is ∙ ap (λ w. t.0 ∷ w) (ap (λ w. a.1.0 ++ w) b.1.1 ∙ sym (append_assoc a.1.0 b.1.0 rest)),
+          subst (λ w. within x.1 (suc loose) x.0 (kinds w)) (append_assoc f0 (t.0 ∷ a.1.0) b.1.0) b.1.2,
+        ),
       )
 
   chain_found : (angle : Bool) (loose fuel : ℕ) (x : Levelled) (rest : List Token) → Chain angle loose fuel x rest
@@ -161,9 +163,11 @@ module _ (n : ℕ) (operand : Bool → ℕ → Reader Levelled) (found : (angle 
       let b = found false 6 opened.1 x close.0 close.1 in
       let c = (mark_reads (codes ")")).found close.0 tt rest close.2 in (
         omega (arith, b.0),
-        (a.0 ++ (b.1.0 ++ c.0),
-        a.1 ∙ ap (λ z. a.0 ++ z) (b.1.1 ∙ ap (λ z. b.1.0 ++ z) c.1 ∙ sym (append_assoc b.1.0 c.0 rest)) ∙ sym (append_assoc a.0 (b.1.0 ++ c.0) rest),
-        inr (kinds a.0, kinds (b.1.0 ++ c.0), kinds-append a.0 (b.1.0 ++ c.0), a.2, (kinds b.1.0, kinds c.0, kinds-append b.1.0 c.0, b.1.2, c.2))),
+        (
+          a.0 ++ (b.1.0 ++ c.0),
+          a.1 ∙ ap (λ z. a.0 ++ z) (b.1.1 ∙ ap (λ z. b.1.0 ++ z) c.1 ∙ sym (append_assoc b.1.0 c.0 rest)) ∙ sym (append_assoc a.0 (b.1.0 ++ c.0) rest),
+          inr (kinds a.0, kinds (b.1.0 ++ c.0), kinds-append a.0 (b.1.0 ++ c.0), a.2, (kinds b.1.0, kinds c.0, kinds-append b.1.0 c.0, b.1.2, c.2)),
+        ),
       )
 
   with_operator : (angle : Bool) (ts : List Token) (x : UnaryOp × Levelled) (rest : List Token) → both (token_at unary_in) (operand angle 0) ts ≡ Some (x, rest)
@@ -176,9 +180,11 @@ module _ (n : ℕ) (operand : Bool → ℕ → Reader Levelled) (found : (angle 
       let b = found angle 0 m.0.1 k.0.0 k.0.1 k.1 in
       subst (λ (z : UnaryOp × Levelled). Spelled (unary z.0 z.1.0, suc z.1.1) ts rest) is.0 (
         omega (arith, b.0),
-        (a.0 ++ b.1.0,
-        a.1 ∙ ap (λ z. a.0 ++ z) (b.1.1 ∙ ap (λ z. b.1.0 ++ z) is.1) ∙ sym (append_assoc a.0 b.1.0 rest),
-        inl (kinds a.0, kinds b.1.0, kinds-append a.0 b.1.0, a.2, b.1.2)),
+        (
+          a.0 ++ b.1.0,
+          a.1 ∙ ap (λ z. a.0 ++ z) (b.1.1 ∙ ap (λ z. b.1.0 ++ z) is.1) ∙ sym (append_assoc a.0 b.1.0 rest),
+          inl (kinds a.0, kinds b.1.0, kinds-append a.0 b.1.0, a.2, b.1.2),
+        ),
       )
 
   primary_found : (angle : Bool) → Found (primary_at operand angle) (suc n) 0

@@ -1,11 +1,11 @@
 -- What each function of the parser reads: a tool beside Spelling, tied to it in proofs/.
-use Rattle.std.specs.Prelude.{Bool, true, false, not, ◌&&◌, ◌||◌, ◌==◌, nat_le, ◌⊎◌, ℕ, zero, suc, ◌+◌, max, ℤ, List, [], ◌∷◌, drop, Option, Some, None, is_some, codes, if◌then◌else◌}
+use Rattle.std.specs.Prelude.{Bool, true, false, not, ◌&&◌, ◌||◌, ◌==◌, nat_le, ◌⊎◌, ℕ, zero, suc, max, List, [], ◌∷◌, drop, Option, Some, None, is_some, codes, if◌then◌else◌}
 use Rattle.std.proofs.Common.{inl, inr}
 use Rattle.std.specs.Str.{bytes_eq}
 use Rattle.idl_lex.specs.declared.kinds.Token.{Token}
 use Rattle.idl_lex.specs.declared.kinds.TokenKind.{TokenKind}
 use Rattle.idl_lex.specs.declared.kinds.TokenKind.TheVariants as K
-use Rattle.syntax_kit.specs.Reading.{Read, Reader, then_on, map_read, mark_is, mark_at, id_at, is_id, token_at, flag_at, begins_with, both, mapped, either, behind, before, joined_at}
+use Rattle.syntax_kit.specs.Reading.{Read, Reader, then_on, mark_is, mark_at, id_at, is_id, token_at, flag_at, begins_with, both, mapped, either, behind, before, joined_at}
 use Rattle.idl_const.specs.declared.tree.UnaryOp.{UnaryOp}
 use Rattle.idl_const.specs.declared.tree.UnaryOp.TheVariants as U
 use Rattle.idl_const.specs.declared.tree.BinaryOp.{BinaryOp}

@@ -1,6 +1,5 @@
 -- The tokens of an expression.
-use Rattle.std.specs.Prelude.{◌≡◌, ◌⊎◌, ℕ, zero, suc, ◌<◌, true, false, List, [], ◌∷◌, codes}
-use Rattle.idl_lex.specs.declared.kinds.TokenKind.{TokenKind}
+use Rattle.std.specs.Prelude.{◌≡◌, ◌⊎◌, ℕ, zero, suc, ◌<◌, true, false, List, codes}
 use Rattle.idl_lex.specs.declared.kinds.TokenKind.TheVariants as K
 use Rattle.syntax_kit.specs.Grammar.{Text, one, word, mark, number, id, ◌&◌, when, joined}
 use Rattle.idl_const.specs.declared.tree.UnaryOp.{UnaryOp}

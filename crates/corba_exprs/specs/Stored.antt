@@ -1,5 +1,5 @@
 -- How the logic stores the plain tree of an expression: as a tree of numbers that gives it back.
-use Rattle.std.specs.Prelude.{◌≡◌, refl, Bool, true, false, ℕ, ◌+◌, ◌-◌, ◌==◌, cond, nat_lt, ℤ, pos, negsuc, List, [], ◌∷◌}
+use Rattle.std.specs.Prelude.{◌≡◌, refl, Bool, true, false, ℕ, ◌+◌, ◌==◌, cond, nat_lt, ℤ, pos, negsuc, List, [], ◌∷◌}
 use Rattle.std.specs.Coded.{Coded, code_by}
 use base.Stored.{Gv, gnil, gnum, gcons, num}
 use denote.Struct.Codes.{itself}
@@ -9,7 +9,6 @@ use Rattle.idl_const.specs.declared.tree.UnaryOp.TheVariants as U
 use Rattle.idl_const.specs.declared.tree.BinaryOp.{BinaryOp}
 use Rattle.idl_const.specs.declared.tree.BinaryOp.TheVariants as B
 use Rattle.corba_exprs.specs.declared.tree.Identifier.{Identifier}
-use Rattle.corba_exprs.specs.declared.tree.ScopedName.{ScopedName}
 use Rattle.corba_exprs.specs.declared.tree.Leaf.{Leaf}
 use Rattle.corba_exprs.specs.declared.tree.Leaf.TheVariants as L
 use Rattle.corba_exprs.specs.Trees.{Tree, leaf, unary, binary}

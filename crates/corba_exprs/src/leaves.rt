@@ -43,8 +43,14 @@ fn literal(alloc: Global, tokens: &[Token]) -> Result<(Leaf, &[Token]), Halt>
                 let codes = Octets::from_slice(alloc, codes.as_slice())?;
                 Ok((Leaf::Text(codes), rest))
             }
-            TokenKind::Name(name) if name.as_slice() == b"TRUE".as_slice() => Ok((Leaf::Truth(true), rest)),
-            TokenKind::Name(name) if name.as_slice() == b"FALSE".as_slice() => Ok((Leaf::Truth(false), rest)),
+            TokenKind::Name(name) if name.as_slice() == b"TRUE".as_slice() => Ok((
+                Leaf::Truth(true),
+                rest,
+            )),
+            TokenKind::Name(name) if name.as_slice() == b"FALSE".as_slice() => Ok((
+                Leaf::Truth(false),
+                rest,
+            )),
             _ => Err(Halt::Syntax),
         },
         [] => Err(Halt::Syntax),

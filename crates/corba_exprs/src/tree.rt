@@ -98,12 +98,7 @@ impl Expr {
     }
 
     /// An operator between its operands.
-    pub fn of_binary(
-        alloc: Global,
-        op: BinaryOp,
-        left: Expr,
-        right: Expr,
-    ) -> Result<Expr, NoMemory>
+    pub fn of_binary(alloc: Global, op: BinaryOp, left: Expr, right: Expr) -> Result<Expr, NoMemory>
         ensures { IfOk result (λ e. e ≡ binary op left right) }
     {
         let left = Box::new(alloc, left)?;

@@ -1,21 +1,20 @@
 -- Types that are no sequences: what is read is what is spelled.
-use Rattle.std.proofs.Common.{◌≡◌, ◌⊎◌, inl, inr, ℕ, List, [], ◌∷◌, ◌++◌, Option, Some, None, Bool, true, false, ◌&&◌, ◌||◌, ◌==◌, cond, refl, sym, ap, subst, ◌∙◌, drop}
+use Rattle.std.proofs.Common.{◌≡◌, ◌⊎◌, inl, inr, ℕ, List, [], ◌∷◌, ◌++◌, Option, Some, None, Bool, true, false, ◌&&◌, ◌||◌, ◌==◌, cond, refl, sym, ap, subst, ◌∙◌}
 use Rattle.std.specs.Prelude.{codes}
 use Rattle.idl_lex.specs.declared.kinds.Token.{Token}
 use Rattle.idl_lex.specs.declared.kinds.TokenKind.{TokenKind}
 use Rattle.idl_lex.specs.declared.kinds.TokenKind.TheVariants as K
-use Rattle.syntax_kit.specs.Reading.{mark_is, word_is, word_at, mark_at, token_at, begins_with, word_in, both, either, option, behind}
-use Rattle.syntax_kit.specs.Grammar.{Text, empty, word, mark, ◌&◌, one_of, maybe, when, kinds, IsGrammar, Leads, Any}
+use Rattle.syntax_kit.specs.Reading.{mark_is, word_is, token_at, begins_with, word_in}
+use Rattle.syntax_kit.specs.Grammar.{Text, empty, word, mark, ◌&◌, one_of, maybe, kinds, IsGrammar, Leads}
 use Rattle.syntax_kit.proofs.Grammars.{mapped_is, both_is, either_is, option_is, parted}
-use Rattle.syntax_kit.proofs.Leaves.{token_is, word_reads, mark_reads, mark_named, one_kind, Apart, apart_or, apart_word, apart_mark, leads_word, leads_mark, leads_both, leads_either, begins_so, begins_not}
-use Rattle.syntax_kit.proofs.Productions.{weaker, behind_is, led_is, leads_behind, words_are, leads_words, apart_words, apart_id, leads_by, unit_left, unit_left_back, unit_right, unit_right_back}
+use Rattle.syntax_kit.proofs.Leaves.{token_is, word_reads, mark_reads, mark_named, one_kind, apart_or, apart_word, apart_mark, leads_word, leads_mark, leads_either, begins_so, begins_not}
+use Rattle.syntax_kit.proofs.Productions.{weaker, behind_is, led_is, leads_behind, words_are, leads_words, apart_words, leads_by, unit_left, unit_left_back, unit_right, unit_right_back}
 use Rattle.syntax_kit.proofs.Lists.{turns}
 use Rattle.corba_exprs.specs.Trees.{Tree}
 use Rattle.corba_exprs.specs.declared.tree.ScopedName.{ScopedName}
-use Rattle.corba_exprs.specs.Words.{corba_words}
 use Rattle.corba_exprs.specs.Spelling.{scoped, expression}
-use Rattle.corba_exprs.specs.Readers.{is_identifier, is_after, is_joint, is_right, closes, binary_in, operator_at, scoped_at, expression_at}
-use Rattle.corba_exprs.proofs.LeavesRead.{NameMay, is_name, scoped_is, leads_scoped}
+use Rattle.corba_exprs.specs.Readers.{is_identifier, is_after, closes}
+use Rattle.corba_exprs.proofs.LeavesRead.{is_name, scoped_is, leads_scoped}
 use Rattle.corba_exprs.proofs.Again.{May}
 use Rattle.corba_exprs.proofs.ExpressionsRead.{expression_is}
 use Rattle.corba_types.specs.declared.tree.IntSize.{IntSize}
@@ -25,8 +24,8 @@ use Rattle.corba_types.specs.declared.tree.Simple.{Simple}
 use Rattle.corba_types.specs.declared.tree.Simple.TheVariants as S
 use Rattle.corba_types.specs.declared.tree.Base.{Base}
 use Rattle.corba_types.specs.declared.tree.Base.TheVariants as B
-use Rattle.corba_types.specs.Spelling.{size, int, simple_spell, close, alone, base, bound}
-use Rattle.corba_types.specs.Readers.{size_of, size_at, int_of, int_at, is_int, simple_words, is_simple, simple_in, is_long_double, plain_of, plain_at, close_in, string_of, string_at, Typed, base_of, base_at, bound_at}
+use Rattle.corba_types.specs.Spelling.{size, int, simple_spell, close, base, bound}
+use Rattle.corba_types.specs.Readers.{size_of, size_at, int_of, int_at, is_int, simple_words, is_simple, is_long_double, plain_of, plain_at, close_in, string_of, string_at, Typed, base_of, base_at, bound_at}
 
 -- ---- integer types
 

@@ -1,19 +1,19 @@
 -- Types: what is read is what is spelled.
-use Rattle.std.proofs.Common.{◌≡◌, ◌⊎◌, inl, inr, ℕ, zero, suc, List, [], ◌∷◌, ◌++◌, Option, Some, None, Bool, true, false, ◌||◌, cond, refl, sym, ap, subst, ◌∙◌, append_assoc}
+use Rattle.std.proofs.Common.{◌≡◌, inl, inr, ℕ, zero, suc, List, [], ◌∷◌, ◌++◌, Option, Some, None, Bool, true, false, ◌||◌, cond, refl, sym, ap, subst, ◌∙◌, append_assoc}
 use Rattle.std.specs.Prelude.{codes}
 use Rattle.idl_lex.specs.declared.kinds.Token.{Token}
 use Rattle.idl_lex.specs.declared.kinds.TokenKind.{TokenKind}
+use Rattle.idl_lex.specs.declared.kinds.TokenKind.TheVariants as K
 use Rattle.syntax_kit.specs.Reading.{Read, Reader, then_on, map_read, mark_is, word_is, word_at, mark_at, begins_with, behind}
-use Rattle.syntax_kit.specs.Grammar.{Text, word, mark, ◌&◌, maybe, kinds, IsGrammar, Leads}
+use Rattle.syntax_kit.specs.Grammar.{Text, word, mark, ◌&◌, kinds, IsGrammar}
 use Rattle.syntax_kit.proofs.Grammars.{then_some, read_is, map_some, cond_some, parted, kinds-append}
-use Rattle.syntax_kit.proofs.Leaves.{word_reads, mark_reads, apart_word, leads_word, leads_both, begins_so, begins_not}
+use Rattle.syntax_kit.proofs.Leaves.{word_reads, mark_reads, apart_word, leads_word, begins_so, begins_not}
 use Rattle.syntax_kit.proofs.Productions.{behind_is, leads_behind, leads_maybe}
 use Rattle.corba_exprs.specs.Trees.{Tree}
-use Rattle.corba_exprs.specs.Readers.{is_after, closes}
 use Rattle.corba_types.specs.declared.tree.Base.{Base}
 use Rattle.corba_types.specs.Spelling.{bound, held, type}
-use Rattle.corba_types.specs.Readers.{Typed, bound_at, base_at, sequence_of, ended_at, type_by, shared_at, type_at}
-use Rattle.corba_types.proofs.BasesRead.{Closes, bound_is, comma, leads_comma, is_close, leads_close, base_typed, base_is, is_plain, leads_base}
+use Rattle.corba_types.specs.Readers.{Typed, bound_at, sequence_of, ended_at, shared_at, type_at}
+use Rattle.corba_types.proofs.BasesRead.{Closes, bound_is, leads_comma, is_close, leads_close, base_typed, base_is, is_plain, leads_base}
 
 abbrev pub typed : ℕ → Typed → Text
 typed n x = type n x.0.0 x.0.1 x.1
@@ -144,3 +144,16 @@ type_is n = record {
 -- whether a token begins a type
 abbrev pub is_type : TokenKind → Bool
 is_type k = word_is (codes "sequence") k || (word_is (codes "string") k || is_plain 0 k)
+
+-- ---- one type
+
+with_lines : (ks : List TokenKind) → (ts : List Token) × (kinds ts ≡ ks)
+with_lines [] = ([], refl)
+with_lines (k ∷ ks) = let r = with_lines ks in (record { kind = k; line = 1 } ∷ r.0, ap (λ z. k ∷ z) r.1)
+
+pub one_only : (n : ℕ) (a b : List (Option Tree) × Base) (ks : List TokenKind) → type n a.0 a.1 false ks → type n b.0 b.1 false ks → a ≡ b
+one_only n a b ks s t =
+    let w = with_lines ks in
+    let x = (type_is n).again a w.0 (record { kind = K.Mark (codes ","); line = 1 } ∷ []) (subst (whole n a) (sym w.1) s) refl in
+    let y = (type_is n).again b w.0 (record { kind = K.Mark (codes ","); line = 1 } ∷ []) (subst (whole n b) (sym w.1) t) refl in
+    (read_is a b _ _ (sym x ∙ y)).0

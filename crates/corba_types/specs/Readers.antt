@@ -3,7 +3,7 @@ use Rattle.std.specs.Prelude.{Bool, true, false, ◌&&◌, ◌||◌, ◌⊎◌, 
 use Rattle.std.proofs.Common.{inl, inr}
 use Rattle.idl_lex.specs.declared.kinds.Token.{Token}
 use Rattle.idl_lex.specs.declared.kinds.TokenKind.{TokenKind}
-use Rattle.syntax_kit.specs.Reading.{Read, Reader, then_on, map_read, word_is, mark_is, word_at, mark_at, token_at, word_in, has_word, begins_with, both, mapped, either, option, behind}
+use Rattle.syntax_kit.specs.Reading.{Reader, then_on, map_read, word_is, mark_is, word_at, mark_at, token_at, word_in, has_word, begins_with, both, mapped, either, option, behind}
 use Rattle.corba_exprs.specs.Trees.{Tree}
 use Rattle.corba_exprs.specs.declared.tree.ScopedName.{ScopedName}
 use Rattle.corba_exprs.specs.Readers.{scoped_at, expression_at}

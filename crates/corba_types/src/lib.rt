@@ -4,10 +4,12 @@
 #![tactic(auto)]
 
 mod ints;
+mod laws;
 mod simple;
 mod tree;
 mod types;
 
 pub use ints::{begins_int, int};
+pub use laws::one_type;
 pub use tree::{Base, Int, IntSize, Simple, TypeName, TypeNode};
 pub use types::type_name;

@@ -65,7 +65,11 @@ fn base(alloc: Global, levels: u32, tokens: &[Token]) -> Result<(TypeName, bool,
 
 /// The bound of a sequence, and whether the mark that ends it ends the sequence around it too.
 #[tactic(auto, unfolding(crate::specs::Readers::bound_at))]
-fn bound(alloc: Global, levels: u32, tokens: &[Token]) -> Result<(Option<Expr>, bool, &[Token]), Halt>
+fn bound(
+    alloc: Global,
+    levels: u32,
+    tokens: &[Token],
+) -> Result<(Option<Expr>, bool, &[Token]), Halt>
     requires { levels ≤ 32 }
     ensures { Gives (λ x. ((x.0, x.1), x.2.now)) result (bound_at levels tokens.now) }
 {
@@ -82,11 +86,7 @@ fn bound(alloc: Global, levels: u32, tokens: &[Token]) -> Result<(Option<Expr>, 
 /// A type within so many levels and one more, and whether its last mark ends the sequence around
 /// it too.
 #[cycle(sharing)]
-fn sharing(
-    alloc: Global,
-    below: u32,
-    tokens: &[Token],
-) -> Result<(TypeName, bool, &[Token]), Halt>
+fn sharing(alloc: Global, below: u32, tokens: &[Token]) -> Result<(TypeName, bool, &[Token]), Halt>
     requires { below < 32 }
     ensures { Gives (λ x. ((x.0, x.1), x.2.now)) result (type_by (shared_at below) (below + 1) tokens.now) }
 {
@@ -107,11 +107,7 @@ fn sharing(
 
 /// A type within so many levels, and whether its last mark ends the sequence around it too.
 #[cycle(sharing)]
-fn shared(
-    alloc: Global,
-    levels: u32,
-    tokens: &[Token],
-) -> Result<(TypeName, bool, &[Token]), Halt>
+fn shared(alloc: Global, levels: u32, tokens: &[Token]) -> Result<(TypeName, bool, &[Token]), Halt>
     requires { levels ≤ 32 }
     ensures { Gives (λ x. ((x.0, x.1), x.2.now)) result (shared_at levels tokens.now) }
 {
@@ -123,11 +119,7 @@ fn shared(
 
 /// A type (`<type_spec>`) within so many levels, and the tokens after it.
 #[tactic(auto, unfolding(crate::specs::Readers::type_at))]
-pub fn type_name(
-    alloc: Global,
-    levels: u32,
-    tokens: &[Token],
-) -> Result<(TypeName, &[Token]), Halt>
+pub fn type_name(alloc: Global, levels: u32, tokens: &[Token]) -> Result<(TypeName, &[Token]), Halt>
     requires { levels ≤ 32 }
     ensures { Gives (λ x. (x.0, x.1.now)) result (type_at levels tokens.now) }
 {
