@@ -12,7 +12,7 @@ use Rattle.pres.specs.Offers.{operations, offer, offer_at, offers_from, type_fac
 use Rattle.back_cdr.specs.Targets.{IsCdr, target_in, targets_in, targets}
 
 -- no operation is gotten
-own_alone : (b : Back) (i : PlainInterface) → IsCdr b → operations b i ≡ i.ops
+pub own_alone : (b : Back) (i : PlainInterface) → IsCdr b → operations b i ≡ i.ops
 own_alone back.CdrBig i h = append-nil i.ops
 own_alone back.CdrLittle i h = append-nil i.ops
 own_alone back.Xdr i h = absurd cc

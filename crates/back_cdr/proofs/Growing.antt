@@ -131,6 +131,10 @@ pub call_length : (r : Order) (t : Target) (id : ℕ) → length (lead r t id) �
 unfolding request_octets
 call_length r t id = one_length r 0 (asked r t) (asked_grows r t) id
 
+-- the header of a request lies within its head
+pub long_request : (r : Order) (t : Target) (id : ℕ) → 12 ≤ length (lead r t id)
+long_request r t id = omega (arith, call_length r t id, call_long r t)
+
 pub reply_length : (r : Order) (t : Target) (arm id : ℕ) → length (reply_lead r t arm id) ≡ length (reply_lead r t arm 0)
 reply_length r t zero id = one_length r 1 (told r t zero) (told_grows r t zero) id
 reply_length r t (suc k) id = one_length r 1 (told r t (suc k)) (told_grows r t (suc k)) id

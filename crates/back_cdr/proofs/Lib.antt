@@ -6,3 +6,4 @@ pub mod Along
 pub mod NamedBelow
 pub mod Heading
 pub mod NamedRight
+pub mod NamedBy

@@ -83,22 +83,29 @@ fn code_of(alloc: Global, order: Order, octets: &[u8]) -> Result<SendCode, NoMem
 }
 
 /// The order of the messages that are sent.
-fn sent_order(bound: &Bound) -> Order
+pub(crate) fn sent_order(bound: &Bound) -> Order
     ensures { result ≡ defs.order_of bound.now.back }
 {
     order_of(bound.back())
 }
 
-/// The octets of the head of a request, with 0 as its id.
-fn call_octets(alloc: Global, order: Order, bound: &Bound, op: u32) -> Result<Octets, NoMemory>
+/// The octets of the head of a request.
+pub(crate) fn call_octets(
+    alloc: Global,
+    order: Order,
+    bound: &Bound,
+    op: u32,
+    id: u32,
+) -> Result<Octets, NoMemory>
     requires cdr { IsCdr bound.now.back }
     requires op { op < length bound.now.ops }
-    ensures { IfOk result (λ o. o ≡ lead order (target_of bound.now op) 0) }
+    ensures { IfOk result (λ o. o ≡ lead order (target_of bound.now op) id) }
 {
     let (i, called) = operation_of(bound, op);
     request(
         alloc,
         order,
+        id,
         !called.oneway,
         i.name.as_slice(),
         called.name.as_slice(),
@@ -134,7 +141,7 @@ pub fn lead_call(alloc: Global, bound: &Bound, op: u32) -> Result<SendCode, NoMe
     ensures chunks { IfOk result AreChunks }
 {
     let order = sent_order(bound);
-    let octets = call_octets(alloc, order, bound, op)?;
+    let octets = call_octets(alloc, order, bound, op, 0)?;
     code_of(alloc, order, octets.as_slice())
 }
 

@@ -105,15 +105,16 @@ fn flag(holds: bool) -> u8
 pub(crate) fn request(
     alloc: Global,
     order: Order,
+    id: u32,
     wants: bool,
     key: &[u8],
     name: &[u8],
 ) -> Result<Octets, NoMemory>
-    ensures { IfOk result (λ o. o ≡ request_octets order (record { id = 0; wants = wants; key = key.now; name = name.now })) }
+    ensures { IfOk result (λ o. o ≡ request_octets order (record { id = id; wants = wants; key = key.now; name = name.now })) }
 {
     let octets = header(alloc, order, REQUEST)?;
     let octets = then_long(order, 0, octets)?;
-    let mut octets = then_long(order, 0, octets)?;
+    let mut octets = then_long(order, id, octets)?;
     octets.push(flag(wants))?;
     let octets = then_sequence(order, key, octets)?;
     let octets = then_string(order, name, octets)?;

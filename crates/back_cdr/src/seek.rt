@@ -4,6 +4,7 @@ ghost use Rattle.std.specs.Prelude.{◌≡◌, ◌+◌, ◌<◌, ◌^◌, length
 ghost use Rattle.std.specs.List.{position_from};
 ghost use Rattle.std.specs.Str.{bytes_eq};
 ghost use Rattle.aoi.specs.Plain.{plain_interface};
+ghost use Rattle.wire_def.specs.Lone.{IsPlain};
 ghost use Rattle.call_kit.specs.Calls.{IsBelow};
 ghost use Rattle.giop_head.specs.declared.header.Way.TheVariants.{Requests};
 ghost use Rattle.giop_head.specs.Heads.{StopsWith};
@@ -21,7 +22,8 @@ use wire_def::{Encoding, HeadErr, Order};
 
 /// How the octets of a body lie in a message of this order.
 fn laid(order: Order) -> Encoding
-    ensures { result ≡ laid order }
+    ensures value { result ≡ laid order }
+    ensures plain { IsPlain result }
 {
     match order {
         Order::Big => Encoding::CdrBig,
@@ -92,6 +94,7 @@ pub fn read_called(bound: &Bound, message: &[u8]) -> Result<Called, HeadErr>
     requires cdr { IsCdr bound.now.back }
     ensures begins { IfOk result (λ c. Calls bound.now message.now c) }
     ensures below { IfOk result (λ c. IsBelow (length bound.now.ops) c.naming) }
+    ensures plain { IfOk result (λ c. IsPlain c.encoding) }
     ensures stops { IfErr result (λ e. StopsWith Requests message.now e) }
 {
     match read_request(message) {

@@ -1,8 +1,8 @@
 -- Heads that are sent are read as what they are sent for.
-use Rattle.std.proofs.Common.{◌≡◌, ℕ, ◌-◌, ◌≤◌, ◌<◌, ◌^◌, true, List, [], ◌∷◌, ◌++◌, length, take, refl, sym, ap, ◌∙◌, append_assoc, length-append, arith}
+use Rattle.std.proofs.Common.{◌≡◌, ℕ, ◌+◌, ◌-◌, ◌≤◌, ◌<◌, ◌^◌, true, List, [], ◌∷◌, ◌++◌, length, take, drop, refl, sym, ap, ◌∙◌, append_assoc, length-append, arith}
 use Rattle.std.specs.Prelude.{Ok}
 use Rattle.std.proofs.lemmas.Bool.{eq-eqb}
-use Rattle.std.proofs.lemmas.List.{take_at}
+use Rattle.std.proofs.lemmas.List.{take_at, drop_at, length-take, length-drop}
 use Rattle.mint.specs.declared.kind.Kind.TheVariants as kind
 use Rattle.mint.specs.Types.{number}
 use Rattle.wire_def.specs.declared.encoding.Encoding.TheVariants.{CdrBig, CdrLittle}
@@ -12,14 +12,15 @@ use Rattle.wire_def.specs.declared.outcome.Refusal.TheVariants.{ProgUnavail, Pro
 use Rattle.wire_def.specs.Grammar.{Parts}
 use Rattle.wire_def.proofs.Words.{wide}
 use Rattle.giop_head.specs.declared.header.Way.{Way}
-use Rattle.giop_head.specs.declared.header.Way.TheVariants.{Asks, Replies}
+use Rattle.giop_head.specs.declared.header.Way.TheVariants.{Asks, Requests, Replies}
 use Rattle.giop_head.specs.Header.{expected, judged, HeaderSpells}
 use Rattle.giop_head.specs.Call.{Request, RequestSpells, request}
 use Rattle.giop_head.specs.Reply.{Fate, answer, user, system, FateSpells}
 use Rattle.giop_head.specs.Items.{flag, LongSpells}
 use Rattle.giop_head.specs.Contexts.{ContextsSpell}
 use Rattle.giop_head.specs.Printed.{long_octets, then_long, then_sequence, then_string, order_octet, header_octets, with_size, request_octets}
-use Rattle.giop_head.specs.Laws.{reply_octets, RequestsAreRead, RepliesAreRead, OwnHaveOctets}
+use Rattle.giop_head.specs.Told.{shared_head, BeginsRequest}
+use Rattle.giop_head.specs.Laws.{IsLong, IsRequest, reply_octets, RequestsAreRead, RepliesAreRead, OwnHaveOctets}
 use Rattle.giop_head.proofs.Sending.{request_puts, fated, reply_puts}
 
 -- a header in which the size is told
@@ -67,6 +68,11 @@ module _ (w : Way) (r : Order) (type : ℕ) (fields body : List ℕ) (P : ℕ �
   begins fits = rw (front, same_length)
       (sized r type (length (head ++ body) - 12), fields, refl, (twelve r type (length (head ++ body) - 12), is_right w r type (length (head ++ body)) is fits), rw (twelve r type (length (head ++ body) - 12)) spelled)
 
+  pub rest : drop (length head) message ≡ body
+  rest = ap (drop (length head)) (whole ∙ sym (append_assoc (sized r type (length (head ++ body) - 12)) fields body))
+      ∙ drop_at (sized r type (length (head ++ body) - 12) ++ fields) body (length head)
+      (omega (arith, length-append (sized r type (length (head ++ body) - 12)) fields, twelve r type (length (head ++ body) - 12), length-append (header_octets r type) fields))
+
 -- a request's fields behind its header
 requested_octets : (r : Order) (q : Request) (t : List ℕ)
     → then_sequence r [] (then_string r q.name (then_sequence r q.key (then_long r q.id (then_long r 0 (header_octets r 0)) ++ (flag q.wants ∷ [])))) ≡ header_octets r 0 ++ t → request_octets r q ≡ header_octets r 0 ++ t
@@ -79,6 +85,34 @@ requests_read r q body is fits =
     let P : ℕ → List ℕ → Type 0 = λ p o. RequestSpells r p o q in
     let all : request_octets r q ≡ header_octets r 0 ++ t.0 = requested_octets r q t.0 t.1 in
     rw all (request r q, length (header_octets r 0 ++ t.0), (within Asks r 0 t.0 body P t.2 refl, begins Asks r 0 t.0 body P t.2 refl (rw all at fits)), refl)
+
+-- so it is where requests alone are read
+pub requests_begin : (r : Order) (q : Request) (body : List ℕ) → IsRequest q → IsLong (length (request_octets r q ++ body) - 12)
+    → BeginsRequest (with_size r (request_octets r q ++ body)) (record { head = shared_head q.id q.wants r; key = q.key; name = q.name; used = length (request_octets r q) })
+requests_begin r q body is fits =
+    let t = request_puts r q is (header_octets r 0) in
+    let P : ℕ → List ℕ → Type 0 = λ p o. RequestSpells r p o q in
+    let all : request_octets r q ≡ header_octets r 0 ++ t.0 = requested_octets r q t.0 t.1 in
+    rw all (record { order = r; request = q }, length (header_octets r 0 ++ t.0), (within Requests r 0 t.0 body P t.2 refl, begins Requests r 0 t.0 body P t.2 refl (rw all at fits)), refl)
+
+-- and what follows the head is what was put behind it
+pub follows_request : (r : Order) (q : Request) (body : List ℕ) → IsRequest q → drop (length (request_octets r q)) (with_size r (request_octets r q ++ body)) ≡ body
+follows_request r q body is =
+    let t = request_puts r q is (header_octets r 0) in
+    let P : ℕ → List ℕ → Type 0 = λ p o. RequestSpells r p o q in
+    let all : request_octets r q ≡ header_octets r 0 ++ t.0 = requested_octets r q t.0 t.1 in
+    rw all (rest Requests r 0 t.0 body P t.2 refl)
+
+long_four : (r : Order) (n : ℕ) → length (long_octets r n) ≡ 4
+long_four Big n = refl
+long_four Little n = refl
+
+-- to tell the size changes no length
+pub length_sized : (r : Order) (o : List ℕ) → 12 ≤ length o → length (with_size r o) ≡ length o
+length_sized r o long =
+    let size : List ℕ = long_octets r (length o - 12) in
+    let is : with_size r o ≡ (take 8 o ++ size) ++ drop (8 + length size) o = refl in
+    omega (arith, long, ap length is, long_four r (length o - 12), length-append (take 8 o ++ size) (drop (8 + length size) o), length-append (take 8 o) size, length-take 8 o, length-drop (8 + length size) o)
 
 -- a reply's fields behind its header
 replied : (r : Order) (id : ℕ) (f : Fate) → reply_octets r id f ≡ fated r f (then_long r id (then_long r 0 (header_octets r 1)))

@@ -19,5 +19,5 @@ pub use header::{Heading, Way};
 pub use laws::{
     begins_or_stops, heads_are_read, own_refusals_have_octets, replies_are_read, requests_are_read,
 };
-pub use refusals::put_refusal;
+pub use refusals::{put_refusal, put_size};
 pub use reply::read_reply;

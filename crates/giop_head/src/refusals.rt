@@ -126,9 +126,9 @@ fn put_status(order: Order, id: u32, status: u32, buf: &mut SendBuf)
     put_long(order, status, buf);
 }
 
-/// Tells the size in the header.
+/// Tells the size in the header of a message that is whole: the number of octets behind the header.
 #[tactic(auto, using(crate::proofs::Putting::sizing))]
-fn put_size(order: Order, buf: &mut SendBuf)
+pub fn put_size(order: Order, buf: &mut SendBuf)
     requires long { 12 ≤ length buf.old.done }
     requires few { length buf.old.done ≤ 4294967295 }
     ensures done { buf.new.done ≡ with_size order buf.old.done }

@@ -12,7 +12,7 @@ returns-in-Ok-clause-begins c =
       request_seen request,
       begins,
       ap (λ (n : Naming). record { naming = n; head = request.head; encoding = laid request.head.order; used = request.used }) (sym c.named.ensures.value)
-          ∙ ap (λ (e : Encoding). record { naming = c.named.result; head = request.head; encoding = e; used = request.used }) (sym c.laid.ensures),
+          ∙ ap (λ (e : Encoding). record { naming = c.named.result; head = request.head; encoding = e; used = request.used }) (sym c.laid.ensures.value),
     )
 
 pub returns-in-Err-clause-stops : goal.returns-in-Err-clause-stops
