@@ -1,8 +1,10 @@
-"""ONC calls (RFC 5531, section 9) and their request records, over the operations of an interface file."""
+"""ONC calls (RFC 5531, section 9), requests over CDR, and their records, over the operations of an interface file."""
 import json
 import re
 from itertools import accumulate
 
+from cdr import Cdr
+from giop import Stop
 from values import Fault, NoValue, Reader
 
 LONGEST_LINE = 8_388_608
@@ -14,7 +16,8 @@ class Interface:
     """A version of a program; operations are triples of name, number and the types of the parameters."""
 
     def __init__(self, name, program, version, operations):
-        self.name, self.program, self.version, self.operations = name, program, version, list(operations)
+        self.name, self.program, self.version, self.own = name, program, version, list(operations)
+        self.operations = list(operations)
         if all(number != 0 for _, number, _ in operations):
             self.operations.append(("0", 0, []))
 
@@ -79,21 +82,15 @@ def word(n):
     return n.to_bytes(4, "big")
 
 
-def message_of(interface, operation, xid, values):
-    """The call of an operation, with empty credentials and verifier."""
-    numbers = (xid, 0, 2, interface.program, interface.version, operation[1], 0, 0, 0, 0)
-    return b"".join(map(word, numbers)) + b"".join(ty.send(v) for ty, v in zip(operation[2], values))
-
-
-def is_record(tree):
-    """Whether a tree is a request record, whatever its operation and value."""
-    if not isinstance(tree, dict) or not set(tree) <= {"op", "xid", "args"} or not isinstance(tree.get("op"), str):
+def is_record(tree, key):
+    """Whether a tree is a request record, whatever its operation and value; its head number has this name."""
+    if not isinstance(tree, dict) or not set(tree) <= {"op", key, "args"} or not isinstance(tree.get("op"), str):
         return False
-    xid = tree.get("xid", 0)
-    return type(xid) is int and 0 <= xid < 2 ** 32 and isinstance(tree.get("args", []), list)
+    number = tree.get(key, 0)
+    return type(number) is int and 0 <= number < 2 ** 32 and isinstance(tree.get("args", []), list)
 
 
-def marshal(interfaces, line):
+def marshal(back, interfaces, line):
     """The answer to a line of request records."""
     if len(line) > LONGEST_LINE:
         return "! long"
@@ -101,9 +98,9 @@ def marshal(interfaces, line):
         tree = tree_of(line)
     except NoTree:
         return "! json"
-    if not is_record(tree):
+    if not is_record(tree, back.key):
         return "! request"
-    named = [(i, op) for i in interfaces for op in i.operations if f"{i.name}.{op[0]}" == tree["op"]]
+    named = [(i, op) for i in interfaces for op in back.operations(i) if f"{i.name}.{op[0]}" == tree["op"]]
     if not named:
         return "! op"
     interface, operation = named[0]
@@ -114,7 +111,7 @@ def marshal(interfaces, line):
         values = [ty.value(arg) for ty, arg in zip(operation[2], args)]
     except NoValue:
         return "! value"
-    message = message_of(interface, operation, tree.get("xid", 0), values)
+    message = back.message(interface, operation, tree.get(back.key, 0), values)
     return message.hex() if len(message) <= LONGEST_MESSAGE else "! long"
 
 
@@ -149,35 +146,60 @@ def read_head(reader):
     return xid, *numbers
 
 
-def unmarshal(interfaces, line):
+class Onc:
+    """Calls of ONC, whose values travel over XDR."""
+
+    key = "xid"
+
+    def operations(self, interface):
+        return interface.operations
+
+    def message(self, interface, operation, xid, values):
+        """The call of an operation, with empty credentials and verifier."""
+        numbers = (xid, 0, 2, interface.program, interface.version, operation[1], 0, 0, 0, 0)
+        return b"".join(map(word, numbers)) + b"".join(ty.send(v) for ty, v in zip(operation[2], values))
+
+    def head(self, octets):
+        """The transaction, a test of interfaces and one of operations, and a reader of values."""
+        reader = Reader(octets, 0)
+        xid, program, version, procedure = read_head(reader)
+        return xid, lambda i: (i.program, i.version) == (program, version), lambda op: op[1] == procedure, reader
+
+    def read(self, reader, ty):
+        return ty.read(reader)
+
+
+def unmarshal(back, interfaces, line):
     """The answer to a line of hexadecimal digits."""
     if len(line) > LONGEST_LINE:
         return "! long"
     if len(line) % 2 or any(c not in b"0123456789abcdefABCDEF" for c in line):
         return "! hex"
     message = bytes.fromhex(line.decode())
-    reader = Reader(message, 0)
     try:
-        xid, program, version, procedure = read_head(reader)
+        number, is_called, is_named, reader = back.head(message)
     except HeadFault as fault:
         return f"! head {fault}"
-    called = [i for i in interfaces if (i.program, i.version) == (program, version)]
+    except Stop as stop:
+        return f"! head {stop.kind.removesuffix('_')}"
+    called = [i for i in interfaces if is_called(i)]
     if not called:
         return "! interface"
-    operations = [op for op in called[0].operations if op[1] == procedure]
+    operations = [op for op in back.operations(called[0]) if is_named(op)]
     if not operations:
         return "! operation"
     name, _, types = operations[0]
     try:
-        args = [ty.tree(ty.read(reader)) for ty in types]
+        args = [ty.tree(back.read(reader, ty)) for ty in types]
     except Fault as fault:
         return f"! body {fault}"
     if reader.at < len(message):
         return f"! trailing {reader.at}"
-    return text_of({"op": f"{called[0].name}.{name}", "xid": xid, "args": args})
+    return text_of({"op": f"{called[0].name}.{name}", back.key: number, "args": args})
 
 
 COMMANDS = {"marshal": marshal, "unmarshal": unmarshal}
+BACKS = {"xdr": Onc(), "cdr-be": Cdr("big"), "cdr-le": Cdr("little")}
 
 
 def lines_of(octets):
@@ -185,7 +207,7 @@ def lines_of(octets):
     return [line for line in (line.removesuffix(b"\r") for line in octets.split(b"\n")) if line]
 
 
-def answers(command, interfaces, octets):
-    """What a command writes over an input, and its status."""
-    told = [COMMANDS[command](interfaces, line) for line in lines_of(octets)]
+def answers(command, back, interfaces, octets):
+    """What a command over a back end writes over an input, and its status."""
+    told = [COMMANDS[command](BACKS[back], interfaces, line) for line in lines_of(octets)]
     return "".join(f"{answer}\n" for answer in told).encode(), int(any(answer.startswith("!") for answer in told))

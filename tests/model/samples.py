@@ -1,7 +1,7 @@
 """Random interface files, request lines and calls, by a seeded generator."""
 import json
 
-from calls import marshal
+from calls import BACKS, marshal
 from values import Array, Bool, Enum, Number, Opaque, Pointer, String, Struct, Void
 
 NUMBERS = ["int", "unsigned int", "unsigned", "long", "unsigned long", "short", "unsigned short", "char", "unsigned char",
@@ -129,13 +129,13 @@ def mutated(rng, tree):
     return rng.choice(ODD_TREES)
 
 
-def request_lines(rng, interfaces, count):
-    """Lines of `marshal`: records, most of them right, and others."""
+def request_lines(rng, back, interfaces, count):
+    """Lines of `marshal` over a back end: records, most of them right, and others."""
     for _ in range(count):
         interface = rng.choice(interfaces)
-        name, _, types = rng.choice(interface.operations)
+        name, _, types = rng.choice(BACKS[back].operations(interface) or interface.operations)
         args = [ty.tree(sample(rng, ty)) for ty in types]
-        record = {"op": f"{interface.name}.{name}", "xid": rng.choice([0, 1, 2 ** 32 - 1]), "args": args}
+        record = {"op": f"{interface.name}.{name}", BACKS[back].key: rng.choice([0, 1, 2 ** 32 - 1]), "args": args}
         if args and rng.random() < 0.5:
             k = rng.randrange(len(args))
             record["args"] = [*args[:k], mutated(rng, args[k]), *args[k + 1:]]
@@ -145,10 +145,12 @@ def request_lines(rng, interfaces, count):
         yield (rng.choice(ODD_LINES) if rng.random() < 0.05 else line).encode()
 
 
-def call_lines(rng, interfaces, requests):
-    """Lines of `unmarshal`: calls of the requests that have one, most of them wrong somewhere."""
-    for call in (marshal(interfaces, line) for line in requests):
-        if not call.startswith("!"):
+def call_lines(rng, back, interfaces, requests):
+    """Lines of `unmarshal` over a back end: calls of the requests that have one, most of them wrong somewhere."""
+    for call in (marshal(BACKS[back], interfaces, line) for line in requests):
+        if not call.startswith("!") and back != "xdr":
+            yield from (line.encode() for line in [call, *(giop_line(rng, call) for _ in range(8))])
+        elif not call.startswith("!"):
             yield from (line.encode() for line in [call, *head_lines(rng, call), *(body_line(rng, call) for _ in range(5 if len(call) > 80 else 0))])
 
 
@@ -164,6 +166,23 @@ def head_lines(rng, call):
     body = f"00000001000000{rng.choice(['05', '90', '91'])}{'ab' * 5}{rng.choice(['000000', '000001'])}"
     return rng.sample([call.upper(), call[:at], call[:at + 1], call + word, call[:-8], exchanged(call, at, "01"), exchanged(call, rng.randrange(10) * 8, word),
                        call[:48] + body + call[64:], call[:64] + body + call[80:]], 3)
+
+
+def resized(call):
+    """A GIOP message with its size told, in its order."""
+    order = "little" if call[12:14] == "01" else "big"
+    return exchanged(call, 16, (len(call) // 2 - 12).to_bytes(4, order).hex())
+
+
+def giop_line(rng, call):
+    """A GIOP message that is cut, with octets after it, or with another octet or word somewhere; most of them tell their size."""
+    at = rng.randrange(len(call) // 2) * 2
+    octet = rng.choice(["00", "01", "02", "ff", "80"])
+    later = 24 + rng.randrange(len(call) // 2 - 12) * 2
+    more = "".join(f"{rng.randrange(256):02x}" for _ in range(rng.randint(1, 9)))
+    tried = [exchanged(call, at, octet), exchanged(call, later, octet), exchanged(call, later // 8 * 8, rng.choice(ODD_WORDS)[:len(call) - later // 8 * 8])]
+    sized = [resized(call[:max(24, at)]), resized(call + more), resized(call[:later] + octet + call[later:])]
+    return rng.choice([*tried * 3, *sized * 2, call[:at], call[:at + 1], call + more, call.upper()])
 
 
 def body_line(rng, call):

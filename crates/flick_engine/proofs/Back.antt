@@ -1,6 +1,5 @@
 -- What is sent is what is received.
-use Rattle.std.proofs.Common.{◌≡◌, ℕ, List, ◌++◌, length, drop, refl, sym}
-use Rattle.std.proofs.lemmas.List.{drop_at}
+use Rattle.std.proofs.Common.{◌≡◌, ℕ, List, ◌++◌, length, length-append, drop, refl, arith}
 use Rattle.mint.specs.Types.{Ty}
 use Rattle.mint.specs.Values.{Val}
 use Rattle.mint.specs.Typed.{IsWellTyped}
@@ -9,22 +8,23 @@ use Rattle.wire_def.specs.Send.{send}
 use Rattle.wire_def.specs.Spells.{IsSpelling}
 use Rattle.wire_def.proofs.Encodings.{sent_spells}
 use Rattle.flick_engine.specs.Backs.{encoding, lead}
-use Rattle.flick_engine.specs.Messages.{request_type}
+use Rattle.flick_engine.specs.Messages.{request_type, message}
 use Rattle.flick_engine.specs.Laws.{IsReadBack}
-use Rattle.flick_engine.proofs.HeadsOfBacks.{received}
+use Rattle.flick_engine.proofs.HeadsOfBacks.{received, says_made, long_lead, same_length}
 
--- what is sent after a lead spells the value from the lead's end, by the names that a head gives to both
-spells_after : (e f : Encoding) (t : Ty) (lead : List ℕ) (used : ℕ) (v : Val) → f ≡ e → used ≡ length lead → IsWellTyped t v
-    → IsSpelling f t used (drop used (lead ++ send e t (length lead) v)) v
-spells_after e f t lead used v same long typed =
-    let after : drop used (lead ++ send e t (length lead) v) ≡ send e t (length lead) v = drop_at lead (send e t (length lead) v) used (sym long) in
-    rw (after, same, long) (sent_spells e t (length lead) v typed)
+-- what is sent after a lead spells the value from the lead's end, where it follows the head
+spells_after : (e f : Encoding) (t : Ty) (p used : ℕ) (o : List ℕ) (v : Val) → f ≡ e → used ≡ p → drop used o ≡ send e t p v → IsWellTyped t v → IsSpelling f t used (drop used o) v
+spells_after e f t p used o v same long after typed = rw (after, same, long) (sent_spells e t p v typed)
 
 pub read_back : IsReadBack
 read_back b op head v c says named typed short =
-    let is = received b op head c says in (
+    let is = received b op head c says in
+    let body = send (encoding b.back) (request_type b op) (length (lead b op head)) v in
+    let made = says_made b.back b op head c says in
+    let lead_long = long_lead b.back made b op head in
+    let same : length (message b op head v) ≡ length (lead b op head ++ body) = same_length b.back (lead b op head ++ body) (omega (arith, lead_long, length-append (lead b op head) body)) in (
       c,
       op,
-      (short, is.begins (send (encoding b.back) (request_type b op) (length (lead b op head)) v), named),
-      (refl, refl, spells_after (encoding b.back) c.encoding (request_type b op) (lead b op head) c.used v is.encoding is.used typed),
+      (short, is.begins body (omega (arith, short, same)), named),
+      (refl, refl, spells_after (encoding b.back) c.encoding (request_type b op) (length (lead b op head)) c.used (message b op head v) v is.encoding is.used (is.follows body) typed),
     )

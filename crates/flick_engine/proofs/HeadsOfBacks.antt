@@ -1,13 +1,16 @@
 -- What holds of the heads of each back end.
-use Rattle.std.proofs.Common.{◌≡◌, ℕ, ◌+◌, ◌<◌, List, [], ◌∷◌, ◌++◌, map, length, Bool, true, false, Option, Some, None, refl, sym, ap, ◌∙◌, subst, arith}
+use Rattle.std.proofs.Common.{◌≡◌, ℕ, ◌+◌, ◌<◌, ◌≤◌, List, [], ◌∷◌, ◌++◌, map, length, drop, Bool, true, false, Option, Some, None, refl, sym, ap, ◌∙◌, subst, arith}
 use Rattle.std.specs.Prelude.{IfSome, if◌then◌else◌, codes, slice_get, slice_index_or}
 use Rattle.std.specs.Str.{bytes_eq}
-use Rattle.std.proofs.lemmas.List.{map-append}
+use Rattle.std.proofs.lemmas.List.{map-append, drop_at}
 use Rattle.std.proofs.lemmas.Option.{slice_get-get_or}
 use Rattle.std.proofs.lemmas.Simd.{map-map}
+use Rattle.kit_base.specs.Limits.{longest_message}
 use Rattle.wire_def.specs.declared.encoding.Back.{Back}
 use Rattle.wire_def.specs.declared.encoding.Back.TheVariants as back
 use Rattle.wire_def.specs.declared.head.Head.{Head}
+use Rattle.wire_def.specs.declared.head.Order.{Order}
+use Rattle.wire_def.specs.declared.head.Order.TheVariants.{Big, Little}
 use Rattle.wire_def.specs.Grammar.{AreOctets}
 use Rattle.call_kit.specs.declared.called.Called.{Called}
 use Rattle.call_kit.specs.declared.called.Naming.{Naming}
@@ -27,7 +30,21 @@ use Rattle.back_xdr.proofs.Heading.{one_head_called, has_head_called}
 use Rattle.back_xdr.proofs.NamedBelow.{named_below}
 use Rattle.back_xdr.proofs.NamedRight.{named_right}
 use Rattle.back_xdr.proofs.Sent.{leads_read}
-use Rattle.flick_engine.specs.Backs.{IsMade, back_of, encoding, lead_over, BeginsOver, Begins, AsksFor, Stops, SaysOver, Says}
+use Rattle.giop_head.specs.Call.{Request}
+use Rattle.giop_head.specs.Items.{laid}
+use Rattle.giop_head.specs.Printed.{with_size}
+use Rattle.giop_head.specs.Told.{ToldRequest}
+use Rattle.giop_head.proofs.Sent.{requests_begin, follows_request, length_sized}
+use Rattle.back_cdr.specs.Leads as cdr_leads
+use Rattle.back_cdr.specs.Seeking as cdr_seeking
+use Rattle.back_cdr.specs.Targets.{IsCdr, Target, no_target, targets, target_of}
+use Rattle.back_cdr.proofs.Counting as cdr_counting
+use Rattle.back_cdr.proofs.Counting.{own_alone}
+use Rattle.back_cdr.proofs.Growing.{long_request}
+use Rattle.back_cdr.proofs.Heading as cdr_heading
+use Rattle.back_cdr.proofs.NamedBelow as cdr_named
+use Rattle.back_cdr.proofs.NamedBy.{pairs_in, pairs, named_by}
+use Rattle.flick_engine.specs.Backs.{IsMade, back_of, encoding, lead_over, sized, BeginsOver, Begins, AsksByName, AsksFor, Stops, request_of, told_of, SaysByName, SaysOver, Says}
 use Rattle.flick_engine.specs.Operations.{operations_in}
 use Rattle.flick_engine.proofs.Places.{placed}
 
@@ -39,7 +56,9 @@ either false P x y h g = g
 
 -- what words name is made
 pub back_made : (word : List ℕ) → IfSome (back_of word) IsMade
-back_made word = either (bytes_eq word (codes "xdr")) IsMade (Some back.Xdr) None tt tt
+back_made word =
+    either (bytes_eq word (codes "xdr")) IsMade (Some back.Xdr) _ tt
+    (either (bytes_eq word (codes "cdr-be")) IsMade (Some back.CdrBig) _ tt (either (bytes_eq word (codes "cdr-le")) IsMade (Some back.CdrLittle) None tt tt))
 
 -- ---- the heads that are received
 
@@ -54,8 +73,8 @@ none o = record {
 
 one_head_over : (k : Back) (b : Binding) (o : List ℕ) → IsOneHead o (BeginsOver k b o) (Stops k o)
 one_head_over back.Xdr b o = one_head_called b o
-one_head_over back.CdrBig b o = none o
-one_head_over back.CdrLittle b o = none o
+one_head_over back.CdrBig b o = cdr_heading.one_head_called b o
+one_head_over back.CdrLittle b o = cdr_heading.one_head_called b o
 one_head_over back.Mach b o = none o
 
 -- a message has one head, or one fault of it
@@ -64,8 +83,8 @@ one_head b o = one_head_over b.back b o
 
 has_head_over : (k : Back) → IsMade k → (b : Binding) (o : List ℕ) → AreOctets o → HasHead (BeginsOver k b o) (Stops k o)
 has_head_over back.Xdr made b o oct = has_head_called b o oct
-has_head_over back.CdrBig made b o oct = absurd made
-has_head_over back.CdrLittle made b o oct = absurd made
+has_head_over back.CdrBig made b o oct = cdr_heading.has_head_called b o oct
+has_head_over back.CdrLittle made b o oct = cdr_heading.has_head_called b o oct
 has_head_over back.Mach made b o oct = absurd made
 
 -- octets have a head, or a fault of it
@@ -74,24 +93,69 @@ has_head b made o oct = has_head_over b.back made b o oct
 
 -- ---- the heads that are sent
 
+-- the length of a message lies within its head, and to tell it changes no length
+abbrev IsLongEnough : List ℕ → Type 0
+IsLongEnough o = 12 ≤ length o
+
+pub long_lead : (k : Back) → IsMade k → (b : Binding) (op : ℕ) (head : Head) → IsLongEnough (lead_over k b op head)
+long_lead back.Xdr made b op head = omega arith
+long_lead back.CdrBig made b op head = long_request Big (target_of b op) head.id
+long_lead back.CdrLittle made b op head = long_request Little (target_of b op) head.id
+long_lead back.Mach made b op head = absurd made
+
+pub same_length : (k : Back) (o : List ℕ) → IsLongEnough o → length (sized k o) ≡ length o
+same_length back.Xdr o long = refl
+same_length back.CdrBig o long = length_sized Big o long
+same_length back.CdrLittle o long = length_sized Little o long
+same_length back.Mach o long = refl
+
 -- a head that is sent is received as what it says, and its body follows it
 pub record IsReceived (k : Back) (b : Binding) (op : ℕ) (head : Head) (c : Called) : Type 0 where
-  pub begins : (rest : List ℕ) → BeginsOver k b (lead_over k b op head ++ rest) c
+  pub begins : (rest : List ℕ) → length (lead_over k b op head ++ rest) ≤ longest_message → BeginsOver k b (sized k (lead_over k b op head ++ rest)) c
+  pub follows : (rest : List ℕ) → drop c.used (sized k (lead_over k b op head ++ rest)) ≡ rest
   pub used : c.used ≡ length (lead_over k b op head)
   pub encoding : c.encoding ≡ encoding k
 
+xdr_used : (b : Binding) (op : ℕ) (head : Head) (c : Called) → SaysOver back.Xdr b op head c → c.used ≡ length (lead_over back.Xdr b op head)
+xdr_used b op head c (fits, words, is) = sym (ap (λ (x : Called). x.used) is)
+
+module _ (r : Order) (b : Binding) (op : ℕ) (head : Head) (c : Called) (says : SaysByName r b op head c) where
+  abbrev asking : Request
+  asking = request_of (target_of b op) head.id
+
+  cdr_begins : (rest : List ℕ) → length (cdr_leads.lead r (target_of b op) head.id ++ rest) ≤ longest_message → cdr_seeking.Calls b (with_size r (cdr_leads.lead r (target_of b op) head.id ++ rest)) c
+  cdr_begins rest few = (told_of r (target_of b op) head.id, requests_begin r asking rest says.0 (omega (arith, few)), says.1)
+
+  cdr_follows : (rest : List ℕ) → drop c.used (with_size r (cdr_leads.lead r (target_of b op) head.id ++ rest)) ≡ rest
+  cdr_follows rest =
+      ap (λ (x : Called). drop x.used (with_size r (cdr_leads.lead r (target_of b op) head.id ++ rest))) (sym says.1)
+      ∙ follows_request r asking rest says.0
+
+  cdr_used : c.used ≡ length (cdr_leads.lead r (target_of b op) head.id)
+  cdr_used = ap (λ (x : Called). x.used) (sym says.1)
+
+  cdr_encoding : c.encoding ≡ laid r
+  cdr_encoding = ap (λ (x : Called). x.encoding) (sym says.1)
+
 received_over : (k : Back) (b : Binding) (op : ℕ) (head : Head) (c : Called) → SaysOver k b op head c → IsReceived k b op head c
 received_over back.Xdr b op head c (fits, words, is) = record {
-  begins = λ rest. (call_of (procedure_of b op) head.id, leads_read (procedure_of b op) head.id rest fits words, is);
-  used = sym (ap (λ (x : Called). x.used) is);
+  begins = λ rest few. (call_of (procedure_of b op) head.id, leads_read (procedure_of b op) head.id rest fits words, is);
+  follows = λ rest. drop_at (lead_over back.Xdr b op head) rest c.used (sym (xdr_used b op head c (fits, words, is)));
+  used = xdr_used b op head c (fits, words, is);
   encoding = sym (ap (λ (x : Called). x.encoding) is);
 }
-received_over back.CdrBig b op head c says = absurd says
-received_over back.CdrLittle b op head c says = absurd says
+received_over back.CdrBig b op head c says = record { begins = cdr_begins Big b op head c says; follows = cdr_follows Big b op head c says; used = cdr_used Big b op head c says; encoding = cdr_encoding Big b op head c says }
+received_over back.CdrLittle b op head c says = record { begins = cdr_begins Little b op head c says; follows = cdr_follows Little b op head c says; used = cdr_used Little b op head c says; encoding = cdr_encoding Little b op head c says }
 received_over back.Mach b op head c says = absurd says
 
 pub received : (b : Binding) (op : ℕ) (head : Head) (c : Called) → Says b op head c → IsReceived b.back b op head c
 received b op head c says = received_over b.back b op head c says
+
+pub says_made : (k : Back) (b : Binding) (op : ℕ) (head : Head) (c : Called) → SaysOver k b op head c → IsMade k
+says_made back.Xdr b op head c says = tt
+says_made back.CdrBig b op head c says = tt
+says_made back.CdrLittle b op head c says = tt
+says_made back.Mach b op head c says = absurd says
 
 -- ---- bindings of one unit
 
@@ -107,6 +171,10 @@ none_alike k b c leads never = record { leads = leads; begins = λ o x h. absurd
 -- what a call that names this says
 abbrev called_with : OncCall → Naming → Called
 called_with k n = record { naming = n; head = k.head; encoding = encoding back.Xdr; used = k.used }
+
+-- what a request that names this says
+abbrev told_with : ToldRequest → Naming → Called
+told_with t n = record { naming = n; head = t.head; encoding = laid t.head.order; used = t.used }
 
 place_same : {A : Type 0} (xs ys : List A) (n : ℕ) (d : A) → xs ≡ ys → slice_index_or xs n d ≡ slice_index_or ys n d
 place_same xs ys n d e = ap (λ zs. slice_index_or zs n d) e
@@ -128,10 +196,29 @@ module _ (b c : Binding) (units : b.unit ≡ c.unit) where
       let below : IsBelow (length b.ops) (named b call) = subst (λ (n : ℕ). IsBelow n (named b call)) all (named_below 0 b.unit.interfaces call) in
       subst (λ (y : Called). IsBelow (length b.ops) y.naming) is below
 
+  cdr_leads_alike : (r : Order) (op : ℕ) (head : Head) → cdr_leads.lead r (target_of b op) head.id ≡ cdr_leads.lead r (target_of c op) head.id
+  cdr_leads_alike r op head =
+      let same : target_of b op ≡ target_of c op = place_same _ _ op no_target (ap (λ (u : PlainUnit). targets u.interfaces) units) in
+      ap (λ (t : Target). cdr_leads.lead r t head.id) same
+
+  cdr_begins_alike : (o : List ℕ) (x : Called) → cdr_seeking.Calls b o x → cdr_seeking.Calls c o x
+  cdr_begins_alike o x (t, begins, is) =
+      let same : cdr_seeking.called b t ≡ cdr_seeking.called c t = ap (told_with t) (ap (λ (u : PlainUnit). cdr_seeking.named_from 0 u.interfaces t.key t.name) units) in
+      (t, begins, sym same ∙ is)
+
+  cdr_below : IsBinding b → IsCdr b.back → (o : List ℕ) (x : Called) → cdr_seeking.Calls b o x → IsBelow (length b.ops) x.naming
+  cdr_below stands cdr o x (t, begins, is) =
+      let all : 0 + length (targets b.unit.interfaces) ≡ length b.ops = omega (arith, cdr_counting.counted b stands cdr) in
+      let below : IsBelow (length b.ops) (cdr_seeking.named b t) = subst (λ (n : ℕ). IsBelow n (cdr_seeking.named b t)) all (cdr_named.named_below 0 b.unit.interfaces t.key t.name) in
+      subst (λ (y : Called). IsBelow (length b.ops) y.naming) is below
+
+  cdr_is : (k : Back) → IsCdr k → b.back ≡ k → IsCdr b.back
+  cdr_is k is of = subst IsCdr (sym of) is
+
   alike_over : (k : Back) → IsBinding b → b.back ≡ k → AreAlike k b c
   alike_over back.Xdr stands of = record { leads = xdr_leads_alike; begins = xdr_begins; below = xdr_below stands of }
-  alike_over back.CdrBig stands of = none_alike back.CdrBig b c (λ op head. refl) (λ o x h. h)
-  alike_over back.CdrLittle stands of = none_alike back.CdrLittle b c (λ op head. refl) (λ o x h. h)
+  alike_over back.CdrBig stands of = record { leads = cdr_leads_alike Big; begins = cdr_begins_alike; below = cdr_below stands (cdr_is back.CdrBig refl of) }
+  alike_over back.CdrLittle stands of = record { leads = cdr_leads_alike Little; begins = cdr_begins_alike; below = cdr_below stands (cdr_is back.CdrLittle refl of) }
   alike_over back.Mach stands of = none_alike back.Mach b c (λ op head. refl) (λ o x h. h)
 
 -- the heads of bindings of one unit
@@ -180,10 +267,25 @@ xdr_asked b o x op (call, begins, is) names =
     let (q, stands, of) = placed procedure_at (operations_in back.Xdr b.unit.interfaces) op (procedure_of b op) (ap (λ (l : List Procedure). slice_get l op) (sym (xdr_procedures b.unit.interfaces)) ∙ there) in
     (q.0, q.1, stands, (call, begins, sym (named_right b call op same) ∙ sym of))
 
+-- over CDR no operation is gotten
+cdr_pairs : (k : Back) → IsCdr k → (is : List PlainInterface) → operations_in k is ≡ pairs is
+cdr_pairs k cdr [] = refl
+cdr_pairs k cdr (i ∷ is) =
+    ap (λ (ps : List PlainOperation). map (λ (p : PlainOperation). (i, p)) ps ++ operations_in k is) (own_alone k i cdr)
+    ∙ ap (λ (l : List (PlainInterface × PlainOperation)). pairs_in i ++ l) (cdr_pairs k cdr is)
+
+cdr_asked : (k : Back) → IsCdr k → (b : Binding) (o : List ℕ) (x : Called) (op : ℕ) → cdr_seeking.Calls b o x → x.naming ≡ Operation op
+    → (i : PlainInterface) × (p : PlainOperation) × (slice_get (operations_in k b.unit.interfaces) op ≡ Some (i, p)) × AsksByName i p o
+cdr_asked k cdr b o x op (t, begins, is) names =
+    let same : cdr_seeking.named b t ≡ Operation op = ap (λ (y : Called). y.naming) is ∙ names in
+    let (n, i, p, at, there, key, name) = named_by 0 b.unit.interfaces t.key t.name op same in
+    let place : op ≡ n = omega (arith, at) in
+    (i, p, ap (λ (l : List (PlainInterface × PlainOperation)). slice_get l op) (cdr_pairs k cdr b.unit.interfaces) ∙ ap (slice_get (pairs b.unit.interfaces)) place ∙ there, (t, begins, key, name))
+
 asked_over : (k : Back) (b : Binding) (o : List ℕ) (x : Called) (op : ℕ) → BeginsOver k b o x → x.naming ≡ Operation op → IsAskedOver k b o op
 asked_over back.Xdr b o x op begins names = xdr_asked b o x op begins names
-asked_over back.CdrBig b o x op begins names = absurd begins
-asked_over back.CdrLittle b o x op begins names = absurd begins
+asked_over back.CdrBig b o x op begins names = cdr_asked back.CdrBig refl b o x op begins names
+asked_over back.CdrLittle b o x op begins names = cdr_asked back.CdrLittle refl b o x op begins names
 asked_over back.Mach b o x op begins names = absurd begins
 
 -- the operation that a message names is one of the unit, which it asks for

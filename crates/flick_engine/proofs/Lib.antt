@@ -1,5 +1,6 @@
 mod Places
 pub mod HeadsOfBacks
+pub mod Sizes
 pub mod Deciding
 pub mod Existing
 pub mod Answering

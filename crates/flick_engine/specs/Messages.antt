@@ -6,12 +6,16 @@ use Rattle.wire_def.specs.declared.head.Head.{Head}
 use Rattle.wire_def.specs.Send.{send}
 use Rattle.pres.specs.declared.ops.Op.{Op}
 use Rattle.pres.specs.Bindings.{Binding}
-use Rattle.flick_engine.specs.Backs.{encoding, lead}
+use Rattle.flick_engine.specs.Backs.{encoding, lead, sized}
 
 -- the type of what goes into an operation
 abbrev pub request_type : Binding → ℕ → Ty
 request_type b op = type_at b.nodes (slice_index_or (map (λ (o : Op). o.request) b.ops) op 0)
 
 -- the head of an operation's call, and its value at the position after the head
+abbrev pub parts : Binding → ℕ → Head → Val → List ℕ
+parts b op head v = lead b op head ++ send (encoding b.back) (request_type b op) (length (lead b op head)) v
+
+-- the two, in which the length of the whole is told
 abbrev pub message : Binding → ℕ → Head → Val → List ℕ
-message b op head v = lead b op head ++ send (encoding b.back) (request_type b op) (length (lead b op head)) v
+message b op head v = sized b.back (parts b op head v)

@@ -1,16 +1,17 @@
 // What differs from one back end to another, from the crate of each.
-ghost use Rattle.std.specs.Prelude.{◌≡◌, ◌<◌, ◌≤◌, ◌+◌, ◌++◌, length, IfOk, IfErr, IfSome};
+ghost use Rattle.std.specs.Prelude.{◌≡◌, ◌<◌, ◌≤◌, [], length, IfOk, IfErr, IfSome, OnOk};
 ghost use Rattle.kit_base.specs.Limits.{longest_message};
-ghost use Rattle.wire_def.specs.declared.head.Head.{Head as SpecHead};
 ghost use Rattle.wire_def.specs.Lone.{IsPlain};
 ghost use Rattle.raw_buf.specs.Buf.{NoneFell};
 ghost use Rattle.call_kit.specs.Calls.{IsBelow};
-ghost use Rattle.flick_engine.specs.Backs.{IsMade, back_of, encoding, lead, Begins, Stops};
+ghost use Rattle.flick_engine.specs.Backs.{IsMade, back_of, encoding, lead, sized, Begins, Stops};
 
 use crate::engine::Engine;
 use call_kit::Called;
+use kit_base::NoMemory;
 use raw_buf::SendBuf;
-use wire_def::{Back, Encoding, Head, HeadErr};
+use std::alloc::Global;
+use wire_def::{Back, Encoding, Head, HeadErr, Order};
 
 /// The back end of a name, where engines are made for it.
 pub fn back_of(word: &[u8]) -> Option<Back>
@@ -20,44 +21,71 @@ pub fn back_of(word: &[u8]) -> Option<Back>
     if word == b"xdr".as_slice() {
         return Some(Back::Xdr);
     }
+    if word == b"cdr-be".as_slice() {
+        return Some(Back::CdrBig);
+    }
+    if word == b"cdr-le".as_slice() {
+        return Some(Back::CdrLittle);
+    }
     None
 }
 
 impl Engine {
-    /// How the bodies of messages are laid out.
+    /// How the bodies of messages that are sent are laid out.
     pub(crate) fn encoding(&self) -> Encoding
         ensures value { result ≡ encoding self.now.binding.back }
         ensures plain { IsPlain result }
     {
         match self.bound().back() {
             Back::Xdr => back_xdr::ENCODING,
-            _ => unreachable!(),
+            Back::CdrBig => Encoding::CdrBig,
+            Back::CdrLittle => Encoding::CdrLittle,
+            Back::Mach => unreachable!(),
         }
     }
 
-    /// The length of the head of an operation's call, whatever it says.
-    pub(crate) fn lead_length(&self, op: u32) -> usize
-        requires { op < length self.now.binding.ops }
-        ensures length { (head : SpecHead) → length (lead self.now.binding op head) ≡ result }
-        ensures few { result ≤ longest_message }
-    {
-        match self.bound().back() {
-            Back::Xdr => back_xdr::lead_length(),
-            _ => unreachable!(),
-        }
-    }
-
-    /// Puts the head of an operation's call into the space that is ensured.
-    pub(crate) fn put_lead(&self, op: u32, head: &Head, buf: &mut SendBuf)
+    /// Puts the head of an operation's call into an empty buffer.
+    pub(crate) fn put_lead(
+        &self,
+        alloc: Global,
+        op: u32,
+        head: &Head,
+        buf: &mut SendBuf,
+    ) -> Result<(), NoMemory>
         requires op { op < length self.now.binding.ops }
-        requires room { length (lead self.now.binding op head.now) ≤ length buf.old.front }
-        ensures done { buf.new.done ≡ buf.old.done ++ lead self.now.binding op head.now }
-        ensures ahead { length buf.new.front + length (lead self.now.binding op head.now) ≡ length buf.old.front }
+        requires empty { buf.old.done ≡ [] }
+        ensures ok { OnOk result (buf.new.done ≡ lead self.now.binding op head.now) }
         ensures spent { NoneFell buf.old.spent buf.new.spent }
     {
         match self.bound().back() {
-            Back::Xdr => back_xdr::put_lead(self.bound(), op, head, buf),
-            _ => unreachable!(),
+            Back::Xdr => {
+                buf.ensure(back_xdr::lead_length())?;
+                back_xdr::put_lead(self.bound(), op, head, buf);
+                Ok(())
+            }
+            Back::CdrBig | Back::CdrLittle => back_cdr::put_lead(
+                alloc,
+                self.bound(),
+                op,
+                head,
+                buf,
+            ),
+            Back::Mach => unreachable!(),
+        }
+    }
+
+    /// Tells the length of a message that is whole, where its head tells it.
+    pub(crate) fn put_size(&self, buf: &mut SendBuf)
+        requires long { 12 ≤ length buf.old.done }
+        requires few { length buf.old.done ≤ longest_message }
+        ensures done { buf.new.done ≡ sized self.now.binding.back buf.old.done }
+        ensures spent { NoneFell buf.old.spent buf.new.spent }
+    {
+        match self.bound().back() {
+            Back::Xdr => {}
+            Back::CdrBig => giop_head::put_size(Order::Big, buf),
+            Back::CdrLittle => giop_head::put_size(Order::Little, buf),
+            Back::Mach => unreachable!(),
         }
     }
 
@@ -70,7 +98,8 @@ impl Engine {
     {
         match self.bound().back() {
             Back::Xdr => back_xdr::read_called(self.bound(), message),
-            _ => unreachable!(),
+            Back::CdrBig | Back::CdrLittle => back_cdr::read_called(self.bound(), message),
+            Back::Mach => unreachable!(),
         }
     }
 }

@@ -1,10 +1,9 @@
 // Requests as messages.
-ghost use Rattle.std.specs.Prelude.{◌≡◌, ◌↔◌, ◌<◌, ◌≤◌, ◌+◌, ◌++◌, [], length, OnErr, OnOk, Err};
+ghost use Rattle.std.specs.Prelude.{◌≡◌, ◌↔◌, ◌<◌, ◌≤◌, ◌+◌, ◌++◌, [], length, OnErr, OnOk, Err, IfOk, IfErr};
 ghost use Rattle.kit_base.specs.Limits.{longest_message};
 ghost use Rattle.mint.specs.Typed.{IsWellTyped};
 ghost use Rattle.mint.specs.Values.{seen};
 ghost use Rattle.raw_buf.specs.Buf.{NoneFell};
-ghost use Rattle.flick_engine.specs.Backs.{lead};
 ghost use Rattle.flick_engine.specs.Messages.{request_type, message};
 
 use crate::engine::Engine;
@@ -37,38 +36,79 @@ impl Engine {
         ensures spent { NoneFell buf.old.spent buf.new.spent }
     {
         buf.clear();
-        let mint = self.bound().mint();
-        let id = self.request(op);
-        let position = self.lead_length(op);
-        let mut body = Octets::new(alloc);
-        plain_send(self.encoding(), mint, id, position, value, &mut body)?;
-        self.put_message(op, head, body.as_slice(), buf)
+        let made = self.put_message(alloc, op, head, value, buf);
+        emptied(made, buf)
     }
 
-    /// Makes the message of a body that is ready, in an empty buffer.
+    /// Makes the message of a request in an empty buffer.
     fn put_message(
         &self,
+        alloc: Global,
         op: u32,
         head: &Head,
-        body: &[u8],
+        value: &Value,
         buf: &mut SendBuf,
     ) -> Result<(), MarshalErr>
         requires op { op < length self.now.binding.ops }
+        requires typed { IsWellTyped (request_type self.now.binding op) (seen value.now) }
         requires empty { buf.old.done ≡ [] }
-        ensures ok { OnOk result (buf.new.done ≡ lead self.now.binding op head.now ++ body.now) }
-        ensures err { OnErr result (buf.new.done ≡ []) }
-        ensures long { (result ≡ Err MarshalErr.Long) ↔ (longest_message < length (lead self.now.binding op head.now) + length body.now) }
+        ensures ok { OnOk result (buf.new.done ≡ message self.now.binding op head.now (seen value.now)) }
+        ensures short { OnOk result (length (message self.now.binding op head.now (seen value.now)) ≤ longest_message) }
+        ensures long { (result ≡ Err MarshalErr.Long) → longest_message < length (message self.now.binding op head.now (seen value.now)) }
         ensures spent { NoneFell buf.old.spent buf.new.spent }
     {
-        let position = self.lead_length(op);
-        if body.len() > LONGEST_MESSAGE - position {
-            return Err(MarshalErr::Long);
-        }
-        buf.ensure(position + body.len())?;
-        self.put_lead(op, head, buf);
-        put_octets(body, buf);
+        self.put_lead(alloc, op, head, buf)?;
+        let position = position_in(buf)?;
+        let mint = self.bound().mint();
+        let id = self.request(op);
+        let mut body = Octets::new(alloc);
+        plain_send(self.encoding(), mint, id, position, value, &mut body)?;
+        put_body(body.as_slice(), buf)?;
+        self.put_size(buf);
         Ok(())
     }
+}
+
+/// What was answered, the buffer empty where it is not Ok.
+fn emptied(made: Result<(), MarshalErr>, out: &mut SendBuf) -> Result<(), MarshalErr>
+    ensures same { result ≡ made }
+    ensures ok { OnOk result (out.new ≡ out.old) }
+    ensures err { OnErr result (out.new.done ≡ []) }
+    ensures spent { NoneFell out.old.spent out.new.spent }
+{
+    if made.is_err() {
+        out.clear();
+    }
+    made
+}
+
+/// Where the body of a message begins whose head stands in the buffer.
+fn position_in(buf: &SendBuf) -> Result<usize, MarshalErr>
+    ensures ok { IfOk result (λ n. (n ≡ length buf.now.done) × (n ≤ longest_message)) }
+    ensures long { IfErr result (λ e. longest_message < length buf.now.done) }
+{
+    let position = buf.octets().len();
+    if position > LONGEST_MESSAGE {
+        Err(MarshalErr::Long)
+    } else {
+        Ok(position)
+    }
+}
+
+/// Puts the body of a message after its head.
+fn put_body(body: &[u8], buf: &mut SendBuf) -> Result<(), MarshalErr>
+    requires few { length buf.old.done ≤ longest_message }
+    ensures ok { OnOk result (buf.new.done ≡ buf.old.done ++ body.now) }
+    ensures long { (result ≡ Err MarshalErr.Long) ↔ (longest_message < length buf.old.done + length body.now) }
+    ensures spent { NoneFell buf.old.spent buf.new.spent }
+{
+    let position = buf.octets().len();
+    if body.len() > LONGEST_MESSAGE - position {
+        return Err(MarshalErr::Long);
+    }
+    buf.ensure(body.len())?;
+    put_octets(body, buf);
+    Ok(())
 }
 
 /// Puts octets into the space that is ensured.

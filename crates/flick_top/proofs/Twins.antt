@@ -33,7 +33,7 @@ use Rattle.call_kit.specs.declared.called.Called.{Called}
 use Rattle.call_kit.specs.declared.called.Naming.{Naming}
 use Rattle.call_kit.specs.declared.called.Naming.TheVariants.{Operation}
 use Rattle.call_kit.specs.Calls.{IsBelow}
-use Rattle.flick_engine.specs.Backs.{encoding, lead_over, lead, BeginsOver, Begins, Stops}
+use Rattle.flick_engine.specs.Backs.{encoding, lead_over, lead, sized, BeginsOver, Begins, Stops}
 use Rattle.flick_engine.specs.Messages.{request_type, message}
 use Rattle.flick_engine.specs.Received.{Asked, Names, ReadCall}
 use Rattle.flick_engine.proofs.HeadsOfBacks.{heads_alike}
@@ -88,9 +88,9 @@ lead_alike b c t op h = (heads_alike b c t.units t.one).leads op h ∙ ap (λ (k
 
 message_alike : (b c : Binding) → AreTwins b c → (op : ℕ) → op < length b.ops → (h : Head) (v : Val) → message b op h v ≡ message c op h v
 message_alike b c t op below h v =
-    ap (λ (l : List ℕ). l ++ send (encoding b.back) (request_type b op) (length l) v) (lead_alike b c t op h)
-    ∙ ap (λ (k : Back). lead c op h ++ send (encoding k) (request_type b op) (length (lead c op h)) v) (t.backs)
-    ∙ ap (λ (ty : Ty). lead c op h ++ send (encoding c.back) ty (length (lead c op h)) v) (request_alike b c t op below)
+    ap (λ (l : List ℕ). sized b.back (l ++ send (encoding b.back) (request_type b op) (length l) v)) (lead_alike b c t op h)
+    ∙ ap (λ (k : Back). sized k (lead c op h ++ send (encoding k) (request_type b op) (length (lead c op h)) v)) (t.backs)
+    ∙ ap (λ (ty : Ty). sized c.back (lead c op h ++ send (encoding c.back) ty (length (lead c op h)) v)) (request_alike b c t op below)
 
 names_alike : (b c : Binding) → AreTwins b c → map (λ (i : PlainInterface). i.name) b.unit.interfaces ≡ map (λ (i : PlainInterface). i.name) c.unit.interfaces
 names_alike b c t = ap (λ (u : PlainUnit). map (λ (i : PlainInterface). i.name) u.interfaces) t.units

@@ -1,0 +1,147 @@
+"""Values over CDR and requests of GIOP 1.0 (OMG CORBA, chapter GIOP), over the operations of an interface file.
+
+As all of the model it is written from the standard and docs/, with nothing of the crates in it.
+"""
+from giop import Reading, Stop, header, message, request_fields, REQUEST
+from values import Array, Bool, Enum, Fault, Number, Opaque, Pointer, String, Struct, Union
+
+BODY = 12  # the octets of a header, which stand before the fields
+
+
+def width(ty):
+    """How many octets a number takes, which is what it is aligned to."""
+    if isinstance(ty, Enum):
+        return 4
+    return 1 if isinstance(ty, Bool) else (ty.greatest - ty.least).bit_length() // 8
+
+
+class Writing:
+    """The fields of a message, counted from its first octet."""
+
+    def __init__(self, fields, order):
+        self.fields, self.order = fields, order
+
+    def number(self, n, octets):
+        self.fields += bytes(-(BODY + len(self.fields)) % octets) + (n % 2 ** (8 * octets)).to_bytes(octets, self.order)
+
+    def value(self, ty, value):
+        if isinstance(ty, Number):
+            self.number(value, width(ty))
+        elif isinstance(ty, String):
+            self.number(len(value) + 1, 4)
+            self.fields += value + b"\0"
+        elif isinstance(ty, Opaque):
+            self.count(ty.count, len(value))
+            self.fields += value
+        elif isinstance(ty, Array):
+            self.count(ty.count, len(value))
+            for element in value:
+                self.value(ty.element, element)
+        elif isinstance(ty, Pointer):
+            self.number(len(value or []), 1)
+            for element in value or []:
+                self.value(ty.array.element, element)
+        elif isinstance(ty, Struct):
+            for (_, field), part in zip(ty.fields, value):
+                self.value(field, part)
+        elif isinstance(ty, Union):
+            self.value(ty.tag, value[0])
+            self.value(ty.arm(value[0]), value[1])
+
+    def count(self, count, n):
+        if not count.exact:
+            self.number(n, 4)
+
+
+def number_in(reading, ty):
+    try:
+        place, n = reading.number(width(ty), ty.signed)
+    except Stop as stop:
+        raise Fault(*str(stop).split()) from None
+    if not ty.has(n):
+        raise Fault("BadValue", place)
+    return n
+
+
+def count_in(reading, count, more=0):
+    """A number of elements, or the length of a string with the octet that ends it."""
+    try:
+        place, n = reading.number(4)
+    except Stop as stop:
+        raise Fault(*str(stop).split()) from None
+    if more and n == 0:
+        raise Fault("BadText", place)
+    if not count.has(n - more):
+        raise Fault("OverBound", place)
+    return n
+
+
+def octets_in(reading, length):
+    octets = reading.octets[reading.at:reading.at + length]
+    reading.at += len(octets)
+    if len(octets) < length:
+        raise Fault("Short", reading.at)
+    return octets
+
+
+def text_in(reading, ty):
+    length = count_in(reading, ty.count, 1)
+    for place in range(reading.at, reading.at + length):
+        if place >= len(reading.octets):
+            raise Fault("Short", place)
+        if (reading.octets[place] == 0) != (place == reading.at + length - 1):
+            raise Fault("BadText", place)
+    return octets_in(reading, length)[:-1]
+
+
+def value_in(reading, ty):
+    if isinstance(ty, Number):
+        return number_in(reading, ty)
+    if isinstance(ty, String):
+        return text_in(reading, ty)
+    if isinstance(ty, Opaque):
+        return octets_in(reading, ty.count.bound if ty.count.exact else count_in(reading, ty.count))
+    if isinstance(ty, Array):
+        length = ty.count.bound if ty.count.exact else count_in(reading, ty.count)
+        return [value_in(reading, ty.element) for _ in range(length)]
+    if isinstance(ty, Pointer):
+        return [value_in(reading, ty.array.element)] if number_in(reading, Bool()) else None
+    if isinstance(ty, Struct):
+        return [value_in(reading, field) for _, field in ty.fields]
+    if isinstance(ty, Union):
+        n = number_in(reading, ty.tag)
+        if ty.arm(n) is None:
+            raise Fault("BadValue", reading.at - width(ty.tag))
+        return n, value_in(reading, ty.arm(n))
+    return None
+
+
+class Cdr:
+    """Messages of GIOP whose octets are sent in one order and received in either."""
+
+    key = "id"
+
+    def __init__(self, order):
+        self.order = order
+
+    def operations(self, interface):
+        return interface.own
+
+    def message(self, interface, operation, id, values):
+        """The request of an operation: ONC has none that wants no reply."""
+        writing = Writing(request_fields(self.order, id, True, interface.name, operation[0]), self.order)
+        for ty, value in zip(operation[2], values):
+            writing.value(ty, value)
+        return message(self.order, REQUEST, writing.fields)
+
+    def head(self, octets):
+        """The id, a test of interfaces and one of operations, and a reader of values."""
+        order, _, fields = header(octets, (REQUEST,))
+        fields.contexts()
+        id, _, key, name = fields.long(), fields.flag(), fields.sequence(), fields.string()
+        fields.sequence()
+        reading = Reading(octets, fields.at, order)
+        return id, lambda i: i.name.encode() == key, lambda op: op[0].encode() == name, reading
+
+    def read(self, reading, ty):
+        return value_in(reading, ty)
