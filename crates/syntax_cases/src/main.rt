@@ -1,0 +1,25 @@
+// Answers cases of lexing and parsing: a JSON object on each line of standard input, and an answer on
+// a line of standard output.
+#![tactic(auto)]
+
+mod asks;
+mod shown;
+
+use crate::asks::{Bad, answer};
+use anyhow::{Result, bail};
+use std::io::{self, BufRead, BufReader, BufWriter, Write};
+
+fn main(rt: HostRuntime) -> Result<()> {
+    let alloc = rt.alloc();
+    let mut out = BufWriter::new(alloc, io::writer(&rt))?;
+    for line in BufReader::new(alloc, rt.reader())?.lines(alloc) {
+        let line = line?;
+        match answer(alloc, line.as_str()) {
+            Ok(told) => writeln!(out, "{told}")?,
+            Err(Bad::Row(why)) => writeln!(out, "? {why}")?,
+            Err(Bad::NoMemory) => bail!("no memory"),
+        }
+    }
+    out.flush()?;
+    Ok(())
+}
