@@ -30,9 +30,9 @@ pub enum MessageErr {
     Long,
     /// The head is cut off or wrong.
     Head(HeadErr),
-    /// No interface has the call's program and version.
+    /// No interface is the one that the call names: by program and version, or by the object's key.
     NoInterface,
-    /// The interface has no operation with the call's procedure number.
+    /// The interface has no operation of the call's procedure number, or of its name.
     NoOperation,
     /// The body is cut off or wrong.
     Body(Fault),
