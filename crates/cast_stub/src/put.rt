@@ -14,8 +14,11 @@ pub type Puts = Listed<Put>;
 /// A number of a message's head.
 #[derive(Clone, Copy, Debug, PartialEq, Eq)]
 pub enum HeadField {
+    /// The transaction id, or request id.
     Id,
+    /// The remote port of a Mach message.
     Remote,
+    /// The local port of a Mach message.
     Local,
 }
 

@@ -18,7 +18,9 @@ pub type Gets = Listed<Get>;
 /// Operations, and the codes that their calls name.
 #[derive(Drop)]
 pub struct RecvCode {
+    /// The operations, in order.
     pub ops: RecvOps,
+    /// The codes that calls name by their places.
     pub subs: RecvSubs,
 }
 

@@ -15,7 +15,9 @@ pub type SendSubs = Listed<SendOps>;
 /// Operations, and the codes that their calls name.
 #[derive(Drop)]
 pub struct SendCode {
+    /// The operations, in order.
     pub ops: SendOps,
+    /// The codes that calls name by their places.
     pub subs: SendSubs,
 }
 

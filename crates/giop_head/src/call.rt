@@ -23,14 +23,20 @@ pub enum GiopCall<'a> {
     /// A request: the object's key, the name of the operation, and how many octets the head takes.
     /// The arguments follow it.
     Request {
+        /// The fields that back ends share.
         head: Head,
+        /// The object's key.
         key: &'a [u8],
+        /// The name of the operation, without the octet 0 at its end.
         name: &'a [u8],
+        /// How many octets the head takes.
         used: usize,
     },
     /// A search for an object, by its key.
     Locate {
+        /// The request id.
         id: u32,
+        /// The object's key.
         key: &'a [u8],
     },
 }
@@ -53,9 +59,13 @@ pub fn read_call(message: &[u8]) -> Result<GiopCall<'_>, HeadErr>
 /// takes. The arguments follow it.
 #[derive(Clone, Copy, Debug)]
 pub struct GiopRequest<'a> {
+    /// The fields that back ends share.
     pub head: Head,
+    /// The object's key.
     pub key: &'a [u8],
+    /// The name of the operation, without the octet 0 at its end.
     pub name: &'a [u8],
+    /// How many octets the head takes.
     pub used: usize,
 }
 

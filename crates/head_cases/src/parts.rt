@@ -9,6 +9,7 @@ use std::alloc::{AllocError, Global};
 pub enum Bad {
     /// The row is none of the forms.
     Row(&'static str),
+    /// No memory was there.
     NoMemory,
 }
 

@@ -4,15 +4,20 @@ use kit_base::{Listed, Name, Octets};
 /// The language of a file.
 #[derive(Clone, Copy, Debug, PartialEq, Eq)]
 pub enum Front {
+    /// CORBA IDL (OMG CORBA, chapter on IDL syntax and semantics).
     Corba,
+    /// The ONC RPC language (RFC 4506 and RFC 5531).
     Onc,
+    /// Definition files of MIG, the Mach interface generator.
     Mig,
 }
 
 /// A token, and the line on which it begins.
 #[derive(Debug, Drop)]
 pub struct Token {
+    /// What it is.
     pub kind: TokenKind,
+    /// The line on which it begins, from 1.
     pub line: u32,
 }
 

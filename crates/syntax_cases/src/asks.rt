@@ -13,6 +13,7 @@ use syntax_kit::Halt;
 pub enum Bad {
     /// The row is none of the forms.
     Row(&'static str),
+    /// No memory was there.
     NoMemory,
 }
 
