@@ -1,0 +1,344 @@
+"""Texts in the CORBA interface language (OMG CORBA, chapter on IDL syntax and semantics; docs/GRAMMAR.md): tokens and trees.
+
+The grammar is a table of rules, and the reader tries every way in which a rule can match from a place on. It chooses
+nothing in advance, so it needs no rule for which `>>` is a shift. As all of the model it is written from the standard
+and docs/, with nothing of the crates in it.
+"""
+import re
+import sys
+from collections import namedtuple
+
+sys.setrecursionlimit(20_000)
+
+LEVELS = 32
+GREATEST = 2 ** 127 - 1
+ESCAPES = dict(zip(b"ntvbrfa\\?'\"", b"\n\t\v\b\r\f\a\\?'\""))
+
+
+class Fault(Exception):
+    """The first fault of a text, and its octet."""
+
+
+# ---- tokens
+
+Token = namedtuple("Token", "kind value line")
+
+ESCAPE = rb"""\\[ntvbrfa\\?'"]"""
+ONC_FORMS = {
+    "blank": rb"[\t\n\v\f\r ]+",
+    "comment": rb"/\*.*?\*/",
+    "open": rb"/\*",
+    "number": rb"0x[0-9a-fA-F]*|[0-9]+",
+    "word": rb"[A-Za-z_][A-Za-z_0-9]*",
+    "mark": rb"<<|>>|::|[]{}[()<>;:,=*+/%|^&-]",
+}
+CORBA_FORMS = {
+    "line comment": rb"//[^\n]*",
+    "character": rb"'(?:[ -\[\]-~]|" + ESCAPE + rb")'",
+    "string": rb'"(?:[ !#-\[\]-~]|' + ESCAPE + rb')*"',
+    **ONC_FORMS,
+}
+FORMS = {front: {kind: re.compile(form, re.S) for kind, form in forms.items()} for front, forms in (("onc", ONC_FORMS), ("corba", CORBA_FORMS))}
+TO_LINE_END = re.compile(rb"[^\n]*")
+MARKER = re.compile(rb"#[\t\v\f\r ]*(?:[0-9]|line)")
+NUMBER = re.compile(rb"0[0-7]*|[1-9][0-9]*|0x[0-9a-fA-F]+")
+
+
+def skipped_line(text, place, front):
+    """Where a line ends that is skipped from here on: a line marker, or a `%` line of onc; or None."""
+    before = text[text.rfind(b"\n", 0, place) + 1:place]
+    octet = text[place:place + 1]
+    if not (octet == b"#" and not before.strip(b"\t\v\f\r ") or octet == b"%" and not before and front == "onc"):
+        return None
+    if octet == b"#" and not MARKER.match(text, place):
+        raise Fault(f"Directive {place}")
+    return TO_LINE_END.match(text, place).end()
+
+
+def number_of(digits, place):
+    """A decimal number, an octal one after a 0, or a hexadecimal one after `0x`."""
+    if not NUMBER.fullmatch(digits):
+        raise Fault(f"BadOctet {place}")
+    base = 16 if digits[:2] == b"0x" else 8 if digits[:1] == b"0" else 10
+    if base == 10 and len(digits) > len(str(GREATEST)) or int(digits, base) > GREATEST:
+        raise Fault(f"Wide {place}")
+    return int(digits, base)
+
+
+def codes_of(octets):
+    """The codes of what is between quotes: an escape has one."""
+    return re.sub(rb"\\(.)", lambda escape: bytes([ESCAPES[escape[1][0]]]), octets)
+
+
+def value_of(kind, octets, place):
+    if kind == "number":
+        return number_of(octets, place)
+    if kind in ("character", "string"):
+        return codes_of(octets[1:-1])
+    return octets.decode()
+
+
+def tokens_of(text, front="corba"):
+    """The tokens of a text, each with its line."""
+    tokens, place = [], 0
+    while place < len(text):
+        end = skipped_line(text, place, front)
+        if end is not None:
+            place = end
+            continue
+        kind, found = next(((kind, form.match(text, place)) for kind, form in FORMS[front].items() if form.match(text, place)), (None, None))
+        if found is None or kind == "open":
+            raise Fault(f"{'OpenComment' if kind else 'BadOctet'} {place}")
+        if kind not in ("blank", "comment", "line comment"):
+            tokens.append(Token(kind, value_of(kind, found[0], place), 1 + text.count(b"\n", 0, place)))
+        place = found.end()
+    return tokens
+
+
+# ---- the grammar
+
+# `[ ]` may be absent, `{ }` is repeated any number of times, and what follows `^` has one level more than its rule.
+# A chain groups to the left because its left operand is a chain; it ends because that operand has one level more.
+GRAMMAR = """
+file        = { definition }
+definition  = module ";" | interface ";" | declared ";"
+module      = "module" identifier "{" { ^definition } "}"
+interface   = "interface" identifier [ ":" name { "," name } ] "{" { exported ";" } "}"
+exported    = declared | attribute | operation
+declared    = typedef | struct | union | enum | constant | exception
+typedef     = "typedef" ( type | struct | union | enum ) declarator { "," declarator }
+struct      = "struct" identifier "{" member { member } "}"
+exception   = "exception" identifier "{" { member } "}"
+member      = type declarator { "," declarator } ";"
+union       = "union" identifier "switch" "(" ^tag ")" "{" arm { arm } "}"
+tag         = integer | "char" | "boolean" | name
+arm         = label { label } type declarator ";"
+label       = "case" expression ":" | "default" ":"
+enum        = "enum" identifier "{" identifier { "," identifier } "}"
+constant    = "const" plain identifier "=" expression
+plain       = integer | "char" | "boolean" | "octet" | "string" | name
+attribute   = [ "readonly" ] "attribute" type identifier { "," identifier }
+operation   = [ "oneway" ] ( "void" | type ) identifier "(" [ ^parameters ] ")" [ "raises" "(" ^names ")" ]
+parameters  = parameter { "," parameter }
+names       = name { "," name }
+parameter   = ( "in" | "out" | "inout" ) type identifier
+declarator  = identifier { "[" expression "]" }
+type        = integer | simple | text | sequence | name
+integer     = [ "unsigned" ] ( "short" | "long" [ "long" ] )
+simple      = "char" | "boolean" | "octet" | "float" | "double" | "long" "double" | "wchar" | "wstring" | "any" | "Object"
+text        = "string" [ "<" expression ">" ]
+sequence    = "sequence" "<" ^type [ "," expression ] ">"
+name        = [ "::" ] identifier { "::" identifier }
+expression  = either
+either      = ^either "|" ^differing | differing
+differing   = ^differing "^" ^both | both
+both        = ^both "&" ^shift | shift
+shift       = ^shift ( "<<" | ">>" ) ^sum | sum
+sum         = ^sum ( "+" | "-" ) ^product | product
+product     = ^product ( "*" | "/" | "%" ) ^signed | signed
+signed      = ( "-" | "+" ) ^signed | operand
+operand     = number | character | string | truth | name | "(" ^expression ")"
+truth       = "TRUE" | "FALSE"
+"""
+
+KINDS = {"identifier": "word", "number": "number", "character": "character", "string": "string"}
+OPERATORS = ("|", "^", "&", "<<", ">>", "+", "-", "*", "/", "%")
+
+
+def choice_of(pieces):
+    """Forms of which one is there."""
+    forms = [row_of(pieces)]
+    while pieces and pieces[0] == "|":
+        pieces.pop(0)
+        forms.append(row_of(pieces))
+    return "one_of", forms
+
+
+def row_of(pieces):
+    """Forms that follow one another."""
+    forms = []
+    while pieces and pieces[0] not in ("|", ")", "]", "}"):
+        forms.append(form_of(pieces))
+    return "all_of", forms
+
+
+def form_of(pieces):
+    piece = pieces.pop(0)
+    if piece == "^":
+        return "deeper", form_of(pieces)
+    if piece in ("(", "[", "{"):
+        inner = choice_of(pieces)
+        pieces.pop(0)
+        return {"(": inner, "[": ("one_of", [inner, ("all_of", [])]), "{": ("many", inner)}[piece]
+    return ("mark", piece[1:-1]) if piece[0] == '"' else ("rule", piece)
+
+
+def rules_of(grammar):
+    rules = {}
+    for line in grammar.strip().splitlines():
+        name, pieces = line.split("=", 1)
+        rules[name.strip()] = choice_of(re.findall(r'"[^"]+"|\w+|\S', pieces))
+    return rules
+
+
+RULES = rules_of(GRAMMAR)
+WORDS = set(re.findall(r'"(\w+)"', GRAMMAR))
+
+
+# ---- trees
+
+def only(found):
+    """Where a form may end, each with its parts: over the same tokens it has one tree."""
+    ends = {}
+    for end, parts in found:
+        assert ends.setdefault(end, parts) == parts, f"two trees: {ends[end]}, {parts}"
+    return ends
+
+
+class Reading:
+    """All ways to read tokens. Token n begins at place 2n, and a `>>` has a place in its middle.
+
+    A tree is the name of its rule with its parts: tokens, words and marks, and trees. A rule whose only part is a tree or
+    a token is that part. Beyond the last level nothing has a tree.
+    """
+
+    def __init__(self, tokens, levels=LEVELS):
+        self.tokens, self.levels, self.known = tokens, levels, {}
+
+    def ends(self, form, place, level):
+        """Where a form that begins at a place may end, each with its parts."""
+        return getattr(self, form[0])(form[1], place, level)
+
+    def one_of(self, forms, place, level):
+        return only(found for form in forms for found in self.ends(form, place, level).items())
+
+    def all_of(self, forms, place, level):
+        ends = {place: ()}
+        for form in forms:
+            ends = self.after(ends, form, level)
+        return ends
+
+    def many(self, form, place, level):
+        ends = last = {place: ()}
+        while last:
+            last = self.after(last, form, level)
+            ends = only([*ends.items(), *last.items()])
+        return ends
+
+    def after(self, ends, form, level):
+        """Where a form may end that begins where something else ends, each with the parts of both."""
+        return only((end, parts + more) for place, parts in ends.items() for end, more in self.ends(form, place, level).items())
+
+    def deeper(self, form, place, level):
+        return self.ends(form, place, level + 1)
+
+    def mark(self, mark, place, level):
+        token = self.token(place)
+        if token is None or token.kind not in ("mark", "word"):
+            return {}
+        if mark == ">" and token.value == ">>":
+            return {place + 1: (mark,)}
+        return {place + 2: (mark,)} if token.value == mark and place % 2 == 0 else {}
+
+    def token(self, place):
+        return self.tokens[place // 2] if place // 2 < len(self.tokens) else None
+
+    def rule(self, name, place, level):
+        key = name, place, level
+        if key not in self.known:
+            self.known[key] = self.trees(name, place, level) if level <= self.levels else {}
+        return self.known[key]
+
+    def trees(self, name, place, level):
+        if name in KINDS:
+            return self.leaf(name, place)
+        found = self.ends(RULES[name], place, level)
+        return {end: parts if len(parts) == 1 and isinstance(parts[0], tuple) else ((name, *parts),) for end, parts in found.items()}
+
+    def leaf(self, name, place):
+        """A token of a kind. A word that a rule quotes is not an identifier, and one leading `_` is not part of a name."""
+        token = self.token(place)
+        if token is None or place % 2 or token.kind != KINDS[name] or token.value in WORDS and name == "identifier":
+            return {}
+        return {place + 2: (Token(name, token.value.removeprefix("_"), token.line) if name == "identifier" else token,)}
+
+
+def last_leaf(tree):
+    while not isinstance(tree, (Token, str)):
+        tree = tree[-1]
+    return tree
+
+
+def goes_on(rule, tree, mark):
+    """Whether a mark after a tree would be part of it."""
+    last = last_leaf(tree)
+    if mark == "::":
+        return isinstance(last, Token) and last.kind == "identifier"
+    return mark in OPERATORS if rule == "expression" else mark == "<" and last == "string"
+
+
+def first_of(rule, tokens, levels=LEVELS):
+    """The longest tree that comes first, unless the next token would be part of it, and how many tokens it has."""
+    ends = {end: parts for end, parts in Reading(tokens, levels).rule(rule, 0, 1).items() if end % 2 == 0}
+    if not ends:
+        return None
+    end = max(ends)
+    tree = ends[end][0]
+    goes = end // 2 < len(tokens) and tokens[end // 2].kind == "mark" and goes_on(rule, tree, tokens[end // 2].value)
+    return None if goes else (tree, end // 2)
+
+
+def file_of(tokens):
+    """The trees of the longest prefix that has any, and the token after it, or None at the end of the text."""
+    reading = Reading(tokens)
+    ends = reading.ends(RULES["file"], 0, 1)
+    return ends[max(ends)], reading.token(max(ends))
+
+
+# ---- answers
+
+def shown_token(token):
+    if token.kind == "character":
+        return f"'{token.value[0]}'"
+    return f'"{token.value.hex()}"' if token.kind == "string" else str(token.value)
+
+
+def shown(tree):
+    """An expression, a type or a name."""
+    if isinstance(tree, Token):
+        return shown_token(tree)
+    rule, *parts = tree
+    if rule == "name":
+        return "".join(part if isinstance(part, str) else part.value for part in parts)
+    if rule == "operand":
+        return shown(parts[1])
+    if rule == "signed":
+        return f"({parts[0]} {shown(parts[1])})"
+    if rule == "sequence":
+        return f"[{'; '.join(shown(part) for part in parts if isinstance(part, tuple))}]"
+    if rule == "text":
+        return f"string<{shown(parts[2])}>" if len(parts) > 1 else "string"
+    if isinstance(parts[0], tuple):
+        return f"({parts[1]} {shown(parts[0])} {shown(parts[2])})"
+    return "-".join(parts)
+
+
+def told(case, text):
+    """The answer to a row of tests/layers/syntax (crates/syntax_cases/README.md)."""
+    try:
+        tokens = tokens_of(text, case.get("front", "corba"))
+    except Fault as fault:
+        return str(fault)
+    if case["ask"] == "lex":
+        return " ".join(f"{token.line}:{shown_token(token)}" for token in tokens)
+    found = first_of(case["ask"], tokens, case.get("levels", LEVELS))
+    return f"{shown(found[0])} {len(tokens) - found[1]}" if found else "syntax"
+
+
+def told_of_file(text):
+    """`ok`, the fault of a text, or the line where the first definition that fails begins."""
+    try:
+        failing = file_of(tokens_of(text))[1]
+    except Fault as fault:
+        return str(fault)
+    return f"syntax {failing.line}" if failing else "ok"
