@@ -47,7 +47,11 @@ class Xdr:
     """Numbers in four or eight octets, flags in four, octets filled up to a multiple of 4."""
 
     def __init__(self):
-        self.octets = b""
+        self.octets, self.begins = b"", []
+
+    def begin(self):
+        """Here a part of the value begins."""
+        self.begins.append(len(self.octets))
 
     def number(self, kind, n):
         width = max(4, WIDTHS[kind])
@@ -59,6 +63,7 @@ class Xdr:
     def count(self, node, place, length):
         if not is_exact(node, place):
             self.number("u32", length)
+            self.begin()
 
     def block(self, octets):
         self.octets += octets + bytes(-len(octets) % 4)
@@ -81,7 +86,8 @@ class Cdr(Xdr):
     """Each number at a multiple of its width, counted from the first octet of the message."""
 
     def __init__(self, order, at):
-        self.order, self.at, self.octets = order, at, b""
+        super().__init__()
+        self.order, self.at = order, at
 
     def number(self, kind, n):
         width = WIDTHS[kind]
@@ -98,6 +104,7 @@ class Cdr(Xdr):
 
 def put(out, nodes, id, value):
     """Appends a value of a node."""
+    out.begin()
     node = nodes[id]
     form = node[0]
     if form == "num":
@@ -132,6 +139,13 @@ def sent(encoding, nodes, id, value, at=0):
     return out.octets
 
 
+def borders(nodes, id, value):
+    """Where the parts of a value begin over XDR: each value within it, and what follows a count."""
+    out = Xdr()
+    put(out, nodes, id, value)
+    return out.begins
+
+
 # ---- values by a plan
 
 def length(node, place, wanted):
@@ -150,9 +164,9 @@ def row(kind, count, first):
 
 
 def planned(nodes, id, plan, arm=None):
-    """The value of a node that a plan gives: `items` and `numbers` are lengths, where they may be so; `arm` is the
-    place of a union's arm, else the default or the first; `there` says whether there is what may be there; numbers
-    begin at `first`."""
+    """The value of a node that a plan gives: `items` are the lengths of lists within one another, the last also that of
+    all deeper ones, and `numbers` is the length of texts and rows, where they may be so; `arm` is the place of a union's
+    arm, else the default or the first; `there` says whether there is what may be there; numbers begin at `first`."""
     node, arm = nodes[id], plan["arm"] if arm is None else arm
     form = node[0]
     if form == "num":
@@ -166,7 +180,9 @@ def planned(nodes, id, plan, arm=None):
     if form == "group":
         return {"group": [planned(nodes, child, plan, arm) for child in node[1]]}
     if form == "items":
-        return {"items": [planned(nodes, node[1], plan, arm + i) for i in range(length(node, 2, plan["items"]))]}
+        wanted, *deeper = plan["items"]
+        inner = {**plan, "items": deeper or [wanted]}
+        return {"items": [planned(nodes, node[1], inner, arm + i) for i in range(length(node, 2, wanted))]}
     if form == "choice":
         n, child = node[2][arm] if arm < len(node[2]) else (77, node[3]) if len(node) > 3 else node[2][0]
         return {"arm": [n, planned(nodes, child, plan, arm)]}
