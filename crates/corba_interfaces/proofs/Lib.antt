@@ -1,0 +1,3 @@
+pub mod Optional
+pub mod AttributesRead
+pub mod OperationsRead
