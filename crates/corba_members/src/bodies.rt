@@ -1,7 +1,7 @@
 // Structs, exceptions and enumerations.
 ghost use Rattle.std.specs.Prelude.{◌≡◌, ◌≤◌};
 ghost use Rattle.syntax_kit.specs.Reading.{Gives};
-ghost use Rattle.corba_decls.specs.Readers.{structure_at, exception_at, enumeration_at};
+ghost use Rattle.corba_members.specs.Readers.{structure_at, exception_at, enumeration_at};
 
 use crate::tree::{Enum, Exception, Member, Struct};
 use corba_exprs::Identifier;

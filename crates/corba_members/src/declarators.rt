@@ -11,7 +11,7 @@ use syntax_kit::{
 };
 
 impl Nested for Dimension {
-    ghost use Rattle.corba_decls.specs.Readers.{has_dimension, dimension_at};
+    ghost use Rattle.corba_members.specs.Readers.{has_dimension, dimension_at};
 
     ghost goes = { has_dimension };
 
@@ -31,7 +31,7 @@ impl Nested for Dimension {
 }
 
 impl Nested for Declarator {
-    ghost use Rattle.corba_decls.specs.Readers.{is_open, declarator_at};
+    ghost use Rattle.corba_members.specs.Readers.{is_open, declarator_at};
 
     ghost goes = { is_open };
 
@@ -50,7 +50,7 @@ impl Nested for Declarator {
 }
 
 impl Nested for Member {
-    ghost use Rattle.corba_decls.specs.Readers.{is_open, member_at};
+    ghost use Rattle.corba_members.specs.Readers.{is_open, member_at};
 
     ghost goes = { is_open };
 

@@ -21,13 +21,13 @@ use Rattle.corba_types.specs.declared.tree.Base.{Base}
 use Rattle.corba_types.specs.Spelling.{type}
 use Rattle.corba_types.proofs.BasesRead.{Closes, is_plain, leads_base}
 use Rattle.corba_types.proofs.SequencesRead.{whole, type_is}
-use Rattle.corba_decls.specs.declared.tree.Dimension.{Dimension}
-use Rattle.corba_decls.specs.declared.tree.Declarator.{Declarator}
-use Rattle.corba_decls.specs.declared.tree.Struct.{Struct}
-use Rattle.corba_decls.specs.declared.tree.Exception.{Exception}
-use Rattle.corba_decls.specs.declared.tree.Enum.{Enum}
-use Rattle.corba_decls.specs.Spelling.{dimension, declarator, member, structure, exception, enumeration}
-use Rattle.corba_decls.specs.Readers.{dimension_of, dimension_at, has_dimension, declarator_of, declarator_at, member_of, member_at, is_open, structure_of, structure_at, exception_of, exception_at, enumeration_of, enumeration_at}
+use Rattle.corba_members.specs.declared.tree.Dimension.{Dimension}
+use Rattle.corba_members.specs.declared.tree.Declarator.{Declarator}
+use Rattle.corba_members.specs.declared.tree.Struct.{Struct}
+use Rattle.corba_members.specs.declared.tree.Exception.{Exception}
+use Rattle.corba_members.specs.declared.tree.Enum.{Enum}
+use Rattle.corba_members.specs.Spelling.{dimension, declarator, member, structure, exception, enumeration}
+use Rattle.corba_members.specs.Readers.{dimension_of, dimension_at, has_dimension, declarator_of, declarator_at, member_of, member_at, is_open, structure_of, structure_at, exception_of, exception_at, enumeration_of, enumeration_at}
 
 before_bracket : (front rest : List Token) → mark (codes "]") (kinds front) → May false 6 (front ++ rest)
 before_bracket front rest s =
