@@ -1,3 +1,2 @@
-pub mod Optional
-pub mod AttributesRead
-pub mod OperationsRead
+pub mod ExportsRead
+pub mod InterfacesRead

@@ -1,58 +1,28 @@
--- The tokens of attributes, operations and interfaces.
-use Rattle.std.specs.Prelude.{ℕ, zero, suc, ◌-◌, false, List, [], ◌∷◌, Option, Some, None, codes}
-use Rattle.syntax_kit.specs.Grammar.{Text, empty, word, mark, ◌&◌, when, joined}
-use Rattle.corba_exprs.specs.Trees.{Tree}
-use Rattle.corba_exprs.specs.Spelling.{identifier, scoped}
-use Rattle.corba_types.specs.declared.tree.Base.{Base}
-use Rattle.corba_types.specs.Spelling.{type}
-use Rattle.corba_interfaces.specs.declared.tree.Reference.{Reference}
-use Rattle.corba_interfaces.specs.declared.tree.Attribute.{Attribute}
-use Rattle.corba_interfaces.specs.declared.tree.Direction.{Direction}
-use Rattle.corba_interfaces.specs.declared.tree.Direction.TheVariants as D
-use Rattle.corba_interfaces.specs.declared.tree.Parameter.{Parameter}
-use Rattle.corba_interfaces.specs.declared.tree.Operation.{Operation}
+-- The tokens of interfaces.
+use Rattle.std.specs.Prelude.{ℕ, List, codes}
+use Rattle.syntax_kit.specs.Grammar.{Text, word, mark, ◌&◌, each, joined}
+use Rattle.corba_exprs.specs.Spelling.{identifier}
+use Rattle.corba_decls.specs.Spelling.{declaration}
+use Rattle.corba_operations.specs.declared.tree.Reference.{Reference}
+use Rattle.corba_operations.specs.Spelling.{if_any, reference, attribute, operation}
+use Rattle.corba_interfaces.specs.declared.tree.Export.{Export}
+use Rattle.corba_interfaces.specs.declared.tree.Export.TheVariants as E
+use Rattle.corba_interfaces.specs.declared.tree.Interface.{Interface}
 
--- a list that has no text where it is empty
-abbrev pub if_any : {A : Type 0} → (List A → Text) → List A → Text
-if_any S [] = empty
-if_any S (x ∷ xs) = S (x ∷ xs)
+-- exported = declaration | attribute | operation
+abbrev pub exported : ℕ → Export → Text
+exported n (E.Declaration d) = declaration n d
+exported n (E.Attribute a) = attribute n a
+exported n (E.Operation o) = operation n o
 
--- a type with its own end
-abbrev pub type_text : ℕ → List (Option Tree) × Base → Text
-type_text n t = type n t.0 t.1 false
+-- export = exported ";"
+abbrev pub export : ℕ → Export → Text
+export n e = exported n e & mark (codes ";")
 
--- a name that refers to an interface or an exception: it needs one level
-abbrev pub reference : ℕ → Reference → Text
-reference zero r ks = ⊥
-reference (suc n) r ks = scoped r.name ks
+-- bases = ":" name { "," name }
+abbrev pub bases : ℕ → List Reference → Text
+bases n rs = mark (codes ":") & joined (codes ",") (reference n) rs
 
--- attribute = [ "readonly" ] "attribute" type identifier { "," identifier }
-abbrev pub attribute : ℕ → Attribute → Text
-attribute n a = when (word (codes "readonly")) a.readonly & word (codes "attribute") & type_text n a.of & joined (codes ",") identifier a.names
-
--- the word of a direction
-abbrev pub direction_spell : Direction → List ℕ
-direction_spell D.In = codes "in"
-direction_spell D.Out = codes "out"
-direction_spell D.InOut = codes "inout"
-
--- parameter = ( "in" | "out" | "inout" ) type identifier
-abbrev pub parameter : ℕ → Parameter → Text
-parameter n p = word (direction_spell p.direction) & type_text n p.of & identifier p.name
-
--- result = "void" | type
-abbrev pub result : ℕ → Option (List (Option Tree) × Base) → Text
-result n None = word (codes "void")
-result n (Some t) = type_text n t
-
--- parameters = "(" [ parameter { "," parameter } ] ")"
-abbrev pub parameters : ℕ → List Parameter → Text
-parameters n ps = mark (codes "(") & if_any (joined (codes ",") (parameter n)) ps & mark (codes ")")
-
--- raises = "raises" "(" name { "," name } ")"
-abbrev pub raises : ℕ → List Reference → Text
-raises n rs = word (codes "raises") & mark (codes "(") & joined (codes ",") (reference n) rs & mark (codes ")")
-
--- operation = [ "oneway" ] result identifier parameters [ raises ], with one level less in its parentheses
-abbrev pub operation : ℕ → Operation → Text
-operation n o = when (word (codes "oneway")) o.oneway & result n o.result & identifier o.name & parameters (n - 1) o.parameters & if_any (raises (n - 1)) o.raises
+-- interface = "interface" identifier [ bases ] "{" { export } "}" ";"
+abbrev pub interface : ℕ → Interface → Text
+interface n i = word (codes "interface") & identifier i.name & if_any (bases n) i.bases & mark (codes "{") & each (export n) i.exports & mark (codes "}") & mark (codes ";")

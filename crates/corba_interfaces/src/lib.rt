@@ -1,16 +1,14 @@
-//! The attributes, operations and interfaces of CORBA IDL (CORBA, chapter on IDL syntax and semantics).
+//! The interfaces of CORBA IDL (CORBA, chapter on IDL syntax and semantics, "Interface declaration").
 //!
-//! [`attribute`] and [`operation`] read one from the front of some tokens.
+//! [`interface`] reads one from the front of some tokens; [`Interface`] is its tree.
 #![tactic(auto)]
 
-mod attributes;
-mod headers;
+mod exports;
+mod interfaces;
 mod laws;
-mod operations;
-mod optional;
 mod tree;
 
-pub use attributes::attribute;
-pub use laws::{one_attribute, one_operation};
-pub use operations::operation;
-pub use tree::{Attribute, Direction, Operation, Parameter, Reference};
+pub use corba_operations::{Attribute, Direction, Operation, Parameter, Reference};
+pub use interfaces::interface;
+pub use laws::one_interface;
+pub use tree::{Export, Interface};
