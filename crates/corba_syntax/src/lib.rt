@@ -1,13 +1,12 @@
-// A library with one function.
+//! The syntax of CORBA IDL files (CORBA, chapter on IDL syntax and semantics).
+//!
+//! [`parse`] gives the tree of a file's tokens, or the line of the definition that has none.
 #![tactic(auto)]
 
-ghost use Rattle.std.specs.Prelude.{◌≡◌};
-ghost use Rattle.corba_syntax.specs.Echo.{echo_of};
+mod definitions;
+mod parsing;
+mod tree;
 
-// The `ensures` clause is the contract: what `echo` returns is `echo_of` of its argument, a definition
-// in `specs/Echo.antt`, which a caller's clause can cite too.
-pub fn echo(x: usize) -> usize
-    ensures { result ≡ echo_of x }
-{
-    x
-}
+pub use parsing::{one_tree, parse, tokens_are_decided};
+pub use syntax_kit::SyntaxErr;
+pub use tree::{Definition, Module, Tree};
