@@ -12,8 +12,8 @@ use Rattle.corba_exprs.specs.Spelling.{identifier}
 use Rattle.corba_exprs.proofs.LeavesRead.{identifier_is}
 use Rattle.corba_decls.specs.Spelling.{declaration}
 use Rattle.corba_decls.specs.Readers.{is_declaration}
+use Rattle.corba_decls.proofs.DeclarationsRead.{declaration_is, leads_declaration}
 use Rattle.corba_interfaces.specs.Spelling.{interface}
-use Rattle.corba_interfaces.proofs.ExportsRead.{Ended, ended_declaration_is, leads_declaration}
 use Rattle.corba_interfaces.proofs.InterfacesRead.{interface_is, leads_interface}
 use Rattle.corba_exprs.specs.declared.tree.Identifier.{Identifier}
 use Rattle.corba_decls.specs.declared.tree.Declaration.{Declaration}
@@ -38,7 +38,7 @@ abbrev declared_text : ℕ → Declaration → Text
 declared_text n d = declaration n d & mark (codes ";")
 
 declared_is : (n : ℕ) → IsGrammar (declared_at n) (declared_text n) Any
-declared_is n = before_is (ended_declaration_is n) (mark_reads (codes ";")) (λ front rest s. begins_so (leads_mark (codes ";")) tt front rest s)
+declared_is n = before_is (declaration_is n) (mark_reads (codes ";")) (λ front rest s. begins_so (leads_mark (codes ";")) tt front rest s)
 
 leads_declared : (n : ℕ) → Leads (declared_text n) is_declaration
 leads_declared n d ks s = leads_both (λ (_ : Unit {0}). mark (codes ";")) (leads_declaration n) (d, tt) ks s
