@@ -51,7 +51,7 @@ number_is : IsGrammar number_at number_text NumberMay
 number_is = either_is (begins_with is_int) (weaker int_is (λ rest may. may.0)) (weaker scoped_is (λ rest may. may.1))
     (λ i front rest s may. begins_so leads_int i front rest s)
     (λ n front rest s may. begins_not is_int leads_scoped
-      (apart_or is_name (word_is (codes "unsigned")) is_size (apart_word is_name (codes "unsigned") refl) (apart_or is_name (word_is (codes "short")) (word_is (codes "long")) (apart_word is_name (codes "short") refl) (apart_word is_name (codes "long") refl))) n front rest s)
+    (apart_or is_name (word_is (codes "unsigned")) is_size (apart_word is_name (codes "unsigned") refl) (apart_or is_name (word_is (codes "short")) (word_is (codes "long")) (apart_word is_name (codes "short") refl) (apart_word is_name (codes "long") refl))) n front rest s)
 
 abbrev is_number : TokenKind → Bool
 is_number k = is_int k || is_name k
