@@ -1,15 +1,15 @@
 -- Typedefs, constants and declarations: what is read is what is spelled.
-use Rattle.std.proofs.Common.{◌≡◌, ◌⊎◌, inl, inr, ℕ, zero, suc, List, [], ◌∷◌, ◌++◌, Option, Bool, true, false, ◌||◌, refl, sym, ap, subst, ◌∙◌, append_assoc}
+use Rattle.std.proofs.Common.{◌≡◌, ◌⊎◌, inl, inr, ℕ, zero, suc, List, [], ◌∷◌, ◌++◌, Option, Bool, true, false, ◌||◌, refl, sym, ap, subst, ◌∙◌}
 use Rattle.std.specs.Prelude.{codes}
 use Rattle.idl_lex.specs.declared.kinds.Token.{Token}
 use Rattle.idl_lex.specs.declared.kinds.TokenKind.{TokenKind}
 use Rattle.idl_lex.specs.declared.kinds.TokenKind.TheVariants as K
 use Rattle.syntax_kit.specs.Reading.{mark_is, word_is, begins_with, joined_at}
-use Rattle.syntax_kit.specs.Grammar.{Text, word, mark, ◌&◌, joined, one_of, kinds, IsGrammar, Leads, Any}
+use Rattle.syntax_kit.specs.Grammar.{Text, mark, ◌&◌, joined, one_of, kinds, IsGrammar, Leads}
 use Rattle.syntax_kit.proofs.Grammars.{read_is, mapped_is, both_is}
-use Rattle.syntax_kit.proofs.Leaves.{word_reads, mark_reads, mark_named, Apart, apart_word, apart_mark, leads_word, leads_mark, leads_both, leads_either, begins_not}
+use Rattle.syntax_kit.proofs.Leaves.{word_reads, mark_reads, mark_named, apart_word, apart_mark, leads_word, leads_both, leads_either, begins_not}
 use Rattle.syntax_kit.proofs.Productions.{weaker, behind_is, leads_behind, leads_by}
-use Rattle.syntax_kit.proofs.Lists.{turns, joined_is, leads_joined}
+use Rattle.syntax_kit.proofs.Lists.{turns, joined_is}
 use Rattle.corba_exprs.specs.Trees.{Tree}
 use Rattle.corba_exprs.specs.declared.tree.Identifier.{Identifier}
 use Rattle.corba_exprs.specs.Spelling.{identifier, expression}
@@ -20,11 +20,10 @@ use Rattle.corba_exprs.proofs.ExpressionsRead.{expression_is}
 use Rattle.corba_types.specs.declared.tree.Base.{Base}
 use Rattle.corba_types.proofs.BasesRead.{Closes}
 use Rattle.corba_types.proofs.SequencesRead.{whole, type_is, is_type}
-use Rattle.corba_members.specs.declared.tree.Declarator.{Declarator}
 use Rattle.corba_members.specs.declared.tree.Struct.{Struct}
 use Rattle.corba_members.specs.declared.tree.Exception.{Exception}
 use Rattle.corba_members.specs.declared.tree.Enum.{Enum}
-use Rattle.corba_members.specs.Spelling.{declarator, member, structure, exception, enumeration}
+use Rattle.corba_members.specs.Spelling.{declarator, structure, exception, enumeration}
 use Rattle.corba_members.specs.Readers.{declarator_at}
 use Rattle.corba_members.proofs.MembersRead.{apart_semicolon, leads_type, declarator_is, declarators_close, structure_is, leads_structure, exception_is, leads_exception, enumeration_is, leads_enumeration}
 use Rattle.corba_decls.specs.declared.tree.Union.{Union as UnionDef}

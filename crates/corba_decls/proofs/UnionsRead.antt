@@ -1,18 +1,17 @@
 -- Unions: what is read is what is spelled.
-use Rattle.std.proofs.Common.{◌≡◌, ◌⊎◌, inl, inr, ℕ, ◌-◌, List, ◌++◌, Option, Bool, true, false, ◌||◌, refl, sym, ap, subst, ◌∙◌, append_assoc}
+use Rattle.std.proofs.Common.{◌≡◌, ◌⊎◌, inl, inr, ℕ, ◌-◌, List, ◌++◌, Option, false, refl, sym, subst}
 use Rattle.std.specs.Prelude.{codes, [], ◌∷◌}
 use Rattle.idl_lex.specs.declared.kinds.Token.{Token}
 use Rattle.idl_lex.specs.declared.kinds.TokenKind.{TokenKind}
 use Rattle.idl_lex.specs.declared.kinds.TokenKind.TheVariants as K
-use Rattle.syntax_kit.specs.Reading.{mark_is, word_is, begins_with, many}
+use Rattle.syntax_kit.specs.Reading.{mark_is, word_is, many}
 use Rattle.syntax_kit.specs.Grammar.{Text, word, mark, ◌&◌, each, some, one_of, kinds, IsGrammar, Leads, Any}
-use Rattle.syntax_kit.proofs.Grammars.{mapped_is, both_is, many_is, parted}
+use Rattle.syntax_kit.proofs.Grammars.{mapped_is, both_is, many_is}
 use Rattle.syntax_kit.proofs.Leaves.{word_reads, mark_reads, one_kind, apart_or, apart_word, apart_mark, leads_word, leads_mark, leads_both, leads_either, begins_so, begins_not, begins_else}
 use Rattle.syntax_kit.proofs.Productions.{weaker, behind_is, before_is, leads_behind, leads_by, unit_right_back}
 use Rattle.syntax_kit.proofs.Lists.{some_is, leads_some}
 use Rattle.corba_exprs.specs.Trees.{Tree}
 use Rattle.corba_exprs.specs.Spelling.{identifier, expression}
-use Rattle.corba_exprs.specs.Readers.{is_joint}
 use Rattle.corba_exprs.proofs.LeavesRead.{identifier_is}
 use Rattle.corba_exprs.proofs.Again.{May}
 use Rattle.corba_exprs.proofs.ExpressionsRead.{expression_is}
