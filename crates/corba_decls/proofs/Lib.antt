@@ -1,0 +1,3 @@
+pub mod TagsRead
+pub mod UnionsRead
+pub mod DeclarationsRead

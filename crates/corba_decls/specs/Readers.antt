@@ -76,15 +76,15 @@ is_label k = word_is (codes "case") k || word_is (codes "default") k
 abbrev pub has_label : List Token → Bool
 has_label = begins_with is_label
 
-abbrev pub case_of : List Label × (List (Option Tree) × Base) × Declarator → Case
-case_of x = record { labels = x.0; of = x.1; declarator = x.2 }
+abbrev pub case_of : List Label × ((List (Option Tree) × Base) × Declarator) → Case
+case_of x = record { labels = x.0; of = x.1.0; declarator = x.1.1 }
 
 -- a case
 unfoldable pub case_at : ℕ → Reader Case
 case_at n = mapped case_of (both (some_at (many has_label (label_at n))) (both (type_at n) (before (declarator_at n) (mark_at (codes ";")))))
 
-abbrev pub union_of : Identifier × Tag × List Case → Union
-union_of x = record { name = x.0; tag = x.1; cases = x.2 }
+abbrev pub union_of : Identifier × (Tag × List Case) → Union
+union_of x = record { name = x.0; tag = x.1.0; cases = x.1.1 }
 
 -- a union
 unfoldable pub union_at : ℕ → Reader Union
@@ -124,8 +124,8 @@ constant_type_of (inr (inr (inr (inr (inr n))))) = C.Named n
 unfoldable pub constant_type_at : Reader ConstantType
 constant_type_at = mapped constant_type_of (word_or (codes "char") (word_or (codes "boolean") (word_or (codes "octet") (word_or (codes "string") number_at))))
 
-abbrev pub constant_of : ConstantType × Identifier × Tree → Constant
-constant_of x = record { of = x.0; name = x.1; value = x.2 }
+abbrev pub constant_of : ConstantType × (Identifier × Tree) → Constant
+constant_of x = record { of = x.0; name = x.1.0; value = x.1.1 }
 
 -- a constant
 unfoldable pub constant_at : ℕ → Reader Constant

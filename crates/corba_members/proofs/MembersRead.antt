@@ -5,7 +5,7 @@ use Rattle.idl_lex.specs.declared.kinds.Token.{Token}
 use Rattle.idl_lex.specs.declared.kinds.TokenKind.{TokenKind}
 use Rattle.idl_lex.specs.declared.kinds.TokenKind.TheVariants as K
 use Rattle.syntax_kit.specs.Reading.{mark_is, word_is, mark_at, begins_with, many, before, joined_at}
-use Rattle.syntax_kit.specs.Grammar.{Text, mark, ◌&◌, each, joined, kinds, IsGrammar, Leads, Any}
+use Rattle.syntax_kit.specs.Grammar.{Text, mark, ◌&◌, each, some, joined, kinds, IsGrammar, Leads, Any}
 use Rattle.syntax_kit.proofs.Grammars.{mapped_is, both_is, many_is, parted, one_tree}
 use Rattle.syntax_kit.proofs.Leaves.{word_reads, mark_reads, mark_named, leads_word, one_kind, Apart, apart_mark, leads_mark, leads_both, begins_so, begins_not, begins_else}
 use Rattle.syntax_kit.proofs.Productions.{weaker, behind_is, before_is, leads_behind, not_other}
@@ -41,7 +41,7 @@ apart_bracket k e = let is = mark_named (codes "[") k e in rw is refl
 apart_comma : Apart (mark_is (codes ",")) is_joint
 apart_comma k e = let is = mark_named (codes ",") k e in rw is refl
 
-apart_semicolon : Apart (mark_is (codes ";")) is_joint
+pub apart_semicolon : Apart (mark_is (codes ";")) is_joint
 apart_semicolon k e = let is = mark_named (codes ";") k e in rw is refl
 
 or_right : (a b : Bool) → b ≡ true → (a || b) ≡ true
@@ -58,7 +58,7 @@ leads_type_of zero bounds b ks s = absurd s
 leads_type_of (suc n) [] b ks s = let x = leads_base (suc n) (([], b), false) ks (refl, s) in (x.0, x.1, x.2, or_right (word_is (codes "sequence") x.0) _ x.3)
 leads_type_of (suc n) (c ∷ cs) b ks s = let x = leads_word (codes "sequence") tt s.0 s.3 in (x.0, x.1 ++ s.1, s.2 ∙ ap (λ z. z ++ s.1) x.2, or_left _ _ x.3)
 
-leads_type : (n : ℕ) → Leads (whole n) (λ k. word_is (codes "sequence") k || (word_is (codes "string") k || is_plain 0 k))
+pub leads_type : (n : ℕ) → Leads (whole n) (λ k. word_is (codes "sequence") k || (word_is (codes "string") k || is_plain 0 k))
 leads_type n v ks s = leads_type_of n v.0 v.1 ks s
 
 module _ (n : ℕ) where
@@ -77,11 +77,11 @@ module _ (n : ℕ) where
   dimensions_is : IsGrammar (many has_dimension (dimension_at n)) (each (dimension n)) DeclaratorMay
   dimensions_is = weaker (many_is has_dimension dimension_is (record { ends = refl; begins = λ d front rest s. begins_so leads_dimension d front rest s; goes_on = λ ts h. tt })) (λ rest may. (may, tt))
 
-  declarator_is : IsGrammar (declarator_at n) (declarator n) DeclaratorMay
+  pub declarator_is : IsGrammar (declarator_at n) (declarator n) DeclaratorMay
   unfolding declarator_at
   declarator_is = mapped_is declarator_of (declarator n) (both_is identifier_is dimensions_is (λ b front rest t may. tt)) (λ x ks s. s) (λ d ks s. ((d.name, d.dimensions), refl, s))
 
-  leads_declarator : Leads (declarator n) is_identifier
+  pub leads_declarator : Leads (declarator n) is_identifier
   leads_declarator d ks s = leads_both (each (dimension n)) leads_identifier (d.name, d.dimensions) ks s
 
   -- ---- what stands after a type
@@ -105,24 +105,28 @@ module _ (n : ℕ) where
   declarators_end [] (t ∷ f) rest s j = absurd cc
   declarators_end (d ∷ ds) f rest s j = begins_not is_joint (leads_both (each next_text) leads_next) apart_comma (d, ds) f rest s
 
+  -- declarators, where no expression goes on after them
+  pub declarators_close : (ds : List Declarator) (front rest : List Token) → joined (codes ",") (declarator n) ds (kinds front) → begins_with is_joint rest ≡ false → Closes (front ++ rest)
+  declarators_close [] front rest s j = absurd s
+  declarators_close (d ∷ ds) front rest s j =
+      let q = parted front s.0 s.1 s.2 in
+      let r = parted q.0 s.3.0 s.3.1 (q.3 ∙ s.3.2) in
+      let others = declarators_end ds q.1 rest (subst (each next_text ds) (sym q.4) s.4) j in
+      let sizes = dimensions_end d.dimensions r.1 (q.1 ++ rest) (subst (each (dimension n) d.dimensions) (sym r.4) s.3.4) others in
+      let here = after_name d.name r.0 (r.1 ++ (q.1 ++ rest)) (subst (identifier d.name) (sym r.3) s.3.3) sizes in
+      let parts : front ++ rest ≡ r.0 ++ (r.1 ++ (q.1 ++ rest)) =
+      ap (λ z. z ++ rest) (q.2 ∙ ap (λ z. z ++ q.1) r.2) ∙ append_assoc (r.0 ++ r.1) q.1 rest ∙ append_assoc r.0 r.1 (q.1 ++ rest) in
+      subst Closes (sym parts) here
+
   abbrev declared : List Declarator → Text
   declared ds = joined (codes ",") (declarator n) ds & mark (codes ";")
 
-  declared_closes : (ds : List Declarator) (front rest : List Token) → declared ds (kinds front) → Closes (front ++ rest)
-  declared_closes [] front rest s = absurd s.3
-  declared_closes (d ∷ ds) front rest s =
+  pub declared_closes : (ds : List Declarator) (front rest : List Token) → declared ds (kinds front) → Closes (front ++ rest)
+  declared_closes ds front rest s =
       let p = parted front s.0 s.1 s.2 in
-      let q = parted p.0 s.3.0 s.3.1 (p.3 ∙ s.3.2) in
-      let r = parted q.0 s.3.3.0 s.3.3.1 (q.3 ∙ s.3.3.2) in
-      let last : mark (codes ";") (kinds p.1) = p.4 ∙ s.4 in
-      let end_ = begins_not is_joint (leads_mark (codes ";")) apart_semicolon tt p.1 rest last in
-      let others = declarators_end ds q.1 (p.1 ++ rest) (subst (each next_text ds) (sym q.4) s.3.4) end_ in
-      let sizes = dimensions_end d.dimensions r.1 (q.1 ++ (p.1 ++ rest)) (subst (each (dimension n) d.dimensions) (sym r.4) s.3.3.4) others in
-      let here = after_name d.name r.0 (r.1 ++ (q.1 ++ (p.1 ++ rest))) (subst (identifier d.name) (sym r.3) s.3.3.3) sizes in
-      let parts : front ++ rest ≡ r.0 ++ (r.1 ++ (q.1 ++ (p.1 ++ rest))) =
-      ap (λ z. z ++ rest) (p.2 ∙ ap (λ z. z ++ p.1) (q.2 ∙ ap (λ z. z ++ q.1) r.2))
-      ∙ append_assoc ((r.0 ++ r.1) ++ q.1) p.1 rest ∙ append_assoc (r.0 ++ r.1) q.1 (p.1 ++ rest) ∙ append_assoc r.0 r.1 (q.1 ++ (p.1 ++ rest)) in
-      subst Closes (sym parts) here
+      let end_ = begins_not is_joint (leads_mark (codes ";")) apart_semicolon tt p.1 rest (p.4 ∙ s.4) in
+      let here = declarators_close ds p.0 (p.1 ++ rest) (subst (joined (codes ",") (declarator n) ds) (sym p.3) s.3) end_ in
+      subst Closes (sym (ap (λ z. z ++ rest) p.2 ∙ append_assoc p.0 p.1 rest)) here
 
   -- ---- members
 
@@ -150,7 +154,7 @@ module _ (n : ℕ) where
       (many_is is_open member_is (record { ends = refl; begins = λ m front rest s. begins_else (mark_is (codes "}")) leads_member (apart_mark is_member (codes "}") refl) m front rest s; goes_on = λ ts h. tt }))
       (λ rest may. (may, tt))
 
-  closed : (front rest : List Token) → mark (codes "}") (kinds front) → is_open (front ++ rest) ≡ false
+  pub closed : (front rest : List Token) → mark (codes "}") (kinds front) → is_open (front ++ rest) ≡ false
   closed front rest s = not_other (mark_is (codes "}")) (front ++ rest) (begins_so (leads_mark (codes "}")) tt front rest s)
 
   pub structure_is : IsGrammar (structure_at n) (structure n) Any
@@ -159,11 +163,17 @@ module _ (n : ℕ) where
       (behind_is (word_reads (codes "struct")) (both_is identifier_is (behind_is (mark_reads (codes "{")) (before_is (some_is members_is) (mark_reads (codes "}")) closed)) (λ b front rest t may. tt)))
       (λ x ks s. s) (λ d ks s. ((d.name, d.members), refl, s))
 
+  pub leads_structure : Leads (structure n) (word_is (codes "struct"))
+  leads_structure d ks s = leads_behind (λ (x : Struct). identifier x.name & (mark (codes "{") & (some (member n) x.members & mark (codes "}")))) (leads_word (codes "struct")) d ks s
+
   pub exception_is : IsGrammar (exception_at n) (exception n) Any
   unfolding exception_at
   exception_is = mapped_is exception_of (exception n)
       (behind_is (word_reads (codes "exception")) (both_is identifier_is (behind_is (mark_reads (codes "{")) (before_is members_is (mark_reads (codes "}")) closed)) (λ b front rest t may. tt)))
       (λ x ks s. s) (λ d ks s. ((d.name, d.members), refl, s))
+
+  pub leads_exception : Leads (exception n) (word_is (codes "exception"))
+  leads_exception d ks s = leads_behind (λ (x : Exception). identifier x.name & (mark (codes "{") & (each (member n) x.members & mark (codes "}")))) (leads_word (codes "exception")) d ks s
 
 pub enumeration_is : IsGrammar enumeration_at enumeration Any
 unfolding enumeration_at
@@ -171,6 +181,9 @@ enumeration_is = mapped_is enumeration_of enumeration
     (behind_is (word_reads (codes "enum")) (both_is identifier_is (behind_is (mark_reads (codes "{")) (before_is (joined_is (codes ",") identifier_is (λ ts h. tt)) (mark_reads (codes "}"))
     (λ front rest s. (begins_not (mark_is (codes ",")) (leads_mark (codes "}")) (apart_mark (mark_is (codes "}")) (codes ",") refl) tt front rest s, tt)))) (λ b front rest t may. tt)))
     (λ x ks s. s) (λ d ks s. ((d.name, d.items), refl, s))
+
+pub leads_enumeration : Leads enumeration (word_is (codes "enum"))
+leads_enumeration d ks s = leads_behind (λ (x : Enum). identifier x.name & (mark (codes "{") & (joined (codes ",") identifier x.items & mark (codes "}")))) (leads_word (codes "enum")) d ks s
 
 -- ---- one tree
 
