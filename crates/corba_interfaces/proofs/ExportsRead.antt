@@ -1,10 +1,10 @@
 -- What an interface declares: what is read is what is spelled.
-use Rattle.std.proofs.Common.{◌≡◌, ◌⊎◌, inl, inr, ℕ, List, ◌++◌, Bool, true, false, ◌||◌, refl}
+use Rattle.std.proofs.Common.{◌≡◌, ◌⊎◌, inl, inr, ℕ, List, Bool, false, ◌||◌, refl}
 use Rattle.std.specs.Prelude.{codes}
 use Rattle.idl_lex.specs.declared.kinds.Token.{Token}
 use Rattle.idl_lex.specs.declared.kinds.TokenKind.{TokenKind}
 use Rattle.syntax_kit.specs.Reading.{mark_is, word_is, begins_with, many}
-use Rattle.syntax_kit.specs.Grammar.{Text, mark, one_of, each, kinds, IsGrammar, Leads, Any}
+use Rattle.syntax_kit.specs.Grammar.{Text, mark, one_of, each, IsGrammar, Leads, Any}
 use Rattle.syntax_kit.proofs.Grammars.{mapped_is, either_is, many_is}
 use Rattle.syntax_kit.proofs.Leaves.{mark_reads, mark_named, leads_mark, Apart, apart_or, apart_word, apart_mark, leads_both, leads_either, begins_so, begins_not, begins_else}
 use Rattle.syntax_kit.proofs.Productions.{weaker, before_is, leads_by}
