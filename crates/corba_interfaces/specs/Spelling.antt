@@ -25,4 +25,6 @@ bases n rs = mark (codes ":") & joined (codes ",") (reference n) rs
 
 -- interface = "interface" identifier [ bases ] "{" { export } "}" ";"
 abbrev pub interface : ℕ → Interface → Text
-interface n i = word (codes "interface") & identifier i.name & if_any (bases n) i.bases & mark (codes "{") & each (export n) i.exports & mark (codes "}") & mark (codes ";")
+interface n i =
+    word (codes "interface") & identifier i.name & if_any (bases n) i.bases
+    & mark (codes "{") & each (export n) i.exports & mark (codes "}") & mark (codes ";")

@@ -7,5 +7,6 @@ ghost use Rattle.corba_interfaces.specs.declared.tree.Interface.{Interface};
 
 /// Tokens are those of at most one interface.
 pub fn one_interface()
-    ensures { (levels : ℕ) (a b : Interface) (tokens : List Token) → interface levels a (kinds tokens) → interface levels b (kinds tokens) → a ≡ b }
+    ensures { (levels : ℕ) (a b : Interface) (tokens : List Token)
+        → interface levels a (kinds tokens) → interface levels b (kinds tokens) → a ≡ b }
 {}

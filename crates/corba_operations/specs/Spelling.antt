@@ -28,7 +28,8 @@ reference (suc n) r ks = scoped r.name ks
 
 -- attribute = [ "readonly" ] "attribute" type identifier { "," identifier }
 abbrev pub attribute : ℕ → Attribute → Text
-attribute n a = when (word (codes "readonly")) a.readonly & word (codes "attribute") & type_text n a.of & joined (codes ",") identifier a.names
+attribute n a =
+    when (word (codes "readonly")) a.readonly & word (codes "attribute") & type_text n a.of & joined (codes ",") identifier a.names
 
 -- the word of a direction
 abbrev pub direction_spell : Direction → List ℕ
@@ -55,4 +56,6 @@ raises n rs = word (codes "raises") & mark (codes "(") & joined (codes ",") (ref
 
 -- operation = [ "oneway" ] result identifier parameters [ raises ], with one level less in its parentheses
 abbrev pub operation : ℕ → Operation → Text
-operation n o = when (word (codes "oneway")) o.oneway & result n o.result & identifier o.name & parameters (n - 1) o.parameters & if_any (raises (n - 1)) o.raises
+operation n o =
+    when (word (codes "oneway")) o.oneway & result n o.result & identifier o.name
+    & parameters (n - 1) o.parameters & if_any (raises (n - 1)) o.raises

@@ -8,10 +8,12 @@ ghost use Rattle.corba_operations.specs.declared.tree.Operation.{Operation};
 
 /// Tokens are those of at most one declaration of attributes.
 pub fn one_attribute()
-    ensures { (levels : ℕ) (a b : Attribute) (tokens : List Token) → attribute levels a (kinds tokens) → attribute levels b (kinds tokens) → a ≡ b }
+    ensures { (levels : ℕ) (a b : Attribute) (tokens : List Token)
+        → attribute levels a (kinds tokens) → attribute levels b (kinds tokens) → a ≡ b }
 {}
 
 /// Tokens are those of at most one operation.
 pub fn one_operation()
-    ensures { (levels : ℕ) (a b : Operation) (tokens : List Token) → operation levels a (kinds tokens) → operation levels b (kinds tokens) → a ≡ b }
+    ensures { (levels : ℕ) (a b : Operation) (tokens : List Token)
+        → operation levels a (kinds tokens) → operation levels b (kinds tokens) → a ≡ b }
 {}

@@ -13,7 +13,9 @@ use Rattle.corba_syntax.specs.declared.tree.Module.{Module, out-Module}
 
 -- module = "module" identifier "{" { definition } "}" ";", over the text of a definition in it
 abbrev pub module_text : (Definition → Text) → Module → Text
-module_text inner m = word (codes "module") & identifier (out-Module m).name & mark (codes "{") & each inner (out-Module m).definitions & mark (codes "}") & mark (codes ";")
+module_text inner m =
+    word (codes "module") & identifier (out-Module m).name
+    & mark (codes "{") & each inner (out-Module m).definitions & mark (codes "}") & mark (codes ";")
 
 -- definition = module | interface | declaration ";"
 abbrev pub definition_text : (Definition → Text) → ℕ → Definition-F Definition Module → Text
@@ -45,4 +47,5 @@ Explains fault tokens = explains outermost fault tokens
 -- all tokens have a tree, or have none and a line at which they fail
 abbrev pub TokensAreDecided : Type 0
 TokensAreDecided = (tokens : List Token)
-    → ((tree : List Definition) × Derives tree tokens) ⊎ ((line : ℕ) × ((tree : List Definition) → Derives tree tokens → ⊥) × FailsAt tokens line)
+    → ((tree : List Definition) × Derives tree tokens)
+    ⊎ ((line : ℕ) × ((tree : List Definition) → Derives tree tokens → ⊥) × FailsAt tokens line)
