@@ -21,6 +21,7 @@ GREATEST_COUNT = 2 ** 32 - 1
 GREATEST_ID = 2 ** 31 - 1
 REPLY_IDS = 100  # how far the ids of replies are above those of requests
 MOST_OPERATIONS = 256
+OUTWARDS = ("out", "inout")
 HEAVIEST = 1_048_576
 PROGRAM, VERSION = 0x20000000, 1  # over ONC, where a file of MIG has no such numbers
 
@@ -143,8 +144,8 @@ Operation = namedtuple("Operation", "name number slot oneway ins outs request re
 class Subsystem:
     """What a file declares so far.
 
-    The faults of a file are those of single tokens, and what a token means depends on what precedes it alone. So each
-    token is judged when it is reached; a token with two faults has the one that docs/ERRORS.md lists first.
+    Each fault of a file is that of one token, and depends on nothing that follows. So tokens are judged as they are
+    reached, and of two faults at one token the one that docs/ERRORS.md lists first is looked for first.
     """
 
     def __init__(self, tree):
@@ -216,47 +217,54 @@ class Subsystem:
 
     # -- routines
 
-    def skip(self, _=None):
+    def skip(self, _):
+        self.take_id()
+
+    def take_id(self):
+        """The next slot, whose message id and that of its reply are in range."""
         number_between(0, self.base + self.slots + 1, GREATEST_ID - REPLY_IDS)
         self.slots += 1
+        return self.slots - 1
 
     def routine(self, tree):
         identifier, parameters = parts_of(tree)
         if identifier.value in {operation.name for operation in self.operations}:
             raise NameFault("Twice")
-        slot = self.slots
-        self.skip()
+        slot = self.take_id()
         if len(self.operations) == MOST_OPERATIONS:
             raise NameFault("Limit")
         oneway = tree[1] == "simpleroutine"
-        ins, outs = self.parameters(parts_of(parameters) if parameters[0] == "parameters" else [parameters], oneway)
+        _, *data = self.parameters(parts_of(parameters) if parameters[0] == "parameters" else [parameters], oneway)
+        ins = [(name, meant) for way, name, meant in data if way != "out"]
+        outs = [(name, meant) for way, name, meant in data if way in OUTWARDS]
         request = self.node("group", [self.node_of(meant) for _, meant in ins])
         answer = self.node("group", [self.node("void"), *(self.node_of(meant) for _, meant in outs)])
         reply = self.node("choice", "u32", [[0, answer]])
-        number = len(self.operations) + 1
-        self.operations.append(Operation(identifier.value, number, slot, oneway, ins, outs, request, reply))
+        self.operations.append(Operation(identifier.value, len(self.operations) + 1, slot, oneway, ins, outs, request, reply))
 
     def parameters(self, trees, oneway):
-        """What goes in and what comes out; the port to which a request is sent is part of neither."""
-        names, ins, outs = set(), [], []
+        """The way, the name and the type of each parameter; the first is the port to which requests are sent."""
+        found = []
         for tree in trees:
-            identifier, name_of_type = parts_of(tree)
-            way = tree[1] if isinstance(tree[1], str) else "in"
-            if oneway and way in ("out", "inout"):
-                raise NameFault("Oneway")
-            if names and way == "requestport":
-                raise NameFault("Port")
-            if identifier.value in names:
-                raise NameFault("Twice")
-            meant = self.named(name_of_type)
-            if names and meant.kind == PORT:
-                raise NameFault("OutOfScope")
-            if not names and meant.kind != PORT:
-                raise NameFault("Port")
-            ins += [(identifier.value, meant)] * bool(names and way != "out")
-            outs += [(identifier.value, meant)] * bool(names and way in ("out", "inout"))
-            names.add(identifier.value)
-        return ins, outs
+            found.append(self.parameter(tree, [name for _, name, _ in found], oneway))
+        return found
+
+    def parameter(self, tree, earlier, oneway):
+        """A parameter after others of these names."""
+        identifier, name_of_type = parts_of(tree)
+        way = tree[1] if isinstance(tree[1], str) else "in"
+        if oneway and way in OUTWARDS:
+            raise NameFault("Oneway")
+        if earlier and way == "requestport":
+            raise NameFault("Port")
+        if identifier.value in earlier:
+            raise NameFault("Twice")
+        meant = self.named(name_of_type)
+        if earlier and meant.kind == PORT:
+            raise NameFault("OutOfScope")
+        if not earlier and meant.kind != PORT:
+            raise NameFault("Port")
+        return way, identifier.value, meant
 
 
 # ---- answers

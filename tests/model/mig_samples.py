@@ -130,43 +130,66 @@ class FileMaker:
     def called(self, word, name, parameters):
         return [word, name, "(", *[token for parameter in parameters for token in [";", *parameter]][1:], ")"]
 
-    # -- statements with a fault
+    # -- statements with a fault, whose names no other statement has
 
     def faulty(self):
         """A statement, and the fault of a name in it."""
-        rng, number_name, port = self.rng, self.named(NUMBER), self.named(PORT)
-        rows = [name for name, (sort, _, _) in self.types.items() if sort == ROW]
-        data, unknown, type_name = rng.choice([number_name, *rows]), rng.choice(["nowhere", "Int", "this"]), "this"
-        first = ["p", ":", port]
-        bits = self.types[number_name][2]
-        # A subsystem without routines or types of its own has nothing that can be declared again.
-        choices = [
-            ("Unknown", self.defined(type_name, [unknown])),
-            ("Unknown", self.defined(type_name, ["(", unknown, ",", "32", ")"])),
-            ("Unknown", self.defined(type_name, self.row_of(rng.randint(1, 9), unknown))),
-            ("Unknown", self.called("routine", "g", [["p", ":", unknown]])),
-            ("Unknown", self.called("routine", "g", [first, ["a", ":", rng.choice([unknown, self.name + "_"])]])),
-            *[("Twice", self.defined(name, [rng.choice([unknown, number_name])])) for name in self.declared[-1:]],
-            *[("Twice", self.called(rng.choice(["routine", "simpleroutine"]), name, [rng.choice([first, ["p", ":", unknown]])])) for name in self.routines[-1:]],
-            ("Twice", self.called("routine", "g", [first, rng.choice([["out", "p", ":", data], ["p", ":", unknown]])])),
-            ("Twice", self.called("routine", "g", [first, ["a", ":", data], ["b", ":", data], ["a", ":", rng.choice([data, unknown])]])),
-            ("Range", self.defined(type_name, self.row_of(rng.choice([0, 2 ** 32, 2 ** 64]), rng.choice([number_name, unknown])))),
-            ("Range", self.defined(type_name, ["array", "[", "1", "/", "(", "2", "-", "2", ")", "]", "of", number_name])),
-            ("Range", self.defined(type_name, ["array", "[", str(2 ** 127 - 1), "+", "1", "-", str(2 ** 127 - 1), "]", "of", number_name])),
-            ("Range", self.defined(type_name, ["(", number_name, ",", *expression(rng, rng.choice([0, bits - 1, bits + 1, 2 ** 32 + bits])), ")"])),
-            ("OutOfScope", self.defined(type_name, self.row_of(rng.randint(1, 9), rng.choice([port, *rows])))),
-            *[("OutOfScope", self.defined(type_name, ["(", name, ",", rng.choice(["0", "32"]), ")"])) for name in rows[-1:]],
-            ("OutOfScope", self.called("routine", "g", [first, [*rng.choice([[], ["in"], ["out"]]), "a", ":", port]])),
-            ("Oneway", self.called("simpleroutine", "g", [first, [rng.choice(["out", "inout"]), rng.choice("pa"), ":", rng.choice([data, unknown])]])),
-            ("Oneway", self.called("simpleroutine", "g", [["out", *first]])),
-            ("Port", self.called(rng.choice(["routine", "simpleroutine"]), "g", [["a", ":", data], first])),
-            ("Port", self.called("routine", "g", [first, ["requestport", rng.choice("pa"), ":", rng.choice([data, port, unknown])]])),
-        ]
-        fault = rng.choice(sorted({fault for fault, _ in choices}))
-        return rng.choice([statement for found, statement in choices if found == fault]), fault
+        faults = {"Unknown": self.unknown, "Twice": self.twice, "Range": self.out_of_range, "OutOfScope": self.left_out,
+                  "Oneway": self.oneway, "Port": self.port}
+        fault = self.rng.choice(list(faults))
+        return self.rng.choice(faults[fault]()), fault
 
-    def defined(self, name, meaning):
-        return ["type", name, "=", *meaning]
+    def defined(self, *meaning):
+        return ["type", "this", "=", *meaning]
+
+    def parameter(self, name, of, *ways):
+        return [*([way] if (way := self.rng.choice(ways or [""])) else []), name, ":", of]
+
+    def server(self):
+        return self.parameter("p", self.named(PORT))
+
+    def data(self):
+        return self.named(NUMBER, ROW)
+
+    def nowhere(self):
+        return self.rng.choice(["nowhere", "Int", "this", f"{self.name}_"])
+
+    def unknown(self):
+        name, n = self.nowhere(), self.rng.randint(1, 9)
+        return [self.defined(name), self.defined("(", name, ",", "32", ")"), self.defined(*self.row_of(n, name)),
+                self.called("routine", "g", [self.parameter("p", name)]),
+                self.called("routine", "g", [self.server(), self.parameter("a", name, "", "in", "out")])]
+
+    def twice(self):
+        names = self.rng.choice([self.data, self.nowhere])()
+        a, b = self.parameter("a", self.data()), self.parameter("b", self.data())
+        return [self.called("routine", "g", [self.server(), self.parameter("p", names, "", "out")]),
+                self.called("routine", "g", [self.server(), a, b, self.parameter("a", names, "", "inout")]),
+                *(["type", name, "=", names] for name in self.declared[-1:]),
+                *(self.called("simpleroutine", name, [self.parameter("p", names)]) for name in self.routines[-1:])]
+
+    def out_of_range(self):
+        name, greatest = self.named(NUMBER), str(2 ** 127 - 1)
+        bits = self.types[name][2]
+        return [self.defined(*self.row_of(self.rng.choice([0, 2 ** 32, 2 ** 64]), self.rng.choice([name, self.nowhere()]))),
+                self.defined("array", "[", "1", "/", "(", "2", "-", "2", ")", "]", "of", name),
+                self.defined("array", "[", greatest, "+", "1", "-", greatest, "]", "of", name),
+                self.defined("(", name, ",", *expression(self.rng, self.rng.choice([0, bits - 1, bits + 1, 2 ** 32 + bits])), ")")]
+
+    def left_out(self):
+        rows = [name for name, (sort, _, _) in self.types.items() if sort == ROW]
+        return [self.defined(*self.row_of(self.rng.randint(1, 9), self.rng.choice([self.named(PORT), *rows]))),
+                self.called("routine", "g", [self.server(), self.parameter("a", self.named(PORT), "", "in", "out")]),
+                *(self.defined("(", name, ",", self.rng.choice(["0", "32"]), ")") for name in rows[-1:])]
+
+    def oneway(self):
+        later = self.parameter(self.rng.choice("pa"), self.rng.choice([self.data(), self.nowhere()]), "out", "inout")
+        return [self.called("simpleroutine", "g", [self.server(), later]), self.called("simpleroutine", "g", [["out", *self.server()]])]
+
+    def port(self):
+        of = self.rng.choice([self.data(), self.named(PORT), self.nowhere()])
+        return [self.called("simpleroutine", "g", [self.parameter("a", self.data(), "", "requestport"), self.server()]),
+                self.called("routine", "g", [self.server(), self.parameter(self.rng.choice("pa"), of, "requestport")])]
 
 
 # ---- texts
