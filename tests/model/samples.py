@@ -135,7 +135,8 @@ def request_lines(rng, back, interfaces, count):
         interface = rng.choice(interfaces)
         name, _, types = rng.choice(BACKS[back].operations(interface) or interface.operations)
         args = [ty.tree(sample(rng, ty)) for ty in types]
-        record = {"op": f"{interface.name}.{name}", BACKS[back].key: rng.choice([0, 1, 2 ** 32 - 1]), "args": args}
+        numbers = {key: rng.choice([0, 1, 2 ** 32 - 1]) for key in BACKS[back].keys}
+        record = {"op": f"{interface.name}.{name}", **numbers, "args": args}
         if args and rng.random() < 0.5:
             k = rng.randrange(len(args))
             record["args"] = [*args[:k], mutated(rng, args[k]), *args[k + 1:]]
