@@ -8,14 +8,13 @@ from nodes import ITEMS, LONG, SHORT, Mach as Writing, arm_of, blank, count_of, 
 from values import Array, Bool, Enum, Fault, Number, Opaque, Pointer, String, Struct, Union
 
 HEADER = 24  # the octets of a header: bits, size, remote port, local port, sequence number and id
-LEAD = HEADER + 8  # those of a header and of the item of a return code
 COPY_SEND, MOVE_SEND_ONCE, MAKE_SEND_ONCE = 19, 18, 21  # what becomes of a port's right
 COMPLEX = 1 << 31  # the bit of messages that carry rights or memory
 REPLY_ID = 100  # how much greater the id of a reply is than that of its request
 
 
 class Reading:
-    """The octets of a message from a place on."""
+    """The octets of a message from a place on; each item begins at a multiple of 4."""
 
     def __init__(self, octets, at):
         self.octets, self.at = octets, at
@@ -137,17 +136,6 @@ def read_reply(message, expected):
     return {"remote": remote, "local": local, "code": code, "used": reading.at}
 
 
-def told(case):
-    """The answer to a case of heads."""
-    octets = bytes.fromhex(case.get("octets", ""))
-    try:
-        said = read_call(octets) if case["ask"] == "mach call" else read_reply(octets, case["id"])
-    except Stop as stop:
-        return stop.kind
-    what = f"request {said['id']}" if "id" in said else f"code {said['code']}" if said["code"] else "answer"
-    return f"{what} {said['remote']} {said['local']} {said['used']}"
-
-
 # ---- heads that are sent
 
 def message(bits, remote, local, id, body):
@@ -218,8 +206,21 @@ def read_body(encoding, nodes, id, at, octets):
     return f"{reading.at - at} {sent(encoding, nodes, id, value).hex()}"
 
 
+# ---- rows of the tables
+
+def told(case):
+    """The answer to a case of heads that are read."""
+    octets = bytes.fromhex(case["octets"])
+    try:
+        said = read_call(octets) if case["ask"] == "mach call" else read_reply(octets, case["id"])
+    except Stop as stop:
+        return stop.kind
+    what = f"request {said['id']}" if "id" in said else f"code {said['code']}" if said["code"] else "answer"
+    return f"{what} {said['remote']} {said['local']} {said['used']}"
+
+
 def answer(case):
-    """The answer to a case of a table: of heads that are sent or read, or of a value."""
+    """The answer to a case: of a head that is read or sent, or of a value."""
     ask, octets = case["ask"], bytes.fromhex(case.get("octets", ""))
     if ask in ("mach call", "mach reply"):
         return told(case)
