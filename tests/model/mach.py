@@ -4,7 +4,7 @@ The layout is a profile of our own after the manuals of Mach (docs/FORMATS.md). 
 the rules, with nothing of the crates in it.
 """
 from giop import Stop
-from nodes import ITEMS, LONG, SHORT, Mach as Writing, arm_of, blank, count_of, greatest, is_exact, is_long, item_width, least, sent, tag_kind
+from nodes import ITEMS, LONG, SHORT, Mach as Writing, arm_of, blank, count_of, greatest, is_exact, is_long, item_width, least, sent, span, span_told, tag_kind
 from values import Array, Bool, Enum, Fault, Number, Opaque, Pointer, String, Struct, Union
 
 HEADER = 24  # the octets of a header: bits, size, remote port, local port, sequence number and id
@@ -220,7 +220,7 @@ def told(case):
 
 
 def answer(case):
-    """The answer to a case: of a head that is read or sent, or of a value."""
+    """The answer to a case: of a head that is read or sent, of a value, or of the length of a node."""
     ask, octets = case["ask"], bytes.fromhex(case.get("octets", ""))
     if ask in ("mach call", "mach reply"):
         return told(case)
@@ -230,6 +230,8 @@ def answer(case):
         return reply(case["remote"], case["id"], case.get("code", 0), octets).hex()
     nodes = case["nodes"]
     id = case.get("id", len(nodes) - 1)
+    if ask == "span":
+        return span_told(span(case["in"], nodes, id))
     if ask == "read":
         return read_body(case["in"], nodes, id, case.get("at", 0), octets)
     return sent(case["in"], nodes, id, case["value"] if "value" in case else blank(nodes, id)).hex()

@@ -241,11 +241,35 @@ def planned(nodes, id, plan, arm=None):
 
 # ---- how long what is sent is: from each position modulo 8, or the greatest length, or neither
 
+GREATEST_LENGTH = 2 ** 32 - 1
+
+
 def width_of(encoding, kind):
     return max(4, WIDTHS[kind]) if encoding == "xdr" else WIDTHS[kind]
 
 
+def filled(octets):
+    """So many octets up to a multiple of 4."""
+    return -(-octets // 4) * 4
+
+
+def descriptor(kind, most):
+    """How long the descriptor of a row of at most so many numbers, or of any number (None), is where it is sent."""
+    return 12 if is_long(kind, most) else 4
+
+
+def item(node, place, kind):
+    """An item of a row or a text."""
+    word, n = count_of(node, place)
+    if word is None:
+        return None
+    octets = descriptor(kind, n) + filled(n * item_width(kind))
+    return [octets] * 8 if word == "exactly" else octets
+
+
 def scalar(encoding, kind):
+    if encoding == "mach":
+        return [descriptor(kind, 1) + filled(item_width(kind))] * 8
     width = width_of(encoding, kind)
     return [width if encoding == "xdr" else -at % width + width for at in range(8)]
 
@@ -293,13 +317,27 @@ def listed(encoding, node, element, aligned):
     return top(scalar(encoding, "u32")) + each
 
 
+def row_kind(node):
+    """The kind of the numbers of a row or a text, and the place of its count in the node."""
+    return ("char", 1) if node[0] == "text" else (node[1], 2)
+
+
 def span(encoding, nodes, id):
+    """The length of a node, which has no bound where 32 bits do not hold it."""
+    whole = added_up(encoding, nodes, id)
+    return None if top(whole) is None or top(whole) > GREATEST_LENGTH else whole
+
+
+def added_up(encoding, nodes, id):
     node = nodes[id]
     form = node[0]
     if form == "num":
         return scalar(encoding, node[1])
     if form == "enum":
         return scalar(encoding, "i32")
+    if encoding == "mach" and form in ("text", "row"):
+        kind, place = row_kind(node)
+        return item(node, place, kind)
     if form == "text":
         return block(encoding, node, 1, 4, 0) if encoding == "xdr" else block(encoding, node, 1, 1, 1)
     if form == "row" and node[1] == "octet":
@@ -321,6 +359,13 @@ def span(encoding, nodes, id):
     if form == "maybe":
         return after(scalar(encoding, "bool"), top(span(encoding, nodes, node[1])))
     return [0] * 8
+
+
+def span_told(span):
+    """The answer to a row about the length of a node."""
+    if span is None:
+        return "Unbounded"
+    return f"Fixed({span})" if isinstance(span, list) else f"Bounded({span})"
 
 
 # ---- regions
@@ -367,7 +412,11 @@ class Regions:
             for child, inner in zip(node[1], value["group"]):
                 self.fall(child, inner)
         elif form in ("text", "row"):
-            self.length(node, 1 if form == "text" else 2)
+            kind, place = row_kind(node)
+            if self.encoding == "mach":
+                self.small(descriptor(kind, count_of(node, place)[1]))
+            else:
+                self.length(node, place)
             self.row()
         elif form == "items":
             self.length(node, 2)
