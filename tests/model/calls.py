@@ -16,10 +16,10 @@ DEEPEST = 127
 class Interface:
     """A version of a program; operations are triples of name, number and the types of the parameters.
 
-    Over Mach it has as many ids from `base` on as it has slots.
+    Over Mach it has as many ids from `base` on as it has slots, where a base is known.
     """
 
-    def __init__(self, name, program, version, operations, base):
+    def __init__(self, name, program, version, operations, base=None):
         self.name, self.program, self.version, self.own = name, program, version, list(operations)
         self.base, self.slots = base, len(self.own)
         self.operations = list(operations)

@@ -250,7 +250,7 @@ def kind_of(ty):
 
 def is_row(ty):
     """Whether an array has one item for all of its elements: booleans and enums have one each."""
-    return type(ty.element) is Number
+    return isinstance(ty.element, Number) and not isinstance(ty.element, (Bool, Enum))
 
 
 def put(out, ty, value):
