@@ -4,203 +4,26 @@ The whole tree is walked once, and every fault is kept with the place of its tok
 whose token stands first; at one token it is the first one of `FAULTS`. After a fault whatever it touches is None, which
 has no faults of its own. As all of the model it is written from the rules, with nothing of the crates in it.
 """
-from collections import namedtuple
 from itertools import count
 
 from calls import Interface
-from corba import Fault as TextFault, Token, file_of, tokens_of
-from values import Array, Bool, Count, Enum, NoValue, Number, Opaque, String, Struct, Union, Void
+from corba import Fault as TextFault, file_of, tokens_of
+from corba_consts import Stopped, number_of
+from corba_scopes import Char, Entry, Octet, Offer, Operation, Raised, Scope, row_of
+from corba_trees import Leaf, parts_of, placed, trees_of, words_of
+from values import Bool, Count, Enum, Number, String, Struct, Union, Void
 
 FAULTS = ("Unknown", "Twice", "CaseClash", "NotType", "NotConst", "Range", "Label", "Limit", "OutOfScope", "Oneway")
 MOST_INTERFACES, MOST_OPERATIONS, MOST_LABELS, MOST_RAISED = 64, 256, 4096, 4095
 FIRST_PROGRAM = 0x20000000
 MOST_OCTETS = 1_048_576
-
-
-# ---- trees with the place of their first token
-
-Leaf = namedtuple("Leaf", "rule value at")
-Tree = namedtuple("Tree", "rule parts at")
-
-
-def placed(tree, places):
-    """A tree whose leaves are numbered in their order in the text."""
-    if isinstance(tree, str):
-        return Leaf("word", tree, next(places))
-    if isinstance(tree, Token):
-        return Leaf(tree.kind, tree.value, next(places))
-    parts = [placed(part, places) for part in tree[1:]]
-    return Tree(tree[0], parts, parts[0].at)
-
-
-def words_of(tree):
-    """The words and marks of a tree itself."""
-    return [part.value for part in tree.parts if part.rule == "word"]
-
-
-def trees_of(tree):
-    """The parts of a tree that are not words or marks."""
-    return [part for part in tree.parts if part.rule != "word"]
-
-
-# ---- types that ONC does not have
-
-class Octet(Number):
-    """An octet, which is not a number of 8 bits: it is not the tag of a union."""
-
-    def __init__(self):
-        super().__init__(False, 8)
-
-
-class Char(Number):
-    """A character; in JSON a string of one."""
-
-    def __init__(self):
-        super().__init__(False, 8)
-
-    def value(self, tree):
-        if not isinstance(tree, str) or len(tree) != 1 or ord(tree) > 255:
-            raise NoValue
-        return ord(tree)
-
-    def tree(self, n):
-        return chr(n)
-
-
-class Chars(Array):
-    """Characters in a row; in JSON one string."""
-
-    def value(self, tree):
-        if not isinstance(tree, str):
-            raise NoValue
-        return super().value(list(tree))
-
-    def tree(self, values):
-        return "".join(super().tree(values))
-
-
-def row_of(element, count):
-    """So many elements."""
-    if isinstance(element, Octet):
-        return Opaque(count)
-    return (Chars if isinstance(element, Char) else Array)(element, count)
-
-
 INTEGERS = {("short",): (True, 16), ("long",): (True, 32), ("long", "long"): (True, 64)}
 SIMPLE = {"char": Char, "boolean": Bool, "octet": Octet}
-
-
-# ---- what names stand for
-
-class Entry:
-    """What a name stands for: its kind, what is known of it, and the scope that `::` after it leads into."""
-
-    def __init__(self, kind, value=None, scope=None):
-        self.kind, self.value, self.scope = kind, value, scope
-
-
-class Scope:
-    """Names in the order in which they are declared. An interface has bases and operations besides."""
-
-    def __init__(self, path=(), outer=None):
-        self.path, self.outer, self.names, self.bases, self.operations = path, outer, {}, [], []
-        self.spellings = {}
-
-    def inner(self, name):
-        return Scope((*self.path, name), self)
-
-    def found(self, name):
-        """What a name stands for here, or in a base: the bases are asked in their order, each with its own bases."""
-        if name in self.names:
-            return self.names[name]
-        return next((entry for entry in (base.found(name) for base in self.bases) if entry), None)
-
-    def sought(self, name):
-        """What a name stands for here or in a scope around this one."""
-        found = self.found(name)
-        return self.outer.sought(name) if found is None and self.outer else found
-
-    def add(self, name, entry):
-        self.names[name] = entry
-        self.spellings.setdefault(name.lower(), name)
-
-    def clash(self, name):
-        """Why a name may not be declared here, or None."""
-        if name in self.names:
-            return "Twice"
-        return "CaseClash" if name.lower() in self.spellings else None
-
-
-class Operation:
-    """An operation of an interface, or one of the two that an attribute stands for. Parameters are pairs of name and type."""
-
-    def __init__(self, name, result, ins=(), outs=(), raises=(), oneway=False):
-        self.name, self.result, self.ins, self.outs, self.raises, self.oneway = name, result, list(ins), list(outs), list(raises), oneway
-
-
-class Raised:
-    """An exception: its name with dots, its repository id, and its members."""
-
-    def __init__(self, path, members):
-        self.name, self.id, self.members = ".".join(path), f"IDL:{'/'.join(path)}:1.0", members
-
-
-class Offer:
-    """What a file offers: types, each with its name, and interfaces, each with its name and its operations."""
-
-    def __init__(self):
-        self.types, self.interfaces = [], []
 
 
 class Refused(Exception):
     """The first fault of a file."""
 
-
-class Stopped(Exception):
-    """The fault of an expression, and the name at which it is; or None for what has a fault already, or for the whole of the expression."""
-
-    def __init__(self, fault, name=None):
-        super().__init__(fault)
-        self.fault, self.name = fault, name
-
-
-# ---- constants
-
-def within(n):
-    """A number of 128 signed bits."""
-    if not -2 ** 127 <= n < 2 ** 127:
-        raise Stopped("Range")
-    return n
-
-
-def quotient(a, b):
-    """A division that cuts towards zero."""
-    if b == 0:
-        raise Stopped("Range")
-    return abs(a) // abs(b) * (1 if (a < 0) == (b < 0) else -1)
-
-
-def amount(n):
-    if not 0 <= n <= 63:
-        raise Stopped("Range")
-    return n
-
-
-OPERATORS = {
-    "|": lambda a, b: a | b,
-    "^": lambda a, b: a ^ b,
-    "&": lambda a, b: a & b,
-    "<<": lambda a, b: a << amount(b),
-    ">>": lambda a, b: a >> amount(b),
-    "+": lambda a, b: a + b,
-    "-": lambda a, b: a - b,
-    "*": lambda a, b: a * b,
-    "/": quotient,
-    "%": lambda a, b: a - b * quotient(a, b),
-}
-
-
-# ---- the walk
 
 class Resolver:
     def __init__(self):
@@ -245,34 +68,14 @@ class Resolver:
         while inner.rule == "operand":
             inner = inner.parts[1]
         try:
-            return inner.value if inner.rule == "string" else self.number(inner, scope)
+            return inner.value if inner.rule == "string" else number_of(inner, lambda name: self.named_number(name, scope))
         except Stopped as stopped:
             if stopped.fault:
                 self.fault(stopped.fault, (stopped.name or tree).at)
             return None
 
-    def number(self, tree, scope):
-        """The number of an expression. Of several faults the leftmost operand's is raised."""
-        if tree.rule == "number":
-            return tree.value
-        if tree.rule == "character":
-            return tree.value[0]
-        if tree.rule == "string":
-            raise Stopped("Range")
-        if tree.rule == "truth":
-            return int(tree.parts[0].value == "TRUE")
-        if tree.rule in ("identifier", "name"):
-            return self.named_number(tree, scope)
-        if tree.rule == "operand":
-            return self.number(tree.parts[1], scope)
-        if tree.rule == "signed":
-            n = self.number(tree.parts[1], scope)
-            return within(-n if tree.parts[0].value == "-" else n)
-        left, operator, right = tree.parts
-        a = self.number(left, scope)
-        return within(OPERATORS[operator.value](a, self.number(right, scope)))
-
     def named_number(self, name, scope):
+        """The number of a constant or an item."""
         entry = self.entry(name, scope)
         if entry is None:
             raise Stopped("Unknown", name)
@@ -504,9 +307,9 @@ class Resolver:
         for name in bases:
             base = self.of_kind("interface", name, scope)
             if base:
-                self.add_base(inner, base.value, name.at)
+                self.add_base(inner, base.scope, name.at)
         inner.inherited = list(inner.operations)
-        self.declare(scope, identifier, Entry("interface", inner, inner))
+        self.declare(scope, identifier, Entry("interface", scope=inner))
         self.offer.interfaces.append(inner)
         if len(self.offer.interfaces) > MOST_INTERFACES:
             self.fault("Limit", identifier.at)
@@ -515,7 +318,7 @@ class Resolver:
 
     def add_base(self, inner, base, at):
         """Adds a base, and those of its operations that are not there by another base."""
-        inner.bases.append(base)
+        inner.line += [each for each in base.line if each not in inner.line]
         for operation in [each for each in base.operations if each not in inner.operations]:
             for other in inner.operations:
                 if operation.name == other.name:
@@ -545,11 +348,6 @@ class Resolver:
         """One declaration. They are counted in the order in which they begin."""
         self.declarations += 1
         self.WALKS[tree.rule](self, tree, scope)
-
-
-def parts_of(tree, rule):
-    """The parts of a list, which is its one part itself where it has no more."""
-    return trees_of(tree) if tree.rule == rule else [tree]
 
 
 def resolved(trees):

@@ -3,7 +3,8 @@
 A type that is written out is a node, and a name for one is none. A row of numbers is one node together with its elements,
 and a union's tag is none. As all of the model it is written from docs/, with nothing of the crates in it.
 """
-from corba_names import Char, Octet, Refused, offer_of
+from corba_names import Refused, offer_of
+from corba_scopes import Char, Octet
 from values import Array, Bool, Enum, Number, Opaque, String, Struct, Union
 
 MOST_NODES, DEEPEST, HEAVIEST, WIDEST, WIDEST_IN_ALL = 65_536, 32, 1_048_576, 65_536, 262_144
