@@ -128,8 +128,9 @@ class Cdr:
         return interface.own
 
     def message(self, interface, operation, numbers, values):
-        """The request of an operation: ONC has none that wants no reply."""
-        writing = Writing(request_fields(self.order, numbers["id"], True, interface.name, operation[0]), self.order)
+        """The request of an operation, which wants a reply unless it is oneway, as none of ONC is."""
+        wants = not getattr(operation, "oneway", False)
+        writing = Writing(request_fields(self.order, numbers["id"], wants, interface.name, operation[0]), self.order)
         for ty, value in zip(operation[2], values):
             writing.value(ty, value)
         return message(self.order, REQUEST, writing.fields)
