@@ -112,6 +112,9 @@ def marshal(back, interfaces, line):
     if not named:
         return "! op"
     interface, operation = named[0]
+    numbers = {key: tree.get(key, 0) for key in back.keys}
+    if getattr(operation, "oneway", False) and numbers.get("local"):
+        return "! head"
     args = tree.get("args", [])
     try:
         if len(args) != len(operation[2]):
@@ -119,7 +122,7 @@ def marshal(back, interfaces, line):
         values = [ty.value(arg) for ty, arg in zip(operation[2], args)]
     except NoValue:
         return "! value"
-    message = back.message(interface, operation, {key: tree.get(key, 0) for key in back.keys}, values)
+    message = back.message(interface, operation, numbers, values)
     return message.hex() if len(message) <= LONGEST_MESSAGE else "! long"
 
 

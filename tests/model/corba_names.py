@@ -385,5 +385,5 @@ class Called(tuple):
 
 def interfaces_of(text):
     """The interfaces of a file that is accepted. A file gives no numbers, so programs and procedures are counted."""
-    return [Interface(".".join(each.path), FIRST_PROGRAM + n, 1, [Called(k, operation) for k, operation in enumerate(each.operations, 1)])
+    return [Interface(".".join(each.path), FIRST_PROGRAM + n, 1, [Called(k, operation) for k, operation in enumerate(each.operations, 1)], base=1000 * (n + 1))
             for n, each in enumerate(offer_of(text.encode()).interfaces)]

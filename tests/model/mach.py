@@ -3,6 +3,7 @@
 The layout is a profile of our own after the manuals of Mach (docs/FORMATS.md). As all of the model it is written from
 the rules, with nothing of the crates in it.
 """
+from corba_scopes import Char
 from giop import Stop
 from nodes import ITEMS, LONG, SHORT, Mach as Writing, arm_of, blank, count_of, greatest, is_exact, is_long, item_width, least, sent, span, span_told, tag_kind
 from values import Array, Bool, Enum, Fault, Number, Opaque, Pointer, String, Struct, Union
@@ -245,6 +246,8 @@ def kind_of(ty):
         return "bool" if isinstance(ty, Bool) else "i32"
     if isinstance(ty, Opaque):
         return "char" if isinstance(ty, String) else "octet"
+    if isinstance(ty, Char):
+        return "char"
     return f"{'i' if ty.signed else 'u'}{ty.bits}"
 
 
@@ -309,11 +312,12 @@ class Mach:
         return interface.own
 
     def message(self, interface, operation, ports, values):
-        """The request of an operation: ONC has none that wants no reply."""
+        """The request of an operation, which wants a reply unless it is oneway, as none of ONC is."""
         out = Writing()
         for ty, value in zip(operation[2], values):
             put(out, ty, value)
-        return request(ports["remote"], ports["local"], interface.base + interface.slot(operation), True, out.octets)
+        wants = not getattr(operation, "oneway", False)
+        return request(ports["remote"], ports["local"], interface.base + interface.slot(operation), wants, out.octets)
 
     def head(self, octets):
         """The ports, a test of interfaces and one of their operations, and a reader of values."""
