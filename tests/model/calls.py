@@ -1,10 +1,11 @@
-"""ONC calls (RFC 5531, section 9), requests over CDR, and their records, over the operations of an interface file."""
+"""ONC calls (RFC 5531, section 9), requests over CDR and Mach, and their records, over the operations of an interface file."""
 import json
 import re
 from itertools import accumulate
 
 from cdr import Cdr
 from giop import Stop
+from mach import Mach
 from values import Fault, NoValue, Reader
 
 LONGEST_LINE = 8_388_608
@@ -13,13 +14,20 @@ DEEPEST = 127
 
 
 class Interface:
-    """A version of a program; operations are triples of name, number and the types of the parameters."""
+    """A version of a program; operations are triples of name, number and the types of the parameters.
 
-    def __init__(self, name, program, version, operations):
+    Over Mach it has as many ids from `base` on as it has slots, where a base is known.
+    """
+
+    def __init__(self, name, program, version, operations, base=None):
         self.name, self.program, self.version, self.own = name, program, version, list(operations)
+        self.base, self.slots = base, len(self.own)
         self.operations = list(operations)
         if all(number != 0 for _, number, _ in operations):
             self.operations.append(("0", 0, []))
+
+    def slot(self, operation):
+        return self.own.index(operation)
 
 
 class NoTree(Exception):
@@ -82,12 +90,12 @@ def word(n):
     return n.to_bytes(4, "big")
 
 
-def is_record(tree, key):
-    """Whether a tree is a request record, whatever its operation and value; its head number has this name."""
-    if not isinstance(tree, dict) or not set(tree) <= {"op", key, "args"} or not isinstance(tree.get("op"), str):
+def is_record(tree, keys):
+    """Whether a tree is a request record, whatever its operation and value; its head numbers have these names."""
+    if not isinstance(tree, dict) or not set(tree) <= {"op", *keys, "args"} or not isinstance(tree.get("op"), str):
         return False
-    number = tree.get(key, 0)
-    return type(number) is int and 0 <= number < 2 ** 32 and isinstance(tree.get("args", []), list)
+    numbers = [tree.get(key, 0) for key in keys]
+    return all(type(n) is int and 0 <= n < 2 ** 32 for n in numbers) and isinstance(tree.get("args", []), list)
 
 
 def marshal(back, interfaces, line):
@@ -98,12 +106,15 @@ def marshal(back, interfaces, line):
         tree = tree_of(line)
     except NoTree:
         return "! json"
-    if not is_record(tree, back.key):
+    if not is_record(tree, back.keys):
         return "! request"
     named = [(i, op) for i in interfaces for op in back.operations(i) if f"{i.name}.{op[0]}" == tree["op"]]
     if not named:
         return "! op"
     interface, operation = named[0]
+    numbers = {key: tree.get(key, 0) for key in back.keys}
+    if getattr(operation, "oneway", False) and numbers.get("local"):
+        return "! head"
     args = tree.get("args", [])
     try:
         if len(args) != len(operation[2]):
@@ -111,7 +122,7 @@ def marshal(back, interfaces, line):
         values = [ty.value(arg) for ty, arg in zip(operation[2], args)]
     except NoValue:
         return "! value"
-    message = back.message(interface, operation, tree.get(back.key, 0), values)
+    message = back.message(interface, operation, numbers, values)
     return message.hex() if len(message) <= LONGEST_MESSAGE else "! long"
 
 
@@ -149,21 +160,21 @@ def read_head(reader):
 class Onc:
     """Calls of ONC, whose values travel over XDR."""
 
-    key = "xid"
+    keys = ("xid",)
 
     def operations(self, interface):
         return interface.operations
 
-    def message(self, interface, operation, xid, values):
+    def message(self, interface, operation, numbers, values):
         """The call of an operation, with empty credentials and verifier."""
-        numbers = (xid, 0, 2, interface.program, interface.version, operation[1], 0, 0, 0, 0)
+        numbers = (numbers["xid"], 0, 2, interface.program, interface.version, operation[1], 0, 0, 0, 0)
         return b"".join(map(word, numbers)) + b"".join(ty.send(v) for ty, v in zip(operation[2], values))
 
     def head(self, octets):
-        """The transaction, a test of interfaces and one of operations, and a reader of values."""
+        """The transaction, a test of interfaces and one of their operations, and a reader of values."""
         reader = Reader(octets, 0)
         xid, program, version, procedure = read_head(reader)
-        return xid, lambda i: (i.program, i.version) == (program, version), lambda op: op[1] == procedure, reader
+        return {"xid": xid}, lambda i: (i.program, i.version) == (program, version), lambda _, op: op[1] == procedure, reader
 
     def read(self, reader, ty):
         return ty.read(reader)
@@ -177,7 +188,7 @@ def unmarshal(back, interfaces, line):
         return "! hex"
     message = bytes.fromhex(line.decode())
     try:
-        number, is_called, is_named, reader = back.head(message)
+        numbers, is_called, is_named, reader = back.head(message)
     except HeadFault as fault:
         return f"! head {fault}"
     except Stop as stop:
@@ -185,7 +196,7 @@ def unmarshal(back, interfaces, line):
     called = [i for i in interfaces if is_called(i)]
     if not called:
         return "! interface"
-    operations = [op for op in back.operations(called[0]) if is_named(op)]
+    operations = [op for op in back.operations(called[0]) if is_named(called[0], op)]
     if not operations:
         return "! operation"
     name, _, types = operations[0]
@@ -195,11 +206,11 @@ def unmarshal(back, interfaces, line):
         return f"! body {fault}"
     if reader.at < len(message):
         return f"! trailing {reader.at}"
-    return text_of({"op": f"{called[0].name}.{name}", back.key: number, "args": args})
+    return text_of({"op": f"{called[0].name}.{name}", "args": args, **numbers})
 
 
 COMMANDS = {"marshal": marshal, "unmarshal": unmarshal}
-BACKS = {"xdr": Onc(), "cdr-be": Cdr("big"), "cdr-le": Cdr("little")}
+BACKS = {"xdr": Onc(), "cdr-be": Cdr("big"), "cdr-le": Cdr("little"), "mach": Mach()}
 
 
 def lines_of(octets):

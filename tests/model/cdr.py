@@ -119,7 +119,7 @@ def value_in(reading, ty):
 class Cdr:
     """Messages of GIOP whose octets are sent in one order and received in either."""
 
-    key = "id"
+    keys = ("id",)
 
     def __init__(self, order):
         self.order = order
@@ -127,21 +127,22 @@ class Cdr:
     def operations(self, interface):
         return interface.own
 
-    def message(self, interface, operation, id, values):
-        """The request of an operation: ONC has none that wants no reply."""
-        writing = Writing(request_fields(self.order, id, True, interface.name, operation[0]), self.order)
+    def message(self, interface, operation, numbers, values):
+        """The request of an operation, which wants a reply unless it is oneway, as none of ONC is."""
+        wants = not getattr(operation, "oneway", False)
+        writing = Writing(request_fields(self.order, numbers["id"], wants, interface.name, operation[0]), self.order)
         for ty, value in zip(operation[2], values):
             writing.value(ty, value)
         return message(self.order, REQUEST, writing.fields)
 
     def head(self, octets):
-        """The id, a test of interfaces and one of operations, and a reader of values."""
+        """The id, a test of interfaces and one of their operations, and a reader of values."""
         order, _, fields = header(octets, (REQUEST,))
         fields.contexts()
         id, _, key, name = fields.long(), fields.flag(), fields.sequence(), fields.string()
         fields.sequence()
         reading = Reading(octets, fields.at, order)
-        return id, lambda i: i.name.encode() == key, lambda op: op[0].encode() == name, reading
+        return {"id": id}, lambda i: i.name.encode() == key, lambda _, op: op[0].encode() == name, reading
 
     def read(self, reading, ty):
         return value_in(reading, ty)

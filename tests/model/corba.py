@@ -8,6 +8,7 @@ and docs/, with nothing of the crates in it.
 """
 import re
 import sys
+from bisect import bisect_left
 from collections import namedtuple
 
 sys.setrecursionlimit(20_000)
@@ -209,9 +210,15 @@ WORDS = words_of(GRAMMAR)
 
 def only(found):
     """Where a form may end, each with its parts: over the same tokens it has one tree."""
-    ends = {}
+    return joined({}, found)
+
+
+def joined(ends, found):
+    """Where a form may end, and where else it may."""
     for end, parts in found:
-        assert ends.setdefault(end, parts) == parts, f"two trees: {ends[end]}, {parts}"
+        if end in ends:
+            assert ends[end] == parts, f"two trees: {ends[end]}, {parts}"
+        ends[end] = parts
     return ends
 
 
@@ -226,6 +233,10 @@ class Reading:
 
     def __init__(self, tokens, levels=LEVELS):
         self.tokens, self.levels, self.known = tokens, levels, {}
+        self.places = {}
+        for n, token in enumerate(tokens):
+            for part in {token.value, token.value[:1]} if token.kind in ("mark", "word") else ():
+                self.places.setdefault(part, []).append(2 * n)
 
     def ends(self, form, place, level):
         """Where a form that begins at a place may end, each with its parts."""
@@ -235,16 +246,36 @@ class Reading:
         return only(found for form in forms for found in self.ends(form, place, level).items())
 
     def all_of(self, forms, place, level):
-        ends = {place: ()}
+        ends = {} if self.lacks(forms, place) else {place: ()}
         for form in forms:
             ends = self.after(ends, form, level)
         return ends
 
+    def lacks(self, forms, place):
+        """Whether forms need a mark that does not stand from a place on: such forms need not be tried.
+
+        A chain begins with a chain that is one level deeper, and ends before the next `;`.
+        """
+        end = self.next(";", place) if forms and forms[0][0] == "deeper" else len(self.tokens) * 2
+        return any(self.needs(form, place, end) for form in forms)
+
+    def needs(self, form, place, end):
+        kind, inner = form
+        if kind == "mark":
+            return self.next(inner, place) >= end
+        return kind in ("one_of", "all_of") and bool(inner) and {"one_of": all, "all_of": any}[kind](self.needs(part, place, end) for part in inner)
+
+    def next(self, mark, place):
+        """Where a mark stands next, or the end of the text. From the middle of a `>>` on its second `>` does."""
+        places = self.places.get(mark, ())
+        k = bisect_left(places, place - 1)
+        return places[k] if k < len(places) else len(self.tokens) * 2
+
     def many(self, form, place, level):
-        ends = last = {place: ()}
+        ends, last = {place: ()}, {place: ()}
         while last:
             last = self.after(last, form, level)
-            ends = only([*ends.items(), *last.items()])
+            joined(ends, last.items())
         return ends
 
     def after(self, ends, form, level):

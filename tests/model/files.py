@@ -150,7 +150,8 @@ class Parser:
             versions.append(self.version())
         self.must("=")
         number = self.number()
-        self.interfaces += [Interface(f"{name}.{version}", number, n, operations) for version, n, operations in versions]
+        for version, n, operations in versions:
+            self.interfaces.append(Interface(f"{name}.{version}", number, n, operations, base=1000 * (len(self.interfaces) + 1)))
 
     def definition(self):
         word = self.next()

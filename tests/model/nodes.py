@@ -1,4 +1,4 @@
-"""Values of the nodes of a table: how they are sent over XDR (RFC 4506) and over CDR in either order,
+"""Values of the nodes of a table: how they are sent over XDR (RFC 4506), over CDR in either order and over Mach,
 what values a plan gives, how long what is sent of a node is, and into how many regions a value falls.
 
 Nodes and values have the form of the cases of tests/layers. As all of the model it is written from the
@@ -7,6 +7,12 @@ standards and docs/, with nothing of the crates in it.
 WIDTHS = {"octet": 1, "i8": 1, "u8": 1, "char": 1, "bool": 1, "i16": 2, "u16": 2, "i32": 4, "u32": 4, "i64": 8, "u64": 8}
 SIGNED = {"i8", "i16", "i32", "i64"}
 ENOUGH = 8192
+
+# An item of a Mach message: the number that names its type, the bits of a unit, and how many units a number has.
+ITEMS = {"char": (8, 8, 1), "octet": (9, 8, 1), "i8": (9, 8, 1), "u8": (9, 8, 1), "i16": (1, 16, 1), "u16": (1, 16, 1),
+         "bool": (2, 32, 1), "i32": (2, 32, 1), "u32": (2, 32, 1), "i64": (2, 32, 2), "u64": (2, 32, 2)}
+MOST_UNITS = 4095  # the most that the short form of a descriptor can state
+SHORT, LONG = 0b0001, 0b0011  # the four greatest bits of a descriptor: inline, and inline in the long form
 
 
 def least(kind):
@@ -102,6 +108,42 @@ class Cdr(Xdr):
         self.octets += octets + b"\0"
 
 
+def is_long(kind, most):
+    """Whether a row of at most so many numbers, or of any number (None), is sent in the long form."""
+    return most is None or ITEMS[kind][2] * most > MOST_UNITS
+
+
+def item_width(kind):
+    """How many octets a number of an item takes."""
+    _, bits, units = ITEMS[kind]
+    return bits * units // 8
+
+
+class Mach(Xdr):
+    """Items: a descriptor, numbers with the least significant octet first, and zeros up to a multiple of 4."""
+
+    def item(self, kind, numbers, long=False):
+        """An item of some numbers, or of octets."""
+        name, bits, units = ITEMS[kind]
+        stated = units * len(numbers)
+        if long:
+            fields = [(LONG << 28, 4), (name, 2), (bits, 2), (stated, 4)]
+        else:
+            fields = [(SHORT << 28 | stated << 16 | bits << 8 | name, 4)]
+        self.octets += b"".join(n.to_bytes(octets, "little") for n, octets in fields)
+        width = item_width(kind)
+        self.block(numbers if isinstance(numbers, bytes) else b"".join((n % 2 ** (8 * width)).to_bytes(width, "little") for n in numbers))
+
+    def number(self, kind, n):
+        self.item(kind, [n])
+
+    def text(self, node, octets):
+        self.item("char", octets, is_long("char", count_of(node, 1)[1]))
+
+    def row(self, node, value):
+        self.item(node[1], numbers_of(value), is_long(node[1], count_of(node, 2)[1]))
+
+
 def put(out, nodes, id, value):
     """Appends a value of a node."""
     out.begin()
@@ -134,7 +176,7 @@ def put(out, nodes, id, value):
 
 def sent(encoding, nodes, id, value, at=0):
     """The octets of a value that begins at a position."""
-    out = Xdr() if encoding == "xdr" else Cdr({"cdr_big": "big", "cdr_little": "little"}[encoding], at)
+    out = {"xdr": Xdr, "mach": Mach}.get(encoding, lambda: Cdr({"cdr_big": "big", "cdr_little": "little"}[encoding], at))()
     put(out, nodes, id, value)
     return out.octets
 
@@ -146,11 +188,33 @@ def borders(nodes, id, value):
     return out.begins
 
 
-# ---- values by a plan
+# ---- blank values, and values by a plan
 
 def length(node, place, wanted):
     word, n = count_of(node, place)
     return {"exactly": n, "most": min(wanted, n or 0), None: wanted}[word]
+
+
+def blank(nodes, id):
+    """The value that stands where none is given: 0, the first label or arm, and no more elements than there have to be."""
+    node = nodes[id]
+    form = node[0]
+    if form == "num":
+        return 0
+    if form == "enum":
+        return node[1][0]
+    if form == "text":
+        return {"row": "char", "of": []}
+    if form == "row":
+        return {"row": node[1], "of": [0] * length(node, 2, 0)}
+    if form == "group":
+        return {"group": [blank(nodes, child) for child in node[1]]}
+    if form == "items":
+        return {"items": [blank(nodes, node[1])] * length(node, 2, 0)}
+    if form == "choice":
+        n, child = node[2][0] if node[2] else (0 if isinstance(node[1], str) else node[1][0], node[3])
+        return {"arm": [n, blank(nodes, child)]}
+    return {"opt": []} if form == "maybe" else None
 
 
 def number(kind, first, i):
@@ -193,11 +257,35 @@ def planned(nodes, id, plan, arm=None):
 
 # ---- how long what is sent is: from each position modulo 8, or the greatest length, or neither
 
+GREATEST_LENGTH = 2 ** 32 - 1
+
+
 def width_of(encoding, kind):
     return max(4, WIDTHS[kind]) if encoding == "xdr" else WIDTHS[kind]
 
 
+def filled(octets):
+    """So many octets up to a multiple of 4."""
+    return -(-octets // 4) * 4
+
+
+def descriptor(kind, most):
+    """How long the descriptor of a row of at most so many numbers, or of any number (None), is where it is sent."""
+    return 12 if is_long(kind, most) else 4
+
+
+def item(node, place, kind):
+    """An item of a row or a text."""
+    word, n = count_of(node, place)
+    if word is None:
+        return None
+    octets = descriptor(kind, n) + filled(n * item_width(kind))
+    return [octets] * 8 if word == "exactly" else octets
+
+
 def scalar(encoding, kind):
+    if encoding == "mach":
+        return [descriptor(kind, 1) + filled(item_width(kind))] * 8
     width = width_of(encoding, kind)
     return [width if encoding == "xdr" else -at % width + width for at in range(8)]
 
@@ -245,13 +333,27 @@ def listed(encoding, node, element, aligned):
     return top(scalar(encoding, "u32")) + each
 
 
+def row_kind(node):
+    """The kind of the numbers of a row or a text, and the place of its count in the node."""
+    return ("char", 1) if node[0] == "text" else (node[1], 2)
+
+
 def span(encoding, nodes, id):
+    """The length of a node, which has no bound where 32 bits do not hold it."""
+    whole = added_up(encoding, nodes, id)
+    return None if top(whole) is None or top(whole) > GREATEST_LENGTH else whole
+
+
+def added_up(encoding, nodes, id):
     node = nodes[id]
     form = node[0]
     if form == "num":
         return scalar(encoding, node[1])
     if form == "enum":
         return scalar(encoding, "i32")
+    if encoding == "mach" and form in ("text", "row"):
+        kind, place = row_kind(node)
+        return item(node, place, kind)
     if form == "text":
         return block(encoding, node, 1, 4, 0) if encoding == "xdr" else block(encoding, node, 1, 1, 1)
     if form == "row" and node[1] == "octet":
@@ -273,6 +375,13 @@ def span(encoding, nodes, id):
     if form == "maybe":
         return after(scalar(encoding, "bool"), top(span(encoding, nodes, node[1])))
     return [0] * 8
+
+
+def span_told(span):
+    """The answer to a row about the length of a node."""
+    if span is None:
+        return "Unbounded"
+    return f"Fixed({span})" if isinstance(span, list) else f"Bounded({span})"
 
 
 # ---- regions
@@ -319,7 +428,11 @@ class Regions:
             for child, inner in zip(node[1], value["group"]):
                 self.fall(child, inner)
         elif form in ("text", "row"):
-            self.length(node, 1 if form == "text" else 2)
+            kind, place = row_kind(node)
+            if self.encoding == "mach":
+                self.small(descriptor(kind, count_of(node, place)[1]))
+            else:
+                self.length(node, place)
             self.row()
         elif form == "items":
             self.length(node, 2)

@@ -10,6 +10,7 @@ ODD_TREES = [None, True, False, 0, -1, 1, 128, -129, 256, 2 ** 15, -2 ** 15 - 1,
              "", "0", "00", "FF", "é", "\0", "\u0100", [], [[]], {}, {"tag": 0}, {"tag": 1, "value": None}]
 ODD_WORDS = ["00000000", "00000001", "00000002", "00000080", "000000ff", "00000100", "00000191", "00008000", "0000ffff", "00010000", "7fffffff",
              "80000000", "ffff7fff", "ffffff7f", "ffffff80", "ffffffff"]
+DESCRIPTORS = ["02200110", "02200210", "02200010", "09080110", "08080210", "01100110", "0220ff1f", "00000030", "ffffff3f", "02200100", "02200150", "02200190"]
 ODD_LINES = ["", "\r", "0", "0g", "[", "null", '{"op":"\\ud800"}', "\ufeff{}", "-0", "1e400", "01", "[" * 128 + "]" * 128, "\u00e9"]
 
 
@@ -135,7 +136,8 @@ def request_lines(rng, back, interfaces, count):
         interface = rng.choice(interfaces)
         name, _, types = rng.choice(BACKS[back].operations(interface) or interface.operations)
         args = [ty.tree(sample(rng, ty)) for ty in types]
-        record = {"op": f"{interface.name}.{name}", BACKS[back].key: rng.choice([0, 1, 2 ** 32 - 1]), "args": args}
+        numbers = {key: rng.choice([0, 1, 2 ** 32 - 1]) for key in BACKS[back].keys}
+        record = {"op": f"{interface.name}.{name}", **numbers, "args": args}
         if args and rng.random() < 0.5:
             k = rng.randrange(len(args))
             record["args"] = [*args[:k], mutated(rng, args[k]), *args[k + 1:]]
@@ -149,7 +151,8 @@ def call_lines(rng, back, interfaces, requests):
     """Lines of `unmarshal` over a back end: calls of the requests that have one, most of them wrong somewhere."""
     for call in (marshal(BACKS[back], interfaces, line) for line in requests):
         if not call.startswith("!") and back != "xdr":
-            yield from (line.encode() for line in [call, *(giop_line(rng, call) for _ in range(8))])
+            other_line = mach_line if back == "mach" else giop_line
+            yield from (line.encode() for line in [call, *(other_line(rng, call) for _ in range(8))])
         elif not call.startswith("!"):
             yield from (line.encode() for line in [call, *head_lines(rng, call), *(body_line(rng, call) for _ in range(5 if len(call) > 80 else 0))])
 
@@ -183,6 +186,30 @@ def giop_line(rng, call):
     tried = [exchanged(call, at, octet), exchanged(call, later, octet), exchanged(call, later // 8 * 8, rng.choice(ODD_WORDS)[:len(call) - later // 8 * 8])]
     sized = [resized(call[:max(24, at)]), resized(call + more), resized(call[:later] + octet + call[later:])]
     return rng.choice([*tried * 3, *sized * 2, call[:at], call[:at + 1], call + more, call.upper()])
+
+
+def mach_sized(call):
+    """A Mach message with its size told."""
+    return exchanged(call, 8, (len(call) // 2).to_bytes(4, "little").hex())
+
+
+def in_long_form(rng, call, at):
+    """A Mach message with the long form of the short descriptor that begins at a place."""
+    name, bits, low, high = (call[at + n:at + n + 2] for n in range(0, 8, 2))
+    return f"{call[:at]}{rng.choice(['000000', 'abcdef'])}30{name}00{bits}00{low}0{high[1:]}0000{call[at + 8:]}"
+
+
+def mach_line(rng, call):
+    """A Mach message that is cut, with octets after it, or with another octet, word or descriptor somewhere; most of them tell their size."""
+    at = rng.randrange(len(call) // 2) * 2
+    octet = rng.choice(["00", "01", "02", "08", "09", "10", "20", "30", "80", "ff"])
+    more = "".join(f"{rng.randrange(256):02x}" for _ in range(rng.randint(1, 9)))
+    tried = [exchanged(call, at, octet), exchanged(call, at // 8 * 8, rng.choice([*ODD_WORDS, *DESCRIPTORS])), mach_sized(call[:max(16, at)]), mach_sized(call + more)]
+    if len(call) > 48:
+        word = 48 + rng.randrange((len(call) - 48) // 8) * 8
+        tried += [exchanged(call, word, rng.choice([*ODD_WORDS, *DESCRIPTORS])), exchanged(call, word + 2 * rng.randrange(4), octet), mach_sized(in_long_form(rng, call, word))]
+        tried += [mach_sized(call[:word] + call[word + 8:]), mach_sized(call[:word] + rng.choice(DESCRIPTORS) + call[word:])]
+    return rng.choice([*tried * 3, call[:at], call[:at + 1], call.upper()])
 
 
 def body_line(rng, call):
