@@ -6,5 +6,7 @@ pub mod Blocks
 pub mod Exact
 pub mod Arrays
 pub mod Images
+pub mod RowGaps
+pub mod RowImages
 pub mod Steps
 pub mod Values
