@@ -6,16 +6,18 @@ ghost use Rattle.mint.specs.Row.{numbers_of};
 ghost use Rattle.mint.specs.Types.{number};
 ghost use Rattle.wire_def.specs.Grammar.{AreOctets, times};
 ghost use Rattle.wire_def.specs.Scalars.{read_scalar};
-ghost use Rattle.plain_wire.specs.Rows.{IsWay};
+ghost use Rattle.plain_wire.specs.Rows.{IsWay, arranged};
+ghost use Rattle.swap_kit.specs.Swapped.{IsSwapWidth, swapped};
 ghost use Rattle.plain_wire.specs.Readers.{numbers_in, read_here, Gives, Reads};
 
 use crate::cursor::{Cursor, ReadError, stop};
 use crate::read_scalar::{number_here, skip};
-use crate::widths::{Way, gap_before, way_of};
+use crate::widths::{PIECE, Way, gap_before, way_of};
 use kit_base::NoMemory;
 use mint::kind::Kind;
 use mint::row::Row;
 use std::alloc::Global;
+use swap_kit::swap_numbers;
 use wire_def::{Encoding, Fault, FaultKind};
 
 /// How many numbers of a width there are.
@@ -27,13 +29,20 @@ fn many(octets: &[u8], width: usize) -> usize
     octets.len() / width
 }
 
-/// The octets of so many numbers whose image travels.
+/// The octets of so many numbers, whatever they are.
 #[tactic(auto, using(crate::proofs::RowImages::images))]
-fn image(_enc: Encoding, kind: Kind, n: usize, at: Cursor<'_>) -> Result<(&[u8], Cursor<'_>), Fault>
-    requires way { IsWay _enc kind Way.Copied }
+fn image(
+    _enc: Encoding,
+    kind: Kind,
+    _way: Way,
+    n: usize,
+    at: Cursor<'_>,
+) -> Result<(&[u8], Cursor<'_>), Fault>
+    requires way { IsWay _enc kind _way }
+    requires block { _way ≢ Way.Single }
     requires kind { kind ≢ Kind.Bool }
     ensures whole { IfOk result (λ x. length x.0.now % width kind ≡ 0) }
-    ensures read { Reads (λ o. numbers_of kind o.now) result (times (read_here _enc (number kind)) n at.entry.place at.entry.rest.now) }
+    ensures read { Reads (λ o. numbers_of kind (arranged _way (width kind) o.now)) result (times (read_here _enc (number kind)) n at.entry.place at.entry.rest.now) }
 {
     let width = kind.width();
     let there = many(at.rest, width);
@@ -53,6 +62,27 @@ fn row_of_image(alloc: Global, kind: Kind, image: &[u8]) -> Result<Row, NoMemory
 {
     let mut row = Row::new(alloc, kind);
     row.append_image(image)?;
+    Ok(row)
+}
+
+/// The row of numbers with their octets reversed, piece by piece.
+#[tactic(auto, using(crate::proofs::RowImages::pieces))]
+fn row_of_swapped(alloc: Global, kind: Kind, octets: &[u8]) -> Result<Row, NoMemory>
+    requires kind { kind ≢ Kind.Bool }
+    requires width { IsSwapWidth (width kind) }
+    requires whole { length octets.now % width kind ≡ 0 }
+    ensures { IfOk result (λ r. r ≡ record { kind = kind; numbers = numbers_of kind (swapped (width kind) octets.now) }) }
+{
+    let mut row = Row::new(alloc, kind);
+    let mut piece = [0u8; PIECE];
+    let mut rest = octets;
+    while rest.len() > 0 {
+        let n = rest.len().min(PIECE);
+        let (first, behind) = rest.split_at(n);
+        swap_numbers(kind.width(), first, &mut piece[..n]);
+        row.append_image(&piece[..n])?;
+        rest = behind;
+    }
     Ok(row)
 }
 
@@ -93,8 +123,12 @@ fn numbers_here(
     }
     match way_of(enc, kind) {
         Way::Copied => {
-            let (octets, next) = image(enc, kind, n, at)?;
+            let (octets, next) = image(enc, kind, Way::Copied, n, at)?;
             Ok((row_of_image(alloc, kind, octets)?, next))
+        }
+        Way::Swapped => {
+            let (octets, next) = image(enc, kind, Way::Swapped, n, at)?;
+            Ok((row_of_swapped(alloc, kind, octets)?, next))
         }
         Way::Single => each_number(alloc, enc, kind, n, at),
     }

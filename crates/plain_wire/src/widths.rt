@@ -21,11 +21,16 @@ pub(crate) enum Size {
     Eight,
 }
 
+/// How many octets are turned at a time.
+pub(crate) const PIECE: usize = 512;
+
 /// How the numbers of a row travel behind their gap.
 #[derive(Clone, Copy)]
 pub(crate) enum Way {
     /// As the image that the row is kept as.
     Copied,
+    /// As that image with the octets of each number reversed.
+    Swapped,
     /// Each by itself.
     Single,
 }
@@ -84,10 +89,13 @@ pub(crate) fn way_of(enc: Encoding, kind: Kind) -> Way
     ensures { IsWay enc kind result }
 {
     match enc {
-        Encoding::Xdr => Way::Single,
+        Encoding::Xdr => match kind {
+            Kind::I32 | Kind::U32 | Kind::I64 | Kind::U64 => Way::Swapped,
+            _ => Way::Single,
+        },
         Encoding::CdrBig => match kind {
             Kind::Octet | Kind::I8 | Kind::U8 | Kind::Char | Kind::Bool => Way::Copied,
-            _ => Way::Single,
+            _ => Way::Swapped,
         },
         Encoding::CdrLittle => Way::Copied,
         Encoding::Mach => match kind {
