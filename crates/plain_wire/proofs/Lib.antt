@@ -8,5 +8,6 @@ pub mod Arrays
 pub mod Images
 pub mod RowGaps
 pub mod RowImages
+pub mod RowWords
 pub mod Steps
 pub mod Values

@@ -30,7 +30,7 @@ fn many(octets: &[u8], width: usize) -> usize
 }
 
 /// The octets of so many numbers, whatever they are.
-#[tactic(auto, using(crate::proofs::RowImages::images))]
+#[tactic(auto, using(crate::proofs::RowWords::images))]
 fn image(
     _enc: Encoding,
     kind: Kind,

@@ -1,6 +1,6 @@
 use Rattle.std.proofs.Common.{arith}
 use Rattle.mint.proofs.Images.{AreOctets, octet_at}
-use Rattle.plain_wire.proofs.RowImages.{image_there, image_cut}
+use Rattle.plain_wire.proofs.RowWords.{image_there, image_cut}
 use Rattle.plain_wire.proofs.read_row.image.Goals as goal
 
 pub returns-then-there-n-clause-read : goal.returns-then-there-n-clause-read

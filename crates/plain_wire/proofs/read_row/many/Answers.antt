@@ -1,5 +1,5 @@
 use Rattle.std.proofs.Common.{rules}
-use Rattle.plain_wire.proofs.RowImages.{each_octet}
+use Rattle.plain_wire.proofs.RowWords.{each_octet}
 use Rattle.plain_wire.proofs.read_row.many.Goals as goal
 
 pub returns-clause-octets : goal.returns-clause-octets

@@ -4,7 +4,8 @@ use Rattle.mint.specs.Row.{Numbers, numbers_of}
 use Rattle.mint.proofs.Images.{numbers-none}
 use Rattle.swap_kit.specs.Swapped.{swapped}
 use Rattle.swap_kit.proofs.Swapping.{swapped-none}
-use Rattle.plain_wire.proofs.RowImages.{piece_turned, numbers_piece, same_row}
+use Rattle.plain_wire.proofs.RowImages.{piece_turned}
+use Rattle.plain_wire.proofs.RowWords.{numbers_piece, same_row}
 use Rattle.plain_wire.proofs.read_row.row_of_swapped.Goals as goal
 
 pub loop-rest-preserved : goal.loop-rest-preserved
