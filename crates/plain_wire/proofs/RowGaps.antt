@@ -36,14 +36,14 @@ reached _ is16 p = omega arith
 reached _ is32 p = omega arith
 reached _ is64 p = omega arith
 
--- the position behind an aligned number is aligned
+-- the position after an aligned number is aligned
 behind_aligned : (e : Encoding) (s : Scalar) (p : ℕ) → gap p (alignment_of e s) ≡ 0 → gap (p + byte_len (width_of e s)) (alignment_of e s) ≡ 0
 behind_aligned Xdr s p h = alone (p + byte_len (width_of Xdr s))
 behind_aligned CdrBig s p h = turned (own_width s) (own_of CdrBig s) p h
 behind_aligned CdrLittle s p h = turned (own_width s) (own_of CdrLittle s) p h
 behind_aligned Mach s p h = alone (p + byte_len (width_of Mach s))
 
--- the position behind a gap is aligned
+-- the position after a gap is aligned
 gap_aligned : (e : Encoding) (s : Scalar) (p : ℕ) → gap (p + gap p (alignment_of e s)) (alignment_of e s) ≡ 0
 gap_aligned Xdr s p = alone (p + gap p 1)
 gap_aligned CdrBig s p = reached (own_width s) (own_of CdrBig s) p
@@ -105,7 +105,7 @@ module _ (e : Encoding) (s : Scalar) where
     past true is' = absurd cc
     past false is' = tested_place (is_scalar s (f m)) (f m) n p (p + byte_len (width_of e s)) q (drop (byte_len (width_of e s)) o) b is'
 
-  -- behind the first number, and from an aligned position, there is no gap
+  -- after the first number, and from an aligned position, there is no gap
   times_aligned : (n p : ℕ) (o : List ℕ) → gap p (alignment_of e s) ≡ 0 → times (read_scalar e s) n p o ≡ times (read_here e s) n p o
   times_aligned zero p o h = refl
   times_aligned (suc n) p o h = rw (here_aligned p o h) (more (λ q b aligned. times_aligned n q b aligned) (read_here e s p o) refl) where
@@ -129,7 +129,7 @@ module _ (e : Encoding) (s : Scalar) where
         ap rest (sym (here_aligned q b aligned)) ∙ times_aligned (suc n) q b aligned
     behind (stop k at) is = refl
 
--- the elements of a row are read behind one gap
+-- the elements of a row are read after one gap
 pub row_behind : (e : Encoding) (k : Kind) (n p : ℕ) (o : List ℕ) → times (read_scalar e (number k)) n p o ≡ then_on (read_gap (first_gap e k p n) p o) (λ x q b. times (read_here e (number k)) n q b)
 row_behind e k zero p o = rw gap_none refl
 row_behind e k (suc n) p o = some_behind e (number k) n p o

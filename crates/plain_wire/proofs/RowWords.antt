@@ -158,7 +158,7 @@ in_image e k Copied way block = way.0
 in_image e k Swapped way block = way.0
 in_image e k Single way block = absurd (block refl)
 
--- a number of a kind without ill words, where it begins
+-- a number of a kind all of whose words are numbers, where it begins
 here_word : (e : Encoding) (k : Kind) (value : List ℕ → ℤ) → InImage e k → ((o : List ℕ) → length o ≡ width k → number_from k (octets_number e (word k) o) ≡ value o) → ((o : List ℕ) → AreOctets o → IsTrue (in_range k (value o)))
     → (p : ℕ) (o : List ℕ) → AreOctets o → read_here e (number k) p o ≡ (if nat_lt (length o) (width k) then stop Short p else got (value (take (width k) o)) (p + width k) (drop (width k) o))
 here_word e k value same is ranged p o oct =

@@ -1,4 +1,4 @@
--- The numbers of a row behind their one gap: by themselves, and as the image that the row is kept as.
+-- The numbers of a row after their one gap: by themselves, and as the image that the row is kept as.
 use Rattle.std.specs.Prelude.{◌≡◌, ◌⊎◌, ℕ, zero, suc, ℤ, List, flat_map}
 use Rattle.std.specs.Int.{w8}
 use Rattle.mint.specs.declared.kind.Kind.{Kind}

@@ -107,7 +107,7 @@ fn each_number(
     Ok((row, at))
 }
 
-/// So many numbers behind their gap. A Bool may be ill, so each is looked at.
+/// So many numbers after their gap. Not every octet is a Bool, so each of these is looked at.
 fn numbers_here(
     alloc: Global,
     enc: Encoding,

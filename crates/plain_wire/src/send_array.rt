@@ -99,7 +99,7 @@ fn put_each(
     Ok(at)
 }
 
-/// Puts the numbers of a row behind their gap.
+/// Puts the numbers of a row after their gap.
 #[tactic(auto, using(crate::proofs::RowImages::copies))]
 fn put_numbers(
     enc: Encoding,

@@ -21,10 +21,10 @@ pub(crate) enum Size {
     Eight,
 }
 
-/// How many octets are turned at a time.
+/// How many octets are swapped at a time.
 pub(crate) const PIECE: usize = 512;
 
-/// How the numbers of a row travel behind their gap.
+/// How the numbers of a row travel after their gap.
 #[derive(Clone, Copy)]
 pub(crate) enum Way {
     /// As the image that the row is kept as.
