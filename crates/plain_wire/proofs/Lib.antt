@@ -6,5 +6,8 @@ pub mod Blocks
 pub mod Exact
 pub mod Arrays
 pub mod Images
+pub mod RowGaps
+pub mod RowImages
+pub mod RowWords
 pub mod Steps
 pub mod Values

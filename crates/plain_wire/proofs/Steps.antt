@@ -20,7 +20,8 @@ use Rattle.wire_def.specs.declared.encoding.Encoding.TheVariants.{Xdr, CdrBig, C
 use Rattle.wire_def.specs.Scalars.{is_signed, scalar_octets, number_octets, residue, width_of, alignment_of, gap}
 use Rattle.wire_def.specs.Lone.{lone_octets}
 use Rattle.wire_def.proofs.ScalarGrammar.{left_true, right_true, FitsIn, fits_in, half_half}
-use Rattle.wire_def.specs.Arrays.{natural, counted, count_octets, elements_octets, head_octets}
+use Rattle.wire_def.specs.Arrays.{natural, counted, count_octets, head_octets}
+use Rattle.plain_wire.specs.Rows.{bare_octets, numbers_octets}
 use Rattle.plain_wire.specs.Widths.{FitsWidth}
 
 -- a scalar is a gap and a number
@@ -112,14 +113,11 @@ octets_left ns i h = rw (add-one, drop-cons ns i (pos 0)) refl
 pub octets_none : (ns : List ℤ) (i : ℕ) → length ns ≤ i → map natural (drop i ns) ≡ []
 octets_none ns i h = rw (drop_all i ns h) refl
 
-pub numbers_left : (one : ℕ → ℤ → List ℕ) (p : ℕ) (ns : List ℤ) (i : ℕ) → i < length ns
-    → elements_octets one p (drop i ns) ≡ one p (get_or ns i (pos 0)) ++ elements_octets one (p + length (one p (get_or ns i (pos 0)))) (drop (i + 1) ns)
-unfolding elements_octets
-numbers_left one p ns i h = rw (add-one, drop-cons ns i (pos 0)) refl
+pub numbers_left : (e : Encoding) (k : Kind) (ns : List ℤ) (i : ℕ) → i < length ns → numbers_octets e k (drop i ns) ≡ bare_octets e k (get_or ns i (pos 0)) ++ numbers_octets e k (drop (i + 1) ns)
+numbers_left e k ns i h = rw (add-one, drop-cons ns i (pos 0)) refl
 
-pub numbers_none : (one : ℕ → ℤ → List ℕ) (p : ℕ) (ns : List ℤ) (i : ℕ) → length ns ≤ i → elements_octets one p (drop i ns) ≡ []
-unfolding elements_octets
-numbers_none one p ns i h = rw (drop_all i ns h) refl
+pub numbers_none : (e : Encoding) (k : Kind) (ns : List ℤ) (i : ℕ) → length ns ≤ i → numbers_octets e k (drop i ns) ≡ []
+numbers_none e k ns i h = rw (drop_all i ns h) refl
 
 -- each of the numbers passes a test that all pass
 pub passes_at : (test : ℤ → Bool) (ns : List ℤ) (i : ℕ) → i < length ns → list_all test ns ≡ true → test (get_or ns i (pos 0)) ≡ true

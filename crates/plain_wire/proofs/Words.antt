@@ -47,7 +47,7 @@ word_behind e a w p o = elim (cases_lt (length o) (gap p a)) [
       rw (there, none, zero-add, add-zero, same, add_assoc) refl
 ]
 
-gap_got : (n p : ℕ) (o : List ℕ) (x : Unit {0}) (q : ℕ) (b : List ℕ) → read_gap n p o ≡ got x q b → q ≡ p + n
+pub gap_got : (n p : ℕ) (o : List ℕ) (x : Unit {0}) (q : ℕ) (b : List ℕ) → read_gap n p o ≡ got x q b → q ≡ p + n
 unfolding read_gap
 gap_got n p o x q b e = past (ltb (length o) n) e where
   past : (t : Bool) → cond t (stop Short (p + n)) (got tt (p + n) (drop n o)) ≡ got x q b → q ≡ p + n

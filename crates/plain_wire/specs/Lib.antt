@@ -1,4 +1,5 @@
 pub mod Widths
+pub mod Rows
 pub mod Readers
 pub mod Answered
 pub mod Sending

@@ -7,6 +7,7 @@
 mod cursor;
 mod read;
 mod read_array;
+mod read_row;
 mod read_scalar;
 mod send;
 mod send_array;

@@ -3,16 +3,16 @@
 ghost use Rattle.std.specs.Prelude.{◌≡◌, ◌==◌, pos, map, take, IfOk};
 ghost use Rattle.std.specs.List.{position};
 ghost use Rattle.mint.specs.Kinds.{above};
-ghost use Rattle.mint.specs.Types.{row_of, text, number};
+ghost use Rattle.mint.specs.Types.{row_of, text};
 ghost use Rattle.mint.specs.declared.kind.Kind.TheVariants as kind;
 ghost use Rattle.wire_def.specs.Grammar.{times};
-ghost use Rattle.wire_def.specs.Scalars.{read_scalar};
 ghost use Rattle.wire_def.specs.Arrays.{read_zeros, read_element, read_array, read_tail};
 ghost use Rattle.plain_wire.specs.Sending.{IsPlain};
 ghost use Rattle.plain_wire.specs.Readers.{any_octet, any_letter, letters_read, elements_read, nothing, numbers_in, Gives, Reads};
 
 use crate::cursor::{Cursor, ReadError, stop};
-use crate::read_scalar::{number, row_head, text_head};
+use crate::read_row::numbers;
+use crate::read_scalar::{row_head, text_head};
 use crate::widths::{behind_row, behind_text, fault_behind};
 use kit_base::NoMemory;
 use mint::kind::{Count, Kind};
@@ -102,28 +102,7 @@ fn zeros(n: usize, fault: FaultKind, at: Cursor<'_>) -> Result<((), Cursor<'_>),
     zeros(n - 1, fault, next)
 }
 
-/// So many numbers, each by itself.
-fn numbers(
-    alloc: Global,
-    enc: Encoding,
-    kind: Kind,
-    n: usize,
-    at: Cursor<'_>,
-) -> Result<(Row, Cursor<'_>), ReadError>
-    ensures numbers { Gives numbers_in result (times (read_scalar enc (number kind)) n at.entry.place at.entry.rest.now) }
-    ensures kind { IfOk result (λ x. x.0.kind ≡ kind) }
-{
-    let mut row = Row::new(alloc, kind);
-    let mut at = at;
-    for _i in 0..n {
-        let (m, next) = number(enc, kind, at)?;
-        row.push(m)?;
-        at = next;
-    }
-    Ok((row, at))
-}
-
-/// So many elements of a row: octets as a block, others one by one.
+/// So many elements of a row: octets, or numbers.
 #[tactic(auto, using(crate::proofs::Reading::elements))]
 fn elements(
     alloc: Global,

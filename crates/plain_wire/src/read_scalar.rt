@@ -22,7 +22,7 @@ use wire_def::{Encoding, Fault, FaultKind};
 
 /// The octets up to where a number begins.
 #[tactic(auto, unfolding(crate::specs::Readers::read_gap))]
-fn skip(n: usize, at: Cursor<'_>) -> Result<((), Cursor<'_>), Fault>
+pub(crate) fn skip(n: usize, at: Cursor<'_>) -> Result<((), Cursor<'_>), Fault>
     requires { n < 8 }
     ensures { Reads nothing result (read_gap n at.entry.place at.entry.rest.now) }
 {
@@ -199,7 +199,11 @@ fn bits(
 
 /// A number of a kind, where it begins.
 #[tactic(auto, using(crate::proofs::Words::kinds))]
-fn number_here(enc: Encoding, kind: Kind, at: Cursor<'_>) -> Result<(i128, Cursor<'_>), Fault>
+pub(crate) fn number_here(
+    enc: Encoding,
+    kind: Kind,
+    at: Cursor<'_>,
+) -> Result<(i128, Cursor<'_>), Fault>
     ensures ranged { IfOk result (λ x. IsInRange kind x.0) }
     ensures read { Reads itself result (read_here enc (number kind) at.entry.place at.entry.rest.now) }
 {
@@ -213,7 +217,7 @@ fn number_here(enc: Encoding, kind: Kind, at: Cursor<'_>) -> Result<(i128, Curso
 
 /// A number of a kind.
 #[tactic(auto, using(crate::proofs::Words::scalars))]
-pub(crate) fn number(enc: Encoding, kind: Kind, at: Cursor<'_>) -> Result<(i128, Cursor<'_>), Fault>
+fn number(enc: Encoding, kind: Kind, at: Cursor<'_>) -> Result<(i128, Cursor<'_>), Fault>
     ensures ranged { IfOk result (λ x. IsInRange kind x.0) }
     ensures read { Reads itself result (read_scalar enc (number kind) at.entry.place at.entry.rest.now) }
 {

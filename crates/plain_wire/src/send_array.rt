@@ -1,6 +1,6 @@
 //! Rows and texts as octets (RFC 4506 sections 4.9 to 4.13).
 
-ghost use Rattle.std.specs.Prelude.{◌≡◌, ◌<◌, pos, map, replicate, length, slice_index_or, IsTrue};
+ghost use Rattle.std.specs.Prelude.{◌≡◌, ◌<◌, ◌%◌, pos, map, replicate, length, slice_index_or, IsTrue};
 ghost use Rattle.std.specs.List.{list_all};
 ghost use Rattle.mint.specs.Types.{number, text, row_of};
 ghost use Rattle.mint.specs.Typed.{IsArray};
@@ -9,13 +9,16 @@ ghost use Rattle.std.specs.Int.{w8};
 ghost use Rattle.mint.specs.declared.kind.Kind.TheVariants as kind;
 ghost use Rattle.wire_def.specs.Scalars.{scalar_octets};
 ghost use Rattle.wire_def.specs.Arrays.{natural, elements_octets, array_octets};
+ghost use Rattle.swap_kit.specs.Swapped.{IsSwapWidth, swapped};
+ghost use Rattle.plain_wire.specs.Rows.{bare_octets, numbers_octets};
 ghost use Rattle.plain_wire.specs.Sending.{Appends, IsNear, IsPlain, elements_of, ended};
 
-use crate::send_scalar::{put, put_count, put_number, put_text_head, put_zeros};
-use crate::widths::{behind_row, behind_text};
+use crate::send_scalar::{put, put_bare, put_count, put_text_head, put_zeros};
+use crate::widths::{PIECE, Way, behind_row, behind_text, gap_before, way_of};
 use kit_base::{NoMemory, Octets};
 use mint::kind::{Count, Kind};
 use mint::row::Row;
+use swap_kit::swap_numbers;
 use wire_def::Encoding;
 
 /// Puts each number of a row as one octet: its image, as one block.
@@ -27,6 +30,32 @@ fn put_octets(place: usize, row: &Row, out: &mut Octets) -> Result<usize, NoMemo
     ensures { Appends out.old out.new place (map natural row.now.numbers) result }
 {
     put(place, row.image(), out)
+}
+
+/// Puts an image with the octets of each number reversed, piece by piece.
+#[tactic(auto, using(crate::proofs::RowImages::pieces))]
+fn put_swapped(
+    width: usize,
+    place: usize,
+    image: &[u8],
+    out: &mut Octets,
+) -> Result<usize, NoMemory>
+    requires width { IsSwapWidth width }
+    requires whole { length image.now % width ≡ 0 }
+    requires near { IsNear place out.old }
+    ensures { Appends out.old out.new place (swapped width image.now) result }
+{
+    let mut piece = [0u8; PIECE];
+    let mut at = place;
+    let mut rest = image;
+    while rest.len() > 0 {
+        let n = rest.len().min(PIECE);
+        let (first, behind) = rest.split_at(n);
+        swap_numbers(width, first, &mut piece[..n]);
+        at = put(at, &piece[..n], out)?;
+        rest = behind;
+    }
+    Ok(at)
 }
 
 /// Puts the number at a place of a row.
@@ -42,17 +71,17 @@ fn put_at(
     requires there { i < length row.now.numbers }
     requires fits { IsTrue (list_all (in_range kind) row.now.numbers) }
     requires near { IsNear place out.old }
-    ensures { Appends out.old out.new place (scalar_octets enc (number kind) place (slice_index_or row.now.numbers i (pos 0))) result }
+    ensures { Appends out.old out.new place (bare_octets enc kind (slice_index_or row.now.numbers i (pos 0))) result }
 {
     match row.get(i) {
-        Some(n) => put_number(enc, kind, place, &n, out),
+        Some(n) => put_bare(enc, kind, place, &n, out),
         None => unreachable!(),
     }
 }
 
 /// Puts each number of a row by itself.
 #[tactic(auto, using(crate::proofs::Steps::equations))]
-fn put_numbers(
+fn put_each(
     enc: Encoding,
     kind: Kind,
     place: usize,
@@ -61,13 +90,52 @@ fn put_numbers(
 ) -> Result<usize, NoMemory>
     requires fits { IsTrue (list_all (in_range kind) row.now.numbers) }
     requires near { IsNear place out.old }
-    ensures { Appends out.old out.new place (elements_octets (λ p n. scalar_octets enc (number kind) p n) place row.now.numbers) result }
+    ensures { Appends out.old out.new place (numbers_octets enc kind row.now.numbers) result }
 {
     let mut at = place;
     for i in 0..row.len() {
         at = put_at(enc, kind, at, row, i, out)?;
     }
     Ok(at)
+}
+
+/// Puts the numbers of a row after their gap.
+#[tactic(auto, using(crate::proofs::RowImages::copies))]
+fn put_numbers(
+    enc: Encoding,
+    kind: Kind,
+    place: usize,
+    row: &Row,
+    out: &mut Octets,
+) -> Result<usize, NoMemory>
+    requires kind { row.now.kind ≡ kind }
+    requires fits { IsTrue (list_all (in_range kind) row.now.numbers) }
+    requires near { IsNear place out.old }
+    ensures { Appends out.old out.new place (numbers_octets enc kind row.now.numbers) result }
+{
+    match way_of(enc, kind) {
+        Way::Copied => put(place, row.image(), out),
+        Way::Swapped => put_swapped(kind.width(), place, row.image(), out),
+        Way::Single => put_each(enc, kind, place, row, out),
+    }
+}
+
+/// Puts the numbers of a row, the first of them aligned.
+#[tactic(auto, using(crate::proofs::RowGaps::gapped))]
+fn put_gapped(
+    enc: Encoding,
+    kind: Kind,
+    place: usize,
+    row: &Row,
+    out: &mut Octets,
+) -> Result<usize, NoMemory>
+    requires kind { row.now.kind ≡ kind }
+    requires fits { IsTrue (list_all (in_range kind) row.now.numbers) }
+    requires near { IsNear place out.old }
+    ensures { Appends out.old out.new place (elements_octets (scalar_octets enc (number kind)) place row.now.numbers) result }
+{
+    let first = put_zeros(gap_before(enc, kind, place, row.len()), place, out)?;
+    put_numbers(enc, kind, first, row, out)
 }
 
 /// Puts the elements of a row.
@@ -86,7 +154,7 @@ fn put_elements(
 {
     match kind {
         Kind::Octet => put_octets(place, row, out),
-        _ => put_numbers(enc, kind, place, row, out),
+        _ => put_gapped(enc, kind, place, row, out),
     }
 }
 

@@ -8,6 +8,7 @@ ghost use Rattle.mint.specs.Kinds.{Allows};
 ghost use Rattle.wire_def.specs.Scalars.{number_octets, residue, scalar_octets};
 ghost use Rattle.wire_def.specs.Lone.{lone_octets};
 ghost use Rattle.wire_def.specs.Arrays.{counted, count_octets, head_octets};
+ghost use Rattle.plain_wire.specs.Rows.{bare_octets};
 ghost use Rattle.plain_wire.specs.Sending.{Appends, IsNear, IsPlain, aligned};
 ghost use Rattle.plain_wire.specs.Widths.{width_in, FitsWidth};
 
@@ -110,9 +111,25 @@ fn put_word(
     }
 }
 
+/// Puts a number of a kind, where it begins.
+#[tactic(auto, using(crate::proofs::Steps::scalars), unfolding(crate::specs::Rows::bare_octets))]
+pub(crate) fn put_bare(
+    enc: Encoding,
+    kind: Kind,
+    place: usize,
+    n: &i128,
+    out: &mut Octets,
+) -> Result<usize, NoMemory>
+    requires fits { IsScalar (number kind) n.now }
+    requires near { IsNear place out.old }
+    ensures { Appends out.old out.new place (bare_octets enc kind n.now) result }
+{
+    put_word(enc, size_of(enc, kind), place, n, out)
+}
+
 /// Puts a number of a kind, aligned.
 #[tactic(auto, using(crate::proofs::Steps::scalars))]
-pub(crate) fn put_number(
+fn put_number(
     enc: Encoding,
     kind: Kind,
     place: usize,
@@ -124,7 +141,7 @@ pub(crate) fn put_number(
     ensures { Appends out.old out.new place (scalar_octets enc (number kind) place n.now) result }
 {
     let behind = put_zeros(gap_of(enc, kind, place), place, out)?;
-    put_word(enc, size_of(enc, kind), behind, n, out)
+    put_bare(enc, kind, behind, n, out)
 }
 
 /// Puts a number that travels by itself.

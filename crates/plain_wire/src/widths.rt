@@ -5,6 +5,7 @@ ghost use Rattle.mint.specs.Types.{number, row_of, text};
 ghost use Rattle.mint.specs.declared.kind.Count.{Count};
 ghost use Rattle.wire_def.specs.Scalars.{gap, alignment_of, is_signed, width_of};
 ghost use Rattle.wire_def.specs.Arrays.{trailing, ill_ended};
+ghost use Rattle.plain_wire.specs.Rows.{IsWay, first_gap};
 ghost use Rattle.plain_wire.specs.Sending.{IsPlain};
 ghost use Rattle.plain_wire.specs.Widths.{width_in};
 
@@ -18,6 +19,20 @@ pub(crate) enum Size {
     Two,
     Four,
     Eight,
+}
+
+/// How many octets are swapped at a time.
+pub(crate) const PIECE: usize = 512;
+
+/// How the numbers of a row travel after their gap.
+#[derive(Clone, Copy)]
+pub(crate) enum Way {
+    /// As the image that the row is kept as.
+    Copied,
+    /// As that image with the octets of each number reversed.
+    Swapped,
+    /// Each by itself.
+    Single,
 }
 
 /// The octets of a kind's numbers over an encoding.
@@ -58,6 +73,35 @@ pub(crate) fn gap_of(enc: Encoding, kind: Kind, place: usize) -> usize
             _ => 0,
         },
         _ => 0,
+    }
+}
+
+/// The octets from a place to where the first of so many numbers begins.
+pub(crate) fn gap_before(enc: Encoding, kind: Kind, place: usize, n: usize) -> usize
+    ensures is { result ≡ first_gap enc kind place n }
+    ensures few { result < 8 }
+{
+    if n == 0 { 0 } else { gap_of(enc, kind, place) }
+}
+
+/// How a row of a kind travels.
+pub(crate) fn way_of(enc: Encoding, kind: Kind) -> Way
+    ensures { IsWay enc kind result }
+{
+    match enc {
+        Encoding::Xdr => match kind {
+            Kind::I32 | Kind::U32 | Kind::I64 | Kind::U64 => Way::Swapped,
+            _ => Way::Single,
+        },
+        Encoding::CdrBig => match kind {
+            Kind::Octet | Kind::I8 | Kind::U8 | Kind::Char | Kind::Bool => Way::Copied,
+            _ => Way::Swapped,
+        },
+        Encoding::CdrLittle => Way::Copied,
+        Encoding::Mach => match kind {
+            Kind::Bool => Way::Single,
+            _ => Way::Copied,
+        },
     }
 }
 
