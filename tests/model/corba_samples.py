@@ -37,6 +37,12 @@ class Known:
     def has(self, name):
         return name in self.declared or name in self.inherited
 
+    def relative(self, path):
+        """A path as it begins in this scope or in a base, or nothing."""
+        if path[:len(self.path)] == self.path:
+            return path[len(self.path):]
+        return path[-1:] if self.inherited.get(path[-1]) == path and path[-1] not in self.declared else ()
+
     def inherit(self, base):
         """Takes what a base has that no base before it has."""
         own = {name: (*base.path, name) for name in base.declared}
@@ -82,8 +88,7 @@ class FileMaker:
         """One of the ways to write a name from here: after `::`, from a scope around this one, or from a base, if nothing hides it."""
         ways = [("::", path)]
         for depth, scope in enumerate(self.scopes):
-            around = path[:len(scope.path)] == scope.path and len(path) > len(scope.path)
-            relative = path[len(scope.path):] if around else path[-1:] if scope.inherited.get(path[-1]) == path and path[-1] not in scope.declared else ()
+            relative = scope.relative(path)
             if relative and not any(inner.has(relative[0]) for inner in self.scopes[depth + 1:]):
                 ways += [("", relative)] * 4
         lead, names = self.rng.choice(ways)
