@@ -165,6 +165,13 @@ impl SendBuf {
         &self.memory.as_slice()[..self.len]
     }
 
+    /// How many octets are ensured after those that are done.
+    pub fn ahead(&self) -> usize
+        ensures { result ≡ length self.now.front }
+    {
+        self.ahead
+    }
+
     /// The counts since the buffer was made or cleared.
     pub fn tally(&self) -> Tally
         ensures { result ≡ self.now.tally }
