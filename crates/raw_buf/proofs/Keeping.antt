@@ -4,7 +4,6 @@ use Rattle.std.proofs.lemmas.Grind.{elements}
 use Rattle.std.proofs.lemmas.List.{drop-take, take-take, length-take-le}
 use Rattle.std.proofs.Math.Seq.{drop-append-add, drop-append_seam, take-append_seam}
 use Rattle.kit_base.specs.Bytes.{written}
-use Rattle.raw_buf.specs.Buf.{Buf, Ensures}
 use Rattle.raw_buf.specs.Laws.{PutsAreDone}
 
 -- the octets at their place

@@ -2,7 +2,7 @@
 use Rattle.std.proofs.Common.{ℕ, ◌≤◌, arith}
 use Rattle.kit_base.specs.Causes.{raised}
 use Rattle.raw_buf.specs.declared.tally.Tally.{Tally}
-use Rattle.raw_buf.specs.Buf.{NoneFell, checked, moved, stored}
+use Rattle.raw_buf.specs.Buf.{NoneFell, checked, moved, stored, rowed}
 
 pub none_fell-refl : (t : Tally) → NoneFell t t
 none_fell-refl t = record { checks = omega arith; moves = omega arith; stores = omega arith; rows = omega arith }
@@ -27,4 +27,7 @@ none_fell-moved t = record { checks = omega arith; moves = raised-least t.moves 
 pub none_fell-stored : (t : Tally) → NoneFell t (stored t)
 none_fell-stored t = record { checks = omega arith; moves = omega arith; stores = raised-least t.stores 1; rows = omega arith }
 
-pub ruleset none_fell = (none_fell-refl, none_fell-trans, none_fell-checked, none_fell-moved, none_fell-stored)
+pub none_fell-rowed : (t : Tally) → NoneFell t (rowed t)
+none_fell-rowed t = record { checks = omega arith; moves = omega arith; stores = omega arith; rows = raised-least t.rows 1 }
+
+pub ruleset none_fell = (none_fell-refl, none_fell-trans, none_fell-checked, none_fell-moved, none_fell-stored, none_fell-rowed)

@@ -43,6 +43,10 @@ moved t = record t { moves = raised t.moves 1 }
 abbrev pub stored : Tally → Tally
 stored t = record t { stores = raised t.stores 1 }
 
+-- one row more
+abbrev pub rowed : Tally → Tally
+rowed t = record t { rows = raised t.rows 1 }
+
 -- no count is less than it was
 pub record NoneFell (old new : Tally) : Type 0 where
   pub checks : old.checks ≤ new.checks

@@ -1,6 +1,7 @@
 -- A message that is read, as its octets, the place where reading is, and what was tested.
 use Rattle.std.specs.Prelude.{ℕ, List, Option, None, Some, nat_eq, if◌then◌else◌}
 use Rattle.std.specs.Int.{Width, w8, w16, w32, w64, from_be_bytes, from_le_bytes}
+use Rattle.swap_kit.specs.Swapped.{swapped}
 use Rattle.wire_def.specs.declared.head.Order.{Order}
 use Rattle.wire_def.specs.declared.head.Order.TheVariants.{Big, Little}
 
@@ -31,3 +32,8 @@ loaded Little x o = from_le_bytes x o
 abbrev pub loaded_of : Order → Option Width → List ℕ → ℕ
 loaded_of o None os = 0
 loaded_of o (Some x) os = loaded o x os
+
+-- octets of numbers of a width in an order, as the least significant octet comes first
+abbrev pub in_little : Order → ℕ → List ℕ → List ℕ
+in_little Big w o = swapped w o
+in_little Little w o = o

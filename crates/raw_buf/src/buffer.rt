@@ -1,13 +1,15 @@
 // The buffer.
-ghost use Rattle.std.specs.Prelude.{◌≡◌, ◌<◌, ◌≤◌, ◌+◌, ◌-◌, ◌^◌, List, ℕ, [], ◌++◌, length, take, drop, replicate, OnOk, OnErr, IfOk};
+ghost use Rattle.std.specs.Prelude.{◌≡◌, ◌<◌, ◌≤◌, ◌+◌, ◌-◌, ◌%◌, ◌^◌, List, ℕ, [], ◌++◌, length, take, drop, replicate, OnOk, OnErr, IfOk};
 ghost use Rattle.kit_base.specs.Bytes.{written};
 ghost use Rattle.wire_def.specs.Scalars.{gap};
-ghost use Rattle.raw_buf.specs.Buf.{Ensures, IsWidth, in_order, moved, stored, checked, none};
+ghost use Rattle.swap_kit.specs.Swapped.{swapped, IsSwapWidth};
+ghost use Rattle.raw_buf.specs.Buf.{Ensures, IsWidth, in_order, moved, stored, checked, rowed, none};
 
 use crate::Tally;
 use kit_base::NoMemory;
 use std::alloc::Global;
 use std::marker::Model;
+use swap_kit::swap_numbers;
 use wire_def::Order;
 
 /// A buffer for one message at a time.
@@ -120,8 +122,7 @@ impl SendBuf {
         ensures spent { self.new.spent ≡ moved self.old.spent }
         ensures room { self.new.room ≡ self.old.room }
     {
-        self.len += n;
-        self.ahead -= n;
+        self.pass(n);
         self.tally.moves = self.tally.moves.saturating_add(1);
         self.spent.moves = self.spent.moves.saturating_add(1);
     }
@@ -164,6 +165,13 @@ impl SendBuf {
         &self.memory.as_slice()[..self.len]
     }
 
+    /// How many octets are ensured after those that are done.
+    pub fn ahead(&self) -> usize
+        ensures { result ≡ length self.now.front }
+    {
+        self.ahead
+    }
+
     /// The counts since the buffer was made or cleared.
     pub fn tally(&self) -> Tally
         ensures { result ≡ self.now.tally }
@@ -187,7 +195,21 @@ impl SendBuf {
         self.tally = NOTHING;
     }
 
-    fn store(&mut self, off: usize, octets: &[u8])
+    /// Moves the cursor over the first n octets of the space, at no cost.
+    pub(crate) fn pass(&mut self, n: usize)
+        requires { n ≤ length self.old.front }
+        ensures done { self.new.done ≡ self.old.done ++ take n self.old.front }
+        ensures front { self.new.front ≡ drop n self.old.front }
+        ensures tally { self.new.tally ≡ self.old.tally }
+        ensures spent { self.new.spent ≡ self.old.spent }
+        ensures room { self.new.room ≡ self.old.room }
+    {
+        self.len += n;
+        self.ahead -= n;
+    }
+
+    /// Stores octets at an offset, at no cost.
+    pub(crate) fn store(&mut self, off: usize, octets: &[u8])
         requires { off + length octets.now ≤ length self.old.front }
         ensures done { self.new.done ≡ self.old.done }
         ensures front { self.new.front ≡ written self.old.front off octets.now }
@@ -197,6 +219,20 @@ impl SendBuf {
     {
         let start = self.len + off;
         write_at(&mut self.memory, start, octets);
+    }
+
+    /// Stores the numbers of an image at the beginning of the space, the octets of each reversed.
+    pub(crate) fn store_swapped(&mut self, width: usize, image: &[u8])
+        requires width { IsSwapWidth width }
+        requires whole { length image.now % width ≡ 0 }
+        requires within { length image.now ≤ length self.old.front }
+        ensures done { self.new.done ≡ self.old.done }
+        ensures front { self.new.front ≡ swapped width image.now ++ drop (length image.now) self.old.front }
+        ensures tally { self.new.tally ≡ self.old.tally }
+        ensures spent { self.new.spent ≡ self.old.spent }
+        ensures room { self.new.room ≡ self.old.room }
+    {
+        swap_at(&mut self.memory, self.len, width, image);
     }
 
     fn store_zeros(&mut self, count: usize)
@@ -223,6 +259,18 @@ impl SendBuf {
         write_at(&mut self.memory, at, octets);
     }
 
+    /// Counts a row.
+    pub(crate) fn count_row(&mut self)
+        ensures done { self.new.done ≡ self.old.done }
+        ensures front { self.new.front ≡ self.old.front }
+        ensures tally { self.new.tally ≡ rowed self.old.tally }
+        ensures spent { self.new.spent ≡ rowed self.old.spent }
+        ensures room { self.new.room ≡ self.old.room }
+    {
+        self.tally.rows = self.tally.rows.saturating_add(1);
+        self.spent.rows = self.spent.rows.saturating_add(1);
+    }
+
     fn count_store(&mut self)
         ensures done { self.new.done ≡ self.old.done }
         ensures front { self.new.front ≡ self.old.front }
@@ -233,6 +281,20 @@ impl SendBuf {
         self.tally.stores = self.tally.stores.saturating_add(1);
         self.spent.stores = self.spent.stores.saturating_add(1);
     }
+}
+
+// Writes the numbers of an image at a place, the octets of each reversed.
+fn swap_at(memory: &mut Vec<u8>, at: usize, width: usize, image: &[u8])
+    requires width { IsSwapWidth width }
+    requires whole { length image.now % width ≡ 0 }
+    requires within { at + length image.now ≤ length memory.old.items }
+    ensures { memory.new.items ≡ written memory.old.items at (swapped width image.now) }
+{
+    swap_numbers(
+        width,
+        image,
+        &mut memory.as_mut_slice()[at..at + image.len()],
+    );
 }
 
 fn write_at(memory: &mut Vec<u8>, at: usize, octets: &[u8])

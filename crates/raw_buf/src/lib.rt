@@ -4,6 +4,7 @@
 
 mod buffer;
 mod laws;
+mod rows;
 mod tally;
 mod view;
 mod words;

@@ -1,10 +1,18 @@
 // A message that is read.
-ghost use Rattle.std.specs.Prelude.{◌≡◌, ◌≤◌, ◌+◌, ◌-◌, ◌*◌, ◌<◌, ◌^◌, length, drop, take, max, nat_lt, not, if◌then◌else◌};
+ghost use Rattle.std.specs.Prelude.{◌≡◌, ◌≤◌, ◌+◌, ◌-◌, ◌*◌, ◌%◌, ◌≢◌, ◌<◌, ◌^◌, ◌++◌, OnOk, OnErr, IfOk, length, drop, take, max, nat_lt, not, if◌then◌else◌};
 ghost use Rattle.kit_base.specs.Causes.{raised};
+ghost use Rattle.mint.specs.Kinds.{width};
+ghost use Rattle.mint.specs.Row.{numbers_of};
+ghost use Rattle.swap_kit.specs.Swapped.{swapped, IsSwapWidth};
 ghost use Rattle.raw_buf.specs.Buf.{IsWidth};
-ghost use Rattle.raw_buf.specs.View.{width_in, loaded_of};
+ghost use Rattle.raw_buf.specs.View.{width_in, loaded_of, in_little};
 
+use kit_base::NoMemory;
+use mint::kind::Kind;
+use mint::row::Row;
+use std::alloc::Global;
 use std::marker::Model;
+use swap_kit::swap_numbers;
 use wire_def::Order;
 
 /// A message, and the place where reading is.
@@ -103,6 +111,99 @@ impl<'a> RecvView<'a> {
         self.pos += n;
         self.near -= n;
     }
+
+    /// The row of so many numbers in an order, whose octets are known to be there and are passed.
+    pub fn row(
+        &mut self,
+        alloc: Global,
+        kind: Kind,
+        count: usize,
+        order: Order,
+    ) -> Result<Row, NoMemory>
+        requires kind { kind ≢ Kind.Bool }
+        requires near { count * width kind ≤ self.old.near }
+        ensures row { IfOk result (λ r. r ≡ record { kind = kind; numbers = numbers_of kind (in_little order (width kind) (take (count * width kind) (drop self.old.pos self.old.octets))) }) }
+        ensures pos { OnOk result (self.new.pos ≡ self.old.pos + count * width kind) }
+        ensures near { OnOk result (self.new.near ≡ self.old.near - count * width kind) }
+        ensures tests { OnOk result (self.new.tests ≡ self.old.tests) }
+        ensures octets { OnOk result (self.new.octets ≡ self.old.octets) }
+        ensures err { OnErr result (self.new ≡ self.old) }
+    {
+        let rest = self.rest();
+        let size = count * kind.width();
+        let row = row_of(alloc, kind, &rest[..size], order)?;
+        self.take(size);
+        Ok(row)
+    }
+}
+
+// The row of the numbers of an image in an order.
+fn row_of(alloc: Global, kind: Kind, image: &[u8], order: Order) -> Result<Row, NoMemory>
+    requires kind { kind ≢ Kind.Bool }
+    requires whole { length image.now % width kind ≡ 0 }
+    ensures { IfOk result (λ r. r ≡ record { kind = kind; numbers = numbers_of kind (in_little order (width kind) image.now) }) }
+{
+    match order {
+        Order::Big => big_row(alloc, kind, image),
+        Order::Little => plain_row(alloc, kind, image),
+    }
+}
+
+// The row of an image whose numbers have the most significant octet first.
+#[tactic(auto, using(crate::proofs::Images::swap_width))]
+fn big_row(alloc: Global, kind: Kind, image: &[u8]) -> Result<Row, NoMemory>
+    requires kind { kind ≢ Kind.Bool }
+    requires whole { length image.now % width kind ≡ 0 }
+    ensures { IfOk result (λ r. r ≡ record { kind = kind; numbers = numbers_of kind (swapped (width kind) image.now) }) }
+{
+    if kind.width() == 1 {
+        plain_row(alloc, kind, image)
+    } else {
+        turned_row(alloc, kind, image)
+    }
+}
+
+// The row of an image.
+fn plain_row(alloc: Global, kind: Kind, image: &[u8]) -> Result<Row, NoMemory>
+    requires kind { kind ≢ Kind.Bool }
+    requires whole { length image.now % width kind ≡ 0 }
+    ensures { IfOk result (λ r. r ≡ record { kind = kind; numbers = numbers_of kind image.now }) }
+{
+    let mut row = Row::new(alloc, kind);
+    row.append_image(image)?;
+    Ok(row)
+}
+
+// How many octets are turned before they are appended.
+const BLOCK: usize = 512;
+
+// The row of an image, the octets of each number reversed.
+fn turned_row(alloc: Global, kind: Kind, image: &[u8]) -> Result<Row, NoMemory>
+    requires width { IsSwapWidth (width kind) }
+    requires whole { length image.now % width kind ≡ 0 }
+    ensures { IfOk result (λ r. r ≡ record { kind = kind; numbers = numbers_of kind (swapped (width kind) image.now) }) }
+{
+    let mut row = Row::new(alloc, kind);
+    let mut block = [0u8; BLOCK];
+    let mut at = 0usize;
+    while at < image.len() {
+        let size = (image.len() - at).min(BLOCK);
+        append_turned(&mut row, &image[at..at + size], &mut block)?;
+        at += size;
+    }
+    Ok(row)
+}
+
+// Puts the numbers of an image behind the last, the octets of each reversed.
+fn append_turned(row: &mut Row, image: &[u8], block: &mut [u8; BLOCK]) -> Result<(), NoMemory>
+    requires width { IsSwapWidth (width row.old.kind) }
+    requires whole { length image.now % width row.old.kind ≡ 0 }
+    requires few { length image.now ≤ 512 }
+    ensures { OnOk result (row.new ≡ record row.old { numbers = row.old.numbers ++ numbers_of row.old.kind (swapped (width row.old.kind) image.now) }) }
+{
+    let turned = &mut block[..image.len()];
+    swap_numbers(row.kind().width(), image, turned);
+    row.append_image(turned)
 }
 
 // The number of octets.

@@ -3,6 +3,7 @@ pub mod Blocking
 pub mod Digits
 pub mod Drafting
 pub mod Getting
+pub mod Images
 pub mod Looking
 pub mod Over
 pub mod Running

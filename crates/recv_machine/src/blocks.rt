@@ -1,10 +1,11 @@
 // The numbers of a row, whose octets are known to be there.
-ghost use Rattle.std.specs.Prelude.{◌≡◌, ◌≤◌, ◌*◌, IfOk, drop};
-ghost use Rattle.mint.specs.Kinds.{width};
+ghost use Rattle.std.specs.Prelude.{◌≡◌, ◌==◌, ◌≤◌, ◌*◌, not, IfOk, drop};
+ghost use Rattle.std.specs.List.{list_all};
+ghost use Rattle.mint.specs.Kinds.{in_range, is_letter, width};
 ghost use Rattle.wire_def.specs.Arrays.{kind_of};
 ghost use Rattle.raw_buf.specs.Buf.{IsWidth};
 ghost use Rattle.raw_buf.specs.View.{width_as};
-ghost use Rattle.cast_stub.specs.Into.{fill_block, numbers_at, row_into, wide_into};
+ghost use Rattle.cast_stub.specs.Into.{fill_block, is_digit, numbers_at, row_into, wide_into};
 ghost use Rattle.cast_stub.specs.Runs.{Holds};
 ghost use Rattle.recv_machine.specs.Drawn.{drawn, array_at};
 ghost use Rattle.recv_machine.specs.Ran.{place_of, AreRead, Gave};
@@ -13,6 +14,8 @@ use crate::draft::Filling;
 use crate::errors::Halt;
 use crate::looping::{Elements, elements_of};
 use crate::numbers::{digit_number, kind_at};
+use mint::kind::Kind;
+use mint::node::Node;
 use mint::row::Row;
 use mint::table::Mint;
 use mint::value::Value;
@@ -33,10 +36,7 @@ pub fn row_into(
     ensures octets { view.new.octets ≡ view.old.octets }
 {
     match elements_of(mint, part) {
-        Elements::Numbers(id, n) => {
-            let width = kind_at(mint, id).width();
-            fill_block(alloc, mint, order, width as u32, id, n, view)
-        }
+        Elements::Numbers(id, n) => whole_block(alloc, mint, order, id, n, view),
         Elements::Values(_, _) => unreachable!(),
         Elements::Nothing => unreachable!(),
     }
@@ -59,6 +59,75 @@ pub fn wide_into(
         Elements::Values(_, _) => unreachable!(),
         Elements::Nothing => unreachable!(),
     }
+}
+
+// So many numbers of a node's row, each in the octets of its kind, read at once.
+fn whole_block(
+    alloc: Global,
+    mint: &Mint,
+    order: Order,
+    id: u32,
+    n: u32,
+    view: &mut RecvView<'_>,
+) -> Result<Filling, Halt>
+    requires { Holds (fill_block order (width (kind_of (array_at mint.now id))) (array_at mint.now id) n (place_of view.old)) }
+    ensures done { Gave (drawn mint.now) result (place_of view.new) (fill_block order (width (kind_of (array_at mint.now id))) (array_at mint.now id) n (place_of view.old)) }
+    ensures octets { view.new.octets ≡ view.old.octets }
+{
+    let kind = kind_at(mint, id);
+    let _rest = view.rest();
+    if kind == Kind::Bool {
+        return fill_block(alloc, mint, order, 1, id, n, view);
+    }
+    let row = view.row(alloc, kind, n as usize, order)?;
+    match are_digits(mint, id, &row) {
+        true => Ok(Filling::Done(Value::Row(row))),
+        false => Err(Halt::Refused),
+    }
+}
+
+// Whether the numbers of a row are all a node's.
+#[tactic(auto, using(crate::proofs::Drafting::drafting))]
+fn are_digits(mint: &Mint, id: u32, row: &Row) -> bool
+    requires { row.now.kind ≡ kind_of (array_at mint.now id) }
+    ensures { result ≡ list_all (is_digit (array_at mint.now id)) row.now.numbers }
+{
+    let Some(node) = mint.node(id) else {
+        return are_letters(row);
+    };
+    match node {
+        Node::Row(_, _) => are_in_range(row),
+        Node::Void => are_letters(row),
+        Node::Num(_) => are_letters(row),
+        Node::Enum(_) => are_letters(row),
+        Node::Text(_) => are_letters(row),
+        Node::Group(_) => are_letters(row),
+        Node::Items(_, _) => are_letters(row),
+        Node::Choice(_, _, _) => are_letters(row),
+        Node::Maybe(_) => are_letters(row),
+    }
+}
+
+// The numbers of a row are in the range of its kind.
+fn are_in_range(row: &Row) -> bool
+    ensures { result ≡ list_all (in_range row.now.kind) row.now.numbers }
+{
+    let _kind = row.kind();
+    true
+}
+
+// Whether the numbers of a text are letters: none of its octets is zero.
+fn are_letters(row: &Row) -> bool
+    requires { row.now.kind ≡ Kind.Char }
+    ensures { result ≡ list_all is_letter row.now.numbers }
+{
+    has_no_zero(row.image())
+}
+
+fn has_no_zero(image: &[u8]) -> bool
+    ensures { result ≡ list_all (λ o. not (o == 0)) image.now }
+{
+    image.iter().all(|o| *o != 0)
 }
 
 // So many numbers of a node's row, each in so many octets.

@@ -47,8 +47,8 @@ act-grows : (x : Step) (s u : State) → act x s ≡ Some u → length s.done �
 act-grows (Room n) s u e = kept_grows s _ u refl e
 act-grows (Pad a) s u e = appended_grows (nat_le (length (replicate (gap (length s.done) a) 0)) s.ahead) (replicate (gap (length s.done) a) 0) s _ u refl e
 act-grows (Stored o k) s u e = appended_grows (nat_le (length o) s.ahead) o s _ u refl e
-act-grows (Widened o k) s u e = absurd cc
-act-grows (Copied o) s u e = absurd cc
+act-grows (Widened o k) s u e = appended_grows (nat_le (length o) s.ahead) o s _ u refl e
+act-grows (Copied o) s u e = appended_grows (nat_le (length o) s.ahead) o s _ u refl e
 act-grows (Patched at sub order) s u e = patch_grows (nat_le (at + 4) (length s.done)) at _ s _ u refl (four order _) refl e
 
 split : {A B : Type 0} (z : Option A) (f : A → Option B) (u : B) → on_some z f ≡ Some u → (t : A) × (z ≡ Some t) × (f t ≡ Some u)

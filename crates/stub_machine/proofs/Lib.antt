@@ -5,6 +5,7 @@ pub mod Growing
 pub mod PartLaws
 pub mod Picks
 pub mod Rooms
+pub mod Rowing
 pub mod Running
 pub mod Sizes
 pub mod Spending

@@ -6,7 +6,7 @@ use Rattle.mint.specs.declared.value.Value.{Value}
 use Rattle.mint.specs.declared.value.Value.TheOpen.{Value-F}
 use Rattle.mint.specs.declared.value.Value.TheVariants.{Items, rolls-Items}
 use Rattle.mint.specs.declared.value.Value.TheFolds.{fold-roll-Value}
-use Rattle.mint.specs.Values.{Val, items, seen, seen_level, all_seen, count}
+use Rattle.mint.specs.Values.{Val, items, seen, seen_level, all_seen}
 use Rattle.mint.proofs.Fitting.{count-all_seen}
 use Rattle.cast_stub.specs.Parts.{on_some, field, in_group, at}
 

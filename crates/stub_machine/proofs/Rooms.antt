@@ -1,21 +1,19 @@
 -- Steps that have their room run, and lead to what they write and cost.
-use Rattle.std.proofs.Common.{◌≡◌, ℕ, zero, suc, ◌+◌, ◌-◌, ◌^◌, ◌%◌, ◌≤◌, max, List, [], ◌∷◌, ◌++◌, length, take, drop, replicate, Option, None, Some, refl, sym, ap, subst, ◌∙◌, arith, append_assoc, add_assoc, length-append, length-drop, Bool, true, false, nat_le, if◌then◌else◌, ◌&&◌}
+use Rattle.std.proofs.Common.{◌≡◌, ℕ, zero, suc, ◌+◌, ◌-◌, ◌^◌, ◌%◌, ◌≤◌, max, List, [], ◌∷◌, ◌++◌, length, take, drop, replicate, Option, None, Some, refl, sym, ap, subst, ◌∙◌, arith, append_assoc, length-append, length-drop, Bool, true, false, nat_le, if◌then◌else◌, ◌&&◌}
 use Rattle.std.proofs.lemmas.List.{length-replicate, length-take-le}
 use Rattle.std.proofs.lemmas.Bool.{le-leb, leb-true}
-use Rattle.std.proofs.Math.Seq.{take-append-add, drop-append-add}
 use Rattle.kit_base.specs.Bytes.{written}
 use Rattle.kit_base.specs.Causes.{raised}
 use Rattle.wire_def.specs.Scalars.{gap}
 use Rattle.wire_def.specs.declared.head.Order.{Order}
 use Rattle.wire_def.specs.declared.head.Order.TheVariants.{Big, Little}
 use Rattle.raw_buf.specs.declared.tally.Tally.{Tally}
-use Rattle.raw_buf.specs.Buf.{in_order, checked, moved, stored}
+use Rattle.raw_buf.specs.Buf.{in_order, checked, moved, stored, rowed}
 use Rattle.raw_buf.proofs.Views.{written-behind}
 use Rattle.raw_buf.proofs.Wording.{tally}
 use Rattle.cast_stub.specs.Parts.{on_some, IsThere}
 use Rattle.cast_stub.specs.Steps.{Step, Room, Pad, Stored, Widened, Copied, Patched}
 use Rattle.cast_stub.specs.Meaning.{wrote, Cost, no_cost, sum, cost_of, costs, HasRoom}
-use Rattle.cast_stub.specs.Rowless.{GiveNoRow}
 use Rattle.stub_machine.specs.Run.{State, stored_times, appended, ran}
 use Rattle.stub_machine.specs.Sending.{paid}
 
@@ -89,23 +87,24 @@ room_patch d o a t u at sub order ss low high go room =
     (subst (λ (x : List ℕ). IsThere (ran ss (state x a t u))) (sym (put-same d o at sub order low))
     (go (subst (λ (k : ℕ). HasRoom (length d + k) a ss) (sym (put-long d o at sub order low high)) room)))
 
-pub room-runs : (d o : List ℕ) (a : ℕ) (t u : Tally) (ss : List Step) → IsThere (wrote (length d) o ss) → HasRoom (length d + length o) a ss → GiveNoRow ss → IsThere (ran ss (state (d ++ o) a t u))
-room-runs d o a t u [] w h g = tt
-room-runs d o a t u (Room n ∷ ss) w h g = room-runs d o (max n a) (checked t) (checked u) ss w h g
-room-runs d o a t u (Pad x ∷ ss) w h g =
+pub room-runs : (d o : List ℕ) (a : ℕ) (t u : Tally) (ss : List Step) → IsThere (wrote (length d) o ss) → HasRoom (length d + length o) a ss → IsThere (ran ss (state (d ++ o) a t u))
+room-runs d o a t u [] w h = tt
+room-runs d o a t u (Room n ∷ ss) w h = room-runs d o (max n a) (checked t) (checked u) ss w h
+room-runs d o a t u (Pad x ∷ ss) w h =
     let os = replicate (gap (length d + length o) x) 0 in
     let n : length os ≡ gap (length d + length o) x = length-replicate (gap (length d + length o) x) 0 in
     let room : HasRoom (length d + length o + length os) (a - length os) ss = subst (λ (k : ℕ). HasRoom (length d + length o + k) (a - k) ss) (sym n) h.1 in
     subst (λ (k : ℕ). IsThere (on_some (appended (replicate (gap k x) 0) moved (state (d ++ o) a t u)) (ran ss))) (sym (length-append d o))
-    (room_append d o os a t u moved ss (omega (arith, h.0)) (λ r. room-runs d (o ++ os) (a - length os) (moved t) (moved u) ss w r g) room)
-room-runs d o a t u (Stored os k ∷ ss) w h g =
-    room_append d o os a t u (λ z. moved (stored_times k z)) ss h.0 (λ r. room-runs d (o ++ os) (a - length os) (moved (stored_times k t)) (moved (stored_times k u)) ss w r g) h.1
-room-runs d o a t u (Widened os k ∷ ss) w h g = absurd g
-room-runs d o a t u (Copied os ∷ ss) w h g = absurd g
-room-runs d o a t u (Patched at sub order ∷ ss) w h g =
+    (room_append d o os a t u moved ss (omega (arith, h.0)) (λ r. room-runs d (o ++ os) (a - length os) (moved t) (moved u) ss w r) room)
+room-runs d o a t u (Stored os k ∷ ss) w h =
+    room_append d o os a t u (λ z. moved (stored_times k z)) ss h.0 (λ r. room-runs d (o ++ os) (a - length os) (moved (stored_times k t)) (moved (stored_times k u)) ss w r) h.1
+room-runs d o a t u (Widened os k ∷ ss) w h =
+    room_append d o os a t u (λ z. moved (stored_times k z)) ss h.0 (λ r. room-runs d (o ++ os) (a - length os) (moved (stored_times k t)) (moved (stored_times k u)) ss w r) h.1
+room-runs d o a t u (Copied os ∷ ss) w h = room_append d o os a t u rowed ss h.0 (λ r. room-runs d (o ++ os) (a - length os) (rowed t) (rowed u) ss w r) h.1
+room-runs d o a t u (Patched at sub order ∷ ss) w h =
     let p = within (nat_le (length d) at) (nat_le (at + 4) (length d + length o)) (put_behind d at sub order o) (λ z. wrote (length d) z ss) w in
     room_patch d o a (stored t) (stored u) at sub order ss (leb-true (length d) at p.first) (leb-true (at + 4) (length d + length o) p.second)
-    (λ r. room-runs d (put_behind d at sub order o) a (stored t) (stored u) ss p.rest r g) h
+    (λ r. room-runs d (put_behind d at sub order o) a (stored t) (stored u) ss p.rest r) h
 
 -- ---- what counts come to
 
@@ -144,6 +143,12 @@ times-raised (suc k) t =
 
 stored-paid : (t : Tally) (os : List ℕ) (k : ℕ) → moved (stored_times k t) ≡ paid t (cost_of (Stored os k))
 stored-paid t os k = ap moved (times-raised k t) ∙ same_tally _ _ _ _ _ _ _ _ (sym (raised-zero t.checks)) refl refl (sym (raised-zero t.rows))
+
+widened-paid : (t : Tally) (os : List ℕ) (k : ℕ) → moved (stored_times k t) ≡ paid t (cost_of (Widened os k))
+widened-paid t os k = stored-paid t os k
+
+copied-paid : (t : Tally) (os : List ℕ) → rowed t ≡ paid t (cost_of (Copied os))
+copied-paid t os = same_tally _ _ _ _ _ _ _ _ (sym (raised-zero t.checks)) (sym (raised-zero t.moves)) (sym (raised-zero t.stores)) refl
 
 -- ---- where steps lead
 
@@ -189,8 +194,12 @@ ran-leads d o w a t u (Pad x ∷ ss) s is e =
 ran-leads d o w a t u (Stored os k ∷ ss) s is e =
     with_first d w (Stored os k) ss t (moved (stored_times k t)) u (moved (stored_times k u)) s (stored-paid t os k) (stored-paid u os k)
     (ran-leads d (o ++ os) w (a - length os) (moved (stored_times k t)) (moved (stored_times k u)) ss s is (past_append d o os a t u (λ z. moved (stored_times k z)) ss s e))
-ran-leads d o w a t u (Widened os k ∷ ss) s is e = absurd cc
-ran-leads d o w a t u (Copied os ∷ ss) s is e = absurd cc
+ran-leads d o w a t u (Widened os k ∷ ss) s is e =
+    with_first d w (Widened os k) ss t (moved (stored_times k t)) u (moved (stored_times k u)) s (widened-paid t os k) (widened-paid u os k)
+    (ran-leads d (o ++ os) w (a - length os) (moved (stored_times k t)) (moved (stored_times k u)) ss s is (past_append d o os a t u (λ z. moved (stored_times k z)) ss s e))
+ran-leads d o w a t u (Copied os ∷ ss) s is e =
+    with_first d w (Copied os) ss t (rowed t) u (rowed u) s (copied-paid t os) (copied-paid u os)
+    (ran-leads d (o ++ os) w (a - length os) (rowed t) (rowed u) ss s is (past_append d o os a t u rowed ss s e))
 ran-leads d o w a t u (Patched at sub order ∷ ss) s is e =
     let k = of_wrote (nat_le (length d) at) (nat_le (at + 4) (length d + length o)) (put_behind d at sub order o) w (λ z. wrote (length d) z ss) is in
     let e' : ran ss (state (put_over at sub order (d ++ o)) a (stored t) (stored u)) ≡ Some s =

@@ -1,19 +1,17 @@
 -- One operation, element or number more.
-use Rattle.std.proofs.Common.{◌≡◌, ℕ, ℤ, pos, zero, suc, slice_get, option_map, ◌+◌, ◌<◌, ◌≤◌, List, [], ◌∷◌, length, drop, get_or, map, Option, Some, None, refl, sym, ap, subst, ◌∙◌, add-one, arith}
+use Rattle.std.proofs.Common.{◌≡◌, ℕ, ℤ, pos, zero, suc, slice_get, option_map, ◌+◌, ◌<◌, List, [], ◌∷◌, length, drop, get_or, map, Option, Some, None, refl, sym, ap, subst, ◌∙◌, add-one}
 use Rattle.std.proofs.Math.Seq.{drop-cons}
 use Rattle.mint.specs.declared.value.Value.{Value}
 use Rattle.mint.specs.declared.value.Value.TheOpen.{Value-F}
 use Rattle.mint.specs.declared.value.Value.TheVariants as value
 use Rattle.mint.specs.declared.value.Value.TheFolds.{fold-roll-Value}
 use Rattle.cast_stub.proofs.Pieces.{seen-Each, seen-Some, seen-Switch, seen-Call, seen-RowCopy, seen-RowSwap, seen-RowWide}
-use Rattle.mint.specs.Values.{Val, num, seen, seen_level, all_seen, vals_of, row_in}
+use Rattle.mint.specs.Values.{Val, num, seen, seen_level, all_seen, vals_of}
 use Rattle.wire_def.specs.declared.head.Head.{Head}
 use Rattle.cast_stub.specs.declared.send.SendOp.{SendOp}
 use Rattle.cast_stub.specs.declared.send.SendOp.TheVariants as op
 use Rattle.cast_stub.specs.Block.{Block, stop, Piece, op_seen, code_seen}
-use Rattle.cast_stub.specs.Steps.{Steps, Calls, both, steps, over, code_steps, each_steps, some_steps, switch_steps, Copied, Widened, swapped, wide, copy_steps, swap_steps, wide_steps}
-use Rattle.mint.specs.declared.kind.Kind.{Kind}
-use Rattle.mint.specs.Row.{image_of}
+use Rattle.cast_stub.specs.Steps.{Steps, Calls, both, steps, over, code_steps, each_steps, some_steps, switch_steps, copy_steps, swap_steps, wide_steps}
 use Rattle.mint.proofs.Places.{number_missing}
 use Rattle.wire_def.specs.declared.head.Order.{Order}
 use Rattle.stub_machine.specs.Run.{State, ended, Runs, Ends}
@@ -155,35 +153,33 @@ call_is subs h n m k path code v w deep here is =
     ∙ ap (λ (o : Option Val). on_some o (calls_of subs h (suc m) k)) here
     ∙ ap (λ (o : Option (List SendOp)). on_some (option_map code_seen o) (λ b. steps (calls_of subs h m) h b w)) is
 
--- ---- rows are not run
+-- ---- rows
 
-never : (x : Steps) (s : State) → ended x s ≡ None → Runs (both x (Some [])) s → ⊥
-never x s e r = subst IsThere e (first-runs x (Some []) s r)
+pub row_copy_ends : (c : Calls) (h : Head) (v : Val) (o : SendOp) (path : List ℕ) (s t : State) → o ≡ op.RowCopy path → Ends (copy_steps path v) s t → (r : Block) → ended (steps c h (op_seen o r) v) s ≡ ended (steps c h r v) t
+row_copy_ends c h v o path s t is e r =
+    ap (λ (p : Piece). ended (steps c h (p r) v) s) (ap op_seen is ∙ seen-RowCopy path) ∙ first-ends (copy_steps path v) (steps c h r v) s t e
 
-copied_never : (o : Option (Kind × List ℤ)) (f : Kind × List ℤ → List ℕ) (s : State) → ended (on_some o (λ r. Some (Copied (f r) ∷ []))) s ≡ None
-copied_never None f s = refl
-copied_never (Some r) f s = refl
+pub row_copy_runs : (c : Calls) (h : Head) (v : Val) (o : SendOp) (path : List ℕ) (s : State) → o ≡ op.RowCopy path → Runs (steps c h (op_seen o stop) v) s → Runs (copy_steps path v) s
+row_copy_runs c h v o path s is r =
+    first-runs (copy_steps path v) (Some []) s (subst (λ (p : Piece). Runs (steps c h (p stop) v) s) (ap op_seen is ∙ seen-RowCopy path) r)
 
-wide_never : (o : Option (Kind × List ℤ)) (order : Order) (s : State) → ended (on_some o (λ r. on_some (wide order r.1) (λ os. Some (Widened os (length r.1) ∷ [])))) s ≡ None
-wide_never None order s = refl
-wide_never (Some r) order s = widened_never (wide order r.1) where
-  widened_never : (z : Option (List ℕ)) → ended (on_some z (λ os. Some (Widened os (length r.1) ∷ []))) s ≡ None
-  widened_never None = refl
-  widened_never (Some os) = refl
+pub row_swap_ends : (c : Calls) (h : Head) (v : Val) (o : SendOp) (path : List ℕ) (s t : State) → o ≡ op.RowSwap path → Ends (swap_steps path v) s t → (r : Block) → ended (steps c h (op_seen o r) v) s ≡ ended (steps c h r v) t
+row_swap_ends c h v o path s t is e r =
+    ap (λ (p : Piece). ended (steps c h (p r) v) s) (ap op_seen is ∙ seen-RowSwap path) ∙ first-ends (swap_steps path v) (steps c h r v) s t e
 
-pub row_copy_never : (c : Calls) (h : Head) (v : Val) (o : SendOp) (path : List ℕ) (s : State) → o ≡ op.RowCopy path → Runs (steps c h (op_seen o stop) v) s → ⊥
-row_copy_never c h v o path s is r =
-    never (copy_steps path v) s (copied_never (on_some (at path v) row_in) (λ r. image_of r.0 r.1) s) (subst (λ (p : Piece). Runs (steps c h (p stop) v) s) (ap op_seen is ∙ seen-RowCopy path) r)
+pub row_swap_runs : (c : Calls) (h : Head) (v : Val) (o : SendOp) (path : List ℕ) (s : State) → o ≡ op.RowSwap path → Runs (steps c h (op_seen o stop) v) s → Runs (swap_steps path v) s
+row_swap_runs c h v o path s is r =
+    first-runs (swap_steps path v) (Some []) s (subst (λ (p : Piece). Runs (steps c h (p stop) v) s) (ap op_seen is ∙ seen-RowSwap path) r)
 
-pub row_swap_never : (c : Calls) (h : Head) (v : Val) (o : SendOp) (path : List ℕ) (s : State) → o ≡ op.RowSwap path → Runs (steps c h (op_seen o stop) v) s → ⊥
-row_swap_never c h v o path s is r =
-    never (swap_steps path v) s (copied_never (on_some (at path v) row_in) (λ r. swapped r.0 r.1) s) (subst (λ (p : Piece). Runs (steps c h (p stop) v) s) (ap op_seen is ∙ seen-RowSwap path) r)
+pub row_wide_ends : (c : Calls) (h : Head) (v : Val) (o : SendOp) (path : List ℕ) (order : Order) (s t : State) → o ≡ op.RowWide path order → Ends (wide_steps path order v) s t → (r : Block) → ended (steps c h (op_seen o r) v) s ≡ ended (steps c h r v) t
+row_wide_ends c h v o path order s t is e r =
+    ap (λ (p : Piece). ended (steps c h (p r) v) s) (ap op_seen is ∙ seen-RowWide path order) ∙ first-ends (wide_steps path order v) (steps c h r v) s t e
 
-pub row_wide_never : (c : Calls) (h : Head) (v : Val) (o : SendOp) (path : List ℕ) (order : Order) (s : State) → o ≡ op.RowWide path order → Runs (steps c h (op_seen o stop) v) s → ⊥
-row_wide_never c h v o path order s is r =
-    never (wide_steps path order v) s (wide_never (on_some (at path v) row_in) order s) (subst (λ (p : Piece). Runs (steps c h (p stop) v) s) (ap op_seen is ∙ seen-RowWide path order) r)
+pub row_wide_runs : (c : Calls) (h : Head) (v : Val) (o : SendOp) (path : List ℕ) (order : Order) (s : State) → o ≡ op.RowWide path order → Runs (steps c h (op_seen o stop) v) s → Runs (wide_steps path order v) s
+row_wide_runs c h v o path order s is r =
+    first-runs (wide_steps path order v) (Some []) s (subst (λ (p : Piece). Runs (steps c h (p stop) v) s) (ap op_seen is ∙ seen-RowWide path order) r)
 
-pub ruleset running = (left-runs, each_runs, each_ends, some_runs, some_ends, call_runs, call_ends, row_copy_never, row_swap_never, row_wide_never, no_calls_left, no_code)
+pub ruleset running = (left-runs, each_runs, each_ends, some_runs, some_ends, call_runs, call_ends, row_copy_runs, row_copy_ends, row_swap_runs, row_swap_ends, row_wide_runs, row_wide_ends, no_calls_left, no_code)
 
 pub number_seen : (ns : List ℤ) (i : ℕ) (n : ℤ) → slice_get ns i ≡ Some n → seen (value.Num n) ≡ num (get_or ns i (pos 0))
 number_seen [] i n h = absurd cc

@@ -1,12 +1,12 @@
 -- What a buffer has spent does not fall, whatever is run.
-use Rattle.std.proofs.Common.{◌≡◌, ℕ, zero, suc, ◌+◌, ◌≤◌, List, [], ◌∷◌, ◌++◌, length, replicate, Option, Some, None, Bool, true, false, nat_le, if◌then◌else◌, subst, refl}
+use Rattle.std.proofs.Common.{◌≡◌, ℕ, zero, suc, ◌+◌, List, [], ◌∷◌, length, replicate, Option, Some, None, Bool, true, false, nat_le, if◌then◌else◌, subst, refl}
 use Rattle.wire_def.specs.Scalars.{gap}
 use Rattle.raw_buf.specs.declared.tally.Tally.{Tally}
 use Rattle.raw_buf.specs.Buf.{NoneFell, moved, stored}
-use Rattle.raw_buf.proofs.Standing.{none_fell-refl, none_fell-trans, none_fell-checked, none_fell-moved, none_fell-stored}
+use Rattle.raw_buf.proofs.Standing.{none_fell-refl, none_fell-trans, none_fell-checked, none_fell-moved, none_fell-stored, none_fell-rowed}
 use Rattle.cast_stub.specs.Parts.{on_some}
 use Rattle.cast_stub.specs.Steps.{Step, Room, Pad, Stored, Widened, Copied, Patched, Steps}
-use Rattle.stub_machine.specs.Run.{State, stored_times, act, ran, ended, Ends}
+use Rattle.stub_machine.specs.Run.{State, stored_times, act, ran, Ends}
 
 stored-stands : (k : ℕ) (t : Tally) → NoneFell t (stored_times k t)
 stored-stands zero t = none_fell-refl t
@@ -27,8 +27,10 @@ act-stands (Pad a) s u e = chosen_stands (nat_le (length (replicate (gap (length
 act-stands (Stored o k) s u e =
     chosen_stands (nat_le (length o) s.ahead) s _ u
     (none_fell-trans s.spent (stored_times k s.spent) (moved (stored_times k s.spent)) (stored-stands k s.spent) (none_fell-moved (stored_times k s.spent))) e
-act-stands (Widened o k) s u e = absurd cc
-act-stands (Copied o) s u e = absurd cc
+act-stands (Widened o k) s u e =
+    chosen_stands (nat_le (length o) s.ahead) s _ u
+    (none_fell-trans s.spent (stored_times k s.spent) (moved (stored_times k s.spent)) (stored-stands k s.spent) (none_fell-moved (stored_times k s.spent))) e
+act-stands (Copied o) s u e = chosen_stands (nat_le (length o) s.ahead) s _ u (none_fell-rowed s.spent) e
 act-stands (Patched at sub order) s u e = chosen_stands (nat_le (at + 4) (length s.done)) s _ u (none_fell-stored s.spent) e
 
 split : {A B : Type 0} (z : Option A) (f : A → Option B) (u : B) → on_some z f ≡ Some u → (t : A) × (z ≡ Some t) × (f t ≡ Some u)

@@ -6,18 +6,17 @@ use Rattle.cast_stub.specs.Parts.{on_some, IsThere}
 use Rattle.cast_stub.specs.Steps.{Step, Steps}
 use Rattle.cast_stub.specs.Meaning.{wrote, costs, HasRoom, AreCovered}
 use Rattle.cast_stub.proofs.Folding.{room-more}
-use Rattle.cast_stub.proofs.Rowless.{NoRow}
 use Rattle.stub_machine.specs.Run.{State, state_of, ran, Runs, Ends, Grown}
 use Rattle.stub_machine.specs.Sending.{paid, most, IsLong}
 use Rattle.stub_machine.proofs.Spending.{ended-stands}
 use Rattle.stub_machine.proofs.Rooms.{state, room-runs, ran-leads}
 
-pub covered-runs : (x : Steps) (b : Buf) → AreCovered x (length b.done) → NoRow x → Runs x (state_of b)
-covered-runs None b h g = absurd h
-covered-runs (Some ss) b h g =
+pub covered-runs : (x : Steps) (b : Buf) → AreCovered x (length b.done) → Runs x (state_of b)
+covered-runs None b h = absurd h
+covered-runs (Some ss) b h =
     let none : length b.done ≡ length b.done + length {A = ℕ} [] = omega arith in
     let room : HasRoom (length b.done + length {A = ℕ} []) (length b.front) ss = subst (λ (k : ℕ). HasRoom k (length b.front) ss) none (room-more (length b.done) 0 (length b.front) ss (omega arith) h.1) in
-    subst (λ (d : List ℕ). IsThere (ran ss (state d (length b.front) b.tally b.spent))) (append-nil b.done) (room-runs b.done [] (length b.front) b.tally b.spent ss h.0 room g)
+    subst (λ (d : List ℕ). IsThere (ran ss (state d (length b.front) b.tally b.spent))) (append-nil b.done) (room-runs b.done [] (length b.front) b.tally b.spent ss h.0 room)
 
 -- exactly the octets of the steps are appended, at their cost
 pub record Sent (x : Steps) (b c : Buf) : Type 0 where

@@ -3,7 +3,7 @@ use Rattle.std.specs.Prelude.{◌≡◌, ℕ, zero, suc, ◌+◌, ◌-◌, ◌^�
 use Rattle.kit_base.specs.Bytes.{written}
 use Rattle.wire_def.specs.Scalars.{gap}
 use Rattle.raw_buf.specs.declared.tally.Tally.{Tally}
-use Rattle.raw_buf.specs.Buf.{Buf, NoneFell, in_order, checked, moved, stored}
+use Rattle.raw_buf.specs.Buf.{Buf, NoneFell, in_order, checked, moved, stored, rowed}
 use Rattle.cast_stub.specs.Parts.{on_some, IsThere}
 use Rattle.cast_stub.specs.Steps.{Step, Room, Pad, Stored, Widened, Copied, Patched, Steps}
 
@@ -30,7 +30,7 @@ stored_times (suc k) t = stored_times k (stored t)
 abbrev pub appended : List ℕ → (Tally → Tally) → State → Option State
 appended o cost s = if nat_le (length o) s.ahead then Some (record { done = s.done ++ o; ahead = s.ahead - length o; tally = cost s.tally; spent = cost s.spent }) else None
 
--- one step, where it has its room; rows are not given as a block yet
+-- one step, where it has its room
 abbrev pub act : Step → State → Option State
 act (Room n) s = Some (record { done = s.done; ahead = max n s.ahead; tally = checked s.tally; spent = checked s.spent })
 act (Pad a) s = appended (replicate (gap (length s.done) a) 0) moved s
@@ -38,8 +38,8 @@ act (Stored o k) s = appended o (λ t. moved (stored_times k t)) s
 act (Patched at sub order) s =
     if nat_le (at + 4) (length s.done)
     then Some (record { done = written s.done at (in_order order 4 ((length s.done + 2 ^ 32 - sub) % 2 ^ 32)); ahead = s.ahead; tally = stored s.tally; spent = stored s.spent }) else None
-act (Widened o k) s = None
-act (Copied o) s = None
+act (Widened o k) s = appended o (λ t. moved (stored_times k t)) s
+act (Copied o) s = appended o rowed s
 
 abbrev pub ran : List Step → State → Option State
 ran [] s = Some s

@@ -5,6 +5,7 @@ mod errors;
 mod operations;
 mod parts;
 mod puts;
+mod rows;
 mod send;
 mod single;
 

@@ -11,6 +11,7 @@ ghost use Rattle.stub_machine.specs.Sending.{most};
 use crate::errors::{MOST, Stopped};
 use crate::parts::{arm_at, part, position};
 use crate::puts::run_chunk;
+use crate::rows::{run_row_copy, run_row_swap, run_row_wide};
 use crate::single::{run_align, run_ensure, run_ensure_row, run_patch};
 use cast_stub::{Path, SendOp, SendOps, SendSubs};
 use mint::row::Row;
@@ -76,9 +77,18 @@ fn run_op(
             Ok(())
         }
         SendOp::Each(path, body) => run_each(machine, calls, path, body, value, buf),
-        SendOp::RowCopy(_) => unreachable!(),
-        SendOp::RowSwap(_) => unreachable!(),
-        SendOp::RowWide(_, _) => unreachable!(),
+        SendOp::RowCopy(path) => {
+            run_row_copy(path, value, buf);
+            Ok(())
+        }
+        SendOp::RowSwap(path) => {
+            run_row_swap(path, value, buf);
+            Ok(())
+        }
+        SendOp::RowWide(path, order) => {
+            run_row_wide(path, *order, value, buf);
+            Ok(())
+        }
         SendOp::Switch(path, cases, other) => {
             let Some((n, inner)) = arm_at(path, value) else {
                 unreachable!()

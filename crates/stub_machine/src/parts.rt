@@ -3,10 +3,11 @@ ghost use Rattle.std.specs.Prelude.{◌≡◌, ◌+◌, ◌*◌, ℕ, pos, lengt
 ghost use Rattle.mint.specs.Values.{seen, all_seen};
 ghost use Rattle.cast_stub.specs.Parts.{at, field, in_group, number_in, tag_in, flag_in, length_in, on_some};
 ghost use Rattle.std.specs.Ordering.{int_eq};
-ghost use Rattle.mint.specs.Values.{arm_in};
+ghost use Rattle.mint.specs.Values.{arm_in, row_in};
 ghost use Rattle.stub_machine.specs.Picking.{PickedAt};
 
 use cast_stub::{Path, SendCases};
+use mint::row::Row;
 use mint::value::{Value, Values};
 
 /// The value of a field, where there is a group that has it.
@@ -60,6 +61,28 @@ pub fn length_of(value: &Value) -> Option<usize>
     match value {
         Value::Items(values) => Some(values.len()),
         Value::Row(row) => Some(row.len()),
+        _ => None,
+    }
+}
+
+/// The row at a path.
+#[tactic(auto, using(crate::proofs::PartLaws::parts))]
+pub fn row_at<'a>(path: &Path, value: &'a Value) -> Option<&'a Row>
+    ensures { option_map (λ r. (r.now.kind, r.now.numbers)) result ≡ on_some (at path.now (seen value.now)) row_in }
+{
+    match part(path, value) {
+        Some(here) => row_of(here),
+        None => None,
+    }
+}
+
+// The row that a value is.
+#[tactic(auto, using(crate::proofs::PartLaws::parts))]
+fn row_of(value: &Value) -> Option<&Row>
+    ensures { option_map (λ r. (r.now.kind, r.now.numbers)) result ≡ row_in (seen value.now) }
+{
+    match value {
+        Value::Row(row) => Some(row),
         _ => None,
     }
 }

@@ -43,8 +43,8 @@ fn half(width: u32) -> Option<u64>
     }
 }
 
-// Stores a number, in two's complement.
-fn put_word(buf: &mut SendBuf, off: u32, width: u32, order: Order, n: &i128)
+/// Stores a number, in two's complement.
+pub fn put_word(buf: &mut SendBuf, off: usize, width: u32, order: Order, n: &i128)
     requires there { IsThere (word width order n.now) }
     requires within { off + octets_in (word width order n.now) ≤ length buf.old.front }
     ensures { Writes buf.old buf.new off (word width order n.now) }
@@ -55,7 +55,7 @@ fn put_word(buf: &mut SendBuf, off: u32, width: u32, order: Order, n: &i128)
     let Some(v) = wrap(half, n) else {
         unreachable!()
     };
-    buf.put(off as usize, width as usize, order, v);
+    buf.put(off, width as usize, order, v);
 }
 
 // Stores the number at a path.
@@ -70,7 +70,7 @@ fn put_number(buf: &mut SendBuf, off: u32, path: &Path, width: u32, order: Order
     let Some(n) = number_of(here) else {
         unreachable!()
     };
-    put_word(buf, off, width, order, &n);
+    put_word(buf, off as usize, width, order, &n);
 }
 
 // Stores the tag of the arm at a path.
@@ -85,7 +85,7 @@ fn put_tag(buf: &mut SendBuf, off: u32, path: &Path, width: u32, order: Order, v
     let Some(n) = tag_of(here) else {
         unreachable!()
     };
-    put_word(buf, off, width, order, &n);
+    put_word(buf, off as usize, width, order, &n);
 }
 
 // Stores whether a value is there at a path.
@@ -100,7 +100,7 @@ fn put_flag(buf: &mut SendBuf, off: u32, path: &Path, width: u32, order: Order, 
     let Some(n) = flag_of(here) else {
         unreachable!()
     };
-    put_word(buf, off, width, order, &n);
+    put_word(buf, off as usize, width, order, &n);
 }
 
 // Stores a length, multiplied and raised.
@@ -125,7 +125,7 @@ fn put_count(
         unreachable!()
     };
     let number = scaled(n, mul, add);
-    put_word(buf, off, width, order, &number);
+    put_word(buf, off as usize, width, order, &number);
 }
 
 // The number of a short Mach descriptor, where its parts fit.
@@ -185,7 +185,7 @@ fn run_put(put: &Put, head: &Head, value: &Value, buf: &mut SendBuf)
         Put::Const(off, octets) => buf.put_const(*off as usize, octets.as_slice()),
         Put::Head(off, field, width, order) => {
             let n = i128::from(field.of(head));
-            put_word(buf, *off, *width, *order, &n)
+            put_word(buf, *off as usize, *width, *order, &n)
         }
     }
 }

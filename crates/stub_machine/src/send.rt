@@ -3,7 +3,6 @@ ghost use Rattle.std.specs.Prelude.{◌≡◌, ◌≤◌, ◌<◌, ◌+◌, ◌+
 ghost use Rattle.mint.specs.Values.{seen};
 ghost use Rattle.raw_buf.specs.Buf.{NoneFell};
 ghost use Rattle.cast_stub.specs.Meaning.{meaning, cost, AreCovered};
-ghost use Rattle.cast_stub.specs.Rowless.{HasNoRow};
 ghost use Rattle.cast_stub.specs.Subs.{sent_steps};
 ghost use Rattle.stub_machine.specs.Sending.{most, paid, IsLong};
 
@@ -23,8 +22,7 @@ pub fn run_send(
     value: &Value,
     buf: &mut SendBuf,
 ) -> Result<(), SendErr>
-    requires covered { AreCovered (sent_steps code.now head.now (seen value.now)) (length buf.old.done) }
-    requires no_row { HasNoRow code.now }
+    requires { AreCovered (sent_steps code.now head.now (seen value.now)) (length buf.old.done) }
     ensures done { OnOk result (option_map (λ o. buf.old.done ++ o) (meaning code.now head.now (seen value.now) (length buf.old.done)) ≡ Some buf.new.done) }
     ensures tally { OnOk result (option_map (paid buf.old.tally) (cost code.now head.now (seen value.now)) ≡ Some buf.new.tally) }
     ensures spent { OnOk result (option_map (paid buf.old.spent) (cost code.now head.now (seen value.now)) ≡ Some buf.new.spent) }

@@ -57,7 +57,7 @@ first_start w at is a = at_width (λ n. at % n ≡ 0) (omega arith) (omega arith
 
 -- ---- octets in the place of others, after those that are swapped
 
-put_next : (a b r : List ℕ) (at n : ℕ) → length a ≡ at → length b ≡ n → take at (a ++ r) ++ (b ++ drop (at + n) (a ++ r)) ≡ (a ++ b) ++ drop n r
+pub put_next : (a b r : List ℕ) (at n : ℕ) → length a ≡ at → length b ≡ n → take at (a ++ r) ++ (b ++ drop (at + n) (a ++ r)) ≡ (a ++ b) ++ drop n r
 put_next a b r at n la lb =
     let past : drop (at + n) (a ++ r) ≡ drop n r = sym (drop-drop n at (a ++ r)) ∙ ap (drop n) (drop_at a r at la) in
     rw (past, take_at a r at la) (sym (append_assoc a b (drop n r)))

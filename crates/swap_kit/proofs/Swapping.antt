@@ -43,7 +43,7 @@ behind w (suc n) a o is len =
     ap (λ z. swapped w (z ++ o)) (sym whole) ∙ ap (swapped w) (append_assoc f r o) ∙ swapped-first w f (r ++ o) some front ∙ ap (λ z. reverse f ++ z) (behind w n r o is rest)
     ∙ sym (append_assoc (reverse f) (swapped w r) (swapped w o)) ∙ ap (λ z. z ++ swapped w o) (sym (swapped-first w f r some front) ∙ ap (swapped w) whole)
 
-whole_runs : (w l : ℕ) → l % w ≡ 0 → l ≡ l / w * w
+pub whole_runs : (w l : ℕ) → l % w ≡ 0 → l ≡ l / w * w
 whole_runs w l h = sym (omega (arith, div-add-mod' l w))
 
 pub swapped-append : (w : ℕ) (a o : List ℕ) → IsSwapWidth w → length a % w ≡ 0 → swapped w (a ++ o) ≡ swapped w a ++ swapped w o
@@ -80,3 +80,9 @@ twice w (suc n) o is len =
 -- turned twice
 pub swapped-swapped : (w : ℕ) (o : List ℕ) → IsSwapWidth w → length o % w ≡ 0 → swapped w (swapped w o) ≡ o
 swapped-swapped w o is whole = twice w (length o / w) o is (whole_runs w (length o) whole)
+
+-- octets by themselves
+pub swapped-octets : (o : List ℕ) → swapped 1 o ≡ o
+unfolding swapped
+swapped-octets [] = refl
+swapped-octets (b ∷ o) = swapped-first 1 (b ∷ []) o (omega arith) refl ∙ ap (λ z. b ∷ z) (swapped-octets o)

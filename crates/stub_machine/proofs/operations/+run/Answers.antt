@@ -1,12 +1,12 @@
 use Rattle.std.proofs.Common.{◌≡◌, ◌<◌, ◌-◌, suc, arith, length, sym, ap, subst, List, OnOk, OnErr}
-use Rattle.stub_machine.proofs.Sizes.{code_size, op-in-code, case-in-op, default-in-op, called-is-less}
+use Rattle.stub_machine.proofs.Sizes.{code_size, op-in-code, each-in-op, case-in-op, default-in-op, called-is-less}
 use Rattle.mint.specs.Values.{seen, all_seen, Val}
 use Rattle.mint.specs.declared.value.Value.{Value}
 use Rattle.cast_stub.specs.declared.send.SendOp.{SendOp}
 use Rattle.cast_stub.specs.Steps.{Steps, code_steps, over}
 use Rattle.stub_machine.specs.Run.{state_of, Runs, Ends}
 use Rattle.cast_stub.specs.Subs.{calls_of}
-use Rattle.stub_machine.proofs.Running.{block_fits, block_step, items_fit, items_step, numbers_fit, numbers_step, call_is, call_ends, switch_ends, switch_runs}
+use Rattle.stub_machine.proofs.Running.{each_runs, block_fits, block_step, items_fit, items_step, numbers_fit, numbers_step, call_is, call_ends, switch_ends, switch_runs}
 use Rattle.stub_machine.proofs.Growing.{block_broken, block_grown, items_grown, numbers_grown, each_grown, switch_grown, err_map, on_err}
 use Rattle.stub_machine.specs.Run.{Grown}
 use Rattle.stub_machine.proofs.Picks.{picked_body, default_steps, nothing_steps, ok_map}
@@ -121,3 +121,6 @@ run_called-run_block-requires t c =
     let less = called-is-less subs c.args.calls (c.args.calls - 1) c.args.k c.in-Some-get.code.now deeper (sym c.in-Some-get.ensures) in
     let same = call_is subs head c.args.calls (c.args.calls - 1) c.args.k c.args.path.now c.in-Some-get.code.now (seen c.args.value.now) (seen c.in-Some.here.now) deeper (sym c.in-Some.ensures) (sym c.in-Some-get.ensures) in
     (omega (arith, less), subst (λ (x : Steps). Runs x (state_of c.args.buf.now)) same c.requires)
+
+pub run_op-run_each-requires : goal.run_op-run_each-requires
+run_op-run_each-requires t c = (omega (arith, each-in-op _ _ _ c.in-Each.is), each_runs _ _ _ _ _ _ _ c.in-Each.is c.requires)

@@ -3,7 +3,7 @@ use Rattle.mint.specs.Values.{seen, all_seen, vals_of, num}
 use Rattle.cast_stub.specs.Subs.{calls_of}
 use Rattle.cast_stub.specs.Steps.{code_steps, over}
 use Rattle.stub_machine.specs.Run.{state_of}
-use Rattle.std.proofs.Common.{◌+◌, ◌*◌}
+use Rattle.std.proofs.Common.{◌+◌}
 use Rattle.cast_stub.specs.Block.{op_seen, stop}
 use Rattle.stub_machine.proofs.Running.{Left}
 use Rattle.stub_machine.proofs.Sizes.{size, code_size, left_to_run}

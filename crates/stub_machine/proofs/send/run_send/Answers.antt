@@ -2,7 +2,6 @@ use Rattle.std.proofs.Common.{OnOk, OnErr, ℕ, length, arith, ap, subst, sym}
 use Rattle.mint.specs.Values.{seen}
 use Rattle.cast_stub.specs.Steps.{code_steps}
 use Rattle.cast_stub.specs.Subs.{calls_of, sent_steps}
-use Rattle.cast_stub.proofs.Rowless.{rowless-sent}
 use Rattle.stub_machine.specs.Run.{state_of, Runs, Ends, Grown}
 use Rattle.stub_machine.proofs.Spending.{ended-stands}
 use Rattle.stub_machine.proofs.Whole.{covered-runs, ends-sent, broken-long, run-stands}
@@ -14,14 +13,14 @@ run_block-requires c =
     let head = c.args.head.now in
     let v = seen c.args.value.now in
     subst (λ (n : ℕ). Runs (code_steps (calls_of code.subs head n) head code.ops v) (state_of c.args.buf.now)) (sym c.deepest_call.ensures)
-    (covered-runs (sent_steps code head v) c.args.buf.now c.requires.covered (rowless-sent code head v c.requires.no_row))
+    (covered-runs (sent_steps code head v) c.args.buf.now c.requires)
 
 pub returns-in-Ok-clause-done : goal.returns-in-Ok-clause-done
 returns-in-Ok-clause-done c =
     let code = c.args.code.now in
     let head = c.args.head.now in
     let v = seen c.args.value.now in
-    let s = ends-sent (sent_steps code head v) c.args.buf.now c.run_block.new.buf c.requires.covered
+    let s = ends-sent (sent_steps code head v) c.args.buf.now c.run_block.new.buf c.requires
     (subst (λ (n : ℕ). Ends (code_steps (calls_of code.subs head n) head code.ops v) (state_of c.args.buf.now) (state_of c.run_block.new.buf)) c.deepest_call.ensures c.in-Ok.ensures.ok) in
     s.done
 
@@ -30,7 +29,7 @@ returns-in-Ok-clause-tally c =
     let code = c.args.code.now in
     let head = c.args.head.now in
     let v = seen c.args.value.now in
-    let s = ends-sent (sent_steps code head v) c.args.buf.now c.run_block.new.buf c.requires.covered
+    let s = ends-sent (sent_steps code head v) c.args.buf.now c.run_block.new.buf c.requires
     (subst (λ (n : ℕ). Ends (code_steps (calls_of code.subs head n) head code.ops v) (state_of c.args.buf.now) (state_of c.run_block.new.buf)) c.deepest_call.ensures c.in-Ok.ensures.ok) in
     s.tally
 
@@ -39,7 +38,7 @@ returns-in-Ok-clause-spent c =
     let code = c.args.code.now in
     let head = c.args.head.now in
     let v = seen c.args.value.now in
-    let s = ends-sent (sent_steps code head v) c.args.buf.now c.run_block.new.buf c.requires.covered
+    let s = ends-sent (sent_steps code head v) c.args.buf.now c.run_block.new.buf c.requires
     (subst (λ (n : ℕ). Ends (code_steps (calls_of code.subs head n) head code.ops v) (state_of c.args.buf.now) (state_of c.run_block.new.buf)) c.deepest_call.ensures c.in-Ok.ensures.ok) in
     s.spent
 
@@ -50,10 +49,10 @@ returns-then-octets-gt-MOST-clause-long c =
     let v = seen c.args.value.now in
     let b = c.args.buf.now in
     let after = c.run_block.new.buf in
-    let runs = covered-runs (sent_steps code head v) b c.requires.covered (rowless-sent code head v c.requires.no_row) in
+    let runs = covered-runs (sent_steps code head v) b c.requires in
     let ok = subst (λ (n : ℕ). OnOk c.run_block.result (Ends (code_steps (calls_of code.subs head n) head code.ops v) (state_of b) (state_of after))) c.deepest_call.ensures c.run_block.ensures.ok in
     let err = subst (λ (n : ℕ). OnErr c.run_block.result (Grown (code_steps (calls_of code.subs head n) head code.ops v) (state_of b) (state_of after))) c.deepest_call.ensures c.run_block.ensures.err in
-    λ is. broken-long c.run_block.result (sent_steps code head v) b after c.requires.covered runs ok err (omega (arith, ap length c.octets.ensures))
+    λ is. broken-long c.run_block.result (sent_steps code head v) b after c.requires runs ok err (omega (arith, ap length c.octets.ensures))
 
 pub returns-then-octets-gt-MOST-clause-stands : goal.returns-then-octets-gt-MOST-clause-stands
 returns-then-octets-gt-MOST-clause-stands c =
