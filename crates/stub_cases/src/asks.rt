@@ -7,6 +7,7 @@ use crate::heads::{refused, reply};
 use crate::nodes::{Made, build, table_of};
 use crate::parts::{Bad, member, octets, told, word};
 use crate::received::received_case;
+use crate::swaps::swapped;
 use crate::values::value_of;
 use hex::encode;
 use kit_base::Octets;
@@ -36,6 +37,7 @@ pub fn answer(alloc: Global, line: &str) -> Result<String, Bad> {
         Some("span") => span(alloc, &row),
         Some("stub") => stub(alloc, &row),
         Some("receive") => received_case(alloc, &row),
+        Some("swapped") => swapped(alloc, &row),
         Some("reply") => reply(alloc, octets(alloc, member(&row, "octets")?)?.as_slice()),
         Some("refuse") => refused(alloc, member(&row, "why")?),
         _ => Err(Bad::Row("nothing is asked")),

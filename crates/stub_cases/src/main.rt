@@ -9,6 +9,7 @@ mod lead;
 mod nodes;
 mod parts;
 mod received;
+mod swaps;
 mod values;
 
 use crate::asks::answer;
