@@ -1,8 +1,11 @@
 // What is asked of a text.
+ghost use Rattle.std.specs.Prelude.{◌≤◌, IfOk};
+
 use crate::declared::put_declaration;
 use crate::shown::{put_expr, put_token, put_type};
 use corba_decls::declaration;
 use corba_exprs::expression;
+use corba_syntax::{SyntaxErr, parse};
 use corba_types::type_name;
 use idl_lex::{Front, LexErr, Token, Tokens, lex};
 use kit_base::NoMemory;
@@ -79,16 +82,23 @@ fn text_of(alloc: Global, row: &Json) -> Result<String, Bad> {
     Ok(text)
 }
 
-/// The tokens, or the tree that begins them and how many tokens stand after it.
+/// How many levels a case gives: 32 where it says nothing.
+fn levels_of(row: &Json) -> Result<u32, Bad>
+    ensures { IfOk result (λ n. n ≤ 32) }
+{
+    match row.get("levels") {
+        Some(levels) => match levels.as_u64() {
+            Some(n) if n <= 32 => Ok(n as u32),
+            _ => Err(Bad::Row("no number of levels")),
+        },
+        None => Ok(32),
+    }
+}
+
+/// The tokens, whether they are a file, or the tree that begins them and how many tokens come after it.
 fn told(alloc: Global, row: &Json, tokens: &Tokens) -> Result<String, Bad> {
     let mut out = String::new(alloc);
-    let levels = match row.get("levels") {
-        Some(levels) => match levels.as_u64() {
-            Some(n) if n <= 32 => n as u32,
-            _ => return Err(Bad::Row("no number of levels")),
-        },
-        None => 32,
-    };
+    let levels = levels_of(row)?;
     let Some(ask) = row.get("ask") else {
         return Err(Bad::Row("nothing is asked"));
     };
@@ -98,6 +108,7 @@ fn told(alloc: Global, row: &Json, tokens: &Tokens) -> Result<String, Bad> {
                 put_token(alloc, &mut out, token)?;
             }
         }
+        Some("file") => put_file(alloc, &mut out, tokens)?,
         Some("type") => match type_name(alloc, levels, tokens.as_slice()) {
             Ok((name, rest)) => {
                 put_type(alloc, &mut out, &name)?;
@@ -122,6 +133,19 @@ fn told(alloc: Global, row: &Json, tokens: &Tokens) -> Result<String, Bad> {
         _ => return Err(Bad::Row("nothing is asked")),
     }
     Ok(out)
+}
+
+/// `ok`, or the line where the first definition that fails begins.
+fn put_file(alloc: Global, out: &mut String, tokens: &Tokens) -> Result<(), Bad> {
+    match parse(alloc, tokens) {
+        Ok(_) => out.push_str("ok")?,
+        Err(SyntaxErr::Syntax(line)) => {
+            let told = format!(in alloc; "syntax {line}")?;
+            out.push_str(told.as_str())?;
+        }
+        Err(SyntaxErr::NoMemory) => return Err(Bad::NoMemory),
+    }
+    Ok(())
 }
 
 fn put_rest(alloc: Global, out: &mut String, rest: &[Token]) -> Result<(), Bad> {
