@@ -1,5 +1,6 @@
 // What is asked of a row, and what a head says.
 use crate::parts::{Bad, member, octets};
+use crate::records;
 use crate::refusals::refused;
 use giop_head::{GiopCall, read_call, read_reply};
 use hex::encode;
@@ -18,6 +19,8 @@ pub fn answer(alloc: Global, line: &str) -> Result<String, Bad> {
         Some("giop call") => call(alloc, octets(alloc, member(&row, "octets")?)?.as_slice()),
         Some("giop reply") => reply(alloc, octets(alloc, member(&row, "octets")?)?.as_slice()),
         Some("giop refuse") => refused(alloc, &row),
+        Some("record request") => records::request(alloc, &row),
+        Some("record reply") => records::reply(alloc, &row),
         _ => Err(Bad::Row("nothing is asked")),
     }
 }

@@ -1,9 +1,11 @@
-// Answers rows of message heads: a JSON object on each line of standard input, and an answer on a
+// Answers rows of message heads and of JSON records: a JSON object on each line of standard input, and an answer on a
 // line of standard output.
 #![tactic(auto)]
 
 mod answers;
+mod interfaces;
 mod parts;
+mod records;
 mod refusals;
 
 use crate::answers::answer;

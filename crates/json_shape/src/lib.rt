@@ -27,8 +27,3 @@ pub use replies::read_reply;
 pub use requests::read_request;
 pub use writing::to_json;
 pub use written_records::{write_reply, write_request};
-
-#[cfg(test)]
-mod fixtures;
-#[cfg(test)]
-mod record_tests;
