@@ -1,10 +1,10 @@
 -- What an interface declares: what is read is what is spelled.
-use Rattle.std.proofs.Common.{◌≡◌, ◌⊎◌, inl, inr, ℕ, List, ◌++◌, Bool, true, false, ◌||◌, refl}
+use Rattle.std.proofs.Common.{◌≡◌, ◌⊎◌, inl, inr, ℕ, List, Bool, false, ◌||◌, refl}
 use Rattle.std.specs.Prelude.{codes}
 use Rattle.idl_lex.specs.declared.kinds.Token.{Token}
 use Rattle.idl_lex.specs.declared.kinds.TokenKind.{TokenKind}
 use Rattle.syntax_kit.specs.Reading.{mark_is, word_is, begins_with, many}
-use Rattle.syntax_kit.specs.Grammar.{Text, mark, one_of, each, kinds, IsGrammar, Leads, Any}
+use Rattle.syntax_kit.specs.Grammar.{Text, mark, one_of, each, IsGrammar, Leads, Any}
 use Rattle.syntax_kit.proofs.Grammars.{mapped_is, either_is, many_is}
 use Rattle.syntax_kit.proofs.Leaves.{mark_reads, mark_named, leads_mark, Apart, apart_or, apart_word, apart_mark, leads_both, leads_either, begins_so, begins_not, begins_else}
 use Rattle.syntax_kit.proofs.Productions.{weaker, before_is, leads_by}
@@ -13,7 +13,7 @@ use Rattle.corba_exprs.specs.Readers.{is_joint}
 use Rattle.corba_decls.specs.declared.tree.Declaration.{Declaration}
 use Rattle.corba_decls.specs.Spelling.{declaration}
 use Rattle.corba_decls.specs.Readers.{is_declaration}
-use Rattle.corba_decls.proofs.DeclarationsRead.{DeclarationMay, declaration_is, leads_declaration}
+use Rattle.corba_decls.proofs.DeclarationsRead.{Ended, declaration_is, leads_declaration}
 use Rattle.corba_operations.specs.declared.tree.Attribute.{Attribute}
 use Rattle.corba_operations.specs.declared.tree.Operation.{Operation}
 use Rattle.corba_operations.specs.Spelling.{attribute, operation}
@@ -25,15 +25,8 @@ use Rattle.corba_interfaces.specs.declared.tree.Export.TheVariants as E
 use Rattle.corba_interfaces.specs.Spelling.{exported, export}
 use Rattle.corba_interfaces.specs.Readers.{exported_of, exported_at, export_at, is_open}
 
--- a `;`
-abbrev Ended : List Token → Type 0
-Ended rest = begins_with (mark_is (codes ";")) rest ≡ true
-
 apart_semicolon : Apart (mark_is (codes ";")) is_joint
 apart_semicolon k e = let is = mark_named (codes ";") k e in rw is refl
-
-no_mark : (m : List ℕ) → Apart (mark_is (codes ";")) (mark_is m) → (rest : List Token) → Ended rest → begins_with (mark_is m) rest ≡ false
-no_mark m apart rest may = turns (mark_is (codes ";")) (mark_is m) apart rest may
 
 attribute_ended : (rest : List Token) → Ended rest → AttributeMay rest
 attribute_ended rest may = (turns (mark_is (codes ";")) (mark_is (codes ",")) (apart_mark (mark_is (codes ";")) (codes ",") refl) rest may, turns (mark_is (codes ";")) is_joint apart_semicolon rest may)
@@ -84,7 +77,7 @@ module _ (n : ℕ) where
   exported_is : IsGrammar (exported_at n) (exported n) Ended
   unfolding exported_at
   exported_is = mapped_is exported_of (exported n)
-      (either_is {May = Ended} (begins_with is_declaration) (weaker (declaration_is n) declaration_ended)
+      (either_is {May = Ended} (begins_with is_declaration) (declaration_is n)
       (either_is {May = Ended} (begins_with is_attribute) (weaker (attribute_is n) attribute_ended) (weaker (operation_is n) operation_ended)
       (λ a front rest s may. begins_so (leads_attribute n) a front rest s)
       (λ o front rest s may. begins_not is_attribute (leads_operation n) apart_attribute o front rest s))

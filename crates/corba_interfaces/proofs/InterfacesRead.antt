@@ -1,5 +1,5 @@
 -- Interfaces: what is read is what is spelled.
-use Rattle.std.proofs.Common.{◌≡◌, ℕ, List, ◌++◌, Bool, true, false, refl}
+use Rattle.std.proofs.Common.{◌≡◌, ℕ, List, ◌++◌, false, refl}
 use Rattle.std.specs.Prelude.{codes}
 use Rattle.idl_lex.specs.declared.kinds.Token.{Token}
 use Rattle.syntax_kit.specs.Reading.{mark_is, word_is, begins_with}

@@ -1,9 +1,9 @@
 -- Definitions: what is read is what is spelled.
-use Rattle.std.proofs.Common.{◌≡◌, ◌⊎◌, inl, inr, ℕ, zero, suc, List, ◌++◌, Bool, true, false, ◌||◌, refl, sym, ap, subst, ◌∙◌}
+use Rattle.std.proofs.Common.{◌≡◌, ◌⊎◌, inl, inr, ℕ, zero, suc, List, ◌++◌, Bool, false, ◌||◌, refl, sym, subst, ◌∙◌}
 use Rattle.std.specs.Prelude.{codes}
 use Rattle.idl_lex.specs.declared.kinds.Token.{Token}
 use Rattle.idl_lex.specs.declared.kinds.TokenKind.{TokenKind}
-use Rattle.syntax_kit.specs.Reading.{Reader, mark_is, word_is, begins_with}
+use Rattle.syntax_kit.specs.Reading.{mark_is, word_is, begins_with}
 use Rattle.syntax_kit.specs.Grammar.{Text, word, mark, ◌&◌, one_of, each, kinds, IsGrammar, Leads, Any}
 use Rattle.syntax_kit.proofs.Grammars.{mapped_is, both_is, either_is, many_is}
 use Rattle.syntax_kit.proofs.Leaves.{word_reads, mark_reads, leads_word, leads_mark, apart_word, apart_mark, leads_both, leads_either, begins_so, begins_not, begins_else}
@@ -12,8 +12,8 @@ use Rattle.corba_exprs.specs.Spelling.{identifier}
 use Rattle.corba_exprs.proofs.LeavesRead.{identifier_is}
 use Rattle.corba_decls.specs.Spelling.{declaration}
 use Rattle.corba_decls.specs.Readers.{is_declaration}
+use Rattle.corba_decls.proofs.DeclarationsRead.{declaration_is, leads_declaration}
 use Rattle.corba_interfaces.specs.Spelling.{interface}
-use Rattle.corba_interfaces.proofs.ExportsRead.{Ended, ended_declaration_is, leads_declaration}
 use Rattle.corba_interfaces.proofs.InterfacesRead.{interface_is, leads_interface}
 use Rattle.corba_exprs.specs.declared.tree.Identifier.{Identifier}
 use Rattle.corba_decls.specs.declared.tree.Declaration.{Declaration}
@@ -21,8 +21,8 @@ use Rattle.corba_interfaces.specs.declared.tree.Interface.{Interface}
 use Rattle.corba_syntax.specs.declared.tree.Definition.{Definition, out-Definition}
 use Rattle.corba_syntax.specs.declared.tree.Definition.TheOpen.{Definition-F}
 use Rattle.corba_syntax.specs.declared.tree.Definition.TheVariants as V
-use Rattle.corba_syntax.specs.declared.tree.Definition.TheViews.{roll-Definition, roll-out-Definition, out-roll-Definition, roll-out-Module, out-roll-Module}
-use Rattle.corba_syntax.specs.declared.tree.Module.{Module, out-Module, roll-Module}
+use Rattle.corba_syntax.specs.declared.tree.Definition.TheViews.{roll-Definition, roll-out-Definition, roll-out-Module, out-roll-Module}
+use Rattle.corba_syntax.specs.declared.tree.Module.{Module, out-Module}
 use Rattle.corba_syntax.specs.Derivation.{module_text, definition_text, definition, outermost}
 use Rattle.corba_syntax.specs.Readers.{is_open, declared_at, module_of, module_at, definition_of, definition_at, outermost_at}
 
@@ -38,7 +38,7 @@ abbrev declared_text : ℕ → Declaration → Text
 declared_text n d = declaration n d & mark (codes ";")
 
 declared_is : (n : ℕ) → IsGrammar (declared_at n) (declared_text n) Any
-declared_is n = before_is (ended_declaration_is n) (mark_reads (codes ";")) (λ front rest s. begins_so (leads_mark (codes ";")) tt front rest s)
+declared_is n = before_is (declaration_is n) (mark_reads (codes ";")) (λ front rest s. begins_so (leads_mark (codes ";")) tt front rest s)
 
 leads_declared : (n : ℕ) → Leads (declared_text n) is_declaration
 leads_declared n d ks s = leads_both (λ (_ : Unit {0}). mark (codes ";")) (leads_declaration n) (d, tt) ks s
