@@ -3,7 +3,7 @@ ghost use Rattle.std.specs.Prelude.{◌≤◌, IfOk};
 
 use crate::declared::put_declaration;
 use crate::shown::{put_expr, put_token, put_type};
-use corba_decls::declaration;
+use corba_decls::{Declaration, declaration};
 use corba_exprs::expression;
 use corba_syntax::{SyntaxErr, parse};
 use corba_types::type_name;
@@ -95,57 +95,87 @@ fn levels_of(row: &Json) -> Result<u32, Bad>
     }
 }
 
-/// The tokens, whether they are a file, or the tree that begins them and how many tokens come after it.
+/// The answer to what a case asks about the tokens.
 fn told(alloc: Global, row: &Json, tokens: &Tokens) -> Result<String, Bad> {
-    let mut out = String::new(alloc);
     let levels = levels_of(row)?;
     let Some(ask) = row.get("ask") else {
         return Err(Bad::Row("nothing is asked"));
     };
     match ask.as_str() {
-        Some("lex") => {
-            for token in tokens.as_slice() {
-                put_token(alloc, &mut out, token)?;
-            }
-        }
-        Some("file") => put_file(alloc, &mut out, tokens)?,
-        Some("type") => match type_name(alloc, levels, tokens.as_slice()) {
-            Ok((name, rest)) => {
-                put_type(alloc, &mut out, &name)?;
-                put_rest(alloc, &mut out, rest)?;
-            }
-            Err(halt) => put_halt(&mut out, halt)?,
-        },
-        Some("expression") => match expression(alloc, levels, false, tokens.as_slice()) {
-            Ok((expr, rest)) => {
-                put_expr(alloc, &mut out, &expr)?;
-                put_rest(alloc, &mut out, rest)?;
-            }
-            Err(halt) => put_halt(&mut out, halt)?,
-        },
-        Some("declaration") => match declaration(alloc, levels, tokens.as_slice()) {
-            Ok((item, rest)) => {
-                put_declaration(alloc, &mut out, &item)?;
-                put_rest(alloc, &mut out, rest)?;
-            }
-            Err(halt) => put_halt(&mut out, halt)?,
-        },
-        _ => return Err(Bad::Row("nothing is asked")),
+        Some("lex") => tokens_told(alloc, tokens.as_slice()),
+        Some("file") => file_told(alloc, tokens),
+        Some("type") => type_told(alloc, levels, tokens.as_slice()),
+        Some("expression") => expression_told(alloc, levels, tokens.as_slice()),
+        Some("declaration") => declaration_told(alloc, levels, tokens.as_slice()),
+        _ => Err(Bad::Row("nothing is asked")),
+    }
+}
+
+/// The tokens.
+fn tokens_told(alloc: Global, tokens: &[Token]) -> Result<String, Bad> {
+    let mut out = String::new(alloc);
+    for token in tokens {
+        put_token(alloc, &mut out, token)?;
     }
     Ok(out)
 }
 
 /// `ok`, or the line where the first definition that fails begins.
-fn put_file(alloc: Global, out: &mut String, tokens: &Tokens) -> Result<(), Bad> {
+fn file_told(alloc: Global, tokens: &Tokens) -> Result<String, Bad> {
     match parse(alloc, tokens) {
-        Ok(_) => out.push_str("ok")?,
-        Err(SyntaxErr::Syntax(line)) => {
-            let told = format!(in alloc; "syntax {line}")?;
-            out.push_str(told.as_str())?;
-        }
-        Err(SyntaxErr::NoMemory) => return Err(Bad::NoMemory),
+        Ok(_) => Ok(format!(in alloc; "ok")?),
+        Err(SyntaxErr::Syntax(line)) => Ok(format!(in alloc; "syntax {line}")?),
+        Err(SyntaxErr::NoMemory) => Err(Bad::NoMemory),
     }
-    Ok(())
+}
+
+/// The type that comes first, and how many tokens come after it.
+fn type_told(alloc: Global, levels: u32, tokens: &[Token]) -> Result<String, Bad>
+    requires { levels ≤ 32 }
+{
+    let mut out = String::new(alloc);
+    match type_name(alloc, levels, tokens) {
+        Ok((name, rest)) => {
+            put_type(alloc, &mut out, &name)?;
+            put_rest(alloc, &mut out, rest)?;
+        }
+        Err(halt) => put_halt(&mut out, halt)?,
+    }
+    Ok(out)
+}
+
+/// The expression that comes first, and how many tokens come after it.
+fn expression_told(alloc: Global, levels: u32, tokens: &[Token]) -> Result<String, Bad>
+    requires { levels ≤ 32 }
+{
+    let mut out = String::new(alloc);
+    match expression(alloc, levels, false, tokens) {
+        Ok((expr, rest)) => {
+            put_expr(alloc, &mut out, &expr)?;
+            put_rest(alloc, &mut out, rest)?;
+        }
+        Err(halt) => put_halt(&mut out, halt)?,
+    }
+    Ok(out)
+}
+
+/// The declaration that comes first, and how many tokens come after it.
+fn declaration_told(alloc: Global, levels: u32, tokens: &[Token]) -> Result<String, Bad>
+    requires { levels ≤ 32 }
+{
+    match declaration(alloc, levels, tokens) {
+        Ok((item, rest)) => declared_told(alloc, &item, rest),
+        Err(Halt::Syntax) => Ok(format!(in alloc; "syntax")?),
+        Err(Halt::NoMemory) => Err(Bad::NoMemory),
+    }
+}
+
+/// A declaration, and how many tokens come after it.
+fn declared_told(alloc: Global, item: &Declaration, rest: &[Token]) -> Result<String, Bad> {
+    let mut out = String::new(alloc);
+    put_declaration(alloc, &mut out, item)?;
+    put_rest(alloc, &mut out, rest)?;
+    Ok(out)
 }
 
 fn put_rest(alloc: Global, out: &mut String, rest: &[Token]) -> Result<(), Bad> {
