@@ -419,6 +419,8 @@ ASKED = {"expression": ("expression", shown), "type": ("type", shown), "declarat
 
 def told(case, text):
     """The answer to a row of tests/layers/syntax (crates/syntax_cases/README.md)."""
+    if case["ask"] == "file":
+        return told_of_file(text)
     try:
         tokens = tokens_of(text, case.get("front", "corba"))
     except Fault as fault:

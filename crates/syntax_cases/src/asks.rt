@@ -1,8 +1,11 @@
 // What is asked of a text.
+ghost use Rattle.std.specs.Prelude.{◌≤◌, IfOk};
+
 use crate::declared::put_declaration;
 use crate::shown::{put_expr, put_token, put_type};
-use corba_decls::declaration;
+use corba_decls::{Declaration, declaration};
 use corba_exprs::expression;
+use corba_syntax::{SyntaxErr, parse};
 use corba_types::type_name;
 use idl_lex::{Front, LexErr, Token, Tokens, lex};
 use kit_base::NoMemory;
@@ -79,48 +82,99 @@ fn text_of(alloc: Global, row: &Json) -> Result<String, Bad> {
     Ok(text)
 }
 
-/// The tokens, or the tree that begins them and how many tokens stand after it.
-fn told(alloc: Global, row: &Json, tokens: &Tokens) -> Result<String, Bad> {
-    let mut out = String::new(alloc);
-    let levels = match row.get("levels") {
+/// How many levels a case gives: 32 where it says nothing.
+fn levels_of(row: &Json) -> Result<u32, Bad>
+    ensures { IfOk result (λ n. n ≤ 32) }
+{
+    match row.get("levels") {
         Some(levels) => match levels.as_u64() {
-            Some(n) if n <= 32 => n as u32,
-            _ => return Err(Bad::Row("no number of levels")),
+            Some(n) if n <= 32 => Ok(n as u32),
+            _ => Err(Bad::Row("no number of levels")),
         },
-        None => 32,
-    };
+        None => Ok(32),
+    }
+}
+
+/// The answer to what a case asks about the tokens.
+fn told(alloc: Global, row: &Json, tokens: &Tokens) -> Result<String, Bad> {
+    let levels = levels_of(row)?;
     let Some(ask) = row.get("ask") else {
         return Err(Bad::Row("nothing is asked"));
     };
     match ask.as_str() {
-        Some("lex") => {
-            for token in tokens.as_slice() {
-                put_token(alloc, &mut out, token)?;
-            }
-        }
-        Some("type") => match type_name(alloc, levels, tokens.as_slice()) {
-            Ok((name, rest)) => {
-                put_type(alloc, &mut out, &name)?;
-                put_rest(alloc, &mut out, rest)?;
-            }
-            Err(halt) => put_halt(&mut out, halt)?,
-        },
-        Some("expression") => match expression(alloc, levels, false, tokens.as_slice()) {
-            Ok((expr, rest)) => {
-                put_expr(alloc, &mut out, &expr)?;
-                put_rest(alloc, &mut out, rest)?;
-            }
-            Err(halt) => put_halt(&mut out, halt)?,
-        },
-        Some("declaration") => match declaration(alloc, levels, tokens.as_slice()) {
-            Ok((item, rest)) => {
-                put_declaration(alloc, &mut out, &item)?;
-                put_rest(alloc, &mut out, rest)?;
-            }
-            Err(halt) => put_halt(&mut out, halt)?,
-        },
-        _ => return Err(Bad::Row("nothing is asked")),
+        Some("lex") => tokens_told(alloc, tokens.as_slice()),
+        Some("file") => file_told(alloc, tokens),
+        Some("type") => type_told(alloc, levels, tokens.as_slice()),
+        Some("expression") => expression_told(alloc, levels, tokens.as_slice()),
+        Some("declaration") => declaration_told(alloc, levels, tokens.as_slice()),
+        _ => Err(Bad::Row("nothing is asked")),
     }
+}
+
+/// The tokens.
+fn tokens_told(alloc: Global, tokens: &[Token]) -> Result<String, Bad> {
+    let mut out = String::new(alloc);
+    for token in tokens {
+        put_token(alloc, &mut out, token)?;
+    }
+    Ok(out)
+}
+
+/// `ok`, or the line where the first definition that fails begins.
+fn file_told(alloc: Global, tokens: &Tokens) -> Result<String, Bad> {
+    match parse(alloc, tokens) {
+        Ok(_) => Ok(format!(in alloc; "ok")?),
+        Err(SyntaxErr::Syntax(line)) => Ok(format!(in alloc; "syntax {line}")?),
+        Err(SyntaxErr::NoMemory) => Err(Bad::NoMemory),
+    }
+}
+
+/// The type that comes first, and how many tokens come after it.
+fn type_told(alloc: Global, levels: u32, tokens: &[Token]) -> Result<String, Bad>
+    requires { levels ≤ 32 }
+{
+    let mut out = String::new(alloc);
+    match type_name(alloc, levels, tokens) {
+        Ok((name, rest)) => {
+            put_type(alloc, &mut out, &name)?;
+            put_rest(alloc, &mut out, rest)?;
+        }
+        Err(halt) => put_halt(&mut out, halt)?,
+    }
+    Ok(out)
+}
+
+/// The expression that comes first, and how many tokens come after it.
+fn expression_told(alloc: Global, levels: u32, tokens: &[Token]) -> Result<String, Bad>
+    requires { levels ≤ 32 }
+{
+    let mut out = String::new(alloc);
+    match expression(alloc, levels, false, tokens) {
+        Ok((expr, rest)) => {
+            put_expr(alloc, &mut out, &expr)?;
+            put_rest(alloc, &mut out, rest)?;
+        }
+        Err(halt) => put_halt(&mut out, halt)?,
+    }
+    Ok(out)
+}
+
+/// The declaration that comes first, and how many tokens come after it.
+fn declaration_told(alloc: Global, levels: u32, tokens: &[Token]) -> Result<String, Bad>
+    requires { levels ≤ 32 }
+{
+    match declaration(alloc, levels, tokens) {
+        Ok((item, rest)) => declared_told(alloc, &item, rest),
+        Err(Halt::Syntax) => Ok(format!(in alloc; "syntax")?),
+        Err(Halt::NoMemory) => Err(Bad::NoMemory),
+    }
+}
+
+/// A declaration, and how many tokens come after it.
+fn declared_told(alloc: Global, item: &Declaration, rest: &[Token]) -> Result<String, Bad> {
+    let mut out = String::new(alloc);
+    put_declaration(alloc, &mut out, item)?;
+    put_rest(alloc, &mut out, rest)?;
     Ok(out)
 }
 
