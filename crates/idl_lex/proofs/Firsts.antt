@@ -1,5 +1,5 @@
 -- The first octet of a text tells which sort of piece comes first.
-use Rattle.std.proofs.Common.{◌≡◌, ℕ, ◌<◌, List, [], ◌∷◌, Bool, true, false, not, ◌||◌, nat_eq, Option, Some, None, refl, sym, subst, ◌∙◌, inl, inr, codes, arith}
+use Rattle.std.proofs.Common.{◌≡◌, ℕ, ◌<◌, List, [], ◌∷◌, Bool, true, false, not, ◌||◌, nat_eq, Some, None, refl, sym, subst, ◌∙◌, inl, inr, codes, arith}
 use Rattle.std.specs.List.{list_any, list_all, starts_with}
 use Rattle.std.proofs.lemmas.Bool.{and_parts, or_cases, or_parts, not-true, eqb-true, false_from_ne_true, false≢true}
 use Rattle.std.proofs.lemmas.Option.{none-some}
@@ -188,7 +188,8 @@ opens_of o n os true e h = refl
 opens_of o n os false e h = let none : enclosed_count (o ∷ os) ≡ None = rw e refl in absurd (none-some n (sym none ∙ h))
 
 -- what holds of every text that begins with `<` or `"` in mig holds where a file name comes first
-file_is : (P : Front → List ℕ → Type 0) → ((os : List ℕ) → P Mig (60 ∷ os)) → ((os : List ℕ) → P Mig (34 ∷ os)) → (front : Front) (imports : Bool) (text : List ℕ) (n : ℕ) → file_count front imports text ≡ Some n → P front text
+file_is : (P : Front → List ℕ → Type 0) → ((os : List ℕ) → P Mig (60 ∷ os)) → ((os : List ℕ) → P Mig (34 ∷ os))
+    → (front : Front) (imports : Bool) (text : List ℕ) (n : ℕ) → file_count front imports text ≡ Some n → P front text
 file_is P a b Onc imports text n h = absurd (none-some n h)
 file_is P a b Corba imports text n h = absurd (none-some n h)
 file_is P a b Mig false text n h = absurd (none-some n h)
@@ -205,7 +206,8 @@ file_is_other = file_is (λ f t. begins is_other t ≡ true) (λ os. refl) (λ o
 pub file_opens_none : (front : Front) (imports : Bool) (text : List ℕ) (n : ℕ) → file_count front imports text ≡ Some n → opens_comment text ≡ false
 file_opens_none = file_is (λ f t. opens_comment t ≡ false) (λ os. refl) (λ os. refl)
 
-pub file_skips_none : (before : List ℕ) (front : Front) (imports : Bool) (text : List ℕ) (n : ℕ) → file_count front imports text ≡ Some n → is_skipped front before text ≡ false
+pub file_skips_none : (before : List ℕ) (front : Front) (imports : Bool) (text : List ℕ) (n : ℕ)
+    → file_count front imports text ≡ Some n → is_skipped front before text ≡ false
 file_skips_none before = file_is (λ f t. is_skipped f before t ≡ false) (λ os. refl) (λ os. refl)
 
 pub file_no_quote : (front : Front) (imports : Bool) (text : List ℕ) (n : ℕ) → file_count front imports text ≡ Some n → opens_quote front text ≡ false

@@ -85,18 +85,20 @@ pub record So (front : Front) (text : List ℕ) (line at : ℕ) (imports : Bool)
   pub imports_is : imports ≡ imports_behind false pieces
   pub within : at ≤ length text
 
--- a piece at the place, and the same behind the pieces
+-- a piece at the place is one after the pieces up to there
 at_pieces : (front : Front) (text : List ℕ) (line at : ℕ) (imports : Bool) (tokens : List Token) (s : So front text line at imports tokens) (p : Piece)
     → IsPieceOf front imports (take at text) p (drop at text) → IsPieceOf front (imports_behind false s.pieces) (all_octets s.pieces) p (drop at text)
 at_pieces front text line at imports tokens s p is =
     subst (λ z. IsPieceOf front z (all_octets s.pieces) p (drop at text)) s.imports_is (subst (λ z. IsPieceOf front imports z p (drop at text)) (sym s.before_is) is)
 
+-- and the other way round
 at_place : (front : Front) (text : List ℕ) (line at : ℕ) (imports : Bool) (tokens : List Token) (s : So front text line at imports tokens) (p : Piece)
     → IsPieceOf front (imports_behind false s.pieces) (all_octets s.pieces) p (drop at text) → IsPieceOf front imports (take at text) p (drop at text)
 at_place front text line at imports tokens s p is =
     subst (λ z. IsPieceOf front imports z p (drop at text)) s.before_is (subst (λ z. IsPieceOf front z (all_octets s.pieces) p (drop at text)) (sym s.imports_is) is)
 
-pub go_on_at : (front : Front) (text : List ℕ) (line at n line' : ℕ) (imports : Bool) (tokens : List Token) (kind : Option TokenKind) → So front text line at imports tokens → at < length text
+pub go_on_at : (front : Front) (text : List ℕ) (line at n line' : ℕ) (imports : Bool) (tokens : List Token) (kind : Option TokenKind)
+    → So front text line at imports tokens → at < length text
     → shown (piece_at front imports (take at text) (drop at text)) ≡ Ok (kind, n) → n ≤ length (drop at text)
     → line' ≡ min (line + line_feeds (take n (drop at text))) (2 ^ 32 - 1)
     → So front text line' (at + n) (imports_on imports kind) (tokens ++ token_on line kind)
@@ -118,16 +120,19 @@ go_on_at front text line at n line' imports tokens kind s lt read fits line_is =
       line_is =
           let count : line_feeds (take (at + n) text) ≡ line_feeds (take at text) + line_feeds (take n rest) = ap line_feeds (take-add at n text) ∙ feeds-append (take at text) (take n rest) in
           omega (arith, line_is, s.line_is, count);
-      imports_is = ap (λ z. imports_on z kind) s.imports_is ∙ ap (imports_on (imports_behind false s.pieces)) (sym x.kind_is) ∙ sym (one_more_imports false s.pieces x.p);
+      imports_is = ap (λ z. imports_on z kind) s.imports_is ∙ ap (imports_on (imports_behind false s.pieces)) (sym x.kind_is)
+          ∙ sym (one_more_imports false s.pieces x.p);
       within = omega (arith, fits, lt, length-drop at text);
     }
 
-pub go_on : (front : Front) (text before rest : List ℕ) (line at n line' : ℕ) (imports imports' : Bool) (tokens tokens' : List Token) (kind : Option TokenKind) → So front text line at imports tokens → at < length text
+pub go_on : (front : Front) (text before rest : List ℕ) (line at n line' : ℕ) (imports imports' : Bool) (tokens tokens' : List Token) (kind : Option TokenKind)
+    → So front text line at imports tokens → at < length text
     → before ≡ take at text → rest ≡ drop at text → shown (piece_at front imports before rest) ≡ Ok (kind, n) → n ≤ length rest
     → line' ≡ min (line + line_feeds (take n rest)) (2 ^ 32 - 1) → imports' ≡ imports_on imports kind → tokens' ≡ tokens ++ token_on line kind
     → So front text line' (at + n) imports' tokens'
 go_on front text before rest line at n line' imports imports' tokens tokens' kind s lt before_is rest_is read fits line_is imports_is put =
-    subst (λ z. So front text line' (at + n) z tokens') (sym imports_is) (subst (λ z. So front text line' (at + n) (imports_on imports kind) z) (sym put) (go_on_at front text line at n line' imports tokens kind s lt
+    subst (λ z. So front text line' (at + n) z tokens') (sym imports_is)
+    (subst (λ z. So front text line' (at + n) (imports_on imports kind) z) (sym put) (go_on_at front text line at n line' imports tokens kind s lt
     (subst (λ z. shown (piece_at front imports (take at text) z) ≡ Ok (kind, n)) rest_is (subst (λ z. shown (piece_at front imports z rest) ≡ Ok (kind, n)) before_is read))
     (subst (λ z. n ≤ length z) rest_is fits)
     (subst (λ z. line' ≡ min (line + line_feeds (take n z)) (2 ^ 32 - 1)) rest_is line_is)))
@@ -144,7 +149,8 @@ first_fault front text line at imports tokens e s lt read =
       stand = s.stand;
       more = λ none. let l : length rest ≡ 0 = ap length none in omega (arith, l, lt, length-drop at text);
       none = λ p behind parts stands.
-          let a = stands_is_read front imports (take at text) rest p (at_place front text line at imports tokens s p (subst (λ z. IsPieceOf front (imports_behind false s.pieces) (all_octets s.pieces) p z) (sym parts) stands)) in
+          let here = subst (λ z. IsPieceOf front (imports_behind false s.pieces) (all_octets s.pieces) p z) (sym parts) stands in
+          let a = stands_is_read front imports (take at text) rest p (at_place front text line at imports tokens s p here) in
           no_fault _ p e a is;
       cause =
           let why : IsRead front imports (take at text) rest (Err e) = subst (λ z. IsRead front imports (take at text) rest z) is (piece_is_read front imports (take at text) rest) in

@@ -80,31 +80,38 @@ kind_of (string codes os) = Some (Text codes)
 kind_of (file_name path os) = Some (FileName path)
 kind_of (mark os) = Some (Mark os)
 
--- whether the last token is a word that imports, after one piece more; `imports`: whether it was before
+-- whether the last token imports, after one piece more; `imports`: whether the last before it does
 abbrev pub imports_on : Bool → Option TokenKind → Bool
 imports_on imports None = imports
 imports_on imports (Some (Name os)) = is_import os
 imports_on imports (Some _) = false
 
--- whether the last token of pieces is a word that imports
+-- whether the last token of pieces is a word that imports; `imports`: whether the last before them is
 abbrev pub imports_behind : Bool → List Piece → Bool
 imports_behind imports [] = imports
 imports_behind imports (p ∷ ps) = imports_behind (imports_on imports (kind_of p)) ps
 
--- octets are a piece at a place: `imports` tells whether the last token is a word that imports, `before` is what stands before it, `text` is the octets and all that stands behind them, and of its sort the piece is the longest that comes first there
+-- octets are a piece at a place: `imports` tells whether the last token imports, `before` is what stands before the place, `text` is the octets
+-- and all that stands behind them, and of its sort the piece is the longest that comes first there
 abbrev pub IsPieceOf : Front → Bool → List ℕ → Piece → List ℕ → Type 0
 IsPieceOf front imports before (blanks os) text = (begins is_blank text ≡ true) × (os ≡ take_while is_blank text)
-IsPieceOf front imports before (comment os) text = (opens_comment text ≡ true) × ((n : ℕ) × (count_to_close (drop 2 text) ≡ Some n) × (os ≡ take (2 + n) text))
+IsPieceOf front imports before (comment os) text =
+    (opens_comment text ≡ true) × ((n : ℕ) × (count_to_close (drop 2 text) ≡ Some n) × (os ≡ take (2 + n) text))
 IsPieceOf front imports before (skipped_line os) text = (is_skipped front before text ≡ true) × (os ≡ take_while is_in_line text)
 IsPieceOf front imports before (name os) text = (begins is_letter text ≡ true) × (os ≡ take_while is_word_octet text)
-IsPieceOf front imports before (number os) text = (begins is_digit text ≡ true) × (os ≡ take (digit_count text) text) × (is_number os ≡ true) × (value_of os < 2 ^ 127)
-IsPieceOf front imports before (character code os) text = (opens_quote front text ≡ true) × (begins is_single text ≡ true) × ((n : ℕ) × (character_at text ≡ Some (code, n)) × (os ≡ take n text))
+IsPieceOf front imports before (number os) text =
+    (begins is_digit text ≡ true) × (os ≡ take (digit_count text) text) × (is_number os ≡ true) × (value_of os < 2 ^ 127)
+IsPieceOf front imports before (character code os) text =
+    (opens_quote front text ≡ true) × (begins is_single text ≡ true)
+    × ((n : ℕ) × (character_at text ≡ Some (code, n)) × (os ≡ take n text))
 IsPieceOf front imports before (string codes os) text =
     (opens_quote front text ≡ true) × (begins is_single text ≡ false)
     × ((n : ℕ) × (string_count false (drop 1 text) ≡ Some n) × (codes ≡ spelled false (take (n - 1) (drop 1 text))) × (os ≡ take (1 + n) text))
-IsPieceOf front imports before (file_name path os) text = (n : ℕ) × (file_count front imports text ≡ Some n) × (path ≡ take n (drop 1 text)) × (os ≡ take (2 + n) text)
+IsPieceOf front imports before (file_name path os) text =
+    (n : ℕ) × (file_count front imports text ≡ Some n) × (path ≡ take n (drop 1 text)) × (os ≡ take (2 + n) text)
 IsPieceOf front imports before (mark os) text =
-    (0 < mark_count text) × (os ≡ take (mark_count text) text) × (opens_comment text ≡ false) × (is_skipped front before text ≡ false) × (file_count front imports text ≡ None)
+    (0 < mark_count text) × (os ≡ take (mark_count text) text) × (opens_comment text ≡ false)
+    × (is_skipped front before text ≡ false) × (file_count front imports text ≡ None)
 
 -- a piece that stands behind pieces and before octets
 abbrev pub Stands : Front → List Piece → Piece → List ℕ → Type 0

@@ -55,7 +55,7 @@ abbrev pub file_of : List ℕ → List ℕ → Option ℕ → Read
 file_of before text None = mark_of before text (mark_count text)
 file_of before text (Some n) = Ok (file_name (take n (drop 1 text)) (take (2 + n) text))
 
--- the piece that comes first in a text; `imports`: the last token before it is a word that imports
+-- the piece that comes first in a text; `imports`: whether the last token before it imports
 abbrev pub piece_at : Front → Bool → List ℕ → List ℕ → Read
 piece_at front imports before text =
     if begins is_blank text then Ok (blanks (take (prefix_len is_blank text) text))

@@ -25,7 +25,8 @@ fn is_import(word: &[u8]) -> bool
     is_same(word, b"import") || is_same(word, b"uimport") || is_same(word, b"simport")
 }
 
-/// Whether the last token is a word that imports, after a piece of this kind.
+/// Whether the last token is a word that imports, after a piece of this kind; `imports` tells it of
+/// the pieces before.
 pub(crate) fn imports_on(imports: bool, kind: &Option<TokenKind>) -> bool
     ensures { result ≡ imports_on imports kind.now }
 {
@@ -66,7 +67,7 @@ fn count_before(closer: u8, text: &[u8]) -> Option<usize>
     }
 }
 
-/// How many octets are enclosed in `<` and `>`, or in quotes, on one line.
+/// How many octets stand between `<` and `>`, or between two `"`, on one line.
 fn enclosed_count(text: &[u8]) -> Option<usize>
     ensures count { result ≡ enclosed_count text.now }
     ensures within { IfSome result (λ n. 2 + n ≤ length text.now) }
@@ -78,7 +79,8 @@ fn enclosed_count(text: &[u8]) -> Option<usize>
     }
 }
 
-/// How many octets the file name has that comes first, without what encloses it.
+/// How many octets the file name has that comes first, without what encloses it. `imports`: whether
+/// the last token before it imports.
 pub(crate) fn file_count(front: Front, imports: bool, text: &[u8]) -> Option<usize>
     ensures count { result ≡ file_count front imports text.now }
     ensures within { IfSome result (λ n. 2 + n ≤ length text.now) }

@@ -11,7 +11,7 @@ use kit_base::Octets;
 use std::alloc::Global;
 
 /// The kind of the token that the first piece is, where it is one, and how many octets it has.
-/// `imports`: whether the last token before it is a word that imports.
+/// `imports`: whether the last token before it imports.
 pub(crate) fn piece(
     alloc: Global,
     front: Front,
