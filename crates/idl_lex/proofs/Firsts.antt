@@ -1,10 +1,12 @@
 -- The first octet of a text tells which sort of piece comes first.
-use Rattle.std.proofs.Common.{◌≡◌, ℕ, ◌<◌, List, [], ◌∷◌, Bool, true, false, not, ◌||◌, nat_eq, refl, sym, subst, ◌∙◌, inl, inr, codes, arith}
+use Rattle.std.proofs.Common.{◌≡◌, ℕ, ◌<◌, List, [], ◌∷◌, Bool, true, false, not, ◌||◌, nat_eq, Some, None, refl, sym, subst, ◌∙◌, inl, inr, codes, arith}
 use Rattle.std.specs.List.{list_any, list_all, starts_with}
 use Rattle.std.proofs.lemmas.Bool.{and_parts, or_cases, or_parts, not-true, eqb-true, false_from_ne_true, false≢true}
+use Rattle.std.proofs.lemmas.Option.{none-some}
 use Rattle.idl_lex.specs.Classes.{is_blank, is_letter, is_digit, begins}
 use Rattle.idl_lex.specs.Lines.{is_hash_line, is_skipped_by, is_skipped}
 use Rattle.idl_lex.specs.Quotes.{is_quote, opens_quote}
+use Rattle.idl_lex.specs.Files.{opens_file, enclosed_count, file_count}
 use Rattle.idl_lex.specs.Pieces.{opens_comment, is_mark_octet, begins_twin, mark_count}
 use Rattle.idl_lex.specs.declared.kinds.Front.{Front}
 use Rattle.idl_lex.specs.declared.kinds.Front.TheVariants.{Onc, Corba, Mig}
@@ -178,3 +180,35 @@ mark_no_quote Corba [] more = refl
 mark_no_quote Corba (o ∷ os) more = mark_or_quote o os (is_quote o) refl more
 mark_no_quote Onc text more = refl
 mark_no_quote Mig text more = refl
+
+-- ---- what begins with a file name
+
+opens_of : (o n : ℕ) (os : List ℕ) (b : Bool) → opens_file o ≡ b → enclosed_count (o ∷ os) ≡ Some n → b ≡ true
+opens_of o n os true e h = refl
+opens_of o n os false e h = let none : enclosed_count (o ∷ os) ≡ None = rw e refl in absurd (none-some n (sym none ∙ h))
+
+-- what holds of every text that begins with `<` or `"` in mig holds where a file name comes first
+file_is : (P : Front → List ℕ → Type 0) → ((os : List ℕ) → P Mig (60 ∷ os)) → ((os : List ℕ) → P Mig (34 ∷ os))
+    → (front : Front) (imports : Bool) (text : List ℕ) (n : ℕ) → file_count front imports text ≡ Some n → P front text
+file_is P a b Onc imports text n h = absurd (none-some n h)
+file_is P a b Corba imports text n h = absurd (none-some n h)
+file_is P a b Mig false text n h = absurd (none-some n h)
+file_is P a b Mig true [] n h = absurd (none-some n h)
+file_is P a b Mig true (o ∷ os) n h =
+    elim (or_cases _ _ (opens_of o n os (opens_file o) refl h)) [
+      | inl x ↦ subst (λ z. P Mig (z ∷ os)) (sym (eqb-true o 60 x)) (a os)
+      | inr y ↦ subst (λ z. P Mig (z ∷ os)) (sym (eqb-true o 34 y)) (b os)
+    ]
+
+pub file_is_other : (front : Front) (imports : Bool) (text : List ℕ) (n : ℕ) → file_count front imports text ≡ Some n → begins is_other text ≡ true
+file_is_other = file_is (λ f t. begins is_other t ≡ true) (λ os. refl) (λ os. refl)
+
+pub file_opens_none : (front : Front) (imports : Bool) (text : List ℕ) (n : ℕ) → file_count front imports text ≡ Some n → opens_comment text ≡ false
+file_opens_none = file_is (λ f t. opens_comment t ≡ false) (λ os. refl) (λ os. refl)
+
+pub file_skips_none : (before : List ℕ) (front : Front) (imports : Bool) (text : List ℕ) (n : ℕ)
+    → file_count front imports text ≡ Some n → is_skipped front before text ≡ false
+file_skips_none before = file_is (λ f t. is_skipped f before t ≡ false) (λ os. refl) (λ os. refl)
+
+pub file_no_quote : (front : Front) (imports : Bool) (text : List ℕ) (n : ℕ) → file_count front imports text ≡ Some n → opens_quote front text ≡ false
+file_no_quote = file_is (λ f t. opens_quote f t ≡ false) (λ os. refl) (λ os. refl)

@@ -1,21 +1,14 @@
 -- The tokens of a text, or its first fault.
-use Rattle.std.specs.Prelude.{◌≡◌, ◌≢◌, Bool, true, false, ◌⊎◌, ◌&&◌, ℕ, List, [], ◌∷◌, ◌++◌, length, take, Option, Some, None, if◌then◌else◌}
+use Rattle.std.specs.Prelude.{◌≡◌, ◌≢◌, ◌⊎◌, ◌&&◌, ℕ, List, [], ◌∷◌, ◌++◌, length, take, Option, Some, None, if◌then◌else◌}
 use Rattle.idl_lex.specs.Classes.{is_digit, begins}
 use Rattle.idl_lex.specs.Numbers.{digit_count, is_number}
 use Rattle.idl_lex.specs.Lines.{line_behind, is_hash_line}
 use Rattle.idl_lex.specs.Pieces.{Piece, octets_of, all_octets, kind_of, opens_comment, Stands, AllStand}
 use Rattle.idl_lex.specs.declared.kinds.Front.{Front}
-use Rattle.idl_lex.specs.declared.kinds.Front.TheVariants.{Corba, Onc, Mig}
 use Rattle.idl_lex.specs.declared.kinds.Token.{Token}
 use Rattle.idl_lex.specs.declared.kinds.TokenKind.{TokenKind}
 use Rattle.idl_lex.specs.declared.lexing.LexErr.{LexErr}
 use Rattle.idl_lex.specs.declared.lexing.LexErr.TheVariants.{BadOctet, OpenComment, Wide, Directive, NoMemory}
-
--- a front whose pieces are all defined
-abbrev pub has_rules : Front → Bool
-has_rules Corba = true
-has_rules Onc = true
-has_rules Mig = false
 
 -- the token of a kind on a line, where there is one
 abbrev pub token_on : ℕ → Option TokenKind → List Token

@@ -6,9 +6,10 @@ use Rattle.idl_lex.specs.Classes.{is_blank, is_in_line, is_letter, is_digit, is_
 use Rattle.idl_lex.specs.Numbers.{digit_count, is_number, value_of}
 use Rattle.idl_lex.specs.Lines.{is_skipped}
 use Rattle.idl_lex.specs.Quotes.{is_single, opens_quote, character_at, string_count, spelled}
+use Rattle.idl_lex.specs.Files.{is_import, file_count}
 use Rattle.idl_lex.specs.declared.kinds.Front.{Front}
 use Rattle.idl_lex.specs.declared.kinds.TokenKind.{TokenKind}
-use Rattle.idl_lex.specs.declared.kinds.TokenKind.TheVariants.{Name, Number, Char, Text, Mark}
+use Rattle.idl_lex.specs.declared.kinds.TokenKind.TheVariants.{Name, Number, Char, Text, FileName, Mark}
 
 -- a text that begins a comment
 abbrev pub opens_comment : List ℕ → Bool
@@ -46,6 +47,8 @@ pub data Piece : Type 0 where
   -- a character by its code, and a string by its characters' codes, each with its octets and quotes
   character : ℕ → List ℕ → Piece
   string : List ℕ → List ℕ → Piece
+  -- a file name by its octets, and these with what encloses them
+  file_name : List ℕ → List ℕ → Piece
   mark : List ℕ → Piece
 
 -- the octets of a piece
@@ -57,6 +60,7 @@ octets_of (name os) = os
 octets_of (number os) = os
 octets_of (character code os) = os
 octets_of (string codes os) = os
+octets_of (file_name path os) = os
 octets_of (mark os) = os
 
 -- the octets of pieces, one after the other
@@ -73,24 +77,45 @@ kind_of (name os) = Some (Name os)
 kind_of (number os) = Some (Number (pos (value_of os)))
 kind_of (character code os) = Some (Char code)
 kind_of (string codes os) = Some (Text codes)
+kind_of (file_name path os) = Some (FileName path)
 kind_of (mark os) = Some (Mark os)
 
--- octets are a piece at a place: `before` is what stands before it, `text` is the octets and all that stands behind them, and of its sort the piece is the longest that comes first there
-abbrev pub IsPieceOf : Front → List ℕ → Piece → List ℕ → Type 0
-IsPieceOf front before (blanks os) text = (begins is_blank text ≡ true) × (os ≡ take_while is_blank text)
-IsPieceOf front before (comment os) text = (opens_comment text ≡ true) × ((n : ℕ) × (count_to_close (drop 2 text) ≡ Some n) × (os ≡ take (2 + n) text))
-IsPieceOf front before (skipped_line os) text = (is_skipped front before text ≡ true) × (os ≡ take_while is_in_line text)
-IsPieceOf front before (name os) text = (begins is_letter text ≡ true) × (os ≡ take_while is_word_octet text)
-IsPieceOf front before (number os) text = (begins is_digit text ≡ true) × (os ≡ take (digit_count text) text) × (is_number os ≡ true) × (value_of os < 2 ^ 127)
-IsPieceOf front before (character code os) text = (opens_quote front text ≡ true) × (begins is_single text ≡ true) × ((n : ℕ) × (character_at text ≡ Some (code, n)) × (os ≡ take n text))
-IsPieceOf front before (string codes os) text =
+-- whether the last token imports, after one piece more; `imports`: whether the last before it does
+abbrev pub imports_on : Bool → Option TokenKind → Bool
+imports_on imports None = imports
+imports_on imports (Some (Name os)) = is_import os
+imports_on imports (Some _) = false
+
+-- whether the last token of pieces is a word that imports; `imports`: whether the last before them is
+abbrev pub imports_behind : Bool → List Piece → Bool
+imports_behind imports [] = imports
+imports_behind imports (p ∷ ps) = imports_behind (imports_on imports (kind_of p)) ps
+
+-- octets are a piece at a place: `imports` tells whether the last token imports, `before` is what stands before the place, `text` is the octets
+-- and all that stands behind them, and of its sort the piece is the longest that comes first there
+abbrev pub IsPieceOf : Front → Bool → List ℕ → Piece → List ℕ → Type 0
+IsPieceOf front imports before (blanks os) text = (begins is_blank text ≡ true) × (os ≡ take_while is_blank text)
+IsPieceOf front imports before (comment os) text =
+    (opens_comment text ≡ true) × ((n : ℕ) × (count_to_close (drop 2 text) ≡ Some n) × (os ≡ take (2 + n) text))
+IsPieceOf front imports before (skipped_line os) text = (is_skipped front before text ≡ true) × (os ≡ take_while is_in_line text)
+IsPieceOf front imports before (name os) text = (begins is_letter text ≡ true) × (os ≡ take_while is_word_octet text)
+IsPieceOf front imports before (number os) text =
+    (begins is_digit text ≡ true) × (os ≡ take (digit_count text) text) × (is_number os ≡ true) × (value_of os < 2 ^ 127)
+IsPieceOf front imports before (character code os) text =
+    (opens_quote front text ≡ true) × (begins is_single text ≡ true)
+    × ((n : ℕ) × (character_at text ≡ Some (code, n)) × (os ≡ take n text))
+IsPieceOf front imports before (string codes os) text =
     (opens_quote front text ≡ true) × (begins is_single text ≡ false)
     × ((n : ℕ) × (string_count false (drop 1 text) ≡ Some n) × (codes ≡ spelled false (take (n - 1) (drop 1 text))) × (os ≡ take (1 + n) text))
-IsPieceOf front before (mark os) text = (0 < mark_count text) × (os ≡ take (mark_count text) text) × (opens_comment text ≡ false) × (is_skipped front before text ≡ false)
+IsPieceOf front imports before (file_name path os) text =
+    (n : ℕ) × (file_count front imports text ≡ Some n) × (path ≡ take n (drop 1 text)) × (os ≡ take (2 + n) text)
+IsPieceOf front imports before (mark os) text =
+    (0 < mark_count text) × (os ≡ take (mark_count text) text) × (opens_comment text ≡ false)
+    × (is_skipped front before text ≡ false) × (file_count front imports text ≡ None)
 
 -- a piece that stands behind pieces and before octets
 abbrev pub Stands : Front → List Piece → Piece → List ℕ → Type 0
-Stands front before p behind = IsPieceOf front (all_octets before) p (octets_of p ++ behind)
+Stands front before p behind = IsPieceOf front (imports_behind false before) (all_octets before) p (octets_of p ++ behind)
 
 -- pieces that stand one after the other, behind pieces and before octets
 abbrev pub AllStand : Front → List Piece → List Piece → List ℕ → Type 0

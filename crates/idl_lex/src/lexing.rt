@@ -1,8 +1,9 @@
 // The tokens of a text.
-ghost use Rattle.std.specs.Prelude.{◌≡◌, true, ◌++◌, IfOk, IfErr, OnOk};
-ghost use Rattle.idl_lex.specs.Lexed.{has_rules, AreTokens, Explains, token_on};
+ghost use Rattle.std.specs.Prelude.{◌≡◌, ◌++◌, IfOk, IfErr, OnOk};
+ghost use Rattle.idl_lex.specs.Lexed.{AreTokens, Explains, token_on};
 ghost use Rattle.idl_lex.specs.declared.lexing.LexErr.TheVariants.{NoMemory as WantOfMemory};
 
+use crate::files::imports_on;
 use crate::lines::line_past;
 use crate::pieces::piece;
 use crate::{Front, Token, TokenKind, Tokens};
@@ -39,20 +40,19 @@ impl From<NoMemory> for LexErr {
 }
 
 /// The tokens of a text, or its first fault.
-///
-/// The rules of CORBA and ONC stand; until those of [`Front::Mig`] do, it is not asked for.
 pub fn lex(alloc: Global, front: Front, text: &[u8]) -> Result<Tokens, LexErr>
-    requires { has_rules front ≡ true }
     ensures value { IfOk result (λ tokens. AreTokens front text.now tokens) }
     ensures stop { IfErr result (λ fault. Explains front text.now fault) }
 {
     let mut tokens = Tokens::new(alloc);
     let mut line = 1;
     let mut at = 0;
+    let mut imports = false;
     'pieces: while at < text.len() {
         let (before, rest) = text.split_at(at);
-        match piece(alloc, front, before, rest) {
+        match piece(alloc, front, imports, before, rest) {
             Ok((kind, n)) => {
+                imports = imports_on(imports, &kind);
                 put(&mut tokens, kind, line)?;
                 line = line_past(line, &rest[..n]);
                 at += n;

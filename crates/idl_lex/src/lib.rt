@@ -1,11 +1,11 @@
 //! The tokens of interface files.
 //!
 //! [`lex`] reads a text once from left to right and gives its tokens, each with its line, or the
-//! first fault with its place. The rules of CORBA and ONC files stand; those of MIG are added as
-//! further cases of [`Front`].
+//! first fault with its place. [`Front`] tells by which language's rules.
 #![tactic(auto)]
 
 mod classes;
+mod files;
 mod kinds;
 mod laws;
 mod lexing;

@@ -6,19 +6,21 @@ ghost use Rattle.idl_lex.specs.Numbers.{digit_count};
 ghost use Rattle.idl_lex.specs.Pieces.{count_to_close, begins_twin, mark_count, name};
 ghost use Rattle.idl_lex.specs.Reads.{Gives, shown, comment_of, number_of, mark_of, piece_at};
 
-use crate::{Front, LexErr, TokenKind, classes, lines, numbers, quotes};
+use crate::{Front, LexErr, TokenKind, classes, files, lines, numbers, quotes};
 use kit_base::Octets;
 use std::alloc::Global;
 
 /// The kind of the token that the first piece is, where it is one, and how many octets it has.
+/// `imports`: whether the last token before it imports.
 pub(crate) fn piece(
     alloc: Global,
     front: Front,
+    imports: bool,
     before: &[u8],
     text: &[u8],
 ) -> Result<(Option<TokenKind>, usize), LexErr>
     requires { 0 < length text.now }
-    ensures piece { Gives result (shown (piece_at front before.now text.now)) }
+    ensures piece { Gives result (shown (piece_at front imports before.now text.now)) }
     ensures within { IfOk result (λ x. (0 < x.1) × (x.1 ≤ length text.now)) }
 {
     let first = text[0];
@@ -40,7 +42,10 @@ pub(crate) fn piece(
     if quotes::opens_quote(front, text) {
         return quotes::quoted(alloc, before.len(), text);
     }
-    mark(alloc, before, text)
+    match files::file_count(front, imports, text) {
+        Some(n) => files::file_name(alloc, text, n),
+        None => mark(alloc, before, text),
+    }
 }
 
 /// How many octets stand up to the first `*/` and with it.
