@@ -271,6 +271,8 @@ def last_leaf(tree):
 
 def goes_on(rule, tree, mark):
     """Whether a mark after a tree would be part of it."""
+    if rule == "declared":
+        return mark in (",", "[") if tree[0] == "typedef" else tree[0] == "constant" and goes_on("expression", tree[-1], mark)
     last = last_leaf(tree)
     if mark == "::":
         return isinstance(last, Token) and last.kind == "identifier"
@@ -323,6 +325,45 @@ def shown(tree):
     return "-".join(parts)
 
 
+def shown_declarator(tree):
+    """A name, with its dimensions in brackets."""
+    return shown(tree) if isinstance(tree, Token) else shown(tree[1]) + "".join(f"[{shown(part)}]" for part in tree[3::3])
+
+
+def shown_all(trees):
+    return ",".join(shown_declarator(tree) for tree in trees)
+
+
+def shown_label(tree):
+    return f"case {shown(tree[2])}:" if tree[1] == "case" else "default:"
+
+
+def shown_part(tree):
+    """A member, or a case with its labels."""
+    labels = [part for part in tree[1:] if part[0] == "label"]
+    of, *declarators = [part for part in tree[1:] if isinstance(part, tuple) and part not in labels]
+    return f"{''.join(shown_label(label) for label in labels)}{shown(of)} {shown_all(declarators)};"
+
+
+def shown_declaration(tree):
+    """A declaration: its words and marks, without the blanks that need not be there."""
+    rule = tree[0]
+    parts = [part for part in tree[1:] if isinstance(part, tuple)]
+    if rule in ("struct", "exception"):
+        return f"{rule} {shown(parts[0])}{{{''.join(shown_part(part) for part in parts[1:])}}}"
+    if rule == "union":
+        return f"union {shown(parts[0])}({shown(parts[1])}){{{''.join(shown_part(part) for part in parts[2:])}}}"
+    if rule == "enum":
+        return f"enum {shown(parts[0])}{{{shown_all(parts[1:])}}}"
+    if rule == "constant":
+        return f"const {shown(parts[0])} {shown(parts[1])}={shown(parts[2])}"
+    of = shown_declaration(parts[0]) if parts[0][0] in ("struct", "union", "enum") else shown(parts[0])
+    return f"typedef {of} {shown_all(parts[1:])}"
+
+
+ASKED = {"expression": ("expression", shown), "type": ("type", shown), "declaration": ("declared", shown_declaration)}
+
+
 def told(case, text):
     """The answer to a row of tests/layers/syntax (crates/syntax_cases/README.md)."""
     try:
@@ -331,8 +372,9 @@ def told(case, text):
         return str(fault)
     if case["ask"] == "lex":
         return " ".join(f"{token.line}:{shown_token(token)}" for token in tokens)
-    found = first_of(case["ask"], tokens, case.get("levels", LEVELS))
-    return f"{shown(found[0])} {len(tokens) - found[1]}" if found else "syntax"
+    rule, show = ASKED[case["ask"]]
+    found = first_of(rule, tokens, case.get("levels", LEVELS))
+    return f"{show(found[0])} {len(tokens) - found[1]}" if found else "syntax"
 
 
 def told_of_file(text):

@@ -1,1 +1,3 @@
-pub mod MembersRead
+pub mod TagsRead
+pub mod UnionsRead
+pub mod DeclarationsRead

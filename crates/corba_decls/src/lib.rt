@@ -1,13 +1,16 @@
-//! The declarators, structs and exceptions of CORBA IDL (CORBA, chapter on IDL syntax and semantics).
+//! The declarations of CORBA IDL (CORBA, chapter on IDL syntax and semantics): typedefs, structs,
+//! unions, enumerations, constants and exceptions.
 //!
-//! [`structure`] and [`exception`] read one from the front of some tokens, behind its word.
+//! [`declaration`] reads one from the front of some tokens; [`Declaration`] is its tree.
 #![tactic(auto)]
 
-mod bodies;
-mod declarators;
+mod declarations;
 mod laws;
+mod tags;
 mod tree;
+mod unions;
 
-pub use bodies::{enumeration, exception, structure};
-pub use laws::{one_enumeration, one_exception, one_structure};
-pub use tree::{Declarator, Dimension, Enum, Exception, Member, Struct};
+pub use corba_members::{Declarator, Dimension, Enum, Exception, Member, Struct};
+pub use declarations::{begins_declaration, declaration};
+pub use laws::one_declaration;
+pub use tree::{Aliased, Case, Constant, ConstantType, Declaration, Label, Tag, Typedef, Union};

@@ -1,56 +1,117 @@
-// The syntax trees of declarators, and of what is made of members.
-use corba_exprs::{Expr, Identifier};
-use corba_types::TypeName;
+// The syntax trees of declarations.
+use corba_exprs::{Expr, Identifier, ScopedName};
+use corba_members::{Declarator, Enum, Exception, Struct};
+use corba_types::{Int, TypeName};
 use kit_base::Listed;
 
-/// A dimension of an array (`<fixed_array_size>`).
-#[derive(Drop)]
-pub struct Dimension {
-    /// How many elements there are.
-    pub length: Expr,
+/// The type of a union's discriminator (`<switch_type_spec>`).
+#[derive(Debug, Drop)]
+pub enum Tag {
+    /// An integer type.
+    Int(Int),
+    /// `char`
+    Char,
+    /// `boolean`
+    Boolean,
+    /// The name of such a type, or of an enumeration.
+    Named(ScopedName),
 }
 
-/// A declarator (`<declarator>`).
+/// A label of a case (`<case_label>`).
 #[derive(Drop)]
-pub struct Declarator {
-    /// The name that is declared.
-    pub name: Identifier,
-    /// The dimensions of an array, the outermost first; none where it is no array.
-    pub dimensions: Listed<Dimension>,
+pub enum Label {
+    /// `case`, with the value of the discriminator.
+    Case(Expr),
+    /// `default`: all values that no label has.
+    Default,
 }
 
-/// Members of one type (`<member>`).
+/// A case of a union (`<case>`).
 #[derive(Drop)]
-pub struct Member {
-    /// Their type, or that of the elements of those that are arrays.
+pub struct Case {
+    /// Its labels, one at least.
+    pub labels: Listed<Label>,
+    /// The type of its element, or that of the elements of an array.
     pub of: TypeName,
-    /// Their declarators, one at least.
+    /// The declarator of its element.
+    pub declarator: Declarator,
+}
+
+/// A discriminated union (`<union_type>`).
+#[derive(Drop)]
+pub struct Union {
+    /// Its name.
+    pub name: Identifier,
+    /// The type of its discriminator.
+    pub tag: Tag,
+    /// Its cases, one at least.
+    pub cases: Listed<Case>,
+}
+
+/// What a typedef gives names to (the `<type_spec>` of a `<type_declarator>`).
+#[derive(Drop)]
+pub enum Aliased {
+    /// A type by its name, a string or a sequence.
+    Type(TypeName),
+    /// A struct, which is declared here.
+    Struct(Struct),
+    /// A union, which is declared here.
+    Union(Union),
+    /// An enumeration, which is declared here.
+    Enum(Enum),
+}
+
+/// A typedef (`<type_declarator>`).
+#[derive(Drop)]
+pub struct Typedef {
+    /// The type, or that of the elements of those that are arrays.
+    pub of: Aliased,
+    /// The declarators, one at least.
     pub declarators: Listed<Declarator>,
 }
 
-/// A struct (`<struct_type>`).
-#[derive(Drop)]
-pub struct Struct {
-    /// Its name.
-    pub name: Identifier,
-    /// Its members, one at least.
-    pub members: Listed<Member>,
+/// The type of a constant (`<const_type>`).
+#[derive(Debug, Drop)]
+pub enum ConstantType {
+    /// An integer type.
+    Int(Int),
+    /// `char`
+    Char,
+    /// `boolean`
+    Boolean,
+    /// `octet`
+    Octet,
+    /// `string`, without a bound.
+    Text,
+    /// The name of such a type, or of an enumeration.
+    Named(ScopedName),
 }
 
-/// An exception (`<except_dcl>`).
+/// A constant (`<const_dcl>`).
 #[derive(Drop)]
-pub struct Exception {
+pub struct Constant {
+    /// Its type.
+    pub of: ConstantType,
     /// Its name.
     pub name: Identifier,
-    /// Its members.
-    pub members: Listed<Member>,
+    /// Its value.
+    pub value: Expr,
 }
 
-/// An enumeration (`<enum_type>`).
+/// A declaration of a type, a constant or an exception (`<type_dcl>`, `<const_dcl>`, `<except_dcl>`),
+/// without the `;` that ends it.
 #[derive(Drop)]
-pub struct Enum {
-    /// Its name.
-    pub name: Identifier,
-    /// Its enumerators, one at least.
-    pub items: Listed<Identifier>,
+pub enum Declaration {
+    /// A typedef.
+    Typedef(Typedef),
+    /// A struct.
+    Struct(Struct),
+    /// A union.
+    Union(Union),
+    /// An enumeration.
+    Enum(Enum),
+    /// A constant.
+    Constant(Constant),
+    /// An exception.
+    Exception(Exception),
 }

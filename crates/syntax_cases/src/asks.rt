@@ -1,5 +1,7 @@
 // What is asked of a text.
+use crate::declared::put_declaration;
 use crate::shown::{put_expr, put_token, put_type};
+use corba_decls::declaration;
 use corba_exprs::expression;
 use corba_types::type_name;
 use idl_lex::{Front, LexErr, Token, Tokens, lex};
@@ -106,6 +108,13 @@ fn told(alloc: Global, row: &Json, tokens: &Tokens) -> Result<String, Bad> {
         Some("expression") => match expression(alloc, levels, false, tokens.as_slice()) {
             Ok((expr, rest)) => {
                 put_expr(alloc, &mut out, &expr)?;
+                put_rest(alloc, &mut out, rest)?;
+            }
+            Err(halt) => put_halt(&mut out, halt)?,
+        },
+        Some("declaration") => match declaration(alloc, levels, tokens.as_slice()) {
+            Ok((item, rest)) => {
+                put_declaration(alloc, &mut out, &item)?;
                 put_rest(alloc, &mut out, rest)?;
             }
             Err(halt) => put_halt(&mut out, halt)?,

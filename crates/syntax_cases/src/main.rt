@@ -3,6 +3,7 @@
 #![tactic(auto)]
 
 mod asks;
+mod declared;
 mod shown;
 
 use crate::asks::{Bad, answer};

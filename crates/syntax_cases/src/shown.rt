@@ -1,7 +1,7 @@
 // Tokens and trees as text.
 use crate::asks::Bad;
 use corba_exprs::{BinaryOp, Expr, Leaf, Node, ScopedName, UnaryOp};
-use corba_types::{Base, IntSize, Simple, TypeName, TypeNode};
+use corba_types::{Base, Int, IntSize, Simple, TypeName, TypeNode};
 use idl_lex::{Token, TokenKind};
 use std::alloc::Global;
 
@@ -22,7 +22,7 @@ pub fn put_token(alloc: Global, out: &mut String, token: &Token) -> Result<(), B
     }
 }
 
-fn put_octets(out: &mut String, octets: &[u8]) -> Result<(), Bad> {
+pub fn put_octets(out: &mut String, octets: &[u8]) -> Result<(), Bad> {
     for octet in octets {
         out.push(char::from(*octet))?;
     }
@@ -53,7 +53,7 @@ fn put_text(alloc: Global, out: &mut String, codes: &[u8]) -> Result<(), Bad> {
     Ok(())
 }
 
-fn put_name(out: &mut String, name: &ScopedName) -> Result<(), Bad> {
+pub fn put_name(out: &mut String, name: &ScopedName) -> Result<(), Bad> {
     let mut is_first = !name.absolute;
     for part in name.parts.as_slice() {
         if !is_first {
@@ -137,20 +137,22 @@ fn simple_word(simple: Simple) -> &'static str {
     }
 }
 
+pub fn put_int(out: &mut String, int: &Int) -> Result<(), Bad> {
+    if int.unsigned {
+        out.push_str("unsigned-")?;
+    }
+    match int.size {
+        IntSize::Short => Ok(out.push_str("short")?),
+        IntSize::Long => Ok(out.push_str("long")?),
+        IntSize::LongLong => Ok(out.push_str("long-long")?),
+    }
+}
+
 fn put_base(alloc: Global, out: &mut String, base: &Base) -> Result<(), Bad> {
     match base {
         Base::Simple(simple) => Ok(out.push_str(simple_word(*simple))?),
         Base::LongDouble => Ok(out.push_str("long-double")?),
-        Base::Int(int) => {
-            if int.unsigned {
-                out.push_str("unsigned-")?;
-            }
-            match int.size {
-                IntSize::Short => Ok(out.push_str("short")?),
-                IntSize::Long => Ok(out.push_str("long")?),
-                IntSize::LongLong => Ok(out.push_str("long-long")?),
-            }
-        }
+        Base::Int(int) => put_int(out, int),
         Base::Name(name) => put_name(out, name),
         Base::Text(None) => Ok(out.push_str("string")?),
         Base::Text(Some(bound)) => {

@@ -1,0 +1,2 @@
+pub mod ExportsRead
+pub mod InterfacesRead

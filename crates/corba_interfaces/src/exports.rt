@@ -1,0 +1,49 @@
+// What an interface declares.
+ghost use Rattle.std.specs.Prelude.{◌≡◌, ◌≤◌};
+ghost use Rattle.syntax_kit.specs.Reading.{Gives, begins_with};
+ghost use Rattle.corba_interfaces.specs.Readers.{exported_at};
+ghost use Rattle.corba_operations.specs.Readers.{is_attribute};
+
+use crate::tree::Export;
+use corba_decls::{begins_declaration, declaration};
+use corba_operations::{attribute, begins_attribute, operation};
+use idl_lex::Token;
+use std::alloc::Global;
+use syntax_kit::{Halt, Nested, mark, stands_before};
+
+/// What is declared, without the `;` that ends it.
+#[tactic(auto, unfolding(crate::specs::Readers::exported_at))]
+fn exported(alloc: Global, levels: u32, tokens: &[Token]) -> Result<(Export, &[Token]), Halt>
+    requires { levels ≤ 32 }
+    ensures { Gives (λ x. (x.0, x.1.now)) result (exported_at levels tokens.now) }
+{
+    if begins_declaration(tokens) {
+        let (item, rest) = declaration(alloc, levels, tokens)?;
+        return Ok((Export::Declaration(item), rest));
+    }
+    if begins_attribute(tokens) {
+        let (item, rest) = attribute(alloc, levels, tokens)?;
+        return Ok((Export::Attribute(item), rest));
+    }
+    let (item, rest) = operation(alloc, levels, tokens)?;
+    Ok((Export::Operation(item), rest))
+}
+
+impl Nested for Export {
+    ghost use Rattle.corba_interfaces.specs.Readers.{is_open, export_at};
+
+    ghost goes = { is_open };
+
+    ghost within = { export_at };
+
+    fn is_next(tokens: &[Token]) -> bool {
+        stands_before(tokens, b"}")
+    }
+
+    #[tactic(auto, unfolding(crate::specs::Readers::export_at))]
+    fn read(alloc: Global, levels: u32, tokens: &[Token]) -> Result<(Self, &[Token]), Halt> {
+        let (item, rest) = exported(alloc, levels, tokens)?;
+        let rest = mark(rest, b";")?;
+        Ok((item, rest))
+    }
+}

@@ -1,0 +1,27 @@
+// The syntax tree of an interface.
+use corba_decls::Declaration;
+use corba_exprs::Identifier;
+use corba_operations::{Attribute, Operation, Reference};
+use kit_base::Listed;
+
+/// What an interface declares (`<export>`).
+#[derive(Drop)]
+pub enum Export {
+    /// A type, a constant or an exception.
+    Declaration(Declaration),
+    /// Attributes.
+    Attribute(Attribute),
+    /// An operation.
+    Operation(Operation),
+}
+
+/// An interface (`<interface_dcl>`).
+#[derive(Drop)]
+pub struct Interface {
+    /// Its name.
+    pub name: Identifier,
+    /// The interfaces that it inherits from (`<inheritance_spec>`), in order.
+    pub bases: Listed<Reference>,
+    /// What it declares, in order.
+    pub exports: Listed<Export>,
+}

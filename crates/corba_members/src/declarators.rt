@@ -1,0 +1,70 @@
+// Declarators and members.
+ghost use Rattle.std.specs.Prelude.{◌≡◌};
+
+use crate::tree::{Declarator, Dimension, Member};
+use corba_exprs::{Identifier, expression};
+use corba_types::type_name;
+use idl_lex::Token;
+use std::alloc::Global;
+use syntax_kit::{
+    Halt, Nested, Production, begins_mark, each_nested, joined_nested, mark, stands_before,
+};
+
+impl Nested for Dimension {
+    ghost use Rattle.corba_members.specs.Readers.{has_dimension, dimension_at};
+
+    ghost goes = { has_dimension };
+
+    ghost within = { dimension_at };
+
+    fn is_next(tokens: &[Token]) -> bool {
+        begins_mark(tokens, b"[")
+    }
+
+    #[tactic(auto, unfolding(crate::specs::Readers::dimension_at))]
+    fn read(alloc: Global, levels: u32, tokens: &[Token]) -> Result<(Self, &[Token]), Halt> {
+        let rest = mark(tokens, b"[")?;
+        let (length, rest) = expression(alloc, levels, false, rest)?;
+        let rest = mark(rest, b"]")?;
+        Ok((Dimension { length }, rest))
+    }
+}
+
+impl Nested for Declarator {
+    ghost use Rattle.corba_members.specs.Readers.{is_open, declarator_at};
+
+    ghost goes = { is_open };
+
+    ghost within = { declarator_at };
+
+    fn is_next(tokens: &[Token]) -> bool {
+        stands_before(tokens, b"}")
+    }
+
+    #[tactic(auto, unfolding(crate::specs::Readers::declarator_at))]
+    fn read(alloc: Global, levels: u32, tokens: &[Token]) -> Result<(Self, &[Token]), Halt> {
+        let (name, rest) = Identifier::read(alloc, tokens)?;
+        let (dimensions, rest) = each_nested::<Dimension>(alloc, levels, rest)?;
+        Ok((Declarator { name, dimensions }, rest))
+    }
+}
+
+impl Nested for Member {
+    ghost use Rattle.corba_members.specs.Readers.{is_open, member_at};
+
+    ghost goes = { is_open };
+
+    ghost within = { member_at };
+
+    fn is_next(tokens: &[Token]) -> bool {
+        stands_before(tokens, b"}")
+    }
+
+    #[tactic(auto, unfolding(crate::specs::Readers::member_at))]
+    fn read(alloc: Global, levels: u32, tokens: &[Token]) -> Result<(Self, &[Token]), Halt> {
+        let (of, rest) = type_name(alloc, levels, tokens)?;
+        let (declarators, rest) = joined_nested::<Declarator>(alloc, levels, rest, b",")?;
+        let rest = mark(rest, b";")?;
+        Ok((Member { of, declarators }, rest))
+    }
+}

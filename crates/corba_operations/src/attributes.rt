@@ -1,0 +1,46 @@
+// Attributes.
+ghost use Rattle.std.specs.Prelude.{◌≡◌, ◌≤◌};
+ghost use Rattle.syntax_kit.specs.Reading.{Gives, begins_with};
+ghost use Rattle.corba_operations.specs.Readers.{is_attribute, attribute_at};
+
+use crate::optional::word_flag;
+use crate::tree::Attribute;
+use corba_exprs::Identifier;
+use corba_types::type_name;
+use idl_lex::Token;
+use std::alloc::Global;
+use syntax_kit::{Halt, is_word, joined, word};
+
+/// Whether a word comes first that begins attributes.
+pub fn begins_attribute(tokens: &[Token]) -> bool
+    ensures { result ≡ begins_with is_attribute tokens.now }
+{
+    match tokens {
+        [first, ..] => is_word(first, b"readonly") || is_word(first, b"attribute"),
+        [] => false,
+    }
+}
+
+/// Attributes within so many levels, and the tokens after them.
+#[tactic(auto, unfolding(crate::specs::Readers::attribute_at))]
+pub fn attribute(
+    alloc: Global,
+    levels: u32,
+    tokens: &[Token],
+) -> Result<(Attribute, &[Token]), Halt>
+    requires { levels ≤ 32 }
+    ensures { Gives (λ x. (x.0, x.1.now)) result (attribute_at levels tokens.now) }
+{
+    let (readonly, rest) = word_flag(tokens, b"readonly");
+    let rest = word(rest, b"attribute")?;
+    let (of, rest) = type_name(alloc, levels, rest)?;
+    let (names, rest) = joined::<Identifier>(alloc, rest, b",")?;
+    Ok((
+        Attribute {
+            readonly,
+            of,
+            names,
+        },
+        rest,
+    ))
+}

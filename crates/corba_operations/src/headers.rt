@@ -1,0 +1,28 @@
+// Names that refer to interfaces and exceptions.
+ghost use Rattle.std.specs.Prelude.{◌≡◌, ◌≤◌};
+
+use crate::tree::Reference;
+use corba_exprs::scoped;
+use idl_lex::Token;
+use std::alloc::Global;
+use syntax_kit::{Halt, Nested, begins_mark};
+
+impl Nested for Reference {
+    ghost use Rattle.corba_operations.specs.Readers.{is_further, reference_at};
+
+    ghost goes = { is_further };
+
+    ghost within = { reference_at };
+
+    fn is_next(tokens: &[Token]) -> bool {
+        begins_mark(tokens, b",")
+    }
+
+    fn read(alloc: Global, levels: u32, tokens: &[Token]) -> Result<(Self, &[Token]), Halt> {
+        if levels == 0 {
+            return Err(Halt::Syntax);
+        }
+        let (name, rest) = scoped(alloc, tokens)?;
+        Ok((Reference { name }, rest))
+    }
+}

@@ -1,0 +1,16 @@
+//! The attributes and operations of CORBA IDL (CORBA, chapter on IDL syntax and semantics).
+//!
+//! [`attribute`] and [`operation`] read one from the front of some tokens.
+#![tactic(auto)]
+
+mod attributes;
+mod headers;
+mod laws;
+mod operations;
+mod optional;
+mod tree;
+
+pub use attributes::{attribute, begins_attribute};
+pub use laws::{one_attribute, one_operation};
+pub use operations::operation;
+pub use tree::{Attribute, Direction, Operation, Parameter, Reference};
