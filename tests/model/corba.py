@@ -1,5 +1,7 @@
 """Texts in the CORBA interface language (OMG CORBA, chapter on IDL syntax and semantics; docs/GRAMMAR.md): tokens and trees.
 
+The lexer has the rules of all three languages; mig.py has the grammar of MIG.
+
 The grammar is a table of rules, and the reader tries every way in which a rule can match from a place on. It chooses
 nothing in advance, so it needs no rule for which `>>` is a shift. As all of the model it is written from the standard
 and docs/, with nothing of the crates in it.
@@ -38,7 +40,13 @@ CORBA_FORMS = {
     "string": rb'"(?:[ !#-\[\]-~]|' + ESCAPE + rb')*"',
     **ONC_FORMS,
 }
-FORMS = {front: {kind: re.compile(form, re.S) for kind, form in forms.items()} for front, forms in (("onc", ONC_FORMS), ("corba", CORBA_FORMS))}
+IMPORT_FORMS = {
+    "file name": rb'<[^>\n]*>|"[^"\n]*"',
+    **ONC_FORMS,
+}
+FORMS = {name: {kind: re.compile(form, re.S) for kind, form in forms.items()}
+         for name, forms in (("onc", ONC_FORMS), ("corba", CORBA_FORMS), ("mig", ONC_FORMS), ("mig import", IMPORT_FORMS))}
+IMPORTS = ("import", "uimport", "simport")
 TO_LINE_END = re.compile(rb"[^\n]*")
 MARKER = re.compile(rb"#[\t\v\f\r ]*(?:[0-9]|line)")
 NUMBER = re.compile(rb"0[0-7]*|[1-9][0-9]*|0x[0-9a-fA-F]+")
@@ -75,7 +83,15 @@ def value_of(kind, octets, place):
         return number_of(octets, place)
     if kind in ("character", "string"):
         return codes_of(octets[1:-1])
+    if kind == "file name":
+        return octets[1:-1]
     return octets.decode()
+
+
+def forms_after(tokens, front):
+    """The forms of what comes next: in mig a file may be named after a word that imports it."""
+    imports = front == "mig" and tokens and tokens[-1].kind == "word" and tokens[-1].value.lower() in IMPORTS
+    return FORMS["mig import" if imports else front]
 
 
 def tokens_of(text, front="corba"):
@@ -86,7 +102,7 @@ def tokens_of(text, front="corba"):
         if end is not None:
             place = end
             continue
-        kind, found = next(((kind, form.match(text, place)) for kind, form in FORMS[front].items() if form.match(text, place)), (None, None))
+        kind, found = next(((kind, form.match(text, place)) for kind, form in forms_after(tokens, front).items() if form.match(text, place)), (None, None))
         if found is None or kind == "open":
             raise Fault(f"{'OpenComment' if kind else 'BadOctet'} {place}")
         if kind not in ("blank", "comment", "line comment"):
@@ -181,8 +197,12 @@ def rules_of(grammar):
     return rules
 
 
+def words_of(grammar):
+    return set(re.findall(r'"(\w+)"', grammar))
+
+
 RULES = rules_of(GRAMMAR)
-WORDS = set(re.findall(r'"(\w+)"', GRAMMAR))
+WORDS = words_of(GRAMMAR)
 
 
 # ---- trees
@@ -201,6 +221,8 @@ class Reading:
     A tree is the name of its rule with its parts: tokens, words and marks, and trees. A rule whose only part is a tree or
     a token is that part. Beyond the last level nothing has a tree.
     """
+
+    kinds, rules = KINDS, RULES
 
     def __init__(self, tokens, levels=LEVELS):
         self.tokens, self.levels, self.known = tokens, levels, {}
@@ -250,15 +272,15 @@ class Reading:
         return self.known[key]
 
     def trees(self, name, place, level):
-        if name in KINDS:
+        if name in self.kinds:
             return self.leaf(name, place)
-        found = self.ends(RULES[name], place, level)
+        found = self.ends(self.rules[name], place, level)
         return {end: parts if len(parts) == 1 and isinstance(parts[0], tuple) else ((name, *parts),) for end, parts in found.items()}
 
     def leaf(self, name, place):
         """A token of a kind. A word that a rule quotes is not an identifier, and one leading `_` is not part of a name."""
         token = self.token(place)
-        if token is None or place % 2 or token.kind != KINDS[name] or token.value in WORDS and name == "identifier":
+        if token is None or place % 2 or token.kind != self.kinds[name] or token.value in WORDS and name == "identifier":
             return {}
         return {place + 2: (Token(name, token.value.removeprefix("_"), token.line) if name == "identifier" else token,)}
 
