@@ -1,0 +1,5 @@
+pub mod Cases
+pub mod Chains
+pub mod Within
+pub mod Again
+pub mod ExpressionsRead
