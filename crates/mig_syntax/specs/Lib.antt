@@ -5,3 +5,5 @@ pub mod TreeFalls
 pub mod Words
 pub mod Spelling
 pub mod Readers
+pub mod Derivation
+pub mod StatementReaders
