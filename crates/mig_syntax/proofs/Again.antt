@@ -4,7 +4,7 @@ use Rattle.std.specs.Prelude.{codes}
 use Rattle.std.proofs.lemmas.Bool.{le-leb, eq-eqb, ne_eqb, cases_lt}
 use Rattle.idl_lex.specs.declared.kinds.Token.{Token}
 use Rattle.idl_lex.specs.declared.kinds.TokenKind.TheVariants as K
-use Rattle.syntax_kit.specs.Reading.{Reader, mark_is, begins_with}
+use Rattle.syntax_kit.specs.Reading.{Reader, mark_is}
 use Rattle.syntax_kit.specs.Grammar.{mark, number, ◌&◌, kinds}
 use Rattle.syntax_kit.proofs.Grammars.{parted}
 use Rattle.syntax_kit.proofs.Leaves.{one_kind, number_reads, leads_number, is_number, begins_not, apart_mark}

@@ -1,5 +1,5 @@
 -- What each function of the parser reads: a tool beside Spelling, tied to it in proofs/.
-use Rattle.std.specs.Prelude.{Bool, ◌==◌, nat_le, ◌⊎◌, ℕ, ℤ, zero, suc, max, List, [], ◌∷◌, drop, Option, Some, None, codes, if◌then◌else◌}
+use Rattle.std.specs.Prelude.{◌==◌, nat_le, ◌⊎◌, ℕ, ℤ, zero, suc, max, List, [], ◌∷◌, drop, Option, Some, None, codes, if◌then◌else◌}
 use Rattle.std.proofs.Common.{inl, inr}
 use Rattle.std.specs.Str.{bytes_eq}
 use Rattle.idl_lex.specs.declared.kinds.Token.{Token}

@@ -1,12 +1,12 @@
 //! The syntax of MIG definition files (Mach 3 Server Writer's Guide, chapter on MIG).
 //!
-//! [`expression`] reads an expression from the front of some tokens; [`Subsystem`] is the tree of a
-//! file.
+//! [`parse`] gives the tree of a file's tokens, or the line of the statement that has none.
 #![tactic(auto)]
 
 mod expressions;
 mod laws;
 mod operators;
+mod parsing;
 mod routines;
 mod statements;
 mod tree;
@@ -15,7 +15,9 @@ mod words;
 
 pub use expressions::expression;
 pub use laws::one_expression;
+pub use parsing::{one_tree, parse, tokens_are_decided};
+pub use syntax_kit::SyntaxErr;
 pub use tree::{
-    Direction, Expr, Importer, Node, Operator, Parameter, Routine, Side, Statement, Subsystem, Tree,
-    TypeForm,
+    Direction, Expr, Importer, Node, Operator, Parameter, Routine, Side, Statement, Subsystem,
+    Tree, TypeForm,
 };
