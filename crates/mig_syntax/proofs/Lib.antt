@@ -1,0 +1,10 @@
+pub mod Cases
+pub mod Chains
+pub mod Within
+pub mod Again
+pub mod ExpressionsRead
+pub mod WordsRead
+pub mod TypesRead
+pub mod RoutinesRead
+pub mod StatementsRead
+pub mod Fronts

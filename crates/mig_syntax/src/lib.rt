@@ -1,0 +1,23 @@
+//! The syntax of MIG definition files (Mach 3 Server Writer's Guide, chapter on MIG).
+//!
+//! [`parse`] gives the tree of a file's tokens, or the line of the statement that has none.
+#![tactic(auto)]
+
+mod expressions;
+mod laws;
+mod operators;
+mod parsing;
+mod routines;
+mod statements;
+mod tree;
+mod types;
+mod words;
+
+pub use expressions::expression;
+pub use laws::one_expression;
+pub use parsing::{one_tree, parse, tokens_are_decided};
+pub use syntax_kit::SyntaxErr;
+pub use tree::{
+    Direction, Expr, Importer, Node, Operator, Parameter, Routine, Side, Statement, Subsystem,
+    Tree, TypeForm,
+};
