@@ -42,22 +42,25 @@ pub fn answer(alloc: Global, line: &str) -> Result<String, Bad> {
         Err(_) => return Err(Bad::Row("no JSON")),
     };
     let text = text_of(alloc, &row)?;
-    let onc = match row.get("front") {
-        Some(front) => front.as_str() == Some("onc"),
-        None => false,
-    };
-    let read = if onc {
-        lex(alloc, Front::Onc, text.as_bytes())
-    } else {
-        lex(alloc, Front::Corba, text.as_bytes())
-    };
-    match read {
+    match lex(alloc, front_of(&row), text.as_bytes()) {
         Ok(tokens) => told(alloc, &row, &tokens),
         Err(LexErr::BadOctet(at)) => Ok(format!(in alloc; "BadOctet {at}")?),
         Err(LexErr::OpenComment(at)) => Ok(format!(in alloc; "OpenComment {at}")?),
         Err(LexErr::Wide(at)) => Ok(format!(in alloc; "Wide {at}")?),
         Err(LexErr::Directive(at)) => Ok(format!(in alloc; "Directive {at}")?),
         Err(LexErr::NoMemory) => Err(Bad::NoMemory),
+    }
+}
+
+/// The language of a case's text: CORBA IDL where the case names no other.
+fn front_of(row: &Json) -> Front {
+    match row.get("front") {
+        Some(front) => match front.as_str() {
+            Some("onc") => Front::Onc,
+            Some("mig") => Front::Mig,
+            _ => Front::Corba,
+        },
+        None => Front::Corba,
     }
 }
 
@@ -104,6 +107,7 @@ fn told(alloc: Global, row: &Json, tokens: &Tokens) -> Result<String, Bad> {
     match ask.as_str() {
         Some("lex") => tokens_told(alloc, tokens.as_slice()),
         Some("file") => file_told(alloc, tokens),
+        Some("mig file") => mig_file_told(alloc, tokens),
         Some("type") => type_told(alloc, levels, tokens.as_slice()),
         Some("expression") => expression_told(alloc, levels, tokens.as_slice()),
         Some("declaration") => declaration_told(alloc, levels, tokens.as_slice()),
@@ -123,6 +127,15 @@ fn tokens_told(alloc: Global, tokens: &[Token]) -> Result<String, Bad> {
 /// `ok`, or the line where the first definition that fails begins.
 fn file_told(alloc: Global, tokens: &Tokens) -> Result<String, Bad> {
     match parse(alloc, tokens) {
+        Ok(_) => Ok(format!(in alloc; "ok")?),
+        Err(SyntaxErr::Syntax(line)) => Ok(format!(in alloc; "syntax {line}")?),
+        Err(SyntaxErr::NoMemory) => Err(Bad::NoMemory),
+    }
+}
+
+/// `ok`, or the line where the first statement that fails begins.
+fn mig_file_told(alloc: Global, tokens: &Tokens) -> Result<String, Bad> {
+    match mig_syntax::parse(alloc, tokens) {
         Ok(_) => Ok(format!(in alloc; "ok")?),
         Err(SyntaxErr::Syntax(line)) => Ok(format!(in alloc; "syntax {line}")?),
         Err(SyntaxErr::NoMemory) => Err(Bad::NoMemory),
