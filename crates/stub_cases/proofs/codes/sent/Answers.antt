@@ -14,7 +14,7 @@ head = record { id = 9; remote = 0; local = 0; wants = true; order = Big }
 is_head : IsHead head
 is_head = record { id = omega arith; remote = omega arith; local = omega arith }
 
-pub run_send-requires : goal.run_send-requires-clause-covered
+pub run_send-requires : goal.run_send-requires
 run_send-requires c =
     subst (λ (n : ℕ). AreCovered (sent_steps c.in_ok-code.code head (seen c.args.value.now)) n)
     (sym (ap (λ (b : Buf). length b.done) c.in_ok-buf.ensures))
