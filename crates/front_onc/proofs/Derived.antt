@@ -13,7 +13,8 @@ use Rattle.onc_syntax.specs.declared.tree.Case.{Case}
 use Rattle.onc_syntax.specs.declared.tree.Union.{Union}
 use Rattle.onc_syntax.specs.declared.tree.Def.{Def}
 use Rattle.onc_syntax.specs.declared.tree.Def.TheVariants as D
-use Rattle.front_onc.specs.Resolved.{is_some_list, has_label, is_whole, IsWhole}
+use Rattle.name_kit.specs.Lists.{is_some_list}
+use Rattle.front_onc.specs.Resolved.{has_label, is_whole, IsWhole}
 
 back : (P Q : Text) (ks : List TokenKind) → (P & Q) ks → (b : List TokenKind) × Q b
 back P Q ks (a, b, e, p, q) = (b, q)

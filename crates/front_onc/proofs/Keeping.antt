@@ -1,13 +1,11 @@
 -- Every definition keeps what makes a unit sound.
-use Rattle.std.proofs.Common.{◌≡◌, ℤ, ℕ, zero, suc, ◌+◌, ◌<◌, ◌≤◌, Bool, true, false, ◌||◌, List, [], ◌∷◌, ◌++◌, length, map, None, refl, sym, ap, subst, ◌∙◌, arith}
+use Rattle.std.proofs.Common.{◌≡◌, ℤ, ℕ, ◌+◌, ◌<◌, ◌≤◌, Bool, true, false, ◌||◌, List, [], ◌∷◌, ◌++◌, length, map, None, refl, sym, ap, subst, ◌∙◌, arith}
 use Rattle.std.specs.Prelude.{Ok}
-use Rattle.std.specs.List.{list_any, list_all}
-use Rattle.std.specs.Ordering.{int_eq}
+use Rattle.std.specs.List.{list_all}
 use Rattle.std.proofs.lemmas.Bool.{and_parts}
 use Rattle.std.proofs.lemmas.List.{length-append, length-map}
-use Rattle.std.proofs.lemmas.List.{get_or_push}
 use Rattle.aoi.specs.declared.faults.NameFault.TheVariants.{Twice}
-use Rattle.aoi.specs.Shapes.{Shape, void, number, enumeration, structure, named, members_of}
+use Rattle.aoi.specs.Shapes.{Shape, number, enumeration, structure, members_of}
 use Rattle.aoi.specs.Sound.{unfolded, is_sound_type, are_sound_types}
 use Rattle.onc_syntax.specs.declared.tree.Value.{Value}
 use Rattle.onc_syntax.specs.declared.tree.Decl.{Decl}
@@ -18,10 +16,15 @@ use Rattle.onc_syntax.specs.declared.tree.Version.{Version}
 use Rattle.onc_syntax.specs.declared.tree.Union.{Union}
 use Rattle.onc_syntax.specs.declared.tree.Def.{Def}
 use Rattle.onc_syntax.specs.declared.tree.Def.TheVariants as D
-use Rattle.front_onc.specs.declared.meaning.Tag.{Tag}
-use Rattle.front_onc.specs.declared.meaning.Tag.TheVariants as tag
-use Rattle.front_onc.specs.declared.meaning.Use.{Use}
-use Rattle.front_onc.specs.declared.meaning.Use.TheVariants.{Number, Declared}
+use Rattle.name_kit.specs.declared.uses.Tag.{Tag}
+use Rattle.name_kit.specs.declared.uses.Tag.TheVariants as tag
+use Rattle.name_kit.specs.declared.uses.Use.TheVariants.{Declared}
+use Rattle.name_kit.specs.Labels.{is_label}
+use Rattle.name_kit.specs.Lists.{is_some_list}
+use Rattle.name_kit.proofs.Tables.{append_map}
+use Rattle.name_kit.proofs.Standing.{EnumIs, TagIs, FewerBelow, fewer_same}
+use Rattle.name_kit.proofs.Forming.{struct_sound}
+use Rattle.name_kit.proofs.Numbering.{numbers}
 use Rattle.front_onc.specs.declared.meaning.Form.{Form}
 use Rattle.front_onc.specs.declared.meaning.Form.TheVariants as F
 use Rattle.front_onc.specs.declared.meaning.Meaning.{Meaning}
@@ -29,19 +32,18 @@ use Rattle.front_onc.specs.declared.meaning.Meaning.TheVariants as M
 use Rattle.name_kit.specs.Answers.{refused, given}
 use Rattle.front_onc.specs.Names.{Scope, value, type_use, is_declared}
 use Rattle.front_onc.specs.State.{State, counted, declared, with_type}
-use Rattle.front_onc.specs.Declarations.{form, shape, tag_of, tag_of_use, shape_of_use, name_of, exactly, at_most, typedef, members_on, struct_on}
-use Rattle.front_onc.specs.Enums.{is_label, is_item, items_on, enum_on}
+use Rattle.front_onc.specs.Declarations.{form, shape, tag_of, name_of, exactly, at_most, typedef, members_on, struct_on}
+use Rattle.front_onc.specs.Enums.{is_item, items_on, enum_on}
 use Rattle.front_onc.specs.Unions.{union_shape, union_on}
 use Rattle.front_onc.specs.Programs.{number_of, versions_on, program_on}
-use Rattle.front_onc.specs.Resolved.{const_on, defined, defined_on, start, is_some_list, has_label, is_whole}
-use Rattle.front_onc.proofs.Parts.{then_ok, ok_same}
-use Rattle.front_onc.proofs.Tables.{append_map}
-use Rattle.front_onc.proofs.Growing.{at, types_push}
-use Rattle.front_onc.proofs.Standing.{Ends, EnumIs, TagIs, UseIs, MeaningIs, ScopeIs, FewerBelow, ends_grow, scope_grow, scope_push, type_use_is}
-use Rattle.front_onc.proofs.Forming.{form_sound, members_are, members_some, struct_sound}
-use Rattle.front_onc.proofs.Different.{same_test}
-use Rattle.front_onc.proofs.Numbering.{ItemsAre, numbers, items_are, items_some, enum_sound}
-use Rattle.front_onc.proofs.Labelling.{number_ends, named_ends, union_sound}
+use Rattle.front_onc.specs.Resolved.{const_on, defined, defined_on, start, has_label, is_whole}
+use Rattle.name_kit.proofs.Parts.{then_ok, ok_same}
+use Rattle.name_kit.proofs.Growing.{types_push}
+use Rattle.name_kit.proofs.Tagging.{last_is, enum_ends, use_tagged, items_turned}
+use Rattle.front_onc.proofs.Standing.{MeaningIs, ScopeIs, scope_grow, scope_push, type_use_is}
+use Rattle.front_onc.proofs.Forming.{form_sound, members_are, members_some}
+use Rattle.front_onc.proofs.Numbering.{ItemsAre, items_are, items_some, enum_sound}
+use Rattle.front_onc.proofs.Labelling.{union_sound}
 use Rattle.front_onc.proofs.Offering.{shapes_of, InterfacesAre, interfaces_grow, Offers, versions_are}
 
 -- what makes the unit of a state sound
@@ -85,9 +87,6 @@ typed_is name new t s take =
       interfaces = rw grown (interfaces_grow (length old) (length (old ++ new ∷ [])) s.interfaces (omega (arith, count)) take.interfaces);
     }
 
-fewer_same : (count : ℕ) (labels : List (ℕ × ℤ)) → FewerBelow count labels labels
-fewer_same count labels j n lt h = h
-
 -- the same where names and labels are as they were
 takes : (s : State) (new : Shape) (t : Tag) → StateIs s → is_sound_type (shapes_of s) (length (shapes_of s)) new ≡ true → TagIs (shapes_of s ++ new ∷ []) s.labels (length (shapes_of s)) t → Takes s new t
 takes s new t is sound tagged = record {
@@ -100,28 +99,6 @@ takes s new t is sound tagged = record {
 }
 
 -- ---- what a new type is as a tag
-
-last_is : (types : List Shape) (new : Shape) → at (types ++ new ∷ []) (length types) ≡ new
-last_is types new = get_or_push types new void (length types) refl
-
-enum_ends : (n : ℕ) (types : List Shape) (limit : ℕ) (items : List (List ℕ × ℤ)) → unfolded n types limit (enumeration items) ≡ enumeration items
-enum_ends zero types limit items = refl
-enum_ends (suc n) types limit items = refl
-
-new_named : (types : List Shape) (j : ℕ) (e : Shape) → j < length types → Ends types j e → Ends (types ++ named j ∷ []) (length types) e
-new_named types j e lt ends n le =
-    let new = named j in
-    ap (unfolded n (types ++ new ∷ []) (length types)) (last_is types new)
-    ∙ named_ends (types ++ new ∷ []) n (length types) j e le lt (ends_grow types (new ∷ []) j e lt ends)
-
-longer : (types : List Shape) (new : Shape) (j : ℕ) → j < length types → j < length (types ++ new ∷ [])
-longer types new j lt = let count = length-append types (new ∷ []) in omega (arith, lt, count)
-
-use_tagged : (types : List Shape) (labels : List (ℕ × ℤ)) (u : Use) → UseIs types labels u → TagIs (types ++ shape_of_use u ∷ []) labels (length types) (tag_of_use u)
-use_tagged types labels (Number k) is = λ n le. ap (unfolded n (types ++ number k ∷ []) (length types)) (last_is types (number k)) ∙ number_ends n (types ++ number k ∷ []) (length types) k
-use_tagged types labels (Declared j (tag.Number kind)) is = new_named types j (number kind) is.0 is.1
-use_tagged types labels (Declared j (tag.Enum k)) is = record { below = longer types (named j) k is.1.below; items = is.1.items; ends = new_named types j (enumeration is.1.items) is.0 is.1.ends; numbers = is.1.numbers }
-use_tagged types labels (Declared j tag.Other) is = tt
 
 form_tagged : (types : List Shape) (labels : List (ℕ × ℤ)) (scope : Scope) (d : ℕ) (taken : Bool) (decl : Decl) (f : Form) → ScopeIs types labels scope → form scope d taken decl ≡ Ok f → TagIs (types ++ shape f ∷ []) labels (length types) (tag_of f)
 form_tagged types labels scope d taken (L.Plain t n) f is h =
@@ -175,10 +152,6 @@ union_is d s out u is some h =
     let used = type_use_is (shapes_of s) s.labels s.scope d u.tag b.given is.scope b.first in
     let take = takes s c.given tag.Other is (union_sound s d b.given u c.given is.scope used some c.first) tt in
     subst StateIs (ok_same (with_type u.name c.given tag.Other s) out c.rest) (typed_is u.name c.given tag.Other s take)
-
-items_turned : (items : List (List ℕ × ℤ)) (n : ℤ) → list_any (λ i. int_eq i.1 n) items ≡ list_any (int_eq n) (numbers items)
-items_turned [] n = refl
-items_turned (i ∷ items) n = rw (same_test i.1 n, items_turned items n) refl
 
 constants_are : (types : List Shape) (labels : List (ℕ × ℤ)) (items : List (List ℕ × ℤ)) → ScopeIs types labels (map (λ i. (i.0, M.Constant i.1)) items)
 constants_are types labels [] = tt

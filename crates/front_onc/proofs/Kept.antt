@@ -1,33 +1,25 @@
 -- Names that stay undeclared.
-use Rattle.std.proofs.Common.{◌≡◌, ℕ, ℤ, Bool, true, false, List, [], ◌∷◌, ◌++◌, refl, sym, ap, subst, Option, nat_le, length, ◌-◌, ◌∙◌, if◌then◌else◌}
+use Rattle.std.proofs.Common.{◌≡◌, ℕ, ℤ, false, List, [], ◌∷◌, ◌++◌, refl, sym, ap, subst, Option, ◌∙◌}
 use Rattle.std.specs.Prelude.{Ok}
 use Rattle.std.specs.Str.{bytes_eq}
 use Rattle.std.proofs.lemmas.Bool.{or_parts, or_from}
-use Rattle.kit_base.specs.Limits.{most_labels}
-use Rattle.aoi.specs.declared.faults.NameFault.TheVariants.{Twice, Limit}
+use Rattle.aoi.specs.declared.faults.NameFault.TheVariants.{Twice}
 use Rattle.onc_syntax.specs.declared.tree.Item.{Item}
 use Rattle.front_onc.specs.declared.meaning.Meaning.{Meaning}
 use Rattle.front_onc.specs.declared.meaning.Meaning.TheVariants.{Constant}
-use Rattle.name_kit.specs.Answers.{Answer, refused}
+use Rattle.name_kit.specs.Answers.{refused}
 use Rattle.front_onc.specs.Names.{Scope, is_declared}
 use Rattle.front_onc.specs.State.{State, declared}
-use Rattle.front_onc.specs.Enums.{with_label, is_label, item_number, short, item_on, items_on, is_item}
-use Rattle.front_onc.proofs.Parts.{then_ok, ok_same}
+use Rattle.front_onc.specs.Enums.{with_label, item_number, short, item_on, items_on, is_item}
+use Rattle.name_kit.proofs.Parts.{then_ok, ok_same}
+use Rattle.name_kit.specs.Labels.{labelled}
 
 pub not_behind : (name : List ℕ) (scope : Scope) (n : List ℕ) (m : Meaning) → is_declared name scope ≡ false → bytes_eq name n ≡ false → is_declared name (scope ++ (n, m) ∷ []) ≡ false
 not_behind name [] n m a b = or_from _ _ b refl
 not_behind name (e ∷ es) n m a b = let h = or_parts _ _ a in or_from _ _ h.0 (not_behind name es n m h.1 b)
 
-label_scope_by : (b : Bool) (s t : State) (rest : Answer State) → (rest ≡ Ok t → t.scope ≡ s.scope) → (if b then Ok s else rest) ≡ Ok t → t.scope ≡ s.scope
-label_scope_by true s t rest f h = ap (λ z. z.scope) (sym (ok_same _ _ h))
-label_scope_by false s t rest f h = f h
-
 pub label_scope : (d k place : ℕ) (s t : State) (n : ℤ) → with_label d k place s n ≡ Ok t → t.scope ≡ s.scope
-label_scope d k place s t n =
-    let next = record s { labels = s.labels ++ (k, n) ∷ [] } in
-    label_scope_by (is_label k n s.labels) s t _ (λ h.
-    let x = then_ok (refused Limit d (nat_le most_labels (length s.labels - place))) (λ _. Ok next) t h in
-    ap (λ z. z.scope) (sym (ok_same next t x.rest)))
+label_scope d k place s t n h = let x = then_ok (labelled d k place s.labels n) _ t h in ap (λ z. z.scope) (sym (ok_same (record s { labels = x.given }) t x.rest))
 
 pub item_keeps : (name : List ℕ) (d k place : ℕ) (s : State) (previous : Option ℤ) (i : Item) (r : State × ℤ) → item_on d k place s previous i ≡ Ok r
     → is_declared name s.scope ≡ false → bytes_eq name i.name ≡ false → is_declared name r.0.scope ≡ false

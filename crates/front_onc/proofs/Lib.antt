@@ -1,12 +1,9 @@
 mod Rows
 pub mod Tables
-pub mod Parts
 pub mod Kept
 pub mod Steps
 pub mod Offers
-pub mod Growing
 pub mod Standing
-pub mod Different
 pub mod Forming
 pub mod Numbering
 pub mod Labelling

@@ -9,9 +9,9 @@ use Rattle.aoi.specs.declared.units.UnitErr.TheVariants as err
 use Rattle.aoi.specs.Plain.{plain_interface}
 use Rattle.aoi.specs.Units.{Parts, is_twice}
 use Rattle.name_kit.specs.Answers.{fault}
+use Rattle.name_kit.proofs.Tables.{any_map, append_map}
 use Rattle.front_onc.specs.Held.{Held, state}
 use Rattle.front_onc.specs.Programs.{offered, are_twins}
-use Rattle.front_onc.proofs.Tables.{any_map, append_map}
 
 twins : (i : Interface) (is : List Interface) → list_any (λ j. are_twins j (plain_interface i)) (map plain_interface is) ≡ is_twice i is
 twins i is = sym (any_map (λ j. are_twins j (plain_interface i)) plain_interface is)

@@ -1,14 +1,11 @@
 -- A loop's step along a list.
-use Rattle.std.proofs.Common.{◌≡◌, ℕ, ℤ, suc, ◌+◌, ◌<◌, List, [], ◌∷◌, ◌++◌, length, drop, get_or, Option, Some, sym, ap, ◌∙◌, arith}
+use Rattle.std.proofs.Common.{◌≡◌, ℕ, ℤ, ◌+◌, ◌<◌, List, [], ◌∷◌, ◌++◌, length, drop, get_or, Option, Some, sym, ap, ◌∙◌}
 use Rattle.std.specs.Prelude.{Ok}
-use Rattle.std.proofs.Math.Seq.{drop-cons}
 use Rattle.onc_syntax.specs.declared.tree.Item.{Item}
 use Rattle.name_kit.specs.Answers.{Answer, and_then}
+use Rattle.name_kit.proofs.Steps.{drop_step}
 use Rattle.front_onc.specs.State.{State}
 use Rattle.front_onc.specs.Enums.{item_on, items_on}
-
-pub drop_step : {A : Type 0} (xs : List A) (j : ℕ) (x d : A) → j < length xs → x ≡ get_or xs j d → drop j xs ≡ x ∷ drop (j + 1) xs
-drop_step xs j x d lt is = let next : j + 1 ≡ suc j = omega arith in rw next (drop-cons xs j d lt ∙ ap (λ z. z ∷ drop (suc j) xs) (sym is))
 
 pub items_step : (d k place : ℕ) (s t : State) (done more : List (List ℕ × ℤ)) (previous : Option ℤ) (list : List Item) (j : ℕ) (i e : Item) (n m : ℤ) (item : List ℕ × ℤ) (all : Answer (State × List (List ℕ × ℤ)))
     → all ≡ items_on d k place s done previous (drop j list) → j < length list → i ≡ get_or list j e → item_on d k place s previous i ≡ Ok (t, n) → m ≡ n → item ≡ (i.name, m) → more ≡ done ++ item ∷ []

@@ -4,19 +4,19 @@ use Rattle.mint.specs.declared.kind.Kind.TheVariants as kind
 use Rattle.mint.specs.declared.kind.Count.{Count}
 use Rattle.mint.specs.declared.kind.Count.TheVariants.{Exactly, AtMost, Any}
 use Rattle.aoi.specs.declared.faults.NameFault.TheVariants.{Twice}
-use Rattle.aoi.specs.Shapes.{Shape, number, text, array, structure, optional, named, members_of}
+use Rattle.aoi.specs.Shapes.{Shape, number, text, array, structure, optional, members_of}
 use Rattle.onc_syntax.specs.declared.tree.Value.{Value}
 use Rattle.onc_syntax.specs.declared.tree.Decl.{Decl}
 use Rattle.onc_syntax.specs.declared.tree.Decl.TheVariants as D
 use Rattle.onc_syntax.specs.declared.tree.Member.{Member}
-use Rattle.front_onc.specs.declared.meaning.Tag.{Tag}
-use Rattle.front_onc.specs.declared.meaning.Tag.TheVariants as tag
-use Rattle.front_onc.specs.declared.meaning.Use.{Use}
-use Rattle.front_onc.specs.declared.meaning.Use.TheVariants.{Number, Declared}
+use Rattle.name_kit.specs.declared.uses.Tag.{Tag}
+use Rattle.name_kit.specs.declared.uses.Tag.TheVariants as tag
+use Rattle.name_kit.specs.Names.{has}
 use Rattle.front_onc.specs.declared.meaning.Form.{Form}
 use Rattle.front_onc.specs.declared.meaning.Form.TheVariants as F
 use Rattle.name_kit.specs.Answers.{Answer, and_then, refused, natural}
-use Rattle.front_onc.specs.Names.{Scope, has, is_declared, value, type_use}
+use Rattle.name_kit.specs.Uses.{shape_of_use, tag_of_use}
+use Rattle.front_onc.specs.Names.{Scope, is_declared, value, type_use}
 use Rattle.front_onc.specs.State.{State, with_type}
 
 -- the name that a declaration declares
@@ -48,11 +48,6 @@ form scope d taken (D.OpaqueArray n v) = and_then (refused Twice d taken) (λ _.
 form scope d taken (D.OpaqueList n v) = and_then (refused Twice d taken) (λ _. and_then (at_most scope d v) (λ c. Ok (F.Opaque c)))
 form scope d taken (D.Text n v) = and_then (refused Twice d taken) (λ _. and_then (at_most scope d v) (λ c. Ok (F.Text c)))
 
--- the plain tree of a type by its name
-abbrev pub shape_of_use : Use → Shape
-shape_of_use (Number k) = number k
-shape_of_use (Declared k tag) = named k
-
 -- the plain tree of the type that a declaration makes
 abbrev pub shape : Form → Shape
 shape (F.Plain u) = shape_of_use u
@@ -60,11 +55,6 @@ shape (F.Array u c) = array (shape_of_use u) c
 shape (F.Optional u) = optional (shape_of_use u)
 shape (F.Opaque c) = array (number kind.Octet) c
 shape (F.Text c) = text c
-
--- what a type is as the tag of a union
-abbrev pub tag_of_use : Use → Tag
-tag_of_use (Number k) = tag.Number k
-tag_of_use (Declared k tag) = tag
 
 -- what the type of a declaration is as the tag of a union
 abbrev pub tag_of : Form → Tag

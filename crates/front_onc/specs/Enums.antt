@@ -1,24 +1,19 @@
 -- The types and constants that enums make.
-use Rattle.std.specs.Prelude.{Bool, nat_le, ◌&&◌, ◌||◌, ◌==◌, ℕ, ◌-◌, ℤ, pos, ◌+ℤ◌, List, [], ◌∷◌, ◌++◌, length, Option, Some, None, Ok, if◌then◌else◌}
+use Rattle.std.specs.Prelude.{Bool, ◌||◌, ℕ, ℤ, pos, ◌+ℤ◌, List, [], ◌∷◌, ◌++◌, length, Option, Some, None, Ok, if◌then◌else◌}
 use Rattle.std.specs.List.{list_any}
-use Rattle.std.specs.Ordering.{int_eq}
 use Rattle.std.specs.Str.{bytes_eq}
-use Rattle.kit_base.specs.Limits.{most_labels}
 use Rattle.mint.specs.Kinds.{in_range}
 use Rattle.mint.specs.declared.kind.Kind.TheVariants as kind
-use Rattle.aoi.specs.declared.faults.NameFault.TheVariants.{Twice, Limit, Range}
+use Rattle.aoi.specs.declared.faults.NameFault.TheVariants.{Twice, Range}
 use Rattle.aoi.specs.Shapes.{enumeration}
 use Rattle.onc_syntax.specs.declared.tree.Value.{Value}
 use Rattle.onc_syntax.specs.declared.tree.Item.{Item}
-use Rattle.front_onc.specs.declared.meaning.Tag.TheVariants as tag
+use Rattle.name_kit.specs.declared.uses.Tag.TheVariants as tag
 use Rattle.front_onc.specs.declared.meaning.Meaning.TheVariants as M
 use Rattle.name_kit.specs.Answers.{Answer, fault, and_then, refused}
+use Rattle.name_kit.specs.Labels.{labelled}
 use Rattle.front_onc.specs.Names.{Scope, is_declared, value}
 use Rattle.front_onc.specs.State.{State, declared, with_type}
-
--- a number of an enum
-abbrev pub is_label : ℕ → ℤ → List (ℕ × ℤ) → Bool
-is_label k n labels = list_any (λ l. k == l.0 && int_eq n l.1) labels
 
 -- the number behind the previous one, or 0
 abbrev pub next : Option ℤ → ℤ
@@ -36,9 +31,7 @@ short d n = if in_range kind.I32 n then Ok n else fault Range d
 
 -- a number is one of the k-th type's, of which there are at most 4,096; those of other enums stand before the place
 abbrev pub with_label : ℕ → ℕ → ℕ → State → ℤ → Answer State
-with_label d k place s n =
-    if is_label k n s.labels then Ok s
-    else and_then (refused Limit d (nat_le most_labels (length s.labels - place))) (λ _. Ok (record s { labels = s.labels ++ (k, n) ∷ [] }))
+with_label d k place s n = and_then (labelled d k place s.labels n) (λ labels. Ok (record s { labels = labels }))
 
 -- an item is a constant, and its number one of the enum's
 abbrev pub item_on : ℕ → ℕ → ℕ → State → Option ℤ → Item → Answer (State × ℤ)

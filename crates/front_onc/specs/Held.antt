@@ -1,7 +1,6 @@
 -- What the code holds, as a state.
 use Rattle.std.specs.Prelude.{ℕ, ℤ, List, map}
-use Rattle.aoi.specs.declared.types.Ty.{Ty}
-use Rattle.aoi.specs.Shapes.{Shape, seen}
+use Rattle.aoi.specs.Shapes.{seen}
 use Rattle.aoi.specs.Plain.{plain_interface}
 use Rattle.aoi.specs.Units.{Parts}
 use Rattle.front_onc.specs.Names.{Scope}
@@ -18,7 +17,3 @@ pub record Held : Type 0 where
 -- the same with the unit's plain trees
 abbrev pub state : Held → State
 state h = record { scope = h.scope; labels = h.labels; types = map (λ t. (t.0, seen t.1)) h.unit.types; interfaces = map plain_interface h.unit.interfaces; versions = h.versions; count = h.count }
-
--- arms with the plain trees of their types
-abbrev pub arms_held : List (ℤ × Ty) → List (ℤ × Shape)
-arms_held arms = map (λ a. (a.0, seen a.1)) arms

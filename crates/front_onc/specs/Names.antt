@@ -1,6 +1,5 @@
 -- What names stand for.
 use Rattle.std.specs.Prelude.{Bool, true, false, nat_lt, ◌^◌, ℕ, ℤ, pos, negsuc, neg_ℤ, List, [], ◌∷◌, map, codes, Option, Some, None, Ok, if◌then◌else◌}
-use Rattle.std.specs.List.{list_any}
 use Rattle.std.specs.Str.{bytes_eq}
 use Rattle.mint.specs.declared.kind.Kind.{Kind}
 use Rattle.mint.specs.declared.kind.Kind.TheVariants as kind
@@ -11,11 +10,12 @@ use Rattle.onc_syntax.specs.declared.tree.IntWord.{IntWord}
 use Rattle.onc_syntax.specs.declared.tree.IntWord.TheVariants.{Int, Long, Short, Char, Hyper}
 use Rattle.onc_syntax.specs.declared.tree.TypeName.{TypeName}
 use Rattle.onc_syntax.specs.declared.tree.TypeName.TheVariants as T
-use Rattle.front_onc.specs.declared.meaning.Use.{Use}
-use Rattle.front_onc.specs.declared.meaning.Use.TheVariants.{Number}
+use Rattle.name_kit.specs.declared.uses.Use.{Use}
+use Rattle.name_kit.specs.declared.uses.Use.TheVariants.{Number}
 use Rattle.front_onc.specs.declared.meaning.Meaning.{Meaning}
 use Rattle.front_onc.specs.declared.meaning.Meaning.TheVariants as M
 use Rattle.name_kit.specs.Answers.{Answer, fault}
+use Rattle.name_kit.specs.Names.{has}
 
 -- names in the order of their declarations, each with what it stands for
 abbrev pub Scope : Type 0
@@ -34,10 +34,6 @@ known =
     ∷ (codes "double", M.LeftOut)
     ∷ (codes "quadruple", M.LeftOut)
     ∷ []
-
--- a name is one of these
-abbrev pub has : List ℕ → List (List ℕ) → Bool
-has name names = list_any (bytes_eq name) names
 
 -- a name is declared
 abbrev pub is_declared : List ℕ → Scope → Bool

@@ -9,6 +9,7 @@ use Rattle.onc_syntax.specs.declared.tree.Def.{Def}
 use Rattle.onc_syntax.specs.declared.tree.Def.TheVariants as D
 use Rattle.front_onc.specs.declared.meaning.Meaning.TheVariants as M
 use Rattle.name_kit.specs.Answers.{Answer, and_then, refused}
+use Rattle.name_kit.specs.Lists.{is_some_list}
 use Rattle.front_onc.specs.Names.{known, is_declared, value}
 use Rattle.front_onc.specs.State.{State, counted, declared}
 use Rattle.front_onc.specs.Declarations.{typedef, struct_on}
@@ -43,11 +44,6 @@ abbrev pub resolved : List Def → Answer PlainUnit
 resolved tree = and_then (defined_on start tree) (λ s. Ok (record { types = s.types; interfaces = s.interfaces }))
 
 -- ---- what the grammar sees to
-
--- a list that is not empty
-abbrev pub is_some_list : {A : Type 0} → List A → Bool
-is_some_list [] = false
-is_some_list (x ∷ xs) = true
 
 -- cases of which the first has a label
 abbrev pub has_label : List Case → Bool

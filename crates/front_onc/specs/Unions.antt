@@ -1,39 +1,28 @@
 -- The types that unions make.
-use Rattle.std.specs.Prelude.{Bool, true, false, not, nat_le, ◌||◌, ℕ, ℤ, List, [], ◌∷◌, ◌++◌, map, length, drop, Option, Some, None, Ok}
-use Rattle.std.specs.List.{list_any}
-use Rattle.std.specs.Ordering.{int_eq}
-use Rattle.kit_base.specs.Limits.{most_labels}
-use Rattle.mint.specs.Kinds.{in_range}
-use Rattle.aoi.specs.declared.faults.NameFault.TheVariants.{Twice, Label, Limit, NotType}
+use Rattle.std.specs.Prelude.{ℕ, ℤ, List, [], ◌∷◌, ◌++◌, Option, Some, None, Ok}
+use Rattle.aoi.specs.declared.faults.NameFault.TheVariants.{Twice, NotType}
 use Rattle.aoi.specs.Shapes.{Shape, void, choice, Arms, default_of, arms_of}
 use Rattle.onc_syntax.specs.declared.tree.Arm.{Arm}
 use Rattle.onc_syntax.specs.declared.tree.Arm.TheVariants as A
 use Rattle.onc_syntax.specs.declared.tree.Label.{Label as LabelTree}
 use Rattle.onc_syntax.specs.declared.tree.Case.{Case}
 use Rattle.onc_syntax.specs.declared.tree.Union.{Union}
-use Rattle.front_onc.specs.declared.meaning.Tag.{Tag}
-use Rattle.front_onc.specs.declared.meaning.Tag.TheVariants as tag
-use Rattle.front_onc.specs.declared.meaning.Use.{Use}
+use Rattle.name_kit.specs.declared.uses.Tag.{Tag}
+use Rattle.name_kit.specs.declared.uses.Tag.TheVariants as tag
+use Rattle.name_kit.specs.declared.uses.Use.{Use}
+use Rattle.name_kit.specs.Names.{has}
+use Rattle.name_kit.specs.Uses.{shape_of_use, tag_of_use, is_other}
 use Rattle.front_onc.specs.declared.meaning.Form.{Form}
 use Rattle.name_kit.specs.Answers.{Answer, and_then, refused}
-use Rattle.front_onc.specs.Names.{Scope, has, is_declared, value, type_use}
+use Rattle.name_kit.specs.Labels.{numbered}
+use Rattle.name_kit.specs.Arms.{with_arm}
+use Rattle.front_onc.specs.Names.{Scope, is_declared, value, type_use}
 use Rattle.front_onc.specs.State.{State, with_type}
-use Rattle.front_onc.specs.Declarations.{name_of, form, shape_of_use, shape, tag_of_use}
-use Rattle.front_onc.specs.Enums.{is_label}
-
--- a number that the tag may have
-abbrev pub is_of : List (ℕ × ℤ) → Tag → ℤ → Bool
-is_of labels (tag.Number k) n = in_range k n
-is_of labels (tag.Enum k) n = is_label k n labels
-is_of labels tag.Other n = false
+use Rattle.front_onc.specs.Declarations.{name_of, form, shape}
 
 -- a label behind those that stand before it
 abbrev pub label_on : Scope → List (ℕ × ℤ) → Tag → ℕ → List ℤ → LabelTree → Answer (List ℤ)
-label_on scope labels tag d numbers l =
-    and_then (value scope d l.value) (λ n.
-    and_then (refused Label d (not (is_of labels tag n) || list_any (int_eq n) numbers)) (λ _.
-    and_then (refused Limit d (nat_le most_labels (length numbers))) (λ _.
-    Ok (numbers ++ n ∷ []))))
+label_on scope labels tag d numbers l = and_then (value scope d l.value) (numbered labels tag d numbers)
 
 -- the labels of a case behind those that stand before them
 abbrev pub labels_on : Scope → List (ℕ × ℤ) → Tag → ℕ → List ℤ → List LabelTree → Answer (List ℤ)
@@ -56,14 +45,6 @@ pub record Cases : Type 0 where
   pub names : List (List ℕ)
   pub arms : List (ℤ × Shape)
 
--- an arm for each of the numbers
-abbrev pub arms_for : Shape → List ℤ → List (ℤ × Shape)
-arms_for s numbers = map (λ n. (n, s)) numbers
-
--- an arm for each label that has none
-abbrev pub with_arm : List ℤ → List (ℤ × Shape) → Shape → List (ℤ × Shape)
-with_arm numbers arms s = arms ++ arms_for s (drop (length arms) numbers)
-
 -- a case behind those that stand before it
 abbrev pub case_on : Scope → List (ℕ × ℤ) → Tag → ℕ → Cases → Case → Answer Cases
 case_on scope labels tag d cs c =
@@ -80,11 +61,6 @@ cases_on scope labels tag d cs (c ∷ rest) = and_then (case_on scope labels tag
 abbrev pub other : Scope → ℕ → List (List ℕ) → Option Arm → Answer Arms
 other scope d names None = Ok (default_of None)
 other scope d names (Some a) = and_then (arm_on scope d names a) (λ a. Ok (default_of (Some (arm_shape a.0))))
-
--- not the tag of a union
-abbrev pub is_other : Tag → Bool
-is_other tag.Other = true
-is_other _ = false
 
 -- the type of a union, by the type of its tag
 abbrev pub union_shape : State → ℕ → Use → Union → Answer Shape

@@ -1,6 +1,5 @@
 // Enums.
 ghost use Rattle.std.specs.Prelude.{◌≡◌, ◌≤◌, [], ◌∷◌, None, false, IfOk, OnOk};
-ghost use Rattle.aoi.specs.Shapes.{seen, enumeration};
 ghost use Rattle.name_kit.specs.Answers.{Gives};
 ghost use Rattle.front_onc.specs.Held.{state};
 ghost use Rattle.front_onc.specs.Enums.{next, item_number, short, item_on, items_on, is_item, enum_on};
@@ -9,8 +8,9 @@ use crate::names::Scope;
 use crate::state::Resolver;
 use crate::values::value;
 use crate::{Meaning, NameErr, NameFault, Tag};
-use aoi::{Items, Ty};
+use aoi::Items;
 use kit_base::{Name, NoMemory};
+use name_kit::enum_of;
 use onc_syntax::{Item, Value};
 use std::alloc::Global;
 
@@ -117,12 +117,6 @@ fn is_item(name: &[u8], items: &[Item]) -> bool
         }
     }
     false
-}
-
-fn enum_of(items: Items) -> Ty
-    ensures { seen result ≡ enumeration items }
-{
-    Ty::Enum(items)
 }
 
 /// An enum.

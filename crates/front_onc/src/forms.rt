@@ -1,16 +1,16 @@
 // What declarations make of their types.
 ghost use Rattle.std.specs.Prelude.{◌≡◌, false, IfOk, OnOk};
-ghost use Rattle.aoi.specs.Shapes.{seen, array, optional};
+ghost use Rattle.aoi.specs.Shapes.{seen};
 ghost use Rattle.name_kit.specs.Answers.{Gives};
-ghost use Rattle.front_onc.specs.Declarations.{form, name_of, shape, shape_of_use, tag_of, tag_of_use};
+ghost use Rattle.front_onc.specs.Declarations.{form, name_of, shape, tag_of};
 
 use crate::names::Scope;
 use crate::values::{at_most, exactly, type_use};
-use crate::{Form, NameErr, NameFault, Tag, Use};
+use crate::{Form, NameErr, NameFault, Tag};
 use aoi::Ty;
 use kit_base::{Name, NoMemory};
 use mint::kind::{Count, Kind};
-use name_kit::refuse;
+use name_kit::{array_of, optional_of, refuse, tag_of_use, ty_of_use};
 use onc_syntax::Decl;
 use std::alloc::Global;
 
@@ -71,48 +71,16 @@ pub(crate) fn form(scope: &Scope, number: u32, taken: bool, decl: &Decl) -> Resu
     }
 }
 
-fn array(alloc: Global, item: Ty, count: Count) -> Result<Ty, NoMemory>
-    ensures { IfOk result (λ t. seen t ≡ array (seen item) count) }
-{
-    Ok(Ty::Array(Box::new(alloc, item)?, count))
-}
-
-fn optional(alloc: Global, item: Ty) -> Result<Ty, NoMemory>
-    ensures { IfOk result (λ t. seen t ≡ optional (seen item)) }
-{
-    Ok(Ty::Optional(Box::new(alloc, item)?))
-}
-
-/// The type that a name stands for.
-pub(crate) fn ty_of_use(used: Use) -> Ty
-    ensures { seen result ≡ shape_of_use used }
-{
-    match used {
-        Use::Number(kind) => Ty::Num(kind),
-        Use::Declared(k, _) => Ty::Named(k),
-    }
-}
-
 /// The type of a declaration.
 pub(crate) fn ty(alloc: Global, form: Form) -> Result<Ty, NoMemory>
     ensures { IfOk result (λ t. seen t ≡ shape form) }
 {
     match form {
         Form::Plain(used) => Ok(ty_of_use(used)),
-        Form::Array(used, count) => array(alloc, ty_of_use(used), count),
-        Form::Optional(used) => optional(alloc, ty_of_use(used)),
-        Form::Opaque(count) => array(alloc, Ty::Num(Kind::Octet), count),
+        Form::Array(used, count) => array_of(alloc, ty_of_use(used), count),
+        Form::Optional(used) => optional_of(alloc, ty_of_use(used)),
+        Form::Opaque(count) => array_of(alloc, Ty::Num(Kind::Octet), count),
         Form::Text(count) => Ok(Ty::Text(count)),
-    }
-}
-
-/// What a type is as the tag of a union.
-pub(crate) fn tag_of_use(used: Use) -> Tag
-    ensures { result ≡ tag_of_use used }
-{
-    match used {
-        Use::Number(kind) => Tag::Number(kind),
-        Use::Declared(_, tag) => tag,
     }
 }
 

@@ -5,7 +5,6 @@ mod enums;
 mod forms;
 mod meaning;
 mod names;
-mod numbers;
 mod procedures;
 mod programs;
 mod resolving;
@@ -15,6 +14,7 @@ mod unions;
 mod values;
 
 pub use aoi::{NameErr, NameFault};
-pub use meaning::{Form, Meaning, Tag, Use};
+pub use meaning::{Form, Meaning};
+pub use name_kit::{Tag, Use};
 pub use onc_syntax::{SyntaxErr, Tree, parse};
 pub use resolving::{files_are_whole, resolve};

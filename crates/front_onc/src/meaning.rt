@@ -1,30 +1,15 @@
 // What names stand for, and what a declaration makes of a type.
-use mint::kind::{Count, Kind};
-
-/// What a type is as the tag of a union.
-#[derive(Clone, Copy, Debug, PartialEq, Eq)]
-pub enum Tag {
-    /// A number of this kind.
-    Number(Kind),
-    /// A number of the enum that is this type of the unit.
-    Enum(u32),
-    /// None.
-    Other,
-}
-
-/// A type that a name stands for.
-#[derive(Clone, Copy, Debug, PartialEq, Eq)]
-pub enum Use {
-    Number(Kind),
-    /// A type of the unit by its number, and what it is as a tag.
-    Declared(u32, Tag),
-}
+use mint::kind::Count;
+use name_kit::Use;
 
 /// What a name stands for.
 #[derive(Clone, Copy, Debug, PartialEq, Eq)]
 pub enum Meaning {
+    /// A number.
     Constant(i128),
+    /// A type.
     Type(Use),
+    /// A program.
     Program,
     /// A type of the language that no unit has.
     LeftOut,
@@ -33,9 +18,14 @@ pub enum Meaning {
 /// What a declaration makes of the type that it uses.
 #[derive(Clone, Copy, Debug, PartialEq, Eq)]
 pub enum Form {
+    /// The type itself.
     Plain(Use),
+    /// Elements of the type, in a row.
     Array(Use, Count),
+    /// A value of the type, or none.
     Optional(Use),
+    /// Octets, in a row.
     Opaque(Count),
+    /// A string.
     Text(Count),
 }

@@ -1,9 +1,9 @@
 // Names in the order of their declarations.
 ghost use Rattle.std.specs.Prelude.{◌≡◌, [], ◌∷◌, ◌++◌, false, OnOk, OnErr};
-ghost use Rattle.front_onc.specs.Names.{has, is_declared, meaning_of};
+ghost use Rattle.front_onc.specs.Names.{is_declared, meaning_of};
 
 use crate::Meaning;
-use indexmap::{IndexMap, IndexSet};
+use indexmap::IndexMap;
 use kit_base::NoMemory;
 use std::alloc::Global;
 use std::marker::Model;
@@ -61,50 +61,6 @@ impl Scope {
         let mut key = Vec::new(alloc);
         key.extend_from_slice(name)?;
         self.meanings.insert(key, meaning)?;
-        Ok(())
-    }
-}
-
-/// Names of one place, each different from the others.
-#[derive(Drop)]
-pub(crate) struct Names {
-    names: IndexSet<Vec<u8>>,
-}
-
-impl Model for Names {
-    ghost use Rattle.std.specs.Prelude.{List, ℕ, map};
-    ghost use Rattle.std.specs.Coded.{codes};
-
-    ghost Value = { List (List ℕ) };
-
-    ghost view = { λ s. map (λ n. n.items) s.names.keys };
-}
-
-impl Names {
-    /// No names.
-    pub(crate) fn new(alloc: Global) -> Names
-        ensures { result ≡ [] }
-    {
-        Names {
-            names: IndexSet::new(alloc),
-        }
-    }
-
-    /// Whether a name is one of them.
-    pub(crate) fn has(&self, name: &[u8]) -> bool
-        ensures { result ≡ has name.now self.now }
-    {
-        self.names.contains(name)
-    }
-
-    /// Puts a name behind the others.
-    pub(crate) fn push(&mut self, alloc: Global, name: &[u8]) -> Result<(), NoMemory>
-        requires { has name.now self.old ≡ false }
-        ensures ok { OnOk result (self.new ≡ self.old ++ name.now ∷ []) }
-    {
-        let mut key = Vec::new(alloc);
-        key.extend_from_slice(name)?;
-        self.names.insert(key)?;
         Ok(())
     }
 }

@@ -7,9 +7,7 @@ ghost use Rattle.name_kit.specs.Answers.{Gives};
 ghost use Rattle.front_onc.specs.Held.{state};
 ghost use Rattle.front_onc.specs.Programs.{result_of, parameter, argument, parameters_on, is_void, parameters, procedure_on, procedures_on, operation, operations};
 
-use crate::forms::ty_of_use;
-use crate::names::{Names, Scope};
-use crate::numbers::{add_number, has_number};
+use crate::names::Scope;
 use crate::state::Resolver;
 use crate::values::{number_of, type_use};
 use crate::{NameErr, NameFault};
@@ -18,7 +16,7 @@ use indexmap::IndexSet;
 use kit_base::limits::MOST_OPERATIONS;
 use kit_base::{Name, NoMemory};
 use mint::kind::Count;
-use name_kit::refuse;
+use name_kit::{Names, add_number, has_number, refuse, ty_of_use};
 use onc_syntax::{ProcType, Procedure};
 use std::alloc::Global;
 

@@ -3,11 +3,10 @@ ghost use Rattle.std.specs.Prelude.{◌≡◌, ◌<◌, ◌≤◌, ◌+◌, ◌+
 ghost use Rattle.kit_base.specs.Limits.{most_interfaces, most_operations};
 ghost use Rattle.aoi.specs.Plain.{plain_interface, plain_operation};
 ghost use Rattle.name_kit.specs.Answers.{Gives, given};
+ghost use Rattle.name_kit.specs.Names.{has};
 ghost use Rattle.front_onc.specs.Held.{state};
-ghost use Rattle.front_onc.specs.Names.{has};
 ghost use Rattle.front_onc.specs.Programs.{interface, number_of, version_offered, version_on, versions_on, program_on};
 
-use crate::names::Names;
 use crate::procedures::operations;
 use crate::state::{Resolver, want};
 use crate::values::number_of;
@@ -15,7 +14,7 @@ use crate::{Meaning, NameErr, NameFault};
 use aoi::{Interface, Operations};
 use kit_base::limits::MOST_INTERFACES;
 use kit_base::{Name, NoMemory};
-use name_kit::refuse;
+use name_kit::{Names, refuse};
 use onc_syntax::{Value, Version};
 use std::alloc::Global;
 

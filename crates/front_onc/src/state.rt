@@ -9,17 +9,15 @@ ghost use Rattle.front_onc.specs.Held.{state};
 ghost use Rattle.front_onc.specs.Programs.{offered};
 ghost use Rattle.front_onc.specs.Resolved.{start};
 ghost use Rattle.front_onc.specs.State.{State, counted, declared, with_type};
-ghost use Rattle.front_onc.specs.Enums.{with_label, is_label};
+ghost use Rattle.front_onc.specs.Enums.{with_label};
 ghost use Rattle.aoi.specs.declared.faults.NameFault.TheVariants.{NoMemory as WantOfMemory};
 
 use crate::names::Scope;
-use crate::numbers::{add_label, is_label};
 use crate::{Meaning, NameErr, NameFault, Tag, Use};
 use aoi::{Interface, Ty, Unit, UnitErr};
 use indexmap::IndexSet;
-use kit_base::limits::MOST_LABELS;
 use kit_base::{Name, NoMemory};
-use name_kit::refuse;
+use name_kit::add_label;
 use std::alloc::Global;
 use std::marker::Model;
 
@@ -152,27 +150,18 @@ impl Resolver {
         self.labels.len()
     }
 
-    /// Whether a number is one of the k-th type's.
-    pub(crate) fn is_label(&self, k: u32, n: i128) -> bool
-        ensures { result ≡ is_label k n self.now.labels }
+    /// The numbers that the enums have.
+    pub(crate) fn labels(&self) -> &IndexSet<(u32, i128)>
+        ensures { result.now.keys ≡ self.now.labels }
     {
-        is_label(&self.labels, k, n)
+        &self.labels
     }
 
     /// Makes a number one of the k-th type's; those of other enums stand before the place.
     pub(crate) fn label(&mut self, d: u32, k: u32, place: usize, n: i128) -> Result<(), NameErr>
         ensures { Gives (λ _. state self.new) result (with_label d k place (state self.old) n) }
     {
-        if is_label(&self.labels, k, n) {
-            return Ok(());
-        }
-        refuse(
-            NameFault::Limit,
-            d,
-            self.labels.len().saturating_sub(place) >= MOST_LABELS,
-        )?;
-        add_label(&mut self.labels, k, n)?;
-        Ok(())
+        add_label(&mut self.labels, d, k, place, n)
     }
 
     /// How many versions there are.

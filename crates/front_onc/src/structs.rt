@@ -1,16 +1,17 @@
 // Typedefs and structs.
 ghost use Rattle.std.specs.Prelude.{◌≡◌, [], map, IfOk};
-ghost use Rattle.aoi.specs.Shapes.{seen_field, seen, members, structure, members_of};
+ghost use Rattle.aoi.specs.Shapes.{seen_field, seen};
 ghost use Rattle.name_kit.specs.Answers.{Gives};
 ghost use Rattle.front_onc.specs.Held.{state};
 ghost use Rattle.front_onc.specs.Declarations.{members_on, shape, typedef, struct_on};
 
 use crate::forms::{form, name_of, tag_of, ty};
-use crate::names::{Names, Scope};
+use crate::names::Scope;
 use crate::state::Resolver;
 use crate::{Form, NameErr, NameFault, Tag};
-use aoi::{Field, Fields, Ty};
+use aoi::{Field, Fields};
 use kit_base::{Name, NoMemory};
+use name_kit::{Names, struct_of};
 use onc_syntax::{Decl, Member};
 use std::alloc::Global;
 
@@ -37,12 +38,6 @@ fn members(alloc: Global, scope: &Scope, number: u32, members: &[Member]) -> Res
         fields.push(field(alloc, name, form)?)?;
     }
     Ok(fields)
-}
-
-fn struct_of(fields: Fields) -> Ty
-    ensures { seen result ≡ structure (members fields) }
-{
-    Ty::Struct(fields)
 }
 
 /// A type with another name.

@@ -1,35 +1,23 @@
 // Unions.
 ghost use Rattle.std.specs.Prelude.{◌≡◌, [], ◌∷◌, ◌++◌, IfOk, OnOk};
 ghost use Rattle.std.specs.Option.{option_map};
-ghost use Rattle.aoi.specs.Shapes.{Shape, seen, choice, arms_of, default_of, arms_seen};
+ghost use Rattle.aoi.specs.Shapes.{seen, default_of};
 ghost use Rattle.name_kit.specs.Answers.{Gives};
-ghost use Rattle.front_onc.specs.Held.{state, arms_held};
-ghost use Rattle.front_onc.specs.Unions.{is_of, label_on, labels_on, arm_shape, arms_for, arm_on, case_on, cases_on, other, is_other, union_shape, union_on};
+ghost use Rattle.name_kit.specs.Arms.{arms_for, arms_held};
+ghost use Rattle.front_onc.specs.Held.{state};
+ghost use Rattle.front_onc.specs.Unions.{label_on, labels_on, arm_shape, arm_on, case_on, cases_on, other, union_shape, union_on};
 
-use crate::forms::{form, name_of, tag_of_use, ty, ty_of_use};
-use crate::names::{Names, Scope};
-use crate::numbers::{add_integer, behind, has_integer};
+use crate::forms::{form, name_of, ty};
+use crate::names::Scope;
 use crate::state::Resolver;
 use crate::values::{type_use, value};
 use crate::{Form, NameErr, NameFault, Tag, Use};
 use aoi::{Ty, UnionArms};
 use indexmap::IndexSet;
 use kit_base::NoMemory;
-use kit_base::limits::MOST_LABELS;
-use name_kit::refuse;
+use name_kit::{Names, add_number_of, behind, boxed, refuse, tag_of_use, ty_of_use, union_of};
 use onc_syntax::{Arm, Case, Label, Union};
 use std::alloc::Global;
-
-/// Whether a number is one that the tag may have.
-fn is_of(r: &Resolver, tag: Tag, n: &i128) -> bool
-    ensures { result ≡ is_of r.now.labels tag n.now }
-{
-    match tag {
-        Tag::Number(kind) => kind.has(*n),
-        Tag::Enum(k) => r.is_label(k, *n),
-        Tag::Other => false,
-    }
-}
 
 /// Puts a label behind those that stand before it.
 fn label(
@@ -42,20 +30,7 @@ fn label(
     ensures { Gives (λ _. numbers.new.keys) result (label_on r.now.scope r.now.labels tag d numbers.old.keys label.now) }
 {
     let n = value(r.scope(), d, &label.value)?;
-    if !is_of(r, tag, &n) || has_integer(numbers, &n) {
-        return Err(NameErr {
-            fault: NameFault::Label,
-            decl: d,
-        });
-    }
-    if numbers.len() >= MOST_LABELS {
-        return Err(NameErr {
-            fault: NameFault::Limit,
-            decl: d,
-        });
-    }
-    add_integer(numbers, &n)?;
-    Ok(())
+    add_number_of(r.labels(), tag, d, numbers, n)
 }
 
 /// Puts the labels of a case behind those that stand before them.
@@ -173,18 +148,6 @@ fn other(
     Ok(Some(boxed(alloc, arm_ty(alloc, form)?)?))
 }
 
-fn boxed(alloc: Global, ty: Ty) -> Result<Box<Ty>, NoMemory>
-    ensures { IfOk result (λ b. b.value ≡ ty) }
-{
-    Ok(Box::new(alloc, ty)?)
-}
-
-fn union_ty(alloc: Global, tag: Ty, arms: UnionArms, other: Option<Box<Ty>>) -> Result<Ty, NoMemory>
-    ensures { IfOk result (λ t. seen t ≡ choice (seen tag) (arms_seen arms (option_map (λ b. seen b.value) other))) }
-{
-    Ok(Ty::Union(boxed(alloc, tag)?, arms, other))
-}
-
 /// The type of a union, by the type of its tag.
 fn body(alloc: Global, r: &Resolver, d: u32, used: Use, u: &Union) -> Result<Ty, NameErr>
     ensures { Gives seen result (union_shape (state r.now) d used u.now) }
@@ -204,7 +167,7 @@ fn body(alloc: Global, r: &Resolver, d: u32, used: Use, u: &Union) -> Result<Ty,
         u.cases.as_slice(),
     )?;
     let other = other(alloc, r.scope(), d, &mut names, &u.default)?;
-    Ok(union_ty(alloc, ty_of_use(used), arms, other)?)
+    Ok(union_of(alloc, ty_of_use(used), arms, other)?)
 }
 
 /// A union.

@@ -1,6 +1,16 @@
-//! What the resolution of names answers, for every front: what a production gives, or its first fault.
+//! What the resolution of names answers, for every front, and what the types that names stand for have in common.
 #![tactic(auto)]
 
+mod labels;
+mod names;
+mod numbers;
 mod refusals;
+mod types;
+mod uses;
 
+pub use labels::{add_label, add_number_of, is_label, is_of};
+pub use names::Names;
+pub use numbers::{add_integer, add_number, behind, has_integer, has_number};
 pub use refusals::{natural, refuse};
+pub use types::{array_of, boxed, enum_of, optional_of, struct_of, union_of};
+pub use uses::{Tag, Use, tag_of_use, ty_of_use};

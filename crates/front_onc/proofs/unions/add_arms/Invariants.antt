@@ -1,6 +1,6 @@
 use Rattle.std.proofs.Common.{◌≡◌, ◌++◌, drop}
-use Rattle.front_onc.specs.Held.{arms_held}
-use Rattle.front_onc.specs.Unions.{arm_shape, arms_for}
+use Rattle.name_kit.specs.Arms.{arms_held, arms_for}
+use Rattle.front_onc.specs.Unions.{arm_shape}
 use Rattle.front_onc.proofs.unions.add_arms.Given as goal
 
 abbrev pub invariant-loop-n : goal.invariant-loop-n

@@ -1,5 +1,5 @@
-use Rattle.front_onc.proofs.Tables.{push_on}
-use Rattle.front_onc.proofs.names.Names.push.Goals as goal
+use Rattle.name_kit.proofs.Tables.{push_on}
+use Rattle.name_kit.proofs.names.Names.push.Goals as goal
 
 pub returns : goal.returns
 returns c = record {

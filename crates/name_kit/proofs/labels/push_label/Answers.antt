@@ -1,6 +1,6 @@
 use Rattle.std.proofs.Math.Facts.{to_z-of_z}
-use Rattle.front_onc.proofs.Tables.{label_put}
-use Rattle.front_onc.proofs.numbers.add_label.Goals as goal
+use Rattle.name_kit.proofs.Tables.{label_put}
+use Rattle.name_kit.proofs.labels.push_label.Goals as goal
 
 pub returns : goal.returns
 returns c = record { ok = label_put c.args.labels.now.keys c.insert.new.self.keys c.args.k c.args.n _ c.in_ok-insert.ensures.keys (to_z-of_z c.ranges.n) c.requires }

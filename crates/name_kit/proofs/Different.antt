@@ -7,7 +7,7 @@ use Rattle.std.proofs.lemmas.Bool.Decides.{Decides-int_eq}
 use Rattle.std.specs.Bool.{one_answer}
 use Rattle.std.proofs.lemmas.Bool.{or_parts, or_from, and_parts, and_from, not_from_false}
 use Rattle.aoi.specs.Sound.{are_distinct, are_different, count_different}
-use Rattle.front_onc.specs.Names.{has}
+use Rattle.name_kit.specs.Names.{has}
 
 -- ---- names
 

@@ -1,8 +1,8 @@
 use Rattle.std.proofs.Common.{◌∙◌, ap}
 use Rattle.std.specs.Str.{bytes_eq}
-use Rattle.front_onc.specs.Names.{has}
-use Rattle.front_onc.proofs.Tables.{any_map}
-use Rattle.front_onc.proofs.names.Names.has.Goals as goal
+use Rattle.name_kit.specs.Names.{has}
+use Rattle.name_kit.proofs.Tables.{any_map}
+use Rattle.name_kit.proofs.names.Names.has.Goals as goal
 
 pub returns : goal.returns
 returns c = c.contains.ensures ∙ any_map (bytes_eq c.args.name.now) (λ k. k.items) c.self.inside.names.keys ∙ ap (has c.args.name.now) c.self.view_is

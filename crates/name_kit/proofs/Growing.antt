@@ -42,11 +42,11 @@ mutual
   sound_grow types more limit (optional s) le = sound_grow types more limit s le
   sound_grow types more limit (named k) le = refl
 
-  members_grow : (types more : List Shape) (limit : ℕ) (ms : Members) → limit ≤ length types → are_sound (types ++ more) limit ms ≡ are_sound types limit ms
+  pub members_grow : (types more : List Shape) (limit : ℕ) (ms : Members) → limit ≤ length types → are_sound (types ++ more) limit ms ≡ are_sound types limit ms
   members_grow types more limit no_more le = refl
   members_grow types more limit (member n s ms) le = rw (sound_grow types more limit s le, members_grow types more limit ms le) refl
 
-  arms_grow : (types more : List Shape) (limit : ℕ) (arms : Arms) → limit ≤ length types → are_sound_arms (types ++ more) limit arms ≡ are_sound_arms types limit arms
+  pub arms_grow : (types more : List Shape) (limit : ℕ) (arms : Arms) → limit ≤ length types → are_sound_arms (types ++ more) limit arms ≡ are_sound_arms types limit arms
   arms_grow types more limit no_default le = refl
   arms_grow types more limit (default s) le = rw (sound_grow types more limit s le) refl
   arms_grow types more limit (arm n s arms) le = rw (sound_grow types more limit s le, arms_grow types more limit arms le) refl

@@ -1,0 +1,10 @@
+pub mod Parts
+pub mod Tables
+pub mod Steps
+pub mod Growing
+pub mod Different
+pub mod Standing
+pub mod Forming
+pub mod Numbering
+pub mod Labelling
+pub mod Tagging
