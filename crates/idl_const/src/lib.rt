@@ -8,6 +8,7 @@ mod operators;
 mod tree;
 mod value;
 
+pub use operators::{binary, unary};
 pub use tree::{BinaryOp, Expr, UnaryOp};
 pub use value::{ConstErr, Consts, eval};
 

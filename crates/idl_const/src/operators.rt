@@ -5,7 +5,7 @@ ghost use Rattle.idl_const.specs.Values.{unary_value, binary_value, places};
 use crate::{BinaryOp, ConstErr, UnaryOp};
 
 /// What the operator gives before a number.
-pub(crate) fn unary(op: UnaryOp, a: i128) -> Result<i128, ConstErr>
+pub fn unary(op: UnaryOp, a: i128) -> Result<i128, ConstErr>
     ensures { result ≡ unary_value op a }
 {
     match op {
@@ -15,7 +15,7 @@ pub(crate) fn unary(op: UnaryOp, a: i128) -> Result<i128, ConstErr>
 }
 
 /// What the operator gives between two numbers.
-pub(crate) fn binary(op: BinaryOp, a: i128, b: i128) -> Result<i128, ConstErr>
+pub fn binary(op: BinaryOp, a: i128, b: i128) -> Result<i128, ConstErr>
     ensures { result ≡ binary_value op a b }
 {
     match op {

@@ -1,0 +1,19 @@
+-- The prefixes of scopes. A scope is its prefix: nothing for the file, and for what is declared in a scope that scope's prefix, its name and a dot.
+use Rattle.std.specs.Prelude.{ℕ, List, [], ◌∷◌, ◌++◌, codes}
+
+-- the prefix of the scope into which `::` leads after a full name
+abbrev pub prefix_of : List ℕ → List ℕ
+prefix_of full = full ++ codes "."
+
+-- the scopes around a place outside of every definition
+abbrev pub file : List (List ℕ)
+file = [] ∷ []
+
+-- the innermost of the scopes around a place
+abbrev pub innermost : List (List ℕ) → List ℕ
+innermost [] = []
+innermost (scope ∷ env) = scope
+
+-- the scopes around a place inside what is declared by this name
+abbrev pub inside : List ℕ → List (List ℕ) → List (List ℕ)
+inside name env = prefix_of (innermost env ++ name) ∷ env

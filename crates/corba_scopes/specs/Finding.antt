@@ -1,0 +1,67 @@
+-- How names are found: in a scope, in the bases of an interface, outwards, and by scoped names.
+use Rattle.std.specs.Prelude.{Bool, true, false, ℕ, List, [], ◌∷◌, ◌++◌, Option, Some, None, if◌then◌else◌}
+use Rattle.std.specs.Option.{option_or, option_map, unwrap_or}
+use Rattle.corba_exprs.specs.declared.tree.Identifier.{Identifier}
+use Rattle.corba_exprs.specs.declared.tree.ScopedName.{ScopedName}
+use Rattle.corba_scopes.specs.declared.meanings.Entry.{Entry}
+use Rattle.corba_scopes.specs.Around.{prefix_of}
+use Rattle.corba_scopes.specs.Names.{Names, has, look_up, put}
+
+-- ---- the lines of interfaces
+
+-- the scopes in which a name of a scope is found, in order: an interface's are its own and its bases', any other's is that alone
+abbrev pub line_of : List ℕ → Names → List (List ℕ)
+line_of scope s = unwrap_or (look_up scope s.lines) (scope ∷ [])
+
+-- a line with more scopes after it, each once
+abbrev pub joined : List (List ℕ) → List (List ℕ) → List (List ℕ)
+joined line [] = line
+joined line (scope ∷ scopes) = joined (if has scope line then line else line ++ scope ∷ []) scopes
+
+-- a line with that of one more base after it
+abbrev pub with_base : Names → List ℕ → List (List ℕ) → List (List ℕ)
+with_base s base line = joined line (line_of base s)
+
+-- the names with the line of an interface's scope
+abbrev pub with_line : List ℕ → List (List ℕ) → Names → Names
+with_line scope line s = record s { lines = put scope line s.lines }
+
+-- ---- names
+
+-- a full name with what it stands for, if it is declared
+abbrev pub entry_at : Names → List ℕ → Option Entry
+entry_at s full = option_map (λ m. record { name = full; meaning = m }) (look_up full s.meanings)
+
+-- a name in the first of these scopes in which it is declared
+abbrev pub first_in : Names → List ℕ → List (List ℕ) → Option Entry
+first_in s name [] = None
+first_in s name (scope ∷ scopes) = option_or (entry_at s (scope ++ name)) (first_in s name scopes)
+
+-- a name in a scope or, where that is an interface's, in a base
+abbrev pub found : Names → List ℕ → List ℕ → Option Entry
+found s scope name = first_in s name (line_of scope s)
+
+-- a name in the innermost of the scopes around a place in which it is found
+abbrev pub sought : Names → List (List ℕ) → List ℕ → Option Entry
+sought s [] name = None
+sought s (scope ∷ env) name = option_or (found s scope name) (sought s env name)
+
+-- identifiers after a name, each found in the scope into which what is before it leads
+abbrev pub within : Names → Option Entry → List Identifier → Option Entry
+within s None parts = None
+within s (Some e) [] = Some e
+within s (Some e) (part ∷ parts) = within s (found s (prefix_of e.name) part.name) parts
+
+-- the first identifier of a scoped name: with `::` before it, it is one of the file
+abbrev pub first : Names → List (List ℕ) → Bool → List ℕ → Option Entry
+first s env true name = found s [] name
+first s env false name = sought s env name
+
+-- identifiers that are a scoped name
+abbrev pub parts_named : Names → List (List ℕ) → Bool → List Identifier → Option Entry
+parts_named s env absolute [] = None
+parts_named s env absolute (part ∷ parts) = within s (first s env absolute part.name) parts
+
+-- what a scoped name stands for at a place, if it stands for something
+abbrev pub named : Names → List (List ℕ) → ScopedName → Option Entry
+named s env n = parts_named s env n.absolute n.parts

@@ -1,0 +1,4 @@
+pub mod Around
+pub mod Names
+pub mod Finding
+pub mod Consts

@@ -1,0 +1,66 @@
+-- The names that are declared, and how a name is declared in a scope.
+use Rattle.std.specs.Prelude.{Bool, ℕ, List, [], ◌∷◌, ◌++◌, map, Option, Some, None, Ok, if◌then◌else◌}
+use Rattle.std.specs.List.{list_any}
+use Rattle.std.specs.Option.{is_some}
+use Rattle.std.specs.Str.{bytes_eq}
+use Rattle.std.specs.Char.{to_ascii_lowercase}
+use Rattle.aoi.specs.declared.faults.NameFault.{NameFault}
+use Rattle.aoi.specs.declared.faults.NameFault.TheVariants.{Twice, CaseClash}
+use Rattle.name_kit.specs.Answers.{Answer, fault, and_then}
+use Rattle.corba_scopes.specs.declared.meanings.Meaning.{Meaning}
+
+-- full names in the order of their declarations, each with what it stands for
+abbrev pub Meanings : Type 0
+Meanings = List (List ℕ × Meaning)
+
+-- what is declared: full names with what they stand for; the same names but for the case of the last identifier; the scopes of interfaces, each with its line
+pub record Names : Type 0 where
+  pub meanings : Meanings
+  pub folded : List (List ℕ)
+  pub lines : List (List ℕ × List (List ℕ))
+
+-- nothing is declared
+abbrev pub nothing : Names
+nothing = record { meanings = []; folded = []; lines = [] }
+
+-- a name is one of these
+abbrev pub has : List ℕ → List (List ℕ) → Bool
+has name names = list_any (bytes_eq name) names
+
+-- what is held by this name, if something is
+abbrev pub look_up : {V : Type 0} → List ℕ → List (List ℕ × V) → Option V
+look_up name [] = None
+look_up name (e ∷ es) = if bytes_eq name e.0 then Some e.1 else look_up name es
+
+-- the same with something held by this name, in its place or after the others
+abbrev pub put : {V : Type 0} → List ℕ → V → List (List ℕ × V) → List (List ℕ × V)
+put name v [] = (name, v) ∷ []
+put name v (e ∷ es) = if bytes_eq name e.0 then (e.0, v) ∷ es else e ∷ put name v es
+
+-- a full name is declared
+abbrev pub is_declared : List ℕ → Meanings → Bool
+is_declared full meanings = is_some (look_up full meanings)
+
+-- an identifier with its letters in lower case
+abbrev pub lower : List ℕ → List ℕ
+lower name = map to_ascii_lowercase name
+
+-- why a name may not be declared in a scope: it is declared there, or but for the case of letters
+abbrev pub clash : Names → List ℕ → List ℕ → Option NameFault
+clash s scope name =
+    if is_declared (scope ++ name) s.meanings then Some Twice
+    else if has (scope ++ lower name) s.folded then Some CaseClash
+    else None
+
+-- one more name in a scope
+abbrev pub declared : List ℕ → List ℕ → Meaning → Names → Names
+declared scope name m s = record s { meanings = s.meanings ++ (scope ++ name, m) ∷ []; folded = s.folded ++ (scope ++ lower name) ∷ [] }
+
+-- nothing, or the fault of a declaration
+abbrev pub refused_by : ℕ → Option NameFault → Answer (Unit {0})
+refused_by d None = Ok tt
+refused_by d (Some f) = fault f d
+
+-- one more name in a scope, or its clash
+abbrev pub declared_on : ℕ → Names → List ℕ → List ℕ → Meaning → Answer Names
+declared_on d s scope name m = and_then (refused_by d (clash s scope name)) (λ _. Ok (declared scope name m s))

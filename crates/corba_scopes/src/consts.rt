@@ -1,0 +1,122 @@
+// The values of constant expressions.
+ghost use Rattle.std.specs.Prelude.{◌≡◌};
+ghost use Rattle.name_kit.specs.Answers.{Gives};
+ghost use Rattle.corba_scopes.specs.Consts.{number_of, leaf_number, in_range, number, constant, length_of};
+
+use crate::meanings::{Constant, Entry, Meaning};
+use crate::state::Scopes;
+use aoi::{NameErr, NameFault};
+use corba_exprs::{Expr, Leaf, Node};
+use idl_const::{ConstErr, binary, unary};
+use kit_base::Name;
+use name_kit::natural;
+use std::alloc::Global;
+
+/// The number that a name stands for.
+fn number_of(decl: u32, entry: Option<Entry>) -> Result<i128, NameErr>
+    ensures value { Gives (λ x. x) result (number_of decl entry) }
+    ensures exact { result ≡ number_of decl entry }
+{
+    let fault = match entry {
+        Some(Entry {
+            meaning: Meaning::Number(n),
+            ..
+        }) => return Ok(n),
+        Some(_) => NameFault::NotConst,
+        None => NameFault::Unknown,
+    };
+    Err(NameErr { fault, decl })
+}
+
+/// What an operator gives, or a number out of range.
+fn in_range(decl: u32, given: Result<i128, ConstErr>) -> Result<i128, NameErr>
+    ensures value { Gives (λ x. x) result (in_range decl given) }
+    ensures exact { result ≡ in_range decl given }
+{
+    match given {
+        Ok(n) => Ok(n),
+        Err(_) => Err(NameErr {
+            fault: NameFault::Range,
+            decl,
+        }),
+    }
+}
+
+impl Scopes {
+    /// The number of a leaf.
+    fn leaf_number(
+        &self,
+        alloc: Global,
+        env: &[Name],
+        decl: u32,
+        leaf: &Leaf,
+    ) -> Result<i128, NameErr>
+        ensures { Gives (λ x. x) result (leaf_number self.now env.now decl leaf.now) }
+    {
+        match leaf {
+            Leaf::Number(n) => Ok(*n),
+            Leaf::Character(code) => Ok(i128::from(*code)),
+            Leaf::Text(_) => Err(NameErr {
+                fault: NameFault::Range,
+                decl,
+            }),
+            Leaf::Truth(true) => Ok(1),
+            Leaf::Truth(false) => Ok(0),
+            Leaf::Name(name) => number_of(decl, self.named(alloc, env, name)?),
+        }
+    }
+
+    /// The number of an expression at a place.
+    pub fn number(
+        &self,
+        alloc: Global,
+        env: &[Name],
+        decl: u32,
+        expr: &Expr,
+    ) -> Result<i128, NameErr>
+        ensures { Gives (λ x. x) result (number self.now env.now decl expr.now) }
+    {
+        match &expr.node {
+            Node::Leaf(leaf) => self.leaf_number(alloc, env, decl, leaf),
+            Node::Unary(op, operand) => {
+                let n = self.number(alloc, env, decl, operand)?;
+                in_range(decl, unary(*op, n))
+            }
+            Node::Binary(op, left, right) => {
+                let left = self.number(alloc, env, decl, left)?;
+                let right = self.number(alloc, env, decl, right)?;
+                in_range(decl, binary(*op, left, right))
+            }
+        }
+    }
+
+    /// The value of a constant at a place.
+    pub fn constant(
+        &self,
+        alloc: Global,
+        env: &[Name],
+        decl: u32,
+        expr: &Expr,
+    ) -> Result<Constant, NameErr>
+        ensures { Gives (λ x. x) result (constant self.now env.now decl expr.now) }
+    {
+        match &expr.node {
+            Node::Leaf(Leaf::Text(codes)) => Ok(Constant::Text(codes.len())),
+            _ => Ok(Constant::Number(self.number(alloc, env, decl, expr)?)),
+        }
+    }
+
+    /// A bound, or the length of an array, at a place.
+    pub fn length(
+        &self,
+        alloc: Global,
+        env: &[Name],
+        decl: u32,
+        expr: &Expr,
+    ) -> Result<u32, NameErr>
+        ensures { Gives (λ x. x) result (length_of self.now env.now decl expr.now) }
+    {
+        let n = self.number(alloc, env, decl, expr)?;
+        natural(1, decl, n)
+    }
+}

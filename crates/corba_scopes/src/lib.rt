@@ -1,0 +1,16 @@
+//! The scopes of a CORBA IDL file (CORBA, chapter on IDL syntax and semantics, "Names and scoping"): how names are
+//! declared and found in them, and the numbers of constant expressions.
+#![tactic(auto)]
+
+mod around;
+mod consts;
+mod finding;
+mod lines;
+mod meanings;
+mod state;
+mod tables;
+
+pub use around::{Env, full_name, innermost, inside, of_file, prefix_of};
+pub use lines::Line;
+pub use meanings::{Constant, Entry, Meaning, Tag, Use};
+pub use state::Scopes;

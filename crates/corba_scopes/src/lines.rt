@@ -1,0 +1,105 @@
+// The scopes of interfaces, each with those in which its names are found.
+ghost use Rattle.std.specs.Prelude.{◌≡◌, ◌++◌, ◌∷◌, [], None, Some, map, IfOk, OnOk, option_copied, if◌then◌else◌};
+ghost use Rattle.corba_scopes.specs.Names.{has, look_up, put};
+ghost use Rattle.corba_scopes.specs.Finding.{joined};
+
+use indexmap::{IndexMap, IndexSet};
+use kit_base::NoMemory;
+use std::alloc::Global;
+use std::marker::Model;
+
+/// The scopes in which a name of an interface is found: its own, and then those of its bases, each once.
+#[derive(Drop)]
+pub struct Line {
+    scopes: IndexSet<Vec<u8>>,
+}
+
+impl Model for Line {
+    ghost use Rattle.std.specs.Prelude.{List, ℕ, map};
+    ghost use Rattle.std.specs.Coded.{codes};
+
+    ghost Value = { List (List ℕ) };
+
+    ghost view = { λ s. map (λ k. k.items) s.scopes.keys };
+}
+
+impl Line {
+    /// The line of an interface without bases.
+    pub fn of(alloc: Global, scope: &[u8]) -> Result<Line, NoMemory>
+        ensures { IfOk result (λ line. line ≡ scope.now ∷ []) }
+    {
+        let mut line = Line {
+            scopes: IndexSet::new(alloc),
+        };
+        line.add(alloc, scope)?;
+        Ok(line)
+    }
+
+    /// Puts a scope after the others, where it is none of them.
+    pub fn add(&mut self, alloc: Global, scope: &[u8]) -> Result<(), NoMemory>
+        ensures { OnOk result (self.new ≡ (if has scope.now self.old then self.old else self.old ++ scope.now ∷ [])) }
+    {
+        let key = Vec::from_slice(alloc, scope)?;
+        self.scopes.insert(key)?;
+        Ok(())
+    }
+
+    /// Puts the scopes of a line after the others, without those that are there.
+    pub fn join(&mut self, alloc: Global, other: &Line) -> Result<(), NoMemory>
+        ensures { OnOk result (self.new ≡ joined self.old other.now) }
+    {
+        for scope in other.scopes() {
+            self.add(alloc, scope)?;
+        }
+        Ok(())
+    }
+
+    /// The scopes, in order.
+    pub(crate) fn scopes(&self) -> &[Vec<u8>]
+        ensures { map (λ k. k.items) result.now ≡ self.now }
+    {
+        self.scopes.as_slice()
+    }
+}
+
+/// The lines of interfaces, by their scopes.
+#[derive(Drop)]
+pub(crate) struct Lines {
+    lines: IndexMap<Vec<u8>, Line>,
+}
+
+impl Model for Lines {
+    ghost use Rattle.std.specs.Prelude.{List, ℕ, map};
+    ghost use Rattle.std.specs.Coded.{codes};
+
+    ghost Value = { List (List ℕ × List (List ℕ)) };
+
+    ghost view = { λ s. map (λ e. (e.0.items, e.1)) s.lines.entries };
+}
+
+impl Lines {
+    /// No lines.
+    pub(crate) fn new(alloc: Global) -> Lines
+        ensures { result ≡ [] }
+    {
+        Lines {
+            lines: IndexMap::new(alloc),
+        }
+    }
+
+    /// The line of a scope, where it is an interface's.
+    pub(crate) fn line(&self, scope: &[u8]) -> Option<&Line>
+        ensures { option_copied result ≡ look_up scope.now self.now }
+    {
+        self.lines.get(scope)
+    }
+
+    /// Puts the line of a scope in its place, or after the others.
+    pub(crate) fn put(&mut self, alloc: Global, scope: &[u8], line: Line) -> Result<(), NoMemory>
+        ensures { OnOk result (self.new ≡ put scope.now line self.old) }
+    {
+        let key = Vec::from_slice(alloc, scope)?;
+        self.lines.insert(key, line)?;
+        Ok(())
+    }
+}

@@ -1,0 +1,75 @@
+// What names stand for.
+ghost use Rattle.std.specs.Prelude.{◌≡◌};
+ghost use Rattle.corba_scopes.specs.Consts.{meaning_of_constant};
+
+use kit_base::Name;
+use mint::kind::{Count, Kind};
+
+/// What a type is as the tag of a union (its discriminant).
+#[derive(Clone, Copy, Debug, PartialEq, Eq)]
+pub enum Tag {
+    /// A number of this kind.
+    Number(Kind),
+    /// A number of the enum that is this type of the unit.
+    Enum(u32),
+    /// None: no such type is a tag.
+    Other,
+}
+
+/// A type that a name stands for.
+#[derive(Clone, Copy, Debug, PartialEq, Eq)]
+pub enum Use {
+    /// A number of this kind.
+    Number(Kind),
+    /// A type of the unit by its number, and what it is as a tag.
+    Declared(u32, Tag),
+}
+
+/// What a name stands for.
+#[derive(Clone, Copy, Debug, PartialEq, Eq)]
+pub enum Meaning {
+    /// A constant or an enumerator, by its number.
+    Number(i128),
+    /// A string constant.
+    Text,
+    /// A type; and where it is a string, by itself or by the names of others, how many characters it has.
+    Type(Use, Option<Count>),
+    /// An exception, by its number among those of the file.
+    Exception(u32),
+    /// An interface, by its number among those of the file.
+    Interface(u32),
+    /// A module.
+    Module,
+    /// A member of a struct, union or exception, a parameter, an operation or an attribute.
+    Other,
+}
+
+/// The value of a constant.
+#[derive(Clone, Copy, Debug, PartialEq, Eq)]
+pub enum Constant {
+    /// The number of an expression.
+    Number(i128),
+    /// A string of so many characters.
+    Text(usize),
+}
+
+impl Constant {
+    /// What the name of such a constant stands for.
+    pub fn meaning(self) -> Meaning
+        ensures { result ≡ meaning_of_constant self }
+    {
+        match self {
+            Constant::Number(n) => Meaning::Number(n),
+            Constant::Text(_) => Meaning::Text,
+        }
+    }
+}
+
+/// A name that is declared.
+#[derive(Debug, Drop)]
+pub struct Entry {
+    /// Its full name: the prefix of its scope, and itself.
+    pub name: Name,
+    /// What it stands for.
+    pub meaning: Meaning,
+}

@@ -1,0 +1,149 @@
+// The names of a file, and how one is declared.
+ghost use Rattle.std.specs.Prelude.{◌≡◌, ◌++◌, None, IfOk, OnOk};
+ghost use Rattle.name_kit.specs.Answers.{Gives};
+ghost use Rattle.corba_scopes.specs.Names.{nothing, clash, declared, declared_on, refused_by};
+ghost use Rattle.corba_scopes.specs.Finding.{with_base, with_line};
+
+use crate::around::full_name;
+use crate::lines::{Line, Lines};
+use crate::meanings::Meaning;
+use crate::tables::{Folded, Table, lower};
+use aoi::{NameErr, NameFault};
+use kit_base::NoMemory;
+use std::alloc::Global;
+use std::marker::Model;
+
+/// The names that a file has declared, each in its scope.
+#[derive(Drop)]
+pub struct Scopes {
+    table: Table,
+    folded: Folded,
+    lines: Lines,
+}
+
+impl Model for Scopes {
+    ghost use Rattle.corba_scopes.specs.Names.{Names};
+    ghost use Rattle.std.specs.Coded.{codes};
+
+    ghost Value = { Names };
+
+    ghost view = { λ s. record { meanings = s.table; folded = s.folded; lines = s.lines } };
+}
+
+impl Scopes {
+    /// No names.
+    pub fn new(alloc: Global) -> Scopes
+        ensures { result ≡ nothing }
+    {
+        Scopes {
+            table: Table::new(alloc),
+            folded: Folded::new(alloc),
+            lines: Lines::new(alloc),
+        }
+    }
+
+    /// The names with what they stand for.
+    pub(crate) fn table(&self) -> &Table
+        ensures { result.now ≡ self.now.meanings }
+    {
+        &self.table
+    }
+
+    /// The lines of interfaces.
+    pub(crate) fn lines(&self) -> &Lines
+        ensures { result.now ≡ self.now.lines }
+    {
+        &self.lines
+    }
+
+    /// Why a name may not be declared in a scope, or nothing.
+    pub fn clash(
+        &self,
+        alloc: Global,
+        scope: &[u8],
+        name: &[u8],
+    ) -> Result<Option<NameFault>, NoMemory>
+        ensures { IfOk result (λ fault. fault ≡ clash self.now scope.now name.now) }
+    {
+        let full = full_name(alloc, scope, name)?;
+        if self.table.has(full.as_slice()) {
+            return Ok(Some(NameFault::Twice));
+        }
+        let small = lower(alloc, name)?;
+        let full = full_name(alloc, scope, small.as_slice())?;
+        if self.folded.has(full.as_slice()) {
+            return Ok(Some(NameFault::CaseClash));
+        }
+        Ok(None)
+    }
+
+    /// Refuses a name that may not be declared in a scope.
+    pub fn refuse_clash(
+        &self,
+        alloc: Global,
+        decl: u32,
+        scope: &[u8],
+        name: &[u8],
+    ) -> Result<(), NameErr>
+        ensures { Gives (λ x. x) result (refused_by decl (clash self.now scope.now name.now)) }
+    {
+        match self.clash(alloc, scope, name)? {
+            Some(fault) => Err(NameErr { fault, decl }),
+            None => Ok(()),
+        }
+    }
+
+    /// Declares a name that clashes with none.
+    pub fn declare(
+        &mut self,
+        alloc: Global,
+        scope: &[u8],
+        name: &[u8],
+        meaning: Meaning,
+    ) -> Result<(), NoMemory>
+        requires { clash self.old scope.now name.now ≡ None }
+        ensures ok { OnOk result (self.new ≡ declared scope.now name.now meaning self.old) }
+    {
+        let small = lower(alloc, name)?;
+        self.table.push(alloc, scope, name, meaning)?;
+        self.folded.push(alloc, scope, small.as_slice())?;
+        Ok(())
+    }
+
+    /// Declares a name, or refuses it.
+    pub fn declare_new(
+        &mut self,
+        alloc: Global,
+        decl: u32,
+        scope: &[u8],
+        name: &[u8],
+        meaning: Meaning,
+    ) -> Result<(), NameErr>
+        ensures { Gives (λ _. self.new) result (declared_on decl self.old scope.now name.now meaning) }
+    {
+        match self.clash(alloc, scope, name)? {
+            Some(fault) => Err(NameErr { fault, decl }),
+            None => {
+                self.declare(alloc, scope, name, meaning)?;
+                Ok(())
+            }
+        }
+    }
+
+    /// Puts the scopes of one more base after those of an interface's line.
+    pub fn add_base(&self, alloc: Global, base: &[u8], line: &mut Line) -> Result<(), NoMemory>
+        ensures { OnOk result (line.new ≡ with_base self.now base.now line.old) }
+    {
+        match self.lines.line(base) {
+            Some(other) => line.join(alloc, other),
+            None => line.add(alloc, base),
+        }
+    }
+
+    /// Keeps the line of an interface's scope.
+    pub fn put_line(&mut self, alloc: Global, scope: &[u8], line: Line) -> Result<(), NoMemory>
+        ensures { OnOk result (self.new ≡ with_line scope.now line self.old) }
+    {
+        self.lines.put(alloc, scope, line)
+    }
+}
