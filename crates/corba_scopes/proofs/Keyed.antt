@@ -1,5 +1,5 @@
 -- Names in a map or a set of indexmap, as lists.
-use Rattle.std.proofs.Common.{◌≡◌, ℕ, List, [], ◌∷◌, ◌++◌, map, Bool, true, false, ◌||◌, Option, Some, None, refl, ap, ◌∙◌, if◌then◌else◌}
+use Rattle.std.proofs.Common.{◌≡◌, ℕ, List, [], ◌∷◌, ◌++◌, map, Bool, true, false, Option, Some, None, refl, ap, ◌∙◌, if◌then◌else◌}
 use Rattle.std.specs.List.{list_any}
 use Rattle.std.specs.Prelude.{cond}
 use Rattle.std.specs.Option.{is_some}
@@ -7,15 +7,9 @@ use Rattle.std.specs.Map.{lookup}
 use Rattle.std.specs.Str.{bytes_eq}
 use Rattle.indexmap.specs.IndexMap.{insert_entry}
 use Rattle.indexmap.specs.IndexSet.{insert_key}
-use Rattle.corba_scopes.specs.Names.{look_up, put, has}
-
-pub any_map : {A B : Type 0} (p : B → Bool) (f : A → B) (xs : List A) → list_any (λ x. p (f x)) xs ≡ list_any p (map f xs)
-any_map p f [] = refl
-any_map p f (x ∷ xs) = ap (λ z. p (f x) || z) (any_map p f xs)
-
-pub append_map : {A B : Type 0} (f : A → B) (xs : List A) (x : A) → map f (xs ++ x ∷ []) ≡ map f xs ++ f x ∷ []
-append_map f [] x = refl
-append_map f (y ∷ ys) x = ap (λ z. f y ∷ z) (append_map f ys x)
+use Rattle.name_kit.specs.Names.{has}
+use Rattle.name_kit.proofs.Tables.{any_map, append_map}
+use Rattle.corba_scopes.specs.Names.{look_up, put}
 
 -- what is put under a new name goes after the others
 put_new_by : {V : Type 0} (b : Bool) (name : List ℕ) (v : V) (e : List ℕ × V) (es rest : List (List ℕ × V)) (o : Option V) → is_some (if b then Some e.1 else o) ≡ false
@@ -67,12 +61,3 @@ module _ {K : Type 0} (items : K → List ℕ) where
       ∙ ap (λ z. if z then map items ks else map items ks ++ items k ∷ []) (any_map (bytes_eq (items k)) items ks)
       ∙ ap (λ z. if has z (map items ks) then map items ks else map items ks ++ z ∷ []) key
       ∙ ap (λ z. if has name z then z else z ++ name ∷ []) view
-
-  add_new : (b : Bool) (old : List (List ℕ)) (name : List ℕ) → b ≡ false → (if b then old else old ++ name ∷ []) ≡ old ++ name ∷ []
-  add_new true old name h = absurd cc
-  add_new false old name h = refl
-
-  -- the same where the key is new
-  pub add_after : (k : K) (ks new : List K) (old : List (List ℕ)) (name : List ℕ) → new ≡ insert_key (λ a b. bytes_eq (items a) (items b)) ks k
-      → items k ≡ name → map items ks ≡ old → has name old ≡ false → map items new ≡ old ++ name ∷ []
-  add_after k ks new old name made key view none = add_on k ks new old name made key view ∙ add_new (has name old) old name none

@@ -3,9 +3,10 @@ use Rattle.std.specs.Prelude.{Bool, true, false, ℕ, List, [], ◌∷◌, ◌++
 use Rattle.std.specs.Option.{option_or, option_map, unwrap_or}
 use Rattle.corba_exprs.specs.declared.tree.Identifier.{Identifier}
 use Rattle.corba_exprs.specs.declared.tree.ScopedName.{ScopedName}
+use Rattle.name_kit.specs.Names.{has}
 use Rattle.corba_scopes.specs.declared.meanings.Entry.{Entry}
 use Rattle.corba_scopes.specs.Around.{prefix_of}
-use Rattle.corba_scopes.specs.Names.{Names, has, look_up, put}
+use Rattle.corba_scopes.specs.Names.{Names, look_up, put}
 
 -- ---- the lines of interfaces
 

@@ -1,12 +1,12 @@
 -- The names that are declared, and how a name is declared in a scope.
 use Rattle.std.specs.Prelude.{Bool, ℕ, List, [], ◌∷◌, ◌++◌, map, Option, Some, None, Ok, if◌then◌else◌}
-use Rattle.std.specs.List.{list_any}
 use Rattle.std.specs.Option.{is_some}
 use Rattle.std.specs.Str.{bytes_eq}
 use Rattle.std.specs.Char.{to_ascii_lowercase}
 use Rattle.aoi.specs.declared.faults.NameFault.{NameFault}
 use Rattle.aoi.specs.declared.faults.NameFault.TheVariants.{Twice, CaseClash}
 use Rattle.name_kit.specs.Answers.{Answer, fault, and_then}
+use Rattle.name_kit.specs.Names.{has}
 use Rattle.corba_scopes.specs.declared.meanings.Meaning.{Meaning}
 
 -- full names in the order of their declarations, each with what it stands for
@@ -22,10 +22,6 @@ pub record Names : Type 0 where
 -- nothing is declared
 abbrev pub nothing : Names
 nothing = record { meanings = []; folded = []; lines = [] }
-
--- a name is one of these
-abbrev pub has : List ℕ → List (List ℕ) → Bool
-has name names = list_any (bytes_eq name) names
 
 -- what is held by this name, if something is
 abbrev pub look_up : {V : Type 0} → List ℕ → List (List ℕ × V) → Option V

@@ -12,5 +12,6 @@ mod tables;
 
 pub use around::{Env, full_name, innermost, inside, of_file, prefix_of};
 pub use lines::Line;
-pub use meanings::{Constant, Entry, Meaning, Tag, Use};
+pub use meanings::{Constant, Entry, Meaning};
+pub use name_kit::{Tag, Use};
 pub use state::Scopes;

@@ -1,6 +1,7 @@
 // The scopes of interfaces, each with those in which its names are found.
 ghost use Rattle.std.specs.Prelude.{◌≡◌, ◌++◌, ◌∷◌, [], None, Some, map, IfOk, OnOk, option_copied, if◌then◌else◌};
-ghost use Rattle.corba_scopes.specs.Names.{has, look_up, put};
+ghost use Rattle.name_kit.specs.Names.{has};
+ghost use Rattle.corba_scopes.specs.Names.{look_up, put};
 ghost use Rattle.corba_scopes.specs.Finding.{joined};
 
 use indexmap::{IndexMap, IndexSet};
@@ -44,14 +45,21 @@ impl Line {
         Ok(())
     }
 
+    /// Puts scopes after the others, without those that are there.
+    fn add_all(&mut self, alloc: Global, scopes: &[Vec<u8>]) -> Result<(), NoMemory>
+        ensures { OnOk result (self.new ≡ joined self.old (map (λ k. k.items) scopes.now)) }
+    {
+        for scope in scopes {
+            self.add(alloc, scope.as_slice())?;
+        }
+        Ok(())
+    }
+
     /// Puts the scopes of a line after the others, without those that are there.
     pub fn join(&mut self, alloc: Global, other: &Line) -> Result<(), NoMemory>
         ensures { OnOk result (self.new ≡ joined self.old other.now) }
     {
-        for scope in other.scopes() {
-            self.add(alloc, scope)?;
-        }
-        Ok(())
+        self.add_all(alloc, other.scopes())
     }
 
     /// The scopes, in order.

@@ -3,27 +3,8 @@ ghost use Rattle.std.specs.Prelude.{◌≡◌};
 ghost use Rattle.corba_scopes.specs.Consts.{meaning_of_constant};
 
 use kit_base::Name;
-use mint::kind::{Count, Kind};
-
-/// What a type is as the tag of a union (its discriminant).
-#[derive(Clone, Copy, Debug, PartialEq, Eq)]
-pub enum Tag {
-    /// A number of this kind.
-    Number(Kind),
-    /// A number of the enum that is this type of the unit.
-    Enum(u32),
-    /// None: no such type is a tag.
-    Other,
-}
-
-/// A type that a name stands for.
-#[derive(Clone, Copy, Debug, PartialEq, Eq)]
-pub enum Use {
-    /// A number of this kind.
-    Number(Kind),
-    /// A type of the unit by its number, and what it is as a tag.
-    Declared(u32, Tag),
-}
+use mint::kind::Count;
+use name_kit::Use;
 
 /// What a name stands for.
 #[derive(Clone, Copy, Debug, PartialEq, Eq)]

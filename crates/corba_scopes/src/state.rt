@@ -7,9 +7,10 @@ ghost use Rattle.corba_scopes.specs.Finding.{with_base, with_line};
 use crate::around::full_name;
 use crate::lines::{Line, Lines};
 use crate::meanings::Meaning;
-use crate::tables::{Folded, Table, lower};
+use crate::tables::{Table, lower};
 use aoi::{NameErr, NameFault};
 use kit_base::NoMemory;
+use name_kit::Names;
 use std::alloc::Global;
 use std::marker::Model;
 
@@ -17,7 +18,7 @@ use std::marker::Model;
 #[derive(Drop)]
 pub struct Scopes {
     table: Table,
-    folded: Folded,
+    folded: Names,
     lines: Lines,
 }
 
@@ -37,7 +38,7 @@ impl Scopes {
     {
         Scopes {
             table: Table::new(alloc),
-            folded: Folded::new(alloc),
+            folded: Names::new(alloc),
             lines: Lines::new(alloc),
         }
     }
@@ -69,9 +70,8 @@ impl Scopes {
         if self.table.has(full.as_slice()) {
             return Ok(Some(NameFault::Twice));
         }
-        let small = lower(alloc, name)?;
-        let full = full_name(alloc, scope, small.as_slice())?;
-        if self.folded.has(full.as_slice()) {
+        let small = full_name(alloc, scope, lower(alloc, name)?.as_slice())?;
+        if self.folded.has(small.as_slice()) {
             return Ok(Some(NameFault::CaseClash));
         }
         Ok(None)
@@ -104,9 +104,9 @@ impl Scopes {
         requires { clash self.old scope.now name.now ≡ None }
         ensures ok { OnOk result (self.new ≡ declared scope.now name.now meaning self.old) }
     {
-        let small = lower(alloc, name)?;
+        let small = full_name(alloc, scope, lower(alloc, name)?.as_slice())?;
         self.table.push(alloc, scope, name, meaning)?;
-        self.folded.push(alloc, scope, small.as_slice())?;
+        self.folded.push(alloc, small.as_slice())?;
         Ok(())
     }
 

@@ -1,14 +1,14 @@
 // Full names in the order of their declarations.
 ghost use Rattle.std.specs.Prelude.{◌≡◌, ◌++◌, ◌∷◌, [], false, IfOk, OnOk};
-ghost use Rattle.corba_scopes.specs.Names.{has, is_declared, look_up, lower};
+ghost use Rattle.corba_scopes.specs.Names.{is_declared, look_up, lower};
 
 use crate::meanings::Meaning;
-use indexmap::{IndexMap, IndexSet};
+use indexmap::IndexMap;
 use kit_base::NoMemory;
 use std::alloc::Global;
 use std::marker::Model;
 
-/// A scope's prefix with octets after it.
+/// A scope's prefix with a name after it.
 fn joined_key(alloc: Global, scope: &[u8], name: &[u8]) -> Result<Vec<u8>, NoMemory>
     ensures { IfOk result (λ key. key.items ≡ scope.now ++ name.now) }
 {
@@ -79,52 +79,4 @@ pub(crate) fn lower(alloc: Global, name: &[u8]) -> Result<Vec<u8>, NoMemory>
     ensures { IfOk result (λ key. key.items ≡ lower name.now) }
 {
     Ok(name.to_ascii_lowercase(alloc)?)
-}
-
-/// Names, each different from the others.
-#[derive(Drop)]
-pub(crate) struct Folded {
-    keys: IndexSet<Vec<u8>>,
-}
-
-impl Model for Folded {
-    ghost use Rattle.std.specs.Prelude.{List, ℕ, map};
-    ghost use Rattle.std.specs.Coded.{codes};
-
-    ghost Value = { List (List ℕ) };
-
-    ghost view = { λ s. map (λ k. k.items) s.keys.keys };
-}
-
-impl Folded {
-    /// No names.
-    pub(crate) fn new(alloc: Global) -> Folded
-        ensures { result ≡ [] }
-    {
-        Folded {
-            keys: IndexSet::new(alloc),
-        }
-    }
-
-    /// Whether a name is one of them.
-    pub(crate) fn has(&self, name: &[u8]) -> bool
-        ensures { result ≡ has name.now self.now }
-    {
-        self.keys.contains(name)
-    }
-
-    /// Puts a name of a scope after the others.
-    pub(crate) fn push(
-        &mut self,
-        alloc: Global,
-        scope: &[u8],
-        name: &[u8],
-    ) -> Result<(), NoMemory>
-        requires { has (scope.now ++ name.now) self.old ≡ false }
-        ensures ok { OnOk result (self.new ≡ self.old ++ (scope.now ++ name.now) ∷ []) }
-    {
-        let key = joined_key(alloc, scope, name)?;
-        self.keys.insert(key)?;
-        Ok(())
-    }
 }
