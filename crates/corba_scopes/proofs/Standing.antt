@@ -1,5 +1,5 @@
 -- What holds of everything that names stand for, and what stays when a name is declared.
-use Rattle.std.proofs.Common.{◌≡◌, ℕ, Bool, true, false, List, [], ◌∷◌, ◌++◌, Option, Some, None, refl, ap, ◌∙◌, if◌then◌else◌}
+use Rattle.std.proofs.Common.{◌≡◌, ℕ, Bool, true, false, List, [], ◌∷◌, ◌++◌, Option, Some, None, refl, if◌then◌else◌}
 use Rattle.std.specs.Option.{is_some, option_or, option_map}
 use Rattle.std.specs.Str.{bytes_eq}
 use Rattle.corba_exprs.specs.declared.tree.Identifier.{Identifier}
@@ -48,7 +48,8 @@ module _ (P : Meaning → Type 0) where
 
   first_is : (s : Names) (name : List ℕ) (scopes : List (List ℕ)) → AllMeanings P s.meanings → IfFound P (first_in s name scopes)
   first_is s name [] h = tt
-  first_is s name (scope ∷ scopes) h = either_is (entry_at s (scope ++ name)) (first_in s name scopes) (entry_is s (scope ++ name) h) (first_is s name scopes h)
+  first_is s name (scope ∷ scopes) h =
+      either_is (entry_at s (scope ++ name)) (first_in s name scopes) (entry_is s (scope ++ name) h) (first_is s name scopes h)
 
   -- what is found in a scope
   pub found_is : (s : Names) (scope name : List ℕ) → AllMeanings P s.meanings → IfFound P (found s scope name)
@@ -59,17 +60,21 @@ module _ (P : Meaning → Type 0) where
   sought_is s [] name h = tt
   sought_is s (scope ∷ env) name h = either_is (found s scope name) (sought s env name) (found_is s scope name h) (sought_is s env name h)
 
-  within_is : (s : Names) (o : Option Entry) (parts : List Identifier) → AllMeanings P s.meanings → IfFound P o → IfFound P (within s o parts)
+  within_is : (s : Names) (o : Option Entry) (parts : List Identifier)
+      → AllMeanings P s.meanings → IfFound P o → IfFound P (within s o parts)
   within_is s None [] h r = tt
   within_is s None (part ∷ parts) h r = tt
   within_is s (Some e) [] h r = r
-  within_is s (Some e) (part ∷ parts) h r = within_is s (found s (prefix_of e.name) part.name) parts h (found_is s (prefix_of e.name) part.name h)
+  within_is s (Some e) (part ∷ parts) h r =
+      within_is s (found s (prefix_of e.name) part.name) parts h (found_is s (prefix_of e.name) part.name h)
 
-  begins_is : (s : Names) (env : List (List ℕ)) (absolute : Bool) (name : List ℕ) → AllMeanings P s.meanings → IfFound P (first s env absolute name)
+  begins_is : (s : Names) (env : List (List ℕ)) (absolute : Bool) (name : List ℕ)
+      → AllMeanings P s.meanings → IfFound P (first s env absolute name)
   begins_is s env true name h = found_is s [] name h
   begins_is s env false name h = sought_is s env name h
 
-  parts_are : (s : Names) (env : List (List ℕ)) (absolute : Bool) (parts : List Identifier) → AllMeanings P s.meanings → IfFound P (parts_named s env absolute parts)
+  parts_are : (s : Names) (env : List (List ℕ)) (absolute : Bool) (parts : List Identifier)
+      → AllMeanings P s.meanings → IfFound P (parts_named s env absolute parts)
   parts_are s env absolute [] h = tt
   parts_are s env absolute (part ∷ parts) h = within_is s (first s env absolute part.name) parts h (begins_is s env absolute part.name h)
 
@@ -83,7 +88,8 @@ module _ (P : Meaning → Type 0) where
   all_push (x ∷ xs) e h m = (h.0, all_push xs e h.1 m)
 
   -- a name that is declared
-  pub all_declared : (scope name : List ℕ) (m : Meaning) (s : Names) → AllMeanings P s.meanings → P m → AllMeanings P (declared scope name m s).meanings
+  pub all_declared : (scope name : List ℕ) (m : Meaning) (s : Names)
+      → AllMeanings P s.meanings → P m → AllMeanings P (declared scope name m s).meanings
   all_declared scope name m s h r = all_push s.meanings (scope ++ name, m) h r
 
 -- what follows from what holds of every meaning
@@ -93,25 +99,31 @@ all_follow P Q (e ∷ es) f h = (f e.1 h.0, all_follow P Q es f h.1)
 
 -- ---- what stays
 
-stay_by : {V : Type 0} (b : Bool) (x v : V) (o p : Option V) → (if b then Some x else o) ≡ Some v → (o ≡ Some v → p ≡ Some v) → (if b then Some x else p) ≡ Some v
+stay_by : {V : Type 0} (b : Bool) (x v : V) (o p : Option V)
+    → (if b then Some x else o) ≡ Some v → (o ≡ Some v → p ≡ Some v) → (if b then Some x else p) ≡ Some v
 stay_by true x v o p h f = h
 stay_by false x v o p h f = f h
 
 -- a name that stands for something still stands for it when one more is declared
-pub stays : {V : Type 0} (name : List ℕ) (v : V) (es : List (List ℕ × V)) (e : List ℕ × V) → look_up name es ≡ Some v → look_up name (es ++ e ∷ []) ≡ Some v
+pub stays : {V : Type 0} (name : List ℕ) (v : V) (es : List (List ℕ × V)) (e : List ℕ × V)
+    → look_up name es ≡ Some v → look_up name (es ++ e ∷ []) ≡ Some v
 stays name v [] e h = absurd cc
 stays name v (x ∷ es) e h = stay_by (bytes_eq name x.0) x.1 v (look_up name es) (look_up name (es ++ e ∷ [])) h (stays name v es e)
 
-declared_by : (b : Bool) (x : Meaning) (o p : Option Meaning) → is_some (if b then Some x else o) ≡ true → (is_some o ≡ true → is_some p ≡ true) → is_some (if b then Some x else p) ≡ true
+declared_by : (b : Bool) (x : Meaning) (o p : Option Meaning)
+    → is_some (if b then Some x else o) ≡ true → (is_some o ≡ true → is_some p ≡ true) → is_some (if b then Some x else p) ≡ true
 declared_by true x o p h f = refl
 declared_by false x o p h f = f h
 
 -- a name that is declared stays declared
-pub stays_declared : (name : List ℕ) (es : Meanings) (e : List ℕ × Meaning) → is_declared name es ≡ true → is_declared name (es ++ e ∷ []) ≡ true
+pub stays_declared : (name : List ℕ) (es : Meanings) (e : List ℕ × Meaning)
+    → is_declared name es ≡ true → is_declared name (es ++ e ∷ []) ≡ true
 stays_declared name [] e h = absurd cc
-stays_declared name (x ∷ es) e h = declared_by (bytes_eq name x.0) x.1 (look_up name es) (look_up name (es ++ e ∷ [])) h (stays_declared name es e)
+stays_declared name (x ∷ es) e h =
+    declared_by (bytes_eq name x.0) x.1 (look_up name es) (look_up name (es ++ e ∷ [])) h (stays_declared name es e)
 
-undeclared_by : (b : Bool) (x : Meaning) (o p : Option Meaning) → is_some (if b then Some x else o) ≡ false → (is_some o ≡ false → is_some p ≡ false) → is_some (if b then Some x else p) ≡ false
+undeclared_by : (b : Bool) (x : Meaning) (o p : Option Meaning)
+    → is_some (if b then Some x else o) ≡ false → (is_some o ≡ false → is_some p ≡ false) → is_some (if b then Some x else p) ≡ false
 undeclared_by true x o p h f = absurd cc
 undeclared_by false x o p h f = f h
 
@@ -120,6 +132,8 @@ last_by true x h = absurd cc
 last_by false x h = refl
 
 -- a name that is not declared stays so when another is
-pub stays_new : (name : List ℕ) (es : Meanings) (other : List ℕ) (m : Meaning) → is_declared name es ≡ false → bytes_eq name other ≡ false → is_declared name (es ++ (other, m) ∷ []) ≡ false
+pub stays_new : (name : List ℕ) (es : Meanings) (other : List ℕ) (m : Meaning)
+    → is_declared name es ≡ false → bytes_eq name other ≡ false → is_declared name (es ++ (other, m) ∷ []) ≡ false
 stays_new name [] other m h n = last_by (bytes_eq name other) m n
-stays_new name (x ∷ es) other m h n = undeclared_by (bytes_eq name x.0) x.1 (look_up name es) (look_up name (es ++ (other, m) ∷ [])) h (λ r. stays_new name es other m r n)
+stays_new name (x ∷ es) other m h n =
+    undeclared_by (bytes_eq name x.0) x.1 (look_up name es) (look_up name (es ++ (other, m) ∷ [])) h (λ r. stays_new name es other m r n)

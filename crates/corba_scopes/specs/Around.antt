@@ -1,4 +1,4 @@
--- The prefixes of scopes. A scope is its prefix: nothing for the file, and for what is declared in a scope that scope's prefix, its name and a dot.
+-- The prefixes of scopes. A scope is its prefix: nothing for the file; for what is declared in a scope that prefix, its name and a dot.
 use Rattle.std.specs.Prelude.{ℕ, List, [], ◌∷◌, ◌++◌, codes}
 
 -- the prefix of the scope into which `::` leads after a full name

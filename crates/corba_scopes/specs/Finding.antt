@@ -14,10 +14,14 @@ use Rattle.corba_scopes.specs.Names.{Names, look_up, put}
 abbrev pub line_of : List ℕ → Names → List (List ℕ)
 line_of scope s = unwrap_or (look_up scope s.lines) (scope ∷ [])
 
+-- a line with a scope after it, unless the scope stands there
+abbrev pub added : List ℕ → List (List ℕ) → List (List ℕ)
+added scope line = if has scope line then line else line ++ scope ∷ []
+
 -- a line with more scopes after it, each once
 abbrev pub joined : List (List ℕ) → List (List ℕ) → List (List ℕ)
 joined line [] = line
-joined line (scope ∷ scopes) = joined (if has scope line then line else line ++ scope ∷ []) scopes
+joined line (scope ∷ scopes) = joined (added scope line) scopes
 
 -- a line with that of one more base after it
 abbrev pub with_base : Names → List ℕ → List (List ℕ) → List (List ℕ)

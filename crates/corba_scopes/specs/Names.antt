@@ -13,7 +13,7 @@ use Rattle.corba_scopes.specs.declared.meanings.Meaning.{Meaning}
 abbrev pub Meanings : Type 0
 Meanings = List (List ℕ × Meaning)
 
--- what is declared: full names with what they stand for; the same names but for the case of the last identifier; the scopes of interfaces, each with its line
+-- what is declared: full names, each with what it stands for; the same but for the case of the last identifier; the lines of interfaces
 pub record Names : Type 0 where
   pub meanings : Meanings
   pub folded : List (List ℕ)

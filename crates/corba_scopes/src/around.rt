@@ -5,7 +5,7 @@ ghost use Rattle.corba_scopes.specs.Around.{file, prefix_of, innermost, inside};
 use kit_base::{Listed, Name, NoMemory};
 use std::alloc::Global;
 
-/// The prefixes of the scopes around a place, the innermost first: `M.I.`, `M.` and the empty one of the file.
+/// The prefixes of the scopes around a place, the innermost first: `M.I.`, `M.`, and the file's empty one.
 pub type Env = Listed<Name>;
 
 /// The full name of what is declared in a scope.

@@ -18,10 +18,12 @@ fn number_of(decl: u32, entry: Option<Entry>) -> Result<i128, NameErr>
     ensures exact { result ≡ number_of decl entry }
 {
     let fault = match entry {
-        Some(Entry {
-            meaning: Meaning::Number(n),
-            ..
-        }) => return Ok(n),
+        Some(
+            Entry {
+                meaning: Meaning::Number(n),
+                ..
+            },
+        ) => return Ok(n),
         Some(_) => NameFault::NotConst,
         None => NameFault::Unknown,
     };

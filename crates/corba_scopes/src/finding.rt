@@ -43,12 +43,7 @@ impl Scopes {
     }
 
     /// A name in a scope or, where that is an interface's, in a base.
-    pub fn found(
-        &self,
-        alloc: Global,
-        scope: &[u8],
-        name: &[u8],
-    ) -> Result<Option<Entry>, NoMemory>
+    pub fn found(&self, alloc: Global, scope: &[u8], name: &[u8]) -> Result<Option<Entry>, NoMemory>
         ensures { IfOk result (λ e. e ≡ found self.now scope.now name.now) }
     {
         match self.lines().line(scope) {

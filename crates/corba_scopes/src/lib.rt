@@ -1,5 +1,5 @@
-//! The scopes of a CORBA IDL file (CORBA, chapter on IDL syntax and semantics, "Names and scoping"): how names are
-//! declared and found in them, and the numbers of constant expressions.
+//! The scopes of a CORBA IDL file (CORBA, chapter on IDL syntax and semantics, "Names and scoping"): how names
+//! are declared and found in them, and the numbers of constant expressions.
 #![tactic(auto)]
 
 mod around;

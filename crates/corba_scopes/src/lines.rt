@@ -1,8 +1,7 @@
 // The scopes of interfaces, each with those in which its names are found.
-ghost use Rattle.std.specs.Prelude.{◌≡◌, ◌++◌, ◌∷◌, [], None, Some, map, IfOk, OnOk, option_copied, if◌then◌else◌};
-ghost use Rattle.name_kit.specs.Names.{has};
+ghost use Rattle.std.specs.Prelude.{◌≡◌, ◌∷◌, [], map, IfOk, OnOk, option_copied};
 ghost use Rattle.corba_scopes.specs.Names.{look_up, put};
-ghost use Rattle.corba_scopes.specs.Finding.{joined};
+ghost use Rattle.corba_scopes.specs.Finding.{added, joined};
 
 use indexmap::{IndexMap, IndexSet};
 use kit_base::NoMemory;
@@ -38,7 +37,7 @@ impl Line {
 
     /// Puts a scope after the others, where it is none of them.
     pub fn add(&mut self, alloc: Global, scope: &[u8]) -> Result<(), NoMemory>
-        ensures { OnOk result (self.new ≡ (if has scope.now self.old then self.old else self.old ++ scope.now ∷ [])) }
+        ensures { OnOk result (self.new ≡ added scope.now self.old) }
     {
         let key = Vec::from_slice(alloc, scope)?;
         self.scopes.insert(key)?;

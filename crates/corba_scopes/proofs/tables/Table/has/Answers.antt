@@ -5,4 +5,6 @@ use Rattle.corba_scopes.proofs.Keyed.{lookup_map}
 use Rattle.corba_scopes.proofs.tables.Table.has.Goals as goal
 
 pub returns : goal.returns
-returns c = c.contains_key.ensures ∙ ap is_some (lookup_map (λ k. k.items) c.args.full.now c.self.inside.meanings.entries ∙ ap (look_up c.args.full.now) c.self.view_is)
+returns c =
+    c.contains_key.ensures
+    ∙ ap is_some (lookup_map (λ k. k.items) c.args.full.now c.self.inside.meanings.entries ∙ ap (look_up c.args.full.now) c.self.view_is)
