@@ -1,5 +1,5 @@
 -- The octets of an array, by the sort of its elements.
-use Rattle.std.proofs.Common.{◌≡◌, ℕ, ◌+◌, ◌<◌, arith, ℤ, List, [], ◌∷◌, length, map, Bool, ◌&&◌, true, false, not, int_eq, refl, ap, pos, negsuc}
+use Rattle.std.proofs.Common.{◌≡◌, ℕ, ◌+◌, ◌-◌, ◌*◌, ◌%◌, ◌<◌, arith, ℤ, List, [], ◌∷◌, length, map, Bool, ◌&&◌, true, false, not, int_eq, refl, ap, pos, negsuc}
 use Rattle.std.specs.List.{list_all}
 use Rattle.mint.specs.declared.kind.Kind.{Kind}
 use Rattle.mint.specs.declared.kind.Kind.TheVariants as kind
@@ -10,8 +10,8 @@ use Rattle.wire_def.specs.declared.encoding.Encoding.{Encoding}
 use Rattle.wire_def.specs.declared.encoding.Encoding.TheVariants.{Xdr, CdrBig, CdrLittle, Mach}
 use Rattle.wire_def.specs.Scalars.{gap, scalar_octets}
 use Rattle.wire_def.specs.Arrays.{natural, is_octets, element_octets, elements_octets, array_octets, trailing}
-use Rattle.plain_wire.specs.Sending.{IsPlain, elements_of, in_full}
-use Rattle.plain_wire.proofs.Steps.{equations, row_head}
+use Rattle.plain_wire.specs.Sending.{elements_of, in_full}
+use Rattle.plain_wire.proofs.Steps.{equations}
 use Rattle.wire_def.proofs.ScalarGrammar.{left_true, right_true}
 
 -- where each element is one octet
@@ -75,20 +75,34 @@ pub xdr_other : (k : Kind) (c : Count) (n : ℕ) → (k ≡ kind.Octet → ⊥) 
 xdr_other kind.Octet c n other = absurd (other refl)
 xdr_other k c n other = refl
 
-pub row_ends : (e : Encoding) (k : Kind) (c : Count) (n : ℕ) → IsPlain e → (e ≡ Xdr → ⊥) → 0 ≡ trailing e (row_of k c) n
-row_ends Xdr k c n h other = absurd (other refl)
-row_ends CdrBig k c n h other = refl
-row_ends CdrLittle k c n h other = refl
-row_ends Mach k c n h other = absurd h
+pub cdr_row : (e : Encoding) (k : Kind) (c : Count) (n : ℕ) → (e ≡ Xdr → ⊥) → (e ≡ Mach → ⊥) → 0 ≡ trailing e (row_of k c) n
+cdr_row Xdr k c n a b = absurd (a refl)
+cdr_row CdrBig k c n a b = refl
+cdr_row CdrLittle k c n a b = refl
+cdr_row Mach k c n a b = absurd (b refl)
 
-pub text_ends : (e : Encoding) (c : Count) (n : ℕ) → IsPlain e → (e ≡ Xdr → ⊥) → 1 ≡ trailing e (text c) n
-text_ends Xdr c n h other = absurd (other refl)
-text_ends CdrBig c n h other = refl
-text_ends CdrLittle c n h other = refl
-text_ends Mach c n h other = absurd h
+pub cdr_text : (e : Encoding) (c : Count) (n : ℕ) → (e ≡ Xdr → ⊥) → (e ≡ Mach → ⊥) → 1 ≡ trailing e (text c) n
+cdr_text Xdr c n a b = absurd (a refl)
+cdr_text CdrBig c n a b = refl
+cdr_text CdrLittle c n a b = refl
+cdr_text Mach c n a b = absurd (b refl)
 
-pub ruleset tails = (gap_few, xdr_other, row_ends, text_ends)
+-- octets, pairs of octets, and fours or eights of them, up to a multiple of 4
+
+pub ones_end : (n : ℕ) → (4 - n % 4) % 4 ≡ gap (n * 1) 4
+ones_end n = omega arith
+
+pub twos_end : (n : ℕ) → n % 2 * 2 ≡ gap (n * 2) 4
+twos_end n = omega arith
+
+pub fours_end : (n : ℕ) → 0 ≡ gap (n * 4) 4
+fours_end n = omega arith
+
+pub eights_end : (n : ℕ) → 0 ≡ gap (n * 8) 4
+eights_end n = omega arith
+
+pub ruleset tails = (gap_few, xdr_other, cdr_row, cdr_text, ones_end, twos_end, fours_end, eights_end)
 
 pub ruleset texts = (equations, text_elements, letters_fit)
 
-pub ruleset wholes = (equations, row_head, array_in_full)
+pub ruleset wholes = (equations, array_in_full)

@@ -3,6 +3,7 @@ mod Gaps
 pub mod Arms
 pub mod Reading
 pub mod Blocks
+pub mod Descriptors
 pub mod Exact
 pub mod Arrays
 pub mod Images

@@ -3,8 +3,7 @@ use Rattle.std.proofs.Common.{◌≡◌, ℕ, ◌+◌, ◌-◌, ◌<◌, ◌≤�
 use Rattle.std.specs.Prelude.{if◌then◌else◌}
 use Rattle.wire_def.specs.declared.encoding.Encoding.{Encoding}
 use Rattle.wire_def.specs.declared.encoding.Encoding.TheVariants.{Xdr, CdrBig, CdrLittle, Mach}
-use Rattle.wire_def.specs.Lone.{read_lone, read_pass}
-use Rattle.plain_wire.specs.Sending.{IsPlain}
+use Rattle.wire_def.specs.Lone.{filling, read_any, read_desc, read_item, read_lone, read_pass, scalar_word}
 use Rattle.wire_def.specs.declared.fault.FaultKind.TheVariants.{Short, BadValue}
 use Rattle.std.proofs.Common.{ℤ, pos, negsuc, Option, Some, None, Bool, map, int_eq, is_some, zero, suc, add-one, sub-one, sym, ap, append_assoc, [], ◌∷◌, ◌++◌, true, false}
 use Rattle.std.proofs.lemmas.Int.{to_z-of_z}
@@ -138,34 +137,58 @@ arm_is_there us [] None n found is = rw (← is) refl
 arm_is_there us [] (Some j) n found is = rw (← is) refl
 arm_is_there us (a ∷ arms) other n found is = has_at (int_eq n a.0) a.1 (arm_found arms other n) found (has_arm (arms_at us arms other) n) is (λ f. arm_is_there us arms other n found f)
 
--- over encodings without descriptors
-pub pass_read : (e : Encoding) (s : Scalar) (test : ℤ → Bool) (p : ℕ) (o : List ℕ) → IsPlain e → read_pass e s test BadValue p o ≡ tested (read_lone e s) test BadValue (scalar_place e s) p o
-pass_read Xdr s test p o h = refl
-pass_read CdrBig s test p o h = refl
-pass_read CdrLittle s test p o h = refl
-pass_read Mach s test p o h = absurd h
+module _ (e : Encoding) (s : Scalar) (arms : List (ℤ × ℕ)) (other : Option ℕ) (p : ℕ) (o : List ℕ) where
+  abbrev with_arm : Reader FaultKind ℤ
+  with_arm = tested (read_scalar e s) (lists arms other) BadValue (scalar_place e s)
 
-module _ (e : Encoding) (plain : IsPlain e) (s : Scalar) (arms : List (ℤ × ℕ)) (other : Option ℕ) (p : ℕ) (o : List ℕ) where
   -- a number with an arm, without one, or none
-  pub tag_got : (n : ℤ) (q : ℕ) (rest : List ℕ) (i : ℕ) → read_lone e s p o ≡ got n q rest → arm_found arms other n ≡ Some i → read_pass e s (lists arms other) BadValue p o ≡ got n q rest
-  tag_got n q rest i tag found = rw (pass_read e s (lists arms other) p o plain, tag, found) refl
+  pub tag_got : (n : ℤ) (q : ℕ) (rest : List ℕ) (i : ℕ) → read_scalar e s p o ≡ got n q rest → arm_found arms other n ≡ Some i → with_arm p o ≡ got n q rest
+  tag_got n q rest i tag found = rw (tag, found) refl
 
-  pub tag_none : (n : ℤ) (q : ℕ) (rest : List ℕ) → read_lone e s p o ≡ got n q rest → arm_found arms other n ≡ None → read_pass e s (lists arms other) BadValue p o ≡ stop BadValue (scalar_place e s p)
-  tag_none n q rest tag found = rw (pass_read e s (lists arms other) p o plain, tag, found) refl
+  pub tag_none : (n : ℤ) (q : ℕ) (rest : List ℕ) → read_scalar e s p o ≡ got n q rest → arm_found arms other n ≡ None → with_arm p o ≡ stop BadValue (scalar_place e s p)
+  tag_none n q rest tag found = rw (tag, found) refl
 
-  pub tag_stop : (k : FaultKind) (place : ℕ) → read_lone e s p o ≡ stop k place → read_pass e s (lists arms other) BadValue p o ≡ stop k place
-  tag_stop k place tag = rw (pass_read e s (lists arms other) p o plain, tag) refl
+  pub tag_stop : (k : FaultKind) (place : ℕ) → read_scalar e s p o ≡ stop k place → with_arm p o ≡ stop k place
+  tag_stop k place tag = rw tag refl
 
 pub ruleset tags = (to_z-of_z, tag_got, tag_none, tag_stop)
 
-module _ (e : Encoding) (plain : IsPlain e) (s : Scalar) (us : List Ty) (arms : List (ℤ × ℕ)) (other : Option ℕ) (p : ℕ) (o : List ℕ) where
+-- where a tag has no descriptor
+pub pass_read : (e : Encoding) (s : Scalar) (test : ℤ → Bool) (p : ℕ) (o : List ℕ) → (e ≡ Mach → ⊥) → read_pass e s test BadValue p o ≡ tested (read_scalar e s) test BadValue (scalar_place e s) p o
+pass_read Xdr s test p o h = refl
+pass_read CdrBig s test p o h = refl
+pass_read CdrLittle s test p o h = refl
+pass_read Mach s test p o h = absurd (h refl)
+
+pub ruleset passes = (pass_read)
+
+-- two tests that say the same, by themselves and in an item
+module _ (test same : ℤ → Bool) (is : (n : ℤ) → test n ≡ same n) where
+  tested_same : (r : Reader FaultKind ℤ) (place : ℕ → ℕ) (p : ℕ) (o : List ℕ) → tested r test BadValue place p o ≡ tested r same BadValue place p o
+  tested_same r place p o = on (r p o) where
+    on : (x : Reading FaultKind ℤ) → then_on x (λ n q rest. if test n then got n q rest else stop BadValue (place p)) ≡ then_on x (λ n q rest. if same n then got n q rest else stop BadValue (place p))
+    on (got n q rest) = rw is refl
+    on (stop k at) = refl
+
+  item_same : (s : Scalar) (r r' : Reader FaultKind ℤ) → ((q : ℕ) (b : List ℕ) → r q b ≡ r' q b) → (p : ℕ) (o : List ℕ) → read_item s r p o ≡ read_item s r' p o
+  item_same s r r' each p o = on (read_desc (scalar_word s) p o) where
+    inside : Reading FaultKind ℤ → Reading FaultKind (ℤ × Unit {0})
+    inside x = then_on x (λ n q b. map_got (λ y. (n, y)) (read_any (filling s) q b))
+
+    on : (x : Reading FaultKind (Unit {0})) → map_got (λ y. y.1.0) (then_on x (λ u q b. map_got (λ y. (u, y)) (inside (r q b)))) ≡ map_got (λ y. y.1.0) (then_on x (λ u q b. map_got (λ y. (u, y)) (inside (r' q b))))
+    on (got u q b) = ap (λ z. map_got (λ y. y.1.0) (map_got (λ y. (u, y)) (inside z))) (each q b)
+    on (stop k at) = refl
+
+  pass_same : (e : Encoding) (s : Scalar) (p : ℕ) (o : List ℕ) → read_pass e s test BadValue p o ≡ read_pass e s same BadValue p o
+  pass_same Xdr s p o = tested_same (read_scalar Xdr s) (scalar_place Xdr s) p o
+  pass_same CdrBig s p o = tested_same (read_scalar CdrBig s) (scalar_place CdrBig s) p o
+  pass_same CdrLittle s p o = tested_same (read_scalar CdrLittle s) (scalar_place CdrLittle s) p o
+  pass_same Mach s p o = item_same s (tested (read_scalar Mach s) test BadValue (scalar_place Mach s)) (tested (read_scalar Mach s) same BadValue (scalar_place Mach s)) (tested_same (read_scalar Mach s) (scalar_place Mach s)) p o
+
+module _ (e : Encoding) (s : Scalar) (us : List Ty) (arms : List (ℤ × ℕ)) (other : Option ℕ) (p : ℕ) (o : List ℕ) where
   -- the same tag, whether its arms are types or nodes
   same_tag : read_pass e s (has_arm (arms_at us arms other)) BadValue p o ≡ read_pass e s (lists arms other) BadValue p o
-  same_tag = rw (pass_read e s (has_arm (arms_at us arms other)) p o plain, pass_read e s (lists arms other) p o plain) (same (read_lone e s p o)) where
-    same : (r : Reading FaultKind ℤ)
-        → then_on r (λ n q rest. if has_arm (arms_at us arms other) n then got n q rest else stop BadValue (scalar_place e s p)) ≡ then_on r (λ n q rest. if lists arms other n then got n q rest else stop BadValue (scalar_place e s p))
-    same (got n q rest) = rw (arm_is_there us arms other n (arm_found arms other n) refl) refl
-    same (stop k at) = refl
+  same_tag = pass_same (has_arm (arms_at us arms other)) (lists arms other) (λ n. arm_is_there us arms other n (arm_found arms other n) refl) e s p o
 
   module _ (n : ℤ) (q : ℕ) (rest : List ℕ) (i : ℕ) (found : arm_found arms other n ≡ Some i) (tag : read_pass e s (lists arms other) BadValue p o ≡ got n q rest) where
     pub choice_got : (v : Val) (m : ℕ) (b : List ℕ) → read e (at us i) q rest ≡ got v m b → read e (choice_type s (arms_at us arms other)) p o ≡ got (arm n v) m b

@@ -2,7 +2,7 @@
 use Rattle.std.proofs.Common.{◌≡◌, ℕ, ◌+◌, ◌-◌, ◌%◌, ◌<◌, ◌≤◌, ℤ, pos, negsuc, List, [], ◌∷◌, ◌++◌, length, refl, sym, ap, ◌∙◌, ◌⊎◌, inl, inr, append_assoc, length-append, arith, add-one, map, drop, replicate, get_or, zero, suc, Bool, true, false, Result, Ok, Err, Option, Some, None}
 use Rattle.std.specs.Result.{IsErr}
 use Rattle.kit_base.specs.declared.errors.NoMemory.{NoMemory}
-use Rattle.plain_wire.specs.Sending.{Appends, IsPrefixed, IsPlain, aligned}
+use Rattle.plain_wire.specs.Sending.{Appends, IsPrefixed, aligned}
 use Rattle.std.specs.List.{list_all, slice_get}
 use Rattle.std.proofs.lemmas.List.{append-nil, drop_all}
 use Rattle.std.proofs.Math.Seq.{drop-cons}
@@ -12,7 +12,7 @@ use Rattle.mint.specs.declared.kind.Kind.{Kind}
 use Rattle.mint.specs.declared.kind.Kind.TheVariants as kind
 use Rattle.mint.specs.declared.kind.Count.{Count}
 use Rattle.mint.specs.declared.kind.Count.TheVariants.{Exactly}
-use Rattle.mint.specs.Types.{Scalar, number, label, text, row_of}
+use Rattle.mint.specs.Types.{Scalar, number, label, Array, text, row_of}
 use Rattle.mint.specs.Typed.{IsScalar}
 use Rattle.mint.proofs.Places.{number_missing}
 use Rattle.wire_def.specs.declared.encoding.Encoding.{Encoding}
@@ -20,7 +20,8 @@ use Rattle.wire_def.specs.declared.encoding.Encoding.TheVariants.{Xdr, CdrBig, C
 use Rattle.wire_def.specs.Scalars.{is_signed, scalar_octets, number_octets, residue, width_of, alignment_of, gap}
 use Rattle.wire_def.specs.Lone.{lone_octets}
 use Rattle.wire_def.proofs.ScalarGrammar.{left_true, right_true, FitsIn, fits_in, half_half}
-use Rattle.wire_def.specs.Arrays.{natural, counted, count_octets, head_octets}
+use Rattle.wire_def.specs.Arrays.{natural, counted, count_octets, head_octets, count_of, kind_of}
+use Rattle.wire_def.specs.Described.{described_octets}
 use Rattle.plain_wire.specs.Rows.{bare_octets, numbers_octets}
 use Rattle.plain_wire.specs.Widths.{FitsWidth}
 
@@ -41,12 +42,12 @@ fits_width e s n h = fitting (is_signed s) (width_of e s) n (fits_in e s n h)
 
 pub ruleset scalars = (to_z-of_z, scalar_aligned, fits_width)
 
--- a number that travels by itself is its scalar
-pub lone_scalar : (e : Encoding) (s : Scalar) (p : ℕ) (n : ℤ) → IsPlain e → lone_octets e s p n ≡ scalar_octets e s p n
+-- a number that travels by itself is its scalar, where it has no descriptor
+pub lone_scalar : (e : Encoding) (s : Scalar) (p : ℕ) (n : ℤ) → (e ≡ Mach → ⊥) → lone_octets e s p n ≡ scalar_octets e s p n
 lone_scalar Xdr s p n h = refl
 lone_scalar CdrBig s p n h = refl
 lone_scalar CdrLittle s p n h = refl
-lone_scalar Mach s p n h = absurd h
+lone_scalar Mach s p n h = absurd (h refl)
 
 -- a label is an integer of 32 bits
 pub label_octets : (e : Encoding) (ls : List ℤ) (p : ℕ) (n : ℤ) → lone_octets e (label ls) p n ≡ lone_octets e (number kind.I32) p n
@@ -90,21 +91,25 @@ unfolding head_octets
 cdr_text e c p n (inl is) = rw is refl
 cdr_text e c p n (inr is) = rw is refl
 
-pub other_text : (e : Encoding) (c : Count) (p n : ℕ) → IsPlain e → (e ≡ CdrBig → ⊥) → (e ≡ CdrLittle → ⊥) → head_octets e (text c) p n ≡ count_octets e c p n
+pub other_text : (e : Encoding) (c : Count) (p n : ℕ) → (e ≡ CdrBig → ⊥) → (e ≡ CdrLittle → ⊥) → (e ≡ Mach → ⊥) → head_octets e (text c) p n ≡ count_octets e c p n
 unfolding head_octets
-other_text Xdr c p n h a b = refl
-other_text CdrBig c p n h a b = absurd (a refl)
-other_text CdrLittle c p n h a b = absurd (b refl)
-other_text Mach c p n h a b = absurd h
+other_text Xdr c p n a b d = refl
+other_text CdrBig c p n a b d = absurd (a refl)
+other_text CdrLittle c p n a b d = absurd (b refl)
+other_text Mach c p n a b d = absurd (d refl)
 
-pub row_head : (e : Encoding) (k : Kind) (c : Count) (p n : ℕ) → IsPlain e → head_octets e (row_of k c) p n ≡ count_octets e c p n
+pub mach_head : (e : Encoding) (a : Array) (p n : ℕ) → e ≡ Mach → head_octets e a p n ≡ described_octets (count_of a) (number (kind_of a)) n
+unfolding head_octets
+mach_head e a p n is = rw is refl
+
+pub row_head : (e : Encoding) (k : Kind) (c : Count) (p n : ℕ) → (e ≡ Mach → ⊥) → head_octets e (row_of k c) p n ≡ count_octets e c p n
 unfolding head_octets
 row_head Xdr k c p n h = refl
 row_head CdrBig k c p n h = refl
 row_head CdrLittle k c p n h = refl
-row_head Mach k c p n h = absurd h
+row_head Mach k c p n h = absurd (h refl)
 
-pub ruleset heads = (to_z-of_z, cdr_text, other_text, row_head)
+pub ruleset heads = (to_z-of_z, cdr_text, other_text, mach_head, row_head)
 
 -- what is left over is at least one more
 pub octets_left : (ns : List ℤ) (i : ℕ) → i < length ns → map natural (drop i ns) ≡ natural (get_or ns i (pos 0)) ∷ map natural (drop (i + 1) ns)

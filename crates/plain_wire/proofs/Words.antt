@@ -16,9 +16,9 @@ use Rattle.wire_def.specs.declared.fault.FaultKind.{FaultKind}
 use Rattle.wire_def.specs.declared.fault.FaultKind.TheVariants.{Short, BadValue}
 use Rattle.wire_def.specs.Grammar.{Reading, got, stop, then_on, map_got}
 use Rattle.wire_def.specs.Scalars.{gap, alignment_of, is_signed, width_of, octets_number, number_of, read_word, read_scalar, scalar_place}
-use Rattle.wire_def.specs.Lone.{read_lone}
-use Rattle.wire_def.specs.Arrays.{is_some, less_one, read_count, read_ended, read_head, read_zeros, read_tail, trailing, ill_ended}
-use Rattle.plain_wire.specs.Sending.{IsPlain}
+use Rattle.wire_def.specs.Lone.{lone_place, read_any, read_lone}
+use Rattle.wire_def.specs.Described.{read_described}
+use Rattle.wire_def.specs.Arrays.{count_of, kind_of, is_some, less_one, read_count, read_ended, read_head, read_zeros, read_tail, trailing, ill_ended}
 use Rattle.plain_wire.specs.Readers.{read_gap, read_here}
 
 pub word_here : (e : Encoding) (w : Width) (p : ℕ) (o : List ℕ) → read_word e 1 w p o ≡ (if nat_lt (length o) (byte_len w) then stop Short p else got (octets_number e w (take (byte_len w) o)) (p + byte_len w) (drop (byte_len w) o))
@@ -73,12 +73,20 @@ pub ruleset scalars = (scalar_behind)
 
 pub ruleset kinds = (to_z-of_z)
 
--- over encodings without descriptors
-pub lone_read : (e : Encoding) (s : Scalar) (p : ℕ) (o : List ℕ) → IsPlain e → read_lone e s p o ≡ read_scalar e s p o
+-- where a number by itself has no descriptor
+pub lone_read : (e : Encoding) (s : Scalar) (p : ℕ) (o : List ℕ) → (e ≡ Mach → ⊥) → read_lone e s p o ≡ read_scalar e s p o
 lone_read Xdr s p o h = refl
 lone_read CdrBig s p o h = refl
 lone_read CdrLittle s p o h = refl
-lone_read Mach s p o h = absurd h
+lone_read Mach s p o h = absurd (h refl)
+
+pub place_of_lone : (e : Encoding) (s : Scalar) (p : ℕ) → (e ≡ Mach → ⊥) → lone_place e s p ≡ scalar_place e s p
+place_of_lone Xdr s p h = refl
+place_of_lone CdrBig s p h = refl
+place_of_lone CdrLittle s p h = refl
+place_of_lone Mach s p h = absurd (h refl)
+
+pub ruleset places = (place_of_lone)
 
 pub label_gap : (e : Encoding) (ls : List ℤ) → alignment_of e (number kind.I32) ≡ alignment_of e (label ls)
 label_gap Xdr ls = refl
@@ -103,32 +111,37 @@ less (suc m) h = (refl, omega arith)
 
 pub ruleset counts = (to_z-of_z, less)
 
-pub text_count : (e : Encoding) (c : Count) (p : ℕ) (o : List ℕ) → IsPlain e → (e ≡ CdrBig → ⊥) → (e ≡ CdrLittle → ⊥) → read_head e (text c) p o ≡ read_count e c p o
-unfolding read_head
-text_count Xdr c p o h a b = refl
-text_count CdrBig c p o h a b = absurd (a refl)
-text_count CdrLittle c p o h a b = absurd (b refl)
-text_count Mach c p o h a b = absurd h
-
 pub text_ended : (e : Encoding) (c : Count) (p : ℕ) (o : List ℕ) → (e ≡ CdrBig) ⊎ (e ≡ CdrLittle) → read_head e (text c) p o ≡ read_ended e c p o
 unfolding read_head
 text_ended e c p o (inl is) = rw is refl
 text_ended e c p o (inr is) = rw is refl
 
-pub row_count : (e : Encoding) (k : Kind) (c : Count) (p : ℕ) (o : List ℕ) → IsPlain e → read_head e (row_of k c) p o ≡ read_count e c p o
+pub mach_head : (e : Encoding) (a : Array) (p : ℕ) (o : List ℕ) → e ≡ Mach → read_head e a p o ≡ read_described (count_of a) (number (kind_of a)) p o
+unfolding read_head
+mach_head e a p o is = rw is refl
+
+pub xdr_text : (e : Encoding) (c : Count) (p : ℕ) (o : List ℕ) → e ≡ Xdr → read_head e (text c) p o ≡ read_count e c p o
+unfolding read_head
+xdr_text e c p o is = rw is refl
+
+pub row_count : (e : Encoding) (k : Kind) (c : Count) (p : ℕ) (o : List ℕ) → (e ≡ Mach → ⊥) → read_head e (row_of k c) p o ≡ read_count e c p o
 unfolding read_head
 row_count Xdr k c p o h = refl
 row_count CdrBig k c p o h = refl
 row_count CdrLittle k c p o h = refl
-row_count Mach k c p o h = absurd h
+row_count Mach k c p o h = absurd (h refl)
 
-pub ruleset heads = (text_count, text_ended, row_count)
+pub ruleset heads = (text_ended, mach_head, xdr_text, row_count)
 
-pub tail_read : (e : Encoding) (a : Array) (n p : ℕ) (o : List ℕ) → IsPlain e → read_tail e a n p o ≡ read_zeros (trailing e a n) (ill_ended e) p o
+pub zeros_read : (e : Encoding) (a : Array) (n p : ℕ) (o : List ℕ) → (e ≡ Mach → ⊥) → read_tail e a n p o ≡ read_zeros (trailing e a n) (ill_ended e) p o
 unfolding read_tail
-tail_read Xdr a n p o h = refl
-tail_read CdrBig a n p o h = refl
-tail_read CdrLittle a n p o h = refl
-tail_read Mach a n p o h = absurd h
+zeros_read Xdr a n p o h = refl
+zeros_read CdrBig a n p o h = refl
+zeros_read CdrLittle a n p o h = refl
+zeros_read Mach a n p o h = absurd (h refl)
 
-pub ruleset tails = (tail_read)
+pub any_read : (e : Encoding) (a : Array) (n p : ℕ) (o : List ℕ) → e ≡ Mach → read_tail e a n p o ≡ read_any (trailing e a n) p o
+unfolding read_tail
+any_read e a n p o is = rw is refl
+
+pub ruleset tails = (zeros_read, any_read)

@@ -1,5 +1,5 @@
 -- What a reader has given.
-use Rattle.std.specs.Prelude.{◌≡◌, ℕ, ◌+◌, ℤ, nat_lt, Bool, true, map, drop, length, List, Option, is_some, Result, Ok, Err, if◌then◌else◌}
+use Rattle.std.specs.Prelude.{◌≡◌, ℕ, ◌+◌, ◌/◌, ◌^◌, ℤ, nat_lt, Bool, true, map, drop, length, List, Option, is_some, Result, Ok, Err, if◌then◌else◌}
 use Rattle.std.specs.Int.{Width}
 use Rattle.mint.specs.declared.kind.Kind.{Kind}
 use Rattle.mint.specs.declared.kind.Count.{Count}
@@ -12,10 +12,11 @@ use Rattle.mint.specs.Values.{Val, seen}
 use Rattle.wire_def.specs.declared.encoding.Encoding.{Encoding}
 use Rattle.wire_def.specs.declared.fault.Fault.{Fault}
 use Rattle.wire_def.specs.declared.fault.FaultKind.{FaultKind}
-use Rattle.wire_def.specs.declared.fault.FaultKind.TheVariants.{Short, BadText, BadValue}
+use Rattle.wire_def.specs.declared.fault.FaultKind.TheVariants.{Short, BadText, BadValue, BadItem}
 use Rattle.wire_def.specs.Grammar.{Reading, got, stop, Reader, map_got, both, times, tested}
-use Rattle.wire_def.specs.Scalars.{is_signed, width_of, number_of, read_word}
+use Rattle.wire_def.specs.Scalars.{is_signed, width_of, number_of, read_word, read_scalar}
 use Rattle.wire_def.specs.Lone.{read_lone}
+use Rattle.wire_def.specs.Described.{elements_in, is_right, read_first, read_rest}
 use Rattle.wire_def.specs.Arrays.{natural, counted, read_element, read_octet, read_tail}
 use Rattle.plain_wire.specs.declared.cursor.Cursor.{Cursor}
 use Rattle.plain_wire.specs.declared.cursor.ReadError.{ReadError}
@@ -72,6 +73,14 @@ read_here e s = tested (read_bits e (is_signed s) (width_of e s)) (is_scalar s) 
 -- a count by itself
 abbrev pub read_counted : Encoding → Reader FaultKind ℕ
 read_counted e p o = map_got natural (read_lone e counted p o)
+
+-- a length without a descriptor
+abbrev pub read_length : Encoding → Reader FaultKind ℕ
+read_length e p o = map_got natural (read_scalar e counted p o)
+
+-- how many elements a descriptor says that there are, whatever the bound
+abbrev pub read_many : Count → Scalar → Reader FaultKind ℕ
+read_many c s p o = map_got (λ x. elements_in s (x.1 / 2 ^ 32)) (tested (both (read_first c s) read_rest) (λ x. is_right c s x.1) BadItem (λ q. q) p o)
 
 -- an octet of a row
 abbrev pub any_octet : Reader FaultKind ℤ

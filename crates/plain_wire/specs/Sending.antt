@@ -4,7 +4,6 @@ use Rattle.kit_base.specs.declared.errors.NoMemory.{NoMemory}
 use Rattle.kit_base.specs.Limits.{longest_message}
 use Rattle.mint.specs.Types.{Scalar, Array}
 use Rattle.wire_def.specs.declared.encoding.Encoding.{Encoding}
-pub use Rattle.wire_def.specs.Lone.{IsPlain}
 use Rattle.wire_def.specs.Scalars.{gap, width_of, alignment_of, number_octets, residue}
 use Rattle.wire_def.specs.Arrays.{element_octets, elements_octets, head_octets, trailing}
 use Rattle.wire_def.specs.Send.{followed}

@@ -7,11 +7,16 @@
 mod cursor;
 mod read;
 mod read_array;
+mod read_described;
+mod read_head;
 mod read_row;
 mod read_scalar;
+mod read_tag;
 mod send;
 mod send_array;
+mod send_described;
 mod send_scalar;
+mod units;
 mod widths;
 
 pub use read::{Read, plain_read};

@@ -12,20 +12,21 @@ ghost use Rattle.wire_def.specs.Stops.{Stops};
 ghost use Rattle.wire_def.specs.Reading.{read, read_fields};
 ghost use Rattle.wire_def.specs.declared.fault.FaultKind.{FaultKind};
 ghost use Rattle.wire_def.specs.declared.fault.FaultKind.TheVariants.{BadValue};
-ghost use Rattle.plain_wire.specs.Sending.{IsPlain};
 ghost use Rattle.plain_wire.specs.Readers.{Gives, Reads, all_values, number_of_tag, lists};
 ghost use Rattle.plain_wire.specs.Answered.{IsValue, IsStop};
 
-use crate::cursor::{Cursor, ReadError, stop};
+use crate::cursor::{Cursor, ReadError};
 use crate::read_array::{row, text};
-use crate::read_scalar::{count, lone, one_label, scalar, scalar_at};
+use crate::read_head::count;
+use crate::read_scalar::{lone, one_label};
+use crate::read_tag::tag_with_arm;
 use kit_base::{Listed, NoMemory};
 use mint::kind::{Count, Kind};
-use mint::node::{Arms, Node, NodeIds, Tag, arm_of};
+use mint::node::{Arms, Node, NodeIds, Tag};
 use mint::table::Mint;
 use mint::value::{Value, Values};
 use std::alloc::Global;
-use wire_def::{Encoding, Fault, FaultKind, bodies_are_light, reading_is_a_grammar};
+use wire_def::{Encoding, Fault, bodies_are_light, reading_is_a_grammar};
 
 /// What was read from a message.
 #[derive(Drop)]
@@ -46,7 +47,6 @@ pub fn plain_read(
     pos: usize,
     message: &[u8],
 ) -> Result<Read, NoMemory>
-    requires plain { IsPlain enc }
     requires id { id < length mint.now }
     requires within { pos ≤ length message.now }
     requires short { length message.now ≤ longest_message }
@@ -86,7 +86,6 @@ fn value<'a>(
     id: u32,
     at: Cursor<'a>,
 ) -> Result<(Value, Cursor<'a>), ReadError>
-    requires plain { IsPlain enc }
     requires id { id < length mint.now }
     ensures { Gives seen result (read enc (type_at mint.now id) at.entry.place at.entry.rest.now) }
 {
@@ -131,7 +130,6 @@ fn fields<'a>(
     ids: &NodeIds,
     at: Cursor<'a>,
 ) -> Result<(Values, Cursor<'a>), ReadError>
-    requires plain { IsPlain enc }
     requires id { id < length mint.now }
     requires below { AreBelow id ids.now }
     ensures { Gives all_seen result (read_fields enc (fields_at (unfolded mint.now) ids.now) at.entry.place at.entry.rest.now) }
@@ -157,7 +155,6 @@ fn items<'a>(
     bound: Count,
     at: Cursor<'a>,
 ) -> Result<(Value, Cursor<'a>), ReadError>
-    requires plain { IsPlain enc }
     requires id { id < length mint.now }
     requires below { item < id }
     ensures { Gives seen result (read enc (items_type bound (type_at mint.now item)) at.entry.place at.entry.rest.now) }
@@ -178,7 +175,6 @@ fn each<'a>(
     n: usize,
     at: Cursor<'a>,
 ) -> Result<(Values, Cursor<'a>), ReadError>
-    requires plain { IsPlain enc }
     requires id { id < length mint.now }
     requires below { item < id }
     ensures { Gives all_values result (times (read enc (type_at mint.now item)) n at.entry.place at.entry.rest.now) }
@@ -205,7 +201,6 @@ fn choice<'a>(
     other: Option<u32>,
     at: Cursor<'a>,
 ) -> Result<(Value, Cursor<'a>), ReadError>
-    requires plain { IsPlain enc }
     requires id { id < length mint.now }
     requires below { ArmsBelow id arms.now }
     requires other { IsBelow id other }
@@ -214,26 +209,6 @@ fn choice<'a>(
     let ((n, item), next) = tag_with_arm(enc, tag, arms, other, at)?;
     let (inner, last) = value(alloc, enc, mint, item, next)?;
     Ok((Value::Arm(n, boxed(alloc, inner)?), last))
-}
-
-/// A discriminant's number, and the node of its arm.
-#[tactic(auto, using(crate::proofs::Reading::tags))]
-fn tag_with_arm<'a>(
-    enc: Encoding,
-    tag: &Tag,
-    arms: &Arms,
-    other: Option<u32>,
-    at: Cursor<'a>,
-) -> Result<((i128, u32), Cursor<'a>), Fault>
-    requires { IsPlain enc }
-    ensures arm { IfOk result (λ x. arm_found arms.now other x.0.0 ≡ Some x.0.1) }
-    ensures read { Reads number_of_tag result (read_pass enc (scalar_of tag.now) (lists arms.now other) BadValue at.entry.place at.entry.rest.now) }
-{
-    let (n, next) = scalar(enc, tag, at)?;
-    match arm_of(arms, other, &n) {
-        Some(item) => Ok(((n, item), next)),
-        None => Err(stop(FaultKind::BadValue, scalar_at(enc, tag, at.place))),
-    }
 }
 
 #[cycle(read)]
@@ -246,7 +221,6 @@ fn maybe<'a>(
     item: u32,
     at: Cursor<'a>,
 ) -> Result<(Value, Cursor<'a>), ReadError>
-    requires plain { IsPlain enc }
     requires id { id < length mint.now }
     requires below { item < id }
     ensures { Gives seen result (read enc (maybe_type (type_at mint.now item)) at.entry.place at.entry.rest.now) }

@@ -7,12 +7,12 @@ ghost use Rattle.mint.specs.Types.{row_of, text};
 ghost use Rattle.mint.specs.declared.kind.Kind.TheVariants as kind;
 ghost use Rattle.wire_def.specs.Grammar.{times};
 ghost use Rattle.wire_def.specs.Arrays.{read_zeros, read_element, read_array, read_tail};
-ghost use Rattle.plain_wire.specs.Sending.{IsPlain};
 ghost use Rattle.plain_wire.specs.Readers.{any_octet, any_letter, letters_read, elements_read, nothing, numbers_in, Gives, Reads};
 
 use crate::cursor::{Cursor, ReadError, stop};
+use crate::read_described::any;
+use crate::read_head::{row_head, text_head};
 use crate::read_row::numbers;
-use crate::read_scalar::{row_head, text_head};
 use crate::widths::{behind_row, behind_text, fault_behind};
 use kit_base::NoMemory;
 use mint::kind::{Count, Kind};
@@ -133,10 +133,12 @@ fn behind_elements(
     n: usize,
     at: Cursor<'_>,
 ) -> Result<((), Cursor<'_>), Fault>
-    requires { IsPlain enc }
     ensures { Reads nothing result (read_tail enc (row_of kind bound) n at.entry.place at.entry.rest.now) }
 {
-    zeros(behind_row(enc, kind, n), fault_behind(enc), at)
+    match enc {
+        Encoding::Mach => any(behind_row(enc, kind, n), at),
+        _ => zeros(behind_row(enc, kind, n), fault_behind(enc), at),
+    }
 }
 
 /// What stands behind a text's octets.
@@ -147,10 +149,12 @@ fn behind_letters(
     n: usize,
     at: Cursor<'_>,
 ) -> Result<((), Cursor<'_>), Fault>
-    requires { IsPlain enc }
     ensures { Reads nothing result (read_tail enc (text bound) n at.entry.place at.entry.rest.now) }
 {
-    zeros(behind_text(enc, n), fault_behind(enc), at)
+    match enc {
+        Encoding::Mach => any(behind_text(enc, n), at),
+        _ => zeros(behind_text(enc, n), fault_behind(enc), at),
+    }
 }
 
 /// Elements, and what stands behind them.
@@ -162,7 +166,6 @@ fn ended_elements(
     n: usize,
     at: Cursor<'_>,
 ) -> Result<(Row, Cursor<'_>), ReadError>
-    requires { IsPlain enc }
     ensures numbers { Gives numbers_in result (elements_read enc kind bound n at.entry.place at.entry.rest.now) }
     ensures kind { IfOk result (λ x. x.0.kind ≡ kind) }
 {
@@ -180,7 +183,6 @@ pub(crate) fn row(
     bound: Count,
     at: Cursor<'_>,
 ) -> Result<(Row, Cursor<'_>), ReadError>
-    requires { IsPlain enc }
     ensures numbers { Gives numbers_in result (read_array enc (row_of kind bound) at.entry.place at.entry.rest.now) }
     ensures kind { IfOk result (λ x. x.0.kind ≡ kind) }
 {
@@ -196,7 +198,6 @@ fn ended_letters(
     n: usize,
     at: Cursor<'_>,
 ) -> Result<(Row, Cursor<'_>), ReadError>
-    requires { IsPlain enc }
     ensures numbers { Gives numbers_in result (letters_read enc bound n at.entry.place at.entry.rest.now) }
     ensures kind { IfOk result (λ x. x.0.kind ≡ kind.Char) }
 {
@@ -213,7 +214,6 @@ pub(crate) fn text(
     bound: Count,
     at: Cursor<'_>,
 ) -> Result<(Row, Cursor<'_>), ReadError>
-    requires { IsPlain enc }
     ensures numbers { Gives numbers_in result (read_array enc (text bound) at.entry.place at.entry.rest.now) }
     ensures kind { IfOk result (λ x. x.0.kind ≡ kind.Char) }
 {

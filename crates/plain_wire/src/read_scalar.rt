@@ -1,23 +1,20 @@
-//! Numbers, labels and counts from octets (RFC 4506 sections 4.1 to 4.5).
+//! Numbers and labels from octets (RFC 4506 sections 4.1 to 4.5).
 
-ghost use Rattle.std.specs.Prelude.{◌≡◌, ◌<◌, ◌≤◌, IfOk};
+ghost use Rattle.std.specs.Prelude.{◌≡◌, ◌<◌, IfOk};
 ghost use Rattle.std.specs.Int.{w8, w16, w32, w64};
-ghost use Rattle.kit_base.specs.Limits.{longest_message};
 ghost use Rattle.mint.specs.Kinds.{IsInRange};
-ghost use Rattle.mint.specs.Types.{number, label, scalar_of, text, row_of};
-ghost use Rattle.wire_def.specs.Scalars.{number_of, read_word, read_scalar, scalar_place};
+ghost use Rattle.mint.specs.Types.{number, label};
+ghost use Rattle.wire_def.specs.Scalars.{number_of, read_word, read_scalar};
 ghost use Rattle.wire_def.specs.Lone.{read_lone};
-ghost use Rattle.wire_def.specs.Arrays.{read_count, read_ended, read_head};
-ghost use Rattle.wire_def.specs.Described.{allowed};
-ghost use Rattle.plain_wire.specs.Sending.{IsPlain};
 ghost use Rattle.plain_wire.specs.Widths.{width_in};
-ghost use Rattle.plain_wire.specs.Readers.{Reads, same, itself, nothing, read_gap, read_bits, read_here, read_counted};
+ghost use Rattle.plain_wire.specs.Readers.{Reads, same, itself, nothing, read_gap, read_bits, read_here};
 
 use crate::cursor::{Cursor, stop};
+use crate::read_described::{item, label_item};
 use crate::widths::{Size, gap_of, has_sign, size_of};
 use mint::fits::has_label;
-use mint::kind::{Count, Kind};
-use mint::node::{Labels, Tag};
+use mint::kind::Kind;
+use mint::node::Labels;
 use wire_def::{Encoding, Fault, FaultKind};
 
 /// The octets up to where a number begins.
@@ -72,7 +69,7 @@ fn word_16(enc: Encoding, at: Cursor<'_>) -> Result<(u16, Cursor<'_>), Fault>
 
 /// Four octets.
 #[tactic(auto, using(crate::proofs::Words::words))]
-fn word_32(enc: Encoding, at: Cursor<'_>) -> Result<(u32, Cursor<'_>), Fault>
+pub(crate) fn word_32(enc: Encoding, at: Cursor<'_>) -> Result<(u32, Cursor<'_>), Fault>
     ensures { Reads same result (read_word enc 1 w32 at.entry.place at.entry.rest.now) }
 {
     if at.rest.len() < 4 {
@@ -90,7 +87,7 @@ fn word_32(enc: Encoding, at: Cursor<'_>) -> Result<(u32, Cursor<'_>), Fault>
 
 /// Eight octets.
 #[tactic(auto, using(crate::proofs::Words::words))]
-fn word_64(enc: Encoding, at: Cursor<'_>) -> Result<(u64, Cursor<'_>), Fault>
+pub(crate) fn word_64(enc: Encoding, at: Cursor<'_>) -> Result<(u64, Cursor<'_>), Fault>
     ensures { Reads same result (read_word enc 1 w64 at.entry.place at.entry.rest.now) }
 {
     if at.rest.len() < 8 {
@@ -215,9 +212,13 @@ pub(crate) fn number_here(
     }
 }
 
-/// A number of a kind.
+/// A number of a kind, behind its gap.
 #[tactic(auto, using(crate::proofs::Words::scalars))]
-fn number(enc: Encoding, kind: Kind, at: Cursor<'_>) -> Result<(i128, Cursor<'_>), Fault>
+pub(crate) fn number_at(
+    enc: Encoding,
+    kind: Kind,
+    at: Cursor<'_>,
+) -> Result<(i128, Cursor<'_>), Fault>
     ensures ranged { IfOk result (λ x. IsInRange kind x.0) }
     ensures read { Reads itself result (read_scalar enc (number kind) at.entry.place at.entry.rest.now) }
 {
@@ -228,11 +229,13 @@ fn number(enc: Encoding, kind: Kind, at: Cursor<'_>) -> Result<(i128, Cursor<'_>
 /// A number that travels by itself.
 #[tactic(auto, using(crate::proofs::Words::lones))]
 pub(crate) fn lone(enc: Encoding, kind: Kind, at: Cursor<'_>) -> Result<(i128, Cursor<'_>), Fault>
-    requires { IsPlain enc }
     ensures ranged { IfOk result (λ x. IsInRange kind x.0) }
     ensures read { Reads itself result (read_lone enc (number kind) at.entry.place at.entry.rest.now) }
 {
-    number(enc, kind, at)
+    match enc {
+        Encoding::Mach => item(kind, at),
+        _ => number_at(enc, kind, at),
+    }
 }
 
 /// One of an enum's labels, where it begins.
@@ -252,138 +255,30 @@ fn label_here<'a>(
     }
 }
 
-/// One of an enum's labels.
+/// One of an enum's labels, behind its gap.
+#[tactic(auto, using(crate::proofs::Words::lones))]
+pub(crate) fn label_at<'a>(
+    enc: Encoding,
+    labels: &Labels,
+    at: Cursor<'a>,
+) -> Result<(i128, Cursor<'a>), Fault>
+    ensures { Reads itself result (read_scalar enc (label labels.now) at.entry.place at.entry.rest.now) }
+{
+    let ((), there) = skip(gap_of(enc, Kind::I32, at.place), at)?;
+    label_here(enc, labels, there)
+}
+
+/// One of an enum's labels, by itself.
 #[tactic(auto, using(crate::proofs::Words::lones))]
 pub(crate) fn one_label<'a>(
     enc: Encoding,
     labels: &Labels,
     at: Cursor<'a>,
 ) -> Result<(i128, Cursor<'a>), Fault>
-    requires { IsPlain enc }
     ensures { Reads itself result (read_lone enc (label labels.now) at.entry.place at.entry.rest.now) }
 {
-    let ((), there) = skip(gap_of(enc, Kind::I32, at.place), at)?;
-    label_here(enc, labels, there)
-}
-
-/// A number of a discriminant.
-pub(crate) fn scalar<'a>(
-    enc: Encoding,
-    tag: &Tag,
-    at: Cursor<'a>,
-) -> Result<(i128, Cursor<'a>), Fault>
-    requires { IsPlain enc }
-    ensures { Reads itself result (read_lone enc (scalar_of tag.now) at.entry.place at.entry.rest.now) }
-{
-    match tag {
-        Tag::Num(kind) => lone(enc, *kind, at),
-        Tag::Enum(labels) => one_label(enc, labels, at),
-    }
-}
-
-/// Where a number of a discriminant begins.
-#[tactic(auto, using(crate::proofs::Words::labels))]
-pub(crate) fn scalar_at(enc: Encoding, tag: &Tag, place: usize) -> usize
-    requires { place ≤ longest_message }
-    ensures { result ≡ scalar_place enc (scalar_of tag.now) place }
-{
-    match tag {
-        Tag::Num(kind) => place + gap_of(enc, *kind, place),
-        Tag::Enum(_) => place + gap_of(enc, Kind::I32, place),
-    }
-}
-
-/// A count by itself.
-#[tactic(auto, using(crate::proofs::Words::counts))]
-fn one_count(enc: Encoding, at: Cursor<'_>) -> Result<(usize, Cursor<'_>), Fault>
-    requires { IsPlain enc }
-    ensures { Reads same result (read_counted enc at.entry.place at.entry.rest.now) }
-{
-    let (n, next) = lone(enc, Kind::U32, at)?;
-    Ok((n as usize, next))
-}
-
-/// Whether a count allows so many.
-fn allows(bound: Count, n: usize) -> bool
-    ensures { result ≡ allowed bound n }
-{
-    match bound {
-        Count::Exactly(m) => n == m as usize,
-        Count::AtMost(m) => n <= m as usize,
-        Count::Any => true,
-    }
-}
-
-/// The count of a list.
-#[tactic(auto, using(crate::proofs::Words::counts), unfolding(wire_def::specs::Arrays::read_count))]
-pub(crate) fn count(
-    enc: Encoding,
-    bound: Count,
-    at: Cursor<'_>,
-) -> Result<(usize, Cursor<'_>), Fault>
-    requires { IsPlain enc }
-    ensures { Reads same result (read_count enc bound at.entry.place at.entry.rest.now) }
-{
-    match bound {
-        Count::Exactly(m) => Ok((m as usize, at)),
-        Count::AtMost(m) => {
-            let (n, next) = one_count(enc, at)?;
-            if n <= m as usize {
-                Ok((n, next))
-            } else {
-                let place = at.place + gap_of(enc, Kind::U32, at.place);
-                Err(stop(FaultKind::OverBound, place))
-            }
-        }
-        Count::Any => one_count(enc, at),
-    }
-}
-
-/// The length of a text that has an octet 0 behind it.
-#[tactic(auto, using(crate::proofs::Words::counts))]
-fn ended(enc: Encoding, bound: Count, at: Cursor<'_>) -> Result<(usize, Cursor<'_>), Fault>
-    requires { IsPlain enc }
-    ensures { Reads same result (read_ended enc bound at.entry.place at.entry.rest.now) }
-{
-    let (m, next) = one_count(enc, at)?;
-    let place = at.place + gap_of(enc, Kind::U32, at.place);
-    if m == 0 {
-        return Err(stop(FaultKind::BadText, place));
-    }
-    let n = m - 1;
-    if allows(bound, n) {
-        Ok((n, next))
-    } else {
-        Err(stop(FaultKind::OverBound, place))
-    }
-}
-
-/// What gives the length of a text.
-#[tactic(auto, using(crate::proofs::Words::heads))]
-pub(crate) fn text_head(
-    enc: Encoding,
-    bound: Count,
-    at: Cursor<'_>,
-) -> Result<(usize, Cursor<'_>), Fault>
-    requires { IsPlain enc }
-    ensures { Reads same result (read_head enc (text bound) at.entry.place at.entry.rest.now) }
-{
     match enc {
-        Encoding::CdrBig | Encoding::CdrLittle => ended(enc, bound, at),
-        _ => count(enc, bound, at),
+        Encoding::Mach => label_item(labels, at),
+        _ => label_at(enc, labels, at),
     }
-}
-
-/// What gives the length of a row.
-#[tactic(auto, using(crate::proofs::Words::heads))]
-pub(crate) fn row_head(
-    enc: Encoding,
-    kind: Kind,
-    bound: Count,
-    at: Cursor<'_>,
-) -> Result<(usize, Cursor<'_>), Fault>
-    requires { IsPlain enc }
-    ensures { Reads same result (read_head enc (row_of kind bound) at.entry.place at.entry.rest.now) }
-{
-    count(enc, bound, at)
 }

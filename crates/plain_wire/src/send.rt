@@ -7,7 +7,7 @@ ghost use Rattle.mint.specs.Types.{maybe_type, items_type, type_at, unfolded, fi
 ghost use Rattle.mint.specs.Typed.{IsWellTyped, IsOf, AreOf, IsOfArm, Each, IsScalar};
 ghost use Rattle.wire_def.specs.Lone.{lone_octets};
 ghost use Rattle.wire_def.specs.Send.{followed, send, send_fields, send_each, send_arm};
-ghost use Rattle.plain_wire.specs.Sending.{Appends, IsNear, IsPlain, IsPrefixed};
+ghost use Rattle.plain_wire.specs.Sending.{Appends, IsNear, IsPrefixed};
 
 use crate::send_array::{put_row, put_text};
 use crate::send_scalar::{put_count, put_label, put_lone, put_scalar};
@@ -28,7 +28,6 @@ pub fn plain_send(
     value: &Value,
     out: &mut Octets,
 ) -> Result<(), NoMemory>
-    requires plain { IsPlain enc }
     requires id { id < length mint.now }
     requires near { pos ≤ longest_message }
     requires typed { IsWellTyped (type_at mint.now id) (seen value.now) }
@@ -50,7 +49,6 @@ fn put_value(
     value: &Value,
     out: &mut Octets,
 ) -> Result<usize, NoMemory>
-    requires plain { IsPlain enc }
     requires id { id < length mint.now }
     requires typed { IsOf (type_at mint.now id) (seen value.now) }
     requires near { IsNear place out.old }
@@ -108,7 +106,6 @@ fn put_fields(
     values: &Values,
     out: &mut Octets,
 ) -> Result<usize, NoMemory>
-    requires plain { IsPlain enc }
     requires id { id < length mint.now }
     requires below { AreBelow id ids.now }
     requires typed { AreOf (fields_at (unfolded mint.now) ids.now) (all_seen values.now) }
@@ -136,7 +133,6 @@ fn put_items(
     values: &Values,
     out: &mut Octets,
 ) -> Result<usize, NoMemory>
-    requires plain { IsPlain enc }
     requires id { id < length mint.now }
     requires below { item < id }
     requires typed { IsOf (items_type bound (type_at mint.now item)) (items (all_seen values.now)) }
@@ -158,7 +154,6 @@ fn put_each(
     values: &Values,
     out: &mut Octets,
 ) -> Result<usize, NoMemory>
-    requires plain { IsPlain enc }
     requires id { id < length mint.now }
     requires below { item < id }
     requires typed { Each (IsOf (type_at mint.now item)) (all_seen values.now) }
@@ -186,7 +181,6 @@ fn put_choice(
     inner: &Value,
     out: &mut Octets,
 ) -> Result<usize, NoMemory>
-    requires plain { IsPlain enc }
     requires id { id < length mint.now }
     requires below { ArmsBelow id arms.now }
     requires other { IsBelow id other }
@@ -212,7 +206,6 @@ fn put_arm(
     inner: &Value,
     out: &mut Octets,
 ) -> Result<usize, NoMemory>
-    requires plain { IsPlain enc }
     requires id { id < length mint.now }
     requires below { ArmsBelow id arms.now }
     requires other { IsBelow id other }
@@ -237,7 +230,6 @@ fn put_present(
     inner: &Value,
     out: &mut Octets,
 ) -> Result<usize, NoMemory>
-    requires plain { IsPlain enc }
     requires id { id < length mint.now }
     requires below { item < id }
     requires typed { IsOf (type_at mint.now item) (seen inner.now) }

@@ -11,9 +11,9 @@ ghost use Rattle.wire_def.specs.Scalars.{scalar_octets};
 ghost use Rattle.wire_def.specs.Arrays.{natural, elements_octets, array_octets};
 ghost use Rattle.swap_kit.specs.Swapped.{IsSwapWidth, swapped};
 ghost use Rattle.plain_wire.specs.Rows.{bare_octets, numbers_octets};
-ghost use Rattle.plain_wire.specs.Sending.{Appends, IsNear, IsPlain, elements_of, ended};
+ghost use Rattle.plain_wire.specs.Sending.{Appends, IsNear, elements_of, ended};
 
-use crate::send_scalar::{put, put_bare, put_count, put_text_head, put_zeros};
+use crate::send_scalar::{put, put_bare, put_row_head, put_text_head, put_zeros};
 use crate::widths::{PIECE, Way, behind_row, behind_text, gap_before, way_of};
 use kit_base::{NoMemory, Octets};
 use mint::kind::{Count, Kind};
@@ -168,7 +168,6 @@ fn put_ended_row(
     row: &Row,
     out: &mut Octets,
 ) -> Result<usize, NoMemory>
-    requires plain { IsPlain enc }
     requires typed { IsArray (row_of kind bound) row.now.kind row.now.numbers }
     requires near { IsNear place out.old }
     ensures { Appends out.old out.new place (ended enc (row_of kind bound) place row.now.numbers) result }
@@ -186,7 +185,6 @@ fn put_ended_text(
     row: &Row,
     out: &mut Octets,
 ) -> Result<usize, NoMemory>
-    requires plain { IsPlain enc }
     requires typed { IsArray (text bound) row.now.kind row.now.numbers }
     requires near { IsNear place out.old }
     ensures { Appends out.old out.new place (ended enc (text bound) place row.now.numbers) result }
@@ -204,7 +202,6 @@ pub(crate) fn put_text(
     row: &Row,
     out: &mut Octets,
 ) -> Result<usize, NoMemory>
-    requires plain { IsPlain enc }
     requires typed { IsArray (text bound) row.now.kind row.now.numbers }
     requires near { IsNear place out.old }
     ensures { Appends out.old out.new place (array_octets enc (text bound) place row.now.numbers) result }
@@ -223,11 +220,10 @@ pub(crate) fn put_row(
     row: &Row,
     out: &mut Octets,
 ) -> Result<usize, NoMemory>
-    requires plain { IsPlain enc }
     requires typed { IsArray (row_of kind bound) row.now.kind row.now.numbers }
     requires near { IsNear place out.old }
     ensures { Appends out.old out.new place (array_octets enc (row_of kind bound) place row.now.numbers) result }
 {
-    let behind = put_count(enc, bound, place, row.len(), out)?;
+    let behind = put_row_head(enc, kind, bound, place, row.len(), out)?;
     put_ended_row(enc, kind, bound, behind, row, out)
 }

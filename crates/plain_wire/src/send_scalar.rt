@@ -2,16 +2,17 @@
 
 ghost use Rattle.std.specs.Prelude.{◌≡◌, ◌≤◌, ◌<◌, ◌+◌, pos, negsuc, ◌≤ℤ◌, ◌<ℤ◌, length, replicate, suc};
 ghost use Rattle.std.specs.Int.{w8, w16, w32, w64};
-ghost use Rattle.mint.specs.Types.{number, label, scalar_of, text};
+ghost use Rattle.mint.specs.Types.{number, label, row_of, scalar_of, text};
 ghost use Rattle.mint.specs.Typed.{IsScalar};
 ghost use Rattle.mint.specs.Kinds.{Allows};
 ghost use Rattle.wire_def.specs.Scalars.{number_octets, residue, scalar_octets};
 ghost use Rattle.wire_def.specs.Lone.{lone_octets};
 ghost use Rattle.wire_def.specs.Arrays.{counted, count_octets, head_octets};
 ghost use Rattle.plain_wire.specs.Rows.{bare_octets};
-ghost use Rattle.plain_wire.specs.Sending.{Appends, IsNear, IsPlain, aligned};
+ghost use Rattle.plain_wire.specs.Sending.{Appends, IsNear, aligned};
 ghost use Rattle.plain_wire.specs.Widths.{width_in, FitsWidth};
 
+use crate::send_described::{put_descriptor, put_item};
 use crate::widths::{Size, gap_of, size_of};
 use kit_base::{NoMemory, Octets};
 use mint::kind::{Count, Kind};
@@ -153,12 +154,14 @@ pub(crate) fn put_lone(
     n: &i128,
     out: &mut Octets,
 ) -> Result<usize, NoMemory>
-    requires plain { IsPlain enc }
     requires fits { IsScalar (number kind) n.now }
     requires near { IsNear place out.old }
     ensures { Appends out.old out.new place (lone_octets enc (number kind) place n.now) result }
 {
-    put_number(enc, kind, place, n, out)
+    match enc {
+        Encoding::Mach => put_item(kind, place, n, out),
+        _ => put_number(enc, kind, place, n, out),
+    }
 }
 
 /// Puts one of an enum's labels.
@@ -170,7 +173,6 @@ pub(crate) fn put_label(
     n: &i128,
     out: &mut Octets,
 ) -> Result<usize, NoMemory>
-    requires plain { IsPlain enc }
     requires fits { IsScalar (label _labels.now) n.now }
     requires near { IsNear place out.old }
     ensures { Appends out.old out.new place (lone_octets enc (label _labels.now) place n.now) result }
@@ -186,7 +188,6 @@ pub(crate) fn put_scalar(
     n: &i128,
     out: &mut Octets,
 ) -> Result<usize, NoMemory>
-    requires plain { IsPlain enc }
     requires fits { IsScalar (scalar_of tag.now) n.now }
     requires near { IsNear place out.old }
     ensures { Appends out.old out.new place (lone_octets enc (scalar_of tag.now) place n.now) result }
@@ -206,7 +207,6 @@ pub(crate) fn put_count(
     n: usize,
     out: &mut Octets,
 ) -> Result<usize, NoMemory>
-    requires plain { IsPlain enc }
     requires allowed { Allows bound n }
     requires near { IsNear place out.old }
     ensures { Appends out.old out.new place (count_octets enc bound place n) result }
@@ -237,13 +237,33 @@ pub(crate) fn put_text_head(
     n: usize,
     out: &mut Octets,
 ) -> Result<usize, NoMemory>
-    requires plain { IsPlain enc }
     requires allowed { Allows bound n }
     requires near { IsNear place out.old }
     ensures { Appends out.old out.new place (head_octets enc (text bound) place n) result }
 {
     match enc {
         Encoding::CdrBig | Encoding::CdrLittle => put_ended(enc, place, n, out),
+        Encoding::Mach => put_descriptor(bound, Kind::Char, place, n, out),
+        _ => put_count(enc, bound, place, n, out),
+    }
+}
+
+/// Puts what gives the length of a row.
+#[tactic(auto, using(crate::proofs::Steps::heads))]
+pub(crate) fn put_row_head(
+    enc: Encoding,
+    kind: Kind,
+    bound: Count,
+    place: usize,
+    n: usize,
+    out: &mut Octets,
+) -> Result<usize, NoMemory>
+    requires allowed { Allows bound n }
+    requires near { IsNear place out.old }
+    ensures { Appends out.old out.new place (head_octets enc (row_of kind bound) place n) result }
+{
+    match enc {
+        Encoding::Mach => put_descriptor(bound, kind, place, n, out),
         _ => put_count(enc, bound, place, n, out),
     }
 }

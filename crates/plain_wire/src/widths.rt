@@ -6,7 +6,6 @@ ghost use Rattle.mint.specs.declared.kind.Count.{Count};
 ghost use Rattle.wire_def.specs.Scalars.{gap, alignment_of, is_signed, width_of};
 ghost use Rattle.wire_def.specs.Arrays.{trailing, ill_ended};
 ghost use Rattle.plain_wire.specs.Rows.{IsWay, first_gap};
-ghost use Rattle.plain_wire.specs.Sending.{IsPlain};
 ghost use Rattle.plain_wire.specs.Widths.{width_in};
 
 use mint::kind::Kind;
@@ -108,13 +107,17 @@ pub(crate) fn way_of(enc: Encoding, kind: Kind) -> Way
 /// How many octets stand behind a row's elements.
 #[tactic(auto, using(crate::proofs::Arrays::tails))]
 pub(crate) fn behind_row(enc: Encoding, kind: Kind, n: usize) -> usize
-    requires plain { IsPlain enc }
     ensures is { (bound : Count) → result ≡ trailing enc (row_of kind bound) n }
     ensures few { result < 8 }
 {
     match enc {
         Encoding::Xdr => match kind {
             Kind::Octet => (4 - n % 4) % 4,
+            _ => 0,
+        },
+        Encoding::Mach => match kind {
+            Kind::Octet | Kind::I8 | Kind::U8 | Kind::Char => (4 - n % 4) % 4,
+            Kind::I16 | Kind::U16 => n % 2 * 2,
             _ => 0,
         },
         _ => 0,
@@ -124,12 +127,11 @@ pub(crate) fn behind_row(enc: Encoding, kind: Kind, n: usize) -> usize
 /// How many octets stand behind a text.
 #[tactic(auto, using(crate::proofs::Arrays::tails))]
 pub(crate) fn behind_text(enc: Encoding, n: usize) -> usize
-    requires plain { IsPlain enc }
     ensures is { (bound : Count) → result ≡ trailing enc (text bound) n }
     ensures few { result < 8 }
 {
     match enc {
-        Encoding::Xdr => (4 - n % 4) % 4,
+        Encoding::Xdr | Encoding::Mach => (4 - n % 4) % 4,
         _ => 1,
     }
 }

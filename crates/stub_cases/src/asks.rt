@@ -45,14 +45,23 @@ pub fn answer(alloc: Global, line: &str) -> Result<String, Bad> {
 }
 
 /// How the values of a case are laid out.
-pub fn encoding(row: &Json) -> Result<Encoding, Bad>
-    ensures { IfOk result IsPlain }
-{
+fn encoding(row: &Json) -> Result<Encoding, Bad> {
     match member(row, "in")?.as_str() {
         Some("xdr") => Ok(Encoding::Xdr),
         Some("cdr_big") => Ok(Encoding::CdrBig),
         Some("cdr_little") => Ok(Encoding::CdrLittle),
+        Some("mach") => Ok(Encoding::Mach),
         _ => Err(Bad::Row("no encoding")),
+    }
+}
+
+/// The same, where what is asked is not answered over descriptors.
+pub fn plain(row: &Json) -> Result<Encoding, Bad>
+    ensures { IfOk result IsPlain }
+{
+    match encoding(row)? {
+        Encoding::Mach => Err(Bad::Row("not over descriptors")),
+        enc => Ok(enc),
     }
 }
 
@@ -161,7 +170,7 @@ fn read(alloc: Global, row: &Json) -> Result<String, Bad> {
 
 /// How long what is sent of the node is.
 fn span(alloc: Global, row: &Json) -> Result<String, Bad> {
-    let enc = encoding(row)?;
+    let enc = plain(row)?;
     let table = table_of(alloc, row)?;
     let id = id_of(row, &table)?;
     let classes = classify(alloc, enc, &table)?;

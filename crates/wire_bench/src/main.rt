@@ -1,9 +1,6 @@
 // Sends and reads large values, so that what an octet costs can be counted: VERB SHAPE COUNT [ENCODING].
 #![tactic(auto)]
 
-ghost use Rattle.std.specs.Prelude.{◌<◌, length, IfOk, IfSome};
-ghost use Rattle.wire_def.specs.Lone.{IsPlain};
-
 use anyhow::{Result, bail};
 use kit_base::{NoMemory, Octets};
 use mint::fits::fits;
@@ -61,14 +58,13 @@ fn shape_of(word: &str) -> Option<Shape> {
 }
 
 /// The encoding of a word: XDR where there is none.
-fn encoding_of(word: Option<&str>) -> Option<Encoding>
-    ensures { IfSome result IsPlain }
-{
+fn encoding_of(word: Option<&str>) -> Option<Encoding> {
     match word {
         None => Some(Encoding::Xdr),
         Some("xdr") => Some(Encoding::Xdr),
         Some("cdr-be") => Some(Encoding::CdrBig),
         Some("cdr-le") => Some(Encoding::CdrLittle),
+        Some("mach") => Some(Encoding::Mach),
         Some(_) => None,
     }
 }
@@ -147,9 +143,7 @@ fn value_of(alloc: Global, shape: Shape, count: u32) -> Result<Value, NoMemory> 
 }
 
 /// Sends a value and reads it back, as far as the verb goes; answers how many octets that took.
-fn run(alloc: Global, verb: Verb, shape: Shape, count: u32, enc: Encoding) -> Result<usize>
-    requires { IsPlain enc }
-{
+fn run(alloc: Global, verb: Verb, shape: Shape, count: u32, enc: Encoding) -> Result<usize> {
     let (table, id) = table_of(alloc, shape)?;
     let Ok(value) = value_of(alloc, shape, count) else {
         bail!("no memory for the value");
@@ -196,7 +190,7 @@ fn main(rt: HostRuntime) -> Result<()> {
             Ok(())
         }
         _ => bail!(
-            "usage: wire_bench make|send|read ints|structs|opaque|chars|text COUNT [xdr|cdr-be|cdr-le]"
+            "usage: wire_bench make|send|read ints|structs|opaque|chars|text COUNT [xdr|cdr-be|cdr-le|mach]"
         ),
     }
 }

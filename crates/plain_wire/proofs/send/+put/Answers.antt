@@ -34,7 +34,7 @@ put_fields-put_value-requires t c =
     let short : c.loop-i.i < length c.as_slice-values.result.now = omega (arith, ap length c.as_slice-values.ensures, ap length c.as_slice-ids.ensures) in
     let typed = are_here (unfolded c.args.mint.now) c.as_slice-ids.result.now c.as_slice-values.result.now c.loop-i.i c.index-values-i.result c.loop-i.invariant.typed c.loop-i-test.true short c.index-values-i.is in
     let below = all_at c.args.id c.as_slice-ids.result.now c.loop-i.i c.loop-i-test.true (rw (← c.as_slice-ids.ensures) at c.requires.below) in
-    (omega arith, (c.requires.plain, (omega arith, (typed, omega arith))))
+    (omega arith, (omega arith, (typed, omega arith)))
 
 pub put_fields-returns-in_err-at : goal.put_fields-returns-in_err-at
 put_fields-returns-in_err-at t c =
