@@ -26,7 +26,7 @@ use Rattle.mint.proofs.Arms.{arm_below}
 use Rattle.wire_def.specs.Reading.{read, read_fields, read_arm}
 use Rattle.wire_def.specs.Arrays.{read_element, read_octet, read_zeros}
 use Rattle.wire_def.specs.Grammar.{Reader, Reading, got, stop, then_on, map_got, times, tested}
-use Rattle.plain_wire.specs.Readers.{any_octet, lists}
+use Rattle.plain_wire.specs.Readers.{any_octet, lists, read_armed}
 use Rattle.wire_def.specs.Scalars.{read_scalar, scalar_place}
 
 -- what was read before, and what is still read
@@ -138,17 +138,14 @@ arm_is_there us [] (Some j) n found is = rw (← is) refl
 arm_is_there us (a ∷ arms) other n found is = has_at (int_eq n a.0) a.1 (arm_found arms other n) found (has_arm (arms_at us arms other) n) is (λ f. arm_is_there us arms other n found f)
 
 module _ (e : Encoding) (s : Scalar) (arms : List (ℤ × ℕ)) (other : Option ℕ) (p : ℕ) (o : List ℕ) where
-  abbrev with_arm : Reader FaultKind ℤ
-  with_arm = tested (read_scalar e s) (lists arms other) BadValue (scalar_place e s)
-
   -- a number with an arm, without one, or none
-  pub tag_got : (n : ℤ) (q : ℕ) (rest : List ℕ) (i : ℕ) → read_scalar e s p o ≡ got n q rest → arm_found arms other n ≡ Some i → with_arm p o ≡ got n q rest
+  pub tag_got : (n : ℤ) (q : ℕ) (rest : List ℕ) (i : ℕ) → read_scalar e s p o ≡ got n q rest → arm_found arms other n ≡ Some i → read_armed e s arms other p o ≡ got n q rest
   tag_got n q rest i tag found = rw (tag, found) refl
 
-  pub tag_none : (n : ℤ) (q : ℕ) (rest : List ℕ) → read_scalar e s p o ≡ got n q rest → arm_found arms other n ≡ None → with_arm p o ≡ stop BadValue (scalar_place e s p)
+  pub tag_none : (n : ℤ) (q : ℕ) (rest : List ℕ) → read_scalar e s p o ≡ got n q rest → arm_found arms other n ≡ None → read_armed e s arms other p o ≡ stop BadValue (scalar_place e s p)
   tag_none n q rest tag found = rw (tag, found) refl
 
-  pub tag_stop : (k : FaultKind) (place : ℕ) → read_scalar e s p o ≡ stop k place → with_arm p o ≡ stop k place
+  pub tag_stop : (k : FaultKind) (place : ℕ) → read_scalar e s p o ≡ stop k place → read_armed e s arms other p o ≡ stop k place
   tag_stop k place tag = rw tag refl
 
 pub ruleset tags = (to_z-of_z, tag_got, tag_none, tag_stop)
@@ -172,12 +169,15 @@ module _ (test same : ℤ → Bool) (is : (n : ℤ) → test n ≡ same n) where
 
   item_same : (s : Scalar) (r r' : Reader FaultKind ℤ) → ((q : ℕ) (b : List ℕ) → r q b ≡ r' q b) → (p : ℕ) (o : List ℕ) → read_item s r p o ≡ read_item s r' p o
   item_same s r r' each p o = on (read_desc (scalar_word s) p o) where
-    inside : Reading FaultKind ℤ → Reading FaultKind (ℤ × Unit {0})
-    inside x = then_on x (λ n q b. map_got (λ y. (n, y)) (read_any (filling s) q b))
+    inside : Unit {0} → Reading FaultKind ℤ → Reading FaultKind (Unit {0} × (ℤ × Unit {0}))
+    inside u x = map_got (λ y. (u, y)) (then_on x (λ n q b. map_got (λ y. (n, y)) (read_any (filling s) q b)))
 
-    on : (x : Reading FaultKind (Unit {0})) → map_got (λ y. y.1.0) (then_on x (λ u q b. map_got (λ y. (u, y)) (inside (r q b)))) ≡ map_got (λ y. y.1.0) (then_on x (λ u q b. map_got (λ y. (u, y)) (inside (r' q b))))
-    on (got u q b) = ap (λ z. map_got (λ y. y.1.0) (map_got (λ y. (u, y)) (inside z))) (each q b)
-    on (stop k at) = refl
+    number_in : Unit {0} × (ℤ × Unit {0}) → ℤ
+    number_in y = y.1.0
+
+    on : (x : Reading FaultKind (Unit {0})) → map_got number_in (then_on x (λ u q b. inside u (r q b))) ≡ map_got number_in (then_on x (λ u q b. inside u (r' q b)))
+    on (got u q b) = ap (λ z. map_got number_in (inside u z)) (each q b)
+    on (stop k place) = refl
 
   pass_same : (e : Encoding) (s : Scalar) (p : ℕ) (o : List ℕ) → read_pass e s test BadValue p o ≡ read_pass e s same BadValue p o
   pass_same Xdr s p o = tested_same (read_scalar Xdr s) (scalar_place Xdr s) p o

@@ -14,7 +14,7 @@ use Rattle.wire_def.specs.declared.fault.Fault.{Fault}
 use Rattle.wire_def.specs.declared.fault.FaultKind.{FaultKind}
 use Rattle.wire_def.specs.declared.fault.FaultKind.TheVariants.{Short, BadText, BadValue, BadItem}
 use Rattle.wire_def.specs.Grammar.{Reading, got, stop, Reader, map_got, both, times, tested}
-use Rattle.wire_def.specs.Scalars.{is_signed, width_of, number_of, read_word, read_scalar}
+use Rattle.wire_def.specs.Scalars.{is_signed, width_of, number_of, read_word, read_scalar, scalar_place}
 use Rattle.wire_def.specs.Lone.{read_lone}
 use Rattle.wire_def.specs.Described.{elements_in, is_right, read_first, read_rest}
 use Rattle.wire_def.specs.Arrays.{natural, counted, read_element, read_octet, read_tail}
@@ -57,6 +57,10 @@ number_of_tag x = x.0
 -- whether a number has one of these arms
 abbrev pub lists : List (ℤ × ℕ) → Option ℕ → ℤ → Bool
 lists arms other n = is_some (arm_found arms other n)
+
+-- a scalar whose number has one of these arms
+abbrev pub read_armed : Encoding → Scalar → List (ℤ × ℕ) → Option ℕ → Reader FaultKind ℤ
+read_armed e s arms other = tested (read_scalar e s) (lists arms other) BadValue (scalar_place e s)
 
 -- so many octets, passed over, up to where a number begins
 unfoldable pub read_gap : ℕ → Reader FaultKind (Unit {0})

@@ -2,9 +2,13 @@
 use Rattle.std.specs.Prelude.{◌≡◌, ℕ, ℤ, ◌+◌, ◌≤◌, List, ◌++◌, length, replicate, Result, Ok, Err}
 use Rattle.kit_base.specs.declared.errors.NoMemory.{NoMemory}
 use Rattle.kit_base.specs.Limits.{longest_message}
-use Rattle.mint.specs.Types.{Scalar, Array}
+use Rattle.kit_base.specs.Bytes.{le}
+use Rattle.mint.specs.declared.kind.Kind.{Kind}
+use Rattle.mint.specs.Types.{Scalar, number, Array}
 use Rattle.wire_def.specs.declared.encoding.Encoding.{Encoding}
 use Rattle.wire_def.specs.Scalars.{gap, width_of, alignment_of, number_octets, residue}
+use Rattle.wire_def.specs.Lone.{unit_name, unit_bits, short_word}
+use Rattle.wire_def.specs.Described.{long_mark, long_words}
 use Rattle.wire_def.specs.Arrays.{element_octets, elements_octets, head_octets, trailing}
 use Rattle.wire_def.specs.Send.{followed}
 
@@ -32,6 +36,13 @@ ended e a p ns = followed p (elements_of e a p ns) (λ q. replicate (trailing e 
 -- what gives the length, the elements, and what stands behind them
 abbrev pub in_full : Encoding → Array → ℕ → List ℤ → List ℕ
 in_full e a p ns = followed p (head_octets e a p (length ns)) (λ q. ended e a q ns)
+
+-- the short descriptor of so many units of a kind, and the long one
+abbrev pub short_octets : Kind → ℕ → List ℕ
+short_octets k many = le 4 (short_word (unit_name (number k)) (unit_bits (number k)) many)
+
+abbrev pub long_octets : Kind → ℕ → List ℕ
+long_octets k many = le 4 long_mark ++ le 8 (long_words (unit_name (number k)) (unit_bits (number k)) many)
 
 -- zeros up to the alignment, and a number's octets
 abbrev pub aligned : Encoding → Scalar → ℕ → ℤ → List ℕ

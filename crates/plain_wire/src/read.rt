@@ -1,18 +1,15 @@
 //! Values of a node's type from octets.
 
-ghost use Rattle.std.specs.Prelude.{IfOk, ◌≡◌, ◌≤◌, ◌<◌, ◌↔◌, ℕ, length, drop, Some};
+ghost use Rattle.std.specs.Prelude.{IfOk, ◌≡◌, ◌≤◌, ◌<◌, ◌↔◌, ℕ, length, drop};
 ghost use Rattle.kit_base.specs.Limits.{longest_message};
-ghost use Rattle.mint.specs.Arms.{arm_found};
 ghost use Rattle.mint.specs.Values.{Val, seen, all_seen};
 ghost use Rattle.mint.specs.Types.{type_at, unfolded, fields_at, arms_at, scalar_of, items_type, choice_type, maybe_type, AreBelow, ArmsBelow, IsBelow};
 ghost use Rattle.wire_def.specs.Grammar.{AreOctets, times};
-ghost use Rattle.wire_def.specs.Lone.{read_pass};
 ghost use Rattle.wire_def.specs.Laws.{BeginsWith};
 ghost use Rattle.wire_def.specs.Stops.{Stops};
 ghost use Rattle.wire_def.specs.Reading.{read, read_fields};
 ghost use Rattle.wire_def.specs.declared.fault.FaultKind.{FaultKind};
-ghost use Rattle.wire_def.specs.declared.fault.FaultKind.TheVariants.{BadValue};
-ghost use Rattle.plain_wire.specs.Readers.{Gives, Reads, all_values, number_of_tag, lists};
+ghost use Rattle.plain_wire.specs.Readers.{Gives, all_values};
 ghost use Rattle.plain_wire.specs.Answered.{IsValue, IsStop};
 
 use crate::cursor::{Cursor, ReadError};

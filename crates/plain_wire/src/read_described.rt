@@ -61,10 +61,7 @@ pub(crate) fn item(kind: Kind, at: Cursor<'_>) -> Result<(i128, Cursor<'_>), Fau
 }
 
 /// The item of one of an enum's labels.
-pub(crate) fn label_item<'a>(
-    labels: &Labels,
-    at: Cursor<'a>,
-) -> Result<(i128, Cursor<'a>), Fault>
+pub(crate) fn label_item<'a>(labels: &Labels, at: Cursor<'a>) -> Result<(i128, Cursor<'a>), Fault>
     ensures { Reads itself result (read_lone Mach (label labels.now) at.entry.place at.entry.rest.now) }
 {
     let ((), start) = descriptor(Kind::I32, at)?;
@@ -89,7 +86,7 @@ fn may_be(bound: Count, kind: Kind, long: bool) -> bool
             let many = u64::from(m) * u64::from(units_in(kind));
             if long { many > 4095 } else { many <= 4095 }
         }
-        _ => true,
+        Count::AtMost(_) | Count::Any => true,
     }
 }
 
@@ -156,16 +153,16 @@ fn fixed(bound: Count, kind: Kind, units: u64) -> bool
 {
     match bound {
         Count::Exactly(m) => units == u64::from(m) * u64::from(units_in(kind)),
-        _ => true,
+        Count::AtMost(_) | Count::Any => true,
     }
 }
 
 /// Whether a descriptor says the name and bits of a kind, and a number of units that may stand there.
-fn right(bound: Count, kind: Kind, said: u64) -> bool
-    ensures { result ≡ is_right bound (number kind) said }
+fn right(bound: Count, kind: Kind, words: u64) -> bool
+    ensures { result ≡ is_right bound (number kind) words }
 {
-    let units = said / 4294967296;
-    said % 4294967296 == unit_word(kind) && (whole(kind, units) && fixed(bound, kind, units))
+    let units = words / 4294967296;
+    words % 4294967296 == unit_word(kind) && (whole(kind, units) && fixed(bound, kind, units))
 }
 
 /// How many numbers of a kind so many units are.
@@ -183,9 +180,9 @@ fn many(bound: Count, kind: Kind, at: Cursor<'_>) -> Result<(usize, Cursor<'_>),
     ensures { Reads same result (read_many bound (number kind) at.entry.place at.entry.rest.now) }
 {
     let (m, next) = first(bound, kind, at)?;
-    let (said, last) = said(m, next)?;
-    if right(bound, kind, said) {
-        Ok((numbers_in(kind, said / 4294967296), last))
+    let (words, last) = said(m, next)?;
+    if right(bound, kind, words) {
+        Ok((numbers_in(kind, words / 4294967296), last))
     } else {
         Err(stop(FaultKind::BadItem, at.place))
     }

@@ -6,10 +6,9 @@ ghost use Rattle.mint.specs.Arms.{arm_found};
 ghost use Rattle.mint.specs.Types.{number, scalar_of};
 ghost use Rattle.wire_def.specs.declared.encoding.Encoding.TheVariants.{Mach};
 ghost use Rattle.wire_def.specs.declared.fault.FaultKind.TheVariants.{BadValue};
-ghost use Rattle.wire_def.specs.Grammar.{tested};
 ghost use Rattle.wire_def.specs.Scalars.{read_scalar, scalar_place};
 ghost use Rattle.wire_def.specs.Lone.{filling, read_pass, scalar_word};
-ghost use Rattle.plain_wire.specs.Readers.{Reads, itself, lists, number_of_tag};
+ghost use Rattle.plain_wire.specs.Readers.{Reads, itself, lists, number_of_tag, read_armed};
 
 use crate::cursor::{Cursor, stop};
 use crate::read_described::{descriptor, fills_up};
@@ -31,11 +30,7 @@ fn kind_of(tag: &Tag) -> Kind
 }
 
 /// A number of a discriminant.
-fn scalar<'a>(
-    enc: Encoding,
-    tag: &Tag,
-    at: Cursor<'a>,
-) -> Result<(i128, Cursor<'a>), Fault>
+fn scalar<'a>(enc: Encoding, tag: &Tag, at: Cursor<'a>) -> Result<(i128, Cursor<'a>), Fault>
     ensures { Reads itself result (read_scalar enc (scalar_of tag.now) at.entry.place at.entry.rest.now) }
 {
     match tag {
@@ -66,7 +61,7 @@ fn tag_here<'a>(
     at: Cursor<'a>,
 ) -> Result<((i128, u32), Cursor<'a>), Fault>
     ensures arm { IfOk result (λ x. arm_found arms.now other x.0.0 ≡ Some x.0.1) }
-    ensures read { Reads number_of_tag result (tested (read_scalar enc (scalar_of tag.now)) (lists arms.now other) BadValue (scalar_place enc (scalar_of tag.now)) at.entry.place at.entry.rest.now) }
+    ensures read { Reads number_of_tag result (read_armed enc (scalar_of tag.now) arms.now other at.entry.place at.entry.rest.now) }
 {
     let (n, next) = scalar(enc, tag, at)?;
     match arm_of(arms, other, &n) {

@@ -1,10 +1,10 @@
 //! Rows and texts as octets (RFC 4506 sections 4.9 to 4.13).
 
-ghost use Rattle.std.specs.Prelude.{◌≡◌, ◌<◌, ◌%◌, pos, map, replicate, length, slice_index_or, IsTrue};
+ghost use Rattle.std.specs.Prelude.{◌≡◌, ◌<◌, ◌%◌, pos, map, length, slice_index_or, IsTrue};
 ghost use Rattle.std.specs.List.{list_all};
 ghost use Rattle.mint.specs.Types.{number, text, row_of};
 ghost use Rattle.mint.specs.Typed.{IsArray};
-ghost use Rattle.mint.specs.Kinds.{Allows, in_range, word};
+ghost use Rattle.mint.specs.Kinds.{in_range, word};
 ghost use Rattle.std.specs.Int.{w8};
 ghost use Rattle.mint.specs.declared.kind.Kind.TheVariants as kind;
 ghost use Rattle.wire_def.specs.Scalars.{scalar_octets};

@@ -1,15 +1,15 @@
 //! Numbers in items of Mach messages, and the descriptors of rows and texts, as octets.
 
-ghost use Rattle.std.specs.Prelude.{◌≡◌, ◌<◌, ◌++◌, replicate};
+ghost use Rattle.std.specs.Prelude.{◌<◌, ◌++◌, replicate};
 ghost use Rattle.kit_base.specs.Bytes.{le};
 ghost use Rattle.mint.specs.Kinds.{Allows};
 ghost use Rattle.mint.specs.Types.{number};
 ghost use Rattle.mint.specs.Typed.{IsScalar};
 ghost use Rattle.wire_def.specs.declared.encoding.Encoding.TheVariants.{Mach};
-ghost use Rattle.wire_def.specs.Lone.{filling, lone_octets, scalar_word, short_word, unit_bits, unit_name};
-ghost use Rattle.wire_def.specs.Described.{described_octets, long_mark, long_words};
+ghost use Rattle.wire_def.specs.Lone.{filling, lone_octets, scalar_word};
+ghost use Rattle.wire_def.specs.Described.{described_octets};
 ghost use Rattle.plain_wire.specs.Rows.{bare_octets};
-ghost use Rattle.plain_wire.specs.Sending.{Appends, IsNear};
+ghost use Rattle.plain_wire.specs.Sending.{Appends, IsNear, long_octets, short_octets};
 
 use crate::send_scalar::{put, put_bare, put_zeros};
 use crate::units::{filling_of, has_long, long_of, short_of, units_in, word_of};
@@ -37,15 +37,10 @@ fn put_eight(word: u64, place: usize, out: &mut Octets) -> Result<usize, NoMemor
 }
 
 /// Puts the short descriptor of so many units.
-fn put_short(
-    kind: Kind,
-    many: u32,
-    place: usize,
-    out: &mut Octets,
-) -> Result<usize, NoMemory>
+fn put_short(kind: Kind, many: u32, place: usize, out: &mut Octets) -> Result<usize, NoMemory>
     requires few { many < 4096 }
     requires near { IsNear place out.old }
-    ensures { Appends out.old out.new place (le 4 (short_word (unit_name (number kind)) (unit_bits (number kind)) many)) result }
+    ensures { Appends out.old out.new place (short_octets kind many) result }
 {
     put_four(short_of(kind, many), place, out)
 }
@@ -53,7 +48,7 @@ fn put_short(
 /// Puts the long descriptor of so many units.
 fn put_long(kind: Kind, many: u128, place: usize, out: &mut Octets) -> Result<usize, NoMemory>
     requires near { IsNear place out.old }
-    ensures { Appends out.old out.new place (le 4 long_mark ++ le 8 (long_words (unit_name (number kind)) (unit_bits (number kind)) many)) result }
+    ensures { Appends out.old out.new place (long_octets kind many) result }
 {
     let behind = put_four(LONG_MARK, place, out)?;
     put_eight(long_of(kind, many), behind, out)
@@ -82,12 +77,7 @@ pub(crate) fn put_descriptor(
 
 /// Puts a number, and what fills its item up.
 #[tactic(auto, using(crate::proofs::Steps::scalars))]
-fn put_filled(
-    kind: Kind,
-    place: usize,
-    n: &i128,
-    out: &mut Octets,
-) -> Result<usize, NoMemory>
+fn put_filled(kind: Kind, place: usize, n: &i128, out: &mut Octets) -> Result<usize, NoMemory>
     requires fits { IsScalar (number kind) n.now }
     requires near { IsNear place out.old }
     ensures { Appends out.old out.new place (bare_octets Mach kind n.now ++ replicate (filling (number kind)) 0) result }
