@@ -5,7 +5,7 @@ use Rattle.std.specs.List.{list_all}
 use Rattle.std.proofs.lemmas.Bool.{and_parts}
 use Rattle.std.proofs.lemmas.List.{length-append, length-map}
 use Rattle.aoi.specs.declared.faults.NameFault.TheVariants.{Twice}
-use Rattle.aoi.specs.Shapes.{Shape, number, enumeration, structure, members_of}
+use Rattle.aoi.specs.Shapes.{Shape, enumeration, structure, members_of}
 use Rattle.aoi.specs.Sound.{unfolded, is_sound_type, are_sound_types}
 use Rattle.onc_syntax.specs.declared.tree.Value.{Value}
 use Rattle.onc_syntax.specs.declared.tree.Decl.{Decl}
@@ -24,7 +24,6 @@ use Rattle.name_kit.specs.Lists.{is_some_list}
 use Rattle.name_kit.proofs.Tables.{append_map}
 use Rattle.name_kit.proofs.Standing.{EnumIs, TagIs, FewerBelow, fewer_same}
 use Rattle.name_kit.proofs.Forming.{struct_sound}
-use Rattle.name_kit.proofs.Numbering.{numbers}
 use Rattle.front_onc.specs.declared.meaning.Form.{Form}
 use Rattle.front_onc.specs.declared.meaning.Form.TheVariants as F
 use Rattle.front_onc.specs.declared.meaning.Meaning.{Meaning}

@@ -9,7 +9,7 @@ use Rattle.std.proofs.lemmas.List.Folds.{list_all-append}
 use Rattle.kit_base.specs.Limits.{most_labels}
 use Rattle.mint.specs.declared.kind.Kind.{Kind}
 use Rattle.aoi.specs.declared.faults.NameFault.TheVariants.{Label, Limit}
-use Rattle.aoi.specs.Shapes.{Shape, void, number, enumeration, text, array, structure, choice, optional, named, Arms, no_default, default, arms_of}
+use Rattle.aoi.specs.Shapes.{Shape, void, number, enumeration, text, array, structure, choice, optional, named, Arms, arms_of}
 use Rattle.aoi.specs.Sound.{unfolded, is_sound_type, are_sound_arms, is_sound_union, is_tag, is_of_tag, or_void, has_arm, numbers_of, are_different}
 use Rattle.name_kit.specs.declared.uses.Tag.{Tag}
 use Rattle.name_kit.specs.declared.uses.Tag.TheVariants as tag
