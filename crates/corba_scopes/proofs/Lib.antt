@@ -1,2 +1,3 @@
+mod Rows
 pub mod Keyed
 pub mod Standing
