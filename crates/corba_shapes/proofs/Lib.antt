@@ -1,0 +1,9 @@
+pub mod Lasting
+pub mod Standing
+pub mod Shaping
+pub mod Filling
+pub mod Counting
+pub mod Choosing
+pub mod Keeping
+pub mod Derived
+pub mod Rows

@@ -1,0 +1,50 @@
+-- Enumerations.
+use Rattle.std.specs.Prelude.{ℕ, ℤ, pos, List, [], ◌∷◌, ◌++◌, map, length, Option, Some, None, Ok, if◌then◌else◌}
+use Rattle.aoi.specs.declared.faults.NameFault.{NameFault}
+use Rattle.aoi.specs.declared.faults.NameFault.TheVariants.{Twice, CaseClash}
+use Rattle.aoi.specs.Shapes.{enumeration}
+use Rattle.name_kit.specs.declared.uses.Tag.TheVariants as tag
+use Rattle.name_kit.specs.Answers.{Answer, and_then}
+use Rattle.name_kit.specs.Names.{has}
+use Rattle.name_kit.specs.Labels.{labelled}
+use Rattle.corba_exprs.specs.declared.tree.Identifier.{Identifier}
+use Rattle.corba_members.specs.declared.tree.Enum.{Enum}
+use Rattle.corba_scopes.specs.declared.meanings.Meaning.TheVariants as M
+use Rattle.corba_scopes.specs.Names.{Names, lower, clash, refused_by, declared_on}
+use Rattle.corba_scopes.specs.Around.{innermost}
+use Rattle.corba_shapes.specs.State.{State, with_type}
+
+-- why an enum may not have its name among its items: one of them has it, or has it but for the case of letters
+abbrev pub item_clash : List ℕ → List Identifier → Option NameFault
+item_clash name items =
+    if has name (map (λ i. i.name) items) then Some Twice
+    else if has (lower name) (map (λ i. lower i.name) items) then Some CaseClash
+    else None
+
+-- the lower of two faults of one identifier
+abbrev pub lower_of : Option NameFault → Option NameFault → Option NameFault
+lower_of None g = g
+lower_of (Some f) None = Some f
+lower_of (Some Twice) (Some g) = Some Twice
+lower_of (Some f) (Some g) = Some g
+
+-- the names and numbers so far, and the items
+pub record Items : Type 0 where
+  pub names : Names
+  pub labels : List (ℕ × ℤ)
+  pub items : List (List ℕ × ℤ)
+
+-- items of the k-th type behind those that stand before them: each is a constant, whose number is its place
+abbrev pub items_on : ℕ → List ℕ → ℕ → ℕ → Items → List Identifier → Answer Items
+items_on d scope k place s [] = Ok s
+items_on d scope k place s (i ∷ is) =
+    and_then (declared_on d s.names scope i.name (M.Number (pos (length s.items)))) (λ names.
+    and_then (labelled d k place s.labels (pos (length s.items))) (λ labels.
+    items_on d scope k place (record { names = names; labels = labels; items = s.items ++ (i.name, pos (length s.items)) ∷ [] }) is))
+
+-- an enum and its items belong to one scope: its name is tested where it stands, and declared behind them
+abbrev pub enum_on : ℕ → List (List ℕ) → State → Enum → Answer State
+enum_on d env s e =
+    and_then (refused_by d (lower_of (clash s.names (innermost env) e.name.name) (item_clash e.name.name e.items))) (λ _.
+    and_then (items_on d (innermost env) (length s.types) (length s.labels) (record { names = s.names; labels = s.labels; items = [] }) e.items) (λ r.
+    with_type d env e.name.name (enumeration r.items) (tag.Enum (length s.types)) None (record s { names = r.names; labels = r.labels })))

@@ -1,0 +1,43 @@
+-- The fields of structs and exceptions.
+use Rattle.std.specs.Prelude.{ℕ, List, [], ◌∷◌, ◌++◌, Ok}
+use Rattle.mint.specs.declared.kind.Count.{Count}
+use Rattle.mint.specs.declared.kind.Count.TheVariants.{Exactly}
+use Rattle.aoi.specs.Shapes.{Shape}
+use Rattle.name_kit.specs.Answers.{Answer, and_then}
+use Rattle.corba_members.specs.declared.tree.Dimension.{Dimension}
+use Rattle.corba_members.specs.declared.tree.Declarator.{Declarator}
+use Rattle.corba_members.specs.declared.tree.Member.{Member}
+use Rattle.corba_scopes.specs.declared.meanings.Meaning.TheVariants as M
+use Rattle.corba_scopes.specs.Names.{Names, clash, refused_by, declared_on}
+use Rattle.corba_scopes.specs.Around.{innermost}
+use Rattle.corba_scopes.specs.Consts.{length_of}
+use Rattle.corba_shapes.specs.declared.forms.Form.{Form}
+use Rattle.corba_shapes.specs.Forms.{type_form, form_shape}
+
+-- the lengths of an array, behind those that stand before them
+abbrev pub lengths_on : Names → List (List ℕ) → ℕ → List Count → List Dimension → Answer (List Count)
+lengths_on s env d done [] = Ok done
+lengths_on s env d done (x ∷ xs) = and_then (length_of s env d x.length) (λ n. lengths_on s env d (done ++ Exactly n ∷ []) xs)
+
+-- a name that hides others in its scope, and its lengths: it is tested where it stands, and declared at the end of its declarator
+abbrev pub placed_on : List (List ℕ) → ℕ → Names → Declarator → Answer (Names × List Count)
+placed_on env d s x =
+    and_then (refused_by d (clash s (innermost env) x.name.name)) (λ _.
+    and_then (lengths_on s env d [] x.dimensions) (λ ns.
+    and_then (declared_on d s (innermost env) x.name.name M.Other) (λ s.
+    Ok (s, ns))))
+
+-- the names so far, and the fields
+pub record Body : Type 0 where
+  pub names : Names
+  pub fields : List (List ℕ × Shape)
+
+-- fields of one type behind those that stand before them
+abbrev pub fields_on : List (List ℕ) → ℕ → Form → Body → List Declarator → Answer Body
+fields_on env d f b [] = Ok b
+fields_on env d f b (x ∷ xs) = and_then (placed_on env d b.names x) (λ r. fields_on env d f (record { names = r.0; fields = b.fields ++ (x.name.name, form_shape f r.1) ∷ [] }) xs)
+
+-- members behind those that stand before them
+abbrev pub members_on : List (List ℕ) → ℕ → Body → List Member → Answer Body
+members_on env d b [] = Ok b
+members_on env d b (m ∷ ms) = and_then (type_form b.names env d m.of.0 m.of.1) (λ f. and_then (fields_on env d f b m.declarators) (λ b. members_on env d b ms))

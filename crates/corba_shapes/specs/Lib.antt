@@ -1,0 +1,10 @@
+pub mod Forms
+pub mod State
+pub mod Held
+pub mod Fields
+pub mod Structs
+pub mod Enums
+pub mod Unions
+pub mod Aliases
+pub mod Constants
+pub mod Declarations

@@ -1,0 +1,42 @@
+-- Structs and exceptions.
+use Rattle.std.specs.Prelude.{ℕ, ◌==◌, List, [], ◌∷◌, ◌++◌, map, length, codes, None, Ok, if◌then◌else◌}
+use Rattle.aoi.specs.Shapes.{Members, structure, members_of}
+use Rattle.aoi.specs.Plain.{PlainRaise}
+use Rattle.name_kit.specs.declared.uses.Tag.TheVariants as tag
+use Rattle.name_kit.specs.Answers.{Answer, and_then}
+use Rattle.corba_members.specs.declared.tree.Struct.{Struct}
+use Rattle.corba_members.specs.declared.tree.Exception.{Exception}
+use Rattle.corba_scopes.specs.declared.meanings.Meaning.TheVariants as M
+use Rattle.corba_scopes.specs.Names.{clash, refused_by, declared_on}
+use Rattle.corba_scopes.specs.Around.{innermost, inside}
+use Rattle.corba_shapes.specs.State.{State, with_type}
+use Rattle.corba_shapes.specs.Fields.{members_on}
+
+-- a type with the members as its fields; its name is tested where it stands, and declared behind them
+abbrev pub struct_on : ℕ → List (List ℕ) → State → Struct → Answer State
+struct_on d env s t =
+    and_then (refused_by d (clash s.names (innermost env) t.name.name)) (λ _.
+    and_then (members_on (inside t.name.name env) d (record { names = s.names; fields = [] }) t.members) (λ b.
+    with_type d env t.name.name (structure (members_of b.fields)) tag.Other None (record s { names = b.names })))
+
+-- ---- exceptions
+
+-- `/` in the place of `.`
+abbrev pub slashed : ℕ → ℕ
+slashed c = if c == 46 then 47 else c
+
+-- the repository id of a full name: `IDL:M/Bad:1.0`
+abbrev pub repository : List ℕ → List ℕ
+repository full = codes "IDL:" ++ map slashed full ++ codes ":1.0"
+
+-- an exception by its full name
+abbrev pub raised : List ℕ → Members → PlainRaise
+raised full members = record { name = full; id = repository full; members = members }
+
+-- an exception behind the others; its name is tested where it stands, and declared behind its members
+abbrev pub exception_on : ℕ → List (List ℕ) → State → Exception → Answer State
+exception_on d env s e =
+    and_then (refused_by d (clash s.names (innermost env) e.name.name)) (λ _.
+    and_then (members_on (inside e.name.name env) d (record { names = s.names; fields = [] }) e.members) (λ b.
+    and_then (declared_on d b.names (innermost env) e.name.name (M.Exception (length s.exceptions))) (λ names.
+    Ok (record s { names = names; exceptions = s.exceptions ++ raised (innermost env ++ e.name.name) (members_of b.fields) ∷ [] }))))

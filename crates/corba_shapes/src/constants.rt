@@ -1,0 +1,97 @@
+// Constants.
+ghost use Rattle.std.specs.Prelude.{◌≡◌};
+ghost use Rattle.name_kit.specs.Answers.{Gives};
+ghost use Rattle.corba_shapes.specs.Held.{state};
+ghost use Rattle.corba_shapes.specs.Constants.{constant_core, is_no_constant, has_length, is_text, fits, constant_on};
+
+use crate::forms::{Core, core_tag, core_text, kind_of, named_core, number_core};
+use crate::state::Shapes;
+use aoi::{NameErr, NameFault};
+use corba_decls::{Constant as ConstantTree, ConstantType};
+use corba_scopes::{Constant, Scopes, innermost};
+use indexmap::IndexSet;
+use kit_base::Name;
+use mint::kind::{Count, Kind};
+use name_kit::{Tag, is_of, refuse};
+use std::alloc::Global;
+
+/// The type of a constant.
+fn constant_core(
+    alloc: Global,
+    scopes: &Scopes,
+    env: &[Name],
+    d: u32,
+    of: &ConstantType,
+) -> Result<Core, NameErr>
+    ensures { Gives (λ x. x) result (constant_core scopes.now env.now d of.now) }
+{
+    match of {
+        ConstantType::Int(i) => Ok(number_core(kind_of(i))),
+        ConstantType::Char => Ok(number_core(Kind::Char)),
+        ConstantType::Boolean => Ok(number_core(Kind::Bool)),
+        ConstantType::Octet => Ok(number_core(Kind::Octet)),
+        ConstantType::Text => Ok(Core::Text(Count::Any)),
+        ConstantType::Named(name) => named_core(alloc, scopes, env, d, name),
+    }
+}
+
+/// Whether a type is no number, enum or string.
+fn is_no_constant(core: Core) -> bool
+    ensures { result ≡ is_no_constant core }
+{
+    match (core_tag(core), core_text(core)) {
+        (Tag::Other, None) => true,
+        _ => false,
+    }
+}
+
+/// Whether so many characters are a string of this length.
+fn has_length(count: Count, n: usize) -> bool
+    ensures { result ≡ has_length count n }
+{
+    match count {
+        Count::Exactly(m) => n == m as usize,
+        Count::AtMost(m) => n <= m as usize,
+        Count::Any => true,
+    }
+}
+
+/// Whether so many characters are a string of this length, if there is one.
+fn is_text(count: Option<Count>, n: usize) -> bool
+    ensures { result ≡ is_text count n }
+{
+    match count {
+        None => false,
+        Some(count) => has_length(count, n),
+    }
+}
+
+/// Whether a value is one of a type.
+fn fits(labels: &IndexSet<(u32, i128)>, core: Core, value: Constant) -> bool
+    ensures { result ≡ fits labels.now.keys core value }
+{
+    match value {
+        Constant::Number(n) => is_of(labels, core_tag(core), &n),
+        Constant::Text(n) => is_text(core_text(core), n),
+    }
+}
+
+/// A constant.
+pub(crate) fn constant(
+    alloc: Global,
+    r: &mut Shapes,
+    env: &[Name],
+    d: u32,
+    c: &ConstantTree,
+) -> Result<(), NameErr>
+    ensures { Gives (λ _. state r.new) result (constant_on d env.now (state r.old) c.now) }
+{
+    let core = constant_core(alloc, &r.scopes, env, d, &c.of)?;
+    refuse(NameFault::NotType, d, is_no_constant(core))?;
+    let name = c.name.name.as_slice();
+    r.scopes.refuse_clash(alloc, d, innermost(env), name)?;
+    let value = r.scopes.constant(alloc, env, d, &c.value)?;
+    refuse(NameFault::Range, d, !fits(&r.labels, core, value))?;
+    r.scopes
+        .declare_new(alloc, d, innermost(env), name, value.meaning())
+}

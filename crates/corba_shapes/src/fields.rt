@@ -1,0 +1,105 @@
+// The fields of structs and exceptions.
+ghost use Rattle.std.specs.Prelude.{◌≡◌, [], map, IfOk};
+ghost use Rattle.aoi.specs.Shapes.{seen_field};
+ghost use Rattle.name_kit.specs.Answers.{Gives};
+ghost use Rattle.corba_shapes.specs.Forms.{form_shape};
+ghost use Rattle.corba_shapes.specs.Fields.{lengths_on, placed_on, fields_on, members_on};
+
+use crate::forms::{Counts, Form, form_ty, type_form};
+use aoi::{Field, Fields, NameErr};
+use corba_members::{Declarator, Dimension, Member};
+use corba_scopes::{Meaning, Scopes, innermost};
+use kit_base::{Name, NoMemory};
+use mint::kind::Count;
+use std::alloc::Global;
+
+/// The lengths of an array.
+pub(crate) fn lengths(
+    alloc: Global,
+    scopes: &Scopes,
+    env: &[Name],
+    d: u32,
+    list: &[Dimension],
+) -> Result<Counts, NameErr>
+    ensures { Gives (λ x. x) result (lengths_on scopes.now env.now d [] list.now) }
+{
+    let mut counts = Counts::new(alloc);
+    for dimension in list {
+        let n = scopes.length(alloc, env, d, &dimension.length)?;
+        counts.push(Count::Exactly(n))?;
+    }
+    Ok(counts)
+}
+
+/// Declares a name that hides others, and gives the lengths after it.
+pub(crate) fn placed(
+    alloc: Global,
+    scopes: &mut Scopes,
+    env: &[Name],
+    d: u32,
+    declarator: &Declarator,
+) -> Result<Counts, NameErr>
+    ensures { Gives (λ ns. (scopes.new, ns)) result (placed_on env.now d scopes.old declarator.now) }
+{
+    let name = declarator.name.name.as_slice();
+    scopes.refuse_clash(alloc, d, innermost(env), name)?;
+    let counts = lengths(alloc, scopes, env, d, declarator.dimensions.as_slice())?;
+    scopes.declare_new(alloc, d, innermost(env), name, Meaning::Other)?;
+    Ok(counts)
+}
+
+/// A field of a type with lengths.
+fn field(alloc: Global, name: &[u8], form: &Form, lengths: &[Count]) -> Result<Field, NoMemory>
+    ensures { IfOk result (λ f. seen_field f ≡ (name.now, form_shape form.now lengths.now)) }
+{
+    Ok(Field {
+        name: Name::from_slice(alloc, name)?,
+        ty: form_ty(alloc, form, lengths)?,
+    })
+}
+
+/// Puts fields of one type after the others.
+fn add_fields(
+    alloc: Global,
+    scopes: &mut Scopes,
+    env: &[Name],
+    d: u32,
+    form: &Form,
+    fields: &mut Fields,
+    list: &[Declarator],
+) -> Result<(), NameErr>
+    ensures { Gives (λ _. record { names = scopes.new; fields = map seen_field fields.new }) result (fields_on env.now d form.now (record { names = scopes.old; fields = map seen_field fields.old }) list.now) }
+{
+    for declarator in list {
+        let counts = placed(alloc, scopes, env, d, declarator)?;
+        let name = declarator.name.name.as_slice();
+        fields.push(field(alloc, name, form, counts.as_slice())?)?;
+    }
+    Ok(())
+}
+
+/// The fields that members make.
+pub(crate) fn members(
+    alloc: Global,
+    scopes: &mut Scopes,
+    env: &[Name],
+    d: u32,
+    list: &[Member],
+) -> Result<Fields, NameErr>
+    ensures { Gives (λ fields. record { names = scopes.new; fields = map seen_field fields }) result (members_on env.now d (record { names = scopes.old; fields = [] }) list.now) }
+{
+    let mut fields = Fields::new(alloc);
+    for member in list {
+        let form = type_form(alloc, scopes, env, d, &member.of)?;
+        add_fields(
+            alloc,
+            scopes,
+            env,
+            d,
+            &form,
+            &mut fields,
+            member.declarators.as_slice(),
+        )?;
+    }
+    Ok(fields)
+}

@@ -1,0 +1,268 @@
+// The types that are used.
+ghost use Rattle.std.specs.Prelude.{◌≡◌, IfOk};
+ghost use Rattle.aoi.specs.Shapes.{seen};
+ghost use Rattle.name_kit.specs.Answers.{Gives};
+ghost use Rattle.corba_shapes.specs.Forms.{kind_of, number_core, type_of_entry, named_type, named_core, simple_core, bounded, base_core, single, type_form, core_shape, rowed, arrayed, form_shape, is_row, core_tag, core_text, form_tag, form_text};
+
+use aoi::{NameErr, NameFault, Ty};
+use corba_exprs::{Expr, ScopedName};
+use corba_scopes::{Entry, Meaning, Scopes};
+use corba_types::{Base, Int, IntSize, Simple, TypeName, TypeNode};
+use kit_base::{Listed, Name, NoMemory};
+use mint::kind::{Count, Kind};
+use name_kit::{Tag, Use, array_of, tag_of_use, ty_of_use};
+use std::alloc::Global;
+
+/// Counts, in order.
+pub type Counts = Listed<Count>;
+
+/// A type that is no sequence and no array.
+#[derive(Clone, Copy, Debug, PartialEq, Eq)]
+pub enum Core {
+    /// A number, or a type of the unit; and where that is a string, how many characters it has.
+    Used(Use, Option<Count>),
+    /// A string that is written out, by how many characters it has.
+    Text(Count),
+}
+
+/// A type that is used.
+#[derive(Drop)]
+pub struct Form {
+    /// What its innermost sequence holds, or it is itself.
+    pub core: Core,
+    /// How many elements its sequences have, the innermost first.
+    pub rows: Counts,
+}
+
+/// The kind of an integer type.
+pub(crate) fn kind_of(i: &Int) -> Kind
+    ensures { result ≡ kind_of i.now }
+{
+    match (i.unsigned, i.size) {
+        (true, IntSize::Short) => Kind::U16,
+        (true, IntSize::Long) => Kind::U32,
+        (true, IntSize::LongLong) => Kind::U64,
+        (false, IntSize::Short) => Kind::I16,
+        (false, IntSize::Long) => Kind::I32,
+        (false, IntSize::LongLong) => Kind::I64,
+    }
+}
+
+/// A number of a kind.
+pub(crate) fn number_core(kind: Kind) -> Core
+    ensures { result ≡ number_core kind }
+{
+    Core::Used(Use::Number(kind), None)
+}
+
+/// The type that a declared name stands for.
+fn type_of_entry(d: u32, entry: &Option<Entry>) -> Result<(Use, Option<Count>), NameErr>
+    ensures value { Gives (λ x. x) result (type_of_entry d entry.now) }
+    ensures exact { result ≡ type_of_entry d entry.now }
+{
+    let Some(entry) = entry else {
+        return Err(NameErr {
+            fault: NameFault::Unknown,
+            decl: d,
+        });
+    };
+    match entry.meaning {
+        Meaning::Type(used, text) => Ok((used, text)),
+        _ => Err(NameErr {
+            fault: NameFault::NotType,
+            decl: d,
+        }),
+    }
+}
+
+/// The type that a scoped name stands for at a place; and how many characters it has, where it is a string.
+pub fn named_type(
+    alloc: Global,
+    scopes: &Scopes,
+    env: &[Name],
+    d: u32,
+    name: &ScopedName,
+) -> Result<(Use, Option<Count>), NameErr>
+    ensures { Gives (λ x. x) result (named_type scopes.now env.now d name.now) }
+{
+    let entry = scopes.named(alloc, env, name)?;
+    type_of_entry(d, &entry)
+}
+
+/// The same as a type that is used.
+pub(crate) fn named_core(
+    alloc: Global,
+    scopes: &Scopes,
+    env: &[Name],
+    d: u32,
+    name: &ScopedName,
+) -> Result<Core, NameErr>
+    ensures { Gives (λ x. x) result (named_core scopes.now env.now d name.now) }
+{
+    let (used, text) = named_type(alloc, scopes, env, d, name)?;
+    Ok(Core::Used(used, text))
+}
+
+/// A type of one word.
+fn simple_core(d: u32, word: Simple) -> Result<Core, NameErr>
+    ensures value { Gives (λ x. x) result (simple_core d word) }
+    ensures exact { result ≡ simple_core d word }
+{
+    match word {
+        Simple::Char => Ok(number_core(Kind::Char)),
+        Simple::Boolean => Ok(number_core(Kind::Bool)),
+        Simple::Octet => Ok(number_core(Kind::Octet)),
+        _ => Err(NameErr {
+            fault: NameFault::OutOfScope,
+            decl: d,
+        }),
+    }
+}
+
+/// How many elements a sequence has, or characters a string.
+fn bounded(
+    alloc: Global,
+    scopes: &Scopes,
+    env: &[Name],
+    d: u32,
+    bound: &Option<Expr>,
+) -> Result<Count, NameErr>
+    ensures { Gives (λ x. x) result (bounded scopes.now env.now d bound.now) }
+{
+    match bound {
+        None => Ok(Count::Any),
+        Some(e) => Ok(Count::AtMost(scopes.length(alloc, env, d, e)?)),
+    }
+}
+
+/// A type that is no sequence.
+fn base_core(
+    alloc: Global,
+    scopes: &Scopes,
+    env: &[Name],
+    d: u32,
+    base: &Base,
+) -> Result<Core, NameErr>
+    ensures { Gives (λ x. x) result (base_core scopes.now env.now d base.now) }
+{
+    match base {
+        Base::Simple(word) => simple_core(d, *word),
+        Base::LongDouble => Err(NameErr {
+            fault: NameFault::OutOfScope,
+            decl: d,
+        }),
+        Base::Int(i) => Ok(number_core(kind_of(i))),
+        Base::Name(name) => named_core(alloc, scopes, env, d, name),
+        Base::Text(bound) => Ok(Core::Text(bounded(alloc, scopes, env, d, bound)?)),
+    }
+}
+
+/// What does not stand in a sequence.
+pub(crate) fn single(alloc: Global, core: Core) -> Form
+    ensures { result ≡ single core }
+{
+    Form {
+        core,
+        rows: Counts::new(alloc),
+    }
+}
+
+/// A type.
+pub fn type_form(
+    alloc: Global,
+    scopes: &Scopes,
+    env: &[Name],
+    d: u32,
+    t: &TypeName,
+) -> Result<Form, NameErr>
+    ensures { Gives (λ x. x) result (type_form scopes.now env.now d t.now.0 t.now.1) }
+{
+    match &t.node {
+        TypeNode::Base(base) => Ok(single(alloc, base_core(alloc, scopes, env, d, base)?)),
+        TypeNode::Sequence(element, bound) => {
+            let mut form = type_form(alloc, scopes, env, d, element)?;
+            form.rows.push(bounded(alloc, scopes, env, d, bound)?)?;
+            Ok(form)
+        }
+    }
+}
+
+/// The type of what is no row.
+fn core_ty(core: Core) -> Ty
+    ensures { seen result ≡ core_shape core }
+{
+    match core {
+        Core::Used(used, _) => ty_of_use(used),
+        Core::Text(count) => Ty::Text(count),
+    }
+}
+
+/// Rows of rows, the innermost first.
+fn rowed(alloc: Global, ty: Ty, rows: &[Count]) -> Result<Ty, NoMemory>
+    ensures { IfOk result (λ t. seen t ≡ rowed (seen ty) rows.now) }
+{
+    match rows {
+        [count, rest @ ..] => rowed(alloc, array_of(alloc, ty, *count)?, rest),
+        [] => Ok(ty),
+    }
+}
+
+/// The type of a type with the lengths of an array, the outermost first.
+pub fn form_ty(alloc: Global, form: &Form, lengths: &[Count]) -> Result<Ty, NoMemory>
+    ensures { IfOk result (λ t. seen t ≡ form_shape form.now lengths.now) }
+{
+    match lengths {
+        [count, rest @ ..] => array_of(alloc, form_ty(alloc, form, rest)?, *count),
+        [] => rowed(alloc, core_ty(form.core), form.rows.as_slice()),
+    }
+}
+
+/// Whether something stands in a row.
+fn is_row(rows: &[Count], lengths: &[Count]) -> bool
+    ensures { result ≡ is_row rows.now lengths.now }
+{
+    match (rows, lengths) {
+        ([], []) => false,
+        _ => true,
+    }
+}
+
+/// What is no row as the tag of a union.
+pub(crate) fn core_tag(core: Core) -> Tag
+    ensures { result ≡ core_tag core }
+{
+    match core {
+        Core::Used(used, _) => tag_of_use(used),
+        Core::Text(_) => Tag::Other,
+    }
+}
+
+/// How many characters what is no row has, where it is a string.
+pub(crate) fn core_text(core: Core) -> Option<Count>
+    ensures { result ≡ core_text core }
+{
+    match core {
+        Core::Used(_, text) => text,
+        Core::Text(count) => Some(count),
+    }
+}
+
+/// What a type with the lengths of an array is as the tag of a union.
+pub(crate) fn form_tag(form: &Form, lengths: &[Count]) -> Tag
+    ensures { result ≡ form_tag form.now lengths.now }
+{
+    if is_row(form.rows.as_slice(), lengths) {
+        return Tag::Other;
+    }
+    core_tag(form.core)
+}
+
+/// How many characters a type with the lengths of an array has, where it is a string.
+pub(crate) fn form_text(form: &Form, lengths: &[Count]) -> Option<Count>
+    ensures { result ≡ form_text form.now lengths.now }
+{
+    if is_row(form.rows.as_slice(), lengths) {
+        return None;
+    }
+    core_text(form.core)
+}

@@ -1,0 +1,103 @@
+// What is declared so far.
+ghost use Rattle.std.specs.Prelude.{◌≡◌, ◌<◌, ◌+◌, ◌^◌, length, IfOk, IfErr, OnOk};
+ghost use Rattle.aoi.specs.Shapes.{seen};
+ghost use Rattle.aoi.specs.declared.faults.NameFault.TheVariants.{NoMemory as WantOfMemory};
+ghost use Rattle.name_kit.specs.Answers.{Gives};
+ghost use Rattle.corba_shapes.specs.Held.{state};
+ghost use Rattle.corba_shapes.specs.State.{start, counted, with_type};
+
+use aoi::{NameErr, NameFault, Raises, Ty, Unit};
+use corba_scopes::{Meaning, Scopes, full_name, innermost};
+use indexmap::IndexSet;
+use kit_base::Name;
+use mint::kind::Count;
+use name_kit::{Tag, Use};
+use std::alloc::Global;
+
+/// What is declared so far.
+#[derive(Drop)]
+pub struct Shapes {
+    /// The names.
+    pub scopes: Scopes,
+    /// The numbers of the enums, each after its enum's number as a type.
+    pub labels: IndexSet<(u32, i128)>,
+    /// The unit, with the types by their full names.
+    pub unit: Unit,
+    /// The exceptions.
+    pub exceptions: Raises,
+    /// How many declarations there are.
+    pub count: u32,
+}
+
+/// A fault that stands for out of memory.
+pub(crate) fn want() -> NameErr
+    ensures { result.fault ≡ WantOfMemory }
+{
+    NameErr {
+        fault: NameFault::NoMemory,
+        decl: 0,
+    }
+}
+
+impl Shapes {
+    /// Nothing, before the first declaration.
+    pub fn new(alloc: Global) -> Shapes
+        ensures { state result ≡ start }
+    {
+        Shapes {
+            scopes: Scopes::new(alloc),
+            labels: IndexSet::new(alloc),
+            unit: Unit::new(alloc),
+            exceptions: Raises::new(alloc),
+            count: 0,
+        }
+    }
+
+    /// Begins the next declaration, and gives its number.
+    pub fn next(&mut self) -> Result<u32, NameErr>
+        ensures ok { OnOk result (state self.new ≡ counted (state self.old)) }
+        ensures number { IfOk result (λ d. d ≡ self.old.count + 1) }
+        ensures err { IfErr result (λ e. e.fault ≡ WantOfMemory) }
+    {
+        match self.count.checked_add(1) {
+            Some(n) => {
+                self.count = n;
+                Ok(n)
+            }
+            None => Err(want()),
+        }
+    }
+
+    /// The number of the next type.
+    pub(crate) fn next_type(&self) -> Result<u32, NameErr>
+        ensures ok { IfOk result (λ k. k ≡ length self.now.unit.types) }
+        ensures err { IfErr result (λ e. e.fault ≡ WantOfMemory) }
+    {
+        match u32::try_from(self.unit.types().len()) {
+            Ok(k) => Ok(k),
+            Err(_) => Err(want()),
+        }
+    }
+
+    /// Puts a type after the others, and declares its name in the innermost of the scopes around a place.
+    pub(crate) fn declare_type(
+        &mut self,
+        alloc: Global,
+        d: u32,
+        env: &[Name],
+        name: &[u8],
+        ty: Ty,
+        tag: Tag,
+        text: Option<Count>,
+    ) -> Result<(), NameErr>
+        ensures { Gives (λ _. state self.new) result (with_type d env.now name.now (seen ty) tag text (state self.old)) }
+    {
+        let k = self.next_type()?;
+        let meaning = Meaning::Type(Use::Declared(k, tag), text);
+        self.scopes
+            .declare_new(alloc, d, innermost(env), name, meaning)?;
+        self.unit
+            .add_type(full_name(alloc, innermost(env), name)?, ty)?;
+        Ok(())
+    }
+}

@@ -1,0 +1,107 @@
+// Structs and exceptions.
+ghost use Rattle.std.specs.Prelude.{◌≡◌, ◌++◌, map, IfOk, OnOk};
+ghost use Rattle.aoi.specs.Shapes.{members};
+ghost use Rattle.aoi.specs.Plain.{plain_raise};
+ghost use Rattle.name_kit.specs.Answers.{Gives};
+ghost use Rattle.corba_shapes.specs.Held.{state};
+ghost use Rattle.corba_shapes.specs.Structs.{struct_on, slashed, repository, raised, exception_on};
+
+use crate::fields::members;
+use crate::state::{Shapes, want};
+use aoi::{Fields, NameErr, Raise};
+use corba_members::{Exception, Struct};
+use corba_scopes::{Meaning, full_name, innermost, inside};
+use kit_base::{Name, NoMemory};
+use name_kit::{Tag, struct_of};
+use std::alloc::Global;
+
+/// A struct.
+pub(crate) fn struct_(
+    alloc: Global,
+    r: &mut Shapes,
+    env: &[Name],
+    d: u32,
+    t: &Struct,
+) -> Result<(), NameErr>
+    ensures { Gives (λ _. state r.new) result (struct_on d env.now (state r.old) t.now) }
+{
+    let name = t.name.name.as_slice();
+    r.scopes.refuse_clash(alloc, d, innermost(env), name)?;
+    let inner = inside(alloc, env, name)?;
+    let fields = members(
+        alloc,
+        &mut r.scopes,
+        inner.as_slice(),
+        d,
+        t.members.as_slice(),
+    )?;
+    r.declare_type(alloc, d, env, name, struct_of(fields), Tag::Other, None)
+}
+
+/// A slash in the place of a dot.
+fn slashed(c: u8) -> u8
+    ensures { result ≡ slashed c }
+{
+    if c == b'.' { b'/' } else { c }
+}
+
+/// Puts a full name after the others, with slashes in the place of its dots.
+fn add_slashed(alloc: Global, id: &mut Name, full: &[u8]) -> Result<(), NoMemory>
+    ensures { OnOk result (id.new ≡ id.old ++ map slashed full.now) }
+{
+    for c in full {
+        id.push(slashed(*c))?;
+    }
+    Ok(())
+}
+
+/// The repository id of a full name.
+fn repository(alloc: Global, full: &[u8]) -> Result<Name, NoMemory>
+    ensures { IfOk result (λ id. id ≡ repository full.now) }
+{
+    let mut id = Name::from_slice(alloc, b"IDL:")?;
+    add_slashed(alloc, &mut id, full)?;
+    id.append(b":1.0")?;
+    Ok(id)
+}
+
+/// An exception by its full name.
+fn raised(alloc: Global, full: Name, fields: Fields) -> Result<Raise, NoMemory>
+    ensures { IfOk result (λ e. plain_raise e ≡ raised full (members fields)) }
+{
+    Ok(Raise {
+        id: repository(alloc, full.as_slice())?,
+        name: full,
+        members: fields,
+    })
+}
+
+/// An exception.
+pub(crate) fn exception(
+    alloc: Global,
+    r: &mut Shapes,
+    env: &[Name],
+    d: u32,
+    e: &Exception,
+) -> Result<(), NameErr>
+    ensures { Gives (λ _. state r.new) result (exception_on d env.now (state r.old) e.now) }
+{
+    let name = e.name.name.as_slice();
+    r.scopes.refuse_clash(alloc, d, innermost(env), name)?;
+    let inner = inside(alloc, env, name)?;
+    let fields = members(
+        alloc,
+        &mut r.scopes,
+        inner.as_slice(),
+        d,
+        e.members.as_slice(),
+    )?;
+    let Ok(k) = u32::try_from(r.exceptions.len()) else {
+        return Err(want());
+    };
+    r.scopes
+        .declare_new(alloc, d, innermost(env), name, Meaning::Exception(k))?;
+    let full = full_name(alloc, innermost(env), name)?;
+    r.exceptions.push(raised(alloc, full, fields)?)?;
+    Ok(())
+}

@@ -1,0 +1,252 @@
+// Unions.
+ghost use Rattle.std.specs.Prelude.{◌≡◌, [], ◌++◌, None, true, false, IfOk, OnOk};
+ghost use Rattle.std.specs.Option.{option_map, unwrap_or, is_some};
+ghost use Rattle.aoi.specs.Shapes.{seen, void, choice, default, arms_of};
+ghost use Rattle.name_kit.specs.Answers.{Gives};
+ghost use Rattle.name_kit.specs.Uses.{shape_of_use};
+ghost use Rattle.name_kit.specs.Arms.{arms_for, arms_held};
+ghost use Rattle.corba_shapes.specs.Held.{state};
+ghost use Rattle.corba_shapes.specs.Forms.{form_shape};
+ghost use Rattle.corba_shapes.specs.Unions.{tag_use, is_no_tag, label_on, labels_on, other_with, case_on, cases_on, union_shape, union_on};
+
+use crate::fields::placed;
+use crate::forms::{Form, form_ty, kind_of, named_type, type_form};
+use crate::state::Shapes;
+use aoi::{NameErr, NameFault, Ty, UnionArms};
+use corba_decls::{Case, Label, Tag as TagTree, Union};
+use corba_scopes::{Scopes, innermost, inside};
+use indexmap::IndexSet;
+use kit_base::{Name, NoMemory};
+use mint::kind::{Count, Kind};
+use name_kit::{Tag, Use, add_number_of, behind, boxed, refuse, tag_of_use, ty_of_use, union_of};
+use std::alloc::Global;
+
+/// The type of a tag.
+fn tag_use(
+    alloc: Global,
+    scopes: &Scopes,
+    env: &[Name],
+    d: u32,
+    tag: &TagTree,
+) -> Result<Use, NameErr>
+    ensures { Gives (λ x. x) result (tag_use scopes.now env.now d tag.now) }
+{
+    match tag {
+        TagTree::Int(i) => Ok(Use::Number(kind_of(i))),
+        TagTree::Char => Ok(Use::Number(Kind::Char)),
+        TagTree::Boolean => Ok(Use::Number(Kind::Bool)),
+        TagTree::Named(name) => Ok(named_type(alloc, scopes, env, d, name)?.0),
+    }
+}
+
+/// Whether a type is no tag.
+fn is_no_tag(tag: Tag) -> bool
+    ensures { result ≡ is_no_tag tag }
+{
+    match tag {
+        Tag::Number(Kind::Octet) | Tag::Other => true,
+        _ => false,
+    }
+}
+
+/// Puts a label after those that stand before it, and says whether there is a default now.
+fn label(
+    alloc: Global,
+    scopes: &Scopes,
+    labels: &IndexSet<(u32, i128)>,
+    tag: Tag,
+    env: &[Name],
+    d: u32,
+    numbers: &mut IndexSet<i128>,
+    default: bool,
+    label: &Label,
+) -> Result<bool, NameErr>
+    ensures { Gives (λ b. record { numbers = numbers.new.keys; default = b }) result (label_on scopes.now labels.now.keys tag env.now d (record { numbers = numbers.old.keys; default = default }) label.now) }
+{
+    match label {
+        Label::Case(e) => {
+            let n = scopes.number(alloc, env, d, e)?;
+            add_number_of(labels, tag, d, numbers, n)?;
+            Ok(default)
+        }
+        Label::Default => {
+            refuse(NameFault::Label, d, default)?;
+            Ok(true)
+        }
+    }
+}
+
+/// Puts labels after those that stand before them, and says whether there is a default now.
+fn labels_of(
+    alloc: Global,
+    scopes: &Scopes,
+    labels: &IndexSet<(u32, i128)>,
+    tag: Tag,
+    env: &[Name],
+    d: u32,
+    numbers: &mut IndexSet<i128>,
+    default: bool,
+    list: &[Label],
+) -> Result<bool, NameErr>
+    ensures { Gives (λ b. record { numbers = numbers.new.keys; default = b }) result (labels_on scopes.now labels.now.keys tag env.now d (record { numbers = numbers.old.keys; default = default }) list.now) }
+{
+    let mut given = default;
+    for l in list {
+        given = label(alloc, scopes, labels, tag, env, d, numbers, given, l)?;
+    }
+    Ok(given)
+}
+
+/// Puts an arm after the others for each of the numbers.
+fn add_arms(
+    alloc: Global,
+    arms: &mut UnionArms,
+    numbers: &[i128],
+    form: &Form,
+    lengths: &[Count],
+) -> Result<(), NoMemory>
+    ensures { OnOk result (arms_held arms.new ≡ arms_held arms.old ++ arms_for (form_shape form.now lengths.now) numbers.now) }
+{
+    for n in numbers {
+        arms.push((*n, form_ty(alloc, form, lengths)?))?;
+    }
+    Ok(())
+}
+
+/// What the default is, where a case is the first that has it.
+fn other_with(
+    alloc: Global,
+    default: bool,
+    other: Option<Box<Ty>>,
+    form: &Form,
+    lengths: &[Count],
+) -> Result<Option<Box<Ty>>, NoMemory>
+    ensures { IfOk result (λ o. option_map (λ b. seen b.value) o ≡ other_with default (option_map (λ b. seen b.value) other) (form_shape form.now lengths.now)) }
+{
+    match other {
+        Some(ty) => Ok(Some(ty)),
+        None => {
+            if !default {
+                return Ok(None);
+            }
+            Ok(Some(boxed(alloc, form_ty(alloc, form, lengths)?)?))
+        }
+    }
+}
+
+/// Puts a case after those that stand before it.
+fn case(
+    alloc: Global,
+    scopes: &mut Scopes,
+    labels: &IndexSet<(u32, i128)>,
+    tag: Tag,
+    env: &[Name],
+    d: u32,
+    numbers: &mut IndexSet<i128>,
+    arms: &mut UnionArms,
+    other: Option<Box<Ty>>,
+    case: &Case,
+) -> Result<Option<Box<Ty>>, NameErr>
+    ensures { Gives (λ o. record { names = scopes.new; numbers = numbers.new.keys; arms = arms_held arms.new; other = option_map (λ b. seen b.value) o }) result (case_on labels.now.keys tag env.now d (record { names = scopes.old; numbers = numbers.old.keys; arms = arms_held arms.old; other = option_map (λ b. seen b.value) other }) case.now) }
+{
+    let default = labels_of(
+        alloc,
+        scopes,
+        labels,
+        tag,
+        env,
+        d,
+        numbers,
+        other.is_some(),
+        case.labels.as_slice(),
+    )?;
+    let form = type_form(alloc, scopes, env, d, &case.of)?;
+    let lengths = placed(alloc, scopes, env, d, &case.declarator)?;
+    let lengths = lengths.as_slice();
+    add_arms(
+        alloc,
+        arms,
+        behind(numbers.as_slice(), arms.len()),
+        &form,
+        lengths,
+    )?;
+    Ok(other_with(alloc, default, other, &form, lengths)?)
+}
+
+/// The arms of cases, and what the default is, if there is one.
+fn cases(
+    alloc: Global,
+    scopes: &mut Scopes,
+    labels: &IndexSet<(u32, i128)>,
+    tag: Tag,
+    env: &[Name],
+    d: u32,
+    numbers: &mut IndexSet<i128>,
+    list: &[Case],
+) -> Result<(UnionArms, Option<Box<Ty>>), NameErr>
+    ensures { Gives (λ c. record { names = scopes.new; numbers = numbers.new.keys; arms = arms_held c.0; other = option_map (λ b. seen b.value) c.1 }) result (cases_on labels.now.keys tag env.now d (record { names = scopes.old; numbers = numbers.old.keys; arms = []; other = None }) list.now) }
+{
+    let mut arms = UnionArms::new(alloc);
+    let mut other = None;
+    for c in list {
+        other = case(
+            alloc, scopes, labels, tag, env, d, numbers, &mut arms, other, c,
+        )?;
+    }
+    Ok((arms, other))
+}
+
+/// What every number that has no arm chooses.
+fn other_ty(alloc: Global, other: Option<Box<Ty>>) -> Result<Box<Ty>, NoMemory>
+    ensures { IfOk result (λ b. seen b.value ≡ unwrap_or (option_map (λ b. seen b.value) other) void) }
+{
+    match other {
+        Some(ty) => Ok(ty),
+        None => boxed(alloc, Ty::Void),
+    }
+}
+
+/// The type of a union.
+fn union_ty(
+    alloc: Global,
+    used: Use,
+    arms: UnionArms,
+    other: Option<Box<Ty>>,
+) -> Result<Ty, NoMemory>
+    ensures { IfOk result (λ t. seen t ≡ choice (shape_of_use used) (arms_of (arms_held arms) (default (unwrap_or (option_map (λ b. seen b.value) other) void)))) }
+{
+    let other = other_ty(alloc, other)?;
+    union_of(alloc, ty_of_use(used), arms, Some(other))
+}
+
+/// A union.
+pub(crate) fn union_(
+    alloc: Global,
+    r: &mut Shapes,
+    env: &[Name],
+    d: u32,
+    u: &Union,
+) -> Result<(), NameErr>
+    ensures { Gives (λ _. state r.new) result (union_on d env.now (state r.old) u.now) }
+{
+    let name = u.name.name.as_slice();
+    r.scopes.refuse_clash(alloc, d, innermost(env), name)?;
+    let inner = inside(alloc, env, name)?;
+    let inner = inner.as_slice();
+    let used = tag_use(alloc, &r.scopes, inner, d, &u.tag)?;
+    let tag = tag_of_use(used);
+    refuse(NameFault::NotType, d, is_no_tag(tag))?;
+    let mut numbers = IndexSet::new(alloc);
+    let (arms, other) = cases(
+        alloc,
+        &mut r.scopes,
+        &r.labels,
+        tag,
+        inner,
+        d,
+        &mut numbers,
+        u.cases.as_slice(),
+    )?;
+    let ty = union_ty(alloc, used, arms, other)?;
+    r.declare_type(alloc, d, env, name, ty, Tag::Other, None)
+}
