@@ -1,8 +1,8 @@
 -- Unions are sound.
-use Rattle.std.proofs.Common.{◌≡◌, ℕ, ℤ, Bool, true, false, List, [], ◌∷◌, ◌++◌, length, map, Option, Some, None, refl, sym, ap, subst, ◌∙◌, arith}
+use Rattle.std.proofs.Common.{◌≡◌, ℕ, ℤ, Bool, true, false, List, [], ◌∷◌, ◌++◌, length, Option, Some, None, refl, ap, subst, ◌∙◌}
 use Rattle.std.specs.Prelude.{Ok}
 use Rattle.std.specs.Option.{is_some, unwrap_or}
-use Rattle.aoi.specs.declared.faults.NameFault.TheVariants.{Label, NotType}
+use Rattle.aoi.specs.declared.faults.NameFault.TheVariants.{Label}
 use Rattle.aoi.specs.Shapes.{Shape, void, default, arms_of}
 use Rattle.aoi.specs.Sound.{is_sound_type, has_arm}
 use Rattle.name_kit.specs.declared.uses.Tag.{Tag}
@@ -13,9 +13,9 @@ use Rattle.name_kit.specs.Answers.{refused}
 use Rattle.name_kit.specs.Uses.{tag_of_use, is_other}
 use Rattle.name_kit.specs.Labels.{numbered}
 use Rattle.name_kit.specs.Arms.{with_arm}
-use Rattle.name_kit.proofs.Parts.{then_ok, refused_ok, ok_same}
+use Rattle.name_kit.proofs.Parts.{then_ok, ok_same}
 use Rattle.name_kit.proofs.Standing.{UseIs}
-use Rattle.name_kit.proofs.Labelling.{NumbersAre, Longer, number_added, joined, nothing_more, or_void_true, good, Arm_, ArmsAre, arms_added, OtherIs, choice_sound}
+use Rattle.name_kit.proofs.Labelling.{NumbersAre, Longer, number_added, joined, nothing_more, or_void_true, good, Arm_, ArmsAre, arms_added, choice_sound}
 use Rattle.corba_decls.specs.declared.tree.Tag.{Tag as TagTree}
 use Rattle.corba_decls.specs.declared.tree.Tag.TheVariants as T
 use Rattle.corba_decls.specs.declared.tree.Label.{Label as LabelTree}

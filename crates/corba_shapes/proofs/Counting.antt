@@ -1,5 +1,5 @@
 -- Enumerations are sound, and their labels are the numbers of their items.
-use Rattle.std.proofs.Common.{◌≡◌, ℕ, ℤ, pos, true, false, List, [], ◌∷◌, ◌++◌, length, map, refl, sym, subst}
+use Rattle.std.proofs.Common.{◌≡◌, ℕ, ℤ, pos, true, List, [], ◌∷◌, ◌++◌, length, sym, subst}
 use Rattle.std.specs.Prelude.{Ok}
 use Rattle.aoi.specs.Shapes.{Shape}
 use Rattle.aoi.specs.Sound.{are_distinct}

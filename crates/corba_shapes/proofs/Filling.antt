@@ -1,12 +1,12 @@
 -- The fields of structs and exceptions are sound.
-use Rattle.std.proofs.Common.{◌≡◌, ℕ, ℤ, Bool, true, false, List, [], ◌∷◌, ◌++◌, length, map, refl, sym, ap, subst, ◌∙◌}
+use Rattle.std.proofs.Common.{◌≡◌, ℕ, ℤ, true, false, List, [], ◌∷◌, ◌++◌, length, map, refl, sym, subst}
 use Rattle.std.specs.Prelude.{Ok}
 use Rattle.std.specs.List.{list_all}
 use Rattle.std.specs.Str.{bytes_eq}
 use Rattle.std.proofs.lemmas.Bool.{or_parts, or_from}
 use Rattle.mint.specs.declared.kind.Count.{Count}
 use Rattle.aoi.specs.Shapes.{Shape, members_of}
-use Rattle.aoi.specs.Sound.{is_sound_type, is_some_count}
+use Rattle.aoi.specs.Sound.{is_some_count}
 use Rattle.name_kit.specs.Names.{has}
 use Rattle.name_kit.specs.Lists.{is_some_list}
 use Rattle.name_kit.proofs.Parts.{then_ok, ok_same}

@@ -1,5 +1,5 @@
 -- Every declaration keeps what makes a unit sound.
-use Rattle.std.proofs.Common.{◌≡◌, ℤ, ℕ, ◌+◌, ◌<◌, ◌≤◌, true, false, not, List, [], ◌∷◌, ◌++◌, length, map, Option, Some, None, refl, sym, ap, subst, ◌∙◌, arith}
+use Rattle.std.proofs.Common.{◌≡◌, ℤ, ℕ, ◌+◌, ◌<◌, ◌≤◌, true, false, not, List, [], ◌∷◌, ◌++◌, length, map, Option, None, refl, sym, ap, subst, ◌∙◌, arith}
 use Rattle.std.specs.Prelude.{Ok}
 use Rattle.std.proofs.lemmas.List.{length-append, length-map}
 use Rattle.mint.specs.declared.kind.Count.{Count}
@@ -17,11 +17,10 @@ use Rattle.name_kit.proofs.Parts.{then_ok, refused_ok, ok_same}
 use Rattle.name_kit.proofs.Tables.{append_map}
 use Rattle.name_kit.proofs.Growing.{types_push}
 use Rattle.name_kit.proofs.Standing.{EnumIs, TagIs, UseIs, FewerBelow, fewer_same}
-use Rattle.name_kit.proofs.Forming.{Field, names_are, struct_sound}
-use Rattle.name_kit.proofs.Numbering.{Item_, numbers, LabelsAre, enum_sound}
+use Rattle.name_kit.proofs.Forming.{names_are, struct_sound}
+use Rattle.name_kit.proofs.Numbering.{numbers, enum_sound}
 use Rattle.name_kit.proofs.Tagging.{last_is, enum_ends, items_turned}
 use Rattle.corba_members.specs.declared.tree.Declarator.{Declarator}
-use Rattle.corba_members.specs.declared.tree.Member.{Member}
 use Rattle.corba_members.specs.declared.tree.Struct.{Struct}
 use Rattle.corba_members.specs.declared.tree.Enum.{Enum}
 use Rattle.corba_members.specs.declared.tree.Exception.{Exception}
@@ -39,9 +38,8 @@ use Rattle.corba_scopes.specs.declared.meanings.Constant.TheVariants as V
 use Rattle.corba_scopes.specs.Names.{Names, clash, refused_by, declared_on}
 use Rattle.corba_scopes.specs.Around.{innermost, inside}
 use Rattle.corba_scopes.specs.Consts.{constant, meaning_of_constant}
-use Rattle.corba_shapes.specs.declared.forms.Core.TheVariants as C
 use Rattle.corba_shapes.specs.declared.forms.Form.{Form}
-use Rattle.corba_shapes.specs.Forms.{single, type_form, form_shape, form_tag, form_text}
+use Rattle.corba_shapes.specs.Forms.{type_form, form_shape, form_tag, form_text}
 use Rattle.corba_shapes.specs.State.{State, start, counted, with_type}
 use Rattle.corba_shapes.specs.Fields.{lengths_on, Body, members_on}
 use Rattle.corba_shapes.specs.Structs.{struct_on, raised, exception_on}

@@ -1,5 +1,5 @@
 -- Declarations worked by hand.
-use Rattle.std.proofs.Common.{◌≡◌, ℕ, true, false, List, [], ◌∷◌, ◌++◌, Option, Some, None, refl}
+use Rattle.std.proofs.Common.{◌≡◌, ℕ, true, false, List, [], ◌∷◌, Option, Some, refl}
 use Rattle.std.specs.Prelude.{pos, codes, Ok, Err}
 use Rattle.mint.specs.declared.kind.Kind.TheVariants as kind
 use Rattle.mint.specs.declared.kind.Count.TheVariants.{Exactly, AtMost}
@@ -18,7 +18,6 @@ use Rattle.corba_decls.specs.declared.tree.Tag.TheVariants as T
 use Rattle.corba_decls.specs.declared.tree.Label.TheVariants as L
 use Rattle.corba_decls.specs.declared.tree.Aliased.TheVariants as A
 use Rattle.corba_decls.specs.declared.tree.ConstantType.TheVariants as C
-use Rattle.corba_decls.specs.declared.tree.Declaration.{Declaration}
 use Rattle.corba_decls.specs.declared.tree.Declaration.TheVariants as D
 use Rattle.corba_scopes.specs.Around.{file, inside}
 use Rattle.corba_shapes.specs.State.{State, start}

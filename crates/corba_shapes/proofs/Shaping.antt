@@ -1,16 +1,15 @@
 -- The types that are used are sound.
-use Rattle.std.proofs.Common.{◌≡◌, ℕ, ℤ, Bool, true, false, List, [], ◌∷◌, ◌++◌, length, Option, Some, None, refl, ap, subst, ◌∙◌, if◌then◌else◌}
+use Rattle.std.proofs.Common.{◌≡◌, ℕ, ℤ, true, List, [], ◌∷◌, ◌++◌, length, Option, Some, None, refl, subst, if◌then◌else◌}
 use Rattle.std.specs.Prelude.{Ok}
 use Rattle.std.specs.List.{list_all}
 use Rattle.std.proofs.lemmas.Bool.{and_parts, and_from, lt-ltb}
 use Rattle.mint.specs.declared.kind.Count.{Count}
 use Rattle.mint.specs.declared.kind.Count.TheVariants.{Exactly, AtMost, Any}
-use Rattle.aoi.specs.Shapes.{Shape, text, array}
+use Rattle.aoi.specs.Shapes.{Shape, array}
 use Rattle.aoi.specs.Sound.{is_sound_type, is_some_count, is_open}
 use Rattle.name_kit.specs.declared.uses.Use.{Use}
 use Rattle.name_kit.specs.declared.uses.Use.TheVariants.{Number, Declared}
 use Rattle.name_kit.specs.declared.uses.Tag.TheVariants as tag
-use Rattle.name_kit.specs.Answers.{Answer, natural}
 use Rattle.name_kit.proofs.Parts.{then_ok, ok_same}
 use Rattle.name_kit.proofs.Standing.{UseIs, TagIs, use_grow, fewer_same}
 use Rattle.name_kit.proofs.Forming.{natural_low}

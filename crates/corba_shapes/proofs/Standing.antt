@@ -1,15 +1,12 @@
 -- What the names of a file stand for, over the types so far.
-use Rattle.std.proofs.Common.{◌≡◌, ℕ, ℤ, Bool, true, false, List, [], ◌∷◌, ◌++◌, length, Option, Some, None, refl, ap, subst, sym, ◌∙◌, if◌then◌else◌}
+use Rattle.std.proofs.Common.{◌≡◌, ℕ, ℤ, Bool, true, false, List, [], ◌∷◌, ◌++◌, length, Option, Some, None, refl, ap, subst, if◌then◌else◌}
 use Rattle.std.specs.Prelude.{Ok}
 use Rattle.std.specs.Option.{is_some}
 use Rattle.std.specs.Str.{bytes_eq}
 use Rattle.std.proofs.lemmas.Slice.Eq.{bytes_eq-Decides}
-use Rattle.mint.specs.declared.kind.Count.{Count}
 use Rattle.aoi.specs.declared.faults.NameFault.{NameFault}
 use Rattle.aoi.specs.declared.faults.NameFault.TheVariants.{Twice}
 use Rattle.aoi.specs.Shapes.{Shape}
-use Rattle.name_kit.specs.declared.uses.Use.{Use}
-use Rattle.name_kit.specs.Answers.{and_then}
 use Rattle.name_kit.proofs.Parts.{then_ok, ok_same}
 use Rattle.name_kit.proofs.Standing.{UseIs, FewerBelow, use_grow}
 use Rattle.corba_scopes.specs.declared.meanings.Meaning.{Meaning}

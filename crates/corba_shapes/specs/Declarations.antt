@@ -1,5 +1,5 @@
 -- What a declaration declares.
-use Rattle.std.specs.Prelude.{Bool, true, false, ◌&&◌, ℕ, List, [], ◌∷◌}
+use Rattle.std.specs.Prelude.{Bool, true, false, ℕ, List, [], ◌∷◌}
 use Rattle.name_kit.specs.Answers.{Answer}
 use Rattle.name_kit.specs.Lists.{is_some_list}
 use Rattle.corba_members.specs.declared.tree.Member.{Member}
