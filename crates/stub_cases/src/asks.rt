@@ -56,7 +56,7 @@ fn encoding(row: &Json) -> Result<Encoding, Bad> {
 }
 
 /// The same, where what is asked is not answered over descriptors.
-pub fn plain(row: &Json) -> Result<Encoding, Bad>
+pub fn plain_encoding(row: &Json) -> Result<Encoding, Bad>
     ensures { IfOk result IsPlain }
 {
     match encoding(row)? {
@@ -170,7 +170,7 @@ fn read(alloc: Global, row: &Json) -> Result<String, Bad> {
 
 /// How long what is sent of the node is.
 fn span(alloc: Global, row: &Json) -> Result<String, Bad> {
-    let enc = plain(row)?;
+    let enc = plain_encoding(row)?;
     let table = table_of(alloc, row)?;
     let id = id_of(row, &table)?;
     let classes = classify(alloc, enc, &table)?;

@@ -7,7 +7,7 @@ ghost use Rattle.wire_def.specs.Lone.{IsPlain};
 ghost use Rattle.storage_class.specs.Spans.{AreClasses};
 ghost use Rattle.stub_cases.specs.Ready.{IsBoth, IsLead, IsReady};
 
-use crate::asks::{id_of, plain, value_at};
+use crate::asks::{id_of, plain_encoding, value_at};
 use crate::lead::{HEAD, answer, call, no_lead};
 use crate::nodes::table_of;
 use crate::parts::{Bad, told};
@@ -105,7 +105,7 @@ fn sent(
 
 /// What a case's value is sent as.
 pub fn stub(alloc: Global, row: &Json) -> Result<String, Bad> {
-    let enc = plain(row)?;
+    let enc = plain_encoding(row)?;
     let table = table_of(alloc, row)?;
     let id = id_of(row, &table)?;
     let value = value_at(alloc, row, &table, id)?;
