@@ -46,5 +46,6 @@ items_on d scope k place s (i ∷ is) =
 abbrev pub enum_on : ℕ → List (List ℕ) → State → Enum → Answer State
 enum_on d env s e =
     and_then (refused_by d (lower_of (clash s.names (innermost env) e.name.name) (item_clash e.name.name e.items))) (λ _.
-    and_then (items_on d (innermost env) (length s.types) (length s.labels) (record { names = s.names; labels = s.labels; items = [] }) e.items) (λ r.
+    and_then (items_on d (innermost env) (length s.types) (length s.labels)
+    (record { names = s.names; labels = s.labels; items = [] }) e.items) (λ r.
     with_type d env e.name.name (enumeration r.items) (tag.Enum (length s.types)) None (record s { names = r.names; labels = r.labels })))

@@ -35,9 +35,14 @@ pub record Body : Type 0 where
 -- fields of one type behind those that stand before them
 abbrev pub fields_on : List (List ℕ) → ℕ → Form → Body → List Declarator → Answer Body
 fields_on env d f b [] = Ok b
-fields_on env d f b (x ∷ xs) = and_then (placed_on env d b.names x) (λ r. fields_on env d f (record { names = r.0; fields = b.fields ++ (x.name.name, form_shape f r.1) ∷ [] }) xs)
+fields_on env d f b (x ∷ xs) =
+    and_then (placed_on env d b.names x) (λ r.
+    fields_on env d f (record { names = r.0; fields = b.fields ++ (x.name.name, form_shape f r.1) ∷ [] }) xs)
 
 -- members behind those that stand before them
 abbrev pub members_on : List (List ℕ) → ℕ → Body → List Member → Answer Body
 members_on env d b [] = Ok b
-members_on env d b (m ∷ ms) = and_then (type_form b.names env d m.of.0 m.of.1) (λ f. and_then (fields_on env d f b m.declarators) (λ b. members_on env d b ms))
+members_on env d b (m ∷ ms) =
+    and_then (type_form b.names env d m.of.0 m.of.1) (λ f.
+    and_then (fields_on env d f b m.declarators) (λ b.
+    members_on env d b ms))

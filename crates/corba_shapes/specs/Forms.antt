@@ -94,7 +94,10 @@ single c = record { core = c; rows = [] }
 -- a type: what its innermost sequence holds, and then each sequence around it
 abbrev pub type_form : Names → List (List ℕ) → ℕ → List (Option Tree) → Base → Answer Form
 type_form s env d [] b = and_then (base_core s env d b) (λ c. Ok (single c))
-type_form s env d (x ∷ xs) b = and_then (type_form s env d xs b) (λ f. and_then (bounded s env d x) (λ c. Ok (record { core = f.core; rows = f.rows ++ c ∷ [] })))
+type_form s env d (x ∷ xs) b =
+    and_then (type_form s env d xs b) (λ f.
+    and_then (bounded s env d x) (λ c.
+    Ok (record { core = f.core; rows = f.rows ++ c ∷ [] })))
 
 -- ---- what they are
 

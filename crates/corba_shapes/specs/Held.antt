@@ -7,4 +7,10 @@ use Rattle.corba_shapes.specs.State.{State}
 
 -- a state with the plain trees of types and exceptions
 abbrev pub state : Shapes → State
-state h = record { names = h.scopes; labels = h.labels.keys; types = map (λ t. (t.0, seen t.1)) h.unit.types; exceptions = map plain_raise h.exceptions; count = h.count }
+state h = record {
+  names = h.scopes;
+  labels = h.labels.keys;
+  types = map (λ t. (t.0, seen t.1)) h.unit.types;
+  exceptions = map plain_raise h.exceptions;
+  count = h.count;
+}

@@ -49,7 +49,10 @@ pub record Labels : Type 0 where
 
 -- a label behind those that stand before it; there is one default at most
 abbrev pub label_on : Names → List (ℕ × ℤ) → Tag → List (List ℕ) → ℕ → Labels → LabelTree → Answer Labels
-label_on s labels tag env d ls (L.Case e) = and_then (number s env d e) (λ n. and_then (numbered labels tag d ls.numbers n) (λ numbers. Ok (record ls { numbers = numbers })))
+label_on s labels tag env d ls (L.Case e) =
+    and_then (number s env d e) (λ n.
+    and_then (numbered labels tag d ls.numbers n) (λ numbers.
+    Ok (record ls { numbers = numbers })))
 label_on s labels tag env d ls L.Default = and_then (refused Label d ls.default) (λ _. Ok (record ls { default = true }))
 
 -- labels behind those that stand before them
@@ -77,7 +80,12 @@ case_on labels tag env d cs c =
     and_then (labels_on cs.names labels tag env d (record { numbers = cs.numbers; default = is_some cs.other }) c.labels) (λ ls.
     and_then (type_form cs.names env d c.of.0 c.of.1) (λ f.
     and_then (placed_on env d cs.names c.declarator) (λ r.
-    Ok (record { names = r.0; numbers = ls.numbers; arms = with_arm ls.numbers cs.arms (form_shape f r.1); other = other_with ls.default cs.other (form_shape f r.1) }))))
+    Ok (record {
+      names = r.0;
+      numbers = ls.numbers;
+      arms = with_arm ls.numbers cs.arms (form_shape f r.1);
+      other = other_with ls.default cs.other (form_shape f r.1);
+    }))))
 
 -- cases behind those that stand before them
 abbrev pub cases_on : List (ℕ × ℤ) → Tag → List (List ℕ) → ℕ → Cases → List Case → Answer Cases
@@ -96,5 +104,6 @@ union_on d env s u =
     and_then (refused_by d (clash s.names (innermost env) u.name.name)) (λ _.
     and_then (tag_use s.names (inside u.name.name env) d u.tag) (λ t.
     and_then (refused NotType d (is_no_tag (tag_of_use t))) (λ _.
-    and_then (cases_on s.labels (tag_of_use t) (inside u.name.name env) d (record { names = s.names; numbers = []; arms = []; other = None }) u.cases) (λ cs.
+    and_then (cases_on s.labels (tag_of_use t) (inside u.name.name env) d
+    (record { names = s.names; numbers = []; arms = []; other = None }) u.cases) (λ cs.
     with_type d env u.name.name (union_shape t cs) tag.Other None (record s { names = cs.names })))))

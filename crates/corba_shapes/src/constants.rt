@@ -2,7 +2,8 @@
 ghost use Rattle.std.specs.Prelude.{◌≡◌};
 ghost use Rattle.name_kit.specs.Answers.{Gives};
 ghost use Rattle.corba_shapes.specs.Held.{state};
-ghost use Rattle.corba_shapes.specs.Constants.{constant_core, is_no_constant, has_length, is_text, fits, constant_on};
+ghost use Rattle.corba_shapes.specs.Constants.{constant_core, is_no_constant, has_length, is_text};
+ghost use Rattle.corba_shapes.specs.Constants.{fits, constant_on};
 
 use crate::forms::{Core, core_tag, core_text, kind_of, named_core, number_core};
 use crate::state::Shapes;

@@ -80,7 +80,8 @@ fn refuse_name(
     name: &[u8],
     items: &[Identifier],
 ) -> Result<(), NameErr>
-    ensures { Gives (λ x. x) result (refused_by d (lower_of (clash scopes.now scope.now name.now) (item_clash name.now items.now))) }
+    ensures { Gives (λ x. x) result
+        (refused_by d (lower_of (clash scopes.now scope.now name.now) (item_clash name.now items.now))) }
 {
     let f = scopes.clash(alloc, scope, name)?;
     let g = item_clash(alloc, name, items)?;
@@ -108,7 +109,9 @@ fn items(
     place: usize,
     list: &[Identifier],
 ) -> Result<Items, NameErr>
-    ensures { Gives (λ items. record { names = scopes.new; labels = labels.new.keys; items = items }) result (items_on d scope.now k place (record { names = scopes.old; labels = labels.old.keys; items = [] }) list.now) }
+    ensures { Gives (λ items. record { names = scopes.new; labels = labels.new.keys; items = items }) result
+        (items_on d scope.now k place
+        (record { names = scopes.old; labels = labels.old.keys; items = [] }) list.now) }
 {
     let mut items = Items::new(alloc);
     for item in list {

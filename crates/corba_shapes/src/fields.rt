@@ -68,7 +68,9 @@ fn add_fields(
     fields: &mut Fields,
     list: &[Declarator],
 ) -> Result<(), NameErr>
-    ensures { Gives (λ _. record { names = scopes.new; fields = map seen_field fields.new }) result (fields_on env.now d form.now (record { names = scopes.old; fields = map seen_field fields.old }) list.now) }
+    ensures { Gives (λ _. record { names = scopes.new; fields = map seen_field fields.new }) result
+        (fields_on env.now d form.now
+        (record { names = scopes.old; fields = map seen_field fields.old }) list.now) }
 {
     for declarator in list {
         let counts = placed(alloc, scopes, env, d, declarator)?;
@@ -86,7 +88,8 @@ pub(crate) fn members(
     d: u32,
     list: &[Member],
 ) -> Result<Fields, NameErr>
-    ensures { Gives (λ fields. record { names = scopes.new; fields = map seen_field fields }) result (members_on env.now d (record { names = scopes.old; fields = [] }) list.now) }
+    ensures { Gives (λ fields. record { names = scopes.new; fields = map seen_field fields }) result
+        (members_on env.now d (record { names = scopes.old; fields = [] }) list.now) }
 {
     let mut fields = Fields::new(alloc);
     for member in list {

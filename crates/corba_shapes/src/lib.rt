@@ -1,5 +1,5 @@
-//! What the declarations of types, constants and exceptions of a CORBA IDL file declare (CORBA, chapter on IDL syntax and
-//! semantics, "Type declaration", "Constant declaration" and "Exception declaration").
+//! What the declarations of types, constants and exceptions of a CORBA IDL file declare (CORBA, chapter on
+//! IDL syntax and semantics, "Type declaration", "Constant declaration" and "Exception declaration").
 #![tactic(auto)]
 
 mod aliases;

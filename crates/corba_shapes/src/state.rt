@@ -90,7 +90,8 @@ impl Shapes {
         tag: Tag,
         text: Option<Count>,
     ) -> Result<(), NameErr>
-        ensures { Gives (λ _. state self.new) result (with_type d env.now name.now (seen ty) tag text (state self.old)) }
+        ensures { Gives (λ _. state self.new) result
+            (with_type d env.now name.now (seen ty) tag text (state self.old)) }
     {
         let k = self.next_type()?;
         let meaning = Meaning::Type(Use::Declared(k, tag), text);

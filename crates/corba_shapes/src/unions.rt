@@ -7,7 +7,8 @@ ghost use Rattle.name_kit.specs.Uses.{shape_of_use};
 ghost use Rattle.name_kit.specs.Arms.{arms_for, arms_held};
 ghost use Rattle.corba_shapes.specs.Held.{state};
 ghost use Rattle.corba_shapes.specs.Forms.{form_shape};
-ghost use Rattle.corba_shapes.specs.Unions.{tag_use, is_no_tag, label_on, labels_on, other_with, case_on, cases_on, union_shape, union_on};
+ghost use Rattle.corba_shapes.specs.Unions.{tag_use, is_no_tag, label_on, labels_on};
+ghost use Rattle.corba_shapes.specs.Unions.{other_with, case_on, cases_on, union_shape, union_on};
 
 use crate::fields::placed;
 use crate::forms::{Form, form_ty, kind_of, named_type, type_form};
@@ -61,7 +62,9 @@ fn label(
     default: bool,
     label: &Label,
 ) -> Result<bool, NameErr>
-    ensures { Gives (λ b. record { numbers = numbers.new.keys; default = b }) result (label_on scopes.now labels.now.keys tag env.now d (record { numbers = numbers.old.keys; default = default }) label.now) }
+    ensures { Gives (λ b. record { numbers = numbers.new.keys; default = b }) result
+        (label_on scopes.now labels.now.keys tag env.now d
+        (record { numbers = numbers.old.keys; default = default }) label.now) }
 {
     match label {
         Label::Case(e) => {
@@ -88,7 +91,9 @@ fn labels_of(
     default: bool,
     list: &[Label],
 ) -> Result<bool, NameErr>
-    ensures { Gives (λ b. record { numbers = numbers.new.keys; default = b }) result (labels_on scopes.now labels.now.keys tag env.now d (record { numbers = numbers.old.keys; default = default }) list.now) }
+    ensures { Gives (λ b. record { numbers = numbers.new.keys; default = b }) result
+        (labels_on scopes.now labels.now.keys tag env.now d
+        (record { numbers = numbers.old.keys; default = default }) list.now) }
 {
     let mut given = default;
     for l in list {
@@ -105,7 +110,8 @@ fn add_arms(
     form: &Form,
     lengths: &[Count],
 ) -> Result<(), NoMemory>
-    ensures { OnOk result (arms_held arms.new ≡ arms_held arms.old ++ arms_for (form_shape form.now lengths.now) numbers.now) }
+    ensures { OnOk result
+        (arms_held arms.new ≡ arms_held arms.old ++ arms_for (form_shape form.now lengths.now) numbers.now) }
 {
     for n in numbers {
         arms.push((*n, form_ty(alloc, form, lengths)?))?;
@@ -121,7 +127,8 @@ fn other_with(
     form: &Form,
     lengths: &[Count],
 ) -> Result<Option<Box<Ty>>, NoMemory>
-    ensures { IfOk result (λ o. option_map (λ b. seen b.value) o ≡ other_with default (option_map (λ b. seen b.value) other) (form_shape form.now lengths.now)) }
+    ensures { IfOk result (λ o. option_map (λ b. seen b.value) o
+        ≡ other_with default (option_map (λ b. seen b.value) other) (form_shape form.now lengths.now)) }
 {
     match other {
         Some(ty) => Ok(Some(ty)),
@@ -147,7 +154,17 @@ fn case(
     other: Option<Box<Ty>>,
     case: &Case,
 ) -> Result<Option<Box<Ty>>, NameErr>
-    ensures { Gives (λ o. record { names = scopes.new; numbers = numbers.new.keys; arms = arms_held arms.new; other = option_map (λ b. seen b.value) o }) result (case_on labels.now.keys tag env.now d (record { names = scopes.old; numbers = numbers.old.keys; arms = arms_held arms.old; other = option_map (λ b. seen b.value) other }) case.now) }
+    ensures { Gives (λ o. record {
+      names = scopes.new;
+      numbers = numbers.new.keys;
+      arms = arms_held arms.new;
+      other = option_map (λ b. seen b.value) o;
+    }) result (case_on labels.now.keys tag env.now d (record {
+      names = scopes.old;
+      numbers = numbers.old.keys;
+      arms = arms_held arms.old;
+      other = option_map (λ b. seen b.value) other;
+    }) case.now) }
 {
     let default = labels_of(
         alloc,
@@ -184,7 +201,13 @@ fn cases(
     numbers: &mut IndexSet<i128>,
     list: &[Case],
 ) -> Result<(UnionArms, Option<Box<Ty>>), NameErr>
-    ensures { Gives (λ c. record { names = scopes.new; numbers = numbers.new.keys; arms = arms_held c.0; other = option_map (λ b. seen b.value) c.1 }) result (cases_on labels.now.keys tag env.now d (record { names = scopes.old; numbers = numbers.old.keys; arms = []; other = None }) list.now) }
+    ensures { Gives (λ c. record {
+      names = scopes.new;
+      numbers = numbers.new.keys;
+      arms = arms_held c.0;
+      other = option_map (λ b. seen b.value) c.1;
+    }) result (cases_on labels.now.keys tag env.now d
+        (record { names = scopes.old; numbers = numbers.old.keys; arms = []; other = None }) list.now) }
 {
     let mut arms = UnionArms::new(alloc);
     let mut other = None;
@@ -213,7 +236,8 @@ fn union_ty(
     arms: UnionArms,
     other: Option<Box<Ty>>,
 ) -> Result<Ty, NoMemory>
-    ensures { IfOk result (λ t. seen t ≡ choice (shape_of_use used) (arms_of (arms_held arms) (default (unwrap_or (option_map (λ b. seen b.value) other) void)))) }
+    ensures { IfOk result (λ t. seen t ≡ choice (shape_of_use used)
+        (arms_of (arms_held arms) (default (unwrap_or (option_map (λ b. seen b.value) other) void)))) }
 {
     let other = other_ty(alloc, other)?;
     union_of(alloc, ty_of_use(used), arms, Some(other))
