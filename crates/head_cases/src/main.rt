@@ -4,6 +4,7 @@
 
 mod answers;
 mod interfaces;
+mod mach;
 mod parts;
 mod records;
 mod refusals;

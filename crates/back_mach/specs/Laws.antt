@@ -1,0 +1,68 @@
+-- Laws of the heads.
+use Rattle.std.specs.Prelude.{◌≡◌, ◌⊎◌, ◌↔◌, ℕ, ℤ, pos, List, ◌++◌, length, Some}
+use Rattle.std.specs.Int.{w32, FitsSigned}
+use Rattle.wire_def.specs.declared.fault.HeadErr.{HeadErr}
+use Rattle.wire_def.specs.declared.head.Head.{Head}
+use Rattle.wire_def.specs.declared.outcome.Refusal.{Refusal}
+use Rattle.wire_def.specs.declared.outcome.Refusal.TheVariants as refusal
+use Rattle.wire_def.specs.declared.reply.Status.TheVariants.{Answer, RetCode}
+use Rattle.wire_def.specs.Grammar.{AreOctets, IsGrammar}
+use Rattle.call_kit.specs.declared.called.Naming.TheVariants.{Operation}
+use Rattle.pres.specs.Bindings.{Binding}
+use Rattle.back_mach.specs.declared.call.MachCall.{MachCall}
+use Rattle.back_mach.specs.declared.routines.Routine.{Routine}
+use Rattle.back_mach.specs.Heads.{Way, HeadOf, HeadSpells, HeadStops, read_head, BeginsWith, StopsWith}
+use Rattle.back_mach.specs.Leads.{lead, lead_length, answer_lead, answer_lead_length, reply_id, reply_port, with_size}
+use Rattle.back_mach.specs.Refusals.{IsOwn, refusal_octets}
+use Rattle.back_mach.specs.Routines.{routine_of}
+use Rattle.back_mach.specs.Seeking.{named}
+use Rattle.back_mach.specs.Told.{BeginsCall, BeginsReply, shared_head}
+use Rattle.back_mach.specs.Words.{IsWord}
+
+-- a message begins with a head or stops with a fault, one of the two, and which head and which fault is determined
+pub record IsDecided (w : Way) (message : List ℕ) : Type 0 where
+  pub either : ((h : HeadOf w) × (used : ℕ) × BeginsWith w message h used) ⊎ ((e : HeadErr) × StopsWith w message e)
+  pub not_both : (h : HeadOf w) (used : ℕ) (e : HeadErr) → BeginsWith w message h used → StopsWith w message e → ⊥
+  pub one_head : (h j : HeadOf w) (used m : ℕ) → BeginsWith w message h used → BeginsWith w message j m → (h ≡ j) × (used ≡ m)
+  pub one_fault : (d e : HeadErr) → StopsWith w message d → StopsWith w message e → d ≡ e
+
+-- so it is for each message
+abbrev pub HeadsAreDecided : Type 0
+HeadsAreDecided = (w : Way) (message : List ℕ) → AreOctets message → IsDecided w message
+
+-- what is read of a message of any length is spelled, and where reading stops there is the fault
+abbrev pub HeadsAreRead : Type 0
+HeadsAreRead = (w : Way) (n : ℕ) → IsGrammar (read_head w n) (HeadSpells w n) (HeadStops w n)
+
+-- the operation that a request names has its id
+abbrev pub IsNamedRight : Type 0
+IsNamedRight = (b : Binding) (c : MachCall) (op : ℕ) → named b c ≡ Operation op → (routine_of b op).id ≡ c.id
+
+-- ---- what is sent
+
+-- ports that words can hold
+abbrev pub HasPorts : Head → Type 0
+HasPorts head = IsWord head.remote × IsWord head.local
+
+-- what is told of the head that is sent of a routine
+abbrev pub call_of : Routine → Head → MachCall
+call_of r head = record { head = shared_head head.remote (reply_port r.wants head.local); id = r.id; used = lead_length }
+
+-- the head that is sent of a request is read as that request, whatever follows
+abbrev pub RequestsAreRead : Type 0
+RequestsAreRead = (r : Routine) (head : Head) (body : List ℕ) → IsWord r.id → HasPorts head → IsWord (length (lead r head ++ body))
+    → BeginsCall (with_size (lead r head ++ body)) (call_of r head)
+
+-- the head that is sent of an answer is read as the answer to that request, whatever follows
+abbrev pub AnswersAreRead : Type 0
+AnswersAreRead = (r : Routine) (head : Head) (body : List ℕ) → HasPorts head → IsWord (length (answer_lead r head ++ body))
+    → BeginsReply (reply_id r.id) (with_size (answer_lead r head ++ body)) (record { head = shared_head head.remote 0; status = Answer; used = answer_lead_length })
+
+-- the reply that refuses a request, by a code other than 0, is read as that
+abbrev pub RefusalsAreRead : Type 0
+RefusalsAreRead = (id remote : ℕ) (n : ℤ) (o : List ℕ) → IsWord remote → FitsSigned w32 n → (n ≡ pos 0 → ⊥) → refusal_octets id remote (refusal.RetCode n) ≡ Some o
+    → BeginsReply (reply_id id) o (record { head = shared_head remote 0; status = RetCode n; used = answer_lead_length })
+
+-- the refusals of this format are those that have octets
+abbrev pub OwnHaveOctets : Type 0
+OwnHaveOctets = (id remote : ℕ) (r : Refusal) → IsOwn r ↔ ((o : List ℕ) × (refusal_octets id remote r ≡ Some o))

@@ -1,0 +1,12 @@
+pub mod Words
+pub mod Header
+pub mod Reply
+pub mod Heads
+pub mod Told
+pub mod Readers
+pub mod Routines
+pub mod Seeking
+pub mod Leads
+pub mod Coded
+pub mod Refusals
+pub mod Laws

@@ -1,0 +1,28 @@
+-- What the readers of items have given.
+use Rattle.std.specs.Prelude.{◌≡◌, ℕ, Result, Ok, Err}
+use Rattle.wire_def.specs.declared.fault.HeadErr.{HeadErr}
+use Rattle.wire_def.specs.Grammar.{Reading, got, stop}
+use Rattle.back_mach.specs.declared.cursor.Cursor.{Cursor}
+
+-- reading stops with this fault, at some place
+abbrev pub Stopped : {A : Type 0} → HeadErr → Reading HeadErr A → Type 0
+Stopped e reading = (at : ℕ) × (reading ≡ stop e at)
+
+-- what was given, seen by view, is what reading gives
+abbrev pub Gives : {X A : Type 0} → (X → A) → Result (X × Cursor) HeadErr → Reading HeadErr A → Type 0
+Gives view (Ok x) reading = reading ≡ got (view x.0) x.1.place x.1.rest.now
+Gives view (Err e) reading = Stopped e reading
+
+-- something was read and passed over
+abbrev pub Passes : {A : Type 0} → Result Cursor HeadErr → Reading HeadErr A → Type 0
+Passes {A} (Ok next) reading = (x : A) × (reading ≡ got x next.place next.rest.now)
+Passes (Err e) reading = Stopped e reading
+
+-- the view of what is itself
+abbrev pub same : {A : Type 0} → A → A
+same x = x
+
+-- what is told of what was read
+abbrev pub told : {A B : Type 0} → (A → ℕ → B) → Reading HeadErr A → Result B HeadErr
+told view (got x used rest) = Ok (view x used)
+told view (stop e at) = Err e

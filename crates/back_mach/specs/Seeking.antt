@@ -1,0 +1,45 @@
+-- What requests name, and what their heads say, over a binding.
+use Rattle.std.specs.Prelude.{◌≡◌, ℕ, ◌+◌, ◌==◌, Bool, ◌&&◌, nat_le, nat_lt, List, [], ◌∷◌, length, Option, Some, None, if◌then◌else◌}
+use Rattle.std.specs.List.{position_from}
+use Rattle.wire_def.specs.declared.encoding.Encoding.{Encoding}
+use Rattle.wire_def.specs.declared.encoding.Encoding.TheVariants.{Mach}
+use Rattle.aoi.specs.Plain.{PlainInterface, PlainOperation}
+use Rattle.call_kit.specs.declared.called.Called.{Called}
+use Rattle.call_kit.specs.declared.called.Naming.{Naming}
+use Rattle.call_kit.specs.declared.called.Naming.TheVariants.{Operation as one, NoInterface, NoOperation}
+use Rattle.back_mach.specs.declared.call.MachCall.{MachCall}
+use Rattle.back_mach.specs.Told.{BeginsCall}
+use Rattle.pres.specs.Bindings.{Binding}
+
+-- how bodies are laid out
+abbrev pub encoding : Encoding
+encoding = Mach
+
+-- an interface with the id among those of its requests: from its base up, as many as it has slots
+abbrev pub has_id : ℕ → PlainInterface → Bool
+has_id id i = nat_le i.base id && nat_lt id (i.base + i.slots)
+
+-- an operation whose slot is the id less its interface's base
+abbrev pub has_slot : ℕ → ℕ → PlainOperation → Bool
+has_slot base id op = base + op.slot == id
+
+abbrev pub operation_at : Option ℕ → Naming
+operation_at None = NoOperation
+operation_at (Some op) = one op
+
+-- the first interface that has the id, and its first operation of that slot, where the operations of the interfaces are counted from k
+abbrev pub named_from : ℕ → List PlainInterface → ℕ → Naming
+named_from k [] id = NoInterface
+named_from k (i ∷ is) id = if has_id id i then operation_at (position_from (has_slot i.base id) k i.ops) else named_from (k + length i.ops) is id
+
+-- the operation that a request names
+abbrev pub named : Binding → MachCall → Naming
+named b c = named_from 0 b.unit.interfaces c.id
+
+-- what the head of a request says
+abbrev pub called : Binding → MachCall → Called
+called b c = record { naming = named b c; head = c.head; encoding = encoding; used = c.used }
+
+-- a message begins with the head of a request that says this
+abbrev pub Calls : Binding → List ℕ → Called → Type 0
+Calls b o told = (c : MachCall) × BeginsCall o c × (called b c ≡ told)

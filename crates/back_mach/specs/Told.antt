@@ -1,0 +1,37 @@
+-- What callers are told of a head.
+use Rattle.std.specs.Prelude.{◌≡◌, ℕ, zero, suc, true, List}
+use Rattle.std.specs.Int.{w32, cast_signed}
+use Rattle.wire_def.specs.declared.head.Head.{Head}
+use Rattle.wire_def.specs.declared.head.Order.TheVariants.{Big}
+use Rattle.wire_def.specs.declared.reply.ReplyHead.{ReplyHead}
+use Rattle.wire_def.specs.declared.reply.Status.{Status}
+use Rattle.wire_def.specs.declared.reply.Status.TheVariants.{Answer, RetCode}
+use Rattle.back_mach.specs.declared.call.MachCall.{MachCall}
+use Rattle.back_mach.specs.declared.header.MachHeader.{MachHeader}
+use Rattle.back_mach.specs.Reply.{Reply}
+use Rattle.back_mach.specs.Heads.{call, reply, BeginsWith}
+
+-- of the fields that all back ends share these heads have the two ports
+abbrev pub shared_head : ℕ → ℕ → Head
+shared_head remote local = record { id = 0; remote = remote; local = local; wants = true; order = Big }
+
+-- the id of a request, by a head of so many octets
+abbrev pub call_told : MachHeader → ℕ → MachCall
+call_told h used = record { head = shared_head h.remote h.local; id = h.id; used = used }
+
+-- a return code of 0 is an answer, and any other a refusal
+abbrev pub status_of : ℕ → Status
+status_of zero = Answer
+status_of (suc m) = RetCode (cast_signed w32 (suc m))
+
+-- how a request fared, by a head of so many octets
+abbrev pub reply_told : Reply → ℕ → ReplyHead
+reply_told r used = record { head = shared_head r.header.remote r.header.local; status = status_of r.code; used = used }
+
+-- a message begins with the head of a request, of which this is told
+abbrev pub BeginsCall : List ℕ → MachCall → Type 0
+BeginsCall message told = (h : MachHeader) × (used : ℕ) × BeginsWith call message h used × (call_told h used ≡ told)
+
+-- a message begins with the head of a reply with an id, of which this is told
+abbrev pub BeginsReply : ℕ → List ℕ → ReplyHead → Type 0
+BeginsReply id message told = (r : Reply) × (used : ℕ) × BeginsWith (reply id) message r used × (reply_told r used ≡ told)

@@ -1,0 +1,30 @@
+//! Messages in the manner of Mach 3: the heads of requests and of replies, read and sent.
+//!
+//! Which octets are the head of a request or of a reply, and where octets that are none first stop:
+//! both are definitions of this crate, and each law of theirs the contract of a function.
+#![tactic(auto)]
+
+mod call;
+mod cursor;
+mod header;
+mod laws;
+mod leads;
+mod putting;
+mod refusals;
+mod reply;
+pub mod routines;
+mod seek;
+mod shared;
+mod words;
+
+pub use call::{MachCall, read_call};
+pub use header::MachHeader;
+pub use laws::{
+    answers_are_read, begins_or_stops, heads_are_read, own_refusals_have_octets, refusals_are_read,
+    requests_are_named_right, requests_are_read,
+};
+pub use leads::{lead_call, lead_reply, size_patch};
+pub use putting::{answer_lead_length, lead_length, put_lead, put_size};
+pub use refusals::put_refusal;
+pub use reply::read_reply;
+pub use seek::{ENCODING, read_called};
