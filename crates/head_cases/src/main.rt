@@ -5,6 +5,7 @@
 mod answers;
 mod interfaces;
 mod mach;
+mod mach_sent;
 mod parts;
 mod records;
 mod refusals;
