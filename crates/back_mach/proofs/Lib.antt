@@ -1,1 +1,14 @@
+pub mod Items
+pub mod Headers
+pub mod Replies
+pub mod Steps
+pub mod Lawful
+pub mod Exact
+pub mod Counting
+pub mod Naming
+pub mod NamedBelow
+pub mod NamedBy
+pub mod Heading
 pub mod Coding
+pub mod Wording
+pub mod Sent

@@ -1,6 +1,6 @@
 //! The operations of interfaces, as messages name them.
 
-ghost use Rattle.std.specs.Prelude.{◌≡◌, ◌<◌, ◌+◌, ◌^◌, length, map, slice_index_or};
+ghost use Rattle.std.specs.Prelude.{◌≡◌, ◌<◌, ◌+◌, ◌^◌, ℕ, length, map, slice_index_or};
 ghost use Rattle.wire_def.specs.declared.encoding.Back.TheVariants.{Mach};
 ghost use Rattle.aoi.specs.Plain.{plain_interface, plain_operation};
 ghost use Rattle.back_mach.specs.Routines.{no_routine, routine_in, routine_of, routines};

@@ -1,0 +1,34 @@
+-- A message has one head of a request or one first fault of it, over a binding too.
+use Rattle.std.proofs.Common.{◌≡◌, ◌⊎◌, inl, inr, ℕ, ◌≤◌, List, length, refl, sym, ap, ◌∙◌}
+use Rattle.wire_def.specs.declared.fault.HeadErr.{HeadErr}
+use Rattle.wire_def.specs.Grammar.{AreOctets}
+use Rattle.call_kit.specs.declared.called.Called.{Called}
+use Rattle.call_kit.specs.Calls.{IsOneHead, HasHead}
+use Rattle.pres.specs.Bindings.{Binding}
+use Rattle.back_mach.specs.declared.header.MachHeader.{MachHeader}
+use Rattle.back_mach.specs.Heads.{call, BeginsWith, StopsWith}
+use Rattle.back_mach.specs.Seeking.{called, Calls}
+use Rattle.back_mach.specs.Told.{call_told, BeginsCall}
+use Rattle.back_mach.proofs.Lawful.{not_both, one_head, one_fault, heads_are_decided}
+
+module _ (b : Binding) (o : List ℕ) where
+  within : (t : Called) → Calls b o t → t.used ≤ length o
+  within t (c, (h, used, begins, told), is) = rw (← is, ← told) begins.0
+
+  not_both_called : (t : Called) (e : HeadErr) → Calls b o t → StopsWith call o e → ⊥
+  not_both_called t e (c, (h, used, begins, told), is) stops = not_both call o h used e begins stops
+
+  one_called : (t u : Called) → Calls b o t → Calls b o u → t ≡ u
+  one_called t u (c, (h, used, begins, told), is) (d, (j, m, begins', told'), is') =
+      let same = one_head call o h j used m begins begins' in
+      sym is ∙ ap (called b) (sym told ∙ ap (λ (x : MachHeader). call_told x used) same.0 ∙ ap (call_told j) same.1 ∙ told') ∙ is'
+
+  pub one_head_called : IsOneHead o (Calls b o) (StopsWith call o)
+  one_head_called = record { within = within; not_both = not_both_called; one_head = one_called; one_fault = one_fault call o }
+
+  found : ((h : MachHeader) × (used : ℕ) × BeginsWith call o h used) ⊎ ((e : HeadErr) × StopsWith call o e) → HasHead (Calls b o) (StopsWith call o)
+  found (inl (h, used, begins)) = inl (called b (call_told h used), (call_told h used, (h, used, begins, refl), refl))
+  found (inr (e, stops)) = inr (e, stops)
+
+  pub has_head_called : AreOctets o → HasHead (Calls b o) (StopsWith call o)
+  has_head_called oct = found (heads_are_decided call o oct).either

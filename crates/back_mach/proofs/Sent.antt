@@ -1,0 +1,157 @@
+-- Heads that are sent are read as what they are sent for.
+use Rattle.std.proofs.Common.{◌≡◌, ℕ, zero, suc, ℤ, pos, negsuc, ◌+◌, ◌≤◌, ◌<◌, ◌^◌, true, false, Bool, List, [], ◌∷◌, ◌++◌, length, take, drop, Some, refl, sym, ap, ◌∙◌, subst, length-append, arith}
+use Rattle.std.specs.Prelude.{◌-◌, FitsSigned, nat_lt}
+use Rattle.std.specs.Int.{w32, cast_signed, cast_unsigned}
+use Rattle.std.proofs.lemmas.Bool.{eq-eqb}
+use Rattle.std.proofs.lemmas.Int.{to_z-of_z}
+use Rattle.std.proofs.lemmas.List.{take_at, drop_at, length-take, length-drop}
+use Rattle.wire_def.specs.declared.head.Head.{Head}
+use Rattle.wire_def.specs.declared.outcome.Refusal.{Refusal}
+use Rattle.wire_def.specs.declared.outcome.Refusal.TheVariants.{ProgUnavail, ProgMismatch, ProcUnavail, GarbageArgs, SystemErr, RpcMismatch, AuthError, SystemException, UserException, RetCode}
+use Rattle.wire_def.specs.declared.reply.Status.{Status}
+use Rattle.wire_def.specs.declared.reply.Status.TheVariants as status
+use Rattle.back_mach.specs.declared.header.MachHeader.{MachHeader}
+use Rattle.back_mach.specs.declared.routines.Routine.{Routine}
+use Rattle.back_mach.specs.Words.{word, words, IsWord}
+use Rattle.back_mach.specs.Header.{HasWords, SixSpell, HeaderSpells}
+use Rattle.back_mach.specs.Reply.{Reply, return_word, CodeSpells}
+use Rattle.back_mach.specs.Leads.{request_bits, reply_port, lead, reply_id, move_send_once, reply_octets, answer_lead, with_size}
+use Rattle.back_mach.specs.Told.{BeginsReply}
+use Rattle.back_mach.specs.Told as defs
+use Rattle.back_mach.specs.Laws.{HasPorts, call_of, RequestsAreRead, AnswersAreRead, RefusalsAreRead, OwnHaveOctets}
+
+-- ---- requests
+
+-- the words of a request's header, in a message of so many octets
+abbrev asking : Routine → Head → ℕ → MachHeader
+asking r head n = record { bits = request_bits r.wants; size = n; remote = head.remote; local = reply_port r.wants head.local; sequence = 0; id = r.id }
+
+abbrev sized : Routine → Head → ℕ → List ℕ
+sized r head n = words (request_bits r.wants ∷ n ∷ head.remote ∷ reply_port r.wants head.local ∷ 0 ∷ r.id ∷ [])
+
+told : (r : Routine) (head : Head) (body : List ℕ) → with_size (lead r head ++ body) ≡ sized r head (length (lead r head ++ body)) ++ body
+told r head body = refl
+
+-- to tell the size changes no length
+pub length_sized : (o : List ℕ) → 8 ≤ length o → length (with_size o) ≡ length o
+length_sized o long =
+    let size : List ℕ = word (length o) in
+    let is : with_size o ≡ (take 4 o ++ size) ++ drop 8 o = refl in
+    omega (arith, long, ap length is, length-append (take 4 o ++ size) (drop 8 o), length-append (take 4 o) size, length-take 4 o, length-drop 8 o)
+
+bits_fit : (wants : Bool) → request_bits wants < 2 ^ 31
+bits_fit true = omega arith
+bits_fit false = omega arith
+
+port_fits : (wants : Bool) (local : ℕ) → IsWord local → IsWord (reply_port wants local)
+port_fits true local fits = fits
+port_fits false local fits = omega arith
+
+simple_bits : (wants : Bool) → nat_lt (request_bits wants) (2 ^ 31) ≡ true
+simple_bits true = refl
+simple_bits false = refl
+
+asks : (r : Routine) (head : Head) (n : ℕ) → IsWord r.id → HasPorts head → IsWord n → HeaderSpells n 0 (sized r head n) (asking r head n)
+unfolding SixSpell
+asks r head n id ports fits =
+    let bits = bits_fit r.wants in (
+      (
+        (
+          refl,
+          record { bits = omega (arith, bits); size = fits; remote = ports.0; local = port_fits r.wants head.local ports.1; sequence = omega arith; id = id },
+        ),
+        simple_bits r.wants,
+      ),
+      eq-eqb n n refl,
+    )
+
+-- the head that is sent of a request begins the message
+pub requests_begin : RequestsAreRead
+requests_begin r head body id ports fits =
+    let n : ℕ = length (lead r head ++ body) in
+    let long : length (with_size (lead r head ++ body)) ≡ n = length_sized (lead r head ++ body) (omega (arith, length-append (lead r head) body)) in
+    let first : take 24 (with_size (lead r head ++ body)) ≡ sized r head n = take_at (sized r head n) body 24 refl in
+    (asking r head n, 24, (omega (arith, long, length-append (lead r head) body), rw (first, long) (asks r head n id ports fits)), refl)
+
+-- and what follows the head is what was put after it
+pub follows_request : (r : Routine) (head : Head) (body : List ℕ) → drop 24 (with_size (lead r head ++ body)) ≡ body
+follows_request r head body = drop_at (sized r head (length (lead r head ++ body))) body 24 refl
+
+-- the size lies within the head
+pub long_request : (r : Routine) (head : Head) → 24 ≤ length (lead r head)
+long_request r head = omega arith
+
+-- ---- replies
+
+abbrev answering : ℕ → ℕ → ℕ → MachHeader
+answering id remote n = record { bits = move_send_once; size = n; remote = remote; local = 0; sequence = 0; id = reply_id id }
+
+abbrev header_told : ℕ → ℕ → ℕ → List ℕ
+header_told id remote n = words (move_send_once ∷ n ∷ remote ∷ 0 ∷ 0 ∷ reply_id id ∷ [])
+
+abbrev code_told : ℕ → List ℕ
+code_told m = word return_word ++ word m
+
+reply_told : (id remote m : ℕ) (body : List ℕ) → with_size (reply_octets id remote m ++ body) ≡ (header_told id remote (length (reply_octets id remote m ++ body)) ++ code_told m) ++ body
+reply_told id remote m body = refl
+
+answers : (id remote n : ℕ) → IsWord remote → IsWord n → HeaderSpells n 0 (header_told id remote n) (answering id remote n)
+unfolding SixSpell
+answers id remote n port fits = (
+  ((refl, record { bits = omega arith; size = fits; remote = port; local = omega arith; sequence = omega arith; id = omega arith }), refl),
+  eq-eqb n n refl,
+)
+
+code_spelled : (p m : ℕ) → IsWord m → CodeSpells p (code_told m) m
+unfolding CodeSpells
+code_spelled p m fits = (refl, fits)
+
+-- a reply by the word of its return code
+reply_begins : (id remote m : ℕ) (body : List ℕ) → IsWord remote → IsWord m → IsWord (length (reply_octets id remote m ++ body))
+    → BeginsReply (reply_id id) (with_size (reply_octets id remote m ++ body)) (defs.reply_told (record { header = answering id remote (length (reply_octets id remote m ++ body)); code = m }) 32)
+reply_begins id remote m body port code fits =
+    let n : ℕ = length (reply_octets id remote m ++ body) in
+    let long : length (with_size (reply_octets id remote m ++ body)) ≡ n = length_sized (reply_octets id remote m ++ body) (omega (arith, length-append (reply_octets id remote m) body)) in
+    let first : take 32 (with_size (reply_octets id remote m ++ body)) ≡ header_told id remote n ++ code_told m = take_at (header_told id remote n ++ code_told m) body 32 refl in (
+      record { header = answering id remote n; code = m },
+      32,
+      (
+        omega (arith, long, length-append (reply_octets id remote m) body),
+        rw (first, long) (header_told id remote n, code_told m, refl, (answers id remote n port fits, eq-eqb (reply_id id) (reply_id id) refl), code_spelled 24 m code),
+      ),
+      refl,
+    )
+
+pub answers_read : AnswersAreRead
+answers_read r head body ports fits = reply_begins r.id head.remote 0 body ports.0 (omega arith) fits
+
+-- the word of a code that is not 0 tells it
+own_code : (m : ℕ) (n : ℤ) → (n ≡ pos 0 → ⊥) → cast_unsigned w32 n ≡ m → cast_signed w32 m ≡ n → defs.status_of m ≡ status.RetCode n
+own_code zero n other is again = absurd (other (sym again))
+own_code (suc m) n other is again = ap (λ (z : ℤ). status.RetCode z) again
+
+unsigned_below : (n : ℤ) → FitsSigned w32 n → cast_unsigned w32 n < 4294967296
+unsigned_below (pos n) fits = omega (arith, fits)
+unsigned_below (negsuc n) fits = omega (arith, fits)
+
+pub refusals_read : RefusalsAreRead
+refusals_read id remote n o port fits other is =
+    let m : ℕ = cast_unsigned w32 n in
+    let code : IsWord m = unsigned_below n fits in
+    let begins = reply_begins id remote m [] port code (omega arith) in
+    let same : defs.status_of m ≡ status.RetCode n = own_code m n other refl (to_z-of_z w32 n fits) in
+    let octets : with_size (reply_octets id remote m) ≡ o = cc in
+    subst (λ (l : List ℕ). BeginsReply (reply_id id) l (record { head = defs.shared_head remote 0; status = status.RetCode n; used = 32 })) octets
+    (subst (λ (s : Status). BeginsReply (reply_id id) (with_size (reply_octets id remote m)) (record { head = defs.shared_head remote 0; status = s; used = 32 })) same begins)
+
+pub own_octets : OwnHaveOctets
+own_octets id remote (RetCode n) = ((λ own. (_, refl)), λ has. tt)
+own_octets id remote ProgUnavail = ((λ own. absurd own), λ (o, is). absurd cc)
+own_octets id remote (ProgMismatch low high) = ((λ own. absurd own), λ (o, is). absurd cc)
+own_octets id remote ProcUnavail = ((λ own. absurd own), λ (o, is). absurd cc)
+own_octets id remote GarbageArgs = ((λ own. absurd own), λ (o, is). absurd cc)
+own_octets id remote SystemErr = ((λ own. absurd own), λ (o, is). absurd cc)
+own_octets id remote (RpcMismatch low high) = ((λ own. absurd own), λ (o, is). absurd cc)
+own_octets id remote (AuthError why) = ((λ own. absurd own), λ (o, is). absurd cc)
+own_octets id remote (SystemException name minor completion) = ((λ own. absurd own), λ (o, is). absurd cc)
+own_octets id remote (UserException name) = ((λ own. absurd own), λ (o, is). absurd cc)

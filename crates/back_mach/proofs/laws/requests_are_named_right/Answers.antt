@@ -1,0 +1,5 @@
+use Rattle.back_mach.proofs.NamedBy.{named_right}
+use Rattle.back_mach.proofs.laws.requests_are_named_right.Goals as goal
+
+pub returns : goal.returns
+returns c = named_right

@@ -1,0 +1,14 @@
+use Rattle.std.proofs.Common.{refl, sym, ap}
+use Rattle.call_kit.specs.declared.called.Called.{Called}
+use Rattle.call_kit.specs.declared.called.Naming.{Naming}
+use Rattle.back_mach.specs.Seeking.{encoding}
+use Rattle.back_mach.proofs.seek.read_called.Goals as goal
+
+pub returns-in-Ok-clause-begins : goal.returns-in-Ok-clause-begins
+returns-in-Ok-clause-begins c =
+    let begins = (c.in-Ok.ensures.spells c.in-Ok.call).0 refl in
+    let call = c.in-Ok.call in
+    (call, begins, ap (λ (n : Naming). record { naming = n; head = call.head; encoding = encoding; used = call.used }) (sym c.named.ensures.value))
+
+pub returns-in-Err-clause-stops : goal.returns-in-Err-clause-stops
+returns-in-Err-clause-stops c = (c.in-Err.ensures.stops c.in-Err.fault).0 refl
