@@ -8,7 +8,7 @@ use Rattle.pres.specs.Bindings.{Binding}
 use Rattle.back_mach.specs.declared.header.MachHeader.{MachHeader}
 use Rattle.back_mach.specs.Heads.{call, BeginsWith, StopsWith}
 use Rattle.back_mach.specs.Seeking.{called, Calls}
-use Rattle.back_mach.specs.Told.{call_told, BeginsCall}
+use Rattle.back_mach.specs.Told.{call_told}
 use Rattle.back_mach.proofs.Lawful.{not_both, one_head, one_fault, heads_are_decided}
 
 module _ (b : Binding) (o : List ℕ) where

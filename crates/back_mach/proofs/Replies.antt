@@ -6,7 +6,7 @@ use Rattle.wire_def.specs.Grammar.{Spelling, Parts, IsGrammar}
 use Rattle.wire_def.proofs.Grammars.{mapped, both_are, tested_are}
 use Rattle.back_mach.specs.declared.header.MachHeader.{MachHeader}
 use Rattle.back_mach.specs.Words.{word, WordSpells, only, PassSpells}
-use Rattle.back_mach.specs.Reply.{Reply, return_word, has_id, OwnSpells, OwnStops, read_own, CodeSpells, CodeStops, read_code, ReplySpells, ReplyStops, read_head_of_reply}
+use Rattle.back_mach.specs.Reply.{return_word, has_id, OwnSpells, OwnStops, read_own, CodeSpells, CodeStops, read_code, ReplySpells, ReplyStops, read_head_of_reply}
 use Rattle.back_mach.proofs.Items.{word_is, pass_is}
 use Rattle.back_mach.proofs.Headers.{header_is}
 

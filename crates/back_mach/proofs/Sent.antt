@@ -1,24 +1,23 @@
 -- Heads that are sent are read as what they are sent for.
-use Rattle.std.proofs.Common.{◌≡◌, ℕ, zero, suc, ℤ, pos, negsuc, ◌+◌, ◌≤◌, ◌<◌, ◌^◌, true, false, Bool, List, [], ◌∷◌, ◌++◌, length, take, drop, Some, refl, sym, ap, ◌∙◌, subst, length-append, arith}
-use Rattle.std.specs.Prelude.{◌-◌, FitsSigned, nat_lt}
+use Rattle.std.proofs.Common.{◌≡◌, ℕ, zero, suc, ℤ, pos, negsuc, ◌≤◌, ◌<◌, ◌^◌, true, false, Bool, List, [], ◌∷◌, ◌++◌, length, take, drop, refl, sym, ap, subst, length-append, arith}
+use Rattle.std.specs.Prelude.{FitsSigned, nat_lt}
 use Rattle.std.specs.Int.{w32, cast_signed, cast_unsigned}
 use Rattle.std.proofs.lemmas.Bool.{eq-eqb}
 use Rattle.std.proofs.lemmas.Int.{to_z-of_z}
 use Rattle.std.proofs.lemmas.List.{take_at, drop_at, length-take, length-drop}
 use Rattle.wire_def.specs.declared.head.Head.{Head}
-use Rattle.wire_def.specs.declared.outcome.Refusal.{Refusal}
 use Rattle.wire_def.specs.declared.outcome.Refusal.TheVariants.{ProgUnavail, ProgMismatch, ProcUnavail, GarbageArgs, SystemErr, RpcMismatch, AuthError, SystemException, UserException, RetCode}
 use Rattle.wire_def.specs.declared.reply.Status.{Status}
 use Rattle.wire_def.specs.declared.reply.Status.TheVariants as status
 use Rattle.back_mach.specs.declared.header.MachHeader.{MachHeader}
 use Rattle.back_mach.specs.declared.routines.Routine.{Routine}
 use Rattle.back_mach.specs.Words.{word, words, IsWord}
-use Rattle.back_mach.specs.Header.{HasWords, SixSpell, HeaderSpells}
-use Rattle.back_mach.specs.Reply.{Reply, return_word, CodeSpells}
-use Rattle.back_mach.specs.Leads.{request_bits, reply_port, lead, reply_id, move_send_once, reply_octets, answer_lead, with_size}
+use Rattle.back_mach.specs.Header.{SixSpell, HeaderSpells}
+use Rattle.back_mach.specs.Reply.{return_word, CodeSpells}
+use Rattle.back_mach.specs.Leads.{request_bits, reply_port, lead, reply_id, move_send_once, reply_octets, with_size}
 use Rattle.back_mach.specs.Told.{BeginsReply}
 use Rattle.back_mach.specs.Told as defs
-use Rattle.back_mach.specs.Laws.{HasPorts, call_of, RequestsAreRead, AnswersAreRead, RefusalsAreRead, OwnHaveOctets}
+use Rattle.back_mach.specs.Laws.{HasPorts, RequestsAreRead, AnswersAreRead, RefusalsAreRead, OwnHaveOctets}
 
 -- ---- requests
 

@@ -1,5 +1,5 @@
 -- The head of a reply: its header and the item of its return code.
-use Rattle.std.specs.Prelude.{◌≡◌, ℕ, ◌+◌, List, ◌++◌, Bool, ◌==◌}
+use Rattle.std.specs.Prelude.{◌≡◌, ℕ, ◌+◌, ◌++◌, Bool, ◌==◌}
 use Rattle.mint.specs.declared.kind.Kind.TheVariants as kind
 use Rattle.mint.specs.Types.{number}
 use Rattle.wire_def.specs.declared.fault.HeadErr.{HeadErr}
@@ -7,7 +7,7 @@ use Rattle.wire_def.specs.declared.fault.HeadErr.TheVariants.{Type_, Item}
 use Rattle.wire_def.specs.Grammar.{Reader, Spelling, Stopping, map_got, both, tested, Parts, StopsInOrder, TestedSpells, TestedStops}
 use Rattle.wire_def.specs.Lone.{scalar_word}
 use Rattle.back_mach.specs.declared.header.MachHeader.{MachHeader}
-use Rattle.back_mach.specs.Words.{word, IsWord, WordSpells, WordStops, read_word, only, PassSpells, PassStops, read_pass}
+use Rattle.back_mach.specs.Words.{word, IsWord, WordStops, read_word, only, PassSpells, PassStops, read_pass}
 use Rattle.back_mach.specs.Header.{HeaderSpells, HeaderStops, read_header}
 
 -- a header, and the word of a return code, in two's complement
