@@ -31,23 +31,27 @@ pub ruleset patching = (seen-Patch)
 word_of : (n : ℕ) → n < 4294967296 → puts.word 4 Little (pos n) ≡ Some (word n)
 word_of n h = ap (λ (o : Option ℕ). on_some o (λ (m : ℕ). Some (word m))) (if_so (nat_lt n 4294967296) n (lt-ltb n 4294967296 h))
 
-asking : (id : ℕ) (wants : Bool) (h : Head) (v : Val) → IsHead h → filled 24 (request_puts (record { id = id; wants = wants })) h v ≡ Some (lead (record { id = id; wants = wants }) h)
+asking : (id : ℕ) (wants : Bool) (h : Head) (v : Val) → IsHead h
+    → filled 24 (request_puts (record { id = id; wants = wants })) h v ≡ Some (lead (record { id = id; wants = wants }) h)
 asking id true h v fits = rw (word_of h.remote fits.remote, word_of h.local fits.local) refl
 asking id false h v fits = rw (word_of h.remote fits.remote) refl
 
 answering : (r : Routine) (h : Head) (v : Val) → IsHead h → filled 32 (answer_puts r) h v ≡ Some (answer_lead r h)
 answering r h v fits = rw (word_of h.remote fits.remote) refl
 
-chunk_leads : (c : Calls) (h : Head) (v : Val) (p s : ℕ) (ps : List Put) (os : List ℕ) → filled s ps h v ≡ Some os → on_some (steps c h (chunk s ps stop) v) (wrote p []) ≡ Some os
+chunk_leads : (c : Calls) (h : Head) (v : Val) (p s : ℕ) (ps : List Put) (os : List ℕ) → filled s ps h v ≡ Some os
+    → on_some (steps c h (chunk s ps stop) v) (wrote p []) ≡ Some os
 chunk_leads c h v p s ps os is = rw is refl
 
 -- such a chunk is the head
-coded_leads : (s : ℕ) (ps : List Put) (octets : Head → List ℕ) (code : SendCode) → ((h : Head) (v : Val) → IsHead h → filled s ps h v ≡ Some (octets h)) → IsChunk s ps code → Leads octets code
+coded_leads : (s : ℕ) (ps : List Put) (octets : Head → List ℕ) (code : SendCode)
+    → ((h : Head) (v : Val) → IsHead h → filled s ps h v ≡ Some (octets h)) → IsChunk s ps code → Leads octets code
 coded_leads s ps octets code fills is h v p fits =
     subst (λ (b : Block). on_some (steps (calls_of code.subs h deepest) h b v) (wrote p []) ≡ Some (octets h)) (sym is)
     (chunk_leads (calls_of code.subs h deepest) h v p s ps (octets h) (fills h v fits))
 
-request_chunks : (id : ℕ) (wants : Bool) (code : SendCode) → IsChunk 24 (request_puts (record { id = id; wants = wants })) code → AreChunks code
+request_chunks : (id : ℕ) (wants : Bool) (code : SendCode) → IsChunk 24 (request_puts (record { id = id; wants = wants })) code
+    → AreChunks code
 request_chunks id true code is = (4, rw is refl, omega arith)
 request_chunks id false code is = (3, rw is refl, omega arith)
 
@@ -56,7 +60,8 @@ answer_chunks r code is = (3, rw is refl, omega arith)
 
 -- ---- of what was made
 
-pub requests_lead : (d : Result SendCode NoMemory) (r : Routine) → IfOk d (λ code. IsChunk 24 (request_puts r) code) → IfOk d (λ code. Leads (λ h. lead r h) code)
+pub requests_lead : (d : Result SendCode NoMemory) (r : Routine) → IfOk d (λ code. IsChunk 24 (request_puts r) code)
+    → IfOk d (λ code. Leads (λ h. lead r h) code)
 requests_lead (Ok code) r is = coded_leads 24 (request_puts r) (lead r) code (λ h v fits. asking r.id r.wants h v fits) is
 requests_lead (Err e) r is = tt
 
@@ -64,7 +69,8 @@ pub requests_chunk : (d : Result SendCode NoMemory) (r : Routine) → IfOk d (λ
 requests_chunk (Ok code) r is = request_chunks r.id r.wants code is
 requests_chunk (Err e) r is = tt
 
-pub answers_lead : (d : Result SendCode NoMemory) (r : Routine) → IfOk d (λ code. IsChunk 32 (answer_puts r) code) → IfOk d (λ code. Leads (λ h. answer_lead r h) code)
+pub answers_lead : (d : Result SendCode NoMemory) (r : Routine) → IfOk d (λ code. IsChunk 32 (answer_puts r) code)
+    → IfOk d (λ code. Leads (λ h. answer_lead r h) code)
 answers_lead (Ok code) r is = coded_leads 32 (answer_puts r) (answer_lead r) code (λ h v fits. answering r h v fits) is
 answers_lead (Err e) r is = tt
 

@@ -58,7 +58,8 @@ slot_below types slots op h =
     let raises : Bool = list_all (is_sound_plain_raise types) op.raises in
     ltb-true _ _ (and_parts (ins && outs && result && many && raises) (nat_lt op.slot slots) h).1
 
-small_in : (types : List Shape) (i : PlainInterface) (ops : List PlainOperation) → i.base + i.slots + 100 ≤ 2147483647 → list_all (is_sound_plain_operation types i.slots) ops ≡ true
+small_in : (types : List Shape) (i : PlainInterface) (ops : List PlainOperation) → i.base + i.slots + 100 ≤ 2147483647
+    → list_all (is_sound_plain_operation types i.slots) ops ≡ true
     → AllByRecursion HasSmall (map (routine_in i) ops)
 small_in types i [] fits h = tt
 small_in types i (op ∷ ops) fits h =
@@ -70,7 +71,8 @@ all_append : (xs ys : List Routine) → AllByRecursion HasSmall xs → AllByRecu
 all_append [] ys h g = g
 all_append (x ∷ xs) ys h g = (h.0, all_append xs ys h.1 g)
 
-small : (types : List Shape) (is : List PlainInterface) → list_all (is_sound_plain_interface types) is ≡ true → AllByRecursion HasSmall (routines is)
+small : (types : List Shape) (is : List PlainInterface) → list_all (is_sound_plain_interface types) is ≡ true
+    → AllByRecursion HasSmall (routines is)
 small types [] h = tt
 small types (i ∷ is) h =
     let p = and_parts (is_sound_plain_interface types i) (list_all (is_sound_plain_interface types) is) h in
@@ -83,5 +85,6 @@ all_at (r ∷ rs) zero h below = h.0
 all_at (r ∷ rs) (suc n) h below = all_at rs n h.1 (omega (arith, below))
 
 -- so it is of each operation of a unit that is sound
-pub ids_small : (u : PlainUnit) (n : ℕ) → IsSoundPlain u → n < length (routines u.interfaces) → (get_or (routines u.interfaces) n no_routine).id + 100 < 2 ^ 31
+pub ids_small : (u : PlainUnit) (n : ℕ) → IsSoundPlain u → n < length (routines u.interfaces)
+    → (get_or (routines u.interfaces) n no_routine).id + 100 < 2 ^ 31
 ids_small u n sound below = all_at (routines u.interfaces) n (small (plain_shapes u) u.interfaces (and_parts (are_sound_types (plain_shapes u) 0 (plain_shapes u)) (list_all (is_sound_plain_interface (plain_shapes u)) u.interfaces) sound).1) below

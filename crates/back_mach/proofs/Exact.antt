@@ -12,7 +12,8 @@ all_octets [] h = tt
 all_octets (b ∷ o) h = (h 0, all_octets o (λ i. h (suc i)))
 
 module _ {A B : Type 0} (view : A → ℕ → B) where
-  told_ok : (r : Reading HeadErr A) (y : B) → told view r ≡ Ok y → (h : A) × (used : ℕ) × (rest : List ℕ) × (r ≡ got h used rest) × (view h used ≡ y)
+  told_ok : (r : Reading HeadErr A) (y : B) → told view r ≡ Ok y
+      → (h : A) × (used : ℕ) × (rest : List ℕ) × (r ≡ got h used rest) × (view h used ≡ y)
   told_ok (got h used rest) y e = (h, used, rest, refl, cc)
   told_ok (stop k at) y e = absurd cc
 
@@ -21,7 +22,8 @@ module _ {A B : Type 0} (view : A → ℕ → B) where
   told_err (stop k' at) k e = (at, cc)
 
 module _ (w : Way) {B : Type 0} (view : HeadOf w → ℕ → B) (o : List ℕ) (oct : AreOctets o) where
-  pub told_head : (y : B) → (told view (read_head w (length o) 0 o) ≡ Ok y) ↔ ((h : HeadOf w) × (used : ℕ) × BeginsWith w o h used × (view h used ≡ y))
+  pub told_head : (y : B)
+      → (told view (read_head w (length o) 0 o) ≡ Ok y) ↔ ((h : HeadOf w) × (used : ℕ) × BeginsWith w o h used × (view h used ≡ y))
   told_head y = (to, from) where
     to : told view (read_head w (length o) 0 o) ≡ Ok y → (h : HeadOf w) × (used : ℕ) × BeginsWith w o h used × (view h used ≡ y)
     to e =

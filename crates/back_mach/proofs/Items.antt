@@ -18,7 +18,8 @@ word_reads p o rest n (is, lt) =
     let back : from_le_bytes w32 o ≡ n = ap (from_le_bytes w32) is ∙ desc_wide.again n lt in
     rw (enough, take_at o rest 4 same, drop_at o rest 4 same, same, back) refl
 
-word_spelled : (p : ℕ) (o : List ℕ) (n q : ℕ) (rest : List ℕ) → AreOctets o → read_word p o ≡ got n q rest → (a : List ℕ) × (o ≡ a ++ rest) × (q ≡ p + length a) × WordSpells p a n
+word_spelled : (p : ℕ) (o : List ℕ) (n q : ℕ) (rest : List ℕ) → AreOctets o → read_word p o ≡ got n q rest
+    → (a : List ℕ) × (o ≡ a ++ rest) × (q ≡ p + length a) × WordSpells p a n
 unfolding WordSpells read_word
 word_spelled p o n q rest oct e =
     let t = picked_got (ltb (length o) 4) Short p (from_le_bytes w32 (take 4 o)) n (p + 4) q (drop 4 o) rest e in

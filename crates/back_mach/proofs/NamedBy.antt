@@ -47,7 +47,8 @@ at_some (y ∷ xs) (suc n) x d e = at_some xs n x d e
 abbrev Found : (PlainOperation → Bool) → ℕ → List PlainOperation → ℕ → Type 0
 Found p k ops j = (n : ℕ) × (op : PlainOperation) × (j ≡ k + n) × (slice_get ops n ≡ Some op) × (p op ≡ true)
 
-found_step : (p : PlainOperation → Bool) (k : ℕ) (op : PlainOperation) (ops : List PlainOperation) (j : ℕ) (t : Bool) → p op ≡ t → (position_from p (k + 1) ops ≡ Some j → Found p (k + 1) ops j)
+found_step : (p : PlainOperation → Bool) (k : ℕ) (op : PlainOperation) (ops : List PlainOperation) (j : ℕ) (t : Bool) → p op ≡ t
+    → (position_from p (k + 1) ops ≡ Some j → Found p (k + 1) ops j)
     → (if t then Some k else position_from p (k + 1) ops) ≡ Some j → Found p k (op ∷ ops) j
 found_step p k op ops j true is later e = (0, op, (let same : k ≡ j = cc in omega arith), refl, is)
 found_step p k op ops j false is later e = let (n, q, at, there, has) = later e in (suc n, q, omega (arith, at), there, has)
@@ -66,18 +67,22 @@ place_of (Some j) op e = cc
 abbrev pub IsNamedBy : ℕ → List PlainInterface → ℕ → ℕ → Type 0
 IsNamedBy k is id j = (n : ℕ) × (i : PlainInterface) × (p : PlainOperation) × (j ≡ k + n) × (slice_get (pairs is) n ≡ Some (i, p)) × (i.base + p.slot ≡ id)
 
-in_first : (k : ℕ) (i : PlainInterface) (is : List PlainInterface) (id j : ℕ) → Found (has_slot i.base id) k i.ops j → IsNamedBy k (i ∷ is) id j
+in_first : (k : ℕ) (i : PlainInterface) (is : List PlainInterface) (id j : ℕ) → Found (has_slot i.base id) k i.ops j
+    → IsNamedBy k (i ∷ is) id j
 in_first k i is id j (n, p, at, there, has) =
     let here : slice_get (pairs_in i) n ≡ Some (i, p) = slice_get-map (λ (q : PlainOperation). (i, q)) i.ops n ∙ ap (option_map (λ (q : PlainOperation). (i, q))) there in
     (n, i, p, at, in_front (pairs_in i) (pairs is) n (i, p) here, eqb-true _ _ has)
 
-in_others : (k : ℕ) (i : PlainInterface) (is : List PlainInterface) (id j : ℕ) → IsNamedBy (k + length i.ops) is id j → IsNamedBy k (i ∷ is) id j
+in_others : (k : ℕ) (i : PlainInterface) (is : List PlainInterface) (id j : ℕ) → IsNamedBy (k + length i.ops) is id j
+    → IsNamedBy k (i ∷ is) id j
 in_others k i is id j (n, o, p, at, there, its) =
     let many : length (pairs_in i) ≡ length i.ops = length-map i.ops (λ (q : PlainOperation). (i, q)) in
     (length i.ops + n, o, p, omega (arith, at), behind (pairs_in i) (pairs is) n (length i.ops + n) (omega (arith, many)) ∙ there, its)
 
-named_step : (k : ℕ) (i : PlainInterface) (is : List PlainInterface) (id j : ℕ) (t : Bool) → (named_from (k + length i.ops) is id ≡ Operation j → IsNamedBy (k + length i.ops) is id j)
-    → (if t then operation_at (position_from (has_slot i.base id) k i.ops) else named_from (k + length i.ops) is id) ≡ Operation j → IsNamedBy k (i ∷ is) id j
+named_step : (k : ℕ) (i : PlainInterface) (is : List PlainInterface) (id j : ℕ) (t : Bool)
+    → (named_from (k + length i.ops) is id ≡ Operation j → IsNamedBy (k + length i.ops) is id j)
+    → (if t then operation_at (position_from (has_slot i.base id) k i.ops) else named_from (k + length i.ops) is id) ≡ Operation j
+    → IsNamedBy k (i ∷ is) id j
 named_step k i is id j true later e = in_first k i is id j (found (has_slot i.base id) k i.ops j (place_of _ j e))
 named_step k i is id j false later e = in_others k i is id j (later e)
 

@@ -91,7 +91,8 @@ header_told id remote n = words (move_send_once ∷ n ∷ remote ∷ 0 ∷ 0 ∷
 abbrev code_told : ℕ → List ℕ
 code_told m = word return_word ++ word m
 
-reply_told : (id remote m : ℕ) (body : List ℕ) → with_size (reply_octets id remote m ++ body) ≡ (header_told id remote (length (reply_octets id remote m ++ body)) ++ code_told m) ++ body
+reply_told : (id remote m : ℕ) (body : List ℕ)
+    → with_size (reply_octets id remote m ++ body) ≡ (header_told id remote (length (reply_octets id remote m ++ body)) ++ code_told m) ++ body
 reply_told id remote m body = refl
 
 answers : (id remote n : ℕ) → IsWord remote → IsWord n → HeaderSpells n 0 (header_told id remote n) (answering id remote n)

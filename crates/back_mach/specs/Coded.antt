@@ -26,4 +26,6 @@ request_puts r = put.Const 0 (words (request_bits r.wants ∷ 0 ∷ [])) ∷ put
 
 -- the puts of the head of an answer
 abbrev pub answer_puts : Routine → List Put
-answer_puts r = put.Const 0 (words (move_send_once ∷ 0 ∷ [])) ∷ put.Head 8 Remote 4 Little ∷ put.Const 12 (words (0 ∷ 0 ∷ reply_id r.id ∷ return_word ∷ 0 ∷ [])) ∷ []
+answer_puts r =
+    put.Const 0 (words (move_send_once ∷ 0 ∷ [])) ∷ put.Head 8 Remote 4 Little
+    ∷ put.Const 12 (words (0 ∷ 0 ∷ reply_id r.id ∷ return_word ∷ 0 ∷ [])) ∷ []

@@ -63,8 +63,10 @@ HeaderStops n = TestedStops SimpleSpells SimpleStops (has_size n) Size (λ p. p 
 
 -- six words, one after the other
 unfoldable pub read_six : Reader HeadErr MachHeader
-read_six p o = map_got (λ x. record { bits = x.0; size = x.1.0; remote = x.1.1.0; local = x.1.1.1.0; sequence = x.1.1.1.1.0; id = x.1.1.1.1.1 })
-    (both read_word (λ bits. both read_word (λ size. both read_word (λ remote. both read_word (λ local. both read_word (λ sequence. read_word))))) p o)
+read_six p o = map_got
+    (λ x. record { bits = x.0; size = x.1.0; remote = x.1.1.0; local = x.1.1.1.0; sequence = x.1.1.1.1.0; id = x.1.1.1.1.1 })
+    (both read_word (λ bits. both read_word (λ size. both read_word (λ remote.
+    both read_word (λ local. both read_word (λ sequence. read_word))))) p o)
 
 -- a header's words, if bit 31 is not among its bits
 unfoldable pub read_simple : Reader HeadErr MachHeader

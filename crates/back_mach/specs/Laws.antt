@@ -5,6 +5,8 @@ use Rattle.wire_def.specs.declared.fault.HeadErr.{HeadErr}
 use Rattle.wire_def.specs.declared.head.Head.{Head}
 use Rattle.wire_def.specs.declared.outcome.Refusal.{Refusal}
 use Rattle.wire_def.specs.declared.outcome.Refusal.TheVariants as refusal
+use Rattle.wire_def.specs.declared.reply.ReplyHead.{ReplyHead}
+use Rattle.wire_def.specs.declared.reply.Status.{Status}
 use Rattle.wire_def.specs.declared.reply.Status.TheVariants.{Answer, RetCode}
 use Rattle.wire_def.specs.Grammar.{AreOctets, IsGrammar}
 use Rattle.call_kit.specs.declared.called.Naming.TheVariants.{Operation}
@@ -53,15 +55,19 @@ abbrev pub RequestsAreRead : Type 0
 RequestsAreRead = (r : Routine) (head : Head) (body : List ℕ) → IsWord r.id → HasPorts head → IsWord (length (lead r head ++ body))
     → BeginsCall (with_size (lead r head ++ body)) (call_of r head)
 
+-- what is told of the head of a reply that is sent to a port
+abbrev pub reply_of : ℕ → Status → ReplyHead
+reply_of remote status = record { head = shared_head remote 0; status = status; used = answer_lead_length }
+
 -- the head that is sent of an answer is read as the answer to that request, whatever follows
 abbrev pub AnswersAreRead : Type 0
 AnswersAreRead = (r : Routine) (head : Head) (body : List ℕ) → HasPorts head → IsWord (length (answer_lead r head ++ body))
-    → BeginsReply (reply_id r.id) (with_size (answer_lead r head ++ body)) (record { head = shared_head head.remote 0; status = Answer; used = answer_lead_length })
+    → BeginsReply (reply_id r.id) (with_size (answer_lead r head ++ body)) (reply_of head.remote Answer)
 
 -- the reply that refuses a request, by a code other than 0, is read as that
 abbrev pub RefusalsAreRead : Type 0
-RefusalsAreRead = (id remote : ℕ) (n : ℤ) (o : List ℕ) → IsWord remote → FitsSigned w32 n → (n ≡ pos 0 → ⊥) → refusal_octets id remote (refusal.RetCode n) ≡ Some o
-    → BeginsReply (reply_id id) o (record { head = shared_head remote 0; status = RetCode n; used = answer_lead_length })
+RefusalsAreRead = (id remote : ℕ) (n : ℤ) (o : List ℕ) → IsWord remote → FitsSigned w32 n → (n ≡ pos 0 → ⊥)
+    → refusal_octets id remote (refusal.RetCode n) ≡ Some o → BeginsReply (reply_id id) o (reply_of remote (RetCode n))
 
 -- the refusals of this format are those that have octets
 abbrev pub OwnHaveOctets : Type 0

@@ -27,10 +27,12 @@ abbrev pub operation_at : Option ℕ → Naming
 operation_at None = NoOperation
 operation_at (Some op) = one op
 
--- the first interface that has the id, and its first operation of that slot, where the operations of the interfaces are counted from k
+-- the first interface that has the id, and its first operation of that slot; operations are counted from k over all interfaces
 abbrev pub named_from : ℕ → List PlainInterface → ℕ → Naming
 named_from k [] id = NoInterface
-named_from k (i ∷ is) id = if has_id id i then operation_at (position_from (has_slot i.base id) k i.ops) else named_from (k + length i.ops) is id
+named_from k (i ∷ is) id =
+    if has_id id i then operation_at (position_from (has_slot i.base id) k i.ops)
+    else named_from (k + length i.ops) is id
 
 -- the operation that a request names
 abbrev pub named : Binding → MachCall → Naming

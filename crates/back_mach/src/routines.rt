@@ -20,7 +20,8 @@ pub struct Routine {
 /// The operation at a place, counted from 0 over all interfaces, and its interface.
 fn operation_at(interfaces: &[Interface], place: usize) -> (&Interface, &Operation)
     requires { place < length (routines (map plain_interface interfaces.now)) }
-    ensures { slice_index_or (routines (map plain_interface interfaces.now)) place no_routine ≡ routine_in (plain_interface result.0.now) (plain_operation result.1.now) }
+    ensures { slice_index_or (routines (map plain_interface interfaces.now)) place no_routine
+        ≡ routine_in (plain_interface result.0.now) (plain_operation result.1.now) }
 {
     let Some((i, others)) = interfaces.split_first() else {
         unreachable!()
