@@ -1,0 +1,5 @@
+mod Rows
+pub mod Tables
+pub mod Standing
+pub mod Keeping
+pub mod Whole

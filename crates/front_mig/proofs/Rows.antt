@@ -1,0 +1,78 @@
+-- Files worked out by hand.
+use Rattle.std.proofs.Common.{◌≡◌, ℕ, [], ◌∷◌, Some, None, true, false, List, refl}
+use Rattle.std.specs.Prelude.{pos, codes, Ok}
+use Rattle.mint.specs.declared.kind.Kind.TheVariants as kind
+use Rattle.mint.specs.declared.kind.Count.TheVariants.{AtMost}
+use Rattle.aoi.specs.Shapes.{void, number, array, named, member, no_more}
+use Rattle.aoi.specs.declared.faults.NameFault.TheVariants as fault_
+use Rattle.mig_syntax.specs.Trees.{leaf, binary}
+use Rattle.mig_syntax.specs.declared.tree.Operator.TheVariants as B
+use Rattle.mig_syntax.specs.declared.tree.Direction.TheVariants as D
+use Rattle.mig_syntax.specs.declared.tree.TypeForm.TheVariants as T
+use Rattle.mig_syntax.specs.declared.tree.Parameter.{Parameter}
+use Rattle.mig_syntax.specs.declared.tree.Statement.{Statement}
+use Rattle.mig_syntax.specs.declared.tree.Statement.TheVariants as V
+use Rattle.mig_syntax.specs.declared.tree.Subsystem.{Subsystem}
+use Rattle.name_kit.specs.Answers.{fault}
+use Rattle.front_mig.specs.Resolved.{resolved}
+
+abbrev calc : List Statement → Subsystem
+calc statements = record { name = codes "calc"; base = leaf (pos 500); statements = statements }
+
+abbrev given_ : List ℕ → List ℕ → Parameter
+given_ name of = record { direction = None; name = name; of = of }
+
+abbrev server : Parameter
+server = given_ (codes "server") (codes "mach_port_t")
+
+-- a base that is divided by 0
+row1 : resolved (record { name = codes "s"; base = binary B.Div (leaf (pos 1)) (leaf (pos 0)); statements = [] }) ≡ fault fault_.Range 1
+row1 = refl
+
+-- two numbers go in, and the port is in no body
+row2 : resolved (calc (V.Routine (record { simple = false; name = codes "add"; parameters = server ∷ given_ (codes "a") (codes "int") ∷ given_ (codes "b") (codes "int") ∷ [] }) ∷ []))
+    ≡ Ok (record {
+      types = [];
+      interfaces = record {
+        name = codes "calc";
+        program = 536870912;
+        version = 1;
+        base = 500;
+        slots = 1;
+        ops = record {
+          name = codes "add";
+          proc_no = 1;
+          slot = 0;
+          ins = member (codes "a") (number kind.I32) (member (codes "b") (number kind.I32) no_more);
+          outs = no_more;
+          result = void;
+          raises = [];
+          oneway = false;
+        } ∷ [];
+      } ∷ [];
+    })
+row2 = refl
+
+-- a known name declared again, up to 4 of it in a row, and a `skip`
+row3 : resolved (calc (V.Type (codes "int") (T.Named (codes "short")) ∷ V.Type (codes "row") (T.VariableArray (leaf (pos 4)) (codes "int")) ∷ V.Skip
+    ∷ V.Routine (record { simple = true; name = codes "put"; parameters = server ∷ given_ (codes "r") (codes "row") ∷ [] }) ∷ []))
+    ≡ Ok (record {
+      types = (codes "int", number kind.I16) ∷ (codes "row", array (named 0) (AtMost 4)) ∷ [];
+      interfaces = record {
+        name = codes "calc";
+        program = 536870912;
+        version = 1;
+        base = 500;
+        slots = 2;
+        ops = record { name = codes "put"; proc_no = 1; slot = 1; ins = member (codes "r") (named 1) no_more; outs = no_more; result = void; raises = []; oneway = true } ∷ [];
+      } ∷ [];
+    })
+row3 = refl
+
+-- what comes out of a simpleroutine
+row4 : resolved (calc (V.Routine (record { simple = true; name = codes "put"; parameters = server ∷ record { direction = Some D.Out; name = codes "a"; of = codes "int" } ∷ [] }) ∷ [])) ≡ fault fault_.Oneway 2
+row4 = refl
+
+-- the size of a number that is not its own
+row5 : resolved (calc (V.Skip ∷ V.Type (codes "t") (T.Sized (codes "char") (leaf (pos 16))) ∷ [])) ≡ fault fault_.Range 3
+row5 = refl
