@@ -6,28 +6,42 @@ from itertools import accumulate
 from cdr import Cdr
 from giop import Stop
 from mach import Mach
-from values import Fault, NoValue, Reader
+from values import Fault, NoValue, Reader, Void
 
 LONGEST_LINE = 8_388_608
 LONGEST_MESSAGE = 4_194_304
 DEEPEST = 127
 
 
-class Interface:
-    """A version of a program; operations are triples of name, number and the types of the parameters.
+class Called(tuple):
+    """An operation: a triple of its name, its number and the types that go in. Beside these it has what comes out.
 
-    Over Mach it has as many ids from `base` on as it has slots, where a base is known.
+    That is a result, and `outs`; or one of `raises`, the exceptions that it lists. A oneway operation is not answered
+    over all back ends. Its slot is its place in its interface where none is given.
     """
 
-    def __init__(self, name, program, version, operations, base=None):
+    def __new__(cls, name, number, ins, **more):
+        return super().__new__(cls, (name, number, ins))
+
+    def __init__(self, name, number, ins, result=None, outs=(), raises=(), oneway=False, slot=None):
+        self.result, self.outs, self.raises, self.oneway, self.slot = result or Void(), list(outs), list(raises), oneway, slot
+
+
+class Interface:
+    """A version of a program, with its operations.
+
+    Over Mach it has as many ids from `base` on as it has slots.
+    """
+
+    def __init__(self, name, program, version, operations, base=None, slots=None):
         self.name, self.program, self.version, self.own = name, program, version, list(operations)
-        self.base, self.slots = base, len(self.own)
-        self.operations = list(operations)
-        if all(number != 0 for _, number, _ in operations):
-            self.operations.append(("0", 0, []))
+        self.base, self.slots = base, len(self.own) if slots is None else slots
+        self.operations = list(self.own)
+        if all(number != 0 for _, number, _ in self.own):
+            self.operations.append(Called("0", 0, []))
 
     def slot(self, operation):
-        return self.own.index(operation)
+        return self.own.index(operation) if operation.slot is None else operation.slot
 
 
 class NoTree(Exception):
@@ -113,7 +127,7 @@ def marshal(back, interfaces, line):
         return "! op"
     interface, operation = named[0]
     numbers = {key: tree.get(key, 0) for key in back.keys}
-    if getattr(operation, "oneway", False) and numbers.get("local"):
+    if operation.oneway and numbers.get("local"):
         return "! head"
     args = tree.get("args", [])
     try:

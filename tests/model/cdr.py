@@ -129,8 +129,7 @@ class Cdr:
 
     def message(self, interface, operation, numbers, values):
         """The request of an operation, which wants a reply unless it is oneway, as none of ONC is."""
-        wants = not getattr(operation, "oneway", False)
-        writing = Writing(request_fields(self.order, numbers["id"], wants, interface.name, operation[0]), self.order)
+        writing = Writing(request_fields(self.order, numbers["id"], not operation.oneway, interface.name, operation[0]), self.order)
         for ty, value in zip(operation[2], values):
             writing.value(ty, value)
         return message(self.order, REQUEST, writing.fields)

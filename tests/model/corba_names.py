@@ -6,12 +6,12 @@ has no faults of its own. As all of the model it is written from the rules, with
 """
 from itertools import count
 
-from calls import Interface
+from calls import Called, Interface
 from corba import Fault as TextFault, file_of, tokens_of
 from corba_consts import Stopped, number_of
 from corba_scopes import Char, Entry, Octet, Offer, Operation, Raised, Scope, row_of
 from corba_trees import Leaf, parts_of, placed, trees_of, words_of
-from values import Bool, Count, Enum, Number, String, Struct, Union, Void
+from values import Bool, Count, Enum, Number, String, Struct, Union, Void, under_name
 
 FAULTS = ("Unknown", "Twice", "CaseClash", "NotType", "NotConst", "Range", "Label", "Limit", "OutOfScope", "Oneway")
 MOST_INTERFACES, MOST_OPERATIONS, MOST_LABELS, MOST_RAISED = 64, 256, 4096, 4095
@@ -133,8 +133,11 @@ class Resolver:
         return identifier, ty
 
     def add_type(self, scope, identifier, ty, inner=None):
+        name = ".".join((*scope.path, identifier.value))
+        ty = ty and under_name(ty, name)
         self.declare(scope, identifier, Entry("type", ty, inner))
-        self.offer.types.append((".".join((*scope.path, identifier.value)), ty))
+        self.offer.types.append((name, ty))
+        return ty
 
     def fields(self, members, inner):
         """The fields of a struct or an exception: each is declared where its declarator ends."""
@@ -154,9 +157,7 @@ class Resolver:
     def struct(self, tree, scope):
         identifier, *members = trees_of(tree)
         inner = scope.inner(identifier.value)
-        ty = self.fields(members, inner)
-        self.add_type(scope, identifier, ty, inner)
-        return ty
+        return self.add_type(scope, identifier, self.fields(members, inner), inner)
 
     def enum(self, tree, scope):
         """An enum: its items are declared at their identifiers, in the scope in which it stands itself."""
@@ -165,9 +166,7 @@ class Resolver:
             self.declare(scope, item, Entry("constant", n))
             if n >= MOST_LABELS:
                 self.fault("Limit", item.at)
-        ty = Enum([(item.value, n) for n, item in enumerate(items)])
-        self.add_type(scope, identifier, ty)
-        return ty
+        return self.add_type(scope, identifier, Enum([(item.value, n) for n, item in enumerate(items)]))
 
     def union(self, tree, scope):
         """A union. Without a default the numbers that no label has stand for nothing."""
@@ -180,9 +179,7 @@ class Resolver:
             _, ty = self.field(declarator, self.type(declared, inner), inner)
             labels.update((label, ty) for label in told if label is not None)
         default = labels.pop("default") if "default" in labels else Void()
-        ty = Union(tag, labels, default)
-        self.add_type(scope, identifier, ty, inner)
-        return ty
+        return self.add_type(scope, identifier, Union(tag, labels, default), inner)
 
     def label(self, tree, tag, labels, scope):
         """The number of a label, or `default`; None after a fault."""
@@ -374,16 +371,13 @@ def offer_of(text):
     return resolved(trees)
 
 
-class Called(tuple):
-    """An operation as calls.py knows it: its name, its number and the types that go in; and whether it is oneway."""
-
-    def __new__(cls, number, operation):
-        called = super().__new__(cls, (operation.name, number, [ty for _, ty in operation.ins]))
-        called.oneway = operation.oneway
-        return called
+def called(number, operation):
+    """An operation as calls.py knows it."""
+    ins, outs = ([ty for _, ty in parameters] for parameters in (operation.ins, operation.outs))
+    return Called(operation.name, number, ins, result=operation.result, outs=outs, raises=operation.raises, oneway=operation.oneway)
 
 
 def interfaces_of(text):
     """The interfaces of a file that is accepted. A file gives no numbers, so programs and procedures are counted."""
-    return [Interface(".".join(each.path), FIRST_PROGRAM + n, 1, [Called(k, operation) for k, operation in enumerate(each.operations, 1)], base=1000 * (n + 1))
+    return [Interface(".".join(each.path), FIRST_PROGRAM + n, 1, [called(k, operation) for k, operation in enumerate(each.operations, 1)], base=1000 * (n + 1))
             for n, each in enumerate(offer_of(text.encode()).interfaces)]

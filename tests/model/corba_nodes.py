@@ -5,7 +5,7 @@ and a union's tag is none. As all of the model it is written from docs/, with no
 """
 from corba_names import Refused, offer_of
 from corba_scopes import Char, Octet
-from values import Array, Bool, Enum, Number, Opaque, String, Struct, Union
+from values import Array, Bool, Enum, Number, Opaque, Pointer, String, Struct, Union
 
 MOST_NODES, DEEPEST, HEAVIEST, WIDEST, WIDEST_IN_ALL = 65_536, 32, 1_048_576, 65_536, 262_144
 
@@ -69,8 +69,8 @@ def refusal_of(offer, back):
     operations = [operation for interface in offer.interfaces for operation in interface.operations]
     if back == "xdr" and any(operation.raises for operation in operations):
         return "Raises"
-    types = list({id(ty): ty for _, ty in offer.types}.values())
-    named = {id(ty) for ty in types}
+    named = {id(ty) for _, ty in offer.types}
+    types = [ty for _, ty in offer.types if id(ty.meaning) not in named]
     messages = [messages_of(operation) for operation in operations]
     pairs = [part for pair in messages for part in pair]
     added = 4 * len(offer.interfaces) if back == "xdr" else 0
@@ -133,6 +133,8 @@ class Table:
             return ["row", "octet" if isinstance(ty, Opaque) else kind_of(ty.element), *count_of(ty)]
         if isinstance(ty, Array):
             return ["items", self.id(ty.element), *count_of(ty)]
+        if isinstance(ty, Pointer):
+            return ["maybe", self.id(ty.array.element)]
         if isinstance(ty, Struct):
             return ["group", [self.id(field) for _, field in ty.fields]]
         if isinstance(ty, Union):

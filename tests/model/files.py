@@ -1,8 +1,8 @@
 """Interface files in the ONC RPC language (docs/GRAMMAR.md), read without looking for faults."""
 import re
 
-from calls import Interface
-from values import Array, Bool, Count, Enum, Number, Opaque, Pointer, String, Struct, Union, Void
+from calls import Called, Interface
+from values import Array, Bool, Count, Enum, Number, Opaque, Pointer, String, Struct, Union, Void, under_name
 
 SKIPPED = re.compile(r"/\*.*?\*/|^%.*?$|^[ \t]*#.*?$", re.S | re.M)
 TOKEN = re.compile(r"\w+|[^\s\w]")
@@ -14,7 +14,11 @@ class Parser:
         self.tokens = TOKEN.findall(SKIPPED.sub(" ", text))
         self.constants = {"TRUE": 1, "FALSE": 0}
         self.types = {f"u_{name}": Number(False, BITS[name]) for name in ("char", "short", "int", "long")}
-        self.interfaces = []
+        self.interfaces, self.declared = [], []
+
+    def declare(self, name, ty):
+        self.types[name] = under_name(ty, name)
+        self.declared.append((name, self.types[name]))
 
     def next(self):
         return self.tokens.pop(0)
@@ -129,13 +133,12 @@ class Parser:
         self.must("{")
         operations = []
         while not self.take("}"):
-            if not self.take("void") and not self.take("string"):
-                self.type()
+            result = Void() if self.take("void") else String(Count(None)) if self.take("string") else self.type()
             operation = self.next()
             self.must("(")
             types = self.parameters()
             self.must("=")
-            operations.append((operation, self.number(), types))
+            operations.append(Called(operation, self.number(), types, result=result))
             self.must(";")
         self.must("=")
         number = self.number()
@@ -156,8 +159,7 @@ class Parser:
     def definition(self):
         word = self.next()
         if word == "typedef":
-            name, declared = self.declaration()
-            self.types[name] = declared
+            self.declare(*self.declaration())
         elif word == "const":
             name = self.next()
             self.must("=")
@@ -166,13 +168,22 @@ class Parser:
             self.program()
         else:
             name = self.next()
-            self.types[name] = getattr(self, word)()
+            self.declare(name, getattr(self, word)())
         self.must(";")
 
 
-def interfaces_of(text):
-    """The interfaces of a file that is accepted."""
+def read(text):
+    """What a file that is accepted offers."""
     parser = Parser(text)
     while parser.tokens:
         parser.definition()
-    return parser.interfaces
+    return parser
+
+
+def interfaces_of(text):
+    return read(text).interfaces
+
+
+def types_of(text):
+    """The types that a file declares, each with its name."""
+    return read(text).declared

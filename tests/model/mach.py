@@ -337,8 +337,7 @@ class Mach:
         out = Writing()
         for ty, value in zip(operation[2], values):
             put(out, ty, value)
-        wants = not getattr(operation, "oneway", False)
-        return request(ports["remote"], ports["local"], interface.base + interface.slot(operation), wants, out.octets)
+        return request(ports["remote"], ports["local"], interface.base + interface.slot(operation), not operation.oneway, out.octets)
 
     def head(self, octets):
         """The ports, a test of interfaces and one of their operations, and a reader of values."""

@@ -6,9 +6,12 @@ the model it is written from the rules, with nothing of the crates in it.
 """
 from collections import namedtuple
 
+from calls import Called, Interface
 from corba import Fault, Reading, Token, rules_of, words_of
 from corba import tokens_of as tokens_of_front
+from corba_scopes import Char, Octet, row_of
 from nodes import sent
+from values import Count, Number
 
 PORT = "port"
 KNOWN = {
@@ -327,3 +330,25 @@ def request_of(text, name, values, encoding, at=0):
     subsystem = file_of(text)
     operation = next(operation for operation in subsystem.operations if operation.name == name)
     return sent(encoding, subsystem.nodes, operation.request, {"group": values}, at)
+
+
+# ---- what calls.py knows of a file
+
+NUMBERS = {"char": Char(), "octet": Octet(), "i16": Number(True, 16), "i32": Number(True, 32), "u32": Number(False, 32)}
+
+
+def type_of(meant):
+    """A number, or a row of them."""
+    number = NUMBERS[meant.kind]
+    return row_of(number, Count(*meant.count.values(), exact="exactly" in meant.count)) if meant.count else number
+
+
+def called(operation):
+    ins, outs = ([type_of(meant) for _, meant in parameters] for parameters in (operation.ins, operation.outs))
+    return Called(operation.name, operation.number, ins, outs=outs, oneway=operation.oneway, slot=operation.slot)
+
+
+def interfaces_of(text):
+    """The interface of a file that is accepted. A `skip` takes a slot and has no operation."""
+    subsystem = file_of(text.encode())
+    return [Interface(subsystem.name, PROGRAM, VERSION, map(called, subsystem.operations), base=subsystem.base, slots=subsystem.slots)]

@@ -4,6 +4,7 @@ A second opinion on the crates: written from the standards and docs/, field by f
 the crates in it. Numbers, booleans and enums are ints; opaques and strings are bytes; arrays and
 structs are lists; a union is a pair of tag and value; a pointer is None or a list of the one value.
 """
+from copy import copy
 
 
 class Fault(Exception):
@@ -40,6 +41,13 @@ class Reader:
 def need(holds):
     if not holds:
         raise NoValue
+
+
+def under_name(ty, name):
+    """A type under a name of its own, which knows what it was declared as."""
+    named = copy(ty)
+    named.name, named.meaning = name, ty
+    return named
 
 
 class Void:
