@@ -19,7 +19,7 @@ class Writing:
     """The fields of a message, counted from its first octet."""
 
     def __init__(self, fields, order):
-        self.fields, self.order = fields, order
+        self.fields, self.order = bytearray(fields), order
 
     def number(self, n, octets):
         self.fields += bytes(-(BODY + len(self.fields)) % octets) + (n % 2 ** (8 * octets)).to_bytes(octets, self.order)
