@@ -194,11 +194,16 @@ class Onc:
         return ty.read(reader)
 
 
+def is_hex(text):
+    """Whether a text is an even number of hexadecimal digits."""
+    return len(text) % 2 == 0 and not text.translate(None, b"0123456789abcdefABCDEF")
+
+
 def unmarshal(back, interfaces, line):
     """The answer to a line of hexadecimal digits."""
     if len(line) > LONGEST_LINE:
         return "! long"
-    if len(line) % 2 or any(c not in b"0123456789abcdefABCDEF" for c in line):
+    if not is_hex(line):
         return "! hex"
     message = bytes.fromhex(line.decode())
     try:

@@ -5,7 +5,7 @@ answers is its arm and its values: arm 0 has the result and the outs, arm k the 
 operation lists.
 """
 import mach
-from calls import LONGEST_LINE, LONGEST_MESSAGE, HeadFault, NoTree, Onc, auth, text_of, tree_of, word
+from calls import LONGEST_LINE, LONGEST_MESSAGE, HeadFault, NoTree, Onc, auth, is_hex, text_of, tree_of, word
 from cdr import Cdr, Writing
 from giop import REPLY, SYSTEM, USER, Reading, Stop, message, read_reply, refusal, reply_fields, sequence
 from values import Fault, NoValue, Reader, need
@@ -199,10 +199,6 @@ def reply(back, interfaces, line):
         return "! value"
     octets = back.reply(*named, tree.get(back.number, 0), *answer)
     return octets.hex() if len(octets) <= LONGEST_MESSAGE else "! long"
-
-
-def is_hex(text):
-    return len(text) % 2 == 0 and all(c in b"0123456789abcdefABCDEF" for c in text)
 
 
 def unreply(back, interfaces, line):

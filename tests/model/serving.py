@@ -4,10 +4,10 @@ As all of the model it is written from the standards and docs/, with nothing of 
 of serving, one row a step: the first that holds decides. None stands for silence.
 """
 import mach
-from calls import LONGEST_LINE, LONGEST_MESSAGE, HeadFault, NoTree, lines_of, read_head, tree_of
+from calls import LONGEST_LINE, LONGEST_MESSAGE, HeadFault, NoTree, is_hex, lines_of, read_head, tree_of
 from giop import LOCATE_REPLY, MESSAGE_ERROR, Reading, Stop, long, message, read_call
 from replies import BACKS as REPLIES
-from replies import answer_of, is_hex, is_record, operation_of, types_of
+from replies import answer_of, is_record, operation_of, types_of
 from values import Array, Enum, Fault, NoValue, Number, Opaque, Pointer, Reader, Struct, Union
 
 LONGEST_REPLIES = 8_388_608
