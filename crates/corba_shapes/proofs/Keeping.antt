@@ -18,7 +18,7 @@ use Rattle.name_kit.proofs.Tables.{append_map}
 use Rattle.name_kit.proofs.Growing.{types_push}
 use Rattle.name_kit.proofs.Standing.{EnumIs, TagIs, UseIs, FewerBelow, fewer_same}
 use Rattle.name_kit.proofs.Forming.{names_are, struct_sound}
-use Rattle.name_kit.proofs.Numbering.{numbers, enum_sound}
+use Rattle.name_kit.proofs.Numbering.{enum_sound}
 use Rattle.name_kit.proofs.Tagging.{last_is, enum_ends, items_turned}
 use Rattle.corba_members.specs.declared.tree.Declarator.{Declarator}
 use Rattle.corba_members.specs.declared.tree.Struct.{Struct}
