@@ -1,10 +1,10 @@
--- What differs from one back end to another: its name, how bodies are laid out, and the heads of calls. A back end without a case of its own has no heads yet.
-use Rattle.std.specs.Prelude.{◌≡◌, ℕ, List, [], length, Option, Some, None, if◌then◌else◌, codes}
+-- What differs from one back end to another: its name, how bodies are laid out, and the heads of calls.
+use Rattle.std.specs.Prelude.{◌≡◌, ℕ, List, length, Option, Some, None, if◌then◌else◌, codes}
 use Rattle.std.specs.Str.{bytes_eq}
 use Rattle.wire_def.specs.declared.encoding.Back.{Back}
 use Rattle.wire_def.specs.declared.encoding.Back.TheVariants as back
 use Rattle.wire_def.specs.declared.encoding.Encoding.{Encoding}
-use Rattle.wire_def.specs.declared.encoding.Encoding.TheVariants.{CdrBig, CdrLittle, Mach}
+use Rattle.wire_def.specs.declared.encoding.Encoding.TheVariants.{CdrBig, CdrLittle}
 use Rattle.wire_def.specs.declared.fault.HeadErr.{HeadErr}
 use Rattle.wire_def.specs.declared.head.Head.{Head}
 use Rattle.wire_def.specs.declared.head.Order.{Order}
@@ -29,27 +29,36 @@ use Rattle.giop_head.specs.Told.{ToldRequest, BeginsRequest, shared_head}
 use Rattle.back_cdr.specs.Leads as cdr_leads
 use Rattle.back_cdr.specs.Seeking as cdr_seeking
 use Rattle.back_cdr.specs.Targets.{Target, target_of}
+use Rattle.back_mach.specs.declared.call.MachCall.{MachCall}
+use Rattle.back_mach.specs.Heads as mach
+use Rattle.back_mach.specs.Laws as mach_laws
+use Rattle.back_mach.specs.Laws.{HasPorts}
+use Rattle.back_mach.specs.Leads as mach_leads
+use Rattle.back_mach.specs.Routines.{routine_in, routine_of}
+use Rattle.back_mach.specs.Seeking as mach_seeking
+use Rattle.back_mach.specs.Told as mach_told
 
 -- a back end that engines are made for
 abbrev pub IsMade : Back → Type 0
 IsMade back.Xdr = Unit {0}
 IsMade back.CdrBig = Unit {0}
 IsMade back.CdrLittle = Unit {0}
-IsMade back.Mach = ⊥
+IsMade back.Mach = Unit {0}
 
 -- the back end of a name
 abbrev pub back_of : List ℕ → Option Back
 back_of word =
     if bytes_eq word (codes "xdr") then Some back.Xdr else
     (if bytes_eq word (codes "cdr-be") then Some back.CdrBig else
-    (if bytes_eq word (codes "cdr-le") then Some back.CdrLittle else None))
+    (if bytes_eq word (codes "cdr-le") then Some back.CdrLittle else
+    (if bytes_eq word (codes "mach") then Some back.Mach else None)))
 
 -- how bodies are laid out
 abbrev pub encoding : Back → Encoding
 encoding back.Xdr = xdr_seeking.encoding
 encoding back.CdrBig = CdrBig
 encoding back.CdrLittle = CdrLittle
-encoding back.Mach = Mach
+encoding back.Mach = mach_seeking.encoding
 
 -- ---- the heads that are sent
 
@@ -57,7 +66,7 @@ abbrev pub lead_over : Back → Binding → ℕ → Head → List ℕ
 lead_over back.Xdr b op head = xdr_leads.lead (procedure_of b op) head.id
 lead_over back.CdrBig b op head = cdr_leads.lead Big (target_of b op) head.id
 lead_over back.CdrLittle b op head = cdr_leads.lead Little (target_of b op) head.id
-lead_over back.Mach b op head = []
+lead_over back.Mach b op head = mach_leads.lead (routine_of b op) head
 
 -- the head of an operation's call
 abbrev pub lead : Binding → ℕ → Head → List ℕ
@@ -68,7 +77,7 @@ abbrev pub sized : Back → List ℕ → List ℕ
 sized back.Xdr o = o
 sized back.CdrBig o = with_size Big o
 sized back.CdrLittle o = with_size Little o
-sized back.Mach o = o
+sized back.Mach o = mach_leads.with_size o
 
 -- ---- the heads that are received
 
@@ -76,7 +85,7 @@ abbrev pub BeginsOver : Back → Binding → List ℕ → Called → Type 0
 BeginsOver back.Xdr b o c = xdr_seeking.Calls b o c
 BeginsOver back.CdrBig b o c = cdr_seeking.Calls b o c
 BeginsOver back.CdrLittle b o c = cdr_seeking.Calls b o c
-BeginsOver back.Mach b o c = ⊥
+BeginsOver back.Mach b o c = mach_seeking.Calls b o c
 
 -- a message begins with the head of a call that says this
 abbrev pub Begins : Binding → List ℕ → Called → Type 0
@@ -87,7 +96,7 @@ abbrev pub Stops : Back → List ℕ → HeadErr → Type 0
 Stops back.Xdr o e = xdr.StopsWith xdr.call o e
 Stops back.CdrBig o e = giop.StopsWith Requests o e
 Stops back.CdrLittle o e = giop.StopsWith Requests o e
-Stops back.Mach o e = ⊥
+Stops back.Mach o e = mach.StopsWith mach.call o e
 
 -- a message, in either order, begins with the head of a request with this key, which is the interface's name, and the name of this operation
 abbrev pub AsksByName : PlainInterface → PlainOperation → List ℕ → Type 0
@@ -98,7 +107,7 @@ abbrev pub AsksFor : Back → PlainInterface → PlainOperation → List ℕ →
 AsksFor back.Xdr i p o = (c : OncCall) × BeginsCall o c × (called_by c ≡ record { program = i.program; version = i.version; number = p.proc_no })
 AsksFor back.CdrBig i p o = AsksByName i p o
 AsksFor back.CdrLittle i p o = AsksByName i p o
-AsksFor back.Mach i p o = ⊥
+AsksFor back.Mach i p o = (c : MachCall) × mach_told.BeginsCall o c × ((routine_in i p).id ≡ c.id)
 
 -- ---- the heads that are sent, as they are received
 
@@ -118,7 +127,7 @@ abbrev pub SaysOver : Back → Binding → ℕ → Head → Called → Type 0
 SaysOver back.Xdr b op head c = IsWord head.id × AreWords (procedure_of b op) × (xdr_seeking.called b (call_of (procedure_of b op) head.id) ≡ c)
 SaysOver back.CdrBig b op head c = SaysByName Big b op head c
 SaysOver back.CdrLittle b op head c = SaysByName Little b op head c
-SaysOver back.Mach b op head c = ⊥
+SaysOver back.Mach b op head c = IsWord (routine_of b op).id × HasPorts head × (mach_seeking.called b (mach_laws.call_of (routine_of b op) head) ≡ c)
 
 -- the head of an operation's call, whose numbers fit, says this
 abbrev pub Says : Binding → ℕ → Head → Called → Type 0

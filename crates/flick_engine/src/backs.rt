@@ -1,7 +1,6 @@
 // What differs from one back end to another, from the crate of each.
 ghost use Rattle.std.specs.Prelude.{◌≡◌, ◌<◌, ◌≤◌, [], length, IfOk, IfErr, IfSome, OnOk};
 ghost use Rattle.kit_base.specs.Limits.{longest_message};
-ghost use Rattle.wire_def.specs.Lone.{IsPlain};
 ghost use Rattle.raw_buf.specs.Buf.{NoneFell};
 ghost use Rattle.call_kit.specs.Calls.{IsBelow};
 ghost use Rattle.flick_engine.specs.Backs.{IsMade, back_of, encoding, lead, sized, Begins, Stops};
@@ -27,20 +26,22 @@ pub fn back_of(word: &[u8]) -> Option<Back>
     if word == b"cdr-le".as_slice() {
         return Some(Back::CdrLittle);
     }
+    if word == b"mach".as_slice() {
+        return Some(Back::Mach);
+    }
     None
 }
 
 impl Engine {
     /// How the bodies of messages that are sent are laid out.
     pub(crate) fn encoding(&self) -> Encoding
-        ensures value { result ≡ encoding self.now.binding.back }
-        ensures plain { IsPlain result }
+        ensures { result ≡ encoding self.now.binding.back }
     {
         match self.bound().back() {
             Back::Xdr => back_xdr::ENCODING,
             Back::CdrBig => Encoding::CdrBig,
             Back::CdrLittle => Encoding::CdrLittle,
-            Back::Mach => unreachable!(),
+            Back::Mach => back_mach::ENCODING,
         }
     }
 
@@ -70,7 +71,11 @@ impl Engine {
                 head,
                 buf,
             ),
-            Back::Mach => unreachable!(),
+            Back::Mach => {
+                buf.ensure(back_mach::lead_length())?;
+                back_mach::put_lead(self.bound(), op, head, buf);
+                Ok(())
+            }
         }
     }
 
@@ -85,7 +90,7 @@ impl Engine {
             Back::Xdr => {}
             Back::CdrBig => giop_head::put_size(Order::Big, buf),
             Back::CdrLittle => giop_head::put_size(Order::Little, buf),
-            Back::Mach => unreachable!(),
+            Back::Mach => back_mach::put_size(buf),
         }
     }
 
@@ -93,13 +98,12 @@ impl Engine {
     pub(crate) fn read_head(&self, message: &[u8]) -> Result<Called, HeadErr>
         ensures begins { IfOk result (λ c. Begins self.now.binding message.now c) }
         ensures below { IfOk result (λ c. IsBelow (length self.now.binding.ops) c.naming) }
-        ensures plain { IfOk result (λ c. IsPlain c.encoding) }
         ensures stops { IfErr result (λ e. Stops self.now.binding.back message.now e) }
     {
         match self.bound().back() {
             Back::Xdr => back_xdr::read_called(self.bound(), message),
             Back::CdrBig | Back::CdrLittle => back_cdr::read_called(self.bound(), message),
-            Back::Mach => unreachable!(),
+            Back::Mach => back_mach::read_called(self.bound(), message),
         }
     }
 }

@@ -3,7 +3,6 @@ ghost use Rattle.std.specs.Prelude.{◌≡◌, ◌≢◌, ◌↔◌, ◌<◌, �
 ghost use Rattle.mint.specs.Typed.{IsWellTyped};
 ghost use Rattle.mint.specs.Values.{Val, seen};
 ghost use Rattle.wire_def.specs.declared.fault.FaultKind.{FaultKind};
-ghost use Rattle.wire_def.specs.Lone.{IsPlain};
 ghost use Rattle.wire_def.specs.Stops.{Stops};
 ghost use Rattle.plain_wire.specs.Answered.{IsValue, IsStop, FirstSpell};
 ghost use Rattle.flick_engine.specs.Messages.{request_type};
@@ -45,7 +44,6 @@ impl Engine {
     fn begin(&self, message: &[u8]) -> Result<(Called, u32), MessageErr>
         ensures ok { IfOk result (λ r. Names self.now.binding message.now r.0 (Naming.Operation r.1)) }
         ensures op { IfOk result (λ r. r.1 < length self.now.binding.ops) }
-        ensures plain { IfOk result (λ r. IsPlain r.0.encoding) }
         ensures err { IfErr result (λ e. IsExactly self.now.binding message.now (Err e)) }
         ensures memory { result ≢ Err MessageErr.NoMemory }
     {
@@ -72,7 +70,6 @@ impl Engine {
     ) -> Result<Request, MessageErr>
         requires op { op < length self.now.binding.ops }
         requires names { Names self.now.binding message.now called.now (Naming.Operation op) }
-        requires plain { IsPlain called.now.encoding }
         ensures read { Answers self.now.binding message.now result }
         ensures op { IfOk result (λ r. r.op < length self.now.binding.ops) }
         ensures typed { IfOk result (λ r. IsWellTyped (request_type self.now.binding r.op) (seen r.value)) }
