@@ -44,6 +44,16 @@ use Rattle.back_cdr.proofs.Growing.{long_request}
 use Rattle.back_cdr.proofs.Heading as cdr_heading
 use Rattle.back_cdr.proofs.NamedBelow as cdr_named
 use Rattle.back_cdr.proofs.NamedBy.{pairs_in, pairs, named_by}
+use Rattle.back_mach.specs.declared.call.MachCall.{MachCall}
+use Rattle.back_mach.specs.Laws as mach_laws
+use Rattle.back_mach.specs.Leads as mach_leads
+use Rattle.back_mach.specs.Routines.{no_routine, routines, routine_of}
+use Rattle.back_mach.specs.Seeking as mach_seeking
+use Rattle.back_mach.proofs.Counting as mach_counting
+use Rattle.back_mach.proofs.Heading as mach_heading
+use Rattle.back_mach.proofs.NamedBelow as mach_named
+use Rattle.back_mach.proofs.NamedBy as mach_pairs
+use Rattle.back_mach.proofs.Sent as mach_sent
 use Rattle.flick_engine.specs.Backs.{IsMade, back_of, encoding, lead_over, sized, BeginsOver, Begins, AsksByName, AsksFor, Stops, request_of, told_of, SaysByName, SaysOver, Says}
 use Rattle.flick_engine.specs.Operations.{operations_in}
 use Rattle.flick_engine.proofs.Places.{placed}
@@ -58,24 +68,17 @@ either false P x y h g = g
 pub back_made : (word : List ℕ) → IfSome (back_of word) IsMade
 back_made word =
     either (bytes_eq word (codes "xdr")) IsMade (Some back.Xdr) _ tt
-    (either (bytes_eq word (codes "cdr-be")) IsMade (Some back.CdrBig) _ tt (either (bytes_eq word (codes "cdr-le")) IsMade (Some back.CdrLittle) None tt tt))
+    (either (bytes_eq word (codes "cdr-be")) IsMade (Some back.CdrBig) _ tt
+    (either (bytes_eq word (codes "cdr-le")) IsMade (Some back.CdrLittle) _ tt
+    (either (bytes_eq word (codes "mach")) IsMade (Some back.Mach) None tt tt)))
 
 -- ---- the heads that are received
-
--- where there are no heads, none differ
-none : (o : List ℕ) → IsOneHead o (λ c. ⊥) (λ e. ⊥)
-none o = record {
-  within = λ c h. absurd h;
-  not_both = λ c e h g. absurd h;
-  one_head = λ c d h g. absurd h;
-  one_fault = λ d e h g. absurd h;
-}
 
 one_head_over : (k : Back) (b : Binding) (o : List ℕ) → IsOneHead o (BeginsOver k b o) (Stops k o)
 one_head_over back.Xdr b o = one_head_called b o
 one_head_over back.CdrBig b o = cdr_heading.one_head_called b o
 one_head_over back.CdrLittle b o = cdr_heading.one_head_called b o
-one_head_over back.Mach b o = none o
+one_head_over back.Mach b o = mach_heading.one_head_called b o
 
 -- a message has one head, or one fault of it
 pub one_head : (b : Binding) (o : List ℕ) → IsOneHead o (Begins b o) (Stops b.back o)
@@ -85,7 +88,7 @@ has_head_over : (k : Back) → IsMade k → (b : Binding) (o : List ℕ) → Are
 has_head_over back.Xdr made b o oct = has_head_called b o oct
 has_head_over back.CdrBig made b o oct = cdr_heading.has_head_called b o oct
 has_head_over back.CdrLittle made b o oct = cdr_heading.has_head_called b o oct
-has_head_over back.Mach made b o oct = absurd made
+has_head_over back.Mach made b o oct = mach_heading.has_head_called b o oct
 
 -- octets have a head, or a fault of it
 pub has_head : (b : Binding) → IsMade b.back → (o : List ℕ) → AreOctets o → HasHead (Begins b o) (Stops b.back o)
@@ -101,13 +104,13 @@ pub long_lead : (k : Back) → IsMade k → (b : Binding) (op : ℕ) (head : Hea
 long_lead back.Xdr made b op head = omega arith
 long_lead back.CdrBig made b op head = long_request Big (target_of b op) head.id
 long_lead back.CdrLittle made b op head = long_request Little (target_of b op) head.id
-long_lead back.Mach made b op head = absurd made
+long_lead back.Mach made b op head = omega (arith, mach_sent.long_request (routine_of b op) head)
 
 pub same_length : (k : Back) (o : List ℕ) → IsLongEnough o → length (sized k o) ≡ length o
 same_length back.Xdr o long = refl
 same_length back.CdrBig o long = length_sized Big o long
 same_length back.CdrLittle o long = length_sized Little o long
-same_length back.Mach o long = refl
+same_length back.Mach o long = mach_sent.length_sized o (omega (arith, long))
 
 -- a head that is sent is received as what it says, and its body follows it
 pub record IsReceived (k : Back) (b : Binding) (op : ℕ) (head : Head) (c : Called) : Type 0 where
@@ -146,7 +149,13 @@ received_over back.Xdr b op head c (fits, words, is) = record {
 }
 received_over back.CdrBig b op head c says = record { begins = cdr_begins Big b op head c says; follows = cdr_follows Big b op head c says; used = cdr_used Big b op head c says; encoding = cdr_encoding Big b op head c says }
 received_over back.CdrLittle b op head c says = record { begins = cdr_begins Little b op head c says; follows = cdr_follows Little b op head c says; used = cdr_used Little b op head c says; encoding = cdr_encoding Little b op head c says }
-received_over back.Mach b op head c says = absurd says
+received_over back.Mach b op head c (fits, ports, is) = record {
+  begins = λ rest few. (mach_laws.call_of (routine_of b op) head, mach_sent.requests_begin (routine_of b op) head rest fits ports (omega (arith, few)), is);
+  follows = λ rest. ap (λ (x : Called). drop x.used (sized back.Mach (lead_over back.Mach b op head ++ rest))) (sym is)
+      ∙ mach_sent.follows_request (routine_of b op) head rest;
+  used = ap (λ (x : Called). x.used) (sym is);
+  encoding = ap (λ (x : Called). x.encoding) (sym is);
+}
 
 pub received : (b : Binding) (op : ℕ) (head : Head) (c : Called) → Says b op head c → IsReceived b.back b op head c
 received b op head c says = received_over b.back b op head c says
@@ -155,7 +164,7 @@ pub says_made : (k : Back) (b : Binding) (op : ℕ) (head : Head) (c : Called) �
 says_made back.Xdr b op head c says = tt
 says_made back.CdrBig b op head c says = tt
 says_made back.CdrLittle b op head c says = tt
-says_made back.Mach b op head c says = absurd says
+says_made back.Mach b op head c says = tt
 
 -- ---- bindings of one unit
 
@@ -165,9 +174,6 @@ pub record AreAlike (k : Back) (b c : Binding) : Type 0 where
   pub begins : (o : List ℕ) (x : Called) → BeginsOver k b o x → BeginsOver k c o x
   pub below : (o : List ℕ) (x : Called) → BeginsOver k b o x → IsBelow (length b.ops) x.naming
 
-none_alike : (k : Back) (b c : Binding) → ((op : ℕ) (head : Head) → lead_over k b op head ≡ lead_over k c op head) → ((o : List ℕ) (x : Called) → BeginsOver k b o x → ⊥) → AreAlike k b c
-none_alike k b c leads never = record { leads = leads; begins = λ o x h. absurd (never o x h); below = λ o x h. absurd (never o x h) }
-
 -- what a call that names this says
 abbrev called_with : OncCall → Naming → Called
 called_with k n = record { naming = n; head = k.head; encoding = encoding back.Xdr; used = k.used }
@@ -175,6 +181,10 @@ called_with k n = record { naming = n; head = k.head; encoding = encoding back.X
 -- what a request that names this says
 abbrev told_with : ToldRequest → Naming → Called
 told_with t n = record { naming = n; head = t.head; encoding = laid t.head.order; used = t.used }
+
+-- what a request over Mach that names this says
+abbrev mach_with : MachCall → Naming → Called
+mach_with c n = record { naming = n; head = c.head; encoding = encoding back.Mach; used = c.used }
 
 place_same : {A : Type 0} (xs ys : List A) (n : ℕ) (d : A) → xs ≡ ys → slice_index_or xs n d ≡ slice_index_or ys n d
 place_same xs ys n d e = ap (λ zs. slice_index_or zs n d) e
@@ -215,11 +225,25 @@ module _ (b c : Binding) (units : b.unit ≡ c.unit) where
   cdr_is : (k : Back) → IsCdr k → b.back ≡ k → IsCdr b.back
   cdr_is k is of = subst IsCdr (sym of) is
 
+  mach_leads_alike : (op : ℕ) (head : Head) → lead_over back.Mach b op head ≡ lead_over back.Mach c op head
+  mach_leads_alike op head = ap (λ r. mach_leads.lead r head) (place_same _ _ op no_routine (ap (λ (u : PlainUnit). routines u.interfaces) units))
+
+  mach_begins_alike : (o : List ℕ) (x : Called) → mach_seeking.Calls b o x → mach_seeking.Calls c o x
+  mach_begins_alike o x (call, begins, is) =
+      let same : mach_seeking.called b call ≡ mach_seeking.called c call = ap (mach_with call) (ap (λ (u : PlainUnit). mach_seeking.named_from 0 u.interfaces call.id) units) in
+      (call, begins, sym same ∙ is)
+
+  mach_below : IsBinding b → b.back ≡ back.Mach → (o : List ℕ) (x : Called) → mach_seeking.Calls b o x → IsBelow (length b.ops) x.naming
+  mach_below stands mach o x (call, begins, is) =
+      let all : 0 + length (routines b.unit.interfaces) ≡ length b.ops = omega (arith, mach_counting.counted b stands mach) in
+      let below : IsBelow (length b.ops) (mach_seeking.named b call) = subst (λ (n : ℕ). IsBelow n (mach_seeking.named b call)) all (mach_named.named_below 0 b.unit.interfaces call.id) in
+      subst (λ (y : Called). IsBelow (length b.ops) y.naming) is below
+
   alike_over : (k : Back) → IsBinding b → b.back ≡ k → AreAlike k b c
   alike_over back.Xdr stands of = record { leads = xdr_leads_alike; begins = xdr_begins; below = xdr_below stands of }
   alike_over back.CdrBig stands of = record { leads = cdr_leads_alike Big; begins = cdr_begins_alike; below = cdr_below stands (cdr_is back.CdrBig refl of) }
   alike_over back.CdrLittle stands of = record { leads = cdr_leads_alike Little; begins = cdr_begins_alike; below = cdr_below stands (cdr_is back.CdrLittle refl of) }
-  alike_over back.Mach stands of = none_alike back.Mach b c (λ op head. refl) (λ o x h. h)
+  alike_over back.Mach stands of = record { leads = mach_leads_alike; begins = mach_begins_alike; below = mach_below stands of }
 
 -- the heads of bindings of one unit
 pub heads_alike : (b c : Binding) → b.unit ≡ c.unit → IsBinding b → AreAlike b.back b c
@@ -282,11 +306,24 @@ cdr_asked k cdr b o x op (t, begins, is) names =
     let place : op ≡ n = omega (arith, at) in
     (i, p, ap (λ (l : List (PlainInterface × PlainOperation)). slice_get l op) (cdr_pairs k cdr b.unit.interfaces) ∙ ap (slice_get (pairs b.unit.interfaces)) place ∙ there, (t, begins, key, name))
 
+mach_own : (is : List PlainInterface) → operations_in back.Mach is ≡ mach_pairs.pairs is
+mach_own [] = refl
+mach_own (i ∷ is) =
+    ap (λ (ps : List PlainOperation). map (λ (p : PlainOperation). (i, p)) ps ++ operations_in back.Mach is) (mach_counting.own_alone i)
+    ∙ ap (λ (l : List (PlainInterface × PlainOperation)). mach_pairs.pairs_in i ++ l) (mach_own is)
+
+mach_asked : (b : Binding) (o : List ℕ) (x : Called) (op : ℕ) → mach_seeking.Calls b o x → x.naming ≡ Operation op → IsAskedOver back.Mach b o op
+mach_asked b o x op (call, begins, is) names =
+    let same : mach_seeking.named b call ≡ Operation op = ap (λ (y : Called). y.naming) is ∙ names in
+    let (n, i, p, at, there, id) = mach_pairs.named_by 0 b.unit.interfaces call.id op same in
+    let place : op ≡ n = omega (arith, at) in
+    (i, p, ap (λ (l : List (PlainInterface × PlainOperation)). slice_get l op) (mach_own b.unit.interfaces) ∙ ap (slice_get (mach_pairs.pairs b.unit.interfaces)) place ∙ there, (call, begins, id))
+
 asked_over : (k : Back) (b : Binding) (o : List ℕ) (x : Called) (op : ℕ) → BeginsOver k b o x → x.naming ≡ Operation op → IsAskedOver k b o op
 asked_over back.Xdr b o x op begins names = xdr_asked b o x op begins names
 asked_over back.CdrBig b o x op begins names = cdr_asked back.CdrBig refl b o x op begins names
 asked_over back.CdrLittle b o x op begins names = cdr_asked back.CdrLittle refl b o x op begins names
-asked_over back.Mach b o x op begins names = absurd begins
+asked_over back.Mach b o x op begins names = mach_asked b o x op begins names
 
 -- the operation that a message names is one of the unit, which it asks for
 pub asked_for : (b : Binding) (o : List ℕ) (x : Called) (op : ℕ) → Begins b o x → x.naming ≡ Operation op → IsAskedOver b.back b o op
