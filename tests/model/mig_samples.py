@@ -204,7 +204,7 @@ def spelled(rng, tokens, before=""):
     for token in tokens:
         needed = is_part_of_word(text[-1:]) and is_part_of_word(token[0])
         if last in IMPORTS:
-            text += " "  # how far a file's name may be from its word is a matter of tests/model/mig_files.json
+            text += " "  # how far a file's name may be from its word is a matter of tests/files/mig.json
         elif needed or rng.random() < 0.4:
             text += rng.choice(BLANKS) if rng.random() < 0.5 else " "
         text += rng.choice([token, token, token.upper(), token.capitalize()]) if token in WORDS else token

@@ -9,18 +9,41 @@ use Rattle.idl_lex.specs.declared.lexing.LexErr.{LexErr}
 use Rattle.idl_lex.specs.Lexed.{tokens_behind, AreTokens, IsFirstFault}
 use Rattle.idl_lex.proofs.Deciding.{decided as text_decided}
 use Rattle.idl_lex.proofs.Standing.{same_pieces, same_fault, not_both}
+use Rattle.syntax_kit.specs.Grammar.{Text, mark, ◌&◌}
+use Rattle.syntax_kit.specs.Files.{FailsAt as defs_fail_at}
+use Rattle.syntax_kit.proofs.Grammars.{read_is}
 use Rattle.onc_syntax.specs.declared.tree.Def.{Def}
-use Rattle.onc_syntax.specs.Derivation.{Derives, FailsAt}
-use Rattle.onc_syntax.proofs.Fronts.{one_tree_only, decided as tokens_decided}
+use Rattle.onc_syntax.specs.Derivation.{def, Derives as OncDerives, FailsAt as OncFailsAt}
+use Rattle.onc_syntax.proofs.Fronts.{one_tree_only as onc_one_tree, decided as onc_decided}
+use Rattle.mig_syntax.specs.declared.tree.Subsystem.{Subsystem}
+use Rattle.mig_syntax.specs.Derivation.{statement, Derives as MigDerives, FailsAt as MigFailsAt, Headed}
+use Rattle.mig_syntax.specs.StatementReaders.{heading_at}
+use Rattle.mig_syntax.proofs.StatementsRead.{heading_is}
+use Rattle.mig_syntax.proofs.Fronts.{one_tree_only as mig_one_tree, decided as mig_decided}
 use Rattle.aoi.specs.declared.faults.NameErr.{NameErr}
 use Rattle.aoi.specs.Plain.{PlainUnit, IsSoundPlain}
-use Rattle.front_onc.specs.Resolved.{resolved}
+use Rattle.front_onc.specs.Resolved.{resolved as onc_resolved}
 use Rattle.front_onc.proofs.Derived.{derived_whole}
-use Rattle.front_onc.proofs.Whole.{resolved_sound}
+use Rattle.front_onc.proofs.Whole.{resolved_sound as onc_sound}
+use Rattle.front_mig.specs.Resolved.{resolved as mig_resolved}
+use Rattle.front_mig.proofs.Whole.{resolved_sound as mig_sound}
 use Rattle.flick_top.specs.declared.saying.Saying.TheVariants as sayings
-use Rattle.flick_top.specs.Fronts.{Read, IsRead, front_of, in_words, OncTokensSay, OncTextSays, UnitOf}
+use Rattle.flick_top.specs.Fronts.{Read, IsRead, front_of, in_words, Says, TokensSay, UnitOf}
 
--- ---- files in the ONC RPC language
+-- what was read is a sound unit, if it is a unit
+abbrev pub IsSoundRead : Read → Type 0
+IsSoundRead (Ok u) = IsSoundPlain u
+IsSoundRead (Err saying) = Unit {0}
+
+-- a unit of the text that is sound, or a saying
+abbrev pub Has : Front → List ℕ → Type 0
+Has k text = (read : Read) × UnitOf k text read × IsSoundRead read
+
+-- a unit of the tokens that is sound, or a saying
+abbrev TokensHave : Front → List Token → Type 0
+TokensHave k tokens = (read : Read) × TokensSay k tokens read × IsSoundRead read
+
+-- ---- definitions one after the other fail on one line
 
 same_token : (a b : List Token) (t u : Token) (r s : List Token) → a ++ t ∷ r ≡ b ++ u ∷ s → length a ≡ length b → t ≡ u
 same_token [] [] t u r s e l = cc e
@@ -28,53 +51,59 @@ same_token [] (y ∷ b) t u r s e l = absurd (cc l)
 same_token (x ∷ a) [] t u r s e l = absurd (cc l)
 same_token (x ∷ a) (y ∷ b) t u r s e l = same_token a b t u r s (cc e) (cc l)
 
--- the line where tokens fail
-same_line : (tokens : List Token) (l m : ℕ) → FailsAt tokens l → FailsAt tokens m → l ≡ m
-same_line tokens l m f g =
+same_line : {D : Type 0} (S : D → Text) (tokens : List Token) (l m : ℕ) → defs_fail_at S tokens l → defs_fail_at S tokens m → l ≡ m
+same_line S tokens l m f g =
     let up : length f.front ≤ length g.front = g.longest f.tree f.front (f.token ∷ f.rest) f.derives f.parts in
     let down : length g.front ≤ length f.front = f.longest g.tree g.front (g.token ∷ g.rest) g.derives g.parts in
     let same : f.token ≡ g.token = same_token f.front g.front f.token g.token f.rest g.rest (sym f.parts ∙ g.parts) (omega (arith, up, down)) in
     f.line_is ∙ ap (λ (t : Token). t.line) same ∙ sym g.line_is
 
-onc_tokens : (tokens : List Token) (r s : Read) → OncTokensSay tokens r → OncTokensSay tokens s → r ≡ s
-onc_tokens tokens r s (inl (a, da, ea)) (inl (b, db, eb)) = ea ∙ ap (λ (t : List Def). in_words (resolved t)) (one_tree_only a b tokens da db) ∙ sym eb
-onc_tokens tokens r s (inl (a, da, ea)) (inr (m, none, g, eb)) = absurd (none a da)
-onc_tokens tokens r s (inr (l, none, f, ea)) (inl (b, db, eb)) = absurd (none b db)
-onc_tokens tokens r s (inr (l, none, f, ea)) (inr (m, more, g, eb)) =
-    ea ∙ ap (λ (n : ℕ). Err (sayings.Syntax n)) (same_line tokens l m f g) ∙ sym eb
+-- ---- trees of any front end
 
-onc_text : (text : List ℕ) (r s : Read) → OncTextSays text r → OncTextSays text s → r ≡ s
-onc_text text r s (inl (a, (ps, first, ta), ra)) (inl (b, (qs, second, tb), sb)) =
-    let same : a ≡ b = ta ∙ ap (tokens_behind []) (same_pieces front.Onc text ps qs first second) ∙ sym tb in
-    onc_tokens b r s (subst (λ (t : List Token). OncTokensSay t r) same ra) sb
-onc_text text r s (inl (a, (ps, stand, ta), ra)) (inr (f, is, sb)) = absurd (not_both front.Onc text ps f stand is)
-onc_text text r s (inr (e, is, ra)) (inl (b, (qs, stand, tb), sb)) = absurd (not_both front.Onc text qs e stand is)
-onc_text text r s (inr (e, is, ra)) (inr (f, js, sb)) =
-    ra ∙ ap (λ x. Err (sayings.Lex x)) (same_fault front.Onc text e f is js) ∙ sym sb
+abbrev OneTree : (T : Type 0) → (T → List Token → Type 0) → Type 0
+OneTree T Derives = (a b : T) (tokens : List Token) → Derives a tokens → Derives b tokens → a ≡ b
 
--- what was read is a sound unit, if it is a unit
-abbrev pub IsSoundRead : Read → Type 0
-IsSoundRead (Ok u) = IsSoundPlain u
-IsSoundRead (Err saying) = Unit {0}
+abbrev OneLine : (List Token → ℕ → Type 0) → Type 0
+OneLine FailsAt = (tokens : List Token) (l m : ℕ) → FailsAt tokens l → FailsAt tokens m → l ≡ m
 
--- the unit that the names of a tree make is sound
-words_sound : (tree : List Def) (tokens : List Token) → Derives tree tokens → (x : Result PlainUnit NameErr) → resolved tree ≡ x → IsSoundRead (in_words x)
-words_sound tree tokens derives (Err e) is = tt
-words_sound tree tokens derives (Ok u) is = resolved_sound tree u (derived_whole tree tokens derives) is
+-- tokens with one tree, or one line where they fail, say one thing
+said_once : (T : Type 0) (D : T → List Token → Type 0) (F : List Token → ℕ → Type 0) (resolved : T → Result PlainUnit NameErr) → OneTree T D → OneLine F
+    → (tokens : List Token) (r s : Read) → Says D F resolved tokens r → Says D F resolved tokens s → r ≡ s
+said_once T D F resolved one line tokens r s (inl (a, da, ea)) (inl (b, db, eb)) = ea ∙ ap (λ (t : T). in_words (resolved t)) (one a b tokens da db) ∙ sym eb
+said_once T D F resolved one line tokens r s (inl (a, da, ea)) (inr (m, none, g, eb)) = absurd (none a da)
+said_once T D F resolved one line tokens r s (inr (l, none, f, ea)) (inl (b, db, eb)) = absurd (none b db)
+said_once T D F resolved one line tokens r s (inr (l, none, f, ea)) (inr (m, more, g, eb)) = ea ∙ ap (λ (n : ℕ). Err (sayings.Syntax n)) (line tokens l m f g) ∙ sym eb
 
--- a unit of the text that is sound, or a saying
-abbrev pub Has : Front → List ℕ → Type 0
-Has k text = (read : Read) × UnitOf k text read × IsSoundRead read
+words_sound : (x : Result PlainUnit NameErr) → ((u : PlainUnit) → x ≡ Ok u → IsSoundPlain u) → IsSoundRead (in_words x)
+words_sound (Err e) f = tt
+words_sound (Ok u) f = f u refl
 
-tokens_have : (text : List ℕ) (tokens : List Token) → AreTokens front.Onc text tokens
-    → ((tree : List Def) × Derives tree tokens) ⊎ ((line : ℕ) × ((tree : List Def) → Derives tree tokens → ⊥) × FailsAt tokens line) → Has front.Onc text
-tokens_have text tokens are (inl (tree, derives)) =
-    (in_words (resolved tree), inl (tokens, are, inl (tree, derives, refl)), words_sound tree tokens derives (resolved tree) refl)
-tokens_have text tokens are (inr (line, none, fails)) = (Err (sayings.Syntax line), inl (tokens, are, inr (line, none, fails, refl)), tt)
+-- ---- files in the ONC RPC language
 
-text_has : (text : List ℕ) → ((tokens : List Token) × AreTokens front.Onc text tokens) ⊎ ((fault : LexErr) × IsFirstFault front.Onc text fault) → Has front.Onc text
-text_has text (inl (tokens, are)) = tokens_have text tokens are (tokens_decided tokens)
-text_has text (inr (fault, is)) = (Err (sayings.Lex fault), inr (fault, is, refl), tt)
+onc_line : OneLine OncFailsAt
+onc_line tokens l m f g = same_line (λ (d : Def). def d & mark (codes ";")) tokens l m f g
+
+onc_have : (tokens : List Token) → ((tree : List Def) × OncDerives tree tokens) ⊎ ((line : ℕ) × ((tree : List Def) → OncDerives tree tokens → ⊥) × OncFailsAt tokens line) → TokensHave front.Onc tokens
+onc_have tokens (inl (tree, derives)) = (in_words (onc_resolved tree), inl (tree, derives, refl), words_sound (onc_resolved tree) (λ u is. onc_sound tree u (derived_whole tree tokens derives) is))
+onc_have tokens (inr (line, none, fails)) = (Err (sayings.Syntax line), inr (line, none, fails, refl), tt)
+
+-- ---- MIG files
+
+-- what stands there as a heading is read
+headed : (tokens rest : List Token) (h : Headed tokens rest) → heading_at tokens ≡ Some ((h.name, h.base), rest)
+headed tokens rest h = ap heading_at h.parts ∙ heading_is.again (h.name, h.base) h.front rest h.spells tt
+
+mig_line : OneLine MigFailsAt
+mig_line tokens l m (inl f) (inl g) = f.1 ∙ sym g.1
+mig_line tokens l m (inl f) (inr (rest, h, g)) = absurd (f.0 rest h)
+mig_line tokens l m (inr (rest, h, f)) (inl g) = absurd (g.0 rest h)
+mig_line tokens l m (inr (rest, h, f)) (inr (more, k, g)) =
+    let same = read_is (h.name, h.base) (k.name, k.base) rest more (sym (headed tokens rest h) ∙ headed tokens more k) in
+    same_line statement more l m (subst (λ z. defs_fail_at statement z l) same.1 f) g
+
+mig_have : (tokens : List Token) → ((tree : Subsystem) × MigDerives tree tokens) ⊎ ((line : ℕ) × (((tree : Subsystem) → MigDerives tree tokens → ⊥) × MigFailsAt tokens line)) → TokensHave front.Mig tokens
+mig_have tokens (inl (tree, derives)) = (in_words (mig_resolved tree), inl (tree, derives, refl), words_sound (mig_resolved tree) (mig_sound tree))
+mig_have tokens (inr (line, h)) = (Err (sayings.Syntax line), inr (line, h.0, h.1, refl), tt)
 
 -- ---- each front end
 
@@ -84,14 +113,33 @@ either false P x y h g = g
 
 -- what words name is read
 pub front_read : (word : List ℕ) → IfSome (front_of word) IsRead
-front_read word = either (bytes_eq word (codes "onc")) IsRead (Some front.Onc) None tt tt
+front_read word =
+    either (bytes_eq word (codes "onc")) IsRead (Some front.Onc) (if bytes_eq word (codes "mig") then Some front.Mig else None) tt
+    (either (bytes_eq word (codes "mig")) IsRead (Some front.Mig) None tt tt)
+
+tokens_once : (k : Front) (tokens : List Token) (r s : Read) → TokensSay k tokens r → TokensSay k tokens s → r ≡ s
+tokens_once front.Onc tokens r s p q = said_once (List Def) OncDerives OncFailsAt onc_resolved onc_one_tree onc_line tokens r s p q
+tokens_once front.Mig tokens r s p q = said_once Subsystem MigDerives MigFailsAt mig_resolved mig_one_tree mig_line tokens r s p q
+tokens_once front.Corba tokens r s p q = absurd p
+
+tokens_have : (k : Front) → IsRead k → (tokens : List Token) → TokensHave k tokens
+tokens_have front.Onc read tokens = onc_have tokens (onc_decided tokens)
+tokens_have front.Mig read tokens = mig_have tokens (mig_decided tokens)
+tokens_have front.Corba read tokens = absurd read
+
+-- ---- texts
 
 pub one_unit : (k : Front) (text : List ℕ) (r s : Read) → UnitOf k text r → UnitOf k text s → r ≡ s
-one_unit front.Onc text r s p q = onc_text text r s p q
-one_unit front.Corba text r s p q = absurd p
-one_unit front.Mig text r s p q = absurd p
+one_unit k text r s (inl (a, (ps, first, ta), ra)) (inl (b, (qs, second, tb), sb)) =
+    let same : a ≡ b = ta ∙ ap (tokens_behind []) (same_pieces k text ps qs first second) ∙ sym tb in
+    tokens_once k b r s (subst (λ (t : List Token). TokensSay k t r) same ra) sb
+one_unit k text r s (inl (a, (ps, stand, ta), ra)) (inr (f, is, sb)) = absurd (not_both k text ps f stand is)
+one_unit k text r s (inr (e, is, ra)) (inl (b, (qs, stand, tb), sb)) = absurd (not_both k text qs e stand is)
+one_unit k text r s (inr (e, is, ra)) (inr (f, js, sb)) = ra ∙ ap (λ x. Err (sayings.Lex x)) (same_fault k text e f is js) ∙ sym sb
+
+text_has : (k : Front) → IsRead k → (text : List ℕ) → ((tokens : List Token) × AreTokens k text tokens) ⊎ ((fault : LexErr) × IsFirstFault k text fault) → Has k text
+text_has k read text (inl (tokens, are)) = let h = tokens_have k read tokens in (h.0, inl (tokens, are, h.1), h.2)
+text_has k read text (inr (fault, is)) = (Err (sayings.Lex fault), inr (fault, is, refl), tt)
 
 pub unit_has : (k : Front) → IsRead k → (text : List ℕ) → Has k text
-unit_has front.Onc read text = text_has text (text_decided front.Onc text)
-unit_has front.Corba read text = absurd read
-unit_has front.Mig read text = absurd read
+unit_has k read text = text_has k read text (text_decided k text)

@@ -1,4 +1,4 @@
--- What differs from one front end to another: its name, and the unit of a text. A front end without a case of its own reads no files yet.
+-- What differs from one front end to another: its name, and the unit of a file's tokens. A front end without a case of its own reads no files yet.
 use Rattle.std.specs.Prelude.{◌≡◌, ◌⊎◌, ℕ, List, Option, Some, None, Result, Ok, Err, if◌then◌else◌, codes}
 use Rattle.std.specs.Str.{bytes_eq}
 use Rattle.idl_lex.specs.declared.kinds.Front.{Front}
@@ -7,21 +7,25 @@ use Rattle.idl_lex.specs.declared.kinds.Token.{Token}
 use Rattle.idl_lex.specs.declared.lexing.LexErr.{LexErr}
 use Rattle.idl_lex.specs.Lexed.{AreTokens, IsFirstFault}
 use Rattle.onc_syntax.specs.declared.tree.Def.{Def}
-use Rattle.onc_syntax.specs.Derivation.{Derives, FailsAt}
+use Rattle.onc_syntax.specs.Derivation.{Derives as OncDerives, FailsAt as OncFailsAt}
+use Rattle.mig_syntax.specs.declared.tree.Subsystem.{Subsystem}
+use Rattle.mig_syntax.specs.Derivation.{Derives as MigDerives, FailsAt as MigFailsAt}
 use Rattle.aoi.specs.declared.faults.NameErr.{NameErr}
 use Rattle.aoi.specs.Plain.{PlainUnit}
-use Rattle.front_onc.specs.Resolved.{resolved}
+use Rattle.front_onc.specs.Resolved.{resolved as onc_resolved}
+use Rattle.front_mig.specs.Resolved.{resolved as mig_resolved}
 use Rattle.flick_top.specs.declared.saying.Saying.{Saying}
 use Rattle.flick_top.specs.declared.saying.Saying.TheVariants.{Lex, Syntax, Name}
 
 -- a front end that files are read by
 abbrev pub IsRead : Front → Type 0
 IsRead front.Onc = Unit {0}
+IsRead front.Mig = Unit {0}
 IsRead _ = ⊥
 
 -- the front end of a name
 abbrev pub front_of : List ℕ → Option Front
-front_of word = if bytes_eq word (codes "onc") then Some front.Onc else None
+front_of word = if bytes_eq word (codes "onc") then Some front.Onc else (if bytes_eq word (codes "mig") then Some front.Mig else None)
 
 -- a unit, or what is said instead
 abbrev pub Read : Type 0
@@ -32,23 +36,28 @@ abbrev pub in_words : Result PlainUnit NameErr → Read
 in_words (Err error) = Err (Name error)
 in_words (Ok unit) = Ok unit
 
--- ---- files in the ONC RPC language
+-- tokens have a tree, whose unit it is; or none, and the line where they fail is said
+abbrev pub Says : {T : Type 0} → (T → List Token → Type 0) → (List Token → ℕ → Type 0) → (T → Result PlainUnit NameErr) → List Token → Read → Type 0
+Says {T} Derives FailsAt resolved tokens read =
+    ((tree : T) × Derives tree tokens × (read ≡ in_words (resolved tree)))
+    ⊎ ((line : ℕ) × ((tree : T) → Derives tree tokens → ⊥) × FailsAt tokens line × (read ≡ Err (Syntax line)))
 
--- tokens have a tree, whose unit it is; or none, and the line of the first definition that fails is said
+-- tokens of a file in the ONC RPC language
 abbrev pub OncTokensSay : List Token → Read → Type 0
-OncTokensSay tokens read =
-    ((tree : List Def) × Derives tree tokens × (read ≡ in_words (resolved tree)))
-    ⊎ ((line : ℕ) × ((tree : List Def) → Derives tree tokens → ⊥) × FailsAt tokens line × (read ≡ Err (Syntax line)))
+OncTokensSay tokens read = Says OncDerives OncFailsAt onc_resolved tokens read
 
--- a text has tokens, which say it; or its first fault is said
-abbrev pub OncTextSays : List ℕ → Read → Type 0
-OncTextSays text read =
-    ((tokens : List Token) × AreTokens front.Onc text tokens × OncTokensSay tokens read)
-    ⊎ ((fault : LexErr) × IsFirstFault front.Onc text fault × (read ≡ Err (Lex fault)))
+-- tokens of a MIG file
+abbrev pub MigTokensSay : List Token → Read → Type 0
+MigTokensSay tokens read = Says MigDerives MigFailsAt mig_resolved tokens read
 
--- ---- each front end
+-- the unit of a file's tokens, or what is said instead
+abbrev pub TokensSay : Front → List Token → Read → Type 0
+TokensSay front.Onc tokens read = OncTokensSay tokens read
+TokensSay front.Mig tokens read = MigTokensSay tokens read
+TokensSay _ tokens read = ⊥
 
--- the unit of a text, or what is said instead
+-- the unit of a text, which has tokens that say it; or its first fault is said
 abbrev pub UnitOf : Front → List ℕ → Read → Type 0
-UnitOf front.Onc text read = OncTextSays text read
-UnitOf _ text read = ⊥
+UnitOf k text read =
+    ((tokens : List Token) × AreTokens k text tokens × TokensSay k tokens read)
+    ⊎ ((fault : LexErr) × IsFirstFault k text fault × (read ≡ Err (Lex fault)))

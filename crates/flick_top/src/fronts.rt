@@ -1,18 +1,19 @@
-// What differs from one front end to another: its name, and the unit of a text.
+// What differs from one front end to another: its name, and the unit of a file's tokens.
 ghost use Rattle.std.specs.Prelude.{◌≡◌, ◌≤◌, Err, IfOk, IfSome, length};
 ghost use Rattle.kit_base.specs.Limits.{longest_file};
 ghost use Rattle.aoi.specs.declared.faults.NameFault.TheVariants.{NoMemory as WantOfMemory};
-ghost use Rattle.front_onc.specs.Resolved.{IsWhole, resolved};
+ghost use Rattle.front_onc.specs.Resolved.{IsWhole, resolved as onc_resolved};
+ghost use Rattle.front_mig.specs.Resolved.{resolved as mig_resolved};
 ghost use Rattle.flick_top.specs.declared.saying.Saying.TheVariants as sayings;
 ghost use Rattle.flick_top.specs.File.{IsSoundly, plainly};
-ghost use Rattle.flick_top.specs.Fronts.{IsRead, front_of, in_words, OncTokensSay, OncTextSays, UnitOf};
+ghost use Rattle.flick_top.specs.Fronts.{IsRead, front_of, in_words, MigTokensSay, OncTokensSay, TokensSay, UnitOf};
 
 use crate::saying::Saying;
 use aoi::{NameErr, NameFault, Unit};
-use front_onc::{files_are_whole, resolve};
+use front_onc::files_are_whole;
 use idl_lex::{Front, LexErr, Tokens, lex};
 use kit_base::NoMemory;
-use onc_syntax::{SyntaxErr, Tree, parse};
+use onc_syntax::SyntaxErr;
 use std::alloc::Global;
 
 /// The front end of a name, where files are read by it.
@@ -22,6 +23,9 @@ pub fn front_of(word: &[u8]) -> Option<Front>
 {
     if word == b"onc".as_slice() {
         return Some(Front::Onc);
+    }
+    if word == b"mig".as_slice() {
+        return Some(Front::Mig);
     }
     None
 }
@@ -33,46 +37,27 @@ pub fn unit_of(alloc: Global, front: Front, text: &[u8]) -> Result<Result<Unit, 
     ensures says { IfOk result (λ read. UnitOf front text.now (plainly read)) }
     ensures sound { IfOk result IsSoundly }
 {
-    match front {
-        Front::Onc => onc_unit(alloc, text),
-        _ => unreachable!(),
-    }
-}
-
-// ---- files in the ONC RPC language
-
-fn onc_unit(alloc: Global, text: &[u8]) -> Result<Result<Unit, Saying>, NoMemory>
-    requires { length text.now ≤ longest_file }
-    ensures says { IfOk result (λ read. OncTextSays text.now (plainly read)) }
-    ensures sound { IfOk result IsSoundly }
-{
-    match lex(alloc, Front::Onc, text) {
-        Ok(tokens) => onc_tokens(alloc, &tokens),
+    match lex(alloc, front, text) {
+        Ok(tokens) => of_tokens(alloc, front, &tokens),
         Err(LexErr::NoMemory) => Err(NoMemory),
         Err(fault) => Ok(Err(Saying::Lex(fault))),
     }
 }
 
-fn onc_tokens(alloc: Global, tokens: &Tokens) -> Result<Result<Unit, Saying>, NoMemory>
-    ensures says { IfOk result (λ read. OncTokensSay tokens.now (plainly read)) }
+/// The unit of a file's tokens, or what is said instead.
+fn of_tokens(
+    alloc: Global,
+    front: Front,
+    tokens: &Tokens,
+) -> Result<Result<Unit, Saying>, NoMemory>
+    requires { IsRead front }
+    ensures says { IfOk result (λ read. TokensSay front tokens.now (plainly read)) }
     ensures sound { IfOk result IsSoundly }
 {
-    files_are_whole();
-    match parse(alloc, tokens) {
-        Ok(tree) => onc_tree(alloc, &tree),
-        Err(SyntaxErr::NoMemory) => Err(NoMemory),
-        Err(SyntaxErr::Syntax(line)) => Ok(Err(Saying::Syntax(line))),
-    }
-}
-
-fn onc_tree(alloc: Global, tree: &Tree) -> Result<Result<Unit, Saying>, NoMemory>
-    requires { IsWhole tree.now }
-    ensures says { IfOk result (λ read. plainly read ≡ in_words (resolved tree.now)) }
-    ensures sound { IfOk result IsSoundly }
-{
-    match resolve(alloc, tree) {
-        Ok(unit) => Ok(Ok(unit)),
-        Err(error) => named(error),
+    match front {
+        Front::Onc => onc_tokens(alloc, tokens),
+        Front::Mig => mig_tokens(alloc, tokens),
+        Front::Corba => unreachable!(),
     }
 }
 
@@ -83,5 +68,53 @@ fn named(error: NameErr) -> Result<Result<Unit, Saying>, NoMemory>
     match error.fault {
         NameFault::NoMemory => Err(NoMemory),
         _ => Ok(Err(Saying::Name(error))),
+    }
+}
+
+// ---- files in the ONC RPC language
+
+fn onc_tokens(alloc: Global, tokens: &Tokens) -> Result<Result<Unit, Saying>, NoMemory>
+    ensures says { IfOk result (λ read. OncTokensSay tokens.now (plainly read)) }
+    ensures sound { IfOk result IsSoundly }
+{
+    files_are_whole();
+    match onc_syntax::parse(alloc, tokens) {
+        Ok(tree) => onc_tree(alloc, &tree),
+        Err(SyntaxErr::NoMemory) => Err(NoMemory),
+        Err(SyntaxErr::Syntax(line)) => Ok(Err(Saying::Syntax(line))),
+    }
+}
+
+fn onc_tree(alloc: Global, tree: &onc_syntax::Tree) -> Result<Result<Unit, Saying>, NoMemory>
+    requires { IsWhole tree.now }
+    ensures says { IfOk result (λ read. plainly read ≡ in_words (onc_resolved tree.now)) }
+    ensures sound { IfOk result IsSoundly }
+{
+    match front_onc::resolve(alloc, tree) {
+        Ok(unit) => Ok(Ok(unit)),
+        Err(error) => named(error),
+    }
+}
+
+// ---- MIG files
+
+fn mig_tokens(alloc: Global, tokens: &Tokens) -> Result<Result<Unit, Saying>, NoMemory>
+    ensures says { IfOk result (λ read. MigTokensSay tokens.now (plainly read)) }
+    ensures sound { IfOk result IsSoundly }
+{
+    match mig_syntax::parse(alloc, tokens) {
+        Ok(tree) => mig_tree(alloc, &tree),
+        Err(SyntaxErr::NoMemory) => Err(NoMemory),
+        Err(SyntaxErr::Syntax(line)) => Ok(Err(Saying::Syntax(line))),
+    }
+}
+
+fn mig_tree(alloc: Global, tree: &mig_syntax::Tree) -> Result<Result<Unit, Saying>, NoMemory>
+    ensures says { IfOk result (λ read. plainly read ≡ in_words (mig_resolved tree.now)) }
+    ensures sound { IfOk result IsSoundly }
+{
+    match front_mig::resolve(alloc, tree) {
+        Ok(unit) => Ok(Ok(unit)),
+        Err(error) => named(error),
     }
 }

@@ -14,15 +14,16 @@ use std::alloc::Global;
 pub const USAGE: &[u8] = b"usage: flick COMMAND\n\
 \n\
 commands:\n\
-\x20 marshal onc BACK FILE   answer each request record on standard input by the\n\
-\x20                         hexadecimal digits of its message\n\
-\x20 unmarshal onc BACK FILE answer each message in hexadecimal digits by its request\n\
-\x20                         record\n\
-\x20 --help                  write this page\n\
-\x20 --version               write name and version\n\
+\x20 marshal FRONT BACK FILE   answer each request record on standard input by the\n\
+\x20                           hexadecimal digits of its message\n\
+\x20 unmarshal FRONT BACK FILE answer each message in hexadecimal digits by its request\n\
+\x20                           record\n\
+\x20 --help                    write this page\n\
+\x20 --version                 write name and version\n\
 \n\
+FRONT is the language of FILE: onc, for the ONC RPC language, or mig, for MIG definitions.\n\
 BACK is xdr, for ONC calls, or cdr-be or cdr-le, for GIOP requests in big or little order.\n\
-FILE is an interface in the ONC RPC language. A request record is a line of JSON.\n\
+A request record is a line of JSON.\n\
 \n\
 status:\n\
 \x20 0  the work was done, and no answer begins with `!`\n\
