@@ -166,6 +166,8 @@ class Resolver:
             self.declare(scope, item, Entry("constant", n))
             if n >= MOST_LABELS:
                 self.fault("Limit", item.at)
+        if identifier.value in [item.value for item in items]:
+            self.fault("Twice", identifier.at)
         return self.add_type(scope, identifier, Enum([(item.value, n) for n, item in enumerate(items)]))
 
     def union(self, tree, scope):
