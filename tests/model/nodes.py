@@ -53,7 +53,7 @@ class Xdr:
     """Numbers in four or eight octets, flags in four, octets filled up to a multiple of 4."""
 
     def __init__(self):
-        self.octets, self.begins = b"", []
+        self.octets, self.begins = bytearray(), []
 
     def begin(self):
         """Here a part of the value begins."""
@@ -178,7 +178,7 @@ def sent(encoding, nodes, id, value, at=0):
     """The octets of a value that begins at a position."""
     out = {"xdr": Xdr, "mach": Mach}.get(encoding, lambda: Cdr({"cdr_big": "big", "cdr_little": "little"}[encoding], at))()
     put(out, nodes, id, value)
-    return out.octets
+    return bytes(out.octets)
 
 
 def borders(nodes, id, value):
