@@ -45,11 +45,7 @@ pub fn unit_of(alloc: Global, front: Front, text: &[u8]) -> Result<Result<Unit, 
 }
 
 /// The unit of a file's tokens, or what is said instead.
-fn of_tokens(
-    alloc: Global,
-    front: Front,
-    tokens: &Tokens,
-) -> Result<Result<Unit, Saying>, NoMemory>
+fn of_tokens(alloc: Global, front: Front, tokens: &Tokens) -> Result<Result<Unit, Saying>, NoMemory>
     requires { IsRead front }
     ensures says { IfOk result (λ read. TokensSay front tokens.now (plainly read)) }
     ensures sound { IfOk result IsSoundly }
