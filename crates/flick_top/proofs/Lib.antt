@@ -6,6 +6,7 @@ pub mod Floats
 pub mod Front
 pub mod UnitsOfFronts
 pub mod Knowing
+pub mod Naming
 pub mod Options
 pub mod Outputs
 pub mod Prefix

@@ -6,9 +6,7 @@ use Rattle.idl_lex.specs.declared.kinds.Front.TheVariants as front
 use Rattle.idl_lex.specs.declared.kinds.Token.{Token}
 use Rattle.idl_lex.specs.declared.lexing.LexErr.{LexErr}
 use Rattle.idl_lex.specs.Lexed.{AreTokens, IsFirstFault}
-use Rattle.onc_syntax.specs.declared.tree.Def.{Def}
 use Rattle.onc_syntax.specs.Derivation.{Derives as OncDerives, FailsAt as OncFailsAt}
-use Rattle.mig_syntax.specs.declared.tree.Subsystem.{Subsystem}
 use Rattle.mig_syntax.specs.Derivation.{Derives as MigDerives, FailsAt as MigFailsAt}
 use Rattle.aoi.specs.declared.faults.NameErr.{NameErr}
 use Rattle.aoi.specs.Plain.{PlainUnit}
