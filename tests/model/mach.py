@@ -207,22 +207,6 @@ def read_body(encoding, nodes, id, at, octets):
     return f"{reading.at - at} {sent(encoding, nodes, id, value).hex()}"
 
 
-# ---- what an id names
-
-# Interfaces with their bases and slots, and the slots of their operations: of the rows about names.
-BESIDE = ((500, 3, (0, 2)), (502, 2, (0, 1)))
-
-
-def named(message):
-    """The operation that a request names among those of the interfaces, counted over all of them."""
-    id, first = read_call(message)["id"], 0
-    for base, slots, taken in BESIDE:
-        if base <= id < base + slots:
-            return f"operation {first + taken.index(id - base)}" if id - base in taken else "no operation"
-        first += len(taken)
-    return "no interface"
-
-
 # ---- rows of the tables
 
 def told(case):
@@ -241,11 +225,6 @@ def answer(case):
     ask, octets = case["ask"], bytes.fromhex(case.get("octets", ""))
     if ask in ("mach call", "mach reply"):
         return told(case)
-    if ask == "mach name":
-        try:
-            return named(octets)
-        except Stop as stop:
-            return stop.kind
     if ask == "mach request":
         return request(case["remote"], case["local"], case["id"], case["wants"], octets).hex()
     if ask in ("mach answer", "mach refuse"):

@@ -1,7 +1,7 @@
 // What is asked of a row, and what a head says.
 use crate::parts::{Bad, member, octets};
+use crate::records;
 use crate::refusals::refused;
-use crate::{mach, mach_sent, records};
 use giop_head::{GiopCall, read_call, read_reply};
 use hex::encode;
 use serde_json::{Category, Value as Json};
@@ -19,12 +19,6 @@ pub fn answer(alloc: Global, line: &str) -> Result<String, Bad> {
         Some("giop call") => call(alloc, octets(alloc, member(&row, "octets")?)?.as_slice()),
         Some("giop reply") => reply(alloc, octets(alloc, member(&row, "octets")?)?.as_slice()),
         Some("giop refuse") => refused(alloc, &row),
-        Some("mach call") => mach::call(alloc, &row),
-        Some("mach reply") => mach::reply(alloc, &row),
-        Some("mach refuse") => mach::refused(alloc, &row),
-        Some("mach request") => mach_sent::request(alloc, &row),
-        Some("mach code") => mach_sent::code(alloc, &row),
-        Some("mach name") => mach_sent::name(alloc, &row),
         Some("record request") => records::request(alloc, &row),
         Some("record reply") => records::reply(alloc, &row),
         _ => Err(Bad::Row("nothing is asked")),

@@ -4,8 +4,6 @@
 
 mod answers;
 mod interfaces;
-mod mach;
-mod mach_sent;
 mod parts;
 mod records;
 mod refusals;
