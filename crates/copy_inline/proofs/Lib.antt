@@ -1,9 +1,11 @@
 mod Free
 mod Same
 mod Whole
+mod WorkedRows
 pub mod Blocks
 pub mod Emitting
 pub mod Followed
+pub mod Joined
 pub mod RecvBlocks
 pub mod RecvEmitting
 pub mod RecvFollowed
@@ -11,4 +13,12 @@ pub mod RecvFree
 pub mod RecvSame
 pub mod RecvShallow
 pub mod RecvWhole
+pub mod RowCounts
+pub mod RowEmitting
+pub mod RowReady
+pub mod RowSteps
+pub mod RowWhole
+pub mod RowWords
+pub mod RowsInStep
 pub mod Shallow
+pub mod Sorted

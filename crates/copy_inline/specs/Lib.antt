@@ -1,7 +1,13 @@
+pub mod Counted
 pub mod Inlined
 pub mod Nested
+pub mod Ready
 pub mod RecvCallFree
 pub mod RecvInlined
 pub mod RecvNested
 pub mod RecvSpliced
+pub mod RowBodies
+pub mod Rowed
+pub mod Rows
+pub mod Sorts
 pub mod Spliced
