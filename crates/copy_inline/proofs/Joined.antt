@@ -1,9 +1,8 @@
 -- Steps with stores that follow one another given as one row.
 use Rattle.std.proofs.Common.{◌≡◌, ℕ, ◌+◌, ◌-◌, ◌≤◌, max, List, [], ◌∷◌, ◌++◌, length, replicate, Option, None, Some, option_map, refl, sym, ap, subst, ◌∙◌, arith, append_assoc, append-nil, length-append}
-use Rattle.mint.specs.Values.{Val, absent, present, Vals, no_more, val}
 use Rattle.wire_def.specs.Scalars.{gap}
 use Rattle.cast_stub.specs.Parts.{on_some, IsThere}
-use Rattle.cast_stub.specs.Steps.{Step, Room, Pad, Stored, Widened, Copied, Patched, Steps, both, over}
+use Rattle.cast_stub.specs.Steps.{Step, Room, Pad, Stored, Widened, Copied, Patched, Steps, both}
 use Rattle.cast_stub.specs.Meaning.{patched, wrote, costs, HasRoom, AreCovered}
 use Rattle.copy_inline.proofs.RowWords.{stores, together}
 

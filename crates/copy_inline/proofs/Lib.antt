@@ -10,8 +10,15 @@ pub mod RecvBlocks
 pub mod RecvEmitting
 pub mod RecvFollowed
 pub mod RecvFree
+pub mod RecvLine
+pub mod RecvRowEmitting
+pub mod RecvRowWhole
+pub mod RecvRowsInStep
 pub mod RecvSame
 pub mod RecvShallow
+pub mod RecvSteps
+pub mod RecvTimed
+pub mod RecvTyped
 pub mod RecvWhole
 pub mod RowCounts
 pub mod RowEmitting

@@ -2,13 +2,12 @@
 use Rattle.std.proofs.Common.{◌≡◌, ℕ, suc, ◌+◌, ◌*◌, ℤ, List, [], ◌∷◌, ◌++◌, length, Option, None, Some, refl, sym, ap, subst, ◌∙◌, arith, Bool, true, false, if◌then◌else◌}
 use Rattle.std.specs.Prelude.{MatchBool}
 use Rattle.std.specs.Ordering.{int_eq}
-use Rattle.mint.specs.declared.kind.Kind.{Kind}
 use Rattle.mint.specs.declared.kind.Count.{Count}
 use Rattle.mint.specs.declared.kind.Count.TheVariants.{Exactly, AtMost, Any}
 use Rattle.mint.specs.Row.{image_of}
-use Rattle.mint.specs.Types.{Array, Ty, void_type, scalar_type, array_type, group_type, items_type, choice_type, maybe_type, Tys, no_fields, field, Arms, no_other, others, arm_type}
+use Rattle.mint.specs.Types.{Ty, void_type, scalar_type, array_type, group_type, items_type, choice_type, maybe_type, Tys, no_fields, field, Arms, no_other, others, arm_type}
 use Rattle.mint.specs.Typed.{IsOf, AreOf, IsOfArm, Each}
-use Rattle.mint.specs.Values.{Val, num, row, group, items, arm, absent, present, Vals, no_more, val, row_in, arm_in}
+use Rattle.mint.specs.Values.{Val, group, items, arm, absent, present, Vals, no_more, val, row_in, arm_in}
 use Rattle.wire_def.specs.declared.encoding.Encoding.{Encoding}
 use Rattle.wire_def.specs.declared.head.Head.{Head}
 use Rattle.wire_def.specs.declared.head.Order.{Order}
@@ -21,9 +20,9 @@ use Rattle.cast_stub.specs.Follows.{flat, IsCount, FollowsBy, FieldsFollowBy, Ar
 use Rattle.cast_stub.specs.Framed.{lead_length, IsTail}
 use Rattle.cast_stub.specs.Kept.{unensured, cases_unensured}
 use Rattle.cast_stub.specs.Layouts.{order_of, layout_of}
-use Rattle.cast_stub.specs.Meaning.{costs, sum}
+use Rattle.cast_stub.specs.Meaning.{costs}
 use Rattle.cast_stub.specs.PartTypes.{ty_at, present_type, present_at, arms_type, arms_at}
-use Rattle.cast_stub.specs.Steps.{Step, Room, Pad, Stored, Widened, Copied, Patched, Steps, both, is_width, chunk_steps, align_steps, row_room, copy_steps, swap_steps, wide_steps, swapped, wide, Calls, over, if_present, steps, case_steps}
+use Rattle.cast_stub.specs.Steps.{Step, Room, Pad, Stored, Widened, Copied, Patched, Steps, both, is_width, chunk_steps, align_steps, copy_steps, swap_steps, wide_steps, swapped, wide, Calls, over, if_present, steps, case_steps}
 use Rattle.cast_stub.specs.Subs.{no_subs}
 use Rattle.cast_stub.specs.Turned.{IsTurned}
 use Rattle.cast_stub.proofs.Appending.{steps-append}

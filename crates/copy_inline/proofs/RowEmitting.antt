@@ -1,29 +1,22 @@
 -- One operation more, or what stands for it.
-use Rattle.std.proofs.Common.{◌≡◌, ℕ, ℤ, ◌+◌, ◌<◌, List, [], ◌∷◌, ◌++◌, length, get_or, Option, Some, None, refl, sym, ap, subst, ◌∙◌, Bool, true, false, ◌||◌}
-use Rattle.std.specs.Prelude.{nat_eq}
+use Rattle.std.proofs.Common.{◌≡◌, ℕ, ℤ, ◌+◌, ◌<◌, List, [], ◌∷◌, ◌++◌, length, get_or, Option, Some, refl, sym, ap, subst, ◌∙◌}
 use Rattle.std.proofs.Math.ListN.{take}
 use Rattle.std.proofs.lemmas.List.{take_more}
 use Rattle.mint.specs.declared.kind.Kind.{Kind}
 use Rattle.mint.specs.declared.kind.Count.{Count}
-use Rattle.mint.specs.Kinds.{width}
 use Rattle.mint.specs.Types.{Scalar, text, row_of, Ty, array_type, items_type, choice_type, maybe_type, Arms}
 use Rattle.wire_def.specs.declared.encoding.Encoding.{Encoding}
 use Rattle.wire_def.specs.declared.encoding.Encoding.TheVariants.{Xdr, CdrBig, CdrLittle, Mach}
-use Rattle.wire_def.specs.declared.head.Order.{Order}
 use Rattle.cast_stub.specs.declared.send.SendOp.{SendOp}
 use Rattle.cast_stub.specs.declared.send.SendOp.TheVariants as op
 use Rattle.cast_stub.specs.Append.{append}
-use Rattle.cast_stub.specs.Block.{Block, stop, row_copy, row_wide, each, if_there, switch, Cases, Piece, op_seen, code_seen, cases_seen}
-use Rattle.cast_stub.specs.Layouts.{order_of}
+use Rattle.cast_stub.specs.Block.{Block, stop, row_copy, each, if_there, switch, Cases, Piece, op_seen, code_seen, cases_seen}
 use Rattle.cast_stub.specs.Parts.{on_some}
 use Rattle.cast_stub.specs.PartTypes.{ty_at, present_type, present_at, arms_type, arms_at}
-use Rattle.cast_stub.proofs.Appending.{append-assoc, code_seen-append}
+use Rattle.cast_stub.proofs.Appending.{code_seen-append}
 use Rattle.cast_stub.proofs.Pieces.{seen-Ensure, seen-EnsureRow, seen-Align, seen-Chunk, seen-RowCopy, seen-RowSwap, seen-RowWide, seen-Each, seen-Some, seen-Switch, seen-Patch}
-use Rattle.copy_inline.specs.declared.sorts.Sort.{Sort}
-use Rattle.copy_inline.specs.declared.sorts.Sort.TheVariants as sort
 use Rattle.copy_inline.specs.Ready.{OfType, LoopIs, IsReady, CasesReady}
-use Rattle.copy_inline.specs.Rowed.{row_or_loop, array_rowed, loop_rowed, by_type, rowed, cases_rowed}
-use Rattle.copy_inline.specs.Sorts.{sort_of, is_image}
+use Rattle.copy_inline.specs.Rowed.{array_rowed, loop_rowed, by_type, rowed, cases_rowed}
 use Rattle.copy_inline.proofs.RowCounts.{rowed-append}
 
 abbrev piece : Piece → Piece

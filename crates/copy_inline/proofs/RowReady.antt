@@ -37,7 +37,7 @@ module _ (e : Encoding) (t0 : Ty) where
   count_ready Any b r f h = flat_ready b r f.0 f.1 h
 
 -- a fact of a type that is there
-of_type : {A : Type 0} (x : Option A) (P : A → Type 0) (a : A) → x ≡ Some a → P a → OfType x P
+pub of_type : {A : Type 0} (x : Option A) (P : A → Type 0) (a : A) → x ≡ Some a → P a → OfType x P
 of_type x P a e h = subst (λ y. OfType y P) (sym e) h
 
 module _ (e : Encoding) where

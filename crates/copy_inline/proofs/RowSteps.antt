@@ -7,7 +7,7 @@ use Rattle.mint.specs.declared.kind.Kind.{Kind}
 use Rattle.mint.specs.declared.kind.Count.{Count}
 use Rattle.mint.specs.Kinds.{width}
 use Rattle.mint.specs.Row.{image_of}
-use Rattle.mint.specs.Types.{Scalar, Array, Ty, void_type, scalar_type, array_type, group_type, items_type, choice_type, maybe_type, Arms, no_other, others, arm_type}
+use Rattle.mint.specs.Types.{Scalar, Array, Ty, array_type, items_type, choice_type, maybe_type, Arms, no_other, others, arm_type}
 use Rattle.mint.specs.Typed.{IsOf, IsArray, IsOfArm, Each}
 use Rattle.mint.specs.Values.{Val, num, row, items, arm, absent, present, Vals, no_more, val, vals_of, row_in, arm_in}
 use Rattle.wire_def.specs.declared.encoding.Encoding.{Encoding}
@@ -19,9 +19,9 @@ use Rattle.cast_stub.specs.declared.put.Put.TheVariants as put
 use Rattle.cast_stub.specs.Parts.{on_some, at, elements_in, length_in}
 use Rattle.cast_stub.specs.Puts.{filled}
 use Rattle.cast_stub.specs.Block.{Block, stop, ensure, ensure_row, align, chunk, row_copy, row_swap, row_wide, each, switch, if_there, call, patch, Cases, no_default, default, case}
-use Rattle.cast_stub.specs.Layouts.{order_of, layout_of, element_width}
+use Rattle.cast_stub.specs.Layouts.{order_of, layout_of}
 use Rattle.cast_stub.specs.PartTypes.{ty_at, present_type, present_at, arms_type, arms_at}
-use Rattle.cast_stub.specs.Steps.{Step, Room, Pad, Stored, Widened, Copied, Patched, Steps, both, is_width, chunk_steps, align_steps, row_room, swapped, wide, Calls, over, if_present, steps, case_steps}
+use Rattle.cast_stub.specs.Steps.{Room, Pad, Stored, Widened, Copied, Patched, Steps, is_width, chunk_steps, align_steps, row_room, swapped, wide, Calls, over, if_present, steps, case_steps}
 use Rattle.cast_stub.specs.Follows.{flat}
 use Rattle.cast_stub.specs.Turned.{IsNumber}
 use Rattle.cast_stub.proofs.Followed.{mapped}
@@ -31,7 +31,7 @@ use Rattle.copy_inline.specs.declared.sorts.Sort.TheVariants as sort
 use Rattle.copy_inline.specs.Sorts.{sort_of, is_image}
 use Rattle.copy_inline.specs.Ready.{OfType, IsTurn, LoopIs, IsReady, CasesReady}
 use Rattle.copy_inline.specs.Rowed.{row_or_loop, loop_rowed, by_type, rowed, cases_rowed}
-use Rattle.copy_inline.proofs.RowWords.{IsWidth, four, pieces, stores, together, loop_stores, wide_pieces, image_pieces, swapped_pieces, one_octet}
+use Rattle.copy_inline.proofs.RowWords.{four, pieces, stores, together, loop_stores, wide_pieces, image_pieces, swapped_pieces, one_octet}
 use Rattle.copy_inline.proofs.Sorted.{block_layout, wide_layout, image_width, array_ranged}
 use Rattle.copy_inline.proofs.Joined.{AreJoined, joined_both, joined_on, joined_row, joined_copied, joined_widened}
 

@@ -12,10 +12,9 @@ use Rattle.cast_stub.specs.Follows.{flat}
 use Rattle.wire_def.specs.declared.head.Order.{Order}
 use Rattle.wire_def.specs.Arrays.{kind_of}
 use Rattle.cast_stub.specs.Layouts.{order_of}
-use Rattle.cast_stub.specs.Meaning.{wrote, Cost, cost, costs, AreCovered}
-use Rattle.cast_stub.specs.Parts.{on_some}
+use Rattle.cast_stub.specs.Meaning.{Cost, costs}
 use Rattle.cast_stub.specs.PartTypes.{ty_at, present_at, arms_at}
-use Rattle.cast_stub.specs.Steps.{Step, Steps, Calls, steps}
+use Rattle.cast_stub.specs.Steps.{Steps, Calls, steps}
 use Rattle.cast_stub.specs.Subs.{deepest, calls_of, sent_steps}
 use Rattle.cast_stub.proofs.Followed.{mapped}
 use Rattle.copy_inline.specs.declared.sorts.Sort.{Sort}

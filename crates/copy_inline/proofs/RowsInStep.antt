@@ -3,12 +3,12 @@ use Rattle.wire_def.specs.declared.encoding.Encoding.{Encoding}
 use Rattle.std.proofs.Common.{◌≡◌, ℕ, zero, suc, ◌+◌, ◌<◌, ◌≤◌, ℤ, List, [], ◌∷◌, ◌++◌, length, get_or, Option, Some, None, refl, sym, ap, ◌∙◌, subst, arith}
 use Rattle.std.proofs.Math.ListN.{take}
 use Rattle.std.proofs.lemmas.List.{take_more, take_all}
-use Rattle.mint.specs.Types.{Ty, at, arms_at, others_at, ArmsBelow}
+use Rattle.mint.specs.Types.{Ty, at, arms_at, others_at}
 use Rattle.cast_stub.specs.declared.send.SendOp.{SendOp}
 use Rattle.cast_stub.specs.Block.{Block, stop, ensure, ensure_row, align, chunk, row_copy, row_swap, row_wide, each, switch, if_there, call, patch, case, op_seen, code_seen, cases_seen}
 use Rattle.cast_stub.specs.Append.{append}
 use Rattle.cast_stub.proofs.Appending.{op-append}
-use Rattle.copy_inline.specs.Ready.{OfType, LoopIs, IsReady, CasesReady}
+use Rattle.copy_inline.specs.Ready.{IsReady, CasesReady}
 use Rattle.copy_inline.specs.RowBodies.{IsRowedBody, AreRowed, ArmsReady}
 use Rattle.copy_inline.specs.Rowed.{rowed, cases_rowed}
 

@@ -6,21 +6,18 @@ use Rattle.std.specs.Int.{Width, byte_len}
 use Rattle.std.proofs.lemmas.Bool.{eqb-true, eq-eqb}
 use Rattle.mint.specs.declared.kind.Kind.{Kind}
 use Rattle.mint.specs.declared.kind.Kind.TheVariants as kind
-use Rattle.mint.specs.declared.kind.Count.{Count}
-use Rattle.mint.specs.Kinds.{in_range, is_letter, word, width}
+use Rattle.mint.specs.Kinds.{in_range, is_letter, width}
 use Rattle.mint.specs.Types.{number, Array, text, row_of}
 use Rattle.mint.specs.Typed.{IsArray}
 use Rattle.wire_def.specs.declared.encoding.Encoding.{Encoding}
 use Rattle.wire_def.specs.declared.encoding.Encoding.TheVariants.{Xdr, CdrBig, CdrLittle, Mach}
 use Rattle.wire_def.specs.declared.head.Order.{Order}
-use Rattle.wire_def.specs.declared.head.Order.TheVariants.{Big, Little}
-use Rattle.wire_def.specs.Scalars.{own_width, at_least_32, width_of}
+use Rattle.wire_def.specs.Scalars.{own_width, width_of}
 use Rattle.wire_def.specs.Arrays.{kind_of, is_octets}
 use Rattle.wire_def.proofs.Words.{IsOwn, is8, is16, is32, is64, own_of}
 use Rattle.cast_stub.specs.Layouts.{order_of, scalar_width, element_width, is_looped, layout_of}
-use Rattle.copy_inline.specs.declared.sorts.Sort.{Sort}
 use Rattle.copy_inline.specs.declared.sorts.Sort.TheVariants as sort
-use Rattle.copy_inline.specs.Sorts.{sort_of, is_image}
+use Rattle.copy_inline.specs.Sorts.{sort_of}
 use Rattle.copy_inline.proofs.RowWords.{IsWidth, one, two, four, eight}
 
 -- ---- widths

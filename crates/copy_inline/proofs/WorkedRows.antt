@@ -6,23 +6,29 @@ use Rattle.mint.specs.declared.kind.Count.{Count}
 use Rattle.mint.specs.declared.kind.Count.TheVariants.{Exactly, AtMost, Any}
 use Rattle.mint.specs.Row.{octets_of}
 use Rattle.mint.specs.Types.{text, row_of, array_type}
-use Rattle.mint.specs.Values.{Val, row}
+use Rattle.mint.specs.Values.{row}
 use Rattle.wire_def.specs.declared.encoding.Encoding.{Encoding}
 use Rattle.wire_def.specs.declared.encoding.Encoding.TheVariants.{Xdr, CdrBig, CdrLittle, Mach}
 use Rattle.wire_def.specs.declared.head.Head.{Head}
 use Rattle.wire_def.specs.declared.head.Order.{Order}
 use Rattle.wire_def.specs.declared.head.Order.TheVariants.{Big, Little}
-use Rattle.cast_stub.specs.declared.put.Put.{Put}
 use Rattle.cast_stub.specs.declared.put.Put.TheVariants as put
 use Rattle.cast_stub.specs.Parts.{on_some}
-use Rattle.cast_stub.specs.Block.{Block, stop, align, chunk, row_copy, row_swap, row_wide, each}
-use Rattle.cast_stub.specs.Meaning.{wrote, costs}
+use Rattle.cast_stub.specs.Block.{Block, stop, align, chunk, each}
+use Rattle.cast_stub.specs.Meaning.{wrote}
 use Rattle.cast_stub.specs.Steps.{steps}
-use Rattle.cast_stub.specs.Subs.{no_calls}
+use Rattle.cast_stub.specs.Subs as sending
+use Rattle.cast_stub.specs.declared.recv.Get.TheVariants as get
+use Rattle.cast_stub.specs.RecvBlock.{Recv, need, pass, finish}
+use Rattle.cast_stub.specs.RecvBlock as recv
+use Rattle.cast_stub.specs.Draft.{fresh}
+use Rattle.cast_stub.specs.Fill.{fill, settled}
+use Rattle.cast_stub.specs.Got.{Got, given as given_value, not_given, no_calls, told, untested}
 use Rattle.copy_inline.specs.declared.sorts.Sort.TheVariants.{Block as Whole, Wide, Looped}
 use Rattle.copy_inline.specs.Counted.{blocks}
 use Rattle.copy_inline.specs.Sorts.{sort_of}
 use Rattle.copy_inline.specs.Rowed.{rowed}
+use Rattle.copy_inline.specs.RecvRowed.{rowed as recv_rowed}
 
 -- ---- sorts
 
@@ -54,7 +60,7 @@ counted_row o w r = chunk 4 (put.Count 0 [] 1 0 4 o ∷ []) (each [] (chunk w (p
 
 -- the octets of a row, sent by the code of a kind with its rows as blocks
 abbrev sent : Encoding → Kind → Block → List ℤ → Option (List ℕ)
-sent e k b ns = on_some (steps no_calls head (rowed e (array_type (row_of k Any)) b) (row k ns)) (wrote 0 [])
+sent e k b ns = on_some (steps sending.no_calls head (rowed e (array_type (row_of k Any)) b) (row k ns)) (wrote 0 [])
 
 -- how many rows that gives
 abbrev given : Encoding → Kind → List ℤ → ℕ
@@ -81,3 +87,40 @@ no_longs = refl
 
 as_many : (given Xdr kind.I16 (pos 1 ∷ negsuc 0 ∷ []) ≡ 0) × (given Xdr kind.Octet (pos 1 ∷ pos 2 ∷ []) ≡ 1) × (given CdrBig kind.U32 (pos 1 ∷ []) ≡ 1) × (given CdrLittle kind.U32 [] ≡ 1) × (given CdrBig kind.I64 [] ≡ 0)
 as_many = (refl, refl, refl, refl, refl)
+
+-- ---- code that receives
+
+-- a count, and a loop over numbers of a width that are received one by one
+abbrev received_row : Order → ℕ → Recv
+received_row o w = need 4 (pass 4 (get.Count 0 [] 1 0 4 o ∷ []) (recv.each [] (need w (pass w (get.Num 0 [] w o ∷ []) finish)) finish))
+
+-- what code gives of octets, for a row of a kind
+abbrev got_row : Kind → Recv → List ℕ → Got
+got_row k b o = told (settled (fill no_calls b (fresh (array_type (row_of k Any))) (untested 0 o)))
+
+abbrev in_rows : Encoding → Kind → Recv → Recv
+in_rows e k b = recv_rowed e (array_type (row_of k Any)) b
+
+abbrev two_longs : List ℕ
+two_longs = 0 ∷ 0 ∷ 0 ∷ 2 ∷ 0 ∷ 0 ∷ 0 ∷ 1 ∷ 0 ∷ 0 ∷ 0 ∷ 2 ∷ []
+
+-- the numbers are tested for one by one, or as a row at once
+longs_tested : got_row kind.U32 (received_row Big 4) two_longs ≡ given_value (row kind.U32 (pos 1 ∷ pos 2 ∷ [])) 12 3
+longs_tested = refl
+
+longs_at_once : got_row kind.U32 (in_rows CdrBig kind.U32 (received_row Big 4)) two_longs ≡ given_value (row kind.U32 (pos 1 ∷ pos 2 ∷ [])) 12 2
+longs_at_once = refl
+
+-- a row without numbers is tested for too
+none_tested : got_row kind.U32 (received_row Big 4) (0 ∷ 0 ∷ 0 ∷ 0 ∷ []) ≡ given_value (row kind.U32 []) 4 1
+none_tested = refl
+
+none_at_once : got_row kind.U32 (in_rows CdrBig kind.U32 (received_row Big 4)) (0 ∷ 0 ∷ 0 ∷ 0 ∷ []) ≡ given_value (row kind.U32 []) 4 2
+none_at_once = refl
+
+-- wide numbers, and octets that end before the numbers do
+shorts_at_once : got_row kind.I16 (in_rows Xdr kind.I16 (received_row Big 4)) (0 ∷ 0 ∷ 0 ∷ 2 ∷ 0 ∷ 0 ∷ 0 ∷ 1 ∷ 255 ∷ 255 ∷ 255 ∷ 255 ∷ []) ≡ given_value (row kind.I16 (pos 1 ∷ negsuc 0 ∷ [])) 12 2
+shorts_at_once = refl
+
+cut_at_once : got_row kind.U32 (in_rows CdrBig kind.U32 (received_row Big 4)) (0 ∷ 0 ∷ 0 ∷ 2 ∷ 0 ∷ 0 ∷ 0 ∷ 1 ∷ 0 ∷ []) ≡ not_given
+cut_at_once = refl

@@ -1,7 +1,7 @@
 -- How many rows and texts of a value travel as a block.
 use Rattle.std.specs.Prelude.{ℕ, ◌+◌, ℤ, if◌then◌else◌}
 use Rattle.std.specs.Ordering.{int_eq}
-use Rattle.mint.specs.Types.{Array, Ty, array_type, group_type, items_type, choice_type, maybe_type, Tys, field, Arms, no_other, others, arm_type}
+use Rattle.mint.specs.Types.{Ty, array_type, group_type, items_type, choice_type, maybe_type, Tys, field, Arms, no_other, others, arm_type}
 use Rattle.mint.specs.Values.{Val, group, items, arm, present, Vals, no_more, val}
 use Rattle.wire_def.specs.declared.encoding.Encoding.{Encoding}
 use Rattle.copy_inline.specs.declared.sorts.Sort.{Sort}

@@ -5,6 +5,10 @@ pub mod Ready
 pub mod RecvCallFree
 pub mod RecvInlined
 pub mod RecvNested
+pub mod RecvReady
+pub mod RecvRowBodies
+pub mod RecvRowed
+pub mod RecvRows
 pub mod RecvSpliced
 pub mod RowBodies
 pub mod Rowed

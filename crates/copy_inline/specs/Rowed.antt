@@ -4,7 +4,7 @@ use Rattle.mint.specs.Types.{Array, Ty, array_type, items_type, Arms, others, ar
 use Rattle.wire_def.specs.declared.encoding.Encoding.{Encoding}
 use Rattle.wire_def.specs.declared.head.Order.{Order}
 use Rattle.wire_def.specs.Arrays.{kind_of}
-use Rattle.cast_stub.specs.Block.{Block, stop, ensure, ensure_row, align, chunk, row_copy, row_swap, row_wide, each, switch, if_there, call, patch, Cases, no_default, default, case}
+use Rattle.cast_stub.specs.Block.{Block, stop, ensure, ensure_row, align, chunk, row_copy, row_swap, row_wide, each, switch, if_there, call, patch, Cases, default, case}
 use Rattle.cast_stub.specs.Layouts.{order_of}
 use Rattle.cast_stub.specs.PartTypes.{ty_at, present_at, arms_at}
 use Rattle.copy_inline.specs.declared.sorts.Sort.{Sort}
