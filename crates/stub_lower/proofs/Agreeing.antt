@@ -102,3 +102,50 @@ agrees-runs {A} K f r (suc n) s each here oct =
     agrees-then K K Same Same (f s) (r s.pos s.left) (λ x t. map_run (λ xs. x ∷ xs) (runs f n t)) (λ x q rest. map_got (λ xs. x ∷ xs) (times r n q rest)) (each s here oct)
     (λ (a : A) (b : A) (t : Place) same k o.
     agrees-map K Same Same (runs f n t) (times r n t.pos t.left) (λ xs. a ∷ xs) (λ xs. b ∷ xs) (agrees-runs K f r n t each k o) (λ (x : List A) (y : List A) e. ap (λ (z : A). z ∷ x) same ∙ ap (λ (l : List A). b ∷ l) e))
+
+-- up to positions of more
+pub agrees-wider : {A B : Type 0} (K L : ℕ → Type 0) (P : A → B → Type 0) (x : Run A) (r : Reading FaultKind B) → Agrees K P x r
+    → ((q : ℕ) → K q → L q) → Agrees L P x r
+agrees-wider K L P (gives a s) (got b q rest) h k = (h.0, h.1, h.2, k q h.3, h.4)
+agrees-wider K L P refuses (stop x at) h k = tt
+agrees-wider K L P (gives a s) (stop x at) h k = absurd h
+agrees-wider K L P refuses (got b q rest) h k = absurd h
+agrees-wider K L P strays (got b q rest) h k = absurd h
+agrees-wider K L P strays (stop x at) h k = absurd h
+
+-- ---- readings that end alike: both give the same, or both stop, wherever that is
+
+abbrev pub SameEnds : {A : Type 0} → Reading FaultKind A → Reading FaultKind A → Type 0
+SameEnds (got x p o) (got y q r) = (x ≡ y) × (p ≡ q) × (o ≡ r)
+SameEnds (stop k at) (stop j to) = Unit {0}
+SameEnds _ _ = ⊥
+
+pub ends-same : {A : Type 0} (r : Reading FaultKind A) → SameEnds r r
+ends-same (got x p o) = (refl, refl, refl)
+ends-same (stop k at) = tt
+
+pub agrees-ends : {A B : Type 0} (K : ℕ → Type 0) (P : A → B → Type 0) (x : Run A) (r t : Reading FaultKind B) → SameEnds r t → Agrees K P x r → Agrees K P x t
+agrees-ends K P (gives a s) (got b q rest) (got y m o) e h =
+    (subst (P a) e.0 h.0, h.1 ∙ e.1, h.2 ∙ e.2, subst K e.1 h.3, subst AreOctets e.2 h.4)
+agrees-ends K P refuses (stop k at) (stop j to) e h = tt
+agrees-ends K P x (got b q rest) (stop j to) e h = absurd e
+agrees-ends K P x (stop k at) (got y m o) e h = absurd e
+agrees-ends K P (gives a s) (stop k at) (stop j to) e h = absurd h
+agrees-ends K P strays (stop k at) (stop j to) e h = absurd h
+agrees-ends K P refuses (got b q rest) (got y m o) e h = absurd h
+agrees-ends K P strays (got b q rest) (got y m o) e h = absurd h
+
+pub ends-map : {A B : Type 0} (f : A → B) (r t : Reading FaultKind A) → SameEnds r t → SameEnds (map_got f r) (map_got f t)
+ends-map f (got x p o) (got y q m) e = (ap f e.0, e.1, e.2)
+ends-map f (stop k at) (stop j to) e = tt
+ends-map f (got x p o) (stop j to) e = absurd e
+ends-map f (stop k at) (got y q m) e = absurd e
+
+pub ends-then : {A B : Type 0} (r t : Reading FaultKind A) (f g : A → Reader FaultKind B) → SameEnds r t
+    → ((x : A) (p : ℕ) (o : List ℕ) → SameEnds (f x p o) (g x p o)) → SameEnds (then_on r f) (then_on t g)
+ends-then {A} {B} (got x p o) (got y q m) f g e k =
+    subst (λ (z : A). SameEnds (f x p o) (g z q m)) e.0
+    (subst (λ (n : ℕ). SameEnds (f x p o) (g x n m)) e.1 (subst (λ (l : List ℕ). SameEnds (f x p o) (g x p l)) e.2 (k x p o)))
+ends-then (stop k at) (stop j to) f g e h = tt
+ends-then (got x p o) (stop j to) f g e h = absurd e
+ends-then (stop k at) (got y q m) f g e h = absurd e

@@ -56,13 +56,13 @@ aligned-stop w own c h v p =
     writes_same (steps c h (aligned (byte_len w) stop) v) p (replicate (gap p (byte_len w)) 0 ++ []) (replicate (gap p (byte_len w)) 0) (append-nil (replicate (gap p (byte_len w)) 0))
     (aligned-writes w own c h stop v p [] (none-writes (p + length (replicate {A = ℕ} (gap p (byte_len w)) 0))))
 
-no_gap_behind : (w : Width) → IsOwn w → (p : ℕ) → gap (p + gap p (byte_len w)) (byte_len w) ≡ 0
+pub no_gap_behind : (w : Width) → IsOwn w → (p : ℕ) → gap (p + gap p (byte_len w)) (byte_len w) ≡ 0
 no_gap_behind _ is8 p = omega arith
 no_gap_behind _ is16 p = omega arith
 no_gap_behind _ is32 p = omega arith
 no_gap_behind _ is64 p = omega arith
 
-still_none : (w : Width) → IsOwn w → (p : ℕ) → gap p (byte_len w) ≡ 0 → gap (p + byte_len w) (byte_len w) ≡ 0
+pub still_none : (w : Width) → IsOwn w → (p : ℕ) → gap p (byte_len w) ≡ 0 → gap (p + byte_len w) (byte_len w) ≡ 0
 still_none _ is8 p h = omega arith
 still_none _ is16 p h = omega (arith, h)
 still_none _ is32 p h = omega (arith, h)

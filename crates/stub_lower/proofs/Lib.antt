@@ -9,6 +9,9 @@ pub mod Receiving
 pub mod RecvArrays
 pub mod RecvBuilding
 pub mod RecvEncoded
+pub mod RecvCdr
+pub mod RecvCdrArrays
+pub mod RecvPass
 pub mod RecvWhole
 pub mod Sending
 pub mod Tracing

@@ -16,10 +16,10 @@ use Rattle.wire_def.specs.declared.fault.FaultKind.{FaultKind}
 use Rattle.wire_def.specs.declared.fault.FaultKind.TheVariants.{BadValue}
 use Rattle.wire_def.specs.Grammar.{Reading, got, stop, Reader, AreOctets, then_on, map_got, both, times, tested}
 use Rattle.wire_def.specs.Send.{flag}
-use Rattle.wire_def.specs.Scalars.{scalar_place, read_scalar}
-use Rattle.wire_def.specs.Lone.{IsPlain, read_lone}
-use Rattle.wire_def.specs.Arrays.{read_count}
+use Rattle.wire_def.specs.Lone.{read_lone}
+use Rattle.wire_def.specs.Arrays.{counted, read_count}
 use Rattle.wire_def.specs.Reading.{read, read_fields, read_arm, read_tag, read_behind}
+use Rattle.cast_stub.specs.declared.recv.Get.{Get}
 use Rattle.cast_stub.specs.declared.recv.Get.TheVariants as get
 use Rattle.cast_stub.specs.Parts.{on_some}
 use Rattle.cast_stub.specs.RecvBlock.{Recv, finish, each, switch, if_there}
@@ -31,9 +31,11 @@ use Rattle.cast_stub.specs.Runs.{Place, Run, gives, refuses, strays, Filler, if_
 use Rattle.cast_stub.proofs.RecvAppending.{fill-append}
 use Rattle.cast_stub.specs.Layouts.{order_of, scalar_width}
 use Rattle.wire_def.specs.Places.{IsPlace}
-use Rattle.stub_lower.specs.RecvCodes.{count_code, tag_code, flag_code, call_here, calls_from, cases_at, node_code, number_code, number_get}
-use Rattle.stub_lower.proofs.Agreeing.{Agrees, Same, Settles, agrees-then, agrees-map, agrees-read, agrees-given, agrees-finish, agrees-settled, agrees-runs}
-use Rattle.stub_lower.proofs.RecvEncoded.{taken, ScalarsRead, lones, pass_plain, count-reads, then_gives}
+use Rattle.stub_lower.specs.Items.{number_at}
+use Rattle.stub_lower.specs.RecvCodes.{scalar_code, count_code, tag_code, flag_code, call_here, calls_from, cases_at, node_code, number_code, number_get}
+use Rattle.stub_lower.proofs.Agreeing.{Agrees, Same, Settles, agrees-then, agrees-map, agrees-read, agrees-given, agrees-finish, agrees-settled, agrees-runs, agrees-ends}
+use Rattle.stub_lower.proofs.RecvEncoded.{taken, Takes, Reads, reads-wider, After, after_placed, LonesRead, count-reads, then_gives}
+use Rattle.stub_lower.proofs.RecvPass.{pass_ends}
 use Rattle.stub_lower.proofs.RecvArrays.{ArraysRead}
 
 -- code in front of other code
@@ -48,8 +50,14 @@ map_map f g (gives a s) = refl
 map_map f g refuses = refl
 map_map f g strays = refl
 
-module _ (e : Encoding) (scalar : ScalarsRead e) (plain : IsPlain e) (array : ArraysRead e) (us : List Ty) (c : Callees) (n b : ℕ)
+module _ (e : Encoding) (lone : LonesRead e) (array : ArraysRead e) (us : List Ty) (c : Callees) (n b : ℕ)
     (child : (i : ℕ) (s : Place) → i < b → depth (at us i) ≤ n → IsPlace e s.pos → AreOctets s.left → Agrees (IsPlace e) Settles (c i (fresh (at us i)) s) (read e (at us i) s.pos s.left)) where
+  -- a scalar by itself
+  scalar-reads : (t : Scalar) (g : Get) (d : Draft) (f : ℤ → Option Draft) (s : Place) → IsPlace e s.pos → AreOctets s.left → Takes e t (number_at e) g d f
+      → Reads (IsPlace e) (fill c (scalar_code e t g) d s) (read_lone e t s.pos s.left) f
+  scalar-reads t g d f s here oct does =
+      reads-wider (After e t) (IsPlace e) (fill c (scalar_code e t g) d s) (read_lone e t s.pos s.left) f (lone c t g d f s here oct does) (after_placed e t)
+
   -- a call on the current value
   here-reads : (i : ℕ) (s : Place) → i < b → depth (at us i) ≤ n → IsPlace e s.pos → AreOctets s.left → Agrees (IsPlace e) Settles (fill c (call_here i) (fresh (at us i)) s) (read e (at us i) s.pos s.left)
   here-reads i s below low here oct = agrees-finish (IsPlace e) Settles (c i (fresh (at us i)) s) (read e (at us i) s.pos s.left) c (child i s below low here oct)
@@ -136,7 +144,7 @@ module _ (e : Encoding) (scalar : ScalarsRead e) (plain : IsPlain e) (array : Ar
       (both (read_count e x) (λ m. times (read e (at us i)) m) s.pos s.left) (λ y. items (vals_of y.1))
       (append-agrees (IsPlace e) Opens Whole c (count_code e x) (each [] (call_here i) finish) (raw (items_type x (at us i))) s (read_count e x s.pos s.left)
       (λ m q o. map_got (λ y. (m, y)) (times (read e (at us i)) m q o))
-      (count-reads e scalar plain c x (listed (at us i)) (raw (items_type x (at us i))) s Opens here oct (λ (m : ℕ) (u : Place). refl) (λ (m : ℕ) (f : Filler) (t : Place). refl) fixed)
+      (count-reads e lone c (listed (at us i)) (raw (items_type x (at us i))) s here oct x (IsPlace e) Opens (after_placed e counted) (λ (m : ℕ) is. here) (λ (m : ℕ) (u : Place). refl) (λ (m : ℕ) (f : Filler) (t : Place). refl) fixed)
       (λ (d : Draft) (m : ℕ) (t : Place) opens k o.
       agrees-read (IsPlace e) Listed Whole (fill c (each [] (call_here i) finish) d t) (times (read e (at us i)) m t.pos t.left) (λ y. (m, y))
       (subst (λ (z : Run Draft). Agrees (IsPlace e) Listed (then_run z (fill c finish)) (times (read e (at us i)) m t.pos t.left)) (sym (opens (fill c (call_here i)) t))
@@ -194,17 +202,17 @@ module _ (e : Encoding) (scalar : ScalarsRead e) (plain : IsPlain e) (array : Ar
   tag-reads : (t : Scalar) (A : Arms) (s : Place) → IsPlace e s.pos → AreOctets s.left
       → Agrees (IsPlace e) (λ (d : Draft) (z : ℤ). (T : Ty) × (d ≡ tagged z T) × (type_of_arm A z ≡ Some T)) (fill c (tag_code e t) (raw (choice_type t A)) s) (read_tag e t A s.pos s.left)
   tag-reads t A s here oct =
-      let r = scalar c t (get.Tag 0 [] (scalar_width e t) (order_of e)) (raw (choice_type t A)) (arm_draft A) s here oct (λ (u : Place). refl) in
-      subst (λ (y : Reading FaultKind ℤ). Agrees (IsPlace e) Tags (fill c (tag_code e t) (raw (choice_type t A)) s) y) (sym (pass_plain e t (has_arm A) BadValue s.pos s.left plain))
-      (subst (λ (x : Run Draft). Agrees (IsPlace e) Tags x (tested (read_scalar e t) (has_arm A) BadValue (scalar_place e t) s.pos s.left)) (sym r.is)
-      (agrees-then (IsPlace e) (IsPlace e) Same Tags r.number (read_scalar e t s.pos s.left) (taken (arm_draft A)) (λ z q o. if has_arm A z then got z q o else stop BadValue (scalar_place e t s.pos)) r.agrees
-      (λ (z : ℤ) (y : ℤ) (u : Place) same k o. subst (λ (w : ℤ). Agrees (IsPlace e) Tags (taken (arm_draft A) z u) (if has_arm A w then got w u.pos u.left else stop BadValue (scalar_place e t s.pos))) same
-      (subst (λ (g : Bool). Agrees (IsPlace e) Tags (taken (arm_draft A) z u) (if g then got z u.pos u.left else stop BadValue (scalar_place e t s.pos))) (sym (has-type A z)) (held z u k o (type_of_arm A z) refl))))) where
+      let r = scalar-reads t (get.Tag (number_at e) [] (scalar_width e t) (order_of e)) (raw (choice_type t A)) (arm_draft A) s here oct (λ (u : Place) o. refl) in
+      agrees-ends (IsPlace e) Tags (fill c (tag_code e t) (raw (choice_type t A)) s) (tested (read_lone e t) (has_arm A) BadValue (λ q. q) s.pos s.left) (read_tag e t A s.pos s.left) (pass_ends t (has_arm A) BadValue e s.pos s.left)
+      (subst (λ (x : Run Draft). Agrees (IsPlace e) Tags x (tested (read_lone e t) (has_arm A) BadValue (λ q. q) s.pos s.left)) (sym r.is)
+      (agrees-then (IsPlace e) (IsPlace e) Same Tags r.number (read_lone e t s.pos s.left) (taken (arm_draft A)) (λ z q o. if has_arm A z then got z q o else stop BadValue s.pos) r.agrees
+      (λ (z : ℤ) (y : ℤ) (u : Place) same k o. subst (λ (w : ℤ). Agrees (IsPlace e) Tags (taken (arm_draft A) z u) (if has_arm A w then got w u.pos u.left else stop BadValue s.pos)) same
+      (subst (λ (g : Bool). Agrees (IsPlace e) Tags (taken (arm_draft A) z u) (if g then got z u.pos u.left else stop BadValue s.pos)) (sym (has-type A z)) (held z u k o (type_of_arm A z) refl))))) where
         Tags : Draft → ℤ → Type 0
         Tags d z = (T : Ty) × (d ≡ tagged z T) × (type_of_arm A z ≡ Some T)
 
         held : (z : ℤ) (u : Place) → IsPlace e u.pos → AreOctets u.left → (g : Option Ty) → type_of_arm A z ≡ g
-            → Agrees (IsPlace e) Tags (if_passed (option_map (tagged z) g) (λ d. gives d u)) (if is_some g then got z u.pos u.left else stop BadValue (scalar_place e t s.pos))
+            → Agrees (IsPlace e) Tags (if_passed (option_map (tagged z) g) (λ d. gives d u)) (if is_some g then got z u.pos u.left else stop BadValue s.pos)
         held z u k o (Some T) is = ((T, refl, is), refl, refl, k, o)
         held z u k o None is = tt
 
@@ -237,7 +245,7 @@ module _ (e : Encoding) (scalar : ScalarsRead e) (plain : IsPlain e) (array : Ar
       → Agrees (IsPlace e) Settles (fill c (append (flag_code e) (if_there [] (call_here i) finish)) (raw (maybe_type (at us i))) s) (read e (maybe_type (at us i)) s.pos s.left)
   unfolding read
   maybe-read i s below low here oct =
-      let r = lones e scalar plain c flag (get.Flag 0 [] (scalar_width e flag) (order_of e)) (raw (maybe_type (at us i))) (flag_draft (at us i)) s here oct (λ (u : Place). refl) in
+      let r = scalar-reads flag (get.Flag (number_at e) [] (scalar_width e flag) (order_of e)) (raw (maybe_type (at us i))) (flag_draft (at us i)) s here oct (λ (u : Place) o. refl) in
       agrees-read (IsPlace e) Whole Settles (fill c (append (flag_code e) (if_there [] (call_here i) finish)) (raw (maybe_type (at us i))) s) (both (read_lone e flag) (λ m. read_behind (read e (at us i)) m) s.pos s.left) (λ x. x.1)
       (append-agrees (IsPlace e) Flags Whole c (flag_code e) (if_there [] (call_here i) finish) (raw (maybe_type (at us i))) s (read_lone e flag s.pos s.left) (λ m q o. map_got (λ y. (m, y)) (read_behind (read e (at us i)) m q o))
       (subst (λ (x : Run Draft). Agrees (IsPlace e) Flags x (read_lone e flag s.pos s.left)) (sym r.is) (flagged_so r.number (read_lone e flag s.pos s.left) r.agrees))
@@ -293,7 +301,7 @@ module _ (e : Encoding) (scalar : ScalarsRead e) (plain : IsPlain e) (array : Ar
   number-read : (t : Scalar) (s : Place) → IsPlace e s.pos → AreOctets s.left → Agrees (IsPlace e) Settles (fill c (number_code e t) (raw (scalar_type t)) s) (read e (scalar_type t) s.pos s.left)
   unfolding read
   number-read t s here oct =
-      let r = lones e scalar plain c t (number_get e (scalar_width e t)) (raw (scalar_type t)) (λ z. Some (done (num z))) s here oct (λ (u : Place). refl) in
+      let r = scalar-reads t (number_get e t) (raw (scalar_type t)) (λ z. Some (done (num z))) s here oct (λ (u : Place) o. refl) in
       subst (λ (x : Run Draft). Agrees (IsPlace e) Settles x (map_got num (read_lone e t s.pos s.left))) (sym (r.is ∙ then_gives r.number (λ z. done (num z))))
       (agrees-map (IsPlace e) Same Settles r.number (read_lone e t s.pos s.left) (λ z. done (num z)) num r.agrees (λ (x : ℤ) (y : ℤ) same. ap (λ (z : ℤ). Some (num z)) same))
 

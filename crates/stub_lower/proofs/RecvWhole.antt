@@ -9,7 +9,8 @@ use Rattle.mint.specs.Types.{Array, Ty, group_type, items_type, choice_type, may
 use Rattle.mint.proofs.Unfolding.{type_at-level}
 use Rattle.mint.proofs.Measuring.{sound_taken}
 use Rattle.wire_def.specs.declared.encoding.Encoding.{Encoding}
-use Rattle.wire_def.specs.declared.encoding.Encoding.TheVariants.{Xdr}
+use Rattle.wire_def.specs.declared.encoding.Encoding.TheVariants.{Xdr, CdrBig, CdrLittle, Mach}
+use Rattle.wire_def.specs.Lone.{IsPlain}
 use Rattle.wire_def.specs.Grammar.{AreOctets}
 use Rattle.wire_def.specs.Reading.{read}
 use Rattle.cast_stub.specs.declared.recv.RecvOp.{RecvOp}
@@ -26,8 +27,10 @@ use Rattle.stub_lower.specs.RecvCodes.{array_code, node_code}
 use Rattle.stub_lower.specs.RecvLowered.{CodesReceive, CallsReceive}
 use Rattle.stub_lower.proofs.Whole.{AreKnown, take_at, known_more, get-map, in_list, found}
 use Rattle.stub_lower.proofs.Agreeing.{Agrees, Settles, agrees-settled}
-use Rattle.stub_lower.proofs.RecvEncoded.{xdr_scalar}
-use Rattle.stub_lower.proofs.RecvArrays.{xdr_array}
+use Rattle.stub_lower.proofs.RecvEncoded.{LonesRead, xdr_scalar}
+use Rattle.stub_lower.proofs.RecvArrays.{ArraysRead, xdr_array}
+use Rattle.stub_lower.proofs.RecvCdr.{big_scalar, little_scalar}
+use Rattle.stub_lower.proofs.RecvCdrArrays.{big_array, little_array}
 use Rattle.stub_lower.proofs.Receiving.{node-reads}
 use Rattle.stub_lower.proofs.Exact.{exact}
 use Rattle.stub_lower.proofs.Tracing.{array_turned, array_loops, node-traces}
@@ -84,33 +87,45 @@ module _ (e : Encoding) (nodes : List Node) (subs : List (List RecvOp)) (whole :
   code_of : (k : ℕ) (ops : List RecvOp) → slice_get subs k ≡ Some ops → Stands e nodes k (code_seen ops)
   code_of k ops is = code_at k (code_seen ops) (ap (option_map code_seen) is)
 
--- ---- over XDR
+-- ---- of an encoding without descriptors
 
-module _ (nodes : List Node) (subs : List (List RecvOp)) (whole : AreLowered Xdr nodes (length nodes) subs) where
-  module _ (L : Loops) (array : (a : Array) → L a [] (array_code Xdr a)) where
-    traces : (n k : ℕ) (m : Node) → k < n → slice_get nodes k ≡ Some m → TracesBy L (sub_at subs) (type_at nodes k) k [] (node_code Xdr m)
+lones : (e : Encoding) → IsPlain e → LonesRead e
+lones Xdr h = xdr_scalar
+lones CdrBig h = big_scalar
+lones CdrLittle h = little_scalar
+lones Mach h = absurd h
+
+arrays : (e : Encoding) → IsPlain e → ArraysRead e
+arrays Xdr h = xdr_array
+arrays CdrBig h = big_array
+arrays CdrLittle h = little_array
+arrays Mach h = absurd h
+
+module _ (e : Encoding) (plain : IsPlain e) (nodes : List Node) (subs : List (List RecvOp)) (whole : AreLowered e nodes (length nodes) subs) where
+  module _ (L : Loops) (array : (a : Array) → L a [] (array_code e a)) where
+    traces : (n k : ℕ) (m : Node) → k < n → slice_get nodes k ≡ Some m → TracesBy L (sub_at subs) (type_at nodes k) k [] (node_code e m)
     traces zero k m lt is = absurd (omega (arith, lt))
     traces (suc n) k m lt is =
-        subst (λ (t : Ty). TracesBy L (sub_at subs) t k [] (node_code Xdr m)) (sym (type_at-level nodes k m (below Xdr nodes subs whole) is))
-        (node-traces L array (sub_at subs) (unfolded nodes) k
-        (λ (i : ℕ) i_lt. let f = found nodes i (omega (arith, i_lt, in_list nodes k m is)) in (node_code Xdr f.node, sub_is Xdr nodes subs whole i f.node f.is, traces n i f.node (omega (arith, i_lt, lt)) f.is))
-        m (below Xdr nodes subs whole k m is))
+        subst (λ (t : Ty). TracesBy L (sub_at subs) t k [] (node_code e m)) (sym (type_at-level nodes k m (below e nodes subs whole) is))
+        (node-traces e L array (sub_at subs) (unfolded nodes) k
+        (λ (i : ℕ) i_lt. let f = found nodes i (omega (arith, i_lt, in_list nodes k m is)) in (node_code e f.node, sub_is e nodes subs whole i f.node f.is, traces n i f.node (omega (arith, i_lt, lt)) f.is))
+        m (below e nodes subs whole k m is))
 
     pub codes_trace : (k : ℕ) (b : Recv) → sub_at subs k ≡ Some b → TracesBy L (sub_at subs) (type_at nodes k) k [] b
     codes_trace k b is =
-        let s = code_at Xdr nodes subs whole k b is in
+        let s = code_at e nodes subs whole k b is in
         subst (TracesBy L (sub_at subs) (type_at nodes k) k []) (sym s.made) (traces (suc k) k s.node (omega arith) s.is)
 
   -- a node's code, where calls may stand so deep within one another
-  node_read : (n k : ℕ) (m : Node) (s : Place) → slice_get nodes k ≡ Some m → depth (type_at nodes k) ≤ suc n → IsPlace Xdr s.pos → AreOctets s.left
-      → ((i : ℕ) (t : Place) → i < length nodes → depth (type_at nodes i) ≤ n → IsPlace Xdr t.pos → AreOctets t.left → Agrees (IsPlace Xdr) Settles (called (sub_at subs) n i (fresh (type_at nodes i)) t) (read Xdr (type_at nodes i) t.pos t.left))
-      → Agrees (IsPlace Xdr) Settles (fill (called (sub_at subs) n) (node_code Xdr m) (fresh (type_at nodes k)) s) (read Xdr (type_at nodes k) s.pos s.left)
+  node_read : (n k : ℕ) (m : Node) (s : Place) → slice_get nodes k ≡ Some m → depth (type_at nodes k) ≤ suc n → IsPlace e s.pos → AreOctets s.left
+      → ((i : ℕ) (t : Place) → i < length nodes → depth (type_at nodes i) ≤ n → IsPlace e t.pos → AreOctets t.left → Agrees (IsPlace e) Settles (called (sub_at subs) n i (fresh (type_at nodes i)) t) (read e (type_at nodes i) t.pos t.left))
+      → Agrees (IsPlace e) Settles (fill (called (sub_at subs) n) (node_code e m) (fresh (type_at nodes k)) s) (read e (type_at nodes k) s.pos s.left)
   node_read n k m s is low here oct part =
-      let same : type_at nodes k ≡ level (unfolded nodes) m = type_at-level nodes k m (below Xdr nodes subs whole) is in
-      subst (λ (t : Ty). Agrees (IsPlace Xdr) Settles (fill (called (sub_at subs) n) (node_code Xdr m) (fresh t) s) (read Xdr t s.pos s.left)) (sym same)
-      (node-reads Xdr xdr_scalar tt xdr_array (unfolded nodes) (called (sub_at subs) n) n k
+      let same : type_at nodes k ≡ level (unfolded nodes) m = type_at-level nodes k m (below e nodes subs whole) is in
+      subst (λ (t : Ty). Agrees (IsPlace e) Settles (fill (called (sub_at subs) n) (node_code e m) (fresh t) s) (read e t s.pos s.left)) (sym same)
+      (node-reads e (lones e plain) (arrays e plain) (unfolded nodes) (called (sub_at subs) n) n k
       (λ (i : ℕ) (t : Place) lt d p o. part i t (omega (arith, lt, in_list nodes k m is)) d p o)
-      m s (below Xdr nodes subs whole k m is) (subst (λ (t : Ty). depth t ≤ suc n) same low) here oct)
+      m s (below e nodes subs whole k m is) (subst (λ (t : Ty). depth t ≤ suc n) same low) here oct)
 
   depth_some : (t : Ty) → 1 ≤ depth t
   depth_some (group_type ts) = omega arith
@@ -119,26 +134,26 @@ module _ (nodes : List Node) (subs : List (List RecvOp)) (whole : AreLowered Xdr
   depth_some (maybe_type t) = omega arith
   depth_some _ = omega arith
 
-  call_read : (n k : ℕ) (s : Place) → k < length nodes → depth (type_at nodes k) ≤ n → IsPlace Xdr s.pos → AreOctets s.left
-      → Agrees (IsPlace Xdr) Settles (called (sub_at subs) n k (fresh (type_at nodes k)) s) (read Xdr (type_at nodes k) s.pos s.left)
+  call_read : (n k : ℕ) (s : Place) → k < length nodes → depth (type_at nodes k) ≤ n → IsPlace e s.pos → AreOctets s.left
+      → Agrees (IsPlace e) Settles (called (sub_at subs) n k (fresh (type_at nodes k)) s) (read e (type_at nodes k) s.pos s.left)
   call_read zero k s lt low here oct = absurd (omega (arith, low, depth_some (type_at nodes k)))
   call_read (suc n) k s lt low here oct =
       let f = found nodes k lt in
-      subst (λ (o : Option Recv). Agrees (IsPlace Xdr) Settles (if_some o (λ b. fill (called (sub_at subs) n) b (fresh (type_at nodes k)) s)) (read Xdr (type_at nodes k) s.pos s.left)) (sym (sub_is Xdr nodes subs whole k f.node f.is))
+      subst (λ (o : Option Recv). Agrees (IsPlace e) Settles (if_some o (λ b. fill (called (sub_at subs) n) b (fresh (type_at nodes k)) s)) (read e (type_at nodes k) s.pos s.left)) (sym (sub_is e nodes subs whole k f.node f.is))
       (node_read n k f.node s f.is low here oct (λ (i : ℕ) (t : Place) l d p o. call_read n i t l d p o))
 
   enough : 32 ≤ suc deepest
   unfolding deepest
   enough = omega arith
 
-  pub codes_receive : CodesReceive Xdr nodes subs
+  pub codes_receive : CodesReceive e nodes subs
   codes_receive k ops is z place oct short =
-      let s = code_of Xdr nodes subs whole k ops is in
-      let here = sound Xdr nodes subs whole k s.node s.is in
+      let s = code_of e nodes subs whole k ops is in
+      let here = sound e nodes subs whole k s.node s.is in
       let shallow : depth (type_at nodes k) ≤ suc deepest = omega (arith, enough, (sound_taken (type_at nodes k) here).shallow) in
-      subst (λ (b : Recv). IsExact Xdr (type_at nodes k) z.pos z.left (settled (fill (called (sub_at subs) deepest) b (fresh (type_at nodes k)) z))) (sym s.made)
-      (exact Xdr (type_at nodes k) here z.pos z.left oct short (IsPlace Xdr) (settled (fill (called (sub_at subs) deepest) (node_code Xdr s.node) (fresh (type_at nodes k)) z)) (read Xdr (type_at nodes k) z.pos z.left) refl
-      (agrees-settled (IsPlace Xdr) (fill (called (sub_at subs) deepest) (node_code Xdr s.node) (fresh (type_at nodes k)) z) (read Xdr (type_at nodes k) z.pos z.left)
+      subst (λ (b : Recv). IsExact e (type_at nodes k) z.pos z.left (settled (fill (called (sub_at subs) deepest) b (fresh (type_at nodes k)) z))) (sym s.made)
+      (exact e (type_at nodes k) here z.pos z.left oct short (IsPlace e) (settled (fill (called (sub_at subs) deepest) (node_code e s.node) (fresh (type_at nodes k)) z)) (read e (type_at nodes k) z.pos z.left) refl
+      (agrees-settled (IsPlace e) (fill (called (sub_at subs) deepest) (node_code e s.node) (fresh (type_at nodes k)) z) (read e (type_at nodes k) z.pos z.left)
       (node_read deepest k s.node z s.is shallow place oct (λ (i : ℕ) (t : Place) l d q y. call_read deepest i t l d q y))))
 
   alone : (x : Run Draft) → then_run x (λ d t. gives d t) ≡ x
@@ -150,16 +165,16 @@ module _ (nodes : List Node) (subs : List (List RecvOp)) (whole : AreLowered Xdr
   unfolding deepest
   few = omega arith
 
-  pub calls_receive : CallsReceive Xdr nodes subs
+  pub calls_receive : CallsReceive e nodes subs
   calls_receive k ops lt is z place oct short =
       let f = found nodes k lt in
-      let here = sound Xdr nodes subs whole k f.node f.is in
+      let here = sound e nodes subs whole k f.node f.is in
       let shallow : depth (type_at nodes k) ≤ deepest = omega (arith, few, (sound_taken (type_at nodes k) here).shallow) in
       let run = called (sub_at subs) deepest k (fresh (type_at nodes k)) z in
-      subst (λ (b : Recv). IsExact Xdr (type_at nodes k) z.pos z.left (settled (fill (called (sub_at subs) deepest) b (fresh (type_at nodes k)) z))) (sym is)
-      (subst (λ (x : Run Draft). IsExact Xdr (type_at nodes k) z.pos z.left (settled x)) (sym (alone run))
-      (exact Xdr (type_at nodes k) here z.pos z.left oct short (IsPlace Xdr) (settled run) (read Xdr (type_at nodes k) z.pos z.left) refl
-      (agrees-settled (IsPlace Xdr) run (read Xdr (type_at nodes k) z.pos z.left) (call_read deepest k z lt shallow place oct))))
+      subst (λ (b : Recv). IsExact e (type_at nodes k) z.pos z.left (settled (fill (called (sub_at subs) deepest) b (fresh (type_at nodes k)) z))) (sym is)
+      (subst (λ (x : Run Draft). IsExact e (type_at nodes k) z.pos z.left (settled x)) (sym (alone run))
+      (exact e (type_at nodes k) here z.pos z.left oct short (IsPlace e) (settled run) (read e (type_at nodes k) z.pos z.left) refl
+      (agrees-settled (IsPlace e) run (read e (type_at nodes k) z.pos z.left) (call_read deepest k z lt shallow place oct))))
 
 -- ---- at the end of the table
 
@@ -168,16 +183,14 @@ ended e nodes id count subs all past within whole =
     let same : id ≡ length nodes = omega (arith, all, past, within) in
     subst (λ (n : ℕ). AreLowered e nodes n subs) same whole
 
-pub all_receive : (e : Encoding) (nodes : List Node) (subs : List (List RecvOp)) → e ≡ Xdr → AreLowered e nodes (length nodes) subs → CodesReceive e nodes subs
-all_receive e nodes subs xdr whole = subst (λ (f : Encoding). CodesReceive f nodes subs) (sym xdr) (codes_receive nodes subs (subst (λ (f : Encoding). AreLowered f nodes (length nodes) subs) xdr whole))
+pub all_receive : (e : Encoding) (nodes : List Node) (subs : List (List RecvOp)) → IsPlain e → AreLowered e nodes (length nodes) subs → CodesReceive e nodes subs
+all_receive e nodes subs plain whole = codes_receive e plain nodes subs whole
 
-pub all_trace : (e : Encoding) (nodes : List Node) (subs : List (List RecvOp)) → e ≡ Xdr → AreLowered e nodes (length nodes) subs → AllTrace nodes subs
-all_trace e nodes subs xdr whole = codes_trace nodes subs (subst (λ (f : Encoding). AreLowered f nodes (length nodes) subs) xdr whole) (λ a. IsLoop) array_loops
+pub all_trace : (e : Encoding) (nodes : List Node) (subs : List (List RecvOp)) → IsPlain e → AreLowered e nodes (length nodes) subs → AllTrace nodes subs
+all_trace e nodes subs plain whole = codes_trace e plain nodes subs whole (λ a. IsLoop) (array_loops e)
 
-pub all_turned : (e : Encoding) (nodes : List Node) (subs : List (List RecvOp)) → e ≡ Xdr → AreLowered e nodes (length nodes) subs → AllTurned (layout_of e) nodes subs
-all_turned e nodes subs xdr whole =
-    subst (λ (f : Encoding). AllTurned (layout_of f) nodes subs) (sym xdr)
-    (codes_trace nodes subs (subst (λ (f : Encoding). AreLowered f nodes (length nodes) subs) xdr whole) (IsTurned (layout_of Xdr)) array_turned)
+pub all_turned : (e : Encoding) (nodes : List Node) (subs : List (List RecvOp)) → IsPlain e → AreLowered e nodes (length nodes) subs → AllTurned (layout_of e) nodes subs
+all_turned e nodes subs plain whole = codes_trace e plain nodes subs whole (IsTurned (layout_of e)) (array_turned e)
 
-pub all_calls_receive : (e : Encoding) (nodes : List Node) (subs : List (List RecvOp)) → e ≡ Xdr → AreLowered e nodes (length nodes) subs → CallsReceive e nodes subs
-all_calls_receive e nodes subs xdr whole = subst (λ (f : Encoding). CallsReceive f nodes subs) (sym xdr) (calls_receive nodes subs (subst (λ (f : Encoding). AreLowered f nodes (length nodes) subs) xdr whole))
+pub all_calls_receive : (e : Encoding) (nodes : List Node) (subs : List (List RecvOp)) → IsPlain e → AreLowered e nodes (length nodes) subs → CallsReceive e nodes subs
+all_calls_receive e nodes subs plain whole = calls_receive e plain nodes subs whole

@@ -1,4 +1,5 @@
 pub mod Codes
+pub mod Items
 pub mod Leads
 pub mod Lowered
 pub mod RecvCodes

@@ -185,7 +185,7 @@ pub(crate) fn add_text(
 }
 
 /// Whether each number of a row is aligned by itself over CDR.
-fn is_gapped(kind: Kind, count: Count) -> bool
+pub(crate) fn is_gapped(kind: Kind, count: Count) -> bool
     ensures { result ≡ is_gapped (row_of kind count) }
 {
     match (kind, count) {
@@ -196,7 +196,7 @@ fn is_gapped(kind: Kind, count: Count) -> bool
 }
 
 /// The octets of a row's element.
-fn element_width(enc: Encoding, kind: Kind) -> u32
+pub(crate) fn element_width(enc: Encoding, kind: Kind) -> u32
     ensures { (count : Count) → result ≡ element_width enc (row_of kind count) }
 {
     match kind {

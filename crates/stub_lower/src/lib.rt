@@ -10,6 +10,7 @@ mod ops;
 mod recv_leaves;
 mod recv_nodes;
 mod recv_ops;
+mod units;
 
 pub use nodes::lower;
 pub use recv_nodes::lower_recv;

@@ -1,15 +1,15 @@
 // The code of each node of a table.
 ghost use Rattle.std.specs.Prelude.{◌≡◌, [], length, OnOk, IfOk};
-ghost use Rattle.wire_def.specs.declared.encoding.Encoding.TheVariants.{Xdr};
+ghost use Rattle.wire_def.specs.Lone.{IsPlain};
 ghost use Rattle.cast_stub.specs.RecvAppend.{append};
 ghost use Rattle.cast_stub.specs.RecvBlock.{finish, each, switch, if_there, code_seen, cases_seen};
 ghost use Rattle.cast_stub.specs.Traces.{AllTrace, AllTurned};
-ghost use Rattle.mint.specs.Types.{scalar_of};
-ghost use Rattle.stub_lower.specs.RecvCodes.{call_here, IsCall, calls_from, cases_at, default_at, flag_code, tag_code, node_code};
+ghost use Rattle.mint.specs.Types.{label, scalar_of};
+ghost use Rattle.stub_lower.specs.RecvCodes.{call_here, IsCall, calls_from, cases_at, default_at, flag_code, number_code, tag_code, node_code};
 ghost use Rattle.cast_stub.specs.Layouts.{layout_of};
 ghost use Rattle.stub_lower.specs.RecvLowered.{CallsReceive, CodesReceive};
 
-use crate::recv_leaves::{add_count, add_number, add_row, add_scalar, add_text};
+use crate::recv_leaves::{add_count, add_number, add_row, add_scalar, add_text, number_at};
 use crate::recv_ops::call_of;
 use cast_stub::copying::path_of;
 use cast_stub::layouts::{order_of, width_of};
@@ -17,7 +17,7 @@ use cast_stub::recv_copying::add;
 use cast_stub::{Get, Path, RecvCases, RecvOp, RecvOps, RecvSubs};
 use kit_base::NoMemory;
 use mint::kind::Kind;
-use mint::node::{Arms, Node, NodeIds, Tag};
+use mint::node::{Arms, Labels, Node, NodeIds, Tag};
 use mint::table::Mint;
 use std::alloc::Global;
 use wire_def::Encoding;
@@ -25,7 +25,7 @@ use wire_def::Encoding;
 /// The codes that receive the nodes of a table, each at its node's place; a node's parts are calls of
 /// their codes.
 pub fn lower_recv(alloc: Global, enc: Encoding, mint: &Mint) -> Result<RecvSubs, NoMemory>
-    requires xdr { enc ≡ Xdr }
+    requires plain { IsPlain enc }
     ensures many { IfOk result (λ subs. length subs ≡ length mint.now) }
     ensures sound { IfOk result (λ subs. CodesReceive enc mint.now subs) }
     ensures called { IfOk result (λ subs. CallsReceive enc mint.now subs) }
@@ -51,8 +51,8 @@ fn node_code(alloc: Global, enc: Encoding, node: &Node) -> Result<RecvOps, NoMem
     let mut out = RecvOps::new(alloc);
     match node {
         Node::Void => {}
-        Node::Num(kind) => add_number(alloc, enc, width_of(enc, *kind), &mut out)?,
-        Node::Enum(_) => add_number(alloc, enc, 4, &mut out)?,
+        Node::Num(kind) => add_number(alloc, enc, *kind, &mut out)?,
+        Node::Enum(labels) => add_label(alloc, enc, labels, &mut out)?,
         Node::Text(count) => add_text(alloc, enc, *count, &mut out)?,
         Node::Row(kind, count) => add_row(alloc, enc, *kind, *count, &mut out)?,
         Node::Group(ids) => add_calls(alloc, ids, &mut out)?,
@@ -104,17 +104,35 @@ fn add_value(alloc: Global, id: u32, out: &mut RecvOps) -> Result<(), NoMemory>
     add(out, RecvOp::Some(Path::new(alloc), body))
 }
 
+/// Puts the code of one of an enum's labels.
+#[tactic(auto, using(crate::proofs::RecvBuilding::labels))]
+fn add_label(
+    alloc: Global,
+    enc: Encoding,
+    labels: &Labels,
+    out: &mut RecvOps,
+) -> Result<(), NoMemory>
+    ensures { OnOk result (code_seen out.new ≡ append (code_seen out.old) (number_code enc (label labels.now))) }
+{
+    add_number(alloc, enc, Kind::I32, out)
+}
+
 /// Puts the code of an arm's number.
-#[tactic(auto, using(crate::proofs::RecvBuilding::building))]
+#[tactic(auto, using(crate::proofs::RecvBuilding::labels))]
 fn add_tag(alloc: Global, enc: Encoding, tag: &Tag, out: &mut RecvOps) -> Result<(), NoMemory>
     ensures { OnOk result (code_seen out.new ≡ append (code_seen out.old) (tag_code enc (scalar_of tag.now))) }
 {
-    let width = match tag {
-        Tag::Num(kind) => width_of(enc, *kind),
-        Tag::Enum(_) => 4,
+    let kind = match tag {
+        Tag::Num(kind) => *kind,
+        Tag::Enum(_) => Kind::I32,
     };
-    let get = Get::Tag(0, Path::new(alloc), width, order_of(enc));
-    add_scalar(alloc, enc, width, get, out)
+    let get = Get::Tag(
+        number_at(enc),
+        Path::new(alloc),
+        width_of(enc, kind),
+        order_of(enc),
+    );
+    add_scalar(alloc, enc, kind, get, out)
 }
 
 /// Puts the code that says whether a value is there.
@@ -123,8 +141,8 @@ fn add_flag(alloc: Global, enc: Encoding, out: &mut RecvOps) -> Result<(), NoMem
     ensures { OnOk result (code_seen out.new ≡ append (code_seen out.old) (flag_code enc)) }
 {
     let width = width_of(enc, Kind::Bool);
-    let get = Get::Flag(0, Path::new(alloc), width, order_of(enc));
-    add_scalar(alloc, enc, width, get, out)
+    let get = Get::Flag(number_at(enc), Path::new(alloc), width, order_of(enc));
+    add_scalar(alloc, enc, Kind::Bool, get, out)
 }
 
 /// Puts a switch with a call for each arm, and one for the last.
