@@ -8,7 +8,10 @@ pub mod Following
 pub mod Receiving
 pub mod RecvArrays
 pub mod RecvBuilding
+pub mod RecvDesc
 pub mod RecvEncoded
+pub mod RecvItems
+pub mod RecvMach
 pub mod RecvCdr
 pub mod RecvCdrArrays
 pub mod RecvPass

@@ -313,7 +313,7 @@ octets_elements c a test fault passes n s here oct =
     (octets-agree Xdr c a test fault passes n s oct) (λ (q : ℕ) is. let many = along_one n in omega (arith, is, here, many))
 
 -- whole words
-along_words : (n w : ℕ) → w % 4 ≡ 0 → along n w % 4 ≡ 0
+pub along_words : (n w : ℕ) → w % 4 ≡ 0 → along n w % 4 ≡ 0
 along_words zero w h = refl
 along_words (suc n) w h = let rest = along_words n w h in omega (arith, h, rest)
 

@@ -10,7 +10,6 @@ use Rattle.mint.proofs.Unfolding.{type_at-level}
 use Rattle.mint.proofs.Measuring.{sound_taken}
 use Rattle.wire_def.specs.declared.encoding.Encoding.{Encoding}
 use Rattle.wire_def.specs.declared.encoding.Encoding.TheVariants.{Xdr, CdrBig, CdrLittle, Mach}
-use Rattle.wire_def.specs.Lone.{IsPlain}
 use Rattle.wire_def.specs.Grammar.{AreOctets}
 use Rattle.wire_def.specs.Reading.{read}
 use Rattle.cast_stub.specs.declared.recv.RecvOp.{RecvOp}
@@ -30,6 +29,8 @@ use Rattle.stub_lower.proofs.Agreeing.{Agrees, Settles, agrees-settled}
 use Rattle.stub_lower.proofs.RecvEncoded.{LonesRead, xdr_scalar}
 use Rattle.stub_lower.proofs.RecvArrays.{ArraysRead, xdr_array}
 use Rattle.stub_lower.proofs.RecvCdr.{big_scalar, little_scalar}
+use Rattle.stub_lower.proofs.RecvItems.{mach_scalar}
+use Rattle.stub_lower.proofs.RecvMach.{mach_array}
 use Rattle.stub_lower.proofs.RecvCdrArrays.{big_array, little_array}
 use Rattle.stub_lower.proofs.Receiving.{node-reads}
 use Rattle.stub_lower.proofs.Exact.{exact}
@@ -87,21 +88,21 @@ module _ (e : Encoding) (nodes : List Node) (subs : List (List RecvOp)) (whole :
   code_of : (k : ℕ) (ops : List RecvOp) → slice_get subs k ≡ Some ops → Stands e nodes k (code_seen ops)
   code_of k ops is = code_at k (code_seen ops) (ap (option_map code_seen) is)
 
--- ---- of an encoding without descriptors
+-- ---- what an encoding gives
 
-lones : (e : Encoding) → IsPlain e → LonesRead e
-lones Xdr h = xdr_scalar
-lones CdrBig h = big_scalar
-lones CdrLittle h = little_scalar
-lones Mach h = absurd h
+lones : (e : Encoding) → LonesRead e
+lones Xdr = xdr_scalar
+lones CdrBig = big_scalar
+lones CdrLittle = little_scalar
+lones Mach = mach_scalar
 
-arrays : (e : Encoding) → IsPlain e → ArraysRead e
-arrays Xdr h = xdr_array
-arrays CdrBig h = big_array
-arrays CdrLittle h = little_array
-arrays Mach h = absurd h
+arrays : (e : Encoding) → ArraysRead e
+arrays Xdr = xdr_array
+arrays CdrBig = big_array
+arrays CdrLittle = little_array
+arrays Mach = mach_array
 
-module _ (e : Encoding) (plain : IsPlain e) (nodes : List Node) (subs : List (List RecvOp)) (whole : AreLowered e nodes (length nodes) subs) where
+module _ (e : Encoding) (nodes : List Node) (subs : List (List RecvOp)) (whole : AreLowered e nodes (length nodes) subs) where
   module _ (L : Loops) (array : (a : Array) → L a [] (array_code e a)) where
     traces : (n k : ℕ) (m : Node) → k < n → slice_get nodes k ≡ Some m → TracesBy L (sub_at subs) (type_at nodes k) k [] (node_code e m)
     traces zero k m lt is = absurd (omega (arith, lt))
@@ -123,7 +124,7 @@ module _ (e : Encoding) (plain : IsPlain e) (nodes : List Node) (subs : List (Li
   node_read n k m s is low here oct part =
       let same : type_at nodes k ≡ level (unfolded nodes) m = type_at-level nodes k m (below e nodes subs whole) is in
       subst (λ (t : Ty). Agrees (IsPlace e) Settles (fill (called (sub_at subs) n) (node_code e m) (fresh t) s) (read e t s.pos s.left)) (sym same)
-      (node-reads e (lones e plain) (arrays e plain) (unfolded nodes) (called (sub_at subs) n) n k
+      (node-reads e (lones e) (arrays e) (unfolded nodes) (called (sub_at subs) n) n k
       (λ (i : ℕ) (t : Place) lt d p o. part i t (omega (arith, lt, in_list nodes k m is)) d p o)
       m s (below e nodes subs whole k m is) (subst (λ (t : Ty). depth t ≤ suc n) same low) here oct)
 
@@ -183,14 +184,14 @@ ended e nodes id count subs all past within whole =
     let same : id ≡ length nodes = omega (arith, all, past, within) in
     subst (λ (n : ℕ). AreLowered e nodes n subs) same whole
 
-pub all_receive : (e : Encoding) (nodes : List Node) (subs : List (List RecvOp)) → IsPlain e → AreLowered e nodes (length nodes) subs → CodesReceive e nodes subs
-all_receive e nodes subs plain whole = codes_receive e plain nodes subs whole
+pub all_receive : (e : Encoding) (nodes : List Node) (subs : List (List RecvOp)) → AreLowered e nodes (length nodes) subs → CodesReceive e nodes subs
+all_receive e nodes subs whole = codes_receive e nodes subs whole
 
-pub all_trace : (e : Encoding) (nodes : List Node) (subs : List (List RecvOp)) → IsPlain e → AreLowered e nodes (length nodes) subs → AllTrace nodes subs
-all_trace e nodes subs plain whole = codes_trace e plain nodes subs whole (λ a. IsLoop) (array_loops e)
+pub all_trace : (e : Encoding) (nodes : List Node) (subs : List (List RecvOp)) → AreLowered e nodes (length nodes) subs → AllTrace nodes subs
+all_trace e nodes subs whole = codes_trace e nodes subs whole (λ a. IsLoop) (array_loops e)
 
-pub all_turned : (e : Encoding) (nodes : List Node) (subs : List (List RecvOp)) → IsPlain e → AreLowered e nodes (length nodes) subs → AllTurned (layout_of e) nodes subs
-all_turned e nodes subs plain whole = codes_trace e plain nodes subs whole (IsTurned (layout_of e)) (array_turned e)
+pub all_turned : (e : Encoding) (nodes : List Node) (subs : List (List RecvOp)) → AreLowered e nodes (length nodes) subs → AllTurned (layout_of e) nodes subs
+all_turned e nodes subs whole = codes_trace e nodes subs whole (IsTurned (layout_of e)) (array_turned e)
 
-pub all_calls_receive : (e : Encoding) (nodes : List Node) (subs : List (List RecvOp)) → IsPlain e → AreLowered e nodes (length nodes) subs → CallsReceive e nodes subs
-all_calls_receive e nodes subs plain whole = calls_receive e plain nodes subs whole
+pub all_calls_receive : (e : Encoding) (nodes : List Node) (subs : List (List RecvOp)) → AreLowered e nodes (length nodes) subs → CallsReceive e nodes subs
+all_calls_receive e nodes subs whole = calls_receive e nodes subs whole

@@ -1,6 +1,5 @@
 // The code of each node of a table.
 ghost use Rattle.std.specs.Prelude.{◌≡◌, [], length, OnOk, IfOk};
-ghost use Rattle.wire_def.specs.Lone.{IsPlain};
 ghost use Rattle.cast_stub.specs.RecvAppend.{append};
 ghost use Rattle.cast_stub.specs.RecvBlock.{finish, each, switch, if_there, code_seen, cases_seen};
 ghost use Rattle.cast_stub.specs.Traces.{AllTrace, AllTurned};
@@ -25,7 +24,6 @@ use wire_def::Encoding;
 /// The codes that receive the nodes of a table, each at its node's place; a node's parts are calls of
 /// their codes.
 pub fn lower_recv(alloc: Global, enc: Encoding, mint: &Mint) -> Result<RecvSubs, NoMemory>
-    requires plain { IsPlain enc }
     ensures many { IfOk result (λ subs. length subs ≡ length mint.now) }
     ensures sound { IfOk result (λ subs. CodesReceive enc mint.now subs) }
     ensures called { IfOk result (λ subs. CallsReceive enc mint.now subs) }
