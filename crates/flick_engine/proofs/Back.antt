@@ -13,7 +13,7 @@ use Rattle.flick_engine.specs.Laws.{IsReadBack}
 use Rattle.flick_engine.proofs.HeadsOfBacks.{received, says_made, long_lead, same_length}
 
 -- what is sent after a lead spells the value from the lead's end, where it follows the head
-spells_after : (e f : Encoding) (t : Ty) (p used : ℕ) (o : List ℕ) (v : Val) → f ≡ e → used ≡ p → drop used o ≡ send e t p v → IsWellTyped t v → IsSpelling f t used (drop used o) v
+pub spells_after : (e f : Encoding) (t : Ty) (p used : ℕ) (o : List ℕ) (v : Val) → f ≡ e → used ≡ p → drop used o ≡ send e t p v → IsWellTyped t v → IsSpelling f t used (drop used o) v
 spells_after e f t p used o v same long after typed = rw (after, same, long) (sent_spells e t p v typed)
 
 pub read_back : IsReadBack

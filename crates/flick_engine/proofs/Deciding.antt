@@ -76,7 +76,7 @@ when_called : (b : Binding) (o : List ℕ) (c : Called) (op : ℕ) (r : Reading 
 when_called b o c op r x names is e = when_named b o c (naming.Operation op) x names (ap (after_body c op) is ∙ e)
 
 -- the first octets are read as the value that they spell
-first_read : (n : Encoding) (t : Ty) (p : ℕ) (o : List ℕ) (v : Val) (used : ℕ) → FirstSpell n t p o v used → read n t p o ≡ got v (p + used) (drop used o)
+pub first_read : (n : Encoding) (t : Ty) (p : ℕ) (o : List ℕ) (v : Val) (used : ℕ) → FirstSpell n t p o v used → read n t p o ≡ got v (p + used) (drop used o)
 first_read n t p o v used h =
     let long : length (take used o) ≡ used = omega (arith, length-take used o, h.there) in
     let whole : take used o ++ drop used o ≡ o = take-append-drop used o in
@@ -84,7 +84,7 @@ first_read n t p o v used h =
     rw (whole, long) at there
 
 -- the octets are read as the value that they spell
-whole_read : (n : Encoding) (t : Ty) (p : ℕ) (o : List ℕ) (v : Val) → IsSpelling n t p o v → read n t p o ≡ got v (p + length o) []
+pub whole_read : (n : Encoding) (t : Ty) (p : ℕ) (o : List ℕ) (v : Val) → IsSpelling n t p o v → read n t p o ≡ got v (p + length o) []
 whole_read n t p o v h = rw append-nil at ((grammar n t).reads p o [] v h.octets)
 
 trailing : (c : Called) (op : ℕ) (v : Val) (q : ℕ) (rest : List ℕ) → 0 < length rest → after_body c op (got v q rest) ≡ Err (err.Trailing q)

@@ -23,7 +23,7 @@ use Rattle.flick_engine.specs.Messages.{request_type}
 use Rattle.flick_engine.specs.Received.{Asked, IsShort, Names, ReadCall}
 use Rattle.flick_engine.proofs.HeadsOfBacks.{one_head, has_head}
 
-above_or_not : (m n : ℕ) (t : Bool) → nat_lt m n ≡ t → (m < n) ⊎ (n ≤ m)
+pub above_or_not : (m n : ℕ) (t : Bool) → nat_lt m n ≡ t → (m < n) ⊎ (n ≤ m)
 above_or_not m n true is = inl (ltb-true m n is)
 above_or_not m n false is = inr (ltb-false m n is)
 

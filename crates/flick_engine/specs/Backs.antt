@@ -1,5 +1,5 @@
--- What differs from one back end to another: its name, how bodies are laid out, and the heads of calls.
-use Rattle.std.specs.Prelude.{◌≡◌, ℕ, List, length, Option, Some, None, if◌then◌else◌, codes}
+-- What differs from one back end to another: its name, how bodies are laid out, and the heads of calls and of replies.
+use Rattle.std.specs.Prelude.{◌≡◌, ℕ, zero, suc, true, List, [], length, slice_index_or, Option, Some, None, if◌then◌else◌, codes}
 use Rattle.std.specs.Str.{bytes_eq}
 use Rattle.wire_def.specs.declared.encoding.Back.{Back}
 use Rattle.wire_def.specs.declared.encoding.Back.TheVariants as back
@@ -9,6 +9,8 @@ use Rattle.wire_def.specs.declared.fault.HeadErr.{HeadErr}
 use Rattle.wire_def.specs.declared.head.Head.{Head}
 use Rattle.wire_def.specs.declared.head.Order.{Order}
 use Rattle.wire_def.specs.declared.head.Order.TheVariants.{Big, Little}
+use Rattle.wire_def.specs.declared.reply.ReplyHead.{ReplyHead}
+use Rattle.wire_def.specs.declared.reply.Status.TheVariants.{Answer}
 use Rattle.call_kit.specs.declared.called.Called.{Called}
 use Rattle.aoi.specs.Plain.{PlainInterface, PlainOperation}
 use Rattle.pres.specs.Bindings.{Binding}
@@ -18,13 +20,16 @@ use Rattle.back_xdr.specs.Laws.{AreWords, call_of, called_by}
 use Rattle.back_xdr.specs.Leads as xdr_leads
 use Rattle.back_xdr.specs.Procedures.{procedure_of}
 use Rattle.back_xdr.specs.Seeking as xdr_seeking
+use Rattle.back_xdr.specs.Told as xdr_told
 use Rattle.back_xdr.specs.Told.{BeginsCall}
 use Rattle.back_xdr.specs.Words.{IsWord}
-use Rattle.giop_head.specs.declared.header.Way.TheVariants.{Requests}
+use Rattle.giop_head.specs.declared.header.Way.TheVariants.{Requests, Replies}
 use Rattle.giop_head.specs.Call.{Request}
 use Rattle.giop_head.specs.Heads as giop
-use Rattle.giop_head.specs.Laws.{IsRequest}
+use Rattle.giop_head.specs.Items.{laid}
+use Rattle.giop_head.specs.Laws.{IsLong, IsFate, IsRequest}
 use Rattle.giop_head.specs.Printed.{with_size}
+use Rattle.giop_head.specs.Reply as giop_reply
 use Rattle.giop_head.specs.Told.{ToldRequest, BeginsRequest, shared_head}
 use Rattle.back_cdr.specs.Leads as cdr_leads
 use Rattle.back_cdr.specs.Seeking as cdr_seeking
@@ -37,6 +42,7 @@ use Rattle.back_mach.specs.Leads as mach_leads
 use Rattle.back_mach.specs.Routines.{routine_in, routine_of}
 use Rattle.back_mach.specs.Seeking as mach_seeking
 use Rattle.back_mach.specs.Told as mach_told
+use Rattle.flick_engine.specs.Fates.{Heard, fate_of, giop_fate}
 
 -- a back end that engines are made for
 abbrev pub IsMade : Back → Type 0
@@ -132,3 +138,102 @@ SaysOver back.Mach b op head c = IsWord (routine_of b op).id × HasPorts head ×
 -- the head of an operation's call, whose numbers fit, says this
 abbrev pub Says : Binding → ℕ → Head → Called → Type 0
 Says b op head c = SaysOver b.back b op head c
+
+-- ---- the heads of replies that are sent
+
+abbrev pub reply_lead_over : Back → Binding → ℕ → ℕ → Head → List ℕ
+reply_lead_over back.Xdr b op k head = xdr_leads.answer_lead head.id
+reply_lead_over back.CdrBig b op k head = cdr_leads.reply_lead Big (target_of b op) k head.id
+reply_lead_over back.CdrLittle b op k head = cdr_leads.reply_lead Little (target_of b op) k head.id
+reply_lead_over back.Mach b op k head = mach_leads.answer_lead (routine_of b op) head
+
+-- the head of a reply to an operation with an arm: 0 is the answer, k the k-th exception, which CDR alone tells
+abbrev pub reply_lead : Binding → ℕ → ℕ → Head → List ℕ
+reply_lead b op k head = reply_lead_over b.back b op k head
+
+-- ---- the heads of replies that are received
+
+-- the id that a reply to an operation has over Mach
+abbrev pub reply_id : Binding → ℕ → ℕ
+reply_id b op = mach_leads.reply_id (routine_of b op).id
+
+-- how the body of a reply in this order is laid out
+abbrev pub encoding_by : Back → Order → Encoding
+encoding_by back.Xdr r = encoding back.Xdr
+encoding_by back.CdrBig r = laid r
+encoding_by back.CdrLittle r = laid r
+encoding_by back.Mach r = encoding back.Mach
+
+-- the repository ids that replies to an operation tell apart: over CDR those of its exceptions
+abbrev pub ids_over : Back → Binding → ℕ → List (List ℕ)
+ids_over back.CdrBig b op = (target_of b op).ids
+ids_over back.CdrLittle b op = (target_of b op).ids
+ids_over _ b op = []
+
+-- what the head of a reply says, by its status
+abbrev pub heard_over : Back → Binding → ℕ → ReplyHead → Heard
+heard_over k b op r =
+    record { head = r.head; fate = fate_of (ids_over k b op) r.status; encoding = encoding_by k r.head.order; used = r.used }
+
+abbrev pub heard : Binding → ℕ → ReplyHead → Heard
+heard b op r = heard_over b.back b op r
+
+-- what the head of a GIOP reply says: its body lies in the order of its message
+abbrev pub giop_heard : Binding → ℕ → giop_reply.Reply → ℕ → Heard
+giop_heard b op r used =
+    record { head = shared_head r.id true r.order; fate = giop_fate (target_of b op).ids r.fate; encoding = laid r.order; used = used }
+
+-- a message, in either order, begins with the head of a GIOP reply that says this
+abbrev pub RepliesInOrder : Binding → ℕ → List ℕ → Heard → Type 0
+RepliesInOrder b op o t = (r : giop_reply.Reply) × (used : ℕ) × giop.BeginsWith Replies o r used × (giop_heard b op r used ≡ t)
+
+abbrev pub RepliesOver : Back → Binding → ℕ → List ℕ → Heard → Type 0
+RepliesOver back.Xdr b op o t = (r : ReplyHead) × xdr_told.BeginsReply o r × (heard_over back.Xdr b op r ≡ t)
+RepliesOver back.CdrBig b op o t = RepliesInOrder b op o t
+RepliesOver back.CdrLittle b op o t = RepliesInOrder b op o t
+RepliesOver back.Mach b op o t = (r : ReplyHead) × mach_told.BeginsReply (reply_id b op) o r × (heard_over back.Mach b op r ≡ t)
+
+-- a message begins with the head of a reply to an operation that says this
+abbrev pub BeginsReply : Binding → ℕ → List ℕ → Heard → Type 0
+BeginsReply b op o t = RepliesOver b.back b op o t
+
+abbrev pub ReplyStopsOver : Back → Binding → ℕ → List ℕ → HeadErr → Type 0
+ReplyStopsOver back.Xdr b op o e = xdr.StopsWith xdr.reply o e
+ReplyStopsOver back.CdrBig b op o e = giop.StopsWith Replies o e
+ReplyStopsOver back.CdrLittle b op o e = giop.StopsWith Replies o e
+ReplyStopsOver back.Mach b op o e = mach.StopsWith (mach.reply (reply_id b op)) o e
+
+-- the first item of the head of a reply to an operation that is cut off or wrong
+abbrev pub ReplyStops : Binding → ℕ → List ℕ → HeadErr → Type 0
+ReplyStops b op o e = ReplyStopsOver b.back b op o e
+
+-- ---- the heads of replies that are sent, as they are received
+
+-- what the head of an ONC reply that answers a call is received as
+abbrev pub answer_of : ℕ → ReplyHead
+answer_of id = record { head = xdr_told.shared_head id; status = Answer; used = xdr_leads.answer_lead_length }
+
+-- how a request fared that is answered, or for which an exception of its operation is raised
+abbrev pub giop_fate_of : Target → ℕ → giop_reply.Fate
+giop_fate_of t zero = giop_reply.answer
+giop_fate_of t (suc k) = giop_reply.user (slice_index_or t.ids k [])
+
+-- what the head of a GIOP reply in this order is received as
+abbrev pub giop_answer : Order → Target → ℕ → ℕ → giop_reply.Reply
+giop_answer r t k id = record { order = r; id = id; fate = giop_fate_of t k }
+
+-- the head of a GIOP reply in this order says this
+abbrev pub TellsInOrder : Order → Binding → ℕ → ℕ → Head → Heard → Type 0
+TellsInOrder r b op k head t =
+    IsLong head.id × IsFate (giop_fate_of (target_of b op) k)
+    × (giop_heard b op (giop_answer r (target_of b op) k head.id) (length (cdr_leads.reply_lead r (target_of b op) k head.id)) ≡ t)
+
+abbrev pub TellsOver : Back → Binding → ℕ → ℕ → Head → Heard → Type 0
+TellsOver back.Xdr b op k head t = IsWord head.id × (heard_over back.Xdr b op (answer_of head.id) ≡ t)
+TellsOver back.CdrBig b op k head t = TellsInOrder Big b op k head t
+TellsOver back.CdrLittle b op k head t = TellsInOrder Little b op k head t
+TellsOver back.Mach b op k head t = HasPorts head × (heard_over back.Mach b op (mach_laws.reply_of head.remote Answer) ≡ t)
+
+-- the head of a reply to an operation with an arm, whose numbers fit, says this
+abbrev pub Tells : Binding → ℕ → ℕ → Head → Heard → Type 0
+Tells b op k head t = TellsOver b.back b op k head t

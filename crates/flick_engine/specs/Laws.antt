@@ -1,8 +1,8 @@
 -- Laws of what messages are.
-use Rattle.std.specs.Prelude.{◌≡◌, ◌<◌, ℕ, List, length, Result, Ok}
+use Rattle.std.specs.Prelude.{◌≡◌, ◌<◌, ℕ, pos, List, length, Result, Ok}
 use Rattle.mint.specs.Sound.{IsSound}
 use Rattle.mint.specs.Typed.{IsWellTyped}
-use Rattle.mint.specs.Values.{Val}
+use Rattle.mint.specs.Values.{Val, arm}
 use Rattle.wire_def.specs.declared.head.Head.{Head}
 use Rattle.wire_def.specs.Grammar.{AreOctets}
 use Rattle.call_kit.specs.declared.called.Called.{Called}
@@ -10,12 +10,16 @@ use Rattle.call_kit.specs.declared.called.Naming.TheVariants.{Operation}
 use Rattle.aoi.specs.Plain.{PlainInterface, PlainOperation}
 use Rattle.pres.specs.Bindings.{Binding, IsBinding}
 use Rattle.pres.specs.Faces.{type_of}
-use Rattle.pres.specs.Offers.{type_faces, request_of}
+use Rattle.pres.specs.Offers.{type_faces, request_of, reply_of}
 use Rattle.flick_engine.specs.declared.errors.MessageErr.{MessageErr}
-use Rattle.flick_engine.specs.Backs.{IsMade, AsksFor, Begins, Says}
+use Rattle.flick_engine.specs.declared.replies.Fate.TheVariants.{Arm}
+use Rattle.flick_engine.specs.Backs.{IsMade, AsksFor, Begins, Says, Tells}
+use Rattle.flick_engine.specs.Fates.{Heard}
 use Rattle.flick_engine.specs.Messages.{request_type, message}
 use Rattle.flick_engine.specs.Operations.{IsOperation}
 use Rattle.flick_engine.specs.Received.{Asked, IsShort, ReadCall}
+use Rattle.flick_engine.specs.Replies.{reply_type, arm_type, arm_message}
+use Rattle.flick_engine.specs.RepliesReceived.{Replied, answered, ReadReply}
 
 -- what a message is, is determined
 abbrev pub IsDetermined : Type 0
@@ -41,3 +45,25 @@ AreTheUnits = (b : Binding) (op : ℕ) → IsBinding b → op < length b.ops
 abbrev pub AreAskedFor : Type 0
 AreAskedFor = (b : Binding) (o : List ℕ) (c : Called) (op : ℕ) → Begins b o c → c.naming ≡ Operation op
     → (i : PlainInterface) × (p : PlainOperation) × IsOperation b op i p × AsksFor b.back i p o
+
+-- what comes back from an operation is what its unit has: the answer or an exception of the one of the number
+abbrev pub AreTheReplies : Type 0
+AreTheReplies = (b : Binding) (op : ℕ) → IsBinding b → op < length b.ops
+    → (i : PlainInterface) × (p : PlainOperation) × IsOperation b op i p
+    × (reply_type b op ≡ type_of (reply_of (type_faces b.unit) p))
+
+-- what a message is as a reply to an operation is determined
+abbrev pub IsReplyDetermined : Type 0
+IsReplyDetermined = (b : Binding) (op : ℕ) (o : List ℕ) (x y : Result Replied MessageErr)
+    → ReadReply b op o x → ReadReply b op o y → x ≡ y
+
+-- octets are something as a reply, where the types of the operation's arms are sound
+abbrev pub IsReplySomething : Type 0
+IsReplySomething = (b : Binding) (op : ℕ) → ((k : ℕ) → IsSound (arm_type b op k))
+    → (o : List ℕ) → AreOctets o → (x : Result Replied MessageErr) × ReadReply b op o x
+
+-- the message of a reply whose head tells its arm is read as the reply
+abbrev pub IsReplyReadBack : Type 0
+IsReplyReadBack = (b : Binding) (op k : ℕ) (head : Head) (w : Val) (t : Heard) → Tells b op k head t → t.fate ≡ Arm k
+    → IsWellTyped (arm_type b op k) w → IsShort (arm_message b op k head w)
+    → ReadReply b op (arm_message b op k head w) (Ok (record { head = t.head; came = answered (arm (pos k) w) }))

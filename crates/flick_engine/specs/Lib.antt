@@ -1,6 +1,9 @@
+pub mod Fates
 pub mod Backs
 pub mod Engines
 pub mod Messages
 pub mod Operations
 pub mod Received
+pub mod Replies
+pub mod RepliesReceived
 pub mod Laws

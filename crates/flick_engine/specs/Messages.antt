@@ -16,6 +16,10 @@ request_type b op = type_at b.nodes (slice_index_or (map (λ (o : Op). o.request
 abbrev pub parts : Binding → ℕ → Head → Val → List ℕ
 parts b op head v = lead b op head ++ send (encoding b.back) (request_type b op) (length (lead b op head)) v
 
+-- octets, and a value of a node at the position after them
+abbrev pub with_value : Binding → List ℕ → ℕ → Val → List ℕ
+with_value b o id v = o ++ send (encoding b.back) (type_at b.nodes id) (length o) v
+
 -- the two, in which the length of the whole is told
 abbrev pub message : Binding → ℕ → Head → Val → List ℕ
 message b op head v = sized b.back (parts b op head v)

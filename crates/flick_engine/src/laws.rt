@@ -1,5 +1,5 @@
 // The laws of messages, each the contract of a function that does nothing.
-ghost use Rattle.flick_engine.specs.Laws.{AreAskedFor, AreTheUnits, IsDetermined, IsReadBack, IsSomething};
+ghost use Rattle.flick_engine.specs.Laws.{AreAskedFor, AreTheReplies, AreTheUnits, IsDetermined, IsReadBack, IsReplyDetermined, IsReplyReadBack, IsReplySomething, IsSomething};
 
 /// Octets are a request or have a first fault: one of them, and no other.
 pub fn messages_are_decided()
@@ -17,4 +17,21 @@ pub fn messages_are_read_back()
 pub fn operations_are_the_units()
     ensures parameters { AreTheUnits }
     ensures asked { AreAskedFor }
+{}
+
+/// What comes back from an operation of a binding is what the operation of its unit has: the answer,
+/// or one of its exceptions.
+pub fn replies_are_the_units()
+    ensures { AreTheReplies }
+{}
+
+/// Octets are a reply to an operation or have a first fault: one of them, and no other.
+pub fn replies_are_decided()
+    ensures determined { IsReplyDetermined }
+    ensures something { IsReplySomething }
+{}
+
+/// A reply that is sent is what is received.
+pub fn replies_are_read_back()
+    ensures { IsReplyReadBack }
 {}

@@ -4,14 +4,23 @@
 mod backs;
 mod engine;
 mod errors;
+mod exceptions;
 mod laws;
 mod marshal;
+mod marshal_reply;
 mod operations;
+mod replies;
+mod reply_leads;
 mod requests;
 mod unmarshal;
+mod unmarshal_reply;
 
 pub use backs::back_of;
 pub use engine::Engine;
 pub use errors::{MarshalErr, MessageErr};
-pub use laws::{messages_are_decided, messages_are_read_back, operations_are_the_units};
+pub use laws::{
+    messages_are_decided, messages_are_read_back, operations_are_the_units, replies_are_decided,
+    replies_are_read_back, replies_are_the_units,
+};
+pub use replies::Reply;
 pub use requests::Request;

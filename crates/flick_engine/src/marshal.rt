@@ -2,14 +2,18 @@
 ghost use Rattle.std.specs.Prelude.{◌≡◌, ◌↔◌, ◌<◌, ◌≤◌, ◌+◌, ◌++◌, [], length, OnErr, OnOk, Err, IfOk, IfErr};
 ghost use Rattle.kit_base.specs.Limits.{longest_message};
 ghost use Rattle.mint.specs.Typed.{IsWellTyped};
+ghost use Rattle.mint.specs.Types.{type_at};
 ghost use Rattle.mint.specs.Values.{seen};
 ghost use Rattle.raw_buf.specs.Buf.{NoneFell};
-ghost use Rattle.flick_engine.specs.Messages.{request_type, message};
+ghost use Rattle.flick_engine.specs.Backs.{sized};
+ghost use Rattle.flick_engine.specs.Messages.{request_type, message, with_value};
+ghost use Rattle.flick_engine.specs.Received.{IsShort};
 
 use crate::engine::Engine;
 use crate::errors::MarshalErr;
 use kit_base::Octets;
 use kit_base::limits::LONGEST_MESSAGE;
+use mint::table::NodeId;
 use mint::value::Value;
 use plain_wire::plain_send;
 use raw_buf::SendBuf;
@@ -58,9 +62,29 @@ impl Engine {
         ensures spent { NoneFell buf.old.spent buf.new.spent }
     {
         self.put_lead(alloc, op, head, buf)?;
+        self.put_value(alloc, self.request(op), value, buf)
+    }
+
+    /// Puts the value of a node after the head of its message, and tells the length of the whole.
+    pub(crate) fn put_value(
+        &self,
+        alloc: Global,
+        id: NodeId,
+        value: &Value,
+        buf: &mut SendBuf,
+    ) -> Result<(), MarshalErr>
+        requires id { id < length self.now.binding.nodes }
+        requires typed { IsWellTyped (type_at self.now.binding.nodes id) (seen value.now) }
+        requires head { 12 ≤ length buf.old.done }
+        ensures ok { OnOk result (buf.new.done
+            ≡ sized self.now.binding.back (with_value self.now.binding buf.old.done id (seen value.now))) }
+        ensures short { OnOk result (IsShort (with_value self.now.binding buf.old.done id (seen value.now))) }
+        ensures long { (result ≡ Err MarshalErr.Long)
+            → longest_message < length (with_value self.now.binding buf.old.done id (seen value.now)) }
+        ensures spent { NoneFell buf.old.spent buf.new.spent }
+    {
         let position = position_in(buf)?;
         let mint = self.bound().mint();
-        let id = self.request(op);
         let mut body = Octets::new(alloc);
         plain_send(self.encoding(), mint, id, position, value, &mut body)?;
         put_body(body.as_slice(), buf)?;
@@ -70,7 +94,7 @@ impl Engine {
 }
 
 /// What was answered, the buffer empty where it is not Ok.
-fn emptied(made: Result<(), MarshalErr>, out: &mut SendBuf) -> Result<(), MarshalErr>
+pub(crate) fn emptied(made: Result<(), MarshalErr>, out: &mut SendBuf) -> Result<(), MarshalErr>
     ensures same { result ≡ made }
     ensures ok { OnOk result (out.new ≡ out.old) }
     ensures err { OnErr result (out.new.done ≡ []) }

@@ -1,0 +1,120 @@
+-- An arm that the head of a reply tells is one of the operation's reply.
+use Rattle.std.proofs.Common.{◌≡◌, ◌+◌, ◌<◌, ◌≤◌, ℕ, zero, suc, Bool, true, false, List, [], ◌∷◌, ◌++◌, map, length, Option, Some, None, refl, sym, ap, ◌∙◌, subst, arith}
+use Rattle.std.specs.Prelude.{IsTrue, is_some, if◌then◌else◌, slice_get, slice_index_or, option_map}
+use Rattle.std.specs.List.{position_from}
+use Rattle.std.specs.Str.{bytes_eq}
+use Rattle.std.proofs.lemmas.List.{map-append, length-map}
+use Rattle.std.proofs.lemmas.Option.{slice_get-map}
+use Rattle.std.proofs.lemmas.Simd.{map-map}
+use Rattle.wire_def.specs.declared.encoding.Back.{Back}
+use Rattle.wire_def.specs.declared.encoding.Back.TheVariants as back
+use Rattle.wire_def.specs.declared.reply.Status.{Status}
+use Rattle.wire_def.specs.declared.reply.Status.TheVariants as status
+use Rattle.mint.specs.Types.{Ty}
+use Rattle.aoi.specs.Plain.{PlainRaise, PlainInterface, PlainOperation}
+use Rattle.pres.specs.Bindings.{Binding, IsBinding}
+use Rattle.pres.specs.Offers.{operations, type_faces}
+use Rattle.giop_head.specs.Reply as giop_reply
+use Rattle.back_cdr.specs.Targets.{IsCdr, Target, no_target, target_in, targets_in, targets, target_of}
+use Rattle.back_cdr.proofs.Counting.{own_alone}
+use Rattle.flick_engine.specs.declared.replies.Fate.TheVariants as fates
+use Rattle.flick_engine.specs.Backs.{RepliesInOrder, RepliesOver, BeginsReply}
+use Rattle.flick_engine.specs.Fates.{Heard, raised_at, fate_of, giop_fate}
+use Rattle.flick_engine.specs.Operations.{operations_in}
+use Rattle.flick_engine.specs.Replies.{arm_type_in, HasArm}
+use Rattle.flick_engine.proofs.Arming.{arm_there}
+use Rattle.flick_engine.proofs.ReplyTypes.{are_the_replies}
+
+-- ---- what a status tells
+
+-- without exceptions a status tells the answer alone
+arm_zero : (s : Status) (k : ℕ) → fate_of [] s ≡ fates.Arm k → k ≡ 0
+arm_zero status.Answer k e = cc
+arm_zero status.ProgUnavail k e = absurd cc
+arm_zero (status.ProgMismatch low high) k e = absurd cc
+arm_zero status.ProcUnavail k e = absurd cc
+arm_zero status.GarbageArgs k e = absurd cc
+arm_zero status.SystemErr k e = absurd cc
+arm_zero (status.RpcMismatch low high) k e = absurd cc
+arm_zero (status.AuthError why) k e = absurd cc
+arm_zero (status.User id) k e = absurd cc
+arm_zero (status.System id minor completion) k e = absurd cc
+arm_zero (status.RetCode code) k e = absurd cc
+
+module _ {A : Type 0} (p : A → Bool) where
+  below_step : (t : Bool) (n k : ℕ) (x : A) (xs : List A) → (position_from p (n + 1) xs ≡ Some k → k < (n + 1) + length xs)
+      → (if t then Some n else position_from p (n + 1) xs) ≡ Some k → k < n + length (x ∷ xs)
+  below_step true n k x xs later e =
+      let same : n ≡ k = cc in
+      omega (arith, same)
+  below_step false n k x xs later e = let h = later e in omega (arith, h)
+
+  -- a place that is found lies within the list
+  below : (n k : ℕ) (xs : List A) → position_from p n xs ≡ Some k → k < n + length xs
+  below n k [] e = absurd cc
+  below n k (x ∷ xs) e = below_step (p x) n k x xs (below (n + 1) k xs) e
+
+found_at : (id : List ℕ) (o : Option ℕ) (k : ℕ) → raised_at id o ≡ fates.Arm k → o ≡ Some k
+found_at id None k e = absurd cc
+found_at id (Some j) k e =
+    let same : j ≡ k = cc in
+    ap (λ (n : ℕ). Some n) same
+
+arm_few : (ids : List (List ℕ)) (f : giop_reply.Fate) (k : ℕ) → giop_fate ids f ≡ fates.Arm k → k ≤ length ids
+arm_few ids giop_reply.answer k e =
+    let none : 0 ≡ k = cc in
+    omega (arith, none)
+arm_few ids (giop_reply.user id) k e =
+    let h = below (bytes_eq id) 1 k ids (found_at id (position_from (bytes_eq id) 1 ids) k e) in
+    omega (arith, h)
+arm_few ids (giop_reply.system id minor completion) k e = absurd cc
+
+-- ---- the exceptions of an operation
+
+abbrev target_at : PlainInterface × PlainOperation → Target
+target_at q = target_in q.0 q.1
+
+targets_are : (k : Back) → IsCdr k → (is : List PlainInterface) → targets is ≡ map target_at (operations_in k is)
+targets_are k cdr [] = refl
+targets_are k cdr (i ∷ is) =
+    let first : targets_in i ≡ map target_at (map (λ (p : PlainOperation). (i, p)) (operations k i)) =
+    sym (map-map target_at (λ (p : PlainOperation). (i, p)) (operations k i) ∙ ap (map (target_in i)) (own_alone k i cdr)) in
+    ap (λ (l : List Target). l ++ targets is) first
+    ∙ ap (λ (l : List Target). map target_at (map (λ (p : PlainOperation). (i, p)) (operations k i)) ++ l) (targets_are k cdr is)
+    ∙ sym (map-append target_at (map (λ (p : PlainOperation). (i, p)) (operations k i)) (operations_in k is))
+
+here : {A : Type 0} (xs : List A) (n : ℕ) (x d : A) → slice_get xs n ≡ Some x → slice_index_or xs n d ≡ x
+here [] n x d e = absurd cc
+here (y ∷ xs) zero x d e = cc
+here (y ∷ xs) (suc n) x d e = here xs n x d e
+
+-- the ids that replies tell apart are those of the operation's exceptions
+many_ids : (k : Back) → IsCdr k → (b : Binding) (op : ℕ) (i : PlainInterface) (p : PlainOperation) → slice_get (operations_in k b.unit.interfaces) op ≡ Some (i, p)
+    → length (target_of b op).ids ≡ length p.raises
+many_ids k cdr b op i p is =
+    let there : slice_get (targets b.unit.interfaces) op ≡ Some (target_in i p) =
+    ap (λ (l : List Target). slice_get l op) (targets_are k cdr b.unit.interfaces) ∙ slice_get-map target_at (operations_in k b.unit.interfaces) op ∙ ap (option_map target_at) is in
+    ap (λ (t : Target). length t.ids) (here (targets b.unit.interfaces) op (target_in i p) no_target there) ∙ length-map p.raises (λ (r : PlainRaise). r.id)
+
+-- ---- the arms that replies tell
+
+module _ (b : Binding) (op : ℕ) (i : PlainInterface) (p : PlainOperation) (o : List ℕ) (t : Heard) (n : ℕ) (arm : t.fate ≡ fates.Arm n) where
+  giop_few : (k : Back) → IsCdr k → slice_get (operations_in k b.unit.interfaces) op ≡ Some (i, p) → RepliesInOrder b op o t → n ≤ length p.raises
+  giop_few k cdr is (r, used, starts, told) =
+      let most = arm_few (target_of b op).ids r.fate n (ap (λ (x : Heard). x.fate) told ∙ arm) in
+      omega (arith, most, many_ids k cdr b op i p is)
+
+  few_over : (k : Back) → slice_get (operations_in k b.unit.interfaces) op ≡ Some (i, p) → RepliesOver k b op o t → n ≤ length p.raises
+  few_over back.Xdr is (r, starts, told) =
+      let none = arm_zero r.status n (ap (λ (x : Heard). x.fate) told ∙ arm) in
+      omega (arith, none)
+  few_over back.CdrBig is begins = giop_few back.CdrBig refl is begins
+  few_over back.CdrLittle is begins = giop_few back.CdrLittle refl is begins
+  few_over back.Mach is (r, starts, told) =
+      let none = arm_zero r.status n (ap (λ (x : Heard). x.fate) told ∙ arm) in
+      omega (arith, none)
+
+pub told_arm : (b : Binding) (op : ℕ) → IsBinding b → op < length b.ops → (o : List ℕ) (t : Heard) (k : ℕ) → BeginsReply b op o t → t.fate ≡ fates.Arm k → HasArm b op k
+told_arm b op stands h o t k begins arm =
+    let (i, p, is, same) = are_the_replies b op stands h in
+    subst (λ (s : Ty). IsTrue (is_some (arm_type_in s k))) (sym same) (arm_there (type_faces b.unit) p k (few_over b op i p o t k arm b.back is begins))

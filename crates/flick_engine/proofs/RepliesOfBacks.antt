@@ -1,0 +1,230 @@
+-- What holds of the heads of replies over each back end.
+use Rattle.std.proofs.Common.{◌≡◌, ◌⊎◌, inl, inr, ℕ, ◌≤◌, List, length, Some, refl, sym, ap, ◌∙◌, subst, arith}
+use Rattle.std.specs.Prelude.{◌↔◌, true, Result, Ok, Err, IfOk, IfErr}
+use Rattle.wire_def.specs.declared.encoding.Back.{Back}
+use Rattle.wire_def.specs.declared.encoding.Back.TheVariants as back
+use Rattle.wire_def.specs.declared.encoding.Encoding.{Encoding}
+use Rattle.wire_def.specs.declared.fault.HeadErr.{HeadErr}
+use Rattle.wire_def.specs.declared.head.Head.{Head}
+use Rattle.wire_def.specs.declared.head.Order.TheVariants.{Big, Little}
+use Rattle.wire_def.specs.declared.reply.ReplyHead.{ReplyHead}
+use Rattle.wire_def.specs.declared.reply.Status.{Status}
+use Rattle.wire_def.specs.declared.reply.Status.TheVariants as status
+use Rattle.wire_def.specs.Grammar.{AreOctets}
+use Rattle.pres.specs.Bindings.{Binding}
+use Rattle.back_xdr.specs.Heads as xdr
+use Rattle.back_xdr.specs.Reply as xdr_reply
+use Rattle.back_xdr.specs.Told as xdr_told
+use Rattle.back_xdr.proofs.Lawful as xdr_lawful
+use Rattle.giop_head.specs.declared.header.Way.TheVariants.{Replies}
+use Rattle.giop_head.specs.Heads as giop
+use Rattle.giop_head.specs.Items.{laid}
+use Rattle.giop_head.specs.Reply as giop_reply
+use Rattle.giop_head.specs.Told as giop_told
+use Rattle.giop_head.proofs.Lawful as giop_lawful
+use Rattle.giop_head.proofs.Sent.{begins}
+use Rattle.back_cdr.specs.Targets.{IsCdr, target_of}
+use Rattle.back_cdr.proofs.Growing.{reply_long, reply_length}
+use Rattle.back_mach.specs.Heads as mach
+use Rattle.back_mach.specs.Reply as mach_reply
+use Rattle.back_mach.specs.Told as mach_told
+use Rattle.back_mach.proofs.Lawful as mach_lawful
+use Rattle.flick_engine.specs.declared.replies.Fate.{Fate}
+use Rattle.flick_engine.specs.Backs.{reply_lead_over, reply_id, heard_over, heard, giop_heard, RepliesInOrder, RepliesOver, BeginsReply, ReplyStopsOver, ReplyStops}
+use Rattle.flick_engine.specs.Fates.{Heard, fate_of, giop_fate}
+
+-- ---- the heads that are received
+
+-- a message has one head, or one first fault of its head, and not both; the head lies within it
+pub record IsOneReply (o : List ℕ) (Begins : Heard → Type 0) (Stops : HeadErr → Type 0) : Type 0 where
+  pub within : (t : Heard) → Begins t → t.used ≤ length o
+  pub not_both : (t : Heard) (e : HeadErr) → Begins t → Stops e → ⊥
+  pub one_head : (t u : Heard) → Begins t → Begins u → t ≡ u
+  pub one_fault : (d e : HeadErr) → Stops d → Stops e → d ≡ e
+
+-- it has the one or the other
+abbrev pub HasReply : (Heard → Type 0) → (HeadErr → Type 0) → Type 0
+HasReply Begins Stops = ((t : Heard) × Begins t) ⊎ ((e : HeadErr) × Stops e)
+
+module _ (b : Binding) (op : ℕ) (o : List ℕ) where
+  -- ONC
+  xdr_viewed : xdr_reply.Reply → ℕ → Heard
+  xdr_viewed h used = heard_over back.Xdr b op (xdr_told.reply_told h used)
+
+  xdr_one : (t u : Heard) → RepliesOver back.Xdr b op o t → RepliesOver back.Xdr b op o u → t ≡ u
+  xdr_one t u (r, (h, used, starts, told), is) (s, (j, m, starts', told'), is') =
+      let same = xdr_lawful.one_head xdr.reply o h j used m starts starts' in
+      sym is ∙ ap (heard_over back.Xdr b op) (sym told ∙ ap (λ (x : xdr_reply.Reply). xdr_told.reply_told x used) same.0 ∙ ap (xdr_told.reply_told j) same.1 ∙ told') ∙ is'
+
+  xdr_one_reply : IsOneReply o (RepliesOver back.Xdr b op o) (ReplyStopsOver back.Xdr b op o)
+  xdr_one_reply = record {
+    within = λ t (r, (h, used, starts, told), is). rw (← is, ← told) starts.0;
+    not_both = λ t e (r, (h, used, starts, told), is) stops. xdr_lawful.not_both xdr.reply o h used e starts stops;
+    one_head = xdr_one;
+    one_fault = xdr_lawful.one_fault xdr.reply o;
+  }
+
+  xdr_found : ((h : xdr_reply.Reply) × (used : ℕ) × xdr.BeginsWith xdr.reply o h used) ⊎ ((e : HeadErr) × xdr.StopsWith xdr.reply o e)
+      → HasReply (RepliesOver back.Xdr b op o) (ReplyStopsOver back.Xdr b op o)
+  xdr_found (inl (h, used, starts)) = inl (_, (xdr_told.reply_told h used, (h, used, starts, refl), refl))
+  xdr_found (inr (e, stops)) = inr (e, stops)
+
+  -- GIOP
+  giop_one : (t u : Heard) → RepliesInOrder b op o t → RepliesInOrder b op o u → t ≡ u
+  giop_one t u (r, used, starts, is) (s, m, starts', is') =
+      let same = giop_lawful.one_head Replies o r s used m starts starts' in
+      sym is ∙ ap (λ (x : giop_reply.Reply). giop_heard b op x used) same.0 ∙ ap (giop_heard b op s) same.1 ∙ is'
+
+  giop_one_reply : IsOneReply o (RepliesInOrder b op o) (giop.StopsWith Replies o)
+  giop_one_reply = record {
+    within = λ t (r, used, starts, is). rw (← is) starts.0;
+    not_both = λ t e (r, used, starts, is) stops. giop_lawful.not_both Replies o r used e starts stops;
+    one_head = giop_one;
+    one_fault = giop_lawful.one_fault Replies o;
+  }
+
+  giop_found : ((h : giop_reply.Reply) × (used : ℕ) × giop.BeginsWith Replies o h used) ⊎ ((e : HeadErr) × giop.StopsWith Replies o e)
+      → HasReply (RepliesInOrder b op o) (giop.StopsWith Replies o)
+  giop_found (inl (h, used, starts)) = inl (_, (h, used, starts, refl))
+  giop_found (inr (e, stops)) = inr (e, stops)
+
+  -- Mach
+  abbrev way : mach.Way
+  way = mach.reply (reply_id b op)
+
+  mach_one : (t u : Heard) → RepliesOver back.Mach b op o t → RepliesOver back.Mach b op o u → t ≡ u
+  mach_one t u (r, (h, used, starts, told), is) (s, (j, m, starts', told'), is') =
+      let same = mach_lawful.one_head way o h j used m starts starts' in
+      sym is ∙ ap (heard_over back.Mach b op) (sym told ∙ ap (λ (x : mach_reply.Reply). mach_told.reply_told x used) same.0 ∙ ap (mach_told.reply_told j) same.1 ∙ told') ∙ is'
+
+  mach_one_reply : IsOneReply o (RepliesOver back.Mach b op o) (ReplyStopsOver back.Mach b op o)
+  mach_one_reply = record {
+    within = λ t (r, (h, used, starts, told), is). rw (← is, ← told) starts.0;
+    not_both = λ t e (r, (h, used, starts, told), is) stops. mach_lawful.not_both way o h used e starts stops;
+    one_head = mach_one;
+    one_fault = mach_lawful.one_fault way o;
+  }
+
+  mach_found : ((h : mach_reply.Reply) × (used : ℕ) × mach.BeginsWith way o h used) ⊎ ((e : HeadErr) × mach.StopsWith way o e)
+      → HasReply (RepliesOver back.Mach b op o) (ReplyStopsOver back.Mach b op o)
+  mach_found (inl (h, used, starts)) = inl (_, (mach_told.reply_told h used, (h, used, starts, refl), refl))
+  mach_found (inr (e, stops)) = inr (e, stops)
+
+  one_reply_over : (k : Back) → IsOneReply o (RepliesOver k b op o) (ReplyStopsOver k b op o)
+  one_reply_over back.Xdr = xdr_one_reply
+  one_reply_over back.CdrBig = giop_one_reply
+  one_reply_over back.CdrLittle = giop_one_reply
+  one_reply_over back.Mach = mach_one_reply
+
+  -- a message has one head of a reply, or one fault of it
+  pub one_reply : IsOneReply o (BeginsReply b op o) (ReplyStops b op o)
+  one_reply = one_reply_over b.back
+
+  has_reply_over : (k : Back) → AreOctets o → HasReply (RepliesOver k b op o) (ReplyStopsOver k b op o)
+  has_reply_over back.Xdr oct = xdr_found (xdr_lawful.heads_are_decided xdr.reply o oct).either
+  has_reply_over back.CdrBig oct = giop_found (giop_lawful.heads_are_decided Replies o oct).either
+  has_reply_over back.CdrLittle oct = giop_found (giop_lawful.heads_are_decided Replies o oct).either
+  has_reply_over back.Mach oct = mach_found (mach_lawful.heads_are_decided way o oct).either
+
+  -- octets have a head of a reply, or a fault of it
+  pub has_reply : AreOctets o → HasReply (BeginsReply b op o) (ReplyStops b op o)
+  has_reply oct = has_reply_over b.back oct
+
+-- ---- what is read of a head is what it says
+
+-- what the status of a GIOP reply tells
+fate_same : (ids : List (List ℕ)) (s : Status) (f : giop_reply.Fate) → Some f ≡ giop_told.fate_seen s → giop_fate ids f ≡ fate_of ids s
+fate_same ids status.Answer f e =
+    let same : f ≡ giop_reply.answer = cc in
+    ap (giop_fate ids) same
+fate_same ids (status.User id) f e =
+    let same : f ≡ giop_reply.user id.now = cc in
+    ap (giop_fate ids) same
+fate_same ids (status.System id minor completion) f e =
+    let same : f ≡ giop_reply.system id.now minor completion = cc in
+    ap (giop_fate ids) same
+fate_same ids status.ProgUnavail f e = absurd cc
+fate_same ids (status.ProgMismatch low high) f e = absurd cc
+fate_same ids status.ProcUnavail f e = absurd cc
+fate_same ids status.GarbageArgs f e = absurd cc
+fate_same ids status.SystemErr f e = absurd cc
+fate_same ids (status.RpcMismatch low high) f e = absurd cc
+fate_same ids (status.AuthError why) f e = absurd cc
+fate_same ids (status.RetCode code) f e = absurd cc
+
+abbrev hearing : Head → Fate → Encoding → ℕ → Heard
+hearing h f e used = record { head = h; fate = f; encoding = e; used = used }
+
+heard_same : (ids : List (List ℕ)) (y : giop_reply.Reply) (used : ℕ) (r : ReplyHead) → giop_told.reply_told y used ≡ giop_told.reply_seen r
+    → hearing (giop_told.shared_head y.id true y.order) (giop_fate ids y.fate) (laid y.order) used ≡ hearing r.head (fate_of ids r.status) (laid r.head.order) r.used
+heard_same ids y used r e =
+    let heads : giop_told.shared_head y.id true y.order ≡ r.head = ap (λ (x : giop_told.ToldReply). x.head) e in
+    let fates : giop_fate ids y.fate ≡ fate_of ids r.status = fate_same ids r.status y.fate (ap (λ (x : giop_told.ToldReply). x.fate) e) in
+    ap (λ (h : Head). hearing h (giop_fate ids y.fate) (laid y.order) used) heads
+    ∙ ap (λ (f : Fate). hearing r.head f (laid y.order) used) fates
+    ∙ ap (λ (h : Head). hearing r.head (fate_of ids r.status) (laid h.order) used) heads
+    ∙ ap (hearing r.head (fate_of ids r.status) (laid r.head.order)) (ap (λ (x : giop_told.ToldReply). x.used) e)
+
+-- one of the two back ends over CDR
+pub either_cdr : (k : Back) → (k ≡ back.CdrBig) ⊎ (k ≡ back.CdrLittle) → IsCdr k
+either_cdr k (inl is) = subst IsCdr (sym is) refl
+either_cdr k (inr is) = subst IsCdr (sym is) refl
+
+module _ (b : Binding) (op : ℕ) (o : List ℕ) where
+  over : (k : Back) (r : ReplyHead) → b.back ≡ k → RepliesOver k b op o (heard_over k b op r) → BeginsReply b op o (heard b op r)
+  over k r is h = subst (λ (m : Back). RepliesOver m b op o (heard_over m b op r)) (sym is) h
+
+  stops_over : (k : Back) (e : HeadErr) → b.back ≡ k → ReplyStopsOver k b op o e → ReplyStops b op o e
+  stops_over k e is h = subst (λ (m : Back). ReplyStopsOver m b op o e) (sym is) h
+
+  pub xdr_read : (x : Result ReplyHead HeadErr) → b.back ≡ back.Xdr → ((r : ReplyHead) → (x ≡ Ok r) ↔ xdr_told.BeginsReply o r)
+      → IfOk x (λ r. BeginsReply b op o (heard b op r))
+  xdr_read (Ok r) is h = over back.Xdr r is (r, (h r).0 refl, refl)
+  xdr_read (Err e) is h = tt
+
+  pub xdr_faults : (x : Result ReplyHead HeadErr) → b.back ≡ back.Xdr → ((e : HeadErr) → (x ≡ Err e) ↔ xdr.StopsWith xdr.reply o e) → IfErr x (λ e. ReplyStops b op o e)
+  xdr_faults (Ok r) is h = tt
+  xdr_faults (Err e) is h = stops_over back.Xdr e is ((h e).0 refl)
+
+  giop_told_as : (k : Back) → IsCdr k → (r : ReplyHead) → giop_told.BeginsReply o (giop_told.reply_seen r) → RepliesOver k b op o (heard_over k b op r)
+  giop_told_as back.CdrBig cdr r (y, used, starts, told) = (y, used, starts, heard_same (target_of b op).ids y used r told)
+  giop_told_as back.CdrLittle cdr r (y, used, starts, told) = (y, used, starts, heard_same (target_of b op).ids y used r told)
+  giop_told_as back.Xdr cdr r begins = absurd cc
+  giop_told_as back.Mach cdr r begins = absurd cc
+
+  pub giop_read : (x : Result ReplyHead HeadErr) → IsCdr b.back → ((r : giop_told.ToldReply) → giop_told.Tells giop_told.reply_seen x r ↔ giop_told.BeginsReply o r)
+      → IfOk x (λ r. BeginsReply b op o (heard b op r))
+  giop_read (Ok r) cdr h = giop_told_as b.back cdr r ((h (giop_told.reply_seen r)).0 refl)
+  giop_read (Err e) cdr h = tt
+
+  giop_stop : (k : Back) → IsCdr k → (e : HeadErr) → giop.StopsWith Replies o e → ReplyStopsOver k b op o e
+  giop_stop back.CdrBig cdr e stops = stops
+  giop_stop back.CdrLittle cdr e stops = stops
+  giop_stop back.Xdr cdr e stops = absurd cc
+  giop_stop back.Mach cdr e stops = absurd cc
+
+  pub giop_faults : (x : Result ReplyHead HeadErr) → IsCdr b.back → ((e : HeadErr) → (x ≡ Err e) ↔ giop.StopsWith Replies o e) → IfErr x (λ e. ReplyStops b op o e)
+  giop_faults (Ok r) cdr h = tt
+  giop_faults (Err e) cdr h = giop_stop b.back cdr e ((h e).0 refl)
+
+  pub mach_read : (x : Result ReplyHead HeadErr) (id : ℕ) → b.back ≡ back.Mach → id ≡ reply_id b op → ((r : ReplyHead) → (x ≡ Ok r) ↔ mach_told.BeginsReply id o r)
+      → IfOk x (λ r. BeginsReply b op o (heard b op r))
+  mach_read (Ok r) id is own h = over back.Mach r is (r, subst (λ (n : ℕ). mach_told.BeginsReply n o r) own ((h r).0 refl), refl)
+  mach_read (Err e) id is own h = tt
+
+  pub mach_faults : (x : Result ReplyHead HeadErr) (id : ℕ) → b.back ≡ back.Mach → id ≡ reply_id b op → ((e : HeadErr) → (x ≡ Err e) ↔ mach.StopsWith (mach.reply id) o e)
+      → IfErr x (λ e. ReplyStops b op o e)
+  mach_faults (Ok r) id is own h = tt
+  mach_faults (Err e) id is own h = stops_over back.Mach e is (subst (λ (n : ℕ). mach.StopsWith (mach.reply n) o e) own ((h e).0 refl))
+
+-- ---- the heads that are sent
+
+-- the length of a message lies within the head of a reply
+long_over : (k : Back) (b : Binding) (op arm : ℕ) (head : Head) → 12 ≤ length (reply_lead_over k b op arm head)
+long_over back.Xdr b op arm head = omega arith
+long_over back.CdrBig b op arm head = omega (arith, reply_long Big (target_of b op) arm, reply_length Big (target_of b op) arm head.id)
+long_over back.CdrLittle b op arm head = omega (arith, reply_long Little (target_of b op) arm, reply_length Little (target_of b op) arm head.id)
+long_over back.Mach b op arm head = omega arith
+
+pub long_reply_lead : (b : Binding) (op arm : ℕ) (head : Head) → 12 ≤ length (reply_lead_over b.back b op arm head)
+long_reply_lead b op arm head = long_over b.back b op arm head

@@ -1,0 +1,155 @@
+-- The heads of replies that are sent are received as what they say.
+use Rattle.std.proofs.Common.{◌≡◌, ℕ, zero, suc, ◌+◌, ◌-◌, ◌<◌, ◌≤◌, ◌^◌, List, [], ◌∷◌, ◌++◌, length, take, drop, refl, sym, ap, ◌∙◌, subst, arith, length-append}
+use Rattle.std.specs.Prelude.{slice_index_or}
+use Rattle.std.proofs.lemmas.List.{take_at, drop_at}
+use Rattle.kit_base.specs.Limits.{longest_message}
+use Rattle.wire_def.specs.declared.encoding.Back.{Back}
+use Rattle.wire_def.specs.declared.encoding.Back.TheVariants as back
+use Rattle.wire_def.specs.declared.head.Head.{Head}
+use Rattle.wire_def.specs.declared.head.Order.{Order}
+use Rattle.wire_def.specs.declared.head.Order.TheVariants.{Big, Little}
+use Rattle.wire_def.specs.declared.reply.ReplyHead.{ReplyHead}
+use Rattle.wire_def.specs.declared.reply.Status.TheVariants.{Answer}
+use Rattle.wire_def.specs.Grammar.{Parts}
+use Rattle.pres.specs.Bindings.{Binding}
+use Rattle.back_xdr.specs.Leads.{answer_lead}
+use Rattle.back_xdr.specs.Reply as onc
+use Rattle.back_xdr.specs.Told as onc_told
+use Rattle.back_xdr.specs.Auth.{AuthSpells}
+use Rattle.back_xdr.specs.Words.{WordSpells, IsWord, word}
+use Rattle.giop_head.specs.declared.header.Way.TheVariants.{Replies}
+use Rattle.giop_head.specs.Contexts.{ContextsSpell}
+use Rattle.giop_head.specs.Heads as giop
+use Rattle.giop_head.specs.Items.{laid, LongSpells}
+use Rattle.giop_head.specs.Laws.{IsLong, IsFate, reply_octets}
+use Rattle.giop_head.specs.Printed.{header_octets, then_long, with_size}
+use Rattle.giop_head.specs.Reply.{Fate, answer, user, system, FateSpells}
+use Rattle.giop_head.specs.Reply as giop_reply
+use Rattle.giop_head.proofs.Sending.{fated, reply_puts}
+use Rattle.giop_head.proofs.Sent.{within, begins, rest}
+use Rattle.back_cdr.specs.Leads.{reply_lead as giop_lead}
+use Rattle.back_cdr.specs.Targets.{Target, target_of}
+use Rattle.back_mach.specs.Laws as mach_laws
+use Rattle.back_mach.specs.Laws.{HasPorts}
+use Rattle.back_mach.specs.Leads as mach_leads
+use Rattle.back_mach.specs.Reply.{return_word}
+use Rattle.back_mach.specs.Routines.{routine_of}
+use Rattle.back_mach.specs.Words as mach_words
+use Rattle.back_mach.proofs.Sent as mach_sent
+use Rattle.flick_engine.specs.declared.replies.Fate.TheVariants as fates
+use Rattle.flick_engine.specs.Backs.{encoding, sized, reply_lead_over, reply_lead, heard_over, giop_heard, RepliesInOrder, RepliesOver, BeginsReply, answer_of, giop_fate_of, giop_answer, TellsInOrder, TellsOver, Tells}
+use Rattle.flick_engine.specs.Fates.{Heard}
+
+-- a head that is sent is received as what it says, and its body follows it
+pub record IsReplyReceived (k : Back) (b : Binding) (op arm : ℕ) (head : Head) (t : Heard) : Type 0 where
+  pub begins : (rest : List ℕ) → length (reply_lead_over k b op arm head ++ rest) ≤ longest_message → RepliesOver k b op (sized k (reply_lead_over k b op arm head ++ rest)) t
+  pub follows : (rest : List ℕ) → drop t.used (sized k (reply_lead_over k b op arm head ++ rest)) ≡ rest
+  pub used : t.used ≡ length (reply_lead_over k b op arm head)
+  pub encoding : t.encoding ≡ encoding k
+
+-- ---- ONC
+
+-- a reply that is accepted, with an empty verifier, and succeeded
+abbrev bare_answer : ℕ → onc.Reply
+bare_answer id = record { xid = id; fate = onc.accepted (record { flavour = 0; body = [] }) Answer }
+
+pub onc_answers : (id : ℕ) (o : List ℕ) → IsWord id → onc_told.BeginsReply (answer_lead id ++ o) (answer_of id)
+unfolding WordSpells AuthSpells
+onc_answers id o fits =
+    let first : take 24 (answer_lead id ++ o) ≡ answer_lead id = take_at (answer_lead id) o 24 refl in
+    let fate : onc.FateSpells 8 (word 0 ++ (word 0 ++ (word 0 ++ word 0))) (onc.accepted (record { flavour = 0; body = [] }) Answer) =
+    (word 0, word 0 ++ (word 0 ++ word 0), refl, refl, (word 0 ++ word 0, word 0, refl, (refl, (omega arith, omega arith)), refl)) in (
+      bare_answer id,
+      24,
+      (
+        omega (arith, length-append (answer_lead id) o),
+        rw first (word id, word 1 ++ (word 0 ++ (word 0 ++ (word 0 ++ word 0))), refl, (refl, fits), (word 1, word 0 ++ (word 0 ++ (word 0 ++ word 0)), refl, refl, fate)),
+      ),
+      refl,
+    )
+
+-- ---- GIOP
+
+-- a reply's fields after its header
+replied : (r : Order) (id : ℕ) (f : Fate) → reply_octets r id f ≡ fated r f (then_long r id (then_long r 0 (header_octets r 1)))
+replied r id answer = refl
+replied r id (user s) = refl
+replied r id (system s minor completion) = refl
+
+lead_octets : (r : Order) (t : Target) (arm id : ℕ) → giop_lead r t arm id ≡ reply_octets r id (giop_fate_of t arm)
+lead_octets r t zero id = refl
+lead_octets r t (suc k) id = refl
+
+module _ (r : Order) (id : ℕ) (f : Fate) (body : List ℕ) (small : IsLong id) (is : IsFate f) where
+  pub giop_begins : length (reply_octets r id f ++ body) - 12 < 2 ^ 32
+      → giop.BeginsWith Replies (with_size r (reply_octets r id f ++ body)) (record { order = r; id = id; fate = f }) (length (reply_octets r id f))
+  giop_begins fits =
+      let t = reply_puts r id f small is (header_octets r 1) in
+      let P : ℕ → List ℕ → Type 0 = λ p o. Parts p o (λ a. ContextsSpell r p a tt) (λ q b. Parts q b (λ a. LongSpells r q a id) (λ s c. FateSpells r s c f)) in
+      let all : reply_octets r id f ≡ header_octets r 1 ++ t.0 = replied r id f ∙ t.1 in
+      rw all (within Replies r 1 t.0 body P t.2 refl, begins Replies r 1 t.0 body P t.2 refl (rw all at fits))
+
+  pub giop_follows : drop (length (reply_octets r id f)) (with_size r (reply_octets r id f ++ body)) ≡ body
+  giop_follows =
+      let t = reply_puts r id f small is (header_octets r 1) in
+      let P : ℕ → List ℕ → Type 0 = λ p o. Parts p o (λ a. ContextsSpell r p a tt) (λ q b. Parts q b (λ a. LongSpells r q a id) (λ s c. FateSpells r s c f)) in
+      let all : reply_octets r id f ≡ header_octets r 1 ++ t.0 = replied r id f ∙ t.1 in
+      rw all (rest Replies r 1 t.0 body P t.2 refl)
+
+module _ (r : Order) (b : Binding) (op arm : ℕ) (head : Head) (t : Heard) (tells : TellsInOrder r b op arm head t) where
+  abbrev target : Target
+  target = target_of b op
+
+  abbrev lead : List ℕ
+  lead = giop_lead r target arm head.id
+
+  same_lead : lead ≡ reply_octets r head.id (giop_fate_of target arm)
+  same_lead = lead_octets r target arm head.id
+
+  begins_with : (more l : List ℕ) → l ≡ reply_octets r head.id (giop_fate_of target arm) → length (l ++ more) ≤ longest_message
+      → giop.BeginsWith Replies (with_size r (l ++ more)) (giop_answer r target arm head.id) (length l)
+  begins_with more l is few =
+      let octets : List ℕ = reply_octets r head.id (giop_fate_of target arm) in
+      let small : length (octets ++ more) - 12 < 2 ^ 32 = omega (arith, few, ap (λ (o : List ℕ). length (o ++ more)) is) in
+      subst (λ (o : List ℕ). giop.BeginsWith Replies (with_size r (o ++ more)) (giop_answer r target arm head.id) (length o)) (sym is)
+      (giop_begins r head.id (giop_fate_of target arm) more tells.0 tells.1 small)
+
+  pub in_order_begins : (more : List ℕ) → length (lead ++ more) ≤ longest_message → RepliesInOrder b op (with_size r (lead ++ more)) t
+  in_order_begins more few = (giop_answer r target arm head.id, length lead, begins_with more lead same_lead few, tells.2)
+
+  pub in_order_follows : (more : List ℕ) → drop t.used (with_size r (lead ++ more)) ≡ more
+  in_order_follows more =
+      ap (λ (x : Heard). drop x.used (with_size r (lead ++ more))) (sym tells.2)
+      ∙ rw same_lead (giop_follows r head.id (giop_fate_of target arm) more tells.0 tells.1)
+
+  pub in_order_used : t.used ≡ length lead
+  in_order_used = ap (λ (x : Heard). x.used) (sym tells.2)
+
+  pub in_order_laid : t.encoding ≡ laid r
+  in_order_laid = ap (λ (x : Heard). x.encoding) (sym tells.2)
+
+-- ---- Mach
+
+mach_follows : (id remote : ℕ) (body : List ℕ) → drop 32 (mach_leads.with_size (mach_leads.reply_octets id remote 0 ++ body)) ≡ body
+mach_follows id remote body = refl
+
+-- ---- each back end
+
+received_over : (k : Back) (b : Binding) (op arm : ℕ) (head : Head) (t : Heard) → TellsOver k b op arm head t → IsReplyReceived k b op arm head t
+received_over back.Xdr b op arm head t (fits, is) = record {
+  begins = λ rest few. (answer_of head.id, onc_answers head.id rest fits, is);
+  follows = λ rest. ap (λ (x : Heard). drop x.used (answer_lead head.id ++ rest)) (sym is) ∙ drop_at (answer_lead head.id) rest 24 refl;
+  used = ap (λ (x : Heard). x.used) (sym is);
+  encoding = ap (λ (x : Heard). x.encoding) (sym is);
+}
+received_over back.CdrBig b op arm head t tells = record { begins = in_order_begins Big b op arm head t tells; follows = in_order_follows Big b op arm head t tells; used = in_order_used Big b op arm head t tells; encoding = in_order_laid Big b op arm head t tells }
+received_over back.CdrLittle b op arm head t tells = record { begins = in_order_begins Little b op arm head t tells; follows = in_order_follows Little b op arm head t tells; used = in_order_used Little b op arm head t tells; encoding = in_order_laid Little b op arm head t tells }
+received_over back.Mach b op arm head t (ports, is) = record {
+  begins = λ rest few. (mach_laws.reply_of head.remote Answer, mach_sent.answers_read (routine_of b op) head rest ports (omega (arith, few)), is);
+  follows = λ rest. ap (λ (x : Heard). drop x.used (sized back.Mach (reply_lead_over back.Mach b op arm head ++ rest))) (sym is) ∙ mach_follows (routine_of b op).id head.remote rest;
+  used = ap (λ (x : Heard). x.used) (sym is);
+  encoding = ap (λ (x : Heard). x.encoding) (sym is);
+}
+
+pub reply_received : (b : Binding) (op arm : ℕ) (head : Head) (t : Heard) → Tells b op arm head t → IsReplyReceived b.back b op arm head t
+reply_received b op arm head t tells = received_over b.back b op arm head t tells

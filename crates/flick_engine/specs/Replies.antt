@@ -1,0 +1,46 @@
+-- The messages of replies.
+use Rattle.std.specs.Prelude.{◌≡◌, ℕ, pos, List, [], ◌++◌, length, map, Option, None, unwrap_or, is_some, IsTrue, slice_index_or}
+use Rattle.mint.specs.declared.kind.Kind.TheVariants as kind
+use Rattle.mint.specs.Types.{Ty, void_type, choice_type, type_at, Arms, number}
+use Rattle.mint.specs.Values.{Val, arm}
+use Rattle.cast_stub.specs.Draft.{type_of_arm}
+use Rattle.wire_def.specs.declared.head.Head.{Head}
+use Rattle.wire_def.specs.Send.{send}
+use Rattle.pres.specs.declared.ops.Op.{Op}
+use Rattle.pres.specs.Bindings.{Binding}
+use Rattle.flick_engine.specs.Backs.{encoding, reply_lead, sized}
+
+-- the type of what comes back from an operation: a choice whose arm 0 is the answer, and whose arm k is the k-th exception
+abbrev pub reply_type : Binding → ℕ → Ty
+reply_type b op = type_at b.nodes (slice_index_or (map (λ (o : Op). o.reply) b.ops) op 0)
+
+-- a choice by an unsigned number of 32 bits
+abbrev pub IsChoice : Ty → Type 0
+IsChoice t = (arms : Arms) × (t ≡ choice_type (number kind.U32) arms)
+
+-- the type of an arm's value, where a choice has the arm
+abbrev pub arm_type_in : Ty → ℕ → Option Ty
+arm_type_in (choice_type s arms) k = type_of_arm arms (pos k)
+arm_type_in _ k = None
+
+-- the reply to an operation has the arm
+abbrev pub HasArm : Binding → ℕ → ℕ → Type 0
+HasArm b op k = IsTrue (is_some (arm_type_in (reply_type b op) k))
+
+-- the type of the value of the arm of a reply
+abbrev pub arm_type : Binding → ℕ → ℕ → Ty
+arm_type b op k = unwrap_or (arm_type_in (reply_type b op) k) void_type
+
+-- the head of a reply with an arm, and the arm's value at the position after the head
+abbrev pub arm_parts : Binding → ℕ → ℕ → Head → Val → List ℕ
+arm_parts b op k head w =
+    reply_lead b op k head ++ send (encoding b.back) (arm_type b op k) (length (reply_lead b op k head)) w
+
+-- the two, in which the length of the whole is told
+abbrev pub arm_message : Binding → ℕ → ℕ → Head → Val → List ℕ
+arm_message b op k head w = sized b.back (arm_parts b op k head w)
+
+-- the message of a reply: that of the arm that its value is of
+abbrev pub reply_message : Binding → ℕ → Head → Val → List ℕ
+reply_message b op head (arm (pos k) w) = arm_message b op k head w
+reply_message b op head _ = []
