@@ -10,13 +10,39 @@ LONGEST_FILE = 1_048_576
 LONGEST_LINE = 8_388_608
 
 NUMBER = r"(0|[1-9][0-9]*)"
-SAYING = re.compile(rf"\? (size|lex (?:BadOctet|OpenComment|Wide|Directive) {NUMBER}|syntax {NUMBER}|"
-                    rf"name (?:Unknown|Twice|NotType|NotConst|Range|Label|Limit|OutOfScope) {NUMBER}|bind (?:Many|Deep|Heavy|Wide))")
-NO_CALL = re.compile(r"! (?:long|json|request|op|value)")
-NO_RECORD = re.compile(rf"! (long|hex|head (?:Short|Type|Version|Cred|Pad)|interface|operation|"
-                       rf"body (?:Short|OverBound|BadValue|BadPad|BadText) {NUMBER}|trailing {NUMBER})")
-# A call: the transaction, 0, the protocol's version, three numbers, two empty bodies, and words.
-CALL = re.compile(r"[0-9a-f]{8}0000000000000002[0-9a-f]{24}0{32}([0-9a-f]{8})*")
+GIOP = ("Short", "Magic", "Version", "Order", "Type", "Size", "Item", "Text")
+HEADS = {"xdr": ("Short", "Type", "Version", "Cred", "Pad"), "cdr-be": GIOP, "cdr-le": GIOP, "mach": ("Short", "Complex", "Size")}
+BODIES = {"xdr": ["BadPad"], "mach": ["BadItem"]}
+KEYS = {"xdr": ["xid"], "cdr-be": ["id"], "cdr-le": ["id"], "mach": ["local", "remote"]}
+NAMES = {"onc": ("Unknown", "Twice", "NotType", "NotConst", "Range", "Label", "Limit", "OutOfScope"),
+         "mig": ("Unknown", "Twice", "Range", "Limit", "OutOfScope", "Oneway", "Port"),
+         "corba": ("Unknown", "Twice", "CaseClash", "NotType", "NotConst", "Range", "Label", "Limit", "OutOfScope", "Oneway")}
+
+
+def saying_of(front):
+    """The lines by which a file in a language is refused."""
+    return re.compile(rf"\? (size|lex (?:BadOctet|OpenComment|Wide|Directive) {NUMBER}|syntax {NUMBER}|"
+                      rf"name (?:{'|'.join(NAMES[front])}) {NUMBER}|bind (?:Many|Deep|Heavy|Wide{'|Raises' if front == 'corba' else ''}))")
+
+
+def no_record_of(back):
+    """The lines by which `unmarshal` refuses, over a back end."""
+    kinds = "|".join(["Short", "OverBound", "BadValue", "BadText", *BODIES.get(back, [])])
+    return re.compile(rf"! (long|hex|head (?:{'|'.join(HEADS[back])})|interface|operation|body (?:{kinds}) {NUMBER}|trailing {NUMBER})")
+
+
+SAYING = {front: saying_of(front) for front in NAMES}
+NO_CALL = {back: re.compile(rf"! (?:long|json|request|op|value{'|head' if back == 'mach' else ''})") for back in HEADS}
+NO_RECORD = {back: no_record_of(back) for back in HEADS}
+CALL = {
+    # The transaction, 0, the protocol's version, three numbers, two empty bodies, and words.
+    "xdr": re.compile(r"[0-9a-f]{8}0000000000000002[0-9a-f]{24}0{32}([0-9a-f]{8})*"),
+    # The letters, the version, the order and the type; the size; no contexts, the id, and whether a reply is wanted.
+    "cdr-be": re.compile(r"47494f5001000000([0-9a-f]{8})0{8}[0-9a-f]{8}0[01]([0-9a-f]{2})*"),
+    "cdr-le": re.compile(r"47494f5001000100([0-9a-f]{8})0{8}[0-9a-f]{8}0[01]([0-9a-f]{2})*"),
+    # What becomes of the ports' rights, the size, the two ports, 0 and the id, and words. Without a reply there is no local port.
+    "mach": re.compile(r"13(?:15|00(?=0000.{16}0{8}))0000([0-9a-f]{8})[0-9a-f]{16}0{8}[0-9a-f]{8}([0-9a-f]{8})*"),
+}
 HEX = re.compile(rb"([0-9A-Fa-f]{2})+")
 BLANKS = b" \t\n\v\f\r"
 
@@ -56,9 +82,9 @@ def wrong_end(status, errors, output, lines):
     return None if status == int(refused) else f"status {int(refused)} for these answers, and not {status}"
 
 
-def wrong_saying(text, said):
+def wrong_saying(front, text, said):
     """Of the line by which a file is refused."""
-    form = SAYING.fullmatch(said)
+    form = SAYING[front].fullmatch(said)
     if not form:
         return "one of the lines that refuse a file"
     kind, at = kind_of(form[1]), int(next((n for n in form.groups()[1:] if n), "0"))
@@ -70,51 +96,61 @@ def wrong_saying(text, said):
         "lex OpenComment": text[at:at + 2] == b"/*" and b"*/" not in text[at + 2:],
         "lex Wide": text[at:at + 1].isdigit(),
         "lex Directive": text[at:at + 1] == b"#" and not text[begin:at].strip(BLANKS),
-        "syntax": 1 <= at <= len(lines) and lines[at - 1].strip(BLANKS) != b"",
+        "syntax": 1 <= at <= len(lines) and (lines[at - 1].strip(BLANKS) != b"" or front == "mig" and at == 1),
     }
     if kind.startswith("name"):
         return None if 1 <= at <= text.count(b";") else "the number of a declaration of the file"
     return None if holds.get(kind, True) else f"a place in the file at which `{kind}` holds"
 
 
-def wrong_fault(message, form):
-    """Of the answer to a line that is a message in digits, and has no record."""
+def wrong_fault(back, message, form):
+    """Of the answer to a line that is a message in digits, and has no record. Over CDR octets that align may be absent before a number."""
     kind, at = kind_of(form[1]), int(form[2] or form[3] or "0")
-    there = at % 4 == 0 and at + 4 <= len(message)
+    giop, there = back.startswith("cdr"), at % 4 == 0 and at + 4 <= len(message)
     holds = {
         "hex": False,
-        "head Type": message[4:8] != bytes(4),
-        "head Version": message[8:12] != b"\0\0\0\2",
-        "body Short": at <= len(message) < at + 8,
+        "head Type": message[7:8] != b"\0" if giop else message[4:8] != bytes(4),
+        "head Version": message[4:6] != b"\1\0" if giop else message[8:12] != b"\0\0\0\2",
+        "head Magic": message[:4] != b"GIOP",
+        "head Complex": message[3:4] >= b"\x80",
+        "body Short": at <= len(message) + 7 * giop and len(message) < at + (12 if back == "mach" else 8),
         "body OverBound": there,
-        "body BadValue": there,
+        "body BadValue": at < len(message) if giop else there,
+        "body BadItem": there,
         "body BadPad": at % 4 != 0 and message[at:at + 1] not in (b"", b"\0"),
-        "body BadText": message[at:at + 1] == b"\0",
-        "trailing": at % 4 == 0 and at < len(message),
+        "body BadText": at < len(message) and (giop or message[at] == 0),
+        "trailing": at < len(message) and (giop or at % 4 == 0),
     }
     return None if holds.get(kind, True) else f"a place in the message at which `{kind}` holds"
 
 
-def record_of(answer):
+def is_call(back, answer):
+    """Whether an answer is a call as `marshal` writes it. Where it states its size, that is right."""
+    form = CALL[back].fullmatch(answer)
+    uncounted, order = {"mach": (0, "little"), "cdr-le": (12, "little"), "cdr-be": (12, "big")}.get(back, (0, None))
+    return form is not None and (order is None or int.from_bytes(bytes.fromhex(form[1]), order) == len(answer) // 2 - uncounted)
+
+
+def record_of(back, answer):
     """The members of a record as `unmarshal` writes it, or None."""
     try:
         tree = json.loads(answer)
     except ValueError:
         return None
-    is_record = isinstance(tree, dict) and list(tree) == ["args", "op", "xid"] and isinstance(tree["args"], list) and isinstance(tree["op"], str)
-    if not is_record or type(tree["xid"]) is not int or not 0 <= tree["xid"] < 2 ** 32:
+    is_record = isinstance(tree, dict) and list(tree) == sorted(["args", "op", *KEYS[back]]) and isinstance(tree["args"], list) and isinstance(tree["op"], str)
+    if not is_record or any(type(tree[key]) is not int or not 0 <= tree[key] < 2 ** 32 for key in KEYS[back]):
         return None
     return tree if json.dumps(tree, ensure_ascii=False, sort_keys=True, separators=(",", ":")) == answer else None
 
 
-def wrong_answer(command, line, answer):
+def wrong_answer(back, command, line, answer):
     """Of an answer to a line."""
     if answer == "! long":
         return None if command == "marshal" or len(line) > LONGEST_LINE else "another answer to a short line"
     if command == "marshal":
-        return None if NO_CALL.fullmatch(answer) or CALL.fullmatch(answer) else "a call, or one of the lines by which `marshal` refuses"
+        return None if NO_CALL[back].fullmatch(answer) or is_call(back, answer) else "a call, or one of the lines by which `marshal` refuses"
     if not HEX.fullmatch(line):
         return None if answer == "! hex" else "`! hex`"
-    if form := NO_RECORD.fullmatch(answer):
-        return wrong_fault(bytes.fromhex(line.decode()), form)
-    return None if record_of(answer) else "a record, or one of the lines by which `unmarshal` refuses"
+    if form := NO_RECORD[back].fullmatch(answer):
+        return wrong_fault(back, bytes.fromhex(line.decode()), form)
+    return None if record_of(back, answer) else "a record, or one of the lines by which `unmarshal` refuses"

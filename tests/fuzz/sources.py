@@ -1,18 +1,30 @@
-"""The interface files that edits begin with, and right requests over them, by the types that the model reads."""
+"""The interface files that edits begin with, in each language, and right requests over them, by the types that the model reads."""
 import json
 import os
 import random
+from functools import lru_cache
 from importlib.machinery import SourceFileLoader
 from importlib.util import module_from_spec, spec_from_loader
 from typing import NamedTuple
 
-from files import interfaces_of
+import corba_names
+import corba_samples
+import files
+import mig
+import mig_samples
+from calls import BACKS
+from corba_nodes import told_of_names
 from samples import sample
 from values import Array, Opaque, Pointer, Struct, Union
 
 TOP = os.path.dirname(os.path.dirname(os.path.dirname(os.path.abspath(__file__))))
 LONGEST_SEED = 50_000
 HEAVIEST_SEED = 2_000
+LONGEST_READ = {"onc": 50_000, "mig": 6_000, "corba": 6_000}
+GENERATED = 30
+SUFFIXES = {"onc": ".x", "mig": ".defs", "corba": ".idl"}
+READERS = {"onc": files.interfaces_of, "mig": mig.interfaces_of, "corba": corba_names.interfaces_of}
+UNREAD = (AssertionError, KeyError, IndexError, ValueError, AttributeError, TypeError, RecursionError, mig.Refused, corba_names.Refused)
 
 
 class Source(NamedTuple):
@@ -31,28 +43,57 @@ def replay():
     return module
 
 
-def texts(front):
-    """The names and texts of all interface files of the repository, and the requests that stand beside each."""
+def files_of(front):
+    """The table of files of a language."""
+    table = f"{TOP}/tests/files/{front}.json"
+    return table if os.path.exists(table) else f"{TOP}/tests/model/{front}_named.json"
+
+
+def generated(front):
+    """Random files of a language, whose generator makes them with what they have to offer."""
+    for number in range(GENERATED):
+        rng = generator("sources", front, number)
+        if front == "mig":
+            yield mig_samples.accepted(rng)[0].decode()
+        elif front == "corba":
+            yield corba_samples.FileMaker(rng, raises=rng.random() < 0.3).text()
+
+
+def texts(front, back):
+    """The names and texts of all interface files of the repository in a language, and the requests over a back end that stand beside each."""
     tables = replay()
-    for row in json.loads(tables.content(f"{TOP}/tests/files/{front}.json")):
+    for row in json.loads(tables.content(files_of(front))):
         yield f"tests/files: {row['name']}", tables.spelled(row["file"]), []
     for table in sorted(os.listdir(f"{TOP}/tests/lines")):
         content = json.loads(tables.content(f"{TOP}/tests/lines/{table}"))
-        lines = [row["line"].encode() for row in content["rows"] if row.get("command") == "marshal" and isinstance(row["line"], str)]
-        yield f"tests/lines/{table}", tables.spelled(content["file"]), [line for line in lines if b"\n" not in line]
+        if content.get("front", "onc") == front:
+            rows = [row for row in content["rows"] if row.get("command") == "marshal" and row.get("over", "xdr") == back]
+            lines = [row["line"].encode() for row in rows if isinstance(row["line"], str)]
+            yield f"tests/lines/{table}", tables.spelled(content["file"]), [line for line in lines if b"\n" not in line]
     for folder in ("examples", "bench", "tests/fuzz/seeds"):
         for place, _, names in sorted(os.walk(f"{TOP}/{folder}")):
             for name in sorted(names):
-                if name.endswith(".x"):
+                if name.endswith(SUFFIXES[front]):
                     yield os.path.relpath(f"{place}/{name}", TOP), tables.content(f"{place}/{name}").decode("latin-1"), []
+    for number, text in enumerate(generated(front)):
+        yield f"generated file {number}", text, []
 
 
-def interfaces_in(text):
-    """The interfaces of a text, where the model reads it: it looks for no faults."""
+@lru_cache(maxsize=1000)
+def interfaces_in(front, text):
+    """The interfaces of a text, where the model reads it: in an ONC file it looks for no faults, and others it reads slowly."""
     try:
-        return interfaces_of(text)
-    except (AssertionError, KeyError, IndexError, ValueError, AttributeError, TypeError):
+        return READERS[front](text) if len(text) <= LONGEST_READ[front] else []
+    except UNREAD:
         return []
+
+
+def refusal_of(front, back, text):
+    """The line with which the model refuses a text, nothing where it accepts it, or None where it is not asked."""
+    if front == "onc" or len(text) > LONGEST_READ[front]:
+        return None
+    octets = text.encode("latin-1")
+    return mig.told_of_file(octets) if front == "mig" else told_of_names(octets, back)
 
 
 def weight(ty, known):
@@ -65,24 +106,31 @@ def weight(ty, known):
     return known[id(ty)]
 
 
-def sources(front):
+def sources(front, back):
     """All files that are not long, once each. Those whose requests would be long make none."""
     found = {}
-    for name, text, lines in texts(front):
+    for name, text, lines in texts(front, back):
         if len(text) <= LONGEST_SEED:
-            interfaces, known = interfaces_in(text), {}
+            interfaces, known = interfaces_in(front, text), {}
             heaviest = max((weight(ty, known) for interface in interfaces for _, _, types in interface.operations for ty in types), default=0)
             found[text] = Source(name, text, interfaces if heaviest <= HEAVIEST_SEED else [], lines)
     return list(found.values())
 
 
-def requests(rng, source, count):
-    """Right request lines over a source, and some of those that stand beside it."""
+def numbers_of(rng, back, operation):
+    """The numbers of a request record: over Mach one without a reply has no local port."""
+    numbers = {key: rng.choice([0, 1, 7, 2 ** 32 - 1, rng.randrange(2 ** 32)]) for key in BACKS[back].keys}
+    return {key: 0 if key == "local" and operation.oneway else n for key, n in numbers.items()}
+
+
+def requests(rng, back, source, count):
+    """Right request lines over a source and a back end, and some of those that stand beside it."""
     lines = []
-    for _ in range(count if source.interfaces else 0):
-        interface = rng.choice(source.interfaces)
-        name, _, types = rng.choice([operation for operation in interface.operations if operation[2] or rng.random() < 0.1] or interface.operations)
-        record = {"op": f"{interface.name}.{name}", "xid": rng.choice([0, 1, 7, 2 ** 32 - 1, rng.randrange(2 ** 32)]), "args": [ty.tree(sample(rng, ty)) for ty in types]}
+    for _ in range(count if any(map(BACKS[back].operations, source.interfaces)) else 0):
+        interface = rng.choice([interface for interface in source.interfaces if BACKS[back].operations(interface)])
+        operations = BACKS[back].operations(interface)
+        operation = rng.choice([operation for operation in operations if operation[2] or rng.random() < 0.1] or operations)
+        record = {"op": f"{interface.name}.{operation[0]}", **numbers_of(rng, back, operation), "args": [ty.tree(sample(rng, ty)) for ty in operation[2]]}
         lines.append(json.dumps(record, ensure_ascii=rng.random() < 0.5).encode())
     return lines + rng.sample(source.lines, min(len(source.lines), max(1, count // 4)))
 
