@@ -3,6 +3,8 @@
 NUMBERS = ["0", "1", "2", "3", "00", "010", "08", "0x", "0x10", "0XFF", "1x", "127", "128", "255", "256", "4096", "4097", "65535", "65536", "1048576", "1048577", "2147483647",
            "2147483648", "4294967295", "4294967296", "0xffffffff", "0x100000000", "9223372036854775808", "18446744073709551616",
            "170141183460469231731687303715884105727", "170141183460469231731687303715884105728", "1" + "0" * 60]
+MANY = [2, 31, 33, 400, 30_000]
+LONGEST = 100_000
 
 
 def is_name(token):
@@ -82,7 +84,7 @@ def edit_form(rng, language, text):
     if not declared:
         return edit_tokens(rng, language, text)
     found = rng.choice(declared)
-    return text[:found.start()] + rng.choice(language.forms(found, rng.choice(NUMBERS[:24]))) + text[found.end():]
+    return text[:found.start()] + rng.choice(language.forms(found, rng.choice(NUMBERS[:24]), rng.choice(MANY))) + text[found.end():]
 
 
 def edit_octets(rng, _, text):
@@ -114,9 +116,18 @@ def edit_lines(rng, _, text):
     return "\n".join(lines)
 
 
+def edit_many(rng, language, text):
+    """A text with some tokens in a row many times."""
+    tokens = language.token.findall(text) or [" "]
+    k = rng.randrange(len(tokens))
+    some = "".join(tokens[k:k + rng.randint(1, 5)])
+    times = min(rng.choice(MANY), max(0, LONGEST - len(text)) // len(some))
+    return "".join([*tokens[:k], some * times, *tokens[k:]])
+
+
 def edited_file(rng, language, text):
     """A text with one to four edits."""
     for _ in range(rng.choice([1, 1, 1, 2, 2, 3, 4])):
         edit = rng.choice([edit_alike, edit_alike, edit_form, edit_pieces, edit_tokens, edit_tokens, edit_octets, edit_lines])
-        text = edit(rng, language, text)[:100_000]
+        text = (edit if rng.random() < 0.97 else edit_many)(rng, language, text)[:LONGEST]
     return text

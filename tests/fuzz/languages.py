@@ -7,7 +7,8 @@ MARKS = ["{", "}", "(", ")", "[", "]", "<", ">", ";", ",", ":", "=", "*", "-", "
 
 
 class Language(NamedTuple):
-    """How a text falls into tokens; words; those of them that are types; marks; a declaration, and what may stand in its place."""
+    """How a text falls into tokens; words; those of them that are types; marks; a declaration, and what may stand in its place,
+    by a number and by how many times something is there."""
     token: re.Pattern
     words: list
     types: list
@@ -16,29 +17,30 @@ class Language(NamedTuple):
     forms: callable
 
 
-def onc_forms(found, number):
+def onc_forms(found, number, many):
     """Other forms of a declaration: a count, a pointer, a sign."""
     ty, name = found[1], found[4]
     return [f"{ty} {name}", f"{ty} *{name}", f"{ty} {name}<>", f"{ty} {name}<{number}>", f"{ty} {name}[{number}]", f"string {name}<{number}>",
-            f"opaque {name}[{number}]", f"opaque {name}<{number}>", f"unsigned {ty} {name}", f"struct {ty} {name}", "void"]
+            f"opaque {name}[{number}]", f"opaque {name}<{number}>", f"unsigned {ty} {name}", f"struct {ty} {name}", "void", f"{ty} {'*' * many}{name}", f"{ty} {name}{'[1]' * many}"]
 
 
-def mig_forms(found, number):
+def mig_forms(found, number, many):
     """Another type in a `type` statement, or another parameter."""
     lead, name, ty = found[1], found[2], found[3]
     if not lead:
         return [f"{way}{each} : {ty}" for way in ("", "in ", "out ", "inout ", "requestport ") for each in (name, "p")]
     meanings = [ty, f"array[{number}] of {ty}", f"array[*:{number}] of {ty}", f"struct[{number}] of {ty}", f"({ty}, {number})", f"({ty}, 32)", "mach_port_t",
-                "array[*:4] of char", f"array[({number} + 7) / 8 - 1] of byte"]
+                "array[*:4] of char", f"array[({number} + 7) / 8 - 1] of byte", f"array[{'(' * many}1{')' * many}] of int", f"array[1{' + 1' * many}] of int"]
     return [f"{lead}{name} = {meaning}" for meaning in meanings]
 
 
-def corba_forms(found, number):
+def corba_forms(found, number, many):
     """Another member, typedef or attribute."""
     ty, name = found[1], found[2]
     return [f"{ty} {name}", f"sequence<{ty}> {name}", f"sequence<{ty}, {number}> {name}", f"sequence<sequence<{ty}, 4>> {name}", f"{ty} {name}[{number}]",
             f"{ty} {name}[2][{number}]", f"string<{number}> {name}", f"unsigned {ty} {name}", f"{ty} {name}, {name}2", f"{ty} ::{name}", f"attribute {ty} {name}",
-            f"const long {name} = {number} << 2 | 1"]
+            f"const long {name} = {number} << 2 | 1", f"{ty} {name}{'[1]' * many}", f"{'sequence<' * many}{ty}{'> ' * many}{name}", f"{ty} {name}[1{' + 1' * many}]",
+            f"{ty} {name}[{'(' * many}1{')' * many}]", f"const long {name} = {'- ' * many}1"]
 
 
 LANGUAGES = {

@@ -20,7 +20,7 @@ from values import Array, Opaque, Pointer, Struct, Union
 TOP = os.path.dirname(os.path.dirname(os.path.dirname(os.path.abspath(__file__))))
 LONGEST_SEED = 50_000
 HEAVIEST_SEED = 2_000
-LONGEST_READ = {"onc": 50_000, "mig": 6_000, "corba": 6_000}
+LONGEST_READ = {"onc": 20_000, "mig": 6_000, "corba": 6_000}
 GENERATED = 30
 SUFFIXES = {"onc": ".x", "mig": ".defs", "corba": ".idl"}
 READERS = {"onc": files.interfaces_of, "mig": mig.interfaces_of, "corba": corba_names.interfaces_of}
