@@ -10,7 +10,7 @@ abbrev pub state : Shapes → State
 state h = record {
   names = h.scopes;
   labels = h.labels.keys;
-  types = map (λ t. (t.0, seen t.1)) h.unit.types;
+  types = map (λ t. (t.0, seen t.1)) h.types;
   exceptions = map plain_raise h.exceptions;
   count = h.count;
 }

@@ -11,9 +11,11 @@ mod forms;
 mod laws;
 mod state;
 mod structs;
+mod types;
 mod unions;
 
 pub use declarations::declare;
 pub use forms::{Core, Form, form_ty, named_type, type_form};
 pub use laws::declarations_are_whole;
 pub use state::Shapes;
+pub use types::TypeList;

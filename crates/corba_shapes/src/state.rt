@@ -6,7 +6,8 @@ ghost use Rattle.name_kit.specs.Answers.{Gives};
 ghost use Rattle.corba_shapes.specs.Held.{state};
 ghost use Rattle.corba_shapes.specs.State.{start, counted, with_type};
 
-use aoi::{NameErr, NameFault, Raises, Ty, Unit};
+use crate::types::TypeList;
+use aoi::{NameErr, NameFault, Raises, Ty};
 use corba_scopes::{Meaning, Scopes, full_name, innermost};
 use indexmap::IndexSet;
 use kit_base::Name;
@@ -21,8 +22,8 @@ pub struct Shapes {
     pub scopes: Scopes,
     /// The numbers of the enums, each after its enum's number as a type.
     pub labels: IndexSet<(u32, i128)>,
-    /// The unit, with the types by their full names.
-    pub unit: Unit,
+    /// The types, by their full names.
+    pub types: TypeList,
     /// The exceptions.
     pub exceptions: Raises,
     /// How many declarations there are.
@@ -47,7 +48,7 @@ impl Shapes {
         Shapes {
             scopes: Scopes::new(alloc),
             labels: IndexSet::new(alloc),
-            unit: Unit::new(alloc),
+            types: TypeList::new(alloc),
             exceptions: Raises::new(alloc),
             count: 0,
         }
@@ -70,10 +71,10 @@ impl Shapes {
 
     /// The number of the next type.
     pub(crate) fn next_type(&self) -> Result<u32, NameErr>
-        ensures ok { IfOk result (λ k. k ≡ length self.now.unit.types) }
+        ensures ok { IfOk result (λ k. k ≡ length self.now.types) }
         ensures err { IfErr result (λ e. e.fault ≡ WantOfMemory) }
     {
-        match u32::try_from(self.unit.types().len()) {
+        match u32::try_from(self.types.len()) {
             Ok(k) => Ok(k),
             Err(_) => Err(want()),
         }
@@ -97,8 +98,7 @@ impl Shapes {
         let meaning = Meaning::Type(Use::Declared(k, tag), text);
         self.scopes
             .declare_new(alloc, d, innermost(env), name, meaning)?;
-        self.unit
-            .add_type(full_name(alloc, innermost(env), name)?, ty)?;
+        self.types.add(full_name(alloc, innermost(env), name)?, ty)?;
         Ok(())
     }
 }
