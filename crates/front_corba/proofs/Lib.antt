@@ -1,0 +1,9 @@
+pub mod Getting
+pub mod Copying
+pub mod Growing
+pub mod Offering
+pub mod Keeping
+pub mod Apart
+pub mod Room
+pub mod Whole
+pub mod Derived

@@ -1,0 +1,17 @@
+use Rattle.std.proofs.Common.{◌∙◌, ap}
+use Rattle.std.specs.Option.{option_map}
+use Rattle.aoi.specs.Shapes.{seen}
+use Rattle.aoi.proofs.Seen.{choice_seen}
+use Rattle.name_kit.specs.Arms.{arms_held}
+use Rattle.front_corba.proofs.Copying.{union_copied}
+use Rattle.front_corba.proofs.copies.+copies.Goals as goal
+
+pub copy_ty-returns-in_ok-other-in-Union : goal.copy_ty-returns-in_ok-other-in-Union
+copy_ty-returns-in_ok-other-in-Union t c =
+    union_copied c.union_of.result c.in_ok-tag-in-Union.tag c.in-Union.tag.value c.in_ok-arms-in-Union.arms c.in-Union.arms
+    (option_map (λ b. seen b.value) c.in_ok-other-in-Union.other) (option_map (λ b. seen b.value) c.in-Union.other) (seen c.args.ty.now)
+    c.union_of.ensures
+    (c.in_ok-tag-in-Union.ensures ∙ ap seen c.deref-in-Union.ensures)
+    (c.in_ok-arms-in-Union.ensures ∙ ap arms_held c.as_slice-in-Union.ensures)
+    c.in_ok-other-in-Union.ensures
+    (ap seen c.in-Union.is ∙ choice_seen c.in-Union.tag c.in-Union.arms c.in-Union.other)

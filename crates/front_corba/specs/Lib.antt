@@ -1,0 +1,9 @@
+pub mod State
+pub mod Held
+pub mod Offers
+pub mod Bases
+pub mod Parameters
+pub mod Operations
+pub mod Attributes
+pub mod Interfaces
+pub mod Resolved

@@ -1,0 +1,231 @@
+// Attributes.
+ghost use Rattle.std.specs.Prelude.{◌≡◌, [], ◌∷◌, map, IfOk};
+ghost use Rattle.aoi.specs.Shapes.{seen_field};
+ghost use Rattle.aoi.specs.Plain.{plain_operation};
+ghost use Rattle.name_kit.specs.Answers.{Gives};
+ghost use Rattle.corba_shapes.specs.Forms.{form_shape};
+ghost use Rattle.front_corba.specs.Held.{plain_offer, body};
+ghost use Rattle.front_corba.specs.Attributes.{getter, setter, get_name, set_name, set_clash, attribute_clash, setter_on, attribute_on, attributes_on, attribute_names_on};
+
+use crate::copies::copy_name;
+use crate::offers::{lower_of, offer, own_clash, refuse_fault};
+use crate::parameters::field;
+use crate::state::{Offer, Offers};
+use crate::{NameErr, NameFault};
+use aoi::{Fields, Operation, Raises, Ty};
+use corba_exprs::Identifier;
+use corba_operations::Attribute;
+use corba_scopes::{Meaning, Scopes, full_name, innermost};
+use corba_shapes::{Form, Shapes, form_ty, type_form};
+use kit_base::{Name, NoMemory};
+use std::alloc::Global;
+
+/// The name of the operation that gives an attribute.
+fn get_name(alloc: Global, name: &[u8]) -> Result<Name, NoMemory>
+    ensures { IfOk result (λ n. n ≡ get_name name.now) }
+{
+    full_name(alloc, b"_get_", name)
+}
+
+/// The name of the operation that sets an attribute.
+fn set_name(alloc: Global, name: &[u8]) -> Result<Name, NoMemory>
+    ensures { IfOk result (λ n. n ≡ set_name name.now) }
+{
+    full_name(alloc, b"_set_", name)
+}
+
+/// The operation that gives an attribute.
+fn getter(alloc: Global, name: &[u8], form: &Form) -> Result<Operation, NoMemory>
+    ensures { IfOk result (λ o. plain_operation o ≡ getter name.now (form_shape form.now [])) }
+{
+    Ok(Operation {
+        name: get_name(alloc, name)?,
+        proc_no: 0,
+        slot: 0,
+        ins: Fields::new(alloc),
+        outs: Fields::new(alloc),
+        result: form_ty(alloc, form, &[])?,
+        raises: Raises::new(alloc),
+        oneway: false,
+    })
+}
+
+/// One field of a type.
+fn one_field(alloc: Global, name: &[u8], form: &Form) -> Result<Fields, NoMemory>
+    ensures { IfOk result (λ fields. map seen_field fields ≡ (name.now, form_shape form.now []) ∷ []) }
+{
+    let mut fields = Fields::new(alloc);
+    fields.push(field(alloc, name, form)?)?;
+    Ok(fields)
+}
+
+/// The operation that sets an attribute.
+fn setter(alloc: Global, name: &[u8], form: &Form) -> Result<Operation, NoMemory>
+    ensures { IfOk result (λ o. plain_operation o ≡ setter name.now (form_shape form.now [])) }
+{
+    Ok(Operation {
+        name: set_name(alloc, name)?,
+        proc_no: 0,
+        slot: 0,
+        ins: one_field(alloc, name, form)?,
+        outs: Fields::new(alloc),
+        result: Ty::Void,
+        raises: Raises::new(alloc),
+        oneway: false,
+    })
+}
+
+/// Why an operation that sets an attribute may not be beside these, or nothing.
+fn set_clash(
+    alloc: Global,
+    scopes: &Scopes,
+    scope: &[u8],
+    ops: &[Offer],
+    readonly: bool,
+    name: &[u8],
+) -> Result<Option<NameFault>, NoMemory>
+    ensures { IfOk result (λ f. f
+        ≡ set_clash scopes.now scope.now (map plain_offer ops.now) readonly name.now) }
+{
+    if readonly {
+        return Ok(None);
+    }
+    own_clash(alloc, scopes, scope, set_name(alloc, name)?.as_slice(), ops)
+}
+
+/// Why an attribute may not be beside these operations, or nothing.
+fn attribute_clash(
+    alloc: Global,
+    scopes: &Scopes,
+    scope: &[u8],
+    ops: &[Offer],
+    readonly: bool,
+    name: &[u8],
+) -> Result<Option<NameFault>, NoMemory>
+    ensures { IfOk result (λ f. f
+        ≡ attribute_clash scopes.now scope.now (map plain_offer ops.now) readonly name.now) }
+{
+    let f = scopes.clash(alloc, scope, name)?;
+    let g = own_clash(alloc, scopes, scope, get_name(alloc, name)?.as_slice(), ops)?;
+    let h = set_clash(alloc, scopes, scope, ops, readonly, name)?;
+    Ok(lower_of(f, lower_of(g, h)))
+}
+
+/// The operation that sets an attribute, unless it can only be read.
+fn offer_setter(
+    alloc: Global,
+    d: u32,
+    scope: &[u8],
+    home: u32,
+    readonly: bool,
+    form: &Form,
+    shapes: &mut Shapes,
+    ops: &mut Offers,
+    name: &[u8],
+) -> Result<(), NameErr>
+    ensures { Gives (λ _. body shapes.new ops.new) result
+        (setter_on d scope.now home readonly form.now (body shapes.old ops.old) name.now) }
+{
+    if readonly {
+        return Ok(());
+    }
+    offer(
+        alloc,
+        d,
+        scope,
+        home,
+        shapes,
+        ops,
+        setter(alloc, name, form)?,
+    )
+}
+
+/// An attribute: its name, and its operations.
+fn attribute(
+    alloc: Global,
+    d: u32,
+    scope: &[u8],
+    home: u32,
+    readonly: bool,
+    form: &Form,
+    shapes: &mut Shapes,
+    ops: &mut Offers,
+    name: &[u8],
+) -> Result<(), NameErr>
+    ensures { Gives (λ _. body shapes.new ops.new) result
+        (attribute_on d scope.now home readonly form.now (body shapes.old ops.old) name.now) }
+{
+    let clash = attribute_clash(alloc, &shapes.scopes, scope, ops.as_slice(), readonly, name)?;
+    refuse_fault(d, clash)?;
+    shapes
+        .scopes
+        .declare_new(alloc, d, scope, name, Meaning::Other)?;
+    offer(
+        alloc,
+        d,
+        scope,
+        home,
+        shapes,
+        ops,
+        getter(alloc, name, form)?,
+    )?;
+    offer_setter(alloc, d, scope, home, readonly, form, shapes, ops, name)
+}
+
+/// Attributes of one type.
+pub(crate) fn attributes(
+    alloc: Global,
+    env: &[Name],
+    d: u32,
+    home: u32,
+    shapes: &mut Shapes,
+    ops: &mut Offers,
+    a: &Attribute,
+) -> Result<(), NameErr>
+    ensures { Gives (λ _. body shapes.new ops.new) result
+        (attributes_on d env.now home (body shapes.old ops.old) a.now) }
+{
+    let form = type_form(alloc, &shapes.scopes, env, d, &a.of)?;
+    attributes_of(
+        alloc,
+        d,
+        innermost(env),
+        home,
+        a.readonly,
+        &form,
+        shapes,
+        ops,
+        a.names.as_slice(),
+    )
+}
+
+/// Attributes of a type, by their names.
+fn attributes_of(
+    alloc: Global,
+    d: u32,
+    scope: &[u8],
+    home: u32,
+    readonly: bool,
+    form: &Form,
+    shapes: &mut Shapes,
+    ops: &mut Offers,
+    names: &[Identifier],
+) -> Result<(), NameErr>
+    ensures { Gives (λ _. body shapes.new ops.new) result
+        (attribute_names_on d scope.now home readonly form.now (body shapes.old ops.old) names.now) }
+{
+    for name in names {
+        attribute(
+            alloc,
+            d,
+            scope,
+            home,
+            readonly,
+            form,
+            shapes,
+            ops,
+            name.name.as_slice(),
+        )?;
+    }
+    Ok(())
+}

@@ -1,0 +1,170 @@
+// The operations of bases.
+ghost use Rattle.std.specs.Prelude.{◌≡◌, nat_eq, false, map, option_copied, IfOk};
+ghost use Rattle.std.specs.List.{list_any};
+ghost use Rattle.std.specs.Option.{option_map};
+ghost use Rattle.name_kit.specs.Answers.{Gives};
+ghost use Rattle.front_corba.specs.Held.{plain_offer, plain_offering, heirs, held};
+ghost use Rattle.front_corba.specs.Bases.{is_there, offer_clash, base_clash, inherited, inherited_on, joined_on, interface_at, new_base, base_on, bases_on};
+
+use crate::copies::copy_operation;
+use crate::offers::{add, lower_of, operation_clash, refuse_fault};
+use crate::state::{Heir, Offer, Offering, Offers, Resolver};
+use crate::{NameErr, NameFault};
+use corba_operations::Reference;
+use corba_scopes::{Entry, Meaning, prefix_of};
+use kit_base::{Name, NoMemory};
+use name_kit::{add_number, has_number};
+use std::alloc::Global;
+
+/// Whether an operation is one of these.
+fn is_there(offer: &Offer, ops: &[Offer]) -> bool
+    ensures { result ≡ is_there (plain_offer offer.now) (map plain_offer ops.now) }
+{
+    for other in ops {
+        if other.home == offer.home
+            && other.operation.name.as_slice() == offer.operation.name.as_slice()
+        {
+            return true;
+        }
+    }
+    false
+}
+
+/// Why the operation of a base may not be beside these, or nothing.
+fn offer_clash(alloc: Global, ops: &[Offer], offer: &Offer) -> Result<Option<NameFault>, NoMemory>
+    ensures { IfOk result (λ f. f ≡ offer_clash (map plain_offer ops.now) (plain_offer offer.now)) }
+{
+    if is_there(offer, ops) {
+        return Ok(None);
+    }
+    operation_clash(alloc, offer.operation.name.as_slice(), ops)
+}
+
+/// Why the operations of a base may not be beside these, or nothing.
+fn base_clash(alloc: Global, ops: &[Offer], base: &[Offer]) -> Result<Option<NameFault>, NoMemory>
+    ensures { IfOk result (λ f. f ≡ base_clash (map plain_offer ops.now) (map plain_offer base.now)) }
+{
+    match base {
+        [offer, rest @ ..] => {
+            let f = offer_clash(alloc, ops, offer)?;
+            let g = base_clash(alloc, ops, rest)?;
+            Ok(lower_of(f, g))
+        }
+        [] => Ok(None),
+    }
+}
+
+/// Puts the operation of a base after the others, unless it is there.
+fn inherit_one(alloc: Global, d: u32, ops: &mut Offers, offer: &Offer) -> Result<(), NameErr>
+    ensures { Gives (λ _. map plain_offer ops.new) result
+        (inherited d (map plain_offer ops.old) (plain_offer offer.now)) }
+{
+    if is_there(offer, ops.as_slice()) {
+        return Ok(());
+    }
+    let copy = copy_operation(alloc, &offer.operation)?;
+    add(d, offer.home, copy, ops)
+}
+
+/// Puts the operations of a base after the others, without those that are there.
+fn inherit(alloc: Global, d: u32, ops: &mut Offers, base: &[Offer]) -> Result<(), NameErr>
+    ensures { Gives (λ _. map plain_offer ops.new) result
+        (inherited_on d (map plain_offer ops.old) (map plain_offer base.now)) }
+{
+    for offer in base {
+        inherit_one(alloc, d, ops, offer)?;
+    }
+    Ok(())
+}
+
+/// Puts the operations of a base after the others.
+fn join(alloc: Global, d: u32, ops: &mut Offers, base: Option<&Offering>) -> Result<(), NameErr>
+    ensures { Gives (λ _. map plain_offer ops.new) result
+        (joined_on d (map plain_offer ops.old) (option_map plain_offering (option_copied base.entry))) }
+{
+    let Some(base) = base else {
+        return Ok(());
+    };
+    let base = base.ops.as_slice();
+    refuse_fault(d, base_clash(alloc, ops.as_slice(), base)?)?;
+    inherit(alloc, d, ops, base)
+}
+
+/// The number and the full name of an interface.
+fn interface_at(d: u32, entry: Option<Entry>) -> Result<(u32, Name), NameErr>
+    ensures value { Gives (λ x. x) result (interface_at d entry) }
+    ensures exact { result ≡ interface_at d entry }
+{
+    let Some(entry) = entry else {
+        return Err(NameErr {
+            fault: NameFault::Unknown,
+            decl: d,
+        });
+    };
+    match entry.meaning {
+        Meaning::Interface(k) => Ok((k, entry.name)),
+        _ => Err(NameErr {
+            fault: NameFault::NotType,
+            decl: d,
+        }),
+    }
+}
+
+/// Puts what a base has after what those before it have.
+#[tactic(auto, using(crate::proofs::Getting::offering_got))]
+fn new_base(
+    alloc: Global,
+    r: &Resolver,
+    d: u32,
+    heir: &mut Heir,
+    k: u32,
+    full: &[u8],
+) -> Result<(), NameErr>
+    requires { list_any (nat_eq k) heir.old.numbers.keys ≡ false }
+    ensures { Gives (λ _. heirs heir.new) result (new_base d (held r.now) (heirs heir.old) (k, full.now)) }
+{
+    join(alloc, d, &mut heir.ops, r.interfaces.get(k as usize))?;
+    let scope = prefix_of(alloc, full)?;
+    r.shapes
+        .scopes
+        .add_base(alloc, scope.as_slice(), &mut heir.line)?;
+    add_number(&mut heir.numbers, k)?;
+    Ok(())
+}
+
+/// Puts what a base has after what those before it have.
+fn base(
+    alloc: Global,
+    r: &Resolver,
+    env: &[Name],
+    d: u32,
+    heir: &mut Heir,
+    reference: &Reference,
+) -> Result<(), NameErr>
+    ensures { Gives (λ _. heirs heir.new) result
+        (base_on d env.now (held r.now) (heirs heir.old) reference.now) }
+{
+    let entry = r.shapes.scopes.named(alloc, env, &reference.name)?;
+    let (k, full) = interface_at(d, entry)?;
+    if has_number(&heir.numbers, k) {
+        return Ok(());
+    }
+    new_base(alloc, r, d, heir, k, full.as_slice())
+}
+
+/// Puts what bases have after what those before them have.
+pub(crate) fn bases(
+    alloc: Global,
+    r: &Resolver,
+    env: &[Name],
+    d: u32,
+    heir: &mut Heir,
+    list: &[Reference],
+) -> Result<(), NameErr>
+    ensures { Gives (λ _. heirs heir.new) result (bases_on d env.now (held r.now) (heirs heir.old) list.now) }
+{
+    for reference in list {
+        base(alloc, r, env, d, heir, reference)?;
+    }
+    Ok(())
+}

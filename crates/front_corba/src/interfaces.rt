@@ -1,0 +1,203 @@
+// Interfaces.
+ghost use Rattle.std.specs.Prelude.{◌≡◌, map};
+ghost use Rattle.name_kit.specs.Names.{has};
+ghost use Rattle.name_kit.specs.Answers.{Gives};
+ghost use Rattle.front_corba.specs.Held.{plain_offer, plain_offering, body, held};
+ghost use Rattle.front_corba.specs.Interfaces.{export_on, exports_on, opened_on, full_names, seat_on, heritage_on, entered_on, seated_on, interface_on};
+
+use crate::attributes::attributes;
+use crate::bases::bases;
+use crate::operations::operation;
+use crate::state::{Heir, Offering, Offers, Resolver};
+use crate::{NameErr, NameFault};
+use corba_interfaces::{Export, Interface};
+use corba_scopes::{Line, Meaning, Scopes, full_name, innermost, inside};
+use corba_shapes::{Shapes, declare};
+use kit_base::Name;
+use kit_base::limits::MOST_INTERFACES;
+use name_kit::refuse;
+use std::alloc::Global;
+
+/// What an interface declares, by its number.
+fn export(
+    alloc: Global,
+    env: &[Name],
+    d: u32,
+    home: u32,
+    shapes: &mut Shapes,
+    ops: &mut Offers,
+    export: &Export,
+) -> Result<(), NameErr>
+    ensures { Gives (λ _. body shapes.new ops.new) result
+        (export_on d env.now home (body shapes.old ops.old) export.now) }
+{
+    match export {
+        Export::Declaration(x) => declare(alloc, shapes, env, d, x),
+        Export::Attribute(a) => attributes(alloc, env, d, home, shapes, ops, a),
+        Export::Operation(o) => operation(alloc, env, d, home, shapes, ops, o),
+    }
+}
+
+/// What an interface declares.
+fn exports(
+    alloc: Global,
+    env: &[Name],
+    home: u32,
+    shapes: &mut Shapes,
+    ops: &mut Offers,
+    list: &[Export],
+) -> Result<(), NameErr>
+    ensures { Gives (λ _. body shapes.new ops.new) result
+        (exports_on env.now home (body shapes.old ops.old) list.now) }
+{
+    for item in list {
+        let d = shapes.next()?;
+        export(alloc, env, d, home, shapes, ops, item)?;
+    }
+    Ok(())
+}
+
+/// Declares the name of an interface, and keeps its line.
+fn open(
+    alloc: Global,
+    d: u32,
+    scope: &[u8],
+    inner: &[u8],
+    home: u32,
+    scopes: &mut Scopes,
+    name: &[u8],
+    line: Line,
+) -> Result<(), NameErr>
+    ensures { Gives (λ _. scopes.new) result (opened_on d scope.now inner.now home scopes.old name.now line) }
+{
+    scopes.declare_new(alloc, d, scope, name, Meaning::Interface(home))?;
+    scopes.put_line(alloc, inner, line)?;
+    Ok(())
+}
+
+/// Whether an interface has the full name.
+fn has_full(full: &[u8], interfaces: &[Offering]) -> bool
+    ensures { result ≡ has full.now (full_names (map plain_offering interfaces.now)) }
+{
+    for i in interfaces {
+        if full == i.name.as_slice() {
+            return true;
+        }
+    }
+    false
+}
+
+/// The number and the full name of an interface, whose name is tested where it stands.
+fn seat(
+    alloc: Global,
+    scopes: &Scopes,
+    interfaces: &[Offering],
+    env: &[Name],
+    d: u32,
+    name: &[u8],
+) -> Result<(u32, Name), NameErr>
+    ensures { Gives (λ x. x) result
+        (seat_on d env.now scopes.now (map plain_offering interfaces.now) name.now) }
+{
+    scopes.refuse_clash(alloc, d, innermost(env), name)?;
+    let full = full_name(alloc, innermost(env), name)?;
+    refuse(NameFault::Twice, d, has_full(full.as_slice(), interfaces))?;
+    let place = interfaces.len();
+    if place >= MOST_INTERFACES {
+        return Err(NameErr {
+            fault: NameFault::Limit,
+            decl: d,
+        });
+    }
+    Ok((place as u32, full))
+}
+
+/// The line of an interface's scope, and the operations of its bases.
+fn heritage(
+    alloc: Global,
+    r: &Resolver,
+    env: &[Name],
+    d: u32,
+    i: &Interface,
+) -> Result<(Line, Offers), NameErr>
+    ensures { Gives (λ x. (x.0, map plain_offer x.1)) result (heritage_on d env.now (held r.now) i.now) }
+{
+    let inner = inside(alloc, env, i.name.name.as_slice())?;
+    let mut heir = Heir::of(alloc, innermost(inner.as_slice()))?;
+    bases(alloc, r, env, d, &mut heir, i.bases.as_slice())?;
+    let Heir {
+        numbers: _,
+        line,
+        ops,
+    } = heir;
+    Ok((line, ops))
+}
+
+/// Declares the name of an interface, and what it declares after the operations of its bases.
+fn enter(
+    alloc: Global,
+    env: &[Name],
+    d: u32,
+    home: u32,
+    line: Line,
+    shapes: &mut Shapes,
+    ops: &mut Offers,
+    i: &Interface,
+) -> Result<(), NameErr>
+    ensures { Gives (λ _. body shapes.new ops.new) result
+        (entered_on d env.now home line (body shapes.old ops.old) i.now) }
+{
+    let name = i.name.name.as_slice();
+    let inner = inside(alloc, env, name)?;
+    let inner = inner.as_slice();
+    open(
+        alloc,
+        d,
+        innermost(env),
+        innermost(inner),
+        home,
+        &mut shapes.scopes,
+        name,
+        line,
+    )?;
+    exports(alloc, inner, home, shapes, ops, i.exports.as_slice())
+}
+
+/// Puts an interface of this number and full name after the others.
+fn seated(
+    alloc: Global,
+    r: &mut Resolver,
+    env: &[Name],
+    d: u32,
+    i: &Interface,
+    home: u32,
+    full: Name,
+) -> Result<(), NameErr>
+    ensures { Gives (λ _. held r.new) result (seated_on d env.now (held r.old) i.now (home, full)) }
+{
+    let (line, mut ops) = heritage(alloc, r, env, d, i)?;
+    enter(alloc, env, d, home, line, &mut r.shapes, &mut ops, i)?;
+    r.interfaces.push(Offering { name: full, ops })?;
+    Ok(())
+}
+
+/// An interface.
+pub(crate) fn interface(
+    alloc: Global,
+    r: &mut Resolver,
+    env: &[Name],
+    d: u32,
+    i: &Interface,
+) -> Result<(), NameErr>
+    ensures { Gives (λ _. held r.new) result (interface_on d env.now (held r.old) i.now) }
+{
+    let (home, full) = seat(
+        alloc,
+        &r.shapes.scopes,
+        r.interfaces.as_slice(),
+        env,
+        d,
+        i.name.name.as_slice(),
+    )?;
+    seated(alloc, r, env, d, i, home, full)
+}

@@ -1,0 +1,145 @@
+// The operations of an interface, and their names.
+ghost use Rattle.std.specs.Prelude.{◌≡◌, ◌≤◌, map, IfOk};
+ghost use Rattle.kit_base.specs.Limits.{most_operations};
+ghost use Rattle.aoi.specs.Plain.{plain_operation};
+ghost use Rattle.name_kit.specs.Answers.{Gives};
+ghost use Rattle.name_kit.specs.Names.{has};
+ghost use Rattle.corba_scopes.specs.Names.{lower, refused_by};
+ghost use Rattle.corba_shapes.specs.Enums.{lower_of};
+ghost use Rattle.front_corba.specs.Held.{plain_offer, body};
+ghost use Rattle.front_corba.specs.Offers.{offer_names, operation_clash, own_clash, placed, added_on, offered_on};
+
+use crate::state::{Offer, Offers};
+use crate::{NameErr, NameFault};
+use aoi::Operation;
+use corba_scopes::{Meaning, Scopes};
+use corba_shapes::Shapes;
+use kit_base::NoMemory;
+use kit_base::limits::MOST_OPERATIONS;
+use std::alloc::Global;
+
+/// Whether one of these operations has the name.
+fn has_name(name: &[u8], ops: &[Offer]) -> bool
+    ensures { result ≡ has name.now (offer_names (map plain_offer ops.now)) }
+{
+    for offer in ops {
+        if name == offer.operation.name.as_slice() {
+            return true;
+        }
+    }
+    false
+}
+
+/// Whether one of these operations has the name, in lower case.
+fn has_lower(alloc: Global, small: &[u8], ops: &[Offer]) -> Result<bool, NoMemory>
+    ensures { IfOk result (λ b. b ≡ has small.now (map lower (offer_names (map plain_offer ops.now)))) }
+{
+    for offer in ops {
+        let other = offer.operation.name.as_slice().to_ascii_lowercase(alloc)?;
+        if small == other.as_slice() {
+            return Ok(true);
+        }
+    }
+    Ok(false)
+}
+
+/// Why no operation may have a name beside these, or nothing.
+pub(crate) fn operation_clash(
+    alloc: Global,
+    name: &[u8],
+    ops: &[Offer],
+) -> Result<Option<NameFault>, NoMemory>
+    ensures { IfOk result (λ f. f ≡ operation_clash name.now (map plain_offer ops.now)) }
+{
+    if has_name(name, ops) {
+        return Ok(Some(NameFault::Twice));
+    }
+    let small = name.to_ascii_lowercase(alloc)?;
+    if has_lower(alloc, small.as_slice(), ops)? {
+        return Ok(Some(NameFault::CaseClash));
+    }
+    Ok(None)
+}
+
+/// The lower of two faults of one token.
+pub(crate) fn lower_of(f: Option<NameFault>, g: Option<NameFault>) -> Option<NameFault>
+    ensures { result ≡ lower_of f g }
+{
+    match (f, g) {
+        (None, g) => g,
+        (Some(f), None) => Some(f),
+        (Some(NameFault::Twice), Some(_)) => Some(NameFault::Twice),
+        (Some(_), Some(g)) => Some(g),
+    }
+}
+
+/// A fault in a declaration, if there is one.
+pub(crate) fn refuse_fault(d: u32, fault: Option<NameFault>) -> Result<(), NameErr>
+    ensures value { Gives (λ x. x) result (refused_by d fault) }
+    ensures exact { result ≡ refused_by d fault }
+{
+    match fault {
+        Some(fault) => Err(NameErr { fault, decl: d }),
+        None => Ok(()),
+    }
+}
+
+/// Why no operation of a scope may have a name beside these, or nothing.
+pub(crate) fn own_clash(
+    alloc: Global,
+    scopes: &Scopes,
+    scope: &[u8],
+    name: &[u8],
+    ops: &[Offer],
+) -> Result<Option<NameFault>, NoMemory>
+    ensures { IfOk result (λ f. f ≡ own_clash scopes.now scope.now name.now (map plain_offer ops.now)) }
+{
+    let f = scopes.clash(alloc, scope, name)?;
+    let g = operation_clash(alloc, name, ops)?;
+    Ok(lower_of(f, g))
+}
+
+/// An operation at its place.
+fn placed(home: u32, mut operation: Operation, place: usize) -> Offer
+    requires { place ≤ most_operations }
+    ensures { plain_offer result ≡ placed home place (plain_operation operation) }
+{
+    operation.proc_no = place as u32 + 1;
+    operation.slot = place as u32;
+    Offer { home, operation }
+}
+
+/// Puts an operation after the others.
+pub(crate) fn add(d: u32, home: u32, operation: Operation, ops: &mut Offers) -> Result<(), NameErr>
+    ensures { Gives (λ _. map plain_offer ops.new) result
+        (added_on d home (plain_operation operation) (map plain_offer ops.old)) }
+{
+    let place = ops.len();
+    if place >= MOST_OPERATIONS {
+        return Err(NameErr {
+            fault: NameFault::Limit,
+            decl: d,
+        });
+    }
+    ops.push(placed(home, operation, place))?;
+    Ok(())
+}
+
+/// Declares the name of an operation, and puts it after the others.
+pub(crate) fn offer(
+    alloc: Global,
+    d: u32,
+    scope: &[u8],
+    home: u32,
+    shapes: &mut Shapes,
+    ops: &mut Offers,
+    operation: Operation,
+) -> Result<(), NameErr>
+    ensures { Gives (λ _. body shapes.new ops.new) result
+        (offered_on d scope.now home (body shapes.old ops.old) (plain_operation operation)) }
+{
+    shapes
+        .scopes
+        .declare_new(alloc, d, scope, operation.name.as_slice(), Meaning::Other)?;
+    add(d, home, operation, ops)
+}

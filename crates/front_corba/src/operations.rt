@@ -1,0 +1,166 @@
+// Operations.
+ghost use Rattle.std.specs.Prelude.{◌≡◌, ◌&&◌, map, IfOk};
+ghost use Rattle.aoi.specs.Shapes.{seen, seen_field};
+ghost use Rattle.aoi.specs.Plain.{plain_operation, plain_raise};
+ghost use Rattle.name_kit.specs.Answers.{Gives};
+ghost use Rattle.name_kit.specs.Lists.{is_some_list};
+ghost use Rattle.front_corba.specs.Held.{plain_offer, body};
+ghost use Rattle.front_corba.specs.Operations.{gives_back, result_of, operation_of, judged_on, signed_on, operation_on};
+
+use crate::copies::copy_name;
+use crate::offers::{offer, own_clash, refuse_fault};
+use crate::parameters::{are_in, parameters, raises};
+use crate::state::{Offer, Offers};
+use crate::{NameErr, NameFault};
+use aoi::{Fields, Operation, Raises, Ty};
+use corba_operations::{Operation as OperationTree, Reference};
+use corba_scopes::{Scopes, innermost, inside};
+use corba_shapes::{Shapes, form_ty, type_form};
+use corba_types::TypeName;
+use kit_base::limits::MOST_OPERATIONS;
+use kit_base::{Name, NoMemory};
+use name_kit::refuse;
+use std::alloc::Global;
+
+/// Whether there are exceptions.
+fn are_some(list: &[Reference]) -> bool
+    ensures { result ≡ is_some_list list.now }
+{
+    match list {
+        [] => false,
+        _ => true,
+    }
+}
+
+/// Whether an operation gives something back.
+fn gives_back(o: &OperationTree) -> bool
+    ensures { result ≡ gives_back o.now }
+{
+    o.result.is_some() || !are_in(o.parameters.as_slice()) || are_some(o.raises.as_slice())
+}
+
+/// The type of a result.
+fn result_of(
+    alloc: Global,
+    scopes: &Scopes,
+    env: &[Name],
+    d: u32,
+    given: &Option<TypeName>,
+) -> Result<Ty, NameErr>
+    ensures { Gives seen result (result_of scopes.now env.now d given.now) }
+{
+    match given {
+        None => Ok(Ty::Void),
+        Some(t) => {
+            let form = type_form(alloc, scopes, env, d, t)?;
+            Ok(form_ty(alloc, &form, &[])?)
+        }
+    }
+}
+
+/// An operation of these parts.
+fn operation_of(
+    alloc: Global,
+    o: &OperationTree,
+    ins: Fields,
+    outs: Fields,
+    ty: Ty,
+    raises: Raises,
+) -> Result<Operation, NoMemory>
+    ensures { IfOk result (λ p. plain_operation p
+        ≡ operation_of o.now (map seen_field ins) (map seen_field outs) (seen ty) (map plain_raise raises)) }
+{
+    Ok(Operation {
+        name: copy_name(alloc, o.name.name.as_slice())?,
+        proc_no: 0,
+        slot: 0,
+        ins,
+        outs,
+        result: ty,
+        raises,
+        oneway: o.oneway,
+    })
+}
+
+/// Whether an operation is oneway, though it gives something back.
+fn breaks_oneway(o: &OperationTree) -> bool
+    ensures { result ≡ (o.now.oneway && gives_back o.now) }
+{
+    o.oneway && gives_back(o)
+}
+
+/// The type of the result of an operation, whose name is tested where it stands.
+fn judged(
+    alloc: Global,
+    scopes: &Scopes,
+    env: &[Name],
+    d: u32,
+    ops: &[Offer],
+    o: &OperationTree,
+) -> Result<Ty, NameErr>
+    ensures { Gives seen result (judged_on d env.now scopes.now (map plain_offer ops.now) o.now) }
+{
+    refuse(NameFault::Oneway, d, breaks_oneway(o))?;
+    let ty = result_of(alloc, scopes, env, d, &o.result)?;
+    let name = o.name.name.as_slice();
+    let clash = own_clash(alloc, scopes, innermost(env), name, ops)?;
+    refuse_fault(d, clash)?;
+    refuse(NameFault::Limit, d, ops.len() >= MOST_OPERATIONS)?;
+    Ok(ty)
+}
+
+/// An operation of a result, in its own scope.
+fn signed(
+    alloc: Global,
+    scopes: &mut Scopes,
+    exceptions: &Raises,
+    env: &[Name],
+    d: u32,
+    o: &OperationTree,
+    ty: Ty,
+) -> Result<Operation, NameErr>
+    ensures { Gives (λ p. (scopes.new, plain_operation p)) result
+        (signed_on d env.now scopes.old (map plain_raise exceptions.now) o.now (seen ty)) }
+{
+    let mut ins = Fields::new(alloc);
+    let mut outs = Fields::new(alloc);
+    parameters(
+        alloc,
+        scopes,
+        env,
+        d,
+        &mut ins,
+        &mut outs,
+        o.parameters.as_slice(),
+    )?;
+    let raises = raises(alloc, scopes, exceptions, env, d, o.raises.as_slice())?;
+    Ok(operation_of(alloc, o, ins, outs, ty, raises)?)
+}
+
+/// An operation, whose name is declared after it.
+pub(crate) fn operation(
+    alloc: Global,
+    env: &[Name],
+    d: u32,
+    home: u32,
+    shapes: &mut Shapes,
+    ops: &mut Offers,
+    o: &OperationTree,
+) -> Result<(), NameErr>
+    ensures { Gives (λ _. body shapes.new ops.new) result
+        (operation_on d env.now home (body shapes.old ops.old) o.now) }
+{
+    let ty = judged(alloc, &shapes.scopes, env, d, ops.as_slice(), o)?;
+    let inner = inside(alloc, env, o.name.name.as_slice())?;
+    let inner = inner.as_slice();
+    let made = signed(
+        alloc,
+        &mut shapes.scopes,
+        &shapes.exceptions,
+        inner,
+        d,
+        o,
+        ty,
+    )?;
+    offer(alloc, d, innermost(env), home, shapes, ops, made)
+}
