@@ -15,6 +15,9 @@ use Rattle.syntax_kit.proofs.Grammars.{read_is}
 use Rattle.onc_syntax.specs.declared.tree.Def.{Def}
 use Rattle.onc_syntax.specs.Derivation.{def, Derives as OncDerives, FailsAt as OncFailsAt}
 use Rattle.onc_syntax.proofs.Fronts.{one_tree_only as onc_one_tree, decided as onc_decided}
+use Rattle.corba_syntax.specs.declared.tree.Definition.{Definition}
+use Rattle.corba_syntax.specs.Derivation.{outermost, Derives as CorbaDerives, FailsAt as CorbaFailsAt}
+use Rattle.corba_syntax.proofs.Fronts.{one_tree_only as corba_one_tree, decided as corba_decided}
 use Rattle.mig_syntax.specs.declared.tree.Subsystem.{Subsystem}
 use Rattle.mig_syntax.specs.Derivation.{statement, Derives as MigDerives, FailsAt as MigFailsAt, Headed}
 use Rattle.mig_syntax.specs.StatementReaders.{heading_at}
@@ -23,8 +26,11 @@ use Rattle.mig_syntax.proofs.Fronts.{one_tree_only as mig_one_tree, decided as m
 use Rattle.aoi.specs.declared.faults.NameErr.{NameErr}
 use Rattle.aoi.specs.Plain.{PlainUnit, IsSoundPlain}
 use Rattle.front_onc.specs.Resolved.{resolved as onc_resolved}
-use Rattle.front_onc.proofs.Derived.{derived_whole}
+use Rattle.front_onc.proofs.Derived.{derived_whole as onc_whole}
 use Rattle.front_onc.proofs.Whole.{resolved_sound as onc_sound}
+use Rattle.front_corba.specs.Resolved.{resolved as corba_resolved}
+use Rattle.front_corba.proofs.Derived.{derived_whole as corba_whole}
+use Rattle.front_corba.proofs.Whole.{resolved_sound as corba_sound}
 use Rattle.front_mig.specs.Resolved.{resolved as mig_resolved}
 use Rattle.front_mig.proofs.Whole.{resolved_sound as mig_sound}
 use Rattle.flick_top.specs.declared.saying.Saying.TheVariants as sayings
@@ -84,8 +90,17 @@ onc_line : OneLine OncFailsAt
 onc_line tokens l m f g = same_line (λ (d : Def). def d & mark (codes ";")) tokens l m f g
 
 onc_have : (tokens : List Token) → ((tree : List Def) × OncDerives tree tokens) ⊎ ((line : ℕ) × ((tree : List Def) → OncDerives tree tokens → ⊥) × OncFailsAt tokens line) → TokensHave front.Onc tokens
-onc_have tokens (inl (tree, derives)) = (in_words (onc_resolved tree), inl (tree, derives, refl), words_sound (onc_resolved tree) (λ u is. onc_sound tree u (derived_whole tree tokens derives) is))
+onc_have tokens (inl (tree, derives)) = (in_words (onc_resolved tree), inl (tree, derives, refl), words_sound (onc_resolved tree) (λ u is. onc_sound tree u (onc_whole tree tokens derives) is))
 onc_have tokens (inr (line, none, fails)) = (Err (sayings.Syntax line), inr (line, none, fails, refl), tt)
+
+-- ---- CORBA IDL files
+
+corba_line : OneLine CorbaFailsAt
+corba_line tokens l m f g = same_line outermost tokens l m f g
+
+corba_have : (tokens : List Token) → ((tree : List Definition) × CorbaDerives tree tokens) ⊎ ((line : ℕ) × (((tree : List Definition) → CorbaDerives tree tokens → ⊥) × CorbaFailsAt tokens line)) → TokensHave front.Corba tokens
+corba_have tokens (inl (tree, derives)) = (in_words (corba_resolved tree), inl (tree, derives, refl), words_sound (corba_resolved tree) (λ u is. corba_sound tree u (corba_whole tree tokens derives) is))
+corba_have tokens (inr (line, none, fails)) = (Err (sayings.Syntax line), inr (line, none, fails, refl), tt)
 
 -- ---- MIG files
 
@@ -114,18 +129,19 @@ either false P x y h g = g
 -- what words name is read
 pub front_read : (word : List ℕ) → IfSome (front_of word) IsRead
 front_read word =
-    either (bytes_eq word (codes "onc")) IsRead (Some front.Onc) (if bytes_eq word (codes "mig") then Some front.Mig else None) tt
-    (either (bytes_eq word (codes "mig")) IsRead (Some front.Mig) None tt tt)
+    either (bytes_eq word (codes "onc")) IsRead (Some front.Onc) _ tt
+    (either (bytes_eq word (codes "corba")) IsRead (Some front.Corba) _ tt
+    (either (bytes_eq word (codes "mig")) IsRead (Some front.Mig) None tt tt))
 
 tokens_once : (k : Front) (tokens : List Token) (r s : Read) → TokensSay k tokens r → TokensSay k tokens s → r ≡ s
 tokens_once front.Onc tokens r s p q = said_once (List Def) OncDerives OncFailsAt onc_resolved onc_one_tree onc_line tokens r s p q
+tokens_once front.Corba tokens r s p q = said_once (List Definition) CorbaDerives CorbaFailsAt corba_resolved corba_one_tree corba_line tokens r s p q
 tokens_once front.Mig tokens r s p q = said_once Subsystem MigDerives MigFailsAt mig_resolved mig_one_tree mig_line tokens r s p q
-tokens_once front.Corba tokens r s p q = absurd p
 
 tokens_have : (k : Front) → IsRead k → (tokens : List Token) → TokensHave k tokens
 tokens_have front.Onc read tokens = onc_have tokens (onc_decided tokens)
+tokens_have front.Corba read tokens = corba_have tokens (corba_decided tokens)
 tokens_have front.Mig read tokens = mig_have tokens (mig_decided tokens)
-tokens_have front.Corba read tokens = absurd read
 
 -- ---- texts
 

@@ -2,15 +2,15 @@
 ghost use Rattle.std.specs.Prelude.{◌≡◌, ◌≤◌, Err, IfOk, IfSome, length};
 ghost use Rattle.kit_base.specs.Limits.{longest_file};
 ghost use Rattle.aoi.specs.declared.faults.NameFault.TheVariants.{NoMemory as WantOfMemory};
-ghost use Rattle.front_onc.specs.Resolved.{IsWhole, resolved as onc_resolved};
+ghost use Rattle.front_onc.specs.Resolved.{IsWhole as OncIsWhole, resolved as onc_resolved};
+ghost use Rattle.front_corba.specs.Resolved.{IsWhole as CorbaIsWhole, resolved as corba_resolved};
 ghost use Rattle.front_mig.specs.Resolved.{resolved as mig_resolved};
 ghost use Rattle.flick_top.specs.declared.saying.Saying.TheVariants as sayings;
 ghost use Rattle.flick_top.specs.File.{IsSoundly, plainly};
-ghost use Rattle.flick_top.specs.Fronts.{IsRead, front_of, in_words, MigTokensSay, OncTokensSay, TokensSay, UnitOf};
+ghost use Rattle.flick_top.specs.Fronts.{IsRead, front_of, in_words, CorbaTokensSay, MigTokensSay, OncTokensSay, TokensSay, UnitOf};
 
 use crate::saying::Saying;
 use aoi::{NameErr, NameFault, Unit};
-use front_onc::files_are_whole;
 use idl_lex::{Front, LexErr, Tokens, lex};
 use kit_base::NoMemory;
 use onc_syntax::SyntaxErr;
@@ -23,6 +23,9 @@ pub fn front_of(word: &[u8]) -> Option<Front>
 {
     if word == b"onc".as_slice() {
         return Some(Front::Onc);
+    }
+    if word == b"corba".as_slice() {
+        return Some(Front::Corba);
     }
     if word == b"mig".as_slice() {
         return Some(Front::Mig);
@@ -52,8 +55,8 @@ fn of_tokens(alloc: Global, front: Front, tokens: &Tokens) -> Result<Result<Unit
 {
     match front {
         Front::Onc => onc_tokens(alloc, tokens),
+        Front::Corba => corba_tokens(alloc, tokens),
         Front::Mig => mig_tokens(alloc, tokens),
-        Front::Corba => unreachable!(),
     }
 }
 
@@ -73,7 +76,7 @@ fn onc_tokens(alloc: Global, tokens: &Tokens) -> Result<Result<Unit, Saying>, No
     ensures says { IfOk result (λ read. OncTokensSay tokens.now (plainly read)) }
     ensures sound { IfOk result IsSoundly }
 {
-    files_are_whole();
+    front_onc::files_are_whole();
     match onc_syntax::parse(alloc, tokens) {
         Ok(tree) => onc_tree(alloc, &tree),
         Err(SyntaxErr::NoMemory) => Err(NoMemory),
@@ -82,11 +85,36 @@ fn onc_tokens(alloc: Global, tokens: &Tokens) -> Result<Result<Unit, Saying>, No
 }
 
 fn onc_tree(alloc: Global, tree: &onc_syntax::Tree) -> Result<Result<Unit, Saying>, NoMemory>
-    requires { IsWhole tree.now }
+    requires { OncIsWhole tree.now }
     ensures says { IfOk result (λ read. plainly read ≡ in_words (onc_resolved tree.now)) }
     ensures sound { IfOk result IsSoundly }
 {
     match front_onc::resolve(alloc, tree) {
+        Ok(unit) => Ok(Ok(unit)),
+        Err(error) => named(error),
+    }
+}
+
+// ---- CORBA IDL files
+
+fn corba_tokens(alloc: Global, tokens: &Tokens) -> Result<Result<Unit, Saying>, NoMemory>
+    ensures says { IfOk result (λ read. CorbaTokensSay tokens.now (plainly read)) }
+    ensures sound { IfOk result IsSoundly }
+{
+    front_corba::files_are_whole();
+    match corba_syntax::parse(alloc, tokens) {
+        Ok(tree) => corba_tree(alloc, &tree),
+        Err(SyntaxErr::NoMemory) => Err(NoMemory),
+        Err(SyntaxErr::Syntax(line)) => Ok(Err(Saying::Syntax(line))),
+    }
+}
+
+fn corba_tree(alloc: Global, tree: &corba_syntax::Tree) -> Result<Result<Unit, Saying>, NoMemory>
+    requires { CorbaIsWhole tree.now }
+    ensures says { IfOk result (λ read. plainly read ≡ in_words (corba_resolved tree.now)) }
+    ensures sound { IfOk result IsSoundly }
+{
+    match front_corba::resolve(alloc, tree) {
         Ok(unit) => Ok(Ok(unit)),
         Err(error) => named(error),
     }

@@ -21,7 +21,8 @@ commands:\n\
 \x20 --help                    write this page\n\
 \x20 --version                 write name and version\n\
 \n\
-FRONT is the language of FILE: onc, for the ONC RPC language, or mig, for MIG definitions.\n\
+FRONT is the language of FILE: onc, for the ONC RPC language, corba, for CORBA IDL,\n\
+or mig, for MIG definitions.\n\
 BACK is xdr, for ONC calls, cdr-be or cdr-le, for GIOP requests in big or little order,\n\
 or mach, for typed messages in the manner of Mach 3.\n\
 A request record is a line of JSON.\n\
