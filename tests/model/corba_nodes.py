@@ -67,7 +67,7 @@ def written(ty, named):
 def refusal_of(offer, back):
     """The first limit that what a file offers passes over a back end, or None."""
     operations = [operation for interface in offer.interfaces for operation in interface.operations]
-    if back == "xdr" and any(operation.raises for operation in operations):
+    if back in ("xdr", "mach") and any(operation.raises for operation in operations):
         return "Raises"
     named = {id(ty) for _, ty in offer.types}
     types = [ty for _, ty in offer.types if id(ty.meaning) not in named]
