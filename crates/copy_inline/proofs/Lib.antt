@@ -22,6 +22,7 @@ pub mod RecvTyped
 pub mod RecvWhole
 pub mod RowCounts
 pub mod RowEmitting
+pub mod RowGiven
 pub mod RowReady
 pub mod RowSteps
 pub mod RowWhole

@@ -97,7 +97,7 @@ module _ (e : Encoding) where
 -- ---- with ensures
 
 mutual
-  bare_same : (b : Block) → IsBare b → unensured b ≡ b
+  pub bare_same : (b : Block) → IsBare b → unensured b ≡ b
   bare_same stop h = refl
   bare_same (ensure n r) h = absurd h
   bare_same (ensure_row p u x r) h = absurd h

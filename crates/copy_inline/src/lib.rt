@@ -5,6 +5,7 @@
 #![tactic(auto)]
 
 mod inlining;
+mod recv_arrays;
 mod recv_inlining;
 mod recv_rows;
 mod sent_rows;

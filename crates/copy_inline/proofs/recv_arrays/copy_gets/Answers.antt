@@ -3,7 +3,7 @@ use Rattle.std.proofs.lemmas.Result.{IfOk-weaker}
 use Rattle.cast_stub.specs.declared.recv.Get.{Get}
 use Rattle.cast_stub.specs.RecvAppend.{get_rebased}
 use Rattle.copy_inline.proofs.RecvRowEmitting.{same_gets}
-use Rattle.copy_inline.proofs.recv_rows.copy_gets.Goals as goal
+use Rattle.copy_inline.proofs.recv_arrays.copy_gets.Goals as goal
 
 pub returns : goal.returns
 returns c =

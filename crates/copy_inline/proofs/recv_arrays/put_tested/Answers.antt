@@ -2,7 +2,7 @@ use Rattle.std.proofs.Common.{◌≡◌, subst}
 use Rattle.std.specs.Prelude.{OnOk}
 use Rattle.cast_stub.specs.RecvBlock.{Recv, code_seen}
 use Rattle.copy_inline.proofs.RecvRowEmitting.{tested_more}
-use Rattle.copy_inline.proofs.recv_rows.put_tested.Goals as goal
+use Rattle.copy_inline.proofs.recv_arrays.put_tested.Goals as goal
 
 pub returns : goal.returns
 returns c =

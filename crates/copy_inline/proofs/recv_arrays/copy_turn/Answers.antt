@@ -3,7 +3,7 @@ use Rattle.cast_stub.specs.declared.recv.RecvOp.{RecvOp}
 use Rattle.cast_stub.specs.RecvBlock.{finish, op_seen, code_seen}
 use Rattle.cast_stub.specs.Traces.{descs}
 use Rattle.copy_inline.proofs.RecvRowEmitting.{op_flat, copied_more}
-use Rattle.copy_inline.proofs.recv_rows.copy_turn.Goals as goal
+use Rattle.copy_inline.proofs.recv_arrays.copy_turn.Goals as goal
 
 pub put_copy-requires : goal.put_copy-requires
 put_copy-requires c =
