@@ -1,11 +1,11 @@
 // Spans of texts, rows and lists.
 ghost use Rattle.std.specs.Prelude.{◌≡◌, ◌+◌, ◌<◌};
-ghost use Rattle.mint.specs.Types.{text, row_of};
+ghost use Rattle.mint.specs.Types.{number, text, row_of};
 ghost use Rattle.wire_def.specs.declared.encoding.Encoding.TheVariants.{CdrBig};
 ghost use Rattle.wire_def.specs.Scalars.{gap};
-ghost use Rattle.wire_def.specs.Lone.{IsPlain};
+ghost use Rattle.wire_def.specs.Described.{is_long};
 ghost use Rattle.storage_class.specs.Classing.{exactly, from_each};
-ghost use Rattle.storage_class.specs.Spans.{array_span, array_length, array_most, element_length, elements_length, items_span};
+ghost use Rattle.storage_class.specs.Spans.{array_span, described_length, array_length, array_most, element_length, elements_length, items_span};
 
 use crate::scalars::number_span;
 use crate::span::{Span, at_most, exactly};
@@ -15,7 +15,6 @@ use wire_def::Encoding;
 /// The octets of a row's element.
 #[tactic(auto, using(crate::proofs::Eights::arrays))]
 fn element(enc: Encoding, kind: Kind, _count: Count) -> u64
-    requires { IsPlain enc }
     ensures is { result ≡ element_length enc (row_of kind _count) }
     ensures few { result < 9 }
 {
@@ -25,7 +24,13 @@ fn element(enc: Encoding, kind: Kind, _count: Count) -> u64
             Kind::Octet => 1,
             _ => 4,
         },
-        _ => match kind {
+        Encoding::Mach => match kind {
+            Kind::I64 | Kind::U64 => 8,
+            Kind::I32 | Kind::U32 | Kind::Bool => 4,
+            Kind::I16 | Kind::U16 => 2,
+            _ => 1,
+        },
+        Encoding::CdrBig | Encoding::CdrLittle => match kind {
             Kind::I64 | Kind::U64 => 8,
             Kind::I32 | Kind::U32 => 4,
             Kind::I16 | Kind::U16 => 2,
@@ -37,7 +42,6 @@ fn element(enc: Encoding, kind: Kind, _count: Count) -> u64
 /// The octets of a row's elements, and of those behind them.
 #[tactic(auto, using(crate::proofs::Eights::arrays))]
 fn elements(enc: Encoding, kind: Kind, count: Count, n: u32) -> u64
-    requires { IsPlain enc }
     ensures is { result ≡ elements_length enc (row_of kind count) n }
     ensures few { result < 34359738376 }
 {
@@ -47,8 +51,36 @@ fn elements(enc: Encoding, kind: Kind, count: Count, n: u32) -> u64
             Kind::Octet => (n + 3) / 4 * 4,
             _ => n * element(enc, kind, count),
         },
-        _ => n * element(enc, kind, count),
+        Encoding::Mach => match kind {
+            Kind::I64 | Kind::U64 => n * 8,
+            Kind::I32 | Kind::U32 | Kind::Bool => n * 4,
+            Kind::I16 | Kind::U16 => (n * 2 + 3) / 4 * 4,
+            _ => (n + 3) / 4 * 4,
+        },
+        Encoding::CdrBig | Encoding::CdrLittle => n * element(enc, kind, count),
     }
+}
+
+/// Whether so many numbers of a kind have a long descriptor in Mach messages.
+fn has_long(bound: Count, kind: Kind) -> bool
+    ensures { result ≡ is_long bound (number kind) }
+{
+    let units = match kind {
+        Kind::I64 | Kind::U64 => 2,
+        _ => 1,
+    };
+    match bound {
+        Count::Exactly(n) | Count::AtMost(n) => u64::from(n) * units > 4095,
+        Count::Any => true,
+    }
+}
+
+/// The octets of a row's descriptor in Mach messages.
+fn descriptor(kind: Kind, count: Count) -> u64
+    ensures is { result ≡ described_length (row_of kind count) }
+    ensures few { result < 13 }
+{
+    if has_long(count, kind) { 12 } else { 4 }
 }
 
 /// The octets from a place to where a row's first element begins over CDR.
@@ -69,14 +101,14 @@ fn gap_before(kind: Kind, _count: Count, place: u64) -> u64
 /// The octets of a row of a fixed length from a position.
 #[tactic(auto, using(crate::proofs::Eights::arrays))]
 fn row_at(enc: Encoding, kind: Kind, count: Count, n: u32, place: u64) -> u64
-    requires plain { IsPlain enc }
     requires eighth { place < 8 }
     ensures { result ≡ array_length enc (row_of kind count) n place }
 {
     let all = elements(enc, kind, count, n);
     match enc {
         Encoding::Xdr => all,
-        _ => {
+        Encoding::Mach => descriptor(kind, count) + all,
+        Encoding::CdrBig | Encoding::CdrLittle => {
             if n == 0 {
                 all
             } else {
@@ -88,7 +120,6 @@ fn row_at(enc: Encoding, kind: Kind, count: Count, n: u32, place: u64) -> u64
 
 /// The span of a row of a fixed length.
 fn row_exactly(enc: Encoding, kind: Kind, count: Count, n: u32) -> Span
-    requires plain { IsPlain enc }
     ensures { result ≡ exactly (from_each (array_length enc (row_of kind count) n)) }
 {
     exactly(&[
@@ -106,13 +137,13 @@ fn row_exactly(enc: Encoding, kind: Kind, count: Count, n: u32) -> Span
 /// The most octets of a row of at most so many elements.
 #[tactic(auto, using(crate::proofs::Eights::arrays))]
 fn row_most(enc: Encoding, kind: Kind, count: Count, n: u32) -> u64
-    requires plain { IsPlain enc }
     ensures { result ≡ array_most enc (row_of kind count) n }
 {
     let all = elements(enc, kind, count, n);
     match enc {
         Encoding::Xdr => 4 + all,
-        _ => match kind {
+        Encoding::Mach => descriptor(kind, count) + all,
+        Encoding::CdrBig | Encoding::CdrLittle => match kind {
             Kind::I64 | Kind::U64 => 7 + (4 + all),
             _ => 7 + (0 + all),
         },
@@ -122,7 +153,6 @@ fn row_most(enc: Encoding, kind: Kind, count: Count, n: u32) -> u64
 /// The span of a row.
 #[tactic(auto, using(crate::proofs::Eights::arrays))]
 pub(crate) fn row(enc: Encoding, kind: Kind, count: Count) -> Span
-    requires { IsPlain enc }
     ensures { result ≡ array_span enc (row_of kind count) }
 {
     match count {
@@ -135,21 +165,27 @@ pub(crate) fn row(enc: Encoding, kind: Kind, count: Count) -> Span
 /// The octets of a text of a fixed length from a position, and of what stands behind them.
 #[tactic(auto, using(crate::proofs::Eights::arrays))]
 fn letters(enc: Encoding, _count: Count, n: u32) -> u64
-    requires { IsPlain enc }
     ensures is { result ≡ elements_length enc (text _count) n }
     ensures few { result < 4294967304 }
 {
     let n = u64::from(n);
     match enc {
-        Encoding::Xdr => (n + 3) / 4 * 4,
-        _ => n + 1,
+        Encoding::Xdr | Encoding::Mach => (n + 3) / 4 * 4,
+        Encoding::CdrBig | Encoding::CdrLittle => n + 1,
     }
+}
+
+/// The octets of a text's descriptor in Mach messages.
+fn text_descriptor(count: Count) -> u64
+    ensures is { result ≡ described_length (text count) }
+    ensures few { result < 13 }
+{
+    if has_long(count, Kind::Char) { 12 } else { 4 }
 }
 
 /// The span of a text.
 #[tactic(auto, using(crate::proofs::Eights::arrays))]
 pub(crate) fn octets(enc: Encoding, count: Count) -> Span
-    requires { IsPlain enc }
     ensures { result ≡ array_span enc (text count) }
 {
     match enc {
@@ -158,7 +194,12 @@ pub(crate) fn octets(enc: Encoding, count: Count) -> Span
             Count::AtMost(n) => at_most(4 + letters(enc, count, n)),
             Count::Any => Span::Unbounded,
         },
-        _ => match count {
+        Encoding::Mach => match count {
+            Count::Exactly(n) => exactly(&[text_descriptor(count) + letters(enc, count, n); 8]),
+            Count::AtMost(n) => at_most(text_descriptor(count) + letters(enc, count, n)),
+            Count::Any => Span::Unbounded,
+        },
+        Encoding::CdrBig | Encoding::CdrLittle => match count {
             Count::Exactly(n) | Count::AtMost(n) => at_most(7 + (0 + letters(enc, count, n))),
             Count::Any => Span::Unbounded,
         },
@@ -167,7 +208,6 @@ pub(crate) fn octets(enc: Encoding, count: Count) -> Span
 
 /// The span of a list.
 pub(crate) fn items(enc: Encoding, count: Count, item: Span) -> Span
-    requires { IsPlain enc }
     ensures { result ≡ items_span enc count item }
 {
     match count {

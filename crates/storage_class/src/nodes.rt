@@ -1,7 +1,6 @@
 // The span of each node, from those of the nodes before it.
 ghost use Rattle.std.specs.Prelude.{◌≡◌, ◌<◌, length, IfOk};
 ghost use Rattle.mint.specs.Types.{type_at, unfolded, fields_at, arms_at, AreBelow, ArmsBelow, IsBelow};
-ghost use Rattle.wire_def.specs.Lone.{IsPlain};
 ghost use Rattle.storage_class.specs.Spans.{span, fields_span, arms_span, AreSpans, AreClasses};
 
 use crate::arrays::{items, octets, row};
@@ -17,7 +16,6 @@ use wire_def::Encoding;
 
 /// The class of each node of a table, in one step for each node and each child.
 pub fn classify(alloc: Global, enc: Encoding, mint: &Mint) -> Result<Classes, NoMemory>
-    requires plain { IsPlain enc }
     ensures encoding { IfOk result (λ c. c.enc ≡ enc) }
     ensures spans { IfOk result (λ c. AreClasses mint.now c) }
 {
@@ -31,7 +29,6 @@ pub fn classify(alloc: Global, enc: Encoding, mint: &Mint) -> Result<Classes, No
 
 /// The span of the node behind those whose spans are known.
 fn node_span(enc: Encoding, mint: &Mint, known: &Classes, id: NodeId) -> Span
-    requires plain { IsPlain enc }
     requires id { id < length mint.now }
     requires all { length known.now.spans ≡ id }
     requires known { AreSpans enc mint.now known.now.spans }

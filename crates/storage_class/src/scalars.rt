@@ -3,7 +3,6 @@ ghost use Rattle.std.specs.Prelude.{◌≡◌};
 ghost use Rattle.std.specs.Int.{byte_len};
 ghost use Rattle.mint.specs.Types.{number, label, scalar_of};
 ghost use Rattle.mint.specs.Kinds.{width};
-ghost use Rattle.wire_def.specs.Lone.{IsPlain};
 ghost use Rattle.storage_class.specs.Spans.{scalar_span};
 
 use crate::span::Span;
@@ -14,7 +13,6 @@ use wire_def::Encoding;
 /// The span of a number of a kind.
 #[tactic(auto, using(crate::proofs::Eights::scalars))]
 pub(crate) fn number_span(enc: Encoding, kind: Kind) -> Span
-    requires { IsPlain enc }
     ensures { result ≡ scalar_span enc (number kind) }
 {
     match enc {
@@ -22,7 +20,11 @@ pub(crate) fn number_span(enc: Encoding, kind: Kind) -> Span
             Kind::I64 | Kind::U64 => Span::Fixed([8; 8]),
             _ => Span::Fixed([4; 8]),
         },
-        _ => match kind {
+        Encoding::Mach => match kind {
+            Kind::I64 | Kind::U64 => Span::Fixed([12; 8]),
+            _ => Span::Fixed([8; 8]),
+        },
+        Encoding::CdrBig | Encoding::CdrLittle => match kind {
             Kind::I64 | Kind::U64 => Span::Fixed([8, 15, 14, 13, 12, 11, 10, 9]),
             Kind::I32 | Kind::U32 => Span::Fixed([4, 7, 6, 5, 4, 7, 6, 5]),
             Kind::I16 | Kind::U16 => Span::Fixed([2, 3, 2, 3, 2, 3, 2, 3]),
@@ -34,7 +36,6 @@ pub(crate) fn number_span(enc: Encoding, kind: Kind) -> Span
 /// The span of an enum's label.
 #[tactic(auto, using(crate::proofs::Eights::scalars))]
 pub(crate) fn label_span(enc: Encoding, _labels: &Labels) -> Span
-    requires { IsPlain enc }
     ensures { result ≡ scalar_span enc (label _labels.now) }
 {
     number_span(enc, Kind::I32)
@@ -42,7 +43,6 @@ pub(crate) fn label_span(enc: Encoding, _labels: &Labels) -> Span
 
 /// The span of a tag.
 pub(crate) fn tag_span(enc: Encoding, tag: &Tag) -> Span
-    requires { IsPlain enc }
     ensures { result ≡ scalar_span enc (scalar_of tag.now) }
 {
     match tag {
