@@ -3,10 +3,12 @@ ghost use Rattle.std.specs.Prelude.{◌≤◌, IfOk};
 
 use crate::declared::put_declaration;
 use crate::shown::{put_expr, put_token, put_type};
+use aoi::{Field, Operation, Ty, Unit};
 use corba_decls::{Declaration, declaration};
 use corba_exprs::expression;
 use corba_syntax::{SyntaxErr, parse};
 use corba_types::type_name;
+use front_corba::{NameFault, files_are_whole, resolve};
 use idl_lex::{Front, LexErr, Token, Tokens, lex};
 use kit_base::NoMemory;
 use serde_json::{Category, Value as Json};
@@ -107,6 +109,7 @@ fn told(alloc: Global, row: &Json, tokens: &Tokens) -> Result<String, Bad> {
     match ask.as_str() {
         Some("lex") => tokens_told(alloc, tokens.as_slice()),
         Some("file") => file_told(alloc, tokens),
+        Some("corba unit") => unit_told(alloc, tokens),
         Some("mig file") => mig_file_told(alloc, tokens),
         Some("type") => type_told(alloc, levels, tokens.as_slice()),
         Some("expression") => expression_told(alloc, levels, tokens.as_slice()),
@@ -130,6 +133,91 @@ fn file_told(alloc: Global, tokens: &Tokens) -> Result<String, Bad> {
         Ok(_) => Ok(format!(in alloc; "ok")?),
         Err(SyntaxErr::Syntax(line)) => Ok(format!(in alloc; "syntax {line}")?),
         Err(SyntaxErr::NoMemory) => Err(Bad::NoMemory),
+    }
+}
+
+/// `ok`, or the first fault of the names and the number of its declaration, or the line where the text fails.
+fn unit_told(alloc: Global, tokens: &Tokens) -> Result<String, Bad> {
+    files_are_whole();
+    match parse(alloc, tokens) {
+        Ok(tree) => match resolve(alloc, &tree) {
+            Ok(unit) => units_told(alloc, &unit),
+            Err(fault) if fault.fault == NameFault::NoMemory => Err(Bad::NoMemory),
+            Err(fault) => Ok(format!(in alloc; "name {} {}", fault.fault, fault.decl)?),
+        },
+        Err(SyntaxErr::Syntax(line)) => Ok(format!(in alloc; "syntax {line}")?),
+        Err(SyntaxErr::NoMemory) => Err(Bad::NoMemory),
+    }
+}
+
+/// The number of types, and each interface with its operations.
+fn units_told(alloc: Global, unit: &Unit) -> Result<String, Bad> {
+    let mut out = format!(in alloc; "ok {}", unit.types().len())?;
+    for i in unit.interfaces().as_slice() {
+        let text = format!(in alloc;
+            " {} {} {} {} {}:",
+            shown(alloc, i.name.as_slice())?,
+            i.program,
+            i.version,
+            i.base,
+            i.slots
+        )?;
+        out.push_str(text.as_str())?;
+        for o in i.ops.as_slice() {
+            put_operation(alloc, &mut out, o)?;
+        }
+    }
+    Ok(out)
+}
+
+/// An operation: its name, its numbers, its parameters, its exceptions, and whether it is oneway.
+fn put_operation(alloc: Global, out: &mut String, o: &Operation) -> Result<(), Bad> {
+    let text = format!(in alloc;
+        " {}/{}/{}(",
+        shown(alloc, o.name.as_slice())?,
+        o.proc_no,
+        o.slot
+    )?;
+    out.push_str(text.as_str())?;
+    put_fields(alloc, out, o.ins.as_slice())?;
+    out.push_str(")->(")?;
+    put_fields(alloc, out, o.outs.as_slice())?;
+    out.push_str(if o.oneway { ")oneway" } else { ")" })?;
+    out.push_str(if matches!(o.result, Ty::Void) {
+        "void"
+    } else {
+        ""
+    })?;
+    for e in o.raises.as_slice() {
+        out.push_str(" ")?;
+        out.push_str(shown(alloc, e.name.as_slice())?.as_str())?;
+        out.push_str("=")?;
+        out.push_str(shown(alloc, e.id.as_slice())?.as_str())?;
+        out.push_str("{")?;
+        put_fields(alloc, out, e.members.as_slice())?;
+        out.push_str("}")?;
+    }
+    Ok(())
+}
+
+/// The names of fields.
+fn put_fields(alloc: Global, out: &mut String, fields: &[Field]) -> Result<(), Bad> {
+    for field in fields {
+        out.push_str(shown(alloc, field.name.as_slice())?.as_str())?;
+        out.push_str(",")?;
+    }
+    Ok(())
+}
+
+/// A name as text.
+fn shown(alloc: Global, name: &[u8]) -> Result<String, Bad> {
+    match str::from_utf8(name) {
+        Ok(text) => {
+            let mut out = String::new(alloc);
+            out.push_str(text)?;
+            Ok(out)
+        }
+        Err(_) => Err(Bad::Row("no text")),
     }
 }
 
