@@ -29,7 +29,8 @@ use Rattle.cast_stub.specs.Append.{append}
 use Rattle.cast_stub.specs.Steps.{Steps, Calls, steps, over, chunk_steps, align_steps}
 use Rattle.cast_stub.proofs.Appending.{steps-append}
 use Rattle.wire_def.specs.Places.{IsPlace}
-use Rattle.stub_lower.specs.Codes.{aligned, scalar_code, ended_code, number_put, number_chunk, count_code, row_code, end_code, array_code}
+use Rattle.stub_lower.specs.Items.{number_at}
+use Rattle.stub_lower.specs.Codes.{aligned, scalar_code, length_put, ended_code, number_put, number_chunk, count_code, row_code, end_code, array_code}
 use Rattle.cast_stub.specs.Layouts.{order_of, scalar_width}
 use Rattle.stub_lower.proofs.Writing.{Writes, both-writes, none-writes, writes_same, writes_stop, put-writes}
 use Rattle.stub_lower.proofs.Encoded.{ScalarsSend, ArraysSend, count-sends, first_true, second_true, letters_are_octets, over-writes}
@@ -71,7 +72,7 @@ still_none _ is64 p h = omega (arith, h)
 -- ---- an encoding whose numbers are aligned to their widths
 
 module _ (e : Encoding) (aligns : (s : Scalar) → alignment_of e s ≡ byte_len (width_of e s)) (any : (n : ℕ) → IsPlace e n)
-    (code : (w : ℕ) (x : Put) → scalar_code e w x ≡ aligned w (chunk w (x ∷ []) stop)) (lone : (s : Scalar) (p : ℕ) (n : ℤ) → lone_octets e s p n ≡ scalar_octets e s p n) where
+    (code : (s : Scalar) (x : Put) → scalar_code e s x ≡ aligned (scalar_width e s) (chunk (scalar_width e s) (x ∷ []) stop)) (lone : (s : Scalar) (p : ℕ) (n : ℤ) → lone_octets e s p n ≡ scalar_octets e s p n) (off : number_at e ≡ 0) where
   -- the octets of a scalar where it begins
   abbrev bare : Scalar → ℤ → List ℕ
   bare s n = number_octets e (width_of e s) (residue (width_of e s) n)
@@ -97,7 +98,7 @@ module _ (e : Encoding) (aligns : (s : Scalar) → alignment_of e s ≡ byte_len
 
   pub scalars-send : ScalarsSend e
   scalars-send c h s n x v p typed first is place =
-      (any (length (lone_octets e s p n)), rw (code (scalar_width e s) x, lone s p n) (scalar-writes c h s n x v p typed first is))
+      (any (length (lone_octets e s p n)), rw (code s x, lone s p n) (scalar-writes c h s n x v p typed (first ∙ off) is))
 
   -- ---- texts
 
@@ -105,8 +106,8 @@ module _ (e : Encoding) (aligns : (s : Scalar) → alignment_of e s ≡ byte_len
   ended_code-writes c h k ns p few =
       let one : length ns * 1 + 1 ≡ suc (length ns) = omega arith in
       let fits : IsScalar counted (pos (suc (length ns))) = lt-ltb (suc (length ns)) 4294967296 (omega arith) in
-      let x = put.Count 0 [] 1 1 (scalar_width e counted) (order_of e) in
-      rw (code (scalar_width e counted) x) (scalar-writes c h counted (pos (suc (length ns))) x (row k ns) p fits refl (ap (λ (m : ℕ). word (scalar_width e counted) (order_of e) (pos m)) one))
+      let x = length_put e 1 in
+      rw (code counted x) (scalar-writes c h counted (pos (suc (length ns))) x (row k ns) p fits off (ap (λ (m : ℕ). word (scalar_width e counted) (order_of e) (pos m)) one))
 
   abbrev octet_one : ℕ → ℤ → List ℕ
   octet_one p n = natural n ∷ []
@@ -249,96 +250,96 @@ four_fit q h = omega (arith, h)
 
 big_row : (c : Calls) (h : Head) (b : Count) (m k : Kind) (ns : List ℤ) (p : ℕ) → Allows b (length ns) → IsTrue (list_all (in_range m) ns) → Writes (steps c h (array_code CdrBig (row_of m b)) (row k ns)) p (array_octets CdrBig (row_of m b) p ns)
 unfolding array_octets head_octets element_octets count_octets
-big_row c h (Exactly x) kind.Octet k ns p ok all = rw (← octets_same CdrBig (inl refl) (p + 0) ns all) (fixed-row CdrBig (λ s. refl) (λ n. tt) (λ w x. refl) (λ s p n. refl) c h k kind.Octet x ns p ok all)
+big_row c h (Exactly x) kind.Octet k ns p ok all = rw (← octets_same CdrBig (inl refl) (p + 0) ns all) (fixed-row CdrBig (λ s. refl) (λ n. tt) (λ s x. refl) (λ s p n. refl) refl c h k kind.Octet x ns p ok all)
 big_row c h (AtMost x) kind.Octet k ns p ok all =
     let q : ℕ = p + length (scalar_octets CdrBig counted p (pos (length ns))) in
-    rw (← octets_same CdrBig (inl refl) q ns all) (free-row CdrBig (λ s. refl) (λ n. tt) (λ w x. refl) (λ s p n. refl) refl c h (AtMost x) k kind.Octet ns p ok one_fits refl tt all)
+    rw (← octets_same CdrBig (inl refl) q ns all) (free-row CdrBig (λ s. refl) (λ n. tt) (λ s x. refl) (λ s p n. refl) refl refl c h (AtMost x) k kind.Octet ns p ok one_fits refl tt all)
 big_row c h Any kind.Octet k ns p ok all =
     let q : ℕ = p + length (scalar_octets CdrBig counted p (pos (length ns))) in
-    rw (← octets_same CdrBig (inl refl) q ns all) (free-row CdrBig (λ s. refl) (λ n. tt) (λ w x. refl) (λ s p n. refl) refl c h Any k kind.Octet ns p ok one_fits refl tt all)
-big_row c h (Exactly x) kind.I8 k ns p ok all = fixed-row CdrBig (λ s. refl) (λ n. tt) (λ w x. refl) (λ s p n. refl) c h k kind.I8 x ns p ok all
-big_row c h (AtMost x) kind.I8 k ns p ok all = free-row CdrBig (λ s. refl) (λ n. tt) (λ w x. refl) (λ s p n. refl) refl c h (AtMost x) k kind.I8 ns p ok one_fits refl tt all
-big_row c h Any kind.I8 k ns p ok all = free-row CdrBig (λ s. refl) (λ n. tt) (λ w x. refl) (λ s p n. refl) refl c h Any k kind.I8 ns p ok one_fits refl tt all
-big_row c h (Exactly x) kind.U8 k ns p ok all = fixed-row CdrBig (λ s. refl) (λ n. tt) (λ w x. refl) (λ s p n. refl) c h k kind.U8 x ns p ok all
-big_row c h (AtMost x) kind.U8 k ns p ok all = free-row CdrBig (λ s. refl) (λ n. tt) (λ w x. refl) (λ s p n. refl) refl c h (AtMost x) k kind.U8 ns p ok one_fits refl tt all
-big_row c h Any kind.U8 k ns p ok all = free-row CdrBig (λ s. refl) (λ n. tt) (λ w x. refl) (λ s p n. refl) refl c h Any k kind.U8 ns p ok one_fits refl tt all
-big_row c h (Exactly x) kind.Char k ns p ok all = fixed-row CdrBig (λ s. refl) (λ n. tt) (λ w x. refl) (λ s p n. refl) c h k kind.Char x ns p ok all
-big_row c h (AtMost x) kind.Char k ns p ok all = free-row CdrBig (λ s. refl) (λ n. tt) (λ w x. refl) (λ s p n. refl) refl c h (AtMost x) k kind.Char ns p ok one_fits refl tt all
-big_row c h Any kind.Char k ns p ok all = free-row CdrBig (λ s. refl) (λ n. tt) (λ w x. refl) (λ s p n. refl) refl c h Any k kind.Char ns p ok one_fits refl tt all
-big_row c h (Exactly x) kind.Bool k ns p ok all = fixed-row CdrBig (λ s. refl) (λ n. tt) (λ w x. refl) (λ s p n. refl) c h k kind.Bool x ns p ok all
-big_row c h (AtMost x) kind.Bool k ns p ok all = free-row CdrBig (λ s. refl) (λ n. tt) (λ w x. refl) (λ s p n. refl) refl c h (AtMost x) k kind.Bool ns p ok one_fits refl tt all
-big_row c h Any kind.Bool k ns p ok all = free-row CdrBig (λ s. refl) (λ n. tt) (λ w x. refl) (λ s p n. refl) refl c h Any k kind.Bool ns p ok one_fits refl tt all
-big_row c h (Exactly x) kind.I16 k ns p ok all = fixed-row CdrBig (λ s. refl) (λ n. tt) (λ w x. refl) (λ s p n. refl) c h k kind.I16 x ns p ok all
-big_row c h (AtMost x) kind.I16 k ns p ok all = free-row CdrBig (λ s. refl) (λ n. tt) (λ w x. refl) (λ s p n. refl) refl c h (AtMost x) k kind.I16 ns p ok two_fit refl tt all
-big_row c h Any kind.I16 k ns p ok all = free-row CdrBig (λ s. refl) (λ n. tt) (λ w x. refl) (λ s p n. refl) refl c h Any k kind.I16 ns p ok two_fit refl tt all
-big_row c h (Exactly x) kind.U16 k ns p ok all = fixed-row CdrBig (λ s. refl) (λ n. tt) (λ w x. refl) (λ s p n. refl) c h k kind.U16 x ns p ok all
-big_row c h (AtMost x) kind.U16 k ns p ok all = free-row CdrBig (λ s. refl) (λ n. tt) (λ w x. refl) (λ s p n. refl) refl c h (AtMost x) k kind.U16 ns p ok two_fit refl tt all
-big_row c h Any kind.U16 k ns p ok all = free-row CdrBig (λ s. refl) (λ n. tt) (λ w x. refl) (λ s p n. refl) refl c h Any k kind.U16 ns p ok two_fit refl tt all
-big_row c h (Exactly x) kind.I32 k ns p ok all = fixed-row CdrBig (λ s. refl) (λ n. tt) (λ w x. refl) (λ s p n. refl) c h k kind.I32 x ns p ok all
-big_row c h (AtMost x) kind.I32 k ns p ok all = free-row CdrBig (λ s. refl) (λ n. tt) (λ w x. refl) (λ s p n. refl) refl c h (AtMost x) k kind.I32 ns p ok four_fit refl tt all
-big_row c h Any kind.I32 k ns p ok all = free-row CdrBig (λ s. refl) (λ n. tt) (λ w x. refl) (λ s p n. refl) refl c h Any k kind.I32 ns p ok four_fit refl tt all
-big_row c h (Exactly x) kind.U32 k ns p ok all = fixed-row CdrBig (λ s. refl) (λ n. tt) (λ w x. refl) (λ s p n. refl) c h k kind.U32 x ns p ok all
-big_row c h (AtMost x) kind.U32 k ns p ok all = free-row CdrBig (λ s. refl) (λ n. tt) (λ w x. refl) (λ s p n. refl) refl c h (AtMost x) k kind.U32 ns p ok four_fit refl tt all
-big_row c h Any kind.U32 k ns p ok all = free-row CdrBig (λ s. refl) (λ n. tt) (λ w x. refl) (λ s p n. refl) refl c h Any k kind.U32 ns p ok four_fit refl tt all
-big_row c h (Exactly x) kind.I64 k ns p ok all = fixed-row CdrBig (λ s. refl) (λ n. tt) (λ w x. refl) (λ s p n. refl) c h k kind.I64 x ns p ok all
-big_row c h (AtMost x) kind.I64 k ns p ok all = gapped-row CdrBig (λ s. refl) (λ n. tt) (λ w x. refl) (λ s p n. refl) c h (AtMost x) k kind.I64 ns p ok tt all
-big_row c h Any kind.I64 k ns p ok all = gapped-row CdrBig (λ s. refl) (λ n. tt) (λ w x. refl) (λ s p n. refl) c h Any k kind.I64 ns p ok tt all
-big_row c h (Exactly x) kind.U64 k ns p ok all = fixed-row CdrBig (λ s. refl) (λ n. tt) (λ w x. refl) (λ s p n. refl) c h k kind.U64 x ns p ok all
-big_row c h (AtMost x) kind.U64 k ns p ok all = gapped-row CdrBig (λ s. refl) (λ n. tt) (λ w x. refl) (λ s p n. refl) c h (AtMost x) k kind.U64 ns p ok tt all
-big_row c h Any kind.U64 k ns p ok all = gapped-row CdrBig (λ s. refl) (λ n. tt) (λ w x. refl) (λ s p n. refl) c h Any k kind.U64 ns p ok tt all
+    rw (← octets_same CdrBig (inl refl) q ns all) (free-row CdrBig (λ s. refl) (λ n. tt) (λ s x. refl) (λ s p n. refl) refl refl c h Any k kind.Octet ns p ok one_fits refl tt all)
+big_row c h (Exactly x) kind.I8 k ns p ok all = fixed-row CdrBig (λ s. refl) (λ n. tt) (λ s x. refl) (λ s p n. refl) refl c h k kind.I8 x ns p ok all
+big_row c h (AtMost x) kind.I8 k ns p ok all = free-row CdrBig (λ s. refl) (λ n. tt) (λ s x. refl) (λ s p n. refl) refl refl c h (AtMost x) k kind.I8 ns p ok one_fits refl tt all
+big_row c h Any kind.I8 k ns p ok all = free-row CdrBig (λ s. refl) (λ n. tt) (λ s x. refl) (λ s p n. refl) refl refl c h Any k kind.I8 ns p ok one_fits refl tt all
+big_row c h (Exactly x) kind.U8 k ns p ok all = fixed-row CdrBig (λ s. refl) (λ n. tt) (λ s x. refl) (λ s p n. refl) refl c h k kind.U8 x ns p ok all
+big_row c h (AtMost x) kind.U8 k ns p ok all = free-row CdrBig (λ s. refl) (λ n. tt) (λ s x. refl) (λ s p n. refl) refl refl c h (AtMost x) k kind.U8 ns p ok one_fits refl tt all
+big_row c h Any kind.U8 k ns p ok all = free-row CdrBig (λ s. refl) (λ n. tt) (λ s x. refl) (λ s p n. refl) refl refl c h Any k kind.U8 ns p ok one_fits refl tt all
+big_row c h (Exactly x) kind.Char k ns p ok all = fixed-row CdrBig (λ s. refl) (λ n. tt) (λ s x. refl) (λ s p n. refl) refl c h k kind.Char x ns p ok all
+big_row c h (AtMost x) kind.Char k ns p ok all = free-row CdrBig (λ s. refl) (λ n. tt) (λ s x. refl) (λ s p n. refl) refl refl c h (AtMost x) k kind.Char ns p ok one_fits refl tt all
+big_row c h Any kind.Char k ns p ok all = free-row CdrBig (λ s. refl) (λ n. tt) (λ s x. refl) (λ s p n. refl) refl refl c h Any k kind.Char ns p ok one_fits refl tt all
+big_row c h (Exactly x) kind.Bool k ns p ok all = fixed-row CdrBig (λ s. refl) (λ n. tt) (λ s x. refl) (λ s p n. refl) refl c h k kind.Bool x ns p ok all
+big_row c h (AtMost x) kind.Bool k ns p ok all = free-row CdrBig (λ s. refl) (λ n. tt) (λ s x. refl) (λ s p n. refl) refl refl c h (AtMost x) k kind.Bool ns p ok one_fits refl tt all
+big_row c h Any kind.Bool k ns p ok all = free-row CdrBig (λ s. refl) (λ n. tt) (λ s x. refl) (λ s p n. refl) refl refl c h Any k kind.Bool ns p ok one_fits refl tt all
+big_row c h (Exactly x) kind.I16 k ns p ok all = fixed-row CdrBig (λ s. refl) (λ n. tt) (λ s x. refl) (λ s p n. refl) refl c h k kind.I16 x ns p ok all
+big_row c h (AtMost x) kind.I16 k ns p ok all = free-row CdrBig (λ s. refl) (λ n. tt) (λ s x. refl) (λ s p n. refl) refl refl c h (AtMost x) k kind.I16 ns p ok two_fit refl tt all
+big_row c h Any kind.I16 k ns p ok all = free-row CdrBig (λ s. refl) (λ n. tt) (λ s x. refl) (λ s p n. refl) refl refl c h Any k kind.I16 ns p ok two_fit refl tt all
+big_row c h (Exactly x) kind.U16 k ns p ok all = fixed-row CdrBig (λ s. refl) (λ n. tt) (λ s x. refl) (λ s p n. refl) refl c h k kind.U16 x ns p ok all
+big_row c h (AtMost x) kind.U16 k ns p ok all = free-row CdrBig (λ s. refl) (λ n. tt) (λ s x. refl) (λ s p n. refl) refl refl c h (AtMost x) k kind.U16 ns p ok two_fit refl tt all
+big_row c h Any kind.U16 k ns p ok all = free-row CdrBig (λ s. refl) (λ n. tt) (λ s x. refl) (λ s p n. refl) refl refl c h Any k kind.U16 ns p ok two_fit refl tt all
+big_row c h (Exactly x) kind.I32 k ns p ok all = fixed-row CdrBig (λ s. refl) (λ n. tt) (λ s x. refl) (λ s p n. refl) refl c h k kind.I32 x ns p ok all
+big_row c h (AtMost x) kind.I32 k ns p ok all = free-row CdrBig (λ s. refl) (λ n. tt) (λ s x. refl) (λ s p n. refl) refl refl c h (AtMost x) k kind.I32 ns p ok four_fit refl tt all
+big_row c h Any kind.I32 k ns p ok all = free-row CdrBig (λ s. refl) (λ n. tt) (λ s x. refl) (λ s p n. refl) refl refl c h Any k kind.I32 ns p ok four_fit refl tt all
+big_row c h (Exactly x) kind.U32 k ns p ok all = fixed-row CdrBig (λ s. refl) (λ n. tt) (λ s x. refl) (λ s p n. refl) refl c h k kind.U32 x ns p ok all
+big_row c h (AtMost x) kind.U32 k ns p ok all = free-row CdrBig (λ s. refl) (λ n. tt) (λ s x. refl) (λ s p n. refl) refl refl c h (AtMost x) k kind.U32 ns p ok four_fit refl tt all
+big_row c h Any kind.U32 k ns p ok all = free-row CdrBig (λ s. refl) (λ n. tt) (λ s x. refl) (λ s p n. refl) refl refl c h Any k kind.U32 ns p ok four_fit refl tt all
+big_row c h (Exactly x) kind.I64 k ns p ok all = fixed-row CdrBig (λ s. refl) (λ n. tt) (λ s x. refl) (λ s p n. refl) refl c h k kind.I64 x ns p ok all
+big_row c h (AtMost x) kind.I64 k ns p ok all = gapped-row CdrBig (λ s. refl) (λ n. tt) (λ s x. refl) (λ s p n. refl) refl c h (AtMost x) k kind.I64 ns p ok tt all
+big_row c h Any kind.I64 k ns p ok all = gapped-row CdrBig (λ s. refl) (λ n. tt) (λ s x. refl) (λ s p n. refl) refl c h Any k kind.I64 ns p ok tt all
+big_row c h (Exactly x) kind.U64 k ns p ok all = fixed-row CdrBig (λ s. refl) (λ n. tt) (λ s x. refl) (λ s p n. refl) refl c h k kind.U64 x ns p ok all
+big_row c h (AtMost x) kind.U64 k ns p ok all = gapped-row CdrBig (λ s. refl) (λ n. tt) (λ s x. refl) (λ s p n. refl) refl c h (AtMost x) k kind.U64 ns p ok tt all
+big_row c h Any kind.U64 k ns p ok all = gapped-row CdrBig (λ s. refl) (λ n. tt) (λ s x. refl) (λ s p n. refl) refl c h Any k kind.U64 ns p ok tt all
 
 pub big_scalar : ScalarsSend CdrBig
-big_scalar = scalars-send CdrBig (λ s. refl) (λ n. tt) (λ w x. refl) (λ s p n. refl)
+big_scalar = scalars-send CdrBig (λ s. refl) (λ n. tt) (λ s x. refl) (λ s p n. refl) refl
 
 pub big_array : ArraysSend CdrBig
 unfolding array_octets head_octets element_octets
-big_array c h (text b) k ns p typed few place = (tt, text-writes CdrBig (λ s. refl) (λ n. tt) (λ w x. refl) (λ s p n. refl) c h k ns p (letters_are_octets ns typed.2) few)
+big_array c h (text b) k ns p typed few place = (tt, text-writes CdrBig (λ s. refl) (λ n. tt) (λ s x. refl) (λ s p n. refl) refl c h k ns p (letters_are_octets ns typed.2) few)
 big_array c h (row_of m b) k ns p typed few place = (tt, big_row c h b m k ns p typed.1 typed.2)
 
 little_row : (c : Calls) (h : Head) (b : Count) (m k : Kind) (ns : List ℤ) (p : ℕ) → Allows b (length ns) → IsTrue (list_all (in_range m) ns) → Writes (steps c h (array_code CdrLittle (row_of m b)) (row k ns)) p (array_octets CdrLittle (row_of m b) p ns)
 unfolding array_octets head_octets element_octets count_octets
-little_row c h (Exactly x) kind.Octet k ns p ok all = rw (← octets_same CdrLittle (inr refl) (p + 0) ns all) (fixed-row CdrLittle (λ s. refl) (λ n. tt) (λ w x. refl) (λ s p n. refl) c h k kind.Octet x ns p ok all)
+little_row c h (Exactly x) kind.Octet k ns p ok all = rw (← octets_same CdrLittle (inr refl) (p + 0) ns all) (fixed-row CdrLittle (λ s. refl) (λ n. tt) (λ s x. refl) (λ s p n. refl) refl c h k kind.Octet x ns p ok all)
 little_row c h (AtMost x) kind.Octet k ns p ok all =
     let q : ℕ = p + length (scalar_octets CdrLittle counted p (pos (length ns))) in
-    rw (← octets_same CdrLittle (inr refl) q ns all) (free-row CdrLittle (λ s. refl) (λ n. tt) (λ w x. refl) (λ s p n. refl) refl c h (AtMost x) k kind.Octet ns p ok one_fits refl tt all)
+    rw (← octets_same CdrLittle (inr refl) q ns all) (free-row CdrLittle (λ s. refl) (λ n. tt) (λ s x. refl) (λ s p n. refl) refl refl c h (AtMost x) k kind.Octet ns p ok one_fits refl tt all)
 little_row c h Any kind.Octet k ns p ok all =
     let q : ℕ = p + length (scalar_octets CdrLittle counted p (pos (length ns))) in
-    rw (← octets_same CdrLittle (inr refl) q ns all) (free-row CdrLittle (λ s. refl) (λ n. tt) (λ w x. refl) (λ s p n. refl) refl c h Any k kind.Octet ns p ok one_fits refl tt all)
-little_row c h (Exactly x) kind.I8 k ns p ok all = fixed-row CdrLittle (λ s. refl) (λ n. tt) (λ w x. refl) (λ s p n. refl) c h k kind.I8 x ns p ok all
-little_row c h (AtMost x) kind.I8 k ns p ok all = free-row CdrLittle (λ s. refl) (λ n. tt) (λ w x. refl) (λ s p n. refl) refl c h (AtMost x) k kind.I8 ns p ok one_fits refl tt all
-little_row c h Any kind.I8 k ns p ok all = free-row CdrLittle (λ s. refl) (λ n. tt) (λ w x. refl) (λ s p n. refl) refl c h Any k kind.I8 ns p ok one_fits refl tt all
-little_row c h (Exactly x) kind.U8 k ns p ok all = fixed-row CdrLittle (λ s. refl) (λ n. tt) (λ w x. refl) (λ s p n. refl) c h k kind.U8 x ns p ok all
-little_row c h (AtMost x) kind.U8 k ns p ok all = free-row CdrLittle (λ s. refl) (λ n. tt) (λ w x. refl) (λ s p n. refl) refl c h (AtMost x) k kind.U8 ns p ok one_fits refl tt all
-little_row c h Any kind.U8 k ns p ok all = free-row CdrLittle (λ s. refl) (λ n. tt) (λ w x. refl) (λ s p n. refl) refl c h Any k kind.U8 ns p ok one_fits refl tt all
-little_row c h (Exactly x) kind.Char k ns p ok all = fixed-row CdrLittle (λ s. refl) (λ n. tt) (λ w x. refl) (λ s p n. refl) c h k kind.Char x ns p ok all
-little_row c h (AtMost x) kind.Char k ns p ok all = free-row CdrLittle (λ s. refl) (λ n. tt) (λ w x. refl) (λ s p n. refl) refl c h (AtMost x) k kind.Char ns p ok one_fits refl tt all
-little_row c h Any kind.Char k ns p ok all = free-row CdrLittle (λ s. refl) (λ n. tt) (λ w x. refl) (λ s p n. refl) refl c h Any k kind.Char ns p ok one_fits refl tt all
-little_row c h (Exactly x) kind.Bool k ns p ok all = fixed-row CdrLittle (λ s. refl) (λ n. tt) (λ w x. refl) (λ s p n. refl) c h k kind.Bool x ns p ok all
-little_row c h (AtMost x) kind.Bool k ns p ok all = free-row CdrLittle (λ s. refl) (λ n. tt) (λ w x. refl) (λ s p n. refl) refl c h (AtMost x) k kind.Bool ns p ok one_fits refl tt all
-little_row c h Any kind.Bool k ns p ok all = free-row CdrLittle (λ s. refl) (λ n. tt) (λ w x. refl) (λ s p n. refl) refl c h Any k kind.Bool ns p ok one_fits refl tt all
-little_row c h (Exactly x) kind.I16 k ns p ok all = fixed-row CdrLittle (λ s. refl) (λ n. tt) (λ w x. refl) (λ s p n. refl) c h k kind.I16 x ns p ok all
-little_row c h (AtMost x) kind.I16 k ns p ok all = free-row CdrLittle (λ s. refl) (λ n. tt) (λ w x. refl) (λ s p n. refl) refl c h (AtMost x) k kind.I16 ns p ok two_fit refl tt all
-little_row c h Any kind.I16 k ns p ok all = free-row CdrLittle (λ s. refl) (λ n. tt) (λ w x. refl) (λ s p n. refl) refl c h Any k kind.I16 ns p ok two_fit refl tt all
-little_row c h (Exactly x) kind.U16 k ns p ok all = fixed-row CdrLittle (λ s. refl) (λ n. tt) (λ w x. refl) (λ s p n. refl) c h k kind.U16 x ns p ok all
-little_row c h (AtMost x) kind.U16 k ns p ok all = free-row CdrLittle (λ s. refl) (λ n. tt) (λ w x. refl) (λ s p n. refl) refl c h (AtMost x) k kind.U16 ns p ok two_fit refl tt all
-little_row c h Any kind.U16 k ns p ok all = free-row CdrLittle (λ s. refl) (λ n. tt) (λ w x. refl) (λ s p n. refl) refl c h Any k kind.U16 ns p ok two_fit refl tt all
-little_row c h (Exactly x) kind.I32 k ns p ok all = fixed-row CdrLittle (λ s. refl) (λ n. tt) (λ w x. refl) (λ s p n. refl) c h k kind.I32 x ns p ok all
-little_row c h (AtMost x) kind.I32 k ns p ok all = free-row CdrLittle (λ s. refl) (λ n. tt) (λ w x. refl) (λ s p n. refl) refl c h (AtMost x) k kind.I32 ns p ok four_fit refl tt all
-little_row c h Any kind.I32 k ns p ok all = free-row CdrLittle (λ s. refl) (λ n. tt) (λ w x. refl) (λ s p n. refl) refl c h Any k kind.I32 ns p ok four_fit refl tt all
-little_row c h (Exactly x) kind.U32 k ns p ok all = fixed-row CdrLittle (λ s. refl) (λ n. tt) (λ w x. refl) (λ s p n. refl) c h k kind.U32 x ns p ok all
-little_row c h (AtMost x) kind.U32 k ns p ok all = free-row CdrLittle (λ s. refl) (λ n. tt) (λ w x. refl) (λ s p n. refl) refl c h (AtMost x) k kind.U32 ns p ok four_fit refl tt all
-little_row c h Any kind.U32 k ns p ok all = free-row CdrLittle (λ s. refl) (λ n. tt) (λ w x. refl) (λ s p n. refl) refl c h Any k kind.U32 ns p ok four_fit refl tt all
-little_row c h (Exactly x) kind.I64 k ns p ok all = fixed-row CdrLittle (λ s. refl) (λ n. tt) (λ w x. refl) (λ s p n. refl) c h k kind.I64 x ns p ok all
-little_row c h (AtMost x) kind.I64 k ns p ok all = gapped-row CdrLittle (λ s. refl) (λ n. tt) (λ w x. refl) (λ s p n. refl) c h (AtMost x) k kind.I64 ns p ok tt all
-little_row c h Any kind.I64 k ns p ok all = gapped-row CdrLittle (λ s. refl) (λ n. tt) (λ w x. refl) (λ s p n. refl) c h Any k kind.I64 ns p ok tt all
-little_row c h (Exactly x) kind.U64 k ns p ok all = fixed-row CdrLittle (λ s. refl) (λ n. tt) (λ w x. refl) (λ s p n. refl) c h k kind.U64 x ns p ok all
-little_row c h (AtMost x) kind.U64 k ns p ok all = gapped-row CdrLittle (λ s. refl) (λ n. tt) (λ w x. refl) (λ s p n. refl) c h (AtMost x) k kind.U64 ns p ok tt all
-little_row c h Any kind.U64 k ns p ok all = gapped-row CdrLittle (λ s. refl) (λ n. tt) (λ w x. refl) (λ s p n. refl) c h Any k kind.U64 ns p ok tt all
+    rw (← octets_same CdrLittle (inr refl) q ns all) (free-row CdrLittle (λ s. refl) (λ n. tt) (λ s x. refl) (λ s p n. refl) refl refl c h Any k kind.Octet ns p ok one_fits refl tt all)
+little_row c h (Exactly x) kind.I8 k ns p ok all = fixed-row CdrLittle (λ s. refl) (λ n. tt) (λ s x. refl) (λ s p n. refl) refl c h k kind.I8 x ns p ok all
+little_row c h (AtMost x) kind.I8 k ns p ok all = free-row CdrLittle (λ s. refl) (λ n. tt) (λ s x. refl) (λ s p n. refl) refl refl c h (AtMost x) k kind.I8 ns p ok one_fits refl tt all
+little_row c h Any kind.I8 k ns p ok all = free-row CdrLittle (λ s. refl) (λ n. tt) (λ s x. refl) (λ s p n. refl) refl refl c h Any k kind.I8 ns p ok one_fits refl tt all
+little_row c h (Exactly x) kind.U8 k ns p ok all = fixed-row CdrLittle (λ s. refl) (λ n. tt) (λ s x. refl) (λ s p n. refl) refl c h k kind.U8 x ns p ok all
+little_row c h (AtMost x) kind.U8 k ns p ok all = free-row CdrLittle (λ s. refl) (λ n. tt) (λ s x. refl) (λ s p n. refl) refl refl c h (AtMost x) k kind.U8 ns p ok one_fits refl tt all
+little_row c h Any kind.U8 k ns p ok all = free-row CdrLittle (λ s. refl) (λ n. tt) (λ s x. refl) (λ s p n. refl) refl refl c h Any k kind.U8 ns p ok one_fits refl tt all
+little_row c h (Exactly x) kind.Char k ns p ok all = fixed-row CdrLittle (λ s. refl) (λ n. tt) (λ s x. refl) (λ s p n. refl) refl c h k kind.Char x ns p ok all
+little_row c h (AtMost x) kind.Char k ns p ok all = free-row CdrLittle (λ s. refl) (λ n. tt) (λ s x. refl) (λ s p n. refl) refl refl c h (AtMost x) k kind.Char ns p ok one_fits refl tt all
+little_row c h Any kind.Char k ns p ok all = free-row CdrLittle (λ s. refl) (λ n. tt) (λ s x. refl) (λ s p n. refl) refl refl c h Any k kind.Char ns p ok one_fits refl tt all
+little_row c h (Exactly x) kind.Bool k ns p ok all = fixed-row CdrLittle (λ s. refl) (λ n. tt) (λ s x. refl) (λ s p n. refl) refl c h k kind.Bool x ns p ok all
+little_row c h (AtMost x) kind.Bool k ns p ok all = free-row CdrLittle (λ s. refl) (λ n. tt) (λ s x. refl) (λ s p n. refl) refl refl c h (AtMost x) k kind.Bool ns p ok one_fits refl tt all
+little_row c h Any kind.Bool k ns p ok all = free-row CdrLittle (λ s. refl) (λ n. tt) (λ s x. refl) (λ s p n. refl) refl refl c h Any k kind.Bool ns p ok one_fits refl tt all
+little_row c h (Exactly x) kind.I16 k ns p ok all = fixed-row CdrLittle (λ s. refl) (λ n. tt) (λ s x. refl) (λ s p n. refl) refl c h k kind.I16 x ns p ok all
+little_row c h (AtMost x) kind.I16 k ns p ok all = free-row CdrLittle (λ s. refl) (λ n. tt) (λ s x. refl) (λ s p n. refl) refl refl c h (AtMost x) k kind.I16 ns p ok two_fit refl tt all
+little_row c h Any kind.I16 k ns p ok all = free-row CdrLittle (λ s. refl) (λ n. tt) (λ s x. refl) (λ s p n. refl) refl refl c h Any k kind.I16 ns p ok two_fit refl tt all
+little_row c h (Exactly x) kind.U16 k ns p ok all = fixed-row CdrLittle (λ s. refl) (λ n. tt) (λ s x. refl) (λ s p n. refl) refl c h k kind.U16 x ns p ok all
+little_row c h (AtMost x) kind.U16 k ns p ok all = free-row CdrLittle (λ s. refl) (λ n. tt) (λ s x. refl) (λ s p n. refl) refl refl c h (AtMost x) k kind.U16 ns p ok two_fit refl tt all
+little_row c h Any kind.U16 k ns p ok all = free-row CdrLittle (λ s. refl) (λ n. tt) (λ s x. refl) (λ s p n. refl) refl refl c h Any k kind.U16 ns p ok two_fit refl tt all
+little_row c h (Exactly x) kind.I32 k ns p ok all = fixed-row CdrLittle (λ s. refl) (λ n. tt) (λ s x. refl) (λ s p n. refl) refl c h k kind.I32 x ns p ok all
+little_row c h (AtMost x) kind.I32 k ns p ok all = free-row CdrLittle (λ s. refl) (λ n. tt) (λ s x. refl) (λ s p n. refl) refl refl c h (AtMost x) k kind.I32 ns p ok four_fit refl tt all
+little_row c h Any kind.I32 k ns p ok all = free-row CdrLittle (λ s. refl) (λ n. tt) (λ s x. refl) (λ s p n. refl) refl refl c h Any k kind.I32 ns p ok four_fit refl tt all
+little_row c h (Exactly x) kind.U32 k ns p ok all = fixed-row CdrLittle (λ s. refl) (λ n. tt) (λ s x. refl) (λ s p n. refl) refl c h k kind.U32 x ns p ok all
+little_row c h (AtMost x) kind.U32 k ns p ok all = free-row CdrLittle (λ s. refl) (λ n. tt) (λ s x. refl) (λ s p n. refl) refl refl c h (AtMost x) k kind.U32 ns p ok four_fit refl tt all
+little_row c h Any kind.U32 k ns p ok all = free-row CdrLittle (λ s. refl) (λ n. tt) (λ s x. refl) (λ s p n. refl) refl refl c h Any k kind.U32 ns p ok four_fit refl tt all
+little_row c h (Exactly x) kind.I64 k ns p ok all = fixed-row CdrLittle (λ s. refl) (λ n. tt) (λ s x. refl) (λ s p n. refl) refl c h k kind.I64 x ns p ok all
+little_row c h (AtMost x) kind.I64 k ns p ok all = gapped-row CdrLittle (λ s. refl) (λ n. tt) (λ s x. refl) (λ s p n. refl) refl c h (AtMost x) k kind.I64 ns p ok tt all
+little_row c h Any kind.I64 k ns p ok all = gapped-row CdrLittle (λ s. refl) (λ n. tt) (λ s x. refl) (λ s p n. refl) refl c h Any k kind.I64 ns p ok tt all
+little_row c h (Exactly x) kind.U64 k ns p ok all = fixed-row CdrLittle (λ s. refl) (λ n. tt) (λ s x. refl) (λ s p n. refl) refl c h k kind.U64 x ns p ok all
+little_row c h (AtMost x) kind.U64 k ns p ok all = gapped-row CdrLittle (λ s. refl) (λ n. tt) (λ s x. refl) (λ s p n. refl) refl c h (AtMost x) k kind.U64 ns p ok tt all
+little_row c h Any kind.U64 k ns p ok all = gapped-row CdrLittle (λ s. refl) (λ n. tt) (λ s x. refl) (λ s p n. refl) refl c h Any k kind.U64 ns p ok tt all
 
 pub little_scalar : ScalarsSend CdrLittle
-little_scalar = scalars-send CdrLittle (λ s. refl) (λ n. tt) (λ w x. refl) (λ s p n. refl)
+little_scalar = scalars-send CdrLittle (λ s. refl) (λ n. tt) (λ s x. refl) (λ s p n. refl) refl
 
 pub little_array : ArraysSend CdrLittle
 unfolding array_octets head_octets element_octets
-little_array c h (text b) k ns p typed few place = (tt, text-writes CdrLittle (λ s. refl) (λ n. tt) (λ w x. refl) (λ s p n. refl) c h k ns p (letters_are_octets ns typed.2) few)
+little_array c h (text b) k ns p typed few place = (tt, text-writes CdrLittle (λ s. refl) (λ n. tt) (λ s x. refl) (λ s p n. refl) refl c h k ns p (letters_are_octets ns typed.2) few)
 little_array c h (row_of m b) k ns p typed few place = (tt, little_row c h b m k ns p typed.1 typed.2)

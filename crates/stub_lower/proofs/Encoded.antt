@@ -28,15 +28,16 @@ use Rattle.cast_stub.specs.Append.{append}
 use Rattle.cast_stub.specs.Steps.{Steps, Calls, steps, over, chunk_steps}
 use Rattle.cast_stub.proofs.Appending.{steps-append}
 use Rattle.wire_def.specs.Places.{IsPlace}
-use Rattle.stub_lower.specs.Codes.{scalar_code, count_code, array_code}
+use Rattle.stub_lower.specs.Items.{number_at}
+use Rattle.stub_lower.specs.Codes.{scalar_code, length_put, count_code, array_code}
 use Rattle.cast_stub.specs.Layouts.{order_of, scalar_width}
 use Rattle.stub_lower.proofs.Writing.{place_sum, Writes, both-writes, none-writes, writes_same, writes_stop, Sends, both-sends, none-sends, sends_stop, put-writes}
 use Rattle.stub_lower.proofs.Words.{scalar_word, word-octet}
 
 -- what has to be known of an encoding, so that lowered code sends what it says: that a scalar whose put gives its number
 abbrev pub ScalarsSend : Encoding → Type 0
-ScalarsSend e = (c : Calls) (h : Head) (s : Scalar) (n : ℤ) (x : Put) (v : Val) (p : ℕ) → IsScalar s n → offset x ≡ 0 → put_octets h x v ≡ word (scalar_width e s) (order_of e) n
-    → Sends e (steps c h (scalar_code e (scalar_width e s) x) v) p (lone_octets e s p n)
+ScalarsSend e = (c : Calls) (h : Head) (s : Scalar) (n : ℤ) (x : Put) (v : Val) (p : ℕ) → IsScalar s n → offset x ≡ number_at e → put_octets h x v ≡ word (scalar_width e s) (order_of e) n
+    → Sends e (steps c h (scalar_code e s x) v) p (lone_octets e s p n)
 
 -- and an array are sent
 abbrev pub ArraysSend : Encoding → Type 0
@@ -107,10 +108,10 @@ pub below_full : (m : ℕ) → m < 4294967296 → IsScalar counted (pos m)
 below_full m lt = lt-ltb m 4294967296 lt
 
 pub counted-sends : (e : Encoding) → ScalarsSend e → (c : Calls) (h : Head) (v : Val) (n p : ℕ) → length_in v ≡ Some n → n < 4294967296
-    → Sends e (steps c h (scalar_code e (scalar_width e counted) (put.Count 0 [] 1 0 (scalar_width e counted) (order_of e))) v) p (lone_octets e counted p (pos n))
+    → Sends e (steps c h (scalar_code e counted (length_put e 0)) v) p (lone_octets e counted p (pos n))
 counted-sends e scalar c h v n p is lt =
     let one : n * 1 + 0 ≡ n = omega arith in
-    scalar c h counted (pos n) (put.Count 0 [] 1 0 (scalar_width e counted) (order_of e)) v p (below_full n lt) refl
+    scalar c h counted (pos n) (length_put e 0) v p (below_full n lt) refl
     (ap (λ (o : Option ℕ). on_some o (λ m. word (scalar_width e counted) (order_of e) (pos (m * 1 + 0)))) is ∙ ap (λ (m : ℕ). word (scalar_width e counted) (order_of e) (pos m)) one)
 
 -- the octets of a count, where it is sent

@@ -1,169 +1,121 @@
 -- The code of a node goes through its type in order.
-use Rattle.std.proofs.Common.{◌≡◌, inr, ℕ, zero, suc, ◌<◌, ◌≤◌, ℤ, List, [], ◌∷◌, Option, Some, None, refl, arith, Bool, true, false}
-use Rattle.std.specs.Prelude.{nat_eq, if◌then◌else◌}
-use Rattle.mint.specs.declared.kind.Kind.{Kind}
-use Rattle.mint.specs.declared.kind.Kind.TheVariants as kind
+use Rattle.std.proofs.Common.{◌≡◌, inr, ℕ, zero, suc, ◌+◌, ◌<◌, ◌≤◌, ℤ, List, [], ◌∷◌, Option, Some, None, refl, arith, Bool, true, false}
+use Rattle.std.specs.Prelude.{nat_eq, nat_lt, if◌then◌else◌}
 use Rattle.mint.specs.declared.kind.Count.{Count}
 use Rattle.mint.specs.declared.kind.Count.TheVariants.{Exactly, AtMost, Any}
 use Rattle.mint.specs.declared.node.Node.{Node}
 use Rattle.mint.specs.declared.node.Node.TheVariants as node
-use Rattle.mint.specs.Types.{Array, text, row_of, Ty, at, fields_at, arms_at, scalar_of, level, HasChildrenBelow, AreBelow, ArmsBelow, IsBelow}
+use Rattle.mint.specs.Types.{Scalar, number, label, Array, text, row_of, Ty, at, fields_at, arms_at, scalar_of, level, HasChildrenBelow, AreBelow, ArmsBelow, IsBelow}
 use Rattle.wire_def.specs.declared.encoding.Encoding.TheVariants.{Xdr, CdrBig, CdrLittle, Mach}
 use Rattle.wire_def.specs.declared.encoding.Encoding.{Encoding}
-use Rattle.wire_def.specs.Lone.{IsPlain}
+use Rattle.wire_def.specs.declared.head.Order.{Order}
+use Rattle.wire_def.specs.Described.{is_long}
+use Rattle.wire_def.specs.Arrays.{counted, count_of, kind_of, is_octets}
+use Rattle.wire_def.specs.Send.{flag}
 use Rattle.cast_stub.specs.declared.put.Put.{Put}
+use Rattle.cast_stub.specs.declared.put.Put.TheVariants as put
 use Rattle.cast_stub.specs.Block.{Block, stop, align, chunk, call}
 use Rattle.cast_stub.specs.Follows.{flat, IsFlat, IsLoop, IsCount, Child, Loops, FollowsBy, FieldsFollowBy, ArmsFollowBy}
-use Rattle.cast_stub.specs.Turned.{IsTurned}
-use Rattle.stub_lower.specs.Codes.{aligned, scalar_code, count_code, ended_code, number_chunk, end_code, turn_code, array_code, tag_code, flag_code, call_here, calls_from, cases_at, node_code}
-use Rattle.cast_stub.specs.Layouts.{layout_of}
+use Rattle.cast_stub.specs.Turned.{IsNumber, IsTurned}
+use Rattle.cast_stub.specs.Layouts.{layout_of, order_of, scalar_width, element_width, is_gapped}
+use Rattle.stub_lower.specs.Items.{number_at}
+use Rattle.stub_lower.specs.Codes.{scalar_code, length_put, count_code, row_code, long_code, short_code, described_code, head_code, gapped_turn, turn_code, behind_code, array_code, tag_code, flag_code, call_here, calls_from, cases_at, node_code}
 
 -- ---- what an encoding gives
 
-either-flat : (t : Bool) (w : ℕ) (x : Put) → IsFlat 3 (if t then chunk w (x ∷ []) stop else align w (chunk w (x ∷ []) stop))
-either-flat true w x = (1, refl, omega arith)
-either-flat false w x = (2, refl, omega arith)
+-- chunks and aligns, with at most so many puts and aligns
+abbrev Few : ℕ → Block → Type 0
+Few = IsFlat
 
-pub flat_scalar : (e : Encoding) (w : ℕ) (x : Put) → IsFlat 3 (scalar_code e w x)
-flat_scalar Xdr w x = (1, refl, omega arith)
-flat_scalar CdrBig w x = either-flat (nat_eq w 1) w x
-flat_scalar CdrLittle w x = either-flat (nat_eq w 1) w x
-flat_scalar Mach w x = (0, refl, omega arith)
+aligned-few : (t : Bool) (w : ℕ) (x : Put) → Few 2 (if t then chunk w (x ∷ []) stop else align w (chunk w (x ∷ []) stop))
+aligned-few true w x = (1, refl, omega arith)
+aligned-few false w x = (2, refl, omega arith)
+
+scalar-few : (e : Encoding) (s : Scalar) (x : Put) → Few 2 (scalar_code e s x)
+scalar-few Xdr s x = (1, refl, omega arith)
+scalar-few CdrBig s x = aligned-few (nat_eq (scalar_width CdrBig s) 1) (scalar_width CdrBig s) x
+scalar-few CdrLittle s x = aligned-few (nat_eq (scalar_width CdrLittle s) 1) (scalar_width CdrLittle s) x
+scalar-few Mach s x = (2, refl, omega arith)
+
+pub flat_scalar : (e : Encoding) (s : Scalar) (x : Put) → IsFlat 3 (scalar_code e s x)
+flat_scalar e s x = let f = scalar-few e s x in (f.0, f.1, omega (arith, f.2))
 
 counts : (e : Encoding) (c : Count) → IsCount c (count_code e c)
 counts e (Exactly m) = refl
-counts e (AtMost m) = flat_scalar e _ _
-counts e Any = flat_scalar e _ _
+counts e (AtMost m) = flat_scalar e counted (length_put e 0)
+counts e Any = flat_scalar e counted (length_put e 0)
 
--- a row whose count is so many puts
-row_turned : (k : Kind) (c : Count) (n : ℕ) → flat (count_code Xdr c) ≡ Some n → n ≤ 1 → IsTurned (layout_of Xdr) (row_of k c) [] (array_code Xdr (row_of k c))
-row_turned kind.Octet c n is le = (count_code Xdr c, turn_code Xdr (row_of kind.Octet c), align 4 stop, n, 1, 1, refl, is, refl, refl, omega arith, omega arith, refl)
-row_turned kind.I8 c n is le = (count_code Xdr c, turn_code Xdr (row_of kind.I8 c), stop, n, 1, 0, refl, is, refl, refl, omega arith, omega arith, refl)
-row_turned kind.U8 c n is le = (count_code Xdr c, turn_code Xdr (row_of kind.U8 c), stop, n, 1, 0, refl, is, refl, refl, omega arith, omega arith, refl)
-row_turned kind.Char c n is le = (count_code Xdr c, turn_code Xdr (row_of kind.Char c), stop, n, 1, 0, refl, is, refl, refl, omega arith, omega arith, refl)
-row_turned kind.I16 c n is le = (count_code Xdr c, turn_code Xdr (row_of kind.I16 c), stop, n, 1, 0, refl, is, refl, refl, omega arith, omega arith, refl)
-row_turned kind.U16 c n is le = (count_code Xdr c, turn_code Xdr (row_of kind.U16 c), stop, n, 1, 0, refl, is, refl, refl, omega arith, omega arith, refl)
-row_turned kind.I32 c n is le = (count_code Xdr c, turn_code Xdr (row_of kind.I32 c), stop, n, 1, 0, refl, is, refl, refl, omega arith, omega arith, refl)
-row_turned kind.U32 c n is le = (count_code Xdr c, turn_code Xdr (row_of kind.U32 c), stop, n, 1, 0, refl, is, refl, refl, omega arith, omega arith, refl)
-row_turned kind.I64 c n is le = (count_code Xdr c, turn_code Xdr (row_of kind.I64 c), stop, n, 1, 0, refl, is, refl, refl, omega arith, omega arith, refl)
-row_turned kind.U64 c n is le = (count_code Xdr c, turn_code Xdr (row_of kind.U64 c), stop, n, 1, 0, refl, is, refl, refl, omega arith, omega arith, refl)
-row_turned kind.Bool c n is le = (count_code Xdr c, turn_code Xdr (row_of kind.Bool c), stop, n, 1, 0, refl, is, refl, refl, omega arith, omega arith, refl)
+count-few : (e : Encoding) (c : Count) → Few 2 (count_code e c)
+count-few e (Exactly m) = (0, refl, omega arith)
+count-few e (AtMost m) = scalar-few e counted (length_put e 0)
+count-few e Any = scalar-few e counted (length_put e 0)
 
--- a count and one put are two, and the alignment behind octets is a third
-array_turned : (a : Array) → IsTurned (layout_of Xdr) a [] (array_code Xdr a)
-array_turned (text (Exactly m)) = (stop, turn_code Xdr (text (Exactly m)), align 4 stop, 0, 1, 1, refl, refl, refl, refl, omega arith, omega arith, refl)
-array_turned (text (AtMost m)) = (count_code Xdr (AtMost m), turn_code Xdr (text (AtMost m)), align 4 stop, 1, 1, 1, refl, refl, refl, refl, omega arith, omega arith, refl)
-array_turned (text Any) = (count_code Xdr Any, turn_code Xdr (text Any), align 4 stop, 1, 1, 1, refl, refl, refl, refl, omega arith, omega arith, refl)
-array_turned (row_of k (Exactly m)) = row_turned k (Exactly m) 0 refl (omega arith)
-array_turned (row_of k (AtMost m)) = row_turned k (AtMost m) 1 refl (omega arith)
-array_turned (row_of k Any) = row_turned k Any 1 refl (omega arith)
+row-few : (e : Encoding) (w : ℕ) (c : Count) → Few 2 (row_code e w c)
+row-few e w (Exactly zero) = (0, refl, omega arith)
+row-few e w (Exactly (suc m)) = either (nat_eq w 1) where
+  either : (t : Bool) → Few 2 (if t then stop else align w stop)
+  either true = (0, refl, omega arith)
+  either false = (1, refl, omega arith)
+row-few e w (AtMost m) = count-few e (AtMost m)
+row-few e w Any = count-few e Any
 
-big_turned : (a : Array) → IsTurned (layout_of CdrBig) a [] (array_code CdrBig a)
-big_turned (text (Exactly m)) = (ended_code CdrBig, number_chunk CdrBig 1, end_code, 2, 1, 1, refl, refl, refl, refl, omega arith, omega arith, refl)
-big_turned (text (AtMost m)) = (ended_code CdrBig, number_chunk CdrBig 1, end_code, 2, 1, 1, refl, refl, refl, refl, omega arith, omega arith, refl)
-big_turned (text Any) = (ended_code CdrBig, number_chunk CdrBig 1, end_code, 2, 1, 1, refl, refl, refl, refl, omega arith, omega arith, refl)
-big_turned (row_of kind.Octet (Exactly zero)) = (stop, number_chunk CdrBig 1, stop, 0, 1, 0, refl, refl, refl, refl, omega arith, omega arith, refl)
-big_turned (row_of kind.Octet (Exactly (suc m))) = (aligned 1 stop, number_chunk CdrBig 1, stop, 0, 1, 0, refl, refl, refl, refl, omega arith, omega arith, refl)
-big_turned (row_of kind.Octet (AtMost m)) = (count_code CdrBig (AtMost m), number_chunk CdrBig 1, stop, 2, 1, 0, refl, refl, refl, refl, omega arith, omega arith, refl)
-big_turned (row_of kind.Octet Any) = (count_code CdrBig Any, number_chunk CdrBig 1, stop, 2, 1, 0, refl, refl, refl, refl, omega arith, omega arith, refl)
-big_turned (row_of kind.I8 (Exactly zero)) = (stop, number_chunk CdrBig 1, stop, 0, 1, 0, refl, refl, refl, refl, omega arith, omega arith, refl)
-big_turned (row_of kind.I8 (Exactly (suc m))) = (aligned 1 stop, number_chunk CdrBig 1, stop, 0, 1, 0, refl, refl, refl, refl, omega arith, omega arith, refl)
-big_turned (row_of kind.I8 (AtMost m)) = (count_code CdrBig (AtMost m), number_chunk CdrBig 1, stop, 2, 1, 0, refl, refl, refl, refl, omega arith, omega arith, refl)
-big_turned (row_of kind.I8 Any) = (count_code CdrBig Any, number_chunk CdrBig 1, stop, 2, 1, 0, refl, refl, refl, refl, omega arith, omega arith, refl)
-big_turned (row_of kind.U8 (Exactly zero)) = (stop, number_chunk CdrBig 1, stop, 0, 1, 0, refl, refl, refl, refl, omega arith, omega arith, refl)
-big_turned (row_of kind.U8 (Exactly (suc m))) = (aligned 1 stop, number_chunk CdrBig 1, stop, 0, 1, 0, refl, refl, refl, refl, omega arith, omega arith, refl)
-big_turned (row_of kind.U8 (AtMost m)) = (count_code CdrBig (AtMost m), number_chunk CdrBig 1, stop, 2, 1, 0, refl, refl, refl, refl, omega arith, omega arith, refl)
-big_turned (row_of kind.U8 Any) = (count_code CdrBig Any, number_chunk CdrBig 1, stop, 2, 1, 0, refl, refl, refl, refl, omega arith, omega arith, refl)
-big_turned (row_of kind.Char (Exactly zero)) = (stop, number_chunk CdrBig 1, stop, 0, 1, 0, refl, refl, refl, refl, omega arith, omega arith, refl)
-big_turned (row_of kind.Char (Exactly (suc m))) = (aligned 1 stop, number_chunk CdrBig 1, stop, 0, 1, 0, refl, refl, refl, refl, omega arith, omega arith, refl)
-big_turned (row_of kind.Char (AtMost m)) = (count_code CdrBig (AtMost m), number_chunk CdrBig 1, stop, 2, 1, 0, refl, refl, refl, refl, omega arith, omega arith, refl)
-big_turned (row_of kind.Char Any) = (count_code CdrBig Any, number_chunk CdrBig 1, stop, 2, 1, 0, refl, refl, refl, refl, omega arith, omega arith, refl)
-big_turned (row_of kind.Bool (Exactly zero)) = (stop, number_chunk CdrBig 1, stop, 0, 1, 0, refl, refl, refl, refl, omega arith, omega arith, refl)
-big_turned (row_of kind.Bool (Exactly (suc m))) = (aligned 1 stop, number_chunk CdrBig 1, stop, 0, 1, 0, refl, refl, refl, refl, omega arith, omega arith, refl)
-big_turned (row_of kind.Bool (AtMost m)) = (count_code CdrBig (AtMost m), number_chunk CdrBig 1, stop, 2, 1, 0, refl, refl, refl, refl, omega arith, omega arith, refl)
-big_turned (row_of kind.Bool Any) = (count_code CdrBig Any, number_chunk CdrBig 1, stop, 2, 1, 0, refl, refl, refl, refl, omega arith, omega arith, refl)
-big_turned (row_of kind.I16 (Exactly zero)) = (stop, number_chunk CdrBig 2, stop, 0, 1, 0, refl, refl, refl, refl, omega arith, omega arith, refl)
-big_turned (row_of kind.I16 (Exactly (suc m))) = (aligned 2 stop, number_chunk CdrBig 2, stop, 1, 1, 0, refl, refl, refl, refl, omega arith, omega arith, refl)
-big_turned (row_of kind.I16 (AtMost m)) = (count_code CdrBig (AtMost m), number_chunk CdrBig 2, stop, 2, 1, 0, refl, refl, refl, refl, omega arith, omega arith, refl)
-big_turned (row_of kind.I16 Any) = (count_code CdrBig Any, number_chunk CdrBig 2, stop, 2, 1, 0, refl, refl, refl, refl, omega arith, omega arith, refl)
-big_turned (row_of kind.U16 (Exactly zero)) = (stop, number_chunk CdrBig 2, stop, 0, 1, 0, refl, refl, refl, refl, omega arith, omega arith, refl)
-big_turned (row_of kind.U16 (Exactly (suc m))) = (aligned 2 stop, number_chunk CdrBig 2, stop, 1, 1, 0, refl, refl, refl, refl, omega arith, omega arith, refl)
-big_turned (row_of kind.U16 (AtMost m)) = (count_code CdrBig (AtMost m), number_chunk CdrBig 2, stop, 2, 1, 0, refl, refl, refl, refl, omega arith, omega arith, refl)
-big_turned (row_of kind.U16 Any) = (count_code CdrBig Any, number_chunk CdrBig 2, stop, 2, 1, 0, refl, refl, refl, refl, omega arith, omega arith, refl)
-big_turned (row_of kind.I32 (Exactly zero)) = (stop, number_chunk CdrBig 4, stop, 0, 1, 0, refl, refl, refl, refl, omega arith, omega arith, refl)
-big_turned (row_of kind.I32 (Exactly (suc m))) = (aligned 4 stop, number_chunk CdrBig 4, stop, 1, 1, 0, refl, refl, refl, refl, omega arith, omega arith, refl)
-big_turned (row_of kind.I32 (AtMost m)) = (count_code CdrBig (AtMost m), number_chunk CdrBig 4, stop, 2, 1, 0, refl, refl, refl, refl, omega arith, omega arith, refl)
-big_turned (row_of kind.I32 Any) = (count_code CdrBig Any, number_chunk CdrBig 4, stop, 2, 1, 0, refl, refl, refl, refl, omega arith, omega arith, refl)
-big_turned (row_of kind.U32 (Exactly zero)) = (stop, number_chunk CdrBig 4, stop, 0, 1, 0, refl, refl, refl, refl, omega arith, omega arith, refl)
-big_turned (row_of kind.U32 (Exactly (suc m))) = (aligned 4 stop, number_chunk CdrBig 4, stop, 1, 1, 0, refl, refl, refl, refl, omega arith, omega arith, refl)
-big_turned (row_of kind.U32 (AtMost m)) = (count_code CdrBig (AtMost m), number_chunk CdrBig 4, stop, 2, 1, 0, refl, refl, refl, refl, omega arith, omega arith, refl)
-big_turned (row_of kind.U32 Any) = (count_code CdrBig Any, number_chunk CdrBig 4, stop, 2, 1, 0, refl, refl, refl, refl, omega arith, omega arith, refl)
-big_turned (row_of kind.I64 (Exactly zero)) = (stop, number_chunk CdrBig 8, stop, 0, 1, 0, refl, refl, refl, refl, omega arith, omega arith, refl)
-big_turned (row_of kind.I64 (Exactly (suc m))) = (aligned 8 stop, number_chunk CdrBig 8, stop, 1, 1, 0, refl, refl, refl, refl, omega arith, omega arith, refl)
-big_turned (row_of kind.I64 (AtMost m)) = (count_code CdrBig (AtMost m), align 8 (number_chunk CdrBig 8), stop, 2, 2, 0, refl, refl, refl, refl, omega arith, omega arith, tt)
-big_turned (row_of kind.I64 Any) = (count_code CdrBig Any, align 8 (number_chunk CdrBig 8), stop, 2, 2, 0, refl, refl, refl, refl, omega arith, omega arith, tt)
-big_turned (row_of kind.U64 (Exactly zero)) = (stop, number_chunk CdrBig 8, stop, 0, 1, 0, refl, refl, refl, refl, omega arith, omega arith, refl)
-big_turned (row_of kind.U64 (Exactly (suc m))) = (aligned 8 stop, number_chunk CdrBig 8, stop, 1, 1, 0, refl, refl, refl, refl, omega arith, omega arith, refl)
-big_turned (row_of kind.U64 (AtMost m)) = (count_code CdrBig (AtMost m), align 8 (number_chunk CdrBig 8), stop, 2, 2, 0, refl, refl, refl, refl, omega arith, omega arith, tt)
-big_turned (row_of kind.U64 Any) = (count_code CdrBig Any, align 8 (number_chunk CdrBig 8), stop, 2, 2, 0, refl, refl, refl, refl, omega arith, omega arith, tt)
+described-few : (c : Count) (s : Scalar) → Few 2 (described_code c s)
+described-few c s = either (is_long c s) where
+  either : (t : Bool) → Few 2 (if t then long_code s else short_code s)
+  either true = (2, refl, omega arith)
+  either false = (1, refl, omega arith)
 
-little_turned : (a : Array) → IsTurned (layout_of CdrLittle) a [] (array_code CdrLittle a)
-little_turned (text (Exactly m)) = (ended_code CdrLittle, number_chunk CdrLittle 1, end_code, 2, 1, 1, refl, refl, refl, refl, omega arith, omega arith, refl)
-little_turned (text (AtMost m)) = (ended_code CdrLittle, number_chunk CdrLittle 1, end_code, 2, 1, 1, refl, refl, refl, refl, omega arith, omega arith, refl)
-little_turned (text Any) = (ended_code CdrLittle, number_chunk CdrLittle 1, end_code, 2, 1, 1, refl, refl, refl, refl, omega arith, omega arith, refl)
-little_turned (row_of kind.Octet (Exactly zero)) = (stop, number_chunk CdrLittle 1, stop, 0, 1, 0, refl, refl, refl, refl, omega arith, omega arith, refl)
-little_turned (row_of kind.Octet (Exactly (suc m))) = (aligned 1 stop, number_chunk CdrLittle 1, stop, 0, 1, 0, refl, refl, refl, refl, omega arith, omega arith, refl)
-little_turned (row_of kind.Octet (AtMost m)) = (count_code CdrLittle (AtMost m), number_chunk CdrLittle 1, stop, 2, 1, 0, refl, refl, refl, refl, omega arith, omega arith, refl)
-little_turned (row_of kind.Octet Any) = (count_code CdrLittle Any, number_chunk CdrLittle 1, stop, 2, 1, 0, refl, refl, refl, refl, omega arith, omega arith, refl)
-little_turned (row_of kind.I8 (Exactly zero)) = (stop, number_chunk CdrLittle 1, stop, 0, 1, 0, refl, refl, refl, refl, omega arith, omega arith, refl)
-little_turned (row_of kind.I8 (Exactly (suc m))) = (aligned 1 stop, number_chunk CdrLittle 1, stop, 0, 1, 0, refl, refl, refl, refl, omega arith, omega arith, refl)
-little_turned (row_of kind.I8 (AtMost m)) = (count_code CdrLittle (AtMost m), number_chunk CdrLittle 1, stop, 2, 1, 0, refl, refl, refl, refl, omega arith, omega arith, refl)
-little_turned (row_of kind.I8 Any) = (count_code CdrLittle Any, number_chunk CdrLittle 1, stop, 2, 1, 0, refl, refl, refl, refl, omega arith, omega arith, refl)
-little_turned (row_of kind.U8 (Exactly zero)) = (stop, number_chunk CdrLittle 1, stop, 0, 1, 0, refl, refl, refl, refl, omega arith, omega arith, refl)
-little_turned (row_of kind.U8 (Exactly (suc m))) = (aligned 1 stop, number_chunk CdrLittle 1, stop, 0, 1, 0, refl, refl, refl, refl, omega arith, omega arith, refl)
-little_turned (row_of kind.U8 (AtMost m)) = (count_code CdrLittle (AtMost m), number_chunk CdrLittle 1, stop, 2, 1, 0, refl, refl, refl, refl, omega arith, omega arith, refl)
-little_turned (row_of kind.U8 Any) = (count_code CdrLittle Any, number_chunk CdrLittle 1, stop, 2, 1, 0, refl, refl, refl, refl, omega arith, omega arith, refl)
-little_turned (row_of kind.Char (Exactly zero)) = (stop, number_chunk CdrLittle 1, stop, 0, 1, 0, refl, refl, refl, refl, omega arith, omega arith, refl)
-little_turned (row_of kind.Char (Exactly (suc m))) = (aligned 1 stop, number_chunk CdrLittle 1, stop, 0, 1, 0, refl, refl, refl, refl, omega arith, omega arith, refl)
-little_turned (row_of kind.Char (AtMost m)) = (count_code CdrLittle (AtMost m), number_chunk CdrLittle 1, stop, 2, 1, 0, refl, refl, refl, refl, omega arith, omega arith, refl)
-little_turned (row_of kind.Char Any) = (count_code CdrLittle Any, number_chunk CdrLittle 1, stop, 2, 1, 0, refl, refl, refl, refl, omega arith, omega arith, refl)
-little_turned (row_of kind.Bool (Exactly zero)) = (stop, number_chunk CdrLittle 1, stop, 0, 1, 0, refl, refl, refl, refl, omega arith, omega arith, refl)
-little_turned (row_of kind.Bool (Exactly (suc m))) = (aligned 1 stop, number_chunk CdrLittle 1, stop, 0, 1, 0, refl, refl, refl, refl, omega arith, omega arith, refl)
-little_turned (row_of kind.Bool (AtMost m)) = (count_code CdrLittle (AtMost m), number_chunk CdrLittle 1, stop, 2, 1, 0, refl, refl, refl, refl, omega arith, omega arith, refl)
-little_turned (row_of kind.Bool Any) = (count_code CdrLittle Any, number_chunk CdrLittle 1, stop, 2, 1, 0, refl, refl, refl, refl, omega arith, omega arith, refl)
-little_turned (row_of kind.I16 (Exactly zero)) = (stop, number_chunk CdrLittle 2, stop, 0, 1, 0, refl, refl, refl, refl, omega arith, omega arith, refl)
-little_turned (row_of kind.I16 (Exactly (suc m))) = (aligned 2 stop, number_chunk CdrLittle 2, stop, 1, 1, 0, refl, refl, refl, refl, omega arith, omega arith, refl)
-little_turned (row_of kind.I16 (AtMost m)) = (count_code CdrLittle (AtMost m), number_chunk CdrLittle 2, stop, 2, 1, 0, refl, refl, refl, refl, omega arith, omega arith, refl)
-little_turned (row_of kind.I16 Any) = (count_code CdrLittle Any, number_chunk CdrLittle 2, stop, 2, 1, 0, refl, refl, refl, refl, omega arith, omega arith, refl)
-little_turned (row_of kind.U16 (Exactly zero)) = (stop, number_chunk CdrLittle 2, stop, 0, 1, 0, refl, refl, refl, refl, omega arith, omega arith, refl)
-little_turned (row_of kind.U16 (Exactly (suc m))) = (aligned 2 stop, number_chunk CdrLittle 2, stop, 1, 1, 0, refl, refl, refl, refl, omega arith, omega arith, refl)
-little_turned (row_of kind.U16 (AtMost m)) = (count_code CdrLittle (AtMost m), number_chunk CdrLittle 2, stop, 2, 1, 0, refl, refl, refl, refl, omega arith, omega arith, refl)
-little_turned (row_of kind.U16 Any) = (count_code CdrLittle Any, number_chunk CdrLittle 2, stop, 2, 1, 0, refl, refl, refl, refl, omega arith, omega arith, refl)
-little_turned (row_of kind.I32 (Exactly zero)) = (stop, number_chunk CdrLittle 4, stop, 0, 1, 0, refl, refl, refl, refl, omega arith, omega arith, refl)
-little_turned (row_of kind.I32 (Exactly (suc m))) = (aligned 4 stop, number_chunk CdrLittle 4, stop, 1, 1, 0, refl, refl, refl, refl, omega arith, omega arith, refl)
-little_turned (row_of kind.I32 (AtMost m)) = (count_code CdrLittle (AtMost m), number_chunk CdrLittle 4, stop, 2, 1, 0, refl, refl, refl, refl, omega arith, omega arith, refl)
-little_turned (row_of kind.I32 Any) = (count_code CdrLittle Any, number_chunk CdrLittle 4, stop, 2, 1, 0, refl, refl, refl, refl, omega arith, omega arith, refl)
-little_turned (row_of kind.U32 (Exactly zero)) = (stop, number_chunk CdrLittle 4, stop, 0, 1, 0, refl, refl, refl, refl, omega arith, omega arith, refl)
-little_turned (row_of kind.U32 (Exactly (suc m))) = (aligned 4 stop, number_chunk CdrLittle 4, stop, 1, 1, 0, refl, refl, refl, refl, omega arith, omega arith, refl)
-little_turned (row_of kind.U32 (AtMost m)) = (count_code CdrLittle (AtMost m), number_chunk CdrLittle 4, stop, 2, 1, 0, refl, refl, refl, refl, omega arith, omega arith, refl)
-little_turned (row_of kind.U32 Any) = (count_code CdrLittle Any, number_chunk CdrLittle 4, stop, 2, 1, 0, refl, refl, refl, refl, omega arith, omega arith, refl)
-little_turned (row_of kind.I64 (Exactly zero)) = (stop, number_chunk CdrLittle 8, stop, 0, 1, 0, refl, refl, refl, refl, omega arith, omega arith, refl)
-little_turned (row_of kind.I64 (Exactly (suc m))) = (aligned 8 stop, number_chunk CdrLittle 8, stop, 1, 1, 0, refl, refl, refl, refl, omega arith, omega arith, refl)
-little_turned (row_of kind.I64 (AtMost m)) = (count_code CdrLittle (AtMost m), align 8 (number_chunk CdrLittle 8), stop, 2, 2, 0, refl, refl, refl, refl, omega arith, omega arith, tt)
-little_turned (row_of kind.I64 Any) = (count_code CdrLittle Any, align 8 (number_chunk CdrLittle 8), stop, 2, 2, 0, refl, refl, refl, refl, omega arith, omega arith, tt)
-little_turned (row_of kind.U64 (Exactly zero)) = (stop, number_chunk CdrLittle 8, stop, 0, 1, 0, refl, refl, refl, refl, omega arith, omega arith, refl)
-little_turned (row_of kind.U64 (Exactly (suc m))) = (aligned 8 stop, number_chunk CdrLittle 8, stop, 1, 1, 0, refl, refl, refl, refl, omega arith, omega arith, refl)
-little_turned (row_of kind.U64 (AtMost m)) = (count_code CdrLittle (AtMost m), align 8 (number_chunk CdrLittle 8), stop, 2, 2, 0, refl, refl, refl, refl, omega arith, omega arith, tt)
-little_turned (row_of kind.U64 Any) = (count_code CdrLittle Any, align 8 (number_chunk CdrLittle 8), stop, 2, 2, 0, refl, refl, refl, refl, omega arith, omega arith, tt)
+heads : (e : Encoding) (a : Array) → Few 2 (head_code e a)
+heads Xdr a = count-few Xdr (count_of a)
+heads CdrBig (text c) = scalar-few CdrBig counted (length_put CdrBig 1)
+heads CdrBig (row_of k c) = row-few CdrBig (element_width CdrBig (row_of k c)) c
+heads CdrLittle (text c) = scalar-few CdrLittle counted (length_put CdrLittle 1)
+heads CdrLittle (row_of k c) = row-few CdrLittle (element_width CdrLittle (row_of k c)) c
+heads Mach a = described-few (count_of a) (number (kind_of a))
 
-pub turned : (e : Encoding) → IsPlain e → (a : Array) → IsTurned (layout_of e) a [] (array_code e a)
-turned Xdr h a = array_turned a
-turned CdrBig h a = big_turned a
-turned CdrLittle h a = little_turned a
-turned Mach h a = absurd h
+-- what stands behind elements, and a turn, which is one number where the array may go as a block; both have room beside a head
+record Rest (e : Encoding) (a : Array) : Type 0 where
+  turn : ℕ
+  turn_is : flat (turn_code e a) ≡ Some turn
+  behind : ℕ
+  behind_is : flat (behind_code e a) ≡ Some behind
+  few : (1 ≤ turn) × (turn + behind ≤ 2)
+  single : IsNumber (layout_of e a) (turn_code e a)
 
-pub loops : (e : Encoding) → IsPlain e → (a : Array) → IsLoop [] (array_code e a)
-loops e h a = let t = turned e h a in (t.0, t.1, t.2, t.3, t.4, t.5, t.6, t.7, t.8, t.9, t.10, t.11)
+record Turn (l : Option (ℕ × Order)) (b : Block) : Type 0 where
+  many : ℕ
+  is : flat b ≡ Some many
+  few : (1 ≤ many) × (many ≤ 2)
+  single : IsNumber l b
+
+gapped-turn : (e : Encoding) (w : ℕ) (g : Bool) → Turn (if g then None else Some (w, order_of e)) (gapped_turn e w g)
+gapped-turn e w true = record { many = 2; is = refl; few = (omega arith, omega arith); single = tt }
+gapped-turn e w false = record { many = 1; is = refl; few = (omega arith, omega arith); single = refl }
+
+filled : (t : Bool) → Few 1 (if t then align 4 stop else stop)
+filled true = (1, refl, omega arith)
+filled false = (0, refl, omega arith)
+
+rests : (e : Encoding) (a : Array) → Rest e a
+rests Xdr a = let f = filled (is_octets a) in record { turn = 1; turn_is = refl; behind = f.0; behind_is = f.1; few = (omega arith, omega (arith, f.2)); single = refl }
+rests CdrBig (text c) = record { turn = 1; turn_is = refl; behind = 1; behind_is = refl; few = (omega arith, omega arith); single = refl }
+rests CdrBig (row_of k c) =
+    let t = gapped-turn CdrBig (element_width CdrBig (row_of k c)) (is_gapped (row_of k c)) in
+    record { turn = t.many; turn_is = t.is; behind = 0; behind_is = refl; few = (t.few.0, omega (arith, t.few.1)); single = t.single }
+rests CdrLittle (text c) = record { turn = 1; turn_is = refl; behind = 1; behind_is = refl; few = (omega arith, omega arith); single = refl }
+rests CdrLittle (row_of k c) =
+    let t = gapped-turn CdrLittle (element_width CdrLittle (row_of k c)) (is_gapped (row_of k c)) in
+    record { turn = t.many; turn_is = t.is; behind = 0; behind_is = refl; few = (t.few.0, omega (arith, t.few.1)); single = t.single }
+rests Mach a = let f = filled (nat_lt (element_width Mach a) 4) in record { turn = 1; turn_is = refl; behind = f.0; behind_is = f.1; few = (omega arith, omega (arith, f.2)); single = refl }
+
+pub turned : (e : Encoding) (a : Array) → IsTurned (layout_of e) a [] (array_code e a)
+turned e a =
+    let h = heads e a in
+    let r = rests e a in
+    (head_code e a, turn_code e a, behind_code e a, h.0, r.turn, r.behind, refl, h.1, r.turn_is, r.behind_is, omega (arith, r.few.1), omega (arith, h.2, r.few.0, r.few.1), r.single)
+
+pub loops : (e : Encoding) (a : Array) → IsLoop [] (array_code e a)
+loops e a = let t = turned e a in (t.0, t.1, t.2, t.3, t.4, t.5, t.6, t.7, t.8, t.9, t.10, t.11)
 
 -- ---- a node, over codes that follow its parts, its rows and texts being such loops
 
@@ -182,11 +134,11 @@ module _ (e : Encoding) (L : Loops) (array : (a : Array) → L a [] (array_code 
 
   pub node-follows : (m : Node) → HasChildrenBelow b m → FollowsBy L subs (level us m) b [] (node_code e m)
   node-follows node.Void below = (0, refl, omega arith)
-  node-follows (node.Num k) below = flat_scalar e _ _
-  node-follows (node.Enum ls) below = flat_scalar e _ _
+  node-follows (node.Num k) below = flat_scalar e (number k) (put.Num (number_at e) [] (scalar_width e (number k)) (order_of e))
+  node-follows (node.Enum ls) below = flat_scalar e (label ls) (put.Num (number_at e) [] (scalar_width e (label ls)) (order_of e))
   node-follows (node.Text c) below = array (text c)
   node-follows (node.Row k c) below = array (row_of k c)
   node-follows (node.Group ids) below = fields-follow ids 0 below
   node-follows (node.Items i c) below = (count_code e c, call_here i, refl, counts e c, called i [] below)
-  node-follows (node.Choice t arms other) below = (tag_code e (scalar_of t), cases_at arms other, refl, flat_scalar e _ _, arms-follow arms other below.0 below.1)
-  node-follows (node.Maybe i) below = (flag_code e, call_here i, refl, flat_scalar e _ _, called i [] below)
+  node-follows (node.Choice t arms other) below = (tag_code e (scalar_of t), cases_at arms other, refl, flat_scalar e (scalar_of t) (put.Tag (number_at e) [] (scalar_width e (scalar_of t)) (order_of e)), arms-follow arms other below.0 below.1)
+  node-follows (node.Maybe i) below = (flag_code e, call_here i, refl, flat_scalar e flag (put.Flag (number_at e) [] (scalar_width e flag) (order_of e)), called i [] below)

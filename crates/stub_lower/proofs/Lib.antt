@@ -5,6 +5,7 @@ pub mod Cdr
 pub mod Encoded
 pub mod Exact
 pub mod Following
+pub mod Mach
 pub mod Receiving
 pub mod RecvArrays
 pub mod RecvBuilding
@@ -18,6 +19,7 @@ pub mod RecvPass
 pub mod RecvWhole
 pub mod Sending
 pub mod Tracing
+pub mod UnitLaws
 pub mod Whole
 pub mod Words
 pub mod Writing

@@ -35,6 +35,7 @@ use Rattle.cast_stub.proofs.RecvAppending.{fill-append}
 use Rattle.cast_stub.specs.RecvAppend.{append}
 use Rattle.stub_lower.specs.RecvCodes.{number_take, count_code, array_code}
 use Rattle.stub_lower.proofs.Agreeing.{Agrees, Same, Settles, Counts, agrees-then, agrees-map, agrees-read, agrees-given, agrees-number, agrees-wider, SameEnds, ends-same, agrees-ends}
+use Rattle.stub_lower.proofs.UnitLaws.{along, along_one, along_words}
 use Rattle.stub_lower.proofs.RecvEncoded.{tested_place, pass_tested, word_run, Reads, bare-scalar, After, LonesRead, xdr_wide, xdr_scalar, count-reads, octets_dropped, then_gives}
 
 -- what has to be known of an encoding: that an array is read
@@ -127,11 +128,6 @@ count-opens e lone c a N K s here oct after fixed_place any =
       fixed m same f t = ap (λ (b : Count). fill_row f a (least b) t) same
 
 -- ---- elements that take so many octets each
-
--- so many times so many
-abbrev pub along : ℕ → ℕ → ℕ
-along zero w = 0
-along (suc n) w = w + along n w
 
 pub steps-agree : {A : Type 0} (J : ℕ → Type 0) (w : ℕ) (f : Going A) (r : Reader FaultKind A) → ((q : ℕ) → J q → J (q + w))
     → ((t : Place) → J t.pos → AreOctets t.left → Agrees (λ (q : ℕ). q ≡ t.pos + w) Same (f t) (r t.pos t.left)) → (n : ℕ) (s : Place) → J s.pos → AreOctets s.left
@@ -301,21 +297,12 @@ zeros-read c k d s same oct =
 abbrev Any : ℕ → Type 0
 Any n = Unit {0}
 
-pub along_one : (n : ℕ) → along n 1 ≡ n
-along_one zero = refl
-along_one (suc n) = let rest = along_one n in omega (arith, rest)
-
 -- so many octets, up to a position from which as many zeros follow as from their number
 octets_elements : (c : Callees) (a : Array) (test : ℕ → Bool) (fault : FaultKind) → IsOctetArray a test → (n : ℕ) (s : Place) → IsPlace Xdr s.pos → AreOctets s.left
     → Agrees (λ (q : ℕ). gap q 4 ≡ gap n 4) Same (runs (λ u. settled_number (fill c (number_take Xdr 1) (digit a) u)) n s) (times (read_octet test fault) n s.pos s.left)
 octets_elements c a test fault passes n s here oct =
     agrees-wider (λ (q : ℕ). q ≡ s.pos + along n 1) (λ (q : ℕ). gap q 4 ≡ gap n 4) Same (runs (λ u. settled_number (fill c (number_take Xdr 1) (digit a) u)) n s) (times (read_octet test fault) n s.pos s.left)
     (octets-agree Xdr c a test fault passes n s oct) (λ (q : ℕ) is. let many = along_one n in omega (arith, is, here, many))
-
--- whole words
-pub along_words : (n w : ℕ) → w % 4 ≡ 0 → along n w % 4 ≡ 0
-along_words zero w h = refl
-along_words (suc n) w h = let rest = along_words n w h in omega (arith, h, rest)
 
 numbers_elements : (c : Callees) (k : Kind) (b : Count) (n : ℕ) (s : Place) → Unit {0} → IsPlace Xdr s.pos → AreOctets s.left
     → Agrees (IsPlace Xdr) Same (runs (λ u. settled_number (fill c (number_take Xdr (scalar_width Xdr (number k))) (digit (row_of k b)) u)) n s) (times (read_scalar Xdr (number k)) n s.pos s.left)

@@ -40,7 +40,6 @@ use Rattle.stub_lower.proofs.Words.{width_same}
 use Rattle.stub_lower.proofs.Cdr.{no_gap_behind, still_none}
 use Rattle.stub_lower.proofs.Agreeing.{Agrees, Same, Settles, agrees-then, agrees-wider, agrees-ends, agrees-runs, SameEnds, ends-same, ends-map, ends-then}
 use Rattle.stub_lower.proofs.RecvEncoded.{tested_place, passed_place, pass_tested, le_true, octets_dropped, word_same, same_true, Reads, reads-wider, Takes, taken, After, LonesRead, bare-scalar, count-reads}
-use Rattle.stub_lower.proofs.RecvArrays.{ArraysRead, Opens, read_body, read_whole, ElementsRead, EndRead, array-reads, count-opens, along, numbers-agree, number-agrees, octets-agree, IsOctetArray, letter_passes, octet_passes}
 
 -- ---- a skip to a multiple
 

@@ -36,7 +36,8 @@ use Rattle.stub_lower.proofs.Words.{width_same}
 use Rattle.stub_lower.proofs.Cdr.{no_gap_behind, still_none}
 use Rattle.stub_lower.proofs.Agreeing.{Agrees, Same, Settles, agrees-then, agrees-wider, agrees-ends, agrees-runs, SameEnds, ends-same, ends-map, ends-then}
 use Rattle.stub_lower.proofs.RecvEncoded.{tested_place, passed_place, pass_tested, le_true, octets_dropped, same_true, Reads, reads-wider, taken, After, LonesRead}
-use Rattle.stub_lower.proofs.RecvArrays.{ArraysRead, Opens, read_body, read_whole, array-reads, count-opens, along, numbers-agree, number-agrees, octets-agree, IsOctetArray, letter_passes, octet_passes}
+use Rattle.stub_lower.proofs.RecvArrays.{ArraysRead, Opens, read_body, read_whole, array-reads, count-opens, numbers-agree, number-agrees, octets-agree, IsOctetArray, letter_passes, octet_passes}
+use Rattle.stub_lower.proofs.UnitLaws.{along}
 use Rattle.stub_lower.proofs.RecvCdr.{Skips, aligned_run, scalar_split, aligned-scalar, big_scalar, little_scalar}
 
 -- at a multiple of 8

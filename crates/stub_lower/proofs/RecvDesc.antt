@@ -20,27 +20,7 @@ use Rattle.cast_stub.specs.Into.{same_octets, length_of, allows, little}
 use Rattle.stub_lower.proofs.Agreeing.{SameEnds, ends-same, ends-map, ends-then}
 use Rattle.stub_lower.proofs.RecvEncoded.{same_true}
 use Rattle.stub_lower.proofs.RecvItems.{word_is, word_read}
-
--- ---- how many elements so many units are
-
--- a number of one unit, or of two
-data Units (s : Scalar) : Type 0 where
-  single : units_of s ≡ 1 → ((k : ℕ) → is_whole s k ≡ true) → ((k : ℕ) → elements_in s k ≡ k) → Units s
-  twice : units_of s ≡ 2 → ((k : ℕ) → is_whole s k ≡ nat_eq (k % 2) 0) → ((k : ℕ) → elements_in s k ≡ k / 2) → Units s
-
-units : (s : Scalar) → Units s
-units (label ls) = single refl (λ (k : ℕ). refl) (λ (k : ℕ). refl)
-units (number kind.Octet) = single refl (λ (k : ℕ). refl) (λ (k : ℕ). refl)
-units (number kind.I8) = single refl (λ (k : ℕ). refl) (λ (k : ℕ). refl)
-units (number kind.U8) = single refl (λ (k : ℕ). refl) (λ (k : ℕ). refl)
-units (number kind.Char) = single refl (λ (k : ℕ). refl) (λ (k : ℕ). refl)
-units (number kind.I16) = single refl (λ (k : ℕ). refl) (λ (k : ℕ). refl)
-units (number kind.U16) = single refl (λ (k : ℕ). refl) (λ (k : ℕ). refl)
-units (number kind.I32) = single refl (λ (k : ℕ). refl) (λ (k : ℕ). refl)
-units (number kind.U32) = single refl (λ (k : ℕ). refl) (λ (k : ℕ). refl)
-units (number kind.I64) = twice refl (λ (k : ℕ). refl) (λ (k : ℕ). refl)
-units (number kind.U64) = twice refl (λ (k : ℕ). refl) (λ (k : ℕ). refl)
-units (number kind.Bool) = single refl (λ (k : ℕ). refl) (λ (k : ℕ). refl)
+use Rattle.stub_lower.proofs.UnitLaws.{Units, single, twice, units, elements_back, elements_are, name_small, bits_small}
 
 -- the length of which so many units are the multiple, and that many units again
 length_once : (m : ℕ) → length_of 1 0 m ≡ Some m
@@ -71,25 +51,6 @@ length_units s m = either (units s) where
   either : Units s → length_of (units_of s) 0 m ≡ (if is_whole s m then Some (elements_in s m) else None)
   either (single u whole count) = ap (λ (k : ℕ). length_of k 0 m) u ∙ length_once m ∙ sym (ap (λ (b : Bool). if b then Some (elements_in s m) else None) (whole m) ∙ ap (λ (k : ℕ). Some k) (count m))
   either (twice u whole count) = ap (λ (k : ℕ). length_of k 0 m) u ∙ length_twice m ∙ sym (ap (λ (b : Bool). if b then Some (elements_in s m) else None) (whole m) ∙ ap (λ (k : ℕ). if nat_eq (m % 2) 0 then Some k else None) (count m))
-
--- as many elements again
-pub elements_back : (s : Scalar) (k m : ℕ) → is_whole s k ≡ true → elements_in s k ≡ m → k ≡ m * units_of s
-elements_back s k m whole is = either (units s) where
-  either : Units s → k ≡ m * units_of s
-  either (single u w count) = let same : k ≡ m = sym (count k) ∙ is in rw u (omega (arith, same))
-  either (twice u w count) =
-      let half : k / 2 ≡ m = sym (count k) ∙ is in
-      let even : k % 2 ≡ 0 = eqb-true (k % 2) 0 (sym (w k) ∙ whole) in
-      rw u (omega (arith, half, even))
-
-pub elements_are : (s : Scalar) (m : ℕ) → (is_whole s (m * units_of s) ≡ true) × (elements_in s (m * units_of s) ≡ m)
-elements_are s m = either (units s) where
-  either : Units s → (is_whole s (m * units_of s) ≡ true) × (elements_in s (m * units_of s) ≡ m)
-  either (single u w count) = (w (m * units_of s), count (m * units_of s) ∙ rw u (omega arith))
-  either (twice u w count) =
-      let even : m * 2 % 2 ≡ 0 = omega arith in
-      let half : m * 2 / 2 ≡ m = omega arith in
-      (w (m * units_of s) ∙ rw u (eq-eqb (m * 2 % 2) 0 even), count (m * units_of s) ∙ rw u half)
 
 few_elements : (s : Scalar) (k : ℕ) → k < 4294967296 → elements_in s k < 4294967296
 few_elements s k lt = either (units s) where
@@ -138,34 +99,6 @@ said_ends c s right d q r few is =
         differ e = cc
       either true true w false f true x = rw (allowed_alike c (elements_in s (d / 2 ^ 32)) (few_elements s (d / 2 ^ 32) few), f) tt
       either true true w false f false x = rw (allowed_alike c (elements_in s (d / 2 ^ 32)) (few_elements s (d / 2 ^ 32) few), f) tt
-
-name_small : (s : Scalar) → unit_name s < 256
-name_small (label ls) = omega arith
-name_small (number kind.Octet) = omega arith
-name_small (number kind.I8) = omega arith
-name_small (number kind.U8) = omega arith
-name_small (number kind.Char) = omega arith
-name_small (number kind.I16) = omega arith
-name_small (number kind.U16) = omega arith
-name_small (number kind.I32) = omega arith
-name_small (number kind.U32) = omega arith
-name_small (number kind.I64) = omega arith
-name_small (number kind.U64) = omega arith
-name_small (number kind.Bool) = omega arith
-
-bits_small : (s : Scalar) → unit_bits s < 256
-bits_small (label ls) = omega arith
-bits_small (number kind.Octet) = omega arith
-bits_small (number kind.I8) = omega arith
-bits_small (number kind.U8) = omega arith
-bits_small (number kind.Char) = omega arith
-bits_small (number kind.I16) = omega arith
-bits_small (number kind.U16) = omega arith
-bits_small (number kind.I32) = omega arith
-bits_small (number kind.U32) = omega arith
-bits_small (number kind.I64) = omega arith
-bits_small (number kind.U64) = omega arith
-bits_small (number kind.Bool) = omega arith
 
 -- name and size, each by itself
 pair_same : (x y name bits : ℕ) → x < 65536 → name < 65536 → (nat_eq x name && nat_eq y bits) ≡ nat_eq (x + 65536 * y) (long_words name bits 0)
@@ -297,7 +230,7 @@ module _ (c : Count) (s : Scalar) where
     narrow : (b : Bool) → is_marked (from_le_bytes w32 (take 4 o)) ≡ false → nat_eq (from_le_bytes w32 (take 4 o) / 2 ^ 28) 1 ≡ b → TakesShort
         → SameEnds (if b then short_by (from_le_bytes w32 (take 4 o)) p o else stop BadItem p)
         (told (then_on (if b && takes c s false then got (from_le_bytes w32 (take 4 o)) (p + 4) (drop 4 o) else stop BadItem p)
-            (λ x q r. map_got (λ y. (x, y)) (if is_marked x then told_before (q - 4) (read_word Mach 1 w64 q r) else got (widened x) q r))) p)
+        (λ x q r. map_got (λ y. (x, y)) (if is_marked x then told_before (q - 4) (read_word Mach 1 w64 q r) else got (widened x) q r))) p)
     narrow false is b may = tt
     narrow true is b (inl ok) =
         let x : ℕ = from_le_bytes w32 (take 4 o) in
@@ -317,7 +250,7 @@ module _ (c : Count) (s : Scalar) where
     form : (b : Bool) → is_marked (from_le_bytes w32 (take 4 o)) ≡ b → 4 ≤ length o
         → SameEnds (if b then long_by p o else (if nat_eq (from_le_bytes w32 (take 4 o) / 2 ^ 28) 1 then short_by (from_le_bytes w32 (take 4 o)) p o else stop BadItem p))
         (told (then_on (if (if b then takes c s true else nat_eq (from_le_bytes w32 (take 4 o) / 2 ^ 28) 1 && takes c s false) then got (from_le_bytes w32 (take 4 o)) (p + 4) (drop 4 o) else stop BadItem p)
-            (λ x q r. map_got (λ y. (x, y)) (if is_marked x then told_before (q - 4) (read_word Mach 1 w64 q r) else got (widened x) q r))) p)
+        (λ x q r. map_got (λ y. (x, y)) (if is_marked x then told_before (q - 4) (read_word Mach 1 w64 q r) else got (widened x) q r))) p)
     form true is near =
         let shorter = ap (λ (l : ℕ). nat_lt l 8) (length-drop 4 o) ∙ short_shift (length o) near in
         rw (long, is, long_read, shorter) (wide (nat_lt (length o) 12) refl near)
@@ -326,7 +259,7 @@ module _ (c : Count) (s : Scalar) where
     first : (b : Bool) → nat_lt (length o) 4 ≡ b
         → SameEnds (if b then stop Short p else (if is_marked (from_le_bytes w32 (take 4 o)) then long_by p o else (if nat_eq (from_le_bytes w32 (take 4 o) / 2 ^ 28) 1 then short_by (from_le_bytes w32 (take 4 o)) p o else stop BadItem p)))
         (told (then_on (then_on (if b then stop Short (p + 0) else got (from_le_bytes w32 (take 4 o)) (p + 4) (drop 4 o)) (λ x q r. if has_form c s x then got x q r else stop BadItem p))
-            (λ x q r. map_got (λ y. (x, y)) (if is_marked x then told_before (q - 4) (read_word Mach 1 w64 q r) else got (widened x) q r))) p)
+        (λ x q r. map_got (λ y. (x, y)) (if is_marked x then told_before (q - 4) (read_word Mach 1 w64 q r) else got (widened x) q r))) p)
     first true is = tt
     first false is = form (is_marked (from_le_bytes w32 (take 4 o))) refl (ltb-false (length o) 4 is)
 
@@ -402,7 +335,7 @@ module _ (m : ℕ) (s : Scalar) (few : m * units_of s ≤ 4095) where
     plain : (x : ℕ) → is_marked x ≡ false → (b : Bool) → nat_eq (x / 2 ^ 28) 1 ≡ b
         → SameEnds (if nat_eq x (fixed_word s m) then got m (p + 4) (drop 4 o) else stop BadItem p)
         (told (Exactly m) s (then_on (if b && nat_le U 4095 then got x (p + 4) (drop 4 o) else stop BadItem p)
-            (λ x q r. map_got (λ y. (x, y)) (if is_marked x then told_before (q - 4) (read_word Mach 1 w64 q r) else got (widened x) q r))) p)
+        (λ x q r. map_got (λ y. (x, y)) (if is_marked x then told_before (q - 4) (read_word Mach 1 w64 q r) else got (widened x) q r))) p)
     plain x is false one = rw (other x (eqb-false (x / 2 ^ 28) 1 one)) tt
     plain x is true one =
         rw (le-leb U 4095 few, is)
@@ -419,7 +352,7 @@ module _ (m : ℕ) (s : Scalar) (few : m * units_of s ≤ 4095) where
     form : (x : ℕ) (b : Bool) → is_marked x ≡ b
         → SameEnds (if nat_eq x (fixed_word s m) then got m (p + 4) (drop 4 o) else stop BadItem p)
         (told (Exactly m) s (then_on (if (if b then nat_lt 4095 U else nat_eq (x / 2 ^ 28) 1 && nat_le U 4095) then got x (p + 4) (drop 4 o) else stop BadItem p)
-            (λ x q r. map_got (λ y. (x, y)) (if is_marked x then told_before (q - 4) (read_word Mach 1 w64 q r) else got (widened x) q r))) p)
+        (λ x q r. map_got (λ y. (x, y)) (if is_marked x then told_before (q - 4) (read_word Mach 1 w64 q r) else got (widened x) q r))) p)
     form x true is =
         let three : x / 2 ^ 28 ≡ 3 = eqb-true (x / 2 ^ 28) 3 is in
         rw (other x (λ one. omega (arith, one, three)), le-ltb 4095 U few) tt
@@ -428,6 +361,6 @@ module _ (m : ℕ) (s : Scalar) (few : m * units_of s ≤ 4095) where
     first : (b : Bool) → nat_lt (length o) 4 ≡ b
         → SameEnds (if b then stop Short p else (if same_octets (le 4 (fixed_word s m)) (take 4 o) then got m (p + 4) (drop 4 o) else stop BadItem p))
         (told (Exactly m) s (then_on (then_on (if b then stop Short (p + 0) else got (from_le_bytes w32 (take 4 o)) (p + 4) (drop 4 o)) (λ x q r. if has_form (Exactly m) s x then got x q r else stop BadItem p))
-            (λ x q r. map_got (λ y. (x, y)) (if is_marked x then told_before (q - 4) (read_word Mach 1 w64 q r) else got (widened x) q r))) p)
+        (λ x q r. map_got (λ y. (x, y)) (if is_marked x then told_before (q - 4) (read_word Mach 1 w64 q r) else got (widened x) q r))) p)
     first true is = tt
     first false is = rw (word_is (fixed_word s m) o word_few oct (ltb-false (length o) 4 is)) (form (from_le_bytes w32 (take 4 o)) (is_marked (from_le_bytes w32 (take 4 o))) refl)

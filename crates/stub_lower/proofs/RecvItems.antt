@@ -126,7 +126,7 @@ module _ (t : Scalar) where
 
   item_run : (c : Callees) (g : Get) (d : Draft) (f : ℤ → Option Draft) (s : Place) → AreOctets s.left → Takes Mach t 4 g d f
       → fill c (item_code t g) d s ≡ (if nat_lt (length s.left) N then refuses else (if same_octets D (take 4 s.left)
-          then then_run (then_run (scalar_into t f (width_of Mach t) (loaded Little (width_of Mach t) (take W (drop 4 s.left))) (tested_place N s)) (all_got [])) (λ y u. then_run (passed N y u) (fill c finish)) else refuses))
+      then then_run (then_run (scalar_into t f (width_of Mach t) (loaded Little (width_of Mach t) (take W (drop 4 s.left))) (tested_place N s)) (all_got [])) (λ y u. then_run (passed N y u) (fill c finish)) else refuses))
   item_run c g d f s oct does = decided (nat_lt (length s.left) N) where
     near : nat_le (0 + 4) (max N s.near) ≡ true
     near = le_true (0 + 4) (max N s.near) (omega arith)
@@ -141,7 +141,7 @@ module _ (t : Scalar) where
 
     decided : (short : Bool) → then_run (if short then refuses else gives d (tested_place N s)) (fill c (pass N (get.Const 0 D ∷ g ∷ []) finish))
         ≡ (if short then refuses else (if same_octets D (take 4 s.left)
-          then then_run (then_run (scalar_into t f (width_of Mach t) (loaded Little (width_of Mach t) (take W (drop 4 s.left))) (tested_place N s)) (all_got [])) (λ y u. then_run (passed N y u) (fill c finish)) else refuses))
+        then then_run (then_run (scalar_into t f (width_of Mach t) (loaded Little (width_of Mach t) (take W (drop 4 s.left))) (tested_place N s)) (all_got [])) (λ y u. then_run (passed N y u) (fill c finish)) else refuses))
     decided true = refl
     decided false =
         ap (λ (b : Bool). then_run (then_run (if b then (if same_octets D (take 4 s.left) then gives d (tested_place N s) else refuses) else strays) (λ x v. then_run (filler.got g x v) (all_got []))) (λ y u. then_run (passed N y u) (fill c finish))) near
@@ -193,7 +193,7 @@ module _ (t : Scalar) where
     scalar : (b0 b3 b4 : Bool) → nat_lt (length o) N ≡ b0 → nat_lt (length o) 4 ≡ false → nat_lt (length (drop 4 o)) W ≡ b3 → is_scalar t (inside o) ≡ b4
         → SameEnds (if b0 then stop Short p else (if b4 then got (inside o) (p + N) (drop N o) else stop BadValue p))
         (number_behind (then_on (map_got (number_of (is_signed t) (width_of Mach t)) (if b3 then stop Short (p + 4 + 0) else got (loaded Little (width_of Mach t) (take W (drop 4 o))) (p + 4 + W) (drop W (drop 4 o))))
-            (λ n q rest. if is_scalar t n then got n q rest else stop BadValue (scalar_place Mach t (p + 4)))))
+        (λ n q rest. if is_scalar t n then got n q rest else stop BadValue (scalar_place Mach t (p + 4)))))
     scalar true true b4 is one two three = tt
     scalar false true b4 is one two three =
         let l = length-drop 4 o in
@@ -209,12 +209,12 @@ module _ (t : Scalar) where
     behind : (b0 b2 : Bool) → nat_lt (length o) N ≡ b0 → nat_lt (length o) 4 ≡ false → same_octets D (take 4 o) ≡ b2
         → SameEnds (known b0 b2 (is_scalar t (inside o)) p o)
         (map_got (λ (x : Unit {0} × (ℤ × Unit {0})). x.1.0) (then_on (map_got (λ m. tt) (if nat_eq (from_le_bytes w32 (take 4 o)) (scalar_word t) then got (from_le_bytes w32 (take 4 o)) (p + 4) (drop 4 o) else stop BadItem p))
-            (λ u q l. map_got (λ y. (u, y)) (then_on (read_scalar Mach t q l) (λ n q l. filled n (read_any (filling t) q l))))))
+        (λ u q l. map_got (λ y. (u, y)) (then_on (read_scalar Mach t q l) (λ n q l. filled n (read_any (filling t) q l))))))
     behind b0 b2 is one two = rw (sym (word_is (scalar_word t) o (word_small t) oct (ltb-false (length o) 4 one)) ∙ two) (chosen b0 b2 is) where
       chosen : (b0 b2 : Bool) → nat_lt (length o) N ≡ b0
           → SameEnds (known b0 b2 (is_scalar t (inside o)) p o)
           (map_got (λ (x : Unit {0} × (ℤ × Unit {0})). x.1.0) (then_on (map_got (λ m. tt) (if b2 then got (from_le_bytes w32 (take 4 o)) (p + 4) (drop 4 o) else stop BadItem p))
-              (λ u q l. map_got (λ y. (u, y)) (then_on (read_scalar Mach t q l) (λ n q l. filled n (read_any (filling t) q l))))))
+          (λ u q l. map_got (λ y. (u, y)) (then_on (read_scalar Mach t q l) (λ n q l. filled n (read_any (filling t) q l))))))
       chosen true false h = tt
       chosen false false h = tt
       chosen b0 true h =
@@ -224,7 +224,7 @@ module _ (t : Scalar) where
     first : (b1 : Bool) → nat_lt (length o) 4 ≡ b1 → (b0 : Bool) → nat_lt (length o) N ≡ b0
         → SameEnds (known b0 (same_octets D (take 4 o)) (is_scalar t (inside o)) p o)
         (map_got (λ (x : Unit {0} × (ℤ × Unit {0})). x.1.0) (then_on (map_got (λ m. tt) (then_on (if b1 then stop Short (p + 0) else got (from_le_bytes w32 (take 4 o)) (p + 4) (drop 4 o)) (λ x q rest. if nat_eq x (scalar_word t) then got x q rest else stop BadItem p)))
-            (λ u q l. map_got (λ y. (u, y)) (then_on (read_scalar Mach t q l) (λ n q l. filled n (read_any (filling t) q l))))))
+        (λ u q l. map_got (λ y. (u, y)) (then_on (read_scalar Mach t q l) (λ n q l. filled n (read_any (filling t) q l))))))
     first true one true is = tt
     first true one false is = let a = ltb-true (length o) 4 one in let w = ltb-false (length o) N is in absurd (omega (arith, a, w))
     first false one b0 is = behind b0 (same_octets D (take 4 o)) is one refl

@@ -32,7 +32,8 @@ use Rattle.cast_stub.specs.Layouts.{scalar_width}
 use Rattle.stub_lower.specs.RecvCodes.{take_code, number_take, fixed_code, free_code, described_code, filling_code, array_code}
 use Rattle.stub_lower.proofs.Agreeing.{Agrees, Same, Settles, agrees-finish, agrees-wider, agrees-ends, SameEnds, ends-same}
 use Rattle.stub_lower.proofs.RecvEncoded.{tested_place, passed_place, pass_tested, le_true, octets_dropped}
-use Rattle.stub_lower.proofs.RecvArrays.{ArraysRead, Opens, read_whole, array-reads, along, along_words, numbers-agree, octets-agree, IsOctetArray, letter_passes, octet_passes}
+use Rattle.stub_lower.proofs.RecvArrays.{ArraysRead, Opens, read_whole, array-reads, numbers-agree, octets-agree, IsOctetArray, letter_passes, octet_passes}
+use Rattle.stub_lower.proofs.UnitLaws.{along, along_words, along_times}
 use Rattle.stub_lower.proofs.RecvCdr.{Skips, skip_run}
 use Rattle.stub_lower.proofs.RecvDesc.{counted_by, units_by, long_right, desc_by, fixed_word, fixed_by, free_ends, long_ends, fixed_ends}
 
@@ -73,7 +74,7 @@ module _ (c : Callees) (a : Array) where
 
     long : (b : Bool)
         → Agrees (IsPlace Mach) (Counted a) (then_run (if b then refuses else gives (raw (array_type a)) (tested_place 12 (tested_place 4 s)))
-            (λ y u. units_into (nat_eq (little w16 4 2 u.left) (unit_name x) && nat_eq (little w16 6 2 u.left) (unit_bits x)) (units_of x) (little w32 8 4 u.left) 12 y u))
+        (λ y u. units_into (nat_eq (little w16 4 2 u.left) (unit_name x) && nat_eq (little w16 6 2 u.left) (unit_bits x)) (units_of x) (little w32 8 4 u.left) 12 y u))
         (if b then stop Short s.pos else units_by (count_of a) (units_of x) (long_right x s.left) (little w32 8 4 s.left) (s.pos + 12) (drop 12 s.left))
     long true = tt
     long false = units-agree (units_of x) (long_right x s.left) (little w32 8 4 s.left) 12 (tested_place 12 (tested_place 4 s)) (omega arith) (omega (arith, here)) oct
@@ -86,16 +87,16 @@ module _ (c : Callees) (a : Array) where
 
     form : (b : Bool)
         → Agrees (IsPlace Mach) (Counted a) (if b then long_into (unit_name x) (unit_bits x) (units_of x) (raw (array_type a)) (tested_place 4 s)
-            else (if nat_eq (little w32 0 4 s.left / 2 ^ 28) 1 then short_into (unit_name x) (unit_bits x) (units_of x) (little w32 0 4 s.left) (raw (array_type a)) (tested_place 4 s) else refuses))
+        else (if nat_eq (little w32 0 4 s.left / 2 ^ 28) 1 then short_into (unit_name x) (unit_bits x) (units_of x) (little w32 0 4 s.left) (raw (array_type a)) (tested_place 4 s) else refuses))
         (if b then (if nat_lt (length s.left) 12 then stop Short s.pos else units_by (count_of a) (units_of x) (long_right x s.left) (little w32 8 4 s.left) (s.pos + 12) (drop 12 s.left))
-            else (if nat_eq (little w32 0 4 s.left / 2 ^ 28) 1 then units_by (count_of a) (units_of x) (nat_eq (little w32 0 4 s.left % 256) (unit_name x) && nat_eq (little w32 0 4 s.left / 256 % 256) (unit_bits x)) (little w32 0 4 s.left / 65536 % 4096) (s.pos + 4) (drop 4 s.left) else stop BadItem s.pos))
+        else (if nat_eq (little w32 0 4 s.left / 2 ^ 28) 1 then units_by (count_of a) (units_of x) (nat_eq (little w32 0 4 s.left % 256) (unit_name x) && nat_eq (little w32 0 4 s.left / 256 % 256) (unit_bits x)) (little w32 0 4 s.left / 65536 % 4096) (s.pos + 4) (drop 4 s.left) else stop BadItem s.pos))
     form true = long (nat_lt (length s.left) 12)
     form false = short (nat_eq (little w32 0 4 s.left / 2 ^ 28) 1)
 
     first : (b : Bool)
         → Agrees (IsPlace Mach) (Counted a) (then_run (if b then refuses else gives (raw (array_type a)) (tested_place 4 s)) (λ y u. form_into (unit_name x) (unit_bits x) (units_of x) (little w32 0 4 u.left) y u))
         (if b then stop Short s.pos else (if is_marked (little w32 0 4 s.left) then (if nat_lt (length s.left) 12 then stop Short s.pos else units_by (count_of a) (units_of x) (long_right x s.left) (little w32 8 4 s.left) (s.pos + 12) (drop 12 s.left))
-            else (if nat_eq (little w32 0 4 s.left / 2 ^ 28) 1 then units_by (count_of a) (units_of x) (nat_eq (little w32 0 4 s.left % 256) (unit_name x) && nat_eq (little w32 0 4 s.left / 256 % 256) (unit_bits x)) (little w32 0 4 s.left / 65536 % 4096) (s.pos + 4) (drop 4 s.left) else stop BadItem s.pos)))
+        else (if nat_eq (little w32 0 4 s.left / 2 ^ 28) 1 then units_by (count_of a) (units_of x) (nat_eq (little w32 0 4 s.left % 256) (unit_name x) && nat_eq (little w32 0 4 s.left / 256 % 256) (unit_bits x)) (little w32 0 4 s.left / 65536 % 4096) (s.pos + 4) (drop 4 s.left) else stop BadItem s.pos)))
     first true = tt
     first false = form (is_marked (little w32 0 4 s.left))
 
@@ -178,11 +179,6 @@ nothing-after c d t here oct =
       none = le-ltb (length t.left) 0 (omega arith)
 
 -- ---- rows and texts
-
--- so many elements of so many octets have this length
-along_times : (w n : ℕ) → along n w ≡ n * w
-along_times w zero = sym (zero-mul w)
-along_times w (suc n) = let rest = along_times w n in let more = suc-mul n w in omega (arith, rest, more)
 
 -- an array of elements of so many octets, which are less than a word, or whole words
 mach-array : (c : Callees) (a : Array) (x : Scalar) (w : ℕ) (turn : Recv) (one : Reader FaultKind ℤ) (s : Place) → (nat_lt w 4 ≡ false → w % 4 ≡ 0)

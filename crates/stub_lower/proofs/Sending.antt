@@ -22,6 +22,7 @@ use Rattle.cast_stub.specs.Block.{Block, stop, each, switch, if_there}
 use Rattle.cast_stub.specs.Append.{append}
 use Rattle.cast_stub.specs.Steps.{Steps, Calls, steps, case_steps, over}
 use Rattle.cast_stub.proofs.Appending.{steps-append}
+use Rattle.stub_lower.specs.Items.{number_at}
 use Rattle.stub_lower.specs.Codes.{count_code, tag_code, flag_code, call_here, calls_from, cases_at, node_code}
 use Rattle.cast_stub.specs.Layouts.{order_of, scalar_width}
 use Rattle.stub_lower.proofs.Writing.{Sends, both-sends, none-sends, sends_same, sends_stop}
@@ -92,18 +93,18 @@ module _ (e : Encoding) (scalar : ScalarsSend e) (array : ArraysSend e) (us : Li
       (λ is. here-sends a.1 w p below.0 (omega arith) (is, few)) (λ is. arms-send arms other m w p below.1 last (omega arith) is few) typed
 
   tag_scalar : (t : Scalar) (m : ℤ) (w : Val) (p : ℕ) → IsScalar t m → Sends e (steps c h (tag_code e t) (arm m w)) p (lone_octets e t p m)
-  tag_scalar t m w p typed = scalar c h t m (put.Tag 0 [] (scalar_width e t) (order_of e)) (arm m w) p typed refl refl
+  tag_scalar t m w p typed = scalar c h t m (put.Tag (number_at e) [] (scalar_width e t) (order_of e)) (arm m w) p typed refl refl
 
   flag_scalar : (v : Val) (m : ℤ) (p : ℕ) → part.flag_in v ≡ Some m → IsScalar flag m → Sends e (steps c h (flag_code e) v) p (lone_octets e flag p m)
-  flag_scalar v m p is typed = scalar c h flag m (put.Flag 0 [] (scalar_width e flag) (order_of e)) v p typed refl (ap (λ (o : Option ℤ). on_some o (word (scalar_width e flag) (order_of e))) is)
+  flag_scalar v m p is typed = scalar c h flag m (put.Flag (number_at e) [] (scalar_width e flag) (order_of e)) v p typed refl (ap (λ (o : Option ℤ). on_some o (word (scalar_width e flag) (order_of e))) is)
 
   pub node-sends : (m : Node) (p : ℕ) (v : Val) → HasChildrenBelow b m → depth (level us m) ≤ suc n → IsOf (level us m) v → IsLight (weight v) → Sends e (steps c h (node_code e m) v) p (send e (level us m) p v)
   unfolding send
   node-sends node.Void p void below low typed few = none-sends e p
   node-sends node.Void p _ below low typed few = absurd typed
-  node-sends (node.Num k) p (num z) below low typed few = scalar c h (number k) z (put.Num 0 [] (scalar_width e (number k)) (order_of e)) (num z) p typed refl refl
+  node-sends (node.Num k) p (num z) below low typed few = scalar c h (number k) z (put.Num (number_at e) [] (scalar_width e (number k)) (order_of e)) (num z) p typed refl refl
   node-sends (node.Num k) p _ below low typed few = absurd typed
-  node-sends (node.Enum ls) p (num z) below low typed few = scalar c h (label ls) z (put.Num 0 [] (scalar_width e (label ls)) (order_of e)) (num z) p typed refl refl
+  node-sends (node.Enum ls) p (num z) below low typed few = scalar c h (label ls) z (put.Num (number_at e) [] (scalar_width e (label ls)) (order_of e)) (num z) p typed refl refl
   node-sends (node.Enum ls) p _ below low typed few = absurd typed
   node-sends (node.Text x) p (row k ns) below low typed few = array c h (text x) k ns p typed (omega arith)
   node-sends (node.Text x) p _ below low typed few = absurd typed

@@ -26,9 +26,9 @@ use Rattle.cast_stub.specs.Turned.{IsTurned, AllTurned}
 use Rattle.stub_lower.specs.Codes.{array_code, node_code}
 use Rattle.cast_stub.specs.Layouts.{layout_of}
 use Rattle.stub_lower.specs.Lowered.{CodesSend}
-use Rattle.wire_def.specs.Lone.{IsPlain}
 use Rattle.stub_lower.proofs.Encoded.{ScalarsSend, ArraysSend, xdr_scalar, xdr_array}
 use Rattle.stub_lower.proofs.Cdr.{big_scalar, big_array, little_scalar, little_array}
+use Rattle.stub_lower.proofs.Mach.{mach_scalar, mach_array}
 use Rattle.stub_lower.proofs.Following.{turned, loops, node-follows}
 use Rattle.stub_lower.proofs.Sending.{Is, node-sends}
 use Rattle.stub_lower.proofs.Writing.{Sends}
@@ -130,21 +130,21 @@ module _ (e : Encoding) (nodes : List Node) (subs : List (List SendOp)) (whole :
   code_of : (k : ℕ) (ops : List SendOp) → slice_get subs k ≡ Some ops → Stands e nodes k (code_seen ops)
   code_of k ops is = code_at k (code_seen ops) (ap (option_map code_seen) is)
 
--- ---- over XDR
+-- ---- what an encoding gives
 
-scalars : (e : Encoding) → IsPlain e → ScalarsSend e
-scalars Xdr h = xdr_scalar
-scalars CdrBig h = big_scalar
-scalars CdrLittle h = little_scalar
-scalars Mach h = absurd h
+scalars : (e : Encoding) → ScalarsSend e
+scalars Xdr = xdr_scalar
+scalars CdrBig = big_scalar
+scalars CdrLittle = little_scalar
+scalars Mach = mach_scalar
 
-arrays : (e : Encoding) → IsPlain e → ArraysSend e
-arrays Xdr h = xdr_array
-arrays CdrBig h = big_array
-arrays CdrLittle h = little_array
-arrays Mach h = absurd h
+arrays : (e : Encoding) → ArraysSend e
+arrays Xdr = xdr_array
+arrays CdrBig = big_array
+arrays CdrLittle = little_array
+arrays Mach = mach_array
 
-module _ (e : Encoding) (plain : IsPlain e) (nodes : List Node) (subs : List (List SendOp)) (whole : AreLowered e nodes (length nodes) subs) where
+module _ (e : Encoding) (nodes : List Node) (subs : List (List SendOp)) (whole : AreLowered e nodes (length nodes) subs) where
   module _ (L : Loops) (array : (a : Array) → L a [] (array_code e a)) where
     follows : (n k : ℕ) (m : Node) → k < n → slice_get nodes k ≡ Some m → FollowsBy L (sub_at subs) (type_at nodes k) k [] (node_code e m)
     follows zero k m lt is = absurd (omega (arith, lt))
@@ -166,7 +166,7 @@ module _ (e : Encoding) (plain : IsPlain e) (nodes : List Node) (subs : List (Li
   node_sent h n k m p v is low typed part =
       let same : type_at nodes k ≡ level (unfolded nodes) m = type_at-level nodes k m (below e nodes subs whole) is in
       subst (λ (t : Ty). Sends e (steps (called (sub_at subs) h n) h (node_code e m) v) p (send e t p v)) (sym same)
-      (node-sends e (scalars e plain) (arrays e plain) (unfolded nodes) h (called (sub_at subs) h n) n k
+      (node-sends e (scalars e) (arrays e) (unfolded nodes) h (called (sub_at subs) h n) n k
       (λ (i : ℕ) (q : ℕ) (w : Val) lt d ty. part i q w (omega (arith, lt, in_list nodes k m is)) d ty)
       m p v (below e nodes subs whole k m is) (subst (λ (t : Ty). depth t ≤ suc n) same low) (subst (λ (t : Ty). IsOf t v) same typed.0) typed.1)
 
@@ -202,11 +202,11 @@ ended e nodes id count subs all past within whole =
     let same : id ≡ length nodes = omega (arith, all, past, within) in
     subst (λ (n : ℕ). AreLowered e nodes n subs) same whole
 
-pub all_send : (e : Encoding) (nodes : List Node) (subs : List (List SendOp)) → IsPlain e → AreLowered e nodes (length nodes) subs → CodesSend e nodes subs
-all_send e nodes subs plain whole = codes_send e plain nodes subs whole
+pub all_send : (e : Encoding) (nodes : List Node) (subs : List (List SendOp)) → AreLowered e nodes (length nodes) subs → CodesSend e nodes subs
+all_send e nodes subs whole = codes_send e nodes subs whole
 
-pub all_follow : (e : Encoding) (nodes : List Node) (subs : List (List SendOp)) → IsPlain e → AreLowered e nodes (length nodes) subs → AllFollow nodes subs
-all_follow e nodes subs plain whole = codes_follow e plain nodes subs whole (λ a. IsLoop) (loops e plain)
+pub all_follow : (e : Encoding) (nodes : List Node) (subs : List (List SendOp)) → AreLowered e nodes (length nodes) subs → AllFollow nodes subs
+all_follow e nodes subs whole = codes_follow e nodes subs whole (λ a. IsLoop) (loops e)
 
-pub all_turned : (e : Encoding) (nodes : List Node) (subs : List (List SendOp)) → IsPlain e → AreLowered e nodes (length nodes) subs → AllTurned (layout_of e) nodes subs
-all_turned e nodes subs plain whole = codes_follow e plain nodes subs whole (IsTurned (layout_of e)) (turned e plain)
+pub all_turned : (e : Encoding) (nodes : List Node) (subs : List (List SendOp)) → AreLowered e nodes (length nodes) subs → AllTurned (layout_of e) nodes subs
+all_turned e nodes subs whole = codes_follow e nodes subs whole (IsTurned (layout_of e)) (turned e)

@@ -1,5 +1,6 @@
 -- The code of a node over those of its parts, which it calls.
-use Rattle.std.specs.Prelude.{◌≡◌, ℕ, zero, suc, ℤ, List, [], ◌∷◌, Option, None, Some, Bool, nat_eq, if◌then◌else◌}
+use Rattle.std.specs.Prelude.{◌≡◌, ℕ, zero, suc, ◌+◌, ℤ, List, [], ◌∷◌, ◌++◌, replicate, Option, None, Some, Bool, nat_eq, nat_lt, if◌then◌else◌}
+use Rattle.kit_base.specs.Bytes.{le}
 use Rattle.mint.specs.declared.kind.Count.{Count}
 use Rattle.mint.specs.declared.kind.Count.TheVariants.{Exactly}
 use Rattle.mint.specs.declared.node.Node.{Node}
@@ -7,7 +8,10 @@ use Rattle.mint.specs.declared.node.Node.TheVariants as node
 use Rattle.mint.specs.Types.{Scalar, number, label, Array, text, row_of, scalar_of}
 use Rattle.wire_def.specs.declared.encoding.Encoding.{Encoding}
 use Rattle.wire_def.specs.declared.encoding.Encoding.TheVariants.{Xdr, CdrBig, CdrLittle, Mach}
-use Rattle.wire_def.specs.Arrays.{counted, count_of, is_octets}
+use Rattle.wire_def.specs.declared.head.Order.TheVariants.{Little}
+use Rattle.wire_def.specs.Lone.{unit_name, unit_bits, units_of, scalar_word}
+use Rattle.wire_def.specs.Described.{is_long, long_mark, long_words}
+use Rattle.wire_def.specs.Arrays.{counted, count_of, kind_of, is_octets}
 use Rattle.wire_def.specs.Send.{flag}
 use Rattle.cast_stub.specs.declared.put.Put.{Put}
 use Rattle.cast_stub.specs.declared.put.Put.TheVariants as put
@@ -15,6 +19,7 @@ use Rattle.cast_stub.specs.declared.send.SendOp.{SendOp}
 use Rattle.cast_stub.specs.Block.{Block, stop, align, chunk, each, switch, if_there, call, Cases, no_default, default, case, code_seen}
 use Rattle.cast_stub.specs.Append.{append}
 use Rattle.cast_stub.specs.Layouts.{order_of, scalar_width, element_width, is_gapped}
+use Rattle.stub_lower.specs.Items.{number_at, item_rest}
 
 -- ---- what an encoding gives
 
@@ -22,25 +27,37 @@ use Rattle.cast_stub.specs.Layouts.{order_of, scalar_width, element_width, is_ga
 abbrev pub aligned : ℕ → Block → Block
 aligned w b = if nat_eq w 1 then b else align w b
 
--- a scalar of a width, given its put; over CDR behind its alignment
-abbrev pub scalar_code : Encoding → ℕ → Put → Block
-scalar_code Xdr w x = chunk w (x ∷ []) stop
-scalar_code CdrBig w x = aligned w (chunk w (x ∷ []) stop)
-scalar_code CdrLittle w x = aligned w (chunk w (x ∷ []) stop)
-scalar_code Mach w x = stop
+-- the octets of an item, 0 where its number is to be
+abbrev pub item_octets : Scalar → List ℕ
+item_octets s = le 4 (scalar_word s) ++ replicate (item_rest s) 0
 
--- the put of the current value, a number of the width
+-- an item, given the put of its number, which comes over its zeros
+abbrev pub item_code : Scalar → Put → Block
+item_code s x = chunk (4 + item_rest s) (put.Const 0 (item_octets s) ∷ x ∷ []) stop
+
+-- a scalar by itself, given the put of its number; over CDR behind its alignment
+abbrev pub scalar_code : Encoding → Scalar → Put → Block
+scalar_code Xdr s x = chunk (scalar_width Xdr s) (x ∷ []) stop
+scalar_code CdrBig s x = aligned (scalar_width CdrBig s) (chunk (scalar_width CdrBig s) (x ∷ []) stop)
+scalar_code CdrLittle s x = aligned (scalar_width CdrLittle s) (chunk (scalar_width CdrLittle s) (x ∷ []) stop)
+scalar_code Mach s x = item_code s x
+
+-- the put of the current value, a number of an array
 abbrev pub number_put : Encoding → ℕ → Put
 number_put e w = put.Num 0 [] w (order_of e)
+
+-- the put of the current value's length, raised
+abbrev pub length_put : Encoding → ℕ → Put
+length_put e add = put.Count (number_at e) [] 1 add (scalar_width e counted) (order_of e)
 
 -- a count, which a fixed length has not
 abbrev pub count_code : Encoding → Count → Block
 count_code e (Exactly m) = stop
-count_code e _ = scalar_code e (scalar_width e counted) (put.Count 0 [] 1 0 (scalar_width e counted) (order_of e))
+count_code e _ = scalar_code e counted (length_put e 0)
 
 -- the length of a text over CDR, with the octet behind it
 abbrev pub ended_code : Encoding → Block
-ended_code e = scalar_code e (scalar_width e counted) (put.Count 0 [] 1 1 (scalar_width e counted) (order_of e))
+ended_code e = scalar_code e counted (length_put e 1)
 
 -- before the elements of a row over CDR: the count, or the alignment of a first element
 abbrev pub row_code : Encoding → ℕ → Count → Block
@@ -48,12 +65,29 @@ row_code e w (Exactly zero) = stop
 row_code e w (Exactly (suc m)) = aligned w stop
 row_code e w c = count_code e c
 
+-- a long descriptor, but for its number
+unfoldable pub long_octets : Scalar → List ℕ
+long_octets s = le 4 long_mark ++ le 4 (long_words (unit_name s) (unit_bits s) 0)
+
+-- a long descriptor
+abbrev pub long_code : Scalar → Block
+long_code s = chunk 12 (put.Const 0 (long_octets s) ∷ put.Count 8 [] (units_of s) 0 4 Little ∷ []) stop
+
+-- a short one
+abbrev pub short_code : Scalar → Block
+short_code s = chunk 4 (put.Short 0 [] (unit_name s) (unit_bits s) (units_of s) ∷ []) stop
+
+-- the descriptor of an array
+abbrev pub described_code : Count → Scalar → Block
+described_code c s = if is_long c s then long_code s else short_code s
+
 -- before the elements of an array
 abbrev pub head_code : Encoding → Array → Block
 head_code CdrBig (text c) = ended_code CdrBig
 head_code CdrBig (row_of k c) = row_code CdrBig (element_width CdrBig (row_of k c)) c
 head_code CdrLittle (text c) = ended_code CdrLittle
 head_code CdrLittle (row_of k c) = row_code CdrLittle (element_width CdrLittle (row_of k c)) c
+head_code Mach a = described_code (count_of a) (number (kind_of a))
 head_code e a = count_code e (count_of a)
 
 -- the chunk of one number
@@ -74,11 +108,16 @@ turn_code e a = number_chunk e (element_width e a)
 abbrev pub end_code : Block
 end_code = chunk 1 (put.Const 0 (0 ∷ []) ∷ []) stop
 
+-- what fills the numbers of a row of a Mach message up, where they may need it
+abbrev pub filling_code : ℕ → Block
+filling_code w = if nat_lt w 4 then align 4 stop else stop
+
 -- behind the elements of an array
 abbrev pub behind_code : Encoding → Array → Block
 behind_code Xdr a = if is_octets a then align 4 stop else stop
 behind_code CdrBig (text c) = end_code
 behind_code CdrLittle (text c) = end_code
+behind_code Mach a = filling_code (element_width Mach a)
 behind_code _ a = stop
 
 -- ---- what nodes have over every encoding
@@ -108,7 +147,7 @@ IsCall c n i = (c.0 ≡ n) × (code_seen c.1 ≡ call_here i)
 
 -- a number, an enum's label
 abbrev pub number_code : Encoding → Scalar → Block
-number_code e s = scalar_code e (scalar_width e s) (number_put e (scalar_width e s))
+number_code e s = scalar_code e s (put.Num (number_at e) [] (scalar_width e s) (order_of e))
 
 -- a text, a row
 abbrev pub array_code : Encoding → Array → Block
@@ -116,11 +155,11 @@ array_code e a = append (head_code e a) (each [] (turn_code e a) (behind_code e 
 
 -- the tag of an arm
 abbrev pub tag_code : Encoding → Scalar → Block
-tag_code e s = scalar_code e (scalar_width e s) (put.Tag 0 [] (scalar_width e s) (order_of e))
+tag_code e s = scalar_code e s (put.Tag (number_at e) [] (scalar_width e s) (order_of e))
 
 -- whether a value is there
 abbrev pub flag_code : Encoding → Block
-flag_code e = scalar_code e (scalar_width e flag) (put.Flag 0 [] (scalar_width e flag) (order_of e))
+flag_code e = scalar_code e flag (put.Flag (number_at e) [] (scalar_width e flag) (order_of e))
 
 -- the code of a node
 abbrev pub node_code : Encoding → Node → Block

@@ -3,19 +3,21 @@ ghost use Rattle.std.specs.Prelude.{◌≡◌, [], ◌∷◌, OnOk, IfOk};
 ghost use Rattle.mint.specs.Types.{number, text, row_of};
 ghost use Rattle.cast_stub.specs.Append.{append};
 ghost use Rattle.cast_stub.specs.Block.{stop, chunk, each, code_seen};
-ghost use Rattle.mint.specs.declared.kind.Count.{Count};
-ghost use Rattle.wire_def.specs.Lone.{IsPlain};
-ghost use Rattle.stub_lower.specs.Codes.{aligned, scalar_code, number_put, gapped_turn, count_code, ended_code, end_code, row_code, array_code};
 ghost use Rattle.cast_stub.specs.Layouts.{order_of, scalar_width, element_width, is_gapped};
+ghost use Rattle.mint.specs.declared.kind.Count.{Count};
+ghost use Rattle.stub_lower.specs.Codes.{aligned, array_code, count_code, described_code, end_code, ended_code, filling_code, gapped_turn, item_code, item_octets, length_put, long_code, number_code, row_code, scalar_code, short_code};
 
-use crate::ops::add_chunk;
+use crate::ops::{add_chunk, add_pair};
+use crate::units::{
+    bits_of, has_long, item_octets, long_octets, name_of, number_at, rest_of, units_in,
+};
 use cast_stub::copying::add;
 use cast_stub::layouts::{order_of, width_of};
 use cast_stub::{Path, Put, SendOp, SendOps};
 use kit_base::{NoMemory, Octets};
 use mint::kind::{Count, Kind};
 use std::alloc::Global;
-use wire_def::Encoding;
+use wire_def::{Encoding, Order};
 
 /// Puts an alignment behind the last operation.
 #[tactic(auto, using(crate::proofs::Building::building))]
@@ -42,36 +44,79 @@ fn add_aligned(alloc: Global, width: u32, put: Put, out: &mut SendOps) -> Result
     }
 }
 
-/// Puts the code of a scalar behind the last operation; the put is that of its number.
+/// The octets of an item, 0 where its number is to be.
+fn blank_item(alloc: Global, kind: Kind) -> Result<Octets, NoMemory>
+    ensures { IfOk result (λ o. o ≡ item_octets (number kind)) }
+{
+    let mut octets = item_octets(alloc, kind)?;
+    match kind {
+        Kind::I64 | Kind::U64 => octets.append(&[0; 8])?,
+        _ => octets.append(&[0; 4])?,
+    }
+    Ok(octets)
+}
+
+/// Puts the code of an item of a Mach message; the put is that of its number.
+#[tactic(auto, using(crate::proofs::Building::building))]
+fn add_item(alloc: Global, kind: Kind, put: Put, out: &mut SendOps) -> Result<(), NoMemory>
+    ensures { OnOk result (code_seen out.new ≡ append (code_seen out.old) (item_code (number kind) put)) }
+{
+    let blank = Put::Const(0, blank_item(alloc, kind)?);
+    add_pair(alloc, 4 + rest_of(kind), blank, put, out)
+}
+
+/// Puts the code of a scalar by itself behind the last operation; the put is that of its number.
 #[tactic(auto, using(crate::proofs::Building::building))]
 pub(crate) fn add_scalar(
     alloc: Global,
     enc: Encoding,
-    width: u32,
+    kind: Kind,
     put: Put,
     out: &mut SendOps,
 ) -> Result<(), NoMemory>
-    ensures { OnOk result (code_seen out.new ≡ append (code_seen out.old) (scalar_code enc width put)) }
+    ensures { OnOk result (code_seen out.new ≡ append (code_seen out.old) (scalar_code enc (number kind) put)) }
 {
     match enc {
-        Encoding::Xdr => add_chunk(alloc, width, put, out),
-        Encoding::CdrBig | Encoding::CdrLittle => add_aligned(alloc, width, put, out),
-        Encoding::Mach => Ok(()),
+        Encoding::Xdr => add_chunk(alloc, width_of(enc, kind), put, out),
+        Encoding::CdrBig | Encoding::CdrLittle => {
+            add_aligned(alloc, width_of(enc, kind), put, out)
+        }
+        Encoding::Mach => add_item(alloc, kind, put, out),
     }
 }
 
-/// Puts the code of the current value, a number of so many octets.
+/// Puts the code of the current value, a number of a kind.
 #[tactic(auto, using(crate::proofs::Building::building))]
 pub(crate) fn add_number(
     alloc: Global,
     enc: Encoding,
-    width: u32,
+    kind: Kind,
     out: &mut SendOps,
 ) -> Result<(), NoMemory>
-    ensures { OnOk result (code_seen out.new ≡ append (code_seen out.old) (scalar_code enc width (number_put enc width))) }
+    ensures { OnOk result (code_seen out.new ≡ append (code_seen out.old) (number_code enc (number kind))) }
 {
-    let put = Put::Num(0, Path::new(alloc), width, order_of(enc));
-    add_scalar(alloc, enc, width, put, out)
+    let put = Put::Num(
+        number_at(enc),
+        Path::new(alloc),
+        width_of(enc, kind),
+        order_of(enc),
+    );
+    add_scalar(alloc, enc, kind, put, out)
+}
+
+/// The put of a length, to which so many octets are added.
+fn length(alloc: Global, enc: Encoding, summand: u32) -> Put
+    ensures { result ≡ length_put enc summand }
+{
+    let width = width_of(enc, Kind::U32);
+    Put::Count(
+        number_at(enc),
+        Path::new(alloc),
+        1,
+        summand,
+        width,
+        order_of(enc),
+    )
 }
 
 /// Puts the code of a count, which a fixed length has not.
@@ -84,11 +129,45 @@ pub(crate) fn add_count(
 ) -> Result<(), NoMemory>
     ensures { OnOk result (code_seen out.new ≡ append (code_seen out.old) (count_code enc count)) }
 {
-    let width = width_of(enc, Kind::U32);
-    let put = Put::Count(0, Path::new(alloc), 1, 0, width, order_of(enc));
     match count {
         Count::Exactly(_) => Ok(()),
-        _ => add_scalar(alloc, enc, width, put, out),
+        _ => add_scalar(alloc, enc, Kind::U32, length(alloc, enc, 0), out),
+    }
+}
+
+/// Puts the long descriptor of an array.
+#[tactic(auto, using(crate::proofs::Building::building))]
+fn add_long(alloc: Global, kind: Kind, out: &mut SendOps) -> Result<(), NoMemory>
+    ensures { OnOk result (code_seen out.new ≡ append (code_seen out.old) (long_code (number kind))) }
+{
+    let octets = long_octets(alloc, kind)?;
+    let many = Put::Count(8, Path::new(alloc), units_in(kind), 0, 4, Order::Little);
+    add_pair(alloc, 12, Put::Const(0, octets), many, out)
+}
+
+/// Puts the short descriptor of an array.
+#[tactic(auto, using(crate::proofs::Building::building))]
+fn add_short(alloc: Global, kind: Kind, out: &mut SendOps) -> Result<(), NoMemory>
+    ensures { OnOk result (code_seen out.new ≡ append (code_seen out.old) (short_code (number kind))) }
+{
+    let (name, size, units) = (name_of(kind), bits_of(kind), units_in(kind));
+    add_chunk(
+        alloc,
+        4,
+        Put::Short(0, Path::new(alloc), name, size, units),
+        out,
+    )
+}
+
+/// Puts the descriptor of an array of a Mach message.
+#[tactic(auto, using(crate::proofs::Building::building))]
+fn add_described(alloc: Global, kind: Kind, count: Count, out: &mut SendOps) -> Result<(), NoMemory>
+    ensures { OnOk result (code_seen out.new ≡ append (code_seen out.old) (described_code count (number kind))) }
+{
+    if has_long(count, kind) {
+        add_long(alloc, kind, out)
+    } else {
+        add_short(alloc, kind, out)
     }
 }
 
@@ -126,9 +205,7 @@ fn add_loop(
 fn add_ended(alloc: Global, enc: Encoding, out: &mut SendOps) -> Result<(), NoMemory>
     ensures { OnOk result (code_seen out.new ≡ append (code_seen out.old) (ended_code enc)) }
 {
-    let width = width_of(enc, Kind::U32);
-    let put = Put::Count(0, Path::new(alloc), 1, 1, width, order_of(enc));
-    add_scalar(alloc, enc, width, put, out)
+    add_scalar(alloc, enc, Kind::U32, length(alloc, enc, 1), out)
 }
 
 /// Puts the octet 0 behind a text.
@@ -167,7 +244,6 @@ pub(crate) fn add_text(
     count: Count,
     out: &mut SendOps,
 ) -> Result<(), NoMemory>
-    requires { IsPlain enc }
     ensures { OnOk result (code_seen out.new ≡ append (code_seen out.old) (array_code enc (text count))) }
 {
     match enc {
@@ -176,10 +252,15 @@ pub(crate) fn add_text(
             add_loop(alloc, enc, 1, false, out)?;
             add(out, SendOp::Align(4))
         }
-        _ => {
+        Encoding::CdrBig | Encoding::CdrLittle => {
             add_ended(alloc, enc, out)?;
             add_loop(alloc, enc, 1, false, out)?;
             add_end(alloc, out)
+        }
+        Encoding::Mach => {
+            add_described(alloc, Kind::Char, count, out)?;
+            add_loop(alloc, enc, 1, false, out)?;
+            add(out, SendOp::Align(4))
         }
     }
 }
@@ -214,27 +295,38 @@ pub(crate) fn add_row(
     count: Count,
     out: &mut SendOps,
 ) -> Result<(), NoMemory>
-    requires { IsPlain enc }
     ensures { OnOk result (code_seen out.new ≡ append (code_seen out.old) (array_code enc (row_of kind count))) }
 {
+    let width = element_width(enc, kind);
     match enc {
         Encoding::Xdr => {
             add_count(alloc, enc, count, out)?;
-            add_loop(alloc, enc, element_width(enc, kind), false, out)?;
+            add_loop(alloc, enc, width, false, out)?;
             match kind {
                 Kind::Octet => add(out, SendOp::Align(4)),
                 _ => Ok(()),
             }
         }
-        _ => {
-            add_row_head(alloc, enc, element_width(enc, kind), count, out)?;
-            add_loop(
-                alloc,
-                enc,
-                element_width(enc, kind),
-                is_gapped(kind, count),
-                out,
-            )
+        Encoding::CdrBig | Encoding::CdrLittle => {
+            add_row_head(alloc, enc, width, count, out)?;
+            add_loop(alloc, enc, width, is_gapped(kind, count), out)
         }
+        Encoding::Mach => {
+            add_described(alloc, kind, count, out)?;
+            add_loop(alloc, enc, width, false, out)?;
+            add_filling(width, out)
+        }
+    }
+}
+
+/// Puts what fills a row of a Mach message up.
+#[tactic(auto, using(crate::proofs::Building::building))]
+fn add_filling(width: u32, out: &mut SendOps) -> Result<(), NoMemory>
+    ensures { OnOk result (code_seen out.new ≡ append (code_seen out.old) (filling_code width)) }
+{
+    if width < 4 {
+        add(out, SendOp::Align(4))
+    } else {
+        Ok(())
     }
 }

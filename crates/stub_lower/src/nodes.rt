@@ -1,25 +1,25 @@
 // The code of each node of a table.
 ghost use Rattle.std.specs.Prelude.{◌≡◌, [], length, OnOk, IfOk};
-ghost use Rattle.wire_def.specs.Lone.{IsPlain};
 ghost use Rattle.cast_stub.specs.Append.{append};
 ghost use Rattle.cast_stub.specs.Block.{stop, each, switch, if_there, code_seen, cases_seen};
 ghost use Rattle.cast_stub.specs.Follows.{AllFollow};
 ghost use Rattle.cast_stub.specs.Rowless.{HaveNoRow};
 ghost use Rattle.cast_stub.specs.Turned.{AllTurned};
-ghost use Rattle.mint.specs.Types.{scalar_of};
-ghost use Rattle.stub_lower.specs.Codes.{call_here, IsCall, calls_from, cases_at, default_at, flag_code, tag_code, node_code};
+ghost use Rattle.mint.specs.Types.{label, scalar_of};
+ghost use Rattle.stub_lower.specs.Codes.{call_here, IsCall, calls_from, cases_at, default_at, flag_code, number_code, tag_code, node_code};
 ghost use Rattle.cast_stub.specs.Layouts.{layout_of};
 ghost use Rattle.stub_lower.specs.Lowered.{CodesSend};
 
 use crate::leaves::{add_count, add_number, add_row, add_scalar, add_text};
 use crate::ops::call_of;
+use crate::units::number_at;
 use cast_stub::copies::case_of;
 use cast_stub::copying::{add, path_of};
 use cast_stub::layouts::{order_of, width_of};
 use cast_stub::{Path, Put, SendCases, SendOp, SendOps, SendSubs};
 use kit_base::NoMemory;
 use mint::kind::Kind;
-use mint::node::{Arms, Node, NodeIds, Tag};
+use mint::node::{Arms, Labels, Node, NodeIds, Tag};
 use mint::table::Mint;
 use std::alloc::Global;
 use wire_def::Encoding;
@@ -27,7 +27,6 @@ use wire_def::Encoding;
 /// The codes that send the nodes of a table, each at its node's place; a node's parts are calls of
 /// their codes.
 pub fn lower(alloc: Global, enc: Encoding, mint: &Mint) -> Result<SendSubs, NoMemory>
-    requires plain { IsPlain enc }
     ensures many { IfOk result (λ subs. length subs ≡ length mint.now) }
     ensures means { IfOk result (λ subs. CodesSend enc mint.now subs) }
     ensures follows { IfOk result (λ subs. AllFollow mint.now subs) }
@@ -48,14 +47,13 @@ pub fn lower(alloc: Global, enc: Encoding, mint: &Mint) -> Result<SendSubs, NoMe
 /// The code of a node.
 #[tactic(auto, using(crate::proofs::Building::building))]
 fn node_code(alloc: Global, enc: Encoding, node: &Node) -> Result<SendOps, NoMemory>
-    requires { IsPlain enc }
     ensures { IfOk result (λ code. code_seen code ≡ node_code enc node.now) }
 {
     let mut out = SendOps::new(alloc);
     match node {
         Node::Void => {}
-        Node::Num(kind) => add_number(alloc, enc, width_of(enc, *kind), &mut out)?,
-        Node::Enum(_) => add_number(alloc, enc, 4, &mut out)?,
+        Node::Num(kind) => add_number(alloc, enc, *kind, &mut out)?,
+        Node::Enum(labels) => add_label(alloc, enc, labels, &mut out)?,
         Node::Text(count) => add_text(alloc, enc, *count, &mut out)?,
         Node::Row(kind, count) => add_row(alloc, enc, *kind, *count, &mut out)?,
         Node::Group(ids) => add_calls(alloc, ids, &mut out)?,
@@ -107,17 +105,35 @@ fn add_value(alloc: Global, id: u32, out: &mut SendOps) -> Result<(), NoMemory>
     add(out, SendOp::Some(Path::new(alloc), body))
 }
 
+/// Puts the code of one of an enum's labels.
+#[tactic(auto, using(crate::proofs::Building::labels))]
+fn add_label(
+    alloc: Global,
+    enc: Encoding,
+    labels: &Labels,
+    out: &mut SendOps,
+) -> Result<(), NoMemory>
+    ensures { OnOk result (code_seen out.new ≡ append (code_seen out.old) (number_code enc (label labels.now))) }
+{
+    add_number(alloc, enc, Kind::I32, out)
+}
+
 /// Puts the code of an arm's number.
-#[tactic(auto, using(crate::proofs::Building::building))]
+#[tactic(auto, using(crate::proofs::Building::labels))]
 fn add_tag(alloc: Global, enc: Encoding, tag: &Tag, out: &mut SendOps) -> Result<(), NoMemory>
     ensures { OnOk result (code_seen out.new ≡ append (code_seen out.old) (tag_code enc (scalar_of tag.now))) }
 {
-    let width = match tag {
-        Tag::Num(kind) => width_of(enc, *kind),
-        Tag::Enum(_) => 4,
+    let kind = match tag {
+        Tag::Num(kind) => *kind,
+        Tag::Enum(_) => Kind::I32,
     };
-    let put = Put::Tag(0, Path::new(alloc), width, order_of(enc));
-    add_scalar(alloc, enc, width, put, out)
+    let put = Put::Tag(
+        number_at(enc),
+        Path::new(alloc),
+        width_of(enc, kind),
+        order_of(enc),
+    );
+    add_scalar(alloc, enc, kind, put, out)
 }
 
 /// Puts the code that says whether a value is there.
@@ -126,8 +142,8 @@ fn add_flag(alloc: Global, enc: Encoding, out: &mut SendOps) -> Result<(), NoMem
     ensures { OnOk result (code_seen out.new ≡ append (code_seen out.old) (flag_code enc)) }
 {
     let width = width_of(enc, Kind::Bool);
-    let put = Put::Flag(0, Path::new(alloc), width, order_of(enc));
-    add_scalar(alloc, enc, width, put, out)
+    let put = Put::Flag(number_at(enc), Path::new(alloc), width, order_of(enc));
+    add_scalar(alloc, enc, Kind::Bool, put, out)
 }
 
 /// Puts a switch with a call for each arm, and one for the last.

@@ -24,6 +24,23 @@ pub(crate) fn add_chunk(
     add(out, SendOp::Chunk(width, puts))
 }
 
+/// Puts a chunk behind the last operation, which two puts fill.
+#[tactic(auto, using(crate::proofs::Building::building))]
+pub(crate) fn add_pair(
+    alloc: Global,
+    width: u32,
+    first: Put,
+    second: Put,
+    out: &mut SendOps,
+) -> Result<(), NoMemory>
+    ensures { OnOk result (code_seen out.new ≡ append (code_seen out.old) (chunk width (first ∷ second ∷ []) stop)) }
+{
+    let mut puts = Puts::new(alloc);
+    puts.push(first)?;
+    puts.push(second)?;
+    add(out, SendOp::Chunk(width, puts))
+}
+
 /// A call of a node's code on the current value.
 #[tactic(auto, using(crate::proofs::Building::building))]
 pub(crate) fn call_of(alloc: Global, id: u32) -> Result<SendOps, NoMemory>

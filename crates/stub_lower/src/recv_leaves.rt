@@ -5,12 +5,13 @@ ghost use Rattle.mint.specs.Types.{number, text, row_of};
 ghost use Rattle.cast_stub.specs.RecvAppend.{append};
 ghost use Rattle.cast_stub.specs.RecvBlock.{finish, each, code_seen};
 ghost use Rattle.cast_stub.specs.Layouts.{order_of, scalar_width, element_width, is_gapped};
-ghost use Rattle.stub_lower.specs.Items.{number_at};
 ghost use Rattle.stub_lower.specs.RecvCodes.{aligned, array_code, behind_code, count_code, described_code, end_code, ended_code, filling_code, fixed_code, free_code, gapped_turn, head_code, item_code, length_get, number_code, number_take, row_code, scalar_code, take_code, turn_code};
 
 use crate::leaves::{element_width, is_gapped};
 use crate::recv_ops::{add_take, add_test};
-use crate::units::{bits_of, has_long, item_octets, name_of, rest_of, short_octets, units_in};
+use crate::units::{
+    bits_of, has_long, item_octets, name_of, number_at, rest_of, short_octets, units_in,
+};
 use cast_stub::layouts::{order_of, width_of};
 use cast_stub::recv_copying::add;
 use cast_stub::{Get, Gets, Path, RecvOp, RecvOps};
@@ -20,16 +21,6 @@ use std::alloc::Global;
 use wire_def::Encoding;
 
 // ---- scalars
-
-/// Where the number of a scalar by itself stands in its octets.
-pub(crate) fn number_at(enc: Encoding) -> u32
-    ensures { result ≡ number_at enc }
-{
-    match enc {
-        Encoding::Mach => 4,
-        _ => 0,
-    }
-}
 
 /// Puts a skip to a multiple of a width after the last operation.
 #[tactic(auto, using(crate::proofs::RecvBuilding::building))]

@@ -8,8 +8,9 @@ ghost use Rattle.stub_lower.specs.RecvCodes.{call_here, IsCall, calls_from, case
 ghost use Rattle.cast_stub.specs.Layouts.{layout_of};
 ghost use Rattle.stub_lower.specs.RecvLowered.{CallsReceive, CodesReceive};
 
-use crate::recv_leaves::{add_count, add_number, add_row, add_scalar, add_text, number_at};
+use crate::recv_leaves::{add_count, add_number, add_row, add_scalar, add_text};
 use crate::recv_ops::call_of;
+use crate::units::number_at;
 use cast_stub::copying::path_of;
 use cast_stub::layouts::{order_of, width_of};
 use cast_stub::recv_copying::add;

@@ -5,11 +5,26 @@ ghost use Rattle.kit_base.specs.Bytes.{le};
 ghost use Rattle.mint.specs.Types.{number};
 ghost use Rattle.wire_def.specs.Lone.{scalar_word, short_word, unit_bits, unit_name, units_of};
 ghost use Rattle.wire_def.specs.Described.{is_long};
-ghost use Rattle.stub_lower.specs.Items.{item_rest};
+ghost use Rattle.stub_lower.specs.Items.{item_rest, number_at};
+ghost use Rattle.stub_lower.specs.Codes.{long_octets};
 
 use kit_base::{NoMemory, Octets};
 use mint::kind::{Count, Kind};
 use std::alloc::Global;
+use wire_def::Encoding;
+
+/// The first word of a long descriptor.
+const LONG_MARK: u32 = 805306368;
+
+/// Where the number of a scalar by itself stands in its octets.
+pub(crate) fn number_at(enc: Encoding) -> u32
+    ensures { result ≡ number_at enc }
+{
+    match enc {
+        Encoding::Mach => 4,
+        _ => 0,
+    }
+}
 
 /// The name of a kind's units.
 pub(crate) fn name_of(kind: Kind) -> u32
@@ -88,6 +103,16 @@ pub(crate) fn item_octets(alloc: Global, kind: Kind) -> Result<Octets, NoMemory>
     ensures { IfOk result (λ o. o ≡ le 4 (scalar_word (number kind))) }
 {
     short_octets(alloc, kind, units_in(kind))
+}
+
+/// The octets of a long descriptor, but for its number.
+#[tactic(auto, unfolding(crate::specs::Codes::long_octets))]
+pub(crate) fn long_octets(alloc: Global, kind: Kind) -> Result<Octets, NoMemory>
+    ensures { IfOk result (λ o. o ≡ long_octets (number kind)) }
+{
+    let mut octets = octets_of(alloc, LONG_MARK)?;
+    octets.append(&(name_of(kind) + 65536 * bits_of(kind)).to_le_bytes())?;
+    Ok(octets)
 }
 
 /// Whether so many numbers have a long descriptor.
