@@ -98,7 +98,7 @@ onc_have tokens (inr (line, none, fails)) = (Err (sayings.Syntax line), inr (lin
 corba_line : OneLine CorbaFailsAt
 corba_line tokens l m f g = same_line outermost tokens l m f g
 
-corba_have : (tokens : List Token) → ((tree : List Definition) × CorbaDerives tree tokens) ⊎ ((line : ℕ) × (((tree : List Definition) → CorbaDerives tree tokens → ⊥) × CorbaFailsAt tokens line)) → TokensHave front.Corba tokens
+corba_have : (tokens : List Token) → ((tree : List Definition) × CorbaDerives tree tokens) ⊎ ((line : ℕ) × ((tree : List Definition) → CorbaDerives tree tokens → ⊥) × CorbaFailsAt tokens line) → TokensHave front.Corba tokens
 corba_have tokens (inl (tree, derives)) = (in_words (corba_resolved tree), inl (tree, derives, refl), words_sound (corba_resolved tree) (λ u is. corba_sound tree u (corba_whole tree tokens derives) is))
 corba_have tokens (inr (line, none, fails)) = (Err (sayings.Syntax line), inr (line, none, fails, refl), tt)
 
