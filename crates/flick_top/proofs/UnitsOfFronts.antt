@@ -98,8 +98,13 @@ onc_have tokens (inr (line, none, fails)) = (Err (sayings.Syntax line), inr (lin
 corba_line : OneLine CorbaFailsAt
 corba_line tokens l m f g = same_line outermost tokens l m f g
 
-corba_have : (tokens : List Token) → ((tree : List Definition) × CorbaDerives tree tokens) ⊎ ((line : ℕ) × ((tree : List Definition) → CorbaDerives tree tokens → ⊥) × CorbaFailsAt tokens line) → TokensHave front.Corba tokens
-corba_have tokens (inl (tree, derives)) = (in_words (corba_resolved tree), inl (tree, derives, refl), words_sound (corba_resolved tree) (λ u is. corba_sound tree u (corba_whole tree tokens derives) is))
+corba_have : (tokens : List Token)
+    → ((tree : List Definition) × CorbaDerives tree tokens)
+    ⊎ ((line : ℕ) × ((tree : List Definition) → CorbaDerives tree tokens → ⊥) × CorbaFailsAt tokens line)
+    → TokensHave front.Corba tokens
+corba_have tokens (inl (tree, derives)) =
+    let sound = words_sound (corba_resolved tree) (λ u is. corba_sound tree u (corba_whole tree tokens derives) is) in
+    (in_words (corba_resolved tree), inl (tree, derives, refl), sound)
 corba_have tokens (inr (line, none, fails)) = (Err (sayings.Syntax line), inr (line, none, fails, refl), tt)
 
 -- ---- MIG files
@@ -135,7 +140,8 @@ front_read word =
 
 tokens_once : (k : Front) (tokens : List Token) (r s : Read) → TokensSay k tokens r → TokensSay k tokens s → r ≡ s
 tokens_once front.Onc tokens r s p q = said_once (List Def) OncDerives OncFailsAt onc_resolved onc_one_tree onc_line tokens r s p q
-tokens_once front.Corba tokens r s p q = said_once (List Definition) CorbaDerives CorbaFailsAt corba_resolved corba_one_tree corba_line tokens r s p q
+tokens_once front.Corba tokens r s p q =
+    said_once (List Definition) CorbaDerives CorbaFailsAt corba_resolved corba_one_tree corba_line tokens r s p q
 tokens_once front.Mig tokens r s p q = said_once Subsystem MigDerives MigFailsAt mig_resolved mig_one_tree mig_line tokens r s p q
 
 tokens_have : (k : Front) → IsRead k → (tokens : List Token) → TokensHave k tokens
