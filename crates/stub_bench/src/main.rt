@@ -1,12 +1,15 @@
 // Makes the code of a type and puts ensures into it, so that what an operation costs can be counted:
-// PASS SHAPE SIZE. Or reads a message, so that what a number costs can be: READING CONTENT SIZE.
+// PASS SHAPE SIZE. Or reads a message, so that what a number costs can be: READING CONTENT SIZE. Or sends and
+// receives a row, so that what an octet costs can be: STEP MATTER COUNT.
 #![tactic(auto)]
 
 mod counting;
+mod in_rows;
 mod receiving;
 mod shapes;
 
 use crate::counting::count;
+use crate::in_rows::{matter_of, run_row, step_of};
 use crate::receiving::{content_of, read, reading_of};
 use crate::shapes::{Shape, shape_of, table_of};
 use anyhow::{Result, bail};
@@ -114,6 +117,11 @@ fn main(rt: HostRuntime) -> Result<()> {
         )?;
         return Ok(());
     }
+    if let (Some(last), Some(matter)) = (step_of(first.as_str()), matter_of(second.as_str())) {
+        let octets = run_row(rt.alloc(), last, matter, size)?;
+        println!(rt; "{octets} octets")?;
+        return Ok(());
+    }
     match (reading_of(first.as_str()), content_of(second.as_str())) {
         (Some(reading), Some(content)) => {
             let value = read(rt.alloc(), reading, content, size)?;
@@ -125,4 +133,4 @@ fn main(rt: HostRuntime) -> Result<()> {
 }
 
 const USAGE: &str =
-    "usage: stub_bench make|lower|inline|classify|hoist fields|lists|deep|bounded|pairs|arms SIZE, or prepare|receive|walk ints|structs|claim SIZE";
+    "usage: stub_bench make|lower|inline|classify|hoist fields|lists|deep|bounded|pairs|arms SIZE, prepare|receive|walk ints|structs|claim SIZE, or make|send|read ints|opaque|text COUNT";

@@ -5,7 +5,7 @@ use Rattle.std.proofs.lemmas.List.{length-replicate}
 use Rattle.std.proofs.lemmas.Option.{slice_get-get_or}
 use Rattle.kit_base.specs.Bytes.{written}
 use Rattle.mint.specs.declared.node.Node.{Node}
-use Rattle.mint.specs.Types.{type_at}
+use Rattle.mint.specs.Types.{Ty, type_at}
 use Rattle.mint.specs.Typed.{IsWellTyped}
 use Rattle.mint.specs.Sound.{IsSound}
 use Rattle.mint.specs.Values.{Val}
@@ -22,9 +22,8 @@ use Rattle.cast_stub.specs.Append.{append}
 use Rattle.cast_stub.specs.Block.{Block, stop, chunk, each, code_seen}
 use Rattle.cast_stub.specs.Follows.{Follows, AllFollow}
 use Rattle.cast_stub.specs.Puts.{IsHead}
-use Rattle.cast_stub.specs.Meaning.{wrote, meaning}
+use Rattle.cast_stub.specs.Meaning.{wrote, meaning, IsCovered}
 use Rattle.cast_stub.specs.Parts.{on_some, IsThere}
-use Rattle.cast_stub.specs.Rowless.{HasNoRow}
 use Rattle.cast_stub.specs.Steps.{Step, Room, Pad, Stored, Widened, Copied, Patched, Steps, Calls, both, chunk_steps, steps}
 use Rattle.cast_stub.specs.Subs.{calls_of, sent_steps, deepest, no_subs}
 use Rattle.cast_stub.proofs.Appending.{append-stop, steps-append}
@@ -32,15 +31,21 @@ use Rattle.cast_stub.proofs.Folding.{wrote-append}
 use Rattle.stub_lower.specs.Leads.{chunk_puts, AreChunks, Leads}
 use Rattle.stub_lower.specs.Lowered.{CodesSend}
 use Rattle.stub_machine.proofs.Rooms.{length-written, four, within}
-use Rattle.copy_inline.specs.Inlined.{Does, Goes}
+use Rattle.copy_inline.specs.Inlined.{Does, Goes, Turns}
+use Rattle.copy_inline.specs.Rows as rows
+use Rattle.copy_inline.specs.Rows.{StaysCovered}
+use Rattle.copy_inline.proofs.RowGiven.{hoisted_given}
 use Rattle.std.proofs.lemmas.Bool.{le-leb, leb-true}
 use Rattle.hoist.specs.Pass.{IsGiven}
-use Rattle.cast_stub.specs.Kept.{IsCoveredFor}
+use Rattle.cast_stub.specs.Kept.{AddsEnsures, IsCoveredFor}
+use Rattle.cast_stub.specs.Bare.{RowsAreBare}
+use Rattle.cast_stub.specs.Layouts.{layout_of}
+use Rattle.cast_stub.specs.Turned.{AllTurned}
 use Rattle.cast_stub.specs.Framed.{lead_length}
 use Rattle.cast_stub.proofs.Followed.{mapped}
 use Rattle.back_xdr.specs.declared.procedures.Procedure.{Procedure}
 use Rattle.back_xdr.specs.Leads.{lead, answer_lead}
-use Rattle.stub_cases.specs.Ready.{IsLead, IsBoth, IsReady}
+use Rattle.stub_cases.specs.Ready.{IsLead, IsBoth}
 
 -- ---- chunks
 
@@ -144,9 +149,31 @@ module _ (enc : Encoding) (nodes : List Node) (id : ℕ) (subs : List (List Send
       (sym (ap (λ (x : Block). steps (calls_of given.subs h deepest) h x v) both'.ops ∙ steps-append (calls_of given.subs h deepest) h (code_seen lead.ops) (code_seen body.ops) v ∙ joined _ _ l.0 b.0 l.1 b.1))
       (subst IsThere (sym (wrote-append 0 [] l.0 b.0 ∙ ap (λ (x : Option (List ℕ)). on_some x (λ q. wrote 0 q b.0)) l.2)) (shifted b.0 (length w.0) 0 [] w.0 (omega arith) (omega arith) b.2))
 
-  pub hoisted_ready : {E : Type 0} (r : Result SendCode E) → IfOk r HasNoRow → IfOk r (IsCoveredFor (type_at nodes id) given) → IfOk r (IsReady (type_at nodes id))
-  hoisted_ready (Ok code) no_row covered = record { no_row = no_row; covered = λ h v head typed. covered h v 0 typed.is_of (is_there h v head typed) }
-  hoisted_ready (Err e) no_row covered = tt
+  -- hoisted code has room at the front of a message
+  pub hoisted_covered : (code : SendCode) → IsCoveredFor (type_at nodes id) given code → IsCovered (type_at nodes id) 0 code
+  hoisted_covered code covered h v head typed = covered h v 0 typed.is_of (is_there h v head typed)
+
+  -- its rows may be made blocks
+  pub rows_given : Turns subs id body → AllTurned (layout_of enc) nodes subs → (code : SendCode) → AddsEnsures given code → RowsAreBare (type_at nodes id) (code_seen code.ops) → code.subs ≡ [] → rows.IsGiven enc (type_at nodes id) code
+  rows_given turns turned code adds bare none =
+      let first = chunks-length (code_seen lead.ops) (is_lead.chunks).0 ((is_lead.chunks).1) in
+      hoisted_given enc (type_at nodes id) given code
+      (record {
+        lead = code_seen lead.ops;
+        body = code_seen body.ops;
+        tail = stop;
+        size = first.0;
+        below = id;
+        whole = both'.ops ∙ ap (append (code_seen lead.ops)) (sym (append-stop (code_seen body.ops)));
+        leads = first.1;
+        goes = turns (layout_of enc) nodes sound turned;
+        ends = tt;
+      })
+      adds bare none
+
+-- and then it has room too
+pub rows_covered : (t : Ty) (code in_rows : SendCode) → IsCovered t 0 code → StaysCovered t code in_rows → IsCovered t 0 in_rows
+rows_covered t code in_rows covered stays h v head typed = stays h v 0 typed.is_of (covered h v head typed)
 
 -- ---- leads
 

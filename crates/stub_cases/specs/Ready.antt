@@ -20,8 +20,3 @@ pub record IsLead (code : SendCode) : Type 0 where
 pub record IsBoth (lead body code : SendCode) : Type 0 where
   pub ops : code_seen code.ops ≡ append (code_seen lead.ops) (code_seen body.ops)
   pub subs : code.subs ≡ []
-
--- at the front of a message, for every head and every value of the type
-pub record IsReady (t : Ty) (code : SendCode) : Type 0 where
-  pub no_row : HasNoRow code
-  pub covered : IsCovered t 0 code

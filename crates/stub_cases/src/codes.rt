@@ -1,11 +1,12 @@
-// Values sent by stub code: lowered, inlined behind a head, with ensures in front of its operations.
+// Values sent by stub code: lowered, inlined after a head, with ensures before its operations; and with rows as blocks.
 ghost use Rattle.std.specs.Prelude.{◌<◌, length, IfOk};
 ghost use Rattle.mint.specs.Typed.{IsWellTyped};
 ghost use Rattle.mint.specs.Types.{type_at};
 ghost use Rattle.mint.specs.Values.{seen};
 ghost use Rattle.wire_def.specs.Lone.{IsPlain};
 ghost use Rattle.storage_class.specs.Spans.{AreClasses};
-ghost use Rattle.stub_cases.specs.Ready.{IsBoth, IsLead, IsReady};
+ghost use Rattle.cast_stub.specs.Meaning.{IsCovered};
+ghost use Rattle.stub_cases.specs.Ready.{IsBoth, IsLead};
 
 use crate::asks::{id_of, plain_encoding, value_at};
 use crate::lead::{HEAD, answer, call, no_lead};
@@ -13,7 +14,7 @@ use crate::nodes::table_of;
 use crate::parts::{Bad, told};
 use cast_stub::copies::put_copies;
 use cast_stub::{SendCode, SendSubs};
-use copy_inline::inline;
+use copy_inline::{inline, rows};
 use hex::encode;
 use hoist::hoist;
 use kit_base::NoMemory;
@@ -54,28 +55,55 @@ fn both(alloc: Global, lead: SendCode, body: &SendCode) -> Result<SendCode, NoMe
     })
 }
 
-/// The code of a message: a head, and a value of the node.
+/// The code of a message, which is a head and a value of the node; and the same with its rows as blocks.
 fn message(
     alloc: Global,
     head: SendCode,
     table: &Mint,
     id: NodeId,
     classes: &Classes,
-) -> Result<SendCode, NoMemory>
+) -> Result<(SendCode, SendCode), NoMemory>
     requires plain { IsPlain classes.now.enc }
     requires lead { IsLead head }
     requires id { id < length table.now }
     requires classes { AreClasses table.now classes.now }
-    ensures { IfOk result (λ code. IsReady (type_at table.now id) code) }
+    ensures first { IfOk result (λ codes. IsCovered (type_at table.now id) 0 codes.0) }
+    ensures second { IfOk result (λ codes. IsCovered (type_at table.now id) 0 codes.1) }
 {
     table.types_are_sound();
     let subs = lower(alloc, classes.enc(), table)?;
     let body = inline(alloc, &subs, id)?;
     let whole = both(alloc, head, &body)?;
-    hoist(alloc, &whole, table, id, classes)
+    let code = hoist(alloc, &whole, table, id, classes)?;
+    let in_rows = rows(alloc, classes.enc(), &code, table, id)?;
+    Ok((code, in_rows))
 }
 
-/// The octets of a message, and how often the buffer was looked at.
+/// The octets of a message, and how often the buffer was looked at; and how many rows were blocks.
+fn ran(
+    alloc: Global,
+    code: &SendCode,
+    table: &Mint,
+    id: NodeId,
+    value: &Value,
+) -> Result<(String, u64), Bad>
+    requires covered { IsCovered (type_at table.now id) 0 code.now }
+    requires typed { IsWellTyped (type_at table.now id) (seen value.now) }
+{
+    let mut buf = SendBuf::new(alloc)?;
+    match run_send(code, &HEAD, value, &mut buf) {
+        Ok(()) => {
+            let digits = encode(alloc, buf.octets())?;
+            let tally = buf.tally();
+            let checks = tally.checks;
+            Ok((format!(in alloc; "{digits} {checks}")?, tally.rows))
+        }
+        Err(SendErr::Long) => Ok((told(alloc, "Long")?, 0)),
+        Err(SendErr::NoMemory) => Err(Bad::NoMemory),
+    }
+}
+
+/// What the code of a message sends, which is the same with rows as blocks; with `count`, how many are.
 fn sent(
     alloc: Global,
     head: SendCode,
@@ -83,6 +111,7 @@ fn sent(
     id: NodeId,
     classes: &Classes,
     value: &Value,
+    count: bool,
 ) -> Result<String, Bad>
     requires plain { IsPlain classes.now.enc }
     requires lead { IsLead head }
@@ -90,21 +119,20 @@ fn sent(
     requires classes { AreClasses table.now classes.now }
     requires typed { IsWellTyped (type_at table.now id) (seen value.now) }
 {
-    let code = message(alloc, head, table, id, classes)?;
-    let mut buf = SendBuf::new(alloc)?;
-    match run_send(&code, &HEAD, value, &mut buf) {
-        Ok(()) => {
-            let digits = encode(alloc, buf.octets())?;
-            let checks = buf.tally().checks;
-            Ok(format!(in alloc; "{digits} {checks}")?)
-        }
-        Err(SendErr::Long) => told(alloc, "Long"),
-        Err(SendErr::NoMemory) => Err(Bad::NoMemory),
+    let (code, in_rows) = message(alloc, head, table, id, classes)?;
+    let (plain, _) = ran(alloc, &code, table, id, value)?;
+    let (blocks, many) = ran(alloc, &in_rows, table, id, value)?;
+    if plain != blocks {
+        return Ok(format!(in alloc; "one by one {plain}, in blocks {blocks}")?);
     }
+    if count {
+        return Ok(format!(in alloc; "{blocks} {many}")?);
+    }
+    Ok(plain)
 }
 
-/// What a case's value is sent as.
-pub fn stub(alloc: Global, row: &Json) -> Result<String, Bad> {
+/// What a case's value is sent as; with `count`, also how many rows are blocks.
+pub fn stub(alloc: Global, row: &Json, count: bool) -> Result<String, Bad> {
     let enc = plain_encoding(row)?;
     let table = table_of(alloc, row)?;
     let id = id_of(row, &table)?;
@@ -113,5 +141,13 @@ pub fn stub(alloc: Global, row: &Json) -> Result<String, Bad> {
         return told(alloc, "no value");
     }
     let classes = classify(alloc, enc, &table)?;
-    sent(alloc, lead_of(alloc, row)?, &table, id, &classes, &value)
+    sent(
+        alloc,
+        lead_of(alloc, row)?,
+        &table,
+        id,
+        &classes,
+        &value,
+        count,
+    )
 }

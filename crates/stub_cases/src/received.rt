@@ -1,4 +1,4 @@
-// Octets received by stub code, lowered and inlined, beside the plain walk.
+// Octets received by stub code, lowered, inlined and with rows as blocks, beside the plain walk.
 ghost use Rattle.std.specs.Prelude.{◌≡◌, ◌<◌, ◌≤◌, ◌%◌, length, IfOk};
 ghost use Rattle.kit_base.specs.Limits.{longest_message};
 ghost use Rattle.mint.specs.Types.{type_at};
@@ -10,9 +10,10 @@ use crate::asks::{id_of, place_of};
 use crate::nodes::table_of;
 use crate::parts::{Bad, member, octets, told, word};
 use cast_stub::RecvCode;
+use copy_inline::{inline_recv, rows_recv};
 use hex::encode;
-use kit_base::Octets;
 use kit_base::limits::LONGEST_MESSAGE;
+use kit_base::{NoMemory, Octets};
 use mint::fits::fits;
 use mint::table::{Mint, NodeId};
 use mint::value::Value;
@@ -22,7 +23,19 @@ use recv_machine::Got;
 use recv_whole::{inlined, lowered, receive};
 use serde_json::Value as Json;
 use std::alloc::Global;
+use stub_lower::lower_recv;
 use wire_def::Encoding;
+
+/// The code of a node without calls, its rows as blocks, over XDR.
+fn in_rows(alloc: Global, table: &Mint, id: NodeId) -> Result<RecvCode, NoMemory>
+    requires { id < length table.now }
+    ensures { IfOk result (λ code. IsSoundCode Xdr (type_at table.now id) (IsPlace Xdr) code) }
+{
+    table.types_are_sound();
+    let subs = lower_recv(alloc, Encoding::Xdr, table)?;
+    let flat = inline_recv(alloc, &subs, id)?;
+    rows_recv(alloc, Encoding::Xdr, &flat, table, id)
+}
 
 /// How many octets a value took and what it is sent as from the same position.
 fn value_told(
@@ -86,10 +99,10 @@ fn received(
     }
 }
 
-/// What all three say, or how they differ.
+/// What all four say, or how they differ.
 fn alike(
     alloc: Global,
-    codes: (&RecvCode, &RecvCode),
+    codes: (&RecvCode, &RecvCode, &RecvCode),
     table: &Mint,
     id: NodeId,
     at: usize,
@@ -97,6 +110,7 @@ fn alike(
 ) -> Result<(bool, String), Bad>
     requires lowered { IsSoundCode Xdr (type_at table.now id) (IsPlace Xdr) codes.0.now }
     requires inlined { IsSoundCode Xdr (type_at table.now id) (IsPlace Xdr) codes.1.now }
+    requires rows { IsSoundCode Xdr (type_at table.now id) (IsPlace Xdr) codes.2.now }
     requires id { id < length table.now }
     requires place { at % 4 ≡ 0 }
     requires at { at ≤ length message.now }
@@ -105,17 +119,20 @@ fn alike(
     let plain = walked(alloc, table, id, at, message)?;
     let first = received(alloc, codes.0, table, id, at, message)?;
     let second = received(alloc, codes.1, table, id, at, message)?;
-    if plain == first && plain == second {
+    let third = received(alloc, codes.2, table, id, at, message)?;
+    if plain == first && plain == second && plain == third {
         return Ok((true, plain));
     }
-    let all = format!(in alloc; "walked {plain}, lowered {first}, inlined {second}")?;
+    let all = format!(in alloc;
+        "walked {plain}, lowered {first}, inlined {second}, in blocks {third}"
+    )?;
     Ok((false, all))
 }
 
-/// How many cuts and changed octets, at every so many places, all three agree on; or where they differ.
+/// How many cuts and changed octets, at every so many places, all four agree on; or where they differ.
 fn varied(
     alloc: Global,
-    codes: (&RecvCode, &RecvCode),
+    codes: (&RecvCode, &RecvCode, &RecvCode),
     table: &Mint,
     id: NodeId,
     step: usize,
@@ -123,6 +140,7 @@ fn varied(
 ) -> Result<String, Bad>
     requires lowered { IsSoundCode Xdr (type_at table.now id) (IsPlace Xdr) codes.0.now }
     requires inlined { IsSoundCode Xdr (type_at table.now id) (IsPlace Xdr) codes.1.now }
+    requires rows { IsSoundCode Xdr (type_at table.now id) (IsPlace Xdr) codes.2.now }
     requires id { id < length table.now }
     requires step { 0 < step }
     requires short { length message.now ≤ longest_message }
@@ -176,14 +194,22 @@ pub fn received_case(alloc: Global, row: &Json) -> Result<String, Bad> {
     }
     let low = lowered(alloc, &table, id)?;
     let flat = inlined(alloc, &table, id)?;
+    let blocks = in_rows(alloc, &table, id)?;
     match row.get("step") {
         Some(step) => {
             let step = word(step)?;
             if step == 0 {
                 return Err(Bad::Row("no step"));
             }
-            varied(alloc, (&low, &flat), &table, id, step as usize, message)
+            varied(
+                alloc,
+                (&low, &flat, &blocks),
+                &table,
+                id,
+                step as usize,
+                message,
+            )
         }
-        None => Ok(alike(alloc, (&low, &flat), &table, id, at, message)?.1),
+        None => Ok(alike(alloc, (&low, &flat, &blocks), &table, id, at, message)?.1),
     }
 }

@@ -6,7 +6,7 @@ use Rattle.raw_buf.specs.Buf.{Buf}
 use Rattle.cast_stub.specs.Meaning.{AreCovered}
 use Rattle.cast_stub.specs.Subs.{sent_steps}
 use Rattle.cast_stub.specs.Puts.{IsHead}
-use Rattle.stub_cases.proofs.codes.sent.Goals as goal
+use Rattle.stub_cases.proofs.codes.ran.Goals as goal
 
 abbrev head : Head
 head = record { id = 9; remote = 0; local = 0; wants = true; order = Big }
@@ -16,6 +16,6 @@ is_head = record { id = omega arith; remote = omega arith; local = omega arith }
 
 pub run_send-requires : goal.run_send-requires
 run_send-requires c =
-    subst (λ (n : ℕ). AreCovered (sent_steps c.in_ok-code.code head (seen c.args.value.now)) n)
+    subst (λ (n : ℕ). AreCovered (sent_steps c.args.code.now head (seen c.args.value.now)) n)
     (sym (ap (λ (b : Buf). length b.done) c.in_ok-buf.ensures))
-    (c.in_ok-code.ensures.covered head (seen c.args.value.now) is_head c.requires.typed)
+    (c.requires.covered head (seen c.args.value.now) is_head c.requires.typed)
