@@ -1,10 +1,9 @@
-// Lowered or inlined code that receives a node over XDR, and its run.
-ghost use Rattle.std.specs.Prelude.{◌<◌, ◌≤◌, ◌%◌, ◌≡◌, length, drop, IfOk};
+// Lowered or inlined code that receives a node over any encoding, and its run.
+ghost use Rattle.std.specs.Prelude.{◌<◌, ◌≤◌, ◌≡◌, length, drop, IfOk};
 ghost use Rattle.kit_base.specs.Limits.{longest_message};
 ghost use Rattle.mint.specs.Types.{type_at};
 ghost use Rattle.wire_def.specs.Grammar.{AreOctets};
 ghost use Rattle.wire_def.specs.Places.{IsPlace};
-ghost use Rattle.wire_def.specs.declared.encoding.Encoding.TheVariants.{Xdr};
 ghost use Rattle.cast_stub.specs.Got.{IsSoundCode};
 ghost use Rattle.recv_machine.specs.Ran.{IsSpelled};
 
@@ -19,24 +18,24 @@ use std::alloc::Global;
 use stub_lower::lower_recv;
 use wire_def::Encoding;
 
-/// The code that calls the code of a node, over XDR.
-pub fn lowered(alloc: Global, mint: &Mint, id: u32) -> Result<RecvCode, NoMemory>
+/// The code that calls the code of a node.
+pub fn lowered(alloc: Global, enc: Encoding, mint: &Mint, id: u32) -> Result<RecvCode, NoMemory>
     requires { id < length mint.now }
-    ensures { IfOk result (λ code. IsSoundCode Xdr (type_at mint.now id) (IsPlace Xdr) code) }
+    ensures { IfOk result (λ code. IsSoundCode enc (type_at mint.now id) (IsPlace enc) code) }
 {
-    let subs = lower_recv(alloc, Encoding::Xdr, mint)?;
+    let subs = lower_recv(alloc, enc, mint)?;
     let mut ops = RecvOps::new(alloc);
     add(&mut ops, RecvOp::Call(id, Path::new(alloc)))?;
     Ok(RecvCode { ops, subs })
 }
 
-/// The code of a node without calls, over XDR.
-pub fn inlined(alloc: Global, mint: &Mint, id: u32) -> Result<RecvCode, NoMemory>
+/// The code of a node without calls.
+pub fn inlined(alloc: Global, enc: Encoding, mint: &Mint, id: u32) -> Result<RecvCode, NoMemory>
     requires { id < length mint.now }
-    ensures { IfOk result (λ code. IsSoundCode Xdr (type_at mint.now id) (IsPlace Xdr) code) }
+    ensures { IfOk result (λ code. IsSoundCode enc (type_at mint.now id) (IsPlace enc) code) }
 {
     mint.types_are_sound();
-    let subs = lower_recv(alloc, Encoding::Xdr, mint)?;
+    let subs = lower_recv(alloc, enc, mint)?;
     inline_recv(alloc, &subs, id)
 }
 
@@ -57,18 +56,19 @@ fn rest_of<'a>(view: &RecvView<'a>) -> &'a [u8]
     octets_of(view.rest())
 }
 
-/// Receives a value of a node's type over XDR, by sound code.
+/// Receives a value of a node's type, by code that is sound over the encoding.
 pub fn receive(
     alloc: Global,
+    _enc: Encoding,
     code: &RecvCode,
     mint: &Mint,
     id: u32,
     view: &mut RecvView<'_>,
 ) -> Result<Got, NoMemory>
-    requires sound { IsSoundCode Xdr (type_at mint.now id) (IsPlace Xdr) code.now }
-    requires place { view.old.pos % 4 ≡ 0 }
+    requires sound { IsSoundCode _enc (type_at mint.now id) (IsPlace _enc) code.now }
+    requires place { IsPlace _enc view.old.pos }
     requires short { length view.old.octets ≤ longest_message }
-    ensures spelled { IfOk result (λ got. IsSpelled Xdr (type_at mint.now id) got view.old view.new) }
+    ensures spelled { IfOk result (λ got. IsSpelled _enc (type_at mint.now id) got view.old view.new) }
     ensures octets { view.new.octets ≡ view.old.octets }
 {
     let _rest = rest_of(view);

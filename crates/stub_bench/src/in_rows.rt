@@ -173,7 +173,7 @@ pub fn run_row(alloc: Global, last: Step, matter: Matter, count: u32) -> Result<
         return Ok(message.len());
     }
     let mut view = RecvView::new(message);
-    match receive(alloc, &back, &table, id, &mut view) {
+    match receive(alloc, Encoding::Xdr, &back, &table, id, &mut view) {
         Ok(Got::Value(_)) => Ok(view.pos()),
         Ok(Got::Not) => bail!("no row"),
         Err(_) => bail!("no memory to receive"),

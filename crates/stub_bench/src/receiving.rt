@@ -100,14 +100,14 @@ pub fn read(alloc: Global, reading: Reading, content: Content, size: u32) -> Res
     if id as usize >= table.len() || message.len() > LONGEST_MESSAGE {
         bail!("a message that is too long");
     }
-    let Ok(code) = inlined(alloc, &table, id) else {
+    let Ok(code) = inlined(alloc, Encoding::Xdr, &table, id) else {
         bail!("no memory to inline");
     };
     match reading {
         Reading::Prepare => Ok(false),
         Reading::Receive => {
             let mut view = RecvView::new(message);
-            match receive(alloc, &code, &table, id, &mut view) {
+            match receive(alloc, Encoding::Xdr, &code, &table, id, &mut view) {
                 Ok(Got::Value(_)) => Ok(true),
                 Ok(Got::Not) => Ok(false),
                 Err(_) => bail!("no memory to receive"),

@@ -1,6 +1,5 @@
 // What is asked of the nodes of a case.
 ghost use Rattle.std.specs.Prelude.{◌<◌, ◌≤◌, length, IfOk};
-ghost use Rattle.wire_def.specs.Lone.{IsPlain};
 
 use crate::codes::stub;
 use crate::heads::{refused, reply};
@@ -46,23 +45,13 @@ pub fn answer(alloc: Global, line: &str) -> Result<String, Bad> {
 }
 
 /// How the values of a case are laid out.
-fn encoding(row: &Json) -> Result<Encoding, Bad> {
+pub fn encoding(row: &Json) -> Result<Encoding, Bad> {
     match member(row, "in")?.as_str() {
         Some("xdr") => Ok(Encoding::Xdr),
         Some("cdr_big") => Ok(Encoding::CdrBig),
         Some("cdr_little") => Ok(Encoding::CdrLittle),
         Some("mach") => Ok(Encoding::Mach),
         _ => Err(Bad::Row("no encoding")),
-    }
-}
-
-/// The same, where what is asked is not answered over descriptors.
-pub fn plain_encoding(row: &Json) -> Result<Encoding, Bad>
-    ensures { IfOk result IsPlain }
-{
-    match encoding(row)? {
-        Encoding::Mach => Err(Bad::Row("not over descriptors")),
-        enc => Ok(enc),
     }
 }
 
@@ -171,7 +160,7 @@ fn read(alloc: Global, row: &Json) -> Result<String, Bad> {
 
 /// How long what is sent of the node is.
 fn span(alloc: Global, row: &Json) -> Result<String, Bad> {
-    let enc = plain_encoding(row)?;
+    let enc = encoding(row)?;
     let table = table_of(alloc, row)?;
     let id = id_of(row, &table)?;
     let classes = classify(alloc, enc, &table)?;

@@ -3,12 +3,11 @@ ghost use Rattle.std.specs.Prelude.{◌<◌, length, IfOk};
 ghost use Rattle.mint.specs.Typed.{IsWellTyped};
 ghost use Rattle.mint.specs.Types.{type_at};
 ghost use Rattle.mint.specs.Values.{seen};
-ghost use Rattle.wire_def.specs.Lone.{IsPlain};
 ghost use Rattle.storage_class.specs.Spans.{AreClasses};
 ghost use Rattle.cast_stub.specs.Meaning.{IsCovered};
 ghost use Rattle.stub_cases.specs.Ready.{IsBoth, IsLead};
 
-use crate::asks::{id_of, plain_encoding, value_at};
+use crate::asks::{encoding, id_of, value_at};
 use crate::lead::{HEAD, answer, call, no_lead};
 use crate::nodes::table_of;
 use crate::parts::{Bad, told};
@@ -63,7 +62,6 @@ fn message(
     id: NodeId,
     classes: &Classes,
 ) -> Result<(SendCode, SendCode), NoMemory>
-    requires plain { IsPlain classes.now.enc }
     requires lead { IsLead head }
     requires id { id < length table.now }
     requires classes { AreClasses table.now classes.now }
@@ -113,7 +111,6 @@ fn sent(
     value: &Value,
     count: bool,
 ) -> Result<String, Bad>
-    requires plain { IsPlain classes.now.enc }
     requires lead { IsLead head }
     requires id { id < length table.now }
     requires classes { AreClasses table.now classes.now }
@@ -133,7 +130,7 @@ fn sent(
 
 /// What a case's value is sent as; with `count`, also how many rows are blocks.
 pub fn stub(alloc: Global, row: &Json, count: bool) -> Result<String, Bad> {
-    let enc = plain_encoding(row)?;
+    let enc = encoding(row)?;
     let table = table_of(alloc, row)?;
     let id = id_of(row, &table)?;
     let value = value_at(alloc, row, &table, id)?;

@@ -13,4 +13,4 @@ rows_recv-requires-clause-given c =
 pub returns : goal.returns
 returns c =
     let lt : c.args.id < length c.in_ok-subs.subs = omega (arith, c.requires, c.in_ok-subs.ensures.many) in
-    IfOk-weaker c.rows_recv.result _ _ (λ (code : RecvCode) h. h (kept c.args.table.now c.in_ok-subs.subs c.args.id c.in_ok-flat.flat lt c.in_ok-subs.ensures.sound c.in_ok-flat.ensures.same)) c.rows_recv.ensures.sound
+    IfOk-weaker c.rows_recv.result _ _ (λ (code : RecvCode) h. h (kept Xdr c.args.table.now c.in_ok-subs.subs c.args.id c.in_ok-flat.flat lt c.in_ok-subs.ensures.sound c.in_ok-flat.ensures.same)) c.rows_recv.ensures.sound
