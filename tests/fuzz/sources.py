@@ -28,10 +28,9 @@ UNREAD = (AssertionError, KeyError, IndexError, ValueError, AttributeError, Type
 
 
 class Source(NamedTuple):
-    """A text, its interfaces as the model reads them, and requests from elsewhere."""
+    """A text, and requests from elsewhere."""
     name: str
     text: str
-    interfaces: list
     lines: list
 
 
@@ -107,14 +106,16 @@ def weight(ty, known):
 
 
 def sources(front, back):
-    """All files that are not long, once each. Those whose requests would be long make none."""
-    found = {}
-    for name, text, lines in texts(front, back):
-        if len(text) <= LONGEST_SEED:
-            interfaces, known = interfaces_in(front, text), {}
-            heaviest = max((weight(ty, known) for interface in interfaces for _, _, types in interface.operations for ty in types), default=0)
-            found[text] = Source(name, text, interfaces if heaviest <= HEAVIEST_SEED else [], lines)
-    return list(found.values())
+    """All files that are not long, once each."""
+    return list({text: Source(name, text, lines) for name, text, lines in texts(front, back) if len(text) <= LONGEST_SEED}.values())
+
+
+@lru_cache(maxsize=1000)
+def interfaces_of(front, source_text):
+    """The interfaces of a source, where requests over them are not long."""
+    interfaces, known = interfaces_in(front, source_text), {}
+    heaviest = max((weight(ty, known) for interface in interfaces for _, _, types in interface.operations for ty in types), default=0)
+    return interfaces if heaviest <= HEAVIEST_SEED else []
 
 
 def numbers_of(rng, back, operation):
@@ -123,11 +124,11 @@ def numbers_of(rng, back, operation):
     return {key: 0 if key == "local" and operation.oneway else n for key, n in numbers.items()}
 
 
-def requests(rng, back, source, count):
+def requests(rng, front, back, source, count):
     """Right request lines over a source and a back end, and some of those that stand beside it."""
-    lines = []
-    for _ in range(count if any(map(BACKS[back].operations, source.interfaces)) else 0):
-        interface = rng.choice([interface for interface in source.interfaces if BACKS[back].operations(interface)])
+    lines, interfaces = [], [interface for interface in interfaces_of(front, source.text) if BACKS[back].operations(interface)]
+    for _ in range(count if interfaces else 0):
+        interface = rng.choice(interfaces)
         operations = BACKS[back].operations(interface)
         operation = rng.choice([operation for operation in operations if operation[2] or rng.random() < 0.1] or operations)
         record = {"op": f"{interface.name}.{operation[0]}", **numbers_of(rng, back, operation), "args": [ty.tree(sample(rng, ty)) for ty in operation[2]]}
