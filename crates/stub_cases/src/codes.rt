@@ -69,11 +69,12 @@ fn message(
     ensures second { IfOk result (λ codes. IsCovered (type_at table.now id) 0 codes.1) }
 {
     table.types_are_sound();
-    let subs = lower(alloc, classes.enc(), table)?;
+    let enc = classes.enc();
+    let subs = lower(alloc, enc, table)?;
     let body = inline(alloc, &subs, id)?;
     let whole = both(alloc, head, &body)?;
     let code = hoist(alloc, &whole, table, id, classes)?;
-    let in_rows = rows(alloc, classes.enc(), &code, table, id)?;
+    let in_rows = rows(alloc, enc, &code, table, id)?;
     Ok((code, in_rows))
 }
 
