@@ -10,7 +10,8 @@ use Rattle.kit_base.specs.declared.lines.Line.{Line}
 use Rattle.kit_base.specs.declared.lines.Line.TheVariants.{Text, Long, End}
 
 -- octets without an end go on with the line that was begun
-pub lines_from-append : (longest : ℕ) (begun xs ys : List ℕ) → HasNoEnd xs → lines_from longest begun (xs ++ ys) ≡ lines_from longest (begun ++ xs) ys
+pub lines_from-append : (longest : ℕ) (begun xs ys : List ℕ) → HasNoEnd xs
+    → lines_from longest begun (xs ++ ys) ≡ lines_from longest (begun ++ xs) ys
 lines_from-append longest begun [] ys h = rw append-nil
 lines_from-append longest begun (x ∷ xs) ys h =
     let head : x ≢ 10 = All-head (λ (y : ℕ). y ≢ 10) x xs h in
@@ -34,7 +35,8 @@ line_of-long longest [] h = absurd (omega arith)
 line_of-long longest (x ∷ xs) h = grind (arith, nat_tests, h)
 
 -- a line that is longer than allowed by more than its return is too long, whatever follows
-pub lines_from-long : (longest : ℕ) (begun more : List ℕ) → longest + 1 < length begun → lines_from longest begun more ≡ Long ∷ lines_behind longest more
+pub lines_from-long : (longest : ℕ) (begun more : List ℕ) → longest + 1 < length begun
+    → lines_from longest begun more ≡ Long ∷ lines_behind longest more
 lines_from-long longest begun [] h = line_of-long longest (chomp begun) (omega (arith, length-chomp begun))
 lines_from-long longest begun (x ∷ xs) h =
     let now = line_of-long longest (chomp begun) (omega (arith, length-chomp begun)) in
@@ -72,9 +74,10 @@ lines-last longest kept none = lines_from-append longest [] kept [] none
 pub lines_behind-last : (longest : ℕ) (kept : List ℕ) → HasNoEnd kept → lines_behind longest (kept ++ []) ≡ []
 lines_behind-last longest kept none = lines_behind-append longest kept [] none
 
-cut_more : (b : Bool) (longest : ℕ) (kept more : List ℕ) (i : ℕ) (answer : List Line) → HasNoEnd (take i kept) → kept ≡ take i kept ++ 10 ∷ drop (i + 1) kept
-    → answer ≡ (if b then Long ∷ [] else line_of longest (take i kept))
-    → (if b then Long ∷ lines_behind longest (kept ++ more) else lines longest (kept ++ more)) ≡ answer ++ lines longest (drop (i + 1) kept ++ more)
+cut_more : (b : Bool) (longest : ℕ) (kept more : List ℕ) (i : ℕ) (answer : List Line) → HasNoEnd (take i kept)
+    → kept ≡ take i kept ++ 10 ∷ drop (i + 1) kept → answer ≡ (if b then Long ∷ [] else line_of longest (take i kept))
+    → (if b then Long ∷ lines_behind longest (kept ++ more) else lines longest (kept ++ more))
+    ≡ answer ++ lines longest (drop (i + 1) kept ++ more)
 cut_more true longest kept more i answer none split e = rw e (ap (λ (l : List Line). Long ∷ l) (lines_behind-cut longest kept more i none split))
 cut_more false longest kept more i answer none split e = rw e (lines-cut longest kept more i none split)
 
@@ -90,13 +93,15 @@ passed-cut s i o none split e = record {
   answers = λ more _. cut_more s.skips s.longest s.kept more i (option_to_list o) none split e;
 }
 
-last_more : (b : Bool) (longest : ℕ) (kept : List ℕ) (answer : List Line) → HasNoEnd kept → answer ≡ (if b then Long ∷ [] else line_of longest kept)
+last_more : (b : Bool) (longest : ℕ) (kept : List ℕ) (answer : List Line) → HasNoEnd kept
+    → answer ≡ (if b then Long ∷ [] else line_of longest kept)
     → (if b then Long ∷ lines_behind longest (kept ++ []) else lines longest (kept ++ [])) ≡ answer
 last_more true longest kept answer none e = rw e (ap (λ (l : List Line). Long ∷ l) (lines_behind-last longest kept none))
 last_more false longest kept answer none e = rw e (lines-last longest kept none)
 
 -- what is kept is the last line
-pub pending-last : (s : State) (answer : List Line) → HasNoEnd s.kept → answer ≡ (if s.skips then Long ∷ [] else line_of s.longest s.kept) → pending s [] ≡ answer
+pub pending-last : (s : State) (answer : List Line) → HasNoEnd s.kept → answer ≡ (if s.skips then Long ∷ [] else line_of s.longest s.kept)
+    → pending s [] ≡ answer
 pending-last s answer none e = last_more s.skips s.longest s.kept answer none e
 
 -- what is answered for a line is the line
@@ -105,7 +110,8 @@ answered-line (Text t) h = refl
 answered-line Long h = refl
 answered-line End h = absurd (h refl)
 
-pub passed-last : (s : State) (answer : List Line) → HasNoEnd s.kept → s.ended ≡ true → answer ≡ (if s.skips then Long ∷ [] else line_of s.longest s.kept)
+pub passed-last : (s : State) (answer : List Line) → HasNoEnd s.kept → s.ended ≡ true
+    → answer ≡ (if s.skips then Long ∷ [] else line_of s.longest s.kept)
     → Passed s (record s { kept = []; skips = false }) [] answer
 passed-last s answer none end e = record {
   count = omega arith;
@@ -120,7 +126,7 @@ refill_more : (b b' : Bool) (longest longest' : ℕ) (kept kept' got more : List
     ≡ (if b' then Long ∷ lines_behind longest' (kept' ++ more) else lines longest' (kept' ++ more))
 refill_more b b' longest longest' kept kept' got more e f k = rw (e, f, k, append_assoc)
 
--- more was read behind what is kept
+-- more was read after what is kept
 pub passed-refill : (s t : State) → take (length s.kept) t.kept ≡ s.kept → t.taken + length s.kept ≡ s.taken + length t.kept
     → t.longest ≡ s.longest → t.most ≡ s.most → t.skips ≡ s.skips → s.ended ≡ false → Passed s t (drop (length s.kept) t.kept) []
 passed-refill s t front count longest most skips unended =
@@ -140,7 +146,8 @@ passed-refl s = record { count = omega arith; longest = refl; most = refl; ended
 both_empty : (xs ys : List ℕ) → xs ≡ [] → ys ≡ [] → xs ++ ys ≡ []
 both_empty xs ys e f = rw (e, f)
 
-pub passed-trans : (s t u : State) (got more_got : List ℕ) (first second : List Line) → Passed s t got first → Passed t u more_got second → Passed s u (got ++ more_got) (first ++ second)
+pub passed-trans : (s t u : State) (got more_got : List ℕ) (first second : List Line) → Passed s t got first → Passed t u more_got second
+    → Passed s u (got ++ more_got) (first ++ second)
 passed-trans s t u got more_got first second p q = record {
   count = omega (arith, p.count, q.count, length-append got more_got);
   longest = q.longest ∙ p.longest;
@@ -151,7 +158,8 @@ passed-trans s t u got more_got first second p q = record {
       ∙ ap (λ (l : List Line). first ++ l) (q.answers more h) ∙ sym (append_assoc first second (pending u more));
 }
 
-pub advances-trans : (a b c : Option (List ℕ)) (s t u : State) (first second : List Line) → Advances a b s t first → Advances b c t u second → Advances a c s u (first ++ second)
+pub advances-trans : (a b c : Option (List ℕ)) (s t u : State) (first second : List Line) → Advances a b s t first → Advances b c t u second
+    → Advances a c s u (first ++ second)
 advances-trans a b c s t u first second (got, taken, p) (more_got, more_taken, q) =
     (got ++ more_got, Consumes-trans a b c got more_got taken more_taken, passed-trans s t u got more_got first second p q)
 

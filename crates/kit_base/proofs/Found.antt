@@ -20,7 +20,8 @@ number_value (d ∷ ds) m e = go (d == 48) e where
   go false f = f
 
 -- the digit at a place makes the number at least so large
-pub digit-le : (word : List ℕ) (i n m : ℕ) → value_on 0 word ≡ value_on n (drop i word) → i < length word → 48 ≤ get_or word i 0 → get_or word i 0 ≤ 57 → number_in word ≡ Some m
+pub digit-le : (word : List ℕ) (i n m : ℕ) → value_on 0 word ≡ value_on n (drop i word) → i < length word
+    → 48 ≤ get_or word i 0 → get_or word i 0 ≤ 57 → number_in word ≡ Some m
     → 10 * n + (get_or word i 0 - 48) ≤ m
 digit-le word i n m so_far within low high e =
     let d = get_or word i 0 in

@@ -20,7 +20,7 @@ answer_of longest (x ∷ xs) = (if nat_lt longest (length (x ∷ xs)) then Long 
 abbrev pub line_of : ℕ → List ℕ → List Line
 line_of longest octets = answer_of longest (chomp octets)
 
--- the lines of a line that was begun, and of the octets behind
+-- the lines of a line that was begun, and of the octets after it
 abbrev pub lines_from : ℕ → List ℕ → List ℕ → List Line
 lines_from longest begun [] = line_of longest begun
 lines_from longest begun (x ∷ xs) =
@@ -31,7 +31,7 @@ lines_from longest begun (x ∷ xs) =
 abbrev pub lines : ℕ → List ℕ → List Line
 lines longest octets = lines_from longest [] octets
 
--- the lines behind the rest of one that is too long
+-- the lines after the rest of one that is too long
 abbrev pub lines_behind : ℕ → List ℕ → List Line
 lines_behind longest [] = []
 lines_behind longest (x ∷ xs) = if x == 10 then lines longest xs else lines_behind longest xs
@@ -56,7 +56,7 @@ pending s more = if s.skips then Long ∷ lines_behind s.longest (s.kept ++ more
 abbrev pub HasNoEnd : List ℕ → Type 0
 HasNoEnd octets = All (λ x. x ≢ 10) octets
 
--- Between the two states these octets were taken and these lines answered, whatever follows; behind the end nothing does.
+-- Between the two states these octets were taken and these lines answered, whatever follows; after the end nothing does.
 pub record Passed (old new : State) (got : List ℕ) (answered : List Line) : Type 0 where
   pub count : new.taken ≡ old.taken + length got
   pub longest : new.longest ≡ old.longest

@@ -1,16 +1,16 @@
--- What the ends in memory are seen as, and what a shelf tells of a file.
+-- What the ends in memory are seen as, and what a shelf reports of a file.
 use Rattle.std.specs.Prelude.{◌≡◌, ℕ, ◌-◌, List, [], ◌∷◌, ◌++◌, take, drop, length, Option, Some, None, Bool, Result, Ok, Err, is_err, if◌then◌else◌}
 use Rattle.std.specs.Str.{bytes_eq}
 use Rattle.kit_base.specs.Causes.{raised}
 use Rattle.kit_base.specs.Decimal.{is_listed}
 use Rattle.kit_base.specs.declared.errors.Failed.{Failed}
 
--- where files are told, there is one at the path, and this is its front
+-- where files are reported, there is one at the path, and this is its prefix
 abbrev pub HasFile : Option (List ℕ → Option (List ℕ)) → List ℕ → ℕ → List ℕ → Type 0
 HasFile None path most octets = Unit {0}
 HasFile (Some content) path most octets = (whole : List ℕ) × (content path ≡ Some whole) × (octets ≡ take most whole)
 
--- where files are told, there is none at the path
+-- where files are reported, there is none at the path
 abbrev pub LacksFile : Option (List ℕ → Option (List ℕ)) → List ℕ → Type 0
 LacksFile None path = Unit {0}
 LacksFile (Some content) path = content path ≡ None
@@ -77,11 +77,11 @@ abbrev pub held_after : List ℕ → List ℕ → Result ℕ Failed → List ℕ
 held_after held piece (Ok n) = held ++ take n piece
 held_after held piece (Err e) = held
 
--- a sink after a call that was handed this piece and answered so
+-- a sink after a call that was given this piece and answered so
 abbrev pub taken : Taken → List ℕ → Result ℕ Failed → Taken
 taken s piece result = record s { held = held_after s.held piece result; plan = called s.plan (is_err result) }
 
--- the octets that still fit behind these
+-- the octets that still fit after these
 abbrev pub room_of : List ℕ → ℕ
 room_of held = 16777216 - length held
 

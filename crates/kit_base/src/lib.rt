@@ -1,7 +1,7 @@
 //! The outside as traits, octets and lists of them, and the lines of an input.
 //!
 //! A program that reads a [`Source`], writes a [`Sink`] and takes files from a [`Shelf`] can be
-//! proved against what these tell: their contents, where they tell any, and their counts of faults.
+//! proved against what these report: their contents, where they report any, and their counts of faults.
 #![tactic(auto)]
 
 mod decimal;
@@ -15,6 +15,7 @@ mod mem_sink;
 mod mem_source;
 mod outside;
 mod plan;
+mod reading;
 mod std_ends;
 
 pub use errors::{Failed, NoMemory};

@@ -9,7 +9,8 @@ use std::alloc::Global;
 pub(crate) fn find_end(octets: &[u8], from: usize) -> Option<usize>
     requires within { from ≤ length octets.now }
     requires searched { HasNoEnd (take from octets.now) }
-    ensures found { IfSome result (λ i. (i < length octets.now) × HasNoEnd (take i octets.now) × (octets.now ≡ take i octets.now ++ 10 ∷ drop (i + 1) octets.now)) }
+    ensures found { IfSome result (λ i. (i < length octets.now) × HasNoEnd (take i octets.now)
+        × (octets.now ≡ take i octets.now ++ 10 ∷ drop (i + 1) octets.now)) }
     ensures none { IfNone result (HasNoEnd octets.now) }
 {
     for i in from..octets.len() {

@@ -2,25 +2,31 @@
 ghost use Rattle.std.specs.Prelude.{◌≡◌, ◌≢◌, ◌<◌, ◌≤◌, ◌-◌, ◌+◌, ◌^◌, List, ℕ, [], ◌∷◌, ◌++◌, length, take, drop, OnOk, OnErr, IfOk, IfErr, IfSome, IfNone, All, Some, None, true, false, option_to_list, IsErrOf, if◌then◌else◌};
 ghost use Rattle.kit_base.specs.Causes.{Rose};
 ghost use Rattle.kit_base.specs.Lines.{State, Passed, Advances, answered, pending, HasNoEnd, KnowsEnd, line_of, line_in, IsFound, chomp, work};
-ghost use Rattle.std.specs.Io.KnownBytes.{Consumes, IsAtEnd};
+ghost use Rattle.std.specs.Io.KnownBytes.{Consumes};
 ghost use Rattle.kit_base.specs.declared.lines.Line.TheVariants.{Long};
 ghost use Rattle.kit_base.specs.declared.lines.LineErr.{LineErr};
 
 use crate::line_text::{find_end, read_line};
-use crate::{Failed, Octets, Source};
+use crate::reading::{discard_front, read_behind};
+use crate::{Octets, Source};
 use std::alloc::Global;
 use std::marker::Model;
 
 const PIECE: usize = 65_536;
 
+/// A line of an input, without the line feed and the carriage return at its end.
 #[derive(Debug, Drop)]
 pub enum Line {
+    /// The octets of a line that is not too long.
     Text(Octets),
+    /// A line above the greatest length. Its octets are passed over.
     Long,
+    /// The input has ended.
     End,
 }
 
 impl Line {
+    /// Whether the input has ended.
     pub fn is_end(&self) -> bool
         ensures end { result ≡ true → self.now ≡ Line.End }
         ensures line { result ≡ false → self.now ≢ Line.End }
@@ -29,13 +35,18 @@ impl Line {
     }
 }
 
+/// Why no line is given. After an error each call gives it again.
 #[derive(Clone, Copy, Debug, PartialEq, Eq)]
 pub enum LineErr {
+    /// A read failed.
     Failed,
+    /// The input has more octets than are allowed.
     TooMuch,
+    /// Out of memory.
     NoMemory,
 }
 
+/// The lines of an input, and what was read of the next ones.
 #[derive(Drop)]
 pub struct Lines {
     alloc: Global,
@@ -67,9 +78,19 @@ impl Model for Lines {
 }
 
 impl Lines {
+    /// The lines of an input of which nothing was read. A line may have `longest` octets, and the
+    /// whole input `most`.
     pub fn new(alloc: Global, longest: u32, most: u64) -> Lines
         requires { most < 2 ^ 64 - 1 }
-        ensures { result ≡ record { longest = longest; most = most; kept = []; skips = false; ended = false; taken = 0; error = None } }
+        ensures { result ≡ record {
+          longest = longest;
+          most = most;
+          kept = [];
+          skips = false;
+          ended = false;
+          taken = 0;
+          error = None;
+        } }
     {
         Lines {
             alloc,
@@ -104,9 +125,13 @@ impl Lines {
         ensures fresh { OnOk result (self.new.error ≡ None) }
         ensures stands { IfErr result (λ e. self.new.error ≡ Some e) }
         ensures end { result ≡ Ok Line.End → (pending self.new [] ≡ []) × (self.new.ended ≡ true) }
-        ensures failed { self.old.error ≡ None → result ≡ Err LineErr.Failed → Rose (S.faults source.old) (S.faults source.new) × HasNoEnd self.new.kept × (self.new.ended ≡ false) }
-        ensures too_much { self.old.error ≡ None → result ≡ Err LineErr.TooMuch → self.new.most < self.new.taken }
-        ensures within { self.old.error ≡ None → result ≢ Err LineErr.TooMuch → result ≢ Err LineErr.NoMemory → self.new.taken ≤ self.new.most }
+        ensures failed { self.old.error ≡ None → result ≡ Err LineErr.Failed
+            → Rose (S.faults source.old) (S.faults source.new) × HasNoEnd self.new.kept
+            × (self.new.ended ≡ false) }
+        ensures too_much { self.old.error ≡ None → result ≡ Err LineErr.TooMuch
+            → self.new.most < self.new.taken }
+        ensures within { self.old.error ≡ None → result ≢ Err LineErr.TooMuch
+            → result ≢ Err LineErr.NoMemory → self.new.taken ≤ self.new.most }
     {
         if let Some(error) = self.error {
             return Err(error);
@@ -126,9 +151,11 @@ impl Lines {
         ensures end { result ≡ Ok Line.End → (pending self.new [] ≡ []) × (self.new.ended ≡ true) }
         ensures later { S.faults source.old ≤ S.faults source.new }
         ensures told { result ≢ Err LineErr.Failed → S.faults source.old ≡ S.faults source.new }
-        ensures failed { result ≡ Err LineErr.Failed → Rose (S.faults source.old) (S.faults source.new) × HasNoEnd self.new.kept × (self.new.ended ≡ false) }
+        ensures failed { result ≡ Err LineErr.Failed → Rose (S.faults source.old) (S.faults source.new)
+            × HasNoEnd self.new.kept × (self.new.ended ≡ false) }
         ensures too_much { result ≡ Err LineErr.TooMuch → self.new.most < self.new.taken }
-        ensures within { result ≢ Err LineErr.TooMuch → result ≢ Err LineErr.NoMemory → self.new.taken ≤ self.new.most }
+        ensures within { result ≢ Err LineErr.TooMuch → result ≢ Err LineErr.NoMemory
+            → self.new.taken ≤ self.new.most }
         ensures falls { IfOk result (λ line. line ≢ Line.End → work self.new < work self.old) }
         ensures same { self.new.error ≡ self.old.error }
     {
@@ -158,7 +185,8 @@ impl Lines {
         ensures no_end { IfOk result (λ c. c ≢ Cut.Found (Some Line.End)) }
         ensures err { IfErr result (λ e. (e ≡ LineErr.NoMemory) × (self.new ≡ self.old)) }
         ensures whole { IfOk result (λ c. IsFound c → work self.new < work self.old) }
-        ensures open_end { IfOk result (λ c. c ≡ Cut.NoEnd → HasNoEnd self.new.kept × (work self.new ≤ work self.old)) }
+        ensures open_end { IfOk result
+            (λ c. c ≡ Cut.NoEnd → HasNoEnd self.new.kept × (work self.new ≤ work self.old)) }
         ensures small { IfOk result (λ c. c ≡ Cut.NoEnd → length self.new.kept ≤ self.new.longest + 1) }
         ensures same { (self.new.ended ≡ self.old.ended) × (self.new.error ≡ self.old.error) }
     {
@@ -175,7 +203,8 @@ impl Lines {
 
     /// Where the first line that is kept ends. Octets that were searched are not searched again.
     fn find(&mut self) -> Option<usize>
-        ensures found { IfSome result (λ i. (i < length self.old.kept) × HasNoEnd (take i self.old.kept) × (self.old.kept ≡ take i self.old.kept ++ 10 ∷ drop (i + 1) self.old.kept)) }
+        ensures found { IfSome result (λ i. (i < length self.old.kept) × HasNoEnd (take i self.old.kept)
+            × (self.old.kept ≡ take i self.old.kept ++ 10 ∷ drop (i + 1) self.old.kept)) }
         ensures none { IfNone result (HasNoEnd self.old.kept) }
         ensures fits { IfSome result (λ i. i < 2 ^ 63) }
         ensures same { self.new ≡ self.old }
@@ -191,7 +220,8 @@ impl Lines {
     /// The line of the first octets that are kept.
     fn line_to(&self, end: usize) -> Result<Option<Line>, LineErr>
         requires { end ≤ length self.now.kept }
-        ensures lines { IfOk result (λ o. option_to_list o ≡ (if self.now.skips then Long ∷ [] else line_of self.now.longest (take end self.now.kept))) }
+        ensures lines { IfOk result (λ o. option_to_list o
+            ≡ (if self.now.skips then Long ∷ [] else line_of self.now.longest (take end self.now.kept))) }
         ensures no_end { IfOk result (λ o. o ≢ Some Line.End) }
         ensures err { IfErr result (λ e. e ≡ LineErr.NoMemory) }
     {
@@ -267,13 +297,14 @@ impl Lines {
         self.searched = 0;
     }
 
-    /// Reads once, behind what is kept.
+    /// Reads once, after what is kept.
     fn refill<S: Source>(&mut self, source: &mut S) -> Result<(), LineErr>
         requires room { self.old.taken ≤ self.old.most }
         requires more { self.old.ended ≡ false }
         requires small { length self.old.kept ≤ self.old.longest + 1 }
         ensures kept { take (length self.old.kept) self.new.kept ≡ self.old.kept }
-        ensures got { Consumes (S.left source.old) (S.left source.new) (drop (length self.old.kept) self.new.kept) }
+        ensures got { Consumes (S.left source.old) (S.left source.new)
+            (drop (length self.old.kept) self.new.kept) }
         ensures count { self.new.taken + length self.old.kept ≡ self.old.taken + length self.new.kept }
         ensures bound { self.new.taken ≤ self.new.most + 1 }
         ensures falls { OnOk result (work self.new < work self.old) }
@@ -281,7 +312,8 @@ impl Lines {
         ensures stays { OnOk result (self.new.ended ≡ true → self.new.kept ≡ self.old.kept) }
         ensures none { OnErr result (self.new.kept ≡ self.old.kept) }
         ensures end { OnOk result (KnowsEnd self.new (S.left source.new)) }
-        ensures same { (self.new.longest ≡ self.old.longest) × (self.new.most ≡ self.old.most) × (self.new.skips ≡ self.old.skips) × (self.new.error ≡ self.old.error) }
+        ensures same { (self.new.longest ≡ self.old.longest) × (self.new.most ≡ self.old.most)
+            × (self.new.skips ≡ self.old.skips) × (self.new.error ≡ self.old.error) }
         ensures err { OnErr result (self.new.ended ≡ self.old.ended) }
         ensures later { S.faults source.old ≤ S.faults source.new }
         ensures told { result ≢ Err LineErr.Failed → S.faults source.old ≡ S.faults source.new }
@@ -306,40 +338,4 @@ impl Lines {
 enum Cut {
     Found(Option<Line>),
     NoEnd,
-}
-
-fn discard_front(buffer: &mut Vec<u8>, n: usize)
-    requires { n ≤ length buffer.old.items }
-    ensures { buffer.new.items ≡ drop n buffer.old.items }
-{
-    buffer.drain(..n);
-}
-
-/// Reads once, behind what the buffer holds.
-fn read_behind<S: Source>(
-    source: &mut S,
-    piece: &mut [u8],
-    buffer: &mut Vec<u8>,
-) -> Result<usize, LineErr>
-    requires { length piece.old ≤ 65536 }
-    ensures kept { take (length buffer.old.items) buffer.new.items ≡ buffer.old.items }
-    ensures got { Consumes (S.left source.old) (S.left source.new) (drop (length buffer.old.items) buffer.new.items) }
-    ensures count { IfOk result (λ n. (length buffer.new.items ≡ length buffer.old.items + n) × (n ≤ length piece.old) × (n ≤ 65536)) }
-    ensures none { OnErr result (buffer.new.items ≡ buffer.old.items) }
-    ensures end { IfOk result (λ n. n ≡ 0 → 0 < length piece.old → IsAtEnd (S.left source.new)) }
-    ensures later { S.faults source.old ≤ S.faults source.new }
-    ensures told { result ≢ Err LineErr.Failed → S.faults source.old ≡ S.faults source.new }
-    ensures failed { result ≡ Err LineErr.Failed → Rose (S.faults source.old) (S.faults source.new) }
-    ensures too_much { result ≢ Err LineErr.TooMuch }
-{
-    if buffer.reserve(piece.len()).is_err() {
-        return Err(LineErr::NoMemory);
-    }
-    match source.read(piece) {
-        Ok(count) => match buffer.extend_from_slice(&piece[..count]) {
-            Ok(()) => Ok(count),
-            Err(_) => Err(LineErr::NoMemory),
-        },
-        Err(Failed) => Err(LineErr::Failed),
-    }
 }

@@ -65,7 +65,7 @@ impl<T> Listed<T> {
 }
 
 impl<T: Drop> Listed<T> {
-    /// Puts an item behind the last. A refused item is dropped.
+    /// Appends an item. A refused item is dropped.
     pub fn push(&mut self, item: T) -> Result<(), NoMemory>
         ensures ok { OnOk result (self.new ≡ self.old ++ item ∷ []) }
         ensures err { OnErr result (self.new ≡ self.old) }
@@ -92,7 +92,7 @@ impl<T: Copy> Listed<T> {
         Ok(list)
     }
 
-    /// Puts a piece behind the last item.
+    /// Appends a piece.
     pub fn append(&mut self, piece: &[T]) -> Result<(), NoMemory>
         ensures ok { OnOk result (self.new ≡ self.old ++ piece.now) }
         ensures err { OnErr result (self.new ≡ self.old) }

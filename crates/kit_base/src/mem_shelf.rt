@@ -35,7 +35,7 @@ impl Model for MemShelf {
 
 impl MemShelf {
     /// A shelf without files that fails at the calls of `read_file` whose decimal numbers, from 1,
-    /// stand in `fails`.
+    /// are in `fails`.
     pub fn new(alloc: Global, fails: Words) -> MemShelf
         ensures { result ≡ record { files = []; plan = fresh fails } }
     {
@@ -46,9 +46,10 @@ impl MemShelf {
         }
     }
 
-    /// Puts a file behind the others.
+    /// Appends a file.
     pub fn add(&mut self, path: &[u8], content: &[u8]) -> Result<(), NoMemory>
-        ensures ok { OnOk result (self.new ≡ record self.old { files = self.old.files ++ (path.now, content.now) ∷ [] }) }
+        ensures ok { OnOk result
+            (self.new ≡ record self.old { files = self.old.files ++ (path.now, content.now) ∷ [] }) }
         ensures err { OnErr result (self.new ≡ self.old) }
     {
         let path = Octets::from_slice(self.alloc, path)?;
@@ -83,14 +84,17 @@ impl Shelf for MemShelf {
 
     fn read_file(&mut self, alloc: Global, path: &[u8], most: u32) -> Result<Octets, ShelfErr>
         ensures same { Some (content_of self.new.files) ≡ Some (content_of self.old.files) }
-        ensures content { IfOk result (λ octets. HasFile (Some (content_of self.old.files)) path.now most octets) }
+        ensures content { IfOk result
+            (λ octets. HasFile (Some (content_of self.old.files)) path.now most octets) }
         ensures bound { IfOk result (λ octets. length octets ≤ most) }
-        ensures absent { IsErrOf result ShelfErr.Absent → LacksFile (Some (content_of self.old.files)) path.now }
+        ensures absent { IsErrOf result ShelfErr.Absent
+            → LacksFile (Some (content_of self.old.files)) path.now }
         ensures later { self.old.plan.faults ≤ self.new.plan.faults }
         ensures failed { IsErrOf result ShelfErr.Failed → Rose self.old.plan.faults self.new.plan.faults }
         ensures told { result ≢ Err ShelfErr.Failed → self.old.plan.faults ≡ self.new.plan.faults }
         ensures listed { IsErrOf result ShelfErr.Failed ↔ (fails_next self.old.plan ≡ true) }
-        ensures after { self.new ≡ record self.old { plan = called self.old.plan (fails_next self.old.plan) } }
+        ensures after { self.new
+            ≡ record self.old { plan = called self.old.plan (fails_next self.old.plan) } }
     {
         if self.fails_now() {
             return Err(ShelfErr::Failed);

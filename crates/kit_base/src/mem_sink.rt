@@ -124,7 +124,7 @@ impl Model for MemSink {
 
 impl MemSink {
     /// A sink that takes at most `most` octets at a call, and fails at the calls whose decimal
-    /// numbers, from 1, stand in `fails`, and where no room is left.
+    /// numbers, from 1, are in `fails`, and where no room is left.
     pub fn new(alloc: Global, fails: Words, most: usize) -> Result<MemSink, NoMemory>
         requires { 1 ≤ most }
         ensures { IfOk result (λ s. s ≡ record { held = []; most = most; plan = fresh fails }) }
@@ -185,7 +185,8 @@ impl Sink for MemSink {
         ensures some { IfOk result (λ n. 0 < length piece.now → 0 < n) }
         ensures bytes { WriteAppends (Some self.old.held) (Some self.new.held) result piece.now }
         ensures cause { HasCause self.old.plan.faults self.new.plan.faults result }
-        ensures size { IfOk result (λ n. n ≡ min (min self.old.most (length piece.now)) (room_of self.old.held)) }
+        ensures size { IfOk result
+            (λ n. n ≡ min (min self.old.most (length piece.now)) (room_of self.old.held)) }
         ensures after { self.new ≡ taken self.old piece.now result }
         ensures listed { fails_next self.old.plan ≡ true → IsTrue (is_err result) }
         ensures full { OnErr result (fails_next self.old.plan ≡ false → room_of self.old.held ≡ 0) }

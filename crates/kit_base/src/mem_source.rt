@@ -92,7 +92,7 @@ impl Model for MemSource {
 
 impl MemSource {
     /// A source of this content that gives at most `most` octets at a call, and fails at the calls
-    /// whose decimal numbers, from 1, stand in `fails`.
+    /// whose decimal numbers, from 1, are in `fails`.
     pub fn new(content: Octets, fails: Words, most: usize) -> MemSource
         requires { 1 ≤ most }
         ensures { result ≡ record { left = content; most = most; plan = fresh fails } }
@@ -147,7 +147,8 @@ impl Source for MemSource {
         ensures bytes { ReadConsumes (Some self.old.left) (Some self.new.left) result into.new }
         ensures cause { HasCause self.old.plan.faults self.new.plan.faults result }
         ensures plan { IsTrue (is_ok result) ↔ (fails_next self.old.plan ≡ false) }
-        ensures size { IfOk result (λ n. n ≡ min self.old.most (min (length self.old.left) (length into.old))) }
+        ensures size { IfOk result
+            (λ n. n ≡ min self.old.most (min (length self.old.left) (length into.old))) }
         ensures after { self.new ≡ fed self.old result }
     {
         if self.fails_now() {

@@ -8,8 +8,9 @@ ghost use Rattle.kit_base.specs.Memory.{HasFile, LacksFile};
 use crate::{Failed, NoMemory, Octets};
 use std::alloc::Global;
 
+/// An input: gives octets in order. A read may give fewer than there is room for.
 pub trait Source {
-    /// The octets that reads will give, where this is told.
+    /// The octets that reads will give, where this is known.
     ghost left: { Self → Option (List ℕ) };
 
     /// How often a read has failed.
@@ -22,14 +23,15 @@ pub trait Source {
         ensures cause { HasCause (faults self.old) (faults self.new) result };
 }
 
+/// An output: takes octets in order. A write may take fewer than it is given.
 pub trait Sink {
-    /// The octets that were written, where this is told.
+    /// The octets that were written, where this is known.
     ghost held: { Self → Option (List ℕ) };
 
     /// How often a write has failed.
     ghost faults: { Self → ℕ };
 
-    /// Takes octets off the front of the piece, and at least one where there is one.
+    /// Takes octets off the beginning of the piece, and at least one where there is one.
     fn write(&mut self, piece: &[u8]) -> Result<usize, Failed>
         ensures bound { WritesAtMost result piece.now }
         ensures some { IfOk result (λ n. 0 < length piece.now → 0 < n) }
@@ -37,21 +39,26 @@ pub trait Sink {
         ensures cause { HasCause (faults self.old) (faults self.new) result };
 }
 
+/// Why a file is not read.
 #[derive(Clone, Copy, Debug, PartialEq, Eq)]
 pub enum ShelfErr {
+    /// There is no file with that path.
     Absent,
+    /// The file could not be read.
     Failed,
+    /// Out of memory.
     NoMemory,
 }
 
+/// Files, found by their paths.
 pub trait Shelf {
-    /// The contents of the files, where this is told.
+    /// The contents of the files, where this is known.
     ghost files: { Self → Option (List ℕ → Option (List ℕ)) };
 
     /// How often a file could not be read.
     ghost faults: { Self → ℕ };
 
-    /// The content of a file, or as many octets of its front as are wanted.
+    /// The content of a file, or as many of its first octets as are wanted.
     fn read_file(&mut self, alloc: Global, path: &[u8], most: u32) -> Result<Octets, ShelfErr>
         ensures same { files self.new ≡ files self.old }
         ensures content { IfOk result (λ octets. HasFile (files self.old) path.now most octets) }
@@ -62,10 +69,11 @@ pub trait Shelf {
         ensures told { result ≢ Err ShelfErr.Failed → faults self.old ≡ faults self.new };
 }
 
-/// Writes all the octets. After a refusal a front of them was appended.
+/// Writes all the octets. After a refusal a prefix of them was appended.
 pub fn write_whole<K: Sink>(sink: &mut K, octets: &[u8]) -> Result<(), Failed>
     ensures ok { OnOk result (Appends (K.held sink.old) (K.held sink.new) octets.now) }
-    ensures err { OnErr result ((front : List ℕ) × (rest : List ℕ) × (octets.now ≡ front ++ rest) × Appends (K.held sink.old) (K.held sink.new) front) }
+    ensures err { OnErr result ((front : List ℕ) × (rest : List ℕ) × (octets.now ≡ front ++ rest)
+        × Appends (K.held sink.old) (K.held sink.new) front) }
     ensures cause { HasCause (K.faults sink.old) (K.faults sink.new) result }
 {
     let mut rest = octets;

@@ -42,7 +42,7 @@ impl Source for Counting {
     }
 }
 
-/// A sink that notes how many octets each write was handed.
+/// A sink that notes how many octets each write was given.
 #[derive(Drop)]
 struct Noting {
     inner: MemSink,
@@ -110,7 +110,7 @@ fn a_write_is_handed_all_that_is_left(rt: HostRuntime) -> Result<(), Fail> {
     Ok(())
 }
 
-// Where an allocation fails, as tests/fail_alloc has it, this looks at what is told.
+// Where an allocation fails, as tests/fail_alloc has it, this looks at what is reported.
 #[test]
 fn where_memory_ends_no_other_line_is_told(rt: HostRuntime) -> Result<(), Fail> {
     let text = octets(&rt, b"ab\r\nlonger\nc")?;

@@ -1,0 +1,45 @@
+// Pieces of a source, read into a buffer.
+ghost use Rattle.std.specs.Prelude.{◌≡◌, ◌≢◌, ◌<◌, ◌≤◌, ◌+◌, length, take, drop, OnErr, IfOk};
+ghost use Rattle.kit_base.specs.Causes.{Rose};
+ghost use Rattle.std.specs.Io.KnownBytes.{Consumes, IsAtEnd};
+
+use crate::{Failed, LineErr, Source};
+
+/// Drops octets from the beginning of a buffer.
+pub(crate) fn discard_front(buffer: &mut Vec<u8>, n: usize)
+    requires { n ≤ length buffer.old.items }
+    ensures { buffer.new.items ≡ drop n buffer.old.items }
+{
+    buffer.drain(..n);
+}
+
+/// Reads once, after what the buffer holds.
+pub(crate) fn read_behind<S: Source>(
+    source: &mut S,
+    piece: &mut [u8],
+    buffer: &mut Vec<u8>,
+) -> Result<usize, LineErr>
+    requires { length piece.old ≤ 65536 }
+    ensures kept { take (length buffer.old.items) buffer.new.items ≡ buffer.old.items }
+    ensures got { Consumes (S.left source.old) (S.left source.new)
+        (drop (length buffer.old.items) buffer.new.items) }
+    ensures count { IfOk result (λ n. (length buffer.new.items ≡ length buffer.old.items + n)
+        × (n ≤ length piece.old) × (n ≤ 65536)) }
+    ensures none { OnErr result (buffer.new.items ≡ buffer.old.items) }
+    ensures end { IfOk result (λ n. n ≡ 0 → 0 < length piece.old → IsAtEnd (S.left source.new)) }
+    ensures later { S.faults source.old ≤ S.faults source.new }
+    ensures told { result ≢ Err LineErr.Failed → S.faults source.old ≡ S.faults source.new }
+    ensures failed { result ≡ Err LineErr.Failed → Rose (S.faults source.old) (S.faults source.new) }
+    ensures too_much { result ≢ Err LineErr.TooMuch }
+{
+    if buffer.reserve(piece.len()).is_err() {
+        return Err(LineErr::NoMemory);
+    }
+    match source.read(piece) {
+        Ok(count) => match buffer.extend_from_slice(&piece[..count]) {
+            Ok(()) => Ok(count),
+            Err(_) => Err(LineErr::NoMemory),
+        },
+        Err(Failed) => Err(LineErr::Failed),
+    }
+}
