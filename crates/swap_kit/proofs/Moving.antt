@@ -57,7 +57,8 @@ first_start w at is a = at_width (λ n. at % n ≡ 0) (omega arith) (omega arith
 
 -- ---- octets in the place of others, after those that are swapped
 
-pub put_next : (a b r : List ℕ) (at n : ℕ) → length a ≡ at → length b ≡ n → take at (a ++ r) ++ (b ++ drop (at + n) (a ++ r)) ≡ (a ++ b) ++ drop n r
+pub put_next : (a b r : List ℕ) (at n : ℕ) → length a ≡ at → length b ≡ n
+    → take at (a ++ r) ++ (b ++ drop (at + n) (a ++ r)) ≡ (a ++ b) ++ drop n r
 put_next a b r at n la lb =
     let past : drop (at + n) (a ++ r) ≡ drop n r = sym (drop-drop n at (a ++ r)) ∙ ap (drop n) (drop_at a r at la) in
     rw (past, take_at a r at la) (sym (append_assoc a b (drop n r)))
@@ -67,7 +68,8 @@ wholes w at image within whole = ap (λ z. z % w) (length-take-le at image withi
 
 -- n octets more
 pub more : (w at n : ℕ) (image old : List ℕ) → IsSwapWidth w → at % w ≡ 0 → n % w ≡ 0 → at + n ≤ length image
-    → take at (swapped_to w at image old) ++ (swapped w (chunk at n image) ++ drop (at + n) (swapped_to w at image old)) ≡ swapped_to w (at + n) image old
+    → take at (swapped_to w at image old) ++ (swapped w (chunk at n image) ++ drop (at + n) (swapped_to w at image old))
+    ≡ swapped_to w (at + n) image old
 more w at n image old is start step within =
     let a = take at image in
     let b = chunk at n image in
@@ -78,15 +80,18 @@ more w at n image old is start step within =
     put_next (swapped w a) (swapped w b) (drop at old) at n swapped_a swapped_b
     ∙ (rw (drop-drop n at old, take-add at n image) (ap (λ z. z ++ drop (at + n) old) (sym (swapped-append w a b is (ap (λ z. z % w) la ∙ start)))))
 
-length-swapped_to : (w at : ℕ) (image old : List ℕ) → IsSwapWidth w → at % w ≡ 0 → at ≤ length image → length old ≡ length image → length (swapped_to w at image old) ≡ length image
+length-swapped_to : (w at : ℕ) (image old : List ℕ) → IsSwapWidth w → at % w ≡ 0 → at ≤ length image → length old ≡ length image
+    → length (swapped_to w at image old) ≡ length image
 length-swapped_to w at image old is start within room =
     let la : length (take at image) ≡ at = length-take-le at image within in
     let lb : length (swapped w (take at image)) ≡ at = length-swapped w (take at image) is (ap (λ z. z % w) la ∙ start) ∙ la in
     length-append (swapped w (take at image)) (drop at old) ∙ omega (arith, length-drop at old)
 
 -- a vector more
-pub more_vectors : (w k : ℕ) (lanes image old : List ℕ) → IsSwapWidth w → SwapsLanes w lanes → (k + 1) * 16 ≤ length image → length old ≡ length image → (now new : List ℕ)
-    → now ≡ swapped_to w (k * 16) image old → new ≡ put_chunk (k * 16) now (swz_l w8 16 (chunk (k * 16) 16 image) 0 lanes) → new ≡ swapped_to w ((k + 1) * 16) image old
+pub more_vectors : (w k : ℕ) (lanes image old : List ℕ) → IsSwapWidth w → SwapsLanes w lanes → (k + 1) * 16 ≤ length image
+    → length old ≡ length image → (now new : List ℕ) → now ≡ swapped_to w (k * 16) image old
+    → new ≡ put_chunk (k * 16) now (swz_l w8 16 (chunk (k * 16) 16 image) 0 lanes)
+    → new ≡ swapped_to w ((k + 1) * 16) image old
 more_vectors w k lanes image old is moves within room now new so_far put =
     let at : ℕ = k * 16 in
     let next : (k + 1) * 16 ≡ at + 16 = omega arith in
@@ -122,13 +127,15 @@ pub begun : (w : ℕ) (image old : List ℕ) → IsSwapWidth w → old ≡ swapp
 begun w image old is = ap (λ z. z ++ old) (sym (swapped-none w is))
 
 -- all is swapped
-pub ended : (w at : ℕ) (image old new : List ℕ) → new ≡ swapped_to w at image old → at ≡ length image → length old ≡ length image → new ≡ swapped w image
+pub ended : (w at : ℕ) (image old new : List ℕ) → new ≡ swapped_to w at image old → at ≡ length image → length old ≡ length image
+    → new ≡ swapped w image
 ended w at image old new so there room =
     so ∙ ap (λ n. swapped_to w n image old) (there ∙ sym room) ∙ ap (λ z. swapped w (take z image) ++ drop (length old) old) room
     ∙ rw (take_all (length image) image (omega arith), drop_all (length old) old (omega arith)) (append-nil (swapped w image))
 
 -- the first octets of a row that is swapped up to a place
-pub before : (w at : ℕ) (image old new : List ℕ) → IsSwapWidth w → at % w ≡ 0 → at ≤ length image → new ≡ swapped_to w at image old → take at new ≡ swapped w (take at image)
+pub before : (w at : ℕ) (image old new : List ℕ) → IsSwapWidth w → at % w ≡ 0 → at ≤ length image → new ≡ swapped_to w at image old
+    → take at new ≡ swapped w (take at image)
 before w at image old new is start within so =
     let la : length (take at image) ≡ at = length-take-le at image within in
     ap (take at) so ∙ take_at (swapped w (take at image)) (drop at old) at (length-swapped w (take at image) is (ap (λ z. z % w) la ∙ start) ∙ la)
