@@ -1,4 +1,4 @@
--- The arm that is found stands before the node.
+-- The arm that is found comes before the node.
 use Rattle.std.proofs.Common.{◌≡◌, ℕ, ◌<◌, ℤ, List, [], ◌∷◌, Option, None, Some, int_eq, Bool, true, false, cond}
 use Rattle.mint.specs.Types.{ArmsBelow, IsBelow}
 use Rattle.mint.specs.Arms.{arm_found}
@@ -9,7 +9,8 @@ below_at true j rest k i e h more =
     rw same at h
 below_at false j rest k i e h more = more e
 
-pub arm_below : (arms : List (ℤ × ℕ)) (o : Option ℕ) (n : ℤ) (k i : ℕ) → arm_found arms o n ≡ Some i → ArmsBelow k arms → IsBelow k o → i < k
+pub arm_below : (arms : List (ℤ × ℕ)) (o : Option ℕ) (n : ℤ) (k i : ℕ) → arm_found arms o n ≡ Some i → ArmsBelow k arms → IsBelow k o
+    → i < k
 arm_below [] None n k i e h j = absurd cc
 arm_below [] (Some m) n k i e h j =
     let same : m ≡ i = cc in

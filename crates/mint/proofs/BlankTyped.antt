@@ -115,7 +115,8 @@ mutual
   blanks_are_of no_fields h = tt
   blanks_are_of (field t ts) h = (blank_is_of t h.0, blanks_are_of ts h.1)
 
-  blank_arm_is_of : (s : Scalar) (arms : Arms) → is_labelled s ≡ true → are_arms s arms ≡ true → ArmsSound arms → IsOf (choice_type s arms) (blank_arm s arms)
+  blank_arm_is_of : (s : Scalar) (arms : Arms) → is_labelled s ≡ true → are_arms s arms ≡ true → ArmsSound arms
+      → IsOf (choice_type s arms) (blank_arm s arms)
   blank_arm_is_of s no_other labelled armed h = absurd (no_arms s armed)
   blank_arm_is_of s (others t) labelled armed h = (blank_is_scalar s labelled, blank_is_of t h)
   blank_arm_is_of s (arm_type n t arms) labelled armed h = (first_tagged s n t arms armed, rw (same n) (blank_is_of t h.0))

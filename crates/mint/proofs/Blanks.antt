@@ -39,7 +39,9 @@ zero_in kind.U64 = refl
 zero_in kind.Bool = refl
 
 -- what was made so far is all where nothing is left
-pub all_made : (F : List ℕ → List Val) (ws : List Val) (xs ys : List ℕ) (i : ℕ) → xs ≡ ys → length xs ≤ i → F [] ≡ [] → ws ++ F (drop i xs) ≡ F xs → ws ≡ F ys
+pub all_made : (F : List ℕ → List Val) (ws : List Val) (xs ys : List ℕ) (i : ℕ) → xs ≡ ys → length xs ≤ i → F [] ≡ []
+    → ws ++ F (drop i xs) ≡ F xs
+    → ws ≡ F ys
 all_made F ws xs ys i same h none is =
     let end : F (drop i xs) ≡ [] = ap F (drop_of_length-le xs h) ∙ none in
     sym (append-nil ws) ∙ ap (λ z. ws ++ z) (sym end) ∙ is ∙ ap F same
@@ -49,13 +51,16 @@ pub arm_made : (r : Result Value NoMemory) (v w : Val) → IfOk r (λ x. seen x 
 arm_made (Ok x) v w h is = h ∙ sym is
 arm_made (Err e) v w h is = tt
 
-pub first_made : (r : Result Value NoMemory) (ts : List Ty) (arms : List (ℤ × ℕ)) (o : Option ℕ) (s : Scalar) (a : ℤ × ℕ) (n : ℤ) (x : Val) → IfOk r (λ v. seen v ≡ arm n x) → Some a ≡ slice_get arms 0 → n ≡ a.0 → x ≡ blank (at ts a.1)
+pub first_made : (r : Result Value NoMemory) (ts : List Ty) (arms : List (ℤ × ℕ)) (o : Option ℕ) (s : Scalar) (a : ℤ × ℕ) (n : ℤ) (x : Val)
+    → IfOk r (λ v. seen v ≡ arm n x) → Some a ≡ slice_get arms 0 → n ≡ a.0 → x ≡ blank (at ts a.1)
     → IfOk r (λ v. seen v ≡ blank_arm s (arms_at ts arms o))
 first_made r ts arms o s a n x h is tag inner = arm_made r (arm n x) _ h (rw (tag, inner) (arms_first ts arms o s a is))
 
-pub other_made : (r : Result Value NoMemory) (ts : List Ty) (arms : List (ℤ × ℕ)) (o : Option ℕ) (s : Scalar) (i : ℕ) (n : ℤ) (x : Val) → IfOk r (λ v. seen v ≡ arm n x) → None ≡ slice_get arms 0 → o ≡ Some i → n ≡ blank_scalar s → x ≡ blank (at ts i)
+pub other_made : (r : Result Value NoMemory) (ts : List Ty) (arms : List (ℤ × ℕ)) (o : Option ℕ) (s : Scalar) (i : ℕ) (n : ℤ) (x : Val)
+    → IfOk r (λ v. seen v ≡ arm n x) → None ≡ slice_get arms 0 → o ≡ Some i → n ≡ blank_scalar s → x ≡ blank (at ts i)
     → IfOk r (λ v. seen v ≡ blank_arm s (arms_at ts arms o))
 other_made r ts arms o s i n x h none is tag inner = arm_made r (arm n x) _ h (rw (tag, inner) (ap (blank_arm s) (arms_none ts arms o none) ∙ ap (λ z. blank_arm s (others_at ts z)) is))
 
-pub none_made : (ts : List Ty) (arms : List (ℤ × ℕ)) (o : Option ℕ) (s : Scalar) → None ≡ slice_get arms 0 → o ≡ None → void ≡ blank_arm s (arms_at ts arms o)
+pub none_made : (ts : List Ty) (arms : List (ℤ × ℕ)) (o : Option ℕ) (s : Scalar) → None ≡ slice_get arms 0 → o ≡ None
+    → void ≡ blank_arm s (arms_at ts arms o)
 none_made ts arms o s none is = sym (ap (blank_arm s) (arms_none ts arms o none) ∙ ap (λ z. blank_arm s (others_at ts z)) is)

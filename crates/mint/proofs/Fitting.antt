@@ -24,8 +24,9 @@ are_many us (i ∷ is) (v ∷ vs) h = ap suc (are_many us is vs h.1)
 
 pub ruleset counting = (count-all_seen, are_many)
 
-pub items_are : (ty inner : Ty) (c : Count) (b : Bool) (vs : List Value) (v : Val) → ty ≡ items_type c inner → Some (all_seen vs) ≡ items_in v → Allows c (length vs)
-    → IsTrue b ↔ Each (IsOf inner) (all_seen vs) → IsTrue b ↔ IsOf ty v
+pub items_are : (ty inner : Ty) (c : Count) (b : Bool) (vs : List Value) (v : Val) → ty ≡ items_type c inner
+    → Some (all_seen vs) ≡ items_in v → Allows c (length vs) → IsTrue b ↔ Each (IsOf inner) (all_seen vs)
+    → IsTrue b ↔ IsOf ty v
 items_are ty inner c b vs (items ws) is seen_so allowed each =
     let same : all_seen vs ≡ ws = cc in
     rw (is, ← same, count-all_seen) ((λ r. (allowed, each.0 r)), (λ h. each.1 h.1))

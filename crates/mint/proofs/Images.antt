@@ -49,7 +49,8 @@ octets_many kind.U64 n = refl
 octets_many kind.Bool n = refl
 
 -- a signed number in its word
-signed : (w : Width) (read : ℕ → ℕ) (z : ℤ) → FitsSigned w z → read (cast_unsigned w z) ≡ cast_unsigned w z → cast_signed w (read (cast_unsigned w z)) ≡ z
+signed : (w : Width) (read : ℕ → ℕ) (z : ℤ) → FitsSigned w z → read (cast_unsigned w z) ≡ cast_unsigned w z
+    → cast_signed w (read (cast_unsigned w z)) ≡ z
 signed w read z fits same = ap (cast_signed w) same ∙ to_z-of_z w z fits
 
 -- a number of the kind in its word
@@ -84,7 +85,8 @@ one_octet k (a ∷ []) w len oct = let lt : a < 256 = oct 0 in ap (λ z. z ∷ [
 one_octet k (a ∷ b ∷ o) w len oct = absurd (omega arith)
 
 -- a word below its span, of which the signed number has the same word
-turned : (w : Width) (m : ℕ) (o : List ℕ) → cast_unsigned w (cast_signed w m) ≡ m → to_le_bytes w m ≡ o → to_le_bytes w (cast_unsigned w (cast_signed w m)) ≡ o
+turned : (w : Width) (m : ℕ) (o : List ℕ) → cast_unsigned w (cast_signed w m) ≡ m → to_le_bytes w m ≡ o
+    → to_le_bytes w (cast_unsigned w (cast_signed w m)) ≡ o
 turned w m o same is = ap (to_le_bytes w) same ∙ is
 
 below_2 : (o : List ℕ) → AreOctets o → from_le_bytes w16 o < 65536
@@ -143,7 +145,8 @@ low_8 h y =
     cc
 
 -- a word as a signed number is in the range of the kind
-signed_ranged : (k : Kind) (half m : ℕ) → above k ≡ half → under k ≡ half → m < half + half → in_range k (cond (ltb m half) (pos m) (negsuc (half + half - suc m))) ≡ true
+signed_ranged : (k : Kind) (half m : ℕ) → above k ≡ half → under k ≡ half → m < half + half
+    → in_range k (cond (ltb m half) (pos m) (negsuc (half + half - suc m))) ≡ true
 signed_ranged k half m up down lt =
     elim (cases_lt m half) [ inl less ↦ rw (lt-ltb m half less, up) (lt-ltb m half less) | inr more ↦ rw (le-ltb m half more, down) (lt-ltb (half + half - suc m) half (omega arith)) ]
 
@@ -171,7 +174,8 @@ joined : (a b : Bool) → IsTrue a → IsTrue b → IsTrue (a && b)
 joined true b g h = h
 joined false b g h = absurd cc
 
-pub ranged-append : (k : Kind) (ns ms : List ℤ) → IsTrue (list_all (in_range k) ns) → IsTrue (list_all (in_range k) ms) → IsTrue (list_all (in_range k) (ns ++ ms))
+pub ranged-append : (k : Kind) (ns ms : List ℤ) → IsTrue (list_all (in_range k) ns) → IsTrue (list_all (in_range k) ms)
+    → IsTrue (list_all (in_range k) (ns ++ ms))
 ranged-append k [] ms g h = h
 ranged-append k (n ∷ ns) ms g h = let s = split (in_range k n) (list_all (in_range k) ns) g in joined (in_range k n) _ s.0 (ranged-append k ns ms s.1 h)
 
@@ -201,7 +205,8 @@ numbers-none kind.U64 = refl
 numbers-none kind.Bool = refl
 
 -- numbers are read back from their image
-numbers-behind : (k : Kind) (ns : List ℤ) (o : List ℕ) → IsTrue (list_all (in_range k) ns) → numbers_of k (image_of k ns ++ o) ≡ ns ++ numbers_of k o
+numbers-behind : (k : Kind) (ns : List ℤ) (o : List ℕ) → IsTrue (list_all (in_range k) ns)
+    → numbers_of k (image_of k ns ++ o) ≡ ns ++ numbers_of k o
 numbers-behind k [] o h = refl
 numbers-behind k (n ∷ ns) o h =
     let s = split (in_range k n) (list_all (in_range k) ns) h in
@@ -261,7 +266,7 @@ IsImage-numbers k ns h =
 pub IsImage-none : (k : Kind) → IsImage k []
 IsImage-none k = IsImage-numbers k [] refl
 
--- the numbers of an image and of what is put behind it
+-- the numbers of an image and of what is put after it
 pub numbers-append : (k : Kind) (o p : List ℕ) → IsImage k o → numbers_of k (o ++ p) ≡ numbers_of k o ++ numbers_of k p
 numbers-append k o p is = ap (λ z. numbers_of k (z ++ p)) (sym is.whole) ∙ numbers-behind k (numbers_of k o) p is.ranged
 
@@ -279,17 +284,20 @@ IsImage-one k n h = subst (IsImage k) (append-nil (octets_of k n)) (IsImage-numb
 pub numbers-one : (k : Kind) (n : ℤ) → IsTrue (in_range k n) → numbers_of k (octets_of k n) ≡ n ∷ []
 numbers-one k n h = ap (numbers_of k) (sym (append-nil (octets_of k n))) ∙ numbers-image k (n ∷ []) (joined (in_range k n) true h refl)
 
--- ---- a piece put behind an image
+-- ---- a piece put after an image
 
-pub IsImage-kept : (k : Kind) (old piece new : List ℕ) (r : Result (Unit {0}) NoMemory) → OnOk r (new ≡ old ++ piece) → OnErr r (new ≡ old) → IsImage k old → IsImage k piece → IsImage k new
+pub IsImage-kept : (k : Kind) (old piece new : List ℕ) (r : Result (Unit {0}) NoMemory) → OnOk r (new ≡ old ++ piece)
+    → OnErr r (new ≡ old) → IsImage k old → IsImage k piece
+    → IsImage k new
 IsImage-kept k old piece new (Ok x) ok err is also = subst (IsImage k) (sym ok) (IsImage-append k old piece is also)
 IsImage-kept k old piece new (Err x) ok err is also = subst (IsImage k) (sym err) is
 
 abbrev row_of : Kind → List ℤ → Numbers
 row_of k ns = record { kind = k; numbers = ns }
 
--- a row behind which a piece was put
-pub grown : (k : Kind) (old piece new : List ℕ) (r : Result (Unit {0}) NoMemory) (was : Numbers) (ms : List ℤ) → OnOk r (new ≡ old ++ piece) → IsImage k old → row_of k (numbers_of k old) ≡ was → numbers_of was.kind piece ≡ ms
+-- a row to which a piece was appended
+pub grown : (k : Kind) (old piece new : List ℕ) (r : Result (Unit {0}) NoMemory) (was : Numbers) (ms : List ℤ)
+    → OnOk r (new ≡ old ++ piece) → IsImage k old → row_of k (numbers_of k old) ≡ was → numbers_of was.kind piece ≡ ms
     → OnOk r (row_of k (numbers_of k new) ≡ row_of was.kind (was.numbers ++ ms))
 grown k old piece new (Ok x) was ms ok is same also =
     let P : Numbers → Type 0 = λ (w : Numbers). numbers_of w.kind piece ≡ ms → row_of k (numbers_of k new) ≡ row_of w.kind (w.numbers ++ ms) in
@@ -322,7 +330,9 @@ low_octets kind.U16 (negsuc n) h = absurd (omega (arith, ltb-true n 0 h))
 low_octets kind.U32 (negsuc n) h = absurd (omega (arith, ltb-true n 0 h))
 low_octets kind.U64 (negsuc n) h = absurd (omega (arith, ltb-true n 0 h))
 
-pub octets_pushed : (k : Kind) (n : ℤ) (w : ℕ) (o : List ℕ) → w ≡ width k → o ≡ to_le_bytes w128 (cast_unsigned w128 n) → IsTrue (in_range k n) → take w o ≡ octets_of k n
+pub octets_pushed : (k : Kind) (n : ℤ) (w : ℕ) (o : List ℕ) → w ≡ width k → o ≡ to_le_bytes w128 (cast_unsigned w128 n)
+    → IsTrue (in_range k n)
+    → take w o ≡ octets_of k n
 octets_pushed k n w o wide is h = rw (wide, is) (low_octets k n h)
 
 -- ---- texts
@@ -332,7 +342,8 @@ zero_test zero = refl
 zero_test (suc n) = grind (arith, nat_tests)
 
 -- a text is an image without the octet 0
-pub letters_are : (k : Kind) (ns : List ℤ) → k ≡ kind.Char → IsTrue (list_all (in_range k) ns) → list_all (λ o. not (o == 0)) (image_of k ns) ≡ list_all is_letter ns
+pub letters_are : (k : Kind) (ns : List ℤ) → k ≡ kind.Char → IsTrue (list_all (in_range k) ns)
+    → list_all (λ o. not (o == 0)) (image_of k ns) ≡ list_all is_letter ns
 unfolding octets_of
 letters_are kind.Char [] e h = refl
 letters_are kind.Char (pos n ∷ ns) e h =

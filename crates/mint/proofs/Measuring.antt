@@ -1,4 +1,4 @@
--- What a table keeps of its nodes stays true when a node is put behind them.
+-- What a table keeps of its nodes stays true when a node is put after them.
 use Rattle.std.proofs.Common.{FitsSigned, pos, negsuc, ◌≡◌, Bool, true, false, cond, ltb, nat_lt, nat_le, ◌&&◌, not, ℕ, zero, suc, ◌+◌, ◌*◌, ◌<◌, ◌≤◌, ℤ, List, [], ◌∷◌, ◌++◌, length, get_or, map, Option, None, Some, option_map, slice_get, refl, sym, ap, ◌∙◌, ◌⊎◌, inl, inr, length-append, suc-mul, arith}
 use Rattle.std.specs.List.{list_all, AllByRecursion}
 use Rattle.std.proofs.lemmas.Bool.{ltb-true, ltb-false, leb-false, lt-ltb}
@@ -28,7 +28,10 @@ pub record Taken (t : Ty) : Type 0 where
   pub shallow : depth t ≤ 32
   pub light : weight (blank t) ≤ 1048576
 
-five : (a b c d e : Bool) → cond a (Some err.Kind) (cond b (Some err.Empty) (cond c (Some err.Labels) (cond d (Some err.Deep) (cond e (Some err.Heavy) None)))) ≡ None → (a ≡ false) × (b ≡ false) × (c ≡ false) × (d ≡ false) × (e ≡ false)
+five : (a b c d e : Bool)
+    → cond a (Some err.Kind) (cond b (Some err.Empty) (cond c (Some err.Labels) (cond d (Some err.Deep) (cond e (Some err.Heavy) None))))
+    ≡ None
+    → (a ≡ false) × (b ≡ false) × (c ≡ false) × (d ≡ false) × (e ≡ false)
 five true b c d e h = absurd cc
 five false true c d e h = absurd cc
 five false false true d e h = absurd cc
@@ -89,7 +92,8 @@ pub record Admitted (nodes : List Node) (n : Node) : Type 0 where
   pub below : HasChildrenBelow (length nodes) n
   pub level : level_refusal (level (unfolded nodes) n) ≡ None
 
-two : (a b : Bool) (r : Option MintErr) → cond a (Some err.Many) (cond (not b) (Some err.Forward) r) ≡ None → (a ≡ false) × (b ≡ true) × (r ≡ None)
+two : (a b : Bool) (r : Option MintErr) → cond a (Some err.Many) (cond (not b) (Some err.Forward) r) ≡ None
+    → (a ≡ false) × (b ≡ true) × (r ≡ None)
 two true b r h = absurd cc
 two false false r h = absurd cc
 two false true r h = (refl, refl, h)
@@ -110,12 +114,15 @@ fields_sound : (ts : List Ty) (is : List ℕ) → AllByRecursion IsSound ts → 
 fields_sound ts [] all below = tt
 fields_sound ts (i ∷ is) all below = (sound_at ts i all below.0, fields_sound ts is all below.1)
 
-arms_sound : (ts : List Ty) (arms : List (ℤ × ℕ)) (o : Option ℕ) → AllByRecursion IsSound ts → ArmsBelow (length ts) arms → IsBelow (length ts) o → ArmsSound (arms_at ts arms o)
+arms_sound : (ts : List Ty) (arms : List (ℤ × ℕ)) (o : Option ℕ) → AllByRecursion IsSound ts
+    → ArmsBelow (length ts) arms → IsBelow (length ts) o
+    → ArmsSound (arms_at ts arms o)
 arms_sound ts [] None all below last = tt
 arms_sound ts [] (Some i) all below last = sound_at ts i all last
 arms_sound ts (a ∷ arms) o all below last = (sound_at ts a.1 all below.0, arms_sound ts arms o all below.1 last)
 
-level_sound : (ts : List Ty) (n : Node) → AllByRecursion IsSound ts → HasChildrenBelow (length ts) n → level_refusal (level ts n) ≡ None → IsSound (level ts n)
+level_sound : (ts : List Ty) (n : Node) → AllByRecursion IsSound ts → HasChildrenBelow (length ts) n → level_refusal (level ts n) ≡ None
+    → IsSound (level ts n)
 level_sound ts node.Void all below h = h
 level_sound ts (node.Num x) all below h = h
 level_sound ts (node.Enum ns) all below h = h
@@ -141,7 +148,8 @@ pub length-unfolded : (nodes : List Node) → length (unfolded nodes) ≡ length
 unfolding unfolded
 length-unfolded nodes = omega (arith, length_from [] nodes)
 
-pub found : (nodes : List Node) (n m : Node) (k : ℕ) → slice_get (nodes ++ n ∷ []) k ≡ Some m → (slice_get nodes k ≡ Some m) ⊎ ((k ≡ length nodes) × (n ≡ m))
+pub found : (nodes : List Node) (n m : Node) (k : ℕ) → slice_get (nodes ++ n ∷ []) k ≡ Some m
+    → (slice_get nodes k ≡ Some m) ⊎ ((k ≡ length nodes) × (n ≡ m))
 found [] n m zero is = inr (refl, cc)
 found [] n m (suc k) is = absurd cc
 found (x ∷ nodes) n m zero is = inl is
@@ -155,7 +163,9 @@ pub measured_none : AreMeasured [] []
 unfolding unfolded unfolded_from
 measured_none = record { table = λ k n is. absurd cc; many = omega arith; measured = refl; sound = tt }
 
-pub measured-push : (nodes : List Node) (sizes : List Size) (n : Node) (s : Size) → AreMeasured nodes sizes → refusal nodes n ≡ None → s ≡ size_of (level (unfolded nodes) n) → AreMeasured (nodes ++ n ∷ []) (sizes ++ s ∷ [])
+pub measured-push : (nodes : List Node) (sizes : List Size) (n : Node) (s : Size) → AreMeasured nodes sizes
+    → refusal nodes n ≡ None → s ≡ size_of (level (unfolded nodes) n)
+    → AreMeasured (nodes ++ n ∷ []) (sizes ++ s ∷ [])
 measured-push nodes sizes n s are h is =
     let a : Admitted nodes n = admitted nodes n h in
     let t : Ty = level (unfolded nodes) n in
@@ -168,7 +178,9 @@ measured-push nodes sizes n s are h is =
     }
 
 -- the size that is kept of a node
-pub size_kept : {A : Type 0} (f : A → Node) (g : A → Size) (es : List A) (i : ℕ) (e : A) → AreMeasured (map f es) (map g es) → i < length es → e ≡ get_or es i e → g e ≡ size_of (type_at (map f es) i)
+pub size_kept : {A : Type 0} (f : A → Node) (g : A → Size) (es : List A) (i : ℕ) (e : A)
+    → AreMeasured (map f es) (map g es) → i < length es → e ≡ get_or es i e
+    → g e ≡ size_of (type_at (map f es) i)
 size_kept f g es i e are h is =
     let many : length (unfolded (map f es)) ≡ length es = length-unfolded (map f es) ∙ length-map es f in
     ap g is ∙ sym (get_or-map g es i e (g e) h) ∙ ap (λ z. get_or z i (g e)) are.measured
@@ -182,7 +194,8 @@ found_below [] i n is = absurd cc
 found_below (m ∷ nodes) zero n is = omega arith
 found_below (m ∷ nodes) (suc i) n is = let less = found_below nodes i n is in omega arith
 
-pub sound_found : (nodes : List Node) (sizes : List Size) (i : ℕ) (n : Node) → AreMeasured nodes sizes → slice_get nodes i ≡ Some n → IsSound (type_at nodes i)
+pub sound_found : (nodes : List Node) (sizes : List Size) (i : ℕ) (n : Node) → AreMeasured nodes sizes → slice_get nodes i ≡ Some n
+    → IsSound (type_at nodes i)
 sound_found nodes sizes i n are is = sound_at (unfolded nodes) i are.sound (rw (length-unfolded nodes) (found_below nodes i n is))
 
 at_sound : (ts : List Ty) (i : ℕ) → AllByRecursion IsSound ts → IsSound (at ts i)
@@ -200,7 +213,8 @@ get_there (d ∷ es) zero e h is = ap Some (sym is)
 get_there (d ∷ es) (suc i) e h is = get_there es i e (omega arith) is
 
 -- what is found at a place
-pub entry_there : {A : Type 0} (f : A → Node) (es fs : List A) (i : ℕ) (e : A) → es ≡ fs → true ≡ ltb i (length es) → e ≡ get_or es i e → slice_get (map f fs) i ≡ Some (f e)
+pub entry_there : {A : Type 0} (f : A → Node) (es fs : List A) (i : ℕ) (e : A) → es ≡ fs → true ≡ ltb i (length es) → e ≡ get_or es i e
+    → slice_get (map f fs) i ≡ Some (f e)
 entry_there f es fs i e same h is =
     rw (← same) (slice_get-map f es i ∙ ap (option_map f) (get_there es i e (ltb-true i (length es) (sym h)) is))
 
@@ -219,7 +233,8 @@ arms_below_at k [] i d below h = absurd (omega arith)
 arms_below_at k (a ∷ arms) zero d below h = below.0
 arms_below_at k (a ∷ arms) (suc i) d below h = arms_below_at k arms i d below.1 (omega arith)
 
-pub arms_first : (ts : List Ty) (arms : List (ℤ × ℕ)) (o : Option ℕ) (s : Scalar) (a : ℤ × ℕ) → Some a ≡ slice_get arms 0 → blank_arm s (arms_at ts arms o) ≡ arm a.0 (blank (at ts a.1))
+pub arms_first : (ts : List Ty) (arms : List (ℤ × ℕ)) (o : Option ℕ) (s : Scalar) (a : ℤ × ℕ) → Some a ≡ slice_get arms 0
+    → blank_arm s (arms_at ts arms o) ≡ arm a.0 (blank (at ts a.1))
 arms_first ts [] o s a is = absurd cc
 arms_first ts (b ∷ arms) o s a is = let same : a ≡ b = cc in rw same refl
 
@@ -237,7 +252,9 @@ weights-copies zero v = omega arith
 weights-copies (suc n) v = omega (arith, weights-copies n v, suc-mul n (weight v))
 
 -- whether arms are those of a tag
-pub are_arms_is : (s : Scalar) (ts : List Ty) (listed arms : List (ℤ × ℕ)) (o : Option ℕ) (b : Bool) → listed ≡ arms → b ≡ are_tagged s (map (λ a. a.0) listed) → are_arms s (arms_at ts arms o) ≡ (b && not (is_armless (arms_at ts arms o)))
+pub are_arms_is : (s : Scalar) (ts : List Ty) (listed arms : List (ℤ × ℕ)) (o : Option ℕ) (b : Bool) → listed ≡ arms
+    → b ≡ are_tagged s (map (λ a. a.0) listed)
+    → are_arms s (arms_at ts arms o) ≡ (b && not (is_armless (arms_at ts arms o)))
 are_arms_is s ts listed arms o b same is = rw (is, same, numbers_listed ts arms o) refl
 
 pub armed : (ts : List Ty) (arms : List (ℤ × ℕ)) (o : Option ℕ) → 0 < length arms → is_armless (arms_at ts arms o) ≡ false

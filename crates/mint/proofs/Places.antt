@@ -1,4 +1,4 @@
--- How many numbers an image has, and what stands where.
+-- How many numbers an image has, and what is where.
 use Rattle.std.proofs.Common.{◌≡◌, ℕ, zero, suc, ◌+◌, ◌-◌, ◌*◌, ◌/◌, ◌<◌, ◌≤◌, ℤ, List, [], ◌∷◌, length, take, drop, None, Some, slice_get, refl, sym, ap, ◌∙◌, arith}
 use Rattle.std.proofs.lemmas.List.{drop-drop}
 use Rattle.mint.specs.declared.kind.Kind.{Kind}
@@ -32,7 +32,8 @@ place_fits kind.Bool i l h = omega arith
 pub place_within : (k : Kind) (i l w : ℕ) → w ≡ width k → i < l / w → i * w + w ≤ l
 place_within k i l w e h = rw e (place_fits k i l (rw e at h))
 
-number_at : (k : Kind) (n : ℕ) (o : List ℕ) (i : ℕ) → i < n → slice_get (numbers_in k n o) i ≡ Some (number_in k (take (width k) (drop (i * width k) o)))
+number_at : (k : Kind) (n : ℕ) (o : List ℕ) (i : ℕ) → i < n
+    → slice_get (numbers_in k n o) i ≡ Some (number_in k (take (width k) (drop (i * width k) o)))
 unfolding numbers_in
 number_at k zero o i h = absurd (omega arith)
 number_at k (suc n) o zero h = let none : 0 ≡ 0 * width k = omega arith in ap (λ z. Some (number_in k (take (width k) (drop z o)))) none
@@ -41,7 +42,8 @@ number_at k (suc n) o (suc i) h =
     number_at k n (drop (width k) o) i (omega arith) ∙ ap (λ z. Some (number_in k (take (width k) z))) (drop-drop (i * width k) (width k) o ∙ ap (λ z. drop z o) next)
 
 -- the number at a place is that of its octets
-pub number_there : (k : Kind) (o : List ℕ) (i : ℕ) → i < length o / width k → slice_get (numbers_of k o) i ≡ Some (number_in k (take (width k) (drop (i * width k) o)))
+pub number_there : (k : Kind) (o : List ℕ) (i : ℕ) → i < length o / width k
+    → slice_get (numbers_of k o) i ≡ Some (number_in k (take (width k) (drop (i * width k) o)))
 unfolding numbers_of
 number_there k o i h = number_at k (length o / width k) o i h
 
@@ -54,12 +56,15 @@ pub number_past : (k : Kind) (o : List ℕ) (i : ℕ) → length o / width k ≤
 number_past k o i h = get_past (numbers_of k o) i (omega (arith, numbers_many k o))
 
 -- what is read at a place
-pub number_got : (k : Kind) (o : List ℕ) (ns : List ℤ) (i w : ℕ) (n : ℤ) → w ≡ width k → numbers_of k o ≡ ns → i < length o / w → n ≡ number_in k (take (i * w + w - i * w) (drop (i * w) o)) → Some n ≡ slice_get ns i
+pub number_got : (k : Kind) (o : List ℕ) (ns : List ℤ) (i w : ℕ) (n : ℤ) → w ≡ width k → numbers_of k o ≡ ns
+    → i < length o / w → n ≡ number_in k (take (i * w + w - i * w) (drop (i * w) o))
+    → Some n ≡ slice_get ns i
 number_got k o ns i w n e same h is =
     let wide : i * w + w - i * w ≡ w = omega arith in
     rw (← same, is, wide, e) (sym (number_there k o i (rw e at h)))
 
-pub none_got : (k : Kind) (o : List ℕ) (ns : List ℤ) (i w : ℕ) → w ≡ width k → numbers_of k o ≡ ns → length o / w ≤ i → None ≡ slice_get ns i
+pub none_got : (k : Kind) (o : List ℕ) (ns : List ℤ) (i w : ℕ) → w ≡ width k → numbers_of k o ≡ ns → length o / w ≤ i
+    → None ≡ slice_get ns i
 none_got k o ns i w e same h = rw (← same) (sym (number_past k o i (rw e at h)))
 
 pub number_missing : (ns : List ℤ) (i : ℕ) → slice_get ns i ≡ None → length ns ≤ i

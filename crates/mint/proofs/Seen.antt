@@ -9,7 +9,7 @@ seen-Some b = search (rules, the_lemmas)
 pub seen-Void : seen Void ≡ void
 seen-Void = search (rules, the_lemmas)
 
--- values behind values
+-- values after values
 abbrev pub joined : Vals → Vals → Vals
 joined no_more vs = vs
 joined (val v us) vs = val v (joined us vs)

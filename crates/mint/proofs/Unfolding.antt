@@ -20,7 +20,8 @@ others_agree : (k : ℕ) (ts us : List Ty) (o : Option ℕ) → AgreeBelow k ts 
 others_agree k ts us None same below = refl
 others_agree k ts us (Some i) same below = ap others (same i below)
 
-arms_agree : (k : ℕ) (ts us : List Ty) (arms : List (ℤ × ℕ)) (o : Option ℕ) → AgreeBelow k ts us → AllByRecursion (λ a. a.1 < k) arms → IsBelow k o
+arms_agree : (k : ℕ) (ts us : List Ty) (arms : List (ℤ × ℕ)) (o : Option ℕ) → AgreeBelow k ts us
+    → AllByRecursion (λ a. a.1 < k) arms → IsBelow k o
     → arms_at ts arms o ≡ arms_at us arms o
 arms_agree k ts us [] o same below last = others_agree k ts us o same last
 arms_agree k ts us (a ∷ arms) o same below last = rw (same a.1 below.0, arms_agree k ts us arms o same below.1 last) refl
@@ -37,7 +38,7 @@ level_agree k ts us (node.Items i c) same below = ap (items_type c) (same i belo
 level_agree k ts us (node.Choice t arms o) same below = ap (choice_type (scalar_of t)) (arms_agree k ts us arms o same below.0 below.1)
 level_agree k ts us (node.Maybe i) same below = ap maybe_type (same i below)
 
--- what stands there stays
+-- what is there stays
 stays : (ts : List Ty) (nodes : List Node) (i : ℕ) → i < length ts → at (unfolded_from ts nodes) i ≡ at ts i
 unfolding unfolded_from
 stays ts [] i h = refl
@@ -62,20 +63,23 @@ stands ts (m ∷ nodes) (suc k) n is below =
     let long : length more + k ≡ length ts + suc k = omega (arith, length-append ts (level ts m ∷ [])) in
     rw (← long) (stands more nodes k n is (rw (← long) at below))
 
-pub type_at-level : (nodes : List Node) (k : ℕ) (n : Node) → IsTable nodes → slice_get nodes k ≡ Some n → type_at nodes k ≡ level (unfolded nodes) n
+pub type_at-level : (nodes : List Node) (k : ℕ) (n : Node) → IsTable nodes → slice_get nodes k ≡ Some n
+    → type_at nodes k ≡ level (unfolded nodes) n
 unfolding unfolded
 type_at-level nodes k n table is = rw zero-add at (stands [] nodes k n is (rw zero-add (table k n is)))
 
-pub level_found : (nodes : List Node) (k : ℕ) (r : Option (Bor Node)) → IsTable nodes → option_copied r ≡ slice_get nodes k → IfSome r (λ n. type_at nodes k ≡ level (unfolded nodes) n.now)
+pub level_found : (nodes : List Node) (k : ℕ) (r : Option (Bor Node)) → IsTable nodes → option_copied r ≡ slice_get nodes k
+    → IfSome r (λ n. type_at nodes k ≡ level (unfolded nodes) n.now)
 level_found nodes k None table is = tt
 level_found nodes k (Some n) table is = type_at-level nodes k n.now table (sym is)
 
-pushed : (ts : List Ty) (nodes : List Node) (n : Node) → unfolded_from ts (nodes ++ n ∷ []) ≡ unfolded_from ts nodes ++ level (unfolded_from ts nodes) n ∷ []
+pushed : (ts : List Ty) (nodes : List Node) (n : Node)
+    → unfolded_from ts (nodes ++ n ∷ []) ≡ unfolded_from ts nodes ++ level (unfolded_from ts nodes) n ∷ []
 unfolding unfolded_from
 pushed ts [] n = refl
 pushed ts (m ∷ nodes) n = pushed (ts ++ level ts m ∷ []) nodes n
 
--- one more node behind a table
+-- one more node after a table
 pub unfolded-push : (nodes : List Node) (n : Node) → unfolded (nodes ++ n ∷ []) ≡ unfolded nodes ++ level (unfolded nodes) n ∷ []
 unfolding unfolded
 unfolded-push nodes n = pushed [] nodes n

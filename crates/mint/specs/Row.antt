@@ -26,7 +26,7 @@ number_from _ m = pos m
 unfoldable pub number_in : Kind → List ℕ → ℤ
 number_in k o = number_from k (from_le_bytes (word k) o)
 
--- the image of a list of numbers: their octets, one number behind the other
+-- the image of a list of numbers: their octets, one number after the other
 abbrev pub image_of : Kind → List ℤ → List ℕ
 image_of k [] = []
 image_of k (n ∷ ns) = octets_of k n ++ image_of k ns

@@ -81,7 +81,7 @@ level_refusal t =
     else (if nat_lt heaviest_blank (weight (blank t)) then Some err.Heavy
     else None))))
 
--- a child that stands before the node of number k
+-- a child that comes before the node of number k
 abbrev pub is_below : ℕ → Option ℕ → Bool
 is_below k None = true
 is_below k (Some i) = nat_lt i k

@@ -1,25 +1,24 @@
 //! Adding a node to a table.
 
-ghost use Rattle.std.specs.Prelude.{List, map, ◌≢◌, ◌≡◌, ◌∷◌, [], ◌++◌, ◌<◌, ◌≤◌, ◌+◌, length, IfOk, IfErr, OnOk, OnErr, None, Some, nat_lt, nat_le, ◌&&◌, true};
+ghost use Rattle.std.specs.Prelude.{◌≢◌, ◌≡◌, ◌∷◌, [], ◌++◌, ◌<◌, ◌≤◌, ◌+◌, length, IfOk, IfErr, OnOk, OnErr, None, Some, nat_lt};
 ghost use Rattle.std.specs.List.{list_all};
-ghost use Rattle.kit_base.specs.Limits.{deepest, most_labels};
+ghost use Rattle.kit_base.specs.Limits.{deepest};
 ghost use Rattle.mint.specs.Blank.{blank, depth, fields_depth, arms_depth, least, blanks, blank_arm};
-ghost use Rattle.mint.specs.Kinds.{in_range};
 ghost use Rattle.mint.specs.Measured.{size_of};
-ghost use Rattle.mint.specs.Sound.{is_unfit, is_empty, is_mislabelled, is_zero, is_labelled, are_labels, are_arms, are_tagged, is_armless, rise_from, is_below, children_below, refusal, level_refusal};
-ghost use Rattle.mint.specs.Typed.{is_scalar};
-ghost use Rattle.mint.specs.Types.{Ty, Scalar, level, type_at, unfolded, fields_at, arms_at, scalar_of, HasChildrenBelow, AreBelow, ArmsBelow, IsBelow};
+ghost use Rattle.mint.specs.Sound.{is_unfit, is_empty, is_mislabelled, is_zero, is_below, children_below, refusal, level_refusal};
+ghost use Rattle.mint.specs.Types.{Scalar, level, unfolded, fields_at, arms_at, HasChildrenBelow, AreBelow, ArmsBelow, IsBelow};
 ghost use Rattle.mint.specs.Values.{weight, weights};
 
 use crate::errors::MintErr;
 use crate::kind::{Count, Kind};
-use crate::node::{Arms, Labels, Node, NodeIds, Tag};
+use crate::labelling::{are_arms, are_labels, is_labelled};
+use crate::node::{Arms, Node, NodeIds};
 use crate::size::Size;
 use crate::table::{Mint, NodeId};
-use kit_base::limits::{DEEPEST, HEAVIEST_BLANK, MOST_LABELS, MOST_NODES};
+use kit_base::limits::{DEEPEST, HEAVIEST_BLANK, MOST_NODES};
 
 impl Mint {
-    /// Puts a node behind the others, and gives its number. Only children that stand before it
+    /// Appends a node, and gives its number. Only children that come before it
     /// count for its depth and its blank value.
     pub fn add(&mut self, node: Node) -> Result<NodeId, MintErr>
         ensures ok { OnOk result (self.new ≡ self.old ++ node ∷ []) }
@@ -101,7 +100,7 @@ impl Mint {
         }
     }
 
-    /// Whether a node's labels or arms are no labels or arms.
+    /// Whether a node may not have its labels or its arms.
     fn is_mislabelled(&self, node: &Node) -> bool
         ensures { result ≡ is_mislabelled (level (unfolded self.now) node.now) }
     {
@@ -246,106 +245,4 @@ fn is_below(other: Option<NodeId>, id: NodeId) -> bool
         Some(i) => i < id,
         None => true,
     }
-}
-
-/// Whether a tag's labels are labels.
-fn is_labelled(tag: &Tag) -> bool
-    ensures { result ≡ is_labelled (scalar_of tag.now) }
-{
-    match tag {
-        Tag::Num(_) => true,
-        Tag::Enum(labels) => are_labels(labels),
-    }
-}
-
-/// Whether an enum may have the labels.
-fn are_labels(labels: &Labels) -> bool
-    ensures { result ≡ are_labels labels.now }
-{
-    are_ranged(labels.as_slice());
-    are_few_rising(labels)
-}
-
-/// Labels are in range by their type. That is known of a label once it is read, and the loop is for
-/// nothing else.
-#[tactic(auto, using(crate::proofs::Measuring::ranged_labels))]
-fn are_ranged(labels: &[i32])
-    ensures { list_all (in_range Kind.I32) labels.now ≡ true }
-{
-    for label in labels {
-        let _label = *label;
-    }
-}
-
-fn are_few_rising(labels: &Labels) -> bool
-    ensures { result ≡ (nat_lt 0 (length labels.now) && nat_le (length labels.now) most_labels && rise_from None labels.now) }
-{
-    labels.len() > 0 && labels.len() <= MOST_LABELS && are_rising(labels.as_slice())
-}
-
-fn are_rising(labels: &[i32]) -> bool
-    ensures { result ≡ rise_from None labels.now }
-{
-    let mut last = None;
-    for label in labels {
-        if let Some(before) = last {
-            if before >= *label {
-                return false;
-            }
-        }
-        last = Some(*label);
-    }
-    true
-}
-
-/// Whether a choice of the tag may have the arms.
-fn are_arms(tag: &Tag, arms: &Arms, other: Option<NodeId>) -> bool
-    ensures { (ts : List Ty) → result ≡ are_arms (scalar_of tag.now) (arms_at ts arms.now other) }
-{
-    are_tagged(tag, arms.as_slice()) && !is_armless(arms, other)
-}
-
-fn is_armless(arms: &Arms, other: Option<NodeId>) -> bool
-    ensures { (ts : List Ty) → result ≡ is_armless (arms_at ts arms.now other) }
-{
-    arms.len() == 0 && other.is_none()
-}
-
-/// Whether arms list numbers that a choice of the tag may list.
-fn are_tagged(tag: &Tag, arms: &[(i128, NodeId)]) -> bool
-    ensures { result ≡ are_tagged (scalar_of tag.now) (map (λ a. a.0) arms.now) }
-{
-    arms.len() <= MOST_LABELS && are_rising_in(tag, arms)
-}
-
-fn are_rising_in(tag: &Tag, arms: &[(i128, NodeId)]) -> bool
-    ensures { result ≡ (rise_from None (map (λ a. a.0) arms.now) && list_all (is_scalar (scalar_of tag.now)) (map (λ a. a.0) arms.now)) }
-{
-    are_arms_rising(arms) && are_in_tag(tag, arms)
-}
-
-fn are_arms_rising(arms: &[(i128, NodeId)]) -> bool
-    ensures { result ≡ rise_from None (map (λ a. a.0) arms.now) }
-{
-    let mut last = None;
-    for (n, _) in arms {
-        if let Some(before) = last {
-            if before >= *n {
-                return false;
-            }
-        }
-        last = Some(*n);
-    }
-    true
-}
-
-fn are_in_tag(tag: &Tag, arms: &[(i128, NodeId)]) -> bool
-    ensures { result ≡ list_all (is_scalar (scalar_of tag.now)) (map (λ a. a.0) arms.now) }
-{
-    for (n, _) in arms {
-        if !tag.has(*n) {
-            return false;
-        }
-    }
-    true
 }

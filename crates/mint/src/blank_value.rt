@@ -94,7 +94,8 @@ fn blank_arm(
     requires id { id < length mint.now }
     requires below { ArmsBelow id arms.now }
     requires other { IsBelow id other }
-    ensures { IfOk result (λ v. seen v ≡ blank_arm (scalar_of tag.now) (arms_at (unfolded mint.now) arms.now other)) }
+    ensures { IfOk result
+        (λ v. seen v ≡ blank_arm (scalar_of tag.now) (arms_at (unfolded mint.now) arms.now other)) }
 {
     match arms.get(0) {
         Some((n, item)) => Value::arm(alloc, *n, blank_of(alloc, mint, *item)?),

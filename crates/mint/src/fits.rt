@@ -168,7 +168,7 @@ fn is_of_arm(mint: &Mint, id: u32, arms: &Arms, other: Option<u32>, n: i128, inn
     }
 }
 
-/// What is left of a weight behind a value, if the value has no more.
+/// What is left of a weight after a value, if the value has no more.
 #[cycle(weigh)]
 fn take_weight(left: u32, value: &Value) -> Option<u32>
     ensures some { IfSome result (λ n. n + weight (seen value.now) ≡ left) }

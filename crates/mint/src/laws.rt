@@ -16,9 +16,12 @@ use crate::kind::Kind;
 
 /// Numbers and their image give each other back.
 pub fn images_are_exact()
-    ensures numbers { (k : Kind) (ns : List ℤ) → IsTrue (list_all (in_range k) ns) → numbers_of k (image_of k ns) ≡ ns }
-    ensures image { (k : Kind) (o : List ℕ) → k ≢ Kind.Bool → length o % width k ≡ 0 → AllByRecursion (λ b. b < 256) o → image_of k (numbers_of k o) ≡ o }
-    ensures ranged { (k : Kind) (o : List ℕ) → k ≢ Kind.Bool → length o % width k ≡ 0 → AllByRecursion (λ b. b < 256) o → IsTrue (list_all (in_range k) (numbers_of k o)) }
+    ensures numbers { (k : Kind) (ns : List ℤ) → IsTrue (list_all (in_range k) ns)
+        → numbers_of k (image_of k ns) ≡ ns }
+    ensures image { (k : Kind) (o : List ℕ) → k ≢ Kind.Bool → length o % width k ≡ 0
+        → AllByRecursion (λ b. b < 256) o → image_of k (numbers_of k o) ≡ o }
+    ensures ranged { (k : Kind) (o : List ℕ) → k ≢ Kind.Bool → length o % width k ≡ 0
+        → AllByRecursion (λ b. b < 256) o → IsTrue (list_all (in_range k) (numbers_of k o)) }
 {}
 
 /// What a table holds is small.

@@ -7,6 +7,7 @@ pub mod copying;
 pub mod errors;
 pub mod fits;
 pub mod kind;
+mod labelling;
 pub mod laws;
 pub mod node;
 pub mod row;

@@ -74,7 +74,7 @@ impl Row {
         Some(self.kind.number(&octets[at..at + width]))
     }
 
-    /// Puts a number behind the last.
+    /// Appends a number.
     pub fn push(&mut self, n: i128) -> Result<(), NoMemory>
         requires { IsInRange self.old.kind n }
         ensures ok { OnOk result (self.new ≡ record self.old { numbers = self.old.numbers ++ n ∷ [] }) }
@@ -84,11 +84,12 @@ impl Row {
         self.image.append(&octets[..self.kind.width()])
     }
 
-    /// Puts the numbers of an image behind the last, as one block.
+    /// Appends the numbers of an image, as one block.
     pub fn append_image(&mut self, image: &[u8]) -> Result<(), NoMemory>
         requires kind { self.old.kind ≢ Kind.Bool }
         requires whole { length image.now % width self.old.kind ≡ 0 }
-        ensures ok { OnOk result (self.new ≡ record self.old { numbers = self.old.numbers ++ numbers_of self.old.kind image.now }) }
+        ensures ok { OnOk result (self.new
+            ≡ record self.old { numbers = self.old.numbers ++ numbers_of self.old.kind image.now }) }
         ensures err { OnErr result (self.new ≡ self.old) }
     {
         self.image.append(image)

@@ -3,6 +3,9 @@
 /// How deep a node's type is, and what its blank value weighs.
 #[derive(Clone, Copy, Debug, PartialEq, Eq)]
 pub struct Size {
+    /// How many levels the type has: 1 for a number, and one more than its deepest part for a struct,
+    /// a union, an array of values or an optional value.
     pub depth: u32,
+    /// What the blank value weighs: 1 for each value in it but structs, and 1 for each number of an array.
     pub weight: u32,
 }

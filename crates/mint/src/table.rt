@@ -92,7 +92,7 @@ impl Mint {
         self.entries[id as usize].size
     }
 
-    /// Puts a node that is not refused behind the others.
+    /// Appends a node that is not refused.
     pub(crate) fn put(&mut self, node: Node, size: Size) -> Result<(), NoMemory>
         requires taken { refusal self.old node ≡ None }
         requires size { size ≡ size_of (level (unfolded self.old) node) }

@@ -13,17 +13,24 @@ pub type Values = Listed<Value>;
 /// A value.
 #[derive(Drop)]
 pub enum Value {
+    /// No data.
     Void,
+    /// A number, a boolean (0 or 1), or the number of an enumerator.
     Num(i128),
+    /// The numbers of an array, the octets of opaque data, or the characters of a string.
     Row(Row),
+    /// The fields of a struct, in order.
     Group(Values),
+    /// The elements of an array.
     Items(Values),
+    /// The discriminant of a union, and the value of its arm.
     Arm(i128, Box<Value>),
+    /// An optional value, where it is present.
     Opt(Option<Box<Value>>),
 }
 
 impl Value {
-    /// The value of an arm, behind its tag.
+    /// The value of an arm, after its tag.
     pub fn arm(alloc: Global, n: i128, inner: Value) -> Result<Value, NoMemory>
         ensures { IfOk result (λ v. seen v ≡ arm n (seen inner)) }
     {
@@ -84,7 +91,7 @@ impl Value {
         }
     }
 
-    /// The tag, and the value behind it.
+    /// The tag, and the value after it.
     pub fn as_arm(&self) -> Option<(i128, &Value)>
         ensures { option_map (λ a. (a.0, seen a.1.now)) result ≡ arm_in (seen self.now) }
     {

@@ -18,7 +18,8 @@ decreases-blank_arm l = l.id + l.id
 
 -- the blanks so far, and those of what is left
 abbrev pub invariant-blanks-loop-field : goal.invariant-blanks-loop-field
-invariant-blanks-loop-field l = map seen l.values ++ list_of (blanks (fields_at (unfolded l.mint) (drop l.field-index l.field-items))) ≡ list_of (blanks (fields_at (unfolded l.mint) l.field-items))
+invariant-blanks-loop-field l = map seen l.values ++ list_of (blanks (fields_at (unfolded l.mint) (drop l.field-index l.field-items)))
+    ≡ list_of (blanks (fields_at (unfolded l.mint) l.field-items))
 
 abbrev pub invariant-copies-loop : goal.invariant-copies-loop
 invariant-copies-loop l = map seen l.values ≡ replicate l.counter (blank (type_at l.mint l.item))

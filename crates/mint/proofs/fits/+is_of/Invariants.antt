@@ -18,13 +18,13 @@ decreases-is_of_arm l = l.id + l.id
 
 -- all fits exactly where what is left fits
 abbrev pub invariant-are_of-loop-i : goal.invariant-are_of-loop-i
-invariant-are_of-loop-i l =
-    AreOf (fields_at (unfolded l.mint) l.ids) (all_seen l.values) ↔ AreOf (fields_at (unfolded l.mint) (drop l.i l.ids)) (all_seen (drop l.i l.values))
+invariant-are_of-loop-i l = AreOf (fields_at (unfolded l.mint) l.ids) (all_seen l.values)
+    ↔ AreOf (fields_at (unfolded l.mint) (drop l.i l.ids)) (all_seen (drop l.i l.values))
 
 abbrev pub invariant-each_is_of-loop-value : goal.invariant-each_is_of-loop-value
-invariant-each_is_of-loop-value l =
-    Each (IsOf (type_at l.mint l.item)) (all_seen l.values) ↔ Each (IsOf (type_at l.mint l.item)) (all_seen (drop l.value-index l.value-items))
+invariant-each_is_of-loop-value l = Each (IsOf (type_at l.mint l.item)) (all_seen l.values)
+    ↔ Each (IsOf (type_at l.mint l.item)) (all_seen (drop l.value-index l.value-items))
 
 abbrev pub invariant-is_of_arm-loop-m : goal.invariant-is_of_arm-loop-m
-invariant-is_of_arm-loop-m l =
-    IsOfArm (arms_at (unfolded l.mint) l.arms l.other) l.n (seen l.inner) ↔ IsOfArm (arms_at (unfolded l.mint) (drop l.m-index l.m-items) l.other) l.n (seen l.inner)
+invariant-is_of_arm-loop-m l = IsOfArm (arms_at (unfolded l.mint) l.arms l.other) l.n (seen l.inner)
+    ↔ IsOfArm (arms_at (unfolded l.mint) (drop l.m-index l.m-items) l.other) l.n (seen l.inner)

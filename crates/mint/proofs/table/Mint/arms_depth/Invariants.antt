@@ -6,6 +6,7 @@ use Rattle.mint.proofs.table.Mint.arms_depth.Given as goal
 -- the deepest so far, and of what is left
 abbrev pub invariant-loop-id : goal.invariant-loop-id
 invariant-loop-id l = record {
-  deep : max l.deepest (arms_depth (arms_at (unfolded l.self) (drop l.id-index l.id-items) l.other)) ≡ arms_depth (arms_at (unfolded l.self) l.id-items l.other);
+  deep : max l.deepest (arms_depth (arms_at (unfolded l.self) (drop l.id-index l.id-items) l.other))
+      ≡ arms_depth (arms_at (unfolded l.self) l.id-items l.other);
   bound : l.deepest ≤ 32;
 }

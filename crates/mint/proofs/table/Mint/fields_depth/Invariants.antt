@@ -6,6 +6,7 @@ use Rattle.mint.proofs.table.Mint.fields_depth.Given as goal
 -- the deepest so far, and of what is left
 abbrev pub invariant-loop-id : goal.invariant-loop-id
 invariant-loop-id l = record {
-  deep : max l.deepest (fields_depth (fields_at (unfolded l.self) (drop l.id-index l.id-items))) ≡ fields_depth (fields_at (unfolded l.self) l.id-items);
+  deep : max l.deepest (fields_depth (fields_at (unfolded l.self) (drop l.id-index l.id-items)))
+      ≡ fields_depth (fields_at (unfolded l.self) l.id-items);
   bound : l.deepest ≤ 32;
 }
