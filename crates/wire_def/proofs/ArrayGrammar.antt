@@ -42,7 +42,7 @@ count_is e (Exactly m) = done m _ (λ p. (refl, refl)) (λ p o y h. h)
 count_is e (AtMost m) = tested_are _ OverBound (lone_place e counted) (counting e)
 count_is e Any = counting e
 
--- ---- lengths that count the octet behind a text
+-- ---- lengths that count the octet after a text
 
 abbrev Ending : Encoding → Spelling ℕ
 Ending e p o n = ScalarSpells e counted p o (pos (suc n))
@@ -55,8 +55,10 @@ one_less (negsuc n) h = absurd cc
 ending_forth : (e : Encoding) (p : ℕ) (o : List ℕ) (x : ℤ) → ScalarSpells e counted p o x × (is_some x ≡ true) → Ending e p o (less_one x)
 ending_forth e p o x h = rw (one_less x h.1) h.0
 
-ending : (e : Encoding) → IsGrammar (λ p o. map_got less_one (tested (read_scalar e counted) is_some BadText (scalar_place e counted) p o)) (Ending e)
-    (λ p o k at. ScalarStops e counted p o k at ⊎ ((m : ℤ) × Parts p o (λ a. ScalarSpells e counted p a m) (λ q b. (is_some m ≡ false) × (k ≡ BadText) × (at ≡ scalar_place e counted p))))
+ending : (e : Encoding)
+    → IsGrammar (λ p o. map_got less_one (tested (read_scalar e counted) is_some BadText (scalar_place e counted) p o))
+    (Ending e) (λ p o k at. ScalarStops e counted p o k at ⊎ ((m : ℤ) × Parts p o (λ a. ScalarSpells e counted p a m)
+    (λ q b. (is_some m ≡ false) × (k ≡ BadText) × (at ≡ scalar_place e counted p))))
 ending e = mapped less_one (Ending e) (tested_are is_some BadText (scalar_place e counted) (scalar_is e counted))
     (ending_forth e) (λ p o n h. (pos (suc n), refl, (h, refl)))
 
@@ -74,17 +76,21 @@ head_is CdrLittle (row_of k c) = count_is CdrLittle c
 
 -- ---- octets
 
-octet_read : (test : ℕ → Bool) (fault : FaultKind) (p : ℕ) (b : ℕ) (o : List ℕ) (x : ℤ) (q : ℕ) (rest : List ℕ) (t : Bool) → cond t (got (pos b) (p + 1) o) (stop fault p) ≡ got x q rest
+octet_read : (test : ℕ → Bool) (fault : FaultKind) (p : ℕ) (b : ℕ) (o : List ℕ) (x : ℤ) (q : ℕ) (rest : List ℕ) (t : Bool)
+    → cond t (got (pos b) (p + 1) o) (stop fault p) ≡ got x q rest
     → (t ≡ true) × (pos b ≡ x) × (p + 1 ≡ q) × (o ≡ rest)
 octet_read test fault p b o x q rest true e = (refl, cc, cc, cc)
 octet_read test fault p b o x q rest false e = absurd cc
 
-octet_stopped : (fault : FaultKind) (p : ℕ) (b : ℕ) (o : List ℕ) (k : FaultKind) (at : ℕ) (t : Bool) → cond t (got (pos b) (p + 1) o) (stop fault p) ≡ stop k at → (t ≡ false) × (k ≡ fault) × (at ≡ p)
+octet_stopped : (fault : FaultKind) (p : ℕ) (b : ℕ) (o : List ℕ) (k : FaultKind) (at : ℕ) (t : Bool)
+    → cond t (got (pos b) (p + 1) o) (stop fault p) ≡ stop k at
+    → (t ≡ false) × (k ≡ fault) × (at ≡ p)
 octet_stopped fault p b o k at true e = absurd cc
 octet_stopped fault p b o k at false e = (refl, cc, cc)
 
 module _ (test : ℕ → Bool) (fault : FaultKind) where
-  octet_spelled : (p : ℕ) (o : List ℕ) (x : ℤ) (q : ℕ) (rest : List ℕ) → AreOctets o → read_octet test fault p o ≡ got x q rest → (a : List ℕ) × (o ≡ a ++ rest) × (q ≡ p + length a) × OctetSpells test p a x
+  octet_spelled : (p : ℕ) (o : List ℕ) (x : ℤ) (q : ℕ) (rest : List ℕ) → AreOctets o → read_octet test fault p o ≡ got x q rest
+      → (a : List ℕ) × (o ≡ a ++ rest) × (q ≡ p + length a) × OctetSpells test p a x
   unfolding read_octet OctetSpells
   octet_spelled p [] x q rest oct e = absurd cc
   octet_spelled p (b ∷ o) x q rest oct e =
@@ -96,7 +102,8 @@ module _ (test : ℕ → Bool) (fault : FaultKind) where
   octet_stops p [] k at (which, there) = rw (which, there) refl
   octet_stops p (b ∷ o) k at (fails, which, there) = rw (fails, which, there) refl
 
-  octet_faulty : (p : ℕ) (o : List ℕ) (k : FaultKind) (at : ℕ) → AreOctets o → read_octet test fault p o ≡ stop k at → OctetStops test fault p o k at
+  octet_faulty : (p : ℕ) (o : List ℕ) (k : FaultKind) (at : ℕ) → AreOctets o → read_octet test fault p o ≡ stop k at
+      → OctetStops test fault p o k at
   unfolding read_octet OctetStops
   octet_faulty p [] k at oct e = (cc, cc)
   octet_faulty p (b ∷ o) k at oct e = octet_stopped fault p b o k at (test b) e
@@ -111,12 +118,14 @@ module _ (test : ℕ → Bool) (fault : FaultKind) where
   }
 
 module _ (fault : FaultKind) where
-  zeros_reads : (n p : ℕ) (o rest : List ℕ) (x : Unit {0}) → o ≡ replicate n 0 → read_zeros n fault p (o ++ rest) ≡ got x (p + length o) rest
+  zeros_reads : (n p : ℕ) (o rest : List ℕ) (x : Unit {0}) → o ≡ replicate n 0
+      → read_zeros n fault p (o ++ rest) ≡ got x (p + length o) rest
   unfolding read_zeros
   zeros_reads zero p o rest x is = rw (is, add-zero) refl
   zeros_reads (suc n) p o rest x is = rw (is, zeros_reads n (p + 1) (replicate n 0) rest tt refl) (ap (λ (m : ℕ). got tt m rest) (omega arith))
 
-  zeros_spelled : (n p : ℕ) (o : List ℕ) (x : Unit {0}) (q : ℕ) (rest : List ℕ) → AreOctets o → read_zeros n fault p o ≡ got x q rest → (a : List ℕ) × (o ≡ a ++ rest) × (q ≡ p + length a) × (a ≡ replicate n 0)
+  zeros_spelled : (n p : ℕ) (o : List ℕ) (x : Unit {0}) (q : ℕ) (rest : List ℕ) → AreOctets o → read_zeros n fault p o ≡ got x q rest
+      → (a : List ℕ) × (o ≡ a ++ rest) × (q ≡ p + length a) × (a ≡ replicate n 0)
   unfolding read_zeros
   zeros_spelled zero p o x q rest oct e =
       let same : p ≡ q = cc in
@@ -134,7 +143,8 @@ module _ (fault : FaultKind) where
   zeros_stops (suc n) p (zero ∷ o) k at f = zeros_stops n (p + 1) o k at f
   zeros_stops (suc n) p (suc b ∷ o) k at (which, there) = rw (which, there) refl
 
-  zeros_faulty : (n p : ℕ) (o : List ℕ) (k : FaultKind) (at : ℕ) → AreOctets o → read_zeros n fault p o ≡ stop k at → ZerosStop n fault p o k at
+  zeros_faulty : (n p : ℕ) (o : List ℕ) (k : FaultKind) (at : ℕ) → AreOctets o → read_zeros n fault p o ≡ stop k at
+      → ZerosStop n fault p o k at
   unfolding read_zeros ZerosStop
   zeros_faulty zero p o k at oct e = absurd cc
   zeros_faulty (suc n) p [] k at oct e = (cc, cc)

@@ -28,7 +28,8 @@ unfolding told_before
 before_got p (got y m b) x q o e = e
 before_got p (stop k at) x q o e = absurd cc
 
-before_stop : {A : Type 0} (p : ℕ) (r : Reading FaultKind A) (k : FaultKind) (at : ℕ) → told_before p r ≡ stop k at → (place : ℕ) × (r ≡ stop k place) × (at ≡ p)
+before_stop : {A : Type 0} (p : ℕ) (r : Reading FaultKind A) (k : FaultKind) (at : ℕ) → told_before p r ≡ stop k at
+    → (place : ℕ) × (r ≡ stop k place) × (at ≡ p)
 unfolding told_before
 before_stop p (got y m b) k at e = absurd cc
 before_stop p (stop k' at') k at e = (at', cc, cc)
@@ -49,7 +50,8 @@ first_is c s = tested_are (has_form c s) BadItem (λ p. p) (word_is Mach 1 w32 d
 
 -- a choice of two
 chosen : {E A : Type 0} (b : Bool) {r r' : Reader E A} {S S' : Spelling A} {F F' : Stopping E} → IsGrammar r S F → IsGrammar r' S' F'
-    → IsGrammar (λ p o. cond b (r p o) (r' p o)) (λ p o x. MatchBool b (S p o x) (S' p o x)) (λ p o k at. MatchBool b (F p o k at) (F' p o k at))
+    → IsGrammar (λ p o. cond b (r p o) (r' p o)) (λ p o x. MatchBool b (S p o x) (S' p o x))
+    (λ p o k at. MatchBool b (F p o k at) (F' p o k at))
 chosen true g g' = g
 chosen false g g' = g'
 
@@ -60,8 +62,12 @@ rest_is m = chosen (is_marked m) (before_is (word_is Mach 1 w64 rest_wide)) (don
 form_is : (c : Count) (s : Scalar) → IsGrammar (both (read_first c s) read_rest) (FormSpells c s) (FormStops c s)
 form_is c s = both_are (first_is c s) rest_is
 
-many_is : (c : Count) (s : Scalar) → IsGrammar (λ q b. map_got (λ x. elements_in s (x.1 / 2 ^ 32)) (tested (both (read_first c s) read_rest) (λ x. is_right c s x.1) BadItem (λ p. p) q b)) (ManySpell c s)
-    (λ p o k at. FormStops c s p o k at ⊎ ((x : ℕ × ℕ) × Parts p o (λ a. FormSpells c s p a x) (λ q b. (is_right c s x.1 ≡ false) × (k ≡ BadItem) × (at ≡ p))))
+many_is : (c : Count) (s : Scalar)
+    → IsGrammar
+    (λ q b. map_got (λ x. elements_in s (x.1 / 2 ^ 32))
+    (tested (both (read_first c s) read_rest) (λ x. is_right c s x.1) BadItem (λ p. p) q b))
+    (ManySpell c s) (λ p o k at. FormStops c s p o k at
+    ⊎ ((x : ℕ × ℕ) × Parts p o (λ a. FormSpells c s p a x) (λ q b. (is_right c s x.1 ≡ false) × (k ≡ BadItem) × (at ≡ p))))
 many_is c s = mapped (λ (x : ℕ × ℕ). elements_in s (x.1 / 2 ^ 32)) (ManySpell c s) (tested_are (λ (x : ℕ × ℕ). is_right c s x.1) BadItem (λ p. p) (form_is c s))
     (λ p o x h. (x, refl, h.0, h.1)) (λ p o n h. (h.0, h.1, (h.2, h.3)))
 
@@ -245,12 +251,14 @@ many_of s n =
 no_gap : (p : ℕ) → 0 ≡ gap p 1
 no_gap p = omega arith
 
-form_long : (c : Count) (s : Scalar) (p d : ℕ) → is_long c s ≡ true → d < 2 ^ 64 → FormSpells c s p (le 4 long_mark ++ le 8 d) (long_mark, d)
+form_long : (c : Count) (s : Scalar) (p d : ℕ) → is_long c s ≡ true → d < 2 ^ 64
+    → FormSpells c s p (le 4 long_mark ++ le 8 d) (long_mark, d)
 unfolding FirstSpells RestSpells WordSpells
 form_long c s p d long lt =
     (le 4 long_mark, le 8 d, refl, (([], no_gap p, refl, omega arith), takes_long c s long), ([], no_gap (p + 4), refl, lt))
 
-form_short : (c : Count) (s : Scalar) (p m d : ℕ) → is_long c s ≡ false → m / 2 ^ 28 ≡ 1 → m < 2 ^ 32 → widened m ≡ d → FormSpells c s p (le 4 m) (m, d)
+form_short : (c : Count) (s : Scalar) (p m d : ℕ) → is_long c s ≡ false → m / 2 ^ 28 ≡ 1 → m < 2 ^ 32 → widened m ≡ d
+    → FormSpells c s p (le 4 m) (m, d)
 unfolding FirstSpells RestSpells WordSpells
 form_short c s p m d short one lt is =
     let plain : is_marked m ≡ false = rw one refl in

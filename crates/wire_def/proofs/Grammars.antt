@@ -20,7 +20,8 @@ pub then_stop : {E A B : Type 0} (r : Reading E A) (f : A → Reader E B) (k : E
 then_stop (got x m b) f k at e = inr (x, m, b, refl, e)
 then_stop (stop k' at') f k at e = inl (cc)
 
-pub mapped_got : {E A B : Type 0} (f : A → B) (r : Reading E A) (y : B) (q : ℕ) (rest : List ℕ) → map_got f r ≡ got y q rest → (x : A) × (r ≡ got x q rest) × (f x ≡ y)
+pub mapped_got : {E A B : Type 0} (f : A → B) (r : Reading E A) (y : B) (q : ℕ) (rest : List ℕ) → map_got f r ≡ got y q rest
+    → (x : A) × (r ≡ got x q rest) × (f x ≡ y)
 mapped_got f (got x m b) y q rest e = (x, cc, cc)
 mapped_got f (stop k at) y q rest e = absurd cc
 
@@ -29,7 +30,8 @@ mapped_stop f (got x m b) k at e = absurd cc
 mapped_stop f (stop k' at') k at e = cc
 
 -- nothing
-pub done : {E A : Type 0} (x : A) (S : Spelling A) → ((p : ℕ) → S p [] x) → ((p : ℕ) (o : List ℕ) (y : A) → S p o y → (o ≡ []) × (x ≡ y)) → IsGrammar {E = E} (λ p o. got x p o) S (λ p o k at. ⊥)
+pub done : {E A : Type 0} (x : A) (S : Spelling A) → ((p : ℕ) → S p [] x) → ((p : ℕ) (o : List ℕ) (y : A) → S p o y → (o ≡ []) × (x ≡ y))
+    → IsGrammar {E = E} (λ p o. got x p o) S (λ p o k at. ⊥)
 done x S here only = record {
   reads = λ p o rest y s. let is = only p o y s in rw (is.0, is.1) (ap (λ n. got y n rest) (sym (add-zero p)));
   spelled = λ p o y q rest oct e.
@@ -55,7 +57,8 @@ mapped {E} {A} {B} {r} {S} {F} f T g forth back = record {
 }
 
 -- one after the other
-pub both_are : {E A B : Type 0} {r : Reader E A} {S : Spelling A} {F : Stopping E} {s : A → Reader E B} {T : A → Spelling B} {G : A → Stopping E}
+pub both_are : {E A B : Type 0} {r : Reader E A} {S : Spelling A} {F : Stopping E} {s : A → Reader E B}
+    {T : A → Spelling B} {G : A → Stopping E}
     → IsGrammar r S F → ((x : A) → IsGrammar (s x) (T x) (G x))
     → IsGrammar (both r s) (λ p o xy. Parts p o (λ a. S p a xy.0) (λ q b. T xy.0 q b xy.1)) (StopsInOrder S F G)
 both_are {E} {A} {B} {r} {S} {F} {s} {T} {G} g h = record {
@@ -93,7 +96,8 @@ both_are {E} {A} {B} {r} {S} {F} {s} {T} {G} g h = record {
   both_stop p o k at (inr (x, (a, b, is, first, second))) = rw (is, g.reads p a b x first, (h x).stops (p + length a) b k at second) refl
 
 -- so many, one after the other
-times_reads : {E A : Type 0} {r : Reader E A} {S : Spelling A} {F : Stopping E} → IsGrammar r S F → (n p : ℕ) (o rest : List ℕ) (xs : List A) → SpellTimes S n p o xs
+times_reads : {E A : Type 0} {r : Reader E A} {S : Spelling A} {F : Stopping E} → IsGrammar r S F
+    → (n p : ℕ) (o rest : List ℕ) (xs : List A) → SpellTimes S n p o xs
     → times r n p (o ++ rest) ≡ got xs (p + length o) rest
 times_reads g zero p o rest [] s = rw (s, add-zero) refl
 times_reads g zero p o rest (x ∷ xs) s = absurd s
@@ -101,8 +105,9 @@ times_reads g (suc n) p o rest [] s = absurd s
 times_reads g (suc n) p o rest (x ∷ xs) (a, b, is, first, more) =
     rw (is, append_assoc, g.reads p a (b ++ rest) x first, times_reads g n (p + length a) b rest xs more, length-append, add_assoc) refl
 
-times_spelled : {E A : Type 0} {r : Reader E A} {S : Spelling A} {F : Stopping E} → IsGrammar r S F → (n p : ℕ) (o : List ℕ) (xs : List A) (q : ℕ) (rest : List ℕ) → AreOctets o
-    → times r n p o ≡ got xs q rest → (a : List ℕ) × (o ≡ a ++ rest) × (q ≡ p + length a) × SpellTimes S n p a xs
+times_spelled : {E A : Type 0} {r : Reader E A} {S : Spelling A} {F : Stopping E} → IsGrammar r S F
+    → (n p : ℕ) (o : List ℕ) (xs : List A) (q : ℕ) (rest : List ℕ) → AreOctets o → times r n p o ≡ got xs q rest
+    → (a : List ℕ) × (o ≡ a ++ rest) × (q ≡ p + length a) × SpellTimes S n p a xs
 times_spelled {A = A} {S = S} g zero p o xs q rest oct e =
     let same : p ≡ q = cc in
     let none : [] ≡ xs = cc in
@@ -118,14 +123,16 @@ times_spelled {A = A} {r = r} {S = S} g (suc n) p o xs q rest oct e =
       subst (λ z. SpellTimes S (suc n) p (a.0 ++ b.0) z) l.2 (a.0, b.0, refl, a.3, subst (λ z. SpellTimes S n z b.0 l.0) a.2 b.3),
     )
 
-times_stops : {E A : Type 0} {r : Reader E A} {S : Spelling A} {F : Stopping E} → IsGrammar r S F → (n p : ℕ) (o : List ℕ) (k : E) (at : ℕ) → StopTimes S F n p o k at
+times_stops : {E A : Type 0} {r : Reader E A} {S : Spelling A} {F : Stopping E} → IsGrammar r S F
+    → (n p : ℕ) (o : List ℕ) (k : E) (at : ℕ) → StopTimes S F n p o k at
     → times r n p o ≡ stop k at
 times_stops g zero p o k at f = absurd f
 times_stops g (suc n) p o k at (inl f) = rw (g.stops p o k at f) refl
 times_stops g (suc n) p o k at (inr (x, (a, b, is, first, more))) = rw (is, g.reads p a b x first, times_stops g n (p + length a) b k at more) refl
 
-times_faulty : {E A : Type 0} {r : Reader E A} {S : Spelling A} {F : Stopping E} → IsGrammar r S F → (n p : ℕ) (o : List ℕ) (k : E) (at : ℕ) → AreOctets o
-    → times r n p o ≡ stop k at → StopTimes S F n p o k at
+times_faulty : {E A : Type 0} {r : Reader E A} {S : Spelling A} {F : Stopping E} → IsGrammar r S F
+    → (n p : ℕ) (o : List ℕ) (k : E) (at : ℕ) → AreOctets o → times r n p o ≡ stop k at
+    → StopTimes S F n p o k at
 times_faulty g zero p o k at oct e = absurd cc
 times_faulty {E} {A} {r} {S} {F} g (suc n) p o k at oct e =
     elim (then_stop (r p o) (λ x q' rest'. map_got (λ (ys : List A). x ∷ ys) (times r n q' rest')) k at e) [
@@ -135,7 +142,8 @@ times_faulty {E} {A} {r} {S} {F} g (suc n) p o k at oct e =
           inr (x, (a.0, b, a.1, a.3, subst (λ z. StopTimes S F n z b k at) a.2 (times_faulty g n m b k at (octets_behind a.0 b (rw a.1 at oct)) (mapped_stop (λ (ys : List A). x ∷ ys) (times r n m b) k at e2))))
     ]
 
-pub times_are : {E A : Type 0} {r : Reader E A} {S : Spelling A} {F : Stopping E} (n : ℕ) → IsGrammar r S F → IsGrammar (times r n) (SpellTimes S n) (StopTimes S F n)
+pub times_are : {E A : Type 0} {r : Reader E A} {S : Spelling A} {F : Stopping E} (n : ℕ) → IsGrammar r S F
+    → IsGrammar (times r n) (SpellTimes S n) (StopTimes S F n)
 times_are n g = record {
   reads = times_reads g n;
   spelled = times_spelled g n;
@@ -143,16 +151,20 @@ times_are n g = record {
   faulty = times_faulty g n;
 }
 
--- a test behind it
-tested_got : {E A : Type 0} (b : Bool) (x y : A) (q m : ℕ) (rest o : List ℕ) (k : E) (p : ℕ) → cond b (got x q rest) (stop k p) ≡ got y m o → (b ≡ true) × (x ≡ y) × (q ≡ m) × (rest ≡ o)
+-- a test after it
+tested_got : {E A : Type 0} (b : Bool) (x y : A) (q m : ℕ) (rest o : List ℕ) (k : E) (p : ℕ) → cond b (got x q rest) (stop k p) ≡ got y m o
+    → (b ≡ true) × (x ≡ y) × (q ≡ m) × (rest ≡ o)
 tested_got true x y q m rest o k p e = (refl, cc, cc, cc)
 tested_got false x y q m rest o k p e = absurd cc
 
-tested_stop : {E A : Type 0} (b : Bool) (x : A) (q : ℕ) (rest : List ℕ) (k k' : E) (p at : ℕ) → cond b (got x q rest) (stop k p) ≡ stop k' at → (b ≡ false) × (k' ≡ k) × (at ≡ p)
+tested_stop : {E A : Type 0} (b : Bool) (x : A) (q : ℕ) (rest : List ℕ) (k k' : E) (p at : ℕ)
+    → cond b (got x q rest) (stop k p) ≡ stop k' at
+    → (b ≡ false) × (k' ≡ k) × (at ≡ p)
 tested_stop true x q rest k k' p at e = absurd cc
 tested_stop false x q rest k k' p at e = (refl, cc, cc)
 
-pub tested_are : {E A : Type 0} {r : Reader E A} {S : Spelling A} {F : Stopping E} (test : A → Bool) (k0 : E) (place : ℕ → ℕ) → IsGrammar r S F
+pub tested_are : {E A : Type 0} {r : Reader E A} {S : Spelling A} {F : Stopping E} (test : A → Bool) (k0 : E) (place : ℕ → ℕ)
+    → IsGrammar r S F
     → IsGrammar (tested r test k0 place) (TestedSpells S test) (TestedStops S F test k0 place)
 tested_are {E} {A} {r} {S} {F} test k0 place g = record {
   reads = λ p o rest x s. rw (g.reads p o rest x s.0, s.1) refl;
@@ -176,9 +188,9 @@ tested_are {E} {A} {r} {S} {F} test k0 place g = record {
 
 -- the same spellings and stops, said otherwise
 pub reshaped : {E A : Type 0} {r r' : Reader E A} {S S' : Spelling A} {F F' : Stopping E} → IsGrammar r S F
-    → ((p : ℕ) (o : List ℕ) → r p o ≡ r' p o)
-    → ((p : ℕ) (o : List ℕ) (x : A) → S' p o x → S p o x) → ((p : ℕ) (o : List ℕ) (x : A) → S p o x → S' p o x)
-    → ((p : ℕ) (o : List ℕ) (k : E) (at : ℕ) → F' p o k at → F p o k at) → ((p : ℕ) (o : List ℕ) (k : E) (at : ℕ) → F p o k at → F' p o k at)
+    → ((p : ℕ) (o : List ℕ) → r p o ≡ r' p o) → ((p : ℕ) (o : List ℕ) (x : A) → S' p o x → S p o x)
+    → ((p : ℕ) (o : List ℕ) (x : A) → S p o x → S' p o x) → ((p : ℕ) (o : List ℕ) (k : E) (at : ℕ) → F' p o k at → F p o k at)
+    → ((p : ℕ) (o : List ℕ) (k : E) (at : ℕ) → F p o k at → F' p o k at)
     → IsGrammar r' S' F'
 reshaped g same from to fault_from fault_to = record {
   reads = λ p o rest x s. sym (same p (o ++ rest)) ∙ g.reads p o rest x (from p o x s);

@@ -8,7 +8,7 @@ use Rattle.wire_def.specs.Grammar.{got, stop, AreOctets, IsGrammar}
 use Rattle.wire_def.specs.HeadItems.{BodySpells, BodyStops, read_body}
 use Rattle.wire_def.proofs.Words.{picked_got, picked_stop}
 
--- so many octets from the front, if there are as many
+-- the first so many octets, if there are as many
 module _ (n : ℕ) where
   body_reads : (p : ℕ) (o rest x : List ℕ) → BodySpells n p o x → read_body n p (o ++ rest) ≡ got x (p + length o) rest
   unfolding read_body
@@ -17,7 +17,8 @@ module _ (n : ℕ) where
       let enough : ltb (length (o ++ rest)) n ≡ false = le-ltb _ _ (omega (arith, length-append o rest)) in
       rw (enough, take_at o rest n same, drop_at o rest n same, same, is) refl
 
-  body_spelled : (p : ℕ) (o x : List ℕ) (q : ℕ) (rest : List ℕ) → AreOctets o → read_body n p o ≡ got x q rest → (a : List ℕ) × (o ≡ a ++ rest) × (q ≡ p + length a) × BodySpells n p a x
+  body_spelled : (p : ℕ) (o x : List ℕ) (q : ℕ) (rest : List ℕ) → AreOctets o → read_body n p o ≡ got x q rest
+      → (a : List ℕ) × (o ≡ a ++ rest) × (q ≡ p + length a) × BodySpells n p a x
   unfolding read_body
   body_spelled p o x q rest oct e =
       let t = picked_got (ltb (length o) n) Short p (take n o) x (p + n) q (drop n o) rest e in

@@ -23,7 +23,8 @@ module _ (n : ℕ) where
       let enough : ltb (length (o ++ rest)) n ≡ false = le-ltb _ _ (omega (arith, len, length-append o rest)) in
       rw (enough, drop_at o rest n len, len) refl
 
-  any_spelled : (p : ℕ) (o : List ℕ) (x : Unit {0}) (q : ℕ) (rest : List ℕ) → AreOctets o → read_any n p o ≡ got x q rest → (a : List ℕ) × (o ≡ a ++ rest) × (q ≡ p + length a) × AnySpell n p a x
+  any_spelled : (p : ℕ) (o : List ℕ) (x : Unit {0}) (q : ℕ) (rest : List ℕ) → AreOctets o → read_any n p o ≡ got x q rest
+      → (a : List ℕ) × (o ≡ a ++ rest) × (q ≡ p + length a) × AnySpell n p a x
   unfolding read_any
   any_spelled p o x q rest oct is =
       let t = picked_got (ltb (length o) n) Short (p + length o) tt x (p + n) q (drop n o) rest is in
@@ -50,7 +51,8 @@ desc_is w = mapped (λ (m : ℕ). tt) (DescSpells w) (tested_are (λ m. nat_eq m
     (λ p o m h. rw (← eqb-true m w h.1) h.0)
     (λ p o x h. (w, refl, (h, eq-eqb w w refl)))
 
-pub item_is : {A : Type 0} (s : Scalar) {r : Reader FaultKind A} {S : Spelling A} {F : Stopping FaultKind} → IsGrammar r S F → IsGrammar (read_item s r) (ItemSpells s S) (ItemStops s S F)
+pub item_is : {A : Type 0} (s : Scalar) {r : Reader FaultKind A} {S : Spelling A} {F : Stopping FaultKind} → IsGrammar r S F
+    → IsGrammar (read_item s r) (ItemSpells s S) (ItemStops s S F)
 item_is {A} s {r} {S} {F} g = mapped (λ (x : Unit {0} × (A × Unit {0})). x.1.0) (ItemSpells s S) (both_are (desc_is (scalar_word s)) (λ _. both_are g (λ _. any_are (filling s))))
     (λ p o x h. h)
     (λ p o x h. ((tt, (x, tt)), refl, h))
@@ -71,7 +73,8 @@ module _ (s : Scalar) (test : ℤ → Bool) where
   item_from : (p : ℕ) (o : List ℕ) (n : ℤ) → PassSpells Mach s test p o n → ItemSpells s Tested p o n
   item_from p o n ((a, b, is, first, (c, d, is', second, third)), ok) = (a, b, is, first, (c, d, is', (second, ok), third))
 
-pub pass_is : (e : Encoding) (s : Scalar) (test : ℤ → Bool) (fault : FaultKind) → IsGrammar (read_pass e s test fault) (PassSpells e s test) (PassStops e s test fault)
+pub pass_is : (e : Encoding) (s : Scalar) (test : ℤ → Bool) (fault : FaultKind)
+    → IsGrammar (read_pass e s test fault) (PassSpells e s test) (PassStops e s test fault)
 pass_is Xdr s test fault = tested_are test fault (scalar_place Xdr s) (scalar_is Xdr s)
 pass_is CdrBig s test fault = tested_are test fault (scalar_place CdrBig s) (scalar_is CdrBig s)
 pass_is CdrLittle s test fault = tested_are test fault (scalar_place CdrLittle s) (scalar_is CdrLittle s)

@@ -43,7 +43,9 @@ one_more d l m h j = omega (arith, mul-le-mul_left (suc d) h)
 some : (d m : ℕ) → 1 ≤ m → 1 ≤ suc d * m
 some d m h = omega (arith, mul-le-mul_left (suc d) h)
 
-each_room : {A : Type 0} (S : Spelling A) → ((p : ℕ) (o : List ℕ) (x : A) → S p o x → 1 ≤ length o) → (n p : ℕ) (o : List ℕ) (xs : List A) → SpellTimes S n p o xs → n ≤ length o
+each_room : {A : Type 0} (S : Spelling A) → ((p : ℕ) (o : List ℕ) (x : A) → S p o x → 1 ≤ length o)
+    → (n p : ℕ) (o : List ℕ) (xs : List A) → SpellTimes S n p o xs
+    → n ≤ length o
 each_room S one zero p o xs h = omega arith
 each_room S one (suc n) p o [] h = absurd h
 each_room S one (suc n) p o (x ∷ xs) (a, b, is, first, more) =
@@ -51,7 +53,9 @@ each_room S one (suc n) p o (x ∷ xs) (a, b, is, first, more) =
     let behind = each_room S one n (p + length a) b xs more in
     rw (is, length-append) (omega (arith, here, behind))
 
-each_heavy : (S : Spelling Val) (k : ℕ) → ((p : ℕ) (o : List ℕ) (v : Val) → S p o v → weight v ≤ k * length o) → (vs : Vals) (p : ℕ) (o : List ℕ) → SpellTimes S (count vs) p o (list_of vs) → weights vs ≤ k * length o
+each_heavy : (S : Spelling Val) (k : ℕ) → ((p : ℕ) (o : List ℕ) (v : Val) → S p o v → weight v ≤ k * length o)
+    → (vs : Vals) (p : ℕ) (o : List ℕ) → SpellTimes S (count vs) p o (list_of vs)
+    → weights vs ≤ k * length o
 each_heavy S k one no_more p o h = omega arith
 each_heavy S k one (val v vs) p o (a, b, is, first, more) =
     let here = one p a v first in
@@ -72,7 +76,8 @@ lone_long Mach s p o n (a, b, is, first, (c, d, is', second, third)) =
     let long = scalar_long Mach s (p + length a) c n second in
     rw (is, is', length-append, length-append) (omega (arith, long))
 
-head_either : (e : Encoding) (a : Array) (p : ℕ) (o : List ℕ) (n : ℕ) → HeadSpells e a p o n → CountSpells e (count_of a) p o n ⊎ 1 ≤ length o
+head_either : (e : Encoding) (a : Array) (p : ℕ) (o : List ℕ) (n : ℕ) → HeadSpells e a p o n
+    → CountSpells e (count_of a) p o n ⊎ 1 ≤ length o
 unfolding HeadSpells
 head_either Xdr a p o n h = inl h
 head_either Mach a p o n h = inr (described_long (count_of a) (number (kind_of a)) p o n h)
@@ -107,7 +112,8 @@ module _ (e : Encoding) where
   head_room : (a : Array) (p : ℕ) (o : List ℕ) (n : ℕ) → IsCount (count_of a) → HeadSpells e a p o n → 1 ≤ length o + n
   head_room a p o n some h = elim (head_either e a p o n h) [ inl count ↦ count_room (count_of a) p o n some count | inr long ↦ omega (arith, long) ]
 
-  array_room : (a : Array) (p : ℕ) (o : List ℕ) (ns : List ℤ) → IsCount (count_of a) → ArraySpells e a p o ns → (1 ≤ length o) × (length ns ≤ length o)
+  array_room : (a : Array) (p : ℕ) (o : List ℕ) (ns : List ℤ) → IsCount (count_of a) → ArraySpells e a p o ns
+      → (1 ≤ length o) × (length ns ≤ length o)
   unfolding ArraySpells
   array_room a p o ns some (x, y, is, head, (u, v, is', elements, tail)) =
       let first = head_room a p x (length ns) some head in
@@ -115,7 +121,8 @@ module _ (e : Encoding) where
       let long : length o ≡ length x + (length u + length v) = omega (arith, ap length is, length-append x y, ap length is', length-append u v) in
       (omega (arith, first, second, long), omega (arith, second, long))
 
-  array_heavy : (a : Array) (d p : ℕ) (o : List ℕ) (ns : List ℤ) → 1 ≤ d → IsCount (count_of a) → ArraySpells e a p o ns → suc (length ns) ≤ suc d * length o
+  array_heavy : (a : Array) (d p : ℕ) (o : List ℕ) (ns : List ℤ) → 1 ≤ d → IsCount (count_of a) → ArraySpells e a p o ns
+      → suc (length ns) ≤ suc d * length o
   array_heavy a d p o ns deep some h =
       let room = array_room a p o ns some h in
       let two : 2 * length o ≤ suc d * length o = mul-le-mul_right (length o) (omega arith) in
@@ -140,7 +147,8 @@ module _ (e : Encoding) where
         rw (is, length-append) (omega (arith, head))
     filled _ r f p o v h = absurd h
 
-    fields_filled : (ts : Tys) → FieldsTakeRoom ts → fields_fill ts ≡ true → (p : ℕ) (o : List ℕ) (vs : Vals) → FieldsSpell e ts p o vs → 1 ≤ length o
+    fields_filled : (ts : Tys) → FieldsTakeRoom ts → fields_fill ts ≡ true → (p : ℕ) (o : List ℕ) (vs : Vals) → FieldsSpell e ts p o vs
+        → 1 ≤ length o
     fields_filled no_fields r f p o vs h = absurd cc
     fields_filled (field t ts) r f p o no_more h = absurd h
     fields_filled (field t ts) r f p o (val v vs) (a, b, is, first, more) =
@@ -150,7 +158,8 @@ module _ (e : Encoding) where
         ])
 
   mutual
-    pub heavy : (t : Ty) → TakesRoom t → (d : ℕ) → depth t ≤ d → (p : ℕ) (o : List ℕ) (v : Val) → Spells e t p o v → weight v ≤ suc d * length o
+    pub heavy : (t : Ty) → TakesRoom t → (d : ℕ) → depth t ≤ d → (p : ℕ) (o : List ℕ) (v : Val) → Spells e t p o v
+        → weight v ≤ suc d * length o
     heavy void_type r d deep p o void h = omega arith
     heavy (scalar_type s) r d deep p o (num n) h = some d (length o) (lone_room s p o n h)
     heavy (array_type a) r d deep p o (row k ns) h = array_heavy a d p o ns deep r h.1
@@ -176,7 +185,9 @@ module _ (e : Encoding) where
         omega (arith, behind, one_more d (length b) (length o) long all)
     heavy _ r d deep p o v h = absurd h
 
-    fields_heavy : (ts : Tys) → FieldsTakeRoom ts → (d : ℕ) → fields_depth ts ≤ d → (p : ℕ) (o : List ℕ) (vs : Vals) → FieldsSpell e ts p o vs → weights vs ≤ suc d * length o
+    fields_heavy : (ts : Tys) → FieldsTakeRoom ts → (d : ℕ) → fields_depth ts ≤ d → (p : ℕ) (o : List ℕ) (vs : Vals)
+        → FieldsSpell e ts p o vs
+        → weights vs ≤ suc d * length o
     fields_heavy no_fields r d deep p o no_more h = omega arith
     fields_heavy (field t ts) r d deep p o (val v vs) (a, b, is, first, more) =
         let here = heavy t r.0 d (omega arith) p a v first in
@@ -184,7 +195,9 @@ module _ (e : Encoding) where
         rw (is, length-append) (omega (arith, here, behind))
     fields_heavy _ r d deep p o vs h = absurd h
 
-    arm_heavy : (arms : Arms) → ArmsTakeRoom arms → (d : ℕ) → arms_depth arms ≤ d → (n : ℤ) (p : ℕ) (o : List ℕ) (v : Val) → ArmSpells e arms n p o v → weight v ≤ suc d * length o
+    arm_heavy : (arms : Arms) → ArmsTakeRoom arms → (d : ℕ) → arms_depth arms ≤ d
+        → (n : ℤ) (p : ℕ) (o : List ℕ) (v : Val) → ArmSpells e arms n p o v
+        → weight v ≤ suc d * length o
     arm_heavy no_other r d deep n p o v h = absurd h
     arm_heavy (others t) r d deep n p o v h = heavy t r d deep p o v h
     arm_heavy (arm_type m t arms) r d deep n p o v h =

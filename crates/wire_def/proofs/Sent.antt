@@ -93,7 +93,9 @@ abbrev pub is_element : Array → ℤ → Bool
 is_element (text c) = is_letter
 is_element (row_of k c) = in_range k
 
-octet_sent : (test : ℕ → Bool) (k : Kind) (p : ℕ) (n : ℤ) → in_range k n ≡ true → Rattle.mint.specs.Kinds.under k ≡ 0 → test (natural n) ≡ true → OctetSpells test p (natural n ∷ []) n
+octet_sent : (test : ℕ → Bool) (k : Kind) (p : ℕ) (n : ℤ) → in_range k n ≡ true → Rattle.mint.specs.Kinds.under k ≡ 0
+    → test (natural n) ≡ true
+    → OctetSpells test p (natural n ∷ []) n
 unfolding OctetSpells
 octet_sent test k p (pos n) h none ok = (n, refl, refl, ok)
 octet_sent test k p (negsuc n) h none ok = absurd (omega (arith, ltb-true _ _ h))
@@ -109,12 +111,14 @@ element_sent e (text c) p n h = octet_sent _ kind.Char p n (left_true _ _ h) ref
 element_sent e (row_of kind.Octet c) p n h = octet_sent _ kind.Octet p n h refl refl
 element_sent e (row_of k c) p n h = scalar_sent e (number k) p n h
 
-elements_sent : (e : Encoding) (a : Array) (p : ℕ) (ns : List ℤ) → list_all (is_element a) ns ≡ true → SpellTimes (ElementSpells e a) (length ns) p (elements_octets (element_octets e a) p ns) ns
+elements_sent : (e : Encoding) (a : Array) (p : ℕ) (ns : List ℤ) → list_all (is_element a) ns ≡ true
+    → SpellTimes (ElementSpells e a) (length ns) p (elements_octets (element_octets e a) p ns) ns
 unfolding elements_octets
 elements_sent e a p [] h = refl
 elements_sent e a p (n ∷ ns) h = (element_octets e a p n, _, refl, element_sent e a p n (left_true _ _ h), elements_sent e a (p + length (element_octets e a p n)) ns (right_true _ _ h))
 
-array_sent : (e : Encoding) (a : Array) (p : ℕ) (k : Kind) (ns : List ℤ) → IsArray a k ns → length ns < 268435456 → (k ≡ kind_of a) × ArraySpells e a p (array_octets e a p ns) ns
+array_sent : (e : Encoding) (a : Array) (p : ℕ) (k : Kind) (ns : List ℤ) → IsArray a k ns → length ns < 268435456
+    → (k ≡ kind_of a) × ArraySpells e a p (array_octets e a p ns) ns
 unfolding ArraySpells array_octets
 array_sent e (text c) p k ns h few = (h.0, (_, _, refl, head_sent e (text c) p (length ns) h.1 few, (_, _, refl, elements_sent e (text c) _ ns h.2, tail_sent e (text c) _ (length ns))))
 array_sent e (row_of k' c) p k ns h few = (h.0, (_, _, refl, head_sent e (row_of k' c) p (length ns) h.1 few, (_, _, refl, elements_sent e (row_of k' c) _ ns h.2, tail_sent e (row_of k' c) _ (length ns))))
@@ -124,7 +128,8 @@ abbrev pub IsLight : ℕ → Type 0
 IsLight n = n ≤ 268435456
 
 -- each of the elements
-each_sent : (e : Encoding) (t : Ty) → ((p : ℕ) (v : Val) → IsOf t v → IsLight (weight v) → Spells e t p (send e t p v) v) → (p : ℕ) (vs : Vals) → Each (IsOf t) vs → IsLight (weights vs)
+each_sent : (e : Encoding) (t : Ty) → ((p : ℕ) (v : Val) → IsOf t v → IsLight (weight v) → Spells e t p (send e t p v) v)
+    → (p : ℕ) (vs : Vals) → Each (IsOf t) vs → IsLight (weights vs)
     → SpellTimes (Spells e t) (count vs) p (send_each (send e t) p vs) (list_of vs)
 each_sent e t one p no_more h few = refl
 each_sent e t one p (val v vs) h few = (_, _, refl, one p v h.0 (omega arith), each_sent e t one (p + length (send e t p v)) vs h.1 (omega arith))
@@ -138,7 +143,8 @@ armed no_other n v h = absurd h
 armed (others t) n v h = refl
 armed (arm_type m t arms) n v h = armed_at (IsOf t v) (IsOfArm arms n v) (int_eq n m) h (armed arms n v)
 
-arm_at : (b : Bool) {P Q : Type 0} (x y : List ℕ) (S T : List ℕ → Type 0) → (P → S x) → (Q → T y) → MatchBool b P Q → MatchBool b (S (cond b x y)) (T (cond b x y))
+arm_at : (b : Bool) {P Q : Type 0} (x y : List ℕ) (S T : List ℕ → Type 0) → (P → S x) → (Q → T y) → MatchBool b P Q
+    → MatchBool b (S (cond b x y)) (T (cond b x y))
 arm_at true x y S T f g h = f h
 arm_at false x y S T f g h = g h
 
@@ -156,12 +162,14 @@ mutual
   sent e (maybe_type t) p (present v) h few = (_, _, refl, lone_sent e flag p (pos 1) refl, sent e t _ v h (omega arith))
   sent e _ p _ h few = absurd h
 
-  pub fields_sent : (e : Encoding) (ts : Tys) (p : ℕ) (vs : Vals) → AreOf ts vs → IsLight (weights vs) → FieldsSpell e ts p (send_fields e ts p vs) vs
+  pub fields_sent : (e : Encoding) (ts : Tys) (p : ℕ) (vs : Vals) → AreOf ts vs → IsLight (weights vs)
+      → FieldsSpell e ts p (send_fields e ts p vs) vs
   fields_sent e no_fields p no_more h few = refl
   fields_sent e (field t ts) p (val v vs) h few = (_, _, refl, sent e t p v h.0 (omega arith), fields_sent e ts _ vs h.1 (omega arith))
   fields_sent e _ p _ h few = absurd h
 
-  pub arm_sent : (e : Encoding) (arms : Arms) (n : ℤ) (p : ℕ) (v : Val) → IsOfArm arms n v → IsLight (weight v) → ArmSpells e arms n p (send_arm e arms n p v) v
+  pub arm_sent : (e : Encoding) (arms : Arms) (n : ℤ) (p : ℕ) (v : Val) → IsOfArm arms n v → IsLight (weight v)
+      → ArmSpells e arms n p (send_arm e arms n p v) v
   arm_sent e no_other n p v h few = absurd h
   arm_sent e (others t) n p v h few = sent e t p v h few
   arm_sent e (arm_type m t arms) n p v h few = arm_at (int_eq n m) (send e t p v) (send_arm e arms n p v) (λ o. Spells e t p o v) (λ o. ArmSpells e arms n p o v) (λ j. sent e t p v j few) (λ j. arm_sent e arms n p v j few) h

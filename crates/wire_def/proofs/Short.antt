@@ -23,7 +23,7 @@ width_most _ is16 = lit≤ tt
 width_most _ is32 = lit≤ tt
 width_most _ is64 = lit≤ tt
 
--- and before it stand at most 7
+-- and before it are at most 7
 gap_most : (w : Width) → IsOwn w → (p : ℕ) → gap p (byte_len w) ≤ 7
 gap_most _ is8 p = omega arith
 gap_most _ is16 p = omega arith
@@ -39,7 +39,8 @@ before_most CdrBig s p = gap_most (own_width s) (own_of CdrBig s) p
 before_most CdrLittle s p = gap_most (own_width s) (own_of CdrLittle s) p
 before_most Mach s p = omega (arith, no_gap p)
 
-pub scalar_long : (e : Encoding) (s : Scalar) (p : ℕ) (n : ℤ) → length (scalar_octets e s p n) ≡ gap p (alignment_of e s) + byte_len (width_of e s)
+pub scalar_long : (e : Encoding) (s : Scalar) (p : ℕ) (n : ℤ)
+    → length (scalar_octets e s p n) ≡ gap p (alignment_of e s) + byte_len (width_of e s)
 unfolding scalar_octets
 scalar_long e s p n =
     let long = (wide e s).len (residue (width_of e s) n) in
@@ -98,7 +99,8 @@ element_most e (text c) p n = lit≤ tt
 element_most e (row_of kind.Octet c) p n = lit≤ tt
 element_most e (row_of k c) p n = scalar_most e (number k) p n
 
-elements_most : (one : ℕ → ℤ → List ℕ) → ((p : ℕ) (n : ℤ) → length (one p n) ≤ 15) → (p : ℕ) (ns : List ℤ) → length (elements_octets one p ns) ≤ 15 * length ns
+elements_most : (one : ℕ → ℤ → List ℕ) → ((p : ℕ) (n : ℤ) → length (one p n) ≤ 15) → (p : ℕ) (ns : List ℤ)
+    → length (elements_octets one p ns) ≤ 15 * length ns
 unfolding elements_octets
 elements_most one each p [] = lit≤ tt
 elements_most one each p (n ∷ ns) =
@@ -128,10 +130,12 @@ array_most e a p ns =
     simp (length-append, length-replicate) (omega (arith, first, second, third))
 
 -- two that follow one another
-both_most : (p : ℕ) (o : List ℕ) (more : ℕ → List ℕ) (k l : ℕ) → length o ≤ k → length (more (p + length o)) ≤ l → length (followed p o more) ≤ k + l
+both_most : (p : ℕ) (o : List ℕ) (more : ℕ → List ℕ) (k l : ℕ) → length o ≤ k → length (more (p + length o)) ≤ l
+    → length (followed p o more) ≤ k + l
 both_most p o more k l h j = rw length-append (omega arith)
 
-each_most : (one : ℕ → Val → List ℕ) → ((p : ℕ) (v : Val) → length (one p v) ≤ 16 * weight v) → (p : ℕ) (vs : Vals) → length (send_each one p vs) ≤ 16 * weights vs
+each_most : (one : ℕ → Val → List ℕ) → ((p : ℕ) (v : Val) → length (one p v) ≤ 16 * weight v) → (p : ℕ) (vs : Vals)
+    → length (send_each one p vs) ≤ 16 * weights vs
 each_most one each p no_more = lit≤ tt
 each_most one each p (val v vs) =
     let here = each p v in

@@ -47,7 +47,9 @@ abbrev mutual
   ArmsTakeRoom (arm_type m t arms) = TakesRoom t × ArmsTakeRoom arms
 
 -- tests of which none refused
-none_refused : (a b c d e : Bool) (v w x y z : MintErr) → cond a (Some v) (cond b (Some w) (cond c (Some x) (cond d (Some y) (cond e (Some z) None)))) ≡ None → (b ≡ false) × (d ≡ false)
+none_refused : (a b c d e : Bool) (v w x y z : MintErr)
+    → cond a (Some v) (cond b (Some w) (cond c (Some x) (cond d (Some y) (cond e (Some z) None)))) ≡ None
+    → (b ≡ false) × (d ≡ false)
 none_refused true b c d e v w x y z h = absurd cc
 none_refused false true c d e v w x y z h = absurd cc
 none_refused false false true d e v w x y z h = absurd cc

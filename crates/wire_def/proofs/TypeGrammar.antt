@@ -39,7 +39,8 @@ count-vals_of (x ∷ xs) = ap suc (count-vals_of xs)
 
 -- a choice of two
 pub chosen : {E A : Type 0} (b : Bool) {r r' : Reader E A} {S S' : Spelling A} {F F' : Stopping E} → IsGrammar r S F → IsGrammar r' S' F'
-    → IsGrammar (λ p o. cond b (r p o) (r' p o)) (λ p o x. MatchBool b (S p o x) (S' p o x)) (λ p o k at. MatchBool b (F p o k at) (F' p o k at))
+    → IsGrammar (λ p o. cond b (r p o) (r' p o)) (λ p o x. MatchBool b (S p o x) (S' p o x))
+    (λ p o k at. MatchBool b (F p o k at) (F' p o k at))
 chosen true g g' = g
 chosen false g g' = g'
 
@@ -49,12 +50,16 @@ module _ (e : Encoding) (c : Count) (t : Ty) where
   ItemsSpell : Spelling Val
   ItemsSpell p o v = Spells e (items_type c t) p o v
 
-  items_forth : (p : ℕ) (o : List ℕ) (x : ℕ × List Val) → Parts p o (λ a. CountSpells e c p a x.0) (λ q b. SpellTimes (Spells e t) x.0 q b x.1) → Spells e (items_type c t) p o (items (vals_of x.1))
+  items_forth : (p : ℕ) (o : List ℕ) (x : ℕ × List Val)
+      → Parts p o (λ a. CountSpells e c p a x.0) (λ q b. SpellTimes (Spells e t) x.0 q b x.1)
+      → Spells e (items_type c t) p o (items (vals_of x.1))
   items_forth p o (n, xs) (a, b, is, first, second) =
       let many : n ≡ count (vals_of xs) = sym (count-vals_of xs ∙ times_length (Spells e t) n (p + length a) b xs second) in
       rw (list_of-vals_of xs, ← many) (a, b, is, first, second)
 
-  items_back : (p : ℕ) (o : List ℕ) (v : Val) → Spells e (items_type c t) p o v → (x : ℕ × List Val) × (items (vals_of x.1) ≡ v) × Parts p o (λ a. CountSpells e c p a x.0) (λ q b. SpellTimes (Spells e t) x.0 q b x.1)
+  items_back : (p : ℕ) (o : List ℕ) (v : Val) → Spells e (items_type c t) p o v
+      → (x : ℕ × List Val) × (items (vals_of x.1) ≡ v)
+      × Parts p o (λ a. CountSpells e c p a x.0) (λ q b. SpellTimes (Spells e t) x.0 q b x.1)
   items_back p o (items vs) h = ((count vs, list_of vs), ap items (vals_of-list_of vs), h)
   items_back p o _ h = absurd h
 
@@ -73,7 +78,7 @@ flags CdrBig p o n h = scalar_flags CdrBig p o n h
 flags CdrLittle p o n h = scalar_flags CdrLittle p o n h
 flags Mach p o n (a, b, is, first, (c, d, is', second, third)) = scalar_flags Mach (p + length a) c n second
 
--- what may stand behind a flag
+-- what may follow a flag
 BehindSpells : Spelling Val → ℤ → Spelling Val
 BehindSpells S (pos zero) p o v = (o ≡ []) × (absent ≡ v)
 BehindSpells S _ p o v = (w : Val) × (present w ≡ v) × S p o w
@@ -82,14 +87,17 @@ BehindStops : Stopping FaultKind → ℤ → Stopping FaultKind
 BehindStops F (pos zero) p o k at = ⊥
 BehindStops F _ p o k at = F p o k at
 
-behind_is : {r : Reader FaultKind Val} {S : Spelling Val} {F : Stopping FaultKind} → IsGrammar r S F → (n : ℤ) → IsGrammar (read_behind r n) (BehindSpells S n) (BehindStops F n)
+behind_is : {r : Reader FaultKind Val} {S : Spelling Val} {F : Stopping FaultKind} → IsGrammar r S F → (n : ℤ)
+    → IsGrammar (read_behind r n) (BehindSpells S n) (BehindStops F n)
 unfolding BehindSpells BehindStops
 behind_is g (pos zero) = done absent _ (λ p. (refl, refl)) (λ p o y h. h)
 behind_is g (pos (suc n)) = mapped present _ g (λ p o x h. (x, refl, h)) (λ p o y h. h)
 behind_is g (negsuc n) = mapped present _ g (λ p o x h. (x, refl, h)) (λ p o y h. h)
 
 module _ (e : Encoding) (t : Ty) where
-  maybe_forth : (p : ℕ) (o : List ℕ) (n : ℤ) (v : Val) (a b : List ℕ) → o ≡ a ++ b → LoneSpells e flag p a n → BehindSpells (Spells e t) n (p + length a) b v → Spells e (maybe_type t) p o v
+  maybe_forth : (p : ℕ) (o : List ℕ) (n : ℤ) (v : Val) (a b : List ℕ) → o ≡ a ++ b → LoneSpells e flag p a n
+      → BehindSpells (Spells e t) n (p + length a) b v
+      → Spells e (maybe_type t) p o v
   unfolding BehindSpells
   maybe_forth p o (pos zero) v a b is first (none, same) =
       rw (← same, is, none, append-nil) first
@@ -97,13 +105,16 @@ module _ (e : Encoding) (t : Ty) where
   maybe_forth p o (pos (suc (suc n))) v a b is first second = elim (flags e p a (pos (suc (suc n))) first) [ inl h ↦ absurd cc | inr h ↦ absurd cc ]
   maybe_forth p o (negsuc n) v a b is first second = elim (flags e p a (negsuc n) first) [ inl h ↦ absurd cc | inr h ↦ absurd cc ]
 
-  maybe_back : (p : ℕ) (o : List ℕ) (v : Val) → Spells e (maybe_type t) p o v → (x : ℤ × Val) × (x.1 ≡ v) × Parts p o (λ a. LoneSpells e flag p a x.0) (λ q b. BehindSpells (Spells e t) x.0 q b x.1)
+  maybe_back : (p : ℕ) (o : List ℕ) (v : Val) → Spells e (maybe_type t) p o v
+      → (x : ℤ × Val) × (x.1 ≡ v) × Parts p o (λ a. LoneSpells e flag p a x.0) (λ q b. BehindSpells (Spells e t) x.0 q b x.1)
   unfolding BehindSpells
   maybe_back p o absent h = ((pos 0, absent), refl, (o, [], sym (append-nil o), h, (refl, refl)))
   maybe_back p o (present v) (a, b, is, first, second) = ((pos 1, present v), refl, (a, b, is, first, (v, refl, second)))
   maybe_back p o _ h = absurd h
 
-  maybe_stops_to : (p : ℕ) (o : List ℕ) (k : FaultKind) (at : ℕ) (n : ℤ) (a b : List ℕ) → o ≡ a ++ b → LoneSpells e flag p a n → BehindStops (Stops e t) n (p + length a) b k at → Stops e (maybe_type t) p o k at
+  maybe_stops_to : (p : ℕ) (o : List ℕ) (k : FaultKind) (at : ℕ) (n : ℤ) (a b : List ℕ) → o ≡ a ++ b
+      → LoneSpells e flag p a n → BehindStops (Stops e t) n (p + length a) b k at
+      → Stops e (maybe_type t) p o k at
   unfolding BehindStops
   maybe_stops_to p o k at (pos zero) a b is first f = absurd f
   maybe_stops_to p o k at (pos (suc zero)) a b is first f = inr (a, b, is, first, f)
@@ -111,7 +122,8 @@ module _ (e : Encoding) (t : Ty) where
   maybe_stops_to p o k at (negsuc n) a b is first f = elim (flags e p a (negsuc n) first) [ inl h ↦ absurd cc | inr h ↦ absurd cc ]
 
   maybe_stops : (p : ℕ) (o : List ℕ) (k : FaultKind) (at : ℕ)
-      → Stops e (maybe_type t) p o k at ↔ (LoneStops e flag p o k at ⊎ ((n : ℤ) × Parts p o (λ a. LoneSpells e flag p a n) (λ q b. BehindStops (Stops e t) n q b k at)))
+      → Stops e (maybe_type t) p o k at ↔ (LoneStops e flag p o k at
+      ⊎ ((n : ℤ) × Parts p o (λ a. LoneSpells e flag p a n) (λ q b. BehindStops (Stops e t) n q b k at)))
   unfolding BehindStops
   maybe_stops p o k at = (to, from) where
     to : Stops e (maybe_type t) p o k at → LoneStops e flag p o k at ⊎ ((n : ℤ) × Parts p o (λ a. LoneSpells e flag p a n) (λ q b. BehindStops (Stops e t) n q b k at))
@@ -124,15 +136,18 @@ module _ (e : Encoding) (t : Ty) where
 
 -- ---- the values of each type
 
-scalar_back : (e : Encoding) (s : Scalar) (p : ℕ) (o : List ℕ) (v : Val) → Spells e (scalar_type s) p o v → (n : ℤ) × (num n ≡ v) × LoneSpells e s p o n
+scalar_back : (e : Encoding) (s : Scalar) (p : ℕ) (o : List ℕ) (v : Val) → Spells e (scalar_type s) p o v
+    → (n : ℤ) × (num n ≡ v) × LoneSpells e s p o n
 scalar_back e s p o (num n) h = (n, refl, h)
 scalar_back e s p o _ h = absurd h
 
-array_back : (e : Encoding) (a : Array) (p : ℕ) (o : List ℕ) (v : Val) → Spells e (array_type a) p o v → (ns : List ℤ) × (row (kind_of a) ns ≡ v) × ArraySpells e a p o ns
+array_back : (e : Encoding) (a : Array) (p : ℕ) (o : List ℕ) (v : Val) → Spells e (array_type a) p o v
+    → (ns : List ℤ) × (row (kind_of a) ns ≡ v) × ArraySpells e a p o ns
 array_back e a p o (row k ns) (same, h) = (ns, ap (λ z. row z ns) (sym same), h)
 array_back e a p o _ h = absurd h
 
-group_back : (e : Encoding) (ts : Tys) (p : ℕ) (o : List ℕ) (v : Val) → Spells e (group_type ts) p o v → (vs : Vals) × (group vs ≡ v) × FieldsSpell e ts p o vs
+group_back : (e : Encoding) (ts : Tys) (p : ℕ) (o : List ℕ) (v : Val) → Spells e (group_type ts) p o v
+    → (vs : Vals) × (group vs ≡ v) × FieldsSpell e ts p o vs
 group_back e ts p o (group vs) h = (vs, refl, h)
 group_back e ts p o _ h = absurd h
 

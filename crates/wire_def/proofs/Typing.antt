@@ -61,7 +61,8 @@ head_typed CdrBig (row_of k c) p o n h = count_typed CdrBig c p o n h
 head_typed CdrLittle (text c) p o n h = ended_typed CdrLittle c p o n h
 head_typed CdrLittle (row_of k c) p o n h = count_typed CdrLittle c p o n h
 
-octet_fits : (test : ℕ → Bool) (p : ℕ) (o : List ℕ) (n : ℤ) → AreOctets o → OctetSpells test p o n → (b : ℕ) × (n ≡ pos b) × (b < 256) × (test b ≡ true)
+octet_fits : (test : ℕ → Bool) (p : ℕ) (o : List ℕ) (n : ℤ) → AreOctets o → OctetSpells test p o n
+    → (b : ℕ) × (n ≡ pos b) × (b < 256) × (test b ≡ true)
 unfolding OctetSpells
 octet_fits test p o n oct (b, is, same, ok) =
     let there = rw is at oct in
@@ -93,18 +94,23 @@ elements_typed S test one (suc n) p o (x ∷ xs) oct (a, b, is, first, more) =
     let whole = rw is at oct in
     both_true (test x) (list_all test xs) (one p a x (octets_before a b whole) first) (elements_typed S test one n (p + length a) b xs (octets_behind a b whole) more)
 
-array_typed : (e : Encoding) (a : Array) (p : ℕ) (o : List ℕ) (ns : List ℤ) → AreOctets o → ArraySpells e a p o ns → Allows (count_of a) (length ns) × (list_all (is_element a) ns ≡ true)
+array_typed : (e : Encoding) (a : Array) (p : ℕ) (o : List ℕ) (ns : List ℤ) → AreOctets o → ArraySpells e a p o ns
+    → Allows (count_of a) (length ns) × (list_all (is_element a) ns ≡ true)
 unfolding ArraySpells
 array_typed e a p o ns oct (x, y, is, head, (u, v, is', elements, tail)) =
     let behind = octets_behind x y (rw is at oct) in
     let there = octets_before u v (rw is' at behind) in
     (head_typed e a p x (length ns) head, elements_typed (ElementSpells e a) (is_element a) (element_typed e a) (length ns) (p + length x) u ns there elements)
 
-row_typed : (e : Encoding) (a : Array) (p : ℕ) (o : List ℕ) (k : Kind) (ns : List ℤ) → AreOctets o → (k ≡ kind_of a) × ArraySpells e a p o ns → IsArray a k ns
+row_typed : (e : Encoding) (a : Array) (p : ℕ) (o : List ℕ) (k : Kind) (ns : List ℤ) → AreOctets o
+    → (k ≡ kind_of a) × ArraySpells e a p o ns
+    → IsArray a k ns
 row_typed e (text c) p o k ns oct h = let m = array_typed e (text c) p o ns oct h.1 in (h.0, m.0, m.1)
 row_typed e (row_of k' c) p o k ns oct h = let m = array_typed e (row_of k' c) p o ns oct h.1 in (h.0, m.0, m.1)
 
-each_typed : (S : Spelling Val) (P : Val → Type 0) → ((p : ℕ) (o : List ℕ) (v : Val) → AreOctets o → S p o v → P v) → (vs : Vals) (p : ℕ) (o : List ℕ) → AreOctets o → SpellTimes S (count vs) p o (list_of vs) → Each P vs
+each_typed : (S : Spelling Val) (P : Val → Type 0) → ((p : ℕ) (o : List ℕ) (v : Val) → AreOctets o → S p o v → P v)
+    → (vs : Vals) (p : ℕ) (o : List ℕ) → AreOctets o → SpellTimes S (count vs) p o (list_of vs)
+    → Each P vs
 each_typed S P one no_more p o oct h = tt
 each_typed S P one (val v vs) p o oct (a, b, is, first, more) =
     let whole = rw is at oct in
@@ -135,7 +141,8 @@ mutual
       (typed e t p a v (octets_before a b whole) first, fields_typed e ts (p + length a) b vs (octets_behind a b whole) more)
   fields_typed e _ p o vs oct h = absurd h
 
-  pub arm_typed : (e : Encoding) (arms : Arms) (n : ℤ) (p : ℕ) (o : List ℕ) (v : Val) → AreOctets o → ArmSpells e arms n p o v → IsOfArm arms n v
+  pub arm_typed : (e : Encoding) (arms : Arms) (n : ℤ) (p : ℕ) (o : List ℕ) (v : Val) → AreOctets o → ArmSpells e arms n p o v
+      → IsOfArm arms n v
   arm_typed e no_other n p o v oct h = absurd h
   arm_typed e (others t) n p o v oct h = typed e t p o v oct h
   arm_typed e (arm_type m t arms) n p o v oct h = match_both (int_eq n m) h (typed e t p o v oct) (arm_typed e arms n p o v oct)

@@ -181,11 +181,15 @@ desc_wide = little32
 pub rest_wide : IsWide Mach w64
 rest_wide = little64
 
-pub picked_got : {E A : Type 0} (b : Bool) (k : E) (at : ℕ) (x y : A) (p q : ℕ) (o rest : List ℕ) → cond b (stop k at) (got x p o) ≡ got y q rest → (b ≡ false) × (x ≡ y) × (p ≡ q) × (o ≡ rest)
+pub picked_got : {E A : Type 0} (b : Bool) (k : E) (at : ℕ) (x y : A) (p q : ℕ) (o rest : List ℕ)
+    → cond b (stop k at) (got x p o) ≡ got y q rest
+    → (b ≡ false) × (x ≡ y) × (p ≡ q) × (o ≡ rest)
 picked_got true k at x y p q o rest e = absurd cc
 picked_got false k at x y p q o rest e = (refl, cc, cc, cc)
 
-pub picked_stop : {E A : Type 0} (b : Bool) (k k' : E) (at at' : ℕ) (x : A) (p : ℕ) (o : List ℕ) → cond b (stop k at) (got x p o) ≡ stop k' at' → (b ≡ true) × (k' ≡ k) × (at' ≡ at)
+pub picked_stop : {E A : Type 0} (b : Bool) (k k' : E) (at at' : ℕ) (x : A) (p : ℕ) (o : List ℕ)
+    → cond b (stop k at) (got x p o) ≡ stop k' at'
+    → (b ≡ true) × (k' ≡ k) × (at' ≡ at)
 picked_stop true k k' at at' x p o e = (refl, cc, cc)
 picked_stop false k k' at at' x p o e = absurd cc
 
@@ -199,7 +203,8 @@ module _ (e : Encoding) (a : ℕ) (w : Width) (is_wide : IsWide e w) where
       let apart : o ++ rest ≡ junk ++ (num ++ rest) = ap (λ z. z ++ rest) is ∙ append_assoc junk num rest in
       rw (enough, apart, drop_at junk (num ++ rest) (gap p a) len, take_at num rest (byte_len w) (is_wide.len m), drop_at num rest (byte_len w) (is_wide.len m), is_wide.again m lt, ← long) refl
 
-  word_spelled : (p : ℕ) (o : List ℕ) (m q : ℕ) (rest : List ℕ) → AreOctets o → read_word e a w p o ≡ got m q rest → (b : List ℕ) × (o ≡ b ++ rest) × (q ≡ p + length b) × WordSpells e a w p b m
+  word_spelled : (p : ℕ) (o : List ℕ) (m q : ℕ) (rest : List ℕ) → AreOctets o → read_word e a w p o ≡ got m q rest
+      → (b : List ℕ) × (o ≡ b ++ rest) × (q ≡ p + length b) × WordSpells e a w p b m
   unfolding WordSpells read_word
   word_spelled p o m q rest oct is =
       let g : ℕ = gap p a in

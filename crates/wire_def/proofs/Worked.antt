@@ -70,7 +70,8 @@ samples =
     (
       0,
       (
-        group_type (field (scalar_type (number kind.U8)) (field (scalar_type (number kind.I64)) (field (scalar_type (number kind.U16)) no_fields))),
+        group_type (field (scalar_type (number kind.U8))
+            (field (scalar_type (number kind.I64)) (field (scalar_type (number kind.U16)) no_fields))),
         group (val (num (pos 1)) (val (num (pos 4)) (val (num (pos 2)) no_more))),
       ),
     ) ∷
@@ -126,7 +127,7 @@ xdr : sent Xdr ≡
 unfolding send send_fields send_arm array_octets head_octets described_octets count_octets elements_octets element_octets scalar_octets
 xdr = refl
 
--- gaps in front of numbers
+-- gaps before numbers
 cdr_big : sent CdrBig ≡
     (254 ∷ []) ∷
     (200 ∷ []) ∷

@@ -1,4 +1,4 @@
--- Counts, rows and texts: what gives their length, their elements, and what stands behind them.
+-- Counts, rows and texts: what gives their length, their elements, and what follows them.
 use Rattle.std.specs.Prelude.{◌≡◌, ◌⊎◌, ℕ, zero, suc, ◌+◌, ◌*◌, ℤ, pos, negsuc, List, [], ◌∷◌, ◌++◌, length, replicate, Bool, true, false, IsTrue, nat_lt, nat_le, if◌then◌else◌}
 use Rattle.mint.specs.declared.kind.Kind.{Kind}
 use Rattle.mint.specs.declared.kind.Kind.TheVariants as kind
@@ -26,7 +26,7 @@ natural (negsuc n) = 0
 abbrev pub counted : Scalar
 counted = number kind.U32
 
--- the octets of a count, which a fixed length has not
+-- the octets of a count, which a fixed length does not have
 unfoldable pub count_octets : Encoding → Count → ℕ → ℕ → List ℕ
 count_octets e (Exactly m) p n = []
 count_octets e _ p n = lone_octets e counted p (pos n)
@@ -41,13 +41,15 @@ CountSpells e Any p o n = LoneSpells e counted p o (pos n)
 unfoldable pub CountStops : Encoding → Count → Stopping FaultKind
 CountStops e (Exactly m) p o k at = ⊥
 CountStops e (AtMost m) p o k at = LoneStops e counted p o k at
-    ⊎ ((n : ℕ) × Parts p o (λ a. LoneSpells e counted p a (pos n)) (λ q b. (nat_le n m ≡ false) × (k ≡ OverBound) × (at ≡ lone_place e counted p)))
+    ⊎ ((n : ℕ) × Parts p o (λ a. LoneSpells e counted p a (pos n))
+    (λ q b. (nat_le n m ≡ false) × (k ≡ OverBound) × (at ≡ lone_place e counted p)))
 CountStops e Any p o k at = LoneStops e counted p o k at
 
 -- a count, read from a position
 unfoldable pub read_count : Encoding → Count → Reader FaultKind ℕ
 read_count e (Exactly m) p o = got m p o
-read_count e (AtMost m) p o = tested (λ q b. map_got natural (read_lone e counted q b)) (λ n. nat_le n m) OverBound (lone_place e counted) p o
+read_count e (AtMost m) p o = tested (λ q b. map_got natural (read_lone e counted q b)) (λ n. nat_le n m) OverBound
+    (lone_place e counted) p o
 read_count e Any p o = map_got natural (read_lone e counted p o)
 
 -- ---- octets by themselves
@@ -98,7 +100,7 @@ is_octets (text c) = true
 is_octets (row_of kind.Octet c) = true
 is_octets (row_of k c) = false
 
--- an octet that may stand in the array: in a text each but 0
+-- an octet that may be in the array: in a text each but 0
 abbrev pub may_stand : Array → ℕ → Bool
 may_stand (text c) b = nat_lt 0 b
 may_stand (row_of k c) b = true
@@ -141,7 +143,7 @@ abbrev pub less_one : ℤ → ℕ
 less_one (pos (suc n)) = n
 less_one _ = 0
 
--- the length of a text over CDR: of its octets and the 0 behind them
+-- the length of a text over CDR: of its octets and the 0 after them
 abbrev pub ended_octets : Encoding → ℕ → ℕ → List ℕ
 ended_octets e p n = scalar_octets e counted p (pos (suc n))
 
@@ -152,13 +154,17 @@ EndedSpells e c p o n = ScalarSpells e counted p o (pos (suc n)) × IsTrue (allo
 abbrev pub EndedStops : Encoding → Count → Stopping FaultKind
 EndedStops e c p o k at =
     (ScalarStops e counted p o k at
-    ⊎ ((m : ℤ) × Parts p o (λ a. ScalarSpells e counted p a m) (λ q b. (is_some m ≡ false) × (k ≡ BadText) × (at ≡ scalar_place e counted p))))
-    ⊎ ((n : ℕ) × Parts p o (λ a. ScalarSpells e counted p a (pos (suc n))) (λ q b. (allowed c n ≡ false) × (k ≡ OverBound) × (at ≡ scalar_place e counted p)))
+    ⊎ ((m : ℤ) × Parts p o (λ a. ScalarSpells e counted p a m)
+    (λ q b. (is_some m ≡ false) × (k ≡ BadText) × (at ≡ scalar_place e counted p))))
+    ⊎ ((n : ℕ) × Parts p o (λ a. ScalarSpells e counted p a (pos (suc n)))
+    (λ q b. (allowed c n ≡ false) × (k ≡ OverBound) × (at ≡ scalar_place e counted p)))
 
 abbrev pub read_ended : Encoding → Count → Reader FaultKind ℕ
-read_ended e c = tested (λ q b. map_got less_one (tested (read_scalar e counted) is_some BadText (scalar_place e counted) q b)) (allowed c) OverBound (scalar_place e counted)
+read_ended e c = tested
+    (λ q b. map_got less_one (tested (read_scalar e counted) is_some BadText (scalar_place e counted) q b))
+    (allowed c) OverBound (scalar_place e counted)
 
--- what stands in front of an array's elements and gives their number: a count, one more for a text over CDR, or a descriptor
+-- what comes before an array's elements and gives their number: a count, one more for a text over CDR, or a descriptor
 unfoldable pub head_octets : Encoding → Array → ℕ → ℕ → List ℕ
 head_octets CdrBig (text c) p n = ended_octets CdrBig p n
 head_octets CdrLittle (text c) p n = ended_octets CdrLittle p n
@@ -183,7 +189,7 @@ read_head CdrLittle (text c) = read_ended CdrLittle c
 read_head Mach a = read_described (count_of a) (number (kind_of a))
 read_head e a = read_count e (count_of a)
 
--- ---- what stands behind the elements
+-- ---- what follows the elements
 
 -- how many octets: XDR and Mach fill up to a multiple of 4, CDR ends a text
 abbrev pub trailing : Encoding → Array → ℕ → ℕ
@@ -225,7 +231,7 @@ ArraySpells e a p o ns =
     Parts p o (λ x. HeadSpells e a p x (length ns))
     (λ q b. Parts q b (λ x. SpellTimes (ElementSpells e a) (length ns) q x ns) (λ r d. TailSpells e a (length ns) r d tt))
 
--- the first fault of an array: at its head, at an element, or behind them
+-- the first fault of an array: at its head, at an element, or after them
 unfoldable pub ArrayStops : Encoding → Array → Stopping FaultKind
 ArrayStops e a p o k at =
     HeadStops e a p o k at

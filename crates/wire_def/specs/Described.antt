@@ -1,4 +1,4 @@
--- Descriptors in front of the rows and texts of Mach messages, in their two forms.
+-- Descriptors before the rows and texts of Mach messages, in their two forms.
 use Rattle.std.specs.Prelude.{◌≡◌, ◌⊎◌, ℕ, ◌+◌, ◌*◌, ◌-◌, ◌/◌, ◌%◌, ◌^◌, List, [], ◌++◌, Bool, true, false, ◌&&◌, IsTrue, MatchBool, nat_lt, nat_le, nat_eq, if◌then◌else◌}
 use Rattle.std.specs.Int.{w32, w64}
 use Rattle.kit_base.specs.Bytes.{le}
@@ -47,13 +47,13 @@ described_octets c s n =
 abbrev pub is_marked : ℕ → Bool
 is_marked m = nat_eq (m / 2 ^ 28) 3
 
--- a row of fixed length stands in the form in which it is sent
+-- a row of fixed length is in the form in which it is sent
 abbrev pub takes : Count → Scalar → Bool → Bool
 takes (Exactly m) s true = nat_lt 4095 (m * units_of s)
 takes (Exactly m) s false = nat_le (m * units_of s) 4095
 takes _ s long = true
 
--- a first word of a form that may stand there
+-- a first word of a form that may be there
 abbrev pub has_form : Count → Scalar → ℕ → Bool
 has_form c s m = if is_marked m then takes c s true else nat_eq (m / 2 ^ 28) 1 && takes c s false
 
@@ -78,11 +78,11 @@ abbrev pub is_fixed : Count → Scalar → ℕ → Bool
 is_fixed (Exactly m) s k = nat_eq k (m * units_of s)
 is_fixed _ s k = true
 
--- the element's name and bits, and a number that may stand there
+-- the element's name and bits, and a number that may be there
 abbrev pub is_right : Count → Scalar → ℕ → Bool
 is_right c s d = nat_eq (d % 2 ^ 32) (long_words (unit_name s) (unit_bits s) 0) && (is_whole s (d / 2 ^ 32) && is_fixed c s (d / 2 ^ 32))
 
--- a word, told from before the four octets in front of it where it is cut off
+-- a word, whose fault is placed before the four octets ahead of it where it is cut off
 unfoldable pub told_before : {A : Type 0} → ℕ → Reading FaultKind A → Reading FaultKind A
 told_before p (got x q o) = got x q o
 told_before p (stop k at) = stop k p
@@ -92,12 +92,13 @@ unfoldable pub FirstSpells : Count → Scalar → Spelling ℕ
 FirstSpells c s p o m = WordSpells Mach 1 w32 p o m × IsTrue (has_form c s m)
 
 unfoldable pub FirstStops : Count → Scalar → Stopping FaultKind
-FirstStops c s p o k at = WordStops Mach 1 w32 p o k at ⊎ ((m : ℕ) × Parts p o (λ a. WordSpells Mach 1 w32 p a m) (λ q b. (has_form c s m ≡ false) × (k ≡ BadItem) × (at ≡ p)))
+FirstStops c s p o k at = WordStops Mach 1 w32 p o k at
+    ⊎ ((m : ℕ) × Parts p o (λ a. WordSpells Mach 1 w32 p a m) (λ q b. (has_form c s m ≡ false) × (k ≡ BadItem) × (at ≡ p)))
 
 unfoldable pub read_first : Count → Scalar → Reader FaultKind ℕ
 read_first c s = tested (read_word Mach 1 w32) (has_form c s) BadItem (λ p. p)
 
--- what the descriptor says: behind a marked word 8 octets, else nothing more
+-- what the descriptor says: after a marked word 8 octets, else nothing more
 unfoldable pub RestSpells : ℕ → Spelling ℕ
 RestSpells m p o d = MatchBool (is_marked m) (WordSpells Mach 1 w64 p o d) ((o ≡ []) × (widened m ≡ d))
 
@@ -107,7 +108,7 @@ RestStops m p o k at = MatchBool (is_marked m) ((place : ℕ) × WordStops Mach 
 unfoldable pub read_rest : ℕ → Reader FaultKind ℕ
 read_rest m p o = if is_marked m then told_before (p - 4) (read_word Mach 1 w64 p o) else got (widened m) p o
 
--- a descriptor in a form that may stand there, and what it says
+-- a descriptor in a form that may be there, and what it says
 abbrev pub FormSpells : Count → Scalar → Spelling (ℕ × ℕ)
 FormSpells c s p o x = Parts p o (λ a. FirstSpells c s p a x.0) (λ q b. RestSpells x.0 q b x.1)
 
@@ -130,4 +131,7 @@ DescribedStops c s p o k at =
     ⊎ ((n : ℕ) × Parts p o (λ a. ManySpell c s p a n) (λ q b. (allowed c n ≡ false) × (k ≡ OverBound) × (at ≡ p)))
 
 unfoldable pub read_described : Count → Scalar → Reader FaultKind ℕ
-read_described c s = tested (λ q b. map_got (λ x. elements_in s (x.1 / 2 ^ 32)) (tested (both (read_first c s) read_rest) (λ x. is_right c s x.1) BadItem (λ p. p) q b)) (allowed c) OverBound (λ p. p)
+read_described c s = tested
+    (λ q b. map_got (λ x. elements_in s (x.1 / 2 ^ 32))
+    (tested (both (read_first c s) read_rest) (λ x. is_right c s x.1) BadItem (λ p. p) q b))
+    (allowed c) OverBound (λ p. p)

@@ -2,7 +2,7 @@
 use Rattle.std.specs.Prelude.{◌≡◌, ◌⊎◌, ℕ, zero, suc, ◌+◌, ◌<◌, List, [], ◌∷◌, ◌++◌, length, Bool, false, IsTrue, if◌then◌else◌}
 use Rattle.std.specs.List.{AllByRecursion}
 
--- a value with the position behind it and the octets left, or the first fault and its place
+-- a value with the position after it and the octets left, or the first fault and its place
 pub data Reading (E A : Type 0) : Type 0 where
   got : A → ℕ → List ℕ → Reading E A
   stop : E → ℕ → Reading E A
@@ -25,7 +25,7 @@ AreOctets o = AllByRecursion (λ b. b < 256) o
 
 -- ---- readers
 
--- what is read behind what was read, or the fault
+-- what is read after what was read, or the fault
 abbrev pub then_on : {E A B : Type 0} → Reading E A → (A → Reader E B) → Reading E B
 then_on (got x p o) f = f x p o
 then_on (stop k at) f = stop k at
@@ -50,7 +50,7 @@ tested r test k place p o = then_on (r p o) (λ x q rest. if test x then got x q
 
 -- ---- spellings and stops
 
--- the octets are two parts, the second from behind the first
+-- the octets are two parts, the second after the first
 abbrev pub Parts : ℕ → List ℕ → (List ℕ → Type 0) → (ℕ → List ℕ → Type 0) → Type 0
 Parts p o First Second = (a : List ℕ) × (b : List ℕ) × (o ≡ a ++ b) × First a × Second (p + length a) b
 
@@ -60,12 +60,12 @@ SpellTimes S zero p o [] = o ≡ []
 SpellTimes S (suc n) p o (x ∷ xs) = Parts p o (λ a. S p a x) (λ q b. SpellTimes S n q b xs)
 SpellTimes S _ p o _ = ⊥
 
--- one of the n stops, behind those before it
+-- one of the n stops, after those before it
 abbrev pub StopTimes : {E A : Type 0} → Spelling A → Stopping E → ℕ → Stopping E
 StopTimes S F zero p o k at = ⊥
 StopTimes {E} {A} S F (suc n) p o k at = F p o k at ⊎ ((x : A) × Parts p o (λ a. S p a x) (λ q b. StopTimes S F n q b k at))
 
--- the first stop of a part and of what follows it: the part stops, or it stands there and what follows stops
+-- the first stop of a part and of what follows it: the part stops, or it is there and what follows stops
 abbrev pub StopsInOrder : {E A : Type 0} → Spelling A → Stopping E → (A → Stopping E) → Stopping E
 StopsInOrder {E} {A} S F Behind p o k at = F p o k at ⊎ ((x : A) × Parts p o (λ a. S p a x) (λ q b. Behind x q b k at))
 
@@ -85,7 +85,8 @@ pub record IsGrammar {E A : Type 0} (r : Reader E A) (S : Spelling A) (F : Stopp
   -- what is spelled is read, whatever follows
   pub reads : (p : ℕ) (o rest : List ℕ) (x : A) → S p o x → r p (o ++ rest) ≡ got x (p + length o) rest
   -- what is read is spelled
-  pub spelled : (p : ℕ) (o : List ℕ) (x : A) (q : ℕ) (rest : List ℕ) → AreOctets o → r p o ≡ got x q rest → (a : List ℕ) × (o ≡ a ++ rest) × (q ≡ p + length a) × S p a x
+  pub spelled : (p : ℕ) (o : List ℕ) (x : A) (q : ℕ) (rest : List ℕ) → AreOctets o → r p o ≡ got x q rest
+      → (a : List ℕ) × (o ≡ a ++ rest) × (q ≡ p + length a) × S p a x
   -- where it stops, reading stops
   pub stops : (p : ℕ) (o : List ℕ) (k : E) (at : ℕ) → F p o k at → r p o ≡ stop k at
   -- where reading stops, it stops

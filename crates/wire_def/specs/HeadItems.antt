@@ -12,6 +12,6 @@ BodySpells n p o body = (o ≡ body) × (length body ≡ n)
 abbrev pub BodyStops : ℕ → Stopping HeadErr
 BodyStops n p o k at = (length o < n) × (k ≡ Short) × (at ≡ p)
 
--- so many octets, from the front
+-- the first so many octets
 unfoldable pub read_body : ℕ → Reader HeadErr (List ℕ)
 read_body n p o = if nat_lt (length o) n then stop Short p else got (take n o) (p + n) (drop n o)

@@ -62,9 +62,10 @@ SpelledOrStopped e = (t : Ty) → IsSound t → (p : ℕ) (o : List ℕ) → Are
 abbrev pub SpelledIsTyped : Encoding → Type 0
 SpelledIsTyped e = (t : Ty) (p : ℕ) (o : List ℕ) (v : Val) → AreOctets o → Spells e t p o v → IsOf t v
 
--- a body that a message can hold is no value above this weight
+-- a body that a message can hold has no value above this weight
 abbrev pub BodiesAreLight : Encoding → Type 0
-BodiesAreLight e = (t : Ty) → IsSound t → (p : ℕ) (o : List ℕ) (v : Val) → length o ≤ longest_message → Spells e t p o v → weight v ≤ 138412032
+BodiesAreLight e = (t : Ty) → IsSound t → (p : ℕ) (o : List ℕ) (v : Val) → length o ≤ longest_message → Spells e t p o v
+    → weight v ≤ 138412032
 
 -- what is read is spelled, and where reading stops there is the fault
 abbrev pub ReadingIsGrammar : Encoding → Type 0

@@ -1,4 +1,4 @@
--- Scalars that travel by themselves: over XDR and CDR their octets, in Mach messages items behind descriptors.
+-- Scalars that travel by themselves: over XDR and CDR their octets, in Mach messages items after descriptors.
 use Rattle.std.specs.Prelude.{◌≡◌, ◌⊎◌, ℕ, ◌+◌, ◌*◌, ◌^◌, ◌<◌, ℤ, List, ◌++◌, length, drop, replicate, Bool, false, nat_lt, nat_eq, if◌then◌else◌}
 use Rattle.std.specs.Int.{w32, byte_len}
 use Rattle.kit_base.specs.Bytes.{le}
@@ -72,7 +72,8 @@ DescSpells w p o x = WordSpells Mach 1 w32 p o w
 
 -- a descriptor that is cut off, or another one
 unfoldable pub DescStops : ℕ → Stopping FaultKind
-DescStops w p o k at = WordStops Mach 1 w32 p o k at ⊎ ((m : ℕ) × Parts p o (λ a. WordSpells Mach 1 w32 p a m) (λ q b. (nat_eq m w ≡ false) × (k ≡ BadItem) × (at ≡ p)))
+DescStops w p o k at = WordStops Mach 1 w32 p o k at
+    ⊎ ((m : ℕ) × Parts p o (λ a. WordSpells Mach 1 w32 p a m) (λ q b. (nat_eq m w ≡ false) × (k ≡ BadItem) × (at ≡ p)))
 
 -- this descriptor, read from a position
 unfoldable pub read_desc : ℕ → Reader FaultKind (Unit {0})
@@ -80,7 +81,7 @@ read_desc w p o = map_got (λ m. tt) (tested (read_word Mach 1 w32) (λ m. nat_e
 
 -- ---- items: a descriptor, what it describes, and octets up to a multiple of 4
 
--- the octets behind a scalar's
+-- the octets after a scalar's
 abbrev pub filling : Scalar → ℕ
 filling s = gap (byte_len (width_of Mach s)) 4
 
@@ -88,12 +89,13 @@ abbrev pub item_octets : Scalar → (ℕ → List ℕ) → ℕ → List ℕ
 item_octets s inside p = le 4 (scalar_word s) ++ (inside (p + 4) ++ replicate (filling s) 0)
 
 abbrev pub ItemSpells : {A : Type 0} → Scalar → Spelling A → Spelling A
-ItemSpells s S p o x = Parts p o (λ a. DescSpells (scalar_word s) p a tt) (λ q b. Parts q b (λ c. S q c x) (λ r d. AnySpell (filling s) r d tt))
+ItemSpells s S p o x = Parts p o (λ a. DescSpells (scalar_word s) p a tt)
+    (λ q b. Parts q b (λ c. S q c x) (λ r d. AnySpell (filling s) r d tt))
 
 abbrev pub ItemStops : {A : Type 0} → Scalar → Spelling A → Stopping FaultKind → Stopping FaultKind
-ItemStops {A} s S F p o k at =
-    DescStops (scalar_word s) p o k at
-    ⊎ ((x : Unit {0}) × Parts p o (λ a. DescSpells (scalar_word s) p a x) (λ q b. F q b k at ⊎ ((y : A) × Parts q b (λ c. S q c y) (λ r d. AnyStop (filling s) r d k at))))
+ItemStops {A} s S F p o k at = DescStops (scalar_word s) p o k at
+    ⊎ ((x : Unit {0}) × Parts p o (λ a. DescSpells (scalar_word s) p a x)
+    (λ q b. F q b k at ⊎ ((y : A) × Parts q b (λ c. S q c y) (λ r d. AnyStop (filling s) r d k at))))
 
 abbrev pub read_item : {A : Type 0} → Scalar → Reader FaultKind A → Reader FaultKind A
 read_item s r p o = map_got (λ x. x.1.0) (both (read_desc (scalar_word s)) (λ _. both r (λ _. read_any (filling s))) p o)

@@ -16,7 +16,7 @@ use Rattle.wire_def.specs.Send.{flag}
 abbrev pub read_tag : Encoding → Scalar → Arms → Reader FaultKind ℤ
 read_tag e s arms = read_pass e s (has_arm arms) BadValue
 
--- the value behind a flag
+-- the value after a flag
 abbrev pub read_behind : Reader FaultKind Val → ℤ → Reader FaultKind Val
 read_behind r (pos zero) p o = got absent p o
 read_behind r _ p o = map_got present (r p o)

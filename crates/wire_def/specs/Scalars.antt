@@ -91,7 +91,7 @@ octets_number Xdr w o = from_be_bytes w o
 octets_number CdrBig w o = from_be_bytes w o
 octets_number _ w o = from_le_bytes w o
 
--- ---- a number of a width behind its gap
+-- ---- a number of a width after its gap
 
 -- the gap may have any octets
 unfoldable pub WordSpells : Encoding → ℕ → Width → Spelling ℕ
@@ -101,7 +101,7 @@ WordSpells e a w p o m = (junk : List ℕ) × (length junk ≡ gap p a) × (o �
 unfoldable pub WordStops : Encoding → ℕ → Width → Stopping FaultKind
 WordStops e a w p o k at = (length o < gap p a + byte_len w) × (k ≡ Short) × (at ≡ p + gap p a)
 
--- a number of a width, read behind its gap
+-- a number of a width, read after its gap
 unfoldable pub read_word : Encoding → ℕ → Width → Reader FaultKind ℕ
 read_word e a w p o =
     if nat_lt (length o) (gap p a + byte_len w) then stop Short (p + gap p a)
@@ -124,8 +124,11 @@ ScalarSpells e s p o n = WordSpells e (alignment_of e s) (width_of e s) p o (res
 -- octets that are cut off, or whose number is none of the scalar's
 unfoldable pub ScalarStops : Encoding → Scalar → Stopping FaultKind
 ScalarStops e s p o k at = WordStops e (alignment_of e s) (width_of e s) p o k at
-    ⊎ ((m : ℕ) × Parts p o (λ a. WordSpells e (alignment_of e s) (width_of e s) p a m) (λ q b. (is_scalar s (number_of (is_signed s) (width_of e s) m) ≡ false) × (k ≡ BadValue) × (at ≡ scalar_place e s p)))
+    ⊎ ((m : ℕ) × Parts p o (λ a. WordSpells e (alignment_of e s) (width_of e s) p a m)
+    (λ q b. (is_scalar s (number_of (is_signed s) (width_of e s) m) ≡ false) × (k ≡ BadValue) × (at ≡ scalar_place e s p)))
 
 -- a scalar, read from a position
 unfoldable pub read_scalar : Encoding → Scalar → Reader FaultKind ℤ
-read_scalar e s = tested (λ p o. map_got (number_of (is_signed s) (width_of e s)) (read_word e (alignment_of e s) (width_of e s) p o)) (is_scalar s) BadValue (scalar_place e s)
+read_scalar e s = tested
+    (λ p o. map_got (number_of (is_signed s) (width_of e s)) (read_word e (alignment_of e s) (width_of e s) p o))
+    (is_scalar s) BadValue (scalar_place e s)

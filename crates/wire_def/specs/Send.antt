@@ -8,7 +8,7 @@ use Rattle.wire_def.specs.declared.encoding.Encoding.{Encoding}
 use Rattle.wire_def.specs.Lone.{lone_octets}
 use Rattle.wire_def.specs.Arrays.{count_octets, array_octets}
 
--- the octets, and those that begin behind them
+-- the octets, and those that begin after them
 abbrev pub followed : ℕ → List ℕ → (ℕ → List ℕ) → List ℕ
 followed p o more = o ++ more (p + length o)
 

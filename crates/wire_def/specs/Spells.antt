@@ -21,7 +21,8 @@ abbrev mutual
   Spells e (scalar_type s) p o (num n) = LoneSpells e s p o n
   Spells e (array_type a) p o (row k ns) = (k ≡ kind_of a) × ArraySpells e a p o ns
   Spells e (group_type ts) p o (group vs) = FieldsSpell e ts p o vs
-  Spells e (items_type c t) p o (items vs) = Parts p o (λ a. CountSpells e c p a (count vs)) (λ q b. SpellTimes (Spells e t) (count vs) q b (list_of vs))
+  Spells e (items_type c t) p o (items vs) = Parts p o (λ a. CountSpells e c p a (count vs))
+      (λ q b. SpellTimes (Spells e t) (count vs) q b (list_of vs))
   Spells e (choice_type s arms) p o (arm n v) = Parts p o (λ a. TagSpells e s arms p a n) (λ q b. ArmSpells e arms n q b v)
   Spells e (maybe_type t) p o absent = LoneSpells e flag p o (pos 0)
   Spells e (maybe_type t) p o (present v) = Parts p o (λ a. LoneSpells e flag p a (pos 1)) (λ q b. Spells e t q b v)

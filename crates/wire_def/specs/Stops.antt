@@ -17,20 +17,23 @@ use Rattle.wire_def.specs.Spells.{Spells, TagSpells}
 abbrev pub TagStops : Encoding → Scalar → Arms → Stopping FaultKind
 TagStops e s arms = PassStops e s (has_arm arms) BadValue
 
--- the first fault of a value's octets; of the fields, behind those before it; of the number's arm
+-- the first fault of a value's octets; of the fields, after those before it; of the number's arm
 abbrev mutual
   pub Stops : Encoding → Ty → ℕ → List ℕ → FaultKind → ℕ → Type 0
   Stops e void_type p o k at = ⊥
   Stops e (scalar_type s) p o k at = LoneStops e s p o k at
   Stops e (array_type a) p o k at = ArrayStops e a p o k at
   Stops e (group_type ts) p o k at = FieldsStop e ts p o k at
-  Stops e (items_type c t) p o k at = CountStops e c p o k at ⊎ ((n : ℕ) × Parts p o (λ a. CountSpells e c p a n) (λ q b. StopTimes (Spells e t) (Stops e t) n q b k at))
-  Stops e (choice_type s arms) p o k at = TagStops e s arms p o k at ⊎ ((n : ℤ) × Parts p o (λ a. TagSpells e s arms p a n) (λ q b. ArmStops e arms n q b k at))
+  Stops e (items_type c t) p o k at = CountStops e c p o k at
+      ⊎ ((n : ℕ) × Parts p o (λ a. CountSpells e c p a n) (λ q b. StopTimes (Spells e t) (Stops e t) n q b k at))
+  Stops e (choice_type s arms) p o k at = TagStops e s arms p o k at
+      ⊎ ((n : ℤ) × Parts p o (λ a. TagSpells e s arms p a n) (λ q b. ArmStops e arms n q b k at))
   Stops e (maybe_type t) p o k at = LoneStops e flag p o k at ⊎ Parts p o (λ a. LoneSpells e flag p a (pos 1)) (λ q b. Stops e t q b k at)
 
   pub FieldsStop : Encoding → Tys → ℕ → List ℕ → FaultKind → ℕ → Type 0
   FieldsStop e no_fields p o k at = ⊥
-  FieldsStop e (field t ts) p o k at = Stops e t p o k at ⊎ ((v : Val) × Parts p o (λ a. Spells e t p a v) (λ q b. FieldsStop e ts q b k at))
+  FieldsStop e (field t ts) p o k at = Stops e t p o k at
+      ⊎ ((v : Val) × Parts p o (λ a. Spells e t p a v) (λ q b. FieldsStop e ts q b k at))
 
   pub ArmStops : Encoding → Arms → ℤ → ℕ → List ℕ → FaultKind → ℕ → Type 0
   ArmStops e no_other n p o k at = (k ≡ BadValue) × (at ≡ p)

@@ -9,7 +9,7 @@ pub enum Encoding {
     CdrBig,
     /// The same, the least significant octet first.
     CdrLittle,
-    /// Typed Mach messages: each scalar and each row behind a descriptor.
+    /// Typed Mach messages: each scalar and each row after a descriptor.
     Mach,
 }
 

@@ -1,6 +1,6 @@
 //! What is wrong with octets, and where.
 
-/// Why octets are no head.
+/// Why octets are not a head.
 #[derive(Clone, Copy, Debug, PartialEq, Eq)]
 pub enum HeadErr {
     /// A field is cut off.
@@ -11,7 +11,7 @@ pub enum HeadErr {
     Version,
     /// A message of another type.
     Type_,
-    /// The size told is not that of the message.
+    /// The size in the header is not that of the message.
     Size,
     /// No such order of octets.
     Order,
@@ -47,6 +47,8 @@ pub enum FaultKind {
 /// The first fault of a body, and its place, counted from the first octet of the message.
 #[derive(Clone, Copy, Debug, PartialEq, Eq)]
 pub struct Fault {
+    /// What is wrong.
     pub kind: FaultKind,
+    /// Where, in octets from the beginning of the message.
     pub at: usize,
 }

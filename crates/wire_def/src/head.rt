@@ -3,7 +3,9 @@
 /// Which octet of a number comes first: the most significant one, or the least.
 #[derive(Clone, Copy, Debug, PartialEq, Eq)]
 pub enum Order {
+    /// The most significant octet comes first.
     Big,
+    /// The least significant octet comes first.
     Little,
 }
 

@@ -1,4 +1,4 @@
-//! What a call came to.
+//! The outcome of a call.
 
 use kit_base::Octets;
 use mint::value::Value;
@@ -6,7 +6,9 @@ use mint::value::Value;
 /// An answer, or a refusal of the other side.
 #[derive(Drop)]
 pub enum Outcome {
+    /// The results of the operation, or a user exception that it may raise.
     Answer(Value),
+    /// The other side refused the call, or failed.
     Refused(Refusal),
 }
 

@@ -5,8 +5,11 @@ use crate::head::Head;
 /// The head of a reply, what it says, and how many octets it takes.
 #[derive(Clone, Copy, Debug)]
 pub struct ReplyHead<'a> {
+    /// What the head says whatever the outcome.
     pub head: Head,
+    /// The outcome of the call.
     pub status: Status<'a>,
+    /// How many octets the head takes.
     pub used: usize,
 }
 
