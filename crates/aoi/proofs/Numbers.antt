@@ -21,7 +21,8 @@ arm_there [] None = refl
 arm_there [] (Some s) = refl
 arm_there (a ∷ arms) other = let some : (suc (length arms) == 0) ≡ false = ne_eqb _ _ (omega arith) in rw some refl
 
-pub union_is : (tag : Shape) (arms : List (ℤ × Ty)) (other : Option Shape) (r there : Bool) → r ≡ are_sound_labels tag there (map (λ a. a.0) arms) → there ≡ has_arm (arms_seen arms other)
+pub union_is : (tag : Shape) (arms : List (ℤ × Ty)) (other : Option Shape) (r there : Bool)
+    → r ≡ are_sound_labels tag there (map (λ a. a.0) arms) → there ≡ has_arm (arms_seen arms other)
     → r ≡ is_sound_union tag (arms_seen arms other)
 union_is tag arms other r there a b =
     a ∙ ap (λ z. are_sound_labels tag z (map (λ a. a.0) arms)) b ∙ ap (are_sound_labels tag (has_arm (arms_seen arms other))) (sym (numbers_seen arms other))
@@ -42,7 +43,8 @@ drop_at items i d lt = let next : i + 1 ≡ suc i = omega arith in rw next (drop
 rest_is : (items : List Item) (i : ℕ) → take (length items - i) (drop i items) ≡ drop i items
 rest_is items i = let n : length items - i ≡ length (drop i items) = sym (length-drop i items) in rw n (take-length (drop i items))
 
-pub count_on : (items : List Item) (i : ℕ) (item : Item) (count new total : ℕ) → total ≡ count + count_different (nums (drop i items)) → count ≤ i → i < length items → item ≡ get_or items i item
+pub count_on : (items : List Item) (i : ℕ) (item : Item) (count new total : ℕ)
+    → total ≡ count + count_different (nums (drop i items)) → count ≤ i → i < length items → item ≡ get_or items i item
     → new ≡ (if list_any (λ m. int_eq m item.1) (nums (take (length items - (i + 1)) (drop (i + 1) items))) then 0 else 1)
     → (total ≡ count + new + count_different (nums (drop (i + 1) items))) × (count + new ≤ i + 1)
 count_on items i item count new total is le lt item_is new_is =
@@ -53,7 +55,8 @@ count_on items i item count new total is le lt item_is new_is =
     ap (λ z. count_different (nums z)) cut ∙ ap (λ z. z + count_different (nums (drop (i + 1) items))) (sym one) in
     (omega (arith, is, whole), omega (arith, le, at_most_1 _ new one))
 
-pub follow_on : (types : List (List ℕ × Ty)) (v s : Shape) (n i left k : ℕ) (d : List ℕ × Ty) → v ≡ unfolded (n - i) (shapes types) left s → i < n → Some k ≡ name_in s → k < left → left ≤ length types
+pub follow_on : (types : List (List ℕ × Ty)) (v s : Shape) (n i left k : ℕ) (d : List ℕ × Ty)
+    → v ≡ unfolded (n - i) (shapes types) left s → i < n → Some k ≡ name_in s → k < left → left ≤ length types
     → (k ≤ length types) × (v ≡ unfolded (n - (i + 1)) (shapes types) k (seen (get_or types k d).1))
 follow_on types v s n i left k d is lt name_is below within =
     let more : n - i ≡ suc (n - (i + 1)) = omega arith in
@@ -76,14 +79,16 @@ alone : (b : Bool) → b ≡ (true && b)
 alone b = refl
 
 pub arms_split : (types : List Shape) (limit : ℕ) (arms : List (ℤ × Ty)) (other : Option Shape)
-    → are_sound_arms types limit (arms_seen arms other) ≡ (are_sound_arms types limit (arms_seen arms None) && are_sound_arms types limit (default_of other))
+    → are_sound_arms types limit (arms_seen arms other)
+    ≡ (are_sound_arms types limit (arms_seen arms None) && are_sound_arms types limit (default_of other))
 arms_split types limit [] other = refl
 arms_split types limit (a ∷ arms) other =
     ap (λ z. or_void (seen a.1) (is_sound_type types limit (seen a.1)) && z) (arms_split types limit arms other)
     ∙ regrouped (or_void (seen a.1) (is_sound_type types limit (seen a.1))) (are_sound_arms types limit (arms_seen arms None)) (are_sound_arms types limit (default_of other))
 
-pub choice_is : (types : List Shape) (limit : ℕ) (tag below : Shape) (arms : List (ℤ × Ty)) (other : Option Shape) (r a b c d e : Bool) → r ≡ (a && b && e) → e ≡ (c && d)
-    → a ≡ is_sound_type types limit tag → b ≡ is_sound_union below (arms_seen arms other) → below ≡ unfolded limit types limit tag
+pub choice_is : (types : List Shape) (limit : ℕ) (tag below : Shape) (arms : List (ℤ × Ty)) (other : Option Shape) (r a b c d e : Bool)
+    → r ≡ (a && b && e) → e ≡ (c && d) → a ≡ is_sound_type types limit tag
+    → b ≡ is_sound_union below (arms_seen arms other) → below ≡ unfolded limit types limit tag
     → c ≡ are_sound_arms types limit (arms_seen arms None) → d ≡ are_sound_arms types limit (default_of other)
     → r ≡ is_sound_type types limit (choice tag (arms_seen arms other))
 choice_is types limit tag below arms other r a b c d e r_is e_is a_is b_is below_is c_is d_is =

@@ -44,10 +44,26 @@ abbrev pub plain_raise : Raise → PlainRaise
 plain_raise r = record { name = r.name; id = r.id; members = members r.members }
 
 abbrev pub plain_operation : Operation → PlainOperation
-plain_operation o = record { name = o.name; proc_no = o.proc_no; slot = o.slot; ins = members o.ins; outs = members o.outs; result = seen o.result; raises = map plain_raise o.raises; oneway = o.oneway }
+plain_operation o = record {
+  name = o.name;
+  proc_no = o.proc_no;
+  slot = o.slot;
+  ins = members o.ins;
+  outs = members o.outs;
+  result = seen o.result;
+  raises = map plain_raise o.raises;
+  oneway = o.oneway;
+}
 
 abbrev pub plain_interface : Interface → PlainInterface
-plain_interface i = record { name = i.name; program = i.program; version = i.version; base = i.base; slots = i.slots; ops = map plain_operation i.ops }
+plain_interface i = record {
+  name = i.name;
+  program = i.program;
+  version = i.version;
+  base = i.base;
+  slots = i.slots;
+  ops = map plain_operation i.ops;
+}
 
 -- the plain tree of a unit
 abbrev pub plain : Parts → PlainUnit

@@ -33,12 +33,12 @@ abbrev pub members_of : List (List ℕ × Shape) → Members
 members_of [] = no_more
 members_of (f ∷ fs) = member f.0 f.1 (members_of fs)
 
--- arms with their numbers, in order, and then what stands behind every other number
+-- arms with their numbers, in order, and then the default arm
 abbrev pub arms_of : List (ℤ × Shape) → Arms → Arms
 arms_of [] other = other
 arms_of (a ∷ arms) other = arm a.0 a.1 (arms_of arms other)
 
--- what stands behind every other number, if anything does
+-- the default arm, if there is one
 abbrev pub default_of : Option Shape → Arms
 default_of None = no_default
 default_of (Some s) = default s
@@ -75,6 +75,6 @@ members fs = members_of (map seen_field fs)
 abbrev pub shapes : List (List ℕ × Ty) → List Shape
 shapes ts = map (λ t. seen t.1) ts
 
--- the plain trees of arms, and of what stands behind every other number
+-- the plain trees of arms, and of the default arm
 abbrev pub arms_seen : List (ℤ × Ty) → Option Shape → Arms
 arms_seen arms other = arms_of (map (λ a. (a.0, seen a.1)) arms) (default_of other)

@@ -62,7 +62,8 @@ followed (Some k) follow s = follow k
 -- what a type is once its names are followed, at most n of them: each to a type below the limit, whose own limit is then its place
 abbrev pub unfolded : ℕ → List Shape → ℕ → Shape → Shape
 unfolded zero types limit s = s
-unfolded (suc n) types limit s = followed (name_in s) (λ k. if nat_lt k limit then unfolded n types k (slice_index_or types k void) else s) s
+unfolded (suc n) types limit s = followed (name_in s)
+    (λ k. if nat_lt k limit then unfolded n types k (slice_index_or types k void) else s) s
 
 -- a number, or an enum
 abbrev pub is_tag : Shape → Bool
@@ -126,9 +127,10 @@ abbrev mutual
   is_sound_type types limit (array s c) = is_some_count c && is_sound_type types limit s
   -- a struct has a field, and its fields have different names
   is_sound_type types limit (structure ms) = has_member ms && are_distinct (names_of ms) && are_sound types limit ms
-  is_sound_type types limit (choice tag arms) = is_sound_type types limit tag && is_sound_union (unfolded limit types limit tag) arms && are_sound_arms types limit arms
+  is_sound_type types limit (choice tag arms) = is_sound_type types limit tag
+      && is_sound_union (unfolded limit types limit tag) arms && are_sound_arms types limit arms
   is_sound_type types limit (optional s) = is_sound_type types limit s
-  -- a named type stands before what names it
+  -- a named type comes before what names it
   is_sound_type types limit (named k) = nat_lt k limit
 
   -- fields whose types are sound
@@ -155,7 +157,7 @@ is_sound_raise types raise =
 
 abbrev pub is_sound_operation : List Shape → ℕ → Operation → Bool
 is_sound_operation types slots op =
-    -- void is no parameter
+    -- void is not a parameter
     are_sound types (length types) (members op.ins)
     && are_sound types (length types) (members op.outs)
     -- but may be the result

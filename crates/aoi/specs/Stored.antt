@@ -28,7 +28,8 @@ kind_number kind.Bool = 10
 abbrev pub kind_at : ℕ → Kind
 kind_at n =
     cond (n == 0) kind.Octet (cond (n == 1) kind.I8 (cond (n == 2) kind.U8 (cond (n == 3) kind.Char (cond (n == 4) kind.I16
-    (cond (n == 5) kind.U16 (cond (n == 6) kind.I32 (cond (n == 7) kind.U32 (cond (n == 8) kind.I64 (cond (n == 9) kind.U64 kind.Bool)))))))))
+    (cond (n == 5) kind.U16 (cond (n == 6) kind.I32 (cond (n == 7) kind.U32 (cond (n == 8) kind.I64
+    (cond (n == 9) kind.U64 kind.Bool)))))))))
 
 kind_back : (k : Kind) → kind_at (kind_number k) ≡ k
 kind_back kind.Octet = refl
@@ -143,8 +144,9 @@ pub record Reading : Type 0 where
 
 abbrev pub by_tag : ℕ → Gv → Reading → Shape
 by_tag n g r =
-    cond (n == 0) void (cond (n == 1) (number (kind_at (num g))) (cond (n == 2) (enumeration (items_at g)) (cond (n == 3) (text (count_at g)) (cond (n == 4) (array r.front (count_at (rest g)))
-    (cond (n == 5) (structure r.fields) (cond (n == 6) (choice r.front r.behind) (cond (n == 7) (optional r.shape) (named (num g)))))))))
+    cond (n == 0) void (cond (n == 1) (number (kind_at (num g))) (cond (n == 2) (enumeration (items_at g))
+    (cond (n == 3) (text (count_at g)) (cond (n == 4) (array r.front (count_at (rest g))) (cond (n == 5) (structure r.fields)
+    (cond (n == 6) (choice r.front r.behind) (cond (n == 7) (optional r.shape) (named (num g)))))))))
 
 abbrev pub arms_by : Gv → Reading → Reading → Arms
 arms_by gnil x y = default y.shape

@@ -1,4 +1,4 @@
-// Why the names of a file are not resolved, for every front.
+// Why the names of a file are not resolved, for every front end.
 ghost use Rattle.std.specs.Prelude.{◌≡◌};
 ghost use Rattle.aoi.specs.declared.faults.NameFault.TheVariants.{NoMemory as WantOfMemory};
 
@@ -26,7 +26,7 @@ pub enum NameFault {
     /// A number is outside its range.
     #[error("Range")]
     Range,
-    /// A label is none of the tag's, or stands twice.
+    /// A label is none of the tag's, or is there twice.
     #[error("Label")]
     Label,
     /// There are more than 64 interfaces, 256 operations or 4,096 labels.
@@ -38,7 +38,7 @@ pub enum NameFault {
     /// An operation without reply gives something back.
     #[error("Oneway")]
     Oneway,
-    /// A parameter's port type is missing, or stands where none may.
+    /// A parameter's port type is missing, or is where none may be.
     #[error("Port")]
     Port,
     /// No memory was there.

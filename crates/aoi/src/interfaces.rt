@@ -16,7 +16,7 @@ pub struct Raise {
 /// The exceptions that an operation raises.
 pub type Raises = Listed<Raise>;
 
-/// An operation. An inout parameter stands in `ins` and in `outs`.
+/// An operation. An inout parameter is in `ins` and in `outs`.
 #[derive(Debug, Drop)]
 pub struct Operation {
     /// Its name.

@@ -107,11 +107,12 @@ fn are_sound_arms(arms: &[(i128, Ty)], types: &[(Name, Ty)], limit: usize) -> bo
     true
 }
 
-/// Whether what stands behind every other number is void or sound, if anything does.
+/// Whether the default arm is void or sound, if there is one.
 #[cycle(sound)]
 fn is_sound_other(other: &Option<Box<Ty>>, types: &[(Name, Ty)], limit: usize) -> bool
     requires { limit ≤ length types.now }
-    ensures { result ≡ are_sound_arms (shapes types.now) limit (default_of (option_map (λ b. seen b.value) other.now)) }
+    ensures { result
+        ≡ are_sound_arms (shapes types.now) limit (default_of (option_map (λ b. seen b.value) other.now)) }
 {
     match other {
         Some(ty) => is_sound_or_void(ty, types, limit),
@@ -245,7 +246,8 @@ fn are_sound_labels(tag: &Ty, there: bool, arms: &[(i128, Ty)]) -> bool
 }
 
 fn is_sound_union(tag: &Ty, arms: &[(i128, Ty)], other: &Option<Box<Ty>>) -> bool
-    ensures { result ≡ is_sound_union (seen tag.now) (arms_seen arms.now (option_map (λ b. seen b.value) other.now)) }
+    ensures { result
+        ≡ is_sound_union (seen tag.now) (arms_seen arms.now (option_map (λ b. seen b.value) other.now)) }
 {
     are_sound_labels(tag, has_arm(arms, other), arms)
 }

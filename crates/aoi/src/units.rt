@@ -87,7 +87,7 @@ impl Unit {
         self.interfaces.len()
     }
 
-    /// Puts a type behind the others, and gives its number, counted from 0.
+    /// Appends a type, and gives its number, counted from 0.
     pub fn add_type(&mut self, name: Name, ty: Ty) -> Result<u32, NoMemory>
         requires { length self.old.types < 2 ^ 32 }
         ensures value { IfOk result (λ k. k ≡ length self.old.types) }
@@ -99,12 +99,13 @@ impl Unit {
         Ok(k)
     }
 
-    /// Puts an interface behind the others.
+    /// Appends an interface.
     pub fn add_interface(&mut self, i: Interface) -> Result<(), UnitErr>
         ensures ok { OnOk result (self.new ≡ record self.old { interfaces = self.old.interfaces ++ i ∷ [] }) }
         ensures err { OnErr result (self.new ≡ self.old) }
         ensures twice { (result ≡ Err UnitErr.Twice) ↔ (is_twice i self.old.interfaces ≡ true) }
-        ensures many { (result ≡ Err UnitErr.Many) ↔ ((is_twice i self.old.interfaces ≡ false) × ((most_interfaces ≤ length self.old.interfaces) ⊎ (most_operations < length i.ops))) }
+        ensures many { (result ≡ Err UnitErr.Many) ↔ ((is_twice i self.old.interfaces ≡ false)
+            × ((most_interfaces ≤ length self.old.interfaces) ⊎ (most_operations < length i.ops))) }
     {
         if is_twice(&i, self.interfaces.as_slice()) {
             return Err(UnitErr::Twice);

@@ -4,4 +4,5 @@ use Rattle.std.specs.Ordering.{int_eq}
 use Rattle.aoi.proofs.distinct.is_arm.Given as goal
 
 abbrev pub invariant-loop-m : goal.invariant-loop-m
-invariant-loop-m l = list_any (λ m. int_eq m l.n) (map (λ a. a.0) l.arms) ≡ list_any (λ m. int_eq m l.n) (map (λ a. a.0) (drop l.m-index l.arms))
+invariant-loop-m l = list_any (λ m. int_eq m l.n) (map (λ a. a.0) l.arms)
+    ≡ list_any (λ m. int_eq m l.n) (map (λ a. a.0) (drop l.m-index l.arms))

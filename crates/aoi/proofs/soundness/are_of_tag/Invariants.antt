@@ -5,4 +5,5 @@ use Rattle.aoi.specs.Sound.{is_of_tag}
 use Rattle.aoi.proofs.soundness.are_of_tag.Given as goal
 
 abbrev pub invariant-loop-n : goal.invariant-loop-n
-invariant-loop-n l = list_all (is_of_tag (seen l.tag)) (map (λ a. a.0) l.arms) ≡ list_all (is_of_tag (seen l.tag)) (map (λ a. a.0) (drop l.n-index l.arms))
+invariant-loop-n l = list_all (is_of_tag (seen l.tag)) (map (λ a. a.0) l.arms)
+    ≡ list_all (is_of_tag (seen l.tag)) (map (λ a. a.0) (drop l.n-index l.arms))

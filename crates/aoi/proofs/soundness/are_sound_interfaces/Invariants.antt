@@ -5,4 +5,5 @@ use Rattle.aoi.specs.Sound.{is_sound_interface}
 use Rattle.aoi.proofs.soundness.are_sound_interfaces.Given as goal
 
 abbrev pub invariant-loop-i : goal.invariant-loop-i
-invariant-loop-i l = list_all (is_sound_interface (shapes l.types)) l.interfaces ≡ list_all (is_sound_interface (shapes l.types)) (drop l.i-index l.interfaces)
+invariant-loop-i l = list_all (is_sound_interface (shapes l.types)) l.interfaces
+    ≡ list_all (is_sound_interface (shapes l.types)) (drop l.i-index l.interfaces)

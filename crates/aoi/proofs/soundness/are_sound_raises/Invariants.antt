@@ -5,4 +5,5 @@ use Rattle.aoi.specs.Sound.{is_sound_raise}
 use Rattle.aoi.proofs.soundness.are_sound_raises.Given as goal
 
 abbrev pub invariant-loop-raise : goal.invariant-loop-raise
-invariant-loop-raise l = list_all (is_sound_raise (shapes l.types)) l.raises ≡ list_all (is_sound_raise (shapes l.types)) (drop l.raise-index l.raises)
+invariant-loop-raise l = list_all (is_sound_raise (shapes l.types)) l.raises
+    ≡ list_all (is_sound_raise (shapes l.types)) (drop l.raise-index l.raises)
