@@ -13,17 +13,18 @@ counted : (i : ℕ) (o : ℕ) (os : List ℕ) → starts_with nat_eq (o ∷ os) 
     → option_map (λ n. i + n) (count_to_close (o ∷ os)) ≡ option_map (λ n. i + 1 + n) (count_to_close os)
 counted i o os not_here = rw not_here (shifted i (count_to_close os))
 
--- what stands at a place and behind it, as a slice of the text
+-- what is at a place and after it, as a slice of the text
 pub rest_is : (text : List ℕ) (i : ℕ) → take (length text - i) (drop i text) ≡ drop i text
 rest_is text i = let n : length text - i ≡ length (drop i text) = sym (length-drop i text) in rw n (take-length (drop i text))
 
--- the octet at a place, and what stands behind it
+-- the octet at a place, and what follows it
 pub drop_at : (text : List ℕ) (i : ℕ) → i < length text → drop i text ≡ get_or text i 0 ∷ drop (i + 1) text
 drop_at text i lt = let next : i + 1 ≡ suc i = omega arith in rw next (drop-cons text i 0 lt)
 
--- no end at a place, so that the count goes on behind it
-pub count_on : (text : List ℕ) (i : ℕ) (c : Option ℕ) → c ≡ option_map (λ n. i + n) (count_to_close (drop i text)) → i < length text
-    → starts_with nat_eq (take (length text - i) (drop i text)) (codes "*/") ≡ false → c ≡ option_map (λ n. i + 1 + n) (count_to_close (drop (i + 1) text))
+-- no end at a place, so that the count goes on after it
+pub count_on : (text : List ℕ) (i : ℕ) (c : Option ℕ) → c ≡ option_map (λ n. i + n) (count_to_close (drop i text))
+    → i < length text → starts_with nat_eq (take (length text - i) (drop i text)) (codes "*/") ≡ false
+    → c ≡ option_map (λ n. i + 1 + n) (count_to_close (drop (i + 1) text))
 count_on text i c is lt not_here =
     let cut = drop_at text i lt in
     let rest : take (length text - i) (drop i text) ≡ get_or text i 0 ∷ drop (i + 1) text = rest_is text i ∙ cut in

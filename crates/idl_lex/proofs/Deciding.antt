@@ -83,7 +83,8 @@ character_some c n (q ∷ o ∷ os) h =
     cond_both (is_backslash o) (escaped_at os) (plain_at o os) (λ z. z ≡ Some (c, n) → 0 < n)
     (λ yes e. escaped_some c n os e) (λ not e. plain_some c n o os e) h
 
-piece_has_octets : (front : Front) (imports : Bool) (before text : List ℕ) (p : Piece) → IsPieceOf front imports before p text → 0 < length (octets_of p)
+piece_has_octets : (front : Front) (imports : Bool) (before text : List ℕ) (p : Piece) → IsPieceOf front imports before p text
+    → 0 < length (octets_of p)
 piece_has_octets front imports before text (blanks os) h = rw h.1 (run_has is_blank text h.0)
 piece_has_octets front imports before text (comment os) h = rw h.1.2 (omega (arith, length-take (2 + h.1.0) text, comment_some text h.0))
 piece_has_octets front imports before text (skipped_line os) h = rw h.1 (run_has is_in_line text (begins_in_line text (skipped_is_other front before text h.0)))
@@ -95,7 +96,7 @@ piece_has_octets front imports before text (string codes os) h = rw h.2.3 (omega
 piece_has_octets front imports before text (file_name path os) h = rw h.3 (omega (arith, length-take (2 + h.0) text, other_some text (file_is_other front imports text h.0 h.1)))
 piece_has_octets front imports before text (mark os) h = rw h.1 (omega (arith, length-take (mark_count text) text, mark_some text h.0, h.0))
 
--- ---- a text from its front to its end
+-- ---- a text from its beginning to its end
 
 module _ (front : Front) (text : List ℕ) where
   abbrev Fault : Type 0
@@ -103,7 +104,8 @@ module _ (front : Front) (text : List ℕ) where
 
   -- one piece more, or the first fault
   abbrev Step : ℕ → Type 0
-  Step at = ((line' : ℕ) × (at' : ℕ) × (imports' : Bool) × (tokens' : List Token) × So front text line' at' imports' tokens' × (at < at')) ⊎ Fault
+  Step at = ((line' : ℕ) × (at' : ℕ) × (imports' : Bool) × (tokens' : List Token) × So front text line' at' imports' tokens' × (at < at'))
+      ⊎ Fault
 
   step : (line at : ℕ) (imports : Bool) (tokens : List Token) → So front text line at imports tokens → at < length text → Step at
   step line at imports tokens s lt = next (piece_at front imports (take at text) (drop at text)) refl where
@@ -118,13 +120,15 @@ module _ (front : Front) (text : List ℕ) where
         inl (line', at + n, imports_on imports (kind_of p), tokens ++ token_on line (kind_of p), go_on_at front text line at n line' imports tokens (kind_of p) s lt (ap shown is) fits refl, omega (arith, some))
     next (Err e) is = inr (e, first_fault front text line at imports tokens e s lt (ap shown is))
 
-  whole : (line at : ℕ) (imports : Bool) (tokens : List Token) → So front text line at imports tokens → length text ≤ at → AreTokens front text tokens
+  whole : (line at : ℕ) (imports : Bool) (tokens : List Token) → So front text line at imports tokens → length text ≤ at
+      → AreTokens front text tokens
   whole line at imports tokens s end =
       let there : at ≡ length text = omega (arith, s.within) in
       let all : take at text ≡ text = ap (λ z. take z text) there ∙ take-length text in
       (s.pieces, (sym (s.before_is ∙ all), subst (λ z. AllStand front [] s.pieces z) (drop_all at text end) s.stand), s.tokens_are)
 
-  decide : (n line at : ℕ) (imports : Bool) (tokens : List Token) → So front text line at imports tokens → length text - at ≤ n → ((tokens : List Token) × AreTokens front text tokens) ⊎ Fault
+  decide : (n line at : ℕ) (imports : Bool) (tokens : List Token) → So front text line at imports tokens → length text - at ≤ n
+      → ((tokens : List Token) × AreTokens front text tokens) ⊎ Fault
   decide zero line at imports tokens s few = inl (tokens, whole line at imports tokens s (omega (arith, few)))
   decide (suc n) line at imports tokens s few = elim (cases_lt at (length text)) [
     | inl lt ↦ elim (step line at imports tokens s lt) [

@@ -10,7 +10,7 @@ grows base n (o ∷ os) some =
     let once : n * 1 ≤ n * base = mul-le-mul_left n some in
     omega (arith, once, grows base (n * base + digit_value o) os some)
 
--- the number as it is read on behind the digit at a place
+-- the number as it is read on after the digit at a place
 pub read_on : (base n i v : ℕ) (os : List ℕ) → v ≡ value_on base n (drop i os) → i < length os
     → v ≡ value_on base (n * base + digit_value (get_or os i 0)) (drop (i + 1) os)
 read_on base n i v os is lt = is ∙ ap (value_on base n) (drop_at os i lt)

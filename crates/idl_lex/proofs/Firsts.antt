@@ -1,4 +1,4 @@
--- The first octet of a text tells which sort of piece comes first.
+-- The first octet of a text decides which sort of piece comes first.
 use Rattle.std.proofs.Common.{◌≡◌, ℕ, ◌<◌, List, [], ◌∷◌, Bool, true, false, not, ◌||◌, nat_eq, Some, None, refl, sym, subst, ◌∙◌, inl, inr, codes, arith}
 use Rattle.std.specs.List.{list_any, list_all, starts_with}
 use Rattle.std.proofs.lemmas.Bool.{and_parts, or_cases, or_parts, not-true, eqb-true, false_from_ne_true, false≢true}
@@ -24,7 +24,8 @@ digit_no_blank o h = grind arith
 pub digit_no_letter : (o : ℕ) → is_digit o ≡ true → is_letter o ≡ false
 digit_no_letter o h = grind arith
 
-at_first : (is isnt : ℕ → Bool) (text : List ℕ) → ((o : ℕ) → is o ≡ true → isnt o ≡ false) → begins is text ≡ true → begins isnt text ≡ false
+at_first : (is isnt : ℕ → Bool) (text : List ℕ) → ((o : ℕ) → is o ≡ true → isnt o ≡ false) → begins is text ≡ true
+    → begins isnt text ≡ false
 at_first is isnt [] f h = refl
 at_first is isnt (o ∷ os) f h = f o h
 
@@ -84,7 +85,8 @@ among is o [] all any = absurd (false≢true any)
 among is o (m ∷ ms) all any =
     elim (or_cases (nat_eq o m) _ any) [ inl h ↦ subst (λ z. is z ≡ true) (sym (eqb-true o m h)) (and_parts _ _ all).0 | inr h ↦ among is o ms (and_parts _ _ all).1 h ]
 
-mark_other : (o : ℕ) (os : List ℕ) (twin one : Bool) → begins_twin (o ∷ os) ≡ twin → is_mark_octet o ≡ one → 0 < mark_count (o ∷ os) → is_other o ≡ true
+mark_other : (o : ℕ) (os : List ℕ) (twin one : Bool) → begins_twin (o ∷ os) ≡ twin → is_mark_octet o ≡ one → 0 < mark_count (o ∷ os)
+    → is_other o ≡ true
 mark_other o os true one t m more = among is_other o (codes ":<>") refl (and_parts _ _ t).0
 mark_other o os false true t m more = among is_other o (codes "{}[]()<>;:,=*+-/%|^&") refl m
 mark_other o os false false t m more = let none : mark_count (o ∷ os) ≡ 0 = rw (t, m) refl in absurd (omega (arith, none, more))
@@ -200,15 +202,18 @@ file_is P a b Mig true (o ∷ os) n h =
       | inr y ↦ subst (λ z. P Mig (z ∷ os)) (sym (eqb-true o 34 y)) (b os)
     ]
 
-pub file_is_other : (front : Front) (imports : Bool) (text : List ℕ) (n : ℕ) → file_count front imports text ≡ Some n → begins is_other text ≡ true
+pub file_is_other : (front : Front) (imports : Bool) (text : List ℕ) (n : ℕ) → file_count front imports text ≡ Some n
+    → begins is_other text ≡ true
 file_is_other = file_is (λ f t. begins is_other t ≡ true) (λ os. refl) (λ os. refl)
 
-pub file_opens_none : (front : Front) (imports : Bool) (text : List ℕ) (n : ℕ) → file_count front imports text ≡ Some n → opens_comment text ≡ false
+pub file_opens_none : (front : Front) (imports : Bool) (text : List ℕ) (n : ℕ) → file_count front imports text ≡ Some n
+    → opens_comment text ≡ false
 file_opens_none = file_is (λ f t. opens_comment t ≡ false) (λ os. refl) (λ os. refl)
 
 pub file_skips_none : (before : List ℕ) (front : Front) (imports : Bool) (text : List ℕ) (n : ℕ)
     → file_count front imports text ≡ Some n → is_skipped front before text ≡ false
 file_skips_none before = file_is (λ f t. is_skipped f before t ≡ false) (λ os. refl) (λ os. refl)
 
-pub file_no_quote : (front : Front) (imports : Bool) (text : List ℕ) (n : ℕ) → file_count front imports text ≡ Some n → opens_quote front text ≡ false
+pub file_no_quote : (front : Front) (imports : Bool) (text : List ℕ) (n : ℕ) → file_count front imports text ≡ Some n
+    → opens_quote front text ≡ false
 file_no_quote = file_is (λ f t. opens_quote f t ≡ false) (λ os. refl) (λ os. refl)

@@ -20,7 +20,8 @@ octets_behind : (ps : List Piece) (p : Piece) → all_octets (ps ++ p ∷ []) �
 octets_behind [] p = append-nil (octets_of p)
 octets_behind (q ∷ ps) p = ap (λ z. octets_of q ++ z) (octets_behind ps p) ∙ sym (append_assoc (octets_of q) (all_octets ps) (octets_of p))
 
-one_more_stands : (front : Front) (before ps : List Piece) (p : Piece) (behind : List ℕ) → AllStand front before ps (octets_of p ++ behind) → Stands front (before ++ ps) p behind
+one_more_stands : (front : Front) (before ps : List Piece) (p : Piece) (behind : List ℕ)
+    → AllStand front before ps (octets_of p ++ behind) → Stands front (before ++ ps) p behind
     → AllStand front before (ps ++ p ∷ []) behind
 one_more_stands front before [] p behind a s = (subst (λ z. Stands front z p behind) (append-nil before) s, tt)
 one_more_stands front before (q ∷ ps) p behind a s =
@@ -30,7 +31,8 @@ one_more_stands front before (q ∷ ps) p behind a s =
       one_more_stands front (before ++ q ∷ []) ps p behind a.1 (subst (λ z. Stands front z p behind) (sym (append_assoc before (q ∷ []) ps)) s),
     )
 
-one_more_token : (before ps : List Piece) (p : Piece) → tokens_behind before (ps ++ p ∷ []) ≡ tokens_behind before ps ++ token_on (line_behind (all_octets (before ++ ps))) (kind_of p)
+one_more_token : (before ps : List Piece) (p : Piece)
+    → tokens_behind before (ps ++ p ∷ []) ≡ tokens_behind before ps ++ token_on (line_behind (all_octets (before ++ ps))) (kind_of p)
 one_more_token before [] p =
     append-nil (token_on (line_behind (all_octets before)) (kind_of p)) ∙ ap (λ z. token_on (line_behind (all_octets z)) (kind_of p)) (sym (append-nil before))
 one_more_token before (q ∷ ps) p =
@@ -42,7 +44,8 @@ one_more_token before (q ∷ ps) p =
 feeds-append : (a b : List ℕ) → line_feeds (a ++ b) ≡ line_feeds a + line_feeds b
 feeds-append a b = sum_by-append (λ o. cond (o == 10) 1 0) a b
 
-one_more_imports : (imports : Bool) (ps : List Piece) (p : Piece) → imports_behind imports (ps ++ p ∷ []) ≡ imports_on (imports_behind imports ps) (kind_of p)
+one_more_imports : (imports : Bool) (ps : List Piece) (p : Piece)
+    → imports_behind imports (ps ++ p ∷ []) ≡ imports_on (imports_behind imports ps) (kind_of p)
 one_more_imports imports [] p = refl
 one_more_imports imports (q ∷ ps) p = one_more_imports (imports_on imports (kind_of q)) ps p
 
@@ -86,14 +89,18 @@ pub record So (front : Front) (text : List ℕ) (line at : ℕ) (imports : Bool)
   pub within : at ≤ length text
 
 -- a piece at the place is one after the pieces up to there
-at_pieces : (front : Front) (text : List ℕ) (line at : ℕ) (imports : Bool) (tokens : List Token) (s : So front text line at imports tokens) (p : Piece)
-    → IsPieceOf front imports (take at text) p (drop at text) → IsPieceOf front (imports_behind false s.pieces) (all_octets s.pieces) p (drop at text)
+at_pieces : (front : Front) (text : List ℕ) (line at : ℕ) (imports : Bool) (tokens : List Token)
+    (s : So front text line at imports tokens) (p : Piece)
+    → IsPieceOf front imports (take at text) p (drop at text)
+    → IsPieceOf front (imports_behind false s.pieces) (all_octets s.pieces) p (drop at text)
 at_pieces front text line at imports tokens s p is =
     subst (λ z. IsPieceOf front z (all_octets s.pieces) p (drop at text)) s.imports_is (subst (λ z. IsPieceOf front imports z p (drop at text)) (sym s.before_is) is)
 
 -- and the other way round
-at_place : (front : Front) (text : List ℕ) (line at : ℕ) (imports : Bool) (tokens : List Token) (s : So front text line at imports tokens) (p : Piece)
-    → IsPieceOf front (imports_behind false s.pieces) (all_octets s.pieces) p (drop at text) → IsPieceOf front imports (take at text) p (drop at text)
+at_place : (front : Front) (text : List ℕ) (line at : ℕ) (imports : Bool) (tokens : List Token)
+    (s : So front text line at imports tokens) (p : Piece)
+    → IsPieceOf front (imports_behind false s.pieces) (all_octets s.pieces) p (drop at text)
+    → IsPieceOf front imports (take at text) p (drop at text)
 at_place front text line at imports tokens s p is =
     subst (λ z. IsPieceOf front imports z p (drop at text)) s.before_is (subst (λ z. IsPieceOf front z (all_octets s.pieces) p (drop at text)) (sym s.imports_is) is)
 
@@ -125,10 +132,12 @@ go_on_at front text line at n line' imports tokens kind s lt read fits line_is =
       within = omega (arith, fits, lt, length-drop at text);
     }
 
-pub go_on : (front : Front) (text before rest : List ℕ) (line at n line' : ℕ) (imports imports' : Bool) (tokens tokens' : List Token) (kind : Option TokenKind)
-    → So front text line at imports tokens → at < length text
-    → before ≡ take at text → rest ≡ drop at text → shown (piece_at front imports before rest) ≡ Ok (kind, n) → n ≤ length rest
-    → line' ≡ min (line + line_feeds (take n rest)) (2 ^ 32 - 1) → imports' ≡ imports_on imports kind → tokens' ≡ tokens ++ token_on line kind
+pub go_on : (front : Front) (text before rest : List ℕ) (line at n line' : ℕ) (imports imports' : Bool)
+    (tokens tokens' : List Token) (kind : Option TokenKind)
+    → So front text line at imports tokens → at < length text → before ≡ take at text → rest ≡ drop at text
+    → shown (piece_at front imports before rest) ≡ Ok (kind, n) → n ≤ length rest
+    → line' ≡ min (line + line_feeds (take n rest)) (2 ^ 32 - 1) → imports' ≡ imports_on imports kind
+    → tokens' ≡ tokens ++ token_on line kind
     → So front text line' (at + n) imports' tokens'
 go_on front text before rest line at n line' imports imports' tokens tokens' kind s lt before_is rest_is read fits line_is imports_is put =
     subst (λ z. So front text line' (at + n) z tokens') (sym imports_is)
@@ -137,8 +146,9 @@ go_on front text before rest line at n line' imports imports' tokens tokens' kin
     (subst (λ z. n ≤ length z) rest_is fits)
     (subst (λ z. line' ≡ min (line + line_feeds (take n z)) (2 ^ 32 - 1)) rest_is line_is)))
 
-pub first_fault : (front : Front) (text : List ℕ) (line at : ℕ) (imports : Bool) (tokens : List Token) (e : LexErr) → So front text line at imports tokens → at < length text
-    → shown (piece_at front imports (take at text) (drop at text)) ≡ Err e → IsFirstFault front text e
+pub first_fault : (front : Front) (text : List ℕ) (line at : ℕ) (imports : Bool) (tokens : List Token) (e : LexErr)
+    → So front text line at imports tokens → at < length text → shown (piece_at front imports (take at text) (drop at text)) ≡ Err e
+    → IsFirstFault front text e
 first_fault front text line at imports tokens e s lt read =
     let rest = drop at text in
     let is = fault_shown _ e read in
@@ -157,17 +167,21 @@ first_fault front text line at imports tokens e s lt read =
           why ∙ ap (λ z. fault_at z rest) (sym s.before_is);
     }
 
-explained_at : (front : Front) (text : List ℕ) (line at : ℕ) (imports : Bool) (tokens : List Token) (e : LexErr) → So front text line at imports tokens → at < length text
-    → Gives (let x : Result (Option TokenKind × ℕ) LexErr = Err e in x) (shown (piece_at front imports (take at text) (drop at text))) → Explains front text e
+explained_at : (front : Front) (text : List ℕ) (line at : ℕ) (imports : Bool) (tokens : List Token) (e : LexErr)
+    → So front text line at imports tokens → at < length text
+    → Gives (let x : Result (Option TokenKind × ℕ) LexErr = Err e in x)
+    (shown (piece_at front imports (take at text) (drop at text)))
+    → Explains front text e
 explained_at front text line at imports tokens (BadOctet n) s lt read = first_fault front text line at imports tokens (BadOctet n) s lt read
 explained_at front text line at imports tokens (OpenComment n) s lt read = first_fault front text line at imports tokens (OpenComment n) s lt read
 explained_at front text line at imports tokens (Wide n) s lt read = first_fault front text line at imports tokens (Wide n) s lt read
 explained_at front text line at imports tokens (Directive n) s lt read = first_fault front text line at imports tokens (Directive n) s lt read
 explained_at front text line at imports tokens NoMemory s lt read = tt
 
-pub explained : (front : Front) (text before rest : List ℕ) (line at : ℕ) (imports : Bool) (tokens : List Token) (e : LexErr) → So front text line at imports tokens → at < length text
-    → before ≡ take at text → rest ≡ drop at text
-    → Gives (let x : Result (Option TokenKind × ℕ) LexErr = Err e in x) (shown (piece_at front imports before rest)) → Explains front text e
+pub explained : (front : Front) (text before rest : List ℕ) (line at : ℕ) (imports : Bool) (tokens : List Token) (e : LexErr)
+    → So front text line at imports tokens → at < length text → before ≡ take at text → rest ≡ drop at text
+    → Gives (let x : Result (Option TokenKind × ℕ) LexErr = Err e in x) (shown (piece_at front imports before rest))
+    → Explains front text e
 explained front text before rest line at imports tokens e s lt before_is rest_is read =
     let P : List ℕ → List ℕ → Type 0 = λ b r. Gives (let x : Result (Option TokenKind × ℕ) LexErr = Err e in x) (shown (piece_at front imports b r)) in
     explained_at front text line at imports tokens e s lt (subst (λ z. P (take at text) z) rest_is (subst (λ z. P z rest) before_is read))

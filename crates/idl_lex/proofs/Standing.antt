@@ -1,4 +1,4 @@
--- What is read at a place is the piece that stands there, and no other stands.
+-- What is read at a place is the piece that is there, and no other is.
 use Rattle.std.proofs.Common.{◌≡◌, ℕ, suc, zero, ◌+◌, ◌^◌, List, [], ◌∷◌, ◌++◌, length, take, drop, Option, Some, None, Ok, Err, Bool, true, false, cond, nat_lt, ◌==◌, refl, sym, subst, ◌∙◌, ap, append_assoc, arith}
 use Rattle.std.specs.List.{prefix_len}
 use Rattle.std.proofs.lemmas.Bool.{cond_both, ltb-true, lt-ltb, eqb-false, ne_eqb, false≢true}
@@ -29,11 +29,14 @@ abbrev pub IsRead : Front → Bool → List ℕ → List ℕ → Read → Type 0
 IsRead front imports before text (Ok p) = (text ≡ octets_of p ++ drop (length (octets_of p)) text) × IsPieceOf front imports before p text
 IsRead front imports before text (Err e) = e ≡ fault_at before text
 
-comment_is_read : (front : Front) (imports : Bool) (before text : List ℕ) (c : Option ℕ) → opens_comment text ≡ true → count_to_close (drop 2 text) ≡ c → IsRead front imports before text (comment_of (length before) text c)
+comment_is_read : (front : Front) (imports : Bool) (before text : List ℕ) (c : Option ℕ) → opens_comment text ≡ true
+    → count_to_close (drop 2 text) ≡ c
+    → IsRead front imports before text (comment_of (length before) text c)
 comment_is_read front imports before text None opens is = rw opens refl
 comment_is_read front imports before text (Some n) opens is = (cut (2 + n) text, (opens, (n, is, refl)))
 
-number_is_read : (front : Front) (imports : Bool) (before text : List ℕ) → begins is_digit text ≡ true → IsRead front imports before text (number_of (length before) (take (digit_count text) text))
+number_is_read : (front : Front) (imports : Bool) (before text : List ℕ) → begins is_digit text ≡ true
+    → IsRead front imports before text (number_of (length before) (take (digit_count text) text))
 number_is_read front imports before text digit =
     let os = take (digit_count text) text in
     let P : Read → Type 0 = IsRead front imports before text in
@@ -44,7 +47,8 @@ number_is_read front imports before text digit =
     (λ large. rw (opens, digit, good) refl))
     (λ bad. let hash = digit_no_hash before text digit in rw (opens, digit, bad, hash) refl)
 
-mark_is_read : (front : Front) (imports : Bool) (before text : List ℕ) → opens_comment text ≡ false → begins is_digit text ≡ false → is_skipped front before text ≡ false → file_count front imports text ≡ None
+mark_is_read : (front : Front) (imports : Bool) (before text : List ℕ) → opens_comment text ≡ false
+    → begins is_digit text ≡ false → is_skipped front before text ≡ false → file_count front imports text ≡ None
     → IsRead front imports before text (mark_of before text (mark_count text))
 mark_is_read front imports before text opens digit skips file =
     let n = mark_count text in
@@ -55,28 +59,34 @@ mark_is_read front imports before text opens digit skips file =
     (λ hash. rw (opens, digit, hash) refl))
     (λ some. (cut n text, (omega (arith, eqb-false n 0 some), refl, opens, skips, file)))
 
-file_is_read : (front : Front) (imports : Bool) (before text : List ℕ) (c : Option ℕ) → opens_comment text ≡ false → begins is_digit text ≡ false → is_skipped front before text ≡ false
-    → file_count front imports text ≡ c → IsRead front imports before text (file_of before text c)
+file_is_read : (front : Front) (imports : Bool) (before text : List ℕ) (c : Option ℕ) → opens_comment text ≡ false
+    → begins is_digit text ≡ false → is_skipped front before text ≡ false → file_count front imports text ≡ c
+    → IsRead front imports before text (file_of before text c)
 file_is_read front imports before text None opens digit skips is = mark_is_read front imports before text opens digit skips is
 file_is_read front imports before text (Some n) opens digit skips is = (cut (2 + n) text, (n, is, refl, refl))
 
-character_is_read : (front : Front) (imports : Bool) (before text : List ℕ) (c : Option (ℕ × ℕ)) → opens_quote front text ≡ true → opens_comment text ≡ false → begins is_digit text ≡ false
-    → begins is_single text ≡ true → character_at text ≡ c → IsRead front imports before text (character_of (length before) text c)
+character_is_read : (front : Front) (imports : Bool) (before text : List ℕ) (c : Option (ℕ × ℕ)) → opens_quote front text ≡ true
+    → opens_comment text ≡ false → begins is_digit text ≡ false → begins is_single text ≡ true → character_at text ≡ c
+    → IsRead front imports before text (character_of (length before) text c)
 character_is_read front imports before text None quote opens digit single is = let hash = quote_no_hash front before text quote in rw (opens, digit, hash) refl
 character_is_read front imports before text (Some x) quote opens digit single is = (cut x.1 text, (quote, single, (x.1, is, refl)))
 
-string_is_read : (front : Front) (imports : Bool) (before text : List ℕ) (c : Option ℕ) → opens_quote front text ≡ true → opens_comment text ≡ false → begins is_digit text ≡ false
-    → begins is_single text ≡ false → string_count false (drop 1 text) ≡ c → IsRead front imports before text (string_of (length before) text c)
+string_is_read : (front : Front) (imports : Bool) (before text : List ℕ) (c : Option ℕ) → opens_quote front text ≡ true
+    → opens_comment text ≡ false → begins is_digit text ≡ false → begins is_single text ≡ false → string_count false (drop 1 text) ≡ c
+    → IsRead front imports before text (string_of (length before) text c)
 string_is_read front imports before text None quote opens digit single is = let hash = quote_no_hash front before text quote in rw (opens, digit, hash) refl
 string_is_read front imports before text (Some n) quote opens digit single is = (cut (1 + n) text, (quote, single, (n, is, refl, refl)))
 
-quoted_is_read : (front : Front) (imports : Bool) (before text : List ℕ) → opens_quote front text ≡ true → opens_comment text ≡ false → begins is_digit text ≡ false → IsRead front imports before text (quoted_of (length before) text)
+quoted_is_read : (front : Front) (imports : Bool) (before text : List ℕ) → opens_quote front text ≡ true
+    → opens_comment text ≡ false → begins is_digit text ≡ false
+    → IsRead front imports before text (quoted_of (length before) text)
 quoted_is_read front imports before text quote opens digit =
     cond_both (begins is_single text) _ _ (IsRead front imports before text)
     (λ yes. character_is_read front imports before text (character_at text) quote opens digit yes refl)
     (λ single. string_is_read front imports before text (string_count false (drop 1 text)) quote opens digit single refl)
 
-pub piece_is_read : (front : Front) (imports : Bool) (before text : List ℕ) → IsRead front imports before text (piece_at front imports before text)
+pub piece_is_read : (front : Front) (imports : Bool) (before text : List ℕ)
+    → IsRead front imports before text (piece_at front imports before text)
 piece_is_read front imports before text =
     let P : Read → Type 0 = IsRead front imports before text in
     cond_both (begins is_blank text) _ _ P (λ yes. (cut (prefix_len is_blank text) text, (yes, refl)))
@@ -87,9 +97,10 @@ piece_is_read front imports before text =
     (λ skips. cond_both (opens_quote front text) _ _ P (λ yes. quoted_is_read front imports before text yes opens digit)
     (λ quote. file_is_read front imports before text (file_count front imports text) opens digit skips refl))))))
 
--- ---- what stands is read
+-- ---- what is there is read
 
-pub stands_is_read : (front : Front) (imports : Bool) (before text : List ℕ) (p : Piece) → IsPieceOf front imports before p text → piece_at front imports before text ≡ Ok p
+pub stands_is_read : (front : Front) (imports : Bool) (before text : List ℕ) (p : Piece) → IsPieceOf front imports before p text
+    → piece_at front imports before text ≡ Ok p
 stands_is_read front imports before text (blanks os) h = rw (h.0, h.1) refl
 stands_is_read front imports before text (comment os) h =
     let blank = other_blank text (comment_is_other text h.0) in
@@ -164,7 +175,7 @@ nothing_at_end Mig imports before (string codes os) h = false≢true h.0
 nothing_at_end front imports before (file_name path os) h = false≢true (file_is_other front imports [] h.0 h.1)
 nothing_at_end front imports before (mark os) h = absurd (omega (arith, h.0))
 
--- no piece stands
+-- no piece begins
 abbrev pub IsStuck : Front → List Piece → List ℕ → Type 0
 IsStuck front before rest = (p : Piece) (behind : List ℕ) → rest ≡ octets_of p ++ behind → Stands front before p behind → ⊥
 
@@ -174,15 +185,18 @@ stuck_at_end front before p behind is stands = nothing_at_end front (imports_beh
 same_ok : (p q : Piece) → (let x : Read = Ok p in x) ≡ Ok q → p ≡ q
 same_ok p q e = cc
 
-one_piece : (front : Front) (before : List Piece) (p q : Piece) (a b : List ℕ) → Stands front before p a → Stands front before q b → octets_of p ++ a ≡ octets_of q ++ b → p ≡ q
+one_piece : (front : Front) (before : List Piece) (p q : Piece) (a b : List ℕ) → Stands front before p a
+    → Stands front before q b → octets_of p ++ a ≡ octets_of q ++ b
+    → p ≡ q
 one_piece front before p q a b s t e =
     let f = stands_is_read front (imports_behind false before) (all_octets before) (octets_of p ++ a) p s in
     let g = stands_is_read front (imports_behind false before) (all_octets before) (octets_of q ++ b) q t in
     same_ok p q (sym f ∙ ap (piece_at front (imports_behind false before) (all_octets before)) e ∙ g)
 
--- pieces up to a place where none stands are determined, and so is the place
-pub determined : (front : Front) (before ps qs : List Piece) (r s : List ℕ) → AllStand front before ps r → IsStuck front (before ++ ps) r → AllStand front before qs s → IsStuck front (before ++ qs) s
-    → all_octets ps ++ r ≡ all_octets qs ++ s → (ps ≡ qs) × (r ≡ s)
+-- pieces up to a place where none begins are determined, and so is the place
+pub determined : (front : Front) (before ps qs : List Piece) (r s : List ℕ) → AllStand front before ps r → IsStuck front (before ++ ps) r
+    → AllStand front before qs s → IsStuck front (before ++ qs) s → all_octets ps ++ r ≡ all_octets qs ++ s
+    → (ps ≡ qs) × (r ≡ s)
 determined front before [] [] r s a k b l e = (refl, e)
 determined front before [] (q ∷ qs) r s a k b l e =
     let here : IsStuck front before r = subst (λ z. IsStuck front z r) (append-nil before) k in

@@ -1,7 +1,7 @@
 -- Classes of octets.
 use Rattle.std.specs.Prelude.{Bool, false, not, ◌&&◌, ◌||◌, ◌==◌, nat_le, ℕ, List, [], ◌∷◌}
 
--- an octet that parts what stands beside it: 09 to 0d, and 20
+-- an octet that parts what is beside it: 09 to 0d, and 20
 abbrev pub is_blank : ℕ → Bool
 is_blank o = (nat_le 9 o && nat_le o 13) || o == 32
 
@@ -21,7 +21,7 @@ is_letter o = (nat_le 97 o && nat_le o 122) || (nat_le 65 o && nat_le o 90) || o
 abbrev pub is_digit : ℕ → Bool
 is_digit o = nat_le 48 o && nat_le o 57
 
--- an octet of an identifier behind its first
+-- an octet of an identifier after its first
 abbrev pub is_word_octet : ℕ → Bool
 is_word_octet o = is_letter o || is_digit o
 

@@ -20,13 +20,13 @@ opens_file o = o == 60 || o == 34
 abbrev pub closer_of : ℕ → ℕ
 closer_of o = if o == 60 then 62 else o
 
--- how many octets stand before an octet, where it is on the line
+-- how many octets come before an octet, where it is on the line
 abbrev pub count_before : ℕ → List ℕ → Option ℕ
 count_before closer text =
     let n = prefix_len (λ o. not (o == closer) && is_in_line o) text in
     if begins (λ o. o == closer) (drop n text) then Some n else None
 
--- how many octets stand between the octet that opens a file name and comes first in a text, and the octet that closes it on that line
+-- how many octets are between the octet that opens a file name and comes first in a text, and the octet that closes it on that line
 abbrev pub enclosed_count : List ℕ → Option ℕ
 enclosed_count [] = None
 enclosed_count (o ∷ os) = if opens_file o then count_before (closer_of o) os else None

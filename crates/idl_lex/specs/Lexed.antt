@@ -15,7 +15,7 @@ abbrev pub token_on : ℕ → Option TokenKind → List Token
 token_on line None = []
 token_on line (Some kind) = record { kind = kind; line = line } ∷ []
 
--- the tokens of pieces that stand behind other pieces
+-- the tokens of pieces that follow other pieces
 abbrev pub tokens_behind : List Piece → List Piece → List Token
 tokens_behind before [] = []
 tokens_behind before (p ∷ ps) = token_on (line_behind (all_octets before)) (kind_of p) ++ tokens_behind (before ++ p ∷ []) ps
@@ -24,7 +24,7 @@ tokens_behind before (p ∷ ps) = token_on (line_behind (all_octets before)) (ki
 abbrev pub ArePieces : Front → List ℕ → List Piece → Type 0
 ArePieces front text pieces = (text ≡ all_octets pieces) × AllStand front [] pieces []
 
--- the fault of a place at which no piece stands: `/*` that is not closed, a number that is too large, a `#` line that is no line marker, or any other octet
+-- the fault of a place at which no piece begins: `/*` that is not closed, a number that is too large, a `#` line that is not a line marker, or any other octet
 abbrev pub fault_at : List ℕ → List ℕ → LexErr
 fault_at before text =
     let at = length before in
@@ -33,7 +33,7 @@ fault_at before text =
     else if is_hash_line before text then Directive at
     else BadOctet at
 
--- the first fault of a text: pieces stand up to its place, and there no piece stands
+-- the first fault of a text: there are pieces up to its place, and none begins there
 pub record IsFirstFault (front : Front) (text : List ℕ) (fault : LexErr) : Type 0 where
   pub pieces : List Piece
   pub rest : List ℕ
@@ -49,9 +49,10 @@ AreTokens front text tokens = (pieces : List Piece) × ArePieces front text piec
 
 -- each text has tokens, or a first fault
 abbrev pub TextsAreDecided : Front → Type 0
-TextsAreDecided front = (text : List ℕ) → ((tokens : List Token) × AreTokens front text tokens) ⊎ ((fault : LexErr) × IsFirstFault front text fault)
+TextsAreDecided front = (text : List ℕ)
+    → ((tokens : List Token) × AreTokens front text tokens) ⊎ ((fault : LexErr) × IsFirstFault front text fault)
 
--- why a text has no tokens; want of memory tells nothing of it
+-- why a text has no tokens; being out of memory says nothing of it
 abbrev pub Explains : Front → List ℕ → LexErr → Type 0
 Explains front text NoMemory = Unit {0}
 Explains front text fault = IsFirstFault front text fault

@@ -11,7 +11,7 @@ is_hex text = starts_with nat_eq text (codes "0x")
 abbrev pub digit_count : List ℕ → ℕ
 digit_count text = if is_hex text then 2 + prefix_len is_hex_digit (drop 2 text) else prefix_len is_digit text
 
--- the base of a digit string: 16 behind `0x`, 8 behind a leading 0, else 10
+-- the base of a digit string: 16 after `0x`, 8 after a leading 0, else 10
 abbrev pub base_of : List ℕ → ℕ
 base_of os = if is_hex os then 16 else if begins (λ o. o == 48) os then 8 else 10
 

@@ -15,7 +15,7 @@ use Rattle.idl_lex.specs.declared.kinds.TokenKind.TheVariants.{Name, Number, Cha
 abbrev pub opens_comment : List ℕ → Bool
 opens_comment text = starts_with nat_eq text (codes "/*")
 
--- how many octets stand up to the first `*/` and with it, where there is one
+-- how many octets there are up to the first `*/` and with it, where there is one
 abbrev pub count_to_close : List ℕ → Option ℕ
 count_to_close [] = None
 count_to_close (o ∷ os) = if starts_with nat_eq (o ∷ os) (codes "*/") then Some 2 else option_map suc (count_to_close os)
@@ -91,8 +91,8 @@ abbrev pub imports_behind : Bool → List Piece → Bool
 imports_behind imports [] = imports
 imports_behind imports (p ∷ ps) = imports_behind (imports_on imports (kind_of p)) ps
 
--- octets are a piece at a place: `imports` tells whether the last token imports, `before` is what stands before the place, `text` is the octets
--- and all that stands behind them, and of its sort the piece is the longest that comes first there
+-- octets are a piece at a place: `imports` says whether the last token imports, `before` is what comes before the place, `text` is the octets
+-- and all that follows them, and of its sort the piece is the longest that comes first there
 abbrev pub IsPieceOf : Front → Bool → List ℕ → Piece → List ℕ → Type 0
 IsPieceOf front imports before (blanks os) text = (begins is_blank text ≡ true) × (os ≡ take_while is_blank text)
 IsPieceOf front imports before (comment os) text =
@@ -106,18 +106,19 @@ IsPieceOf front imports before (character code os) text =
     × ((n : ℕ) × (character_at text ≡ Some (code, n)) × (os ≡ take n text))
 IsPieceOf front imports before (string codes os) text =
     (opens_quote front text ≡ true) × (begins is_single text ≡ false)
-    × ((n : ℕ) × (string_count false (drop 1 text) ≡ Some n) × (codes ≡ spelled false (take (n - 1) (drop 1 text))) × (os ≡ take (1 + n) text))
+    × ((n : ℕ) × (string_count false (drop 1 text) ≡ Some n)
+    × (codes ≡ spelled false (take (n - 1) (drop 1 text))) × (os ≡ take (1 + n) text))
 IsPieceOf front imports before (file_name path os) text =
     (n : ℕ) × (file_count front imports text ≡ Some n) × (path ≡ take n (drop 1 text)) × (os ≡ take (2 + n) text)
 IsPieceOf front imports before (mark os) text =
     (0 < mark_count text) × (os ≡ take (mark_count text) text) × (opens_comment text ≡ false)
     × (is_skipped front before text ≡ false) × (file_count front imports text ≡ None)
 
--- a piece that stands behind pieces and before octets
+-- a piece after pieces and before octets
 abbrev pub Stands : Front → List Piece → Piece → List ℕ → Type 0
 Stands front before p behind = IsPieceOf front (imports_behind false before) (all_octets before) p (octets_of p ++ behind)
 
--- pieces that stand one after the other, behind pieces and before octets
+-- pieces that come one after the other, after pieces and before octets
 abbrev pub AllStand : Front → List Piece → List Piece → List ℕ → Type 0
 AllStand front before [] behind = Unit {0}
 AllStand front before (p ∷ ps) behind = Stands front before p (all_octets ps ++ behind) × AllStand front (before ++ p ∷ []) ps behind

@@ -21,7 +21,7 @@ is_backslash o = o == 92
 abbrev pub is_quote : ℕ → Bool
 is_quote o = is_single o || is_double o
 
--- a text that begins with a quote, where the front has characters and strings
+-- a text that begins with a quote, where the front end has characters and strings
 abbrev pub opens_quote : Front → List ℕ → Bool
 opens_quote Corba text = begins is_quote text
 opens_quote _ text = false
@@ -51,7 +51,7 @@ abbrev pub of_length : ℕ → Option ℕ → Option (ℕ × ℕ)
 of_length n None = None
 of_length n (Some code) = Some (code, n)
 
--- a character behind `'\`, and its `'`
+-- a character after `'\`, and its `'`
 abbrev pub escaped_at : List ℕ → Option (ℕ × ℕ)
 escaped_at [] = None
 escaped_at (o ∷ os) = if begins is_single os then of_length 4 (escape_of o) else None
@@ -66,7 +66,7 @@ character_at [] = None
 character_at (q ∷ []) = None
 character_at (q ∷ o ∷ os) = if is_backslash o then escaped_at os else plain_at o os
 
--- how many octets stand up to the `"` that ends a string, and with it, where there is one and characters alone stand before it; behind a `\` or not
+-- how many octets there are up to the `"` that ends a string, and with it, where there is one and characters alone come before it; after a `\` or not
 abbrev pub string_count : Bool → List ℕ → Option ℕ
 string_count escaped [] = None
 string_count true (o ∷ os) = if is_some (escape_of o) then option_map suc (string_count false os) else None
@@ -81,7 +81,7 @@ abbrev pub code_or : ℕ → Option ℕ → ℕ
 code_or o None = o
 code_or o (Some code) = code
 
--- the codes of the characters that octets of a string spell, behind a `\` or not
+-- the codes of the characters that octets of a string spell, after a `\` or not
 abbrev pub spelled : Bool → List ℕ → List ℕ
 spelled escaped [] = []
 spelled true (o ∷ os) = code_or o (escape_of o) ∷ spelled false os

@@ -43,7 +43,8 @@ string_of at text (Some n) = Ok (string (spelled false (take (n - 1) (drop 1 tex
 
 -- a character or a string
 abbrev pub quoted_of : ℕ → List ℕ → Read
-quoted_of at text = if begins is_single text then character_of at text (character_at text) else string_of at text (string_count false (drop 1 text))
+quoted_of at text = if begins is_single text then character_of at text (character_at text)
+    else string_of at text (string_count false (drop 1 text))
 
 abbrev pub mark_of : List ℕ → List ℕ → ℕ → Read
 mark_of before text n =

@@ -45,7 +45,7 @@ pub(crate) fn line_blanks(text: &[u8]) -> usize
         .count()
 }
 
-/// How many octets stand before the end of the line.
+/// How many octets come before the end of the line.
 pub(crate) fn in_line(text: &[u8]) -> usize
     ensures count { result ≡ prefix_len is_in_line text.now }
     ensures within { result ≤ length text.now }

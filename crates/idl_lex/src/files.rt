@@ -25,7 +25,7 @@ fn is_import(word: &[u8]) -> bool
     is_same(word, b"import") || is_same(word, b"uimport") || is_same(word, b"simport")
 }
 
-/// Whether the last token is a word that imports, after a piece of this kind; `imports` tells it of
+/// Whether the last token is a word that imports, after a piece of this kind; `imports` says so of
 /// the pieces before.
 pub(crate) fn imports_on(imports: bool, kind: &Option<TokenKind>) -> bool
     ensures { result ≡ imports_on imports kind.now }
@@ -54,7 +54,7 @@ fn begins_with(octet: u8, text: &[u8]) -> bool
     text.first() == Some(&octet)
 }
 
-/// How many octets stand before the octet that closes a file name, where it is on the line.
+/// How many octets come before the octet that closes a file name, where it is on the line.
 fn count_before(closer: u8, text: &[u8]) -> Option<usize>
     ensures count { result ≡ count_before closer text.now }
     ensures within { IfSome result (λ n. n < length text.now) }
@@ -67,7 +67,7 @@ fn count_before(closer: u8, text: &[u8]) -> Option<usize>
     }
 }
 
-/// How many octets stand between `<` and `>`, or between two `"`, on one line.
+/// How many octets are between `<` and `>`, or between two `"`, on one line.
 fn enclosed_count(text: &[u8]) -> Option<usize>
     ensures count { result ≡ enclosed_count text.now }
     ensures within { IfSome result (λ n. 2 + n ≤ length text.now) }

@@ -1,4 +1,4 @@
-// Tokens, and the fronts that have them.
+// Tokens, and the front ends that have them.
 use kit_base::{Listed, Name, Octets};
 
 /// The language of a file.
@@ -24,7 +24,7 @@ pub struct Token {
 /// What a token is.
 #[derive(Debug, Drop)]
 pub enum TokenKind {
-    /// An identifier, or a word of the front.
+    /// An identifier, or a word of the front end.
     Name(Name),
     /// A number from 0 up.
     Number(i128),
@@ -34,7 +34,7 @@ pub enum TokenKind {
     Text(Octets),
     /// The name of a file, without what encloses it.
     FileName(Octets),
-    /// One or two octets that are no word.
+    /// One or two octets that are not a word.
     Mark(Octets),
 }
 

@@ -7,12 +7,14 @@ ghost use Rattle.idl_lex.specs.declared.lexing.LexErr.{LexErr};
 
 /// The pieces of a text are determined.
 pub fn pieces_are_determined()
-    ensures { (front : Front) (text : List ℕ) (ps qs : List Piece) → ArePieces front text ps → ArePieces front text qs → ps ≡ qs }
+    ensures { (front : Front) (text : List ℕ) (ps qs : List Piece) → ArePieces front text ps
+        → ArePieces front text qs → ps ≡ qs }
 {}
 
 /// The first fault of a text is determined.
 pub fn fault_is_determined()
-    ensures { (front : Front) (text : List ℕ) (e f : LexErr) → IsFirstFault front text e → IsFirstFault front text f → e ≡ f }
+    ensures { (front : Front) (text : List ℕ) (e f : LexErr) → IsFirstFault front text e
+        → IsFirstFault front text f → e ≡ f }
 {}
 
 /// A text has tokens or a first fault.
@@ -20,7 +22,8 @@ pub fn texts_are_decided()
     ensures { (front : Front) → TextsAreDecided front }
 {}
 
-/// A text has not both pieces and a fault.
+/// A text does not have both pieces and a fault.
 pub fn pieces_leave_no_fault()
-    ensures { (front : Front) (text : List ℕ) (ps : List Piece) (e : LexErr) → ArePieces front text ps → IsFirstFault front text e → ⊥ }
+    ensures { (front : Front) (text : List ℕ) (ps : List Piece) (e : LexErr) → ArePieces front text ps
+        → IsFirstFault front text e → ⊥ }
 {}

@@ -14,7 +14,7 @@ use thiserror::Error;
 /// What is wrong with a text, and at which octet, counted from 0.
 #[derive(Clone, Copy, Debug, PartialEq, Eq, Error)]
 pub enum LexErr {
-    /// An octet that begins no piece, or a digit string that is no number.
+    /// An octet that begins no piece, or a digit string that is not a number.
     #[error("BadOctet")]
     BadOctet(usize),
     /// A comment that is not closed.
@@ -23,7 +23,7 @@ pub enum LexErr {
     /// A number above 2^127 - 1.
     #[error("Wide")]
     Wide(usize),
-    /// A line of a preprocessor that is no line marker.
+    /// A line of a preprocessor that is not a line marker.
     #[error("Directive")]
     Directive(usize),
     /// No memory was there.
@@ -63,7 +63,7 @@ pub fn lex(alloc: Global, front: Front, text: &[u8]) -> Result<Tokens, LexErr>
     Ok(tokens)
 }
 
-/// Puts the token that a piece is behind the others.
+/// Appends the token that a piece is.
 fn put(tokens: &mut Tokens, kind: Option<TokenKind>, line: u32) -> Result<(), NoMemory>
     ensures { OnOk result (tokens.new ≡ tokens.old ++ token_on line kind) }
 {

@@ -1,7 +1,7 @@
 //! The tokens of interface files.
 //!
 //! [`lex`] reads a text once from left to right and gives its tokens, each with its line, or the
-//! first fault with its place. [`Front`] tells by which language's rules.
+//! first fault with its place. [`Front`] says by which language's rules.
 #![tactic(auto)]
 
 mod classes;

@@ -5,7 +5,7 @@ ghost use Rattle.idl_lex.specs.Lines.{line_feeds, line_before, is_at_start, is_m
 use crate::Front;
 use crate::classes::{is_blank, is_digit, line_blanks};
 
-/// The line behind a piece that begins on a line.
+/// The line after a piece that begins on a line.
 pub(crate) fn line_past(line: u32, piece: &[u8]) -> u32
     ensures { result ≡ min (line + line_feeds piece.now) (2 ^ 32 - 1) }
 {
@@ -17,7 +17,7 @@ pub(crate) fn line_past(line: u32, piece: &[u8]) -> u32
     }
 }
 
-/// Whether nothing but blanks stands on the line so far.
+/// Whether nothing but blanks is on the line so far.
 fn is_at_start(before: &[u8]) -> bool
     ensures { result ≡ is_at_start before.now }
 {
@@ -28,7 +28,7 @@ fn is_at_start(before: &[u8]) -> bool
         .all(|o| is_blank(*o))
 }
 
-/// Whether nothing at all stands on the line so far.
+/// Whether nothing at all is on the line so far.
 fn is_first(before: &[u8]) -> bool
     ensures { result ≡ (length (line_before before.now) == 0) }
 {
@@ -56,7 +56,7 @@ fn is_marker(text: &[u8]) -> bool
     }
 }
 
-/// Whether the text is skipped to its line's end by the rules of one front.
+/// Whether the text is skipped to its line's end by the rules of one front end.
 fn is_skipped_by(front: Front, before: &[u8], text: &[u8]) -> bool
     ensures { result ≡ is_skipped_by front before.now text.now }
 {

@@ -67,7 +67,7 @@ pub(crate) fn is_number(string: &[u8]) -> bool
     !digits(string).is_empty() && are_below(digits(string), base(string))
 }
 
-/// A number with one more digit behind it, where 128 bits hold it.
+/// A number with one more digit after it, where 128 bits hold it.
 fn with_digit(n: u128, base: u8, digit: u8) -> Option<u128>
     ensures { SomeIff result (n * base + digit < 2 ^ 128) (n * base + digit) }
 {

@@ -48,7 +48,7 @@ pub(crate) fn piece(
     }
 }
 
-/// How many octets stand up to the first `*/` and with it.
+/// How many octets there are up to the first `*/` and with it.
 fn count_to_close(text: &[u8]) -> Option<usize>
     ensures count { result ≡ count_to_close text.now }
     ensures within { IfSome result (λ n. n ≤ length text.now) }

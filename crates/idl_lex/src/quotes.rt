@@ -9,7 +9,7 @@ use crate::{Front, LexErr, TokenKind};
 use kit_base::{NoMemory, Octets};
 use std::alloc::Global;
 
-/// Whether a character or a string begins here, by the rules of the front.
+/// Whether a character or a string begins here, by the rules of the front end.
 pub(crate) fn opens_quote(front: Front, text: &[u8]) -> bool
     ensures { result ≡ opens_quote front text.now }
 {
@@ -53,7 +53,7 @@ fn begins_single(text: &[u8]) -> bool
     text.first() == Some(&b'\'')
 }
 
-/// The character behind `'\`, and how many octets it has with its quotes.
+/// The character after `'\`, and how many octets it has with its quotes.
 fn escaped(text: &[u8]) -> Option<(u8, usize)>
     ensures count { result ≡ escaped_at text.now }
     ensures within { IfSome result (λ x. (0 < x.1) × (x.1 ≤ 2 + length text.now)) }
@@ -79,7 +79,7 @@ fn character_at(text: &[u8]) -> Option<(u8, usize)>
     }
 }
 
-/// How many octets stand up to the end of a string and with it.
+/// How many octets there are up to the end of a string and with it.
 fn string_count(text: &[u8]) -> Option<usize>
     ensures count { result ≡ string_count false text.now }
     ensures within { IfSome result (λ n. (0 < n) × (n ≤ length text.now)) }
