@@ -30,6 +30,6 @@ height (named w) = 1
 height (unary op a) = suc (height a)
 height (binary op a b) = suc (max (height a) (height b))
 
--- a tree that nests at most 32 deep, as the syntax of every front allows
+-- a tree that nests at most 32 deep, as the syntax of every front end allows
 abbrev pub IsShallow : Tree → Type 0
 IsShallow t = height t ≤ 32

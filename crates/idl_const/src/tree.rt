@@ -1,38 +1,54 @@
-// Expressions as they stand in a file.
+// Expressions as a file has them.
 ghost use Rattle.std.specs.Prelude.{◌≡◌, IfOk};
 ghost use Rattle.idl_const.specs.Exprs.{seen, unary, binary};
 
 use kit_base::{Name, NoMemory};
 use std::alloc::Global;
 
-/// What stands before one operand.
+/// A unary operator.
 #[derive(Clone, Copy, Debug, PartialEq, Eq)]
 pub enum UnaryOp {
+    /// The negative of a number: `-`.
     Minus,
+    /// The number itself: `+`.
     Plus,
 }
 
-/// What stands between two operands.
+/// A binary operator.
 #[derive(Clone, Copy, Debug, PartialEq, Eq)]
 pub enum BinaryOp {
+    /// Bitwise or: `|`.
     Or,
+    /// Bitwise exclusive or: `^`.
     Xor,
+    /// Bitwise and: `&`.
     And,
+    /// Shift to the left by 0 to 63 places: `<<`.
     Left,
+    /// Shift to the right by 0 to 63 places, which keeps the sign: `>>`.
     Right,
+    /// Sum: `+`.
     Add,
+    /// Difference: `-`.
     Sub,
+    /// Product: `*`.
     Mul,
+    /// Quotient, rounded towards 0: `/`.
     Div,
+    /// Remainder, with the sign of the number that is divided: `%`.
     Rem,
 }
 
 /// An expression. Parentheses leave no trace in it.
 #[derive(Debug, Drop)]
 pub enum Expr {
+    /// A literal.
     Num(i128),
+    /// The name of a constant.
     Name(Name),
+    /// An operator and its operand.
     Unary(UnaryOp, Box<Expr>),
+    /// An operator between its left and its right operand.
     Binary(BinaryOp, Box<Expr>, Box<Expr>),
 }
 
