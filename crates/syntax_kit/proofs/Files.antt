@@ -10,7 +10,8 @@ use Rattle.syntax_kit.proofs.Grammars.{kinds-append, one_tree, many_is}
 use Rattle.syntax_kit.proofs.Leaves.{begins_else}
 use Rattle.syntax_kit.proofs.Lists.{longest, shorter_by}
 
-each_behind : {D : Type 0} (S : D → Text) (xs : List D) (x : D) (a b : List TokenKind) → each S xs a → S x b → each S (xs ++ x ∷ []) (a ++ b)
+each_behind : {D : Type 0} (S : D → Text) (xs : List D) (x : D) (a b : List TokenKind) → each S xs a → S x b
+    → each S (xs ++ x ∷ []) (a ++ b)
 each_behind S [] x a b s t = (b, [], ap (λ z. z ++ b) s ∙ sym (append-nil b), t, refl)
 each_behind S (y ∷ ys) x a b s t = (s.0, s.1 ++ b, ap (λ z. z ++ b) s.2 ∙ append_assoc s.0 s.1 b, s.3, each_behind S ys x s.1 b s.4 t)
 
@@ -18,7 +19,7 @@ either_read : {A : Type 0} (r : Read A) → (r ≡ None) ⊎ ((x : A × List Tok
 either_read None = inl refl
 either_read (Some x) = inr (x, refl)
 
--- tokens that are definitions, and what stands after them
+-- tokens that are definitions, and what follows them
 pub record So {D : Type 0} (S : D → Text) (tokens rest : List Token) (defs : List D) : Type 0 where
   pub front : List Token
   pub parts : tokens ≡ front ++ rest
@@ -28,7 +29,8 @@ module _ {D : Type 0} {r : Reader D} {S : D → Text} {f : TokenKind → Bool} (
   pub begin : (tokens : List Token) → So S tokens tokens []
   begin tokens = record { front = []; parts = refl; derives = refl }
 
-  pub next : (tokens rest after : List Token) (defs : List D) (d : D) → So S tokens rest defs → r rest ≡ Some (d, after) → So S tokens after (defs ++ d ∷ [])
+  pub next : (tokens rest after : List Token) (defs : List D) (d : D) → So S tokens rest defs → r rest ≡ Some (d, after)
+      → So S tokens after (defs ++ d ∷ [])
   next tokens rest after defs d s e =
       let a = g.found rest d after e in
       record {
@@ -40,7 +42,9 @@ module _ {D : Type 0} {r : Reader D} {S : D → Text} {f : TokenKind → Bool} (
   pub shorter : (rest after : List Token) (d : D) → r rest ≡ Some (d, after) → length after < length rest
   shorter rest after d e = shorter_by g leads rest d after e
 
-  fails : (tokens rest : List Token) (defs : List D) (t : Token) (more : List Token) → So S tokens rest defs → rest ≡ t ∷ more → r rest ≡ None → FailsAt S tokens t.line
+  fails : (tokens rest : List Token) (defs : List D) (t : Token) (more : List Token) → So S tokens rest defs
+      → rest ≡ t ∷ more → r rest ≡ None
+      → FailsAt S tokens t.line
   fails tokens rest defs t more s is none = record {
     front = s.front;
     token = t;
@@ -60,7 +64,9 @@ module _ {D : Type 0} {r : Reader D} {S : D → Text} {f : TokenKind → Bool} (
   pub all : (tokens : List Token) (defs : List D) → So S tokens [] defs → AreDefs S defs tokens
   all tokens defs s = subst (λ z. AreDefs S defs z) (sym (s.parts ∙ append-nil s.front)) s.derives
 
-  pub fails_at : (tokens rest : List Token) (defs : List D) (t : Token) → So S tokens rest defs → 0 < length rest → t ≡ get_or rest 0 t → r rest ≡ None → HaveNone S tokens t.line
+  pub fails_at : (tokens rest : List Token) (defs : List D) (t : Token) → So S tokens rest defs → 0 < length rest
+      → t ≡ get_or rest 0 t → r rest ≡ None
+      → HaveNone S tokens t.line
   fails_at tokens [] defs t s lt is none = absurd (omega arith)
   fails_at tokens (u ∷ rest) defs t s lt is none =
       let same : t ≡ u = is in
@@ -76,7 +82,8 @@ module _ {D : Type 0} {r : Reader D} {S : D → Text} {f : TokenKind → Bool} (
   one_tree_only a b tokens s t =
       one_tree (many_is is_more g (record { ends = refl; begins = λ d front rest u. begins_else (λ _. false) leads (λ k e. refl) d front rest u; goes_on = λ ts h. tt })) (refl, tt) a b tokens s t
 
-  decide : (n : ℕ) (tokens rest : List Token) (defs : List D) → So S tokens rest defs → length rest ≤ n → ((tree : List D) × AreDefs S tree tokens) ⊎ ((line : ℕ) × HaveNone S tokens line)
+  decide : (n : ℕ) (tokens rest : List Token) (defs : List D) → So S tokens rest defs → length rest ≤ n
+      → ((tree : List D) × AreDefs S tree tokens) ⊎ ((line : ℕ) × HaveNone S tokens line)
   decide n tokens [] defs s few = inl (defs, all tokens defs s)
   decide zero tokens (t ∷ rest) defs s few = absurd (omega (arith, few))
   decide (suc n) tokens (t ∷ rest) defs s few = elim (either_read (r (t ∷ rest))) [

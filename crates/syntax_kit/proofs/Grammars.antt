@@ -5,7 +5,8 @@ use Rattle.idl_lex.specs.declared.kinds.TokenKind.{TokenKind}
 use Rattle.syntax_kit.specs.Reading.{Read, Reader, then_on, map_read, both, mapped, either, option, repeat, many}
 use Rattle.syntax_kit.specs.Grammar.{Text, ◌&◌, one_of, maybe, each, kinds, IsGrammar}
 
-pub then_some : {A B : Type 0} (r : Read A) (f : A → Reader B) (y : B × List Token) → then_on r f ≡ Some y → (x : A × List Token) × (r ≡ Some x) × (f x.0 x.1 ≡ Some y)
+pub then_some : {A B : Type 0} (r : Read A) (f : A → Reader B) (y : B × List Token) → then_on r f ≡ Some y
+    → (x : A × List Token) × (r ≡ Some x) × (f x.0 x.1 ≡ Some y)
 then_some None f y e = absurd cc
 then_some (Some x) f y e = (x, refl, e)
 
@@ -17,13 +18,15 @@ read_is {A} a b us vs e =
     let pair : Read A → A × List Token = λ r. elim r [ Some x ↦ x | None ↦ (a, us) ] in
     (ap (λ r. (pair r).0) e, ap (λ r. (pair r).1) e)
 
-pub map_some : {A B : Type 0} (f : A → B) (r : Read A) (y : B) (rest : List Token) → map_read f r ≡ Some (y, rest) → (x : A) × (r ≡ Some (x, rest)) × (f x ≡ y)
+pub map_some : {A B : Type 0} (f : A → B) (r : Read A) (y : B) (rest : List Token) → map_read f r ≡ Some (y, rest)
+    → (x : A) × (r ≡ Some (x, rest)) × (f x ≡ y)
 map_some f None y rest e = absurd cc
 map_some f (Some x) y rest e =
     let is = read_is (f x.0) y x.1 rest e in
     (x.0, ap (λ z. made x.0 z) is.1, is.0)
 
-pub cond_some : {A : Type 0} (b : Bool) (p q : Read A) (y : A × List Token) → cond b p q ≡ Some y → ((b ≡ true) × (p ≡ Some y)) ⊎ ((b ≡ false) × (q ≡ Some y))
+pub cond_some : {A : Type 0} (b : Bool) (p q : Read A) (y : A × List Token) → cond b p q ≡ Some y
+    → ((b ≡ true) × (p ≡ Some y)) ⊎ ((b ≡ false) × (q ≡ Some y))
 cond_some true p q y e = inl (refl, e)
 cond_some false p q y e = inr (refl, e)
 
@@ -32,7 +35,8 @@ kinds-append [] b = refl
 kinds-append (t ∷ a) b = ap (λ ks. t.kind ∷ ks) (kinds-append a b)
 
 -- where the kinds are two parts, the tokens are
-pub parted : (ts : List Token) (a b : List TokenKind) → kinds ts ≡ a ++ b → (f : List Token) × (g : List Token) × (ts ≡ f ++ g) × (kinds f ≡ a) × (kinds g ≡ b)
+pub parted : (ts : List Token) (a b : List TokenKind) → kinds ts ≡ a ++ b
+    → (f : List Token) × (g : List Token) × (ts ≡ f ++ g) × (kinds f ≡ a) × (kinds g ≡ b)
 parted ts [] b e = ([], ts, refl, refl, e)
 parted [] (k ∷ a) b e = absurd cc
 parted (t ∷ ts) (k ∷ a) b e =
@@ -83,9 +87,9 @@ both_is {A} {B} {r} {s} {S} {T} {May} {May'} g h next = record {
 }
 
 -- the second where the test fails
-pub either_is : {A B : Type 0} {r : Reader A} {s : Reader B} {S : A → Text} {T : B → Text} {May : List Token → Type 0} (go : List Token → Bool)
-    → IsGrammar r S May → IsGrammar s T May
-    → ((a : A) (front rest : List Token) → S a (kinds front) → May rest → go (front ++ rest) ≡ true)
+pub either_is : {A B : Type 0} {r : Reader A} {s : Reader B} {S : A → Text} {T : B → Text} {May : List Token → Type 0}
+    (go : List Token → Bool)
+    → IsGrammar r S May → IsGrammar s T May → ((a : A) (front rest : List Token) → S a (kinds front) → May rest → go (front ++ rest) ≡ true)
     → ((b : B) (front rest : List Token) → T b (kinds front) → May rest → go (front ++ rest) ≡ false)
     → IsGrammar (either go r s) (one_of S T) May
 either_is {A} {B} {r} {s} {S} {T} {May} go g h does not_so = record {
@@ -131,15 +135,16 @@ option_is {A} {r} {S} {May} go g does not_so = record {
 
 -- ---- many
 
--- what begins an item and what stands behind the last
+-- what begins an item and what follows the last
 pub record IsRow {A : Type 0} (go : List Token → Bool) (S : A → Text) (May : List Token → Type 0) : Type 0 where
   pub ends : go [] ≡ false
   pub begins : (a : A) (front rest : List Token) → S a (kinds front) → go (front ++ rest) ≡ true
-  -- the next item may stand behind an item
+  -- the next item may follow an item
   pub goes_on : (ts : List Token) → go ts ≡ true → May ts
 
-repeat_found : {A : Type 0} {r : Reader A} {S : A → Text} {May : List Token → Type 0} (go : List Token → Bool) → IsGrammar r S May
-    → (n : ℕ) (ts : List Token) (xs : List A) (rest : List Token) → repeat go r n ts ≡ Some (xs, rest) → (front : List Token) × (ts ≡ front ++ rest) × each S xs (kinds front)
+repeat_found : {A : Type 0} {r : Reader A} {S : A → Text} {May : List Token → Type 0} (go : List Token → Bool)
+    → IsGrammar r S May → (n : ℕ) (ts : List Token) (xs : List A) (rest : List Token) → repeat go r n ts ≡ Some (xs, rest)
+    → (front : List Token) × (ts ≡ front ++ rest) × each S xs (kinds front)
 repeat_found {A} {S = S} go g zero ts xs rest e =
     let is = read_is [] xs ts rest e in
     ([], is.1, subst (λ z. each S z []) is.0 refl)
@@ -161,12 +166,16 @@ repeat_found {A} {r} {S} go g (suc n) ts xs rest e =
     ]
 
 -- an item has a token
-not_empty : {A : Type 0} {S : A → Text} {May : List Token → Type 0} {go : List Token → Bool} → IsRow go S May → (a : A) (front : List Token) → S a (kinds front) → (t : Token) × (more : List Token) × (front ≡ t ∷ more)
+not_empty : {A : Type 0} {S : A → Text} {May : List Token → Type 0} {go : List Token → Bool} → IsRow go S May
+    → (a : A) (front : List Token) → S a (kinds front)
+    → (t : Token) × (more : List Token) × (front ≡ t ∷ more)
 not_empty {go = go} row a [] s = let does = row.begins a [] [] s in absurd (cc (does, row.ends))
 not_empty row a (t ∷ more) s = (t, more, refl)
 
-repeat_again : {A : Type 0} {r : Reader A} {S : A → Text} {May : List Token → Type 0} (go : List Token → Bool) → IsGrammar r S May → IsRow go S May
-    → (xs : List A) (n : ℕ) (front rest : List Token) → length front ≤ n → each S xs (kinds front) → go rest ≡ false → May rest → repeat go r n (front ++ rest) ≡ Some (xs, rest)
+repeat_again : {A : Type 0} {r : Reader A} {S : A → Text} {May : List Token → Type 0} (go : List Token → Bool)
+    → IsGrammar r S May → IsRow go S May → (xs : List A) (n : ℕ) (front rest : List Token) → length front ≤ n
+    → each S xs (kinds front) → go rest ≡ false → May rest
+    → repeat go r n (front ++ rest) ≡ Some (xs, rest)
 repeat_again go g row [] zero front rest le t not_so may = rw (no_kinds front t) refl
 repeat_again go g row [] (suc n) front rest le t not_so may = rw (no_kinds front t, not_so) refl
 repeat_again {S = S} go g row (x ∷ xs) zero front rest le t not_so may =
@@ -191,7 +200,8 @@ repeat_again {A} {r} {S} {May} go g row (x ∷ xs) (suc n) front rest le t not_s
         let first : S y (kinds p.0) = subst (S y) (sym p.3) t.3 in
         rw (p.2, append_assoc) (row.goes_on (p.0 ++ (p.1 ++ rest)) (row.begins y p.0 (p.1 ++ rest) first))
 
-pub many_is : {A : Type 0} {r : Reader A} {S : A → Text} {May : List Token → Type 0} (go : List Token → Bool) → IsGrammar r S May → IsRow go S May
+pub many_is : {A : Type 0} {r : Reader A} {S : A → Text} {May : List Token → Type 0} (go : List Token → Bool)
+    → IsGrammar r S May → IsRow go S May
     → IsGrammar (many go r) (each S) (λ rest. (go rest ≡ false) × May rest)
 many_is {A} {r} {S} {May} go g row = record {
   found = λ ts xs rest e. repeat_found go g (length ts) ts xs rest e;
@@ -200,5 +210,7 @@ many_is {A} {r} {S} {May} go g row = record {
 
 -- ---- one tree
 
-pub one_tree : {A : Type 0} {r : Reader A} {S : A → Text} {May : List Token → Type 0} → IsGrammar r S May → May [] → (a b : A) (ts : List Token) → S a (kinds ts) → S b (kinds ts) → a ≡ b
+pub one_tree : {A : Type 0} {r : Reader A} {S : A → Text} {May : List Token → Type 0} → IsGrammar r S May → May []
+    → (a b : A) (ts : List Token) → S a (kinds ts) → S b (kinds ts)
+    → a ≡ b
 one_tree g may a b ts s t = (read_is a b [] [] (sym (g.again a ts [] s may) ∙ g.again b ts [] t may)).0

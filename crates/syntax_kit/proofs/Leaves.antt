@@ -10,7 +10,8 @@ use Rattle.syntax_kit.specs.Reading.{with_rest, token_at, only_if, word_is, mark
 use Rattle.syntax_kit.specs.Grammar.{Text, word, mark, number, id, ◌&◌, one_of, kinds, IsGrammar, Leads, Any}
 use Rattle.syntax_kit.proofs.Grammars.{read_is}
 
-rest_some : {A : Type 0} (ts : List Token) (o : Option A) (a : A) (rest : List Token) → with_rest ts o ≡ Some (a, rest) → (o ≡ Some a) × (ts ≡ rest)
+rest_some : {A : Type 0} (ts : List Token) (o : Option A) (a : A) (rest : List Token) → with_rest ts o ≡ Some (a, rest)
+    → (o ≡ Some a) × (ts ≡ rest)
 rest_some ts None a rest e = absurd cc
 rest_some ts (Some x) a rest e = let is = read_is x a ts rest e in (ap Some is.0, is.1)
 
@@ -19,8 +20,8 @@ one_kind [] k e = absurd cc
 one_kind (t ∷ []) k e = (t, refl, cc)
 one_kind (t ∷ u ∷ ts) k e = absurd cc
 
-pub token_is : {A : Type 0} (f : TokenKind → Option A) (S : A → Text)
-    → ((k : TokenKind) (a : A) → f k ≡ Some a → S a (k ∷ [])) → ((a : A) (ks : List TokenKind) → S a ks → (k : TokenKind) × (ks ≡ k ∷ []) × (f k ≡ Some a))
+pub token_is : {A : Type 0} (f : TokenKind → Option A) (S : A → Text) → ((k : TokenKind) (a : A) → f k ≡ Some a → S a (k ∷ []))
+    → ((a : A) (ks : List TokenKind) → S a ks → (k : TokenKind) × (ks ≡ k ∷ []) × (f k ≡ Some a))
     → IsGrammar (token_at f) S Any
 token_is {A} f S forth back = record {
   found = λ ts a rest e. take ts a rest e;
@@ -133,27 +134,34 @@ or_right : (a b : Bool) → b ≡ true → (a || b) ≡ true
 or_right true b e = refl
 or_right false b e = e
 
-pub leads_either : {A B : Type 0} {S : A → Text} {T : B → Text} {f g : TokenKind → Bool} → Leads S f → Leads T g → Leads (one_of S T) (λ k. f k || g k)
+pub leads_either : {A B : Type 0} {S : A → Text} {T : B → Text} {f g : TokenKind → Bool} → Leads S f → Leads T g
+    → Leads (one_of S T) (λ k. f k || g k)
 leads_either {f = f} {g = g} l m (inl a) ks s = let x = l a ks s in (x.0, x.1, x.2, or_left (f x.0) (g x.0) x.3)
 leads_either {f = f} {g = g} l m (inr b) ks s = let x = m b ks s in (x.0, x.1, x.2, or_right (f x.0) (g x.0) x.3)
 
-first_token : (ts : List Token) (k : TokenKind) (ks : List TokenKind) → kinds ts ≡ k ∷ ks → (t : Token) × (us : List Token) × (ts ≡ t ∷ us) × (t.kind ≡ k)
+first_token : (ts : List Token) (k : TokenKind) (ks : List TokenKind) → kinds ts ≡ k ∷ ks
+    → (t : Token) × (us : List Token) × (ts ≡ t ∷ us) × (t.kind ≡ k)
 first_token [] k ks e = absurd cc
 first_token (t ∷ us) k ks e = (t, us, refl, cc)
 
-pub begins_so : {A : Type 0} {S : A → Text} {f : TokenKind → Bool} → Leads S f → (a : A) (front rest : List Token) → S a (kinds front) → begins_with f (front ++ rest) ≡ true
+pub begins_so : {A : Type 0} {S : A → Text} {f : TokenKind → Bool} → Leads S f → (a : A) (front rest : List Token) → S a (kinds front)
+    → begins_with f (front ++ rest) ≡ true
 begins_so {f = f} l a front rest s =
     let x = l a (kinds front) s in
     let t = first_token front x.0 x.1 x.2 in
     rw (t.2, t.3) x.3
 
-pub begins_not : {A : Type 0} {S : A → Text} {g : TokenKind → Bool} (f : TokenKind → Bool) → Leads S g → Apart g f → (a : A) (front rest : List Token) → S a (kinds front) → begins_with f (front ++ rest) ≡ false
+pub begins_not : {A : Type 0} {S : A → Text} {g : TokenKind → Bool} (f : TokenKind → Bool) → Leads S g → Apart g f
+    → (a : A) (front rest : List Token) → S a (kinds front)
+    → begins_with f (front ++ rest) ≡ false
 begins_not f l apart a front rest s =
     let x = l a (kinds front) s in
     let t = first_token front x.0 x.1 x.2 in
     rw (t.2, t.3) (apart x.0 x.3)
 
-pub begins_else : {A : Type 0} {S : A → Text} {g : TokenKind → Bool} (f : TokenKind → Bool) → Leads S g → Apart g f → (a : A) (front rest : List Token) → S a (kinds front) → begins_other f (front ++ rest) ≡ true
+pub begins_else : {A : Type 0} {S : A → Text} {g : TokenKind → Bool} (f : TokenKind → Bool) → Leads S g → Apart g f
+    → (a : A) (front rest : List Token) → S a (kinds front)
+    → begins_other f (front ++ rest) ≡ true
 begins_else f l apart a front rest s =
     let x = l a (kinds front) s in
     let t = first_token front x.0 x.1 x.2 in

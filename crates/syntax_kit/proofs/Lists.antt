@@ -13,8 +13,9 @@ pub turns : (f g : TokenKind → Bool) → Apart f g → (ts : List Token) → b
 turns f g apart [] h = absurd cc
 turns f g apart (t ∷ ts) h = apart t.kind h
 
-pub shorter_by : {A : Type 0} {r : Reader A} {S : A → Text} {May : List Token → Type 0} {f : TokenKind → Bool} → IsGrammar r S May → Leads S f
-    → (ts : List Token) (x : A) (rest : List Token) → r ts ≡ Some (x, rest) → length rest < length ts
+pub shorter_by : {A : Type 0} {r : Reader A} {S : A → Text} {May : List Token → Type 0} {f : TokenKind → Bool}
+    → IsGrammar r S May → Leads S f → (ts : List Token) (x : A) (rest : List Token) → r ts ≡ Some (x, rest)
+    → length rest < length ts
 shorter_by {A} {r} {S} {May} {f} g l ts x rest e = let a = g.found ts x rest e in go a.0 a.1 a.2 where
   go : (front : List Token) → ts ≡ front ++ rest → S x (kinds front) → length rest < length ts
   go [] is s = let y = l x [] s in absurd (let h : [] ≡ y.0 ∷ y.1 = y.2 in cc)
@@ -42,7 +43,8 @@ joined_is {A} {r} {S} {May} m g goes_on = mapped_is cons (joined m S)
     back [] ks s = absurd s
     back (x ∷ xs) ks s = ((x, xs), refl, s)
 
-pub until_is : {A : Type 0} {r : Reader A} {S : A → Text} {f : TokenKind → Bool} (close : List ℕ) → IsGrammar r S Any → Leads S f → Apart f (mark_is close)
+pub until_is : {A : Type 0} {r : Reader A} {S : A → Text} {f : TokenKind → Bool} (close : List ℕ) → IsGrammar r S Any
+    → Leads S f → Apart f (mark_is close)
     → IsGrammar (until_at close r) (each S) (λ rest. begins_other (mark_is close) rest ≡ false)
 until_is {S = S} close g l apart = weaker (many_is (begins_other (mark_is close)) g (record { ends = refl; begins = λ a front rest s. begins_else (mark_is close) l apart a front rest s; goes_on = λ ts h. tt })) (λ rest may. (may, tt))
 
@@ -50,7 +52,8 @@ pub while_is : {A : Type 0} {r : Reader A} {S : A → Text} (w : List ℕ) → I
     → IsGrammar (while_at w r) (each S) (λ rest. begins_with (word_is w) rest ≡ false)
 while_is {S = S} w g l = weaker (many_is (begins_with (word_is w)) g (record { ends = refl; begins = λ a front rest s. begins_so l a front rest s; goes_on = λ ts h. tt })) (λ rest may. (may, tt))
 
-pub some_is : {A : Type 0} {r : Reader (List A)} {S : A → Text} {May : List Token → Type 0} → IsGrammar r (each S) May → IsGrammar (some_at r) (some S) May
+pub some_is : {A : Type 0} {r : Reader (List A)} {S : A → Text} {May : List Token → Type 0} → IsGrammar r (each S) May
+    → IsGrammar (some_at r) (some S) May
 some_is {A} {r} {S} {May} g = record {
   found = λ ts xs rest e.
       let m = then_some (r ts) if_some (xs, rest) e in
@@ -75,11 +78,12 @@ pub leads_joined : {A : Type 0} {S : A → Text} {f : TokenKind → Bool} (m : L
 leads_joined {S = S} m l [] ks s = absurd s
 leads_joined {S = S} m l (x ∷ xs) ks s = leads_both (each (λ y. mark m & S y)) l (x, xs) ks s
 
--- ---- the longest front that is items
+-- ---- the longest prefix that is items
 
--- where the next item isn't read, no longer front is items
-pub longest : {A : Type 0} {r : Reader A} {S : A → Text} → IsGrammar r S Any → (xs ys : List A) (front rest a b : List Token) → front ++ rest ≡ a ++ b
-    → each S xs (kinds front) → each S ys (kinds a) → r rest ≡ None → length a ≤ length front
+-- where the next item is not read, no longer prefix is items
+pub longest : {A : Type 0} {r : Reader A} {S : A → Text} → IsGrammar r S Any → (xs ys : List A) (front rest a b : List Token)
+    → front ++ rest ≡ a ++ b → each S xs (kinds front) → each S ys (kinds a) → r rest ≡ None
+    → length a ≤ length front
 longest g xs [] front rest a b is s t none = omega (arith, ap length (no_kinds a t))
 longest {r = r} {S = S} g [] (y ∷ ys) front rest a b is s t none =
     let q = parted a t.0 t.1 t.2 in

@@ -11,7 +11,9 @@ use Rattle.syntax_kit.specs.Grammar.{Text, empty, word, mark, ◌&◌, one_of, m
 use Rattle.syntax_kit.proofs.Grammars.{read_is, mapped_is, both_is, either_is}
 use Rattle.syntax_kit.proofs.Leaves.{token_is, word_named, mark_named, equal_bytes, word_reads, mark_reads, Apart, apart_word, apart_mark, leads_word, leads_mark, leads_both, begins_so, begins_not}
 
-pub weaker : {A : Type 0} {r : Reader A} {S : A → Text} {May May' : List Token → Type 0} → IsGrammar r S May → ((rest : List Token) → May' rest → May rest) → IsGrammar r S May'
+pub weaker : {A : Type 0} {r : Reader A} {S : A → Text} {May May' : List Token → Type 0} → IsGrammar r S May
+    → ((rest : List Token) → May' rest → May rest)
+    → IsGrammar r S May'
 weaker g h = record { found = g.found; again = λ a front rest s may. g.again a front rest s (h rest may) }
 
 pub behind_is : {A : Type 0} {r : Reader (Unit {0})} {s : Reader A} {P : Text} {S : A → Text} {May : List Token → Type 0}
@@ -19,18 +21,21 @@ pub behind_is : {A : Type 0} {r : Reader (Unit {0})} {s : Reader A} {P : Text} {
 behind_is {A} {P = P} {S = S} g h = mapped_is (λ (x : Unit {0} × A). x.1) (λ a. P & S a) (both_is g h (λ b front rest t may. tt)) (λ x ks s. s) (λ y ks s. ((tt, y), refl, s))
 
 pub before_is : {A : Type 0} {r : Reader A} {s : Reader (Unit {0})} {S : A → Text} {P : Text} {May May' : List Token → Type 0}
-    → IsGrammar r S May → IsGrammar s (λ _. P) May' → ((front rest : List Token) → P (kinds front) → May (front ++ rest)) → IsGrammar (before r s) (λ a. S a & P) May'
+    → IsGrammar r S May → IsGrammar s (λ _. P) May' → ((front rest : List Token) → P (kinds front) → May (front ++ rest))
+    → IsGrammar (before r s) (λ a. S a & P) May'
 before_is {A} {S = S} {P = P} g h next = mapped_is (λ (x : A × Unit {0}). x.0) (λ a. S a & P) (both_is g h (λ b front rest t may. next front rest t)) (λ x ks s. s) (λ y ks s. ((y, tt), refl, s))
 
--- a word and what stands behind it, or something that does not begin with the word
-pub led_is : {A B : Type 0} {r : Reader A} {s : Reader B} {S : A → Text} {T : B → Text} {May : List Token → Type 0} {g : TokenKind → Bool} (w : List ℕ)
+-- a word and what follows it, or something that does not begin with the word
+pub led_is : {A B : Type 0} {r : Reader A} {s : Reader B} {S : A → Text} {T : B → Text} {May : List Token → Type 0}
+    {g : TokenKind → Bool} (w : List ℕ)
     → IsGrammar r S May → IsGrammar s T May → Leads T g → g (Name w) ≡ false
     → IsGrammar (either (begins_with (word_is w)) (behind (word_at w) r) s) (one_of (λ a. word w & S a) T) May
 led_is {A} {S = S} {g = g} w p q l apart = either_is (begins_with (word_is w)) (behind_is (word_reads w) p) q
     (λ a front rest s may. begins_so (leads_both S (leads_word w)) (tt, a) front rest s)
     (λ b front rest s may. begins_not (word_is w) l (apart_word g w apart) b front rest s)
 
-pub marked_is : {A B : Type 0} {r : Reader A} {s : Reader B} {S : A → Text} {T : B → Text} {May : List Token → Type 0} {g : TokenKind → Bool} (m : List ℕ)
+pub marked_is : {A B : Type 0} {r : Reader A} {s : Reader B} {S : A → Text} {T : B → Text} {May : List Token → Type 0}
+    {g : TokenKind → Bool} (m : List ℕ)
     → IsGrammar r S May → IsGrammar s T May → Leads T g → g (Mark m) ≡ false
     → IsGrammar (either (begins_with (mark_is m)) (behind (mark_at m) r) s) (one_of (λ a. mark m & S a) T) May
 marked_is {A} {S = S} {g = g} m p q l apart = either_is (begins_with (mark_is m)) (behind_is (mark_reads m) p) q
@@ -62,13 +67,15 @@ or_right : (a b : Bool) → b ≡ true → (a || b) ≡ true
 or_right true b e = refl
 or_right false b e = e
 
-pub leads_maybe : {A B : Type 0} {S : A → Text} {T : B → Text} {f g : TokenKind → Bool} → Leads S f → Leads T g → Leads {A = Option A × B} (λ x. maybe S x.0 & T x.1) (λ k. f k || g k)
+pub leads_maybe : {A B : Type 0} {S : A → Text} {T : B → Text} {f g : TokenKind → Bool} → Leads S f → Leads T g
+    → Leads {A = Option A × B} (λ x. maybe S x.0 & T x.1) (λ k. f k || g k)
 leads_maybe {A} {B} {S} {T} {f} {g} l m x ks s = go x.0 s where
   go : (o : Option A) → (maybe S o & T x.1) ks → (k : TokenKind) × (more : List TokenKind) × (ks ≡ k ∷ more) × ((f k || g k) ≡ true)
   go None t = let y = m x.1 ks (unit_left (T x.1) ks t) in (y.0, y.1, y.2, or_right (f y.0) (g y.0) y.3)
   go (Some a) t = let y = l a t.0 t.3 in (y.0, y.1 ++ t.1, t.2 ∙ ap (λ z. z ++ t.1) y.2, or_left (f y.0) (g y.0) y.3)
 
-pub leads_when : {B : Type 0} {P : Text} {T : B → Text} {f g : TokenKind → Bool} → Leads {A = Unit {0}} (λ _. P) f → Leads T g → Leads {A = Bool × B} (λ x. when P x.0 & T x.1) (λ k. f k || g k)
+pub leads_when : {B : Type 0} {P : Text} {T : B → Text} {f g : TokenKind → Bool} → Leads {A = Unit {0}} (λ _. P) f → Leads T g
+    → Leads {A = Bool × B} (λ x. when P x.0 & T x.1) (λ k. f k || g k)
 leads_when {B} {P} {T} {f} {g} l m x ks s = go x.0 s where
   go : (o : Bool) → (when P o & T x.1) ks → (k : TokenKind) × (more : List TokenKind) × (ks ≡ k ∷ more) × ((f k || g k) ≡ true)
   go false t = let y = m x.1 ks (unit_left (T x.1) ks t) in (y.0, y.1, y.2, or_right (f y.0) (g y.0) y.3)
@@ -97,23 +104,29 @@ flag_reads m = record { found = finds; again = reads } where
 
 -- ---- words that stand for something
 
-named_by : {A : Type 0} (spell : A → List ℕ) (x : List ℕ × A) (k : TokenKind) (a : A) (b : Bool) (more : Option A) → spell x.1 ≡ x.0 → word_is x.0 k ≡ b
-    → (more ≡ Some a → k ≡ Name (spell a)) → cond b (Some x.1) more ≡ Some a → k ≡ Name (spell a)
+named_by : {A : Type 0} (spell : A → List ℕ) (x : List ℕ × A) (k : TokenKind) (a : A) (b : Bool) (more : Option A)
+    → spell x.1 ≡ x.0 → word_is x.0 k ≡ b → (more ≡ Some a → k ≡ Name (spell a)) → cond b (Some x.1) more ≡ Some a
+    → k ≡ Name (spell a)
 named_by spell x k a true more h is others q = let same : x.1 ≡ a = cc in word_named x.0 k is ∙ ap Name (sym h) ∙ ap (λ z. Name (spell z)) same
 named_by spell x k a false more h is others q = others q
 
-named : {A : Type 0} (spell : A → List ℕ) (es : List (List ℕ × A)) → AllByRecursion (λ e. spell e.1 ≡ e.0) es → (k : TokenKind) (a : A) → word_in es k ≡ Some a → k ≡ Name (spell a)
+named : {A : Type 0} (spell : A → List ℕ) (es : List (List ℕ × A)) → AllByRecursion (λ e. spell e.1 ≡ e.0) es
+    → (k : TokenKind) (a : A) → word_in es k ≡ Some a
+    → k ≡ Name (spell a)
 named spell [] h k a e = absurd cc
 named spell (x ∷ es) h k a e = named_by spell x k a (word_is x.0 k) (word_in es k) h.0 refl (named spell es h.1 k a) e
 
-pub words_are : {A : Type 0} (table : List (List ℕ × A)) (spell : A → List ℕ) → AllByRecursion (λ e. spell e.1 ≡ e.0) table → ((a : A) → word_in table (Name (spell a)) ≡ Some a)
+pub words_are : {A : Type 0} (table : List (List ℕ × A)) (spell : A → List ℕ)
+    → AllByRecursion (λ e. spell e.1 ≡ e.0) table → ((a : A) → word_in table (Name (spell a)) ≡ Some a)
     → IsGrammar (token_at (word_in table)) (λ a. word (spell a)) Any
 words_are {A} table spell all back = token_is (word_in table) (λ a. word (spell a)) (λ k a e. ap (λ z. z ∷ []) (named spell table all k a e)) (λ a ks s. (Name (spell a), s, back a))
 
-pub leads_words : {A : Type 0} (table : List (List ℕ × A)) (spell : A → List ℕ) → ((a : A) → word_in table (Name (spell a)) ≡ Some a) → Leads (λ a. word (spell a)) (has_word table)
+pub leads_words : {A : Type 0} (table : List (List ℕ × A)) (spell : A → List ℕ) → ((a : A) → word_in table (Name (spell a)) ≡ Some a)
+    → Leads (λ a. word (spell a)) (has_word table)
 leads_words table spell back a ks s = (Name (spell a), [], s, ap is_some (back a))
 
-pub apart_words : {A : Type 0} (g : TokenKind → Bool) (table : List (List ℕ × A)) → AllByRecursion (λ e. g (Name e.0) ≡ false) table → Apart g (has_word table)
+pub apart_words : {A : Type 0} (g : TokenKind → Bool) (table : List (List ℕ × A)) → AllByRecursion (λ e. g (Name e.0) ≡ false) table
+    → Apart g (has_word table)
 apart_words g [] h k e = refl
 apart_words g (x ∷ es) h k e = rw (apart_word g x.0 h.0 k e) (apart_words g es h.1 k e)
 
@@ -122,11 +135,14 @@ apart_id words g h (Name n) e = let p = h n in absurd cc
 apart_id words g h _ e = refl
 
 -- what a text begins with is what the text seen otherwise begins with
-pub leads_by : {A B : Type 0} {S : A → Text} {T : B → Text} {g : TokenKind → Bool} (f : A → B) → ((y : B) (ks : List TokenKind) → T y ks → (x : A) × (f x ≡ y) × S x ks) → Leads S g → Leads T g
+pub leads_by : {A B : Type 0} {S : A → Text} {T : B → Text} {g : TokenKind → Bool} (f : A → B)
+    → ((y : B) (ks : List TokenKind) → T y ks → (x : A) × (f x ≡ y) × S x ks) → Leads S g
+    → Leads T g
 leads_by f back l y ks t = let x = back y ks t in l x.0 ks x.2
 
-pub maybe_not : {A : Type 0} {S : A → Text} {g : TokenKind → Bool} (f : TokenKind → Bool) → Leads S g → Apart g f → (o : Option A) (front rest : List Token) → maybe S o (kinds front)
-    → begins_with f rest ≡ false → begins_with f (front ++ rest) ≡ false
+pub maybe_not : {A : Type 0} {S : A → Text} {g : TokenKind → Bool} (f : TokenKind → Bool) → Leads S g → Apart g f
+    → (o : Option A) (front rest : List Token) → maybe S o (kinds front) → begins_with f rest ≡ false
+    → begins_with f (front ++ rest) ≡ false
 maybe_not f l apart None [] rest s h = h
 maybe_not f l apart None (t ∷ front) rest s h = absurd cc
 maybe_not f l apart (Some a) front rest s h = begins_not f l apart a front rest s
@@ -135,6 +151,7 @@ pub not_other : (f : TokenKind → Bool) (ts : List Token) → begins_with f ts 
 not_other f [] h = refl
 not_other f (t ∷ ts) h = rw h refl
 
--- behind the last item before a closing mark
-pub stopped : {B : Type 0} {T : B → Text} (close : List ℕ) → Leads T (mark_is close) → (b : B) (front rest : List Token) → T b (kinds front) → begins_other (mark_is close) (front ++ rest) ≡ false
+-- after the last item before a closing mark
+pub stopped : {B : Type 0} {T : B → Text} (close : List ℕ) → Leads T (mark_is close) → (b : B) (front rest : List Token) → T b (kinds front)
+    → begins_other (mark_is close) (front ++ rest) ≡ false
 stopped close l b front rest t = not_other (mark_is close) (front ++ rest) (begins_so l b front rest t)

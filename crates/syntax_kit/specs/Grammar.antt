@@ -34,7 +34,7 @@ number n = one (Number n)
 abbrev pub id : List (List ℕ) → List ℕ → Text
 id words n ks = (ks ≡ Name n ∷ []) × (is_in n words ≡ false)
 
--- one text behind the other
+-- one text after the other
 infixr 4 ◌&◌
 abbrev pub ◌&◌ : Text → Text → Text
 (P & Q) ks = (a : List TokenKind) × (b : List TokenKind) × (ks ≡ a ++ b) × P a × Q b
@@ -54,7 +54,7 @@ abbrev pub maybe : {A : Type 0} → (A → Text) → Option A → Text
 maybe S None = empty
 maybe S (Some a) = S a
 
--- any number of texts, one behind the other
+-- any number of texts, one after another
 abbrev pub each : {A : Type 0} → (A → Text) → List A → Text
 each S [] = empty
 each S (x ∷ xs) = S x & each S xs
@@ -64,7 +64,7 @@ abbrev pub joined : {A : Type 0} → List ℕ → (A → Text) → List A → Te
 joined m S [] ks = ⊥
 joined m S (x ∷ xs) ks = (S x & each (λ y. mark m & S y) xs) ks
 
--- one or more, one behind the other
+-- one or more, one after another
 abbrev pub some : {A : Type 0} → (A → Text) → List A → Text
 some S [] ks = ⊥
 some S (x ∷ xs) ks = (S x & each S xs) ks
@@ -75,10 +75,11 @@ some S (x ∷ xs) ks = (S x & each S xs) ks
 abbrev pub kinds : List Token → List TokenKind
 kinds ts = map (λ t. t.kind) ts
 
--- A reader that reads exactly the texts of its trees, where the tokens behind them may stand there.
+-- A reader that reads exactly the texts of its trees, where the tokens after them may follow.
 pub record IsGrammar {A : Type 0} (r : Reader A) (S : A → Text) (May : List Token → Type 0) : Type 0 where
   -- what is read is spelled
-  pub found : (ts : List Token) (a : A) (rest : List Token) → r ts ≡ Some (a, rest) → (front : List Token) × (ts ≡ front ++ rest) × S a (kinds front)
+  pub found : (ts : List Token) (a : A) (rest : List Token) → r ts ≡ Some (a, rest)
+      → (front : List Token) × (ts ≡ front ++ rest) × S a (kinds front)
   -- what is spelled is read
   pub again : (a : A) (front rest : List Token) → S a (kinds front) → May rest → r (front ++ rest) ≡ Some (a, rest)
 
@@ -86,6 +87,6 @@ pub record IsGrammar {A : Type 0} (r : Reader A) (S : A → Text) (May : List To
 abbrev pub Leads : {A : Type 0} → (A → Text) → (TokenKind → Bool) → Type 0
 Leads {A} S f = (a : A) (ks : List TokenKind) → S a ks → (k : TokenKind) × (more : List TokenKind) × (ks ≡ k ∷ more) × (f k ≡ true)
 
--- any tokens behind
+-- any tokens after
 abbrev pub Any : List Token → Type 0
 Any rest = Unit {0}

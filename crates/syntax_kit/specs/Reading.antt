@@ -1,4 +1,4 @@
--- Reading a tree from the front of a list of tokens: a tool beside the grammar, tied to it by IsGrammar.
+-- Reading a tree from the beginning of a list of tokens: a tool beside the grammar, tied to it by IsGrammar.
 use Rattle.std.specs.Prelude.{◌≡◌, Bool, true, false, not, ◌||◌, ◌⊎◌, ℕ, ℤ, zero, suc, List, [], ◌∷◌, length, Option, Some, None, is_some, Result, Ok, Err, if◌then◌else◌}
 use Rattle.std.proofs.Common.{inl, inr}
 use Rattle.std.specs.Str.{bytes_eq}
@@ -8,7 +8,7 @@ use Rattle.idl_lex.specs.declared.kinds.Token.{Token}
 use Rattle.idl_lex.specs.declared.kinds.TokenKind.{TokenKind}
 use Rattle.idl_lex.specs.declared.kinds.TokenKind.TheVariants.{Name, Number, Mark}
 
--- what is read and the tokens behind it, or nothing
+-- what is read and the tokens after it, or nothing
 abbrev pub Read : Type 0 → Type 0
 Read A = Option (A × List Token)
 
@@ -16,7 +16,7 @@ Read A = Option (A × List Token)
 abbrev pub Reader : Type 0 → Type 0
 Reader A = List Token → Read A
 
--- nothing read where no tree begins; want of memory is free
+-- nothing read where no tree begins; out of memory is always allowed
 abbrev pub Fails : {Y : Type 0} → Halt → Option Y → Type 0
 Fails halts.NoMemory read = Unit {0}
 Fails halts.Syntax read = read ≡ None
@@ -26,7 +26,7 @@ abbrev pub Gives : {X Y : Type 0} → (X → Y) → Result X Halt → Option Y �
 Gives view (Ok x) read = read ≡ Some (view x)
 Gives view (Err e) read = Fails e read
 
--- what is read of the tokens behind
+-- what is read of the tokens after
 abbrev pub then_on : {A B : Type 0} → Read A → (A → Reader B) → Read B
 then_on None f = None
 then_on (Some x) f = f x.0 x.1
@@ -123,7 +123,7 @@ has_word es k = is_some (word_in es k)
 
 -- ---- several
 
--- one behind the other
+-- one after another
 abbrev pub both : {A B : Type 0} → Reader A → Reader B → Reader (A × B)
 both r s ts = then_on (r ts) (λ a us. then_on (s us) (λ b vs. Some ((a, b), vs)))
 
@@ -148,11 +148,11 @@ repeat go r (suc n) ts = if go ts then then_on (r ts) (λ x us. then_on (repeat 
 abbrev pub many : {A : Type 0} → (List Token → Bool) → Reader A → Reader (List A)
 many go r ts = repeat go r (length ts) ts
 
--- what stands behind a token that gives nothing
+-- what follows a token that gives nothing
 abbrev pub behind : {A : Type 0} → Reader (Unit {0}) → Reader A → Reader A
 behind r s = mapped (λ x. x.1) (both r s)
 
--- what stands before a token that gives nothing
+-- what comes before a token that gives nothing
 abbrev pub before : {A : Type 0} → Reader A → Reader (Unit {0}) → Reader A
 before r s = mapped (λ x. x.0) (both r s)
 
@@ -164,7 +164,7 @@ cons x = x.0 ∷ x.1
 abbrev pub joined_at : {A : Type 0} → List ℕ → Reader A → Reader (List A)
 joined_at m r = mapped cons (both r (many (begins_with (mark_is m)) (behind (mark_at m) r)))
 
--- as many as stand before the mark
+-- as many as come before the mark
 abbrev pub until_at : {A : Type 0} → List ℕ → Reader A → Reader (List A)
 until_at close r = many (begins_other (mark_is close)) r
 

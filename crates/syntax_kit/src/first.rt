@@ -57,7 +57,7 @@ pub fn stands_before(tokens: &[Token], mark: &[u8]) -> bool
     }
 }
 
-/// What stands behind the word.
+/// What follows the word.
 pub fn word<'a>(tokens: &'a [Token], word: &[u8]) -> Result<&'a [Token], Halt>
     ensures read { Gives (λ x. (tt, x.now)) result (word_at word.now tokens.now) }
     ensures fault { IfErr result (λ e. e ≡ Halt.Syntax) }
@@ -68,7 +68,7 @@ pub fn word<'a>(tokens: &'a [Token], word: &[u8]) -> Result<&'a [Token], Halt>
     }
 }
 
-/// What stands behind the mark.
+/// What follows the mark.
 pub fn mark<'a>(tokens: &'a [Token], mark: &[u8]) -> Result<&'a [Token], Halt>
     ensures read { Gives (λ x. (tt, x.now)) result (mark_at mark.now tokens.now) }
     ensures fault { IfErr result (λ e. e ≡ Halt.Syntax) }
@@ -79,7 +79,7 @@ pub fn mark<'a>(tokens: &'a [Token], mark: &[u8]) -> Result<&'a [Token], Halt>
     }
 }
 
-/// The number, and what stands behind it.
+/// The number, and what follows it.
 pub fn number(tokens: &[Token]) -> Result<(i128, &[Token]), Halt>
     ensures read { Gives (λ x. (x.0, x.1.now)) result (number_at tokens.now) }
     ensures fault { IfErr result (λ e. e ≡ Halt.Syntax) }
@@ -108,7 +108,7 @@ fn is_one(name: &[u8], words: &[&[u8]]) -> bool
     false
 }
 
-/// A name that is none of the words, and what stands behind it.
+/// A name that is none of the words, and what follows it.
 pub fn id<'a>(
     alloc: Global,
     tokens: &'a [Token],
@@ -128,7 +128,7 @@ pub fn id<'a>(
     }
 }
 
-/// Whether the mark comes first, and what stands behind it if it does.
+/// Whether the mark comes first, and what follows it if it does.
 pub fn flag<'a>(tokens: &'a [Token], mark: &[u8]) -> (bool, &'a [Token])
     ensures { flag_at (mark_is mark.now) tokens.now ≡ Some (result.0, result.1.now) }
 {

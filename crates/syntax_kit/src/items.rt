@@ -7,19 +7,19 @@ use idl_lex::Token;
 use kit_base::Listed;
 use std::alloc::Global;
 
-/// A tree that is read from the front of some tokens.
+/// A tree that is read from the beginning of some tokens.
 pub trait Production: Sized + Drop {
     ghost use Rattle.std.specs.Prelude.{List, Option};
     ghost use Rattle.idl_lex.specs.declared.kinds.Token.{Token};
 
     ghost at: { List Token → Option (Self × List Token) };
 
-    /// The tree, and the tokens behind it.
+    /// The tree, and the tokens after it.
     fn read(alloc: Global, tokens: &[Token]) -> Result<(Self, &[Token]), Halt>
         ensures { Gives (λ x. (x.0, x.1.now)) result (at tokens.now) };
 }
 
-/// The tree behind a mark.
+/// The tree after a mark.
 pub fn behind_mark<'a, T: Production>(
     alloc: Global,
     tokens: &'a [Token],
@@ -53,7 +53,7 @@ pub fn joined<'a, T: Production>(
     Ok((items, rest))
 }
 
-/// As many as stand before the mark.
+/// As many as come before the mark.
 pub fn until<'a, T: Production>(
     alloc: Global,
     tokens: &'a [Token],

@@ -1,4 +1,4 @@
-//! Readers of trees from the front of a list of tokens: one token, lists of items, and their laws.
+//! Readers of trees from the beginning of a list of tokens: one token, lists of items, and their laws.
 #![tactic(auto)]
 
 mod errors;

@@ -7,7 +7,7 @@ use idl_lex::Token;
 use kit_base::Listed;
 use std::alloc::Global;
 
-/// A tree that is read from the front of some tokens, within so many levels.
+/// A tree that is read from the beginning of some tokens, within so many levels.
 pub trait Nested: Sized + Drop {
     ghost use Rattle.std.specs.Prelude.{◌≡◌, ◌≤◌, ℕ, Bool, List, Option};
     ghost use Rattle.idl_lex.specs.declared.kinds.Token.{Token};
@@ -17,11 +17,11 @@ pub trait Nested: Sized + Drop {
 
     ghost within: { ℕ → List Token → Option (Self × List Token) };
 
-    /// Whether another one comes first, where any number of them stands.
+    /// Whether another one comes first, where there are any number of them.
     fn is_next(tokens: &[Token]) -> bool
         ensures { result ≡ goes tokens.now };
 
-    /// The tree, and the tokens behind it.
+    /// The tree, and the tokens after it.
     fn read(alloc: Global, levels: u32, tokens: &[Token]) -> Result<(Self, &[Token]), Halt>
         requires { levels ≤ 32 }
         ensures { Gives (λ x. (x.0, x.1.now)) result (within levels tokens.now) };
@@ -65,7 +65,7 @@ pub fn some_nested<T: Nested>(
     Ok((items, rest))
 }
 
-/// The tree behind a mark.
+/// The tree after a mark.
 fn nested_behind<'a, T: Nested>(
     alloc: Global,
     levels: u32,

@@ -6,4 +6,5 @@ use Rattle.syntax_kit.proofs.items.joined.Given as goal
 abbrev pub invariant-items : goal.invariant-items
 invariant-items g l =
     let at = g.T.Production.at in
-    Left (begins_with (mark_is l.between)) (behind (mark_at l.between) at) (length l.initial.rest - l.counter) l.items l.rest (joined_at l.between at l.fn.tokens)
+    Left (begins_with (mark_is l.between)) (behind (mark_at l.between) at) (length l.initial.rest - l.counter) l.items l.rest
+    (joined_at l.between at l.fn.tokens)

@@ -6,4 +6,5 @@ use Rattle.syntax_kit.proofs.nested.joined_nested.Given as goal
 abbrev pub invariant-items : goal.invariant-items
 invariant-items g l =
     let within = g.T.Nested.within in
-    Left (begins_with (mark_is l.between)) (behind (mark_at l.between) (within l.levels)) (length l.initial.rest - l.counter) l.items l.rest (joined_at l.between (within l.levels) l.fn.tokens)
+    Left (begins_with (mark_is l.between)) (behind (mark_at l.between) (within l.levels)) (length l.initial.rest - l.counter)
+    l.items l.rest (joined_at l.between (within l.levels) l.fn.tokens)
