@@ -42,11 +42,12 @@ sized_is = either_is (begins_with (mark_is (codes "["))) exactly_is at_most_is
     (λ a front rest s may. begins_so leads_exactly a front rest s)
     (λ a front rest s may. begins_not (mark_is (codes "[")) leads_at_most (apart_mark (mark_is (codes "<")) (codes "[") refl) a front rest s)
 
--- no size stands behind it
+-- no size follows it
 abbrev pub DeclMay : List Token → Type 0
 DeclMay rest = (begins_with (mark_is (codes "[")) rest ≡ false) × (begins_with (mark_is (codes "<")) rest ≡ false)
 
-tail_is : IsGrammar (either (begins_with (mark_is (codes "["))) exactly_at (option (begins_with (mark_is (codes "<"))) at_most_at)) (one_of exactly (maybe at_most)) DeclMay
+tail_is : IsGrammar (either (begins_with (mark_is (codes "["))) exactly_at (option (begins_with (mark_is (codes "<"))) at_most_at))
+    (one_of exactly (maybe at_most)) DeclMay
 tail_is = either_is (begins_with (mark_is (codes "["))) (weaker exactly_is (λ rest may. tt))
     (option_is (begins_with (mark_is (codes "<"))) (weaker at_most_is (λ rest may. tt)) (λ a front rest s may. begins_so leads_at_most a front rest s) (λ rest may. may.1))
     (λ a front rest s may. begins_so leads_exactly a front rest s)
@@ -99,7 +100,8 @@ plain_text x = type x.0 & after_type x.1
 leads_plain : Leads (λ (x : Ty × (List ℕ ⊎ (List ℕ × (Value ⊎ Option (Option Value))))). type x.0 & after_type x.1) is_type
 leads_plain = leads_both after_type leads_type
 
-leads_string : Leads (one_of (λ (x : List ℕ × Option Value). word (codes "string") & (name x.0 & at_most x.1)) plain_text) (λ k. word_is (codes "string") k || is_type k)
+leads_string : Leads (one_of (λ (x : List ℕ × Option Value). word (codes "string") & (name x.0 & at_most x.1)) plain_text)
+    (λ k. word_is (codes "string") k || is_type k)
 leads_string = leads_either (leads_behind (λ x. name x.0 & at_most x.1) (leads_word (codes "string"))) leads_plain
 
 pub decl_is : IsGrammar decl_at decl DeclMay

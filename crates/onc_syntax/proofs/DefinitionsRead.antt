@@ -70,10 +70,12 @@ leads_5 = leads_either (leads_behind struct_text (leads_word (codes "struct"))) 
 leads_4 : Leads text_4 (λ k. word_is (codes "enum") k || (word_is (codes "struct") k || word_is (codes "union") k))
 leads_4 = leads_either (leads_behind enum_text (leads_word (codes "enum"))) leads_5
 
-leads_3 : Leads text_3 (λ k. word_is (codes "program") k || (word_is (codes "enum") k || (word_is (codes "struct") k || word_is (codes "union") k)))
+leads_3 : Leads text_3
+    (λ k. word_is (codes "program") k || (word_is (codes "enum") k || (word_is (codes "struct") k || word_is (codes "union") k)))
 leads_3 = leads_either (leads_behind program_text (leads_word (codes "program"))) leads_4
 
-leads_2 : Leads text_2 (λ k. word_is (codes "const") k || (word_is (codes "program") k || (word_is (codes "enum") k || (word_is (codes "struct") k || word_is (codes "union") k))))
+leads_2 : Leads text_2 (λ k. word_is (codes "const") k
+    || (word_is (codes "program") k || (word_is (codes "enum") k || (word_is (codes "struct") k || word_is (codes "union") k))))
 leads_2 = leads_either (leads_behind const_text (leads_word (codes "const"))) leads_3
 
 def_is : IsGrammar def_at def DeclMay
@@ -97,7 +99,8 @@ unfolding ended_at
 ended_is = before_is def_is (mark_reads (codes ";")) decl_stops
 
 abbrev pub is_def : TokenKind → Bool
-is_def k = word_is (codes "typedef") k || (word_is (codes "const") k || (word_is (codes "program") k || (word_is (codes "enum") k || (word_is (codes "struct") k || word_is (codes "union") k))))
+is_def k = word_is (codes "typedef") k || (word_is (codes "const") k
+    || (word_is (codes "program") k || (word_is (codes "enum") k || (word_is (codes "struct") k || word_is (codes "union") k))))
 
 pub leads_def : Leads def is_def
 leads_def = leads_by def_of def_back (leads_either (leads_behind decl (leads_word (codes "typedef"))) leads_2)

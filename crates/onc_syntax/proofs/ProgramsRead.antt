@@ -29,7 +29,8 @@ proc_type_forth (inl _) ks s = s
 proc_type_forth (inr (inl _)) ks s = s
 proc_type_forth (inr (inr t)) ks s = s
 
-proc_type_back : (p : ProcType) (ks : List TokenKind) → proc_type p ks → (x : Unit {0} ⊎ Unit {0} ⊎ Ty) × (proc_type_of x ≡ p) × proc_type_text x ks
+proc_type_back : (p : ProcType) (ks : List TokenKind) → proc_type p ks
+    → (x : Unit {0} ⊎ Unit {0} ⊎ Ty) × (proc_type_of x ≡ p) × proc_type_text x ks
 proc_type_back P.Void ks s = (inl tt, refl, s)
 proc_type_back P.Text ks s = (inr (inl tt), refl, s)
 proc_type_back (P.Plain t) ks s = (inr (inr t), refl, s)
@@ -54,7 +55,7 @@ leads_proc_type = leads_by proc_type_of proc_type_back (leads_either (leads_word
 abbrev no_int : (g : TokenKind → Bool) → Type 0
 no_int g = AllByRecursion (λ (e : List ℕ × IntWord). g (Name e.0) ≡ false) int_words
 
--- behind the parameters
+-- after the parameters
 abbrev closed : Value → Text
 closed v = mark (codes ")") & (mark (codes "=") & (value v & mark (codes ";")))
 
@@ -67,7 +68,10 @@ leads_closed = leads_behind (λ v. mark (codes "=") & (value v & mark (codes ";"
 abbrev listed : List ProcType × Value → Text
 listed x = joined (codes ",") proc_type x.0 & closed x.1
 
-listed_is : IsGrammar (both (joined_at (codes ",") proc_type_at) (behind (mark_at (codes ")")) (behind (mark_at (codes "=")) (before value_at (mark_at (codes ";")))))) listed Any
+listed_is : IsGrammar
+    (both (joined_at (codes ",") proc_type_at)
+    (behind (mark_at (codes ")")) (behind (mark_at (codes "=")) (before value_at (mark_at (codes ";"))))))
+    listed Any
 listed_is = both_is
     (joined_is (codes ",") proc_type_is (λ ts h. turns (mark_is (codes ",")) is_int (apart_words (mark_is (codes ",")) int_words (refl, (refl, (refl, (refl, (refl, tt)))))) ts h))
     closed_is
@@ -92,7 +96,8 @@ procedure_is = mapped_is procedure_of procedure
 leads_procedure : Leads procedure is_proc_type
 leads_procedure p ks s = leads_both named_list leads_proc_type (p.result, (p.name, (p.parameters, p.number))) ks s
 
-procedures_is : IsGrammar (some_at (until_at (codes "}") procedure_at)) (some procedure) (λ rest. begins_other (mark_is (codes "}")) rest ≡ false)
+procedures_is : IsGrammar (some_at (until_at (codes "}") procedure_at)) (some procedure)
+    (λ rest. begins_other (mark_is (codes "}")) rest ≡ false)
 procedures_is = some_is (until_is (codes "}") procedure_is leads_procedure (apart_mark is_proc_type (codes "}") refl))
 
 version_is : IsGrammar version_at version Any

@@ -102,16 +102,19 @@ abbrev pub TypeMay : List Token → Type 0
 TypeMay rest = begins_with is_int rest ≡ false
 
 abbrev type_text : Option IntWord ⊎ IntWord ⊎ Unit {0} ⊎ (Option Prefix × List ℕ) → Text
-type_text = one_of (λ o. word (codes "unsigned") & maybe int_word o) (one_of int_word (one_of (λ (_ : Unit {0}). word (codes "bool")) named_text))
+type_text = one_of (λ o. word (codes "unsigned") & maybe int_word o)
+    (one_of int_word (one_of (λ (_ : Unit {0}). word (codes "bool")) named_text))
 
-type_forth : (x : Option IntWord ⊎ IntWord ⊎ Unit {0} ⊎ (Option Prefix × List ℕ)) (ks : List TokenKind) → type_text x ks → type (type_of x) ks
+type_forth : (x : Option IntWord ⊎ IntWord ⊎ Unit {0} ⊎ (Option Prefix × List ℕ)) (ks : List TokenKind) → type_text x ks
+    → type (type_of x) ks
 type_forth (inl (Some w)) ks s = s
 type_forth (inl None) ks s = unit_right (word (codes "unsigned")) ks s
 type_forth (inr (inl w)) ks s = unit_left_back (int_word w) ks s
 type_forth (inr (inr (inl _))) ks s = s
 type_forth (inr (inr (inr x))) ks s = s
 
-type_back : (t : Ty) (ks : List TokenKind) → type t ks → (x : Option IntWord ⊎ IntWord ⊎ Unit {0} ⊎ (Option Prefix × List ℕ)) × (type_of x ≡ t) × type_text x ks
+type_back : (t : Ty) (ks : List TokenKind) → type t ks
+    → (x : Option IntWord ⊎ IntWord ⊎ Unit {0} ⊎ (Option Prefix × List ℕ)) × (type_of x ≡ t) × type_text x ks
 type_back (T.Int true w) ks s = (inl (Some w), refl, s)
 type_back (T.Int false w) ks s = (inr (inl w), refl, unit_left (int_word w) ks s)
 type_back T.Unsigned ks s = (inl None, refl, unit_right_back (word (codes "unsigned")) ks s)

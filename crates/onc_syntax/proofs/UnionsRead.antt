@@ -77,7 +77,10 @@ leads_default = leads_behind (λ a. mark (codes ":") & arm a & mark (codes ";"))
 abbrev cases_text : List Case × Option Arm → Text
 cases_text x = some case x.0 & (maybe default x.1 & mark (codes "}"))
 
-cases_is : IsGrammar (both (some_at (while_at (codes "case") case_at)) (before (option (begins_with (word_is (codes "default"))) default_at) (mark_at (codes "}")))) cases_text Any
+cases_is : IsGrammar
+    (both (some_at (while_at (codes "case") case_at))
+    (before (option (begins_with (word_is (codes "default"))) default_at) (mark_at (codes "}"))))
+    cases_text Any
 cases_is = both_is (some_is (while_is (codes "case") case_is leads_case))
     (before_is
     (option_is {May = λ rest. begins_with (word_is (codes "default")) rest ≡ false} (begins_with (word_is (codes "default"))) (weaker default_is (λ rest may. tt)) (λ a front rest s may. begins_so leads_default a front rest s) (λ rest may. may))

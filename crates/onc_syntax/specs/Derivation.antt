@@ -50,7 +50,7 @@ int_spell Hyper = codes "hyper"
 abbrev pub int_word : IntWord → Text
 int_word w = word (int_spell w)
 
--- the word that may stand before a type's name
+-- the word that may come before a type's name
 abbrev pub prefix_spell : Prefix → List ℕ
 prefix_spell Struct = codes "struct"
 prefix_spell Union = codes "union"
@@ -93,7 +93,7 @@ item i = name i.name & maybe (λ v. mark (codes "=") & value v) i.value
 abbrev pub member : Member → Text
 member m = decl m.decl & mark (codes ";")
 
--- what stands in a case
+-- what is in a case
 abbrev pub arm : Arm → Text
 arm A.Void = word (codes "void")
 arm (A.Decl d) = decl d
@@ -128,14 +128,15 @@ version v = word (codes "version") & name v.name & mark (codes "{") & some proce
 
 -- a union: its name, its tag, one case or more, the default if it has one
 abbrev pub union_def : UnionDef → Text
-union_def u = word (codes "union") & name u.name & word (codes "switch") & mark (codes "(") & type u.tag & name u.tag_name & mark (codes ")")
-    & mark (codes "{") & some case u.cases & maybe default u.default & mark (codes "}")
+union_def u = word (codes "union") & name u.name & word (codes "switch") & mark (codes "(") & type u.tag & name u.tag_name
+    & mark (codes ")") & mark (codes "{") & some case u.cases & maybe default u.default & mark (codes "}")
 
 -- a definition
 abbrev pub def : Def → Text
 def (F.Typedef d) = word (codes "typedef") & decl d
 def (F.Const n v) = word (codes "const") & name n & mark (codes "=") & value v
-def (F.Program n vs v) = word (codes "program") & name n & mark (codes "{") & some version vs & mark (codes "}") & mark (codes "=") & value v
+def (F.Program n vs v) = word (codes "program") & name n & mark (codes "{") & some version vs & mark (codes "}")
+    & mark (codes "=") & value v
 def (F.Enum n is) = word (codes "enum") & name n & mark (codes "{") & joined (codes ",") item is & mark (codes "}")
 def (F.Struct n ms) = word (codes "struct") & name n & mark (codes "{") & some member ms & mark (codes "}")
 def (F.Union u) = union_def u
@@ -144,7 +145,7 @@ def (F.Union u) = union_def u
 abbrev pub file : List Def → Text
 file ds = each (λ d. def d & mark (codes ";")) ds
 
--- Tokens that are those of a tree. A definition has level 1 and what stands in its parentheses level 2; no production holds itself, so every tree keeps the bound of 32 levels.
+-- Tokens that are those of a tree. A definition has level 1 and what is in its parentheses level 2; no production holds itself, so every tree keeps the bound of 32 levels.
 abbrev pub Derives : List Def → List Token → Type 0
 Derives tree tokens = file tree (kinds tokens)
 

@@ -61,7 +61,7 @@ int_in = word_in int_words
 abbrev pub is_int : TokenKind → Bool
 is_int = has_word int_words
 
--- the words that may stand before a type's name
+-- the words that may come before a type's name
 abbrev pub prefix_words : List (List ℕ × Prefix)
 prefix_words = (codes "struct", Struct) ∷ (codes "union", Union) ∷ (codes "enum", Enum) ∷ []
 
@@ -112,7 +112,9 @@ unfoldable pub at_most_at : Reader (Option Value)
 at_most_at = behind (mark_at (codes "<")) (before (option (begins_other is_close) value_at) (mark_at (codes ">")))
 
 -- a declaration by its forms: opaque, string, or with a type
-abbrev pub decl_of : (List ℕ × (Value ⊎ Option Value)) ⊎ (List ℕ × Option Value) ⊎ (Ty × (List ℕ ⊎ (List ℕ × (Value ⊎ Option (Option Value))))) → Decl
+abbrev pub decl_of : (List ℕ × (Value ⊎ Option Value)) ⊎ (List ℕ × Option Value)
+    ⊎ (Ty × (List ℕ ⊎ (List ℕ × (Value ⊎ Option (Option Value)))))
+    → Decl
 decl_of (inl (n, inl v)) = D.OpaqueArray n v
 decl_of (inl (n, inr v)) = D.OpaqueList n v
 decl_of (inr (inl (n, v))) = D.Text n v
@@ -124,11 +126,12 @@ decl_of (inr (inr (t, inr (n, inr (Some v))))) = D.List t n v
 -- a declaration
 unfoldable pub decl_at : Reader Decl
 decl_at = mapped decl_of (
-    either (begins_with (word_is (codes "opaque"))) (behind (word_at (codes "opaque")) (both name_at (either (begins_with (mark_is (codes "["))) exactly_at at_most_at)))
+    either (begins_with (word_is (codes "opaque")))
+    (behind (word_at (codes "opaque")) (both name_at (either (begins_with (mark_is (codes "["))) exactly_at at_most_at)))
     (either (begins_with (word_is (codes "string"))) (behind (word_at (codes "string")) (both name_at at_most_at))
-    (both type_at
-    (either (begins_with (mark_is (codes "*"))) (behind (mark_at (codes "*")) name_at)
-    (both name_at (either (begins_with (mark_is (codes "["))) exactly_at (option (begins_with (mark_is (codes "<"))) at_most_at)))))))
+    (both type_at (either (begins_with (mark_is (codes "*"))) (behind (mark_at (codes "*")) name_at)
+    (both name_at (either (begins_with (mark_is (codes "["))) exactly_at
+    (option (begins_with (mark_is (codes "<"))) at_most_at)))))))
 
 -- ---- items
 
@@ -161,7 +164,8 @@ label_at = mapped (λ v. record { value = v }) (behind (word_at (codes "case")) 
 
 -- a case
 unfoldable pub case_at : Reader Case
-case_at = mapped (λ x. record { labels = x.0; arm = x.1 }) (both (some_at (while_at (codes "case") label_at)) (before arm_at (mark_at (codes ";"))))
+case_at = mapped (λ x. record { labels = x.0; arm = x.1 })
+    (both (some_at (while_at (codes "case") label_at)) (before arm_at (mark_at (codes ";"))))
 
 -- a default
 unfoldable pub default_at : Reader Arm
@@ -188,7 +192,8 @@ procedure_of x = record { result = x.0; name = x.1.0; parameters = x.1.1.0; numb
 -- a procedure
 unfoldable pub procedure_at : Reader Procedure
 procedure_at = mapped procedure_of (both proc_type_at (both name_at (behind (mark_at (codes "("))
-    (both (joined_at (codes ",") proc_type_at) (behind (mark_at (codes ")")) (behind (mark_at (codes "=")) (before value_at (mark_at (codes ";")))))))))
+    (both (joined_at (codes ",") proc_type_at)
+    (behind (mark_at (codes ")")) (behind (mark_at (codes "=")) (before value_at (mark_at (codes ";")))))))))
 
 -- a version by its parts
 abbrev pub version_of : List ℕ × (List Procedure × Value) → Version
@@ -196,25 +201,26 @@ version_of x = record { name = x.0; procedures = x.1.0; number = x.1.1 }
 
 -- a version
 unfoldable pub version_at : Reader Version
-version_at = mapped version_of (behind (word_at (codes "version")) (both name_at (behind (mark_at (codes "{"))
-    (both (some_at (until_at (codes "}") procedure_at)) (behind (mark_at (codes "}")) (behind (mark_at (codes "=")) (before value_at (mark_at (codes ";")))))))))
+version_at = mapped version_of (behind (word_at (codes "version"))
+    (both name_at (behind (mark_at (codes "{")) (both (some_at (until_at (codes "}") procedure_at))
+    (behind (mark_at (codes "}")) (behind (mark_at (codes "=")) (before value_at (mark_at (codes ";")))))))))
 
 -- ---- definitions
 
--- a constant, behind its word
+-- a constant, after its word
 unfoldable pub const_at : Reader (List ℕ × Value)
 const_at = both name_at (behind (mark_at (codes "=")) value_at)
 
--- a program, behind its word
+-- a program, after its word
 unfoldable pub program_at : Reader (List ℕ × (List Version × Value))
 program_at = both name_at (behind (mark_at (codes "{"))
     (both (some_at (until_at (codes "}") version_at)) (behind (mark_at (codes "}")) (behind (mark_at (codes "=")) value_at))))
 
--- an enum, behind its word
+-- an enum, after its word
 unfoldable pub enum_at : Reader (List ℕ × List Item)
 enum_at = both name_at (behind (mark_at (codes "{")) (before (joined_at (codes ",") item_at) (mark_at (codes "}"))))
 
--- a struct, behind its word
+-- a struct, after its word
 unfoldable pub struct_at : Reader (List ℕ × List Member)
 struct_at = both name_at (behind (mark_at (codes "{")) (before (some_at (until_at (codes "}") member_at)) (mark_at (codes "}"))))
 
@@ -222,13 +228,16 @@ struct_at = both name_at (behind (mark_at (codes "{")) (before (some_at (until_a
 abbrev pub union_of : List ℕ × (Ty × (List ℕ × (List Case × Option Arm))) → UnionDef
 union_of x = record { name = x.0; tag = x.1.0; tag_name = x.1.1.0; cases = x.1.1.1.0; default = x.1.1.1.1 }
 
--- a union, behind its word
+-- a union, after its word
 unfoldable pub union_at : Reader UnionDef
-union_at = mapped union_of (both name_at (behind (word_at (codes "switch")) (behind (mark_at (codes "(")) (both type_at (both name_at (behind (mark_at (codes ")")) (behind (mark_at (codes "{"))
-    (both (some_at (while_at (codes "case") case_at)) (before (option (begins_with (word_is (codes "default"))) default_at) (mark_at (codes "}")))))))))))
+union_at = mapped union_of (both name_at (behind (word_at (codes "switch")) (behind (mark_at (codes "(")) (both type_at
+    (both name_at (behind (mark_at (codes ")")) (behind (mark_at (codes "{")) (both (some_at (while_at (codes "case") case_at))
+    (before (option (begins_with (word_is (codes "default"))) default_at) (mark_at (codes "}")))))))))))
 
 -- a definition by its six forms
-abbrev pub def_of : Decl ⊎ (List ℕ × Value) ⊎ (List ℕ × (List Version × Value)) ⊎ (List ℕ × List Item) ⊎ (List ℕ × List Member) ⊎ UnionDef → Def
+abbrev pub def_of : Decl ⊎ (List ℕ × Value) ⊎ (List ℕ × (List Version × Value))
+    ⊎ (List ℕ × List Item) ⊎ (List ℕ × List Member) ⊎ UnionDef
+    → Def
 def_of (inl d) = F.Typedef d
 def_of (inr (inl x)) = F.Const x.0 x.1
 def_of (inr (inr (inl x))) = F.Program x.0 x.1.0 x.1.1

@@ -14,7 +14,7 @@ use kit_base::Name;
 use std::alloc::Global;
 use syntax_kit::{Halt, begins, mark, word};
 
-/// A constant, behind its word.
+/// A constant, after its word.
 #[tactic(auto, unfolding(crate::specs::Readers::const_at))]
 fn constant(alloc: Global, tokens: &[Token]) -> Result<((Name, Value), &[Token]), Halt>
     ensures { Gives (λ x. ((x.0.0, x.0.1), x.1.now)) result (const_at tokens.now) }

@@ -83,7 +83,7 @@ impl Production for Version {
     }
 }
 
-/// A program, behind its word.
+/// A program, after its word.
 #[tactic(auto, unfolding(crate::specs::Readers::program_at))]
 pub fn program(
     alloc: Global,

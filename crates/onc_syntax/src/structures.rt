@@ -47,7 +47,7 @@ impl Production for Member {
     }
 }
 
-/// An enum, behind its word.
+/// An enum, after its word.
 #[tactic(auto, unfolding(crate::specs::Readers::enum_at))]
 pub fn enumeration(alloc: Global, tokens: &[Token]) -> Result<(Name, Items, &[Token]), Halt>
     ensures { Gives (λ x. ((x.0, x.1), x.2.now)) result (enum_at tokens.now) }
@@ -59,7 +59,7 @@ pub fn enumeration(alloc: Global, tokens: &[Token]) -> Result<(Name, Items, &[To
     Ok((name, items, rest))
 }
 
-/// A struct, behind its word.
+/// A struct, after its word.
 #[tactic(auto, unfolding(crate::specs::Readers::struct_at))]
 pub fn structure(alloc: Global, tokens: &[Token]) -> Result<(Name, Listed<Member>, &[Token]), Halt>
     ensures { Gives (λ x. ((x.0, x.1), x.2.now)) result (struct_at tokens.now) }

@@ -9,7 +9,7 @@ use kit_base::Name;
 use std::alloc::Global;
 use syntax_kit::{Halt, begins, begins_id, flag, id, is_word, number, word};
 
-/// The words of the grammar, which are no names.
+/// The words of the grammar, which are not names.
 const WORDS: [&[u8]; 20] = [
     b"typedef",
     b"const",
@@ -33,7 +33,7 @@ const WORDS: [&[u8]; 20] = [
     b"bool",
 ];
 
-/// A name that is no word.
+/// A name that is not a word.
 pub fn identifier(alloc: Global, tokens: &[Token]) -> Result<(Name, &[Token]), Halt>
     ensures { Gives (λ x. (x.0, x.1.now)) result (name_at tokens.now) }
 {

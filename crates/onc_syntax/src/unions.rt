@@ -24,7 +24,7 @@ impl Production for Label {
     }
 }
 
-/// What stands in a case, without its end.
+/// What is in a case, without its end.
 #[tactic(auto, unfolding(crate::specs::Readers::arm_at))]
 fn arm(alloc: Global, tokens: &[Token]) -> Result<(Arm, &[Token]), Halt>
     ensures { Gives (λ x. (x.0, x.1.now)) result (arm_at tokens.now) }
@@ -63,7 +63,7 @@ fn default(alloc: Global, tokens: &[Token]) -> Result<(Arm, &[Token]), Halt>
     Ok((arm, rest))
 }
 
-/// A union, behind its word.
+/// A union, after its word.
 #[tactic(auto, unfolding(crate::specs::Readers::union_at))]
 pub fn union(alloc: Global, tokens: &[Token]) -> Result<(Union, &[Token]), Halt>
     ensures { Gives (λ x. (x.0, x.1.now)) result (union_at tokens.now) }
