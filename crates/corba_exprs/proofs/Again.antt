@@ -18,7 +18,7 @@ use Rattle.corba_exprs.specs.Readers.{Levelled, is_unary, is_right, is_joint, cl
 use Rattle.corba_exprs.proofs.LeavesRead.{NameMay, is_leaf, leads_leaf, leaf_is, unary_is, leads_unary}
 use Rattle.corba_exprs.proofs.Closing.{binary_back, joint_operator, goes_on}
 
--- what may stand behind an expression: no part of a name, no operator that binds less loosely, and between `<` and `>` a token that goes on or ends there
+-- what may follow an expression: no part of a name, no operator that binds less loosely, and between `<` and `>` a token that goes on or ends there
 pub record May (angle : Bool) (loose : ℕ) (rest : List Token) : Type 0 where
   pub name : NameMay rest
   pub no_operator : (d : ℕ) → d < loose → operator_at angle d rest ≡ None
@@ -31,8 +31,9 @@ and_none : (b : Bool) → (b && false) ≡ false
 and_none true = refl
 and_none false = refl
 
--- the operator that stands there is read
-operator_again : (angle : Bool) (op : BinaryOp) (t : Token) (rest : List Token) → t.kind ≡ K.Mark (binary_spell op) → (angle ≡ true → closes rest ≡ false)
+-- the operator that is there is read
+operator_again : (angle : Bool) (op : BinaryOp) (t : Token) (rest : List Token) → t.kind ≡ K.Mark (binary_spell op)
+    → (angle ≡ true → closes rest ≡ false)
     → operator_at angle (looseness op) (t ∷ rest) ≡ Some op
 operator_again false op t rest k open_ = let same : (looseness op == looseness op) ≡ true = eq-eqb (looseness op) (looseness op) refl in rw (k, binary_back op, same) refl
 operator_again true op t rest k open_ =
@@ -42,7 +43,9 @@ operator_again true op t rest k open_ =
     rw (k, binary_back op, same, shut, none) refl
 
 -- and is none that binds otherwise
-operator_other : (angle : Bool) (op : BinaryOp) (d : ℕ) (t : Token) (rest : List Token) → t.kind ≡ K.Mark (binary_spell op) → d < looseness op → operator_at angle d (t ∷ rest) ≡ None
+operator_other : (angle : Bool) (op : BinaryOp) (d : ℕ) (t : Token) (rest : List Token)
+    → t.kind ≡ K.Mark (binary_spell op) → d < looseness op
+    → operator_at angle d (t ∷ rest) ≡ None
 operator_other angle op d t rest k lt = let other : (looseness op == d) ≡ false = ne_eqb (looseness op) d (omega (arith, lt)) in rw (k, binary_back op, other) refl
 
 name_ended : (op : BinaryOp) → mark_is (codes "::") (K.Mark (binary_spell op)) ≡ false
@@ -57,14 +60,15 @@ name_ended B.Mul = refl
 name_ended B.Div = refl
 name_ended B.Rem = refl
 
-before_operator : (angle : Bool) (op : BinaryOp) (t : Token) (rest : List Token) → t.kind ≡ K.Mark (binary_spell op) → May angle (looseness op) (t ∷ rest)
+before_operator : (angle : Bool) (op : BinaryOp) (t : Token) (rest : List Token) → t.kind ≡ K.Mark (binary_spell op)
+    → May angle (looseness op) (t ∷ rest)
 before_operator angle op t rest k = record {
   name = rw k (name_ended op);
   no_operator = λ d lt. operator_other angle op d t rest k lt;
   joint = λ yes. rw k (joint_operator op);
 }
 
--- behind what stands in parentheses
+-- after what is in parentheses
 before_close : (t : Token) (rest : List Token) → t.kind ≡ K.Mark (codes ")") → May false 6 (t ∷ rest)
 before_close t rest k = record { name = rw k refl; no_operator = λ d lt. rw k refl; joint = λ yes. absurd cc }
 
@@ -87,12 +91,12 @@ apart_unary (K.Name m) e = refl
 
 -- an expression is read, within the levels that it has
 abbrev Reads : ℕ → Type 0
-Reads n = (angle : Bool) (loose : ℕ) (t : Tree) (front rest : List Token) (m : ℕ) → n ≤ m → within n loose t (kinds front) → May angle loose rest
-    → (h : ℕ) × (h ≤ n) × (within_at m angle loose (front ++ rest) ≡ Some ((t, h), rest))
+Reads n = (angle : Bool) (loose : ℕ) (t : Tree) (front rest : List Token) (m : ℕ) → n ≤ m → within n loose t (kinds front)
+    → May angle loose rest → (h : ℕ) × (h ≤ n) × (within_at m angle loose (front ++ rest) ≡ Some ((t, h), rest))
 
 abbrev Climbs : ℕ → ℕ → Type 0
-Climbs n loose = (angle : Bool) (t : Tree) (front rest : List Token) (m : ℕ) → n ≤ suc m → within n loose t (kinds front) → May angle loose rest
-    → (h : ℕ) × (h ≤ n) × (climb (within_at m) m angle loose (front ++ rest) ≡ Some ((t, h), rest))
+Climbs n loose = (angle : Bool) (t : Tree) (front rest : List Token) (m : ℕ) → n ≤ suc m → within n loose t (kinds front)
+    → May angle loose rest → (h : ℕ) × (h ≤ n) × (climb (within_at m) m angle loose (front ++ rest) ≡ Some ((t, h), rest))
 
 -- an expression is what has been read when its last operand has, and operators may follow
 abbrev Chains : ℕ → ℕ → Type 0
@@ -103,13 +107,15 @@ Chains n d = (angle : Bool) (t : Tree) (front rest : List Token) (m : ℕ) → n
 module _ (n : ℕ) (reads : Reads n) (chains : (d : ℕ) → Chains n d) where
   -- ---- operands
 
-  by_leaf : (angle : Bool) (l : Leaf) (front rest : List Token) (m : ℕ) → leaf_text l (kinds front) → NameMay rest → primary_at (within_at m) angle (front ++ rest) ≡ Some ((leaf l, 1), rest)
+  by_leaf : (angle : Bool) (l : Leaf) (front rest : List Token) (m : ℕ) → leaf_text l (kinds front) → NameMay rest
+      → primary_at (within_at m) angle (front ++ rest) ≡ Some ((leaf l, 1), rest)
   by_leaf angle l front rest m s may =
       let no_open = begins_not (mark_is (codes "(")) leads_leaf (apart_mark is_leaf (codes "(") refl) l front rest s in
       let no_unary = begins_not is_unary leads_leaf apart_unary l front rest s in
       rw (no_open, no_unary, leaf_is.again l front rest s may) refl
 
-  by_unary : (angle : Bool) (op : UnaryOp) (a : Tree) (front rest : List Token) (m : ℕ) → n ≤ m → (mark (unary_spell op) & within n 0 a) (kinds front) → May angle 0 rest
+  by_unary : (angle : Bool) (op : UnaryOp) (a : Tree) (front rest : List Token) (m : ℕ) → n ≤ m
+      → (mark (unary_spell op) & within n 0 a) (kinds front) → May angle 0 rest
       → (h : ℕ) × (h ≤ suc n) × (primary_at (within_at m) angle (front ++ rest) ≡ Some ((unary op a, h), rest))
   by_unary angle op a front rest m le s may =
       let p = parted front s.0 s.1 s.2 in
@@ -122,7 +128,8 @@ module _ (n : ℕ) (reads : Reads n) (chains : (d : ℕ) → Chains n d) where
       let done : primary_at (within_at m) angle (p.0 ++ (p.1 ++ rest)) ≡ Some ((unary op a, suc r.0), rest) = rw (no_open, goes, one, r.2) refl in
       (suc r.0, omega (arith, r.1), ap (primary_at (within_at m) angle) parts ∙ done)
 
-  by_parentheses : (angle : Bool) (t : Tree) (front rest : List Token) (m : ℕ) → n ≤ m → (mark (codes "(") & within n 6 t & mark (codes ")")) (kinds front)
+  by_parentheses : (angle : Bool) (t : Tree) (front rest : List Token) (m : ℕ) → n ≤ m
+      → (mark (codes "(") & within n 6 t & mark (codes ")")) (kinds front)
       → (h : ℕ) × (h ≤ suc n) × (primary_at (within_at m) angle (front ++ rest) ≡ Some ((t, h), rest))
   by_parentheses angle t front rest m le s =
       let p = parted front s.0 s.1 s.2 in
@@ -147,9 +154,10 @@ module _ (n : ℕ) (reads : Reads n) (chains : (d : ℕ) → Chains n d) where
   climbs_first angle (binary op a b) front rest m le (inl s) may = absurd (omega (arith, s.0))
 
   -- an operand whose operators bind less loosely
-  tighter_chain : (d : ℕ) → Climbs (suc n) d → (angle : Bool) (t : Tree) (front rest : List Token) (m : ℕ) → suc n ≤ suc m → within (suc n) d t (kinds front) → May angle d rest
-      → (h : ℕ) × (left : ℕ) × (h ≤ suc n) × (suc (suc m) ≤ left + suc n)
-      × (climb (within_at m) m angle (suc d) (front ++ rest) ≡ chain_on (within_at m angle d) (operator_at angle d) (suc m) left (t, h) rest)
+  tighter_chain : (d : ℕ) → Climbs (suc n) d → (angle : Bool) (t : Tree) (front rest : List Token) (m : ℕ)
+      → suc n ≤ suc m → within (suc n) d t (kinds front) → May angle d rest
+      → (h : ℕ) × (left : ℕ) × (h ≤ suc n) × (suc (suc m) ≤ left + suc n) × (climb (within_at m) m angle (suc d) (front ++ rest)
+      ≡ chain_on (within_at m angle d) (operator_at angle d) (suc m) left (t, h) rest)
   tighter_chain d climbs angle t front rest m le s may =
       let c = climbs angle t front rest m le s may in
       (c.0, suc m, c.1, omega arith, rw c.2 refl)
@@ -158,7 +166,8 @@ module _ (n : ℕ) (reads : Reads n) (chains : (d : ℕ) → Chains n d) where
   one_more : (angle : Bool) (op : BinaryOp) (a b : Tree) (front rest : List Token) (m : ℕ) → suc n ≤ suc m
       → (within n (suc (looseness op)) a & mark (binary_spell op) & within n (looseness op) b) (kinds front) → May angle (looseness op) rest
       → (h : ℕ) × (left : ℕ) × (h ≤ suc n) × (suc (suc m) ≤ left + suc n)
-      × (climb (within_at m) m angle (suc (looseness op)) (front ++ rest) ≡ chain_on (within_at m angle (looseness op)) (operator_at angle (looseness op)) (suc m) left (binary op a b, h) rest)
+      × (climb (within_at m) m angle (suc (looseness op)) (front ++ rest)
+      ≡ chain_on (within_at m angle (looseness op)) (operator_at angle (looseness op)) (suc m) left (binary op a b, h) rest)
   one_more angle op a b front rest m le s may =
       let d = looseness op in
       let p = parted front s.0 s.1 s.2 in
@@ -210,6 +219,7 @@ all : (n : ℕ) → Reads n × ((d : ℕ) → Chains n d)
 all zero = ((λ angle loose t front rest m le s may. absurd s), (λ d angle t front rest m le s may. absurd s))
 all (suc n) = let a = all n in (reads_next n a.0 a.1, λ d. chains_at n a.0 a.1 d (climbs_all n a.0 a.1 d))
 
-pub within_again : (n : ℕ) (angle : Bool) (loose : ℕ) (t : Tree) (front rest : List Token) (m : ℕ) → n ≤ m → within n loose t (kinds front) → May angle loose rest
+pub within_again : (n : ℕ) (angle : Bool) (loose : ℕ) (t : Tree) (front rest : List Token) (m : ℕ) → n ≤ m
+    → within n loose t (kinds front) → May angle loose rest
     → (h : ℕ) × (h ≤ n) × (within_at m angle loose (front ++ rest) ≡ Some ((t, h), rest))
 within_again n = (all n).0

@@ -1,4 +1,4 @@
--- An expression between `<` and `>` is not taken for what stands after a type.
+-- An expression between `<` and `>` is not taken for what follows a type.
 use Rattle.std.proofs.Common.{◌≡◌, inl, inr, ℕ, zero, suc, List, [], ◌∷◌, ◌++◌, Some, Bool, true, false, ◌&&◌, refl, sym, ap, subst, ◌∙◌, append_assoc}
 use Rattle.std.specs.Prelude.{codes}
 use Rattle.idl_lex.specs.declared.kinds.Token.{Token}
@@ -19,12 +19,15 @@ use Rattle.corba_exprs.specs.Trees.{Tree, leaf, unary, binary}
 use Rattle.corba_exprs.specs.Spelling.{identifier, scoped, leaf_text, unary_spell, binary_spell, looseness, within}
 use Rattle.corba_exprs.specs.Readers.{binary_in, is_joint, is_after, is_identifier, closes}
 
-pub first_kind : (ts : List Token) (k : TokenKind) (ks : List TokenKind) → kinds ts ≡ k ∷ ks → (t : Token) × (us : List Token) × (ts ≡ t ∷ us) × (t.kind ≡ k) × (kinds us ≡ ks)
+pub first_kind : (ts : List Token) (k : TokenKind) (ks : List TokenKind) → kinds ts ≡ k ∷ ks
+    → (t : Token) × (us : List Token) × (ts ≡ t ∷ us) × (t.kind ≡ k) × (kinds us ≡ ks)
 first_kind [] k ks e = absurd cc
 first_kind (t ∷ us) k ks e = (t, us, refl, cc, cc)
 
--- what begins with a token that stands after no type
-apart : (front rest : List Token) (k : TokenKind) (ks : List TokenKind) → kinds front ≡ k ∷ ks → is_after k ≡ false → is_identifier k ≡ false → closes (front ++ rest) ≡ false
+-- what begins with a token that follows no type
+apart : (front rest : List Token) (k : TokenKind) (ks : List TokenKind) → kinds front ≡ k ∷ ks → is_after k ≡ false
+    → is_identifier k ≡ false
+    → closes (front ++ rest) ≡ false
 apart front rest k ks e a i = let t = first_kind front k ks e in rw (t.2, t.3, a, i) refl
 
 pub binary_back : (op : BinaryOp) → binary_in (K.Mark (binary_spell op)) ≡ Some op
@@ -46,8 +49,10 @@ unary_apart : (op : UnaryOp) → (is_after (K.Mark (unary_spell op)) ≡ false) 
 unary_apart U.Minus = (refl, refl)
 unary_apart U.Plus = (refl, refl)
 
--- a name, behind which an expression goes on
-joint_next : (us rest : List Token) (is : List Identifier) → each (λ i. mark (codes "::") & identifier i) is (kinds us) → begins_with is_joint rest ≡ true → begins_with is_joint (us ++ rest) ≡ true
+-- a name, after which an expression goes on
+joint_next : (us rest : List Token) (is : List Identifier) → each (λ i. mark (codes "::") & identifier i) is (kinds us)
+    → begins_with is_joint rest ≡ true
+    → begins_with is_joint (us ++ rest) ≡ true
 joint_next [] rest is s j = j
 joint_next (t ∷ us) rest [] s j = absurd cc
 joint_next (t ∷ us) rest (i ∷ is) s j =
@@ -61,7 +66,9 @@ joint_next (t ∷ us) rest (i ∷ is) s j =
 identifier_apart : (k : TokenKind) (n : List ℕ) → k ≡ K.Name n → is_after k ≡ false
 identifier_apart k n e = rw e refl
 
-name_goes_on : (parts : List Identifier) (front rest : List Token) → joined (codes "::") identifier parts (kinds front) → begins_with is_joint rest ≡ true → closes (front ++ rest) ≡ false
+name_goes_on : (parts : List Identifier) (front rest : List Token) → joined (codes "::") identifier parts (kinds front)
+    → begins_with is_joint rest ≡ true
+    → closes (front ++ rest) ≡ false
 name_goes_on [] front rest s j = absurd s
 name_goes_on (i ∷ is) front rest s j =
     let p = parted front s.0 s.1 s.2 in
@@ -74,12 +81,15 @@ name_goes_on (i ∷ is) front rest s j =
     none true = refl
     none false = refl
 
-scoped_goes_on : (absolute : Bool) (parts : List Identifier) (front rest : List Token) → scoped (record { absolute = absolute; parts = parts }) (kinds front) → begins_with is_joint rest ≡ true → closes (front ++ rest) ≡ false
+scoped_goes_on : (absolute : Bool) (parts : List Identifier) (front rest : List Token)
+    → scoped (record { absolute = absolute; parts = parts }) (kinds front) → begins_with is_joint rest ≡ true
+    → closes (front ++ rest) ≡ false
 scoped_goes_on true parts front rest s j = apart front rest (K.Mark (codes "::")) s.1 (s.2 ∙ ap (λ z. z ++ s.1) s.3) refl refl
 scoped_goes_on false parts front rest s j =
     name_goes_on parts front rest (subst (joined (codes "::") identifier parts) (sym (s.2 ∙ ap (λ z. z ++ s.1) s.3)) s.4) j
 
-leaf_goes_on : (l : Leaf) (front rest : List Token) → leaf_text l (kinds front) → begins_with is_joint rest ≡ true → closes (front ++ rest) ≡ false
+leaf_goes_on : (l : Leaf) (front rest : List Token) → leaf_text l (kinds front) → begins_with is_joint rest ≡ true
+    → closes (front ++ rest) ≡ false
 leaf_goes_on (L.Number n) front rest s j = apart front rest (K.Number n) [] s refl refl
 leaf_goes_on (L.Character n) front rest s j = apart front rest (K.Char n) [] s refl refl
 leaf_goes_on (L.Text n) front rest s j = apart front rest (K.Text n) [] s refl refl
@@ -87,8 +97,9 @@ leaf_goes_on (L.Truth true) front rest s j = apart front rest (K.Name (codes "TR
 leaf_goes_on (L.Truth false) front rest s j = apart front rest (K.Name (codes "FALSE")) [] s refl refl
 leaf_goes_on (L.Name n) front rest s j = scoped_goes_on n.absolute n.parts front rest s j
 
--- an expression, behind which another goes on or `>` stands
-pub goes_on : (n loose : ℕ) (t : Tree) (front rest : List Token) → within n loose t (kinds front) → begins_with is_joint rest ≡ true → closes (front ++ rest) ≡ false
+-- an expression, after which another goes on or `>` follows
+pub goes_on : (n loose : ℕ) (t : Tree) (front rest : List Token) → within n loose t (kinds front) → begins_with is_joint rest ≡ true
+    → closes (front ++ rest) ≡ false
 goes_on zero loose t front rest s j = absurd s
 goes_on (suc n) loose t front rest (inr p) j = apart front rest (K.Mark (codes "(")) p.1 (p.2 ∙ ap (λ z. z ++ p.1) p.3) refl refl
 goes_on (suc n) loose (leaf l) front rest (inl s) j = leaf_goes_on l front rest s j

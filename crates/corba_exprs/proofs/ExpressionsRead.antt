@@ -22,7 +22,7 @@ expression_is n angle = record {
       rw a.2 refl;
 }
 
--- nothing may stand behind an expression
+-- nothing may follow an expression
 pub at_end : May false 6 []
 at_end = record { name = refl; no_operator = λ d lt. refl; joint = λ yes. absurd cc }
 

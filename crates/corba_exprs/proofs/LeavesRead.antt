@@ -33,7 +33,7 @@ identifier_is = mapped_is identifier_of identifier (id_reads corba_words) (λ n 
 pub leads_identifier : Leads identifier is_identifier
 leads_identifier = leads_by identifier_of identifier_back (leads_id corba_words)
 
--- no further `::` stands behind it
+-- no further `::` follows it
 abbrev pub NameMay : List Token → Type 0
 NameMay rest = begins_with (mark_is (codes "::")) rest ≡ false
 

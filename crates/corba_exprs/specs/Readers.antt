@@ -101,11 +101,11 @@ binary_in _ = None
 abbrev pub is_joint : TokenKind → Bool
 is_joint k = is_some (binary_in k) || mark_is (codes "::") k || mark_is (codes ">") k
 
--- whether a token stands after a type that is an element
+-- whether a token follows a type that is an element
 abbrev pub is_after : TokenKind → Bool
 is_after k = mark_is (codes ",") k || mark_is (codes ">") k || mark_is (codes ">>") k
 
--- whether tokens stand after a whole type: `,` or `>` or `>>`, or an identifier that no expression goes on with
+-- whether tokens follow a whole type: `,` or `>` or `>>`, or an identifier that no expression goes on with
 abbrev pub closes : List Token → Bool
 closes [] = false
 closes (t ∷ ts) = is_after t.kind || (is_identifier t.kind && not (begins_with is_joint ts))
@@ -157,14 +157,14 @@ kept_in levels x next ts = if nat_le x.1 levels then next ts else None
 -- what is read on from an operand: `more` operators at most
 abbrev pub chain_on : Reader Levelled → (List Token → Option BinaryOp) → ℕ → ℕ → Levelled → Reader Levelled
 chain_on operand op levels zero x ts = None
-chain_on operand op levels (suc more) x ts =
-    by_operator (op ts) (Some (x, ts)) (λ o. then_on (operand (drop 1 ts)) (λ y us. kept_in levels (over o x y) (chain_on operand op levels more (over o x y)) us))
+chain_on operand op levels (suc more) x ts = by_operator (op ts) (Some (x, ts))
+    (λ o. then_on (operand (drop 1 ts)) (λ y us. kept_in levels (over o x y) (chain_on operand op levels more (over o x y)) us))
 
 -- an expression whose operators bind less loosely, over the reader of its operands
 abbrev pub climb : (Bool → ℕ → Reader Levelled) → ℕ → Bool → ℕ → Reader Levelled
 climb operand below angle zero ts = primary_at operand angle ts
-climb operand below angle (suc loose) ts =
-    then_on (climb operand below angle loose ts) (λ x us. chain_on (operand angle loose) (operator_at angle loose) (suc below) (suc below) x us)
+climb operand below angle (suc loose) ts = then_on (climb operand below angle loose ts)
+    (λ x us. chain_on (operand angle loose) (operator_at angle loose) (suc below) (suc below) x us)
 
 -- an expression within so many levels, and how many it takes
 abbrev pub within_at : ℕ → Bool → ℕ → Reader Levelled

@@ -13,7 +13,7 @@ use Rattle.corba_exprs.specs.declared.tree.Leaf.TheVariants as L
 use Rattle.corba_exprs.specs.Trees.{Tree, leaf, unary, binary}
 use Rattle.corba_exprs.specs.Words.{corba_words, plain}
 
--- identifier = a name that is no word, or `_` and any name
+-- identifier = a name that is not a word, or `_` and any name
 abbrev pub identifier : Identifier → Text
 identifier i ks = (n : List ℕ) × (plain n ≡ i.name) × id corba_words n ks
 
@@ -61,13 +61,14 @@ looseness B.Mul = 0
 looseness B.Div = 0
 looseness B.Rem = 0
 
--- An expression without parentheses around it, over the texts of its operands. An operator stands where it binds less loosely than `loose`. Its left operand may have operators that bind as loosely, its right operand may not: operators group to the left.
+-- An expression without parentheses around it, over the texts of its operands. An operator is allowed where it binds less loosely than `loose`. Its left operand may have operators that bind as loosely, its right operand may not: operators group to the left.
 abbrev pub bare : (ℕ → Tree → Text) → ℕ → Tree → Text
 bare operand loose (leaf l) ks = leaf_text l ks
 bare operand loose (unary op a) ks = (mark (unary_spell op) & operand 0 a) ks
-bare operand loose (binary op a b) ks = (looseness op < loose) × (operand (suc (looseness op)) a & mark (binary_spell op) & operand (looseness op) b) ks
+bare operand loose (binary op a b) ks = (looseness op < loose)
+    × (operand (suc (looseness op)) a & mark (binary_spell op) & operand (looseness op) b) ks
 
--- An expression within so many levels: an operand, and what stands in parentheses, have one level less.
+-- An expression within so many levels: an operand, and what is in parentheses, have one level less.
 abbrev pub within : ℕ → ℕ → Tree → Text
 within zero loose t ks = ⊥
 within (suc n) loose t ks = bare (within n) loose t ks ⊎ (mark (codes "(") & within n 6 t & mark (codes ")")) ks

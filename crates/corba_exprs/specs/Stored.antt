@@ -101,7 +101,8 @@ leaf_at gnil = L.Truth false
 leaf_at (gnum n) = L.Truth false
 leaf_at (gcons a b) = leaf_by (num a) b
 
-name_back : (b : Bool) (parts : List Identifier) → leaf_by (4 + truth_number b) (words_code parts) ≡ L.Name (record { absolute = b; parts = parts })
+name_back : (b : Bool) (parts : List Identifier)
+    → leaf_by (4 + truth_number b) (words_code parts) ≡ L.Name (record { absolute = b; parts = parts })
 name_back true parts = ap (λ z. L.Name (record { absolute = true; parts = z })) (words_back parts)
 name_back false parts = ap (λ z. L.Name (record { absolute = false; parts = z })) (words_back parts)
 
@@ -130,7 +131,8 @@ pub record Reading : Type 0 where
   pub back : Tree
 
 abbrev pub tree_by : ℕ → Gv → Reading → Tree
-tree_by tag g r = cond (tag == 0) (leaf (leaf_at g)) (cond (nat_lt tag 20) (unary (unary_at tag) r.whole) (binary (binary_at tag) r.front r.back))
+tree_by tag g r = cond (tag == 0) (leaf (leaf_at g))
+    (cond (nat_lt tag 20) (unary (unary_at tag) r.whole) (binary (binary_at tag) r.front r.back))
 
 abbrev pub read : Gv → Reading
 read gnil = record { whole = leaf (L.Truth false); front = leaf (L.Truth false); back = leaf (L.Truth false) }

@@ -10,7 +10,7 @@ pub data Tree : Type 0 where
   unary : UnaryOp → Tree → Tree
   binary : BinaryOp → Tree → Tree → Tree
 
--- how many operators stand one in the other
+-- how many operators are nested
 abbrev pub height : Tree → ℕ
 height (leaf l) = 0
 height (unary op a) = suc (height a)

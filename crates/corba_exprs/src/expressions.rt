@@ -28,7 +28,7 @@ pub fn expression(
 }
 
 /// An expression within so many levels, and how many it takes. Between `<` and `>` a `>>` after
-/// which a type is whole is no operator.
+/// which a type is whole is not an operator.
 #[cycle(climbing)]
 fn within(
     alloc: Global,
@@ -59,7 +59,8 @@ fn climb(
 ) -> Result<(Expr, u32, &[Token]), Halt>
     requires below { below < 32 }
     requires loose { loose ≤ 6 }
-    ensures read { Gives (λ x. ((x.0, x.1), x.2.now)) result (climb (within_at below) below angle loose tokens.now) }
+    ensures read { Gives (λ x. ((x.0, x.1), x.2.now)) result
+        (climb (within_at below) below angle loose tokens.now) }
     ensures fits { IfOk result (λ x. x.1 ≤ below + 1) }
 {
     if loose == 0 {

@@ -1,6 +1,6 @@
 //! The expressions of CORBA IDL (CORBA, chapter on IDL syntax and semantics, "Constant declaration").
 //!
-//! [`expression`] reads one from the front of some tokens; [`Expr`] is its tree.
+//! [`expression`] reads one from the beginning of some tokens; [`Expr`] is its tree.
 #![tactic(auto)]
 
 mod expressions;

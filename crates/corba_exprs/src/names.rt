@@ -10,7 +10,7 @@ use kit_base::{Name, NoMemory};
 use std::alloc::Global;
 use syntax_kit::{Halt, Production, begins_id, flag, id, joined};
 
-/// The words of the grammar, which are no identifiers.
+/// The words of the grammar, which are not identifiers.
 const WORDS: [&[u8]; 35] = [
     b"module",
     b"interface",
@@ -56,7 +56,7 @@ pub fn begins_identifier(tokens: &[Token]) -> bool
     begins_id(tokens, &WORDS)
 }
 
-/// A name without the `_` that may stand first.
+/// A name without the `_` that may come first.
 fn plain(alloc: Global, name: Name) -> Result<Name, NoMemory>
     ensures { IfOk result (λ it. it ≡ plain name) }
 {

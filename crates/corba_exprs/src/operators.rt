@@ -1,4 +1,4 @@
-// Operators, and what stands after a whole type.
+// Operators, and what follows a whole type.
 ghost use Rattle.std.specs.Prelude.{◌≡◌, drop, IfErr};
 ghost use Rattle.syntax_kit.specs.Reading.{Gives, begins_with, token_at};
 ghost use Rattle.corba_exprs.specs.Spelling.{looseness};
@@ -93,7 +93,7 @@ fn begins_joint(tokens: &[Token]) -> bool
     }
 }
 
-/// Whether the tokens stand after a whole type.
+/// Whether the tokens follow a whole type.
 pub fn closes(tokens: &[Token]) -> bool
     ensures { result ≡ closes tokens.now }
 {
@@ -123,7 +123,7 @@ pub(crate) fn operator(angle: bool, loose: u32, tokens: &[Token]) -> Option<Bina
     Some(op)
 }
 
-/// What stands after the first token.
+/// What follows the first token.
 pub(crate) fn past(tokens: &[Token]) -> &[Token]
     ensures { result.now ≡ drop 1 tokens.now }
 {

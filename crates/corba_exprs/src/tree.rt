@@ -7,7 +7,7 @@ use kit_base::{Listed, Name, NoMemory, Octets};
 use std::alloc::Global;
 use std::marker::Model;
 
-/// An identifier (`<identifier>`), without the `_` that may stand first to tell it from a word.
+/// An identifier (`<identifier>`), without the `_` that may come first to distinguish it from a word.
 #[derive(Debug, Drop)]
 pub struct Identifier {
     /// Its octets.
@@ -17,7 +17,7 @@ pub struct Identifier {
 /// A scoped name (`<scoped_name>`).
 #[derive(Debug, Drop)]
 pub struct ScopedName {
-    /// Whether `::` stands first, so that the name is sought from the file.
+    /// Whether `::` comes first, so that the name is sought from the file.
     pub absolute: bool,
     /// The identifiers, one at least.
     pub parts: Listed<Identifier>,
