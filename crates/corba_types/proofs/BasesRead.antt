@@ -1,4 +1,4 @@
--- Types that are no sequences: what is read is what is spelled.
+-- Types that are not sequences: what is read is what is spelled.
 use Rattle.std.proofs.Common.{◌≡◌, ◌⊎◌, inl, inr, ℕ, List, [], ◌∷◌, ◌++◌, Option, Some, None, Bool, true, false, ◌&&◌, ◌||◌, ◌==◌, cond, refl, sym, ap, subst, ◌∙◌}
 use Rattle.std.specs.Prelude.{codes}
 use Rattle.idl_lex.specs.declared.kinds.Token.{Token}
@@ -29,7 +29,7 @@ use Rattle.corba_types.specs.Readers.{size_of, size_at, int_of, int_at, is_int, 
 
 -- ---- integer types
 
--- no `long` stands behind it
+-- no `long` follows it
 abbrev pub IntMay : List Token → Type 0
 IntMay rest = begins_with (word_is (codes "long")) rest ≡ false
 
@@ -73,7 +73,8 @@ int_forth : (x : IntSize ⊎ IntSize) (ks : List TokenKind) → int_text x ks �
 int_forth (inl i) ks s = s
 int_forth (inr i) ks s = unit_left_back (size i) ks s
 
-int_parts : (unsigned : Bool) (i : IntSize) (ks : List TokenKind) → int (record { unsigned = unsigned; size = i }) ks → (x : IntSize ⊎ IntSize) × (int_of x ≡ record { unsigned = unsigned; size = i }) × int_text x ks
+int_parts : (unsigned : Bool) (i : IntSize) (ks : List TokenKind) → int (record { unsigned = unsigned; size = i }) ks
+    → (x : IntSize ⊎ IntSize) × (int_of x ≡ record { unsigned = unsigned; size = i }) × int_text x ks
 int_parts true i ks s = (inl i, refl, s)
 int_parts false i ks s = (inr i, refl, unit_left (size i) ks s)
 
@@ -87,7 +88,7 @@ int_is = mapped_is int_of int (led_is (codes "unsigned") size_is size_is leads_s
 pub leads_int : Leads int is_int
 leads_int = leads_by int_of int_back (leads_either (leads_behind size (leads_word (codes "unsigned"))) leads_size)
 
--- ---- what stands after a whole type
+-- ---- what follows a whole type
 
 -- nothing that goes on with a type
 abbrev pub Closes : List Token → Type 0
@@ -111,7 +112,7 @@ no_word w h ts c = turns is_closing (word_is w) (apart_word is_closing w h) ts (
 pub no_mark : (m : List ℕ) → is_closing (K.Mark m) ≡ false → (ts : List Token) → Closes ts → begins_with (mark_is m) ts ≡ false
 no_mark m h ts c = turns is_closing (mark_is m) (apart_mark is_closing m h) ts (closing ts c)
 
--- ---- types that are no sequence and no string
+-- ---- types that are not a sequence or a string
 
 abbrev pub plain_base : Base → Text
 plain_base (B.Simple s) ks = word (simple_spell s) ks
@@ -132,7 +133,8 @@ plain_forth (inr (inl _)) ks s = s
 plain_forth (inr (inr (inl i))) ks s = s
 plain_forth (inr (inr (inr n))) ks s = s
 
-plain_back : (b : Base) (ks : List TokenKind) → plain_base b ks → (x : Simple ⊎ Unit {0} ⊎ Int ⊎ ScopedName) × (plain_of x ≡ b) × plain_text x ks
+plain_back : (b : Base) (ks : List TokenKind) → plain_base b ks
+    → (x : Simple ⊎ Unit {0} ⊎ Int ⊎ ScopedName) × (plain_of x ≡ b) × plain_text x ks
 plain_back (B.Simple a) ks s = (inl a, refl, s)
 plain_back B.LongDouble ks s = (inr (inl tt), refl, s)
 plain_back (B.Int i) ks s = (inr (inr (inl i)), refl, s)
@@ -178,7 +180,8 @@ is_double u front rest s =
 and_false : (a b : Bool) → a ≡ false → (a && b) ≡ false
 and_false a b h = rw h refl
 
-no_double_size : (i : IntSize) (front rest : List Token) → size i (kinds front) → begins_with (word_is (codes "double")) rest ≡ false → is_long_double (front ++ rest) ≡ false
+no_double_size : (i : IntSize) (front rest : List Token) → size i (kinds front) → begins_with (word_is (codes "double")) rest ≡ false
+    → is_long_double (front ++ rest) ≡ false
 no_double_size Short front rest s may = let a = one_kind front (K.Name (codes "short")) s in rw (a.1, a.2) refl
 no_double_size Long front rest s may = let a = one_kind front (K.Name (codes "long")) s in rw (a.1, a.2, may) refl
 no_double_size LongLong front rest s may =
@@ -187,12 +190,15 @@ no_double_size LongLong front rest s may =
     let b = one_kind p.1 (K.Name (codes "long")) (p.4 ∙ s.4) in
     rw (p.2, a.1, b.1, a.2, b.2) refl
 
-no_double_int : (x : IntSize ⊎ IntSize) (front rest : List Token) → int_text x (kinds front) → begins_with (word_is (codes "double")) rest ≡ false → is_long_double (front ++ rest) ≡ false
+no_double_int : (x : IntSize ⊎ IntSize) (front rest : List Token) → int_text x (kinds front)
+    → begins_with (word_is (codes "double")) rest ≡ false
+    → is_long_double (front ++ rest) ≡ false
 no_double_int (inl i) front rest s may =
     and_false _ _ (begins_not (word_is (codes "long")) (leads_behind size (leads_word (codes "unsigned"))) (apart_word (word_is (codes "unsigned")) (codes "long") refl) i front rest s)
 no_double_int (inr i) front rest s may = no_double_size i front rest s may
 
-no_double : (x : Int ⊎ ScopedName) (front rest : List Token) → one_of int scoped x (kinds front) → Closes rest → is_long_double (front ++ rest) ≡ false
+no_double : (x : Int ⊎ ScopedName) (front rest : List Token) → one_of int scoped x (kinds front) → Closes rest
+    → is_long_double (front ++ rest) ≡ false
 no_double (inl i) front rest s may = let b = int_back i (kinds front) s in no_double_int b.0 front rest b.2 (no_word (codes "double") refl rest may)
 no_double (inr n) front rest s may = and_false _ _ (begins_not (word_is (codes "long")) leads_scoped (apart_word is_name (codes "long") refl) n front rest s)
 
@@ -268,7 +274,8 @@ module _ (n : ℕ) where
   string_forth None ks s = s
   string_forth (Some x) ks s = s
 
-  string_back : (y : Base × Bool) (ks : List TokenKind) → string_text n y ks → (x : Option (Tree × Bool)) × (string_of x ≡ y) × maybe sized x ks
+  string_back : (y : Base × Bool) (ks : List TokenKind) → string_text n y ks
+      → (x : Option (Tree × Bool)) × (string_of x ≡ y) × maybe sized x ks
   string_back (B.Text None, false) ks s = (None, refl, s)
   string_back (B.Text None, true) ks s = absurd s
   string_back (B.Text (Some e), b) ks s = (Some (e, b), refl, s)
@@ -287,7 +294,7 @@ module _ (n : ℕ) where
       (λ x front rest s may. begins_so leads_sized x front rest s) (λ rest may. no_mark (codes "<") refl rest may))
       string_forth string_back
 
-  -- ---- types that are no sequences
+  -- ---- types that are not sequences
 
   abbrev pub base_typed : Typed → Text
   base_typed x ks = (x.0.0 ≡ []) × base n x.0.1 x.1 ks
@@ -309,7 +316,8 @@ module _ (n : ℕ) where
   base_forth (inr (B.Name m)) ks s = (refl, s)
   base_forth (inr (B.Text e)) ks s = absurd s
 
-  base_parts : (b : Base) (shared : Bool) (ks : List TokenKind) → base n b shared ks → (x : (Base × Bool) ⊎ Base) × (base_of x ≡ (([], b), shared)) × base_shape x ks
+  base_parts : (b : Base) (shared : Bool) (ks : List TokenKind) → base n b shared ks
+      → (x : (Base × Bool) ⊎ Base) × (base_of x ≡ (([], b), shared)) × base_shape x ks
   base_parts (B.Simple a) false ks s = (inr (B.Simple a), refl, s)
   base_parts (B.Simple a) true ks s = absurd s
   base_parts B.LongDouble false ks s = (inr B.LongDouble, refl, s)

@@ -31,7 +31,7 @@ after_closes (t ∷ ts) h = regrouped (mark_is (codes ",") t.kind) (mark_is (cod
 bound_closes : (n : ℕ) (x : Option Tree × Bool) (front rest : List Token) → bound n x.0 x.1 (kinds front) → Closes (front ++ rest)
 bound_closes n x front rest s = after_closes (front ++ rest) (begins_so (leads_maybe (leads_comma n) leads_close) x front rest s)
 
--- what stands behind the `<` of a sequence
+-- what follows the `<` of a sequence
 abbrev held_text : ℕ → Typed → Text
 held_text n (([], b), shared) ks = ⊥
 held_text n ((x ∷ xs, b), shared) ks = held (type n xs b) (suc n) x shared ks
@@ -41,7 +41,8 @@ module _ (n : ℕ) (g : IsGrammar (shared_at n) (typed n) Closes) where
   held_at us = then_on (shared_at n us) (ended_at (suc n))
 
   -- an element that shares its end, or not
-  ended_found : (t : Typed) (f us : List Token) (x : Typed) (rest : List Token) (b : Bool) → t.1 ≡ b → typed n t (kinds f) → cond b (Some (sequence_of t (None, false), us)) (map_read (sequence_of t) (bound_at (suc n) us)) ≡ Some (x, rest)
+  ended_found : (t : Typed) (f us : List Token) (x : Typed) (rest : List Token) (b : Bool) → t.1 ≡ b → typed n t (kinds f)
+      → cond b (Some (sequence_of t (None, false), us)) (map_read (sequence_of t) (bound_at (suc n) us)) ≡ Some (x, rest)
       → (front : List Token) × (us ≡ front ++ rest) × held_text n x (kinds (f ++ front))
   ended_found t f us x rest true h w e =
       let is = read_is (sequence_of t (None, false)) x us rest e in
@@ -56,11 +57,13 @@ module _ (n : ℕ) (g : IsGrammar (shared_at n) (typed n) Closes) where
       let b = (bound_is (suc n)).found us m.0 rest m.1 in
       (b.0, b.1, subst (λ (z : Typed). held_text n z (kinds (f ++ b.0))) m.2 (inr (kinds f, kinds b.0, kinds-append f b.0, subst (λ z. type n t.0.0 t.0.1 z (kinds f)) h w, b.2)))
 
-  shared_end : (bounds : List (Option Tree)) (base : Base) (x : Option Tree) (shared : Bool) (front rest : List Token) → x ≡ None → shared ≡ false → type n bounds base true (kinds front) → Closes rest
+  shared_end : (bounds : List (Option Tree)) (base : Base) (x : Option Tree) (shared : Bool) (front rest : List Token)
+      → x ≡ None → shared ≡ false → type n bounds base true (kinds front) → Closes rest
       → held_at (front ++ rest) ≡ Some (((x ∷ bounds, base), shared), rest)
   shared_end bounds base x shared front rest x_is shared_is w may = let one = g.again ((bounds, base), true) front rest w may in rw (one, x_is, shared_is) refl
 
-  own_end : (bounds : List (Option Tree)) (base : Base) (x : Option Tree) (shared : Bool) (front rest : List Token) → (type n bounds base false & bound (suc n) x shared) (kinds front) → Closes rest
+  own_end : (bounds : List (Option Tree)) (base : Base) (x : Option Tree) (shared : Bool) (front rest : List Token)
+      → (type n bounds base false & bound (suc n) x shared) (kinds front) → Closes rest
       → held_at (front ++ rest) ≡ Some (((x ∷ bounds, base), shared), rest)
   own_end bounds base x shared front rest s may =
       let p = parted front s.0 s.1 s.2 in
@@ -126,7 +129,9 @@ shared_is (suc n) = next_is n (shared_is n)
 abbrev pub whole : ℕ → List (Option Tree) × Base → Text
 whole n v = type n v.0 v.1 false
 
-whole_found : (n : ℕ) (t : Typed) (us : List Token) (v : List (Option Tree) × Base) (rest : List Token) (b : Bool) → t.1 ≡ b → cond {A = Read (List (Option Tree) × Base)} b None (Some (t.0, us)) ≡ Some (v, rest) → (t ≡ (v, false)) × (us ≡ rest)
+whole_found : (n : ℕ) (t : Typed) (us : List Token) (v : List (Option Tree) × Base) (rest : List Token) (b : Bool)
+    → t.1 ≡ b → cond {A = Read (List (Option Tree) × Base)} b None (Some (t.0, us)) ≡ Some (v, rest)
+    → (t ≡ (v, false)) × (us ≡ rest)
 whole_found n t us v rest true h e = absurd cc
 whole_found n t us v rest false h e = let is = read_is t.0 v us rest e in (ap (λ z. (t.0, z)) h ∙ ap (λ z. (z, false)) is.0, is.1)
 

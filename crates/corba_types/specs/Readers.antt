@@ -39,7 +39,7 @@ int_at = mapped int_of (either (begins_with (word_is (codes "unsigned"))) (behin
 abbrev pub is_int : TokenKind → Bool
 is_int k = word_is (codes "unsigned") k || (word_is (codes "short") k || word_is (codes "long") k)
 
--- ---- types that are no sequences
+-- ---- types that are not sequences
 
 -- the types of one word
 abbrev pub simple_words : List (List ℕ × Simple)
@@ -63,7 +63,7 @@ plain_of (inr (inl _)) = B.LongDouble
 plain_of (inr (inr (inl i))) = B.Int i
 plain_of (inr (inr (inr n))) = B.Name n
 
--- a type that is no sequence and no string
+-- a type that is not a sequence or a string
 unfoldable pub plain_at : Reader Base
 plain_at = mapped plain_of (
     either (begins_with is_simple) (token_at simple_in)
@@ -78,9 +78,10 @@ abbrev pub string_of : Option (Tree × Bool) → Base × Bool
 string_of None = (B.Text None, false)
 string_of (Some x) = (B.Text (Some x.0), x.1)
 
--- what stands behind `string`
+-- what follows `string`
 unfoldable pub string_at : ℕ → Reader (Base × Bool)
-string_at n = mapped string_of (option (begins_with (mark_is (codes "<"))) (behind (mark_at (codes "<")) (both (expression_at n true) (token_at close_in))))
+string_at n = mapped string_of
+    (option (begins_with (mark_is (codes "<"))) (behind (mark_at (codes "<")) (both (expression_at n true) (token_at close_in))))
 
 -- ---- types
 
@@ -91,7 +92,7 @@ abbrev pub base_of : (Base × Bool) ⊎ Base → Typed
 base_of (inl x) = (([], x.0), x.1)
 base_of (inr b) = (([], b), false)
 
--- a type that is no sequence
+-- a type that is not a sequence
 unfoldable pub base_at : ℕ → Reader Typed
 base_at n = mapped base_of (either (begins_with (word_is (codes "string"))) (behind (word_at (codes "string")) (string_at n)) plain_at)
 
@@ -103,7 +104,7 @@ bound_at n = both (option (begins_with (mark_is (codes ","))) (behind (mark_at (
 abbrev pub sequence_of : Typed → Option Tree × Bool → Typed
 sequence_of t b = ((b.0 ∷ t.0.0, t.0.1), b.1)
 
--- what stands behind an element: nothing where it shares its end with the sequence
+-- what follows an element: nothing where it shares its end with the sequence
 abbrev pub ended_at : ℕ → Typed → Reader Typed
 ended_at n t ts = if t.1 then Some (sequence_of t (None, false), ts) else map_read (sequence_of t) (bound_at n ts)
 

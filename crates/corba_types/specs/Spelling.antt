@@ -38,12 +38,12 @@ abbrev pub close : Bool → Text
 close false = mark (codes ">")
 close true = mark (codes ">>")
 
--- a type that is no sequence and has its own end, or needs none
+-- a type that is not a sequence and has its own end, or needs none
 abbrev pub alone : Text → Bool → Text
 alone P false ks = P ks
 alone P true ks = ⊥
 
--- a type that is no sequence; `shared` says that its last mark ends the sequence around it too
+-- a type that is not a sequence; `shared` says that its last mark ends the sequence around it too
 abbrev pub base : ℕ → Base → Bool → Text
 base n (B.Simple s) shared = alone (word (simple_spell s)) shared
 base n B.LongDouble shared = alone (word (codes "long") & word (codes "double")) shared
@@ -56,7 +56,7 @@ base n (B.Text (Some e)) shared = word (codes "string") & mark (codes "<") & exp
 abbrev pub bound : ℕ → Option Tree → Bool → Text
 bound n b shared = maybe (λ e. mark (codes ",") & expression n e) b & close shared
 
--- what stands behind the `<` of a sequence: an element that shares its end with the sequence, or an element and an end
+-- what follows the `<` of a sequence: an element that shares its end with the sequence, or an element and an end
 abbrev pub held : (Bool → Text) → ℕ → Option Tree → Bool → Text
 held element n b shared ks = ((b ≡ None) × (shared ≡ false) × element true ks) ⊎ (element false & bound n b shared) ks
 

@@ -7,5 +7,6 @@ ghost use Rattle.corba_types.specs.Spelling.{type};
 
 /// Tokens are those of at most one type.
 pub fn one_type()
-    ensures { (levels : ℕ) (a b : List (Option Tree) × Base) (tokens : List TokenKind) → type levels a.0 a.1 false tokens → type levels b.0 b.1 false tokens → a ≡ b }
+    ensures { (levels : ℕ) (a b : List (Option Tree) × Base) (tokens : List TokenKind)
+        → type levels a.0 a.1 false tokens → type levels b.0 b.1 false tokens → a ≡ b }
 {}

@@ -1,6 +1,6 @@
 //! The types of CORBA IDL (CORBA, chapter on IDL syntax and semantics, "Type declaration").
 //!
-//! [`type_name`] reads one from the front of some tokens; [`TypeName`] is its tree.
+//! [`type_name`] reads one from the beginning of some tokens; [`TypeName`] is its tree.
 #![tactic(auto)]
 
 mod ints;

@@ -49,7 +49,7 @@ pub enum Simple {
     Object,
 }
 
-/// A type that is no sequence.
+/// A type that is not a sequence.
 #[derive(Drop)]
 pub enum Base {
     /// A type of one word.
@@ -107,7 +107,7 @@ impl Model for TypeName {
 }
 
 impl TypeName {
-    /// A type that is no sequence.
+    /// A type that is not a sequence.
     pub fn of_base(base: Base) -> TypeName
         ensures { result ≡ ([], base) }
     {

@@ -11,7 +11,7 @@ use idl_lex::Token;
 use std::alloc::Global;
 use syntax_kit::{Halt, begins, begins_mark, mark, word};
 
-/// A type that is no sequence and no string.
+/// A type that is not a sequence or a string.
 #[tactic(auto, unfolding(crate::specs::Readers::plain_at))]
 fn plain(alloc: Global, tokens: &[Token]) -> Result<(Base, &[Token]), Halt>
     ensures { Gives (λ x. (x.0, x.1.now)) result (plain_at tokens.now) }
@@ -33,7 +33,7 @@ fn plain(alloc: Global, tokens: &[Token]) -> Result<(Base, &[Token]), Halt>
     Ok((Base::Name(name), rest))
 }
 
-/// What stands behind `string`.
+/// What follows `string`.
 #[tactic(auto, unfolding(crate::specs::Readers::string_at))]
 fn string(alloc: Global, levels: u32, tokens: &[Token]) -> Result<(Base, bool, &[Token]), Halt>
     requires { levels ≤ 32 }
@@ -48,7 +48,7 @@ fn string(alloc: Global, levels: u32, tokens: &[Token]) -> Result<(Base, bool, &
     Ok((Base::Text(None), false, tokens))
 }
 
-/// A type that is no sequence, and whether its last mark ends the sequence around it too.
+/// A type that is not a sequence, and whether its last mark ends the sequence around it too.
 #[tactic(auto, unfolding(crate::specs::Readers::base_at))]
 fn base(alloc: Global, levels: u32, tokens: &[Token]) -> Result<(TypeName, bool, &[Token]), Halt>
     requires { levels ≤ 32 }
