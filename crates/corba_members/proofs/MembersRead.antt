@@ -53,7 +53,8 @@ or_left true b e = refl
 or_left false b e = absurd cc
 
 leads_type_of : (n : ℕ) (bounds : List (Option Tree)) (b : Base) (ks : List TokenKind) → type n bounds b false ks
-    → (k : TokenKind) × (more : List TokenKind) × (ks ≡ k ∷ more) × ((word_is (codes "sequence") k || (word_is (codes "string") k || is_plain 0 k)) ≡ true)
+    → (k : TokenKind) × (more : List TokenKind) × (ks ≡ k ∷ more)
+    × ((word_is (codes "sequence") k || (word_is (codes "string") k || is_plain 0 k)) ≡ true)
 leads_type_of zero bounds b ks s = absurd s
 leads_type_of (suc n) [] b ks s = let x = leads_base (suc n) (([], b), false) ks (refl, s) in (x.0, x.1, x.2, or_right (word_is (codes "sequence") x.0) _ x.3)
 leads_type_of (suc n) (c ∷ cs) b ks s = let x = leads_word (codes "sequence") tt s.0 s.3 in (x.0, x.1 ++ s.1, s.2 ∙ ap (λ z. z ++ s.1) x.2, or_left _ _ x.3)
@@ -70,7 +71,7 @@ module _ (n : ℕ) where
   leads_dimension : Leads (dimension n) (mark_is (codes "["))
   leads_dimension d ks s = leads_behind (λ e. expression n e & mark (codes "]")) (leads_mark (codes "[")) d.length ks s
 
-  -- no further dimension stands behind it
+  -- no further dimension follows it
   abbrev pub DeclaratorMay : List Token → Type 0
   DeclaratorMay rest = has_dimension rest ≡ false
 
@@ -84,12 +85,13 @@ module _ (n : ℕ) where
   pub leads_declarator : Leads (declarator n) is_identifier
   leads_declarator d ks s = leads_both (each (dimension n)) leads_identifier (d.name, d.dimensions) ks s
 
-  -- ---- what stands after a type
+  -- ---- what follows a type
 
   after_name : (i : Identifier) (f g : List Token) → identifier i (kinds f) → begins_with is_joint g ≡ false → Closes (f ++ g)
   after_name i f g s j = let t = one_kind f (K.Name s.0) s.2.0 in let name = s.2.1 in rw (t.1, t.2, name, j) refl
 
-  dimensions_end : (ds : List Dimension) (f rest : List Token) → each (dimension n) ds (kinds f) → begins_with is_joint rest ≡ false → begins_with is_joint (f ++ rest) ≡ false
+  dimensions_end : (ds : List Dimension) (f rest : List Token) → each (dimension n) ds (kinds f) → begins_with is_joint rest ≡ false
+      → begins_with is_joint (f ++ rest) ≡ false
   dimensions_end [] [] rest s j = j
   dimensions_end [] (t ∷ f) rest s j = absurd cc
   dimensions_end (d ∷ ds) f rest s j = begins_not is_joint (leads_both (each (dimension n)) leads_dimension) apart_bracket (d, ds) f rest s
@@ -100,13 +102,16 @@ module _ (n : ℕ) where
   leads_next : Leads next_text (mark_is (codes ","))
   leads_next = leads_behind (declarator n) (leads_mark (codes ","))
 
-  declarators_end : (ds : List Declarator) (f rest : List Token) → each next_text ds (kinds f) → begins_with is_joint rest ≡ false → begins_with is_joint (f ++ rest) ≡ false
+  declarators_end : (ds : List Declarator) (f rest : List Token) → each next_text ds (kinds f) → begins_with is_joint rest ≡ false
+      → begins_with is_joint (f ++ rest) ≡ false
   declarators_end [] [] rest s j = j
   declarators_end [] (t ∷ f) rest s j = absurd cc
   declarators_end (d ∷ ds) f rest s j = begins_not is_joint (leads_both (each next_text) leads_next) apart_comma (d, ds) f rest s
 
   -- declarators, where no expression goes on after them
-  pub declarators_close : (ds : List Declarator) (front rest : List Token) → joined (codes ",") (declarator n) ds (kinds front) → begins_with is_joint rest ≡ false → Closes (front ++ rest)
+  pub declarators_close : (ds : List Declarator) (front rest : List Token)
+      → joined (codes ",") (declarator n) ds (kinds front) → begins_with is_joint rest ≡ false
+      → Closes (front ++ rest)
   declarators_close [] front rest s j = absurd s
   declarators_close (d ∷ ds) front rest s j =
       let q = parted front s.0 s.1 s.2 in

@@ -48,18 +48,21 @@ structure_of x = record { name = x.0; members = x.1 }
 
 -- a struct
 unfoldable pub structure_at : ℕ → Reader Struct
-structure_at n = mapped structure_of (behind (word_at (codes "struct")) (both identifier_at (behind (mark_at (codes "{")) (before (some_at (many is_open (member_at n))) (mark_at (codes "}"))))))
+structure_at n = mapped structure_of (behind (word_at (codes "struct"))
+    (both identifier_at (behind (mark_at (codes "{")) (before (some_at (many is_open (member_at n))) (mark_at (codes "}"))))))
 
 abbrev pub exception_of : Identifier × List Member → Exception
 exception_of x = record { name = x.0; members = x.1 }
 
 -- an exception
 unfoldable pub exception_at : ℕ → Reader Exception
-exception_at n = mapped exception_of (behind (word_at (codes "exception")) (both identifier_at (behind (mark_at (codes "{")) (before (many is_open (member_at n)) (mark_at (codes "}"))))))
+exception_at n = mapped exception_of (behind (word_at (codes "exception"))
+    (both identifier_at (behind (mark_at (codes "{")) (before (many is_open (member_at n)) (mark_at (codes "}"))))))
 
 abbrev pub enumeration_of : Identifier × List Identifier → Enum
 enumeration_of x = record { name = x.0; items = x.1 }
 
 -- an enumeration
 unfoldable pub enumeration_at : Reader Enum
-enumeration_at = mapped enumeration_of (behind (word_at (codes "enum")) (both identifier_at (behind (mark_at (codes "{")) (before (joined_at (codes ",") identifier_at) (mark_at (codes "}"))))))
+enumeration_at = mapped enumeration_of (behind (word_at (codes "enum"))
+    (both identifier_at (behind (mark_at (codes "{")) (before (joined_at (codes ",") identifier_at) (mark_at (codes "}"))))))

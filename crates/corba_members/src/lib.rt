@@ -1,6 +1,6 @@
 //! The declarators, structs and exceptions of CORBA IDL (CORBA, chapter on IDL syntax and semantics).
 //!
-//! [`structure`] and [`exception`] read one from the front of some tokens, behind its word.
+//! [`structure`] and [`exception`] read one from the beginning of some tokens, after its word.
 #![tactic(auto)]
 
 mod bodies;

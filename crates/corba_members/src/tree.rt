@@ -15,7 +15,7 @@ pub struct Dimension {
 pub struct Declarator {
     /// The name that is declared.
     pub name: Identifier,
-    /// The dimensions of an array, the outermost first; none where it is no array.
+    /// The dimensions of an array, the outermost first; none where it is not an array.
     pub dimensions: Listed<Dimension>,
 }
 
