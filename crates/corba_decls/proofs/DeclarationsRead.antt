@@ -38,7 +38,7 @@ use Rattle.corba_decls.specs.Readers.{aliased_of, aliased_at, typedef_of, typede
 use Rattle.corba_decls.proofs.TagsRead.{led_or_is, NumberMay, constant_type_is}
 use Rattle.corba_decls.proofs.UnionsRead.{union_is, leads_union}
 
--- a `;` stands after it
+-- a `;` follows it
 abbrev pub Ended : List Token → Type 0
 Ended rest = begins_with (mark_is (codes ";")) rest ≡ true
 
@@ -77,7 +77,8 @@ module _ (n : ℕ) where
   aliased_forth (inr (inr (inl _))) ks s = s
   aliased_forth (inr (inr (inr _))) ks s = s
 
-  aliased_back : (a : Aliased) (ks : List TokenKind) → aliased n a ks → (x : Struct ⊎ UnionDef ⊎ Enum ⊎ Written) × (aliased_of x ≡ a) × aliased_text x ks
+  aliased_back : (a : Aliased) (ks : List TokenKind) → aliased n a ks
+      → (x : Struct ⊎ UnionDef ⊎ Enum ⊎ Written) × (aliased_of x ≡ a) × aliased_text x ks
   aliased_back (A.Struct d) ks s = (inl d, refl, s)
   aliased_back (A.Union u) ks s = (inr (inl u), refl, s)
   aliased_back (A.Enum e) ks s = (inr (inr (inl e)), refl, s)
@@ -179,7 +180,8 @@ module _ (n : ℕ) where
   abbrev declared_text : Typedef ⊎ Struct ⊎ UnionDef ⊎ Enum ⊎ Constant ⊎ Exception → Text
   declared_text = one_of (typedef n) struct_or
 
-  declared_forth : (x : Typedef ⊎ Struct ⊎ UnionDef ⊎ Enum ⊎ Constant ⊎ Exception) (ks : List TokenKind) → declared_text x ks → declared n (declared_of x) ks
+  declared_forth : (x : Typedef ⊎ Struct ⊎ UnionDef ⊎ Enum ⊎ Constant ⊎ Exception) (ks : List TokenKind) → declared_text x ks
+      → declared n (declared_of x) ks
   declared_forth (inl _) ks s = s
   declared_forth (inr (inl _)) ks s = s
   declared_forth (inr (inr (inl _))) ks s = s
@@ -187,7 +189,8 @@ module _ (n : ℕ) where
   declared_forth (inr (inr (inr (inr (inl _))))) ks s = s
   declared_forth (inr (inr (inr (inr (inr _))))) ks s = s
 
-  declared_back : (d : Declaration) (ks : List TokenKind) → declared n d ks → (x : Typedef ⊎ Struct ⊎ UnionDef ⊎ Enum ⊎ Constant ⊎ Exception) × (declared_of x ≡ d) × declared_text x ks
+  declared_back : (d : Declaration) (ks : List TokenKind) → declared n d ks
+      → (x : Typedef ⊎ Struct ⊎ UnionDef ⊎ Enum ⊎ Constant ⊎ Exception) × (declared_of x ≡ d) × declared_text x ks
   declared_back (D.Typedef t) ks s = (inl t, refl, s)
   declared_back (D.Struct d) ks s = (inr (inl d), refl, s)
   declared_back (D.Union u) ks s = (inr (inr (inl u)), refl, s)

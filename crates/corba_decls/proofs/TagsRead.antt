@@ -25,8 +25,10 @@ use Rattle.corba_decls.specs.Readers.{word_or, led_or, number_at, tag_of, tag_ty
 
 -- ---- what begins with a word, or does not
 
-pub led_or_is : {A B : Type 0} {r : Reader A} {s : Reader B} {S : A → Text} {T : B → Text} {May : List Token → Type 0} {g : TokenKind → Bool} (w : List ℕ)
-    → IsGrammar r S May → IsGrammar s T May → Leads S (word_is w) → Leads T g → g (K.Name w) ≡ false → IsGrammar (led_or w r s) (one_of S T) May
+pub led_or_is : {A B : Type 0} {r : Reader A} {s : Reader B} {S : A → Text} {T : B → Text} {May : List Token → Type 0}
+    {g : TokenKind → Bool} (w : List ℕ)
+    → IsGrammar r S May → IsGrammar s T May → Leads S (word_is w) → Leads T g → g (K.Name w) ≡ false
+    → IsGrammar (led_or w r s) (one_of S T) May
 led_or_is {g = g} w p q l m apart = either_is (begins_with (word_is w)) p q
     (λ a front rest s may. begins_so l a front rest s)
     (λ b front rest s may. begins_not (word_is w) m (apart_word g w apart) b front rest s)
@@ -37,7 +39,7 @@ word_or_is w p l apart = led_or_is w (weaker (word_reads w) (λ rest may. tt)) p
 
 -- ---- an integer type or a name
 
--- no further `long` stands after it, and no `::`
+-- no further `long` follows it, and no `::`
 abbrev pub NumberMay : List Token → Type 0
 NumberMay rest = (begins_with (word_is (codes "long")) rest ≡ false) × (begins_with (mark_is (codes "::")) rest ≡ false)
 
@@ -110,13 +112,15 @@ leads_octet_or = leads_either (leads_word (codes "octet")) leads_string_or
 abbrev truth_or : Unit {0} ⊎ Unit {0} ⊎ Unit {0} ⊎ Int ⊎ ScopedName → Text
 truth_or = one_of (λ _. word (codes "boolean")) octet_or
 
-leads_truth_or : Leads truth_or (λ k. word_is (codes "boolean") k || (word_is (codes "octet") k || (word_is (codes "string") k || is_number k)))
+leads_truth_or : Leads truth_or
+    (λ k. word_is (codes "boolean") k || (word_is (codes "octet") k || (word_is (codes "string") k || is_number k)))
 leads_truth_or = leads_either (leads_word (codes "boolean")) leads_octet_or
 
 abbrev constant_text : Unit {0} ⊎ Unit {0} ⊎ Unit {0} ⊎ Unit {0} ⊎ Int ⊎ ScopedName → Text
 constant_text = one_of (λ _. word (codes "char")) truth_or
 
-constant_forth : (x : Unit {0} ⊎ Unit {0} ⊎ Unit {0} ⊎ Unit {0} ⊎ Int ⊎ ScopedName) (ks : List TokenKind) → constant_text x ks → constant_type (constant_type_of x) ks
+constant_forth : (x : Unit {0} ⊎ Unit {0} ⊎ Unit {0} ⊎ Unit {0} ⊎ Int ⊎ ScopedName) (ks : List TokenKind) → constant_text x ks
+    → constant_type (constant_type_of x) ks
 constant_forth (inl _) ks s = s
 constant_forth (inr (inl _)) ks s = s
 constant_forth (inr (inr (inl _))) ks s = s
@@ -124,7 +128,8 @@ constant_forth (inr (inr (inr (inl _)))) ks s = s
 constant_forth (inr (inr (inr (inr (inl i))))) ks s = s
 constant_forth (inr (inr (inr (inr (inr n))))) ks s = s
 
-constant_back : (c : ConstantType) (ks : List TokenKind) → constant_type c ks → (x : Unit {0} ⊎ Unit {0} ⊎ Unit {0} ⊎ Unit {0} ⊎ Int ⊎ ScopedName) × (constant_type_of x ≡ c) × constant_text x ks
+constant_back : (c : ConstantType) (ks : List TokenKind) → constant_type c ks
+    → (x : Unit {0} ⊎ Unit {0} ⊎ Unit {0} ⊎ Unit {0} ⊎ Int ⊎ ScopedName) × (constant_type_of x ≡ c) × constant_text x ks
 constant_back C.Char ks s = (inl tt, refl, s)
 constant_back C.Boolean ks s = (inr (inl tt), refl, s)
 constant_back C.Octet ks s = (inr (inr (inl tt)), refl, s)

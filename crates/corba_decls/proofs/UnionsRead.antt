@@ -91,7 +91,8 @@ module _ (n : ℕ) where
   named_closes : (d : Declarator) (front rest : List Token) → named d (kinds front) → Closes (front ++ rest)
   named_closes d front rest s = declared_closes n (d ∷ []) front rest (s.0, s.1, s.2, unit_right_back (declarator n d) s.0 s.3, s.4)
 
-  no_label : (x : (List (Option Tree) × Base) × Declarator) (front rest : List Token) → element x (kinds front) → has_label (front ++ rest) ≡ false
+  no_label : (x : (List (Option Tree) × Base) × Declarator) (front rest : List Token) → element x (kinds front)
+      → has_label (front ++ rest) ≡ false
   no_label x front rest s = begins_not is_label (leads_both named (leads_type n))
       (apart_or is_type (word_is (codes "case")) (word_is (codes "default")) (apart_word is_type (codes "case") refl) (apart_word is_type (codes "default") refl)) x front rest s
 

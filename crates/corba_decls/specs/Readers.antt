@@ -66,7 +66,9 @@ label_of (inr _) = L.Default
 
 -- a label
 unfoldable pub label_at : ℕ → Reader Label
-label_at n = mapped label_of (led_or (codes "case") (behind (word_at (codes "case")) (before (expression_at n false) (mark_at (codes ":")))) (behind (word_at (codes "default")) (mark_at (codes ":"))))
+label_at n = mapped label_of (led_or (codes "case")
+    (behind (word_at (codes "case")) (before (expression_at n false) (mark_at (codes ":"))))
+    (behind (word_at (codes "default")) (mark_at (codes ":"))))
 
 -- whether a token begins a label
 abbrev pub is_label : TokenKind → Bool
@@ -81,15 +83,17 @@ case_of x = record { labels = x.0; of = x.1.0; declarator = x.1.1 }
 
 -- a case
 unfoldable pub case_at : ℕ → Reader Case
-case_at n = mapped case_of (both (some_at (many has_label (label_at n))) (both (type_at n) (before (declarator_at n) (mark_at (codes ";")))))
+case_at n = mapped case_of
+    (both (some_at (many has_label (label_at n))) (both (type_at n) (before (declarator_at n) (mark_at (codes ";")))))
 
 abbrev pub union_of : Identifier × (Tag × List Case) → Union
 union_of x = record { name = x.0; tag = x.1.0; cases = x.1.1 }
 
 -- a union
 unfoldable pub union_at : ℕ → Reader Union
-union_at n = mapped union_of (behind (word_at (codes "union")) (both identifier_at (behind (word_at (codes "switch")) (behind (mark_at (codes "("))
-    (both (tag_at (n - 1)) (behind (mark_at (codes ")")) (behind (mark_at (codes "{")) (before (some_at (many is_open (case_at n))) (mark_at (codes "}"))))))))))
+union_at n = mapped union_of (behind (word_at (codes "union")) (both identifier_at
+    (behind (word_at (codes "switch")) (behind (mark_at (codes "(")) (both (tag_at (n - 1)) (behind (mark_at (codes ")"))
+    (behind (mark_at (codes "{")) (before (some_at (many is_open (case_at n))) (mark_at (codes "}"))))))))))
 
 -- ---- typedefs
 
@@ -101,7 +105,8 @@ aliased_of (inr (inr (inr t))) = A.Type t
 
 -- what a typedef gives names to
 unfoldable pub aliased_at : ℕ → Reader Aliased
-aliased_at n = mapped aliased_of (led_or (codes "struct") (structure_at n) (led_or (codes "union") (union_at n) (led_or (codes "enum") enumeration_at (type_at n))))
+aliased_at n = mapped aliased_of (led_or (codes "struct") (structure_at n)
+    (led_or (codes "union") (union_at n) (led_or (codes "enum") enumeration_at (type_at n))))
 
 abbrev pub typedef_of : Aliased × List Declarator → Typedef
 typedef_of x = record { of = x.0; declarators = x.1 }
@@ -122,14 +127,16 @@ constant_type_of (inr (inr (inr (inr (inr n))))) = C.Named n
 
 -- the type of a constant
 unfoldable pub constant_type_at : Reader ConstantType
-constant_type_at = mapped constant_type_of (word_or (codes "char") (word_or (codes "boolean") (word_or (codes "octet") (word_or (codes "string") number_at))))
+constant_type_at = mapped constant_type_of
+    (word_or (codes "char") (word_or (codes "boolean") (word_or (codes "octet") (word_or (codes "string") number_at))))
 
 abbrev pub constant_of : ConstantType × (Identifier × Tree) → Constant
 constant_of x = record { of = x.0; name = x.1.0; value = x.1.1 }
 
 -- a constant
 unfoldable pub constant_at : ℕ → Reader Constant
-constant_at n = mapped constant_of (behind (word_at (codes "const")) (both constant_type_at (both identifier_at (behind (mark_at (codes "=")) (expression_at n false)))))
+constant_at n = mapped constant_of (behind (word_at (codes "const"))
+    (both constant_type_at (both identifier_at (behind (mark_at (codes "=")) (expression_at n false)))))
 
 -- ---- declarations
 
@@ -158,4 +165,5 @@ declaration_at (suc n) ts = declared_at (suc n) ts
 -- whether a token begins a declaration
 abbrev pub is_declaration : TokenKind → Bool
 is_declaration k =
-    word_is (codes "typedef") k || (word_is (codes "struct") k || (word_is (codes "union") k || (word_is (codes "enum") k || (word_is (codes "const") k || word_is (codes "exception") k))))
+    word_is (codes "typedef") k || (word_is (codes "struct") k || (word_is (codes "union") k
+    || (word_is (codes "enum") k || (word_is (codes "const") k || word_is (codes "exception") k))))

@@ -42,7 +42,8 @@ case n c = some (label n) c.labels & type n c.of.0 c.of.1 false & declarator n c
 
 -- union = "union" identifier "switch" "(" tag ")" "{" case { case } "}", whose tag has one level more
 abbrev pub union : ℕ → Union → Text
-union n u = word (codes "union") & identifier u.name & word (codes "switch") & mark (codes "(") & tag (n - 1) u.tag & mark (codes ")") & mark (codes "{") & some (case n) u.cases & mark (codes "}")
+union n u = word (codes "union") & identifier u.name & word (codes "switch") & mark (codes "(") & tag (n - 1) u.tag
+    & mark (codes ")") & mark (codes "{") & some (case n) u.cases & mark (codes "}")
 
 -- aliased = type | struct | union | enum
 abbrev pub aliased : ℕ → Aliased → Text

@@ -6,5 +6,6 @@ ghost use Rattle.corba_decls.specs.declared.tree.Declaration.{Declaration};
 
 /// Tokens are those of at most one declaration.
 pub fn one_declaration()
-    ensures { (levels : ℕ) (a b : Declaration) (tokens : List TokenKind) → declaration levels a tokens → declaration levels b tokens → a ≡ b }
+    ensures { (levels : ℕ) (a b : Declaration) (tokens : List TokenKind) → declaration levels a tokens
+        → declaration levels b tokens → a ≡ b }
 {}

@@ -1,7 +1,7 @@
 //! The declarations of CORBA IDL (CORBA, chapter on IDL syntax and semantics): typedefs, structs,
 //! unions, enumerations, constants and exceptions.
 //!
-//! [`declaration`] reads one from the front of some tokens; [`Declaration`] is its tree.
+//! [`declaration`] reads one from the beginning of some tokens; [`Declaration`] is its tree.
 #![tactic(auto)]
 
 mod declarations;
