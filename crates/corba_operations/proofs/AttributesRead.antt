@@ -24,7 +24,7 @@ use Rattle.corba_operations.specs.Spelling.{type_text, attribute}
 use Rattle.corba_operations.specs.Readers.{is_attribute, attribute_of, attribute_at}
 use Rattle.corba_operations.proofs.PartsRead.{word_flag_reads}
 
--- ---- what a type begins with, and what stands after it
+-- ---- what a type begins with, and what follows it
 
 or_right : (a b : Bool) → b ≡ true → (a || b) ≡ true
 or_right true b e = refl
@@ -43,7 +43,7 @@ leads_type_of (suc n) (c ∷ cs) b ks s = let x = leads_word (codes "sequence") 
 pub leads_type : (n : ℕ) → Leads (type_text n) is_type
 leads_type n v ks s = leads_type_of n v.0 v.1 ks s
 
--- a type may stand before an identifier that no expression goes on with
+-- a type may come before an identifier that no expression goes on with
 pub after_name : (i : Identifier) (f g : List Token) → identifier i (kinds f) → begins_with is_joint g ≡ false → Closes (f ++ g)
 after_name i f g s j = let t = one_kind f (K.Name s.0) s.2.0 in let name = s.2.1 in rw (t.1, t.2, name, j) refl
 
@@ -55,12 +55,15 @@ apart_comma k e = let is = mark_named (codes ",") k e in rw is refl
 abbrev next_name : Identifier → Text
 next_name i = mark (codes ",") & identifier i
 
-names_end : (is : List Identifier) (f rest : List Token) → each next_name is (kinds f) → begins_with is_joint rest ≡ false → begins_with is_joint (f ++ rest) ≡ false
+names_end : (is : List Identifier) (f rest : List Token) → each next_name is (kinds f) → begins_with is_joint rest ≡ false
+    → begins_with is_joint (f ++ rest) ≡ false
 names_end [] [] rest s j = j
 names_end [] (t ∷ f) rest s j = absurd cc
 names_end (i ∷ is) f rest s j = begins_not is_joint (leads_both (each next_name) (leads_behind identifier (leads_mark (codes ",")))) apart_comma (i, is) f rest s
 
-names_close : (is : List Identifier) (front rest : List Token) → joined (codes ",") identifier is (kinds front) → begins_with is_joint rest ≡ false → Closes (front ++ rest)
+names_close : (is : List Identifier) (front rest : List Token) → joined (codes ",") identifier is (kinds front)
+    → begins_with is_joint rest ≡ false
+    → Closes (front ++ rest)
 names_close [] front rest s j = absurd s
 names_close (i ∷ is) front rest s j =
     let p = parted front s.0 s.1 s.2 in
@@ -68,7 +71,7 @@ names_close (i ∷ is) front rest s j =
     let here = after_name i p.0 (p.1 ++ rest) (subst (identifier i) (sym p.3) s.3) others in
     subst Closes (sym (ap (λ z. z ++ rest) p.2 ∙ append_assoc p.0 p.1 rest)) here
 
--- no further name stands behind attributes, and nothing that goes on with an expression
+-- no further name follows attributes, and nothing that goes on with an expression
 abbrev pub AttributeMay : List Token → Type 0
 AttributeMay rest = (begins_with (mark_is (codes ",")) rest ≡ false) × (begins_with is_joint rest ≡ false)
 

@@ -61,13 +61,14 @@ closing_bracket front rest s = (
   ),
 )
 
-closing_names : (front rest : List Token) → mark (codes ")") (kinds front) → (begins_with (mark_is (codes ",")) (front ++ rest) ≡ false) × NameMay (front ++ rest)
+closing_names : (front rest : List Token) → mark (codes ")") (kinds front)
+    → (begins_with (mark_is (codes ",")) (front ++ rest) ≡ false) × NameMay (front ++ rest)
 closing_names front rest s = (
   begins_not (mark_is (codes ",")) (leads_mark (codes ")")) (apart_mark (mark_is (codes ")")) (codes ",") refl) tt front rest s,
   begins_not (mark_is (codes "::")) (leads_mark (codes ")")) (apart_mark (mark_is (codes ")")) (codes "::") refl) tt front rest s,
 )
 
--- no exceptions stand behind an operation
+-- no exceptions follow an operation
 abbrev pub OperationMay : List Token → Type 0
 OperationMay rest = begins_with (word_is (codes "raises")) rest ≡ false
 
@@ -120,7 +121,8 @@ module _ (n : ℕ) where
   result_forth (inl _) ks s = s
   result_forth (inr t) ks s = s
 
-  result_back : (r : Option (List (Option Tree) × Base)) (ks : List TokenKind) → result n r ks → (x : Unit {0} ⊎ (List (Option Tree) × Base)) × (result_of x ≡ r) × result_text x ks
+  result_back : (r : Option (List (Option Tree) × Base)) (ks : List TokenKind) → result n r ks
+      → (x : Unit {0} ⊎ (List (Option Tree) × Base)) × (result_of x ≡ r) × result_text x ks
   result_back None ks s = (inl tt, refl, s)
   result_back (Some t) ks s = (inr t, refl, s)
 
@@ -152,7 +154,8 @@ module _ (n : ℕ) where
   abbrev named_text : Identifier × (List Parameter × List Reference) → Text
   named_text x = identifier x.0 & tail_text x.1
 
-  named_closes : (x : Identifier × (List Parameter × List Reference)) (front rest : List Token) → named_text x (kinds front) → Closes (front ++ rest)
+  named_closes : (x : Identifier × (List Parameter × List Reference)) (front rest : List Token) → named_text x (kinds front)
+      → Closes (front ++ rest)
   named_closes x front rest s =
       let p = parted front s.0 s.1 s.2 in
       let others = begins_not is_joint leads_tail apart_open x.1 p.1 rest (subst (tail_text x.1) (sym p.4) s.4) in

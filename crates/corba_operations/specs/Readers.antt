@@ -52,7 +52,8 @@ attribute_of x = record { readonly = x.0; of = x.1.0; names = x.1.1 }
 
 -- attributes
 unfoldable pub attribute_at : ℕ → Reader Attribute
-attribute_at n = mapped attribute_of (both (flag_at (word_is (codes "readonly"))) (behind (word_at (codes "attribute")) (both (type_at n) (joined_at (codes ",") identifier_at))))
+attribute_at n = mapped attribute_of (both (flag_at (word_is (codes "readonly")))
+    (behind (word_at (codes "attribute")) (both (type_at n) (joined_at (codes ",") identifier_at))))
 
 -- ---- operations
 
@@ -77,11 +78,13 @@ parameter_at n = mapped parameter_of (both (token_at direction_in) (both (type_a
 
 -- the parameters in their parentheses
 unfoldable pub parameters_at : ℕ → Reader (List Parameter)
-parameters_at n = behind (mark_at (codes "(")) (before (any_at (begins_other (mark_is (codes ")"))) (joined_at (codes ",") (parameter_at n))) (mark_at (codes ")")))
+parameters_at n = behind (mark_at (codes "("))
+    (before (any_at (begins_other (mark_is (codes ")"))) (joined_at (codes ",") (parameter_at n))) (mark_at (codes ")")))
 
 -- the exceptions that are raised
 unfoldable pub raises_at : ℕ → Reader (List Reference)
-raises_at n = any_at (begins_with (word_is (codes "raises"))) (behind (word_at (codes "raises")) (behind (mark_at (codes "(")) (before (joined_at (codes ",") (reference_at n)) (mark_at (codes ")")))))
+raises_at n = any_at (begins_with (word_is (codes "raises"))) (behind (word_at (codes "raises"))
+    (behind (mark_at (codes "(")) (before (joined_at (codes ",") (reference_at n)) (mark_at (codes ")")))))
 
 abbrev pub result_of : Unit {0} ⊎ Type' → Option Type'
 result_of (inl _) = None
@@ -96,4 +99,5 @@ operation_of x = record { oneway = x.0; result = x.1.0; name = x.1.1.0; paramete
 
 -- an operation
 unfoldable pub operation_at : ℕ → Reader Operation
-operation_at n = mapped operation_of (both (flag_at (word_is (codes "oneway"))) (both (result_at n) (both identifier_at (both (parameters_at (n - 1)) (raises_at (n - 1))))))
+operation_at n = mapped operation_of (both (flag_at (word_is (codes "oneway")))
+    (both (result_at n) (both identifier_at (both (parameters_at (n - 1)) (raises_at (n - 1))))))

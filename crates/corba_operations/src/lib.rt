@@ -1,6 +1,6 @@
 //! The attributes and operations of CORBA IDL (CORBA, chapter on IDL syntax and semantics).
 //!
-//! [`attribute`] and [`operation`] read one from the front of some tokens.
+//! [`attribute`] and [`operation`] read one from the beginning of some tokens.
 #![tactic(auto)]
 
 mod attributes;
