@@ -42,8 +42,10 @@ is_member k = is_attribute k || is_operation k
 apart_attribute : Apart is_operation is_attribute
 apart_attribute = apart_or is_operation (word_is (codes "readonly")) (word_is (codes "attribute")) (apart_word is_operation (codes "readonly") refl) (apart_word is_operation (codes "attribute") refl)
 
-apart_words_of : (g : TokenKind → Bool) → Apart g (word_is (codes "typedef")) → Apart g (word_is (codes "struct")) → Apart g (word_is (codes "union")) → Apart g (word_is (codes "enum"))
-    → Apart g (word_is (codes "const")) → Apart g (word_is (codes "exception")) → Apart g is_declaration
+apart_words_of : (g : TokenKind → Bool) → Apart g (word_is (codes "typedef")) → Apart g (word_is (codes "struct"))
+    → Apart g (word_is (codes "union")) → Apart g (word_is (codes "enum")) → Apart g (word_is (codes "const"))
+    → Apart g (word_is (codes "exception"))
+    → Apart g is_declaration
 apart_words_of g a b c d e f k h = let p = a k h in let q = b k h in let r = c k h in let s = d k h in let t = e k h in let u = f k h in rw (p, q, r, s, t, u) refl
 
 apart_declaration : Apart is_member is_declaration
@@ -66,7 +68,8 @@ module _ (n : ℕ) where
   exported_forth (inr (inl a)) ks s = s
   exported_forth (inr (inr o)) ks s = s
 
-  exported_back : (e : Export) (ks : List TokenKind) → exported n e ks → (x : Declaration ⊎ Attribute ⊎ Operation) × (exported_of x ≡ e) × exported_text x ks
+  exported_back : (e : Export) (ks : List TokenKind) → exported n e ks
+      → (x : Declaration ⊎ Attribute ⊎ Operation) × (exported_of x ≡ e) × exported_text x ks
   exported_back (E.Declaration d) ks s = (inl d, refl, s)
   exported_back (E.Attribute a) ks s = (inr (inl a), refl, s)
   exported_back (E.Operation o) ks s = (inr (inr o), refl, s)

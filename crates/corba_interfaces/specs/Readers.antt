@@ -22,7 +22,8 @@ exported_of (inr (inr o)) = E.Operation o
 
 -- what is declared
 unfoldable pub exported_at : ℕ → Reader Export
-exported_at n = mapped exported_of (either (begins_with is_declaration) (declaration_at n) (either (begins_with is_attribute) (attribute_at n) (operation_at n)))
+exported_at n = mapped exported_of
+    (either (begins_with is_declaration) (declaration_at n) (either (begins_with is_attribute) (attribute_at n) (operation_at n)))
 
 -- what is declared, and its end
 unfoldable pub export_at : ℕ → Reader Export

@@ -1,6 +1,6 @@
 //! The interfaces of CORBA IDL (CORBA, chapter on IDL syntax and semantics, "Interface declaration").
 //!
-//! [`interface`] reads one from the front of some tokens; [`Interface`] is its tree.
+//! [`interface`] reads one from the beginning of some tokens; [`Interface`] is its tree.
 #![tactic(auto)]
 
 mod exports;
