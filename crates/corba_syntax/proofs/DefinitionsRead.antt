@@ -52,10 +52,12 @@ is_definition k = word_is (codes "module") k || (word_is (codes "interface") k |
 abbrev parts_text : (Definition → Text) → Identifier × List Definition → Text
 parts_text inner x = word (codes "module") & (identifier x.0 & (mark (codes "{") & (each inner x.1 & end_text)))
 
-parts_forth : (inner : Definition → Text) (x : Identifier × List Definition) (ks : List TokenKind) → parts_text inner x ks → module_text inner (module_of x) ks
+parts_forth : (inner : Definition → Text) (x : Identifier × List Definition) (ks : List TokenKind) → parts_text inner x ks
+    → module_text inner (module_of x) ks
 parts_forth inner x ks s = subst (λ z. (word (codes "module") & identifier z.name & mark (codes "{") & each inner z.definitions & end_text) ks) (sym (out-roll-Module (record { name = x.0; definitions = x.1 }))) s
 
-parts_back : (inner : Definition → Text) (m : Module) (ks : List TokenKind) → module_text inner m ks → (x : Identifier × List Definition) × (module_of x ≡ m) × parts_text inner x ks
+parts_back : (inner : Definition → Text) (m : Module) (ks : List TokenKind) → module_text inner m ks
+    → (x : Identifier × List Definition) × (module_of x ≡ m) × parts_text inner x ks
 parts_back inner m ks s = (((out-Module m).name, (out-Module m).definitions), roll-out-Module m, s)
 
 module _ (n : ℕ) (g : IsGrammar (definition_at n) (definition n) Any) (leads : Leads (definition n) is_definition) where
@@ -90,7 +92,8 @@ module _ (n : ℕ) (g : IsGrammar (definition_at n) (definition n) Any) (leads :
   shape_forth (inr (inl i)) ks s = subst (λ z. one_text z ks) (sym (V.outs-Interface i)) s
   shape_forth (inr (inr d)) ks s = subst (λ z. one_text z ks) (sym (V.outs-Declaration d)) s
 
-  shape_back : (d : Definition) (ks : List TokenKind) → definition (suc n) d ks → (x : Module ⊎ Interface ⊎ Declaration) × (definition_of x ≡ d) × shape_text x ks
+  shape_back : (d : Definition) (ks : List TokenKind) → definition (suc n) d ks
+      → (x : Module ⊎ Interface ⊎ Declaration) × (definition_of x ≡ d) × shape_text x ks
   shape_back d ks s = go (out-Definition d) (roll-out-Definition d) s where
     go : (f : Definition-F Definition Module) → roll-Definition f ≡ d → one_text f ks → (x : Module ⊎ Interface ⊎ Declaration) × (definition_of x ≡ d) × shape_text x ks
     go (Definition-F.Module m) is t = (inl m, sym (V.rolls-Module m) ∙ is, t)

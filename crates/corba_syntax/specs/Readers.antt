@@ -26,7 +26,8 @@ module_of x = roll-Module (record { name = x.0; definitions = x.1 })
 
 -- a module, over the reader of a definition in it
 abbrev pub module_at : Reader Definition → Reader Module
-module_at inner = mapped module_of (behind (word_at (codes "module")) (both identifier_at (behind (mark_at (codes "{")) (before (many is_open inner) (behind (mark_at (codes "}")) (mark_at (codes ";")))))))
+module_at inner = mapped module_of (behind (word_at (codes "module")) (both identifier_at
+    (behind (mark_at (codes "{")) (before (many is_open inner) (behind (mark_at (codes "}")) (mark_at (codes ";")))))))
 
 abbrev pub definition_of : Module ⊎ Interface ⊎ Declaration → Definition
 definition_of (inl m) = V.Module m
@@ -35,7 +36,8 @@ definition_of (inr (inr d)) = V.Declaration d
 
 -- a definition, over the reader of a definition in it
 abbrev pub definition_by : Reader Definition → ℕ → Reader Definition
-definition_by inner n = mapped definition_of (either (begins_with (word_is (codes "module"))) (module_at inner) (either (begins_with (word_is (codes "interface"))) (interface_at n) (declared_at n)))
+definition_by inner n = mapped definition_of (either (begins_with (word_is (codes "module"))) (module_at inner)
+    (either (begins_with (word_is (codes "interface"))) (interface_at n) (declared_at n)))
 
 -- a definition within so many levels
 abbrev pub definition_at : ℕ → Reader Definition

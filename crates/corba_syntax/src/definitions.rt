@@ -22,7 +22,7 @@ fn declared(alloc: Global, levels: u32, tokens: &[Token]) -> Result<(Declaration
     Ok((item, rest))
 }
 
-/// As many definitions within so many levels as stand before a `}`.
+/// As many definitions within so many levels as come before a `}`.
 #[cycle(definition)]
 fn definitions(
     alloc: Global,
@@ -68,7 +68,8 @@ fn module(alloc: Global, below: u32, tokens: &[Token]) -> Result<(Module, &[Toke
 #[cycle(definition)]
 fn above(alloc: Global, below: u32, tokens: &[Token]) -> Result<(Definition, &[Token]), Halt>
     requires { below < 32 }
-    ensures { Gives (λ x. (x.0, x.1.now)) result (definition_by (definition_at below) (below + 1) tokens.now) }
+    ensures { Gives (λ x. (x.0, x.1.now)) result
+        (definition_by (definition_at below) (below + 1) tokens.now) }
 {
     if begins(tokens, b"module") {
         let (item, rest) = module(alloc, below, tokens)?;

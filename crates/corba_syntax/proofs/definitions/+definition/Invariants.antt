@@ -5,7 +5,8 @@ use Rattle.corba_syntax.specs.Readers.{is_open, definition_at}
 use Rattle.corba_syntax.proofs.definitions.+definition.Given as goal
 
 abbrev pub invariant-definitions-items : goal.invariant-definitions-items
-invariant-definitions-items l = Left is_open (definition_at l.levels) (length l.tokens - l.counter) l.items l.rest (many is_open (definition_at l.levels) l.fn.tokens)
+invariant-definitions-items l = Left is_open (definition_at l.levels) (length l.tokens - l.counter) l.items l.rest
+    (many is_open (definition_at l.levels) l.fn.tokens)
 
 abbrev pub decreases-definition : goal.decreases-definition
 decreases-definition l = 4 * l.levels
