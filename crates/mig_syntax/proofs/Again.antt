@@ -14,7 +14,7 @@ use Rattle.mig_syntax.specs.Trees.{Tree, leaf, binary}
 use Rattle.mig_syntax.specs.Spelling.{binary_spell, looseness, within}
 use Rattle.mig_syntax.specs.Readers.{Levelled, binary_in, operator_at, over, chain_on, climb, primary_at, within_at}
 
--- what may stand after an expression: no operator that binds less loosely
+-- what may follow an expression: no operator that binds less loosely
 abbrev pub May : ℕ → List Token → Type 0
 May loose rest = (d : ℕ) → d < loose → operator_at d rest ≡ None
 
@@ -27,15 +27,16 @@ binary_back B.Sub = refl
 binary_back B.Mul = refl
 binary_back B.Div = refl
 
--- the operator that stands there is read
-operator_again : (op : Operator) (t : Token) (rest : List Token) → t.kind ≡ K.Mark (binary_spell op) → operator_at (looseness op) (t ∷ rest) ≡ Some op
+-- the operator that is there is read
+operator_again : (op : Operator) (t : Token) (rest : List Token) → t.kind ≡ K.Mark (binary_spell op)
+    → operator_at (looseness op) (t ∷ rest) ≡ Some op
 operator_again op t rest k = let same : (looseness op == looseness op) ≡ true = eq-eqb (looseness op) (looseness op) refl in rw (k, binary_back op, same) refl
 
 -- and is none that binds otherwise
 before_operator : (op : Operator) (t : Token) (rest : List Token) → t.kind ≡ K.Mark (binary_spell op) → May (looseness op) (t ∷ rest)
 before_operator op t rest k = λ d lt. let other : (looseness op == d) ≡ false = ne_eqb (looseness op) d (omega (arith, lt)) in rw (k, binary_back op, other) refl
 
--- what follows what stands in parentheses
+-- what follows what is in parentheses
 before_close : (t : Token) (rest : List Token) → t.kind ≡ K.Mark (codes ")") → May 2 (t ∷ rest)
 before_close t rest k = λ d lt. rw k refl
 
@@ -59,7 +60,8 @@ Chains n d = (t : Tree) (front rest : List Token) (m : ℕ) → n ≤ suc m → 
 module _ (n : ℕ) (reads : Reads n) (chains : (d : ℕ) → Chains n d) where
   -- ---- operands
 
-  by_number : (l : ℤ) (front rest : List Token) (m : ℕ) → number l (kinds front) → primary_at (within_at m) (front ++ rest) ≡ Some ((leaf l, 1), rest)
+  by_number : (l : ℤ) (front rest : List Token) (m : ℕ) → number l (kinds front)
+      → primary_at (within_at m) (front ++ rest) ≡ Some ((leaf l, 1), rest)
   by_number l front rest m s =
       let no_open = begins_not (mark_is (codes "(")) leads_number (apart_mark is_number (codes "(") refl) l front rest s in
       rw (no_open, number_reads.again l front rest s tt) refl
@@ -88,7 +90,8 @@ module _ (n : ℕ) (reads : Reads n) (chains : (d : ℕ) → Chains n d) where
   climbs_first (binary op a b) front rest m le (inl s) may = absurd (omega (arith, s.0))
 
   -- an operand whose operators bind less loosely
-  tighter_chain : (d : ℕ) → Climbs (suc n) d → (t : Tree) (front rest : List Token) (m : ℕ) → suc n ≤ suc m → within (suc n) d t (kinds front) → May d rest
+  tighter_chain : (d : ℕ) → Climbs (suc n) d → (t : Tree) (front rest : List Token) (m : ℕ) → suc n ≤ suc m
+      → within (suc n) d t (kinds front) → May d rest
       → (h : ℕ) × (left : ℕ) × (h ≤ suc n) × (suc (suc m) ≤ left + suc n)
       × (climb (within_at m) m (suc d) (front ++ rest) ≡ chain_on (within_at m d) (operator_at d) (suc m) left (t, h) rest)
   tighter_chain d climbs t front rest m le s may =
@@ -98,8 +101,8 @@ module _ (n : ℕ) (reads : Reads n) (chains : (d : ℕ) → Chains n d) where
   -- an operator that binds just so loosely
   one_more : (op : Operator) (a b : Tree) (front rest : List Token) (m : ℕ) → suc n ≤ suc m
       → (within n (suc (looseness op)) a & mark (binary_spell op) & within n (looseness op) b) (kinds front) → May (looseness op) rest
-      → (h : ℕ) × (left : ℕ) × (h ≤ suc n) × (suc (suc m) ≤ left + suc n)
-      × (climb (within_at m) m (suc (looseness op)) (front ++ rest) ≡ chain_on (within_at m (looseness op)) (operator_at (looseness op)) (suc m) left (binary op a b, h) rest)
+      → (h : ℕ) × (left : ℕ) × (h ≤ suc n) × (suc (suc m) ≤ left + suc n) × (climb (within_at m) m (suc (looseness op)) (front ++ rest)
+      ≡ chain_on (within_at m (looseness op)) (operator_at (looseness op)) (suc m) left (binary op a b, h) rest)
   one_more op a b front rest m le s may =
       let d = looseness op in
       let p = parted front s.0 s.1 s.2 in
@@ -150,6 +153,7 @@ all : (n : ℕ) → Reads n × ((d : ℕ) → Chains n d)
 all zero = ((λ loose t front rest m le s may. absurd s), (λ d t front rest m le s may. absurd s))
 all (suc n) = let a = all n in (reads_next n a.0 a.1, λ d. chains_at n a.0 a.1 d (climbs_all n a.0 a.1 d))
 
-pub within_again : (n : ℕ) (loose : ℕ) (t : Tree) (front rest : List Token) (m : ℕ) → n ≤ m → within n loose t (kinds front) → May loose rest
+pub within_again : (n : ℕ) (loose : ℕ) (t : Tree) (front rest : List Token) (m : ℕ) → n ≤ m
+    → within n loose t (kinds front) → May loose rest
     → (h : ℕ) × (h ≤ n) × (within_at m loose (front ++ rest) ≡ Some ((t, h), rest))
 within_again n = (all n).0

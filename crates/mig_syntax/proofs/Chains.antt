@@ -9,13 +9,14 @@ use Rattle.syntax_kit.specs.Reading.{Read, Reader, Fails}
 use Rattle.mig_syntax.specs.Trees.{Tree, binary}
 use Rattle.mig_syntax.specs.Readers.{Levelled, over, chain_on, climb, operator_at}
 
-pub begins : (operand : ℕ → Reader Levelled) (below more : ℕ) (loose d : ℕ) (ts : List Token) (x : Levelled) (us : List Token) → loose ≡ suc d → more ≡ suc below
-    → climb operand below d ts ≡ Some (x, us) → climb operand below loose ts ≡ chain_on (operand d) (operator_at d) (suc below) more x us
+pub begins : (operand : ℕ → Reader Levelled) (below more : ℕ) (loose d : ℕ) (ts : List Token) (x : Levelled) (us : List Token)
+    → loose ≡ suc d → more ≡ suc below → climb operand below d ts ≡ Some (x, us)
+    → climb operand below loose ts ≡ chain_on (operand d) (operator_at d) (suc below) more x us
 begins operand below more loose d ts x us is all e = rw (is, all, e) refl
 
-module _ (operand : Reader Levelled) (op : List Token → Option Operator) (levels more left : ℕ) (x : Levelled) (ts : List Token) (whole : Read Levelled)
-    (so : whole ≡ chain_on operand op levels more x ts) (some : more ≡ suc left) (o : Operator) (goes : op ts ≡ Some o)
-    (next : List Token) (next_is : next ≡ drop 1 ts) where
+module _ (operand : Reader Levelled) (op : List Token → Option Operator) (levels more left : ℕ) (x : Levelled)
+    (ts : List Token) (whole : Read Levelled) (so : whole ≡ chain_on operand op levels more x ts) (some : more ≡ suc left)
+    (o : Operator) (goes : op ts ≡ Some o) (next : List Token) (next_is : next ≡ drop 1 ts) where
   none : operand next ≡ None → whole ≡ None
   none e = so ∙ rw (some, goes, sym next_is, e) refl
 
@@ -26,15 +27,20 @@ module _ (operand : Reader Levelled) (op : List Token → Option Operator) (leve
   pub too_high : (y : Levelled) (us : List Token) → operand next ≡ Some (y, us) → nat_le (over o x y).1 levels ≡ false → whole ≡ None
   too_high y us e high = so ∙ rw (some, goes, sym next_is, e, high) refl
 
-  pub goes_on : (y : Levelled) (us : List Token) → operand next ≡ Some (y, us) → nat_le (over o x y).1 levels ≡ true → whole ≡ chain_on operand op levels left (over o x y) us
+  pub goes_on : (y : Levelled) (us : List Token) → operand next ≡ Some (y, us) → nat_le (over o x y).1 levels ≡ true
+      → whole ≡ chain_on operand op levels left (over o x y) us
   goes_on y us e low = so ∙ rw (some, goes, sym next_is, e, low) refl
 
-pub stays : (operand : Reader Levelled) (op : List Token → Option Operator) (levels more left : ℕ) (x : Levelled) (ts : List Token) (whole : Read Levelled)
-    → whole ≡ chain_on operand op levels more x ts → more ≡ suc left → op ts ≡ None → whole ≡ Some (x, ts)
+pub stays : (operand : Reader Levelled) (op : List Token → Option Operator) (levels more left : ℕ) (x : Levelled)
+    (ts : List Token) (whole : Read Levelled)
+    → whole ≡ chain_on operand op levels more x ts → more ≡ suc left → op ts ≡ None
+    → whole ≡ Some (x, ts)
 stays operand op levels more left x ts whole so some none = so ∙ rw (some, none) refl
 
-pub used_up : (operand : Reader Levelled) (op : List Token → Option Operator) (levels more : ℕ) (x : Levelled) (ts : List Token) (whole : Read Levelled)
-    → whole ≡ chain_on operand op levels more x ts → more ≡ 0 → whole ≡ None
+pub used_up : (operand : Reader Levelled) (op : List Token → Option Operator) (levels more : ℕ) (x : Levelled)
+    (ts : List Token) (whole : Read Levelled)
+    → whole ≡ chain_on operand op levels more x ts → more ≡ 0
+    → whole ≡ None
 used_up operand op levels more x ts whole so none = so ∙ rw none refl
 
 -- an operator between its operands, by its parts

@@ -22,7 +22,7 @@ expression_is n = record {
       rw a.2 refl;
 }
 
--- nothing may stand after an expression
+-- nothing may follow an expression
 pub at_end : May 2 []
 at_end = λ d lt. refl
 

@@ -15,7 +15,7 @@ use Rattle.mig_syntax.specs.declared.tree.Statement.{Statement}
 use Rattle.mig_syntax.specs.declared.tree.Subsystem.{Subsystem}
 use Rattle.mig_syntax.proofs.StatementsRead.{statement_is, leads_statement, heading_is}
 
--- what is read of a heading stands there, and what stands there is read
+-- what is read of a heading is there, and what is there is read
 headed : (ts rest : List Token) (h : Headed ts rest) → heading_at ts ≡ Some ((h.name, h.base), rest)
 headed ts rest h = ap heading_at h.parts ∙ heading_is.again (h.name, h.base) h.front rest h.spells tt
 
@@ -23,13 +23,16 @@ heading_of : (ts rest : List Token) (x : List ℕ × Tree) → heading_at ts ≡
 heading_of ts rest x e = let a = heading_is.found ts x rest e in record { name = x.0; base = x.1; front = a.0; parts = a.1; spells = a.2 }
 
 -- a tree has a heading, and statements after it
-parts_of : (ts : List Token) (s : Subsystem) → Derives s ts → (rest : List Token) × (heading_at ts ≡ Some ((s.name, s.base), rest)) × AreDefs statement s.statements rest
+parts_of : (ts : List Token) (s : Subsystem) → Derives s ts
+    → (rest : List Token) × (heading_at ts ≡ Some ((s.name, s.base), rest)) × AreDefs statement s.statements rest
 parts_of ts s d =
     let p = parted ts d.0 d.1 d.2 in
     let h : Headed ts p.1 = record { name = s.name; base = s.base; front = p.0; parts = p.2; spells = subst (heading s.name s.base) (sym p.3) d.3 } in
     (p.1, headed ts p.1 h, subst (each statement s.statements) (sym p.4) d.4)
 
-pub whole : (ts rest : List Token) (n : List ℕ) (b : Tree) (ss : List Statement) → heading_at ts ≡ Some ((n, b), rest) → AreDefs statement ss rest → Derives (record { name = n; base = b; statements = ss }) ts
+pub whole : (ts rest : List Token) (n : List ℕ) (b : Tree) (ss : List Statement) → heading_at ts ≡ Some ((n, b), rest)
+    → AreDefs statement ss rest
+    → Derives (record { name = n; base = b; statements = ss }) ts
 whole ts rest n b ss e d =
     let a = heading_is.found ts (n, b) rest e in
     (kinds a.0, kinds rest, ap kinds a.1 ∙ kinds-append a.0 rest, a.2, d)
@@ -44,7 +47,9 @@ unheaded ts none = (
 pub unheaded_at : (ts all : List Token) (line : ℕ) → all ≡ ts → line ≡ first_line all → heading_at all ≡ None → HaveNone ts line
 unheaded_at ts all line same is none = subst (λ z. HaveNone z line) same (subst (λ z. HaveNone all z) (sym is) (unheaded all none))
 
-fails : (ts rest : List Token) (n : List ℕ) (b : Tree) (line : ℕ) → heading_at ts ≡ Some ((n, b), rest) → statements_have_none statement rest line → HaveNone ts line
+fails : (ts rest : List Token) (n : List ℕ) (b : Tree) (line : ℕ) → heading_at ts ≡ Some ((n, b), rest)
+    → statements_have_none statement rest line
+    → HaveNone ts line
 fails ts rest n b line e h = (
   λ s d. let p = parts_of ts s d in
       let same = read_is (s.name, s.base) (n, b) p.0 rest (sym p.1 ∙ e) in
@@ -52,7 +57,9 @@ fails ts rest n b line e h = (
   inr (rest, heading_of ts rest (n, b) e, h.1),
 )
 
-pub explained : (ts rest : List Token) (n : List ℕ) (b : Tree) (fault : SyntaxErr) → heading_at ts ≡ Some ((n, b), rest) → statements_explain statement fault rest → Explains fault ts
+pub explained : (ts rest : List Token) (n : List ℕ) (b : Tree) (fault : SyntaxErr) → heading_at ts ≡ Some ((n, b), rest)
+    → statements_explain statement fault rest
+    → Explains fault ts
 explained ts rest n b (Syntax line) e h = fails ts rest n b line e h
 explained ts rest n b NoMemory e h = tt
 

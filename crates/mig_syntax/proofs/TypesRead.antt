@@ -34,7 +34,9 @@ no_operator (t ∷ ts) h d lt = go (binary_in t.kind) refl where
   go None is = rw is refl
   go (Some op) is = absurd (let no : is_operator t.kind ≡ true = rw is refl in cc)
 
-pub closed_by : {A : Type 0} {S : A → Text} (m : List ℕ) → binary_in (K.Mark m) ≡ None → Leads S (mark_is m) → (a : A) (front rest : List Token) → S a (kinds front) → May 2 (front ++ rest)
+pub closed_by : {A : Type 0} {S : A → Text} (m : List ℕ) → binary_in (K.Mark m) ≡ None → Leads S (mark_is m)
+    → (a : A) (front rest : List Token) → S a (kinds front)
+    → May 2 (front ++ rest)
 closed_by m h l a front rest s = no_operator (front ++ rest) (begins_not is_operator l apart a front rest s) where
   apart : Apart (mark_is m) is_operator
   apart k e = let is = mark_named m k e in rw (is, h) refl

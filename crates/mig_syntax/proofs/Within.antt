@@ -19,7 +19,9 @@ use Rattle.mig_syntax.specs.Readers.{Levelled, binary_of, by_operator, binary_in
 
 -- ---- more levels, and looser operators
 
-bare_more : (P Q : ℕ → Tree → Text) → ((loose : ℕ) (t : Tree) (ks : List TokenKind) → P loose t ks → Q loose t ks) → (a b : ℕ) → a ≤ b → (t : Tree) (ks : List TokenKind) → bare P a t ks → bare Q b t ks
+bare_more : (P Q : ℕ → Tree → Text) → ((loose : ℕ) (t : Tree) (ks : List TokenKind) → P loose t ks → Q loose t ks)
+    → (a b : ℕ) → a ≤ b → (t : Tree) (ks : List TokenKind) → bare P a t ks
+    → bare Q b t ks
 bare_more P Q f a b le (leaf l) ks s = s
 bare_more P Q f a b le (binary op x y) ks s =
     let r = s.1.4 in
@@ -57,7 +59,8 @@ binary_kind (K.FileName n) op e = absurd cc
 binary_kind (K.Name n) op e = absurd cc
 
 -- the token of an operator that is read, and how loosely it binds
-operator_some : (loose : ℕ) (o op : Option Operator) (x : Operator) → o ≡ op → operator_of loose op ≡ Some x → (o ≡ Some x) × (looseness x ≡ loose)
+operator_some : (loose : ℕ) (o op : Option Operator) (x : Operator) → o ≡ op → operator_of loose op ≡ Some x
+    → (o ≡ Some x) × (looseness x ≡ loose)
 operator_some loose o None x is e = absurd cc
 operator_some loose o (Some y) x is e = go (looseness y == loose) refl e where
   go : (a : Bool) → (looseness y == loose) ≡ a → cond a (Some y) None ≡ Some x → (o ≡ Some x) × (looseness x ≡ loose)
@@ -73,7 +76,8 @@ operator_found loose (t ∷ us) op e =
 
 -- ---- what is read
 
-behind_some : {A : Type 0} (r : Reader (Unit {0})) (s : Reader A) (ts : List Token) (a : A) (rest : List Token) → behind r s ts ≡ Some (a, rest)
+behind_some : {A : Type 0} (r : Reader (Unit {0})) (s : Reader A) (ts : List Token) (a : A) (rest : List Token)
+    → behind r s ts ≡ Some (a, rest)
     → (u : Unit {0}) × (us : List Token) × (r ts ≡ Some (u, us)) × (s us ≡ Some (a, rest))
 behind_some {A} r s ts a rest e =
     let m = map_some (λ (x : Unit {0} × A). x.1) (both r s ts) a rest e in
@@ -82,7 +86,8 @@ behind_some {A} r s ts a rest e =
     let is = read_is (k.0.0, l.0.0) m.0 l.0.1 rest l.2 in
     (k.0.0, k.0.1, k.1, l.1 ∙ ap (λ (z : A). Some (z, l.0.1)) (ap (λ (z : Unit {0} × A). z.1) is.0 ∙ m.2) ∙ ap (λ z. Some (a, z)) is.1)
 
-before_some : {A : Type 0} (r : Reader A) (s : Reader (Unit {0})) (ts : List Token) (a : A) (rest : List Token) → before r s ts ≡ Some (a, rest)
+before_some : {A : Type 0} (r : Reader A) (s : Reader (Unit {0})) (ts : List Token) (a : A) (rest : List Token)
+    → before r s ts ≡ Some (a, rest)
     → (us : List Token) × (r ts ≡ Some (a, us)) × (s us ≡ Some (tt, rest))
 before_some {A} r s ts a rest e =
     let m = map_some (λ (x : A × Unit {0}). x.0) (both r s ts) a rest e in
@@ -98,8 +103,9 @@ Found r levels loose = (ts : List Token) (x : Levelled) (rest : List Token) → 
 
 module _ (n : ℕ) (operand : ℕ → Reader Levelled) (found : (loose : ℕ) → Found (operand loose) n loose) where
   -- one more operator
-  joined_up : (o : Operator) (loose : ℕ) (y z : Levelled) (f g : List Token) (t : Token) → looseness o ≡ loose → t.kind ≡ K.Mark (binary_spell o)
-      → within y.1 (suc loose) y.0 (kinds f) → within z.1 loose z.0 (kinds g) → within (over o y z).1 (suc loose) (over o y z).0 (kinds (f ++ t ∷ g))
+  joined_up : (o : Operator) (loose : ℕ) (y z : Levelled) (f g : List Token) (t : Token) → looseness o ≡ loose
+      → t.kind ≡ K.Mark (binary_spell o) → within y.1 (suc loose) y.0 (kinds f) → within z.1 loose z.0 (kinds g)
+      → within (over o y z).1 (suc loose) (over o y z).0 (kinds (f ++ t ∷ g))
   joined_up o loose y z f g t is k s w =
       let left = more y.1 (max y.1 z.1) (omega arith) (suc loose) (suc (looseness o)) (omega (arith, is)) y.0 (kinds f) s in
       let right = more z.1 (max y.1 z.1) (omega arith) loose (looseness o) (omega (arith, is)) z.0 (kinds g) w in
@@ -114,9 +120,11 @@ module _ (n : ℕ) (operand : ℕ → Reader Levelled) (found : (loose : ℕ) �
   kept true r y e = (refl, e)
   kept false r y e = absurd cc
 
-  chain_by : (loose fuel : ℕ) (x : Levelled) (rest : List Token) → Chain loose fuel x rest → (y : Levelled) (us f0 : List Token) → y.1 ≤ suc n → within y.1 (suc loose) y.0 (kinds f0)
-      → (o : Option Operator) → operator_at loose us ≡ o
-      → by_operator o (Some (y, us)) (λ o. then_on (operand loose (drop 1 us)) (λ z vs. kept_in (suc n) (over o y z) (chain_on (operand loose) (operator_at loose) (suc n) fuel (over o y z)) vs)) ≡ Some (x, rest)
+  chain_by : (loose fuel : ℕ) (x : Levelled) (rest : List Token) → Chain loose fuel x rest
+      → (y : Levelled) (us f0 : List Token) → y.1 ≤ suc n → within y.1 (suc loose) y.0 (kinds f0) → (o : Option Operator)
+      → operator_at loose us ≡ o → by_operator o (Some (y, us)) (λ o. then_on (operand loose (drop 1 us))
+      (λ z vs. kept_in (suc n) (over o y z) (chain_on (operand loose) (operator_at loose) (suc n) fuel (over o y z)) vs))
+      ≡ Some (x, rest)
       → (x.1 ≤ suc n) × ((f : List Token) × (us ≡ f ++ rest) × within x.1 (suc loose) x.0 (kinds (f0 ++ f)))
   chain_by loose fuel x rest next y us f0 le s None h q =
       let is = read_is y x us rest q in
@@ -144,7 +152,8 @@ module _ (n : ℕ) (operand : ℕ → Reader Levelled) (found : (loose : ℕ) �
   abbrev Spelled : Levelled → List Token → List Token → Type 0
   Spelled x ts rest = (x.1 ≤ suc n) × ((front : List Token) × (ts ≡ front ++ rest) × within x.1 0 x.0 (kinds front))
 
-  in_parentheses : (ts : List Token) (x : Levelled) (rest : List Token) → behind (mark_at (codes "(")) (before (operand 2) (mark_at (codes ")"))) ts ≡ Some (x, rest)
+  in_parentheses : (ts : List Token) (x : Levelled) (rest : List Token)
+      → behind (mark_at (codes "(")) (before (operand 2) (mark_at (codes ")"))) ts ≡ Some (x, rest)
       → Spelled (x.0, suc x.1) ts rest
   in_parentheses ts x rest e =
       let opened = behind_some (mark_at (codes "(")) (before (operand 2) (mark_at (codes ")"))) ts x rest e in

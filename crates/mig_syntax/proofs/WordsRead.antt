@@ -41,12 +41,15 @@ leads_like w a ks s = (K.Name s.0, [], s.1, is_like w s.0 s.2)
 
 -- ---- words that stand for something
 
-lower_by : {A : Type 0} (spell : A → List ℕ) (x : List ℕ × A) (k : TokenKind) (a : A) (b : Bool) (others : Option A) → spell x.1 ≡ x.0 → word_is (lower x.0) k ≡ b
-    → (others ≡ Some a → k ≡ K.Name (lower (spell a))) → cond b (Some x.1) others ≡ Some a → k ≡ K.Name (lower (spell a))
+lower_by : {A : Type 0} (spell : A → List ℕ) (x : List ℕ × A) (k : TokenKind) (a : A) (b : Bool) (others : Option A) → spell x.1 ≡ x.0
+    → word_is (lower x.0) k ≡ b → (others ≡ Some a → k ≡ K.Name (lower (spell a))) → cond b (Some x.1) others ≡ Some a
+    → k ≡ K.Name (lower (spell a))
 lower_by spell x k a true others h is rest q = let same : x.1 ≡ a = cc in word_named (lower x.0) k is ∙ ap (λ z. K.Name (lower z)) (sym h) ∙ ap (λ z. K.Name (lower (spell z))) same
 lower_by spell x k a false others h is rest q = rest q
 
-lower_named : {A : Type 0} (spell : A → List ℕ) (es : List (List ℕ × A)) → AllByRecursion (λ e. spell e.1 ≡ e.0) es → (k : TokenKind) (a : A) → lower_in es k ≡ Some a → k ≡ K.Name (lower (spell a))
+lower_named : {A : Type 0} (spell : A → List ℕ) (es : List (List ℕ × A)) → AllByRecursion (λ e. spell e.1 ≡ e.0) es
+    → (k : TokenKind) (a : A) → lower_in es k ≡ Some a
+    → k ≡ K.Name (lower (spell a))
 lower_named spell [] h k a e = absurd cc
 lower_named spell (x ∷ es) h k a e = lower_by spell x k a (word_is (lower x.0) k) (lower_in es k) h.0 refl (lower_named spell es h.1 k a) e
 
@@ -58,7 +61,8 @@ folded_named (K.Text n) w e = absurd cc
 folded_named (K.FileName n) w e = absurd cc
 folded_named (K.Mark n) w e = absurd cc
 
-module _ {A : Type 0} (table : List (List ℕ × A)) (spell : A → List ℕ) (back : (a : A) → lower_in table (K.Name (lower (spell a))) ≡ Some a) where
+module _ {A : Type 0} (table : List (List ℕ × A)) (spell : A → List ℕ)
+    (back : (a : A) → lower_in table (K.Name (lower (spell a))) ≡ Some a) where
   found_in : (a : A) (n : List ℕ) → lower n ≡ lower (spell a) → like_in table (K.Name n) ≡ Some a
   found_in a n h = ap (λ z. lower_in table (K.Name z)) h ∙ back a
 
@@ -107,7 +111,8 @@ leads_identifier = leads_named mig_words
 pub apart_like : (g : TokenKind → Bool) (w : List ℕ) → g (K.Name (lower w)) ≡ false → Apart (λ k. g (folded k)) (like_is w)
 apart_like g w h k e = apart_word g (lower w) h (folded k) e
 
-pub apart_likes : {A : Type 0} (g : TokenKind → Bool) (es : List (List ℕ × A)) → AllByRecursion (λ e. g (K.Name (lower e.0)) ≡ false) es → Apart (λ k. g (folded k)) (has_like es)
+pub apart_likes : {A : Type 0} (g : TokenKind → Bool) (es : List (List ℕ × A)) → AllByRecursion (λ e. g (K.Name (lower e.0)) ≡ false) es
+    → Apart (λ k. g (folded k)) (has_like es)
 apart_likes g [] h k e = refl
 apart_likes g (x ∷ es) h k e = rw (apart_word g (lower x.0) h.0 (folded k) e) (apart_likes g es h.1 k e)
 
@@ -126,14 +131,17 @@ module _ (ws : List (List ℕ)) where
   no_name w h (K.FileName n) e = refl
   no_name w h (K.Mark n) e = refl
 
-  no_names : {A : Type 0} (es : List (List ℕ × A)) → AllByRecursion (λ e. is_one_of (lower e.0) ws ≡ true) es → (k : TokenKind) → is_some (named_in ws k) ≡ true → has_like es k ≡ false
+  no_names : {A : Type 0} (es : List (List ℕ × A)) → AllByRecursion (λ e. is_one_of (lower e.0) ws ≡ true) es
+      → (k : TokenKind) → is_some (named_in ws k) ≡ true
+      → has_like es k ≡ false
   no_names [] h k e = refl
   no_names (x ∷ es) h k e = rw (no_name x.0 h.0 k e) (no_names es h.1 k e)
 
 pub apart_identifier : (w : List ℕ) → is_one_of (lower w) mig_words ≡ true → Apart is_identifier (like_is w)
 apart_identifier w h k e = no_name mig_words w h k e
 
-pub apart_identifiers : {A : Type 0} (es : List (List ℕ × A)) → AllByRecursion (λ e. is_one_of (lower e.0) mig_words ≡ true) es → Apart is_identifier (has_like es)
+pub apart_identifiers : {A : Type 0} (es : List (List ℕ × A)) → AllByRecursion (λ e. is_one_of (lower e.0) mig_words ≡ true) es
+    → Apart is_identifier (has_like es)
 apart_identifiers es h k e = no_names mig_words es h k e
 
 pub either_apart : (f g h : TokenKind → Bool) → Apart f h → Apart g h → Apart (λ k. f k || g k) h

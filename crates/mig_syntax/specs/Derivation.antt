@@ -61,7 +61,8 @@ routine_spell true = codes "simpleroutine"
 
 -- routine = ( "routine" | "simpleroutine" ) identifier "(" parameter { ";" parameter } ")"
 abbrev pub routine : Routine → Text
-routine r = like (routine_spell r.simple) & identifier r.name & mark (codes "(") & joined (codes ";") parameter r.parameters & mark (codes ")")
+routine r = like (routine_spell r.simple) & identifier r.name & mark (codes "(")
+    & joined (codes ";") parameter r.parameters & mark (codes ")")
 
 -- ---- statements
 
@@ -113,7 +114,8 @@ first_line (t ∷ ts) = t.line
 
 -- the line on which tokens fail: the first one where they begin with no heading; after it, that of the first token after the longest prefix that is statements
 abbrev pub FailsAt : List Token → ℕ → Type 0
-FailsAt tokens line = (((rest : List Token) → Headed tokens rest → ⊥) × (line ≡ first_line tokens)) ⊎ ((rest : List Token) × Headed tokens rest × statements_fail_at statement rest line)
+FailsAt tokens line = (((rest : List Token) → Headed tokens rest → ⊥) × (line ≡ first_line tokens))
+    ⊎ ((rest : List Token) × Headed tokens rest × statements_fail_at statement rest line)
 
 -- no tree has the tokens, and they fail on this line
 abbrev pub HaveNone : List Token → ℕ → Type 0

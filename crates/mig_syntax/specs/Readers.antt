@@ -51,7 +51,8 @@ primary_of (inl x) = (x.0, suc x.1)
 primary_of (inr n) = (leaf n, 1)
 
 abbrev pub primary_at : (ℕ → Reader Levelled) → Reader Levelled
-primary_at operand = mapped primary_of (either (begins_with (mark_is (codes "("))) (behind (mark_at (codes "(")) (before (operand 2) (mark_at (codes ")")))) number_at)
+primary_at operand = mapped primary_of
+    (either (begins_with (mark_is (codes "("))) (behind (mark_at (codes "(")) (before (operand 2) (mark_at (codes ")")))) number_at)
 
 -- what is read, where an operator comes first and where none does
 abbrev pub by_operator : Option Operator → Read Levelled → (Operator → Read Levelled) → Read Levelled
@@ -65,13 +66,14 @@ kept_in levels x next ts = if nat_le x.1 levels then next ts else None
 -- what is read on from an operand: `more` operators at most
 abbrev pub chain_on : Reader Levelled → (List Token → Option Operator) → ℕ → ℕ → Levelled → Reader Levelled
 chain_on operand op levels zero x ts = None
-chain_on operand op levels (suc more) x ts =
-    by_operator (op ts) (Some (x, ts)) (λ o. then_on (operand (drop 1 ts)) (λ y us. kept_in levels (over o x y) (chain_on operand op levels more (over o x y)) us))
+chain_on operand op levels (suc more) x ts = by_operator (op ts) (Some (x, ts))
+    (λ o. then_on (operand (drop 1 ts)) (λ y us. kept_in levels (over o x y) (chain_on operand op levels more (over o x y)) us))
 
 -- an expression whose operators bind less loosely, over the reader of its operands
 abbrev pub climb : (ℕ → Reader Levelled) → ℕ → ℕ → Reader Levelled
 climb operand below zero ts = primary_at operand ts
-climb operand below (suc loose) ts = then_on (climb operand below loose ts) (λ x us. chain_on (operand loose) (operator_at loose) (suc below) (suc below) x us)
+climb operand below (suc loose) ts = then_on (climb operand below loose ts)
+    (λ x us. chain_on (operand loose) (operator_at loose) (suc below) (suc below) x us)
 
 -- an expression within so many levels, and how many it takes
 abbrev pub within_at : ℕ → ℕ → Reader Levelled

@@ -19,12 +19,13 @@ looseness B.Sub = 1
 looseness B.Mul = 0
 looseness B.Div = 0
 
--- An expression without parentheses around it, over the texts of its operands. An operator stands where it binds less loosely than `loose`. Its left operand may have operators that bind as loosely, its right operand may not: operators group to the left.
+-- An expression without parentheses around it, over the texts of its operands. An operator is allowed where it binds less loosely than `loose`. Its left operand may have operators that bind as loosely, its right operand may not: operators group to the left.
 abbrev pub bare : (ℕ → Tree → Text) → ℕ → Tree → Text
 bare operand loose (leaf n) ks = number n ks
-bare operand loose (binary op a b) ks = (looseness op < loose) × (operand (suc (looseness op)) a & mark (binary_spell op) & operand (looseness op) b) ks
+bare operand loose (binary op a b) ks = (looseness op < loose)
+    × (operand (suc (looseness op)) a & mark (binary_spell op) & operand (looseness op) b) ks
 
--- An expression within so many levels: an operand, and what stands in parentheses, have one level less.
+-- An expression within so many levels: an operand, and what is in parentheses, have one level less.
 abbrev pub within : ℕ → ℕ → Tree → Text
 within zero loose t ks = ⊥
 within (suc n) loose t ks = bare (within n) loose t ks ⊎ (mark (codes "(") & within n 2 t & mark (codes ")")) ks

@@ -32,11 +32,13 @@ row_at = both (expression_at 32) (behind (mark_at (codes "]")) (behind (like_at 
 
 -- a type with its size
 unfoldable pub sized_at : Reader (List ℕ × Tree)
-sized_at = behind (mark_at (codes "(")) (both identifier_at (behind (mark_at (codes ",")) (before (expression_at 31) (mark_at (codes ")")))))
+sized_at = behind (mark_at (codes "("))
+    (both identifier_at (behind (mark_at (codes ",")) (before (expression_at 31) (mark_at (codes ")")))))
 
 -- an array, of a greatest length or of a fixed one
 unfoldable pub array_at : Reader (Row ⊎ Row)
-array_at = behind (like_at (codes "array")) (behind (mark_at (codes "[")) (either (begins_with (mark_is (codes "*"))) (behind (mark_at (codes "*")) (behind (mark_at (codes ":")) row_at)) row_at))
+array_at = behind (like_at (codes "array")) (behind (mark_at (codes "["))
+    (either (begins_with (mark_is (codes "*"))) (behind (mark_at (codes "*")) (behind (mark_at (codes ":")) row_at)) row_at))
 
 abbrev pub type_of : (List ℕ × Tree) ⊎ (Row ⊎ Row) ⊎ Row ⊎ List ℕ → TypeForm
 type_of (inl x) = T.Sized x.0 x.1
@@ -47,8 +49,9 @@ type_of (inr (inr (inr n))) = T.Named n
 
 -- a type
 unfoldable pub type_at : Reader TypeForm
-type_at = mapped type_of (either (begins_with (mark_is (codes "("))) sized_at (either (begins_with (like_is (codes "array"))) array_at
-    (either (begins_with (like_is (codes "struct"))) (behind (like_at (codes "struct")) (behind (mark_at (codes "[")) row_at)) identifier_at)))
+type_at = mapped type_of (either (begins_with (mark_is (codes "("))) sized_at
+    (either (begins_with (like_is (codes "array"))) array_at (either (begins_with (like_is (codes "struct")))
+    (behind (like_at (codes "struct")) (behind (mark_at (codes "[")) row_at)) identifier_at)))
 
 -- ---- routines
 
@@ -61,7 +64,8 @@ parameter_of x = record { direction = x.0; name = x.1.0; of = x.1.1 }
 
 -- a parameter
 unfoldable pub parameter_at : Reader Parameter
-parameter_at = mapped parameter_of (both (option (begins_with (has_like direction_words)) (token_at (like_in direction_words))) (both identifier_at (behind (mark_at (codes ":")) identifier_at)))
+parameter_at = mapped parameter_of (both (option (begins_with (has_like direction_words)) (token_at (like_in direction_words)))
+    (both identifier_at (behind (mark_at (codes ":")) identifier_at)))
 
 -- the words of the routines
 abbrev pub routine_words : List (List ℕ × Bool)
@@ -72,7 +76,8 @@ routine_of x = record { simple = x.0; name = x.1.0; parameters = x.1.1 }
 
 -- a routine
 unfoldable pub routine_at : Reader Routine
-routine_at = mapped routine_of (both (token_at (like_in routine_words)) (both identifier_at (behind (mark_at (codes "(")) (before (joined_at (codes ";") parameter_at) (mark_at (codes ")"))))))
+routine_at = mapped routine_of (both (token_at (like_in routine_words))
+    (both identifier_at (behind (mark_at (codes "(")) (before (joined_at (codes ";") parameter_at) (mark_at (codes ")"))))))
 
 -- ---- statements
 
@@ -110,8 +115,9 @@ body_of (inr (inr (inr (inr _)))) = V.Skip
 
 -- a statement without its end
 unfoldable pub body_at : Reader Statement
-body_at = mapped body_of (either (begins_with (like_is (codes "type"))) definition_at (either (begins_with (has_like routine_words)) routine_at
-    (either (begins_with (has_like side_words)) prefix_at (either (begins_with (has_like importer_words)) import_at (like_at (codes "skip"))))))
+body_at = mapped body_of (either (begins_with (like_is (codes "type"))) definition_at
+    (either (begins_with (has_like routine_words)) routine_at (either (begins_with (has_like side_words)) prefix_at
+    (either (begins_with (has_like importer_words)) import_at (like_at (codes "skip"))))))
 
 -- a statement
 unfoldable pub statement_at : Reader Statement

@@ -7,7 +7,7 @@ pub data Tree : Type 0 where
   leaf : ℤ → Tree
   binary : Operator → Tree → Tree → Tree
 
--- how many operators stand one in the other
+-- how many operators are nested
 abbrev pub height : Tree → ℕ
 height (leaf n) = 0
 height (binary op a b) = suc (max (height a) (height b))

@@ -8,9 +8,9 @@ use Rattle.syntax_kit.specs.Grammar.{Text}
 
 -- the words that the grammar quotes
 abbrev pub mig_words : List (List ℕ)
-mig_words =
-    codes "subsystem" ∷ codes "type" ∷ codes "array" ∷ codes "of" ∷ codes "struct" ∷ codes "routine" ∷ codes "simpleroutine" ∷ codes "skip" ∷ codes "requestport" ∷ codes "in"
-    ∷ codes "out" ∷ codes "inout" ∷ codes "userprefix" ∷ codes "serverprefix" ∷ codes "import" ∷ codes "uimport" ∷ codes "simport" ∷ []
+mig_words = codes "subsystem" ∷ codes "type" ∷ codes "array" ∷ codes "of" ∷ codes "struct" ∷ codes "routine"
+    ∷ codes "simpleroutine" ∷ codes "skip" ∷ codes "requestport" ∷ codes "in" ∷ codes "out" ∷ codes "inout"
+    ∷ codes "userprefix" ∷ codes "serverprefix" ∷ codes "import" ∷ codes "uimport" ∷ codes "simport" ∷ []
 
 -- whether a name in lower case is one of the words
 abbrev pub is_one_of : List ℕ → List (List ℕ) → Bool

@@ -48,7 +48,8 @@ fn climb(
 ) -> Result<(Expr, u32, &[Token]), Halt>
     requires below { below < 32 }
     requires loose { loose ≤ 2 }
-    ensures read { Gives (λ x. ((x.0, x.1), x.2.now)) result (climb (within_at below) below loose tokens.now) }
+    ensures read { Gives (λ x. ((x.0, x.1), x.2.now)) result
+        (climb (within_at below) below loose tokens.now) }
     ensures fits { IfOk result (λ x. x.1 ≤ below + 1) }
 {
     if loose == 0 {

@@ -6,5 +6,6 @@ ghost use Rattle.mig_syntax.specs.Spelling.{expression};
 
 /// Tokens are those of at most one expression.
 pub fn one_expression()
-    ensures { (levels : ℕ) (a b : Tree) (tokens : List TokenKind) → expression levels a tokens → expression levels b tokens → a ≡ b }
+    ensures { (levels : ℕ) (a b : Tree) (tokens : List TokenKind) → expression levels a tokens
+        → expression levels b tokens → a ≡ b }
 {}

@@ -156,7 +156,7 @@ pub enum Statement {
     Type(Name, TypeForm),
     /// A routine (`routine`, `simpleroutine`).
     Routine(Routine),
-    /// What stands before the names of generated functions (`userprefix`, `serverprefix`).
+    /// What comes before the names of generated functions (`userprefix`, `serverprefix`).
     Prefix(Side, Name),
     /// A file that the generated code includes (`import`, `uimport`, `simport`), by its name.
     Import(Importer, Octets),

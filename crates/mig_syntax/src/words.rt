@@ -9,7 +9,7 @@ use kit_base::Name;
 use std::alloc::Global;
 use syntax_kit::Halt;
 
-/// The words of the grammar, which are no identifiers in any letter case.
+/// The words of the grammar, which are not identifiers in any letter case.
 const WORDS: [&[u8]; 17] = [
     b"subsystem",
     b"type",
@@ -86,7 +86,8 @@ fn named<'a>(
     tokens: &'a [Token],
     words: &[&[u8]],
 ) -> Result<(Name, &'a [Token]), Halt>
-    ensures { Gives (λ x. (x.0, x.1.now)) result (token_at (named_in (map (λ w. w.now) words.now)) tokens.now) }
+    ensures { Gives (λ x. (x.0, x.1.now)) result
+        (token_at (named_in (map (λ w. w.now) words.now)) tokens.now) }
 {
     match tokens {
         [first, rest @ ..] => match &first.kind {

@@ -3,9 +3,8 @@ use Rattle.mig_syntax.specs.Readers.{within_at, climb, chain_on, operator_at}
 use Rattle.mig_syntax.proofs.expressions.+climbing.Given as goal
 
 abbrev pub invariant-climb-chain : goal.invariant-climb-chain
-invariant-climb-chain l =
-    (climb (within_at l.below) l.below l.loose l.fn.tokens
-    ≡ chain_on (within_at l.below (l.loose - 1)) (operator_at (l.loose - 1)) (suc l.below) (suc l.below - l.counter) (l.tree, l.height) l.rest)
+invariant-climb-chain l = (climb (within_at l.below) l.below l.loose l.fn.tokens ≡ chain_on (within_at l.below (l.loose - 1))
+    (operator_at (l.loose - 1)) (suc l.below) (suc l.below - l.counter) (l.tree, l.height) l.rest)
     × (l.height ≤ l.below + 1)
 
 abbrev pub decreases-within : goal.decreases-within

@@ -4,4 +4,5 @@ use Rattle.mig_syntax.specs.Words.{is_one_of}
 use Rattle.mig_syntax.proofs.words.is_one.Given as goal
 
 abbrev pub invariant-loop-word : goal.invariant-loop-word
-invariant-loop-word l = is_one_of (str_to_ascii_lowercase l.name) (map (λ w. w.now) l.words) ≡ is_one_of (str_to_ascii_lowercase l.name) (map (λ w. w.now) (drop l.word-index l.words))
+invariant-loop-word l = is_one_of (str_to_ascii_lowercase l.name) (map (λ w. w.now) l.words)
+    ≡ is_one_of (str_to_ascii_lowercase l.name) (map (λ w. w.now) (drop l.word-index l.words))
