@@ -65,7 +65,8 @@ any_last p (m ∷ ns) n = ap (λ z. p m || z) (any_last p ns n) ∙ regrouped (p
 abbrev one_if_new : Bool → ℕ
 one_if_new b = if b then 0 else 1
 
-head_counts : (t x y : Bool) (old : ℕ) → (t ≡ true → x ≡ y) → one_if_new (x || t) + (old + one_if_new y) ≡ one_if_new x + old + one_if_new (t || y)
+head_counts : (t x y : Bool) (old : ℕ) → (t ≡ true → x ≡ y)
+    → one_if_new (x || t) + (old + one_if_new y) ≡ one_if_new x + old + one_if_new (t || y)
 head_counts true x y old same = cases x y (same refl)
   where
     cases : (x y : Bool) → x ≡ y → one_if_new (x || true) + (old + one_if_new y) ≡ one_if_new x + old + 0

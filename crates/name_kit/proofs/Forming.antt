@@ -15,7 +15,8 @@ use Rattle.name_kit.proofs.Tables.{append_map}
 abbrev answer : ℕ → Answer ℕ
 answer n = Ok n
 
-low_by : (b : Bool) (low d m n : ℕ) → (b ≡ true → nat_le low m ≡ true) → (if b then answer m else fault Range d) ≡ answer n → nat_le low n ≡ true
+low_by : (b : Bool) (low d m n : ℕ) → (b ≡ true → nat_le low m ≡ true) → (if b then answer m else fault Range d) ≡ answer n
+    → nat_le low n ≡ true
 low_by true low d m n f h = subst (λ z. nat_le low z ≡ true) (ok_same m n h) (f refl)
 low_by false low d m n f h = absurd cc
 
@@ -32,7 +33,9 @@ pub names_are : (fields : List Field) → names_of (members_of fields) ≡ map (
 names_are [] = refl
 names_are (f ∷ fields) = ap (λ z. f.0 ∷ z) (names_are fields)
 
-pub sound_push : (types : List Shape) (limit : ℕ) (fields : List Field) (f : Field) → are_sound types limit (members_of fields) ≡ true → is_sound_type types limit f.1 ≡ true → are_sound types limit (members_of (fields ++ f ∷ [])) ≡ true
+pub sound_push : (types : List Shape) (limit : ℕ) (fields : List Field) (f : Field)
+    → are_sound types limit (members_of fields) ≡ true → is_sound_type types limit f.1 ≡ true
+    → are_sound types limit (members_of (fields ++ f ∷ [])) ≡ true
 sound_push types limit [] f a b = and_from _ _ b refl
 sound_push types limit (g ∷ fields) f a b =
     let parts = and_parts (is_sound_type types limit g.1) (are_sound types limit (members_of fields)) a in and_from _ _ parts.0 (sound_push types limit fields f parts.1 b)
@@ -41,7 +44,9 @@ pub record FieldsAre (types : List Shape) (fields : List Field) : Type 0 where
   pub different : are_distinct (map (λ f. f.0) fields) ≡ true
   pub sound : are_sound types (length types) (members_of fields) ≡ true
 
-pub fields_push : (types : List Shape) (fields : List Field) (n : List ℕ) (s : Shape) → FieldsAre types fields → has n (map (λ f. f.0) fields) ≡ false → is_sound_type types (length types) s ≡ true → FieldsAre types (fields ++ (n, s) ∷ [])
+pub fields_push : (types : List Shape) (fields : List Field) (n : List ℕ) (s : Shape) → FieldsAre types fields
+    → has n (map (λ f. f.0) fields) ≡ false → is_sound_type types (length types) s ≡ true
+    → FieldsAre types (fields ++ (n, s) ∷ [])
 fields_push types fields n s are new sound = record {
   different = subst (λ z. are_distinct z ≡ true) (sym (append_map (λ (f : Field). f.0) fields (n, s))) (distinct_push (map (λ f. f.0) fields) n are.different new);
   sound = sound_push types (length types) fields (n, s) are.sound sound;
@@ -55,6 +60,7 @@ pub some_member : (fields : List Field) → is_some_list fields ≡ true → has
 some_member [] h = absurd cc
 some_member (f ∷ fields) h = refl
 
-pub struct_sound : (types : List Shape) (fields : List Field) → FieldsAre types fields → is_some_list fields ≡ true → is_sound_type types (length types) (structure (members_of fields)) ≡ true
+pub struct_sound : (types : List Shape) (fields : List Field) → FieldsAre types fields → is_some_list fields ≡ true
+    → is_sound_type types (length types) (structure (members_of fields)) ≡ true
 struct_sound types fields are some =
     and_from _ _ (and_from _ _ (some_member fields some) (ap are_distinct (names_are fields) ∙ are.different)) are.sound

@@ -40,13 +40,15 @@ all_push : (p : ℤ → Bool) (ns : List ℤ) (n : ℤ) → list_all p ns ≡ tr
 all_push p [] n a b = and_from _ _ b refl
 all_push p (m ∷ ns) n a b = let h = and_parts (p m) (list_all p ns) a in and_from _ _ h.0 (all_push p ns n h.1 b)
 
--- what labels behind others make
+-- what labels after others make
 pub record Longer (labels : List (ℕ × ℤ)) (t : Tag) (old new : List ℤ) : Type 0 where
   pub more : List ℤ
   pub grown : new ≡ old ++ more
   pub are : NumbersAre labels t new
 
-pub number_added : (labels : List (ℕ × ℤ)) (t : Tag) (d : ℕ) (ns out : List ℤ) (n : ℤ) → NumbersAre labels t ns → numbered labels t d ns n ≡ Ok out → Longer labels t ns out × (is_some_list out ≡ true)
+pub number_added : (labels : List (ℕ × ℤ)) (t : Tag) (d : ℕ) (ns out : List ℤ) (n : ℤ) → NumbersAre labels t ns
+    → numbered labels t d ns n ≡ Ok out
+    → Longer labels t ns out × (is_some_list out ≡ true)
 number_added labels t d ns out n are h =
     let bad = not (is_of labels t n) || list_any (int_eq n) ns in
     let b = then_ok (refused Label d bad) _ out h in
@@ -111,7 +113,9 @@ firsts : (arms more : List Arm_) → map (λ a. a.0) (arms ++ more) ≡ map (λ 
 firsts [] more = refl
 firsts (a ∷ arms) more = ap (λ z. a.0 ∷ z) (firsts arms more)
 
-pub arms_added : (types : List Shape) (labels : List (ℕ × ℤ)) (t : Tag) (ns new : List ℤ) (arms : List Arm_) (s : Shape) → ArmsAre types labels t ns arms → Longer labels t ns new → good types s ≡ true → ArmsAre types labels t new (with_arm new arms s)
+pub arms_added : (types : List Shape) (labels : List (ℕ × ℤ)) (t : Tag) (ns new : List ℤ) (arms : List Arm_) (s : Shape)
+    → ArmsAre types labels t ns arms → Longer labels t ns new → good types s ≡ true
+    → ArmsAre types labels t new (with_arm new arms s)
 arms_added types labels t ns new arms s are longer sound =
     let rest : drop (length arms) new ≡ longer.more = ap (drop (length arms)) longer.grown ∙ behind_them arms ns longer.more are.arms in
     record {
@@ -131,14 +135,16 @@ pub number_ends : (n : ℕ) (types : List Shape) (limit : ℕ) (k : Kind) → un
 number_ends zero types limit k = refl
 number_ends (suc n) types limit k = refl
 
-pub named_ends : (types : List Shape) (n limit k : ℕ) (e : Shape) → limit ≤ n → k < limit → Ends types k e → unfolded n types limit (named k) ≡ e
+pub named_ends : (types : List Shape) (n limit k : ℕ) (e : Shape) → limit ≤ n → k < limit → Ends types k e
+    → unfolded n types limit (named k) ≡ e
 named_ends types zero limit k e is lt ends = absurd (omega (arith, is, lt))
 named_ends types (suc n) limit k e is lt ends =
     let yes : nat_lt k limit ≡ true = lt-ltb k limit lt in
     let le : k ≤ n = omega (arith, is, lt) in
     rw yes (ends n le)
 
-use_fits : (types : List Shape) (labels : List (ℕ × ℤ)) (u : Use) → UseIs types labels u → is_other (tag_of_use u) ≡ false → Fits labels (tag_of_use u) (unfolded (length types) types (length types) (shape_of_use u))
+use_fits : (types : List Shape) (labels : List (ℕ × ℤ)) (u : Use) → UseIs types labels u → is_other (tag_of_use u) ≡ false
+    → Fits labels (tag_of_use u) (unfolded (length types) types (length types) (shape_of_use u))
 use_fits types labels (Number k) is ok = subst (Fits labels (tag.Number k)) (sym (number_ends (length types) types (length types) k)) (record { tag = refl; of = λ n h. h })
 use_fits types labels (Declared k (tag.Number kind)) is ok =
     subst (Fits labels (tag.Number kind)) (sym (named_ends types (length types) (length types) k (number kind) (omega arith) is.0 is.1)) (record { tag = refl; of = λ n h. h })
@@ -159,7 +165,9 @@ numbers_arms : (arms : List Arm_) (o : Arms) → NoNumbers o → numbers_of (arm
 numbers_arms [] o h = h
 numbers_arms (a ∷ arms) o h = ap (λ z. a.0 ∷ z) (numbers_arms arms o h)
 
-sound_arms : (types : List Shape) (arms : List Arm_) (o : Arms) → list_all (λ a. good types a.1) arms ≡ true → are_sound_arms types (length types) o ≡ true → are_sound_arms types (length types) (arms_of arms o) ≡ true
+sound_arms : (types : List Shape) (arms : List Arm_) (o : Arms) → list_all (λ a. good types a.1) arms ≡ true
+    → are_sound_arms types (length types) o ≡ true
+    → are_sound_arms types (length types) (arms_of arms o) ≡ true
 sound_arms types [] o a b = b
 sound_arms types (x ∷ arms) o a b = let parts = and_parts (good types x.1) (list_all (λ a. good types a.1) arms) a in and_from _ _ parts.0 (sound_arms types arms o parts.1 b)
 
@@ -171,8 +179,9 @@ pub record OtherIs (types : List Shape) (o : Arms) : Type 0 where
   pub numbers : NoNumbers o
   pub sound : are_sound_arms types (length types) o ≡ true
 
-pub choice_sound : (types : List Shape) (labels : List (ℕ × ℤ)) (u : Use) (ns : List ℤ) (arms : List Arm_) (o : Arms) → UseIs types labels u → is_other (tag_of_use u) ≡ false → ArmsAre types labels (tag_of_use u) ns arms → OtherIs types o
-    → has_arm (arms_of arms o) ≡ true → is_sound_type types (length types) (choice (shape_of_use u) (arms_of arms o)) ≡ true
+pub choice_sound : (types : List Shape) (labels : List (ℕ × ℤ)) (u : Use) (ns : List ℤ) (arms : List Arm_) (o : Arms) → UseIs types labels u
+    → is_other (tag_of_use u) ≡ false → ArmsAre types labels (tag_of_use u) ns arms → OtherIs types o → has_arm (arms_of arms o) ≡ true
+    → is_sound_type types (length types) (choice (shape_of_use u) (arms_of arms o)) ≡ true
 choice_sound types labels u ns arms o used fit are last has =
     let t = tag_of_use u in
     let fits = use_fits types labels u used fit in

@@ -34,7 +34,8 @@ pub record LabelsAre (k place : ℕ) (base labels : List (ℕ × ℤ)) (ns : Lis
 
 -- ---- one more label
 
-label_last : (j k : ℕ) (n m : ℤ) (labels : List (ℕ × ℤ)) → is_label j n (labels ++ (k, m) ∷ []) ≡ (is_label j n labels || (j == k && int_eq n m))
+label_last : (j k : ℕ) (n m : ℤ) (labels : List (ℕ × ℤ))
+    → is_label j n (labels ++ (k, m) ∷ []) ≡ (is_label j n labels || (j == k && int_eq n m))
 label_last j k n m labels = list_any-append (λ l. j == l.0 && int_eq n l.1) labels ((k, m) ∷ []) ∙ ap (λ z. is_label j n labels || z) (or_nothing (j == k && int_eq n m))
   where
     or_nothing : (b : Bool) → (b || false) ≡ b
@@ -50,7 +51,8 @@ other_label j k n m labels ne = label_last j k n m labels ∙ rw ne (or_false (i
 
 -- labels that have a number more, or had it
 abbrev pub Labelled : ℕ → ℕ → List (ℕ × ℤ) → List (ℕ × ℤ) → ℤ → Type 0
-Labelled k place old new n = ((is_label k n old ≡ true) × (new ≡ old)) ⊎ ((is_label k n old ≡ false) × (new ≡ old ++ (k, n) ∷ []) × (length old - place < most_labels))
+Labelled k place old new n = ((is_label k n old ≡ true) × (new ≡ old))
+    ⊎ ((is_label k n old ≡ false) × (new ≡ old ++ (k, n) ∷ []) × (length old - place < most_labels))
 
 absorbed : (x y : Bool) → (y ≡ true → x ≡ true) → x ≡ (x || y)
 absorbed true y f = refl
@@ -60,7 +62,9 @@ absorbed false false f = refl
 abbrev new_one : Bool → ℕ
 new_one b = if b then 0 else 1
 
-pub labels_added : (k place : ℕ) (base old new : List (ℕ × ℤ)) (ns : List ℤ) (n : ℤ) → LabelsAre k place base old ns → Labelled k place old new n → LabelsAre k place base new (ns ++ n ∷ [])
+pub labels_added : (k place : ℕ) (base old new : List (ℕ × ℤ)) (ns : List ℤ) (n : ℤ) → LabelsAre k place base old ns
+    → Labelled k place old new n
+    → LabelsAre k place base new (ns ++ n ∷ [])
 labels_added k place base old new ns n are (inl (had, same)) =
     let there : list_any (int_eq n) ns ≡ true = sym (are.own n) ∙ had in
     let more : count_different (ns ++ n ∷ []) ≡ count_different ns + 0 = count_push ns n ∙ ap (λ b. count_different ns + new_one b) there in
@@ -86,7 +90,9 @@ abbrev given : List (ℕ × ℤ) → Answer (List (ℕ × ℤ))
 given labels = Ok labels
 
 label_by : (b : Bool) (d k place : ℕ) (old new : List (ℕ × ℤ)) (n : ℤ) → is_label k n old ≡ b
-    → (if b then given old else and_then (refused Limit d (nat_le most_labels (length old - place))) (λ _. given (old ++ (k, n) ∷ []))) ≡ given new → Labelled k place old new n
+    → (if b then given old else and_then (refused Limit d (nat_le most_labels (length old - place))) (λ _. given (old ++ (k, n) ∷ [])))
+    ≡ given new
+    → Labelled k place old new n
 label_by true d k place old new n is h = inl (is, sym (ok_same old new h))
 label_by false d k place old new n is h =
     let a = then_ok (refused Limit d (nat_le most_labels (length old - place))) (λ _. given (old ++ (k, n) ∷ [])) new h in
@@ -102,5 +108,7 @@ some_length : (items : List Item_) → is_some_list items ≡ true → not (leng
 some_length [] h = absurd cc
 some_length (i ∷ items) h = not_from_false _ (ne_eqb (suc (length items)) 0 (omega arith))
 
-pub enum_sound : (items : List Item_) → is_some_list items ≡ true → count_different (numbers items) ≤ most_labels → are_distinct (names items) ≡ true → is_sound_enum items ≡ true
+pub enum_sound : (items : List Item_) → is_some_list items ≡ true → count_different (numbers items) ≤ most_labels
+    → are_distinct (names items) ≡ true
+    → is_sound_enum items ≡ true
 enum_sound items some few different = and_from _ _ (and_from _ _ (some_length items some) (le-leb _ _ few)) different

@@ -4,7 +4,7 @@ use Rattle.std.specs.Prelude.{Ok, Err}
 use Rattle.aoi.specs.declared.faults.NameFault.{NameFault}
 use Rattle.name_kit.specs.Answers.{Answer, and_then, refused}
 
--- what stands in front is given, and the rest follows from it
+-- the prefix is given, and the rest follows from it
 pub record Then {A B : Type 0} (a : Answer A) (f : A → Answer B) (b : B) : Type 0 where
   pub given : A
   pub first : a ≡ Ok given

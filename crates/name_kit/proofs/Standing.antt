@@ -54,7 +54,9 @@ ends_grow types more k e lt h n le =
 pub longer : (types more : List Shape) (k : ℕ) → k < length types → k < length (types ++ more)
 longer types more k lt = let count = length-append types more in omega (arith, lt, count)
 
-pub tag_grow : (types more : List Shape) (labels labels' : List (ℕ × ℤ)) (k : ℕ) (t : Tag) → FewerBelow (length types) labels labels' → k < length types → TagIs types labels k t → TagIs (types ++ more) labels' k t
+pub tag_grow : (types more : List Shape) (labels labels' : List (ℕ × ℤ)) (k : ℕ) (t : Tag)
+    → FewerBelow (length types) labels labels' → k < length types → TagIs types labels k t
+    → TagIs (types ++ more) labels' k t
 tag_grow types more labels labels' k (tag.Number kind) fewer lt h = ends_grow types more k (number kind) lt h
 tag_grow types more labels labels' k (tag.Enum j) fewer lt h = record {
   below = longer types more j h.below;
@@ -64,12 +66,15 @@ tag_grow types more labels labels' k (tag.Enum j) fewer lt h = record {
 }
 tag_grow types more labels labels' k tag.Other fewer lt h = tt
 
-pub use_grow : (types more : List Shape) (labels labels' : List (ℕ × ℤ)) (u : Use) → FewerBelow (length types) labels labels' → UseIs types labels u → UseIs (types ++ more) labels' u
+pub use_grow : (types more : List Shape) (labels labels' : List (ℕ × ℤ)) (u : Use)
+    → FewerBelow (length types) labels labels' → UseIs types labels u
+    → UseIs (types ++ more) labels' u
 use_grow types more labels labels' (Number k) fewer h = tt
 use_grow types more labels labels' (Declared k t) fewer h = (longer types more k h.0, tag_grow types more labels labels' k t fewer h.0 h.1)
 
 -- ---- the shape of a use
 
-pub use_sound : (types : List Shape) (labels : List (ℕ × ℤ)) (u : Use) → UseIs types labels u → is_sound_type types (length types) (shape_of_use u) ≡ true
+pub use_sound : (types : List Shape) (labels : List (ℕ × ℤ)) (u : Use) → UseIs types labels u
+    → is_sound_type types (length types) (shape_of_use u) ≡ true
 use_sound types labels (Number k) h = refl
 use_sound types labels (Declared k t) h = lt-ltb k (length types) h.0

@@ -18,7 +18,8 @@ use Rattle.name_kit.proofs.Labelling.{number_ends, named_ends}
 pub last_is : (types : List Shape) (new : Shape) → at (types ++ new ∷ []) (length types) ≡ new
 last_is types new = get_or_push types new void (length types) refl
 
-pub enum_ends : (n : ℕ) (types : List Shape) (limit : ℕ) (items : List (List ℕ × ℤ)) → unfolded n types limit (enumeration items) ≡ enumeration items
+pub enum_ends : (n : ℕ) (types : List Shape) (limit : ℕ) (items : List (List ℕ × ℤ))
+    → unfolded n types limit (enumeration items) ≡ enumeration items
 enum_ends zero types limit items = refl
 enum_ends (suc n) types limit items = refl
 
@@ -28,7 +29,8 @@ new_named types j e lt ends n le =
     ap (unfolded n (types ++ new ∷ []) (length types)) (last_is types new)
     ∙ named_ends (types ++ new ∷ []) n (length types) j e le lt (ends_grow types (new ∷ []) j e lt ends)
 
-pub use_tagged : (types : List Shape) (labels : List (ℕ × ℤ)) (u : Use) → UseIs types labels u → TagIs (types ++ shape_of_use u ∷ []) labels (length types) (tag_of_use u)
+pub use_tagged : (types : List Shape) (labels : List (ℕ × ℤ)) (u : Use) → UseIs types labels u
+    → TagIs (types ++ shape_of_use u ∷ []) labels (length types) (tag_of_use u)
 use_tagged types labels (Number k) is = λ n le. ap (unfolded n (types ++ number k ∷ []) (length types)) (last_is types (number k)) ∙ number_ends n (types ++ number k ∷ []) (length types) k
 use_tagged types labels (Declared j (tag.Number kind)) is = new_named types j (number kind) is.0 is.1
 use_tagged types labels (Declared j (tag.Enum k)) is = record { below = longer types (named j ∷ []) k is.1.below; items = is.1.items; ends = new_named types j (enumeration is.1.items) is.0 is.1.ends; numbers = is.1.numbers }

@@ -13,7 +13,7 @@ use Rattle.name_kit.specs.Answers.{Answer, and_then, refused}
 abbrev pub is_label : ℕ → ℤ → List (ℕ × ℤ) → Bool
 is_label k n labels = list_any (λ l. k == l.0 && int_eq n l.1) labels
 
--- a number is one of the k-th type's, of which there are at most 4,096; those of other enums stand before the place
+-- a number is one of the k-th type's, of which there are at most 4,096; those of other enums come before the place
 abbrev pub labelled : ℕ → ℕ → ℕ → List (ℕ × ℤ) → ℤ → Answer (List (ℕ × ℤ))
 labelled d k place labels n =
     if is_label k n labels then Ok labels
@@ -25,7 +25,7 @@ is_of labels (tag.Number k) n = in_range k n
 is_of labels (tag.Enum k) n = is_label k n labels
 is_of labels tag.Other n = false
 
--- the number of a union's label, after those that stand before it: it is one of the tag's, stands once, and is one of at most 4,096
+-- the number of a union's label, after those that come before it: it is one of the tag's, is there once, and is one of at most 4,096
 abbrev pub numbered : List (ℕ × ℤ) → Tag → ℕ → List ℤ → ℤ → Answer (List ℤ)
 numbered labels tag d numbers n =
     and_then (refused Label d (not (is_of labels tag n) || list_any (int_eq n) numbers)) (λ _.

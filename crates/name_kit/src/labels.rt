@@ -27,7 +27,7 @@ fn push_label(labels: &mut IndexSet<(u32, i128)>, k: u32, n: i128) -> Result<(),
     Ok(())
 }
 
-/// Makes a number one of the k-th type's; those of other enums stand before the place.
+/// Makes a number one of the k-th type's; those of other enums come before the place.
 pub fn add_label(
     labels: &mut IndexSet<(u32, i128)>,
     d: u32,
@@ -60,7 +60,7 @@ pub fn is_of(labels: &IndexSet<(u32, i128)>, tag: Tag, n: &i128) -> bool
     }
 }
 
-/// Puts the number of a union's label after those that stand before it.
+/// Puts the number of a union's label after those that come before it.
 pub fn add_number_of(
     labels: &IndexSet<(u32, i128)>,
     tag: Tag,

@@ -1,4 +1,4 @@
-//! What the resolution of names answers, for every front, and what the types that names stand for have in common.
+//! What the resolution of names answers, for every front end, and what the types that names stand for have in common.
 #![tactic(auto)]
 
 mod labels;

@@ -6,7 +6,7 @@ ghost use Rattle.std.specs.Ordering.{int_eq};
 use indexmap::IndexSet;
 use kit_base::NoMemory;
 
-/// Whether a number stands there.
+/// Whether a number is there.
 pub fn has_integer(numbers: &IndexSet<i128>, n: &i128) -> bool
     ensures { result ≡ list_any (int_eq n.now) numbers.now.keys }
 {
@@ -32,7 +32,7 @@ pub fn behind(numbers: &[i128], count: usize) -> &[i128]
     &numbers[count..]
 }
 
-/// Whether a number stands there.
+/// Whether a number is there.
 pub fn has_number(numbers: &IndexSet<u32>, n: u32) -> bool
     ensures { result ≡ list_any (nat_eq n) numbers.now.keys }
 {

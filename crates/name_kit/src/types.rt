@@ -50,7 +50,8 @@ pub fn union_of(
     arms: UnionArms,
     other: Option<Box<Ty>>,
 ) -> Result<Ty, NoMemory>
-    ensures { IfOk result (λ t. seen t ≡ choice (seen tag) (arms_seen arms (option_map (λ b. seen b.value) other))) }
+    ensures { IfOk result
+        (λ t. seen t ≡ choice (seen tag) (arms_seen arms (option_map (λ b. seen b.value) other))) }
 {
     Ok(Ty::Union(boxed(alloc, tag)?, arms, other))
 }
