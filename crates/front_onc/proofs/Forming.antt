@@ -29,7 +29,8 @@ exactly_some scope d v c h =
     let b = then_ok (natural 1 d a.given) _ c a.rest in
     subst (λ z. is_some_count z ≡ true) (ok_same (Exactly b.given) c b.rest) (natural_low 1 d b.given a.given b.first)
 
-at_most_open : (scope : Scope) (d : ℕ) (v : Option Value) (c : Count) → at_most scope d v ≡ Ok c → (is_some_count c ≡ true) × (is_open c ≡ true)
+at_most_open : (scope : Scope) (d : ℕ) (v : Option Value) (c : Count) → at_most scope d v ≡ Ok c
+    → (is_some_count c ≡ true) × (is_open c ≡ true)
 at_most_open scope d None c h = subst (λ z. (is_some_count z ≡ true) × (is_open z ≡ true)) (ok_same Any c h) (refl, refl)
 at_most_open scope d (Some v) c h =
     let a = then_ok (value scope d v) _ c h in
@@ -39,7 +40,9 @@ at_most_open scope d (Some v) c h =
 abbrev Sound : List Shape → Form → Type 0
 Sound types f = is_sound_type types (length types) (shape f) ≡ true
 
-pub form_sound : (types : List Shape) (labels : List (ℕ × ℤ)) (scope : Scope) (d : ℕ) (taken : Bool) (decl : Decl) (f : Form) → ScopeIs types labels scope → form scope d taken decl ≡ Ok f → Sound types f
+pub form_sound : (types : List Shape) (labels : List (ℕ × ℤ)) (scope : Scope) (d : ℕ) (taken : Bool) (decl : Decl) (f : Form)
+    → ScopeIs types labels scope → form scope d taken decl ≡ Ok f
+    → Sound types f
 form_sound types labels scope d taken (D.Plain t n) f s h =
     let a = then_ok (type_use scope d t) _ f h in
     let b = then_ok (refused Twice d taken) _ f a.rest in
@@ -89,8 +92,9 @@ form_free scope d taken (D.Text n v) f h = let b = then_ok (refused Twice d take
 
 -- ---- members
 
-pub members_are : (types : List Shape) (labels : List (ℕ × ℤ)) (scope : Scope) (d : ℕ) (fields out : List Field) (ms : List Member) → ScopeIs types labels scope → FieldsAre types fields
-    → members_on scope d fields ms ≡ Ok out → FieldsAre types out × (is_some_list fields ≡ true → is_some_list out ≡ true)
+pub members_are : (types : List Shape) (labels : List (ℕ × ℤ)) (scope : Scope) (d : ℕ) (fields out : List Field) (ms : List Member)
+    → ScopeIs types labels scope → FieldsAre types fields → members_on scope d fields ms ≡ Ok out
+    → FieldsAre types out × (is_some_list fields ≡ true → is_some_list out ≡ true)
 members_are types labels scope d fields out [] s are h = (subst (FieldsAre types) (ok_same fields out h) are, λ some. subst (λ z. is_some_list z ≡ true) (ok_same fields out h) some)
 members_are types labels scope d fields out (m ∷ ms) s are h =
     let taken = has (name_of m.decl) (map (λ f. f.0) fields) in
@@ -99,8 +103,9 @@ members_are types labels scope d fields out (m ∷ ms) s are h =
     let rest = members_are types labels scope d (fields ++ (name_of m.decl, shape a.given) ∷ []) out ms s next a.rest in
     (rest.0, λ _. rest.1 (some_push fields (name_of m.decl, shape a.given)))
 
-pub members_some : (types : List Shape) (labels : List (ℕ × ℤ)) (scope : Scope) (d : ℕ) (out : List Field) (ms : List Member) → ScopeIs types labels scope → is_some_list ms ≡ true
-    → members_on scope d [] ms ≡ Ok out → is_some_list out ≡ true
+pub members_some : (types : List Shape) (labels : List (ℕ × ℤ)) (scope : Scope) (d : ℕ) (out : List Field) (ms : List Member)
+    → ScopeIs types labels scope → is_some_list ms ≡ true → members_on scope d [] ms ≡ Ok out
+    → is_some_list out ≡ true
 members_some types labels scope d out [] s some h = absurd cc
 members_some types labels scope d out (m ∷ ms) s some h =
     let taken = has (name_of m.decl) [] in

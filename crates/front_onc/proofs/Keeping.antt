@@ -60,7 +60,7 @@ declared_is name m s is means = record { types = is.types; scope = scope_push (s
 
 -- ---- one more type
 
--- what a state has to be so that a type may be put behind the others
+-- what a state has to be so that a type may be put after the others
 record Takes (s : State) (new : Shape) (t : Tag) : Type 0 where
   types : are_sound_types (shapes_of s) 0 (shapes_of s) ≡ true
   sound : is_sound_type (shapes_of s) (length (shapes_of s)) new ≡ true
@@ -87,7 +87,9 @@ typed_is name new t s take =
     }
 
 -- the same where names and labels are as they were
-takes : (s : State) (new : Shape) (t : Tag) → StateIs s → is_sound_type (shapes_of s) (length (shapes_of s)) new ≡ true → TagIs (shapes_of s ++ new ∷ []) s.labels (length (shapes_of s)) t → Takes s new t
+takes : (s : State) (new : Shape) (t : Tag) → StateIs s → is_sound_type (shapes_of s) (length (shapes_of s)) new ≡ true
+    → TagIs (shapes_of s ++ new ∷ []) s.labels (length (shapes_of s)) t
+    → Takes s new t
 takes s new t is sound tagged = record {
   types = is.types;
   sound = sound;
@@ -99,7 +101,9 @@ takes s new t is sound tagged = record {
 
 -- ---- what a new type is as a tag
 
-form_tagged : (types : List Shape) (labels : List (ℕ × ℤ)) (scope : Scope) (d : ℕ) (taken : Bool) (decl : Decl) (f : Form) → ScopeIs types labels scope → form scope d taken decl ≡ Ok f → TagIs (types ++ shape f ∷ []) labels (length types) (tag_of f)
+form_tagged : (types : List Shape) (labels : List (ℕ × ℤ)) (scope : Scope) (d : ℕ) (taken : Bool) (decl : Decl) (f : Form)
+    → ScopeIs types labels scope → form scope d taken decl ≡ Ok f
+    → TagIs (types ++ shape f ∷ []) labels (length types) (tag_of f)
 form_tagged types labels scope d taken (L.Plain t n) f is h =
     let a = then_ok (type_use scope d t) _ f h in
     let b = then_ok (refused Twice d taken) _ f a.rest in
@@ -133,7 +137,9 @@ typedef_is d s out decl is h =
     let take = takes s (shape f) (tag_of f) is (form_sound (shapes_of s) s.labels s.scope d taken decl f is.scope a.first) (form_tagged (shapes_of s) s.labels s.scope d taken decl f is.scope a.first) in
     subst StateIs (ok_same (with_type (name_of decl) (shape f) (tag_of f) s) out a.rest) (typed_is (name_of decl) (shape f) (tag_of f) s take)
 
-struct_is : (d : ℕ) (s out : State) (name : List ℕ) (members : List Member) → StateIs s → is_some_list members ≡ true → struct_on d s name members ≡ Ok out → StateIs out
+struct_is : (d : ℕ) (s out : State) (name : List ℕ) (members : List Member) → StateIs s → is_some_list members ≡ true
+    → struct_on d s name members ≡ Ok out
+    → StateIs out
 struct_is d s out name members is some h =
     let a = then_ok (refused Twice d (is_declared name s.scope)) _ out h in
     let b = then_ok (members_on s.scope d [] members) _ out a.rest in
@@ -152,11 +158,13 @@ union_is d s out u is some h =
     let take = takes s c.given tag.Other is (union_sound s d b.given u c.given is.scope used some c.first) tt in
     subst StateIs (ok_same (with_type u.name c.given tag.Other s) out c.rest) (typed_is u.name c.given tag.Other s take)
 
-constants_are : (types : List Shape) (labels : List (ℕ × ℤ)) (items : List (List ℕ × ℤ)) → ScopeIs types labels (map (λ i. (i.0, M.Constant i.1)) items)
+constants_are : (types : List Shape) (labels : List (ℕ × ℤ)) (items : List (List ℕ × ℤ))
+    → ScopeIs types labels (map (λ i. (i.0, M.Constant i.1)) items)
 constants_are types labels [] = tt
 constants_are types labels (i ∷ items) = (tt, constants_are types labels items)
 
-scope_join : (types : List Shape) (labels : List (ℕ × ℤ)) (a b : Scope) → ScopeIs types labels a → ScopeIs types labels b → ScopeIs types labels (a ++ b)
+scope_join : (types : List Shape) (labels : List (ℕ × ℤ)) (a b : Scope) → ScopeIs types labels a → ScopeIs types labels b
+    → ScopeIs types labels (a ++ b)
 scope_join types labels [] b h k = k
 scope_join types labels (e ∷ a) b h k = (h.0, scope_join types labels a b h.1 k)
 
@@ -174,7 +182,9 @@ items_start s k is place = record {
   different = refl;
 }
 
-enum_takes : (s t : State) (k : ℕ) (items : List (List ℕ × ℤ)) → StateIs s → k ≡ length (shapes_of s) → ItemsAre k (length s.labels) s t items → is_some_list items ≡ true → Takes t (enumeration items) (tag.Enum k)
+enum_takes : (s t : State) (k : ℕ) (items : List (List ℕ × ℤ)) → StateIs s → k ≡ length (shapes_of s)
+    → ItemsAre k (length s.labels) s t items → is_some_list items ≡ true
+    → Takes t (enumeration items) (tag.Enum k)
 enum_takes s t k items is place are some =
     let new = enumeration items in
     let same : shapes_of t ≡ shapes_of s = ap (λ (z : List (List ℕ × Shape)). map (λ t. t.1) z) are.types in
@@ -197,7 +207,8 @@ enum_takes s t k items is place are some =
       interfaces = rw (same, are.interfaces) is.interfaces;
     }
 
-enum_is : (d : ℕ) (s out : State) (name : List ℕ) (list : List Item) → StateIs s → is_some_list list ≡ true → enum_on d s name list ≡ Ok out → StateIs out
+enum_is : (d : ℕ) (s out : State) (name : List ℕ) (list : List Item) → StateIs s → is_some_list list ≡ true → enum_on d s name list ≡ Ok out
+    → StateIs out
 enum_is d s out name list is some h =
     let k = length s.types in
     let place : k ≡ length (shapes_of s) = sym (length-map s.types (λ t. t.1)) in
@@ -225,7 +236,8 @@ offers_is s t is offers =
       interfaces = rw same offers.interfaces;
     }
 
-program_is : (d : ℕ) (s out : State) (name : List ℕ) (list : List Version) (v : Value) → StateIs s → program_on d s name list v ≡ Ok out → StateIs out
+program_is : (d : ℕ) (s out : State) (name : List ℕ) (list : List Version) (v : Value) → StateIs s → program_on d s name list v ≡ Ok out
+    → StateIs out
 program_is d s out name list v is h =
     let number = number_of s.scope d v in
     let a = then_ok (refused Twice d (is_declared name s.scope)) _ out h in

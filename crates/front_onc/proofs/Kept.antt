@@ -14,15 +14,17 @@ use Rattle.front_onc.specs.Enums.{with_label, item_number, short, item_on, items
 use Rattle.name_kit.proofs.Parts.{then_ok, ok_same}
 use Rattle.name_kit.specs.Labels.{labelled}
 
-pub not_behind : (name : List ℕ) (scope : Scope) (n : List ℕ) (m : Meaning) → is_declared name scope ≡ false → bytes_eq name n ≡ false → is_declared name (scope ++ (n, m) ∷ []) ≡ false
+pub not_behind : (name : List ℕ) (scope : Scope) (n : List ℕ) (m : Meaning) → is_declared name scope ≡ false → bytes_eq name n ≡ false
+    → is_declared name (scope ++ (n, m) ∷ []) ≡ false
 not_behind name [] n m a b = or_from _ _ b refl
 not_behind name (e ∷ es) n m a b = let h = or_parts _ _ a in or_from _ _ h.0 (not_behind name es n m h.1 b)
 
 pub label_scope : (d k place : ℕ) (s t : State) (n : ℤ) → with_label d k place s n ≡ Ok t → t.scope ≡ s.scope
 label_scope d k place s t n h = let x = then_ok (labelled d k place s.labels n) _ t h in ap (λ z. z.scope) (sym (ok_same (record s { labels = x.given }) t x.rest))
 
-pub item_keeps : (name : List ℕ) (d k place : ℕ) (s : State) (previous : Option ℤ) (i : Item) (r : State × ℤ) → item_on d k place s previous i ≡ Ok r
-    → is_declared name s.scope ≡ false → bytes_eq name i.name ≡ false → is_declared name r.0.scope ≡ false
+pub item_keeps : (name : List ℕ) (d k place : ℕ) (s : State) (previous : Option ℤ) (i : Item) (r : State × ℤ)
+    → item_on d k place s previous i ≡ Ok r → is_declared name s.scope ≡ false → bytes_eq name i.name ≡ false
+    → is_declared name r.0.scope ≡ false
 item_keeps name d k place s previous i r h old new =
     let a = then_ok (refused Twice d (is_declared i.name s.scope)) _ r h in
     let b = then_ok (item_number s.scope d previous i.value) _ r a.rest in
@@ -33,8 +35,10 @@ item_keeps name d k place s previous i r h old new =
     let made : State × ℤ = (declared i.name (Constant c.given) e.given, c.given) in
     subst (λ z. is_declared name z ≡ false) (ap (λ (z : State × ℤ). z.0.scope) (ok_same made r e.rest)) none
 
-pub items_keep : (name : List ℕ) (d k place : ℕ) (s : State) (done : List (List ℕ × ℤ)) (previous : Option ℤ) (items : List Item) (r : State × List (List ℕ × ℤ)) → items_on d k place s done previous items ≡ Ok r
-    → is_declared name s.scope ≡ false → is_item name items ≡ false → is_declared name r.0.scope ≡ false
+pub items_keep : (name : List ℕ) (d k place : ℕ) (s : State) (done : List (List ℕ × ℤ)) (previous : Option ℤ)
+    (items : List Item) (r : State × List (List ℕ × ℤ))
+    → items_on d k place s done previous items ≡ Ok r → is_declared name s.scope ≡ false → is_item name items ≡ false
+    → is_declared name r.0.scope ≡ false
 items_keep name d k place s done previous [] r h old new =
     let here : State × List (List ℕ × ℤ) = (s, done) in
     subst (λ z. is_declared name z ≡ false) (ap (λ (z : State × List (List ℕ × ℤ)). z.0.scope) (ok_same here r h)) old

@@ -30,10 +30,13 @@ use Rattle.front_onc.proofs.Forming.{form_sound}
 
 -- ---- labels
 
-label_added : (scope : Scope) (labels : List (ℕ × ℤ)) (t : Tag) (d : ℕ) (ns out : List ℤ) (l : LabelTree) → NumbersAre labels t ns → label_on scope labels t d ns l ≡ Ok out → Longer labels t ns out × (is_some_list out ≡ true)
+label_added : (scope : Scope) (labels : List (ℕ × ℤ)) (t : Tag) (d : ℕ) (ns out : List ℤ) (l : LabelTree)
+    → NumbersAre labels t ns → label_on scope labels t d ns l ≡ Ok out
+    → Longer labels t ns out × (is_some_list out ≡ true)
 label_added scope labels t d ns out l are h = let a = then_ok (value scope d l.value) _ out h in number_added labels t d ns out a.given are a.rest
 
-labels_are : (scope : Scope) (labels : List (ℕ × ℤ)) (t : Tag) (d : ℕ) (ns out : List ℤ) (ls : List LabelTree) → NumbersAre labels t ns → labels_on scope labels t d ns ls ≡ Ok out
+labels_are : (scope : Scope) (labels : List (ℕ × ℤ)) (t : Tag) (d : ℕ) (ns out : List ℤ) (ls : List LabelTree)
+    → NumbersAre labels t ns → labels_on scope labels t d ns ls ≡ Ok out
     → Longer labels t ns out × (is_some_list ns ≡ true → is_some_list out ≡ true)
 labels_are scope labels t d ns out [] are h =
     let same = ok_same ns out h in
@@ -44,7 +47,9 @@ labels_are scope labels t d ns out (l ∷ ls) are h =
     let rest = labels_are scope labels t d a.given out ls one.0.are a.rest in
     (record { more = one.0.more ++ rest.0.more; grown = rest.0.grown ∙ ap (λ z. z ++ rest.0.more) one.0.grown ∙ joined ns one.0.more rest.0.more; are = rest.0.are }, λ _. rest.1 one.1)
 
-labels_some : (scope : Scope) (labels : List (ℕ × ℤ)) (t : Tag) (d : ℕ) (ns out : List ℤ) (ls : List LabelTree) → NumbersAre labels t ns → is_some_list ls ≡ true → labels_on scope labels t d ns ls ≡ Ok out → is_some_list out ≡ true
+labels_some : (scope : Scope) (labels : List (ℕ × ℤ)) (t : Tag) (d : ℕ) (ns out : List ℤ) (ls : List LabelTree)
+    → NumbersAre labels t ns → is_some_list ls ≡ true → labels_on scope labels t d ns ls ≡ Ok out
+    → is_some_list out ≡ true
 labels_some scope labels t d ns out [] are some h = absurd cc
 labels_some scope labels t d ns out (l ∷ ls) are some h =
     let a = then_ok (label_on scope labels t d ns l) _ out h in
@@ -53,7 +58,10 @@ labels_some scope labels t d ns out (l ∷ ls) are some h =
 
 -- ---- arms
 
-arm_good : (types : List Shape) (labels : List (ℕ × ℤ)) (scope : Scope) (d : ℕ) (names : List (List ℕ)) (a : ArmTree) (r : Option Form × List (List ℕ)) → ScopeIs types labels scope → arm_on scope d names a ≡ Ok r → good types (arm_shape r.0) ≡ true
+arm_good : (types : List Shape) (labels : List (ℕ × ℤ)) (scope : Scope) (d : ℕ) (names : List (List ℕ)) (a : ArmTree)
+    (r : Option Form × List (List ℕ))
+    → ScopeIs types labels scope → arm_on scope d names a ≡ Ok r
+    → good types (arm_shape r.0) ≡ true
 arm_good types labels scope d names A.Void r s h =
     let here : Option Form × List (List ℕ) = (None, names) in
     subst (λ (r : Option Form × List (List ℕ)). good types (arm_shape r.0) ≡ true) (ok_same here r h) refl
@@ -67,8 +75,10 @@ arm_good types labels scope d names (A.Decl decl) r s h =
 abbrev CasesAre : List Shape → List (ℕ × ℤ) → Tag → Cases → Type 0
 CasesAre types labels t cs = ArmsAre types labels t cs.numbers cs.arms
 
-case_added : (types : List Shape) (labels : List (ℕ × ℤ)) (scope : Scope) (t : Tag) (d : ℕ) (cs out : Cases) (c : Case) → ScopeIs types labels scope → CasesAre types labels t cs → case_on scope labels t d cs c ≡ Ok out
-    → CasesAre types labels t out × (is_some_list cs.numbers ≡ true → is_some_list out.numbers ≡ true) × (is_some_list c.labels ≡ true → is_some_list out.numbers ≡ true)
+case_added : (types : List Shape) (labels : List (ℕ × ℤ)) (scope : Scope) (t : Tag) (d : ℕ) (cs out : Cases) (c : Case)
+    → ScopeIs types labels scope → CasesAre types labels t cs → case_on scope labels t d cs c ≡ Ok out
+    → CasesAre types labels t out × (is_some_list cs.numbers ≡ true → is_some_list out.numbers ≡ true)
+    × (is_some_list c.labels ≡ true → is_some_list out.numbers ≡ true)
 case_added types labels scope t d cs out c s are h =
     let a = then_ok (labels_on scope labels t d cs.numbers c.labels) _ out h in
     let b = then_ok (arm_on scope d cs.names c.arm) _ out a.rest in
@@ -83,7 +93,8 @@ case_added types labels scope t d cs out c s are h =
       λ some. subst (λ (z : Cases). is_some_list z.numbers ≡ true) same (labels_some scope labels t d cs.numbers a.given c.labels are.numbers some a.first),
     )
 
-cases_are : (types : List Shape) (labels : List (ℕ × ℤ)) (scope : Scope) (t : Tag) (d : ℕ) (cs out : Cases) (list : List Case) → ScopeIs types labels scope → CasesAre types labels t cs → cases_on scope labels t d cs list ≡ Ok out
+cases_are : (types : List Shape) (labels : List (ℕ × ℤ)) (scope : Scope) (t : Tag) (d : ℕ) (cs out : Cases) (list : List Case)
+    → ScopeIs types labels scope → CasesAre types labels t cs → cases_on scope labels t d cs list ≡ Ok out
     → CasesAre types labels t out × (is_some_list cs.numbers ≡ true → is_some_list out.numbers ≡ true)
 cases_are types labels scope t d cs out [] s are h =
     let same = ok_same cs out h in (subst (CasesAre types labels t) same are, λ some. subst (λ (z : Cases). is_some_list z.numbers ≡ true) same some)
@@ -93,7 +104,9 @@ cases_are types labels scope t d cs out (c ∷ list) s are h =
     let rest = cases_are types labels scope t d a.given out list s one.0 a.rest in
     (rest.0, λ some. rest.1 (one.1 some))
 
-cases_some : (types : List Shape) (labels : List (ℕ × ℤ)) (scope : Scope) (t : Tag) (d : ℕ) (cs out : Cases) (list : List Case) → ScopeIs types labels scope → CasesAre types labels t cs → has_label list ≡ true → cases_on scope labels t d cs list ≡ Ok out → is_some_list out.numbers ≡ true
+cases_some : (types : List Shape) (labels : List (ℕ × ℤ)) (scope : Scope) (t : Tag) (d : ℕ) (cs out : Cases) (list : List Case)
+    → ScopeIs types labels scope → CasesAre types labels t cs → has_label list ≡ true → cases_on scope labels t d cs list ≡ Ok out
+    → is_some_list out.numbers ≡ true
 cases_some types labels scope t d cs out [] s are some h = absurd cc
 cases_some types labels scope t d cs out (c ∷ list) s are some h =
     let a = then_ok (case_on scope labels t d cs c) _ out h in
@@ -102,13 +115,16 @@ cases_some types labels scope t d cs out (c ∷ list) s are some h =
 
 -- ---- the union
 
-other_is : (types : List Shape) (labels : List (ℕ × ℤ)) (scope : Scope) (d : ℕ) (names : List (List ℕ)) (a : Option ArmTree) (o : Arms) → ScopeIs types labels scope → other scope d names a ≡ Ok o → OtherIs types o
+other_is : (types : List Shape) (labels : List (ℕ × ℤ)) (scope : Scope) (d : ℕ) (names : List (List ℕ)) (a : Option ArmTree) (o : Arms)
+    → ScopeIs types labels scope → other scope d names a ≡ Ok o
+    → OtherIs types o
 other_is types labels scope d names None o s h = subst (OtherIs types) (ok_same no_default o h) (record { numbers = refl; sound = refl })
 other_is types labels scope d names (Some a) o s h =
     let b = then_ok (arm_on scope d names a) _ o h in
     subst (OtherIs types) (ok_same (default (arm_shape b.given.0)) o b.rest) (record { numbers = refl; sound = arm_good types labels scope d names a b.given s b.first })
 
-pub union_sound : (s : State) (d : ℕ) (u : Use) (tree : Union) (out : Shape) → ScopeIs (map (λ t. t.1) s.types) s.labels s.scope → UseIs (map (λ t. t.1) s.types) s.labels u → has_label tree.cases ≡ true → union_shape s d u tree ≡ Ok out
+pub union_sound : (s : State) (d : ℕ) (u : Use) (tree : Union) (out : Shape) → ScopeIs (map (λ t. t.1) s.types) s.labels s.scope
+    → UseIs (map (λ t. t.1) s.types) s.labels u → has_label tree.cases ≡ true → union_shape s d u tree ≡ Ok out
     → is_sound_type (map (λ t. t.1) s.types) (length (map (λ t. t.1) s.types)) out ≡ true
 union_sound s d u tree out is used some h =
     let types : List Shape = map (λ t. t.1) s.types in

@@ -55,7 +55,9 @@ state_label_is d k place s t n h =
 
 -- ---- one more item
 
-none_of_them : (scope : Scope) (items : List Item_) (name : List ℕ) → is_declared name (scope ++ map (λ i. (i.0, Constant i.1)) items) ≡ false → has name (names items) ≡ false
+none_of_them : (scope : Scope) (items : List Item_) (name : List ℕ)
+    → is_declared name (scope ++ map (λ i. (i.0, Constant i.1)) items) ≡ false
+    → has name (names items) ≡ false
 none_of_them [] [] name h = refl
 none_of_them [] (i ∷ items) name h = let parts = or_parts (bytes_eq name i.0) _ h in or_from _ _ parts.0 (none_of_them [] items name parts.1)
 none_of_them (e ∷ scope) items name h = let parts = or_parts (bytes_eq name e.0) _ h in none_of_them scope items name parts.1
@@ -64,7 +66,9 @@ added : {A : Type 0} (xs ys : List A) (z : A) → (xs ++ ys) ++ z ∷ [] ≡ xs 
 added [] ys z = refl
 added (x ∷ xs) ys z = ap (λ w. x ∷ w) (added xs ys z)
 
-pub item_added : (d k place : ℕ) (s t : State) (items : List Item_) (previous : Option ℤ) (i : Item) (r : State × ℤ) → ItemsAre k place s t items → item_on d k place t previous i ≡ Ok r → ItemsAre k place s r.0 (items ++ (i.name, r.1) ∷ [])
+pub item_added : (d k place : ℕ) (s t : State) (items : List Item_) (previous : Option ℤ) (i : Item) (r : State × ℤ)
+    → ItemsAre k place s t items → item_on d k place t previous i ≡ Ok r
+    → ItemsAre k place s r.0 (items ++ (i.name, r.1) ∷ [])
 item_added d k place s t items previous i r are h =
     let a = then_ok (refused Twice d (is_declared i.name t.scope)) _ r h in
     let b = then_ok (item_number t.scope d previous i.value) _ r a.rest in
@@ -85,7 +89,8 @@ item_added d k place s t items previous i r are h =
       different = subst (λ z. are_distinct z ≡ true) (sym (append_map (λ (i : Item_). i.0) items last)) (distinct_push (names items) i.name are.different free);
     })
 
-pub items_are : (d k place : ℕ) (s t : State) (items : List Item_) (previous : Option ℤ) (list : List Item) (r : State × List Item_) → ItemsAre k place s t items → items_on d k place t items previous list ≡ Ok r
+pub items_are : (d k place : ℕ) (s t : State) (items : List Item_) (previous : Option ℤ) (list : List Item) (r : State × List Item_)
+    → ItemsAre k place s t items → items_on d k place t items previous list ≡ Ok r
     → ItemsAre k place s r.0 r.1 × (is_some_list items ≡ true → is_some_list r.1 ≡ true)
 items_are d k place s t items previous [] r are h =
     let here : State × List Item_ = (t, items) in
@@ -96,11 +101,14 @@ items_are d k place s t items previous (i ∷ list) r are h =
     let rest = items_are d k place s a.given.0 (items ++ (i.name, a.given.1) ∷ []) (Some a.given.1) list r (item_added d k place s t items previous i a.given are a.first) a.rest in
     (rest.0, λ _. rest.1 (some_push items (i.name, a.given.1)))
 
-pub items_some : (d k place : ℕ) (s : State) (list : List Item) (r : State × List Item_) → ItemsAre k place s s [] → is_some_list list ≡ true → items_on d k place s [] None list ≡ Ok r → is_some_list r.1 ≡ true
+pub items_some : (d k place : ℕ) (s : State) (list : List Item) (r : State × List Item_) → ItemsAre k place s s []
+    → is_some_list list ≡ true → items_on d k place s [] None list ≡ Ok r
+    → is_some_list r.1 ≡ true
 items_some d k place s [] r are some h = absurd cc
 items_some d k place s (i ∷ list) r are some h =
     let a = then_ok (item_on d k place s None i) _ r h in
     (items_are d k place s a.given.0 ((i.name, a.given.1) ∷ []) (Some a.given.1) list r (item_added d k place s s [] None i a.given are a.first) a.rest).1 refl
 
-pub enum_sound : (k place : ℕ) (s t : State) (items : List Item_) → ItemsAre k place s t items → is_some_list items ≡ true → is_sound_enum items ≡ true
+pub enum_sound : (k place : ℕ) (s t : State) (items : List Item_) → ItemsAre k place s t items → is_some_list items ≡ true
+    → is_sound_enum items ≡ true
 enum_sound k place s t items are some = sound_items items some are.labels.few are.different

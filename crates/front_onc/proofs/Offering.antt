@@ -69,7 +69,8 @@ members_grow low high no_more le h = refl
 members_grow low high (member n s ms) le h =
     let parts = and_parts (is_simple low s) (are_simple low ms) h in and_from _ _ (simple_grow low high s le parts.0) (members_grow low high ms le parts.1)
 
-use_simple : (types : List Shape) (labels : List (ℕ × ℤ)) (u : Use) → UseIs types labels u → is_simple (length types) (shape_of_use u) ≡ true
+use_simple : (types : List Shape) (labels : List (ℕ × ℤ)) (u : Use) → UseIs types labels u
+    → is_simple (length types) (shape_of_use u) ≡ true
 use_simple types labels (Number k) h = refl
 use_simple types labels (Declared k t) h = lt-ltb k (length types) h.0
 
@@ -77,14 +78,18 @@ use_simple types labels (Declared k t) h = lt-ltb k (length types) h.0
 abbrev pub ResultIs : ℕ → Shape → Type 0
 ResultIs limit s = (s ≡ void) ⊎ (is_simple limit s ≡ true)
 
-result_is : (types : List Shape) (labels : List (ℕ × ℤ)) (scope : Scope) (d : ℕ) (t : ProcType) (s : Shape) → ScopeIs types labels scope → result_of scope d t ≡ Ok s → ResultIs (length types) s
+result_is : (types : List Shape) (labels : List (ℕ × ℤ)) (scope : Scope) (d : ℕ) (t : ProcType) (s : Shape)
+    → ScopeIs types labels scope → result_of scope d t ≡ Ok s
+    → ResultIs (length types) s
 result_is types labels scope d P.Void s is h = inl (sym (ok_same void s h))
 result_is types labels scope d P.Text s is h = inr (subst (λ z. is_simple (length types) z ≡ true) (ok_same (text Any) s h) refl)
 result_is types labels scope d (P.Plain t) s is h =
     let a = then_ok (type_use scope d t) _ s h in
     inr (subst (λ z. is_simple (length types) z ≡ true) (ok_same (shape_of_use a.given) s a.rest) (use_simple types labels a.given (type_use_is types labels scope d t a.given is a.first)))
 
-parameter_is : (types : List Shape) (labels : List (ℕ × ℤ)) (scope : Scope) (d : ℕ) (t : ProcType) (s : Shape) → ScopeIs types labels scope → parameter scope d t ≡ Ok s → is_simple (length types) s ≡ true
+parameter_is : (types : List Shape) (labels : List (ℕ × ℤ)) (scope : Scope) (d : ℕ) (t : ProcType) (s : Shape)
+    → ScopeIs types labels scope → parameter scope d t ≡ Ok s
+    → is_simple (length types) s ≡ true
 parameter_is types labels scope d P.Void s is h = absurd cc
 parameter_is types labels scope d P.Text s is h = subst (λ z. is_simple (length types) z ≡ true) (ok_same (text Any) s h) refl
 parameter_is types labels scope d (P.Plain t) s is h =
@@ -94,11 +99,13 @@ parameter_is types labels scope d (P.Plain t) s is h =
 abbrev Field : Type 0
 Field = List ℕ × Shape
 
-simple_push : (limit : ℕ) (fields : List Field) (f : Field) → are_simple limit (members_of fields) ≡ true → is_simple limit f.1 ≡ true → are_simple limit (members_of (fields ++ f ∷ [])) ≡ true
+simple_push : (limit : ℕ) (fields : List Field) (f : Field) → are_simple limit (members_of fields) ≡ true → is_simple limit f.1 ≡ true
+    → are_simple limit (members_of (fields ++ f ∷ [])) ≡ true
 simple_push limit [] f a b = and_from _ _ b refl
 simple_push limit (g ∷ fields) f a b = let parts = and_parts (is_simple limit g.1) (are_simple limit (members_of fields)) a in and_from _ _ parts.0 (simple_push limit fields f parts.1 b)
 
-parameters_are : (types : List Shape) (labels : List (ℕ × ℤ)) (scope : Scope) (d : ℕ) (fields out : List Field) (list : List ProcType) → ScopeIs types labels scope → are_simple (length types) (members_of fields) ≡ true → parameters_on scope d fields list ≡ Ok out
+parameters_are : (types : List Shape) (labels : List (ℕ × ℤ)) (scope : Scope) (d : ℕ) (fields out : List Field) (list : List ProcType)
+    → ScopeIs types labels scope → are_simple (length types) (members_of fields) ≡ true → parameters_on scope d fields list ≡ Ok out
     → are_simple (length types) (members_of out) ≡ true
 parameters_are types labels scope d fields out [] is are h = subst (λ z. are_simple (length types) (members_of z) ≡ true) (ok_same fields out h) are
 parameters_are types labels scope d fields out (p ∷ list) is are h =
@@ -108,11 +115,15 @@ parameters_are types labels scope d fields out (p ∷ list) is are h =
 abbrev fields_given : List Field → Answer (List Field)
 fields_given f = Ok f
 
-by_void : (b : Bool) (limit : ℕ) (rest : Answer (List Field)) (out : List Field) → (rest ≡ fields_given out → are_simple limit (members_of out) ≡ true) → (if b then fields_given [] else rest) ≡ fields_given out → are_simple limit (members_of out) ≡ true
+by_void : (b : Bool) (limit : ℕ) (rest : Answer (List Field)) (out : List Field)
+    → (rest ≡ fields_given out → are_simple limit (members_of out) ≡ true) → (if b then fields_given [] else rest) ≡ fields_given out
+    → are_simple limit (members_of out) ≡ true
 by_void true limit rest out f h = subst (λ z. are_simple limit (members_of z) ≡ true) (ok_same [] out h) refl
 by_void false limit rest out f h = f h
 
-ins_are : (types : List Shape) (labels : List (ℕ × ℤ)) (scope : Scope) (d : ℕ) (out : List Field) (list : List ProcType) → ScopeIs types labels scope → parameters scope d list ≡ Ok out → are_simple (length types) (members_of out) ≡ true
+ins_are : (types : List Shape) (labels : List (ℕ × ℤ)) (scope : Scope) (d : ℕ) (out : List Field) (list : List ProcType)
+    → ScopeIs types labels scope → parameters scope d list ≡ Ok out
+    → are_simple (length types) (members_of out) ≡ true
 ins_are types labels scope d out list is h = by_void (is_void list) (length types) (parameters_on scope d [] list) out (λ h. parameters_are types labels scope d [] out list is refl h) h
 
 -- ---- operations
@@ -132,12 +143,15 @@ result_grow : (low high : ℕ) (s : Shape) → low ≤ high → ResultIs low s �
 result_grow low high s le (inl h) = inl h
 result_grow low high s le (inr h) = inr (simple_grow low high s le h)
 
-operations_grow : (low high few many : ℕ) (os : List PlainOperation) → low ≤ high → few ≤ many → OperationsAre low few os → OperationsAre high many os
+operations_grow : (low high few many : ℕ) (os : List PlainOperation) → low ≤ high → few ≤ many → OperationsAre low few os
+    → OperationsAre high many os
 operations_grow low high few many [] le more h = tt
 operations_grow low high few many (o ∷ os) le more h =
     (record { ins = members_grow low high o.ins le h.0.ins; outs = h.0.outs; result = result_grow low high o.result le h.0.result; raises = h.0.raises; slot = omega (arith, h.0.slot, more) }, operations_grow low high few many os le more h.1)
 
-operations_push : (limit slots : ℕ) (os : List PlainOperation) (o : PlainOperation) → OperationsAre limit slots os → OperationIs limit slots o → OperationsAre limit slots (os ++ o ∷ [])
+operations_push : (limit slots : ℕ) (os : List PlainOperation) (o : PlainOperation) → OperationsAre limit slots os
+    → OperationIs limit slots o
+    → OperationsAre limit slots (os ++ o ∷ [])
 operations_push limit slots [] o h is = (is, tt)
 operations_push limit slots (p ∷ os) o h is = (h.0, operations_push limit slots os o h.1 is)
 
@@ -146,7 +160,9 @@ pub record ProceduresAre (limit : ℕ) (os : List PlainOperation) : Type 0 where
   pub ops : OperationsAre limit (length os) os
   pub few : length os ≤ 256
 
-procedure_added : (types : List Shape) (labels : List (ℕ × ℤ)) (scope : Scope) (d : ℕ) (ps out : Procedures) (p : Procedure) → ScopeIs types labels scope → ProceduresAre (length types) ps.ops → procedure_on scope d ps p ≡ Ok out → ProceduresAre (length types) out.ops
+procedure_added : (types : List Shape) (labels : List (ℕ × ℤ)) (scope : Scope) (d : ℕ) (ps out : Procedures) (p : Procedure)
+    → ScopeIs types labels scope → ProceduresAre (length types) ps.ops → procedure_on scope d ps p ≡ Ok out
+    → ProceduresAre (length types) out.ops
 procedure_added types labels scope d ps out p is are h =
     let a = then_ok (result_of scope d p.result) _ out h in
     let b = then_ok (refused Twice d (has p.name ps.names)) _ out a.rest in
@@ -186,7 +202,8 @@ pub record Same (s t : State) : Type 0 where
 abbrev pub shapes_of : State → List Shape
 shapes_of s = map (λ t. t.1) s.types
 
-procedures_are : (s0 s : State) (ps : Procedures) (list : List Procedure) (r : State × Procedures) → ScopeIs (shapes_of s0) s0.labels s0.scope → Same s0 s → ProceduresAre (length (shapes_of s0)) ps.ops → procedures_on s ps list ≡ Ok r
+procedures_are : (s0 s : State) (ps : Procedures) (list : List Procedure) (r : State × Procedures)
+    → ScopeIs (shapes_of s0) s0.labels s0.scope → Same s0 s → ProceduresAre (length (shapes_of s0)) ps.ops → procedures_on s ps list ≡ Ok r
     → Same s0 r.0 × ProceduresAre (length (shapes_of s0)) r.1.ops
 procedures_are s0 s ps [] r is same are h =
     let here : State × Procedures = (s, ps) in
@@ -197,7 +214,9 @@ procedures_are s0 s ps (p ∷ list) r is same are h =
     let next : Same s0 (counted s) = record { scope = same.scope; labels = same.labels; types = same.types; interfaces = same.interfaces; versions = same.versions } in
     procedures_are s0 (counted s) a.given list r is next (procedure_added (shapes_of s0) s0.labels s.scope (s.count + 1) ps a.given p scope are a.first) a.rest
 
-operations_are : (s : State) (list : List Procedure) (r : State × List PlainOperation) → ScopeIs (shapes_of s) s.labels s.scope → operations s list ≡ Ok r → Same s r.0 × ProceduresAre (length (shapes_of s)) r.1
+operations_are : (s : State) (list : List Procedure) (r : State × List PlainOperation)
+    → ScopeIs (shapes_of s) s.labels s.scope → operations s list ≡ Ok r
+    → Same s r.0 × ProceduresAre (length (shapes_of s)) r.1
 operations_are s list r is h =
     let none : Procedures = record { names = []; numbers = []; ops = [] } in
     let a = then_ok (procedures_on s none list) _ r h in
@@ -219,7 +238,8 @@ pub interfaces_grow : (low high : ℕ) (is : List PlainInterface) → low ≤ hi
 interfaces_grow low high [] le h = tt
 interfaces_grow low high (i ∷ is) le h = (record { ids = h.0.ids; ops = operations_grow low high i.slots i.slots i.ops le (omega arith) h.0.ops }, interfaces_grow low high is le h.1)
 
-interfaces_push : (limit : ℕ) (is : List PlainInterface) (i : PlainInterface) → InterfacesAre limit is → InterfaceIs limit i → InterfacesAre limit (is ++ i ∷ [])
+interfaces_push : (limit : ℕ) (is : List PlainInterface) (i : PlainInterface) → InterfacesAre limit is → InterfaceIs limit i
+    → InterfacesAre limit (is ++ i ∷ [])
 interfaces_push limit [] i h one = (one, tt)
 interfaces_push limit (j ∷ is) i h one = (h.0, interfaces_push limit is i h.1 one)
 
@@ -230,8 +250,10 @@ pub record Offers (s t : State) : Type 0 where
   pub types : t.types ≡ s.types
   pub interfaces : InterfacesAre (length (shapes_of s)) t.interfaces
 
-version_out : (d : ℕ) (program : List ℕ) (number : Option ℕ) (name : List ℕ) (version : ℕ) (ops : List PlainOperation) (s t out : State) → Same s t → t.versions < 64 → InterfacesAre (length (shapes_of s)) s.interfaces
-    → ProceduresAre (length (shapes_of s)) ops → version_offered d program number name version ops t ≡ Ok out → Offers s out
+version_out : (d : ℕ) (program : List ℕ) (number : Option ℕ) (name : List ℕ) (version : ℕ) (ops : List PlainOperation) (s t out : State)
+    → Same s t → t.versions < 64 → InterfacesAre (length (shapes_of s)) s.interfaces
+    → ProceduresAre (length (shapes_of s)) ops → version_offered d program number name version ops t ≡ Ok out
+    → Offers s out
 version_out d program None name version ops s t out same room are ps h =
     let next : State = record t { versions = t.versions + 1 } in
     subst (Offers s) (ok_same next out h) (record { scope = same.scope; labels = same.labels; types = same.types; interfaces = subst (InterfacesAre (length (shapes_of s))) (sym same.interfaces) are })
@@ -247,8 +269,10 @@ version_out d program (Some n) name version ops s t out same room are ps h =
       interfaces = interfaces_push (length (shapes_of s)) t.interfaces i (subst (InterfacesAre (length (shapes_of s))) (sym same.interfaces) are) one;
     })
 
-version_is : (d : ℕ) (program : List ℕ) (given_ : Option ℕ) (names : List (List ℕ)) (s out : State) (v : Version) → ScopeIs (shapes_of s) s.labels s.scope → InterfacesAre (length (shapes_of s)) s.interfaces
-    → version_on d program given_ names s v ≡ Ok out → Offers s out
+version_is : (d : ℕ) (program : List ℕ) (given_ : Option ℕ) (names : List (List ℕ)) (s out : State) (v : Version)
+    → ScopeIs (shapes_of s) s.labels s.scope → InterfacesAre (length (shapes_of s)) s.interfaces
+    → version_on d program given_ names s v ≡ Ok out
+    → Offers s out
 version_is d program given_ names s out v is are h =
     let a = then_ok (refused Twice d (has v.name names)) _ out h in
     let b = then_ok (refused Limit d (nat_le 64 s.versions)) _ out a.rest in
@@ -259,7 +283,9 @@ version_is d program given_ names s out v is are h =
     let seats : c.given.0.versions < 64 = subst (λ z. z < 64) (sym ops.0.versions) room in
     version_out d program given_ v.name e.given c.given.1 s c.given.0 out ops.0 seats are ops.1 e.rest
 
-pub versions_are : (program : List ℕ) (given_ : Option ℕ) (names : List (List ℕ)) (s0 s out : State) (list : List Version) → ScopeIs (shapes_of s0) s0.labels s0.scope → Offers s0 s → versions_on program given_ names s list ≡ Ok out → Offers s0 out
+pub versions_are : (program : List ℕ) (given_ : Option ℕ) (names : List (List ℕ)) (s0 s out : State) (list : List Version)
+    → ScopeIs (shapes_of s0) s0.labels s0.scope → Offers s0 s → versions_on program given_ names s list ≡ Ok out
+    → Offers s0 out
 versions_are program given_ names s0 s out [] is offers h = subst (Offers s0) (ok_same s out h) offers
 versions_are program given_ names s0 s out (v ∷ list) is offers h =
     let a = then_ok (version_on (s.count + 1) program given_ names (counted s) v) _ out h in

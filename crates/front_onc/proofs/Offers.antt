@@ -20,7 +20,8 @@ not_true : (b : Bool) → (b ≡ true → ⊥) → b ≡ false
 not_true true f = absurd (f refl)
 not_true false f = refl
 
-pub offer_ok : (d : ℕ) (i : Interface) (h now : Held) (unit : Parts) (r : Result (Unit {0}) UnitErr) (x : Unit {0}) → (r ≡ Err err.Twice) ↔ (is_twice i h.unit.interfaces ≡ true) → r ≡ Ok x
+pub offer_ok : (d : ℕ) (i : Interface) (h now : Held) (unit : Parts) (r : Result (Unit {0}) UnitErr) (x : Unit {0})
+    → (r ≡ Err err.Twice) ↔ (is_twice i h.unit.interfaces ≡ true) → r ≡ Ok x
     → unit ≡ record h.unit { interfaces = h.unit.interfaces ++ i ∷ [] } → h ≡ now
     → offered d (plain_interface i) (state now) ≡ Ok (state (record h { unit = unit; versions = h.versions + 1 }))
 offer_ok d i h now unit r x twice ok is view =
@@ -30,7 +31,8 @@ offer_ok d i h now unit r x twice ok is view =
     rw (none, is) (ap (λ z. Ok (record (state h) { interfaces = z; versions = h.versions + 1 })) (sym (append_map plain_interface h.unit.interfaces i))) in
     ap (λ z. offered d (plain_interface i) (state z)) (sym view) ∙ here
 
-pub offer_twice : (d : ℕ) (i : Interface) (h now : Held) (r : Result (Unit {0}) UnitErr) → (r ≡ Err err.Twice) ↔ (is_twice i h.unit.interfaces ≡ true) → r ≡ Err err.Twice → h ≡ now
+pub offer_twice : (d : ℕ) (i : Interface) (h now : Held) (r : Result (Unit {0}) UnitErr)
+    → (r ≡ Err err.Twice) ↔ (is_twice i h.unit.interfaces ≡ true) → r ≡ Err err.Twice → h ≡ now
     → offered d (plain_interface i) (state now) ≡ fault Twice d
 offer_twice d i h now r twice is view =
     let some : list_any (λ j. are_twins j (plain_interface i)) (map plain_interface h.unit.interfaces) ≡ true = twins i h.unit.interfaces ∙ twice.0 is in

@@ -19,11 +19,22 @@ row1 = refl
 row2 : resolved (F.Typedef (D.Plain (T.Named None (codes "float")) (codes "f")) ∷ []) ≡ fault fault_.OutOfScope 1
 row2 = refl
 
-row3 : resolved (F.Struct (codes "s") (record { decl = D.Array (T.Int false Int) (codes "a") (V.Number false (pos 0)) } ∷ []) ∷ []) ≡ fault fault_.Range 1
+row3 : resolved (F.Struct (codes "s") (record { decl = D.Array (T.Int false Int) (codes "a") (V.Number false (pos 0)) } ∷ []) ∷ [])
+    ≡ fault fault_.Range 1
 row3 = refl
 
-row4 : resolved (F.Struct (codes "pair") (record { decl = D.Plain (T.Int false Int) (codes "a") } ∷ record { decl = D.Plain (T.Int false Int) (codes "b") } ∷ [])
-    ∷ F.Program (codes "CALC") (record { name = codes "V"; procedures = record { result = P.Plain (T.Int false Int); name = codes "ADD"; parameters = P.Plain (T.Named None (codes "pair")) ∷ []; number = V.Number false (pos 1) } ∷ []; number = V.Number false (pos 1) } ∷ []) (V.Number false (pos 0x20000001)) ∷ [])
+row4 : resolved (F.Struct (codes "pair")
+    (record { decl = D.Plain (T.Int false Int) (codes "a") } ∷ record { decl = D.Plain (T.Int false Int) (codes "b") } ∷ [])
+    ∷ F.Program (codes "CALC") (record {
+      name = codes "V";
+      procedures = record {
+        result = P.Plain (T.Int false Int);
+        name = codes "ADD";
+        parameters = P.Plain (T.Named None (codes "pair")) ∷ [];
+        number = V.Number false (pos 1);
+      } ∷ [];
+      number = V.Number false (pos 1);
+    } ∷ []) (V.Number false (pos 0x20000001)) ∷ [])
     ≡ Ok (record {
       types = (codes "pair", structure (member (codes "a") (number kind.I32) (member (codes "b") (number kind.I32) no_more))) ∷ [];
       interfaces = record {
@@ -32,7 +43,16 @@ row4 : resolved (F.Struct (codes "pair") (record { decl = D.Plain (T.Int false I
         version = 1;
         base = 1000;
         slots = 1;
-        ops = record { name = codes "ADD"; proc_no = 1; slot = 0; ins = member (argument 1) (named 0) no_more; outs = no_more; result = number kind.I32; raises = []; oneway = false } ∷ [];
+        ops = record {
+          name = codes "ADD";
+          proc_no = 1;
+          slot = 0;
+          ins = member (argument 1) (named 0) no_more;
+          outs = no_more;
+          result = number kind.I32;
+          raises = [];
+          oneway = false;
+        } ∷ [];
       } ∷ [];
     })
 row4 = refl

@@ -7,8 +7,10 @@ use Rattle.name_kit.proofs.Steps.{drop_step}
 use Rattle.front_onc.specs.State.{State}
 use Rattle.front_onc.specs.Enums.{item_on, items_on}
 
-pub items_step : (d k place : ℕ) (s t : State) (done more : List (List ℕ × ℤ)) (previous : Option ℤ) (list : List Item) (j : ℕ) (i e : Item) (n m : ℤ) (item : List ℕ × ℤ) (all : Answer (State × List (List ℕ × ℤ)))
-    → all ≡ items_on d k place s done previous (drop j list) → j < length list → i ≡ get_or list j e → item_on d k place s previous i ≡ Ok (t, n) → m ≡ n → item ≡ (i.name, m) → more ≡ done ++ item ∷ []
+pub items_step : (d k place : ℕ) (s t : State) (done more : List (List ℕ × ℤ)) (previous : Option ℤ) (list : List Item)
+    (j : ℕ) (i e : Item) (n m : ℤ) (item : List ℕ × ℤ) (all : Answer (State × List (List ℕ × ℤ)))
+    → all ≡ items_on d k place s done previous (drop j list) → j < length list → i ≡ get_or list j e
+    → item_on d k place s previous i ≡ Ok (t, n) → m ≡ n → item ≡ (i.name, m) → more ≡ done ++ item ∷ []
     → all ≡ items_on d k place t more (Some m) (drop (j + 1) list)
 items_step d k place s t done more previous list j i e n m item all ahead lt is one same item_is more_is =
     let cut = drop_step list j i e lt is in

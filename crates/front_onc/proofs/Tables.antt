@@ -17,7 +17,8 @@ module _ {K : Type 0} (items : K → List ℕ) where
   some_either true m o = refl
   some_either false m o = refl
 
-  pub declared_map : (name : List ℕ) (es : List (K × Meaning)) → is_some (lookup (λ k. bytes_eq name (items k)) es) ≡ is_declared name (plain es)
+  pub declared_map : (name : List ℕ) (es : List (K × Meaning))
+      → is_some (lookup (λ k. bytes_eq name (items k)) es) ≡ is_declared name (plain es)
   declared_map name [] = refl
   declared_map name (e ∷ es) = some_either (bytes_eq name (items e.0)) e.1 (lookup (λ k. bytes_eq name (items k)) es) ∙ ap (λ z. bytes_eq name (items e.0) || z) (declared_map name es)
 
@@ -32,8 +33,10 @@ module _ {K : Type 0} (items : K → List ℕ) where
       let parts = or_parts (bytes_eq (items k) (items e.0)) (is_declared (items k) (plain es)) h in
       rw parts.0 (ap (λ z. (items e.0, e.1) ∷ z) (insert_map k m es parts.1))
 
-  pub put_on : (k : K) (m : Meaning) (es new : List (K × Meaning)) (old : Scope) (name start : List ℕ) → new ≡ insert_entry (λ a b. bytes_eq (items a) (items b)) es k m
-      → items k ≡ start ++ name → start ≡ [] → plain es ≡ old → is_declared name old ≡ false → plain new ≡ old ++ (name, m) ∷ []
+  pub put_on : (k : K) (m : Meaning) (es new : List (K × Meaning)) (old : Scope) (name start : List ℕ)
+      → new ≡ insert_entry (λ a b. bytes_eq (items a) (items b)) es k m → items k ≡ start ++ name → start ≡ []
+      → plain es ≡ old → is_declared name old ≡ false
+      → plain new ≡ old ++ (name, m) ∷ []
   put_on k m es new old name start made key empty view none =
       let key' : items k ≡ name = key ∙ ap (λ z. z ++ name) empty in
       let none' : is_declared (items k) (plain es) ≡ false = ap (λ z. is_declared z (plain es)) key' ∙ ap (is_declared name) view ∙ none in

@@ -20,7 +20,8 @@ result_sound : (types : List Shape) (s : Shape) → ResultIs (length types) s �
 result_sound types s (inl e) = subst (λ z. or_void z (is_sound_type types (length types) z) ≡ true) (sym e) refl
 result_sound types s (inr h) = or_void_true s _ (simple_sound types (length types) s h)
 
-operation_sound : (types : List Shape) (slots : ℕ) (o : PlainOperation) → OperationIs (length types) slots o → is_sound_plain_operation types slots o ≡ true
+operation_sound : (types : List Shape) (slots : ℕ) (o : PlainOperation) → OperationIs (length types) slots o
+    → is_sound_plain_operation types slots o ≡ true
 operation_sound types slots o is =
     let ins = members_sound types (length types) o.ins is.ins in
     let outs : are_sound types (length types) o.outs ≡ true = ap (are_sound types (length types)) is.outs in
@@ -29,11 +30,13 @@ operation_sound types slots o is =
     let raises : list_all (is_sound_plain_raise types) o.raises ≡ true = ap (list_all (is_sound_plain_raise types)) is.raises in
     and_from _ _ (and_from _ _ (and_from _ _ (and_from _ _ (and_from _ _ ins outs) result) few) raises) (lt-ltb o.slot slots is.slot)
 
-operations_sound : (types : List Shape) (slots : ℕ) (os : List PlainOperation) → OperationsAre (length types) slots os → list_all (is_sound_plain_operation types slots) os ≡ true
+operations_sound : (types : List Shape) (slots : ℕ) (os : List PlainOperation) → OperationsAre (length types) slots os
+    → list_all (is_sound_plain_operation types slots) os ≡ true
 operations_sound types slots [] are = refl
 operations_sound types slots (o ∷ os) are = and_from _ _ (operation_sound types slots o are.0) (operations_sound types slots os are.1)
 
-interfaces_sound : (types : List Shape) (is : List PlainInterface) → InterfacesAre (length types) is → list_all (is_sound_plain_interface types) is ≡ true
+interfaces_sound : (types : List Shape) (is : List PlainInterface) → InterfacesAre (length types) is
+    → list_all (is_sound_plain_interface types) is ≡ true
 interfaces_sound types [] are = refl
 interfaces_sound types (i ∷ is) are = and_from _ _ (and_from _ _ (le-leb _ _ are.0.ids) (operations_sound types i.slots i.ops are.0.ops)) (interfaces_sound types is are.1)
 

@@ -41,8 +41,10 @@ at_most scope d (Some v) = and_then (value scope d v) (λ n. and_then (natural 0
 -- what a declaration makes of its type, where its name may be taken
 abbrev pub form : Scope → ℕ → Bool → Decl → Answer Form
 form scope d taken (D.Plain t n) = and_then (type_use scope d t) (λ u. and_then (refused Twice d taken) (λ _. Ok (F.Plain u)))
-form scope d taken (D.Array t n v) = and_then (type_use scope d t) (λ u. and_then (refused Twice d taken) (λ _. and_then (exactly scope d v) (λ c. Ok (F.Array u c))))
-form scope d taken (D.List t n v) = and_then (type_use scope d t) (λ u. and_then (refused Twice d taken) (λ _. and_then (at_most scope d v) (λ c. Ok (F.Array u c))))
+form scope d taken (D.Array t n v) = and_then (type_use scope d t)
+    (λ u. and_then (refused Twice d taken) (λ _. and_then (exactly scope d v) (λ c. Ok (F.Array u c))))
+form scope d taken (D.List t n v) = and_then (type_use scope d t)
+    (λ u. and_then (refused Twice d taken) (λ _. and_then (at_most scope d v) (λ c. Ok (F.Array u c))))
 form scope d taken (D.Pointer t n) = and_then (type_use scope d t) (λ u. and_then (refused Twice d taken) (λ _. Ok (F.Optional u)))
 form scope d taken (D.OpaqueArray n v) = and_then (refused Twice d taken) (λ _. and_then (exactly scope d v) (λ c. Ok (F.Opaque c)))
 form scope d taken (D.OpaqueList n v) = and_then (refused Twice d taken) (λ _. and_then (at_most scope d v) (λ c. Ok (F.Opaque c)))
@@ -63,17 +65,18 @@ tag_of _ = tag.Other
 
 -- the type of a typedef has the name
 abbrev pub typedef : ℕ → State → Decl → Answer State
-typedef d s decl = and_then (form s.scope d (is_declared (name_of decl) s.scope) decl) (λ f. Ok (with_type (name_of decl) (shape f) (tag_of f) s))
+typedef d s decl = and_then (form s.scope d (is_declared (name_of decl) s.scope) decl)
+    (λ f. Ok (with_type (name_of decl) (shape f) (tag_of f) s))
 
 -- ---- structs
 
--- members behind those that stand before them
+-- members after those before them
 abbrev pub members_on : Scope → ℕ → List (List ℕ × Shape) → List Member → Answer (List (List ℕ × Shape))
 members_on scope d fields [] = Ok fields
-members_on scope d fields (m ∷ ms) =
-    and_then (form scope d (has (name_of m.decl) (map (λ f. f.0) fields)) m.decl) (λ f. members_on scope d (fields ++ (name_of m.decl, shape f) ∷ []) ms)
+members_on scope d fields (m ∷ ms) = and_then (form scope d (has (name_of m.decl) (map (λ f. f.0) fields)) m.decl)
+    (λ f. members_on scope d (fields ++ (name_of m.decl, shape f) ∷ []) ms)
 
--- a type with the members as its fields; its name is declared behind them
+-- a type with the members as its fields; its name is declared after them
 abbrev pub struct_on : ℕ → State → List ℕ → List Member → Answer State
 struct_on d s name members =
     and_then (refused Twice d (is_declared name s.scope)) (λ _.

@@ -15,7 +15,7 @@ use Rattle.name_kit.specs.Labels.{labelled}
 use Rattle.front_onc.specs.Names.{Scope, is_declared, value}
 use Rattle.front_onc.specs.State.{State, declared, with_type}
 
--- the number behind the previous one, or 0
+-- the number after the previous one, or 0
 abbrev pub next : Option ℤ → ℤ
 next None = pos 0
 next (Some n) = n +ℤ pos 1
@@ -29,7 +29,7 @@ item_number scope d previous (Some v) = value scope d v
 abbrev pub short : ℕ → ℤ → Answer ℤ
 short d n = if in_range kind.I32 n then Ok n else fault Range d
 
--- a number is one of the k-th type's, of which there are at most 4,096; those of other enums stand before the place
+-- a number is one of the k-th type's, of which there are at most 4,096; those of other enums come before the place
 abbrev pub with_label : ℕ → ℕ → ℕ → State → ℤ → Answer State
 with_label d k place s n = and_then (labelled d k place s.labels n) (λ labels. Ok (record s { labels = labels }))
 
@@ -42,10 +42,11 @@ item_on d k place s previous i =
     and_then (with_label d k place s n) (λ s.
     Ok (declared i.name (M.Constant n) s, n)))))
 
--- items behind those that stand before them
+-- items after those before them
 abbrev pub items_on : ℕ → ℕ → ℕ → State → List (List ℕ × ℤ) → Option ℤ → List Item → Answer (State × List (List ℕ × ℤ))
 items_on d k place s items previous [] = Ok (s, items)
-items_on d k place s items previous (i ∷ is) = and_then (item_on d k place s previous i) (λ r. items_on d k place r.0 (items ++ (i.name, r.1) ∷ []) (Some r.1) is)
+items_on d k place s items previous (i ∷ is) = and_then (item_on d k place s previous i)
+    (λ r. items_on d k place r.0 (items ++ (i.name, r.1) ∷ []) (Some r.1) is)
 
 -- an item has the name
 abbrev pub is_item : List ℕ → List Item → Bool

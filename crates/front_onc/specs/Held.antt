@@ -16,4 +16,11 @@ pub record Held : Type 0 where
 
 -- the same with the unit's plain trees
 abbrev pub state : Held → State
-state h = record { scope = h.scope; labels = h.labels; types = map (λ t. (t.0, seen t.1)) h.unit.types; interfaces = map plain_interface h.unit.interfaces; versions = h.versions; count = h.count }
+state h = record {
+  scope = h.scope;
+  labels = h.labels;
+  types = map (λ t. (t.0, seen t.1)) h.unit.types;
+  interfaces = map plain_interface h.unit.interfaces;
+  versions = h.versions;
+  count = h.count;
+}

@@ -51,7 +51,7 @@ abbrev pub is_held : ℤ → Bool
 is_held (pos n) = nat_lt n (2 ^ 127)
 is_held (negsuc n) = nat_lt n (2 ^ 127)
 
--- a number behind its minus, if it has one
+-- a number after its minus, if it has one
 abbrev pub signed : ℕ → Bool → ℤ → Answer ℤ
 signed d true n = if is_held (neg_ℤ n) then Ok (neg_ℤ n) else fault Range d
 signed d false n = Ok n

@@ -42,17 +42,18 @@ parameter scope d (P.Plain t) = and_then (type_use scope d t) (λ u. Ok (shape_o
 abbrev pub argument : ℕ → List ℕ
 argument n = codes "arg" ++ decimal n
 
--- parameters behind those that stand before them
+-- parameters after those before them
 abbrev pub parameters_on : Scope → ℕ → List (List ℕ × Shape) → List ProcType → Answer (List (List ℕ × Shape))
 parameters_on scope d fields [] = Ok fields
-parameters_on scope d fields (p ∷ ps) = and_then (parameter scope d p) (λ s. parameters_on scope d (fields ++ (argument (length fields + 1), s) ∷ []) ps)
+parameters_on scope d fields (p ∷ ps) = and_then (parameter scope d p)
+    (λ s. parameters_on scope d (fields ++ (argument (length fields + 1), s) ∷ []) ps)
 
 -- void alone
 abbrev pub is_void : List ProcType → Bool
 is_void (P.Void ∷ []) = true
 is_void _ = false
 
--- void alone is no parameter
+-- void alone is not a parameter
 abbrev pub parameters : Scope → ℕ → List ProcType → Answer (List (List ℕ × Shape))
 parameters scope d ps = if is_void ps then Ok [] else parameters_on scope d [] ps
 
@@ -64,9 +65,18 @@ pub record Procedures : Type 0 where
 
 -- the operation of a procedure: it has no outs and raises nothing
 abbrev pub operation : ℕ → List ℕ → ℕ → List (List ℕ × Shape) → Shape → PlainOperation
-operation slot name n ins result = record { name = name; proc_no = n; slot = slot; ins = members_of ins; outs = no_more; result = result; raises = []; oneway = false }
+operation slot name n ins result = record {
+  name = name;
+  proc_no = n;
+  slot = slot;
+  ins = members_of ins;
+  outs = no_more;
+  result = result;
+  raises = [];
+  oneway = false;
+}
 
--- a procedure behind the others: its slot is its place
+-- a procedure after the others: its slot is its place
 abbrev pub procedure_on : Scope → ℕ → Procedures → Procedure → Answer Procedures
 procedure_on scope d ps p =
     and_then (result_of scope d p.result) (λ result.
@@ -81,7 +91,7 @@ procedure_on scope d ps p =
       ops = ps.ops ++ operation (length ps.ops) p.name n ins result ∷ [];
     })))))))
 
--- procedures behind those that stand before them, each a declaration
+-- procedures after those before them, each a declaration
 abbrev pub procedures_on : State → Procedures → List Procedure → Answer (State × Procedures)
 procedures_on s ps [] = Ok (s, ps)
 procedures_on s ps (p ∷ rest) = and_then (procedure_on s.scope (s.count + 1) ps p) (λ ps. procedures_on (counted s) ps rest)
@@ -94,14 +104,20 @@ operations s list = and_then (procedures_on s (record { names = []; numbers = []
 
 -- the interface of a program's version, by its place among all
 abbrev pub interface : ℕ → List ℕ → ℕ → List ℕ → ℕ → List PlainOperation → PlainInterface
-interface place program number name version ops =
-    record { name = program ++ codes "." ++ name; program = number; version = version; base = 1000 * (place + 1); slots = length ops; ops = ops }
+interface place program number name version ops = record {
+  name = program ++ codes "." ++ name;
+  program = number;
+  version = version;
+  base = 1000 * (place + 1);
+  slots = length ops;
+  ops = ops;
+}
 
 -- two of one name, or of one program and version
 abbrev pub are_twins : PlainInterface → PlainInterface → Bool
 are_twins i j = bytes_eq i.name j.name || (i.program == j.program && i.version == j.version)
 
--- an interface behind the others
+-- an interface after the others
 abbrev pub offered : ℕ → PlainInterface → State → Answer State
 offered d i s =
     and_then (refused Twice d (list_any (λ j. are_twins j i) s.interfaces)) (λ _.
@@ -112,7 +128,7 @@ abbrev pub version_offered : ℕ → List ℕ → Option ℕ → List ℕ → �
 version_offered d program None name version ops s = Ok (record s { versions = s.versions + 1 })
 version_offered d program (Some n) name version ops s = offered d (interface s.versions program n name version ops) s
 
--- a version is an interface behind its own number
+-- a version is an interface after its own number
 abbrev pub version_on : ℕ → List ℕ → Option ℕ → List (List ℕ) → State → Version → Answer State
 version_on d program number names s v =
     and_then (refused Twice d (has v.name names)) (λ _.
@@ -121,7 +137,7 @@ version_on d program number names s v =
     and_then (number_of r.0.scope d v.number) (λ n.
     version_offered d program number v.name n r.1 r.0))))
 
--- versions behind those that stand before them, each a declaration
+-- versions after those before them, each a declaration
 abbrev pub versions_on : List ℕ → Option ℕ → List (List ℕ) → State → List Version → Answer State
 versions_on program number names s [] = Ok s
 versions_on program number names s (v ∷ vs) =
@@ -129,7 +145,7 @@ versions_on program number names s (v ∷ vs) =
 
 -- ---- programs
 
--- its number stands behind its versions
+-- its number follows its versions
 abbrev pub program_with : List ℕ → Answer ℕ → State → List Version → Answer State
 program_with name number s versions =
     and_then (versions_on name (given number) [] s versions) (λ s.
@@ -138,4 +154,5 @@ program_with name number s versions =
 
 -- what a program makes of a state
 abbrev pub program_on : ℕ → State → List ℕ → List Version → Value → Answer State
-program_on d s name versions v = and_then (refused Twice d (is_declared name s.scope)) (λ _. program_with name (number_of s.scope d v) s versions)
+program_on d s name versions v = and_then (refused Twice d (is_declared name s.scope))
+    (λ _. program_with name (number_of s.scope d v) s versions)

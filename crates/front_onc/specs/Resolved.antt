@@ -19,9 +19,10 @@ use Rattle.front_onc.specs.Programs.{program_on}
 
 -- a name with the number of a value
 abbrev pub const_on : ℕ → State → List ℕ → Value → Answer State
-const_on d s name v = and_then (refused Twice d (is_declared name s.scope)) (λ _. and_then (value s.scope d v) (λ n. Ok (declared name (M.Constant n) s)))
+const_on d s name v = and_then (refused Twice d (is_declared name s.scope))
+    (λ _. and_then (value s.scope d v) (λ n. Ok (declared name (M.Constant n) s)))
 
--- what is declared behind a definition, by its number
+-- what is declared after a definition, by its number
 abbrev pub defined : ℕ → State → Def → Answer State
 defined d s (D.Typedef decl) = typedef d s decl
 defined d s (D.Const name v) = const_on d s name v
@@ -30,7 +31,7 @@ defined d s (D.Enum name items) = enum_on d s name items
 defined d s (D.Struct name members) = struct_on d s name members
 defined d s (D.Union u) = union_on d s u
 
--- definitions behind what is declared, each a declaration
+-- definitions after what is declared, each a declaration
 abbrev pub defined_on : State → List Def → Answer State
 defined_on s [] = Ok s
 defined_on s (x ∷ xs) = and_then (defined (s.count + 1) (counted s) x) (λ s. defined_on s xs)

@@ -8,7 +8,7 @@ use Rattle.front_onc.specs.declared.meaning.Meaning.{Meaning}
 use Rattle.front_onc.specs.declared.meaning.Meaning.TheVariants as M
 use Rattle.front_onc.specs.Names.{Scope}
 
--- what is declared so far: the names; the numbers of the enums, each behind its enum's number as a type; the types with their names; the interfaces, how many versions they are, and how many declarations
+-- what is declared so far: the names; the numbers of the enums, each after its enum's number as a type; the types with their names; the interfaces, how many versions they are, and how many declarations
 pub record State : Type 0 where
   pub scope : Scope
   pub labels : List (ℕ × ℤ)
@@ -25,6 +25,9 @@ counted s = record s { count = s.count + 1 }
 abbrev pub declared : List ℕ → Meaning → State → State
 declared name m s = record s { scope = s.scope ++ (name, m) ∷ [] }
 
--- a type behind the others, and its name
+-- a type after the others, and its name
 abbrev pub with_type : List ℕ → Shape → Tag → State → State
-with_type name shape tag s = record s { types = s.types ++ (name, shape) ∷ []; scope = s.scope ++ (name, M.Type (Declared (length s.types) tag)) ∷ [] }
+with_type name shape tag s = record s {
+  types = s.types ++ (name, shape) ∷ [];
+  scope = s.scope ++ (name, M.Type (Declared (length s.types) tag)) ∷ [];
+}

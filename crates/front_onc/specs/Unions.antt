@@ -20,21 +20,22 @@ use Rattle.front_onc.specs.Names.{Scope, is_declared, value, type_use}
 use Rattle.front_onc.specs.State.{State, with_type}
 use Rattle.front_onc.specs.Declarations.{name_of, form, shape}
 
--- a label behind those that stand before it
+-- a label after those before it
 abbrev pub label_on : Scope → List (ℕ × ℤ) → Tag → ℕ → List ℤ → LabelTree → Answer (List ℤ)
 label_on scope labels tag d numbers l = and_then (value scope d l.value) (numbered labels tag d numbers)
 
--- the labels of a case behind those that stand before them
+-- the labels of a case after those before them
 abbrev pub labels_on : Scope → List (ℕ × ℤ) → Tag → ℕ → List ℤ → List LabelTree → Answer (List ℤ)
 labels_on scope labels tag d numbers [] = Ok numbers
-labels_on scope labels tag d numbers (l ∷ ls) = and_then (label_on scope labels tag d numbers l) (λ numbers. labels_on scope labels tag d numbers ls)
+labels_on scope labels tag d numbers (l ∷ ls) = and_then (label_on scope labels tag d numbers l)
+    (λ numbers. labels_on scope labels tag d numbers ls)
 
 -- what an arm makes of its type; without a declaration it is void
 abbrev pub arm_shape : Option Form → Shape
 arm_shape None = void
 arm_shape (Some f) = shape f
 
--- an arm, behind the names that stand before it
+-- an arm, after the names that come before it
 abbrev pub arm_on : Scope → ℕ → List (List ℕ) → Arm → Answer (Option Form × List (List ℕ))
 arm_on scope d names A.Void = Ok (None, names)
 arm_on scope d names (A.Decl decl) = and_then (form scope d (has (name_of decl) names) decl) (λ f. Ok (Some f, names ++ name_of decl ∷ []))
@@ -45,19 +46,19 @@ pub record Cases : Type 0 where
   pub names : List (List ℕ)
   pub arms : List (ℤ × Shape)
 
--- a case behind those that stand before it
+-- a case after those before it
 abbrev pub case_on : Scope → List (ℕ × ℤ) → Tag → ℕ → Cases → Case → Answer Cases
 case_on scope labels tag d cs c =
     and_then (labels_on scope labels tag d cs.numbers c.labels) (λ numbers.
     and_then (arm_on scope d cs.names c.arm) (λ a.
     Ok (record { numbers = numbers; names = a.1; arms = with_arm numbers cs.arms (arm_shape a.0) })))
 
--- cases behind those that stand before them
+-- cases after those before them
 abbrev pub cases_on : Scope → List (ℕ × ℤ) → Tag → ℕ → Cases → List Case → Answer Cases
 cases_on scope labels tag d cs [] = Ok cs
 cases_on scope labels tag d cs (c ∷ rest) = and_then (case_on scope labels tag d cs c) (λ cs. cases_on scope labels tag d cs rest)
 
--- what stands behind every other number
+-- the default arm
 abbrev pub other : Scope → ℕ → List (List ℕ) → Option Arm → Answer Arms
 other scope d names None = Ok (default_of None)
 other scope d names (Some a) = and_then (arm_on scope d names a) (λ a. Ok (default_of (Some (arm_shape a.0))))
@@ -70,7 +71,7 @@ union_shape s d t u =
     and_then (other s.scope d cs.names u.default) (λ o.
     Ok (choice (shape_of_use t) (arms_of cs.arms o)))))
 
--- a type with a choice; its name is declared behind it
+-- a type with a choice; its name is declared after it
 abbrev pub union_on : ℕ → State → Union → Answer State
 union_on d s u =
     and_then (refused Twice d (is_declared u.name s.scope)) (λ _.

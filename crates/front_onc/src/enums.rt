@@ -14,7 +14,7 @@ use name_kit::enum_of;
 use onc_syntax::{Item, Value};
 use std::alloc::Global;
 
-/// The number behind the previous one, or 0.
+/// The number after the previous one, or 0.
 fn next(previous: Option<i32>) -> i128
     ensures { result ≡ next previous }
 {
@@ -95,7 +95,8 @@ fn items(
     place: usize,
     list: &[Item],
 ) -> Result<Items, NameErr>
-    ensures { Gives (λ items. (state r.new, items)) result (items_on d k place (state r.old) [] None list.now) }
+    ensures { Gives (λ items. (state r.new, items)) result
+        (items_on d k place (state r.old) [] None list.now) }
 {
     let mut items = Items::new(alloc);
     let mut previous = None;

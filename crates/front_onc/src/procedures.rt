@@ -106,7 +106,8 @@ fn operation(
     ins: Fields,
     ty: Ty,
 ) -> Result<Operation, NoMemory>
-    ensures { IfOk result (λ o. plain_operation o ≡ operation slot name.now proc_no (map seen_field ins) (seen ty)) }
+    ensures { IfOk result
+        (λ o. plain_operation o ≡ operation slot name.now proc_no (map seen_field ins) (seen ty)) }
 {
     Ok(Operation {
         name: Name::from_slice(alloc, name)?,
@@ -120,7 +121,7 @@ fn operation(
     })
 }
 
-/// Puts a procedure behind the others.
+/// Appends a procedure.
 fn procedure(
     alloc: Global,
     scope: &Scope,
@@ -130,7 +131,10 @@ fn procedure(
     ops: &mut Operations,
     p: &Procedure,
 ) -> Result<(), NameErr>
-    ensures value { Gives (λ _. record { names = names.new; numbers = numbers.new.keys; ops = map plain_operation ops.new }) result (procedure_on scope.now d (record { names = names.old; numbers = numbers.old.keys; ops = map plain_operation ops.old }) p.now) }
+    ensures value { Gives
+        (λ _. record { names = names.new; numbers = numbers.new.keys; ops = map plain_operation ops.new })
+        result (procedure_on scope.now d
+        (record { names = names.old; numbers = numbers.old.keys; ops = map plain_operation ops.old }) p.now) }
     ensures few { OnOk result (length ops.new ≤ most_operations) }
 {
     let name = p.name.as_slice();
@@ -162,7 +166,7 @@ fn procedure(
     Ok(())
 }
 
-/// The operations of procedures, behind the names and numbers that are taken.
+/// The operations of procedures, after the names and numbers that are taken.
 fn procedures(
     alloc: Global,
     r: &mut Resolver,
@@ -170,7 +174,15 @@ fn procedures(
     numbers: &mut IndexSet<u32>,
     list: &[Procedure],
 ) -> Result<Operations, NameErr>
-    ensures value { Gives (λ ops. (state r.new, record { names = names.new; numbers = numbers.new.keys; ops = map plain_operation ops })) result (procedures_on (state r.old) (record { names = names.old; numbers = numbers.old.keys; ops = [] }) list.now) }
+    ensures value { Gives (λ ops. (
+      state r.new,
+      record {
+        names = names.new;
+        numbers = numbers.new.keys;
+        ops = map plain_operation ops;
+      },
+    )) result (procedures_on (state r.old)
+        (record { names = names.old; numbers = numbers.old.keys; ops = [] }) list.now) }
     ensures few { IfOk result (λ ops. length ops ≤ most_operations) }
     ensures scope { OnOk result (r.new.scope ≡ r.old.scope) }
     ensures versions { OnOk result (r.new.versions ≡ r.old.versions) }
@@ -189,7 +201,8 @@ pub(crate) fn operations(
     r: &mut Resolver,
     list: &[Procedure],
 ) -> Result<Operations, NameErr>
-    ensures value { Gives (λ ops. (state r.new, map plain_operation ops)) result (operations (state r.old) list.now) }
+    ensures value { Gives (λ ops. (state r.new, map plain_operation ops)) result
+        (operations (state r.old) list.now) }
     ensures few { IfOk result (λ ops. length ops ≤ most_operations) }
     ensures scope { OnOk result (r.new.scope ≡ r.old.scope) }
     ensures versions { OnOk result (r.new.versions ≡ r.old.versions) }

@@ -40,7 +40,8 @@ fn interface(
 ) -> Result<Interface, NoMemory>
     requires place { place < most_interfaces }
     requires few { length ops ≤ most_operations }
-    ensures value { IfOk result (λ i. plain_interface i ≡ interface place program.now number name.now version (map plain_operation ops)) }
+    ensures value { IfOk result (λ i. plain_interface i
+        ≡ interface place program.now number name.now version (map plain_operation ops)) }
     ensures ops { IfOk result (λ i. i.ops ≡ ops) }
 {
     Ok(Interface {
@@ -66,7 +67,8 @@ fn offer(
 ) -> Result<(), NameErr>
     requires place { r.old.versions < most_interfaces }
     requires few { length ops ≤ most_operations }
-    ensures value { Gives (λ _. state r.new) result (version_offered d program.now number name.now version (map plain_operation ops) (state r.old)) }
+    ensures value { Gives (λ _. state r.new) result
+        (version_offered d program.now number name.now version (map plain_operation ops) (state r.old)) }
     ensures scope { r.new.scope ≡ r.old.scope }
 {
     let Some(number) = number else {
@@ -87,7 +89,8 @@ fn version(
     names: &Names,
     v: &Version,
 ) -> Result<(), NameErr>
-    ensures value { Gives (λ _. state r.new) result (version_on d program.now number names.now (state r.old) v.now) }
+    ensures value { Gives (λ _. state r.new) result
+        (version_on d program.now number names.now (state r.old) v.now) }
     ensures free { OnOk result (has v.now.name names.now ≡ false) }
     ensures scope { OnOk result (r.new.scope ≡ r.old.scope) }
 {
@@ -117,7 +120,8 @@ fn versions(
     number: Option<u32>,
     list: &[Version],
 ) -> Result<(), NameErr>
-    ensures value { Gives (λ _. state r.new) result (versions_on program.now number [] (state r.old) list.now) }
+    ensures value { Gives (λ _. state r.new) result
+        (versions_on program.now number [] (state r.old) list.now) }
     ensures scope { OnOk result (r.new.scope ≡ r.old.scope) }
 {
     let mut names = Names::new(alloc);

@@ -48,7 +48,7 @@ impl Model for Resolver {
     ghost invariant = { λ r. length r.unit.interfaces ≤ r.versions };
 }
 
-/// A fault that stands for want of memory.
+/// A fault that stands for being out of memory.
 pub(crate) fn want() -> NameErr
     ensures { result.fault ≡ WantOfMemory }
 {
@@ -111,7 +111,7 @@ impl Resolver {
         Ok(())
     }
 
-    /// Puts a type behind the others, and declares its name.
+    /// Appends a type, and declares its name.
     pub(crate) fn declare_type(
         &mut self,
         alloc: Global,
@@ -157,7 +157,7 @@ impl Resolver {
         &self.labels
     }
 
-    /// Makes a number one of the k-th type's; those of other enums stand before the place.
+    /// Makes a number one of the k-th type's; those of other enums come before the place.
     pub(crate) fn label(&mut self, d: u32, k: u32, place: usize, n: i128) -> Result<(), NameErr>
         ensures { Gives (λ _. state self.new) result (with_label d k place (state self.old) n) }
     {
@@ -180,7 +180,7 @@ impl Resolver {
         self.versions += 1;
     }
 
-    /// Puts an interface behind the others.
+    /// Appends an interface.
     pub(crate) fn offer(&mut self, d: u32, i: Interface) -> Result<(), NameErr>
         requires place { self.old.versions < most_interfaces }
         requires few { length i.ops ≤ most_operations }

@@ -19,7 +19,7 @@ use name_kit::{Names, add_number_of, behind, boxed, refuse, tag_of_use, ty_of_us
 use onc_syntax::{Arm, Case, Label, Union};
 use std::alloc::Global;
 
-/// Puts a label behind those that stand before it.
+/// Appends a label to those before it.
 fn label(
     r: &Resolver,
     tag: Tag,
@@ -27,13 +27,14 @@ fn label(
     numbers: &mut IndexSet<i128>,
     label: &Label,
 ) -> Result<(), NameErr>
-    ensures { Gives (λ _. numbers.new.keys) result (label_on r.now.scope r.now.labels tag d numbers.old.keys label.now) }
+    ensures { Gives (λ _. numbers.new.keys) result
+        (label_on r.now.scope r.now.labels tag d numbers.old.keys label.now) }
 {
     let n = value(r.scope(), d, &label.value)?;
     add_number_of(r.labels(), tag, d, numbers, n)
 }
 
-/// Puts the labels of a case behind those that stand before them.
+/// Appends the labels of a case to those before them.
 fn labels(
     r: &Resolver,
     tag: Tag,
@@ -41,7 +42,8 @@ fn labels(
     numbers: &mut IndexSet<i128>,
     list: &[Label],
 ) -> Result<(), NameErr>
-    ensures { Gives (λ _. numbers.new.keys) result (labels_on r.now.scope r.now.labels tag d numbers.old.keys list.now) }
+    ensures { Gives (λ _. numbers.new.keys) result
+        (labels_on r.now.scope r.now.labels tag d numbers.old.keys list.now) }
 {
     for l in list {
         label(r, tag, d, numbers, l)?;
@@ -78,7 +80,7 @@ fn arm_ty(alloc: Global, form: Option<Form>) -> Result<Ty, NoMemory>
     }
 }
 
-/// Puts an arm behind the others for each of the numbers.
+/// Appends an arm for each of the numbers.
 fn add_arms(
     alloc: Global,
     arms: &mut UnionArms,
@@ -93,7 +95,7 @@ fn add_arms(
     Ok(())
 }
 
-/// Puts a case behind those that stand before it.
+/// Appends a case to those before it.
 fn case(
     alloc: Global,
     r: &Resolver,
@@ -104,7 +106,9 @@ fn case(
     arms: &mut UnionArms,
     case: &Case,
 ) -> Result<(), NameErr>
-    ensures { Gives (λ _. record { numbers = numbers.new.keys; names = names.new; arms = arms_held arms.new }) result (case_on r.now.scope r.now.labels tag d (record { numbers = numbers.old.keys; names = names.old; arms = arms_held arms.old }) case.now) }
+    ensures { Gives (λ _. record { numbers = numbers.new.keys; names = names.new; arms = arms_held arms.new })
+        result (case_on r.now.scope r.now.labels tag d
+        (record { numbers = numbers.old.keys; names = names.old; arms = arms_held arms.old }) case.now) }
 {
     labels(r, tag, d, numbers, case.labels.as_slice())?;
     let form = arm(alloc, r.scope(), d, names, &case.arm)?;
@@ -122,7 +126,9 @@ fn cases(
     names: &mut Names,
     list: &[Case],
 ) -> Result<UnionArms, NameErr>
-    ensures { Gives (λ arms. record { numbers = numbers.new.keys; names = names.new; arms = arms_held arms }) result (cases_on r.now.scope r.now.labels tag d (record { numbers = numbers.old.keys; names = names.old; arms = [] }) list.now) }
+    ensures { Gives (λ arms. record { numbers = numbers.new.keys; names = names.new; arms = arms_held arms })
+        result (cases_on r.now.scope r.now.labels tag d
+        (record { numbers = numbers.old.keys; names = names.old; arms = [] }) list.now) }
 {
     let mut arms = UnionArms::new(alloc);
     for c in list {
@@ -131,7 +137,7 @@ fn cases(
     Ok(arms)
 }
 
-/// What stands behind every other number.
+/// The default arm.
 fn other(
     alloc: Global,
     scope: &Scope,
@@ -139,7 +145,8 @@ fn other(
     names: &mut Names,
     default: &Option<Arm>,
 ) -> Result<Option<Box<Ty>>, NameErr>
-    ensures { Gives (λ o. default_of (option_map (λ b. seen b.value) o)) result (other scope.now d names.old default.now) }
+    ensures { Gives (λ o. default_of (option_map (λ b. seen b.value) o)) result
+        (other scope.now d names.old default.now) }
 {
     let Some(a) = default else {
         return Ok(None);

@@ -23,7 +23,7 @@ pub(crate) fn value(scope: &Scope, decl: u32, v: &Value) -> Result<i128, NameErr
     }
 }
 
-/// A number behind its minus, if it has one.
+/// A number after its minus, if it has one.
 fn signed(decl: u32, minus: bool, n: i128) -> Result<i128, NameErr>
     ensures value { Gives (λ x. x) result (signed decl minus n) }
     ensures exact { result ≡ signed decl minus n }

@@ -10,5 +10,6 @@ invariant-loop-p l = record {
   scope : l.r.scope ≡ l.initial.r.scope;
   versions : l.r.versions ≡ l.initial.r.versions;
   ahead : procedures_on (state l.initial.r) (record { names = l.initial.names; numbers = l.initial.numbers.keys; ops = [] }) l.list
-      ≡ procedures_on (state l.r) (record { names = l.names; numbers = l.numbers.keys; ops = map plain_operation l.ops }) (drop l.p-index l.list);
+      ≡ procedures_on (state l.r) (record { names = l.names; numbers = l.numbers.keys; ops = map plain_operation l.ops })
+      (drop l.p-index l.list);
 }
