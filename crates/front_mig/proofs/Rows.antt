@@ -30,7 +30,11 @@ row1 : resolved (record { name = codes "s"; base = binary B.Div (leaf (pos 1)) (
 row1 = refl
 
 -- two numbers go in, and the port is in no body
-row2 : resolved (calc (V.Routine (record { simple = false; name = codes "add"; parameters = server ∷ given_ (codes "a") (codes "int") ∷ given_ (codes "b") (codes "int") ∷ [] }) ∷ []))
+row2 : resolved (calc (V.Routine (record {
+  simple = false;
+  name = codes "add";
+  parameters = server ∷ given_ (codes "a") (codes "int") ∷ given_ (codes "b") (codes "int") ∷ [];
+}) ∷ []))
     ≡ Ok (record {
       types = [];
       interfaces = record {
@@ -54,7 +58,8 @@ row2 : resolved (calc (V.Routine (record { simple = false; name = codes "add"; p
 row2 = refl
 
 -- a known name declared again, up to 4 of it in a row, and a `skip`
-row3 : resolved (calc (V.Type (codes "int") (T.Named (codes "short")) ∷ V.Type (codes "row") (T.VariableArray (leaf (pos 4)) (codes "int")) ∷ V.Skip
+row3 : resolved (calc (V.Type (codes "int") (T.Named (codes "short"))
+    ∷ V.Type (codes "row") (T.VariableArray (leaf (pos 4)) (codes "int")) ∷ V.Skip
     ∷ V.Routine (record { simple = true; name = codes "put"; parameters = server ∷ given_ (codes "r") (codes "row") ∷ [] }) ∷ []))
     ≡ Ok (record {
       types = (codes "int", number kind.I16) ∷ (codes "row", array (named 0) (AtMost 4)) ∷ [];
@@ -64,13 +69,27 @@ row3 : resolved (calc (V.Type (codes "int") (T.Named (codes "short")) ∷ V.Type
         version = 1;
         base = 500;
         slots = 2;
-        ops = record { name = codes "put"; proc_no = 1; slot = 1; ins = member (codes "r") (named 1) no_more; outs = no_more; result = void; raises = []; oneway = true } ∷ [];
+        ops = record {
+          name = codes "put";
+          proc_no = 1;
+          slot = 1;
+          ins = member (codes "r") (named 1) no_more;
+          outs = no_more;
+          result = void;
+          raises = [];
+          oneway = true;
+        } ∷ [];
       } ∷ [];
     })
 row3 = refl
 
 -- what comes out of a simpleroutine
-row4 : resolved (calc (V.Routine (record { simple = true; name = codes "put"; parameters = server ∷ record { direction = Some D.Out; name = codes "a"; of = codes "int" } ∷ [] }) ∷ [])) ≡ fault fault_.Oneway 2
+row4 : resolved (calc (V.Routine (record {
+  simple = true;
+  name = codes "put";
+  parameters = server ∷ record { direction = Some D.Out; name = codes "a"; of = codes "int" } ∷ [];
+}) ∷ []))
+    ≡ fault fault_.Oneway 2
 row4 = refl
 
 -- the size of a number that is not its own

@@ -58,7 +58,7 @@ resolved_sound tree u h =
     let first : StateIs a.given start = record { types = tt; scope = tt; ops = tt; ids = base_fits 1 tree.base a.given a.first } in
     subst (λ z. is_sound_plain z ≡ true) (ok_same (unit_of tree.name a.given b.given) u b.rest) (state_sound tree.name a.given b.given (statements_keep a.given 1 start b.given tree.statements first b.first))
 
--- what is made of a state behind statements is sound, if it is made
+-- what is made of a state after statements is sound, if it is made
 pub made_sound : (e : Tree) (base : ℕ) (name : List ℕ) (list : List Statement) (s0 s : State) (r : Result Parts NameErr)
     → base_of 1 e ≡ Ok base → s0 ≡ start → stated_on base 1 s0 list ≡ Ok s
     → IfOk r (λ (u : Parts). plain u ≡ unit_of name base s) → IfOk r (λ (u : Parts). IsSound u)

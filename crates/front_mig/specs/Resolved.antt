@@ -9,7 +9,7 @@ use Rattle.front_mig.specs.Numbers.{base_of}
 use Rattle.front_mig.specs.State.{State, start, type_on, skip_on}
 use Rattle.front_mig.specs.Routines.{routine_on}
 
--- what is declared behind a statement, by its number; prefixes and imports declare nothing
+-- what is declared after a statement, by its number; prefixes and imports declare nothing
 abbrev pub stated : ℕ → ℕ → State → Statement → Answer State
 stated base d s (V.Type name t) = type_on d s name t
 stated base d s (V.Routine r) = routine_on d base s r
@@ -17,7 +17,7 @@ stated base d s (V.Prefix side name) = Ok s
 stated base d s (V.Import importer file) = Ok s
 stated base d s V.Skip = skip_on d base s
 
--- statements behind so many declarations, each a declaration
+-- statements after so many declarations, each a declaration
 abbrev pub stated_on : ℕ → ℕ → State → List Statement → Answer State
 stated_on base count s [] = Ok s
 stated_on base count s (x ∷ xs) = and_then (stated base (count + 1) s x) (λ s. stated_on base (count + 1) s xs)

@@ -57,12 +57,12 @@ port_on scope d simple p =
     and_then (refused Port d (not (is_port m))) (λ _.
     Ok (record { names = p.name ∷ []; ins = []; outs = [] }))))
 
--- a field behind the others, where one is wanted
+-- a field after the others, where one is wanted
 abbrev pub with_field : Bool → List ℕ → Use → Fields → Fields
 with_field true name u fields = fields ++ (name, shape_of_use u) ∷ []
 with_field false name u fields = fields
 
--- a parameter behind others
+-- a parameter after others
 abbrev pub parameter_on : Scope → ℕ → Bool → Parameters → Parameter → Answer Parameters
 parameter_on scope d simple ps p =
     and_then (refused Oneway d (simple && comes_out p.direction)) (λ _.
@@ -76,7 +76,7 @@ parameter_on scope d simple ps p =
       outs = with_field (comes_out p.direction) p.name u ps.outs;
     }))))))
 
--- parameters behind those that stand before them
+-- parameters after those before them
 abbrev pub parameters_on : Scope → ℕ → Bool → Parameters → List Parameter → Answer Parameters
 parameters_on scope d simple ps [] = Ok ps
 parameters_on scope d simple ps (p ∷ rest) = and_then (parameter_on scope d simple ps p) (λ ps. parameters_on scope d simple ps rest)
@@ -104,7 +104,7 @@ operation place slot name simple ins outs = record {
   oneway = simple;
 }
 
--- a routine behind the others
+-- a routine after the others
 abbrev pub with_routine : List ℕ → PlainOperation → State → State
 with_routine name op s = record s { names = s.names ++ name ∷ []; ops = s.ops ++ op ∷ [] }
 

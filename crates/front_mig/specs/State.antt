@@ -37,7 +37,7 @@ is_declared name scope = has name (map (λ e. e.0) scope)
 abbrev pub declared : List ℕ → Meaning → State → State
 declared name m s = record s { scope = s.scope ++ (name, m) ∷ [] }
 
--- a type behind the others, and its name
+-- a type after the others, and its name
 abbrev pub with_type : List ℕ → Shape → Tag → State → State
 with_type name shape tag s = record s {
   types = s.types ++ (name, shape) ∷ [];
@@ -50,7 +50,7 @@ with_form name F.Port s = declared name M.Port s
 with_form name (F.Data u) s = with_type name (shape_of_use u) (tag_of_use u) s
 with_form name (F.Row u c) s = with_type name (array (shape_of_use u) c) tag.Other s
 
--- a type; its name is declared behind it
+-- a type; its name is declared after it
 abbrev pub type_on : ℕ → State → List ℕ → TypeForm → Answer State
 type_on d s name t = and_then (refused Twice d (is_declared name s.scope)) (λ _. and_then (form s.scope d t) (λ f. Ok (with_form name f s)))
 

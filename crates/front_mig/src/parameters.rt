@@ -61,7 +61,7 @@ fn port(
     Ok(names)
 }
 
-/// Puts a field behind the others, where one is wanted.
+/// Appends a field, where one is wanted.
 fn add_field(
     alloc: Global,
     fields: &mut Fields,
@@ -69,7 +69,8 @@ fn add_field(
     name: &[u8],
     used: Use,
 ) -> Result<(), NoMemory>
-    ensures { OnOk result (map seen_field fields.new ≡ with_field wanted name.now used (map seen_field fields.old)) }
+    ensures { OnOk result
+        (map seen_field fields.new ≡ with_field wanted name.now used (map seen_field fields.old)) }
 {
     if !wanted {
         return Ok(());
@@ -87,7 +88,7 @@ fn field(alloc: Global, name: &[u8], used: Use) -> Result<Field, NoMemory>
     })
 }
 
-/// Puts a parameter behind the others.
+/// Appends a parameter.
 fn parameter(
     alloc: Global,
     scope: &Scope,
@@ -98,7 +99,8 @@ fn parameter(
     outs: &mut Fields,
     p: &Parameter,
 ) -> Result<(), NameErr>
-    ensures { Gives (λ _. parameters_held names.new ins.new outs.new) result (parameter_on scope.now decl simple (parameters_held names.old ins.old outs.old) p.now) }
+    ensures { Gives (λ _. parameters_held names.new ins.new outs.new) result
+        (parameter_on scope.now decl simple (parameters_held names.old ins.old outs.old) p.now) }
 {
     let name = p.name.as_slice();
     refuse(NameFault::Oneway, decl, simple && comes_out(p.direction))?;
@@ -116,7 +118,7 @@ fn parameter(
     Ok(())
 }
 
-/// Puts parameters behind the first.
+/// Puts parameters after the first.
 fn parameters_on(
     alloc: Global,
     scope: &Scope,
@@ -127,7 +129,8 @@ fn parameters_on(
     outs: &mut Fields,
     list: &[Parameter],
 ) -> Result<(), NameErr>
-    ensures { Gives (λ _. parameters_held names.new ins.new outs.new) result (parameters_on scope.now decl simple (parameters_held names.old ins.old outs.old) list.now) }
+    ensures { Gives (λ _. parameters_held names.new ins.new outs.new) result
+        (parameters_on scope.now decl simple (parameters_held names.old ins.old outs.old) list.now) }
 {
     for p in list {
         parameter(alloc, scope, decl, simple, names, ins, outs, p)?;
@@ -143,7 +146,8 @@ pub(crate) fn parameters(
     simple: bool,
     list: &[Parameter],
 ) -> Result<(Fields, Fields), NameErr>
-    ensures { Gives (λ f. (map seen_field f.0, map seen_field f.1)) result (parameters scope.now decl simple list.now) }
+    ensures { Gives (λ f. (map seen_field f.0, map seen_field f.1)) result
+        (parameters scope.now decl simple list.now) }
 {
     let [first, rest @ ..] = list else {
         return Err(NameErr {

@@ -67,7 +67,8 @@ fn operation(
     outs: Fields,
 ) -> Result<Operation, NoMemory>
     requires { place < most_operations }
-    ensures { IfOk result (λ o. plain_operation o ≡ operation place slot name.now simple (map seen_field ins) (map seen_field outs)) }
+    ensures { IfOk result (λ o. plain_operation o
+        ≡ operation place slot name.now simple (map seen_field ins) (map seen_field outs)) }
 {
     Ok(Operation {
         name: Name::from_slice(alloc, name)?,

@@ -89,7 +89,7 @@ impl Resolver {
         Ok(())
     }
 
-    /// Puts a type behind the others, and declares its name.
+    /// Appends a type, and declares its name.
     pub(crate) fn declare_type(
         &mut self,
         alloc: Global,
@@ -140,7 +140,7 @@ impl Resolver {
         Err(range(decl))
     }
 
-    /// Puts a routine behind the others.
+    /// Appends a routine.
     pub(crate) fn add_routine(
         &mut self,
         alloc: Global,
@@ -149,7 +149,8 @@ impl Resolver {
     ) -> Result<(), NameErr>
         requires new { has name.now self.old.names ≡ false }
         requires room { length self.old.ops < most_operations }
-        ensures ok { OnOk result (state self.new ≡ with_routine name.now (plain_operation op) (state self.old)) }
+        ensures ok { OnOk result
+            (state self.new ≡ with_routine name.now (plain_operation op) (state self.old)) }
         ensures err { IfErr result (λ e. e.fault ≡ WantOfMemory) }
     {
         self.names.push(alloc, name)?;
