@@ -14,7 +14,7 @@ use Rattle.corba_scopes.specs.Names.{Names, look_up, put}
 abbrev pub line_of : List ℕ → Names → List (List ℕ)
 line_of scope s = unwrap_or (look_up scope s.lines) (scope ∷ [])
 
--- a line with a scope after it, unless the scope stands there
+-- a line with a scope after it, unless the scope is there
 abbrev pub added : List ℕ → List (List ℕ) → List (List ℕ)
 added scope line = if has scope line then line else line ++ scope ∷ []
 
