@@ -15,7 +15,8 @@ use Rattle.plain_wire.proofs.Steps.{equations}
 use Rattle.wire_def.proofs.ScalarGrammar.{left_true, right_true}
 
 -- where each element is one octet
-elements_are_octets : (one : ℕ → ℤ → List ℕ) → ((p : ℕ) (n : ℤ) → one p n ≡ natural n ∷ []) → (p : ℕ) (ns : List ℤ) → elements_octets one p ns ≡ map natural ns
+elements_are_octets : (one : ℕ → ℤ → List ℕ) → ((p : ℕ) (n : ℤ) → one p n ≡ natural n ∷ []) → (p : ℕ) (ns : List ℤ)
+    → elements_octets one p ns ≡ map natural ns
 unfolding elements_octets
 elements_are_octets one each p [] = refl
 elements_are_octets one each p (n ∷ ns) = rw (each p n) (ap (λ z. natural n ∷ z) (elements_are_octets one each (p + 1) ns))
@@ -24,11 +25,13 @@ octet_element : (e : Encoding) (a : Array) → is_octets a ≡ true → (p : ℕ
 unfolding element_octets
 octet_element e a is p n = rw is refl
 
-scalar_element : (e : Encoding) (k : Kind) (c : Count) → is_octets (row_of k c) ≡ false → (p : ℕ) (n : ℤ) → element_octets e (row_of k c) p n ≡ scalar_octets e (number k) p n
+scalar_element : (e : Encoding) (k : Kind) (c : Count) → is_octets (row_of k c) ≡ false → (p : ℕ) (n : ℤ)
+    → element_octets e (row_of k c) p n ≡ scalar_octets e (number k) p n
 unfolding element_octets
 scalar_element e k c is p n = rw is refl
 
-same_elements : (one two : ℕ → ℤ → List ℕ) → ((p : ℕ) (n : ℤ) → one p n ≡ two p n) → (p : ℕ) (ns : List ℤ) → elements_octets one p ns ≡ elements_octets two p ns
+same_elements : (one two : ℕ → ℤ → List ℕ) → ((p : ℕ) (n : ℤ) → one p n ≡ two p n) → (p : ℕ) (ns : List ℤ)
+    → elements_octets one p ns ≡ elements_octets two p ns
 unfolding elements_octets
 same_elements one two same p [] = refl
 same_elements one two same p (n ∷ ns) = rw (same p n, same_elements one two same (p + length (two p n)) ns) refl
@@ -39,10 +42,12 @@ text_elements e c p ns = elements_are_octets (element_octets e (text c)) (octet_
 pub octet_elements : (e : Encoding) (c : Count) (p : ℕ) (ns : List ℤ) → elements_of e (row_of kind.Octet c) p ns ≡ map natural ns
 octet_elements e c p ns = elements_are_octets (element_octets e (row_of kind.Octet c)) (octet_element e (row_of kind.Octet c) refl) p ns
 
-other_row : (e : Encoding) (k : Kind) (c : Count) (p : ℕ) (ns : List ℤ) → is_octets (row_of k c) ≡ false → elements_of e (row_of k c) p ns ≡ elements_octets (scalar_octets e (number k)) p ns
+other_row : (e : Encoding) (k : Kind) (c : Count) (p : ℕ) (ns : List ℤ) → is_octets (row_of k c) ≡ false
+    → elements_of e (row_of k c) p ns ≡ elements_octets (scalar_octets e (number k)) p ns
 other_row e k c p ns is = same_elements (element_octets e (row_of k c)) (scalar_octets e (number k)) (scalar_element e k c is) p ns
 
-pub other_elements : (e : Encoding) (k : Kind) (c : Count) (p : ℕ) (ns : List ℤ) → (k ≡ kind.Octet → ⊥) → elements_of e (row_of k c) p ns ≡ elements_octets (scalar_octets e (number k)) p ns
+pub other_elements : (e : Encoding) (k : Kind) (c : Count) (p : ℕ) (ns : List ℤ) → (k ≡ kind.Octet → ⊥)
+    → elements_of e (row_of k c) p ns ≡ elements_octets (scalar_octets e (number k)) p ns
 other_elements e kind.Octet c p ns other = absurd (other refl)
 other_elements e k c p ns other = other_row e k c p ns refl
 

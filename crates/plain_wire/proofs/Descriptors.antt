@@ -53,5 +53,6 @@ scalar_bare k p n =
     rw none refl
 
 -- an item is its descriptor, the number, and what fills it up
-pub item_parts : (k : Kind) (p : ℕ) (n : ℤ) → lone_octets Mach (number k) p n ≡ le 4 (scalar_word (number k)) ++ (bare_octets Mach k n ++ replicate (filling (number k)) 0)
+pub item_parts : (k : Kind) (p : ℕ) (n : ℤ)
+    → lone_octets Mach (number k) p n ≡ le 4 (scalar_word (number k)) ++ (bare_octets Mach k n ++ replicate (filling (number k)) 0)
 item_parts k p n = ap (λ z. le 4 (scalar_word (number k)) ++ (z ++ replicate (filling (number k)) 0)) (scalar_bare k (p + 4) n)

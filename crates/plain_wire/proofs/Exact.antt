@@ -35,7 +35,8 @@ module _ (e : Encoding) (grammar : ReadingIsGrammar e) (t : Ty) (p : ℕ) (o : L
     no h = let f = reads v used h in cc
 
   -- where reading stopped there is this fault alone
-  pub stop_is_stop : AreOctets o → (k : FaultKind) (at : ℕ) → read e t p o ≡ stop k at → (l : FaultKind) (place : ℕ) → ((k ≡ l) × (at ≡ place)) ↔ Stops e t p o l place
+  pub stop_is_stop : AreOctets o → (k : FaultKind) (at : ℕ) → read e t p o ≡ stop k at → (l : FaultKind) (place : ℕ)
+      → ((k ≡ l) × (at ≡ place)) ↔ Stops e t p o l place
   stop_is_stop oct k at is l place = (to, from) where
     to : (k ≡ l) × (at ≡ place) → Stops e t p o l place
     to (same, there) = (grammar t).faulty p o l place oct (rw (← same, ← there) is)
@@ -44,8 +45,9 @@ module _ (e : Encoding) (grammar : ReadingIsGrammar e) (t : Ty) (p : ℕ) (o : L
     from h = let f = (grammar t).stops p o l place h in (cc, cc)
 
   -- where a value was read it is spelled, and no other is
-  pub value_is_value : SpelledIsTyped e → BodiesAreLight e → IsSound t → AreOctets o → p + length o ≤ 4194304 → (w : Val) (q : ℕ) (rest : List ℕ) → read e t p o ≡ got w q rest
-      → (v : Val) (used : ℕ) → ((w ≡ v) × (q - p ≡ used)) ↔ BeginsWith e t p o v used
+  pub value_is_value : SpelledIsTyped e → BodiesAreLight e → IsSound t → AreOctets o → p + length o ≤ 4194304
+      → (w : Val) (q : ℕ) (rest : List ℕ) → read e t p o ≡ got w q rest → (v : Val) (used : ℕ)
+      → ((w ≡ v) × (q - p ≡ used)) ↔ BeginsWith e t p o v used
   value_is_value typed light sound oct short w q rest is v used = (to, from) where
     here : (a : List ℕ) × (o ≡ a ++ rest) × (q ≡ p + length a) × Spells e t p a w
     here = (grammar t).spelled p o w q rest oct is

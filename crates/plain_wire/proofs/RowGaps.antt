@@ -37,7 +37,8 @@ reached _ is32 p = omega arith
 reached _ is64 p = omega arith
 
 -- the position after an aligned number is aligned
-behind_aligned : (e : Encoding) (s : Scalar) (p : ℕ) → gap p (alignment_of e s) ≡ 0 → gap (p + byte_len (width_of e s)) (alignment_of e s) ≡ 0
+behind_aligned : (e : Encoding) (s : Scalar) (p : ℕ) → gap p (alignment_of e s) ≡ 0
+    → gap (p + byte_len (width_of e s)) (alignment_of e s) ≡ 0
 behind_aligned Xdr s p h = alone (p + byte_len (width_of Xdr s))
 behind_aligned CdrBig s p h = turned (own_width s) (own_of CdrBig s) p h
 behind_aligned CdrLittle s p h = turned (own_width s) (own_of CdrLittle s) p h
@@ -56,7 +57,8 @@ bare_long : (e : Encoding) (k : Kind) (n : ℤ) → length (bare_octets e k n) �
 unfolding bare_octets
 bare_long e k n = (wide e (number k)).len _
 
-aligned_elements : (e : Encoding) (k : Kind) (p : ℕ) (ns : List ℤ) → gap p (alignment_of e (number k)) ≡ 0 → elements_octets (scalar_octets e (number k)) p ns ≡ numbers_octets e k ns
+aligned_elements : (e : Encoding) (k : Kind) (p : ℕ) (ns : List ℤ) → gap p (alignment_of e (number k)) ≡ 0
+    → elements_octets (scalar_octets e (number k)) p ns ≡ numbers_octets e k ns
 unfolding elements_octets scalar_octets bare_octets
 aligned_elements e k p [] h = refl
 aligned_elements e k p (n ∷ ns) h =
@@ -64,7 +66,8 @@ aligned_elements e k p (n ∷ ns) h =
     rw (h, bare_long e k n, rest) refl
 
 -- the elements of a row are one gap and its numbers
-pub row_gapped : (e : Encoding) (k : Kind) (p : ℕ) (ns : List ℤ) → elements_octets (scalar_octets e (number k)) p ns ≡ replicate (first_gap e k p (length ns)) 0 ++ numbers_octets e k ns
+pub row_gapped : (e : Encoding) (k : Kind) (p : ℕ) (ns : List ℤ)
+    → elements_octets (scalar_octets e (number k)) p ns ≡ replicate (first_gap e k p (length ns)) 0 ++ numbers_octets e k ns
 unfolding elements_octets scalar_octets bare_octets
 row_gapped e k p [] = refl
 row_gapped e k p (n ∷ ns) =
@@ -117,7 +120,8 @@ module _ (e : Encoding) (s : Scalar) where
     more rest (stop k at) is = refl
 
   -- so many numbers, where there is one at least
-  some_behind : (n p : ℕ) (o : List ℕ) → times (read_scalar e s) (suc n) p o ≡ then_on (read_gap (gap p (alignment_of e s)) p o) (λ x q b. times (read_here e s) (suc n) q b)
+  some_behind : (n p : ℕ) (o : List ℕ)
+      → times (read_scalar e s) (suc n) p o ≡ then_on (read_gap (gap p (alignment_of e s)) p o) (λ x q b. times (read_here e s) (suc n) q b)
   some_behind n p o = rw (scalar_behind e s p o) (behind (read_gap (gap p (alignment_of e s)) p o) refl) where
     rest : Reading FaultKind ℤ → Reading FaultKind (List ℤ)
     rest r = then_on r (λ x q b. map_got (λ xs. x ∷ xs) (times (read_scalar e s) n q b))
@@ -130,7 +134,8 @@ module _ (e : Encoding) (s : Scalar) where
     behind (stop k at) is = refl
 
 -- the elements of a row are read after one gap
-pub row_behind : (e : Encoding) (k : Kind) (n p : ℕ) (o : List ℕ) → times (read_scalar e (number k)) n p o ≡ then_on (read_gap (first_gap e k p n) p o) (λ x q b. times (read_here e (number k)) n q b)
+pub row_behind : (e : Encoding) (k : Kind) (n p : ℕ) (o : List ℕ)
+    → times (read_scalar e (number k)) n p o ≡ then_on (read_gap (first_gap e k p n) p o) (λ x q b. times (read_here e (number k)) n q b)
 row_behind e k zero p o = rw gap_none refl
 row_behind e k (suc n) p o = some_behind e (number k) n p o
 

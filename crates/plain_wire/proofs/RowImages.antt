@@ -77,11 +77,13 @@ bare_copied e k n (same, way) h =
     ∙ copied_octets e (word k) m way
     ∙ ap (to_le_bytes (word k)) (cast_residue (width_of e (number k)) (own_of e (number k)) n (fits_width e (number k) n h) ∙ ap (λ w. cast_unsigned w n) same)
 
-copied_row : (e : Encoding) (k : Kind) (ns : List ℤ) → IsWay e k Copied → IsTrue (list_all (in_range k) ns) → image_of k ns ≡ numbers_octets e k ns
+copied_row : (e : Encoding) (k : Kind) (ns : List ℤ) → IsWay e k Copied → IsTrue (list_all (in_range k) ns)
+    → image_of k ns ≡ numbers_octets e k ns
 copied_row e k [] way h = refl
 copied_row e k (n ∷ ns) way h = ap (λ z. z ++ image_of k ns) (sym (bare_copied e k n way (left_true (in_range k n) _ h))) ∙ ap (λ z. bare_octets e k n ++ z) (copied_row e k ns way (right_true (in_range k n) _ h))
 
-pub row_copied : (e : Encoding) (k l : Kind) (ns : List ℤ) → IsWay e l Copied → k ≡ l → IsTrue (list_all (in_range l) ns) → image_of k ns ≡ numbers_octets e l ns
+pub row_copied : (e : Encoding) (k l : Kind) (ns : List ℤ) → IsWay e l Copied → k ≡ l → IsTrue (list_all (in_range l) ns)
+    → image_of k ns ≡ numbers_octets e l ns
 row_copied e k l ns way is h = ap (λ j. image_of j ns) is ∙ copied_row e l ns way h
 
 -- numbers of two, four or eight octets
@@ -127,13 +129,15 @@ bare_swapped e k n (same, big, wide) h =
     ∙ swapped_octets e (word k) m big (many k wide)
     ∙ ap (λ z. reverse (to_le_bytes (word k) z)) (cast_residue (width_of e (number k)) (own_of e (number k)) n (fits_width e (number k) n h) ∙ ap (λ w. cast_unsigned w n) same)
 
-swapped_row : (e : Encoding) (k : Kind) (ns : List ℤ) → IsWay e k Swapped → IsTrue (list_all (in_range k) ns) → swapped (width k) (image_of k ns) ≡ numbers_octets e k ns
+swapped_row : (e : Encoding) (k : Kind) (ns : List ℤ) → IsWay e k Swapped → IsTrue (list_all (in_range k) ns)
+    → swapped (width k) (image_of k ns) ≡ numbers_octets e k ns
 swapped_row e k [] way h = swapped-none (width k) way.2
 swapped_row e k (n ∷ ns) way h =
     swapped-first (width k) (octets_of k n) (image_of k ns) (wide k) (octets_many k n)
     ∙ ap (λ z. z ++ swapped (width k) (image_of k ns)) (sym (bare_swapped e k n way (left_true (in_range k n) _ h))) ∙ ap (λ z. bare_octets e k n ++ z) (swapped_row e k ns way (right_true (in_range k n) _ h))
 
-pub row_swapped : (e : Encoding) (k l : Kind) (ns : List ℤ) → IsWay e l Swapped → k ≡ l → IsTrue (list_all (in_range l) ns) → swapped (width l) (image_of k ns) ≡ numbers_octets e l ns
+pub row_swapped : (e : Encoding) (k l : Kind) (ns : List ℤ) → IsWay e l Swapped → k ≡ l → IsTrue (list_all (in_range l) ns)
+    → swapped (width l) (image_of k ns) ≡ numbers_octets e l ns
 row_swapped e k l ns way is h = ap (λ j. swapped (width l) (image_of j ns)) is ∙ swapped_row e l ns way h
 
 -- an image is whole numbers
@@ -167,14 +171,17 @@ rest_mod w n l (inr (inl is)) whole cut h = subst (λ v. (l - n) % v ≡ 0) (sym
 rest_mod w n l (inr (inr is)) whole cut h = subst (λ v. (l - n) % v ≡ 0) (sym is) (let a : l % 8 ≡ 0 = rw (← is) whole in let b : n % 8 ≡ 0 = rw (← is) cut in omega arith)
 
 -- what is swapped of a row: a first piece, and the rest
-pub swapped_piece : (w n : ℕ) (o : List ℕ) → IsSwapWidth w → n % w ≡ 0 → n ≤ length o → swapped w o ≡ swapped w (take n o) ++ swapped w (drop n o)
+pub swapped_piece : (w n : ℕ) (o : List ℕ) → IsSwapWidth w → n % w ≡ 0 → n ≤ length o
+    → swapped w o ≡ swapped w (take n o) ++ swapped w (drop n o)
 swapped_piece w n o is whole h =
     let long : length (take n o) ≡ n = omega (arith, length-take n o) in
     ap (swapped w) (sym (take-append-drop n o)) ∙ swapped-append w (take n o) (drop n o) is (rw long whole)
 
 -- a piece that was swapped: what is taken of its room, what is left, and that this is whole numbers
-pub piece_turned : (w n : ℕ) (rest out spare : List ℕ) → IsSwapWidth w → length rest % w ≡ 0 → n ≡ min (length rest) 512 → out ≡ swapped w (take n rest)
-    → (take n (out ++ spare) ≡ swapped w (take n rest)) × (swapped w rest ≡ swapped w (take n rest) ++ swapped w (drop n rest)) × (n % w ≡ 0) × (length (drop n rest) % w ≡ 0)
+pub piece_turned : (w n : ℕ) (rest out spare : List ℕ) → IsSwapWidth w → length rest % w ≡ 0 → n ≡ min (length rest) 512
+    → out ≡ swapped w (take n rest)
+    → (take n (out ++ spare) ≡ swapped w (take n rest))
+    × (swapped w rest ≡ swapped w (take n rest) ++ swapped w (drop n rest)) × (n % w ≡ 0) × (length (drop n rest) % w ≡ 0)
 piece_turned w n rest out spare is whole cut same =
     let even = piece_mod w n (length rest) is whole cut in
     let within : n ≤ length rest = omega arith in

@@ -52,32 +52,35 @@ dropped (suc n) (a ∷ o) oct i = dropped n o (λ j. oct (suc j)) i
 
 -- words that all are numbers: read as one block, or cut at the first that is not there
 module _ (r : Reader FaultKind ℤ) (value : List ℕ → ℤ) (w : ℕ) (some : 0 < w)
-    (step : (p : ℕ) (o : List ℕ) → AreOctets o → r p o ≡ (if nat_lt (length o) w then stop Short p else got (value (take w o)) (p + w) (drop w o))) where
-  words_there : (n p : ℕ) (o : List ℕ) → AreOctets o → n * w ≤ length o → times r n p o ≡ got (words_read value w n o) (p + n * w) (drop (n * w) o)
-  words_there zero p o oct h = rw (zero-mul, add-zero) refl
-  words_there (suc n) p o oct h =
-      let long : w + n * w ≡ suc n * w = omega arith in
-      let there : ltb (length o) w ≡ false = le-ltb _ _ (omega (arith, long)) in
-      let rest : n * w ≤ length (drop w o) = omega (arith, long, length-drop w o) in
-      let place : p + w + n * w ≡ p + suc n * w = omega (arith, long) in
-      let behind : drop (n * w) (drop w o) ≡ drop (suc n * w) o = drop-drop (n * w) w o ∙ ap (λ z. drop z o) long in
-      rw (step p o oct, there, words_there n (p + w) (drop w o) (dropped w o oct) rest) (rw (place, behind) refl)
+    (step : (p : ℕ) (o : List ℕ) → AreOctets o
+    → r p o ≡ (if nat_lt (length o) w then stop Short p else got (value (take w o)) (p + w) (drop w o)))
+  where
+    words_there : (n p : ℕ) (o : List ℕ) → AreOctets o → n * w ≤ length o
+        → times r n p o ≡ got (words_read value w n o) (p + n * w) (drop (n * w) o)
+    words_there zero p o oct h = rw (zero-mul, add-zero) refl
+    words_there (suc n) p o oct h =
+        let long : w + n * w ≡ suc n * w = omega arith in
+        let there : ltb (length o) w ≡ false = le-ltb _ _ (omega (arith, long)) in
+        let rest : n * w ≤ length (drop w o) = omega (arith, long, length-drop w o) in
+        let place : p + w + n * w ≡ p + suc n * w = omega (arith, long) in
+        let behind : drop (n * w) (drop w o) ≡ drop (suc n * w) o = drop-drop (n * w) w o ∙ ap (λ z. drop z o) long in
+        rw (step p o oct, there, words_there n (p + w) (drop w o) (dropped w o oct) rest) (rw (place, behind) refl)
 
-  words_cut : (n p : ℕ) (o : List ℕ) → AreOctets o → length o / w < n → times r n p o ≡ stop Short (p + length o / w * w)
-  words_cut zero p o oct h = absurd (omega arith)
-  words_cut (suc n) p o oct h = elim (cases_lt (length o) w) [
-    | inl lt ↦
-        let none : length o / w ≡ 0 = div-eq_of_lt lt in
-        rw (step p o oct, lt-ltb _ _ lt, none, zero-mul, add-zero) refl
-    | inr le ↦
-        let split : length o ≡ w + length (drop w o) = omega (arith, length-drop w o) in
-        let more : length o / w ≡ suc (length (drop w o) / w) = ap (λ z. z / w) split ∙ add-div_left (length (drop w o)) some ∙ add-one (length (drop w o) / w) in
-        let rest = words_cut n (p + w) (drop w o) (dropped w o oct) (omega (arith, more)) in
-        let m : ℕ = length (drop w o) / w in
-        let long : w + m * w ≡ suc m * w = omega arith in
-        let place : p + w + m * w ≡ p + suc m * w = omega (arith, long) in
-        rw (step p o oct, le-ltb _ _ le, rest, more) (rw place refl)
-  ]
+    words_cut : (n p : ℕ) (o : List ℕ) → AreOctets o → length o / w < n → times r n p o ≡ stop Short (p + length o / w * w)
+    words_cut zero p o oct h = absurd (omega arith)
+    words_cut (suc n) p o oct h = elim (cases_lt (length o) w) [
+      | inl lt ↦
+          let none : length o / w ≡ 0 = div-eq_of_lt lt in
+          rw (step p o oct, lt-ltb _ _ lt, none, zero-mul, add-zero) refl
+      | inr le ↦
+          let split : length o ≡ w + length (drop w o) = omega (arith, length-drop w o) in
+          let more : length o / w ≡ suc (length (drop w o) / w) = ap (λ z. z / w) split ∙ add-div_left (length (drop w o)) some ∙ add-one (length (drop w o) / w) in
+          let rest = words_cut n (p + w) (drop w o) (dropped w o oct) (omega (arith, more)) in
+          let m : ℕ = length (drop w o) / w in
+          let long : w + m * w ≡ suc m * w = omega arith in
+          let place : p + w + m * w ≡ p + suc m * w = omega (arith, long) in
+          rw (step p o oct, le-ltb _ _ le, rest, more) (rw place refl)
+    ]
 
 -- ---- the words of kinds
 
@@ -131,7 +134,8 @@ abbrev word_value : Way → Kind → List ℕ → ℤ
 word_value Swapped k o = number_in k (reverse o)
 word_value _ k o = number_in k o
 
-way_word : (e : Encoding) (k : Kind) (way : Way) → IsWay e k way → way ≢ Single → (o : List ℕ) → length o ≡ width k → number_from k (octets_number e (word k) o) ≡ word_value way k o
+way_word : (e : Encoding) (k : Kind) (way : Way) → IsWay e k way → way ≢ Single → (o : List ℕ) → length o ≡ width k
+    → number_from k (octets_number e (word k) o) ≡ word_value way k o
 unfolding number_in
 way_word e k Copied way block o len = ap (number_from k) (copied_number e (word k) o way.1)
 way_word e k Swapped way block o len = ap (number_from k) (big_number e (word k) o way.1 ∙ swapped_number (word k) (many k way.2) o len)
@@ -159,8 +163,11 @@ in_image e k Swapped way block = way.0
 in_image e k Single way block = absurd (block refl)
 
 -- a number of a kind all of whose words are numbers, where it begins
-here_word : (e : Encoding) (k : Kind) (value : List ℕ → ℤ) → InImage e k → ((o : List ℕ) → length o ≡ width k → number_from k (octets_number e (word k) o) ≡ value o) → ((o : List ℕ) → AreOctets o → IsTrue (in_range k (value o)))
-    → (p : ℕ) (o : List ℕ) → AreOctets o → read_here e (number k) p o ≡ (if nat_lt (length o) (width k) then stop Short p else got (value (take (width k) o)) (p + width k) (drop (width k) o))
+here_word : (e : Encoding) (k : Kind) (value : List ℕ → ℤ) → InImage e k
+    → ((o : List ℕ) → length o ≡ width k → number_from k (octets_number e (word k) o) ≡ value o)
+    → ((o : List ℕ) → AreOctets o → IsTrue (in_range k (value o))) → (p : ℕ) (o : List ℕ) → AreOctets o
+    → read_here e (number k) p o
+    ≡ (if nat_lt (length o) (width k) then stop Short p else got (value (take (width k) o)) (p + width k) (drop (width k) o))
 here_word e k value same is ranged p o oct =
     ap (λ r. then_on (map_got (number_of (is_signed (number k)) (width_of e (number k))) r) (λ n q b. if in_range k n then got n q b else stop BadValue p)) (word_here e (width_of e (number k)) p o)
     ∙ ap (λ w. then_on (map_got (number_of (is_signed (number k)) w) (if nat_lt (length o) (byte_len w) then stop Short p else got (octets_number e w (take (byte_len w) o)) (p + byte_len w) (drop (byte_len w) o))) (λ n q b. if in_range k n then got n q b else stop BadValue p)) same
@@ -180,7 +187,8 @@ unfolding numbers_in
 copied_words k zero o = refl
 copied_words k (suc n) o = ap (λ z. number_in k (take (width k) o) ∷ z) (copied_words k n (drop (width k) o))
 
-swapped_words : (k : Kind) → IsSwapWidth (width k) → (n : ℕ) (o : List ℕ) → length o ≡ n * width k → words_read (λ x. number_in k (reverse x)) (width k) n o ≡ numbers_in k n (swapped (width k) o)
+swapped_words : (k : Kind) → IsSwapWidth (width k) → (n : ℕ) (o : List ℕ) → length o ≡ n * width k
+    → words_read (λ x. number_in k (reverse x)) (width k) n o ≡ numbers_in k n (swapped (width k) o)
 unfolding numbers_in
 swapped_words k is zero o len = refl
 swapped_words k is (suc n) o len =
@@ -195,7 +203,8 @@ swapped_words k is (suc n) o len =
     rw (split, take_at (reverse f) (swapped w r) w turn, drop_at (reverse f) (swapped w r) w turn, swapped_words k is n r rest) refl
 
 -- the numbers of an image are those of its first words
-words_first : (value : List ℕ → ℤ) (w n : ℕ) (o : List ℕ) → n * w ≤ length o → words_read value w n (take (n * w) o) ≡ words_read value w n o
+words_first : (value : List ℕ → ℤ) (w n : ℕ) (o : List ℕ) → n * w ≤ length o
+    → words_read value w n (take (n * w) o) ≡ words_read value w n o
 words_first value w zero o h = refl
 words_first value w (suc n) o h =
     let long : suc n * w ≡ w + n * w = omega arith in
@@ -210,7 +219,8 @@ pub within : (k : Kind) (n l : ℕ) → n ≤ l / width k → n * width k ≤ l
 within k n l h = (le-div_iff_mul-le (wide k)).0 h
 
 -- the numbers of octets that travel
-way_words : (e : Encoding) (k : Kind) (way : Way) → IsWay e k way → way ≢ Single → (n : ℕ) (o : List ℕ) → length o ≡ n * width k → words_read (word_value way k) (width k) n o ≡ numbers_of k (arranged way (width k) o)
+way_words : (e : Encoding) (k : Kind) (way : Way) → IsWay e k way → way ≢ Single → (n : ℕ) (o : List ℕ) → length o ≡ n * width k
+    → words_read (word_value way k) (width k) n o ≡ numbers_of k (arranged way (width k) o)
 unfolding numbers_of
 way_words e k Copied way block n o len = copied_words k n o ∙ ap (λ m. numbers_in k m o) (sym (ap (λ z. z / width k) len ∙ mul-div_cancel n (wide k)))
 way_words e k Swapped way block n o len =
@@ -219,11 +229,16 @@ way_words e k Swapped way block n o len =
     swapped_words k way.2 n o len ∙ ap (λ m. numbers_in k m (swapped (width k) o)) (sym same)
 way_words e k Single way block n o len = absurd (block refl)
 
-module _ (e : Encoding) (k : Kind) (way : Way) (is : IsWay e k way) (block : way ≢ Single) (other : k ≢ kind.Bool) (n p : ℕ) (o : List ℕ) (oct : AreOctets o) where
-  step : (q : ℕ) (b : List ℕ) → AreOctets b → read_here e (number k) q b ≡ (if nat_lt (length b) (width k) then stop Short q else got (word_value way k (take (width k) b)) (q + width k) (drop (width k) b))
+module _ (e : Encoding) (k : Kind) (way : Way) (is : IsWay e k way) (block : way ≢ Single) (other : k ≢ kind.Bool)
+    (n p : ℕ) (o : List ℕ) (oct : AreOctets o) where
+  step : (q : ℕ) (b : List ℕ) → AreOctets b
+      → read_here e (number k) q b ≡ (if nat_lt (length b) (width k) then stop Short q
+      else got (word_value way k (take (width k) b)) (q + width k) (drop (width k) b))
   step = here_word e k (word_value way k) (in_image e k way is block) (way_word e k way is block) (way_ranged k way other)
 
-  pub image_there : n ≤ length o / width k → times (read_here e (number k)) n p o ≡ got (numbers_of k (arranged way (width k) (take (n * width k) o))) (p + n * width k) (drop (n * width k) o)
+  pub image_there : n ≤ length o / width k
+      → times (read_here e (number k)) n p o
+      ≡ got (numbers_of k (arranged way (width k) (take (n * width k) o))) (p + n * width k) (drop (n * width k) o)
   image_there h =
       let fits = within k n (length o) h in
       let value : words_read (word_value way k) (width k) n o ≡ numbers_of k (arranged way (width k) (take (n * width k) o)) = sym (words_first (word_value way k) (width k) n o fits) ∙ way_words e k way is block n (take (n * width k) o) (first_long (width k) n o fits) in

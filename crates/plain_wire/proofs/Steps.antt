@@ -66,13 +66,15 @@ pub count_exactly : (e : Encoding) (m p n : ℕ) → count_octets e (Exactly m) 
 unfolding count_octets
 count_exactly e m p n = refl
 
-pub count_other : (e : Encoding) (c : Count) (p n : ℕ) → ((m : ℕ) → c ≡ Exactly m → ⊥) → count_octets e c p n ≡ lone_octets e counted p (pos n)
+pub count_other : (e : Encoding) (c : Count) (p n : ℕ) → ((m : ℕ) → c ≡ Exactly m → ⊥)
+    → count_octets e c p n ≡ lone_octets e counted p (pos n)
 unfolding count_octets
 count_other e (Exactly m) p n other = absurd (other m refl)
 count_other e _ p n other = refl
 
 -- a length of 2 ^ 32 is sent as 0
-pub ended_wraps : (e : Encoding) (p n : ℕ) → n < 4294967296 → 4294967295 ≤ n → scalar_octets e counted p (pos 0) ≡ scalar_octets e counted p (pos (suc n))
+pub ended_wraps : (e : Encoding) (p n : ℕ) → n < 4294967296 → 4294967295 ≤ n
+    → scalar_octets e counted p (pos 0) ≡ scalar_octets e counted p (pos (suc n))
 unfolding scalar_octets
 ended_wraps e p n few many =
     let is : n ≡ 4294967295 = omega arith in
@@ -86,12 +88,14 @@ ended_wraps e p n few many =
 
 pub ruleset counts = (to_z-of_z, count_exactly, count_other, append-nil, ended_wraps)
 
-pub cdr_text : (e : Encoding) (c : Count) (p n : ℕ) → (e ≡ CdrBig) ⊎ (e ≡ CdrLittle) → head_octets e (text c) p n ≡ scalar_octets e counted p (pos (suc n))
+pub cdr_text : (e : Encoding) (c : Count) (p n : ℕ) → (e ≡ CdrBig) ⊎ (e ≡ CdrLittle)
+    → head_octets e (text c) p n ≡ scalar_octets e counted p (pos (suc n))
 unfolding head_octets
 cdr_text e c p n (inl is) = rw is refl
 cdr_text e c p n (inr is) = rw is refl
 
-pub other_text : (e : Encoding) (c : Count) (p n : ℕ) → (e ≡ CdrBig → ⊥) → (e ≡ CdrLittle → ⊥) → (e ≡ Mach → ⊥) → head_octets e (text c) p n ≡ count_octets e c p n
+pub other_text : (e : Encoding) (c : Count) (p n : ℕ) → (e ≡ CdrBig → ⊥) → (e ≡ CdrLittle → ⊥) → (e ≡ Mach → ⊥)
+    → head_octets e (text c) p n ≡ count_octets e c p n
 unfolding head_octets
 other_text Xdr c p n a b d = refl
 other_text CdrBig c p n a b d = absurd (a refl)
@@ -112,13 +116,15 @@ row_head Mach k c p n h = absurd (h refl)
 pub ruleset heads = (to_z-of_z, cdr_text, other_text, mach_head, row_head)
 
 -- what is left over is at least one more
-pub octets_left : (ns : List ℤ) (i : ℕ) → i < length ns → map natural (drop i ns) ≡ natural (get_or ns i (pos 0)) ∷ map natural (drop (i + 1) ns)
+pub octets_left : (ns : List ℤ) (i : ℕ) → i < length ns
+    → map natural (drop i ns) ≡ natural (get_or ns i (pos 0)) ∷ map natural (drop (i + 1) ns)
 octets_left ns i h = rw (add-one, drop-cons ns i (pos 0)) refl
 
 pub octets_none : (ns : List ℤ) (i : ℕ) → length ns ≤ i → map natural (drop i ns) ≡ []
 octets_none ns i h = rw (drop_all i ns h) refl
 
-pub numbers_left : (e : Encoding) (k : Kind) (ns : List ℤ) (i : ℕ) → i < length ns → numbers_octets e k (drop i ns) ≡ bare_octets e k (get_or ns i (pos 0)) ++ numbers_octets e k (drop (i + 1) ns)
+pub numbers_left : (e : Encoding) (k : Kind) (ns : List ℤ) (i : ℕ) → i < length ns
+    → numbers_octets e k (drop i ns) ≡ bare_octets e k (get_or ns i (pos 0)) ++ numbers_octets e k (drop (i + 1) ns)
 numbers_left e k ns i h = rw (add-one, drop-cons ns i (pos 0)) refl
 
 pub numbers_none : (e : Encoding) (k : Kind) (ns : List ℤ) (i : ℕ) → length ns ≤ i → numbers_octets e k (drop i ns) ≡ []
@@ -131,13 +137,17 @@ passes_at test (n ∷ ns) zero h all = left_true (test n) (list_all test ns) all
 passes_at test (n ∷ ns) (suc i) h all = passes_at test ns i (omega arith) (right_true (test n) (list_all test ns) all)
 
 -- a call in the middle failed
-pub breaks : (r : Result ℕ NoMemory) (d : NoMemory) (old mid new o x more : List ℕ) (p q : ℕ) → IsErr r → old ++ o ≡ mid ++ (x ++ more) → length old ≤ length mid → Appends mid new q x (Err d) → Appends old new p o r
+pub breaks : (r : Result ℕ NoMemory) (d : NoMemory) (old mid new o x more : List ℕ) (p q : ℕ) → IsErr r
+    → old ++ o ≡ mid ++ (x ++ more) → length old ≤ length mid → Appends mid new q x (Err d)
+    → Appends old new p o r
 breaks (Ok n) d old mid new o x more p q failed whole grown (rest, is, long) = absurd cc
 breaks (Err d') d old mid new o x more p q failed whole grown (rest, is, long) =
     (rest ++ more, whole ∙ sym (append_assoc mid x more) ∙ ap (λ z. z ++ more) is ∙ append_assoc new rest more, omega arith)
 
 -- two calls, one after the other
-pub both_appended : (r : Result ℕ NoMemory) (old mid new o x : List ℕ) (p q : ℕ) → mid ≡ old ++ o → q + length old ≡ p + length mid → Appends mid new q x r → Appends old new p (o ++ x) r
+pub both_appended : (r : Result ℕ NoMemory) (old mid new o x : List ℕ) (p q : ℕ) → mid ≡ old ++ o
+    → q + length old ≡ p + length mid → Appends mid new q x r
+    → Appends old new p (o ++ x) r
 both_appended (Ok n) old mid new o x p q first placed (second, behind) =
     (second ∙ ap (λ z. z ++ x) first ∙ append_assoc old o x, omega arith)
 both_appended (Err d) old mid new o x p q first placed (rest, is, long) =
@@ -149,7 +159,19 @@ number_got [] i n h = absurd cc
 number_got (m ∷ ns) zero n h = cc
 number_got (m ∷ ns) (suc i) n h = number_got ns i n h
 
-pub ruleset equations = (number_got, number_missing, to_z-of_z, octets_left, octets_none, numbers_left, numbers_none, passes_at, append_assoc, length-append, append-nil)
+pub ruleset equations = (
+  number_got,
+  number_missing,
+  to_z-of_z,
+  octets_left,
+  octets_none,
+  numbers_left,
+  numbers_none,
+  passes_at,
+  append_assoc,
+  length-append,
+  append-nil,
+)
 
 -- what was appended before memory ran out is a prefix
 pub appended : (old new o rest : List ℕ) → old ++ o ≡ new ++ rest → length old ≤ length new → IsPrefixed old new o
@@ -162,7 +184,9 @@ appended (x ∷ old) (y ∷ new) o rest is long =
     (behind.0, behind.1, behind.2, ap (λ z. y ∷ z) behind.3 ∙ ap (λ z. z ∷ (old ++ behind.0)) (sym same))
 
 -- one more was appended
-pub goes_on : (old all mid new left x : List ℕ) (more : ℕ → List ℕ) (at q : ℕ) → old ++ all ≡ mid ++ left → left ≡ x ++ more (at + length x) → new ≡ mid ++ x → q + length mid ≡ at + length new → old ++ all ≡ new ++ more q
+pub goes_on : (old all mid new left x : List ℕ) (more : ℕ → List ℕ) (at q : ℕ) → old ++ all ≡ mid ++ left
+    → left ≡ x ++ more (at + length x) → new ≡ mid ++ x → q + length mid ≡ at + length new
+    → old ++ all ≡ new ++ more q
 goes_on old all mid new left x more at q told is new_is placed =
     let past : q ≡ at + length x = omega (arith, placed, ap length new_is, length-append mid x) in
     rw (past, new_is) (told ∙ ap (λ z. mid ++ z) is ∙ sym (append_assoc mid x (more (at + length x))))

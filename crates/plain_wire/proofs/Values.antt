@@ -18,25 +18,30 @@ use Rattle.plain_wire.proofs.Arms.{arm_typed, arm_none, arm_sent}
 use Rattle.std.proofs.lemmas.Int.{to_z-of_z}
 use Rattle.std.proofs.lemmas.List.{append-nil}
 
-pub are_more : (us : List Ty) (is : List ℕ) (vs : List Value) (k : ℕ) (d : Value) → k < length is → k < length vs → AreOf (fields_at us (drop k is)) (all_seen (drop k vs))
+pub are_more : (us : List Ty) (is : List ℕ) (vs : List Value) (k : ℕ) (d : Value) → k < length is → k < length vs
+    → AreOf (fields_at us (drop k is)) (all_seen (drop k vs))
     → IsOf (at us (get_or is k 0)) (seen (get_or vs k d)) × AreOf (fields_at us (drop (k + 1) is)) (all_seen (drop (k + 1) vs))
 are_more us is vs k d h j p = rw add-one (rw (drop-cons is k 0, drop-cons vs k d) at p)
 
 pub fields_left : (e : Encoding) (us : List Ty) (is : List ℕ) (vs : List Value) (k p : ℕ) (d : Value) → k < length is → k < length vs
     → send_fields e (fields_at us (drop k is)) p (all_seen (drop k vs))
-    ≡ send e (at us (get_or is k 0)) p (seen (get_or vs k d)) ++ send_fields e (fields_at us (drop (k + 1) is)) (p + length (send e (at us (get_or is k 0)) p (seen (get_or vs k d)))) (all_seen (drop (k + 1) vs))
+    ≡ send e (at us (get_or is k 0)) p (seen (get_or vs k d)) ++ send_fields e (fields_at us (drop (k + 1) is))
+    (p + length (send e (at us (get_or is k 0)) p (seen (get_or vs k d)))) (all_seen (drop (k + 1) vs))
 unfolding send
 fields_left e us is vs k p d h j = rw (add-one, drop-cons is k 0, drop-cons vs k d) refl
 
 pub each_left : (one : ℕ → Val → List ℕ) (vs : List Value) (k p : ℕ) (d : Value) → k < length vs
-    → send_each one p (all_seen (drop k vs)) ≡ one p (seen (get_or vs k d)) ++ send_each one (p + length (one p (seen (get_or vs k d)))) (all_seen (drop (k + 1) vs))
+    → send_each one p (all_seen (drop k vs))
+    ≡ one p (seen (get_or vs k d)) ++ send_each one (p + length (one p (seen (get_or vs k d)))) (all_seen (drop (k + 1) vs))
 each_left one vs k p d h = rw (add-one, drop-cons vs k d) refl
 
-pub are_here : (us : List Ty) (is : List ℕ) (vs : List Value) (k : ℕ) (v : Value) → AreOf (fields_at us (drop k is)) (all_seen (drop k vs)) → k < length is → k < length vs → v ≡ get_or vs k v
+pub are_here : (us : List Ty) (is : List ℕ) (vs : List Value) (k : ℕ) (v : Value)
+    → AreOf (fields_at us (drop k is)) (all_seen (drop k vs)) → k < length is → k < length vs → v ≡ get_or vs k v
     → IsOf (at us (get_or is k 0)) (seen v)
 are_here us is vs k v p h j same = rw same (are_more us is vs k v h j p).0
 
-pub fields_none : (e : Encoding) (us : List Ty) (is : List ℕ) (vs : List Value) (k p : ℕ) → length is ≤ k → send_fields e (fields_at us (drop k is)) p (all_seen (drop k vs)) ≡ []
+pub fields_none : (e : Encoding) (us : List Ty) (is : List ℕ) (vs : List Value) (k p : ℕ) → length is ≤ k
+    → send_fields e (fields_at us (drop k is)) p (all_seen (drop k vs)) ≡ []
 unfolding send
 fields_none e us is vs k p h = rw (drop_all k is h) refl
 
@@ -44,7 +49,8 @@ pub each_none : (one : ℕ → Val → List ℕ) (vs : List Value) (k p : ℕ) �
 each_none one vs k p h = rw (drop_all k vs h) refl
 
 -- a row of the type
-pub row_typed : (t : Ty) (v : Val) (k l : Kind) (c : Count) (ns : List ℤ) → t ≡ array_type (row_of l c) → Some (k, ns) ≡ row_in v → IsOf t v → IsArray (row_of l c) k ns
+pub row_typed : (t : Ty) (v : Val) (k l : Kind) (c : Count) (ns : List ℤ) → t ≡ array_type (row_of l c) → Some (k, ns) ≡ row_in v → IsOf t v
+    → IsArray (row_of l c) k ns
 row_typed t (row k' ns') k l c ns is there h =
     let pair : (k, ns) ≡ (k', ns') = cc in
     let one : k ≡ k' = ap (λ (x : Kind × List ℤ). x.0) pair in
@@ -59,7 +65,21 @@ row_typed t (arm n v) k l c ns is there h = absurd cc
 row_typed t absent k l c ns is there h = absurd cc
 row_typed t (present v) k l c ns is there h = absurd cc
 
-pub ruleset values = (to_z-of_z, append-nil, append_assoc, length-append, fields_none, each_none, count-all_seen, are_many, are_here, arm_typed, arm_none, arm_sent, arm_below)
+pub ruleset values = (
+  to_z-of_z,
+  append-nil,
+  append_assoc,
+  length-append,
+  fields_none,
+  each_none,
+  count-all_seen,
+  are_many,
+  are_here,
+  arm_typed,
+  arm_none,
+  arm_sent,
+  arm_below,
+)
 
 pub all_at : (k : ℕ) (is : List ℕ) (i : ℕ) → i < length is → AllByRecursion (λ x. x < k) is → get_or is i 0 < k
 all_at k [] i h p = absurd (omega arith)

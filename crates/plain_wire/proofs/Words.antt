@@ -21,7 +21,9 @@ use Rattle.wire_def.specs.Described.{read_described}
 use Rattle.wire_def.specs.Arrays.{count_of, kind_of, is_some, less_one, read_count, read_ended, read_head, read_zeros, read_tail, trailing, ill_ended}
 use Rattle.plain_wire.specs.Readers.{read_gap, read_here}
 
-pub word_here : (e : Encoding) (w : Width) (p : ℕ) (o : List ℕ) → read_word e 1 w p o ≡ (if nat_lt (length o) (byte_len w) then stop Short p else got (octets_number e w (take (byte_len w) o)) (p + byte_len w) (drop (byte_len w) o))
+pub word_here : (e : Encoding) (w : Width) (p : ℕ) (o : List ℕ)
+    → read_word e 1 w p o ≡ (if nat_lt (length o) (byte_len w) then stop Short p
+    else got (octets_number e w (take (byte_len w) o)) (p + byte_len w) (drop (byte_len w) o))
 unfolding read_word
 word_here e w p o =
     let none : gap p 1 ≡ 0 = omega arith in
@@ -29,8 +31,9 @@ word_here e w p o =
 
 pub ruleset words = (word_here)
 
--- a number behind its gap
-word_behind : (e : Encoding) (a : ℕ) (w : Width) (p : ℕ) (o : List ℕ) → read_word e a w p o ≡ then_on (read_gap (gap p a) p o) (λ x q b. read_word e 1 w q b)
+-- a number after its gap
+word_behind : (e : Encoding) (a : ℕ) (w : Width) (p : ℕ) (o : List ℕ)
+    → read_word e a w p o ≡ then_on (read_gap (gap p a) p o) (λ x q b. read_word e 1 w q b)
 unfolding read_word read_gap
 word_behind e a w p o = elim (cases_lt (length o) (gap p a)) [
   | inl lt ↦
@@ -55,7 +58,8 @@ gap_got n p o x q b e = past (ltb (length o) n) e where
   past false e = let same : p + n ≡ q = cc in sym same
 
 -- a scalar is a gap, and what begins there
-pub scalar_behind : (e : Encoding) (s : Scalar) (p : ℕ) (o : List ℕ) → read_scalar e s p o ≡ then_on (read_gap (gap p (alignment_of e s)) p o) (λ x q b. read_here e s q b)
+pub scalar_behind : (e : Encoding) (s : Scalar) (p : ℕ) (o : List ℕ)
+    → read_scalar e s p o ≡ then_on (read_gap (gap p (alignment_of e s)) p o) (λ x q b. read_here e s q b)
 unfolding read_scalar
 scalar_behind e s p o = rw (word_behind e (alignment_of e s) (width_of e s) p o) (behind (read_gap (gap p (alignment_of e s)) p o) refl) where
   w : Width
@@ -111,12 +115,14 @@ less (suc m) h = (refl, omega arith)
 
 pub ruleset counts = (to_z-of_z, less)
 
-pub text_ended : (e : Encoding) (c : Count) (p : ℕ) (o : List ℕ) → (e ≡ CdrBig) ⊎ (e ≡ CdrLittle) → read_head e (text c) p o ≡ read_ended e c p o
+pub text_ended : (e : Encoding) (c : Count) (p : ℕ) (o : List ℕ) → (e ≡ CdrBig) ⊎ (e ≡ CdrLittle)
+    → read_head e (text c) p o ≡ read_ended e c p o
 unfolding read_head
 text_ended e c p o (inl is) = rw is refl
 text_ended e c p o (inr is) = rw is refl
 
-pub mach_head : (e : Encoding) (a : Array) (p : ℕ) (o : List ℕ) → e ≡ Mach → read_head e a p o ≡ read_described (count_of a) (number (kind_of a)) p o
+pub mach_head : (e : Encoding) (a : Array) (p : ℕ) (o : List ℕ) → e ≡ Mach
+    → read_head e a p o ≡ read_described (count_of a) (number (kind_of a)) p o
 unfolding read_head
 mach_head e a p o is = rw is refl
 
@@ -124,7 +130,8 @@ pub xdr_text : (e : Encoding) (c : Count) (p : ℕ) (o : List ℕ) → e ≡ Xdr
 unfolding read_head
 xdr_text e c p o is = rw is refl
 
-pub row_count : (e : Encoding) (k : Kind) (c : Count) (p : ℕ) (o : List ℕ) → (e ≡ Mach → ⊥) → read_head e (row_of k c) p o ≡ read_count e c p o
+pub row_count : (e : Encoding) (k : Kind) (c : Count) (p : ℕ) (o : List ℕ) → (e ≡ Mach → ⊥)
+    → read_head e (row_of k c) p o ≡ read_count e c p o
 unfolding read_head
 row_count Xdr k c p o h = refl
 row_count CdrBig k c p o h = refl
@@ -133,7 +140,8 @@ row_count Mach k c p o h = absurd (h refl)
 
 pub ruleset heads = (text_ended, mach_head, xdr_text, row_count)
 
-pub zeros_read : (e : Encoding) (a : Array) (n p : ℕ) (o : List ℕ) → (e ≡ Mach → ⊥) → read_tail e a n p o ≡ read_zeros (trailing e a n) (ill_ended e) p o
+pub zeros_read : (e : Encoding) (a : Array) (n p : ℕ) (o : List ℕ) → (e ≡ Mach → ⊥)
+    → read_tail e a n p o ≡ read_zeros (trailing e a n) (ill_ended e) p o
 unfolding read_tail
 zeros_read Xdr a n p o h = refl
 zeros_read CdrBig a n p o h = refl

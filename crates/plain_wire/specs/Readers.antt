@@ -84,7 +84,8 @@ read_length e p o = map_got natural (read_scalar e counted p o)
 
 -- how many elements a descriptor says that there are, whatever the bound
 abbrev pub read_many : Count → Scalar → Reader FaultKind ℕ
-read_many c s p o = map_got (λ x. elements_in s (x.1 / 2 ^ 32)) (tested (both (read_first c s) read_rest) (λ x. is_right c s x.1) BadItem (λ q. q) p o)
+read_many c s p o = map_got (λ x. elements_in s (x.1 / 2 ^ 32))
+    (tested (both (read_first c s) read_rest) (λ x. is_right c s x.1) BadItem (λ q. q) p o)
 
 -- an octet of a row
 abbrev pub any_octet : Reader FaultKind ℤ
@@ -94,10 +95,10 @@ any_octet = read_octet (λ b. true) BadText
 abbrev pub any_letter : Reader FaultKind ℤ
 any_letter = read_octet (λ b. nat_lt 0 b) BadText
 
--- the elements of a row, and what stands behind them
+-- the elements of a row, and what follows them
 abbrev pub elements_read : Encoding → Kind → Count → ℕ → Reader FaultKind (List ℤ)
 elements_read e k c n p o = map_got (λ x. x.0) (both (times (read_element e (row_of k c)) n) (λ _. read_tail e (row_of k c) n) p o)
 
--- the octets of a text, and what stands behind them
+-- the octets of a text, and what follows them
 abbrev pub letters_read : Encoding → Count → ℕ → Reader FaultKind (List ℤ)
 letters_read e c n p o = map_got (λ x. x.0) (both (times any_letter n) (λ _. read_tail e (text c) n) p o)

@@ -19,7 +19,7 @@ bare_octets e k n = number_octets e (width_of e (number k)) (residue (width_of e
 abbrev pub numbers_octets : Encoding → Kind → List ℤ → List ℕ
 numbers_octets e k ns = flat_map (bare_octets e k) ns
 
--- how many octets stand before the first of so many numbers
+-- how many octets come before the first of so many numbers
 abbrev pub first_gap : Encoding → Kind → ℕ → ℕ → ℕ
 first_gap e k p zero = 0
 first_gap e k p (suc n) = gap p (alignment_of e (number k))

@@ -17,7 +17,7 @@ abbrev pub Appends : List ℕ → List ℕ → ℕ → List ℕ → Result ℕ N
 Appends old new p o (Ok q) = (new ≡ old ++ o) × (q + length old ≡ p + length new)
 Appends old new p o (Err _) = (rest : List ℕ) × (old ++ o ≡ new ++ rest) × (length old ≤ length new)
 
--- a position that lies hardly behind the octets, so that no position overflows
+-- a position that is hardly past the octets, so that no position overflows
 abbrev pub IsNear : ℕ → List ℕ → Type 0
 IsNear p old = p ≤ longest_message + length old
 
@@ -29,11 +29,11 @@ IsPrefixed old new o = (a : List ℕ) × (b : List ℕ) × (o ≡ a ++ b) × (ne
 abbrev pub elements_of : Encoding → Array → ℕ → List ℤ → List ℕ
 elements_of e a p ns = elements_octets (element_octets e a) p ns
 
--- elements, and what stands behind them
+-- elements, and what follows them
 abbrev pub ended : Encoding → Array → ℕ → List ℤ → List ℕ
 ended e a p ns = followed p (elements_of e a p ns) (λ q. replicate (trailing e a (length ns)) 0)
 
--- what gives the length, the elements, and what stands behind them
+-- what gives the length, the elements, and what follows them
 abbrev pub in_full : Encoding → Array → ℕ → List ℤ → List ℕ
 in_full e a p ns = followed p (head_octets e a p (length ns)) (λ q. ended e a q ns)
 

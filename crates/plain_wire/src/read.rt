@@ -47,8 +47,10 @@ pub fn plain_read(
     requires id { id < length mint.now }
     requires within { pos ≤ length message.now }
     requires short { length message.now ≤ longest_message }
-    ensures value { IfOk result (λ r. (v : Val) (used : ℕ) → IsValue r v used ↔ BeginsWith enc (type_at mint.now id) pos (drop pos message.now) v used) }
-    ensures stop { IfOk result (λ r. (k : FaultKind) (at : ℕ) → IsStop r k at ↔ Stops enc (type_at mint.now id) pos (drop pos message.now) k at) }
+    ensures value { IfOk result (λ r. (v : Val) (used : ℕ)
+        → IsValue r v used ↔ BeginsWith enc (type_at mint.now id) pos (drop pos message.now) v used) }
+    ensures stop { IfOk result (λ r. (k : FaultKind) (at : ℕ)
+        → IsStop r k at ↔ Stops enc (type_at mint.now id) pos (drop pos message.now) k at) }
 {
     reading_is_a_grammar();
     bodies_are_light();
@@ -129,7 +131,8 @@ fn fields<'a>(
 ) -> Result<(Values, Cursor<'a>), ReadError>
     requires id { id < length mint.now }
     requires below { AreBelow id ids.now }
-    ensures { Gives all_seen result (read_fields enc (fields_at (unfolded mint.now) ids.now) at.entry.place at.entry.rest.now) }
+    ensures { Gives all_seen result
+        (read_fields enc (fields_at (unfolded mint.now) ids.now) at.entry.place at.entry.rest.now) }
 {
     let mut values = Listed::new(alloc);
     let mut at = at;
@@ -154,7 +157,8 @@ fn items<'a>(
 ) -> Result<(Value, Cursor<'a>), ReadError>
     requires id { id < length mint.now }
     requires below { item < id }
-    ensures { Gives seen result (read enc (items_type bound (type_at mint.now item)) at.entry.place at.entry.rest.now) }
+    ensures { Gives seen result
+        (read enc (items_type bound (type_at mint.now item)) at.entry.place at.entry.rest.now) }
 {
     let (n, next) = count(enc, bound, at)?;
     let (values, last) = each(alloc, enc, mint, id, item, n, next)?;
@@ -174,7 +178,8 @@ fn each<'a>(
 ) -> Result<(Values, Cursor<'a>), ReadError>
     requires id { id < length mint.now }
     requires below { item < id }
-    ensures { Gives all_values result (times (read enc (type_at mint.now item)) n at.entry.place at.entry.rest.now) }
+    ensures { Gives all_values result
+        (times (read enc (type_at mint.now item)) n at.entry.place at.entry.rest.now) }
 {
     let mut values = Listed::new(alloc);
     let mut at = at;
@@ -201,7 +206,9 @@ fn choice<'a>(
     requires id { id < length mint.now }
     requires below { ArmsBelow id arms.now }
     requires other { IsBelow id other }
-    ensures { Gives seen result (read enc (choice_type (scalar_of tag.now) (arms_at (unfolded mint.now) arms.now other)) at.entry.place at.entry.rest.now) }
+    ensures { Gives seen result
+        (read enc (choice_type (scalar_of tag.now) (arms_at (unfolded mint.now) arms.now other))
+        at.entry.place at.entry.rest.now) }
 {
     let ((n, item), next) = tag_with_arm(enc, tag, arms, other, at)?;
     let (inner, last) = value(alloc, enc, mint, item, next)?;
@@ -220,7 +227,8 @@ fn maybe<'a>(
 ) -> Result<(Value, Cursor<'a>), ReadError>
     requires id { id < length mint.now }
     requires below { item < id }
-    ensures { Gives seen result (read enc (maybe_type (type_at mint.now item)) at.entry.place at.entry.rest.now) }
+    ensures { Gives seen result
+        (read enc (maybe_type (type_at mint.now item)) at.entry.place at.entry.rest.now) }
 {
     let (n, next) = lone(enc, Kind::Bool, at)?;
     if n == 0 {

@@ -112,7 +112,8 @@ fn elements(
     n: usize,
     at: Cursor<'_>,
 ) -> Result<(Row, Cursor<'_>), ReadError>
-    ensures numbers { Gives numbers_in result (times (read_element enc (row_of kind bound)) n at.entry.place at.entry.rest.now) }
+    ensures numbers { Gives numbers_in result
+        (times (read_element enc (row_of kind bound)) n at.entry.place at.entry.rest.now) }
     ensures kind { IfOk result (λ x. x.0.kind ≡ kind) }
 {
     match kind {
@@ -124,7 +125,7 @@ fn elements(
     }
 }
 
-/// What stands behind a row's elements.
+/// What follows a row's elements.
 #[tactic(auto, using(crate::proofs::Words::tails))]
 fn behind_elements(
     enc: Encoding,
@@ -141,7 +142,7 @@ fn behind_elements(
     }
 }
 
-/// What stands behind a text's octets.
+/// What follows a text's octets.
 #[tactic(auto, using(crate::proofs::Words::tails))]
 fn behind_letters(
     enc: Encoding,
@@ -157,7 +158,7 @@ fn behind_letters(
     }
 }
 
-/// Elements, and what stands behind them.
+/// Elements, and what follows them.
 fn ended_elements(
     alloc: Global,
     enc: Encoding,
@@ -166,7 +167,8 @@ fn ended_elements(
     n: usize,
     at: Cursor<'_>,
 ) -> Result<(Row, Cursor<'_>), ReadError>
-    ensures numbers { Gives numbers_in result (elements_read enc kind bound n at.entry.place at.entry.rest.now) }
+    ensures numbers { Gives numbers_in result
+        (elements_read enc kind bound n at.entry.place at.entry.rest.now) }
     ensures kind { IfOk result (λ x. x.0.kind ≡ kind) }
 {
     let (row, next) = elements(alloc, enc, kind, bound, n, at)?;
@@ -183,14 +185,15 @@ pub(crate) fn row(
     bound: Count,
     at: Cursor<'_>,
 ) -> Result<(Row, Cursor<'_>), ReadError>
-    ensures numbers { Gives numbers_in result (read_array enc (row_of kind bound) at.entry.place at.entry.rest.now) }
+    ensures numbers { Gives numbers_in result
+        (read_array enc (row_of kind bound) at.entry.place at.entry.rest.now) }
     ensures kind { IfOk result (λ x. x.0.kind ≡ kind) }
 {
     let (n, next) = row_head(enc, kind, bound, at)?;
     ended_elements(alloc, enc, kind, bound, n, next)
 }
 
-/// The octets of a text, and what stands behind them.
+/// The octets of a text, and what follows them.
 fn ended_letters(
     alloc: Global,
     enc: Encoding,

@@ -90,7 +90,7 @@ fn may_be(bound: Count, kind: Kind, long: bool) -> bool
     }
 }
 
-/// Whether a first word is of a form that may stand there.
+/// Whether a first word is of a form that may be there.
 fn formed(bound: Count, kind: Kind, m: u32) -> bool
     ensures { result ≡ has_form bound (number kind) m }
 {
@@ -157,7 +157,7 @@ fn fixed(bound: Count, kind: Kind, units: u64) -> bool
     }
 }
 
-/// Whether a descriptor says the name and bits of a kind, and a number of units that may stand there.
+/// Whether a descriptor says the name and bits of a kind, and a number of units that may be there.
 fn right(bound: Count, kind: Kind, words: u64) -> bool
     ensures { result ≡ is_right bound (number kind) words }
 {

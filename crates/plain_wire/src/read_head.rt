@@ -79,7 +79,7 @@ fn one_length(enc: Encoding, at: Cursor<'_>) -> Result<(usize, Cursor<'_>), Faul
     Ok((n as usize, next))
 }
 
-/// The length of a text that has an octet 0 behind it.
+/// The length of a text that has an octet 0 after it.
 #[tactic(auto, using(crate::proofs::Words::counts))]
 fn ended(enc: Encoding, bound: Count, at: Cursor<'_>) -> Result<(usize, Cursor<'_>), Fault>
     ensures { Reads same result (read_ended enc bound at.entry.place at.entry.rest.now) }

@@ -42,7 +42,8 @@ fn image(
     requires block { _way ≢ Way.Single }
     requires kind { kind ≢ Kind.Bool }
     ensures whole { IfOk result (λ x. length x.0.now % width kind ≡ 0) }
-    ensures read { Reads (λ o. numbers_of kind (arranged _way (width kind) o.now)) result (times (read_here _enc (number kind)) n at.entry.place at.entry.rest.now) }
+    ensures read { Reads (λ o. numbers_of kind (arranged _way (width kind) o.now)) result
+        (times (read_here _enc (number kind)) n at.entry.place at.entry.rest.now) }
 {
     let width = kind.width();
     let there = many(at.rest, width);
@@ -71,7 +72,8 @@ fn row_of_swapped(alloc: Global, kind: Kind, octets: &[u8]) -> Result<Row, NoMem
     requires kind { kind ≢ Kind.Bool }
     requires width { IsSwapWidth (width kind) }
     requires whole { length octets.now % width kind ≡ 0 }
-    ensures { IfOk result (λ r. r ≡ record { kind = kind; numbers = numbers_of kind (swapped (width kind) octets.now) }) }
+    ensures { IfOk result
+        (λ r. r ≡ record { kind = kind; numbers = numbers_of kind (swapped (width kind) octets.now) }) }
 {
     let mut row = Row::new(alloc, kind);
     let mut piece = [0u8; PIECE];
@@ -94,7 +96,8 @@ fn each_number(
     n: usize,
     at: Cursor<'_>,
 ) -> Result<(Row, Cursor<'_>), ReadError>
-    ensures numbers { Gives numbers_in result (times (read_here enc (number kind)) n at.entry.place at.entry.rest.now) }
+    ensures numbers { Gives numbers_in result
+        (times (read_here enc (number kind)) n at.entry.place at.entry.rest.now) }
     ensures kind { IfOk result (λ x. x.0.kind ≡ kind) }
 {
     let mut row = Row::new(alloc, kind);
@@ -115,7 +118,8 @@ fn numbers_here(
     n: usize,
     at: Cursor<'_>,
 ) -> Result<(Row, Cursor<'_>), ReadError>
-    ensures numbers { Gives numbers_in result (times (read_here enc (number kind)) n at.entry.place at.entry.rest.now) }
+    ensures numbers { Gives numbers_in result
+        (times (read_here enc (number kind)) n at.entry.place at.entry.rest.now) }
     ensures kind { IfOk result (λ x. x.0.kind ≡ kind) }
 {
     if matches!(kind, Kind::Bool) {
@@ -143,7 +147,8 @@ pub(crate) fn numbers(
     n: usize,
     at: Cursor<'_>,
 ) -> Result<(Row, Cursor<'_>), ReadError>
-    ensures numbers { Gives numbers_in result (times (read_scalar enc (number kind)) n at.entry.place at.entry.rest.now) }
+    ensures numbers { Gives numbers_in result
+        (times (read_scalar enc (number kind)) n at.entry.place at.entry.rest.now) }
     ensures kind { IfOk result (λ x. x.0.kind ≡ kind) }
 {
     let ((), first) = skip(gap_before(enc, kind, at.place, n), at)?;

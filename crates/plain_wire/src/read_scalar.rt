@@ -212,7 +212,7 @@ pub(crate) fn number_here(
     }
 }
 
-/// A number of a kind, behind its gap.
+/// A number of a kind, after its gap.
 #[tactic(auto, using(crate::proofs::Words::scalars))]
 pub(crate) fn number_at(
     enc: Encoding,
@@ -255,7 +255,7 @@ fn label_here<'a>(
     }
 }
 
-/// One of an enum's labels, behind its gap.
+/// One of an enum's labels, after its gap.
 #[tactic(auto, using(crate::proofs::Words::lones))]
 pub(crate) fn label_at<'a>(
     enc: Encoding,

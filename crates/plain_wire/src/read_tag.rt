@@ -61,7 +61,8 @@ fn tag_here<'a>(
     at: Cursor<'a>,
 ) -> Result<((i128, u32), Cursor<'a>), Fault>
     ensures arm { IfOk result (λ x. arm_found arms.now other x.0.0 ≡ Some x.0.1) }
-    ensures read { Reads number_of_tag result (read_armed enc (scalar_of tag.now) arms.now other at.entry.place at.entry.rest.now) }
+    ensures read { Reads number_of_tag result
+        (read_armed enc (scalar_of tag.now) arms.now other at.entry.place at.entry.rest.now) }
 {
     let (n, next) = scalar(enc, tag, at)?;
     match arm_of(arms, other, &n) {
@@ -78,7 +79,8 @@ fn tag_item<'a>(
     at: Cursor<'a>,
 ) -> Result<((i128, u32), Cursor<'a>), Fault>
     ensures arm { IfOk result (λ x. arm_found arms.now other x.0.0 ≡ Some x.0.1) }
-    ensures read { Reads number_of_tag result (read_pass Mach (scalar_of tag.now) (lists arms.now other) BadValue at.entry.place at.entry.rest.now) }
+    ensures read { Reads number_of_tag result (read_pass Mach (scalar_of tag.now) (lists arms.now other)
+        BadValue at.entry.place at.entry.rest.now) }
 {
     let kind = kind_of(tag);
     let ((), start) = descriptor(kind, at)?;
@@ -97,7 +99,8 @@ pub(crate) fn tag_with_arm<'a>(
     at: Cursor<'a>,
 ) -> Result<((i128, u32), Cursor<'a>), Fault>
     ensures arm { IfOk result (λ x. arm_found arms.now other x.0.0 ≡ Some x.0.1) }
-    ensures read { Reads number_of_tag result (read_pass enc (scalar_of tag.now) (lists arms.now other) BadValue at.entry.place at.entry.rest.now) }
+    ensures read { Reads number_of_tag result
+        (read_pass enc (scalar_of tag.now) (lists arms.now other) BadValue at.entry.place at.entry.rest.now) }
 {
     match enc {
         Encoding::Mach => tag_item(tag, arms, other, at),

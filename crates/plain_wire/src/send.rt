@@ -32,7 +32,8 @@ pub fn plain_send(
     requires near { pos ≤ longest_message }
     requires typed { IsWellTyped (type_at mint.now id) (seen value.now) }
     ensures ok { OnOk result (out.new ≡ out.old ++ send enc (type_at mint.now id) pos (seen value.now)) }
-    ensures err { OnErr result (IsPrefixed out.old out.new (send enc (type_at mint.now id) pos (seen value.now))) }
+    ensures err { OnErr result
+        (IsPrefixed out.old out.new (send enc (type_at mint.now id) pos (seen value.now))) }
 {
     put_value(enc, mint, id, pos, value, out)?;
     Ok(())
@@ -110,7 +111,8 @@ fn put_fields(
     requires below { AreBelow id ids.now }
     requires typed { AreOf (fields_at (unfolded mint.now) ids.now) (all_seen values.now) }
     requires near { IsNear place out.old }
-    ensures { Appends out.old out.new place (send_fields enc (fields_at (unfolded mint.now) ids.now) place (all_seen values.now)) result }
+    ensures { Appends out.old out.new place
+        (send_fields enc (fields_at (unfolded mint.now) ids.now) place (all_seen values.now)) result }
 {
     let ids = ids.as_slice();
     let values = values.as_slice();
@@ -137,7 +139,8 @@ fn put_items(
     requires below { item < id }
     requires typed { IsOf (items_type bound (type_at mint.now item)) (items (all_seen values.now)) }
     requires near { IsNear place out.old }
-    ensures { Appends out.old out.new place (send enc (items_type bound (type_at mint.now item)) place (items (all_seen values.now))) result }
+    ensures { Appends out.old out.new place
+        (send enc (items_type bound (type_at mint.now item)) place (items (all_seen values.now))) result }
 {
     let behind = put_count(enc, bound, place, values.len(), out)?;
     put_each(enc, mint, id, item, behind, values, out)
@@ -158,7 +161,8 @@ fn put_each(
     requires below { item < id }
     requires typed { Each (IsOf (type_at mint.now item)) (all_seen values.now) }
     requires near { IsNear place out.old }
-    ensures { Appends out.old out.new place (send_each (send enc (type_at mint.now item)) place (all_seen values.now)) result }
+    ensures { Appends out.old out.new place
+        (send_each (send enc (type_at mint.now item)) place (all_seen values.now)) result }
 {
     let mut at = place;
     for value in values.as_slice() {
@@ -187,7 +191,8 @@ fn put_choice(
     requires tagged { IsScalar (scalar_of tag.now) n.now }
     requires typed { IsOfArm (arms_at (unfolded mint.now) arms.now other) n.now (seen inner.now) }
     requires near { IsNear place out.old }
-    ensures { Appends out.old out.new place (followed place (lone_octets enc (scalar_of tag.now) place n.now) (λ q. send_arm enc (arms_at (unfolded mint.now) arms.now other) n.now q (seen inner.now))) result }
+    ensures { Appends out.old out.new place (followed place (lone_octets enc (scalar_of tag.now) place n.now)
+        (λ q. send_arm enc (arms_at (unfolded mint.now) arms.now other) n.now q (seen inner.now))) result }
 {
     let behind = put_scalar(enc, tag, place, n, out)?;
     put_arm(enc, mint, id, arms, other, behind, n, inner, out)
@@ -211,7 +216,8 @@ fn put_arm(
     requires other { IsBelow id other }
     requires typed { IsOfArm (arms_at (unfolded mint.now) arms.now other) n.now (seen inner.now) }
     requires near { IsNear place out.old }
-    ensures { Appends out.old out.new place (send_arm enc (arms_at (unfolded mint.now) arms.now other) n.now place (seen inner.now)) result }
+    ensures { Appends out.old out.new place
+        (send_arm enc (arms_at (unfolded mint.now) arms.now other) n.now place (seen inner.now)) result }
 {
     match arm_of(arms, other, n) {
         Some(item) => put_value(enc, mint, item, place, inner, out),
@@ -234,7 +240,8 @@ fn put_present(
     requires below { item < id }
     requires typed { IsOf (type_at mint.now item) (seen inner.now) }
     requires near { IsNear place out.old }
-    ensures { Appends out.old out.new place (send enc (maybe_type (type_at mint.now item)) place (present (seen inner.now))) result }
+    ensures { Appends out.old out.new place
+        (send enc (maybe_type (type_at mint.now item)) place (present (seen inner.now))) result }
 {
     let behind = put_lone(enc, Kind::Bool, place, &1, out)?;
     put_value(enc, mint, item, behind, inner, out)

@@ -71,7 +71,8 @@ fn put_at(
     requires there { i < length row.now.numbers }
     requires fits { IsTrue (list_all (in_range kind) row.now.numbers) }
     requires near { IsNear place out.old }
-    ensures { Appends out.old out.new place (bare_octets enc kind (slice_index_or row.now.numbers i (pos 0))) result }
+    ensures { Appends out.old out.new place
+        (bare_octets enc kind (slice_index_or row.now.numbers i (pos 0))) result }
 {
     match row.get(i) {
         Some(n) => put_bare(enc, kind, place, &n, out),
@@ -132,7 +133,8 @@ fn put_gapped(
     requires kind { row.now.kind ≡ kind }
     requires fits { IsTrue (list_all (in_range kind) row.now.numbers) }
     requires near { IsNear place out.old }
-    ensures { Appends out.old out.new place (elements_octets (scalar_octets enc (number kind)) place row.now.numbers) result }
+    ensures { Appends out.old out.new place
+        (elements_octets (scalar_octets enc (number kind)) place row.now.numbers) result }
 {
     let first = put_zeros(gap_before(enc, kind, place, row.len()), place, out)?;
     put_numbers(enc, kind, first, row, out)
@@ -150,7 +152,8 @@ fn put_elements(
 ) -> Result<usize, NoMemory>
     requires typed { IsArray (row_of kind bound) row.now.kind row.now.numbers }
     requires near { IsNear place out.old }
-    ensures { Appends out.old out.new place (elements_of enc (row_of kind bound) place row.now.numbers) result }
+    ensures { Appends out.old out.new place (elements_of enc (row_of kind bound) place row.now.numbers)
+        result }
 {
     match kind {
         Kind::Octet => put_octets(place, row, out),
@@ -158,7 +161,7 @@ fn put_elements(
     }
 }
 
-/// Puts a row's elements, and what stands behind them.
+/// Puts a row's elements, and what follows them.
 #[tactic(auto, using(crate::proofs::Steps::equations))]
 fn put_ended_row(
     enc: Encoding,
@@ -176,7 +179,7 @@ fn put_ended_row(
     put_zeros(behind_row(enc, kind, row.len()), behind, out)
 }
 
-/// Puts a text's octets, and what stands behind them.
+/// Puts a text's octets, and what follows them.
 #[tactic(auto, using(crate::proofs::Arrays::texts))]
 fn put_ended_text(
     enc: Encoding,
@@ -222,7 +225,8 @@ pub(crate) fn put_row(
 ) -> Result<usize, NoMemory>
     requires typed { IsArray (row_of kind bound) row.now.kind row.now.numbers }
     requires near { IsNear place out.old }
-    ensures { Appends out.old out.new place (array_octets enc (row_of kind bound) place row.now.numbers) result }
+    ensures { Appends out.old out.new place (array_octets enc (row_of kind bound) place row.now.numbers)
+        result }
 {
     let behind = put_row_head(enc, kind, bound, place, row.len(), out)?;
     put_ended_row(enc, kind, bound, behind, row, out)

@@ -80,7 +80,8 @@ pub(crate) fn put_descriptor(
 fn put_filled(kind: Kind, place: usize, n: &i128, out: &mut Octets) -> Result<usize, NoMemory>
     requires fits { IsScalar (number kind) n.now }
     requires near { IsNear place out.old }
-    ensures { Appends out.old out.new place (bare_octets Mach kind n.now ++ replicate (filling (number kind)) 0) result }
+    ensures { Appends out.old out.new place
+        (bare_octets Mach kind n.now ++ replicate (filling (number kind)) 0) result }
 {
     let behind = put_bare(Encoding::Mach, kind, place, n, out)?;
     put_zeros(filling_of(kind), behind, out)

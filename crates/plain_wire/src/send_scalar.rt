@@ -19,7 +19,7 @@ use mint::kind::{Count, Kind};
 use mint::node::{Labels, Tag};
 use wire_def::Encoding;
 
-/// Puts octets behind those that are there, and gives the position behind them.
+/// Appends octets to those that are there, and gives the position after them.
 pub(crate) fn put(place: usize, piece: &[u8], out: &mut Octets) -> Result<usize, NoMemory>
     requires { IsNear place out.old }
     ensures { Appends out.old out.new place piece.now result }
@@ -94,7 +94,8 @@ fn put_word(
 ) -> Result<usize, NoMemory>
     requires fits { FitsWidth (width_in size) n.now }
     requires near { IsNear place out.old }
-    ensures { Appends out.old out.new place (number_octets enc (width_in size) (residue (width_in size) n.now)) result }
+    ensures { Appends out.old out.new place
+        (number_octets enc (width_in size) (residue (width_in size) n.now)) result }
 {
     match enc {
         Encoding::Xdr | Encoding::CdrBig => match size {
@@ -217,7 +218,7 @@ pub(crate) fn put_count(
     }
 }
 
-/// Puts the length of a text with the octet behind it, modulo 2 to the 32.
+/// Puts the length of a text with the octet after it, modulo 2 to the 32.
 #[tactic(auto, using(crate::proofs::Steps::counts))]
 fn put_ended(enc: Encoding, place: usize, n: usize, out: &mut Octets) -> Result<usize, NoMemory>
     requires few { n < 4294967296 }

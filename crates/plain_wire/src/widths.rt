@@ -1,4 +1,4 @@
-//! How many octets a number has, and how many stand in front of it.
+//! How many octets a number has, and how many are before it.
 
 ghost use Rattle.std.specs.Prelude.{◌≡◌, ◌<◌};
 ghost use Rattle.mint.specs.Types.{number, row_of, text};
@@ -104,7 +104,7 @@ pub(crate) fn way_of(enc: Encoding, kind: Kind) -> Way
     }
 }
 
-/// How many octets stand behind a row's elements.
+/// How many octets follow a row's elements.
 #[tactic(auto, using(crate::proofs::Arrays::tails))]
 pub(crate) fn behind_row(enc: Encoding, kind: Kind, n: usize) -> usize
     ensures is { (bound : Count) → result ≡ trailing enc (row_of kind bound) n }
@@ -124,7 +124,7 @@ pub(crate) fn behind_row(enc: Encoding, kind: Kind, n: usize) -> usize
     }
 }
 
-/// How many octets stand behind a text.
+/// How many octets follow a text.
 #[tactic(auto, using(crate::proofs::Arrays::tails))]
 pub(crate) fn behind_text(enc: Encoding, n: usize) -> usize
     ensures is { (bound : Count) → result ≡ trailing enc (text bound) n }
@@ -136,7 +136,7 @@ pub(crate) fn behind_text(enc: Encoding, n: usize) -> usize
     }
 }
 
-/// What is wrong with an octet behind an array that is not 0.
+/// What is wrong with an octet after an array that is not 0.
 pub(crate) fn fault_behind(enc: Encoding) -> FaultKind
     ensures { result ≡ ill_ended enc }
 {

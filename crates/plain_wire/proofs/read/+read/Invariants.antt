@@ -26,8 +26,8 @@ abbrev pub decreases-maybe : goal.decreases-maybe
 decreases-maybe l = l.id + l.id + l.id
 
 abbrev pub invariant-fields-loop-field : goal.invariant-fields-loop-field
-invariant-fields-loop-field l =
-    map_got (joined (all_seen l.values)) (read_fields l.enc (fields_at (unfolded l.mint) (drop l.field-index l.field-items)) l.at.place l.at.rest.now)
+invariant-fields-loop-field l = map_got (joined (all_seen l.values))
+    (read_fields l.enc (fields_at (unfolded l.mint) (drop l.field-index l.field-items)) l.at.place l.at.rest.now)
     ≡ read_fields l.enc (fields_at (unfolded l.mint) l.ids) l.fn.at.place l.fn.at.rest.now
 
 abbrev pub invariant-each-loop-i : goal.invariant-each-loop-i

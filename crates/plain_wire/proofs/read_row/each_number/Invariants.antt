@@ -8,5 +8,6 @@ use Rattle.plain_wire.proofs.read_row.each_number.Given as goal
 abbrev pub invariant-loop-i : goal.invariant-loop-i
 invariant-loop-i l = record {
   kind : l.row.kind ≡ l.kind;
-  told : with_front l.row.numbers (times (read_here l.enc (number l.kind)) (l.n - l._i) l.at.place l.at.rest.now) ≡ times (read_here l.enc (number l.kind)) l.n l.fn.at.place l.fn.at.rest.now;
+  told : with_front l.row.numbers (times (read_here l.enc (number l.kind)) (l.n - l._i) l.at.place l.at.rest.now)
+      ≡ times (read_here l.enc (number l.kind)) l.n l.fn.at.place l.fn.at.rest.now;
 }
