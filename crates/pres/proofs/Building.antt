@@ -47,9 +47,9 @@ fits_rest s t xs ys g fits = omega (arith, fits, length-append xs ys, longer s t
 pub grows_none : (s : Sketch) → Grows s s []
 grows_none s = record { nodes = sym (append-nil (drawn s)); types = refl }
 
--- ---- what is drawn behind a sketch
+-- ---- what is drawn after a sketch
 
--- a node behind others
+-- a node after others
 pub record Draws (s : Sketch) (more : List Face) (f : Face) : Type 0 where
   pub new : Sketch
   pub id : ℕ
@@ -57,7 +57,7 @@ pub record Draws (s : Sketch) (more : List Face) (f : Face) : Type 0 where
   pub grows : Grows s new more
   pub there : IsDrawn new id f
 
--- nodes behind others
+-- nodes after others
 pub record DrawsAll (s : Sketch) (more fs : List Face) : Type 0 where
   pub new : Sketch
   pub ids : List ℕ
@@ -65,7 +65,7 @@ pub record DrawsAll (s : Sketch) (more fs : List Face) : Type 0 where
   pub grows : Grows s new more
   pub there : AreDrawn new ids fs
 
--- arms behind others
+-- arms after others
 pub record DrawsArms (s : Sketch) (more : List Face) (fs : Arms) : Type 0 where
   pub new : Sketch
   pub arms : List (ℤ × ℕ)
@@ -74,7 +74,7 @@ pub record DrawsArms (s : Sketch) (more : List Face) (fs : Arms) : Type 0 where
   pub grows : Grows s new more
   pub there : AreArms new arms last fs
 
--- operations behind others
+-- operations after others
 pub record DrawsOps (s : Sketch) (more : List Face) (fs : List Offer) : Type 0 where
   pub new : Sketch
   pub ops : List Op
@@ -94,7 +94,7 @@ push s n h is fits below named = record {
   there = pushed s n h (length s.nodes) is refl;
 }
 
--- one more node behind those inside it, which is to unfold to a face
+-- one more node after those inside it, which is to unfold to a face
 pub push_behind : (s a : Sketch) (xs : List Face) (n : Node) (h : Shape) (f : Face) → IsSketch a → Grows s a xs → Fits s (xs ++ f ∷ [])
     → HasChildrenBelow (length (drawn a)) n → IsNamed n h → level (drawn a) n h ≡ f → Draws s (xs ++ f ∷ []) f
 push_behind s a xs n h f is g fits below named same =
@@ -416,7 +416,7 @@ draw_interfaces (i ∷ is) b j fs s sound k d fits =
 
 -- ---- named types
 
--- the nodes of types behind others
+-- the nodes of types after others
 pub record DrawsTypes (s : Sketch) (more gs : List Face) : Type 0 where
   pub new : Sketch
   pub is : IsSketch new

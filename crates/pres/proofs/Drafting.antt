@@ -1,4 +1,4 @@
--- A sketch with one more node, and what stands at its places.
+-- A sketch with one more node, and what is at its places.
 use Rattle.std.proofs.Common.{◌≡◌, ℕ, zero, suc, ◌+◌, ◌<◌, ◌≤◌, List, [], ◌∷◌, ◌++◌, map, length, get_or, Some, slice_get, refl, sym, ap, ◌∙◌, inl, inr, length-append, arith}
 use Rattle.std.specs.List.{AllByRecursion, zip}
 use Rattle.std.proofs.Math.ListN.{get_or-append}
@@ -24,11 +24,13 @@ faces_pushed fs [] (r ∷ ss) n s named = absurd named
 faces_pushed fs (m ∷ ns) [] n s named = absurd named
 faces_pushed fs (m ∷ ns) (r ∷ ss) n s named = faces_pushed (fs ++ level fs m r ∷ []) ns ss n s named.1
 
-pub faces-push : (ns : List Node) (ss : List Shape) (n : Node) (s : Shape) → AreNamed ns ss → faces (ns ++ n ∷ []) (ss ++ s ∷ []) ≡ faces ns ss ++ level (faces ns ss) n s ∷ []
+pub faces-push : (ns : List Node) (ss : List Shape) (n : Node) (s : Shape) → AreNamed ns ss
+    → faces (ns ++ n ∷ []) (ss ++ s ∷ []) ≡ faces ns ss ++ level (faces ns ss) n s ∷ []
 unfolding faces
 faces-push ns ss n s named = faces_pushed [] ns ss n s named
 
-faces_length : (fs : List Face) (ns : List Node) (ss : List Shape) → AreNamed ns ss → length (faces_from fs (zip ns ss)) ≡ length fs + length ns
+faces_length : (fs : List Face) (ns : List Node) (ss : List Shape) → AreNamed ns ss
+    → length (faces_from fs (zip ns ss)) ≡ length fs + length ns
 unfolding faces_from
 faces_length fs [] [] named = omega arith
 faces_length fs [] (r ∷ ss) named = absurd named
@@ -39,7 +41,8 @@ pub faces-length : (ns : List Node) (ss : List Shape) → AreNamed ns ss → len
 unfolding faces
 faces-length ns ss named = omega (arith, faces_length [] ns ss named)
 
-named_push : (ns : List Node) (ss : List Shape) (n : Node) (s : Shape) → AreNamed ns ss → IsNamed n s → AreNamed (ns ++ n ∷ []) (ss ++ s ∷ [])
+named_push : (ns : List Node) (ss : List Shape) (n : Node) (s : Shape) → AreNamed ns ss → IsNamed n s
+    → AreNamed (ns ++ n ∷ []) (ss ++ s ∷ [])
 named_push [] [] n s named is = (is, tt)
 named_push [] (r ∷ ss) n s named is = absurd named
 named_push (m ∷ ns) [] n s named is = absurd named
@@ -66,7 +69,8 @@ pub drawn-length : (s : Sketch) → IsSketch s → length (drawn s) ≡ length s
 unfolding drawn
 drawn-length s is = faces-length s.nodes s.shapes is.named
 
-pub sketch_push : (s : Sketch) (n : Node) (h : Shape) → IsSketch s → length s.nodes < 65536 → HasChildrenBelow (length (drawn s)) n → IsNamed n h
+pub sketch_push : (s : Sketch) (n : Node) (h : Shape) → IsSketch s → length s.nodes < 65536
+    → HasChildrenBelow (length (drawn s)) n → IsNamed n h
     → IsSketch (sketch (s.nodes ++ n ∷ []) (s.shapes ++ h ∷ []) s.types)
 sketch_push s n h is few below named =
     let more : length (s.nodes ++ n ∷ []) ≡ length s.nodes + 1 = length-append s.nodes (n ∷ []) in
@@ -81,7 +85,8 @@ pub at_stays : (fs gs : List Face) (is : List ℕ) → AllByRecursion (λ i. i <
 at_stays fs gs [] below = refl
 at_stays fs gs (i ∷ is) below = rw (get_or-append fs gs nothing i below.0, at_stays fs gs is below.1) refl
 
-pub grown : (s : Sketch) (n : Node) (h : Shape) → IsSketch s → Grows s (sketch (s.nodes ++ n ∷ []) (s.shapes ++ h ∷ []) s.types) (level (drawn s) n h ∷ [])
+pub grown : (s : Sketch) (n : Node) (h : Shape) → IsSketch s
+    → Grows s (sketch (s.nodes ++ n ∷ []) (s.shapes ++ h ∷ []) s.types) (level (drawn s) n h ∷ [])
 unfolding drawn known
 grown s n h is =
     let more = faces-push s.nodes s.shapes n h is.named in
@@ -90,7 +95,8 @@ grown s n h is =
       types = rw more (at_stays (drawn s) (level (drawn s) n h ∷ []) s.types (rw (drawn-length s is) is.below));
     }
 
-pub pushed : (s : Sketch) (n : Node) (h : Shape) (id : ℕ) → IsSketch s → id ≡ length s.nodes → IsDrawn (sketch (s.nodes ++ n ∷ []) (s.shapes ++ h ∷ []) s.types) id (level (drawn s) n h)
+pub pushed : (s : Sketch) (n : Node) (h : Shape) (id : ℕ) → IsSketch s → id ≡ length s.nodes
+    → IsDrawn (sketch (s.nodes ++ n ∷ []) (s.shapes ++ h ∷ []) s.types) id (level (drawn s) n h)
 pushed s n h id is id_is =
     let g = grown s n h is in
     let long = drawn-length s is in
@@ -105,7 +111,8 @@ known-length s = length-map s.types (at (drawn s))
 
 -- ---- at a place
 
-pub entry_there : {A X : Type 0} (f : A → X) (es : List A) (i : ℕ) (e : A) → i < length es → e ≡ get_or es i e → slice_get (map f es) i ≡ Some (f e)
+pub entry_there : {A X : Type 0} (f : A → X) (es : List A) (i : ℕ) (e : A) → i < length es → e ≡ get_or es i e
+    → slice_get (map f es) i ≡ Some (f e)
 entry_there f [] i e h is = absurd (omega arith)
 entry_there f (d ∷ es) zero e h is = ap (λ z. Some (f z)) (sym is)
 entry_there f (d ∷ es) (suc i) e h is = entry_there f es i e (omega arith) is
@@ -127,11 +134,13 @@ type_drawn s k d is h = record {
   is = sym (map_at (drawn s) s.types k d h);
 }
 
-pub level-at : (s : Sketch) (k : ℕ) (n : Node) (h : Shape) → IsSketch s → slice_get s.nodes k ≡ Some n → slice_get s.shapes k ≡ Some h → at (drawn s) k ≡ level (drawn s) n h
+pub level-at : (s : Sketch) (k : ℕ) (n : Node) (h : Shape) → IsSketch s → slice_get s.nodes k ≡ Some n → slice_get s.shapes k ≡ Some h
+    → at (drawn s) k ≡ level (drawn s) n h
 unfolding drawn
 level-at s k n h is node shape = face_at-level s.nodes s.shapes k n h node shape (is.table k n node)
 
-pub within : (s : Sketch) (es : List Entry) (id : ℕ) → IsSketch s → s.nodes ≡ map (λ (e : Entry). e.node) es → id < length (drawn s) → id < length es
+pub within : (s : Sketch) (es : List Entry) (id : ℕ) → IsSketch s → s.nodes ≡ map (λ (e : Entry). e.node) es → id < length (drawn s)
+    → id < length es
 within s es id is same h = omega (arith, h, drawn-length s is, ap length same, length-map es (λ (e : Entry). e.node))
 
 -- one more type has its node

@@ -72,21 +72,26 @@ cut_fields fields i f lt is =
     let cut : drop i fields ≡ f ∷ drop (i + 1) fields = rw next (drop-cons fields i f lt ∙ ap (λ z. z ∷ drop (suc i) fields) (sym is)) in
     ap aoi.members cut ∙ ap (λ z. aoi.member z.0 z.1 (aoi.members (drop (i + 1) fields))) (field_seen f)
 
-pub field_left : (n : ℕ) (fields : List Field) (i : ℕ) (f : Field) → i < length fields → f ≡ get_or fields i f → IsTrue (are_drawable n (aoi.members (drop i fields)))
+pub field_left : (n : ℕ) (fields : List Field) (i : ℕ) (f : Field) → i < length fields → f ≡ get_or fields i f
+    → IsTrue (are_drawable n (aoi.members (drop i fields)))
     → IsTrue (is_drawable n (aoi.seen f.ty)) × IsTrue (are_drawable n (aoi.members (drop (i + 1) fields)))
 field_left n fields i f lt is h = both _ _ (rw (cut_fields fields i f lt is) at h)
 
-pub field_nodes : (fs : List Face) (fields : List Field) (i : ℕ) (f : Field) (mid new all : List Face) → i < length fields → f ≡ get_or fields i f
-    → mid ++ made_inside fs (aoi.members (drop i fields)) ≡ all → new ≡ mid ++ made fs (aoi.seen f.ty) → new ++ made_inside fs (aoi.members (drop (i + 1) fields)) ≡ all
+pub field_nodes : (fs : List Face) (fields : List Field) (i : ℕ) (f : Field) (mid new all : List Face) → i < length fields
+    → f ≡ get_or fields i f → mid ++ made_inside fs (aoi.members (drop i fields)) ≡ all → new ≡ mid ++ made fs (aoi.seen f.ty)
+    → new ++ made_inside fs (aoi.members (drop (i + 1) fields)) ≡ all
 field_nodes fs fields i f mid new all lt is h new_is =
     ap (λ z. z ++ made_inside fs (aoi.members (drop (i + 1) fields))) new_is
     ∙ append_assoc mid (made fs (aoi.seen f.ty)) (made_inside fs (aoi.members (drop (i + 1) fields)))
     ∙ (rw (cut_fields fields i f lt is) at h)
 
-pub field_ids : (fs : List Face) (fields : List Field) (i : ℕ) (f : Field) (mid new : Sketch) (more : List Face) (ids ids' : List ℕ) (id : ℕ) (all : List Face) → i < length fields → f ≡ get_or fields i f
-    → Grows mid new more → AllByRecursion (λ j. j < length (drawn mid)) ids → IsDrawn new id (face_of fs (aoi.seen f.ty)) → ids' ≡ ids ++ id ∷ []
+pub field_ids : (fs : List Face) (fields : List Field) (i : ℕ) (f : Field) (mid new : Sketch) (more : List Face)
+    (ids ids' : List ℕ) (id : ℕ) (all : List Face)
+    → i < length fields → f ≡ get_or fields i f → Grows mid new more → AllByRecursion (λ j. j < length (drawn mid)) ids
+    → IsDrawn new id (face_of fs (aoi.seen f.ty)) → ids' ≡ ids ++ id ∷ []
     → map (at (drawn mid)) ids ++ faces_inside fs (aoi.members (drop i fields)) ≡ all
-    → AllByRecursion (λ j. j < length (drawn new)) ids' × (map (at (drawn new)) ids' ++ faces_inside fs (aoi.members (drop (i + 1) fields)) ≡ all)
+    → AllByRecursion (λ j. j < length (drawn new)) ids'
+    × (map (at (drawn new)) ids' ++ faces_inside fs (aoi.members (drop (i + 1) fields)) ≡ all)
 field_ids fs fields i f mid new more ids ids' id all lt is g below d ids_are h =
     let longer : length (drawn new) ≡ length (drawn mid) + length more = ap length g.nodes ∙ length-append (drawn mid) more in
     let inside : AllByRecursion (λ j. j < length (drawn new)) ids = below_more (length (drawn mid)) (length (drawn new)) ids (omega (arith, longer)) below in
@@ -99,7 +104,8 @@ field_ids fs fields i f mid new more ids ids' id all lt is g below d ids_are h =
     )
 
 -- names and nodes in step give the parts
-parts_by : (gs fs : List Face) (ids : List ℕ) (ms : aoi.Members) → map (at gs) ids ≡ faces_inside fs ms → parts_at gs (names_of ms) ids ≡ parts_of fs ms
+parts_by : (gs fs : List Face) (ids : List ℕ) (ms : aoi.Members) → map (at gs) ids ≡ faces_inside fs ms
+    → parts_at gs (names_of ms) ids ≡ parts_of fs ms
 parts_by gs fs [] aoi.no_more is = refl
 parts_by gs fs [] (aoi.member n s ms) is = absurd cc
 parts_by gs fs (i ∷ ids) aoi.no_more is = absurd cc
@@ -109,7 +115,8 @@ parts_by gs fs (i ∷ ids) (aoi.member n s ms) is =
     rw (first, parts_by gs fs ids ms rest) refl
 
 -- nodes without names give the parts without theirs
-pub unnamed_by : (gs fs : List Face) (ids : List ℕ) (ms : aoi.Members) → map (at gs) ids ≡ faces_inside fs ms → parts_at gs [] ids ≡ unnamed (parts_of fs ms)
+pub unnamed_by : (gs fs : List Face) (ids : List ℕ) (ms : aoi.Members) → map (at gs) ids ≡ faces_inside fs ms
+    → parts_at gs [] ids ≡ unnamed (parts_of fs ms)
 unnamed_by gs fs [] aoi.no_more is = refl
 unnamed_by gs fs [] (aoi.member n s ms) is = absurd cc
 unnamed_by gs fs (i ∷ ids) aoi.no_more is = absurd cc
@@ -118,16 +125,20 @@ unnamed_by gs fs (i ∷ ids) (aoi.member n s ms) is =
     let rest : map (at gs) ids ≡ faces_inside fs ms = cc in
     rw (first, unnamed_by gs fs ids ms rest) refl
 
-pub names_each : (gs fs : List Face) (ids : List ℕ) (ms : aoi.Members) → map (at gs) ids ≡ faces_inside fs ms → length (names_of ms) ≡ length ids
+pub names_each : (gs fs : List Face) (ids : List ℕ) (ms : aoi.Members) → map (at gs) ids ≡ faces_inside fs ms
+    → length (names_of ms) ≡ length ids
 names_each gs fs [] aoi.no_more is = refl
 names_each gs fs [] (aoi.member n s ms) is = absurd cc
 names_each gs fs (i ∷ ids) aoi.no_more is = absurd cc
 names_each gs fs (i ∷ ids) (aoi.member n s ms) is = let rest : map (at gs) ids ≡ faces_inside fs ms = cc in ap suc (names_each gs fs ids ms rest)
 
-pub members_by : (s : Sketch) (fs : List Face) (ids : List ℕ) (names : List (List ℕ)) (ms : aoi.Members) → AreDrawn s ids (faces_inside fs ms) → names ≡ names_of ms → members (parts_at (drawn s) names ids) ≡ members (parts_of fs ms)
+pub members_by : (s : Sketch) (fs : List Face) (ids : List ℕ) (names : List (List ℕ)) (ms : aoi.Members)
+    → AreDrawn s ids (faces_inside fs ms) → names ≡ names_of ms
+    → members (parts_at (drawn s) names ids) ≡ members (parts_of fs ms)
 members_by s fs ids names ms d is = ap members (ap (λ z. parts_at (drawn s) z ids) is ∙ parts_by (drawn s) fs ids ms d.are)
 
-pub values_by : (s : Sketch) (fs : List Face) (ids : List ℕ) (ms : aoi.Members) → AreDrawn s ids (faces_inside fs ms) → values (parts_at (drawn s) [] ids) ≡ values (unnamed (parts_of fs ms))
+pub values_by : (s : Sketch) (fs : List Face) (ids : List ℕ) (ms : aoi.Members) → AreDrawn s ids (faces_inside fs ms)
+    → values (parts_at (drawn s) [] ids) ≡ values (unnamed (parts_of fs ms))
 values_by s fs ids ms d = ap values (unnamed_by (drawn s) fs ids ms d.are)
 
 -- ---- arms
@@ -135,7 +146,8 @@ values_by s fs ids ms d = ap values (unnamed_by (drawn s) fs ids ms d.are)
 abbrev Pair : Type 0
 Pair = ℤ × Ty
 
-cut_arms : (arms : List Pair) (i : ℕ) (a : Pair) → i < length arms → a ≡ get_or arms (length arms - 1 - i) a → drop (length arms - (i + 1)) arms ≡ a ∷ drop (length arms - i) arms
+cut_arms : (arms : List Pair) (i : ℕ) (a : Pair) → i < length arms → a ≡ get_or arms (length arms - 1 - i) a
+    → drop (length arms - (i + 1)) arms ≡ a ∷ drop (length arms - i) arms
 cut_arms arms i a lt is =
     let k : ℕ = length arms - (i + 1) in
     let here : length arms - 1 - i ≡ k = omega arith in
@@ -143,30 +155,35 @@ cut_arms arms i a lt is =
     let found : a ≡ get_or arms k a = rw here at is in
     rw next (drop-cons arms k a (omega (arith, lt)) ∙ ap (λ z. z ∷ drop (suc k) arms) (sym found))
 
-pub arm_drawable : (n : ℕ) (arms : List Pair) (o : Option aoi.Shape) (k : ℕ) (a : Pair) → IsTrue (arms_drawable n (aoi.arms_seen arms o)) → k < length arms → a ≡ get_or arms k a → IsTrue (is_drawable n (aoi.seen a.1))
+pub arm_drawable : (n : ℕ) (arms : List Pair) (o : Option aoi.Shape) (k : ℕ) (a : Pair)
+    → IsTrue (arms_drawable n (aoi.arms_seen arms o)) → k < length arms → a ≡ get_or arms k a
+    → IsTrue (is_drawable n (aoi.seen a.1))
 arm_drawable n [] o k a h lt is = absurd (omega arith)
 arm_drawable n (b ∷ arms) o zero a h lt is = rw is ((both _ _ h).0)
 arm_drawable n (b ∷ arms) o (suc k) a h lt is = arm_drawable n arms o k a ((both (is_drawable n (aoi.seen b.1)) _ h).1) (omega arith) is
 
-pub other_drawable : (n : ℕ) (arms : List Pair) (o : Option aoi.Shape) → IsTrue (arms_drawable n (aoi.arms_seen arms o)) → IsTrue (arms_drawable n (aoi.default_of o))
+pub other_drawable : (n : ℕ) (arms : List Pair) (o : Option aoi.Shape) → IsTrue (arms_drawable n (aoi.arms_seen arms o))
+    → IsTrue (arms_drawable n (aoi.default_of o))
 other_drawable n [] o h = h
 other_drawable n (b ∷ arms) o h = other_drawable n arms o ((both (is_drawable n (aoi.seen b.1)) _ h).1)
 
-pub behind_room : (fs : List Face) (o : Option aoi.Shape) (arms : List Pair) (i : ℕ) → length (made_behind fs (aoi.arms_seen (drop i arms) o)) ≤ length (made_behind fs (aoi.arms_seen arms o))
+pub behind_room : (fs : List Face) (o : Option aoi.Shape) (arms : List Pair) (i : ℕ)
+    → length (made_behind fs (aoi.arms_seen (drop i arms) o)) ≤ length (made_behind fs (aoi.arms_seen arms o))
 behind_room fs o [] zero = omega arith
 behind_room fs o [] (suc i) = omega arith
 behind_room fs o (a ∷ arms) zero = omega arith
 behind_room fs o (a ∷ arms) (suc i) = omega (arith, behind_room fs o arms i, length-append (made_behind fs (aoi.arms_seen arms o)) (made fs (aoi.seen a.1)))
 
-pub arm_nodes : (fs : List Face) (o : Option aoi.Shape) (arms : List Pair) (i : ℕ) (a : Pair) (old mid new : List Face) → i < length arms → a ≡ get_or arms (length arms - 1 - i) a
+pub arm_nodes : (fs : List Face) (o : Option aoi.Shape) (arms : List Pair) (i : ℕ) (a : Pair) (old mid new : List Face)
+    → i < length arms → a ≡ get_or arms (length arms - 1 - i) a
     → mid ≡ old ++ made_behind fs (aoi.arms_seen (drop (length arms - i) arms) o) → new ≡ mid ++ made fs (aoi.seen a.1)
     → new ≡ old ++ made_behind fs (aoi.arms_seen (drop (length arms - (i + 1)) arms) o)
 arm_nodes fs o arms i a old mid new lt is mid_is new_is =
     new_is ∙ ap (λ z. z ++ made fs (aoi.seen a.1)) mid_is ∙ append_assoc old (made_behind fs (aoi.arms_seen (drop (length arms - i) arms) o)) (made fs (aoi.seen a.1))
     ∙ ap (λ z. old ++ made_behind fs (aoi.arms_seen z o)) (sym (cut_arms arms i a lt is))
 
-pub arm_room : (fs : List Face) (o : Option aoi.Shape) (arms : List Pair) (i : ℕ) (a : Pair) (old mid : List Face) → i < length arms → a ≡ get_or arms (length arms - 1 - i) a
-    → mid ≡ old ++ made_behind fs (aoi.arms_seen (drop (length arms - i) arms) o)
+pub arm_room : (fs : List Face) (o : Option aoi.Shape) (arms : List Pair) (i : ℕ) (a : Pair) (old mid : List Face) → i < length arms
+    → a ≡ get_or arms (length arms - 1 - i) a → mid ≡ old ++ made_behind fs (aoi.arms_seen (drop (length arms - i) arms) o)
     → length (mid ++ made fs (aoi.seen a.1)) ≤ length (old ++ made_behind fs (aoi.arms_seen arms o))
 arm_room fs o arms i a old mid lt is mid_is =
     let whole = arm_nodes fs o arms i a old mid (mid ++ made fs (aoi.seen a.1)) lt is mid_is refl in
@@ -188,7 +205,9 @@ other_below_more : (n m : ℕ) (o : Option ℕ) → n ≤ m → IsBelow n o → 
 other_below_more n m None le below = tt
 other_below_more n m (Some i) le below = omega (arith, below, le)
 
-pub arms_stay : (mid new : Sketch) (more : List Face) (arms : List (ℤ × ℕ)) (o : Option ℕ) (gs : Arms) → Grows mid new more → AreArms mid arms o gs → AreArms new arms o gs
+pub arms_stay : (mid new : Sketch) (more : List Face) (arms : List (ℤ × ℕ)) (o : Option ℕ) (gs : Arms)
+    → Grows mid new more → AreArms mid arms o gs
+    → AreArms new arms o gs
 arms_stay mid new more arms o gs g are =
     let longer : length (drawn new) ≡ length (drawn mid) + length more = ap length g.nodes ∙ length-append (drawn mid) more in
     record {
@@ -197,9 +216,10 @@ arms_stay mid new more arms o gs g are =
       are = arms_agree (length (drawn mid)) (drawn new) (drawn mid) arms o (λ i h. rw g.nodes (get_or-append (drawn mid) more nothing i h)) are.below are.other ∙ are.are;
     }
 
-pub arm_on : (fs : List Face) (o : Option aoi.Shape) (arms : List Pair) (i : ℕ) (a : Pair) (mid new : Sketch) (more : List Face) (sorted sorted' : List (ℤ × ℕ)) (last : Option ℕ) (id : ℕ) → i < length arms → a ≡ get_or arms (length arms - 1 - i) a
-    → Grows mid new more → IsDrawn new id (face_of fs (aoi.seen a.1)) → sorted' ≡ put_pair (a.0, id) sorted
-    → AreArms mid sorted last (arms_of fs (aoi.arms_seen (drop (length arms - i) arms) o))
+pub arm_on : (fs : List Face) (o : Option aoi.Shape) (arms : List Pair) (i : ℕ) (a : Pair) (mid new : Sketch)
+    (more : List Face) (sorted sorted' : List (ℤ × ℕ)) (last : Option ℕ) (id : ℕ)
+    → i < length arms → a ≡ get_or arms (length arms - 1 - i) a → Grows mid new more → IsDrawn new id (face_of fs (aoi.seen a.1))
+    → sorted' ≡ put_pair (a.0, id) sorted → AreArms mid sorted last (arms_of fs (aoi.arms_seen (drop (length arms - i) arms) o))
     → AreArms new sorted' last (arms_of fs (aoi.arms_seen (drop (length arms - (i + 1)) arms) o))
 arm_on fs o arms i a mid new more sorted sorted' last id lt is g d sorted_is are =
     let still = arms_stay mid new more sorted last _ g are in
@@ -229,11 +249,13 @@ put_before n f (arm m g arms) d end_ = by (int_lt n m) refl (put_before n f arms
   by true e ih = rw e refl
   by false e ih = rw e (ap (arm m g) ih)
 
-end_first : (fs : List Face) (o : Option aoi.Shape) (n : ℤ) (f : Face) → put_arm n f (arms_of fs (aoi.default_of o)) ≡ arm n f (arms_of fs (aoi.default_of o))
+end_first : (fs : List Face) (o : Option aoi.Shape) (n : ℤ) (f : Face)
+    → put_arm n f (arms_of fs (aoi.default_of o)) ≡ arm n f (arms_of fs (aoi.default_of o))
 end_first fs None n f = refl
 end_first fs (Some s) n f = refl
 
-arms_end : (fs : List Face) (o : Option aoi.Shape) (arms : List Pair) → arms_of fs (aoi.arms_seen arms o) ≡ with_end (arms_of fs (aoi.arms_seen arms None)) (arms_of fs (aoi.default_of o))
+arms_end : (fs : List Face) (o : Option aoi.Shape) (arms : List Pair)
+    → arms_of fs (aoi.arms_seen arms o) ≡ with_end (arms_of fs (aoi.arms_seen arms None)) (arms_of fs (aoi.default_of o))
 arms_end fs o [] = refl
 arms_end fs o (a ∷ arms) =
     ap (put_arm a.0 (face_of fs (aoi.seen a.1))) (arms_end fs o arms)
@@ -243,19 +265,23 @@ arms_at-end : (fs : List Face) (arms : List (ℤ × ℕ)) (o : Option ℕ) → a
 arms_at-end fs [] o = refl
 arms_at-end fs (a ∷ arms) o = ap (arm a.0 (at fs a.1)) (arms_at-end fs arms o)
 
-pub behind_split : (fs : List Face) (o : Option aoi.Shape) (arms : List Pair) → made_behind fs (aoi.arms_seen arms o) ≡ made_behind fs (aoi.default_of o) ++ made_behind fs (aoi.arms_seen arms None)
+pub behind_split : (fs : List Face) (o : Option aoi.Shape) (arms : List Pair)
+    → made_behind fs (aoi.arms_seen arms o) ≡ made_behind fs (aoi.default_of o) ++ made_behind fs (aoi.arms_seen arms None)
 behind_split fs o [] = sym (append-nil (made_behind fs (aoi.default_of o)))
 behind_split fs o (a ∷ arms) = ap (λ z. z ++ made fs (aoi.seen a.1)) (behind_split fs o arms) ∙ append_assoc (made_behind fs (aoi.default_of o)) (made_behind fs (aoi.arms_seen arms None)) (made fs (aoi.seen a.1))
 
-pub arms_drawable_alone : (n : ℕ) (o : Option aoi.Shape) (arms : List Pair) → IsTrue (arms_drawable n (aoi.arms_seen arms o)) → IsTrue (arms_drawable n (aoi.arms_seen arms None))
+pub arms_drawable_alone : (n : ℕ) (o : Option aoi.Shape) (arms : List Pair) → IsTrue (arms_drawable n (aoi.arms_seen arms o))
+    → IsTrue (arms_drawable n (aoi.arms_seen arms None))
 arms_drawable_alone n o [] h = refl
 arms_drawable_alone n o (a ∷ arms) h =
     let parts = both (is_drawable n (aoi.seen a.1)) (arms_drawable n (aoi.arms_seen arms o)) h in
     rw parts.0 (arms_drawable_alone n o arms parts.1)
 
 -- the default drawn, and then the arms
-pub choice_arms : (fs : List Face) (o : Option aoi.Shape) (arms : List Pair) (a b : Sketch) (more : List Face) (ids : List (ℤ × ℕ)) (id : Option ℕ) → Grows a b more
-    → AreArms a [] id (arms_of fs (aoi.default_of o)) → AreArms b ids None (arms_of fs (aoi.arms_seen arms None)) → AreArms b ids id (arms_of fs (aoi.arms_seen arms o))
+pub choice_arms : (fs : List Face) (o : Option aoi.Shape) (arms : List Pair) (a b : Sketch) (more : List Face)
+    (ids : List (ℤ × ℕ)) (id : Option ℕ)
+    → Grows a b more → AreArms a [] id (arms_of fs (aoi.default_of o)) → AreArms b ids None (arms_of fs (aoi.arms_seen arms None))
+    → AreArms b ids id (arms_of fs (aoi.arms_seen arms o))
 choice_arms fs o arms a b more ids id g other_ are =
     let still = arms_stay a b more [] id _ g other_ in
     record {
@@ -264,13 +290,16 @@ choice_arms fs o arms a b more ids id g other_ are =
       are = arms_at-end (drawn b) ids id ∙ ap (λ z. with_end z (arms_at (drawn b) [] id)) are.are ∙ ap (with_end (arms_of fs (aoi.arms_seen arms None))) still.are ∙ sym (arms_end fs o arms);
     }
 
-pub choice_nodes : (old a b new : Sketch) (ds es : List Face) (f g : Face) (all : List Face) → all ≡ ds ++ es → f ≡ g → Grows old a ds → Grows a b es → Grows b new (f ∷ []) → Grows old new (all ++ g ∷ [])
+pub choice_nodes : (old a b new : Sketch) (ds es : List Face) (f g : Face) (all : List Face) → all ≡ ds ++ es → f ≡ g
+    → Grows old a ds → Grows a b es → Grows b new (f ∷ [])
+    → Grows old new (all ++ g ∷ [])
 choice_nodes old a b new ds es f g all all_is same x y z =
     let whole = grows_twice old b new (ds ++ es) (f ∷ []) (grows_twice old a b ds es x y) z in
     record { nodes = whole.nodes ∙ ap (λ z. drawn old ++ (z ++ f ∷ [])) (sym all_is) ∙ ap (λ z. drawn old ++ (all ++ z ∷ [])) same; types = whole.types }
 
--- a node behind those inside it
-pub node_behind : (old mid new : Sketch) (xs : List Face) (f g : Face) → f ≡ g → Grows old mid xs → Grows mid new (f ∷ []) → Grows old new (xs ++ g ∷ [])
+-- a node after those inside it
+pub node_behind : (old mid new : Sketch) (xs : List Face) (f g : Face) → f ≡ g → Grows old mid xs → Grows mid new (f ∷ [])
+    → Grows old new (xs ++ g ∷ [])
 node_behind old mid new xs f g same x y = subst (λ z. Grows old new (xs ++ z ∷ [])) same (grows_twice old mid new xs (f ∷ []) x y)
 
 pub drawn_as : (s : Sketch) (id : ℕ) (f g : Face) → f ≡ g → IsDrawn s id f → IsDrawn s id g
@@ -284,15 +313,20 @@ room_behind old xs ys = omega (arith, length-append old xs, length-append old (x
 pub behind_overflows : (old xs ys all : List Face) (e : BindErr) → all ≡ xs ++ ys → Overflows (old ++ xs) e → Overflows (old ++ all) e
 behind_overflows old xs ys all e is h = overflows_more _ _ e h (rw is (room_behind old xs ys))
 
-pub next_overflows : (old mid xs ys zs all : List Face) (e : BindErr) → all ≡ xs ++ (ys ++ zs) → mid ≡ old ++ xs → Overflows (mid ++ ys) e → Overflows (old ++ all) e
+pub next_overflows : (old mid xs ys zs all : List Face) (e : BindErr) → all ≡ xs ++ (ys ++ zs) → mid ≡ old ++ xs → Overflows (mid ++ ys) e
+    → Overflows (old ++ all) e
 next_overflows old mid xs ys zs all e is mid_is h =
     overflows_more _ _ e h (omega (arith, length-append mid ys, ap length mid_is, length-append old xs, length-append old all, ap length is, length-append xs (ys ++ zs), length-append ys zs))
 
-pub last_overflows : (old mid xs all : List Face) (f g : Face) (e : BindErr) → all ≡ xs ++ g ∷ [] → mid ≡ old ++ xs → Overflows (mid ++ f ∷ []) e → Overflows (old ++ all) e
+pub last_overflows : (old mid xs all : List Face) (f g : Face) (e : BindErr) → all ≡ xs ++ g ∷ [] → mid ≡ old ++ xs
+    → Overflows (mid ++ f ∷ []) e
+    → Overflows (old ++ all) e
 last_overflows old mid xs all f g e is mid_is h =
     overflows_more _ _ e h (omega (arith, length-append mid (f ∷ []), ap length mid_is, length-append old xs, length-append old all, ap length is, length-append xs (g ∷ [])))
 
-pub made_split : (fs : List Face) (o : Option aoi.Shape) (arms : List Pair) (f : Face) → made_behind fs (aoi.arms_seen arms o) ++ f ∷ [] ≡ made_behind fs (aoi.default_of o) ++ (made_behind fs (aoi.arms_seen arms None) ++ f ∷ [])
+pub made_split : (fs : List Face) (o : Option aoi.Shape) (arms : List Pair) (f : Face)
+    → made_behind fs (aoi.arms_seen arms o) ++ f ∷ []
+    ≡ made_behind fs (aoi.default_of o) ++ (made_behind fs (aoi.arms_seen arms None) ++ f ∷ [])
 made_split fs o arms f = ap (λ z. z ++ f ∷ []) (behind_split fs o arms) ∙ append_assoc (made_behind fs (aoi.default_of o)) (made_behind fs (aoi.arms_seen arms None)) (f ∷ [])
 
 -- ---- answers
@@ -313,10 +347,13 @@ pub handed_on : {T E : Type 0} (r : Result T E) (e : E) (Q : E → Type 0) → I
 handed_on (Ok x) e Q h q = absurd h
 handed_on (Err d) e Q h q = rw h q
 
-pub cause_more : {T : Type 0} (r : Result T BindErr) (xs ys : List Face) → length xs ≤ length ys → IfErr r (Overflows xs) → IfErr r (Overflows ys)
+pub cause_more : {T : Type 0} (r : Result T BindErr) (xs ys : List Face) → length xs ≤ length ys → IfErr r (Overflows xs)
+    → IfErr r (Overflows ys)
 cause_more (Ok x) xs ys le h = h
 cause_more (Err e) xs ys le h = overflows_more xs ys e h le
 
-pub cause_last : {T : Type 0} (r : Result T BindErr) (old mid xs : List Face) (f g : Face) → mid ≡ old ++ xs → IfErr r (Overflows (mid ++ f ∷ [])) → IfErr r (Overflows (old ++ (xs ++ g ∷ [])))
+pub cause_last : {T : Type 0} (r : Result T BindErr) (old mid xs : List Face) (f g : Face) → mid ≡ old ++ xs
+    → IfErr r (Overflows (mid ++ f ∷ []))
+    → IfErr r (Overflows (old ++ (xs ++ g ∷ [])))
 cause_last r old mid xs f g is h =
     cause_more r (mid ++ f ∷ []) (old ++ (xs ++ g ∷ [])) (omega (arith, length-append mid (f ∷ []), ap length is, length-append old xs, length-append old (xs ++ g ∷ []), length-append xs (g ∷ []))) h

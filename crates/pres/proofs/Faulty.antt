@@ -1,4 +1,4 @@
--- Which refusal is the first, and what sizes up to a limit tell of it.
+-- Which refusal is the first, and what sizes up to a limit say of it.
 use Rattle.std.proofs.Common.{◌≡◌, Bool, true, false, not, ◌&&◌, ◌||◌, ℕ, ◌+◌, ◌<◌, ◌≤◌, min, List, [], ◌∷◌, map, length, nat_lt, sum_by, None, Some, refl, sym, ap, ◌∙◌, subst, arith, true≢false}
 use Rattle.std.specs.List.{list_any, AllByRecursion}
 use Rattle.std.proofs.lemmas.Bool.{lt-ltb, le-ltb, ltb-true, ltb-false}
@@ -27,16 +27,24 @@ use Rattle.pres.specs.Sizes.{size_of, nodes_of, is_over}
 pub raises_next : (u : PlainUnit) (b : Back) → (not (is_cdr b) && has_raises u) ≡ true → bind_fault u b ≡ Some err.Raises
 raises_next u b h = rw h refl
 
-pub deep_next : (u : PlainUnit) (b : Back) → (not (is_cdr b) && has_raises u) ≡ false → length (all_made u b) ≤ 65536 → list_any is_deep (all_made u b) ≡ true → bind_fault u b ≡ Some err.Deep
+pub deep_next : (u : PlainUnit) (b : Back) → (not (is_cdr b) && has_raises u) ≡ false → length (all_made u b) ≤ 65536
+    → list_any is_deep (all_made u b) ≡ true
+    → bind_fault u b ≡ Some err.Deep
 deep_next u b h m d = rw (h, le-ltb 65536 (length (all_made u b)) m, d) refl
 
-pub heavy_next : (u : PlainUnit) (b : Back) → (not (is_cdr b) && has_raises u) ≡ false → length (all_made u b) ≤ 65536 → list_any is_deep (all_made u b) ≡ false → list_any is_heavy (all_made u b) ≡ true → bind_fault u b ≡ Some err.Heavy
+pub heavy_next : (u : PlainUnit) (b : Back) → (not (is_cdr b) && has_raises u) ≡ false → length (all_made u b) ≤ 65536
+    → list_any is_deep (all_made u b) ≡ false → list_any is_heavy (all_made u b) ≡ true
+    → bind_fault u b ≡ Some err.Heavy
 heavy_next u b h m d w = rw (h, le-ltb 65536 (length (all_made u b)) m, d, w) refl
 
-pub wide_next : (u : PlainUnit) (b : Back) → (not (is_cdr b) && has_raises u) ≡ false → length (all_made u b) ≤ 65536 → list_any is_deep (all_made u b) ≡ false → list_any is_heavy (all_made u b) ≡ false → is_wide u b ≡ true → bind_fault u b ≡ Some err.Wide
+pub wide_next : (u : PlainUnit) (b : Back) → (not (is_cdr b) && has_raises u) ≡ false → length (all_made u b) ≤ 65536
+    → list_any is_deep (all_made u b) ≡ false → list_any is_heavy (all_made u b) ≡ false → is_wide u b ≡ true
+    → bind_fault u b ≡ Some err.Wide
 wide_next u b h m d w x = rw (h, le-ltb 65536 (length (all_made u b)) m, d, w, x) refl
 
-pub none_at_last : (u : PlainUnit) (b : Back) → (not (is_cdr b) && has_raises u) ≡ false → length (all_made u b) ≤ 65536 → list_any is_deep (all_made u b) ≡ false → list_any is_heavy (all_made u b) ≡ false → is_wide u b ≡ false → bind_fault u b ≡ None
+pub none_at_last : (u : PlainUnit) (b : Back) → (not (is_cdr b) && has_raises u) ≡ false → length (all_made u b) ≤ 65536
+    → list_any is_deep (all_made u b) ≡ false → list_any is_heavy (all_made u b) ≡ false → is_wide u b ≡ false
+    → bind_fault u b ≡ None
 none_at_last u b h m d w x = rw (h, le-ltb 65536 (length (all_made u b)) m, d, w, x) refl
 
 -- ---- sizes
@@ -65,18 +73,21 @@ each_over fs o =
     let b : ℕ = spread (at fs o.reply) in
     rw (size-nodes fs o.request, size-nodes fs o.reply) (less_same (min a 65537 + min b 65537) (a + b) 65536 (λ h. omega (arith, h)) (λ h. omega (arith, h)))
 
-each_exact : (fs : List Face) (o : Op) → nat_lt 65536 (spread_of (offer_at fs o)) ≡ false → nodes_of (map size_of fs) o ≡ spread_of (offer_at fs o)
+each_exact : (fs : List Face) (o : Op) → nat_lt 65536 (spread_of (offer_at fs o)) ≡ false
+    → nodes_of (map size_of fs) o ≡ spread_of (offer_at fs o)
 each_exact fs o h =
     let a : ℕ = spread (at fs o.request) in
     let b : ℕ = spread (at fs o.reply) in
     let few : a + b ≤ 65536 = ltb-false 65536 (a + b) h in
     rw (size-nodes fs o.request, size-nodes fs o.reply) (omega (arith, few))
 
-any_over : (fs : List Face) (os : List Op) → list_any (λ o. nat_lt 65536 (nodes_of (map size_of fs) o)) os ≡ list_any (λ o. nat_lt 65536 (spread_of o)) (map (offer_at fs) os)
+any_over : (fs : List Face) (os : List Op)
+    → list_any (λ o. nat_lt 65536 (nodes_of (map size_of fs) o)) os ≡ list_any (λ o. nat_lt 65536 (spread_of o)) (map (offer_at fs) os)
 any_over fs [] = refl
 any_over fs (o ∷ os) = rw (each_over fs o, any_over fs os) refl
 
-sum_exact : (fs : List Face) (os : List Op) → list_any (λ o. nat_lt 65536 (spread_of o)) (map (offer_at fs) os) ≡ false → sum_by (nodes_of (map size_of fs)) os ≡ sum_by spread_of (map (offer_at fs) os)
+sum_exact : (fs : List Face) (os : List Op) → list_any (λ o. nat_lt 65536 (spread_of o)) (map (offer_at fs) os) ≡ false
+    → sum_by (nodes_of (map size_of fs)) os ≡ sum_by spread_of (map (offer_at fs) os)
 sum_exact fs [] h = refl
 sum_exact fs (o ∷ os) h =
     let p = neither (nat_lt 65536 (spread_of (offer_at fs o))) _ h in
@@ -92,21 +103,27 @@ over_spread fs os = by (list_any (λ o. nat_lt 65536 (spread_of o)) (map (offer_
 
 -- ---- the binding
 
-pub wide_is : (u : PlainUnit) (b : Back) (fs : List Face) (ss : List Size) (os : List Op) → ss ≡ map size_of fs → map (offer_at fs) os ≡ offers u b → (list_any has_long_in u.interfaces || is_over ss os) ≡ is_wide u b
+pub wide_is : (u : PlainUnit) (b : Back) (fs : List Face) (ss : List Size) (os : List Op) → ss ≡ map size_of fs
+    → map (offer_at fs) os ≡ offers u b
+    → (list_any has_long_in u.interfaces || is_over ss os) ≡ is_wide u b
 wide_is u b fs ss os sizes_are offers_are = ap (λ z. list_any has_long_in u.interfaces || z) (ap (λ z. is_over z os) sizes_are ∙ over_spread fs os ∙ ap is_spread offers_are)
 
-pub placed_by : (b : Binding) (n : ℕ) (os : List Op) → n ≡ length b.nodes → AllByRecursion (λ (o : Op). (o.request < n) × (o.reply < n)) os → AllByRecursion (IsPlaced b) os
+pub placed_by : (b : Binding) (n : ℕ) (os : List Op) → n ≡ length b.nodes → AllByRecursion (λ (o : Op). (o.request < n) × (o.reply < n)) os
+    → AllByRecursion (IsPlaced b) os
 placed_by b n [] is h = tt
 placed_by b n (o ∷ os) is h = (record { request = omega (arith, is, h.0.0); reply = omega (arith, is, h.0.1) }, placed_by b n os is h.1)
 
-pub placed_in : (n m : ℕ) (os : List Op) → n ≡ m → AllByRecursion (λ (o : Op). (o.request < n) × (o.reply < n)) os → AllByRecursion (λ (o : Op). (o.request < m) × (o.reply < m)) os
+pub placed_in : (n m : ℕ) (os : List Op) → n ≡ m → AllByRecursion (λ (o : Op). (o.request < n) × (o.reply < n)) os
+    → AllByRecursion (λ (o : Op). (o.request < m) × (o.reply < m)) os
 placed_in n m os is h = subst (λ z. AllByRecursion (λ (o : Op). (o.request < z) × (o.reply < z)) os) is h
 
 pub table_faces : (s : Sketch) (m : List Node) (ps : List Shape) → m ≡ s.nodes → ps ≡ s.shapes → faces m ps ≡ drawn s
 unfolding drawn
 table_faces s m ps m_is ps_is = rw (m_is, ps_is) refl
 
-pub bound : (s : Sketch) (b : Binding) → IsSoundPlain b.unit → AreNamed b.nodes b.shapes → b.nodes ≡ s.nodes → b.shapes ≡ s.shapes → AreOffered s b.ops (offers b.unit b.back) → IsBinding b
+pub bound : (s : Sketch) (b : Binding) → IsSoundPlain b.unit → AreNamed b.nodes b.shapes → b.nodes ≡ s.nodes
+    → b.shapes ≡ s.shapes → AreOffered s b.ops (offers b.unit b.back)
+    → IsBinding b
 bound s b sound named ns ss o =
     let same : faces b.nodes b.shapes ≡ drawn s = table_faces s b.nodes b.shapes ns ss in
     let long : length (drawn s) ≡ length b.nodes = ap length (sym same) ∙ faces-length b.nodes b.shapes named in

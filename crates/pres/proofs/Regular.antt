@@ -30,7 +30,8 @@ regular_one fs f a h = regular_both fs (f ∷ []) a (h, tt)
 
 -- ---- scalars
 
-pub enum_labels : (items : ItemList) → is_sound_enum items ≡ true → list_all (in_range kind.I32) (labels_of items) ≡ true → are_labels (labels_of items) ≡ true
+pub enum_labels : (items : ItemList) → is_sound_enum items ≡ true → list_all (in_range kind.I32) (labels_of items) ≡ true
+    → are_labels (labels_of items) ≡ true
 enum_labels items sound ranged =
     let names : Bool = are_distinct (map (λ i. i.0) items) in
     let front = both (not (length items == 0) && nat_le (count_different (map (λ i. i.1) items)) 4096) names sound in
@@ -67,7 +68,8 @@ weighs n h = ne_eqb n 0 (omega (arith, h))
 list_regular : (c : Count) (f : Face) → is_some_count c ≡ true → 1 ≤ weight (blank (type_of f)) → IsRegular (type_of (list c f))
 list_regular c f h w = record { fit = refl; full = rw (not_zero c h, weighs (weight (blank (type_of f))) w) refl; labelled = λ r. refl }
 
-row_regular : (k : Kind) (c : Count) → Some k ≡ packed (scalar (number k)) → is_some_count c ≡ true → IsRegular (type_of (numbers (row_of k c)))
+row_regular : (k : Kind) (c : Count) → Some k ≡ packed (scalar (number k)) → is_some_count c ≡ true
+    → IsRegular (type_of (numbers (row_of k c)))
 row_regular kind.Octet c p h = record { fit = refl; full = not_zero c h; labelled = λ r. refl }
 row_regular kind.I8 c p h = record { fit = refl; full = not_zero c h; labelled = λ r. refl }
 row_regular kind.U8 c p h = record { fit = refl; full = not_zero c h; labelled = λ r. refl }
@@ -101,7 +103,8 @@ packed_own (list c f) k h = absurd cc
 packed_own (choice s arms) k h = absurd cc
 packed_own (maybe f) k h = absurd cc
 
-pub array_regular : (c : Count) (f : Face) (inside : List Face) → is_some_count c ≡ true → 1 ≤ weight (blank (type_of f)) → AreRegular inside
+pub array_regular : (c : Count) (f : Face) (inside : List Face) → is_some_count c ≡ true
+    → 1 ≤ weight (blank (type_of f)) → AreRegular inside
     → AreRegular (kept (packed f) inside ++ elements c f ∷ [])
 array_regular c f inside h w a = by (packed f) refl where
   by : (o : Option Kind) → packed f ≡ o → AreRegular (kept (packed f) inside ++ elements_by (packed f) c f ∷ [])

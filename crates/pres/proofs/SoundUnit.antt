@@ -56,7 +56,9 @@ mutual
       let p = both (or_void s (is_sound_type ss l s)) (are_sound_arms ss l arms) h in
       rw (or_drawable ss l s p.0 (drawable ss l s), behind_drawable ss l arms p.1) refl
 
-  or_drawable : (ss : List aoi.Shape) (l : ℕ) (s : aoi.Shape) → or_void s (is_sound_type ss l s) ≡ true → (is_sound_type ss l s ≡ true → is_drawable l s ≡ true) → is_drawable l s ≡ true
+  or_drawable : (ss : List aoi.Shape) (l : ℕ) (s : aoi.Shape) → or_void s (is_sound_type ss l s) ≡ true
+      → (is_sound_type ss l s ≡ true → is_drawable l s ≡ true)
+      → is_drawable l s ≡ true
   or_drawable ss l aoi.void h f = refl
   or_drawable ss l (aoi.number k) h f = f h
   or_drawable ss l (aoi.enumeration items) h f = f h
@@ -82,7 +84,8 @@ record IsSoundOperation (ss : List aoi.Shape) (op : PlainOperation) : Type 0 whe
   few : length op.raises ≤ 4095
   raises : list_all (is_sound_plain_raise ss) op.raises ≡ true
 
-operation_parts : (ss : List aoi.Shape) (slots : ℕ) (op : PlainOperation) → is_sound_plain_operation ss slots op ≡ true → IsSoundOperation ss op
+operation_parts : (ss : List aoi.Shape) (slots : ℕ) (op : PlainOperation) → is_sound_plain_operation ss slots op ≡ true
+    → IsSoundOperation ss op
 operation_parts ss slots op h =
     let n : ℕ = length ss in
     let i : Bool = are_sound ss n op.ins in
@@ -97,7 +100,8 @@ operation_parts ss slots op h =
     let g = both i o d.0 in
     record { ins = g.0; outs = g.1; result = d.1; few = leb-true (length op.raises) 4095 c.1; raises = b.1 }
 
-raises_drawable : (ss : List aoi.Shape) (rs : List PlainRaise) → list_all (is_sound_plain_raise ss) rs ≡ true → AllByRecursion (λ r. IsTrue (is_drawable (length ss) (exception r))) rs
+raises_drawable : (ss : List aoi.Shape) (rs : List PlainRaise) → list_all (is_sound_plain_raise ss) rs ≡ true
+    → AllByRecursion (λ r. IsTrue (is_drawable (length ss) (exception r))) rs
 raises_drawable ss [] h = tt
 raises_drawable ss (r ∷ rs) h =
     let p = both (is_sound_plain_raise ss r) (list_all (is_sound_plain_raise ss) rs) h in
@@ -112,13 +116,16 @@ operation_drawable ss op s = record {
   raises = raises_drawable ss op.raises s.raises;
 }
 
-operations_drawable : (ss : List aoi.Shape) (slots : ℕ) (ops : List PlainOperation) → list_all (is_sound_plain_operation ss slots) ops ≡ true → AllByRecursion (IsDrawableOperation (length ss)) ops
+operations_drawable : (ss : List aoi.Shape) (slots : ℕ) (ops : List PlainOperation)
+    → list_all (is_sound_plain_operation ss slots) ops ≡ true
+    → AllByRecursion (IsDrawableOperation (length ss)) ops
 operations_drawable ss slots [] h = tt
 operations_drawable ss slots (op ∷ ops) h =
     let p = both (is_sound_plain_operation ss slots op) (list_all (is_sound_plain_operation ss slots) ops) h in
     (operation_drawable ss op (operation_parts ss slots op p.0), operations_drawable ss slots ops p.1)
 
-interfaces_drawable : (ss : List aoi.Shape) (is : List PlainInterface) → list_all (is_sound_plain_interface ss) is ≡ true → AllByRecursion (IsDrawableInterface (length ss)) is
+interfaces_drawable : (ss : List aoi.Shape) (is : List PlainInterface) → list_all (is_sound_plain_interface ss) is ≡ true
+    → AllByRecursion (IsDrawableInterface (length ss)) is
 interfaces_drawable ss [] h = tt
 interfaces_drawable ss (i ∷ is) h =
     let p = both (is_sound_plain_interface ss i) (list_all (is_sound_plain_interface ss) is) h in
@@ -137,8 +144,10 @@ unit_drawable u h =
 
 -- ---- what is sound is regular
 
--- one more type that stands
-stand_on : (ss : List aoi.Shape) (fs : List Face) (l : ℕ) (s : aoi.Shape) → l ≡ length fs → Standing ss fs l → slice_index_or ss l aoi.void ≡ s → is_sound_type ss l s ≡ true → Standing ss (fs ++ face_of fs s ∷ []) (suc l)
+-- one more type that is there
+stand_on : (ss : List aoi.Shape) (fs : List Face) (l : ℕ) (s : aoi.Shape) → l ≡ length fs → Standing ss fs l
+    → slice_index_or ss l aoi.void ≡ s → is_sound_type ss l s ≡ true
+    → Standing ss (fs ++ face_of fs s ∷ []) (suc l)
 stand_on ss fs l s long st is h = record {
   sound = λ k lt. elim (last k lt) [ inl less ↦ st.sound k less | inr same ↦ rw (same, is) h ];
   named = λ k lt. elim (last k lt) [
@@ -157,7 +166,8 @@ stand_on ss fs l s long st is h = record {
       by true e = inl (ltb-true k l e)
       by false e = inr (omega (arith, lt, ltb-false k l e))
 
-types_regular : (ss : List aoi.Shape) (fs : List Face) (l : ℕ) (rest : List aoi.Shape) → l ≡ length fs → Standing ss fs l → ((k : ℕ) → slice_index_or rest k aoi.void ≡ slice_index_or ss (l + k) aoi.void) → are_sound_types ss l rest ≡ true
+types_regular : (ss : List aoi.Shape) (fs : List Face) (l : ℕ) (rest : List aoi.Shape) → l ≡ length fs → Standing ss fs l
+    → ((k : ℕ) → slice_index_or rest k aoi.void ≡ slice_index_or ss (l + k) aoi.void) → are_sound_types ss l rest ≡ true
     → AreRegular (made_in_types fs rest) × Standing ss (faces_of fs rest) (l + length rest)
 types_regular ss fs l [] long st same h = let zero_more : l + 0 ≡ l = omega arith in (tt, rw zero_more st)
 types_regular ss fs l (s ∷ rest) long st same h =
@@ -171,7 +181,8 @@ types_regular ss fs l (s ∷ rest) long st same h =
     let shift : suc l + length rest ≡ l + suc (length rest) = omega arith in
     (regular_both (made fs s) _ (made_regular ss fs l s st p.0) on.0, rw (← shift) on.1)
 
-raised_numbers : (fs : List Face) (k : ℕ) (rs : List PlainRaise) → rise_from (Some (pos k)) (arm_numbers (arm_types_of (raised fs (suc k) rs))) ≡ true
+raised_numbers : (fs : List Face) (k : ℕ) (rs : List PlainRaise)
+    → rise_from (Some (pos k)) (arm_numbers (arm_types_of (raised fs (suc k) rs))) ≡ true
 raised_numbers fs k [] = refl
 raised_numbers fs k (r ∷ rs) = let up : nat_lt k (suc k) ≡ true = lt-ltb k (suc k) (omega arith) in rw (up, raised_numbers fs (suc k) rs) refl
 
@@ -179,7 +190,8 @@ raised_count : (fs : List Face) (k : ℕ) (rs : List PlainRaise) → length (arm
 raised_count fs k [] = refl
 raised_count fs k (r ∷ rs) = ap suc (raised_count fs (suc k) rs)
 
-raised_ranged : (fs : List Face) (k : ℕ) (rs : List PlainRaise) → k + length rs ≤ 4096 → list_all (in_range kind.U32) (arm_numbers (arm_types_of (raised fs k rs))) ≡ true
+raised_ranged : (fs : List Face) (k : ℕ) (rs : List PlainRaise) → k + length rs ≤ 4096
+    → list_all (in_range kind.U32) (arm_numbers (arm_types_of (raised fs k rs))) ≡ true
 raised_ranged fs k [] few = refl
 raised_ranged fs k (r ∷ rs) few =
     let here : nat_lt k 4294967296 ≡ true = lt-ltb k 4294967296 (omega (arith, few)) in
@@ -193,7 +205,9 @@ reply_regular fs op few =
     let range : list_all (in_range kind.U32) ns ≡ true = raised_ranged fs 1 op.raises (omega (arith, few)) in
     record { fit = refl; full = refl; labelled = λ r. rw (count, rise, range) refl }
 
-raises_regular : (ss : List aoi.Shape) (fs : List Face) (rs : List PlainRaise) → Standing ss fs (length ss) → list_all (is_sound_plain_raise ss) rs ≡ true → AreRegular (made_raised fs rs)
+raises_regular : (ss : List aoi.Shape) (fs : List Face) (rs : List PlainRaise) → Standing ss fs (length ss)
+    → list_all (is_sound_plain_raise ss) rs ≡ true
+    → AreRegular (made_raised fs rs)
 raises_regular ss fs [] st h = tt
 raises_regular ss fs (r ∷ rs) st h =
     let p = both (is_sound_plain_raise ss r) (list_all (is_sound_plain_raise ss) rs) h in
@@ -202,7 +216,8 @@ raises_regular ss fs (r ∷ rs) st h =
     (regular_one (made_inside fs r.members) _ (inside_regular ss fs (length ss) r.members st q.1) (record { fit = refl; full = refl; labelled = λ r. refl }))
     (raises_regular ss fs rs st p.1)
 
-operation_regular : (ss : List aoi.Shape) (fs : List Face) (op : PlainOperation) → Standing ss fs (length ss) → IsSoundOperation ss op → AreRegular (made_request fs op ++ made_reply fs op)
+operation_regular : (ss : List aoi.Shape) (fs : List Face) (op : PlainOperation) → Standing ss fs (length ss) → IsSoundOperation ss op
+    → AreRegular (made_request fs op ++ made_reply fs op)
 operation_regular ss fs op st s =
     let n : ℕ = length ss in
     let result : AreRegular (made fs op.result) = void_or ss fs n op.result s.result (made_regular ss fs n op.result st) in
@@ -212,7 +227,9 @@ operation_regular ss fs op st s =
     (regular_one (made_inside fs op.ins) _ (inside_regular ss fs n op.ins st s.ins) (record { fit = refl; full = refl; labelled = λ r. refl }))
     (regular_one (made_answer fs op ++ made_raised fs op.raises) _ (regular_both (made_answer fs op) (made_raised fs op.raises) answer (raises_regular ss fs op.raises st s.raises)) (reply_regular fs op s.few))
 
-operations_regular : (ss : List aoi.Shape) (fs : List Face) (slots : ℕ) (ops : List PlainOperation) → Standing ss fs (length ss) → list_all (is_sound_plain_operation ss slots) ops ≡ true → AreRegular (made_by fs ops)
+operations_regular : (ss : List aoi.Shape) (fs : List Face) (slots : ℕ) (ops : List PlainOperation)
+    → Standing ss fs (length ss) → list_all (is_sound_plain_operation ss slots) ops ≡ true
+    → AreRegular (made_by fs ops)
 operations_regular ss fs slots [] st h = tt
 operations_regular ss fs slots (op ∷ ops) st h =
     let p = both (is_sound_plain_operation ss slots op) (list_all (is_sound_plain_operation ss slots) ops) h in
@@ -221,13 +238,16 @@ operations_regular ss fs slots (op ∷ ops) st h =
 null_sound : (ss : List aoi.Shape) → IsSoundOperation ss null_operation
 null_sound ss = record { ins = refl; outs = refl; result = refl; few = omega arith; raises = refl }
 
-gotten_regular : (ss : List aoi.Shape) (fs : List Face) (b : Back) (i : PlainInterface) → Standing ss fs (length ss) → AreRegular (made_by fs (gotten b i))
+gotten_regular : (ss : List aoi.Shape) (fs : List Face) (b : Back) (i : PlainInterface) → Standing ss fs (length ss)
+    → AreRegular (made_by fs (gotten b i))
 gotten_regular ss fs b i st = by (gets_null b i) where
   by : (t : Bool) → AreRegular (made_by fs (if t then null_operation ∷ [] else []))
   by true = regular_both (made_request fs null_operation ++ made_reply fs null_operation) [] (operation_regular ss fs null_operation st (null_sound ss)) tt
   by false = tt
 
-interfaces_regular : (ss : List aoi.Shape) (fs : List Face) (b : Back) (is : List PlainInterface) → Standing ss fs (length ss) → list_all (is_sound_plain_interface ss) is ≡ true → AreRegular (made_in_interfaces fs b is)
+interfaces_regular : (ss : List aoi.Shape) (fs : List Face) (b : Back) (is : List PlainInterface)
+    → Standing ss fs (length ss) → list_all (is_sound_plain_interface ss) is ≡ true
+    → AreRegular (made_in_interfaces fs b is)
 interfaces_regular ss fs b [] st h = tt
 interfaces_regular ss fs b (i ∷ is) st h =
     let p = both (is_sound_plain_interface ss i) (list_all (is_sound_plain_interface ss) is) h in

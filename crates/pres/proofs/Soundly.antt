@@ -26,7 +26,8 @@ use Rattle.pres.proofs.Regular.{regular_both, regular_one, enum_labels, enum_reg
 
 -- ---- choices
 
-put_arm-numbers : (n : ℤ) (f : Face) (arms : Arms) → arm_numbers (arm_types_of (put_arm n f arms)) ≡ put_number n (arm_numbers (arm_types_of arms))
+put_arm-numbers : (n : ℤ) (f : Face) (arms : Arms)
+    → arm_numbers (arm_types_of (put_arm n f arms)) ≡ put_number n (arm_numbers (arm_types_of arms))
 put_arm-numbers n f no_other = refl
 put_arm-numbers n f (other g) = refl
 put_arm-numbers n f (arm m g arms) = by (int_lt n m) refl (put_arm-numbers n f arms) where
@@ -59,7 +60,8 @@ arm_weighs s (other f) h = omega arith
 arm_weighs s (arm n f arms) h = omega arith
 
 -- what is in a list of numbers in range is in range
-ranged_in : (ls : List ℤ) (n : ℤ) → list_all (in_range kind.I32) ls ≡ true → list_any (λ l. int_eq l n) ls ≡ true → in_range kind.I32 n ≡ true
+ranged_in : (ls : List ℤ) (n : ℤ) → list_all (in_range kind.I32) ls ≡ true → list_any (λ l. int_eq l n) ls ≡ true
+    → in_range kind.I32 n ≡ true
 ranged_in [] n a h = absurd (true≢false (sym h))
 ranged_in (l ∷ ls) n a h = by (int_eq l n) refl (both (in_range kind.I32 l) _ a) (ranged_in ls n) where
   by : (t : Bool) → int_eq l n ≡ t → (in_range kind.I32 l ≡ true) × (list_all (in_range kind.I32) ls ≡ true) → (list_all (in_range kind.I32) ls ≡ true → list_any (λ l. int_eq l n) ls ≡ true → in_range kind.I32 n ≡ true) → in_range kind.I32 n ≡ true
@@ -72,7 +74,9 @@ tag_sign (aoi.number k) = number k
 tag_sign (aoi.enumeration items) = item items
 tag_sign _ = number kind.U32
 
-all_of : (tag : aoi.Shape) (ns : List ℤ) → is_tag tag ≡ true → is_labelled (scalar_of (tag_sign tag)) ≡ true → list_all (is_of_tag tag) ns ≡ true → list_all (is_scalar (scalar_of (tag_sign tag))) ns ≡ true
+all_of : (tag : aoi.Shape) (ns : List ℤ) → is_tag tag ≡ true → is_labelled (scalar_of (tag_sign tag)) ≡ true
+    → list_all (is_of_tag tag) ns ≡ true
+    → list_all (is_scalar (scalar_of (tag_sign tag))) ns ≡ true
 all_of tag [] t l h = refl
 all_of (aoi.number k) (n ∷ ns) t l h = let p = both (in_range k n) _ h in rw (p.0, all_of (aoi.number k) ns t l p.1) refl
 all_of (aoi.enumeration items) (n ∷ ns) t l h =
@@ -88,7 +92,10 @@ all_of (aoi.choice s arms) (n ∷ ns) t l h = absurd (true≢false (sym t))
 all_of (aoi.optional s) (n ∷ ns) t l h = absurd (true≢false (sym t))
 all_of (aoi.named k) (n ∷ ns) t l h = absurd (true≢false (sym t))
 
-tag_labelled : (tag : aoi.Shape) (arms : mint.Arms) → (aoi_sound : (items : ItemList) → tag ≡ aoi.enumeration items → is_sound_enum items ≡ true) → is_ranged (mint.choice_type (scalar_of (tag_sign tag)) arms) ≡ true → is_labelled (scalar_of (tag_sign tag)) ≡ true
+tag_labelled : (tag : aoi.Shape) (arms : mint.Arms)
+    → (aoi_sound : (items : ItemList) → tag ≡ aoi.enumeration items → is_sound_enum items ≡ true)
+    → is_ranged (mint.choice_type (scalar_of (tag_sign tag)) arms) ≡ true
+    → is_labelled (scalar_of (tag_sign tag)) ≡ true
 tag_labelled (aoi.number k) arms s r = refl
 tag_labelled (aoi.enumeration items) arms s r = enum_labels items (s items refl) r
 tag_labelled aoi.void arms s r = refl
@@ -99,7 +106,9 @@ tag_labelled (aoi.choice t others_) arms s r = refl
 tag_labelled (aoi.optional t) arms s r = refl
 tag_labelled (aoi.named k) arms s r = refl
 
-choice_regular : (fs : List Face) (tag : aoi.Shape) (arms : aoi.Arms) → ((items : ItemList) → tag ≡ aoi.enumeration items → is_sound_enum items ≡ true) → is_sound_union tag arms ≡ true → IsRegular (type_of (choice (tag_sign tag) (arms_of fs arms)))
+choice_regular : (fs : List Face) (tag : aoi.Shape) (arms : aoi.Arms)
+    → ((items : ItemList) → tag ≡ aoi.enumeration items → is_sound_enum items ≡ true) → is_sound_union tag arms ≡ true
+    → IsRegular (type_of (choice (tag_sign tag) (arms_of fs arms)))
 choice_regular fs tag arms enums sound =
     let ns : List ℤ = numbers_of arms in
     let x = both (((is_tag tag && has_arm arms) && nat_le (length ns) 4096) && list_all (is_of_tag tag) ns) (are_different ns) sound in
@@ -139,9 +148,12 @@ own_sign gs (aoi.optional s) t = absurd (true≢false (sym t))
 own_sign gs (aoi.named k) t = absurd (true≢false (sym t))
 
 -- what follows names, once there is one or none
-sign_follows : (n : ℕ) (ss : List aoi.Shape) (gs : List Face) (l : ℕ) (s : aoi.Shape) (o : Option ℕ) → name_in s ≡ o → ((k : ℕ) → k < l → at gs k ≡ face_of (take k gs) (slice_index_or ss k aoi.void))
-    → ((k : ℕ) → k < l → is_tag (unfolded n ss k (slice_index_or ss k aoi.void)) ≡ true → sign_in (face_of (take k gs) (slice_index_or ss k aoi.void)) ≡ tag_sign (unfolded n ss k (slice_index_or ss k aoi.void)))
-    → is_tag (unfolded (suc n) ss l s) ≡ true → sign_in (face_of gs s) ≡ tag_sign (unfolded (suc n) ss l s)
+sign_follows : (n : ℕ) (ss : List aoi.Shape) (gs : List Face) (l : ℕ) (s : aoi.Shape) (o : Option ℕ) → name_in s ≡ o
+    → ((k : ℕ) → k < l → at gs k ≡ face_of (take k gs) (slice_index_or ss k aoi.void))
+    → ((k : ℕ) → k < l → is_tag (unfolded n ss k (slice_index_or ss k aoi.void)) ≡ true
+    → sign_in (face_of (take k gs) (slice_index_or ss k aoi.void)) ≡ tag_sign (unfolded n ss k (slice_index_or ss k aoi.void)))
+    → is_tag (unfolded (suc n) ss l s) ≡ true
+    → sign_in (face_of gs s) ≡ tag_sign (unfolded (suc n) ss l s)
 sign_follows n ss gs l (aoi.named k) o is named ih t = by (nat_lt k l) refl where
   by : (b : Bool) → nat_lt k l ≡ b → sign_in (at gs k) ≡ tag_sign (if nat_lt k l then unfolded n ss k (slice_index_or ss k aoi.void) else aoi.named k)
   by true e = let lt : k < l = ltb-true k l e in rw e (ap sign_in (named k lt) ∙ ih k lt (rw e at t))
@@ -155,22 +167,26 @@ sign_follows n ss gs l (aoi.structure ms) o is named ih t = own_sign gs (aoi.str
 sign_follows n ss gs l (aoi.choice s arms) o is named ih t = own_sign gs (aoi.choice s arms) t
 sign_follows n ss gs l (aoi.optional s) o is named ih t = own_sign gs (aoi.optional s) t
 
-named_front : (ss : List aoi.Shape) (gs : List Face) (k : ℕ) → ((j : ℕ) → j < k → at gs j ≡ face_of (take j gs) (slice_index_or ss j aoi.void))
-    → (j : ℕ) → j < k → at (take k gs) j ≡ face_of (take j (take k gs)) (slice_index_or ss j aoi.void)
+named_front : (ss : List aoi.Shape) (gs : List Face) (k : ℕ)
+    → ((j : ℕ) → j < k → at gs j ≡ face_of (take j gs) (slice_index_or ss j aoi.void)) → (j : ℕ) → j < k
+    → at (take k gs) j ≡ face_of (take j (take k gs)) (slice_index_or ss j aoi.void)
 named_front ss gs k named j lt =
     let cut : take j (take k gs) ≡ take j gs = take-take j k gs (omega (arith, lt)) in
     at_take gs k j lt ∙ named j lt ∙ ap (λ z. face_of z (slice_index_or ss j aoi.void)) (sym cut)
 
-sign_is : (n : ℕ) (ss : List aoi.Shape) (gs : List Face) (l : ℕ) (s : aoi.Shape) → ((k : ℕ) → k < l → at gs k ≡ face_of (take k gs) (slice_index_or ss k aoi.void))
-    → is_tag (unfolded n ss l s) ≡ true → sign_in (face_of gs s) ≡ tag_sign (unfolded n ss l s)
+sign_is : (n : ℕ) (ss : List aoi.Shape) (gs : List Face) (l : ℕ) (s : aoi.Shape)
+    → ((k : ℕ) → k < l → at gs k ≡ face_of (take k gs) (slice_index_or ss k aoi.void)) → is_tag (unfolded n ss l s) ≡ true
+    → sign_in (face_of gs s) ≡ tag_sign (unfolded n ss l s)
 sign_is zero ss gs l s named t = own_sign gs s t
 sign_is (suc n) ss gs l s named t =
     sign_follows n ss gs l s (name_in s) refl named
     (λ k lt u. sign_is n ss (take k gs) k (slice_index_or ss k aoi.void) (named_front ss gs k (λ j less. named j (omega (arith, less, lt)))) u) t
 
 -- an enum that is reached by names is sound
-enum_is : (n : ℕ) (ss : List aoi.Shape) (l : ℕ) (s : aoi.Shape) (items : ItemList) → ((k : ℕ) → k < l → is_sound_type ss k (slice_index_or ss k aoi.void) ≡ true) → is_sound_type ss l s ≡ true
-    → unfolded n ss l s ≡ aoi.enumeration items → is_sound_enum items ≡ true
+enum_is : (n : ℕ) (ss : List aoi.Shape) (l : ℕ) (s : aoi.Shape) (items : ItemList)
+    → ((k : ℕ) → k < l → is_sound_type ss k (slice_index_or ss k aoi.void) ≡ true) → is_sound_type ss l s ≡ true
+    → unfolded n ss l s ≡ aoi.enumeration items
+    → is_sound_enum items ≡ true
 enum_is zero ss l s items sounds h is = subst (λ z. is_sound_type ss l z ≡ true) is h
 enum_is (suc n) ss l (aoi.named k) items sounds h is =
     let lt : k < l = ltb-true k l h in
@@ -185,7 +201,8 @@ enum_is (suc n) ss l (aoi.structure ms) items sounds h is = subst (λ z. is_soun
 enum_is (suc n) ss l (aoi.choice s arms) items sounds h is = subst (λ z. is_sound_type ss l z ≡ true) is h
 enum_is (suc n) ss l (aoi.optional s) items sounds h is = subst (λ z. is_sound_type ss l z ≡ true) is h
 
-union_regular : (ss : List aoi.Shape) (fs : List Face) (l : ℕ) (tag : aoi.Shape) (arms : aoi.Arms) → Standing ss fs l → is_sound_type ss l tag ≡ true → is_sound_union (unfolded l ss l tag) arms ≡ true
+union_regular : (ss : List aoi.Shape) (fs : List Face) (l : ℕ) (tag : aoi.Shape) (arms : aoi.Arms) → Standing ss fs l
+    → is_sound_type ss l tag ≡ true → is_sound_union (unfolded l ss l tag) arms ≡ true
     → IsRegular (type_of (choice (sign_in (face_of fs tag)) (arms_of fs arms)))
 union_regular ss fs l tag arms st h u =
     let below : aoi.Shape = unfolded l ss l tag in
@@ -197,7 +214,8 @@ union_regular ss fs l tag arms st h u =
     let same : sign_in (face_of fs tag) ≡ tag_sign below = sign_is l ss fs l tag st.named w.0 in
     subst (λ s. IsRegular (type_of (choice s (arms_of fs arms)))) (sym same) (choice_regular fs below arms (λ items is. enum_is l ss l tag items st.sound h is) u)
 
-union_weighs : (fs : List Face) (below : aoi.Shape) (s : Sign) (arms : aoi.Arms) → is_sound_union below arms ≡ true → 1 ≤ weight (blank (type_of (choice s (arms_of fs arms))))
+union_weighs : (fs : List Face) (below : aoi.Shape) (s : Sign) (arms : aoi.Arms) → is_sound_union below arms ≡ true
+    → 1 ≤ weight (blank (type_of (choice s (arms_of fs arms))))
 union_weighs fs below s arms u =
     let ns : List ℤ = numbers_of arms in
     let x = both (((is_tag below && has_arm arms) && nat_le (length ns) 4096) && list_all (is_of_tag below) ns) (are_different ns) u in
@@ -210,7 +228,8 @@ void_regular : IsRegular (type_of nothing)
 void_regular = record { fit = refl; full = refl; labelled = λ r. refl }
 
 mutual
-  pub made_regular : (ss : List aoi.Shape) (fs : List Face) (l : ℕ) (s : aoi.Shape) → Standing ss fs l → is_sound_type ss l s ≡ true → AreRegular (made fs s)
+  pub made_regular : (ss : List aoi.Shape) (fs : List Face) (l : ℕ) (s : aoi.Shape) → Standing ss fs l → is_sound_type ss l s ≡ true
+      → AreRegular (made fs s)
   made_regular ss fs l aoi.void st h = absurd (true≢false (sym h))
   made_regular ss fs l (aoi.number k) st h = (record { fit = refl; full = refl; labelled = λ r. refl }, tt)
   made_regular ss fs l (aoi.enumeration items) st h = (enum_regular items h, tt)
@@ -228,7 +247,8 @@ mutual
   made_regular ss fs l (aoi.optional s) st h = regular_one (made fs s) _ (made_regular ss fs l s st h) (record { fit = refl; full = refl; labelled = λ r. refl })
   made_regular ss fs l (aoi.named k) st h = tt
 
-  pub made_weighs : (ss : List aoi.Shape) (fs : List Face) (l : ℕ) (s : aoi.Shape) → Standing ss fs l → is_sound_type ss l s ≡ true → 1 ≤ weight (blank (type_of (face_of fs s)))
+  pub made_weighs : (ss : List aoi.Shape) (fs : List Face) (l : ℕ) (s : aoi.Shape) → Standing ss fs l → is_sound_type ss l s ≡ true
+      → 1 ≤ weight (blank (type_of (face_of fs s)))
   made_weighs ss fs l aoi.void st h = absurd (true≢false (sym h))
   made_weighs ss fs l (aoi.number k) st h = omega arith
   made_weighs ss fs l (aoi.enumeration items) st h = omega arith
@@ -247,20 +267,24 @@ mutual
   made_weighs ss fs l (aoi.optional s) st h = omega arith
   made_weighs ss fs l (aoi.named k) st h = st.weigh k (ltb-true k l h)
 
-  pub inside_regular : (ss : List aoi.Shape) (fs : List Face) (l : ℕ) (ms : aoi.Members) → Standing ss fs l → are_sound ss l ms ≡ true → AreRegular (made_inside fs ms)
+  pub inside_regular : (ss : List aoi.Shape) (fs : List Face) (l : ℕ) (ms : aoi.Members) → Standing ss fs l → are_sound ss l ms ≡ true
+      → AreRegular (made_inside fs ms)
   inside_regular ss fs l aoi.no_more st h = tt
   inside_regular ss fs l (aoi.member n s ms) st h =
       let p = both (is_sound_type ss l s) (are_sound ss l ms) h in
       regular_both (made fs s) (made_inside fs ms) (made_regular ss fs l s st p.0) (inside_regular ss fs l ms st p.1)
 
-  pub behind_regular : (ss : List aoi.Shape) (fs : List Face) (l : ℕ) (arms : aoi.Arms) → Standing ss fs l → are_sound_arms ss l arms ≡ true → AreRegular (made_behind fs arms)
+  pub behind_regular : (ss : List aoi.Shape) (fs : List Face) (l : ℕ) (arms : aoi.Arms) → Standing ss fs l → are_sound_arms ss l arms ≡ true
+      → AreRegular (made_behind fs arms)
   behind_regular ss fs l aoi.no_default st h = tt
   behind_regular ss fs l (aoi.default s) st h = void_or ss fs l s h (made_regular ss fs l s st)
   behind_regular ss fs l (aoi.arm n s arms) st h =
       let p = both (or_void s (is_sound_type ss l s)) (are_sound_arms ss l arms) h in
       regular_both (made_behind fs arms) (made fs s) (behind_regular ss fs l arms st p.1) (void_or ss fs l s p.0 (made_regular ss fs l s st))
 
-  pub void_or : (ss : List aoi.Shape) (fs : List Face) (l : ℕ) (s : aoi.Shape) → or_void s (is_sound_type ss l s) ≡ true → (is_sound_type ss l s ≡ true → AreRegular (made fs s)) → AreRegular (made fs s)
+  pub void_or : (ss : List aoi.Shape) (fs : List Face) (l : ℕ) (s : aoi.Shape) → or_void s (is_sound_type ss l s) ≡ true
+      → (is_sound_type ss l s ≡ true → AreRegular (made fs s))
+      → AreRegular (made fs s)
   void_or ss fs l aoi.void h f = (void_regular, tt)
   void_or ss fs l (aoi.number k) h f = f h
   void_or ss fs l (aoi.enumeration items) h f = f h

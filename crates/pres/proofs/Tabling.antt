@@ -80,13 +80,15 @@ pub record IsStage (s : Sketch) (m : List Node) (ps : List Shape) (rest : List E
   pub step : length m ≡ length ps
   pub trees : map type_of (take (length m) (drawn s)) ≡ unfolded m
 
-pub within : (s : Sketch) (m : List Node) (ps : List Shape) (e : Entry) (rest : List Entry) → IsSketch s → IsStage s m ps (e ∷ rest) → (length m < length (drawn s)) × (length m < 65536)
+pub within : (s : Sketch) (m : List Node) (ps : List Shape) (e : Entry) (rest : List Entry) → IsSketch s → IsStage s m ps (e ∷ rest)
+    → (length m < length (drawn s)) × (length m < 65536)
 within s m ps e rest is st =
     let long : length s.nodes ≡ length m + suc (length (map (λ (e : Entry). e.node) rest)) = ap length (sym st.nodes) ∙ length-append m (map (λ (e : Entry). e.node) (e ∷ rest)) in
     (omega (arith, long, drawn-length s is), omega (arith, long, is.few))
 
 face_is : (s : Sketch) (m : List Node) (ps : List Shape) (e : Entry) (rest : List Entry) → IsSketch s → IsStage s m ps (e ∷ rest)
-    → (HasChildrenBelow (length m) e.node × IsNamed e.node e.shape) × (at (drawn s) (length m) ≡ level (take (length m) (drawn s)) e.node e.shape)
+    → (HasChildrenBelow (length m) e.node × IsNamed e.node e.shape)
+    × (at (drawn s) (length m) ≡ level (take (length m) (drawn s)) e.node e.shape)
 face_is s m ps e rest is st =
     let k : ℕ = length m in
     let n_is : slice_get s.nodes k ≡ Some e.node = ap (λ z. slice_get z k) (sym st.nodes) ∙ seam_get m e.node (map (λ (e : Entry). e.node) rest) in
@@ -96,14 +98,16 @@ face_is s m ps e rest is st =
       level-at s k e.node e.shape is n_is h_is ∙ level_agree k (drawn s) (take k (drawn s)) e.node e.shape (λ i lt. sym (at_take (drawn s) k i lt)) below,
     )
 
-tree_is : (s : Sketch) (m : List Node) (ps : List Shape) (e : Entry) (rest : List Entry) → IsSketch s → IsStage s m ps (e ∷ rest) → mint.level (unfolded m) e.node ≡ type_of (at (drawn s) (length m))
+tree_is : (s : Sketch) (m : List Node) (ps : List Shape) (e : Entry) (rest : List Entry) → IsSketch s → IsStage s m ps (e ∷ rest)
+    → mint.level (unfolded m) e.node ≡ type_of (at (drawn s) (length m))
 tree_is s m ps e rest is st =
     let f = face_is s m ps e rest is st in
     ap (λ z. mint.level z e.node) (sym st.trees) ∙ sym (level_type (take (length m) (drawn s)) e.node e.shape f.0.1) ∙ ap type_of (sym f.1)
 
 -- a table refuses a node as too heavy, or takes it
-pub refusal_is : (s : Sketch) (m : List Node) (ps : List Shape) (e : Entry) (rest : List Entry) → IsSketch s → IsStage s m ps (e ∷ rest) → AreRegular (drawn s) → list_any is_deep (drawn s) ≡ false
-    → ((ts : List mint.Ty) → is_ranged (mint.level ts e.node) ≡ true) → refusal m e.node ≡ (if is_heavy (at (drawn s) (length m)) then Some err.Heavy else None)
+pub refusal_is : (s : Sketch) (m : List Node) (ps : List Shape) (e : Entry) (rest : List Entry) → IsSketch s → IsStage s m ps (e ∷ rest)
+    → AreRegular (drawn s) → list_any is_deep (drawn s) ≡ false → ((ts : List mint.Ty) → is_ranged (mint.level ts e.node) ≡ true)
+    → refusal m e.node ≡ (if is_heavy (at (drawn s) (length m)) then Some err.Heavy else None)
 refusal_is s m ps e rest is st regular shallow ranged =
     let k : ℕ = length m in
     let lt = within s m ps e rest is st in
@@ -120,9 +124,11 @@ pub addable : (r : Option MintErr) (b : Bool) → r ≡ (if b then Some err.Heav
 addable r true is e h = let same : Some e ≡ Some err.Heavy = sym h ∙ is in cc
 addable r false is e h = absurd cc
 
--- what a table's refusal comes to
-pub told_cause : (refused : MintErr) (e : BindErr) (r : Option MintErr) → (refused ≡ err.Heavy → e ≡ bind.Heavy) → (refused ≡ err.NoMemory → e ≡ bind.NoMemory) → ((refused ≢ err.NoMemory) → r ≡ Some refused)
-    → ((refused ≢ err.NoMemory) → refused ≡ err.Heavy) → e ≢ bind.NoMemory → (e ≡ bind.Heavy) × (r ≡ Some err.Heavy)
+-- what a table's refusal becomes
+pub told_cause : (refused : MintErr) (e : BindErr) (r : Option MintErr) → (refused ≡ err.Heavy → e ≡ bind.Heavy)
+    → (refused ≡ err.NoMemory → e ≡ bind.NoMemory) → ((refused ≢ err.NoMemory) → r ≡ Some refused)
+    → ((refused ≢ err.NoMemory) → refused ≡ err.Heavy) → e ≢ bind.NoMemory
+    → (e ≡ bind.Heavy) × (r ≡ Some err.Heavy)
 told_cause refused e r heavy memory is alone ne =
     let other : refused ≢ err.NoMemory = λ same. ne (memory same) in
     (heavy (alone other), is other ∙ ap Some (alone other))
@@ -135,10 +141,14 @@ pub was_light : (r : Option MintErr) (b : Bool) → r ≡ (if b then Some err.He
 was_light r true is h = absurd cc
 was_light r false is h = refl
 
-pub heavy_there : (s : Sketch) (m : List Node) (ps : List Shape) (e : Entry) (rest : List Entry) → IsSketch s → IsStage s m ps (e ∷ rest) → is_heavy (at (drawn s) (length m)) ≡ true → list_any is_heavy (drawn s) ≡ true
+pub heavy_there : (s : Sketch) (m : List Node) (ps : List Shape) (e : Entry) (rest : List Entry) → IsSketch s
+    → IsStage s m ps (e ∷ rest) → is_heavy (at (drawn s) (length m)) ≡ true
+    → list_any is_heavy (drawn s) ≡ true
 heavy_there s m ps e rest is st h = some_at is_heavy (drawn s) (length m) (within s m ps e rest is st).0 h
 
-pub next_stage : (s : Sketch) (m m' : List Node) (ps ps' : List Shape) (e : Entry) (rest : List Entry) → IsSketch s → IsStage s m ps (e ∷ rest) → m' ≡ m ++ e.node ∷ [] → ps' ≡ ps ++ e.shape ∷ [] → IsStage s m' ps' rest
+pub next_stage : (s : Sketch) (m m' : List Node) (ps ps' : List Shape) (e : Entry) (rest : List Entry) → IsSketch s
+    → IsStage s m ps (e ∷ rest) → m' ≡ m ++ e.node ∷ [] → ps' ≡ ps ++ e.shape ∷ []
+    → IsStage s m' ps' rest
 next_stage s m m' ps ps' e rest is st m_is ps_is =
     let count : length m' ≡ length m + 1 = ap length m_is ∙ length-append m (e.node ∷ []) in
     let count' : length ps' ≡ length ps + 1 = ap length ps_is ∙ length-append ps (e.shape ∷ []) in
@@ -154,17 +164,23 @@ next_stage s m m' ps ps' e rest is st m_is ps_is =
           ∙ sym (unfolded-push m e.node) ∙ ap unfolded (sym m_is);
     }
 
-pub light_on : (fs : List Face) (k k' : ℕ) → k' ≡ k + 1 → k < length fs → list_any is_heavy fs ≡ list_any is_heavy (drop k fs) → is_heavy (at fs k) ≡ false → list_any is_heavy fs ≡ list_any is_heavy (drop k' fs)
+pub light_on : (fs : List Face) (k k' : ℕ) → k' ≡ k + 1 → k < length fs
+    → list_any is_heavy fs ≡ list_any is_heavy (drop k fs) → is_heavy (at fs k) ≡ false
+    → list_any is_heavy fs ≡ list_any is_heavy (drop k' fs)
 light_on fs k k' next lt h light =
     let up : k' ≡ suc k = omega (arith, next) in
     h ∙ ap (list_any is_heavy) (drop-cons fs k nothing lt) ∙ (rw (light, up) refl)
 
-pub all_light : (s : Sketch) (m : List Node) (ps : List Shape) → IsSketch s → IsStage s m ps [] → list_any is_heavy (drawn s) ≡ list_any is_heavy (drop (length m) (drawn s)) → list_any is_heavy (drawn s) ≡ false
+pub all_light : (s : Sketch) (m : List Node) (ps : List Shape) → IsSketch s → IsStage s m ps []
+    → list_any is_heavy (drawn s) ≡ list_any is_heavy (drop (length m) (drawn s))
+    → list_any is_heavy (drawn s) ≡ false
 all_light s m ps is st h =
     let long : length m ≡ length s.nodes = ap length (sym (append-nil m) ∙ st.nodes) in
     h ∙ ap (list_any is_heavy) (drop_of_length-le (drawn s) (omega (arith, long, drawn-length s is)))
 
-pub first_stage : (s : Sketch) (es items : List Entry) (m : List Node) (ps : List Shape) → m ≡ [] → ps ≡ [] → items ≡ es → map (λ (e : Entry). e.node) es ≡ s.nodes → map (λ (e : Entry). e.shape) es ≡ s.shapes → IsStage s m ps items
+pub first_stage : (s : Sketch) (es items : List Entry) (m : List Node) (ps : List Shape) → m ≡ [] → ps ≡ [] → items ≡ es
+    → map (λ (e : Entry). e.node) es ≡ s.nodes → map (λ (e : Entry). e.shape) es ≡ s.shapes
+    → IsStage s m ps items
 unfolding unfolded mint.unfolded_from
 first_stage s es items m ps m_is ps_is same ns ss = record {
   nodes = rw (m_is, same) ns;

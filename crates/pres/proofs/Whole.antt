@@ -11,7 +11,8 @@ use Rattle.pres.specs.Faces.{Face}
 use Rattle.pres.specs.Made.{made_in_types, made_in_interfaces, all_made}
 use Rattle.pres.specs.Offers.{face_of, faces_of, type_faces, offers, offers_from}
 
-pub all_nodes : (u : Parts) (b : Back) (xs ks : List Face) → xs ≡ made_in_types [] (aoi.shapes u.types) → ks ≡ faces_of [] (aoi.shapes u.types)
+pub all_nodes : (u : Parts) (b : Back) (xs ks : List Face) → xs ≡ made_in_types [] (aoi.shapes u.types)
+    → ks ≡ faces_of [] (aoi.shapes u.types)
     → xs ++ made_in_interfaces ks b (map plain_interface u.interfaces) ≡ all_made (plain u) b
 unfolding all_made type_faces
 all_nodes u b xs ks a k =
@@ -25,7 +26,8 @@ types_first u b =
     let same = ap (λ z. length (made_in_types [] z)) (types_plain u.types) in
     omega (arith, same, length-append (made_in_types [] (plain_shapes (plain u))) (made_in_interfaces (type_faces (plain u)) b (plain u).interfaces))
 
-pub all_offers : (u : Parts) (b : Back) (ks : List Face) → ks ≡ faces_of [] (aoi.shapes u.types) → offers_from ks b 0 (map plain_interface u.interfaces) ≡ offers (plain u) b
+pub all_offers : (u : Parts) (b : Back) (ks : List Face) → ks ≡ faces_of [] (aoi.shapes u.types)
+    → offers_from ks b 0 (map plain_interface u.interfaces) ≡ offers (plain u) b
 unfolding type_faces
 all_offers u b ks k = ap (λ z. offers_from z b 0 (map plain_interface u.interfaces)) (k ∙ ap (faces_of []) (types_plain u.types))
 

@@ -1,4 +1,4 @@
--- Nodes that are drawn for a unit before they stand in a table.
+-- Nodes that are drawn for a unit before they are in a table.
 use Rattle.std.specs.Prelude.{IsTrue, ◌≡◌, ◌≢◌, ◌<◌, ◌≤◌, Bool, true, ◌&&◌, nat_lt, ℕ, suc, ℤ, List, [], ◌∷◌, ◌++◌, map, length, Option, None, Some}
 use Rattle.std.specs.List.{AllByRecursion}
 use Rattle.kit_base.specs.Limits.{most_nodes}
@@ -36,7 +36,7 @@ pub record IsSketch (s : Sketch) : Type 0 where
   pub few : length s.nodes ≤ most_nodes
   pub below : AllByRecursion (λ i. i < length s.nodes) s.types
 
--- a sketch with nodes behind those of another
+-- a sketch with nodes after those of another
 pub record Grows (old new : Sketch) (more : List Face) : Type 0 where
   pub nodes : drawn new ≡ drawn old ++ more
   pub types : known new ≡ known old

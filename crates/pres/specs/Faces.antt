@@ -1,4 +1,4 @@
--- Types with the names that stand in JSON: what a node and its shape unfold to.
+-- Types with the names that are in JSON: what a node and its shape unfold to.
 use Rattle.std.specs.Prelude.{ℕ, ℤ, List, [], ◌∷◌, ◌++◌, zip, Option, None, Some, slice_index_or, if◌then◌else◌, int_lt}
 use Rattle.std.specs.Ordering.{int_eq}
 use Rattle.mint.specs.declared.kind.Kind.{Kind}
@@ -125,7 +125,7 @@ level fs (node.Items i c) s = list c (at fs i)
 level fs (node.Choice t arms o) s = choice (sign_of t s) (arms_at fs arms o)
 level fs (node.Maybe i) s = maybe (at fs i)
 
--- the faces fs, and behind them those of nodes with their shapes
+-- the faces fs, and after them those of nodes with their shapes
 unfoldable pub faces_from : List Face → List (Node × Shape) → List Face
 faces_from fs [] = fs
 faces_from fs (n ∷ nodes) = faces_from (fs ++ level fs n.0 n.1 ∷ []) nodes

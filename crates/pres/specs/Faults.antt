@@ -19,7 +19,7 @@ raises op = not (length op.raises == 0)
 abbrev pub has_raises : PlainUnit → Bool
 has_raises u = list_any (λ (i : PlainInterface). list_any raises i.ops) u.interfaces
 
--- an operation raises what the messages of the back end cannot tell
+-- an operation raises what the messages of the back end cannot express
 abbrev pub is_raised_in_vain : PlainUnit → Back → Bool
 is_raised_in_vain u b = not (is_cdr b) && has_raises u
 
@@ -31,7 +31,7 @@ is_deep f = nat_lt deepest (depth (type_of f))
 abbrev pub is_heavy : Face → Bool
 is_heavy f = nat_lt heaviest_blank (weight (blank (type_of f)))
 
--- how many nodes stand in the tree
+-- how many nodes are in the tree
 abbrev mutual
   pub spread : Face → ℕ
   spread nothing = 1

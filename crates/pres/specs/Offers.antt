@@ -54,13 +54,13 @@ abbrev mutual
   parts_of fs aoi.no_more = no_parts
   parts_of fs (aoi.member n s ms) = part n (face_of fs s) (parts_of fs ms)
 
-  -- arms stand by their numbers
+  -- arms are in the order of their numbers
   pub arms_of : List Face → aoi.Arms → Arms
   arms_of fs aoi.no_default = no_other
   arms_of fs (aoi.default s) = other (face_of fs s)
   arms_of fs (aoi.arm n s arms) = put_arm n (face_of fs s) (arms_of fs arms)
 
--- the faces fs, and behind them those of types that may name them
+-- the faces fs, and after them those of types that may name them
 abbrev pub faces_of : List Face → List aoi.Shape → List Face
 faces_of fs [] = fs
 faces_of fs (s ∷ ss) = faces_of (fs ++ face_of fs s ∷ []) ss
@@ -126,7 +126,16 @@ offer fs b k op = record { interface = k; name = op.name; request = request_of f
 
 -- procedure 0, which takes nothing and answers nothing
 abbrev pub null_operation : PlainOperation
-null_operation = record { name = 48 ∷ []; proc_no = 0; slot = 0; ins = aoi.no_more; outs = aoi.no_more; result = aoi.void; raises = []; oneway = false }
+null_operation = record {
+  name = 48 ∷ [];
+  proc_no = 0;
+  slot = 0;
+  ins = aoi.no_more;
+  outs = aoi.no_more;
+  result = aoi.void;
+  raises = [];
+  oneway = false;
+}
 
 -- over Xdr an interface without procedure 0 gets one
 abbrev pub gets_null : Back → PlainInterface → Bool

@@ -24,7 +24,7 @@ size_inside ps = sized (fields_depth (types_of ps)) (spread_inside ps)
 abbrev pub size_behind : Arms → Size
 size_behind arms = sized (arms_depth (arm_types_of arms)) (spread_behind arms)
 
--- what stands side by side
+-- what is side by side
 abbrev pub beside : Size → Size → Size
 beside a b = sized (max a.depth b.depth) (a.nodes + b.nodes)
 
@@ -68,7 +68,8 @@ nodes_of sizes o = (at sizes o.request).nodes + (at sizes o.reply).nodes
 
 -- operations with too many nodes, one of them or all
 abbrev pub is_over : List Size → List Op → Bool
-is_over sizes ops = list_any (λ o. nat_lt most_operation_nodes (nodes_of sizes o)) ops || nat_lt most_unit_nodes (sum_by (nodes_of sizes) ops)
+is_over sizes ops = list_any (λ o. nat_lt most_operation_nodes (nodes_of sizes o)) ops
+    || nat_lt most_unit_nodes (sum_by (nodes_of sizes) ops)
 
 -- a unit with a long name in it, or operations with too many nodes
 abbrev pub is_too_wide : PlainUnit → List Size → List Op → Bool

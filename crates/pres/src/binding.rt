@@ -20,10 +20,11 @@ use mint::table::Mint;
 use std::alloc::Global;
 use wire_def::Back;
 
-/// Refuses operations that raise what the messages of the back end cannot tell. It takes no memory.
+/// Refuses operations that raise what the messages of the back end cannot express. It takes no memory.
 fn check_raises(unit: &Unit, back: Back) -> Result<(), BindErr>
     ensures ok { OnOk result (is_raised_in_vain (plain unit.now) back ≡ false) }
-    ensures cause { IfErr result (λ e. (e ≡ BindErr.Raises) × (is_raised_in_vain (plain unit.now) back ≡ true)) }
+    ensures cause { IfErr result
+        (λ e. (e ≡ BindErr.Raises) × (is_raised_in_vain (plain unit.now) back ≡ true)) }
 {
     if !is_cdr(back) && has_raises(unit.interfaces().as_slice()) {
         return Err(BindErr::Raises);
@@ -44,9 +45,11 @@ fn check_depth(sizes: &[Size]) -> Result<(), BindErr>
 
 /// Refuses a name that is too long, and messages that spread over too many nodes. It takes no memory.
 fn check_width(unit: &Unit, sizes: &[Size], ops: &[Op]) -> Result<(), BindErr>
-    requires { AllByRecursion (λ (o : OpRecord). (o.request < length sizes.now) × (o.reply < length sizes.now)) ops.now }
+    requires { AllByRecursion
+        (λ (o : OpRecord). (o.request < length sizes.now) × (o.reply < length sizes.now)) ops.now }
     ensures ok { OnOk result (is_too_wide (plain unit.now) sizes.now ops.now ≡ false) }
-    ensures cause { IfErr result (λ e. (e ≡ BindErr.Wide) × (is_too_wide (plain unit.now) sizes.now ops.now ≡ true)) }
+    ensures cause { IfErr result
+        (λ e. (e ≡ BindErr.Wide) × (is_too_wide (plain unit.now) sizes.now ops.now ≡ true)) }
 {
     if has_long_names(unit.interfaces().as_slice()) || is_over(sizes, ops) {
         return Err(BindErr::Wide);
@@ -57,7 +60,8 @@ fn check_width(unit: &Unit, sizes: &[Size], ops: &[Op]) -> Result<(), BindErr>
 /// The nodes, shapes and operations of a unit.
 fn draw(alloc: Global, unit: &Unit, back: Back) -> Result<(Mint, Pres, Ops), BindErr>
     requires { IsSoundPlain (plain unit.now) }
-    ensures binding { IfOk result (λ r. IsBinding (record { nodes = r.0; shapes = r.1; ops = r.2; unit = plain unit.now; back = back })) }
+    ensures binding { IfOk result (λ r. IsBinding
+        (record { nodes = r.0; shapes = r.1; ops = r.2; unit = plain unit.now; back = back })) }
     ensures nodes { IfOk result (λ r. faces r.0 r.1 ≡ all_made (plain unit.now) back) }
     ensures ok { OnOk result (bind_fault (plain unit.now) back ≡ None) }
     ensures cause { IfErr result (λ e. e ≢ BindErr.NoMemory → bind_fault (plain unit.now) back ≡ Some e) }

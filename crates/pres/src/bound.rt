@@ -41,7 +41,8 @@ impl Model for Bound {
 impl Bound {
     /// Nodes, shapes and operations that stand for a unit.
     pub(crate) fn of_parts(mint: Mint, pres: Pres, ops: Ops, unit: Unit, back: Back) -> Bound
-        requires { IsBinding (record { nodes = mint; shapes = pres; ops = ops; unit = plain unit; back = back }) }
+        requires { IsBinding
+            (record { nodes = mint; shapes = pres; ops = ops; unit = plain unit; back = back }) }
         ensures { result ≡ record { nodes = mint; shapes = pres; ops = ops; unit = plain unit; back = back } }
     {
         Bound {
@@ -96,7 +97,8 @@ impl Bound {
         ensures none { IfNone result (length self.now.nodes ≤ id) }
         ensures below { IfSome result (λ p. HasChildrenBelow id p.0.now) }
         ensures named { IfSome result (λ p. IsNamed p.0.now p.1.now) }
-        ensures is { IfSome result (λ p. face_at self.now.nodes self.now.shapes id ≡ level (faces self.now.nodes self.now.shapes) p.0.now p.1.now) }
+        ensures is { IfSome result (λ p. face_at self.now.nodes self.now.shapes id
+            ≡ level (faces self.now.nodes self.now.shapes) p.0.now p.1.now) }
         ensures type_ { type_at self.now.nodes id ≡ type_of (face_at self.now.nodes self.now.shapes id) }
     {
         let node = self.mint.node(id)?;

@@ -41,7 +41,7 @@ fn is_ranged(node: &Node)
     }
 }
 
-/// What a unit is told where a table refuses a node as too heavy, or has no memory. It takes no memory.
+/// What is reported of a unit where a table refuses a node as too heavy, or has no memory. It takes no memory.
 fn told(refused: MintErr) -> BindErr
     requires { (refused ≢ MintErr.NoMemory) → refused ≡ MintHeavy }
     ensures heavy { refused ≡ MintHeavy → result ≡ BindErr.Heavy }
@@ -59,7 +59,8 @@ fn add(mint: &mut Mint, node: Node) -> Result<(), BindErr>
     requires { (e : Refusal) → refusal mint.old node ≡ Some e → e ≡ MintHeavy }
     ensures ok { OnOk result (mint.new ≡ mint.old ++ node ∷ []) }
     ensures taken { OnOk result (refusal mint.old node ≡ None) }
-    ensures cause { IfErr result (λ e. e ≢ BindErr.NoMemory → (e ≡ BindErr.Heavy) × (refusal mint.old node ≡ Some MintHeavy)) }
+    ensures cause { IfErr result
+        (λ e. e ≢ BindErr.NoMemory → (e ≡ BindErr.Heavy) × (refusal mint.old node ≡ Some MintHeavy)) }
 {
     match mint.add(node) {
         Ok(_) => Ok(()),
@@ -76,7 +77,8 @@ impl Draft {
         ensures shapes { IfOk result (λ r. r.1 ≡ self.shapes) }
         ensures named { IfOk result (λ r. AreNamed r.0 r.1) }
         ensures light { OnOk result (list_any is_heavy (drawn self) ≡ false) }
-        ensures cause { IfErr result (λ e. e ≢ BindErr.NoMemory → (e ≡ BindErr.Heavy) × (list_any is_heavy (drawn self) ≡ true)) }
+        ensures cause { IfErr result
+            (λ e. e ≢ BindErr.NoMemory → (e ≡ BindErr.Heavy) × (list_any is_heavy (drawn self) ≡ true)) }
     {
         let mut mint = Mint::new(alloc);
         let mut pres = Pres::new(alloc);

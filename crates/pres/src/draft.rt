@@ -1,4 +1,4 @@
-// Nodes of a unit, before they stand in a table.
+// Nodes of a unit, before they are in a table.
 ghost use Rattle.std.specs.Prelude.{map, ◌≡◌, ◌<◌, ◌≤◌, [], ◌∷◌, ◌++◌, length, IfOk, IfErr, OnOk, OnErr, Some, slice_get};
 ghost use Rattle.kit_base.specs.Limits.{most_nodes};
 ghost use Rattle.mint.specs.Types.{HasChildrenBelow};
@@ -53,13 +53,14 @@ impl Draft {
         }
     }
 
-    /// Puts a node behind the others, and gives its number.
+    /// Appends a node, and gives its number.
     pub(crate) fn push(&mut self, node: Node, shape: Shape) -> Result<NodeId, BindErr>
         requires below { HasChildrenBelow (length (drawn self.old)) node }
         requires named { IsNamed node shape }
         ensures grows { OnOk result (Grows self.old self.new (level (drawn self.old) node shape ∷ [])) }
         ensures id { IfOk result (λ id. IsDrawn self.new id (level (drawn self.old) node shape)) }
-        ensures cause { IfErr result (λ e. Overflows (drawn self.old ++ level (drawn self.old) node shape ∷ []) e) }
+        ensures cause { IfErr result
+            (λ e. Overflows (drawn self.old ++ level (drawn self.old) node shape ∷ []) e) }
         ensures memory { IfErr result (λ e. e ≡ BindErr.NoMemory → length (drawn self.old) < most_nodes) }
     {
         let id = self.len();
@@ -75,7 +76,8 @@ impl Draft {
         requires below { HasChildrenBelow (length (drawn self.old)) node }
         requires named { IsNamed node shape }
         ensures grows { OnOk result (Grows self.old self.new (level (drawn self.old) node shape ∷ [])) }
-        ensures id { OnOk result (IsDrawn self.new (length (drawn self.old)) (level (drawn self.old) node shape)) }
+        ensures id { OnOk result
+            (IsDrawn self.new (length (drawn self.old)) (level (drawn self.old) node shape)) }
     {
         self.entries.push(Entry { node, shape })?;
         Ok(())

@@ -20,13 +20,14 @@ use mint::table::NodeId;
 use std::alloc::Global;
 
 impl Draft {
-    /// Draws the nodes of a type behind the others, and gives its own.
+    /// Draws the nodes of a type after the others, and gives its own.
     #[cycle(draw)]
     pub(crate) fn draw(&mut self, alloc: Global, ty: &Ty) -> Result<NodeId, BindErr>
         requires { IsTrue (is_drawable (length (known self.old)) (seen ty.now)) }
         ensures grows { OnOk result (Grows self.old self.new (made (known self.old) (seen ty.now))) }
         ensures id { IfOk result (λ id. IsDrawn self.new id (face_of (known self.old) (seen ty.now))) }
-        ensures cause { IfErr result (λ e. Overflows (drawn self.old ++ made (known self.old) (seen ty.now)) e) }
+        ensures cause { IfErr result
+            (λ e. Overflows (drawn self.old ++ made (known self.old) (seen ty.now)) e) }
     {
         match ty {
             Ty::Void => self.push(Node::Void, Shape::Plain),
@@ -47,9 +48,12 @@ impl Draft {
 
     fn draw_enum(&mut self, alloc: Global, items: &Items) -> Result<NodeId, BindErr>
         requires { IsTrue (is_drawable (length (known self.old)) (enumeration items.now)) }
-        ensures grows { OnOk result (Grows self.old self.new (made (known self.old) (enumeration items.now))) }
-        ensures id { IfOk result (λ id. IsDrawn self.new id (face_of (known self.old) (enumeration items.now))) }
-        ensures cause { IfErr result (λ e. Overflows (drawn self.old ++ made (known self.old) (enumeration items.now)) e) }
+        ensures grows { OnOk result
+            (Grows self.old self.new (made (known self.old) (enumeration items.now))) }
+        ensures id { IfOk result
+            (λ id. IsDrawn self.new id (face_of (known self.old) (enumeration items.now))) }
+        ensures cause { IfErr result
+            (λ e. Overflows (drawn self.old ++ made (known self.old) (enumeration items.now)) e) }
     {
         let labels = labels_of(alloc, items)?;
         let names = copy_items(alloc, items)?;
@@ -59,9 +63,12 @@ impl Draft {
     #[cycle(draw)]
     fn draw_array(&mut self, alloc: Global, item: &Ty, count: Count) -> Result<NodeId, BindErr>
         requires { IsTrue (is_drawable (length (known self.old)) (array (seen item.now) count)) }
-        ensures grows { OnOk result (Grows self.old self.new (made (known self.old) (array (seen item.now) count))) }
-        ensures id { IfOk result (λ id. IsDrawn self.new id (face_of (known self.old) (array (seen item.now) count))) }
-        ensures cause { IfErr result (λ e. Overflows (drawn self.old ++ made (known self.old) (array (seen item.now) count)) e) }
+        ensures grows { OnOk result
+            (Grows self.old self.new (made (known self.old) (array (seen item.now) count))) }
+        ensures id { IfOk result
+            (λ id. IsDrawn self.new id (face_of (known self.old) (array (seen item.now) count))) }
+        ensures cause { IfErr result
+            (λ e. Overflows (drawn self.old ++ made (known self.old) (array (seen item.now) count)) e) }
     {
         match self.packed(item) {
             Some(kind) => self.push(Node::Row(kind, count), Shape::Plain),
@@ -75,9 +82,12 @@ impl Draft {
     #[cycle(draw)]
     fn draw_optional(&mut self, alloc: Global, item: &Ty) -> Result<NodeId, BindErr>
         requires { IsTrue (is_drawable (length (known self.old)) (optional (seen item.now))) }
-        ensures grows { OnOk result (Grows self.old self.new (made (known self.old) (optional (seen item.now)))) }
-        ensures id { IfOk result (λ id. IsDrawn self.new id (face_of (known self.old) (optional (seen item.now)))) }
-        ensures cause { IfErr result (λ e. Overflows (drawn self.old ++ made (known self.old) (optional (seen item.now))) e) }
+        ensures grows { OnOk result
+            (Grows self.old self.new (made (known self.old) (optional (seen item.now)))) }
+        ensures id { IfOk result
+            (λ id. IsDrawn self.new id (face_of (known self.old) (optional (seen item.now)))) }
+        ensures cause { IfErr result
+            (λ e. Overflows (drawn self.old ++ made (known self.old) (optional (seen item.now))) e) }
     {
         let id = self.draw(alloc, item)?;
         self.push(Node::Maybe(id), Shape::Plain)
@@ -86,9 +96,12 @@ impl Draft {
     #[cycle(draw)]
     pub(crate) fn draw_struct(&mut self, alloc: Global, fields: &[Field]) -> Result<NodeId, BindErr>
         requires { IsTrue (is_drawable (length (known self.old)) (structure (members fields.now))) }
-        ensures grows { OnOk result (Grows self.old self.new (made (known self.old) (structure (members fields.now)))) }
-        ensures id { IfOk result (λ id. IsDrawn self.new id (face_of (known self.old) (structure (members fields.now)))) }
-        ensures cause { IfErr result (λ e. Overflows (drawn self.old ++ made (known self.old) (structure (members fields.now))) e) }
+        ensures grows { OnOk result
+            (Grows self.old self.new (made (known self.old) (structure (members fields.now)))) }
+        ensures id { IfOk result
+            (λ id. IsDrawn self.new id (face_of (known self.old) (structure (members fields.now)))) }
+        ensures cause { IfErr result
+            (λ e. Overflows (drawn self.old ++ made (known self.old) (structure (members fields.now))) e) }
     {
         let ids = self.draw_fields(alloc, fields)?;
         let names = field_names(alloc, fields)?;
@@ -103,9 +116,12 @@ impl Draft {
         fields: &[Field],
     ) -> Result<NodeIds, BindErr>
         requires { IsTrue (are_drawable (length (known self.old)) (members fields.now)) }
-        ensures grows { OnOk result (Grows self.old self.new (made_inside (known self.old) (members fields.now))) }
-        ensures ids { IfOk result (λ ids. AreDrawn self.new ids (faces_inside (known self.old) (members fields.now))) }
-        ensures cause { IfErr result (λ e. Overflows (drawn self.old ++ made_inside (known self.old) (members fields.now)) e) }
+        ensures grows { OnOk result
+            (Grows self.old self.new (made_inside (known self.old) (members fields.now))) }
+        ensures ids { IfOk result
+            (λ ids. AreDrawn self.new ids (faces_inside (known self.old) (members fields.now))) }
+        ensures cause { IfErr result
+            (λ e. Overflows (drawn self.old ++ made_inside (known self.old) (members fields.now)) e) }
     {
         let mut ids = NodeIds::new(alloc);
         for field in fields {
@@ -125,9 +141,13 @@ impl Draft {
         requires tag { IsTrue (is_drawable (length (known self.old)) (seen tag.now)) }
         requires arms { ArmsBelow (length (drawn self.old)) arms }
         requires other { IsBelow (length (drawn self.old)) other }
-        ensures grows { OnOk result (Grows self.old self.new (choice (sign_in (face_of (known self.old) (seen tag.now))) (arms_at (drawn self.old) arms other) ∷ [])) }
-        ensures id { IfOk result (λ id. IsDrawn self.new id (choice (sign_in (face_of (known self.old) (seen tag.now))) (arms_at (drawn self.old) arms other))) }
-        ensures cause { IfErr result (λ e. Overflows (drawn self.old ++ choice (sign_in (face_of (known self.old) (seen tag.now))) (arms_at (drawn self.old) arms other) ∷ []) e) }
+        ensures grows { OnOk result (Grows self.old self.new (choice
+            (sign_in (face_of (known self.old) (seen tag.now))) (arms_at (drawn self.old) arms other) ∷ [])) }
+        ensures id { IfOk result (λ id. IsDrawn self.new id (choice
+            (sign_in (face_of (known self.old) (seen tag.now))) (arms_at (drawn self.old) arms other))) }
+        ensures cause { IfErr result (λ e. Overflows
+            (drawn self.old ++ choice (sign_in (face_of (known self.old) (seen tag.now)))
+            (arms_at (drawn self.old) arms other) ∷ []) e) }
     {
         let (tag, shape) = self.tag(alloc, tag)?;
         self.push(Node::Choice(tag, arms, other), shape)
@@ -137,9 +157,12 @@ impl Draft {
     #[cycle(draw)]
     fn draw_arms(&mut self, alloc: Global, arms: &[(i128, Ty)]) -> Result<Arms, BindErr>
         requires { IsTrue (arms_drawable (length (known self.old)) (arms_seen arms.now None)) }
-        ensures grows { OnOk result (Grows self.old self.new (made_behind (known self.old) (arms_seen arms.now None))) }
-        ensures arms { IfOk result (λ r. AreArms self.new r None (arms_of (known self.old) (arms_seen arms.now None))) }
-        ensures cause { IfErr result (λ e. Overflows (drawn self.old ++ made_behind (known self.old) (arms_seen arms.now None)) e) }
+        ensures grows { OnOk result
+            (Grows self.old self.new (made_behind (known self.old) (arms_seen arms.now None))) }
+        ensures arms { IfOk result
+            (λ r. AreArms self.new r None (arms_of (known self.old) (arms_seen arms.now None))) }
+        ensures cause { IfErr result
+            (λ e. Overflows (drawn self.old ++ made_behind (known self.old) (arms_seen arms.now None)) e) }
     {
         let mut sorted = Vec::new(alloc);
         for i in 0..arms.len() {
@@ -159,10 +182,14 @@ impl Draft {
         alloc: Global,
         other: &Option<Box<Ty>>,
     ) -> Result<Option<NodeId>, BindErr>
-        requires { IsTrue (arms_drawable (length (known self.old)) (default_of (option_map (λ b. seen b.value) other.now))) }
-        ensures grows { OnOk result (Grows self.old self.new (made_behind (known self.old) (default_of (option_map (λ b. seen b.value) other.now)))) }
-        ensures other { IfOk result (λ o. AreArms self.new [] o (arms_of (known self.old) (default_of (option_map (λ b. seen b.value) other.now)))) }
-        ensures cause { IfErr result (λ e. Overflows (drawn self.old ++ made_behind (known self.old) (default_of (option_map (λ b. seen b.value) other.now))) e) }
+        requires { IsTrue (arms_drawable (length (known self.old))
+            (default_of (option_map (λ b. seen b.value) other.now))) }
+        ensures grows { OnOk result (Grows self.old self.new
+            (made_behind (known self.old) (default_of (option_map (λ b. seen b.value) other.now)))) }
+        ensures other { IfOk result (λ o. AreArms self.new [] o
+            (arms_of (known self.old) (default_of (option_map (λ b. seen b.value) other.now)))) }
+        ensures cause { IfErr result (λ e. Overflows (drawn self.old
+            ++ made_behind (known self.old) (default_of (option_map (λ b. seen b.value) other.now))) e) }
     {
         match other {
             Some(ty) => Ok(Some(self.draw(alloc, ty)?)),

@@ -8,7 +8,7 @@ use thiserror::Error;
 /// A refusal of [`crate::bind`].
 #[derive(Clone, Copy, Debug, PartialEq, Eq, Error)]
 pub enum BindErr {
-    /// An operation raises exceptions, which the messages of the back end cannot tell.
+    /// An operation raises exceptions, which the messages of the back end cannot express.
     #[error("Raises")]
     Raises,
     /// More than 65,536 nodes.

@@ -27,7 +27,8 @@ fn is_raise_in(ops: &[Operation]) -> bool
 
 /// Whether an operation raises exceptions.
 pub(crate) fn has_raises(interfaces: &[Interface]) -> bool
-    ensures { result ≡ list_any (λ (i : PlainInterface). list_any raises i.ops) (map plain_interface interfaces.now) }
+    ensures { result
+        ≡ list_any (λ (i : PlainInterface). list_any raises i.ops) (map plain_interface interfaces.now) }
 {
     for i in interfaces {
         if is_raise_in(i.ops.as_slice()) {
@@ -103,7 +104,8 @@ pub(crate) fn is_deep(sizes: &[Size]) -> bool
 
 /// Whether the messages of an operation, or of all, spread over too many nodes.
 pub(crate) fn is_over(sizes: &[Size], ops: &[Op]) -> bool
-    requires { AllByRecursion (λ (o : OpRecord). (o.request < length sizes.now) × (o.reply < length sizes.now)) ops.now }
+    requires { AllByRecursion
+        (λ (o : OpRecord). (o.request < length sizes.now) × (o.reply < length sizes.now)) ops.now }
     ensures { result ≡ is_over sizes.now ops.now }
 {
     let mut total: u64 = 0;

@@ -80,9 +80,12 @@ impl Draft {
     /// Draws what goes in.
     fn draw_request(&mut self, alloc: Global, op: &Operation) -> Result<NodeId, BindErr>
         requires { IsTrue (are_drawable (length (known self.old)) (members op.now.ins)) }
-        ensures grows { OnOk result (Grows self.old self.new (made_request (known self.old) (plain_operation op.now))) }
-        ensures id { IfOk result (λ id. IsDrawn self.new id (request_of (known self.old) (plain_operation op.now))) }
-        ensures cause { IfErr result (λ e. Overflows (drawn self.old ++ made_request (known self.old) (plain_operation op.now)) e) }
+        ensures grows { OnOk result
+            (Grows self.old self.new (made_request (known self.old) (plain_operation op.now))) }
+        ensures id { IfOk result
+            (λ id. IsDrawn self.new id (request_of (known self.old) (plain_operation op.now))) }
+        ensures cause { IfErr result
+            (λ e. Overflows (drawn self.old ++ made_request (known self.old) (plain_operation op.now)) e) }
     {
         let ids = self.draw_fields(alloc, op.ins.as_slice())?;
         self.push(Node::Group(ids), Shape::Plain)
@@ -91,9 +94,12 @@ impl Draft {
     /// Draws the result, and the parameters out.
     fn draw_answer(&mut self, alloc: Global, op: &Operation) -> Result<NodeId, BindErr>
         requires { IsDrawableOperation (length (known self.old)) (plain_operation op.now) }
-        ensures grows { OnOk result (Grows self.old self.new (made_answer (known self.old) (plain_operation op.now))) }
-        ensures id { IfOk result (λ id. IsDrawn self.new id (answer_of (known self.old) (plain_operation op.now))) }
-        ensures cause { IfErr result (λ e. Overflows (drawn self.old ++ made_answer (known self.old) (plain_operation op.now)) e) }
+        ensures grows { OnOk result
+            (Grows self.old self.new (made_answer (known self.old) (plain_operation op.now))) }
+        ensures id { IfOk result
+            (λ id. IsDrawn self.new id (answer_of (known self.old) (plain_operation op.now))) }
+        ensures cause { IfErr result
+            (λ e. Overflows (drawn self.old ++ made_answer (known self.old) (plain_operation op.now)) e) }
     {
         let id = self.draw(alloc, &op.result)?;
         let outs = self.draw_fields(alloc, op.outs.as_slice())?;
@@ -111,10 +117,14 @@ impl Draft {
         raises: &[Raise],
     ) -> Result<Arms, BindErr>
         requires answer { answer < length (drawn self.old) }
-        requires raises { AllByRecursion (λ r. IsTrue (is_drawable (length (known self.old)) (exception r))) (map plain_raise raises.now) }
-        ensures grows { OnOk result (Grows self.old self.new (made_raised (known self.old) (map plain_raise raises.now))) }
-        ensures arms { IfOk result (λ arms. AreArms self.new arms None (arm (pos 0) (at (drawn self.old) answer) (raised (known self.old) 1 (map plain_raise raises.now)))) }
-        ensures cause { IfErr result (λ e. Overflows (drawn self.old ++ made_raised (known self.old) (map plain_raise raises.now)) e) }
+        requires raises { AllByRecursion (λ r. IsTrue (is_drawable (length (known self.old)) (exception r)))
+            (map plain_raise raises.now) }
+        ensures grows { OnOk result
+            (Grows self.old self.new (made_raised (known self.old) (map plain_raise raises.now))) }
+        ensures arms { IfOk result (λ arms. AreArms self.new arms None (arm (pos 0)
+            (at (drawn self.old) answer) (raised (known self.old) 1 (map plain_raise raises.now)))) }
+        ensures cause { IfErr result
+            (λ e. Overflows (drawn self.old ++ made_raised (known self.old) (map plain_raise raises.now)) e) }
     {
         let mut arms = Arms::new(alloc);
         arms.push((0, answer))?;
@@ -128,9 +138,12 @@ impl Draft {
     /// Draws what comes back.
     fn draw_reply(&mut self, alloc: Global, op: &Operation) -> Result<NodeId, BindErr>
         requires { IsDrawableOperation (length (known self.old)) (plain_operation op.now) }
-        ensures grows { OnOk result (Grows self.old self.new (made_reply (known self.old) (plain_operation op.now))) }
-        ensures id { IfOk result (λ id. IsDrawn self.new id (reply_of (known self.old) (plain_operation op.now))) }
-        ensures cause { IfErr result (λ e. Overflows (drawn self.old ++ made_reply (known self.old) (plain_operation op.now)) e) }
+        ensures grows { OnOk result
+            (Grows self.old self.new (made_reply (known self.old) (plain_operation op.now))) }
+        ensures id { IfOk result
+            (λ id. IsDrawn self.new id (reply_of (known self.old) (plain_operation op.now))) }
+        ensures cause { IfErr result
+            (λ e. Overflows (drawn self.old ++ made_reply (known self.old) (plain_operation op.now)) e) }
     {
         let answer = self.draw_answer(alloc, op)?;
         let arms = self.draw_raises(alloc, answer, op.raises.as_slice())?;
@@ -146,9 +159,14 @@ impl Draft {
         op: &Operation,
     ) -> Result<Op, BindErr>
         requires { IsDrawableOperation (length (known self.old)) (plain_operation op.now) }
-        ensures grows { OnOk result (Grows self.old self.new (made_request (known self.old) (plain_operation op.now) ++ made_reply (known self.old) (plain_operation op.now))) }
-        ensures op { IfOk result (λ o. IsOffered self.new o (offer (known self.old) back k (plain_operation op.now))) }
-        ensures cause { IfErr result (λ e. Overflows (drawn self.old ++ (made_request (known self.old) (plain_operation op.now) ++ made_reply (known self.old) (plain_operation op.now))) e) }
+        ensures grows { OnOk result
+            (Grows self.old self.new (made_request (known self.old) (plain_operation op.now)
+            ++ made_reply (known self.old) (plain_operation op.now))) }
+        ensures op { IfOk result
+            (λ o. IsOffered self.new o (offer (known self.old) back k (plain_operation op.now))) }
+        ensures cause { IfErr result (λ e. Overflows
+            (drawn self.old ++ (made_request (known self.old) (plain_operation op.now)
+            ++ made_reply (known self.old) (plain_operation op.now))) e) }
     {
         let name = copy_name(alloc, &op.name)?;
         let request = self.draw_request(alloc, op)?;
@@ -172,11 +190,15 @@ impl Draft {
         ops: &[Operation],
         list: &mut Ops,
     ) -> Result<(), BindErr>
-        requires ops { AllByRecursion (IsDrawableOperation (length (known self.old))) (map plain_operation ops.now) }
+        requires ops { AllByRecursion (IsDrawableOperation (length (known self.old)))
+            (map plain_operation ops.now) }
         requires offered { AreOffered self.old list.old (map (offer_at (drawn self.old)) list.old) }
-        ensures grows { OnOk result (Grows self.old self.new (made_by (known self.old) (map plain_operation ops.now))) }
-        ensures offers { OnOk result (AreOffered self.new list.new (map (offer_at (drawn self.old)) list.old ++ map (offer (known self.old) back k) (map plain_operation ops.now))) }
-        ensures cause { IfErr result (λ e. Overflows (drawn self.old ++ made_by (known self.old) (map plain_operation ops.now)) e) }
+        ensures grows { OnOk result
+            (Grows self.old self.new (made_by (known self.old) (map plain_operation ops.now))) }
+        ensures offers { OnOk result (AreOffered self.new list.new (map (offer_at (drawn self.old)) list.old
+            ++ map (offer (known self.old) back k) (map plain_operation ops.now))) }
+        ensures cause { IfErr result
+            (λ e. Overflows (drawn self.old ++ made_by (known self.old) (map plain_operation ops.now)) e) }
     {
         for op in ops {
             let op = self.draw_operation(alloc, back, k, op)?;

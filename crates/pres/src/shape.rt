@@ -1,4 +1,4 @@
-// What names a node has besides what its type tells.
+// What names a node has besides what its type says.
 use aoi::Items;
 use kit_base::{Listed, Words};
 

@@ -41,7 +41,7 @@ impl Size {
         Size { depth: 1, nodes: 1 }
     }
 
-    /// Of what stands side by side.
+    /// Of what is side by side.
     fn beside(self, other: Size) -> Size
         ensures { result ≡ beside self other }
     {

@@ -26,9 +26,12 @@ impl Draft {
         list: &mut Ops,
     ) -> Result<(), BindErr>
         requires { AreOffered self.old list.old (map (offer_at (drawn self.old)) list.old) }
-        ensures grows { OnOk result (Grows self.old self.new (made_by (known self.old) (gotten back (plain_interface i.now)))) }
-        ensures offers { OnOk result (AreOffered self.new list.new (map (offer_at (drawn self.old)) list.old ++ map (offer (known self.old) back k) (gotten back (plain_interface i.now)))) }
-        ensures cause { IfErr result (λ e. Overflows (drawn self.old ++ made_by (known self.old) (gotten back (plain_interface i.now))) e) }
+        ensures grows { OnOk result
+            (Grows self.old self.new (made_by (known self.old) (gotten back (plain_interface i.now)))) }
+        ensures offers { OnOk result (AreOffered self.new list.new (map (offer_at (drawn self.old)) list.old
+            ++ map (offer (known self.old) back k) (gotten back (plain_interface i.now)))) }
+        ensures cause { IfErr result (λ e. Overflows
+            (drawn self.old ++ made_by (known self.old) (gotten back (plain_interface i.now))) e) }
     {
         if !gets_null(back, i) {
             return Ok(());
@@ -50,9 +53,14 @@ impl Draft {
     ) -> Result<(), BindErr>
         requires ops { IsDrawableInterface (length (known self.old)) (plain_interface i.now) }
         requires offered { AreOffered self.old list.old (map (offer_at (drawn self.old)) list.old) }
-        ensures grows { OnOk result (Grows self.old self.new (made_by (known self.old) (plain_interface i.now).ops ++ made_by (known self.old) (gotten back (plain_interface i.now)))) }
-        ensures offers { OnOk result (AreOffered self.new list.new (map (offer_at (drawn self.old)) list.old ++ map (offer (known self.old) back k) (operations back (plain_interface i.now)))) }
-        ensures cause { IfErr result (λ e. Overflows (drawn self.old ++ (made_by (known self.old) (plain_interface i.now).ops ++ made_by (known self.old) (gotten back (plain_interface i.now)))) e) }
+        ensures grows { OnOk result
+            (Grows self.old self.new (made_by (known self.old) (plain_interface i.now).ops
+            ++ made_by (known self.old) (gotten back (plain_interface i.now)))) }
+        ensures offers { OnOk result (AreOffered self.new list.new (map (offer_at (drawn self.old)) list.old
+            ++ map (offer (known self.old) back k) (operations back (plain_interface i.now)))) }
+        ensures cause { IfErr result (λ e. Overflows
+            (drawn self.old ++ (made_by (known self.old) (plain_interface i.now).ops
+            ++ made_by (known self.old) (gotten back (plain_interface i.now)))) e) }
     {
         self.draw_operations(alloc, back, k, i.ops.as_slice(), list)?;
         self.draw_gotten(alloc, back, k, i, list)?;
@@ -67,10 +75,14 @@ impl Draft {
         interfaces: &[Interface],
     ) -> Result<Ops, BindErr>
         requires few { length interfaces.now ≤ 64 }
-        requires interfaces { AllByRecursion (IsDrawableInterface (length (known self.old))) (map plain_interface interfaces.now) }
-        ensures grows { OnOk result (Grows self.old self.new (made_in_interfaces (known self.old) back (map plain_interface interfaces.now))) }
-        ensures offers { IfOk result (λ list. AreOffered self.new list (offers_from (known self.old) back 0 (map plain_interface interfaces.now))) }
-        ensures cause { IfErr result (λ e. Overflows (drawn self.old ++ made_in_interfaces (known self.old) back (map plain_interface interfaces.now)) e) }
+        requires interfaces { AllByRecursion (IsDrawableInterface (length (known self.old)))
+            (map plain_interface interfaces.now) }
+        ensures grows { OnOk result (Grows self.old self.new
+            (made_in_interfaces (known self.old) back (map plain_interface interfaces.now))) }
+        ensures offers { IfOk result (λ list. AreOffered self.new list
+            (offers_from (known self.old) back 0 (map plain_interface interfaces.now))) }
+        ensures cause { IfErr result (λ e. Overflows (drawn self.old
+            ++ made_in_interfaces (known self.old) back (map plain_interface interfaces.now)) e) }
     {
         let mut list = Ops::new(alloc);
         for (k, i) in interfaces.iter().enumerate() {

@@ -6,4 +6,5 @@ use Rattle.pres.proofs.faults.has_raises.Given as goal
 
 -- none so far
 abbrev pub invariant-loop-i : goal.invariant-loop-i
-invariant-loop-i l = list_any (λ (i : PlainInterface). list_any raises i.ops) (map plain_interface l.interfaces) ≡ list_any (λ (i : PlainInterface). list_any raises i.ops) (map plain_interface (drop l.i-index l.interfaces))
+invariant-loop-i l = list_any (λ (i : PlainInterface). list_any raises i.ops) (map plain_interface l.interfaces)
+    ≡ list_any (λ (i : PlainInterface). list_any raises i.ops) (map plain_interface (drop l.i-index l.interfaces))

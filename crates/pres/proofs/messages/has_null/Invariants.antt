@@ -5,4 +5,5 @@ use Rattle.pres.proofs.messages.has_null.Given as goal
 
 -- none so far
 abbrev pub invariant-loop-op : goal.invariant-loop-op
-invariant-loop-op l = list_any (λ (op : PlainOperation). op.proc_no == 0) (map plain_operation l.ops) ≡ list_any (λ (op : PlainOperation). op.proc_no == 0) (map plain_operation (drop l.op-index l.ops))
+invariant-loop-op l = list_any (λ (op : PlainOperation). op.proc_no == 0) (map plain_operation l.ops)
+    ≡ list_any (λ (op : PlainOperation). op.proc_no == 0) (map plain_operation (drop l.op-index l.ops))

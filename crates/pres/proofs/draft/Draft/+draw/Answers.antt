@@ -116,8 +116,10 @@ draw-returns-in_err-arms-in-Union-clause-cause t c =
     (rw seen_is (next_overflows _ _ _ _ last _ e (made_split fs o arms _) g.nodes (rw (g.types, c.as_slice-in-Union.ensures) at c.in_err-arms-in-Union.ensures.cause)))
 
 choice_is : (t : ℕ) (c : goal.draw-After-draw_choice t)
-    → choice (sign_in (face_of (known c.draw_arms.new.self) (aoi.seen c.deref-in-Union.result.now))) (arms_at (drawn c.draw_arms.new.self) c.in_ok-arms-in-Union.arms c.in_ok-other-in-Union.other)
-    ≡ face_of (known c.args.self.now) (aoi.choice (aoi.seen c.in-Union.tag.value) (aoi.arms_seen c.in-Union.arms (option_map (λ b. aoi.seen b.value) c.in-Union.other)))
+    → choice (sign_in (face_of (known c.draw_arms.new.self) (aoi.seen c.deref-in-Union.result.now)))
+    (arms_at (drawn c.draw_arms.new.self) c.in_ok-arms-in-Union.arms c.in_ok-other-in-Union.other)
+    ≡ face_of (known c.args.self.now) (aoi.choice (aoi.seen c.in-Union.tag.value)
+    (aoi.arms_seen c.in-Union.arms (option_map (λ b. aoi.seen b.value) c.in-Union.other)))
 choice_is t c =
     let fs = known c.args.self.now in
     let o = option_map (λ b. aoi.seen b.value) c.in-Union.other in

@@ -11,9 +11,11 @@ use Rattle.pres.proofs.draft.Draft.+draw.Given as goal
 abbrev pub invariant-draw_fields-loop-field : goal.invariant-draw_fields-loop-field
 invariant-draw_fields-loop-field l = record {
   same : known l.self ≡ known l.fn.self;
-  nodes : drawn l.self ++ made_inside (known l.fn.self) (members (drop l.field-index l.fields)) ≡ drawn l.fn.self ++ made_inside (known l.fn.self) (members l.fields);
+  nodes : drawn l.self ++ made_inside (known l.fn.self) (members (drop l.field-index l.fields))
+      ≡ drawn l.fn.self ++ made_inside (known l.fn.self) (members l.fields);
   below : AllByRecursion (λ i. i < length (drawn l.self)) l.ids;
-  ids : map (at (drawn l.self)) l.ids ++ faces_inside (known l.fn.self) (members (drop l.field-index l.fields)) ≡ faces_inside (known l.fn.self) (members l.fields);
+  ids : map (at (drawn l.self)) l.ids ++ faces_inside (known l.fn.self) (members (drop l.field-index l.fields))
+      ≡ faces_inside (known l.fn.self) (members l.fields);
   left : IsTrue (are_drawable (length (known l.fn.self)) (members (drop l.field-index l.fields)));
 }
 

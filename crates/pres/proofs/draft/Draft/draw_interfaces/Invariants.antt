@@ -11,7 +11,9 @@ use Rattle.pres.proofs.draft.Draft.draw_interfaces.Given as goal
 abbrev pub invariant-loop-k : goal.invariant-loop-k
 invariant-loop-k l = record {
   same : known l.self ≡ known l.fn.self;
-  nodes : drawn l.self ++ made_in_interfaces (known l.fn.self) l.back (map plain_interface (drop l.k l.interfaces)) ≡ drawn l.fn.self ++ made_in_interfaces (known l.fn.self) l.back (map plain_interface l.interfaces);
-  listed : AreListed l.self l.list (offers_from (known l.fn.self) l.back l.k (map plain_interface (drop l.k l.interfaces))) (offers_from (known l.fn.self) l.back 0 (map plain_interface l.interfaces));
+  nodes : drawn l.self ++ made_in_interfaces (known l.fn.self) l.back (map plain_interface (drop l.k l.interfaces))
+      ≡ drawn l.fn.self ++ made_in_interfaces (known l.fn.self) l.back (map plain_interface l.interfaces);
+  listed : AreListed l.self l.list (offers_from (known l.fn.self) l.back l.k (map plain_interface (drop l.k l.interfaces)))
+      (offers_from (known l.fn.self) l.back 0 (map plain_interface l.interfaces));
   left : AllByRecursion (IsDrawableInterface (length (known l.fn.self))) (map plain_interface (drop l.k l.interfaces));
 }

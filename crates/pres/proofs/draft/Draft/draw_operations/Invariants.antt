@@ -11,7 +11,9 @@ use Rattle.pres.proofs.draft.Draft.draw_operations.Given as goal
 abbrev pub invariant-loop-op : goal.invariant-loop-op
 invariant-loop-op l = record {
   same : known l.self ≡ known l.fn.self;
-  nodes : drawn l.self ++ made_by (known l.fn.self) (map plain_operation (drop l.op-index l.ops)) ≡ drawn l.fn.self ++ made_by (known l.fn.self) (map plain_operation l.ops);
-  listed : AreListed l.self l.list (map (offer (known l.fn.self) l.back l.k) (map plain_operation (drop l.op-index l.ops))) (map (offer_at (drawn l.fn.self)) l.fn.list ++ map (offer (known l.fn.self) l.back l.k) (map plain_operation l.ops));
+  nodes : drawn l.self ++ made_by (known l.fn.self) (map plain_operation (drop l.op-index l.ops))
+      ≡ drawn l.fn.self ++ made_by (known l.fn.self) (map plain_operation l.ops);
+  listed : AreListed l.self l.list (map (offer (known l.fn.self) l.back l.k) (map plain_operation (drop l.op-index l.ops)))
+      (map (offer_at (drawn l.fn.self)) l.fn.list ++ map (offer (known l.fn.self) l.back l.k) (map plain_operation l.ops));
   left : AllByRecursion (IsDrawableOperation (length (known l.fn.self))) (map plain_operation (drop l.op-index l.ops));
 }

@@ -12,7 +12,9 @@ use Rattle.pres.proofs.draft.Draft.draw_raises.Given as goal
 abbrev pub invariant-loop-k : goal.invariant-loop-k
 invariant-loop-k l = record {
   same : known l.self ≡ known l.fn.self;
-  nodes : drawn l.self ++ made_raised (known l.fn.self) (map plain_raise (drop l.k l.raises)) ≡ drawn l.fn.self ++ made_raised (known l.fn.self) (map plain_raise l.raises);
-  arms : AreSoFar l.self l.arms (raised (known l.fn.self) (1 + l.k) (map plain_raise (drop l.k l.raises))) (arm (pos 0) (at (drawn l.fn.self) l.answer) (raised (known l.fn.self) 1 (map plain_raise l.raises)));
+  nodes : drawn l.self ++ made_raised (known l.fn.self) (map plain_raise (drop l.k l.raises))
+      ≡ drawn l.fn.self ++ made_raised (known l.fn.self) (map plain_raise l.raises);
+  arms : AreSoFar l.self l.arms (raised (known l.fn.self) (1 + l.k) (map plain_raise (drop l.k l.raises)))
+      (arm (pos 0) (at (drawn l.fn.self) l.answer) (raised (known l.fn.self) 1 (map plain_raise l.raises)));
   left : AllByRecursion (λ r. IsTrue (is_drawable (length (known l.fn.self)) (exception r))) (map plain_raise (drop l.k l.raises));
 }
