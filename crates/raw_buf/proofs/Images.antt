@@ -22,7 +22,8 @@ pub image_whole : (k : Kind) (ns : List ℤ) → length (image_of k ns) % width 
 image_whole k ns = ap (λ (l : ℕ). l % width k) (image_many k ns) ∙ mul-mod_left (length ns) (width k)
 
 -- an image in the other order is each number in the other order
-pub image_swapped : (k : Kind) (n : ℤ) (ns : List ℤ) → IsSwapWidth (width k) → swapped (width k) (image_of k (n ∷ ns)) ≡ reverse (octets_of k n) ++ swapped (width k) (image_of k ns)
+pub image_swapped : (k : Kind) (n : ℤ) (ns : List ℤ) → IsSwapWidth (width k)
+    → swapped (width k) (image_of k (n ∷ ns)) ≡ reverse (octets_of k n) ++ swapped (width k) (image_of k ns)
 image_swapped k n ns is = swapped-first (width k) (octets_of k n) (image_of k ns) (swaps_some (width k) is) (octets_many k n)
 
 -- ---- a space that begins with an image in the other order
@@ -108,7 +109,8 @@ zero_start w is = at_width (λ (n : ℕ). 0 % n ≡ 0) refl refl refl w is
 pub turned_start : (k : Kind) (image : List ℕ) → IsSwapWidth (width k) → row_of k [] ≡ turned_to k 0 image
 turned_start k image is = ap (row_of k) (sym (ap (numbers_of k) (swapped-none (width k) is) ∙ numbers-none k))
 
-pub turned_end : (k : Kind) (at : ℕ) (image : List ℕ) (r : Numbers) → r ≡ turned_to k at image → length image ≤ at → r ≡ row_of k (numbers_of k (swapped (width k) image))
+pub turned_end : (k : Kind) (at : ℕ) (image : List ℕ) (r : Numbers) → r ≡ turned_to k at image → length image ≤ at
+    → r ≡ row_of k (numbers_of k (swapped (width k) image))
 turned_end k at image r so past = so ∙ ap (λ (o : List ℕ). row_of k (numbers_of k (swapped (width k) o))) (take_all at image past)
 
 -- how many octets the next block has
@@ -116,7 +118,9 @@ size_whole : (w at l size : ℕ) → IsSwapWidth w → at % w ≡ 0 → l % w �
 size_whole w at l size is a b le so =
     at_width (λ (n : ℕ). at % n ≡ 0 → l % n ≡ 0 → size % n ≡ 0) (λ x y. omega (arith, x, y, le, so)) (λ x y. omega (arith, x, y, le, so)) (λ x y. omega (arith, x, y, le, so)) w is a b
 
-pub block_whole : (w at size : ℕ) (image : List ℕ) → IsSwapWidth w → at % w ≡ 0 → length image % w ≡ 0 → at ≤ length image → size ≡ min (length image - at) 512 → length (take (at + size - at) (drop at image)) % w ≡ 0
+pub block_whole : (w at size : ℕ) (image : List ℕ) → IsSwapWidth w → at % w ≡ 0 → length image % w ≡ 0
+    → at ≤ length image → size ≡ min (length image - at) 512
+    → length (take (at + size - at) (drop at image)) % w ≡ 0
 block_whole w at size image is a b le so =
     let long : length (take (at + size - at) (drop at image)) ≡ size = omega (arith, length-take (at + size - at) (drop at image), length-drop at image, le, so) in
     ap (λ (n : ℕ). n % w) long ∙ size_whole w at (length image) size is a b le so
@@ -124,8 +128,10 @@ block_whole w at size image is a b le so =
 pub block_next : (w at l size : ℕ) → IsSwapWidth w → at % w ≡ 0 → l % w ≡ 0 → at ≤ l → size ≡ min (l - at) 512 → (at + size) % w ≡ 0
 block_next w at l size is a b le so = at_width (λ (n : ℕ). at % n ≡ 0 → size % n ≡ 0 → (at + size) % n ≡ 0) (λ x y. omega (arith, x, y)) (λ x y. omega (arith, x, y)) (λ x y. omega (arith, x, y)) w is a (size_whole w at l size is a b le so)
 
-pub turned_more : (k : Kind) (at size : ℕ) (image : List ℕ) (r s : Numbers) → IsSwapWidth (width k) → at % width k ≡ 0 → at ≤ length image → r ≡ turned_to k at image
-    → s ≡ record r { numbers = r.numbers ++ numbers_of r.kind (swapped (width r.kind) (take (at + size - at) (drop at image))) } → s ≡ turned_to k (at + size) image
+pub turned_more : (k : Kind) (at size : ℕ) (image : List ℕ) (r s : Numbers) → IsSwapWidth (width k) → at % width k ≡ 0
+    → at ≤ length image → r ≡ turned_to k at image
+    → s ≡ record r { numbers = r.numbers ++ numbers_of r.kind (swapped (width r.kind) (take (at + size - at) (drop at image))) }
+    → s ≡ turned_to k (at + size) image
 turned_more k at size image r s is start within so put =
     let w : ℕ = width k in
     let a = take at image in

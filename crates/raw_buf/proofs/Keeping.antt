@@ -15,7 +15,8 @@ in_place f o off h =
     ∙ ap (take (length o)) (drop-append_seam (take off f) (o ++ drop (off + length o) f)) ∙ take-append_seam o (drop (off + length o) f)
 
 -- a piece of the first octets, in any list that begins with them
-piece_of : (w e : List ℕ) (off k m : ℕ) → take (length w) e ≡ w → off + k ≤ length w → off + k ≤ m → take k (drop off (take m e)) ≡ take k (drop off w)
+piece_of : (w e : List ℕ) (off k m : ℕ) → take (length w) e ≡ w → off + k ≤ length w → off + k ≤ m
+    → take k (drop off (take m e)) ≡ take k (drop off w)
 piece_of w e off k m begins within far =
     sym (drop-take off k (take m e)) ∙ ap (drop off) (take-take (off + k) m e far ∙ sym (take-take (off + k) (length w) e within) ∙ ap (take (off + k)) begins) ∙ drop-take off k w
 

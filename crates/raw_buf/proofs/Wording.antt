@@ -1,4 +1,4 @@
--- What words cost, one behind the other.
+-- What words cost, one after another.
 use Rattle.std.proofs.Common.{◌≡◌, ℕ, suc, ◌+◌, ◌*◌, ◌<◌, List, ◌++◌, length, take, drop, get_or, refl, sym, ap, ◌∙◌, arith}
 use Rattle.std.proofs.Math.Seq.{drop-drop, take-suc}
 use Rattle.std.proofs.lemmas.List.{flat_map_more}
@@ -26,13 +26,13 @@ worded_more n t =
     let stores : raised (raised t.stores n) 1 ≡ raised t.stores (n + 1) = omega arith in
     same_tally t.checks (raised (raised t.moves n) 1) (raised t.moves (n + 1)) (raised (raised t.stores n) 1) (raised t.stores (n + 1)) t.rows moves stores
 
--- four octets behind so many words
+-- four octets after so many words
 pub drop_more : (n : ℕ) (os : List ℕ) → drop 4 (drop (4 * n) os) ≡ drop (4 * (n + 1)) os
 drop_more n os =
     let next : 4 * n + 4 ≡ 4 * (n + 1) = omega arith in
     drop-drop 4 (4 * n) os ∙ ap (λ (k : ℕ). drop k os) next
 
--- one word behind others
+-- one word after others
 pub words_more : (d ns : List ℕ) (i : ℕ) → i < length ns → (d ++ words (take i ns)) ++ be 4 (get_or ns i 0) ≡ d ++ words (take (i + 1) ns)
 words_more d ns i lt =
     let next : suc i ≡ i + 1 = omega arith in

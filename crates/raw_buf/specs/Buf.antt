@@ -1,4 +1,4 @@
--- A buffer as its octets, the space ensured behind them, and what its calls have cost.
+-- A buffer as its octets, the space ensured after them, and what its calls have cost.
 use Rattle.std.specs.Prelude.{◌≡◌, ◌≤◌, ◌+◌, ◌⊎◌, ℕ, max, List, length, take}
 use Rattle.kit_base.specs.Bytes.{be, le}
 use Rattle.kit_base.specs.Causes.{raised}
@@ -9,7 +9,7 @@ use Rattle.raw_buf.specs.declared.tally.Tally.{Tally}
 pub record Buf : Type 0 where
   -- the octets so far
   pub done : List ℕ
-  -- the octets ensured behind them
+  -- the octets ensured after them
   pub front : List ℕ
   -- the counts since the buffer was cleared
   pub tally : Tally

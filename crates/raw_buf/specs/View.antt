@@ -17,7 +17,8 @@ pub record View : Type 0 where
 
 -- the width of a number of so many octets
 abbrev pub width_in : ℕ → Option Width
-width_in w = if nat_eq w 1 then Some w8 else if nat_eq w 2 then Some w16 else if nat_eq w 4 then Some w32 else if nat_eq w 8 then Some w64 else None
+width_in w = if nat_eq w 1 then Some w8
+    else if nat_eq w 2 then Some w16 else if nat_eq w 4 then Some w32 else if nat_eq w 8 then Some w64 else None
 
 -- the same, where there is one
 abbrev pub width_as : ℕ → Width

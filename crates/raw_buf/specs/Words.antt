@@ -4,7 +4,7 @@ use Rattle.kit_base.specs.Bytes.{be}
 use Rattle.kit_base.specs.Causes.{raised}
 use Rattle.raw_buf.specs.declared.tally.Tally.{Tally}
 
--- the octets of words, one behind the other
+-- the octets of words, one after another
 abbrev pub words : List ℕ → List ℕ
 words numbers = flat_map (be 4) numbers
 

@@ -47,7 +47,8 @@ const NOTHING: Tally = Tally {
 impl SendBuf {
     /// An empty buffer, which has spent nothing.
     pub fn new(alloc: Global) -> Result<SendBuf, NoMemory>
-        ensures { IfOk result (λ b. b ≡ record { done = []; front = []; tally = none; spent = none; room = 0 }) }
+        ensures { IfOk result
+            (λ b. b ≡ record { done = []; front = []; tally = none; spent = none; room = 0 }) }
     {
         Ok(SendBuf {
             memory: Vec::new(alloc),
@@ -58,7 +59,7 @@ impl SendBuf {
         })
     }
 
-    /// Makes sure of n octets behind those that are done.
+    /// Makes sure of n octets after those that are done.
     pub fn ensure(&mut self, n: usize) -> Result<(), NoMemory>
         ensures ok { OnOk result (Ensures n self.old self.new) }
         ensures err { OnErr result (self.new ≡ self.old) }
@@ -188,7 +189,8 @@ impl SendBuf {
 
     /// Begins anew. What was spent, and the memory, are kept.
     pub fn clear(&mut self)
-        ensures { self.new ≡ record { done = []; front = []; tally = none; spent = self.old.spent; room = self.old.room } }
+        ensures { self.new
+            ≡ record { done = []; front = []; tally = none; spent = self.old.spent; room = self.old.room } }
     {
         self.len = 0;
         self.ahead = 0;

@@ -13,7 +13,8 @@ impl SendBuf {
     pub fn row_copy(&mut self, row: &Row)
         requires within { length (image_of row.now.kind row.now.numbers) ≤ length self.old.front }
         ensures done { self.new.done ≡ self.old.done ++ image_of row.now.kind row.now.numbers }
-        ensures front { self.new.front ≡ drop (length (image_of row.now.kind row.now.numbers)) self.old.front }
+        ensures front { self.new.front
+            ≡ drop (length (image_of row.now.kind row.now.numbers)) self.old.front }
         ensures tally { self.new.tally ≡ rowed self.old.tally }
         ensures spent { self.new.spent ≡ rowed self.old.spent }
         ensures room { self.new.room ≡ self.old.room }
@@ -28,8 +29,10 @@ impl SendBuf {
     pub fn row_swap(&mut self, row: &Row)
         requires width { IsSwapWidth (width row.now.kind) }
         requires within { length (image_of row.now.kind row.now.numbers) ≤ length self.old.front }
-        ensures done { self.new.done ≡ self.old.done ++ swapped (width row.now.kind) (image_of row.now.kind row.now.numbers) }
-        ensures front { self.new.front ≡ drop (length (image_of row.now.kind row.now.numbers)) self.old.front }
+        ensures done { self.new.done
+            ≡ self.old.done ++ swapped (width row.now.kind) (image_of row.now.kind row.now.numbers) }
+        ensures front { self.new.front
+            ≡ drop (length (image_of row.now.kind row.now.numbers)) self.old.front }
         ensures tally { self.new.tally ≡ rowed self.old.tally }
         ensures spent { self.new.spent ≡ rowed self.old.spent }
         ensures room { self.new.room ≡ self.old.room }

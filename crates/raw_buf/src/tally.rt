@@ -1,6 +1,6 @@
 // What the calls of a buffer cost.
 
-/// Four counts of calls. A count that has reached 2^64 - 1 stands there.
+/// Four counts of calls. A count that has reached 2^64 - 1 stays there.
 #[derive(Clone, Copy, Debug, PartialEq, Eq)]
 pub struct Tally {
     /// Looks at the space that is left.

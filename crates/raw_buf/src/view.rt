@@ -93,7 +93,8 @@ impl<'a> RecvView<'a> {
     pub fn load(&self, off: usize, width: usize, order: Order) -> u64
         requires width { IsWidth width }
         requires near { off + width ≤ self.now.near }
-        ensures value { result ≡ loaded_of order (width_in width) (take width (drop off (drop self.now.pos self.now.octets))) }
+        ensures value { result
+            ≡ loaded_of order (width_in width) (take width (drop off (drop self.now.pos self.now.octets))) }
         ensures fits { result < 256 ^ width }
     {
         let rest = &self.octets[self.pos..];
@@ -122,7 +123,11 @@ impl<'a> RecvView<'a> {
     ) -> Result<Row, NoMemory>
         requires kind { kind ≢ Kind.Bool }
         requires near { count * width kind ≤ self.old.near }
-        ensures row { IfOk result (λ r. r ≡ record { kind = kind; numbers = numbers_of kind (in_little order (width kind) (take (count * width kind) (drop self.old.pos self.old.octets))) }) }
+        ensures row { IfOk result (λ r. r ≡ record {
+          kind = kind;
+          numbers = numbers_of kind
+              (in_little order (width kind) (take (count * width kind) (drop self.old.pos self.old.octets)));
+        }) }
         ensures pos { OnOk result (self.new.pos ≡ self.old.pos + count * width kind) }
         ensures near { OnOk result (self.new.near ≡ self.old.near - count * width kind) }
         ensures tests { OnOk result (self.new.tests ≡ self.old.tests) }
@@ -141,7 +146,8 @@ impl<'a> RecvView<'a> {
 fn row_of(alloc: Global, kind: Kind, image: &[u8], order: Order) -> Result<Row, NoMemory>
     requires kind { kind ≢ Kind.Bool }
     requires whole { length image.now % width kind ≡ 0 }
-    ensures { IfOk result (λ r. r ≡ record { kind = kind; numbers = numbers_of kind (in_little order (width kind) image.now) }) }
+    ensures { IfOk result (λ r. r
+        ≡ record { kind = kind; numbers = numbers_of kind (in_little order (width kind) image.now) }) }
 {
     match order {
         Order::Big => big_row(alloc, kind, image),
@@ -154,7 +160,8 @@ fn row_of(alloc: Global, kind: Kind, image: &[u8], order: Order) -> Result<Row, 
 fn big_row(alloc: Global, kind: Kind, image: &[u8]) -> Result<Row, NoMemory>
     requires kind { kind ≢ Kind.Bool }
     requires whole { length image.now % width kind ≡ 0 }
-    ensures { IfOk result (λ r. r ≡ record { kind = kind; numbers = numbers_of kind (swapped (width kind) image.now) }) }
+    ensures { IfOk result
+        (λ r. r ≡ record { kind = kind; numbers = numbers_of kind (swapped (width kind) image.now) }) }
 {
     if kind.width() == 1 {
         plain_row(alloc, kind, image)
@@ -181,7 +188,8 @@ const BLOCK: usize = 512;
 fn turned_row(alloc: Global, kind: Kind, image: &[u8]) -> Result<Row, NoMemory>
     requires width { IsSwapWidth (width kind) }
     requires whole { length image.now % width kind ≡ 0 }
-    ensures { IfOk result (λ r. r ≡ record { kind = kind; numbers = numbers_of kind (swapped (width kind) image.now) }) }
+    ensures { IfOk result
+        (λ r. r ≡ record { kind = kind; numbers = numbers_of kind (swapped (width kind) image.now) }) }
 {
     let mut row = Row::new(alloc, kind);
     let mut block = [0u8; BLOCK];
@@ -194,12 +202,14 @@ fn turned_row(alloc: Global, kind: Kind, image: &[u8]) -> Result<Row, NoMemory>
     Ok(row)
 }
 
-// Puts the numbers of an image behind the last, the octets of each reversed.
+// Appends the numbers of an image, the octets of each reversed.
 fn append_turned(row: &mut Row, image: &[u8], block: &mut [u8; BLOCK]) -> Result<(), NoMemory>
     requires width { IsSwapWidth (width row.old.kind) }
     requires whole { length image.now % width row.old.kind ≡ 0 }
     requires few { length image.now ≤ 512 }
-    ensures { OnOk result (row.new ≡ record row.old { numbers = row.old.numbers ++ numbers_of row.old.kind (swapped (width row.old.kind) image.now) }) }
+    ensures { OnOk result (row.new ≡ record row.old {
+      numbers = row.old.numbers ++ numbers_of row.old.kind (swapped (width row.old.kind) image.now);
+    }) }
 {
     let turned = &mut block[..image.len()];
     swap_numbers(row.kind().width(), image, turned);
