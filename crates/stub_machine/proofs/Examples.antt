@@ -5,7 +5,8 @@ use Rattle.cast_stub.specs.declared.send.SendOp.TheVariants as op
 use Rattle.cast_stub.specs.Block.{switch, case, default, op_seen, code_seen, cases_seen}
 use Rattle.cast_stub.proofs.Pieces.{seen-Switch}
 
-pub one_case : (path : List ℕ) (start cases : List (ℤ × List SendOp)) (n : ℤ) (one other : List SendOp) → path ≡ [] → start ≡ [] → cases ≡ start ++ (n, one) ∷ []
+pub one_case : (path : List ℕ) (start cases : List (ℤ × List SendOp)) (n : ℤ) (one other : List SendOp) → path ≡ []
+    → start ≡ [] → cases ≡ start ++ (n, one) ∷ []
     → op_seen (op.Switch path cases (Some other)) ≡ switch [] (case n (code_seen one) (default (code_seen other)))
 one_case path start cases n one other p s c =
     seen-Switch path cases (Some other)

@@ -65,7 +65,8 @@ there_mapped : {A B : Type 0} (z : Option A) (f : A → B) → IsThere (option_m
 there_mapped None f h = h
 there_mapped (Some a) f h = tt
 
-over-placed : (n : ℕ) (os : List ℕ) (cs : Cells) (f : List ℕ) → IsThere (placed n os cs) → Over cs f → OverAll (placed n os cs) (overwrite n os f)
+over-placed : (n : ℕ) (os : List ℕ) (cs : Cells) (f : List ℕ) → IsThere (placed n os cs) → Over cs f
+    → OverAll (placed n os cs) (overwrite n os f)
 over-placed zero [] cs f there h = h
 over-placed zero (o ∷ os) [] f there h = absurd there
 over-placed zero (o ∷ os) (c ∷ cs) [] there h = absurd h
@@ -99,7 +100,8 @@ placed-within zero (o ∷ os) (c ∷ cs) there = let k = placed-within zero os c
 placed-within (suc n) os [] there = absurd there
 placed-within (suc n) os (c ∷ cs) there = let k = placed-within n os cs (there_mapped (placed n os cs) (λ ds. c ∷ ds) there) in omega arith
 
-long_both : (z : Option Cells) (f : Cells → Option Cells) (k : ℕ) → LongAll z k → ((ds : Cells) → LongAll (f ds) (length ds)) → LongAll (on_some z f) k
+long_both : (z : Option Cells) (f : Cells → Option Cells) (k : ℕ) → LongAll z k → ((ds : Cells) → LongAll (f ds) (length ds))
+    → LongAll (on_some z f) k
 long_both None f k h g = tt
 long_both (Some ds) f k h g = subst (LongAll (f ds)) h (g ds)
 
@@ -113,7 +115,8 @@ long-put_all h v (p ∷ ps) cs = long_both (put_one h v p cs) (put_all h v ps) (
 
 -- ---- one put more
 
-pub put_all-drop : (h : Head) (v : Val) (ps : List Put) (i : ℕ) (d : Put) (cs : Cells) → i < length ps → put_all h v (drop i ps) cs ≡ on_some (put_one h v (get_or ps i d) cs) (put_all h v (drop (i + 1) ps))
+pub put_all-drop : (h : Head) (v : Val) (ps : List Put) (i : ℕ) (d : Put) (cs : Cells) → i < length ps
+    → put_all h v (drop i ps) cs ≡ on_some (put_one h v (get_or ps i d) cs) (put_all h v (drop (i + 1) ps))
 put_all-drop h v ps i d cs lt = rw (add-one, drop-cons ps i d) refl
 
 pub record Next (rest : Cells → Option Cells) (goal : Option Cells) (cells : Cells) (b b' : Buf) : Type 0 where
@@ -123,12 +126,14 @@ pub record Next (rest : Cells → Option Cells) (goal : Option Cells) (cells : C
   pub long : length cells' ≡ length cells
   pub front : length b'.front ≡ length b.front
 
-placed_next : (z : Option Cells) (rest : Cells → Option Cells) (goal : Option Cells) (cells : Cells) (b b' : Buf) → on_some z rest ≡ goal → IsThere goal → OverAll z b'.front → LongAll z (length cells) → length b'.front ≡ length b.front
+placed_next : (z : Option Cells) (rest : Cells → Option Cells) (goal : Option Cells) (cells : Cells) (b b' : Buf)
+    → on_some z rest ≡ goal → IsThere goal → OverAll z b'.front → LongAll z (length cells) → length b'.front ≡ length b.front
     → Next rest goal cells b b'
 placed_next None rest goal cells b b' e there over long front = absurd over
 placed_next (Some ds) rest goal cells b b' e there over long front = record { cells' = ds; left = e; over = over; long = long; front = front }
 
-pub put_next : (x : Option (List ℕ)) (off : ℕ) (cells : Cells) (rest : Cells → Option Cells) (goal : Option Cells) (b b' : Buf) → on_some (on_some x (λ os. placed off os cells)) rest ≡ goal → IsThere goal → Over cells b.front → Writes b b' off x
+pub put_next : (x : Option (List ℕ)) (off : ℕ) (cells : Cells) (rest : Cells → Option Cells) (goal : Option Cells) (b b' : Buf)
+    → on_some (on_some x (λ os. placed off os cells)) rest ≡ goal → IsThere goal → Over cells b.front → Writes b b' off x
     → Next rest goal cells b b'
 put_next None off cells rest goal b b' e there over w = absurd w
 put_next (Some os) off cells rest goal b b' e there over w =
@@ -138,7 +143,8 @@ put_next (Some os) off cells rest goal b b' e there over w =
     placed_next (placed off os cells) rest goal cells b b' e there (subst (OverAll (placed off os cells)) (sym new) (over-placed off os cells b.front lies over)) (long-placed off os cells) (ap length w.1 ∙ length-written off os b.front fits)
 
 -- the next put lies within
-pub put_fits : (x : Option (List ℕ)) (off : ℕ) (cells : Cells) (rest : Cells → Option Cells) (goal : Option Cells) (f : List ℕ) → on_some (on_some x (λ os. placed off os cells)) rest ≡ goal → IsThere goal → Over cells f
+pub put_fits : (x : Option (List ℕ)) (off : ℕ) (cells : Cells) (rest : Cells → Option Cells) (goal : Option Cells) (f : List ℕ)
+    → on_some (on_some x (λ os. placed off os cells)) rest ≡ goal → IsThere goal → Over cells f
     → IsThere x × (off + octets_in x ≤ length f)
 put_fits None off cells rest goal f e there over = absurd (subst IsThere (sym e) there)
 put_fits (Some os) off cells rest goal f e there over =
@@ -153,11 +159,14 @@ full-over (c ∷ cs) [] over there = absurd over
 full-over (None ∷ cs) (b ∷ f) over there = absurd there
 full-over (Some x ∷ cs) (b ∷ f) over there = ap (option_map (λ os. x ∷ os)) (full-over cs f over.1 (there_mapped (full cs) (λ os. x ∷ os) there)) ∙ ap (λ y. Some (y ∷ take (length cs) f)) (sym over.0)
 
-filled_at : (z : Option Cells) (size : ℕ) (f : List ℕ) → LongAll z size → OverAll z f → IsThere (on_some z full) → on_some z full ≡ Some (take size f)
+filled_at : (z : Option Cells) (size : ℕ) (f : List ℕ) → LongAll z size → OverAll z f → IsThere (on_some z full)
+    → on_some z full ≡ Some (take size f)
 filled_at None size f long over there = absurd over
 filled_at (Some cs) size f long over there = full-over cs f over there ∙ ap (λ k. Some (take k f)) long
 
-pub filled-over : (h : Head) (v : Val) (ps : List Put) (size : ℕ) (f : List ℕ) → OverAll (put_all h v ps (replicate size None)) f → IsThere (filled size ps h v) → filled size ps h v ≡ Some (take size f)
+pub filled-over : (h : Head) (v : Val) (ps : List Put) (size : ℕ) (f : List ℕ)
+    → OverAll (put_all h v ps (replicate size None)) f → IsThere (filled size ps h v)
+    → filled size ps h v ≡ Some (take size f)
 filled-over h v ps size f over there =
     filled_at (put_all h v ps (replicate size None)) size f (subst (LongAll (put_all h v ps (replicate size None))) (length-replicate size None) (long-put_all h v ps (replicate size None))) over there
 
@@ -191,19 +200,22 @@ pub record PutsLeft (h : Head) (v : Val) (ps : List Put) (size : ℕ) (old new :
 pub puts_start : (h : Head) (v : Val) (ps : List Put) (size : ℕ) (b : Buf) → size ≤ length b.front → PutsLeft h v ps size b b 0
 puts_start h v ps size b fits = record { cells = replicate size None; left = refl; over = over-blank size b.front fits; front = refl; done = refl; tally = refl; spent = refl }
 
-writes_rest : (x : Option (List ℕ)) (off : ℕ) (b b' : Buf) → Writes b b' off x → (b'.done ≡ b.done) × (b'.tally ≡ stored b.tally) × (b'.spent ≡ stored b.spent)
+writes_rest : (x : Option (List ℕ)) (off : ℕ) (b b' : Buf) → Writes b b' off x
+    → (b'.done ≡ b.done) × (b'.tally ≡ stored b.tally) × (b'.spent ≡ stored b.spent)
 writes_rest None off b b' w = absurd w
 writes_rest (Some os) off b b' w = (w.0, w.2, w.3)
 
-pub puts_fit : (h : Head) (v : Val) (ps : List Put) (size : ℕ) (old b : Buf) (i : ℕ) (d : Put) → PutsLeft h v ps size old b i → i < length ps → IsThere (put_all h v ps (replicate size None)) → d ≡ get_or ps i d
+pub puts_fit : (h : Head) (v : Val) (ps : List Put) (size : ℕ) (old b : Buf) (i : ℕ) (d : Put)
+    → PutsLeft h v ps size old b i → i < length ps → IsThere (put_all h v ps (replicate size None)) → d ≡ get_or ps i d
     → IsThere (put_octets h d v) × (offset d + octets_in (put_octets h d v) ≤ length b.front)
 puts_fit h v ps size old b i d s lt there same =
     let e = sym (put_all-drop h v ps i d s.cells lt) ∙ s.left in
     put_fits (put_octets h d v) (offset d) s.cells (put_all h v (drop (i + 1) ps)) (put_all h v ps (replicate size None)) b.front
     (ap (λ (p : Put). on_some (put_one h v p s.cells) (put_all h v (drop (i + 1) ps))) same ∙ e) there s.over
 
-pub puts_step : (h : Head) (v : Val) (ps : List Put) (size : ℕ) (old b b' : Buf) (i : ℕ) (d : Put) → PutsLeft h v ps size old b i → i < length ps → IsThere (put_all h v ps (replicate size None)) → d ≡ get_or ps i d
-    → Writes b b' (offset d) (put_octets h d v) → PutsLeft h v ps size old b' (i + 1)
+pub puts_step : (h : Head) (v : Val) (ps : List Put) (size : ℕ) (old b b' : Buf) (i : ℕ) (d : Put) → PutsLeft h v ps size old b i
+    → i < length ps → IsThere (put_all h v ps (replicate size None)) → d ≡ get_or ps i d → Writes b b' (offset d) (put_octets h d v)
+    → PutsLeft h v ps size old b' (i + 1)
 puts_step h v ps size old b b' i d s lt there same w =
     let e = ap (λ (p : Put). on_some (put_one h v p s.cells) (put_all h v (drop (i + 1) ps))) same ∙ sym (put_all-drop h v ps i d s.cells lt) ∙ s.left in
     let n = put_next (put_octets h d v) (offset d) s.cells (put_all h v (drop (i + 1) ps)) (put_all h v ps (replicate size None)) b b' e there s.over w in
@@ -223,7 +235,8 @@ over_all : (z : Option Cells) (cs : Cells) (f : List ℕ) → Some cs ≡ z → 
 over_all z cs f e over = subst (λ (x : Option Cells). OverAll x f) e over
 
 pub puts_end : (h : Head) (v : Val) (ps : List Put) (size : ℕ) (old b : Buf) (i : ℕ) → PutsLeft h v ps size old b i → length ps ≤ i
-    → OverAll (put_all h v ps (replicate size None)) b.front × (length b.front ≡ length old.front) × (b.done ≡ old.done) × (b.tally ≡ stored_times (length ps) old.tally) × (b.spent ≡ stored_times (length ps) old.spent)
+    → OverAll (put_all h v ps (replicate size None)) b.front × (length b.front ≡ length old.front) × (b.done ≡ old.done)
+    × (b.tally ≡ stored_times (length ps) old.tally) × (b.spent ≡ stored_times (length ps) old.spent)
 puts_end h v ps size old b i s past =
     let none : drop i ps ≡ [] = drop_all i ps past in
     let left : Some s.cells ≡ put_all h v ps (replicate size None) = rw none at s.left in
@@ -231,14 +244,16 @@ puts_end h v ps size old b i s past =
 
 -- ---- a whole chunk
 
-runs_filled : (z : Option (List ℕ)) (k : ℕ) (s : State) → Runs (on_some z (λ o. Some (Stored o k ∷ []))) s → (o : List ℕ) × (z ≡ Some o) × (length o ≤ s.ahead)
+runs_filled : (z : Option (List ℕ)) (k : ℕ) (s : State) → Runs (on_some z (λ o. Some (Stored o k ∷ []))) s
+    → (o : List ℕ) × (z ≡ Some o) × (length o ≤ s.ahead)
 runs_filled None k s r = absurd r
 runs_filled (Some o) k s r = (o, refl, within (nat_le (length o) s.ahead) refl r) where
   within : (b : Bool) → nat_le (length o) s.ahead ≡ b → IsThere (on_some (if b then Some (record { done = s.done ++ o; ahead = s.ahead - length o; tally = moved (stored_times k s.tally); spent = moved (stored_times k s.spent) }) else None) (ran [])) → length o ≤ s.ahead
   within true e r = leb-true (length o) s.ahead e
   within false e r = absurd r
 
-pub chunk-runs : (h : Head) (v : Val) (ps : List Put) (size : ℕ) (s : State) → Runs (chunk_steps size ps h v) s → IsThere (put_all h v ps (replicate size None)) × IsThere (filled size ps h v) × (size ≤ s.ahead)
+pub chunk-runs : (h : Head) (v : Val) (ps : List Put) (size : ℕ) (s : State) → Runs (chunk_steps size ps h v) s
+    → IsThere (put_all h v ps (replicate size None)) × IsThere (filled size ps h v) × (size ≤ s.ahead)
 chunk-runs h v ps size s r =
     let f = runs_filled (filled size ps h v) (length ps) s r in
     let there : IsThere (filled size ps h v) = subst IsThere (sym f.1) tt in
@@ -252,12 +267,14 @@ state_same : (d d' : List ℕ) (a a' : ℕ) (t t' u u' : Tally) → d ≡ d' →
 state_same d d' a a' t t' u u' p q r s = rw (p, q, r, s) refl
 
 -- octets that are stored and passed
-pub stored-ends : (o : List ℕ) (k : ℕ) (b c : Buf) → length o ≤ length b.front → c.done ≡ b.done ++ o → length c.front ≡ length b.front - length o → c.tally ≡ moved (stored_times k b.tally) → c.spent ≡ moved (stored_times k b.spent)
+pub stored-ends : (o : List ℕ) (k : ℕ) (b c : Buf) → length o ≤ length b.front → c.done ≡ b.done ++ o
+    → length c.front ≡ length b.front - length o → c.tally ≡ moved (stored_times k b.tally) → c.spent ≡ moved (stored_times k b.spent)
     → Ends (Some (Stored o k ∷ [])) (state_of b) (state_of c)
 stored-ends o k b c fits d f t u =
     appended_at (nat_le (length o) (length b.front)) (state (b.done ++ o) (length b.front - length o) (moved (stored_times k b.tally)) (moved (stored_times k b.spent))) (state_of c) (le-leb (length o) (length b.front) fits) (state_same _ _ _ _ _ _ _ _ (sym d) (sym f) (sym t) (sym u))
 
-pub chunk-ends : (h : Head) (v : Val) (ps : List Put) (size : ℕ) (b c d : Buf) → Runs (chunk_steps size ps h v) (state_of b) → OverAll (put_all h v ps (replicate size None)) c.front → length c.front ≡ length b.front → c.done ≡ b.done
+pub chunk-ends : (h : Head) (v : Val) (ps : List Put) (size : ℕ) (b c d : Buf) → Runs (chunk_steps size ps h v) (state_of b)
+    → OverAll (put_all h v ps (replicate size None)) c.front → length c.front ≡ length b.front → c.done ≡ b.done
     → c.tally ≡ stored_times (length ps) b.tally → c.spent ≡ stored_times (length ps) b.spent
     → d.done ≡ c.done ++ take size c.front → d.front ≡ drop size c.front → d.tally ≡ moved c.tally → d.spent ≡ moved c.spent
     → Ends (chunk_steps size ps h v) (state_of b) (state_of d)

@@ -24,13 +24,16 @@ use Rattle.stub_machine.proofs.Running.{Left, block_step, over-drop, numbers-dro
 
 -- ---- single steps
 
-appended_grows : (b : Bool) (o : List ℕ) (s t u : State) → t.done ≡ s.done ++ o → (if b then Some t else None) ≡ Some u → length s.done ≤ length u.done
+appended_grows : (b : Bool) (o : List ℕ) (s t u : State) → t.done ≡ s.done ++ o → (if b then Some t else None) ≡ Some u
+    → length s.done ≤ length u.done
 appended_grows true o s t u d e =
     let same : t ≡ u = cc in
     omega (arith, ap (λ (x : State). length x.done) same, ap length d, length-append s.done o)
 appended_grows false o s t u d e = absurd cc
 
-patch_grows : (b : Bool) (at : ℕ) (o : List ℕ) (s t u : State) → nat_le (at + 4) (length s.done) ≡ b → length o ≡ 4 → t.done ≡ written s.done at o → (if b then Some t else None) ≡ Some u → length s.done ≤ length u.done
+patch_grows : (b : Bool) (at : ℕ) (o : List ℕ) (s t u : State) → nat_le (at + 4) (length s.done) ≡ b → length o ≡ 4
+    → t.done ≡ written s.done at o → (if b then Some t else None) ≡ Some u
+    → length s.done ≤ length u.done
 patch_grows true at o s t u fits four d e =
     let same : t ≡ u = cc in
     let high : at + 4 ≤ length s.done = leb-true (at + 4) (length s.done) fits in
@@ -91,7 +94,9 @@ grown-behind all left s t u l g = record { grows = λ (w : State) e. g.grows w (
 
 -- ---- where a loop is broken off
 
-pub block_grown : (c : Calls) (h : Head) (v : Val) (ops : List SendOp) (i : ℕ) (d : SendOp) (s t u : State) → Left (code_steps c h ops v) (code_steps c h (drop i ops) v) s t → i < length ops → d ≡ get_or ops i d → Grown (steps c h (op_seen d stop) v) t u
+pub block_grown : (c : Calls) (h : Head) (v : Val) (ops : List SendOp) (i : ℕ) (d : SendOp) (s t u : State)
+    → Left (code_steps c h ops v) (code_steps c h (drop i ops) v) s t → i < length ops → d ≡ get_or ops i d
+    → Grown (steps c h (op_seen d stop) v) t u
     → Grown (code_steps c h ops v) s u
 block_grown c h v ops i d s t u left lt same g =
     let rest = code_seen (drop (i + 1) ops) in
@@ -101,18 +106,24 @@ block_grown c h v ops i d s t u left lt same g =
     grown-behind (code_steps c h ops v) (code_steps c h (drop i ops) v) s t u left
     (subst (λ (x : Steps). Grown x t u) (sym whole) (first-grown (steps c h (op_seen d stop) v) (steps c h rest v) t u g))
 
-pub block_broken : (c : Calls) (h : Head) (v : Val) (ops : List SendOp) (i : ℕ) (d : SendOp) (s t u : State) → Left (code_steps c h ops v) (code_steps c h (drop i ops) v) s t → i < length ops → d ≡ get_or ops i d
-    → ((r : Block) → ended (steps c h (op_seen d r) v) t ≡ ended (steps c h r v) u) → Grown (code_steps c h ops v) s u
+pub block_broken : (c : Calls) (h : Head) (v : Val) (ops : List SendOp) (i : ℕ) (d : SendOp) (s t u : State)
+    → Left (code_steps c h ops v) (code_steps c h (drop i ops) v) s t → i < length ops → d ≡ get_or ops i d
+    → ((r : Block) → ended (steps c h (op_seen d r) v) t ≡ ended (steps c h r v) u)
+    → Grown (code_steps c h ops v) s u
 block_broken c h v ops i d s t u left lt same e = left-grown (code_steps c h ops v) (code_steps c h (drop (i + 1) ops) v) s u (block_step c h v ops i d s t u left lt same e)
 
-pub items_grown : (f : Val → Steps) (vs : List Value) (i : ℕ) (d : Value) (s t u : State) → Left (over f (all_seen vs)) (over f (all_seen (drop i vs))) s t → i < length vs → d ≡ get_or vs i d → Grown (f (seen d)) t u → Grown (over f (all_seen vs)) s u
+pub items_grown : (f : Val → Steps) (vs : List Value) (i : ℕ) (d : Value) (s t u : State)
+    → Left (over f (all_seen vs)) (over f (all_seen (drop i vs))) s t → i < length vs → d ≡ get_or vs i d → Grown (f (seen d)) t u
+    → Grown (over f (all_seen vs)) s u
 items_grown f vs i d s t u left lt same g =
     let rest = over f (all_seen (drop (i + 1) vs)) in
     let whole : over f (all_seen (drop i vs)) ≡ both (f (seen d)) rest = over-drop f vs i d lt ∙ ap (λ (o : Value). both (f (seen o)) rest) (sym same) in
     grown-behind (over f (all_seen vs)) (over f (all_seen (drop i vs))) s t u left
     (subst (λ (x : Steps). Grown x t u) (sym whole) (first-grown (f (seen d)) rest t u g))
 
-pub numbers_grown : (f : Val → Steps) (ns : List ℤ) (i : ℕ) (s t u : State) → Left (over f (vals_of (map num ns))) (over f (vals_of (map num (drop i ns)))) s t → i < length ns → Grown (f (num (get_or ns i (pos 0)))) t u
+pub numbers_grown : (f : Val → Steps) (ns : List ℤ) (i : ℕ) (s t u : State)
+    → Left (over f (vals_of (map num ns))) (over f (vals_of (map num (drop i ns)))) s t → i < length ns
+    → Grown (f (num (get_or ns i (pos 0)))) t u
     → Grown (over f (vals_of (map num ns))) s u
 numbers_grown f ns i s t u left lt g =
     let rest = over f (vals_of (map num (drop (i + 1) ns))) in
@@ -121,20 +132,31 @@ numbers_grown f ns i s t u left lt g =
 
 -- ---- operations by cases
 
-piece_grown : (c : Calls) (h : Head) (v : Val) (o : SendOp) (p : Piece) (x : Steps) (s t : State) → op_seen o ≡ p → steps c h (p stop) v ≡ both x (Some []) → Grown x s t → Grown (steps c h (op_seen o stop) v) s t
+piece_grown : (c : Calls) (h : Head) (v : Val) (o : SendOp) (p : Piece) (x : Steps) (s t : State) → op_seen o ≡ p
+    → steps c h (p stop) v ≡ both x (Some []) → Grown x s t
+    → Grown (steps c h (op_seen o stop) v) s t
 piece_grown c h v o p x s t is e g =
     subst (λ (y : Steps). Grown y s t) (sym (ap (λ (q : Piece). steps c h (q stop) v) is ∙ e)) (first-grown x (Some []) s t g)
 
-pub each_grown : (c : Calls) (h : Head) (v : Val) (o : SendOp) (path : List ℕ) (body : List SendOp) (s t : State) → o ≡ op.Each path body → Grown (each_steps c h path body v) s t → Grown (steps c h (op_seen o stop) v) s t
+pub each_grown : (c : Calls) (h : Head) (v : Val) (o : SendOp) (path : List ℕ) (body : List SendOp) (s t : State)
+    → o ≡ op.Each path body → Grown (each_steps c h path body v) s t
+    → Grown (steps c h (op_seen o stop) v) s t
 each_grown c h v o path body s t is g = piece_grown c h v o _ (each_steps c h path body v) s t (ap op_seen is ∙ seen-Each path body) refl g
 
-pub some_grown : (c : Calls) (h : Head) (v : Val) (o : SendOp) (path : List ℕ) (body : List SendOp) (s t : State) → o ≡ op.Some path body → Grown (some_steps c h path body v) s t → Grown (steps c h (op_seen o stop) v) s t
+pub some_grown : (c : Calls) (h : Head) (v : Val) (o : SendOp) (path : List ℕ) (body : List SendOp) (s t : State)
+    → o ≡ op.Some path body → Grown (some_steps c h path body v) s t
+    → Grown (steps c h (op_seen o stop) v) s t
 some_grown c h v o path body s t is g = piece_grown c h v o _ (some_steps c h path body v) s t (ap op_seen is ∙ seen-Some path body) refl g
 
-pub switch_grown : (c : Calls) (h : Head) (v : Val) (o : SendOp) (path : List ℕ) (cases : List (ℤ × List SendOp)) (other : Option (List SendOp)) (s t : State) → o ≡ op.Switch path cases other → Grown (switch_steps c h path cases other v) s t → Grown (steps c h (op_seen o stop) v) s t
+pub switch_grown : (c : Calls) (h : Head) (v : Val) (o : SendOp) (path : List ℕ) (cases : List (ℤ × List SendOp))
+    (other : Option (List SendOp)) (s t : State)
+    → o ≡ op.Switch path cases other → Grown (switch_steps c h path cases other v) s t
+    → Grown (steps c h (op_seen o stop) v) s t
 switch_grown c h v o path cases other s t is g = piece_grown c h v o _ (switch_steps c h path cases other v) s t (ap op_seen is ∙ seen-Switch path cases other) refl g
 
-pub call_grown : (c : Calls) (h : Head) (v : Val) (o : SendOp) (k : ℕ) (path : List ℕ) (s t : State) → o ≡ op.Call k path → Grown (call_steps c k path v) s t → Grown (steps c h (op_seen o stop) v) s t
+pub call_grown : (c : Calls) (h : Head) (v : Val) (o : SendOp) (k : ℕ) (path : List ℕ) (s t : State)
+    → o ≡ op.Call k path → Grown (call_steps c k path v) s t
+    → Grown (steps c h (op_seen o stop) v) s t
 call_grown c h v o k path s t is g = piece_grown c h v o _ (call_steps c k path v) s t (ap op_seen is ∙ seen-Call k path) refl g
 
 pub err_map : {A E : Type 0} (r : Result A E) (P Q : Type 0) → (P → Q) → OnErr r P → OnErr r Q

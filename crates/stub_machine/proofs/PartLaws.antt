@@ -22,7 +22,8 @@ copied : (r : Option (Bor Value)) → option_map (λ w. seen w.now) r ≡ option
 copied None = refl
 copied (Some b) = refl
 
-pub field_found : (vs : List Value) (n : ℕ) (r : Option (Bor Value)) → option_copied r ≡ slice_get vs n → option_map (λ w. seen w.now) r ≡ field n (all_seen vs)
+pub field_found : (vs : List Value) (n : ℕ) (r : Option (Bor Value)) → option_copied r ≡ slice_get vs n
+    → option_map (λ w. seen w.now) r ≡ field n (all_seen vs)
 field_found vs n r e = copied r ∙ ap (option_map seen) e ∙ sym (field-all_seen vs n)
 
 -- one more field of a path

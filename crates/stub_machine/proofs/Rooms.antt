@@ -36,7 +36,7 @@ pub four : (order : Order) (n : ℕ) → length (in_order order 4 n) ≡ 4
 four Big n = refl
 four Little n = refl
 
--- the octets of a length, over four of those behind others
+-- the octets of a length, over four of those after others
 abbrev put_over : ℕ → ℕ → Order → List ℕ → List ℕ
 put_over at sub order d = written d at (in_order order 4 ((length d + 2 ^ 32 - sub) % 2 ^ 32))
 
@@ -48,7 +48,8 @@ put-same d o at sub order h =
     ap (λ (k : ℕ). written (d ++ o) at (in_order order 4 ((k + 2 ^ 32 - sub) % 2 ^ 32))) (length-append d o)
     ∙ written-front d o (in_order order 4 ((length d + length o + 2 ^ 32 - sub) % 2 ^ 32)) at h
 
-put-long : (d o : List ℕ) (at sub : ℕ) (order : Order) → length d ≤ at → at + 4 ≤ length d + length o → length (put_behind d at sub order o) ≡ length o
+put-long : (d o : List ℕ) (at sub : ℕ) (order : Order) → length d ≤ at → at + 4 ≤ length d + length o
+    → length (put_behind d at sub order o) ≡ length o
 put-long d o at sub order h k =
     let x = in_order order 4 ((length d + length o + 2 ^ 32 - sub) % 2 ^ 32) in
     length-written (at - length d) x o (omega (arith, four order ((length d + length o + 2 ^ 32 - sub) % 2 ^ 32)))
@@ -58,7 +59,8 @@ pub record Within (x y : Bool) (z : List ℕ) (f : List ℕ → Option (List ℕ
   pub second : y ≡ true
   pub rest : IsThere (f z)
 
-pub within : (x y : Bool) (z : List ℕ) (f : List ℕ → Option (List ℕ)) → IsThere (on_some (if x && y then Some z else None) f) → Within x y z f
+pub within : (x y : Bool) (z : List ℕ) (f : List ℕ → Option (List ℕ)) → IsThere (on_some (if x && y then Some z else None) f)
+    → Within x y z f
 within true true z f h = record { first = refl; second = refl; rest = h }
 within true false z f h = absurd h
 within false y z f h = absurd h
@@ -71,14 +73,17 @@ there_if false t ss e h = absurd cc
 
 -- octets that are appended out of the room
 room_append : (d o os : List ℕ) (a : ℕ) (t u : Tally) (cost : Tally → Tally) (ss : List Step) → length os ≤ a
-    → (HasRoom (length d + length (o ++ os)) (a - length os) ss → IsThere (ran ss (state (d ++ (o ++ os)) (a - length os) (cost t) (cost u))))
-    → HasRoom (length d + length o + length os) (a - length os) ss → IsThere (on_some (appended os cost (state (d ++ o) a t u)) (ran ss))
+    → (HasRoom (length d + length (o ++ os)) (a - length os) ss
+    → IsThere (ran ss (state (d ++ (o ++ os)) (a - length os) (cost t) (cost u))))
+    → HasRoom (length d + length o + length os) (a - length os) ss
+    → IsThere (on_some (appended os cost (state (d ++ o) a t u)) (ran ss))
 room_append d o os a t u cost ss fits go room =
     let far : length d + length o + length os ≡ length d + length (o ++ os) = omega (arith, length-append o os) in
     there_if (nat_le (length os) a) (state (d ++ o ++ os) (a - length os) (cost t) (cost u)) ss (le-leb (length os) a fits)
     (subst (λ (x : List ℕ). IsThere (ran ss (state x (a - length os) (cost t) (cost u)))) (sym (append_assoc d o os)) (go (subst (λ (k : ℕ). HasRoom k (a - length os) ss) far room)))
 
-room_patch : (d o : List ℕ) (a : ℕ) (t u : Tally) (at sub : ℕ) (order : Order) (ss : List Step) → length d ≤ at → at + 4 ≤ length d + length o
+room_patch : (d o : List ℕ) (a : ℕ) (t u : Tally) (at sub : ℕ) (order : Order) (ss : List Step) → length d ≤ at
+    → at + 4 ≤ length d + length o
     → (HasRoom (length d + length (put_behind d at sub order o)) a ss → IsThere (ran ss (state (d ++ put_behind d at sub order o) a t u)))
     → HasRoom (length d + length o) a ss
     → IsThere (on_some (if nat_le (at + 4) (length (d ++ o)) then Some (state (put_over at sub order (d ++ o)) a t u) else None) (ran ss))
@@ -87,7 +92,8 @@ room_patch d o a t u at sub order ss low high go room =
     (subst (λ (x : List ℕ). IsThere (ran ss (state x a t u))) (sym (put-same d o at sub order low))
     (go (subst (λ (k : ℕ). HasRoom (length d + k) a ss) (sym (put-long d o at sub order low high)) room)))
 
-pub room-runs : (d o : List ℕ) (a : ℕ) (t u : Tally) (ss : List Step) → IsThere (wrote (length d) o ss) → HasRoom (length d + length o) a ss → IsThere (ran ss (state (d ++ o) a t u))
+pub room-runs : (d o : List ℕ) (a : ℕ) (t u : Tally) (ss : List Step) → IsThere (wrote (length d) o ss) → HasRoom (length d + length o) a ss
+    → IsThere (ran ss (state (d ++ o) a t u))
 room-runs d o a t u [] w h = tt
 room-runs d o a t u (Room n ∷ ss) w h = room-runs d o (max n a) (checked t) (checked u) ss w h
 room-runs d o a t u (Pad x ∷ ss) w h =
@@ -106,7 +112,7 @@ room-runs d o a t u (Patched at sub order ∷ ss) w h =
     room_patch d o a (stored t) (stored u) at sub order ss (leb-true (length d) at p.first) (leb-true (at + 4) (length d + length o) p.second)
     (λ r. room-runs d (put_behind d at sub order o) a (stored t) (stored u) ss p.rest r) h
 
--- ---- what counts come to
+-- ---- what counts become
 
 raised-zero : (n : ℕ) → raised n 0 ≡ n
 raised-zero n = omega arith
@@ -157,28 +163,35 @@ pub record LeadsTo (d w : List ℕ) (ss : List Step) (t u : Tally) (s : State) :
   pub tally : s.tally ≡ paid t (costs ss)
   pub spent : s.spent ≡ paid u (costs ss)
 
-paid_first : (t t' : Tally) (x : Step) (ss : List Step) (z : Tally) → z ≡ paid t' (costs ss) → t' ≡ paid t (cost_of x) → z ≡ paid t (costs (x ∷ ss))
+paid_first : (t t' : Tally) (x : Step) (ss : List Step) (z : Tally) → z ≡ paid t' (costs ss) → t' ≡ paid t (cost_of x)
+    → z ≡ paid t (costs (x ∷ ss))
 paid_first t t' x ss z e p = e ∙ ap (λ (y : Tally). paid y (costs ss)) p ∙ paid-sum t (cost_of x) (costs ss)
 
-with_first : (d w : List ℕ) (x : Step) (ss : List Step) (t t' u u' : Tally) (s : State) → t' ≡ paid t (cost_of x) → u' ≡ paid u (cost_of x) → LeadsTo d w ss t' u' s → LeadsTo d w (x ∷ ss) t u s
+with_first : (d w : List ℕ) (x : Step) (ss : List Step) (t t' u u' : Tally) (s : State) → t' ≡ paid t (cost_of x)
+    → u' ≡ paid u (cost_of x) → LeadsTo d w ss t' u' s
+    → LeadsTo d w (x ∷ ss) t u s
 with_first d w x ss t t' u u' s p q l = record { done = l.done; tally = paid_first t t' x ss s.tally l.tally p; spent = paid_first u u' x ss s.spent l.spent q }
 
 past_if : (b : Bool) (x : State) (ss : List Step) (s : State) → on_some (if b then Some x else None) (ran ss) ≡ Some s → ran ss x ≡ Some s
 past_if true x ss s e = e
 past_if false x ss s e = absurd cc
 
-past_append : (d o os : List ℕ) (a : ℕ) (t u : Tally) (cost : Tally → Tally) (ss : List Step) (s : State) → on_some (appended os cost (state (d ++ o) a t u)) (ran ss) ≡ Some s
+past_append : (d o os : List ℕ) (a : ℕ) (t u : Tally) (cost : Tally → Tally) (ss : List Step) (s : State)
+    → on_some (appended os cost (state (d ++ o) a t u)) (ran ss) ≡ Some s
     → ran ss (state (d ++ (o ++ os)) (a - length os) (cost t) (cost u)) ≡ Some s
 past_append d o os a t u cost ss s e =
     ap (λ (x : List ℕ). ran ss (state x (a - length os) (cost t) (cost u))) (sym (append_assoc d o os))
     ∙ past_if (nat_le (length os) a) (state (d ++ o ++ os) (a - length os) (cost t) (cost u)) ss s e
 
-of_wrote : (x y : Bool) (z w : List ℕ) (f : List ℕ → Option (List ℕ)) → on_some (if x && y then Some z else None) f ≡ Some w → (x ≡ true) × (f z ≡ Some w)
+of_wrote : (x y : Bool) (z w : List ℕ) (f : List ℕ → Option (List ℕ)) → on_some (if x && y then Some z else None) f ≡ Some w
+    → (x ≡ true) × (f z ≡ Some w)
 of_wrote true true z w f e = (refl, e)
 of_wrote true false z w f e = absurd cc
 of_wrote false y z w f e = absurd cc
 
-pub ran-leads : (d o w : List ℕ) (a : ℕ) (t u : Tally) (ss : List Step) (s : State) → wrote (length d) o ss ≡ Some w → ran ss (state (d ++ o) a t u) ≡ Some s → LeadsTo d w ss t u s
+pub ran-leads : (d o w : List ℕ) (a : ℕ) (t u : Tally) (ss : List Step) (s : State) → wrote (length d) o ss ≡ Some w
+    → ran ss (state (d ++ o) a t u) ≡ Some s
+    → LeadsTo d w ss t u s
 ran-leads d o w a t u [] s is e =
     let end : state (d ++ o) a t u ≡ s = cc in
     let same : o ≡ w = cc in

@@ -39,7 +39,8 @@ state_same d d' a a' t t' u u' p q r s = rw (p, q, r, s) refl
 appended_room : (o : List ℕ) (cost : Tally → Tally) (s : State) → IsThere (on_some (appended o cost s) (ran [])) → length o ≤ s.ahead
 appended_room o cost s r = room_if (nat_le (length o) s.ahead) (length o) s.ahead _ refl r
 
-appended_ends : (o : List ℕ) (cost : Tally → Tally) (b c : Buf) → length o ≤ length b.front → c.done ≡ b.done ++ o → c.front ≡ drop (length o) b.front → c.tally ≡ cost b.tally → c.spent ≡ cost b.spent
+appended_ends : (o : List ℕ) (cost : Tally → Tally) (b c : Buf) → length o ≤ length b.front → c.done ≡ b.done ++ o
+    → c.front ≡ drop (length o) b.front → c.tally ≡ cost b.tally → c.spent ≡ cost b.spent
     → on_some (appended o cost (state_of b)) (ran []) ≡ Some (state_of c)
 appended_ends o cost b c fits d f t u =
     let left : length c.front ≡ length b.front - length o = ap length f ∙ length-drop (length o) b.front in
@@ -51,7 +52,8 @@ module _ (f : Kind × List ℤ → List ℕ) (z : Option (Kind × List ℤ)) (k 
   pub copied_fits : (s : State) → Runs (on_some z (λ r. Some (Copied (f r) ∷ []))) s → length (f (k, ns)) ≤ s.ahead
   copied_fits s r = appended_room (f (k, ns)) rowed s (subst (λ (y : Option (Kind × List ℤ)). Runs (on_some y (λ r. Some (Copied (f r) ∷ []))) s) (sym is) r)
 
-  pub copied_ends : (b c : Buf) → length (f (k, ns)) ≤ length b.front → c.done ≡ b.done ++ f (k, ns) → c.front ≡ drop (length (f (k, ns))) b.front → c.tally ≡ rowed b.tally → c.spent ≡ rowed b.spent
+  pub copied_ends : (b c : Buf) → length (f (k, ns)) ≤ length b.front → c.done ≡ b.done ++ f (k, ns)
+      → c.front ≡ drop (length (f (k, ns))) b.front → c.tally ≡ rowed b.tally → c.spent ≡ rowed b.spent
       → Ends (on_some z (λ r. Some (Copied (f r) ∷ []))) (state_of b) (state_of c)
   copied_ends b c fits d fr t u = subst (λ (y : Option (Kind × List ℤ)). Ends (on_some y (λ r. Some (Copied (f r) ∷ []))) (state_of b) (state_of c)) is (appended_ends (f (k, ns)) rowed b c fits d fr t u)
 
@@ -97,7 +99,8 @@ both_there None b h = absurd h
 both_there (Some x) None h = absurd h
 both_there (Some x) (Some y) h = (tt, tt)
 
-both_given : (a b : Option (List ℕ)) → IsThere (on_some a (λ x. on_some b (λ y. Some (x ++ y)))) → on_some a (λ x. on_some b (λ y. Some (x ++ y))) ≡ Some (given a ++ given b)
+both_given : (a b : Option (List ℕ)) → IsThere (on_some a (λ x. on_some b (λ y. Some (x ++ y))))
+    → on_some a (λ x. on_some b (λ y. Some (x ++ y))) ≡ Some (given a ++ given b)
 both_given None b h = absurd h
 both_given (Some x) None h = absurd h
 both_given (Some x) (Some y) h = refl
@@ -116,7 +119,8 @@ word_there o [] i h lt = absurd (omega arith)
 word_there o (n ∷ ns) zero h lt = (both_there (word 4 o n) (wide o ns) h).0
 word_there o (n ∷ ns) (suc i) h lt = word_there o ns i (both_there (word 4 o n) (wide o ns) h).1 (omega arith)
 
-four_of : (z : Option ℕ) (o : Order) → IsThere (on_some z (λ n. Some (in_order o 4 n))) → octets_in (on_some z (λ n. Some (in_order o 4 n))) ≡ 4
+four_of : (z : Option ℕ) (o : Order) → IsThere (on_some z (λ n. Some (in_order o 4 n)))
+    → octets_in (on_some z (λ n. Some (in_order o 4 n))) ≡ 4
 four_of None o h = absurd h
 four_of (Some n) Big h = refl
 four_of (Some n) Little h = refl
@@ -164,18 +168,21 @@ pub record WideLeft (o : Order) (ns : List ℤ) (old new : Buf) (i : ℕ) : Type
 pub wide_start : (o : Order) (ns : List ℤ) (b : Buf) → WideLeft o ns b b 0
 wide_start o ns b = record { done = refl; front = refl; tally = refl; spent = refl }
 
-pub wide_fits : (o : Order) (ns : List ℤ) (old b : Buf) (i : ℕ) (n : ℤ) → WideLeft o ns old b i → IsThere (wide o ns) → 4 * length ns ≤ length old.front → i < length ns → n ≡ get_or ns i (pos 0)
+pub wide_fits : (o : Order) (ns : List ℤ) (old b : Buf) (i : ℕ) (n : ℤ) → WideLeft o ns old b i → IsThere (wide o ns)
+    → 4 * length ns ≤ length old.front → i < length ns → n ≡ get_or ns i (pos 0)
     → IsThere (word 4 o n) × (4 * i + octets_in (word 4 o n) ≤ length b.front)
 wide_fits o ns old b i n l there fits lt same =
     let at : IsThere (word 4 o n) = subst (λ (m : ℤ). IsThere (word 4 o m)) (sym same) (word_there o ns i there lt) in
     (at, omega (arith, ap length l.front, length-append (words_of o (take i ns)) (drop (4 * i) old.front), taken_long o ns i there (omega arith), length-drop (4 * i) old.front, word_four o n at, fits))
 
-writes_given : (x : Option (List ℕ)) (off : ℕ) (b c : Buf) → Writes b c off x → (c.done ≡ b.done) × (c.front ≡ written b.front off (given x)) × (c.tally ≡ stored b.tally) × (c.spent ≡ stored b.spent)
+writes_given : (x : Option (List ℕ)) (off : ℕ) (b c : Buf) → Writes b c off x
+    → (c.done ≡ b.done) × (c.front ≡ written b.front off (given x)) × (c.tally ≡ stored b.tally) × (c.spent ≡ stored b.spent)
 writes_given None off b c w = absurd w
 writes_given (Some o) off b c w = w
 
-pub wide_step : (o : Order) (ns : List ℤ) (old b c : Buf) (i : ℕ) (n : ℤ) → WideLeft o ns old b i → IsThere (wide o ns) → 4 * length ns ≤ length old.front → i < length ns → n ≡ get_or ns i (pos 0)
-    → Writes b c (4 * i) (word 4 o n) → WideLeft o ns old c (i + 1)
+pub wide_step : (o : Order) (ns : List ℤ) (old b c : Buf) (i : ℕ) (n : ℤ) → WideLeft o ns old b i → IsThere (wide o ns)
+    → 4 * length ns ≤ length old.front → i < length ns → n ≡ get_or ns i (pos 0) → Writes b c (4 * i) (word 4 o n)
+    → WideLeft o ns old c (i + 1)
 wide_step o ns old b c i n l there fits lt same w =
     let r = writes_given (word 4 o n) (4 * i) b c w in
     let at : IsThere (word 4 o n) = subst (λ (m : ℤ). IsThere (word 4 o m)) (sym same) (word_there o ns i there lt) in
@@ -210,10 +217,14 @@ given_put : (x : Option (List ℕ)) (rest f : List ℕ) → option_map (λ os. o
 given_put None rest f e = absurd cc
 given_put (Some os) rest f e = let same : os ++ rest ≡ f = cc in sym same
 
-pub wide_put : (o : Order) (ns : List ℤ) (f g : List ℕ) → IsThere (wide o ns) → option_map (λ os. os ++ drop (4 * length ns) f) (wide o ns) ≡ Some g → g ≡ words_of o ns ++ drop (4 * length ns) f
+pub wide_put : (o : Order) (ns : List ℤ) (f g : List ℕ) → IsThere (wide o ns)
+    → option_map (λ os. os ++ drop (4 * length ns) f) (wide o ns) ≡ Some g
+    → g ≡ words_of o ns ++ drop (4 * length ns) f
 wide_put o ns f g there e = given_put (wide o ns) (drop (4 * length ns) f) g e ∙ ap (λ (x : Option (List ℕ)). given x ++ drop (4 * length ns) f) (wide_is o ns there)
 
-pub wide_kept : (o : Order) (ns : List ℤ) (f g : List ℕ) → IsThere (wide o ns) → 4 * length ns ≤ length f → option_map (λ os. os ++ drop (4 * length ns) f) (wide o ns) ≡ Some g → 4 * length ns ≤ length g
+pub wide_kept : (o : Order) (ns : List ℤ) (f g : List ℕ) → IsThere (wide o ns) → 4 * length ns ≤ length f
+    → option_map (λ os. os ++ drop (4 * length ns) f) (wide o ns) ≡ Some g
+    → 4 * length ns ≤ length g
 wide_kept o ns f g there fits e = omega (arith, ap length (wide_put o ns f g there e), length-append (words_of o ns) (drop (4 * length ns) f), words_long o ns there)
 
 -- ---- the whole of a wide row
@@ -222,7 +233,8 @@ module _ (o : Order) (z : Option (Kind × List ℤ)) (k : Kind) (ns : List ℤ) 
   abbrev widened : Option (Kind × List ℤ) → Option (List Step)
   widened y = on_some y (λ r. on_some (wide o r.1) (λ os. Some (Widened os (length r.1) ∷ [])))
 
-  wide_runs : (x : Option (List ℕ)) (s : State) → Runs (on_some x (λ os. Some (Widened os (length ns) ∷ []))) s → IsThere x × (length (given x) ≤ s.ahead)
+  wide_runs : (x : Option (List ℕ)) (s : State) → Runs (on_some x (λ os. Some (Widened os (length ns) ∷ []))) s
+      → IsThere x × (length (given x) ≤ s.ahead)
   wide_runs None s r = absurd r
   wide_runs (Some os) s r = (tt, appended_room os (λ t. moved (stored_times (length ns) t)) s r)
 
@@ -231,9 +243,10 @@ module _ (o : Order) (z : Option (Kind × List ℤ)) (k : Kind) (ns : List ℤ) 
       let k = wide_runs (wide o ns) s (subst (λ (y : Option (Kind × List ℤ)). Runs (widened y) s) (sym is) r) in
       (k.0, omega (arith, k.1, ap (λ (x : Option (List ℕ)). length (given x)) (wide_is o ns k.0), words_long o ns k.0))
 
-  pub widened_ends : (b c d : Buf) → IsThere (wide o ns) → 4 * length ns ≤ length b.front → c.done ≡ b.done → option_map (λ os. os ++ drop (4 * length ns) b.front) (wide o ns) ≡ Some c.front
-      → c.tally ≡ stored_times (length ns) b.tally → c.spent ≡ stored_times (length ns) b.spent
-      → d.done ≡ c.done ++ take (4 * length ns) c.front → d.front ≡ drop (4 * length ns) c.front → d.tally ≡ moved c.tally → d.spent ≡ moved c.spent
+  pub widened_ends : (b c d : Buf) → IsThere (wide o ns) → 4 * length ns ≤ length b.front → c.done ≡ b.done
+      → option_map (λ os. os ++ drop (4 * length ns) b.front) (wide o ns) ≡ Some c.front → c.tally ≡ stored_times (length ns) b.tally
+      → c.spent ≡ stored_times (length ns) b.spent → d.done ≡ c.done ++ take (4 * length ns) c.front
+      → d.front ≡ drop (4 * length ns) c.front → d.tally ≡ moved c.tally → d.spent ≡ moved c.spent
       → Ends (widened z) (state_of b) (state_of d)
   widened_ends b c d there fits done front tally spent done' front' tally' spent' =
       let os = words_of o ns in

@@ -1,4 +1,4 @@
--- How many operations stand in a code: the measure of a run.
+-- How many operations are in a code: the measure of a run.
 use Rattle.std.proofs.Common.{◌≡◌, ℕ, zero, suc, ◌+◌, ◌*◌, ◌<◌, ◌≤◌, ℤ, List, [], ◌∷◌, length, get_or, Option, Some, slice_get, sym, ap, ◌∙◌, arith}
 use Rattle.std.proofs.Math.Nat.{suc-mul}
 use Rattle.cast_stub.specs.declared.send.SendOp.{SendOp}
@@ -86,10 +86,12 @@ call-in-op o k path is =
     let whole : size (op_seen o stop) ≡ 1 = ap (λ (p : Piece). size (p stop)) (ap op_seen is ∙ seen-Call k path) in
     omega (arith, whole)
 
-switch_size : (o : SendOp) (path : List ℕ) (cases : List (ℤ × List SendOp)) (other : Option (List SendOp)) → o ≡ op.Switch path cases other → size (op_seen o stop) ≡ suc (sizes (cases_seen cases other) + 0)
+switch_size : (o : SendOp) (path : List ℕ) (cases : List (ℤ × List SendOp)) (other : Option (List SendOp)) → o ≡ op.Switch path cases other
+    → size (op_seen o stop) ≡ suc (sizes (cases_seen cases other) + 0)
 switch_size o path cases other is = ap (λ (p : Piece). size (p stop)) (ap op_seen is ∙ seen-Switch path cases other)
 
-case_size : (cases : List (ℤ × List SendOp)) (other : Option (List SendOp)) (i : ℕ) (d : ℤ × List SendOp) → i < length cases → code_size (get_or cases i d).1 ≤ sizes (cases_seen cases other)
+case_size : (cases : List (ℤ × List SendOp)) (other : Option (List SendOp)) (i : ℕ) (d : ℤ × List SendOp) → i < length cases
+    → code_size (get_or cases i d).1 ≤ sizes (cases_seen cases other)
 case_size [] other i d lt = absurd (omega (arith, lt))
 case_size (x ∷ cases) other zero d lt = omega arith
 case_size (x ∷ cases) other (suc i) d lt = omega (arith, case_size cases other i d (omega (arith, lt)))
@@ -98,8 +100,10 @@ default_size : (cases : List (ℤ × List SendOp)) (body : List SendOp) → code
 default_size [] body = omega arith
 default_size (x ∷ cases) body = omega (arith, default_size cases body)
 
-pub case-in-op : (o : SendOp) (path : List ℕ) (cases l : List (ℤ × List SendOp)) (other : Option (List SendOp)) (i : ℕ) (d : ℤ × List SendOp)
-    → o ≡ op.Switch path cases other → i < length cases → l ≡ cases → code_size (get_or l i d).1 < size (op_seen o stop)
+pub case-in-op : (o : SendOp) (path : List ℕ) (cases l : List (ℤ × List SendOp)) (other : Option (List SendOp)) (i : ℕ)
+    (d : ℤ × List SendOp)
+    → o ≡ op.Switch path cases other → i < length cases → l ≡ cases
+    → code_size (get_or l i d).1 < size (op_seen o stop)
 case-in-op o path cases l other i d is lt same =
     let here : code_size (get_or l i d).1 ≡ code_size (get_or cases i d).1 = ap (λ (x : List (ℤ × List SendOp)). code_size (get_or x i d).1) same in
     omega (arith, here, case_size cases other i d lt, switch_size o path cases other is)

@@ -25,7 +25,9 @@ pub record Sent (x : Steps) (b c : Buf) : Type 0 where
   pub spent : option_map (paid b.spent) (option_map costs x) ≡ Some c.spent
   pub long : most < length c.done → IsLong (length b.done) (on_some x (wrote (length b.done) []))
 
-sent_of : (ss : List Step) (z : Option (List ℕ)) (b c : Buf) → wrote (length b.done) [] ss ≡ z → IsThere z → ran ss (state_of b) ≡ Some (state_of c) → Sent (Some ss) b c
+sent_of : (ss : List Step) (z : Option (List ℕ)) (b c : Buf) → wrote (length b.done) [] ss ≡ z → IsThere z
+    → ran ss (state_of b) ≡ Some (state_of c)
+    → Sent (Some ss) b c
 sent_of ss None b c e there r = absurd there
 sent_of ss (Some w) b c e there r =
     let whole : ran ss (state (b.done ++ []) (length b.front) b.tally b.spent) ≡ Some (state_of c) = subst (λ (d : List ℕ). ran ss (state d (length b.front) b.tally b.spent) ≡ Some (state_of c)) (sym (append-nil b.done)) r in
@@ -39,7 +41,9 @@ sent_of ss (Some w) b c e there r =
 
 -- ---- where a run is broken off
 
-long_of : (ss : List Step) (z : Option (List ℕ)) (w : Option State) (b c : Buf) → wrote (length b.done) [] ss ≡ z → IsThere z → ran ss (state_of b) ≡ w → IsThere w → Grown (Some ss) (state_of b) (state_of c) → most < length c.done → IsLong (length b.done) z
+long_of : (ss : List Step) (z : Option (List ℕ)) (w : Option State) (b c : Buf) → wrote (length b.done) [] ss ≡ z
+    → IsThere z → ran ss (state_of b) ≡ w → IsThere w → Grown (Some ss) (state_of b) (state_of c) → most < length c.done
+    → IsLong (length b.done) z
 long_of ss None w b c e there r runs g over = absurd there
 long_of ss (Some o) None b c e there r runs g over = absurd runs
 long_of ss (Some o) (Some u) b c e there r runs g over =
@@ -48,7 +52,9 @@ long_of ss (Some o) (Some u) b c e there r runs g over =
     omega (arith, over, g.grows u r, ap length l.done, length-append b.done o)
 
 -- what is too long already is too long at the end
-pub grown-long : (x : Steps) (b c : Buf) → AreCovered x (length b.done) → Runs x (state_of b) → Grown x (state_of b) (state_of c) → most < length c.done → IsLong (length b.done) (on_some x (wrote (length b.done) []))
+pub grown-long : (x : Steps) (b c : Buf) → AreCovered x (length b.done) → Runs x (state_of b)
+    → Grown x (state_of b) (state_of c) → most < length c.done
+    → IsLong (length b.done) (on_some x (wrote (length b.done) []))
 grown-long None b c h runs g over = absurd h
 grown-long (Some ss) b c h runs g over = long_of ss (wrote (length b.done) [] ss) (ran ss (state_of b)) b c refl h.0 refl runs g over
 
@@ -57,12 +63,14 @@ ends-sent None b c h e = absurd h
 ends-sent (Some ss) b c h e = sent_of ss (wrote (length b.done) [] ss) b c refl h.0 e
 
 -- a run that is too long, wherever it was broken off
-pub broken-long : {A E : Type 0} (r : Result A E) (x : Steps) (b c : Buf) → AreCovered x (length b.done) → Runs x (state_of b) → OnOk r (Ends x (state_of b) (state_of c)) → OnErr r (Grown x (state_of b) (state_of c)) → most < length c.done
+pub broken-long : {A E : Type 0} (r : Result A E) (x : Steps) (b c : Buf) → AreCovered x (length b.done) → Runs x (state_of b)
+    → OnOk r (Ends x (state_of b) (state_of c)) → OnErr r (Grown x (state_of b) (state_of c)) → most < length c.done
     → IsLong (length b.done) (on_some x (wrote (length b.done) []))
 broken-long (Ok a) x b c h runs e g over = let s = ends-sent x b c h e in s.long over
 broken-long (Err a) x b c h runs e g over = grown-long x b c h runs g over
 
 -- what was spent does not fall, however a run ends
-pub run-stands : {A E : Type 0} (r : Result A E) (x : Steps) (s t : State) → OnOk r (Ends x s t) → OnErr r (Grown x s t) → NoneFell s.spent t.spent
+pub run-stands : {A E : Type 0} (r : Result A E) (x : Steps) (s t : State) → OnOk r (Ends x s t) → OnErr r (Grown x s t)
+    → NoneFell s.spent t.spent
 run-stands (Ok a) x s t e g = ended-stands x s t e
 run-stands (Err a) x s t e g = g.spent

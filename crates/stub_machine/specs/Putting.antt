@@ -12,9 +12,10 @@ octets_in (Some o) = length o
 -- the octets are stored at a place of the space
 abbrev pub Writes : Buf → Buf → ℕ → Option (List ℕ) → Type 0
 Writes old new off None = ⊥
-Writes old new off (Some o) = (new.done ≡ old.done) × (new.front ≡ written old.front off o) × (new.tally ≡ stored old.tally) × (new.spent ≡ stored old.spent)
+Writes old new off (Some o) = (new.done ≡ old.done) × (new.front ≡ written old.front off o)
+    × (new.tally ≡ stored old.tally) × (new.spent ≡ stored old.spent)
 
--- each octet that was put stands in the space
+-- each octet that was put is in the space
 abbrev pub Over : Cells → List ℕ → Type 0
 Over [] f = Unit {0}
 Over (c ∷ cs) [] = ⊥

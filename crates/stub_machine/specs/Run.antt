@@ -11,7 +11,7 @@ use Rattle.cast_stub.specs.Steps.{Step, Room, Pad, Stored, Widened, Copied, Patc
 pub record State : Type 0 where
   -- the octets so far
   pub done : List ℕ
-  -- how many octets are ensured behind them
+  -- how many octets are ensured after them
   pub ahead : ℕ
   -- the counts since the buffer was cleared
   pub tally : Tally
@@ -28,16 +28,22 @@ stored_times (suc k) t = stored_times k (stored t)
 
 -- octets out of the space that is ahead
 abbrev pub appended : List ℕ → (Tally → Tally) → State → Option State
-appended o cost s = if nat_le (length o) s.ahead then Some (record { done = s.done ++ o; ahead = s.ahead - length o; tally = cost s.tally; spent = cost s.spent }) else None
+appended o cost s = if nat_le (length o) s.ahead
+    then Some (record { done = s.done ++ o; ahead = s.ahead - length o; tally = cost s.tally; spent = cost s.spent }) else None
 
 -- one step, where it has its room
 abbrev pub act : Step → State → Option State
 act (Room n) s = Some (record { done = s.done; ahead = max n s.ahead; tally = checked s.tally; spent = checked s.spent })
 act (Pad a) s = appended (replicate (gap (length s.done) a) 0) moved s
 act (Stored o k) s = appended o (λ t. moved (stored_times k t)) s
-act (Patched at sub order) s =
-    if nat_le (at + 4) (length s.done)
-    then Some (record { done = written s.done at (in_order order 4 ((length s.done + 2 ^ 32 - sub) % 2 ^ 32)); ahead = s.ahead; tally = stored s.tally; spent = stored s.spent }) else None
+act (Patched at sub order) s = if nat_le (at + 4) (length s.done)
+    then Some (record {
+      done = written s.done at (in_order order 4 ((length s.done + 2 ^ 32 - sub) % 2 ^ 32));
+      ahead = s.ahead;
+      tally = stored s.tally;
+      spent = stored s.spent;
+    })
+    else None
 act (Widened o k) s = appended o (λ t. moved (stored_times k t)) s
 act (Copied o) s = appended o rowed s
 

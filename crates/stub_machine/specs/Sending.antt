@@ -6,13 +6,18 @@ use Rattle.cast_stub.specs.Meaning.{Cost}
 
 -- counts that are raised by a cost
 abbrev pub paid : Tally → Cost → Tally
-paid t c = record { checks = raised t.checks c.checks; moves = raised t.moves c.moves; stores = raised t.stores c.stores; rows = raised t.rows c.rows }
+paid t c = record {
+  checks = raised t.checks c.checks;
+  moves = raised t.moves c.moves;
+  stores = raised t.stores c.stores;
+  rows = raised t.rows c.rows;
+}
 
 -- the octets that a message has at most
 abbrev pub most : ℕ
 most = 4194304
 
--- octets that are too many behind so many others
+-- octets that are too many after so many others
 abbrev pub IsLong : ℕ → Option (List ℕ) → Type 0
 IsLong p None = ⊥
 IsLong p (Some o) = most < p + length o

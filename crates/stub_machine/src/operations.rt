@@ -22,11 +22,13 @@ use wire_def::Head;
 /// What a run has throughout: the codes that calls name, and the head.
 #[derive(Drop)]
 pub struct Machine<'a> {
+    /// The codes that calls name, by their numbers.
     pub subs: &'a SendSubs,
+    /// The head of the message, whose numbers the code may write.
     pub head: &'a Head,
 }
 
-/// Runs operations on a value, where at most so many calls stand within one another.
+/// Runs operations on a value, where at most so many calls are nested.
 #[cycle(run)]
 #[tactic(auto, using(crate::proofs::Running::running, crate::proofs::Growing::growing))]
 pub fn run_block(
@@ -36,9 +38,12 @@ pub fn run_block(
     value: &Value,
     buf: &mut SendBuf,
 ) -> Result<(), Stopped>
-    requires { Runs (code_steps (calls_of machine.now.subs.now machine.now.head.now calls) machine.now.head.now code.now (seen value.now)) (state_of buf.old) }
-    ensures ok { OnOk result (Ends (code_steps (calls_of machine.now.subs.now machine.now.head.now calls) machine.now.head.now code.now (seen value.now)) (state_of buf.old) (state_of buf.new)) }
-    ensures err { OnErr result (Grown (code_steps (calls_of machine.now.subs.now machine.now.head.now calls) machine.now.head.now code.now (seen value.now)) (state_of buf.old) (state_of buf.new)) }
+    requires { Runs (code_steps (calls_of machine.now.subs.now machine.now.head.now calls)
+        machine.now.head.now code.now (seen value.now)) (state_of buf.old) }
+    ensures ok { OnOk result (Ends (code_steps (calls_of machine.now.subs.now machine.now.head.now calls)
+        machine.now.head.now code.now (seen value.now)) (state_of buf.old) (state_of buf.new)) }
+    ensures err { OnErr result (Grown (code_steps (calls_of machine.now.subs.now machine.now.head.now calls)
+        machine.now.head.now code.now (seen value.now)) (state_of buf.old) (state_of buf.new)) }
     ensures long { (result ≡ Err Stopped.Long) → most < length buf.new.done }
 {
     for op in code.as_slice() {
@@ -60,9 +65,14 @@ fn run_op(
     value: &Value,
     buf: &mut SendBuf,
 ) -> Result<(), Stopped>
-    requires { Runs (steps (calls_of machine.now.subs.now machine.now.head.now calls) machine.now.head.now (op_seen op.now stop) (seen value.now)) (state_of buf.old) }
-    ensures ok { OnOk result ((r : Block) → ended (steps (calls_of machine.now.subs.now machine.now.head.now calls) machine.now.head.now (op_seen op.now r) (seen value.now)) (state_of buf.old) ≡ ended (steps (calls_of machine.now.subs.now machine.now.head.now calls) machine.now.head.now r (seen value.now)) (state_of buf.new)) }
-    ensures err { OnErr result (Grown (steps (calls_of machine.now.subs.now machine.now.head.now calls) machine.now.head.now (op_seen op.now stop) (seen value.now)) (state_of buf.old) (state_of buf.new)) }
+    requires { Runs (steps (calls_of machine.now.subs.now machine.now.head.now calls) machine.now.head.now
+        (op_seen op.now stop) (seen value.now)) (state_of buf.old) }
+    ensures ok { OnOk result ((r : Block) → ended (steps (calls_of machine.now.subs.now machine.now.head.now
+        calls) machine.now.head.now (op_seen op.now r) (seen value.now)) (state_of buf.old)
+        ≡ ended (steps (calls_of machine.now.subs.now machine.now.head.now calls)
+        machine.now.head.now r (seen value.now)) (state_of buf.new)) }
+    ensures err { OnErr result (Grown (steps (calls_of machine.now.subs.now machine.now.head.now calls)
+        machine.now.head.now (op_seen op.now stop) (seen value.now)) (state_of buf.old) (state_of buf.new)) }
     ensures long { (result ≡ Err Stopped.Long) → most < length buf.new.done }
 {
     match op {
@@ -121,9 +131,12 @@ fn run_each(
     value: &Value,
     buf: &mut SendBuf,
 ) -> Result<(), Stopped>
-    requires { Runs (each_steps (calls_of machine.now.subs.now machine.now.head.now calls) machine.now.head.now path.now body.now (seen value.now)) (state_of buf.old) }
-    ensures ok { OnOk result (Ends (each_steps (calls_of machine.now.subs.now machine.now.head.now calls) machine.now.head.now path.now body.now (seen value.now)) (state_of buf.old) (state_of buf.new)) }
-    ensures err { OnErr result (Grown (each_steps (calls_of machine.now.subs.now machine.now.head.now calls) machine.now.head.now path.now body.now (seen value.now)) (state_of buf.old) (state_of buf.new)) }
+    requires { Runs (each_steps (calls_of machine.now.subs.now machine.now.head.now calls)
+        machine.now.head.now path.now body.now (seen value.now)) (state_of buf.old) }
+    ensures ok { OnOk result (Ends (each_steps (calls_of machine.now.subs.now machine.now.head.now calls)
+        machine.now.head.now path.now body.now (seen value.now)) (state_of buf.old) (state_of buf.new)) }
+    ensures err { OnErr result (Grown (each_steps (calls_of machine.now.subs.now machine.now.head.now calls)
+        machine.now.head.now path.now body.now (seen value.now)) (state_of buf.old) (state_of buf.new)) }
     ensures long { (result ≡ Err Stopped.Long) → most < length buf.new.done }
 {
     let Some(here) = part(path, value) else {
@@ -142,9 +155,15 @@ fn run_elements(
     value: &Value,
     buf: &mut SendBuf,
 ) -> Result<(), Stopped>
-    requires { Runs (on_some (elements_in (seen value.now)) (over (code_steps (calls_of machine.now.subs.now machine.now.head.now calls) machine.now.head.now body.now))) (state_of buf.old) }
-    ensures ok { OnOk result (Ends (on_some (elements_in (seen value.now)) (over (code_steps (calls_of machine.now.subs.now machine.now.head.now calls) machine.now.head.now body.now))) (state_of buf.old) (state_of buf.new)) }
-    ensures err { OnErr result (Grown (on_some (elements_in (seen value.now)) (over (code_steps (calls_of machine.now.subs.now machine.now.head.now calls) machine.now.head.now body.now))) (state_of buf.old) (state_of buf.new)) }
+    requires { Runs (on_some (elements_in (seen value.now)) (over (code_steps
+        (calls_of machine.now.subs.now machine.now.head.now calls) machine.now.head.now body.now)))
+        (state_of buf.old) }
+    ensures ok { OnOk result (Ends (on_some (elements_in (seen value.now)) (over (code_steps
+        (calls_of machine.now.subs.now machine.now.head.now calls) machine.now.head.now body.now)))
+        (state_of buf.old) (state_of buf.new)) }
+    ensures err { OnErr result (Grown (on_some (elements_in (seen value.now)) (over (code_steps
+        (calls_of machine.now.subs.now machine.now.head.now calls) machine.now.head.now body.now)))
+        (state_of buf.old) (state_of buf.new)) }
     ensures long { (result ≡ Err Stopped.Long) → most < length buf.new.done }
 {
     match value {
@@ -164,9 +183,14 @@ fn run_items(
     values: &Values,
     buf: &mut SendBuf,
 ) -> Result<(), Stopped>
-    requires { Runs (over (code_steps (calls_of machine.now.subs.now machine.now.head.now calls) machine.now.head.now body.now) (all_seen values.now)) (state_of buf.old) }
-    ensures ok { OnOk result (Ends (over (code_steps (calls_of machine.now.subs.now machine.now.head.now calls) machine.now.head.now body.now) (all_seen values.now)) (state_of buf.old) (state_of buf.new)) }
-    ensures err { OnErr result (Grown (over (code_steps (calls_of machine.now.subs.now machine.now.head.now calls) machine.now.head.now body.now) (all_seen values.now)) (state_of buf.old) (state_of buf.new)) }
+    requires { Runs (over (code_steps (calls_of machine.now.subs.now machine.now.head.now calls)
+        machine.now.head.now body.now) (all_seen values.now)) (state_of buf.old) }
+    ensures ok { OnOk result (Ends
+        (over (code_steps (calls_of machine.now.subs.now machine.now.head.now calls) machine.now.head.now
+        body.now) (all_seen values.now)) (state_of buf.old) (state_of buf.new)) }
+    ensures err { OnErr result (Grown
+        (over (code_steps (calls_of machine.now.subs.now machine.now.head.now calls) machine.now.head.now
+        body.now) (all_seen values.now)) (state_of buf.old) (state_of buf.new)) }
     ensures long { (result ≡ Err Stopped.Long) → most < length buf.new.done }
 {
     for value in values.as_slice() {
@@ -185,9 +209,14 @@ fn run_numbers(
     row: &Row,
     buf: &mut SendBuf,
 ) -> Result<(), Stopped>
-    requires { Runs (over (code_steps (calls_of machine.now.subs.now machine.now.head.now calls) machine.now.head.now body.now) (vals_of (map num row.now.numbers))) (state_of buf.old) }
-    ensures ok { OnOk result (Ends (over (code_steps (calls_of machine.now.subs.now machine.now.head.now calls) machine.now.head.now body.now) (vals_of (map num row.now.numbers))) (state_of buf.old) (state_of buf.new)) }
-    ensures err { OnErr result (Grown (over (code_steps (calls_of machine.now.subs.now machine.now.head.now calls) machine.now.head.now body.now) (vals_of (map num row.now.numbers))) (state_of buf.old) (state_of buf.new)) }
+    requires { Runs (over (code_steps (calls_of machine.now.subs.now machine.now.head.now calls)
+        machine.now.head.now body.now) (vals_of (map num row.now.numbers))) (state_of buf.old) }
+    ensures ok { OnOk result (Ends
+        (over (code_steps (calls_of machine.now.subs.now machine.now.head.now calls) machine.now.head.now
+        body.now) (vals_of (map num row.now.numbers))) (state_of buf.old) (state_of buf.new)) }
+    ensures err { OnErr result (Grown
+        (over (code_steps (calls_of machine.now.subs.now machine.now.head.now calls) machine.now.head.now
+        body.now) (vals_of (map num row.now.numbers))) (state_of buf.old) (state_of buf.new)) }
     ensures long { (result ≡ Err Stopped.Long) → most < length buf.new.done }
 {
     for i in 0..row.len() {
@@ -220,9 +249,12 @@ fn run_some(
     value: &Value,
     buf: &mut SendBuf,
 ) -> Result<(), Stopped>
-    requires { Runs (some_steps (calls_of machine.now.subs.now machine.now.head.now calls) machine.now.head.now path.now body.now (seen value.now)) (state_of buf.old) }
-    ensures ok { OnOk result (Ends (some_steps (calls_of machine.now.subs.now machine.now.head.now calls) machine.now.head.now path.now body.now (seen value.now)) (state_of buf.old) (state_of buf.new)) }
-    ensures err { OnErr result (Grown (some_steps (calls_of machine.now.subs.now machine.now.head.now calls) machine.now.head.now path.now body.now (seen value.now)) (state_of buf.old) (state_of buf.new)) }
+    requires { Runs (some_steps (calls_of machine.now.subs.now machine.now.head.now calls)
+        machine.now.head.now path.now body.now (seen value.now)) (state_of buf.old) }
+    ensures ok { OnOk result (Ends (some_steps (calls_of machine.now.subs.now machine.now.head.now calls)
+        machine.now.head.now path.now body.now (seen value.now)) (state_of buf.old) (state_of buf.new)) }
+    ensures err { OnErr result (Grown (some_steps (calls_of machine.now.subs.now machine.now.head.now calls)
+        machine.now.head.now path.now body.now (seen value.now)) (state_of buf.old) (state_of buf.new)) }
     ensures long { (result ≡ Err Stopped.Long) → most < length buf.new.done }
 {
     let Some(here) = part(path, value) else {
@@ -241,9 +273,14 @@ fn run_present(
     value: &Value,
     buf: &mut SendBuf,
 ) -> Result<(), Stopped>
-    requires { Runs (if_present (code_steps (calls_of machine.now.subs.now machine.now.head.now calls) machine.now.head.now body.now) (seen value.now)) (state_of buf.old) }
-    ensures ok { OnOk result (Ends (if_present (code_steps (calls_of machine.now.subs.now machine.now.head.now calls) machine.now.head.now body.now) (seen value.now)) (state_of buf.old) (state_of buf.new)) }
-    ensures err { OnErr result (Grown (if_present (code_steps (calls_of machine.now.subs.now machine.now.head.now calls) machine.now.head.now body.now) (seen value.now)) (state_of buf.old) (state_of buf.new)) }
+    requires { Runs (if_present (code_steps (calls_of machine.now.subs.now machine.now.head.now calls)
+        machine.now.head.now body.now) (seen value.now)) (state_of buf.old) }
+    ensures ok { OnOk result (Ends
+        (if_present (code_steps (calls_of machine.now.subs.now machine.now.head.now calls)
+        machine.now.head.now body.now) (seen value.now)) (state_of buf.old) (state_of buf.new)) }
+    ensures err { OnErr result (Grown
+        (if_present (code_steps (calls_of machine.now.subs.now machine.now.head.now calls)
+        machine.now.head.now body.now) (seen value.now)) (state_of buf.old) (state_of buf.new)) }
     ensures long { (result ≡ Err Stopped.Long) → most < length buf.new.done }
 {
     match value {
@@ -264,9 +301,14 @@ fn run_called(
     value: &Value,
     buf: &mut SendBuf,
 ) -> Result<(), Stopped>
-    requires { Runs (call_steps (calls_of machine.now.subs.now machine.now.head.now calls) k path.now (seen value.now)) (state_of buf.old) }
-    ensures ok { OnOk result (Ends (call_steps (calls_of machine.now.subs.now machine.now.head.now calls) k path.now (seen value.now)) (state_of buf.old) (state_of buf.new)) }
-    ensures err { OnErr result (Grown (call_steps (calls_of machine.now.subs.now machine.now.head.now calls) k path.now (seen value.now)) (state_of buf.old) (state_of buf.new)) }
+    requires { Runs
+        (call_steps (calls_of machine.now.subs.now machine.now.head.now calls) k path.now (seen value.now))
+        (state_of buf.old) }
+    ensures ok { OnOk result (Ends (call_steps (calls_of machine.now.subs.now machine.now.head.now calls)
+        k path.now (seen value.now)) (state_of buf.old) (state_of buf.new)) }
+    ensures err { OnErr result (Grown
+        (call_steps (calls_of machine.now.subs.now machine.now.head.now calls) k path.now (seen value.now))
+        (state_of buf.old) (state_of buf.new)) }
     ensures long { (result ≡ Err Stopped.Long) → most < length buf.new.done }
 {
     if calls == 0 {
@@ -281,7 +323,7 @@ fn run_called(
     }
 }
 
-/// How many calls may stand within one another.
+/// How many calls may be nested.
 pub fn deepest_call() -> u32
     ensures { result ≡ deepest }
 {

@@ -68,7 +68,8 @@ pub fn length_of(value: &Value) -> Option<usize>
 /// The row at a path.
 #[tactic(auto, using(crate::proofs::PartLaws::parts))]
 pub fn row_at<'a>(path: &Path, value: &'a Value) -> Option<&'a Row>
-    ensures { option_map (λ r. (r.now.kind, r.now.numbers)) result ≡ on_some (at path.now (seen value.now)) row_in }
+    ensures { option_map (λ r. (r.now.kind, r.now.numbers)) result
+        ≡ on_some (at path.now (seen value.now)) row_in }
 {
     match part(path, value) {
         Some(here) => row_of(here),
@@ -115,10 +116,11 @@ pub fn scaled(n: usize, mul: u32, add: u32) -> i128
     (n as i128) * i128::from(mul) + i128::from(add)
 }
 
-/// The tag and the value behind it, at a path.
+/// The tag and the value after it, at a path.
 #[tactic(auto, using(crate::proofs::PartLaws::parts))]
 pub fn arm_at<'a>(path: &Path, value: &'a Value) -> Option<(&'a i128, &'a Value)>
-    ensures { option_map (λ a. (a.0.now, seen a.1.now)) result ≡ on_some (at path.now (seen value.now)) arm_in }
+    ensures { option_map (λ a. (a.0.now, seen a.1.now)) result
+        ≡ on_some (at path.now (seen value.now)) arm_in }
 {
     match part(path, value) {
         Some(here) => arm(here),
@@ -126,7 +128,7 @@ pub fn arm_at<'a>(path: &Path, value: &'a Value) -> Option<(&'a i128, &'a Value)
     }
 }
 
-// The tag of an arm, and the value behind it.
+// The tag of an arm, and the value after it.
 fn arm(value: &Value) -> Option<(&i128, &Value)>
     ensures { option_map (λ a. (a.0.now, seen a.1.now)) result ≡ arm_in (seen value.now) }
 {

@@ -61,8 +61,11 @@ pub fn put_word(buf: &mut SendBuf, off: usize, width: u32, order: Order, n: &i12
 // Stores the number at a path.
 fn put_number(buf: &mut SendBuf, off: u32, path: &Path, width: u32, order: Order, value: &Value)
     requires there { IsThere (on_some (on_some (at path.now (seen value.now)) number_in) (word width order)) }
-    requires within { off + octets_in (on_some (on_some (at path.now (seen value.now)) number_in) (word width order)) ≤ length buf.old.front }
-    ensures { Writes buf.old buf.new off (on_some (on_some (at path.now (seen value.now)) number_in) (word width order)) }
+    requires within { off
+        + octets_in (on_some (on_some (at path.now (seen value.now)) number_in) (word width order))
+        ≤ length buf.old.front }
+    ensures { Writes buf.old buf.new off
+        (on_some (on_some (at path.now (seen value.now)) number_in) (word width order)) }
 {
     let Some(here) = part(path, value) else {
         unreachable!()
@@ -76,8 +79,11 @@ fn put_number(buf: &mut SendBuf, off: u32, path: &Path, width: u32, order: Order
 // Stores the tag of the arm at a path.
 fn put_tag(buf: &mut SendBuf, off: u32, path: &Path, width: u32, order: Order, value: &Value)
     requires there { IsThere (on_some (on_some (at path.now (seen value.now)) tag_in) (word width order)) }
-    requires within { off + octets_in (on_some (on_some (at path.now (seen value.now)) tag_in) (word width order)) ≤ length buf.old.front }
-    ensures { Writes buf.old buf.new off (on_some (on_some (at path.now (seen value.now)) tag_in) (word width order)) }
+    requires within { off
+        + octets_in (on_some (on_some (at path.now (seen value.now)) tag_in) (word width order))
+        ≤ length buf.old.front }
+    ensures { Writes buf.old buf.new off
+        (on_some (on_some (at path.now (seen value.now)) tag_in) (word width order)) }
 {
     let Some(here) = part(path, value) else {
         unreachable!()
@@ -91,8 +97,11 @@ fn put_tag(buf: &mut SendBuf, off: u32, path: &Path, width: u32, order: Order, v
 // Stores whether a value is there at a path.
 fn put_flag(buf: &mut SendBuf, off: u32, path: &Path, width: u32, order: Order, value: &Value)
     requires there { IsThere (on_some (on_some (at path.now (seen value.now)) flag_in) (word width order)) }
-    requires within { off + octets_in (on_some (on_some (at path.now (seen value.now)) flag_in) (word width order)) ≤ length buf.old.front }
-    ensures { Writes buf.old buf.new off (on_some (on_some (at path.now (seen value.now)) flag_in) (word width order)) }
+    requires within { off
+        + octets_in (on_some (on_some (at path.now (seen value.now)) flag_in) (word width order))
+        ≤ length buf.old.front }
+    ensures { Writes buf.old buf.new off
+        (on_some (on_some (at path.now (seen value.now)) flag_in) (word width order)) }
 {
     let Some(here) = part(path, value) else {
         unreachable!()
@@ -114,9 +123,12 @@ fn put_count(
     order: Order,
     value: &Value,
 )
-    requires there { IsThere (on_some (on_some (at path.now (seen value.now)) length_in) (λ n. word width order (pos (n * mul + add)))) }
-    requires within { off + octets_in (on_some (on_some (at path.now (seen value.now)) length_in) (λ n. word width order (pos (n * mul + add)))) ≤ length buf.old.front }
-    ensures { Writes buf.old buf.new off (on_some (on_some (at path.now (seen value.now)) length_in) (λ n. word width order (pos (n * mul + add)))) }
+    requires there { IsThere (on_some (on_some (at path.now (seen value.now)) length_in)
+        (λ n. word width order (pos (n * mul + add)))) }
+    requires within { off + octets_in (on_some (on_some (at path.now (seen value.now)) length_in)
+        (λ n. word width order (pos (n * mul + add)))) ≤ length buf.old.front }
+    ensures { Writes buf.old buf.new off (on_some (on_some (at path.now (seen value.now)) length_in)
+        (λ n. word width order (pos (n * mul + add)))) }
 {
     let Some(here) = part(path, value) else {
         unreachable!()
@@ -150,9 +162,13 @@ fn put_short(
     mul: u32,
     value: &Value,
 )
-    requires there { IsThere (on_some (on_some (at path.now (seen value.now)) length_in) (λ n. descriptor name size (n * mul))) }
-    requires within { off + octets_in (on_some (on_some (at path.now (seen value.now)) length_in) (λ n. descriptor name size (n * mul))) ≤ length buf.old.front }
-    ensures { Writes buf.old buf.new off (on_some (on_some (at path.now (seen value.now)) length_in) (λ n. descriptor name size (n * mul))) }
+    requires there { IsThere
+        (on_some (on_some (at path.now (seen value.now)) length_in) (λ n. descriptor name size (n * mul))) }
+    requires within { off + octets_in
+        (on_some (on_some (at path.now (seen value.now)) length_in) (λ n. descriptor name size (n * mul)))
+        ≤ length buf.old.front }
+    ensures { Writes buf.old buf.new off
+        (on_some (on_some (at path.now (seen value.now)) length_in) (λ n. descriptor name size (n * mul))) }
 {
     let Some(here) = part(path, value) else {
         unreachable!()
@@ -169,7 +185,8 @@ fn put_short(
 // Stores what a put says.
 fn run_put(put: &Put, head: &Head, value: &Value, buf: &mut SendBuf)
     requires there { IsThere (put_octets head.now put.now (seen value.now)) }
-    requires within { offset put.now + octets_in (put_octets head.now put.now (seen value.now)) ≤ length buf.old.front }
+    requires within { offset put.now + octets_in (put_octets head.now put.now (seen value.now))
+        ≤ length buf.old.front }
     ensures { Writes buf.old buf.new (offset put.now) (put_octets head.now put.now (seen value.now)) }
 {
     match put {
@@ -209,7 +226,8 @@ fn run_puts(size: u32, puts: &Puts, head: &Head, value: &Value, buf: &mut SendBu
 /// Fills a chunk and appends it.
 pub fn run_chunk(size: u32, puts: &Puts, head: &Head, value: &Value, buf: &mut SendBuf)
     requires { Runs (chunk_steps size puts.now head.now (seen value.now)) (state_of buf.old) }
-    ensures { Ends (chunk_steps size puts.now head.now (seen value.now)) (state_of buf.old) (state_of buf.new) }
+    ensures { Ends (chunk_steps size puts.now head.now (seen value.now)) (state_of buf.old)
+        (state_of buf.new) }
 {
     run_puts(size, puts, head, value, buf);
     buf.advance(size as usize);

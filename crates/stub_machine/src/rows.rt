@@ -57,7 +57,8 @@ fn put_wide(row: &Row, order: Order, buf: &mut SendBuf)
     requires there { IsThere (wide order row.now.numbers) }
     requires within { 4 * length row.now.numbers ≤ length buf.old.front }
     ensures done { buf.new.done ≡ buf.old.done }
-    ensures front { option_map (λ os. os ++ drop (4 * length row.now.numbers) buf.old.front) (wide order row.now.numbers) ≡ Some buf.new.front }
+    ensures front { option_map (λ os. os ++ drop (4 * length row.now.numbers) buf.old.front)
+        (wide order row.now.numbers) ≡ Some buf.new.front }
     ensures tally { buf.new.tally ≡ stored_times (length row.now.numbers) buf.old.tally }
     ensures spent { buf.new.spent ≡ stored_times (length row.now.numbers) buf.old.spent }
 {

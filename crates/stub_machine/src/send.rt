@@ -23,13 +23,17 @@ pub fn run_send(
     buf: &mut SendBuf,
 ) -> Result<(), SendErr>
     requires { AreCovered (sent_steps code.now head.now (seen value.now)) (length buf.old.done) }
-    ensures done { OnOk result (option_map (λ o. buf.old.done ++ o) (meaning code.now head.now (seen value.now) (length buf.old.done)) ≡ Some buf.new.done) }
-    ensures tally { OnOk result (option_map (paid buf.old.tally) (cost code.now head.now (seen value.now)) ≡ Some buf.new.tally) }
-    ensures spent { OnOk result (option_map (paid buf.old.spent) (cost code.now head.now (seen value.now)) ≡ Some buf.new.spent) }
+    ensures done { OnOk result (option_map (λ o. buf.old.done ++ o)
+        (meaning code.now head.now (seen value.now) (length buf.old.done)) ≡ Some buf.new.done) }
+    ensures tally { OnOk result
+        (option_map (paid buf.old.tally) (cost code.now head.now (seen value.now)) ≡ Some buf.new.tally) }
+    ensures spent { OnOk result
+        (option_map (paid buf.old.spent) (cost code.now head.now (seen value.now)) ≡ Some buf.new.spent) }
     ensures short { OnOk result (length buf.new.done ≤ most) }
     ensures memory { (result ≡ Err SendErr.NoMemory) → length buf.new.done ≤ most }
     ensures stands { NoneFell buf.old.spent buf.new.spent }
-    ensures long { (result ≡ Err SendErr.Long) → IsLong (length buf.old.done) (meaning code.now head.now (seen value.now) (length buf.old.done)) }
+    ensures long { (result ≡ Err SendErr.Long)
+        → IsLong (length buf.old.done) (meaning code.now head.now (seen value.now) (length buf.old.done)) }
 {
     let machine = Machine {
         subs: &code.subs,

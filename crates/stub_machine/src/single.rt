@@ -30,7 +30,8 @@ pub fn run_ensure_row(
     buf: &mut SendBuf,
 ) -> Result<(), Stopped>
     requires { Runs (row_room path.now unit extra (seen value.now)) (state_of buf.old) }
-    ensures ok { OnOk result (Ends (row_room path.now unit extra (seen value.now)) (state_of buf.old) (state_of buf.new)) }
+    ensures ok { OnOk result
+        (Ends (row_room path.now unit extra (seen value.now)) (state_of buf.old) (state_of buf.new)) }
     ensures err { OnErr result (buf.new ≡ buf.old) }
     ensures memory { result ≢ Err Stopped.Long }
 {

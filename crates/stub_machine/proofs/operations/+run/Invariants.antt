@@ -10,16 +10,24 @@ use Rattle.stub_machine.proofs.Sizes.{size, code_size, left_to_run}
 use Rattle.stub_machine.proofs.operations.+run.Given as goal
 
 abbrev pub invariant-run_block-loop-op : goal.invariant-run_block-loop-op
-invariant-run_block-loop-op l =
-    Left (code_steps (calls_of l.machine.subs.now l.machine.head.now l.calls) l.machine.head.now l.op-items (seen l.value)) (code_steps (calls_of l.machine.subs.now l.machine.head.now l.calls) l.machine.head.now (drop l.op-index l.op-items) (seen l.value)) (state_of l.fn.buf) (state_of l.buf)
+invariant-run_block-loop-op l = Left
+    (code_steps (calls_of l.machine.subs.now l.machine.head.now l.calls) l.machine.head.now l.op-items (seen l.value))
+    (code_steps (calls_of l.machine.subs.now l.machine.head.now l.calls) l.machine.head.now (drop l.op-index l.op-items) (seen l.value))
+    (state_of l.fn.buf) (state_of l.buf)
 
 abbrev pub invariant-run_items-loop-value : goal.invariant-run_items-loop-value
-invariant-run_items-loop-value l =
-    Left (over (code_steps (calls_of l.machine.subs.now l.machine.head.now l.calls) l.machine.head.now l.body) (all_seen l.value-items)) (over (code_steps (calls_of l.machine.subs.now l.machine.head.now l.calls) l.machine.head.now l.body) (all_seen (drop l.value-index l.value-items))) (state_of l.fn.buf) (state_of l.buf)
+invariant-run_items-loop-value l = Left
+    (over (code_steps (calls_of l.machine.subs.now l.machine.head.now l.calls) l.machine.head.now l.body) (all_seen l.value-items))
+    (over (code_steps (calls_of l.machine.subs.now l.machine.head.now l.calls) l.machine.head.now l.body)
+    (all_seen (drop l.value-index l.value-items)))
+    (state_of l.fn.buf) (state_of l.buf)
 
 abbrev pub invariant-run_numbers-loop-i : goal.invariant-run_numbers-loop-i
-invariant-run_numbers-loop-i l =
-    Left (over (code_steps (calls_of l.machine.subs.now l.machine.head.now l.calls) l.machine.head.now l.body) (vals_of (map num l.row.numbers))) (over (code_steps (calls_of l.machine.subs.now l.machine.head.now l.calls) l.machine.head.now l.body) (vals_of (map num (drop l.i l.row.numbers)))) (state_of l.fn.buf) (state_of l.buf)
+invariant-run_numbers-loop-i l = Left
+    (over (code_steps (calls_of l.machine.subs.now l.machine.head.now l.calls) l.machine.head.now l.body) (vals_of (map num l.row.numbers)))
+    (over (code_steps (calls_of l.machine.subs.now l.machine.head.now l.calls) l.machine.head.now l.body)
+    (vals_of (map num (drop l.i l.row.numbers))))
+    (state_of l.fn.buf) (state_of l.buf)
 
 abbrev pub decreases-run_block : goal.decreases-run_block
 decreases-run_block l = left_to_run l.machine.now.subs.now l.calls (code_size l.code.now) + 7
