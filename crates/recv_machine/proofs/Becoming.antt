@@ -25,9 +25,21 @@ there_mapped (Some a) f h = tt
 pub fields_there : (ds : Drafts) → IsThere (option_map group (settles ds)) → IsThere (settles ds)
 fields_there ds h = there_mapped (settles ds) group h
 
-pub ruleset settling = (drawn-Raw, drawn-Digit, drawn-Listed, drawn-Lined, drawn-Tagged, drawn-Flagged, drawn-Done, drawn-Fields, no_node, seen-Void, fields_there)
+pub ruleset settling = (
+  drawn-Raw,
+  drawn-Digit,
+  drawn-Listed,
+  drawn-Lined,
+  drawn-Tagged,
+  drawn-Flagged,
+  drawn-Done,
+  drawn-Fields,
+  no_node,
+  seen-Void,
+  fields_there,
+)
 
--- ---- how many structs stand within one another
+-- ---- how many structs are nested
 
 abbrev mutual
   pub draft_size : Draft → ℕ
@@ -38,25 +50,27 @@ abbrev mutual
   drafts_size no_draft = 0
   drafts_size (draft d ds) = draft_size d + drafts_size ds
 
-field_size : (ns : List Node) (ds : List Filling) (i : ℕ) (d : Filling) → slice_get ds i ≡ Some d → draft_size (drawn ns d) ≤ drafts_size (all_drawn ns ds)
+field_size : (ns : List Node) (ds : List Filling) (i : ℕ) (d : Filling) → slice_get ds i ≡ Some d
+    → draft_size (drawn ns d) ≤ drafts_size (all_drawn ns ds)
 field_size ns [] i d e = absurd cc
 field_size ns (x ∷ ds) zero d e = let s : x ≡ d = cc in omega (arith, ap (λ (y : Filling). draft_size (drawn ns y)) s)
 field_size ns (x ∷ ds) (suc i) d e = omega (arith, field_size ns ds i d e)
 
-pub fields_size : (ns : List Node) (d : Filling) (ds : List Filling) → d ≡ filling.Fields ds → draft_size (drawn ns d) ≡ suc (drafts_size (all_drawn ns ds))
+pub fields_size : (ns : List Node) (d : Filling) (ds : List Filling) → d ≡ filling.Fields ds
+    → draft_size (drawn ns d) ≡ suc (drafts_size (all_drawn ns ds))
 fields_size ns d ds is = ap (λ (x : Filling). draft_size (drawn ns x)) is ∙ ap draft_size (drawn-Fields ns ds)
 
 -- ---- one field more
 
--- values in front of those of drafts
+-- values before those of drafts
 abbrev pub with_front : Vals → Option Vals → Option Vals
 with_front front o = option_map (joined front) o
 
--- the whole is the values so far and those of what is left, which stands as it stood
+-- the whole is the values so far and those of what is left, which is as it was
 pub record Settled (ns : List Node) (fields rest : List Filling) (values : List Value) (i : ℕ) : Type 0 where
   pub whole : settles (all_drawn ns fields) ≡ with_front (all_seen values) (settles (all_drawn ns (drop i rest)))
   pub many : length rest ≡ length fields
-  -- the fields that are left stand where they stood
+  -- the fields that are left are where they were
   pub left : drop i rest ≡ drop i fields
 
 dropped_set : (ds : List Filling) (i : ℕ) (x : Filling) → drop (i + 1) (slice_set ds i x) ≡ drop (i + 1) ds
@@ -73,11 +87,13 @@ first_got (x ∷ ds) (suc i) d h =
     let e : suc i + 1 ≡ suc (i + 1) = omega arith in
     first_got ds i d h ∙ sym (ap (λ (n : ℕ). d ∷ drop n (x ∷ ds)) e)
 
-same_none : (front : Vals) (o : Option Val) (q : Option Vals) → o ≡ None → with_front front (on_some o (λ v. on_some q (λ vs. Some (val v vs)))) ≡ None
+same_none : (front : Vals) (o : Option Val) (q : Option Vals) → o ≡ None
+    → with_front front (on_some o (λ v. on_some q (λ vs. Some (val v vs)))) ≡ None
 same_none front None q h = refl
 same_none front (Some v) q h = absurd cc
 
-some_joined : (front : Vals) (v : Val) (q : Option Vals) → with_front front (on_some q (λ vs. Some (val v vs))) ≡ with_front (joined front (val v no_more)) q
+some_joined : (front : Vals) (v : Val) (q : Option Vals)
+    → with_front front (on_some q (λ vs. Some (val v vs))) ≡ with_front (joined front (val v no_more)) q
 some_joined front v None = refl
 some_joined front v (Some vs) = ap (λ (x : Vals). Some x) (sym (joined_one front v vs))
 
@@ -86,7 +102,9 @@ length-set [] i x = refl
 length-set (d ∷ ds) zero x = refl
 length-set (d ∷ ds) (suc i) x = ap suc (length-set ds i x)
 
-pub settle_fits : (ns : List Node) (fields rest : List Filling) (values : List Value) (i : ℕ) (d : Filling) → Settled ns fields rest values i → slice_get rest i ≡ Some d → IsThere (settles (all_drawn ns fields)) → IsThere (settle (drawn ns d))
+pub settle_fits : (ns : List Node) (fields rest : List Filling) (values : List Value) (i : ℕ) (d : Filling)
+    → Settled ns fields rest values i → slice_get rest i ≡ Some d → IsThere (settles (all_drawn ns fields))
+    → IsThere (settle (drawn ns d))
 settle_fits ns fields rest values i d h got there = checked (settle (drawn ns d)) refl where
   checked : (o : Option Val) → settle (drawn ns d) ≡ o → IsThere (settle (drawn ns d))
   checked (Some v) e = subst IsThere (sym e) tt
@@ -100,7 +118,9 @@ one_off ds i =
     let next : i + 1 ≡ 1 + i = omega arith in
     drop-drop 1 i ds ∙ ap (λ (k : ℕ). drop k ds) next
 
-pub settle_turn : (ns : List Node) (fields rest rest' : List Filling) (values values' : List Value) (i : ℕ) (d hole : Filling) (v : Value) → Settled ns fields rest values i → slice_get rest i ≡ Some d → rest' ≡ slice_set rest i hole → settle (drawn ns d) ≡ Some (seen v) → values' ≡ values ++ v ∷ []
+pub settle_turn : (ns : List Node) (fields rest rest' : List Filling) (values values' : List Value) (i : ℕ) (d hole : Filling) (v : Value)
+    → Settled ns fields rest values i → slice_get rest i ≡ Some d → rest' ≡ slice_set rest i hole
+    → settle (drawn ns d) ≡ Some (seen v) → values' ≡ values ++ v ∷ []
     → Settled ns fields rest' values' (i + 1)
 settle_turn ns fields rest rest' values values' i d hole v h got made is more = record {
   whole =
@@ -122,7 +142,9 @@ drop-none : (none : List Filling) (i : ℕ) → none ≡ [] → drop i none ≡ 
 drop-none none zero e = e
 drop-none none (suc i) e = ap (drop (suc i)) e
 
-pub settle_less : (ns : List Node) (fields rest : List Filling) (values : List Value) (i : ℕ) (d : Filling) → Settled ns fields rest values i → slice_get rest i ≡ Some d → draft_size (drawn ns d) ≤ drafts_size (all_drawn ns fields)
+pub settle_less : (ns : List Node) (fields rest : List Filling) (values : List Value) (i : ℕ) (d : Filling)
+    → Settled ns fields rest values i → slice_get rest i ≡ Some d
+    → draft_size (drawn ns d) ≤ drafts_size (all_drawn ns fields)
 settle_less ns fields rest values i d h got =
     let there : drop i fields ≡ d ∷ drop (i + 1) rest = sym h.left ∙ first_got rest i d got in
     field_size ns fields i d (got_first fields i d (drop (i + 1) rest) there) where
@@ -137,13 +159,17 @@ settle_start ns fields = record { whole = nothing (settles (all_drawn ns fields)
   nothing None = refl
   nothing (Some vs) = refl
 
-pub settle_end : (ns : List Node) (fields rest : List Filling) (values : List Value) (i : ℕ) → Settled ns fields rest values i → length fields ≤ i → settles (all_drawn ns fields) ≡ Some (all_seen values)
+pub settle_end : (ns : List Node) (fields rest : List Filling) (values : List Value) (i : ℕ)
+    → Settled ns fields rest values i → length fields ≤ i
+    → settles (all_drawn ns fields) ≡ Some (all_seen values)
 settle_end ns fields rest values i h past =
     h.whole ∙ ap (λ (l : List Filling). with_front (all_seen values) (settles (all_drawn ns l))) (drop_all i rest (omega (arith, past, h.many))) ∙ ap (λ (x : Vals). Some x) (joined-no_more (all_seen values))
 
 seen-Group : (vs : List Value) → seen (value.Group vs) ≡ group (all_seen vs)
 seen-Group vs = ap seen (sym (value.rolls-Group vs)) ∙ fold-roll-Value Val seen_level (Value-F.Group vs)
 
-pub fields_settled : (ns : List Node) (d : Filling) (ds : List Filling) (vs : List Value) → d ≡ filling.Fields ds → settles (all_drawn ns ds) ≡ Some (all_seen vs) → settle (drawn ns d) ≡ Some (seen (value.Group vs))
+pub fields_settled : (ns : List Node) (d : Filling) (ds : List Filling) (vs : List Value) → d ≡ filling.Fields ds
+    → settles (all_drawn ns ds) ≡ Some (all_seen vs)
+    → settle (drawn ns d) ≡ Some (seen (value.Group vs))
 fields_settled ns d ds vs is e =
     ap (λ (x : Filling). settle (drawn ns x)) is ∙ ap settle (drawn-Fields ns ds) ∙ ap (option_map group) e ∙ ap (λ (v : Val). Some v) (sym (seen-Group vs))

@@ -48,8 +48,9 @@ module _ (o : Order) (w : ℕ) (a : Array) (n : ℕ) (s : Place) (wide : IsWidth
   block_is : n * w ≤ s.near → fill_block o w a n s ≡ passed_block (numbers_at a o (width_as w) w n s.left)
   block_is near = tested_block ∙ ap (λ (b : Bool). if b then passed_block (numbers_at a o (width_as w) w n s.left) else strays) (le-leb (n * w) s.near near)
 
-  pub block_gives : (ns : List Node) (r : Numbers) (t : Place) → n * w ≤ s.near → numbers_at a o (width_as w) w n s.left ≡ Some r.numbers → r.kind ≡ kind_of a
-      → t ≡ record { pos = s.pos + n * w; left = drop (n * w) s.left; near = s.near - n * w; tests = s.tests } → fill_block o w a n s ≡ gives (drawn ns (filling.Done (value.Row r))) t
+  pub block_gives : (ns : List Node) (r : Numbers) (t : Place) → n * w ≤ s.near → numbers_at a o (width_as w) w n s.left ≡ Some r.numbers
+      → r.kind ≡ kind_of a → t ≡ record { pos = s.pos + n * w; left = drop (n * w) s.left; near = s.near - n * w; tests = s.tests }
+      → fill_block o w a n s ≡ gives (drawn ns (filling.Done (value.Row r))) t
   unfolding passed_block
   block_gives ns r t near read kind is =
       block_is near ∙ ap passed_block read ∙ ap (λ (u : Place). gives (done (row (kind_of a) r.numbers)) u) (sym is)
@@ -64,14 +65,17 @@ module _ (o : Order) (w : ℕ) (a : Array) (n : ℕ) (s : Place) (wide : IsWidth
 -- what is left of so many numbers at an offset, after those that were read
 pub record Left (a : Array) (o : Order) (w n near : ℕ) (left : List ℕ) (r : Numbers) (i off : ℕ) : Type 0 where
   pub within : off + (n - i) * w ≤ near
-  pub whole : numbers_at a o (width_as w) w n left ≡ option_map (λ zs. r.numbers ++ zs) (numbers_at a o (width_as w) w (n - i) (drop off left))
+  pub whole : numbers_at a o (width_as w) w n left
+      ≡ option_map (λ zs. r.numbers ++ zs) (numbers_at a o (width_as w) w (n - i) (drop off left))
   pub kind : r.kind ≡ kind_of a
 
 front_none : (z : Option (List ℤ)) → z ≡ option_map (λ zs. [] ++ zs) z
 front_none None = refl
 front_none (Some zs) = refl
 
-pub left_start : (a : Array) (o : Order) (w n near : ℕ) (left : List ℕ) (r : Numbers) → n * w ≤ near → r ≡ record { kind = kind_of a; numbers = [] } → Left a o w n near left r 0 0
+pub left_start : (a : Array) (o : Order) (w n near : ℕ) (left : List ℕ) (r : Numbers) → n * w ≤ near
+    → r ≡ record { kind = kind_of a; numbers = [] }
+    → Left a o w n near left r 0 0
 left_start a o w n near left r le is =
     let all : n - 0 ≡ n = omega arith in
     let same : (n - 0) * w ≡ n * w = ap (λ (k : ℕ). k * w) all in
@@ -99,8 +103,9 @@ module _ (a : Array) (o : Order) (w n near : ℕ) (left : List ℕ) (r : Numbers
   num_of : ℕ → ℤ
   num_of m = number_of (is_signed (number (kind_of a))) (width_as w) m
 
-  opened : i < n → numbers_at a o (width_as w) w n left
-      ≡ option_map (λ zs. r.numbers ++ zs) (if is_digit a (num_of here) then option_map (λ zs. num_of here ∷ zs) (numbers_at a o (width_as w) w (n - (i + 1)) (drop w (drop off left))) else None)
+  opened : i < n
+      → numbers_at a o (width_as w) w n left ≡ option_map (λ zs. r.numbers ++ zs) (if is_digit a (num_of here)
+      then option_map (λ zs. num_of here ∷ zs) (numbers_at a o (width_as w) w (n - (i + 1)) (drop w (drop off left))) else None)
   unfolding here num_of
   opened lt = h.whole ∙ ap (λ (k : ℕ). option_map (λ zs. r.numbers ++ zs) (numbers_at a o (width_as w) w k (drop off left))) (one_of lt)
 
@@ -108,16 +113,19 @@ module _ (a : Array) (o : Order) (w n near : ℕ) (left : List ℕ) (r : Numbers
   unfolding here
   is_here m wide is = is ∙ ap (λ (z : Option Width). loaded_of o z (take w (drop off left))) (width_is w wide)
 
-  taken : (b : Bool) (x y : ℤ) (z : Option (List ℤ)) → (if b then Some x else None) ≡ Some y → (if b then option_map (λ zs. x ∷ zs) z else None) ≡ option_map (λ zs. y ∷ zs) z
+  taken : (b : Bool) (x y : ℤ) (z : Option (List ℤ)) → (if b then Some x else None) ≡ Some y
+      → (if b then option_map (λ zs. x ∷ zs) z else None) ≡ option_map (λ zs. y ∷ zs) z
   taken true x y z e = let same : x ≡ y = cc in ap (λ (v : ℤ). option_map (λ zs. v ∷ zs) z) same
   taken false x y z e = absurd cc
 
-  joined_more : (y : ℤ) (z : Option (List ℤ)) → option_map (λ zs. r.numbers ++ zs) (option_map (λ zs. y ∷ zs) z) ≡ option_map (λ zs. (r.numbers ++ y ∷ []) ++ zs) z
+  joined_more : (y : ℤ) (z : Option (List ℤ))
+      → option_map (λ zs. r.numbers ++ zs) (option_map (λ zs. y ∷ zs) z) ≡ option_map (λ zs. (r.numbers ++ y ∷ []) ++ zs) z
   joined_more y None = refl
   joined_more y (Some zs) = ap (λ (l : List ℤ). Some l) (sym (append_assoc r.numbers (y ∷ []) zs))
 
-  pub left_turn : (new : Numbers) (m : ℕ) (y z : ℤ) → i < n → IsWidth w → m ≡ loaded_of o (width_in w) (take w (drop off left)) → digit_passing a (width_as w) m ≡ Some y → z ≡ y
-      → new ≡ record { kind = r.kind; numbers = r.numbers ++ z ∷ [] } → Left a o w n near left new (i + 1) (off + w)
+  pub left_turn : (new : Numbers) (m : ℕ) (y z : ℤ) → i < n → IsWidth w → m ≡ loaded_of o (width_in w) (take w (drop off left))
+      → digit_passing a (width_as w) m ≡ Some y → z ≡ y → new ≡ record { kind = r.kind; numbers = r.numbers ++ z ∷ [] }
+      → Left a o w n near left new (i + 1) (off + w)
   unfolding here num_of
   left_turn new m y z lt wide is read same made = record {
     within = omega (arith, h.within, rest_is lt);
@@ -131,11 +139,14 @@ module _ (a : Array) (o : Order) (w n near : ℕ) (left : List ℕ) (r : Numbers
     kind = ap (λ (q : Numbers). q.kind) made ∙ h.kind;
   }
 
-  missed : (b : Bool) (x : ℤ) (z : Option (List ℤ)) → (if b then Some x else None) ≡ None → option_map (λ zs. r.numbers ++ zs) (if b then option_map (λ zs. x ∷ zs) z else None) ≡ None
+  missed : (b : Bool) (x : ℤ) (z : Option (List ℤ)) → (if b then Some x else None) ≡ None
+      → option_map (λ zs. r.numbers ++ zs) (if b then option_map (λ zs. x ∷ zs) z else None) ≡ None
   missed true x z e = absurd cc
   missed false x z e = refl
 
-  pub left_refused : (m : ℕ) → i < n → IsWidth w → m ≡ loaded_of o (width_in w) (take w (drop off left)) → digit_passing a (width_as w) m ≡ None → numbers_at a o (width_as w) w n left ≡ None
+  pub left_refused : (m : ℕ) → i < n → IsWidth w → m ≡ loaded_of o (width_in w) (take w (drop off left))
+      → digit_passing a (width_as w) m ≡ None
+      → numbers_at a o (width_as w) w n left ≡ None
   unfolding here num_of
   left_refused m lt wide is none =
       let fails : digit_passing a (width_as w) here ≡ None = subst (λ (k : ℕ). digit_passing a (width_as w) k ≡ None) (is_here m wide is) none in

@@ -90,7 +90,8 @@ module _ (a : Array) where
 
   -- a descriptor gives nothing of a draft that has no length to be read
   module _ (d : Draft) (mul : ℕ) (none : (m : ℕ) (t : Place) → count_into mul 0 m d t ≡ strays) where
-    units_keeps : (right : Bool) (many n : ℕ) (s : Place) → Keeps (if right then then_run (count_into mul 0 many d s) (passed n) else refuses)
+    units_keeps : (right : Bool) (many n : ℕ) (s : Place)
+        → Keeps (if right then then_run (count_into mul 0 many d s) (passed n) else refuses)
     units_keeps true many n s = subst (λ (z : Run Draft). Keeps (then_run z (passed n))) (sym (none many s)) tt
     units_keeps false many n s = tt
 
@@ -98,7 +99,8 @@ module _ (a : Array) where
     after_test true s f h = tt
     after_test false s f h = h
 
-    form_keeps : (long short : Bool) (name size first : ℕ) (s : Place) → Keeps (if long then long_into name size mul d s else if short then short_into name size mul first d s else refuses)
+    form_keeps : (long short : Bool) (name size first : ℕ) (s : Place)
+        → Keeps (if long then long_into name size mul d s else if short then short_into name size mul first d s else refuses)
     form_keeps true short name size first s =
         let t : Place = record { pos = s.pos; left = s.left; near = max 12 s.near; tests = raised s.tests 1 } in
         after_test (nat_lt (length s.left) 12) t (λ x t. units_into (nat_eq (little w16 4 2 t.left) name && nat_eq (little w16 6 2 t.left) size) mul (little w32 8 4 t.left) 12 x t)

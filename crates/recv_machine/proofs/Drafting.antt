@@ -74,7 +74,8 @@ abbrev pub drafts_joined : Drafts → Drafts → Drafts
 drafts_joined no_draft b = b
 drafts_joined (draft d a) b = draft d (drafts_joined a b)
 
-drafts_more : (ns : List Node) (ds : List Filling) (d : Filling) (b : Drafts) → drafts_joined (all_drawn ns (ds ++ d ∷ [])) b ≡ drafts_joined (all_drawn ns ds) (draft (drawn ns d) b)
+drafts_more : (ns : List Node) (ds : List Filling) (d : Filling) (b : Drafts)
+    → drafts_joined (all_drawn ns (ds ++ d ∷ [])) b ≡ drafts_joined (all_drawn ns ds) (draft (drawn ns d) b)
 drafts_more ns [] d b = refl
 drafts_more ns (x ∷ ds) d b = ap (draft (drawn ns x)) (drafts_more ns ds d b)
 
@@ -83,27 +84,33 @@ drafts_alone no_draft = refl
 drafts_alone (draft d a) = ap (draft d) (drafts_alone a)
 
 -- one field more
-pub fresh_turn : (ns : List Node) (ids : List ℕ) (i id : ℕ) (ds new : List Filling) (d : Filling) (all : Drafts) → i < length ids → id ≡ get_or ids i 0 → drawn ns d ≡ fresh (type_at ns id) → new ≡ ds ++ d ∷ []
-    → drafts_joined (all_drawn ns ds) (all_fresh (fields_at (unfolded ns) (drop i ids))) ≡ all → drafts_joined (all_drawn ns new) (all_fresh (fields_at (unfolded ns) (drop (i + 1) ids))) ≡ all
+pub fresh_turn : (ns : List Node) (ids : List ℕ) (i id : ℕ) (ds new : List Filling) (d : Filling) (all : Drafts)
+    → i < length ids → id ≡ get_or ids i 0 → drawn ns d ≡ fresh (type_at ns id) → new ≡ ds ++ d ∷ []
+    → drafts_joined (all_drawn ns ds) (all_fresh (fields_at (unfolded ns) (drop i ids))) ≡ all
+    → drafts_joined (all_drawn ns new) (all_fresh (fields_at (unfolded ns) (drop (i + 1) ids))) ≡ all
 fresh_turn ns ids i id ds new d all lt same made is so_far =
     let rest : Drafts = all_fresh (fields_at (unfolded ns) (drop (i + 1) ids)) in
     let split : drop i ids ≡ id ∷ drop (i + 1) ids = path-drop ids i lt ∙ ap (λ (k : ℕ). k ∷ drop (i + 1) ids) (sym same) in
     ap (λ (l : List Filling). drafts_joined (all_drawn ns l) rest) is ∙ drafts_more ns ds d rest ∙ ap (λ (x : Draft). drafts_joined (all_drawn ns ds) (draft x rest)) made
     ∙ ap (λ (l : List ℕ). drafts_joined (all_drawn ns ds) (all_fresh (fields_at (unfolded ns) l))) (sym split) ∙ so_far
 
-pub fresh_end : (ns : List Node) (ids items : List ℕ) (i : ℕ) (ds : List Filling) → items ≡ ids → length items ≤ i → drafts_joined (all_drawn ns ds) (all_fresh (fields_at (unfolded ns) (drop i items))) ≡ all_fresh (fields_at (unfolded ns) items)
+pub fresh_end : (ns : List Node) (ids items : List ℕ) (i : ℕ) (ds : List Filling) → items ≡ ids → length items ≤ i
+    → drafts_joined (all_drawn ns ds) (all_fresh (fields_at (unfolded ns) (drop i items))) ≡ all_fresh (fields_at (unfolded ns) items)
     → all_drawn ns ds ≡ all_fresh (fields_at (unfolded ns) ids)
 fresh_end ns ids items i ds same past is =
     sym (drafts_alone (all_drawn ns ds)) ∙ ap (λ (l : List ℕ). drafts_joined (all_drawn ns ds) (all_fresh (fields_at (unfolded ns) l))) (sym (drop_all i items past)) ∙ is ∙ ap (λ (l : List ℕ). all_fresh (fields_at (unfolded ns) l)) same
 
 -- ---- parts
 
-pub field_there : (ns : List Node) (n : ℕ) (f : Draft → Option Draft) (ds : List Filling) → IsThere (on_some (field_at n (all_drawn ns ds)) f) → n < length ds
+pub field_there : (ns : List Node) (n : ℕ) (f : Draft → Option Draft) (ds : List Filling)
+    → IsThere (on_some (field_at n (all_drawn ns ds)) f)
+    → n < length ds
 field_there ns n f [] h = absurd h
 field_there ns zero f (d ∷ ds) h = omega arith
 field_there ns (suc n) f (d ∷ ds) h = let k = field_there ns n f ds h in omega (arith, k)
 
-pub field_is : (ns : List Node) (n : ℕ) (ds : List Filling) (d : Filling) → slice_get ds n ≡ Some d → field_at n (all_drawn ns ds) ≡ Some (drawn ns d)
+pub field_is : (ns : List Node) (n : ℕ) (ds : List Filling) (d : Filling) → slice_get ds n ≡ Some d
+    → field_at n (all_drawn ns ds) ≡ Some (drawn ns d)
 field_is ns n [] d e = absurd cc
 field_is ns zero (x ∷ ds) d e = let s : x ≡ d = cc in ap (λ (y : Filling). Some (drawn ns y)) s
 field_is ns (suc n) (x ∷ ds) d e = field_is ns n ds d e
@@ -112,19 +119,23 @@ there_mapped : {A B : Type 0} (z : Option A) (f : A → B) → IsThere (option_m
 there_mapped None f h = h
 there_mapped (Some a) f h = tt
 
-pub put_there : (ns : List Node) (n : ℕ) (p : List ℕ) (y : Draft) (ds : List Filling) → IsThere (put_field n p y (all_drawn ns ds)) → n < length ds
+pub put_there : (ns : List Node) (n : ℕ) (p : List ℕ) (y : Draft) (ds : List Filling) → IsThere (put_field n p y (all_drawn ns ds))
+    → n < length ds
 put_there ns n p y [] h = absurd h
 put_there ns zero p y (d ∷ ds) h = omega arith
 put_there ns (suc n) p y (d ∷ ds) h = let k = put_there ns n p y ds (there_mapped (put_field n p y (all_drawn ns ds)) (λ x. draft (drawn ns d) x) h) in omega (arith, k)
 
-pub put_runs : (ns : List Node) (n : ℕ) (p : List ℕ) (y : Draft) (ds : List Filling) (d : Filling) → slice_get ds n ≡ Some d → IsThere (put_field n p y (all_drawn ns ds)) → IsThere (put_part p y (drawn ns d))
+pub put_runs : (ns : List Node) (n : ℕ) (p : List ℕ) (y : Draft) (ds : List Filling) (d : Filling)
+    → slice_get ds n ≡ Some d → IsThere (put_field n p y (all_drawn ns ds))
+    → IsThere (put_part p y (drawn ns d))
 put_runs ns n p y [] d e h = absurd h
 put_runs ns zero p y (x ∷ ds) d e h =
     let s : x ≡ d = cc in
     subst (λ (z : Filling). IsThere (put_part p y (drawn ns z))) s (there_mapped (put_part p y (drawn ns x)) (λ z. draft z (all_drawn ns ds)) h)
 put_runs ns (suc n) p y (x ∷ ds) d e h = put_runs ns n p y ds d e (there_mapped (put_field n p y (all_drawn ns ds)) (λ z. draft (drawn ns x) z) h)
 
-pub put_is : (ns : List Node) (n : ℕ) (p : List ℕ) (y : Draft) (ds : List Filling) (d hole d' : Filling) → slice_get ds n ≡ Some d → put_part p y (drawn ns d) ≡ Some (drawn ns d')
+pub put_is : (ns : List Node) (n : ℕ) (p : List ℕ) (y : Draft) (ds : List Filling) (d hole d' : Filling)
+    → slice_get ds n ≡ Some d → put_part p y (drawn ns d) ≡ Some (drawn ns d')
     → put_field n p y (all_drawn ns ds) ≡ Some (all_drawn ns (slice_set (slice_set ds n hole) n d'))
 put_is ns n p y [] d hole d' e h = absurd cc
 put_is ns zero p y (x ∷ ds) d hole d' e h =
@@ -133,23 +144,51 @@ put_is ns zero p y (x ∷ ds) d hole d' e h =
 put_is ns (suc n) p y (x ∷ ds) d hole d' e h = ap (option_map (λ z. draft (drawn ns x) z)) (put_is ns n p y ds d hole d' e h)
 
 -- a field whose part is put back all the same
-pub rest_same : (ns : List Node) (n : ℕ) (p : List ℕ) (ds : List Filling) (d hole d' : Filling) → slice_get ds n ≡ Some d → ((y : Draft) → put_part p y (drawn ns d') ≡ put_part p y (drawn ns d))
-    → (y : Draft) → put_field n p y (all_drawn ns (slice_set (slice_set ds n hole) n d')) ≡ put_field n p y (all_drawn ns ds)
+pub rest_same : (ns : List Node) (n : ℕ) (p : List ℕ) (ds : List Filling) (d hole d' : Filling)
+    → slice_get ds n ≡ Some d → ((y : Draft) → put_part p y (drawn ns d') ≡ put_part p y (drawn ns d)) → (y : Draft)
+    → put_field n p y (all_drawn ns (slice_set (slice_set ds n hole) n d')) ≡ put_field n p y (all_drawn ns ds)
 rest_same ns n p [] d hole d' e h y = absurd cc
 rest_same ns zero p (x ∷ ds) d hole d' e h y =
     let s : d ≡ x = cc in
     ap (option_map (λ z. draft z (all_drawn ns ds))) (h y ∙ ap (λ (z : Filling). put_part p y (drawn ns z)) s)
 rest_same ns (suc n) p (x ∷ ds) d hole d' e h y = ap (option_map (λ z. draft (drawn ns x) z)) (rest_same ns n p ds d hole d' e h y)
 
-pub rest_back : (ns : List Node) (n : ℕ) (p : List ℕ) (ds mid new : List Filling) (d hole d' : Filling) → slice_get ds n ≡ Some d → mid ≡ slice_set ds n hole → new ≡ slice_set mid n d' → ((y : Draft) → put_part p y (drawn ns d') ≡ put_part p y (drawn ns d))
-    → (y : Draft) → put_field n p y (all_drawn ns new) ≡ put_field n p y (all_drawn ns ds)
+pub rest_back : (ns : List Node) (n : ℕ) (p : List ℕ) (ds mid new : List Filling) (d hole d' : Filling)
+    → slice_get ds n ≡ Some d → mid ≡ slice_set ds n hole → new ≡ slice_set mid n d'
+    → ((y : Draft) → put_part p y (drawn ns d') ≡ put_part p y (drawn ns d)) → (y : Draft)
+    → put_field n p y (all_drawn ns new) ≡ put_field n p y (all_drawn ns ds)
 rest_back ns n p ds mid new d hole d' e f g h y =
     ap (λ (l : List Filling). put_field n p y (all_drawn ns l)) (g ∙ ap (λ (l : List Filling). slice_set l n d') f) ∙ rest_same ns n p ds d hole d' e h y
 
 pub ruleset drafting = (drawn-Raw, drawn-Fields, no_node)
 
-pub ruleset putting = (drawn-Raw, drawn-Digit, drawn-Listed, drawn-Lined, drawn-Tagged, drawn-Flagged, drawn-Done, drawn-Fields, path-drop, put_there, put_runs, put_is)
+pub ruleset putting = (
+  drawn-Raw,
+  drawn-Digit,
+  drawn-Listed,
+  drawn-Lined,
+  drawn-Tagged,
+  drawn-Flagged,
+  drawn-Done,
+  drawn-Fields,
+  path-drop,
+  put_there,
+  put_runs,
+  put_is,
+)
 
-pub ruleset taking = (drawn-Raw, drawn-Digit, drawn-Listed, drawn-Lined, drawn-Tagged, drawn-Flagged, drawn-Done, drawn-Fields, path-drop, field_there, field_is)
+pub ruleset taking = (
+  drawn-Raw,
+  drawn-Digit,
+  drawn-Listed,
+  drawn-Lined,
+  drawn-Tagged,
+  drawn-Flagged,
+  drawn-Done,
+  drawn-Fields,
+  path-drop,
+  field_there,
+  field_is,
+)
 
 pub ruleset drawing = (drawn-Raw, drawn-Digit, drawn-Listed, drawn-Lined, drawn-Tagged, drawn-Flagged, drawn-Done, drawn-Fields)

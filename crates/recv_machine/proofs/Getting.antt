@@ -26,11 +26,13 @@ use Rattle.recv_machine.proofs.Drafting.{drawn-Raw, drawn-Digit, drawn-Listed, d
 pub seen-Num : (n : ℤ) → seen (value.Num n) ≡ num n
 seen-Num n = ap seen (sym (value.rolls-Num n)) ∙ fold-roll-Value Val seen_level (Value-F.Num n)
 
-passed_so : (b : Bool) (z n : ℤ) (s : Place) → (if b then Some z else None) ≡ Some n → (if b then gives (done (num z)) s else refuses) ≡ gives (done (num n)) s
+passed_so : (b : Bool) (z n : ℤ) (s : Place) → (if b then Some z else None) ≡ Some n
+    → (if b then gives (done (num z)) s else refuses) ≡ gives (done (num n)) s
 passed_so true z n s e = let same : z ≡ n = cc in ap (λ (y : ℤ). gives (done (num y)) s) same
 passed_so false z n s e = absurd cc
 
-scalar_taken : (T : Ty) (x : Width) (m : ℕ) (n : ℤ) (s : Place) → on_some (scalar_in T) (passing x m) ≡ Some n → num_into x m (raw T) s ≡ gives (done (num n)) s
+scalar_taken : (T : Ty) (x : Width) (m : ℕ) (n : ℤ) (s : Place) → on_some (scalar_in T) (passing x m) ≡ Some n
+    → num_into x m (raw T) s ≡ gives (done (num n)) s
 scalar_taken (scalar_type t) x m n s e = passed_so (is_scalar t (number_of (is_signed t) x m)) (number_of (is_signed t) x m) n s e
 scalar_taken void_type x m n s e = absurd cc
 scalar_taken (array_type a) x m n s e = absurd cc
@@ -40,12 +42,14 @@ scalar_taken (choice_type t a) x m n s e = absurd cc
 scalar_taken (maybe_type t) x m n s e = absurd cc
 
 -- a draft of a number
-pub num_read : (ns : List Node) (old new : Filling) (id : ℕ) (x : Width) (m : ℕ) (n : ℤ) (s : Place) → old ≡ filling.Raw id → on_some (scalar_in (type_at ns id)) (passing x m) ≡ Some n → drawn ns new ≡ done (num n)
+pub num_read : (ns : List Node) (old new : Filling) (id : ℕ) (x : Width) (m : ℕ) (n : ℤ) (s : Place)
+    → old ≡ filling.Raw id → on_some (scalar_in (type_at ns id)) (passing x m) ≡ Some n → drawn ns new ≡ done (num n)
     → num_into x m (drawn ns old) s ≡ gives (drawn ns new) s
 num_read ns old new id x m n s is e f =
     ap (λ (d : Draft). num_into x m d s) (ap (drawn ns) is ∙ drawn-Raw ns id) ∙ scalar_taken (type_at ns id) x m n s e ∙ ap (λ (d : Draft). gives d s) (sym f)
 
-pub digit_read : (ns : List Node) (old new : Filling) (id : ℕ) (x : Width) (m : ℕ) (n : ℤ) (s : Place) → old ≡ filling.Digit id → digit_passing (array_at ns id) x m ≡ Some n → drawn ns new ≡ done (num n)
+pub digit_read : (ns : List Node) (old new : Filling) (id : ℕ) (x : Width) (m : ℕ) (n : ℤ) (s : Place)
+    → old ≡ filling.Digit id → digit_passing (array_at ns id) x m ≡ Some n → drawn ns new ≡ done (num n)
     → num_into x m (drawn ns old) s ≡ gives (drawn ns new) s
 digit_read ns old new id x m n s is e f =
     let a : Array = array_at ns id in
@@ -57,7 +61,8 @@ seen-None = ap seen (sym (value.rolls-Opt None)) ∙ fold-roll-Value Val seen_le
 
 -- ---- the number of a union
 
-found_type : (us : List Ty) (arms : List (ℤ × ℕ)) (other : Option ℕ) (n : ℤ) → type_of_arm (arms_at us arms other) n ≡ option_map (at us) (arm_found arms other n)
+found_type : (us : List Ty) (arms : List (ℤ × ℕ)) (other : Option ℕ) (n : ℤ)
+    → type_of_arm (arms_at us arms other) n ≡ option_map (at us) (arm_found arms other n)
 found_type us [] None n = refl
 found_type us [] (Some i) n = refl
 found_type us (a ∷ arms) other n = decided (int_eq n a.0) (found_type us arms other n) where
@@ -66,11 +71,13 @@ found_type us (a ∷ arms) other n = decided (int_eq n a.0) (found_type us arms 
   decided true h = refl
   decided false h = h
 
-passed_tag : (b : Bool) (z n : ℤ) (f : ℤ → Option Draft) (s : Place) → (if b then Some z else None) ≡ Some n → (if b then if_passed (f z) (λ d. gives d s) else refuses) ≡ if_passed (f n) (λ d. gives d s)
+passed_tag : (b : Bool) (z n : ℤ) (f : ℤ → Option Draft) (s : Place) → (if b then Some z else None) ≡ Some n
+    → (if b then if_passed (f z) (λ d. gives d s) else refuses) ≡ if_passed (f n) (λ d. gives d s)
 passed_tag true z n f s e = let same : z ≡ n = cc in ap (λ (y : ℤ). if_passed (f y) (λ d. gives d s)) same
 passed_tag false z n f s e = absurd cc
 
-tag_taken : (us : List Ty) (t : Scalar) (arms : List (ℤ × ℕ)) (other : Option ℕ) (x : Width) (m : ℕ) (n : ℤ) (o : Option ℕ) (s : Place) → passing x m t ≡ Some n → arm_found arms other n ≡ o
+tag_taken : (us : List Ty) (t : Scalar) (arms : List (ℤ × ℕ)) (other : Option ℕ) (x : Width) (m : ℕ) (n : ℤ) (o : Option ℕ) (s : Place)
+    → passing x m t ≡ Some n → arm_found arms other n ≡ o
     → tag_into x m (raw (choice_type t (arms_at us arms other))) s ≡ if_passed (option_map (λ i. tagged n (at us i)) o) (λ d. gives d s)
 tag_taken us t arms other x m n o s e f =
     passed_tag (is_scalar t (number_of (is_signed t) x m)) (number_of (is_signed t) x m) n (arm_draft (arms_at us arms other)) s e
@@ -79,15 +86,28 @@ tag_taken us t arms other x m n o s e f =
       ends None = refl
       ends (Some i) = refl
 
-module _ (ns : List Node) (old : Filling) (id : ℕ) (nd : Node) (tag : Tag) (arms : List (ℤ × ℕ)) (other : Option ℕ) (x : Width) (m : ℕ) (n : ℤ) (s : Place)
-    (is : old ≡ filling.Raw id) (leveled : type_at ns id ≡ level (unfolded ns) nd) (choice : nd ≡ node.Choice tag arms other) (passes : passing x m (scalar_of tag) ≡ Some n) where
+module _ (ns : List Node) (old : Filling) (id : ℕ) (nd : Node) (tag : Tag) (arms : List (ℤ × ℕ)) (other : Option ℕ)
+    (x : Width) (m : ℕ) (n : ℤ) (s : Place) (is : old ≡ filling.Raw id) (leveled : type_at ns id ≡ level (unfolded ns) nd)
+    (choice : nd ≡ node.Choice tag arms other) (passes : passing x m (scalar_of tag) ≡ Some n) where
   whole : drawn ns old ≡ raw (choice_type (scalar_of tag) (arms_at (unfolded ns) arms other))
   whole = ap (drawn ns) is ∙ drawn-Raw ns id ∙ ap raw (leveled ∙ ap (level (unfolded ns)) choice)
 
-  pub tag_found : (item : ℕ) (new : Filling) → arm_found arms other n ≡ Some item → drawn ns new ≡ tagged n (type_at ns item) → tag_into x m (drawn ns old) s ≡ gives (drawn ns new) s
+  pub tag_found : (item : ℕ) (new : Filling) → arm_found arms other n ≡ Some item → drawn ns new ≡ tagged n (type_at ns item)
+      → tag_into x m (drawn ns old) s ≡ gives (drawn ns new) s
   tag_found item new found made = ap (λ (d : Draft). tag_into x m d s) whole ∙ tag_taken (unfolded ns) (scalar_of tag) arms other x m n (Some item) s passes found ∙ ap (λ (d : Draft). gives d s) (sym made)
 
   pub tag_missing : arm_found arms other n ≡ None → tag_into x m (drawn ns old) s ≡ refuses
   tag_missing found = ap (λ (d : Draft). tag_into x m d s) whole ∙ tag_taken (unfolded ns) (scalar_of tag) arms other x m n None s passes found
 
-pub ruleset getting = (drawn-Raw, drawn-Digit, drawn-Listed, drawn-Lined, drawn-Tagged, drawn-Flagged, drawn-Done, drawn-Fields, no_node, seen-None)
+pub ruleset getting = (
+  drawn-Raw,
+  drawn-Digit,
+  drawn-Listed,
+  drawn-Lined,
+  drawn-Tagged,
+  drawn-Flagged,
+  drawn-Done,
+  drawn-Fields,
+  no_node,
+  seen-None,
+)

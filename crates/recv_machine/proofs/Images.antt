@@ -121,7 +121,8 @@ words_read value w zero o = []
 words_read value w (suc n) o = value (take w o) ∷ words_read value w n (drop w o)
 
 -- the numbers of an image are those of its first words
-words_first : (value : List ℕ → ℤ) (w n : ℕ) (o : List ℕ) → n * w ≤ length o → words_read value w n (take (n * w) o) ≡ words_read value w n o
+words_first : (value : List ℕ → ℤ) (w n : ℕ) (o : List ℕ) → n * w ≤ length o
+    → words_read value w n (take (n * w) o) ≡ words_read value w n o
 words_first value w zero o h = refl
 words_first value w (suc n) o h =
     let long : suc n * w ≡ w + n * w = omega arith in
@@ -137,7 +138,8 @@ unfolding numbers_in number_in
 little_words k zero o = refl
 little_words k (suc n) o = rw (word_number k (from_le_bytes (word k) (take (width k) o)), little_words k n (drop (width k) o)) refl
 
-big_words : (k : Kind) (n : ℕ) (o : List ℕ) → length o ≡ n * width k → words_read (value_of Big k) (width k) n o ≡ numbers_in k n (swapped (width k) o)
+big_words : (k : Kind) (n : ℕ) (o : List ℕ) → length o ≡ n * width k
+    → words_read (value_of Big k) (width k) n o ≡ numbers_in k n (swapped (width k) o)
 unfolding numbers_in number_in
 big_words k zero o len = refl
 big_words k (suc n) o len =
@@ -168,7 +170,8 @@ swapped_long k (suc n) o len =
     ap (λ (z : List ℕ). length (swapped w z)) (sym (take-append-drop w o)) ∙ ap length (swapped-first w f r (some_octets k) front) ∙ length-append (reverse f) (swapped w r)
     ∙ omega (arith, length-reverse f, front, swapped_long k n r rest, long)
 
-image_words : (o : Order) (k : Kind) (n : ℕ) (os : List ℕ) → length os ≡ n * width k → words_read (value_of o k) (width k) n os ≡ numbers_of k (in_little o (width k) os)
+image_words : (o : Order) (k : Kind) (n : ℕ) (os : List ℕ) → length os ≡ n * width k
+    → words_read (value_of o k) (width k) n os ≡ numbers_of k (in_little o (width k) os)
 unfolding numbers_of
 image_words Little k n os len = little_words k n os ∙ ap (λ (m : ℕ). numbers_in k m os) (sym (ap (λ (z : ℕ). z / width k) len ∙ mul-div_cancel n (some_octets k)))
 image_words Big k n os len =
@@ -179,12 +182,15 @@ image_words Big k n os len =
 abbrev if_all : (ℤ → Bool) → List ℤ → Option (List ℤ)
 if_all p zs = if list_all p zs then Some zs else None
 
-all_more : (b c : Bool) (z : ℤ) (zs : List ℤ) → (if b then option_map (λ ys. z ∷ ys) (if c then Some zs else None) else None) ≡ (if b && c then Some (z ∷ zs) else None)
+all_more : (b c : Bool) (z : ℤ) (zs : List ℤ)
+    → (if b then option_map (λ ys. z ∷ ys) (if c then Some zs else None) else None) ≡ (if b && c then Some (z ∷ zs) else None)
 all_more true true z zs = refl
 all_more true false z zs = refl
 all_more false c z zs = refl
 
-tested_words : (a : Array) (o : Order) (n : ℕ) (os : List ℕ) → numbers_at a o (word (kind_of a)) (width (kind_of a)) n os ≡ if_all (is_digit a) (words_read (value_of o (kind_of a)) (width (kind_of a)) n os)
+tested_words : (a : Array) (o : Order) (n : ℕ) (os : List ℕ)
+    → numbers_at a o (word (kind_of a)) (width (kind_of a)) n os
+    ≡ if_all (is_digit a) (words_read (value_of o (kind_of a)) (width (kind_of a)) n os)
 tested_words a o zero os = refl
 tested_words a o (suc n) os =
     let k = kind_of a in
@@ -196,7 +202,8 @@ tested_words a o (suc n) os =
 abbrev pub block_numbers : Array → Order → ℕ → List ℕ → List ℤ
 block_numbers a o n os = numbers_of (kind_of a) (in_little o (width (kind_of a)) (take (n * width (kind_of a)) os))
 
-pub block_read : (a : Array) (o : Order) (n : ℕ) (os : List ℕ) → n * width (kind_of a) ≤ length os → numbers_at a o (width_as (width (kind_of a))) (width (kind_of a)) n os ≡ if_all (is_digit a) (block_numbers a o n os)
+pub block_read : (a : Array) (o : Order) (n : ℕ) (os : List ℕ) → n * width (kind_of a) ≤ length os
+    → numbers_at a o (width_as (width (kind_of a))) (width (kind_of a)) n os ≡ if_all (is_digit a) (block_numbers a o n os)
 block_read a o n os h =
     let k = kind_of a in
     let w : ℕ = width k in
@@ -212,27 +219,32 @@ missed : (b c : Bool) (zs : List ℤ) → b ≡ c → c ≡ false → (if b then
 missed true c zs e t = absurd cc
 missed false c zs e t = refl
 
-pub block_given : (a : Array) (o : Order) (n : ℕ) (os : List ℕ) (r : Numbers) (b : Bool) → n * width (kind_of a) ≤ length os → r.numbers ≡ block_numbers a o n os → b ≡ list_all (is_digit a) r.numbers → b ≡ true
+pub block_given : (a : Array) (o : Order) (n : ℕ) (os : List ℕ) (r : Numbers) (b : Bool) → n * width (kind_of a) ≤ length os
+    → r.numbers ≡ block_numbers a o n os → b ≡ list_all (is_digit a) r.numbers → b ≡ true
     → numbers_at a o (width_as (width (kind_of a))) (width (kind_of a)) n os ≡ Some r.numbers
 block_given a o n os r b h same is b-true =
     block_read a o n os h ∙ ap (if_all (is_digit a)) (sym same) ∙ chosen (list_all (is_digit a) r.numbers) b r.numbers (sym is) b-true
 
-pub block_missed : (a : Array) (o : Order) (n : ℕ) (os : List ℕ) (r : Numbers) (b : Bool) → n * width (kind_of a) ≤ length os → r.numbers ≡ block_numbers a o n os → b ≡ list_all (is_digit a) r.numbers → b ≡ false
+pub block_missed : (a : Array) (o : Order) (n : ℕ) (os : List ℕ) (r : Numbers) (b : Bool) → n * width (kind_of a) ≤ length os
+    → r.numbers ≡ block_numbers a o n os → b ≡ list_all (is_digit a) r.numbers → b ≡ false
     → numbers_at a o (width_as (width (kind_of a))) (width (kind_of a)) n os ≡ None
 block_missed a o n os r b h same is b-false =
     block_read a o n os h ∙ ap (if_all (is_digit a)) (sym same) ∙ missed (list_all (is_digit a) r.numbers) b r.numbers (sym is) b-false
 
 -- ---- the whole block
 
-module _ (a : Array) (o : Order) (n : ℕ) (s : Place) (k : Kind) (r : Numbers) (b : Bool) (is : k ≡ kind_of a) (held : Holds (fill_block o (width (kind_of a)) a n s)) (near : s.near ≤ length s.left)
-    (row : r ≡ record { kind = k; numbers = numbers_of k (in_little o (width k) (take (n * width k) s.left)) }) (tested : b ≡ list_all (is_digit a) r.numbers) where
+module _ (a : Array) (o : Order) (n : ℕ) (s : Place) (k : Kind) (r : Numbers) (b : Bool) (is : k ≡ kind_of a)
+    (held : Holds (fill_block o (width (kind_of a)) a n s)) (near : s.near ≤ length s.left)
+    (row : r ≡ record { kind = k; numbers = numbers_of k (in_little o (width k) (take (n * width k) s.left)) })
+    (tested : b ≡ list_all (is_digit a) r.numbers) where
   fits : n * width (kind_of a) ≤ s.near
   fits = block_near o (width (kind_of a)) a n s (is_width (kind_of a)) held
 
   numbers : r.numbers ≡ block_numbers a o n s.left
   numbers = ap (λ (q : Numbers). q.numbers) row ∙ ap (λ (j : Kind). numbers_of j (in_little o (width j) (take (n * width j) s.left))) is
 
-  pub whole_given : (ns : List Node) (t : Place) → b ≡ true → t ≡ record { pos = s.pos + n * width k; left = drop (n * width k) s.left; near = s.near - n * width k; tests = s.tests }
+  pub whole_given : (ns : List Node) (t : Place) → b ≡ true
+      → t ≡ record { pos = s.pos + n * width k; left = drop (n * width k) s.left; near = s.near - n * width k; tests = s.tests }
       → fill_block o (width (kind_of a)) a n s ≡ gives (drawn ns (filling.Done (value.Row r))) t
   whole_given ns t all at =
       block_gives o (width (kind_of a)) a n s (is_width (kind_of a)) ns r t fits (block_given a o n s.left r b (omega (arith, fits, near)) numbers tested all) (ap (λ (q : Numbers). q.kind) row ∙ is)

@@ -22,7 +22,8 @@ field-get ns (suc n) (d ∷ ds) = field-get ns n ds
 
 pub ruleset fields = (field-get)
 
-pub part-drop : (p : List ℕ) (i : ℕ) (d : Draft) → i < length p → part (drop i p) d ≡ on_some (in_draft (get_or p i 0) d) (part (drop (i + 1) p))
+pub part-drop : (p : List ℕ) (i : ℕ) (d : Draft) → i < length p
+    → part (drop i p) d ≡ on_some (in_draft (get_or p i 0) d) (part (drop (i + 1) p))
 part-drop p i d h = rw (add-one, drop-cons p i 0) refl
 
 pub ruleset parts = (part-drop)
@@ -30,4 +31,15 @@ pub ruleset parts = (part-drop)
 pub items-long : (vs : List Value) → length_in (done (seen (value.Items vs))) ≡ Some (length vs)
 items-long vs = ap (λ (v : Val). length_in (done v)) (ap seen (sym (value.rolls-Items vs)) ∙ fold-roll-Value Val seen_level (Value-F.Items vs)) ∙ ap Some (count-all_seen vs)
 
-pub ruleset lengths = (drawn-Raw, drawn-Digit, drawn-Listed, drawn-Lined, drawn-Tagged, drawn-Flagged, drawn-Done, drawn-Fields, no_node, items-long)
+pub ruleset lengths = (
+  drawn-Raw,
+  drawn-Digit,
+  drawn-Listed,
+  drawn-Lined,
+  drawn-Tagged,
+  drawn-Flagged,
+  drawn-Done,
+  drawn-Fields,
+  no_node,
+  items-long,
+)

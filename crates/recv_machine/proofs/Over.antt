@@ -23,13 +23,16 @@ listed_over ns item n = ((λ (f : Filler) (s : Place). refl), record { narrow = 
 pub lined_over : (ns : List Node) (id n : ℕ) → GoesOver ns (elements.Numbers id n) (lined (array_at ns id) n)
 lined_over ns id n = record { looped = λ f s. refl; narrow = λ o s. refl; wide = λ o s. refl }
 
-pub items_over : (ns : List Node) (id item n : ℕ) (c : Count) (nd : Node) → type_at ns id ≡ level (unfolded ns) nd → nd ≡ node.Items item c → n ≡ least c → GoesOver ns (elements.Values item n) (raw (type_at ns id))
+pub items_over : (ns : List Node) (id item n : ℕ) (c : Count) (nd : Node) → type_at ns id ≡ level (unfolded ns) nd
+    → nd ≡ node.Items item c → n ≡ least c
+    → GoesOver ns (elements.Values item n) (raw (type_at ns id))
 items_over ns id item n c nd leveled what many =
     let whole : type_at ns id ≡ items_type c (type_at ns item) = leveled ∙ ap (level (unfolded ns)) what in
     subst (λ (m : ℕ). GoesOver ns (elements.Values item m) (raw (type_at ns id))) (sym many)
     (subst (λ (t : Ty). GoesOver ns (elements.Values item (least c)) (raw t)) (sym whole) ((λ (f : Filler) (s : Place). refl), record { narrow = λ o s. refl; wide = λ o s. refl }))
 
-array_over : (ns : List Node) (id n : ℕ) (a : Array) → type_at ns id ≡ array_type a → n ≡ least (count_of a) → GoesOver ns (elements.Numbers id n) (raw (type_at ns id))
+array_over : (ns : List Node) (id n : ℕ) (a : Array) → type_at ns id ≡ array_type a → n ≡ least (count_of a)
+    → GoesOver ns (elements.Numbers id n) (raw (type_at ns id))
 array_over ns id n a whole many =
     let here : array_at ns id ≡ a = ap array_of whole in
     record {
@@ -38,15 +41,20 @@ array_over ns id n a whole many =
       wide = λ o s. rw (whole, many) refl;
     }
 
-pub text_over : (ns : List Node) (id n : ℕ) (c : Count) (nd : Node) → type_at ns id ≡ level (unfolded ns) nd → nd ≡ node.Text c → n ≡ least c → GoesOver ns (elements.Numbers id n) (raw (type_at ns id))
+pub text_over : (ns : List Node) (id n : ℕ) (c : Count) (nd : Node) → type_at ns id ≡ level (unfolded ns) nd
+    → nd ≡ node.Text c → n ≡ least c
+    → GoesOver ns (elements.Numbers id n) (raw (type_at ns id))
 text_over ns id n c nd leveled what many = array_over ns id n (text c) (leveled ∙ ap (level (unfolded ns)) what) many
 
-pub row_over : (ns : List Node) (id n : ℕ) (k : Kind) (c : Count) (nd : Node) → type_at ns id ≡ level (unfolded ns) nd → nd ≡ node.Row k c → n ≡ least c → GoesOver ns (elements.Numbers id n) (raw (type_at ns id))
+pub row_over : (ns : List Node) (id n : ℕ) (k : Kind) (c : Count) (nd : Node) → type_at ns id ≡ level (unfolded ns) nd
+    → nd ≡ node.Row k c → n ≡ least c
+    → GoesOver ns (elements.Numbers id n) (raw (type_at ns id))
 row_over ns id n k c nd leveled what many = array_over ns id n (row_of k c) (leveled ∙ ap (level (unfolded ns)) what) many
 
 -- ---- drafts without elements
 
-pub over_same : (ns : List Node) (e : Elements) (old what : Filling) (d : Draft) → old ≡ what → drawn ns what ≡ d → GoesOver ns e d → GoesOver ns e (drawn ns old)
+pub over_same : (ns : List Node) (e : Elements) (old what : Filling) (d : Draft) → old ≡ what → drawn ns what ≡ d → GoesOver ns e d
+    → GoesOver ns e (drawn ns old)
 over_same ns e old what d is seen over = subst (GoesOver ns e) (sym (ap (drawn ns) is ∙ seen)) over
 
 pub digit_over : (ns : List Node) (a : Array) → GoesOver ns elements.Nothing (digit a)

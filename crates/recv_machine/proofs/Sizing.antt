@@ -1,4 +1,4 @@
--- How many operations stand in a code: the measure of a run.
+-- How many operations are in a code: the measure of a run.
 use Rattle.std.proofs.Common.{◌≡◌, ℕ, zero, suc, ◌+◌, ◌*◌, ◌<◌, ◌≤◌, ℤ, List, [], ◌∷◌, length, get_or, Option, Some, slice_get, sym, ap, ◌∙◌, arith}
 use Rattle.std.proofs.Math.Nat.{suc-mul}
 use Rattle.cast_stub.specs.declared.recv.RecvOp.{RecvOp}
@@ -55,14 +55,18 @@ call-in-op o k path is =
     let whole : size (op_seen o finish) ≡ 1 = ap (λ (p : Piece). size (p finish)) (ap op_seen is ∙ seen-Call k path) in
     omega (arith, whole)
 
-pub cases-in-op : (o : RecvOp) (path : List ℕ) (cases : List (ℤ × List RecvOp)) (other : Option (List RecvOp)) → o ≡ op.Switch path cases other → sizes (cases_seen cases other) < size (op_seen o finish)
+pub cases-in-op : (o : RecvOp) (path : List ℕ) (cases : List (ℤ × List RecvOp)) (other : Option (List RecvOp))
+    → o ≡ op.Switch path cases other
+    → sizes (cases_seen cases other) < size (op_seen o finish)
 cases-in-op o path cases other is =
     let whole : size (op_seen o finish) ≡ suc (sizes (cases_seen cases other) + 0) = ap (λ (p : Piece). size (p finish)) (ap op_seen is ∙ seen-Switch path cases other) in
     omega (arith, whole)
 
 -- ---- the bodies of a switch
 
-pub case_size : (cases : List (ℤ × List RecvOp)) (other : Option (List RecvOp)) (i : ℕ) (b : ℤ × List RecvOp) → i < length cases → b ≡ get_or cases i b → code_size b.1 ≤ sizes (cases_seen cases other)
+pub case_size : (cases : List (ℤ × List RecvOp)) (other : Option (List RecvOp)) (i : ℕ) (b : ℤ × List RecvOp)
+    → i < length cases → b ≡ get_or cases i b
+    → code_size b.1 ≤ sizes (cases_seen cases other)
 case_size [] other i b lt is = absurd (omega (arith, lt))
 case_size (x ∷ cases) other zero b lt is = rw is (omega arith)
 case_size (x ∷ cases) other (suc i) b lt is = omega (arith, case_size cases other i b (omega (arith, lt)) is)
@@ -71,7 +75,8 @@ pub default_size : (cases : List (ℤ × List RecvOp)) (body : List RecvOp) → 
 default_size [] body = omega arith
 default_size (x ∷ cases) body = omega (arith, default_size cases body)
 
-pub last_size : (cases : List (ℤ × List RecvOp)) (other : Option (List RecvOp)) (body : List RecvOp) → other ≡ Some body → code_size body ≤ sizes (cases_seen cases other)
+pub last_size : (cases : List (ℤ × List RecvOp)) (other : Option (List RecvOp)) (body : List RecvOp) → other ≡ Some body
+    → code_size body ≤ sizes (cases_seen cases other)
 last_size cases other body is = rw is (default_size cases body)
 
 -- ---- codes that are called

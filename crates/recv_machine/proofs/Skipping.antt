@@ -42,7 +42,9 @@ module _ (test : List ℕ → Bool) (a : ℕ) (d : Draft) (s : Place) where
   pub no_multiple : is_width a ≡ false → skipped test a d s ≡ refuses
   no_multiple e = ap (λ (b : Bool). if b then then_run (needed (gap s.pos a) d s) (λ d t. if test (take (gap s.pos a) t.left) then passed (gap s.pos a) d t else refuses) else refuses) e
 
-  whole : is_width a ≡ true → skipped test a d s ≡ then_run (needed (gap s.pos a) d s) (λ d t. if test (take (gap s.pos a) t.left) then passed (gap s.pos a) d t else refuses)
+  whole : is_width a ≡ true
+      → skipped test a d s ≡ then_run (needed (gap s.pos a) d s)
+      (λ d t. if test (take (gap s.pos a) t.left) then passed (gap s.pos a) d t else refuses)
   whole e = ap (λ (b : Bool). if b then then_run (needed (gap s.pos a) d s) (λ d t. if test (take (gap s.pos a) t.left) then passed (gap s.pos a) d t else refuses) else refuses) e
 
   tested : Place
@@ -52,15 +54,23 @@ module _ (test : List ℕ → Bool) (a : ℕ) (d : Draft) (s : Place) where
   unfolding tested
   too_short e f = whole e ∙ ap (λ (b : Bool). then_run (if b then refuses else gives d tested) (λ d t. if test (take (gap s.pos a) t.left) then passed (gap s.pos a) d t else refuses)) f
 
-  long : is_width a ≡ true → nat_lt (length s.left) (gap s.pos a) ≡ false → skipped test a d s ≡ (if test (take (gap s.pos a) s.left) then passed (gap s.pos a) d tested else refuses)
+  long : is_width a ≡ true → nat_lt (length s.left) (gap s.pos a) ≡ false
+      → skipped test a d s ≡ (if test (take (gap s.pos a) s.left) then passed (gap s.pos a) d tested else refuses)
   unfolding tested
   long e f = whole e ∙ ap (λ (b : Bool). then_run (if b then refuses else gives d tested) (λ d t. if test (take (gap s.pos a) t.left) then passed (gap s.pos a) d t else refuses)) f
 
-  pub not_these : is_width a ≡ true → nat_lt (length s.left) (gap s.pos a) ≡ false → test (take (gap s.pos a) s.left) ≡ false → skipped test a d s ≡ refuses
+  pub not_these : is_width a ≡ true → nat_lt (length s.left) (gap s.pos a) ≡ false → test (take (gap s.pos a) s.left) ≡ false
+      → skipped test a d s ≡ refuses
   not_these e f g = long e f ∙ ap (λ (b : Bool). if b then passed (gap s.pos a) d tested else refuses) g
 
-  pub all_these : (t : Place) → is_width a ≡ true → nat_lt (length s.left) (gap s.pos a) ≡ false → test (take (gap s.pos a) s.left) ≡ true
-      → t ≡ record { pos = s.pos + gap s.pos a; left = drop (gap s.pos a) s.left; near = max (gap s.pos a) s.near - gap s.pos a; tests = raised s.tests 1 } → skipped test a d s ≡ gives d t
+  pub all_these : (t : Place) → is_width a ≡ true → nat_lt (length s.left) (gap s.pos a) ≡ false
+      → test (take (gap s.pos a) s.left) ≡ true → t ≡ record {
+        pos = s.pos + gap s.pos a;
+        left = drop (gap s.pos a) s.left;
+        near = max (gap s.pos a) s.near - gap s.pos a;
+        tests = raised s.tests 1;
+      }
+      → skipped test a d s ≡ gives d t
   unfolding tested
   all_these t e f g is =
       long e f ∙ ap (λ (b : Bool). if b then passed (gap s.pos a) d tested else refuses) g

@@ -35,25 +35,32 @@ pub within_holds : (f : Filler) (s : Place) (p : List ℕ) (d x : Draft) → par
 within_holds f s p d x e h = first_holds (f x s) (replaced p d) (subst Holds (within_is f x s p d e) h)
 
 -- the part was taken out of d, which has become d'
-pub put_fits : (p : List ℕ) (y x d d' : Draft) → part p d ≡ Some x → ((z : Draft) → put_part p z d' ≡ put_part p z d) → IsThere (put_part p y d')
+pub put_fits : (p : List ℕ) (y x d d' : Draft) → part p d ≡ Some x → ((z : Draft) → put_part p z d' ≡ put_part p z d)
+    → IsThere (put_part p y d')
 put_fits p y x d d' e same = subst IsThere (sym (same y)) (put_is_there p y x d e)
 
-pub at_gives : (f : Filler) (p : List ℕ) (d d' x y e : Draft) (s t : Place) → part p d ≡ Some x → ((z : Draft) → put_part p z d' ≡ put_part p z d) → f x s ≡ gives y t → put_part p y d' ≡ Some e → within p f d s ≡ gives e t
+pub at_gives : (f : Filler) (p : List ℕ) (d d' x y e : Draft) (s t : Place) → part p d ≡ Some x
+    → ((z : Draft) → put_part p z d' ≡ put_part p z d) → f x s ≡ gives y t → put_part p y d' ≡ Some e
+    → within p f d s ≡ gives e t
 at_gives f p d d' x y e s t is same ran put =
     within_is f x s p d is ∙ ap (λ (z : Run Draft). then_run z (replaced p d)) ran ∙ ap (λ (o : Option Draft). if_some o (λ e. gives e t)) (sym (same y) ∙ put)
 
-pub at_halts : {X : Type 0} (f : Filler) (p : List ℕ) (d x e : Draft) (s t u : Place) (halt : Halt) (view : X → Draft) → part p d ≡ Some x → Gave view (Err halt) t (f x s) → Ran (Err halt) e u (within p f d s)
+pub at_halts : {X : Type 0} (f : Filler) (p : List ℕ) (d x e : Draft) (s t u : Place) (halt : Halt) (view : X → Draft)
+    → part p d ≡ Some x → Gave view (Err halt) t (f x s)
+    → Ran (Err halt) e u (within p f d s)
 at_halts f p d x e s t u Refused view is ran = within_is f x s p d is ∙ ap (λ (z : Run Draft). then_run z (replaced p d)) ran
 at_halts f p d x e s t u NoMemory view is ran = tt
 
 -- the same of a part that is changed in place
-pub at_halts_in : (f : Filler) (p : List ℕ) (d x y e : Draft) (s t u : Place) (halt : Halt) → part p d ≡ Some x → Ran (Err halt) y t (f x s) → Ran (Err halt) e u (within p f d s)
+pub at_halts_in : (f : Filler) (p : List ℕ) (d x y e : Draft) (s t u : Place) (halt : Halt) → part p d ≡ Some x → Ran (Err halt) y t (f x s)
+    → Ran (Err halt) e u (within p f d s)
 at_halts_in f p d x y e s t u Refused is ran = within_is f x s p d is ∙ ap (λ (z : Run Draft). then_run z (replaced p d)) ran
 at_halts_in f p d x y e s t u NoMemory is ran = tt
 
 -- ---- words
 
-pub not_width : (g : Get) (off : ℕ) (p : List ℕ) (w : ℕ) (o : Order) (d : Draft) (s : Place) → width_in w ≡ None → word_got g off p w o d s ≡ refuses
+pub not_width : (g : Get) (off : ℕ) (p : List ℕ) (w : ℕ) (o : Order) (d : Draft) (s : Place) → width_in w ≡ None
+    → word_got g off p w o d s ≡ refuses
 not_width g off p w o d s e = ap (λ (z : Option Width). if_passed z (λ x. if nat_le (off + w) s.near then within p (into g x (loaded o x (take w (drop off s.left)))) d s else strays)) e
 
 pub width_is : (w : ℕ) → IsWidth w → width_in w ≡ Some (width_as w)
@@ -71,18 +78,21 @@ word_near g off p w o d s h =
     ap (λ (z : Option Width). if_passed z (λ x. if nat_le (off + w) s.near then within p (into g x (loaded o x (take w (drop off s.left)))) d s else strays)) (width_is w h)
     ∙ ap (λ (z : Option Width). if nat_le (off + w) s.near then within p (into g (width_as w) (loaded_of o z (take w (drop off s.left)))) d s else strays) (sym (width_is w h))
 
-pub word_fits : (g : Get) (off : ℕ) (p : List ℕ) (w : ℕ) (o : Order) (d : Draft) (s : Place) → IsWidth w → Holds (word_got g off p w o d s) → off + w ≤ s.near
+pub word_fits : (g : Get) (off : ℕ) (p : List ℕ) (w : ℕ) (o : Order) (d : Draft) (s : Place) → IsWidth w → Holds (word_got g off p w o d s)
+    → off + w ≤ s.near
 word_fits g off p w o d s h holds = checked (nat_le (off + w) s.near) refl (subst Holds (word_near g off p w o d s h) holds) where
   checked : (b : Bool) → nat_le (off + w) s.near ≡ b → Holds (if b then within p (into g (width_as w) (word_of off w o s)) d s else strays) → off + w ≤ s.near
   checked true e k = leb-true (off + w) s.near e
   checked false e k = absurd k
 
-pub word_is : (g : Get) (off : ℕ) (p : List ℕ) (w : ℕ) (o : Order) (d : Draft) (s : Place) → IsWidth w → off + w ≤ s.near → word_got g off p w o d s ≡ within p (into g (width_as w) (word_of off w o s)) d s
+pub word_is : (g : Get) (off : ℕ) (p : List ℕ) (w : ℕ) (o : Order) (d : Draft) (s : Place) → IsWidth w → off + w ≤ s.near
+    → word_got g off p w o d s ≡ within p (into g (width_as w) (word_of off w o s)) d s
 word_is g off p w o d s h near =
     word_near g off p w o d s h ∙ ap (λ (b : Bool). if b then within p (into g (width_as w) (word_of off w o s)) d s else strays) (le-leb (off + w) s.near near)
 
 -- a word that is taken, for the part at a path
-module _ (g : Get) (off : ℕ) (p q : List ℕ) (w : ℕ) (o : Order) (d : Draft) (s : Place) (wide : IsWidth w) (same : q ≡ p) (holds : Holds (word_got g off p w o d s)) where
+module _ (g : Get) (off : ℕ) (p q : List ℕ) (w : ℕ) (o : Order) (d : Draft) (s : Place) (wide : IsWidth w)
+    (same : q ≡ p) (holds : Holds (word_got g off p w o d s)) where
   held : Holds (word_got g off q w o d s)
   held = subst (λ (r : List ℕ). Holds (word_got g off r w o d s)) (sym same) holds
 
@@ -101,12 +111,14 @@ module _ (g : Get) (off : ℕ) (p q : List ℕ) (w : ℕ) (o : Order) (d : Draft
   pub word_holds : (m : ℕ) (x : Draft) → m ≡ word_of off w o s → part q d ≡ Some x → Holds (into g (width_as w) m x s)
   word_holds m x is e = subst (λ (n : ℕ). Holds (into g (width_as w) n x s)) (sym is) (within_holds (into g (width_as w) (word_of off w o s)) s q d x e inner)
 
-  pub word_gives : (m : ℕ) (d' x y e : Draft) → m ≡ word_of off w o s → part q d ≡ Some x → ((z : Draft) → put_part q z d' ≡ put_part q z d) → into g (width_as w) m x s ≡ gives y s → put_part q y d' ≡ Some e
+  pub word_gives : (m : ℕ) (d' x y e : Draft) → m ≡ word_of off w o s → part q d ≡ Some x
+      → ((z : Draft) → put_part q z d' ≡ put_part q z d) → into g (width_as w) m x s ≡ gives y s → put_part q y d' ≡ Some e
       → word_got g off p w o d s ≡ gives e s
   word_gives m d' x y e is there rest ran put =
       within_so ∙ at_gives (into g (width_as w) (word_of off w o s)) q d d' x y e s s there rest (ap (λ (n : ℕ). into g (width_as w) n x s) (sym is) ∙ ran) put
 
-  pub word_refuses : (m : ℕ) (x : Draft) → m ≡ word_of off w o s → part q d ≡ Some x → into g (width_as w) m x s ≡ refuses → word_got g off p w o d s ≡ refuses
+  pub word_refuses : (m : ℕ) (x : Draft) → m ≡ word_of off w o s → part q d ≡ Some x → into g (width_as w) m x s ≡ refuses
+      → word_got g off p w o d s ≡ refuses
   word_refuses m x is there ran =
       within_so ∙ within_is (into g (width_as w) (word_of off w o s)) x s q d there
       ∙ ap (λ (z : Run Draft). then_run z (replaced q d)) (ap (λ (n : ℕ). into g (width_as w) n x s) (sym is) ∙ ran)
@@ -138,7 +150,8 @@ const_fits off os d s h = checked (nat_le (off + length os) s.near) refl h where
   checked true e k = leb-true (off + length os) s.near e
   checked false e k = absurd k
 
-pub const_is : (off : ℕ) (os : List ℕ) (d : Draft) (s : Place) → off + length os ≤ s.near → const_got off os d s ≡ (if same_octets os (take (length os) (drop off s.left)) then gives d s else refuses)
+pub const_is : (off : ℕ) (os : List ℕ) (d : Draft) (s : Place) → off + length os ≤ s.near
+    → const_got off os d s ≡ (if same_octets os (take (length os) (drop off s.left)) then gives d s else refuses)
 const_is off os d s h = ap (λ (b : Bool). if b then (if same_octets os (take (length os) (drop off s.left)) then gives d s else refuses) else strays) (le-leb (off + length os) s.near h)
 
 pub ruleset constants = (const_fits, const_is)
@@ -149,7 +162,8 @@ alike [] (y ∷ b) = refl
 alike (x ∷ a) [] = refl
 alike (x ∷ a) (y ∷ b) = ap (λ (g : Bool). nat_eq x y && g) (alike a b)
 
-pub pointwise_alike : (a b x y : List ℕ) (n : ℕ) → a ≡ x → b ≡ take n y → n ≡ length x → pointwise nat_eq a b ≡ same_octets x (take (length x) y)
+pub pointwise_alike : (a b x y : List ℕ) (n : ℕ) → a ≡ x → b ≡ take n y → n ≡ length x
+    → pointwise nat_eq a b ≡ same_octets x (take (length x) y)
 pointwise_alike a b x y n e f g = alike a b ∙ ap (λ (l : List ℕ). same_octets l b) e ∙ ap (same_octets x) (f ∙ ap (λ (m : ℕ). take m y) g)
 
 -- octets from an offset on, so many

@@ -57,7 +57,8 @@ passing x m t = if is_scalar t (number_of (is_signed t) x m) then Some (number_o
 
 -- the same of a row's or text's numbers
 abbrev pub digit_passing : Array → Width → ℕ → Option ℤ
-digit_passing a x m = if is_digit a (number_of (is_signed (number (kind_of a))) x m) then Some (number_of (is_signed (number (kind_of a))) x m) else None
+digit_passing a x m = if is_digit a (number_of (is_signed (number (kind_of a))) x m)
+    then Some (number_of (is_signed (number (kind_of a))) x m) else None
 
 -- a length, where a count allows it
 abbrev pub allowed : Count → ℕ → Option ℕ

@@ -45,7 +45,7 @@ AreRead (Ok r) x = x ≡ Some r.numbers
 AreRead (Err Refused) x = x ≡ None
 AreRead (Err NoMemory) x = Unit {0}
 
--- a test, told as an answer
+-- a test, as an answer
 abbrev pub IsTested : Bool → Result (Unit {0}) Halt → Type 0
 IsTested true result = result ≡ Ok tt
 IsTested false result = result ≡ Err Refused

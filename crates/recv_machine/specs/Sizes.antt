@@ -1,4 +1,4 @@
--- How many operations stand in a code.
+-- How many operations are in a code.
 use Rattle.std.specs.Prelude.{ℕ, suc, ◌+◌, ◌≤◌, List, [], ◌∷◌, Option, None, Some}
 use Rattle.cast_stub.specs.declared.recv.RecvOp.{RecvOp}
 use Rattle.cast_stub.specs.RecvBlock.{Recv, finish, need, need_row, skip_any, skip_zero, pass, desc, row_block, row_wide, each, switch, if_there, call, Cases, no_default, default, case, code_seen}

@@ -32,7 +32,8 @@ pub fn row_into(
     view: &mut RecvView<'_>,
 ) -> Result<Filling, Halt>
     requires { Holds (row_into order (drawn mint.now part.now) (place_of view.old)) }
-    ensures done { Gave (drawn mint.now) result (place_of view.new) (row_into order (drawn mint.now part.now) (place_of view.old)) }
+    ensures done { Gave (drawn mint.now) result (place_of view.new)
+        (row_into order (drawn mint.now part.now) (place_of view.old)) }
     ensures octets { view.new.octets ≡ view.old.octets }
 {
     match elements_of(mint, part) {
@@ -51,7 +52,8 @@ pub fn wide_into(
     view: &mut RecvView<'_>,
 ) -> Result<Filling, Halt>
     requires { Holds (wide_into order (drawn mint.now part.now) (place_of view.old)) }
-    ensures done { Gave (drawn mint.now) result (place_of view.new) (wide_into order (drawn mint.now part.now) (place_of view.old)) }
+    ensures done { Gave (drawn mint.now) result (place_of view.new)
+        (wide_into order (drawn mint.now part.now) (place_of view.old)) }
     ensures octets { view.new.octets ≡ view.old.octets }
 {
     match elements_of(mint, part) {
@@ -70,8 +72,10 @@ fn whole_block(
     n: u32,
     view: &mut RecvView<'_>,
 ) -> Result<Filling, Halt>
-    requires { Holds (fill_block order (width (kind_of (array_at mint.now id))) (array_at mint.now id) n (place_of view.old)) }
-    ensures done { Gave (drawn mint.now) result (place_of view.new) (fill_block order (width (kind_of (array_at mint.now id))) (array_at mint.now id) n (place_of view.old)) }
+    requires { Holds (fill_block order (width (kind_of (array_at mint.now id))) (array_at mint.now id) n
+        (place_of view.old)) }
+    ensures done { Gave (drawn mint.now) result (place_of view.new) (fill_block order
+        (width (kind_of (array_at mint.now id))) (array_at mint.now id) n (place_of view.old)) }
     ensures octets { view.new.octets ≡ view.old.octets }
 {
     let kind = kind_at(mint, id);
@@ -142,7 +146,8 @@ fn fill_block(
 ) -> Result<Filling, Halt>
     requires width { IsWidth width }
     requires holds { Holds (fill_block order width (array_at mint.now id) n (place_of view.old)) }
-    ensures done { Gave (drawn mint.now) result (place_of view.new) (fill_block order width (array_at mint.now id) n (place_of view.old)) }
+    ensures done { Gave (drawn mint.now) result (place_of view.new)
+        (fill_block order width (array_at mint.now id) n (place_of view.old)) }
     ensures octets { view.new.octets ≡ view.old.octets }
 {
     let row = numbers_at(alloc, mint, order, width, id, n, view)?;
@@ -162,7 +167,8 @@ fn numbers_at(
 ) -> Result<Row, Halt>
     requires width { IsWidth width }
     requires near { n * width ≤ view.now.near }
-    ensures numbers { AreRead result (numbers_at (array_at mint.now id) order (width_as width) width n (drop view.now.pos view.now.octets)) }
+    ensures numbers { AreRead result (numbers_at (array_at mint.now id) order (width_as width) width n
+        (drop view.now.pos view.now.octets)) }
     ensures kind { IfOk result (λ r. r.kind ≡ kind_of (array_at mint.now id)) }
 {
     let _left = octets_left(view);

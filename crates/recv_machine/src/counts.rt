@@ -1,4 +1,4 @@
-// Lengths that numbers tell.
+// Lengths that numbers give.
 ghost use Rattle.std.specs.Prelude.{◌≡◌};
 ghost use Rattle.cast_stub.specs.Into.{length_of};
 ghost use Rattle.cast_stub.specs.Parts.{on_some};
@@ -36,7 +36,7 @@ fn allowed(count: Count, n: u64) -> Option<u32>
     }
 }
 
-/// The length of a list that a number tells, where its count allows it.
+/// The length of a list that a number gives, where its count allows it.
 pub fn counted(count: Count, mul: u32, add: u32, m: u64) -> Option<u32>
     ensures { result ≡ on_some (length_of mul add m) (allowed count) }
 {

@@ -22,7 +22,8 @@ pub fn desc_into(
     view: &mut RecvView<'_>,
 ) -> Option<Filling>
     requires { Holds (desc_into name size mul (drawn mint.now part.now) (place_of view.old)) }
-    ensures done { Took (drawn mint.now) result (place_of view.new) (desc_into name size mul (drawn mint.now part.now) (place_of view.old)) }
+    ensures done { Took (drawn mint.now) result (place_of view.new)
+        (desc_into name size mul (drawn mint.now part.now) (place_of view.old)) }
     ensures octets { view.new.octets ≡ view.old.octets }
 {
     if !view.need(4) {
@@ -48,7 +49,8 @@ fn short_into(
 ) -> Option<Filling>
     requires near { 4 ≤ view.old.near }
     requires holds { Holds (short_into name size mul first (drawn mint.now part.now) (place_of view.old)) }
-    ensures done { Took (drawn mint.now) result (place_of view.new) (short_into name size mul first (drawn mint.now part.now) (place_of view.old)) }
+    ensures done { Took (drawn mint.now) result (place_of view.new)
+        (short_into name size mul first (drawn mint.now part.now) (place_of view.old)) }
     ensures octets { view.new.octets ≡ view.old.octets }
 {
     let right = first % 256 == u64::from(name) && first / 256 % 256 == u64::from(size);
@@ -65,7 +67,8 @@ fn long_into(
     view: &mut RecvView<'_>,
 ) -> Option<Filling>
     requires { Holds (long_into name size mul (drawn mint.now part.now) (place_of view.old)) }
-    ensures done { Took (drawn mint.now) result (place_of view.new) (long_into name size mul (drawn mint.now part.now) (place_of view.old)) }
+    ensures done { Took (drawn mint.now) result (place_of view.new)
+        (long_into name size mul (drawn mint.now part.now) (place_of view.old)) }
     ensures octets { view.new.octets ≡ view.old.octets }
 {
     if !view.need(12) {
@@ -90,7 +93,8 @@ fn units_into(
 ) -> Option<Filling>
     requires near { n ≤ view.old.near }
     requires holds { Holds (units_into right mul many n (drawn mint.now part.now) (place_of view.old)) }
-    ensures done { Took (drawn mint.now) result (place_of view.new) (units_into right mul many n (drawn mint.now part.now) (place_of view.old)) }
+    ensures done { Took (drawn mint.now) result (place_of view.new)
+        (units_into right mul many n (drawn mint.now part.now) (place_of view.old)) }
     ensures octets { view.new.octets ≡ view.old.octets }
 {
     if !right {

@@ -80,7 +80,8 @@ pub fn take_part(mint: &Mint, draft: &mut Filling, path: &[u32], from: usize) ->
     requires within { from ≤ length path.now }
     requires there { IsThere (part (drop from path.now) (drawn mint.now draft.old)) }
     ensures taken { part (drop from path.now) (drawn mint.now draft.old) ≡ Some (drawn mint.now result) }
-    ensures rest { (y : Draft) → put_part (drop from path.now) y (drawn mint.now draft.new) ≡ put_part (drop from path.now) y (drawn mint.now draft.old) }
+    ensures rest { (y : Draft) → put_part (drop from path.now) y (drawn mint.now draft.new)
+        ≡ put_part (drop from path.now) y (drawn mint.now draft.old) }
 {
     if from == path.len() {
         return std::mem::replace(draft, Filling::Raw(0));
@@ -101,9 +102,13 @@ pub fn take_part(mint: &Mint, draft: &mut Filling, path: &[u32], from: usize) ->
 #[tactic(auto, using(crate::proofs::Drafting::taking))]
 fn take_in(mint: &Mint, fields: &mut Fillings, path: &[u32], from: usize) -> Filling
     requires within { from < length path.now }
-    requires there { IsThere (on_some (field_at (slice_index path.now from) (all_drawn mint.now fields.old)) (part (drop (from + 1) path.now))) }
-    ensures taken { on_some (field_at (slice_index path.now from) (all_drawn mint.now fields.old)) (part (drop (from + 1) path.now)) ≡ Some (drawn mint.now result) }
-    ensures rest { (y : Draft) → put_field (slice_index path.now from) (drop (from + 1) path.now) y (all_drawn mint.now fields.new) ≡ put_field (slice_index path.now from) (drop (from + 1) path.now) y (all_drawn mint.now fields.old) }
+    requires there { IsThere (on_some (field_at (slice_index path.now from) (all_drawn mint.now fields.old))
+        (part (drop (from + 1) path.now))) }
+    ensures taken { on_some (field_at (slice_index path.now from) (all_drawn mint.now fields.old))
+        (part (drop (from + 1) path.now)) ≡ Some (drawn mint.now result) }
+    ensures rest { (y : Draft)
+        → put_field (slice_index path.now from) (drop (from + 1) path.now) y (all_drawn mint.now fields.new)
+        ≡ put_field (slice_index path.now from) (drop (from + 1) path.now) y (all_drawn mint.now fields.old) }
 {
     let at = path[from] as usize;
     let mut inner = Filling::Raw(0);
@@ -119,7 +124,8 @@ fn take_in(mint: &Mint, fields: &mut Fillings, path: &[u32], from: usize) -> Fil
 pub fn put_back(mint: &Mint, draft: &mut Filling, path: &[u32], from: usize, new: Filling)
     requires within { from ≤ length path.now }
     requires there { IsThere (put_part (drop from path.now) (drawn mint.now new) (drawn mint.now draft.old)) }
-    ensures { put_part (drop from path.now) (drawn mint.now new) (drawn mint.now draft.old) ≡ Some (drawn mint.now draft.new) }
+    ensures { put_part (drop from path.now) (drawn mint.now new) (drawn mint.now draft.old)
+        ≡ Some (drawn mint.now draft.new) }
 {
     if from == path.len() {
         *draft = new;
@@ -141,8 +147,10 @@ pub fn put_back(mint: &Mint, draft: &mut Filling, path: &[u32], from: usize, new
 #[tactic(auto, using(crate::proofs::Drafting::putting))]
 fn put_in(mint: &Mint, fields: &mut Fillings, path: &[u32], from: usize, new: Filling)
     requires within { from < length path.now }
-    requires there { IsThere (put_field (slice_index path.now from) (drop (from + 1) path.now) (drawn mint.now new) (all_drawn mint.now fields.old)) }
-    ensures { put_field (slice_index path.now from) (drop (from + 1) path.now) (drawn mint.now new) (all_drawn mint.now fields.old) ≡ Some (all_drawn mint.now fields.new) }
+    requires there { IsThere (put_field (slice_index path.now from) (drop (from + 1) path.now)
+        (drawn mint.now new) (all_drawn mint.now fields.old)) }
+    ensures { put_field (slice_index path.now from) (drop (from + 1) path.now) (drawn mint.now new)
+        (all_drawn mint.now fields.old) ≡ Some (all_drawn mint.now fields.new) }
 {
     let at = path[from] as usize;
     let mut inner = Filling::Raw(0);

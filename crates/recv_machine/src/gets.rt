@@ -32,7 +32,8 @@ fn number_read(mint: &Mint, n: &i128) -> Filling
 fn num_into(mint: &Mint, width: u32, m: u64, part: &Filling, view: &RecvView<'_>) -> Option<Filling>
     requires fits { m < 256 ^ width }
     requires holds { Holds (num_into (width_as width) m (drawn mint.now part.now) (place_of view.now)) }
-    ensures { Took (drawn mint.now) result (place_of view.now) (num_into (width_as width) m (drawn mint.now part.now) (place_of view.now)) }
+    ensures { Took (drawn mint.now) result (place_of view.now)
+        (num_into (width_as width) m (drawn mint.now part.now) (place_of view.now)) }
 {
     match part {
         Filling::Raw(id) => {
@@ -61,7 +62,8 @@ fn num_into(mint: &Mint, width: u32, m: u64, part: &Filling, view: &RecvView<'_>
 fn tag_into(mint: &Mint, width: u32, m: u64, part: &Filling, view: &RecvView<'_>) -> Option<Filling>
     requires fits { m < 256 ^ width }
     requires holds { Holds (tag_into (width_as width) m (drawn mint.now part.now) (place_of view.now)) }
-    ensures { Took (drawn mint.now) result (place_of view.now) (tag_into (width_as width) m (drawn mint.now part.now) (place_of view.now)) }
+    ensures { Took (drawn mint.now) result (place_of view.now)
+        (tag_into (width_as width) m (drawn mint.now part.now) (place_of view.now)) }
 {
     match part {
         Filling::Raw(id) => {
@@ -116,7 +118,8 @@ fn flag_into(
     view: &RecvView<'_>,
 ) -> Option<Filling>
     requires holds { Holds (flag_into (width_as width) m (drawn mint.now part.now) (place_of view.now)) }
-    ensures { Took (drawn mint.now) result (place_of view.now) (flag_into (width_as width) m (drawn mint.now part.now) (place_of view.now)) }
+    ensures { Took (drawn mint.now) result (place_of view.now)
+        (flag_into (width_as width) m (drawn mint.now part.now) (place_of view.now)) }
 {
     match part {
         Filling::Raw(id) => {
@@ -162,7 +165,8 @@ pub fn count_into(
     view: &RecvView<'_>,
 ) -> Option<Filling>
     requires holds { Holds (count_into mul add m (drawn mint.now part.now) (place_of view.now)) }
-    ensures { Took (drawn mint.now) result (place_of view.now) (count_into mul add m (drawn mint.now part.now) (place_of view.now)) }
+    ensures { Took (drawn mint.now) result (place_of view.now)
+        (count_into mul add m (drawn mint.now part.now) (place_of view.now)) }
 {
     match part {
         Filling::Raw(id) => {
@@ -217,7 +221,8 @@ pub fn into(
 ) -> Option<Filling>
     requires fits { m < 256 ^ width }
     requires holds { Holds (into get.now (width_as width) m (drawn mint.now part.now) (place_of view.now)) }
-    ensures { Took (drawn mint.now) result (place_of view.now) (into get.now (width_as width) m (drawn mint.now part.now) (place_of view.now)) }
+    ensures { Took (drawn mint.now) result (place_of view.now)
+        (into get.now (width_as width) m (drawn mint.now part.now) (place_of view.now)) }
 {
     match get {
         Get::Num(_, _, _, _) => num_into(mint, width, m, part, view),

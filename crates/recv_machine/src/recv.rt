@@ -26,7 +26,7 @@ pub enum Got {
     Not,
 }
 
-// How many calls may stand within one another.
+// How many calls may be nested.
 fn deepest_call() -> u32
     ensures { result ≡ deepest }
 {
@@ -42,8 +42,10 @@ pub fn run_recv(
     view: &mut RecvView<'_>,
 ) -> Result<Got, NoMemory>
     requires { Holds (received code.now (type_at mint.now id) (place_of view.old)) }
-    ensures got { IfOk result (λ got. IsGot got view.new (got_by code.now (type_at mint.now id) (place_of view.old))) }
-    ensures exact { (e : Encoding) → IsExact e (type_at mint.now id) view.old.pos (drop view.old.pos view.old.octets) (received code.now (type_at mint.now id) (place_of view.old))
+    ensures got { IfOk result
+        (λ got. IsGot got view.new (got_by code.now (type_at mint.now id) (place_of view.old))) }
+    ensures exact { (e : Encoding) → IsExact e (type_at mint.now id) view.old.pos
+        (drop view.old.pos view.old.octets) (received code.now (type_at mint.now id) (place_of view.old))
         → IfOk result (λ got. IsSpelled e (type_at mint.now id) got view.old view.new) }
     ensures octets { view.new.octets ≡ view.old.octets }
 {

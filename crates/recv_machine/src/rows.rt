@@ -1,4 +1,4 @@
-// Tests for as many octets as a length tells.
+// Tests for as many octets as a length says.
 ghost use Rattle.std.specs.Prelude.{◌≡◌, ◌+◌, ◌*◌, option_map};
 ghost use Rattle.cast_stub.specs.Draft.{length_in, done};
 ghost use Rattle.mint.specs.Values.{seen};
@@ -114,8 +114,11 @@ pub fn need_row(
     draft: &Filling,
     view: &mut RecvView<'_>,
 ) -> bool
-    requires { Holds (if_some (part path.now (drawn mint.now draft.now)) (λ x. if_some (length_in x) (λ n. needed (n * unit + extra) (drawn mint.now draft.now) (place_of view.old)))) }
-    ensures done { Tested result (drawn mint.now draft.now) (place_of view.new) (if_some (part path.now (drawn mint.now draft.now)) (λ x. if_some (length_in x) (λ n. needed (n * unit + extra) (drawn mint.now draft.now) (place_of view.old)))) }
+    requires { Holds (if_some (part path.now (drawn mint.now draft.now)) (λ x. if_some (length_in x)
+        (λ n. needed (n * unit + extra) (drawn mint.now draft.now) (place_of view.old)))) }
+    ensures done { Tested result (drawn mint.now draft.now) (place_of view.new)
+        (if_some (part path.now (drawn mint.now draft.now)) (λ x. if_some (length_in x)
+        (λ n. needed (n * unit + extra) (drawn mint.now draft.now) (place_of view.old)))) }
     ensures octets { view.new.octets ≡ view.old.octets }
 {
     let Some(part) = part_at(mint, draft, path) else {

@@ -39,8 +39,11 @@ pub fn run_block(
     draft: &mut Filling,
     view: &mut RecvView<'_>,
 ) -> Result<(), Halt>
-    requires { Holds (fill (calls_of machine.now.subs.now calls) (code_seen code.now) (drawn machine.now.mint.now draft.old) (place_of view.old)) }
-    ensures done { Ran result (drawn machine.now.mint.now draft.new) (place_of view.new) (fill (calls_of machine.now.subs.now calls) (code_seen code.now) (drawn machine.now.mint.now draft.old) (place_of view.old)) }
+    requires { Holds (fill (calls_of machine.now.subs.now calls) (code_seen code.now)
+        (drawn machine.now.mint.now draft.old) (place_of view.old)) }
+    ensures done { Ran result (drawn machine.now.mint.now draft.new) (place_of view.new)
+        (fill (calls_of machine.now.subs.now calls) (code_seen code.now)
+        (drawn machine.now.mint.now draft.old) (place_of view.old)) }
     ensures octets { view.new.octets ≡ view.old.octets }
 {
     for op in code.as_slice() {
@@ -59,8 +62,11 @@ fn run_op(
     draft: &mut Filling,
     view: &mut RecvView<'_>,
 ) -> Result<(), Halt>
-    requires { Holds (fill (calls_of machine.now.subs.now calls) (op_seen op.now finish) (drawn machine.now.mint.now draft.old) (place_of view.old)) }
-    ensures done { Ran result (drawn machine.now.mint.now draft.new) (place_of view.new) (fill (calls_of machine.now.subs.now calls) (op_seen op.now finish) (drawn machine.now.mint.now draft.old) (place_of view.old)) }
+    requires { Holds (fill (calls_of machine.now.subs.now calls) (op_seen op.now finish)
+        (drawn machine.now.mint.now draft.old) (place_of view.old)) }
+    ensures done { Ran result (drawn machine.now.mint.now draft.new) (place_of view.new)
+        (fill (calls_of machine.now.subs.now calls) (op_seen op.now finish)
+        (drawn machine.now.mint.now draft.old) (place_of view.old)) }
     ensures octets { view.new.octets ≡ view.old.octets }
 {
     match op {
@@ -93,8 +99,11 @@ fn run_at(
     view: &mut RecvView<'_>,
 ) -> Result<(), Halt>
     requires path { part_path (op_seen op.now finish) ≡ Some path.now }
-    requires holds { Holds (fill (calls_of machine.now.subs.now calls) (op_seen op.now finish) (drawn machine.now.mint.now draft.old) (place_of view.old)) }
-    ensures done { Ran result (drawn machine.now.mint.now draft.new) (place_of view.new) (fill (calls_of machine.now.subs.now calls) (op_seen op.now finish) (drawn machine.now.mint.now draft.old) (place_of view.old)) }
+    requires holds { Holds (fill (calls_of machine.now.subs.now calls) (op_seen op.now finish)
+        (drawn machine.now.mint.now draft.old) (place_of view.old)) }
+    ensures done { Ran result (drawn machine.now.mint.now draft.new) (place_of view.new)
+        (fill (calls_of machine.now.subs.now calls) (op_seen op.now finish)
+        (drawn machine.now.mint.now draft.old) (place_of view.old)) }
     ensures octets { view.new.octets ≡ view.old.octets }
 {
     let path = path.as_slice();
@@ -114,8 +123,11 @@ fn act(
     part: Filling,
     view: &mut RecvView<'_>,
 ) -> Result<Filling, Halt>
-    requires { Holds (acted (calls_of machine.now.subs.now calls) (op_seen op.now finish) (drawn machine.now.mint.now part) (place_of view.old)) }
-    ensures done { Gave (drawn machine.now.mint.now) result (place_of view.new) (acted (calls_of machine.now.subs.now calls) (op_seen op.now finish) (drawn machine.now.mint.now part) (place_of view.old)) }
+    requires { Holds (acted (calls_of machine.now.subs.now calls) (op_seen op.now finish)
+        (drawn machine.now.mint.now part) (place_of view.old)) }
+    ensures done { Gave (drawn machine.now.mint.now) result (place_of view.new)
+        (acted (calls_of machine.now.subs.now calls) (op_seen op.now finish)
+        (drawn machine.now.mint.now part) (place_of view.old)) }
     ensures octets { view.new.octets ≡ view.old.octets }
 {
     match op {
@@ -149,8 +161,10 @@ fn run_called(
     part: Filling,
     view: &mut RecvView<'_>,
 ) -> Result<Filling, Halt>
-    requires { Holds (calls_of machine.now.subs.now calls k (drawn machine.now.mint.now part) (place_of view.old)) }
-    ensures done { Gave (drawn machine.now.mint.now) result (place_of view.new) (calls_of machine.now.subs.now calls k (drawn machine.now.mint.now part) (place_of view.old)) }
+    requires { Holds
+        (calls_of machine.now.subs.now calls k (drawn machine.now.mint.now part) (place_of view.old)) }
+    ensures done { Gave (drawn machine.now.mint.now) result (place_of view.new)
+        (calls_of machine.now.subs.now calls k (drawn machine.now.mint.now part) (place_of view.old)) }
     ensures octets { view.new.octets ≡ view.old.octets }
 {
     if calls == 0 {
@@ -176,8 +190,10 @@ pub fn run_fresh(
     item: u32,
     view: &mut RecvView<'_>,
 ) -> Result<Value, Halt>
-    requires { Holds (settled (fill (calls_of machine.now.subs.now calls) (code_seen body.now) (fresh (type_at machine.now.mint.now item)) (place_of view.old))) }
-    ensures done { Gave seen result (place_of view.new) (settled (fill (calls_of machine.now.subs.now calls) (code_seen body.now) (fresh (type_at machine.now.mint.now item)) (place_of view.old))) }
+    requires { Holds (settled (fill (calls_of machine.now.subs.now calls) (code_seen body.now)
+        (fresh (type_at machine.now.mint.now item)) (place_of view.old))) }
+    ensures done { Gave seen result (place_of view.new) (settled (fill (calls_of machine.now.subs.now calls)
+        (code_seen body.now) (fresh (type_at machine.now.mint.now item)) (place_of view.old))) }
     ensures octets { view.new.octets ≡ view.old.octets }
 {
     let mut draft = fresh(machine.alloc, machine.mint, item)?;
@@ -196,8 +212,11 @@ fn run_some(
     part: Filling,
     view: &mut RecvView<'_>,
 ) -> Result<Filling, Halt>
-    requires { Holds (fill_present (fill (calls_of machine.now.subs.now calls) (code_seen body.now)) (drawn machine.now.mint.now part) (place_of view.old)) }
-    ensures done { Gave (drawn machine.now.mint.now) result (place_of view.new) (fill_present (fill (calls_of machine.now.subs.now calls) (code_seen body.now)) (drawn machine.now.mint.now part) (place_of view.old)) }
+    requires { Holds (fill_present (fill (calls_of machine.now.subs.now calls) (code_seen body.now))
+        (drawn machine.now.mint.now part) (place_of view.old)) }
+    ensures done { Gave (drawn machine.now.mint.now) result (place_of view.new)
+        (fill_present (fill (calls_of machine.now.subs.now calls) (code_seen body.now))
+        (drawn machine.now.mint.now part) (place_of view.old)) }
     ensures octets { view.new.octets ≡ view.old.octets }
 {
     match part {
@@ -226,8 +245,12 @@ fn run_switch(
     part: Filling,
     view: &mut RecvView<'_>,
 ) -> Result<Filling, Halt>
-    requires { Holds (fill_arm (fill_case (calls_of machine.now.subs.now calls) (cases_seen cases.now other.now)) (drawn machine.now.mint.now part) (place_of view.old)) }
-    ensures done { Gave (drawn machine.now.mint.now) result (place_of view.new) (fill_arm (fill_case (calls_of machine.now.subs.now calls) (cases_seen cases.now other.now)) (drawn machine.now.mint.now part) (place_of view.old)) }
+    requires { Holds
+        (fill_arm (fill_case (calls_of machine.now.subs.now calls) (cases_seen cases.now other.now))
+        (drawn machine.now.mint.now part) (place_of view.old)) }
+    ensures done { Gave (drawn machine.now.mint.now) result (place_of view.new)
+        (fill_arm (fill_case (calls_of machine.now.subs.now calls) (cases_seen cases.now other.now))
+        (drawn machine.now.mint.now part) (place_of view.old)) }
     ensures octets { view.new.octets ≡ view.old.octets }
 {
     match part {
@@ -259,8 +282,11 @@ fn run_items(
     n: u32,
     view: &mut RecvView<'_>,
 ) -> Result<Values, Halt>
-    requires { Holds (runs (λ u. settled (fill (calls_of machine.now.subs.now calls) (code_seen body.now) (fresh (type_at machine.now.mint.now item)) u)) n (place_of view.old)) }
-    ensures done { Gave (map seen) result (place_of view.new) (runs (λ u. settled (fill (calls_of machine.now.subs.now calls) (code_seen body.now) (fresh (type_at machine.now.mint.now item)) u)) n (place_of view.old)) }
+    requires { Holds (runs (λ u. settled (fill (calls_of machine.now.subs.now calls) (code_seen body.now)
+        (fresh (type_at machine.now.mint.now item)) u)) n (place_of view.old)) }
+    ensures done { Gave (map seen) result (place_of view.new) (runs
+        (λ u. settled (fill (calls_of machine.now.subs.now calls) (code_seen body.now)
+        (fresh (type_at machine.now.mint.now item)) u)) n (place_of view.old)) }
     ensures octets { view.new.octets ≡ view.old.octets }
 {
     let mut values = Values::new(machine.alloc);
@@ -280,8 +306,11 @@ fn run_digit(
     id: u32,
     view: &mut RecvView<'_>,
 ) -> Result<i128, Halt>
-    requires { Holds (settled_number (fill (calls_of machine.now.subs.now calls) (code_seen body.now) (digit (array_at machine.now.mint.now id)) (place_of view.old))) }
-    ensures done { Gave itself result (place_of view.new) (settled_number (fill (calls_of machine.now.subs.now calls) (code_seen body.now) (digit (array_at machine.now.mint.now id)) (place_of view.old))) }
+    requires { Holds (settled_number (fill (calls_of machine.now.subs.now calls) (code_seen body.now)
+        (digit (array_at machine.now.mint.now id)) (place_of view.old))) }
+    ensures done { Gave itself result (place_of view.new)
+        (settled_number (fill (calls_of machine.now.subs.now calls) (code_seen body.now)
+        (digit (array_at machine.now.mint.now id)) (place_of view.old))) }
     ensures ranged { IfOk result (λ n. IsInRange (kind_of (array_at machine.now.mint.now id)) n) }
     ensures octets { view.new.octets ≡ view.old.octets }
 {
@@ -305,8 +334,11 @@ fn run_numbers(
     n: u32,
     view: &mut RecvView<'_>,
 ) -> Result<Row, Halt>
-    requires { Holds (runs (λ u. settled_number (fill (calls_of machine.now.subs.now calls) (code_seen body.now) (digit (array_at machine.now.mint.now id)) u)) n (place_of view.old)) }
-    ensures done { Gave numbers_in result (place_of view.new) (runs (λ u. settled_number (fill (calls_of machine.now.subs.now calls) (code_seen body.now) (digit (array_at machine.now.mint.now id)) u)) n (place_of view.old)) }
+    requires { Holds (runs (λ u. settled_number (fill (calls_of machine.now.subs.now calls)
+        (code_seen body.now) (digit (array_at machine.now.mint.now id)) u)) n (place_of view.old)) }
+    ensures done { Gave numbers_in result (place_of view.new) (runs
+        (λ u. settled_number (fill (calls_of machine.now.subs.now calls) (code_seen body.now)
+        (digit (array_at machine.now.mint.now id)) u)) n (place_of view.old)) }
     ensures kind { IfOk result (λ r. r.kind ≡ kind_of (array_at machine.now.mint.now id)) }
     ensures octets { view.new.octets ≡ view.old.octets }
 {
@@ -327,8 +359,11 @@ fn run_each(
     part: Filling,
     view: &mut RecvView<'_>,
 ) -> Result<Filling, Halt>
-    requires { Holds (fill_each (fill (calls_of machine.now.subs.now calls) (code_seen body.now)) (drawn machine.now.mint.now part) (place_of view.old)) }
-    ensures done { Gave (drawn machine.now.mint.now) result (place_of view.new) (fill_each (fill (calls_of machine.now.subs.now calls) (code_seen body.now)) (drawn machine.now.mint.now part) (place_of view.old)) }
+    requires { Holds (fill_each (fill (calls_of machine.now.subs.now calls) (code_seen body.now))
+        (drawn machine.now.mint.now part) (place_of view.old)) }
+    ensures done { Gave (drawn machine.now.mint.now) result (place_of view.new)
+        (fill_each (fill (calls_of machine.now.subs.now calls) (code_seen body.now))
+        (drawn machine.now.mint.now part) (place_of view.old)) }
     ensures octets { view.new.octets ≡ view.old.octets }
 {
     match elements_of(machine.mint, &part) {

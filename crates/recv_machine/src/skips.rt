@@ -31,7 +31,8 @@ fn are_zeros(octets: &[u8]) -> bool
 
 /// Octets up to a multiple, whatever they are.
 pub fn skip_any(mint: &Mint, a: u32, draft: &Filling, view: &mut RecvView<'_>) -> bool
-    ensures done { Tested result (drawn mint.now draft.now) (place_of view.new) (skipped any_octets a (drawn mint.now draft.now) (place_of view.old)) }
+    ensures done { Tested result (drawn mint.now draft.now) (place_of view.new)
+        (skipped any_octets a (drawn mint.now draft.now) (place_of view.old)) }
     ensures octets { view.new.octets ≡ view.old.octets }
 {
     if !is_multiple(a) {
@@ -48,7 +49,8 @@ pub fn skip_any(mint: &Mint, a: u32, draft: &Filling, view: &mut RecvView<'_>) -
 
 /// Octets up to a multiple, which are 0.
 pub fn skip_zero(mint: &Mint, a: u32, draft: &Filling, view: &mut RecvView<'_>) -> bool
-    ensures done { Tested result (drawn mint.now draft.now) (place_of view.new) (skipped all_zero a (drawn mint.now draft.now) (place_of view.old)) }
+    ensures done { Tested result (drawn mint.now draft.now) (place_of view.new)
+        (skipped all_zero a (drawn mint.now draft.now) (place_of view.old)) }
     ensures octets { view.new.octets ≡ view.old.octets }
 {
     if !is_multiple(a) {

@@ -35,8 +35,10 @@ fn run_word(
     draft: &mut Filling,
     view: &RecvView<'_>,
 ) -> bool
-    requires { Holds (word_got get.now off path.now width order (drawn mint.now draft.old) (place_of view.now)) }
-    ensures { Tested result (drawn mint.now draft.new) (place_of view.now) (word_got get.now off path.now width order (drawn mint.now draft.old) (place_of view.now)) }
+    requires { Holds
+        (word_got get.now off path.now width order (drawn mint.now draft.old) (place_of view.now)) }
+    ensures { Tested result (drawn mint.now draft.new) (place_of view.now)
+        (word_got get.now off path.now width order (drawn mint.now draft.old) (place_of view.now)) }
 {
     if !is_width(width) {
         return false;
@@ -57,7 +59,8 @@ fn run_word(
 #[tactic(auto, using(crate::proofs::Within::octets))]
 fn run_const(off: u32, octets: &Octets, view: &RecvView<'_>) -> bool
     requires { off + length octets.now ≤ view.now.near }
-    ensures { result ≡ same_octets octets.now (take (length octets.now) (drop off (drop view.now.pos view.now.octets))) }
+    ensures { result
+        ≡ same_octets octets.now (take (length octets.now) (drop off (drop view.now.pos view.now.octets))) }
 {
     let off = off as usize;
     octets.as_slice() == &view.rest()[off..off + octets.len()]
@@ -67,7 +70,8 @@ fn run_const(off: u32, octets: &Octets, view: &RecvView<'_>) -> bool
 #[tactic(auto, using(crate::proofs::Within::constants))]
 fn run_get(mint: &Mint, get: &Get, draft: &mut Filling, view: &RecvView<'_>) -> bool
     requires { Holds (got get.now (drawn mint.now draft.old) (place_of view.now)) }
-    ensures { Tested result (drawn mint.now draft.new) (place_of view.now) (got get.now (drawn mint.now draft.old) (place_of view.now)) }
+    ensures { Tested result (drawn mint.now draft.new) (place_of view.now)
+        (got get.now (drawn mint.now draft.old) (place_of view.now)) }
 {
     match get {
         Get::Num(off, path, width, order) => {
@@ -89,7 +93,8 @@ fn run_get(mint: &Mint, get: &Get, draft: &mut Filling, view: &RecvView<'_>) -> 
 // The gets of a take, one after the other.
 fn run_gets(mint: &Mint, gets: &Gets, draft: &mut Filling, view: &RecvView<'_>) -> bool
     requires { Holds (all_got gets.now (drawn mint.now draft.old) (place_of view.now)) }
-    ensures { Tested result (drawn mint.now draft.new) (place_of view.now) (all_got gets.now (drawn mint.now draft.old) (place_of view.now)) }
+    ensures { Tested result (drawn mint.now draft.new) (place_of view.now)
+        (all_got gets.now (drawn mint.now draft.old) (place_of view.now)) }
 {
     for get in gets.as_slice() {
         if !run_get(mint, get, draft, view) {
@@ -108,7 +113,8 @@ pub fn run_take(
     view: &mut RecvView<'_>,
 ) -> bool
     requires { Holds (then_run (all_got gets.now (drawn mint.now draft.old) (place_of view.old)) (passed n)) }
-    ensures done { Tested result (drawn mint.now draft.new) (place_of view.new) (then_run (all_got gets.now (drawn mint.now draft.old) (place_of view.old)) (passed n)) }
+    ensures done { Tested result (drawn mint.now draft.new) (place_of view.new)
+        (then_run (all_got gets.now (drawn mint.now draft.old) (place_of view.old)) (passed n)) }
     ensures octets { view.new.octets ≡ view.old.octets }
 {
     if !run_gets(mint, gets, draft, view) {

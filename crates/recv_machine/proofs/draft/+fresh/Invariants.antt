@@ -12,4 +12,6 @@ abbrev pub decreases-fresh : goal.decreases-fresh
 decreases-fresh l = l.id + l.id + 1
 
 abbrev pub invariant-all_fresh-loop-field : goal.invariant-all_fresh-loop-field
-invariant-all_fresh-loop-field l = drafts_joined (all_drawn l.mint l.drafts) (all_fresh (fields_at (unfolded l.mint) (drop l.field-index l.field-items))) ≡ all_fresh (fields_at (unfolded l.mint) l.field-items)
+invariant-all_fresh-loop-field l =
+    drafts_joined (all_drawn l.mint l.drafts) (all_fresh (fields_at (unfolded l.mint) (drop l.field-index l.field-items)))
+    ≡ all_fresh (fields_at (unfolded l.mint) l.field-items)

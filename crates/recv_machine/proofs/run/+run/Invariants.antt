@@ -15,19 +15,27 @@ use Rattle.recv_machine.proofs.run.+run.Given as goal
 
 abbrev pub invariant-run_block-loop-op : goal.invariant-run_block-loop-op
 invariant-run_block-loop-op l =
-    (fill (calls_of l.machine.subs.now l.calls) (code_seen l.op-items) (drawn l.machine.mint.now l.fn.draft) (place_of l.fn.view) ≡ fill (calls_of l.machine.subs.now l.calls) (code_seen (drop l.op-index l.op-items)) (drawn l.machine.mint.now l.draft) (place_of l.view))
+    (fill (calls_of l.machine.subs.now l.calls) (code_seen l.op-items) (drawn l.machine.mint.now l.fn.draft) (place_of l.fn.view)
+    ≡ fill (calls_of l.machine.subs.now l.calls) (code_seen (drop l.op-index l.op-items))
+    (drawn l.machine.mint.now l.draft) (place_of l.view))
     × (l.view.octets ≡ l.fn.view.octets)
 
 abbrev pub invariant-run_items-loop : goal.invariant-run_items-loop
-invariant-run_items-loop l =
-    (runs (λ u. settled (fill (calls_of l.machine.subs.now l.calls) (code_seen l.body) (fresh (type_at l.machine.mint.now l.item)) u)) l.n (place_of l.fn.view)
-    ≡ map_run (λ vs. map seen l.values ++ vs) (runs (λ u. settled (fill (calls_of l.machine.subs.now l.calls) (code_seen l.body) (fresh (type_at l.machine.mint.now l.item)) u)) (l.n - l.counter) (place_of l.view)))
+invariant-run_items-loop l = (runs
+    (λ u. settled (fill (calls_of l.machine.subs.now l.calls) (code_seen l.body) (fresh (type_at l.machine.mint.now l.item)) u))
+    l.n (place_of l.fn.view)
+    ≡ map_run (λ vs. map seen l.values ++ vs)
+    (runs (λ u. settled (fill (calls_of l.machine.subs.now l.calls) (code_seen l.body) (fresh (type_at l.machine.mint.now l.item)) u))
+    (l.n - l.counter) (place_of l.view)))
     × (l.view.octets ≡ l.fn.view.octets)
 
 abbrev pub invariant-run_numbers-loop : goal.invariant-run_numbers-loop
-invariant-run_numbers-loop l =
-    (runs (λ u. settled_number (fill (calls_of l.machine.subs.now l.calls) (code_seen l.body) (digit (array_at l.machine.mint.now l.id)) u)) l.n (place_of l.fn.view)
-    ≡ map_run (λ vs. l.row.numbers ++ vs) (runs (λ u. settled_number (fill (calls_of l.machine.subs.now l.calls) (code_seen l.body) (digit (array_at l.machine.mint.now l.id)) u)) (l.n - l.counter) (place_of l.view)))
+invariant-run_numbers-loop l = (runs
+    (λ u. settled_number (fill (calls_of l.machine.subs.now l.calls) (code_seen l.body) (digit (array_at l.machine.mint.now l.id)) u))
+    l.n (place_of l.fn.view)
+    ≡ map_run (λ vs. l.row.numbers ++ vs) (runs
+    (λ u. settled_number (fill (calls_of l.machine.subs.now l.calls) (code_seen l.body) (digit (array_at l.machine.mint.now l.id)) u))
+    (l.n - l.counter) (place_of l.view)))
     × (l.row.kind ≡ kind_of (array_at l.machine.mint.now l.id)) × (l.view.octets ≡ l.fn.view.octets)
 
 abbrev pub decreases-run_block : goal.decreases-run_block
