@@ -1,4 +1,4 @@
-//! What is told of a call.
+//! What is reported of a call.
 
 use wire_def::{Encoding, Head};
 
