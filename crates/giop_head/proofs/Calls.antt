@@ -38,13 +38,17 @@ asked_is : (n : ℕ) (r : Order) (m : ℕ) → IsGrammar (read_asked n r m) (Ask
 asked_is n r zero = mapped (request r) (AskedSpells n r zero) (request_is r) (λ p o q h. (q, refl, h)) (λ p o c h. h)
 asked_is n r (suc m) = mapped (search_for r) (AskedSpells n r (suc m)) (search_is r n) (λ p o s h. (s, refl, h)) (λ p o c h. h)
 
-forth : (n : ℕ) (r : Order) (m p : ℕ) (o : List ℕ) (c : Call) → Parts p o (λ a. HeaderSpells Asks n p a (record { order = r; message_type = m })) (λ q b. AskedSpells n r m q b c) → CallSpells n p o c
+forth : (n : ℕ) (r : Order) (m p : ℕ) (o : List ℕ) (c : Call)
+    → Parts p o (λ a. HeaderSpells Asks n p a (record { order = r; message_type = m })) (λ q b. AskedSpells n r m q b c)
+    → CallSpells n p o c
 forth n r zero p o c (a, b, is, header, (q, same, fields)) = subst (λ z. CallSpells n p o z) same (a, b, is, header, fields)
 forth n r (suc m) p o c (a, b, is, header, (s, same, fields)) =
     let two : m ≡ 2 = asks_three m (is_expected Asks n a (record { order = r; message_type = suc m }) header.1) in
     subst (λ z. CallSpells n p o z) same (a, b, is, subst (λ z. HeaderSpells Asks n p a (record { order = r; message_type = suc z })) two header, fields)
 
-back : (n p : ℕ) (o : List ℕ) (c : Call) → CallSpells n p o c → (x : Heading × Call) × (x.1 ≡ c) × Parts p o (λ a. HeaderSpells Asks n p a x.0) (λ q b. AskedSpells n x.0.order x.0.message_type q b x.1)
+back : (n p : ℕ) (o : List ℕ) (c : Call) → CallSpells n p o c
+    → (x : Heading × Call) × (x.1 ≡ c)
+    × Parts p o (λ a. HeaderSpells Asks n p a x.0) (λ q b. AskedSpells n x.0.order x.0.message_type q b x.1)
 back n p o (request r q) (a, b, is, header, fields) = ((record { order = r; message_type = 0 }, request r q), refl, (a, b, is, header, (q, refl, fields)))
 back n p o (search_for r s) (a, b, is, header, fields) = ((record { order = r; message_type = 3 }, search_for r s), refl, (a, b, is, header, (s, refl, fields)))
 
@@ -55,7 +59,8 @@ call_is n = mapped (λ (x : Heading × Call). x.1) (CallSpells n) (both_are (hea
 
 -- ---- requests alone
 
-ordered_forth : (n : ℕ) (r : Order) (m : ℕ) (q : Request) (p : ℕ) (o : List ℕ) → Parts p o (λ a. HeaderSpells Requests n p a (record { order = r; message_type = m })) (λ q' b. RequestSpells r q' b q)
+ordered_forth : (n : ℕ) (r : Order) (m : ℕ) (q : Request) (p : ℕ) (o : List ℕ)
+    → Parts p o (λ a. HeaderSpells Requests n p a (record { order = r; message_type = m })) (λ q' b. RequestSpells r q' b q)
     → OrderedSpells n p o (record { order = r; request = q })
 ordered_forth n r m q p o (a, b, is, header, fields) =
     let none : m ≡ 0 = requests_zero m (is_expected Requests n a (record { order = r; message_type = m }) header.1) in

@@ -1,4 +1,4 @@
--- What is told of a message is told by its head, or by its first fault.
+-- What is reported of a message is decided by its head, or by its first fault.
 use Rattle.std.proofs.Common.{◌≡◌, ◌<◌, ℕ, suc, List, [], ◌∷◌, length, Ok, Err, get_or, refl, sym, ap, ◌∙◌}
 use Rattle.std.specs.Prelude.{◌↔◌, Result}
 use Rattle.wire_def.specs.declared.fault.HeadErr.{HeadErr}
@@ -14,7 +14,8 @@ all_octets [] h = tt
 all_octets (b ∷ o) h = (h 0, all_octets o (λ i. h (suc i)))
 
 module _ {A B : Type 0} (view : A → ℕ → B) where
-  told_ok : (r : Reading HeadErr A) (y : B) → told view r ≡ Ok y → (h : A) × (used : ℕ) × (rest : List ℕ) × (r ≡ got h used rest) × (view h used ≡ y)
+  told_ok : (r : Reading HeadErr A) (y : B) → told view r ≡ Ok y
+      → (h : A) × (used : ℕ) × (rest : List ℕ) × (r ≡ got h used rest) × (view h used ≡ y)
   told_ok (got h used rest) y e = (h, used, rest, refl, cc)
   told_ok (stop k at) y e = absurd cc
 
@@ -32,7 +33,8 @@ module _ {X B : Type 0} (view : X → B) where
   fault_seen (Ok x) e = ((λ h. absurd cc), λ h. absurd cc)
   fault_seen (Err k) e = ((λ h. cc), λ h. let same : k ≡ e = cc in ap (λ (z : HeadErr). Err z) same)
 
-module _ (w : Way) {X B : Type 0} (view : HeadOf w → ℕ → B) (seen : X → B) (o : List ℕ) (oct : AreOctets o) (d : Result X HeadErr) (same : seen_by seen d ≡ told view (read_head w (length o) 0 o)) where
+module _ (w : Way) {X B : Type 0} (view : HeadOf w → ℕ → B) (seen : X → B) (o : List ℕ) (oct : AreOctets o)
+    (d : Result X HeadErr) (same : seen_by seen d ≡ told view (read_head w (length o) 0 o)) where
   pub told_head : (y : B) → Tells seen d y ↔ ((h : HeadOf w) × (used : ℕ) × BeginsWith w o h used × (view h used ≡ y))
   told_head y = ((λ h. to (sym same ∙ (tells_seen seen d y).0 h)), λ h. (tells_seen seen d y).1 (same ∙ from h)) where
     to : told view (read_head w (length o) 0 o) ≡ Ok y → (h : HeadOf w) × (used : ℕ) × BeginsWith w o h used × (view h used ≡ y)

@@ -39,7 +39,8 @@ short_got (got y p o) x q rest e =
     rw (first, second, third) refl
 short_got (stop k at) x q rest e = absurd cc
 
-short_stop : {A : Type 0} (d : Reading FaultKind A) (k : HeadErr) (at : ℕ) → or_short d ≡ stop k at → (j : FaultKind) × (d ≡ stop j at) × (k ≡ Short)
+short_stop : {A : Type 0} (d : Reading FaultKind A) (k : HeadErr) (at : ℕ) → or_short d ≡ stop k at
+    → (j : FaultKind) × (d ≡ stop j at) × (k ≡ Short)
 short_stop (got y p o) k at e = absurd cc
 short_stop (stop j at') k at e = let there : at' ≡ at = cc in (j, rw there refl, cc)
 
@@ -65,7 +66,8 @@ unfolding read_flag
 flag_reads p o rest false is = rw is refl
 flag_reads p o rest true is = rw is refl
 
-flag_spelled : (p : ℕ) (o : List ℕ) (b : Bool) (q : ℕ) (rest : List ℕ) → read_flag p o ≡ got b q rest → (a : List ℕ) × (o ≡ a ++ rest) × (q ≡ p + length a) × FlagSpells p a b
+flag_spelled : (p : ℕ) (o : List ℕ) (b : Bool) (q : ℕ) (rest : List ℕ) → read_flag p o ≡ got b q rest
+    → (a : List ℕ) × (o ≡ a ++ rest) × (q ≡ p + length a) × FlagSpells p a b
 unfolding read_flag
 flag_spelled p [] b q rest e = absurd cc
 flag_spelled p (zero ∷ o) b q rest e =
@@ -110,7 +112,9 @@ sequence_is r = mapped (λ (x : ℕ × List ℕ). x.1) (SequenceSpells r) (both_
     (λ p o x (a, b, is, counts, (same, long)). (a, b, is, rw long counts, same))
     (λ p o s (a, b, is, counts, same). ((length s, s), refl, (a, b, is, counts, (same, refl))))
 
-string_forth : (r : Order) (p : ℕ) (o : List ℕ) (n : ℕ) (s : List ℕ) → Parts p o (λ a. LongSpells r p a n) (λ q b. TestedSpells (BodySpells n) is_ended q b s) → StringSpells r p o (take (n - 1) s)
+string_forth : (r : Order) (p : ℕ) (o : List ℕ) (n : ℕ) (s : List ℕ)
+    → Parts p o (λ a. LongSpells r p a n) (λ q b. TestedSpells (BodySpells n) is_ended q b s)
+    → StringSpells r p o (take (n - 1) s)
 string_forth r p o n s (a, b, is, counts, ((same, long), ended)) =
     let parts = ended_parts s ended in
     let size : length s ≡ suc (length parts.0) = ap length parts.1 ∙ (omega (arith, length-append parts.0 (0 ∷ []))) in
@@ -137,11 +141,13 @@ module _ (n : ℕ) where
   abbrev missed : ℕ → Reading HeadErr (Unit {0})
   missed p = stop Size p
 
-  end_stop : (t : Bool) (p q : ℕ) (o rest : List ℕ) (x : Unit {0}) → cond t (ended p o) (missed p) ≡ got x q rest → (t ≡ true) × (p ≡ q) × (o ≡ rest)
+  end_stop : (t : Bool) (p q : ℕ) (o rest : List ℕ) (x : Unit {0}) → cond t (ended p o) (missed p) ≡ got x q rest
+      → (t ≡ true) × (p ≡ q) × (o ≡ rest)
   end_stop true p q o rest x e = (refl, cc, cc)
   end_stop false p q o rest x e = absurd cc
 
-  end_fault : (t : Bool) (p at : ℕ) (o : List ℕ) (k : HeadErr) → cond t (ended p o) (missed p) ≡ stop k at → (t ≡ false) × (k ≡ Size) × (at ≡ p)
+  end_fault : (t : Bool) (p at : ℕ) (o : List ℕ) (k : HeadErr) → cond t (ended p o) (missed p) ≡ stop k at
+      → (t ≡ false) × (k ≡ Size) × (at ≡ p)
   end_fault true p at o k e = absurd cc
   end_fault false p at o k e = (refl, cc, cc)
 

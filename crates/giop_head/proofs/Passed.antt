@@ -36,11 +36,13 @@ all_passed r n i p o h =
     let none : n - i ≡ 0 = omega (arith, h) in
     rw none (none_left r p o)
 
-forget : (c : Context) (d : Reading HeadErr (List Context)) → map_got {B = Unit {0}} (λ (cs : List Context). tt) (map_got (λ cs. c ∷ cs) d) ≡ map_got {B = Unit {0}} (λ (cs : List Context). tt) d
+forget : (c : Context) (d : Reading HeadErr (List Context))
+    → map_got {B = Unit {0}} (λ (cs : List Context). tt) (map_got (λ cs. c ∷ cs) d) ≡ map_got {B = Unit {0}} (λ (cs : List Context). tt) d
 forget c (got cs p o) = refl
 forget c (stop k at) = refl
 
-first_passed : (r : Order) (n p : ℕ) (o : List ℕ) (q : ℕ) (rest : List ℕ) → (c : Context) × (read_context r p o ≡ got c q rest) → pass_many r (suc n) p o ≡ pass_many r n q rest
+first_passed : (r : Order) (n p : ℕ) (o : List ℕ) (q : ℕ) (rest : List ℕ) → (c : Context) × (read_context r p o ≡ got c q rest)
+    → pass_many r (suc n) p o ≡ pass_many r n q rest
 unfolding pass_many
 first_passed r n p o q rest (c, is) = rw is (forget c (times (read_context r) n q rest))
 
@@ -48,13 +50,16 @@ first_stopped : (r : Order) (n p : ℕ) (o : List ℕ) (e : HeadErr) → Stopped
 unfolding pass_many
 first_stopped r n p o e (at, is) = (at, rw is refl)
 
-pub one_passed : (r : Order) (n i p : ℕ) (o : List ℕ) (q : ℕ) (rest : List ℕ) → i < n → (c : Context) × (read_context r p o ≡ got c q rest) → pass_many r (n - i) p o ≡ pass_many r (n - (i + 1)) q rest
+pub one_passed : (r : Order) (n i p : ℕ) (o : List ℕ) (q : ℕ) (rest : List ℕ) → i < n → (c : Context) × (read_context r p o ≡ got c q rest)
+    → pass_many r (n - i) p o ≡ pass_many r (n - (i + 1)) q rest
 one_passed r n i p o q rest h is =
     let left : n - i ≡ suc (n - (i + 1)) = omega (arith, h) in
     rw left (first_passed r (n - (i + 1)) p o q rest is)
 
 -- where the contexts that are left are read as all of them
-pub one_stopped : (r : Order) (n i p p0 : ℕ) (o o0 : List ℕ) (e : HeadErr) → pass_many r n p0 o0 ≡ pass_many r (n - i) p o → i < n → Stopped e (read_context r p o) → Stopped e (pass_many r n p0 o0)
+pub one_stopped : (r : Order) (n i p p0 : ℕ) (o o0 : List ℕ) (e : HeadErr)
+    → pass_many r n p0 o0 ≡ pass_many r (n - i) p o → i < n → Stopped e (read_context r p o)
+    → Stopped e (pass_many r n p0 o0)
 one_stopped r n i p p0 o o0 e same h is =
     let left : n - i ≡ suc (n - (i + 1)) = omega (arith, h) in
     rw (same, left) (first_stopped r (n - (i + 1)) p o e is)

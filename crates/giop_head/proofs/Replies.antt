@@ -65,7 +65,8 @@ Values = Heading × (Unit {0} × (ℕ × Fate))
 abbrev Fields : Order → ℕ → Fate → ℕ → List ℕ → Type 0
 Fields r id f p o = Parts p o (λ a. ContextsSpell r p a tt) (λ q b. Parts q b (λ a. LongSpells r q a id) (λ s c. FateSpells r s c f))
 
-forth : (n : ℕ) (r : Order) (m id : ℕ) (f : Fate) (p : ℕ) (o : List ℕ) → Parts p o (λ a. HeaderSpells Replies n p a (record { order = r; message_type = m })) (Fields r id f)
+forth : (n : ℕ) (r : Order) (m id : ℕ) (f : Fate) (p : ℕ) (o : List ℕ)
+    → Parts p o (λ a. HeaderSpells Replies n p a (record { order = r; message_type = m })) (Fields r id f)
     → ReplySpells n p o (record { order = r; id = id; fate = f })
 forth n r m id f p o (a, b, is, header, fields) =
     let one : m ≡ 1 = replies_one m (is_expected Replies n a (record { order = r; message_type = m }) header.1) in

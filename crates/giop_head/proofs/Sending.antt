@@ -1,4 +1,4 @@
--- What is put behind octets spells what it is put for.
+-- What is put after octets spells what it is put for.
 use Rattle.std.proofs.Common.{◌≡◌, ℕ, suc, ◌+◌, ◌≤◌, ◌<◌, ◌^◌, Bool, List, [], ◌∷◌, ◌++◌, length, replicate, refl, sym, ap, subst, ◌∙◌, append_assoc, append-nil, length-append, arith}
 use Rattle.std.proofs.lemmas.List.{length-replicate}
 use Rattle.std.proofs.lemmas.Bool.{le-leb}
@@ -12,7 +12,7 @@ use Rattle.giop_head.specs.Reply.{Fate, answer, user, system, FateSpells}
 use Rattle.giop_head.specs.Printed.{long_octets, then_long, then_sequence, then_string}
 use Rattle.giop_head.specs.Laws.{IsRequest, IsString, IsFate}
 
--- octets of this form are put behind others
+-- octets of this form are put after others
 abbrev pub Puts : (ℕ → List ℕ → Type 0) → (List ℕ → List ℕ) → Type 0
 Puts P f = (o : List ℕ) → (t : List ℕ) × (f o ≡ o ++ t) × P (length o) t
 
@@ -74,22 +74,27 @@ identified r q p t = Parts p t (λ a. LongSpells r p a q.id) (wanted r q)
 named_puts : (r : Order) (q : Request) → IsRequest q → Puts (named r q) (λ o. then_sequence r [] (then_string r q.name o))
 named_puts r q is = behind (λ p t. StringSpells r p t q.name) (λ p t. AnySequence r p t tt) (then_string r q.name) (then_sequence r []) (string_puts r q.name (is.name, is.letters)) (principal_puts r)
 
-keyed_puts : (r : Order) (q : Request) → IsRequest q → Puts (keyed r q) (λ o. then_sequence r [] (then_string r q.name (then_sequence r q.key o)))
+keyed_puts : (r : Order) (q : Request) → IsRequest q
+    → Puts (keyed r q) (λ o. then_sequence r [] (then_string r q.name (then_sequence r q.key o)))
 keyed_puts r q is = behind (λ p t. SequenceSpells r p t q.key) (named r q) (then_sequence r q.key) (λ o. then_sequence r [] (then_string r q.name o)) (sequence_puts r q.key is.key) (named_puts r q is)
 
-wanted_puts : (r : Order) (q : Request) → IsRequest q → Puts (wanted r q) (λ o. then_sequence r [] (then_string r q.name (then_sequence r q.key (o ++ (flag q.wants ∷ [])))))
+wanted_puts : (r : Order) (q : Request) → IsRequest q
+    → Puts (wanted r q) (λ o. then_sequence r [] (then_string r q.name (then_sequence r q.key (o ++ (flag q.wants ∷ [])))))
 wanted_puts r q is = behind (λ p t. FlagSpells p t q.wants) (keyed r q) (λ o. o ++ (flag q.wants ∷ [])) (λ o. then_sequence r [] (then_string r q.name (then_sequence r q.key o))) (flag_puts q.wants) (keyed_puts r q is)
 
-identified_puts : (r : Order) (q : Request) → IsRequest q → Puts (identified r q) (λ o. then_sequence r [] (then_string r q.name (then_sequence r q.key (then_long r q.id o ++ (flag q.wants ∷ [])))))
+identified_puts : (r : Order) (q : Request) → IsRequest q
+    → Puts (identified r q)
+    (λ o. then_sequence r [] (then_string r q.name (then_sequence r q.key (then_long r q.id o ++ (flag q.wants ∷ [])))))
 identified_puts r q is = behind (λ p t. LongSpells r p t q.id) (wanted r q) (then_long r q.id) (λ o. then_sequence r [] (then_string r q.name (then_sequence r q.key (o ++ (flag q.wants ∷ []))))) (long_puts r q.id is.id) (wanted_puts r q is)
 
 pub request_puts : (r : Order) (q : Request) → IsRequest q
-    → Puts (λ p t. RequestSpells r p t q) (λ o. then_sequence r [] (then_string r q.name (then_sequence r q.key (then_long r q.id (then_long r 0 o) ++ (flag q.wants ∷ [])))))
+    → Puts (λ p t. RequestSpells r p t q) (λ o. then_sequence r []
+    (then_string r q.name (then_sequence r q.key (then_long r q.id (then_long r 0 o) ++ (flag q.wants ∷ [])))))
 request_puts r q is = behind (λ p t. ContextsSpell r p t tt) (identified r q) (then_long r 0) (λ o. then_sequence r [] (then_string r q.name (then_sequence r q.key (then_long r q.id o ++ (flag q.wants ∷ []))))) (contexts_puts r) (identified_puts r q is)
 
 -- ---- replies, from the status on
 
--- what is put behind the id
+-- what is put after the id
 abbrev pub fated : Order → Fate → List ℕ → List ℕ
 fated r answer o = then_long r 0 o
 fated r (user s) o = then_string r s (then_long r 1 o)
@@ -113,6 +118,7 @@ abbrev answering : Order → ℕ → Fate → Form
 answering r id f p t = Parts p t (λ a. LongSpells r p a id) (λ s c. FateSpells r s c f)
 
 pub reply_puts : (r : Order) (id : ℕ) (f : Fate) → id < 2 ^ 32 → IsFate f
-    → Puts (λ p t. Parts p t (λ a. ContextsSpell r p a tt) (λ q b. Parts q b (λ a. LongSpells r q a id) (λ s c. FateSpells r s c f))) (λ o. fated r f (then_long r id (then_long r 0 o)))
+    → Puts (λ p t. Parts p t (λ a. ContextsSpell r p a tt) (λ q b. Parts q b (λ a. LongSpells r q a id) (λ s c. FateSpells r s c f)))
+    (λ o. fated r f (then_long r id (then_long r 0 o)))
 reply_puts r id f fits is = behind (λ p t. ContextsSpell r p t tt) (answering r id f) (then_long r 0) (λ o. fated r f (then_long r id o)) (contexts_puts r)
     (behind (λ p t. LongSpells r p t id) (λ p t. FateSpells r p t f) (then_long r id) (fated r f) (long_puts r id fits) (fate_puts r f is))

@@ -23,11 +23,12 @@ use Rattle.giop_head.specs.Told.{shared_head, BeginsRequest}
 use Rattle.giop_head.specs.Laws.{IsLong, IsRequest, reply_octets, RequestsAreRead, RepliesAreRead, OwnHaveOctets}
 use Rattle.giop_head.proofs.Sending.{request_puts, fated, reply_puts}
 
--- a header in which the size is told
+-- a header in which the size is set
 abbrev sized : Order → ℕ → ℕ → List ℕ
 sized r type m = 71 ∷ 73 ∷ 79 ∷ 80 ∷ 1 ∷ 0 ∷ order_octet r ∷ type ∷ long_octets r m
 
-size_told : (r : Order) (type : ℕ) (t : List ℕ) → with_size r (header_octets r type ++ t) ≡ sized r type (length (header_octets r type ++ t) - 12) ++ t
+size_told : (r : Order) (type : ℕ) (t : List ℕ)
+    → with_size r (header_octets r type ++ t) ≡ sized r type (length (header_octets r type ++ t) - 12) ++ t
 size_told Big type t = refl
 size_told Little type t = refl
 
@@ -36,13 +37,15 @@ twelve Big type m = refl
 twelve Little type m = refl
 
 -- a header of a type that is expected is right
-is_right : (w : Way) (r : Order) (type n : ℕ) → expected w type ≡ true → n - 12 < 2 ^ 32 → judged w n (sized r type (n - 12)) ≡ Ok (record { order = r; message_type = type })
+is_right : (w : Way) (r : Order) (type n : ℕ) → expected w type ≡ true → n - 12 < 2 ^ 32
+    → judged w n (sized r type (n - 12)) ≡ Ok (record { order = r; message_type = type })
 unfolding judged
 is_right w Big type n e fits = rw (e, (wide CdrBig (number kind.U32)).again (n - 12) fits, eq-eqb (n - 12) (n - 12) refl) refl
 is_right w Little type n e fits = rw (e, (wide CdrLittle (number kind.U32)).again (n - 12) fits, eq-eqb (n - 12) (n - 12) refl) refl
 
--- fields behind a header, and what follows them
-module _ (w : Way) (r : Order) (type : ℕ) (fields body : List ℕ) (P : ℕ → List ℕ → Type 0) (spelled : P 12 fields) (is : expected w type ≡ true) where
+-- fields after a header, and what follows them
+module _ (w : Way) (r : Order) (type : ℕ) (fields body : List ℕ) (P : ℕ → List ℕ → Type 0) (spelled : P 12 fields)
+    (is : expected w type ≡ true) where
   abbrev head : List ℕ
   head = header_octets r type ++ fields
 
@@ -64,7 +67,8 @@ module _ (w : Way) (r : Order) (type : ℕ) (fields body : List ℕ) (P : ℕ �
       ∙ take_at (sized r type (length (head ++ body) - 12) ++ fields) body (length head)
       (omega (arith, length-append (sized r type (length (head ++ body) - 12)) fields, twelve r type (length (head ++ body) - 12), length-append (header_octets r type) fields))
 
-  pub begins : length (head ++ body) - 12 < 2 ^ 32 → Parts 0 (take (length head) message) (λ a. HeaderSpells w (length message) 0 a (record { order = r; message_type = type })) P
+  pub begins : length (head ++ body) - 12 < 2 ^ 32
+      → Parts 0 (take (length head) message) (λ a. HeaderSpells w (length message) 0 a (record { order = r; message_type = type })) P
   begins fits = rw (front, same_length)
       (sized r type (length (head ++ body) - 12), fields, refl, (twelve r type (length (head ++ body) - 12), is_right w r type (length (head ++ body)) is fits), rw (twelve r type (length (head ++ body) - 12)) spelled)
 
@@ -73,9 +77,11 @@ module _ (w : Way) (r : Order) (type : ℕ) (fields body : List ℕ) (P : ℕ �
       ∙ drop_at (sized r type (length (head ++ body) - 12) ++ fields) body (length head)
       (omega (arith, length-append (sized r type (length (head ++ body) - 12)) fields, twelve r type (length (head ++ body) - 12), length-append (header_octets r type) fields))
 
--- a request's fields behind its header
-requested_octets : (r : Order) (q : Request) (t : List ℕ)
-    → then_sequence r [] (then_string r q.name (then_sequence r q.key (then_long r q.id (then_long r 0 (header_octets r 0)) ++ (flag q.wants ∷ [])))) ≡ header_octets r 0 ++ t → request_octets r q ≡ header_octets r 0 ++ t
+-- a request's fields after its header
+requested_octets : (r : Order) (q : Request) (t : List ℕ) → then_sequence r []
+    (then_string r q.name (then_sequence r q.key (then_long r q.id (then_long r 0 (header_octets r 0)) ++ (flag q.wants ∷ []))))
+    ≡ header_octets r 0 ++ t
+    → request_octets r q ≡ header_octets r 0 ++ t
 unfolding request_octets
 requested_octets r q t is = is
 
@@ -88,15 +94,17 @@ requests_read r q body is fits =
 
 -- so it is where requests alone are read
 pub requests_begin : (r : Order) (q : Request) (body : List ℕ) → IsRequest q → IsLong (length (request_octets r q ++ body) - 12)
-    → BeginsRequest (with_size r (request_octets r q ++ body)) (record { head = shared_head q.id q.wants r; key = q.key; name = q.name; used = length (request_octets r q) })
+    → BeginsRequest (with_size r (request_octets r q ++ body))
+    (record { head = shared_head q.id q.wants r; key = q.key; name = q.name; used = length (request_octets r q) })
 requests_begin r q body is fits =
     let t = request_puts r q is (header_octets r 0) in
     let P : ℕ → List ℕ → Type 0 = λ p o. RequestSpells r p o q in
     let all : request_octets r q ≡ header_octets r 0 ++ t.0 = requested_octets r q t.0 t.1 in
     rw all (record { order = r; request = q }, length (header_octets r 0 ++ t.0), (within Requests r 0 t.0 body P t.2 refl, begins Requests r 0 t.0 body P t.2 refl (rw all at fits)), refl)
 
--- and what follows the head is what was put behind it
-pub follows_request : (r : Order) (q : Request) (body : List ℕ) → IsRequest q → drop (length (request_octets r q)) (with_size r (request_octets r q ++ body)) ≡ body
+-- and what follows the head is what was put after it
+pub follows_request : (r : Order) (q : Request) (body : List ℕ) → IsRequest q
+    → drop (length (request_octets r q)) (with_size r (request_octets r q ++ body)) ≡ body
 follows_request r q body is =
     let t = request_puts r q is (header_octets r 0) in
     let P : ℕ → List ℕ → Type 0 = λ p o. RequestSpells r p o q in
@@ -107,14 +115,14 @@ long_four : (r : Order) (n : ℕ) → length (long_octets r n) ≡ 4
 long_four Big n = refl
 long_four Little n = refl
 
--- to tell the size changes no length
+-- to set the size changes no length
 pub length_sized : (r : Order) (o : List ℕ) → 12 ≤ length o → length (with_size r o) ≡ length o
 length_sized r o long =
     let size : List ℕ = long_octets r (length o - 12) in
     let is : with_size r o ≡ (take 8 o ++ size) ++ drop (8 + length size) o = refl in
     omega (arith, long, ap length is, long_four r (length o - 12), length-append (take 8 o ++ size) (drop (8 + length size) o), length-append (take 8 o) size, length-take 8 o, length-drop (8 + length size) o)
 
--- a reply's fields behind its header
+-- a reply's fields after its header
 replied : (r : Order) (id : ℕ) (f : Fate) → reply_octets r id f ≡ fated r f (then_long r id (then_long r 0 (header_octets r 1)))
 replied r id answer = refl
 replied r id (user s) = refl

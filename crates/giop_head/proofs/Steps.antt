@@ -12,7 +12,8 @@ pub long_short : (r : Order) (p : ℕ) (o : List ℕ) → length o < gap p 4 + 4
 unfolding read_long read_word
 long_short r p o h = rw (lt-ltb _ _ h) refl
 
-pub long_there : (r : Order) (p : ℕ) (o : List ℕ) → gap p 4 + 4 ≤ length o → read_long r p o ≡ got (octets_number (laid r) w32 (take 4 (drop (gap p 4) o))) (p + (gap p 4 + 4)) (drop 4 (drop (gap p 4) o))
+pub long_there : (r : Order) (p : ℕ) (o : List ℕ) → gap p 4 + 4 ≤ length o
+    → read_long r p o ≡ got (octets_number (laid r) w32 (take 4 (drop (gap p 4) o))) (p + (gap p 4 + 4)) (drop 4 (drop (gap p 4) o))
 unfolding read_long read_word
 long_there r p o h = rw (le-ltb _ _ h) refl
 

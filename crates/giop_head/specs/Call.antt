@@ -65,10 +65,12 @@ pub data Call : Type 0 where
 
 -- a header and the fields of its type
 abbrev pub CallSpells : ℕ → Spelling Call
-CallSpells n p o (request r q) = Parts p o (λ a. HeaderSpells Asks n p a (record { order = r; message_type = 0 })) (λ p1 o1. RequestSpells r p1 o1 q)
-CallSpells n p o (search_for r s) = Parts p o (λ a. HeaderSpells Asks n p a (record { order = r; message_type = 3 })) (λ p1 o1. SearchSpells r n p1 o1 s)
+CallSpells n p o (request r q) = Parts p o (λ a. HeaderSpells Asks n p a (record { order = r; message_type = 0 }))
+    (λ p1 o1. RequestSpells r p1 o1 q)
+CallSpells n p o (search_for r s) = Parts p o (λ a. HeaderSpells Asks n p a (record { order = r; message_type = 3 }))
+    (λ p1 o1. SearchSpells r n p1 o1 s)
 
--- the first field behind the header of this type that is cut off or wrong
+-- the first field after the header of this type that is cut off or wrong
 abbrev pub AskedStops : ℕ → Order → ℕ → Stopping HeadErr
 AskedStops n r zero = RequestStops r
 AskedStops n r (suc m) = SearchStops r n
@@ -92,10 +94,12 @@ pub record Ordered : Type 0 where
 
 -- a header and the fields of a request
 abbrev pub OrderedSpells : ℕ → Spelling Ordered
-OrderedSpells n p o x = Parts p o (λ a. HeaderSpells Requests n p a (record { order = x.order; message_type = 0 })) (λ p1 o1. RequestSpells x.order p1 o1 x.request)
+OrderedSpells n p o x = Parts p o (λ a. HeaderSpells Requests n p a (record { order = x.order; message_type = 0 }))
+    (λ p1 o1. RequestSpells x.order p1 o1 x.request)
 
 abbrev pub OrderedStops : ℕ → Stopping HeadErr
 OrderedStops n = StopsInOrder (HeaderSpells Requests n) (HeaderStops Requests n) (λ h. RequestStops h.order)
 
 abbrev pub read_head_of_request : ℕ → Reader HeadErr Ordered
-read_head_of_request n p o = map_got (λ x. record { order = x.0.order; request = x.1 }) (both (read_header Requests n) (λ h. read_request h.order) p o)
+read_head_of_request n p o = map_got (λ x. record { order = x.0.order; request = x.1 })
+    (both (read_header Requests n) (λ h. read_request h.order) p o)

@@ -36,7 +36,7 @@ expected Asks n = n == 0 || n == 3
 expected Requests n = n == 0
 expected Replies n = n == 1
 
--- the number of octets behind the header, in the message's order
+-- the number of octets after the header, in the message's order
 abbrev pub size_in : List ℕ → ℕ
 size_in o = octets_number (laid (order_of (slice_index o 6))) w32 (take 4 (drop 8 o))
 

@@ -18,7 +18,7 @@ abbrev pub laid : Order → Encoding
 laid Big = CdrBig
 laid Little = CdrLittle
 
--- ---- unsigned longs: four octets, the first at a multiple of 4, behind octets of any content
+-- ---- unsigned longs: four octets, the first at a multiple of 4, after octets of any content
 
 abbrev pub LongSpells : Order → Spelling ℕ
 LongSpells r = WordSpells (laid r) 4 w32

@@ -58,13 +58,17 @@ reply_octets r id (system s minor completion) = system_octets r id s minor compl
 
 -- the head that is sent of a request is read as that request, whatever follows
 abbrev pub RequestsAreRead : Type 0
-RequestsAreRead = (r : Order) (q : Request) (body : List ℕ) → IsRequest q → IsLong (length (request_octets r q ++ body) - 12)
-    → BeginsCall (with_size r (request_octets r q ++ body)) (requested (shared_head q.id q.wants r) q.key q.name (length (request_octets r q)))
+RequestsAreRead = (r : Order) (q : Request) (body : List ℕ) → IsRequest q
+    → IsLong (length (request_octets r q ++ body) - 12)
+    → BeginsCall (with_size r (request_octets r q ++ body))
+    (requested (shared_head q.id q.wants r) q.key q.name (length (request_octets r q)))
 
 -- the head that is sent of a reply is read as that reply, whatever follows
 abbrev pub RepliesAreRead : Type 0
-RepliesAreRead = (r : Order) (id : ℕ) (f : Fate) (body : List ℕ) → IsLong id → IsFate f → IsLong (length (reply_octets r id f ++ body) - 12)
-    → BeginsReply (with_size r (reply_octets r id f ++ body)) (record { head = shared_head id true r; fate = Some f; used = length (reply_octets r id f) })
+RepliesAreRead = (r : Order) (id : ℕ) (f : Fate) (body : List ℕ) → IsLong id → IsFate f
+    → IsLong (length (reply_octets r id f ++ body) - 12)
+    → BeginsReply (with_size r (reply_octets r id f ++ body))
+    (record { head = shared_head id true r; fate = Some f; used = length (reply_octets r id f) })
 
 -- the refusals of this format are those that have octets
 abbrev pub OwnHaveOctets : Type 0

@@ -10,7 +10,7 @@ use Rattle.wire_def.specs.declared.outcome.Refusal.TheVariants.{SystemException,
 use Rattle.giop_head.specs.Items.{laid, flag}
 use Rattle.giop_head.specs.Call.{Request}
 
--- ---- fields behind what was sent of a message
+-- ---- fields after what was sent of a message
 
 -- the octets of an unsigned long
 abbrev pub long_octets : Order → ℕ → List ℕ
@@ -34,19 +34,20 @@ abbrev pub order_octet : Order → ℕ
 order_octet Big = 0
 order_octet Little = 1
 
--- the letters GIOP, version 1.0, the order, the type, and a size that is not yet told
+-- the letters GIOP, version 1.0, the order, the type, and a size that is not set yet
 abbrev pub header_octets : Order → ℕ → List ℕ
 header_octets r type = 71 ∷ 73 ∷ 79 ∷ 80 ∷ 1 ∷ 0 ∷ order_octet r ∷ type ∷ 0 ∷ 0 ∷ 0 ∷ 0 ∷ []
 
--- a message in which the size is told: the number of octets behind the header
+-- a message in which the size is set: the number of octets after the header
 abbrev pub with_size : Order → List ℕ → List ℕ
 with_size r o = written o 8 (long_octets r (length o - 12))
 
--- ---- the heads of requests and replies, before the size is told
+-- ---- the heads of requests and replies, before the size is set
 
 -- no service contexts, the id, whether a reply is wanted, key and name, and an empty principal
 unfoldable pub request_octets : Order → Request → List ℕ
-request_octets r q = then_sequence r [] (then_string r q.name (then_sequence r q.key (then_long r q.id (then_long r 0 (header_octets r 0)) ++ (flag q.wants ∷ []))))
+request_octets r q = then_sequence r []
+    (then_string r q.name (then_sequence r q.key (then_long r q.id (then_long r 0 (header_octets r 0)) ++ (flag q.wants ∷ []))))
 
 -- no service contexts, the id and the status
 abbrev pub status_octets : Order → ℕ → ℕ → List ℕ

@@ -32,7 +32,7 @@ same x = x
 abbrev pub borrowed : Bor (List ℕ) → List ℕ
 borrowed o = o.now
 
--- what is told of what was read
+-- what is reported of what was read
 abbrev pub told : {A B : Type 0} → (A → ℕ → B) → Reading HeadErr A → Result B HeadErr
 told view (got x used rest) = Ok (view x used)
 told view (stop e at) = Err e

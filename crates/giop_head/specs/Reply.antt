@@ -46,13 +46,13 @@ SystemStops r =
     StopsInOrder (StringSpells r) (StringStops r) (λ s.
     StopsInOrder (LongSpells r) LongStops (λ minor. PassStops r 2))
 
--- the first field behind the number of a status
+-- the first field after the number of a status
 abbrev pub StatusStops : Order → ℕ → Stopping HeadErr
 StatusStops r zero p o k at = ⊥
 StatusStops r (suc zero) p o k at = StringStops r p o k at
 StatusStops r _ p o k at = SystemStops r p o k at
 
--- a status that is cut off, or above 2, or a field behind it
+-- a status that is cut off, or above 2, or a field after it
 abbrev pub FateStops : Order → Stopping HeadErr
 FateStops r = StopsInOrder (PassSpells r 2) (PassStops r 2) (StatusStops r)
 
@@ -67,7 +67,7 @@ ReplyStops n = StopsInOrder (HeaderSpells Replies n) (HeaderStops Replies n) (λ
 unfoldable pub read_system : Order → Reader HeadErr Fate
 read_system r p o = map_got (λ x. system x.0 x.1.0 x.1.1) (both (read_string r) (λ s. both (read_long r) (λ minor. read_pass r 2)) p o)
 
--- how a request fared, from behind the number of the status
+-- how a request fared, from after the number of the status
 abbrev pub read_status : Order → ℕ → Reader HeadErr Fate
 read_status r zero p o = got answer p o
 read_status r (suc zero) p o = map_got user (read_string r p o)

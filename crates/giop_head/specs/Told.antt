@@ -1,4 +1,4 @@
--- What callers are told of a head.
+-- What is reported to callers of a head.
 use Rattle.std.specs.Prelude.{◌≡◌, ℕ, Bool, true, List, Option, Some, None, Result, Ok, Err}
 use Rattle.std.specs.Borrow.{Bor}
 use Rattle.wire_def.specs.declared.fault.HeadErr.{HeadErr}
@@ -22,7 +22,7 @@ shared_head id wants order = record { id = id; remote = 0; local = 0; wants = wa
 
 -- ---- calls
 
--- what is told of a message that asks, with the octets of key and name
+-- what is reported of a message that asks, with the octets of key and name
 pub data ToldCall : Type 0 where
   requested : Head → List ℕ → List ℕ → ℕ → ToldCall
   sought : ℕ → List ℕ → ToldCall
@@ -44,13 +44,13 @@ abbrev pub call_told : Call → ℕ → ToldCall
 call_told (request r q) used = requested (shared_head q.id q.wants r) q.key q.name used
 call_told (search_for r s) used = sought s.id s.key
 
--- a message begins with the head of a call, of which this is told
+-- a message begins with the head of a call, of which this is reported
 abbrev pub BeginsCall : List ℕ → ToldCall → Type 0
 BeginsCall message told = (c : Call) × (used : ℕ) × BeginsWith Asks message c used × (call_told c used ≡ told)
 
 -- ---- requests alone
 
--- what is told of a request, with the octets of key and name
+-- what is reported of a request, with the octets of key and name
 pub record ToldRequest : Type 0 where
   pub head : Head
   pub key : List ℕ
@@ -62,15 +62,20 @@ request_seen r = record { head = r.head; key = r.key.now; name = r.name.now; use
 
 -- a request, by a head of so many octets
 abbrev pub request_told : Ordered → ℕ → ToldRequest
-request_told x used = record { head = shared_head x.request.id x.request.wants x.order; key = x.request.key; name = x.request.name; used = used }
+request_told x used = record {
+  head = shared_head x.request.id x.request.wants x.order;
+  key = x.request.key;
+  name = x.request.name;
+  used = used;
+}
 
--- a message begins with the head of a request, of which this is told
+-- a message begins with the head of a request, of which this is reported
 abbrev pub BeginsRequest : List ℕ → ToldRequest → Type 0
 BeginsRequest message told = (x : Ordered) × (used : ℕ) × BeginsWith Requests message x used × (request_told x used ≡ told)
 
 -- ---- replies
 
--- what is told of a reply, with the octets of a repository id
+-- what is reported of a reply, with the octets of a repository id
 pub record ToldReply : Type 0 where
   pub head : Head
   pub fate : Option Fate
@@ -90,13 +95,13 @@ reply_seen r = record { head = r.head; fate = fate_seen r.status; used = r.used 
 abbrev pub reply_told : Reply → ℕ → ToldReply
 reply_told r used = record { head = shared_head r.id true r.order; fate = Some r.fate; used = used }
 
--- a message begins with the head of a reply, of which this is told
+-- a message begins with the head of a reply, of which this is reported
 abbrev pub BeginsReply : List ℕ → ToldReply → Type 0
 BeginsReply message told = (r : Reply) × (used : ℕ) × BeginsWith Replies message r used × (reply_told r used ≡ told)
 
 -- ---- results, seen so
 
--- an answer of which this is told
+-- an answer of which this is reported
 abbrev pub Tells : {A B : Type 0} → (A → B) → Result A HeadErr → B → Type 0
 Tells view (Ok x) told = view x ≡ told
 Tells view (Err e) told = ⊥

@@ -71,7 +71,8 @@ pub struct GiopRequest<'a> {
 
 /// Reads the head of a Request alone, in either order. Any other message has the fault of its type.
 pub fn read_request(message: &[u8]) -> Result<GiopRequest<'_>, HeadErr>
-    ensures spells { (request : ToldRequest) → Tells request_seen result request ↔ BeginsRequest message.now request }
+    ensures spells { (request : ToldRequest)
+        → Tells request_seen result request ↔ BeginsRequest message.now request }
     ensures stops { (fault : HeadErr) → (result ≡ Err fault) ↔ StopsWith Requests message.now fault }
 {
     heads_are_read();
@@ -83,7 +84,8 @@ pub fn read_request(message: &[u8]) -> Result<GiopRequest<'_>, HeadErr>
 }
 
 fn request_at(total: usize, at: Cursor<'_>) -> Result<GiopRequest<'_>, HeadErr>
-    ensures { seen_by request_seen result ≡ told request_told (read_head_of_request total at.entry.place at.entry.rest.now) }
+    ensures { seen_by request_seen result
+        ≡ told request_told (read_head_of_request total at.entry.place at.entry.rest.now) }
 {
     let (header, at) = header(Way::Requests, total, at)?;
     let (asked, at) = request(header.order, at)?;
@@ -96,7 +98,8 @@ fn request_at(total: usize, at: Cursor<'_>) -> Result<GiopRequest<'_>, HeadErr>
 }
 
 fn call_at(total: usize, at: Cursor<'_>) -> Result<GiopCall<'_>, HeadErr>
-    ensures { seen_by call_seen result ≡ told call_told (read_head_of_call total at.entry.place at.entry.rest.now) }
+    ensures { seen_by call_seen result
+        ≡ told call_told (read_head_of_call total at.entry.place at.entry.rest.now) }
 {
     let (header, at) = header(Way::Asks, total, at)?;
     let order = header.order;
@@ -114,7 +117,7 @@ fn call_at(total: usize, at: Cursor<'_>) -> Result<GiopCall<'_>, HeadErr>
     }
 }
 
-/// The fields of a request that are told.
+/// The fields of a request that are reported.
 #[derive(Clone, Copy)]
 struct Asked<'a> {
     id: u32,

@@ -9,7 +9,7 @@ ghost use Rattle.giop_head.specs.Readers.{borrowed, same, Gives};
 use crate::cursor::Cursor;
 use wire_def::{HeadErr, Order};
 
-/// An unsigned long, behind the octets up to a multiple of 4.
+/// An unsigned long, after the octets up to a multiple of 4.
 #[tactic(auto, using(crate::proofs::Steps::longs))]
 pub(crate) fn long(order: Order, at: Cursor<'_>) -> Result<(u32, Cursor<'_>), HeadErr>
     ensures { Gives same result (read_long order at.entry.place at.entry.rest.now) }

@@ -61,7 +61,7 @@ fn make_room(id: &[u8], buf: &mut SendBuf) -> Result<(), NoMemory>
     buf.ensure(id.len() + 64)
 }
 
-/// Puts octets behind what was put.
+/// Appends octets to what was put.
 #[tactic(auto, using(crate::proofs::Putting::putting))]
 fn put_octets(octets: &[u8], buf: &mut SendBuf)
     requires { length octets.now ≤ length buf.old.front }
@@ -83,7 +83,7 @@ fn long_octets(order: Order, n: u32) -> [u8; 4]
     }
 }
 
-/// Puts an unsigned long behind what was put.
+/// Appends an unsigned long to what was put.
 fn put_long(order: Order, n: u32, buf: &mut SendBuf)
     requires { 7 ≤ length buf.old.front }
     ensures done { buf.new.done ≡ then_long order n buf.old.done }
@@ -94,7 +94,7 @@ fn put_long(order: Order, n: u32, buf: &mut SendBuf)
     put_octets(&long_octets(order, n), buf);
 }
 
-/// Puts a string behind what was put.
+/// Appends a string to what was put.
 fn put_string(order: Order, octets: &[u8], buf: &mut SendBuf)
     requires room { length octets.now + 8 ≤ length buf.old.front }
     requires few { length octets.now ≤ 4294967232 }
@@ -111,7 +111,8 @@ fn put_string(order: Order, octets: &[u8], buf: &mut SendBuf)
 fn put_status(order: Order, id: u32, status: u32, buf: &mut SendBuf)
     requires empty { buf.old.done ≡ [] }
     requires room { 33 ≤ length buf.old.front }
-    ensures done { buf.new.done ≡ then_long order status (then_long order id (then_long order 0 (header_octets order 1))) }
+    ensures done { buf.new.done
+        ≡ then_long order status (then_long order id (then_long order 0 (header_octets order 1))) }
     ensures ahead { length buf.old.front ≤ length buf.new.front + 33 }
     ensures spent { NoneFell buf.old.spent buf.new.spent }
 {
@@ -126,7 +127,7 @@ fn put_status(order: Order, id: u32, status: u32, buf: &mut SendBuf)
     put_long(order, status, buf);
 }
 
-/// Tells the size in the header of a message that is whole: the number of octets behind the header.
+/// Sets the size in the header of a message that is whole: the number of octets after the header.
 #[tactic(auto, using(crate::proofs::Putting::sizing))]
 pub fn put_size(order: Order, buf: &mut SendBuf)
     requires long { 12 ≤ length buf.old.done }

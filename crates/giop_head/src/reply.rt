@@ -31,7 +31,8 @@ pub fn read_reply(message: &[u8]) -> Result<ReplyHead<'_>, HeadErr>
 }
 
 fn reply_at(total: usize, at: Cursor<'_>) -> Result<ReplyHead<'_>, HeadErr>
-    ensures { seen_by reply_seen result ≡ told reply_told (read_head_of_reply total at.entry.place at.entry.rest.now) }
+    ensures { seen_by reply_seen result
+        ≡ told reply_told (read_head_of_reply total at.entry.place at.entry.rest.now) }
 {
     let (header, at) = header(Way::Replies, total, at)?;
     let order = header.order;
