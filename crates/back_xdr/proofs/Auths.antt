@@ -24,7 +24,8 @@ forth p o x (a, b, is, (first, fits), (a', b', is', ((second, fits'), most), (a'
     let bound : x.1.0 ≤ 400 = leb-true _ _ most in
     (rw (is, first, is', second, is'', third, fourth, long) refl, (fits, rw long bound))
 
-back : (p : ℕ) (o : List ℕ) (y : Auth) → AuthSpells p o y → (x : ℕ × (ℕ × (List ℕ × Unit {0}))) × (record { flavour = x.0; body = x.1.1.0 } ≡ y) × Items p o x
+back : (p : ℕ) (o : List ℕ) (y : Auth) → AuthSpells p o y
+    → (x : ℕ × (ℕ × (List ℕ × Unit {0}))) × (record { flavour = x.0; body = x.1.1.0 } ≡ y) × Items p o x
 unfolding AuthSpells WordSpells
 back p o y (is, (flavour, bound)) =
     let n = length y.body in

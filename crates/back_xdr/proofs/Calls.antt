@@ -25,7 +25,14 @@ Items p o x =
     Parts p6 o6 (λ a. AuthSpells p6 a x.1.1.1.1.1.1.0) (λ p7 o7. AuthSpells p7 o7 x.1.1.1.1.1.1.1)))))))
 
 abbrev call_of : Values → Call
-call_of x = record { xid = x.0; program = x.1.1.1.0; version = x.1.1.1.1.0; procedure = x.1.1.1.1.1.0; cred = x.1.1.1.1.1.1.0; verf = x.1.1.1.1.1.1.1 }
+call_of x = record {
+  xid = x.0;
+  program = x.1.1.1.0;
+  version = x.1.1.1.1.0;
+  procedure = x.1.1.1.1.1.0;
+  cred = x.1.1.1.1.1.1.0;
+  verf = x.1.1.1.1.1.1.1;
+}
 
 forth : (p : ℕ) (o : List ℕ) (x : Values) → Items p o x → CallSpells p o (call_of x)
 unfolding AuthSpells WordSpells

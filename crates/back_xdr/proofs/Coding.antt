@@ -25,8 +25,9 @@ length-words : (ns : List ℕ) → length (words ns) ≡ 4 * length ns
 length-words [] = refl
 length-words (n ∷ ns) = let l = length-words ns in omega (arith, l, length-append (be 4 n) (words ns))
 
--- four octets and others behind them
-filled_by : (h : Head) (v : Val) (os : List ℕ) → h.id < 4294967296 → filled (suc (suc (suc (suc (length os))))) (put.Head 0 Id 4 Big ∷ put.Const 4 os ∷ []) h v ≡ Some (be 4 h.id ++ os)
+-- four octets and others after them
+filled_by : (h : Head) (v : Val) (os : List ℕ) → h.id < 4294967296
+    → filled (suc (suc (suc (suc (length os))))) (put.Head 0 Id 4 Big ∷ put.Const 4 os ∷ []) h v ≡ Some (be 4 h.id ++ os)
 filled_by h v os fits = rw (word_of h.id fits, placed_whole os, full_whole os) refl
 
 chunk_leads : (c : Calls) (h : Head) (v : Val) (p s : ℕ) (os : List ℕ) → h.id < 4294967296 → s ≡ suc (suc (suc (suc (length os))))
@@ -45,7 +46,8 @@ coded_chunks ns code is = (2, rw is refl, omega arith)
 
 pub ruleset coding = (seen-Chunk)
 
-pub leads_made : (r : Result SendCode NoMemory) (ns : List ℕ) → IfOk r (λ code. IsCoded ns code) → IfOk r (λ code. Leads (λ h. words (h.id ∷ ns)) code)
+pub leads_made : (r : Result SendCode NoMemory) (ns : List ℕ) → IfOk r (λ code. IsCoded ns code)
+    → IfOk r (λ code. Leads (λ h. words (h.id ∷ ns)) code)
 leads_made (Ok code) ns is = coded_leads ns code is
 leads_made (Err e) ns is = tt
 

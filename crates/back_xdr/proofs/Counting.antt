@@ -19,7 +19,8 @@ at_most_one false = omega arith
 length-numbers : (i : PlainInterface) → length (numbers i) ≡ length (operations back.Xdr i)
 length-numbers i = length-map (operations back.Xdr i) (λ (op : PlainOperation). op.proc_no)
 
-pub length-procedures : (i : PlainInterface) (is : List PlainInterface) → length (procedures (i ∷ is)) ≡ length (numbers i) + length (procedures is)
+pub length-procedures : (i : PlainInterface) (is : List PlainInterface)
+    → length (procedures (i ∷ is)) ≡ length (numbers i) + length (procedures is)
 length-procedures i is = length-append (procedures_of i) (procedures is) ∙ ap (λ n. n + length (procedures is)) (length-map (numbers i) _)
 
 length-offers : (fs : List Face) (k : ℕ) (is : List PlainInterface) → length (offers_from fs back.Xdr k is) ≡ length (procedures is)

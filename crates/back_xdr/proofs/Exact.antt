@@ -1,4 +1,4 @@
--- What is told of a message is told by its head, or by its first fault.
+-- What is reported of a message is decided by its head, or by its first fault.
 use Rattle.std.proofs.Common.{◌≡◌, ◌<◌, ℕ, suc, List, [], ◌∷◌, Ok, Err, get_or, refl}
 use Rattle.std.specs.Prelude.{◌↔◌}
 use Rattle.wire_def.specs.declared.fault.HeadErr.{HeadErr}
@@ -12,7 +12,8 @@ all_octets [] h = tt
 all_octets (b ∷ o) h = (h 0, all_octets o (λ i. h (suc i)))
 
 module _ {A B : Type 0} (view : A → ℕ → B) where
-  told_ok : (r : Reading HeadErr A) (y : B) → told view r ≡ Ok y → (h : A) × (used : ℕ) × (rest : List ℕ) × (r ≡ got h used rest) × (view h used ≡ y)
+  told_ok : (r : Reading HeadErr A) (y : B) → told view r ≡ Ok y
+      → (h : A) × (used : ℕ) × (rest : List ℕ) × (r ≡ got h used rest) × (view h used ≡ y)
   told_ok (got h used rest) y e = (h, used, rest, refl, cc)
   told_ok (stop k at) y e = absurd cc
 

@@ -14,7 +14,8 @@ chosen true x y e = refl
 chosen false x y e = absurd cc
 
 -- at an interface that is called
-pub named_here : (k n : ℕ) (is : List Interface) (i : Interface) (c : OncCall) → n < length is → i ≡ get_or is n i → is_called c (plain_interface i) ≡ true
+pub named_here : (k n : ℕ) (is : List Interface) (i : Interface) (c : OncCall) → n < length is → i ≡ get_or is n i
+    → is_called c (plain_interface i) ≡ true
     → named_from k (map plain_interface (drop n is)) c ≡ operation_at (position_from (λ m. m == c.proc_no) k (numbers (plain_interface i)))
 named_here k n is i c h e called =
     let here : drop n is ≡ i ∷ drop (n + 1) is = drop_more is n i h ∙ ap (λ z. z ∷ drop (n + 1) is) (sym e) in

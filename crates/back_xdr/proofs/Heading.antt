@@ -27,7 +27,8 @@ module _ (b : Binding) (o : List ℕ) where
   pub one_head_called : IsOneHead o (Calls b o) (StopsWith call o)
   one_head_called = record { within = within; not_both = not_both_called; one_head = one_called; one_fault = one_fault call o }
 
-  found : ((h : Call) × (used : ℕ) × BeginsWith call o h used) ⊎ ((e : HeadErr) × StopsWith call o e) → HasHead (Calls b o) (StopsWith call o)
+  found : ((h : Call) × (used : ℕ) × BeginsWith call o h used) ⊎ ((e : HeadErr) × StopsWith call o e)
+      → HasHead (Calls b o) (StopsWith call o)
   found (inl (h, used, begins)) = inl (called b (call_told h used), (call_told h used, (h, used, begins, refl), refl))
   found (inr (e, stops)) = inr (e, stops)
 

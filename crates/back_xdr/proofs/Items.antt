@@ -19,7 +19,8 @@ word_reads p o rest n (is, lt) =
     let back : from_be_bytes w32 o ≡ n = ap (from_be_bytes w32) is ∙ wide32.again n lt in
     rw (enough, take_at o rest 4 same, drop_at o rest 4 same, same, back) refl
 
-word_spelled : (p : ℕ) (o : List ℕ) (n q : ℕ) (rest : List ℕ) → AreOctets o → read_word p o ≡ got n q rest → (a : List ℕ) × (o ≡ a ++ rest) × (q ≡ p + length a) × WordSpells p a n
+word_spelled : (p : ℕ) (o : List ℕ) (n q : ℕ) (rest : List ℕ) → AreOctets o → read_word p o ≡ got n q rest
+    → (a : List ℕ) × (o ≡ a ++ rest) × (q ≡ p + length a) × WordSpells p a n
 unfolding WordSpells read_word
 word_spelled p o n q rest oct e =
     let t = picked_got (ltb (length o) 4) Short p (from_be_bytes w32 (take 4 o)) n (p + 4) q (drop 4 o) rest e in
@@ -49,7 +50,8 @@ unfolding read_pad
 pad_reads zero p o rest x is = rw (is, add-zero) refl
 pad_reads (suc n) p o rest x is = rw (is, pad_reads n (p + 1) (replicate n 0) rest tt refl) (ap (λ (m : ℕ). got tt m rest) (omega arith))
 
-pad_spelled : (n p : ℕ) (o : List ℕ) (x : Unit {0}) (q : ℕ) (rest : List ℕ) → AreOctets o → read_pad n p o ≡ got x q rest → (a : List ℕ) × (o ≡ a ++ rest) × (q ≡ p + length a) × (a ≡ replicate n 0)
+pad_spelled : (n p : ℕ) (o : List ℕ) (x : Unit {0}) (q : ℕ) (rest : List ℕ) → AreOctets o → read_pad n p o ≡ got x q rest
+    → (a : List ℕ) × (o ≡ a ++ rest) × (q ≡ p + length a) × (a ≡ replicate n 0)
 unfolding read_pad
 pad_spelled zero p o x q rest oct e =
     let same : p ≡ q = cc in

@@ -13,7 +13,7 @@ heads_are_read call = call_is
 heads_are_read reply = reply_is
 
 module _ (w : Way) (o : List ℕ) where
-  -- a head that stands in front is read
+  -- a head that is a prefix is read
   pub begun : (h : HeadOf w) (used : ℕ) → BeginsWith w o h used → read_head w 0 o ≡ got h used (drop used o)
   begun h used (there, spells) =
       let long : length (take used o) ≡ used = omega (arith, length-take used o, there) in
@@ -21,7 +21,7 @@ module _ (w : Way) (o : List ℕ) where
       let is = (heads_are_read w).reads 0 (take used o) (drop used o) h spells in
       rw (whole, long, zero-add) at is
 
-  -- what is read stands in front
+  -- what is read is a prefix
   pub begins : AreOctets o → (h : HeadOf w) (used : ℕ) (rest : List ℕ) → read_head w 0 o ≡ got h used rest → BeginsWith w o h used
   begins oct h used rest is =
       let s = (heads_are_read w).spelled 0 o h used rest oct is in
@@ -32,7 +32,8 @@ module _ (w : Way) (o : List ℕ) where
   pub stopped : (e : HeadErr) (at : ℕ) → HeadStops w 0 o e at → read_head w 0 o ≡ stop e at
   stopped e at f = (heads_are_read w).stops 0 o e at f
 
-  either : AreOctets o → (r : Reading HeadErr (HeadOf w)) → read_head w 0 o ≡ r → ((h : HeadOf w) × (used : ℕ) × BeginsWith w o h used) ⊎ ((e : HeadErr) × StopsWith w o e)
+  either : AreOctets o → (r : Reading HeadErr (HeadOf w)) → read_head w 0 o ≡ r
+      → ((h : HeadOf w) × (used : ℕ) × BeginsWith w o h used) ⊎ ((e : HeadErr) × StopsWith w o e)
   either oct (got h used rest) is = inl (h, used, begins oct h used rest is)
   either oct (stop e at) is = inr (e, (at, (heads_are_read w).faulty 0 o e at oct is))
 

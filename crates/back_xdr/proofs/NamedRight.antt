@@ -20,7 +20,9 @@ none = record { program = 0; version = 0; number = 0 }
 abbrev Found : (ℕ → Bool) → ℕ → List ℕ → ℕ → Type 0
 Found p k ns j = (i : ℕ) × (j ≡ k + i) × (i < length ns) × (p (get_or ns i 0) ≡ true)
 
-found_step : (p : ℕ → Bool) (k n : ℕ) (ns : List ℕ) (j : ℕ) (t : Bool) → p n ≡ t → (position_from p (k + 1) ns ≡ Some j → Found p (k + 1) ns j) → (if t then Some k else position_from p (k + 1) ns) ≡ Some j → Found p k (n ∷ ns) j
+found_step : (p : ℕ → Bool) (k n : ℕ) (ns : List ℕ) (j : ℕ) (t : Bool) → p n ≡ t
+    → (position_from p (k + 1) ns ≡ Some j → Found p (k + 1) ns j) → (if t then Some k else position_from p (k + 1) ns) ≡ Some j
+    → Found p k (n ∷ ns) j
 found_step p k n ns j true is later e = (0, (let same : k ≡ j = cc in omega arith), omega arith, is)
 found_step p k n ns j false is later e = let f = later e in (suc f.0, omega (arith, f.1), omega (arith, f.2), f.3)
 
@@ -44,10 +46,13 @@ IsAt k is c op = (i : ℕ) × (op ≡ k + i) × (get_or (procedures is) i none �
 abbrev procedure_in : PlainInterface → ℕ → Procedure
 procedure_in i n = record { program = i.program; version = i.version; number = n }
 
-behind_first : (i : PlainInterface) (is : List PlainInterface) (j : ℕ) → get_or (procedures (i ∷ is)) (length (numbers i) + j) none ≡ get_or (procedures is) j none
+behind_first : (i : PlainInterface) (is : List PlainInterface) (j : ℕ)
+    → get_or (procedures (i ∷ is)) (length (numbers i) + j) none ≡ get_or (procedures is) j none
 behind_first i is j = rw length-map at (get_or-append-add (procedures_of i) (procedures is) j none)
 
-in_first : (k : ℕ) (i : PlainInterface) (is : List PlainInterface) (c : OncCall) (op : ℕ) → is_called c i ≡ true → Found (λ n. n == c.proc_no) k (numbers i) op → IsAt k (i ∷ is) c op
+in_first : (k : ℕ) (i : PlainInterface) (is : List PlainInterface) (c : OncCall) (op : ℕ) → is_called c i ≡ true
+    → Found (λ n. n == c.proc_no) k (numbers i) op
+    → IsAt k (i ∷ is) c op
 in_first k i is c op called (j, at, below, same) =
     let both = is_both (c.program == i.program) (c.version == i.version) called in
     let program : c.program ≡ i.program = eqb-true _ _ both.0 in
@@ -58,8 +63,11 @@ in_first k i is c op called (j, at, below, same) =
     get_or_append_left (procedures_of i) (procedures is) none j long ∙ get_or-map (procedure_in i) (numbers i) j 0 none below in
     (j, at, here ∙ rw (number, ← program, ← version) refl)
 
-named_step : (k : ℕ) (i : PlainInterface) (is : List PlainInterface) (c : OncCall) (op : ℕ) (t : Bool) → is_called c i ≡ t → (named_from (k + length (numbers i)) is c ≡ Operation op → IsAt (k + length (numbers i)) is c op)
-    → (if t then operation_at (position_from (λ n. n == c.proc_no) k (numbers i)) else named_from (k + length (numbers i)) is c) ≡ Operation op → IsAt k (i ∷ is) c op
+named_step : (k : ℕ) (i : PlainInterface) (is : List PlainInterface) (c : OncCall) (op : ℕ) (t : Bool) → is_called c i ≡ t
+    → (named_from (k + length (numbers i)) is c ≡ Operation op → IsAt (k + length (numbers i)) is c op)
+    → (if t then operation_at (position_from (λ n. n == c.proc_no) k (numbers i)) else named_from (k + length (numbers i)) is c)
+    ≡ Operation op
+    → IsAt k (i ∷ is) c op
 named_step k i is c op true called later e = in_first k i is c op called (found (λ n. n == c.proc_no) k (numbers i) op (place_of _ op e))
 named_step k i is c op false called later e = let f = later e in (length (numbers i) + f.0, omega (arith, f.1), behind_first i is f.0 ∙ f.2)
 

@@ -36,7 +36,9 @@ StateSpells (suc (suc (suc zero))) = Bare ProcUnavail
 StateSpells (suc (suc (suc (suc zero)))) = Bare GarbageArgs
 StateSpells _ = Bare SystemErr
 
-two_is : (status : ℕ → ℕ → Status) → IsGrammar (λ p o. Rattle.wire_def.specs.Grammar.map_got (λ (x : ℕ × ℕ). status x.0 x.1) (read_two_words p o)) (Two status) TwoWordsStop
+two_is : (status : ℕ → ℕ → Status)
+    → IsGrammar (λ p o. Rattle.wire_def.specs.Grammar.map_got (λ (x : ℕ × ℕ). status x.0 x.1) (read_two_words p o))
+    (Two status) TwoWordsStop
 two_is status = mapped (λ (x : ℕ × ℕ). status x.0 x.1) (Two status) two_are (λ p o x h. (x, refl, h)) (λ p o y h. h)
 
 state_is : (n : ℕ) → IsGrammar (read_state n) (StateSpells n) (StateStops n)
@@ -112,7 +114,8 @@ denied_is = mapped (λ (x : ℕ × Status). x.1) DeniedSpells (both_are (pass_is
 -- ---- either
 
 abbrev OutcomeSpells : ℕ → Spelling Fate
-OutcomeSpells zero p o f = (x : Auth × Status) × (accepted x.0 x.1 ≡ f) × Parts p o (λ a. AuthSpells p a x.0) (λ q b. AcceptedSpells q b x.1)
+OutcomeSpells zero p o f = (x : Auth × Status) × (accepted x.0 x.1 ≡ f)
+    × Parts p o (λ a. AuthSpells p a x.0) (λ q b. AcceptedSpells q b x.1)
 OutcomeSpells _ p o f = (s : Status) × (denied s ≡ f) × DeniedSpells p o s
 
 outcome_is : (n : ℕ) → IsGrammar (read_outcome n) (OutcomeSpells n) (OutcomeStops n)

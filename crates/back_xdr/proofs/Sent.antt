@@ -10,7 +10,14 @@ use Rattle.back_xdr.specs.Laws.{AreWords, call_of, LeadsAreRead}
 
 -- a call without credentials and verifier
 abbrev bare_call : Procedure → ℕ → Call
-bare_call p id = record { xid = id; program = p.program; version = p.version; procedure = p.number; cred = record { flavour = 0; body = [] }; verf = record { flavour = 0; body = [] } }
+bare_call p id = record {
+  xid = id;
+  program = p.program;
+  version = p.version;
+  procedure = p.number;
+  cred = record { flavour = 0; body = [] };
+  verf = record { flavour = 0; body = [] };
+}
 
 pub leads_read : LeadsAreRead
 leads_read p id o fits (program, version, number) =

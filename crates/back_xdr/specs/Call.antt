@@ -17,7 +17,8 @@ pub record Call : Type 0 where
 
 -- the transaction, 0 for a call, 2 for the protocol's version, the procedure, credentials and verifier
 abbrev pub call_octets : Call → List ℕ
-call_octets c = word c.xid ++ (word 0 ++ (word 2 ++ (word c.program ++ (word c.version ++ (word c.procedure ++ (auth_octets c.cred ++ auth_octets c.verf))))))
+call_octets c = word c.xid ++ (word 0 ++ (word 2
+    ++ (word c.program ++ (word c.version ++ (word c.procedure ++ (auth_octets c.cred ++ auth_octets c.verf))))))
 
 -- each number fits its word, each body its bound
 pub record IsCall (c : Call) : Type 0 where
@@ -46,7 +47,15 @@ CallStops =
 
 -- a call's head, item by item
 abbrev pub read_head_of_call : Reader HeadErr Call
-read_head_of_call p o = map_got (λ x. record { xid = x.0; program = x.1.1.1.0; version = x.1.1.1.1.0; procedure = x.1.1.1.1.1.0; cred = x.1.1.1.1.1.1.0; verf = x.1.1.1.1.1.1.1 })
+read_head_of_call p o = map_got
+    (λ x. record {
+      xid = x.0;
+      program = x.1.1.1.0;
+      version = x.1.1.1.1.0;
+      procedure = x.1.1.1.1.1.0;
+      cred = x.1.1.1.1.1.1.0;
+      verf = x.1.1.1.1.1.1.1;
+    })
     (both read_word (λ xid. both (read_pass (only 0) Type_) (λ type. both (read_pass (only 2) Version) (λ protocol.
     both read_word (λ program. both read_word (λ version. both read_word (λ procedure.
     both read_auth (λ cred. read_auth))))))) p o)

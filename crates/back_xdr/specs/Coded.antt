@@ -7,6 +7,6 @@ use Rattle.cast_stub.specs.declared.send.SendCode.{SendCode}
 use Rattle.cast_stub.specs.Block.{stop, chunk, code_seen}
 use Rattle.raw_buf.specs.Words.{words}
 
--- the transaction, and words behind it
+-- the transaction, and words after it
 abbrev pub IsCoded : List ℕ → SendCode → Type 0
 IsCoded numbers code = code_seen code.ops ≡ chunk (4 + 4 * length numbers) (put.Head 0 Id 4 Big ∷ put.Const 4 (words numbers) ∷ []) stop

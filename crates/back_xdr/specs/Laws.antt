@@ -42,7 +42,7 @@ IsNamedRight = (b : Binding) (c : OncCall) (op : ℕ) → named b c ≡ Operatio
 abbrev pub AreWords : Procedure → Type 0
 AreWords p = IsWord p.program × IsWord p.version × IsWord p.number
 
--- what is told of the head that is sent of a procedure
+-- what is reported of the head that is sent of a procedure
 abbrev pub call_of : Procedure → ℕ → OncCall
 call_of p id = record { head = shared_head id; program = p.program; version = p.version; proc_no = p.number; used = lead_length }
 

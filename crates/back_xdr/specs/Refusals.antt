@@ -12,7 +12,7 @@ accepted_with state = 1 ∷ 0 ∷ 0 ∷ 0 ∷ state
 abbrev pub denied_for : List ℕ → List ℕ
 denied_for reason = 1 ∷ 1 ∷ reason
 
--- the numbers behind the transaction; the refusals of other back ends have none
+-- the numbers after the transaction; the refusals of other back ends have none
 abbrev pub refusal_numbers : Refusal → Option (List ℕ)
 refusal_numbers ProgUnavail = Some (accepted_with (1 ∷ []))
 refusal_numbers (ProgMismatch low high) = Some (accepted_with (2 ∷ low ∷ high ∷ []))

@@ -20,7 +20,7 @@ pub record Reply : Type 0 where
 
 -- ---- what spells it
 
--- the state of an accepted call: its number, and behind 2 the least and the greatest version that are served
+-- the state of an accepted call: its number, and after 2 the least and the greatest version that are served
 abbrev pub AcceptedSpells : Spelling Status
 AcceptedSpells p o Answer = o ≡ word 0
 AcceptedSpells p o ProgUnavail = o ≡ word 1
@@ -51,7 +51,7 @@ ReplySpells p o r = Parts p o (λ a. WordSpells p a r.xid) (λ q b. Parts q b (�
 abbrev pub TwoWordsStop : Stopping HeadErr
 TwoWordsStop = StopsInOrder WordSpells WordStops (λ low. WordStops)
 
--- the first item behind the number of a state: 2 has two words there, and no other has any
+-- the first item after the number of a state: 2 has two words there, and no other has any
 abbrev pub StateStops : ℕ → Stopping HeadErr
 StateStops (suc (suc zero)) p o k at = TwoWordsStop p o k at
 StateStops _ p o k at = ⊥
@@ -60,7 +60,7 @@ StateStops _ p o k at = ⊥
 abbrev pub AcceptedStops : Stopping HeadErr
 AcceptedStops = StopsInOrder (PassSpells (up_to 5)) (PassStops (up_to 5) Item) StateStops
 
--- the first item behind the number of a denial: two words behind 0, a word behind 1
+-- the first item after the number of a denial: two words after 0, a word after 1
 abbrev pub DenialStops : ℕ → Stopping HeadErr
 DenialStops zero = TwoWordsStop
 DenialStops _ = WordStops
@@ -69,7 +69,7 @@ DenialStops _ = WordStops
 abbrev pub DeniedStops : Stopping HeadErr
 DeniedStops = StopsInOrder (PassSpells (up_to 1)) (PassStops (up_to 1) Item) DenialStops
 
--- the first item behind the number that tells whether a call was accepted
+-- the first item after the number that says whether a call was accepted
 abbrev pub OutcomeStops : ℕ → Stopping HeadErr
 OutcomeStops zero = StopsInOrder AuthSpells AuthStops (λ verf. AcceptedStops)
 OutcomeStops _ = DeniedStops
@@ -91,7 +91,7 @@ ReplyStops =
 abbrev pub read_two_words : Reader HeadErr (ℕ × ℕ)
 read_two_words = both read_word (λ low. read_word)
 
--- the state of a number, with what stands behind the number
+-- the state of a number, with what follows the number
 abbrev pub read_state : ℕ → Reader HeadErr Status
 read_state zero p o = got Answer p o
 read_state (suc zero) p o = got ProgUnavail p o
@@ -104,7 +104,7 @@ read_state _ p o = got SystemErr p o
 unfoldable pub read_accepted : Reader HeadErr Status
 read_accepted p o = map_got (λ x. x.1) (both (read_pass (up_to 5) Item) read_state p o)
 
--- the reason of a number, with what stands behind the number
+-- the reason of a number, with what follows the number
 abbrev pub read_denial : ℕ → Reader HeadErr Status
 read_denial zero p o = map_got (λ x. RpcMismatch x.0 x.1) (read_two_words p o)
 read_denial _ p o = map_got AuthError (read_word p o)
@@ -113,7 +113,7 @@ read_denial _ p o = map_got AuthError (read_word p o)
 unfoldable pub read_denied : Reader HeadErr Status
 read_denied p o = map_got (λ x. x.1) (both (read_pass (up_to 1) Item) read_denial p o)
 
--- how a call fared, from behind the number that tells whether it was accepted
+-- how a call fared, from after the number that says whether it was accepted
 abbrev pub read_outcome : ℕ → Reader HeadErr Fate
 read_outcome zero p o = map_got (λ x. accepted x.0 x.1) (both read_auth (λ verf. read_accepted) p o)
 read_outcome _ p o = map_got denied (read_denied p o)
@@ -124,4 +124,5 @@ read_fate p o = map_got (λ x. x.1) (both (read_pass (up_to 1) Item) read_outcom
 
 -- a reply's head, item by item
 abbrev pub read_head_of_reply : Reader HeadErr Reply
-read_head_of_reply p o = map_got (λ x. record { xid = x.0; fate = x.1.1 }) (both read_word (λ xid. both (read_pass (only 1) Type_) (λ type. read_fate)) p o)
+read_head_of_reply p o = map_got (λ x. record { xid = x.0; fate = x.1.1 })
+    (both read_word (λ xid. both (read_pass (only 1) Type_) (λ type. read_fate)) p o)

@@ -27,7 +27,8 @@ operation_at (Some op) = one op
 -- the first interface that is called, and its first operation with the call's procedure number, where the operations of the interfaces are counted from k
 abbrev pub named_from : ℕ → List PlainInterface → OncCall → Naming
 named_from k [] c = NoInterface
-named_from k (i ∷ is) c = if is_called c i then operation_at (position_from (λ n. n == c.proc_no) k (numbers i)) else named_from (k + length (numbers i)) is c
+named_from k (i ∷ is) c = if is_called c i then operation_at (position_from (λ n. n == c.proc_no) k (numbers i))
+    else named_from (k + length (numbers i)) is c
 
 -- the operation that a call names
 abbrev pub named : Binding → OncCall → Naming

@@ -1,4 +1,4 @@
--- What callers are told of a head.
+-- What is reported to callers of a head.
 use Rattle.std.specs.Prelude.{◌≡◌, ℕ, true, List}
 use Rattle.wire_def.specs.declared.head.Head.{Head}
 use Rattle.wire_def.specs.declared.head.Order.TheVariants.{Big}
@@ -26,10 +26,10 @@ status_of (denied s) = s
 abbrev pub reply_told : Reply → ℕ → ReplyHead
 reply_told r used = record { head = shared_head r.xid; status = status_of r.fate; used = used }
 
--- a message begins with the head of a call, of which this is told
+-- a message begins with the head of a call, of which this is reported
 abbrev pub BeginsCall : List ℕ → OncCall → Type 0
 BeginsCall message told = (c : Call) × (used : ℕ) × BeginsWith call message c used × (call_told c used ≡ told)
 
--- a message begins with the head of a reply, of which this is told
+-- a message begins with the head of a reply, of which this is reported
 abbrev pub BeginsReply : List ℕ → ReplyHead → Type 0
 BeginsReply message told = (r : Reply) × (used : ℕ) × BeginsWith reply message r used × (reply_told r used ≡ told)

@@ -25,10 +25,15 @@ const PROTOCOL: u32 = 2;
 /// arguments follow it.
 #[derive(Clone, Copy, Debug, PartialEq, Eq)]
 pub struct OncCall {
+    /// The transaction id, and what ONC messages do not have.
     pub head: Head,
+    /// The number of the program.
     pub program: u32,
+    /// The version of the program.
     pub version: u32,
+    /// The number of the procedure.
     pub proc_no: u32,
+    /// How many octets the head takes.
     pub used: usize,
 }
 

@@ -15,7 +15,7 @@ use pres::Bound;
 use std::alloc::Global;
 use wire_def::Order;
 
-/// Words, one behind the other.
+/// Words, one after another.
 fn octets_of(alloc: Global, numbers: &[u32]) -> Result<Octets, NoMemory>
     ensures { IfOk result (λ o. o ≡ words numbers.now) }
 {
@@ -26,7 +26,7 @@ fn octets_of(alloc: Global, numbers: &[u32]) -> Result<Octets, NoMemory>
     Ok(octets)
 }
 
-/// One chunk: the transaction, and words behind it.
+/// One chunk: the transaction, and words after it.
 #[tactic(auto, using(crate::proofs::Coding::coding))]
 fn chunk_of(alloc: Global, numbers: &[u32]) -> Result<SendCode, NoMemory>
     requires few { length numbers.now ≤ 9 }
@@ -44,7 +44,7 @@ fn chunk_of(alloc: Global, numbers: &[u32]) -> Result<SendCode, NoMemory>
     })
 }
 
-/// Code that is the transaction, and words behind it.
+/// Code that is the transaction, and words after it.
 fn code_of(alloc: Global, numbers: &[u32]) -> Result<SendCode, NoMemory>
     requires few { length numbers.now ≤ 9 }
     ensures means { IfOk result (λ code. Leads (λ h. words (h.id ∷ numbers.now)) code) }

@@ -13,14 +13,18 @@ use pres::Bound;
 /// A procedure: its program, the program's version, and its number.
 #[derive(Clone, Copy, Debug, PartialEq, Eq)]
 pub struct Procedure {
+    /// The number of the program.
     pub program: u32,
+    /// The version of the program.
     pub version: u32,
+    /// The number of the procedure.
     pub number: u32,
 }
 
 /// Whether one of the operations has the procedure number.
 fn has_number(ops: &[Operation], number: u32) -> bool
-    ensures { result ≡ list_any (λ (op : PlainOperation). op.proc_no == number) (map plain_operation ops.now) }
+    ensures { result
+        ≡ list_any (λ (op : PlainOperation). op.proc_no == number) (map plain_operation ops.now) }
 {
     for own in ops {
         if own.proc_no == number {

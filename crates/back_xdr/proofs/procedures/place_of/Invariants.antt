@@ -11,5 +11,7 @@ use Rattle.back_xdr.proofs.procedures.place_of.Given as goal
 abbrev pub invariant-loop-op : goal.invariant-loop-op
 invariant-loop-op l = record {
   place : l.place ≡ l.first + l.op-index;
-  left : position_from (λ n. n == l.number) l.first (numbers (plain_interface l.i)) ≡ position_from (λ n. n == l.number) l.place (map (λ (op : PlainOperation). op.proc_no) (map plain_operation (drop l.op-index l.op-items) ++ gotten back.Xdr (plain_interface l.i)));
+  left : position_from (λ n. n == l.number) l.first (numbers (plain_interface l.i))
+      ≡ position_from (λ n. n == l.number) l.place (map (λ (op : PlainOperation). op.proc_no)
+      (map plain_operation (drop l.op-index l.op-items) ++ gotten back.Xdr (plain_interface l.i)));
 }
