@@ -26,9 +26,11 @@ use Rattle.giop_head.specs.Printed.{long_octets}
 use Rattle.back_cdr.specs.Coded.{IsCoded, with_id}
 
 -- three operations as chunks
-pub three_seen : (a b c : SendOp) (r : Order) (octets x y : List ℕ) → 20 ≤ length octets → x ≡ take 16 octets → y ≡ drop 20 octets
-    → op_seen a ≡ chunk (length x) (put.Const 0 x ∷ []) → op_seen b ≡ chunk 4 (put.Head 0 Id 4 r ∷ []) → op_seen c ≡ chunk (length y) (put.Const 0 y ∷ [])
-    → code_seen (a ∷ b ∷ c ∷ []) ≡ chunk 16 (put.Const 0 (take 16 octets) ∷ []) (chunk 4 (put.Head 0 Id 4 r ∷ []) (chunk (length octets - 20) (put.Const 0 (drop 20 octets) ∷ []) stop))
+pub three_seen : (a b c : SendOp) (r : Order) (octets x y : List ℕ) → 20 ≤ length octets → x ≡ take 16 octets
+    → y ≡ drop 20 octets → op_seen a ≡ chunk (length x) (put.Const 0 x ∷ [])
+    → op_seen b ≡ chunk 4 (put.Head 0 Id 4 r ∷ []) → op_seen c ≡ chunk (length y) (put.Const 0 y ∷ [])
+    → code_seen (a ∷ b ∷ c ∷ []) ≡ chunk 16 (put.Const 0 (take 16 octets) ∷ [])
+    (chunk 4 (put.Head 0 Id 4 r ∷ []) (chunk (length octets - 20) (put.Const 0 (drop 20 octets) ∷ []) stop))
 three_seen a b c r octets x y long front rest sa sb sc =
     let first : length (take 16 octets) ≡ 16 = omega (arith, length-take 16 octets, long) in
     let last : length (drop 20 octets) ≡ length octets - 20 = length-drop 20 octets in
@@ -55,10 +57,13 @@ filled_id : (r : Order) (h : Head) (v : Val) → h.id < 4294967296 → filled 4 
 filled_id r h v fits = rw (word_long r h.id fits) (filled_const h v 4 (long_octets r h.id) (long_four r h.id))
 
 three_lead : (c : Calls) (h : Head) (v : Val) (p : ℕ) (r : Order) (a b : List ℕ) (m n : ℕ) → h.id < 4294967296 → m ≡ length a → n ≡ length b
-    → on_some (steps c h (chunk m (put.Const 0 a ∷ []) (chunk 4 (put.Head 0 Id 4 r ∷ []) (chunk n (put.Const 0 b ∷ []) stop))) v) (wrote p []) ≡ Some (a ++ long_octets r h.id ++ b)
+    → on_some (steps c h (chunk m (put.Const 0 a ∷ []) (chunk 4 (put.Head 0 Id 4 r ∷ []) (chunk n (put.Const 0 b ∷ []) stop))) v)
+    (wrote p [])
+    ≡ Some (a ++ long_octets r h.id ++ b)
 three_lead c h v p r a b m n fits first last = rw (filled_const h v m a first, filled_id r h v fits, filled_const h v n b last) refl
 
-coded_leads : (r : Order) (octets : List ℕ) (code : SendCode) → 20 ≤ length octets → IsCoded r octets code → Leads (λ h. with_id r octets h.id) code
+coded_leads : (r : Order) (octets : List ℕ) (code : SendCode) → 20 ≤ length octets → IsCoded r octets code
+    → Leads (λ h. with_id r octets h.id) code
 coded_leads r octets code long is h v p fits =
     subst (λ (b : Block). on_some (steps (calls_of code.subs h deepest) h b v) (wrote p []) ≡ Some (with_id r octets h.id)) (sym is)
     (three_lead (calls_of code.subs h deepest) h v p r (take 16 octets) (drop 20 octets) 16 (length octets - 20) fits.id (omega (arith, length-take 16 octets, long)) (omega (arith, length-drop 20 octets)))
@@ -66,7 +71,8 @@ coded_leads r octets code long is h v p fits =
 coded_chunks : (r : Order) (octets : List ℕ) (code : SendCode) → IsCoded r octets code → AreChunks code
 coded_chunks r octets code is = (3, rw is refl, omega arith)
 
-pub leads_made : (d : Result SendCode NoMemory) (r : Order) (octets : List ℕ) → 20 ≤ length octets → IfOk d (λ code. IsCoded r octets code) → IfOk d (λ code. Leads (λ h. with_id r octets h.id) code)
+pub leads_made : (d : Result SendCode NoMemory) (r : Order) (octets : List ℕ) → 20 ≤ length octets → IfOk d (λ code. IsCoded r octets code)
+    → IfOk d (λ code. Leads (λ h. with_id r octets h.id) code)
 leads_made (Ok code) r octets long is = coded_leads r octets code long is
 leads_made (Err e) r octets long is = tt
 
@@ -78,6 +84,7 @@ code_along : (code : SendCode) (f g : ℕ → List ℕ) → ((id : ℕ) → f id
 code_along code f g same leads h v p fits = leads h v p fits ∙ ap (λ (o : List ℕ). Some o) (same h.id)
 
 -- code that is known by another name of its octets
-pub leads_along : (d : Result SendCode NoMemory) (f g : ℕ → List ℕ) → ((id : ℕ) → f id ≡ g id) → IfOk d (λ code. Leads (λ h. f h.id) code) → IfOk d (λ code. Leads (λ h. g h.id) code)
+pub leads_along : (d : Result SendCode NoMemory) (f g : ℕ → List ℕ) → ((id : ℕ) → f id ≡ g id) → IfOk d (λ code. Leads (λ h. f h.id) code)
+    → IfOk d (λ code. Leads (λ h. g h.id) code)
 leads_along (Ok code) f g same leads = code_along code f g same leads
 leads_along (Err e) f g same leads = tt

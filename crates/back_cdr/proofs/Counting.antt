@@ -18,7 +18,8 @@ own_alone back.CdrLittle i h = append-nil i.ops
 own_alone back.Xdr i h = absurd cc
 own_alone back.Mach i h = absurd cc
 
-length-offers : (fs : List Face) (b : Back) (k : ℕ) (is : List PlainInterface) → IsCdr b → length (offers_from fs b k is) ≡ length (targets is)
+length-offers : (fs : List Face) (b : Back) (k : ℕ) (is : List PlainInterface) → IsCdr b
+    → length (offers_from fs b k is) ≡ length (targets is)
 length-offers fs b k [] h = refl
 length-offers fs b k (i ∷ is) h =
     let own = length-map (operations b i) (offer fs b k) in

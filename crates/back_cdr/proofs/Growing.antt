@@ -1,4 +1,4 @@
--- Fields that are put behind octets depend on the length of these alone, so the id may be put in later.
+-- Fields that are put after octets depend on the length of these alone, so the id may be put in later.
 use Rattle.std.proofs.Common.{◌≡◌, ℕ, zero, suc, ◌-◌, ◌≤◌, List, [], ◌∷◌, ◌++◌, length, take, drop, replicate, refl, sym, ap, ◌∙◌, append_assoc, length-append, arith}
 use Rattle.std.specs.Prelude.{slice_index_or}
 use Rattle.std.proofs.lemmas.List.{take_at, drop_at}
@@ -11,7 +11,7 @@ use Rattle.back_cdr.specs.Targets.{Target}
 use Rattle.back_cdr.specs.Leads.{lead, reply_lead}
 use Rattle.back_cdr.specs.Coded.{with_id}
 
--- what is put behind octets is the same behind others of their length
+-- what is put after octets is the same after others of their length
 abbrev pub Grows : (List ℕ → List ℕ) → Type 0
 Grows f = (o p : List ℕ) → length o ≡ length p → (t : List ℕ) × (f o ≡ o ++ t) × (f p ≡ p ++ t)
 
@@ -58,7 +58,7 @@ begun : (r : Order) (type id : ℕ) → then_long r id (first r type) ≡ first 
 begun Big type id = refl
 begun Little type id = refl
 
--- a head of header, service contexts, id, and what is put behind them
+-- a head of header, service contexts, id, and what is put after them
 module _ (r : Order) (type : ℕ) (f : List ℕ → List ℕ) (grows : Grows f) where
   abbrev head : ℕ → List ℕ
   head id = f (then_long r id (first r type))
@@ -90,7 +90,7 @@ module _ (r : Order) (type : ℕ) (f : List ℕ → List ℕ) (grows : Grows f) 
 
 -- ---- requests and replies
 
--- what stands behind the id of a request
+-- what follows the id of a request
 abbrev asked : Order → Target → List ℕ → List ℕ
 asked r t o = then_sequence r [] (then_string r t.name (then_sequence r t.key (o ++ (flag t.wants ∷ []))))
 
@@ -102,7 +102,7 @@ asked_grows r t =
     (string_grows r t.name))
     (sequence_grows r [])
 
--- what stands behind the id of a reply
+-- what follows the id of a reply
 abbrev told : Order → Target → ℕ → List ℕ → List ℕ
 told r t zero o = then_long r 0 o
 told r t (suc k) o = then_string r (slice_index_or t.ids k []) (then_long r 1 o)
@@ -144,7 +144,8 @@ reply_length r t (suc k) id = one_length r 1 (told r t (suc k)) (told_grows r t 
 pub reply_none : (r : Order) (t : Target) (arm id : ℕ) → arm ≡ 0 → answer_octets r id ≡ reply_lead r t arm id
 reply_none r t arm id is = rw is refl
 
-pub reply_some : (r : Order) (t : Target) (arm id : ℕ) → (arm ≡ 0 → ⊥) → user_octets r id (slice_index_or t.ids (arm - 1) []) ≡ reply_lead r t arm id
+pub reply_some : (r : Order) (t : Target) (arm id : ℕ) → (arm ≡ 0 → ⊥)
+    → user_octets r id (slice_index_or t.ids (arm - 1) []) ≡ reply_lead r t arm id
 reply_some r t zero id some = absurd (some refl)
 reply_some r t (suc k) id some =
     let before : suc k - 1 ≡ k = omega arith in

@@ -27,7 +27,8 @@ module _ (b : Binding) (o : List ℕ) where
   pub one_head_called : IsOneHead o (Calls b o) (StopsWith Requests o)
   one_head_called = record { within = within; not_both = not_both_called; one_head = one_called; one_fault = one_fault Requests o }
 
-  found : ((h : Ordered) × (used : ℕ) × BeginsWith Requests o h used) ⊎ ((e : HeadErr) × StopsWith Requests o e) → HasHead (Calls b o) (StopsWith Requests o)
+  found : ((h : Ordered) × (used : ℕ) × BeginsWith Requests o h used) ⊎ ((e : HeadErr) × StopsWith Requests o e)
+      → HasHead (Calls b o) (StopsWith Requests o)
   found (inl (h, used, begins)) = inl (called b (request_told h used), (request_told h used, (h, used, begins, refl), refl))
   found (inr (e, stops)) = inr (e, stops)
 

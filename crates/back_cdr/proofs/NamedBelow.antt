@@ -25,7 +25,8 @@ either_place : (n k : ℕ) (b : Bool) (o : Option ℕ) → k < n → IsBelow n (
 either_place n k true o h g = h
 either_place n k false o h g = g
 
-position_below : (p : PlainOperation → Bool) (k : ℕ) (ops : List PlainOperation) → IsBelow (k + length ops) (operation_at (position_from p k ops))
+position_below : (p : PlainOperation → Bool) (k : ℕ) (ops : List PlainOperation)
+    → IsBelow (k + length ops) (operation_at (position_from p k ops))
 position_below p k [] = tt
 position_below p k (op ∷ ops) = either_place _ k (p op) (position_from p (k + 1) ops) (omega arith) (more _ _ _ (position_below p (k + 1) ops) (omega arith))
 
@@ -46,7 +47,8 @@ chosen true x y e = refl
 chosen false x y e = absurd cc
 
 -- at the interface whose name is the key
-pub named_here : (k n : ℕ) (is : List Interface) (i : Interface) (key name : List ℕ) → n < length is → i ≡ get_or is n i → bytes_eq i.name key ≡ true
+pub named_here : (k n : ℕ) (is : List Interface) (i : Interface) (key name : List ℕ) → n < length is → i ≡ get_or is n i
+    → bytes_eq i.name key ≡ true
     → named_from k (map plain_interface (drop n is)) key name ≡ operation_at (position_from (has_name name) k (plain_interface i).ops)
 named_here k n is i key name h e called =
     let here : drop n is ≡ i ∷ drop (n + 1) is = drop_more is n i h ∙ ap (λ z. z ∷ drop (n + 1) is) (sym e) in

@@ -17,8 +17,9 @@ use Rattle.back_cdr.specs.Laws.{IsNamedRight}
 abbrev Found : (PlainOperation → Bool) → ℕ → List PlainOperation → ℕ → Type 0
 Found p k ops j = (i : ℕ) × (j ≡ k + i) × (i < length ops) × (p (get_or ops i null_operation) ≡ true)
 
-found_step : (p : PlainOperation → Bool) (k : ℕ) (op : PlainOperation) (ops : List PlainOperation) (j : ℕ) (t : Bool) → p op ≡ t → (position_from p (k + 1) ops ≡ Some j → Found p (k + 1) ops j)
-    → (if t then Some k else position_from p (k + 1) ops) ≡ Some j → Found p k (op ∷ ops) j
+found_step : (p : PlainOperation → Bool) (k : ℕ) (op : PlainOperation) (ops : List PlainOperation) (j : ℕ) (t : Bool) → p op ≡ t
+    → (position_from p (k + 1) ops ≡ Some j → Found p (k + 1) ops j) → (if t then Some k else position_from p (k + 1) ops) ≡ Some j
+    → Found p k (op ∷ ops) j
 found_step p k op ops j true is later e = (0, (let same : k ≡ j = cc in omega arith), omega arith, is)
 found_step p k op ops j false is later e = let f = later e in (suc f.0, omega (arith, f.1), omega (arith, f.2), f.3)
 
@@ -33,9 +34,12 @@ place_of None op e = absurd cc
 place_of (Some j) op e = cc
 
 abbrev IsAt : ℕ → List PlainInterface → List ℕ → List ℕ → ℕ → Type 0
-IsAt k is key name op = (i : ℕ) × (op ≡ k + i) × ((get_or (targets is) i no_target).key ≡ key) × ((get_or (targets is) i no_target).name ≡ name)
+IsAt k is key name op = (i : ℕ) × (op ≡ k + i) × ((get_or (targets is) i no_target).key ≡ key)
+    × ((get_or (targets is) i no_target).name ≡ name)
 
-in_first : (k : ℕ) (i : PlainInterface) (is : List PlainInterface) (key name : List ℕ) (op : ℕ) → bytes_eq i.name key ≡ true → Found (has_name name) k i.ops op → IsAt k (i ∷ is) key name op
+in_first : (k : ℕ) (i : PlainInterface) (is : List PlainInterface) (key name : List ℕ) (op : ℕ)
+    → bytes_eq i.name key ≡ true → Found (has_name name) k i.ops op
+    → IsAt k (i ∷ is) key name op
 in_first k i is key name op called (j, at, below, same) =
     let long : j < length (targets_in i) = omega (arith, below, length-map i.ops (target_in i)) in
     let here : get_or (targets (i ∷ is)) j no_target ≡ target_in i (get_or i.ops j null_operation) =
@@ -46,12 +50,14 @@ in_first k i is key name op called (j, at, below, same) =
       ap (λ (t : Target). t.name) here ∙ (bytes_eq-Decides (get_or i.ops j null_operation).name name).0 same,
     )
 
-behind_first : (i : PlainInterface) (is : List PlainInterface) (j : ℕ) → get_or (targets (i ∷ is)) (length i.ops + j) no_target ≡ get_or (targets is) j no_target
+behind_first : (i : PlainInterface) (is : List PlainInterface) (j : ℕ)
+    → get_or (targets (i ∷ is)) (length i.ops + j) no_target ≡ get_or (targets is) j no_target
 behind_first i is j = rw length-map at (get_or-append-add (targets_in i) (targets is) j no_target)
 
-named_step : (k : ℕ) (i : PlainInterface) (is : List PlainInterface) (key name : List ℕ) (op : ℕ) (t : Bool) → bytes_eq i.name key ≡ t
-    → (named_from (k + length i.ops) is key name ≡ Operation op → IsAt (k + length i.ops) is key name op)
-    → (if t then operation_at (position_from (has_name name) k i.ops) else named_from (k + length i.ops) is key name) ≡ Operation op → IsAt k (i ∷ is) key name op
+named_step : (k : ℕ) (i : PlainInterface) (is : List PlainInterface) (key name : List ℕ) (op : ℕ) (t : Bool)
+    → bytes_eq i.name key ≡ t → (named_from (k + length i.ops) is key name ≡ Operation op → IsAt (k + length i.ops) is key name op)
+    → (if t then operation_at (position_from (has_name name) k i.ops) else named_from (k + length i.ops) is key name) ≡ Operation op
+    → IsAt k (i ∷ is) key name op
 named_step k i is key name op true called later e = in_first k i is key name op called (found (has_name name) k i.ops op (place_of _ op e))
 named_step k i is key name op false called later e =
     let f = later e in

@@ -19,4 +19,5 @@ LeadsHaveOneLength = (r : Order) (t : Target) → HaveOneLength r t
 
 -- the operation that a request names has its key and its name
 abbrev pub IsNamedRight : Type 0
-IsNamedRight = (b : Binding) (t : ToldRequest) (op : ℕ) → named b t ≡ Operation op → ((target_of b op).key ≡ t.key) × ((target_of b op).name ≡ t.name)
+IsNamedRight = (b : Binding) (t : ToldRequest) (op : ℕ) → named b t ≡ Operation op
+    → ((target_of b op).key ≡ t.key) × ((target_of b op).name ≡ t.name)

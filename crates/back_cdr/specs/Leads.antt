@@ -1,4 +1,4 @@
--- The heads that are sent, in which the size is told once the message is whole.
+-- The heads that are sent, in which the size is set once the message is whole.
 use Rattle.std.specs.Prelude.{ℕ, zero, suc, List, [], slice_index_or}
 use Rattle.wire_def.specs.declared.head.Order.{Order}
 use Rattle.giop_head.specs.Printed.{request_octets, answer_octets, user_octets}

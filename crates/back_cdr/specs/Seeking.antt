@@ -21,7 +21,8 @@ operation_at (Some op) = one op
 -- the first interface whose name is the key, and its first operation of the name, where the operations of the interfaces are counted from k
 abbrev pub named_from : ℕ → List PlainInterface → List ℕ → List ℕ → Naming
 named_from k [] key name = NoInterface
-named_from k (i ∷ is) key name = if bytes_eq i.name key then operation_at (position_from (has_name name) k i.ops) else named_from (k + length i.ops) is key name
+named_from k (i ∷ is) key name = if bytes_eq i.name key then operation_at (position_from (has_name name) k i.ops)
+    else named_from (k + length i.ops) is key name
 
 -- the operation that a request names
 abbrev pub named : Binding → ToldRequest → Naming

@@ -42,7 +42,7 @@ fn id(alloc: Global, order: Order) -> Result<SendOp, NoMemory>
     Ok(SendOp::Chunk(4, puts))
 }
 
-/// The octets in front of the id.
+/// The octets before the id.
 fn before_id(octets: &[u8]) -> &[u8]
     requires { 20 ≤ length octets.now }
     ensures { result.now ≡ take 16 octets.now }
@@ -50,7 +50,7 @@ fn before_id(octets: &[u8]) -> &[u8]
     &octets[..16]
 }
 
-/// The octets behind the id.
+/// The octets after the id.
 fn after_id(octets: &[u8]) -> &[u8]
     requires { 20 ≤ length octets.now }
     ensures { result.now ≡ drop 20 octets.now }
@@ -133,11 +133,12 @@ fn reply_octets(
 }
 
 /// The head of an operation's request: the object's key is the name of its interface. The size is
-/// told by `size_patch`.
+/// set by `size_patch`.
 pub fn lead_call(alloc: Global, bound: &Bound, op: u32) -> Result<SendCode, NoMemory>
     requires cdr { IsCdr bound.now.back }
     requires op { op < length bound.now.ops }
-    ensures means { IfOk result (λ code. Leads (λ h. lead (defs.order_of bound.now.back) (target_of bound.now op) h.id) code) }
+    ensures means { IfOk result
+        (λ code. Leads (λ h. lead (defs.order_of bound.now.back) (target_of bound.now op) h.id) code) }
     ensures chunks { IfOk result AreChunks }
 {
     let order = sent_order(bound);
@@ -146,12 +147,13 @@ pub fn lead_call(alloc: Global, bound: &Bound, op: u32) -> Result<SendCode, NoMe
 }
 
 /// The head of a reply to an operation: arm 0 is the answer, arm k the k-th of its exceptions. The
-/// size is told by `size_patch`.
+/// size is set by `size_patch`.
 pub fn lead_reply(alloc: Global, bound: &Bound, op: u32, arm: u32) -> Result<SendCode, NoMemory>
     requires cdr { IsCdr bound.now.back }
     requires op { op < length bound.now.ops }
     requires arm { arm ≤ length (target_of bound.now op).ids }
-    ensures means { IfOk result (λ code. Leads (λ h. reply_lead (defs.order_of bound.now.back) (target_of bound.now op) arm h.id) code) }
+    ensures means { IfOk result (λ code. Leads
+        (λ h. reply_lead (defs.order_of bound.now.back) (target_of bound.now op) arm h.id) code) }
     ensures chunks { IfOk result AreChunks }
 {
     let order = sent_order(bound);
@@ -159,8 +161,8 @@ pub fn lead_reply(alloc: Global, bound: &Bound, op: u32, arm: u32) -> Result<Sen
     code_of(alloc, order, octets.as_slice())
 }
 
-/// The operation that tells the size of a message, once all of it stands: the number of octets
-/// behind the 12 of the header.
+/// The operation that sets the size of a message, once all of it is there: the number of octets
+/// after the 12 of the header.
 #[tactic(auto, using(crate::proofs::Coding::patching))]
 pub fn size_patch(back: Back) -> SendOp
     ensures { op_seen result ≡ patch 8 12 (defs.order_of back) }

@@ -1,4 +1,4 @@
-//! The octets of heads whose size is not yet told.
+//! The octets of heads whose size is not set yet.
 
 ghost use Rattle.std.specs.Prelude.{◌≡◌, IfOk, length};
 ghost use Rattle.giop_head.specs.Items.{flag};
@@ -59,7 +59,7 @@ fn header(alloc: Global, order: Order, message_type: u8) -> Result<Octets, NoMem
     Octets::from_slice(alloc, &octets)
 }
 
-/// An unsigned long behind other octets.
+/// An unsigned long after other octets.
 fn then_long(order: Order, n: u32, octets: Octets) -> Result<Octets, NoMemory>
     ensures { IfOk result (λ o. o ≡ printed.then_long order n octets) }
 {
@@ -71,7 +71,7 @@ fn then_long(order: Order, n: u32, octets: Octets) -> Result<Octets, NoMemory>
     Ok(octets)
 }
 
-/// A sequence of octets behind others.
+/// A sequence of octets after others.
 fn then_sequence(order: Order, piece: &[u8], octets: Octets) -> Result<Octets, NoMemory>
     ensures { IfOk result (λ o. o ≡ printed.then_sequence order piece.now octets) }
 {
@@ -80,7 +80,7 @@ fn then_sequence(order: Order, piece: &[u8], octets: Octets) -> Result<Octets, N
     Ok(octets)
 }
 
-/// A string behind other octets.
+/// A string after other octets.
 fn then_string(order: Order, piece: &[u8], octets: Octets) -> Result<Octets, NoMemory>
     ensures { IfOk result (λ o. o ≡ printed.then_string order piece.now octets) }
 {
@@ -110,7 +110,8 @@ pub(crate) fn request(
     key: &[u8],
     name: &[u8],
 ) -> Result<Octets, NoMemory>
-    ensures { IfOk result (λ o. o ≡ request_octets order (record { id = id; wants = wants; key = key.now; name = name.now })) }
+    ensures { IfOk result
+        (λ o. o ≡ request_octets order (record { id = id; wants = wants; key = key.now; name = name.now })) }
 {
     let octets = header(alloc, order, REQUEST)?;
     let octets = then_long(order, 0, octets)?;

@@ -12,7 +12,7 @@ use raw_buf::SendBuf;
 use std::alloc::Global;
 use wire_def::Head;
 
-/// Puts octets behind what was put.
+/// Appends octets to what was put.
 #[tactic(auto, using(giop_head::proofs::Putting::putting))]
 fn put_octets(octets: &[u8], buf: &mut SendBuf)
     requires { length octets.now ≤ length buf.old.front }
@@ -23,8 +23,8 @@ fn put_octets(octets: &[u8], buf: &mut SendBuf)
     buf.advance(octets.len());
 }
 
-/// Puts the head of an operation's request, in the back end's order, behind what was put. Its size
-/// is 0. After want of memory the buffer is as it was.
+/// Appends the head of an operation's request, in the back end's order, to what was put. Its size
+/// is 0. Where memory runs out, the buffer is as it was.
 pub fn put_lead(
     alloc: Global,
     bound: &Bound,
@@ -34,7 +34,8 @@ pub fn put_lead(
 ) -> Result<(), NoMemory>
     requires cdr { IsCdr bound.now.back }
     requires op { op < length bound.now.ops }
-    ensures ok { OnOk result (buf.new.done ≡ buf.old.done ++ lead (order_of bound.now.back) (target_of bound.now op) head.now.id) }
+    ensures ok { OnOk result
+        (buf.new.done ≡ buf.old.done ++ lead (order_of bound.now.back) (target_of bound.now op) head.now.id) }
     ensures err { OnErr result (buf.new ≡ buf.old) }
     ensures spent { NoneFell buf.old.spent buf.new.spent }
 {

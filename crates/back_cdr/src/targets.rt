@@ -22,7 +22,8 @@ pub(crate) fn order_of(back: Back) -> Order
 /// The operation at a place, counted from 0 over all interfaces, and its interface.
 fn operation_at(interfaces: &[Interface], place: usize) -> (&Interface, &Operation)
     requires { place < length (targets (map plain_interface interfaces.now)) }
-    ensures { slice_index_or (targets (map plain_interface interfaces.now)) place no_target ≡ target_in (plain_interface result.0.now) (plain_operation result.1.now) }
+    ensures { slice_index_or (targets (map plain_interface interfaces.now)) place no_target
+        ≡ target_in (plain_interface result.0.now) (plain_operation result.1.now) }
 {
     let Some((i, others)) = interfaces.split_first() else {
         unreachable!()
@@ -49,7 +50,8 @@ pub(crate) fn operations_are_targets(bound: &Bound)
 pub(crate) fn operation_of(bound: &Bound, op: u32) -> (&Interface, &Operation)
     requires cdr { IsCdr bound.now.back }
     requires op { op < length bound.now.ops }
-    ensures { target_in (plain_interface result.0.now) (plain_operation result.1.now) ≡ target_of bound.now op }
+    ensures { target_in (plain_interface result.0.now) (plain_operation result.1.now)
+        ≡ target_of bound.now op }
 {
     operations_are_targets(bound);
     operation_at(bound.unit().interfaces().as_slice(), op as usize)
@@ -59,7 +61,8 @@ pub(crate) fn operation_of(bound: &Bound, op: u32) -> (&Interface, &Operation)
 fn id_at(raises: &[Raise], arm: u32) -> &[u8]
     requires some { 0 < arm }
     requires there { arm ≤ length raises.now }
-    ensures { result.now ≡ slice_index_or (map (λ (r : PlainRaise). r.id) (map plain_raise raises.now)) (arm - 1) [] }
+    ensures { result.now
+        ≡ slice_index_or (map (λ (r : PlainRaise). r.id) (map plain_raise raises.now)) (arm - 1) [] }
 {
     raises[arm as usize - 1].id.as_slice()
 }

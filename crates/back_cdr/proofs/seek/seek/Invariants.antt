@@ -7,6 +7,8 @@ use Rattle.back_cdr.proofs.seek.seek.Given as goal
 -- what is named among all interfaces is named among those that are left
 abbrev pub invariant-loop-i : goal.invariant-loop-i
 invariant-loop-i l = record {
-  all : l.first + length (targets (map plain_interface (drop l.i-index l.interfaces))) ≡ l.fn.first + length (targets (map plain_interface l.interfaces));
-  left : named_from l.fn.first (map plain_interface l.interfaces) l.key l.name ≡ named_from l.first (map plain_interface (drop l.i-index l.interfaces)) l.key l.name;
+  all : l.first + length (targets (map plain_interface (drop l.i-index l.interfaces)))
+      ≡ l.fn.first + length (targets (map plain_interface l.interfaces));
+  left : named_from l.fn.first (map plain_interface l.interfaces) l.key l.name
+      ≡ named_from l.first (map plain_interface (drop l.i-index l.interfaces)) l.key l.name;
 }
