@@ -1,4 +1,4 @@
--- What is told of a message is told by its head, or by its first fault.
+-- What is reported of a message is decided by its head, or by its first fault.
 use Rattle.std.proofs.Common.{◌≡◌, ◌<◌, ℕ, suc, List, [], ◌∷◌, Ok, Err, get_or, length, refl}
 use Rattle.std.specs.Prelude.{◌↔◌}
 use Rattle.wire_def.specs.declared.fault.HeadErr.{HeadErr}

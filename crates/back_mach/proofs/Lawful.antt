@@ -13,7 +13,7 @@ heads_are_read call n = header_is n
 heads_are_read (reply id) n = reply_is id n
 
 module _ (w : Way) (o : List ℕ) where
-  -- a head that stands in front is read
+  -- a head that is a prefix is read
   pub begun : (h : HeadOf w) (used : ℕ) → BeginsWith w o h used → read_head w (length o) 0 o ≡ got h used (drop used o)
   begun h used (there, spells) =
       let long : length (take used o) ≡ used = omega (arith, length-take used o, there) in
@@ -21,7 +21,7 @@ module _ (w : Way) (o : List ℕ) where
       let is = (heads_are_read w (length o)).reads 0 (take used o) (drop used o) h spells in
       rw (whole, long, zero-add) at is
 
-  -- what is read stands in front
+  -- what is read is a prefix
   pub begins : AreOctets o → (h : HeadOf w) (used : ℕ) (rest : List ℕ) → read_head w (length o) 0 o ≡ got h used rest
       → BeginsWith w o h used
   begins oct h used rest is =

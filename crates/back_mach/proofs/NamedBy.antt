@@ -65,7 +65,8 @@ place_of (Some j) op e = cc
 
 -- the operation of a number counted from k is one of the interfaces, of this id
 abbrev pub IsNamedBy : ℕ → List PlainInterface → ℕ → ℕ → Type 0
-IsNamedBy k is id j = (n : ℕ) × (i : PlainInterface) × (p : PlainOperation) × (j ≡ k + n) × (slice_get (pairs is) n ≡ Some (i, p)) × (i.base + p.slot ≡ id)
+IsNamedBy k is id j = (n : ℕ) × (i : PlainInterface) × (p : PlainOperation) × (j ≡ k + n)
+    × (slice_get (pairs is) n ≡ Some (i, p)) × (i.base + p.slot ≡ id)
 
 in_first : (k : ℕ) (i : PlainInterface) (is : List PlainInterface) (id j : ℕ) → Found (has_slot i.base id) k i.ops j
     → IsNamedBy k (i ∷ is) id j

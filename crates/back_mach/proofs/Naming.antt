@@ -11,7 +11,8 @@ many i = length-map (map plain_operation i.ops) (routine_in (plain_interface i))
 
 -- among those of the first interface
 pub in_first : (i : Interface) (is : List Interface) (place : ℕ) (d : Operation) → place < length i.ops
-    → get_or (routines (map plain_interface (i ∷ is))) place no_routine ≡ routine_in (plain_interface i) (plain_operation (get_or i.ops place d))
+    → get_or (routines (map plain_interface (i ∷ is))) place no_routine
+    ≡ routine_in (plain_interface i) (plain_operation (get_or i.ops place d))
 in_first i is place d below =
     let own : length (routines_in (plain_interface i)) ≡ length i.ops = many i in
     let plain : length (map plain_operation i.ops) ≡ length i.ops = length-map i.ops plain_operation in
@@ -21,7 +22,8 @@ in_first i is place d below =
 
 -- after them
 pub in_others : (i : Interface) (is : List Interface) (place : ℕ) → length i.ops ≤ place
-    → get_or (routines (map plain_interface (i ∷ is))) place no_routine ≡ get_or (routines (map plain_interface is)) (place - length i.ops) no_routine
+    → get_or (routines (map plain_interface (i ∷ is))) place no_routine
+    ≡ get_or (routines (map plain_interface is)) (place - length i.ops) no_routine
 in_others i is place past =
     let own : length (routines_in (plain_interface i)) ≡ length i.ops = many i in
     let at : place ≡ length (routines_in (plain_interface i)) + (place - length i.ops) = omega (arith, own, past) in

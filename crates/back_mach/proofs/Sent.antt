@@ -23,7 +23,14 @@ use Rattle.back_mach.specs.Laws.{HasPorts, RequestsAreRead, AnswersAreRead, Refu
 
 -- the words of a request's header, in a message of so many octets
 abbrev asking : Routine → Head → ℕ → MachHeader
-asking r head n = record { bits = request_bits r.wants; size = n; remote = head.remote; local = reply_port r.wants head.local; sequence = 0; id = r.id }
+asking r head n = record {
+  bits = request_bits r.wants;
+  size = n;
+  remote = head.remote;
+  local = reply_port r.wants head.local;
+  sequence = 0;
+  id = r.id;
+}
 
 abbrev sized : Routine → Head → ℕ → List ℕ
 sized r head n = words (request_bits r.wants ∷ n ∷ head.remote ∷ reply_port r.wants head.local ∷ 0 ∷ r.id ∷ [])
@@ -31,7 +38,7 @@ sized r head n = words (request_bits r.wants ∷ n ∷ head.remote ∷ reply_por
 told : (r : Routine) (head : Head) (body : List ℕ) → with_size (lead r head ++ body) ≡ sized r head (length (lead r head ++ body)) ++ body
 told r head body = refl
 
--- to tell the size changes no length
+-- to set the size changes no length
 pub length_sized : (o : List ℕ) → 8 ≤ length o → length (with_size o) ≡ length o
 length_sized o long =
     let size : List ℕ = word (length o) in
@@ -92,7 +99,8 @@ abbrev code_told : ℕ → List ℕ
 code_told m = word return_word ++ word m
 
 reply_told : (id remote m : ℕ) (body : List ℕ)
-    → with_size (reply_octets id remote m ++ body) ≡ (header_told id remote (length (reply_octets id remote m ++ body)) ++ code_told m) ++ body
+    → with_size (reply_octets id remote m ++ body)
+    ≡ (header_told id remote (length (reply_octets id remote m ++ body)) ++ code_told m) ++ body
 reply_told id remote m body = refl
 
 answers : (id remote n : ℕ) → IsWord remote → IsWord n → HeaderSpells n 0 (header_told id remote n) (answering id remote n)
@@ -108,7 +116,8 @@ code_spelled p m fits = (refl, fits)
 
 -- a reply by the word of its return code
 reply_begins : (id remote m : ℕ) (body : List ℕ) → IsWord remote → IsWord m → IsWord (length (reply_octets id remote m ++ body))
-    → BeginsReply (reply_id id) (with_size (reply_octets id remote m ++ body)) (defs.reply_told (record { header = answering id remote (length (reply_octets id remote m ++ body)); code = m }) 32)
+    → BeginsReply (reply_id id) (with_size (reply_octets id remote m ++ body))
+    (defs.reply_told (record { header = answering id remote (length (reply_octets id remote m ++ body)); code = m }) 32)
 reply_begins id remote m body port code fits =
     let n : ℕ = length (reply_octets id remote m ++ body) in
     let long : length (with_size (reply_octets id remote m ++ body)) ≡ n = length_sized (reply_octets id remote m ++ body) (omega (arith, length-append (reply_octets id remote m) body)) in
@@ -125,7 +134,7 @@ reply_begins id remote m body port code fits =
 pub answers_read : AnswersAreRead
 answers_read r head body ports fits = reply_begins r.id head.remote 0 body ports.0 (omega arith) fits
 
--- the word of a code that is not 0 tells it
+-- the word of a code that is not 0 says so
 own_code : (m : ℕ) (n : ℤ) → (n ≡ pos 0 → ⊥) → cast_unsigned w32 n ≡ m → cast_signed w32 m ≡ n → defs.status_of m ≡ status.RetCode n
 own_code zero n other is again = absurd (other (sym again))
 own_code (suc m) n other is again = ap (λ (z : ℤ). status.RetCode z) again

@@ -46,7 +46,7 @@ IsNamedRight = (b : Binding) (c : MachCall) (op : ℕ) → named b c ≡ Operati
 abbrev pub HasPorts : Head → Type 0
 HasPorts head = IsWord head.remote × IsWord head.local
 
--- what is told of the head that is sent of a routine
+-- what is reported of the head that is sent of a routine
 abbrev pub call_of : Routine → Head → MachCall
 call_of r head = record { head = shared_head head.remote (reply_port r.wants head.local); id = r.id; used = lead_length }
 
@@ -55,7 +55,7 @@ abbrev pub RequestsAreRead : Type 0
 RequestsAreRead = (r : Routine) (head : Head) (body : List ℕ) → IsWord r.id → HasPorts head → IsWord (length (lead r head ++ body))
     → BeginsCall (with_size (lead r head ++ body)) (call_of r head)
 
--- what is told of the head of a reply that is sent to a port
+-- what is reported of the head of a reply that is sent to a port
 abbrev pub reply_of : ℕ → Status → ReplyHead
 reply_of remote status = record { head = shared_head remote 0; status = status; used = answer_lead_length }
 

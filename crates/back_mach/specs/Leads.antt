@@ -1,4 +1,4 @@
--- The heads that are sent, in which the size is told once the message is whole.
+-- The heads that are sent, in which the size is set once the message is whole.
 use Rattle.std.specs.Prelude.{ℕ, ◌+◌, ◌*◌, ◌%◌, ◌^◌, Bool, true, false, List, [], ◌∷◌, length}
 use Rattle.kit_base.specs.Bytes.{written}
 use Rattle.wire_def.specs.declared.head.Head.{Head}
@@ -60,6 +60,6 @@ answer_lead_length = 32
 
 -- ---- the size
 
--- a message in which the size is told: the number of all its octets
+-- a message in which the size is set: the number of all its octets
 abbrev pub with_size : List ℕ → List ℕ
 with_size o = written o 4 (word (length o))

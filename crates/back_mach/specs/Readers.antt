@@ -22,7 +22,7 @@ Passes (Err e) reading = Stopped e reading
 abbrev pub same : {A : Type 0} → A → A
 same x = x
 
--- what is told of what was read
+-- what is reported of what was read
 abbrev pub told : {A B : Type 0} → (A → ℕ → B) → Reading HeadErr A → Result B HeadErr
 told view (got x used rest) = Ok (view x used)
 told view (stop e at) = Err e

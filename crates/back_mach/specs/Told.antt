@@ -1,4 +1,4 @@
--- What callers are told of a head.
+-- What is reported to callers of a head.
 use Rattle.std.specs.Prelude.{◌≡◌, ℕ, zero, suc, true, List}
 use Rattle.std.specs.Int.{w32, cast_signed}
 use Rattle.wire_def.specs.declared.head.Head.{Head}
@@ -28,10 +28,10 @@ status_of (suc m) = RetCode (cast_signed w32 (suc m))
 abbrev pub reply_told : Reply → ℕ → ReplyHead
 reply_told r used = record { head = shared_head r.header.remote r.header.local; status = status_of r.code; used = used }
 
--- a message begins with the head of a request, of which this is told
+-- a message begins with the head of a request, of which this is reported
 abbrev pub BeginsCall : List ℕ → MachCall → Type 0
 BeginsCall message told = (h : MachHeader) × (used : ℕ) × BeginsWith call message h used × (call_told h used ≡ told)
 
--- a message begins with the head of a reply with an id, of which this is told
+-- a message begins with the head of a reply with an id, of which this is reported
 abbrev pub BeginsReply : ℕ → List ℕ → ReplyHead → Type 0
 BeginsReply id message told = (r : Reply) × (used : ℕ) × BeginsWith (reply id) message r used × (reply_told r used ≡ told)

@@ -101,7 +101,7 @@ fn answer_code(alloc: Global, routine: Routine) -> Result<SendCode, NoMemory>
     chunk_of(alloc, 32, puts)
 }
 
-/// The head of an operation's request. The size is told by `size_patch`.
+/// The head of an operation's request. The size is set by `size_patch`.
 pub fn lead_call(alloc: Global, bound: &Bound, op: u32) -> Result<SendCode, NoMemory>
     requires mach { bound.now.back ≡ Mach }
     requires op { op < length bound.now.ops }
@@ -111,7 +111,7 @@ pub fn lead_call(alloc: Global, bound: &Bound, op: u32) -> Result<SendCode, NoMe
     request_code(alloc, routine_of(bound, op))
 }
 
-/// The head of an operation's answer, which is the same for every arm. The size is told by
+/// The head of an operation's answer, which is the same for every arm. The size is set by
 /// `size_patch`.
 pub fn lead_reply(alloc: Global, bound: &Bound, op: u32, _arm: u32) -> Result<SendCode, NoMemory>
     requires mach { bound.now.back ≡ Mach }
@@ -122,7 +122,7 @@ pub fn lead_reply(alloc: Global, bound: &Bound, op: u32, _arm: u32) -> Result<Se
     answer_code(alloc, routine_of(bound, op))
 }
 
-/// The operation that tells the size of a message, once all of it is there: the number of all its
+/// The operation that sets the size of a message, once all of it is there: the number of all its
 /// octets.
 #[tactic(auto, using(crate::proofs::Coding::patching))]
 pub fn size_patch() -> SendOp

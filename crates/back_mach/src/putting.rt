@@ -109,7 +109,7 @@ pub fn put_lead(bound: &Bound, op: u32, head: &Head, buf: &mut SendBuf)
     put_words(&numbers, buf);
 }
 
-/// Tells the size in the header of a message that is whole: the number of all its octets.
+/// Sets the size in the header of a message that is whole: the number of all its octets.
 pub fn put_size(buf: &mut SendBuf)
     requires long { 8 ≤ length buf.old.done }
     requires few { length buf.old.done ≤ 4294967295 }

@@ -50,7 +50,8 @@ pub fn operations_are_routines(bound: &Bound)
 fn operation_of(bound: &Bound, op: u32) -> (&Interface, &Operation)
     requires mach { bound.now.back ≡ Mach }
     requires op { op < length bound.now.ops }
-    ensures { routine_in (plain_interface result.0.now) (plain_operation result.1.now) ≡ routine_of bound.now op }
+    ensures { routine_in (plain_interface result.0.now) (plain_operation result.1.now)
+        ≡ routine_of bound.now op }
 {
     operations_are_routines(bound);
     operation_at(bound.unit().interfaces().as_slice(), op as usize)

@@ -8,5 +8,6 @@ use Rattle.back_mach.proofs.seek.place_of.Given as goal
 abbrev pub invariant-loop-op : goal.invariant-loop-op
 invariant-loop-op l = record {
   place : l.place ≡ l.first + l.op-index;
-  left : position_from (has_slot l.i.base l.id) l.first (plain_interface l.i).ops ≡ position_from (has_slot l.i.base l.id) l.place (map plain_operation (drop l.op-index l.op-items));
+  left : position_from (has_slot l.i.base l.id) l.first (plain_interface l.i).ops
+      ≡ position_from (has_slot l.i.base l.id) l.place (map plain_operation (drop l.op-index l.op-items));
 }
