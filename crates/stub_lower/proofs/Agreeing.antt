@@ -8,7 +8,7 @@ use Rattle.cast_stub.specs.Draft.{Draft, settle}
 use Rattle.cast_stub.specs.Fill.{settled, settled_number, runs, Callees, fill}
 use Rattle.cast_stub.specs.Runs.{Place, Run, gives, refuses, strays, Going, then_run, map_run, if_some}
 
--- the same octets are left behind both, from a position of these; or neither gives anything
+-- the same octets are left after both, from a position of these; or neither gives anything
 abbrev pub Agrees : {A B : Type 0} → (ℕ → Type 0) → (A → B → Type 0) → Run A → Reading FaultKind B → Type 0
 Agrees K P (gives x s) (got y q rest) = P x y × (s.pos ≡ q) × (s.left ≡ rest) × K q × AreOctets rest
 Agrees K P refuses (stop k at) = Unit {0}
@@ -22,8 +22,9 @@ Same x y = x ≡ y
 abbrev pub Settles : Draft → Val → Type 0
 Settles d v = settle d ≡ Some v
 
-pub agrees-then : {A B C D : Type 0} (K L : ℕ → Type 0) (P : A → B → Type 0) (Q : C → D → Type 0) (x : Run A) (r : Reading FaultKind B) (f : A → Place → Run C) (g : B → Reader FaultKind D)
-    → Agrees K P x r → ((a : A) (b : B) (s : Place) → P a b → K s.pos → AreOctets s.left → Agrees L Q (f a s) (g b s.pos s.left))
+pub agrees-then : {A B C D : Type 0} (K L : ℕ → Type 0) (P : A → B → Type 0) (Q : C → D → Type 0) (x : Run A) (r : Reading FaultKind B)
+    (f : A → Place → Run C) (g : B → Reader FaultKind D) → Agrees K P x r
+    → ((a : A) (b : B) (s : Place) → P a b → K s.pos → AreOctets s.left → Agrees L Q (f a s) (g b s.pos s.left))
     → Agrees L Q (then_run x f) (then_on r g)
 agrees-then K L P Q (gives a s) (got b q rest) f g h k =
     subst (λ (m : ℕ). Agrees L Q (f a s) (g b m rest)) h.1
@@ -36,8 +37,9 @@ agrees-then K L P Q strays (got b q rest) f g h m = absurd h
 agrees-then K L P Q strays (stop k at) f g h m = absurd h
 
 -- the same, seen otherwise
-pub agrees-map : {A B C D : Type 0} (K : ℕ → Type 0) (P : A → B → Type 0) (Q : C → D → Type 0) (x : Run A) (r : Reading FaultKind B) (f : A → C) (g : B → D)
-    → Agrees K P x r → ((a : A) (b : B) → P a b → Q (f a) (g b)) → Agrees K Q (map_run f x) (map_got g r)
+pub agrees-map : {A B C D : Type 0} (K : ℕ → Type 0) (P : A → B → Type 0) (Q : C → D → Type 0) (x : Run A) (r : Reading FaultKind B)
+    (f : A → C) (g : B → D) → Agrees K P x r → ((a : A) (b : B) → P a b → Q (f a) (g b))
+    → Agrees K Q (map_run f x) (map_got g r)
 agrees-map K P Q (gives a s) (got b q rest) f g h k = (k a b h.0, h.1, h.2, h.3, h.4)
 agrees-map K P Q refuses (stop k at) f g h m = tt
 agrees-map K P Q (gives a s) (stop k at) f g h m = absurd h
@@ -46,8 +48,9 @@ agrees-map K P Q strays (got b q rest) f g h m = absurd h
 agrees-map K P Q strays (stop k at) f g h m = absurd h
 
 -- what is read, seen otherwise
-pub agrees-read : {A B D : Type 0} (K : ℕ → Type 0) (P : A → B → Type 0) (Q : A → D → Type 0) (x : Run A) (r : Reading FaultKind B) (g : B → D)
-    → Agrees K P x r → ((a : A) (b : B) → P a b → Q a (g b)) → Agrees K Q x (map_got g r)
+pub agrees-read : {A B D : Type 0} (K : ℕ → Type 0) (P : A → B → Type 0) (Q : A → D → Type 0) (x : Run A) (r : Reading FaultKind B)
+    (g : B → D) → Agrees K P x r → ((a : A) (b : B) → P a b → Q a (g b))
+    → Agrees K Q x (map_got g r)
 agrees-read K P Q (gives a s) (got b q rest) g h k = (k a b h.0, h.1, h.2, h.3, h.4)
 agrees-read K P Q refuses (stop k at) g h m = tt
 agrees-read K P Q (gives a s) (stop k at) g h m = absurd h
@@ -56,8 +59,9 @@ agrees-read K P Q strays (got b q rest) g h m = absurd h
 agrees-read K P Q strays (stop k at) g h m = absurd h
 
 -- what is given, seen otherwise
-pub agrees-given : {A B C : Type 0} (K : ℕ → Type 0) (P : A → B → Type 0) (Q : C → B → Type 0) (x : Run A) (r : Reading FaultKind B) (f : A → C)
-    → Agrees K P x r → ((a : A) (b : B) → P a b → Q (f a) b) → Agrees K Q (map_run f x) r
+pub agrees-given : {A B C : Type 0} (K : ℕ → Type 0) (P : A → B → Type 0) (Q : C → B → Type 0) (x : Run A) (r : Reading FaultKind B)
+    (f : A → C) → Agrees K P x r → ((a : A) (b : B) → P a b → Q (f a) b)
+    → Agrees K Q (map_run f x) r
 agrees-given K P Q (gives a s) (got b q rest) f h k = (k a b h.0, h.1, h.2, h.3, h.4)
 agrees-given K P Q refuses (stop k at) f h m = tt
 agrees-given K P Q (gives a s) (stop k at) f h m = absurd h
@@ -65,15 +69,18 @@ agrees-given K P Q refuses (got b q rest) f h m = absurd h
 agrees-given K P Q strays (got b q rest) f h m = absurd h
 agrees-given K P Q strays (stop k at) f h m = absurd h
 
--- and nothing behind
-pub agrees-finish : {B : Type 0} (K : ℕ → Type 0) (P : Draft → B → Type 0) (x : Run Draft) (r : Reading FaultKind B) (c : Callees) → Agrees K P x r → Agrees K P (then_run x (fill c finish)) r
+-- and nothing after
+pub agrees-finish : {B : Type 0} (K : ℕ → Type 0) (P : Draft → B → Type 0) (x : Run Draft) (r : Reading FaultKind B) (c : Callees)
+    → Agrees K P x r
+    → Agrees K P (then_run x (fill c finish)) r
 agrees-finish K P (gives a s) r c h = h
 agrees-finish K P refuses r c h = h
 agrees-finish K P strays r c h = h
 
 -- from a draft to the value
 pub agrees-settled : (K : ℕ → Type 0) (x : Run Draft) (r : Reading FaultKind Val) → Agrees K Settles x r → Agrees K Same (settled x) r
-agrees-settled K (gives d s) (got v q rest) h = subst (λ (o : Option Val). Agrees K Same (if_some o (λ w. gives w s)) (got v q rest)) (sym h.0) (refl, h.1, h.2, h.3, h.4)
+agrees-settled K (gives d s) (got v q rest) h =
+    subst (λ (o : Option Val). Agrees K Same (if_some o (λ w. gives w s)) (got v q rest)) (sym h.0) (refl, h.1, h.2, h.3, h.4)
 agrees-settled K refuses (stop k at) h = tt
 agrees-settled K (gives a s) (stop k at) h = absurd h
 agrees-settled K refuses (got b q rest) h = absurd h
@@ -86,7 +93,9 @@ Counts d n = settle d ≡ Some (num n)
 
 pub agrees-number : (K : ℕ → Type 0) (x : Run Draft) (r : Reading FaultKind ℤ) → Agrees K Counts x r → Agrees K Same (settled_number x) r
 agrees-number K (gives d s) (got v q rest) h =
-    subst (λ (o : Option Val). Agrees K Same (then_run (if_some o (λ w. gives w s)) (λ w t. if_some (num_in w) (λ n. gives n t))) (got v q rest)) (sym h.0) (refl, h.1, h.2, h.3, h.4)
+    subst
+    (λ (o : Option Val). Agrees K Same (then_run (if_some o (λ w. gives w s)) (λ w t. if_some (num_in w) (λ n. gives n t))) (got v q rest))
+    (sym h.0) (refl, h.1, h.2, h.3, h.4)
 agrees-number K refuses (stop k at) h = tt
 agrees-number K (gives a s) (stop k at) h = absurd h
 agrees-number K refuses (got b q rest) h = absurd h
@@ -99,9 +108,11 @@ pub agrees-runs : {A : Type 0} (K : ℕ → Type 0) (f : Going A) (r : Reader Fa
     → Agrees K Same (runs f n s) (times r n s.pos s.left)
 agrees-runs K f r zero s each here oct = (refl, refl, refl, here, oct)
 agrees-runs {A} K f r (suc n) s each here oct =
-    agrees-then K K Same Same (f s) (r s.pos s.left) (λ x t. map_run (λ xs. x ∷ xs) (runs f n t)) (λ x q rest. map_got (λ xs. x ∷ xs) (times r n q rest)) (each s here oct)
+    agrees-then K K Same Same (f s) (r s.pos s.left) (λ x t. map_run (λ xs. x ∷ xs) (runs f n t))
+    (λ x q rest. map_got (λ xs. x ∷ xs) (times r n q rest)) (each s here oct)
     (λ (a : A) (b : A) (t : Place) same k o.
-    agrees-map K Same Same (runs f n t) (times r n t.pos t.left) (λ xs. a ∷ xs) (λ xs. b ∷ xs) (agrees-runs K f r n t each k o) (λ (x : List A) (y : List A) e. ap (λ (z : A). z ∷ x) same ∙ ap (λ (l : List A). b ∷ l) e))
+    agrees-map K Same Same (runs f n t) (times r n t.pos t.left) (λ xs. a ∷ xs) (λ xs. b ∷ xs) (agrees-runs K f r n t each k o)
+    (λ (x : List A) (y : List A) e. ap (λ (z : A). z ∷ x) same ∙ ap (λ (l : List A). b ∷ l) e))
 
 -- up to positions of more
 pub agrees-wider : {A B : Type 0} (K L : ℕ → Type 0) (P : A → B → Type 0) (x : Run A) (r : Reading FaultKind B) → Agrees K P x r
@@ -124,7 +135,9 @@ pub ends-same : {A : Type 0} (r : Reading FaultKind A) → SameEnds r r
 ends-same (got x p o) = (refl, refl, refl)
 ends-same (stop k at) = tt
 
-pub agrees-ends : {A B : Type 0} (K : ℕ → Type 0) (P : A → B → Type 0) (x : Run A) (r t : Reading FaultKind B) → SameEnds r t → Agrees K P x r → Agrees K P x t
+pub agrees-ends : {A B : Type 0} (K : ℕ → Type 0) (P : A → B → Type 0) (x : Run A) (r t : Reading FaultKind B) → SameEnds r t
+    → Agrees K P x r
+    → Agrees K P x t
 agrees-ends K P (gives a s) (got b q rest) (got y m o) e h =
     (subst (P a) e.0 h.0, h.1 ∙ e.1, h.2 ∙ e.2, subst K e.1 h.3, subst AreOctets e.2 h.4)
 agrees-ends K P refuses (stop k at) (stop j to) e h = tt

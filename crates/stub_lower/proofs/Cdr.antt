@@ -1,4 +1,4 @@
--- What the leaves of CDR append: numbers behind their alignment, texts that end, rows.
+-- What the leaves of CDR append: numbers after their alignment, texts that end, rows.
 use Rattle.std.proofs.Common.{◌≡◌, ◌⊎◌, inl, inr, ℕ, zero, suc, ◌+◌, ◌*◌, ◌%◌, ◌<◌, ℤ, pos, negsuc, List, [], ◌∷◌, ◌++◌, length, map, replicate, Some, refl, sym, ap, subst, ◌∙◌, arith, append_assoc, length-append, IsTrue}
 use Rattle.std.specs.Prelude.{nat_lt}
 use Rattle.std.specs.List.{list_all}
@@ -43,7 +43,9 @@ align-writes a p is base front at =
     rw is (ap (λ (x : ℕ). Some (front ++ replicate (gap x a) 0)) at)
 
 -- code at a multiple of a width, whatever it is
-aligned-writes : (w : Width) → IsOwn w → (c : Calls) (h : Head) (b : Block) (v : Val) (p : ℕ) (o : List ℕ) → Writes (steps c h b v) (p + length (replicate {A = ℕ} (gap p (byte_len w)) 0)) o → Writes (steps c h (aligned (byte_len w) b) v) p (replicate (gap p (byte_len w)) 0 ++ o)
+aligned-writes : (w : Width) → IsOwn w → (c : Calls) (h : Head) (b : Block) (v : Val) (p : ℕ) (o : List ℕ)
+    → Writes (steps c h b v) (p + length (replicate {A = ℕ} (gap p (byte_len w)) 0)) o
+    → Writes (steps c h (aligned (byte_len w) b) v) p (replicate (gap p (byte_len w)) 0 ++ o)
 aligned-writes _ is8 c h b v p o m =
     let none : gap p 1 ≡ 0 = omega arith in
     let here : p + 0 ≡ p = omega arith in
@@ -52,9 +54,11 @@ aligned-writes _ is16 c h b v p o m = both-writes (align_steps 2) (steps c h b v
 aligned-writes _ is32 c h b v p o m = both-writes (align_steps 4) (steps c h b v) p (replicate (gap p 4) 0) o (align-writes 4 p refl) m
 aligned-writes _ is64 c h b v p o m = both-writes (align_steps 8) (steps c h b v) p (replicate (gap p 8) 0) o (align-writes 8 p refl) m
 
-aligned-stop : (w : Width) → IsOwn w → (c : Calls) (h : Head) (v : Val) (p : ℕ) → Writes (steps c h (aligned (byte_len w) stop) v) p (replicate (gap p (byte_len w)) 0)
+aligned-stop : (w : Width) → IsOwn w → (c : Calls) (h : Head) (v : Val) (p : ℕ)
+    → Writes (steps c h (aligned (byte_len w) stop) v) p (replicate (gap p (byte_len w)) 0)
 aligned-stop w own c h v p =
-    writes_same (steps c h (aligned (byte_len w) stop) v) p (replicate (gap p (byte_len w)) 0 ++ []) (replicate (gap p (byte_len w)) 0) (append-nil (replicate (gap p (byte_len w)) 0))
+    writes_same (steps c h (aligned (byte_len w) stop) v) p (replicate (gap p (byte_len w)) 0 ++ []) (replicate (gap p (byte_len w)) 0)
+    (append-nil (replicate (gap p (byte_len w)) 0))
     (aligned-writes w own c h stop v p [] (none-writes (p + length (replicate {A = ℕ} (gap p (byte_len w)) 0))))
 
 pub no_gap_behind : (w : Width) → IsOwn w → (p : ℕ) → gap (p + gap p (byte_len w)) (byte_len w) ≡ 0
@@ -72,7 +76,8 @@ still_none _ is64 p h = omega (arith, h)
 -- ---- an encoding whose numbers are aligned to their widths
 
 module _ (e : Encoding) (aligns : (s : Scalar) → alignment_of e s ≡ byte_len (width_of e s)) (any : (n : ℕ) → IsPlace e n)
-    (code : (s : Scalar) (x : Put) → scalar_code e s x ≡ aligned (scalar_width e s) (chunk (scalar_width e s) (x ∷ []) stop)) (lone : (s : Scalar) (p : ℕ) (n : ℤ) → lone_octets e s p n ≡ scalar_octets e s p n) (off : number_at e ≡ 0) where
+    (code : (s : Scalar) (x : Put) → scalar_code e s x ≡ aligned (scalar_width e s) (chunk (scalar_width e s) (x ∷ []) stop))
+    (lone : (s : Scalar) (p : ℕ) (n : ℤ) → lone_octets e s p n ≡ scalar_octets e s p n) (off : number_at e ≡ 0) where
   -- the octets of a scalar where it begins
   abbrev bare : Scalar → ℤ → List ℕ
   bare s n = number_octets e (width_of e s) (residue (width_of e s) n)
@@ -84,17 +89,22 @@ module _ (e : Encoding) (aligns : (s : Scalar) → alignment_of e s ≡ byte_len
   unfolding scalar_octets
   in_octets s p n = ap (λ (a : ℕ). replicate (gap p a) 0 ++ bare s n) (aligns s)
 
-  bare-writes : (c : Calls) (h : Head) (s : Scalar) (n : ℤ) (x : Put) (v : Val) (p : ℕ) → IsScalar s n → offset x ≡ 0 → put_octets h x v ≡ word (scalar_width e s) (order_of e) n → Writes (steps c h (chunk (scalar_width e s) (x ∷ []) stop) v) p (bare s n)
+  bare-writes : (c : Calls) (h : Head) (s : Scalar) (n : ℤ) (x : Put) (v : Val) (p : ℕ) → IsScalar s n → offset x ≡ 0
+      → put_octets h x v ≡ word (scalar_width e s) (order_of e) n
+      → Writes (steps c h (chunk (scalar_width e s) (x ∷ []) stop) v) p (bare s n)
   bare-writes c h s n x v p typed first is =
-      writes_stop (chunk_steps (scalar_width e s) (x ∷ []) h v) p (bare s n) (put-writes (scalar_width e s) x h v (bare s n) p first (is ∙ scalar_word e s n typed) (bare_long s n ∙ sym (width_same e s)))
+      writes_stop (chunk_steps (scalar_width e s) (x ∷ []) h v) p (bare s n)
+      (put-writes (scalar_width e s) x h v (bare s n) p first (is ∙ scalar_word e s n typed) (bare_long s n ∙ sym (width_same e s)))
 
-  scalar-writes : (c : Calls) (h : Head) (s : Scalar) (n : ℤ) (x : Put) (v : Val) (p : ℕ) → IsScalar s n → offset x ≡ 0 → put_octets h x v ≡ word (scalar_width e s) (order_of e) n
+  scalar-writes : (c : Calls) (h : Head) (s : Scalar) (n : ℤ) (x : Put) (v : Val) (p : ℕ) → IsScalar s n → offset x ≡ 0
+      → put_octets h x v ≡ word (scalar_width e s) (order_of e) n
       → Writes (steps c h (aligned (scalar_width e s) (chunk (scalar_width e s) (x ∷ []) stop)) v) p (scalar_octets e s p n)
   scalar-writes c h s n x v p typed first is =
       let q : ℕ = p + length (replicate {A = ℕ} (gap p (byte_len (width_of e s))) 0) in
       let inside = bare-writes c h s n x v q typed first is in
       let whole = aligned-writes (width_of e s) (own_of e s) c h (chunk (scalar_width e s) (x ∷ []) stop) v p (bare s n) inside in
-      rw in_octets (subst (λ (w : ℕ). Writes (steps c h (aligned w (chunk (scalar_width e s) (x ∷ []) stop)) v) p (replicate (gap p (byte_len (width_of e s))) 0 ++ bare s n)) (sym (width_same e s)) whole)
+      rw in_octets (subst (λ (w : ℕ). Writes (steps c h (aligned w (chunk (scalar_width e s) (x ∷ []) stop)) v) p
+      (replicate (gap p (byte_len (width_of e s))) 0 ++ bare s n)) (sym (width_same e s)) whole)
 
   pub scalars-send : ScalarsSend e
   scalars-send c h s n x v p typed first is place =
@@ -102,33 +112,40 @@ module _ (e : Encoding) (aligns : (s : Scalar) → alignment_of e s ≡ byte_len
 
   -- ---- texts
 
-  ended_code-writes : (c : Calls) (h : Head) (k : Kind) (ns : List ℤ) (p : ℕ) → length ns < 268435456 → Writes (steps c h (ended_code e) (row k ns)) p (ended_octets e p (length ns))
+  ended_code-writes : (c : Calls) (h : Head) (k : Kind) (ns : List ℤ) (p : ℕ) → length ns < 268435456
+      → Writes (steps c h (ended_code e) (row k ns)) p (ended_octets e p (length ns))
   ended_code-writes c h k ns p few =
       let one : length ns * 1 + 1 ≡ suc (length ns) = omega arith in
       let fits : IsScalar counted (pos (suc (length ns))) = lt-ltb (suc (length ns)) 4294967296 (omega arith) in
       let x = length_put e 1 in
-      rw (code counted x) (scalar-writes c h counted (pos (suc (length ns))) x (row k ns) p fits off (ap (λ (m : ℕ). word (scalar_width e counted) (order_of e) (pos m)) one))
+      rw (code counted x) (scalar-writes c h counted (pos (suc (length ns))) x (row k ns) p fits off
+      (ap (λ (m : ℕ). word (scalar_width e counted) (order_of e) (pos m)) one))
 
   abbrev octet_one : ℕ → ℤ → List ℕ
   octet_one p n = natural n ∷ []
 
-  octet-writes : (c : Calls) (h : Head) (n : ℤ) (q : ℕ) → IsTrue (in_range kind.Octet n) → Writes (steps c h (number_chunk e 1) (num n)) q (octet_one q n)
-  octet-writes c h (pos n) q typed = writes_stop (chunk_steps 1 (number_put e 1 ∷ []) h (num (pos n))) q (n ∷ []) (put-writes 1 (number_put e 1) h (num (pos n)) (n ∷ []) q refl (word-octet (order_of e) n (ltb-true n 256 typed)) refl)
+  octet-writes : (c : Calls) (h : Head) (n : ℤ) (q : ℕ) → IsTrue (in_range kind.Octet n)
+      → Writes (steps c h (number_chunk e 1) (num n)) q (octet_one q n)
+  octet-writes c h (pos n) q typed = writes_stop (chunk_steps 1 (number_put e 1 ∷ []) h (num (pos n))) q (n ∷ [])
+      (put-writes 1 (number_put e 1) h (num (pos n)) (n ∷ []) q refl (word-octet (order_of e) n (ltb-true n 256 typed)) refl)
   octet-writes c h (negsuc n) q typed = absurd (none n typed) where
     none : (m : ℕ) → IsTrue (nat_lt m 0) → ⊥
     none m t = omega (arith, ltb-true m 0 t)
 
   end-writes : (c : Calls) (h : Head) (v : Val) (p : ℕ) → Writes (steps c h end_code v) p (0 ∷ [])
-  end-writes c h v p = writes_stop (chunk_steps 1 (put.Const 0 (0 ∷ []) ∷ []) h v) p (0 ∷ []) (put-writes 1 (put.Const 0 (0 ∷ [])) h v (0 ∷ []) p refl refl refl)
+  end-writes c h v p = writes_stop (chunk_steps 1 (put.Const 0 (0 ∷ []) ∷ []) h v) p (0 ∷ [])
+      (put-writes 1 (put.Const 0 (0 ∷ [])) h v (0 ∷ []) p refl refl refl)
 
-  pub text-writes : (c : Calls) (h : Head) (k : Kind) (ns : List ℤ) (p : ℕ) → IsTrue (list_all (in_range kind.Octet) ns) → length ns < 268435456
+  pub text-writes : (c : Calls) (h : Head) (k : Kind) (ns : List ℤ) (p : ℕ) → IsTrue (list_all (in_range kind.Octet) ns)
+      → length ns < 268435456
       → Writes (steps c h (append (ended_code e) (each [] (number_chunk e 1) end_code)) (row k ns)) p
       (ended_octets e p (length ns) ++ (elements_octets octet_one (p + length (ended_octets e p (length ns))) ns ++ (0 ∷ [])))
   text-writes c h k ns p all few =
       let head : List ℕ = ended_octets e p (length ns) in
       let q : ℕ = p + length head in
       let els : List ℕ = elements_octets octet_one q ns in
-      rw steps-append (both-writes (steps c h (ended_code e) (row k ns)) (steps c h (each [] (number_chunk e 1) end_code) (row k ns)) p head (els ++ (0 ∷ []))
+      rw steps-append (both-writes (steps c h (ended_code e) (row k ns)) (steps c h (each [] (number_chunk e 1) end_code) (row k ns)) p head
+      (els ++ (0 ∷ []))
       (ended_code-writes c h k ns p few)
       (both-writes (over (steps c h (number_chunk e 1)) (vals_of (map num ns))) (steps c h end_code (row k ns)) q els (0 ∷ [])
       (over-writes octet_one (steps c h (number_chunk e 1)) (in_range kind.Octet) ns q all (octet-writes c h))
@@ -136,29 +153,40 @@ module _ (e : Encoding) (aligns : (s : Scalar) → alignment_of e s ≡ byte_len
 
   -- ---- rows
 
-  -- numbers one behind the other from where there is no gap
-  bare-run : (c : Calls) (h : Head) (k : Kind) (ns : List ℤ) (p : ℕ) → gap p (byte_len (width_of e (number k))) ≡ 0 → IsTrue (list_all (in_range k) ns)
-      → Writes (over (steps c h (number_chunk e (scalar_width e (number k)))) (vals_of (map num ns))) p (elements_octets (scalar_octets e (number k)) p ns)
+  -- numbers one after the other from where there is no gap
+  bare-run : (c : Calls) (h : Head) (k : Kind) (ns : List ℤ) (p : ℕ) → gap p (byte_len (width_of e (number k))) ≡ 0
+      → IsTrue (list_all (in_range k) ns)
+      → Writes (over (steps c h (number_chunk e (scalar_width e (number k)))) (vals_of (map num ns))) p
+      (elements_octets (scalar_octets e (number k)) p ns)
   unfolding elements_octets
   bare-run c h k [] p none all = none-writes p
   bare-run c h k (n ∷ ns) p none all =
-      let here : scalar_octets e (number k) p n ≡ bare (number k) n = in_octets (number k) p n ∙ ap (λ (g : ℕ). replicate g 0 ++ bare (number k) n) none in
+      let here : scalar_octets e (number k) p n ≡ bare (number k) n =
+      in_octets (number k) p n ∙ ap (λ (g : ℕ). replicate g 0 ++ bare (number k) n) none in
       let long : length (bare (number k) n) ≡ byte_len (width_of e (number k)) = bare_long (number k) n in
-      let next : gap (p + length (scalar_octets e (number k) p n)) (byte_len (width_of e (number k))) ≡ 0 = rw (here, long) (still_none (width_of e (number k)) (own_of e (number k)) p none) in
-      both-writes (steps c h (number_chunk e (scalar_width e (number k))) (num n)) (over (steps c h (number_chunk e (scalar_width e (number k)))) (vals_of (map num ns))) p (scalar_octets e (number k) p n) (elements_octets (scalar_octets e (number k)) (p + length (scalar_octets e (number k) p n)) ns)
-      (rw here (bare-writes c h (number k) n (number_put e (scalar_width e (number k))) (num n) p (first_true (in_range k n) (list_all (in_range k) ns) all) refl refl))
+      let next : gap (p + length (scalar_octets e (number k) p n)) (byte_len (width_of e (number k))) ≡ 0 =
+      rw (here, long) (still_none (width_of e (number k)) (own_of e (number k)) p none) in
+      both-writes (steps c h (number_chunk e (scalar_width e (number k))) (num n))
+      (over (steps c h (number_chunk e (scalar_width e (number k)))) (vals_of (map num ns))) p (scalar_octets e (number k) p n)
+      (elements_octets (scalar_octets e (number k)) (p + length (scalar_octets e (number k) p n)) ns)
+      (rw here (bare-writes c h (number k) n (number_put e (scalar_width e (number k))) (num n) p
+      (first_true (in_range k n) (list_all (in_range k) ns) all) refl refl))
       (bare-run c h k ns (p + length (scalar_octets e (number k) p n)) next (second_true (in_range k n) (list_all (in_range k) ns) all))
 
-  -- numbers each behind its alignment
+  -- numbers each after its alignment
   aligned-run : (c : Calls) (h : Head) (k : Kind) (ns : List ℤ) (p : ℕ) → IsTrue (list_all (in_range k) ns)
-      → Writes (over (steps c h (aligned (scalar_width e (number k)) (number_chunk e (scalar_width e (number k))))) (vals_of (map num ns))) p (elements_octets (scalar_octets e (number k)) p ns)
+      → Writes (over (steps c h (aligned (scalar_width e (number k)) (number_chunk e (scalar_width e (number k))))) (vals_of (map num ns)))
+      p (elements_octets (scalar_octets e (number k)) p ns)
   aligned-run c h k ns p all =
-      over-writes (scalar_octets e (number k)) (steps c h (aligned (scalar_width e (number k)) (number_chunk e (scalar_width e (number k))))) (in_range k) ns p all
+      over-writes (scalar_octets e (number k))
+      (steps c h (aligned (scalar_width e (number k)) (number_chunk e (scalar_width e (number k))))) (in_range k) ns p all
       (λ n q typed. scalar-writes c h (number k) n (number_put e (scalar_width e (number k))) (num n) q typed refl refl)
 
   -- the gap of the first element by itself
-  first_apart : (k : Kind) (n : ℤ) (ns : List ℤ) (p : ℕ) → elements_octets (scalar_octets e (number k)) p (n ∷ ns)
-      ≡ replicate (gap p (byte_len (width_of e (number k)))) 0 ++ elements_octets (scalar_octets e (number k)) (p + length (replicate {A = ℕ} (gap p (byte_len (width_of e (number k)))) 0)) (n ∷ ns)
+  first_apart : (k : Kind) (n : ℤ) (ns : List ℤ) (p : ℕ)
+      → elements_octets (scalar_octets e (number k)) p (n ∷ ns)
+      ≡ replicate (gap p (byte_len (width_of e (number k)))) 0
+      ++ elements_octets (scalar_octets e (number k)) (p + length (replicate {A = ℕ} (gap p (byte_len (width_of e (number k)))) 0)) (n ∷ ns)
   unfolding elements_octets
   first_apart k n ns p =
       let w : ℕ = byte_len (width_of e (number k)) in
@@ -167,22 +195,29 @@ module _ (e : Encoding) (aligns : (s : Scalar) → alignment_of e s ≡ byte_len
       let q : ℕ = p + length zeros in
       let none : gap q w ≡ 0 = rw many (no_gap_behind (width_of e (number k)) (own_of e (number k)) p) in
       let one : scalar_octets e (number k) p n ≡ zeros ++ bare (number k) n = in_octets (number k) p n in
-      let two : scalar_octets e (number k) q n ≡ bare (number k) n = in_octets (number k) q n ∙ ap (λ (g : ℕ). replicate g 0 ++ bare (number k) n) none in
-      let past : p + length (zeros ++ bare (number k) n) ≡ q + length (bare (number k) n) = omega (arith, length-append zeros (bare (number k) n)) in
-      rw (one, two, past) (append_assoc zeros (bare (number k) n) (elements_octets (scalar_octets e (number k)) (q + length (bare (number k) n)) ns))
+      let two : scalar_octets e (number k) q n ≡ bare (number k) n =
+      in_octets (number k) q n ∙ ap (λ (g : ℕ). replicate g 0 ++ bare (number k) n) none in
+      let past : p + length (zeros ++ bare (number k) n) ≡ q + length (bare (number k) n) =
+      omega (arith, length-append zeros (bare (number k) n)) in
+      rw (one, two, past)
+      (append_assoc zeros (bare (number k) n) (elements_octets (scalar_octets e (number k)) (q + length (bare (number k) n)) ns))
 
   abbrev loop : Calls → Head → Block → List ℤ → Steps
   loop c h b ns = over (steps c h b) (vals_of (map num ns))
 
-  -- behind code that is there, a loop and nothing more
-  pub looped : (c : Calls) (h : Head) (a b : Block) (k : Kind) (ns : List ℤ) (p : ℕ) (head els : List ℕ) → Writes (steps c h a (row k ns)) p head → Writes (loop c h b ns) (p + length head) els
+  -- after code that is there, a loop and nothing more
+  pub looped : (c : Calls) (h : Head) (a b : Block) (k : Kind) (ns : List ℤ) (p : ℕ) (head els : List ℕ)
+      → Writes (steps c h a (row k ns)) p head → Writes (loop c h b ns) (p + length head) els
       → Writes (steps c h (append a (each [] b stop)) (row k ns)) p (head ++ (els ++ []))
   looped c h a b k ns p head els first behind =
-      rw (steps-append, append-nil) (both-writes (steps c h a (row k ns)) (steps c h (each [] b stop) (row k ns)) p head els first (writes_stop (loop c h b ns) (p + length head) els behind))
+      rw (steps-append, append-nil) (both-writes (steps c h a (row k ns)) (steps c h (each [] b stop) (row k ns)) p head els first
+      (writes_stop (loop c h b ns) (p + length head) els behind))
 
   -- a row of a fixed length
   pub fixed-row : (c : Calls) (h : Head) (j k : Kind) (m : ℕ) (ns : List ℤ) (p : ℕ) → length ns ≡ m → IsTrue (list_all (in_range k) ns)
-      → Writes (steps c h (append (row_code e (scalar_width e (number k)) (Exactly m)) (each [] (number_chunk e (scalar_width e (number k))) stop)) (row j ns)) p ([] ++ (elements_octets (scalar_octets e (number k)) (p + 0) ns ++ []))
+      → Writes
+      (steps c h (append (row_code e (scalar_width e (number k)) (Exactly m)) (each [] (number_chunk e (scalar_width e (number k))) stop))
+      (row j ns)) p ([] ++ (elements_octets (scalar_octets e (number k)) (p + 0) ns ++ []))
   unfolding elements_octets
   fixed-row c h j k zero [] p long all = none-writes p
   fixed-row c h j k zero (n ∷ ns) p long all = absurd cc
@@ -193,22 +228,32 @@ module _ (e : Encoding) (aligns : (s : Scalar) → alignment_of e s ≡ byte_len
       let q : ℕ = p + length zeros in
       let many : length zeros ≡ gap p (byte_len w) = length-replicate {A = ℕ} (gap p (byte_len w)) 0 in
       let none : gap q (byte_len w) ≡ 0 = rw many (no_gap_behind w (own_of e (number k)) p) in
-      let head : Writes (steps c h (aligned (scalar_width e (number k)) stop) (row j (n ∷ ns))) p zeros = rw (width_same e (number k)) (aligned-stop w (own_of e (number k)) c h (row j (n ∷ ns)) p) in
-      let whole = looped c h (aligned (scalar_width e (number k)) stop) (number_chunk e (scalar_width e (number k))) j (n ∷ ns) p zeros (elements_octets (scalar_octets e (number k)) q (n ∷ ns)) head (bare-run c h k (n ∷ ns) q none all) in
+      let head : Writes (steps c h (aligned (scalar_width e (number k)) stop) (row j (n ∷ ns))) p zeros =
+      rw (width_same e (number k)) (aligned-stop w (own_of e (number k)) c h (row j (n ∷ ns)) p) in
+      let whole = looped c h (aligned (scalar_width e (number k)) stop) (number_chunk e (scalar_width e (number k))) j (n ∷ ns) p zeros
+      (elements_octets (scalar_octets e (number k)) q (n ∷ ns)) head (bare-run c h k (n ∷ ns) q none all) in
       let here : p + 0 ≡ p = omega arith in
-      let same : zeros ++ (elements_octets (scalar_octets e (number k)) q (n ∷ ns) ++ []) ≡ elements_octets (scalar_octets e (number k)) (p + 0) (n ∷ ns) ++ [] =
-      sym (append_assoc zeros (elements_octets (scalar_octets e (number k)) q (n ∷ ns)) []) ∙ ap (λ (z : List ℕ). z ++ []) (sym (first_apart k n ns p) ∙ ap (λ (z : ℕ). elements_octets (scalar_octets e (number k)) z (n ∷ ns)) (sym here)) in
-      writes_same (steps c h (append (aligned (scalar_width e (number k)) stop) (each [] (number_chunk e (scalar_width e (number k))) stop)) (row j (n ∷ ns))) p _ _ same whole
+      let same : zeros ++ (elements_octets (scalar_octets e (number k)) q (n ∷ ns) ++ [])
+      ≡ elements_octets (scalar_octets e (number k)) (p + 0) (n ∷ ns) ++ [] =
+      sym (append_assoc zeros (elements_octets (scalar_octets e (number k)) q (n ∷ ns)) []) ∙ ap (λ (z : List ℕ). z ++ [])
+      (sym (first_apart k n ns p) ∙ ap (λ (z : ℕ). elements_octets (scalar_octets e (number k)) z (n ∷ ns)) (sym here)) in
+      writes_same (steps c h (append (aligned (scalar_width e (number k)) stop) (each [] (number_chunk e (scalar_width e (number k))) stop))
+      (row j (n ∷ ns))) p _ _ same whole
 
-  -- a row behind its count, whose numbers need no alignment there
-  pub free-row : (four : byte_len (width_of e counted) ≡ 4) (c : Calls) (h : Head) (b : Count) (j k : Kind) (ns : List ℤ) (p : ℕ) → Allows b (length ns) → ((q : ℕ) → q % 4 ≡ 0 → gap q (byte_len (width_of e (number k))) ≡ 0)
+  -- a row after its count, whose numbers need no alignment there
+  pub free-row : (four : byte_len (width_of e counted) ≡ 4) (c : Calls) (h : Head) (b : Count) (j k : Kind) (ns : List ℤ) (p : ℕ)
+      → Allows b (length ns) → ((q : ℕ) → q % 4 ≡ 0 → gap q (byte_len (width_of e (number k))) ≡ 0)
       → (count_octets e b p (length ns) ≡ scalar_octets e counted p (pos (length ns))) → IsPlace e p → IsTrue (list_all (in_range k) ns)
-      → Writes (steps c h (append (count_code e b) (each [] (number_chunk e (scalar_width e (number k))) stop)) (row j ns)) p (count_octets e b p (length ns) ++ (elements_octets (scalar_octets e (number k)) (p + length (count_octets e b p (length ns))) ns ++ []))
+      → Writes (steps c h (append (count_code e b) (each [] (number_chunk e (scalar_width e (number k))) stop)) (row j ns)) p
+      (count_octets e b p (length ns)
+      ++ (elements_octets (scalar_octets e (number k)) (p + length (count_octets e b p (length ns))) ns ++ []))
   free-row four c h b j k ns p ok small sent place all =
       let head : List ℕ = count_octets e b p (length ns) in
-      let long : length head ≡ gap p 4 + 4 = rw sent (scalar_long e counted p (pos (length ns)) ∙ word_gap p (alignment_of e counted) (byte_len (width_of e counted)) (aligns counted ∙ four) four) in
+      let long : length head ≡ gap p 4 + 4 = rw sent (scalar_long e counted p (pos (length ns))
+      ∙ word_gap p (alignment_of e counted) (byte_len (width_of e counted)) (aligns counted ∙ four) four) in
       let none = small (p + length head) (rw long (behind_word p)) in
-      looped c h (count_code e b) (number_chunk e (scalar_width e (number k))) j ns p head (elements_octets (scalar_octets e (number k)) (p + length head) ns)
+      looped c h (count_code e b) (number_chunk e (scalar_width e (number k))) j ns p head
+      (elements_octets (scalar_octets e (number k)) (p + length head) ns)
       ((count-sends e scalars-send c h b (row j ns) (length ns) p refl ok place).1) (bare-run c h k ns (p + length head) none all)
     where
       word_gap : (q a w : ℕ) → a ≡ 4 → w ≡ 4 → gap q a + w ≡ gap q 4 + 4
@@ -217,27 +262,43 @@ module _ (e : Encoding) (aligns : (s : Scalar) → alignment_of e s ≡ byte_len
       behind_word : (q : ℕ) → (q + (gap q 4 + 4)) % 4 ≡ 0
       behind_word q = omega arith
 
-  -- a row behind its count, each number behind its alignment
-  pub gapped-row : (c : Calls) (h : Head) (b : Count) (j k : Kind) (ns : List ℤ) (p : ℕ) → Allows b (length ns) → IsPlace e p → IsTrue (list_all (in_range k) ns)
-      → Writes (steps c h (append (count_code e b) (each [] (aligned (scalar_width e (number k)) (number_chunk e (scalar_width e (number k)))) stop)) (row j ns)) p (count_octets e b p (length ns) ++ (elements_octets (scalar_octets e (number k)) (p + length (count_octets e b p (length ns))) ns ++ []))
+  -- a row after its count, each number after its alignment
+  pub gapped-row : (c : Calls) (h : Head) (b : Count) (j k : Kind) (ns : List ℤ) (p : ℕ) → Allows b (length ns) → IsPlace e p
+      → IsTrue (list_all (in_range k) ns)
+      → Writes
+      (steps c h (append (count_code e b) (each [] (aligned (scalar_width e (number k)) (number_chunk e (scalar_width e (number k)))) stop))
+      (row j ns)) p (count_octets e b p (length ns)
+      ++ (elements_octets (scalar_octets e (number k)) (p + length (count_octets e b p (length ns))) ns ++ []))
   gapped-row c h b j k ns p ok place all =
       let head : List ℕ = count_octets e b p (length ns) in
-      looped c h (count_code e b) (aligned (scalar_width e (number k)) (number_chunk e (scalar_width e (number k)))) j ns p head (elements_octets (scalar_octets e (number k)) (p + length head) ns)
+      looped c h (count_code e b) (aligned (scalar_width e (number k)) (number_chunk e (scalar_width e (number k)))) j ns p head
+      (elements_octets (scalar_octets e (number k)) (p + length head) ns)
       ((count-sends e scalars-send c h b (row j ns) (length ns) p refl ok place).1) (aligned-run c h k ns (p + length head) all)
 
 -- an octet is its scalar
-octet_scalar : (e : Encoding) (p : ℕ) (n : ℤ) → (e ≡ CdrBig) ⊎ (e ≡ CdrLittle) → IsTrue (in_range kind.Octet n) → scalar_octets e (number kind.Octet) p n ≡ natural n ∷ []
+octet_scalar : (e : Encoding) (p : ℕ) (n : ℤ) → (e ≡ CdrBig) ⊎ (e ≡ CdrLittle) → IsTrue (in_range kind.Octet n)
+    → scalar_octets e (number kind.Octet) p n ≡ natural n ∷ []
 unfolding scalar_octets
-octet_scalar e p (pos n) (inl is) h = let none : gap p 1 ≡ 0 = omega arith in let few = ltb-true n 256 h in let same : n % 256 % 256 ≡ n = omega arith in rw (is, none) (ap (λ (m : ℕ). m ∷ []) same)
-octet_scalar e p (pos n) (inr is) h = let none : gap p 1 ≡ 0 = omega arith in let few = ltb-true n 256 h in let same : n % 256 % 256 ≡ n = omega arith in rw (is, none) (ap (λ (m : ℕ). m ∷ []) same)
+octet_scalar e p (pos n) (inl is) h =
+    let none : gap p 1 ≡ 0 = omega arith in
+    let few = ltb-true n 256 h in
+    let same : n % 256 % 256 ≡ n = omega arith in
+    rw (is, none) (ap (λ (m : ℕ). m ∷ []) same)
+octet_scalar e p (pos n) (inr is) h =
+    let none : gap p 1 ≡ 0 = omega arith in
+    let few = ltb-true n 256 h in
+    let same : n % 256 % 256 ≡ n = omega arith in
+    rw (is, none) (ap (λ (m : ℕ). m ∷ []) same)
 octet_scalar e p (negsuc n) is h = absurd (omega (arith, ltb-true n 0 h))
 
-octets_same : (e : Encoding) → (e ≡ CdrBig) ⊎ (e ≡ CdrLittle) → (p : ℕ) (ns : List ℤ) → IsTrue (list_all (in_range kind.Octet) ns) → elements_octets (scalar_octets e (number kind.Octet)) p ns ≡ elements_octets (λ q n. natural n ∷ []) p ns
+octets_same : (e : Encoding) → (e ≡ CdrBig) ⊎ (e ≡ CdrLittle) → (p : ℕ) (ns : List ℤ) → IsTrue (list_all (in_range kind.Octet) ns)
+    → elements_octets (scalar_octets e (number kind.Octet)) p ns ≡ elements_octets (λ q n. natural n ∷ []) p ns
 unfolding elements_octets
 octets_same e is p [] all = refl
 octets_same e is p (n ∷ ns) all =
     let one = octet_scalar e p n is (first_true (in_range kind.Octet n) (list_all (in_range kind.Octet) ns) all) in
-    rw one (ap (λ z. natural n ∷ z) (octets_same e is (p + 1) ns (second_true (in_range kind.Octet n) (list_all (in_range kind.Octet) ns) all)))
+    rw one
+    (ap (λ z. natural n ∷ z) (octets_same e is (p + 1) ns (second_true (in_range kind.Octet n) (list_all (in_range kind.Octet) ns) all)))
 
 one_fits : (q : ℕ) → q % 4 ≡ 0 → gap q 1 ≡ 0
 one_fits q h = omega arith
@@ -248,98 +309,169 @@ two_fit q h = omega (arith, h)
 four_fit : (q : ℕ) → q % 4 ≡ 0 → gap q 4 ≡ 0
 four_fit q h = omega (arith, h)
 
-big_row : (c : Calls) (h : Head) (b : Count) (m k : Kind) (ns : List ℤ) (p : ℕ) → Allows b (length ns) → IsTrue (list_all (in_range m) ns) → Writes (steps c h (array_code CdrBig (row_of m b)) (row k ns)) p (array_octets CdrBig (row_of m b) p ns)
+big_row : (c : Calls) (h : Head) (b : Count) (m k : Kind) (ns : List ℤ) (p : ℕ) → Allows b (length ns) → IsTrue (list_all (in_range m) ns)
+    → Writes (steps c h (array_code CdrBig (row_of m b)) (row k ns)) p (array_octets CdrBig (row_of m b) p ns)
 unfolding array_octets head_octets element_octets count_octets
-big_row c h (Exactly x) kind.Octet k ns p ok all = rw (← octets_same CdrBig (inl refl) (p + 0) ns all) (fixed-row CdrBig (λ s. refl) (λ n. tt) (λ s x. refl) (λ s p n. refl) refl c h k kind.Octet x ns p ok all)
+big_row c h (Exactly x) kind.Octet k ns p ok all = rw (← octets_same CdrBig (inl refl) (p + 0) ns all)
+    (fixed-row CdrBig (λ s. refl) (λ n. tt) (λ s x. refl) (λ s p n. refl) refl c h k kind.Octet x ns p ok all)
 big_row c h (AtMost x) kind.Octet k ns p ok all =
     let q : ℕ = p + length (scalar_octets CdrBig counted p (pos (length ns))) in
-    rw (← octets_same CdrBig (inl refl) q ns all) (free-row CdrBig (λ s. refl) (λ n. tt) (λ s x. refl) (λ s p n. refl) refl refl c h (AtMost x) k kind.Octet ns p ok one_fits refl tt all)
+    rw (← octets_same CdrBig (inl refl) q ns all)
+    (free-row CdrBig (λ s. refl) (λ n. tt) (λ s x. refl) (λ s p n. refl) refl refl c h (AtMost x) k kind.Octet ns p ok one_fits refl tt all)
 big_row c h Any kind.Octet k ns p ok all =
     let q : ℕ = p + length (scalar_octets CdrBig counted p (pos (length ns))) in
-    rw (← octets_same CdrBig (inl refl) q ns all) (free-row CdrBig (λ s. refl) (λ n. tt) (λ s x. refl) (λ s p n. refl) refl refl c h Any k kind.Octet ns p ok one_fits refl tt all)
-big_row c h (Exactly x) kind.I8 k ns p ok all = fixed-row CdrBig (λ s. refl) (λ n. tt) (λ s x. refl) (λ s p n. refl) refl c h k kind.I8 x ns p ok all
-big_row c h (AtMost x) kind.I8 k ns p ok all = free-row CdrBig (λ s. refl) (λ n. tt) (λ s x. refl) (λ s p n. refl) refl refl c h (AtMost x) k kind.I8 ns p ok one_fits refl tt all
-big_row c h Any kind.I8 k ns p ok all = free-row CdrBig (λ s. refl) (λ n. tt) (λ s x. refl) (λ s p n. refl) refl refl c h Any k kind.I8 ns p ok one_fits refl tt all
-big_row c h (Exactly x) kind.U8 k ns p ok all = fixed-row CdrBig (λ s. refl) (λ n. tt) (λ s x. refl) (λ s p n. refl) refl c h k kind.U8 x ns p ok all
-big_row c h (AtMost x) kind.U8 k ns p ok all = free-row CdrBig (λ s. refl) (λ n. tt) (λ s x. refl) (λ s p n. refl) refl refl c h (AtMost x) k kind.U8 ns p ok one_fits refl tt all
-big_row c h Any kind.U8 k ns p ok all = free-row CdrBig (λ s. refl) (λ n. tt) (λ s x. refl) (λ s p n. refl) refl refl c h Any k kind.U8 ns p ok one_fits refl tt all
-big_row c h (Exactly x) kind.Char k ns p ok all = fixed-row CdrBig (λ s. refl) (λ n. tt) (λ s x. refl) (λ s p n. refl) refl c h k kind.Char x ns p ok all
-big_row c h (AtMost x) kind.Char k ns p ok all = free-row CdrBig (λ s. refl) (λ n. tt) (λ s x. refl) (λ s p n. refl) refl refl c h (AtMost x) k kind.Char ns p ok one_fits refl tt all
-big_row c h Any kind.Char k ns p ok all = free-row CdrBig (λ s. refl) (λ n. tt) (λ s x. refl) (λ s p n. refl) refl refl c h Any k kind.Char ns p ok one_fits refl tt all
-big_row c h (Exactly x) kind.Bool k ns p ok all = fixed-row CdrBig (λ s. refl) (λ n. tt) (λ s x. refl) (λ s p n. refl) refl c h k kind.Bool x ns p ok all
-big_row c h (AtMost x) kind.Bool k ns p ok all = free-row CdrBig (λ s. refl) (λ n. tt) (λ s x. refl) (λ s p n. refl) refl refl c h (AtMost x) k kind.Bool ns p ok one_fits refl tt all
-big_row c h Any kind.Bool k ns p ok all = free-row CdrBig (λ s. refl) (λ n. tt) (λ s x. refl) (λ s p n. refl) refl refl c h Any k kind.Bool ns p ok one_fits refl tt all
-big_row c h (Exactly x) kind.I16 k ns p ok all = fixed-row CdrBig (λ s. refl) (λ n. tt) (λ s x. refl) (λ s p n. refl) refl c h k kind.I16 x ns p ok all
-big_row c h (AtMost x) kind.I16 k ns p ok all = free-row CdrBig (λ s. refl) (λ n. tt) (λ s x. refl) (λ s p n. refl) refl refl c h (AtMost x) k kind.I16 ns p ok two_fit refl tt all
-big_row c h Any kind.I16 k ns p ok all = free-row CdrBig (λ s. refl) (λ n. tt) (λ s x. refl) (λ s p n. refl) refl refl c h Any k kind.I16 ns p ok two_fit refl tt all
-big_row c h (Exactly x) kind.U16 k ns p ok all = fixed-row CdrBig (λ s. refl) (λ n. tt) (λ s x. refl) (λ s p n. refl) refl c h k kind.U16 x ns p ok all
-big_row c h (AtMost x) kind.U16 k ns p ok all = free-row CdrBig (λ s. refl) (λ n. tt) (λ s x. refl) (λ s p n. refl) refl refl c h (AtMost x) k kind.U16 ns p ok two_fit refl tt all
-big_row c h Any kind.U16 k ns p ok all = free-row CdrBig (λ s. refl) (λ n. tt) (λ s x. refl) (λ s p n. refl) refl refl c h Any k kind.U16 ns p ok two_fit refl tt all
-big_row c h (Exactly x) kind.I32 k ns p ok all = fixed-row CdrBig (λ s. refl) (λ n. tt) (λ s x. refl) (λ s p n. refl) refl c h k kind.I32 x ns p ok all
-big_row c h (AtMost x) kind.I32 k ns p ok all = free-row CdrBig (λ s. refl) (λ n. tt) (λ s x. refl) (λ s p n. refl) refl refl c h (AtMost x) k kind.I32 ns p ok four_fit refl tt all
-big_row c h Any kind.I32 k ns p ok all = free-row CdrBig (λ s. refl) (λ n. tt) (λ s x. refl) (λ s p n. refl) refl refl c h Any k kind.I32 ns p ok four_fit refl tt all
-big_row c h (Exactly x) kind.U32 k ns p ok all = fixed-row CdrBig (λ s. refl) (λ n. tt) (λ s x. refl) (λ s p n. refl) refl c h k kind.U32 x ns p ok all
-big_row c h (AtMost x) kind.U32 k ns p ok all = free-row CdrBig (λ s. refl) (λ n. tt) (λ s x. refl) (λ s p n. refl) refl refl c h (AtMost x) k kind.U32 ns p ok four_fit refl tt all
-big_row c h Any kind.U32 k ns p ok all = free-row CdrBig (λ s. refl) (λ n. tt) (λ s x. refl) (λ s p n. refl) refl refl c h Any k kind.U32 ns p ok four_fit refl tt all
-big_row c h (Exactly x) kind.I64 k ns p ok all = fixed-row CdrBig (λ s. refl) (λ n. tt) (λ s x. refl) (λ s p n. refl) refl c h k kind.I64 x ns p ok all
-big_row c h (AtMost x) kind.I64 k ns p ok all = gapped-row CdrBig (λ s. refl) (λ n. tt) (λ s x. refl) (λ s p n. refl) refl c h (AtMost x) k kind.I64 ns p ok tt all
-big_row c h Any kind.I64 k ns p ok all = gapped-row CdrBig (λ s. refl) (λ n. tt) (λ s x. refl) (λ s p n. refl) refl c h Any k kind.I64 ns p ok tt all
-big_row c h (Exactly x) kind.U64 k ns p ok all = fixed-row CdrBig (λ s. refl) (λ n. tt) (λ s x. refl) (λ s p n. refl) refl c h k kind.U64 x ns p ok all
-big_row c h (AtMost x) kind.U64 k ns p ok all = gapped-row CdrBig (λ s. refl) (λ n. tt) (λ s x. refl) (λ s p n. refl) refl c h (AtMost x) k kind.U64 ns p ok tt all
-big_row c h Any kind.U64 k ns p ok all = gapped-row CdrBig (λ s. refl) (λ n. tt) (λ s x. refl) (λ s p n. refl) refl c h Any k kind.U64 ns p ok tt all
+    rw (← octets_same CdrBig (inl refl) q ns all)
+    (free-row CdrBig (λ s. refl) (λ n. tt) (λ s x. refl) (λ s p n. refl) refl refl c h Any k kind.Octet ns p ok one_fits refl tt all)
+big_row c h (Exactly x) kind.I8 k ns p ok all =
+    fixed-row CdrBig (λ s. refl) (λ n. tt) (λ s x. refl) (λ s p n. refl) refl c h k kind.I8 x ns p ok all
+big_row c h (AtMost x) kind.I8 k ns p ok all =
+    free-row CdrBig (λ s. refl) (λ n. tt) (λ s x. refl) (λ s p n. refl) refl refl c h (AtMost x) k kind.I8 ns p ok one_fits refl tt all
+big_row c h Any kind.I8 k ns p ok all =
+    free-row CdrBig (λ s. refl) (λ n. tt) (λ s x. refl) (λ s p n. refl) refl refl c h Any k kind.I8 ns p ok one_fits refl tt all
+big_row c h (Exactly x) kind.U8 k ns p ok all =
+    fixed-row CdrBig (λ s. refl) (λ n. tt) (λ s x. refl) (λ s p n. refl) refl c h k kind.U8 x ns p ok all
+big_row c h (AtMost x) kind.U8 k ns p ok all =
+    free-row CdrBig (λ s. refl) (λ n. tt) (λ s x. refl) (λ s p n. refl) refl refl c h (AtMost x) k kind.U8 ns p ok one_fits refl tt all
+big_row c h Any kind.U8 k ns p ok all =
+    free-row CdrBig (λ s. refl) (λ n. tt) (λ s x. refl) (λ s p n. refl) refl refl c h Any k kind.U8 ns p ok one_fits refl tt all
+big_row c h (Exactly x) kind.Char k ns p ok all =
+    fixed-row CdrBig (λ s. refl) (λ n. tt) (λ s x. refl) (λ s p n. refl) refl c h k kind.Char x ns p ok all
+big_row c h (AtMost x) kind.Char k ns p ok all =
+    free-row CdrBig (λ s. refl) (λ n. tt) (λ s x. refl) (λ s p n. refl) refl refl c h (AtMost x) k kind.Char ns p ok one_fits refl tt all
+big_row c h Any kind.Char k ns p ok all =
+    free-row CdrBig (λ s. refl) (λ n. tt) (λ s x. refl) (λ s p n. refl) refl refl c h Any k kind.Char ns p ok one_fits refl tt all
+big_row c h (Exactly x) kind.Bool k ns p ok all =
+    fixed-row CdrBig (λ s. refl) (λ n. tt) (λ s x. refl) (λ s p n. refl) refl c h k kind.Bool x ns p ok all
+big_row c h (AtMost x) kind.Bool k ns p ok all =
+    free-row CdrBig (λ s. refl) (λ n. tt) (λ s x. refl) (λ s p n. refl) refl refl c h (AtMost x) k kind.Bool ns p ok one_fits refl tt all
+big_row c h Any kind.Bool k ns p ok all =
+    free-row CdrBig (λ s. refl) (λ n. tt) (λ s x. refl) (λ s p n. refl) refl refl c h Any k kind.Bool ns p ok one_fits refl tt all
+big_row c h (Exactly x) kind.I16 k ns p ok all =
+    fixed-row CdrBig (λ s. refl) (λ n. tt) (λ s x. refl) (λ s p n. refl) refl c h k kind.I16 x ns p ok all
+big_row c h (AtMost x) kind.I16 k ns p ok all =
+    free-row CdrBig (λ s. refl) (λ n. tt) (λ s x. refl) (λ s p n. refl) refl refl c h (AtMost x) k kind.I16 ns p ok two_fit refl tt all
+big_row c h Any kind.I16 k ns p ok all =
+    free-row CdrBig (λ s. refl) (λ n. tt) (λ s x. refl) (λ s p n. refl) refl refl c h Any k kind.I16 ns p ok two_fit refl tt all
+big_row c h (Exactly x) kind.U16 k ns p ok all =
+    fixed-row CdrBig (λ s. refl) (λ n. tt) (λ s x. refl) (λ s p n. refl) refl c h k kind.U16 x ns p ok all
+big_row c h (AtMost x) kind.U16 k ns p ok all =
+    free-row CdrBig (λ s. refl) (λ n. tt) (λ s x. refl) (λ s p n. refl) refl refl c h (AtMost x) k kind.U16 ns p ok two_fit refl tt all
+big_row c h Any kind.U16 k ns p ok all =
+    free-row CdrBig (λ s. refl) (λ n. tt) (λ s x. refl) (λ s p n. refl) refl refl c h Any k kind.U16 ns p ok two_fit refl tt all
+big_row c h (Exactly x) kind.I32 k ns p ok all =
+    fixed-row CdrBig (λ s. refl) (λ n. tt) (λ s x. refl) (λ s p n. refl) refl c h k kind.I32 x ns p ok all
+big_row c h (AtMost x) kind.I32 k ns p ok all =
+    free-row CdrBig (λ s. refl) (λ n. tt) (λ s x. refl) (λ s p n. refl) refl refl c h (AtMost x) k kind.I32 ns p ok four_fit refl tt all
+big_row c h Any kind.I32 k ns p ok all =
+    free-row CdrBig (λ s. refl) (λ n. tt) (λ s x. refl) (λ s p n. refl) refl refl c h Any k kind.I32 ns p ok four_fit refl tt all
+big_row c h (Exactly x) kind.U32 k ns p ok all =
+    fixed-row CdrBig (λ s. refl) (λ n. tt) (λ s x. refl) (λ s p n. refl) refl c h k kind.U32 x ns p ok all
+big_row c h (AtMost x) kind.U32 k ns p ok all =
+    free-row CdrBig (λ s. refl) (λ n. tt) (λ s x. refl) (λ s p n. refl) refl refl c h (AtMost x) k kind.U32 ns p ok four_fit refl tt all
+big_row c h Any kind.U32 k ns p ok all =
+    free-row CdrBig (λ s. refl) (λ n. tt) (λ s x. refl) (λ s p n. refl) refl refl c h Any k kind.U32 ns p ok four_fit refl tt all
+big_row c h (Exactly x) kind.I64 k ns p ok all =
+    fixed-row CdrBig (λ s. refl) (λ n. tt) (λ s x. refl) (λ s p n. refl) refl c h k kind.I64 x ns p ok all
+big_row c h (AtMost x) kind.I64 k ns p ok all =
+    gapped-row CdrBig (λ s. refl) (λ n. tt) (λ s x. refl) (λ s p n. refl) refl c h (AtMost x) k kind.I64 ns p ok tt all
+big_row c h Any kind.I64 k ns p ok all =
+    gapped-row CdrBig (λ s. refl) (λ n. tt) (λ s x. refl) (λ s p n. refl) refl c h Any k kind.I64 ns p ok tt all
+big_row c h (Exactly x) kind.U64 k ns p ok all =
+    fixed-row CdrBig (λ s. refl) (λ n. tt) (λ s x. refl) (λ s p n. refl) refl c h k kind.U64 x ns p ok all
+big_row c h (AtMost x) kind.U64 k ns p ok all =
+    gapped-row CdrBig (λ s. refl) (λ n. tt) (λ s x. refl) (λ s p n. refl) refl c h (AtMost x) k kind.U64 ns p ok tt all
+big_row c h Any kind.U64 k ns p ok all =
+    gapped-row CdrBig (λ s. refl) (λ n. tt) (λ s x. refl) (λ s p n. refl) refl c h Any k kind.U64 ns p ok tt all
 
 pub big_scalar : ScalarsSend CdrBig
 big_scalar = scalars-send CdrBig (λ s. refl) (λ n. tt) (λ s x. refl) (λ s p n. refl) refl
 
 pub big_array : ArraysSend CdrBig
 unfolding array_octets head_octets element_octets
-big_array c h (text b) k ns p typed few place = (tt, text-writes CdrBig (λ s. refl) (λ n. tt) (λ s x. refl) (λ s p n. refl) refl c h k ns p (letters_are_octets ns typed.2) few)
+big_array c h (text b) k ns p typed few place =
+    (tt, text-writes CdrBig (λ s. refl) (λ n. tt) (λ s x. refl) (λ s p n. refl) refl c h k ns p (letters_are_octets ns typed.2) few)
 big_array c h (row_of m b) k ns p typed few place = (tt, big_row c h b m k ns p typed.1 typed.2)
 
-little_row : (c : Calls) (h : Head) (b : Count) (m k : Kind) (ns : List ℤ) (p : ℕ) → Allows b (length ns) → IsTrue (list_all (in_range m) ns) → Writes (steps c h (array_code CdrLittle (row_of m b)) (row k ns)) p (array_octets CdrLittle (row_of m b) p ns)
+little_row : (c : Calls) (h : Head) (b : Count) (m k : Kind) (ns : List ℤ) (p : ℕ) → Allows b (length ns)
+    → IsTrue (list_all (in_range m) ns)
+    → Writes (steps c h (array_code CdrLittle (row_of m b)) (row k ns)) p (array_octets CdrLittle (row_of m b) p ns)
 unfolding array_octets head_octets element_octets count_octets
-little_row c h (Exactly x) kind.Octet k ns p ok all = rw (← octets_same CdrLittle (inr refl) (p + 0) ns all) (fixed-row CdrLittle (λ s. refl) (λ n. tt) (λ s x. refl) (λ s p n. refl) refl c h k kind.Octet x ns p ok all)
+little_row c h (Exactly x) kind.Octet k ns p ok all = rw (← octets_same CdrLittle (inr refl) (p + 0) ns all)
+    (fixed-row CdrLittle (λ s. refl) (λ n. tt) (λ s x. refl) (λ s p n. refl) refl c h k kind.Octet x ns p ok all)
 little_row c h (AtMost x) kind.Octet k ns p ok all =
     let q : ℕ = p + length (scalar_octets CdrLittle counted p (pos (length ns))) in
-    rw (← octets_same CdrLittle (inr refl) q ns all) (free-row CdrLittle (λ s. refl) (λ n. tt) (λ s x. refl) (λ s p n. refl) refl refl c h (AtMost x) k kind.Octet ns p ok one_fits refl tt all)
+    rw (← octets_same CdrLittle (inr refl) q ns all) (free-row CdrLittle (λ s. refl) (λ n. tt) (λ s x. refl) (λ s p n. refl) refl refl c h
+    (AtMost x) k kind.Octet ns p ok one_fits refl tt all)
 little_row c h Any kind.Octet k ns p ok all =
     let q : ℕ = p + length (scalar_octets CdrLittle counted p (pos (length ns))) in
-    rw (← octets_same CdrLittle (inr refl) q ns all) (free-row CdrLittle (λ s. refl) (λ n. tt) (λ s x. refl) (λ s p n. refl) refl refl c h Any k kind.Octet ns p ok one_fits refl tt all)
-little_row c h (Exactly x) kind.I8 k ns p ok all = fixed-row CdrLittle (λ s. refl) (λ n. tt) (λ s x. refl) (λ s p n. refl) refl c h k kind.I8 x ns p ok all
-little_row c h (AtMost x) kind.I8 k ns p ok all = free-row CdrLittle (λ s. refl) (λ n. tt) (λ s x. refl) (λ s p n. refl) refl refl c h (AtMost x) k kind.I8 ns p ok one_fits refl tt all
-little_row c h Any kind.I8 k ns p ok all = free-row CdrLittle (λ s. refl) (λ n. tt) (λ s x. refl) (λ s p n. refl) refl refl c h Any k kind.I8 ns p ok one_fits refl tt all
-little_row c h (Exactly x) kind.U8 k ns p ok all = fixed-row CdrLittle (λ s. refl) (λ n. tt) (λ s x. refl) (λ s p n. refl) refl c h k kind.U8 x ns p ok all
-little_row c h (AtMost x) kind.U8 k ns p ok all = free-row CdrLittle (λ s. refl) (λ n. tt) (λ s x. refl) (λ s p n. refl) refl refl c h (AtMost x) k kind.U8 ns p ok one_fits refl tt all
-little_row c h Any kind.U8 k ns p ok all = free-row CdrLittle (λ s. refl) (λ n. tt) (λ s x. refl) (λ s p n. refl) refl refl c h Any k kind.U8 ns p ok one_fits refl tt all
-little_row c h (Exactly x) kind.Char k ns p ok all = fixed-row CdrLittle (λ s. refl) (λ n. tt) (λ s x. refl) (λ s p n. refl) refl c h k kind.Char x ns p ok all
-little_row c h (AtMost x) kind.Char k ns p ok all = free-row CdrLittle (λ s. refl) (λ n. tt) (λ s x. refl) (λ s p n. refl) refl refl c h (AtMost x) k kind.Char ns p ok one_fits refl tt all
-little_row c h Any kind.Char k ns p ok all = free-row CdrLittle (λ s. refl) (λ n. tt) (λ s x. refl) (λ s p n. refl) refl refl c h Any k kind.Char ns p ok one_fits refl tt all
-little_row c h (Exactly x) kind.Bool k ns p ok all = fixed-row CdrLittle (λ s. refl) (λ n. tt) (λ s x. refl) (λ s p n. refl) refl c h k kind.Bool x ns p ok all
-little_row c h (AtMost x) kind.Bool k ns p ok all = free-row CdrLittle (λ s. refl) (λ n. tt) (λ s x. refl) (λ s p n. refl) refl refl c h (AtMost x) k kind.Bool ns p ok one_fits refl tt all
-little_row c h Any kind.Bool k ns p ok all = free-row CdrLittle (λ s. refl) (λ n. tt) (λ s x. refl) (λ s p n. refl) refl refl c h Any k kind.Bool ns p ok one_fits refl tt all
-little_row c h (Exactly x) kind.I16 k ns p ok all = fixed-row CdrLittle (λ s. refl) (λ n. tt) (λ s x. refl) (λ s p n. refl) refl c h k kind.I16 x ns p ok all
-little_row c h (AtMost x) kind.I16 k ns p ok all = free-row CdrLittle (λ s. refl) (λ n. tt) (λ s x. refl) (λ s p n. refl) refl refl c h (AtMost x) k kind.I16 ns p ok two_fit refl tt all
-little_row c h Any kind.I16 k ns p ok all = free-row CdrLittle (λ s. refl) (λ n. tt) (λ s x. refl) (λ s p n. refl) refl refl c h Any k kind.I16 ns p ok two_fit refl tt all
-little_row c h (Exactly x) kind.U16 k ns p ok all = fixed-row CdrLittle (λ s. refl) (λ n. tt) (λ s x. refl) (λ s p n. refl) refl c h k kind.U16 x ns p ok all
-little_row c h (AtMost x) kind.U16 k ns p ok all = free-row CdrLittle (λ s. refl) (λ n. tt) (λ s x. refl) (λ s p n. refl) refl refl c h (AtMost x) k kind.U16 ns p ok two_fit refl tt all
-little_row c h Any kind.U16 k ns p ok all = free-row CdrLittle (λ s. refl) (λ n. tt) (λ s x. refl) (λ s p n. refl) refl refl c h Any k kind.U16 ns p ok two_fit refl tt all
-little_row c h (Exactly x) kind.I32 k ns p ok all = fixed-row CdrLittle (λ s. refl) (λ n. tt) (λ s x. refl) (λ s p n. refl) refl c h k kind.I32 x ns p ok all
-little_row c h (AtMost x) kind.I32 k ns p ok all = free-row CdrLittle (λ s. refl) (λ n. tt) (λ s x. refl) (λ s p n. refl) refl refl c h (AtMost x) k kind.I32 ns p ok four_fit refl tt all
-little_row c h Any kind.I32 k ns p ok all = free-row CdrLittle (λ s. refl) (λ n. tt) (λ s x. refl) (λ s p n. refl) refl refl c h Any k kind.I32 ns p ok four_fit refl tt all
-little_row c h (Exactly x) kind.U32 k ns p ok all = fixed-row CdrLittle (λ s. refl) (λ n. tt) (λ s x. refl) (λ s p n. refl) refl c h k kind.U32 x ns p ok all
-little_row c h (AtMost x) kind.U32 k ns p ok all = free-row CdrLittle (λ s. refl) (λ n. tt) (λ s x. refl) (λ s p n. refl) refl refl c h (AtMost x) k kind.U32 ns p ok four_fit refl tt all
-little_row c h Any kind.U32 k ns p ok all = free-row CdrLittle (λ s. refl) (λ n. tt) (λ s x. refl) (λ s p n. refl) refl refl c h Any k kind.U32 ns p ok four_fit refl tt all
-little_row c h (Exactly x) kind.I64 k ns p ok all = fixed-row CdrLittle (λ s. refl) (λ n. tt) (λ s x. refl) (λ s p n. refl) refl c h k kind.I64 x ns p ok all
-little_row c h (AtMost x) kind.I64 k ns p ok all = gapped-row CdrLittle (λ s. refl) (λ n. tt) (λ s x. refl) (λ s p n. refl) refl c h (AtMost x) k kind.I64 ns p ok tt all
-little_row c h Any kind.I64 k ns p ok all = gapped-row CdrLittle (λ s. refl) (λ n. tt) (λ s x. refl) (λ s p n. refl) refl c h Any k kind.I64 ns p ok tt all
-little_row c h (Exactly x) kind.U64 k ns p ok all = fixed-row CdrLittle (λ s. refl) (λ n. tt) (λ s x. refl) (λ s p n. refl) refl c h k kind.U64 x ns p ok all
-little_row c h (AtMost x) kind.U64 k ns p ok all = gapped-row CdrLittle (λ s. refl) (λ n. tt) (λ s x. refl) (λ s p n. refl) refl c h (AtMost x) k kind.U64 ns p ok tt all
-little_row c h Any kind.U64 k ns p ok all = gapped-row CdrLittle (λ s. refl) (λ n. tt) (λ s x. refl) (λ s p n. refl) refl c h Any k kind.U64 ns p ok tt all
+    rw (← octets_same CdrLittle (inr refl) q ns all)
+    (free-row CdrLittle (λ s. refl) (λ n. tt) (λ s x. refl) (λ s p n. refl) refl refl c h Any k kind.Octet ns p ok one_fits refl tt all)
+little_row c h (Exactly x) kind.I8 k ns p ok all =
+    fixed-row CdrLittle (λ s. refl) (λ n. tt) (λ s x. refl) (λ s p n. refl) refl c h k kind.I8 x ns p ok all
+little_row c h (AtMost x) kind.I8 k ns p ok all =
+    free-row CdrLittle (λ s. refl) (λ n. tt) (λ s x. refl) (λ s p n. refl) refl refl c h (AtMost x) k kind.I8 ns p ok one_fits refl tt all
+little_row c h Any kind.I8 k ns p ok all =
+    free-row CdrLittle (λ s. refl) (λ n. tt) (λ s x. refl) (λ s p n. refl) refl refl c h Any k kind.I8 ns p ok one_fits refl tt all
+little_row c h (Exactly x) kind.U8 k ns p ok all =
+    fixed-row CdrLittle (λ s. refl) (λ n. tt) (λ s x. refl) (λ s p n. refl) refl c h k kind.U8 x ns p ok all
+little_row c h (AtMost x) kind.U8 k ns p ok all =
+    free-row CdrLittle (λ s. refl) (λ n. tt) (λ s x. refl) (λ s p n. refl) refl refl c h (AtMost x) k kind.U8 ns p ok one_fits refl tt all
+little_row c h Any kind.U8 k ns p ok all =
+    free-row CdrLittle (λ s. refl) (λ n. tt) (λ s x. refl) (λ s p n. refl) refl refl c h Any k kind.U8 ns p ok one_fits refl tt all
+little_row c h (Exactly x) kind.Char k ns p ok all =
+    fixed-row CdrLittle (λ s. refl) (λ n. tt) (λ s x. refl) (λ s p n. refl) refl c h k kind.Char x ns p ok all
+little_row c h (AtMost x) kind.Char k ns p ok all =
+    free-row CdrLittle (λ s. refl) (λ n. tt) (λ s x. refl) (λ s p n. refl) refl refl c h (AtMost x) k kind.Char ns p ok one_fits refl tt all
+little_row c h Any kind.Char k ns p ok all =
+    free-row CdrLittle (λ s. refl) (λ n. tt) (λ s x. refl) (λ s p n. refl) refl refl c h Any k kind.Char ns p ok one_fits refl tt all
+little_row c h (Exactly x) kind.Bool k ns p ok all =
+    fixed-row CdrLittle (λ s. refl) (λ n. tt) (λ s x. refl) (λ s p n. refl) refl c h k kind.Bool x ns p ok all
+little_row c h (AtMost x) kind.Bool k ns p ok all =
+    free-row CdrLittle (λ s. refl) (λ n. tt) (λ s x. refl) (λ s p n. refl) refl refl c h (AtMost x) k kind.Bool ns p ok one_fits refl tt all
+little_row c h Any kind.Bool k ns p ok all =
+    free-row CdrLittle (λ s. refl) (λ n. tt) (λ s x. refl) (λ s p n. refl) refl refl c h Any k kind.Bool ns p ok one_fits refl tt all
+little_row c h (Exactly x) kind.I16 k ns p ok all =
+    fixed-row CdrLittle (λ s. refl) (λ n. tt) (λ s x. refl) (λ s p n. refl) refl c h k kind.I16 x ns p ok all
+little_row c h (AtMost x) kind.I16 k ns p ok all =
+    free-row CdrLittle (λ s. refl) (λ n. tt) (λ s x. refl) (λ s p n. refl) refl refl c h (AtMost x) k kind.I16 ns p ok two_fit refl tt all
+little_row c h Any kind.I16 k ns p ok all =
+    free-row CdrLittle (λ s. refl) (λ n. tt) (λ s x. refl) (λ s p n. refl) refl refl c h Any k kind.I16 ns p ok two_fit refl tt all
+little_row c h (Exactly x) kind.U16 k ns p ok all =
+    fixed-row CdrLittle (λ s. refl) (λ n. tt) (λ s x. refl) (λ s p n. refl) refl c h k kind.U16 x ns p ok all
+little_row c h (AtMost x) kind.U16 k ns p ok all =
+    free-row CdrLittle (λ s. refl) (λ n. tt) (λ s x. refl) (λ s p n. refl) refl refl c h (AtMost x) k kind.U16 ns p ok two_fit refl tt all
+little_row c h Any kind.U16 k ns p ok all =
+    free-row CdrLittle (λ s. refl) (λ n. tt) (λ s x. refl) (λ s p n. refl) refl refl c h Any k kind.U16 ns p ok two_fit refl tt all
+little_row c h (Exactly x) kind.I32 k ns p ok all =
+    fixed-row CdrLittle (λ s. refl) (λ n. tt) (λ s x. refl) (λ s p n. refl) refl c h k kind.I32 x ns p ok all
+little_row c h (AtMost x) kind.I32 k ns p ok all =
+    free-row CdrLittle (λ s. refl) (λ n. tt) (λ s x. refl) (λ s p n. refl) refl refl c h (AtMost x) k kind.I32 ns p ok four_fit refl tt all
+little_row c h Any kind.I32 k ns p ok all =
+    free-row CdrLittle (λ s. refl) (λ n. tt) (λ s x. refl) (λ s p n. refl) refl refl c h Any k kind.I32 ns p ok four_fit refl tt all
+little_row c h (Exactly x) kind.U32 k ns p ok all =
+    fixed-row CdrLittle (λ s. refl) (λ n. tt) (λ s x. refl) (λ s p n. refl) refl c h k kind.U32 x ns p ok all
+little_row c h (AtMost x) kind.U32 k ns p ok all =
+    free-row CdrLittle (λ s. refl) (λ n. tt) (λ s x. refl) (λ s p n. refl) refl refl c h (AtMost x) k kind.U32 ns p ok four_fit refl tt all
+little_row c h Any kind.U32 k ns p ok all =
+    free-row CdrLittle (λ s. refl) (λ n. tt) (λ s x. refl) (λ s p n. refl) refl refl c h Any k kind.U32 ns p ok four_fit refl tt all
+little_row c h (Exactly x) kind.I64 k ns p ok all =
+    fixed-row CdrLittle (λ s. refl) (λ n. tt) (λ s x. refl) (λ s p n. refl) refl c h k kind.I64 x ns p ok all
+little_row c h (AtMost x) kind.I64 k ns p ok all =
+    gapped-row CdrLittle (λ s. refl) (λ n. tt) (λ s x. refl) (λ s p n. refl) refl c h (AtMost x) k kind.I64 ns p ok tt all
+little_row c h Any kind.I64 k ns p ok all =
+    gapped-row CdrLittle (λ s. refl) (λ n. tt) (λ s x. refl) (λ s p n. refl) refl c h Any k kind.I64 ns p ok tt all
+little_row c h (Exactly x) kind.U64 k ns p ok all =
+    fixed-row CdrLittle (λ s. refl) (λ n. tt) (λ s x. refl) (λ s p n. refl) refl c h k kind.U64 x ns p ok all
+little_row c h (AtMost x) kind.U64 k ns p ok all =
+    gapped-row CdrLittle (λ s. refl) (λ n. tt) (λ s x. refl) (λ s p n. refl) refl c h (AtMost x) k kind.U64 ns p ok tt all
+little_row c h Any kind.U64 k ns p ok all =
+    gapped-row CdrLittle (λ s. refl) (λ n. tt) (λ s x. refl) (λ s p n. refl) refl c h Any k kind.U64 ns p ok tt all
 
 pub little_scalar : ScalarsSend CdrLittle
 little_scalar = scalars-send CdrLittle (λ s. refl) (λ n. tt) (λ s x. refl) (λ s p n. refl) refl
 
 pub little_array : ArraysSend CdrLittle
 unfolding array_octets head_octets element_octets
-little_array c h (text b) k ns p typed few place = (tt, text-writes CdrLittle (λ s. refl) (λ n. tt) (λ s x. refl) (λ s p n. refl) refl c h k ns p (letters_are_octets ns typed.2) few)
+little_array c h (text b) k ns p typed few place =
+    (tt, text-writes CdrLittle (λ s. refl) (λ n. tt) (λ s x. refl) (λ s p n. refl) refl c h k ns p (letters_are_octets ns typed.2) few)
 little_array c h (row_of m b) k ns p typed few place = (tt, little_row c h b m k ns p typed.1 typed.2)

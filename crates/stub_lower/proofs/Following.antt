@@ -73,7 +73,7 @@ heads CdrLittle (text c) = scalar-few CdrLittle counted (length_put CdrLittle 1)
 heads CdrLittle (row_of k c) = row-few CdrLittle (element_width CdrLittle (row_of k c)) c
 heads Mach a = described-few (count_of a) (number (kind_of a))
 
--- what stands behind elements, and a turn, which is one number where the array may go as a block; both have room beside a head
+-- what comes after elements, and a turn, which is one number where the array may go as a block; both have room beside a head
 record Rest (e : Encoding) (a : Array) : Type 0 where
   turn : ℕ
   turn_is : flat (turn_code e a) ≡ Some turn
@@ -97,40 +97,62 @@ filled true = (1, refl, omega arith)
 filled false = (0, refl, omega arith)
 
 rests : (e : Encoding) (a : Array) → Rest e a
-rests Xdr a = let f = filled (is_octets a) in record { turn = 1; turn_is = refl; behind = f.0; behind_is = f.1; few = (omega arith, omega (arith, f.2)); single = refl }
+rests Xdr a =
+    let f = filled (is_octets a) in
+    record { turn = 1; turn_is = refl; behind = f.0; behind_is = f.1; few = (omega arith, omega (arith, f.2)); single = refl }
 rests CdrBig (text c) = record { turn = 1; turn_is = refl; behind = 1; behind_is = refl; few = (omega arith, omega arith); single = refl }
 rests CdrBig (row_of k c) =
     let t = gapped-turn CdrBig (element_width CdrBig (row_of k c)) (is_gapped (row_of k c)) in
     record { turn = t.many; turn_is = t.is; behind = 0; behind_is = refl; few = (t.few.0, omega (arith, t.few.1)); single = t.single }
-rests CdrLittle (text c) = record { turn = 1; turn_is = refl; behind = 1; behind_is = refl; few = (omega arith, omega arith); single = refl }
+rests CdrLittle (text c) =
+    record { turn = 1; turn_is = refl; behind = 1; behind_is = refl; few = (omega arith, omega arith); single = refl }
 rests CdrLittle (row_of k c) =
     let t = gapped-turn CdrLittle (element_width CdrLittle (row_of k c)) (is_gapped (row_of k c)) in
     record { turn = t.many; turn_is = t.is; behind = 0; behind_is = refl; few = (t.few.0, omega (arith, t.few.1)); single = t.single }
-rests Mach a = let f = filled (nat_lt (element_width Mach a) 4) in record { turn = 1; turn_is = refl; behind = f.0; behind_is = f.1; few = (omega arith, omega (arith, f.2)); single = refl }
+rests Mach a =
+    let f = filled (nat_lt (element_width Mach a) 4) in
+    record { turn = 1; turn_is = refl; behind = f.0; behind_is = f.1; few = (omega arith, omega (arith, f.2)); single = refl }
 
 pub turned : (e : Encoding) (a : Array) → IsTurned (layout_of e) a [] (array_code e a)
 turned e a =
     let h = heads e a in
-    let r = rests e a in
-    (head_code e a, turn_code e a, behind_code e a, h.0, r.turn, r.behind, refl, h.1, r.turn_is, r.behind_is, omega (arith, r.few.1), omega (arith, h.2, r.few.0, r.few.1), r.single)
+    let r = rests e a in (
+      head_code e a,
+      turn_code e a,
+      behind_code e a,
+      h.0,
+      r.turn,
+      r.behind,
+      refl,
+      h.1,
+      r.turn_is,
+      r.behind_is,
+      omega (arith, r.few.1),
+      omega (arith, h.2, r.few.0, r.few.1),
+      r.single,
+    )
 
 pub loops : (e : Encoding) (a : Array) → IsLoop [] (array_code e a)
 loops e a = let t = turned e a in (t.0, t.1, t.2, t.3, t.4, t.5, t.6, t.7, t.8, t.9, t.10, t.11)
 
 -- ---- a node, over codes that follow its parts, its rows and texts being such loops
 
-module _ (e : Encoding) (L : Loops) (array : (a : Array) → L a [] (array_code e a)) (subs : ℕ → Option Block) (us : List Ty) (b : ℕ) (child : (i : ℕ) → i < b → (code : Block) × (subs i ≡ Some code) × FollowsBy L subs (at us i) i [] code) where
+module _ (e : Encoding) (L : Loops) (array : (a : Array) → L a [] (array_code e a)) (subs : ℕ → Option Block) (us : List Ty) (b : ℕ)
+    (child : (i : ℕ) → i < b → (code : Block) × (subs i ≡ Some code) × FollowsBy L subs (at us i) i [] code) where
   called : (i : ℕ) (p : List ℕ) → i < b → Child subs (FollowsBy L subs (at us i)) b p (call i p stop)
   called i p lt = let c = child i lt in inr (i, c.0, refl, lt, c.1, c.2)
 
   fields-follow : (is : List ℕ) (j : ℕ) → AreBelow b is → FieldsFollowBy L subs (fields_at us is) j b [] (calls_from j is)
   fields-follow [] j below = refl
-  fields-follow (i ∷ is) j below = (call i (j ∷ []) stop, calls_from (suc j) is, refl, called i (j ∷ []) below.0, fields-follow is (suc j) below.1)
+  fields-follow (i ∷ is) j below =
+      (call i (j ∷ []) stop, calls_from (suc j) is, refl, called i (j ∷ []) below.0, fields-follow is (suc j) below.1)
 
-  arms-follow : (arms : List (ℤ × ℕ)) (other : Option ℕ) → ArmsBelow b arms → IsBelow b other → ArmsFollowBy L subs (arms_at us arms other) b (cases_at arms other)
+  arms-follow : (arms : List (ℤ × ℕ)) (other : Option ℕ) → ArmsBelow b arms → IsBelow b other
+      → ArmsFollowBy L subs (arms_at us arms other) b (cases_at arms other)
   arms-follow [] None below last = refl
   arms-follow [] (Some i) below last = (call_here i, refl, called i [] last)
-  arms-follow (a ∷ arms) other below last = (call_here a.1, cases_at arms other, refl, called a.1 [] below.0, arms-follow arms other below.1 last)
+  arms-follow (a ∷ arms) other below last =
+      (call_here a.1, cases_at arms other, refl, called a.1 [] below.0, arms-follow arms other below.1 last)
 
   pub node-follows : (m : Node) → HasChildrenBelow b m → FollowsBy L subs (level us m) b [] (node_code e m)
   node-follows node.Void below = (0, refl, omega arith)
@@ -140,5 +162,12 @@ module _ (e : Encoding) (L : Loops) (array : (a : Array) → L a [] (array_code 
   node-follows (node.Row k c) below = array (row_of k c)
   node-follows (node.Group ids) below = fields-follow ids 0 below
   node-follows (node.Items i c) below = (count_code e c, call_here i, refl, counts e c, called i [] below)
-  node-follows (node.Choice t arms other) below = (tag_code e (scalar_of t), cases_at arms other, refl, flat_scalar e (scalar_of t) (put.Tag (number_at e) [] (scalar_width e (scalar_of t)) (order_of e)), arms-follow arms other below.0 below.1)
-  node-follows (node.Maybe i) below = (flag_code e, call_here i, refl, flat_scalar e flag (put.Flag (number_at e) [] (scalar_width e flag) (order_of e)), called i [] below)
+  node-follows (node.Choice t arms other) below = (
+    tag_code e (scalar_of t),
+    cases_at arms other,
+    refl,
+    flat_scalar e (scalar_of t) (put.Tag (number_at e) [] (scalar_width e (scalar_of t)) (order_of e)),
+    arms-follow arms other below.0 below.1,
+  )
+  node-follows (node.Maybe i) below =
+      (flag_code e, call_here i, refl, flat_scalar e flag (put.Flag (number_at e) [] (scalar_width e flag) (order_of e)), called i [] below)

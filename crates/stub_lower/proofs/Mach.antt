@@ -52,21 +52,28 @@ over_first [] (o ∷ os) back same = absurd cc
 over_first (m ∷ mid) [] back same = absurd cc
 over_first (m ∷ mid) (o ∷ os) back same = ap (option_map (λ ds. Some o ∷ ds)) (over_first mid os back (omega (arith, same)))
 
-placed_over : (front mid back os : List ℕ) → length os ≡ length mid → placed (length front) os (map Some (front ++ (mid ++ back))) ≡ Some (map Some (front ++ (os ++ back)))
+placed_over : (front mid back os : List ℕ) → length os ≡ length mid
+    → placed (length front) os (map Some (front ++ (mid ++ back))) ≡ Some (map Some (front ++ (os ++ back)))
 placed_over [] mid back os same = over_first mid os back same
 placed_over (x ∷ front) mid back os same = ap (option_map (λ ds. Some x ∷ ds)) (placed_over front mid back os same)
 
-pair-writes : (size : ℕ) (a x : Put) (h : Head) (v : Val) (front mid back os : List ℕ) (p : ℕ) → offset a ≡ 0 → put_octets h a v ≡ Some (front ++ (mid ++ back)) → offset x ≡ length front → put_octets h x v ≡ Some os
-    → length os ≡ length mid → length (front ++ (mid ++ back)) ≡ size → Writes (chunk_steps size (a ∷ x ∷ []) h v) p (front ++ (os ++ back))
+pair-writes : (size : ℕ) (a x : Put) (h : Head) (v : Val) (front mid back os : List ℕ) (p : ℕ) → offset a ≡ 0
+    → put_octets h a v ≡ Some (front ++ (mid ++ back)) → offset x ≡ length front → put_octets h x v ≡ Some os → length os ≡ length mid
+    → length (front ++ (mid ++ back)) ≡ size
+    → Writes (chunk_steps size (a ∷ x ∷ []) h v) p (front ++ (os ++ back))
 pair-writes size a x h v front mid back os p first is second x_is same long base before at =
     subst (λ (k : ℕ). on_some (chunk_steps k (a ∷ x ∷ []) h v) (wrote base before) ≡ Some (before ++ (front ++ (os ++ back)))) long
-    (rw (is, first, placed_whole (front ++ (mid ++ back)), x_is, second, placed_over front mid back os same, full_whole (front ++ (os ++ back))) refl)
+    (rw
+    (is, first, placed_whole (front ++ (mid ++ back)), x_is, second, placed_over front mid back os same, full_whole (front ++ (os ++ back)))
+    refl)
 
 -- ---- items
 
 replicate_sum : (a b : ℕ) → replicate {A = ℕ} (a + b) 0 ≡ replicate a 0 ++ replicate b 0
 replicate_sum zero b = let none : 0 + b ≡ b = omega arith in ap (λ (n : ℕ). replicate n 0) none
-replicate_sum (suc a) b = let more : suc a + b ≡ suc (a + b) = omega arith in ap (λ (n : ℕ). replicate n 0) more ∙ ap (λ (l : List ℕ). 0 ∷ l) (replicate_sum a b)
+replicate_sum (suc a) b =
+    let more : suc a + b ≡ suc (a + b) = omega arith in
+    ap (λ (n : ℕ). replicate n 0) more ∙ ap (λ (l : List ℕ). 0 ∷ l) (replicate_sum a b)
 
 -- over Mach a scalar has no gap
 bare_octets : (s : Scalar) (p : ℕ) (n : ℤ) → scalar_octets Mach s p n ≡ number_octets Mach (width_of Mach s) (residue (width_of Mach s) n)
@@ -84,17 +91,21 @@ mach_scalar c h s n x v p typed first is place =
     let front : List ℕ = le 4 (scalar_word s) in
     let mid : List ℕ = replicate (scalar_width Mach s) 0 in
     let back : List ℕ = replicate (filling s) 0 in
-    let blank : item_octets s ≡ front ++ (mid ++ back) = ap (λ (l : List ℕ). front ++ l) (replicate_sum (scalar_width Mach s) (filling s)) in
+    let blank : item_octets s ≡ front ++ (mid ++ back) =
+    ap (λ (l : List ℕ). front ++ l) (replicate_sum (scalar_width Mach s) (filling s)) in
     let same : length os ≡ length mid = bare_long s n ∙ sym (length-replicate {A = ℕ} (scalar_width Mach s) 0) in
-    let long : length (front ++ (mid ++ back)) ≡ 4 + item_rest s = ap length (sym blank) ∙ length-append front (replicate {A = ℕ} (item_rest s) 0) ∙ ap (λ (k : ℕ). 4 + k) (length-replicate {A = ℕ} (item_rest s) 0) in
+    let long : length (front ++ (mid ++ back)) ≡ 4 + item_rest s = ap length (sym blank)
+    ∙ length-append front (replicate {A = ℕ} (item_rest s) 0) ∙ ap (λ (k : ℕ). 4 + k) (length-replicate {A = ℕ} (item_rest s) 0) in
     let sent : front ++ (os ++ back) ≡ lone_octets Mach s p n = ap (λ (l : List ℕ). front ++ (l ++ back)) (sym (bare_octets s (p + 4) n)) in
     let size : length (front ++ (os ++ back)) ≡ 4 + item_rest s =
-    length-append front (os ++ back) ∙ ap (λ (k : ℕ). 4 + k) (length-append os back ∙ ap (λ (k : ℕ). k + length back) (bare_long s n) ∙ ap (λ (k : ℕ). scalar_width Mach s + k) (length-replicate {A = ℕ} (filling s) 0)) in
+    length-append front (os ++ back) ∙ ap (λ (k : ℕ). 4 + k) (length-append os back ∙ ap (λ (k : ℕ). k + length back) (bare_long s n)
+    ∙ ap (λ (k : ℕ). scalar_width Mach s + k) (length-replicate {A = ℕ} (filling s) 0)) in
     let whole : (4 + item_rest s) % 4 ≡ 0 = omega (arith, rest_whole s) in (
       subst (λ (o : List ℕ). IsPlace Mach (length o)) sent (subst (IsPlace Mach) (sym size) whole),
       writes_same (steps c h (item_code s x) v) p (front ++ (os ++ back)) (lone_octets Mach s p n) sent
           (writes_stop (chunk_steps (4 + item_rest s) (put.Const 0 (item_octets s) ∷ x ∷ []) h v) p (front ++ (os ++ back))
-          (pair-writes (4 + item_rest s) (put.Const 0 (item_octets s)) x h v front mid back os p refl (ap Some blank) first (is ∙ words.scalar_word Mach s n typed) same long)),
+          (pair-writes (4 + item_rest s) (put.Const 0 (item_octets s)) x h v front mid back os p refl (ap Some blank) first
+          (is ∙ words.scalar_word Mach s n typed) same long)),
     )
 
 -- ---- descriptors
@@ -104,12 +115,18 @@ descriptor_is name bits n h j few =
     let same : name + bits * 256 + n * 65536 + 268435456 ≡ short_word name bits n = omega arith in
     rw (lt-ltb name 256 h, lt-ltb bits 256 j, lt-ltb n 4096 (omega (arith, few))) (ap (λ (w : ℕ). Some (le 4 w)) same)
 
--- a number of elements that the count allows has few units, where a short descriptor stands
+-- a number of elements that the count allows has few units, where the descriptor is short
 few_units : (c : Count) (s : Scalar) (n : ℕ) → is_long c s ≡ false → Allows c n → n * units_of s ≤ 4095
 few_units c s n short ok = either c short ok (units s) where
   less : (m : ℕ) → n ≤ m → nat_lt 4095 (m * units_of s) ≡ false → Units s → n * units_of s ≤ 4095
-  less m le is (single u w k) = let top = ltb-false 4095 (m * units_of s) is in let one : m * 1 ≤ 4095 = subst (λ (z : ℕ). m * z ≤ 4095) u top in rw u (omega (arith, le, one))
-  less m le is (twice u w k) = let top = ltb-false 4095 (m * units_of s) is in let two : m * 2 ≤ 4095 = subst (λ (z : ℕ). m * z ≤ 4095) u top in rw u (omega (arith, le, two))
+  less m le is (single u w k) =
+      let top = ltb-false 4095 (m * units_of s) is in
+      let one : m * 1 ≤ 4095 = subst (λ (z : ℕ). m * z ≤ 4095) u top in
+      rw u (omega (arith, le, one))
+  less m le is (twice u w k) =
+      let top = ltb-false 4095 (m * units_of s) is in
+      let two : m * 2 ≤ 4095 = subst (λ (z : ℕ). m * z ≤ 4095) u top in
+      rw u (omega (arith, le, two))
 
   either : (c : Count) → is_long c s ≡ false → Allows c n → Units s → n * units_of s ≤ 4095
   either (Exactly m) is ok u = less m (omega (arith, ok)) is u
@@ -123,7 +140,8 @@ many_units s n few = either (units s) where
   either (twice u w k) = rw u (omega (arith, few))
 
 -- the last 8 octets of a long descriptor, name and size apart from the number
-long_split : (name bits m : ℕ) → name < 256 → bits < 256 → m < 4294967296 → le 4 (long_words name bits 0) ++ le 4 m ≡ le 8 (long_words name bits m)
+long_split : (name bits m : ℕ) → name < 256 → bits < 256 → m < 4294967296
+    → le 4 (long_words name bits 0) ++ le 4 m ≡ le 8 (long_words name bits m)
 long_split name bits m h j few =
     let x : ℕ = long_words name bits m in
     let y : ℕ = long_words name bits 0 in
@@ -140,28 +158,40 @@ long_split name bits m h j few =
 short-sends : (c : Calls) (h : Head) (b : Count) (s : Scalar) (k : Kind) (ns : List ℤ) (p : ℕ) → is_long b s ≡ false → Allows b (length ns)
     → Writes (steps c h (short_code s) (row k ns)) p (le 4 (short_word (unit_name s) (unit_bits s) (length ns * units_of s)))
 short-sends c h b s k ns p short ok =
-    writes_stop (chunk_steps 4 (put.Short 0 [] (unit_name s) (unit_bits s) (units_of s) ∷ []) h (row k ns)) p (le 4 (short_word (unit_name s) (unit_bits s) (length ns * units_of s)))
-    (put-writes 4 (put.Short 0 [] (unit_name s) (unit_bits s) (units_of s)) h (row k ns) (le 4 (short_word (unit_name s) (unit_bits s) (length ns * units_of s))) p refl
-    (descriptor_is (unit_name s) (unit_bits s) (length ns * units_of s) (name_small s) (bits_small s) (few_units b s (length ns) short ok)) refl)
+    writes_stop (chunk_steps 4 (put.Short 0 [] (unit_name s) (unit_bits s) (units_of s) ∷ []) h (row k ns)) p
+    (le 4 (short_word (unit_name s) (unit_bits s) (length ns * units_of s)))
+    (put-writes 4 (put.Short 0 [] (unit_name s) (unit_bits s) (units_of s)) h (row k ns)
+    (le 4 (short_word (unit_name s) (unit_bits s) (length ns * units_of s))) p refl
+    (descriptor_is (unit_name s) (unit_bits s) (length ns * units_of s) (name_small s) (bits_small s) (few_units b s (length ns) short ok))
+    refl)
 
 long-sends : (c : Calls) (h : Head) (s : Scalar) (k : Kind) (ns : List ℤ) (p : ℕ) → length ns < 268435456
-    → Writes (steps c h (long_code s) (row k ns)) p (le 4 long_mark ++ le 8 (long_words (unit_name s) (unit_bits s) (length ns * units_of s)))
+    → Writes (steps c h (long_code s) (row k ns)) p
+    (le 4 long_mark ++ le 8 (long_words (unit_name s) (unit_bits s) (length ns * units_of s)))
 unfolding long_octets
 long-sends c h s k ns p few base before at =
     let m : ℕ = length ns * units_of s in
     let none : m + 0 ≡ m = omega arith in
     let small : m < 4294967296 = many_units s (length ns) few in
     let wrapped : m % 4294967296 ≡ m = omega (arith, small) in
-    let count : word 4 Little (pos (m + 0)) ≡ Some (le 4 m) = ap (λ (z : ℕ). word 4 Little (pos z)) none ∙ words.scalar_word Mach counted (pos m) (lt-ltb m 4294967296 small) ∙ ap (λ (z : ℕ). Some (le 4 z)) wrapped in
+    let count : word 4 Little (pos (m + 0)) ≡ Some (le 4 m) = ap (λ (z : ℕ). word 4 Little (pos z)) none
+    ∙ words.scalar_word Mach counted (pos m) (lt-ltb m 4294967296 small) ∙ ap (λ (z : ℕ). Some (le 4 z)) wrapped in
     rw (count, ← long_split (unit_name s) (unit_bits s) m (name_small s) (bits_small s) small) refl
 
-described-sends : (c : Calls) (h : Head) (b : Count) (s : Scalar) (k : Kind) (ns : List ℤ) (p : ℕ) → Allows b (length ns) → length ns < 268435456
-    → (length (described_octets b s (length ns)) % 4 ≡ 0) × Writes (steps c h (described_code b s) (row k ns)) p (described_octets b s (length ns))
+described-sends : (c : Calls) (h : Head) (b : Count) (s : Scalar) (k : Kind) (ns : List ℤ) (p : ℕ) → Allows b (length ns)
+    → length ns < 268435456
+    → (length (described_octets b s (length ns)) % 4 ≡ 0)
+    × Writes (steps c h (described_code b s) (row k ns)) p (described_octets b s (length ns))
 unfolding described_octets
 described-sends c h b s k ns p ok few = either (is_long b s) refl where
   either : (long : Bool) → is_long b s ≡ long
-      → (length (if long then le 4 long_mark ++ le 8 (long_words (unit_name s) (unit_bits s) (length ns * units_of s)) else le 4 (short_word (unit_name s) (unit_bits s) (length ns * units_of s))) % 4 ≡ 0)
-      × Writes (steps c h (if long then long_code s else short_code s) (row k ns)) p (if long then le 4 long_mark ++ le 8 (long_words (unit_name s) (unit_bits s) (length ns * units_of s)) else le 4 (short_word (unit_name s) (unit_bits s) (length ns * units_of s)))
+      →
+      (length (if long then le 4 long_mark ++ le 8 (long_words (unit_name s) (unit_bits s) (length ns * units_of s)) else le 4
+      (short_word (unit_name s) (unit_bits s) (length ns * units_of s))) % 4
+      ≡ 0)
+      × Writes (steps c h (if long then long_code s else short_code s) (row k ns)) p
+      (if long then le 4 long_mark ++ le 8 (long_words (unit_name s) (unit_bits s) (length ns * units_of s)) else le 4
+      (short_word (unit_name s) (unit_bits s) (length ns * units_of s)))
   either true is = (refl, long-sends c h s k ns p few)
   either false is = (refl, short-sends c h b s k ns p is ok)
 
@@ -170,8 +200,10 @@ described-sends c h b s k ns p ok few = either (is_long b s) refl where
 abbrev octet_one : ℕ → ℤ → List ℕ
 octet_one p n = natural n ∷ []
 
-octet-writes : (c : Calls) (h : Head) (n : ℤ) (q : ℕ) → IsTrue (in_range kind.Octet n) → Writes (steps c h (number_chunk Mach 1) (num n)) q (octet_one q n)
-octet-writes c h (pos n) q typed = writes_stop (chunk_steps 1 (number_put Mach 1 ∷ []) h (num (pos n))) q (n ∷ []) (put-writes 1 (number_put Mach 1) h (num (pos n)) (n ∷ []) q refl (word-octet Little n (ltb-true n 256 typed)) refl)
+octet-writes : (c : Calls) (h : Head) (n : ℤ) (q : ℕ) → IsTrue (in_range kind.Octet n)
+    → Writes (steps c h (number_chunk Mach 1) (num n)) q (octet_one q n)
+octet-writes c h (pos n) q typed = writes_stop (chunk_steps 1 (number_put Mach 1 ∷ []) h (num (pos n))) q (n ∷ [])
+    (put-writes 1 (number_put Mach 1) h (num (pos n)) (n ∷ []) q refl (word-octet Little n (ltb-true n 256 typed)) refl)
 octet-writes c h (negsuc n) q typed = absurd (none n typed) where
   none : (m : ℕ) → IsTrue (nat_lt m 0) → ⊥
   none m t = omega (arith, ltb-true m 0 t)
@@ -181,22 +213,28 @@ number-writes : (c : Calls) (h : Head) (k : Kind) (n : ℤ) (q : ℕ) → IsTrue
 number-writes c h k n q typed =
     let os : List ℕ = number_octets Mach (width_of Mach (number k)) (residue (width_of Mach (number k)) n) in
     let x = number_put Mach (scalar_width Mach (number k)) in
-    writes_same (steps c h (number_chunk Mach (scalar_width Mach (number k))) (num n)) q os (scalar_octets Mach (number k) q n) (sym (bare_octets (number k) q n))
-    (writes_stop (chunk_steps (scalar_width Mach (number k)) (x ∷ []) h (num n)) q os (put-writes (scalar_width Mach (number k)) x h (num n) os q refl (words.scalar_word Mach (number k) n typed) (bare_long (number k) n)))
+    writes_same (steps c h (number_chunk Mach (scalar_width Mach (number k))) (num n)) q os (scalar_octets Mach (number k) q n)
+    (sym (bare_octets (number k) q n))
+    (writes_stop (chunk_steps (scalar_width Mach (number k)) (x ∷ []) h (num n)) q os
+    (put-writes (scalar_width Mach (number k)) x h (num n) os q refl (words.scalar_word Mach (number k) n typed) (bare_long (number k) n)))
 
-numbers_long : (k : Kind) (p : ℕ) (ns : List ℤ) → length (elements_octets (scalar_octets Mach (number k)) p ns) ≡ along (length ns) (scalar_width Mach (number k))
+numbers_long : (k : Kind) (p : ℕ) (ns : List ℤ)
+    → length (elements_octets (scalar_octets Mach (number k)) p ns) ≡ along (length ns) (scalar_width Mach (number k))
 unfolding elements_octets
 numbers_long k p [] = refl
 numbers_long k p (n ∷ ns) =
-    length-append (scalar_octets Mach (number k) p n) (elements_octets (scalar_octets Mach (number k)) (p + length (scalar_octets Mach (number k) p n)) ns)
-    ∙ ap (λ (m : ℕ). m + length (elements_octets (scalar_octets Mach (number k)) (p + length (scalar_octets Mach (number k) p n)) ns)) (ap length (bare_octets (number k) p n) ∙ bare_long (number k) n)
+    length-append (scalar_octets Mach (number k) p n)
+    (elements_octets (scalar_octets Mach (number k)) (p + length (scalar_octets Mach (number k) p n)) ns)
+    ∙ ap (λ (m : ℕ). m + length (elements_octets (scalar_octets Mach (number k)) (p + length (scalar_octets Mach (number k) p n)) ns))
+    (ap length (bare_octets (number k) p n) ∙ bare_long (number k) n)
     ∙ ap (λ (m : ℕ). scalar_width Mach (number k) + m) (numbers_long k (p + length (scalar_octets Mach (number k) p n)) ns)
 
 -- zeros up to a multiple of 4
 up_to_four : (c : Calls) (h : Head) (v : Val) (q n : ℕ) → gap q 4 ≡ n → Writes (steps c h (align 4 stop) v) q (replicate n 0)
 up_to_four c h v q n same base before at = ap (λ (m : ℕ). Some (before ++ replicate m 0)) (ap (λ (x : ℕ). gap x 4) at ∙ same)
 
-fill-writes : (c : Calls) (h : Head) (v : Val) (w n q : ℕ) → (nat_lt w 4 ≡ false → w % 4 ≡ 0) → gap q 4 ≡ gap (n * w) 4 → Writes (steps c h (filling_code w) v) q (replicate (gap (n * w) 4) 0)
+fill-writes : (c : Calls) (h : Head) (v : Val) (w n q : ℕ) → (nat_lt w 4 ≡ false → w % 4 ≡ 0) → gap q 4 ≡ gap (n * w) 4
+    → Writes (steps c h (filling_code w) v) q (replicate (gap (n * w) 4) 0)
 fill-writes c h v w n q whole same = either (nat_lt w 4) refl where
   either : (b : Bool) → nat_lt w 4 ≡ b → Writes (steps c h (if b then align 4 stop else stop) v) q (replicate (gap (n * w) 4) 0)
   either true is = up_to_four c h v q (gap (n * w) 4) same
@@ -207,10 +245,13 @@ fill-writes c h v w n q whole same = either (nat_lt w 4) refl where
       rw none (none-writes q)
 
 -- an array of elements of so many octets, which are less than a word, or whole words
-array-sends : (c : Calls) (h : Head) (b : Count) (s : Scalar) (w : ℕ) (turn : Block) (one : ℕ → ℤ → List ℕ) (k : Kind) (ns : List ℤ) (p : ℕ) → (nat_lt w 4 ≡ false → w % 4 ≡ 0) → Allows b (length ns) → length ns < 268435456
-    → ((q : ℕ) → (length (elements_octets one q ns) ≡ along (length ns) w) × Writes (over (steps c h turn) (vals_of (map num ns))) q (elements_octets one q ns))
-    → Sends Mach (steps c h (append (described_code b s) (each [] turn (filling_code w))) (row k ns)) p
-    (described_octets b s (length ns) ++ (elements_octets one (p + length (described_octets b s (length ns))) ns ++ replicate (gap (length ns * w) 4) 0))
+array-sends : (c : Calls) (h : Head) (b : Count) (s : Scalar) (w : ℕ) (turn : Block) (one : ℕ → ℤ → List ℕ) (k : Kind) (ns : List ℤ) (p : ℕ)
+    → (nat_lt w 4 ≡ false → w % 4 ≡ 0) → Allows b (length ns) → length ns < 268435456
+    → ((q : ℕ)
+    → (length (elements_octets one q ns) ≡ along (length ns) w)
+    × Writes (over (steps c h turn) (vals_of (map num ns))) q (elements_octets one q ns))
+    → Sends Mach (steps c h (append (described_code b s) (each [] turn (filling_code w))) (row k ns)) p (described_octets b s (length ns)
+    ++ (elements_octets one (p + length (described_octets b s (length ns))) ns ++ replicate (gap (length ns * w) 4) 0))
 array-sends c h b s w turn one k ns p whole ok few elements place =
     let head : List ℕ = described_octets b s (length ns) in
     let q : ℕ = p + length head in
@@ -220,28 +261,46 @@ array-sends c h b s w turn one k ns p whole ok few elements place =
     let e = elements q in
     let long : length els ≡ length ns * w = e.0 ∙ along_times w (length ns) in
     let sum : length (head ++ (els ++ zeros)) ≡ length head + (length ns * w + gap (length ns * w) 4) =
-    length-append head (els ++ zeros) ∙ ap (λ (m : ℕ). length head + m) (length-append els zeros ∙ ap (λ (m : ℕ). m + length zeros) long ∙ ap (λ (m : ℕ). length ns * w + m) (length-replicate {A = ℕ} (gap (length ns * w) 4) 0)) in
+    length-append head (els ++ zeros) ∙ ap (λ (m : ℕ). length head + m) (length-append els zeros ∙ ap (λ (m : ℕ). m + length zeros) long
+    ∙ ap (λ (m : ℕ). length ns * w + m) (length-replicate {A = ℕ} (gap (length ns * w) 4) 0)) in
     let four : (length head + (length ns * w + gap (length ns * w) 4)) % 4 ≡ 0 = omega (arith, first.0) in (
       subst (IsPlace Mach) (sym sum) four,
-      subst (λ (x : Steps). Writes x p (head ++ (els ++ zeros))) (sym (steps-append c h (described_code b s) (each [] turn (filling_code w)) (row k ns)))
-          (both-writes (steps c h (described_code b s) (row k ns)) (steps c h (each [] turn (filling_code w)) (row k ns)) p head (els ++ zeros) first.1
+      subst (λ (x : Steps). Writes x p (head ++ (els ++ zeros)))
+          (sym (steps-append c h (described_code b s) (each [] turn (filling_code w)) (row k ns)))
+          (both-writes (steps c h (described_code b s) (row k ns)) (steps c h (each [] turn (filling_code w)) (row k ns)) p head
+          (els ++ zeros) first.1
           (both-writes (over (steps c h turn) (vals_of (map num ns))) (steps c h (filling_code w) (row k ns)) q els zeros e.1
           (fill-writes c h (row k ns) w (length ns) (q + length els) whole (omega (arith, place, first.0, long))))),
     )
 
-octets-send : (c : Calls) (h : Head) (b : Count) (s : Scalar) (k : Kind) (ns : List ℤ) (p : ℕ) → Allows b (length ns) → length ns < 268435456 → IsTrue (list_all (in_range kind.Octet) ns)
+octets-send : (c : Calls) (h : Head) (b : Count) (s : Scalar) (k : Kind) (ns : List ℤ) (p : ℕ) → Allows b (length ns)
+    → length ns < 268435456 → IsTrue (list_all (in_range kind.Octet) ns)
     → Sends Mach (steps c h (append (described_code b s) (each [] (number_chunk Mach 1) (filling_code 1))) (row k ns)) p
-    (described_octets b s (length ns) ++ (elements_octets octet_one (p + length (described_octets b s (length ns))) ns ++ replicate (gap (length ns * 1) 4) 0))
+    (described_octets b s (length ns)
+    ++ (elements_octets octet_one (p + length (described_octets b s (length ns))) ns ++ replicate (gap (length ns * 1) 4) 0))
 octets-send c h b s k ns p ok few all =
     array-sends c h b s 1 (number_chunk Mach 1) octet_one k ns p (λ is. cc) ok few
-    (λ (q : ℕ). (octets_long q ns ∙ sym (along_one (length ns)), over-writes octet_one (steps c h (number_chunk Mach 1)) (in_range kind.Octet) ns q all (octet-writes c h)))
+    (λ (q : ℕ). (
+      octets_long q ns ∙ sym (along_one (length ns)),
+      over-writes octet_one (steps c h (number_chunk Mach 1)) (in_range kind.Octet) ns q all (octet-writes c h),
+    ))
 
-numbers-send : (c : Calls) (h : Head) (b : Count) (m k : Kind) (ns : List ℤ) (p : ℕ) → (nat_lt (scalar_width Mach (number m)) 4 ≡ false → scalar_width Mach (number m) % 4 ≡ 0) → IsArray (row_of m b) k ns → length ns < 268435456
-    → Sends Mach (steps c h (append (described_code b (number m)) (each [] (number_chunk Mach (scalar_width Mach (number m))) (filling_code (scalar_width Mach (number m))))) (row k ns)) p
-    (described_octets b (number m) (length ns) ++ (elements_octets (scalar_octets Mach (number m)) (p + length (described_octets b (number m) (length ns))) ns ++ replicate (gap (length ns * scalar_width Mach (number m)) 4) 0))
+numbers-send : (c : Calls) (h : Head) (b : Count) (m k : Kind) (ns : List ℤ) (p : ℕ)
+    → (nat_lt (scalar_width Mach (number m)) 4 ≡ false → scalar_width Mach (number m) % 4 ≡ 0) → IsArray (row_of m b) k ns
+    → length ns < 268435456
+    → Sends Mach (steps c h (append (described_code b (number m))
+    (each [] (number_chunk Mach (scalar_width Mach (number m))) (filling_code (scalar_width Mach (number m))))) (row k ns)) p
+    (described_octets b (number m) (length ns)
+    ++ (elements_octets (scalar_octets Mach (number m)) (p + length (described_octets b (number m) (length ns))) ns
+    ++ replicate (gap (length ns * scalar_width Mach (number m)) 4) 0))
 numbers-send c h b m k ns p whole typed few =
-    array-sends c h b (number m) (scalar_width Mach (number m)) (number_chunk Mach (scalar_width Mach (number m))) (scalar_octets Mach (number m)) k ns p whole typed.1 few
-    (λ (q : ℕ). (numbers_long m q ns, over-writes (scalar_octets Mach (number m)) (steps c h (number_chunk Mach (scalar_width Mach (number m)))) (in_range m) ns q typed.2 (number-writes c h m)))
+    array-sends c h b (number m) (scalar_width Mach (number m)) (number_chunk Mach (scalar_width Mach (number m)))
+    (scalar_octets Mach (number m)) k ns p whole typed.1 few
+    (λ (q : ℕ). (
+      numbers_long m q ns,
+      over-writes (scalar_octets Mach (number m)) (steps c h (number_chunk Mach (scalar_width Mach (number m)))) (in_range m) ns q typed.2
+          (number-writes c h m),
+    ))
 
 pub mach_array : ArraysSend Mach
 unfolding array_octets element_octets head_octets

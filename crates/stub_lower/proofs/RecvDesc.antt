@@ -36,7 +36,8 @@ length_twice m = either (nat_eq (m % 2) 0) refl where
   half : (m - 0) / 2 ≡ m / 2
   half = omega arith
 
-  either : (b : Bool) → nat_eq (m % 2) 0 ≡ b → (if nat_eq ((m - 0) / 2 * 2 + 0) m then Some ((m - 0) / 2) else None) ≡ (if b then Some (m / 2) else None)
+  either : (b : Bool) → nat_eq (m % 2) 0 ≡ b
+      → (if nat_eq ((m - 0) / 2 * 2 + 0) m then Some ((m - 0) / 2) else None) ≡ (if b then Some (m / 2) else None)
   either true is =
       let even : m % 2 ≡ 0 = eqb-true (m % 2) 0 is in
       let all : (m - 0) / 2 * 2 + 0 ≡ m = omega (arith, even) in
@@ -49,8 +50,11 @@ length_twice m = either (nat_eq (m % 2) 0) refl where
 length_units : (s : Scalar) (m : ℕ) → length_of (units_of s) 0 m ≡ (if is_whole s m then Some (elements_in s m) else None)
 length_units s m = either (units s) where
   either : Units s → length_of (units_of s) 0 m ≡ (if is_whole s m then Some (elements_in s m) else None)
-  either (single u whole count) = ap (λ (k : ℕ). length_of k 0 m) u ∙ length_once m ∙ sym (ap (λ (b : Bool). if b then Some (elements_in s m) else None) (whole m) ∙ ap (λ (k : ℕ). Some k) (count m))
-  either (twice u whole count) = ap (λ (k : ℕ). length_of k 0 m) u ∙ length_twice m ∙ sym (ap (λ (b : Bool). if b then Some (elements_in s m) else None) (whole m) ∙ ap (λ (k : ℕ). if nat_eq (m % 2) 0 then Some k else None) (count m))
+  either (single u whole count) = ap (λ (k : ℕ). length_of k 0 m) u ∙ length_once m
+      ∙ sym (ap (λ (b : Bool). if b then Some (elements_in s m) else None) (whole m) ∙ ap (λ (k : ℕ). Some k) (count m))
+  either (twice u whole count) = ap (λ (k : ℕ). length_of k 0 m) u ∙ length_twice m
+      ∙ sym (ap (λ (b : Bool). if b then Some (elements_in s m) else None) (whole m)
+      ∙ ap (λ (k : ℕ). if nat_eq (m % 2) 0 then Some k else None) (count m))
 
 few_elements : (s : Scalar) (k : ℕ) → k < 4294967296 → elements_in s k < 4294967296
 few_elements s k lt = either (units s) where
@@ -76,7 +80,9 @@ units_by c mul right many q r = if right then counted_by c (length_of mul 0 many
 
 -- what a descriptor says, with its tests
 abbrev said : Count → Scalar → ℕ → ℕ → List ℕ → Reading FaultKind ℕ
-said c s d q r = if is_right c s d then (if allowed c (elements_in s (d / 2 ^ 32)) then got (elements_in s (d / 2 ^ 32)) q r else stop OverBound q) else stop BadItem q
+said c s d q r = if is_right c s d
+    then (if allowed c (elements_in s (d / 2 ^ 32)) then got (elements_in s (d / 2 ^ 32)) q r else stop OverBound q)
+    else stop BadItem q
 
 -- a number that the count allows is the fixed one
 fixed_so : (c : Count) (s : Scalar) (many : ℕ) → is_whole s many ≡ true → allowed c (elements_in s many) ≡ true → is_fixed c s many ≡ true
@@ -84,16 +90,21 @@ fixed_so (Exactly m) s many whole is = eq-eqb many (m * units_of s) (elements_ba
 fixed_so (AtMost m) s many whole is = refl
 fixed_so Any s many whole is = refl
 
-said_ends : (c : Count) (s : Scalar) (right : Bool) (d q : ℕ) (r : List ℕ) → d / 2 ^ 32 < 4294967296 → right ≡ nat_eq (d % 2 ^ 32) (long_words (unit_name s) (unit_bits s) 0)
+said_ends : (c : Count) (s : Scalar) (right : Bool) (d q : ℕ) (r : List ℕ) → d / 2 ^ 32 < 4294967296
+    → right ≡ nat_eq (d % 2 ^ 32) (long_words (unit_name s) (unit_bits s) 0)
     → SameEnds (units_by c (units_of s) right (d / 2 ^ 32) q r) (said c s d q r)
 said_ends c s right d q r few is =
-    rw (length_units s (d / 2 ^ 32), ← is) (either right (is_whole s (d / 2 ^ 32)) refl (allowed c (elements_in s (d / 2 ^ 32))) refl (is_fixed c s (d / 2 ^ 32)) refl) where
-      either : (right whole : Bool) → is_whole s (d / 2 ^ 32) ≡ whole → (fits : Bool) → allowed c (elements_in s (d / 2 ^ 32)) ≡ fits → (fixed : Bool) → is_fixed c s (d / 2 ^ 32) ≡ fixed
+    rw (length_units s (d / 2 ^ 32), ← is)
+    (either right (is_whole s (d / 2 ^ 32)) refl (allowed c (elements_in s (d / 2 ^ 32))) refl (is_fixed c s (d / 2 ^ 32)) refl) where
+      either : (right whole : Bool) → is_whole s (d / 2 ^ 32) ≡ whole → (fits : Bool) → allowed c (elements_in s (d / 2 ^ 32)) ≡ fits
+          → (fixed : Bool)
+          → is_fixed c s (d / 2 ^ 32) ≡ fixed
           → SameEnds (if right then counted_by c (if whole then Some (elements_in s (d / 2 ^ 32)) else None) q r else stop BadItem q)
           (if right && (whole && fixed) then (if fits then got (elements_in s (d / 2 ^ 32)) q r else stop OverBound q) else stop BadItem q)
       either false whole w fits f fixed x = tt
       either true false w fits f fixed x = tt
-      either true true w true f true x = rw (allowed_alike c (elements_in s (d / 2 ^ 32)) (few_elements s (d / 2 ^ 32) few), f) (refl, refl, refl)
+      either true true w true f true x =
+          rw (allowed_alike c (elements_in s (d / 2 ^ 32)) (few_elements s (d / 2 ^ 32) few), f) (refl, refl, refl)
       either true true w true f false x = absurd (differ (sym (fixed_so c s (d / 2 ^ 32) w f) ∙ x)) where
         differ : true ≡ false → ⊥
         differ e = cc
@@ -101,12 +112,20 @@ said_ends c s right d q r few is =
       either true true w false f false x = rw (allowed_alike c (elements_in s (d / 2 ^ 32)) (few_elements s (d / 2 ^ 32) few), f) tt
 
 -- name and size, each by itself
-pair_same : (x y name bits : ℕ) → x < 65536 → name < 65536 → (nat_eq x name && nat_eq y bits) ≡ nat_eq (x + 65536 * y) (long_words name bits 0)
+pair_same : (x y name bits : ℕ) → x < 65536 → name < 65536
+    → (nat_eq x name && nat_eq y bits) ≡ nat_eq (x + 65536 * y) (long_words name bits 0)
 pair_same x y name bits lt few = either (nat_eq x name) refl (nat_eq y bits) refl where
   either : (a : Bool) → nat_eq x name ≡ a → (b : Bool) → nat_eq y bits ≡ b → (a && b) ≡ nat_eq (x + 65536 * y) (long_words name bits 0)
-  either true i true j = let p = eqb-true x name i in let q = eqb-true y bits j in sym (eq-eqb (x + 65536 * y) (long_words name bits 0) (omega (arith, p, q)))
-  either true i false j = let q = eqb-false y bits j in sym (ne_eqb (x + 65536 * y) (long_words name bits 0) (λ e. q (omega (arith, lt, few, e))))
-  either false i b j = let p = eqb-false x name i in sym (ne_eqb (x + 65536 * y) (long_words name bits 0) (λ e. p (omega (arith, lt, few, e))))
+  either true i true j =
+      let p = eqb-true x name i in
+      let q = eqb-true y bits j in
+      sym (eq-eqb (x + 65536 * y) (long_words name bits 0) (omega (arith, p, q)))
+  either true i false j =
+      let q = eqb-false y bits j in
+      sym (ne_eqb (x + 65536 * y) (long_words name bits 0) (λ e. q (omega (arith, lt, few, e))))
+  either false i b j =
+      let p = eqb-false x name i in
+      sym (ne_eqb (x + 65536 * y) (long_words name bits 0) (λ e. p (omega (arith, lt, few, e))))
 
 -- the long form: name and size in two octets each after the first word, and the number in four
 abbrev pub long_right : Scalar → List ℕ → Bool
@@ -150,26 +169,33 @@ parted (a ∷ b ∷ c ∷ d ∷ e ∷ f ∷ g ∷ i ∷ j ∷ k ∷ l ∷ m ∷ 
 module _ (c : Count) (s : Scalar) where
   -- the long form
   abbrev long_by : ℕ → List ℕ → Reading FaultKind ℕ
-  long_by p o = if nat_lt (length o) 12 then stop Short p else units_by c (units_of s) (long_right s o) (little w32 8 4 o) (p + 12) (drop 12 o)
+  long_by p o = if nat_lt (length o) 12 then stop Short p
+      else units_by c (units_of s) (long_right s o) (little w32 8 4 o) (p + 12) (drop 12 o)
 
   -- the short form, of its word
   abbrev short_by : ℕ → ℕ → List ℕ → Reading FaultKind ℕ
-  short_by m p o = units_by c (units_of s) (nat_eq (m % 256) (unit_name s) && nat_eq (m / 256 % 256) (unit_bits s)) (m / 65536 % 4096) (p + 4) (drop 4 o)
+  short_by m p o = units_by c (units_of s) (nat_eq (m % 256) (unit_name s) && nat_eq (m / 256 % 256) (unit_bits s)) (m / 65536 % 4096)
+      (p + 4) (drop 4 o)
 
   -- either
   abbrev pub desc_by : ℕ → List ℕ → Reading FaultKind ℕ
   desc_by p o =
       if nat_lt (length o) 4 then stop Short p
-      else (if is_marked (little w32 0 4 o) then long_by p o else (if nat_eq (little w32 0 4 o / 2 ^ 28) 1 then short_by (little w32 0 4 o) p o else stop BadItem p))
+      else (if is_marked (little w32 0 4 o) then long_by p o
+      else (if nat_eq (little w32 0 4 o / 2 ^ 28) 1 then short_by (little w32 0 4 o) p o else stop BadItem p))
 
   -- a reader of what a descriptor says, with its tests
   abbrev told : Reading FaultKind (ℕ × ℕ) → ℕ → Reading FaultKind ℕ
-  told r p = then_on (map_got (λ (x : ℕ × ℕ). elements_in s (x.1 / 2 ^ 32)) (then_on r (λ x q l. if is_right c s x.1 then got x q l else stop BadItem p))) (λ n q l. if allowed c n then got n q l else stop OverBound p)
+  told r p = then_on
+      (map_got (λ (x : ℕ × ℕ). elements_in s (x.1 / 2 ^ 32)) (then_on r (λ x q l. if is_right c s x.1 then got x q l else stop BadItem p)))
+      (λ n q l. if allowed c n then got n q l else stop OverBound p)
 
   told_so : (m d p q : ℕ) (r : List ℕ) → SameEnds (said c s d q r) (told (got (m, d) q r) p)
   told_so m d p q r = either (is_right c s d) (allowed c (elements_in s (d / 2 ^ 32))) refl where
-    either : (right fits : Bool) → allowed c (elements_in s (d / 2 ^ 32)) ≡ fits → SameEnds (if right then (if fits then got (elements_in s (d / 2 ^ 32)) q r else stop OverBound q) else stop BadItem q)
-        (then_on (map_got (λ (x : ℕ × ℕ). elements_in s (x.1 / 2 ^ 32)) (if right then got (m, d) q r else stop BadItem p)) (λ n q l. if allowed c n then got n q l else stop OverBound p))
+    either : (right fits : Bool) → allowed c (elements_in s (d / 2 ^ 32)) ≡ fits
+        → SameEnds (if right then (if fits then got (elements_in s (d / 2 ^ 32)) q r else stop OverBound q) else stop BadItem q)
+        (then_on (map_got (λ (x : ℕ × ℕ). elements_in s (x.1 / 2 ^ 32)) (if right then got (m, d) q r else stop BadItem p))
+        (λ n q l. if allowed c n then got n q l else stop OverBound p))
     either true true is = rw is (refl, refl, refl)
     either true false is = rw is tt
     either false fits is = tt
@@ -193,15 +219,20 @@ module _ (c : Count) (s : Scalar) where
   stopped_ends (stop j to) k at h = tt
   stopped_ends (got n q r) k at h = absurd h
 
-  -- where the short form may not stand, its few units are no length either
+  -- where the short form is not allowed, its few units are not a length either
   abbrev TakesShort : Type 0
-  TakesShort = (takes c s false ≡ true) ⊎ ((takes c s false ≡ false) × ((right : Bool) (many q : ℕ) (r : List ℕ) → many < 4096 → Stopped (units_by c (units_of s) right many q r)))
+  TakesShort = (takes c s false ≡ true)
+      ⊎ ((takes c s false ≡ false)
+      × ((right : Bool) (many q : ℕ) (r : List ℕ) → many < 4096 → Stopped (units_by c (units_of s) right many q r)))
 
-  long_read : (p : ℕ) (o : List ℕ) → read_word Mach 1 w64 p o ≡ (if nat_lt (length o) 8 then stop Short (p + 0) else got (from_le_bytes w64 (take 8 o)) (p + 8) (drop 8 o))
+  long_read : (p : ℕ) (o : List ℕ)
+      → read_word Mach 1 w64 p o
+      ≡ (if nat_lt (length o) 8 then stop Short (p + 0) else got (from_le_bytes w64 (take 8 o)) (p + 8) (drop 8 o))
   unfolding read_word
   long_read p o =
       let none : gap p 1 ≡ 0 = omega arith in
-      ap (λ (g : ℕ). if nat_lt (length o) (g + 8) then stop Short (p + g) else got (from_le_bytes w64 (take 8 (drop g o))) (p + (g + 8)) (drop 8 (drop g o))) none
+      ap (λ (g : ℕ). if nat_lt (length o) (g + 8) then stop Short (p + g)
+      else got (from_le_bytes w64 (take 8 (drop g o))) (p + (g + 8)) (drop 8 (drop g o))) none
 
   short_shift : (l : ℕ) → 4 ≤ l → nat_lt (l - 4) 8 ≡ nat_lt l 12
   short_shift l h = decided (nat_lt l 12) refl where
@@ -214,20 +245,25 @@ module _ (c : Count) (s : Scalar) where
   desc_ends p o oct long short = rw word_read (first (nat_lt (length o) 4) refl) where
     wide : (b : Bool) → nat_lt (length o) 12 ≡ b → 4 ≤ length o
         → SameEnds (if b then stop Short p else units_by c (units_of s) (long_right s o) (little w32 8 4 o) (p + 12) (drop 12 o))
-        (told (map_got (λ y. (from_le_bytes w32 (take 4 o), y)) (told_before (p + 4 - 4) (if b then stop Short (p + 4 + 0) else got (from_le_bytes w64 (take 8 (drop 4 o))) (p + 4 + 8) (drop 8 (drop 4 o))))) p)
+        (told (map_got (λ y. (from_le_bytes w32 (take 4 o), y)) (told_before (p + 4 - 4)
+        (if b then stop Short (p + 4 + 0) else got (from_le_bytes w64 (take 8 (drop 4 o))) (p + 4 + 8) (drop 8 (drop 4 o))))) p)
     wide true is near = tt
     wide false is near =
         let parts = parted o oct (ltb-false (length o) 12 is) in
         let past : p + 4 + 8 ≡ p + 12 = omega arith in
         let few : from_le_bytes w64 (take 8 (drop 4 o)) / 2 ^ 32 < 4294967296 = omega (arith, parts.many, parts.high) in
         let right : long_right s o ≡ nat_eq (from_le_bytes w64 (take 8 (drop 4 o)) % 2 ^ 32) (long_words (unit_name s) (unit_bits s) 0) =
-        pair_same (little w16 4 2 o) (little w16 6 2 o) (unit_name s) (unit_bits s) parts.few (omega (arith, name_small s)) ∙ ap (λ (x : ℕ). nat_eq x (long_words (unit_name s) (unit_bits s) 0)) parts.low in
-        ends_after (units_by c (units_of s) (long_right s o) (little w32 8 4 o) (p + 12) (drop 12 o)) (said c s (from_le_bytes w64 (take 8 (drop 4 o))) (p + 12) (drop 12 o)) _
-        (subst (λ (x : ℕ). SameEnds (units_by c (units_of s) (long_right s o) x (p + 12) (drop 12 o)) (said c s (from_le_bytes w64 (take 8 (drop 4 o))) (p + 12) (drop 12 o))) (sym parts.high)
+        pair_same (little w16 4 2 o) (little w16 6 2 o) (unit_name s) (unit_bits s) parts.few (omega (arith, name_small s))
+        ∙ ap (λ (x : ℕ). nat_eq x (long_words (unit_name s) (unit_bits s) 0)) parts.low in
+        ends_after (units_by c (units_of s) (long_right s o) (little w32 8 4 o) (p + 12) (drop 12 o))
+        (said c s (from_le_bytes w64 (take 8 (drop 4 o))) (p + 12) (drop 12 o)) _
+        (subst (λ (x : ℕ). SameEnds (units_by c (units_of s) (long_right s o) x (p + 12) (drop 12 o))
+        (said c s (from_le_bytes w64 (take 8 (drop 4 o))) (p + 12) (drop 12 o))) (sym parts.high)
         (said_ends c s (long_right s o) (from_le_bytes w64 (take 8 (drop 4 o))) (p + 12) (drop 12 o) few right))
         (rw (past, drop-drop 8 4 o) (told_so (from_le_bytes w32 (take 4 o)) (from_le_bytes w64 (take 8 (drop 4 o))) p (p + 12) (drop 12 o)))
 
-    narrow : (b : Bool) → is_marked (from_le_bytes w32 (take 4 o)) ≡ false → nat_eq (from_le_bytes w32 (take 4 o) / 2 ^ 28) 1 ≡ b → TakesShort
+    narrow : (b : Bool) → is_marked (from_le_bytes w32 (take 4 o)) ≡ false → nat_eq (from_le_bytes w32 (take 4 o) / 2 ^ 28) 1 ≡ b
+        → TakesShort
         → SameEnds (if b then short_by (from_le_bytes w32 (take 4 o)) p o else stop BadItem p)
         (told (then_on (if b && takes c s false then got (from_le_bytes w32 (take 4 o)) (p + 4) (drop 4 o) else stop BadItem p)
         (λ x q r. map_got (λ y. (x, y)) (if is_marked x then told_before (q - 4) (read_word Mach 1 w64 q r) else got (widened x) q r))) p)
@@ -236,20 +272,29 @@ module _ (c : Count) (s : Scalar) where
         let x : ℕ = from_le_bytes w32 (take 4 o) in
         let high : widened x / 2 ^ 32 ≡ x / 65536 % 4096 = omega arith in
         let low : widened x % 2 ^ 32 ≡ x % 256 + 65536 * (x / 256 % 256) = omega arith in
-        let right : (nat_eq (x % 256) (unit_name s) && nat_eq (x / 256 % 256) (unit_bits s)) ≡ nat_eq (widened x % 2 ^ 32) (long_words (unit_name s) (unit_bits s) 0) =
-        pair_same (x % 256) (x / 256 % 256) (unit_name s) (unit_bits s) (omega arith) (omega (arith, name_small s)) ∙ ap (λ (k : ℕ). nat_eq k (long_words (unit_name s) (unit_bits s) 0)) (sym low) in
+        let right : (nat_eq (x % 256) (unit_name s) && nat_eq (x / 256 % 256) (unit_bits s))
+        ≡ nat_eq (widened x % 2 ^ 32) (long_words (unit_name s) (unit_bits s) 0) =
+        pair_same (x % 256) (x / 256 % 256) (unit_name s) (unit_bits s) (omega arith) (omega (arith, name_small s))
+        ∙ ap (λ (k : ℕ). nat_eq k (long_words (unit_name s) (unit_bits s) 0)) (sym low) in
         rw (ok, is)
         (ends_after (short_by x p o) (said c s (widened x) (p + 4) (drop 4 o)) (told (got (x, widened x) (p + 4) (drop 4 o)) p)
-        (subst (λ (k : ℕ). SameEnds (units_by c (units_of s) (nat_eq (x % 256) (unit_name s) && nat_eq (x / 256 % 256) (unit_bits s)) k (p + 4) (drop 4 o)) (said c s (widened x) (p + 4) (drop 4 o))) high
-        (said_ends c s (nat_eq (x % 256) (unit_name s) && nat_eq (x / 256 % 256) (unit_bits s)) (widened x) (p + 4) (drop 4 o) (omega (arith, high)) right))
+        (subst (λ (k : ℕ). SameEnds
+        (units_by c (units_of s) (nat_eq (x % 256) (unit_name s) && nat_eq (x / 256 % 256) (unit_bits s)) k (p + 4) (drop 4 o))
+        (said c s (widened x) (p + 4) (drop 4 o))) high
+        (said_ends c s (nat_eq (x % 256) (unit_name s) && nat_eq (x / 256 % 256) (unit_bits s)) (widened x) (p + 4) (drop 4 o)
+        (omega (arith, high)) right))
         (told_so x (widened x) p (p + 4) (drop 4 o)))
     narrow true is b (inr off) =
         let x : ℕ = from_le_bytes w32 (take 4 o) in
-        rw off.0 (stopped_ends (short_by x p o) BadItem p (off.1 (nat_eq (x % 256) (unit_name s) && nat_eq (x / 256 % 256) (unit_bits s)) (x / 65536 % 4096) (p + 4) (drop 4 o) (omega arith)))
+        rw off.0 (stopped_ends (short_by x p o) BadItem p (off.1 (nat_eq (x % 256) (unit_name s) && nat_eq (x / 256 % 256) (unit_bits s))
+        (x / 65536 % 4096) (p + 4) (drop 4 o) (omega arith)))
 
     form : (b : Bool) → is_marked (from_le_bytes w32 (take 4 o)) ≡ b → 4 ≤ length o
-        → SameEnds (if b then long_by p o else (if nat_eq (from_le_bytes w32 (take 4 o) / 2 ^ 28) 1 then short_by (from_le_bytes w32 (take 4 o)) p o else stop BadItem p))
-        (told (then_on (if (if b then takes c s true else nat_eq (from_le_bytes w32 (take 4 o) / 2 ^ 28) 1 && takes c s false) then got (from_le_bytes w32 (take 4 o)) (p + 4) (drop 4 o) else stop BadItem p)
+        → SameEnds (if b then long_by p o
+        else (if nat_eq (from_le_bytes w32 (take 4 o) / 2 ^ 28) 1 then short_by (from_le_bytes w32 (take 4 o)) p o else stop BadItem p))
+        (told (then_on (if (if b then takes c s true else nat_eq (from_le_bytes w32 (take 4 o) / 2 ^ 28) 1 && takes c s false)
+        then got (from_le_bytes w32 (take 4 o)) (p + 4) (drop 4 o)
+        else stop BadItem p)
         (λ x q r. map_got (λ y. (x, y)) (if is_marked x then told_before (q - 4) (read_word Mach 1 w64 q r) else got (widened x) q r))) p)
     form true is near =
         let shorter = ap (λ (l : ℕ). nat_lt l 8) (length-drop 4 o) ∙ short_shift (length o) near in
@@ -257,20 +302,25 @@ module _ (c : Count) (s : Scalar) where
     form false is near = narrow (nat_eq (from_le_bytes w32 (take 4 o) / 2 ^ 28) 1) is refl short
 
     first : (b : Bool) → nat_lt (length o) 4 ≡ b
-        → SameEnds (if b then stop Short p else (if is_marked (from_le_bytes w32 (take 4 o)) then long_by p o else (if nat_eq (from_le_bytes w32 (take 4 o) / 2 ^ 28) 1 then short_by (from_le_bytes w32 (take 4 o)) p o else stop BadItem p)))
-        (told (then_on (then_on (if b then stop Short (p + 0) else got (from_le_bytes w32 (take 4 o)) (p + 4) (drop 4 o)) (λ x q r. if has_form c s x then got x q r else stop BadItem p))
+        → SameEnds (if b then stop Short p
+        else (if is_marked (from_le_bytes w32 (take 4 o)) then long_by p o
+        else (if nat_eq (from_le_bytes w32 (take 4 o) / 2 ^ 28) 1 then short_by (from_le_bytes w32 (take 4 o)) p o else stop BadItem p)))
+        (told (then_on (then_on (if b then stop Short (p + 0) else got (from_le_bytes w32 (take 4 o)) (p + 4) (drop 4 o))
+        (λ x q r. if has_form c s x then got x q r else stop BadItem p))
         (λ x q r. map_got (λ y. (x, y)) (if is_marked x then told_before (q - 4) (read_word Mach 1 w64 q r) else got (widened x) q r))) p)
     first true is = tt
     first false is = form (is_marked (from_le_bytes w32 (take 4 o))) refl (ltb-false (length o) 4 is)
 
 -- a number that is not fixed takes both forms
-pub free_ends : (c : Count) (s : Scalar) (p : ℕ) (o : List ℕ) → AreOctets o → ((m : ℕ) → c ≡ Exactly m → ⊥) → SameEnds (desc_by c s p o) (read_described c s p o)
+pub free_ends : (c : Count) (s : Scalar) (p : ℕ) (o : List ℕ) → AreOctets o → ((m : ℕ) → c ≡ Exactly m → ⊥)
+    → SameEnds (desc_by c s p o) (read_described c s p o)
 free_ends (Exactly m) s p o oct free = absurd (free m refl)
 free_ends (AtMost m) s p o oct free = desc_ends (AtMost m) s p o oct refl (inl refl)
 free_ends Any s p o oct free = desc_ends Any s p o oct refl (inl refl)
 
 -- a fixed number of more than 4,095 units takes the long form alone
-pub long_ends : (m : ℕ) (s : Scalar) (p : ℕ) (o : List ℕ) → AreOctets o → nat_lt 4095 (m * units_of s) ≡ true → SameEnds (desc_by (Exactly m) s p o) (read_described (Exactly m) s p o)
+pub long_ends : (m : ℕ) (s : Scalar) (p : ℕ) (o : List ℕ) → AreOctets o → nat_lt 4095 (m * units_of s) ≡ true
+    → SameEnds (desc_by (Exactly m) s p o) (read_described (Exactly m) s p o)
 long_ends m s p o oct long = desc_ends (Exactly m) s p o oct long (inr (short, stops)) where
   above : 4095 < m * units_of s
   above = ltb-true 4095 (m * units_of s) long
@@ -278,7 +328,8 @@ long_ends m s p o oct long = desc_ends (Exactly m) s p o oct long (inr (short, s
   short : nat_le (m * units_of s) 4095 ≡ false
   short = lt-leb (m * units_of s) 4095 above
 
-  few : (many n q : ℕ) (r : List ℕ) → many < 4096 → is_whole s many ≡ true → elements_in s many ≡ n → (b : Bool) → nat_eq n m ≡ b → Stopped (Exactly m) s (if b then got n q r else stop OverBound q)
+  few : (many n q : ℕ) (r : List ℕ) → many < 4096 → is_whole s many ≡ true → elements_in s many ≡ n → (b : Bool) → nat_eq n m ≡ b
+      → Stopped (Exactly m) s (if b then got n q r else stop OverBound q)
   few many n q r lt whole is true same =
       let back : many ≡ m * units_of s = elements_back s many m whole (is ∙ eqb-true n m same) in
       absurd (omega (arith, above, lt, back))
@@ -287,7 +338,8 @@ long_ends m s p o oct long = desc_ends (Exactly m) s p o oct long (inr (short, s
   stops : (right : Bool) (many q : ℕ) (r : List ℕ) → many < 4096 → Stopped (Exactly m) s (units_by (Exactly m) (units_of s) right many q r)
   stops false many q r lt = tt
   stops true many q r lt = rw (length_units s many) (either (is_whole s many) refl) where
-    either : (w : Bool) → is_whole s many ≡ w → Stopped (Exactly m) s (counted_by (Exactly m) (if w then Some (elements_in s many) else None) q r)
+    either : (w : Bool) → is_whole s many ≡ w
+        → Stopped (Exactly m) s (counted_by (Exactly m) (if w then Some (elements_in s many) else None) q r)
     either true is = few many (elements_in s many) q r lt is refl (nat_eq (elements_in s many) m) refl
     either false is = tt
 
@@ -297,7 +349,8 @@ abbrev pub fixed_word : Scalar → ℕ → ℕ
 fixed_word s m = short_word (unit_name s) (unit_bits s) (m * units_of s)
 
 abbrev pub fixed_by : Scalar → ℕ → ℕ → List ℕ → Reading FaultKind ℕ
-fixed_by s m p o = if nat_lt (length o) 4 then stop Short p else (if same_octets (le 4 (fixed_word s m)) (take 4 o) then got m (p + 4) (drop 4 o) else stop BadItem p)
+fixed_by s m p o = if nat_lt (length o) 4 then stop Short p
+    else (if same_octets (le 4 (fixed_word s m)) (take 4 o) then got m (p + 4) (drop 4 o) else stop BadItem p)
 
 module _ (m : ℕ) (s : Scalar) (few : m * units_of s ≤ 4095) where
   word_few : fixed_word s m < 4294967296
@@ -314,17 +367,25 @@ module _ (m : ℕ) (s : Scalar) (few : m * units_of s ≤ 4095) where
       let high : widened x / 2 ^ 32 ≡ U = omega (arith, same, few, name_small s, bits_small s) in
       let low : widened x % 2 ^ 32 ≡ long_words (unit_name s) (unit_bits s) 0 = omega (arith, same, few, name_small s, bits_small s) in
       let e = elements_are s m in
-      rw (high, eq-eqb (widened x % 2 ^ 32) (long_words (unit_name s) (unit_bits s) 0) low, e.0, same_true U, e.1, same_true m) (refl, refl, refl)
-  said_so x q r one false is = either (nat_eq (widened x % 2 ^ 32) (long_words (unit_name s) (unit_bits s) 0)) refl (is_whole s (widened x / 2 ^ 32)) (nat_eq (widened x / 2 ^ 32) U) refl where
-    either : (low : Bool) → nat_eq (widened x % 2 ^ 32) (long_words (unit_name s) (unit_bits s) 0) ≡ low → (whole : Bool) → (fixed : Bool) → nat_eq (widened x / 2 ^ 32) U ≡ fixed
-        → SameEnds (stop BadItem q) (if low && (whole && fixed) then (if allowed (Exactly m) (elements_in s (widened x / 2 ^ 32)) then got (elements_in s (widened x / 2 ^ 32)) q r else stop OverBound q) else stop BadItem q)
-    either false l whole fixed f = tt
-    either true l false fixed f = tt
-    either true l true false f = tt
-    either true l true true f =
-        let a = eqb-true (widened x % 2 ^ 32) (long_words (unit_name s) (unit_bits s) 0) l in
-        let b = eqb-true (widened x / 2 ^ 32) U f in
-        absurd (eqb-false x (fixed_word s m) is (omega (arith, a, b, one, few, name_small s, bits_small s)))
+      rw (high, eq-eqb (widened x % 2 ^ 32) (long_words (unit_name s) (unit_bits s) 0) low, e.0, same_true U, e.1, same_true m)
+      (refl, refl, refl)
+  said_so x q r one false is = either (nat_eq (widened x % 2 ^ 32) (long_words (unit_name s) (unit_bits s) 0)) refl
+      (is_whole s (widened x / 2 ^ 32)) (nat_eq (widened x / 2 ^ 32) U) refl where
+        either : (low : Bool) → nat_eq (widened x % 2 ^ 32) (long_words (unit_name s) (unit_bits s) 0) ≡ low → (whole : Bool)
+            → (fixed : Bool)
+            → nat_eq (widened x / 2 ^ 32) U ≡ fixed
+            → SameEnds (stop BadItem q)
+            (if low
+            && (whole && fixed) then
+            (if allowed (Exactly m) (elements_in s (widened x / 2 ^ 32)) then got (elements_in s (widened x / 2 ^ 32)) q r
+            else stop OverBound q) else stop BadItem q)
+        either false l whole fixed f = tt
+        either true l false fixed f = tt
+        either true l true false f = tt
+        either true l true true f =
+            let a = eqb-true (widened x % 2 ^ 32) (long_words (unit_name s) (unit_bits s) 0) l in
+            let b = eqb-true (widened x / 2 ^ 32) U f in
+            absurd (eqb-false x (fixed_word s m) is (omega (arith, a, b, one, few, name_small s, bits_small s)))
 
   pub fixed_ends : (p : ℕ) (o : List ℕ) → AreOctets o → SameEnds (fixed_by s m p o) (read_described (Exactly m) s p o)
   unfolding read_described read_first read_rest told_before
@@ -339,19 +400,25 @@ module _ (m : ℕ) (s : Scalar) (few : m * units_of s ≤ 4095) where
     plain x is false one = rw (other x (eqb-false (x / 2 ^ 28) 1 one)) tt
     plain x is true one =
         rw (le-leb U 4095 few, is)
-        (ends_after (Exactly m) s (if nat_eq x (fixed_word s m) then got m (p + 4) (drop 4 o) else stop BadItem p) (said (Exactly m) s (widened x) (p + 4) (drop 4 o)) (told (Exactly m) s (got (x, widened x) (p + 4) (drop 4 o)) p)
+        (ends_after (Exactly m) s (if nat_eq x (fixed_word s m) then got m (p + 4) (drop 4 o) else stop BadItem p)
+        (said (Exactly m) s (widened x) (p + 4) (drop 4 o)) (told (Exactly m) s (got (x, widened x) (p + 4) (drop 4 o)) p)
         (either (nat_eq x (fixed_word s m)) refl) (told_so (Exactly m) s x (widened x) p (p + 4) (drop 4 o))) where
-          at_fault : (b : Bool) (z : Reading FaultKind ℕ) → SameEnds (if b then got m (p + 4) (drop 4 o) else stop BadItem (p + 4)) z → SameEnds (if b then got m (p + 4) (drop 4 o) else stop BadItem p) z
+          at_fault : (b : Bool) (z : Reading FaultKind ℕ) → SameEnds (if b then got m (p + 4) (drop 4 o) else stop BadItem (p + 4)) z
+              → SameEnds (if b then got m (p + 4) (drop 4 o) else stop BadItem p) z
           at_fault true z h = h
           at_fault false (stop k at) h = tt
           at_fault false (got y q r) h = absurd h
 
-          either : (b : Bool) → nat_eq x (fixed_word s m) ≡ b → SameEnds (if b then got m (p + 4) (drop 4 o) else stop BadItem p) (said (Exactly m) s (widened x) (p + 4) (drop 4 o))
-          either b same = at_fault b (said (Exactly m) s (widened x) (p + 4) (drop 4 o)) (said_so x (p + 4) (drop 4 o) (eqb-true (x / 2 ^ 28) 1 one) b same)
+          either : (b : Bool) → nat_eq x (fixed_word s m) ≡ b
+              → SameEnds (if b then got m (p + 4) (drop 4 o) else stop BadItem p) (said (Exactly m) s (widened x) (p + 4) (drop 4 o))
+          either b same = at_fault b (said (Exactly m) s (widened x) (p + 4) (drop 4 o))
+              (said_so x (p + 4) (drop 4 o) (eqb-true (x / 2 ^ 28) 1 one) b same)
 
     form : (x : ℕ) (b : Bool) → is_marked x ≡ b
         → SameEnds (if nat_eq x (fixed_word s m) then got m (p + 4) (drop 4 o) else stop BadItem p)
-        (told (Exactly m) s (then_on (if (if b then nat_lt 4095 U else nat_eq (x / 2 ^ 28) 1 && nat_le U 4095) then got x (p + 4) (drop 4 o) else stop BadItem p)
+        (told (Exactly m) s
+        (then_on
+        (if (if b then nat_lt 4095 U else nat_eq (x / 2 ^ 28) 1 && nat_le U 4095) then got x (p + 4) (drop 4 o) else stop BadItem p)
         (λ x q r. map_got (λ y. (x, y)) (if is_marked x then told_before (q - 4) (read_word Mach 1 w64 q r) else got (widened x) q r))) p)
     form x true is =
         let three : x / 2 ^ 28 ≡ 3 = eqb-true (x / 2 ^ 28) 3 is in
@@ -359,8 +426,11 @@ module _ (m : ℕ) (s : Scalar) (few : m * units_of s ≤ 4095) where
     form x false is = plain x is (nat_eq (x / 2 ^ 28) 1) refl
 
     first : (b : Bool) → nat_lt (length o) 4 ≡ b
-        → SameEnds (if b then stop Short p else (if same_octets (le 4 (fixed_word s m)) (take 4 o) then got m (p + 4) (drop 4 o) else stop BadItem p))
-        (told (Exactly m) s (then_on (then_on (if b then stop Short (p + 0) else got (from_le_bytes w32 (take 4 o)) (p + 4) (drop 4 o)) (λ x q r. if has_form (Exactly m) s x then got x q r else stop BadItem p))
+        → SameEnds
+        (if b then stop Short p else (if same_octets (le 4 (fixed_word s m)) (take 4 o) then got m (p + 4) (drop 4 o) else stop BadItem p))
+        (told (Exactly m) s (then_on (then_on (if b then stop Short (p + 0) else got (from_le_bytes w32 (take 4 o)) (p + 4) (drop 4 o))
+        (λ x q r. if has_form (Exactly m) s x then got x q r else stop BadItem p))
         (λ x q r. map_got (λ y. (x, y)) (if is_marked x then told_before (q - 4) (read_word Mach 1 w64 q r) else got (widened x) q r))) p)
     first true is = tt
-    first false is = rw (word_is (fixed_word s m) o word_few oct (ltb-false (length o) 4 is)) (form (from_le_bytes w32 (take 4 o)) (is_marked (from_le_bytes w32 (take 4 o))) refl)
+    first false is = rw (word_is (fixed_word s m) o word_few oct (ltb-false (length o) 4 is))
+        (form (from_le_bytes w32 (take 4 o)) (is_marked (from_le_bytes w32 (take 4 o))) refl)

@@ -39,11 +39,11 @@ use Rattle.stub_lower.proofs.Agreeing.{Agrees, Same, agrees-then, agrees-map, ag
 
 -- ---- octets that are tested and passed
 
--- behind a test of so many octets
+-- after a test of so many octets
 abbrev pub tested_place : ℕ → Place → Place
 tested_place n s = record { pos = s.pos; left = s.left; near = max n s.near; tests = raised s.tests 1 }
 
--- and behind these octets
+-- and after these octets
 abbrev pub passed_place : ℕ → Place → Place
 passed_place n s = record { pos = s.pos + n; left = drop n s.left; near = max n s.near - n; tests = raised s.tests 1 }
 
@@ -64,8 +64,10 @@ octets_dropped (suc n) (b ∷ o) h = octets_dropped n o h.1
 pub word_tested : (N off W : ℕ) (o : Order) (x : Width) (s : Place) (f : Width → ℕ → Run Draft) → width_in W ≡ Some x → off + W ≤ N
     → word_at off W o (tested_place N s) f ≡ f x (loaded o x (take W (drop off s.left)))
 word_tested N off W o x s f is within =
-    ap (λ (z : Option Width). if_passed z (λ y. if nat_le (off + W) (max N s.near) then f y (loaded o y (take W (drop off s.left))) else strays)) is
-    ∙ ap (λ (b : Bool). if b then f x (loaded o x (take W (drop off s.left))) else strays) (le_true (off + W) (max N s.near) (omega (arith, within)))
+    ap (λ (z : Option Width). if_passed z
+    (λ y. if nat_le (off + W) (max N s.near) then f y (loaded o y (take W (drop off s.left))) else strays)) is
+    ∙ ap (λ (b : Bool). if b then f x (loaded o x (take W (drop off s.left))) else strays)
+    (le_true (off + W) (max N s.near) (omega (arith, within)))
 
 -- a get that does this with its word, over octets
 abbrev pub Does : Get → ℕ → ℕ → Order → Draft → (Width → ℕ → Place → Run Draft) → Type 0
@@ -73,17 +75,22 @@ Does g off W o d act = (t : Place) → AreOctets t.left → filling.got g d t �
 
 one_got : (c : Callees) (g : Get) (W : ℕ) (d : Draft) (t : Place) (x : Run Draft) → filling.got g d t ≡ x
     → fill c (pass W (g ∷ []) finish) d t ≡ then_run x (λ y u. then_run (passed W y u) (fill c finish))
-one_got c g W d t (gives y u) is = ap (λ (z : Run Draft). then_run (then_run z (all_got [])) (λ y u. then_run (passed W y u) (fill c finish))) is
-one_got c g W d t refuses is = ap (λ (z : Run Draft). then_run (then_run z (all_got [])) (λ y u. then_run (passed W y u) (fill c finish))) is
+one_got c g W d t (gives y u) is =
+    ap (λ (z : Run Draft). then_run (then_run z (all_got [])) (λ y u. then_run (passed W y u) (fill c finish))) is
+one_got c g W d t refuses is =
+    ap (λ (z : Run Draft). then_run (then_run z (all_got [])) (λ y u. then_run (passed W y u) (fill c finish))) is
 one_got c g W d t strays is = ap (λ (z : Run Draft). then_run (then_run z (all_got [])) (λ y u. then_run (passed W y u) (fill c finish))) is
 
 -- a test and a take of one word
-pub word_run : (c : Callees) (W : ℕ) (o : Order) (x : Width) (g : Get) (d : Draft) (s : Place) (act : Width → ℕ → Place → Run Draft) → width_in W ≡ Some x → AreOctets s.left → Does g 0 W o d act
+pub word_run : (c : Callees) (W : ℕ) (o : Order) (x : Width) (g : Get) (d : Draft) (s : Place) (act : Width → ℕ → Place → Run Draft)
+    → width_in W ≡ Some x → AreOctets s.left → Does g 0 W o d act
     → fill c (take_code W g) d s
-    ≡ (if nat_lt (length s.left) W then refuses else then_run (act x (loaded o x (take W s.left)) (tested_place W s)) (λ y u. then_run (passed W y u) (fill c finish)))
+    ≡ (if nat_lt (length s.left) W then refuses
+    else then_run (act x (loaded o x (take W s.left)) (tested_place W s)) (λ y u. then_run (passed W y u) (fill c finish)))
 word_run c W o x g d s act wide oct does = decided (nat_lt (length s.left) W) where
   decided : (b : Bool) → then_run (if b then refuses else gives d (tested_place W s)) (fill c (pass W (g ∷ []) finish))
-      ≡ (if b then refuses else then_run (act x (loaded o x (take W s.left)) (tested_place W s)) (λ y u. then_run (passed W y u) (fill c finish)))
+      ≡ (if b then refuses
+      else then_run (act x (loaded o x (take W s.left)) (tested_place W s)) (λ y u. then_run (passed W y u) (fill c finish)))
   decided true = refl
   decided false =
       one_got c g W d (tested_place W s) (act x (loaded o x (take W s.left)) (tested_place W s))
@@ -101,10 +108,12 @@ pub record Reads (K : ℕ → Type 0) (x : Run Draft) (r : Reading FaultKind ℤ
   pub is : x ≡ then_run number (taken f)
   pub agrees : Agrees K Same number r
 
-pub reads-wider : (K L : ℕ → Type 0) (x : Run Draft) (r : Reading FaultKind ℤ) (f : ℤ → Option Draft) → Reads K x r f → ((q : ℕ) → K q → L q) → Reads L x r f
+pub reads-wider : (K L : ℕ → Type 0) (x : Run Draft) (r : Reading FaultKind ℤ) (f : ℤ → Option Draft) → Reads K x r f
+    → ((q : ℕ) → K q → L q)
+    → Reads L x r f
 reads-wider K L x r f h k = record { number = h.number; is = h.is; agrees = agrees-wider K L Same h.number r h.agrees k }
 
--- a get that takes the number of a scalar, which stands at an offset
+-- a get that takes the number of a scalar, which is at an offset
 abbrev pub Takes : Encoding → Scalar → ℕ → Get → Draft → (ℤ → Option Draft) → Type 0
 Takes e t off g d f = Does g off (scalar_width e t) (order_of e) d (scalar_into t f)
 
@@ -145,20 +154,23 @@ abbrev pub first_number : Encoding → Scalar → List ℕ → ℤ
 first_number e t o = number_of (is_signed t) (width_of e t) (loaded (order_of e) (width_of e t) (take (scalar_width e t) o))
 
 -- the reader, where there is no gap
-pub scalar_read : (e : Encoding) (t : Scalar) (p : ℕ) (o : List ℕ) → gap p (alignment_of e t) ≡ 0 → read_scalar e t p o
-    ≡ then_on (map_got (number_of (is_signed t) (width_of e t))
-    (if nat_lt (length o) (scalar_width e t) then stop Short (p + 0) else got (loaded (order_of e) (width_of e t) (take (scalar_width e t) o)) (p + scalar_width e t) (drop (scalar_width e t) o)))
+pub scalar_read : (e : Encoding) (t : Scalar) (p : ℕ) (o : List ℕ) → gap p (alignment_of e t) ≡ 0
+    → read_scalar e t p o
+    ≡ then_on (map_got (number_of (is_signed t) (width_of e t)) (if nat_lt (length o) (scalar_width e t) then stop Short (p + 0)
+    else got (loaded (order_of e) (width_of e t) (take (scalar_width e t) o)) (p + scalar_width e t) (drop (scalar_width e t) o)))
     (λ n q rest. if is_scalar t n then got n q rest else stop BadValue (scalar_place e t p))
 unfolding read_scalar read_word
 scalar_read e t p o none =
     let w : Width = width_of e t in
     let long : 0 + byte_len w ≡ byte_len w = omega arith in
-    let shape : ℕ → ℕ → ℕ → Reading FaultKind ℤ = λ (g : ℕ) (m : ℕ) (k : ℕ). then_on (map_got (number_of (is_signed t) w) (if nat_lt (length o) m then stop Short (p + g) else got (octets_number e w (take k (drop g o))) (p + m) (drop k (drop g o))))
+    let shape : ℕ → ℕ → ℕ → Reading FaultKind ℤ = λ (g : ℕ) (m : ℕ) (k : ℕ). then_on (map_got (number_of (is_signed t) w)
+    (if nat_lt (length o) m then stop Short (p + g) else got (octets_number e w (take k (drop g o))) (p + m) (drop k (drop g o))))
     (λ n q rest. if is_scalar t n then got n q rest else stop BadValue (scalar_place e t p)) in
     ap (λ (g : ℕ). shape g (g + byte_len w) (byte_len w)) none
     ∙ ap (λ (m : ℕ). shape 0 m (byte_len w)) long
     ∙ ap (λ (k : ℕ). shape 0 k k) (sym (width_same e t))
-    ∙ ap (λ (m : ℕ). then_on (map_got (number_of (is_signed t) w) (if nat_lt (length o) (scalar_width e t) then stop Short (p + 0) else got m (p + scalar_width e t) (drop (scalar_width e t) o)))
+    ∙ ap (λ (m : ℕ). then_on (map_got (number_of (is_signed t) w)
+    (if nat_lt (length o) (scalar_width e t) then stop Short (p + 0) else got m (p + scalar_width e t) (drop (scalar_width e t) o)))
     (λ n q rest. if is_scalar t n then got n q rest else stop BadValue (scalar_place e t p))) (loads e w (take (scalar_width e t) o))
 
 module _ (e : Encoding) (t : Scalar) where
@@ -171,17 +183,22 @@ module _ (e : Encoding) (t : Scalar) where
   run_of s false false = refuses
 
   -- a scalar where there is no gap, tested and taken
-  pub bare-scalar : (c : Callees) (g : Get) (d : Draft) (f : ℤ → Option Draft) (s : Place) → gap s.pos (alignment_of e t) ≡ 0 → AreOctets s.left → Takes e t 0 g d f
+  pub bare-scalar : (c : Callees) (g : Get) (d : Draft) (f : ℤ → Option Draft) (s : Place) → gap s.pos (alignment_of e t) ≡ 0
+      → AreOctets s.left → Takes e t 0 g d f
       → Reads (λ (q : ℕ). q ≡ s.pos + scalar_width e t) (fill c (take_code (scalar_width e t) g) d s) (read_scalar e t s.pos s.left) f
   bare-scalar c g d f s none oct does =
       let n : ℤ = first_number e t s.left in record {
         number = run_of s (nat_lt (length s.left) (scalar_width e t)) (is_scalar t n);
-        is = word_run c (scalar_width e t) (order_of e) (width_of e t) g d s (scalar_into t f) (width_is e t) oct does ∙ made (nat_lt (length s.left) (scalar_width e t)) (is_scalar t n) (f n) refl;
-        agrees = subst (λ (r : Reading FaultKind ℤ). Agrees (λ (q : ℕ). q ≡ s.pos + scalar_width e t) Same (run_of s (nat_lt (length s.left) (scalar_width e t)) (is_scalar t n)) r) (sym (scalar_read e t s.pos s.left none))
+        is = word_run c (scalar_width e t) (order_of e) (width_of e t) g d s (scalar_into t f) (width_is e t) oct does
+            ∙ made (nat_lt (length s.left) (scalar_width e t)) (is_scalar t n) (f n) refl;
+        agrees = subst (λ (r : Reading FaultKind ℤ). Agrees (λ (q : ℕ). q ≡ s.pos + scalar_width e t) Same
+            (run_of s (nat_lt (length s.left) (scalar_width e t)) (is_scalar t n)) r) (sym (scalar_read e t s.pos s.left none))
             (same (nat_lt (length s.left) (scalar_width e t)) (is_scalar t n) refl);
       } where
         made : (short good : Bool) (o : Option Draft) → o ≡ f (first_number e t s.left)
-            → (if short then refuses else then_run (if good then if_passed o (λ y. gives y (tested_place (scalar_width e t) s)) else refuses) (λ y u. then_run (passed (scalar_width e t) y u) (fill c finish)))
+            → (if short then refuses
+            else then_run (if good then if_passed o (λ y. gives y (tested_place (scalar_width e t) s)) else refuses)
+            (λ y u. then_run (passed (scalar_width e t) y u) (fill c finish)))
             ≡ then_run (run_of s short good) (taken f)
         made true good o is = refl
         made false true (Some y) is =
@@ -192,12 +209,18 @@ module _ (e : Encoding) (t : Scalar) where
 
         same : (short good : Bool) → is_scalar t (first_number e t s.left) ≡ good
             → Agrees (λ (q : ℕ). q ≡ s.pos + scalar_width e t) Same (run_of s short good)
-            (then_on (map_got (number_of (is_signed t) (width_of e t)) (if short then stop Short (s.pos + 0) else got (loaded (order_of e) (width_of e t) (take (scalar_width e t) s.left)) (s.pos + scalar_width e t) (drop (scalar_width e t) s.left)))
+            (then_on (map_got (number_of (is_signed t) (width_of e t)) (if short then stop Short (s.pos + 0)
+            else got (loaded (order_of e) (width_of e t) (take (scalar_width e t) s.left)) (s.pos + scalar_width e t)
+            (drop (scalar_width e t) s.left)))
             (λ n q rest. if is_scalar t n then got n q rest else stop BadValue (scalar_place e t s.pos)))
         same true good is = tt
-        same false true is = subst (λ (b : Bool). Agrees (λ (q : ℕ). q ≡ s.pos + scalar_width e t) Same (run_of s false true) (if b then got (first_number e t s.left) (s.pos + scalar_width e t) (drop (scalar_width e t) s.left) else stop BadValue (scalar_place e t s.pos)))
+        same false true is = subst (λ (b : Bool). Agrees (λ (q : ℕ). q ≡ s.pos + scalar_width e t) Same (run_of s false true)
+            (if b then got (first_number e t s.left) (s.pos + scalar_width e t) (drop (scalar_width e t) s.left)
+            else stop BadValue (scalar_place e t s.pos)))
             (sym is) (refl, refl, refl, refl, octets_dropped (scalar_width e t) s.left oct)
-        same false false is = subst (λ (b : Bool). Agrees (λ (q : ℕ). q ≡ s.pos + scalar_width e t) Same (run_of s false false) (if b then got (first_number e t s.left) (s.pos + scalar_width e t) (drop (scalar_width e t) s.left) else stop BadValue (scalar_place e t s.pos)))
+        same false false is = subst (λ (b : Bool). Agrees (λ (q : ℕ). q ≡ s.pos + scalar_width e t) Same (run_of s false false)
+            (if b then got (first_number e t s.left) (s.pos + scalar_width e t) (drop (scalar_width e t) s.left)
+            else stop BadValue (scalar_place e t s.pos)))
             (sym is) tt
 
 width_placed : (w : Width) → IsOwn w → IsPlace Xdr (byte_len (at_least_32 w))
@@ -212,12 +235,14 @@ xdr_wide t = subst (λ (w : ℕ). w % 4 ≡ 0) (sym (width_same Xdr t)) (width_p
 pub xdr_scalar : LonesRead Xdr
 xdr_scalar c t g d f s here oct does =
     let none : gap s.pos 1 ≡ 0 = omega arith in
-    reads-wider (λ (q : ℕ). q ≡ s.pos + scalar_width Xdr t) (IsPlace Xdr) (fill c (take_code (scalar_width Xdr t) g) d s) (read_scalar Xdr t s.pos s.left) f
+    reads-wider (λ (q : ℕ). q ≡ s.pos + scalar_width Xdr t) (IsPlace Xdr) (fill c (take_code (scalar_width Xdr t) g) d s)
+    (read_scalar Xdr t s.pos s.left) f
     (bare-scalar Xdr t c g d f s none oct does) (λ (q : ℕ) is. let w = xdr_wide t in omega (arith, is, here, w))
 
 -- ---- a count
 
-pub word_same : (off w : ℕ) (s : Place) (o : Order) (f g : Width → ℕ → Run Draft) → ((x : Width) (m : ℕ) → f x m ≡ g x m) → word_at off w o s f ≡ word_at off w o s g
+pub word_same : (off w : ℕ) (s : Place) (o : Order) (f g : Width → ℕ → Run Draft) → ((x : Width) (m : ℕ) → f x m ≡ g x m)
+    → word_at off w o s f ≡ word_at off w o s g
 word_same off w s o f g e = wide (width_in w) where
   near : (b : Bool) (x : Width) (m : ℕ) → (if b then f x m else strays) ≡ (if b then g x m else strays)
   near true x m = e x m
@@ -231,7 +256,7 @@ word_same off w s o f g e = wide (width_in w) where
 pub same_true : (n : ℕ) → nat_eq n n ≡ true
 same_true n = eq-eqb n n refl
 
--- a length as it stands
+-- a length as it is
 plain_length : (m : ℕ) → length_of 1 0 m ≡ Some m
 plain_length m =
     let one : (m - 0) / 1 ≡ m = omega arith in
@@ -251,11 +276,15 @@ abbrev IsFree : Count → Type 0
 IsFree (Exactly m) = ⊥
 IsFree _ = Unit {0}
 
-length_taken : (b : Count) (f : ℕ → Draft) (x : Width) (m : ℕ) (u : Place) → IsFree b → length_into b f 1 0 m u ≡ scalar_into counted (counted_draft b f) x m u
+length_taken : (b : Count) (f : ℕ → Draft) (x : Width) (m : ℕ) (u : Place) → IsFree b
+    → length_into b f 1 0 m u ≡ scalar_into counted (counted_draft b f) x m u
 length_taken (Exactly k) f x m u h = absurd h
 length_taken (AtMost k) f x m u h =
-    ap (λ (o : Option ℕ). if_passed o (λ n. if allows (AtMost k) n then gives (f n) u else refuses)) (plain_length m) ∙ decided (nat_lt m 4294967296) (nat_le m k) where
-      decided : (a b : Bool) → (if (a && b) then gives (f m) u else refuses) ≡ (if a then if_passed (if b then Some (f m) else None) (λ d. gives d u) else refuses)
+    ap (λ (o : Option ℕ). if_passed o (λ n. if allows (AtMost k) n then gives (f n) u else refuses)) (plain_length m)
+    ∙ decided (nat_lt m 4294967296) (nat_le m k) where
+      decided : (a b : Bool)
+          → (if (a && b) then gives (f m) u else refuses)
+          ≡ (if a then if_passed (if b then Some (f m) else None) (λ d. gives d u) else refuses)
       decided true true = refl
       decided true false = refl
       decided false b = refl
@@ -267,37 +296,45 @@ then_gives (gives a t) f = refl
 then_gives refuses f = refl
 then_gives strays f = refl
 
-module _ (e : Encoding) (lone : LonesRead e) (c : Callees) (f : ℕ → Draft) (d : Draft) (s : Place) (here : IsPlace e s.pos) (oct : AreOctets s.left) where
+module _ (e : Encoding) (lone : LonesRead e) (c : Callees) (f : ℕ → Draft) (d : Draft) (s : Place) (here : IsPlace e s.pos)
+    (oct : AreOctets s.left) where
   -- the number of a length that is not fixed
   length-reads : (b : Count) → IsFree b → ((m : ℕ) (u : Place) → count_into 1 0 m d u ≡ length_into b f 1 0 m u)
       → Reads (After e counted) (fill c (scalar_code e counted (length_get e 0)) d s) (read_lone e counted s.pos s.left) (counted_draft b f)
   length-reads b free into =
       lone c counted (length_get e 0) d (counted_draft b f) s here oct
-      (λ (u : Place) o. word_same (number_at e) (scalar_width e counted) u (order_of e) (λ x k. count_into 1 0 k d u) (λ x k. scalar_into counted (counted_draft b f) x k u)
+      (λ (u : Place) o. word_same (number_at e) (scalar_width e counted) u (order_of e) (λ x k. count_into 1 0 k d u)
+      (λ x k. scalar_into counted (counted_draft b f) x k u)
       (λ (x : Width) (k : ℕ). into k u ∙ length_taken b f x k u free))
 
   -- a count, where a get takes it; or the fixed length in no octets
-  pub count-reads : (b : Count) (K : ℕ → Type 0) (P : Draft → ℕ → Type 0) → ((q : ℕ) → After e counted q → K q) → ((m : ℕ) → b ≡ Exactly m → K s.pos)
-      → ((m : ℕ) (u : Place) → count_into 1 0 m d u ≡ length_into b f 1 0 m u) → ((n : ℕ) → P (f n) n) → ((m : ℕ) → b ≡ Exactly m → P d m)
+  pub count-reads : (b : Count) (K : ℕ → Type 0) (P : Draft → ℕ → Type 0) → ((q : ℕ) → After e counted q → K q)
+      → ((m : ℕ) → b ≡ Exactly m → K s.pos) → ((m : ℕ) (u : Place) → count_into 1 0 m d u ≡ length_into b f 1 0 m u) → ((n : ℕ) → P (f n) n)
+      → ((m : ℕ) → b ≡ Exactly m → P d m)
       → Agrees K P (fill c (count_code e b) d s) (read_count e b s.pos s.left)
   unfolding read_count
   count-reads (Exactly m) K P after fixed_place into made fixed = (fixed m refl, refl, refl, fixed_place m refl, oct)
   count-reads (AtMost m) K P after fixed_place into made fixed =
       let r = length-reads (AtMost m) tt into in
       subst (λ (x : Run Draft). Agrees K P x (read_count e (AtMost m) s.pos s.left)) (sym r.is)
-      (agrees-then K K (λ (z : ℤ) (n : ℕ). natural z ≡ n) P r.number (map_got natural (read_lone e counted s.pos s.left)) (taken (counted_draft (AtMost m) f))
+      (agrees-then K K (λ (z : ℤ) (n : ℕ). natural z ≡ n) P r.number (map_got natural (read_lone e counted s.pos s.left))
+      (taken (counted_draft (AtMost m) f))
       (λ n q rest. if nat_le n m then got n q rest else stop OverBound (lone_place e counted s.pos))
       (agrees-read K Same (λ (z : ℤ) (n : ℕ). natural z ≡ n) r.number (read_lone e counted s.pos s.left) natural
-      (agrees-wider (After e counted) K Same r.number (read_lone e counted s.pos s.left) r.agrees after) (λ (a : ℤ) (z : ℤ) same. ap natural same))
-      (λ (z : ℤ) (n : ℕ) (t : Place) same k o. subst (λ (i : ℕ). Agrees K P (taken (counted_draft (AtMost m) f) z t) (if nat_le i m then got i t.pos t.left else stop OverBound (lone_place e counted s.pos))) same
+      (agrees-wider (After e counted) K Same r.number (read_lone e counted s.pos s.left) r.agrees after)
+      (λ (a : ℤ) (z : ℤ) same. ap natural same))
+      (λ (z : ℤ) (n : ℕ) (t : Place) same k o. subst (λ (i : ℕ). Agrees K P (taken (counted_draft (AtMost m) f) z t)
+      (if nat_le i m then got i t.pos t.left else stop OverBound (lone_place e counted s.pos))) same
       (bounded z t k o (nat_le (natural z) m)))) where
         bounded : (z : ℤ) (t : Place) → K t.pos → AreOctets t.left → (g : Bool)
-            → Agrees K P (if_passed (if g then Some (f (natural z)) else None) (λ y. gives y t)) (if g then got (natural z) t.pos t.left else stop OverBound (lone_place e counted s.pos))
+            → Agrees K P (if_passed (if g then Some (f (natural z)) else None) (λ y. gives y t))
+            (if g then got (natural z) t.pos t.left else stop OverBound (lone_place e counted s.pos))
         bounded z t k o true = (made (natural z), refl, refl, k, o)
         bounded z t k o false = tt
   count-reads Any K P after fixed_place into made fixed =
       let r = length-reads Any tt into in
-      subst (λ (x : Run Draft). Agrees K P x (map_got natural (read_lone e counted s.pos s.left))) (sym (r.is ∙ then_gives r.number (λ z. f (natural z))))
+      subst (λ (x : Run Draft). Agrees K P x (map_got natural (read_lone e counted s.pos s.left)))
+      (sym (r.is ∙ then_gives r.number (λ z. f (natural z))))
       (agrees-map K Same P r.number (read_lone e counted s.pos s.left) (λ z. f (natural z)) natural
       (agrees-wider (After e counted) K Same r.number (read_lone e counted s.pos s.left) r.agrees after)
       (λ (a : ℤ) (z : ℤ) same. subst (λ (y : ℤ). P (f (natural a)) (natural y)) same (made (natural a))))

@@ -43,14 +43,15 @@ same_so : (a b : List ℕ) → same_octets a b ≡ true → a ≡ b
 same_so [] [] h = refl
 same_so [] (y ∷ b) h = absurd cc
 same_so (x ∷ a) [] h = absurd cc
-same_so (x ∷ a) (y ∷ b) h = ap (λ (z : ℕ). z ∷ a) (eqb-true x y (left (nat_eq x y) (same_octets a b) h)) ∙ ap (λ (l : List ℕ). y ∷ l) (same_so a b (right (nat_eq x y) (same_octets a b) h)) where
-  left : (g h : Bool) → (g && h) ≡ true → g ≡ true
-  left true h e = refl
-  left false h e = e
+same_so (x ∷ a) (y ∷ b) h = ap (λ (z : ℕ). z ∷ a) (eqb-true x y (left (nat_eq x y) (same_octets a b) h))
+    ∙ ap (λ (l : List ℕ). y ∷ l) (same_so a b (right (nat_eq x y) (same_octets a b) h)) where
+      left : (g h : Bool) → (g && h) ≡ true → g ≡ true
+      left true h e = refl
+      left false h e = e
 
-  right : (g h : Bool) → (g && h) ≡ true → h ≡ true
-  right true h e = e
-  right false h e = absurd cc
+      right : (g h : Bool) → (g && h) ≡ true → h ≡ true
+      right true h e = e
+      right false h e = absurd cc
 
 octets_taken : (n : ℕ) (l : List ℕ) → AreOctets l → AreOctets (take n l)
 octets_taken zero l h = tt
@@ -58,7 +59,8 @@ octets_taken (suc n) [] h = tt
 octets_taken (suc n) (b ∷ l) h = (h.0, octets_taken n l h.1)
 
 -- the first four octets are these of a word exactly where they are its number
-pub word_is : (w : ℕ) (o : List ℕ) → w < 4294967296 → AreOctets o → 4 ≤ length o → same_octets (le 4 w) (take 4 o) ≡ nat_eq (from_le_bytes w32 (take 4 o)) w
+pub word_is : (w : ℕ) (o : List ℕ) → w < 4294967296 → AreOctets o → 4 ≤ length o
+    → same_octets (le 4 w) (take 4 o) ≡ nat_eq (from_le_bytes w32 (take 4 o)) w
 word_is w o lt oct enough = either (nat_eq (from_le_bytes w32 (take 4 o)) w) refl (same_octets (le 4 w) (take 4 o)) refl where
   four : length (take 4 o) ≡ 4
   four = omega (arith, length-take 4 o, enough)
@@ -79,11 +81,13 @@ word_is w o lt oct enough = either (nat_eq (from_le_bytes w32 (take 4 o)) w) ref
       sym (eq-eqb (from_le_bytes w32 (take 4 o)) w w_is) ∙ is
 
 -- a word of 32 bits, read where it is
-pub word_read : (p : ℕ) (o : List ℕ) → read_word Mach 1 w32 p o ≡ (if nat_lt (length o) 4 then stop Short (p + 0) else got (from_le_bytes w32 (take 4 o)) (p + 4) (drop 4 o))
+pub word_read : (p : ℕ) (o : List ℕ)
+    → read_word Mach 1 w32 p o ≡ (if nat_lt (length o) 4 then stop Short (p + 0) else got (from_le_bytes w32 (take 4 o)) (p + 4) (drop 4 o))
 unfolding read_word
 word_read p o =
     let none : gap p 1 ≡ 0 = omega arith in
-    ap (λ (g : ℕ). if nat_lt (length o) (g + 4) then stop Short (p + g) else got (from_le_bytes w32 (take 4 (drop g o))) (p + (g + 4)) (drop 4 (drop g o))) none
+    ap (λ (g : ℕ). if nat_lt (length o) (g + 4) then stop Short (p + g)
+    else got (from_le_bytes w32 (take 4 (drop g o))) (p + (g + 4)) (drop 4 (drop g o))) none
 
 word_small : (t : Scalar) → scalar_word t < 4294967296
 word_small (label ls) = omega arith
@@ -118,50 +122,74 @@ module _ (t : Scalar) where
   abbrev D : List ℕ
   D = le 4 (scalar_word t)
 
-  -- the number behind the descriptor, in range or not
+  -- the number after the descriptor, in range or not
   abbrev inside : List ℕ → ℤ
   inside o = number_of (is_signed t) (width_of Mach t) (loaded Little (width_of Mach t) (take W (drop 4 o)))
 
   -- ---- the code of an item
 
   item_run : (c : Callees) (g : Get) (d : Draft) (f : ℤ → Option Draft) (s : Place) → AreOctets s.left → Takes Mach t 4 g d f
-      → fill c (item_code t g) d s ≡ (if nat_lt (length s.left) N then refuses else (if same_octets D (take 4 s.left)
-      then then_run (then_run (scalar_into t f (width_of Mach t) (loaded Little (width_of Mach t) (take W (drop 4 s.left))) (tested_place N s)) (all_got [])) (λ y u. then_run (passed N y u) (fill c finish)) else refuses))
+      → fill c (item_code t g) d s
+      ≡ (if nat_lt (length s.left) N then refuses
+      else (if same_octets D (take 4 s.left)
+      then then_run
+      (then_run (scalar_into t f (width_of Mach t) (loaded Little (width_of Mach t) (take W (drop 4 s.left))) (tested_place N s))
+      (all_got [])) (λ y u. then_run (passed N y u) (fill c finish))
+      else refuses))
   item_run c g d f s oct does = decided (nat_lt (length s.left) N) where
     near : nat_le (0 + 4) (max N s.near) ≡ true
     near = le_true (0 + 4) (max N s.near) (omega arith)
 
-    number : filler.got g d (tested_place N s) ≡ scalar_into t f (width_of Mach t) (loaded Little (width_of Mach t) (take W (drop 4 s.left))) (tested_place N s)
-    number = does (tested_place N s) oct ∙ word_tested N 4 W Little (width_of Mach t) s (λ x m. scalar_into t f x m (tested_place N s)) (width_is Mach t) (omega arith)
+    number : filler.got g d (tested_place N s)
+        ≡ scalar_into t f (width_of Mach t) (loaded Little (width_of Mach t) (take W (drop 4 s.left))) (tested_place N s)
+    number = does (tested_place N s) oct
+        ∙ word_tested N 4 W Little (width_of Mach t) s (λ x m. scalar_into t f x m (tested_place N s)) (width_is Mach t) (omega arith)
 
-    matched : (b : Bool) → then_run (then_run (if b then gives d (tested_place N s) else refuses) (λ x v. then_run (filler.got g x v) (all_got []))) (λ y u. then_run (passed N y u) (fill c finish))
-        ≡ (if b then then_run (then_run (scalar_into t f (width_of Mach t) (loaded Little (width_of Mach t) (take W (drop 4 s.left))) (tested_place N s)) (all_got [])) (λ y u. then_run (passed N y u) (fill c finish)) else refuses)
+    matched : (b : Bool)
+        → then_run (then_run (if b then gives d (tested_place N s) else refuses) (λ x v. then_run (filler.got g x v) (all_got [])))
+        (λ y u. then_run (passed N y u) (fill c finish))
+        ≡
+        (if b
+        then then_run
+        (then_run (scalar_into t f (width_of Mach t) (loaded Little (width_of Mach t) (take W (drop 4 s.left))) (tested_place N s))
+        (all_got [])) (λ y u. then_run (passed N y u) (fill c finish))
+        else refuses)
     matched true = ap (λ (x : Run Draft). then_run (then_run x (all_got [])) (λ y u. then_run (passed N y u) (fill c finish))) number
     matched false = refl
 
-    decided : (short : Bool) → then_run (if short then refuses else gives d (tested_place N s)) (fill c (pass N (get.Const 0 D ∷ g ∷ []) finish))
+    decided : (short : Bool)
+        → then_run (if short then refuses else gives d (tested_place N s)) (fill c (pass N (get.Const 0 D ∷ g ∷ []) finish))
         ≡ (if short then refuses else (if same_octets D (take 4 s.left)
-        then then_run (then_run (scalar_into t f (width_of Mach t) (loaded Little (width_of Mach t) (take W (drop 4 s.left))) (tested_place N s)) (all_got [])) (λ y u. then_run (passed N y u) (fill c finish)) else refuses))
+        then then_run
+        (then_run (scalar_into t f (width_of Mach t) (loaded Little (width_of Mach t) (take W (drop 4 s.left))) (tested_place N s))
+        (all_got [])) (λ y u. then_run (passed N y u) (fill c finish)) else refuses))
     decided true = refl
     decided false =
-        ap (λ (b : Bool). then_run (then_run (if b then (if same_octets D (take 4 s.left) then gives d (tested_place N s) else refuses) else strays) (λ x v. then_run (filler.got g x v) (all_got []))) (λ y u. then_run (passed N y u) (fill c finish))) near
+        ap (λ (b : Bool). then_run
+        (then_run (if b then (if same_octets D (take 4 s.left) then gives d (tested_place N s) else refuses) else strays)
+        (λ x v. then_run (filler.got g x v) (all_got []))) (λ y u. then_run (passed N y u) (fill c finish))) near
         ∙ matched (same_octets D (take 4 s.left))
 
   -- ---- the reader of an item, by what the code tests
 
   abbrev known : Bool → Bool → Bool → ℕ → List ℕ → Reading FaultKind ℤ
-  known short desc good p o = if short then stop Short p else (if desc then (if good then got (inside o) (p + N) (drop N o) else stop BadValue p) else stop BadItem p)
+  known short desc good p o = if short then stop Short p
+      else (if desc then (if good then got (inside o) (p + N) (drop N o) else stop BadValue p) else stop BadItem p)
 
   abbrev filled : ℤ → Reading FaultKind (Unit {0}) → Reading FaultKind (ℤ × Unit {0})
   filled n r = map_got (λ z. (n, z)) r
 
   abbrev number_behind : Reading FaultKind ℤ → Reading FaultKind ℤ
-  number_behind r = map_got (λ (x : Unit {0} × (ℤ × Unit {0})). x.1.0) (map_got (λ y. (tt, y)) (then_on r (λ n q l. filled n (read_any (filling t) q l))))
+  number_behind r = map_got (λ (x : Unit {0} × (ℤ × Unit {0})). x.1.0)
+      (map_got (λ y. (tt, y)) (then_on r (λ n q l. filled n (read_any (filling t) q l))))
 
-  item_ends : (p : ℕ) (o : List ℕ) → AreOctets o → SameEnds (known (nat_lt (length o) N) (same_octets D (take 4 o)) (is_scalar t (inside o)) p o) (read_lone Mach t p o)
+  item_ends : (p : ℕ) (o : List ℕ) → AreOctets o
+      → SameEnds (known (nat_lt (length o) N) (same_octets D (take 4 o)) (is_scalar t (inside o)) p o) (read_lone Mach t p o)
   unfolding read_desc read_any
   item_ends p o oct = rw word_read (first (nat_lt (length o) 4) refl (nat_lt (length o) N) refl) where
-    all_there : (b0 : Bool) → nat_lt (length o) N ≡ b0 → nat_lt (length o) 4 ≡ false → nat_lt (length (drop 4 o)) W ≡ false → nat_lt (length (drop W (drop 4 o))) (filling t) ≡ false → b0 ≡ false
+    all_there : (b0 : Bool) → nat_lt (length o) N ≡ b0 → nat_lt (length o) 4 ≡ false → nat_lt (length (drop 4 o)) W ≡ false
+        → nat_lt (length (drop W (drop 4 o))) (filling t) ≡ false
+        → b0 ≡ false
     all_there b0 is one two three =
         let a = ltb-false (length o) 4 one in
         let b = ltb-false (length (drop 4 o)) W two in
@@ -173,9 +201,12 @@ module _ (t : Scalar) where
     false_not_true : true ≡ false → ⊥
     false_not_true e = cc
 
-    any : (b0 b5 : Bool) → nat_lt (length o) N ≡ b0 → nat_lt (length o) 4 ≡ false → nat_lt (length (drop 4 o)) W ≡ false → nat_lt (length (drop W (drop 4 o))) (filling t) ≡ b5
+    any : (b0 b5 : Bool) → nat_lt (length o) N ≡ b0 → nat_lt (length o) 4 ≡ false → nat_lt (length (drop 4 o)) W ≡ false
+        → nat_lt (length (drop W (drop 4 o))) (filling t) ≡ b5
         → SameEnds (if b0 then stop Short p else got (inside o) (p + N) (drop N o))
-        (map_got (λ (x : Unit {0} × (ℤ × Unit {0})). x.1.0) (map_got (λ y. (tt, y)) (filled (inside o) (if b5 then stop Short (p + 4 + W + length (drop W (drop 4 o))) else got tt (p + 4 + W + filling t) (drop (filling t) (drop W (drop 4 o)))))))
+        (map_got (λ (x : Unit {0} × (ℤ × Unit {0})). x.1.0)
+        (map_got (λ y. (tt, y)) (filled (inside o) (if b5 then stop Short (p + 4 + W + length (drop W (drop 4 o)))
+        else got tt (p + 4 + W + filling t) (drop (filling t) (drop W (drop 4 o)))))))
     any true true is one two three = tt
     any false true is one two three =
         let c = ltb-true (length (drop W (drop 4 o))) (filling t) three in
@@ -190,9 +221,11 @@ module _ (t : Scalar) where
         let sum : 4 + W + filling t ≡ N = omega arith in
         (refl, omega arith, sym (ap (drop (filling t)) (drop-drop W 4 o) ∙ drop-drop (filling t) (4 + W) o ∙ ap (λ (k : ℕ). drop k o) sum))
 
-    scalar : (b0 b3 b4 : Bool) → nat_lt (length o) N ≡ b0 → nat_lt (length o) 4 ≡ false → nat_lt (length (drop 4 o)) W ≡ b3 → is_scalar t (inside o) ≡ b4
+    scalar : (b0 b3 b4 : Bool) → nat_lt (length o) N ≡ b0 → nat_lt (length o) 4 ≡ false → nat_lt (length (drop 4 o)) W ≡ b3
+        → is_scalar t (inside o) ≡ b4
         → SameEnds (if b0 then stop Short p else (if b4 then got (inside o) (p + N) (drop N o) else stop BadValue p))
-        (number_behind (then_on (map_got (number_of (is_signed t) (width_of Mach t)) (if b3 then stop Short (p + 4 + 0) else got (loaded Little (width_of Mach t) (take W (drop 4 o))) (p + 4 + W) (drop W (drop 4 o))))
+        (number_behind (then_on (map_got (number_of (is_signed t) (width_of Mach t))
+        (if b3 then stop Short (p + 4 + 0) else got (loaded Little (width_of Mach t) (take W (drop 4 o))) (p + 4 + W) (drop W (drop 4 o))))
         (λ n q rest. if is_scalar t n then got n q rest else stop BadValue (scalar_place Mach t (p + 4)))))
     scalar true true b4 is one two three = tt
     scalar false true b4 is one two three =
@@ -208,22 +241,29 @@ module _ (t : Scalar) where
 
     behind : (b0 b2 : Bool) → nat_lt (length o) N ≡ b0 → nat_lt (length o) 4 ≡ false → same_octets D (take 4 o) ≡ b2
         → SameEnds (known b0 b2 (is_scalar t (inside o)) p o)
-        (map_got (λ (x : Unit {0} × (ℤ × Unit {0})). x.1.0) (then_on (map_got (λ m. tt) (if nat_eq (from_le_bytes w32 (take 4 o)) (scalar_word t) then got (from_le_bytes w32 (take 4 o)) (p + 4) (drop 4 o) else stop BadItem p))
+        (map_got (λ (x : Unit {0} × (ℤ × Unit {0})). x.1.0) (then_on (map_got (λ m. tt)
+        (if nat_eq (from_le_bytes w32 (take 4 o)) (scalar_word t) then got (from_le_bytes w32 (take 4 o)) (p + 4) (drop 4 o)
+        else stop BadItem p))
         (λ u q l. map_got (λ y. (u, y)) (then_on (read_scalar Mach t q l) (λ n q l. filled n (read_any (filling t) q l))))))
-    behind b0 b2 is one two = rw (sym (word_is (scalar_word t) o (word_small t) oct (ltb-false (length o) 4 one)) ∙ two) (chosen b0 b2 is) where
-      chosen : (b0 b2 : Bool) → nat_lt (length o) N ≡ b0
-          → SameEnds (known b0 b2 (is_scalar t (inside o)) p o)
-          (map_got (λ (x : Unit {0} × (ℤ × Unit {0})). x.1.0) (then_on (map_got (λ m. tt) (if b2 then got (from_le_bytes w32 (take 4 o)) (p + 4) (drop 4 o) else stop BadItem p))
-          (λ u q l. map_got (λ y. (u, y)) (then_on (read_scalar Mach t q l) (λ n q l. filled n (read_any (filling t) q l))))))
-      chosen true false h = tt
-      chosen false false h = tt
-      chosen b0 true h =
-          let none : gap (p + 4) 1 ≡ 0 = omega arith in
-          rw (scalar_read Mach t (p + 4) (drop 4 o) none) (scalar b0 (nat_lt (length (drop 4 o)) W) (is_scalar t (inside o)) h one refl refl)
+    behind b0 b2 is one two =
+        rw (sym (word_is (scalar_word t) o (word_small t) oct (ltb-false (length o) 4 one)) ∙ two) (chosen b0 b2 is) where
+          chosen : (b0 b2 : Bool) → nat_lt (length o) N ≡ b0
+              → SameEnds (known b0 b2 (is_scalar t (inside o)) p o)
+              (map_got (λ (x : Unit {0} × (ℤ × Unit {0})). x.1.0)
+              (then_on (map_got (λ m. tt) (if b2 then got (from_le_bytes w32 (take 4 o)) (p + 4) (drop 4 o) else stop BadItem p))
+              (λ u q l. map_got (λ y. (u, y)) (then_on (read_scalar Mach t q l) (λ n q l. filled n (read_any (filling t) q l))))))
+          chosen true false h = tt
+          chosen false false h = tt
+          chosen b0 true h =
+              let none : gap (p + 4) 1 ≡ 0 = omega arith in
+              rw (scalar_read Mach t (p + 4) (drop 4 o) none)
+              (scalar b0 (nat_lt (length (drop 4 o)) W) (is_scalar t (inside o)) h one refl refl)
 
     first : (b1 : Bool) → nat_lt (length o) 4 ≡ b1 → (b0 : Bool) → nat_lt (length o) N ≡ b0
         → SameEnds (known b0 (same_octets D (take 4 o)) (is_scalar t (inside o)) p o)
-        (map_got (λ (x : Unit {0} × (ℤ × Unit {0})). x.1.0) (then_on (map_got (λ m. tt) (then_on (if b1 then stop Short (p + 0) else got (from_le_bytes w32 (take 4 o)) (p + 4) (drop 4 o)) (λ x q rest. if nat_eq x (scalar_word t) then got x q rest else stop BadItem p)))
+        (map_got (λ (x : Unit {0} × (ℤ × Unit {0})). x.1.0)
+        (then_on (map_got (λ m. tt) (then_on (if b1 then stop Short (p + 0) else got (from_le_bytes w32 (take 4 o)) (p + 4) (drop 4 o))
+        (λ x q rest. if nat_eq x (scalar_word t) then got x q rest else stop BadItem p)))
         (λ u q l. map_got (λ y. (u, y)) (then_on (read_scalar Mach t q l) (λ n q l. filled n (read_any (filling t) q l))))))
     first true one true is = tt
     first true one false is = let a = ltb-true (length o) 4 one in let w = ltb-false (length o) N is in absurd (omega (arith, a, w))
@@ -232,19 +272,28 @@ module _ (t : Scalar) where
   -- ---- both
 
   abbrev run_of : Place → Bool → Bool → Bool → Run ℤ
-  run_of s short desc good = if short then refuses else (if desc then (if good then gives (inside s.left) (passed_place N s) else refuses) else refuses)
+  run_of s short desc good = if short then refuses
+      else (if desc then (if good then gives (inside s.left) (passed_place N s) else refuses) else refuses)
 
-  pub item-reads : (c : Callees) (g : Get) (d : Draft) (f : ℤ → Option Draft) (s : Place) → IsPlace Mach s.pos → AreOctets s.left → Takes Mach t 4 g d f
+  pub item-reads : (c : Callees) (g : Get) (d : Draft) (f : ℤ → Option Draft) (s : Place) → IsPlace Mach s.pos → AreOctets s.left
+      → Takes Mach t 4 g d f
       → Reads (IsPlace Mach) (fill c (item_code t g) d s) (read_lone Mach t s.pos s.left) f
   item-reads c g d f s here oct does = record {
     number = run_of s (nat_lt (length s.left) N) (same_octets D (take 4 s.left)) (is_scalar t (inside s.left));
-    is = item_run c g d f s oct does ∙ made (nat_lt (length s.left) N) (same_octets D (take 4 s.left)) (is_scalar t (inside s.left)) (f (inside s.left)) refl;
-    agrees = agrees-ends (IsPlace Mach) Same (run_of s (nat_lt (length s.left) N) (same_octets D (take 4 s.left)) (is_scalar t (inside s.left)))
-        (known (nat_lt (length s.left) N) (same_octets D (take 4 s.left)) (is_scalar t (inside s.left)) s.pos s.left) (read_lone Mach t s.pos s.left) (item_ends s.pos s.left oct)
+    is = item_run c g d f s oct does
+        ∙ made (nat_lt (length s.left) N) (same_octets D (take 4 s.left)) (is_scalar t (inside s.left)) (f (inside s.left)) refl;
+    agrees =
+        agrees-ends (IsPlace Mach) Same (run_of s (nat_lt (length s.left) N) (same_octets D (take 4 s.left)) (is_scalar t (inside s.left)))
+        (known (nat_lt (length s.left) N) (same_octets D (take 4 s.left)) (is_scalar t (inside s.left)) s.pos s.left)
+        (read_lone Mach t s.pos s.left) (item_ends s.pos s.left oct)
         (same (nat_lt (length s.left) N) (same_octets D (take 4 s.left)) (is_scalar t (inside s.left)));
   } where
     made : (short desc good : Bool) (z : Option Draft) → z ≡ f (inside s.left)
-        → (if short then refuses else (if desc then then_run (then_run (if good then if_passed z (λ y. gives y (tested_place N s)) else refuses) (all_got [])) (λ y u. then_run (passed N y u) (fill c finish)) else refuses))
+        → (if short then refuses
+        else (if desc
+        then then_run (then_run (if good then if_passed z (λ y. gives y (tested_place N s)) else refuses) (all_got []))
+        (λ y u. then_run (passed N y u) (fill c finish))
+        else refuses))
         ≡ then_run (run_of s short desc good) (taken f)
     made true desc good z is = refl
     made false false good z is = refl

@@ -46,10 +46,13 @@ pub record AreLowered (e : Encoding) (nodes : List Node) (n : ℕ) (subs : List 
 pub none_lowered : (e : Encoding) (nodes : List Node) → AreLowered e nodes 0 []
 none_lowered e nodes = record { codes = refl; known = λ j m lt is. absurd (omega (arith, lt)) }
 
-pub one_more : (e : Encoding) (nodes : List Node) (k : ℕ) (m : Node) (subs new : List (List RecvOp)) (code : List RecvOp) → Some m ≡ slice_get nodes k → HasChildrenBelow k m → IsSound (type_at nodes k)
-    → AreLowered e nodes k subs → code_seen code ≡ node_code e m → new ≡ subs ++ code ∷ [] → AreLowered e nodes (k + 1) new
+pub one_more : (e : Encoding) (nodes : List Node) (k : ℕ) (m : Node) (subs new : List (List RecvOp)) (code : List RecvOp)
+    → Some m ≡ slice_get nodes k → HasChildrenBelow k m → IsSound (type_at nodes k) → AreLowered e nodes k subs
+    → code_seen code ≡ node_code e m → new ≡ subs ++ code ∷ []
+    → AreLowered e nodes (k + 1) new
 one_more e nodes k m subs new code found below sound so_far made is = record {
-  codes = ap (map code_seen) is ∙ map-append code_seen subs (code ∷ []) ∙ ap (λ (l : List Recv). l ++ code_seen code ∷ []) so_far.codes ∙ ap (λ (c : Recv). map (node_code e) (take k nodes) ++ c ∷ []) made
+  codes = ap (map code_seen) is ∙ map-append code_seen subs (code ∷ []) ∙ ap (λ (l : List Recv). l ++ code_seen code ∷ []) so_far.codes
+      ∙ ap (λ (c : Recv). map (node_code e) (take k nodes) ++ c ∷ []) made
       ∙ sym (ap (map (node_code e)) (take_at nodes k m (sym found)) ∙ map-append (node_code e) (take k nodes) (m ∷ []));
   known = known_more nodes k m (sym found) below sound so_far.known;
 }
@@ -62,7 +65,9 @@ record Stands (e : Encoding) (nodes : List Node) (k : ℕ) (code : Recv) : Type 
   is : slice_get nodes k ≡ Some node
   made : code ≡ node_code e node
 
-stands : (e : Encoding) (nodes : List Node) (k : ℕ) (o : Option Node) (code : Recv) → slice_get nodes k ≡ o → Some code ≡ option_map (node_code e) o → Stands e nodes k code
+stands : (e : Encoding) (nodes : List Node) (k : ℕ) (o : Option Node) (code : Recv) → slice_get nodes k ≡ o
+    → Some code ≡ option_map (node_code e) o
+    → Stands e nodes k code
 stands e nodes k None code is same = absurd cc
 stands e nodes k (Some m) code is same = record { node = m; is = is; made = cc }
 
@@ -80,10 +85,12 @@ module _ (e : Encoding) (nodes : List Node) (subs : List (List RecvOp)) (whole :
   sound k m is = (whole.known k m (in_list nodes k m is) is).1
 
   sub_is : (k : ℕ) (m : Node) → slice_get nodes k ≡ Some m → sub_at subs k ≡ Some (node_code e m)
-  sub_is k m is = get-map code_seen subs k ∙ ap (λ (l : List Recv). slice_get l k) all_codes ∙ sym (get-map (node_code e) nodes k) ∙ ap (option_map (node_code e)) is
+  sub_is k m is = get-map code_seen subs k ∙ ap (λ (l : List Recv). slice_get l k) all_codes ∙ sym (get-map (node_code e) nodes k)
+      ∙ ap (option_map (node_code e)) is
 
   code_at : (k : ℕ) (b : Recv) → sub_at subs k ≡ Some b → Stands e nodes k b
-  code_at k b is = stands e nodes k (slice_get nodes k) b refl (sym is ∙ get-map code_seen subs k ∙ ap (λ (l : List Recv). slice_get l k) all_codes ∙ sym (get-map (node_code e) nodes k))
+  code_at k b is = stands e nodes k (slice_get nodes k) b refl
+      (sym is ∙ get-map code_seen subs k ∙ ap (λ (l : List Recv). slice_get l k) all_codes ∙ sym (get-map (node_code e) nodes k))
 
   code_of : (k : ℕ) (ops : List RecvOp) → slice_get subs k ≡ Some ops → Stands e nodes k (code_seen ops)
   code_of k ops is = code_at k (code_seen ops) (ap (option_map code_seen) is)
@@ -109,7 +116,8 @@ module _ (e : Encoding) (nodes : List Node) (subs : List (List RecvOp)) (whole :
     traces (suc n) k m lt is =
         subst (λ (t : Ty). TracesBy L (sub_at subs) t k [] (node_code e m)) (sym (type_at-level nodes k m (below e nodes subs whole) is))
         (node-traces e L array (sub_at subs) (unfolded nodes) k
-        (λ (i : ℕ) i_lt. let f = found nodes i (omega (arith, i_lt, in_list nodes k m is)) in (node_code e f.node, sub_is e nodes subs whole i f.node f.is, traces n i f.node (omega (arith, i_lt, lt)) f.is))
+        (λ (i : ℕ) i_lt. let f = found nodes i (omega (arith, i_lt, in_list nodes k m is)) in
+        (node_code e f.node, sub_is e nodes subs whole i f.node f.is, traces n i f.node (omega (arith, i_lt, lt)) f.is))
         m (below e nodes subs whole k m is))
 
     pub codes_trace : (k : ℕ) (b : Recv) → sub_at subs k ≡ Some b → TracesBy L (sub_at subs) (type_at nodes k) k [] b
@@ -117,13 +125,17 @@ module _ (e : Encoding) (nodes : List Node) (subs : List (List RecvOp)) (whole :
         let s = code_at e nodes subs whole k b is in
         subst (TracesBy L (sub_at subs) (type_at nodes k) k []) (sym s.made) (traces (suc k) k s.node (omega arith) s.is)
 
-  -- a node's code, where calls may stand so deep within one another
-  node_read : (n k : ℕ) (m : Node) (s : Place) → slice_get nodes k ≡ Some m → depth (type_at nodes k) ≤ suc n → IsPlace e s.pos → AreOctets s.left
-      → ((i : ℕ) (t : Place) → i < length nodes → depth (type_at nodes i) ≤ n → IsPlace e t.pos → AreOctets t.left → Agrees (IsPlace e) Settles (called (sub_at subs) n i (fresh (type_at nodes i)) t) (read e (type_at nodes i) t.pos t.left))
-      → Agrees (IsPlace e) Settles (fill (called (sub_at subs) n) (node_code e m) (fresh (type_at nodes k)) s) (read e (type_at nodes k) s.pos s.left)
+  -- a node's code, where calls may be nested so deep
+  node_read : (n k : ℕ) (m : Node) (s : Place) → slice_get nodes k ≡ Some m → depth (type_at nodes k) ≤ suc n → IsPlace e s.pos
+      → AreOctets s.left
+      → ((i : ℕ) (t : Place) → i < length nodes → depth (type_at nodes i) ≤ n → IsPlace e t.pos → AreOctets t.left
+      → Agrees (IsPlace e) Settles (called (sub_at subs) n i (fresh (type_at nodes i)) t) (read e (type_at nodes i) t.pos t.left))
+      → Agrees (IsPlace e) Settles (fill (called (sub_at subs) n) (node_code e m) (fresh (type_at nodes k)) s)
+      (read e (type_at nodes k) s.pos s.left)
   node_read n k m s is low here oct part =
       let same : type_at nodes k ≡ level (unfolded nodes) m = type_at-level nodes k m (below e nodes subs whole) is in
-      subst (λ (t : Ty). Agrees (IsPlace e) Settles (fill (called (sub_at subs) n) (node_code e m) (fresh t) s) (read e t s.pos s.left)) (sym same)
+      subst (λ (t : Ty). Agrees (IsPlace e) Settles (fill (called (sub_at subs) n) (node_code e m) (fresh t) s) (read e t s.pos s.left))
+      (sym same)
       (node-reads e (lones e) (arrays e) (unfolded nodes) (called (sub_at subs) n) n k
       (λ (i : ℕ) (t : Place) lt d p o. part i t (omega (arith, lt, in_list nodes k m is)) d p o)
       m s (below e nodes subs whole k m is) (subst (λ (t : Ty). depth t ≤ suc n) same low) here oct)
@@ -140,7 +152,8 @@ module _ (e : Encoding) (nodes : List Node) (subs : List (List RecvOp)) (whole :
   call_read zero k s lt low here oct = absurd (omega (arith, low, depth_some (type_at nodes k)))
   call_read (suc n) k s lt low here oct =
       let f = found nodes k lt in
-      subst (λ (o : Option Recv). Agrees (IsPlace e) Settles (if_some o (λ b. fill (called (sub_at subs) n) b (fresh (type_at nodes k)) s)) (read e (type_at nodes k) s.pos s.left)) (sym (sub_is e nodes subs whole k f.node f.is))
+      subst (λ (o : Option Recv). Agrees (IsPlace e) Settles (if_some o (λ b. fill (called (sub_at subs) n) b (fresh (type_at nodes k)) s))
+      (read e (type_at nodes k) s.pos s.left)) (sym (sub_is e nodes subs whole k f.node f.is))
       (node_read n k f.node s f.is low here oct (λ (i : ℕ) (t : Place) l d p o. call_read n i t l d p o))
 
   enough : 32 ≤ suc deepest
@@ -152,9 +165,14 @@ module _ (e : Encoding) (nodes : List Node) (subs : List (List RecvOp)) (whole :
       let s = code_of e nodes subs whole k ops is in
       let here = sound e nodes subs whole k s.node s.is in
       let shallow : depth (type_at nodes k) ≤ suc deepest = omega (arith, enough, (sound_taken (type_at nodes k) here).shallow) in
-      subst (λ (b : Recv). IsExact e (type_at nodes k) z.pos z.left (settled (fill (called (sub_at subs) deepest) b (fresh (type_at nodes k)) z))) (sym s.made)
-      (exact e (type_at nodes k) here z.pos z.left oct short (IsPlace e) (settled (fill (called (sub_at subs) deepest) (node_code e s.node) (fresh (type_at nodes k)) z)) (read e (type_at nodes k) z.pos z.left) refl
-      (agrees-settled (IsPlace e) (fill (called (sub_at subs) deepest) (node_code e s.node) (fresh (type_at nodes k)) z) (read e (type_at nodes k) z.pos z.left)
+      subst
+      (λ (b : Recv). IsExact e (type_at nodes k) z.pos z.left (settled (fill (called (sub_at subs) deepest) b (fresh (type_at nodes k)) z)))
+      (sym s.made)
+      (exact e (type_at nodes k) here z.pos z.left oct short (IsPlace e)
+      (settled (fill (called (sub_at subs) deepest) (node_code e s.node) (fresh (type_at nodes k)) z))
+      (read e (type_at nodes k) z.pos z.left) refl
+      (agrees-settled (IsPlace e) (fill (called (sub_at subs) deepest) (node_code e s.node) (fresh (type_at nodes k)) z)
+      (read e (type_at nodes k) z.pos z.left)
       (node_read deepest k s.node z s.is shallow place oct (λ (i : ℕ) (t : Place) l d q y. call_read deepest i t l d q y))))
 
   alone : (x : Run Draft) → then_run x (λ d t. gives d t) ≡ x
@@ -172,26 +190,34 @@ module _ (e : Encoding) (nodes : List Node) (subs : List (List RecvOp)) (whole :
       let here = sound e nodes subs whole k f.node f.is in
       let shallow : depth (type_at nodes k) ≤ deepest = omega (arith, few, (sound_taken (type_at nodes k) here).shallow) in
       let run = called (sub_at subs) deepest k (fresh (type_at nodes k)) z in
-      subst (λ (b : Recv). IsExact e (type_at nodes k) z.pos z.left (settled (fill (called (sub_at subs) deepest) b (fresh (type_at nodes k)) z))) (sym is)
+      subst
+      (λ (b : Recv). IsExact e (type_at nodes k) z.pos z.left (settled (fill (called (sub_at subs) deepest) b (fresh (type_at nodes k)) z)))
+      (sym is)
       (subst (λ (x : Run Draft). IsExact e (type_at nodes k) z.pos z.left (settled x)) (sym (alone run))
       (exact e (type_at nodes k) here z.pos z.left oct short (IsPlace e) (settled run) (read e (type_at nodes k) z.pos z.left) refl
       (agrees-settled (IsPlace e) run (read e (type_at nodes k) z.pos z.left) (call_read deepest k z lt shallow place oct))))
 
 -- ---- at the end of the table
 
-pub ended : (e : Encoding) (nodes : List Node) (id count : ℕ) (subs : List (List RecvOp)) → count ≡ length nodes → count ≤ id → id ≤ count → AreLowered e nodes id subs → AreLowered e nodes (length nodes) subs
+pub ended : (e : Encoding) (nodes : List Node) (id count : ℕ) (subs : List (List RecvOp)) → count ≡ length nodes → count ≤ id → id ≤ count
+    → AreLowered e nodes id subs
+    → AreLowered e nodes (length nodes) subs
 ended e nodes id count subs all past within whole =
     let same : id ≡ length nodes = omega (arith, all, past, within) in
     subst (λ (n : ℕ). AreLowered e nodes n subs) same whole
 
-pub all_receive : (e : Encoding) (nodes : List Node) (subs : List (List RecvOp)) → AreLowered e nodes (length nodes) subs → CodesReceive e nodes subs
+pub all_receive : (e : Encoding) (nodes : List Node) (subs : List (List RecvOp)) → AreLowered e nodes (length nodes) subs
+    → CodesReceive e nodes subs
 all_receive e nodes subs whole = codes_receive e nodes subs whole
 
-pub all_trace : (e : Encoding) (nodes : List Node) (subs : List (List RecvOp)) → AreLowered e nodes (length nodes) subs → AllTrace nodes subs
+pub all_trace : (e : Encoding) (nodes : List Node) (subs : List (List RecvOp)) → AreLowered e nodes (length nodes) subs
+    → AllTrace nodes subs
 all_trace e nodes subs whole = codes_trace e nodes subs whole (λ a. IsLoop) (array_loops e)
 
-pub all_turned : (e : Encoding) (nodes : List Node) (subs : List (List RecvOp)) → AreLowered e nodes (length nodes) subs → AllTurned (layout_of e) nodes subs
+pub all_turned : (e : Encoding) (nodes : List Node) (subs : List (List RecvOp)) → AreLowered e nodes (length nodes) subs
+    → AllTurned (layout_of e) nodes subs
 all_turned e nodes subs whole = codes_trace e nodes subs whole (IsTurned (layout_of e)) (array_turned e)
 
-pub all_calls_receive : (e : Encoding) (nodes : List Node) (subs : List (List RecvOp)) → AreLowered e nodes (length nodes) subs → CallsReceive e nodes subs
+pub all_calls_receive : (e : Encoding) (nodes : List Node) (subs : List (List RecvOp)) → AreLowered e nodes (length nodes) subs
+    → CallsReceive e nodes subs
 all_calls_receive e nodes subs whole = calls_receive e nodes subs whole

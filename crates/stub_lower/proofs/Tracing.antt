@@ -32,7 +32,7 @@ record Headed (b : Recv) : Type 0 where
 headed : (b : Recv) → IsFlat [] b → Headed b
 headed b h = record { first = 0; is = h.0; here = h.1; few = omega arith }
 
--- the same behind a skip, or not
+-- the same after a skip, or not
 skipped_flat : (g : Bool) (w : ℕ) (b : Recv) → IsFlat [] b → IsFlat [] (if g then b else skip_any w b)
 skipped_flat true w b h = h
 skipped_flat false w b h = h
@@ -40,8 +40,10 @@ skipped_flat false w b h = h
 -- a scalar, given a get of the current value
 scalars : (e : Encoding) (s : Scalar) (g : Get) → IsGetAt [] g → IsFlat [] (scalar_code e s g)
 scalars Xdr s g h = (refl, ((h, tt), tt))
-scalars CdrBig s g h = skipped_flat (nat_eq (scalar_width CdrBig s) 1) (scalar_width CdrBig s) (take_code (scalar_width CdrBig s) g) (refl, ((h, tt), tt))
-scalars CdrLittle s g h = skipped_flat (nat_eq (scalar_width CdrLittle s) 1) (scalar_width CdrLittle s) (take_code (scalar_width CdrLittle s) g) (refl, ((h, tt), tt))
+scalars CdrBig s g h =
+    skipped_flat (nat_eq (scalar_width CdrBig s) 1) (scalar_width CdrBig s) (take_code (scalar_width CdrBig s) g) (refl, ((h, tt), tt))
+scalars CdrLittle s g h = skipped_flat (nat_eq (scalar_width CdrLittle s) 1) (scalar_width CdrLittle s)
+    (take_code (scalar_width CdrLittle s) g) (refl, ((h, tt), tt))
 scalars Mach s g h = (refl, ((tt, (h, tt)), tt))
 
 counts : (e : Encoding) (c : Count) → IsCount [] c (count_code e c)
@@ -72,9 +74,11 @@ described Any s = record { first = 1; is = refl; here = (refl, tt); few = omega 
 heads : (e : Encoding) (a : Array) → Headed (head_code e a)
 heads Xdr a = headed (count_code Xdr (count_of a)) (count_flat Xdr (count_of a))
 heads CdrBig (text c) = headed (ended_code CdrBig) (scalars CdrBig counted (length_get CdrBig 1) refl)
-heads CdrBig (row_of k c) = headed (row_code CdrBig (element_width CdrBig (row_of k c)) c) (row_flat CdrBig (element_width CdrBig (row_of k c)) c)
+heads CdrBig (row_of k c) =
+    headed (row_code CdrBig (element_width CdrBig (row_of k c)) c) (row_flat CdrBig (element_width CdrBig (row_of k c)) c)
 heads CdrLittle (text c) = headed (ended_code CdrLittle) (scalars CdrLittle counted (length_get CdrLittle 1) refl)
-heads CdrLittle (row_of k c) = headed (row_code CdrLittle (element_width CdrLittle (row_of k c)) c) (row_flat CdrLittle (element_width CdrLittle (row_of k c)) c)
+heads CdrLittle (row_of k c) =
+    headed (row_code CdrLittle (element_width CdrLittle (row_of k c)) c) (row_flat CdrLittle (element_width CdrLittle (row_of k c)) c)
 heads Mach a = described (count_of a) (number (kind_of a))
 
 behinds : (e : Encoding) (a : Array) → IsFlat [] (behind_code e a)
@@ -129,18 +133,22 @@ array_loops e a = (array_turned e a).loop
 
 -- ---- a node, over codes that follow its parts, its rows and texts being such loops
 
-module _ (e : Encoding) (L : Loops) (array : (a : Array) → L a [] (array_code e a)) (subs : ℕ → Option Recv) (us : List Ty) (b : ℕ) (child : (i : ℕ) → i < b → (code : Recv) × (subs i ≡ Some code) × TracesBy L subs (at us i) i [] code) where
+module _ (e : Encoding) (L : Loops) (array : (a : Array) → L a [] (array_code e a)) (subs : ℕ → Option Recv) (us : List Ty) (b : ℕ)
+    (child : (i : ℕ) → i < b → (code : Recv) × (subs i ≡ Some code) × TracesBy L subs (at us i) i [] code) where
   called : (i : ℕ) (p : List ℕ) → i < b → Child subs (TracesBy L subs (at us i)) b p (call i p finish)
   called i p lt = let c = child i lt in inr (i, c.0, refl, lt, c.1, c.2)
 
   fields-trace : (is : List ℕ) (j : ℕ) → AreBelow b is → FieldsTraceBy L subs (fields_at us is) j b [] (calls_from j is)
   fields-trace [] j below = refl
-  fields-trace (i ∷ is) j below = (call i (j ∷ []) finish, calls_from (suc j) is, refl, called i (j ∷ []) below.0, fields-trace is (suc j) below.1)
+  fields-trace (i ∷ is) j below =
+      (call i (j ∷ []) finish, calls_from (suc j) is, refl, called i (j ∷ []) below.0, fields-trace is (suc j) below.1)
 
-  arms-trace : (arms : List (ℤ × ℕ)) (other : Option ℕ) → ArmsBelow b arms → IsBelow b other → ArmsTraceBy L subs (arms_at us arms other) b (cases_at arms other)
+  arms-trace : (arms : List (ℤ × ℕ)) (other : Option ℕ) → ArmsBelow b arms → IsBelow b other
+      → ArmsTraceBy L subs (arms_at us arms other) b (cases_at arms other)
   arms-trace [] None below last = refl
   arms-trace [] (Some i) below last = (call_here i, refl, called i [] last)
-  arms-trace (a ∷ arms) other below last = (call_here a.1, cases_at arms other, refl, called a.1 [] below.0, arms-trace arms other below.1 last)
+  arms-trace (a ∷ arms) other below last =
+      (call_here a.1, cases_at arms other, refl, called a.1 [] below.0, arms-trace arms other below.1 last)
 
   pub node-traces : (m : Node) → HasChildrenBelow b m → TracesBy L subs (level us m) b [] (node_code e m)
   node-traces node.Void below = refl
@@ -150,6 +158,17 @@ module _ (e : Encoding) (L : Loops) (array : (a : Array) → L a [] (array_code 
   node-traces (node.Row k c) below = array (row_of k c)
   node-traces (node.Group ids) below = fields-trace ids 0 below
   node-traces (node.Items i c) below = (count_code e c, call_here i, refl, counts e c, called i [] below)
-  node-traces (node.Choice t arms other) below =
-      (tag_code e (scalar_of t), cases_at arms other, refl, scalars e (scalar_of t) (get.Tag (number_at e) [] (scalar_width e (scalar_of t)) (order_of e)) refl, arms-trace arms other below.0 below.1)
-  node-traces (node.Maybe i) below = (flag_code e, call_here i, refl, scalars e flag (get.Flag (number_at e) [] (scalar_width e flag) (order_of e)) refl, called i [] below)
+  node-traces (node.Choice t arms other) below = (
+    tag_code e (scalar_of t),
+    cases_at arms other,
+    refl,
+    scalars e (scalar_of t) (get.Tag (number_at e) [] (scalar_width e (scalar_of t)) (order_of e)) refl,
+    arms-trace arms other below.0 below.1,
+  )
+  node-traces (node.Maybe i) below = (
+    flag_code e,
+    call_here i,
+    refl,
+    scalars e flag (get.Flag (number_at e) [] (scalar_width e flag) (order_of e)) refl,
+    called i [] below,
+  )

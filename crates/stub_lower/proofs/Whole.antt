@@ -54,7 +54,9 @@ take_at (x ∷ nodes) (suc k) m e =
 same_node : (nodes : List Node) (k : ℕ) (m n : Node) → slice_get nodes k ≡ Some m → slice_get nodes k ≡ Some n → m ≡ n
 same_node nodes k m n e d = let s : Some m ≡ Some n = sym e ∙ d in cc
 
-pub known_more : (nodes : List Node) (k : ℕ) (m : Node) → slice_get nodes k ≡ Some m → HasChildrenBelow k m → IsSound (type_at nodes k) → AreKnown nodes k → AreKnown nodes (k + 1)
+pub known_more : (nodes : List Node) (k : ℕ) (m : Node) → slice_get nodes k ≡ Some m → HasChildrenBelow k m → IsSound (type_at nodes k)
+    → AreKnown nodes k
+    → AreKnown nodes (k + 1)
 known_more nodes k m is below sound known j n lt there = picked (eq-or-lt_of_le (omega (arith, lt))) where
   same : j ≡ k → HasChildrenBelow j n × IsSound (type_at nodes j)
   same e =
@@ -69,10 +71,13 @@ known_more nodes k m is below sound known j n lt there = picked (eq-or-lt_of_le 
 pub none_lowered : (e : Encoding) (nodes : List Node) → AreLowered e nodes 0 []
 none_lowered e nodes = record { codes = refl; known = λ j m lt is. absurd (omega (arith, lt)) }
 
-pub one_more : (e : Encoding) (nodes : List Node) (k : ℕ) (m : Node) (subs new : List (List SendOp)) (code : List SendOp) → Some m ≡ slice_get nodes k → HasChildrenBelow k m → IsSound (type_at nodes k)
-    → AreLowered e nodes k subs → code_seen code ≡ node_code e m → new ≡ subs ++ code ∷ [] → AreLowered e nodes (k + 1) new
+pub one_more : (e : Encoding) (nodes : List Node) (k : ℕ) (m : Node) (subs new : List (List SendOp)) (code : List SendOp)
+    → Some m ≡ slice_get nodes k → HasChildrenBelow k m → IsSound (type_at nodes k) → AreLowered e nodes k subs
+    → code_seen code ≡ node_code e m → new ≡ subs ++ code ∷ []
+    → AreLowered e nodes (k + 1) new
 one_more e nodes k m subs new code found below sound so_far made is = record {
-  codes = ap (map code_seen) is ∙ map-append code_seen subs (code ∷ []) ∙ ap (λ (l : List Block). l ++ code_seen code ∷ []) so_far.codes ∙ ap (λ (c : Block). map (node_code e) (take k nodes) ++ c ∷ []) made
+  codes = ap (map code_seen) is ∙ map-append code_seen subs (code ∷ []) ∙ ap (λ (l : List Block). l ++ code_seen code ∷ []) so_far.codes
+      ∙ ap (λ (c : Block). map (node_code e) (take k nodes) ++ c ∷ []) made
       ∙ sym (ap (map (node_code e)) (take_at nodes k m (sym found)) ∙ map-append (node_code e) (take k nodes) (m ∷ []));
   known = known_more nodes k m (sym found) below sound so_far.known;
 }
@@ -90,7 +95,9 @@ record Stands (e : Encoding) (nodes : List Node) (k : ℕ) (code : Block) : Type
   is : slice_get nodes k ≡ Some node
   made : code ≡ node_code e node
 
-stands : (e : Encoding) (nodes : List Node) (k : ℕ) (o : Option Node) (code : Block) → slice_get nodes k ≡ o → Some code ≡ option_map (node_code e) o → Stands e nodes k code
+stands : (e : Encoding) (nodes : List Node) (k : ℕ) (o : Option Node) (code : Block) → slice_get nodes k ≡ o
+    → Some code ≡ option_map (node_code e) o
+    → Stands e nodes k code
 stands e nodes k None code is same = absurd cc
 stands e nodes k (Some m) code is same = record { node = m; is = is; made = cc }
 
@@ -122,10 +129,12 @@ module _ (e : Encoding) (nodes : List Node) (subs : List (List SendOp)) (whole :
   sound k m is = (whole.known k m (in_list nodes k m is) is).1
 
   sub_is : (k : ℕ) (m : Node) → slice_get nodes k ≡ Some m → sub_at subs k ≡ Some (node_code e m)
-  sub_is k m is = get-map code_seen subs k ∙ ap (λ (l : List Block). slice_get l k) all_codes ∙ sym (get-map (node_code e) nodes k) ∙ ap (option_map (node_code e)) is
+  sub_is k m is = get-map code_seen subs k ∙ ap (λ (l : List Block). slice_get l k) all_codes ∙ sym (get-map (node_code e) nodes k)
+      ∙ ap (option_map (node_code e)) is
 
   code_at : (k : ℕ) (b : Block) → sub_at subs k ≡ Some b → Stands e nodes k b
-  code_at k b is = stands e nodes k (slice_get nodes k) b refl (sym is ∙ get-map code_seen subs k ∙ ap (λ (l : List Block). slice_get l k) all_codes ∙ sym (get-map (node_code e) nodes k))
+  code_at k b is = stands e nodes k (slice_get nodes k) b refl
+      (sym is ∙ get-map code_seen subs k ∙ ap (λ (l : List Block). slice_get l k) all_codes ∙ sym (get-map (node_code e) nodes k))
 
   code_of : (k : ℕ) (ops : List SendOp) → slice_get subs k ≡ Some ops → Stands e nodes k (code_seen ops)
   code_of k ops is = code_at k (code_seen ops) (ap (option_map code_seen) is)
@@ -151,7 +160,8 @@ module _ (e : Encoding) (nodes : List Node) (subs : List (List SendOp)) (whole :
     follows (suc n) k m lt is =
         subst (λ (t : Ty). FollowsBy L (sub_at subs) t k [] (node_code e m)) (sym (type_at-level nodes k m (below e nodes subs whole) is))
         (node-follows e L array (sub_at subs) (unfolded nodes) k
-        (λ (i : ℕ) i_lt. let f = found nodes i (omega (arith, i_lt, in_list nodes k m is)) in (node_code e f.node, sub_is e nodes subs whole i f.node f.is, follows n i f.node (omega (arith, i_lt, lt)) f.is))
+        (λ (i : ℕ) i_lt. let f = found nodes i (omega (arith, i_lt, in_list nodes k m is)) in
+        (node_code e f.node, sub_is e nodes subs whole i f.node f.is, follows n i f.node (omega (arith, i_lt, lt)) f.is))
         m (below e nodes subs whole k m is))
 
     pub codes_follow : (k : ℕ) (b : Block) → sub_at subs k ≡ Some b → FollowsBy L (sub_at subs) (type_at nodes k) k [] b
@@ -159,16 +169,19 @@ module _ (e : Encoding) (nodes : List Node) (subs : List (List SendOp)) (whole :
         let s = code_at e nodes subs whole k b is in
         subst (FollowsBy L (sub_at subs) (type_at nodes k) k []) (sym s.made) (follows (suc k) k s.node (omega arith) s.is)
 
-  -- a node's code, where calls may stand so deep within one another
-  node_sent : (h : Head) (n k : ℕ) (m : Node) (p : ℕ) (v : Val) → slice_get nodes k ≡ Some m → depth (type_at nodes k) ≤ suc n → Is (type_at nodes k) v
-      → ((i : ℕ) (q : ℕ) (w : Val) → i < length nodes → depth (type_at nodes i) ≤ n → Is (type_at nodes i) w → Sends e (called (sub_at subs) h n i w) q (send e (type_at nodes i) q w))
+  -- a node's code, where calls may be nested so deep
+  node_sent : (h : Head) (n k : ℕ) (m : Node) (p : ℕ) (v : Val) → slice_get nodes k ≡ Some m → depth (type_at nodes k) ≤ suc n
+      → Is (type_at nodes k) v
+      → ((i : ℕ) (q : ℕ) (w : Val) → i < length nodes → depth (type_at nodes i) ≤ n → Is (type_at nodes i) w
+      → Sends e (called (sub_at subs) h n i w) q (send e (type_at nodes i) q w))
       → Sends e (steps (called (sub_at subs) h n) h (node_code e m) v) p (send e (type_at nodes k) p v)
   node_sent h n k m p v is low typed part =
       let same : type_at nodes k ≡ level (unfolded nodes) m = type_at-level nodes k m (below e nodes subs whole) is in
       subst (λ (t : Ty). Sends e (steps (called (sub_at subs) h n) h (node_code e m) v) p (send e t p v)) (sym same)
       (node-sends e (scalars e) (arrays e) (unfolded nodes) h (called (sub_at subs) h n) n k
       (λ (i : ℕ) (q : ℕ) (w : Val) lt d ty. part i q w (omega (arith, lt, in_list nodes k m is)) d ty)
-      m p v (below e nodes subs whole k m is) (subst (λ (t : Ty). depth t ≤ suc n) same low) (subst (λ (t : Ty). IsOf t v) same typed.0) typed.1)
+      m p v (below e nodes subs whole k m is) (subst (λ (t : Ty). depth t ≤ suc n) same low) (subst (λ (t : Ty). IsOf t v) same typed.0)
+      typed.1)
 
   depth_some : (t : Ty) → 1 ≤ depth t
   depth_some (group_type ts) = omega arith
@@ -177,11 +190,13 @@ module _ (e : Encoding) (nodes : List Node) (subs : List (List SendOp)) (whole :
   depth_some (maybe_type t) = omega arith
   depth_some _ = omega arith
 
-  call_sent : (h : Head) (n k : ℕ) (p : ℕ) (v : Val) → k < length nodes → depth (type_at nodes k) ≤ n → Is (type_at nodes k) v → Sends e (called (sub_at subs) h n k v) p (send e (type_at nodes k) p v)
+  call_sent : (h : Head) (n k : ℕ) (p : ℕ) (v : Val) → k < length nodes → depth (type_at nodes k) ≤ n → Is (type_at nodes k) v
+      → Sends e (called (sub_at subs) h n k v) p (send e (type_at nodes k) p v)
   call_sent h zero k p v lt low typed = absurd (omega (arith, low, depth_some (type_at nodes k)))
   call_sent h (suc n) k p v lt low typed =
       let f = found nodes k lt in
-      subst (λ (o : Option Block). Sends e (on_some o (λ b. steps (called (sub_at subs) h n) h b v)) p (send e (type_at nodes k) p v)) (sym (sub_is e nodes subs whole k f.node f.is))
+      subst (λ (o : Option Block). Sends e (on_some o (λ b. steps (called (sub_at subs) h n) h b v)) p (send e (type_at nodes k) p v))
+      (sym (sub_is e nodes subs whole k f.node f.is))
       (node_sent h n k f.node p v f.is low typed (λ (i : ℕ) (q : ℕ) (w : Val) l d ty. call_sent h n i q w l d ty))
 
   enough : 32 ≤ suc deepest
@@ -191,22 +206,30 @@ module _ (e : Encoding) (nodes : List Node) (subs : List (List SendOp)) (whole :
   pub codes_send : CodesSend e nodes subs
   codes_send k ops is h v p place typed =
       let s = code_of e nodes subs whole k ops is in
-      let shallow : depth (type_at nodes k) ≤ suc deepest = omega (arith, enough, (sound_taken (type_at nodes k) (sound e nodes subs whole k s.node s.is)).shallow) in
-      subst (λ (b : Block). on_some (steps (called (sub_at subs) h deepest) h b v) (wrote p []) ≡ Some (send e (type_at nodes k) p v)) (sym s.made)
-      ((node_sent h deepest k s.node p v s.is shallow (typed.is_of, typed.light) (λ (i : ℕ) (q : ℕ) (w : Val) l d ty. call_sent h deepest i q w l d ty) place).1 p [] (omega arith))
+      let shallow : depth (type_at nodes k) ≤ suc deepest =
+      omega (arith, enough, (sound_taken (type_at nodes k) (sound e nodes subs whole k s.node s.is)).shallow) in
+      subst (λ (b : Block). on_some (steps (called (sub_at subs) h deepest) h b v) (wrote p []) ≡ Some (send e (type_at nodes k) p v))
+      (sym s.made)
+      ((node_sent h deepest k s.node p v s.is shallow (typed.is_of, typed.light)
+      (λ (i : ℕ) (q : ℕ) (w : Val) l d ty. call_sent h deepest i q w l d ty) place).1 p [] (omega arith))
 
 -- ---- at the end of the table
 
-pub ended : (e : Encoding) (nodes : List Node) (id count : ℕ) (subs : List (List SendOp)) → count ≡ length nodes → count ≤ id → id ≤ count → AreLowered e nodes id subs → AreLowered e nodes (length nodes) subs
+pub ended : (e : Encoding) (nodes : List Node) (id count : ℕ) (subs : List (List SendOp)) → count ≡ length nodes → count ≤ id → id ≤ count
+    → AreLowered e nodes id subs
+    → AreLowered e nodes (length nodes) subs
 ended e nodes id count subs all past within whole =
     let same : id ≡ length nodes = omega (arith, all, past, within) in
     subst (λ (n : ℕ). AreLowered e nodes n subs) same whole
 
-pub all_send : (e : Encoding) (nodes : List Node) (subs : List (List SendOp)) → AreLowered e nodes (length nodes) subs → CodesSend e nodes subs
+pub all_send : (e : Encoding) (nodes : List Node) (subs : List (List SendOp)) → AreLowered e nodes (length nodes) subs
+    → CodesSend e nodes subs
 all_send e nodes subs whole = codes_send e nodes subs whole
 
-pub all_follow : (e : Encoding) (nodes : List Node) (subs : List (List SendOp)) → AreLowered e nodes (length nodes) subs → AllFollow nodes subs
+pub all_follow : (e : Encoding) (nodes : List Node) (subs : List (List SendOp)) → AreLowered e nodes (length nodes) subs
+    → AllFollow nodes subs
 all_follow e nodes subs whole = codes_follow e nodes subs whole (λ a. IsLoop) (loops e)
 
-pub all_turned : (e : Encoding) (nodes : List Node) (subs : List (List SendOp)) → AreLowered e nodes (length nodes) subs → AllTurned (layout_of e) nodes subs
+pub all_turned : (e : Encoding) (nodes : List Node) (subs : List (List SendOp)) → AreLowered e nodes (length nodes) subs
+    → AllTurned (layout_of e) nodes subs
 all_turned e nodes subs whole = codes_follow e nodes subs whole (IsTurned (layout_of e)) (turned e)

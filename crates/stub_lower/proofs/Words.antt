@@ -21,45 +21,55 @@ use Rattle.cast_stub.specs.Layouts.{order_of, scalar_width}
 pos_8 : (o : Order) (n : ℕ) → n < 256 → word 1 o (pos n) ≡ Some (in_order o 1 (residue w8 (pos n)))
 pos_8 o n h =
     let same : n ≡ n % 256 = omega arith in
-    ap (λ (x : Option ℕ). on_some x (λ (m : ℕ). Some (in_order o 1 m))) (if_so (nat_lt n 256) n (lt-ltb n 256 h)) ∙ ap (λ (m : ℕ). Some (in_order o 1 m)) same
+    ap (λ (x : Option ℕ). on_some x (λ (m : ℕ). Some (in_order o 1 m))) (if_so (nat_lt n 256) n (lt-ltb n 256 h))
+    ∙ ap (λ (m : ℕ). Some (in_order o 1 m)) same
 
 neg_8 : (o : Order) (n : ℕ) → n < 128 → word 1 o (negsuc n) ≡ Some (in_order o 1 (residue w8 (negsuc n)))
 neg_8 o n h =
     let same : 255 - n ≡ 255 - n % 256 = omega arith in
-    ap (λ (x : Option ℕ). on_some x (λ (m : ℕ). Some (in_order o 1 m))) (if_so (nat_lt n 128) (255 - n) (lt-ltb n 128 h)) ∙ ap (λ (m : ℕ). Some (in_order o 1 m)) same
+    ap (λ (x : Option ℕ). on_some x (λ (m : ℕ). Some (in_order o 1 m))) (if_so (nat_lt n 128) (255 - n) (lt-ltb n 128 h))
+    ∙ ap (λ (m : ℕ). Some (in_order o 1 m)) same
 
 pos_16 : (o : Order) (n : ℕ) → n < 65536 → word 2 o (pos n) ≡ Some (in_order o 2 (residue w16 (pos n)))
 pos_16 o n h =
     let same : n ≡ n % 65536 = omega arith in
-    ap (λ (x : Option ℕ). on_some x (λ (m : ℕ). Some (in_order o 2 m))) (if_so (nat_lt n 65536) n (lt-ltb n 65536 h)) ∙ ap (λ (m : ℕ). Some (in_order o 2 m)) same
+    ap (λ (x : Option ℕ). on_some x (λ (m : ℕ). Some (in_order o 2 m))) (if_so (nat_lt n 65536) n (lt-ltb n 65536 h))
+    ∙ ap (λ (m : ℕ). Some (in_order o 2 m)) same
 
 neg_16 : (o : Order) (n : ℕ) → n < 32768 → word 2 o (negsuc n) ≡ Some (in_order o 2 (residue w16 (negsuc n)))
 neg_16 o n h =
     let same : 65535 - n ≡ 65535 - n % 65536 = omega arith in
-    ap (λ (x : Option ℕ). on_some x (λ (m : ℕ). Some (in_order o 2 m))) (if_so (nat_lt n 32768) (65535 - n) (lt-ltb n 32768 h)) ∙ ap (λ (m : ℕ). Some (in_order o 2 m)) same
+    ap (λ (x : Option ℕ). on_some x (λ (m : ℕ). Some (in_order o 2 m))) (if_so (nat_lt n 32768) (65535 - n) (lt-ltb n 32768 h))
+    ∙ ap (λ (m : ℕ). Some (in_order o 2 m)) same
 
 pos_32 : (o : Order) (n : ℕ) → n < 4294967296 → word 4 o (pos n) ≡ Some (in_order o 4 (residue w32 (pos n)))
 pos_32 o n h =
     let same : n ≡ n % 4294967296 = omega arith in
-    ap (λ (x : Option ℕ). on_some x (λ (m : ℕ). Some (in_order o 4 m))) (if_so (nat_lt n 4294967296) n (lt-ltb n 4294967296 h)) ∙ ap (λ (m : ℕ). Some (in_order o 4 m)) same
+    ap (λ (x : Option ℕ). on_some x (λ (m : ℕ). Some (in_order o 4 m))) (if_so (nat_lt n 4294967296) n (lt-ltb n 4294967296 h))
+    ∙ ap (λ (m : ℕ). Some (in_order o 4 m)) same
 
 neg_32 : (o : Order) (n : ℕ) → n < 2147483648 → word 4 o (negsuc n) ≡ Some (in_order o 4 (residue w32 (negsuc n)))
 neg_32 o n h =
     let same : 4294967295 - n ≡ 4294967295 - n % 4294967296 = omega arith in
-    ap (λ (x : Option ℕ). on_some x (λ (m : ℕ). Some (in_order o 4 m))) (if_so (nat_lt n 2147483648) (4294967295 - n) (lt-ltb n 2147483648 h)) ∙ ap (λ (m : ℕ). Some (in_order o 4 m)) same
+    ap (λ (x : Option ℕ). on_some x (λ (m : ℕ). Some (in_order o 4 m)))
+    (if_so (nat_lt n 2147483648) (4294967295 - n) (lt-ltb n 2147483648 h)) ∙ ap (λ (m : ℕ). Some (in_order o 4 m)) same
 
 pos_64 : (o : Order) (n : ℕ) → n < 18446744073709551616 → word 8 o (pos n) ≡ Some (in_order o 8 (residue w64 (pos n)))
 pos_64 o n h =
     let same : n ≡ n % 18446744073709551616 = omega arith in
-    ap (λ (x : Option ℕ). on_some x (λ (m : ℕ). Some (in_order o 8 m))) (if_so (nat_lt n 18446744073709551616) n (lt-ltb n 18446744073709551616 h)) ∙ ap (λ (m : ℕ). Some (in_order o 8 m)) same
+    ap (λ (x : Option ℕ). on_some x (λ (m : ℕ). Some (in_order o 8 m)))
+    (if_so (nat_lt n 18446744073709551616) n (lt-ltb n 18446744073709551616 h)) ∙ ap (λ (m : ℕ). Some (in_order o 8 m)) same
 
 neg_64 : (o : Order) (n : ℕ) → n < 9223372036854775808 → word 8 o (negsuc n) ≡ Some (in_order o 8 (residue w64 (negsuc n)))
 neg_64 o n h =
     let same : 18446744073709551615 - n ≡ 18446744073709551615 - n % 18446744073709551616 = omega arith in
-    ap (λ (x : Option ℕ). on_some x (λ (m : ℕ). Some (in_order o 8 m))) (if_so (nat_lt n 9223372036854775808) (18446744073709551615 - n) (lt-ltb n 9223372036854775808 h)) ∙ ap (λ (m : ℕ). Some (in_order o 8 m)) same
+    ap (λ (x : Option ℕ). on_some x (λ (m : ℕ). Some (in_order o 8 m)))
+    (if_so (nat_lt n 9223372036854775808) (18446744073709551615 - n) (lt-ltb n 9223372036854775808 h))
+    ∙ ap (λ (m : ℕ). Some (in_order o 8 m)) same
 
 -- a number with or without a sign, where the width has room for it
-word_signed : (signed : Bool) (w : Width) → IsOwn w → (o : Order) (z : ℤ) → FitsIn signed w z → word (byte_len w) o z ≡ Some (in_order o (byte_len w) (residue w z))
+word_signed : (signed : Bool) (w : Width) → IsOwn w → (o : Order) (z : ℤ) → FitsIn signed w z
+    → word (byte_len w) o z ≡ Some (in_order o (byte_len w) (residue w z))
 unfolding FitsIn
 word_signed true _ is8 o (pos n) h = pos_8 o n (omega arith)
 word_signed true _ is8 o (negsuc n) h = neg_8 o n h
@@ -89,7 +99,8 @@ width_same CdrLittle (label ls) = refl
 width_same Mach (label ls) = refl
 
 -- a scalar of the encoding, as it is sent
-pub scalar_word : (e : Encoding) (s : Scalar) (z : ℤ) → IsScalar s z → word (scalar_width e s) (order_of e) z ≡ Some (number_octets e (width_of e s) (residue (width_of e s) z))
+pub scalar_word : (e : Encoding) (s : Scalar) (z : ℤ) → IsScalar s z
+    → word (scalar_width e s) (order_of e) z ≡ Some (number_octets e (width_of e s) (residue (width_of e s) z))
 scalar_word e s z h =
     ap (λ (n : ℕ). word n (order_of e) z) (width_same e s)
     ∙ word_signed (is_signed s) (width_of e s) (own_of e s) (order_of e) z (fits_in e s z h)

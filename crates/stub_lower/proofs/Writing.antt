@@ -33,10 +33,13 @@ place_zero CdrLittle = tt
 abbrev pub Writes : Steps → ℕ → List ℕ → Type 0
 Writes x p o = (base : ℕ) (front : List ℕ) → base + length front ≡ p → on_some x (wrote base front) ≡ Some (front ++ o)
 
-joined : (x y : Steps) (base : ℕ) (front o o' : List ℕ) → on_some x (wrote base front) ≡ Some (front ++ o) → on_some y (wrote base (front ++ o)) ≡ Some ((front ++ o) ++ o') → on_some (both x y) (wrote base front) ≡ Some (front ++ (o ++ o'))
+joined : (x y : Steps) (base : ℕ) (front o o' : List ℕ) → on_some x (wrote base front) ≡ Some (front ++ o)
+    → on_some y (wrote base (front ++ o)) ≡ Some ((front ++ o) ++ o')
+    → on_some (both x y) (wrote base front) ≡ Some (front ++ (o ++ o'))
 joined None y base front o o' h k = absurd cc
 joined (Some a) None base front o o' h k = absurd cc
-joined (Some a) (Some b) base front o o' h k = wrote-append base front a b ∙ ap (λ x. on_some x (λ z. wrote base z b)) h ∙ k ∙ ap Some (append_assoc front o o')
+joined (Some a) (Some b) base front o o' h k =
+    wrote-append base front a b ∙ ap (λ x. on_some x (λ z. wrote base z b)) h ∙ k ∙ ap Some (append_assoc front o o')
 
 pub both-writes : (x y : Steps) (p : ℕ) (o o' : List ℕ) → Writes x p o → Writes y (p + length o) o' → Writes (both x y) p (o ++ o')
 both-writes x y p o o' h k base front at =
@@ -48,20 +51,24 @@ none-writes p base front at = ap Some (sym (append-nil front))
 pub writes_same : (x : Steps) (p : ℕ) (o o' : List ℕ) → o ≡ o' → Writes x p o → Writes x p o'
 writes_same x p o o' e h = subst (Writes x p) e h
 
--- and nothing behind
+-- and nothing after
 pub writes_stop : (x : Steps) (p : ℕ) (o : List ℕ) → Writes x p o → Writes (both x (Some [])) p o
-writes_stop x p o h = writes_same (both x (Some [])) p (o ++ []) o (append-nil o) (both-writes x (Some []) p o [] h (none-writes (p + length o)))
+writes_stop x p o h =
+    writes_same (both x (Some [])) p (o ++ []) o (append-nil o) (both-writes x (Some []) p o [] h (none-writes (p + length o)))
 
 -- ---- the same from a position that the encoding speaks of, and up to one
 
 abbrev pub Sends : Encoding → Steps → ℕ → List ℕ → Type 0
 Sends e x p o = IsPlace e p → IsPlace e (length o) × Writes x p o
 
-pub both-sends : (e : Encoding) (x y : Steps) (p : ℕ) (o o' : List ℕ) → Sends e x p o → Sends e y (p + length o) o' → Sends e (both x y) p (o ++ o')
+pub both-sends : (e : Encoding) (x y : Steps) (p : ℕ) (o o' : List ℕ) → Sends e x p o → Sends e y (p + length o) o'
+    → Sends e (both x y) p (o ++ o')
 both-sends e x y p o o' h k ok =
     let first = h ok in
-    let behind = k (place_sum e p (length o) ok first.0) in
-    (subst (IsPlace e) (sym (length-append o o')) (place_sum e (length o) (length o') first.0 behind.0), both-writes x y p o o' first.1 behind.1)
+    let behind = k (place_sum e p (length o) ok first.0) in (
+      subst (IsPlace e) (sym (length-append o o')) (place_sum e (length o) (length o') first.0 behind.0),
+      both-writes x y p o o' first.1 behind.1,
+    )
 
 pub none-sends : (e : Encoding) (p : ℕ) → Sends e (Some []) p []
 none-sends e p ok = (place_zero e, none-writes p)
@@ -70,11 +77,13 @@ pub sends_same : (e : Encoding) (x : Steps) (p : ℕ) (o o' : List ℕ) → o �
 sends_same e x p o o' same h = subst (Sends e x p) same h
 
 pub sends_stop : (e : Encoding) (x : Steps) (p : ℕ) (o : List ℕ) → Sends e x p o → Sends e (both x (Some [])) p o
-sends_stop e x p o h = sends_same e (both x (Some [])) p (o ++ []) o (append-nil o) (both-sends e x (Some []) p o [] h (none-sends e (p + length o)))
+sends_stop e x p o h =
+    sends_same e (both x (Some [])) p (o ++ []) o (append-nil o) (both-sends e x (Some []) p o [] h (none-sends e (p + length o)))
 
 -- ---- a put that fills its chunk
 
-pub put-writes : (w : ℕ) (x : Put) (h : Head) (v : Val) (os : List ℕ) (p : ℕ) → offset x ≡ 0 → put_octets h x v ≡ Some os → length os ≡ w → Writes (chunk_steps w (x ∷ []) h v) p os
+pub put-writes : (w : ℕ) (x : Put) (h : Head) (v : Val) (os : List ℕ) (p : ℕ) → offset x ≡ 0 → put_octets h x v ≡ Some os → length os ≡ w
+    → Writes (chunk_steps w (x ∷ []) h v) p os
 put-writes w x h v os p first is long base front at =
     subst (λ (k : ℕ). on_some (chunk_steps k (x ∷ []) h v) (wrote base front) ≡ Some (front ++ os)) long
     (rw (is, first, placed_whole os, full_whole os) refl)

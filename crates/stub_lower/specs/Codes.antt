@@ -35,7 +35,7 @@ item_octets s = le 4 (scalar_word s) ++ replicate (item_rest s) 0
 abbrev pub item_code : Scalar → Put → Block
 item_code s x = chunk (4 + item_rest s) (put.Const 0 (item_octets s) ∷ x ∷ []) stop
 
--- a scalar by itself, given the put of its number; over CDR behind its alignment
+-- a scalar by itself, given the put of its number; over CDR after its alignment
 abbrev pub scalar_code : Encoding → Scalar → Put → Block
 scalar_code Xdr s x = chunk (scalar_width Xdr s) (x ∷ []) stop
 scalar_code CdrBig s x = aligned (scalar_width CdrBig s) (chunk (scalar_width CdrBig s) (x ∷ []) stop)
@@ -50,12 +50,12 @@ number_put e w = put.Num 0 [] w (order_of e)
 abbrev pub length_put : Encoding → ℕ → Put
 length_put e add = put.Count (number_at e) [] 1 add (scalar_width e counted) (order_of e)
 
--- a count, which a fixed length has not
+-- a count, which a fixed length does not have
 abbrev pub count_code : Encoding → Count → Block
 count_code e (Exactly m) = stop
 count_code e _ = scalar_code e counted (length_put e 0)
 
--- the length of a text over CDR, with the octet behind it
+-- the length of a text over CDR, with the octet after it
 abbrev pub ended_code : Encoding → Block
 ended_code e = scalar_code e counted (length_put e 1)
 
@@ -104,7 +104,7 @@ turn_code CdrBig a = gapped_turn CdrBig (element_width CdrBig a) (is_gapped a)
 turn_code CdrLittle a = gapped_turn CdrLittle (element_width CdrLittle a) (is_gapped a)
 turn_code e a = number_chunk e (element_width e a)
 
--- the octet behind a text over CDR
+-- the octet after a text over CDR
 abbrev pub end_code : Block
 end_code = chunk 1 (put.Const 0 (0 ∷ []) ∷ []) stop
 
@@ -112,7 +112,7 @@ end_code = chunk 1 (put.Const 0 (0 ∷ []) ∷ []) stop
 abbrev pub filling_code : ℕ → Block
 filling_code w = if nat_lt w 4 then align 4 stop else stop
 
--- behind the elements of an array
+-- after the elements of an array
 abbrev pub behind_code : Encoding → Array → Block
 behind_code Xdr a = if is_octets a then align 4 stop else stop
 behind_code CdrBig (text c) = end_code

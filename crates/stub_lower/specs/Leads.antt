@@ -1,4 +1,4 @@
--- Code for the head in front of a message's body.
+-- Code for the head before a message's body.
 use Rattle.std.specs.Prelude.{◌≡◌, ℕ, ◌+◌, ◌≤◌, List, length, Option, None, Some, option_map}
 use Rattle.mint.specs.Values.{Val}
 use Rattle.wire_def.specs.declared.head.Head.{Head}

@@ -49,7 +49,7 @@ number_get e s = get.Num (number_at e) [] (scalar_width e s) (order_of e)
 abbrev pub length_get : Encoding → ℕ → Get
 length_get e add = get.Count (number_at e) [] 1 add (scalar_width e counted) (order_of e)
 
--- a count, which a fixed length has not
+-- a count, which a fixed length does not have
 abbrev pub count_code : Encoding → Count → Recv
 count_code e (Exactly m) = finish
 count_code e _ = scalar_code e counted (length_get e 0)

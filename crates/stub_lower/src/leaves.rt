@@ -19,7 +19,7 @@ use mint::kind::{Count, Kind};
 use std::alloc::Global;
 use wire_def::{Encoding, Order};
 
-/// Puts an alignment behind the last operation.
+/// Puts an alignment after the last operation.
 #[tactic(auto, using(crate::proofs::Building::building))]
 fn add_align(width: u32, out: &mut SendOps) -> Result<(), NoMemory>
     ensures { OnOk result (code_seen out.new ≡ append (code_seen out.old) (aligned width stop)) }
@@ -31,10 +31,11 @@ fn add_align(width: u32, out: &mut SendOps) -> Result<(), NoMemory>
     }
 }
 
-/// Puts a chunk behind the last operation, at a multiple of its size, which one put fills.
+/// Puts a chunk after the last operation, at a multiple of its size, which one put fills.
 #[tactic(auto, using(crate::proofs::Building::building))]
 fn add_aligned(alloc: Global, width: u32, put: Put, out: &mut SendOps) -> Result<(), NoMemory>
-    ensures { OnOk result (code_seen out.new ≡ append (code_seen out.old) (aligned width (chunk width (put ∷ []) stop))) }
+    ensures { OnOk result
+        (code_seen out.new ≡ append (code_seen out.old) (aligned width (chunk width (put ∷ []) stop))) }
 {
     if width == 1 {
         add_chunk(alloc, width, put, out)
@@ -65,7 +66,7 @@ fn add_item(alloc: Global, kind: Kind, put: Put, out: &mut SendOps) -> Result<()
     add_pair(alloc, 4 + rest_of(kind), blank, put, out)
 }
 
-/// Puts the code of a scalar by itself behind the last operation; the put is that of its number.
+/// Puts the code of a scalar by itself after the last operation; the put is that of its number.
 #[tactic(auto, using(crate::proofs::Building::building))]
 pub(crate) fn add_scalar(
     alloc: Global,
@@ -74,7 +75,8 @@ pub(crate) fn add_scalar(
     put: Put,
     out: &mut SendOps,
 ) -> Result<(), NoMemory>
-    ensures { OnOk result (code_seen out.new ≡ append (code_seen out.old) (scalar_code enc (number kind) put)) }
+    ensures { OnOk result
+        (code_seen out.new ≡ append (code_seen out.old) (scalar_code enc (number kind) put)) }
 {
     match enc {
         Encoding::Xdr => add_chunk(alloc, width_of(enc, kind), put, out),
@@ -119,7 +121,7 @@ fn length(alloc: Global, enc: Encoding, summand: u32) -> Put
     )
 }
 
-/// Puts the code of a count, which a fixed length has not.
+/// Puts the code of a count, which a fixed length does not have.
 #[tactic(auto, using(crate::proofs::Building::building))]
 pub(crate) fn add_count(
     alloc: Global,
@@ -162,7 +164,8 @@ fn add_short(alloc: Global, kind: Kind, out: &mut SendOps) -> Result<(), NoMemor
 /// Puts the descriptor of an array of a Mach message.
 #[tactic(auto, using(crate::proofs::Building::building))]
 fn add_described(alloc: Global, kind: Kind, count: Count, out: &mut SendOps) -> Result<(), NoMemory>
-    ensures { OnOk result (code_seen out.new ≡ append (code_seen out.old) (described_code count (number kind))) }
+    ensures { OnOk result
+        (code_seen out.new ≡ append (code_seen out.old) (described_code count (number kind))) }
 {
     if has_long(count, kind) {
         add_long(alloc, kind, out)
@@ -194,13 +197,14 @@ fn add_loop(
     gapped: bool,
     out: &mut SendOps,
 ) -> Result<(), NoMemory>
-    ensures { OnOk result (code_seen out.new ≡ append (code_seen out.old) (each [] (gapped_turn enc width gapped) stop)) }
+    ensures { OnOk result
+        (code_seen out.new ≡ append (code_seen out.old) (each [] (gapped_turn enc width gapped) stop)) }
 {
     let code = turn(alloc, enc, width, gapped)?;
     add(out, SendOp::Each(Path::new(alloc), code))
 }
 
-/// Puts the code of a text's length, with the octet behind it.
+/// Puts the code of a text's length, with the octet after it.
 #[tactic(auto, using(crate::proofs::Building::building))]
 fn add_ended(alloc: Global, enc: Encoding, out: &mut SendOps) -> Result<(), NoMemory>
     ensures { OnOk result (code_seen out.new ≡ append (code_seen out.old) (ended_code enc)) }
@@ -208,7 +212,7 @@ fn add_ended(alloc: Global, enc: Encoding, out: &mut SendOps) -> Result<(), NoMe
     add_scalar(alloc, enc, Kind::U32, length(alloc, enc, 1), out)
 }
 
-/// Puts the octet 0 behind a text.
+/// Puts the octet 0 after a text.
 #[tactic(auto, using(crate::proofs::Building::building))]
 fn add_end(alloc: Global, out: &mut SendOps) -> Result<(), NoMemory>
     ensures { OnOk result (code_seen out.new ≡ append (code_seen out.old) end_code) }
@@ -218,7 +222,7 @@ fn add_end(alloc: Global, out: &mut SendOps) -> Result<(), NoMemory>
     add_chunk(alloc, 1, Put::Const(0, octets), out)
 }
 
-/// Puts what stands before the elements of a row over CDR.
+/// Puts what comes before the elements of a row over CDR.
 #[tactic(auto, using(crate::proofs::Building::building))]
 fn add_row_head(
     alloc: Global,
@@ -295,7 +299,8 @@ pub(crate) fn add_row(
     count: Count,
     out: &mut SendOps,
 ) -> Result<(), NoMemory>
-    ensures { OnOk result (code_seen out.new ≡ append (code_seen out.old) (array_code enc (row_of kind count))) }
+    ensures { OnOk result
+        (code_seen out.new ≡ append (code_seen out.old) (array_code enc (row_of kind count))) }
 {
     let width = element_width(enc, kind);
     match enc {

@@ -113,7 +113,8 @@ fn add_label(
     labels: &Labels,
     out: &mut SendOps,
 ) -> Result<(), NoMemory>
-    ensures { OnOk result (code_seen out.new ≡ append (code_seen out.old) (number_code enc (label labels.now))) }
+    ensures { OnOk result
+        (code_seen out.new ≡ append (code_seen out.old) (number_code enc (label labels.now))) }
 {
     add_number(alloc, enc, Kind::I32, out)
 }
@@ -121,7 +122,8 @@ fn add_label(
 /// Puts the code of an arm's number.
 #[tactic(auto, using(crate::proofs::Building::labels))]
 fn add_tag(alloc: Global, enc: Encoding, tag: &Tag, out: &mut SendOps) -> Result<(), NoMemory>
-    ensures { OnOk result (code_seen out.new ≡ append (code_seen out.old) (tag_code enc (scalar_of tag.now))) }
+    ensures { OnOk result
+        (code_seen out.new ≡ append (code_seen out.old) (tag_code enc (scalar_of tag.now))) }
 {
     let kind = match tag {
         Tag::Num(kind) => *kind,
@@ -154,7 +156,8 @@ fn add_switch(
     other: Option<u32>,
     out: &mut SendOps,
 ) -> Result<(), NoMemory>
-    ensures { OnOk result (code_seen out.new ≡ append (code_seen out.old) (switch [] (cases_at arms.now other) stop)) }
+    ensures { OnOk result
+        (code_seen out.new ≡ append (code_seen out.old) (switch [] (cases_at arms.now other) stop)) }
 {
     let mut cases = SendCases::new(alloc);
     for (n, id) in arms.as_slice() {

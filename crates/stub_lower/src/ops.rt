@@ -9,7 +9,7 @@ use cast_stub::{Path, Put, Puts, SendOp, SendOps};
 use kit_base::NoMemory;
 use std::alloc::Global;
 
-/// Puts a chunk behind the last operation, which one put fills.
+/// Puts a chunk after the last operation, which one put fills.
 #[tactic(auto, using(crate::proofs::Building::building))]
 pub(crate) fn add_chunk(
     alloc: Global,
@@ -24,7 +24,7 @@ pub(crate) fn add_chunk(
     add(out, SendOp::Chunk(width, puts))
 }
 
-/// Puts a chunk behind the last operation, which two puts fill.
+/// Puts a chunk after the last operation, which two puts fill.
 #[tactic(auto, using(crate::proofs::Building::building))]
 pub(crate) fn add_pair(
     alloc: Global,
@@ -33,7 +33,8 @@ pub(crate) fn add_pair(
     second: Put,
     out: &mut SendOps,
 ) -> Result<(), NoMemory>
-    ensures { OnOk result (code_seen out.new ≡ append (code_seen out.old) (chunk width (first ∷ second ∷ []) stop)) }
+    ensures { OnOk result
+        (code_seen out.new ≡ append (code_seen out.old) (chunk width (first ∷ second ∷ []) stop)) }
 {
     let mut puts = Puts::new(alloc);
     puts.push(first)?;

@@ -37,7 +37,8 @@ fn add_skip(width: u32, out: &mut RecvOps) -> Result<(), NoMemory>
 /// Puts a test and a take, at a multiple of their size, with one get.
 #[tactic(auto, using(crate::proofs::RecvBuilding::building))]
 fn add_aligned(alloc: Global, width: u32, get: Get, out: &mut RecvOps) -> Result<(), NoMemory>
-    ensures { OnOk result (code_seen out.new ≡ append (code_seen out.old) (aligned width (take_code width get))) }
+    ensures { OnOk result
+        (code_seen out.new ≡ append (code_seen out.old) (aligned width (take_code width get))) }
 {
     if width == 1 {
         add_take(alloc, width, get, out)
@@ -67,7 +68,8 @@ pub(crate) fn add_scalar(
     get: Get,
     out: &mut RecvOps,
 ) -> Result<(), NoMemory>
-    ensures { OnOk result (code_seen out.new ≡ append (code_seen out.old) (scalar_code enc (number kind) get)) }
+    ensures { OnOk result
+        (code_seen out.new ≡ append (code_seen out.old) (scalar_code enc (number kind) get)) }
 {
     match enc {
         Encoding::Xdr => add_take(alloc, width_of(enc, kind), get, out),
@@ -114,7 +116,7 @@ fn length(alloc: Global, enc: Encoding, summand: u32) -> Get
     )
 }
 
-/// Puts the code of a count, which a fixed length has not.
+/// Puts the code of a count, which a fixed length does not have.
 #[tactic(auto, using(crate::proofs::RecvBuilding::building))]
 pub(crate) fn add_count(
     alloc: Global,
@@ -138,7 +140,7 @@ fn add_ended(alloc: Global, enc: Encoding, out: &mut RecvOps) -> Result<(), NoMe
     add_scalar(alloc, enc, Kind::U32, length(alloc, enc, 1), out)
 }
 
-/// Puts what stands before the elements of a row over CDR.
+/// Puts what comes before the elements of a row over CDR.
 #[tactic(auto, using(crate::proofs::RecvBuilding::building))]
 fn add_row_head(
     alloc: Global,
@@ -178,7 +180,8 @@ fn add_fixed(alloc: Global, kind: Kind, many: u32, out: &mut RecvOps) -> Result<
 /// Puts the descriptor of an array of a Mach message.
 #[tactic(auto, using(crate::proofs::RecvBuilding::building))]
 fn add_described(alloc: Global, kind: Kind, count: Count, out: &mut RecvOps) -> Result<(), NoMemory>
-    ensures { OnOk result (code_seen out.new ≡ append (code_seen out.old) (described_code count (number kind))) }
+    ensures { OnOk result
+        (code_seen out.new ≡ append (code_seen out.old) (described_code count (number kind))) }
 {
     match count {
         Count::Exactly(many) if !has_long(count, kind) => add_fixed(alloc, kind, many, out),
@@ -211,7 +214,8 @@ fn add_loop(
     gapped: bool,
     out: &mut RecvOps,
 ) -> Result<(), NoMemory>
-    ensures { OnOk result (code_seen out.new ≡ append (code_seen out.old) (each [] (gapped_turn enc width gapped) finish)) }
+    ensures { OnOk result
+        (code_seen out.new ≡ append (code_seen out.old) (each [] (gapped_turn enc width gapped) finish)) }
 {
     let code = turn(alloc, enc, width, gapped)?;
     add(out, RecvOp::Each(Path::new(alloc), code))
@@ -265,7 +269,8 @@ pub(crate) fn add_row(
     count: Count,
     out: &mut RecvOps,
 ) -> Result<(), NoMemory>
-    ensures { OnOk result (code_seen out.new ≡ append (code_seen out.old) (array_code enc (row_of kind count))) }
+    ensures { OnOk result
+        (code_seen out.new ≡ append (code_seen out.old) (array_code enc (row_of kind count))) }
 {
     let width = element_width(enc, kind);
     match enc {

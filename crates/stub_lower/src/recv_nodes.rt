@@ -97,7 +97,8 @@ fn add_each(alloc: Global, id: u32, out: &mut RecvOps) -> Result<(), NoMemory>
 /// Puts a call for the value that may be there.
 #[tactic(auto, using(crate::proofs::RecvBuilding::building))]
 fn add_value(alloc: Global, id: u32, out: &mut RecvOps) -> Result<(), NoMemory>
-    ensures { OnOk result (code_seen out.new ≡ append (code_seen out.old) (if_there [] (call_here id) finish)) }
+    ensures { OnOk result
+        (code_seen out.new ≡ append (code_seen out.old) (if_there [] (call_here id) finish)) }
 {
     let body = call_of(alloc, id)?;
     add(out, RecvOp::Some(Path::new(alloc), body))
@@ -111,7 +112,8 @@ fn add_label(
     labels: &Labels,
     out: &mut RecvOps,
 ) -> Result<(), NoMemory>
-    ensures { OnOk result (code_seen out.new ≡ append (code_seen out.old) (number_code enc (label labels.now))) }
+    ensures { OnOk result
+        (code_seen out.new ≡ append (code_seen out.old) (number_code enc (label labels.now))) }
 {
     add_number(alloc, enc, Kind::I32, out)
 }
@@ -119,7 +121,8 @@ fn add_label(
 /// Puts the code of an arm's number.
 #[tactic(auto, using(crate::proofs::RecvBuilding::labels))]
 fn add_tag(alloc: Global, enc: Encoding, tag: &Tag, out: &mut RecvOps) -> Result<(), NoMemory>
-    ensures { OnOk result (code_seen out.new ≡ append (code_seen out.old) (tag_code enc (scalar_of tag.now))) }
+    ensures { OnOk result
+        (code_seen out.new ≡ append (code_seen out.old) (tag_code enc (scalar_of tag.now))) }
 {
     let kind = match tag {
         Tag::Num(kind) => *kind,
@@ -152,7 +155,8 @@ fn add_switch(
     other: Option<u32>,
     out: &mut RecvOps,
 ) -> Result<(), NoMemory>
-    ensures { OnOk result (code_seen out.new ≡ append (code_seen out.old) (switch [] (cases_at arms.now other) finish)) }
+    ensures { OnOk result
+        (code_seen out.new ≡ append (code_seen out.old) (switch [] (cases_at arms.now other) finish)) }
 {
     let mut cases = RecvCases::new(alloc);
     for (n, id) in arms.as_slice() {

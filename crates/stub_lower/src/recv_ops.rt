@@ -12,7 +12,8 @@ use std::alloc::Global;
 /// Puts a test of so many octets and a take of them after the last operation.
 #[tactic(auto, using(crate::proofs::RecvBuilding::building))]
 pub(crate) fn add_test(size: u32, gets: Gets, out: &mut RecvOps) -> Result<(), NoMemory>
-    ensures { OnOk result (code_seen out.new ≡ append (code_seen out.old) (need size (pass size gets finish))) }
+    ensures { OnOk result
+        (code_seen out.new ≡ append (code_seen out.old) (need size (pass size gets finish))) }
 {
     add(out, RecvOp::Need(size))?;
     add(out, RecvOp::Take(size, gets))

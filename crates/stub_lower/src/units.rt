@@ -16,7 +16,7 @@ use wire_def::Encoding;
 /// The first word of a long descriptor.
 const LONG_MARK: u32 = 805306368;
 
-/// Where the number of a scalar by itself stands in its octets.
+/// Where the number of a scalar by itself is in its octets.
 pub(crate) fn number_at(enc: Encoding) -> u32
     ensures { result ≡ number_at enc }
 {
@@ -62,7 +62,7 @@ pub(crate) fn units_in(kind: Kind) -> u32
     }
 }
 
-/// How many octets stand behind the descriptor of a number's item.
+/// How many octets come after the descriptor of a number's item.
 pub(crate) fn rest_of(kind: Kind) -> u32
     ensures is { result ≡ item_rest (number kind) }
     ensures few { result ≤ 8 }
@@ -93,7 +93,8 @@ fn octets_of(alloc: Global, word: u32) -> Result<Octets, NoMemory>
 /// The octets of a short descriptor of so many units.
 pub(crate) fn short_octets(alloc: Global, kind: Kind, many: u32) -> Result<Octets, NoMemory>
     requires { many < 4096 }
-    ensures { IfOk result (λ o. o ≡ le 4 (short_word (unit_name (number kind)) (unit_bits (number kind)) many)) }
+    ensures { IfOk result
+        (λ o. o ≡ le 4 (short_word (unit_name (number kind)) (unit_bits (number kind)) many)) }
 {
     octets_of(alloc, short_of(kind, many))
 }
