@@ -12,7 +12,7 @@ use Rattle.hoist.specs.Rows.{IfBreak, RowsEnsured, CasesRowsEnsured}
 use Rattle.hoist.specs.Laws.{HoistingEnsuresRows}
 use Rattle.hoist.proofs.Sparse.{apart_typed}
 
--- the list that is ensured in front
+-- the list that is ensured before
 abbrev list_of : Pending → Option (List ℕ)
 list_of (row p u n) = Some p
 list_of _ = None
@@ -25,8 +25,9 @@ raised_list n (row p u m) = refl
 
 -- ---- plans
 
--- the loop over a row comes behind the ensure of its list
-loop_list : (role : Role) (n u : Option ℕ) (p : List ℕ) (x : Hoisted) → IfRow role (IsThere u) → IfRow role (list_of (settled (loop_plan role n u p) x).1 ≡ Some p)
+-- the loop over a row comes after the ensure of its list
+loop_list : (role : Role) (n u : Option ℕ) (p : List ℕ) (x : Hoisted) → IfRow role (IsThere u)
+    → IfRow role (list_of (settled (loop_plan role n u p) x).1 ≡ Some p)
 loop_list is_row n (Some u) p (c, nothing) h = refl
 loop_list is_row n (Some u) p (c, octets m k) h = refl
 loop_list is_row n (Some u) p (c, row q w m) h = refl
@@ -34,18 +35,22 @@ loop_list is_row n None p x h = absurd h
 loop_list (is_small k) n u p x h = tt
 loop_list is_break n u p x h = tt
 
-loop_body : {A : Type 0} (role : Role) (n u : Option ℕ) (p : List ℕ) (b b' : A) (Q : A → Type 0) (T : Type 0) → (T → Q b') → WhereApart (loop_plan role n u p) T → IfBreak role (Q (kept (loop_plan role n u p) b b'))
+loop_body : {A : Type 0} (role : Role) (n u : Option ℕ) (p : List ℕ) (b b' : A) (Q : A → Type 0) (T : Type 0) → (T → Q b')
+    → WhereApart (loop_plan role n u p) T
+    → IfBreak role (Q (kept (loop_plan role n u p) b b'))
 loop_body is_break n u p b b' Q T go taken = go taken
 loop_body is_row n u p b b' Q T go taken = tt
 loop_body (is_small k) n u p b b' Q T go taken = tt
 
-other_body : {A : Type 0} (role : Role) (n : Option ℕ) (b b' : A) (Q : A → Type 0) (T : Type 0) → (T → Q b') → WhereApart (body_plan role n) T → IfBreak role (Q (kept (body_plan role n) b b'))
+other_body : {A : Type 0} (role : Role) (n : Option ℕ) (b b' : A) (Q : A → Type 0) (T : Type 0) → (T → Q b')
+    → WhereApart (body_plan role n) T
+    → IfBreak role (Q (kept (body_plan role n) b b'))
 other_body is_break n b b' Q T go taken = go taken
 other_body is_row n b b' Q T go taken = tt
 other_body (is_small k) n b b' Q T go taken = tt
 
 module _ (ro : Roles) where
-  -- code, with what is to be ensured in front of it
+  -- code, with what is to be ensured before it
   abbrev Good : Ty → Hoisted → Type 0
   Good t x = RowsEnsured ro t (list_of x.1) x.0
 
@@ -70,7 +75,8 @@ module _ (ro : Roles) where
   row_good t p u (c, octets m j) h = h
   row_good t p u (c, row q w m) h = h
 
-  loop_good : (t : Ty) (role : Role) (n u : Option ℕ) (p : List ℕ) (x : Hoisted) → Good t x → RowsEnsured ro t None (settled (loop_plan role n u p) x).0
+  loop_good : (t : Ty) (role : Role) (n u : Option ℕ) (p : List ℕ) (x : Hoisted) → Good t x
+      → RowsEnsured ro t None (settled (loop_plan role n u p) x).0
   loop_good t (is_small k) (Some n) u p x h = small_good t n k x h
   loop_good t (is_small k) None u p x h = closed_good t x h
   loop_good t is_row n (Some u) p x h = row_good t p u x h
@@ -94,20 +100,26 @@ module _ (ro : Roles) where
     good (each p b r) t taken =
         let n = on_some (element_at p t) (λ e. times (most e.1) (bound e.0 b)) in (
           loop_list (ro t p) n (turn_bound p t b) p (hoisted ro t r) taken.1,
-          loop_body (ro t p) n (turn_bound p t b) p b (closed (hoisted ro (or_void (items_at p t)) b)) (λ (d : Block). IfTyped (items_at p t) (λ u. RowsEnsured ro u None d)) (InType (items_at p t) (λ u. IsTaken ro u b))
-              (λ tk. apart_typed (items_at p t) (λ u. IsTaken ro u b) (λ u d. RowsEnsured ro u None d) or_void (λ u. closed (hoisted ro u b)) (λ a. refl) tk (λ (u : Ty) k. closed_good u (hoisted ro u b) (good b u k)))
+          loop_body (ro t p) n (turn_bound p t b) p b (closed (hoisted ro (or_void (items_at p t)) b))
+              (λ (d : Block). IfTyped (items_at p t) (λ u. RowsEnsured ro u None d)) (InType (items_at p t) (λ u. IsTaken ro u b))
+              (λ tk. apart_typed (items_at p t) (λ u. IsTaken ro u b) (λ u d. RowsEnsured ro u None d) or_void
+              (λ u. closed (hoisted ro u b)) (λ a. refl) tk (λ (u : Ty) k. closed_good u (hoisted ro u b) (good b u k)))
               taken.0,
           loop_good t (ro t p) n (turn_bound p t b) p (hoisted ro t r) (good r t taken.2),
         )
     good (if_there p b r) t taken = (
-      other_body (ro t p) (on_some (present_at p t) (λ u. bound u b)) b (closed (hoisted ro (or_void (present_at p t)) b)) (λ (d : Block). IfTyped (present_at p t) (λ u. RowsEnsured ro u None d)) (InType (present_at p t) (λ u. IsTaken ro u b))
-          (λ tk. apart_typed (present_at p t) (λ u. IsTaken ro u b) (λ u d. RowsEnsured ro u None d) or_void (λ u. closed (hoisted ro u b)) (λ a. refl) tk (λ (u : Ty) k. closed_good u (hoisted ro u b) (good b u k)))
+      other_body (ro t p) (on_some (present_at p t) (λ u. bound u b)) b (closed (hoisted ro (or_void (present_at p t)) b))
+          (λ (d : Block). IfTyped (present_at p t) (λ u. RowsEnsured ro u None d)) (InType (present_at p t) (λ u. IsTaken ro u b))
+          (λ tk. apart_typed (present_at p t) (λ u. IsTaken ro u b) (λ u d. RowsEnsured ro u None d) or_void (λ u. closed (hoisted ro u b))
+          (λ a. refl) tk (λ (u : Ty) k. closed_good u (hoisted ro u b) (good b u k)))
           taken.0,
       other_good t (ro t p) (on_some (present_at p t) (λ u. bound u b)) (hoisted ro t r) (good r t taken.1),
     )
     good (switch p cs r) t taken = (
-      other_body (ro t p) (on_some (arms_at p t) (λ arms. cases_bound arms cs)) cs (cases_hoisted ro (or_none (arms_at p t)) cs) (λ (d : Cases). IfTyped (arms_at p t) (λ arms. CasesRowsEnsured ro arms d)) (InType (arms_at p t) (λ arms. CasesTaken ro arms cs))
-          (λ tk. apart_typed (arms_at p t) (λ arms. CasesTaken ro arms cs) (λ arms d. CasesRowsEnsured ro arms d) or_none (λ arms. cases_hoisted ro arms cs) (λ a. refl) tk (λ (arms : Arms) k. cases_good cs arms k))
+      other_body (ro t p) (on_some (arms_at p t) (λ arms. cases_bound arms cs)) cs (cases_hoisted ro (or_none (arms_at p t)) cs)
+          (λ (d : Cases). IfTyped (arms_at p t) (λ arms. CasesRowsEnsured ro arms d)) (InType (arms_at p t) (λ arms. CasesTaken ro arms cs))
+          (λ tk. apart_typed (arms_at p t) (λ arms. CasesTaken ro arms cs) (λ arms d. CasesRowsEnsured ro arms d) or_none
+          (λ arms. cases_hoisted ro arms cs) (λ a. refl) tk (λ (arms : Arms) k. cases_good cs arms k))
           taken.0,
       other_good t (ro t p) (on_some (arms_at p t) (λ arms. cases_bound arms cs)) (hoisted ro t r) (good r t taken.1),
     )

@@ -7,15 +7,18 @@ use Rattle.cast_stub.specs.declared.put.Put.{Put}
 use Rattle.cast_stub.specs.Parts.{on_some}
 use Rattle.cast_stub.specs.Puts.{Cells, placed, put_octets, offset, put_one, put_all, full, filled}
 
-mapped_some : (z : Option Cells) (c : Option ℕ) (ds : Cells) → option_map (λ es. c ∷ es) z ≡ Some ds → (es : Cells) × (z ≡ Some es) × (c ∷ es ≡ ds)
+mapped_some : (z : Option Cells) (c : Option ℕ) (ds : Cells) → option_map (λ es. c ∷ es) z ≡ Some ds
+    → (es : Cells) × (z ≡ Some es) × (c ∷ es ≡ ds)
 mapped_some None c ds e = absurd cc
 mapped_some (Some es) c ds e = (es, refl, cc)
 
-split_one : (x : Option (List ℕ)) (off : ℕ) (cs ds : Cells) → on_some x (λ os. placed off os cs) ≡ Some ds → (os : List ℕ) × (x ≡ Some os) × (placed off os cs ≡ Some ds)
+split_one : (x : Option (List ℕ)) (off : ℕ) (cs ds : Cells) → on_some x (λ os. placed off os cs) ≡ Some ds
+    → (os : List ℕ) × (x ≡ Some os) × (placed off os cs ≡ Some ds)
 split_one None off cs ds e = absurd cc
 split_one (Some os) off cs ds e = (os, refl, e)
 
-split_all : (z : Option Cells) (f : Cells → Option Cells) (ds : Cells) → on_some z f ≡ Some ds → (es : Cells) × (z ≡ Some es) × (f es ≡ Some ds)
+split_all : (z : Option Cells) (f : Cells → Option Cells) (ds : Cells) → on_some z f ≡ Some ds
+    → (es : Cells) × (z ≡ Some es) × (f es ≡ Some ds)
 split_all None f ds e = absurd cc
 split_all (Some es) f ds e = (es, refl, e)
 
@@ -26,9 +29,13 @@ split_full (Some es) o e = (es, refl, e)
 long-placed : (n : ℕ) (os : List ℕ) (cs ds : Cells) → placed n os cs ≡ Some ds → length ds ≡ length cs
 long-placed zero [] cs ds e = let s : cs ≡ ds = cc in ap length (sym s)
 long-placed zero (o ∷ os) [] ds e = absurd cc
-long-placed zero (o ∷ os) (c ∷ cs) ds e = let m = mapped_some (placed zero os cs) (Some o) ds e in ap length (sym m.2) ∙ ap suc (long-placed zero os cs m.0 m.1)
+long-placed zero (o ∷ os) (c ∷ cs) ds e =
+    let m = mapped_some (placed zero os cs) (Some o) ds e in
+    ap length (sym m.2) ∙ ap suc (long-placed zero os cs m.0 m.1)
 long-placed (suc n) os [] ds e = absurd cc
-long-placed (suc n) os (c ∷ cs) ds e = let m = mapped_some (placed n os cs) c ds e in ap length (sym m.2) ∙ ap suc (long-placed n os cs m.0 m.1)
+long-placed (suc n) os (c ∷ cs) ds e =
+    let m = mapped_some (placed n os cs) c ds e in
+    ap length (sym m.2) ∙ ap suc (long-placed n os cs m.0 m.1)
 
 long-all : (h : Head) (v : Val) (ps : List Put) (cs ds : Cells) → put_all h v ps cs ≡ Some ds → length ds ≡ length cs
 long-all h v [] cs ds e = let s : cs ≡ ds = cc in ap length (sym s)
@@ -41,7 +48,9 @@ full-long : (cs : Cells) (o : List ℕ) → full cs ≡ Some o → length o ≡ 
 full-long [] o e = let s : [] ≡ o = cc in ap length (sym s)
 full-long (None ∷ cs) o e = absurd cc
 full-long (Some x ∷ cs) o e = more (full cs) x o (length cs) e (full-long cs) where
-  more : (z : Option (List ℕ)) (x : ℕ) (o : List ℕ) (k : ℕ) → option_map (λ l. x ∷ l) z ≡ Some o → ((l : List ℕ) → z ≡ Some l → length l ≡ k) → length o ≡ suc k
+  more : (z : Option (List ℕ)) (x : ℕ) (o : List ℕ) (k : ℕ) → option_map (λ l. x ∷ l) z ≡ Some o
+      → ((l : List ℕ) → z ≡ Some l → length l ≡ k)
+      → length o ≡ suc k
   more None x o k e go = absurd cc
   more (Some l) x o k e go = let s : x ∷ l ≡ o = cc in ap length (sym s) ∙ ap suc (go l refl)
 

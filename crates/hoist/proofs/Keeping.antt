@@ -60,11 +60,12 @@ room_same : (n : ℕ) (y : Steps) → bare (both (Some (Room n ∷ [])) y) ≡ b
 room_same n None = refl
 room_same n (Some b) = refl
 
-row_same : (z : Option ℕ) (u n : ℕ) (y : Steps) → (z ≡ None → y ≡ None) → bare (both (on_some z (λ k. Some (Room (k * u + n) ∷ []))) y) ≡ bare y
+row_same : (z : Option ℕ) (u n : ℕ) (y : Steps) → (z ≡ None → y ≡ None)
+    → bare (both (on_some z (λ k. Some (Room (k * u + n) ∷ []))) y) ≡ bare y
 row_same None u n y e = ap bare (sym (e refl))
 row_same (Some k) u n y e = room_same (k * u + n) y
 
--- a list whose length is pending is gone over by the code
+-- a list whose length is pending is visited by the code
 abbrev Reads : Pending → Val → Steps → Type 0
 Reads nothing v s = Unit {0}
 Reads (octets n j) v s = Unit {0}
@@ -88,7 +89,8 @@ module _ (c : Calls) (h : Head) (v : Val) where
   closed_same (b, octets n j) r = room_same n (steps c h b v)
   closed_same (b, row p u n) r = row_same (length_at p v) u n (steps c h b v) r
 
-  settled_same : (plan : Plan) (own : Steps) (x : Hoisted) → Owns plan v own → Reads x.1 v (steps c h x.0 v) → Kept (settled plan x).1 v own (steps c h (settled plan x).0 v) (steps c h x.0 v)
+  settled_same : (plan : Plan) (own : Steps) (x : Hoisted) → Owns plan v own → Reads x.1 v (steps c h x.0 v)
+      → Kept (settled plan x).1 v own (steps c h (settled plan x).0 v) (steps c h x.0 v)
   settled_same (flat n) own (b, nothing) o r = record { same = refl; reads = reads_some n 0 v (both own (steps c h b v)) }
   settled_same (flat n) own (b, octets m j) o r = record { same = refl; reads = tt }
   settled_same (flat n) own (b, row p u m) o r = record { same = refl; reads = λ e. ap (both own) (r e) ∙ none_behind own }
@@ -97,10 +99,12 @@ module _ (c : Calls) (h : Head) (v : Val) where
     cut : (q : Bool) → Kept (beside q n k m j b).1 v own (steps c h (beside q n k m j b).0 v) (steps c h b v)
     cut true = record { same = room_same m (steps c h b v); reads = reads_some n k v (both own (steps c h (ensure m b) v)) }
     cut false = record { same = refl; reads = tt }
-  settled_same (small n k) own (b, row p u m) o r = record { same = closed_same (b, row p u m) r; reads = reads_some n k v (both own (steps c h (ensure_row p u m b) v)) }
+  settled_same (small n k) own (b, row p u m) o r =
+      record { same = closed_same (b, row p u m) r; reads = reads_some n k v (both own (steps c h (ensure_row p u m b) v)) }
   settled_same (loop p u) own (b, nothing) o r = record { same = refl; reads = λ e. ap (λ (x : Steps). both x (steps c h b v)) (o e) }
   settled_same (loop p u) own (b, octets m j) o r = record { same = refl; reads = λ e. ap (λ (x : Steps). both x (steps c h b v)) (o e) }
-  settled_same (loop p u) own (b, row q w m) o r = record { same = closed_same (b, row q w m) r; reads = λ e. ap (λ (x : Steps). both x (steps c h (ensure_row q w m b) v)) (o e) }
+  settled_same (loop p u) own (b, row q w m) o r =
+      record { same = closed_same (b, row q w m) r; reads = λ e. ap (λ (x : Steps). both x (steps c h (ensure_row q w m b) v)) (o e) }
   settled_same apart own x o r = record { same = closed_same x r; reads = tt }
 
 kept_same : {A : Type 0} (O : A → Steps) (plan : Plan) (b b' : A) → bare (O b') ≡ bare (O b) → bare (O (kept plan b b')) ≡ bare (O b)
@@ -120,7 +124,8 @@ each_reads p v f e = by (at p v) e where
   by None e = refl
   by (Some w) e = ap (λ (y : Option Vals). on_some y (over f)) (no_elements w e)
 
-loop_owns : (role : Role) (n u : Option ℕ) (p : List ℕ) (v : Val) (own : Steps) → (length_at p v ≡ None → own ≡ None) → Owns (loop_plan role n u p) v own
+loop_owns : (role : Role) (n u : Option ℕ) (p : List ℕ) (v : Val) (own : Steps) → (length_at p v ≡ None → own ≡ None)
+    → Owns (loop_plan role n u p) v own
 loop_owns (is_small k) (Some n) u p v own e = tt
 loop_owns (is_small k) None u p v own e = tt
 loop_owns is_row n (Some u) p v own e = e
@@ -140,12 +145,16 @@ module _ (c : Calls) (h : Head) (ro : Roles) where
   whole_same : (x : Hoisted) (b : Block) (v : Val) → Same x b v → bare (steps c h (closed x) v) ≡ bare (steps c h b v)
   whole_same x b v k = closed_same c h v x k.1 ∙ k.0
 
-  -- an operation in front of code that is kept
-  op_same : {A : Type 0} (O : A → Steps) (plan : Plan) (b b' : A) (x : Hoisted) (r : Block) (v : Val) → Owns plan v (O (kept plan b b')) → bare (O b') ≡ bare (O b) → Same x r v
-      → (bare (both (O (kept plan b b')) (steps c h (settled plan x).0 v)) ≡ bare (both (O b) (steps c h r v))) × Reads (settled plan x).1 v (both (O (kept plan b b')) (steps c h (settled plan x).0 v))
+  -- an operation before code that is kept
+  op_same : {A : Type 0} (O : A → Steps) (plan : Plan) (b b' : A) (x : Hoisted) (r : Block) (v : Val) → Owns plan v (O (kept plan b b'))
+      → bare (O b') ≡ bare (O b) → Same x r v
+      → (bare (both (O (kept plan b b')) (steps c h (settled plan x).0 v)) ≡ bare (both (O b) (steps c h r v)))
+      × Reads (settled plan x).1 v (both (O (kept plan b b')) (steps c h (settled plan x).0 v))
   op_same O plan b b' x r v owns e k =
-      let s = settled_same c h v plan (O (kept plan b b')) x owns k.1 in
-      (same_both (O (kept plan b b')) (O b) (steps c h (settled plan x).0 v) (steps c h r v) (kept_same O plan b b' e) (s.same ∙ k.0), s.reads)
+      let s = settled_same c h v plan (O (kept plan b b')) x owns k.1 in (
+        same_both (O (kept plan b b')) (O b) (steps c h (settled plan x).0 v) (steps c h r v) (kept_same O plan b b' e) (s.same ∙ k.0),
+        s.reads,
+      )
 
   mutual
     keeps : (b : Block) (t : Ty) (v : Val) → Same (hoisted ro t b) b v
@@ -153,26 +162,40 @@ module _ (c : Calls) (h : Head) (ro : Roles) where
     keeps (chunk s ps r) t v = op_same (λ (d : ℕ). chunk_steps d ps h v) (flat s) s s (hoisted ro t r) r v tt refl (keeps r t v)
     keeps (patch a s o r) t v = patch_same (hoisted ro t r) (keeps r t v) where
       patch_same : (x : Hoisted) → Same x r v → Same (patch a s o x.0, x.1) (patch a s o r) v
-      patch_same (b, nothing) k = (same_both (Some (Patched a s o ∷ [])) (Some (Patched a s o ∷ [])) (steps c h b v) (steps c h r v) refl k.0, tt)
-      patch_same (b, octets n j) k = (same_both (Some (Patched a s o ∷ [])) (Some (Patched a s o ∷ [])) (steps c h b v) (steps c h r v) refl k.0, tt)
-      patch_same (b, row p u n) k = (same_both (Some (Patched a s o ∷ [])) (Some (Patched a s o ∷ [])) (steps c h b v) (steps c h r v) refl k.0, λ e. ap (both (Some (Patched a s o ∷ []))) (k.1 e))
+      patch_same (b, nothing) k =
+          (same_both (Some (Patched a s o ∷ [])) (Some (Patched a s o ∷ [])) (steps c h b v) (steps c h r v) refl k.0, tt)
+      patch_same (b, octets n j) k =
+          (same_both (Some (Patched a s o ∷ [])) (Some (Patched a s o ∷ [])) (steps c h b v) (steps c h r v) refl k.0, tt)
+      patch_same (b, row p u n) k = (
+        same_both (Some (Patched a s o ∷ [])) (Some (Patched a s o ∷ [])) (steps c h b v) (steps c h r v) refl
+            k.0,
+        λ e. ap (both (Some (Patched a s o ∷ []))) (k.1 e),
+      )
     keeps (each p b r) t v =
         let b' = closed (hoisted ro (or_void (items_at p t)) b) in
         op_same (λ (d : Block). on_some (on_some (at p v) elements_in) (over (steps c h d))) (each_plan ro t p b) b b' (hoisted ro t r) r v
-        (loop_owns (ro t p) (on_some (element_at p t) (λ e. times (most e.1) (bound e.0 b))) (on_some (element_at p t) (λ e. bound e.0 b)) p v (on_some (on_some (at p v) elements_in) (over (steps c h (kept (each_plan ro t p b) b b')))) (each_reads p v (steps c h (kept (each_plan ro t p b) b b'))))
-        (same_on (on_some (at p v) elements_in) (over (steps c h b')) (over (steps c h b)) (λ (vs : Vals). same_over (steps c h b') (steps c h b) vs (λ (w : Val). whole_same (hoisted ro (or_void (items_at p t)) b) b w (keeps b (or_void (items_at p t)) w))))
+        (loop_owns (ro t p) (on_some (element_at p t) (λ e. times (most e.1) (bound e.0 b))) (on_some (element_at p t) (λ e. bound e.0 b)) p
+        v (on_some (on_some (at p v) elements_in) (over (steps c h (kept (each_plan ro t p b) b b'))))
+        (each_reads p v (steps c h (kept (each_plan ro t p b) b b'))))
+        (same_on (on_some (at p v) elements_in) (over (steps c h b')) (over (steps c h b)) (λ (vs : Vals). same_over (steps c h b')
+        (steps c h b) vs (λ (w : Val). whole_same (hoisted ro (or_void (items_at p t)) b) b w (keeps b (or_void (items_at p t)) w))))
         (keeps r t v)
     keeps (if_there p b r) t v =
         let b' = closed (hoisted ro (or_void (present_at p t)) b) in
         op_same (λ (d : Block). on_some (at p v) (if_present (steps c h d))) (some_plan ro t p b) b b' (hoisted ro t r) r v
-        (body_owns (ro t p) (on_some (present_at p t) (λ u. bound u b)) v (on_some (at p v) (if_present (steps c h (kept (some_plan ro t p b) b b')))))
-        (same_on (at p v) (if_present (steps c h b')) (if_present (steps c h b)) (λ (w : Val). same_present (steps c h b') (steps c h b) w (λ (u : Val). whole_same (hoisted ro (or_void (present_at p t)) b) b u (keeps b (or_void (present_at p t)) u))))
+        (body_owns (ro t p) (on_some (present_at p t) (λ u. bound u b)) v
+        (on_some (at p v) (if_present (steps c h (kept (some_plan ro t p b) b b')))))
+        (same_on (at p v) (if_present (steps c h b')) (if_present (steps c h b)) (λ (w : Val). same_present (steps c h b') (steps c h b) w
+        (λ (u : Val). whole_same (hoisted ro (or_void (present_at p t)) b) b u (keeps b (or_void (present_at p t)) u))))
         (keeps r t v)
     keeps (switch p cs r) t v =
         let cs' = cases_hoisted ro (or_none (arms_at p t)) cs in
-        op_same (λ (d : Cases). on_some (on_some (at p v) arm_in) (λ a. case_steps c h d a.0 a.1)) (switch_plan ro t p cs) cs cs' (hoisted ro t r) r v
-        (body_owns (ro t p) (on_some (arms_at p t) (λ arms. cases_bound arms cs)) v (on_some (on_some (at p v) arm_in) (λ a. case_steps c h (kept (switch_plan ro t p cs) cs cs') a.0 a.1)))
-        (same_on (on_some (at p v) arm_in) (λ a. case_steps c h cs' a.0 a.1) (λ a. case_steps c h cs a.0 a.1) (λ (a : ℤ × Val). cases_keep cs (or_none (arms_at p t)) a.0 a.1))
+        op_same (λ (d : Cases). on_some (on_some (at p v) arm_in) (λ a. case_steps c h d a.0 a.1)) (switch_plan ro t p cs) cs cs'
+        (hoisted ro t r) r v
+        (body_owns (ro t p) (on_some (arms_at p t) (λ arms. cases_bound arms cs)) v
+        (on_some (on_some (at p v) arm_in) (λ a. case_steps c h (kept (switch_plan ro t p cs) cs cs') a.0 a.1)))
+        (same_on (on_some (at p v) arm_in) (λ a. case_steps c h cs' a.0 a.1) (λ a. case_steps c h cs a.0 a.1)
+        (λ (a : ℤ × Val). cases_keep cs (or_none (arms_at p t)) a.0 a.1))
         (keeps r t v)
     keeps stop t v = (refl, tt)
     keeps (ensure n r) t v = (refl, tt)
@@ -182,10 +205,12 @@ module _ (c : Calls) (h : Head) (ro : Roles) where
     keeps (row_wide p o r) t v = (refl, tt)
     keeps (call k p r) t v = (refl, tt)
 
-    cases_keep : (cs : Cases) (arms : Arms) (n : ℤ) (w : Val) → bare (case_steps c h (cases_hoisted ro arms cs) n w) ≡ bare (case_steps c h cs n w)
+    cases_keep : (cs : Cases) (arms : Arms) (n : ℤ) (w : Val)
+        → bare (case_steps c h (cases_hoisted ro arms cs) n w) ≡ bare (case_steps c h cs n w)
     cases_keep (default b) (others t) n w = whole_same (hoisted ro t b) b w (keeps b t w)
     cases_keep (case m b cs) (arm_type k t arms) n w =
-        same_if (int_eq n m) (steps c h (closed (hoisted ro t b)) w) (steps c h b w) (case_steps c h (cases_hoisted ro arms cs) n w) (case_steps c h cs n w) (whole_same (hoisted ro t b) b w (keeps b t w)) (cases_keep cs arms n w)
+        same_if (int_eq n m) (steps c h (closed (hoisted ro t b)) w) (steps c h b w) (case_steps c h (cases_hoisted ro arms cs) n w)
+        (case_steps c h cs n w) (whole_same (hoisted ro t b) b w (keeps b t w)) (cases_keep cs arms n w)
     cases_keep no_default no_other n w = refl
     cases_keep no_default (others t) n w = refl
     cases_keep no_default (arm_type k t arms) n w = refl
@@ -231,14 +256,17 @@ module _ (ro : Roles) where
     same_code (patch a s o r) t = ap (patch a s o) (same_code r t)
     same_code (each p b r) t =
         let x = hoisted ro (or_void (items_at p t)) b in
-        ap (λ (d : Block). each p d (unensured (settled (each_plan ro t p b) (hoisted ro t r)).0)) (kept_code unensured (each_plan ro t p b) b (closed x) (closed_code x ∙ same_code b (or_void (items_at p t))))
+        ap (λ (d : Block). each p d (unensured (settled (each_plan ro t p b) (hoisted ro t r)).0))
+        (kept_code unensured (each_plan ro t p b) b (closed x) (closed_code x ∙ same_code b (or_void (items_at p t))))
         ∙ ap (each p (unensured b)) (settled_code (each_plan ro t p b) (hoisted ro t r) ∙ same_code r t)
     same_code (if_there p b r) t =
         let x = hoisted ro (or_void (present_at p t)) b in
-        ap (λ (d : Block). if_there p d (unensured (settled (some_plan ro t p b) (hoisted ro t r)).0)) (kept_code unensured (some_plan ro t p b) b (closed x) (closed_code x ∙ same_code b (or_void (present_at p t))))
+        ap (λ (d : Block). if_there p d (unensured (settled (some_plan ro t p b) (hoisted ro t r)).0))
+        (kept_code unensured (some_plan ro t p b) b (closed x) (closed_code x ∙ same_code b (or_void (present_at p t))))
         ∙ ap (if_there p (unensured b)) (settled_code (some_plan ro t p b) (hoisted ro t r) ∙ same_code r t)
     same_code (switch p cs r) t =
-        ap (λ (d : Cases). switch p d (unensured (settled (switch_plan ro t p cs) (hoisted ro t r)).0)) (kept_code cases_unensured (switch_plan ro t p cs) cs (cases_hoisted ro (or_none (arms_at p t)) cs) (same_cases cs (or_none (arms_at p t))))
+        ap (λ (d : Cases). switch p d (unensured (settled (switch_plan ro t p cs) (hoisted ro t r)).0)) (kept_code cases_unensured
+        (switch_plan ro t p cs) cs (cases_hoisted ro (or_none (arms_at p t)) cs) (same_cases cs (or_none (arms_at p t))))
         ∙ ap (switch p (cases_unensured cs)) (settled_code (switch_plan ro t p cs) (hoisted ro t r) ∙ same_code r t)
     same_code stop t = refl
     same_code (ensure n r) t = refl
@@ -250,7 +278,8 @@ module _ (ro : Roles) where
 
     same_cases : (cs : Cases) (arms : Arms) → cases_unensured (cases_hoisted ro arms cs) ≡ cases_unensured cs
     same_cases (default b) (others t) = ap default (closed_code (hoisted ro t b) ∙ same_code b t)
-    same_cases (case m b cs) (arm_type k t arms) = ap (λ (d : Block). case m d (cases_unensured (cases_hoisted ro arms cs))) (closed_code (hoisted ro t b) ∙ same_code b t) ∙ ap (case m (unensured b)) (same_cases cs arms)
+    same_cases (case m b cs) (arm_type k t arms) = ap (λ (d : Block). case m d (cases_unensured (cases_hoisted ro arms cs)))
+        (closed_code (hoisted ro t b) ∙ same_code b t) ∙ ap (case m (unensured b)) (same_cases cs arms)
     same_cases no_default no_other = refl
     same_cases no_default (others t) = refl
     same_cases no_default (arm_type k t arms) = refl

@@ -1,4 +1,4 @@
--- Nodes of parts, and bounds of operations in front of others.
+-- Nodes of parts, and bounds of operations before others.
 use Rattle.std.proofs.Common.{◌≡◌, ℕ, zero, suc, ◌+◌, ◌<◌, ℤ, List, [], ◌∷◌, length, drop, get_or, Option, Some, None, option_map, refl, sym, ap, ◌∙◌, arith, add-one, Bool, true, false, if◌then◌else◌}
 use Rattle.std.specs.Prelude.{slice_get}
 use Rattle.std.proofs.Math.Seq.{drop-cons}
@@ -40,33 +40,63 @@ pub none-more : (m : Option ℕ) → plus (Some 0) m ≡ m
 none-more None = refl
 none-more (Some n) = let e : 0 + n ≡ n = omega arith in ap (λ (k : ℕ). Some k) e
 
-pub ruleset nodes = (field-at, no-elements, no-value, no-arms, code-drop, none-more, seen-Ensure, seen-EnsureRow, seen-Align, seen-Chunk, seen-RowCopy, seen-RowSwap, seen-RowWide, seen-Each, seen-Some, seen-Call, seen-Patch, seen-Switch)
+pub ruleset nodes = (
+  field-at,
+  no-elements,
+  no-value,
+  no-arms,
+  code-drop,
+  none-more,
+  seen-Ensure,
+  seen-EnsureRow,
+  seen-Align,
+  seen-Chunk,
+  seen-RowCopy,
+  seen-RowSwap,
+  seen-RowWide,
+  seen-Each,
+  seen-Some,
+  seen-Call,
+  seen-Patch,
+  seen-Switch,
+)
 
 -- ---- arms and bodies in step
 
-pub uneven : (us : List Ty) (arms : List (ℤ × ℕ)) (o : Option ℕ) (bodies : List (ℤ × List SendOp)) (last : Option (List SendOp)) → (length arms ≡ length bodies → ⊥) → None ≡ cases_bound (arms_at_nodes us arms o) (cases_seen bodies last)
+pub uneven : (us : List Ty) (arms : List (ℤ × ℕ)) (o : Option ℕ) (bodies : List (ℤ × List SendOp)) (last : Option (List SendOp))
+    → (length arms ≡ length bodies → ⊥)
+    → None ≡ cases_bound (arms_at_nodes us arms o) (cases_seen bodies last)
 uneven us [] o [] last h = absurd (h refl)
 uneven us [] None (c ∷ bodies) last h = refl
 uneven us [] (Some i) (c ∷ bodies) last h = refl
 uneven us (a ∷ arms) o [] None h = refl
 uneven us (a ∷ arms) o [] (Some b) h = refl
-uneven us (a ∷ arms) o (c ∷ bodies) last h = neither (int_eq a.0 c.0) (bound (at us a.1) (code_seen c.1)) ∙ ap (λ (x : Option ℕ). if int_eq a.0 c.0 then greater (bound (at us a.1) (code_seen c.1)) x else None) (uneven us arms o bodies last (λ e. h (ap suc e))) where
-  neither : (q : Bool) (x : Option ℕ) → None ≡ (if q then greater x None else None)
-  neither true None = refl
-  neither true (Some n) = refl
-  neither false x = refl
+uneven us (a ∷ arms) o (c ∷ bodies) last h = neither (int_eq a.0 c.0) (bound (at us a.1) (code_seen c.1))
+    ∙ ap (λ (x : Option ℕ). if int_eq a.0 c.0 then greater (bound (at us a.1) (code_seen c.1)) x else None)
+    (uneven us arms o bodies last (λ e. h (ap suc e))) where
+      neither : (q : Bool) (x : Option ℕ) → None ≡ (if q then greater x None else None)
+      neither true None = refl
+      neither true (Some n) = refl
+      neither false x = refl
 
-pub arm_before : (us : List Ty) (arms : List (ℤ × ℕ)) (o : Option ℕ) (bodies : List (ℤ × List SendOp)) (last : Option (List SendOp)) (i : ℕ) (d : ℤ × ℕ) (d' : ℤ × List SendOp) (n rest : Option ℕ)
-    → i < length arms → i < length bodies → rest ≡ cases_bound (arms_at_nodes us (drop (suc i) arms) o) (cases_seen (drop (suc i) bodies) last)
-    → n ≡ (if int_eq (get_or arms i d).0 (get_or bodies i d').0 then greater (bound (at us (get_or arms i d).1) (code_seen (get_or bodies i d').1)) rest else None)
+pub arm_before : (us : List Ty) (arms : List (ℤ × ℕ)) (o : Option ℕ) (bodies : List (ℤ × List SendOp)) (last : Option (List SendOp)) (i : ℕ)
+    (d : ℤ × ℕ) (d' : ℤ × List SendOp) (n rest : Option ℕ) → i < length arms → i < length bodies
+    → rest ≡ cases_bound (arms_at_nodes us (drop (suc i) arms) o) (cases_seen (drop (suc i) bodies) last)
+    → n ≡ (if int_eq (get_or arms i d).0 (get_or bodies i d').0
+    then greater (bound (at us (get_or arms i d).1) (code_seen (get_or bodies i d').1)) rest
+    else None)
     → n ≡ cases_bound (arms_at_nodes us (drop i arms) o) (cases_seen (drop i bodies) last)
 arm_before us arms o bodies last i d d' n rest h k behind is =
-    is ∙ ap (λ (x : Option ℕ). if int_eq (get_or arms i d).0 (get_or bodies i d').0 then greater (bound (at us (get_or arms i d).1) (code_seen (get_or bodies i d').1)) x else None) behind
+    is ∙ ap (λ (x : Option ℕ). if int_eq (get_or arms i d).0 (get_or bodies i d').0
+    then greater (bound (at us (get_or arms i d).1) (code_seen (get_or bodies i d').1)) x
+    else None) behind
     ∙ sym (ap (λ (l : List (ℤ × ℕ)). cases_bound (arms_at_nodes us l o) (cases_seen (drop i bodies) last)) (drop-cons arms i d h)
-    ∙ ap (λ (l : List (ℤ × List SendOp)). cases_bound (arms_at_nodes us (get_or arms i d ∷ drop (suc i) arms) o) (cases_seen l last)) (drop-cons bodies i d' k))
+    ∙ ap (λ (l : List (ℤ × List SendOp)). cases_bound (arms_at_nodes us (get_or arms i d ∷ drop (suc i) arms) o) (cases_seen l last))
+    (drop-cons bodies i d' k))
 
--- a switch in front of others
-pub switch_turn : (t : Ty) (o : SendOp) (path : List ℕ) (cases : List (ℤ × List SendOp)) (other : Option (List SendOp)) (n : Option ℕ) → o ≡ op.Switch path cases other → n ≡ on_some (arms_at path t) (λ arms. cases_bound arms (cases_seen cases other))
-    → (r : Block) → bound t (op_seen o r) ≡ plus n (bound t r)
+-- a switch before others
+pub switch_turn : (t : Ty) (o : SendOp) (path : List ℕ) (cases : List (ℤ × List SendOp)) (other : Option (List SendOp)) (n : Option ℕ)
+    → o ≡ op.Switch path cases other → n ≡ on_some (arms_at path t) (λ arms. cases_bound arms (cases_seen cases other)) → (r : Block)
+    → bound t (op_seen o r) ≡ plus n (bound t r)
 switch_turn t o path cases other n is same r =
     ap (λ (p : Piece). bound t (p r)) (ap op_seen is ∙ seen-Switch path cases other) ∙ ap (λ (x : Option ℕ). plus x (bound t r)) (sym same)

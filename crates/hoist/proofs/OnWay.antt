@@ -10,7 +10,8 @@ light-first z [] t e = e
 light-first z (i ∷ p) t e = ap (λ (b : Bool). b || further_on (in_group_type i t) (on_way z p)) e
 
 -- the way through a field that is there or not
-pub field-way : (z : Sizes) (i : ℕ) (p : List ℕ) (t : Ty) (x : Option Ty) → false ≡ is_light (z.top t) → x ≡ in_group_type i t → further_on x (on_way z p) ≡ on_way z (i ∷ p) t
+pub field-way : (z : Sizes) (i : ℕ) (p : List ℕ) (t : Ty) (x : Option Ty) → false ≡ is_light (z.top t) → x ≡ in_group_type i t
+    → further_on x (on_way z p) ≡ on_way z (i ∷ p) t
 field-way z i p t x e f =
     ap (λ (y : Option Ty). further_on y (on_way z p)) f ∙ ap (λ (b : Bool). b || further_on (in_group_type i t) (on_way z p)) e
 

@@ -56,7 +56,9 @@ written-same p (Some ss) = wrote-same p ss []
 
 -- ---- hoisted code without codes to call
 
-module _ (enc : Encoding) (given code : SendCode) (t : Ty) (e : code_seen code.ops ≡ closed (hoisted (span_roles enc) t (code_seen given.ops))) (from : given.subs ≡ []) (to : code.subs ≡ []) where
+module _ (enc : Encoding) (given code : SendCode) (t : Ty)
+    (e : code_seen code.ops ≡ closed (hoisted (span_roles enc) t (code_seen given.ops))) (from : given.subs ≡ [])
+    (to : code.subs ≡ []) where
   abbrev by-calls : Head → Calls
   by-calls h = calls_of code.subs h deepest
 
@@ -77,13 +79,15 @@ module _ (enc : Encoding) (given code : SendCode) (t : Ty) (e : code_seen code.o
 
   pub covered-for : IsTaken (span_roles enc) t (code_seen given.ops) → IsCoveredFor t given code
   covered-for taken h v p typed there = cut (sent_steps code h v) (met h v) (subst IsThere (sym (sends-same h v p)) there) where
-    cut : (x : Steps) → steps (by-calls h) h (closed (hoisted (span_roles enc) t (code_seen given.ops))) v ≡ x → IsThere (written p x) → AreCovered x p
+    cut : (x : Steps) → steps (by-calls h) h (closed (hoisted (span_roles enc) t (code_seen given.ops))) v ≡ x → IsThere (written p x)
+        → AreCovered x p
     cut None is writes = absurd writes
     cut (Some ss) is writes = (writes, covers (span_roles enc) (by-calls h) h t (code_seen given.ops) v ss p taken typed is)
 
   pub sparing : IsSound t → IsSparing enc t given code
   sparing sound n h v framed typed = cut (sent_steps code h v) (met h v) where
-    cut : (x : Steps) → steps (by-calls h) h (closed (hoisted (span_roles enc) t (code_seen given.ops))) v ≡ x → IfSome (option_map costs x) (λ c. c.checks ≤ regions (sizes enc) n t v)
+    cut : (x : Steps) → steps (by-calls h) h (closed (hoisted (span_roles enc) t (code_seen given.ops))) v ≡ x
+        → IfSome (option_map costs x) (λ c. c.checks ≤ regions (sizes enc) n t v)
     cut None is = tt
     cut (Some ss) is = spare.sparing (sizes enc) (by-calls h) h t n (code_seen given.ops) v ss (are_sizes enc) sound framed typed is
 

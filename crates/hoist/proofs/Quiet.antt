@@ -63,19 +63,23 @@ module _ (c : Calls) (h : Head) where
     quiet (row_wide p o r) v bare = absurd bare
     quiet (each p b r) v bare =
         quiet_both (on_some (on_some (at p v) elements_in) (over (steps c h b))) (steps c h r v)
-        (quiet_on (on_some (at p v) elements_in) (over (steps c h b)) (λ (vs : Vals). quiet_over (steps c h b) vs (λ (w : Val). quiet b w bare.0))) (quiet r v bare.1)
+        (quiet_on (on_some (at p v) elements_in) (over (steps c h b))
+        (λ (vs : Vals). quiet_over (steps c h b) vs (λ (w : Val). quiet b w bare.0))) (quiet r v bare.1)
     quiet (switch p cs r) v bare =
         quiet_both (on_some (on_some (at p v) arm_in) (λ a. case_steps c h cs a.0 a.1)) (steps c h r v)
-        (quiet_on (on_some (at p v) arm_in) (λ a. case_steps c h cs a.0 a.1) (λ (a : ℤ × Val). case_quiet cs a.0 a.1 bare.0)) (quiet r v bare.1)
+        (quiet_on (on_some (at p v) arm_in) (λ a. case_steps c h cs a.0 a.1) (λ (a : ℤ × Val). case_quiet cs a.0 a.1 bare.0))
+        (quiet r v bare.1)
     quiet (if_there p b r) v bare =
         quiet_both (on_some (at p v) (if_present (steps c h b))) (steps c h r v)
-        (quiet_on (at p v) (if_present (steps c h b)) (λ (w : Val). quiet_present (steps c h b) w (λ (u : Val). quiet b u bare.0))) (quiet r v bare.1)
+        (quiet_on (at p v) (if_present (steps c h b)) (λ (w : Val). quiet_present (steps c h b) w (λ (u : Val). quiet b u bare.0)))
+        (quiet r v bare.1)
     quiet (patch a s o r) v bare = quiet_both (Some (Patched a s o ∷ [])) (steps c h r v) refl (quiet r v bare)
 
     pub case_quiet : (cs : Cases) (n : ℤ) (w : Val) → CasesBare cs → spent (case_steps c h cs n w) ≡ 0
     case_quiet no_default n w bare = refl
     case_quiet (default b) n w bare = quiet b w bare
-    case_quiet (case m b cs) n w bare = quiet_if (int_eq n m) (steps c h b w) (case_steps c h cs n w) (quiet b w bare.0) (case_quiet cs n w bare.1)
+    case_quiet (case m b cs) n w bare =
+        quiet_if (int_eq n m) (steps c h b w) (case_steps c h cs n w) (quiet b w bare.0) (case_quiet cs n w bare.1)
 
 -- ---- code that goes through a type is bare
 
@@ -113,16 +117,21 @@ mutual
   pub bare : (t : Ty) (below : ℕ) (p : List ℕ) (b : Block) → Follows no_subs t below p b → IsBare b
   bare void_type below p b h = flat_bare b h.0 h.1
   bare (scalar_type s) below p b h = flat_bare b h.0 h.1
-  bare (array_type a) below p b h = subst IsBare (sym h.6) (bare-append h.0 (each p h.1 h.2) (flat_bare h.0 h.3 h.7) (flat_bare h.1 h.4 h.8, flat_bare h.2 h.5 h.9))
+  bare (array_type a) below p b h =
+      subst IsBare (sym h.6) (bare-append h.0 (each p h.1 h.2) (flat_bare h.0 h.3 h.7) (flat_bare h.1 h.4 h.8, flat_bare h.2 h.5 h.9))
   bare (group_type ts) below p b h = fields_bare ts 0 below p b h
-  bare (items_type c t) below p b h = subst IsBare (sym h.2) (bare-append h.0 (each p h.1 stop) (count_bare c h.0 h.3) (bare t below [] h.1 (own (Follows no_subs t) below [] h.1 h.4), tt))
-  bare (choice_type s arms) below p b h = subst IsBare (sym h.2) (bare-append h.0 (switch p h.1 stop) (flat_bare h.0 (h.3).0 (h.3).1) (arms_bare arms below h.1 h.4, tt))
-  bare (maybe_type t) below p b h = subst IsBare (sym h.2) (bare-append h.0 (if_there p h.1 stop) (flat_bare h.0 (h.3).0 (h.3).1) (bare t below [] h.1 (own (Follows no_subs t) below [] h.1 h.4), tt))
+  bare (items_type c t) below p b h = subst IsBare (sym h.2)
+      (bare-append h.0 (each p h.1 stop) (count_bare c h.0 h.3) (bare t below [] h.1 (own (Follows no_subs t) below [] h.1 h.4), tt))
+  bare (choice_type s arms) below p b h =
+      subst IsBare (sym h.2) (bare-append h.0 (switch p h.1 stop) (flat_bare h.0 (h.3).0 (h.3).1) (arms_bare arms below h.1 h.4, tt))
+  bare (maybe_type t) below p b h = subst IsBare (sym h.2) (bare-append h.0 (if_there p h.1 stop) (flat_bare h.0 (h.3).0 (h.3).1)
+      (bare t below [] h.1 (own (Follows no_subs t) below [] h.1 h.4), tt))
 
   fields_bare : (ts : Tys) (i below : ℕ) (p : List ℕ) (b : Block) → FieldsFollow no_subs ts i below p b → IsBare b
   fields_bare no_fields i below p b h = subst IsBare (sym h) tt
   fields_bare (field t ts) i below p b h =
-      subst IsBare (sym h.2) (bare-append h.0 h.1 (bare t below (p ++ i ∷ []) h.0 (own (Follows no_subs t) below (p ++ i ∷ []) h.0 h.3)) (fields_bare ts (suc i) below p h.1 h.4))
+      subst IsBare (sym h.2) (bare-append h.0 h.1 (bare t below (p ++ i ∷ []) h.0 (own (Follows no_subs t) below (p ++ i ∷ []) h.0 h.3))
+      (fields_bare ts (suc i) below p h.1 h.4))
 
   pub arms_bare : (arms : Arms) (below : ℕ) (cs : Cases) → ArmsFollow no_subs arms below cs → CasesBare cs
   arms_bare no_other below cs h = subst CasesBare (sym h) tt

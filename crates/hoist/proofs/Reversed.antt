@@ -1,4 +1,4 @@
--- One operation more in front of a reversed code.
+-- One operation more before a reversed code.
 use Rattle.std.proofs.Common.{◌≡◌, List, [], ◌∷◌, ◌++◌, ap}
 use Rattle.std.specs.Prelude.{reverse}
 use Rattle.std.proofs.lemmas.List.{reverse-append}

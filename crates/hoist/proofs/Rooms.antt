@@ -67,14 +67,16 @@ rooms_first x y n w h r ss e p a enough =
     let d = parts x y ss e in
     let short : (q : ℕ) → appended q d.front ≤ n = subst (λ (z : Steps). Within z (Some n)) d.is_front h in
     let s : appended p d.front ≤ n = short p in
-    subst (HasRoom p a) d.whole (room-first d.front d.back p a w (omega (arith, s, enough)) (λ (q : ℕ). r d.back d.is_back q w (omega arith)))
+    subst (HasRoom p a) d.whole
+    (room-first d.front d.back p a w (omega (arith, s, enough)) (λ (q : ℕ). r d.back d.is_back q w (omega arith)))
 
 pub rooms_behind : (x y : Steps) (w : ℕ) → Rooms x w → Rooms y 0 → Rooms (both x y) w
 rooms_behind x y w h r ss e p a enough =
     let d = parts x y ss e in
-    subst (HasRoom p a) d.whole (room-append d.front d.back p a (h d.front d.is_front p a enough) (λ (q k : ℕ). r d.back d.is_back q k (omega arith)))
+    subst (HasRoom p a) d.whole
+    (room-append d.front d.back p a (h d.front d.is_front p a enough) (λ (q k : ℕ). r d.back d.is_back q k (omega arith)))
 
--- an ensure in front
+-- an ensure before code
 pub rooms_ensured : (n : ℕ) (y : Steps) → Rooms y n → Rooms (both (Some (Room n ∷ [])) y) 0
 rooms_ensured n y r ss e p a enough =
     let d = parts (Some (Room n ∷ [])) y ss e in
@@ -82,7 +84,8 @@ rooms_ensured n y r ss e p a enough =
     let w : HasRoom p (max n a) d.back = r d.back d.is_back p (max n a) (omega arith) in
     subst (HasRoom p a) (ap (λ (x : List Step). x ++ d.back) f ∙ d.whole) w
 
-pub rooms_row : (z : Option ℕ) (u n : ℕ) (y : Steps) → Rooms y (times_or z u + n) → Rooms (both (on_some z (λ k. Some (Room (k * u + n) ∷ []))) y) 0
+pub rooms_row : (z : Option ℕ) (u n : ℕ) (y : Steps) → Rooms y (times_or z u + n)
+    → Rooms (both (on_some z (λ k. Some (Room (k * u + n) ∷ []))) y) 0
 rooms_row None u n y r = no_rooms 0
 rooms_row (Some k) u n y r = rooms_ensured (k * u + n) y r
 

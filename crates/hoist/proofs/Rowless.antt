@@ -69,7 +69,8 @@ tail_rowless _ h = absurd h
 framed_rowless : (n : ℕ) (t : Ty) (b : Block) → IsFramed n t b → IsRowless b
 framed_rowless n t b f =
     let body = through_rowless t f.3 [] f.1 f.6 in
-    subst IsRowless (sym f.4) (append_rowless f.0 (append f.1 f.2) (lead_rowless f.0 n f.5) (append_rowless f.1 f.2 body (tail_rowless f.2 f.7)))
+    subst IsRowless (sym f.4)
+    (append_rowless f.0 (append f.1 f.2) (lead_rowless f.0 n f.5) (append_rowless f.1 f.2 body (tail_rowless f.2 f.7)))
 
 -- no codes
 nothing_there : (k : ℕ) (b : Block) → sub_at [] k ≡ Some b → IsRowless b

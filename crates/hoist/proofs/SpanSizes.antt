@@ -74,7 +74,8 @@ eight_tops (Some m) None = tt
 eight_tops (Some m) (Some n) = eight_told (nat_le (m + n) 4294967295) (Bounded (m + n)) tt
 
 eight_behind : (a b : Span) → IsEight (behind a b)
-eight_behind (Fixed f) (Fixed g) = eight_told (list_all (λ n. nat_le n 4294967295) (from_each (length_behind f g))) (Fixed (from_each (length_behind f g))) refl
+eight_behind (Fixed f) (Fixed g) =
+    eight_told (list_all (λ n. nat_le n 4294967295) (from_each (length_behind f g))) (Fixed (from_each (length_behind f g))) refl
 eight_behind (Fixed f) (Bounded n) = eight_tops (Some (greatest f)) (Some n)
 eight_behind (Fixed f) Unbounded = tt
 eight_behind (Bounded m) b = eight_tops (Some m) (top b)
@@ -136,15 +137,20 @@ told_weight false s k h there = absurd there
 
 behind_weight : (a b : Span) → IsEight a → IsEight b → IsThere (top (behind a b)) → weight_of a + weight_of b ≤ weight_of (behind a b)
 behind_weight (Fixed f) (Fixed g) i j there =
-    let low = each_least (least f + least g) (length_behind f g) (λ p. let one = length_least f p i in let two = length_least g (p + length_at f p) j in omega (arith, one, two)) in
-    told_weight (list_all (λ n. nat_le n 4294967295) (from_each (length_behind f g))) (Fixed (from_each (length_behind f g))) (weight_of (Fixed f) + weight_of (Fixed g)) (weights (least f) (least g) (least (from_each (length_behind f g))) low) there
+    let low = each_least (least f + least g) (length_behind f g)
+    (λ p. let one = length_least f p i in let two = length_least g (p + length_at f p) j in omega (arith, one, two)) in
+    told_weight (list_all (λ n. nat_le n 4294967295) (from_each (length_behind f g))) (Fixed (from_each (length_behind f g)))
+    (weight_of (Fixed f) + weight_of (Fixed g)) (weights (least f) (least g) (least (from_each (length_behind f g))) low) there
   where
     weights : (m n k : ℕ) → m + n ≤ k → (m - 1) + (n - 1) ≤ k - 1
     weights m n k h = omega arith
-behind_weight (Fixed f) (Bounded n) i j there = told_weight (nat_le (greatest f + n) 4294967295) (Bounded (greatest f + n)) (weight_of (Fixed f) + (n - 1)) (let most = least_greatest f in omega (arith, most)) there
+behind_weight (Fixed f) (Bounded n) i j there = told_weight (nat_le (greatest f + n) 4294967295) (Bounded (greatest f + n))
+    (weight_of (Fixed f) + (n - 1)) (let most = least_greatest f in omega (arith, most)) there
 behind_weight (Fixed f) Unbounded i j there = absurd there
-behind_weight (Bounded m) (Fixed g) i j there = told_weight (nat_le (m + greatest g) 4294967295) (Bounded (m + greatest g)) ((m - 1) + weight_of (Fixed g)) (let most = least_greatest g in omega (arith, most)) there
-behind_weight (Bounded m) (Bounded n) i j there = told_weight (nat_le (m + n) 4294967295) (Bounded (m + n)) ((m - 1) + (n - 1)) (omega arith) there
+behind_weight (Bounded m) (Fixed g) i j there = told_weight (nat_le (m + greatest g) 4294967295) (Bounded (m + greatest g))
+    ((m - 1) + weight_of (Fixed g)) (let most = least_greatest g in omega (arith, most)) there
+behind_weight (Bounded m) (Bounded n) i j there =
+    told_weight (nat_le (m + n) 4294967295) (Bounded (m + n)) ((m - 1) + (n - 1)) (omega arith) there
 behind_weight (Bounded m) Unbounded i j there = absurd there
 behind_weight Unbounded b i j there = absurd there
 
@@ -206,7 +212,8 @@ both_there (Some i) (Some j) x y = (i + j, refl)
 fields_tops : (e : Encoding) (ts : Tys) → IsThere (top (fields_span e ts)) → (m : ℕ) × (fields_top (sizes e) ts ≡ Some m)
 fields_tops e no_fields h = (0, refl)
 fields_tops e (field t ts) h =
-    both_there (top (span e t)) (fields_top (sizes e) ts) (some_there (top (span e t)) (first_there (span e t) (fields_span e ts) h)) (fields_tops e ts (behind_there (span e t) (fields_span e ts) h))
+    both_there (top (span e t)) (fields_top (sizes e) ts) (some_there (top (span e t)) (first_there (span e t) (fields_span e ts) h))
+    (fields_tops e ts (behind_there (span e t) (fields_span e ts) h))
 
 fields_weights : (e : Encoding) (ts : Tys) → IsThere (top (fields_span e ts)) → fields_weight (sizes e) ts ≤ weight_of (fields_span e ts)
 fields_weights e no_fields h = omega arith
@@ -283,7 +290,8 @@ solid_first (Bounded m) Unbounded i j h = tt
 solid_first Unbounded b i j h = tt
 
 solid_second : (a b : Span) → IsEight a → IsEight b → IsSolid b → IsSolid (behind a b)
-solid_second (Fixed f) (Fixed g) i j h = solid_exactly (length_behind f g) (λ p. let two = length_least g (p + length_at f p) j in omega (arith, two, h))
+solid_second (Fixed f) (Fixed g) i j h =
+    solid_exactly (length_behind f g) (λ p. let two = length_least g (p + length_at f p) j in omega (arith, two, h))
 solid_second (Fixed f) (Bounded n) i j h = solid_most (greatest f + n) (omega arith)
 solid_second (Fixed f) Unbounded i j h = tt
 solid_second (Bounded m) (Fixed g) i j h = solid_most (m + greatest g) (let most = least_greatest g in omega (arith, most, h))
@@ -322,8 +330,12 @@ gap_few _ is64 p = omega arith
 
 lone_few : (e : Encoding) (s : Scalar) (p : ℕ) → lone_length e s p ≤ 15
 lone_few Xdr s p = let w = own_some (width_of Xdr s) (own_of Xdr s) in let none : gap p 1 ≡ 0 = omega arith in omega (arith, w.1, none)
-lone_few CdrBig s p = let w = own_some (width_of CdrBig s) (own_of CdrBig s) in omega (arith, w.1, gap_few (own_width s) (own_of CdrBig s) p)
-lone_few CdrLittle s p = let w = own_some (width_of CdrLittle s) (own_of CdrLittle s) in omega (arith, w.1, gap_few (own_width s) (own_of CdrLittle s) p)
+lone_few CdrBig s p =
+    let w = own_some (width_of CdrBig s) (own_of CdrBig s) in
+    omega (arith, w.1, gap_few (own_width s) (own_of CdrBig s) p)
+lone_few CdrLittle s p =
+    let w = own_some (width_of CdrLittle s) (own_of CdrLittle s) in
+    omega (arith, w.1, gap_few (own_width s) (own_of CdrLittle s) p)
 lone_few Mach s p = let w = own_some (width_of Mach s) (own_of Mach s) in omega (arith, w.1)
 
 max_few : (a b k : ℕ) → a ≤ k → b ≤ k → max a b ≤ k
@@ -331,7 +343,8 @@ max_few a b k h j = omega arith
 
 greatest_few : (k : ℕ) (g : ℕ → ℕ) → ((p : ℕ) → g p ≤ k) → greatest (from_each g) ≤ k
 greatest_few k g h =
-    max_few (g 0) _ k (h 0) (max_few (g 1) _ k (h 1) (max_few (g 2) _ k (h 2) (max_few (g 3) _ k (h 3) (max_few (g 4) _ k (h 4) (max_few (g 5) _ k (h 5) (max_few (g 6) _ k (h 6) (max_few (g 7) 0 k (h 7) (omega arith))))))))
+    max_few (g 0) _ k (h 0) (max_few (g 1) _ k (h 1) (max_few (g 2) _ k (h 2) (max_few (g 3) _ k (h 3)
+    (max_few (g 4) _ k (h 4) (max_few (g 5) _ k (h 5) (max_few (g 6) _ k (h 6) (max_few (g 7) 0 k (h 7) (omega arith))))))))
 
 scalar_solid : (e : Encoding) (s : Scalar) → IsSolid (scalar_span e s)
 scalar_solid e s = each_least 1 (lone_length e s) (lone_some e s)
@@ -342,10 +355,11 @@ scalar_some e s =
     (solid_top (scalar_span e s) (scalar_top e s) (scalar_solid e s) refl, omega (arith, few))
 
 element_some : (e : Encoding) (a : Array) → 1 ≤ element_length e a
-element_some e a = by (is_octets a) (byte_len (width_of e (number (kind_of a)))) (own_some (width_of e (number (kind_of a))) (own_of e (number (kind_of a)))).0 where
-  by : (b : Bool) (k : ℕ) → 1 ≤ k → 1 ≤ cond b 1 k
-  by true k h = omega arith
-  by false k h = h
+element_some e a = by (is_octets a) (byte_len (width_of e (number (kind_of a))))
+    (own_some (width_of e (number (kind_of a))) (own_of e (number (kind_of a)))).0 where
+      by : (b : Bool) (k : ℕ) → 1 ≤ k → 1 ≤ cond b 1 k
+      by true k h = omega arith
+      by false k h = h
 
 array_some : (e : Encoding) (a : Array) (n p : ℕ) → 1 ≤ n → 1 ≤ array_length e a n p
 array_some Xdr a n p h = let x = product_some n (element_length Xdr a) h (element_some Xdr a) in omega (arith, x)
@@ -408,10 +422,12 @@ mutual
   filled e (array_type a) some fill = array_solid e a some
   filled e (group_type ts) some fill = fields_filled e ts some fill
   filled e (items_type (Exactly n) t) some fill = solid_times n (span e t) some.0 (eight e t) (filled e t some.2 some.1)
-  filled e (items_type (AtMost n) t) some fill = solid_first (scalar_span e counted) (times_top n (top (span e t))) refl (eight_times_top n (top (span e t))) (scalar_solid e counted)
+  filled e (items_type (AtMost n) t) some fill =
+      solid_first (scalar_span e counted) (times_top n (top (span e t))) refl (eight_times_top n (top (span e t))) (scalar_solid e counted)
   filled e (items_type Any t) some fill = tt
   filled e (choice_type s arms) some fill = solid_first (scalar_span e s) (arms_span e arms) refl (eight_arms e arms) (scalar_solid e s)
-  filled e (maybe_type t) some fill = solid_first (scalar_span e flag) (loose (span e t)) refl (eight_loose (span e t)) (scalar_solid e flag)
+  filled e (maybe_type t) some fill =
+      solid_first (scalar_span e flag) (loose (span e t)) refl (eight_loose (span e t)) (scalar_solid e flag)
 
   fields_filled : (e : Encoding) (ts : Tys) → FieldsTakeRoom ts → IsTrue (fields_fill ts) → IsSolid (fields_span e ts)
   fields_filled e no_fields some fill = absurd cc

@@ -32,7 +32,8 @@ module _ (z : Sizes) (sizes : AreSizes z) (c : Calls) (h : Head) (v : Val) (t : 
   G = greatest_of z sizes c h v t
 
   -- chunks without octets
-  none : (s : ℕ) (ps : List Put) (x : Hoisted) → s ≡ 0 → weigh (both (chunk_steps s ps h v) (steps c h (settled (flat s) x).0 v)) (high (settled (flat s) x).1) ≤ greatest c h v x
+  none : (s : ℕ) (ps : List Put) (x : Hoisted) → s ≡ 0
+      → weigh (both (chunk_steps s ps h v) (steps c h (settled (flat s) x).0 v)) (high (settled (flat s) x).1) ≤ greatest c h v x
   none zero ps (b, p) e =
       let q = weigh_quiet (chunk_steps 0 ps h v) (steps c h b v) (high (raised 0 p)) (quiet_chunk h v ps 0) in
       let l = weigh_less (steps c h b v) (high (raised 0 p)) (high p) (high_same p) in
@@ -64,7 +65,8 @@ sparing z c h t n b v ss sizes sound framed typed met =
     let all = lead_fits z sizes c h v t framed.0 (append framed.1 framed.2) n (parts z t v ++ []) framed.5 body in
     let whole : greatest c h v (hoisted (roles z) t b) ≤ load (lone n ++ parts z t v) =
     subst (λ (x : Block). greatest c h v (hoisted (roles z) t x) ≤ load (lone n ++ parts z t v)) (sym framed.4)
-    (subst (λ (x : List Part). greatest c h v (hoisted (roles z) t (append framed.0 (append framed.1 framed.2))) ≤ load (lone n ++ x)) (append-nil (parts z t v)) all) in
+    (subst (λ (x : List Part). greatest c h v (hoisted (roles z) t (append framed.0 (append framed.1 framed.2))) ≤ load (lone n ++ x))
+    (append-nil (parts z t v)) all) in
     let l = loaded (lone n ++ parts z t v) in
     let fits = closed_fits c h v (hoisted (roles z) t b) (regions z n t v) (omega (arith, whole, l)) in
     subst (λ (x : Steps). spent x ≤ regions z n t v) met fits

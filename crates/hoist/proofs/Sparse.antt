@@ -45,16 +45,21 @@ mutual
   bound_bare (patch a s o r) t h = bound_bare r t h
   bound_bare (each p b r) t h =
       let x = on_some (element_at p t) (λ e. times (most e.1) (bound e.0 b)) in
-      let k = parts_there x (bound t r) h in
-      (from_on (element_at p t) (λ e. times (most e.1) (bound e.0 b)) (IsBare b) k.0 (λ (e : Ty × Count) j. bound_bare b e.0 (times_there (most e.1) (bound e.0 b) j)), bound_bare r t k.1)
+      let k = parts_there x (bound t r) h in (
+        from_on (element_at p t) (λ e. times (most e.1) (bound e.0 b)) (IsBare b) k.0
+            (λ (e : Ty × Count) j. bound_bare b e.0 (times_there (most e.1) (bound e.0 b) j)),
+        bound_bare r t k.1,
+      )
   bound_bare (if_there p b r) t h =
       let x = on_some (present_at p t) (λ u. bound u b) in
       let k = parts_there x (bound t r) h in
       (from_on (present_at p t) (λ u. bound u b) (IsBare b) k.0 (λ (u : Ty) j. bound_bare b u j), bound_bare r t k.1)
   bound_bare (switch p cs r) t h =
       let x = on_some (arms_at p t) (λ arms. cases_bound arms cs) in
-      let k = parts_there x (bound t r) h in
-      (from_on (arms_at p t) (λ arms. cases_bound arms cs) (CasesBare cs) k.0 (λ (arms : Arms) j. cases_bound_bare cs arms j), bound_bare r t k.1)
+      let k = parts_there x (bound t r) h in (
+        from_on (arms_at p t) (λ arms. cases_bound arms cs) (CasesBare cs) k.0 (λ (arms : Arms) j. cases_bound_bare cs arms j),
+        bound_bare r t k.1,
+      )
   bound_bare _ t h = absurd h
 
   cases_bound_bare : (cs : Cases) (arms : Arms) → IsThere (cases_bound arms cs) → CasesBare cs
@@ -90,9 +95,11 @@ mutual
   bare_rows (align a r) t h = bare_rows r t h
   bare_rows (chunk s ps r) t h = bare_rows r t h
   bare_rows (patch a s o r) t h = bare_rows r t h
-  bare_rows (each p b r) t h = (of_items (ty_at p t) (λ u. RowsAreBare u b) (IsBare b) (λ (u : Ty). bare_rows b u h.0) h.0, bare_rows r t h.1)
+  bare_rows (each p b r) t h =
+      (of_items (ty_at p t) (λ u. RowsAreBare u b) (IsBare b) (λ (u : Ty). bare_rows b u h.0) h.0, bare_rows r t h.1)
   bare_rows (if_there p b r) t h = (if_typed (present_at p t) (λ u. RowsAreBare u b) (λ (u : Ty). bare_rows b u h.0), bare_rows r t h.1)
-  bare_rows (switch p cs r) t h = (if_typed (arms_at p t) (λ arms. CasesRowsAreBare arms cs) (λ (arms : Arms). bare_cases cs arms h.0), bare_rows r t h.1)
+  bare_rows (switch p cs r) t h =
+      (if_typed (arms_at p t) (λ arms. CasesRowsAreBare arms cs) (λ (arms : Arms). bare_cases cs arms h.0), bare_rows r t h.1)
   bare_rows _ t h = absurd h
 
   bare_cases : (cs : Cases) (arms : Arms) → CasesBare cs → CasesRowsAreBare arms cs
@@ -127,21 +134,27 @@ settled_rows (loop p u) (b, row q w m) t h = h
 settled_rows apart x t h = closed_rows x t h
 
 -- a body that is kept is bounded; another is hoisted by itself
-loop_rows : {A : Type 0} (role : Role) (n u : Option ℕ) (p : List ℕ) (b b' : A) (Q : A → Type 0) (T : Type 0) → (IsThere n → Q b) → (IsThere u → Q b) → (T → Q b') → WhereApart (loop_plan role n u p) T → Q (kept (loop_plan role n u p) b b')
+loop_rows : {A : Type 0} (role : Role) (n u : Option ℕ) (p : List ℕ) (b b' : A) (Q : A → Type 0) (T : Type 0) → (IsThere n → Q b)
+    → (IsThere u → Q b) → (T → Q b') → WhereApart (loop_plan role n u p) T
+    → Q (kept (loop_plan role n u p) b b')
 loop_rows (is_small k) (Some n) u p b b' Q T f g go taken = f tt
 loop_rows (is_small k) None u p b b' Q T f g go taken = go taken
 loop_rows is_row n (Some u) p b b' Q T f g go taken = g tt
 loop_rows is_row n None p b b' Q T f g go taken = go taken
 loop_rows is_break n u p b b' Q T f g go taken = go taken
 
-body_rows : {A : Type 0} (role : Role) (n : Option ℕ) (b b' : A) (Q : A → Type 0) (T : Type 0) → (IsThere n → Q b) → (T → Q b') → WhereApart (body_plan role n) T → Q (kept (body_plan role n) b b')
+body_rows : {A : Type 0} (role : Role) (n : Option ℕ) (b b' : A) (Q : A → Type 0) (T : Type 0) → (IsThere n → Q b) → (T → Q b')
+    → WhereApart (body_plan role n) T
+    → Q (kept (body_plan role n) b b')
 body_rows (is_small k) (Some n) b b' Q T f go taken = f tt
 body_rows (is_small k) None b b' Q T f go taken = go taken
 body_rows is_row n b b' Q T f go taken = go taken
 body_rows is_break n b b' Q T f go taken = go taken
 
 -- elements that are hoisted by themselves are those of a list
-apart_items : (x : Option Ty) (T : Ty → Type 0) (P : Ty → Block → Type 0) (Q : Block → Type 0) (f : Ty → Block) → InType (on_some x items_in_type) T → ((u : Ty) → T u → P u (f u)) → OfItems x (λ u. P u (f (or_void (on_some x items_in_type)))) (Q (f (or_void (on_some x items_in_type))))
+apart_items : (x : Option Ty) (T : Ty → Type 0) (P : Ty → Block → Type 0) (Q : Block → Type 0) (f : Ty → Block)
+    → InType (on_some x items_in_type) T → ((u : Ty) → T u → P u (f u))
+    → OfItems x (λ u. P u (f (or_void (on_some x items_in_type)))) (Q (f (or_void (on_some x items_in_type))))
 apart_items (Some (items_type c t)) T P Q f taken go = go t taken
 apart_items (Some void_type) T P Q f taken go = absurd taken
 apart_items (Some (scalar_type s)) T P Q f taken go = absurd taken
@@ -151,7 +164,9 @@ apart_items (Some (choice_type s arms)) T P Q f taken go = absurd taken
 apart_items (Some (maybe_type t)) T P Q f taken go = absurd taken
 apart_items None T P Q f taken go = absurd taken
 
-pub apart_typed : {A B : Type 0} (x : Option A) (T : A → Type 0) (P : A → B → Type 0) (d : Option A → A) (f : A → B) → ((a : A) → d (Some a) ≡ a) → InType x T → ((a : A) → T a → P a (f a)) → IfTyped x (λ a. P a (f (d x)))
+pub apart_typed : {A B : Type 0} (x : Option A) (T : A → Type 0) (P : A → B → Type 0) (d : Option A → A) (f : A → B)
+    → ((a : A) → d (Some a) ≡ a) → InType x T → ((a : A) → T a → P a (f a))
+    → IfTyped x (λ a. P a (f (d x)))
 apart_typed None T P d f e taken go = absurd taken
 apart_typed (Some a) T P d f e taken go = subst (λ y. P a (f y)) (sym (e a)) (go a taken)
 
@@ -163,11 +178,14 @@ module _ (ro : Roles) where
     rows (chunk s ps r) t taken = settled_rows (flat s) (hoisted ro t r) t (rows r t taken)
     rows (patch a s o r) t taken = rows r t taken
     rows (each p b r) t taken = (
-      loop_rows (ro t p) (on_some (element_at p t) (λ e. times (most e.1) (bound e.0 b))) (turn_bound p t b) p b (closed (hoisted ro (or_void (items_at p t)) b))
+      loop_rows (ro t p) (on_some (element_at p t) (λ e. times (most e.1) (bound e.0 b))) (turn_bound p t b) p b
+          (closed (hoisted ro (or_void (items_at p t)) b))
           (λ (d : Block). OfItems (ty_at p t) (λ u. RowsAreBare u d) (IsBare d)) (InType (items_at p t) (λ u. IsTaken ro u b))
-          (λ h. kept_rows p t b (from_on (element_at p t) (λ e. times (most e.1) (bound e.0 b)) (IsBare b) h (λ (e : Ty × Count) j. bound_bare b e.0 (times_there (most e.1) (bound e.0 b) j))))
+          (λ h. kept_rows p t b (from_on (element_at p t) (λ e. times (most e.1) (bound e.0 b)) (IsBare b) h
+          (λ (e : Ty × Count) j. bound_bare b e.0 (times_there (most e.1) (bound e.0 b) j))))
           (λ h. kept_rows p t b (from_on (element_at p t) (λ e. bound e.0 b) (IsBare b) h (λ (e : Ty × Count) j. bound_bare b e.0 j)))
-          (λ tk. apart_items (ty_at p t) (λ u. IsTaken ro u b) RowsAreBare IsBare (λ u. closed (hoisted ro u b)) tk (λ (u : Ty) k. closed_rows (hoisted ro u b) u (rows b u k)))
+          (λ tk. apart_items (ty_at p t) (λ u. IsTaken ro u b) RowsAreBare IsBare (λ u. closed (hoisted ro u b)) tk
+          (λ (u : Ty) k. closed_rows (hoisted ro u b) u (rows b u k)))
           taken.0,
       settled_rows (each_plan ro t p b) (hoisted ro t r) t (rows r t taken.2),
     ) where
@@ -176,16 +194,20 @@ module _ (ro : Roles) where
     rows (if_there p b r) t taken = (
       body_rows (ro t p) (on_some (present_at p t) (λ u. bound u b)) b (closed (hoisted ro (or_void (present_at p t)) b))
           (λ (d : Block). IfTyped (present_at p t) (λ u. RowsAreBare u d)) (InType (present_at p t) (λ u. IsTaken ro u b))
-          (λ h. if_typed (present_at p t) (λ u. RowsAreBare u b) (λ (u : Ty). bare_rows b u (from_on (present_at p t) (λ u. bound u b) (IsBare b) h (λ (u : Ty) j. bound_bare b u j))))
-          (λ tk. apart_typed (present_at p t) (λ u. IsTaken ro u b) RowsAreBare or_void (λ u. closed (hoisted ro u b)) (λ a. refl) tk (λ (u : Ty) k. closed_rows (hoisted ro u b) u (rows b u k)))
+          (λ h. if_typed (present_at p t) (λ u. RowsAreBare u b)
+          (λ (u : Ty). bare_rows b u (from_on (present_at p t) (λ u. bound u b) (IsBare b) h (λ (u : Ty) j. bound_bare b u j))))
+          (λ tk. apart_typed (present_at p t) (λ u. IsTaken ro u b) RowsAreBare or_void (λ u. closed (hoisted ro u b)) (λ a. refl) tk
+          (λ (u : Ty) k. closed_rows (hoisted ro u b) u (rows b u k)))
           taken.0,
       settled_rows (some_plan ro t p b) (hoisted ro t r) t (rows r t taken.1),
     )
     rows (switch p cs r) t taken = (
       body_rows (ro t p) (on_some (arms_at p t) (λ arms. cases_bound arms cs)) cs (cases_hoisted ro (or_none (arms_at p t)) cs)
           (λ (d : Cases). IfTyped (arms_at p t) (λ arms. CasesRowsAreBare arms d)) (InType (arms_at p t) (λ arms. CasesTaken ro arms cs))
-          (λ h. if_typed (arms_at p t) (λ arms. CasesRowsAreBare arms cs) (λ (arms : Arms). bare_cases cs arms (from_on (arms_at p t) (λ arms. cases_bound arms cs) (CasesBare cs) h (λ (a : Arms) j. cases_bound_bare cs a j))))
-          (λ tk. apart_typed (arms_at p t) (λ arms. CasesTaken ro arms cs) CasesRowsAreBare or_none (λ arms. cases_hoisted ro arms cs) (λ a. refl) tk (λ (arms : Arms) k. cases_rows cs arms k))
+          (λ h. if_typed (arms_at p t) (λ arms. CasesRowsAreBare arms cs) (λ (arms : Arms). bare_cases cs arms
+          (from_on (arms_at p t) (λ arms. cases_bound arms cs) (CasesBare cs) h (λ (a : Arms) j. cases_bound_bare cs a j))))
+          (λ tk. apart_typed (arms_at p t) (λ arms. CasesTaken ro arms cs) CasesRowsAreBare or_none (λ arms. cases_hoisted ro arms cs)
+          (λ a. refl) tk (λ (arms : Arms) k. cases_rows cs arms k))
           taken.0,
       settled_rows (switch_plan ro t p cs) (hoisted ro t r) t (rows r t taken.1),
     )

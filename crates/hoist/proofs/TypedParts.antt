@@ -13,7 +13,8 @@ use Rattle.cast_stub.specs.Parts as part
 use Rattle.cast_stub.specs.Steps.{Steps, over, if_present}
 use Rattle.cast_stub.specs.PartTypes.{field_type, in_group_type, ty_at, elements_type, present_type, arms_type, element_at, present_at, arms_at}
 
-field-typed : (n : ℕ) (ts : Tys) (vs : Vals) (u : Ty) (w : Val) → AreOf ts vs → field_type n ts ≡ Some u → part.field n vs ≡ Some w → IsOf u w
+field-typed : (n : ℕ) (ts : Tys) (vs : Vals) (u : Ty) (w : Val) → AreOf ts vs → field_type n ts ≡ Some u → part.field n vs ≡ Some w
+    → IsOf u w
 field-typed n no_fields vs u w h e f = absurd cc
 field-typed n (field t ts) no_more u w h e f = absurd h
 field-typed zero (field t ts) (val v vs) u w h e f =
@@ -39,7 +40,8 @@ at-typed [] t v u w h e f =
     let b : v ≡ w = cc in
     subst (λ (x : Ty). IsOf x w) a (subst (λ (y : Val). IsOf t y) b h)
 at-typed (n ∷ p) t v u w h e f =
-    part_step (in_group_type n t) (in_group n v) p u w e f (λ (t' : Ty) (v' : Val) a b e' f'. at-typed p t' v' u w (group-typed n t v t' v' h a b) e' f')
+    part_step (in_group_type n t) (in_group n v) p u w e f
+    (λ (t' : Ty) (v' : Val) a b e' f'. at-typed p t' v' u w (group-typed n t v t' v' h a b) e' f')
 
 -- ---- elements
 
@@ -64,7 +66,8 @@ pub record AreElements (t : Ty) (c : Count) (vs : Vals) : Type 0 where
   pub typed : Each (IsOf t) vs
   pub allowed : Allows c (count vs)
 
-elements-typed : (u : Ty) (w : Val) (e : Ty × Count) (vs : Vals) → IsOf u w → elements_type u ≡ Some e → elements_in w ≡ Some vs → AreElements e.0 e.1 vs
+elements-typed : (u : Ty) (w : Val) (e : Ty × Count) (vs : Vals) → IsOf u w → elements_type u ≡ Some e → elements_in w ≡ Some vs
+    → AreElements e.0 e.1 vs
 elements-typed (items_type c t) (items xs) e vs h a b =
     let a' : (t, c) ≡ e = cc in
     let b' : xs ≡ vs = cc in
@@ -72,11 +75,13 @@ elements-typed (items_type c t) (items xs) e vs h a b =
 elements-typed (array_type (row_of k c)) (row k' ns) e vs h a b =
     let a' : (scalar_type (number k), c) ≡ e = cc in
     let b' : vals_of (map num ns) ≡ vs = cc in
-    subst (λ (x : Ty × Count). AreElements x.0 x.1 vs) a' (subst (AreElements (scalar_type (number k)) c) b' (record { typed = numbers-each k ns h.2; allowed = subst (Allows c) (sym (count-numbers ns)) h.1 }))
+    subst (λ (x : Ty × Count). AreElements x.0 x.1 vs) a' (subst (AreElements (scalar_type (number k)) c) b'
+    (record { typed = numbers-each k ns h.2; allowed = subst (Allows c) (sym (count-numbers ns)) h.1 }))
 elements-typed (array_type (text c)) (row k' ns) e vs h a b =
     let a' : (scalar_type (number kind.Char), c) ≡ e = cc in
     let b' : vals_of (map num ns) ≡ vs = cc in
-    subst (λ (x : Ty × Count). AreElements x.0 x.1 vs) a' (subst (AreElements (scalar_type (number kind.Char)) c) b' (record { typed = letters-each ns h.2; allowed = subst (Allows c) (sym (count-numbers ns)) h.1 }))
+    subst (λ (x : Ty × Count). AreElements x.0 x.1 vs) a' (subst (AreElements (scalar_type (number kind.Char)) c) b'
+    (record { typed = letters-each ns h.2; allowed = subst (Allows c) (sym (count-numbers ns)) h.1 }))
 elements-typed (items_type c t) _ e vs h a b = absurd h
 elements-typed (array_type (row_of k c)) _ e vs h a b = absurd h
 elements-typed (array_type (text c)) _ e vs h a b = absurd h
@@ -84,7 +89,9 @@ elements-typed _ w e vs h a b = absurd cc
 
 length-count : (w : Val) (vs : Vals) → elements_in w ≡ Some vs → length_in w ≡ Some (count vs)
 length-count (items xs) vs e = let s : xs ≡ vs = cc in ap (λ (x : Vals). Some (count x)) s
-length-count (row k ns) vs e = let s : vals_of (map num ns) ≡ vs = cc in ap (λ (n : ℕ). Some n) (sym (count-numbers ns)) ∙ ap (λ (x : Vals). Some (count x)) s
+length-count (row k ns) vs e =
+    let s : vals_of (map num ns) ≡ vs = cc in
+    ap (λ (n : ℕ). Some n) (sym (count-numbers ns)) ∙ ap (λ (x : Vals). Some (count x)) s
 length-count _ vs e = absurd cc
 
 -- ---- what is done over parts
@@ -97,22 +104,27 @@ split None f b e = absurd cc
 split (Some a) f b e = (a, refl, e)
 
 -- a fact of steps over the elements at a path
-pub each-part : (f : Val → Steps) (p : List ℕ) (t : Ty) (v : Val) (e : Ty × Count) (Q : Steps → Type 0) → IsOf t v → element_at p t ≡ Some e → Q None
-    → ((vs : Vals) → length_at p v ≡ Some (count vs) → AreElements e.0 e.1 vs → Q (over f vs)) → Q (on_some (on_some (at p v) elements_in) (over f))
+pub each-part : (f : Val → Steps) (p : List ℕ) (t : Ty) (v : Val) (e : Ty × Count) (Q : Steps → Type 0) → IsOf t v → element_at p t ≡ Some e
+    → Q None → ((vs : Vals) → length_at p v ≡ Some (count vs) → AreElements e.0 e.1 vs → Q (over f vs))
+    → Q (on_some (on_some (at p v) elements_in) (over f))
 each-part f p t v e Q h is none go =
     let u = split (ty_at p t) elements_type e is in
     at_part (at p v) refl u.0 u.1 u.2 where
-      at_elements : (w : Val) → at p v ≡ Some w → (u : Ty) → elements_type u ≡ Some e → IsOf u w → (x : Option Vals) → elements_in w ≡ x → Q (on_some x (over f))
+      at_elements : (w : Val) → at p v ≡ Some w → (u : Ty) → elements_type u ≡ Some e → IsOf u w → (x : Option Vals) → elements_in w ≡ x
+          → Q (on_some x (over f))
       at_elements w there u of o None same = none
-      at_elements w there u of o (Some vs) same = go vs (ap (λ (x : Option Val). on_some x length_in) there ∙ length-count w vs same) (elements-typed u w e vs o of same)
+      at_elements w there u of o (Some vs) same =
+          go vs (ap (λ (x : Option Val). on_some x length_in) there ∙ length-count w vs same) (elements-typed u w e vs o of same)
 
-      at_part : (y : Option Val) → at p v ≡ y → (u : Ty) → ty_at p t ≡ Some u → elements_type u ≡ Some e → Q (on_some (on_some y elements_in) (over f))
+      at_part : (y : Option Val) → at p v ≡ y → (u : Ty) → ty_at p t ≡ Some u → elements_type u ≡ Some e
+          → Q (on_some (on_some y elements_in) (over f))
       at_part None there u typed of = none
       at_part (Some w) there u typed of = at_elements w there u of (at-typed p t v u w h typed there) (elements_in w) refl
 
 -- of steps on the value that may be there
-pub some-part : (f : Val → Steps) (p : List ℕ) (t : Ty) (v : Val) (u : Ty) (Q : Steps → Type 0) → IsOf t v → present_at p t ≡ Some u → Q None → Q (Some [])
-    → ((w : Val) → IsOf u w → Q (f w)) → Q (on_some (at p v) (if_present f))
+pub some-part : (f : Val → Steps) (p : List ℕ) (t : Ty) (v : Val) (u : Ty) (Q : Steps → Type 0) → IsOf t v → present_at p t ≡ Some u
+    → Q None → Q (Some []) → ((w : Val) → IsOf u w → Q (f w))
+    → Q (on_some (at p v) (if_present f))
 some-part f p t v u Q h is none nothing go =
     let m = split (ty_at p t) present_type u is in
     at_part (at p v) refl m.0 m.1 m.2 where
@@ -127,8 +139,9 @@ some-part f p t v u Q h is none nothing go =
       at_part (Some w) there m typed of = of_maybe m w of (at-typed p t v m w h typed there)
 
 -- of steps on the value of the arm
-pub switch-part : (f : ℤ → Val → Steps) (p : List ℕ) (t : Ty) (v : Val) (arms : Arms) (Q : Steps → Type 0) → IsOf t v → arms_at p t ≡ Some arms → Q None
-    → ((n : ℤ) (w : Val) → IsOfArm arms n w → Q (f n w)) → Q (on_some (on_some (at p v) arm_in) (λ a. f a.0 a.1))
+pub switch-part : (f : ℤ → Val → Steps) (p : List ℕ) (t : Ty) (v : Val) (arms : Arms) (Q : Steps → Type 0) → IsOf t v
+    → arms_at p t ≡ Some arms → Q None → ((n : ℤ) (w : Val) → IsOfArm arms n w → Q (f n w))
+    → Q (on_some (on_some (at p v) arm_in) (λ a. f a.0 a.1))
 switch-part f p t v arms Q h is none go =
     let m = split (ty_at p t) arms_type arms is in
     at_part (at p v) refl m.0 m.1 m.2 where
@@ -137,6 +150,7 @@ switch-part f p t v arms Q h is none go =
       of_choice (choice_type s as') _ e o = absurd o
       of_choice _ w e o = absurd cc
 
-      at_part : (y : Option Val) → at p v ≡ y → (m : Ty) → ty_at p t ≡ Some m → arms_type m ≡ Some arms → Q (on_some (on_some y arm_in) (λ a. f a.0 a.1))
+      at_part : (y : Option Val) → at p v ≡ y → (m : Ty) → ty_at p t ≡ Some m → arms_type m ≡ Some arms
+          → Q (on_some (on_some y arm_in) (λ a. f a.0 a.1))
       at_part None there m typed of = none
       at_part (Some w) there m typed of = of_choice m w of (at-typed p t v m w h typed there)

@@ -46,7 +46,8 @@ weigh_room : (n : ℕ) (s : Steps) (a : ℕ) → weigh (both (Some (Room n ∷ [
 weigh_room n None a = omega arith
 weigh_room n (Some ss) a = omega (arith, checks-append (Room n ∷ []) ss)
 
-weigh_row : (z : Option ℕ) (u n : ℕ) (s : Steps) (a : ℕ) → weigh (both (on_some z (λ k. Some (Room (k * u + n) ∷ []))) s) a ≤ weigh s (8192 + a)
+weigh_row : (z : Option ℕ) (u n : ℕ) (s : Steps) (a : ℕ)
+    → weigh (both (on_some z (λ k. Some (Room (k * u + n) ∷ []))) s) a ≤ weigh s (8192 + a)
 weigh_row None u n s a = omega arith
 weigh_row (Some k) u n s a = weigh_room (k * u + n) s a
 
@@ -115,10 +116,12 @@ module _ (c : Calls) (h : Head) (v : Val) where
     pub flat_least : (n : ℕ) (x : Hoisted) → weigh (both own (steps c h (settled (flat n) x).0 v)) (low (settled (flat n) x).1) ≤ least x
     flat_least n (b, p) = let e = behind_own (steps c h b v) (low (raised n p)) (low p) 0 (low_raised n p) in omega (arith, e)
 
-    pub small_least : (n k : ℕ) (x : Hoisted) → weigh (both own (steps c h (settled (small n k) x).0 v)) (low (settled (small n k) x).1) ≤ least x + k
+    pub small_least : (n k : ℕ) (x : Hoisted)
+        → weigh (both own (steps c h (settled (small n k) x).0 v)) (low (settled (small n k) x).1) ≤ least x + k
     small_least n k (b, nothing) = let e = low_some n k in behind_own (steps c h b v) (low (some_octets n k)) 0 k (omega (arith, e))
     small_least n k (b, octets m j) = cut (nat_lt 8192 j) refl where
-      cut : (z : Bool) → nat_lt 8192 j ≡ z → weigh (both own (steps c h (beside z n k m j b).0 v)) (low (beside z n k m j b).1) ≤ weigh (steps c h b v) j + k
+      cut : (z : Bool) → nat_lt 8192 j ≡ z
+          → weigh (both own (steps c h (beside z n k m j b).0 v)) (low (beside z n k m j b).1) ≤ weigh (steps c h b v) j + k
       cut true e =
           let full : 8192 < j = grind (arith, nat_tests, e) in
           let f = low_some n k in
@@ -137,7 +140,8 @@ module _ (c : Calls) (h : Head) (v : Val) where
     up_row : (s : Steps) (a b g : ℕ) → a ≤ 8192 + b → weigh s b ≤ 8192 * g → weigh (both own s) a ≤ 8192 * suc g
     up_row s a b g le e = let x = weigh_quiet own s a quiet in let y = weigh_more s a b 8192 (omega (arith, le)) in omega (arith, x, y, e)
 
-    pub loop_greatest : (p : List ℕ) (u : ℕ) (x : Hoisted) (g : ℕ) → least x ≤ 8192 * g → weigh (both own (steps c h (settled (loop p u) x).0 v)) (high (settled (loop p u) x).1) ≤ 8192 * suc g
+    pub loop_greatest : (p : List ℕ) (u : ℕ) (x : Hoisted) (g : ℕ) → least x ≤ 8192 * g
+        → weigh (both own (steps c h (settled (loop p u) x).0 v)) (high (settled (loop p u) x).1) ≤ 8192 * suc g
     loop_greatest p u (b, nothing) g le = up_row (steps c h b v) 8192 0 g (omega arith) le
     loop_greatest p u (b, octets n j) g le = up_row (steps c h b v) 8192 j g (omega arith) le
     loop_greatest p u (b, row q w m) g le =
@@ -147,7 +151,8 @@ module _ (c : Calls) (h : Head) (v : Val) where
         omega (arith, x, y, k, le)
 
   -- an operation whose bodies ensure by themselves
-  pub apart_greatest : (own : Steps) (n g : ℕ) (x : Hoisted) → spent own ≤ n → greatest x ≤ 8192 * g → weigh (both own (steps c h (settled apart x).0 v)) (high (settled apart x).1) ≤ 8192 * (n + g)
+  pub apart_greatest : (own : Steps) (n g : ℕ) (x : Hoisted) → spent own ≤ n → greatest x ≤ 8192 * g
+      → weigh (both own (steps c h (settled apart x).0 v)) (high (settled apart x).1) ≤ 8192 * (n + g)
   apart_greatest own n g x le e =
       let f = closed_fits x g e in
       let y = weigh_both own (steps c h (closed x) v) 0 in

@@ -16,7 +16,7 @@ int = scalar_type (number I32)
 abbrev list : Ty → Ty
 list t = items_type Any t
 
--- numbers of four octets behind counts and flags of four; every list is unbounded
+-- numbers of four octets after counts and flags of four; every list is unbounded
 abbrev top : Ty → Option ℕ
 top (scalar_type s) = Some 4
 top (maybe_type (scalar_type s)) = Some 8
@@ -36,13 +36,15 @@ number_at p r = chunk 4 (put.Num 0 p 4 Big ∷ []) r
 abbrev count_at : List ℕ → Block → Block
 count_at p r = chunk 4 (put.Count 0 p 1 0 4 Big ∷ []) r
 
--- a number, and numbers behind their count: all by one ensure
-a_number_and_numbers : closed (hoisted (roles sizes) (group_type (field int (field (list int) no_fields))) (number_at (0 ∷ []) (count_at (1 ∷ []) (each (1 ∷ []) (number_at [] stop) stop))))
+-- a number, and numbers after their count: all by one ensure
+a_number_and_numbers : closed (hoisted (roles sizes) (group_type (field int (field (list int) no_fields)))
+    (number_at (0 ∷ []) (count_at (1 ∷ []) (each (1 ∷ []) (number_at [] stop) stop))))
     ≡ ensure_row (1 ∷ []) 4 8 (number_at (0 ∷ []) (count_at (1 ∷ []) (each (1 ∷ []) (number_at [] stop) stop)))
 a_number_and_numbers = refl
 
--- a number behind a list: one more for the list's elements than for its turn
-behind_a_list : closed (hoisted (roles sizes) (group_type (field (list int) (field int no_fields))) (count_at (0 ∷ []) (each (0 ∷ []) (number_at [] stop) (number_at (1 ∷ []) stop))))
+-- a number after a list: one more for the list's elements than for its turn
+behind_a_list : closed (hoisted (roles sizes) (group_type (field (list int) (field int no_fields)))
+    (count_at (0 ∷ []) (each (0 ∷ []) (number_at [] stop) (number_at (1 ∷ []) stop))))
     ≡ ensure_row (0 ∷ []) 4 8 (count_at (0 ∷ []) (each (0 ∷ []) (number_at [] stop) (number_at (1 ∷ []) stop)))
 behind_a_list = refl
 
@@ -52,7 +54,8 @@ lists : closed (hoisted (roles sizes) (list (list int)) (count_at [] (each [] (c
 lists = refl
 
 -- a number that may be there is a small part
-a_number_or_none : closed (hoisted (roles sizes) (maybe_type int) (chunk 4 (put.Flag 0 [] 4 Big ∷ []) (if_there [] (number_at [] stop) stop)))
+a_number_or_none : closed
+    (hoisted (roles sizes) (maybe_type int) (chunk 4 (put.Flag 0 [] 4 Big ∷ []) (if_there [] (number_at [] stop) stop)))
     ≡ ensure 8 (chunk 4 (put.Flag 0 [] 4 Big ∷ []) (if_there [] (number_at [] stop) stop))
 a_number_or_none = refl
 

@@ -24,7 +24,7 @@ string c = array_type (text c)
 abbrev int_or_hyper : Ty
 int_or_hyper = choice_type (number I32) (arm_type (pos 1) int (others hyper))
 
--- the greatest length, whether it is fixed, and the octets in front
+-- the greatest length, whether it is fixed, and the octets before it
 abbrev Has : Ty → Option ℕ → Bool → ℕ → Type 0
 Has t top fixed front = let z = sizes Xdr in (z.top t ≡ top) × (z.fixed t ≡ fixed) × (z.front t ≡ front)
 
@@ -56,11 +56,11 @@ two_lists = (refl, refl, refl)
 any_list : Has (items_type Any int) None false 4
 any_list = (refl, refl, refl)
 
--- 5 octets, and 3 behind them
+-- 5 octets, and 3 after them
 five_octets : Has (opaque (Exactly 5)) (Some 8) true 0
 five_octets = (refl, refl, refl)
 
--- a count, 5 octets, and 3 behind them
+-- a count, 5 octets, and 3 after them
 up_to_five : Has (string (AtMost 5)) (Some 12) false 4
 up_to_five = (refl, refl, refl)
 
@@ -83,11 +83,11 @@ hyper_or_none = (refl, refl, refl)
 a_number_and_any : Has (group_type (field int (field (string Any) no_fields))) None false 0
 a_number_and_any = (refl, refl, refl)
 
--- lengths are told up to 4,294,967,295: the last multiple of 4 below it
+-- lengths are reported up to 4,294,967,295: the last multiple of 4 below it
 most_told : Has (opaque (Exactly 4294967292)) (Some 4294967292) true 0
 most_told = (refl, refl, refl)
 
--- 3 zeros behind the octets make it 4,294,967,296
+-- 3 zeros after the octets make it 4,294,967,296
 too_long : Has (opaque (Exactly 4294967293)) None false 0
 too_long = (refl, refl, refl)
 
@@ -95,6 +95,7 @@ too_long = (refl, refl, refl)
 abbrev two_hypers : Ty
 two_hypers = group_type (field hyper (field hyper no_fields))
 
-two_in_cdr : ((sizes CdrBig).top two_hypers ≡ Some 23) × ((sizes CdrBig).top hyper ≡ Some 15) × ((sizes CdrBig).weight two_hypers ≡ 15) × ((sizes CdrBig).weight hyper ≡ 7)
+two_in_cdr : ((sizes CdrBig).top two_hypers ≡ Some 23) × ((sizes CdrBig).top hyper ≡ Some 15) × ((sizes CdrBig).weight two_hypers ≡ 15)
+    × ((sizes CdrBig).weight hyper ≡ 7)
 unfolding length_at
 two_in_cdr = (refl, refl, refl, refl)

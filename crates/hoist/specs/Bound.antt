@@ -51,7 +51,7 @@ abbrev mutual
   bound t (patch a s o r) = bound t r
   bound t _ = None
 
-  -- the same of bodies that stand in the order of the arms
+  -- the same of bodies in the order of the arms
   pub cases_bound : Arms → Cases → Option ℕ
   cases_bound no_other no_default = Some 0
   cases_bound (others t) (default b) = bound t b

@@ -1,4 +1,4 @@
--- Ensures in front of operations, from the last operation to the first.
+-- Ensures before operations, from the last operation to the first.
 use Rattle.std.specs.Prelude.{◌≡◌, ℕ, zero, suc, ◌+◌, ◌-◌, List, Option, None, Some, nat_lt, Bool, true, false}
 use Rattle.mint.specs.Types.{Ty, void_type, items_type, Arms, no_other, others, arm_type}
 use Rattle.cast_stub.specs.Parts.{on_some, IsThere}
@@ -6,7 +6,7 @@ use Rattle.cast_stub.specs.Block.{Block, stop, ensure, ensure_row, align, chunk,
 use Rattle.cast_stub.specs.PartTypes.{ty_at, element_at, present_at, arms_at}
 use Rattle.hoist.specs.Bound.{most, times, bound, cases_bound}
 
--- what is ensured in front of the operations so far
+-- what is ensured before the operations so far
 pub data Pending : Type 0 where
   nothing : Pending
   -- so many octets, and the greatest lengths of the small parts among them
@@ -14,7 +14,7 @@ pub data Pending : Type 0 where
   -- a length, multiplied and raised
   row : List ℕ → ℕ → ℕ → Pending
 
--- code, and what is to be ensured in front of it
+-- code, and what is to be ensured before it
 abbrev pub Hoisted : Type 0
 Hoisted = Block × Pending
 
@@ -23,7 +23,7 @@ abbrev pub some_octets : ℕ → ℕ → Pending
 some_octets zero k = nothing
 some_octets (suc n) k = octets (suc n) k
 
--- the code with its ensure in front
+-- the code with its ensure before it
 abbrev pub closed : Hoisted → Block
 closed (c, nothing) = c
 closed (c, octets n k) = ensure n c
@@ -31,9 +31,9 @@ closed (c, row p u n) = ensure_row p u n c
 
 -- how the room of an operation is ensured
 pub data Plan : Type 0 where
-  -- with what is ensured behind it
+  -- with what is ensured after it
   flat : ℕ → Plan
-  -- the same, as a small part of a greatest length, unless what is ensured behind it is a row or is enough
+  -- the same, as a small part of a greatest length, unless what is ensured after it is a row or is enough
   small : ℕ → ℕ → Plan
   -- by the length of a list, multiplied
   loop : List ℕ → ℕ → Plan
@@ -50,12 +50,12 @@ raised n (row p u m) = row p u (m + n)
 abbrev pub enough : ℕ
 enough = 8192
 
--- a small part in front of code with octets ensured: by itself, or together with them
+-- a small part before code with octets ensured: by itself, or together with them
 abbrev pub beside : Bool → ℕ → ℕ → ℕ → ℕ → Block → Hoisted
 beside true n k m j c = (ensure m c, some_octets n k)
 beside false n k m j c = (c, octets (m + n) (j + k))
 
--- code in front of which an operation comes, with what is ensured in front of both
+-- code before which an operation comes, with what is ensured before both
 abbrev pub settled : Plan → Hoisted → Hoisted
 settled (flat n) (c, p) = (c, raised n p)
 settled (small n k) (c, nothing) = (c, some_octets n k)
@@ -108,7 +108,7 @@ abbrev pub kept : {A : Type 0} → Plan → A → A → A
 kept apart b b' = b'
 kept _ b b' = b
 
--- the type of the elements of a list that is no row
+-- the type of the elements of a list that is not a row
 abbrev pub items_in_type : Ty → Option Ty
 items_in_type (items_type c t) = Some t
 items_in_type _ = None
@@ -174,7 +174,8 @@ abbrev mutual
   IsTaken ro t (align a r) = IsTaken ro t r
   IsTaken ro t (chunk s ps r) = IsTaken ro t r
   IsTaken ro t (patch a s o r) = IsTaken ro t r
-  IsTaken ro t (each p b r) = WhereApart (each_plan ro t p b) (InType (items_at p t) (λ u. IsTaken ro u b)) × IfRow (ro t p) (IsThere (turn_bound p t b)) × IsTaken ro t r
+  IsTaken ro t (each p b r) = WhereApart (each_plan ro t p b) (InType (items_at p t) (λ u. IsTaken ro u b))
+      × IfRow (ro t p) (IsThere (turn_bound p t b)) × IsTaken ro t r
   IsTaken ro t (if_there p b r) = WhereApart (some_plan ro t p b) (InType (present_at p t) (λ u. IsTaken ro u b)) × IsTaken ro t r
   IsTaken ro t (switch p cs r) = WhereApart (switch_plan ro t p cs) (InType (arms_at p t) (λ arms. CasesTaken ro arms cs)) × IsTaken ro t r
   IsTaken ro t _ = ⊥

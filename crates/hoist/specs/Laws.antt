@@ -22,7 +22,7 @@ abbrev pub HoistingCovers : Type 0
 HoistingCovers = (ro : Roles) (c : Calls) (h : Head) (t : Ty) (b : Block) (v : Val) (ss : List Step) (p : ℕ) → IsTaken ro t b → IsOf t v
     → steps c h (closed (hoisted ro t b)) v ≡ Some ss → HasRoom p 0 ss
 
--- hoisted code ensures room and does nothing else besides
+-- hoisted code ensures room, and does nothing more
 abbrev pub HoistingKeepsSteps : Type 0
 HoistingKeepsSteps = (ro : Roles) (c : Calls) (h : Head) (t : Ty) (b : Block) (v : Val)
     → option_map without_room (steps c h (closed (hoisted ro t b)) v) ≡ option_map without_room (steps c h b v)
@@ -33,7 +33,8 @@ HoistingKeepsCode = (ro : Roles) (t : Ty) (b : Block) → unensured (closed (hoi
 
 -- by the sizes of types it looks at the buffer at most once for each region
 abbrev pub HoistingIsSparing : Type 0
-HoistingIsSparing = (z : Sizes) (c : Calls) (h : Head) (t : Ty) (n : ℕ) (b : Block) (v : Val) (ss : List Step) → AreSizes z → IsSound t → IsFramed n t b → IsOf t v
+HoistingIsSparing = (z : Sizes) (c : Calls) (h : Head) (t : Ty) (n : ℕ) (b : Block) (v : Val) (ss : List Step) → AreSizes z → IsSound t
+    → IsFramed n t b → IsOf t v
     → steps c h (closed (hoisted (roles z) t b)) v ≡ Some ss → (costs ss).checks ≤ regions z n t v
 
 -- it ensures nothing within a loop over a row or text

@@ -23,4 +23,5 @@ EnsuresRows e t code = RowsEnsured (roles (sizes e)) t None (code_seen code.ops)
 
 -- at most one look at the buffer for each region, however the first chunks are taken for a lead
 abbrev pub IsSparing : Encoding → Ty → SendCode → SendCode → Type 0
-IsSparing e t given code = (n : ℕ) (h : Head) (v : Val) → IsFramed n t (code_seen given.ops) → IsOf t v → IfSome (cost code h v) (λ c. c.checks ≤ regions (sizes e) n t v)
+IsSparing e t given code = (n : ℕ) (h : Head) (v : Val) → IsFramed n t (code_seen given.ops) → IsOf t v
+    → IfSome (cost code h v) (λ c. c.checks ≤ regions (sizes e) n t v)

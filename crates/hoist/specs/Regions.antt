@@ -18,7 +18,7 @@ pub record Sizes : Type 0 where
   pub top : Ty → Option ℕ
   -- whether the length is the same for all values
   pub fixed : Ty → Bool
-  -- the greatest length of what stands before the elements, the arm or the value
+  -- the greatest length of what comes before the elements, the arm or the value
   pub front : Ty → ℕ
   -- what an operation over it weighs where it is small
   pub weight : Ty → ℕ
@@ -50,7 +50,7 @@ or_zero (Some n) = n
 abbrev pub light_or : Option ℕ → List Part → List Part
 light_or x ps = if is_light x then lone (or_zero x) else ps
 
--- the parts of each element, a break behind each
+-- the parts of each element, a break after each
 abbrev pub with_breaks : (Val → List Part) → Vals → List Part
 with_breaks f no_more = []
 with_breaks f (val v vs) = f v ++ break_part ∷ with_breaks f vs
@@ -64,10 +64,13 @@ abbrev mutual
   pub parts : Sizes → Ty → Val → List Part
   parts z (group_type ts) (group vs) = light_or (z.top (group_type ts)) (fields_parts z ts vs)
   parts z (array_type a) v = light_or (z.top (array_type a)) (lone (z.front (array_type a)) ++ row_part ∷ [])
-  parts z (items_type c t) (items vs) = light_or (z.top (items_type c t)) (lone (z.front (items_type c t)) ++ (if z.fixed t then row_part ∷ [] else broken (parts z t) vs))
-  parts z (choice_type s arms) (arm n v) = light_or (z.top (choice_type s arms)) (lone (z.front (choice_type s arms)) ++ break_part ∷ (arm_parts z arms n v ++ break_part ∷ []))
+  parts z (items_type c t) (items vs) = light_or (z.top (items_type c t))
+      (lone (z.front (items_type c t)) ++ (if z.fixed t then row_part ∷ [] else broken (parts z t) vs))
+  parts z (choice_type s arms) (arm n v) = light_or (z.top (choice_type s arms))
+      (lone (z.front (choice_type s arms)) ++ break_part ∷ (arm_parts z arms n v ++ break_part ∷ []))
   parts z (maybe_type t) absent = light_or (z.top (maybe_type t)) (lone (z.front (maybe_type t)) ++ break_part ∷ break_part ∷ [])
-  parts z (maybe_type t) (present v) = light_or (z.top (maybe_type t)) (lone (z.front (maybe_type t)) ++ break_part ∷ (parts z t v ++ break_part ∷ []))
+  parts z (maybe_type t) (present v) = light_or (z.top (maybe_type t))
+      (lone (z.front (maybe_type t)) ++ break_part ∷ (parts z t v ++ break_part ∷ []))
   parts z t _ = light_or (z.top t) []
 
   -- those of fields
@@ -92,7 +95,7 @@ groups begun (break_part ∷ ps) = groups None ps
 groups None (small_part n ∷ ps) = suc (groups (Some n) ps)
 groups (Some m) (small_part n ∷ ps) = if nat_le (m + n) enough then groups (Some (m + n)) ps else suc (groups (Some n) ps)
 
--- the regions of a value behind a lead
+-- the regions of a value after a lead
 abbrev pub regions : Sizes → ℕ → Ty → Val → ℕ
 regions z n t v = groups None (lone n ++ parts z t v)
 

@@ -1,4 +1,4 @@
--- Loops over big rows, each behind the `ensure_row` of its list.
+-- Loops over big rows, each after the `ensure_row` of its list.
 use Rattle.std.specs.Prelude.{◌≡◌, ℕ, List, Option, None, Some}
 use Rattle.mint.specs.Types.{Ty, Arms, others, arm_type}
 use Rattle.cast_stub.specs.Block.{Block, stop, ensure, ensure_row, align, chunk, row_copy, row_swap, row_wide, each, switch, if_there, call, patch, Cases, default, case}
@@ -12,7 +12,7 @@ IfBreak is_break P = P
 IfBreak _ P = Unit {0}
 
 abbrev mutual
-  -- in front of each loop over a big row stands the `ensure_row` of its list, and no ensure or body between; the list that
+  -- before each loop over a big row is the `ensure_row` of its list, with no ensure or body between; the list that
   -- is ensured, if there is one
   pub RowsEnsured : Roles → Ty → Option (List ℕ) → Block → Type 0
   RowsEnsured ro t list stop = Unit {0}
@@ -25,8 +25,10 @@ abbrev mutual
   RowsEnsured ro t list (row_wide p o r) = RowsEnsured ro t list r
   RowsEnsured ro t list (each p b r) =
       IfRow (ro t p) (list ≡ Some p) × IfBreak (ro t p) (IfTyped (items_at p t) (λ u. RowsEnsured ro u None b)) × RowsEnsured ro t None r
-  RowsEnsured ro t list (switch p cs r) = IfBreak (ro t p) (IfTyped (arms_at p t) (λ arms. CasesRowsEnsured ro arms cs)) × RowsEnsured ro t None r
-  RowsEnsured ro t list (if_there p b r) = IfBreak (ro t p) (IfTyped (present_at p t) (λ u. RowsEnsured ro u None b)) × RowsEnsured ro t None r
+  RowsEnsured ro t list (switch p cs r) = IfBreak (ro t p) (IfTyped (arms_at p t) (λ arms. CasesRowsEnsured ro arms cs))
+      × RowsEnsured ro t None r
+  RowsEnsured ro t list (if_there p b r) = IfBreak (ro t p) (IfTyped (present_at p t) (λ u. RowsEnsured ro u None b))
+      × RowsEnsured ro t None r
   RowsEnsured ro t list (call k p r) = RowsEnsured ro t None r
   RowsEnsured ro t list (patch a s o r) = RowsEnsured ro t list r
 

@@ -29,7 +29,7 @@ role_seen (role.Small k) = is_small k
 role_seen role.Row = is_row
 role_seen role.Break = is_break
 
--- code in reverse, with what is to be ensured in front of it
+-- code in reverse, with what is to be ensured before it
 abbrev pub behind : List SendOp → Ahead → Hoisted
 behind back a = (code_seen (reverse back), ahead_seen a)
 
@@ -37,7 +37,7 @@ behind back a = (code_seen (reverse back), ahead_seen a)
 abbrev pub span_roles : Encoding → Roles
 span_roles e = roles (sizes e)
 
--- wherever the first is hoisted code, the second is that with an operation in front
+-- wherever the first is hoisted code, the second is that with an operation before it
 abbrev pub InFront : Encoding → Ty → SendOp → Hoisted → Hoisted → Type 0
 InFront e t o x y = (r : Block) → hoisted (span_roles e) t r ≡ x → hoisted (span_roles e) t (op_seen o r) ≡ y
 

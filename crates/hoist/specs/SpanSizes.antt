@@ -46,6 +46,6 @@ front_length e (choice_type s arms) = scalar_top e s
 front_length e (maybe_type t) = scalar_top e flag
 front_length e _ = 0
 
--- what the spans of an encoding tell
+-- what the spans of an encoding say
 abbrev pub sizes : Encoding → Sizes
 sizes e = record { top = λ t. top (span e t); fixed = λ t. is_fixed (span e t); front = front_length e; weight = λ t. weight_of (span e t) }

@@ -1,4 +1,4 @@
-// What is ensured in front of operations, while they are gone over from the last to the first.
+// What is ensured before operations, while they are visited from the last to the first.
 ghost use Rattle.std.specs.Prelude.{◌≡◌, ◌+◌, reverse, OnOk, IfOk};
 ghost use Rattle.cast_stub.specs.Block.{code_seen};
 ghost use Rattle.hoist.specs.Hoisted.{raised, some_octets, closed, settled, small, loop, apart};
@@ -73,7 +73,7 @@ pub(crate) fn flush(back: &mut Vec<SendOp>, ahead: Ahead) -> Result<(), NoMemory
     }
 }
 
-/// A small part in front.
+/// A small part before them.
 #[tactic(auto, using(crate::proofs::Reversed::reversed))]
 fn set_small(back: &mut Vec<SendOp>, ahead: Ahead, n: u32, k: u32) -> Result<Ahead, NoMemory>
     ensures { IfOk result (λ a. behind back.new.items a ≡ settled (small n k) (behind back.old.items ahead)) }
@@ -95,10 +95,11 @@ fn set_small(back: &mut Vec<SendOp>, ahead: Ahead, n: u32, k: u32) -> Result<Ahe
     }
 }
 
-/// A list whose elements are alike in front.
+/// A list of like elements before them.
 #[tactic(auto, using(crate::proofs::Reversed::reversed))]
 fn set_loop(back: &mut Vec<SendOp>, ahead: Ahead, path: Path, unit: u32) -> Result<Ahead, NoMemory>
-    ensures { IfOk result (λ a. behind back.new.items a ≡ settled (loop path unit) (behind back.old.items ahead)) }
+    ensures { IfOk result
+        (λ a. behind back.new.items a ≡ settled (loop path unit) (behind back.old.items ahead)) }
 {
     match ahead {
         Ahead::Nothing => Ok(Ahead::Row(path, unit, 0)),
@@ -110,7 +111,7 @@ fn set_loop(back: &mut Vec<SendOp>, ahead: Ahead, path: Path, unit: u32) -> Resu
     }
 }
 
-/// An operation with bodies in front.
+/// An operation with bodies before them.
 #[tactic(auto, using(crate::proofs::Reversed::reversed))]
 pub(crate) fn settle(
     back: &mut Vec<SendOp>,
@@ -118,7 +119,8 @@ pub(crate) fn settle(
     plan: Plan,
     path: Path,
 ) -> Result<Ahead, NoMemory>
-    ensures { IfOk result (λ a. behind back.new.items a ≡ settled (plan_seen path plan) (behind back.old.items ahead)) }
+    ensures { IfOk result
+        (λ a. behind back.new.items a ≡ settled (plan_seen path plan) (behind back.old.items ahead)) }
 {
     match plan {
         Plan::Small(n, k) => set_small(back, ahead, n, k),

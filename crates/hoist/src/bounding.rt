@@ -15,7 +15,7 @@ use mint::kind::Count;
 use mint::node::{Arms, Node};
 use mint::table::{Mint, NodeId};
 
-// The sum, which is a u32 or for want of memory none.
+// The sum, which is a u32, or none where memory runs out.
 fn plus(a: Option<u32>, b: Option<u32>) -> Result<Option<u32>, NoMemory>
     ensures { IfOk result (λ n. n ≡ plus a b) }
 {
@@ -62,7 +62,8 @@ pub(crate) fn number_bound(ops: &SendOps) -> Result<Option<u32>, NoMemory>
 
 #[tactic(auto, using(crate::proofs::Nodes::nodes))]
 fn number_op_bound(op: &SendOp) -> Option<u32>
-    ensures { (s : Scalar) → (r : Block) → bound (scalar_type s) (op_seen op.now r) ≡ plus result (bound (scalar_type s) r) }
+    ensures { (s : Scalar) → (r : Block)
+        → bound (scalar_type s) (op_seen op.now r) ≡ plus result (bound (scalar_type s) r) }
 {
     match op {
         SendOp::Align(a) => Some(a.saturating_sub(1)),
@@ -100,7 +101,8 @@ pub fn bound(mint: &Mint, id: NodeId, ops: &SendOps) -> Result<Option<u32>, NoMe
 #[tactic(auto, using(crate::proofs::Nodes::nodes))]
 fn op_bound(mint: &Mint, id: NodeId, op: &SendOp) -> Result<Option<u32>, NoMemory>
     requires { id < length mint.now }
-    ensures { IfOk result (λ n. (r : Block) → bound (type_at mint.now id) (op_seen op.now r) ≡ plus n (bound (type_at mint.now id) r)) }
+    ensures { IfOk result (λ n. (r : Block)
+        → bound (type_at mint.now id) (op_seen op.now r) ≡ plus n (bound (type_at mint.now id) r)) }
 {
     match op {
         SendOp::Align(a) => Ok(Some(a.saturating_sub(1))),
@@ -128,7 +130,8 @@ pub(crate) fn loop_bound(
     body: &SendOps,
 ) -> Result<Option<u32>, NoMemory>
     requires { id < length mint.now }
-    ensures { IfOk result (λ n. n ≡ on_some (element_at path.now (type_at mint.now id)) (λ e. times (most e.1) (bound e.0 (code_seen body.now)))) }
+    ensures { IfOk result (λ n. n ≡ on_some (element_at path.now (type_at mint.now id))
+        (λ e. times (most e.1) (bound e.0 (code_seen body.now)))) }
 {
     let Some(count) = count_at(mint, id, path) else {
         return Ok(None);
@@ -168,7 +171,8 @@ pub(crate) fn turn_bound(
     body: &SendOps,
 ) -> Result<Option<u32>, NoMemory>
     requires { id < length mint.now }
-    ensures { IfOk result (λ n. n ≡ on_some (element_at path.now (type_at mint.now id)) (λ e. bound e.0 (code_seen body.now))) }
+    ensures { IfOk result
+        (λ n. n ≡ on_some (element_at path.now (type_at mint.now id)) (λ e. bound e.0 (code_seen body.now))) }
 {
     let Some(part) = node_at(mint, id, path.as_slice()) else {
         return Ok(None);
@@ -197,7 +201,8 @@ pub(crate) fn some_bound(
     body: &SendOps,
 ) -> Result<Option<u32>, NoMemory>
     requires { id < length mint.now }
-    ensures { IfOk result (λ n. n ≡ on_some (present_at path.now (type_at mint.now id)) (λ u. bound u (code_seen body.now))) }
+    ensures { IfOk result
+        (λ n. n ≡ on_some (present_at path.now (type_at mint.now id)) (λ u. bound u (code_seen body.now))) }
 {
     let Some(part) = node_at(mint, id, path.as_slice()) else {
         return Ok(None);
@@ -228,7 +233,8 @@ pub(crate) fn switch_bound(
     last: &Option<SendOps>,
 ) -> Result<Option<u32>, NoMemory>
     requires { id < length mint.now }
-    ensures { IfOk result (λ n. n ≡ on_some (arms_at path.now (type_at mint.now id)) (λ arms. cases_bound arms (cases_seen cases.now last.now))) }
+    ensures { IfOk result (λ n. n ≡ on_some (arms_at path.now (type_at mint.now id))
+        (λ arms. cases_bound arms (cases_seen cases.now last.now))) }
 {
     let Some(part) = node_at(mint, id, path.as_slice()) else {
         return Ok(None);
@@ -262,7 +268,8 @@ fn arms_bound(
     requires id { id < length mint.now }
     requires arms { ArmsBelow id arms.now }
     requires other { IsBelow id other }
-    ensures { IfOk result (λ n. n ≡ cases_bound (mint_arms (unfolded mint.now) arms.now other) (cases_seen cases.now last.now)) }
+    ensures { IfOk result (λ n. n ≡ cases_bound (mint_arms (unfolded mint.now) arms.now other)
+        (cases_seen cases.now last.now)) }
 {
     let arms = arms.as_slice();
     let bodies = cases.as_slice();
@@ -286,7 +293,8 @@ fn last_bound(
 ) -> Result<Option<u32>, NoMemory>
     requires id { id < length mint.now }
     requires other { IsBelow id other }
-    ensures { IfOk result (λ n. n ≡ cases_bound (others_at (unfolded mint.now) other) (cases_seen [] last.now)) }
+    ensures { IfOk result
+        (λ n. n ≡ cases_bound (others_at (unfolded mint.now) other) (cases_seen [] last.now)) }
 {
     match last {
         Some(body) => match other {
@@ -311,7 +319,9 @@ fn arm_bound(
 ) -> Result<Option<u32>, NoMemory>
     requires id { id < length mint.now }
     requires arm { arm.now.1 < id }
-    ensures { IfOk result (λ n. n ≡ (if int_eq arm.now.0 case.now.0 then greater (bound (type_at mint.now arm.now.1) (code_seen case.now.1)) rest else None)) }
+    ensures { IfOk result (λ n. n ≡ (if int_eq arm.now.0 case.now.0
+        then greater (bound (type_at mint.now arm.now.1) (code_seen case.now.1)) rest
+        else None)) }
 {
     if !is_same(&arm.0, &case.0) {
         return Ok(None);

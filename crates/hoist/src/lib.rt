@@ -1,4 +1,4 @@
-//! Ensures in front of the operations of stub code.
+//! Ensures before the operations of stub code.
 #![tactic(auto)]
 
 mod ahead;

@@ -1,4 +1,4 @@
-// The pass: ensures in front of operations, from the last operation to the first.
+// The pass: ensures before operations, from the last operation to the first.
 ghost use Rattle.std.specs.Prelude.{◌≡◌, ◌<◌, [], length, reverse, IfOk};
 ghost use Rattle.mint.specs.Types.{type_at, unfolded, others_at, ArmsBelow, IsBelow};
 ghost use Rattle.cast_stub.specs.Block.{stop, op_seen, code_seen, cases_seen};
@@ -34,7 +34,7 @@ fn in_order(alloc: Global, back: Vec<SendOp>) -> Result<SendOps, NoMemory>
     Ok(ops)
 }
 
-/// The operations with ensures in front, for a value of the node.
+/// The operations with ensures before them, for a value of the node.
 #[cycle(hoist)]
 pub(crate) fn hoist_ops(
     alloc: Global,
@@ -46,7 +46,8 @@ pub(crate) fn hoist_ops(
     requires id { id < length mint.now }
     requires classes { AreClasses mint.now classes.now }
     requires taken { IsTaken (span_roles classes.now.enc) (type_at mint.now id) (code_seen ops.now) }
-    ensures { IfOk result (λ os. code_seen os ≡ closed (hoisted (span_roles classes.now.enc) (type_at mint.now id) (code_seen ops.now))) }
+    ensures { IfOk result (λ os. code_seen os
+        ≡ closed (hoisted (span_roles classes.now.enc) (type_at mint.now id) (code_seen ops.now))) }
 {
     let list = ops.as_slice();
     let mut back = Vec::new(alloc);
@@ -58,7 +59,7 @@ pub(crate) fn hoist_ops(
     in_order(alloc, back)
 }
 
-// An operation in front of those that were gone over.
+// An operation before those that were visited.
 #[cycle(hoist)]
 fn hoist_op(
     alloc: Global,
@@ -72,7 +73,8 @@ fn hoist_op(
     requires id { id < length mint.now }
     requires classes { AreClasses mint.now classes.now }
     requires taken { IsTaken (span_roles classes.now.enc) (type_at mint.now id) (op_seen op.now stop) }
-    ensures { IfOk result (λ then. InFront classes.now.enc (type_at mint.now id) op.now (behind back.old.items ahead) (behind back.new.items then)) }
+    ensures { IfOk result (λ then. InFront classes.now.enc (type_at mint.now id) op.now
+        (behind back.old.items ahead) (behind back.new.items then)) }
 {
     match op {
         SendOp::Align(a) => {
@@ -130,8 +132,11 @@ fn each_body(
 ) -> Result<SendOps, NoMemory>
     requires id { id < length mint.now }
     requires classes { AreClasses mint.now classes.now }
-    requires taken { WhereApart (plan_seen path.now plan) (InType (items_at path.now (type_at mint.now id)) (λ u. IsTaken (span_roles classes.now.enc) u (code_seen body.now))) }
-    ensures { IfOk result (λ b. code_seen b ≡ kept (plan_seen path.now plan) (code_seen body.now) (closed (hoisted (span_roles classes.now.enc) (or_void (items_at path.now (type_at mint.now id))) (code_seen body.now)))) }
+    requires taken { WhereApart (plan_seen path.now plan) (InType (items_at path.now (type_at mint.now id))
+        (λ u. IsTaken (span_roles classes.now.enc) u (code_seen body.now))) }
+    ensures { IfOk result (λ b. code_seen b ≡ kept (plan_seen path.now plan) (code_seen body.now)
+        (closed (hoisted (span_roles classes.now.enc) (or_void (items_at path.now (type_at mint.now id)))
+        (code_seen body.now)))) }
 {
     match plan {
         Plan::Small(_, _) | Plan::Loop(_) => copy_ops(alloc, body),
@@ -160,8 +165,11 @@ fn some_body(
 ) -> Result<SendOps, NoMemory>
     requires id { id < length mint.now }
     requires classes { AreClasses mint.now classes.now }
-    requires taken { WhereApart (plan_seen path.now plan) (InType (present_at path.now (type_at mint.now id)) (λ u. IsTaken (span_roles classes.now.enc) u (code_seen body.now))) }
-    ensures { IfOk result (λ b. code_seen b ≡ kept (plan_seen path.now plan) (code_seen body.now) (closed (hoisted (span_roles classes.now.enc) (or_void (present_at path.now (type_at mint.now id))) (code_seen body.now)))) }
+    requires taken { WhereApart (plan_seen path.now plan) (InType (present_at path.now (type_at mint.now id))
+        (λ u. IsTaken (span_roles classes.now.enc) u (code_seen body.now))) }
+    ensures { IfOk result (λ b. code_seen b ≡ kept (plan_seen path.now plan) (code_seen body.now)
+        (closed (hoisted (span_roles classes.now.enc) (or_void (present_at path.now (type_at mint.now id)))
+        (code_seen body.now)))) }
 {
     match plan {
         Plan::Small(_, _) | Plan::Loop(_) => copy_ops(alloc, body),
@@ -191,8 +199,12 @@ fn switch_bodies(
 ) -> Result<(SendCases, Option<SendOps>), NoMemory>
     requires id { id < length mint.now }
     requires classes { AreClasses mint.now classes.now }
-    requires taken { WhereApart (plan_seen path.now plan) (InType (arms_at path.now (type_at mint.now id)) (λ arms. CasesTaken (span_roles classes.now.enc) arms (cases_seen cases.now last.now))) }
-    ensures { IfOk result (λ b. cases_seen b.0 b.1 ≡ kept (plan_seen path.now plan) (cases_seen cases.now last.now) (cases_hoisted (span_roles classes.now.enc) (or_none (arms_at path.now (type_at mint.now id))) (cases_seen cases.now last.now))) }
+    requires taken { WhereApart (plan_seen path.now plan) (InType (arms_at path.now (type_at mint.now id))
+        (λ arms. CasesTaken (span_roles classes.now.enc) arms (cases_seen cases.now last.now))) }
+    ensures { IfOk result (λ b. cases_seen b.0 b.1
+        ≡ kept (plan_seen path.now plan) (cases_seen cases.now last.now)
+        (cases_hoisted (span_roles classes.now.enc) (or_none (arms_at path.now (type_at mint.now id)))
+        (cases_seen cases.now last.now))) }
 {
     match plan {
         Plan::Small(_, _) | Plan::Loop(_) => {
@@ -226,7 +238,8 @@ fn hoist_cases(
     requires classes { AreClasses mint.now classes.now }
     requires arms { ArmsBelow id arms.now }
     requires taken { ArmsTaken classes.now.enc (unfolded mint.now) arms.now cases.now }
-    ensures { IfOk result (λ bodies. AreHoisted classes.now.enc (unfolded mint.now) arms.now cases.now bodies) }
+    ensures { IfOk result
+        (λ bodies. AreHoisted classes.now.enc (unfolded mint.now) arms.now cases.now bodies) }
 {
     let arms = arms.as_slice();
     let cases = cases.as_slice();
@@ -250,7 +263,8 @@ fn hoist_case(
     requires id { id < length mint.now }
     requires classes { AreClasses mint.now classes.now }
     requires arm { arm.now.1 < id }
-    requires taken { IsTaken (span_roles classes.now.enc) (type_at mint.now arm.now.1) (code_seen case.now.1) }
+    requires taken { IsTaken (span_roles classes.now.enc) (type_at mint.now arm.now.1)
+        (code_seen case.now.1) }
     ensures { IfOk result (λ body. IsHoisted classes.now.enc (type_at mint.now arm.now.1) case.now body) }
 {
     Ok((case.0, hoist_ops(alloc, mint, classes, arm.1, &case.1)?))
@@ -269,8 +283,11 @@ fn hoist_last(
     requires id { id < length mint.now }
     requires classes { AreClasses mint.now classes.now }
     requires other { IsBelow id other }
-    requires taken { CasesTaken (span_roles classes.now.enc) (others_at (unfolded mint.now) other) (cases_seen [] last.now) }
-    ensures { IfOk result (λ rest. cases_seen [] rest ≡ cases_hoisted (span_roles classes.now.enc) (others_at (unfolded mint.now) other) (cases_seen [] last.now)) }
+    requires taken { CasesTaken (span_roles classes.now.enc) (others_at (unfolded mint.now) other)
+        (cases_seen [] last.now) }
+    ensures { IfOk result (λ rest. cases_seen [] rest
+        ≡ cases_hoisted (span_roles classes.now.enc) (others_at (unfolded mint.now) other)
+        (cases_seen [] last.now)) }
 {
     match last {
         Some(body) => match other {
@@ -281,7 +298,7 @@ fn hoist_last(
     }
 }
 
-/// Code with ensures in front of its operations, as few as one for each region of a value. The code
+/// Code with ensures before its operations, as few as one for each region of a value. The code
 /// is a lead of chunks, inlined code for the node, and at most one patch.
 pub fn hoist(
     alloc: Global,

@@ -34,7 +34,8 @@ pub(crate) fn each_plan(
 ) -> Result<Plan, NoMemory>
     requires id { id < length mint.now }
     requires classes { AreClasses mint.now classes.now }
-    ensures { IfOk result (λ x. plan_seen path.now x ≡ each_plan (span_roles classes.now.enc) (type_at mint.now id) path.now (code_seen body.now)) }
+    ensures { IfOk result (λ x. plan_seen path.now x
+        ≡ each_plan (span_roles classes.now.enc) (type_at mint.now id) path.now (code_seen body.now)) }
 {
     match part_role(mint, classes, id, path.as_slice()) {
         Role::Small(k) => match loop_bound(mint, id, path, body)? {
@@ -59,7 +60,8 @@ pub(crate) fn some_plan(
 ) -> Result<Plan, NoMemory>
     requires id { id < length mint.now }
     requires classes { AreClasses mint.now classes.now }
-    ensures { IfOk result (λ x. plan_seen path.now x ≡ some_plan (span_roles classes.now.enc) (type_at mint.now id) path.now (code_seen body.now)) }
+    ensures { IfOk result (λ x. plan_seen path.now x
+        ≡ some_plan (span_roles classes.now.enc) (type_at mint.now id) path.now (code_seen body.now)) }
 {
     match part_role(mint, classes, id, path.as_slice()) {
         Role::Small(k) => Ok(small_plan(some_bound(mint, id, path, body)?, k)),
@@ -78,7 +80,9 @@ pub(crate) fn switch_plan(
 ) -> Result<Plan, NoMemory>
     requires id { id < length mint.now }
     requires classes { AreClasses mint.now classes.now }
-    ensures { IfOk result (λ x. plan_seen path.now x ≡ switch_plan (span_roles classes.now.enc) (type_at mint.now id) path.now (cases_seen cases.now last.now)) }
+    ensures { IfOk result (λ x. plan_seen path.now x
+        ≡ switch_plan (span_roles classes.now.enc) (type_at mint.now id) path.now
+        (cases_seen cases.now last.now)) }
 {
     match part_role(mint, classes, id, path.as_slice()) {
         Role::Small(k) => Ok(small_plan(switch_bound(mint, id, path, cases, last)?, k)),

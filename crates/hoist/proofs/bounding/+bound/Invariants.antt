@@ -9,7 +9,8 @@ abbrev pub invariant-bound-loop-i : goal.invariant-bound-loop-i
 invariant-bound-loop-i l = l.sum ≡ bound (type_at l.mint l.id) (code_seen (drop l.i l.list))
 
 abbrev pub invariant-arms_bound-loop-i : goal.invariant-arms_bound-loop-i
-invariant-arms_bound-loop-i l = l.most ≡ cases_bound (mint_arms (unfolded l.mint) (drop l.i l.arms) l.fn.other) (cases_seen (drop l.i l.bodies) l.last)
+invariant-arms_bound-loop-i l = l.most
+    ≡ cases_bound (mint_arms (unfolded l.mint) (drop l.i l.arms) l.fn.other) (cases_seen (drop l.i l.bodies) l.last)
 
 abbrev pub decreases-bound : goal.decreases-bound
 decreases-bound l = 8 * l.id + 6

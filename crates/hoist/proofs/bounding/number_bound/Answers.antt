@@ -8,4 +8,5 @@ use Rattle.hoist.proofs.bounding.number_bound.Goals as goal
 pub returns : goal.returns
 returns c = λ (s : Scalar).
     let zero : c.loop-i.i ≡ 0 = omega (arith, c.loop-i-test.false) in
-    c.loop-i.invariant s ∙ ap (λ k. bound (scalar_type s) (code_seen (drop k c.as_slice-list.result.now))) zero ∙ ap (λ (l : List SendOp). bound (scalar_type s) (code_seen l)) c.as_slice-list.ensures
+    c.loop-i.invariant s ∙ ap (λ k. bound (scalar_type s) (code_seen (drop k c.as_slice-list.result.now))) zero
+    ∙ ap (λ (l : List SendOp). bound (scalar_type s) (code_seen l)) c.as_slice-list.ensures

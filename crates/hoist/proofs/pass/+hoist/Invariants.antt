@@ -31,7 +31,8 @@ abbrev pub decreases-hoist_last : goal.decreases-hoist_last
 decreases-hoist_last l = 8 * l.id + 3
 
 abbrev pub invariant-hoist_ops-loop-i : goal.invariant-hoist_ops-loop-i
-invariant-hoist_ops-loop-i l = hoisted (span_roles l.classes.enc) (type_at l.mint l.id) (code_seen (drop l.i l.list)) ≡ behind l.back.items l.ahead
+invariant-hoist_ops-loop-i l = hoisted (span_roles l.classes.enc) (type_at l.mint l.id) (code_seen (drop l.i l.list))
+    ≡ behind l.back.items l.ahead
 
 abbrev pub invariant-hoist_cases-loop-i : goal.invariant-hoist_cases-loop-i
 invariant-hoist_cases-loop-i l = AreHoisted l.fn.classes.enc (unfolded l.mint) (take l.i l.arms) (take l.i l.cases) l.bodies
