@@ -11,4 +11,5 @@ pub one_case : (path : List ℕ) (start cases : List (ℤ × List SendOp)) (n : 
 one_case path start cases n one other p s c =
     seen-Switch path cases (Some other)
     ∙ ap (λ (q : List ℕ). switch q (cases_seen cases (Some other))) p
-    ∙ ap (λ (l : List (ℤ × List SendOp)). switch [] (cases_seen l (Some other))) (c ∙ ap (λ (l : List (ℤ × List SendOp)). l ++ (n, one) ∷ []) s)
+    ∙ ap (λ (l : List (ℤ × List SendOp)). switch [] (cases_seen l (Some other)))
+    (c ∙ ap (λ (l : List (ℤ × List SendOp)). l ++ (n, one) ∷ []) s)

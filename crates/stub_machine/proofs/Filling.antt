@@ -70,12 +70,16 @@ over-placed : (n : ℕ) (os : List ℕ) (cs : Cells) (f : List ℕ) → IsThere 
 over-placed zero [] cs f there h = h
 over-placed zero (o ∷ os) [] f there h = absurd there
 over-placed zero (o ∷ os) (c ∷ cs) [] there h = absurd h
-over-placed zero (o ∷ os) (None ∷ cs) (b ∷ f) there h = some_over (placed zero os cs) o o (overwrite zero os f) refl (over-placed zero os cs f (there_mapped (placed zero os cs) (λ ds. Some o ∷ ds) there) h)
-over-placed zero (o ∷ os) (Some x ∷ cs) (b ∷ f) there h = some_over (placed zero os cs) o o (overwrite zero os f) refl (over-placed zero os cs f (there_mapped (placed zero os cs) (λ ds. Some o ∷ ds) there) h.1)
+over-placed zero (o ∷ os) (None ∷ cs) (b ∷ f) there h = some_over (placed zero os cs) o o (overwrite zero os f) refl
+    (over-placed zero os cs f (there_mapped (placed zero os cs) (λ ds. Some o ∷ ds) there) h)
+over-placed zero (o ∷ os) (Some x ∷ cs) (b ∷ f) there h = some_over (placed zero os cs) o o (overwrite zero os f) refl
+    (over-placed zero os cs f (there_mapped (placed zero os cs) (λ ds. Some o ∷ ds) there) h.1)
 over-placed (suc n) os [] f there h = absurd there
 over-placed (suc n) os (c ∷ cs) [] there h = absurd h
-over-placed (suc n) os (None ∷ cs) (b ∷ f) there h = none_over (placed n os cs) b (overwrite n os f) (over-placed n os cs f (there_mapped (placed n os cs) (λ ds. None ∷ ds) there) h)
-over-placed (suc n) os (Some x ∷ cs) (b ∷ f) there h = some_over (placed n os cs) x b (overwrite n os f) h.0 (over-placed n os cs f (there_mapped (placed n os cs) (λ ds. Some x ∷ ds) there) h.1)
+over-placed (suc n) os (None ∷ cs) (b ∷ f) there h =
+    none_over (placed n os cs) b (overwrite n os f) (over-placed n os cs f (there_mapped (placed n os cs) (λ ds. None ∷ ds) there) h)
+over-placed (suc n) os (Some x ∷ cs) (b ∷ f) there h = some_over (placed n os cs) x b (overwrite n os f) h.0
+    (over-placed n os cs f (there_mapped (placed n os cs) (λ ds. Some x ∷ ds) there) h.1)
 
 -- so many cells
 abbrev LongAll : Option Cells → ℕ → Type 0
@@ -96,7 +100,9 @@ long-placed (suc n) os (c ∷ cs) = long_mapped (placed n os cs) c (length cs) (
 placed-within : (n : ℕ) (os : List ℕ) (cs : Cells) → IsThere (placed n os cs) → n + length os ≤ length cs
 placed-within zero [] cs there = omega arith
 placed-within zero (o ∷ os) [] there = absurd there
-placed-within zero (o ∷ os) (c ∷ cs) there = let k = placed-within zero os cs (there_mapped (placed zero os cs) (λ ds. Some o ∷ ds) there) in omega arith
+placed-within zero (o ∷ os) (c ∷ cs) there =
+    let k = placed-within zero os cs (there_mapped (placed zero os cs) (λ ds. Some o ∷ ds) there) in
+    omega arith
 placed-within (suc n) os [] there = absurd there
 placed-within (suc n) os (c ∷ cs) there = let k = placed-within n os cs (there_mapped (placed n os cs) (λ ds. c ∷ ds) there) in omega arith
 
@@ -111,7 +117,8 @@ long-put_one (Some os) off cs = long-placed off os cs
 
 long-put_all : (h : Head) (v : Val) (ps : List Put) (cs : Cells) → LongAll (put_all h v ps cs) (length cs)
 long-put_all h v [] cs = refl
-long-put_all h v (p ∷ ps) cs = long_both (put_one h v p cs) (put_all h v ps) (length cs) (long-put_one (put_octets h p v) (offset p) cs) (λ ds. long-put_all h v ps ds)
+long-put_all h v (p ∷ ps) cs =
+    long_both (put_one h v p cs) (put_all h v ps) (length cs) (long-put_one (put_octets h p v) (offset p) cs) (λ ds. long-put_all h v ps ds)
 
 -- ---- one put more
 
@@ -130,7 +137,8 @@ placed_next : (z : Option Cells) (rest : Cells → Option Cells) (goal : Option 
     → on_some z rest ≡ goal → IsThere goal → OverAll z b'.front → LongAll z (length cells) → length b'.front ≡ length b.front
     → Next rest goal cells b b'
 placed_next None rest goal cells b b' e there over long front = absurd over
-placed_next (Some ds) rest goal cells b b' e there over long front = record { cells' = ds; left = e; over = over; long = long; front = front }
+placed_next (Some ds) rest goal cells b b' e there over long front =
+    record { cells' = ds; left = e; over = over; long = long; front = front }
 
 pub put_next : (x : Option (List ℕ)) (off : ℕ) (cells : Cells) (rest : Cells → Option Cells) (goal : Option Cells) (b b' : Buf)
     → on_some (on_some x (λ os. placed off os cells)) rest ≡ goal → IsThere goal → Over cells b.front → Writes b b' off x
@@ -140,7 +148,9 @@ put_next (Some os) off cells rest goal b b' e there over w =
     let lies : IsThere (placed off os cells) = there_then (placed off os cells) rest (subst IsThere (sym e) there) in
     let fits : off + length os ≤ length b.front = omega (arith, placed-within off os cells lies, over-short cells b.front over) in
     let new : b'.front ≡ overwrite off os b.front = w.1 ∙ written-is off os b.front fits in
-    placed_next (placed off os cells) rest goal cells b b' e there (subst (OverAll (placed off os cells)) (sym new) (over-placed off os cells b.front lies over)) (long-placed off os cells) (ap length w.1 ∙ length-written off os b.front fits)
+    placed_next (placed off os cells) rest goal cells b b' e there
+    (subst (OverAll (placed off os cells)) (sym new) (over-placed off os cells b.front lies over)) (long-placed off os cells)
+    (ap length w.1 ∙ length-written off os b.front fits)
 
 -- the next put lies within
 pub put_fits : (x : Option (List ℕ)) (off : ℕ) (cells : Cells) (rest : Cells → Option Cells) (goal : Option Cells) (f : List ℕ)
@@ -157,7 +167,8 @@ full-over : (cs : Cells) (f : List ℕ) → Over cs f → IsThere (full cs) → 
 full-over [] f over there = refl
 full-over (c ∷ cs) [] over there = absurd over
 full-over (None ∷ cs) (b ∷ f) over there = absurd there
-full-over (Some x ∷ cs) (b ∷ f) over there = ap (option_map (λ os. x ∷ os)) (full-over cs f over.1 (there_mapped (full cs) (λ os. x ∷ os) there)) ∙ ap (λ y. Some (y ∷ take (length cs) f)) (sym over.0)
+full-over (Some x ∷ cs) (b ∷ f) over there = ap (option_map (λ os. x ∷ os))
+    (full-over cs f over.1 (there_mapped (full cs) (λ os. x ∷ os) there)) ∙ ap (λ y. Some (y ∷ take (length cs) f)) (sym over.0)
 
 filled_at : (z : Option Cells) (size : ℕ) (f : List ℕ) → LongAll z size → OverAll z f → IsThere (on_some z full)
     → on_some z full ≡ Some (take size f)
@@ -168,13 +179,17 @@ pub filled-over : (h : Head) (v : Val) (ps : List Put) (size : ℕ) (f : List �
     → OverAll (put_all h v ps (replicate size None)) f → IsThere (filled size ps h v)
     → filled size ps h v ≡ Some (take size f)
 filled-over h v ps size f over there =
-    filled_at (put_all h v ps (replicate size None)) size f (subst (LongAll (put_all h v ps (replicate size None))) (length-replicate size None) (long-put_all h v ps (replicate size None))) over there
+    filled_at (put_all h v ps (replicate size None)) size f
+    (subst (LongAll (put_all h v ps (replicate size None))) (length-replicate size None) (long-put_all h v ps (replicate size None))) over
+    there
 
 full-long : (cs : Cells) (os : List ℕ) → full cs ≡ Some os → length os ≡ length cs
 full-long [] os e = let s : [] ≡ os = cc in ap length (sym s)
 full-long (None ∷ cs) os e = absurd cc
 full-long (Some x ∷ cs) os e = long_full (full cs) x os (length cs) e (full-long cs) where
-  long_full : (z : Option (List ℕ)) (x : ℕ) (os : List ℕ) (k : ℕ) → option_map (λ l. x ∷ l) z ≡ Some os → ((l : List ℕ) → z ≡ Some l → length l ≡ k) → length os ≡ suc k
+  long_full : (z : Option (List ℕ)) (x : ℕ) (os : List ℕ) (k : ℕ) → option_map (λ l. x ∷ l) z ≡ Some os
+      → ((l : List ℕ) → z ≡ Some l → length l ≡ k)
+      → length os ≡ suc k
   long_full None x os k e h = absurd cc
   long_full (Some l) x os k e h = let s : x ∷ l ≡ os = cc in ap length (sym s) ∙ ap suc (h l refl)
 
@@ -184,7 +199,8 @@ filled_long (Some cs) size os long e = full-long cs os e ∙ long
 
 pub length-filled : (h : Head) (v : Val) (ps : List Put) (size : ℕ) (os : List ℕ) → filled size ps h v ≡ Some os → length os ≡ size
 length-filled h v ps size os e =
-    filled_long (put_all h v ps (replicate size None)) size os (subst (LongAll (put_all h v ps (replicate size None))) (length-replicate size None) (long-put_all h v ps (replicate size None))) e
+    filled_long (put_all h v ps (replicate size None)) size os
+    (subst (LongAll (put_all h v ps (replicate size None))) (length-replicate size None) (long-put_all h v ps (replicate size None))) e
 
 -- ---- what a loop over puts keeps
 
@@ -198,7 +214,15 @@ pub record PutsLeft (h : Head) (v : Val) (ps : List Put) (size : ℕ) (old new :
   pub spent : stored_times (length (drop i ps)) new.spent ≡ stored_times (length ps) old.spent
 
 pub puts_start : (h : Head) (v : Val) (ps : List Put) (size : ℕ) (b : Buf) → size ≤ length b.front → PutsLeft h v ps size b b 0
-puts_start h v ps size b fits = record { cells = replicate size None; left = refl; over = over-blank size b.front fits; front = refl; done = refl; tally = refl; spent = refl }
+puts_start h v ps size b fits = record {
+  cells = replicate size None;
+  left = refl;
+  over = over-blank size b.front fits;
+  front = refl;
+  done = refl;
+  tally = refl;
+  spent = refl;
+}
 
 writes_rest : (x : Option (List ℕ)) (off : ℕ) (b b' : Buf) → Writes b b' off x
     → (b'.done ≡ b.done) × (b'.tally ≡ stored b.tally) × (b'.spent ≡ stored b.spent)
@@ -217,8 +241,10 @@ pub puts_step : (h : Head) (v : Val) (ps : List Put) (size : ℕ) (old b b' : Bu
     → i < length ps → IsThere (put_all h v ps (replicate size None)) → d ≡ get_or ps i d → Writes b b' (offset d) (put_octets h d v)
     → PutsLeft h v ps size old b' (i + 1)
 puts_step h v ps size old b b' i d s lt there same w =
-    let e = ap (λ (p : Put). on_some (put_one h v p s.cells) (put_all h v (drop (i + 1) ps))) same ∙ sym (put_all-drop h v ps i d s.cells lt) ∙ s.left in
-    let n = put_next (put_octets h d v) (offset d) s.cells (put_all h v (drop (i + 1) ps)) (put_all h v ps (replicate size None)) b b' e there s.over w in
+    let e = ap (λ (p : Put). on_some (put_one h v p s.cells) (put_all h v (drop (i + 1) ps))) same
+    ∙ sym (put_all-drop h v ps i d s.cells lt) ∙ s.left in
+    let n = put_next (put_octets h d v) (offset d) s.cells (put_all h v (drop (i + 1) ps)) (put_all h v ps (replicate size None)) b b' e
+    there s.over w in
     let r = writes_rest (put_octets h d v) (offset d) b b' w in
     let more : length (drop i ps) ≡ suc (length (drop (i + 1) ps)) = omega (arith, length-drop i ps, length-drop (i + 1) ps) in
     record {
@@ -248,7 +274,19 @@ runs_filled : (z : Option (List ℕ)) (k : ℕ) (s : State) → Runs (on_some z 
     → (o : List ℕ) × (z ≡ Some o) × (length o ≤ s.ahead)
 runs_filled None k s r = absurd r
 runs_filled (Some o) k s r = (o, refl, within (nat_le (length o) s.ahead) refl r) where
-  within : (b : Bool) → nat_le (length o) s.ahead ≡ b → IsThere (on_some (if b then Some (record { done = s.done ++ o; ahead = s.ahead - length o; tally = moved (stored_times k s.tally); spent = moved (stored_times k s.spent) }) else None) (ran [])) → length o ≤ s.ahead
+  within : (b : Bool) → nat_le (length o) s.ahead ≡ b
+      → IsThere
+      (on_some
+      (if b
+      then Some
+      (record {
+        done = s.done ++ o;
+        ahead = s.ahead - length o;
+        tally = moved (stored_times k s.tally);
+        spent = moved (stored_times k s.spent);
+      })
+      else None) (ran []))
+      → length o ≤ s.ahead
   within true e r = leb-true (length o) s.ahead e
   within false e r = absurd r
 
@@ -271,7 +309,9 @@ pub stored-ends : (o : List ℕ) (k : ℕ) (b c : Buf) → length o ≤ length b
     → length c.front ≡ length b.front - length o → c.tally ≡ moved (stored_times k b.tally) → c.spent ≡ moved (stored_times k b.spent)
     → Ends (Some (Stored o k ∷ [])) (state_of b) (state_of c)
 stored-ends o k b c fits d f t u =
-    appended_at (nat_le (length o) (length b.front)) (state (b.done ++ o) (length b.front - length o) (moved (stored_times k b.tally)) (moved (stored_times k b.spent))) (state_of c) (le-leb (length o) (length b.front) fits) (state_same _ _ _ _ _ _ _ _ (sym d) (sym f) (sym t) (sym u))
+    appended_at (nat_le (length o) (length b.front))
+    (state (b.done ++ o) (length b.front - length o) (moved (stored_times k b.tally)) (moved (stored_times k b.spent))) (state_of c)
+    (le-leb (length o) (length b.front) fits) (state_same _ _ _ _ _ _ _ _ (sym d) (sym f) (sym t) (sym u))
 
 pub chunk-ends : (h : Head) (v : Val) (ps : List Put) (size : ℕ) (b c d : Buf) → Runs (chunk_steps size ps h v) (state_of b)
     → OverAll (put_all h v ps (replicate size None)) c.front → length c.front ≡ length b.front → c.done ≡ b.done
@@ -284,4 +324,5 @@ chunk-ends h v ps size b c d r over front done tally spent done' front' tally' s
     let room : size ≤ length c.front = omega (arith, k.2) in
     let long : length (take size c.front) ≡ size = length-take-le size c.front room in
     subst (λ (z : Option (List ℕ)). Ends (on_some z (λ o. Some (Stored o (length ps) ∷ []))) (state_of b) (state_of d)) (sym e)
-    (stored-ends (take size c.front) (length ps) b d (omega arith) (done' ∙ ap (λ (l : List ℕ). l ++ take size c.front) done) (omega (arith, ap length front', length-drop size c.front)) (tally' ∙ ap moved tally) (spent' ∙ ap moved spent))
+    (stored-ends (take size c.front) (length ps) b d (omega arith) (done' ∙ ap (λ (l : List ℕ). l ++ take size c.front) done)
+    (omega (arith, ap length front', length-drop size c.front)) (tally' ∙ ap moved tally) (spent' ∙ ap moved spent))

@@ -44,4 +44,5 @@ pub op-runs : (c : Calls) (h : Head) (o : SendOp) (r : Block) (v : Val) (s : Sta
     → Runs (steps c h (op_seen o stop) v) s
 op-runs c h o r v s runs =
     first-runs (steps c h (op_seen o stop) v) (steps c h r v) s
-    (subst (λ (b : Steps). Runs b s) (ap (λ (b : Block). steps c h b v) (sym (op-append o stop r)) ∙ steps-append c h (op_seen o stop) r v) runs)
+    (subst (λ (b : Steps). Runs b s) (ap (λ (b : Block). steps c h b v) (sym (op-append o stop r)) ∙ steps-append c h (op_seen o stop) r v)
+    runs)

@@ -48,7 +48,8 @@ kept_grows s t u d e =
 
 act-grows : (x : Step) (s u : State) → act x s ≡ Some u → length s.done ≤ length u.done
 act-grows (Room n) s u e = kept_grows s _ u refl e
-act-grows (Pad a) s u e = appended_grows (nat_le (length (replicate (gap (length s.done) a) 0)) s.ahead) (replicate (gap (length s.done) a) 0) s _ u refl e
+act-grows (Pad a) s u e =
+    appended_grows (nat_le (length (replicate (gap (length s.done) a) 0)) s.ahead) (replicate (gap (length s.done) a) 0) s _ u refl e
 act-grows (Stored o k) s u e = appended_grows (nat_le (length o) s.ahead) o s _ u refl e
 act-grows (Widened o k) s u e = appended_grows (nat_le (length o) s.ahead) o s _ u refl e
 act-grows (Copied o) s u e = appended_grows (nat_le (length o) s.ahead) o s _ u refl e
@@ -90,7 +91,8 @@ pub left-grown : (all left : Steps) (s t : State) → Left all left s t → Grow
 left-grown all left s t l = record { grows = λ (u : State) e. ended-grows left t u (sym l.same ∙ e); spent = l.spent }
 
 pub grown-behind : (all left : Steps) (s t u : State) → Left all left s t → Grown left t u → Grown all s u
-grown-behind all left s t u l g = record { grows = λ (w : State) e. g.grows w (sym l.same ∙ e); spent = none_fell-trans s.spent t.spent u.spent l.spent g.spent }
+grown-behind all left s t u l g =
+    record { grows = λ (w : State) e. g.grows w (sym l.same ∙ e); spent = none_fell-trans s.spent t.spent u.spent l.spent g.spent }
 
 -- ---- where a loop is broken off
 
@@ -110,14 +112,16 @@ pub block_broken : (c : Calls) (h : Head) (v : Val) (ops : List SendOp) (i : ℕ
     → Left (code_steps c h ops v) (code_steps c h (drop i ops) v) s t → i < length ops → d ≡ get_or ops i d
     → ((r : Block) → ended (steps c h (op_seen d r) v) t ≡ ended (steps c h r v) u)
     → Grown (code_steps c h ops v) s u
-block_broken c h v ops i d s t u left lt same e = left-grown (code_steps c h ops v) (code_steps c h (drop (i + 1) ops) v) s u (block_step c h v ops i d s t u left lt same e)
+block_broken c h v ops i d s t u left lt same e =
+    left-grown (code_steps c h ops v) (code_steps c h (drop (i + 1) ops) v) s u (block_step c h v ops i d s t u left lt same e)
 
 pub items_grown : (f : Val → Steps) (vs : List Value) (i : ℕ) (d : Value) (s t u : State)
     → Left (over f (all_seen vs)) (over f (all_seen (drop i vs))) s t → i < length vs → d ≡ get_or vs i d → Grown (f (seen d)) t u
     → Grown (over f (all_seen vs)) s u
 items_grown f vs i d s t u left lt same g =
     let rest = over f (all_seen (drop (i + 1) vs)) in
-    let whole : over f (all_seen (drop i vs)) ≡ both (f (seen d)) rest = over-drop f vs i d lt ∙ ap (λ (o : Value). both (f (seen o)) rest) (sym same) in
+    let whole : over f (all_seen (drop i vs)) ≡ both (f (seen d)) rest =
+    over-drop f vs i d lt ∙ ap (λ (o : Value). both (f (seen o)) rest) (sym same) in
     grown-behind (over f (all_seen vs)) (over f (all_seen (drop i vs))) s t u left
     (subst (λ (x : Steps). Grown x t u) (sym whole) (first-grown (f (seen d)) rest t u g))
 
@@ -152,7 +156,8 @@ pub switch_grown : (c : Calls) (h : Head) (v : Val) (o : SendOp) (path : List �
     (other : Option (List SendOp)) (s t : State)
     → o ≡ op.Switch path cases other → Grown (switch_steps c h path cases other v) s t
     → Grown (steps c h (op_seen o stop) v) s t
-switch_grown c h v o path cases other s t is g = piece_grown c h v o _ (switch_steps c h path cases other v) s t (ap op_seen is ∙ seen-Switch path cases other) refl g
+switch_grown c h v o path cases other s t is g =
+    piece_grown c h v o _ (switch_steps c h path cases other v) s t (ap op_seen is ∙ seen-Switch path cases other) refl g
 
 pub call_grown : (c : Calls) (h : Head) (v : Val) (o : SendOp) (k : ℕ) (path : List ℕ) (s t : State)
     → o ≡ op.Call k path → Grown (call_steps c k path v) s t

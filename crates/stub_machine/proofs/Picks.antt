@@ -53,7 +53,8 @@ hit cases n i d passed lt same found = (
 )
 
 pub passed_all : (cases : List (ℤ × List SendOp)) (n : ℤ) (i : ℕ) → Passed cases n i → length cases ≤ i → PickedAt cases n None
-passed_all cases n i passed past c h o w = passed c h o w ∙ ap (λ (l : List (ℤ × List SendOp)). case_steps c h (cases_seen l o) n w) (drop_all i cases past)
+passed_all cases n i passed past c h o w =
+    passed c h o w ∙ ap (λ (l : List (ℤ × List SendOp)). case_steps c h (cases_seen l o) n w) (drop_all i cases past)
 
 -- ---- a switch is the body that is picked
 
@@ -61,21 +62,24 @@ pub picked_steps : (c : Calls) (h : Head) (v : Val) (path : List ℕ) (cases : L
     (other : Option (List SendOp)) (n : ℤ) (w : Val) (i : ℕ) (d : ℤ × List SendOp)
     → on_some (at path v) arm_in ≡ Some (n, w) → PickedAt cases n (Some i) → slice_get cases i ≡ Some d
     → switch_steps c h path cases other v ≡ code_steps c h d.1 w
-picked_steps c h v path cases other n w i d e picked is = ap (λ (o : Option (ℤ × Val)). on_some o (λ a. case_steps c h (cases_seen cases other) a.0 a.1)) e ∙ picked.1 c h other w d is
+picked_steps c h v path cases other n w i d e picked is =
+    ap (λ (o : Option (ℤ × Val)). on_some o (λ a. case_steps c h (cases_seen cases other) a.0 a.1)) e ∙ picked.1 c h other w d is
 
 pub default_steps : (c : Calls) (h : Head) (v : Val) (path : List ℕ) (cases : List (ℤ × List SendOp))
     (other : Option (List SendOp)) (n : ℤ) (w : Val) (body : List SendOp)
     → on_some (at path v) arm_in ≡ Some (n, w) → PickedAt cases n None → other ≡ Some body
     → switch_steps c h path cases other v ≡ code_steps c h body w
 default_steps c h v path cases other n w body e picked is =
-    ap (λ (o : Option (ℤ × Val)). on_some o (λ a. case_steps c h (cases_seen cases other) a.0 a.1)) e ∙ picked c h other w ∙ ap (λ (o : Option (List SendOp)). case_steps c h (cases_seen [] o) n w) is
+    ap (λ (o : Option (ℤ × Val)). on_some o (λ a. case_steps c h (cases_seen cases other) a.0 a.1)) e ∙ picked c h other w
+    ∙ ap (λ (o : Option (List SendOp)). case_steps c h (cases_seen [] o) n w) is
 
 pub nothing_steps : (c : Calls) (h : Head) (v : Val) (path : List ℕ) (cases : List (ℤ × List SendOp))
     (other : Option (List SendOp)) (n : ℤ) (w : Val)
     → on_some (at path v) arm_in ≡ Some (n, w) → PickedAt cases n None → other ≡ None
     → switch_steps c h path cases other v ≡ None
 nothing_steps c h v path cases other n w e picked is =
-    ap (λ (o : Option (ℤ × Val)). on_some o (λ a. case_steps c h (cases_seen cases other) a.0 a.1)) e ∙ picked c h other w ∙ ap (λ (o : Option (List SendOp)). case_steps c h (cases_seen [] o) n w) is
+    ap (λ (o : Option (ℤ × Val)). on_some o (λ a. case_steps c h (cases_seen cases other) a.0 a.1)) e ∙ picked c h other w
+    ∙ ap (λ (o : Option (List SendOp)). case_steps c h (cases_seen [] o) n w) is
 
 got : (cases : List (ℤ × List SendOp)) (i : ℕ) (d : ℤ × List SendOp) → i < length cases → slice_get cases i ≡ Some (get_or cases i d)
 got [] i d h = absurd (omega arith)
@@ -87,7 +91,8 @@ pub picked_body : (c : Calls) (h : Head) (v : Val) (path : List ℕ) (cases l : 
     → Some (n, w) ≡ on_some (at path v) arm_in → PickedAt cases n (Some i) → l ≡ cases
     → switch_steps c h path cases other v ≡ code_steps c h (get_or l i d).1 w
 picked_body c h v path cases l other n w i d e picked same =
-    picked_steps c h v path cases other n w i (get_or cases i d) (sym e) picked (got cases i d picked.0) ∙ ap (λ (x : List (ℤ × List SendOp)). code_steps c h (get_or x i d).1 w) (sym same)
+    picked_steps c h v path cases other n w i (get_or cases i d) (sym e) picked (got cases i d picked.0)
+    ∙ ap (λ (x : List (ℤ × List SendOp)). code_steps c h (get_or x i d).1 w) (sym same)
 
 pub ok_map : {A E : Type 0} (r : Result A E) (P Q : Type 0) → (P → Q) → OnOk r P → OnOk r Q
 ok_map (Ok x) P Q f h = f h

@@ -80,7 +80,8 @@ room_append : (d o os : List ℕ) (a : ℕ) (t u : Tally) (cost : Tally → Tall
 room_append d o os a t u cost ss fits go room =
     let far : length d + length o + length os ≡ length d + length (o ++ os) = omega (arith, length-append o os) in
     there_if (nat_le (length os) a) (state (d ++ o ++ os) (a - length os) (cost t) (cost u)) ss (le-leb (length os) a fits)
-    (subst (λ (x : List ℕ). IsThere (ran ss (state x (a - length os) (cost t) (cost u)))) (sym (append_assoc d o os)) (go (subst (λ (k : ℕ). HasRoom k (a - length os) ss) far room)))
+    (subst (λ (x : List ℕ). IsThere (ran ss (state x (a - length os) (cost t) (cost u)))) (sym (append_assoc d o os))
+    (go (subst (λ (k : ℕ). HasRoom k (a - length os) ss) far room)))
 
 room_patch : (d o : List ℕ) (a : ℕ) (t u : Tally) (at sub : ℕ) (order : Order) (ss : List Step) → length d ≤ at
     → at + 4 ≤ length d + length o
@@ -88,7 +89,8 @@ room_patch : (d o : List ℕ) (a : ℕ) (t u : Tally) (at sub : ℕ) (order : Or
     → HasRoom (length d + length o) a ss
     → IsThere (on_some (if nat_le (at + 4) (length (d ++ o)) then Some (state (put_over at sub order (d ++ o)) a t u) else None) (ran ss))
 room_patch d o a t u at sub order ss low high go room =
-    there_if (nat_le (at + 4) (length (d ++ o))) (state (put_over at sub order (d ++ o)) a t u) ss (le-leb (at + 4) (length (d ++ o)) (omega (arith, length-append d o)))
+    there_if (nat_le (at + 4) (length (d ++ o))) (state (put_over at sub order (d ++ o)) a t u) ss
+    (le-leb (at + 4) (length (d ++ o)) (omega (arith, length-append d o)))
     (subst (λ (x : List ℕ). IsThere (ran ss (state x a t u))) (sym (put-same d o at sub order low))
     (go (subst (λ (k : ℕ). HasRoom (length d + k) a ss) (sym (put-long d o at sub order low high)) room)))
 
@@ -99,17 +101,23 @@ room-runs d o a t u (Room n ∷ ss) w h = room-runs d o (max n a) (checked t) (c
 room-runs d o a t u (Pad x ∷ ss) w h =
     let os = replicate (gap (length d + length o) x) 0 in
     let n : length os ≡ gap (length d + length o) x = length-replicate (gap (length d + length o) x) 0 in
-    let room : HasRoom (length d + length o + length os) (a - length os) ss = subst (λ (k : ℕ). HasRoom (length d + length o + k) (a - k) ss) (sym n) h.1 in
+    let room : HasRoom (length d + length o + length os) (a - length os) ss =
+    subst (λ (k : ℕ). HasRoom (length d + length o + k) (a - k) ss) (sym n) h.1 in
     subst (λ (k : ℕ). IsThere (on_some (appended (replicate (gap k x) 0) moved (state (d ++ o) a t u)) (ran ss))) (sym (length-append d o))
     (room_append d o os a t u moved ss (omega (arith, h.0)) (λ r. room-runs d (o ++ os) (a - length os) (moved t) (moved u) ss w r) room)
 room-runs d o a t u (Stored os k ∷ ss) w h =
-    room_append d o os a t u (λ z. moved (stored_times k z)) ss h.0 (λ r. room-runs d (o ++ os) (a - length os) (moved (stored_times k t)) (moved (stored_times k u)) ss w r) h.1
+    room_append d o os a t u (λ z. moved (stored_times k z)) ss h.0
+    (λ r. room-runs d (o ++ os) (a - length os) (moved (stored_times k t)) (moved (stored_times k u)) ss w r) h.1
 room-runs d o a t u (Widened os k ∷ ss) w h =
-    room_append d o os a t u (λ z. moved (stored_times k z)) ss h.0 (λ r. room-runs d (o ++ os) (a - length os) (moved (stored_times k t)) (moved (stored_times k u)) ss w r) h.1
-room-runs d o a t u (Copied os ∷ ss) w h = room_append d o os a t u rowed ss h.0 (λ r. room-runs d (o ++ os) (a - length os) (rowed t) (rowed u) ss w r) h.1
+    room_append d o os a t u (λ z. moved (stored_times k z)) ss h.0
+    (λ r. room-runs d (o ++ os) (a - length os) (moved (stored_times k t)) (moved (stored_times k u)) ss w r) h.1
+room-runs d o a t u (Copied os ∷ ss) w h =
+    room_append d o os a t u rowed ss h.0 (λ r. room-runs d (o ++ os) (a - length os) (rowed t) (rowed u) ss w r) h.1
 room-runs d o a t u (Patched at sub order ∷ ss) w h =
-    let p = within (nat_le (length d) at) (nat_le (at + 4) (length d + length o)) (put_behind d at sub order o) (λ z. wrote (length d) z ss) w in
-    room_patch d o a (stored t) (stored u) at sub order ss (leb-true (length d) at p.first) (leb-true (at + 4) (length d + length o) p.second)
+    let p = within (nat_le (length d) at) (nat_le (at + 4) (length d + length o)) (put_behind d at sub order o) (λ z. wrote (length d) z ss)
+    w in
+    room_patch d o a (stored t) (stored u) at sub order ss (leb-true (length d) at p.first)
+    (leb-true (at + 4) (length d + length o) p.second)
     (λ r. room-runs d (put_behind d at sub order o) a (stored t) (stored u) ss p.rest r) h
 
 -- ---- what counts become
@@ -124,10 +132,12 @@ same_tally : (a a' b b' c c' d d' : ℕ) → a ≡ a' → b ≡ b' → c ≡ c' 
 same_tally a a' b b' c c' d d' p q r s = rw (p, q, r, s) refl
 
 paid-none : (t : Tally) → t ≡ paid t no_cost
-paid-none t = same_tally _ _ _ _ _ _ _ _ (sym (raised-zero t.checks)) (sym (raised-zero t.moves)) (sym (raised-zero t.stores)) (sym (raised-zero t.rows))
+paid-none t = same_tally _ _ _ _ _ _ _ _ (sym (raised-zero t.checks)) (sym (raised-zero t.moves)) (sym (raised-zero t.stores))
+    (sym (raised-zero t.rows))
 
 paid-sum : (t : Tally) (a b : Cost) → paid (paid t a) b ≡ paid t (sum a b)
-paid-sum t a b = same_tally _ _ _ _ _ _ _ _ (raised-sum t.checks a.checks b.checks) (raised-sum t.moves a.moves b.moves) (raised-sum t.stores a.stores b.stores) (raised-sum t.rows a.rows b.rows)
+paid-sum t a b = same_tally _ _ _ _ _ _ _ _ (raised-sum t.checks a.checks b.checks) (raised-sum t.moves a.moves b.moves)
+    (raised-sum t.stores a.stores b.stores) (raised-sum t.rows a.rows b.rows)
 
 checked-paid : (t : Tally) (n : ℕ) → checked t ≡ paid t (cost_of (Room n))
 checked-paid t n = same_tally _ _ _ _ _ _ _ _ refl (sym (raised-zero t.moves)) (sym (raised-zero t.stores)) (sym (raised-zero t.rows))
@@ -136,7 +146,8 @@ moved-paid : (t : Tally) (n : ℕ) → moved t ≡ paid t (cost_of (Pad n))
 moved-paid t n = same_tally _ _ _ _ _ _ _ _ (sym (raised-zero t.checks)) refl (sym (raised-zero t.stores)) (sym (raised-zero t.rows))
 
 patched-paid : (t : Tally) (at sub : ℕ) (order : Order) → stored t ≡ paid t (cost_of (Patched at sub order))
-patched-paid t at sub order = same_tally _ _ _ _ _ _ _ _ (sym (raised-zero t.checks)) (sym (raised-zero t.moves)) refl (sym (raised-zero t.rows))
+patched-paid t at sub order =
+    same_tally _ _ _ _ _ _ _ _ (sym (raised-zero t.checks)) (sym (raised-zero t.moves)) refl (sym (raised-zero t.rows))
 
 abbrev puts_more : ℕ → Tally → Tally
 puts_more k t = tally t.checks t.moves (raised t.stores k) t.rows
@@ -148,7 +159,8 @@ times-raised (suc k) t =
     times-raised k (stored t) ∙ same_tally _ _ _ _ _ _ _ _ refl refl one refl
 
 stored-paid : (t : Tally) (os : List ℕ) (k : ℕ) → moved (stored_times k t) ≡ paid t (cost_of (Stored os k))
-stored-paid t os k = ap moved (times-raised k t) ∙ same_tally _ _ _ _ _ _ _ _ (sym (raised-zero t.checks)) refl refl (sym (raised-zero t.rows))
+stored-paid t os k =
+    ap moved (times-raised k t) ∙ same_tally _ _ _ _ _ _ _ _ (sym (raised-zero t.checks)) refl refl (sym (raised-zero t.rows))
 
 widened-paid : (t : Tally) (os : List ℕ) (k : ℕ) → moved (stored_times k t) ≡ paid t (cost_of (Widened os k))
 widened-paid t os k = stored-paid t os k
@@ -170,7 +182,8 @@ paid_first t t' x ss z e p = e ∙ ap (λ (y : Tally). paid y (costs ss)) p ∙ 
 with_first : (d w : List ℕ) (x : Step) (ss : List Step) (t t' u u' : Tally) (s : State) → t' ≡ paid t (cost_of x)
     → u' ≡ paid u (cost_of x) → LeadsTo d w ss t' u' s
     → LeadsTo d w (x ∷ ss) t u s
-with_first d w x ss t t' u u' s p q l = record { done = l.done; tally = paid_first t t' x ss s.tally l.tally p; spent = paid_first u u' x ss s.spent l.spent q }
+with_first d w x ss t t' u u' s p q l =
+    record { done = l.done; tally = paid_first t t' x ss s.tally l.tally p; spent = paid_first u u' x ss s.spent l.spent q }
 
 past_if : (b : Bool) (x : State) (ss : List Step) (s : State) → on_some (if b then Some x else None) (ran ss) ≡ Some s → ran ss x ≡ Some s
 past_if true x ss s e = e
@@ -195,9 +208,14 @@ pub ran-leads : (d o w : List ℕ) (a : ℕ) (t u : Tally) (ss : List Step) (s :
 ran-leads d o w a t u [] s is e =
     let end : state (d ++ o) a t u ≡ s = cc in
     let same : o ≡ w = cc in
-    record { done = ap (λ (x : State). x.done) (sym end) ∙ ap (λ (x : List ℕ). d ++ x) same; tally = ap (λ (x : State). x.tally) (sym end) ∙ paid-none t; spent = ap (λ (x : State). x.spent) (sym end) ∙ paid-none u }
+    record {
+      done = ap (λ (x : State). x.done) (sym end) ∙ ap (λ (x : List ℕ). d ++ x) same;
+      tally = ap (λ (x : State). x.tally) (sym end) ∙ paid-none t;
+      spent = ap (λ (x : State). x.spent) (sym end) ∙ paid-none u;
+    }
 ran-leads d o w a t u (Room n ∷ ss) s is e =
-    with_first d w (Room n) ss t (checked t) u (checked u) s (checked-paid t n) (checked-paid u n) (ran-leads d o w (max n a) (checked t) (checked u) ss s is e)
+    with_first d w (Room n) ss t (checked t) u (checked u) s (checked-paid t n) (checked-paid u n)
+    (ran-leads d o w (max n a) (checked t) (checked u) ss s is e)
 ran-leads d o w a t u (Pad x ∷ ss) s is e =
     let os = replicate (gap (length d + length o) x) 0 in
     let e' : on_some (appended os moved (state (d ++ o) a t u)) (ran ss) ≡ Some s =
@@ -206,15 +224,18 @@ ran-leads d o w a t u (Pad x ∷ ss) s is e =
     (ran-leads d (o ++ os) w (a - length os) (moved t) (moved u) ss s is (past_append d o os a t u moved ss s e'))
 ran-leads d o w a t u (Stored os k ∷ ss) s is e =
     with_first d w (Stored os k) ss t (moved (stored_times k t)) u (moved (stored_times k u)) s (stored-paid t os k) (stored-paid u os k)
-    (ran-leads d (o ++ os) w (a - length os) (moved (stored_times k t)) (moved (stored_times k u)) ss s is (past_append d o os a t u (λ z. moved (stored_times k z)) ss s e))
+    (ran-leads d (o ++ os) w (a - length os) (moved (stored_times k t)) (moved (stored_times k u)) ss s is
+    (past_append d o os a t u (λ z. moved (stored_times k z)) ss s e))
 ran-leads d o w a t u (Widened os k ∷ ss) s is e =
     with_first d w (Widened os k) ss t (moved (stored_times k t)) u (moved (stored_times k u)) s (widened-paid t os k) (widened-paid u os k)
-    (ran-leads d (o ++ os) w (a - length os) (moved (stored_times k t)) (moved (stored_times k u)) ss s is (past_append d o os a t u (λ z. moved (stored_times k z)) ss s e))
+    (ran-leads d (o ++ os) w (a - length os) (moved (stored_times k t)) (moved (stored_times k u)) ss s is
+    (past_append d o os a t u (λ z. moved (stored_times k z)) ss s e))
 ran-leads d o w a t u (Copied os ∷ ss) s is e =
     with_first d w (Copied os) ss t (rowed t) u (rowed u) s (copied-paid t os) (copied-paid u os)
     (ran-leads d (o ++ os) w (a - length os) (rowed t) (rowed u) ss s is (past_append d o os a t u rowed ss s e))
 ran-leads d o w a t u (Patched at sub order ∷ ss) s is e =
-    let k = of_wrote (nat_le (length d) at) (nat_le (at + 4) (length d + length o)) (put_behind d at sub order o) w (λ z. wrote (length d) z ss) is in
+    let k = of_wrote (nat_le (length d) at) (nat_le (at + 4) (length d + length o)) (put_behind d at sub order o) w
+    (λ z. wrote (length d) z ss) is in
     let e' : ran ss (state (put_over at sub order (d ++ o)) a (stored t) (stored u)) ≡ Some s =
     past_if (nat_le (at + 4) (length (d ++ o))) (state (put_over at sub order (d ++ o)) a (stored t) (stored u)) ss s e in
     with_first d w (Patched at sub order) ss t (stored t) u (stored u) s (patched-paid t at sub order) (patched-paid u at sub order)

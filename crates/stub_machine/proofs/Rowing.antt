@@ -44,18 +44,22 @@ appended_ends : (o : List ℕ) (cost : Tally → Tally) (b c : Buf) → length o
     → on_some (appended o cost (state_of b)) (ran []) ≡ Some (state_of c)
 appended_ends o cost b c fits d f t u =
     let left : length c.front ≡ length b.front - length o = ap length f ∙ length-drop (length o) b.front in
-    ends_if (nat_le (length o) (length b.front)) (state (b.done ++ o) (length b.front - length o) (cost b.tally) (cost b.spent)) (state_of c) (le-leb (length o) (length b.front) fits) (state_same _ _ _ _ _ _ _ _ (sym d) (sym left) (sym t) (sym u))
+    ends_if (nat_le (length o) (length b.front)) (state (b.done ++ o) (length b.front - length o) (cost b.tally) (cost b.spent))
+    (state_of c) (le-leb (length o) (length b.front) fits) (state_same _ _ _ _ _ _ _ _ (sym d) (sym left) (sym t) (sym u))
 
 -- ---- a row as it is, or with each number's octets reversed
 
 module _ (f : Kind × List ℤ → List ℕ) (z : Option (Kind × List ℤ)) (k : Kind) (ns : List ℤ) (is : Some (k, ns) ≡ z) where
   pub copied_fits : (s : State) → Runs (on_some z (λ r. Some (Copied (f r) ∷ []))) s → length (f (k, ns)) ≤ s.ahead
-  copied_fits s r = appended_room (f (k, ns)) rowed s (subst (λ (y : Option (Kind × List ℤ)). Runs (on_some y (λ r. Some (Copied (f r) ∷ []))) s) (sym is) r)
+  copied_fits s r = appended_room (f (k, ns)) rowed s
+      (subst (λ (y : Option (Kind × List ℤ)). Runs (on_some y (λ r. Some (Copied (f r) ∷ []))) s) (sym is) r)
 
   pub copied_ends : (b c : Buf) → length (f (k, ns)) ≤ length b.front → c.done ≡ b.done ++ f (k, ns)
       → c.front ≡ drop (length (f (k, ns))) b.front → c.tally ≡ rowed b.tally → c.spent ≡ rowed b.spent
       → Ends (on_some z (λ r. Some (Copied (f r) ∷ []))) (state_of b) (state_of c)
-  copied_ends b c fits d fr t u = subst (λ (y : Option (Kind × List ℤ)). Ends (on_some y (λ r. Some (Copied (f r) ∷ []))) (state_of b) (state_of c)) is (appended_ends (f (k, ns)) rowed b c fits d fr t u)
+  copied_ends b c fits d fr t u = subst
+      (λ (y : Option (Kind × List ℤ)). Ends (on_some y (λ r. Some (Copied (f r) ∷ []))) (state_of b) (state_of c)) is
+      (appended_ends (f (k, ns)) rowed b c fits d fr t u)
 
 one_octet : (o : List ℕ) → length o ≡ 1 → reverse o ≡ o
 one_octet [] e = absurd (omega arith)
@@ -75,7 +79,8 @@ image_turned k (n ∷ ns) is = image_swapped k n ns is ∙ ap (λ (o : List ℕ)
 reversed_long : (k : Kind) (ns : List ℤ) → length (swapped k ns) ≡ length (image_of k ns)
 reversed_long k [] = refl
 reversed_long k (n ∷ ns) =
-    length-append (reverse (octets_of k n)) (swapped k ns) ∙ omega (arith, length-append (octets_of k n) (image_of k ns), length-reverse (octets_of k n), reversed_long k ns)
+    length-append (reverse (octets_of k n)) (swapped k ns)
+    ∙ omega (arith, length-append (octets_of k n) (image_of k ns), length-reverse (octets_of k n), reversed_long k ns)
 
 pub turned_width : (k : Kind) (w : ℕ) → w ≡ width k → w ≢ 1 → kit.IsSwapWidth (width k)
 turned_width k w is other = swap_width k (λ e. other (is ∙ e))
@@ -112,7 +117,8 @@ pub wide_is : (o : Order) (ns : List ℤ) → IsThere (wide o ns) → wide o ns 
 wide_is o [] h = refl
 wide_is o (n ∷ ns) h =
     let two = both_there (word 4 o n) (wide o ns) h in
-    both_given (word 4 o n) (wide o ns) h ∙ ap (λ (l : List ℕ). Some (given (word 4 o n) ++ l)) (given_some (wide o ns) (words_of o ns) (wide_is o ns two.1))
+    both_given (word 4 o n) (wide o ns) h
+    ∙ ap (λ (l : List ℕ). Some (given (word 4 o n) ++ l)) (given_some (wide o ns) (words_of o ns) (wide_is o ns two.1))
 
 pub word_there : (o : Order) (ns : List ℤ) (i : ℕ) → IsThere (wide o ns) → i < length ns → IsThere (word 4 o (get_or ns i (pos 0)))
 word_there o [] i h lt = absurd (omega arith)
@@ -136,18 +142,21 @@ pub words_long : (o : Order) (ns : List ℤ) → IsThere (wide o ns) → length 
 words_long o [] h = refl
 words_long o (n ∷ ns) h =
     let two = both_there (word 4 o n) (wide o ns) h in
-    length-append (given (word 4 o n)) (words_of o ns) ∙ omega (arith, octets_given (word 4 o n), word_four o n two.0, words_long o ns two.1)
+    length-append (given (word 4 o n)) (words_of o ns)
+    ∙ omega (arith, octets_given (word 4 o n), word_four o n two.0, words_long o ns two.1)
 
 words-append : (o : Order) (ns : List ℤ) (n : ℤ) → words_of o (ns ++ n ∷ []) ≡ words_of o ns ++ given (word 4 o n)
 words-append o [] n = append-nil (given (word 4 o n))
-words-append o (m ∷ ns) n = ap (λ (l : List ℕ). given (word 4 o m) ++ l) (words-append o ns n) ∙ sym (append_assoc (given (word 4 o m)) (words_of o ns) (given (word 4 o n)))
+words-append o (m ∷ ns) n = ap (λ (l : List ℕ). given (word 4 o m) ++ l) (words-append o ns n)
+    ∙ sym (append_assoc (given (word 4 o m)) (words_of o ns) (given (word 4 o n)))
 
 taken_long : (o : Order) (ns : List ℤ) (i : ℕ) → IsThere (wide o ns) → i ≤ length ns → length (words_of o (take i ns)) ≡ 4 * i
 taken_long o ns zero h le = refl
 taken_long o [] (suc i) h le = absurd (omega arith)
 taken_long o (n ∷ ns) (suc i) h le =
     let two = both_there (word 4 o n) (wide o ns) h in
-    length-append (given (word 4 o n)) (words_of o (take i ns)) ∙ omega (arith, octets_given (word 4 o n), word_four o n two.0, taken_long o ns i two.1 (omega arith))
+    length-append (given (word 4 o n)) (words_of o (take i ns))
+    ∙ omega (arith, octets_given (word 4 o n), word_four o n two.0, taken_long o ns i two.1 (omega arith))
 
 times_more : (k : ℕ) (t : Tally) → stored (stored_times k t) ≡ stored_times (suc k) t
 times_more zero t = refl
@@ -172,8 +181,18 @@ pub wide_fits : (o : Order) (ns : List ℤ) (old b : Buf) (i : ℕ) (n : ℤ) �
     → 4 * length ns ≤ length old.front → i < length ns → n ≡ get_or ns i (pos 0)
     → IsThere (word 4 o n) × (4 * i + octets_in (word 4 o n) ≤ length b.front)
 wide_fits o ns old b i n l there fits lt same =
-    let at : IsThere (word 4 o n) = subst (λ (m : ℤ). IsThere (word 4 o m)) (sym same) (word_there o ns i there lt) in
-    (at, omega (arith, ap length l.front, length-append (words_of o (take i ns)) (drop (4 * i) old.front), taken_long o ns i there (omega arith), length-drop (4 * i) old.front, word_four o n at, fits))
+    let at : IsThere (word 4 o n) = subst (λ (m : ℤ). IsThere (word 4 o m)) (sym same) (word_there o ns i there lt) in (
+      at,
+      omega (
+        arith,
+        ap length l.front,
+        length-append (words_of o (take i ns)) (drop (4 * i) old.front),
+        taken_long o ns i there (omega arith),
+        length-drop (4 * i) old.front,
+        word_four o n at,
+        fits,
+      ),
+    )
 
 writes_given : (x : Option (List ℕ)) (off : ℕ) (b c : Buf) → Writes b c off x
     → (c.done ≡ b.done) × (c.front ≡ written b.front off (given x)) × (c.tally ≡ stored b.tally) × (c.spent ≡ stored b.spent)
@@ -192,7 +211,8 @@ wide_step o ns old b c i n l there fits lt same w =
     let four : length x ≡ 4 = sym (octets_given (word 4 o n)) ∙ word_four o n at in
     let long : length a ≡ 4 * i = taken_long o ns i there (omega arith) in
     let next : i + 1 ≡ suc i = omega arith in
-    let one : take (i + 1) ns ≡ take i ns ++ n ∷ [] = ap (λ (k : ℕ). take k ns) next ∙ take-suc ns i (pos 0) lt ∙ ap (λ (m : ℤ). take i ns ++ m ∷ []) (sym same) in
+    let one : take (i + 1) ns ≡ take i ns ++ n ∷ [] =
+    ap (λ (k : ℕ). take k ns) next ∙ take-suc ns i (pos 0) lt ∙ ap (λ (m : ℤ). take i ns ++ m ∷ []) (sym same) in
     let far : 4 * i + 4 ≡ 4 * (i + 1) = omega arith in
     let front : written (a ++ rest) (4 * i) x ≡ words_of o (take (i + 1) ns) ++ drop (4 * (i + 1)) old.front =
     append_assoc (take (4 * i) (a ++ rest)) x (drop (4 * i + length x) (a ++ rest))
@@ -211,7 +231,8 @@ pub wide_end : (o : Order) (ns : List ℤ) (old new : Buf) (i : ℕ) → WideLef
     → option_map (λ os. os ++ drop (4 * length ns) old.front) (wide o ns) ≡ Some new.front
 wide_end o ns old new i l there end =
     ap (option_map (λ (os : List ℕ). os ++ drop (4 * length ns) old.front)) (wide_is o ns there)
-    ∙ ap Some (sym (l.front ∙ ap (λ (k : ℕ). words_of o (take k ns) ++ drop (4 * k) old.front) end ∙ ap (λ (xs : List ℤ). words_of o xs ++ drop (4 * length ns) old.front) (take_all (length ns) ns (omega arith))))
+    ∙ ap Some (sym (l.front ∙ ap (λ (k : ℕ). words_of o (take k ns) ++ drop (4 * k) old.front) end
+    ∙ ap (λ (xs : List ℤ). words_of o xs ++ drop (4 * length ns) old.front) (take_all (length ns) ns (omega arith))))
 
 given_put : (x : Option (List ℕ)) (rest f : List ℕ) → option_map (λ os. os ++ rest) x ≡ Some f → f ≡ given x ++ rest
 given_put None rest f e = absurd cc
@@ -220,12 +241,14 @@ given_put (Some os) rest f e = let same : os ++ rest ≡ f = cc in sym same
 pub wide_put : (o : Order) (ns : List ℤ) (f g : List ℕ) → IsThere (wide o ns)
     → option_map (λ os. os ++ drop (4 * length ns) f) (wide o ns) ≡ Some g
     → g ≡ words_of o ns ++ drop (4 * length ns) f
-wide_put o ns f g there e = given_put (wide o ns) (drop (4 * length ns) f) g e ∙ ap (λ (x : Option (List ℕ)). given x ++ drop (4 * length ns) f) (wide_is o ns there)
+wide_put o ns f g there e = given_put (wide o ns) (drop (4 * length ns) f) g e
+    ∙ ap (λ (x : Option (List ℕ)). given x ++ drop (4 * length ns) f) (wide_is o ns there)
 
 pub wide_kept : (o : Order) (ns : List ℤ) (f g : List ℕ) → IsThere (wide o ns) → 4 * length ns ≤ length f
     → option_map (λ os. os ++ drop (4 * length ns) f) (wide o ns) ≡ Some g
     → 4 * length ns ≤ length g
-wide_kept o ns f g there fits e = omega (arith, ap length (wide_put o ns f g there e), length-append (words_of o ns) (drop (4 * length ns) f), words_long o ns there)
+wide_kept o ns f g there fits e =
+    omega (arith, ap length (wide_put o ns f g there e), length-append (words_of o ns) (drop (4 * length ns) f), words_long o ns there)
 
 -- ---- the whole of a wide row
 
@@ -255,8 +278,10 @@ module _ (o : Order) (z : Option (Kind × List ℤ)) (k : Kind) (ns : List ℤ) 
       let cost : Tally → Tally = λ t. moved (stored_times (length ns) t) in
       let w : wide o ns ≡ Some os = wide_is o ns there in
       let so : c.front ≡ os ++ drop m b.front = wide_put o ns b.front c.front there front in
-      let all : d.done ≡ b.done ++ os = done' ∙ (λ i. done i ++ take m (so i)) ∙ ap (λ (l : List ℕ). b.done ++ l) (take_at os (drop m b.front) m long) in
-      let left : d.front ≡ drop (length os) b.front = front' ∙ ap (drop m) so ∙ drop_at os (drop m b.front) m long ∙ ap (λ (n : ℕ). drop n b.front) (sym long) in
+      let all : d.done ≡ b.done ++ os =
+      done' ∙ (λ i. done i ++ take m (so i)) ∙ ap (λ (l : List ℕ). b.done ++ l) (take_at os (drop m b.front) m long) in
+      let left : d.front ≡ drop (length os) b.front =
+      front' ∙ ap (drop m) so ∙ drop_at os (drop m b.front) m long ∙ ap (λ (n : ℕ). drop n b.front) (sym long) in
       subst (λ (y : Option (Kind × List ℤ)). Ends (widened y) (state_of b) (state_of d)) is
       (subst (λ (x : Option (List ℕ)). Ends (on_some x (λ l. Some (Widened l (length ns) ∷ []))) (state_of b) (state_of d)) (sym w)
       (appended_ends os cost b d (omega (arith, long, fits)) all left (tally' ∙ ap moved tally) (spent' ∙ ap moved spent)))

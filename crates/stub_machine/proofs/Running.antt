@@ -56,8 +56,10 @@ pub block_fits : (c : Calls) (h : Head) (v : Val) (ops : List SendOp) (i : ℕ) 
     → Runs (steps c h (op_seen d stop) v) t
 block_fits c h v ops i d s t left lt same r =
     let whole : Runs (code_steps c h (drop i ops) v) t = left-runs (code_steps c h ops v) (code_steps c h (drop i ops) v) s t left r in
-    let first : Runs (steps c h (op_seen (get_or ops i d) (code_seen (drop (i + 1) ops))) v) t = subst (λ (b : Block). Runs (steps c h b v) t) (code-drop ops i d lt) whole in
-    subst (λ (o : SendOp). Runs (steps c h (op_seen o stop) v) t) (sym same) (op-runs c h (get_or ops i d) (code_seen (drop (i + 1) ops)) v t first)
+    let first : Runs (steps c h (op_seen (get_or ops i d) (code_seen (drop (i + 1) ops))) v) t =
+    subst (λ (b : Block). Runs (steps c h b v) t) (code-drop ops i d lt) whole in
+    subst (λ (o : SendOp). Runs (steps c h (op_seen o stop) v) t) (sym same)
+    (op-runs c h (get_or ops i d) (code_seen (drop (i + 1) ops)) v t first)
 
 pub block_step : (c : Calls) (h : Head) (v : Val) (ops : List SendOp) (i : ℕ) (d : SendOp) (s t u : State)
     → Left (code_steps c h ops v) (code_steps c h (drop i ops) v) s t → i < length ops → d ≡ get_or ops i d
@@ -66,7 +68,8 @@ pub block_step : (c : Calls) (h : Head) (v : Val) (ops : List SendOp) (i : ℕ) 
 block_step c h v ops i d s t u left lt same e =
     let rest = code_seen (drop (i + 1) ops) in
     record {
-      same = left.same ∙ ap (λ (b : Block). ended (steps c h b v) t) (code-drop ops i d lt) ∙ ap (λ (o : SendOp). ended (steps c h (op_seen o rest) v) t) (sym same) ∙ e rest;
+      same = left.same ∙ ap (λ (b : Block). ended (steps c h b v) t) (code-drop ops i d lt)
+          ∙ ap (λ (o : SendOp). ended (steps c h (op_seen o rest) v) t) (sym same) ∙ e rest;
       spent = none_fell-trans s.spent t.spent u.spent left.spent (ended-stands (steps c h (op_seen d stop) v) t u (e stop));
     }
 
@@ -75,7 +78,8 @@ pub items_fit : (f : Val → Steps) (vs : List Value) (i : ℕ) (d : Value) (s t
     → Runs (f (seen d)) t
 items_fit f vs i d s t left lt same r =
     let whole : Runs (over f (all_seen (drop i vs))) t = left-runs (over f (all_seen vs)) (over f (all_seen (drop i vs))) s t left r in
-    let first : Runs (f (seen (get_or vs i d))) t = first-runs (f (seen (get_or vs i d))) (over f (all_seen (drop (i + 1) vs))) t (subst (λ (x : Steps). Runs x t) (over-drop f vs i d lt) whole) in
+    let first : Runs (f (seen (get_or vs i d))) t = first-runs (f (seen (get_or vs i d))) (over f (all_seen (drop (i + 1) vs))) t
+    (subst (λ (x : Steps). Runs x t) (over-drop f vs i d lt) whole) in
     subst (λ (o : Value). Runs (f (seen o)) t) (sym same) first
 
 pub items_step : (f : Val → Steps) (vs : List Value) (i : ℕ) (d : Value) (s t u : State)
@@ -83,7 +87,8 @@ pub items_step : (f : Val → Steps) (vs : List Value) (i : ℕ) (d : Value) (s 
     → Left (over f (all_seen vs)) (over f (all_seen (drop (i + 1) vs))) s u
 items_step f vs i d s t u left lt same e = record {
   same = left.same ∙ ap (λ (x : Steps). ended x t) (over-drop f vs i d lt)
-      ∙ first-ends (f (seen (get_or vs i d))) (over f (all_seen (drop (i + 1) vs))) t u (subst (λ (o : Value). Ends (f (seen o)) t u) same e);
+      ∙ first-ends (f (seen (get_or vs i d))) (over f (all_seen (drop (i + 1) vs))) t u
+      (subst (λ (o : Value). Ends (f (seen o)) t u) same e);
   spent = none_fell-trans s.spent t.spent u.spent left.spent (ended-stands (f (seen d)) t u e);
 }
 
@@ -92,8 +97,10 @@ pub numbers_fit : (f : Val → Steps) (ns : List ℤ) (i : ℕ) (s t : State)
     → Runs (over f (vals_of (map num ns))) s
     → Runs (f (num (get_or ns i (pos 0)))) t
 numbers_fit f ns i s t left lt r =
-    let whole : Runs (over f (vals_of (map num (drop i ns)))) t = left-runs (over f (vals_of (map num ns))) (over f (vals_of (map num (drop i ns)))) s t left r in
-    first-runs (f (num (get_or ns i (pos 0)))) (over f (vals_of (map num (drop (i + 1) ns)))) t (subst (λ (x : Steps). Runs x t) (numbers-drop f ns i (pos 0) lt) whole)
+    let whole : Runs (over f (vals_of (map num (drop i ns)))) t =
+    left-runs (over f (vals_of (map num ns))) (over f (vals_of (map num (drop i ns)))) s t left r in
+    first-runs (f (num (get_or ns i (pos 0)))) (over f (vals_of (map num (drop (i + 1) ns)))) t
+    (subst (λ (x : Steps). Runs x t) (numbers-drop f ns i (pos 0) lt) whole)
 
 pub numbers_step : (f : Val → Steps) (ns : List ℤ) (i : ℕ) (s t u : State)
     → Left (over f (vals_of (map num ns))) (over f (vals_of (map num (drop i ns)))) s t → i < length ns
@@ -111,13 +118,15 @@ pub each_ends : (c : Calls) (h : Head) (v : Val) (o : SendOp) (path : List ℕ) 
     → o ≡ op.Each path body → Ends (each_steps c h path body v) s t → (r : Block)
     → ended (steps c h (op_seen o r) v) s ≡ ended (steps c h r v) t
 each_ends c h v o path body s t is e r =
-    ap (λ (p : Piece). ended (steps c h (p r) v) s) (ap op_seen is ∙ seen-Each path body) ∙ first-ends (each_steps c h path body v) (steps c h r v) s t e
+    ap (λ (p : Piece). ended (steps c h (p r) v) s) (ap op_seen is ∙ seen-Each path body)
+    ∙ first-ends (each_steps c h path body v) (steps c h r v) s t e
 
 pub each_runs : (c : Calls) (h : Head) (v : Val) (o : SendOp) (path : List ℕ) (body : List SendOp) (s : State)
     → o ≡ op.Each path body → Runs (steps c h (op_seen o stop) v) s
     → Runs (each_steps c h path body v) s
 each_runs c h v o path body s is r =
-    first-runs (each_steps c h path body v) (Some []) s (subst (λ (p : Piece). Runs (steps c h (p stop) v) s) (ap op_seen is ∙ seen-Each path body) r)
+    first-runs (each_steps c h path body v) (Some []) s
+    (subst (λ (p : Piece). Runs (steps c h (p stop) v) s) (ap op_seen is ∙ seen-Each path body) r)
 
 pub seen-Num : (n : ℤ) → seen (value.Num n) ≡ num n
 seen-Num n = ap seen (sym (value.rolls-Num n)) ∙ fold-roll-Value Val seen_level (Value-F.Num n)
@@ -126,39 +135,45 @@ pub some_ends : (c : Calls) (h : Head) (v : Val) (o : SendOp) (path : List ℕ) 
     → o ≡ op.Some path body → Ends (some_steps c h path body v) s t → (r : Block)
     → ended (steps c h (op_seen o r) v) s ≡ ended (steps c h r v) t
 some_ends c h v o path body s t is e r =
-    ap (λ (p : Piece). ended (steps c h (p r) v) s) (ap op_seen is ∙ seen-Some path body) ∙ first-ends (some_steps c h path body v) (steps c h r v) s t e
+    ap (λ (p : Piece). ended (steps c h (p r) v) s) (ap op_seen is ∙ seen-Some path body)
+    ∙ first-ends (some_steps c h path body v) (steps c h r v) s t e
 
 pub some_runs : (c : Calls) (h : Head) (v : Val) (o : SendOp) (path : List ℕ) (body : List SendOp) (s : State)
     → o ≡ op.Some path body → Runs (steps c h (op_seen o stop) v) s
     → Runs (some_steps c h path body v) s
 some_runs c h v o path body s is r =
-    first-runs (some_steps c h path body v) (Some []) s (subst (λ (p : Piece). Runs (steps c h (p stop) v) s) (ap op_seen is ∙ seen-Some path body) r)
+    first-runs (some_steps c h path body v) (Some []) s
+    (subst (λ (p : Piece). Runs (steps c h (p stop) v) s) (ap op_seen is ∙ seen-Some path body) r)
 
 pub switch_ends : (c : Calls) (h : Head) (v : Val) (o : SendOp) (path : List ℕ) (cases : List (ℤ × List SendOp))
     (other : Option (List SendOp)) (s t : State)
     → o ≡ op.Switch path cases other → Ends (switch_steps c h path cases other v) s t → (r : Block)
     → ended (steps c h (op_seen o r) v) s ≡ ended (steps c h r v) t
 switch_ends c h v o path cases other s t is e r =
-    ap (λ (p : Piece). ended (steps c h (p r) v) s) (ap op_seen is ∙ seen-Switch path cases other) ∙ first-ends (switch_steps c h path cases other v) (steps c h r v) s t e
+    ap (λ (p : Piece). ended (steps c h (p r) v) s) (ap op_seen is ∙ seen-Switch path cases other)
+    ∙ first-ends (switch_steps c h path cases other v) (steps c h r v) s t e
 
 pub switch_runs : (c : Calls) (h : Head) (v : Val) (o : SendOp) (path : List ℕ) (cases : List (ℤ × List SendOp))
     (other : Option (List SendOp)) (s : State)
     → o ≡ op.Switch path cases other → Runs (steps c h (op_seen o stop) v) s
     → Runs (switch_steps c h path cases other v) s
 switch_runs c h v o path cases other s is r =
-    first-runs (switch_steps c h path cases other v) (Some []) s (subst (λ (p : Piece). Runs (steps c h (p stop) v) s) (ap op_seen is ∙ seen-Switch path cases other) r)
+    first-runs (switch_steps c h path cases other v) (Some []) s
+    (subst (λ (p : Piece). Runs (steps c h (p stop) v) s) (ap op_seen is ∙ seen-Switch path cases other) r)
 
 pub call_ends : (c : Calls) (h : Head) (v : Val) (o : SendOp) (k : ℕ) (path : List ℕ) (s t : State) → o ≡ op.Call k path
     → Ends (call_steps c k path v) s t → (r : Block)
     → ended (steps c h (op_seen o r) v) s ≡ ended (steps c h r v) t
 call_ends c h v o k path s t is e r =
-    ap (λ (p : Piece). ended (steps c h (p r) v) s) (ap op_seen is ∙ seen-Call k path) ∙ first-ends (call_steps c k path v) (steps c h r v) s t e
+    ap (λ (p : Piece). ended (steps c h (p r) v) s) (ap op_seen is ∙ seen-Call k path)
+    ∙ first-ends (call_steps c k path v) (steps c h r v) s t e
 
 pub call_runs : (c : Calls) (h : Head) (v : Val) (o : SendOp) (k : ℕ) (path : List ℕ) (s : State) → o ≡ op.Call k path
     → Runs (steps c h (op_seen o stop) v) s
     → Runs (call_steps c k path v) s
 call_runs c h v o k path s is r =
-    first-runs (call_steps c k path v) (Some []) s (subst (λ (p : Piece). Runs (steps c h (p stop) v) s) (ap op_seen is ∙ seen-Call k path) r)
+    first-runs (call_steps c k path v) (Some []) s
+    (subst (λ (p : Piece). Runs (steps c h (p stop) v) s) (ap op_seen is ∙ seen-Call k path) r)
 
 -- ---- calls that are not there
 
@@ -196,7 +211,8 @@ pub row_copy_ends : (c : Calls) (h : Head) (v : Val) (o : SendOp) (path : List �
     → Ends (copy_steps path v) s t → (r : Block)
     → ended (steps c h (op_seen o r) v) s ≡ ended (steps c h r v) t
 row_copy_ends c h v o path s t is e r =
-    ap (λ (p : Piece). ended (steps c h (p r) v) s) (ap op_seen is ∙ seen-RowCopy path) ∙ first-ends (copy_steps path v) (steps c h r v) s t e
+    ap (λ (p : Piece). ended (steps c h (p r) v) s) (ap op_seen is ∙ seen-RowCopy path)
+    ∙ first-ends (copy_steps path v) (steps c h r v) s t e
 
 pub row_copy_runs : (c : Calls) (h : Head) (v : Val) (o : SendOp) (path : List ℕ) (s : State) → o ≡ op.RowCopy path
     → Runs (steps c h (op_seen o stop) v) s
@@ -208,7 +224,8 @@ pub row_swap_ends : (c : Calls) (h : Head) (v : Val) (o : SendOp) (path : List �
     → Ends (swap_steps path v) s t → (r : Block)
     → ended (steps c h (op_seen o r) v) s ≡ ended (steps c h r v) t
 row_swap_ends c h v o path s t is e r =
-    ap (λ (p : Piece). ended (steps c h (p r) v) s) (ap op_seen is ∙ seen-RowSwap path) ∙ first-ends (swap_steps path v) (steps c h r v) s t e
+    ap (λ (p : Piece). ended (steps c h (p r) v) s) (ap op_seen is ∙ seen-RowSwap path)
+    ∙ first-ends (swap_steps path v) (steps c h r v) s t e
 
 pub row_swap_runs : (c : Calls) (h : Head) (v : Val) (o : SendOp) (path : List ℕ) (s : State) → o ≡ op.RowSwap path
     → Runs (steps c h (op_seen o stop) v) s
@@ -220,13 +237,15 @@ pub row_wide_ends : (c : Calls) (h : Head) (v : Val) (o : SendOp) (path : List �
     → o ≡ op.RowWide path order → Ends (wide_steps path order v) s t → (r : Block)
     → ended (steps c h (op_seen o r) v) s ≡ ended (steps c h r v) t
 row_wide_ends c h v o path order s t is e r =
-    ap (λ (p : Piece). ended (steps c h (p r) v) s) (ap op_seen is ∙ seen-RowWide path order) ∙ first-ends (wide_steps path order v) (steps c h r v) s t e
+    ap (λ (p : Piece). ended (steps c h (p r) v) s) (ap op_seen is ∙ seen-RowWide path order)
+    ∙ first-ends (wide_steps path order v) (steps c h r v) s t e
 
 pub row_wide_runs : (c : Calls) (h : Head) (v : Val) (o : SendOp) (path : List ℕ) (order : Order) (s : State)
     → o ≡ op.RowWide path order → Runs (steps c h (op_seen o stop) v) s
     → Runs (wide_steps path order v) s
 row_wide_runs c h v o path order s is r =
-    first-runs (wide_steps path order v) (Some []) s (subst (λ (p : Piece). Runs (steps c h (p stop) v) s) (ap op_seen is ∙ seen-RowWide path order) r)
+    first-runs (wide_steps path order v) (Some []) s
+    (subst (λ (p : Piece). Runs (steps c h (p stop) v) s) (ap op_seen is ∙ seen-RowWide path order) r)
 
 pub ruleset running = (
   left-runs,

@@ -73,12 +73,14 @@ op-in-code (x ∷ ops) (suc i) d lt is = omega (arith, op-in-code ops i d (omega
 
 pub each-in-op : (o : SendOp) (path : List ℕ) (body : List SendOp) → o ≡ op.Each path body → code_size body < size (op_seen o stop)
 each-in-op o path body is =
-    let whole : size (op_seen o stop) ≡ suc (code_size body + 0) = ap (λ (p : Piece). size (p stop)) (ap op_seen is ∙ seen-Each path body) in
+    let whole : size (op_seen o stop) ≡ suc (code_size body + 0) =
+    ap (λ (p : Piece). size (p stop)) (ap op_seen is ∙ seen-Each path body) in
     omega (arith, whole)
 
 pub some-in-op : (o : SendOp) (path : List ℕ) (body : List SendOp) → o ≡ op.Some path body → code_size body < size (op_seen o stop)
 some-in-op o path body is =
-    let whole : size (op_seen o stop) ≡ suc (code_size body + 0) = ap (λ (p : Piece). size (p stop)) (ap op_seen is ∙ seen-Some path body) in
+    let whole : size (op_seen o stop) ≡ suc (code_size body + 0) =
+    ap (λ (p : Piece). size (p stop)) (ap op_seen is ∙ seen-Some path body) in
     omega (arith, whole)
 
 pub call-in-op : (o : SendOp) (k : ℕ) (path : List ℕ) → o ≡ op.Call k path → 0 < size (op_seen o stop)
@@ -105,13 +107,15 @@ pub case-in-op : (o : SendOp) (path : List ℕ) (cases l : List (ℤ × List Sen
     → o ≡ op.Switch path cases other → i < length cases → l ≡ cases
     → code_size (get_or l i d).1 < size (op_seen o stop)
 case-in-op o path cases l other i d is lt same =
-    let here : code_size (get_or l i d).1 ≡ code_size (get_or cases i d).1 = ap (λ (x : List (ℤ × List SendOp)). code_size (get_or x i d).1) same in
+    let here : code_size (get_or l i d).1 ≡ code_size (get_or cases i d).1 =
+    ap (λ (x : List (ℤ × List SendOp)). code_size (get_or x i d).1) same in
     omega (arith, here, case_size cases other i d lt, switch_size o path cases other is)
 
 pub default-in-op : (o : SendOp) (path : List ℕ) (cases : List (ℤ × List SendOp)) (other : Option (List SendOp)) (body : List SendOp)
     → o ≡ op.Switch path cases other → other ≡ Some body → code_size body < size (op_seen o stop)
 default-in-op o path cases other body is there =
-    let whole : size (op_seen o stop) ≡ suc (sizes (cases_seen cases (Some body)) + 0) = switch_size o path cases (Some body) (is ∙ ap (op.Switch path cases) there) in
+    let whole : size (op_seen o stop) ≡ suc (sizes (cases_seen cases (Some body)) + 0) =
+    switch_size o path cases (Some body) (is ∙ ap (op.Switch path cases) there) in
     omega (arith, whole, default_size cases body)
 
 -- ---- codes that are called

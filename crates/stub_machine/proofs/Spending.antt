@@ -26,10 +26,12 @@ act-stands (Room n) s u e = kept_stands s _ u (none_fell-checked s.spent) e
 act-stands (Pad a) s u e = chosen_stands (nat_le (length (replicate (gap (length s.done) a) 0)) s.ahead) s _ u (none_fell-moved s.spent) e
 act-stands (Stored o k) s u e =
     chosen_stands (nat_le (length o) s.ahead) s _ u
-    (none_fell-trans s.spent (stored_times k s.spent) (moved (stored_times k s.spent)) (stored-stands k s.spent) (none_fell-moved (stored_times k s.spent))) e
+    (none_fell-trans s.spent (stored_times k s.spent) (moved (stored_times k s.spent)) (stored-stands k s.spent)
+    (none_fell-moved (stored_times k s.spent))) e
 act-stands (Widened o k) s u e =
     chosen_stands (nat_le (length o) s.ahead) s _ u
-    (none_fell-trans s.spent (stored_times k s.spent) (moved (stored_times k s.spent)) (stored-stands k s.spent) (none_fell-moved (stored_times k s.spent))) e
+    (none_fell-trans s.spent (stored_times k s.spent) (moved (stored_times k s.spent)) (stored-stands k s.spent)
+    (none_fell-moved (stored_times k s.spent))) e
 act-stands (Copied o) s u e = chosen_stands (nat_le (length o) s.ahead) s _ u (none_fell-rowed s.spent) e
 act-stands (Patched at sub order) s u e = chosen_stands (nat_le (at + 4) (length s.done)) s _ u (none_fell-stored s.spent) e
 

@@ -15,8 +15,10 @@ pub covered-runs : (x : Steps) (b : Buf) → AreCovered x (length b.done) → Ru
 covered-runs None b h = absurd h
 covered-runs (Some ss) b h =
     let none : length b.done ≡ length b.done + length {A = ℕ} [] = omega arith in
-    let room : HasRoom (length b.done + length {A = ℕ} []) (length b.front) ss = subst (λ (k : ℕ). HasRoom k (length b.front) ss) none (room-more (length b.done) 0 (length b.front) ss (omega arith) h.1) in
-    subst (λ (d : List ℕ). IsThere (ran ss (state d (length b.front) b.tally b.spent))) (append-nil b.done) (room-runs b.done [] (length b.front) b.tally b.spent ss h.0 room)
+    let room : HasRoom (length b.done + length {A = ℕ} []) (length b.front) ss = subst (λ (k : ℕ). HasRoom k (length b.front) ss) none
+    (room-more (length b.done) 0 (length b.front) ss (omega arith) h.1) in
+    subst (λ (d : List ℕ). IsThere (ran ss (state d (length b.front) b.tally b.spent))) (append-nil b.done)
+    (room-runs b.done [] (length b.front) b.tally b.spent ss h.0 room)
 
 -- exactly the octets of the steps are appended, at their cost
 pub record Sent (x : Steps) (b c : Buf) : Type 0 where
@@ -30,7 +32,8 @@ sent_of : (ss : List Step) (z : Option (List ℕ)) (b c : Buf) → wrote (length
     → Sent (Some ss) b c
 sent_of ss None b c e there r = absurd there
 sent_of ss (Some w) b c e there r =
-    let whole : ran ss (state (b.done ++ []) (length b.front) b.tally b.spent) ≡ Some (state_of c) = subst (λ (d : List ℕ). ran ss (state d (length b.front) b.tally b.spent) ≡ Some (state_of c)) (sym (append-nil b.done)) r in
+    let whole : ran ss (state (b.done ++ []) (length b.front) b.tally b.spent) ≡ Some (state_of c) =
+    subst (λ (d : List ℕ). ran ss (state d (length b.front) b.tally b.spent) ≡ Some (state_of c)) (sym (append-nil b.done)) r in
     let l = ran-leads b.done [] w (length b.front) b.tally b.spent ss (state_of c) e whole in
     record {
       done = ap (option_map (λ o. b.done ++ o)) e ∙ ap Some (sym l.done);
@@ -47,7 +50,8 @@ long_of : (ss : List Step) (z : Option (List ℕ)) (w : Option State) (b c : Buf
 long_of ss None w b c e there r runs g over = absurd there
 long_of ss (Some o) None b c e there r runs g over = absurd runs
 long_of ss (Some o) (Some u) b c e there r runs g over =
-    let whole : ran ss (state (b.done ++ []) (length b.front) b.tally b.spent) ≡ Some u = subst (λ (d : List ℕ). ran ss (state d (length b.front) b.tally b.spent) ≡ Some u) (sym (append-nil b.done)) r in
+    let whole : ran ss (state (b.done ++ []) (length b.front) b.tally b.spent) ≡ Some u =
+    subst (λ (d : List ℕ). ran ss (state d (length b.front) b.tally b.spent) ≡ Some u) (sym (append-nil b.done)) r in
     let l = ran-leads b.done [] o (length b.front) b.tally b.spent ss u e whole in
     omega (arith, over, g.grows u r, ap length l.done, length-append b.done o)
 

@@ -1,3 +1,4 @@
+pub mod Codes
 pub mod Picking
 pub mod Putting
 pub mod Run

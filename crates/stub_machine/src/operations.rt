@@ -3,8 +3,9 @@ ghost use Rattle.std.specs.Prelude.{◌≡◌, ◌<◌, Err, OnOk, OnErr, map, l
 ghost use Rattle.mint.specs.Values.{seen, all_seen, vals_of, num};
 ghost use Rattle.cast_stub.specs.Parts.{elements_in, on_some};
 ghost use Rattle.cast_stub.specs.Block.{Block, stop, op_seen};
-ghost use Rattle.cast_stub.specs.Steps.{steps, over, code_steps, each_steps, some_steps, if_present};
-ghost use Rattle.cast_stub.specs.Subs.{calls_of, call_steps, deepest};
+ghost use Rattle.cast_stub.specs.Steps.{over, if_present};
+ghost use Rattle.cast_stub.specs.Subs.{deepest};
+ghost use Rattle.stub_machine.specs.Codes.{block_run, code_run, each_run, some_run, called_run};
 ghost use Rattle.stub_machine.specs.Run.{ended, state_of, Runs, Ends, Grown};
 ghost use Rattle.stub_machine.specs.Sending.{most};
 
@@ -38,12 +39,11 @@ pub fn run_block(
     value: &Value,
     buf: &mut SendBuf,
 ) -> Result<(), Stopped>
-    requires { Runs (code_steps (calls_of machine.now.subs.now machine.now.head.now calls)
-        machine.now.head.now code.now (seen value.now)) (state_of buf.old) }
-    ensures ok { OnOk result (Ends (code_steps (calls_of machine.now.subs.now machine.now.head.now calls)
-        machine.now.head.now code.now (seen value.now)) (state_of buf.old) (state_of buf.new)) }
-    ensures err { OnErr result (Grown (code_steps (calls_of machine.now.subs.now machine.now.head.now calls)
-        machine.now.head.now code.now (seen value.now)) (state_of buf.old) (state_of buf.new)) }
+    requires { Runs (code_run machine.now calls code.now (seen value.now)) (state_of buf.old) }
+    ensures ok { OnOk result
+        (Ends (code_run machine.now calls code.now (seen value.now)) (state_of buf.old) (state_of buf.new)) }
+    ensures err { OnErr result
+        (Grown (code_run machine.now calls code.now (seen value.now)) (state_of buf.old) (state_of buf.new)) }
     ensures long { (result ≡ Err Stopped.Long) → most < length buf.new.done }
 {
     for op in code.as_slice() {
@@ -65,14 +65,12 @@ fn run_op(
     value: &Value,
     buf: &mut SendBuf,
 ) -> Result<(), Stopped>
-    requires { Runs (steps (calls_of machine.now.subs.now machine.now.head.now calls) machine.now.head.now
-        (op_seen op.now stop) (seen value.now)) (state_of buf.old) }
-    ensures ok { OnOk result ((r : Block) → ended (steps (calls_of machine.now.subs.now machine.now.head.now
-        calls) machine.now.head.now (op_seen op.now r) (seen value.now)) (state_of buf.old)
-        ≡ ended (steps (calls_of machine.now.subs.now machine.now.head.now calls)
-        machine.now.head.now r (seen value.now)) (state_of buf.new)) }
-    ensures err { OnErr result (Grown (steps (calls_of machine.now.subs.now machine.now.head.now calls)
-        machine.now.head.now (op_seen op.now stop) (seen value.now)) (state_of buf.old) (state_of buf.new)) }
+    requires { Runs (block_run machine.now calls (op_seen op.now stop) (seen value.now)) (state_of buf.old) }
+    ensures ok { OnOk result ((r : Block)
+        → ended (block_run machine.now calls (op_seen op.now r) (seen value.now)) (state_of buf.old)
+        ≡ ended (block_run machine.now calls r (seen value.now)) (state_of buf.new)) }
+    ensures err { OnErr result (Grown (block_run machine.now calls (op_seen op.now stop) (seen value.now))
+        (state_of buf.old) (state_of buf.new)) }
     ensures long { (result ≡ Err Stopped.Long) → most < length buf.new.done }
 {
     match op {
@@ -131,12 +129,11 @@ fn run_each(
     value: &Value,
     buf: &mut SendBuf,
 ) -> Result<(), Stopped>
-    requires { Runs (each_steps (calls_of machine.now.subs.now machine.now.head.now calls)
-        machine.now.head.now path.now body.now (seen value.now)) (state_of buf.old) }
-    ensures ok { OnOk result (Ends (each_steps (calls_of machine.now.subs.now machine.now.head.now calls)
-        machine.now.head.now path.now body.now (seen value.now)) (state_of buf.old) (state_of buf.new)) }
-    ensures err { OnErr result (Grown (each_steps (calls_of machine.now.subs.now machine.now.head.now calls)
-        machine.now.head.now path.now body.now (seen value.now)) (state_of buf.old) (state_of buf.new)) }
+    requires { Runs (each_run machine.now calls path.now body.now (seen value.now)) (state_of buf.old) }
+    ensures ok { OnOk result (Ends (each_run machine.now calls path.now body.now (seen value.now))
+        (state_of buf.old) (state_of buf.new)) }
+    ensures err { OnErr result (Grown (each_run machine.now calls path.now body.now (seen value.now))
+        (state_of buf.old) (state_of buf.new)) }
     ensures long { (result ≡ Err Stopped.Long) → most < length buf.new.done }
 {
     let Some(here) = part(path, value) else {
@@ -155,14 +152,13 @@ fn run_elements(
     value: &Value,
     buf: &mut SendBuf,
 ) -> Result<(), Stopped>
-    requires { Runs (on_some (elements_in (seen value.now)) (over (code_steps
-        (calls_of machine.now.subs.now machine.now.head.now calls) machine.now.head.now body.now)))
+    requires { Runs (on_some (elements_in (seen value.now)) (over (code_run machine.now calls body.now)))
         (state_of buf.old) }
-    ensures ok { OnOk result (Ends (on_some (elements_in (seen value.now)) (over (code_steps
-        (calls_of machine.now.subs.now machine.now.head.now calls) machine.now.head.now body.now)))
+    ensures ok { OnOk result
+        (Ends (on_some (elements_in (seen value.now)) (over (code_run machine.now calls body.now)))
         (state_of buf.old) (state_of buf.new)) }
-    ensures err { OnErr result (Grown (on_some (elements_in (seen value.now)) (over (code_steps
-        (calls_of machine.now.subs.now machine.now.head.now calls) machine.now.head.now body.now)))
+    ensures err { OnErr result
+        (Grown (on_some (elements_in (seen value.now)) (over (code_run machine.now calls body.now)))
         (state_of buf.old) (state_of buf.new)) }
     ensures long { (result ≡ Err Stopped.Long) → most < length buf.new.done }
 {
@@ -183,14 +179,11 @@ fn run_items(
     values: &Values,
     buf: &mut SendBuf,
 ) -> Result<(), Stopped>
-    requires { Runs (over (code_steps (calls_of machine.now.subs.now machine.now.head.now calls)
-        machine.now.head.now body.now) (all_seen values.now)) (state_of buf.old) }
-    ensures ok { OnOk result (Ends
-        (over (code_steps (calls_of machine.now.subs.now machine.now.head.now calls) machine.now.head.now
-        body.now) (all_seen values.now)) (state_of buf.old) (state_of buf.new)) }
-    ensures err { OnErr result (Grown
-        (over (code_steps (calls_of machine.now.subs.now machine.now.head.now calls) machine.now.head.now
-        body.now) (all_seen values.now)) (state_of buf.old) (state_of buf.new)) }
+    requires { Runs (over (code_run machine.now calls body.now) (all_seen values.now)) (state_of buf.old) }
+    ensures ok { OnOk result (Ends (over (code_run machine.now calls body.now) (all_seen values.now))
+        (state_of buf.old) (state_of buf.new)) }
+    ensures err { OnErr result (Grown (over (code_run machine.now calls body.now) (all_seen values.now))
+        (state_of buf.old) (state_of buf.new)) }
     ensures long { (result ≡ Err Stopped.Long) → most < length buf.new.done }
 {
     for value in values.as_slice() {
@@ -209,14 +202,14 @@ fn run_numbers(
     row: &Row,
     buf: &mut SendBuf,
 ) -> Result<(), Stopped>
-    requires { Runs (over (code_steps (calls_of machine.now.subs.now machine.now.head.now calls)
-        machine.now.head.now body.now) (vals_of (map num row.now.numbers))) (state_of buf.old) }
-    ensures ok { OnOk result (Ends
-        (over (code_steps (calls_of machine.now.subs.now machine.now.head.now calls) machine.now.head.now
-        body.now) (vals_of (map num row.now.numbers))) (state_of buf.old) (state_of buf.new)) }
-    ensures err { OnErr result (Grown
-        (over (code_steps (calls_of machine.now.subs.now machine.now.head.now calls) machine.now.head.now
-        body.now) (vals_of (map num row.now.numbers))) (state_of buf.old) (state_of buf.new)) }
+    requires { Runs (over (code_run machine.now calls body.now) (vals_of (map num row.now.numbers)))
+        (state_of buf.old) }
+    ensures ok { OnOk result
+        (Ends (over (code_run machine.now calls body.now) (vals_of (map num row.now.numbers)))
+        (state_of buf.old) (state_of buf.new)) }
+    ensures err { OnErr result
+        (Grown (over (code_run machine.now calls body.now) (vals_of (map num row.now.numbers)))
+        (state_of buf.old) (state_of buf.new)) }
     ensures long { (result ≡ Err Stopped.Long) → most < length buf.new.done }
 {
     for i in 0..row.len() {
@@ -249,12 +242,11 @@ fn run_some(
     value: &Value,
     buf: &mut SendBuf,
 ) -> Result<(), Stopped>
-    requires { Runs (some_steps (calls_of machine.now.subs.now machine.now.head.now calls)
-        machine.now.head.now path.now body.now (seen value.now)) (state_of buf.old) }
-    ensures ok { OnOk result (Ends (some_steps (calls_of machine.now.subs.now machine.now.head.now calls)
-        machine.now.head.now path.now body.now (seen value.now)) (state_of buf.old) (state_of buf.new)) }
-    ensures err { OnErr result (Grown (some_steps (calls_of machine.now.subs.now machine.now.head.now calls)
-        machine.now.head.now path.now body.now (seen value.now)) (state_of buf.old) (state_of buf.new)) }
+    requires { Runs (some_run machine.now calls path.now body.now (seen value.now)) (state_of buf.old) }
+    ensures ok { OnOk result (Ends (some_run machine.now calls path.now body.now (seen value.now))
+        (state_of buf.old) (state_of buf.new)) }
+    ensures err { OnErr result (Grown (some_run machine.now calls path.now body.now (seen value.now))
+        (state_of buf.old) (state_of buf.new)) }
     ensures long { (result ≡ Err Stopped.Long) → most < length buf.new.done }
 {
     let Some(here) = part(path, value) else {
@@ -273,14 +265,11 @@ fn run_present(
     value: &Value,
     buf: &mut SendBuf,
 ) -> Result<(), Stopped>
-    requires { Runs (if_present (code_steps (calls_of machine.now.subs.now machine.now.head.now calls)
-        machine.now.head.now body.now) (seen value.now)) (state_of buf.old) }
-    ensures ok { OnOk result (Ends
-        (if_present (code_steps (calls_of machine.now.subs.now machine.now.head.now calls)
-        machine.now.head.now body.now) (seen value.now)) (state_of buf.old) (state_of buf.new)) }
-    ensures err { OnErr result (Grown
-        (if_present (code_steps (calls_of machine.now.subs.now machine.now.head.now calls)
-        machine.now.head.now body.now) (seen value.now)) (state_of buf.old) (state_of buf.new)) }
+    requires { Runs (if_present (code_run machine.now calls body.now) (seen value.now)) (state_of buf.old) }
+    ensures ok { OnOk result (Ends (if_present (code_run machine.now calls body.now) (seen value.now))
+        (state_of buf.old) (state_of buf.new)) }
+    ensures err { OnErr result (Grown (if_present (code_run machine.now calls body.now) (seen value.now))
+        (state_of buf.old) (state_of buf.new)) }
     ensures long { (result ≡ Err Stopped.Long) → most < length buf.new.done }
 {
     match value {
@@ -301,13 +290,10 @@ fn run_called(
     value: &Value,
     buf: &mut SendBuf,
 ) -> Result<(), Stopped>
-    requires { Runs
-        (call_steps (calls_of machine.now.subs.now machine.now.head.now calls) k path.now (seen value.now))
-        (state_of buf.old) }
-    ensures ok { OnOk result (Ends (call_steps (calls_of machine.now.subs.now machine.now.head.now calls)
-        k path.now (seen value.now)) (state_of buf.old) (state_of buf.new)) }
-    ensures err { OnErr result (Grown
-        (call_steps (calls_of machine.now.subs.now machine.now.head.now calls) k path.now (seen value.now))
+    requires { Runs (called_run machine.now calls k path.now (seen value.now)) (state_of buf.old) }
+    ensures ok { OnOk result (Ends (called_run machine.now calls k path.now (seen value.now))
+        (state_of buf.old) (state_of buf.new)) }
+    ensures err { OnErr result (Grown (called_run machine.now calls k path.now (seen value.now))
         (state_of buf.old) (state_of buf.new)) }
     ensures long { (result ≡ Err Stopped.Long) → most < length buf.new.done }
 {

@@ -18,4 +18,5 @@ pub returns : goal.returns
 returns c =
     let p = c.run_puts.ensures in
     let a = c.advance.ensures in
-    chunk-ends c.args.head.now (seen c.args.value.now) c.args.puts.now c.args.size c.args.buf.now c.run_puts.new.buf c.advance.new.self c.requires p.over p.front p.done p.tally p.spent a.done a.front a.tally a.spent
+    chunk-ends c.args.head.now (seen c.args.value.now) c.args.puts.now c.args.size c.args.buf.now c.run_puts.new.buf c.advance.new.self
+    c.requires p.over p.front p.done p.tally p.spent a.done a.front a.tally a.spent

@@ -11,13 +11,15 @@ loop-put-init c = puts_start _ _ _ _ _ c.requires.within
 
 pub run_put-requires : goal.run_put-requires
 run_put-requires c =
-    let there = subst (λ (ps : List Put). IsThere (put_all c.args.head.now (seen c.args.value.now) ps (replicate c.args.size None))) (sym c.as_slice-put-items.ensures) c.requires.there in
+    let there = subst (λ (ps : List Put). IsThere (put_all c.args.head.now (seen c.args.value.now) ps (replicate c.args.size None)))
+    (sym c.as_slice-put-items.ensures) c.requires.there in
     let k = puts_fit _ _ _ _ _ _ _ c.put-item.result c.loop-put.invariant c.loop-put-test.true there c.put-item.is in
     record { there = k.0; within = k.1 }
 
 pub loop-put-preserved : goal.loop-put-preserved
 loop-put-preserved c =
-    let there = subst (λ (ps : List Put). IsThere (put_all c.args.head.now (seen c.args.value.now) ps (replicate c.args.size None))) (sym c.as_slice-put-items.ensures) c.requires.there in
+    let there = subst (λ (ps : List Put). IsThere (put_all c.args.head.now (seen c.args.value.now) ps (replicate c.args.size None)))
+    (sym c.as_slice-put-items.ensures) c.requires.there in
     puts_step _ _ _ _ _ _ _ _ c.put-item.result c.loop-put.invariant c.loop-put-test.true there c.put-item.is c.run_put.ensures
 
 pub returns : goal.returns

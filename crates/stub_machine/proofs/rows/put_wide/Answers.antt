@@ -26,7 +26,9 @@ loop-i-preserved c =
     let lt : c.loop-i.i < length ns = omega arith in
     let fits : FitsSigned w128 c.in-Some.n = search rules in
     let same = to_z-of_z w128 c.in-Some.n fits ∙ got_number ns c.loop-i.i c.in-Some.n (sym c.get.ensures ∙ c.in-Some.is) in
-    wide_step c.args.order ns c.args.buf.now c.loop-i.buf c.put_word.new.buf c.loop-i.i _ c.loop-i.invariant c.requires.there c.requires.within lt same c.put_word.ensures
+    wide_step c.args.order ns c.args.buf.now c.loop-i.buf c.put_word.new.buf c.loop-i.i _ c.loop-i.invariant c.requires.there
+    c.requires.within lt same c.put_word.ensures
 
 pub returns-clause-front : goal.returns-clause-front
-returns-clause-front c = wide_end c.args.order c.args.row.now.numbers c.args.buf.now c.loop-i.buf (length c.args.row.now.numbers) (search rules) c.requires.there refl
+returns-clause-front c = wide_end c.args.order c.args.row.now.numbers c.args.buf.now c.loop-i.buf (length c.args.row.now.numbers)
+    (search rules) c.requires.there refl

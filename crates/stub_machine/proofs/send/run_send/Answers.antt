@@ -21,7 +21,9 @@ returns-in-Ok-clause-done c =
     let head = c.args.head.now in
     let v = seen c.args.value.now in
     let s = ends-sent (sent_steps code head v) c.args.buf.now c.run_block.new.buf c.requires
-    (subst (λ (n : ℕ). Ends (code_steps (calls_of code.subs head n) head code.ops v) (state_of c.args.buf.now) (state_of c.run_block.new.buf)) c.deepest_call.ensures c.in-Ok.ensures.ok) in
+    (subst
+    (λ (n : ℕ). Ends (code_steps (calls_of code.subs head n) head code.ops v) (state_of c.args.buf.now) (state_of c.run_block.new.buf))
+    c.deepest_call.ensures c.in-Ok.ensures.ok) in
     s.done
 
 pub returns-in-Ok-clause-tally : goal.returns-in-Ok-clause-tally
@@ -30,7 +32,9 @@ returns-in-Ok-clause-tally c =
     let head = c.args.head.now in
     let v = seen c.args.value.now in
     let s = ends-sent (sent_steps code head v) c.args.buf.now c.run_block.new.buf c.requires
-    (subst (λ (n : ℕ). Ends (code_steps (calls_of code.subs head n) head code.ops v) (state_of c.args.buf.now) (state_of c.run_block.new.buf)) c.deepest_call.ensures c.in-Ok.ensures.ok) in
+    (subst
+    (λ (n : ℕ). Ends (code_steps (calls_of code.subs head n) head code.ops v) (state_of c.args.buf.now) (state_of c.run_block.new.buf))
+    c.deepest_call.ensures c.in-Ok.ensures.ok) in
     s.tally
 
 pub returns-in-Ok-clause-spent : goal.returns-in-Ok-clause-spent
@@ -39,7 +43,9 @@ returns-in-Ok-clause-spent c =
     let head = c.args.head.now in
     let v = seen c.args.value.now in
     let s = ends-sent (sent_steps code head v) c.args.buf.now c.run_block.new.buf c.requires
-    (subst (λ (n : ℕ). Ends (code_steps (calls_of code.subs head n) head code.ops v) (state_of c.args.buf.now) (state_of c.run_block.new.buf)) c.deepest_call.ensures c.in-Ok.ensures.ok) in
+    (subst
+    (λ (n : ℕ). Ends (code_steps (calls_of code.subs head n) head code.ops v) (state_of c.args.buf.now) (state_of c.run_block.new.buf))
+    c.deepest_call.ensures c.in-Ok.ensures.ok) in
     s.spent
 
 pub returns-then-octets-gt-MOST-clause-long : goal.returns-then-octets-gt-MOST-clause-long
@@ -50,8 +56,12 @@ returns-then-octets-gt-MOST-clause-long c =
     let b = c.args.buf.now in
     let after = c.run_block.new.buf in
     let runs = covered-runs (sent_steps code head v) b c.requires in
-    let ok = subst (λ (n : ℕ). OnOk c.run_block.result (Ends (code_steps (calls_of code.subs head n) head code.ops v) (state_of b) (state_of after))) c.deepest_call.ensures c.run_block.ensures.ok in
-    let err = subst (λ (n : ℕ). OnErr c.run_block.result (Grown (code_steps (calls_of code.subs head n) head code.ops v) (state_of b) (state_of after))) c.deepest_call.ensures c.run_block.ensures.err in
+    let ok = subst
+    (λ (n : ℕ). OnOk c.run_block.result (Ends (code_steps (calls_of code.subs head n) head code.ops v) (state_of b) (state_of after)))
+    c.deepest_call.ensures c.run_block.ensures.ok in
+    let err = subst
+    (λ (n : ℕ). OnErr c.run_block.result (Grown (code_steps (calls_of code.subs head n) head code.ops v) (state_of b) (state_of after)))
+    c.deepest_call.ensures c.run_block.ensures.err in
     λ is. broken-long c.run_block.result (sent_steps code head v) b after c.requires runs ok err (omega (arith, ap length c.octets.ensures))
 
 pub returns-then-octets-gt-MOST-clause-stands : goal.returns-then-octets-gt-MOST-clause-stands
@@ -59,11 +69,13 @@ returns-then-octets-gt-MOST-clause-stands c =
     let code = c.args.code.now in
     let head = c.args.head.now in
     let v = seen c.args.value.now in
-    run-stands c.run_block.result (code_steps (calls_of code.subs head _) head code.ops v) (state_of c.args.buf.now) (state_of c.run_block.new.buf) c.run_block.ensures.ok c.run_block.ensures.err
+    run-stands c.run_block.result (code_steps (calls_of code.subs head _) head code.ops v) (state_of c.args.buf.now)
+    (state_of c.run_block.new.buf) c.run_block.ensures.ok c.run_block.ensures.err
 
 pub returns-in-Ok-clause-stands : goal.returns-in-Ok-clause-stands
 returns-in-Ok-clause-stands c =
     let code = c.args.code.now in
     let head = c.args.head.now in
     let v = seen c.args.value.now in
-    ended-stands (code_steps (calls_of code.subs head _) head code.ops v) (state_of c.args.buf.now) (state_of c.run_block.new.buf) c.in-Ok.ensures.ok
+    ended-stands (code_steps (calls_of code.subs head _) head code.ops v) (state_of c.args.buf.now) (state_of c.run_block.new.buf)
+    c.in-Ok.ensures.ok
