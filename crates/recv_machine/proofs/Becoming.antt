@@ -110,7 +110,9 @@ settle_fits ns fields rest values i d h got there = checked (settle (drawn ns d)
   checked (Some v) e = subst IsThere (sym e) tt
   checked None e =
       let split : drop i rest ≡ d ∷ drop (i + 1) rest = first_got rest i d got in
-      let none : settles (all_drawn ns fields) ≡ None = h.whole ∙ ap (λ (l : List Filling). with_front (all_seen values) (settles (all_drawn ns l))) split ∙ same_none (all_seen values) (settle (drawn ns d)) (settles (all_drawn ns (drop (i + 1) rest))) e in
+      let none : settles (all_drawn ns fields) ≡ None = h.whole
+      ∙ ap (λ (l : List Filling). with_front (all_seen values) (settles (all_drawn ns l))) split
+      ∙ same_none (all_seen values) (settle (drawn ns d)) (settles (all_drawn ns (drop (i + 1) rest))) e in
       absurd (subst IsThere none there)
 
 one_off : (ds : List Filling) (i : ℕ) → drop 1 (drop i ds) ≡ drop (1 + i) ds
@@ -128,14 +130,16 @@ settle_turn ns fields rest rest' values values' i d hole v h got made is more = 
       let same : drop (i + 1) rest' ≡ drop (i + 1) rest = ap (drop (i + 1)) made ∙ dropped_set rest i hole in
       let next : all_seen values' ≡ joined (all_seen values) (val (seen v) no_more) = ap all_seen more ∙ all_seen-push values v in
       h.whole ∙ ap (λ (l : List Filling). with_front (all_seen values) (settles (all_drawn ns l))) split
-      ∙ ap (λ (o : Option Val). with_front (all_seen values) (on_some o (λ w. on_some (settles (all_drawn ns (drop (i + 1) rest))) (λ vs. Some (val w vs))))) is
+      ∙ ap (λ (o : Option Val). with_front (all_seen values)
+      (on_some o (λ w. on_some (settles (all_drawn ns (drop (i + 1) rest))) (λ vs. Some (val w vs))))) is
       ∙ some_joined (all_seen values) (seen v) (settles (all_drawn ns (drop (i + 1) rest)))
       ∙ ap (λ (x : Vals). with_front x (settles (all_drawn ns (drop (i + 1) rest)))) (sym next)
       ∙ ap (λ (l : List Filling). with_front (all_seen values') (settles (all_drawn ns l))) (sym same);
   many = ap length made ∙ length-set rest i hole ∙ h.many;
   left =
       let next : i + 1 ≡ 1 + i = omega arith in
-      ap (drop (i + 1)) made ∙ dropped_set rest i hole ∙ ap (λ (k : ℕ). drop k rest) next ∙ sym (one_off rest i) ∙ ap (drop 1) h.left ∙ one_off fields i ∙ ap (λ (k : ℕ). drop k fields) (sym next);
+      ap (drop (i + 1)) made ∙ dropped_set rest i hole ∙ ap (λ (k : ℕ). drop k rest) next ∙ sym (one_off rest i) ∙ ap (drop 1) h.left
+      ∙ one_off fields i ∙ ap (λ (k : ℕ). drop k fields) (sym next);
 }
 
 drop-none : (none : List Filling) (i : ℕ) → none ≡ [] → drop i none ≡ []
@@ -163,7 +167,9 @@ pub settle_end : (ns : List Node) (fields rest : List Filling) (values : List Va
     → Settled ns fields rest values i → length fields ≤ i
     → settles (all_drawn ns fields) ≡ Some (all_seen values)
 settle_end ns fields rest values i h past =
-    h.whole ∙ ap (λ (l : List Filling). with_front (all_seen values) (settles (all_drawn ns l))) (drop_all i rest (omega (arith, past, h.many))) ∙ ap (λ (x : Vals). Some x) (joined-no_more (all_seen values))
+    h.whole
+    ∙ ap (λ (l : List Filling). with_front (all_seen values) (settles (all_drawn ns l))) (drop_all i rest (omega (arith, past, h.many)))
+    ∙ ap (λ (x : Vals). Some x) (joined-no_more (all_seen values))
 
 seen-Group : (vs : List Value) → seen (value.Group vs) ≡ group (all_seen vs)
 seen-Group vs = ap seen (sym (value.rolls-Group vs)) ∙ fold-roll-Value Val seen_level (Value-F.Group vs)
@@ -172,4 +178,5 @@ pub fields_settled : (ns : List Node) (d : Filling) (ds : List Filling) (vs : Li
     → settles (all_drawn ns ds) ≡ Some (all_seen vs)
     → settle (drawn ns d) ≡ Some (seen (value.Group vs))
 fields_settled ns d ds vs is e =
-    ap (λ (x : Filling). settle (drawn ns x)) is ∙ ap settle (drawn-Fields ns ds) ∙ ap (option_map group) e ∙ ap (λ (v : Val). Some v) (sym (seen-Group vs))
+    ap (λ (x : Filling). settle (drawn ns x)) is ∙ ap settle (drawn-Fields ns ds) ∙ ap (option_map group) e
+    ∙ ap (λ (v : Val). Some v) (sym (seen-Group vs))

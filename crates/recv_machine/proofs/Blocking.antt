@@ -32,21 +32,27 @@ use Rattle.recv_machine.proofs.Within.{width_is}
 
 module _ (o : Order) (w : ℕ) (a : Array) (n : ℕ) (s : Place) (wide : IsWidth w) where
   passed_block : Option (List ℤ) → Run Draft
-  passed_block z = if_passed z (λ zs. gives (done (row (kind_of a) zs)) (record { pos = s.pos + n * w; left = drop (n * w) s.left; near = s.near - n * w; tests = s.tests }))
+  passed_block z = if_passed z (λ zs. gives (done (row (kind_of a) zs))
+      (record { pos = s.pos + n * w; left = drop (n * w) s.left; near = s.near - n * w; tests = s.tests }))
 
   tested_block : fill_block o w a n s ≡ (if nat_le (n * w) s.near then passed_block (numbers_at a o (width_as w) w n s.left) else strays)
   unfolding passed_block
   tested_block =
-      ap (λ (z : Option Width). if_some z (λ x. if nat_le (n * w) s.near then if_passed (numbers_at a o x w n s.left) (λ zs. gives (done (row (kind_of a) zs)) (record { pos = s.pos + n * w; left = drop (n * w) s.left; near = s.near - n * w; tests = s.tests })) else strays)) (width_is w wide)
+      ap (λ (z : Option Width). if_some z (λ x. if nat_le (n * w) s.near
+      then if_passed (numbers_at a o x w n s.left) (λ zs. gives (done (row (kind_of a) zs))
+      (record { pos = s.pos + n * w; left = drop (n * w) s.left; near = s.near - n * w; tests = s.tests }))
+      else strays)) (width_is w wide)
 
   pub block_near : Holds (fill_block o w a n s) → n * w ≤ s.near
   block_near h = checked (nat_le (n * w) s.near) refl (subst Holds tested_block h) where
-    checked : (b : Bool) → nat_le (n * w) s.near ≡ b → Holds (if b then passed_block (numbers_at a o (width_as w) w n s.left) else strays) → n * w ≤ s.near
+    checked : (b : Bool) → nat_le (n * w) s.near ≡ b → Holds (if b then passed_block (numbers_at a o (width_as w) w n s.left) else strays)
+        → n * w ≤ s.near
     checked true e k = leb-true (n * w) s.near e
     checked false e k = absurd k
 
   block_is : n * w ≤ s.near → fill_block o w a n s ≡ passed_block (numbers_at a o (width_as w) w n s.left)
-  block_is near = tested_block ∙ ap (λ (b : Bool). if b then passed_block (numbers_at a o (width_as w) w n s.left) else strays) (le-leb (n * w) s.near near)
+  block_is near = tested_block
+      ∙ ap (λ (b : Bool). if b then passed_block (numbers_at a o (width_as w) w n s.left) else strays) (le-leb (n * w) s.near near)
 
   pub block_gives : (ns : List Node) (r : Numbers) (t : Place) → n * w ≤ s.near → numbers_at a o (width_as w) w n s.left ≡ Some r.numbers
       → r.kind ≡ kind_of a → t ≡ record { pos = s.pos + n * w; left = drop (n * w) s.left; near = s.near - n * w; tests = s.tests }
@@ -54,7 +60,8 @@ module _ (o : Order) (w : ℕ) (a : Array) (n : ℕ) (s : Place) (wide : IsWidth
   unfolding passed_block
   block_gives ns r t near read kind is =
       block_is near ∙ ap passed_block read ∙ ap (λ (u : Place). gives (done (row (kind_of a) r.numbers)) u) (sym is)
-      ∙ ap (λ (d : Draft). gives d t) (ap (λ (k : Kind). done (row k r.numbers)) (sym kind) ∙ ap done (sym (seen-Numbers r)) ∙ sym (drawn-Done ns (value.Row r)))
+      ∙ ap (λ (d : Draft). gives d t)
+      (ap (λ (k : Kind). done (row k r.numbers)) (sym kind) ∙ ap done (sym (seen-Numbers r)) ∙ sym (drawn-Done ns (value.Row r)))
 
   pub block_refuses : n * w ≤ s.near → numbers_at a o (width_as w) w n s.left ≡ None → fill_block o w a n s ≡ refuses
   unfolding passed_block
@@ -81,7 +88,8 @@ left_start a o w n near left r le is =
     let same : (n - 0) * w ≡ n * w = ap (λ (k : ℕ). k * w) all in
     record {
       within = omega (arith, le, same);
-      whole = front_none (numbers_at a o (width_as w) w n left) ∙ ap (λ (q : Numbers). option_map (λ zs. q.numbers ++ zs) (numbers_at a o (width_as w) w n left)) (sym is)
+      whole = front_none (numbers_at a o (width_as w) w n left)
+          ∙ ap (λ (q : Numbers). option_map (λ zs. q.numbers ++ zs) (numbers_at a o (width_as w) w n left)) (sym is)
           ∙ ap (λ (k : ℕ). option_map (λ zs. r.numbers ++ zs) (numbers_at a o (width_as w) w k left)) (sym all);
       kind = ap (λ (q : Numbers). q.kind) is;
     }
@@ -130,12 +138,15 @@ module _ (a : Array) (o : Order) (w n near : ℕ) (left : List ℕ) (r : Numbers
   left_turn new m y z lt wide is read same made = record {
     within = omega (arith, h.within, rest_is lt);
     whole =
-        let passes : digit_passing a (width_as w) here ≡ Some y = subst (λ (k : ℕ). digit_passing a (width_as w) k ≡ Some y) (is_here m wide is) read in
+        let passes : digit_passing a (width_as w) here ≡ Some y =
+        subst (λ (k : ℕ). digit_passing a (width_as w) k ≡ Some y) (is_here m wide is) read in
         let far : drop w (drop off left) ≡ drop (off + w) left = drop-drop w off left in
-        opened lt ∙ ap (option_map (λ zs. r.numbers ++ zs)) (taken (is_digit a (num_of here)) (num_of here) y (numbers_at a o (width_as w) w (n - (i + 1)) (drop w (drop off left))) passes)
+        opened lt ∙ ap (option_map (λ zs. r.numbers ++ zs))
+        (taken (is_digit a (num_of here)) (num_of here) y (numbers_at a o (width_as w) w (n - (i + 1)) (drop w (drop off left))) passes)
         ∙ joined_more y (numbers_at a o (width_as w) w (n - (i + 1)) (drop w (drop off left)))
         ∙ ap (λ (l : List ℕ). option_map (λ zs. (r.numbers ++ y ∷ []) ++ zs) (numbers_at a o (width_as w) w (n - (i + 1)) l)) far
-        ∙ ap (λ (l : List ℤ). option_map (λ zs. l ++ zs) (numbers_at a o (width_as w) w (n - (i + 1)) (drop (off + w) left))) (sym (ap (λ (q : Numbers). q.numbers) made ∙ ap (λ (v : ℤ). r.numbers ++ v ∷ []) same));
+        ∙ ap (λ (l : List ℤ). option_map (λ zs. l ++ zs) (numbers_at a o (width_as w) w (n - (i + 1)) (drop (off + w) left)))
+        (sym (ap (λ (q : Numbers). q.numbers) made ∙ ap (λ (v : ℤ). r.numbers ++ v ∷ []) same));
     kind = ap (λ (q : Numbers). q.kind) made ∙ h.kind;
   }
 
@@ -149,18 +160,23 @@ module _ (a : Array) (o : Order) (w n near : ℕ) (left : List ℕ) (r : Numbers
       → numbers_at a o (width_as w) w n left ≡ None
   unfolding here num_of
   left_refused m lt wide is none =
-      let fails : digit_passing a (width_as w) here ≡ None = subst (λ (k : ℕ). digit_passing a (width_as w) k ≡ None) (is_here m wide is) none in
-      opened lt ∙ missed (is_digit a (num_of here)) (num_of here) (numbers_at a o (width_as w) w (n - (i + 1)) (drop w (drop off left))) fails
+      let fails : digit_passing a (width_as w) here ≡ None =
+      subst (λ (k : ℕ). digit_passing a (width_as w) k ≡ None) (is_here m wide is) none in
+      opened lt
+      ∙ missed (is_digit a (num_of here)) (num_of here) (numbers_at a o (width_as w) w (n - (i + 1)) (drop w (drop off left))) fails
 
   pub left_end : n ≤ i → numbers_at a o (width_as w) w n left ≡ Some r.numbers
   left_end past =
       let none : n - i ≡ 0 = omega (arith, past) in
-      h.whole ∙ ap (λ (k : ℕ). option_map (λ zs. r.numbers ++ zs) (numbers_at a o (width_as w) w k (drop off left))) none ∙ ap Some (append-nil r.numbers)
+      h.whole ∙ ap (λ (k : ℕ). option_map (λ zs. r.numbers ++ zs) (numbers_at a o (width_as w) w k (drop off left))) none
+      ∙ ap Some (append-nil r.numbers)
 
 -- a number that is read is one of the row's
 pub passing_ranged : (a : Array) (x : Width) (m : ℕ) (n : ℤ) → digit_passing a x m ≡ Some n → IsInRange (kind_of a) n
 passing_ranged a x m n e = checked (is_digit a (number_of (is_signed (number (kind_of a))) x m)) refl e where
-  checked : (b : Bool) → is_digit a (number_of (is_signed (number (kind_of a))) x m) ≡ b → (if b then Some (number_of (is_signed (number (kind_of a))) x m) else None) ≡ Some n → IsInRange (kind_of a) n
+  checked : (b : Bool) → is_digit a (number_of (is_signed (number (kind_of a))) x m) ≡ b
+      → (if b then Some (number_of (is_signed (number (kind_of a))) x m) else None) ≡ Some n
+      → IsInRange (kind_of a) n
   checked true is k =
       let same : number_of (is_signed (number (kind_of a))) x m ≡ n = cc in
       digit_ranged a n (subst (λ (z : ℤ). is_digit a z ≡ true) same is)
@@ -174,6 +190,8 @@ placed p l n t = record { pos = p; left = l; near = n; tests = t }
 pub place_after : (v w : View) (k : ℕ) → w.pos ≡ v.pos + k → w.near ≡ v.near - k → w.tests ≡ v.tests → w.octets ≡ v.octets
     → place_of w ≡ record { pos = v.pos + k; left = drop k (drop v.pos v.octets); near = v.near - k; tests = v.tests }
 place_after v w k at near tests octets =
-    ap (λ (p : ℕ). placed p (drop p w.octets) w.near w.tests) at ∙ ap (λ (o : List ℕ). placed (v.pos + k) (drop (v.pos + k) o) w.near w.tests) octets
-    ∙ ap (λ (n : ℕ). placed (v.pos + k) (drop (v.pos + k) v.octets) n w.tests) near ∙ ap (λ (n : ℕ). placed (v.pos + k) (drop (v.pos + k) v.octets) (v.near - k) n) tests
+    ap (λ (p : ℕ). placed p (drop p w.octets) w.near w.tests) at
+    ∙ ap (λ (o : List ℕ). placed (v.pos + k) (drop (v.pos + k) o) w.near w.tests) octets
+    ∙ ap (λ (n : ℕ). placed (v.pos + k) (drop (v.pos + k) v.octets) n w.tests) near
+    ∙ ap (λ (n : ℕ). placed (v.pos + k) (drop (v.pos + k) v.octets) (v.near - k) n) tests
     ∙ ap (λ (l : List ℕ). placed (v.pos + k) l (v.near - k) v.tests) (sym (drop-drop k v.pos v.octets))

@@ -41,13 +41,15 @@ module _ (a : Array) where
 
   needed_keeps : (n : ℕ) → Keeping (needed n)
   needed_keeps n d s h = either (nat_lt (length s.left) n) where
-    either : (b : Bool) → Keeps (if b then refuses else gives d (record { pos = s.pos; left = s.left; near = max n s.near; tests = raised s.tests 1 }))
+    either : (b : Bool)
+        → Keeps (if b then refuses else gives d (record { pos = s.pos; left = s.left; near = max n s.near; tests = raised s.tests 1 }))
     either true = tt
     either false = h
 
   passed_keeps : (n : ℕ) → Keeping (passed n)
   passed_keeps n d s h = either (nat_le n s.near) where
-    either : (b : Bool) → Keeps (if b then gives d (record { pos = s.pos + n; left = drop n s.left; near = s.near - n; tests = s.tests }) else strays)
+    either : (b : Bool)
+        → Keeps (if b then gives d (record { pos = s.pos + n; left = drop n s.left; near = s.near - n; tests = s.tests }) else strays)
     either true = h
     either false = tt
 
@@ -59,8 +61,13 @@ module _ (a : Array) where
       or true = passed_keeps (gap s.pos w) e t k
       or false = tt
 
-    either : (b : Bool) → Keeps (if b then then_run (needed (gap s.pos w) d s) (λ d t. if test (take (gap s.pos w) t.left) then passed (gap s.pos w) d t else refuses) else refuses)
-    either true = keeps_then (needed (gap s.pos w) d s) (λ d t. if test (take (gap s.pos w) t.left) then passed (gap s.pos w) d t else refuses) (needed_keeps (gap s.pos w) d s h) tested
+    either : (b : Bool)
+        → Keeps
+        (if b
+        then then_run (needed (gap s.pos w) d s) (λ d t. if test (take (gap s.pos w) t.left) then passed (gap s.pos w) d t else refuses)
+        else refuses)
+    either true = keeps_then (needed (gap s.pos w) d s)
+        (λ d t. if test (take (gap s.pos w) t.left) then passed (gap s.pos w) d t else refuses) (needed_keeps (gap s.pos w) d s h) tested
     either false = tt
 
   -- only the whole of it is a part
@@ -71,10 +78,12 @@ module _ (a : Array) where
 
   num_keeps : (x : Width) (m : ℕ) → Keeping (num_into x m)
   num_keeps x m d s (inr h) = subst (λ (y : Draft). Keeps (num_into x m y s)) (sym h.1) tt
-  num_keeps x m d s (inl e) = subst (λ (y : Draft). Keeps (num_into x m y s)) (sym e) (either (is_digit a (number_of (is_signed (number (kind_of a))) x m)) refl) where
-    either : (b : Bool) → is_digit a (number_of (is_signed (number (kind_of a))) x m) ≡ b → Keeps (if b then gives (done (num (number_of (is_signed (number (kind_of a))) x m))) s else refuses)
-    either true is = inr (number_of (is_signed (number (kind_of a))) x m, refl, is)
-    either false is = tt
+  num_keeps x m d s (inl e) = subst (λ (y : Draft). Keeps (num_into x m y s)) (sym e)
+      (either (is_digit a (number_of (is_signed (number (kind_of a))) x m)) refl) where
+        either : (b : Bool) → is_digit a (number_of (is_signed (number (kind_of a))) x m) ≡ b
+            → Keeps (if b then gives (done (num (number_of (is_signed (number (kind_of a))) x m))) s else refuses)
+        either true is = inr (number_of (is_signed (number (kind_of a))) x m, refl, is)
+        either false is = tt
 
   -- what gives nothing of such a draft
   strays_keeps : (f : Filler) → ((s : Place) → Keeps (f (digit a) s)) → ((n : ℤ) (s : Place) → Keeps (f (done (num n)) s)) → Keeping f
@@ -85,7 +94,8 @@ module _ (a : Array) where
   into_keeps (get.Num off p w o) x m = num_keeps x m
   into_keeps (get.Tag off p w o) x m = strays_keeps (into (get.Tag off p w o) x m) (λ (s : Place). tt) (λ (n : ℤ) (s : Place). tt)
   into_keeps (get.Flag off p w o) x m = strays_keeps (into (get.Flag off p w o) x m) (λ (s : Place). tt) (λ (n : ℤ) (s : Place). tt)
-  into_keeps (get.Count off p mul add w o) x m = strays_keeps (into (get.Count off p mul add w o) x m) (λ (s : Place). tt) (λ (n : ℤ) (s : Place). tt)
+  into_keeps (get.Count off p mul add w o) x m =
+      strays_keeps (into (get.Count off p mul add w o) x m) (λ (s : Place). tt) (λ (n : ℤ) (s : Place). tt)
   into_keeps (get.Const off os) x m = strays_keeps (into (get.Const off os) x m) (λ (s : Place). tt) (λ (n : ℤ) (s : Place). tt)
 
   -- a descriptor gives nothing of a draft that has no length to be read
@@ -103,9 +113,11 @@ module _ (a : Array) where
         → Keeps (if long then long_into name size mul d s else if short then short_into name size mul first d s else refuses)
     form_keeps true short name size first s =
         let t : Place = record { pos = s.pos; left = s.left; near = max 12 s.near; tests = raised s.tests 1 } in
-        after_test (nat_lt (length s.left) 12) t (λ x t. units_into (nat_eq (little w16 4 2 t.left) name && nat_eq (little w16 6 2 t.left) size) mul (little w32 8 4 t.left) 12 x t)
+        after_test (nat_lt (length s.left) 12) t
+        (λ x t. units_into (nat_eq (little w16 4 2 t.left) name && nat_eq (little w16 6 2 t.left) size) mul (little w32 8 4 t.left) 12 x t)
         (units_keeps (nat_eq (little w16 4 2 s.left) name && nat_eq (little w16 6 2 s.left) size) (little w32 8 4 s.left) 12 t)
-    form_keeps false true name size first s = units_keeps (nat_eq (first % 256) name && nat_eq (first / 256 % 256) size) (first / 65536 % 4096) 4 s
+    form_keeps false true name size first s =
+        units_keeps (nat_eq (first % 256) name && nat_eq (first / 256 % 256) size) (first / 65536 % 4096) 4 s
     form_keeps false false name size first s = tt
 
     desc_none : (name size : ℕ) (s : Place) → Keeps (desc_into name size mul d s)
@@ -116,7 +128,8 @@ module _ (a : Array) where
 
   desc_keeps : (name size mul : ℕ) → Keeping (desc_into name size mul)
   desc_keeps name size mul = strays_keeps (desc_into name size mul)
-      (λ (s : Place). desc_none (digit a) mul (λ (m : ℕ) (t : Place). refl) name size s) (λ (n : ℤ) (s : Place). desc_none (done (num n)) mul (λ (m : ℕ) (t : Place). refl) name size s)
+      (λ (s : Place). desc_none (digit a) mul (λ (m : ℕ) (t : Place). refl) name size s)
+      (λ (n : ℤ) (s : Place). desc_none (done (num n)) mul (λ (m : ℕ) (t : Place). refl) name size s)
 
   word_keeps : (off w : ℕ) (p : List ℕ) (o : Order) (g : Get) → Keeping (λ d s. word_at off w o s (λ x m. within p (into g x m) d s))
   word_keeps off w p o g d s h = wide (width_in w) where
@@ -124,7 +137,9 @@ module _ (a : Array) where
     near true x m = within_keeps p (into g x m) (into_keeps g x m) d s h
     near false x m = tt
 
-    wide : (z : Option Width) → Keeps (if_passed z (λ x. if nat_le (off + w) s.near then within p (into g x (loaded o x (take w (drop off s.left)))) d s else strays))
+    wide : (z : Option Width)
+        → Keeps
+        (if_passed z (λ x. if nat_le (off + w) s.near then within p (into g x (loaded o x (take w (drop off s.left)))) d s else strays))
     wide None = tt
     wide (Some x) = near (nat_le (off + w) s.near) x (loaded o x (take w (drop off s.left)))
 
@@ -133,11 +148,12 @@ module _ (a : Array) where
   got_keeps (get.Tag off p w o) = word_keeps off w p o (get.Tag off p w o)
   got_keeps (get.Flag off p w o) = word_keeps off w p o (get.Flag off p w o)
   got_keeps (get.Count off p mul add w o) = word_keeps off w p o (get.Count off p mul add w o)
-  got_keeps (get.Const off os) = λ (d : Draft) (s : Place) h. either d s h (nat_le (off + length os) s.near) (same_octets os (take (length os) (drop off s.left))) where
-    either : (d : Draft) (s : Place) → IsDigit d → (b g : Bool) → Keeps (if b then (if g then gives d s else refuses) else strays)
-    either d s h true true = h
-    either d s h true false = tt
-    either d s h false g = tt
+  got_keeps (get.Const off os) = λ (d : Draft) (s : Place) h. either d s h (nat_le (off + length os) s.near)
+      (same_octets os (take (length os) (drop off s.left))) where
+        either : (d : Draft) (s : Place) → IsDigit d → (b g : Bool) → Keeps (if b then (if g then gives d s else refuses) else strays)
+        either d s h true true = h
+        either d s h true false = tt
+        either d s h false g = tt
 
   all_keeps : (gs : List Get) → Keeping (all_got gs)
   all_keeps [] d s h = h
@@ -146,27 +162,37 @@ module _ (a : Array) where
   pub fill_keeps : (c : Callees) → ((k : ℕ) → Keeping (c k)) → (b : Recv) → Keeping (fill c b)
   fill_keeps c hc finish d s h = h
   fill_keeps c hc (need n r) d s h = keeps_then (needed n d s) (fill c r) (needed_keeps n d s h) (fill_keeps c hc r)
-  fill_keeps c hc (need_row p u e r) d s h = keeps_then (if_some (part p d) (λ x. if_some (length_in x) (λ n. needed (n * u + e) d s))) (fill c r) (looked (part p d)) (fill_keeps c hc r) where
-    many : (o : Option ℕ) → Keeps (if_some o (λ n. needed (n * u + e) d s))
-    many None = tt
-    many (Some n) = needed_keeps (n * u + e) d s h
+  fill_keeps c hc (need_row p u e r) d s h = keeps_then (if_some (part p d) (λ x. if_some (length_in x) (λ n. needed (n * u + e) d s)))
+      (fill c r) (looked (part p d)) (fill_keeps c hc r) where
+        many : (o : Option ℕ) → Keeps (if_some o (λ n. needed (n * u + e) d s))
+        many None = tt
+        many (Some n) = needed_keeps (n * u + e) d s h
 
-    looked : (o : Option Draft) → Keeps (if_some o (λ x. if_some (length_in x) (λ n. needed (n * u + e) d s)))
-    looked None = tt
-    looked (Some x) = many (length_in x)
-  fill_keeps c hc (skip_any w r) d s h = keeps_then (skipped (λ o. true) w d s) (fill c r) (skipped_keeps (λ o. true) w d s h) (fill_keeps c hc r)
-  fill_keeps c hc (skip_zero w r) d s h = keeps_then (skipped all_zero w d s) (fill c r) (skipped_keeps all_zero w d s h) (fill_keeps c hc r)
+        looked : (o : Option Draft) → Keeps (if_some o (λ x. if_some (length_in x) (λ n. needed (n * u + e) d s)))
+        looked None = tt
+        looked (Some x) = many (length_in x)
+  fill_keeps c hc (skip_any w r) d s h =
+      keeps_then (skipped (λ o. true) w d s) (fill c r) (skipped_keeps (λ o. true) w d s h) (fill_keeps c hc r)
+  fill_keeps c hc (skip_zero w r) d s h =
+      keeps_then (skipped all_zero w d s) (fill c r) (skipped_keeps all_zero w d s h) (fill_keeps c hc r)
   fill_keeps c hc (pass n gs r) d s h =
-      keeps_then (all_got gs d s) (λ x t. then_run (passed n x t) (fill c r)) (all_keeps gs d s h) (λ (x : Draft) (t : Place) k. keeps_then (passed n x t) (fill c r) (passed_keeps n x t k) (fill_keeps c hc r))
-  fill_keeps c hc (desc p name size mul r) d s h = keeps_then (within p (desc_into name size mul) d s) (fill c r) (within_keeps p (desc_into name size mul) (desc_keeps name size mul) d s h) (fill_keeps c hc r)
-  fill_keeps c hc (row_block p o r) d s h = keeps_then (within p (row_into o) d s) (fill c r) (within_keeps p (row_into o) (strays_keeps (row_into o) (λ (t : Place). tt) (λ (n : ℤ) (t : Place). tt)) d s h) (fill_keeps c hc r)
-  fill_keeps c hc (row_wide p o r) d s h = keeps_then (within p (wide_into o) d s) (fill c r) (within_keeps p (wide_into o) (strays_keeps (wide_into o) (λ (t : Place). tt) (λ (n : ℤ) (t : Place). tt)) d s h) (fill_keeps c hc r)
+      keeps_then (all_got gs d s) (λ x t. then_run (passed n x t) (fill c r)) (all_keeps gs d s h)
+      (λ (x : Draft) (t : Place) k. keeps_then (passed n x t) (fill c r) (passed_keeps n x t k) (fill_keeps c hc r))
+  fill_keeps c hc (desc p name size mul r) d s h = keeps_then (within p (desc_into name size mul) d s) (fill c r)
+      (within_keeps p (desc_into name size mul) (desc_keeps name size mul) d s h) (fill_keeps c hc r)
+  fill_keeps c hc (row_block p o r) d s h = keeps_then (within p (row_into o) d s) (fill c r)
+      (within_keeps p (row_into o) (strays_keeps (row_into o) (λ (t : Place). tt) (λ (n : ℤ) (t : Place). tt)) d s h) (fill_keeps c hc r)
+  fill_keeps c hc (row_wide p o r) d s h = keeps_then (within p (wide_into o) d s) (fill c r)
+      (within_keeps p (wide_into o) (strays_keeps (wide_into o) (λ (t : Place). tt) (λ (n : ℤ) (t : Place). tt)) d s h) (fill_keeps c hc r)
   fill_keeps c hc (each p b r) d s h = keeps_then (within p (fill_each (fill c b)) d s) (fill c r)
-      (within_keeps p (fill_each (fill c b)) (strays_keeps (fill_each (fill c b)) (λ (t : Place). tt) (λ (n : ℤ) (t : Place). tt)) d s h) (fill_keeps c hc r)
+      (within_keeps p (fill_each (fill c b)) (strays_keeps (fill_each (fill c b)) (λ (t : Place). tt) (λ (n : ℤ) (t : Place). tt)) d s h)
+      (fill_keeps c hc r)
   fill_keeps c hc (switch p cs r) d s h = keeps_then (within p (fill_arm (fill_case c cs)) d s) (fill c r)
-      (within_keeps p (fill_arm (fill_case c cs)) (strays_keeps (fill_arm (fill_case c cs)) (λ (t : Place). tt) (λ (n : ℤ) (t : Place). tt)) d s h) (fill_keeps c hc r)
+      (within_keeps p (fill_arm (fill_case c cs)) (strays_keeps (fill_arm (fill_case c cs)) (λ (t : Place). tt) (λ (n : ℤ) (t : Place). tt))
+      d s h) (fill_keeps c hc r)
   fill_keeps c hc (if_there p b r) d s h = keeps_then (within p (fill_present (fill c b)) d s) (fill c r)
-      (within_keeps p (fill_present (fill c b)) (strays_keeps (fill_present (fill c b)) (λ (t : Place). tt) (λ (n : ℤ) (t : Place). tt)) d s h) (fill_keeps c hc r)
+      (within_keeps p (fill_present (fill c b)) (strays_keeps (fill_present (fill c b)) (λ (t : Place). tt) (λ (n : ℤ) (t : Place). tt)) d s
+      h) (fill_keeps c hc r)
   fill_keeps c hc (call k p r) d s h = keeps_then (within p (c k) d s) (fill c r) (within_keeps p (c k) (hc k) d s h) (fill_keeps c hc r)
 
   pub called_keeps : (subs : ℕ → Option Recv) (n k : ℕ) → Keeping (called subs n k)

@@ -91,14 +91,17 @@ pub fresh_turn : (ns : List Node) (ids : List ℕ) (i id : ℕ) (ds new : List F
 fresh_turn ns ids i id ds new d all lt same made is so_far =
     let rest : Drafts = all_fresh (fields_at (unfolded ns) (drop (i + 1) ids)) in
     let split : drop i ids ≡ id ∷ drop (i + 1) ids = path-drop ids i lt ∙ ap (λ (k : ℕ). k ∷ drop (i + 1) ids) (sym same) in
-    ap (λ (l : List Filling). drafts_joined (all_drawn ns l) rest) is ∙ drafts_more ns ds d rest ∙ ap (λ (x : Draft). drafts_joined (all_drawn ns ds) (draft x rest)) made
+    ap (λ (l : List Filling). drafts_joined (all_drawn ns l) rest) is ∙ drafts_more ns ds d rest
+    ∙ ap (λ (x : Draft). drafts_joined (all_drawn ns ds) (draft x rest)) made
     ∙ ap (λ (l : List ℕ). drafts_joined (all_drawn ns ds) (all_fresh (fields_at (unfolded ns) l))) (sym split) ∙ so_far
 
 pub fresh_end : (ns : List Node) (ids items : List ℕ) (i : ℕ) (ds : List Filling) → items ≡ ids → length items ≤ i
     → drafts_joined (all_drawn ns ds) (all_fresh (fields_at (unfolded ns) (drop i items))) ≡ all_fresh (fields_at (unfolded ns) items)
     → all_drawn ns ds ≡ all_fresh (fields_at (unfolded ns) ids)
 fresh_end ns ids items i ds same past is =
-    sym (drafts_alone (all_drawn ns ds)) ∙ ap (λ (l : List ℕ). drafts_joined (all_drawn ns ds) (all_fresh (fields_at (unfolded ns) l))) (sym (drop_all i items past)) ∙ is ∙ ap (λ (l : List ℕ). all_fresh (fields_at (unfolded ns) l)) same
+    sym (drafts_alone (all_drawn ns ds))
+    ∙ ap (λ (l : List ℕ). drafts_joined (all_drawn ns ds) (all_fresh (fields_at (unfolded ns) l))) (sym (drop_all i items past)) ∙ is
+    ∙ ap (λ (l : List ℕ). all_fresh (fields_at (unfolded ns) l)) same
 
 -- ---- parts
 
@@ -123,7 +126,9 @@ pub put_there : (ns : List Node) (n : ℕ) (p : List ℕ) (y : Draft) (ds : List
     → n < length ds
 put_there ns n p y [] h = absurd h
 put_there ns zero p y (d ∷ ds) h = omega arith
-put_there ns (suc n) p y (d ∷ ds) h = let k = put_there ns n p y ds (there_mapped (put_field n p y (all_drawn ns ds)) (λ x. draft (drawn ns d) x) h) in omega (arith, k)
+put_there ns (suc n) p y (d ∷ ds) h =
+    let k = put_there ns n p y ds (there_mapped (put_field n p y (all_drawn ns ds)) (λ x. draft (drawn ns d) x) h) in
+    omega (arith, k)
 
 pub put_runs : (ns : List Node) (n : ℕ) (p : List ℕ) (y : Draft) (ds : List Filling) (d : Filling)
     → slice_get ds n ≡ Some d → IsThere (put_field n p y (all_drawn ns ds))
@@ -131,8 +136,10 @@ pub put_runs : (ns : List Node) (n : ℕ) (p : List ℕ) (y : Draft) (ds : List 
 put_runs ns n p y [] d e h = absurd h
 put_runs ns zero p y (x ∷ ds) d e h =
     let s : x ≡ d = cc in
-    subst (λ (z : Filling). IsThere (put_part p y (drawn ns z))) s (there_mapped (put_part p y (drawn ns x)) (λ z. draft z (all_drawn ns ds)) h)
-put_runs ns (suc n) p y (x ∷ ds) d e h = put_runs ns n p y ds d e (there_mapped (put_field n p y (all_drawn ns ds)) (λ z. draft (drawn ns x) z) h)
+    subst (λ (z : Filling). IsThere (put_part p y (drawn ns z))) s
+    (there_mapped (put_part p y (drawn ns x)) (λ z. draft z (all_drawn ns ds)) h)
+put_runs ns (suc n) p y (x ∷ ds) d e h =
+    put_runs ns n p y ds d e (there_mapped (put_field n p y (all_drawn ns ds)) (λ z. draft (drawn ns x) z) h)
 
 pub put_is : (ns : List Node) (n : ℕ) (p : List ℕ) (y : Draft) (ds : List Filling) (d hole d' : Filling)
     → slice_get ds n ≡ Some d → put_part p y (drawn ns d) ≡ Some (drawn ns d')
@@ -158,7 +165,8 @@ pub rest_back : (ns : List Node) (n : ℕ) (p : List ℕ) (ds mid new : List Fil
     → ((y : Draft) → put_part p y (drawn ns d') ≡ put_part p y (drawn ns d)) → (y : Draft)
     → put_field n p y (all_drawn ns new) ≡ put_field n p y (all_drawn ns ds)
 rest_back ns n p ds mid new d hole d' e f g h y =
-    ap (λ (l : List Filling). put_field n p y (all_drawn ns l)) (g ∙ ap (λ (l : List Filling). slice_set l n d') f) ∙ rest_same ns n p ds d hole d' e h y
+    ap (λ (l : List Filling). put_field n p y (all_drawn ns l)) (g ∙ ap (λ (l : List Filling). slice_set l n d') f)
+    ∙ rest_same ns n p ds d hole d' e h y
 
 pub ruleset drafting = (drawn-Raw, drawn-Fields, no_node)
 

@@ -46,14 +46,16 @@ pub num_read : (ns : List Node) (old new : Filling) (id : ℕ) (x : Width) (m : 
     → old ≡ filling.Raw id → on_some (scalar_in (type_at ns id)) (passing x m) ≡ Some n → drawn ns new ≡ done (num n)
     → num_into x m (drawn ns old) s ≡ gives (drawn ns new) s
 num_read ns old new id x m n s is e f =
-    ap (λ (d : Draft). num_into x m d s) (ap (drawn ns) is ∙ drawn-Raw ns id) ∙ scalar_taken (type_at ns id) x m n s e ∙ ap (λ (d : Draft). gives d s) (sym f)
+    ap (λ (d : Draft). num_into x m d s) (ap (drawn ns) is ∙ drawn-Raw ns id) ∙ scalar_taken (type_at ns id) x m n s e
+    ∙ ap (λ (d : Draft). gives d s) (sym f)
 
 pub digit_read : (ns : List Node) (old new : Filling) (id : ℕ) (x : Width) (m : ℕ) (n : ℤ) (s : Place)
     → old ≡ filling.Digit id → digit_passing (array_at ns id) x m ≡ Some n → drawn ns new ≡ done (num n)
     → num_into x m (drawn ns old) s ≡ gives (drawn ns new) s
 digit_read ns old new id x m n s is e f =
     let a : Array = array_at ns id in
-    ap (λ (d : Draft). num_into x m d s) (ap (drawn ns) is ∙ drawn-Digit ns id) ∙ passed_so (is_digit a (number_of (is_signed (number (kind_of a))) x m)) (number_of (is_signed (number (kind_of a))) x m) n s e
+    ap (λ (d : Draft). num_into x m d s) (ap (drawn ns) is ∙ drawn-Digit ns id)
+    ∙ passed_so (is_digit a (number_of (is_signed (number (kind_of a))) x m)) (number_of (is_signed (number (kind_of a))) x m) n s e
     ∙ ap (λ (d : Draft). gives d s) (sym f)
 
 pub seen-None : seen (value.Opt None) ≡ absent
@@ -67,7 +69,8 @@ found_type us [] None n = refl
 found_type us [] (Some i) n = refl
 found_type us (a ∷ arms) other n = decided (int_eq n a.0) (found_type us arms other n) where
   decided : (b : Bool) → type_of_arm (arms_at us arms other) n ≡ option_map (at us) (arm_found arms other n)
-      → (if b then Some (at us a.1) else type_of_arm (arms_at us arms other) n) ≡ option_map (at us) (if b then Some a.1 else arm_found arms other n)
+      → (if b then Some (at us a.1) else type_of_arm (arms_at us arms other) n)
+      ≡ option_map (at us) (if b then Some a.1 else arm_found arms other n)
   decided true h = refl
   decided false h = h
 
@@ -81,8 +84,11 @@ tag_taken : (us : List Ty) (t : Scalar) (arms : List (ℤ × ℕ)) (other : Opti
     → tag_into x m (raw (choice_type t (arms_at us arms other))) s ≡ if_passed (option_map (λ i. tagged n (at us i)) o) (λ d. gives d s)
 tag_taken us t arms other x m n o s e f =
     passed_tag (is_scalar t (number_of (is_signed t) x m)) (number_of (is_signed t) x m) n (arm_draft (arms_at us arms other)) s e
-    ∙ ap (λ (z : Option Ty). if_passed (option_map (tagged n) z) (λ d. gives d s)) (found_type us arms other n ∙ ap (option_map (at us)) f) ∙ ends o where
-      ends : (z : Option ℕ) → if_passed (option_map (tagged n) (option_map (at us) z)) (λ d. gives d s) ≡ if_passed (option_map (λ i. tagged n (at us i)) z) (λ d. gives d s)
+    ∙ ap (λ (z : Option Ty). if_passed (option_map (tagged n) z) (λ d. gives d s)) (found_type us arms other n ∙ ap (option_map (at us)) f)
+    ∙ ends o where
+      ends : (z : Option ℕ)
+          → if_passed (option_map (tagged n) (option_map (at us) z)) (λ d. gives d s)
+          ≡ if_passed (option_map (λ i. tagged n (at us i)) z) (λ d. gives d s)
       ends None = refl
       ends (Some i) = refl
 
@@ -94,10 +100,12 @@ module _ (ns : List Node) (old : Filling) (id : ℕ) (nd : Node) (tag : Tag) (ar
 
   pub tag_found : (item : ℕ) (new : Filling) → arm_found arms other n ≡ Some item → drawn ns new ≡ tagged n (type_at ns item)
       → tag_into x m (drawn ns old) s ≡ gives (drawn ns new) s
-  tag_found item new found made = ap (λ (d : Draft). tag_into x m d s) whole ∙ tag_taken (unfolded ns) (scalar_of tag) arms other x m n (Some item) s passes found ∙ ap (λ (d : Draft). gives d s) (sym made)
+  tag_found item new found made = ap (λ (d : Draft). tag_into x m d s) whole
+      ∙ tag_taken (unfolded ns) (scalar_of tag) arms other x m n (Some item) s passes found ∙ ap (λ (d : Draft). gives d s) (sym made)
 
   pub tag_missing : arm_found arms other n ≡ None → tag_into x m (drawn ns old) s ≡ refuses
-  tag_missing found = ap (λ (d : Draft). tag_into x m d s) whole ∙ tag_taken (unfolded ns) (scalar_of tag) arms other x m n None s passes found
+  tag_missing found =
+      ap (λ (d : Draft). tag_into x m d s) whole ∙ tag_taken (unfolded ns) (scalar_of tag) arms other x m n None s passes found
 
 pub ruleset getting = (
   drawn-Raw,

@@ -126,7 +126,8 @@ words_first : (value : List ℕ → ℤ) (w n : ℕ) (o : List ℕ) → n * w �
 words_first value w zero o h = refl
 words_first value w (suc n) o h =
     let long : suc n * w ≡ w + n * w = omega arith in
-    let front : take w (take (w + n * w) o) ≡ take w o = rw take-add (take_at (take w o) (take (n * w) (drop w o)) w (omega (arith, length-take w o, long))) in
+    let front : take w (take (w + n * w) o) ≡ take w o =
+    rw take-add (take_at (take w o) (take (n * w) (drop w o)) w (omega (arith, length-take w o, long))) in
     let rest : n * w ≤ length (drop w o) = omega (arith, long, length-drop w o) in
     rw (long, front, drop-take w (n * w) o, words_first value w n (drop w o) rest) refl
 
@@ -150,8 +151,16 @@ big_words k (suc n) o len =
     let front : length f ≡ w = omega (arith, length-take w o, long) in
     let rest : length r ≡ n * w = omega (arith, length-drop w o, long) in
     let turn : length (reverse f) ≡ w = length-reverse f ∙ front in
-    let split : swapped w o ≡ reverse f ++ swapped w r = ap (swapped w) (sym (take-append-drop w o)) ∙ swapped-first w f r (some_octets k) front in
-    rw (split, take_at (reverse f) (swapped w r) w turn, drop_at (reverse f) (swapped w r) w turn, word_number k (from_be_bytes (word k) f), turned_word k f front, big_words k n r rest) refl
+    let split : swapped w o ≡ reverse f ++ swapped w r =
+    ap (swapped w) (sym (take-append-drop w o)) ∙ swapped-first w f r (some_octets k) front in
+    rw (
+      split,
+      take_at (reverse f) (swapped w r) w turn,
+      drop_at (reverse f) (swapped w r) w turn,
+      word_number k (from_be_bytes (word k) f),
+      turned_word k f front,
+      big_words k n r rest,
+    ) refl
 
 none_swapped : (w : ℕ) → swapped w [] ≡ []
 unfolding swapped
@@ -167,15 +176,18 @@ swapped_long k (suc n) o len =
     let r : List ℕ = drop w o in
     let front : length f ≡ w = omega (arith, length-take w o, long) in
     let rest : length r ≡ n * w = omega (arith, length-drop w o, long) in
-    ap (λ (z : List ℕ). length (swapped w z)) (sym (take-append-drop w o)) ∙ ap length (swapped-first w f r (some_octets k) front) ∙ length-append (reverse f) (swapped w r)
+    ap (λ (z : List ℕ). length (swapped w z)) (sym (take-append-drop w o)) ∙ ap length (swapped-first w f r (some_octets k) front)
+    ∙ length-append (reverse f) (swapped w r)
     ∙ omega (arith, length-reverse f, front, swapped_long k n r rest, long)
 
 image_words : (o : Order) (k : Kind) (n : ℕ) (os : List ℕ) → length os ≡ n * width k
     → words_read (value_of o k) (width k) n os ≡ numbers_of k (in_little o (width k) os)
 unfolding numbers_of
-image_words Little k n os len = little_words k n os ∙ ap (λ (m : ℕ). numbers_in k m os) (sym (ap (λ (z : ℕ). z / width k) len ∙ mul-div_cancel n (some_octets k)))
+image_words Little k n os len =
+    little_words k n os ∙ ap (λ (m : ℕ). numbers_in k m os) (sym (ap (λ (z : ℕ). z / width k) len ∙ mul-div_cancel n (some_octets k)))
 image_words Big k n os len =
-    big_words k n os len ∙ ap (λ (m : ℕ). numbers_in k m (swapped (width k) os)) (sym (ap (λ (z : ℕ). z / width k) (swapped_long k n os len) ∙ mul-div_cancel n (some_octets k)))
+    big_words k n os len ∙ ap (λ (m : ℕ). numbers_in k m (swapped (width k) os))
+    (sym (ap (λ (z : ℕ). z / width k) (swapped_long k n os len) ∙ mul-div_cancel n (some_octets k)))
 
 -- ---- numbers that are tested one by one, and all at once
 
@@ -196,7 +208,8 @@ tested_words a o (suc n) os =
     let k = kind_of a in
     let z = value_of o k (take (width k) os) in
     let zs = words_read (value_of o k) (width k) n (drop (width k) os) in
-    ap (λ (y : Option (List ℤ)). if is_digit a z then option_map (λ ys. z ∷ ys) y else None) (tested_words a o n (drop (width k) os)) ∙ all_more (is_digit a z) (list_all (is_digit a) zs) z zs
+    ap (λ (y : Option (List ℤ)). if is_digit a z then option_map (λ ys. z ∷ ys) y else None) (tested_words a o n (drop (width k) os))
+    ∙ all_more (is_digit a z) (list_all (is_digit a) zs) z zs
 
 -- the numbers of a block, as they are taken and as they are read
 abbrev pub block_numbers : Array → Order → ℕ → List ℕ → List ℤ
@@ -247,8 +260,13 @@ module _ (a : Array) (o : Order) (n : ℕ) (s : Place) (k : Kind) (r : Numbers) 
       → t ≡ record { pos = s.pos + n * width k; left = drop (n * width k) s.left; near = s.near - n * width k; tests = s.tests }
       → fill_block o (width (kind_of a)) a n s ≡ gives (drawn ns (filling.Done (value.Row r))) t
   whole_given ns t all at =
-      block_gives o (width (kind_of a)) a n s (is_width (kind_of a)) ns r t fits (block_given a o n s.left r b (omega (arith, fits, near)) numbers tested all) (ap (λ (q : Numbers). q.kind) row ∙ is)
-      (at ∙ ap (λ (j : Kind). record { pos = s.pos + n * width j; left = drop (n * width j) s.left; near = s.near - n * width j; tests = s.tests }) is)
+      block_gives o (width (kind_of a)) a n s (is_width (kind_of a)) ns r t fits
+      (block_given a o n s.left r b (omega (arith, fits, near)) numbers tested all) (ap (λ (q : Numbers). q.kind) row ∙ is)
+      (at
+      ∙ ap
+      (λ (j : Kind). record { pos = s.pos + n * width j; left = drop (n * width j) s.left; near = s.near - n * width j; tests = s.tests })
+      is)
 
   pub whole_refused : b ≡ false → fill_block o (width (kind_of a)) a n s ≡ refuses
-  whole_refused some = block_refuses o (width (kind_of a)) a n s (is_width (kind_of a)) fits (block_missed a o n s.left r b (omega (arith, fits, near)) numbers tested some)
+  whole_refused some = block_refuses o (width (kind_of a)) a n s (is_width (kind_of a)) fits
+      (block_missed a o n s.left r b (omega (arith, fits, near)) numbers tested some)

@@ -29,7 +29,8 @@ part-drop p i d h = rw (add-one, drop-cons p i 0) refl
 pub ruleset parts = (part-drop)
 
 pub items-long : (vs : List Value) → length_in (done (seen (value.Items vs))) ≡ Some (length vs)
-items-long vs = ap (λ (v : Val). length_in (done v)) (ap seen (sym (value.rolls-Items vs)) ∙ fold-roll-Value Val seen_level (Value-F.Items vs)) ∙ ap Some (count-all_seen vs)
+items-long vs = ap (λ (v : Val). length_in (done v))
+    (ap seen (sym (value.rolls-Items vs)) ∙ fold-roll-Value Val seen_level (Value-F.Items vs)) ∙ ap Some (count-all_seen vs)
 
 pub ruleset lengths = (
   drawn-Raw,

@@ -29,7 +29,8 @@ pub items_over : (ns : List Node) (id item n : ℕ) (c : Count) (nd : Node) → 
 items_over ns id item n c nd leveled what many =
     let whole : type_at ns id ≡ items_type c (type_at ns item) = leveled ∙ ap (level (unfolded ns)) what in
     subst (λ (m : ℕ). GoesOver ns (elements.Values item m) (raw (type_at ns id))) (sym many)
-    (subst (λ (t : Ty). GoesOver ns (elements.Values item (least c)) (raw t)) (sym whole) ((λ (f : Filler) (s : Place). refl), record { narrow = λ o s. refl; wide = λ o s. refl }))
+    (subst (λ (t : Ty). GoesOver ns (elements.Values item (least c)) (raw t)) (sym whole)
+    ((λ (f : Filler) (s : Place). refl), record { narrow = λ o s. refl; wide = λ o s. refl }))
 
 array_over : (ns : List Node) (id n : ℕ) (a : Array) → type_at ns id ≡ array_type a → n ≡ least (count_of a)
     → GoesOver ns (elements.Numbers id n) (raw (type_at ns id))

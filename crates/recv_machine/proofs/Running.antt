@@ -87,10 +87,13 @@ module _ (c : Callees) (ops items : List RecvOp) (i : ℕ) (o : RecvOp) (d0 d : 
     (lt : i < length items) (is : o ≡ get_or items i o)
     (left : fill c (code_seen items) d0 s0 ≡ fill c (code_seen (drop i items)) d s) where
   split : fill c (code_seen items) d0 s0 ≡ then_run (fill c (op_seen o finish) d s) (fill c (code_seen (drop (i + 1) items)))
-  split = left ∙ ap (λ (b : Recv). fill c b d s) (code-drop items i o lt) ∙ ap (λ (x : RecvOp). fill c (op_seen x (code_seen (drop (i + 1) items))) d s) (sym is) ∙ op_first c o (code_seen (drop (i + 1) items)) d s
+  split = left ∙ ap (λ (b : Recv). fill c b d s) (code-drop items i o lt)
+      ∙ ap (λ (x : RecvOp). fill c (op_seen x (code_seen (drop (i + 1) items))) d s) (sym is)
+      ∙ op_first c o (code_seen (drop (i + 1) items)) d s
 
   pub op_holds : Holds (fill c (code_seen ops) d0 s0) → Holds (fill c (op_seen o finish) d s)
-  op_holds h = first_holds (fill c (op_seen o finish) d s) (fill c (code_seen (drop (i + 1) items))) (subst Holds split (subst (λ (l : List RecvOp). Holds (fill c (code_seen l) d0 s0)) (sym same) h))
+  op_holds h = first_holds (fill c (op_seen o finish) d s) (fill c (code_seen (drop (i + 1) items)))
+      (subst Holds split (subst (λ (l : List RecvOp). Holds (fill c (code_seen l) d0 s0)) (sym same) h))
 
   pub op_gives : (e : Draft) (t : Place) → fill c (op_seen o finish) d s ≡ gives e t
       → fill c (code_seen items) d0 s0 ≡ fill c (code_seen (drop (i + 1) items)) e t
@@ -98,7 +101,8 @@ module _ (c : Callees) (ops items : List RecvOp) (i : ℕ) (o : RecvOp) (d0 d : 
 
   pub op_halts : (e : Draft) (t : Place) (halt : Halt) → Ran (Err halt) e t (fill c (op_seen o finish) d s)
       → Ran (Err halt) e t (fill c (code_seen ops) d0 s0)
-  op_halts e t Refused ran = ap (λ (l : List RecvOp). fill c (code_seen l) d0 s0) (sym same) ∙ split ∙ ap (λ (x : Run Draft). then_run x (fill c (code_seen (drop (i + 1) items)))) ran
+  op_halts e t Refused ran = ap (λ (l : List RecvOp). fill c (code_seen l) d0 s0) (sym same) ∙ split
+      ∙ ap (λ (x : Run Draft). then_run x (fill c (code_seen (drop (i + 1) items)))) ran
   op_halts e t NoMemory ran = tt
 
 abbrev pub Passed : List (ℤ × List RecvOp) → Option (List RecvOp) → ℤ → ℕ → Type 0
@@ -142,12 +146,14 @@ pub missed : (cases items : List (ℤ × List RecvOp)) (other body : Option (Lis
     → Picks cases other n body
 missed cases items other body n i whole passed past is c d s =
     ap (λ (l : List (ℤ × List RecvOp)). fill_case c (cases_seen l other) n d s) (sym whole)
-    ∙ passed c d s ∙ ap (λ (l : List (ℤ × List RecvOp)). fill_case c (cases_seen l other) n d s) (drop_all i items past) ∙ last_picks other n c d s ∙ ap (λ (o : Option (List RecvOp)). picked c o d s) is
+    ∙ passed c d s ∙ ap (λ (l : List (ℤ × List RecvOp)). fill_case c (cases_seen l other) n d s) (drop_all i items past)
+    ∙ last_picks other n c d s ∙ ap (λ (o : Option (List RecvOp)). picked c o d s) is
 
 pub block_end : (c : Callees) (ops items : List RecvOp) (i : ℕ) (d0 d : Draft) (s0 s : Place) → items ≡ ops
     → length items ≤ i → fill c (code_seen items) d0 s0 ≡ fill c (code_seen (drop i items)) d s
     → fill c (code_seen ops) d0 s0 ≡ gives d s
-block_end c ops items i d0 d s0 s same past left = ap (λ (l : List RecvOp). fill c (code_seen l) d0 s0) (sym same) ∙ left ∙ ap (λ (l : List RecvOp). fill c (code_seen l) d s) (drop_all i items past)
+block_end c ops items i d0 d s0 s same past left = ap (λ (l : List RecvOp). fill c (code_seen l) d0 s0) (sym same) ∙ left
+    ∙ ap (λ (l : List RecvOp). fill c (code_seen l) d s) (drop_all i items past)
 
 -- ---- an operation on the part at a path
 
@@ -157,19 +163,34 @@ Acts c b p f = (d : Draft) (s : Place) → fill c b d s ≡ then_run (within p f
 
 level_acts : (c : Callees) (x : RecvOp-F Piece) (p : List ℕ) → part_path (piece_level x finish) ≡ Some p
     → Acts c (piece_level x finish) p (acted c (piece_level x finish))
-level_acts c (RecvOp-F.Desc path name size mul) p e d s = let same : path ≡ p = cc in ap (λ (q : List ℕ). then_run (within q (desc_into name size mul) d s) (fill c finish)) same
-level_acts c (RecvOp-F.Row path order) p e d s = let same : path ≡ p = cc in ap (λ (q : List ℕ). then_run (within q (row_into order) d s) (fill c finish)) same
-level_acts c (RecvOp-F.RowWide path order) p e d s = let same : path ≡ p = cc in ap (λ (q : List ℕ). then_run (within q (wide_into order) d s) (fill c finish)) same
-level_acts c (RecvOp-F.Each path code) p e d s = let same : path ≡ p = cc in ap (λ (q : List ℕ). then_run (within q (fill_each (fill c (joined code))) d s) (fill c finish)) same
-level_acts c (RecvOp-F.Switch path cases other) p e d s = let same : path ≡ p = cc in ap (λ (q : List ℕ). then_run (within q (fill_arm (fill_case c (cases_of cases other))) d s) (fill c finish)) same
-level_acts c (RecvOp-F.Some path code) p e d s = let same : path ≡ p = cc in ap (λ (q : List ℕ). then_run (within q (fill_present (fill c (joined code))) d s) (fill c finish)) same
-level_acts c (RecvOp-F.Call k path) p e d s = let same : path ≡ p = cc in ap (λ (q : List ℕ). then_run (within q (c k) d s) (fill c finish)) same
+level_acts c (RecvOp-F.Desc path name size mul) p e d s =
+    let same : path ≡ p = cc in
+    ap (λ (q : List ℕ). then_run (within q (desc_into name size mul) d s) (fill c finish)) same
+level_acts c (RecvOp-F.Row path order) p e d s =
+    let same : path ≡ p = cc in
+    ap (λ (q : List ℕ). then_run (within q (row_into order) d s) (fill c finish)) same
+level_acts c (RecvOp-F.RowWide path order) p e d s =
+    let same : path ≡ p = cc in
+    ap (λ (q : List ℕ). then_run (within q (wide_into order) d s) (fill c finish)) same
+level_acts c (RecvOp-F.Each path code) p e d s =
+    let same : path ≡ p = cc in
+    ap (λ (q : List ℕ). then_run (within q (fill_each (fill c (joined code))) d s) (fill c finish)) same
+level_acts c (RecvOp-F.Switch path cases other) p e d s =
+    let same : path ≡ p = cc in
+    ap (λ (q : List ℕ). then_run (within q (fill_arm (fill_case c (cases_of cases other))) d s) (fill c finish)) same
+level_acts c (RecvOp-F.Some path code) p e d s =
+    let same : path ≡ p = cc in
+    ap (λ (q : List ℕ). then_run (within q (fill_present (fill c (joined code))) d s) (fill c finish)) same
+level_acts c (RecvOp-F.Call k path) p e d s =
+    let same : path ≡ p = cc in
+    ap (λ (q : List ℕ). then_run (within q (c k) d s) (fill c finish)) same
 level_acts c _ p e d s = absurd cc
 
 op_acts : (c : Callees) (o : RecvOp) (p : List ℕ) → part_path (op_seen o finish) ≡ Some p
     → Acts c (op_seen o finish) p (acted c (op_seen o finish))
 op_acts c o p =
-    subst (λ (q : Piece). part_path (q finish) ≡ Some p → Acts c (q finish) p (acted c (q finish))) (sym (fold_out-RecvOp Piece piece_level o)) (level_acts c (map-RecvOp RecvOp Piece op_seen (out-RecvOp o)) p)
+    subst (λ (q : Piece). part_path (q finish) ≡ Some p → Acts c (q finish) p (acted c (q finish)))
+    (sym (fold_out-RecvOp Piece piece_level o)) (level_acts c (map-RecvOp RecvOp Piece op_seen (out-RecvOp o)) p)
 
 pub each_acted : (c : Callees) (o : RecvOp) (p : List ℕ) (body : List RecvOp) → o ≡ op.Each p body
     → acted c (op_seen o finish) ≡ fill_each (fill c (code_seen body))
@@ -211,7 +232,8 @@ module _ (c : Callees) (o : RecvOp) (p q : List ℕ) (d : Draft) (s : Place) (at
   pub part_halts : {X : Type 0} (x e : Draft) (t : Place) (halt : Halt) (view : X → Draft) → part q d ≡ Some x
       → Gave view (Err halt) t (f x s)
       → Ran (Err halt) e t (fill c (op_seen o finish) d s)
-  part_halts x e t halt view there ran = subst (λ (z : Run Draft). Ran (Err halt) e t z) (sym whole) (at_halts f q d x e s t t halt view there ran)
+  part_halts x e t halt view there ran =
+      subst (λ (z : Run Draft). Ran (Err halt) e t z) (sym whole) (at_halts f q d x e s t t halt view there ran)
 
 -- ---- values of a node, one after the other
 
@@ -222,7 +244,8 @@ list_given : (ns : List Node) (f : Filler) (T : Ty) (n : ℕ) (vs : List Value) 
     → runs (λ u. settled (f (fresh T) u)) n s ≡ gives (map seen vs) t
     → fill_items f T n s ≡ gives (drawn ns (filling.Done (value.Items vs))) t
 list_given ns f T n vs s t ran =
-    ap (map_run (λ ws. done (values.items (vals_of ws)))) ran ∙ ap (λ (d : Draft). gives d t) (ap done (sym (seen-Items vs)) ∙ sym (drawn-Done ns (value.Items vs)))
+    ap (map_run (λ ws. done (values.items (vals_of ws)))) ran
+    ∙ ap (λ (d : Draft). gives d t) (ap done (sym (seen-Items vs)) ∙ sym (drawn-Done ns (value.Items vs)))
 
 held_list : {A B : Type 0} (h : A → B) (z : Run A) → Holds (map_run h z) → Holds z
 held_list h (gives vs t) k = tt
@@ -232,7 +255,8 @@ held_list h strays k = k
 -- values of a node that a loop goes over
 module _ (ns : List Node) (f : Filler) (d : Draft) (item n : ℕ) (s : Place) (over : GoesOver ns (elements.Values item n) d) where
   pub values_hold : Holds (fill_each f d s) → Holds (runs (λ u. settled (f (fresh (type_at ns item)) u)) n s)
-  values_hold h = held_list (λ vs. done (values.items (vals_of vs))) (runs (λ u. settled (f (fresh (type_at ns item)) u)) n s) (subst Holds (over.0 f s) h)
+  values_hold h = held_list (λ vs. done (values.items (vals_of vs))) (runs (λ u. settled (f (fresh (type_at ns item)) u)) n s)
+      (subst Holds (over.0 f s) h)
 
   pub values_given : (vs : List Value) (t : Place) → runs (λ u. settled (f (fresh (type_at ns item)) u)) n s ≡ gives (map seen vs) t
       → fill_each f d s ≡ gives (drawn ns (filling.Done (value.Items vs))) t
@@ -275,13 +299,15 @@ module _ (f : Going Val) (n i : ℕ) (s0 s : Place) (front : List Val) (lt : i <
   pub item_turn : (old new : List Value) (v : Value) (t : Place) → front ≡ map seen old → f s ≡ gives (seen v) t → new ≡ old ++ v ∷ []
       → runs f n s0 ≡ map_run (λ vs. map seen new ++ vs) (runs f (n - (i + 1)) t)
   item_turn old new v t is ran more =
-      let next : front ++ seen v ∷ [] ≡ map seen new = ap (λ (l : List Val). l ++ seen v ∷ []) is ∙ sym (ap (map seen) more ∙ map-append seen old (v ∷ [])) in
+      let next : front ++ seen v ∷ [] ≡ map seen new =
+      ap (λ (l : List Val). l ++ seen v ∷ []) is ∙ sym (ap (map seen) more ∙ map-append seen old (v ∷ [])) in
       opened ∙ ap (λ (z : Run Val). map_run (λ vs. front ++ vs) (then_run z (λ x t. map_run (λ xs. x ∷ xs) (runs f (n - (i + 1)) t)))) ran
       ∙ joined_more (seen v) (runs f (n - (i + 1)) t) ∙ ap (λ (l : List Val). map_run (λ vs. l ++ vs) (runs f (n - (i + 1)) t)) next
 
   pub item_halts : {X Y : Type 0} (view : X → Val) (view' : Y → List Val) (t u : Place) (halt : Halt) → Gave view (Err halt) t (f s)
       → Gave view' (Err halt) u (runs f n s0)
-  item_halts view view' t u Refused ran = opened ∙ ap (λ (z : Run Val). map_run (λ vs. front ++ vs) (then_run z (λ x t. map_run (λ xs. x ∷ xs) (runs f (n - (i + 1)) t)))) ran
+  item_halts view view' t u Refused ran =
+      opened ∙ ap (λ (z : Run Val). map_run (λ vs. front ++ vs) (then_run z (λ x t. map_run (λ xs. x ∷ xs) (runs f (n - (i + 1)) t)))) ran
   item_halts view view' t u NoMemory ran = tt
 
 -- ---- the value after a union's number
@@ -292,7 +318,8 @@ module _ (ns : List Node) (c : Callees) (cases : List (ℤ × List RecvOp)) (oth
       ≡ map_run (λ v. done (arm n v)) (settled (picked c o (fresh (type_at ns id)) s))
   arm_whole =
       ap (λ (d : Draft). fill_arm (fill_case c (cases_seen cases other)) d s) (ap (drawn ns) is ∙ drawn-Tagged ns n id)
-      ∙ ap (λ (k : ℤ). map_run (λ v. done (arm n v)) (settled (fill_case c (cases_seen cases other) k (fresh (type_at ns id)) s))) (sym same)
+      ∙ ap (λ (k : ℤ). map_run (λ v. done (arm n v)) (settled (fill_case c (cases_seen cases other) k (fresh (type_at ns id)) s)))
+      (sym same)
       ∙ ap (λ (z : Run Draft). map_run (λ v. done (arm n v)) (settled z)) (picks c (fresh (type_at ns id)) s)
 
   mapped_holds : (z : Run Val) → Holds (map_run (λ v. done (arm n v)) z) → Holds z
@@ -309,7 +336,8 @@ module _ (ns : List Node) (c : Callees) (cases : List (ℤ × List RecvOp)) (oth
 
   pub arm_given : (v : Val) (w : Value) (t : Place) → settled (picked c o (fresh (type_at ns id)) s) ≡ gives v t → seen w ≡ arm n v
       → fill_arm (fill_case c (cases_seen cases other)) (drawn ns old) s ≡ gives (drawn ns (filling.Done w)) t
-  arm_given v w t ran made = arm_whole ∙ ap (map_run (λ v. done (arm n v))) ran ∙ ap (λ (d : Draft). gives d t) (ap done (sym made) ∙ sym (drawn-Done ns w))
+  arm_given v w t ran made =
+      arm_whole ∙ ap (map_run (λ v. done (arm n v))) ran ∙ ap (λ (d : Draft). gives d t) (ap done (sym made) ∙ sym (drawn-Done ns w))
 
   pub arm_halts : {X Y : Type 0} (view : X → Val) (view' : Y → Draft) (t u : Place) (halt : Halt)
       → Gave view (Err halt) t (settled (picked c o (fresh (type_at ns id)) s))
@@ -336,7 +364,8 @@ module _ (ns : List Node) (f : Filler) (d : Draft) (id n : ℕ) (s : Place) (ove
       → fill_each f d s ≡ gives (drawn ns (filling.Done (value.Row r))) t
   numbers_given r t ran kind =
       over.looped f s ∙ ap (map_run (λ ms. done (row (kind_of (array_at ns id)) ms))) ran
-      ∙ ap (λ (d : Draft). gives d t) (ap (λ (k : Kind). done (row k r.numbers)) (sym kind) ∙ ap done (sym (seen-Numbers r)) ∙ sym (drawn-Done ns (value.Row r)))
+      ∙ ap (λ (d : Draft). gives d t)
+      (ap (λ (k : Kind). done (row k r.numbers)) (sym kind) ∙ ap done (sym (seen-Numbers r)) ∙ sym (drawn-Done ns (value.Row r)))
 
   pub numbers_halt : {X Y : Type 0} (view : X → List ℤ) (view' : Y → Draft) (t u : Place) (halt : Halt)
       → Gave view (Err halt) t (runs (λ u. settled_number (f (digit (array_at ns id)) u)) n s)
@@ -357,7 +386,8 @@ pub no_digit : (x : Run Draft) (d : Draft) (v : Val) (t : Place) → x ≡ gives
     → ⊥
 no_digit x d v t is e none h =
     subst (λ (o : Option ℤ). Holds (if_some o (λ n. gives n t))) none
-    (subst (λ (o : Option Val). Holds (then_run (if_some o (λ v. gives v t)) (λ v s. if_some (num_in v) (λ n. gives n s)))) e (subst (λ (z : Run Draft). Holds (settled_number z)) is h))
+    (subst (λ (o : Option Val). Holds (then_run (if_some o (λ v. gives v t)) (λ v s. if_some (num_in v) (λ n. gives n s)))) e
+    (subst (λ (z : Run Draft). Holds (settled_number z)) is h))
 
 num_there : (v : Val) (n : ℤ) → num_in v ≡ Some n → v ≡ num n
 num_there (num m) n e = cc
@@ -410,8 +440,10 @@ module _ (f : Going ℤ) (n i : ℕ) (s0 s : Place) (front : List ℤ) (lt : i <
       → r ≡ record { kind = k; numbers = front ++ y ∷ [] }
       → (runs f n s0 ≡ map_run (λ vs. r.numbers ++ vs) (runs f (n - (i + 1)) t)) × (r.kind ≡ k')
   number_turn r k k' x y t ran same one is = (
-    unfolded_once ∙ ap (λ (z : Run ℤ). map_run (λ vs. front ++ vs) (then_run z (λ x t. map_run (λ xs. x ∷ xs) (runs f (n - (i + 1)) t)))) ran
-        ∙ behind_first x (runs f (n - (i + 1)) t) ∙ ap (λ (l : List ℤ). map_run (λ vs. l ++ vs) (runs f (n - (i + 1)) t)) (sym (ap (λ (q : Numbers). q.numbers) is ∙ ap (λ (z : ℤ). front ++ z ∷ []) one)),
+    unfolded_once
+        ∙ ap (λ (z : Run ℤ). map_run (λ vs. front ++ vs) (then_run z (λ x t. map_run (λ xs. x ∷ xs) (runs f (n - (i + 1)) t)))) ran
+        ∙ behind_first x (runs f (n - (i + 1)) t) ∙ ap (λ (l : List ℤ). map_run (λ vs. l ++ vs) (runs f (n - (i + 1)) t))
+        (sym (ap (λ (q : Numbers). q.numbers) is ∙ ap (λ (z : ℤ). front ++ z ∷ []) one)),
     ap (λ (q : Numbers). q.kind) is ∙ same,
   )
 
@@ -428,7 +460,8 @@ pub called_is : (subs : List (List RecvOp)) (n m k : ℕ) (code : List RecvOp) (
     → slice_get subs k ≡ Some code
     → calls_of subs n k d s ≡ fill (calls_of subs m) (code_seen code) d s
 called_is subs n m k code d s e is =
-    ap (λ (j : ℕ). calls_of subs j k d s) e ∙ ap (λ (o : Option Recv). if_some o (λ b. fill (calls_of subs m) b d s)) (ap (option_map code_seen) is)
+    ap (λ (j : ℕ). calls_of subs j k d s) e
+    ∙ ap (λ (o : Option Recv). if_some o (λ b. fill (calls_of subs m) b d s)) (ap (option_map code_seen) is)
 
 -- ---- the whole run
 

@@ -42,12 +42,14 @@ op-in-code (x ∷ ops) (suc i) d lt is = omega (arith, op-in-code ops i d (omega
 
 pub each-in-op : (o : RecvOp) (path : List ℕ) (body : List RecvOp) → o ≡ op.Each path body → code_size body < size (op_seen o finish)
 each-in-op o path body is =
-    let whole : size (op_seen o finish) ≡ suc (code_size body + 0) = ap (λ (p : Piece). size (p finish)) (ap op_seen is ∙ seen-Each path body) in
+    let whole : size (op_seen o finish) ≡ suc (code_size body + 0) =
+    ap (λ (p : Piece). size (p finish)) (ap op_seen is ∙ seen-Each path body) in
     omega (arith, whole)
 
 pub some-in-op : (o : RecvOp) (path : List ℕ) (body : List RecvOp) → o ≡ op.Some path body → code_size body < size (op_seen o finish)
 some-in-op o path body is =
-    let whole : size (op_seen o finish) ≡ suc (code_size body + 0) = ap (λ (p : Piece). size (p finish)) (ap op_seen is ∙ seen-Some path body) in
+    let whole : size (op_seen o finish) ≡ suc (code_size body + 0) =
+    ap (λ (p : Piece). size (p finish)) (ap op_seen is ∙ seen-Some path body) in
     omega (arith, whole)
 
 pub call-in-op : (o : RecvOp) (k : ℕ) (path : List ℕ) → o ≡ op.Call k path → 0 < size (op_seen o finish)
@@ -59,7 +61,8 @@ pub cases-in-op : (o : RecvOp) (path : List ℕ) (cases : List (ℤ × List Recv
     → o ≡ op.Switch path cases other
     → sizes (cases_seen cases other) < size (op_seen o finish)
 cases-in-op o path cases other is =
-    let whole : size (op_seen o finish) ≡ suc (sizes (cases_seen cases other) + 0) = ap (λ (p : Piece). size (p finish)) (ap op_seen is ∙ seen-Switch path cases other) in
+    let whole : size (op_seen o finish) ≡ suc (sizes (cases_seen cases other) + 0) =
+    ap (λ (p : Piece). size (p finish)) (ap op_seen is ∙ seen-Switch path cases other) in
     omega (arith, whole)
 
 -- ---- the bodies of a switch

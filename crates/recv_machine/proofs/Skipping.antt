@@ -40,24 +40,30 @@ behind k s = record { pos = s.pos + k; left = drop k s.left; near = max k s.near
 
 module _ (test : List ℕ → Bool) (a : ℕ) (d : Draft) (s : Place) where
   pub no_multiple : is_width a ≡ false → skipped test a d s ≡ refuses
-  no_multiple e = ap (λ (b : Bool). if b then then_run (needed (gap s.pos a) d s) (λ d t. if test (take (gap s.pos a) t.left) then passed (gap s.pos a) d t else refuses) else refuses) e
+  no_multiple e = ap (λ (b : Bool). if b
+      then then_run (needed (gap s.pos a) d s) (λ d t. if test (take (gap s.pos a) t.left) then passed (gap s.pos a) d t else refuses)
+      else refuses) e
 
   whole : is_width a ≡ true
       → skipped test a d s ≡ then_run (needed (gap s.pos a) d s)
       (λ d t. if test (take (gap s.pos a) t.left) then passed (gap s.pos a) d t else refuses)
-  whole e = ap (λ (b : Bool). if b then then_run (needed (gap s.pos a) d s) (λ d t. if test (take (gap s.pos a) t.left) then passed (gap s.pos a) d t else refuses) else refuses) e
+  whole e = ap (λ (b : Bool). if b
+      then then_run (needed (gap s.pos a) d s) (λ d t. if test (take (gap s.pos a) t.left) then passed (gap s.pos a) d t else refuses)
+      else refuses) e
 
   tested : Place
   tested = record { pos = s.pos; left = s.left; near = max (gap s.pos a) s.near; tests = raised s.tests 1 }
 
   pub too_short : is_width a ≡ true → nat_lt (length s.left) (gap s.pos a) ≡ true → skipped test a d s ≡ refuses
   unfolding tested
-  too_short e f = whole e ∙ ap (λ (b : Bool). then_run (if b then refuses else gives d tested) (λ d t. if test (take (gap s.pos a) t.left) then passed (gap s.pos a) d t else refuses)) f
+  too_short e f = whole e ∙ ap (λ (b : Bool). then_run (if b then refuses else gives d tested)
+      (λ d t. if test (take (gap s.pos a) t.left) then passed (gap s.pos a) d t else refuses)) f
 
   long : is_width a ≡ true → nat_lt (length s.left) (gap s.pos a) ≡ false
       → skipped test a d s ≡ (if test (take (gap s.pos a) s.left) then passed (gap s.pos a) d tested else refuses)
   unfolding tested
-  long e f = whole e ∙ ap (λ (b : Bool). then_run (if b then refuses else gives d tested) (λ d t. if test (take (gap s.pos a) t.left) then passed (gap s.pos a) d t else refuses)) f
+  long e f = whole e ∙ ap (λ (b : Bool). then_run (if b then refuses else gives d tested)
+      (λ d t. if test (take (gap s.pos a) t.left) then passed (gap s.pos a) d t else refuses)) f
 
   pub not_these : is_width a ≡ true → nat_lt (length s.left) (gap s.pos a) ≡ false → test (take (gap s.pos a) s.left) ≡ false
       → skipped test a d s ≡ refuses
@@ -74,5 +80,13 @@ module _ (test : List ℕ → Bool) (a : ℕ) (d : Draft) (s : Place) where
   unfolding tested
   all_these t e f g is =
       long e f ∙ ap (λ (b : Bool). if b then passed (gap s.pos a) d tested else refuses) g
-      ∙ ap (λ (b : Bool). if b then gives d (record { pos = s.pos + gap s.pos a; left = drop (gap s.pos a) s.left; near = max (gap s.pos a) s.near - gap s.pos a; tests = raised s.tests 1 }) else strays) (le-leb (gap s.pos a) (max (gap s.pos a) s.near) (omega arith))
+      ∙ ap (λ (b : Bool). if b
+      then gives d
+      (record {
+        pos = s.pos + gap s.pos a;
+        left = drop (gap s.pos a) s.left;
+        near = max (gap s.pos a) s.near - gap s.pos a;
+        tests = raised s.tests 1;
+      })
+      else strays) (le-leb (gap s.pos a) (max (gap s.pos a) s.near) (omega arith))
       ∙ ap (λ (u : Place). gives d u) (sym is)

@@ -43,7 +43,8 @@ pub at_gives : (f : Filler) (p : List ℕ) (d d' x y e : Draft) (s t : Place) �
     → ((z : Draft) → put_part p z d' ≡ put_part p z d) → f x s ≡ gives y t → put_part p y d' ≡ Some e
     → within p f d s ≡ gives e t
 at_gives f p d d' x y e s t is same ran put =
-    within_is f x s p d is ∙ ap (λ (z : Run Draft). then_run z (replaced p d)) ran ∙ ap (λ (o : Option Draft). if_some o (λ e. gives e t)) (sym (same y) ∙ put)
+    within_is f x s p d is ∙ ap (λ (z : Run Draft). then_run z (replaced p d)) ran
+    ∙ ap (λ (o : Option Draft). if_some o (λ e. gives e t)) (sym (same y) ∙ put)
 
 pub at_halts : {X : Type 0} (f : Filler) (p : List ℕ) (d x e : Draft) (s t u : Place) (halt : Halt) (view : X → Draft)
     → part p d ≡ Some x → Gave view (Err halt) t (f x s)
@@ -61,7 +62,8 @@ at_halts_in f p d x y e s t u NoMemory is ran = tt
 
 pub not_width : (g : Get) (off : ℕ) (p : List ℕ) (w : ℕ) (o : Order) (d : Draft) (s : Place) → width_in w ≡ None
     → word_got g off p w o d s ≡ refuses
-not_width g off p w o d s e = ap (λ (z : Option Width). if_passed z (λ x. if nat_le (off + w) s.near then within p (into g x (loaded o x (take w (drop off s.left)))) d s else strays)) e
+not_width g off p w o d s e = ap (λ (z : Option Width). if_passed z
+    (λ x. if nat_le (off + w) s.near then within p (into g x (loaded o x (take w (drop off s.left)))) d s else strays)) e
 
 pub width_is : (w : ℕ) → IsWidth w → width_in w ≡ Some (width_as w)
 width_is w (inl e) = subst (λ (n : ℕ). width_in n ≡ Some (width_as n)) (sym e) refl
@@ -75,20 +77,25 @@ word_of off w o s = loaded_of o (width_in w) (take w (drop off s.left))
 word_near : (g : Get) (off : ℕ) (p : List ℕ) (w : ℕ) (o : Order) (d : Draft) (s : Place) → IsWidth w
     → word_got g off p w o d s ≡ (if nat_le (off + w) s.near then within p (into g (width_as w) (word_of off w o s)) d s else strays)
 word_near g off p w o d s h =
-    ap (λ (z : Option Width). if_passed z (λ x. if nat_le (off + w) s.near then within p (into g x (loaded o x (take w (drop off s.left)))) d s else strays)) (width_is w h)
-    ∙ ap (λ (z : Option Width). if nat_le (off + w) s.near then within p (into g (width_as w) (loaded_of o z (take w (drop off s.left)))) d s else strays) (sym (width_is w h))
+    ap (λ (z : Option Width). if_passed z
+    (λ x. if nat_le (off + w) s.near then within p (into g x (loaded o x (take w (drop off s.left)))) d s else strays)) (width_is w h)
+    ∙ ap
+    (λ (z : Option Width). if nat_le (off + w) s.near then within p (into g (width_as w) (loaded_of o z (take w (drop off s.left)))) d s
+    else strays) (sym (width_is w h))
 
 pub word_fits : (g : Get) (off : ℕ) (p : List ℕ) (w : ℕ) (o : Order) (d : Draft) (s : Place) → IsWidth w → Holds (word_got g off p w o d s)
     → off + w ≤ s.near
 word_fits g off p w o d s h holds = checked (nat_le (off + w) s.near) refl (subst Holds (word_near g off p w o d s h) holds) where
-  checked : (b : Bool) → nat_le (off + w) s.near ≡ b → Holds (if b then within p (into g (width_as w) (word_of off w o s)) d s else strays) → off + w ≤ s.near
+  checked : (b : Bool) → nat_le (off + w) s.near ≡ b → Holds (if b then within p (into g (width_as w) (word_of off w o s)) d s else strays)
+      → off + w ≤ s.near
   checked true e k = leb-true (off + w) s.near e
   checked false e k = absurd k
 
 pub word_is : (g : Get) (off : ℕ) (p : List ℕ) (w : ℕ) (o : Order) (d : Draft) (s : Place) → IsWidth w → off + w ≤ s.near
     → word_got g off p w o d s ≡ within p (into g (width_as w) (word_of off w o s)) d s
 word_is g off p w o d s h near =
-    word_near g off p w o d s h ∙ ap (λ (b : Bool). if b then within p (into g (width_as w) (word_of off w o s)) d s else strays) (le-leb (off + w) s.near near)
+    word_near g off p w o d s h
+    ∙ ap (λ (b : Bool). if b then within p (into g (width_as w) (word_of off w o s)) d s else strays) (le-leb (off + w) s.near near)
 
 -- a word that is taken, for the part at a path
 module _ (g : Get) (off : ℕ) (p q : List ℕ) (w : ℕ) (o : Order) (d : Draft) (s : Place) (wide : IsWidth w)
@@ -109,13 +116,15 @@ module _ (g : Get) (off : ℕ) (p q : List ℕ) (w : ℕ) (o : Order) (d : Draft
   word_there = within_there (into g (width_as w) (word_of off w o s)) s q d inner
 
   pub word_holds : (m : ℕ) (x : Draft) → m ≡ word_of off w o s → part q d ≡ Some x → Holds (into g (width_as w) m x s)
-  word_holds m x is e = subst (λ (n : ℕ). Holds (into g (width_as w) n x s)) (sym is) (within_holds (into g (width_as w) (word_of off w o s)) s q d x e inner)
+  word_holds m x is e =
+      subst (λ (n : ℕ). Holds (into g (width_as w) n x s)) (sym is) (within_holds (into g (width_as w) (word_of off w o s)) s q d x e inner)
 
   pub word_gives : (m : ℕ) (d' x y e : Draft) → m ≡ word_of off w o s → part q d ≡ Some x
       → ((z : Draft) → put_part q z d' ≡ put_part q z d) → into g (width_as w) m x s ≡ gives y s → put_part q y d' ≡ Some e
       → word_got g off p w o d s ≡ gives e s
   word_gives m d' x y e is there rest ran put =
-      within_so ∙ at_gives (into g (width_as w) (word_of off w o s)) q d d' x y e s s there rest (ap (λ (n : ℕ). into g (width_as w) n x s) (sym is) ∙ ran) put
+      within_so ∙ at_gives (into g (width_as w) (word_of off w o s)) q d d' x y e s s there rest
+      (ap (λ (n : ℕ). into g (width_as w) n x s) (sym is) ∙ ran) put
 
   pub word_refuses : (m : ℕ) (x : Draft) → m ≡ word_of off w o s → part q d ≡ Some x → into g (width_as w) m x s ≡ refuses
       → word_got g off p w o d s ≡ refuses
@@ -129,14 +138,15 @@ pub same_alike : (a b : List ℕ) → same_octets a b ≡ true → a ≡ b
 same_alike [] [] e = refl
 same_alike [] (y ∷ b) e = absurd cc
 same_alike (x ∷ a) [] e = absurd cc
-same_alike (x ∷ a) (y ∷ b) e = ap (λ (z : ℕ). z ∷ a) (eqb-true x y (first_true (nat_eq x y) (same_octets a b) e)) ∙ ap (λ (l : List ℕ). y ∷ l) (same_alike a b (second_true (nat_eq x y) (same_octets a b) e)) where
-  first_true : (g h : Bool) → (g && h) ≡ true → g ≡ true
-  first_true true h e = refl
-  first_true false h e = e
+same_alike (x ∷ a) (y ∷ b) e = ap (λ (z : ℕ). z ∷ a) (eqb-true x y (first_true (nat_eq x y) (same_octets a b) e))
+    ∙ ap (λ (l : List ℕ). y ∷ l) (same_alike a b (second_true (nat_eq x y) (same_octets a b) e)) where
+      first_true : (g h : Bool) → (g && h) ≡ true → g ≡ true
+      first_true true h e = refl
+      first_true false h e = e
 
-  second_true : (g h : Bool) → (g && h) ≡ true → h ≡ true
-  second_true true h e = e
-  second_true false h e = absurd cc
+      second_true : (g h : Bool) → (g && h) ≡ true → h ≡ true
+      second_true true h e = e
+      second_true false h e = absurd cc
 
 pub same_itself : (a : List ℕ) → same_octets a a ≡ true
 same_itself [] = refl
@@ -146,13 +156,17 @@ pub ruleset octets = (same_itself)
 
 pub const_fits : (off : ℕ) (os : List ℕ) (d : Draft) (s : Place) → Holds (const_got off os d s) → off + length os ≤ s.near
 const_fits off os d s h = checked (nat_le (off + length os) s.near) refl h where
-  checked : (b : Bool) → nat_le (off + length os) s.near ≡ b → Holds (if b then (if same_octets os (take (length os) (drop off s.left)) then gives d s else refuses) else strays) → off + length os ≤ s.near
+  checked : (b : Bool) → nat_le (off + length os) s.near ≡ b
+      → Holds (if b then (if same_octets os (take (length os) (drop off s.left)) then gives d s else refuses) else strays)
+      → off + length os ≤ s.near
   checked true e k = leb-true (off + length os) s.near e
   checked false e k = absurd k
 
 pub const_is : (off : ℕ) (os : List ℕ) (d : Draft) (s : Place) → off + length os ≤ s.near
     → const_got off os d s ≡ (if same_octets os (take (length os) (drop off s.left)) then gives d s else refuses)
-const_is off os d s h = ap (λ (b : Bool). if b then (if same_octets os (take (length os) (drop off s.left)) then gives d s else refuses) else strays) (le-leb (off + length os) s.near h)
+const_is off os d s h = ap
+    (λ (b : Bool). if b then (if same_octets os (take (length os) (drop off s.left)) then gives d s else refuses) else strays)
+    (le-leb (off + length os) s.near h)
 
 pub ruleset constants = (const_fits, const_is)
 

@@ -1,4 +1,4 @@
--- What the draft of a machine stands for, over the nodes of a table.
+-- What the draft of a machine means, over the nodes of a table.
 use Rattle.std.specs.Prelude.{ℕ, List, [], ◌∷◌, map, ℤ, Option, None, Some, if◌then◌else◌, Bool, true}
 use Rattle.mint.specs.declared.node.Node.{Node}
 use Rattle.mint.specs.declared.kind.Count.{Count}

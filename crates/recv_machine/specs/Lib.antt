@@ -1,4 +1,5 @@
 pub mod Acting
+pub mod Codes
 pub mod Drawn
 pub mod Looping
 pub mod Picking

@@ -39,7 +39,7 @@ abbrev pub Took : {X A : Type 0} → (X → A) → Option X → Place → Run A 
 Took view (Some y) s x = x ≡ gives (view y) s
 Took view None s x = x ≡ refuses
 
--- the numbers of a row, or that one of them is none of the row's
+-- the numbers of a row, or that one of them may not be in the row
 abbrev pub AreRead : Result Numbers Halt → Option (List ℤ) → Type 0
 AreRead (Ok r) x = x ≡ Some r.numbers
 AreRead (Err Refused) x = x ≡ None

@@ -81,7 +81,7 @@ fn long_into(
     units_into(mint, right, mul, many, 12, part, view)
 }
 
-// The length of so many units, where name and size are those wanted; so many octets are passed.
+// The length of so many units, where name and size are as expected; so many octets are passed.
 fn units_into(
     mint: &Mint,
     right: bool,

@@ -1,17 +1,12 @@
 // The operations of a receive code, one after the other and one within another.
-ghost use Rattle.std.specs.Prelude.{IfOk, ◌≡◌, Some, map};
-ghost use Rattle.mint.specs.Types.{type_at};
+ghost use Rattle.std.specs.Prelude.{IfOk, ◌≡◌, map};
 ghost use Rattle.mint.specs.Kinds.{IsInRange};
 ghost use Rattle.mint.specs.Values.{seen};
-ghost use Rattle.wire_def.specs.Arrays.{kind_of};
-ghost use Rattle.cast_stub.specs.RecvBlock.{finish, op_seen, code_seen, cases_seen};
-ghost use Rattle.cast_stub.specs.Draft.{fresh, digit};
-ghost use Rattle.cast_stub.specs.Fill.{fill, fill_case, fill_each, fill_arm, fill_present, settled, settled_number, runs};
-ghost use Rattle.cast_stub.specs.Got.{calls_of};
+ghost use Rattle.cast_stub.specs.Fill.{runs};
 ghost use Rattle.cast_stub.specs.Runs.{Holds};
-ghost use Rattle.recv_machine.specs.Acting.{acted, part_path};
-ghost use Rattle.recv_machine.specs.Drawn.{drawn, array_at, itself, numbers_in};
-ghost use Rattle.recv_machine.specs.Ran.{place_of, Ran, Gave};
+ghost use Rattle.recv_machine.specs.Codes.{ActsAt, kind_in, code_run, op_run, part_run, called_run, each_run, some_run, arm_run, value_run, number_run, HasRun, HasFilled};
+ghost use Rattle.recv_machine.specs.Drawn.{itself, numbers_in};
+ghost use Rattle.recv_machine.specs.Ran.{place_of, Gave};
 
 use crate::blocks::{row_into, wide_into};
 use crate::desc::desc_into;
@@ -39,11 +34,9 @@ pub fn run_block(
     draft: &mut Filling,
     view: &mut RecvView<'_>,
 ) -> Result<(), Halt>
-    requires { Holds (fill (calls_of machine.now.subs.now calls) (code_seen code.now)
-        (drawn machine.now.mint.now draft.old) (place_of view.old)) }
-    ensures done { Ran result (drawn machine.now.mint.now draft.new) (place_of view.new)
-        (fill (calls_of machine.now.subs.now calls) (code_seen code.now)
-        (drawn machine.now.mint.now draft.old) (place_of view.old)) }
+    requires { Holds (code_run machine.now calls code.now draft.old view.old) }
+    ensures done { HasRun machine.now result draft.new view.new
+        (code_run machine.now calls code.now draft.old view.old) }
     ensures octets { view.new.octets ≡ view.old.octets }
 {
     for op in code.as_slice() {
@@ -62,11 +55,9 @@ fn run_op(
     draft: &mut Filling,
     view: &mut RecvView<'_>,
 ) -> Result<(), Halt>
-    requires { Holds (fill (calls_of machine.now.subs.now calls) (op_seen op.now finish)
-        (drawn machine.now.mint.now draft.old) (place_of view.old)) }
-    ensures done { Ran result (drawn machine.now.mint.now draft.new) (place_of view.new)
-        (fill (calls_of machine.now.subs.now calls) (op_seen op.now finish)
-        (drawn machine.now.mint.now draft.old) (place_of view.old)) }
+    requires { Holds (op_run machine.now calls op.now draft.old view.old) }
+    ensures done { HasRun machine.now result draft.new view.new
+        (op_run machine.now calls op.now draft.old view.old) }
     ensures octets { view.new.octets ≡ view.old.octets }
 {
     match op {
@@ -98,12 +89,10 @@ fn run_at(
     draft: &mut Filling,
     view: &mut RecvView<'_>,
 ) -> Result<(), Halt>
-    requires path { part_path (op_seen op.now finish) ≡ Some path.now }
-    requires holds { Holds (fill (calls_of machine.now.subs.now calls) (op_seen op.now finish)
-        (drawn machine.now.mint.now draft.old) (place_of view.old)) }
-    ensures done { Ran result (drawn machine.now.mint.now draft.new) (place_of view.new)
-        (fill (calls_of machine.now.subs.now calls) (op_seen op.now finish)
-        (drawn machine.now.mint.now draft.old) (place_of view.old)) }
+    requires path { ActsAt op.now path.now }
+    requires holds { Holds (op_run machine.now calls op.now draft.old view.old) }
+    ensures done { HasRun machine.now result draft.new view.new
+        (op_run machine.now calls op.now draft.old view.old) }
     ensures octets { view.new.octets ≡ view.old.octets }
 {
     let path = path.as_slice();
@@ -123,11 +112,8 @@ fn act(
     part: Filling,
     view: &mut RecvView<'_>,
 ) -> Result<Filling, Halt>
-    requires { Holds (acted (calls_of machine.now.subs.now calls) (op_seen op.now finish)
-        (drawn machine.now.mint.now part) (place_of view.old)) }
-    ensures done { Gave (drawn machine.now.mint.now) result (place_of view.new)
-        (acted (calls_of machine.now.subs.now calls) (op_seen op.now finish)
-        (drawn machine.now.mint.now part) (place_of view.old)) }
+    requires { Holds (part_run machine.now calls op.now part view.old) }
+    ensures done { HasFilled machine.now result view.new (part_run machine.now calls op.now part view.old) }
     ensures octets { view.new.octets ≡ view.old.octets }
 {
     match op {
@@ -161,10 +147,8 @@ fn run_called(
     part: Filling,
     view: &mut RecvView<'_>,
 ) -> Result<Filling, Halt>
-    requires { Holds
-        (calls_of machine.now.subs.now calls k (drawn machine.now.mint.now part) (place_of view.old)) }
-    ensures done { Gave (drawn machine.now.mint.now) result (place_of view.new)
-        (calls_of machine.now.subs.now calls k (drawn machine.now.mint.now part) (place_of view.old)) }
+    requires { Holds (called_run machine.now calls k part view.old) }
+    ensures done { HasFilled machine.now result view.new (called_run machine.now calls k part view.old) }
     ensures octets { view.new.octets ≡ view.old.octets }
 {
     if calls == 0 {
@@ -190,10 +174,9 @@ pub fn run_fresh(
     item: u32,
     view: &mut RecvView<'_>,
 ) -> Result<Value, Halt>
-    requires { Holds (settled (fill (calls_of machine.now.subs.now calls) (code_seen body.now)
-        (fresh (type_at machine.now.mint.now item)) (place_of view.old))) }
-    ensures done { Gave seen result (place_of view.new) (settled (fill (calls_of machine.now.subs.now calls)
-        (code_seen body.now) (fresh (type_at machine.now.mint.now item)) (place_of view.old))) }
+    requires { Holds (value_run machine.now calls body.now item (place_of view.old)) }
+    ensures done { Gave seen result (place_of view.new)
+        (value_run machine.now calls body.now item (place_of view.old)) }
     ensures octets { view.new.octets ≡ view.old.octets }
 {
     let mut draft = fresh(machine.alloc, machine.mint, item)?;
@@ -212,11 +195,8 @@ fn run_some(
     part: Filling,
     view: &mut RecvView<'_>,
 ) -> Result<Filling, Halt>
-    requires { Holds (fill_present (fill (calls_of machine.now.subs.now calls) (code_seen body.now))
-        (drawn machine.now.mint.now part) (place_of view.old)) }
-    ensures done { Gave (drawn machine.now.mint.now) result (place_of view.new)
-        (fill_present (fill (calls_of machine.now.subs.now calls) (code_seen body.now))
-        (drawn machine.now.mint.now part) (place_of view.old)) }
+    requires { Holds (some_run machine.now calls body.now part view.old) }
+    ensures done { HasFilled machine.now result view.new (some_run machine.now calls body.now part view.old) }
     ensures octets { view.new.octets ≡ view.old.octets }
 {
     match part {
@@ -245,12 +225,9 @@ fn run_switch(
     part: Filling,
     view: &mut RecvView<'_>,
 ) -> Result<Filling, Halt>
-    requires { Holds
-        (fill_arm (fill_case (calls_of machine.now.subs.now calls) (cases_seen cases.now other.now))
-        (drawn machine.now.mint.now part) (place_of view.old)) }
-    ensures done { Gave (drawn machine.now.mint.now) result (place_of view.new)
-        (fill_arm (fill_case (calls_of machine.now.subs.now calls) (cases_seen cases.now other.now))
-        (drawn machine.now.mint.now part) (place_of view.old)) }
+    requires { Holds (arm_run machine.now calls cases.now other.now part view.old) }
+    ensures done { HasFilled machine.now result view.new
+        (arm_run machine.now calls cases.now other.now part view.old) }
     ensures octets { view.new.octets ≡ view.old.octets }
 {
     match part {
@@ -282,11 +259,9 @@ fn run_items(
     n: u32,
     view: &mut RecvView<'_>,
 ) -> Result<Values, Halt>
-    requires { Holds (runs (λ u. settled (fill (calls_of machine.now.subs.now calls) (code_seen body.now)
-        (fresh (type_at machine.now.mint.now item)) u)) n (place_of view.old)) }
-    ensures done { Gave (map seen) result (place_of view.new) (runs
-        (λ u. settled (fill (calls_of machine.now.subs.now calls) (code_seen body.now)
-        (fresh (type_at machine.now.mint.now item)) u)) n (place_of view.old)) }
+    requires { Holds (runs (value_run machine.now calls body.now item) n (place_of view.old)) }
+    ensures done { Gave (map seen) result (place_of view.new)
+        (runs (value_run machine.now calls body.now item) n (place_of view.old)) }
     ensures octets { view.new.octets ≡ view.old.octets }
 {
     let mut values = Values::new(machine.alloc);
@@ -306,12 +281,10 @@ fn run_digit(
     id: u32,
     view: &mut RecvView<'_>,
 ) -> Result<i128, Halt>
-    requires { Holds (settled_number (fill (calls_of machine.now.subs.now calls) (code_seen body.now)
-        (digit (array_at machine.now.mint.now id)) (place_of view.old))) }
+    requires { Holds (number_run machine.now calls body.now id (place_of view.old)) }
     ensures done { Gave itself result (place_of view.new)
-        (settled_number (fill (calls_of machine.now.subs.now calls) (code_seen body.now)
-        (digit (array_at machine.now.mint.now id)) (place_of view.old))) }
-    ensures ranged { IfOk result (λ n. IsInRange (kind_of (array_at machine.now.mint.now id)) n) }
+        (number_run machine.now calls body.now id (place_of view.old)) }
+    ensures ranged { IfOk result (λ n. IsInRange (kind_in machine.now id) n) }
     ensures octets { view.new.octets ≡ view.old.octets }
 {
     let mut draft = Filling::Digit(id);
@@ -334,12 +307,10 @@ fn run_numbers(
     n: u32,
     view: &mut RecvView<'_>,
 ) -> Result<Row, Halt>
-    requires { Holds (runs (λ u. settled_number (fill (calls_of machine.now.subs.now calls)
-        (code_seen body.now) (digit (array_at machine.now.mint.now id)) u)) n (place_of view.old)) }
-    ensures done { Gave numbers_in result (place_of view.new) (runs
-        (λ u. settled_number (fill (calls_of machine.now.subs.now calls) (code_seen body.now)
-        (digit (array_at machine.now.mint.now id)) u)) n (place_of view.old)) }
-    ensures kind { IfOk result (λ r. r.kind ≡ kind_of (array_at machine.now.mint.now id)) }
+    requires { Holds (runs (number_run machine.now calls body.now id) n (place_of view.old)) }
+    ensures done { Gave numbers_in result (place_of view.new)
+        (runs (number_run machine.now calls body.now id) n (place_of view.old)) }
+    ensures kind { IfOk result (λ r. r.kind ≡ kind_in machine.now id) }
     ensures octets { view.new.octets ≡ view.old.octets }
 {
     let mut row = Row::new(machine.alloc, kind_at(machine.mint, id));
@@ -359,11 +330,8 @@ fn run_each(
     part: Filling,
     view: &mut RecvView<'_>,
 ) -> Result<Filling, Halt>
-    requires { Holds (fill_each (fill (calls_of machine.now.subs.now calls) (code_seen body.now))
-        (drawn machine.now.mint.now part) (place_of view.old)) }
-    ensures done { Gave (drawn machine.now.mint.now) result (place_of view.new)
-        (fill_each (fill (calls_of machine.now.subs.now calls) (code_seen body.now))
-        (drawn machine.now.mint.now part) (place_of view.old)) }
+    requires { Holds (each_run machine.now calls body.now part view.old) }
+    ensures done { HasFilled machine.now result view.new (each_run machine.now calls body.now part view.old) }
     ensures octets { view.new.octets ≡ view.old.octets }
 {
     match elements_of(machine.mint, &part) {

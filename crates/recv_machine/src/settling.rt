@@ -14,7 +14,7 @@ use mint::table::Mint;
 use mint::value::{Value, Values};
 use std::alloc::Global;
 
-// The blank value of a node; there is none, where the node is not there.
+// The blank value of a node, which is void where the table does not have the node.
 #[tactic(auto, using(crate::proofs::Becoming::settling))]
 fn blank_at(alloc: Global, mint: &Mint, id: u32) -> Result<Value, NoMemory>
     ensures { IfOk result (λ v. seen v ≡ blank (type_at mint.now id)) }
