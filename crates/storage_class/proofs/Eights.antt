@@ -19,7 +19,8 @@ told_at [] i h = omega arith
 told_at (n ∷ ns) zero h = leb-true n 4294967295 (left_true _ _ h)
 told_at (n ∷ ns) (suc i) h = told_at ns i (right_true (nat_le n 4294967295) _ h)
 
-pub eight : (f : List ℕ) → length f ≡ 8 → get_or f 0 0 ∷ get_or f 1 0 ∷ get_or f 2 0 ∷ get_or f 3 0 ∷ get_or f 4 0 ∷ get_or f 5 0 ∷ get_or f 6 0 ∷ get_or f 7 0 ∷ [] ≡ f
+pub eight : (f : List ℕ) → length f ≡ 8
+    → get_or f 0 0 ∷ get_or f 1 0 ∷ get_or f 2 0 ∷ get_or f 3 0 ∷ get_or f 4 0 ∷ get_or f 5 0 ∷ get_or f 6 0 ∷ get_or f 7 0 ∷ [] ≡ f
 eight (a ∷ b ∷ c ∷ d ∷ e ∷ f ∷ g ∷ h ∷ []) long = refl
 eight _ long = absurd cc
 
@@ -27,7 +28,8 @@ max_joins : (a b c : ℕ) → max (max a b) c ≡ max a (max b c)
 max_joins a b c = omega arith
 
 four : (a b c d : ℕ) (ns : List ℕ) → max (max a (max b (max c d))) (greatest ns) ≡ greatest (a ∷ b ∷ c ∷ d ∷ ns)
-four a b c d ns = max_joins a (max b (max c d)) (greatest ns) ∙ ap (max a) (max_joins b (max c d) (greatest ns) ∙ ap (max b) (max_joins c d (greatest ns)))
+four a b c d ns = max_joins a (max b (max c d)) (greatest ns)
+    ∙ ap (max a) (max_joins b (max c d) (greatest ns) ∙ ap (max b) (max_joins c d (greatest ns)))
 
 last_four : (a b c d : ℕ) → max a (max b (max c d)) ≡ greatest (a ∷ b ∷ c ∷ d ∷ [])
 last_four a b c d = ap (λ z. max a (max b (max c z))) (none d) where
@@ -35,8 +37,11 @@ last_four a b c d = ap (λ z. max a (max b (max c z))) (none d) where
   none n = omega arith
 
 pub greatest_of : (f : List ℕ) → length f ≡ 8
-    → max (max (get_or f 0 0) (max (get_or f 1 0) (max (get_or f 2 0) (get_or f 3 0)))) (max (get_or f 4 0) (max (get_or f 5 0) (max (get_or f 6 0) (get_or f 7 0)))) ≡ greatest f
-greatest_of (a ∷ b ∷ c ∷ d ∷ e ∷ f ∷ g ∷ h ∷ []) long = ap (max (max a (max b (max c d)))) (last_four e f g h) ∙ four a b c d (e ∷ f ∷ g ∷ h ∷ [])
+    → max (max (get_or f 0 0) (max (get_or f 1 0) (max (get_or f 2 0) (get_or f 3 0))))
+    (max (get_or f 4 0) (max (get_or f 5 0) (max (get_or f 6 0) (get_or f 7 0))))
+    ≡ greatest f
+greatest_of (a ∷ b ∷ c ∷ d ∷ e ∷ f ∷ g ∷ h ∷ []) long =
+    ap (max (max a (max b (max c d)))) (last_four e f g h) ∙ four a b c d (e ∷ f ∷ g ∷ h ∷ [])
 greatest_of _ long = absurd cc
 
 pub ruleset eights = (told_at, eight, greatest_of)
@@ -67,7 +72,8 @@ text_counted_of CdrBig c h other = refl
 text_counted_of CdrLittle c h other = refl
 text_counted_of Mach c h other = absurd h
 
-pub text_most : (e : Encoding) (c : Count) (n : ℕ) → IsPlain e → (e ≡ Xdr → ⊥) → array_most e (text c) n ≡ 7 + (0 + elements_length e (text c) n)
+pub text_most : (e : Encoding) (c : Count) (n : ℕ) → IsPlain e → (e ≡ Xdr → ⊥)
+    → array_most e (text c) n ≡ 7 + (0 + elements_length e (text c) n)
 text_most Xdr c n h other = absurd (other refl)
 text_most CdrBig c n h other = refl
 text_most CdrLittle c n h other = refl

@@ -64,7 +64,8 @@ first w p zero = 0
 first w p (suc n) = gap p w
 
 -- elements whose octets are as many as what they are aligned to
-module _ (w : Width) (own : IsOwn w) (one : ℕ → ℤ → List ℕ) (each : (p : ℕ) (n : ℤ) → length (one p n) ≡ gap p (byte_len w) + byte_len w) where
+module _ (w : Width) (own : IsOwn w) (one : ℕ → ℤ → List ℕ)
+    (each : (p : ℕ) (n : ℤ) → length (one p n) ≡ gap p (byte_len w) + byte_len w) where
   aligned : (v : Width) → IsOwn v → (p : ℕ) → gap (p + (gap p (byte_len v) + byte_len v)) (byte_len v) ≡ 0
   aligned _ is8 p = omega arith
   aligned _ is16 p = omega arith
@@ -96,19 +97,21 @@ element_own (row_of k c) = own_of CdrBig (number k)
 octet_gap : (p : ℕ) → 1 ≡ gap p 1 + 1
 octet_gap p = omega arith
 
-big_element : (a : Array) (p : ℕ) (n : ℤ) → length (element_octets CdrBig a p n) ≡ gap p (byte_len (own_element a)) + byte_len (own_element a)
+big_element : (a : Array) (p : ℕ) (n : ℤ)
+    → length (element_octets CdrBig a p n) ≡ gap p (byte_len (own_element a)) + byte_len (own_element a)
 unfolding element_octets
 big_element (text c) p n = octet_gap p
 big_element (row_of kind.Octet c) p n = octet_gap p
 big_element (row_of k c) p n = scalar_long CdrBig (number k) p n
 
-little_element : (a : Array) (p : ℕ) (n : ℤ) → length (element_octets CdrLittle a p n) ≡ gap p (byte_len (own_element a)) + byte_len (own_element a)
+little_element : (a : Array) (p : ℕ) (n : ℤ)
+    → length (element_octets CdrLittle a p n) ≡ gap p (byte_len (own_element a)) + byte_len (own_element a)
 unfolding element_octets
 little_element (text c) p n = octet_gap p
 little_element (row_of kind.Octet c) p n = octet_gap p
 little_element (row_of k c) p n = scalar_long CdrLittle (number k) p n
 
--- the elements of an array from a position, and what stands behind them
+-- the elements of an array from a position, and what comes after them
 abbrev body_length : Encoding → Array → ℕ → ℕ → ℕ
 body_length Xdr a n p = elements_length Xdr a n
 body_length Mach a n p = elements_length Mach a n
@@ -142,7 +145,8 @@ xdr_element (text c) p n = refl
 xdr_element (row_of kind.Octet c) p n = refl
 xdr_element (row_of k c) p n = let long = scalar_long Xdr (number k) p n in omega (arith, long, no_gap p)
 
-elements_long : (k : ℕ) (one : ℕ → ℤ → List ℕ) → ((p : ℕ) (n : ℤ) → length (one p n) ≡ k) → (p : ℕ) (ns : List ℤ) → length (elements_octets one p ns) ≡ length ns * k
+elements_long : (k : ℕ) (one : ℕ → ℤ → List ℕ) → ((p : ℕ) (n : ℤ) → length (one p n) ≡ k) → (p : ℕ) (ns : List ℤ)
+    → length (elements_octets one p ns) ≡ length ns * k
 unfolding elements_octets
 elements_long k one each p [] = sym (zero-mul k)
 elements_long k one each p (n ∷ ns) =
@@ -150,15 +154,18 @@ elements_long k one each p (n ∷ ns) =
     let rest = elements_long k one each (p + length (one p n)) ns in
     rw (length-append, suc-mul) (omega arith)
 
-body_long : (e : Encoding) → IsPlain e → (a : Array) (p : ℕ) (ns : List ℤ) → length (elements_octets (element_octets e a) p ns) + trailing e a (length ns) ≡ body_length e a (length ns) p
-body_long Xdr h a p ns = ap (λ z. z + trailing Xdr a (length ns)) (elements_long (element_length Xdr a) (element_octets Xdr a) (xdr_element a) p ns)
+body_long : (e : Encoding) → IsPlain e → (a : Array) (p : ℕ) (ns : List ℤ)
+    → length (elements_octets (element_octets e a) p ns) + trailing e a (length ns) ≡ body_length e a (length ns) p
+body_long Xdr h a p ns =
+    ap (λ z. z + trailing Xdr a (length ns)) (elements_long (element_length Xdr a) (element_octets Xdr a) (xdr_element a) p ns)
 body_long CdrBig h a p ns =
     let long = elements_aligned (own_element a) (element_own a) (element_octets CdrBig a) (big_element a) p ns in
     let same : length ns * byte_len (own_element a) ≡ length ns * element_length CdrBig a = ap (λ z. length ns * z) (big_lengths a) in
     omega (arith, long, same, first_gaps a p (length ns))
 body_long CdrLittle h a p ns =
     let long = elements_aligned (own_element a) (element_own a) (element_octets CdrLittle a) (little_element a) p ns in
-    let same : length ns * byte_len (own_element a) ≡ length ns * element_length CdrLittle a = ap (λ z. length ns * z) (big_lengths a ∙ sym (little_lengths a)) in
+    let same : length ns * byte_len (own_element a) ≡ length ns * element_length CdrLittle a =
+    ap (λ z. length ns * z) (big_lengths a ∙ sym (little_lengths a)) in
     omega (arith, long, same, first_gaps a p (length ns))
 body_long Mach h a p ns = absurd h
 
@@ -188,7 +195,7 @@ first_most (row_of kind.I64 c) q (suc n) h = omega (arith, h)
 first_most (row_of kind.U64 c) q (suc n) h = omega (arith, h)
 first_most (row_of kind.Bool c) q (suc n) h = omega arith
 
--- behind a count elements begin at a multiple of 4
+-- after a count elements begin at a multiple of 4
 behind_count : (p : ℕ) → (p + (gap p 4 + 4)) % 4 ≡ 0
 behind_count p = omega arith
 
@@ -198,21 +205,26 @@ count_few p = omega arith
 grown : (a : Array) (e : Encoding) (n m : ℕ) → IsPlain e → n ≤ m → n * element_length e a ≤ m * element_length e a
 grown a e n m h le = mul-le-mul_right (element_length e a) le
 
-text_fits : (e : Encoding) → (e ≡ CdrBig) ⊎ (e ≡ CdrLittle) → (c : Count) (p n l : ℕ) → Allows c n → l ≤ 8 + n → HasLength (text_counted e c) p l
+text_fits : (e : Encoding) → (e ≡ CdrBig) ⊎ (e ≡ CdrLittle) → (c : Count) (p n l : ℕ) → Allows c n → l ≤ 8 + n
+    → HasLength (text_counted e c) p l
 text_fits e (inl is) (Exactly m) p n l ok few = rw is (at_most_within (array_most CdrBig (text (Exactly m)) m) p l (omega (arith, ok, few)))
 text_fits e (inl is) (AtMost m) p n l ok few = rw is (at_most_within (array_most CdrBig (text (AtMost m)) m) p l (omega (arith, ok.0, few)))
 text_fits e (inl is) Any p n l ok few = tt
-text_fits e (inr is) (Exactly m) p n l ok few = rw is (at_most_within (array_most CdrLittle (text (Exactly m)) m) p l (omega (arith, ok, few)))
-text_fits e (inr is) (AtMost m) p n l ok few = rw is (at_most_within (array_most CdrLittle (text (AtMost m)) m) p l (omega (arith, ok.0, few)))
+text_fits e (inr is) (Exactly m) p n l ok few =
+    rw is (at_most_within (array_most CdrLittle (text (Exactly m)) m) p l (omega (arith, ok, few)))
+text_fits e (inr is) (AtMost m) p n l ok few =
+    rw is (at_most_within (array_most CdrLittle (text (AtMost m)) m) p l (omega (arith, ok.0, few)))
 text_fits e (inr is) Any p n l ok few = tt
 
-big_row : (k : Kind) (c : Count) (p : ℕ) (ns : List ℤ) → Allows c (length ns) → HasLength (array_counted CdrBig (row_of k c) c) p (length (array_octets CdrBig (row_of k c) p ns))
+big_row : (k : Kind) (c : Count) (p : ℕ) (ns : List ℤ) → Allows c (length ns)
+    → HasLength (array_counted CdrBig (row_of k c) c) p (length (array_octets CdrBig (row_of k c) p ns))
 unfolding array_octets head_octets count_octets
 big_row k (Exactly m) p ns h =
     let body = body_long CdrBig tt (row_of k (Exactly m)) p ns in
     let turns = λ (q : ℕ). ap (λ z. z + elements_length CdrBig (row_of k (Exactly m)) m) (row_gap k (Exactly m) q m) in
     let whole = body ∙ ap (λ z. body_length CdrBig (row_of k (Exactly m)) z p) h in
-    exact_length (array_length CdrBig (row_of k (Exactly m)) m) turns p _ (simp (length-append, length-replicate, add-zero) (omega (arith, whole)))
+    exact_length (array_length CdrBig (row_of k (Exactly m)) m) turns p _
+    (simp (length-append, length-replicate, add-zero) (omega (arith, whole)))
 big_row k (AtMost m) p ns h =
     let a = row_of k (AtMost m) in
     let head = scalar_octets CdrBig counted p (pos (length ns)) in
@@ -220,26 +232,31 @@ big_row k (AtMost m) p ns h =
     let body = body_long CdrBig tt a (p + length head) ns in
     let front = first_most a (p + length head) (length ns) (rw long (behind_count p)) in
     let less = grown a CdrBig (length ns) m tt h.0 in
-    at_most_within (array_most CdrBig a m) p _ (simp (length-append, length-replicate) (omega (arith, long, body, front, less, count_few p)))
+    at_most_within (array_most CdrBig a m) p _
+    (simp (length-append, length-replicate) (omega (arith, long, body, front, less, count_few p)))
 big_row k Any p ns h = tt
 
-big_text : (c : Count) (p : ℕ) (ns : List ℤ) → Allows c (length ns) → HasLength (text_counted CdrBig c) p (length (array_octets CdrBig (text c) p ns))
+big_text : (c : Count) (p : ℕ) (ns : List ℤ) → Allows c (length ns)
+    → HasLength (text_counted CdrBig c) p (length (array_octets CdrBig (text c) p ns))
 unfolding array_octets head_octets
 big_text c p ns h =
     let head = scalar_octets CdrBig counted p (pos (suc (length ns))) in
     let long : length head ≡ gap p 4 + 4 = scalar_long CdrBig counted p (pos (suc (length ns))) in
     let body = body_long CdrBig tt (text c) (p + length head) ns in
     let front = first_most (text c) (p + length head) (length ns) (rw long (behind_count p)) in
-    let all : length (array_octets CdrBig (text c) p ns) ≤ 8 + length ns = simp (length-append, length-replicate) (omega (arith, long, body, front, count_few p)) in
+    let all : length (array_octets CdrBig (text c) p ns) ≤ 8 + length ns =
+    simp (length-append, length-replicate) (omega (arith, long, body, front, count_few p)) in
     text_fits CdrBig (inl refl) c p (length ns) _ h all
 
-little_row : (k : Kind) (c : Count) (p : ℕ) (ns : List ℤ) → Allows c (length ns) → HasLength (array_counted CdrLittle (row_of k c) c) p (length (array_octets CdrLittle (row_of k c) p ns))
+little_row : (k : Kind) (c : Count) (p : ℕ) (ns : List ℤ) → Allows c (length ns)
+    → HasLength (array_counted CdrLittle (row_of k c) c) p (length (array_octets CdrLittle (row_of k c) p ns))
 unfolding array_octets head_octets count_octets
 little_row k (Exactly m) p ns h =
     let body = body_long CdrLittle tt (row_of k (Exactly m)) p ns in
     let turns = λ (q : ℕ). ap (λ z. z + elements_length CdrLittle (row_of k (Exactly m)) m) (row_gap k (Exactly m) q m) in
     let whole = body ∙ ap (λ z. body_length CdrLittle (row_of k (Exactly m)) z p) h in
-    exact_length (array_length CdrLittle (row_of k (Exactly m)) m) turns p _ (simp (length-append, length-replicate, add-zero) (omega (arith, whole)))
+    exact_length (array_length CdrLittle (row_of k (Exactly m)) m) turns p _
+    (simp (length-append, length-replicate, add-zero) (omega (arith, whole)))
 little_row k (AtMost m) p ns h =
     let a = row_of k (AtMost m) in
     let head = scalar_octets CdrLittle counted p (pos (length ns)) in
@@ -247,27 +264,31 @@ little_row k (AtMost m) p ns h =
     let body = body_long CdrLittle tt a (p + length head) ns in
     let front = first_most a (p + length head) (length ns) (rw long (behind_count p)) in
     let less = grown a CdrLittle (length ns) m tt h.0 in
-    at_most_within (array_most CdrLittle a m) p _ (simp (length-append, length-replicate) (omega (arith, long, body, front, less, count_few p)))
+    at_most_within (array_most CdrLittle a m) p _
+    (simp (length-append, length-replicate) (omega (arith, long, body, front, less, count_few p)))
 little_row k Any p ns h = tt
 
-little_text : (c : Count) (p : ℕ) (ns : List ℤ) → Allows c (length ns) → HasLength (text_counted CdrLittle c) p (length (array_octets CdrLittle (text c) p ns))
+little_text : (c : Count) (p : ℕ) (ns : List ℤ) → Allows c (length ns)
+    → HasLength (text_counted CdrLittle c) p (length (array_octets CdrLittle (text c) p ns))
 unfolding array_octets head_octets
 little_text c p ns h =
     let head = scalar_octets CdrLittle counted p (pos (suc (length ns))) in
     let long : length head ≡ gap p 4 + 4 = scalar_long CdrLittle counted p (pos (suc (length ns))) in
     let body = body_long CdrLittle tt (text c) (p + length head) ns in
     let front = first_most (text c) (p + length head) (length ns) (rw long (behind_count p)) in
-    let all : length (array_octets CdrLittle (text c) p ns) ≤ 8 + length ns = simp (length-append, length-replicate) (omega (arith, long, body, front, count_few p)) in
+    let all : length (array_octets CdrLittle (text c) p ns) ≤ 8 + length ns =
+    simp (length-append, length-replicate) (omega (arith, long, body, front, count_few p)) in
     text_fits CdrLittle (inr refl) c p (length ns) _ h all
 
 -- ---- over XDR
 
--- more elements have no fewer octets behind them
+-- more elements have no fewer octets after them
 padding_grows : (b : Bool) (k n m : ℕ) → n ≤ m → n * cond b 1 k + cond b (gap n 4) 0 ≤ m * cond b 1 k + cond b (gap m 4) 0
 padding_grows true k n m h = omega arith
 padding_grows false k n m h = omega (arith, mul-le-mul_right k h)
 
-xdr_array : (a : Array) (c : Count) (p : ℕ) (ns : List ℤ) → c ≡ count_of a → Allows c (length ns) → HasLength (array_counted Xdr a c) p (length (array_octets Xdr a p ns))
+xdr_array : (a : Array) (c : Count) (p : ℕ) (ns : List ℤ) → c ≡ count_of a → Allows c (length ns)
+    → HasLength (array_counted Xdr a c) p (length (array_octets Xdr a p ns))
 unfolding array_octets head_octets count_octets
 xdr_array a (Exactly m) p ns is h =
     let body = body_long Xdr tt a (p + length (count_octets Xdr (Exactly m) p (length ns))) ns in
@@ -293,7 +314,11 @@ mach_element (row_of k c) p n = let long = scalar_long Mach (number k) p n in om
 described_counts : (a : Array) (n : ℕ) → length (described_octets (count_of a) (number (kind_of a)) n) ≡ described_length a
 unfolding described_octets
 described_counts a n = by (is_long (count_of a) (number (kind_of a))) where
-  by : (b : Bool) → length (cond b (le 4 long_mark ++ le 8 (long_words (unit_name (number (kind_of a))) (unit_bits (number (kind_of a))) (n * units_of (number (kind_of a))))) (le 4 (short_word (unit_name (number (kind_of a))) (unit_bits (number (kind_of a))) (n * units_of (number (kind_of a)))))) ≡ cond b 12 4
+  by : (b : Bool)
+      → length (cond b (le 4 long_mark
+      ++ le 8 (long_words (unit_name (number (kind_of a))) (unit_bits (number (kind_of a))) (n * units_of (number (kind_of a)))))
+      (le 4 (short_word (unit_name (number (kind_of a))) (unit_bits (number (kind_of a))) (n * units_of (number (kind_of a))))))
+      ≡ cond b 12 4
   by true = refl
   by false = refl
 
@@ -319,22 +344,28 @@ mach_grows a n m h =
     let w : ℕ = byte_len (width_of Mach (number (kind_of a))) in
     rw mach_width (filled_grows (n * w) (m * w) (mul-le-mul_right w h))
 
-mach_body : (a : Array) (p : ℕ) (ns : List ℤ) → length (elements_octets (element_octets Mach a) p ns) + trailing Mach a (length ns) ≡ elements_length Mach a (length ns)
-mach_body a p ns = ap (λ z. z + trailing Mach a (length ns)) (elements_long (element_length Mach a) (element_octets Mach a) (mach_element a) p ns)
+mach_body : (a : Array) (p : ℕ) (ns : List ℤ)
+    → length (elements_octets (element_octets Mach a) p ns) + trailing Mach a (length ns) ≡ elements_length Mach a (length ns)
+mach_body a p ns =
+    ap (λ z. z + trailing Mach a (length ns)) (elements_long (element_length Mach a) (element_octets Mach a) (mach_element a) p ns)
 
-mach_array : (a : Array) (c : Count) (p : ℕ) (ns : List ℤ) → c ≡ count_of a → Allows c (length ns) → HasLength (array_counted Mach a c) p (length (array_octets Mach a p ns))
+mach_array : (a : Array) (c : Count) (p : ℕ) (ns : List ℤ) → c ≡ count_of a → Allows c (length ns)
+    → HasLength (array_counted Mach a c) p (length (array_octets Mach a p ns))
 unfolding array_octets head_octets
 mach_array a (Exactly m) p ns is h =
     let head = described_octets (count_of a) (number (kind_of a)) (length ns) in
     let body = mach_body a (p + length head) ns ∙ ap (λ z. elements_length Mach a z) h in
-    exact_length (array_length Mach a m) (λ q. refl) p _ (simp (length-append, length-replicate) (omega (arith, described_counts a (length ns), body)))
+    exact_length (array_length Mach a m) (λ q. refl) p _
+    (simp (length-append, length-replicate) (omega (arith, described_counts a (length ns), body)))
 mach_array a (AtMost m) p ns is h =
     let head = described_octets (count_of a) (number (kind_of a)) (length ns) in
     let body = mach_body a (p + length head) ns in
-    at_most_within (array_most Mach a m) p _ (simp (length-append, length-replicate) (omega (arith, described_counts a (length ns), body, mach_grows a (length ns) m h.0)))
+    at_most_within (array_most Mach a m) p _
+    (simp (length-append, length-replicate) (omega (arith, described_counts a (length ns), body, mach_grows a (length ns) m h.0)))
 mach_array a Any p ns is h = tt
 
-array_within : (e : Encoding) (a : Array) (p : ℕ) (ns : List ℤ) → Allows (count_of a) (length ns) → HasLength (span e (array_type a)) p (length (array_octets e a p ns))
+array_within : (e : Encoding) (a : Array) (p : ℕ) (ns : List ℤ) → Allows (count_of a) (length ns)
+    → HasLength (span e (array_type a)) p (length (array_octets e a p ns))
 array_within Xdr a p ns ok = xdr_array a (count_of a) p ns refl ok
 array_within CdrBig (text c) p ns ok = big_text c p ns ok
 array_within CdrBig (row_of k c) p ns ok = big_row k c p ns ok
@@ -348,7 +379,8 @@ count_within : (e : Encoding) (p n : ℕ) → HasLength (scalar_span e counted) 
 count_within e p n = lone_long e counted p (pos n)
 
 module _ (t : Ty) (one : ℕ → Val → List ℕ) where
-  each_run : (f : List ℕ) → ((p : ℕ) (v : Val) → IsOf t v → length (one p v) ≡ length_at f p) → (p : ℕ) (vs : Vals) → Each (IsOf t) vs → length (send_each one p vs) ≡ run (count vs) f p
+  each_run : (f : List ℕ) → ((p : ℕ) (v : Val) → IsOf t v → length (one p v) ≡ length_at f p) → (p : ℕ) (vs : Vals) → Each (IsOf t) vs
+      → length (send_each one p vs) ≡ run (count vs) f p
   unfolding run
   each_run f each p no_more h = refl
   each_run f each p (val v vs) h =
@@ -356,7 +388,8 @@ module _ (t : Ty) (one : ℕ → Val → List ℕ) where
       let rest = each_run f each (p + length (one p v)) vs h.1 in
       rw length-append (rw (← here) (ap (λ z. length (one p v) + z) rest))
 
-  each_most : (k : ℕ) → ((p : ℕ) (v : Val) → IsOf t v → length (one p v) ≤ k) → (p : ℕ) (vs : Vals) → Each (IsOf t) vs → length (send_each one p vs) ≤ count vs * k
+  each_most : (k : ℕ) → ((p : ℕ) (v : Val) → IsOf t v → length (one p v) ≤ k) → (p : ℕ) (vs : Vals) → Each (IsOf t) vs
+      → length (send_each one p vs) ≤ count vs * k
   each_most k each p no_more h = omega arith
   each_most k each p (val v vs) h =
       let here = each p v h.0 in
@@ -365,29 +398,35 @@ module _ (t : Ty) (one : ℕ → Val → List ℕ) where
 
   times_within : (s : Span) → ((p : ℕ) (v : Val) → IsOf t v → HasLength s p (length (one p v))) → (p : ℕ) (vs : Vals) → Each (IsOf t) vs
       → HasLength (times (count vs) s) p (length (send_each one p vs))
-  times_within (Fixed f) each p vs h = exactly_within (from_each (run (count vs) f)) p _ (each_run f each p vs h ∙ sym (run_at (count vs) f p))
+  times_within (Fixed f) each p vs h =
+      exactly_within (from_each (run (count vs) f)) p _ (each_run f each p vs h ∙ sym (run_at (count vs) f p))
   times_within (Bounded k) each p vs h = at_most_within (count vs * k) p _ (each_most k each p vs h)
   times_within Unbounded each p vs h = tt
 
   times_most : (s : Span) → ((p : ℕ) (v : Val) → IsOf t v → HasLength s p (length (one p v))) → (p : ℕ) (vs : Vals) → Each (IsOf t) vs
       → (m : ℕ) → count vs ≤ m → HasLength (times_top m (top s)) p (length (send_each one p vs))
   times_most (Fixed f) each p vs h m j =
-      let one_most : (q : ℕ) (v : Val) → IsOf t v → length (one q v) ≤ greatest f = λ q v ok. let most = length_most f q in omega (arith, each q v ok, most) in
+      let one_most : (q : ℕ) (v : Val) → IsOf t v → length (one q v) ≤ greatest f = λ q v ok. let most = length_most f q in
+      omega (arith, each q v ok, most) in
       at_most_within (m * greatest f) p _ (omega (arith, each_most (greatest f) one_most p vs h, mul-le-mul_right (greatest f) j))
   times_most (Bounded k) each p vs h m j = at_most_within (m * k) p _ (omega (arith, each_most k each p vs h, mul-le-mul_right k j))
   times_most Unbounded each p vs h m j = tt
 
 items_within : (e : Encoding) (c : Count) (t : Ty) (p : ℕ) (vs : Vals) → Allows c (count vs) → Each (IsOf t) vs
     → ((p : ℕ) (v : Val) → IsOf t v → HasLength (span e t) p (length (send e t p v)))
-    → HasLength (items_span e c (span e t)) p (length (count_octets e c p (count vs)) + length (send_each (send e t) (p + length (count_octets e c p (count vs))) vs))
+    → HasLength (items_span e c (span e t)) p
+    (length (count_octets e c p (count vs)) + length (send_each (send e t) (p + length (count_octets e c p (count vs))) vs))
 unfolding count_octets
 items_within e (Exactly m) t p vs ok h each = rw (zero-add, add-zero, ← ok) (times_within t (send e t) (span e t) each p vs h)
 items_within e (AtMost m) t p vs ok h each =
     let q : ℕ = p + length (lone_octets e counted p (pos (count vs))) in
-    behind_within (scalar_span e counted) (times_top m (top (span e t))) p _ _ (lone_long e counted p (pos (count vs))) (times_most t (send e t) (span e t) each q vs h m ok.0)
+    behind_within (scalar_span e counted) (times_top m (top (span e t))) p _ _ (lone_long e counted p (pos (count vs)))
+    (times_most t (send e t) (span e t) each q vs h m ok.0)
 items_within e Any t p vs ok h each = tt
 
-arm_at : (b : Bool) (P Q : Type 0) (x y : List ℕ) (s rest : Span) (p : ℕ) → (P → HasLength s p (length x)) → (Q → HasLength rest p (length y)) → MatchBool b P Q → HasLength (either s rest) p (length (cond b x y))
+arm_at : (b : Bool) (P Q : Type 0) (x y : List ℕ) (s rest : Span) (p : ℕ) → (P → HasLength s p (length x))
+    → (Q → HasLength rest p (length y)) → MatchBool b P Q
+    → HasLength (either s rest) p (length (cond b x y))
 arm_at true P Q x y s rest p f g h = first_within s rest p (length x) (f h)
 arm_at false P Q x y s rest p f g h = second_within s rest p (length y) (g h)
 
@@ -406,22 +445,28 @@ module _ (e : Encoding) where
     sent_within (group_type ts) p (group vs) h = fields_within ts p vs h
     sent_within (items_type c t) p (items vs) h = rw length-append (items_within e c t p vs h.0 h.1 (sent_within t))
     sent_within (choice_type s arms) p (arm n v) h =
-        rw length-append (behind_within (scalar_span e s) (arms_span e arms) p _ _ (lone_long e s p n) (arm_within arms n (p + length (lone_octets e s p n)) v h.1))
+        rw length-append (behind_within (scalar_span e s) (arms_span e arms) p _ _ (lone_long e s p n)
+        (arm_within arms n (p + length (lone_octets e s p n)) v h.1))
     sent_within (maybe_type t) p absent h =
-        rw add-zero at (behind_within (scalar_span e flag) (loose (span e t)) p (length (lone_octets e flag p (pos 0))) 0 (lone_long e flag p (pos 0)) (nothing_within (span e t) (p + length (lone_octets e flag p (pos 0)))))
+        rw add-zero at (behind_within (scalar_span e flag) (loose (span e t)) p (length (lone_octets e flag p (pos 0))) 0
+        (lone_long e flag p (pos 0)) (nothing_within (span e t) (p + length (lone_octets e flag p (pos 0)))))
     sent_within (maybe_type t) p (present v) h =
         let q : ℕ = p + length (lone_octets e flag p (pos 1)) in
-        rw length-append (behind_within (scalar_span e flag) (loose (span e t)) p _ _ (lone_long e flag p (pos 1)) (loose_within (span e t) q _ (sent_within t q v h)))
+        rw length-append (behind_within (scalar_span e flag) (loose (span e t)) p _ _ (lone_long e flag p (pos 1))
+        (loose_within (span e t) q _ (sent_within t q v h)))
     sent_within _ p _ h = absurd h
 
     fields_within : (ts : Tys) (p : ℕ) (vs : Vals) → AreOf ts vs → HasLength (fields_span e ts) p (length (send_fields e ts p vs))
     fields_within no_fields p no_more h = sym (from_each_at (λ q. 0) (λ q. refl) p)
     fields_within (field t ts) p (val v vs) h =
-        rw length-append (behind_within (span e t) (fields_span e ts) p _ _ (sent_within t p v h.0) (fields_within ts (p + length (send e t p v)) vs h.1))
+        rw length-append
+        (behind_within (span e t) (fields_span e ts) p _ _ (sent_within t p v h.0) (fields_within ts (p + length (send e t p v)) vs h.1))
     fields_within _ p _ h = absurd h
 
-    arm_within : (arms : Arms) (n : ℤ) (p : ℕ) (v : Val) → IsOfArm arms n v → HasLength (arms_span e arms) p (length (send_arm e arms n p v))
+    arm_within : (arms : Arms) (n : ℤ) (p : ℕ) (v : Val) → IsOfArm arms n v
+        → HasLength (arms_span e arms) p (length (send_arm e arms n p v))
     arm_within no_other n p v h = absurd h
     arm_within (others t) n p v h = loose_within (span e t) p _ (sent_within t p v h)
     arm_within (arm_type m t arms) n p v h =
-        arm_at (int_eq n m) (IsOf t v) (IsOfArm arms n v) (send e t p v) (send_arm e arms n p v) (span e t) (arms_span e arms) p (sent_within t p v) (arm_within arms n p v) h
+        arm_at (int_eq n m) (IsOf t v) (IsOfArm arms n v) (send e t p v) (send_arm e arms n p v) (span e t) (arms_span e arms) p
+        (sent_within t p v) (arm_within arms n p v) h

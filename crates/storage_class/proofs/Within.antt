@@ -31,9 +31,13 @@ behind_within (Fixed f) (Fixed g) p k l h j =
     let whole = behind_at f g p in
     let second : l ≡ length_at g (p + length_at f p) = rw h at j in
     exactly_within (from_each (length_behind f g)) p (k + l) (omega (arith, h, second, whole))
-behind_within (Fixed f) (Bounded n) p k l h j = let most = length_most f p in at_most_within (greatest f + n) p (k + l) (omega (arith, h, most))
+behind_within (Fixed f) (Bounded n) p k l h j =
+    let most = length_most f p in
+    at_most_within (greatest f + n) p (k + l) (omega (arith, h, most))
 behind_within (Fixed f) Unbounded p k l h j = tt
-behind_within (Bounded m) (Fixed g) p k l h j = let most = length_most g (p + k) in at_most_within (m + greatest g) p (k + l) (omega (arith, j, most))
+behind_within (Bounded m) (Fixed g) p k l h j =
+    let most = length_most g (p + k) in
+    at_most_within (m + greatest g) p (k + l) (omega (arith, j, most))
 behind_within (Bounded m) (Bounded n) p k l h j = at_most_within (m + n) p (k + l) (omega arith)
 behind_within (Bounded m) Unbounded p k l h j = tt
 behind_within Unbounded (Fixed n) p k l h j = tt

@@ -16,11 +16,11 @@ from_each f = f 0 ∷ f 1 ∷ f 2 ∷ f 3 ∷ f 4 ∷ f 5 ∷ f 6 ∷ f 7 ∷ []
 unfoldable pub length_at : List ℕ → ℕ → ℕ
 length_at f p = slice_index_or f (p % 8) 0
 
--- that of one part and another behind it
+-- that of one part and another after it
 abbrev pub length_behind : List ℕ → List ℕ → ℕ → ℕ
 length_behind f g p = length_at f p + length_at g (p + length_at f p)
 
--- that of so many parts one behind the other
+-- that of so many parts one after the other
 unfoldable pub run : ℕ → List ℕ → ℕ → ℕ
 run zero f p = 0
 run (suc n) f p = length_at f p + run n f (p + length_at f p)
@@ -32,11 +32,11 @@ greatest (n ∷ ns) = max n (greatest ns)
 
 -- ---- spans
 
--- lengths, which are told where none is above 4,294,967,295
+-- lengths, which are known where none is above 4,294,967,295
 abbrev pub exactly : List ℕ → Span
 exactly f = if list_all (λ n. nat_le n 4294967295) f then Fixed f else Unbounded
 
--- a greatest length, which is told up to the same number
+-- a greatest length, which is known up to the same number
 abbrev pub at_most : ℕ → Span
 at_most n = if nat_le n 4294967295 then Bounded n else Unbounded
 
@@ -66,7 +66,7 @@ abbrev pub times_top : ℕ → Option ℕ → Span
 times_top n (Some m) = at_most (n * m)
 times_top n None = Unbounded
 
--- one part behind another
+-- one part after another
 abbrev pub behind : Span → Span → Span
 behind (Fixed f) (Fixed g) = exactly (from_each (length_behind f g))
 behind a b = sum_of_tops (top a) (top b)
@@ -75,7 +75,7 @@ behind a b = sum_of_tops (top a) (top b)
 abbrev pub either : Span → Span → Span
 either a b = greater_top (top a) (top b)
 
--- so many parts one behind the other
+-- so many parts one after the other
 abbrev pub times : ℕ → Span → Span
 times n (Fixed f) = exactly (from_each (run n f))
 times n s = times_top n (top s)

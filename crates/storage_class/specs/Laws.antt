@@ -1,4 +1,4 @@
--- What a span tells of what is sent.
+-- What a span says of what is sent.
 use Rattle.std.specs.Prelude.{ℕ, length}
 use Rattle.mint.specs.Values.{Val}
 use Rattle.mint.specs.Types.{Ty}

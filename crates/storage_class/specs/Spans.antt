@@ -31,16 +31,16 @@ scalar_span e s = Fixed (from_each (lone_length e s))
 abbrev pub element_length : Encoding → Array → ℕ
 element_length e a = if is_octets a then 1 else byte_len (width_of e (number (kind_of a)))
 
--- the octets of so many elements, and of those behind them
+-- the octets of so many elements, and of those after them
 abbrev pub elements_length : Encoding → Array → ℕ → ℕ
 elements_length e a n = n * element_length e a + trailing e a n
 
--- the octets in front of aligned elements, of which there may be none
+-- the octets before aligned elements, of which there may be none
 abbrev pub first_gap : Array → ℕ → ℕ → ℕ
 first_gap a p zero = 0
 first_gap a p (suc n) = gap p (element_length CdrBig a)
 
--- the octets in front of the elements of a row of 64 bits behind its count
+-- the octets before the elements of a row of 64 bits after its count
 abbrev pub wide_gap : Array → ℕ
 wide_gap (row_of kind.I64 c) = 4
 wide_gap (row_of kind.U64 c) = 4
@@ -68,7 +68,7 @@ array_counted e a (Exactly n) = exactly (from_each (array_length e a n))
 array_counted e a (AtMost n) = at_most (array_most e a n)
 array_counted e a Any = Unbounded
 
--- a text over CDR, which has a length in front and an octet behind also where its count is fixed
+-- a text over CDR, which has a length before it and an octet after it also where its count is fixed
 abbrev pub text_counted : Encoding → Count → Span
 text_counted e (Exactly n) = at_most (array_most e (text (Exactly n)) n)
 text_counted e (AtMost n) = at_most (array_most e (text (AtMost n)) n)
@@ -98,7 +98,7 @@ abbrev mutual
   span e (choice_type s arms) = behind (scalar_span e s) (arms_span e arms)
   span e (maybe_type t) = behind (scalar_span e flag) (loose (span e t))
 
-  -- fields, one behind the other
+  -- fields, one after the other
   pub fields_span : Encoding → Tys → Span
   fields_span e no_fields = Fixed (from_each (λ p. 0))
   fields_span e (field t ts) = behind (span e t) (fields_span e ts)

@@ -39,7 +39,7 @@ fn element(enc: Encoding, kind: Kind, _count: Count) -> u64
     }
 }
 
-/// The octets of a row's elements, and of those behind them.
+/// The octets of a row's elements, and of those after them.
 #[tactic(auto, using(crate::proofs::Eights::arrays))]
 fn elements(enc: Encoding, kind: Kind, count: Count, n: u32) -> u64
     ensures is { result ≡ elements_length enc (row_of kind count) n }
@@ -162,7 +162,7 @@ pub(crate) fn row(enc: Encoding, kind: Kind, count: Count) -> Span
     }
 }
 
-/// The octets of a text of a fixed length from a position, and of what stands behind them.
+/// The octets of a text of a fixed length from a position, and of what comes after them.
 #[tactic(auto, using(crate::proofs::Eights::arrays))]
 fn letters(enc: Encoding, _count: Count, n: u32) -> u64
     ensures is { result ≡ elements_length enc (text _count) n }

@@ -62,7 +62,7 @@ impl Classes {
         self.spans.as_slice()[id as usize]
     }
 
-    /// Puts the span of the next node behind the others.
+    /// Puts the span of the next node after the others.
     pub(crate) fn push(&mut self, span: Span) -> Result<(), NoMemory>
         ensures enc { self.new.enc ≡ self.old.enc }
         ensures ok { OnOk result (self.new.spans ≡ self.old.spans ++ span ∷ []) }

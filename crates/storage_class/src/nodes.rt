@@ -27,7 +27,7 @@ pub fn classify(alloc: Global, enc: Encoding, mint: &Mint) -> Result<Classes, No
     Ok(classes)
 }
 
-/// The span of the node behind those whose spans are known.
+/// The span of the node after those whose spans are known.
 fn node_span(enc: Encoding, mint: &Mint, known: &Classes, id: NodeId) -> Span
     requires id { id < length mint.now }
     requires all { length known.now.spans ≡ id }
@@ -52,7 +52,7 @@ fn node_span(enc: Encoding, mint: &Mint, known: &Classes, id: NodeId) -> Span
     }
 }
 
-/// The span of fields, one behind the other.
+/// The span of fields, one after the other.
 fn fields_span(enc: Encoding, mint: &Mint, known: &Classes, ids: &NodeIds) -> Span
     requires below { AreBelow (length known.now.spans) ids.now }
     requires known { AreSpans enc mint.now known.now.spans }

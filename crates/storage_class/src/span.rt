@@ -23,7 +23,7 @@ fn at(f: &[u32; 8], place: u64) -> u64
     u64::from(f[(place % 8) as usize])
 }
 
-/// The length from a position of one part and another behind it.
+/// The length from a position of one part and another after it.
 fn behind_at(f: &[u32; 8], g: &[u32; 8], place: u64) -> u64
     requires { place < 8 }
     ensures { result ≡ length_behind f.now g.now place }
@@ -42,14 +42,14 @@ fn greatest(f: &[u32; 8]) -> u32
     low.max(high)
 }
 
-/// Whether each length can be told.
+/// Whether each length is known.
 fn are_told(f: &[u64; 8]) -> bool
     ensures { result ≡ list_all (λ n. nat_le n 4294967295) f.now }
 {
     f.iter().all(|n| *n <= 4294967295)
 }
 
-/// Lengths that can be told.
+/// Lengths that are known.
 #[tactic(auto, using(crate::proofs::Eights::eights))]
 fn told(f: &[u64; 8]) -> [u32; 8]
     requires { IsTrue (list_all (λ n. nat_le n 4294967295) f.now) }
@@ -78,7 +78,7 @@ pub(crate) fn exactly(f: &[u64; 8]) -> Span
     }
 }
 
-/// One part and another behind it.
+/// One part and another after it.
 fn one_behind(f: &[u32; 8], g: &[u32; 8]) -> Span
     ensures { result ≡ exactly (from_each (length_behind f.now g.now)) }
 {
@@ -143,7 +143,7 @@ impl Span {
         }
     }
 
-    /// This one, and another behind it.
+    /// This one, and another after it.
     pub(crate) fn behind(self, next: Span) -> Span
         ensures { result ≡ behind self next }
     {
