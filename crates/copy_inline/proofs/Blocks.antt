@@ -1,4 +1,4 @@
--- Blocks behind blocks, and for parts of parts.
+-- Blocks after blocks, and for parts of parts.
 use Rattle.std.proofs.Common.{◌≡◌, ℕ, List, [], ◌∷◌, ◌++◌, map, refl, sym, ap, ◌∙◌, append_assoc}
 use Rattle.cast_stub.specs.declared.put.Put.{Put}
 use Rattle.cast_stub.specs.declared.put.Put.TheVariants as put
@@ -63,7 +63,8 @@ spliced-append inl (row_wide p o r) b = ap (row_wide p o) (spliced-append inl r 
 spliced-append inl (each p w r) b = ap (each p (spliced inl w)) (spliced-append inl r b)
 spliced-append inl (switch p cs r) b = ap (switch p (cases_spliced inl cs)) (spliced-append inl r b)
 spliced-append inl (if_there p w r) b = ap (if_there p (spliced inl w)) (spliced-append inl r b)
-spliced-append inl (call k p r) b = ap (append (rebase p (inl k))) (spliced-append inl r b) ∙ sym (append-assoc (rebase p (inl k)) (spliced inl r) (spliced inl b))
+spliced-append inl (call k p r) b =
+    ap (append (rebase p (inl k))) (spliced-append inl r b) ∙ sym (append-assoc (rebase p (inl k)) (spliced inl r) (spliced inl b))
 spliced-append inl (patch x s o r) b = ap (patch x s o) (spliced-append inl r b)
 
 pub rebase-none : (a : Block) → rebase [] a ≡ a

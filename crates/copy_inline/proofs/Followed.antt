@@ -63,16 +63,21 @@ pub record AreKept (L : Loops) : Type 0 where
 
 module _ (L : Loops) (kept : AreKept L) where
   mutual
-    rebased : (t : Ty) (below : ℕ) (q p : List ℕ) (b : Block) → FollowsBy L no_subs t below p b → FollowsBy L no_subs t below (q ++ p) (rebase q b)
+    rebased : (t : Ty) (below : ℕ) (q p : List ℕ) (b : Block) → FollowsBy L no_subs t below p b
+        → FollowsBy L no_subs t below (q ++ p) (rebase q b)
     rebased void_type below q p b h = flat_rebased 0 q b h
     rebased (scalar_type s) below q p b h = flat_rebased 3 q b h
     rebased (array_type a) below q p b h = kept.rebased a q p b h
     rebased (group_type ts) below q p b h = fields_rebased ts 0 below q p b h
-    rebased (items_type c t) below q p b h = (rebase q h.0, h.1, ap (rebase q) h.2 ∙ rebase-append q h.0 (each p h.1 stop), count_rebased c q h.0 h.3, h.4)
-    rebased (choice_type s arms) below q p b h = (rebase q h.0, h.1, ap (rebase q) h.2 ∙ rebase-append q h.0 (switch p h.1 stop), flat_rebased 3 q h.0 h.3, h.4)
-    rebased (maybe_type t) below q p b h = (rebase q h.0, h.1, ap (rebase q) h.2 ∙ rebase-append q h.0 (if_there p h.1 stop), flat_rebased 3 q h.0 h.3, h.4)
+    rebased (items_type c t) below q p b h =
+        (rebase q h.0, h.1, ap (rebase q) h.2 ∙ rebase-append q h.0 (each p h.1 stop), count_rebased c q h.0 h.3, h.4)
+    rebased (choice_type s arms) below q p b h =
+        (rebase q h.0, h.1, ap (rebase q) h.2 ∙ rebase-append q h.0 (switch p h.1 stop), flat_rebased 3 q h.0 h.3, h.4)
+    rebased (maybe_type t) below q p b h =
+        (rebase q h.0, h.1, ap (rebase q) h.2 ∙ rebase-append q h.0 (if_there p h.1 stop), flat_rebased 3 q h.0 h.3, h.4)
 
-    fields_rebased : (ts : Tys) (i below : ℕ) (q p : List ℕ) (b : Block) → FieldsFollowBy L no_subs ts i below p b → FieldsFollowBy L no_subs ts i below (q ++ p) (rebase q b)
+    fields_rebased : (ts : Tys) (i below : ℕ) (q p : List ℕ) (b : Block) → FieldsFollowBy L no_subs ts i below p b
+        → FieldsFollowBy L no_subs ts i below (q ++ p) (rebase q b)
     fields_rebased no_fields i below q p b h = ap (rebase q) h
     fields_rebased (field t ts) i below q p b h =
         let one = rebased t below q (p ++ i ∷ []) h.0 (own (FollowsBy L no_subs t) below (p ++ i ∷ []) h.0 h.3) in (
@@ -86,9 +91,11 @@ module _ (L : Loops) (kept : AreKept L) where
   module _ (subs : ℕ → Option Block) where
     -- what inlining makes of code that goes through a type
     abbrev pub Goes : Ty → Type 0
-    Goes t = (n below then : ℕ) (p : List ℕ) (b : Block) → depth t ≤ n → FollowsBy L subs t below p b → FollowsBy L no_subs t then p (spliced (inlined subs n) b)
+    Goes t = (n below then : ℕ) (p : List ℕ) (b : Block) → depth t ≤ n → FollowsBy L subs t below p b
+        → FollowsBy L no_subs t then p (spliced (inlined subs n) b)
 
-    child : (t : Ty) (n below then : ℕ) (p : List ℕ) (b : Block) → depth t < n → Goes t → Child subs (FollowsBy L subs t) below p b → FollowsBy L no_subs t then p (spliced (inlined subs n) b)
+    child : (t : Ty) (n below then : ℕ) (p : List ℕ) (b : Block) → depth t < n → Goes t → Child subs (FollowsBy L subs t) below p b
+        → FollowsBy L no_subs t then p (spliced (inlined subs n) b)
     child t n below then p b lt go (inl f) = go n below then p b (omega arith) f
     child t zero below then p b lt go (inr c) = absurd (omega (arith, lt))
     child t (suc n) below then p b lt go (inr c) =
@@ -96,7 +103,8 @@ module _ (L : Loops) (kept : AreKept L) where
         let body : FollowsBy L no_subs t then [] code = go n c.0 then [] c.1 (omega arith) c.5 in
         let moved : FollowsBy L no_subs t then (p ++ []) (rebase p code) = rebased t then p [] code body in
         let is : rebase p code ≡ spliced (inlined subs (suc n)) b =
-        ap (λ (o : Option Block). rebase p (spliced_or_stop (inlined subs n) o)) (sym c.4) ∙ sym (append-stop (rebase p (inlined subs (suc n) c.0))) ∙ sym (ap (spliced (inlined subs (suc n))) c.2) in
+        ap (λ (o : Option Block). rebase p (spliced_or_stop (inlined subs n) o)) (sym c.4)
+        ∙ sym (append-stop (rebase p (inlined subs (suc n) c.0))) ∙ sym (ap (spliced (inlined subs (suc n))) c.2) in
         subst (FollowsBy L no_subs t then p) is (subst (λ (q : List ℕ). FollowsBy L no_subs t then q (rebase p code)) (append-nil p) moved)
 
     mutual
@@ -127,7 +135,8 @@ module _ (L : Loops) (kept : AreKept L) where
         inl (child t n below then [] h.1 (omega arith) (goes t) h.4),
       )
 
-      fields_go : (ts : Tys) (i n below then : ℕ) (p : List ℕ) (b : Block) → fields_depth ts < n → FieldsFollowBy L subs ts i below p b → FieldsFollowBy L no_subs ts i then p (spliced (inlined subs n) b)
+      fields_go : (ts : Tys) (i n below then : ℕ) (p : List ℕ) (b : Block) → fields_depth ts < n → FieldsFollowBy L subs ts i below p b
+          → FieldsFollowBy L no_subs ts i then p (spliced (inlined subs n) b)
       fields_go no_fields i n below then p b lt h = ap (spliced (inlined subs n)) h
       fields_go (field t ts) i n below then p b lt h = (
         spliced (inlined subs n) h.0,
@@ -137,10 +146,14 @@ module _ (L : Loops) (kept : AreKept L) where
         fields_go ts (suc i) n below then p h.1 (omega arith) h.4,
       )
 
-      arms_go : (arms : Arms) (n below then : ℕ) (cs : Cases) → arms_depth arms < n → ArmsFollowBy L subs arms below cs → ArmsFollowBy L no_subs arms then (cases_spliced (inlined subs n) cs)
+      arms_go : (arms : Arms) (n below then : ℕ) (cs : Cases) → arms_depth arms < n → ArmsFollowBy L subs arms below cs
+          → ArmsFollowBy L no_subs arms then (cases_spliced (inlined subs n) cs)
       arms_go no_other n below then cs lt h = ap (cases_spliced (inlined subs n)) h
-      arms_go (others t) n below then cs lt h =
-          (spliced (inlined subs n) h.0, ap (cases_spliced (inlined subs n)) h.1, inl (child t n below then [] h.0 (omega arith) (goes t) h.2))
+      arms_go (others t) n below then cs lt h = (
+        spliced (inlined subs n) h.0,
+        ap (cases_spliced (inlined subs n)) h.1,
+        inl (child t n below then [] h.0 (omega arith) (goes t) h.2),
+      )
       arms_go (arm_type m t arms) n below then cs lt h = (
         spliced (inlined subs n) h.0,
         cases_spliced (inlined subs n) h.1,
@@ -151,7 +164,9 @@ module _ (L : Loops) (kept : AreKept L) where
 
 -- ---- loops
 
-whole : (code : ℕ → Block) (p : List ℕ) (before turn behind b : Block) (k l m : ℕ) → b ≡ append before (each p turn behind) → flat before ≡ Some k → flat turn ≡ Some l → flat behind ≡ Some m → spliced code b ≡ b
+whole : (code : ℕ → Block) (p : List ℕ) (before turn behind b : Block) (k l m : ℕ) → b ≡ append before (each p turn behind)
+    → flat before ≡ Some k → flat turn ≡ Some l → flat behind ≡ Some m
+    → spliced code b ≡ b
 whole code p before turn behind b k l m is x y z =
     ap (spliced code) is ∙ spliced-append code before (each p turn behind)
     ∙ rw (spliced-flat code before k x, spliced-flat code turn l y, spliced-flat code behind m z) (sym is)
@@ -159,7 +174,20 @@ whole code p before turn behind b k l m is x y z =
 pub loops_kept : AreKept (λ a. IsLoop)
 loops_kept = record { rebased = moved; spliced_too = same } where
   moved : (a : Array) (q p : List ℕ) (b : Block) → IsLoop p b → IsLoop (q ++ p) (rebase q b)
-  moved a q p b h = (rebase q h.0, h.1, rebase q h.2, h.3, h.4, h.5, ap (rebase q) h.6 ∙ rebase-append q h.0 (each p h.1 h.2), flat-rebase q h.0 ∙ h.7, h.8, flat-rebase q h.2 ∙ h.9, h.10, h.11)
+  moved a q p b h = (
+    rebase q h.0,
+    h.1,
+    rebase q h.2,
+    h.3,
+    h.4,
+    h.5,
+    ap (rebase q) h.6 ∙ rebase-append q h.0 (each p h.1 h.2),
+    flat-rebase q h.0 ∙ h.7,
+    h.8,
+    flat-rebase q h.2 ∙ h.9,
+    h.10,
+    h.11,
+  )
 
   same : (code : ℕ → Block) (a : Array) (p : List ℕ) (b : Block) → IsLoop p b → IsLoop p (spliced code b)
   same code a p b h = subst (IsLoop p) (sym (whole code p h.0 h.1 h.2 b h.3 h.4 h.5 h.6 h.7 h.8 h.9)) h
@@ -167,7 +195,21 @@ loops_kept = record { rebased = moved; spliced_too = same } where
 pub turns_kept : (layout : Layout) → AreKept (IsTurned layout)
 turns_kept layout = record { rebased = moved; spliced_too = same } where
   moved : (a : Array) (q p : List ℕ) (b : Block) → IsTurned layout a p b → IsTurned layout a (q ++ p) (rebase q b)
-  moved a q p b h = (rebase q h.0, h.1, rebase q h.2, h.3, h.4, h.5, ap (rebase q) h.6 ∙ rebase-append q h.0 (each p h.1 h.2), flat-rebase q h.0 ∙ h.7, h.8, flat-rebase q h.2 ∙ h.9, h.10, h.11, h.12)
+  moved a q p b h = (
+    rebase q h.0,
+    h.1,
+    rebase q h.2,
+    h.3,
+    h.4,
+    h.5,
+    ap (rebase q) h.6 ∙ rebase-append q h.0 (each p h.1 h.2),
+    flat-rebase q h.0 ∙ h.7,
+    h.8,
+    flat-rebase q h.2 ∙ h.9,
+    h.10,
+    h.11,
+    h.12,
+  )
 
   same : (code : ℕ → Block) (a : Array) (p : List ℕ) (b : Block) → IsTurned layout a p b → IsTurned layout a p (spliced code b)
   same code a p b h = subst (IsTurned layout a p) (sym (whole code p h.0 h.1 h.2 b h.3 h.4 h.5 h.6 h.7 h.8 h.9)) h

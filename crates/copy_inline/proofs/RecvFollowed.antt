@@ -105,16 +105,21 @@ own F below p b (inr c) = absurd (let none = c.4 in cc)
 
 module _ (L : Loops) (kept : AreKept L) where
   mutual
-    rebased : (t : Ty) (below : ℕ) (q p : List ℕ) (b : Recv) → TracesBy L no_subs t below p b → TracesBy L no_subs t below (q ++ p) (rebase q b)
+    rebased : (t : Ty) (below : ℕ) (q p : List ℕ) (b : Recv) → TracesBy L no_subs t below p b
+        → TracesBy L no_subs t below (q ++ p) (rebase q b)
     rebased void_type below q p b h = none_rebased q b h
     rebased (scalar_type s) below q p b h = flat_rebased q p b h
     rebased (array_type a) below q p b h = kept.rebased a q p b h
     rebased (group_type ts) below q p b h = fields_rebased ts 0 below q p b h
-    rebased (items_type c t) below q p b h = (rebase q h.0, h.1, ap (rebase q) h.2 ∙ rebase-append q h.0 (each p h.1 finish), count_rebased c q p h.0 h.3, h.4)
-    rebased (choice_type s arms) below q p b h = (rebase q h.0, h.1, ap (rebase q) h.2 ∙ rebase-append q h.0 (switch p h.1 finish), flat_rebased q p h.0 h.3, h.4)
-    rebased (maybe_type t) below q p b h = (rebase q h.0, h.1, ap (rebase q) h.2 ∙ rebase-append q h.0 (if_there p h.1 finish), flat_rebased q p h.0 h.3, h.4)
+    rebased (items_type c t) below q p b h =
+        (rebase q h.0, h.1, ap (rebase q) h.2 ∙ rebase-append q h.0 (each p h.1 finish), count_rebased c q p h.0 h.3, h.4)
+    rebased (choice_type s arms) below q p b h =
+        (rebase q h.0, h.1, ap (rebase q) h.2 ∙ rebase-append q h.0 (switch p h.1 finish), flat_rebased q p h.0 h.3, h.4)
+    rebased (maybe_type t) below q p b h =
+        (rebase q h.0, h.1, ap (rebase q) h.2 ∙ rebase-append q h.0 (if_there p h.1 finish), flat_rebased q p h.0 h.3, h.4)
 
-    fields_rebased : (ts : Tys) (i below : ℕ) (q p : List ℕ) (b : Recv) → FieldsTraceBy L no_subs ts i below p b → FieldsTraceBy L no_subs ts i below (q ++ p) (rebase q b)
+    fields_rebased : (ts : Tys) (i below : ℕ) (q p : List ℕ) (b : Recv) → FieldsTraceBy L no_subs ts i below p b
+        → FieldsTraceBy L no_subs ts i below (q ++ p) (rebase q b)
     fields_rebased no_fields i below q p b h = ap (rebase q) h
     fields_rebased (field t ts) i below q p b h =
         let one = rebased t below q (p ++ i ∷ []) h.0 (own (TracesBy L no_subs t) below (p ++ i ∷ []) h.0 h.3) in (
@@ -128,9 +133,11 @@ module _ (L : Loops) (kept : AreKept L) where
   module _ (subs : ℕ → Option Recv) where
     -- what inlining makes of code that goes through a type
     abbrev pub Goes : Ty → Type 0
-    Goes t = (n below then : ℕ) (p : List ℕ) (b : Recv) → depth t ≤ n → TracesBy L subs t below p b → TracesBy L no_subs t then p (spliced (inlined subs n) b)
+    Goes t = (n below then : ℕ) (p : List ℕ) (b : Recv) → depth t ≤ n → TracesBy L subs t below p b
+        → TracesBy L no_subs t then p (spliced (inlined subs n) b)
 
-    child : (t : Ty) (n below then : ℕ) (p : List ℕ) (b : Recv) → depth t < n → Goes t → Child subs (TracesBy L subs t) below p b → TracesBy L no_subs t then p (spliced (inlined subs n) b)
+    child : (t : Ty) (n below then : ℕ) (p : List ℕ) (b : Recv) → depth t < n → Goes t → Child subs (TracesBy L subs t) below p b
+        → TracesBy L no_subs t then p (spliced (inlined subs n) b)
     child t n below then p b lt go (inl f) = go n below then p b (omega arith) f
     child t zero below then p b lt go (inr c) = absurd (omega (arith, lt))
     child t (suc n) below then p b lt go (inr c) =
@@ -138,7 +145,8 @@ module _ (L : Loops) (kept : AreKept L) where
         let body : TracesBy L no_subs t then [] code = go n c.0 then [] c.1 (omega arith) c.5 in
         let moved : TracesBy L no_subs t then (p ++ []) (rebase p code) = rebased t then p [] code body in
         let is : rebase p code ≡ spliced (inlined subs (suc n)) b =
-        ap (λ (o : Option Recv). rebase p (spliced_or_stop (inlined subs n) o)) (sym c.4) ∙ sym (append-finish (rebase p (inlined subs (suc n) c.0))) ∙ sym (ap (spliced (inlined subs (suc n))) c.2) in
+        ap (λ (o : Option Recv). rebase p (spliced_or_stop (inlined subs n) o)) (sym c.4)
+        ∙ sym (append-finish (rebase p (inlined subs (suc n) c.0))) ∙ sym (ap (spliced (inlined subs (suc n))) c.2) in
         subst (TracesBy L no_subs t then p) is (subst (λ (q : List ℕ). TracesBy L no_subs t then q (rebase p code)) (append-nil p) moved)
 
     mutual
@@ -169,7 +177,8 @@ module _ (L : Loops) (kept : AreKept L) where
         inl (child t n below then [] h.1 (omega arith) (goes t) h.4),
       )
 
-      fields_go : (ts : Tys) (i n below then : ℕ) (p : List ℕ) (b : Recv) → fields_depth ts < n → FieldsTraceBy L subs ts i below p b → FieldsTraceBy L no_subs ts i then p (spliced (inlined subs n) b)
+      fields_go : (ts : Tys) (i n below then : ℕ) (p : List ℕ) (b : Recv) → fields_depth ts < n → FieldsTraceBy L subs ts i below p b
+          → FieldsTraceBy L no_subs ts i then p (spliced (inlined subs n) b)
       fields_go no_fields i n below then p b lt h = ap (spliced (inlined subs n)) h
       fields_go (field t ts) i n below then p b lt h = (
         spliced (inlined subs n) h.0,
@@ -179,10 +188,14 @@ module _ (L : Loops) (kept : AreKept L) where
         fields_go ts (suc i) n below then p h.1 (omega arith) h.4,
       )
 
-      arms_go : (arms : Arms) (n below then : ℕ) (cs : Cases) → arms_depth arms < n → ArmsTraceBy L subs arms below cs → ArmsTraceBy L no_subs arms then (cases_spliced (inlined subs n) cs)
+      arms_go : (arms : Arms) (n below then : ℕ) (cs : Cases) → arms_depth arms < n → ArmsTraceBy L subs arms below cs
+          → ArmsTraceBy L no_subs arms then (cases_spliced (inlined subs n) cs)
       arms_go no_other n below then cs lt h = ap (cases_spliced (inlined subs n)) h
-      arms_go (others t) n below then cs lt h =
-          (spliced (inlined subs n) h.0, ap (cases_spliced (inlined subs n)) h.1, inl (child t n below then [] h.0 (omega arith) (goes t) h.2))
+      arms_go (others t) n below then cs lt h = (
+        spliced (inlined subs n) h.0,
+        ap (cases_spliced (inlined subs n)) h.1,
+        inl (child t n below then [] h.0 (omega arith) (goes t) h.2),
+      )
       arms_go (arm_type m t arms) n below then cs lt h = (
         spliced (inlined subs n) h.0,
         cases_spliced (inlined subs n) h.1,
@@ -211,10 +224,12 @@ moved_loop q p b h = record {
 same_loop : (code : ℕ → Recv) (p : List ℕ) (b : Recv) → IsLoop p b → spliced code b ≡ b
 same_loop code p b h =
     ap (spliced code) h.whole ∙ spliced-append code h.before (each p h.turn h.behind)
-    ∙ rw (spliced-flat code h.before h.first h.begins.0, spliced-flat code h.turn 0 h.turns.0, spliced-flat code h.behind h.last h.ends.0) (sym h.whole)
+    ∙ rw (spliced-flat code h.before h.first h.begins.0, spliced-flat code h.turn 0 h.turns.0, spliced-flat code h.behind h.last h.ends.0)
+    (sym h.whole)
 
 pub loops_kept : AreKept (λ a. IsLoop)
-loops_kept = record { rebased = λ a q p b h. moved_loop q p b h; spliced_too = λ code a p b h. subst (IsLoop p) (sym (same_loop code p b h)) h }
+loops_kept =
+    record { rebased = λ a q p b h. moved_loop q p b h; spliced_too = λ code a p b h. subst (IsLoop p) (sym (same_loop code p b h)) h }
 
 pub turns_kept : (layout : Layout) → AreKept (IsTurned layout)
 unfolding moved_loop

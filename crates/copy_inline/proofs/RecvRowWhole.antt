@@ -62,48 +62,67 @@ module _ (e : Encoding) (t0 : Ty) where
 
 module _ (e : Encoding) where
   mutual
-    ready : (t : Ty) (below : ℕ) (p : List ℕ) (b r : Recv) (t0 : Ty) → ty_at p t0 ≡ Some t → TracesBy (IsTurned (layout_of e)) no_subs t below p b → IsReady e t0 r → IsReady e t0 (append b r)
+    ready : (t : Ty) (below : ℕ) (p : List ℕ) (b r : Recv) (t0 : Ty) → ty_at p t0 ≡ Some t
+        → TracesBy (IsTurned (layout_of e)) no_subs t below p b → IsReady e t0 r
+        → IsReady e t0 (append b r)
     ready void_type below p b r t0 is f h = subst (λ (x : Recv). IsReady e t0 (append x r)) (sym f) h
     ready (scalar_type s) below p b r t0 is f h = flat_ready e t0 b r 0 f.0 h
     ready (array_type a) below p b r t0 is f h =
         let l = f.loop in
-        let w : append b r ≡ append l.before (each p l.turn (append l.behind r)) = ap (λ (x : Recv). append x r) l.whole ∙ append-assoc l.before (each p l.turn l.behind) r in
-        let loop : LoopIs e (ty_at p t0) l.turn (λ u. IsReady e u l.turn) = subst (λ (x : Option Ty). LoopIs e x l.turn (λ u. IsReady e u l.turn)) (sym is) (f.number, (l.turns).0) in
-        subst (IsReady e t0) (sym w) (flat_ready e t0 l.before (each p l.turn (append l.behind r)) l.first (l.begins).0 (loop, flat_ready e t0 l.behind r l.last (l.ends).0 h))
+        let w : append b r ≡ append l.before (each p l.turn (append l.behind r)) =
+        ap (λ (x : Recv). append x r) l.whole ∙ append-assoc l.before (each p l.turn l.behind) r in
+        let loop : LoopIs e (ty_at p t0) l.turn (λ u. IsReady e u l.turn) =
+        subst (λ (x : Option Ty). LoopIs e x l.turn (λ u. IsReady e u l.turn)) (sym is) (f.number, (l.turns).0) in
+        subst (IsReady e t0) (sym w) (flat_ready e t0 l.before (each p l.turn (append l.behind r)) l.first (l.begins).0
+        (loop, flat_ready e t0 l.behind r l.last (l.ends).0 h))
     ready (group_type ts) below p b r t0 is f h = fields_ready ts 0 ts below p b r t0 is (from-first ts) f h
     ready (items_type k t) below p b r t0 is f h =
         let w : append b r ≡ append f.0 (each p f.1 r) = ap (λ (x : Recv). append x r) f.2 ∙ append-assoc f.0 (each p f.1 finish) r in
-        let body = subst (IsReady e t) (append-finish f.1) (ready t below [] f.1 finish t refl (own (TracesBy (IsTurned (layout_of e)) no_subs t) below [] f.1 f.4) tt) in
-        let loop : LoopIs e (ty_at p t0) f.1 (λ u. IsReady e u f.1) = subst (λ (x : Option Ty). LoopIs e x f.1 (λ u. IsReady e u f.1)) (sym is) body in
+        let body = subst (IsReady e t) (append-finish f.1)
+        (ready t below [] f.1 finish t refl (own (TracesBy (IsTurned (layout_of e)) no_subs t) below [] f.1 f.4) tt) in
+        let loop : LoopIs e (ty_at p t0) f.1 (λ u. IsReady e u f.1) =
+        subst (λ (x : Option Ty). LoopIs e x f.1 (λ u. IsReady e u f.1)) (sym is) body in
         subst (IsReady e t0) (sym w) (count_ready e t0 p k f.0 (each p f.1 r) f.3 (loop, h))
     ready (choice_type s arms) below p b r t0 is f h =
         let w : append b r ≡ append f.0 (switch p f.1 r) = ap (λ (x : Recv). append x r) f.2 ∙ append-assoc f.0 (switch p f.1 finish) r in
-        let body = of_type (arms_at p t0) (λ y. CasesReady e y f.1) arms (ap (λ (x : Option Ty). on_some x arms_type) is) (arms_ready arms below f.1 f.4) in
+        let body = of_type (arms_at p t0) (λ y. CasesReady e y f.1) arms (ap (λ (x : Option Ty). on_some x arms_type) is)
+        (arms_ready arms below f.1 f.4) in
         subst (IsReady e t0) (sym w) (flat_ready e t0 f.0 (switch p f.1 r) 0 (f.3).0 (body, h))
     ready (maybe_type t) below p b r t0 is f h =
-        let w : append b r ≡ append f.0 (if_there p f.1 r) = ap (λ (x : Recv). append x r) f.2 ∙ append-assoc f.0 (if_there p f.1 finish) r in
-        let body = subst (IsReady e t) (append-finish f.1) (ready t below [] f.1 finish t refl (own (TracesBy (IsTurned (layout_of e)) no_subs t) below [] f.1 f.4) tt) in
+        let w : append b r ≡ append f.0 (if_there p f.1 r) =
+        ap (λ (x : Recv). append x r) f.2 ∙ append-assoc f.0 (if_there p f.1 finish) r in
+        let body = subst (IsReady e t) (append-finish f.1)
+        (ready t below [] f.1 finish t refl (own (TracesBy (IsTurned (layout_of e)) no_subs t) below [] f.1 f.4) tt) in
         let there = of_type (present_at p t0) (λ y. IsReady e y f.1) t (ap (λ (x : Option Ty). on_some x present_type) is) body in
         subst (IsReady e t0) (sym w) (flat_ready e t0 f.0 (if_there p f.1 r) 0 (f.3).0 (there, h))
 
-    fields_ready : (ts : Tys) (i : ℕ) (all : Tys) (below : ℕ) (p : List ℕ) (b r : Recv) (t0 : Ty) → ty_at p t0 ≡ Some (group_type all) → AreFrom i all ts → FieldsTraceBy (IsTurned (layout_of e)) no_subs ts i below p b → IsReady e t0 r → IsReady e t0 (append b r)
+    fields_ready : (ts : Tys) (i : ℕ) (all : Tys) (below : ℕ) (p : List ℕ) (b r : Recv) (t0 : Ty) → ty_at p t0 ≡ Some (group_type all)
+        → AreFrom i all ts → FieldsTraceBy (IsTurned (layout_of e)) no_subs ts i below p b → IsReady e t0 r
+        → IsReady e t0 (append b r)
     fields_ready no_fields i all below p b r t0 is from f h = subst (λ (x : Recv). IsReady e t0 (append x r)) (sym f) h
     fields_ready (field t ts) i all below p b r t0 is from f h =
         let w : append b r ≡ append f.0 (append f.1 r) = ap (λ (x : Recv). append x r) f.2 ∙ append-assoc f.0 f.1 r in
         let rest = fields_ready ts (suc i) all below p f.1 r t0 is (from-next i all t ts from) f.4 h in
         subst (IsReady e t0) (sym w)
-        (ready t below (p ++ i ∷ []) f.0 (append f.1 r) t0 (ty-field p i t0 (group_type all) t is (from-head i all t ts from)) (own (TracesBy (IsTurned (layout_of e)) no_subs t) below (p ++ i ∷ []) f.0 f.3) rest)
+        (ready t below (p ++ i ∷ []) f.0 (append f.1 r) t0 (ty-field p i t0 (group_type all) t is (from-head i all t ts from))
+        (own (TracesBy (IsTurned (layout_of e)) no_subs t) below (p ++ i ∷ []) f.0 f.3) rest)
 
     arms_ready : (arms : Arms) (below : ℕ) (cs : Cases) → ArmsTraceBy (IsTurned (layout_of e)) no_subs arms below cs → CasesReady e arms cs
     arms_ready no_other below cs f = subst (CasesReady e no_other) (sym f) tt
     arms_ready (others t) below cs f =
-        subst (CasesReady e (others t)) (sym f.1) (subst (IsReady e t) (append-finish f.0) (ready t below [] f.0 finish t refl (own (TracesBy (IsTurned (layout_of e)) no_subs t) below [] f.0 f.2) tt))
+        subst (CasesReady e (others t)) (sym f.1) (subst (IsReady e t) (append-finish f.0)
+        (ready t below [] f.0 finish t refl (own (TracesBy (IsTurned (layout_of e)) no_subs t) below [] f.0 f.2) tt))
     arms_ready (arm_type n t arms) below cs f =
-        subst (CasesReady e (arm_type n t arms)) (sym f.2)
-        (refl, subst (IsReady e t) (append-finish f.0) (ready t below [] f.0 finish t refl (own (TracesBy (IsTurned (layout_of e)) no_subs t) below [] f.0 f.3) tt), arms_ready arms below f.1 f.4)
+        subst (CasesReady e (arm_type n t arms)) (sym f.2) (
+          refl,
+          subst (IsReady e t) (append-finish f.0)
+              (ready t below [] f.0 finish t refl (own (TracesBy (IsTurned (layout_of e)) no_subs t) below [] f.0 f.3) tt),
+          arms_ready arms below f.1 f.4,
+        )
 
 pub given_ready : (e : Encoding) (t : Ty) (code : RecvCode) → IsGiven e t code → IsReady e t (code_seen code.ops)
-given_ready e t code given = subst (IsReady e t) (append-finish (code_seen code.ops)) (ready e t given.below [] (code_seen code.ops) finish t refl given.goes tt)
+given_ready e t code given =
+    subst (IsReady e t) (append-finish (code_seen code.ops)) (ready e t given.below [] (code_seen code.ops) finish t refl given.goes tt)
 
 -- ---- no call
 
@@ -124,13 +143,16 @@ row_free sort.Block w o p b r h k = k
 row_free sort.Wide w o p b r h k = k
 row_free sort.Looped w o p b r h k = (h, k)
 
-loop_free : (e : Encoding) (x : Option Ty) (p : List ℕ) (b r : Recv) → LoopIs e x b (λ u. IsReady e u b) → ((u : Ty) → IsReady e u b → HasNoCall (rowed e u b)) → HasNoCall r → HasNoCall (loop_rowed e x p b (λ u. rowed e u b) r)
+loop_free : (e : Encoding) (x : Option Ty) (p : List ℕ) (b r : Recv) → LoopIs e x b (λ u. IsReady e u b)
+    → ((u : Ty) → IsReady e u b → HasNoCall (rowed e u b)) → HasNoCall r
+    → HasNoCall (loop_rowed e x p b (λ u. rowed e u b) r)
 loop_free e (Some (array_type a)) p b r ok go k = row_free (sort_of e a) (element_width e a) (order_of e) p b r (turn_free b ok.1) k
 loop_free e (Some (items_type c t)) p b r ok go k = (go t ok, k)
 loop_free e None p b r ok go k = absurd ok
 loop_free e (Some _) p b r ok go k = absurd ok
 
-typed_free : {A B : Type 0} (x : Option A) (b : B) (f : A → B) (P : A → Type 0) (Q : B → Type 0) → OfType x P → ((a : A) → P a → Q (f a)) → Q (by_type x b f)
+typed_free : {A B : Type 0} (x : Option A) (b : B) (f : A → B) (P : A → Type 0) (Q : B → Type 0) → OfType x P → ((a : A) → P a → Q (f a))
+    → Q (by_type x b f)
 typed_free None b f P Q ok go = absurd ok
 typed_free (Some a) b f P Q ok go = go a ok
 
@@ -146,9 +168,16 @@ mutual
   rowed_free e (row_block p o r) t ok = absurd ok
   rowed_free e (row_wide p o r) t ok = absurd ok
   rowed_free e (each p b r) t ok = loop_free e (ty_at p t) p b (rowed e t r) ok.0 (λ u k. rowed_free e b u k) (rowed_free e r t ok.1)
-  rowed_free e (switch p cs r) t ok =
-      (typed_free (arms_at p t) cs (λ arms. cases_rowed e arms cs) (λ arms. CasesReady e arms cs) CasesHaveNoCall ok.0 (λ arms k. cases_free e cs arms k), rowed_free e r t ok.1)
-  rowed_free e (if_there p b r) t ok = (typed_free (present_at p t) b (λ u. rowed e u b) (λ u. IsReady e u b) HasNoCall ok.0 (λ u k. rowed_free e b u k), rowed_free e r t ok.1)
+  rowed_free e (switch p cs r) t ok = (
+    typed_free (arms_at p t) cs (λ arms. cases_rowed e arms cs) (λ arms. CasesReady e arms cs) CasesHaveNoCall ok.0
+        (λ arms k. cases_free e cs arms k),
+    rowed_free e r t ok.1,
+  )
+  rowed_free e (if_there p b r) t ok = (
+    typed_free (present_at p t) b (λ u. rowed e u b) (λ u. IsReady e u b) HasNoCall ok.0
+        (λ u k. rowed_free e b u k),
+    rowed_free e r t ok.1,
+  )
   rowed_free e (call k p r) t ok = absurd ok
 
   cases_free : (e : Encoding) (cs : Cases) (arms : Arms) → CasesReady e arms cs → CasesHaveNoCall (cases_rowed e arms cs)
@@ -169,17 +198,22 @@ exact_alike e t p o (gives v s) y h k = subst (IsExact e t p o) (sym h.1) k
 exact_alike e t p o refuses y h k = subst (IsExact e t p o) (sym h) k
 exact_alike e t p o strays y h k = absurd k
 
-module _ (e : Encoding) (t : Ty) (given code : RecvCode) (of : IsGiven e t given) (is : IsRowed e t given code) (none : code.subs ≡ []) where
+module _ (e : Encoding) (t : Ty) (given code : RecvCode) (of : IsGiven e t given) (is : IsRowed e t given code)
+    (none : code.subs ≡ []) where
   pub gives_same : GivesTheSame t given code
   gives_same s =
       let run = alike e (calls_of given.subs deepest) (code_seen given.ops) t (given_ready e t given of) (fresh t) s s.tests (fresh_is t) in
-      let met : fill (calls_of given.subs deepest) (rowed e t (code_seen given.ops)) (fresh t) s ≡ fill (calls_of code.subs deepest) (code_seen code.ops) (fresh t) s =
-      ap (λ (b : Recv). fill (calls_of given.subs deepest) b (fresh t) s) (sym is) ∙ ap (λ subs. fill (calls_of subs deepest) (code_seen code.ops) (fresh t) s) (of.subs ∙ sym none) in
-      settled_alike (fill (calls_of given.subs deepest) (code_seen given.ops) (fresh t) s) (fill (calls_of code.subs deepest) (code_seen code.ops) (fresh t) s)
+      let met : fill (calls_of given.subs deepest) (rowed e t (code_seen given.ops)) (fresh t) s
+      ≡ fill (calls_of code.subs deepest) (code_seen code.ops) (fresh t) s =
+      ap (λ (b : Recv). fill (calls_of given.subs deepest) b (fresh t) s) (sym is)
+      ∙ ap (λ subs. fill (calls_of subs deepest) (code_seen code.ops) (fresh t) s) (of.subs ∙ sym none) in
+      settled_alike (fill (calls_of given.subs deepest) (code_seen given.ops) (fresh t) s)
+      (fill (calls_of code.subs deepest) (code_seen code.ops) (fresh t) s)
       (subst (EndsAlike (fill (calls_of given.subs deepest) (code_seen given.ops) (fresh t) s)) met run.1)
 
   pub stays_sound : StaysSound e t given code
-  stays_sound sound s place octets short = exact_alike e t s.pos s.left (received given t s) (received code t s) (gives_same s) (sound s place octets short)
+  stays_sound sound s place octets short =
+      exact_alike e t s.pos s.left (received given t s) (received code t s) (gives_same s) (sound s place octets short)
 
   pub has_no_call : HasNoCall (code_seen code.ops)
   has_no_call = subst HasNoCall (sym is) (rowed_free e (code_seen given.ops) t (given_ready e t given of))

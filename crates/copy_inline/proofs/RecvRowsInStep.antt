@@ -21,7 +21,8 @@ module _ (enc : Encoding) (us : List Ty) where
   as-many (a ∷ arms) (c ∷ cases) h = ap suc (as-many arms cases h.1)
 
   -- each of them is ready
-  pub one-ready : (arms : List (ℤ × ℕ)) (cases : List (ℤ × List RecvOp)) (i : ℕ) (d : ℤ × ℕ) (d' : ℤ × List RecvOp) → i < length cases → ArmsReady enc us arms cases
+  pub one-ready : (arms : List (ℤ × ℕ)) (cases : List (ℤ × List RecvOp)) (i : ℕ) (d : ℤ × ℕ) (d' : ℤ × List RecvOp) → i < length cases
+      → ArmsReady enc us arms cases
       → IsReady enc (at us (get_or arms i d).1) (code_seen (get_or cases i d').1)
   one-ready [] [] i d d' lt h = absurd (omega (arith, lt))
   one-ready [] (c ∷ cases) i d d' lt h = absurd h
@@ -29,12 +30,15 @@ module _ (enc : Encoding) (us : List Ty) where
   one-ready (a ∷ arms) (c ∷ cases) zero d d' lt h = h.0
   one-ready (a ∷ arms) (c ∷ cases) (suc i) d d' lt h = one-ready arms cases i d d' (omega (arith, lt)) h.1
 
-  pub this-ready : (arms : List (ℤ × ℕ)) (cases : List (ℤ × List RecvOp)) (i : ℕ) (d : ℤ × ℕ) (c : ℤ × List RecvOp) → i < length cases → c ≡ get_or cases i c → ArmsReady enc us arms cases
+  pub this-ready : (arms : List (ℤ × ℕ)) (cases : List (ℤ × List RecvOp)) (i : ℕ) (d : ℤ × ℕ) (c : ℤ × List RecvOp) → i < length cases
+      → c ≡ get_or cases i c → ArmsReady enc us arms cases
       → IsReady enc (at us (get_or arms i d).1) (code_seen c.1)
-  this-ready arms cases i d c lt is h = subst (λ (x : ℤ × List RecvOp). IsReady enc (at us (get_or arms i d).1) (code_seen x.1)) (sym is) (one-ready arms cases i d c lt h)
+  this-ready arms cases i d c lt is h =
+      subst (λ (x : ℤ × List RecvOp). IsReady enc (at us (get_or arms i d).1) (code_seen x.1)) (sym is) (one-ready arms cases i d c lt h)
 
   -- one more body
-  snoc-rowed : (arms : List (ℤ × ℕ)) (cases bodies : List (ℤ × List RecvOp)) (a : ℤ × ℕ) (c b : ℤ × List RecvOp) → AreRowed enc us arms cases bodies → IsRowedBody enc (at us a.1) c b
+  snoc-rowed : (arms : List (ℤ × ℕ)) (cases bodies : List (ℤ × List RecvOp)) (a : ℤ × ℕ) (c b : ℤ × List RecvOp)
+      → AreRowed enc us arms cases bodies → IsRowedBody enc (at us a.1) c b
       → AreRowed enc us (arms ++ a ∷ []) (cases ++ c ∷ []) (bodies ++ b ∷ [])
   snoc-rowed [] [] [] a c b h k = (k, tt)
   snoc-rowed [] [] (y ∷ bodies) a c b h k = absurd h
@@ -43,25 +47,33 @@ module _ (enc : Encoding) (us : List Ty) where
   snoc-rowed (e ∷ arms) (x ∷ cases) [] a c b h k = absurd h
   snoc-rowed (e ∷ arms) (x ∷ cases) (y ∷ bodies) a c b h k = (h.0, snoc-rowed arms cases bodies a c b h.1 k)
 
-  pub one-rowed : (arms : List (ℤ × ℕ)) (cases bodies new : List (ℤ × List RecvOp)) (i : ℕ) (d : ℤ × ℕ) (c b : ℤ × List RecvOp) → ArmsReady enc us arms cases → i < length cases → c ≡ get_or cases i c
-      → AreRowed enc us (take i arms) (take i cases) bodies → IsRowedBody enc (at us (get_or arms i d).1) c b → new ≡ bodies ++ b ∷ [] → AreRowed enc us (take (i + 1) arms) (take (i + 1) cases) new
+  pub one-rowed : (arms : List (ℤ × ℕ)) (cases bodies new : List (ℤ × List RecvOp)) (i : ℕ) (d : ℤ × ℕ) (c b : ℤ × List RecvOp)
+      → ArmsReady enc us arms cases → i < length cases → c ≡ get_or cases i c → AreRowed enc us (take i arms) (take i cases) bodies
+      → IsRowedBody enc (at us (get_or arms i d).1) c b → new ≡ bodies ++ b ∷ []
+      → AreRowed enc us (take (i + 1) arms) (take (i + 1) cases) new
   one-rowed arms cases bodies new i d c b ready lt' is' h k made =
       let a = get_or arms i d in
       let lt : i < length arms = omega (arith, lt', as-many arms cases ready) in
       let more : take (i + 1) arms ≡ take i arms ++ a ∷ [] = take_more arms i d lt in
-      let more' : take (i + 1) cases ≡ take i cases ++ c ∷ [] = take_more cases i c lt' ∙ ap (λ (x : ℤ × List RecvOp). take i cases ++ x ∷ []) (sym is') in
+      let more' : take (i + 1) cases ≡ take i cases ++ c ∷ [] =
+      take_more cases i c lt' ∙ ap (λ (x : ℤ × List RecvOp). take i cases ++ x ∷ []) (sym is') in
       subst (λ (l : List (ℤ × ℕ)). AreRowed enc us l (take (i + 1) cases) new) (sym more)
       (subst (λ (l : List (ℤ × List RecvOp)). AreRowed enc us (take i arms ++ a ∷ []) l new) (sym more')
-      (subst (AreRowed enc us (take i arms ++ a ∷ []) (take i cases ++ c ∷ [])) (sym made) (snoc-rowed (take i arms) (take i cases) bodies a c b h k)))
+      (subst (AreRowed enc us (take i arms ++ a ∷ []) (take i cases ++ c ∷ [])) (sym made)
+      (snoc-rowed (take i arms) (take i cases) bodies a c b h k)))
 
   -- all of them
-  pub all-rowed : (arms : List (ℤ × ℕ)) (cases bodies : List (ℤ × List RecvOp)) (i : ℕ) → ArmsReady enc us arms cases → length cases ≤ i → AreRowed enc us (take i arms) (take i cases) bodies → AreRowed enc us arms cases bodies
+  pub all-rowed : (arms : List (ℤ × ℕ)) (cases bodies : List (ℤ × List RecvOp)) (i : ℕ) → ArmsReady enc us arms cases → length cases ≤ i
+      → AreRowed enc us (take i arms) (take i cases) bodies
+      → AreRowed enc us arms cases bodies
   all-rowed arms cases bodies i ready most h =
       let most' : length arms ≤ i = omega (arith, most, as-many arms cases ready) in
-      subst (λ (l : List (ℤ × ℕ)). AreRowed enc us l cases bodies) (take_all i arms most') (subst (λ (l : List (ℤ × List RecvOp)). AreRowed enc us (take i arms) l bodies) (take_all i cases most) h)
+      subst (λ (l : List (ℤ × ℕ)). AreRowed enc us l cases bodies) (take_all i arms most')
+      (subst (λ (l : List (ℤ × List RecvOp)). AreRowed enc us (take i arms) l bodies) (take_all i cases most) h)
 
   -- bodies that are ready as a switch are ready in step, and so is the last
-  pub arms-ready : (arms : List (ℤ × ℕ)) (other : Option ℕ) (cases : List (ℤ × List RecvOp)) (last : Option (List RecvOp)) → CasesReady enc (arms_at us arms other) (cases_seen cases last)
+  pub arms-ready : (arms : List (ℤ × ℕ)) (other : Option ℕ) (cases : List (ℤ × List RecvOp)) (last : Option (List RecvOp))
+      → CasesReady enc (arms_at us arms other) (cases_seen cases last)
       → ArmsReady enc us arms cases × CasesReady enc (others_at us other) (cases_seen [] last)
   arms-ready [] other [] last h = (tt, h)
   arms-ready [] None (c ∷ cases) last h = absurd h
@@ -72,9 +84,10 @@ module _ (enc : Encoding) (us : List Ty) where
       let k = arms-ready arms other cases last h.2 in
       ((h.1, k.0), k.1)
 
-  -- so they stand as a switch
-  pub cases-rowed : (arms : List (ℤ × ℕ)) (other : Option ℕ) (cases bodies : List (ℤ × List RecvOp)) (last rest : Option (List RecvOp)) → AreRowed enc us arms cases bodies
-      → cases_seen [] rest ≡ cases_rowed enc (others_at us other) (cases_seen [] last) → cases_seen bodies rest ≡ cases_rowed enc (arms_at us arms other) (cases_seen cases last)
+  -- so they are as a switch
+  pub cases-rowed : (arms : List (ℤ × ℕ)) (other : Option ℕ) (cases bodies : List (ℤ × List RecvOp)) (last rest : Option (List RecvOp))
+      → AreRowed enc us arms cases bodies → cases_seen [] rest ≡ cases_rowed enc (others_at us other) (cases_seen [] last)
+      → cases_seen bodies rest ≡ cases_rowed enc (arms_at us arms other) (cases_seen cases last)
   cases-rowed [] other [] [] last rest h e = e
   cases-rowed [] other [] (b ∷ bodies) last rest h e = absurd h
   cases-rowed [] other (c ∷ cases) bodies last rest h e = absurd h
@@ -104,11 +117,14 @@ both-ready enc t (each p c r) b h = let k = both-ready enc t r b h.1 in ((h.0, k
 both-ready enc t (if_there p c r) b h = let k = both-ready enc t r b h.1 in ((h.0, k.0), k.1)
 both-ready enc t (switch p cs r) b h = let k = both-ready enc t r b h.1 in ((h.0, k.0), k.1)
 
-op-parts : (enc : Encoding) (t : Ty) (o : RecvOp) (ops : List RecvOp) → IsReady enc t (code_seen (o ∷ ops)) → IsReady enc t (op_seen o finish) × IsReady enc t (code_seen ops)
-op-parts enc t o ops h = both-ready enc t (op_seen o finish) (code_seen ops) (subst (IsReady enc t) (sym (op-append o finish (code_seen ops))) h)
+op-parts : (enc : Encoding) (t : Ty) (o : RecvOp) (ops : List RecvOp) → IsReady enc t (code_seen (o ∷ ops))
+    → IsReady enc t (op_seen o finish) × IsReady enc t (code_seen ops)
+op-parts enc t o ops h =
+    both-ready enc t (op_seen o finish) (code_seen ops) (subst (IsReady enc t) (sym (op-append o finish (code_seen ops))) h)
 
 -- each operation of code that is ready
-pub op-ready : (enc : Encoding) (t : Ty) (ops : List RecvOp) (i : ℕ) (d : RecvOp) → i < length ops → IsReady enc t (code_seen ops) → IsReady enc t (op_seen (get_or ops i d) finish)
+pub op-ready : (enc : Encoding) (t : Ty) (ops : List RecvOp) (i : ℕ) (d : RecvOp) → i < length ops → IsReady enc t (code_seen ops)
+    → IsReady enc t (op_seen (get_or ops i d) finish)
 op-ready enc t [] i d lt h = absurd (omega (arith, lt))
 op-ready enc t (o ∷ ops) zero d lt h = (op-parts enc t o ops h).0
 op-ready enc t (o ∷ ops) (suc i) d lt h = op-ready enc t ops i d (omega (arith, lt)) (op-parts enc t o ops h).1

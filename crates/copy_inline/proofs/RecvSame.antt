@@ -25,7 +25,8 @@ Below x y = Holds x → y ≡ x
 same_below : {A : Type 0} (x : Run A) → Below x x
 same_below x h = refl
 
-below_then : {A B : Type 0} (x y : Run A) (f g : A → Place → Run B) → Below x y → ((a : A) (t : Place) → Below (f a t) (g a t)) → Below (then_run x f) (then_run y g)
+below_then : {A B : Type 0} (x y : Run A) (f g : A → Place → Run B) → Below x y → ((a : A) (t : Place) → Below (f a t) (g a t))
+    → Below (then_run x f) (then_run y g)
 below_then (gives a t) y f g h k held = ap (λ z. then_run z g) (h tt) ∙ k a t held
 below_then refuses y f g h k held = ap (λ z. then_run z g) (h tt)
 below_then strays y f g h k held = absurd held
@@ -42,7 +43,9 @@ below_settled strays y e held = absurd held
 
 below_runs : {A : Type 0} (f g : Going A) → ((s : Place) → Below (f s) (g s)) → (n : ℕ) (s : Place) → Below (runs f n s) (runs g n s)
 below_runs f g h zero s = same_below (gives [] s)
-below_runs {A} f g h (suc n) s = below_then (f s) (g s) (λ x t. map_run (λ xs. x ∷ xs) (runs f n t)) (λ x t. map_run (λ xs. x ∷ xs) (runs g n t)) (h s) (λ (a : A) (t : Place). below_map (λ xs. a ∷ xs) (runs f n t) (runs g n t) (below_runs f g h n t))
+below_runs {A} f g h (suc n) s = below_then (f s) (g s) (λ x t. map_run (λ xs. x ∷ xs) (runs f n t))
+    (λ x t. map_run (λ xs. x ∷ xs) (runs g n t)) (h s)
+    (λ (a : A) (t : Place). below_map (λ xs. a ∷ xs) (runs f n t) (runs g n t) (below_runs f g h n t))
 
 -- ---- fillers
 
@@ -56,7 +59,8 @@ below_field f g h (suc n) (draft d ds) s = below_map (draft d) (at_field n f ds 
 
 below_within : (p : List ℕ) (f g : Filler) → AreBelow f g → AreBelow (within p f) (within p g)
 below_within [] f g h d s = h d s
-below_within (n ∷ p) f g h (fields ds) s = below_map fields (at_field n (within p f) ds s) (at_field n (within p g) ds s) (below_field (within p f) (within p g) (below_within p f g h) n ds s)
+below_within (n ∷ p) f g h (fields ds) s = below_map fields (at_field n (within p f) ds s) (at_field n (within p g) ds s)
+    (below_field (within p f) (within p g) (below_within p f g h) n ds s)
 below_within (n ∷ p) f g h (raw t) s = λ held. absurd held
 below_within (n ∷ p) f g h (digit a) s = λ held. absurd held
 below_within (n ∷ p) f g h (listed t m) s = λ held. absurd held
@@ -67,14 +71,19 @@ below_within (n ∷ p) f g h (done v) s = λ held. absurd held
 
 module _ (f g : Filler) (h : AreBelow f g) where
   below_items : (t : Ty) (n : ℕ) (s : Place) → Below (fill_items f t n s) (fill_items g t n s)
-  below_items t n s = below_map (λ vs. done (items (vals_of vs))) (runs (λ u. settled (f (fresh t) u)) n s) (runs (λ u. settled (g (fresh t) u)) n s)
-      (below_runs (λ u. settled (f (fresh t) u)) (λ u. settled (g (fresh t) u)) (λ (u : Place). below_settled (f (fresh t) u) (g (fresh t) u) (h (fresh t) u)) n s)
+  below_items t n s =
+      below_map (λ vs. done (items (vals_of vs))) (runs (λ u. settled (f (fresh t) u)) n s) (runs (λ u. settled (g (fresh t) u)) n s)
+      (below_runs (λ u. settled (f (fresh t) u)) (λ u. settled (g (fresh t) u))
+      (λ (u : Place). below_settled (f (fresh t) u) (g (fresh t) u) (h (fresh t) u)) n s)
 
   below_row : (a : Array) (n : ℕ) (s : Place) → Below (fill_row f a n s) (fill_row g a n s)
-  below_row a n s = below_map (λ ns. done (row (kind_of a) ns)) (runs (λ u. settled_number (f (digit a) u)) n s) (runs (λ u. settled_number (g (digit a) u)) n s)
+  below_row a n s = below_map (λ ns. done (row (kind_of a) ns)) (runs (λ u. settled_number (f (digit a) u)) n s)
+      (runs (λ u. settled_number (g (digit a) u)) n s)
       (below_runs (λ u. settled_number (f (digit a) u)) (λ u. settled_number (g (digit a) u))
-      (λ (u : Place). below_then (settled (f (digit a) u)) (settled (g (digit a) u)) (λ v s. if_some (num_in v) (λ n. gives n s)) (λ v s. if_some (num_in v) (λ n. gives n s))
-      (below_settled (f (digit a) u) (g (digit a) u) (h (digit a) u)) (λ (v : Val) (w : Place). same_below (if_some (num_in v) (λ n. gives n w)))) n s)
+      (λ (u : Place). below_then (settled (f (digit a) u)) (settled (g (digit a) u)) (λ v s. if_some (num_in v) (λ n. gives n s))
+      (λ v s. if_some (num_in v) (λ n. gives n s))
+      (below_settled (f (digit a) u) (g (digit a) u) (h (digit a) u))
+      (λ (v : Val) (w : Place). same_below (if_some (num_in v) (λ n. gives n w)))) n s)
 
   below_each : AreBelow (fill_each f) (fill_each g)
   below_each (raw (items_type c t)) s = below_items t (least c) s
@@ -93,7 +102,8 @@ module _ (f g : Filler) (h : AreBelow f g) where
   below_each (fields ds) s = λ held. absurd held
 
   below_present : AreBelow (fill_present f) (fill_present g)
-  below_present (flagged t) s = below_map (λ v. done (present v)) (settled (f (fresh t) s)) (settled (g (fresh t) s)) (below_settled (f (fresh t) s) (g (fresh t) s) (h (fresh t) s))
+  below_present (flagged t) s = below_map (λ v. done (present v)) (settled (f (fresh t) s)) (settled (g (fresh t) s))
+      (below_settled (f (fresh t) s) (g (fresh t) s) (h (fresh t) s))
   below_present (done absent) s = same_below (gives (done absent) s)
   below_present (done void) s = λ held. absurd held
   below_present (done (num n)) s = λ held. absurd held
@@ -110,7 +120,8 @@ module _ (f g : Filler) (h : AreBelow f g) where
   below_present (fields ds) s = λ held. absurd held
 
 below_arm : (f g : ℤ → Filler) → ((n : ℤ) → AreBelow (f n) (g n)) → AreBelow (fill_arm f) (fill_arm g)
-below_arm f g h (tagged n t) s = below_map (λ v. done (arm n v)) (settled (f n (fresh t) s)) (settled (g n (fresh t) s)) (below_settled (f n (fresh t) s) (g n (fresh t) s) (h n (fresh t) s))
+below_arm f g h (tagged n t) s = below_map (λ v. done (arm n v)) (settled (f n (fresh t) s)) (settled (g n (fresh t) s))
+    (below_settled (f n (fresh t) s) (g n (fresh t) s) (h n (fresh t) s))
 below_arm f g h (raw t) s = λ held. absurd held
 below_arm f g h (digit a) s = λ held. absurd held
 below_arm f g h (listed t n) s = λ held. absurd held
@@ -133,9 +144,11 @@ module _ (c e : Callees) (code : ℕ → Recv) (agree : (k : ℕ) → AreBelow (
     either (Some x) is =
         subst (λ (z : Run Draft). Below z (fill e (rebase p (code k)) d s)) (sym (within_is (c k) x s p d is))
         (subst (λ (z : Run Draft). Below (then_run (c k x s) (replaced p d)) z) (sym (fill-rebase e p (code k) d x s is))
-        (below_then (c k x s) (fill e (code k) x s) (replaced p d) (replaced p d) (agree k x s) (λ (y : Draft) (t : Place). same_below (replaced p d y t))))
+        (below_then (c k x s) (fill e (code k) x s) (replaced p d) (replaced p d) (agree k x s)
+        (λ (y : Draft) (t : Place). same_below (replaced p d y t))))
 
-  behind : (x y : Run Draft) (r : Recv) → Below x y → AreBelow (fill c r) (fill e (spliced code r)) → Below (then_run x (fill c r)) (then_run y (fill e (spliced code r)))
+  behind : (x y : Run Draft) (r : Recv) → Below x y → AreBelow (fill c r) (fill e (spliced code r))
+      → Below (then_run x (fill c r)) (then_run y (fill e (spliced code r)))
   behind x y r h k = below_then x y (fill c r) (fill e (spliced code r)) h k
 
   mutual
@@ -145,30 +158,44 @@ module _ (c e : Callees) (code : ℕ → Recv) (agree : (k : ℕ) → AreBelow (
     spliced_same (need_row p u k r) d s =
         let x : Run Draft = if_some (part p d) (λ x. if_some (length_in x) (λ n. needed (n * u + k) d s)) in
         behind x x r (same_below x) (spliced_same r)
-    spliced_same (skip_any a r) d s = behind (skipped (λ o. true) a d s) (skipped (λ o. true) a d s) r (same_below (skipped (λ o. true) a d s)) (spliced_same r)
-    spliced_same (skip_zero a r) d s = behind (skipped all_zero a d s) (skipped all_zero a d s) r (same_below (skipped all_zero a d s)) (spliced_same r)
+    spliced_same (skip_any a r) d s =
+        behind (skipped (λ o. true) a d s) (skipped (λ o. true) a d s) r (same_below (skipped (λ o. true) a d s)) (spliced_same r)
+    spliced_same (skip_zero a r) d s =
+        behind (skipped all_zero a d s) (skipped all_zero a d s) r (same_below (skipped all_zero a d s)) (spliced_same r)
     spliced_same (pass n gs r) d s =
-        below_then (all_got gs d s) (all_got gs d s) (λ x t. then_run (passed n x t) (fill c r)) (λ x t. then_run (passed n x t) (fill e (spliced code r))) (same_below (all_got gs d s))
+        below_then (all_got gs d s) (all_got gs d s) (λ x t. then_run (passed n x t) (fill c r))
+        (λ x t. then_run (passed n x t) (fill e (spliced code r))) (same_below (all_got gs d s))
         (λ (x : Draft) (t : Place). behind (passed n x t) (passed n x t) r (same_below (passed n x t)) (spliced_same r))
-    spliced_same (desc p name size mul r) d s = behind (within p (desc_into name size mul) d s) (within p (desc_into name size mul) d s) r (same_below (within p (desc_into name size mul) d s)) (spliced_same r)
-    spliced_same (row_block p o r) d s = behind (within p (row_into o) d s) (within p (row_into o) d s) r (same_below (within p (row_into o) d s)) (spliced_same r)
-    spliced_same (row_wide p o r) d s = behind (within p (wide_into o) d s) (within p (wide_into o) d s) r (same_below (within p (wide_into o) d s)) (spliced_same r)
+    spliced_same (desc p name size mul r) d s = behind (within p (desc_into name size mul) d s) (within p (desc_into name size mul) d s) r
+        (same_below (within p (desc_into name size mul) d s)) (spliced_same r)
+    spliced_same (row_block p o r) d s =
+        behind (within p (row_into o) d s) (within p (row_into o) d s) r (same_below (within p (row_into o) d s)) (spliced_same r)
+    spliced_same (row_wide p o r) d s =
+        behind (within p (wide_into o) d s) (within p (wide_into o) d s) r (same_below (within p (wide_into o) d s)) (spliced_same r)
     spliced_same (each p b r) d s = behind (within p (fill_each (fill c b)) d s) (within p (fill_each (fill e (spliced code b))) d s) r
-        (below_within p (fill_each (fill c b)) (fill_each (fill e (spliced code b))) (below_each (fill c b) (fill e (spliced code b)) (spliced_same b)) d s) (spliced_same r)
-    spliced_same (switch p cs r) d s = behind (within p (fill_arm (fill_case c cs)) d s) (within p (fill_arm (fill_case e (cases_spliced code cs))) d s) r
-        (below_within p (fill_arm (fill_case c cs)) (fill_arm (fill_case e (cases_spliced code cs))) (below_arm (fill_case c cs) (fill_case e (cases_spliced code cs)) (case_same cs)) d s) (spliced_same r)
-    spliced_same (if_there p b r) d s = behind (within p (fill_present (fill c b)) d s) (within p (fill_present (fill e (spliced code b))) d s) r
-        (below_within p (fill_present (fill c b)) (fill_present (fill e (spliced code b))) (below_present (fill c b) (fill e (spliced code b)) (spliced_same b)) d s) (spliced_same r)
+        (below_within p (fill_each (fill c b)) (fill_each (fill e (spliced code b)))
+        (below_each (fill c b) (fill e (spliced code b)) (spliced_same b)) d s) (spliced_same r)
+    spliced_same (switch p cs r) d s =
+        behind (within p (fill_arm (fill_case c cs)) d s) (within p (fill_arm (fill_case e (cases_spliced code cs))) d s) r
+        (below_within p (fill_arm (fill_case c cs)) (fill_arm (fill_case e (cases_spliced code cs)))
+        (below_arm (fill_case c cs) (fill_case e (cases_spliced code cs)) (case_same cs)) d s) (spliced_same r)
+    spliced_same (if_there p b r) d s =
+        behind (within p (fill_present (fill c b)) d s) (within p (fill_present (fill e (spliced code b))) d s) r
+        (below_within p (fill_present (fill c b)) (fill_present (fill e (spliced code b)))
+        (below_present (fill c b) (fill e (spliced code b)) (spliced_same b)) d s) (spliced_same r)
     spliced_same (call k p r) d s =
-        subst (λ (z : Run Draft). Below (then_run (within p (c k) d s) (fill c r)) z) (sym (fill-append e (rebase p (code k)) (spliced code r) d s))
+        subst (λ (z : Run Draft). Below (then_run (within p (c k) d s) (fill c r)) z)
+        (sym (fill-append e (rebase p (code k)) (spliced code r) d s))
         (behind (within p (c k) d s) (fill e (rebase p (code k)) d s) r (called_below k p d s) (spliced_same r))
 
     case_same : (cs : Cases) (n : ℤ) → AreBelow (fill_case c cs n) (fill_case e (cases_spliced code cs) n)
     case_same no_default n d s = λ held. absurd held
     case_same (default b) n d s = spliced_same b d s
-    case_same (case m b cs) n d s = below_if (int_eq n m) (fill c b d s) (fill e (spliced code b) d s) (fill_case c cs n d s) (fill_case e (cases_spliced code cs) n d s) (spliced_same b d s) (case_same cs n d s)
+    case_same (case m b cs) n d s = below_if (int_eq n m) (fill c b d s) (fill e (spliced code b) d s) (fill_case c cs n d s)
+        (fill_case e (cases_spliced code cs) n d s) (spliced_same b d s) (case_same cs n d s)
 
-sub_below : (c e : Callees) (code : ℕ → Recv) (o : Option Recv) (d : Draft) (s : Place) → ((k : ℕ) → AreBelow (c k) (fill e (code k))) → Below (if_some o (λ b. fill c b d s)) (fill e (spliced_or_stop code o) d s)
+sub_below : (c e : Callees) (code : ℕ → Recv) (o : Option Recv) (d : Draft) (s : Place) → ((k : ℕ) → AreBelow (c k) (fill e (code k)))
+    → Below (if_some o (λ b. fill c b d s)) (fill e (spliced_or_stop code o) d s)
 sub_below c e code None d s agree = λ held. absurd held
 sub_below c e code (Some b) d s agree = spliced_same c e code agree b d s
 

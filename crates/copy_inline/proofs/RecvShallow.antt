@@ -35,10 +35,14 @@ both_within subs P (switch p cs r) b h = let k = both_within subs P r b h.1 in (
 both_within subs P (if_there p c r) b h = let k = both_within subs P r b h.1 in ((h.0, k.0), k.1)
 both_within subs P (call j p r) b h = let k = both_within subs P r b h.1 in ((h.0, k.0), k.1)
 
-op_parts : (subs : ℕ → Option Recv) (P : Recv → Type 0) (o : RecvOp) (ops : List RecvOp) → Within subs P (code_seen (o ∷ ops)) → Within subs P (op_seen o finish) × Within subs P (code_seen ops)
-op_parts subs P o ops h = both_within subs P (op_seen o finish) (code_seen ops) (subst (Within subs P) (sym (op-append o finish (code_seen ops))) h)
+op_parts : (subs : ℕ → Option Recv) (P : Recv → Type 0) (o : RecvOp) (ops : List RecvOp) → Within subs P (code_seen (o ∷ ops))
+    → Within subs P (op_seen o finish) × Within subs P (code_seen ops)
+op_parts subs P o ops h =
+    both_within subs P (op_seen o finish) (code_seen ops) (subst (Within subs P) (sym (op-append o finish (code_seen ops))) h)
 
-op_within : (subs : ℕ → Option Recv) (P : Recv → Type 0) (ops : List RecvOp) (i : ℕ) (d : RecvOp) → i < length ops → Within subs P (code_seen ops) → Within subs P (op_seen (get_or ops i d) finish)
+op_within : (subs : ℕ → Option Recv) (P : Recv → Type 0) (ops : List RecvOp) (i : ℕ) (d : RecvOp) → i < length ops
+    → Within subs P (code_seen ops)
+    → Within subs P (op_seen (get_or ops i d) finish)
 op_within subs P [] i d lt h = absurd (omega (arith, lt))
 op_within subs P (o ∷ ops) zero d lt h = (op_parts subs P o ops h).0
 op_within subs P (o ∷ ops) (suc i) d lt h = op_within subs P ops i d (omega (arith, lt)) (op_parts subs P o ops h).1
@@ -52,9 +56,12 @@ own_level : (subs : ℕ → Option Recv) (n : ℕ) (b : Recv) → IsShallow subs
 own_level subs zero b h = absurd h
 own_level subs (suc n) b h = let e : n ≡ suc n - 1 = omega arith in subst (λ (k : ℕ). Within subs (IsShallow subs k) b) e h
 
-pub one_op : (subs : ℕ → Option Recv) (n : ℕ) (ops : List RecvOp) (i : ℕ) (d o : RecvOp) → i < length ops → o ≡ get_or ops i d → IsShallow subs n (code_seen ops) → Within subs (IsShallow subs (n - 1)) (op_seen o finish)
+pub one_op : (subs : ℕ → Option Recv) (n : ℕ) (ops : List RecvOp) (i : ℕ) (d o : RecvOp) → i < length ops → o ≡ get_or ops i d
+    → IsShallow subs n (code_seen ops)
+    → Within subs (IsShallow subs (n - 1)) (op_seen o finish)
 one_op subs n ops i d o lt is h =
-    subst (λ (x : RecvOp). Within subs (IsShallow subs (n - 1)) (op_seen x finish)) (sym is) (op_within subs (IsShallow subs (n - 1)) ops i d lt (own_level subs n (code_seen ops) h))
+    subst (λ (x : RecvOp). Within subs (IsShallow subs (n - 1)) (op_seen x finish)) (sym is)
+    (op_within subs (IsShallow subs (n - 1)) ops i d lt (own_level subs n (code_seen ops) h))
 
 module _ (subs : ℕ → Option Recv) (P : Recv → Type 0) (o : RecvOp) (h : Within subs P (op_seen o finish)) where
   pub each_body : (p : List ℕ) (body : List RecvOp) → o ≡ op.Each p body → P (code_seen body)
@@ -63,27 +70,34 @@ module _ (subs : ℕ → Option Recv) (P : Recv → Type 0) (o : RecvOp) (h : Wi
   pub some_body : (p : List ℕ) (body : List RecvOp) → o ≡ op.Some p body → P (code_seen body)
   some_body p body e = (subst (λ (x : Piece). Within subs P (x finish)) (ap op_seen e ∙ seen-Some p body) h).0
 
-  all_bodies : (p : List ℕ) (cases : List (ℤ × List RecvOp)) (last : Option (List RecvOp)) → o ≡ op.Switch p cases last → CasesAre P (cases_seen cases last)
+  all_bodies : (p : List ℕ) (cases : List (ℤ × List RecvOp)) (last : Option (List RecvOp)) → o ≡ op.Switch p cases last
+      → CasesAre P (cases_seen cases last)
   all_bodies p cases last e = (subst (λ (x : Piece). Within subs P (x finish)) (ap op_seen e ∙ seen-Switch p cases last) h).0
 
-  without_last : (cases : List (ℤ × List RecvOp)) (last : Option (List RecvOp)) → CasesAre P (cases_seen cases last) → CasesAre P (cases_seen cases None)
+  without_last : (cases : List (ℤ × List RecvOp)) (last : Option (List RecvOp)) → CasesAre P (cases_seen cases last)
+      → CasesAre P (cases_seen cases None)
   without_last [] last k = tt
   without_last (c ∷ cases) last k = (k.0, without_last cases last k.1)
 
-  last_alone : (cases : List (ℤ × List RecvOp)) (last : Option (List RecvOp)) → CasesAre P (cases_seen cases last) → CasesAre P (cases_seen [] last)
+  last_alone : (cases : List (ℤ × List RecvOp)) (last : Option (List RecvOp)) → CasesAre P (cases_seen cases last)
+      → CasesAre P (cases_seen [] last)
   last_alone [] last k = k
   last_alone (c ∷ cases) last k = last_alone cases last k.1
 
-  pub switch_bodies : (p : List ℕ) (cases : List (ℤ × List RecvOp)) (last : Option (List RecvOp)) → o ≡ op.Switch p cases last → CasesAre P (cases_seen cases None)
+  pub switch_bodies : (p : List ℕ) (cases : List (ℤ × List RecvOp)) (last : Option (List RecvOp)) → o ≡ op.Switch p cases last
+      → CasesAre P (cases_seen cases None)
   switch_bodies p cases last e = without_last cases last (all_bodies p cases last e)
 
-  pub switch_last : (p : List ℕ) (cases : List (ℤ × List RecvOp)) (last : Option (List RecvOp)) → o ≡ op.Switch p cases last → CasesAre P (cases_seen [] last)
+  pub switch_last : (p : List ℕ) (cases : List (ℤ × List RecvOp)) (last : Option (List RecvOp)) → o ≡ op.Switch p cases last
+      → CasesAre P (cases_seen [] last)
   switch_last p cases last e = last_alone cases last (all_bodies p cases last e)
 
   pub called_code : (k : ℕ) (p : List ℕ) → o ≡ op.Call k p → OfCode (subs k) P
   called_code k p e = (subst (λ (x : Piece). Within subs P (x finish)) (ap op_seen e ∙ seen-Call k p) h).0
 
-pub one_body : (P : Recv → Type 0) (cases : List (ℤ × List RecvOp)) (i : ℕ) (d c : ℤ × List RecvOp) → i < length cases → c ≡ get_or cases i d → CasesAre P (cases_seen cases None) → P (code_seen c.1)
+pub one_body : (P : Recv → Type 0) (cases : List (ℤ × List RecvOp)) (i : ℕ) (d c : ℤ × List RecvOp) → i < length cases
+    → c ≡ get_or cases i d → CasesAre P (cases_seen cases None)
+    → P (code_seen c.1)
 one_body P [] i d c lt is h = absurd (omega (arith, lt))
 one_body P (x ∷ cases) zero d c lt is h = subst (λ (y : ℤ × List RecvOp). P (code_seen y.1)) (sym is) h.0
 one_body P (x ∷ cases) (suc i) d c lt is h = one_body P cases i d c (omega (arith, lt)) is h.1
@@ -124,23 +138,27 @@ module _ (subs : ℕ → Option Recv) where
   count_within P p (AtMost n) b h = flat_within P b 0 h.0
   count_within P p Any b h = flat_within P b 0 h.0
 
-  -- code that goes through a type, behind whose own level so many stand
+  -- code that goes through a type, below whose own level so many are nested
   abbrev Goes : Ty → Type 0
   Goes t = (n below : ℕ) (p : List ℕ) (b : Recv) → 2 * depth t + 1 ≤ n → Traces subs t below p b → Within subs (IsShallow subs n) b
 
   -- the code of a child, which is called
-  call_within : (t : Ty) (n k : ℕ) (p : List ℕ) (b code : Recv) → Goes t → 2 * depth t + 2 ≤ n → b ≡ call k p finish → subs k ≡ Some code → Traces subs t k [] code → Within subs (IsShallow subs n) b
+  call_within : (t : Ty) (n k : ℕ) (p : List ℕ) (b code : Recv) → Goes t → 2 * depth t + 2 ≤ n → b ≡ call k p finish → subs k ≡ Some code
+      → Traces subs t k [] code
+      → Within subs (IsShallow subs n) b
   call_within t n k p b code go le is there f =
       let own = level n code (omega (arith, le)) (go (n - 1) k [] code (omega (arith, le)) f) in
       subst (Within subs (IsShallow subs n)) (sym is) (subst (λ (x : Option Recv). OfCode x (IsShallow subs n)) (sym there) own, tt)
 
   -- a child among others
-  child_within : (t : Ty) (n below : ℕ) (p : List ℕ) (b : Recv) → Goes t → 2 * depth t + 2 ≤ n → Child subs (Traces subs t) below p b → Within subs (IsShallow subs n) b
+  child_within : (t : Ty) (n below : ℕ) (p : List ℕ) (b : Recv) → Goes t → 2 * depth t + 2 ≤ n → Child subs (Traces subs t) below p b
+      → Within subs (IsShallow subs n) b
   child_within t n below p b go le (inl f) = go n below p b (omega (arith, le)) f
   child_within t n below p b go le (inr c) = call_within t n c.0 p b c.1 go le c.2 c.4 c.5
 
   -- a child as a body
-  child_shallow : (t : Ty) (n below : ℕ) (b : Recv) → Goes t → 2 * depth t + 3 ≤ n → Child subs (Traces subs t) below [] b → IsShallow subs n b
+  child_shallow : (t : Ty) (n below : ℕ) (b : Recv) → Goes t → 2 * depth t + 3 ≤ n → Child subs (Traces subs t) below [] b
+      → IsShallow subs n b
   child_shallow t n below b go le f = level n b (omega (arith, le)) (child_within t (n - 1) below [] b go (omega (arith, le)) f)
 
   mutual
@@ -150,7 +168,8 @@ module _ (subs : ℕ → Option Recv) where
     goes (array_type a) n below p b le f =
         let P = IsShallow subs n in
         let turn = level n f.turn (omega (arith, le)) (flat_within (IsShallow subs (n - 1)) f.turn 0 f.turns.0) in
-        subst (Within subs P) (sym f.whole) (append_within P f.before (each p f.turn f.behind) (flat_within P f.before f.first f.begins.0) (turn, flat_within P f.behind f.last f.ends.0))
+        subst (Within subs P) (sym f.whole) (append_within P f.before (each p f.turn f.behind) (flat_within P f.before f.first f.begins.0)
+        (turn, flat_within P f.behind f.last f.ends.0))
     goes (group_type ts) n below p b le f = fields_go ts 0 n below p b (omega (arith, le)) f
     goes (items_type c t) n below p b le f =
         let P = IsShallow subs n in
@@ -158,27 +177,34 @@ module _ (subs : ℕ → Option Recv) where
         subst (Within subs P) (sym f.2) (append_within P f.0 (each p f.1 finish) (count_within P p c f.0 f.3) (body, tt))
     goes (choice_type s arms) n below p b le f =
         let P = IsShallow subs n in
-        subst (Within subs P) (sym f.2) (append_within P f.0 (switch p f.1 finish) (flat_within P f.0 0 (f.3).0) (arms_go arms n below f.1 (omega (arith, le)) f.4, tt))
+        subst (Within subs P) (sym f.2)
+        (append_within P f.0 (switch p f.1 finish) (flat_within P f.0 0 (f.3).0) (arms_go arms n below f.1 (omega (arith, le)) f.4, tt))
     goes (maybe_type t) n below p b le f =
         let P = IsShallow subs n in
         let body = child_shallow t n below f.1 (goes t) (omega (arith, le)) f.4 in
         subst (Within subs P) (sym f.2) (append_within P f.0 (if_there p f.1 finish) (flat_within P f.0 0 (f.3).0) (body, tt))
 
-    fields_go : (ts : Tys) (i n below : ℕ) (p : List ℕ) (b : Recv) → 2 * fields_depth ts + 3 ≤ n → FieldsTraceBy (λ a. IsLoop) subs ts i below p b → Within subs (IsShallow subs n) b
+    fields_go : (ts : Tys) (i n below : ℕ) (p : List ℕ) (b : Recv) → 2 * fields_depth ts + 3 ≤ n
+        → FieldsTraceBy (λ a. IsLoop) subs ts i below p b
+        → Within subs (IsShallow subs n) b
     fields_go no_fields i n below p b le f = subst (Within subs (IsShallow subs n)) (sym f) tt
     fields_go (field t ts) i n below p b le f =
         let one = child_within t n below (p ++ i ∷ []) f.0 (goes t) (omega (arith, le)) f.3 in
-        subst (Within subs (IsShallow subs n)) (sym f.2) (append_within (IsShallow subs n) f.0 f.1 one (fields_go ts (suc i) n below p f.1 (omega (arith, le)) f.4))
+        subst (Within subs (IsShallow subs n)) (sym f.2)
+        (append_within (IsShallow subs n) f.0 f.1 one (fields_go ts (suc i) n below p f.1 (omega (arith, le)) f.4))
 
-    arms_go : (arms : Arms) (n below : ℕ) (cs : Cases) → 2 * arms_depth arms + 3 ≤ n → ArmsTraceBy (λ a. IsLoop) subs arms below cs → CasesAre (IsShallow subs n) cs
+    arms_go : (arms : Arms) (n below : ℕ) (cs : Cases) → 2 * arms_depth arms + 3 ≤ n → ArmsTraceBy (λ a. IsLoop) subs arms below cs
+        → CasesAre (IsShallow subs n) cs
     arms_go no_other n below cs le f = subst (CasesAre (IsShallow subs n)) (sym f) tt
-    arms_go (others t) n below cs le f = subst (CasesAre (IsShallow subs n)) (sym f.1) (child_shallow t n below f.0 (goes t) (omega (arith, le)) f.2)
+    arms_go (others t) n below cs le f =
+        subst (CasesAre (IsShallow subs n)) (sym f.1) (child_shallow t n below f.0 (goes t) (omega (arith, le)) f.2)
     arms_go (arm_type m t arms) n below cs le f =
         let body = child_shallow t n below f.0 (goes t) (omega (arith, le)) f.3 in
         subst (CasesAre (IsShallow subs n)) (sym f.2) (body, arms_go arms n below f.1 (omega (arith, le)) f.4)
 
 -- the code of a node has at most 66 levels
-pub given_shallow : (subs : List (List RecvOp)) (id : ℕ) → id < length subs → GoThroughTypes subs → OfCode (sub_at subs id) (IsShallow (sub_at subs) 66)
+pub given_shallow : (subs : List (List RecvOp)) (id : ℕ) → id < length subs → GoThroughTypes subs
+    → OfCode (sub_at subs id) (IsShallow (sub_at subs) 66)
 given_shallow subs id lt given =
     let ops = get_or subs id [] in
     let found : sub_at subs id ≡ Some (code_seen ops) = ap (option_map code_seen) (slice_get-get_or subs id [] lt) in

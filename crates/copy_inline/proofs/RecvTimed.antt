@@ -39,7 +39,8 @@ AreEven f = (d : Draft) → Even (f d)
 pub given : {A : Type 0} (x : A) → Even (gives x)
 given x s m = (m, refl)
 
-pub then_alike : {A B : Type 0} (x y : Run A) (f g : A → Place → Run B) → EndsAlike x y → ((a : A) → Pairs (f a) (g a)) → EndsAlike (then_run x f) (then_run y g)
+pub then_alike : {A B : Type 0} (x y : Run A) (f g : A → Place → Run B) → EndsAlike x y → ((a : A) → Pairs (f a) (g a))
+    → EndsAlike (then_run x f) (then_run y g)
 then_alike (gives a s) y f g h go = subst (λ z. EndsAlike (f a s) (then_run z g)) (sym h.1) (go a s h.0)
 then_alike refuses y f g h go = ap (λ z. then_run z g) h
 then_alike strays y f g h go = tt
@@ -49,15 +50,18 @@ map_alike h (gives a s) y e = (e.0, ap (map_run h) e.1)
 map_alike h refuses y e = ap (map_run h) e
 map_alike h strays y e = tt
 
-pub if_alike : {A : Type 0} (b : Bool) (x x' y y' : Run A) → EndsAlike x x' → EndsAlike y y' → EndsAlike (if b then x else y) (if b then x' else y')
+pub if_alike : {A : Type 0} (b : Bool) (x x' y y' : Run A) → EndsAlike x x' → EndsAlike y y'
+    → EndsAlike (if b then x else y) (if b then x' else y')
 if_alike true x x' y y' h g = h
 if_alike false x x' y y' h g = g
 
-some_even : {A B : Type 0} (o : Option A) (f : A → Place → Run B) → ((a : A) → Even (f a)) → (s : Place) (m : ℕ) → EndsAlike (if_some o (λ a. f a s)) (if_some o (λ a. f a (timed m s)))
+some_even : {A B : Type 0} (o : Option A) (f : A → Place → Run B) → ((a : A) → Even (f a)) → (s : Place) (m : ℕ)
+    → EndsAlike (if_some o (λ a. f a s)) (if_some o (λ a. f a (timed m s)))
 some_even None f h s m = tt
 some_even (Some a) f h s m = h a s m
 
-passed_some : {A B : Type 0} (o : Option A) (f : A → Place → Run B) → ((a : A) → Even (f a)) → (s : Place) (m : ℕ) → EndsAlike (if_passed o (λ a. f a s)) (if_passed o (λ a. f a (timed m s)))
+passed_some : {A B : Type 0} (o : Option A) (f : A → Place → Run B) → ((a : A) → Even (f a)) → (s : Place) (m : ℕ)
+    → EndsAlike (if_passed o (λ a. f a s)) (if_passed o (λ a. f a (timed m s)))
 passed_some None f h s m = refl
 passed_some (Some a) f h s m = h a s m
 
@@ -70,7 +74,8 @@ passed_even n d s m = if_alike (nat_le n s.near) _ _ strays strays (m, refl) tt
 pub skipped_even : (test : List ℕ → Bool) (a : ℕ) → AreEven (skipped test a)
 skipped_even test a d s m =
     let f : Draft → Place → Run Draft = λ d t. if test (take (gap s.pos a) t.left) then passed (gap s.pos a) d t else refuses in
-    let over : (x : Draft) → Pairs (f x) (f x) = λ (x : Draft) (t : Place) (j : ℕ). if_alike (test (take (gap s.pos a) t.left)) (passed (gap s.pos a) x t) (passed (gap s.pos a) x (timed j t)) refuses refuses (passed_even (gap s.pos a) x t j) refl in
+    let over : (x : Draft) → Pairs (f x) (f x) = λ (x : Draft) (t : Place) (j : ℕ). if_alike (test (take (gap s.pos a) t.left))
+    (passed (gap s.pos a) x t) (passed (gap s.pos a) x (timed j t)) refuses refuses (passed_even (gap s.pos a) x t j) refl in
     if_alike (is_width a) (then_run (needed (gap s.pos a) d s) f) (then_run (needed (gap s.pos a) d (timed m s)) f) refuses refuses
     (then_alike (needed (gap s.pos a) d s) (needed (gap s.pos a) d (timed m s)) f f (needed_even (gap s.pos a) d s m) over) refl
 
@@ -79,7 +84,8 @@ skipped_even test a d s m =
 scalar_even : (t : Scalar) (f : ℤ → Option Draft) (x : Width) (n : ℕ) → Even (scalar_into t f x n)
 scalar_even t f x n s m =
     let z : ℤ = number_of (is_signed t) x n in
-    if_alike (is_scalar t z) (if_passed (f z) (λ d. gives d s)) (if_passed (f z) (λ d. gives d (timed m s))) refuses refuses (passed_some (f z) (λ d. gives d) given s m) refl
+    if_alike (is_scalar t z) (if_passed (f z) (λ d. gives d s)) (if_passed (f z) (λ d. gives d (timed m s))) refuses refuses
+    (passed_some (f z) (λ d. gives d) given s m) refl
 
 num_even : (x : Width) (n : ℕ) → AreEven (num_into x n)
 num_even x n (raw (scalar_type t)) = scalar_even t (λ z. Some (done (num z))) x n
@@ -110,35 +116,45 @@ count_even mul add n _ = λ (s : Place) (m : ℕ). tt
 
 units_even : (right : Bool) (mul many n : ℕ) → AreEven (units_into right mul many n)
 units_even right mul many n d s m =
-    if_alike right (then_run (count_into mul 0 many d s) (passed n)) (then_run (count_into mul 0 many d (timed m s)) (passed n)) refuses refuses
-    (then_alike (count_into mul 0 many d s) (count_into mul 0 many d (timed m s)) (passed n) (passed n) (count_even mul 0 many d s m) (passed_even n)) refl
+    if_alike right (then_run (count_into mul 0 many d s) (passed n)) (then_run (count_into mul 0 many d (timed m s)) (passed n)) refuses
+    refuses
+    (then_alike (count_into mul 0 many d s) (count_into mul 0 many d (timed m s)) (passed n) (passed n) (count_even mul 0 many d s m)
+    (passed_even n)) refl
 
 pub desc_even : (name size mul : ℕ) → AreEven (desc_into name size mul)
-desc_even name size mul d s m = then_alike (needed 4 d s) (needed 4 d (timed m s)) _ (λ x t. form_into name size mul (little w32 0 4 t.left) x t) (needed_even 4 d s m) form where
-  long : AreEven (long_into name size mul)
-  long x t j =
-      then_alike (needed 12 x t) (needed 12 x (timed j t)) _ (λ y u. units_into (nat_eq (little w16 4 2 u.left) name && nat_eq (little w16 6 2 u.left) size) mul (little w32 8 4 u.left) 12 y u)
-      (needed_even 12 x t j) (λ (y : Draft) (u : Place) (i : ℕ). units_even (nat_eq (little w16 4 2 u.left) name && nat_eq (little w16 6 2 u.left) size) mul (little w32 8 4 u.left) 12 y u i)
+desc_even name size mul d s m = then_alike (needed 4 d s) (needed 4 d (timed m s)) _
+    (λ x t. form_into name size mul (little w32 0 4 t.left) x t) (needed_even 4 d s m) form where
+      long : AreEven (long_into name size mul)
+      long x t j =
+          then_alike (needed 12 x t) (needed 12 x (timed j t)) _
+          (λ y u. units_into (nat_eq (little w16 4 2 u.left) name && nat_eq (little w16 6 2 u.left) size) mul (little w32 8 4 u.left) 12 y
+          u)
+          (needed_even 12 x t j) (λ (y : Draft) (u : Place) (i : ℕ). units_even
+          (nat_eq (little w16 4 2 u.left) name && nat_eq (little w16 6 2 u.left) size) mul (little w32 8 4 u.left) 12 y u i)
 
-  form : (x : Draft) → Even (λ t. form_into name size mul (little w32 0 4 t.left) x t)
-  form x t j =
-      let first : ℕ = little w32 0 4 t.left in
-      if_alike (is_marked first) (long_into name size mul x t) (long_into name size mul x (timed j t))
-      (if nat_eq (first / 2 ^ 28) 1 then short_into name size mul first x t else refuses) (if nat_eq (first / 2 ^ 28) 1 then short_into name size mul first x (timed j t) else refuses)
-      (long x t j)
-      (if_alike (nat_eq (first / 2 ^ 28) 1) (short_into name size mul first x t) (short_into name size mul first x (timed j t)) refuses refuses
-      (units_even (nat_eq (first % 256) name && nat_eq (first / 256 % 256) size) mul (first / 65536 % 4096) 4 x t j) refl)
+      form : (x : Draft) → Even (λ t. form_into name size mul (little w32 0 4 t.left) x t)
+      form x t j =
+          let first : ℕ = little w32 0 4 t.left in
+          if_alike (is_marked first) (long_into name size mul x t) (long_into name size mul x (timed j t))
+          (if nat_eq (first / 2 ^ 28) 1 then short_into name size mul first x t else refuses)
+          (if nat_eq (first / 2 ^ 28) 1 then short_into name size mul first x (timed j t) else refuses)
+          (long x t j)
+          (if_alike (nat_eq (first / 2 ^ 28) 1) (short_into name size mul first x t) (short_into name size mul first x (timed j t)) refuses
+          refuses
+          (units_even (nat_eq (first % 256) name && nat_eq (first / 256 % 256) size) mul (first / 65536 % 4096) 4 x t j) refl)
 
 -- ---- parts and gets
 
 field_even : (n : ℕ) (f : Filler) → AreEven f → (ds : Drafts) → Even (at_field n f ds)
 field_even n f h no_draft = λ (s : Place) (m : ℕ). tt
 field_even zero f h (draft d ds) = λ (s : Place) (m : ℕ). map_alike (λ x. draft x ds) (f d s) (f d (timed m s)) (h d s m)
-field_even (suc n) f h (draft d ds) = λ (s : Place) (m : ℕ). map_alike (draft d) (at_field n f ds s) (at_field n f ds (timed m s)) (field_even n f h ds s m)
+field_even (suc n) f h (draft d ds) =
+    λ (s : Place) (m : ℕ). map_alike (draft d) (at_field n f ds s) (at_field n f ds (timed m s)) (field_even n f h ds s m)
 
 pub within_even : (p : List ℕ) (f : Filler) → AreEven f → AreEven (within p f)
 within_even [] f h d = h d
-within_even (n ∷ p) f h (fields ds) = λ (s : Place) (m : ℕ). map_alike fields (at_field n (within p f) ds s) (at_field n (within p f) ds (timed m s)) (field_even n (within p f) (within_even p f h) ds s m)
+within_even (n ∷ p) f h (fields ds) = λ (s : Place) (m : ℕ). map_alike fields (at_field n (within p f) ds s)
+    (at_field n (within p f) ds (timed m s)) (field_even n (within p f) (within_even p f h) ds s m)
 within_even (n ∷ p) f h _ = λ (s : Place) (m : ℕ). tt
 
 into_even : (g : Get) (x : Width) (n : ℕ) → AreEven (into g x n)
@@ -150,8 +166,10 @@ into_even (get.Const off os) x n = λ (d : Draft) (s : Place) (m : ℕ). tt
 
 word_even : (g : Get) (off : ℕ) (p : List ℕ) (w : ℕ) (o : Order) → AreEven (word_got g off p w o)
 word_even g off p w o d s m =
-    passed_some (width_in w) (λ x u. if nat_le (off + w) u.near then within p (into g x (loaded o x (take w (drop off u.left)))) d u else strays)
-    (λ (x : Width) (u : Place) (j : ℕ). if_alike (nat_le (off + w) u.near) (within p (into g x (loaded o x (take w (drop off u.left)))) d u) (within p (into g x (loaded o x (take w (drop off u.left)))) d (timed j u)) strays strays
+    passed_some (width_in w)
+    (λ x u. if nat_le (off + w) u.near then within p (into g x (loaded o x (take w (drop off u.left)))) d u else strays)
+    (λ (x : Width) (u : Place) (j : ℕ). if_alike (nat_le (off + w) u.near) (within p (into g x (loaded o x (take w (drop off u.left)))) d u)
+    (within p (into g x (loaded o x (take w (drop off u.left)))) d (timed j u)) strays strays
     (within_even p (into g x (loaded o x (take w (drop off u.left)))) (into_even g x (loaded o x (take w (drop off u.left)))) d u j) tt) s m
 
 got_even : (g : Get) → AreEven (got g)
@@ -160,22 +178,26 @@ got_even (get.Tag off p w o) = word_even (get.Tag off p w o) off p w o
 got_even (get.Flag off p w o) = word_even (get.Flag off p w o) off p w o
 got_even (get.Count off p mul add w o) = word_even (get.Count off p mul add w o) off p w o
 got_even (get.Const off os) = λ (d : Draft) (s : Place) (m : ℕ).
-    if_alike (nat_le (off + length os) s.near) (if same_octets os (take (length os) (drop off s.left)) then gives d s else refuses) (if same_octets os (take (length os) (drop off s.left)) then gives d (timed m s) else refuses) strays strays
+    if_alike (nat_le (off + length os) s.near) (if same_octets os (take (length os) (drop off s.left)) then gives d s else refuses)
+    (if same_octets os (take (length os) (drop off s.left)) then gives d (timed m s) else refuses) strays strays
     (if_alike (same_octets os (take (length os) (drop off s.left))) (gives d s) (gives d (timed m s)) refuses refuses (m, refl) refl) tt
 
 pub all_even : (gs : List Get) → AreEven (all_got gs)
 all_even [] = given
-all_even (g ∷ gs) = λ (d : Draft) (s : Place) (m : ℕ). then_alike (got g d s) (got g d (timed m s)) (all_got gs) (all_got gs) (got_even g d s m) (all_even gs)
+all_even (g ∷ gs) = λ (d : Draft) (s : Place) (m : ℕ). then_alike (got g d s) (got g d (timed m s)) (all_got gs) (all_got gs)
+    (got_even g d s m) (all_even gs)
 
 -- ---- what was filled
 
 pub settled_alike : (x y : Run Draft) → EndsAlike x y → EndsAlike (settled x) (settled y)
-settled_alike (gives d s) y h = subst (λ z. EndsAlike (settled (gives d s)) (settled z)) (sym h.1) (some_even (settle d) (λ v. gives v) given s h.0)
+settled_alike (gives d s) y h =
+    subst (λ z. EndsAlike (settled (gives d s)) (settled z)) (sym h.1) (some_even (settle d) (λ v. gives v) given s h.0)
 settled_alike refuses y h = ap settled h
 settled_alike strays y h = tt
 
 pub number_alike : (x y : Run Draft) → EndsAlike x y → EndsAlike (settled_number x) (settled_number y)
-number_alike x y h = then_alike (settled x) (settled y) _ (λ v s. if_some (num_in v) (λ n. gives n s)) (settled_alike x y h) (λ (v : Val). some_even (num_in v) (λ n. gives n) given)
+number_alike x y h = then_alike (settled x) (settled y) _ (λ v s. if_some (num_in v) (λ n. gives n s)) (settled_alike x y h)
+    (λ (v : Val). some_even (num_in v) (λ n. gives n) given)
 
 pub runs_alike : {A : Type 0} (f g : Going A) → Pairs f g → (n : ℕ) → Pairs (runs f n) (runs g n)
 runs_alike f g h zero = given []

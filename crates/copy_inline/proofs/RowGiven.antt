@@ -44,17 +44,20 @@ module _ (e : Encoding) where
     go_bare : (t : Ty) (below : ℕ) (p : List ℕ) (b : Block) → FollowsBy (IsTurned (layout_of e)) no_subs t below p b → IsBare b
     go_bare void_type below p b f = flat_bare b f.0 f.1
     go_bare (scalar_type s) below p b f = flat_bare b f.0 f.1
-    go_bare (array_type a) below p b f = subst IsBare (sym f.6) (append_bare f.0 (each p f.1 f.2) (flat_bare f.0 f.3 f.7) (flat_bare f.1 f.4 f.8, flat_bare f.2 f.5 f.9))
+    go_bare (array_type a) below p b f =
+        subst IsBare (sym f.6) (append_bare f.0 (each p f.1 f.2) (flat_bare f.0 f.3 f.7) (flat_bare f.1 f.4 f.8, flat_bare f.2 f.5 f.9))
     go_bare (group_type ts) below p b f = fields_bare ts 0 below p b f
     go_bare (items_type c t) below p b f =
         let body = go_bare t below [] f.1 (own (FollowsBy (IsTurned (layout_of e)) no_subs t) below [] f.1 f.4) in
         subst IsBare (sym f.2) (append_bare f.0 (each p f.1 stop) (count_bare c f.0 f.3) (body, tt))
-    go_bare (choice_type s arms) below p b f = subst IsBare (sym f.2) (append_bare f.0 (switch p f.1 stop) (flat_bare f.0 (f.3).0 (f.3).1) (arms_bare arms below f.1 f.4, tt))
+    go_bare (choice_type s arms) below p b f =
+        subst IsBare (sym f.2) (append_bare f.0 (switch p f.1 stop) (flat_bare f.0 (f.3).0 (f.3).1) (arms_bare arms below f.1 f.4, tt))
     go_bare (maybe_type t) below p b f =
         let body = go_bare t below [] f.1 (own (FollowsBy (IsTurned (layout_of e)) no_subs t) below [] f.1 f.4) in
         subst IsBare (sym f.2) (append_bare f.0 (if_there p f.1 stop) (flat_bare f.0 (f.3).0 (f.3).1) (body, tt))
 
-    fields_bare : (ts : Tys) (i below : ℕ) (p : List ℕ) (b : Block) → FieldsFollowBy (IsTurned (layout_of e)) no_subs ts i below p b → IsBare b
+    fields_bare : (ts : Tys) (i below : ℕ) (p : List ℕ) (b : Block) → FieldsFollowBy (IsTurned (layout_of e)) no_subs ts i below p b
+        → IsBare b
     fields_bare no_fields i below p b f = subst IsBare (sym f) tt
     fields_bare (field t ts) i below p b f =
         let one = go_bare t below (p ++ i ∷ []) f.0 (own (FollowsBy (IsTurned (layout_of e)) no_subs t) below (p ++ i ∷ []) f.0 f.3) in
@@ -62,9 +65,11 @@ module _ (e : Encoding) where
 
     arms_bare : (arms : Arms) (below : ℕ) (cs : Cases) → ArmsFollowBy (IsTurned (layout_of e)) no_subs arms below cs → CasesBare cs
     arms_bare no_other below cs f = subst CasesBare (sym f) tt
-    arms_bare (others t) below cs f = subst CasesBare (sym f.1) (go_bare t below [] f.0 (own (FollowsBy (IsTurned (layout_of e)) no_subs t) below [] f.0 f.2))
+    arms_bare (others t) below cs f =
+        subst CasesBare (sym f.1) (go_bare t below [] f.0 (own (FollowsBy (IsTurned (layout_of e)) no_subs t) below [] f.0 f.2))
     arms_bare (arm_type n t arms) below cs f =
-        subst CasesBare (sym f.2) (go_bare t below [] f.0 (own (FollowsBy (IsTurned (layout_of e)) no_subs t) below [] f.0 f.3), arms_bare arms below f.1 f.4)
+        subst CasesBare (sym f.2)
+        (go_bare t below [] f.0 (own (FollowsBy (IsTurned (layout_of e)) no_subs t) below [] f.0 f.3), arms_bare arms below f.1 f.4)
 
 lead_bare : (b : Block) (n : ℕ) → lead_length b ≡ Some n → IsBare b
 lead_bare stop n e = tt
@@ -78,9 +83,17 @@ tail_bare _ h = absurd h
 
 framed_bare : (e : Encoding) (t : Ty) (b : Block) → IsFramed e t b → IsBare b
 framed_bare e t b f =
-    subst IsBare (sym f.whole) (append_bare f.lead (append f.body f.tail) (lead_bare f.lead f.size f.leads) (append_bare f.body f.tail (go_bare e t f.below [] f.body f.goes) (tail_bare f.tail f.ends)))
+    subst IsBare (sym f.whole) (append_bare f.lead (append f.body f.tail) (lead_bare f.lead f.size f.leads)
+    (append_bare f.body f.tail (go_bare e t f.below [] f.body f.goes) (tail_bare f.tail f.ends)))
 
 -- code that goes through a type, with ensures added outside its loops over rows
-pub hoisted_given : (e : Encoding) (t : Ty) (given code : SendCode) → IsFramed e t (code_seen given.ops) → AddsEnsures given code → RowsAreBare t (code_seen code.ops) → code.subs ≡ [] → IsGiven e t code
+pub hoisted_given : (e : Encoding) (t : Ty) (given code : SendCode) → IsFramed e t (code_seen given.ops) → AddsEnsures given code
+    → RowsAreBare t (code_seen code.ops) → code.subs ≡ []
+    → IsGiven e t code
 hoisted_given e t given code framed adds bare none =
-    record { framed = subst (IsFramed e t) (sym (adds ∙ bare_same (code_seen given.ops) (framed_bare e t (code_seen given.ops) framed))) framed; bare = bare; subs = none }
+    record {
+      framed = subst (IsFramed e t) (sym (adds ∙ bare_same (code_seen given.ops) (framed_bare e t (code_seen given.ops) framed)))
+          framed;
+      bare = bare;
+      subs = none;
+    }

@@ -42,42 +42,60 @@ of_type x P a e h = subst (λ y. OfType y P) (sym e) h
 
 module _ (e : Encoding) where
   mutual
-    ready : (t : Ty) (below : ℕ) (p : List ℕ) (b r : Block) (t0 : Ty) → ty_at p t0 ≡ Some t → FollowsBy (IsTurned (layout_of e)) no_subs t below p b → IsReady e t0 r → IsReady e t0 (append b r)
+    ready : (t : Ty) (below : ℕ) (p : List ℕ) (b r : Block) (t0 : Ty) → ty_at p t0 ≡ Some t
+        → FollowsBy (IsTurned (layout_of e)) no_subs t below p b → IsReady e t0 r
+        → IsReady e t0 (append b r)
     ready void_type below p b r t0 is f h = flat_ready e t0 b r f.0 f.1 h
     ready (scalar_type s) below p b r t0 is f h = flat_ready e t0 b r f.0 f.1 h
     ready (array_type a) below p b r t0 is f h =
-        let w : append b r ≡ append f.0 (each p f.1 (append f.2 r)) = ap (λ (x : Block). append x r) f.6 ∙ append-assoc f.0 (each p f.1 f.2) r in
-        let loop : LoopIs e (ty_at p t0) f.1 (λ u. IsReady e u f.1) = subst (λ (x : Option Ty). LoopIs e x f.1 (λ u. IsReady e u f.1)) (sym is) (f.12, f.4, f.8) in
+        let w : append b r ≡ append f.0 (each p f.1 (append f.2 r)) =
+        ap (λ (x : Block). append x r) f.6 ∙ append-assoc f.0 (each p f.1 f.2) r in
+        let loop : LoopIs e (ty_at p t0) f.1 (λ u. IsReady e u f.1) =
+        subst (λ (x : Option Ty). LoopIs e x f.1 (λ u. IsReady e u f.1)) (sym is) (f.12, f.4, f.8) in
         subst (IsReady e t0) (sym w) (flat_ready e t0 f.0 (each p f.1 (append f.2 r)) f.3 f.7 (loop, flat_ready e t0 f.2 r f.5 f.9 h))
     ready (group_type ts) below p b r t0 is f h = fields_ready ts 0 ts below p b r t0 is (from-first ts) f h
     ready (items_type k t) below p b r t0 is f h =
         let w : append b r ≡ append f.0 (each p f.1 r) = ap (λ (x : Block). append x r) f.2 ∙ append-assoc f.0 (each p f.1 stop) r in
-        let body = subst (IsReady e t) (append-stop f.1) (ready t below [] f.1 stop t refl (own (FollowsBy (IsTurned (layout_of e)) no_subs t) below [] f.1 f.4) tt) in
-        let loop : LoopIs e (ty_at p t0) f.1 (λ u. IsReady e u f.1) = subst (λ (x : Option Ty). LoopIs e x f.1 (λ u. IsReady e u f.1)) (sym is) body in
+        let body = subst (IsReady e t) (append-stop f.1)
+        (ready t below [] f.1 stop t refl (own (FollowsBy (IsTurned (layout_of e)) no_subs t) below [] f.1 f.4) tt) in
+        let loop : LoopIs e (ty_at p t0) f.1 (λ u. IsReady e u f.1) =
+        subst (λ (x : Option Ty). LoopIs e x f.1 (λ u. IsReady e u f.1)) (sym is) body in
         subst (IsReady e t0) (sym w) (count_ready e t0 k f.0 (each p f.1 r) f.3 (loop, h))
     ready (choice_type s arms) below p b r t0 is f h =
         let w : append b r ≡ append f.0 (switch p f.1 r) = ap (λ (x : Block). append x r) f.2 ∙ append-assoc f.0 (switch p f.1 stop) r in
-        let body = of_type (arms_at p t0) (λ y. CasesReady e y f.1) arms (ap (λ (x : Option Ty). on_some x arms_type) is) (arms_ready arms below f.1 f.4) in
+        let body = of_type (arms_at p t0) (λ y. CasesReady e y f.1) arms (ap (λ (x : Option Ty). on_some x arms_type) is)
+        (arms_ready arms below f.1 f.4) in
         subst (IsReady e t0) (sym w) (flat_ready e t0 f.0 (switch p f.1 r) (f.3).0 (f.3).1 (body, h))
     ready (maybe_type t) below p b r t0 is f h =
-        let w : append b r ≡ append f.0 (if_there p f.1 r) = ap (λ (x : Block). append x r) f.2 ∙ append-assoc f.0 (if_there p f.1 stop) r in
-        let body = subst (IsReady e t) (append-stop f.1) (ready t below [] f.1 stop t refl (own (FollowsBy (IsTurned (layout_of e)) no_subs t) below [] f.1 f.4) tt) in
+        let w : append b r ≡ append f.0 (if_there p f.1 r) =
+        ap (λ (x : Block). append x r) f.2 ∙ append-assoc f.0 (if_there p f.1 stop) r in
+        let body = subst (IsReady e t) (append-stop f.1)
+        (ready t below [] f.1 stop t refl (own (FollowsBy (IsTurned (layout_of e)) no_subs t) below [] f.1 f.4) tt) in
         let there = of_type (present_at p t0) (λ y. IsReady e y f.1) t (ap (λ (x : Option Ty). on_some x present_type) is) body in
         subst (IsReady e t0) (sym w) (flat_ready e t0 f.0 (if_there p f.1 r) (f.3).0 (f.3).1 (there, h))
 
-    fields_ready : (ts : Tys) (i : ℕ) (all : Tys) (below : ℕ) (p : List ℕ) (b r : Block) (t0 : Ty) → ty_at p t0 ≡ Some (group_type all) → AreFrom i all ts → FieldsFollowBy (IsTurned (layout_of e)) no_subs ts i below p b → IsReady e t0 r → IsReady e t0 (append b r)
+    fields_ready : (ts : Tys) (i : ℕ) (all : Tys) (below : ℕ) (p : List ℕ) (b r : Block) (t0 : Ty) → ty_at p t0 ≡ Some (group_type all)
+        → AreFrom i all ts → FieldsFollowBy (IsTurned (layout_of e)) no_subs ts i below p b → IsReady e t0 r
+        → IsReady e t0 (append b r)
     fields_ready no_fields i all below p b r t0 is from f h = subst (λ (x : Block). IsReady e t0 (append x r)) (sym f) h
     fields_ready (field t ts) i all below p b r t0 is from f h =
         let w : append b r ≡ append f.0 (append f.1 r) = ap (λ (x : Block). append x r) f.2 ∙ append-assoc f.0 f.1 r in
         let rest = fields_ready ts (suc i) all below p f.1 r t0 is (from-next i all t ts from) f.4 h in
         subst (IsReady e t0) (sym w)
-        (ready t below (p ++ i ∷ []) f.0 (append f.1 r) t0 (ty-field p i t0 (group_type all) t is (from-head i all t ts from)) (own (FollowsBy (IsTurned (layout_of e)) no_subs t) below (p ++ i ∷ []) f.0 f.3) rest)
+        (ready t below (p ++ i ∷ []) f.0 (append f.1 r) t0 (ty-field p i t0 (group_type all) t is (from-head i all t ts from))
+        (own (FollowsBy (IsTurned (layout_of e)) no_subs t) below (p ++ i ∷ []) f.0 f.3) rest)
 
     arms_ready : (arms : Arms) (below : ℕ) (cs : Cases) → ArmsFollowBy (IsTurned (layout_of e)) no_subs arms below cs → CasesReady e arms cs
     arms_ready no_other below cs f = subst (CasesReady e no_other) (sym f) tt
-    arms_ready (others t) below cs f = subst (CasesReady e (others t)) (sym f.1) (subst (IsReady e t) (append-stop f.0) (ready t below [] f.0 stop t refl (own (FollowsBy (IsTurned (layout_of e)) no_subs t) below [] f.0 f.2) tt))
+    arms_ready (others t) below cs f = subst (CasesReady e (others t)) (sym f.1) (subst (IsReady e t) (append-stop f.0)
+        (ready t below [] f.0 stop t refl (own (FollowsBy (IsTurned (layout_of e)) no_subs t) below [] f.0 f.2) tt))
     arms_ready (arm_type n t arms) below cs f =
-        subst (CasesReady e (arm_type n t arms)) (sym f.2) (refl, subst (IsReady e t) (append-stop f.0) (ready t below [] f.0 stop t refl (own (FollowsBy (IsTurned (layout_of e)) no_subs t) below [] f.0 f.3) tt), arms_ready arms below f.1 f.4)
+        subst (CasesReady e (arm_type n t arms)) (sym f.2) (
+          refl,
+          subst (IsReady e t) (append-stop f.0)
+              (ready t below [] f.0 stop t refl (own (FollowsBy (IsTurned (layout_of e)) no_subs t) below [] f.0 f.3) tt),
+          arms_ready arms below f.1 f.4,
+        )
 
   lead_ready : (t : Ty) (b r : Block) (n : ℕ) → lead_length b ≡ Some n → IsReady e t r → IsReady e t (append b r)
   lead_ready t stop r n f h = h
@@ -92,7 +110,8 @@ module _ (e : Encoding) where
   framed_ready : (t : Ty) (b : Block) → IsFramed e t b → IsReady e t b
   framed_ready t b f =
       subst (IsReady e t) (sym f.whole)
-      (lead_ready t f.lead (append f.body f.tail) f.size f.leads (ready t f.below [] f.body f.tail t refl f.goes (tail_ready t f.tail f.ends)))
+      (lead_ready t f.lead (append f.body f.tail) f.size f.leads
+      (ready t f.below [] f.body f.tail t refl f.goes (tail_ready t f.tail f.ends)))
 
 -- ---- with ensures
 
@@ -122,7 +141,9 @@ module _ (e : Encoding) where
   abbrev Again : Block → Type 0
   Again b = (u : Ty) → IsReady e u (unensured b) → RowsAreBare u b → IsReady e u b
 
-  loop_again : (x : Option Ty) (b : Block) → LoopIs e x (unensured b) (λ u. IsReady e u (unensured b)) → OfItems x (λ u. RowsAreBare u b) (IsBare b) → Again b → LoopIs e x b (λ u. IsReady e u b)
+  loop_again : (x : Option Ty) (b : Block) → LoopIs e x (unensured b) (λ u. IsReady e u (unensured b))
+      → OfItems x (λ u. RowsAreBare u b) (IsBare b) → Again b
+      → LoopIs e x b (λ u. IsReady e u b)
   loop_again (Some (array_type a)) b ok bare go = subst (IsTurn e a) (bare_same b bare) ok
   loop_again (Some (items_type c t)) b ok bare go = go t ok bare
   loop_again None b ok bare go = absurd ok
@@ -143,10 +164,15 @@ module _ (e : Encoding) where
     again (row_swap p r) t ok bare = absurd ok
     again (row_wide p o r) t ok bare = absurd ok
     again (each p b r) t ok bare = (loop_again (ty_at p t) b ok.0 bare.0 (again b), again r t ok.1 bare.1)
-    again (switch p cs r) t ok bare =
-        (typed_again (arms_at p t) (λ arms. CasesReady e arms (cases_unensured cs)) (λ arms. CasesRowsAreBare arms cs) (λ arms. CasesReady e arms cs) ok.0 bare.0 (λ arms. cases_again cs arms), again r t ok.1 bare.1)
-    again (if_there p b r) t ok bare =
-        (typed_again (present_at p t) (λ u. IsReady e u (unensured b)) (λ u. RowsAreBare u b) (λ u. IsReady e u b) ok.0 bare.0 (again b), again r t ok.1 bare.1)
+    again (switch p cs r) t ok bare = (
+      typed_again (arms_at p t) (λ arms. CasesReady e arms (cases_unensured cs)) (λ arms. CasesRowsAreBare arms cs)
+          (λ arms. CasesReady e arms cs) ok.0 bare.0 (λ arms. cases_again cs arms),
+      again r t ok.1 bare.1,
+    )
+    again (if_there p b r) t ok bare = (
+      typed_again (present_at p t) (λ u. IsReady e u (unensured b)) (λ u. RowsAreBare u b) (λ u. IsReady e u b) ok.0 bare.0 (again b),
+      again r t ok.1 bare.1,
+    )
     again (call k p r) t ok bare = absurd ok
     again (patch a s o r) t ok bare = again r t ok bare
 

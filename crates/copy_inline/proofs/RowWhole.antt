@@ -37,19 +37,24 @@ turn_free (chunk s ps r) n f = let m = mapped _ (flat r) n f in turn_free r m.0 
 turn_free (align a r) n f = let m = mapped _ (flat r) n f in turn_free r m.0 m.1
 turn_free _ n f = absurd cc
 
-row_free : (s : Sort) (image : Bool) (o : Order) (p : List ℕ) (b r : Block) → HasNoCall b → HasNoCall r → HasNoCall (row_or_loop s image o p b r)
+row_free : (s : Sort) (image : Bool) (o : Order) (p : List ℕ) (b r : Block) → HasNoCall b → HasNoCall r
+    → HasNoCall (row_or_loop s image o p b r)
 row_free sort.Block true o p b r h k = k
 row_free sort.Block false o p b r h k = k
 row_free sort.Wide image o p b r h k = k
 row_free sort.Looped image o p b r h k = (h, k)
 
-loop_free : (e : Encoding) (x : Option Ty) (p : List ℕ) (b r : Block) → LoopIs e x b (λ u. IsReady e u b) → ((u : Ty) → IsReady e u b → HasNoCall (rowed e u b)) → HasNoCall r → HasNoCall (loop_rowed e x p b (λ u. rowed e u b) r)
-loop_free e (Some (array_type a)) p b r ok go k = row_free (sort_of e a) (is_image (order_of e) (kind_of a)) (order_of e) p b r (turn_free b ok.1 ok.2) k
+loop_free : (e : Encoding) (x : Option Ty) (p : List ℕ) (b r : Block) → LoopIs e x b (λ u. IsReady e u b)
+    → ((u : Ty) → IsReady e u b → HasNoCall (rowed e u b)) → HasNoCall r
+    → HasNoCall (loop_rowed e x p b (λ u. rowed e u b) r)
+loop_free e (Some (array_type a)) p b r ok go k =
+    row_free (sort_of e a) (is_image (order_of e) (kind_of a)) (order_of e) p b r (turn_free b ok.1 ok.2) k
 loop_free e (Some (items_type c t)) p b r ok go k = (go t ok, k)
 loop_free e None p b r ok go k = absurd ok
 loop_free e (Some _) p b r ok go k = absurd ok
 
-typed_free : {A B : Type 0} (x : Option A) (b : B) (f : A → B) (P : A → Type 0) (Q : B → Type 0) → OfType x P → ((a : A) → P a → Q (f a)) → Q (by_type x b f)
+typed_free : {A B : Type 0} (x : Option A) (b : B) (f : A → B) (P : A → Type 0) (Q : B → Type 0) → OfType x P → ((a : A) → P a → Q (f a))
+    → Q (by_type x b f)
 typed_free None b f P Q ok go = absurd ok
 typed_free (Some a) b f P Q ok go = go a ok
 
@@ -64,9 +69,16 @@ mutual
   rowed_free e (row_swap p r) t ok = absurd ok
   rowed_free e (row_wide p o r) t ok = absurd ok
   rowed_free e (each p b r) t ok = loop_free e (ty_at p t) p b (rowed e t r) ok.0 (λ u k. rowed_free e b u k) (rowed_free e r t ok.1)
-  rowed_free e (switch p cs r) t ok =
-      (typed_free (arms_at p t) cs (λ arms. cases_rowed e arms cs) (λ arms. CasesReady e arms cs) CasesHaveNoCall ok.0 (λ arms k. cases_free e cs arms k), rowed_free e r t ok.1)
-  rowed_free e (if_there p b r) t ok = (typed_free (present_at p t) b (λ u. rowed e u b) (λ u. IsReady e u b) HasNoCall ok.0 (λ u k. rowed_free e b u k), rowed_free e r t ok.1)
+  rowed_free e (switch p cs r) t ok = (
+    typed_free (arms_at p t) cs (λ arms. cases_rowed e arms cs) (λ arms. CasesReady e arms cs) CasesHaveNoCall ok.0
+        (λ arms k. cases_free e cs arms k),
+    rowed_free e r t ok.1,
+  )
+  rowed_free e (if_there p b r) t ok = (
+    typed_free (present_at p t) b (λ u. rowed e u b) (λ u. IsReady e u b) HasNoCall ok.0
+        (λ u k. rowed_free e b u k),
+    rowed_free e r t ok.1,
+  )
   rowed_free e (call k p r) t ok = absurd ok
   rowed_free e (patch a s o r) t ok = rowed_free e r t ok
 
@@ -92,16 +104,19 @@ counted_cost : (x : Steps) (n : ℕ) → Counts x n → IfSome (option_map costs
 counted_cost None n k = tt
 counted_cost (Some ss) n k = k
 
-module _ (e : Encoding) (t : Ty) (given code : SendCode) (of : IsGiven e t given) (is : IsRowed e t given code) (none : code.subs ≡ []) where
+module _ (e : Encoding) (t : Ty) (given code : SendCode) (of : IsGiven e t given) (is : IsRowed e t given code)
+    (none : code.subs ≡ []) where
   abbrev Calling : Head → Calls
   Calling h = calls_of given.subs h deepest
 
   -- its steps, as the laws speak of them
   met : (h : Head) (v : Val) → steps (Calling h) h (rowed e t (code_seen given.ops)) v ≡ sent_steps code h v
-  met h v = ap (λ (b : Block). steps (Calling h) h b v) (sym is) ∙ ap (λ subs. steps (calls_of subs h deepest) h (code_seen code.ops) v) (of.subs ∙ sym none)
+  met h v = ap (λ (b : Block). steps (Calling h) h b v) (sym is)
+      ∙ ap (λ subs. steps (calls_of subs h deepest) h (code_seen code.ops) v) (of.subs ∙ sym none)
 
   joined : (h : Head) (v : Val) → IsOf t v → AreJoined (sent_steps given h v) (sent_steps code h v)
-  joined h v typed = subst (AreJoined (sent_steps given h v)) (met h v) (joins e (Calling h) h (code_seen given.ops) t v (given_ready e t given of) typed)
+  joined h v typed =
+      subst (AreJoined (sent_steps given h v)) (met h v) (joins e (Calling h) h (code_seen given.ops) t v (given_ready e t given of) typed)
 
   pub sends_same : SendsTheSameOf t given code
   sends_same h v p typed = same_written (sent_steps given h v) (sent_steps code h v) p (joined h v typed)
@@ -110,11 +125,13 @@ module _ (e : Encoding) (t : Ty) (given code : SendCode) (of : IsGiven e t given
   stays_covered h v p typed covered = same_covered (sent_steps given h v) (sent_steps code h v) p (joined h v typed) covered
 
   pub checks_same : ChecksTheSame t given code
-  checks_same h v typed = checks_of (sent_steps code h v) ∙ same_checks (sent_steps given h v) (sent_steps code h v) (joined h v typed) ∙ sym (checks_of (sent_steps given h v))
+  checks_same h v typed = checks_of (sent_steps code h v) ∙ same_checks (sent_steps given h v) (sent_steps code h v) (joined h v typed)
+      ∙ sym (checks_of (sent_steps given h v))
 
   pub gives_blocks : GivesBlocks e t code
   gives_blocks h v typed =
-      counted_cost (sent_steps code h v) (blocks e t v) (subst (λ (x : Steps). Counts x (blocks e t v)) (met h v) (row_counts e (Calling h) h t (code_seen given.ops) v of.framed typed))
+      counted_cost (sent_steps code h v) (blocks e t v)
+      (subst (λ (x : Steps). Counts x (blocks e t v)) (met h v) (row_counts e (Calling h) h t (code_seen given.ops) v of.framed typed))
 
   pub has_no_call : HasNoCall (code_seen code.ops)
   has_no_call = subst HasNoCall (sym is) (rowed_free e (code_seen given.ops) t (given_ready e t given of))

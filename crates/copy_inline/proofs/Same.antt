@@ -64,32 +64,45 @@ module _ (h : Head) (c d : Calls) (code : ℕ → Block) (agree : (k : ℕ) (w :
     spliced_same (row_swap p r) v = below_behind (swap_steps p v) (steps c h r v) (steps d h (spliced code r) v) (spliced_same r v)
     spliced_same (row_wide p o r) v = below_behind (wide_steps p o v) (steps c h r v) (steps d h (spliced code r) v) (spliced_same r v)
     spliced_same (each p b r) v =
-        below_both (on_some (on_some (at p v) elements_in) (over (steps c h b))) (on_some (on_some (at p v) elements_in) (over (steps d h (spliced code b)))) (steps c h r v) (steps d h (spliced code r) v)
-        (below_on_some (on_some (at p v) elements_in) (over (steps c h b)) (over (steps d h (spliced code b))) (below_over (steps c h b) (steps d h (spliced code b)) (λ w. spliced_same b w)))
+        below_both (on_some (on_some (at p v) elements_in) (over (steps c h b)))
+        (on_some (on_some (at p v) elements_in) (over (steps d h (spliced code b)))) (steps c h r v) (steps d h (spliced code r) v)
+        (below_on_some (on_some (at p v) elements_in) (over (steps c h b)) (over (steps d h (spliced code b)))
+        (below_over (steps c h b) (steps d h (spliced code b)) (λ w. spliced_same b w)))
         (spliced_same r v)
     spliced_same (switch p cs r) v =
-        below_both (on_some (on_some (at p v) arm_in) (λ a. case_steps c h cs a.0 a.1)) (on_some (on_some (at p v) arm_in) (λ a. case_steps d h (cases_spliced code cs) a.0 a.1)) (steps c h r v) (steps d h (spliced code r) v)
-        (below_on_some (on_some (at p v) arm_in) (λ a. case_steps c h cs a.0 a.1) (λ a. case_steps d h (cases_spliced code cs) a.0 a.1) (λ a. case_same cs a.0 a.1))
+        below_both (on_some (on_some (at p v) arm_in) (λ a. case_steps c h cs a.0 a.1))
+        (on_some (on_some (at p v) arm_in) (λ a. case_steps d h (cases_spliced code cs) a.0 a.1)) (steps c h r v)
+        (steps d h (spliced code r) v)
+        (below_on_some (on_some (at p v) arm_in) (λ a. case_steps c h cs a.0 a.1) (λ a. case_steps d h (cases_spliced code cs) a.0 a.1)
+        (λ a. case_same cs a.0 a.1))
         (spliced_same r v)
     spliced_same (if_there p b r) v =
-        below_both (on_some (at p v) (if_present (steps c h b))) (on_some (at p v) (if_present (steps d h (spliced code b)))) (steps c h r v) (steps d h (spliced code r) v)
-        (below_on_some (at p v) (if_present (steps c h b)) (if_present (steps d h (spliced code b))) (below_present (steps c h b) (steps d h (spliced code b)) (λ w. spliced_same b w)))
+        below_both (on_some (at p v) (if_present (steps c h b))) (on_some (at p v) (if_present (steps d h (spliced code b))))
+        (steps c h r v) (steps d h (spliced code r) v)
+        (below_on_some (at p v) (if_present (steps c h b)) (if_present (steps d h (spliced code b)))
+        (below_present (steps c h b) (steps d h (spliced code b)) (λ w. spliced_same b w)))
         (spliced_same r v)
     spliced_same (call k p r) v =
         subst (Below (both (on_some (at p v) (c k)) (steps c h r v))) (sym (steps-append d h (rebase p (code k)) (spliced code r) v))
-        (below_both (on_some (at p v) (c k)) (steps d h (rebase p (code k)) v) (steps c h r v) (steps d h (spliced code r) v) (call_below (at p v) k p v refl) (spliced_same r v))
-    spliced_same (patch a s o r) v = below_behind (Some (Patched a s o ∷ [])) (steps c h r v) (steps d h (spliced code r) v) (spliced_same r v)
+        (below_both (on_some (at p v) (c k)) (steps d h (rebase p (code k)) v) (steps c h r v) (steps d h (spliced code r) v)
+        (call_below (at p v) k p v refl) (spliced_same r v))
+    spliced_same (patch a s o r) v =
+        below_behind (Some (Patched a s o ∷ [])) (steps c h r v) (steps d h (spliced code r) v) (spliced_same r v)
 
     case_same : (cs : Cases) (n : ℤ) (w : Val) → Below (case_steps c h cs n w) (case_steps d h (cases_spliced code cs) n w)
     case_same no_default n w = none_below None
     case_same (default b) n w = spliced_same b w
-    case_same (case m b cs) n w = below_if (int_eq n m) (steps c h b w) (steps d h (spliced code b) w) (case_steps c h cs n w) (case_steps d h (cases_spliced code cs) n w) (spliced_same b w) (case_same cs n w)
+    case_same (case m b cs) n w = below_if (int_eq n m) (steps c h b w) (steps d h (spliced code b) w) (case_steps c h cs n w)
+        (case_steps d h (cases_spliced code cs) n w) (spliced_same b w) (case_same cs n w)
 
-sub_below : (h : Head) (c d : Calls) (code : ℕ → Block) (o : Option Block) (w : Val) → ((k : ℕ) (w : Val) → Below (c k w) (steps d h (code k) w)) → Below (on_some o (λ b. steps c h b w)) (steps d h (spliced_or_stop code o) w)
+sub_below : (h : Head) (c d : Calls) (code : ℕ → Block) (o : Option Block) (w : Val)
+    → ((k : ℕ) (w : Val) → Below (c k w) (steps d h (code k) w))
+    → Below (on_some o (λ b. steps c h b w)) (steps d h (spliced_or_stop code o) w)
 sub_below h c d code None w agree = none_below (steps d h stop w)
 sub_below h c d code (Some b) w agree = spliced_same h c d code agree b w
 
 -- a code that is called, and the same with its calls replaced
-pub agrees : (subs : ℕ → Option Block) (h : Head) (d : Calls) (n : ℕ) (k : ℕ) (w : Val) → Below (called subs h n k w) (steps d h (inlined subs n k) w)
+pub agrees : (subs : ℕ → Option Block) (h : Head) (d : Calls) (n : ℕ) (k : ℕ) (w : Val)
+    → Below (called subs h n k w) (steps d h (inlined subs n k) w)
 agrees subs h d zero k w = none_below (steps d h stop w)
 agrees subs h d (suc n) k w = sub_below h (called subs h n) d (inlined subs n) (subs k) w (agrees subs h d n)

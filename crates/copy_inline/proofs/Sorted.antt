@@ -33,7 +33,8 @@ either_wide true n h = one
 either_wide false n h = h
 
 pub element_wide : (e : Encoding) (a : Array) → IsWidth (element_width e a)
-element_wide e a = either_wide (is_octets a) (scalar_width e (number (kind_of a))) (own_wide (width_of e (number (kind_of a))) (own_of e (number (kind_of a))))
+element_wide e a = either_wide (is_octets a) (scalar_width e (number (kind_of a)))
+    (own_wide (width_of e (number (kind_of a))) (own_of e (number (kind_of a))))
 
 xdr_width : (k : Kind) → (scalar_width Xdr (number k) ≡ width k) ⊎ (scalar_width Xdr (number k) ≡ 4)
 xdr_width kind.Octet = inr refl
@@ -96,7 +97,9 @@ octets_wide (row_of kind.U64 c) e = absurd cc
 
 element_either : (e : Encoding) (a : Array) → (element_width e a ≡ width (kind_of a)) ⊎ (element_width e a ≡ 4)
 element_either e a = by (is_octets a) refl where
-  by : (q : Bool) → is_octets a ≡ q → ((if q then 1 else scalar_width e (number (kind_of a))) ≡ width (kind_of a)) ⊎ ((if q then 1 else scalar_width e (number (kind_of a))) ≡ 4)
+  by : (q : Bool) → is_octets a ≡ q
+      → ((if q then 1 else scalar_width e (number (kind_of a))) ≡ width (kind_of a))
+      ⊎ ((if q then 1 else scalar_width e (number (kind_of a))) ≡ 4)
   by true is = inl (octets_wide a is)
   by false is = number_width e (kind_of a)
 
@@ -117,7 +120,8 @@ laid_out true x e = absurd cc
 laid_out false x e = refl
 
 -- how a block is laid out: each number as wide as in an image
-pub block_layout : (e : Encoding) (a : Array) → sort_of e a ≡ sort.Block → (layout_of e a ≡ Some (width (kind_of a), order_of e)) × (element_width e a ≡ width (kind_of a))
+pub block_layout : (e : Encoding) (a : Array) → sort_of e a ≡ sort.Block
+    → (layout_of e a ≡ Some (width (kind_of a), order_of e)) × (element_width e a ≡ width (kind_of a))
 block_layout e a is =
     let two = block_if (is_looped e a) (nat_eq (element_width e a) (width (kind_of a))) is in
     let same : element_width e a ≡ width (kind_of a) = eqb-true (element_width e a) (width (kind_of a)) two.1 in
@@ -129,7 +133,8 @@ wide_layout e a is =
     let two = wide_if (is_looped e a) (nat_eq (element_width e a) (width (kind_of a))) is in
     let same : element_width e a ≡ 4 = of_four (element_either e a) two.1 in
     (laid_out (is_looped e a) (Some (element_width e a, order_of e)) two.0 ∙ ap (λ (n : ℕ). Some (n, order_of e)) same, same) where
-      of_four : (element_width e a ≡ width (kind_of a)) ⊎ (element_width e a ≡ 4) → nat_eq (element_width e a) (width (kind_of a)) ≡ false → element_width e a ≡ 4
+      of_four : (element_width e a ≡ width (kind_of a)) ⊎ (element_width e a ≡ 4) → nat_eq (element_width e a) (width (kind_of a)) ≡ false
+          → element_width e a ≡ 4
       of_four (inl same) other = absurd (let here : true ≡ false = sym (eq-eqb (element_width e a) (width (kind_of a)) same) ∙ other in cc)
       of_four (inr same) other = same
 

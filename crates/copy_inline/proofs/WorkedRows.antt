@@ -33,20 +33,29 @@ use Rattle.copy_inline.specs.RecvRowed.{rowed as recv_rowed}
 -- ---- sorts
 
 -- over XDR a row of numbers below 32 bits is wide, but for opaque data; a string is a block
-xdr_blocks : (c : Count) → (sort_of Xdr (text c) ≡ Whole) × (sort_of Xdr (row_of kind.Octet c) ≡ Whole) × (sort_of Xdr (row_of kind.I32 c) ≡ Whole) × (sort_of Xdr (row_of kind.U32 c) ≡ Whole) × (sort_of Xdr (row_of kind.I64 c) ≡ Whole) × (sort_of Xdr (row_of kind.U64 c) ≡ Whole)
+xdr_blocks : (c : Count)
+    → (sort_of Xdr (text c) ≡ Whole) × (sort_of Xdr (row_of kind.Octet c) ≡ Whole) × (sort_of Xdr (row_of kind.I32 c) ≡ Whole)
+    × (sort_of Xdr (row_of kind.U32 c) ≡ Whole) × (sort_of Xdr (row_of kind.I64 c) ≡ Whole) × (sort_of Xdr (row_of kind.U64 c) ≡ Whole)
 xdr_blocks c = (refl, refl, refl, refl, refl, refl)
 
-xdr_wide : (c : Count) → (sort_of Xdr (row_of kind.I8 c) ≡ Wide) × (sort_of Xdr (row_of kind.U8 c) ≡ Wide) × (sort_of Xdr (row_of kind.Char c) ≡ Wide) × (sort_of Xdr (row_of kind.I16 c) ≡ Wide) × (sort_of Xdr (row_of kind.U16 c) ≡ Wide)
+xdr_wide : (c : Count)
+    → (sort_of Xdr (row_of kind.I8 c) ≡ Wide) × (sort_of Xdr (row_of kind.U8 c) ≡ Wide) × (sort_of Xdr (row_of kind.Char c) ≡ Wide)
+    × (sort_of Xdr (row_of kind.I16 c) ≡ Wide) × (sort_of Xdr (row_of kind.U16 c) ≡ Wide)
 xdr_wide c = (refl, refl, refl, refl, refl)
 
 -- over CDR only numbers of 64 bits go one by one, where their length is not fixed
-cdr_blocks : (c : Count) → (sort_of CdrBig (text c) ≡ Whole) × (sort_of CdrBig (row_of kind.Octet c) ≡ Whole) × (sort_of CdrBig (row_of kind.I16 c) ≡ Whole) × (sort_of CdrLittle (row_of kind.U32 c) ≡ Whole) × (sort_of CdrLittle (row_of kind.Char c) ≡ Whole)
+cdr_blocks : (c : Count)
+    → (sort_of CdrBig (text c) ≡ Whole) × (sort_of CdrBig (row_of kind.Octet c) ≡ Whole) × (sort_of CdrBig (row_of kind.I16 c) ≡ Whole)
+    × (sort_of CdrLittle (row_of kind.U32 c) ≡ Whole) × (sort_of CdrLittle (row_of kind.Char c) ≡ Whole)
 cdr_blocks c = (refl, refl, refl, refl, refl)
 
-cdr_looped : (n : ℕ) → (sort_of CdrBig (row_of kind.I64 (AtMost n)) ≡ Looped) × (sort_of CdrLittle (row_of kind.U64 Any) ≡ Looped) × (sort_of CdrBig (row_of kind.I64 (Exactly n)) ≡ Whole) × (sort_of CdrLittle (row_of kind.U64 (Exactly n)) ≡ Whole)
+cdr_looped : (n : ℕ)
+    → (sort_of CdrBig (row_of kind.I64 (AtMost n)) ≡ Looped) × (sort_of CdrLittle (row_of kind.U64 Any) ≡ Looped)
+    × (sort_of CdrBig (row_of kind.I64 (Exactly n)) ≡ Whole) × (sort_of CdrLittle (row_of kind.U64 (Exactly n)) ≡ Whole)
 cdr_looped n = (refl, refl, refl, refl)
 
-mach_blocks : (c : Count) → (sort_of Mach (text c) ≡ Whole) × (sort_of Mach (row_of kind.I16 c) ≡ Whole) × (sort_of Mach (row_of kind.I64 c) ≡ Whole)
+mach_blocks : (c : Count)
+    → (sort_of Mach (text c) ≡ Whole) × (sort_of Mach (row_of kind.I16 c) ≡ Whole) × (sort_of Mach (row_of kind.I64 c) ≡ Whole)
 mach_blocks c = (refl, refl, refl)
 
 -- ---- code
@@ -66,7 +75,8 @@ sent e k b ns = on_some (steps sending.no_calls head (rowed e (array_type (row_o
 abbrev given : Encoding → Kind → List ℤ → ℕ
 given e k ns = blocks e (array_type (row_of k Any)) (row k ns)
 
-shorts : sent Xdr kind.I16 (counted_row Big 4 stop) (pos 1 ∷ negsuc 0 ∷ []) ≡ Some (0 ∷ 0 ∷ 0 ∷ 2 ∷ 0 ∷ 0 ∷ 0 ∷ 1 ∷ 255 ∷ 255 ∷ 255 ∷ 255 ∷ [])
+shorts : sent Xdr kind.I16 (counted_row Big 4 stop) (pos 1 ∷ negsuc 0 ∷ [])
+    ≡ Some (0 ∷ 0 ∷ 0 ∷ 2 ∷ 0 ∷ 0 ∷ 0 ∷ 1 ∷ 255 ∷ 255 ∷ 255 ∷ 255 ∷ [])
 shorts = refl
 
 opaque_data : sent Xdr kind.Octet (counted_row Big 1 (align 4 stop)) (pos 1 ∷ pos 2 ∷ []) ≡ Some (0 ∷ 0 ∷ 0 ∷ 2 ∷ 1 ∷ 2 ∷ 0 ∷ 0 ∷ [])
@@ -77,15 +87,19 @@ big_longs : sent CdrBig kind.U32 (counted_row Big 4 stop) (pos 1 ∷ pos 2 ∷ [
 unfolding octets_of
 big_longs = refl
 
-little_longs : sent CdrLittle kind.U32 (counted_row Little 4 stop) (pos 1 ∷ pos 2 ∷ []) ≡ Some (2 ∷ 0 ∷ 0 ∷ 0 ∷ 1 ∷ 0 ∷ 0 ∷ 0 ∷ 2 ∷ 0 ∷ 0 ∷ 0 ∷ [])
+little_longs : sent CdrLittle kind.U32 (counted_row Little 4 stop) (pos 1 ∷ pos 2 ∷ [])
+    ≡ Some (2 ∷ 0 ∷ 0 ∷ 0 ∷ 1 ∷ 0 ∷ 0 ∷ 0 ∷ 2 ∷ 0 ∷ 0 ∷ 0 ∷ [])
 unfolding octets_of
 little_longs = refl
 
 -- no padding where there is no number
-no_longs : sent CdrBig kind.I64 (chunk 4 (put.Count 0 [] 1 0 4 Big ∷ []) (each [] (align 8 (chunk 8 (put.Num 0 [] 8 Big ∷ []) stop)) stop)) [] ≡ Some (0 ∷ 0 ∷ 0 ∷ 0 ∷ [])
+no_longs : sent CdrBig kind.I64 (chunk 4 (put.Count 0 [] 1 0 4 Big ∷ []) (each [] (align 8 (chunk 8 (put.Num 0 [] 8 Big ∷ []) stop)) stop))
+    []
+    ≡ Some (0 ∷ 0 ∷ 0 ∷ 0 ∷ [])
 no_longs = refl
 
-as_many : (given Xdr kind.I16 (pos 1 ∷ negsuc 0 ∷ []) ≡ 0) × (given Xdr kind.Octet (pos 1 ∷ pos 2 ∷ []) ≡ 1) × (given CdrBig kind.U32 (pos 1 ∷ []) ≡ 1) × (given CdrLittle kind.U32 [] ≡ 1) × (given CdrBig kind.I64 [] ≡ 0)
+as_many : (given Xdr kind.I16 (pos 1 ∷ negsuc 0 ∷ []) ≡ 0) × (given Xdr kind.Octet (pos 1 ∷ pos 2 ∷ []) ≡ 1)
+    × (given CdrBig kind.U32 (pos 1 ∷ []) ≡ 1) × (given CdrLittle kind.U32 [] ≡ 1) × (given CdrBig kind.I64 [] ≡ 0)
 as_many = (refl, refl, refl, refl, refl)
 
 -- ---- code that receives
@@ -108,7 +122,8 @@ two_longs = 0 ∷ 0 ∷ 0 ∷ 2 ∷ 0 ∷ 0 ∷ 0 ∷ 1 ∷ 0 ∷ 0 ∷ 0 ∷ 2 
 longs_tested : got_row kind.U32 (received_row Big 4) two_longs ≡ given_value (row kind.U32 (pos 1 ∷ pos 2 ∷ [])) 12 3
 longs_tested = refl
 
-longs_at_once : got_row kind.U32 (in_rows CdrBig kind.U32 (received_row Big 4)) two_longs ≡ given_value (row kind.U32 (pos 1 ∷ pos 2 ∷ [])) 12 2
+longs_at_once : got_row kind.U32 (in_rows CdrBig kind.U32 (received_row Big 4)) two_longs
+    ≡ given_value (row kind.U32 (pos 1 ∷ pos 2 ∷ [])) 12 2
 longs_at_once = refl
 
 -- a row without numbers is tested for too
@@ -119,7 +134,8 @@ none_at_once : got_row kind.U32 (in_rows CdrBig kind.U32 (received_row Big 4)) (
 none_at_once = refl
 
 -- wide numbers, and octets that end before the numbers do
-shorts_at_once : got_row kind.I16 (in_rows Xdr kind.I16 (received_row Big 4)) (0 ∷ 0 ∷ 0 ∷ 2 ∷ 0 ∷ 0 ∷ 0 ∷ 1 ∷ 255 ∷ 255 ∷ 255 ∷ 255 ∷ []) ≡ given_value (row kind.I16 (pos 1 ∷ negsuc 0 ∷ [])) 12 2
+shorts_at_once : got_row kind.I16 (in_rows Xdr kind.I16 (received_row Big 4)) (0 ∷ 0 ∷ 0 ∷ 2 ∷ 0 ∷ 0 ∷ 0 ∷ 1 ∷ 255 ∷ 255 ∷ 255 ∷ 255 ∷ [])
+    ≡ given_value (row kind.I16 (pos 1 ∷ negsuc 0 ∷ [])) 12 2
 shorts_at_once = refl
 
 cut_at_once : got_row kind.U32 (in_rows CdrBig kind.U32 (received_row Big 4)) (0 ∷ 0 ∷ 0 ∷ 2 ∷ 0 ∷ 0 ∷ 0 ∷ 1 ∷ 0 ∷ []) ≡ not_given

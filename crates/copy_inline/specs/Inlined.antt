@@ -24,8 +24,10 @@ Does subs id code = (ops : List SendOp) (h : Head) (v : Val) (ss : List Step) �
 
 -- no calls, and code that goes through the node by itself, where each code of the list goes through its node
 abbrev pub Goes : List (List SendOp) → ℕ → SendCode → Type 0
-Goes subs id code = (nodes : List Node) → IsSound (type_at nodes id) → AllFollow nodes subs → Follows no_subs (type_at nodes id) id [] (code_seen code.ops)
+Goes subs id code = (nodes : List Node) → IsSound (type_at nodes id) → AllFollow nodes subs
+    → Follows no_subs (type_at nodes id) id [] (code_seen code.ops)
 
 -- no calls, and code that goes through the node by itself with such loops, where each code of the list does
 abbrev pub Turns : List (List SendOp) → ℕ → SendCode → Type 0
-Turns subs id code = (layout : Layout) (nodes : List Node) → IsSound (type_at nodes id) → AllTurned layout nodes subs → FollowsBy (IsTurned layout) no_subs (type_at nodes id) id [] (code_seen code.ops)
+Turns subs id code = (layout : Layout) (nodes : List Node) → IsSound (type_at nodes id) → AllTurned layout nodes subs
+    → FollowsBy (IsTurned layout) no_subs (type_at nodes id) id [] (code_seen code.ops)

@@ -1,4 +1,4 @@
--- How deep bodies and calls stand within one another.
+-- How deep bodies and calls are nested.
 use Rattle.std.specs.Prelude.{ℕ, zero, suc, Option, None, Some}
 use Rattle.cast_stub.specs.Block.{Block, stop, ensure, ensure_row, align, chunk, row_copy, row_swap, row_wide, each, switch, if_there, call, patch, Cases, no_default, default, case}
 

@@ -23,8 +23,10 @@ Does subs id code = (ops : List RecvOp) (t : Ty) (s : Place) → slice_get subs 
 
 -- no calls, and code that goes through the node by itself, where each code of the list goes through its node
 abbrev pub Goes : List (List RecvOp) → ℕ → RecvCode → Type 0
-Goes subs id code = (nodes : List Node) → IsSound (type_at nodes id) → AllTrace nodes subs → Traces no_subs (type_at nodes id) id [] (code_seen code.ops)
+Goes subs id code = (nodes : List Node) → IsSound (type_at nodes id) → AllTrace nodes subs
+    → Traces no_subs (type_at nodes id) id [] (code_seen code.ops)
 
 -- the same with such loops
 abbrev pub Turns : List (List RecvOp) → ℕ → RecvCode → Type 0
-Turns subs id code = (layout : Layout) (nodes : List Node) → IsSound (type_at nodes id) → AllTurned layout nodes subs → TracesBy (IsTurned layout) no_subs (type_at nodes id) id [] (code_seen code.ops)
+Turns subs id code = (layout : Layout) (nodes : List Node) → IsSound (type_at nodes id) → AllTurned layout nodes subs
+    → TracesBy (IsTurned layout) no_subs (type_at nodes id) id [] (code_seen code.ops)

@@ -1,4 +1,4 @@
--- How deep bodies and calls of code that receives stand within one another.
+-- How deep bodies and calls of code that receives are nested.
 use Rattle.std.specs.Prelude.{ℕ, zero, suc, Option, None, Some}
 use Rattle.cast_stub.specs.RecvBlock.{Recv, finish, need, need_row, skip_any, skip_zero, pass, desc, row_block, row_wide, each, switch, if_there, call, Cases, no_default, default, case}
 

@@ -17,11 +17,11 @@ row_or_loop sort.Block w o p b r = need_row p w 0 (row_block p o r)
 row_or_loop sort.Wide w o p b r = need_row p w 0 (row_wide p o r)
 row_or_loop sort.Looped w o p b r = each p b r
 
--- what stands for a loop over an array
+-- what replaces a loop over an array
 abbrev pub array_rowed : Encoding → Array → List ℕ → Recv → Recv → Recv
 array_rowed e a p b r = row_or_loop (sort_of e a) (element_width e a) (order_of e) p b r
 
--- what stands for a loop over a part of a type, by what becomes of its body
+-- what replaces a loop over a part of a type, by what becomes of its body
 abbrev pub loop_rowed : Encoding → Option Ty → List ℕ → Recv → (Ty → Recv) → Recv → Recv
 loop_rowed e (Some (array_type a)) p b f r = array_rowed e a p b r
 loop_rowed e (Some (items_type c t)) p b f r = each p (f t) r

@@ -32,7 +32,7 @@ abbrev pub spliced_or_stop : (ℕ → Recv) → Option Recv → Recv
 spliced_or_stop code None = finish
 spliced_or_stop code (Some b) = spliced code b
 
--- the code of a number, calls replaced where at most so many codes stand within one another
+-- the code of a number, calls replaced where at most so many codes are nested
 abbrev pub inlined : (ℕ → Option Recv) → ℕ → ℕ → Recv
 inlined subs zero k = finish
 inlined subs (suc n) k = spliced_or_stop (inlined subs n) (subs k)

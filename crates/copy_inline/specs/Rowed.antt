@@ -18,11 +18,11 @@ row_or_loop sort.Block false o p b r = row_swap p r
 row_or_loop sort.Wide image o p b r = row_wide p o r
 row_or_loop sort.Looped image o p b r = each p b r
 
--- what stands for a loop over an array
+-- what replaces a loop over an array
 abbrev pub array_rowed : Encoding → Array → List ℕ → Block → Block → Block
 array_rowed e a p b r = row_or_loop (sort_of e a) (is_image (order_of e) (kind_of a)) (order_of e) p b r
 
--- what stands for a loop over a part of a type, by what becomes of its body
+-- what replaces a loop over a part of a type, by what becomes of its body
 abbrev pub loop_rowed : Encoding → Option Ty → List ℕ → Block → (Ty → Block) → Block → Block
 loop_rowed e (Some (array_type a)) p b f r = array_rowed e a p b r
 loop_rowed e (Some (items_type c t)) p b f r = each p (f t) r

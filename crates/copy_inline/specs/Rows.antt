@@ -49,11 +49,13 @@ SendsTheSameOf t given code = (h : Head) (v : Val) (p : ℕ) → IsOf t v → me
 
 -- where the room that the given code ensures is enough, so it is
 abbrev pub StaysCovered : Ty → SendCode → SendCode → Type 0
-StaysCovered t given code = (h : Head) (v : Val) (p : ℕ) → IsOf t v → AreCovered (sent_steps given h v) p → AreCovered (sent_steps code h v) p
+StaysCovered t given code = (h : Head) (v : Val) (p : ℕ) → IsOf t v → AreCovered (sent_steps given h v) p
+    → AreCovered (sent_steps code h v) p
 
 -- as many looks at the buffer
 abbrev pub ChecksTheSame : Ty → SendCode → SendCode → Type 0
-ChecksTheSame t given code = (h : Head) (v : Val) → IsOf t v → option_map (λ (c : Cost). c.checks) (cost code h v) ≡ option_map (λ (c : Cost). c.checks) (cost given h v)
+ChecksTheSame t given code = (h : Head) (v : Val) → IsOf t v
+    → option_map (λ (c : Cost). c.checks) (cost code h v) ≡ option_map (λ (c : Cost). c.checks) (cost given h v)
 
 -- one row as a block for each row or text of that sort, and no other
 abbrev pub GivesBlocks : Encoding → Ty → SendCode → Type 0

@@ -32,7 +32,7 @@ abbrev pub spliced_or_stop : (ℕ → Block) → Option Block → Block
 spliced_or_stop code None = stop
 spliced_or_stop code (Some b) = spliced code b
 
--- the code of a number, calls replaced where at most so many codes stand within one another
+-- the code of a number, calls replaced where at most so many codes are nested
 abbrev pub inlined : (ℕ → Option Block) → ℕ → ℕ → Block
 inlined subs zero k = stop
 inlined subs (suc n) k = spliced_or_stop (inlined subs n) (subs k)

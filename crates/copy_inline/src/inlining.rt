@@ -21,7 +21,7 @@ use std::alloc::Global;
 /// the code that it calls, and two for a row.
 pub(crate) const LEVELS: u32 = 66;
 
-// The operations of a code behind those of `out`, for the part at the prefix.
+// The operations of a code after those of `out`, for the part at the prefix.
 #[cycle(inline)]
 #[tactic(auto, using(crate::proofs::Emitting::emitting))]
 fn put_code(
@@ -35,7 +35,9 @@ fn put_code(
 ) -> Result<(), NoMemory>
     requires calls { nested ≤ calls }
     requires levels { IsShallow (sub_at subs.now) nested (code_seen code.now) }
-    ensures { OnOk result (code_seen out.new ≡ append (code_seen out.old) (rebase prefix.now (spliced (inlined (sub_at subs.now) calls) (code_seen code.now)))) }
+    ensures { OnOk result (code_seen out.new
+        ≡ append (code_seen out.old)
+        (rebase prefix.now (spliced (inlined (sub_at subs.now) calls) (code_seen code.now)))) }
 {
     let inner = nested - 1;
     for op in code.as_slice() {
@@ -44,7 +46,7 @@ fn put_code(
     Ok(())
 }
 
-// The operation behind those of `out`, for the part at the prefix.
+// The operation after those of `out`, for the part at the prefix.
 #[cycle(inline)]
 #[tactic(auto, using(crate::proofs::Emitting::emitting))]
 fn put_op(
@@ -58,7 +60,9 @@ fn put_op(
 ) -> Result<(), NoMemory>
     requires calls { nested < calls }
     requires levels { Within (sub_at subs.now) (IsShallow (sub_at subs.now) nested) (op_seen op.now stop) }
-    ensures { OnOk result (code_seen out.new ≡ append (code_seen out.old) (rebase prefix.now (spliced (inlined (sub_at subs.now) calls) (op_seen op.now stop)))) }
+    ensures { OnOk result (code_seen out.new
+        ≡ append (code_seen out.old)
+        (rebase prefix.now (spliced (inlined (sub_at subs.now) calls) (op_seen op.now stop)))) }
 {
     match op {
         SendOp::Ensure(n) => add(out, SendOp::Ensure(*n)),
@@ -116,7 +120,8 @@ fn body_of(
 ) -> Result<SendOps, NoMemory>
     requires calls { nested ≤ calls }
     requires levels { IsShallow (sub_at subs.now) nested (code_seen body.now) }
-    ensures { IfOk result (λ code. code_seen code ≡ spliced (inlined (sub_at subs.now) calls) (code_seen body.now)) }
+    ensures { IfOk result
+        (λ code. code_seen code ≡ spliced (inlined (sub_at subs.now) calls) (code_seen body.now)) }
 {
     let mut inner = SendOps::new(alloc);
     let here = Path::new(alloc);
@@ -136,7 +141,8 @@ fn bodies_of(
 ) -> Result<SendCases, NoMemory>
     requires calls { nested ≤ calls }
     requires levels { CasesAre (IsShallow (sub_at subs.now) nested) (cases_seen cases.now None) }
-    ensures { IfOk result (λ bodies. pairs_seen bodies ≡ pairs_spliced (inlined (sub_at subs.now) calls) cases.now) }
+    ensures { IfOk result
+        (λ bodies. pairs_seen bodies ≡ pairs_spliced (inlined (sub_at subs.now) calls) cases.now) }
 {
     let mut bodies = SendCases::new(alloc);
     for case in cases.as_slice() {
@@ -158,7 +164,8 @@ fn last_of(
 ) -> Result<Option<SendOps>, NoMemory>
     requires calls { nested ≤ calls }
     requires levels { CasesAre (IsShallow (sub_at subs.now) nested) (cases_seen [] other.now) }
-    ensures { IfOk result (λ last. option_map code_seen last ≡ option_map (λ b. spliced (inlined (sub_at subs.now) calls) (code_seen b)) other.now) }
+    ensures { IfOk result (λ last. option_map code_seen last
+        ≡ option_map (λ b. spliced (inlined (sub_at subs.now) calls) (code_seen b)) other.now) }
 {
     match other {
         Some(body) => Ok(Some(body_of(alloc, subs, calls, nested, body)?)),
@@ -166,7 +173,7 @@ fn last_of(
     }
 }
 
-// The code of a number behind the operations of `out`, for the part at a path.
+// The code of a number after the operations of `out`, for the part at a path.
 #[cycle(inline)]
 #[tactic(auto, using(crate::proofs::Emitting::emitting))]
 fn put_called(
@@ -180,7 +187,8 @@ fn put_called(
 ) -> Result<(), NoMemory>
     requires calls { nested < calls }
     requires levels { OfCode (sub_at subs.now k) (IsShallow (sub_at subs.now) nested) }
-    ensures { OnOk result (code_seen out.new ≡ append (code_seen out.old) (rebase part.now (inlined (sub_at subs.now) calls k))) }
+    ensures { OnOk result (code_seen out.new
+        ≡ append (code_seen out.old) (rebase part.now (inlined (sub_at subs.now) calls k))) }
 {
     match subs.get(k as usize) {
         Some(code) => put_code(alloc, subs, calls - 1, nested, part, code, out),
@@ -188,7 +196,7 @@ fn put_called(
     }
 }
 
-/// How many calls stand within one another at most, and the code itself.
+/// How many calls are nested at most, and the code itself.
 pub(crate) fn levels() -> u32
     ensures is { result ≡ 1 + deepest }
     ensures few { 66 < result }

@@ -1,4 +1,4 @@
-//! What stands for a loop of code that receives over a row or text.
+//! What replaces a loop of code that receives over a row or text.
 
 ghost use Rattle.std.specs.Prelude.{◌≡◌, Some, OnOk, IfOk};
 ghost use Rattle.mint.specs.Types.{row_of};
@@ -26,7 +26,8 @@ pub(crate) fn put_text(
     path: &Path,
     out: &mut RecvOps,
 ) -> Result<(), NoMemory>
-    ensures { OnOk result (code_seen out.new ≡ append (code_seen out.old) (need_row path.now 1 0 (row_block path.now (order_of enc) finish))) }
+    ensures { OnOk result (code_seen out.new
+        ≡ append (code_seen out.old) (need_row path.now 1 0 (row_block path.now (order_of enc) finish))) }
 {
     let text = RecvOp::Row(copy_path(alloc, path)?, order_of(enc));
     put_tested(alloc, path, 1, text, out)
@@ -41,13 +42,14 @@ fn put_tested(
     row: RecvOp,
     out: &mut RecvOps,
 ) -> Result<(), NoMemory>
-    ensures { OnOk result (code_seen out.new ≡ append (code_seen out.old) (need_row path.now width 0 (op_seen row finish))) }
+    ensures { OnOk result
+        (code_seen out.new ≡ append (code_seen out.old) (need_row path.now width 0 (op_seen row finish))) }
 {
     add(out, RecvOp::NeedRow(copy_path(alloc, path)?, width, 0))?;
     add(out, row)
 }
 
-/// What stands for a loop over a row, after the operations of `out`.
+/// What replaces a loop over a row, after the operations of `out`.
 #[tactic(auto, using(crate::proofs::RecvRowEmitting::emitting))]
 pub(crate) fn put_row(
     alloc: Global,
@@ -59,7 +61,9 @@ pub(crate) fn put_row(
     out: &mut RecvOps,
 ) -> Result<(), NoMemory>
     requires { descs (code_seen body.now) ≡ Some 0 }
-    ensures { OnOk result (code_seen out.new ≡ append (code_seen out.old) (array_rowed enc (row_of kind count) path.now (code_seen body.now) finish)) }
+    ensures { OnOk result (code_seen out.new
+        ≡ append (code_seen out.old)
+        (array_rowed enc (row_of kind count) path.now (code_seen body.now) finish)) }
 {
     let order = order_of(enc);
     let width = element_width(enc, kind);

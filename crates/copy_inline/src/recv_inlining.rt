@@ -31,7 +31,9 @@ fn put_code(
 ) -> Result<(), NoMemory>
     requires calls { nested ≤ calls }
     requires levels { IsShallow (sub_at subs.now) nested (code_seen code.now) }
-    ensures { OnOk result (code_seen out.new ≡ append (code_seen out.old) (rebase prefix.now (spliced (inlined (sub_at subs.now) calls) (code_seen code.now)))) }
+    ensures { OnOk result (code_seen out.new
+        ≡ append (code_seen out.old)
+        (rebase prefix.now (spliced (inlined (sub_at subs.now) calls) (code_seen code.now)))) }
 {
     let inner = nested - 1;
     for op in code.as_slice() {
@@ -54,15 +56,15 @@ fn put_op(
 ) -> Result<(), NoMemory>
     requires calls { nested < calls }
     requires levels { Within (sub_at subs.now) (IsShallow (sub_at subs.now) nested) (op_seen op.now finish) }
-    ensures { OnOk result (code_seen out.new ≡ append (code_seen out.old) (rebase prefix.now (spliced (inlined (sub_at subs.now) calls) (op_seen op.now finish)))) }
+    ensures { OnOk result (code_seen out.new
+        ≡ append (code_seen out.old)
+        (rebase prefix.now (spliced (inlined (sub_at subs.now) calls) (op_seen op.now finish)))) }
 {
     match op {
         RecvOp::Need(n) => add(out, RecvOp::Need(*n)),
         RecvOp::NeedRow(path, unit, extra) => {
-            add(
-                out,
-                RecvOp::NeedRow(path_behind(alloc, prefix, path)?, *unit, *extra),
-            )
+            let part = path_behind(alloc, prefix, path)?;
+            add(out, RecvOp::NeedRow(part, *unit, *extra))
         }
         RecvOp::SkipAny(a) => add(out, RecvOp::SkipAny(*a)),
         RecvOp::SkipZero(a) => add(out, RecvOp::SkipZero(*a)),
@@ -70,19 +72,15 @@ fn put_op(
             add(out, RecvOp::Take(*size, gets_behind(alloc, prefix, gets)?))
         }
         RecvOp::Desc(path, name, size, mul) => {
-            add(
-                out,
-                RecvOp::Desc(path_behind(alloc, prefix, path)?, *name, *size, *mul),
-            )
+            let part = path_behind(alloc, prefix, path)?;
+            add(out, RecvOp::Desc(part, *name, *size, *mul))
         }
         RecvOp::Row(path, order) => {
             add(out, RecvOp::Row(path_behind(alloc, prefix, path)?, *order))
         }
         RecvOp::RowWide(path, order) => {
-            add(
-                out,
-                RecvOp::RowWide(path_behind(alloc, prefix, path)?, *order),
-            )
+            let part = path_behind(alloc, prefix, path)?;
+            add(out, RecvOp::RowWide(part, *order))
         }
         RecvOp::Each(path, body) => {
             let inner = body_of(alloc, subs, calls, nested, body)?;
@@ -119,7 +117,8 @@ fn body_of(
 ) -> Result<RecvOps, NoMemory>
     requires calls { nested ≤ calls }
     requires levels { IsShallow (sub_at subs.now) nested (code_seen body.now) }
-    ensures { IfOk result (λ code. code_seen code ≡ spliced (inlined (sub_at subs.now) calls) (code_seen body.now)) }
+    ensures { IfOk result
+        (λ code. code_seen code ≡ spliced (inlined (sub_at subs.now) calls) (code_seen body.now)) }
 {
     let mut inner = RecvOps::new(alloc);
     let here = Path::new(alloc);
@@ -139,7 +138,8 @@ fn bodies_of(
 ) -> Result<RecvCases, NoMemory>
     requires calls { nested ≤ calls }
     requires levels { CasesAre (IsShallow (sub_at subs.now) nested) (cases_seen cases.now None) }
-    ensures { IfOk result (λ bodies. pairs_seen bodies ≡ pairs_spliced (inlined (sub_at subs.now) calls) cases.now) }
+    ensures { IfOk result
+        (λ bodies. pairs_seen bodies ≡ pairs_spliced (inlined (sub_at subs.now) calls) cases.now) }
 {
     let mut bodies = RecvCases::new(alloc);
     for case in cases.as_slice() {
@@ -161,7 +161,8 @@ fn last_of(
 ) -> Result<Option<RecvOps>, NoMemory>
     requires calls { nested ≤ calls }
     requires levels { CasesAre (IsShallow (sub_at subs.now) nested) (cases_seen [] other.now) }
-    ensures { IfOk result (λ last. option_map code_seen last ≡ option_map (λ b. spliced (inlined (sub_at subs.now) calls) (code_seen b)) other.now) }
+    ensures { IfOk result (λ last. option_map code_seen last
+        ≡ option_map (λ b. spliced (inlined (sub_at subs.now) calls) (code_seen b)) other.now) }
 {
     match other {
         Some(body) => Ok(Some(body_of(alloc, subs, calls, nested, body)?)),
@@ -183,7 +184,8 @@ fn put_called(
 ) -> Result<(), NoMemory>
     requires calls { nested < calls }
     requires levels { OfCode (sub_at subs.now k) (IsShallow (sub_at subs.now) nested) }
-    ensures { OnOk result (code_seen out.new ≡ append (code_seen out.old) (rebase part.now (inlined (sub_at subs.now) calls k))) }
+    ensures { OnOk result (code_seen out.new
+        ≡ append (code_seen out.old) (rebase part.now (inlined (sub_at subs.now) calls k))) }
 {
     match subs.get(k as usize) {
         Some(code) => put_code(alloc, subs, calls - 1, nested, part, code, out),

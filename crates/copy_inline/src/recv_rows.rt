@@ -46,7 +46,7 @@ fn rows_ops(
     Ok(out)
 }
 
-// The operation, or what stands for it, after those of `out`.
+// The operation, or what replaces it, after those of `out`.
 #[cycle(rows)]
 #[tactic(auto, using(crate::proofs::RecvRowEmitting::emitting))]
 fn put_op(
@@ -59,7 +59,8 @@ fn put_op(
 ) -> Result<(), NoMemory>
     requires id { id < length mint.now }
     requires ready { IsReady enc (type_at mint.now id) (op_seen op.now finish) }
-    ensures { OnOk result (code_seen out.new ≡ append (code_seen out.old) (rowed enc (type_at mint.now id) (op_seen op.now finish))) }
+    ensures { OnOk result (code_seen out.new
+        ≡ append (code_seen out.old) (rowed enc (type_at mint.now id) (op_seen op.now finish))) }
 {
     match op {
         RecvOp::Need(n) => add(out, RecvOp::Need(*n)),
@@ -86,7 +87,7 @@ fn put_op(
     }
 }
 
-// What stands for a loop over the part at a path, after the operations of `out`.
+// What replaces a loop over the part at a path, after the operations of `out`.
 #[cycle(rows)]
 #[tactic(auto, using(crate::proofs::RecvRowEmitting::emitting))]
 fn put_loop(
@@ -99,8 +100,11 @@ fn put_loop(
     out: &mut RecvOps,
 ) -> Result<(), NoMemory>
     requires id { id < length mint.now }
-    requires ready { LoopIs enc (ty_at path.now (type_at mint.now id)) (code_seen body.now) (λ u. IsReady enc u (code_seen body.now)) }
-    ensures { OnOk result (code_seen out.new ≡ append (code_seen out.old) (loop_rowed enc (ty_at path.now (type_at mint.now id)) path.now (code_seen body.now) (λ u. rowed enc u (code_seen body.now)) finish)) }
+    requires ready { LoopIs enc (ty_at path.now (type_at mint.now id)) (code_seen body.now)
+        (λ u. IsReady enc u (code_seen body.now)) }
+    ensures { OnOk result (code_seen out.new
+        ≡ append (code_seen out.old) (loop_rowed enc (ty_at path.now (type_at mint.now id)) path.now
+        (code_seen body.now) (λ u. rowed enc u (code_seen body.now)) finish)) }
 {
     let Some(part) = node_at(mint, id, path.as_slice()) else {
         unreachable!()
@@ -136,8 +140,10 @@ fn some_body(
     body: &RecvOps,
 ) -> Result<RecvOps, NoMemory>
     requires id { id < length mint.now }
-    requires ready { OfType (present_at path.now (type_at mint.now id)) (λ u. IsReady enc u (code_seen body.now)) }
-    ensures { IfOk result (λ b. code_seen b ≡ by_type (present_at path.now (type_at mint.now id)) (code_seen body.now) (λ u. rowed enc u (code_seen body.now))) }
+    requires ready { OfType (present_at path.now (type_at mint.now id))
+        (λ u. IsReady enc u (code_seen body.now)) }
+    ensures { IfOk result (λ b. code_seen b ≡ by_type (present_at path.now (type_at mint.now id))
+        (code_seen body.now) (λ u. rowed enc u (code_seen body.now))) }
 {
     let Some(part) = node_at(mint, id, path.as_slice()) else {
         unreachable!()
@@ -161,8 +167,11 @@ fn switch_bodies(
     last: &Option<RecvOps>,
 ) -> Result<(RecvCases, Option<RecvOps>), NoMemory>
     requires id { id < length mint.now }
-    requires ready { OfType (arms_at path.now (type_at mint.now id)) (λ arms. CasesReady enc arms (cases_seen cases.now last.now)) }
-    ensures { IfOk result (λ b. cases_seen b.0 b.1 ≡ by_type (arms_at path.now (type_at mint.now id)) (cases_seen cases.now last.now) (λ arms. cases_rowed enc arms (cases_seen cases.now last.now))) }
+    requires ready { OfType (arms_at path.now (type_at mint.now id))
+        (λ arms. CasesReady enc arms (cases_seen cases.now last.now)) }
+    ensures { IfOk result (λ b. cases_seen b.0 b.1
+        ≡ by_type (arms_at path.now (type_at mint.now id)) (cases_seen cases.now last.now)
+        (λ arms. cases_rowed enc arms (cases_seen cases.now last.now))) }
 {
     let Some(part) = node_at(mint, id, path.as_slice()) else {
         unreachable!()
@@ -233,7 +242,8 @@ fn rows_last(
     requires id { id < length mint.now }
     requires other { IsBelow id other }
     requires ready { CasesReady enc (others_at (unfolded mint.now) other) (cases_seen [] last.now) }
-    ensures { IfOk result (λ rest. cases_seen [] rest ≡ cases_rowed enc (others_at (unfolded mint.now) other) (cases_seen [] last.now)) }
+    ensures { IfOk result (λ rest. cases_seen [] rest
+        ≡ cases_rowed enc (others_at (unfolded mint.now) other) (cases_seen [] last.now)) }
 {
     match last {
         Some(body) => match other {

@@ -46,7 +46,7 @@ fn rows_ops(
     Ok(out)
 }
 
-// The operation, or what stands for it, after those of `out`.
+// The operation, or what replaces it, after those of `out`.
 #[cycle(rows)]
 #[tactic(auto, using(crate::proofs::RowEmitting::emitting))]
 fn put_op(
@@ -59,7 +59,8 @@ fn put_op(
 ) -> Result<(), NoMemory>
     requires id { id < length mint.now }
     requires ready { IsReady enc (type_at mint.now id) (op_seen op.now stop) }
-    ensures { OnOk result (code_seen out.new ≡ append (code_seen out.old) (rowed enc (type_at mint.now id) (op_seen op.now stop))) }
+    ensures { OnOk result (code_seen out.new
+        ≡ append (code_seen out.old) (rowed enc (type_at mint.now id) (op_seen op.now stop))) }
 {
     match op {
         SendOp::Ensure(n) => add(out, SendOp::Ensure(*n)),
@@ -90,7 +91,7 @@ fn put_op(
     }
 }
 
-// What stands for a loop over the part at a path.
+// What replaces a loop over the part at a path.
 #[cycle(rows)]
 #[tactic(auto, using(crate::proofs::RowEmitting::emitting))]
 fn loop_op(
@@ -102,8 +103,10 @@ fn loop_op(
     body: &SendOps,
 ) -> Result<SendOp, NoMemory>
     requires id { id < length mint.now }
-    requires ready { LoopIs enc (ty_at path.now (type_at mint.now id)) (code_seen body.now) (λ u. IsReady enc u (code_seen body.now)) }
-    ensures { IfOk result (λ o. op_seen o stop ≡ loop_rowed enc (ty_at path.now (type_at mint.now id)) path.now (code_seen body.now) (λ u. rowed enc u (code_seen body.now)) stop) }
+    requires ready { LoopIs enc (ty_at path.now (type_at mint.now id)) (code_seen body.now)
+        (λ u. IsReady enc u (code_seen body.now)) }
+    ensures { IfOk result (λ o. op_seen o stop ≡ loop_rowed enc (ty_at path.now (type_at mint.now id))
+        path.now (code_seen body.now) (λ u. rowed enc u (code_seen body.now)) stop) }
 {
     let Some(part) = node_at(mint, id, path.as_slice()) else {
         unreachable!()
@@ -127,7 +130,7 @@ fn loop_op(
     }
 }
 
-// What stands for a loop over a row.
+// What replaces a loop over a row.
 #[tactic(auto, using(crate::proofs::RowEmitting::emitting))]
 fn row_op(
     alloc: Global,
@@ -137,7 +140,8 @@ fn row_op(
     path: &Path,
     body: &SendOps,
 ) -> Result<SendOp, NoMemory>
-    ensures { IfOk result (λ o. op_seen o stop ≡ array_rowed enc (row_of kind count) path.now (code_seen body.now) stop) }
+    ensures { IfOk result
+        (λ o. op_seen o stop ≡ array_rowed enc (row_of kind count) path.now (code_seen body.now) stop) }
 {
     let order = order_of(enc);
     match sort_of(enc, kind, count) {
@@ -150,7 +154,8 @@ fn row_op(
 // A row as it is, or with the octets of each number reversed.
 #[tactic(auto, using(crate::proofs::RowEmitting::emitting))]
 fn block_op(alloc: Global, order: Order, kind: Kind, path: &Path) -> Result<SendOp, NoMemory>
-    ensures { IfOk result (λ o. op_seen o stop ≡ row_or_loop Sort.Block (is_image order kind) order path.now stop stop) }
+    ensures { IfOk result
+        (λ o. op_seen o stop ≡ row_or_loop Sort.Block (is_image order kind) order path.now stop stop) }
 {
     if order == Order::Little || kind.width() == 1 {
         Ok(SendOp::RowCopy(copy_path(alloc, path)?))
@@ -171,8 +176,10 @@ fn some_body(
     body: &SendOps,
 ) -> Result<SendOps, NoMemory>
     requires id { id < length mint.now }
-    requires ready { OfType (present_at path.now (type_at mint.now id)) (λ u. IsReady enc u (code_seen body.now)) }
-    ensures { IfOk result (λ b. code_seen b ≡ by_type (present_at path.now (type_at mint.now id)) (code_seen body.now) (λ u. rowed enc u (code_seen body.now))) }
+    requires ready { OfType (present_at path.now (type_at mint.now id))
+        (λ u. IsReady enc u (code_seen body.now)) }
+    ensures { IfOk result (λ b. code_seen b ≡ by_type (present_at path.now (type_at mint.now id))
+        (code_seen body.now) (λ u. rowed enc u (code_seen body.now))) }
 {
     let Some(part) = node_at(mint, id, path.as_slice()) else {
         unreachable!()
@@ -196,8 +203,11 @@ fn switch_bodies(
     last: &Option<SendOps>,
 ) -> Result<(SendCases, Option<SendOps>), NoMemory>
     requires id { id < length mint.now }
-    requires ready { OfType (arms_at path.now (type_at mint.now id)) (λ arms. CasesReady enc arms (cases_seen cases.now last.now)) }
-    ensures { IfOk result (λ b. cases_seen b.0 b.1 ≡ by_type (arms_at path.now (type_at mint.now id)) (cases_seen cases.now last.now) (λ arms. cases_rowed enc arms (cases_seen cases.now last.now))) }
+    requires ready { OfType (arms_at path.now (type_at mint.now id))
+        (λ arms. CasesReady enc arms (cases_seen cases.now last.now)) }
+    ensures { IfOk result (λ b. cases_seen b.0 b.1
+        ≡ by_type (arms_at path.now (type_at mint.now id)) (cases_seen cases.now last.now)
+        (λ arms. cases_rowed enc arms (cases_seen cases.now last.now))) }
 {
     let Some(part) = node_at(mint, id, path.as_slice()) else {
         unreachable!()
@@ -268,7 +278,8 @@ fn rows_last(
     requires id { id < length mint.now }
     requires other { IsBelow id other }
     requires ready { CasesReady enc (others_at (unfolded mint.now) other) (cases_seen [] last.now) }
-    ensures { IfOk result (λ rest. cases_seen [] rest ≡ cases_rowed enc (others_at (unfolded mint.now) other) (cases_seen [] last.now)) }
+    ensures { IfOk result (λ rest. cases_seen [] rest
+        ≡ cases_rowed enc (others_at (unfolded mint.now) other) (cases_seen [] last.now)) }
 {
     match last {
         Some(body) => match other {

@@ -13,4 +13,5 @@ put_copy-requires c =
 
 pub loop-op-preserved : goal.loop-op-preserved
 loop-op-preserved c =
-    copied_more c.as_slice-op-items.result.now c.loop-op.op-index c.op-item.result _ _ c.loop-op-test.true c.op-item.is c.loop-op.invariant c.in_ok-put_copy.ensures
+    copied_more c.as_slice-op-items.result.now c.loop-op.op-index c.op-item.result _ _ c.loop-op-test.true c.op-item.is c.loop-op.invariant
+    c.in_ok-put_copy.ensures

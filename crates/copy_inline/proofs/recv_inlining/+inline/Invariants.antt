@@ -20,7 +20,8 @@ decreases-put_called l = 6 * l.nested + 1
 
 abbrev pub invariant-put_code-loop-op : goal.invariant-put_code-loop-op
 invariant-put_code-loop-op l =
-    code_seen l.out ≡ append (code_seen l.fn.out) (rebase l.prefix (spliced (inlined (sub_at l.subs) l.calls) (code_seen (take l.op-index l.op-items))))
+    code_seen l.out ≡ append (code_seen l.fn.out)
+    (rebase l.prefix (spliced (inlined (sub_at l.subs) l.calls) (code_seen (take l.op-index l.op-items))))
 
 abbrev pub decreases-bodies_of : goal.decreases-bodies_of
 decreases-bodies_of l = 6 * l.nested + 3

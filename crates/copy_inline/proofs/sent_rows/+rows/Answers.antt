@@ -29,16 +29,24 @@ rows_ops-put_op-requires t c =
 
 pub rows_ops-loop-op-preserved : goal.rows_ops-loop-op-preserved
 rows_ops-loop-op-preserved t c =
-    one_more c.args.enc (type_at c.args.mint.now c.args.id) _ _ c.op-item.result _ _ c.loop-op-test.true c.op-item.is c.loop-op.invariant c.in_ok-put_op.ensures
+    one_more c.args.enc (type_at c.args.mint.now c.args.id) _ _ c.op-item.result _ _ c.loop-op-test.true c.op-item.is c.loop-op.invariant
+    c.in_ok-put_op.ensures
 
 pub put_op-switch_bodies-requires : goal.put_op-switch_bodies-requires
-put_op-switch_bodies-requires t c =
-    (omega arith, (c.requires.id, switch_ready c.args.enc (type_at c.args.mint.now c.args.id) c.args.op.now c.in-Switch.path c.in-Switch.cases c.in-Switch.last c.in-Switch.is c.requires.ready))
+put_op-switch_bodies-requires t c = (
+  omega arith,
+  (
+    c.requires.id,
+    switch_ready c.args.enc (type_at c.args.mint.now c.args.id) c.args.op.now c.in-Switch.path c.in-Switch.cases c.in-Switch.last
+        c.in-Switch.is c.requires.ready,
+  ),
+)
 
 pub put_op-returns-in_ok-copy_path-in-Switch : goal.put_op-returns-in_ok-copy_path-in-Switch
 put_op-returns-in_ok-copy_path-in-Switch t c =
     subst (λ (b : Block). OnOk c.add-in-Switch.result (code_seen c.add-in-Switch.new.out ≡ append (code_seen c.args.out.now) b))
-    (switch_is c.args.enc (type_at c.args.mint.now c.args.id) c.args.op.now c.in-Switch.path _ c.in-Switch.cases _ c.in-Switch.last _ c.in-Switch.is c.in_ok-copy_path-in-Switch.ensures c.in_ok-bodies-in-Switch.ensures)
+    (switch_is c.args.enc (type_at c.args.mint.now c.args.id) c.args.op.now c.in-Switch.path _ c.in-Switch.cases _ c.in-Switch.last _
+    c.in-Switch.is c.in_ok-copy_path-in-Switch.ensures c.in_ok-bodies-in-Switch.ensures)
     c.add-in-Switch.ensures
 
 pub rows_cases-bounds-arms-i : goal.rows_cases-bounds-arms-i
@@ -49,15 +57,19 @@ rows_cases-bounds-arms-i t c =
 pub rows_cases-rows_case-requires : goal.rows_cases-rows_case-requires
 rows_cases-rows_case-requires t c =
     let us = unfolded c.args.mint.now in
-    let ready = subst (λ (l : List (ℤ × ℕ)). ArmsReady c.args.enc us l c.as_slice-cases.result.now) (sym c.as_slice-arms.ensures) (subst (λ (l : List (ℤ × List SendOp)). ArmsReady c.args.enc us c.args.arms.now l) (sym c.as_slice-cases.ensures) c.requires.ready) in
-    let within : c.loop-i.i < length c.as_slice-arms.result.now = omega (arith, c.loop-i-test.true, as-many c.args.enc us c.as_slice-arms.result.now c.as_slice-cases.result.now ready) in
+    let ready = subst (λ (l : List (ℤ × ℕ)). ArmsReady c.args.enc us l c.as_slice-cases.result.now) (sym c.as_slice-arms.ensures)
+    (subst (λ (l : List (ℤ × List SendOp)). ArmsReady c.args.enc us c.args.arms.now l) (sym c.as_slice-cases.ensures)
+    c.requires.ready) in
+    let within : c.loop-i.i < length c.as_slice-arms.result.now =
+    omega (arith, c.loop-i-test.true, as-many c.args.enc us c.as_slice-arms.result.now c.as_slice-cases.result.now ready) in
     let below = subst (ArmsBelow c.args.id) (sym c.as_slice-arms.ensures) c.requires.arms in (
       omega arith,
       (
         c.requires.id,
         (
           arm-below c.args.id c.as_slice-arms.result.now c.loop-i.i _ within below,
-          this-ready c.args.enc us c.as_slice-arms.result.now c.as_slice-cases.result.now c.loop-i.i _ c.index-cases-i.result c.loop-i-test.true c.index-cases-i.is ready,
+          this-ready c.args.enc us c.as_slice-arms.result.now c.as_slice-cases.result.now c.loop-i.i _ c.index-cases-i.result
+              c.loop-i-test.true c.index-cases-i.is ready,
         ),
       ),
     )
@@ -65,36 +77,68 @@ rows_cases-rows_case-requires t c =
 pub rows_cases-loop-i-preserved : goal.rows_cases-loop-i-preserved
 rows_cases-loop-i-preserved t c =
     let us = unfolded c.args.mint.now in
-    let ready = subst (λ (l : List (ℤ × ℕ)). ArmsReady c.args.enc us l c.as_slice-cases.result.now) (sym c.as_slice-arms.ensures) (subst (λ (l : List (ℤ × List SendOp)). ArmsReady c.args.enc us c.args.arms.now l) (sym c.as_slice-cases.ensures) c.requires.ready) in
-    one-rowed c.args.enc us c.as_slice-arms.result.now c.as_slice-cases.result.now c.loop-i.bodies c.push.new.self c.loop-i.i _ c.index-cases-i.result c.in_ok-rows_case.field-0 ready c.loop-i-test.true c.index-cases-i.is c.loop-i.invariant c.in_ok-rows_case.ensures c.in_ok-push.ensures.ok
+    let ready = subst (λ (l : List (ℤ × ℕ)). ArmsReady c.args.enc us l c.as_slice-cases.result.now) (sym c.as_slice-arms.ensures)
+    (subst (λ (l : List (ℤ × List SendOp)). ArmsReady c.args.enc us c.args.arms.now l) (sym c.as_slice-cases.ensures)
+    c.requires.ready) in
+    one-rowed c.args.enc us c.as_slice-arms.result.now c.as_slice-cases.result.now c.loop-i.bodies c.push.new.self c.loop-i.i _
+    c.index-cases-i.result c.in_ok-rows_case.field-0 ready c.loop-i-test.true c.index-cases-i.is c.loop-i.invariant
+    c.in_ok-rows_case.ensures c.in_ok-push.ensures.ok
 
 pub rows_cases-returns : goal.rows_cases-returns
 rows_cases-returns t c =
     let us = unfolded c.args.mint.now in
-    let so_far = subst (λ (l : List (ℤ × ℕ)). AreRowed c.args.enc us (take c.loop-i.i l) (take c.loop-i.i c.args.cases.now) c.loop-i.bodies) c.as_slice-arms.ensures
-    (subst (λ (l : List (ℤ × List SendOp)). AreRowed c.args.enc us (take c.loop-i.i c.as_slice-arms.result.now) (take c.loop-i.i l) c.loop-i.bodies) c.as_slice-cases.ensures c.loop-i.invariant) in
-    all-rowed c.args.enc us c.args.arms.now c.args.cases.now c.loop-i.bodies c.loop-i.i c.requires.ready (omega (arith, c.loop-i-test.false, ap length c.as_slice-cases.ensures)) so_far
+    let so_far = subst (λ (l : List (ℤ × ℕ)). AreRowed c.args.enc us (take c.loop-i.i l) (take c.loop-i.i c.args.cases.now) c.loop-i.bodies)
+    c.as_slice-arms.ensures
+    (subst
+    (λ (l : List (ℤ × List SendOp)). AreRowed c.args.enc us (take c.loop-i.i c.as_slice-arms.result.now) (take c.loop-i.i l)
+    c.loop-i.bodies) c.as_slice-cases.ensures c.loop-i.invariant) in
+    all-rowed c.args.enc us c.args.arms.now c.args.cases.now c.loop-i.bodies c.loop-i.i c.requires.ready
+    (omega (arith, c.loop-i-test.false, ap length c.as_slice-cases.ensures)) so_far
 
 pub switch_bodies-rows_cases-requires : goal.switch_bodies-rows_cases-requires
 switch_bodies-rows_cases-requires t c =
     let us = unfolded c.args.mint.now in
     let ty = type_at c.args.mint.now c.args.id in
-    let there = arms_there c.args.path.now ty (type_at c.args.mint.now c.in-Some.part) _ (mint_arms us c.in-Some-Choice.arms c.in-Some-Choice.other) (c.in-Some.ensures.is ∙ ap (λ (p : List ℕ). ty_at p ty) c.as_slice.ensures) (c.in-Some-Choice.ensures.is ∙ ap (level us) c.in-Some-Choice.field-0-is) in
-    let ready = typed (arms_at c.args.path.now ty) (λ arms. CasesReady c.args.enc arms (cases_seen c.args.cases.now c.args.last.now)) (mint_arms us c.in-Some-Choice.arms c.in-Some-Choice.other) there c.requires.ready in
-    (omega (arith, c.in-Some.ensures.below), (omega (arith, c.requires.id, c.in-Some.ensures.below), (search rules, (arms-ready c.args.enc us c.in-Some-Choice.arms c.in-Some-Choice.other c.args.cases.now c.args.last.now ready).0)))
+    let there = arms_there c.args.path.now ty (type_at c.args.mint.now c.in-Some.part) _
+    (mint_arms us c.in-Some-Choice.arms c.in-Some-Choice.other)
+    (c.in-Some.ensures.is ∙ ap (λ (p : List ℕ). ty_at p ty) c.as_slice.ensures)
+    (c.in-Some-Choice.ensures.is ∙ ap (level us) c.in-Some-Choice.field-0-is) in
+    let ready = typed (arms_at c.args.path.now ty) (λ arms. CasesReady c.args.enc arms (cases_seen c.args.cases.now c.args.last.now))
+    (mint_arms us c.in-Some-Choice.arms c.in-Some-Choice.other) there c.requires.ready in (
+      omega (arith, c.in-Some.ensures.below),
+      (
+        omega (arith, c.requires.id, c.in-Some.ensures.below),
+        (search rules, (arms-ready c.args.enc us c.in-Some-Choice.arms c.in-Some-Choice.other c.args.cases.now c.args.last.now ready).0),
+      ),
+    )
 
 pub switch_bodies-rows_last-requires : goal.switch_bodies-rows_last-requires
 switch_bodies-rows_last-requires t c =
     let us = unfolded c.args.mint.now in
     let ty = type_at c.args.mint.now c.args.id in
-    let there = arms_there c.args.path.now ty (type_at c.args.mint.now c.in-Some.part) _ (mint_arms us c.in-Some-Choice.arms c.in-Some-Choice.other) (c.in-Some.ensures.is ∙ ap (λ (p : List ℕ). ty_at p ty) c.as_slice.ensures) (c.in-Some-Choice.ensures.is ∙ ap (level us) c.in-Some-Choice.field-0-is) in
-    let ready = typed (arms_at c.args.path.now ty) (λ arms. CasesReady c.args.enc arms (cases_seen c.args.cases.now c.args.last.now)) (mint_arms us c.in-Some-Choice.arms c.in-Some-Choice.other) there c.requires.ready in
-    (omega (arith, c.in-Some.ensures.below), (omega (arith, c.requires.id, c.in-Some.ensures.below), (search rules, (arms-ready c.args.enc us c.in-Some-Choice.arms c.in-Some-Choice.other c.args.cases.now c.args.last.now ready).1)))
+    let there = arms_there c.args.path.now ty (type_at c.args.mint.now c.in-Some.part) _
+    (mint_arms us c.in-Some-Choice.arms c.in-Some-Choice.other)
+    (c.in-Some.ensures.is ∙ ap (λ (p : List ℕ). ty_at p ty) c.as_slice.ensures)
+    (c.in-Some-Choice.ensures.is ∙ ap (level us) c.in-Some-Choice.field-0-is) in
+    let ready = typed (arms_at c.args.path.now ty) (λ arms. CasesReady c.args.enc arms (cases_seen c.args.cases.now c.args.last.now))
+    (mint_arms us c.in-Some-Choice.arms c.in-Some-Choice.other) there c.requires.ready in (
+      omega (arith, c.in-Some.ensures.below),
+      (
+        omega (arith, c.requires.id, c.in-Some.ensures.below),
+        (search rules, (arms-ready c.args.enc us c.in-Some-Choice.arms c.in-Some-Choice.other c.args.cases.now c.args.last.now ready).1),
+      ),
+    )
 
 pub switch_bodies-returns : goal.switch_bodies-returns
 switch_bodies-returns t c =
     let us = unfolded c.args.mint.now in
     let ty = type_at c.args.mint.now c.args.id in
-    let there = arms_there c.args.path.now ty (type_at c.args.mint.now c.in-Some.part) _ (mint_arms us c.in-Some-Choice.arms c.in-Some-Choice.other) (c.in-Some.ensures.is ∙ ap (λ (p : List ℕ). ty_at p ty) c.as_slice.ensures) (c.in-Some-Choice.ensures.is ∙ ap (level us) c.in-Some-Choice.field-0-is) in
-    cases-rowed c.args.enc us c.in-Some-Choice.arms c.in-Some-Choice.other c.args.cases.now c.in_ok-bodies.bodies c.args.last.now c.in_ok-rest.rest c.in_ok-bodies.ensures c.in_ok-rest.ensures
-    ∙ by_typed (arms_at c.args.path.now ty) (cases_seen c.args.cases.now c.args.last.now) (λ arms. cases_rowed c.args.enc arms (cases_seen c.args.cases.now c.args.last.now)) (mint_arms us c.in-Some-Choice.arms c.in-Some-Choice.other) there
+    let there = arms_there c.args.path.now ty (type_at c.args.mint.now c.in-Some.part) _
+    (mint_arms us c.in-Some-Choice.arms c.in-Some-Choice.other)
+    (c.in-Some.ensures.is ∙ ap (λ (p : List ℕ). ty_at p ty) c.as_slice.ensures)
+    (c.in-Some-Choice.ensures.is ∙ ap (level us) c.in-Some-Choice.field-0-is) in
+    cases-rowed c.args.enc us c.in-Some-Choice.arms c.in-Some-Choice.other c.args.cases.now c.in_ok-bodies.bodies c.args.last.now
+    c.in_ok-rest.rest c.in_ok-bodies.ensures c.in_ok-rest.ensures
+    ∙ by_typed (arms_at c.args.path.now ty) (cases_seen c.args.cases.now c.args.last.now)
+    (λ arms. cases_rowed c.args.enc arms (cases_seen c.args.cases.now c.args.last.now))
+    (mint_arms us c.in-Some-Choice.arms c.in-Some-Choice.other) there
