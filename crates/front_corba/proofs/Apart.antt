@@ -21,7 +21,8 @@ any_twin : (i : Interface) (is : List Interface) → list_any (λ j. twins j (pl
 any_twin i is = sym (any_map (λ j. twins j (plain_interface i)) plain_interface is)
 
 turned : (a b : List ℕ) → bytes_eq a b ≡ bytes_eq b a
-turned a b = one_answer (bytes_eq a b) (bytes_eq b a) (bytes_eq-Decides a b) (let d = bytes_eq-Decides b a in (λ t. sym (d.0 t), λ e. d.1 (sym e)))
+turned a b = one_answer (bytes_eq a b) (bytes_eq b a) (bytes_eq-Decides a b)
+    (let d = bytes_eq-Decides b a in (λ t. sym (d.0 t), λ e. d.1 (sym e)))
 
 not_both : (a b : Bool) → a ≡ false → (a && b) ≡ false
 not_both true b h = absurd cc
@@ -36,14 +37,16 @@ head_same : (x y : PlainInterface) (xs ys : List PlainInterface) → x ∷ xs �
 head_same x y xs ys h = (cc h, cc h)
 
 -- two interfaces of different names and places
-two_apart : (k place : ℕ) (i j : PlainOffering) → k < place → bytes_eq j.name i.name ≡ false → twins (interface k i) (interface place j) ≡ false
+two_apart : (k place : ℕ) (i j : PlainOffering) → k < place → bytes_eq j.name i.name ≡ false
+    → twins (interface k i) (interface place j) ≡ false
 two_apart k place i j lt h =
     let other : (536870912 + k == 536870912 + place) ≡ false = ne_eqb (536870912 + k) (536870912 + place) (λ e. omega (arith, lt, e)) in
     or_from _ _ (turned i.name j.name ∙ h) (not_both (536870912 + k == 536870912 + place) true other)
 
 -- an interface and one of those behind it
 later : (k place : ℕ) (i : PlainOffering) (is : List PlainOffering) (xs ys : List PlainInterface) (y : PlainInterface)
-    → xs ++ y ∷ ys ≡ interfaces place is → k < place → list_any (λ m. bytes_eq m i.name) (full_names is) ≡ false → twins (interface k i) y ≡ false
+    → xs ++ y ∷ ys ≡ interfaces place is → k < place → list_any (λ m. bytes_eq m i.name) (full_names is) ≡ false
+    → twins (interface k i) y ≡ false
 later k place i [] [] ys y e lt h = absurd cc
 later k place i [] (x ∷ xs) ys y e lt h = absurd cc
 later k place i (j ∷ is) [] ys y e lt h =
@@ -68,5 +71,6 @@ none_before k (i ∷ is) (x ∷ xs) ys y e h =
 
 -- the same in the unit
 pub none_twice : (is : List PlainOffering) (others : List Interface) (i : Interface) (ys : List PlainInterface)
-    → map plain_interface others ++ plain_interface i ∷ ys ≡ interfaces 0 is → are_distinct (full_names is) ≡ true → is_twice i others ≡ false
+    → map plain_interface others ++ plain_interface i ∷ ys ≡ interfaces 0 is → are_distinct (full_names is) ≡ true
+    → is_twice i others ≡ false
 none_twice is others i ys e h = sym (any_twin i others) ∙ none_before 0 is (map plain_interface others) ys (plain_interface i) e h

@@ -73,7 +73,8 @@ enum_grows d env s out e h =
     let none : Items = record { names = s.names; labels = s.labels; items = [] } in
     let a = then_ok (refused_by d (lower_of (clash s.names (innermost env) e.name.name) (item_clash e.name.name e.items))) _ out h in
     let b = then_ok (items_on d (innermost env) k (length s.labels) none e.items) _ out a.rest in
-    typed_grows d env e.name.name (enumeration b.given.items) (tag.Enum k) None (record s { names = b.given.names; labels = b.given.labels }) out b.rest
+    typed_grows d env e.name.name (enumeration b.given.items) (tag.Enum k) None
+    (record s { names = b.given.names; labels = b.given.labels }) out b.rest
 
 union_grows : (d : ℕ) (env : List (List ℕ)) (s out : State) (u : Union) → union_on d env s u ≡ Ok out → Grows s out
 union_grows d env s out u h =
@@ -91,7 +92,8 @@ alias_grows d env f s out x h =
     let b = then_ok (lengths_on s.names env d [] x.dimensions) _ out a.rest in
     typed_grows d env x.name.name (form_shape f b.given) (form_tag f b.given) (form_text f b.given) s out b.rest
 
-aliases_grow : (d : ℕ) (env : List (List ℕ)) (f : Form) (s out : State) (xs : List Declarator) → aliases_on d env f s xs ≡ Ok out → Grows s out
+aliases_grow : (d : ℕ) (env : List (List ℕ)) (f : Form) (s out : State) (xs : List Declarator) → aliases_on d env f s xs ≡ Ok out
+    → Grows s out
 aliases_grow d env f s out [] h = subst (Grows s) (ok_same s out h) (omega arith)
 aliases_grow d env f s out (x ∷ xs) h =
     let a = then_ok (alias_on d env f s x) _ out h in

@@ -1,3 +1,4 @@
+pub mod Indexing
 pub mod Getting
 pub mod Copying
 pub mod Growing

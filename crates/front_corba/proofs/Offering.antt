@@ -80,12 +80,14 @@ seated_grow low high os le h =
     let same : length os ≤ length os = omega arith in
     record { ops = offers_grow low high (length os) (length os) os le same h.ops; few = h.few }
 
-offers_push : (limit slots : ℕ) (os : List PlainOffer) (o : PlainOffer) → OffersAre limit slots os → OperationIs limit o.operation → o.operation.slot < slots → OffersAre limit slots (os ++ o ∷ [])
+offers_push : (limit slots : ℕ) (os : List PlainOffer) (o : PlainOffer) → OffersAre limit slots os → OperationIs limit o.operation
+    → o.operation.slot < slots → OffersAre limit slots (os ++ o ∷ [])
 offers_push limit slots [] o h is below = (is, (below, tt))
 offers_push limit slots (p ∷ os) o h is below = (h.0, (h.1.0, offers_push limit slots os o h.1.1 is below))
 
 -- an operation behind the others
-pub added_is : (limit d home : ℕ) (o : PlainOperation) (ops out : List PlainOffer) → SeatedAre limit ops → OperationIs limit o → added_on d home o ops ≡ Ok out → SeatedAre limit out
+pub added_is : (limit d home : ℕ) (o : PlainOperation) (ops out : List PlainOffer) → SeatedAre limit ops → OperationIs limit o
+    → added_on d home o ops ≡ Ok out → SeatedAre limit out
 added_is limit d home o ops out are is h =
     let a = then_ok (refused Limit d (nat_le 256 (length ops))) _ out h in
     let room = leb-false 256 (length ops) (refused_ok Limit d _ a.given a.first) in
@@ -94,9 +96,11 @@ added_is limit d home o ops out are is h =
     let same : limit ≤ limit = omega arith in
     let more : length ops ≤ length (ops ++ last ∷ []) = omega (arith, count) in
     let below : length ops < length (ops ++ last ∷ []) = omega (arith, count) in
-    let one : OperationIs limit (at_place (length ops) o) = record { ins = is.ins; outs = is.outs; result = is.result; raises = is.raises; few = is.few } in
+    let one : OperationIs limit (at_place (length ops) o) = record
+    { ins = is.ins; outs = is.outs; result = is.result; raises = is.raises; few = is.few } in
     subst (SeatedAre limit) (ok_same (ops ++ last ∷ []) out a.rest) (record {
-      ops = offers_push limit (length (ops ++ last ∷ [])) ops last (offers_grow limit limit (length ops) (length (ops ++ last ∷ [])) ops same more are.ops) one below;
+      ops = offers_push limit (length (ops ++ last ∷ [])) ops last
+          (offers_grow limit limit (length ops) (length (ops ++ last ∷ [])) ops same more are.ops) one below;
       few = omega (arith, count, room);
     })
 
@@ -107,7 +111,8 @@ inherited_by : (b : Bool) (limit d : ℕ) (o : PlainOffer) (ops out : List Plain
 inherited_by true limit d o ops out are is h = subst (SeatedAre limit) (ok_same ops out h) are
 inherited_by false limit d o ops out are is h = added_is limit d o.home o.operation ops out are is h
 
-pub inherited_are : (limit slots d : ℕ) (ops out base : List PlainOffer) → SeatedAre limit ops → OffersAre limit slots base → inherited_on d ops base ≡ Ok out → SeatedAre limit out
+pub inherited_are : (limit slots d : ℕ) (ops out base : List PlainOffer) → SeatedAre limit ops → OffersAre limit slots base
+    → inherited_on d ops base ≡ Ok out → SeatedAre limit out
 inherited_are limit slots d ops out [] are is h = subst (SeatedAre limit) (ok_same ops out h) are
 inherited_are limit slots d ops out (o ∷ base) are is h =
     let a = then_ok (inherited d ops o) _ out h in
@@ -118,7 +123,8 @@ inherited_are limit slots d ops out (o ∷ base) are is h =
 abbrev Field : Type 0
 Field = List ℕ × Shape
 
-field_with : (b : Bool) (limit : ℕ) (fields : List Field) (f : Field) → are_plain limit (members_of fields) ≡ true → is_plain limit f.1 ≡ true → are_plain limit (members_of (with_field b fields f)) ≡ true
+field_with : (b : Bool) (limit : ℕ) (fields : List Field) (f : Field) → are_plain limit (members_of fields) ≡ true
+    → is_plain limit f.1 ≡ true → are_plain limit (members_of (with_field b fields f)) ≡ true
 field_with true limit fields f are is = plain_push limit fields f are is
 field_with false limit fields f are is = are
 
@@ -127,7 +133,8 @@ record ParametersAre (types : List Shape) (labels : List (ℕ × ℤ)) (ps : Par
   ins : are_plain (length types) (members_of ps.ins) ≡ true
   outs : are_plain (length types) (members_of ps.outs) ≡ true
 
-parameter_is : (types : List Shape) (labels : List (ℕ × ℤ)) (env : List (List ℕ)) (d : ℕ) (ps out : Parameters) (p : Parameter) → ParametersAre types labels ps → parameter_on env d ps p ≡ Ok out → ParametersAre types labels out
+parameter_is : (types : List Shape) (labels : List (ℕ × ℤ)) (env : List (List ℕ)) (d : ℕ) (ps out : Parameters) (p : Parameter)
+    → ParametersAre types labels ps → parameter_on env d ps p ≡ Ok out → ParametersAre types labels out
 parameter_is types labels env d ps out p is h =
     let name = p.name.name in
     let a = then_ok (type_form ps.names env d p.of.0 p.of.1) _ out h in
@@ -136,14 +143,16 @@ parameter_is types labels env d ps out p is h =
     let plain = form_plain types labels a.given [] form refl in
     let one = declared_ok d ps.names (innermost env) name M.Other b.given b.first in
     let f : Field = (name, form_shape a.given []) in
-    let made : Parameters = record { names = b.given; ins = with_field (goes_in p.direction) ps.ins f; outs = with_field (comes_out p.direction) ps.outs f } in
+    let made : Parameters =
+    record { names = b.given; ins = with_field (goes_in p.direction) ps.ins f; outs = with_field (comes_out p.direction) ps.outs f } in
     subst (ParametersAre types labels) (ok_same made out b.rest) (record {
       scope = declared_is types labels ps.names (innermost env) name M.Other b.given is.scope tt one;
       ins = field_with (goes_in p.direction) (length types) ps.ins f is.ins plain;
       outs = field_with (comes_out p.direction) (length types) ps.outs f is.outs plain;
     })
 
-parameters_are : (types : List Shape) (labels : List (ℕ × ℤ)) (env : List (List ℕ)) (d : ℕ) (ps out : Parameters) (list : List Parameter) → ParametersAre types labels ps → parameters_on env d ps list ≡ Ok out
+parameters_are : (types : List Shape) (labels : List (ℕ × ℤ)) (env : List (List ℕ)) (d : ℕ) (ps out : Parameters) (list : List Parameter)
+    → ParametersAre types labels ps → parameters_on env d ps list ≡ Ok out
     → ParametersAre types labels out
 parameters_are types labels env d ps out [] is h = subst (ParametersAre types labels) (ok_same ps out h) is
 parameters_are types labels env d ps out (p ∷ list) is h =
@@ -165,12 +174,14 @@ record RaisedAre (limit : ℕ) (raises : List PlainRaise) : Type 0 where
   are : RaisesAre limit raises
   few : length raises ≤ 4095
 
-raise_with : (limit : ℕ) (raises : List PlainRaise) (e : Option PlainRaise) → RaisedAre limit raises → length raises < 4095 → IfRaise limit e → RaisedAre limit (with_raise raises e)
+raise_with : (limit : ℕ) (raises : List PlainRaise) (e : Option PlainRaise) → RaisedAre limit raises → length raises < 4095
+    → IfRaise limit e → RaisedAre limit (with_raise raises e)
 raise_with limit raises None h room is = h
 raise_with limit raises (Some e) h room is =
     let count = length-append raises (e ∷ []) in record { are = raises_push limit raises e h.are is; few = omega (arith, count, room) }
 
-raises_are : (limit : ℕ) (s : Names) (es : List PlainRaise) (env : List (List ℕ)) (d : ℕ) (raises out : List PlainRaise) (list : List Reference) → RaisesAre limit es → RaisedAre limit raises
+raises_are : (limit : ℕ) (s : Names) (es : List PlainRaise) (env : List (List ℕ)) (d : ℕ) (raises out : List PlainRaise)
+    (list : List Reference) → RaisesAre limit es → RaisedAre limit raises
     → raises_on s es env d raises list ≡ Ok out → RaisedAre limit out
 raises_are limit s es env d raises out [] all is h = subst (RaisedAre limit) (ok_same raises out h) is
 raises_are limit s es env d raises out (r ∷ list) all is h =
@@ -179,7 +190,8 @@ raises_are limit s es env d raises out (r ∷ list) all is h =
     let c = then_ok (refused Limit d (nat_le 4095 (length raises))) _ a.given b.rest in
     let room = leb-false 4095 (length raises) (refused_ok Limit d _ c.given c.first) in
     let one = raise_with limit raises (slice_get es b.given) is room (raise_there limit es b.given all) in
-    raises_are limit s es env d a.given out list all (subst (RaisedAre limit) (ok_same (with_raise raises (slice_get es b.given)) a.given c.rest) one) a.rest
+    raises_are limit s es env d a.given out list all
+    (subst (RaisedAre limit) (ok_same (with_raise raises (slice_get es b.given)) a.given c.rest) one) a.rest
 
 -- ---- an interface so far
 
@@ -187,15 +199,18 @@ pub record BodyIs (b : Body) : Type 0 where
   pub state : StateIs b.state
   pub ops : SeatedAre (length (shapes_of b.state)) b.ops
 
-result_is : (types : List Shape) (labels : List (ℕ × ℤ)) (s : Names) (env : List (List ℕ)) (d : ℕ) (t : Option (List (Option Tree) × Base)) (r : Shape) → ScopeIs types labels s → result_of s env d t ≡ Ok r → ResultIs (length types) r
+result_is : (types : List Shape) (labels : List (ℕ × ℤ)) (s : Names) (env : List (List ℕ)) (d : ℕ)
+    (t : Option (List (Option Tree) × Base)) (r : Shape) → ScopeIs types labels s → result_of s env d t ≡ Ok r → ResultIs (length types) r
 result_is types labels s env d None r is h = inl (sym (ok_same void r h))
 result_is types labels s env d (Some t) r is h =
     let a = then_ok (type_form s env d t.0 t.1) _ r h in
     let form = form_is types labels s env d t.0 t.1 a.given is a.first in
-    inr (subst (λ z. is_plain (length types) z ≡ true) (ok_same (form_shape a.given []) r a.rest) (form_plain types labels a.given [] form refl))
+    inr (subst (λ z. is_plain (length types) z ≡ true) (ok_same (form_shape a.given []) r a.rest)
+    (form_plain types labels a.given [] form refl))
 
 -- an operation, whose name is declared, behind the others
-offered_is : (d : ℕ) (scope : List ℕ) (home : ℕ) (b out : Body) (o : PlainOperation) → BodyIs b → OperationIs (length (shapes_of b.state)) o → offered_on d scope home b o ≡ Ok out → BodyIs out
+offered_is : (d : ℕ) (scope : List ℕ) (home : ℕ) (b out : Body) (o : PlainOperation) → BodyIs b
+    → OperationIs (length (shapes_of b.state)) o → offered_on d scope home b o ≡ Ok out → BodyIs out
 offered_is d scope home b out o is one h =
     let s = b.state in
     let a = then_ok (declared_on d s.names scope o.name M.Other) _ out h in
@@ -225,7 +240,8 @@ pub record Goes (b out : Body) : Type 0 where
   pub same : Same b out
 
 -- the result of an operation that may be declared
-judged_of : (d : ℕ) (env : List (List ℕ)) (s : Names) (ops : List PlainOffer) (o : Operation) (r : Shape) → judged_on d env s ops o ≡ Ok r → result_of s env d o.result ≡ Ok r
+judged_of : (d : ℕ) (env : List (List ℕ)) (s : Names) (ops : List PlainOffer) (o : Operation) (r : Shape) → judged_on d env s ops o ≡ Ok r
+    → result_of s env d o.result ≡ Ok r
 judged_of d env s ops o r h =
     let a = then_ok (refused Oneway d (o.oneway && gives_back o)) _ r h in
     let c = then_ok (result_of s env d o.result) _ r a.rest in
@@ -233,7 +249,8 @@ judged_of d env s ops o r h =
     let f = then_ok (refused Limit d (nat_le 256 (length ops))) _ r e.rest in
     subst (λ z. result_of s env d o.result ≡ Ok z) (ok_same c.given r f.rest) c.first
 
-pub operation_is : (d : ℕ) (env : List (List ℕ)) (home : ℕ) (b out : Body) (o : Operation) → BodyIs b → operation_on d env home b o ≡ Ok out → Goes b out
+pub operation_is : (d : ℕ) (env : List (List ℕ)) (home : ℕ) (b out : Body) (o : Operation) → BodyIs b
+    → operation_on d env home b o ≡ Ok out → Goes b out
 operation_is d env home b out o is h =
     let s = b.state in
     let types = shapes_of s in
@@ -248,16 +265,21 @@ operation_is d env home b out o is h =
     let start : ParametersAre types s.labels none = record { scope = is.state.scope; ins = refl; outs = refl } in
     let ps = parameters_are types s.labels (inside name env) d none g.given o.parameters start g.first in
     let empty : RaisedAre (length types) nothing = record { are = tt; few = omega arith } in
-    let rs = raises_are (length types) g.given.names s.exceptions (inside name env) d nothing i.given o.raises is.state.exceptions empty i.first in
+    let rs = raises_are (length types) g.given.names s.exceptions (inside name env) d nothing i.given o.raises is.state.exceptions empty
+    i.first in
     let mid = with_names g.given.names b in
     let made = operation_of o g.given.ins g.given.outs j.given i.given in
     let one : OperationIs (length types) made = record { ins = ps.ins; outs = ps.outs; result = result; raises = rs.are; few = rs.few } in
     let mid_is : BodyIs mid = record { state = names_is s g.given.names is.state ps.scope; ops = is.ops } in
     let pair : Names × PlainOperation = (g.given.names, made) in
     let last : offered_on d (innermost env) home mid made ≡ Ok out =
-    subst (λ (z : Names × PlainOperation). offered_on d (innermost env) home (with_names z.0 b) z.1 ≡ Ok out) (sym (ok_same pair k.given i.rest)) k.rest in
+    subst (λ (z : Names × PlainOperation). offered_on d (innermost env) home (with_names z.0 b) z.1 ≡ Ok out)
+    (sym (ok_same pair k.given i.rest)) k.rest in
     let same = offered_same d (innermost env) home mid out made last in
-    record { is = offered_is d (innermost env) home mid out made mid_is one last; same = record { types = same.types; labels = same.labels } }
+    record {
+      is = offered_is d (innermost env) home mid out made mid_is one last;
+      same = record { types = same.types; labels = same.labels };
+    }
 
 -- ---- attributes
 
@@ -280,7 +302,8 @@ same_as b = record { types = refl; labels = refl }
 same_then : (a b c : Body) → Same a b → Same b c → Same a c
 same_then a b c first more = record { types = more.types ∙ first.types; labels = more.labels ∙ first.labels }
 
-setter_by : (readonly : Bool) (d : ℕ) (scope : List ℕ) (home : ℕ) (f : Form) (b out : Body) (x : List ℕ) → BodyIs b → FormOf b f → setter_on d scope home readonly f b x ≡ Ok out → Goes b out
+setter_by : (readonly : Bool) (d : ℕ) (scope : List ℕ) (home : ℕ) (f : Form) (b out : Body) (x : List ℕ) → BodyIs b → FormOf b f
+    → setter_on d scope home readonly f b x ≡ Ok out → Goes b out
 setter_by true d scope home f b out x is form h = subst (Goes b) (ok_same b out h) (record { is = is; same = same_as b })
 setter_by false d scope home f b out x is form h =
     let types = shapes_of b.state in
@@ -288,7 +311,8 @@ setter_by false d scope home f b out x is form h =
     let one = setter_is (length types) x (form_shape f []) (form_plain types b.state.labels f [] form refl) in
     record { is = offered_is d scope home b out set is one h; same = offered_same d scope home b out set h }
 
-attribute_is : (d : ℕ) (scope : List ℕ) (home : ℕ) (readonly : Bool) (f : Form) (b out : Body) (x : List ℕ) → BodyIs b → FormOf b f → attribute_on d scope home readonly f b x ≡ Ok out → Goes b out
+attribute_is : (d : ℕ) (scope : List ℕ) (home : ℕ) (readonly : Bool) (f : Form) (b out : Body) (x : List ℕ) → BodyIs b → FormOf b f
+    → attribute_on d scope home readonly f b x ≡ Ok out → Goes b out
 attribute_is d scope home readonly f b out x is form h =
     let s = b.state in
     let types = shapes_of s in
@@ -298,7 +322,11 @@ attribute_is d scope home readonly f b out x is form h =
     let mid : Body = record b { state = record s { names = c.given } } in
     let get = getter x (form_shape f []) in
     let e = then_ok (offered_on d scope home mid get) _ out c.rest in
-    let mid_is : BodyIs mid = record { state = names_is s c.given is.state (declared_is types s.labels s.names scope x M.Other c.given is.state.scope tt here); ops = is.ops } in
+    let mid_is : BodyIs mid =
+    record {
+      state = names_is s c.given is.state (declared_is types s.labels s.names scope x M.Other c.given is.state.scope tt here);
+      ops = is.ops;
+    } in
     let one = getter_is (length types) x (form_shape f []) (form_plain types s.labels f [] form refl) in
     let next = offered_is d scope home mid e.given get mid_is one e.first in
     let got = offered_same d scope home mid e.given get e.first in
@@ -306,7 +334,8 @@ attribute_is d scope home readonly f b out x is form h =
     let last = setter_by readonly d scope home f e.given out x next (form_same b e.given f same form) e.rest in
     record { is = last.is; same = same_then b e.given out same last.same }
 
-attribute_names_are : (d : ℕ) (scope : List ℕ) (home : ℕ) (readonly : Bool) (f : Form) (b out : Body) (xs : List Identifier) → BodyIs b → FormOf b f → attribute_names_on d scope home readonly f b xs ≡ Ok out → Goes b out
+attribute_names_are : (d : ℕ) (scope : List ℕ) (home : ℕ) (readonly : Bool) (f : Form) (b out : Body) (xs : List Identifier) → BodyIs b
+    → FormOf b f → attribute_names_on d scope home readonly f b xs ≡ Ok out → Goes b out
 attribute_names_are d scope home readonly f b out [] is form h = subst (Goes b) (ok_same b out h) (record { is = is; same = same_as b })
 attribute_names_are d scope home readonly f b out (x ∷ xs) is form h =
     let a = then_ok (attribute_on d scope home readonly f b x.name) _ out h in
@@ -314,7 +343,8 @@ attribute_names_are d scope home readonly f b out (x ∷ xs) is form h =
     let more = attribute_names_are d scope home readonly f a.given out xs one.is (form_same b a.given f one.same form) a.rest in
     record { is = more.is; same = same_then b a.given out one.same more.same }
 
-pub attributes_are : (d : ℕ) (env : List (List ℕ)) (home : ℕ) (b out : Body) (t : Attribute) → BodyIs b → attributes_on d env home b t ≡ Ok out → Goes b out
+pub attributes_are : (d : ℕ) (env : List (List ℕ)) (home : ℕ) (b out : Body) (t : Attribute) → BodyIs b
+    → attributes_on d env home b t ≡ Ok out → Goes b out
 attributes_are d env home b out t is h =
     let s = b.state in
     let a = then_ok (type_form s.names env d t.of.0 t.of.1) _ out h in

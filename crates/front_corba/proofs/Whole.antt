@@ -23,7 +23,8 @@ result_sound : (types : List Shape) (s : Shape) → ResultIs (length types) s �
 result_sound types s (inl e) = subst (λ z. or_void z (is_sound_type types (length types) z) ≡ true) (sym e) refl
 result_sound types s (inr h) = or_void_true s _ (plain_sound types (length types) s h)
 
-operation_sound : (types : List Shape) (slots : ℕ) (o : PlainOperation) → OperationIs (length types) o → o.slot < slots → is_sound_plain_operation types slots o ≡ true
+operation_sound : (types : List Shape) (slots : ℕ) (o : PlainOperation) → OperationIs (length types) o → o.slot < slots
+    → is_sound_plain_operation types slots o ≡ true
 operation_sound types slots o is below =
     let ins = members_sound types (length types) o.ins is.ins in
     let outs = members_sound types (length types) o.outs is.outs in
@@ -32,29 +33,36 @@ operation_sound types slots o is below =
     let raises = raises_sound types o.raises is.raises in
     and_from _ _ (and_from _ _ (and_from _ _ (and_from _ _ (and_from _ _ ins outs) result) few) raises) (lt-ltb o.slot slots below)
 
-operations_sound : (types : List Shape) (slots : ℕ) (os : List PlainOffer) → OffersAre (length types) slots os → list_all (is_sound_plain_operation types slots) (operations_of os) ≡ true
+operations_sound : (types : List Shape) (slots : ℕ) (os : List PlainOffer) → OffersAre (length types) slots os
+    → list_all (is_sound_plain_operation types slots) (operations_of os) ≡ true
 operations_sound types slots [] are = refl
-operations_sound types slots (o ∷ os) are = and_from _ _ (operation_sound types slots o.operation are.0 are.1.0) (operations_sound types slots os are.1.1)
+operations_sound types slots (o ∷ os) are = and_from _ _ (operation_sound types slots o.operation are.0 are.1.0)
+    (operations_sound types slots os are.1.1)
 
-interface_sound : (types : List Shape) (place : ℕ) (i : PlainOffering) → place < 64 → SeatedAre (length types) i.ops → is_sound_plain_interface types (interface place i) ≡ true
+interface_sound : (types : List Shape) (place : ℕ) (i : PlainOffering) → place < 64 → SeatedAre (length types) i.ops
+    → is_sound_plain_interface types (interface place i) ≡ true
 interface_sound types place i below is =
     let few = is.few in
     let ids : 1000 * (place + 1) + length i.ops + 100 ≤ 2 ^ 31 - 1 = omega (arith, below, few) in
     and_from _ _ (le-leb _ _ ids) (operations_sound types (length i.ops) i.ops is.ops)
 
-interfaces_sound : (types : List Shape) (place : ℕ) (is : List PlainOffering) → place + length is ≤ 64 → OfferingsAre (length types) is → list_all (is_sound_plain_interface types) (interfaces place is) ≡ true
+interfaces_sound : (types : List Shape) (place : ℕ) (is : List PlainOffering) → place + length is ≤ 64 → OfferingsAre (length types) is
+    → list_all (is_sound_plain_interface types) (interfaces place is) ≡ true
 interfaces_sound types place [] few are = refl
 interfaces_sound types place (i ∷ is) few are =
-    and_from _ _ (interface_sound types place i (omega (arith, few)) are.0) (interfaces_sound types (place + 1) is (omega (arith, few)) are.1)
+    and_from _ _ (interface_sound types place i (omega (arith, few)) are.0)
+    (interfaces_sound types (place + 1) is (omega (arith, few)) are.1)
 
 file_sound : (s : File) → FileIs s → is_sound_plain (unit_of s) ≡ true
 file_sound s is =
     let few = is.few in and_from _ _ is.state.types (interfaces_sound (shapes_of s.state) 0 s.interfaces (omega (arith, few)) is.offerings)
 
-pub resolved_sound : (tree : List Definition) (u : PlainUnit) → list_all is_whole_outermost tree ≡ true → resolved tree ≡ Ok u → is_sound_plain u ≡ true
+pub resolved_sound : (tree : List Definition) (u : PlainUnit) → list_all is_whole_outermost tree ≡ true → resolved tree ≡ Ok u
+    → is_sound_plain u ≡ true
 resolved_sound tree u whole h =
     let a = then_ok (definitions_on tree file start) _ u h in
-    subst (λ z. is_sound_plain z ≡ true) (ok_same (unit_of a.given) u a.rest) (file_sound a.given (definitions_keep tree whole file start a.given start_file a.first))
+    subst (λ z. is_sound_plain z ≡ true) (ok_same (unit_of a.given) u a.rest)
+    (file_sound a.given (definitions_keep tree whole file start a.given start_file a.first))
 
 pub unit_sound : (tree : List Definition) (u : Parts) → IsWhole tree → resolved tree ≡ Ok (plain u) → IsSound u
 unit_sound tree u whole h = sound_plain u ∙ resolved_sound tree (plain u) whole h
@@ -69,7 +77,8 @@ ops_few limit (i ∷ is) are = and_from _ _ (le-leb (length i.ops) 256 are.0.few
 fit : (tree : List Definition) (s : File) → IsWhole tree → definitions_on tree file start ≡ Ok s → are_fit s.interfaces ≡ true
 fit tree s whole h =
     let is = definitions_keep tree whole file start s start_file h in
-    and_from _ _ (and_from _ _ (le-leb (length s.interfaces) 64 is.few) is.apart) (ops_few (length (shapes_of s.state)) s.interfaces is.offerings)
+    and_from _ _ (and_from _ _ (le-leb (length s.interfaces) 64 is.few) is.apart)
+    (ops_few (length (shapes_of s.state)) s.interfaces is.offerings)
 
 -- the same of definitions that are walked from the scopes of the file and from nothing
 pub fit_after : (tree list : List Definition) (env : List (List ℕ)) (s out : File) → IsWhole tree → list ≡ tree → env ≡ file → s ≡ start

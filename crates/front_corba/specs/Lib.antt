@@ -1,5 +1,6 @@
 pub mod State
 pub mod Held
+pub mod Named
 pub mod Offers
 pub mod Bases
 pub mod Parameters

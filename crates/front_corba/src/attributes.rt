@@ -8,9 +8,9 @@ ghost use Rattle.front_corba.specs.Held.{plain_offer, body};
 ghost use Rattle.front_corba.specs.Attributes.{getter, setter, get_name, set_name, set_clash, attribute_clash, setter_on, attribute_on, attributes_on, attribute_names_on};
 
 use crate::copies::copy_name;
+use crate::named::Offers;
 use crate::offers::{lower_of, offer, own_clash, refuse_fault};
 use crate::parameters::field;
-use crate::state::{Offer, Offers};
 use crate::{NameErr, NameFault};
 use aoi::{Fields, Operation, Raises, Ty};
 use corba_exprs::Identifier;
@@ -80,7 +80,7 @@ fn set_clash(
     alloc: Global,
     scopes: &Scopes,
     scope: &[u8],
-    ops: &[Offer],
+    ops: &Offers,
     readonly: bool,
     name: &[u8],
 ) -> Result<Option<NameFault>, NoMemory>
@@ -98,7 +98,7 @@ fn attribute_clash(
     alloc: Global,
     scopes: &Scopes,
     scope: &[u8],
-    ops: &[Offer],
+    ops: &Offers,
     readonly: bool,
     name: &[u8],
 ) -> Result<Option<NameFault>, NoMemory>
@@ -155,7 +155,7 @@ fn attribute(
     ensures { Gives (λ _. body shapes.new ops.new) result
         (attribute_on d scope.now home readonly form.now (body shapes.old ops.old) name.now) }
 {
-    let clash = attribute_clash(alloc, &shapes.scopes, scope, ops.as_slice(), readonly, name)?;
+    let clash = attribute_clash(alloc, &shapes.scopes, scope, ops, readonly, name)?;
     refuse_fault(d, clash)?;
     shapes
         .scopes

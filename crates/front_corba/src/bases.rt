@@ -4,11 +4,12 @@ ghost use Rattle.std.specs.List.{list_any};
 ghost use Rattle.std.specs.Option.{option_map};
 ghost use Rattle.name_kit.specs.Answers.{Gives};
 ghost use Rattle.front_corba.specs.Held.{plain_offer, plain_offering, heirs, held};
-ghost use Rattle.front_corba.specs.Bases.{is_there, offer_clash, base_clash, inherited, inherited_on, joined_on, interface_at, new_base, base_on, bases_on};
+ghost use Rattle.front_corba.specs.Bases.{offer_clash, base_clash, inherited, inherited_on, joined_on, interface_at, new_base, base_on, bases_on};
 
 use crate::copies::copy_operation;
+use crate::named::Offers;
 use crate::offers::{add, lower_of, operation_clash, refuse_fault};
-use crate::state::{Heir, Offer, Offering, Offers, Resolver};
+use crate::state::{Heir, Offer, Offering, Resolver};
 use crate::{NameErr, NameFault};
 use corba_operations::Reference;
 use corba_scopes::{Entry, Meaning, prefix_of};
@@ -16,32 +17,18 @@ use kit_base::{Name, NoMemory};
 use name_kit::{add_number, has_number};
 use std::alloc::Global;
 
-/// Whether an operation is one of these.
-fn is_there(offer: &Offer, ops: &[Offer]) -> bool
-    ensures { result ≡ is_there (plain_offer offer.now) (map plain_offer ops.now) }
-{
-    for other in ops {
-        if other.home == offer.home
-            && other.operation.name.as_slice() == offer.operation.name.as_slice()
-        {
-            return true;
-        }
-    }
-    false
-}
-
 /// Why the operation of a base may not be beside these, or nothing.
-fn offer_clash(alloc: Global, ops: &[Offer], offer: &Offer) -> Result<Option<NameFault>, NoMemory>
+fn offer_clash(alloc: Global, ops: &Offers, offer: &Offer) -> Result<Option<NameFault>, NoMemory>
     ensures { IfOk result (λ f. f ≡ offer_clash (map plain_offer ops.now) (plain_offer offer.now)) }
 {
-    if is_there(offer, ops) {
+    if ops.is_there(alloc, offer)? {
         return Ok(None);
     }
     operation_clash(alloc, offer.operation.name.as_slice(), ops)
 }
 
 /// Why the operations of a base may not be beside these, or nothing.
-fn base_clash(alloc: Global, ops: &[Offer], base: &[Offer]) -> Result<Option<NameFault>, NoMemory>
+fn base_clash(alloc: Global, ops: &Offers, base: &[Offer]) -> Result<Option<NameFault>, NoMemory>
     ensures { IfOk result (λ f. f ≡ base_clash (map plain_offer ops.now) (map plain_offer base.now)) }
 {
     match base {
@@ -59,11 +46,11 @@ fn inherit_one(alloc: Global, d: u32, ops: &mut Offers, offer: &Offer) -> Result
     ensures { Gives (λ _. map plain_offer ops.new) result
         (inherited d (map plain_offer ops.old) (plain_offer offer.now)) }
 {
-    if is_there(offer, ops.as_slice()) {
+    if ops.is_there(alloc, offer)? {
         return Ok(());
     }
     let copy = copy_operation(alloc, &offer.operation)?;
-    add(d, offer.home, copy, ops)
+    add(alloc, d, offer.home, copy, ops)
 }
 
 /// Puts the operations of a base after the others, without those that are there.
@@ -86,7 +73,7 @@ fn join(alloc: Global, d: u32, ops: &mut Offers, base: Option<&Offering>) -> Res
         return Ok(());
     };
     let base = base.ops.as_slice();
-    refuse_fault(d, base_clash(alloc, ops.as_slice(), base)?)?;
+    refuse_fault(d, base_clash(alloc, ops, base)?)?;
     inherit(alloc, d, ops, base)
 }
 

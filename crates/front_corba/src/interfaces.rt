@@ -2,13 +2,15 @@
 ghost use Rattle.std.specs.Prelude.{◌≡◌, map};
 ghost use Rattle.name_kit.specs.Names.{has};
 ghost use Rattle.name_kit.specs.Answers.{Gives};
-ghost use Rattle.front_corba.specs.Held.{plain_offer, plain_offering, body, held};
+ghost use Rattle.front_corba.specs.Held.{plain_offer, plain_offering, body, heirs, held};
+ghost use Rattle.front_corba.specs.Bases.{bases_on};
 ghost use Rattle.front_corba.specs.Interfaces.{export_on, exports_on, opened_on, full_names, seat_on, heritage_on, entered_on, seated_on, interface_on};
 
 use crate::attributes::attributes;
 use crate::bases::bases;
+use crate::named::Offers;
 use crate::operations::operation;
-use crate::state::{Heir, Offering, Offers, Resolver};
+use crate::state::{Heir, Offering, Resolver};
 use crate::{NameErr, NameFault};
 use corba_interfaces::{Export, Interface};
 use corba_scopes::{Line, Meaning, Scopes, full_name, innermost, inside};
@@ -112,6 +114,23 @@ fn seat(
     Ok((place as u32, full))
 }
 
+/// What an interface has, with what it has of its bases after it.
+fn with_bases(
+    alloc: Global,
+    r: &Resolver,
+    env: &[Name],
+    d: u32,
+    mut heir: Heir,
+    i: &Interface,
+) -> Result<Heir, NameErr>
+    ensures { Gives heirs result (bases_on d env.now (held r.now) (heirs heir) i.now.bases) }
+{
+    match bases(alloc, r, env, d, &mut heir, i.bases.as_slice()) {
+        Ok(()) => Ok(heir),
+        Err(e) => Err(e),
+    }
+}
+
 /// The line of an interface's scope, and the operations of its bases.
 fn heritage(
     alloc: Global,
@@ -123,8 +142,8 @@ fn heritage(
     ensures { Gives (λ x. (x.0, map plain_offer x.1)) result (heritage_on d env.now (held r.now) i.now) }
 {
     let inner = inside(alloc, env, i.name.name.as_slice())?;
-    let mut heir = Heir::of(alloc, innermost(inner.as_slice()))?;
-    bases(alloc, r, env, d, &mut heir, i.bases.as_slice())?;
+    let heir = Heir::of(alloc, innermost(inner.as_slice()))?;
+    let heir = with_bases(alloc, r, env, d, heir, i)?;
     let Heir {
         numbers: _,
         line,

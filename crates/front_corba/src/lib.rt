@@ -6,6 +6,7 @@ mod attributes;
 mod bases;
 mod copies;
 mod interfaces;
+mod named;
 mod offers;
 mod operations;
 mod parameters;

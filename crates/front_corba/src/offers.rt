@@ -3,13 +3,13 @@ ghost use Rattle.std.specs.Prelude.{◌≡◌, ◌≤◌, map, IfOk};
 ghost use Rattle.kit_base.specs.Limits.{most_operations};
 ghost use Rattle.aoi.specs.Plain.{plain_operation};
 ghost use Rattle.name_kit.specs.Answers.{Gives};
-ghost use Rattle.name_kit.specs.Names.{has};
-ghost use Rattle.corba_scopes.specs.Names.{lower, refused_by};
+ghost use Rattle.corba_scopes.specs.Names.{refused_by};
 ghost use Rattle.corba_shapes.specs.Enums.{lower_of};
 ghost use Rattle.front_corba.specs.Held.{plain_offer, body};
-ghost use Rattle.front_corba.specs.Offers.{offer_names, operation_clash, own_clash, placed, added_on, offered_on};
+ghost use Rattle.front_corba.specs.Offers.{operation_clash, own_clash, placed, added_on, offered_on};
 
-use crate::state::{Offer, Offers};
+use crate::named::Offers;
+use crate::state::Offer;
 use crate::{NameErr, NameFault};
 use aoi::Operation;
 use corba_scopes::{Meaning, Scopes};
@@ -18,44 +18,19 @@ use kit_base::NoMemory;
 use kit_base::limits::MOST_OPERATIONS;
 use std::alloc::Global;
 
-/// Whether one of these operations has the name.
-fn has_name(name: &[u8], ops: &[Offer]) -> bool
-    ensures { result ≡ has name.now (offer_names (map plain_offer ops.now)) }
-{
-    for offer in ops {
-        if name == offer.operation.name.as_slice() {
-            return true;
-        }
-    }
-    false
-}
-
-/// Whether one of these operations has the name, in lower case.
-fn has_lower(alloc: Global, small: &[u8], ops: &[Offer]) -> Result<bool, NoMemory>
-    ensures { IfOk result (λ b. b ≡ has small.now (map lower (offer_names (map plain_offer ops.now)))) }
-{
-    for offer in ops {
-        let other = offer.operation.name.as_slice().to_ascii_lowercase(alloc)?;
-        if small == other.as_slice() {
-            return Ok(true);
-        }
-    }
-    Ok(false)
-}
-
 /// Why no operation may have a name beside these, or nothing.
 pub(crate) fn operation_clash(
     alloc: Global,
     name: &[u8],
-    ops: &[Offer],
+    ops: &Offers,
 ) -> Result<Option<NameFault>, NoMemory>
     ensures { IfOk result (λ f. f ≡ operation_clash name.now (map plain_offer ops.now)) }
 {
-    if has_name(name, ops) {
+    if ops.has_name(name) {
         return Ok(Some(NameFault::Twice));
     }
     let small = name.to_ascii_lowercase(alloc)?;
-    if has_lower(alloc, small.as_slice(), ops)? {
+    if ops.has_lower(small.as_slice()) {
         return Ok(Some(NameFault::CaseClash));
     }
     Ok(None)
@@ -90,7 +65,7 @@ pub(crate) fn own_clash(
     scopes: &Scopes,
     scope: &[u8],
     name: &[u8],
-    ops: &[Offer],
+    ops: &Offers,
 ) -> Result<Option<NameFault>, NoMemory>
     ensures { IfOk result (λ f. f ≡ own_clash scopes.now scope.now name.now (map plain_offer ops.now)) }
 {
@@ -110,7 +85,13 @@ fn placed(home: u32, mut operation: Operation, place: usize) -> Offer
 }
 
 /// Puts an operation after the others.
-pub(crate) fn add(d: u32, home: u32, operation: Operation, ops: &mut Offers) -> Result<(), NameErr>
+pub(crate) fn add(
+    alloc: Global,
+    d: u32,
+    home: u32,
+    operation: Operation,
+    ops: &mut Offers,
+) -> Result<(), NameErr>
     ensures { Gives (λ _. map plain_offer ops.new) result
         (added_on d home (plain_operation operation) (map plain_offer ops.old)) }
 {
@@ -121,7 +102,7 @@ pub(crate) fn add(d: u32, home: u32, operation: Operation, ops: &mut Offers) -> 
             decl: d,
         });
     }
-    ops.push(placed(home, operation, place))?;
+    ops.push(alloc, placed(home, operation, place))?;
     Ok(())
 }
 
@@ -141,5 +122,5 @@ pub(crate) fn offer(
     shapes
         .scopes
         .declare_new(alloc, d, scope, operation.name.as_slice(), Meaning::Other)?;
-    add(d, home, operation, ops)
+    add(alloc, d, home, operation, ops)
 }

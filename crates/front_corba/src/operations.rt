@@ -8,9 +8,9 @@ ghost use Rattle.front_corba.specs.Held.{plain_offer, body};
 ghost use Rattle.front_corba.specs.Operations.{gives_back, result_of, operation_of, judged_on, signed_on, operation_on};
 
 use crate::copies::copy_name;
+use crate::named::Offers;
 use crate::offers::{offer, own_clash, refuse_fault};
 use crate::parameters::{are_in, parameters, raises};
-use crate::state::{Offer, Offers};
 use crate::{NameErr, NameFault};
 use aoi::{Fields, Operation, Raises, Ty};
 use corba_operations::{Operation as OperationTree, Reference};
@@ -95,7 +95,7 @@ fn judged(
     scopes: &Scopes,
     env: &[Name],
     d: u32,
-    ops: &[Offer],
+    ops: &Offers,
     o: &OperationTree,
 ) -> Result<Ty, NameErr>
     ensures { Gives seen result (judged_on d env.now scopes.now (map plain_offer ops.now) o.now) }
@@ -150,7 +150,7 @@ pub(crate) fn operation(
     ensures { Gives (λ _. body shapes.new ops.new) result
         (operation_on d env.now home (body shapes.old ops.old) o.now) }
 {
-    let ty = judged(alloc, &shapes.scopes, env, d, ops.as_slice(), o)?;
+    let ty = judged(alloc, &shapes.scopes, env, d, ops, o)?;
     let inner = inside(alloc, env, o.name.name.as_slice())?;
     let inner = inner.as_slice();
     let made = signed(

@@ -3,6 +3,7 @@ ghost use Rattle.std.specs.Prelude.{◌≡◌, IfOk};
 ghost use Rattle.front_corba.specs.Held.{heirs, held};
 ghost use Rattle.front_corba.specs.State.{start, no_bases};
 
+use crate::named::Offers;
 use aoi::Operation;
 use corba_scopes::Line;
 use corba_shapes::Shapes;
@@ -18,9 +19,6 @@ pub(crate) struct Offer {
     /// The operation.
     pub(crate) operation: Operation,
 }
-
-/// Operations, in order.
-pub(crate) type Offers = Listed<Offer>;
 
 /// An interface.
 #[derive(Drop)]

@@ -9,5 +9,6 @@ abbrev pub invariant-loop-place : goal.invariant-loop-place
 invariant-loop-place l = record {
   types : (plain l.unit).types ≡ (plain l.initial.unit).types;
   count : length l.unit.interfaces ≡ l.place;
-  ahead : map plain_interface l.unit.interfaces ++ interfaces l.place (map plain_offering (drop l.place l.list)) ≡ interfaces 0 (map plain_offering l.list);
+  ahead : map plain_interface l.unit.interfaces ++ interfaces l.place (map plain_offering (drop l.place l.list))
+      ≡ interfaces 0 (map plain_offering l.list);
 }

@@ -1,0 +1,142 @@
+-- Sets of names beside the operations that have them.
+use Rattle.std.proofs.Common.{◌≡◌, ℕ, Bool, true, false, ◌&&◌, ◌||◌, ◌==◌, List, [], ◌∷◌, ◌++◌, map, refl, sym, ap, subst, ◌∙◌, if◌then◌else◌, Result, Ok, Err, IfOk}
+use Rattle.std.specs.List.{list_any}
+use Rattle.std.specs.Str.{bytes_eq}
+use Rattle.std.specs.Bool.{one_answer}
+use Rattle.std.proofs.Math.Bool.{or-false, or-true}
+use Rattle.std.proofs.lemmas.Bool.{and_parts}
+use Rattle.std.proofs.lemmas.Bool.Decides.{Decides-eqb}
+use Rattle.std.proofs.lemmas.List.Folds.{list_any-append}
+use Rattle.std.proofs.lemmas.Slice.Eq.{bytes_eq-Decides}
+use Rattle.name_kit.specs.Names.{has}
+use Rattle.name_kit.proofs.Tables.{any_map, append_map}
+use Rattle.corba_scopes.specs.Names.{lower}
+use Rattle.corba_scopes.specs.Finding.{added}
+use Rattle.indexmap.specs.IndexSet.{insert_key}
+use Rattle.front_corba.specs.declared.state.Offer.{Offer}
+use Rattle.front_corba.specs.Held.{plain_offer}
+use Rattle.front_corba.specs.Offers.{offer_names}
+use Rattle.front_corba.specs.Bases.{is_there}
+use Rattle.front_corba.specs.Named.{Origins, declares, with_origin, names_of, origins_of, IsIndex}
+
+-- ---- a set beside a list
+
+-- what a test finds in a list with one more
+any_after : {K : Type 0} (p : K → Bool) (ks : List K) (x : K) → list_any p (ks ++ x ∷ []) ≡ (list_any p ks || p x)
+any_after p ks x = list_any-append p ks (x ∷ []) ∙ ap (λ z. list_any p ks || z) (or-false (p x))
+
+module _ {K : Type 0} (eq : K → K → Bool) (same : (a b : K) → eq a b ≡ true → a ≡ b) (n x : K) (ks : List K) where
+  there : (b : Bool) → eq n x ≡ b → list_any (eq x) ks ≡ true → list_any (eq n) ks ≡ (list_any (eq n) ks || b)
+  there false e h = sym (or-false (list_any (eq n) ks))
+  there true e h = subst (λ z. list_any (eq z) ks ≡ true) (sym (same n x e)) h ∙ sym (or-true (list_any (eq n) ks))
+
+  more : (b : Bool) → list_any (eq x) ks ≡ b → list_any (eq n) (if b then ks else ks ++ x ∷ []) ≡ (list_any (eq n) ks || eq n x)
+  more true h = there (eq n x) refl h
+  more false h = any_after (eq n) ks x
+
+  -- a set that has what a list has does so when both take one more
+  pub both_more : (xs : List K) → list_any (eq n) ks ≡ list_any (eq n) xs
+      → list_any (eq n) (if list_any (eq x) ks then ks else ks ++ x ∷ []) ≡ list_any (eq n) (xs ++ x ∷ [])
+  both_more xs h = more (list_any (eq x) ks) refl ∙ ap (λ z. z || eq n x) h ∙ sym (any_after (eq n) xs x)
+
+-- ---- names, and names of interfaces
+
+abbrev same_origin : ℕ × List ℕ → ℕ × List ℕ → Bool
+same_origin a b = a.0 == b.0 && bytes_eq a.1 b.1
+
+name_is : (a b : List ℕ) → bytes_eq a b ≡ true → a ≡ b
+name_is a b h = (bytes_eq-Decides a b).0 h
+
+abbrev pair : ℕ → List ℕ → ℕ × List ℕ
+pair home name = (home, name)
+
+pair_is : (h k : ℕ) (a b : List ℕ) → h ≡ k → a ≡ b → pair h a ≡ pair k b
+pair_is h k a b e f = ap (λ z. pair z a) e ∙ ap (pair k) f
+
+origin_is : (a b : ℕ × List ℕ) → same_origin a b ≡ true → a ≡ b
+origin_is (h, a) (k, b) e = let p = and_parts (h == k) (bytes_eq a b) e in pair_is h k a b ((Decides-eqb h k).0 p.0) (name_is a b p.1)
+
+-- whether a set of names of interfaces has a key
+pub origin_found : {K : Type 0} (items : K → List ℕ) (keys : List (ℕ × K)) (home : ℕ) (key : K) (name : List ℕ) (old : Origins)
+    → items key ≡ name → map (λ k. (k.0, items k.1)) keys ≡ old
+    → list_any (λ b. home == b.0 && bytes_eq (items key) (items b.1)) keys ≡ declares home name old
+origin_found items keys home key name old is view =
+    let seen : Origins = map (λ k. (k.0, items k.1)) keys in
+    any_map (same_origin (home, items key)) (λ k. (k.0, items k.1)) keys
+    ∙ ap (λ z. declares home z seen) is ∙ ap (declares home name) view
+
+put_by : {K : Type 0} (items : K → List ℕ) (keys : List (ℕ × K)) (home : ℕ) (key : K) (b : Bool)
+    → map (λ k. pair k.0 (items k.1)) (if b then keys else keys ++ (home, key) ∷ [])
+    ≡ (if b then map (λ k. pair k.0 (items k.1)) keys else map (λ k. pair k.0 (items k.1)) keys ++ pair home (items key) ∷ [])
+put_by items keys home key true = refl
+put_by items keys home key false = append_map (λ k. pair k.0 (items k.1)) keys (home, key)
+
+-- what a set of names of interfaces has once a key is put in
+pub origin_put : {K : Type 0} (items : K → List ℕ) (keys new : List (ℕ × K)) (home : ℕ) (key : K) (name : List ℕ) (old : Origins)
+    → new ≡ insert_key (λ a b. a.0 == b.0 && bytes_eq (items a.1) (items b.1)) keys (home, key)
+    → items key ≡ name → map (λ k. (k.0, items k.1)) keys ≡ old
+    → map (λ k. (k.0, items k.1)) new ≡ with_origin home name old
+origin_put {K = K} items keys new home key name old made is view =
+    let seen : ℕ × K → ℕ × List ℕ = λ k. pair k.0 (items k.1) in
+    let test : ℕ × K → Bool = λ k. home == k.0 && bytes_eq (items key) (items k.1) in
+    ap (map seen) made ∙ put_by items keys home key (list_any test keys)
+    ∙ ap (λ z. if z then map seen keys else map seen keys ++ pair home (items key) ∷ [])
+    (any_map (same_origin (pair home (items key))) seen keys)
+    ∙ ap (λ z. with_origin home z (map seen keys)) is ∙ ap (with_origin home name) view
+
+-- ---- operations
+
+-- sets of names find what operations have once each takes one more
+pub one_more : (list : List Offer) (o : Offer) (names folded : List (List ℕ)) (origins : Origins) → IsIndex list names folded origins
+    → IsIndex (list ++ o ∷ []) (added o.operation.name names) (added (lower o.operation.name) folded)
+    (with_origin o.home o.operation.name origins)
+one_more list o names folded origins is =
+    let name = o.operation.name in
+    let all = append_map (λ (p : Offer). p.operation.name) list o in
+    record {
+      exact = λ n. both_more bytes_eq name_is n name names (names_of list) (is.exact n) ∙ ap (has n) (sym all);
+      small = λ n. both_more bytes_eq name_is n (lower name) folded (map lower (names_of list)) (is.small n)
+          ∙ ap (has n) (sym (ap (map lower) all ∙ append_map lower (names_of list) name));
+      origin = λ home n. both_more same_origin origin_is (home, n) (o.home, name) origins (origins_of list) (is.origin home n)
+          ∙ ap (declares home n) (sym (append_map (λ (p : Offer). (p.home, p.operation.name)) list o));
+    }
+
+-- the names of operations, as plain trees
+pub names_are : (list : List Offer) → names_of list ≡ offer_names (map plain_offer list)
+names_are [] = refl
+names_are (o ∷ os) = ap (λ z. o.operation.name ∷ z) (names_are os)
+
+number_turned : (a b : ℕ) → (a == b) ≡ (b == a)
+number_turned a b = one_answer (a == b) (b == a) (Decides-eqb a b) (let d = Decides-eqb b a in (λ t. sym (d.0 t), λ e. d.1 (sym e)))
+
+name_turned : (a b : List ℕ) → bytes_eq a b ≡ bytes_eq b a
+name_turned a b = one_answer (bytes_eq a b) (bytes_eq b a) (bytes_eq-Decides a b)
+    (let d = bytes_eq-Decides b a in (λ t. sym (d.0 t), λ e. d.1 (sym e)))
+
+origin_turned : (h k : ℕ) (a b : List ℕ) → (h == k && bytes_eq a b) ≡ (k == h && bytes_eq b a)
+origin_turned h k a b = ap (λ z. z && bytes_eq a b) (number_turned h k) ∙ ap (λ z. k == h && z) (name_turned a b)
+
+-- an operation is one of these where its interface declares its name
+pub origins_are : (home : ℕ) (name : List ℕ) (list : List Offer)
+    → declares home name (origins_of list) ≡ list_any (λ p. p.home == home && bytes_eq p.operation.name name) (map plain_offer list)
+origins_are home name [] = refl
+origins_are home name (o ∷ os) =
+    ap (λ z. z || declares home name (origins_of os)) (origin_turned home o.home name o.operation.name)
+    ∙ ap (λ z. (o.home == home && bytes_eq o.operation.name name) || z) (origins_are home name os)
+
+-- what is answered where an operation is sought by its interface and its name
+pub there_is : {E : Type 0} (o : Offer) (ops list : List Offer) (name : List ℕ) (names folded : List (List ℕ)) (origins : Origins)
+    (result : Result Bool E) → name ≡ o.operation.name → IsIndex list names folded origins → list ≡ ops
+    → IfOk result (λ b. b ≡ declares o.home name origins) → IfOk result (λ b. b ≡ is_there (plain_offer o) (map plain_offer ops))
+there_is o ops list name names folded origins (Err e) same is view h = tt
+there_is o ops list name names folded origins (Ok b) same is view h =
+    h ∙ is.origin o.home name ∙ ap (λ z. declares o.home z (origins_of list)) same ∙ origins_are o.home o.operation.name list
+    ∙ ap (λ z. is_there (plain_offer o) (map plain_offer z)) view
+
+-- sets that took one more each, beside operations that did
+pub indexed : (list list' : List Offer) (o : Offer) (names names' folded folded' : List (List ℕ)) (origins origins' : Origins) (name : List ℕ)
+    → name ≡ o.operation.name → IsIndex list names folded origins
+    → list' ≡ list ++ o ∷ [] → names' ≡ added name names → folded' ≡ added (lower name) folded
+    → origins' ≡ with_origin o.home name origins → IsIndex list' names' folded' origins'
+indexed list list' o names names' folded folded' origins origins' name same is a b c d =
+    rw (a, b, c, d, same) (one_more list o names folded origins is)

@@ -1,0 +1,205 @@
+// Operations that are found by their names.
+ghost use Rattle.std.specs.Prelude.{◌≡◌, [], ◌∷◌, ◌++◌, map, length, IfOk, OnOk};
+ghost use Rattle.name_kit.specs.Names.{has};
+ghost use Rattle.corba_scopes.specs.Names.{lower};
+ghost use Rattle.corba_scopes.specs.Finding.{added};
+ghost use Rattle.front_corba.specs.Held.{plain_offer};
+ghost use Rattle.front_corba.specs.Offers.{offer_names};
+ghost use Rattle.front_corba.specs.Bases.{is_there};
+ghost use Rattle.front_corba.specs.Named.{declares, with_origin};
+
+use crate::state::Offer;
+use indexmap::IndexSet;
+use kit_base::{Listed, NoMemory};
+use name_kit::Names;
+use std::alloc::Global;
+use std::marker::Model;
+use std::mem::replace;
+
+/// Names, each with the interface in which it is declared.
+#[derive(Drop)]
+struct Origins {
+    keys: IndexSet<(u32, Vec<u8>)>,
+}
+
+impl Model for Origins {
+    ghost use Rattle.std.specs.Prelude.{List, ℕ, map};
+    ghost use Rattle.std.specs.Coded.{codes};
+
+    ghost Value = { List (ℕ × List ℕ) };
+
+    ghost view = { λ s. map (λ k. (k.0, k.1.items)) s.keys.keys };
+}
+
+impl Origins {
+    /// No names.
+    fn new(alloc: Global) -> Origins
+        ensures { result ≡ [] }
+    {
+        Origins {
+            keys: IndexSet::new(alloc),
+        }
+    }
+
+    /// Whether an interface declares the name.
+    fn has(&self, alloc: Global, home: u32, name: &[u8]) -> Result<bool, NoMemory>
+        ensures { IfOk result (λ b. b ≡ declares home name.now self.now) }
+    {
+        let key = (home, Vec::from_slice(alloc, name)?);
+        Ok(self.keys.contains(&key))
+    }
+
+    /// Puts a name of an interface after the others, unless it is there.
+    fn add(&mut self, alloc: Global, home: u32, name: &[u8]) -> Result<(), NoMemory>
+        ensures { OnOk result (self.new ≡ with_origin home name.now self.old) }
+    {
+        let key = (home, Vec::from_slice(alloc, name)?);
+        self.keys.insert(key)?;
+        Ok(())
+    }
+}
+
+/// Puts a name after the others, unless it is there.
+fn mark(alloc: Global, names: &mut Names, name: &[u8]) -> Result<(), NoMemory>
+    ensures { OnOk result (names.new ≡ added name.now names.old) }
+{
+    if names.has(name) {
+        return Ok(());
+    }
+    names.push(alloc, name)
+}
+
+/// Puts the name of an operation into each set.
+fn index(
+    alloc: Global,
+    names: &mut Names,
+    folded: &mut Names,
+    origins: &mut Origins,
+    home: u32,
+    name: &[u8],
+) -> Result<(), NoMemory>
+    ensures exact { OnOk result (names.new ≡ added name.now names.old) }
+    ensures small { OnOk result (folded.new ≡ added (lower name.now) folded.old) }
+    ensures origin { OnOk result (origins.new ≡ with_origin home name.now origins.old) }
+{
+    let small = name.to_ascii_lowercase(alloc)?;
+    mark(alloc, names, name)?;
+    mark(alloc, folded, small.as_slice())?;
+    origins.add(alloc, home, name)
+}
+
+/// The operations of an interface in order, found by their names.
+#[derive(Drop)]
+pub(crate) struct Offers {
+    list: Listed<Offer>,
+    /// Their names.
+    names: Names,
+    /// Their names in lower case.
+    folded: Names,
+    /// Where they are declared.
+    origins: Origins,
+}
+
+impl Model for Offers {
+    ghost use Rattle.std.specs.Prelude.{List};
+    ghost use Rattle.std.specs.Coded.{codes};
+    ghost use Rattle.aoi.specs.contracts.types.Ty as t;
+    ghost use Rattle.aoi.specs.contracts.types.Field as f;
+    ghost use Rattle.front_corba.specs.declared.state.Offer.{Offer};
+    ghost use Rattle.front_corba.specs.Named.{IsIndex};
+
+    ghost Value = { List Offer };
+
+    ghost coded = { Prim.hlevel (codes, t.the_row.coded, f.the_row.coded) };
+
+    ghost view = { λ s. s.list };
+
+    ghost invariant = { λ s. IsIndex s.list s.names s.folded s.origins };
+}
+
+impl Offers {
+    /// No operations.
+    pub(crate) fn new(alloc: Global) -> Offers
+        ensures { result ≡ [] }
+    {
+        Offers {
+            list: Listed::new(alloc),
+            names: Names::new(alloc),
+            folded: Names::new(alloc),
+            origins: Origins::new(alloc),
+        }
+    }
+
+    /// How many operations there are.
+    pub(crate) fn len(&self) -> usize
+        ensures { result ≡ length self.now }
+    {
+        self.list.len()
+    }
+
+    /// The operations.
+    pub(crate) fn as_slice(&self) -> &[Offer]
+        ensures { result.now ≡ self.now }
+    {
+        self.list.as_slice()
+    }
+
+    /// Whether an operation has the name.
+    pub(crate) fn has_name(&self, name: &[u8]) -> bool
+        ensures { result ≡ has name.now (offer_names (map plain_offer self.now)) }
+    {
+        self.names.has(name)
+    }
+
+    /// Whether an operation has the name, in lower case.
+    pub(crate) fn has_lower(&self, small: &[u8]) -> bool
+        ensures { result ≡ has small.now (map lower (offer_names (map plain_offer self.now))) }
+    {
+        self.folded.has(small)
+    }
+
+    /// Whether an operation is one of these.
+    pub(crate) fn is_there(&self, alloc: Global, offer: &Offer) -> Result<bool, NoMemory>
+        ensures { IfOk result (λ b. b ≡ is_there (plain_offer offer.now) (map plain_offer self.now)) }
+    {
+        self.origins
+            .has(alloc, offer.home, offer.operation.name.as_slice())
+    }
+
+    /// These, with an operation after them.
+    fn extended(self, alloc: Global, offer: Offer) -> Result<Offers, NoMemory>
+        ensures { IfOk result (λ r. r ≡ self ++ offer ∷ []) }
+    {
+        let Offers {
+            mut list,
+            mut names,
+            mut folded,
+            mut origins,
+        } = self;
+        let name = offer.operation.name.as_slice();
+        index(
+            alloc,
+            &mut names,
+            &mut folded,
+            &mut origins,
+            offer.home,
+            name,
+        )?;
+        list.push(offer)?;
+        Ok(Offers {
+            list,
+            names,
+            folded,
+            origins,
+        })
+    }
+
+    /// Puts an operation after the others.
+    pub(crate) fn push(&mut self, alloc: Global, offer: Offer) -> Result<(), NoMemory>
+        ensures ok { OnOk result (self.new ≡ self.old ++ offer ∷ []) }
+    {
+        let held = replace(self, Offers::new(alloc));
+        *self = held.extended(alloc, offer)?;
+        Ok(())
+    }
+}
