@@ -1,6 +1,6 @@
 -- What a copy of a union is seen as.
 use Rattle.std.proofs.Common.{◌≡◌, ℤ, List, Option, ap, sym, subst, ◌∙◌}
-use Rattle.std.specs.Prelude.{Result, Ok, Err, IfOk}
+use Rattle.std.specs.Prelude.{Result, IfOk}
 use Rattle.aoi.specs.declared.types.Ty.{Ty}
 use Rattle.aoi.specs.Shapes.{Shape, choice, seen, arms_of, default_of, arms_seen}
 use Rattle.name_kit.specs.Arms.{arms_held}

@@ -134,8 +134,8 @@ there_is o ops list name names folded origins (Ok b) same is view h =
     ∙ ap (λ z. is_there (plain_offer o) (map plain_offer z)) view
 
 -- sets that took one more each, beside operations that did
-pub indexed : (list list' : List Offer) (o : Offer) (names names' folded folded' : List (List ℕ)) (origins origins' : Origins) (name : List ℕ)
-    → name ≡ o.operation.name → IsIndex list names folded origins
+pub indexed : (list list' : List Offer) (o : Offer) (names names' folded folded' : List (List ℕ)) (origins origins' : Origins)
+    (name : List ℕ) → name ≡ o.operation.name → IsIndex list names folded origins
     → list' ≡ list ++ o ∷ [] → names' ≡ added name names → folded' ≡ added (lower name) folded
     → origins' ≡ with_origin o.home name origins → IsIndex list' names' folded' origins'
 indexed list list' o names names' folded folded' origins origins' name same is a b c d =

@@ -32,7 +32,7 @@ use Rattle.corba_shapes.proofs.Keeping.{shapes_of, StateIs, counted_is, names_is
 use Rattle.front_corba.specs.State.{PlainOffer, Body, with_names, Heirs, no_bases, PlainOffering, File, start, next}
 use Rattle.front_corba.specs.Bases.{base_clash, joined_on, interface_at, new_base, next_base, base_on, bases_on}
 use Rattle.front_corba.specs.Interfaces.{export_on, exports_on, opened_on, full_names, offering, seat_on, heritage_on, entered_on, seated_on, interface_on}
-use Rattle.front_corba.specs.Resolved.{is_module, begun_on, Walk, walks_on, module_level, definition_level, walk, module_walk, definitions_on, is_whole_export, is_whole_level, is_whole_definition, is_whole_outermost, IsWhole}
+use Rattle.front_corba.specs.Resolved.{is_module, begun_on, Walk, walks_on, module_level, definition_level, walk, module_walk, definitions_on, is_whole_export, is_whole_level, is_whole_definition, is_whole_outermost}
 use Rattle.front_corba.proofs.Growing.{Grows, declaration_grows}
 use Rattle.front_corba.proofs.Offering.{SeatedAre, seated_grow, inherited_are, BodyIs, Goes, operation_is, attributes_are}
 

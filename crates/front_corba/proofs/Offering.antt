@@ -1,12 +1,12 @@
 -- The operations of interfaces are sound.
-use Rattle.std.proofs.Common.{◌≡◌, ◌⊎◌, inl, inr, ℤ, ℕ, zero, suc, ◌+◌, ◌<◌, ◌≤◌, Bool, true, false, not, ◌&&◌, nat_le, List, [], ◌∷◌, ◌++◌, length, map, Option, Some, None, refl, sym, ap, subst, ◌∙◌, arith, if◌then◌else◌}
+use Rattle.std.proofs.Common.{◌≡◌, ◌⊎◌, inl, inr, ℤ, ℕ, zero, suc, ◌<◌, ◌≤◌, Bool, true, false, ◌&&◌, nat_le, List, [], ◌∷◌, ◌++◌, length, Option, Some, None, refl, sym, subst, ◌∙◌, arith, if◌then◌else◌}
 use Rattle.std.specs.Prelude.{Ok, slice_get}
 use Rattle.std.proofs.lemmas.Bool.{and_from, leb-false}
 use Rattle.std.proofs.lemmas.List.{length-append}
 use Rattle.aoi.specs.declared.faults.NameFault.TheVariants.{Limit, Oneway}
-use Rattle.aoi.specs.Shapes.{Shape, void, Members, no_more, member, members_of}
+use Rattle.aoi.specs.Shapes.{Shape, void, members_of}
 use Rattle.aoi.specs.Plain.{PlainRaise, PlainOperation}
-use Rattle.name_kit.specs.Answers.{Answer, refused}
+use Rattle.name_kit.specs.Answers.{refused}
 use Rattle.name_kit.proofs.Parts.{then_ok, refused_ok, ok_same}
 use Rattle.corba_exprs.specs.Trees.{Tree}
 use Rattle.corba_exprs.specs.declared.tree.Identifier.{Identifier}
@@ -21,14 +21,13 @@ use Rattle.corba_scopes.specs.Around.{innermost, inside}
 use Rattle.corba_scopes.specs.Finding.{named}
 use Rattle.corba_shapes.specs.declared.forms.Form.{Form}
 use Rattle.corba_shapes.specs.Forms.{type_form, form_shape}
-use Rattle.corba_shapes.specs.State.{State}
 use Rattle.corba_shapes.proofs.Lasting.{is_plain, are_plain, plain_grow, members_grow, plain_push, RaiseIs, RaisesAre, raises_grow, raises_push}
 use Rattle.corba_shapes.proofs.Standing.{ScopeIs, declared_ok, declared_is}
 use Rattle.corba_shapes.proofs.Shaping.{FormIs, form_is, form_plain}
 use Rattle.corba_shapes.proofs.Keeping.{shapes_of, StateIs, names_is}
 use Rattle.front_corba.specs.State.{PlainOffer, Body, with_names}
 use Rattle.front_corba.specs.Offers.{at_place, placed, added_on, offered_on, own_clash}
-use Rattle.front_corba.specs.Bases.{is_there, base_clash, inherited, inherited_on}
+use Rattle.front_corba.specs.Bases.{is_there, inherited, inherited_on}
 use Rattle.front_corba.specs.Parameters.{goes_in, comes_out, Parameters, no_parameters, with_field, parameter_on, parameters_on, exception_at, with_raise, raised_by, raises_on}
 use Rattle.front_corba.specs.Operations.{gives_back, result_of, operation_of, judged_on, signed_on, operation_on}
 use Rattle.front_corba.specs.Attributes.{getter, setter, attribute_clash, setter_on, attribute_on, attribute_names_on, attributes_on}

@@ -1,12 +1,12 @@
 -- The interfaces of a file have room in its unit.
-use Rattle.std.proofs.Common.{◌≡◌, ℕ, zero, suc, ◌+◌, ◌<◌, ◌≤◌, ◌&&◌, nat_le, true, false, get_or, drop, List, [], ◌∷◌, ◌++◌, length, map, refl, sym, ap, subst, ◌∙◌, arith}
+use Rattle.std.proofs.Common.{◌≡◌, ℕ, zero, suc, ◌+◌, ◌<◌, ◌≤◌, ◌&&◌, nat_le, true, false, get_or, drop, List, [], ◌∷◌, ◌++◌, length, map, sym, ap, subst, ◌∙◌, arith}
 use Rattle.std.specs.List.{list_all}
 use Rattle.std.proofs.Math.Seq.{drop-cons}
 use Rattle.std.proofs.lemmas.Bool.{and_parts, leb-true}
 use Rattle.std.proofs.lemmas.List.{length-map}
 use Rattle.aoi.specs.declared.interfaces.Interface.{Interface}
 use Rattle.aoi.specs.Units.{is_twice}
-use Rattle.aoi.specs.Plain.{PlainOperation, PlainInterface, plain_operation, plain_interface}
+use Rattle.aoi.specs.Plain.{PlainInterface, plain_operation, plain_interface}
 use Rattle.aoi.specs.Sound.{are_distinct}
 use Rattle.front_corba.specs.declared.state.Offering.{Offering}
 use Rattle.front_corba.specs.State.{PlainOffer, PlainOffering}

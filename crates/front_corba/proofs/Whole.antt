@@ -1,12 +1,12 @@
 -- The unit of a file is sound.
-use Rattle.std.proofs.Common.{◌≡◌, ℕ, ◌+◌, ◌-◌, ◌*◌, ◌^◌, ◌<◌, ◌≤◌, true, nat_le, List, [], ◌∷◌, length, map, refl, sym, ap, subst, inl, inr, ◌∙◌, arith}
+use Rattle.std.proofs.Common.{◌≡◌, ℕ, ◌+◌, ◌-◌, ◌*◌, ◌^◌, ◌<◌, ◌≤◌, true, nat_le, List, [], ◌∷◌, length, refl, sym, ap, subst, inl, inr, ◌∙◌, arith}
 use Rattle.std.specs.Prelude.{Ok}
 use Rattle.std.specs.List.{list_all}
 use Rattle.std.proofs.lemmas.Bool.{and_from, le-leb, lt-ltb}
-use Rattle.aoi.specs.Shapes.{Shape, void}
-use Rattle.aoi.specs.Sound.{is_sound_type, are_sound, or_void, IsSound}
+use Rattle.aoi.specs.Shapes.{Shape}
+use Rattle.aoi.specs.Sound.{is_sound_type, or_void, IsSound}
 use Rattle.aoi.specs.Units.{Parts}
-use Rattle.aoi.specs.Plain.{PlainOperation, PlainInterface, PlainUnit, plain, is_sound_plain_operation, is_sound_plain_interface, is_sound_plain}
+use Rattle.aoi.specs.Plain.{PlainOperation, PlainUnit, plain, is_sound_plain_operation, is_sound_plain_interface, is_sound_plain}
 use Rattle.aoi.proofs.Plainly.{sound_plain}
 use Rattle.name_kit.proofs.Parts.{then_ok, ok_same}
 use Rattle.name_kit.proofs.Labelling.{or_void_true}
