@@ -3,7 +3,7 @@ use Rattle.std.proofs.Common.{◌≡◌, ◌+◌, ◌<◌, ◌≤◌, ℕ, pos, 
 use Rattle.std.proofs.lemmas.List.{length-drop, length-take, take_all}
 use Rattle.mint.specs.Sound.{IsSound}
 use Rattle.mint.specs.Typed.{IsWellTyped}
-use Rattle.mint.specs.Values.{Val, arm, weight}
+use Rattle.mint.specs.Values.{Val, arm}
 use Rattle.wire_def.specs.declared.outcome.Refusal.{Refusal}
 use Rattle.wire_def.proofs.Encodings.{are_light}
 use Rattle.plain_wire.specs.Answered.{FirstSpell}

@@ -1,19 +1,15 @@
 -- What a message is as a reply is determined, since it is what reading from left to right gives.
-use Rattle.std.proofs.Common.{◌≡◌, ◌+◌, ◌<◌, ◌≤◌, ℕ, pos, Bool, true, false, List, [], ◌∷◌, ◌++◌, Option, Some, None, Result, Ok, Err, length, take, drop, refl, ap, sym, ◌∙◌, arith, append-nil, subst, inl, inr}
-use Rattle.std.proofs.lemmas.List.{length-drop, length-take, take-append-drop}
+use Rattle.std.proofs.Common.{◌≡◌, ◌+◌, ◌<◌, ℕ, pos, Bool, true, false, List, [], ◌∷◌, Option, Some, None, Result, Ok, Err, length, drop, refl, ap, sym, ◌∙◌, arith, subst, inl, inr}
+use Rattle.std.proofs.lemmas.List.{length-drop}
 use Rattle.kit_base.specs.Limits.{longest_message}
-use Rattle.mint.specs.Types.{Ty}
 use Rattle.mint.specs.Values.{Val, arm}
-use Rattle.wire_def.specs.declared.encoding.Encoding.{Encoding}
 use Rattle.wire_def.specs.declared.fault.FaultKind.{FaultKind}
 use Rattle.wire_def.specs.declared.fault.HeadErr.{HeadErr}
 use Rattle.wire_def.specs.declared.head.Head.{Head}
 use Rattle.wire_def.specs.declared.outcome.Refusal.{Refusal}
 use Rattle.wire_def.specs.Grammar.{Reading, got, stop}
 use Rattle.wire_def.specs.Reading.{read}
-use Rattle.wire_def.specs.Spells.{IsSpelling}
 use Rattle.wire_def.proofs.Encodings.{grammar}
-use Rattle.plain_wire.specs.Answered.{FirstSpell}
 use Rattle.pres.specs.Bindings.{Binding}
 use Rattle.flick_engine.specs.declared.errors.MessageErr.{MessageErr}
 use Rattle.flick_engine.specs.declared.errors.MessageErr.TheVariants as err

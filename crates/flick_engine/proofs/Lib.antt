@@ -16,3 +16,6 @@ pub mod ExistingReplies
 pub mod RepliesSent
 pub mod RepliesBack
 pub mod AnsweringReplies
+pub mod Searching
+pub mod Replying
+pub mod Servings

@@ -1,8 +1,5 @@
 -- A reply that is sent is what is received.
-use Rattle.std.proofs.Common.{◌≡◌, ℕ, pos, List, ◌++◌, length, length-append, drop, refl, sym, arith}
-use Rattle.mint.specs.Types.{Ty}
-use Rattle.mint.specs.Values.{Val}
-use Rattle.mint.specs.Typed.{IsWellTyped}
+use Rattle.std.proofs.Common.{◌≡◌, ◌++◌, length, length-append, refl, arith}
 use Rattle.wire_def.specs.Send.{send}
 use Rattle.flick_engine.specs.Backs.{encoding, reply_lead}
 use Rattle.flick_engine.specs.Laws.{IsReplyReadBack}

@@ -1,6 +1,5 @@
 -- The heads of replies that are sent are received as what they say.
-use Rattle.std.proofs.Common.{◌≡◌, ℕ, zero, suc, ◌+◌, ◌-◌, ◌<◌, ◌≤◌, ◌^◌, List, [], ◌∷◌, ◌++◌, length, take, drop, refl, sym, ap, ◌∙◌, subst, arith, length-append}
-use Rattle.std.specs.Prelude.{slice_index_or}
+use Rattle.std.proofs.Common.{◌≡◌, ℕ, zero, suc, ◌-◌, ◌<◌, ◌≤◌, ◌^◌, List, [], ◌++◌, length, take, drop, refl, sym, ap, ◌∙◌, subst, arith, length-append}
 use Rattle.std.proofs.lemmas.List.{take_at, drop_at}
 use Rattle.kit_base.specs.Limits.{longest_message}
 use Rattle.wire_def.specs.declared.encoding.Back.{Back}
@@ -8,7 +7,6 @@ use Rattle.wire_def.specs.declared.encoding.Back.TheVariants as back
 use Rattle.wire_def.specs.declared.head.Head.{Head}
 use Rattle.wire_def.specs.declared.head.Order.{Order}
 use Rattle.wire_def.specs.declared.head.Order.TheVariants.{Big, Little}
-use Rattle.wire_def.specs.declared.reply.ReplyHead.{ReplyHead}
 use Rattle.wire_def.specs.declared.reply.Status.TheVariants.{Answer}
 use Rattle.wire_def.specs.Grammar.{Parts}
 use Rattle.pres.specs.Bindings.{Binding}
@@ -24,7 +22,6 @@ use Rattle.giop_head.specs.Items.{laid, LongSpells}
 use Rattle.giop_head.specs.Laws.{IsLong, IsFate, reply_octets}
 use Rattle.giop_head.specs.Printed.{header_octets, then_long, with_size}
 use Rattle.giop_head.specs.Reply.{Fate, answer, user, system, FateSpells}
-use Rattle.giop_head.specs.Reply as giop_reply
 use Rattle.giop_head.proofs.Sending.{fated, reply_puts}
 use Rattle.giop_head.proofs.Sent.{within, begins, rest}
 use Rattle.back_cdr.specs.Leads.{reply_lead as giop_lead}
@@ -32,12 +29,9 @@ use Rattle.back_cdr.specs.Targets.{Target, target_of}
 use Rattle.back_mach.specs.Laws as mach_laws
 use Rattle.back_mach.specs.Laws.{HasPorts}
 use Rattle.back_mach.specs.Leads as mach_leads
-use Rattle.back_mach.specs.Reply.{return_word}
 use Rattle.back_mach.specs.Routines.{routine_of}
-use Rattle.back_mach.specs.Words as mach_words
 use Rattle.back_mach.proofs.Sent as mach_sent
-use Rattle.flick_engine.specs.declared.replies.Fate.TheVariants as fates
-use Rattle.flick_engine.specs.Backs.{encoding, sized, reply_lead_over, reply_lead, heard_over, giop_heard, RepliesInOrder, RepliesOver, BeginsReply, answer_of, giop_fate_of, giop_answer, TellsInOrder, TellsOver, Tells}
+use Rattle.flick_engine.specs.Backs.{encoding, sized, reply_lead_over, RepliesInOrder, RepliesOver, answer_of, giop_fate_of, giop_answer, TellsInOrder, TellsOver, Tells}
 use Rattle.flick_engine.specs.Fates.{Heard}
 
 -- a head that is sent is received as what it says, and its body follows it

@@ -1,5 +1,5 @@
 -- Laws of what messages are.
-use Rattle.std.specs.Prelude.{◌≡◌, ◌<◌, ℕ, pos, List, length, Result, Ok}
+use Rattle.std.specs.Prelude.{◌≡◌, ◌<◌, ℕ, pos, List, length, Option, Result, Ok}
 use Rattle.mint.specs.Sound.{IsSound}
 use Rattle.mint.specs.Typed.{IsWellTyped}
 use Rattle.mint.specs.Values.{Val, arm}
@@ -20,6 +20,7 @@ use Rattle.flick_engine.specs.Operations.{IsOperation}
 use Rattle.flick_engine.specs.Received.{Asked, IsShort, ReadCall}
 use Rattle.flick_engine.specs.Replies.{reply_type, arm_type, arm_message}
 use Rattle.flick_engine.specs.RepliesReceived.{Replied, answered, ReadReply}
+use Rattle.flick_engine.specs.Serving.{gives, Serves}
 
 -- what a message is, is determined
 abbrev pub IsDetermined : Type 0
@@ -67,3 +68,13 @@ abbrev pub IsReplyReadBack : Type 0
 IsReplyReadBack = (b : Binding) (op k : ℕ) (head : Head) (w : Val) (t : Heard) → Tells b op k head t → t.fate ≡ Arm k
     → IsWellTyped (arm_type b op k) w → IsShort (arm_message b op k head w)
     → ReadReply b op (arm_message b op k head w) (Ok (record { head = t.head; came = answered (arm (pos k) w) }))
+
+-- how a message is answered is determined, where the work has one reply to each request
+abbrev pub IsServingDetermined : Type 0
+IsServingDetermined = (b : Binding) (work : ℕ → Val → Val) (o : List ℕ) (x y : Option (List ℕ))
+    → Serves b (gives work) o x → Serves b (gives work) o y → x ≡ y
+
+-- then each message is answered in some way, if the types of requests are sound
+abbrev pub IsServingSomething : Type 0
+IsServingSomething = (b : Binding) (work : ℕ → Val → Val) → IsMade b.back → ((op : ℕ) → IsSound (request_type b op))
+    → (o : List ℕ) → AreOctets o → (x : Option (List ℕ)) × Serves b (gives work) o x

@@ -6,4 +6,6 @@ pub mod Operations
 pub mod Received
 pub mod Replies
 pub mod RepliesReceived
+pub mod Refusals
+pub mod Serving
 pub mod Laws

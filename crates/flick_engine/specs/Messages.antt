@@ -1,16 +1,12 @@
 -- The messages of calls.
-use Rattle.std.specs.Prelude.{ℕ, List, ◌++◌, length, map, slice_index_or}
-use Rattle.mint.specs.Types.{Ty, type_at}
+use Rattle.std.specs.Prelude.{ℕ, List, ◌++◌, length}
+use Rattle.mint.specs.Types.{type_at}
 use Rattle.mint.specs.Values.{Val}
 use Rattle.wire_def.specs.declared.head.Head.{Head}
 use Rattle.wire_def.specs.Send.{send}
-use Rattle.pres.specs.declared.ops.Op.{Op}
 use Rattle.pres.specs.Bindings.{Binding}
+pub use Rattle.skeleton.specs.Exchanges.{request_type}
 use Rattle.flick_engine.specs.Backs.{encoding, lead, sized}
-
--- the type of what goes into an operation
-abbrev pub request_type : Binding → ℕ → Ty
-request_type b op = type_at b.nodes (slice_index_or (map (λ (o : Op). o.request) b.ops) op 0)
 
 -- the head of an operation's call, and its value at the position after the head
 abbrev pub parts : Binding → ℕ → Head → Val → List ℕ

@@ -1,18 +1,14 @@
 -- The messages of replies.
-use Rattle.std.specs.Prelude.{◌≡◌, ℕ, pos, List, [], ◌++◌, length, map, Option, None, unwrap_or, is_some, IsTrue, slice_index_or}
+use Rattle.std.specs.Prelude.{◌≡◌, ℕ, pos, List, [], ◌++◌, length, Option, None, unwrap_or, is_some, IsTrue}
 use Rattle.mint.specs.declared.kind.Kind.TheVariants as kind
-use Rattle.mint.specs.Types.{Ty, void_type, choice_type, type_at, Arms, number}
+use Rattle.mint.specs.Types.{Ty, void_type, choice_type, Arms, number}
 use Rattle.mint.specs.Values.{Val, arm}
 use Rattle.cast_stub.specs.Draft.{type_of_arm}
 use Rattle.wire_def.specs.declared.head.Head.{Head}
 use Rattle.wire_def.specs.Send.{send}
-use Rattle.pres.specs.declared.ops.Op.{Op}
 use Rattle.pres.specs.Bindings.{Binding}
+pub use Rattle.skeleton.specs.Exchanges.{reply_type}
 use Rattle.flick_engine.specs.Backs.{encoding, reply_lead, sized}
-
--- the type of what comes back from an operation: a choice whose arm 0 is the answer, and whose arm k is the k-th exception
-abbrev pub reply_type : Binding → ℕ → Ty
-reply_type b op = type_at b.nodes (slice_index_or (map (λ (o : Op). o.reply) b.ops) op 0)
 
 -- a choice by an unsigned number of 32 bits
 abbrev pub IsChoice : Ty → Type 0

@@ -1,5 +1,5 @@
 // The laws of messages, each the contract of a function that does nothing.
-ghost use Rattle.flick_engine.specs.Laws.{AreAskedFor, AreTheReplies, AreTheUnits, IsDetermined, IsReadBack, IsReplyDetermined, IsReplyReadBack, IsReplySomething, IsSomething};
+ghost use Rattle.flick_engine.specs.Laws.{AreAskedFor, AreTheReplies, AreTheUnits, IsDetermined, IsReadBack, IsReplyDetermined, IsReplyReadBack, IsReplySomething, IsServingDetermined, IsServingSomething, IsSomething};
 
 /// Octets are a request or have a first fault: one of them, and no other.
 pub fn messages_are_decided()
@@ -34,4 +34,11 @@ pub fn replies_are_decided()
 /// A reply that is sent is what is received.
 pub fn replies_are_read_back()
     ensures { IsReplyReadBack }
+{}
+
+/// How a message is answered is determined, and each message is answered in some way, where the work
+/// has one reply to each request.
+pub fn servings_are_decided()
+    ensures determined { IsServingDetermined }
+    ensures something { IsServingSomething }
 {}

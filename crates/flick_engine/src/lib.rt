@@ -5,13 +5,16 @@ mod backs;
 mod engine;
 mod errors;
 mod exceptions;
+mod faults;
 mod laws;
 mod marshal;
 mod marshal_reply;
 mod operations;
+mod refusals;
 mod replies;
 mod reply_leads;
 mod requests;
+mod serve;
 mod unmarshal;
 mod unmarshal_reply;
 
@@ -20,7 +23,8 @@ pub use engine::Engine;
 pub use errors::{MarshalErr, MessageErr};
 pub use laws::{
     messages_are_decided, messages_are_read_back, operations_are_the_units, replies_are_decided,
-    replies_are_read_back, replies_are_the_units,
+    replies_are_read_back, replies_are_the_units, servings_are_decided,
 };
 pub use replies::Reply;
 pub use requests::Request;
+pub use serve::Served;

@@ -4,6 +4,7 @@ ghost use Rattle.raw_buf.specs.Buf.{NoneFell};
 ghost use Rattle.back_xdr.specs.Leads as onc;
 ghost use Rattle.back_mach.specs.Leads as mach;
 ghost use Rattle.back_mach.specs.Words.{word, words};
+ghost use Rattle.flick_engine.specs.Refusals.{locate_octets};
 ghost use Rattle.giop_head.specs.Printed.{answer_octets, header_octets, long_octets, status_octets, then_long, then_string, user_octets};
 
 use kit_base::NoMemory;
@@ -114,6 +115,65 @@ pub(crate) fn put_giop_exception(
     buf.ensure(exception.len() + 64)?;
     put_status(order, id, 1, buf);
     put_string(order, exception, buf);
+    Ok(())
+}
+
+/// Puts the header of a GIOP message of a type, whose size is not set yet.
+fn put_header(order: Order, message_type: u8, buf: &mut SendBuf)
+    requires empty { buf.old.done ≡ [] }
+    requires room { 12 ≤ length buf.old.front }
+    ensures done { buf.new.done ≡ header_octets order message_type }
+    ensures ahead { length buf.new.front + 12 ≡ length buf.old.front }
+    ensures spent { NoneFell buf.old.spent buf.new.spent }
+{
+    let octet = match order {
+        Order::Big => 0,
+        Order::Little => 1,
+    };
+    let header = [
+        b'G',
+        b'I',
+        b'O',
+        b'P',
+        1,
+        0,
+        octet,
+        message_type,
+        0,
+        0,
+        0,
+        0,
+    ];
+    put_octets(&header, buf);
+}
+
+/// Puts the reply to a search for an object: whether it is here.
+pub(crate) fn put_locate_reply(
+    order: Order,
+    id: u32,
+    here: bool,
+    buf: &mut SendBuf,
+) -> Result<(), NoMemory>
+    requires { buf.old.done ≡ [] }
+    ensures ok { OnOk result (buf.new.done ≡ locate_octets order id here) }
+    ensures spent { NoneFell buf.old.spent buf.new.spent }
+{
+    buf.ensure(32)?;
+    put_header(order, 4, buf);
+    put_long(order, id, buf);
+    put_long(order, u32::from(here), buf);
+    giop_head::put_size(order, buf);
+    Ok(())
+}
+
+/// Puts the message that answers one that is wrong: a header alone.
+pub(crate) fn put_message_error(order: Order, buf: &mut SendBuf) -> Result<(), NoMemory>
+    requires { buf.old.done ≡ [] }
+    ensures ok { OnOk result (buf.new.done ≡ header_octets order 6) }
+    ensures spent { NoneFell buf.old.spent buf.new.spent }
+{
+    buf.ensure(12)?;
+    put_header(order, 6, buf);
     Ok(())
 }
 

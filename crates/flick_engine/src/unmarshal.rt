@@ -61,7 +61,7 @@ impl Engine {
     }
 
     /// Reads the request of a message that calls this operation.
-    fn read_body(
+    pub(crate) fn read_body(
         &self,
         alloc: Global,
         op: u32,

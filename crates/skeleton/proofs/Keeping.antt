@@ -31,8 +31,10 @@ none_is_kept b = record {
   typed = λ op v is. let none = none_at (length b.ops) op in absurd cc;
 }
 
-module _ (k : Kept) (op : ℕ) (v : Value) (kept : IsKept k) (there : op < length k.binding.ops) (fits : IsWellTyped (reply_type k.binding op) (seen v)) where
-  typed_at : (n : ℕ) (w : Value) (t : Bool) → (n == op) ≡ t → reply_at (with_reply k op v) n ≡ Some w → IsWellTyped (reply_type k.binding n) (seen w)
+module _ (k : Kept) (op : ℕ) (v : Value) (kept : IsKept k) (there : op < length k.binding.ops)
+    (fits : IsWellTyped (reply_type k.binding op) (seen v)) where
+  typed_at : (n : ℕ) (w : Value) (t : Bool) → (n == op) ≡ t → reply_at (with_reply k op v) n ≡ Some w
+      → IsWellTyped (reply_type k.binding n) (seen w)
   typed_at n w true is e =
       let same : n ≡ op = eqb-true n op is in
       let here : get_or (set k.replies op (Some v)) n None ≡ Some v = get_or-set_at k.replies op n (Some v) None same (omega (arith, kept.places, there)) in

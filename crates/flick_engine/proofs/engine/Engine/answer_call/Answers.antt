@@ -1,0 +1,32 @@
+use Rattle.std.proofs.Common.{Some}
+use Rattle.flick_engine.specs.declared.errors.MessageErr.TheVariants as err
+use Rattle.flick_engine.proofs.Deciding.{exactly}
+use Rattle.flick_engine.proofs.Replying.{refused, requested}
+use Rattle.flick_engine.proofs.engine.Engine.answer_call.Goals as goal
+
+pub refuse_call-requires-clause-is : goal.refuse_call-requires-clause-is
+refuse_call-requires-clause-is g c =
+    exactly c.args.self.now.binding c.args.message.now _ (c.args.called.now, (c.requires.short, c.requires.begins, c.in-NoInterface.is))
+
+pub refuse_call-requires-in-NoOperation-clause-is : goal.refuse_call-requires-in-NoOperation-clause-is
+refuse_call-requires-in-NoOperation-clause-is g c =
+    exactly c.args.self.now.binding c.args.message.now _ (c.args.called.now, (c.requires.short, c.requires.begins, c.in-NoOperation.is))
+
+pub returns-in-NoInterface-clause-answers : goal.returns-in-NoInterface-clause-answers
+returns-in-NoInterface-clause-answers g c =
+    refused c.args.self.now.binding (g.S.Skeleton.Answers c.args.skeleton.now) c.args.message.now c.refuse_call.result c.args.called.now err.NoInterface (Some c.refuse_call.new.buf.done) c.refuse_call.ensures.ok c.refuse_call.ensures.there
+
+pub returns-in-NoOperation-clause-answers : goal.returns-in-NoOperation-clause-answers
+returns-in-NoOperation-clause-answers g c =
+    let r = c.refuse_call-in-NoOperation in
+    refused c.args.self.now.binding (g.S.Skeleton.Answers c.args.skeleton.now) c.args.message.now r.result c.args.called.now err.NoOperation (Some r.new.buf.done) r.ensures.ok r.ensures.there
+
+pub returns-in-Ok-clause-answers : goal.returns-in-Ok-clause-answers
+returns-in-Ok-clause-answers g c =
+    let r = c.answer_request in
+    requested c.args.self.now.binding (g.S.Skeleton.Answers c.args.skeleton.now) c.args.message.now r.result c.args.called.now c.in-Ok.request (Some r.new.buf.done) c.in-Ok.ensures.read r.ensures.answers
+
+pub returns-in-Err-clause-answers : goal.returns-in-Err-clause-answers
+returns-in-Err-clause-answers g c =
+    let r = c.refuse_call-in-Err in
+    refused c.args.self.now.binding (g.S.Skeleton.Answers c.args.skeleton.now) c.args.message.now r.result c.args.called.now c.in-Err.fault (Some r.new.buf.done) r.ensures.ok r.ensures.there

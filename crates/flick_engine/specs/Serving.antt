@@ -1,0 +1,82 @@
+-- How a server answers messages, by the operations of a binding and the work that is done for their calls.
+use Rattle.std.specs.Prelude.{◌≡◌, ◌⊎◌, ◌<◌, ℕ, Bool, true, ◌&&◌, MatchBool, List, length, map, slice_index_or, Option, None, Some, Result, Ok, Err}
+use Rattle.kit_base.specs.Limits.{longest_message}
+use Rattle.mint.specs.Values.{Val}
+use Rattle.wire_def.specs.declared.fault.HeadErr.{HeadErr}
+use Rattle.wire_def.specs.declared.head.Head.{Head}
+use Rattle.wire_def.specs.declared.outcome.Refusal.{Refusal}
+use Rattle.call_kit.specs.declared.called.Called.{Called}
+use Rattle.call_kit.specs.declared.called.Naming.{Naming}
+use Rattle.call_kit.specs.declared.called.Naming.TheVariants.{Operation}
+use Rattle.pres.specs.declared.ops.Op.{Op}
+use Rattle.pres.specs.Bindings.{Binding}
+use Rattle.flick_engine.specs.declared.errors.MessageErr.{MessageErr}
+use Rattle.flick_engine.specs.declared.errors.MessageErr.TheVariants as err
+use Rattle.flick_engine.specs.declared.serve.Served.{Served}
+use Rattle.flick_engine.specs.declared.serve.Served.TheVariants as served
+use Rattle.flick_engine.specs.Backs.{Begins, Stops}
+use Rattle.flick_engine.specs.Received.{Asked, IsShort, ReadCall}
+use Rattle.flick_engine.specs.Refusals.{wants_reply, reply_head, NoInterfaceOver, no_operation, bad_body, long_reply, RefusesOver, AnswersFault}
+use Rattle.flick_engine.specs.Replies.{reply_message}
+
+-- the replies that the work for calls may give: to an operation, and the request that it is called with
+abbrev pub Work : Type 1
+Work = ℕ → Val → Val → Type 0
+
+-- work that has one reply to each request
+abbrev pub gives : (ℕ → Val → Val) → Work
+gives f op v w = w ≡ f op v
+
+-- what a message is answered, by the octets of a buffer: they are the reply, or there is none
+abbrev pub reply_in : Served → List ℕ → Option (List ℕ)
+reply_in served.Reply o = Some o
+reply_in served.Silent o = None
+
+-- an operation has a reply
+abbrev pub has_reply : Binding → ℕ → Bool
+has_reply b op = slice_index_or (map (λ (o : Op). o.has_reply) b.ops) op true
+
+-- what a call names has a reply, where it is an operation; a call that names none is refused
+abbrev pub names_reply : Binding → Naming → Bool
+names_reply b (Operation op) = has_reply b op
+names_reply b _ = true
+
+-- a call that is answered
+abbrev pub is_answered : Binding → Called → Bool
+is_answered b c = wants_reply b.back c.head && names_reply b c.naming
+
+-- why a call is refused that is not a request: it names no interface, no operation, or its body is wrong
+abbrev pub IsRefused : Binding → List ℕ → MessageErr → Refusal → Type 0
+IsRefused b o err.NoInterface why = NoInterfaceOver b.back b o why
+IsRefused b o err.NoOperation why = why ≡ no_operation b.back
+IsRefused b o _ why = why ≡ bad_body b.back
+
+-- the message of a reply, or where that would be too long a refusal
+abbrev pub Replies : Binding → List ℕ → Head → ℕ → Val → Option (List ℕ) → Type 0
+Replies b o head op w x =
+    (IsShort (reply_message b op head w) × (x ≡ Some (reply_message b op head w)))
+    ⊎ ((longest_message < length (reply_message b op head w)) × RefusesOver b.back o head (long_reply b.back) x)
+
+-- the reply that refuses a call, which has this head
+abbrev pub RefusesCall : Binding → List ℕ → Head → MessageErr → Option (List ℕ) → Type 0
+RefusesCall b o head e x = (why : Refusal) × IsRefused b o e why × RefusesOver b.back o head why x
+
+-- a call is answered by a reply with this head, according to what its message is
+abbrev pub AnswersAs : Binding → Work → List ℕ → Head → Result Asked MessageErr → Option (List ℕ) → Type 0
+AnswersAs b work o head (Err e) x = RefusesCall b o head e x
+AnswersAs b work o head (Ok r) x = (w : Val) × work r.op r.value w × Replies b o head r.op w x
+
+-- a call that is answered
+abbrev pub AnswersCall : Binding → Work → List ℕ → Called → Option (List ℕ) → Type 0
+AnswersCall b work o c x = (r : Result Asked MessageErr) × ReadCall b o r × AnswersAs b work o (reply_head b.back c.head) r x
+
+-- a message that begins with the head of a call
+abbrev pub ServesCall : Binding → Work → List ℕ → Called → Option (List ℕ) → Type 0
+ServesCall b work o c x = MatchBool (is_answered b c) (AnswersCall b work o c x) (x ≡ None)
+
+-- what a message is answered: nothing if it is too long; else by its head, or by the first fault of that
+abbrev pub Serves : Binding → Work → List ℕ → Option (List ℕ) → Type 0
+Serves b work o x =
+    ((longest_message < length o) × (x ≡ None))
+    ⊎ (IsShort o × (e : HeadErr) × Stops b.back o e × AnswersFault b.back b o e x)
+    ⊎ (IsShort o × (c : Called) × Begins b o c × ServesCall b work o c x)

@@ -1,0 +1,177 @@
+// Messages that are answered.
+ghost use Rattle.std.specs.Prelude.{◌≡◌, ◌≤◌, ◌<◌, ◌+◌, [], true, Ok, Some, length, IfErr, IfOk, OnErr, OnOk};
+ghost use Rattle.mint.specs.Typed.{IsWellTyped};
+ghost use Rattle.mint.specs.Values.{seen};
+ghost use Rattle.call_kit.specs.Calls.{IsBelow};
+ghost use Rattle.raw_buf.specs.Buf.{NoneFell};
+ghost use Rattle.flick_engine.specs.Backs.{Begins, Stops};
+ghost use Rattle.flick_engine.specs.Messages.{request_type};
+ghost use Rattle.flick_engine.specs.Received.{Names, ReadCall, IsShort, asked};
+ghost use Rattle.flick_engine.specs.Refusals as refusals;
+ghost use Rattle.flick_engine.specs.Refusals.{AnswersFault, reply_head};
+ghost use Rattle.flick_engine.specs.Serving as serving;
+ghost use Rattle.flick_engine.specs.Serving.{Serves, ServesCall, AnswersCall, AnswersAs, reply_in};
+
+use crate::engine::Engine;
+use crate::errors::{MarshalErr, MessageErr};
+use crate::requests::Request;
+use call_kit::{Called, Naming};
+use kit_base::NoMemory;
+use kit_base::limits::LONGEST_MESSAGE;
+use raw_buf::{RecvView, SendBuf};
+use skeleton::Skeleton;
+use std::alloc::Global;
+
+/// What became of a message that was served.
+#[derive(Clone, Copy, Debug, PartialEq, Eq)]
+pub enum Served {
+    /// The buffer has the reply.
+    Reply,
+    /// There is no reply.
+    Silent,
+}
+
+impl Engine {
+    /// Answers a message in a buffer, whatever the buffer held: by the work that is done for the
+    /// operation that it names, or by a refusal, or not at all. Where there is no reply, and after out
+    /// of memory, the buffer is empty. What it spent is kept. Where the view is then is not said.
+    pub fn serve<S: Skeleton>(
+        &self,
+        alloc: Global,
+        skeleton: &S,
+        view: &mut RecvView<'_>,
+        buf: &mut SendBuf,
+    ) -> Result<Served, NoMemory>
+        requires made_for { S.binding skeleton.now ≡ self.now.binding }
+        requires start { view.old.pos ≡ 0 }
+        ensures serves { IfOk result (λ s.
+            Serves self.now.binding (S.Answers skeleton.now) view.old.octets (reply_in s buf.new.done)) }
+        ensures silent { (result ≡ Ok Served.Silent) → buf.new.done ≡ [] }
+        ensures err { OnErr result (buf.new.done ≡ []) }
+        ensures spent { NoneFell buf.old.spent buf.new.spent }
+    {
+        buf.clear();
+        match self.serve_message(alloc, skeleton, view.rest(), buf) {
+            Ok(served) => Ok(served),
+            Err(NoMemory) => {
+                buf.clear();
+                Err(NoMemory)
+            }
+        }
+    }
+
+    /// Answers a message in an empty buffer.
+    fn serve_message<S: Skeleton>(
+        &self,
+        alloc: Global,
+        skeleton: &S,
+        message: &[u8],
+        buf: &mut SendBuf,
+    ) -> Result<Served, NoMemory>
+        requires made_for { S.binding skeleton.now ≡ self.now.binding }
+        requires empty { buf.old.done ≡ [] }
+        ensures serves { IfOk result (λ s.
+            Serves self.now.binding (S.Answers skeleton.now) message.now (reply_in s buf.new.done)) }
+        ensures silent { (result ≡ Ok Served.Silent) → buf.new.done ≡ [] }
+        ensures spent { NoneFell buf.old.spent buf.new.spent }
+    {
+        if message.len() > LONGEST_MESSAGE {
+            return Ok(Served::Silent);
+        }
+        match self.read_head(message) {
+            Ok(called) => self.serve_call(alloc, skeleton, &called, message, buf),
+            Err(fault) => self.answer_fault(fault, message, buf),
+        }
+    }
+
+    /// Answers a message that begins with the head of a call, if a reply is wanted and there is one.
+    fn serve_call<S: Skeleton>(
+        &self,
+        alloc: Global,
+        skeleton: &S,
+        called: &Called,
+        message: &[u8],
+        buf: &mut SendBuf,
+    ) -> Result<Served, NoMemory>
+        requires made_for { S.binding skeleton.now ≡ self.now.binding }
+        requires short { IsShort message.now }
+        requires begins { Begins self.now.binding message.now called.now }
+        requires below { IsBelow (length self.now.binding.ops) called.now.naming }
+        requires empty { buf.old.done ≡ [] }
+        ensures serves { IfOk result (λ s.
+            ServesCall self.now.binding (S.Answers skeleton.now) message.now called.now (reply_in s buf.new.done)) }
+        ensures silent { (result ≡ Ok Served.Silent) → buf.new.done ≡ [] }
+        ensures spent { NoneFell buf.old.spent buf.new.spent }
+    {
+        if !self.is_answered(called) {
+            return Ok(Served::Silent);
+        }
+        self.answer_call(alloc, skeleton, called, message, buf)?;
+        Ok(Served::Reply)
+    }
+
+    /// Answers a call by a reply.
+    fn answer_call<S: Skeleton>(
+        &self,
+        alloc: Global,
+        skeleton: &S,
+        called: &Called,
+        message: &[u8],
+        buf: &mut SendBuf,
+    ) -> Result<(), NoMemory>
+        requires made_for { S.binding skeleton.now ≡ self.now.binding }
+        requires short { IsShort message.now }
+        requires begins { Begins self.now.binding message.now called.now }
+        requires below { IsBelow (length self.now.binding.ops) called.now.naming }
+        requires empty { buf.old.done ≡ [] }
+        ensures answers { OnOk result
+            (AnswersCall self.now.binding (S.Answers skeleton.now) message.now called.now (Some buf.new.done)) }
+        ensures spent { NoneFell buf.old.spent buf.new.spent }
+    {
+        match called.naming {
+            Naming::NoInterface => {
+                self.refuse_call(alloc, MessageErr::NoInterface, called, message, buf)
+            }
+            Naming::NoOperation => {
+                self.refuse_call(alloc, MessageErr::NoOperation, called, message, buf)
+            }
+            Naming::Operation(op) => match self.read_body(alloc, op, called, message) {
+                Ok(request) => {
+                    self.answer_request(alloc, skeleton, &request, called, message, buf)
+                }
+                Err(fault) => self.refuse_call(alloc, fault, called, message, buf),
+            },
+        }
+    }
+
+    /// Answers a request by a reply: that of the work, or a refusal where it would be too long.
+    fn answer_request<S: Skeleton>(
+        &self,
+        alloc: Global,
+        skeleton: &S,
+        request: &Request,
+        called: &Called,
+        message: &[u8],
+        buf: &mut SendBuf,
+    ) -> Result<(), NoMemory>
+        requires made_for { S.binding skeleton.now ≡ self.now.binding }
+        requires begins { Begins self.now.binding message.now called.now }
+        requires op { request.now.op < length self.now.binding.ops }
+        requires typed { IsWellTyped (request_type self.now.binding request.now.op) (seen request.now.value) }
+        ensures answers { OnOk result
+            (AnswersAs self.now.binding (S.Answers skeleton.now) message.now
+            (reply_head self.now.binding.back called.now.head) (Ok (asked request.now)) (Some buf.new.done)) }
+        ensures spent { NoneFell buf.old.spent buf.new.spent }
+    {
+        let head = self.reply_head(&called.head);
+        let reply = skeleton.call(alloc, request.op, &request.value)?;
+        match self.marshal_reply(alloc, request.op, &head, &reply, buf) {
+            Ok(()) => Ok(()),
+            Err(MarshalErr::Long) => {
+                let why = self.long_reply(alloc)?;
+                self.refuse(&why, called, message, buf)
+            }
+            Err(MarshalErr::NoMemory) => Err(NoMemory),
+        }
+    }
+}
