@@ -70,7 +70,8 @@ module _ (b : Binding) (work : ℕ → Val → Val → Type 0) (o : List ℕ) wh
       → IfOk r (λ s. ServesCall b work o c (reply_in s d)) → IfOk r (λ s. Serves b work o (reply_in s d))
   begun r d c short begins h = IfOk-weaker r (λ s. ServesCall b work o c (reply_in s d)) (λ s. Serves b work o (reply_in s d)) (λ s a. inr (inr (short, c, begins, a))) h
 
-  pub answered : (c : Called) (x : Option (List ℕ)) (t : Bool) → is_answered b c ≡ t → t ≡ true → AnswersCall b work o c x → ServesCall b work o c x
+  pub answered : (c : Called) (x : Option (List ℕ)) (t : Bool) → is_answered b c ≡ t → t ≡ true → AnswersCall b work o c x
+      → ServesCall b work o c x
   answered c x t is shown h = subst (λ (z : Bool). MatchBool z (AnswersCall b work o c x) (x ≡ None)) (sym (is ∙ shown)) h
 
   pub unanswered : (c : Called) (t : Bool) → is_answered b c ≡ t → t ≡ false → ServesCall b work o c silence
@@ -91,7 +92,8 @@ module _ (b : Binding) (work : ℕ → Val → Val → Type 0) (o : List ℕ) wh
   sent head q w d does short is = (w, does, inl (short, ap (λ (z : List ℕ). Some z) is))
 
   pub too_long : {A E : Type 0} (r : Result A E) (head : Head) (q : Request) (w : Val) (x : Option (List ℕ)) → work q.op (asked q).value w
-      → longest_message < length (reply_message b q.op head w) → OnOk r (RefusesOver b.back o head (long_reply b.back) x) → OnOk r (AnswersAs b work o head (Ok (asked q)) x)
+      → longest_message < length (reply_message b q.op head w) → OnOk r (RefusesOver b.back o head (long_reply b.back) x)
+      → OnOk r (AnswersAs b work o head (Ok (asked q)) x)
   too_long (Ok u) head q w x does long refuses = (w, does, inr (long, refuses))
   too_long (Err n) head q w x does long refuses = tt
 
@@ -110,6 +112,7 @@ module _ {A E : Type 0} (r : Result A E) (b : Binding) (o : List ℕ) (head : He
   pub refuses_by : (k : Back) → b.back ≡ k → OnOk r (RefusesOver k o head why x) → OnOk r (RefusesOver b.back o head why x)
   refuses_by k is h = subst (λ (z : Back). OnOk r (RefusesOver z o head why x)) (sym is) h
 
-  pub mach_refuses : (call : MachCall) → b.back ≡ back.Mach → BeginsCall o call → OnOk r (mach.refusal_octets call.id head.remote why ≡ x) → OnOk r (RefusesOver b.back o head why x)
+  pub mach_refuses : (call : MachCall) → b.back ≡ back.Mach → BeginsCall o call → OnOk r (mach.refusal_octets call.id head.remote why ≡ x)
+      → OnOk r (RefusesOver b.back o head why x)
   mach_refuses call is begins h =
       refuses_by back.Mach is (IfOk-weaker r (λ _. mach.refusal_octets call.id head.remote why ≡ x) (λ _. RefusesOver back.Mach o head why x) (λ u e. (call, begins, e)) h)

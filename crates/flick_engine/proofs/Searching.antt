@@ -69,7 +69,8 @@ of_request n a h zero e =
     let wanted : expected Requests (slice_index a 7) ≡ true = ap (expected Requests) type in
     rw (magic.0, version.0, order.0, wanted, size.0) size.1
 
-request_begins : (o : List ℕ) (head : Head) (key name : List ℕ) (used : ℕ) → BeginsCall o (requested head key name used) → (t : ToldRequest) × BeginsRequest o t
+request_begins : (o : List ℕ) (head : Head) (key name : List ℕ) (used : ℕ) → BeginsCall o (requested head key name used)
+    → (t : ToldRequest) × BeginsRequest o t
 request_begins o head key name used (request r q, n, (there, (a, b, is, header, fields)), told) = (
   request_told (record { order = r; request = q }) n,
   (
@@ -81,7 +82,8 @@ request_begins o head key name used (request r q, n, (there, (a, b, is, header, 
 )
 request_begins o head key name used (search_for r s, n, begins, told) = absurd (cc told)
 
-pub not_a_request : (o : List ℕ) (e : HeadErr) (head : Head) (key name : List ℕ) (used : ℕ) → StopsWith Requests o e → BeginsCall o (requested head key name used) → ⊥
+pub not_a_request : (o : List ℕ) (e : HeadErr) (head : Head) (key name : List ℕ) (used : ℕ) → StopsWith Requests o e
+    → BeginsCall o (requested head key name used) → ⊥
 not_a_request o e head key name used stops begins =
     let (t, (x, n, starts, told)) = request_begins o head key name used begins in
     not_both Requests o x n e starts stops

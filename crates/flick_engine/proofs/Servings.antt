@@ -78,7 +78,8 @@ module _ (r : Order) (b : Binding) (o : List ℕ) where
   one_other x y (inr (e, stops, is)) (inl (id, key, (h, used, begins, told), is')) = absurd (giop_lawful.not_both Asks o h used e begins stops)
   one_other x y (inr (e, stops, is)) (inr (d, stops', is')) = is ∙ ap (giop_answer r o) (giop_lawful.one_fault Asks o e d stops stops') ∙ sym is'
 
-one_answer_over : (k : Back) (b : Binding) (o : List ℕ) (e : HeadErr) (x y : Option (List ℕ)) → AnswersFault k b o e x → AnswersFault k b o e y → x ≡ y
+one_answer_over : (k : Back) (b : Binding) (o : List ℕ) (e : HeadErr) (x y : Option (List ℕ)) → AnswersFault k b o e x
+    → AnswersFault k b o e y → x ≡ y
 one_answer_over back.Xdr b o e x y h g = h ∙ sym g
 one_answer_over back.CdrBig b o e x y h g = one_other Big b o x y h g
 one_answer_over back.CdrLittle b o e x y h g = one_other Little b o x y h g
@@ -102,7 +103,8 @@ one_reason b o (err.Body f) w u h g = h ∙ sym g
 one_reason b o (err.Trailing at) w u h g = h ∙ sym g
 one_reason b o err.NoMemory w u h g = h ∙ sym g
 
-one_refusal : (k : Back) (o : List ℕ) (head : Head) (w : Refusal) (x y : Option (List ℕ)) → RefusesOver k o head w x → RefusesOver k o head w y → x ≡ y
+one_refusal : (k : Back) (o : List ℕ) (head : Head) (w : Refusal) (x y : Option (List ℕ)) → RefusesOver k o head w x
+    → RefusesOver k o head w y → x ≡ y
 one_refusal back.Xdr o head w x y h g = sym h ∙ g
 one_refusal back.CdrBig o head w x y h g = sym h ∙ g
 one_refusal back.CdrLittle o head w x y h g = sym h ∙ g
@@ -122,7 +124,8 @@ module _ (b : Binding) (work : ℕ → Val → Val) (o : List ℕ) where
   replied_once head op w x y (inr (long, refuses)) (inl (short, is)) = absurd (omega (arith, short, long))
   replied_once head op w x y (inr (long, refuses)) (inr (long', refuses')) = one_refusal b.back o head _ x y refuses refuses'
 
-  answered_as : (head : Head) (r : Result Asked MessageErr) (x y : Option (List ℕ)) → AnswersAs b (gives work) o head r x → AnswersAs b (gives work) o head r y → x ≡ y
+  answered_as : (head : Head) (r : Result Asked MessageErr) (x y : Option (List ℕ)) → AnswersAs b (gives work) o head r x
+      → AnswersAs b (gives work) o head r y → x ≡ y
   answered_as head (Err e) x y h g = refused_once head e x y h g
   answered_as head (Ok r) x y (w, is, replies) (u, is', replies') =
       let same : u ≡ w = is' ∙ sym is in
@@ -134,7 +137,8 @@ module _ (b : Binding) (work : ℕ → Val → Val) (o : List ℕ) where
       answered_as (reply_head b.back c.head) r x y answers
       (subst (λ (z : Result Asked MessageErr). AnswersAs b (gives work) o (reply_head b.back c.head) z y) same answers')
 
-  called_once : (t : Bool) (c : Called) (x y : Option (List ℕ)) → MatchBool t (AnswersCall b (gives work) o c x) (x ≡ None) → MatchBool t (AnswersCall b (gives work) o c y) (y ≡ None) → x ≡ y
+  called_once : (t : Bool) (c : Called) (x y : Option (List ℕ)) → MatchBool t (AnswersCall b (gives work) o c x) (x ≡ None)
+      → MatchBool t (AnswersCall b (gives work) o c y) (y ≡ None) → x ≡ y
   called_once true c x y h g = answered_once c x y h g
   called_once false c x y h g = h ∙ sym g
 
@@ -159,12 +163,14 @@ served_once b work o x y h g = once b work o x y h g
 -- ---- each message is answered
 
 module _ (r : Order) (b : Binding) (o : List ℕ) where
-  asked_somehow : ((h : Call) × (used : ℕ) × BeginsWith Asks o h used) ⊎ ((e : HeadErr) × StopsWith Asks o e) → (d : HeadErr) → StopsWith Requests o d → (x : Option (List ℕ)) × AnswersOther r b o x
+  asked_somehow : ((h : Call) × (used : ℕ) × BeginsWith Asks o h used) ⊎ ((e : HeadErr) × StopsWith Asks o e)
+      → (d : HeadErr) → StopsWith Requests o d → (x : Option (List ℕ)) × AnswersOther r b o x
   asked_somehow (inl (request s q, used, begins)) d stops = absurd (not_a_request o d _ _ _ _ stops (request s q, used, begins, refl))
   asked_somehow (inl (search_for s q, used, begins)) d stops = (_, inl (q.id, q.key, (search_for s q, used, begins, refl), refl))
   asked_somehow (inr (e, stops)) d stops' = (_, inr (e, stops, refl))
 
-fault_somehow : (k : Back) (b : Binding) (o : List ℕ) → AreOctets o → (e : HeadErr) → Stops k o e → (x : Option (List ℕ)) × AnswersFault k b o e x
+fault_somehow : (k : Back) (b : Binding) (o : List ℕ) → AreOctets o → (e : HeadErr) → Stops k o e
+    → (x : Option (List ℕ)) × AnswersFault k b o e x
 fault_somehow back.Xdr b o oct e stops = (_, refl)
 fault_somehow back.CdrBig b o oct e stops = asked_somehow Big b o (giop_lawful.heads_are_decided Asks o oct).either e stops
 fault_somehow back.CdrLittle b o oct e stops = asked_somehow Little b o (giop_lawful.heads_are_decided Asks o oct).either e stops
@@ -176,7 +182,8 @@ reason_over back.CdrBig b o c begins = (_, refl)
 reason_over back.CdrLittle b o c begins = (_, refl)
 reason_over back.Mach b o c begins = (_, refl)
 
-refusal_over : (k : Back) (b : Binding) (o : List ℕ) (c : Called) → BeginsOver k b o c → (head : Head) (w : Refusal) → (x : Option (List ℕ)) × RefusesOver k o head w x
+refusal_over : (k : Back) (b : Binding) (o : List ℕ) (c : Called) → BeginsOver k b o c → (head : Head) (w : Refusal)
+    → (x : Option (List ℕ)) × RefusesOver k o head w x
 refusal_over back.Xdr b o c begins head w = (_, refl)
 refusal_over back.CdrBig b o c begins head w = (_, refl)
 refusal_over back.CdrLittle b o c begins head w = (_, refl)
@@ -195,7 +202,8 @@ module _ (b : Binding) (work : ℕ → Val → Val) (o : List ℕ) (c : Called) 
   refusal : (head : Head) (w : Refusal) → (x : Option (List ℕ)) × RefusesOver b.back o head w x
   refusal head w = refusal_over b.back b o c begins head w
 
-  reply : (head : Head) (op : ℕ) (w : Val) → (longest_message < length (reply_message b op head w)) ⊎ IsShort (reply_message b op head w) → (x : Option (List ℕ)) × Replies b o head op w x
+  reply : (head : Head) (op : ℕ) (w : Val) → (longest_message < length (reply_message b op head w)) ⊎ IsShort (reply_message b op head w)
+      → (x : Option (List ℕ)) × Replies b o head op w x
   reply head op w (inl long) = let (x, refuses) = refusal head _ in (x, inr (long, refuses))
   reply head op w (inr short) = (_, inl (short, refl))
 
@@ -209,11 +217,13 @@ module _ (b : Binding) (work : ℕ → Val → Val) (o : List ℕ) (c : Called) 
       let (x, replies) = reply head r.op w (above_or_not longest_message (length (reply_message b r.op head w)) (nat_lt longest_message (length (reply_message b r.op head w))) refl) in
       (x, (w, refl, replies))
 
-  call_somehow : (t : Bool) → (r : Result Asked MessageErr) → ReadCall b o r → (x : Option (List ℕ)) × MatchBool t (AnswersCall b (gives work) o c x) (x ≡ None)
+  call_somehow : (t : Bool) (r : Result Asked MessageErr) → ReadCall b o r
+      → (x : Option (List ℕ)) × MatchBool t (AnswersCall b (gives work) o c x) (x ≡ None)
   call_somehow true r reads = let (x, answers) = answer_as (reply_head b.back c.head) r in (x, (r, reads, answers))
   call_somehow false r reads = (None, refl)
 
-module _ (b : Binding) (work : ℕ → Val → Val) (made : IsMade b.back) (sound : (op : ℕ) → IsSound (request_type b op)) (o : List ℕ) (oct : AreOctets o) where
+module _ (b : Binding) (work : ℕ → Val → Val) (made : IsMade b.back) (sound : (op : ℕ) → IsSound (request_type b op))
+    (o : List ℕ) (oct : AreOctets o) where
   headed : IsShort o → HasHead (Begins b o) (Stops b.back o) → (x : Option (List ℕ)) × Serves b (gives work) o x
   headed short (inl (c, begins)) =
       let (r, reads) = something b made sound o oct in

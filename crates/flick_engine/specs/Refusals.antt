@@ -89,7 +89,8 @@ no_version (Some (low, high)) = ProgMismatch low high
 
 -- why a message that names no interface is refused
 abbrev pub NoInterfaceOver : Back → Binding → List ℕ → Refusal → Type 0
-NoInterfaceOver back.Xdr b o why = (c : OncCall) × xdr_told.BeginsCall o c × (why ≡ no_version (range (versions c.program b.unit.interfaces)))
+NoInterfaceOver back.Xdr b o why =
+    (c : OncCall) × xdr_told.BeginsCall o c × (why ≡ no_version (range (versions c.program b.unit.interfaces)))
 NoInterfaceOver back.CdrBig b o why = why ≡ no_object
 NoInterfaceOver back.CdrLittle b o why = why ≡ no_object
 NoInterfaceOver back.Mach b o why = why ≡ bad_id

@@ -195,8 +195,8 @@ impl Engine {
     ) -> Result<Served, NoMemory>
         requires stops { Stops self.now.binding.back message.now fault }
         requires empty { buf.old.done ≡ [] }
-        ensures serves { IfOk result (λ s. AnswersFault self.now.binding.back self.now.binding message.now fault
-            (reply_in s buf.new.done)) }
+        ensures serves { IfOk result (λ s.
+            AnswersFault self.now.binding.back self.now.binding message.now fault (reply_in s buf.new.done)) }
         ensures silent { (result ≡ Ok Served.Silent) → buf.new.done ≡ [] }
         ensures spent { NoneFell buf.old.spent buf.new.spent }
     {

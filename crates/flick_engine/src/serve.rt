@@ -99,7 +99,8 @@ impl Engine {
         requires below { IsBelow (length self.now.binding.ops) called.now.naming }
         requires empty { buf.old.done ≡ [] }
         ensures serves { IfOk result (λ s.
-            ServesCall self.now.binding (S.Answers skeleton.now) message.now called.now (reply_in s buf.new.done)) }
+            ServesCall self.now.binding (S.Answers skeleton.now) message.now called.now
+            (reply_in s buf.new.done)) }
         ensures silent { (result ≡ Ok Served.Silent) → buf.new.done ≡ [] }
         ensures spent { NoneFell buf.old.spent buf.new.spent }
     {
@@ -125,7 +126,8 @@ impl Engine {
         requires below { IsBelow (length self.now.binding.ops) called.now.naming }
         requires empty { buf.old.done ≡ [] }
         ensures answers { OnOk result
-            (AnswersCall self.now.binding (S.Answers skeleton.now) message.now called.now (Some buf.new.done)) }
+            (AnswersCall self.now.binding (S.Answers skeleton.now) message.now called.now
+            (Some buf.new.done)) }
         ensures spent { NoneFell buf.old.spent buf.new.spent }
     {
         match called.naming {
