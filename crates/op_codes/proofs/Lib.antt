@@ -1,0 +1,11 @@
+mod Chained
+mod Done
+mod Following
+mod Found
+mod Kept
+mod Leading
+mod Lowering
+mod Meant
+mod Stated
+mod Taken
+mod Wholes

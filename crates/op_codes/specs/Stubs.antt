@@ -1,0 +1,50 @@
+-- The stub code of each operation of a binding.
+use Rattle.std.specs.Prelude.{◌≡◌, ℕ, List, length, Some, Option, slice_get}
+use Rattle.mint.specs.Types.{Ty}
+use Rattle.mint.specs.Values.{Val}
+use Rattle.wire_def.specs.declared.head.Head.{Head}
+use Rattle.raw_buf.specs.View.{View}
+use Rattle.cast_stub.specs.Got as stub
+use Rattle.cast_stub.specs.Got.{got_by}
+use Rattle.cast_stub.specs.Meaning.{Cost, cost}
+use Rattle.cast_stub.specs.Parts.{on_some}
+use Rattle.recv_machine.specs.declared.recv.Got.{Got}
+use Rattle.recv_machine.specs.Ran.{place_of, IsGot}
+use Rattle.pres.specs.Bindings.{Binding}
+use Rattle.op_codes.specs.declared.stub.Stub.{Stub}
+use Rattle.op_codes.specs.Backs.{encoding, other_encoding, lead}
+use Rattle.op_codes.specs.Messages.{request_type}
+use Rattle.op_codes.specs.Receiving.{Receives, ReceivesOther}
+use Rattle.op_codes.specs.Sending.{Sends}
+
+-- the code of an operation: it sends its requests, and receives what goes into it, in either order where there are two
+pub record IsStub (b : Binding) (op : ℕ) (s : Stub) : Type 0 where
+  pub send : Sends b.back (lead b op) (request_type b op) s.send
+  pub recv : Receives (encoding b.back) (request_type b op) s.recv
+  pub other : ReceivesOther (other_encoding b.back) (request_type b op) s.other
+
+-- each of a list is the code of the operation of its place
+abbrev pub AreStubs : Binding → List Stub → Type 0
+AreStubs b stubs = (op : ℕ) (s : Stub) → slice_get stubs op ≡ Some s → IsStub b op s
+
+-- a binding with the code of each of its operations
+pub record Coded : Type 0 where
+  pub binding : Binding
+  pub stubs : List Stub
+
+-- one for each operation, each the code of its operation
+pub record IsCoded (c : Coded) : Type 0 where
+  pub many : length c.stubs ≡ length c.binding.ops
+  pub each : AreStubs c.binding c.stubs
+
+-- what the code of an operation costs that sends
+abbrev pub sent_cost : List Stub → ℕ → Head → Val → Option Cost
+sent_cost stubs op h v = on_some (slice_get stubs op) (λ s. cost s.send h v)
+
+-- what the code of an operation gives, that receives in the order of the messages that are sent
+abbrev pub IsGivenBy : List Stub → ℕ → Ty → Got → View → View → Type 0
+IsGivenBy stubs op t got old new = (s : Stub) → slice_get stubs op ≡ Some s → IsGot got new (got_by s.recv t (place_of old))
+
+-- it gives this value, at the place and after the tests where a view then is
+abbrev pub IsToldBy : List Stub → ℕ → Ty → Val → View → View → Type 0
+IsToldBy stubs op t v old new = (s : Stub) → slice_get stubs op ≡ Some s → got_by s.recv t (place_of old) ≡ stub.given v new.pos new.tests

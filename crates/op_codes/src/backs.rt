@@ -1,0 +1,62 @@
+// What differs from one back end to another, from the crate of each.
+ghost use Rattle.std.specs.Prelude.{◌≡◌, ◌<◌, length, IfOk, OnOk};
+ghost use Rattle.cast_stub.specs.Append.{append};
+ghost use Rattle.cast_stub.specs.Block.{code_seen};
+ghost use Rattle.stub_lower.specs.Leads.{AreChunks, Leads};
+ghost use Rattle.op_codes.specs.Backs.{encoding, other_encoding, lead, tail};
+
+use cast_stub::copying::add;
+use cast_stub::{SendCode, SendOps};
+use kit_base::NoMemory;
+use pres::Bound;
+use std::alloc::Global;
+use wire_def::{Back, Encoding};
+
+/// How the bodies of messages that are sent are laid out.
+pub(crate) fn encoding_of(back: Back) -> Encoding
+    ensures { result ≡ encoding back }
+{
+    match back {
+        Back::Xdr => back_xdr::ENCODING,
+        Back::CdrBig => Encoding::CdrBig,
+        Back::CdrLittle => Encoding::CdrLittle,
+        Back::Mach => back_mach::ENCODING,
+    }
+}
+
+/// How the bodies of messages that are received may be laid out besides.
+pub(crate) fn other_of(back: Back) -> Option<Encoding>
+    ensures { result ≡ other_encoding back }
+{
+    match back {
+        Back::CdrBig => Some(Encoding::CdrLittle),
+        Back::CdrLittle => Some(Encoding::CdrBig),
+        Back::Xdr | Back::Mach => None,
+    }
+}
+
+/// The code of the head of an operation's request.
+pub(crate) fn lead_of(alloc: Global, bound: &Bound, op: u32) -> Result<SendCode, NoMemory>
+    requires { op < length bound.now.ops }
+    ensures means { IfOk result (λ code. Leads (lead bound.now op) code) }
+    ensures chunks { IfOk result AreChunks }
+{
+    match bound.back() {
+        Back::Xdr => back_xdr::lead_call(alloc, bound, op),
+        Back::CdrBig | Back::CdrLittle => back_cdr::lead_call(alloc, bound, op),
+        Back::Mach => back_mach::lead_call(alloc, bound, op),
+    }
+}
+
+/// Puts the operation that states the length of a message, where its head states it.
+#[tactic(auto, using(crate::proofs::Wholes::wholes))]
+pub(crate) fn put_tail(back: Back, out: &mut SendOps) -> Result<(), NoMemory>
+    ensures { OnOk result (code_seen out.new ≡ append (code_seen out.old) (tail back)) }
+{
+    match back {
+        Back::Xdr => Ok(()),
+        Back::CdrBig => add(out, back_cdr::size_patch(Back::CdrBig)),
+        Back::CdrLittle => add(out, back_cdr::size_patch(Back::CdrLittle)),
+        Back::Mach => add(out, back_mach::size_patch()),
+    }
+}

@@ -1,0 +1,32 @@
+// The numbers of a head.
+ghost use Rattle.std.specs.Prelude.{◌≡◌};
+ghost use Rattle.cast_stub.specs.Puts.{IsHead};
+
+use wire_def::Head;
+
+fn id_of(head: &Head) -> u32
+    ensures { result ≡ head.now.id }
+{
+    head.id
+}
+
+fn remote_of(head: &Head) -> u32
+    ensures { result ≡ head.now.remote }
+{
+    head.remote
+}
+
+fn local_of(head: &Head) -> u32
+    ensures { result ≡ head.now.local }
+{
+    head.local
+}
+
+/// Words can hold the numbers of a head. It does nothing.
+pub(crate) fn numbers_are_words(head: &Head)
+    ensures { IsHead head.now }
+{
+    let _id = id_of(head);
+    let _remote = remote_of(head);
+    let _local = local_of(head);
+}

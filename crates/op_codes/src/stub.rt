@@ -1,0 +1,17 @@
+// The code of an operation.
+use cast_stub::{RecvCode, SendCode};
+use kit_base::Listed;
+
+/// The code of an operation's requests.
+#[derive(Drop)]
+pub struct Stub {
+    /// The code that sends a request.
+    pub send: SendCode,
+    /// The code that receives what goes into the operation, laid out as it is sent.
+    pub recv: RecvCode,
+    /// The code that receives it in the other order, which CDR alone has.
+    pub other: Option<RecvCode>,
+}
+
+/// The codes of operations, in their order.
+pub type Stubs = Listed<Stub>;
