@@ -1,19 +1,17 @@
 -- The codes of operations, one after the other, and what a run of one has done.
-use Rattle.std.proofs.Common.{◌≡◌, ◌≢◌, ◌⊎◌, inl, inr, ℕ, zero, suc, ◌+◌, ◌<◌, ◌≤◌, List, [], ◌∷◌, ◌++◌, length, Option, None, Some, option_map, Result, Ok, Err, IfOk, slice_get, refl, sym, ap, subst, ◌∙◌, arith}
+use Rattle.std.proofs.Common.{◌≡◌, ◌≢◌, ◌⊎◌, inl, inr, ℕ, zero, suc, List, [], ◌∷◌, ◌++◌, length, Option, None, Some, slice_get, refl, sym, ap, subst, ◌∙◌}
 use Rattle.mint.specs.Types.{Ty}
 use Rattle.wire_def.specs.declared.encoding.Back.{Back}
 use Rattle.wire_def.specs.declared.encoding.Encoding.{Encoding}
-use Rattle.wire_def.specs.declared.head.Head.{Head}
 use Rattle.cast_stub.specs.declared.recv.RecvCode.{RecvCode}
 use Rattle.cast_stub.specs.declared.send.SendCode.{SendCode}
-use Rattle.cast_stub.specs.Parts.{on_some}
 use Rattle.stub_lower.specs.Leads.{Leads}
 use Rattle.pres.specs.Bindings.{Binding}
 use Rattle.op_codes.specs.declared.stub.Stub.{Stub}
 use Rattle.op_codes.specs.Backs.{encoding, other_encoding, lead, Takes}
 use Rattle.op_codes.specs.Messages.{request_type}
 use Rattle.op_codes.specs.Receiving.{Receives, ReceivesOther}
-use Rattle.op_codes.specs.Sending.{AreHeads, Sends, SendsAfter}
+use Rattle.op_codes.specs.Sending.{Sends, SendsAfter}
 use Rattle.op_codes.specs.Stubs.{IsStub, AreStubs}
 use Rattle.op_codes.proofs.Following.{some_same}
 use Rattle.op_codes.proofs.Leading.{are_heads}
@@ -49,11 +47,3 @@ one_more b xs x n many each is op s e = placed (last_or_in xs x s op e) where
   placed : (slice_get xs op ≡ Some s) ⊎ ((op ≡ length xs) × (x ≡ s)) → IsStub b op s
   placed (inl h) = each op s h
   placed (inr h) = subst (λ (i : ℕ). IsStub b i s) (sym (h.0 ∙ many)) (subst (λ (y : Stub). IsStub b n y) h.1 is)
-
--- ---- the code for the other order
-
-pub other_is : (k : Back) (e : Encoding) (t : Ty) (x : Option RecvCode) → Takes k e → e ≢ encoding k → ReceivesOther (other_encoding k) t x
-    → (code : RecvCode) × (x ≡ Some code) × Receives e t code
-other_is k e t x (inl same) differs h = absurd (differs same)
-other_is k e t None (inr is) differs h = absurd (subst (λ (y : Option Encoding). ReceivesOther y t None) is h)
-other_is k e t (Some code) (inr is) differs h = (code, refl, subst (λ (y : Option Encoding). ReceivesOther y t (Some code)) is h)

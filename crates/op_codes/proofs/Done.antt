@@ -8,7 +8,7 @@ use Rattle.raw_buf.specs.declared.tally.Tally.{Tally}
 use Rattle.raw_buf.specs.View.{View}
 use Rattle.cast_stub.specs.declared.recv.RecvCode.{RecvCode}
 use Rattle.cast_stub.specs.Got.{got_by}
-use Rattle.cast_stub.specs.Meaning.{Cost, cost}
+use Rattle.cast_stub.specs.Meaning.{cost}
 use Rattle.cast_stub.specs.Parts.{on_some}
 use Rattle.stub_machine.specs.Sending.{paid, IsLong}
 use Rattle.recv_machine.specs.declared.recv.Got.{Got}
@@ -44,19 +44,3 @@ pub sent_long : (x : Option (List ℕ)) (m : List ℕ) → x ≡ Some m → IsLo
 sent_long x m means long =
     let more : 4194304 < 0 + length m = subst (IsLong 0) means long in
     omega (arith, more)
-
--- octets after none
-pub from_none : (x : Option (List ℕ)) (d : List ℕ) → option_map (λ (o : List ℕ). o) x ≡ Some d → x ≡ Some d
-from_none None d e = absurd cc
-from_none (Some o) d e = e
-
--- ---- receiving
-
-pub given_by : {E : Type 0} (r : Result Got E) (stubs : List Stub) (op : ℕ) (t : Ty) (code : RecvCode) (old new : View)
-    → option_map (λ (s : Stub). s.recv) (slice_get stubs op) ≡ Some code → IfOk r (λ got. IsGot got new (got_by code t (place_of old)))
-    → IfOk r (λ got. IsGivenBy stubs op t got old new)
-given_by (Ok got) stubs op t code old new own is =
-    λ (s : Stub) (found : slice_get stubs op ≡ Some s).
-    let same : code ≡ s.recv = some_same code s.recv (sym own ∙ ap (option_map (λ (x : Stub). x.recv)) found) in
-    subst (λ (x : RecvCode). IsGot got new (got_by x t (place_of old))) same is
-given_by (Err e) stubs op t code old new own is = tt

@@ -57,11 +57,14 @@ behind q (Copied os ∷ ss) o r e = grouped q o os ss (q ++ r) (behind q ss (o +
 behind q (Patched at sub order ∷ ss) o r e =
     let x = in_order order 4 ((length q + length o + 2 ^ 32 - sub) % 2 ^ 32) in
     let far : 0 + length (q ++ o) ≡ length q + length o = omega (arith, length-append q o) in
-    let w = opened_patch (nat_le (length q) at) (nat_le (at + 4) (length q + length o)) (written o (at - length q) x) (λ (a : List ℕ). wrote (length q) a ss) r e in
+    let w = opened_patch (nat_le (length q) at) (nat_le (at + 4) (length q + length o)) (written o (at - length q) x)
+    (λ (a : List ℕ). wrote (length q) a ss) r e in
     let low : length q ≤ at = leb-true (length q) at w.0 in
     let high : at + 4 ≤ length q + length o = leb-true (at + 4) (length q + length o) w.1 in
-    ap (λ (m : ℕ). on_some (if nat_le 0 at && nat_le (at + 4) m then Some (written (q ++ o) (at - 0) (in_order order 4 ((m + 2 ^ 32 - sub) % 2 ^ 32))) else None) (λ (a : List ℕ). wrote 0 a ss)) far
-    ∙ closed_patch (nat_le 0 at) (nat_le (at + 4) (length q + length o)) (written (q ++ o) (at - 0) x) (λ (a : List ℕ). wrote 0 a ss) (q ++ r)
+    ap (λ (m : ℕ). on_some (if nat_le 0 at && nat_le (at + 4) m then Some
+    (written (q ++ o) (at - 0) (in_order order 4 ((m + 2 ^ 32 - sub) % 2 ^ 32))) else None) (λ (a : List ℕ). wrote 0 a ss)) far
+    ∙ closed_patch (nat_le 0 at) (nat_le (at + 4) (length q + length o)) (written (q ++ o) (at - 0) x) (λ (a : List ℕ). wrote 0 a ss)
+    (q ++ r)
     (le-leb 0 at (omega arith)) (le-leb (at + 4) (length q + length o) high)
     (ap (λ (z : List ℕ). wrote 0 z ss) (over q o x at low) ∙ behind q ss (written o (at - length q) x) r w.2)
 

@@ -1,9 +1,8 @@
 -- A value that was received is what the message has, and nothing else.
-use Rattle.std.proofs.Common.{◌≡◌, ◌↔◌, ℕ, ◌+◌, ◌-◌, ◌≤◌, List, ◌++◌, length, take, drop, Some, Result, Ok, Err, IfOk, slice_get, refl, sym, ap, subst, ◌∙◌, arith}
+use Rattle.std.proofs.Common.{◌≡◌, ◌↔◌, ℕ, ◌+◌, List, ◌++◌, length, take, drop, sym, subst, ◌∙◌, arith}
 use Rattle.std.proofs.lemmas.List.{take-append-drop, length-take}
 use Rattle.mint.specs.Types.{Ty}
-use Rattle.mint.specs.Values.{Val, seen}
-use Rattle.mint.specs.declared.value.Value.{Value}
+use Rattle.mint.specs.Values.{Val}
 use Rattle.wire_def.specs.declared.encoding.Encoding.{Encoding}
 use Rattle.wire_def.specs.declared.fault.FaultKind.{FaultKind}
 use Rattle.wire_def.specs.Grammar.{Reading, got, stop}

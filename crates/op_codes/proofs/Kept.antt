@@ -1,8 +1,7 @@
 -- What the passes make of such code sends the messages.
-use Rattle.std.proofs.Common.{◌≡◌, ℕ, ◌≤◌, ◌<◌, List, [], length, Option, None, Some, option_map, Result, Ok, Err, IfOk, IfSome, sym, ap, subst, ◌∙◌}
+use Rattle.std.proofs.Common.{◌≡◌, ℕ, ◌≤◌, List, [], length, Option, None, Some, option_map, Result, Ok, Err, IfOk, IfSome, sym, subst, ◌∙◌}
 use Rattle.kit_base.specs.declared.errors.NoMemory.{NoMemory}
-use Rattle.mint.specs.declared.node.Node.{Node}
-use Rattle.mint.specs.Types.{Ty, type_at}
+use Rattle.mint.specs.Types.{Ty}
 use Rattle.mint.specs.Typed.{IsWellTyped}
 use Rattle.mint.specs.Values.{Val}
 use Rattle.wire_def.specs.declared.encoding.Back.{Back}
@@ -20,7 +19,7 @@ use Rattle.copy_inline.specs.Rows.{ChecksTheSame, GivesBlocks, SendsTheSameOf, S
 use Rattle.hoist.specs.Pass.{IsSparing}
 use Rattle.op_codes.specs.Backs.{encoding}
 use Rattle.op_codes.specs.Messages.{framed}
-use Rattle.op_codes.specs.Sending.{AreHeads, Sends, SendsAfter}
+use Rattle.op_codes.specs.Sending.{AreHeads, SendsAfter}
 use Rattle.op_codes.proofs.Following.{some_same}
 
 there : {A : Type 0} (x : Option A) (a : A) → x ≡ Some a → IsThere x
@@ -45,8 +44,10 @@ module _ (k : Back) (t : Ty) (lead given code : SendCode)
   sends r alike stays checks blocks calls none o leads heads =
       record {
         means = λ h v head typed. alike h v 0 typed.is_of ∙ same h v 0 ∙ made o leads heads h v head typed;
-        covered = λ h v head typed. stays h v 0 typed.is_of (covered h v 0 typed.is_of (there (meaning given h v 0) (framed k (o h) t v) (made o leads heads h v head typed)));
-        checks = λ h v head typed. carried (cost r h v) (cost code h v) _ (checks h v typed.is_of) (sparing (length (o h)) h v (is_framed o leads heads h v head) typed.is_of);
+        covered = λ h v head typed. stays h v 0 typed.is_of (covered h v 0 typed.is_of
+            (there (meaning given h v 0) (framed k (o h) t v) (made o leads heads h v head typed)));
+        checks = λ h v head typed. carried (cost r h v) (cost code h v) _ (checks h v typed.is_of)
+            (sparing (length (o h)) h v (is_framed o leads heads h v head) typed.is_of);
         blocks = blocks;
         calls = calls;
         subs = none;

@@ -1,9 +1,8 @@
 -- The heads of requests, and their code.
-use Rattle.std.proofs.Common.{◌≡◌, ◌⊎◌, inl, inr, ℕ, ◌≤◌, ◌%◌, length, Result, Ok, Err, IfOk, refl, sym, ap, subst, arith}
+use Rattle.std.proofs.Common.{◌≡◌, ◌⊎◌, inl, inr, ℕ, Result, Ok, Err, IfOk, refl, sym, subst, arith}
 use Rattle.kit_base.specs.declared.errors.NoMemory.{NoMemory}
 use Rattle.wire_def.specs.declared.encoding.Back.{Back}
 use Rattle.wire_def.specs.declared.encoding.Back.TheVariants as back
-use Rattle.wire_def.specs.declared.head.Head.{Head}
 use Rattle.wire_def.specs.declared.head.Order.TheVariants.{Big, Little}
 use Rattle.cast_stub.specs.declared.send.SendCode.{SendCode}
 use Rattle.stub_lower.specs.Leads.{Leads}

@@ -1,5 +1,5 @@
 -- What is lowered for a table, and the code that receives.
-use Rattle.std.proofs.Common.{◌≡◌, ℕ, List, [], length, Option, None, Some, Result, Ok, Err, IfOk, ◌∙◌, sym, subst}
+use Rattle.std.proofs.Common.{◌≡◌, List, [], length, Option, Result, Ok, Err, IfOk, ◌∙◌, subst}
 use Rattle.kit_base.specs.declared.errors.NoMemory.{NoMemory}
 use Rattle.mint.specs.declared.node.Node.{Node}
 use Rattle.mint.specs.Types.{Ty}

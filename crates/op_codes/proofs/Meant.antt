@@ -1,9 +1,9 @@
 -- The code of a head, inlined code and a patch append the message.
-use Rattle.std.proofs.Common.{◌≡◌, ℕ, ◌+◌, ◌≤◌, ◌<◌, List, [], ◌∷◌, ◌++◌, length, get_or, Option, None, Some, refl, sym, ap, subst, ◌∙◌, append-nil, arith, length-append}
+use Rattle.std.proofs.Common.{◌≡◌, ℕ, ◌+◌, ◌≤◌, ◌<◌, List, [], ◌++◌, length, get_or, Option, None, Some, refl, sym, ap, ◌∙◌, append-nil, arith, length-append}
 use Rattle.std.specs.Prelude.{slice_get}
 use Rattle.std.proofs.lemmas.Option.{slice_get-get_or}
 use Rattle.mint.specs.declared.node.Node.{Node}
-use Rattle.mint.specs.Types.{Ty, type_at}
+use Rattle.mint.specs.Types.{type_at}
 use Rattle.mint.specs.Typed.{IsWellTyped}
 use Rattle.mint.specs.Sound.{IsSound}
 use Rattle.mint.specs.Values.{Val}
@@ -14,7 +14,7 @@ use Rattle.wire_def.specs.Send.{send}
 use Rattle.cast_stub.specs.declared.send.SendCode.{SendCode}
 use Rattle.cast_stub.specs.declared.send.SendOp.{SendOp}
 use Rattle.cast_stub.specs.Append.{append}
-use Rattle.cast_stub.specs.Block.{Block, stop, code_seen}
+use Rattle.cast_stub.specs.Block.{Block, code_seen}
 use Rattle.cast_stub.specs.Follows.{Follows, AllFollow}
 use Rattle.cast_stub.specs.Framed as framed_code
 use Rattle.cast_stub.specs.Framed.{lead_length, IsTail}
@@ -106,8 +106,12 @@ module _ (k : Back) (nodes : List Node) (id : ℕ) (subs : List (List SendOp)) (
     lead_steps : (h : Head) (v : Val) → IsHead h
         → (ls : List Step) × (steps (calls_of given.subs h deepest) h (code_seen lead.ops) v ≡ Some ls) × (wrote 0 [] ls ≡ Some (o h))
     lead_steps h v head =
-        let m = opened (sent_steps lead h v) (wrote 0 []) (o h) (leads h v 0 head) in
-        (m.0, chunks-steps (calls_of given.subs h deepest) (calls_of lead.subs h deepest) h v (code_seen lead.ops) r.chunks.0 r.chunks.1 ∙ m.1, m.2)
+        let m = opened (sent_steps lead h v) (wrote 0 []) (o h) (leads h v 0 head) in (
+          m.0,
+          chunks-steps (calls_of given.subs h deepest) (calls_of lead.subs h deepest) h v (code_seen lead.ops) r.chunks.0 r.chunks.1
+              ∙ m.1,
+          m.2,
+        )
 
     -- what the body does
     body_steps : (h : Head) (v : Val) → IsWellTyped (type_at nodes id) v
@@ -117,9 +121,13 @@ module _ (k : Back) (nodes : List Node) (id : ℕ) (subs : List (List SendOp)) (
         let ops = get_or subs id [] in
         let found : slice_get subs id ≡ Some ops = slice_get-get_or subs id [] r.known in
         let sent = r.sends id ops found h v (length (o h)) (heads.place h) typed in
-        let m = opened (sent_steps (record { ops = ops; subs = subs }) h v) (wrote (length (o h)) []) (send (encoding k) (type_at nodes id) (length (o h)) v) sent in
-        let same : sent_steps body h v ≡ Some m.0 = r.does ops h v m.0 found m.1 in
-        (m.0, ap (λ (l : List (List SendOp)). steps (calls_of l h deepest) h (code_seen body.ops) v) (r.whole.subs ∙ sym r.none) ∙ same, m.2)
+        let m = opened (sent_steps (record { ops = ops; subs = subs }) h v) (wrote (length (o h)) [])
+        (send (encoding k) (type_at nodes id) (length (o h)) v) sent in
+        let same : sent_steps body h v ≡ Some m.0 = r.does ops h v m.0 found m.1 in (
+          m.0,
+          ap (λ (l : List (List SendOp)). steps (calls_of l h deepest) h (code_seen body.ops) v) (r.whole.subs ∙ sym r.none) ∙ same,
+          m.2,
+        )
 
     -- together they append the message
     pub made : (h : Head) (v : Val) → IsHead h → IsWellTyped (type_at nodes id) v
@@ -130,12 +138,14 @@ module _ (k : Back) (nodes : List Node) (id : ℕ) (subs : List (List SendOp)) (
         let b = body_steps h v typed in
         let s = send (encoding k) (type_at nodes id) (length (o h)) v in
         let long : 12 ≤ length (o h ++ s) = omega (arith, heads.long h, length-append (o h) s) in
-        let body_written : wrote 0 (o h) b.0 ≡ Some (o h ++ s) = ap (λ (q : List ℕ). wrote 0 q b.0) (sym (append-nil (o h))) ∙ behind (o h) b.0 [] s b.2 in
+        let body_written : wrote 0 (o h) b.0 ≡ Some (o h ++ s) = ap (λ (q : List ℕ). wrote 0 q b.0) (sym (append-nil (o h))) ∙ behind
+        (o h) b.0 [] s b.2 in
         let all : steps c h (code_seen given.ops) v ≡ Some (l.0 ++ (b.0 ++ tail_steps k)) =
         ap (λ (x : Block). steps c h x v) r.whole.ops
         ∙ steps-append c h (code_seen lead.ops) (append (code_seen body.ops) (tail k)) v
         ∙ ap (both (steps c h (code_seen lead.ops) v)) (steps-append c h (code_seen body.ops) (tail k) v)
-        ∙ three (steps c h (code_seen lead.ops) v) (steps c h (code_seen body.ops) v) (steps c h (tail k) v) l.0 b.0 (tail_steps k) l.1 b.1 (tail_runs k c h v) in
+        ∙ three (steps c h (code_seen lead.ops) v) (steps c h (code_seen body.ops) v) (steps c h (tail k) v) l.0 b.0 (tail_steps k) l.1
+        b.1 (tail_runs k c h v) in
         ap (λ (x : Steps). on_some x (wrote 0 [])) all
         ∙ wrote-append 0 [] l.0 (b.0 ++ tail_steps k)
         ∙ ap (λ (x : Option (List ℕ)). on_some x (λ (q : List ℕ). wrote 0 q (b.0 ++ tail_steps k))) l.2
@@ -147,6 +157,7 @@ module _ (k : Back) (nodes : List Node) (id : ℕ) (subs : List (List SendOp)) (
     pub is_framed : (h : Head) (v : Val) → IsHead h → framed_code.IsFramed (length (o h)) (type_at nodes id) (code_seen given.ops)
     is_framed h v head =
         let first = chunks-length (code_seen lead.ops) r.chunks.0 r.chunks.1 in
-        let same : length (o h) ≡ first.0 = chunks-append (calls_of lead.subs h deepest) h v (code_seen lead.ops) first.0 0 [] (o h) first.1 (leads h v 0 head) ∙ (let z : 0 + first.0 ≡ first.0 = omega arith in z) in
+        let same : length (o h) ≡ first.0 = chunks-append (calls_of lead.subs h deepest) h v (code_seen lead.ops) first.0 0 [] (o h)
+        first.1 (leads h v 0 head) ∙ (let z : 0 + first.0 ≡ first.0 = omega arith in z) in
         let long : lead_length (code_seen lead.ops) ≡ Some (length (o h)) = first.1 ∙ ap (λ (n : ℕ). Some n) (sym same) in
         (code_seen lead.ops, code_seen body.ops, tail k, id, r.whole.ops, long, through, tail_ends k)

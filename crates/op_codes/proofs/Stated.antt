@@ -55,8 +55,10 @@ patched_is : (at sub : ℕ) (r : Order) (o : List ℕ) → at + 4 ≤ length o �
 patched_is at sub r o long le =
     let none : 0 + length o ≡ length o = omega arith in
     let same : at - 0 ≡ at = omega arith in
-    ap (λ (n : ℕ). if nat_le 0 at && nat_le (at + 4) n then Some (written o (at - 0) (in_order r 4 ((n + 2 ^ 32 - sub) % 2 ^ 32))) else None) none
-    ∙ chosen (nat_le 0 at) (nat_le (at + 4) (length o)) (written o (at - 0) (in_order r 4 ((length o + 2 ^ 32 - sub) % 2 ^ 32))) (le-leb 0 at (omega arith)) (le-leb (at + 4) (length o) long)
+    ap (λ (n : ℕ). if nat_le 0 at && nat_le (at + 4) n then Some
+    (written o (at - 0) (in_order r 4 ((n + 2 ^ 32 - sub) % 2 ^ 32))) else None) none
+    ∙ chosen (nat_le 0 at) (nat_le (at + 4) (length o)) (written o (at - 0) (in_order r 4 ((length o + 2 ^ 32 - sub) % 2 ^ 32)))
+    (le-leb 0 at (omega arith)) (le-leb (at + 4) (length o) long)
     ∙ ap (λ (k : ℕ). Some (written o k (in_order r 4 ((length o + 2 ^ 32 - sub) % 2 ^ 32)))) same
     ∙ ap (λ (x : List ℕ). Some (written o at x)) (less r (length o) sub le)
 
@@ -76,7 +78,8 @@ tail_runs back.Mach c h v = refl
 states_in : (at sub : ℕ) (r : Order) (o x : List ℕ) → at + 4 ≤ length o → sub ≤ length o → in_order r 4 (length o - sub) ≡ x
     → wrote 0 o (Patched at sub r ∷ []) ≡ Some (written o at x)
 states_in at sub r o x long le same =
-    ap (λ (z : Option (List ℕ)). on_some z (λ (a : List ℕ). Some a)) (patched_is at sub r o long le) ∙ ap (λ (z : List ℕ). Some (written o at z)) same
+    ap (λ (z : Option (List ℕ)). on_some z (λ (a : List ℕ). Some a)) (patched_is at sub r o long le) ∙ ap
+    (λ (z : List ℕ). Some (written o at z)) same
 
 -- after it the message states its length
 pub states : (k : Back) (o : List ℕ) → 12 ≤ length o → wrote 0 o (tail_steps k) ≡ Some (sized k o)

@@ -1,10 +1,10 @@
 -- Bodies of calls that are received: how they are laid out, and where they begin.
-use Rattle.std.proofs.Common.{◌≡◌, ◌⊎◌, inl, inr, ℕ, ◌+◌, ◌%◌, ◌≤◌, List, ◌++◌, length, take, replicate, Option, Some, refl, sym, ap, subst, ◌∙◌, arith, length-append, length-take}
+use Rattle.std.proofs.Common.{◌≡◌, inl, inr, ℕ, ◌+◌, ◌%◌, List, ◌++◌, length, take, replicate, refl, sym, ap, subst, ◌∙◌, arith, length-append, length-take}
 use Rattle.std.proofs.lemmas.List.{length-replicate}
 use Rattle.wire_def.specs.declared.encoding.Back.{Back}
 use Rattle.wire_def.specs.declared.encoding.Back.TheVariants as back
 use Rattle.wire_def.specs.declared.encoding.Encoding.{Encoding}
-use Rattle.wire_def.specs.declared.encoding.Encoding.TheVariants.{Xdr, CdrBig, CdrLittle, Mach}
+use Rattle.wire_def.specs.declared.encoding.Encoding.TheVariants.{Xdr, Mach}
 use Rattle.wire_def.specs.declared.head.Order.{Order}
 use Rattle.wire_def.specs.declared.head.Order.TheVariants.{Big, Little}
 use Rattle.wire_def.specs.Places.{IsPlace}
@@ -12,7 +12,6 @@ use Rattle.wire_def.specs.Scalars.{gap}
 use Rattle.call_kit.specs.declared.called.Called.{Called}
 use Rattle.pres.specs.Bindings.{Binding}
 use Rattle.giop_head.specs.Items.{laid}
-use Rattle.giop_head.specs.Told.{ToldRequest}
 use Rattle.back_xdr.specs.declared.call.OncCall.{OncCall}
 use Rattle.back_xdr.specs.Auth.{Auth, auth_octets}
 use Rattle.back_xdr.specs.Call.{Call, call_octets}
@@ -21,7 +20,7 @@ use Rattle.back_cdr.specs.Seeking as cdr_seeking
 use Rattle.back_mach.specs.declared.call.MachCall.{MachCall}
 use Rattle.back_mach.specs.Header.{SixSpell}
 use Rattle.back_mach.specs.Seeking as mach_seeking
-use Rattle.op_codes.specs.Backs.{encoding, other_encoding, Takes, BeginsOver}
+use Rattle.op_codes.specs.Backs.{Takes, BeginsOver}
 use Rattle.op_codes.specs.Laws.{BodiesAreTaken}
 
 abbrev IsTaken : Back → Called → Type 0
@@ -65,8 +64,11 @@ laid_placed Little n = tt
 
 cdr_taken : (k : Back) → ((r : Order) → Takes k (laid r)) → (b : Binding) (o : List ℕ) (c : Called) → cdr_seeking.Calls b o c → IsTaken k c
 cdr_taken k takes b o c (told, begins, same) =
-    let lies : laid told.head.order ≡ c.encoding = ap (λ (t : Called). t.encoding) same in
-    (subst (λ (e : Encoding). Takes k e) lies (takes told.head.order), subst (λ (e : Encoding). IsPlace e c.used) lies (laid_placed told.head.order c.used))
+    let lies : laid told.head.order ≡ c.encoding = ap (λ (t : Called). t.encoding) same in (
+      subst (λ (e : Encoding). Takes k e) lies (takes told.head.order),
+      subst (λ (e : Encoding). IsPlace e c.used) lies
+          (laid_placed told.head.order c.used),
+    )
 
 -- ---- Mach
 

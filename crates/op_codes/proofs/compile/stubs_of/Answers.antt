@@ -1,5 +1,4 @@
-use Rattle.std.proofs.Common.{◌+◌, ℕ, List, [], ◌∷◌, length, ap, sym, subst, arith, length-append}
-use Rattle.op_codes.specs.declared.stub.Stub.{Stub}
+use Rattle.std.proofs.Common.{ℕ, [], ◌∷◌, length, ap, sym, subst, arith, length-append}
 use Rattle.op_codes.specs.Stubs.{AreStubs, IsStub}
 use Rattle.op_codes.proofs.Chained.{one_more}
 use Rattle.op_codes.proofs.compile.stubs_of.Goals as goal

@@ -9,5 +9,6 @@ run_recv-requires c =
 
 pub returns-clause-spelled : goal.returns-clause-spelled
 returns-clause-spelled c =
-    c.run_recv.ensures.exact c.args._enc (is_exact c.args._enc (type_at c.args.mint.now c.args.id) c.args.code.now c.args.view.now c.requires.receives.sound c.requires.place
+    c.run_recv.ensures.exact c.args._enc (is_exact c.args._enc (type_at c.args.mint.now c.args.id) c.args.code.now c.args.view.now
+    c.requires.receives.sound c.requires.place
     c.rest_of-rest.ensures.octets c.rest_of-rest.ensures.within c.requires.short)

@@ -13,10 +13,17 @@ inline_recv-requires-clause-types c = (c.args.mint.now, c.types_are_sound.ensure
 
 pub rows_recv-requires-clause-given : goal.rows_recv-requires-clause-given
 rows_recv-requires-clause-given c =
-    record { below = c.args.id; goes = c.in_ok-flat.ensures.turned (layout_of c.args.enc) c.args.mint.now (c.types_are_sound.ensures c.args.id) c.requires.subs.turned; subs = c.in_ok-flat.ensures.subs }
+    record {
+      below = c.args.id;
+      goes = c.in_ok-flat.ensures.turned (layout_of c.args.enc) c.args.mint.now
+          (c.types_are_sound.ensures c.args.id) c.requires.subs.turned;
+      subs = c.in_ok-flat.ensures.subs;
+    }
 
 pub returns : goal.returns
 returns c =
     let known : c.args.id < length c.args.subs.now = omega (arith, c.requires.id, c.requires.subs.many) in
-    let sound = kept c.args.enc c.args.mint.now c.args.subs.now c.args.id c.in_ok-flat.flat known c.requires.subs.sound c.in_ok-flat.ensures.same in
-    receives c.args.enc (type_at c.args.mint.now c.args.id) c.in_ok-flat.flat c.rows_recv.result sound c.rows_recv.ensures.sound c.rows_recv.ensures.calls c.rows_recv.ensures.subs
+    let sound = kept c.args.enc c.args.mint.now c.args.subs.now c.args.id c.in_ok-flat.flat known c.requires.subs.sound
+    c.in_ok-flat.ensures.same in
+    receives c.args.enc (type_at c.args.mint.now c.args.id) c.in_ok-flat.flat c.rows_recv.result sound c.rows_recv.ensures.sound
+    c.rows_recv.ensures.calls c.rows_recv.ensures.subs

@@ -1,4 +1,4 @@
-use Rattle.std.proofs.Common.{◌<◌, length, List, Result, IfOk, sym, subst, arith}
+use Rattle.std.proofs.Common.{◌<◌, length, IfOk, sym, subst, arith}
 use Rattle.mint.specs.Types.{type_at}
 use Rattle.wire_def.specs.declared.encoding.Encoding.{Encoding}
 use Rattle.copy_inline.specs.Rows.{GivesBlocks}
@@ -17,7 +17,8 @@ inline-requires-clause-types c = (c.args.mint.now, c.types_are_sound.ensures, c.
 pub hoist-requires-clause-given : goal.hoist-requires-clause-given
 hoist-requires-clause-given c =
     let known : c.args.id < length c.args.low.now.sends = omega (arith, c.requires.id, c.requires.lowered.many) in
-    let ready : IsReady c.args.back c.args.mint.now c.args.id c.args.low.now.sends c.args.lead c.in_ok-body.body c.in_ok-given.given = record {
+    let ready : IsReady c.args.back c.args.mint.now c.args.id c.args.low.now.sends c.args.lead c.in_ok-body.body
+    c.in_ok-given.given = record {
       sound = c.types_are_sound.ensures c.args.id;
       known = known;
       sends = c.requires.lowered.sends;
@@ -33,7 +34,8 @@ hoist-requires-clause-given c =
 pub rows-requires-clause-given : goal.rows-requires-clause-given
 rows-requires-clause-given c =
     let known : c.args.id < length c.args.low.now.sends = omega (arith, c.requires.id, c.requires.lowered.many) in
-    let ready : IsReady c.args.back c.args.mint.now c.args.id c.args.low.now.sends c.args.lead c.in_ok-body.body c.in_ok-given.given = record {
+    let ready : IsReady c.args.back c.args.mint.now c.args.id c.args.low.now.sends c.args.lead c.in_ok-body.body
+    c.in_ok-given.given = record {
       sound = c.types_are_sound.ensures c.args.id;
       known = known;
       sends = c.requires.lowered.sends;
@@ -46,13 +48,15 @@ rows-requires-clause-given c =
     } in
     subst (λ (e : Encoding). rows.IsGiven e (type_at c.args.mint.now c.args.id) c.in_ok-code.code) (sym c.encoding_of.ensures)
     (rows_given c.args.back c.args.mint.now c.args.id c.args.low.now.sends c.args.lead c.in_ok-body.body c.in_ok-given.given ready
-    c.in_ok-body.ensures.turned c.requires.lowered.turned c.in_ok-code.code c.in_ok-code.ensures.adds c.in_ok-code.ensures.rows c.in_ok-code.ensures.subs)
+    c.in_ok-body.ensures.turned c.requires.lowered.turned c.in_ok-code.code c.in_ok-code.ensures.adds c.in_ok-code.ensures.rows
+    c.in_ok-code.ensures.subs)
 
 pub returns : goal.returns
 returns c =
     let known : c.args.id < length c.args.low.now.sends = omega (arith, c.requires.id, c.requires.lowered.many) in
     let t = type_at c.args.mint.now c.args.id in
-    let ready : IsReady c.args.back c.args.mint.now c.args.id c.args.low.now.sends c.args.lead c.in_ok-body.body c.in_ok-given.given = record {
+    let ready : IsReady c.args.back c.args.mint.now c.args.id c.args.low.now.sends c.args.lead c.in_ok-body.body
+    c.in_ok-given.given = record {
       sound = c.types_are_sound.ensures c.args.id;
       known = known;
       sends = c.requires.lowered.sends;

@@ -1,4 +1,4 @@
-use Rattle.std.proofs.Common.{◌≡◌, ℕ, ◌-◌, List, drop, sym, subst, arith}
+use Rattle.std.proofs.Common.{◌≡◌, ℕ, ◌-◌, List, drop, subst, arith}
 use Rattle.mint.specs.Values.{seen}
 use Rattle.recv_machine.specs.declared.recv.Got.{Got}
 use Rattle.recv_machine.specs.Ran.{IsSpelled}

@@ -1,11 +1,10 @@
 use Rattle.mint.specs.Values.{seen}
-use Rattle.op_codes.specs.Messages.{message}
-use Rattle.cast_stub.specs.Meaning.{meaning}
 use Rattle.op_codes.proofs.Done.{sent_is, sent_short, sent_paid, sent_long}
 use Rattle.op_codes.proofs.codes.Codes.send.Goals as goal
 
 pub run_from_front-requires : goal.run_from_front-requires
-run_from_front-requires c = c.stub.ensures.is.send.covered c.args.head.now (seen c.args.value.now) c.numbers_are_words.ensures c.requires.typed
+run_from_front-requires c = c.stub.ensures.is.send.covered c.args.head.now (seen c.args.value.now) c.numbers_are_words.ensures
+    c.requires.typed
 
 pub returns-clause-ok : goal.returns-clause-ok
 returns-clause-ok c =
@@ -19,11 +18,13 @@ returns-clause-short c =
 
 pub returns-clause-tally : goal.returns-clause-tally
 returns-clause-tally c =
-    sent_paid c.run_from_front.result c.args.self.now.stubs c.args.op c.stub.result.now c.args.head.now (seen c.args.value.now) _ _ c.stub.ensures.found c.run_from_front.ensures.tally
+    sent_paid c.run_from_front.result c.args.self.now.stubs c.args.op c.stub.result.now c.args.head.now (seen c.args.value.now) _ _
+    c.stub.ensures.found c.run_from_front.ensures.tally
 
 pub returns-clause-spent : goal.returns-clause-spent
 returns-clause-spent c =
-    sent_paid c.run_from_front.result c.args.self.now.stubs c.args.op c.stub.result.now c.args.head.now (seen c.args.value.now) _ _ c.stub.ensures.found c.run_from_front.ensures.spent
+    sent_paid c.run_from_front.result c.args.self.now.stubs c.args.op c.stub.result.now c.args.head.now (seen c.args.value.now) _ _
+    c.stub.ensures.found c.run_from_front.ensures.spent
 
 pub returns-clause-long : goal.returns-clause-long
 returns-clause-long c =
