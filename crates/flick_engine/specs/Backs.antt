@@ -42,6 +42,7 @@ use Rattle.back_mach.specs.Leads as mach_leads
 use Rattle.back_mach.specs.Routines.{routine_in, routine_of}
 use Rattle.back_mach.specs.Seeking as mach_seeking
 use Rattle.back_mach.specs.Told as mach_told
+pub use Rattle.op_codes.specs.Backs.{encoding, lead_over, lead, sized, BeginsOver, Begins}
 use Rattle.flick_engine.specs.Fates.{Heard, fate_of, giop_fate}
 
 -- a back end that engines are made for
@@ -59,43 +60,7 @@ back_of word =
     (if bytes_eq word (codes "cdr-le") then Some back.CdrLittle else
     (if bytes_eq word (codes "mach") then Some back.Mach else None)))
 
--- how bodies are laid out
-abbrev pub encoding : Back → Encoding
-encoding back.Xdr = xdr_seeking.encoding
-encoding back.CdrBig = CdrBig
-encoding back.CdrLittle = CdrLittle
-encoding back.Mach = mach_seeking.encoding
-
--- ---- the heads that are sent
-
-abbrev pub lead_over : Back → Binding → ℕ → Head → List ℕ
-lead_over back.Xdr b op head = xdr_leads.lead (procedure_of b op) head.id
-lead_over back.CdrBig b op head = cdr_leads.lead Big (target_of b op) head.id
-lead_over back.CdrLittle b op head = cdr_leads.lead Little (target_of b op) head.id
-lead_over back.Mach b op head = mach_leads.lead (routine_of b op) head
-
--- the head of an operation's call
-abbrev pub lead : Binding → ℕ → Head → List ℕ
-lead b op head = lead_over b.back b op head
-
--- a message that is whole, in which its length is told where its head tells it
-abbrev pub sized : Back → List ℕ → List ℕ
-sized back.Xdr o = o
-sized back.CdrBig o = with_size Big o
-sized back.CdrLittle o = with_size Little o
-sized back.Mach o = mach_leads.with_size o
-
 -- ---- the heads that are received
-
-abbrev pub BeginsOver : Back → Binding → List ℕ → Called → Type 0
-BeginsOver back.Xdr b o c = xdr_seeking.Calls b o c
-BeginsOver back.CdrBig b o c = cdr_seeking.Calls b o c
-BeginsOver back.CdrLittle b o c = cdr_seeking.Calls b o c
-BeginsOver back.Mach b o c = mach_seeking.Calls b o c
-
--- a message begins with the head of a call that says this
-abbrev pub Begins : Binding → List ℕ → Called → Type 0
-Begins b o c = BeginsOver b.back b o c
 
 -- the first item of a call's head that is cut off or wrong
 abbrev pub Stops : Back → List ℕ → HeadErr → Type 0

@@ -2,6 +2,7 @@ pub mod Fates
 pub mod Backs
 pub mod Engines
 pub mod Messages
+pub mod Costs
 pub mod Operations
 pub mod Received
 pub mod Replies

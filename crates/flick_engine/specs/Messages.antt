@@ -6,7 +6,8 @@ use Rattle.wire_def.specs.declared.head.Head.{Head}
 use Rattle.wire_def.specs.Send.{send}
 use Rattle.pres.specs.Bindings.{Binding}
 pub use Rattle.skeleton.specs.Exchanges.{request_type}
-use Rattle.flick_engine.specs.Backs.{encoding, lead, sized}
+pub use Rattle.op_codes.specs.Messages.{message}
+use Rattle.flick_engine.specs.Backs.{encoding, lead}
 
 -- the head of an operation's call, and its value at the position after the head
 abbrev pub parts : Binding → ℕ → Head → Val → List ℕ
@@ -16,6 +17,3 @@ parts b op head v = lead b op head ++ send (encoding b.back) (request_type b op)
 abbrev pub with_value : Binding → List ℕ → ℕ → Val → List ℕ
 with_value b o id v = o ++ send (encoding b.back) (type_at b.nodes id) (length o) v
 
--- the two, in which the length of the whole is told
-abbrev pub message : Binding → ℕ → Head → Val → List ℕ
-message b op head v = sized b.back (parts b op head v)

@@ -51,40 +51,6 @@ impl Engine {
         }
     }
 
-    /// Puts the head of an operation's call into an empty buffer.
-    pub(crate) fn put_lead(
-        &self,
-        alloc: Global,
-        op: u32,
-        head: &Head,
-        buf: &mut SendBuf,
-    ) -> Result<(), NoMemory>
-        requires op { op < length self.now.binding.ops }
-        requires empty { buf.old.done ≡ [] }
-        ensures ok { OnOk result (buf.new.done ≡ lead self.now.binding op head.now) }
-        ensures spent { NoneFell buf.old.spent buf.new.spent }
-    {
-        match self.bound().back() {
-            Back::Xdr => {
-                buf.ensure(back_xdr::lead_length())?;
-                back_xdr::put_lead(self.bound(), op, head, buf);
-                Ok(())
-            }
-            Back::CdrBig | Back::CdrLittle => back_cdr::put_lead(
-                alloc,
-                self.bound(),
-                op,
-                head,
-                buf,
-            ),
-            Back::Mach => {
-                buf.ensure(back_mach::lead_length())?;
-                back_mach::put_lead(self.bound(), op, head, buf);
-                Ok(())
-            }
-        }
-    }
-
     /// Tells the length of a message that is whole, where its head tells it.
     pub(crate) fn put_size(&self, buf: &mut SendBuf)
         requires long { 12 ≤ length buf.old.done }

@@ -6,6 +6,7 @@ ghost use Rattle.mint.specs.Types.{type_at};
 ghost use Rattle.mint.specs.Values.{seen};
 ghost use Rattle.raw_buf.specs.Buf.{NoneFell};
 ghost use Rattle.flick_engine.specs.Backs.{sized};
+ghost use Rattle.flick_engine.specs.Costs.{IsSentByCode};
 ghost use Rattle.flick_engine.specs.Messages.{request_type, message, with_value};
 ghost use Rattle.flick_engine.specs.Received.{IsShort};
 
@@ -17,15 +18,15 @@ use mint::table::NodeId;
 use mint::value::Value;
 use plain_wire::plain_send;
 use raw_buf::SendBuf;
+use stub_machine::SendErr;
 use std::alloc::Global;
 use wire_def::Head;
 
 impl Engine {
-    /// Makes the message of a request in a buffer, whatever it held; where there is none, the buffer
-    /// is empty. What the buffer spent is kept.
+    /// Makes the message of a request in a buffer by the stub code of its operation, whatever the buffer held;
+    /// where there is none, the buffer is empty. What the buffer spent is kept.
     pub fn marshal(
         &self,
-        alloc: Global,
         op: u32,
         head: &Head,
         value: &Value,
@@ -33,36 +34,26 @@ impl Engine {
     ) -> Result<(), MarshalErr>
         requires op { op < length self.now.binding.ops }
         requires typed { IsWellTyped (request_type self.now.binding op) (seen value.now) }
+        // What `Ok` holds.
         ensures ok { OnOk result (buf.new.done ≡ message self.now.binding op head.now (seen value.now)) }
-        ensures short { OnOk result (length (message self.now.binding op head.now (seen value.now)) ≤ longest_message) }
+        ensures short { OnOk result
+            (length (message self.now.binding op head.now (seen value.now)) ≤ longest_message) }
+        ensures cost { OnOk result
+            (IsSentByCode self.now.binding op head.now (seen value.now) buf.old.spent buf.new) }
+        // When each error comes.
+        ensures long { (result ≡ Err MarshalErr.Long)
+            → longest_message < length (message self.now.binding op head.now (seen value.now)) }
+        // What stays the same.
         ensures err { OnErr result (buf.new.done ≡ []) }
-        ensures long { (result ≡ Err MarshalErr.Long) → longest_message < length (message self.now.binding op head.now (seen value.now)) }
         ensures spent { NoneFell buf.old.spent buf.new.spent }
     {
-        buf.clear();
-        let made = self.put_message(alloc, op, head, value, buf);
-        emptied(made, buf)
-    }
-
-    /// Makes the message of a request in an empty buffer.
-    fn put_message(
-        &self,
-        alloc: Global,
-        op: u32,
-        head: &Head,
-        value: &Value,
-        buf: &mut SendBuf,
-    ) -> Result<(), MarshalErr>
-        requires op { op < length self.now.binding.ops }
-        requires typed { IsWellTyped (request_type self.now.binding op) (seen value.now) }
-        requires empty { buf.old.done ≡ [] }
-        ensures ok { OnOk result (buf.new.done ≡ message self.now.binding op head.now (seen value.now)) }
-        ensures short { OnOk result (length (message self.now.binding op head.now (seen value.now)) ≤ longest_message) }
-        ensures long { (result ≡ Err MarshalErr.Long) → longest_message < length (message self.now.binding op head.now (seen value.now)) }
-        ensures spent { NoneFell buf.old.spent buf.new.spent }
-    {
-        self.put_lead(alloc, op, head, buf)?;
-        self.put_value(alloc, self.request(op), value, buf)
+        let stubs = self.stubs();
+        let _stub = stubs.stub(op);
+        match stubs.send(op, head, value, buf) {
+            Ok(()) => Ok(()),
+            Err(SendErr::Long) => Err(MarshalErr::Long),
+            Err(SendErr::NoMemory) => Err(MarshalErr::NoMemory),
+        }
     }
 
     /// Puts the value of a node after the head of its message, and tells the length of the whole.

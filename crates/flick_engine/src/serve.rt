@@ -137,7 +137,7 @@ impl Engine {
             Naming::NoOperation => {
                 self.refuse_call(alloc, MessageErr::NoOperation, called, message, buf)
             }
-            Naming::Operation(op) => match self.read_body(alloc, op, called, message) {
+            Naming::Operation(op) => match self.read_in(alloc, op, called, message) {
                 Ok(request) => {
                     self.answer_request(alloc, skeleton, &request, called, message, buf)
                 }

@@ -1,10 +1,11 @@
 // Messages as requests.
-ghost use Rattle.std.specs.Prelude.{◌≡◌, ◌≢◌, ◌↔◌, ◌<◌, ◌+◌, ℕ, length, drop, Ok, Err, IfOk, IfErr};
+ghost use Rattle.std.specs.Prelude.{◌≡◌, ◌≢◌, ◌↔◌, ◌<◌, ◌≤◌, ◌+◌, ◌-◌, ℕ, length, drop, Ok, Err, IfOk, IfErr};
 ghost use Rattle.mint.specs.Typed.{IsWellTyped};
 ghost use Rattle.mint.specs.Values.{Val, seen};
 ghost use Rattle.wire_def.specs.declared.fault.FaultKind.{FaultKind};
 ghost use Rattle.wire_def.specs.Stops.{Stops};
 ghost use Rattle.plain_wire.specs.Answered.{IsValue, IsStop, FirstSpell};
+ghost use Rattle.flick_engine.specs.Costs.{after_head, IsReadByCode};
 ghost use Rattle.flick_engine.specs.Messages.{request_type};
 ghost use Rattle.flick_engine.specs.Received.{Answers, IsExactly, Names};
 
@@ -13,29 +14,40 @@ use crate::errors::MessageErr;
 use crate::requests::Request;
 use call_kit::{Called, Naming};
 use kit_base::limits::LONGEST_MESSAGE;
-use plain_wire::{Read, plain_read};
+use op_codes::bodies_are_taken;
+use plain_wire::Read;
 use raw_buf::RecvView;
 use std::alloc::Global;
 
 impl Engine {
-    /// Reads the request of a message. Where the view then stands is not said.
+    /// Reads the request of a message. Of the view is said where it is after a request whose body is laid out
+    /// as the back end sends, and how many tests it then counted.
     pub fn unmarshal(&self, alloc: Global, view: &mut RecvView<'_>) -> Result<Request, MessageErr>
         requires start { view.old.pos ≡ 0 }
         ensures read { Answers self.now.binding view.old.octets result }
         ensures op { IfOk result (λ r. r.op < length self.now.binding.ops) }
         ensures typed { IfOk result (λ r. IsWellTyped (request_type self.now.binding r.op) (seen r.value)) }
+        ensures code { IfOk result (λ r. IsReadByCode self.now.binding r.op (seen r.value) view.old view.new) }
     {
-        self.read_message(alloc, view.rest())
+        self.read_message(alloc, view.rest(), view)
     }
 
-    /// Reads the request of a message from its octets.
-    fn read_message(&self, alloc: Global, message: &[u8]) -> Result<Request, MessageErr>
+    /// Reads the request of a message from its octets, which a view has.
+    fn read_message(
+        &self,
+        alloc: Global,
+        message: &[u8],
+        view: &mut RecvView<'_>,
+    ) -> Result<Request, MessageErr>
+        requires start { view.old.pos ≡ 0 }
+        requires message { view.old.octets ≡ message.now }
         ensures read { Answers self.now.binding message.now result }
         ensures op { IfOk result (λ r. r.op < length self.now.binding.ops) }
         ensures typed { IfOk result (λ r. IsWellTyped (request_type self.now.binding r.op) (seen r.value)) }
+        ensures code { IfOk result (λ r. IsReadByCode self.now.binding r.op (seen r.value) view.old view.new) }
     {
         match self.begin(message) {
-            Ok((called, op)) => self.read_body(alloc, op, &called, message),
+            Ok((called, op)) => self.read_body(alloc, op, &called, message, view),
             Err(fault) => Err(fault),
         }
     }
@@ -60,8 +72,35 @@ impl Engine {
         }
     }
 
-    /// Reads the request of a message that calls this operation.
+    /// Reads the request of a message that calls this operation by the operation's stub code; where that gives
+    /// none, the plain walk finds the fault.
     pub(crate) fn read_body(
+        &self,
+        alloc: Global,
+        op: u32,
+        called: &Called,
+        message: &[u8],
+        view: &mut RecvView<'_>,
+    ) -> Result<Request, MessageErr>
+        requires op { op < length self.now.binding.ops }
+        requires names { Names self.now.binding message.now called.now (Naming.Operation op) }
+        requires start { view.old.pos ≡ 0 }
+        requires message { view.old.octets ≡ message.now }
+        ensures read { Answers self.now.binding message.now result }
+        ensures op { IfOk result (λ r. r.op < length self.now.binding.ops) }
+        ensures typed { IfOk result (λ r. IsWellTyped (request_type self.now.binding r.op) (seen r.value)) }
+        ensures code { IfOk result (λ r. IsReadByCode self.now.binding r.op (seen r.value) view.old view.new) }
+    {
+        bodies_are_taken();
+        pass_head(called.used, view);
+        let stubs = self.stubs();
+        let _stub = stubs.stub(op);
+        let read = stubs.read(alloc, op, called.encoding, message, view)?;
+        self.told_by_body(op, called, message, read)
+    }
+
+    /// Reads the request of a message that calls this operation, in a view of its own.
+    pub(crate) fn read_in(
         &self,
         alloc: Global,
         op: u32,
@@ -74,10 +113,8 @@ impl Engine {
         ensures op { IfOk result (λ r. r.op < length self.now.binding.ops) }
         ensures typed { IfOk result (λ r. IsWellTyped (request_type self.now.binding r.op) (seen r.value)) }
     {
-        let mint = self.bound().mint();
-        let id = self.request(op);
-        let read = plain_read(alloc, called.encoding, mint, id, called.used, message)?;
-        self.told_by_body(op, called, message, read)
+        let mut view = RecvView::new(message);
+        self.read_body(alloc, op, called, message, &mut view)
     }
 
     /// The request of a message whose body was read so. It wants no memory.
@@ -95,6 +132,8 @@ impl Engine {
         ensures read { Answers self.now.binding message.now result }
         ensures op { IfOk result (λ r. r.op < length self.now.binding.ops) }
         ensures typed { IfOk result (λ r. IsWellTyped (request_type self.now.binding r.op) (seen r.value)) }
+        ensures whole { IfOk result (λ r. (r.op ≡ op)
+            × IsValue read (seen r.value) (length message.now - called.now.used)) }
         ensures memory { result ≢ Err MessageErr.NoMemory }
     {
         match read {
@@ -112,4 +151,16 @@ impl Engine {
             Read::Stop(fault) => Err(MessageErr::Body(fault)),
         }
     }
+}
+
+/// Passes the head of a call, whose octets are there.
+fn pass_head(used: usize, view: &mut RecvView<'_>)
+    requires start { view.old.pos ≡ 0 }
+    requires within { used ≤ length view.old.octets }
+    ensures { view.new ≡ after_head used view.old }
+{
+    if !view.need(used) {
+        unreachable!()
+    }
+    view.take(used);
 }

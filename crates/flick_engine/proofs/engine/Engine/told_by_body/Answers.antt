@@ -29,3 +29,9 @@ pub returns-in-Stop-clause-read : goal.returns-in-Stop-clause-read
 returns-in-Stop-clause-read c =
     let stops = (c.requires.stop c.in-Stop.fault.kind c.in-Stop.fault.at).0 (rw c.in-Stop.is (refl, refl)) in
     exactly c.args.self.now.binding c.args.message.now _ (c.args.called.now, c.args.op, c.requires.names, stops)
+
+pub returns-else-end-message-clause-whole : goal.returns-else-end-message-clause-whole
+returns-else-end-message-clause-whole c =
+    let first = (c.requires.value (seen c.in-Value.value) c.in-Value.used).0 (rw c.in-Value.is (refl, refl)) in
+    let within = body_within c.args.self.now.binding c.args.message.now c.args.called.now c.args.op c.requires.names _ _ first in
+    (refl, rw c.in-Value.is (refl, omega (arith, within, c.if-end-message.false)))
