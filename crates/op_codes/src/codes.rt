@@ -41,8 +41,7 @@ impl Model for Codes {
 }
 
 impl Codes {
-    /// The code of each operation of what is bound. The nodes are lowered once; time and memory are linear in the
-    /// code that comes out.
+    /// The code of each operation of what is bound. The nodes are lowered once.
     pub fn compile(alloc: Global, bound: Bound) -> Result<Codes, NoMemory>
         ensures { IfOk result (λ c. c.binding ≡ bound) }
     {
