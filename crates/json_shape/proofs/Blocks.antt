@@ -29,14 +29,19 @@ octet_image k (negsuc n) narrow h = absurd (omega (arith, ltb-true n 0 h))
 octets_image : (k : Kind) (ns : List ℤ) → word k ≡ w8 → list_all (in_range kind.Octet) ns ≡ true → image_of k ns ≡ map nat_abs ns
 octets_image k [] narrow h = refl
 octets_image k (n ∷ ns) narrow h =
-    rw (octet_image k n narrow (left_true (in_range kind.Octet n) _ h), octets_image k ns narrow (right_true (in_range kind.Octet n) _ h)) refl
+    rw (octet_image k n narrow (left_true (in_range kind.Octet n) _ h), octets_image k ns narrow (right_true (in_range kind.Octet n) _ h))
+    refl
 
-pub hex_row : (k : Kind) (ns : List ℤ) (image : List ℕ) → kind.Octet ≡ k → IsTrue (list_all (in_range k) ns) → image ≡ image_of k ns → string (encode_lower image) ≡ row_json k ns
+pub hex_row : (k : Kind) (ns : List ℤ) (image : List ℕ) → kind.Octet ≡ k → IsTrue (list_all (in_range k) ns) → image ≡ image_of k ns
+    → string (encode_lower image) ≡ row_json k ns
 hex_row k ns image is ranged same =
     let here : list_all (in_range kind.Octet) ns ≡ true = rw is ranged in
-    rw (← is) (ap (λ (o : List ℕ). string (encode_lower o)) (same ∙ ap (λ (m : Kind). image_of m ns) (sym is) ∙ octets_image kind.Octet ns refl here))
+    rw (← is)
+    (ap (λ (o : List ℕ). string (encode_lower o)) (same ∙ ap (λ (m : Kind). image_of m ns) (sym is) ∙ octets_image kind.Octet ns refl here))
 
-pub char_row : (k : Kind) (ns : List ℤ) (image : List ℕ) → kind.Char ≡ k → IsTrue (list_all (in_range k) ns) → image ≡ image_of k ns → string (text_of image) ≡ row_json k ns
+pub char_row : (k : Kind) (ns : List ℤ) (image : List ℕ) → kind.Char ≡ k → IsTrue (list_all (in_range k) ns) → image ≡ image_of k ns
+    → string (text_of image) ≡ row_json k ns
 char_row k ns image is ranged same =
     let here : list_all (in_range kind.Char) ns ≡ true = rw is ranged in
-    rw (← is) (ap (λ (o : List ℕ). string (text_of o)) (same ∙ ap (λ (m : Kind). image_of m ns) (sym is) ∙ octets_image kind.Char ns refl here))
+    rw (← is)
+    (ap (λ (o : List ℕ). string (text_of o)) (same ∙ ap (λ (m : Kind). image_of m ns) (sym is) ∙ octets_image kind.Char ns refl here))

@@ -23,7 +23,8 @@ small_one c h =
 large_one : (c : ℕ) → 255 < c → nat_lt c 256 ≡ false
 large_one c h = grind (arith, nat_tests, h)
 
-pub goes_on : (front rest more all : List ℕ) (n c : ℕ) → n ≡ c → Left front rest all → rest ≡ encode_utf8 c ++ more → n ≤ 255 → Left (front ++ n ∷ []) more all
+pub goes_on : (front rest more all : List ℕ) (n c : ℕ) → n ≡ c → Left front rest all → rest ≡ encode_utf8 c ++ more → n ≤ 255
+    → Left (front ++ n ∷ []) more all
 goes_on front rest more all n c same l is h =
     let here : rest ≡ encode_utf8 n ++ more = is ∙ ap (λ (x : ℕ). encode_utf8 x ++ more) (sym same) in
     record {
@@ -32,11 +33,13 @@ goes_on front rest more all n c same l is h =
       whole = append_assoc front (n ∷ []) (chars more) ∙ ap (λ cs. front ++ cs) (sym (chars_past_char rest more n l.utf8 here)) ∙ l.whole;
     }
 
-pub stops : (front rest more all : List ℕ) (n c : ℕ) → n ≡ c → Left front rest all → rest ≡ encode_utf8 c ++ more → 255 < n → octets_of all ≡ None
+pub stops : (front rest more all : List ℕ) (n c : ℕ) → n ≡ c → Left front rest all → rest ≡ encode_utf8 c ++ more → 255 < n
+    → octets_of all ≡ None
 stops front rest more all n c same l is h =
     let here : rest ≡ encode_utf8 n ++ more = is ∙ ap (λ (x : ℕ). encode_utf8 x ++ more) (sym same) in
     let there : front ++ (n ∷ chars more) ≡ chars all = ap (λ cs. front ++ cs) (sym (chars_past_char rest more n l.utf8 here)) ∙ l.whole in
-    let test : are_octets (front ++ (n ∷ chars more)) ≡ false = list_all-append is_octet front (n ∷ chars more) ∙ rw (l.small, large_one n h) refl in
+    let test : are_octets (front ++ (n ∷ chars more)) ≡ false =
+    list_all-append is_octet front (n ∷ chars more) ∙ rw (l.small, large_one n h) refl in
     rw (← there, test) refl
 
 pub ends : (front rest all : List ℕ) → Left front rest all → length rest ≡ 0 → octets_of all ≡ Some front

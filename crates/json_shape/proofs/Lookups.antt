@@ -19,11 +19,13 @@ pub size-members : (ms : List (String Global × Value)) → size (members_view m
 size-members [] = refl
 size-members (m ∷ ms) = omega (arith, size-members ms)
 
-known_entries : (ms : List (String Global × Value)) → list_all (λ k. is_arm_key (string_bytes k)) (map (λ (e : String Global × Value). e.0) ms) ≡ is_arm (members_view ms)
+known_entries : (ms : List (String Global × Value))
+    → list_all (λ k. is_arm_key (string_bytes k)) (map (λ (e : String Global × Value). e.0) ms) ≡ is_arm (members_view ms)
 known_entries [] = refl
 known_entries (m ∷ ms) = ap (λ (b : Bool). is_arm_key (string_bytes m.0) && b) (known_entries ms)
 
-pub known_members : (m : BTreeMap (String Global) Value) → list_all (λ k. is_arm_key (string_bytes k)) (keys m) ≡ is_arm (members_view m.entries)
+pub known_members : (m : BTreeMap (String Global) Value)
+    → list_all (λ k. is_arm_key (string_bytes k)) (keys m) ≡ is_arm (members_view m.entries)
 known_members m = known_entries m.entries
 
 -- a look-up sees the members alone
@@ -36,14 +38,16 @@ get-members k (json.array js) = refl
 get-members k (json.object ms) = refl
 
 -- an object of as many members as there are parts
-pub object_alike : (ps : Parts) (ms : Members) (j : Data) → Some ms ≡ as_object j → size ms ≡ count ps → in_object (count ps) (by_name ps) j ≡ by_name ps (members_in j)
+pub object_alike : (ps : Parts) (ms : Members) (j : Data) → Some ms ≡ as_object j → size ms ≡ count ps
+    → in_object (count ps) (by_name ps) j ≡ by_name ps (members_in j)
 object_alike ps ms (json.object ls) is same =
     let e : ms ≡ ls = cc in
     let test : (size ms == count ps) ≡ true = grind (arith, nat_tests, same) in
     rw (← e, test) refl
 object_alike ps ms _ is same = absurd cc
 
-pub object_unlike : (ps : Parts) (ms : Members) (j : Data) → Some ms ≡ as_object j → (size ms ≡ count ps → ⊥) → in_object (count ps) (by_name ps) j ≡ None
+pub object_unlike : (ps : Parts) (ms : Members) (j : Data) → Some ms ≡ as_object j → (size ms ≡ count ps → ⊥)
+    → in_object (count ps) (by_name ps) j ≡ None
 object_unlike ps ms (json.object ls) is other =
     let e : ms ≡ ls = cc in
     let test : (size ms == count ps) ≡ false = grind (arith, nat_tests, other) in
@@ -57,9 +61,11 @@ maybe_many f [] j is h = absurd (omega (arith, h))
 maybe_many f (v ∷ []) j is h = absurd (omega (arith, h))
 maybe_many f (v ∷ w ∷ vs) j is h = rw (← is) refl
 
-keyed_entries : (p : List ℕ → Bool) (ms : List (String Global × Value)) → list_all (λ k. p (string_bytes k)) (map (λ (e : String Global × Value). e.0) ms) ≡ each_key p (members_view ms)
+keyed_entries : (p : List ℕ → Bool) (ms : List (String Global × Value))
+    → list_all (λ k. p (string_bytes k)) (map (λ (e : String Global × Value). e.0) ms) ≡ each_key p (members_view ms)
 keyed_entries p [] = refl
 keyed_entries p (m ∷ ms) = ap (λ (b : Bool). p (string_bytes m.0) && b) (keyed_entries p ms)
 
-pub keyed : (p : List ℕ → Bool) (m : BTreeMap (String Global) Value) → list_all (λ k. p (string_bytes k)) (keys m) ≡ each_key p (members_view m.entries)
+pub keyed : (p : List ℕ → Bool) (m : BTreeMap (String Global) Value)
+    → list_all (λ k. p (string_bytes k)) (keys m) ≡ each_key p (members_view m.entries)
 keyed p m = keyed_entries p m.entries

@@ -32,10 +32,12 @@ both : (a b : Bool) → a ≡ true → b ≡ true → (a && b) ≡ true
 both true b p q = q
 both false b p q = absurd cc
 
-parts_named : (fs : List Face) (names : List (List ℕ)) (ids : List ℕ) → list_all is_named fs ≡ true → are_parts_named (parts_at fs names ids) ≡ true
+parts_named : (fs : List Face) (names : List (List ℕ)) (ids : List ℕ) → list_all is_named fs ≡ true
+    → are_parts_named (parts_at fs names ids) ≡ true
 parts_named fs names [] h = refl
 parts_named fs [] (i ∷ ids) h = both (is_named (at fs i)) (are_parts_named (parts_at fs [] ids)) (named_at fs i h) (parts_named fs [] ids h)
-parts_named fs (n ∷ names) (i ∷ ids) h = both (is_named (at fs i)) (are_parts_named (parts_at fs names ids)) (named_at fs i h) (parts_named fs names ids h)
+parts_named fs (n ∷ names) (i ∷ ids) h =
+    both (is_named (at fs i)) (are_parts_named (parts_at fs names ids)) (named_at fs i h) (parts_named fs names ids h)
 
 other_named : (fs : List Face) (o : Option ℕ) → list_all is_named fs ≡ true → are_arms_named (other_at fs o) ≡ true
 other_named fs None h = refl
@@ -56,7 +58,8 @@ sign_named (tag.Num k) s h = refl
 sign_named (tag.Enum labels) (LabelNames items) h = h.distinct
 sign_named (tag.Enum labels) _ h = absurd h
 
-group_named : (fs : List Face) (ids : List ℕ) (s : Shape) → list_all is_named fs ≡ true → IsGroupShape ids s → is_named (group_face fs ids s) ≡ true
+group_named : (fs : List Face) (ids : List ℕ) (s : Shape) → list_all is_named fs ≡ true → IsGroupShape ids s
+    → is_named (group_face fs ids s) ≡ true
 group_named fs ids (FieldNames names) all h =
     both (are_distinct (names_of (parts_at fs names ids))) (are_parts_named (parts_at fs names ids))
     (ap are_distinct (names-parts fs names ids h.each) ∙ h.distinct) (parts_named fs names ids all)
@@ -67,28 +70,33 @@ level_named : (fs : List Face) (n : Node) (s : Shape) → list_all is_named fs �
 level_named fs (node.Enum labels) s all h = sign_named (tag.Enum labels) s h
 level_named fs (node.Group ids) s all h = group_named fs ids s all h
 level_named fs (node.Items i c) s all h = named_at fs i all
-level_named fs (node.Choice t arms o) s all h = both (is_named_sign (sign_of t s)) (are_arms_named (arms_at fs arms o)) (sign_named t s h) (arms_named fs arms o all)
+level_named fs (node.Choice t arms o) s all h =
+    both (is_named_sign (sign_of t s)) (are_arms_named (arms_at fs arms o)) (sign_named t s h) (arms_named fs arms o all)
 level_named fs (node.Maybe i) s all h = named_at fs i all
 level_named fs node.Void s all h = refl
 level_named fs (node.Num k) s all h = refl
 level_named fs (node.Text c) s all h = refl
 level_named fs (node.Row k c) s all h = refl
 
-faces_named : (fs : List Face) (nodes : List Node) (shapes : List Shape) → list_all is_named fs ≡ true → AreNamed nodes shapes → list_all is_named (faces_from fs (zip nodes shapes)) ≡ true
+faces_named : (fs : List Face) (nodes : List Node) (shapes : List Shape) → list_all is_named fs ≡ true → AreNamed nodes shapes
+    → list_all is_named (faces_from fs (zip nodes shapes)) ≡ true
 unfolding faces_from
 faces_named fs [] [] all h = all
 faces_named fs [] (s ∷ shapes) all h = absurd h
 faces_named fs (n ∷ nodes) [] all h = absurd h
 faces_named fs (n ∷ nodes) (s ∷ shapes) all h =
     let one : list_all is_named (level fs n s ∷ []) ≡ true = both (is_named (level fs n s)) true (level_named fs n s all h.0) refl in
-    faces_named (fs ++ level fs n s ∷ []) nodes shapes (list_all-append is_named fs (level fs n s ∷ []) ∙ both (list_all is_named fs) (list_all is_named (level fs n s ∷ [])) all one) h.1
+    faces_named (fs ++ level fs n s ∷ []) nodes shapes
+    (list_all-append is_named fs (level fs n s ∷ []) ∙ both (list_all is_named fs) (list_all is_named (level fs n s ∷ [])) all one) h.1
 
 pub face_named : (nodes : List Node) (shapes : List Shape) (id : ℕ) → AreNamed nodes shapes → is_named (face_at nodes shapes id) ≡ true
 unfolding faces
 face_named nodes shapes id h = named_at (faces nodes shapes) id (faces_named [] nodes shapes refl h)
 
 -- what is written for a well-typed value presents it
-pub written_presents : (f : Face) (t : Ty) (v : Val) (r : Result Json NoMemory) → is_named f ≡ true → t ≡ type_of f → IsWellTyped t v → IfOk r (λ j. view j ≡ json_of f v) → IfOk r (λ j. Presents f (view j) v)
+pub written_presents : (f : Face) (t : Ty) (v : Val) (r : Result Json NoMemory) → is_named f ≡ true → t ≡ type_of f → IsWellTyped t v
+    → IfOk r (λ j. view j ≡ json_of f v)
+    → IfOk r (λ j. Presents f (view j) v)
 written_presents f t v (Ok j) named same typed is =
     let there = rw same at typed in
     rw is (record { shows = shows_written f v named there.is_of; typed = there })

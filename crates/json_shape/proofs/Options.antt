@@ -8,7 +8,8 @@ mapped_from f None b h = absurd cc
 mapped_from f (Some a) b h = (a, refl, cc)
 
 -- what the first of two steps gave
-pub stepped_from : {A B : Type 0} (f : A → Option B) (o : Option A) (b : B) → option_and_then f o ≡ Some b → (a : A) × (o ≡ Some a) × (f a ≡ Some b)
+pub stepped_from : {A B : Type 0} (f : A → Option B) (o : Option A) (b : B) → option_and_then f o ≡ Some b
+    → (a : A) × (o ≡ Some a) × (f a ≡ Some b)
 stepped_from f None b h = absurd cc
 stepped_from f (Some a) b h = (a, refl, h)
 

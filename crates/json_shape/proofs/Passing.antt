@@ -16,32 +16,49 @@ pub record Passing (octets : List ℕ) (k : ℕ) (start rest : List ℕ) : Type 
 pub starts : (octets start : List ℕ) → IsUtf8 start → Passing octets 0 start start
 starts octets start utf8 = record { utf8 = utf8; past = refl; ahead = λ more h. h }
 
-is_next : (octets : List ℕ) (k : ℕ) (more : List ℕ) → k < length octets → text_of (drop k octets) ++ more ≡ encode_utf8 (get_or octets k 0) ++ (text_of (drop (suc k) octets) ++ more)
+is_next : (octets : List ℕ) (k : ℕ) (more : List ℕ) → k < length octets
+    → text_of (drop k octets) ++ more ≡ encode_utf8 (get_or octets k 0) ++ (text_of (drop (suc k) octets) ++ more)
 is_next octets k more h = rw (drop-cons octets k 0) (append_assoc (encode_utf8 (get_or octets k 0)) (text_of (drop (suc k) octets)) more)
 
 never_empty : (c : ℕ) (more : List ℕ) → 0 < length (encode_utf8 c ++ more)
 never_empty c more = omega (arith, length-append (encode_utf8 c) more, length-encode c, len_utf8_bounds c)
 
-pub goes_on : (octets : List ℕ) (k c : ℕ) (start rest more : List ℕ) → k < length octets → Passing octets k start rest → rest ≡ encode_utf8 c ++ more → c ≡ get_or octets k 0 → Passing octets (k + 1) start more
+pub goes_on : (octets : List ℕ) (k c : ℕ) (start rest more : List ℕ) → k < length octets → Passing octets k start rest
+    → rest ≡ encode_utf8 c ++ more → c ≡ get_or octets k 0
+    → Passing octets (k + 1) start more
 goes_on octets k c start rest more h p is same = record {
   utf8 = IsUtf8-past_char rest more c p.utf8 is;
   past =
-      let front : text_of (take (suc k) octets) ≡ text_of (take k octets) ++ encode_utf8 c = ap text_of (take-suc octets k 0 h) ∙ encodes-append (take k octets) (get_or octets k 0 ∷ []) ∙ ap (λ bs. text_of (take k octets) ++ bs) (append-nil (encode_utf8 (get_or octets k 0))) ∙ ap (λ (x : ℕ). text_of (take k octets) ++ encode_utf8 x) (sym same) in
-      rw (add-one, front) (p.past ∙ ap (λ bs. text_of (take k octets) ++ bs) is ∙ sym (append_assoc (text_of (take k octets)) (encode_utf8 c) more));
-  ahead = λ after from. rw add-one (encode_same c (get_or octets k 0) more (text_of (drop (suc k) octets) ++ after) (sym is ∙ p.ahead after from ∙ is_next octets k after h)).1;
+      let front : text_of (take (suc k) octets) ≡ text_of (take k octets) ++ encode_utf8 c =
+      ap text_of (take-suc octets k 0 h) ∙ encodes-append (take k octets) (get_or octets k 0 ∷ [])
+      ∙ ap (λ bs. text_of (take k octets) ++ bs) (append-nil (encode_utf8 (get_or octets k 0)))
+      ∙ ap (λ (x : ℕ). text_of (take k octets) ++ encode_utf8 x) (sym same) in
+      rw (add-one, front) (p.past ∙ ap (λ bs. text_of (take k octets) ++ bs) is
+      ∙ sym (append_assoc (text_of (take k octets)) (encode_utf8 c) more));
+  ahead =
+      λ after from. rw add-one (encode_same c (get_or octets k 0) more (text_of (drop (suc k) octets) ++ after) (sym is
+      ∙ p.ahead after from ∙ is_next octets k after h)).1;
 }
 
-pub differs : (octets : List ℕ) (k c : ℕ) (start rest more : List ℕ) → k < length octets → Passing octets k start rest → rest ≡ encode_utf8 c ++ more → (c ≡ get_or octets k 0 → ⊥) → (after : List ℕ) → start ≡ text_of octets ++ after → ⊥
-differs octets k c start rest more h p is other after from = other (encode_same c (get_or octets k 0) more (text_of (drop (suc k) octets) ++ after) (sym is ∙ p.ahead after from ∙ is_next octets k after h)).0
+pub differs : (octets : List ℕ) (k c : ℕ) (start rest more : List ℕ) → k < length octets → Passing octets k start rest
+    → rest ≡ encode_utf8 c ++ more → (c ≡ get_or octets k 0 → ⊥) → (after : List ℕ) → start ≡ text_of octets ++ after
+    → ⊥
+differs octets k c start rest more h p is other after from =
+    other (encode_same c (get_or octets k 0) more (text_of (drop (suc k) octets) ++ after) (sym is ∙ p.ahead after from
+    ∙ is_next octets k after h)).0
 
-pub falls_short : (octets : List ℕ) (k : ℕ) (start rest : List ℕ) → k < length octets → Passing octets k start rest → length rest ≡ 0 → (after : List ℕ) → start ≡ text_of octets ++ after → ⊥
+pub falls_short : (octets : List ℕ) (k : ℕ) (start rest : List ℕ) → k < length octets → Passing octets k start rest → length rest ≡ 0
+    → (after : List ℕ) → start ≡ text_of octets ++ after
+    → ⊥
 falls_short octets k start rest h p none after from =
-    let there : rest ≡ encode_utf8 (get_or octets k 0) ++ (text_of (drop (suc k) octets) ++ after) = p.ahead after from ∙ is_next octets k after h in
+    let there : rest ≡ encode_utf8 (get_or octets k 0) ++ (text_of (drop (suc k) octets) ++ after) =
+    p.ahead after from ∙ is_next octets k after h in
     let long = never_empty (get_or octets k 0) (text_of (drop (suc k) octets) ++ after) in
     let same = ap (λ (bs : List ℕ). length bs) there in
     omega (arith, none, long, same)
 
-pub ends : (octets : List ℕ) (k : ℕ) (start rest : List ℕ) → length octets ≤ k → Passing octets k start rest → IsUtf8 rest × (start ≡ text_of octets ++ rest)
+pub ends : (octets : List ℕ) (k : ℕ) (start rest : List ℕ) → length octets ≤ k → Passing octets k start rest
+    → IsUtf8 rest × (start ≡ text_of octets ++ rest)
 ends octets k start rest h p = (p.utf8, p.past ∙ ap (λ (os : List ℕ). text_of os ++ rest) (take_all k octets h))
 
 -- a string that is just the octets'
@@ -56,7 +73,9 @@ is_false false h = refl
 
 -- a string that does not begin so
 pub other_text : (octets text : List ℕ) → ((more : List ℕ) → text ≡ text_of octets ++ more → ⊥) → bytes_eq (text_of octets) text ≡ false
-other_text octets text h = is_false (bytes_eq (text_of octets) text) (λ e. h [] (sym ((bytes_eq-Decides (text_of octets) text).0 e) ∙ sym (append-nil (text_of octets))))
+other_text octets text h =
+    is_false (bytes_eq (text_of octets) text)
+    (λ e. h [] (sym ((bytes_eq-Decides (text_of octets) text).0 e) ∙ sym (append-nil (text_of octets))))
 
 same_front : (p xs ys : List ℕ) → bytes_eq (p ++ xs) (p ++ ys) ≡ bytes_eq xs ys
 same_front [] xs ys = refl
@@ -69,4 +88,6 @@ pub peeled : (a b text rest : List ℕ) → text ≡ text_of a ++ rest → bytes
 peeled a b text rest is = rw (encodes-append a b, is) (same_front (text_of a) (text_of b) rest)
 
 pub unpeeled : (a b text : List ℕ) → ((more : List ℕ) → text ≡ text_of a ++ more → ⊥) → bytes_eq (text_of (a ++ b)) text ≡ false
-unpeeled a b text h = is_false (bytes_eq (text_of (a ++ b)) text) (λ e. h (text_of b) (sym ((bytes_eq-Decides (text_of (a ++ b)) text).0 e) ∙ encodes-append a b))
+unpeeled a b text h =
+    is_false (bytes_eq (text_of (a ++ b)) text)
+    (λ e. h (text_of b) (sym ((bytes_eq-Decides (text_of (a ++ b)) text).0 e) ∙ encodes-append a b))

@@ -47,21 +47,27 @@ other_name : (is : List PlainInterface) (ops : List Op) (j : ℕ) (o : Op) (n : 
 other_name is [] j o n h there = absurd cc
 other_name is (p ∷ ops) zero o n h there =
     let same : p ≡ o = cc in
-    ap (λ z. bytes_eq (dotted is z) n) (sym same) ∙ (neither (bytes_eq (dotted is p) n) (list_any (λ m. bytes_eq m n) (map (dotted is) ops)) h).0
-other_name is (p ∷ ops) (suc j) o n h there = other_name is ops j o n ((neither (bytes_eq (dotted is p) n) (list_any (λ m. bytes_eq m n) (map (dotted is) ops)) h).1) there
+    ap (λ z. bytes_eq (dotted is z) n) (sym same)
+    ∙ (neither (bytes_eq (dotted is p) n) (list_any (λ m. bytes_eq m n) (map (dotted is) ops)) h).0
+other_name is (p ∷ ops) (suc j) o n h there =
+    other_name is ops j o n ((neither (bytes_eq (dotted is p) n) (list_any (λ m. bytes_eq m n) (map (dotted is) ops)) h).1) there
 
 found : (is : List PlainInterface) (ops : List Op) (k j : ℕ) (o : Op) → are_distinct (map (dotted is) ops) ≡ true → slice_get ops j ≡ Some o
     → op_from is (text_of (dotted is o)) k ops ≡ Some (k + j, o)
 found is [] k j o h there = absurd cc
 found is (p ∷ ops) k zero o h there =
     let same : p ≡ o = cc in
-    let here : bytes_eq (text_of (dotted is p)) (text_of (dotted is o)) ≡ true = ap (λ z. bytes_eq (text_of (dotted is p)) (text_of (dotted is z))) (sym same) ∙ same_name (text_of (dotted is p)) in
+    let here : bytes_eq (text_of (dotted is p)) (text_of (dotted is o)) ≡ true =
+    ap (λ z. bytes_eq (text_of (dotted is p)) (text_of (dotted is z))) (sym same) ∙ same_name (text_of (dotted is p)) in
     let place : k ≡ k + 0 = omega arith in
     rw here (ap (λ z. Some (z, p)) place ∙ ap (λ z. Some (k + 0, z)) same)
 found is (p ∷ ops) k (suc j) o h there =
-    let none = not_true (list_any (λ m. bytes_eq m (dotted is p)) (map (dotted is) ops)) (left_true (not (list_any (λ m. bytes_eq m (dotted is p)) (map (dotted is) ops))) (are_distinct (map (dotted is) ops)) h) in
+    let none =
+    not_true (list_any (λ m. bytes_eq m (dotted is p)) (map (dotted is) ops))
+    (left_true (not (list_any (λ m. bytes_eq m (dotted is p)) (map (dotted is) ops))) (are_distinct (map (dotted is) ops)) h) in
     let rest = right_true (not (list_any (λ m. bytes_eq m (dotted is p)) (map (dotted is) ops))) (are_distinct (map (dotted is) ops)) h in
-    let no : bytes_eq (text_of (dotted is p)) (text_of (dotted is o)) ≡ false = apart (dotted is p) (dotted is o) (other_name is ops j o (dotted is p) none there) in
+    let no : bytes_eq (text_of (dotted is p)) (text_of (dotted is o)) ≡ false =
+    apart (dotted is p) (dotted is o) (other_name is ops j o (dotted is p) none there) in
     let place : suc k + j ≡ k + suc j = omega arith in
     rw no (found is ops (suc k) j o rest there ∙ ap (λ z. Some (z, o)) place)
 
@@ -127,7 +133,9 @@ values_more (x ∷ xs) ys a b = (a.0, values_more xs ys a.1 b)
 
 values_from : (fs : List Face) (b : Back) (k : ℕ) (is : List PlainInterface) → AllByRecursion AreValues (offers_from fs b k is)
 values_from fs b k [] = tt
-values_from fs b k (i ∷ is) = values_more (map (offer fs b k) (operations b i)) (offers_from fs b (suc k) is) (values_all fs b k (operations b i)) (values_from fs b (suc k) is)
+values_from fs b k (i ∷ is) =
+    values_more (map (offer fs b k) (operations b i)) (offers_from fs b (suc k) is) (values_all fs b k (operations b i))
+    (values_from fs b (suc k) is)
 
 values_at : (fs : List Face) (ops : List Op) (k : ℕ) (o : Op) → AllByRecursion AreValues (map (offer_at fs) ops) → slice_get ops k ≡ Some o
     → AreValues (offer_at fs o)
@@ -137,7 +145,8 @@ values_at fs (p ∷ ops) (suc k) o all there = values_at fs ops k o all.1 there
 
 request_values : (b : Binding) (k : ℕ) (o : Op) → IsBinding b → slice_get b.ops k ≡ Some o → AreValues (offer_at (faces b.nodes b.shapes) o)
 request_values b k o bound there =
-    values_at (faces b.nodes b.shapes) b.ops k o (subst (AllByRecursion AreValues) (sym bound.offered) (values_from (type_faces b.unit) b.back 0 b.unit.interfaces)) there
+    values_at (faces b.nodes b.shapes) b.ops k o
+    (subst (AllByRecursion AreValues) (sym bound.offered) (values_from (type_faces b.unit) b.back 0 b.unit.interfaces)) there
 
 list_written : (ps : Parts) (v : Val) → IsWellTyped (type_of (values ps)) v → is_some (as_array (json_of (values ps) v)) ≡ true
 list_written ps (group vs) typed = refl
@@ -151,7 +160,12 @@ args_listed f ps v is typed = rw is (list_written ps v (rw is at typed))
 -- what is read of a record that has the members of one
 whole : (b : Binding) (j : Data) (k : ℕ) (o : Op) → is_request b.back j ≡ true → op_named b (text_at (codes "op") j) ≡ Some (k, o)
     → is_unanswered b.back o j ≡ false
-    → request_of b j ≡ Ok (record { op = k; head = head_read b.back j (not (is_oneway b k)); face = face_at b.nodes b.shapes o.request; tree = list_at (codes "args") j })
+    → request_of b j ≡ Ok (record {
+      op = k;
+      head = head_read b.back j (not (is_oneway b k));
+      face = face_at b.nodes b.shapes o.request;
+      tree = list_at (codes "args") j;
+    })
 whole b j k o is named idle = rw (is, named, idle) refl
 
 pub read_back : RecordsAreReadBack
@@ -162,10 +176,12 @@ read_back b k o h v bound apart_ there head typed =
     let j : Data = written b.back t h args in
     let is = is_record b.back t h args head.word head.port (args_listed f _ v (request_values b k o bound there).1 typed) in
     let place : 0 + k ≡ k = omega arith in
-    let named : op_named b (text_at (codes "op") j) ≡ Some (k, o) = ap (op_named b) (text_is b.back t h args) ∙ found b.unit.interfaces b.ops 0 k o apart_ there ∙ ap (λ z. Some (z, o)) place in
+    let named : op_named b (text_at (codes "op") j) ≡ Some (k, o) =
+    ap (op_named b) (text_is b.back t h args) ∙ found b.unit.interfaces b.ops 0 k o apart_ there ∙ ap (λ z. Some (z, o)) place in
     let heads = head_is b.back t h args (not (is_oneway b k)) head.word head.port in (
       whole b j k o is named (answered b.back t h args o head.port head.idle)
           ∙ ap (λ z. Ok (record { op = k; head = z; face = f; tree = list_at (codes "args") j })) heads
-          ∙ ap (λ z. Ok (record { op = k; head = head_of b.back (head_word b.back h) h.local (not (is_oneway b k)); face = f; tree = z })) (args_are b.back t h args),
+          ∙ ap (λ z. Ok (record { op = k; head = head_of b.back (head_word b.back h) h.local (not (is_oneway b k)); face = f; tree = z }))
+          (args_are b.back t h args),
       record { shows = shows_written f v (face_named b.nodes b.shapes o.request bound.named) typed.is_of; typed = typed },
     )

@@ -24,25 +24,32 @@ use Rattle.json_shape.specs.Reading.{before, each, value_of, in_order, by_name, 
 both : (a : Option Val) (b : Option Vals) (v : Val) (vs : Vals) → a ≡ Some v → b ≡ Some vs → before a b ≡ Some (val v vs)
 both a b v vs p q = rw (p, q) refl
 
-each_shown : (P : Data → Val → Type 0) (f : Data → Option Val) → ((j : Data) (v : Val) → P j v → f j ≡ Some v) → (js : Items) (vs : Vals) → ShowEach P js vs → each f js ≡ Some vs
+each_shown : (P : Data → Val → Type 0) (f : Data → Option Val) → ((j : Data) (v : Val) → P j v → f j ≡ Some v) → (js : Items) (vs : Vals)
+    → ShowEach P js vs
+    → each f js ≡ Some vs
 each_shown P f one no_items no_more h = refl
 each_shown P f one (item j js) (val v vs) h = both (f j) (each f js) v vs (one j v h.0) (each_shown P f one js vs h.1)
 each_shown P f one _ _ h = absurd h
 
-member_shown : (P : Data → Val → Type 0) (f : Data → Option Val) → ((j : Data) (v : Val) → P j v → f j ≡ Some v) → (o : Option Data) (v : Val) → IsSomeAnd o (λ j. P j v) → option_and_then f o ≡ Some v
+member_shown : (P : Data → Val → Type 0) (f : Data → Option Val) → ((j : Data) (v : Val) → P j v → f j ≡ Some v)
+    → (o : Option Data) (v : Val) → IsSomeAnd o (λ j. P j v)
+    → option_and_then f o ≡ Some v
 member_shown P f one None v h = absurd h
 member_shown P f one (Some j) v h = one j v h
 
-object_shown : (ps : Parts) (ms : Members) (vs : Vals) → size ms ≡ count ps → by_name ps ms ≡ Some vs → (if size ms == count ps then by_name ps ms else None) ≡ Some vs
+object_shown : (ps : Parts) (ms : Members) (vs : Vals) → size ms ≡ count ps → by_name ps ms ≡ Some vs
+    → (if size ms == count ps then by_name ps ms else None) ≡ Some vs
 object_shown ps ms vs same h =
     let test : (size ms == count ps) ≡ true = grind (arith, nat_tests, same) in
     rw test h
 
-choice_shown : (arms : Arms) (ms : Members) (tag : Option ℤ) (n : ℤ) (v : Val) → is_arm ms ≡ true → tag ≡ Some n → behind arms n (behind_tag ms) ≡ Some v
+choice_shown : (arms : Arms) (ms : Members) (tag : Option ℤ) (n : ℤ) (v : Val) → is_arm ms ≡ true → tag ≡ Some n
+    → behind arms n (behind_tag ms) ≡ Some v
     → (if is_arm ms then option_and_then (λ (m : ℤ). option_map (arm m) (behind arms m (behind_tag ms))) tag else None) ≡ Some (arm n v)
 choice_shown arms ms tag n v known is h = rw (known, is, h) refl
 
-arm_shown : (b : Bool) (P Q : Type 0) (x y : Option Val) (v : Val) → (P → x ≡ Some v) → (Q → y ≡ Some v) → MatchBool b P Q → (if b then x else y) ≡ Some v
+arm_shown : (b : Bool) (P Q : Type 0) (x y : Option Val) (v : Val) → (P → x ≡ Some v) → (Q → y ≡ Some v) → MatchBool b P Q
+    → (if b then x else y) ≡ Some v
 arm_shown true P Q x y v f g h = f h
 arm_shown false P Q x y v f g h = g h
 
@@ -69,28 +76,35 @@ mutual
   shown (face.values ps) (json.array js) (group vs) h = ap (option_map group) (in_order_shown ps js vs h)
   shown (face.members ps) (json.object ms) (group vs) h = ap (option_map group) (object_shown ps ms vs h.0 (by_name_shown ps ms vs h.1))
   shown (face.list c f) (json.array js) (items vs) h = ap (option_map items) (each_shown (Shows f) (value_of f) (shown f) js vs h)
-  shown (face.choice s arms) (json.object ms) (arm n v) h = choice_shown arms ms (tag_in s ms) n v h.0 h.1 (behind_shown arms n (behind_tag ms) v h.2)
+  shown (face.choice s arms) (json.object ms) (arm n v) h =
+      choice_shown arms ms (tag_in s ms) n v h.0 h.1 (behind_shown arms n (behind_tag ms) v h.2)
   shown (face.maybe f) (json.array no_items) absent h = refl
   shown (face.maybe f) (json.array (item j no_items)) (present v) h = ap (option_map present) (shown f j v h)
   shown _ _ _ h = absurd h
 
   in_order_shown : (ps : Parts) (js : Items) (vs : Vals) → ShowInOrder ps js vs → in_order ps js ≡ Some vs
   in_order_shown no_parts no_items no_more h = refl
-  in_order_shown (part n f ps) (item j js) (val v vs) h = both (value_of f j) (in_order ps js) v vs (shown f j v h.0) (in_order_shown ps js vs h.1)
+  in_order_shown (part n f ps) (item j js) (val v vs) h =
+      both (value_of f j) (in_order ps js) v vs (shown f j v h.0) (in_order_shown ps js vs h.1)
   in_order_shown _ _ _ h = absurd h
 
   by_name_shown : (ps : Parts) (ms : Members) (vs : Vals) → ShowByName ps ms vs → by_name ps ms ≡ Some vs
   by_name_shown no_parts ms no_more h = refl
   by_name_shown (part n f ps) ms (val v vs) h =
-      both (option_and_then (value_of f) (member_of n ms)) (by_name ps ms) v vs (member_shown (Shows f) (value_of f) (shown f) (member_of n ms) v h.0) (by_name_shown ps ms vs h.1)
+      both (option_and_then (value_of f) (member_of n ms)) (by_name ps ms) v vs
+      (member_shown (Shows f) (value_of f) (shown f) (member_of n ms) v h.0) (by_name_shown ps ms vs h.1)
   by_name_shown _ _ _ h = absurd h
 
   behind_shown : (arms : Arms) (n : ℤ) (j : Data) (v : Val) → ShowsArm arms n j v → behind arms n j ≡ Some v
   behind_shown face.no_other n j v h = absurd h
   behind_shown (face.other f) n j v h = shown f j v h
-  behind_shown (face.arm m f arms) n j v h = arm_shown (int_eq n m) (Shows f j v) (ShowsArm arms n j v) (value_of f j) (behind arms n j) v (shown f j v) (behind_shown arms n j v) h
+  behind_shown (face.arm m f arms) n j v h =
+      arm_shown (int_eq n m) (Shows f j v) (ShowsArm arms n j v) (value_of f j) (behind arms n j) v (shown f j v)
+      (behind_shown arms n j v) h
 
-each_found : (P : Data → Val → Type 0) (f : Data → Option Val) → ((j : Data) (v : Val) → f j ≡ Some v → P j v) → (js : Items) (vs : Vals) → each f js ≡ Some vs → ShowEach P js vs
+each_found : (P : Data → Val → Type 0) (f : Data → Option Val) → ((j : Data) (v : Val) → f j ≡ Some v → P j v) → (js : Items) (vs : Vals)
+    → each f js ≡ Some vs
+    → ShowEach P js vs
 each_found P f one no_items no_more h = tt
 each_found P f one no_items (val v vs) h = absurd cc
 each_found P f one (item j js) no_more h = absurd (never_less (f j) (each f js) h)
@@ -98,16 +112,20 @@ each_found P f one (item j js) (val v vs) h =
     let two = halves (f j) (each f js) v vs h in
     (one j v two.0, each_found P f one js vs two.1)
 
-member_found : (P : Data → Val → Type 0) (f : Data → Option Val) → ((j : Data) (v : Val) → f j ≡ Some v → P j v) → (o : Option Data) (v : Val) → option_and_then f o ≡ Some v → IsSomeAnd o (λ j. P j v)
+member_found : (P : Data → Val → Type 0) (f : Data → Option Val) → ((j : Data) (v : Val) → f j ≡ Some v → P j v)
+    → (o : Option Data) (v : Val) → option_and_then f o ≡ Some v
+    → IsSomeAnd o (λ j. P j v)
 member_found P f one None v h = absurd cc
 member_found P f one (Some j) v h = one j v h
 
-object_found : (ps : Parts) (ms : Members) (vs : Vals) → (if size ms == count ps then by_name ps ms else None) ≡ Some vs → (size ms ≡ count ps) × (by_name ps ms ≡ Some vs)
+object_found : (ps : Parts) (ms : Members) (vs : Vals) → (if size ms == count ps then by_name ps ms else None) ≡ Some vs
+    → (size ms ≡ count ps) × (by_name ps ms ≡ Some vs)
 object_found ps ms vs h =
     let two = tested_from (size ms == count ps) (by_name ps ms) vs h in
     (grind (arith, nat_tests, two.0), two.1)
 
-arm_found : (b : Bool) (P Q : Type 0) (x y : Option Val) (v : Val) → (x ≡ Some v → P) → (y ≡ Some v → Q) → (if b then x else y) ≡ Some v → MatchBool b P Q
+arm_found : (b : Bool) (P Q : Type 0) (x y : Option Val) (v : Val) → (x ≡ Some v → P) → (y ≡ Some v → Q) → (if b then x else y) ≡ Some v
+    → MatchBool b P Q
 arm_found true P Q x y v f g h = f h
 arm_found false P Q x y v f g h = g h
 
@@ -138,7 +156,8 @@ mutual
       rw (← e) (each_found (Shows f) (value_of f) (found f) js vs is)
   found (face.list c f) _ v h = absurd cc
   found (face.choice s arms) (json.object ms) v h =
-      let known = tested_from (is_arm ms) (option_and_then (λ (n : ℤ). option_map (arm n) (behind arms n (behind_tag ms))) (tag_in s ms)) v h in
+      let known =
+      tested_from (is_arm ms) (option_and_then (λ (n : ℤ). option_map (arm n) (behind arms n (behind_tag ms))) (tag_in s ms)) v h in
       let (n, is, there) = stepped_from (λ (n : ℤ). option_map (arm n) (behind arms n (behind_tag ms))) (tag_in s ms) v known.1 in
       let (w, is_w, e) = mapped_from (arm n) (behind arms n (behind_tag ms)) v there in
       rw (← e) (known.0, is, behind_found arms n (behind_tag ms) w is_w)
@@ -171,7 +190,9 @@ mutual
   behind_found : (arms : Arms) (n : ℤ) (j : Data) (v : Val) → behind arms n j ≡ Some v → ShowsArm arms n j v
   behind_found face.no_other n j v h = absurd cc
   behind_found (face.other f) n j v h = found f j v h
-  behind_found (face.arm m f arms) n j v h = arm_found (int_eq n m) (Shows f j v) (ShowsArm arms n j v) (value_of f j) (behind arms n j) v (found f j v) (behind_found arms n j v) h
+  behind_found (face.arm m f arms) n j v h =
+      arm_found (int_eq n m) (Shows f j v) (ShowsArm arms n j v) (value_of f j) (behind arms n j) v (found f j v)
+      (behind_found arms n j v) h
 
 pub null_read : (j : Data) → true ≡ is_some (as_null j) → value_of face.nothing j ≡ Some void
 unfolding value_of
@@ -190,11 +211,13 @@ read_presents f j v t same is typed = record { shows = found f j v is; typed = r
 pub none_presented : (f : Face) (j : Data) → value_of f j ≡ None → (v : Val) → ¬ Presents f j v
 none_presented f j none v p = let is = sym none ∙ shown f j v p.shows in absurd cc
 
-pub misfit_presented : (f : Face) (j : Data) (w : Val) (t : Ty) → t ≡ type_of f → value_of f j ≡ Some w → ¬ IsWellTyped t w → (v : Val) → ¬ Presents f j v
+pub misfit_presented : (f : Face) (j : Data) (w : Val) (t : Ty) → t ≡ type_of f → value_of f j ≡ Some w → ¬ IsWellTyped t w → (v : Val)
+    → ¬ Presents f j v
 misfit_presented f j w t same is misfit v p =
     let one : v ≡ w = one_some v w (sym (shown f j v p.shows) ∙ is) in
     misfit (rw (same, ← one) p.typed)
 
-pub shape_gives_none : {X A : Type 0} (seen_by : X → A) (e : ShapeErr) (there : Option A) → Gives seen_by (Err e) there → e ≡ errors.Shape → there ≡ None
+pub shape_gives_none : {X A : Type 0} (seen_by : X → A) (e : ShapeErr) (there : Option A) → Gives seen_by (Err e) there → e ≡ errors.Shape
+    → there ≡ None
 shape_gives_none seen_by errors.Shape there h is = h
 shape_gives_none seen_by errors.NoMemory there h is = absurd cc

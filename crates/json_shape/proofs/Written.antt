@@ -20,7 +20,8 @@ use Rattle.json_shape.specs.Written.{items_json, json_of, in_order_json, by_name
 use Rattle.wire_def.proofs.ScalarGrammar.{left_true, right_true}
 use Rattle.json_shape.proofs.WrittenScalars.{sign_written, array_written, is_name}
 
-each_shows : (f : Face) (P : Val → Type 0) → ((v : Val) → P v → Shows f (json_of f v) v) → (vs : Vals) → Each P vs → ShowEach (Shows f) (items_json (json_of f) vs) vs
+each_shows : (f : Face) (P : Val → Type 0) → ((v : Val) → P v → Shows f (json_of f v) v) → (vs : Vals) → Each P vs
+    → ShowEach (Shows f) (items_json (json_of f) vs) vs
 each_shows f P one no_more h = tt
 each_shows f P one (val v vs) h = (one v h.0, each_shows f P one vs h.1)
 
@@ -28,7 +29,9 @@ each_shows f P one (val v vs) h = (one v h.0, each_shows f P one vs h.1)
 
 -- a member of another name stays
 other_member : (m n : List ℕ) (d : Data) (ms : Members) → bytes_eq m n ≡ false → member_of m (put (text_of n) d ms) ≡ member_of m ms
-other_member m n d ms h = get_member-put_other (text_of m) (text_of n) d ms (λ e. let same : bytes_eq m n ≡ true = (bytes_eq-Decides m n).1 (encodes_same m n e) in absurd cc)
+other_member m n d ms h =
+    get_member-put_other (text_of m) (text_of n) d ms
+    (λ e. let same : bytes_eq m n ≡ true = (bytes_eq-Decides m n).1 (encodes_same m n e) in absurd cc)
 
 pub neither : (a b : Bool) → (a || b) ≡ false → (a ≡ false) × (b ≡ false)
 neither true b h = absurd cc
@@ -38,7 +41,8 @@ pub not_true : (a : Bool) → not a ≡ true → a ≡ false
 not_true true h = absurd cc
 not_true false h = refl
 
-one_more : (ps : Parts) (ms : Members) (vs : Vals) (n : List ℕ) (d : Data) → is_name (names_of ps) n ≡ false → ShowByName ps ms vs → ShowByName ps (put (text_of n) d ms) vs
+one_more : (ps : Parts) (ms : Members) (vs : Vals) (n : List ℕ) (d : Data) → is_name (names_of ps) n ≡ false → ShowByName ps ms vs
+    → ShowByName ps (put (text_of n) d ms) vs
 one_more no_parts ms no_more n d h shows = tt
 one_more no_parts ms (val v vs) n d h shows = absurd shows
 one_more (part m f ps) ms no_more n d h shows = absurd shows
@@ -62,7 +66,8 @@ missing (part m f ps) (val v vs) q h =
 size-put : (k : List ℕ) (d : Data) (ms : Members) → get_member k ms ≡ None → size (put k d ms) ≡ size ms + 1
 size-put k d no_members h = refl
 size-put k d (member l e ms) h = step (slice_cmp nat_cmp k l) h (size-put k d ms) where
-  step : (o : Ordering) → match_ordering o (get_member k ms) (Some e) (get_member k ms) ≡ None → (get_member k ms ≡ None → size (put k d ms) ≡ size ms + 1)
+  step : (o : Ordering) → match_ordering o (get_member k ms) (Some e) (get_member k ms) ≡ None
+      → (get_member k ms ≡ None → size (put k d ms) ≡ size ms + 1)
       → size (match_ordering o (member k d (member l e ms)) (member l d ms) (member l e (put k d ms))) ≡ size ms + 1 + 1
   step Less h more = refl
   step Equal h more = absurd cc
@@ -83,7 +88,8 @@ match_both : (b : Bool) {P Q R S : Type 0} → MatchBool b P Q → (P → R) →
 match_both true h f g = f h
 match_both false h f g = g h
 
-chosen : (b : Bool) (f : Face) (arms : Arms) (n : ℤ) (x y : Data) (v : Val) → MatchBool b (Shows f x v) (ShowsArm arms n y v) → MatchBool b (Shows f (if b then x else y) v) (ShowsArm arms n (if b then x else y) v)
+chosen : (b : Bool) (f : Face) (arms : Arms) (n : ℤ) (x y : Data) (v : Val) → MatchBool b (Shows f x v) (ShowsArm arms n y v)
+    → MatchBool b (Shows f (if b then x else y) v) (ShowsArm arms n (if b then x else y) v)
 chosen true f arms n x y v h = h
 chosen false f arms n x y v h = h
 
@@ -97,30 +103,45 @@ mutual
       let distinct = left_true (are_distinct (names_of ps)) (are_parts_named ps) named in
       (sizes ps vs distinct h, by_name_written ps vs distinct (right_true (are_distinct (names_of ps)) (are_parts_named ps) named) h)
   shows_written (face.list c f) (items vs) named h = each_shows f (IsOf (type_of f)) (λ v k. shows_written f v named k) vs h.1
-  shows_written (face.choice s arms) (arm n v) named h =
-      (refl, sign_written s n (left_true (is_named_sign s) (are_arms_named arms) named) h.0, behind_written arms n v (right_true (is_named_sign s) (are_arms_named arms) named) h.1)
+  shows_written (face.choice s arms) (arm n v) named h = (
+    refl,
+    sign_written s n (left_true (is_named_sign s) (are_arms_named arms) named) h.0,
+    behind_written arms n v
+        (right_true (is_named_sign s) (are_arms_named arms) named) h.1,
+  )
   shows_written (face.maybe f) absent named h = tt
   shows_written (face.maybe f) (present v) named h = shows_written f v named h
   shows_written _ _ named h = absurd h
 
   in_order_written : (ps : Parts) (vs : Vals) → are_parts_named ps ≡ true → AreOf (types_of ps) vs → ShowInOrder ps (in_order_json ps vs) vs
   in_order_written no_parts no_more named h = tt
-  in_order_written (part n f ps) (val v vs) named h =
-      (shows_written f v (left_true (is_named f) (are_parts_named ps) named) h.0, in_order_written ps vs (right_true (is_named f) (are_parts_named ps) named) h.1)
+  in_order_written (part n f ps) (val v vs) named h = (
+    shows_written f v (left_true (is_named f) (are_parts_named ps) named) h.0,
+    in_order_written ps vs
+        (right_true (is_named f) (are_parts_named ps) named) h.1,
+  )
   in_order_written _ _ named h = absurd h
 
-  by_name_written : (ps : Parts) (vs : Vals) → are_distinct (names_of ps) ≡ true → are_parts_named ps ≡ true → AreOf (types_of ps) vs → ShowByName ps (by_name_json ps vs) vs
+  by_name_written : (ps : Parts) (vs : Vals) → are_distinct (names_of ps) ≡ true → are_parts_named ps ≡ true → AreOf (types_of ps) vs
+      → ShowByName ps (by_name_json ps vs) vs
   by_name_written no_parts no_more distinct named h = tt
   by_name_written (part n f ps) (val v vs) distinct named h =
       let new = not_true (is_name (names_of ps) n) (left_true (not (is_name (names_of ps) n)) (are_distinct (names_of ps)) distinct) in
       let here = shows_written f v (left_true (is_named f) (are_parts_named ps) named) h.0 in
-      let rest = by_name_written ps vs (right_true (not (is_name (names_of ps) n)) (are_distinct (names_of ps)) distinct) (right_true (is_named f) (are_parts_named ps) named) h.1 in
-      (rw (get_member-put (text_of n) (json_of f v) (by_name_json ps vs)) here, one_more ps (by_name_json ps vs) vs n (json_of f v) new rest)
+      let rest =
+      by_name_written ps vs (right_true (not (is_name (names_of ps) n)) (are_distinct (names_of ps)) distinct)
+      (right_true (is_named f) (are_parts_named ps) named) h.1 in (
+        rw (get_member-put (text_of n) (json_of f v) (by_name_json ps vs)) here,
+        one_more ps (by_name_json ps vs) vs n
+            (json_of f v) new rest,
+      )
   by_name_written _ _ distinct named h = absurd h
 
-  behind_written : (arms : Arms) (n : ℤ) (v : Val) → are_arms_named arms ≡ true → IsOfArm (arm_types_of arms) n v → ShowsArm arms n (behind_json arms n v) v
+  behind_written : (arms : Arms) (n : ℤ) (v : Val) → are_arms_named arms ≡ true → IsOfArm (arm_types_of arms) n v
+      → ShowsArm arms n (behind_json arms n v) v
   behind_written face.no_other n v named h = absurd h
   behind_written (face.other f) n v named h = shows_written f v named h
   behind_written (face.arm m f arms) n v named h =
       chosen (int_eq n m) f arms n (json_of f v) (behind_json arms n v) v
-      (match_both (int_eq n m) h (λ k. shows_written f v (left_true (is_named f) (are_arms_named arms) named) k) (λ k. behind_written arms n v (right_true (is_named f) (are_arms_named arms) named) k))
+      (match_both (int_eq n m) h (λ k. shows_written f v (left_true (is_named f) (are_arms_named arms) named) k) (λ k.
+      behind_written arms n v (right_true (is_named f) (are_arms_named arms) named) k))

@@ -42,7 +42,8 @@ are_small = list_all (in_range kind.Char)
 
 small_octets : (ns : List ℤ) → are_small ns ≡ true → are_octets (map nat_abs ns) ≡ true
 small_octets [] h = refl
-small_octets (pos n ∷ ns) h = rw (left_true (nat_lt n 256) (are_small ns) h, small_octets ns (right_true (nat_lt n 256) (are_small ns) h)) refl
+small_octets (pos n ∷ ns) h =
+    rw (left_true (nat_lt n 256) (are_small ns) h, small_octets ns (right_true (nat_lt n 256) (are_small ns) h)) refl
 small_octets (negsuc n ∷ ns) h = absurd (omega (arith, ltb-true n 0 (left_true (nat_lt n 0) (are_small ns) h)))
 
 small_again : (ns : List ℤ) → are_small ns ≡ true → map pos (map nat_abs ns) ≡ ns
@@ -59,7 +60,8 @@ octet_bytes (o ∷ os) h zero = ltb-true o 256 (left_true (is_octet o) (are_octe
 octet_bytes (o ∷ os) h (suc i) = octet_bytes os (right_true (is_octet o) (are_octets os) h) i
 
 hex_written : (ns : List ℤ) → are_small ns ≡ true → option_map (map pos) (hex_in (string (encode_lower (map nat_abs ns)))) ≡ Some ns
-hex_written ns h = rw (decode_of-encode_lower (map nat_abs ns) (octet_bytes (map nat_abs ns) (small_octets ns h))) (ap Some (small_again ns h))
+hex_written ns h =
+    rw (decode_of-encode_lower (map nat_abs ns) (octet_bytes (map nat_abs ns) (small_octets ns h))) (ap Some (small_again ns h))
 
 -- numbers of kinds
 integer_again : (n : ℤ) → as_integer (of_integer n) ≡ Some n
@@ -90,7 +92,11 @@ number_written k n h = rw h (tree_written k n h)
 each_written : (k : Kind) (ns : List ℤ) → list_all (in_range k) ns ≡ true → each_in k (each_json k ns) ≡ Some ns
 each_written k [] h = refl
 each_written k (n ∷ ns) h =
-    rw (number_written k n (left_true (in_range k n) (list_all (in_range k) ns) h), each_written k ns (right_true (in_range k n) (list_all (in_range k) ns) h)) refl
+    rw (
+      number_written k n (left_true (in_range k n) (list_all (in_range k) ns) h),
+      each_written k ns
+          (right_true (in_range k n) (list_all (in_range k) ns) h),
+    ) refl
 
 row_written : (k : Kind) (ns : List ℤ) → list_all (in_range k) ns ≡ true → row_in k (row_json k ns) ≡ Some ns
 row_written kind.Octet ns h = hex_written ns h
@@ -128,17 +134,21 @@ put_any p m (l ∷ ls) h = step (put_any p m ls) (int_eq m l) (int_lt m l) h whe
   either true b h = refl
   either false b h = h
 
-  step : (list_any p (put_in m ls) ≡ true → (p m || list_any p ls) ≡ true) → (s t : Bool) → list_any p (if s then l ∷ ls else (if t then m ∷ l ∷ ls else l ∷ put_in m ls)) ≡ true → (p m || list_any p (l ∷ ls)) ≡ true
+  step : (list_any p (put_in m ls) ≡ true → (p m || list_any p ls) ≡ true) → (s t : Bool)
+      → list_any p (if s then l ∷ ls else (if t then m ∷ l ∷ ls else l ∷ put_in m ls)) ≡ true
+      → (p m || list_any p (l ∷ ls)) ≡ true
   step f true t h = either (p m) (list_any p (l ∷ ls)) h
   step f false true h = h
   step f false false h = behind (p l) (list_any p (put_in m ls)) (p m) (list_any p ls) h f
 
 label_there : (items : ItemList) (n : ℤ) → list_any (λ l. int_eq l n) (labels_of items) ≡ true → has_number items n ≡ true
 label_there [] n h = h
-label_there (i ∷ items) n h = more (int_eq i.1 n) (list_any (λ l. int_eq l n) (labels_of items)) (has_number items n) (put_any (λ l. int_eq l n) i.1 (labels_of items) h) (label_there items n) where
-  more : (a b c : Bool) → (a || b) ≡ true → (b ≡ true → c ≡ true) → (a || c) ≡ true
-  more true b c h f = refl
-  more false b c h f = f h
+label_there (i ∷ items) n h =
+    more (int_eq i.1 n) (list_any (λ l. int_eq l n) (labels_of items)) (has_number items n)
+    (put_any (λ l. int_eq l n) i.1 (labels_of items) h) (label_there items n) where
+      more : (a b c : Bool) → (a || b) ≡ true → (b ≡ true → c ≡ true) → (a || c) ≡ true
+      more true b c h f = refl
+      more false b c h f = f h
 
 -- the first name with a number names it, and is a name
 record Names (items : ItemList) (n : ℤ) (name : List ℕ) : Type 0 where
@@ -151,9 +161,13 @@ names_first i items n h = record {
   there = rw ((bytes_eq-Decides i.0 i.0).1 refl) refl;
 }
 
-names_later : (i : List ℕ × ℤ) (items : ItemList) (n : ℤ) (name : List ℕ) → not (is_name (map (λ i. i.0) items) i.0) ≡ true → Names items n name → Names (i ∷ items) n name
+names_later : (i : List ℕ × ℤ) (items : ItemList) (n : ℤ) (name : List ℕ) → not (is_name (map (λ i. i.0) items) i.0) ≡ true
+    → Names items n name
+    → Names (i ∷ items) n name
 names_later i items n name new names = record {
-  named = later (bytes_eq (text_of i.0) (text_of name)) (λ same. clash (encodes_same i.0 name ((bytes_eq-Decides (text_of i.0) (text_of name)).0 same)));
+  named =
+      later (bytes_eq (text_of i.0) (text_of name))
+      (λ same. clash (encodes_same i.0 name ((bytes_eq-Decides (text_of i.0) (text_of name)).0 same)));
   there = either (bytes_eq i.0 name) (is_name (map (λ i. i.0) items) name) names.there;
 } where
   either : (a b : Bool) → b ≡ true → (a || b) ≡ true
@@ -161,21 +175,27 @@ names_later i items n name new names = record {
   either false b h = h
 
   clash : i.0 ≡ name → ⊥
-  clash same = let twice : is_name (map (λ i. i.0) items) i.0 ≡ true = rw same names.there in let no : not true ≡ true = rw twice at new in absurd cc
+  clash same =
+      let twice : is_name (map (λ i. i.0) items) i.0 ≡ true = rw same names.there in let no : not true ≡ true = rw twice at new in absurd cc
 
   later : (b : Bool) → (b ≡ true → ⊥) → (if b then Some i.1 else number_named items (text_of name)) ≡ Some n
   later true h = absurd (h refl)
   later false h = names.named
 
-names : (items : ItemList) (n : ℤ) → has_number items n ≡ true → are_distinct (map (λ i. i.0) items) ≡ true → Names items n (name_of items n)
+names : (items : ItemList) (n : ℤ) → has_number items n ≡ true → are_distinct (map (λ i. i.0) items) ≡ true
+    → Names items n (name_of items n)
 names [] n h distinct = absurd cc
-names (i ∷ items) n h distinct = step (λ k. names items n k (right_true (not (is_name (map (λ i. i.0) items) i.0)) (are_distinct (map (λ i. i.0) items)) distinct)) (int_eq i.1 n) refl h where
-  new : not (is_name (map (λ i. i.0) items) i.0) ≡ true
-  new = left_true (not (is_name (map (λ i. i.0) items) i.0)) (are_distinct (map (λ i. i.0) items)) distinct
+names (i ∷ items) n h distinct =
+    step (λ k. names items n k (right_true (not (is_name (map (λ i. i.0) items) i.0)) (are_distinct (map (λ i. i.0) items)) distinct))
+    (int_eq i.1 n) refl h where
+      new : not (is_name (map (λ i. i.0) items) i.0) ≡ true
+      new = left_true (not (is_name (map (λ i. i.0) items) i.0)) (are_distinct (map (λ i. i.0) items)) distinct
 
-  step : (has_number items n ≡ true → Names items n (name_of items n)) → (b : Bool) → int_eq i.1 n ≡ b → (b || has_number items n) ≡ true → Names (i ∷ items) n (if b then i.0 else name_of items n)
-  step f true is h = names_first i items n is
-  step f false is h = names_later i items n (name_of items n) new (f h)
+      step : (has_number items n ≡ true → Names items n (name_of items n)) → (b : Bool) → int_eq i.1 n ≡ b
+          → (b || has_number items n) ≡ true
+          → Names (i ∷ items) n (if b then i.0 else name_of items n)
+      step f true is h = names_first i items n is
+      step f false is h = names_later i items n (name_of items n) new (f h)
 
 pub sign_written : (s : Sign) (n : ℤ) → is_named_sign s ≡ true → IsScalar (scalar_of s) n → sign_in s (sign_json s n) ≡ Some n
 sign_written (face.number k) n distinct h = number_written k n h

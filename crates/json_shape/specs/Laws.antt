@@ -51,10 +51,17 @@ pub record IsHeadOf (b : Back) (o : Op) (h : Head) : Type 0 where
 
 -- the request that a written record begins: the operation's, with the numbers of the head, and the value's tree
 abbrev pub begun_again : Binding → ℕ → Op → Head → Val → Begun
-begun_again b k o h v = record { op = k; head = head_of b.back (head_word b.back h) h.local (not (is_oneway b k)); face = face_at b.nodes b.shapes o.request; tree = json_of (face_at b.nodes b.shapes o.request) v }
+begun_again b k o h v = record {
+  op = k;
+  head = head_of b.back (head_word b.back h) h.local (not (is_oneway b k));
+  face = face_at b.nodes b.shapes o.request;
+  tree = json_of (face_at b.nodes b.shapes o.request) v;
+}
 
 -- a request record that is written is read as the same request, and presents the same value
 abbrev pub RecordsAreReadBack : Type 0
-RecordsAreReadBack = (b : Binding) (k : ℕ) (o : Op) (h : Head) (v : Val) → IsBinding b → IsTrue (are_told_apart b) → slice_get b.ops k ≡ Some o → IsHeadOf b.back o h
+RecordsAreReadBack = (b : Binding) (k : ℕ) (o : Op) (h : Head) (v : Val)
+    → IsBinding b → IsTrue (are_told_apart b) → slice_get b.ops k ≡ Some o → IsHeadOf b.back o h
     → IsWellTyped (type_of (face_at b.nodes b.shapes o.request)) v
-    → (request_of b (request_json b o h v) ≡ Ok (begun_again b k o h v)) × Presents (face_at b.nodes b.shapes o.request) (json_of (face_at b.nodes b.shapes o.request) v) v
+    → (request_of b (request_json b o h v) ≡ Ok (begun_again b k o h v))
+    × Presents (face_at b.nodes b.shapes o.request) (json_of (face_at b.nodes b.shapes o.request) v) v

@@ -26,6 +26,15 @@ op_from is s k (o ∷ os) = if bytes_eq (text_of (dotted is o)) s then Some (k, 
 abbrev pub op_named : Binding → List ℕ → Option (ℕ × Op)
 op_named b s = op_from b.unit.interfaces s 0 b.ops
 
+-- the number of an operation that has a reply
+abbrev pub if_replying : Option (ℕ × Op) → Option ℕ
+if_replying None = None
+if_replying (Some o) = if o.1.has_reply then Some o.0 else None
+
+-- the number of the first operation of a name, where it has a reply
+abbrev pub replying : Binding → List ℕ → Option ℕ
+replying b name = if_replying (op_named b (text_of name))
+
 -- the operations of an interface as its file has them, and none for a procedure that it gets
 abbrev pub sources_of : Back → PlainInterface → List (Option PlainOperation)
 sources_of b i = map (λ op. Some op) i.ops ++ (if gets_null b i then None ∷ [] else [])

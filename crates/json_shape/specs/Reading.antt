@@ -42,7 +42,10 @@ unfoldable mutual
   value_of (face.values ps) j = option_map group (in_array (in_order ps) j)
   value_of (face.members ps) j = option_map group (in_object (count ps) (by_name ps) j)
   value_of (face.list c f) j = option_map items (in_array (each (value_of f)) j)
-  value_of (face.choice s arms) j = option_and_then (λ ms. if is_arm ms then option_and_then (λ n. option_map (arm n) (behind arms n (behind_tag ms))) (tag_in s ms) else None) (as_object j)
+  value_of (face.choice s arms) j =
+      option_and_then
+      (λ ms. if is_arm ms then option_and_then (λ n. option_map (arm n) (behind arms n (behind_tag ms))) (tag_in s ms) else None)
+      (as_object j)
   value_of (face.maybe f) j = option_and_then (maybe_in (value_of f)) (as_array j)
 
   -- the parts in order

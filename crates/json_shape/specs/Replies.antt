@@ -28,7 +28,8 @@ use Rattle.json_shape.specs.Written.{arm_json, behind_json}
 -- the keys of a reply record
 abbrev pub is_reply_key : Back → List ℕ → Bool
 is_reply_key b k =
-    bytes_eq k (codes "op") || bytes_eq k (head_key b) || bytes_eq k (codes "result") || bytes_eq k (codes "outs") || bytes_eq k (codes "raise") || bytes_eq k (codes "members")
+    bytes_eq k (codes "op") || bytes_eq k (head_key b) || bytes_eq k (codes "result") || bytes_eq k (codes "outs")
+    || bytes_eq k (codes "raise") || bytes_eq k (codes "members")
 
 -- an answer: a result and outs, and no exception's members
 abbrev pub is_given : Data → Bool
@@ -36,11 +37,15 @@ is_given j = is_none (get (codes "members") j) && is_list (get (codes "outs") j)
 
 -- an exception and its members, and nothing of an answer
 abbrev pub is_raised : Data → Bool
-is_raised j = is_text (get (codes "raise") j) && is_none (get (codes "result") j) && is_none (get (codes "outs") j) && is_table (get (codes "members") j)
+is_raised j =
+    is_text (get (codes "raise") j) && is_none (get (codes "result") j) && is_none (get (codes "outs") j)
+    && is_table (get (codes "members") j)
 
 -- a reply record: an object of these members, each of its sort
 abbrev pub is_reply : Back → Data → Bool
-is_reply b j = has_only (is_reply_key b) j && is_text (get (codes "op") j) && is_some (head_number (get (head_key b) j)) && (if is_some (get (codes "raise") j) then is_raised j else is_given j)
+is_reply b j =
+    has_only (is_reply_key b) j && is_text (get (codes "op") j) && is_some (head_number (get (head_key b) j))
+    && (if is_some (get (codes "raise") j) then is_raised j else is_given j)
 
 -- the place, from k on, of the first exception whose name a string is
 abbrev pub raise_from : List ℕ → ℕ → List PlainRaise → Option ℕ
@@ -57,7 +62,9 @@ given_tree j = arm_json (number (unsigned 0)) (array (item (any_at (codes "resul
 
 -- the k-th exception as a choice of arm k: its members
 abbrev pub raised_tree : List PlainRaise → Data → Option Data
-raised_tree rs j = option_map (λ k. arm_json (number (unsigned k)) (table_at (codes "members") j)) (raise_from (text_at (codes "raise") j) 1 rs)
+raised_tree rs j =
+    option_map (λ k. arm_json (number (unsigned k)) (table_at (codes "members") j))
+    (raise_from (text_at (codes "raise") j) 1 rs)
 
 -- a reply as a choice, unless it is an exception that the operation does not list
 abbrev pub reply_tree : List PlainRaise → Data → Option Data
@@ -65,7 +72,12 @@ reply_tree rs j = if is_some (get (codes "raise") j) then raised_tree rs j else 
 
 -- the reply of an operation
 abbrev pub told : Binding → Data → ℕ → Op → Data → Begun
-told b j k o tree = record { op = k; head = head_of b.back (number_at (head_key b.back) j) 0 true; face = face_at b.nodes b.shapes o.reply; tree = tree }
+told b j k o tree = record {
+  op = k;
+  head = head_of b.back (number_at (head_key b.back) j) 0 true;
+  face = face_at b.nodes b.shapes o.reply;
+  tree = tree;
+}
 
 abbrev pub told_of : Binding → Data → ℕ → Op → Option Data → Result Begun RecordErr
 told_of b j k o None = Err errors.Shape
@@ -92,7 +104,9 @@ given_members _ = no_members
 
 -- the members of the exception at a place
 abbrev pub raised_members : List PlainRaise → ℕ → Data → Members
-raised_members rs k j = if nat_lt k (length rs) then put (codes "raise") (string (text_of (raise_name rs k))) (put (codes "members") j no_members) else no_members
+raised_members rs k j =
+    if nat_lt k (length rs) then put (codes "raise") (string (text_of (raise_name rs k))) (put (codes "members") j no_members)
+    else no_members
 
 -- the members of an answer, or of an exception, by the number of the arm
 abbrev pub behind_members : List PlainRaise → ℤ → Data → Members
@@ -126,7 +140,8 @@ abbrev pub refusal_says : Refusal → Items
 refusal_says (refusal.ProgMismatch low high) = item (word low) (item (word high) no_items)
 refusal_says (refusal.RpcMismatch low high) = item (word low) (item (word high) no_items)
 refusal_says (refusal.AuthError status) = item (word status) no_items
-refusal_says (refusal.SystemException id minor completion) = item (string (text_of id)) (item (word minor) (item (word completion) no_items))
+refusal_says (refusal.SystemException id minor completion) =
+    item (string (text_of id)) (item (word minor) (item (word completion) no_items))
 refusal_says (refusal.UserException id) = item (string (text_of id)) no_items
 refusal_says (refusal.RetCode code) = item (number (of_integer code)) no_items
 refusal_says _ = no_items
@@ -140,12 +155,22 @@ abbrev pub IsOutcome : Ty → Outcome → Type 0
 IsOutcome t (Answer value) = IsWellTyped t (seen value)
 IsOutcome t (Refused why) = Unit {0}
 
+-- the members of a refusal
+abbrev pub refused_members : Refusal → Members
+refused_members why = put (codes "refused") (array (refusal_json why)) no_members
+
 -- the members of what a call came to
 abbrev pub outcome_members : List PlainRaise → Face → Outcome → Members
 outcome_members rs f (Answer value) = answer_members rs f (seen value)
-outcome_members rs f (Refused why) = put (codes "refused") (array (refusal_json why)) no_members
+outcome_members rs f (Refused why) = refused_members why
+
+-- a reply record with the members of what its call came to
+abbrev pub reply_with : Binding → Op → Head → Members → Data
+reply_with b o h ms =
+    object (put (codes "op") (string (text_of (dotted b.unit.interfaces o)))
+    (put (head_key b.back) (word (head_word b.back h)) ms))
 
 -- the reply record of what a call came to
 abbrev pub reply_json : Binding → ℕ → Op → Head → Outcome → Data
 reply_json b k o h outcome =
-    object (put (codes "op") (string (text_of (dotted b.unit.interfaces o))) (put (head_key b.back) (word (head_word b.back h)) (outcome_members (raises b k) (face_at b.nodes b.shapes o.reply) outcome)))
+    reply_with b o h (outcome_members (raises b k) (face_at b.nodes b.shapes o.reply) outcome)

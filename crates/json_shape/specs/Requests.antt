@@ -21,11 +21,14 @@ use Rattle.json_shape.specs.Written.{json_of}
 
 -- the keys of a request record
 abbrev pub is_request_key : Back → List ℕ → Bool
-is_request_key b k = bytes_eq k (codes "op") || bytes_eq k (codes "args") || bytes_eq k (head_key b) || (is_mach b && bytes_eq k (codes "local"))
+is_request_key b k =
+    bytes_eq k (codes "op") || bytes_eq k (codes "args") || bytes_eq k (head_key b) || (is_mach b && bytes_eq k (codes "local"))
 
 -- a request record: an object of these members, each of its sort
 abbrev pub is_request : Back → Data → Bool
-is_request b j = has_only (is_request_key b) j && is_text (get (codes "op") j) && is_list (get (codes "args") j) && is_some (head_number (get (head_key b) j)) && is_some (head_number (get (codes "local") j))
+is_request b j =
+    has_only (is_request_key b) j && is_text (get (codes "op") j) && is_list (get (codes "args") j)
+    && is_some (head_number (get (head_key b) j)) && is_some (head_number (get (codes "local") j))
 
 -- a head from its numbers, and whether a reply is awaited
 abbrev pub head_of : Back → ℕ → ℕ → Bool → Head
@@ -40,7 +43,12 @@ is_unanswered b o j = is_mach b && not o.has_reply && not (number_at (codes "loc
 
 -- the request of an operation
 abbrev pub asked : Binding → Data → ℕ → Op → Begun
-asked b j k o = record { op = k; head = head_of b.back (number_at (head_key b.back) j) (number_at (codes "local") j) (not (is_oneway b k)); face = face_at b.nodes b.shapes o.request; tree = list_at (codes "args") j }
+asked b j k o = record {
+  op = k;
+  head = head_of b.back (number_at (head_key b.back) j) (number_at (codes "local") j) (not (is_oneway b k));
+  face = face_at b.nodes b.shapes o.request;
+  tree = list_at (codes "args") j;
+}
 
 abbrev pub asked_of : Binding → Data → Option (ℕ × Op) → Result Begun RecordErr
 asked_of b j None = Err errors.Op
@@ -54,9 +62,12 @@ request_of b j = if is_request b.back j then asked_of b j (op_named b (text_at (
 
 -- a head's numbers before other members
 abbrev pub head_json : Back → Head → Members → Members
-head_json b h ms = put (head_key b) (number (unsigned (head_word b h))) (if is_mach b then put (codes "local") (number (unsigned h.local)) ms else ms)
+head_json b h ms =
+    put (head_key b) (number (unsigned (head_word b h)))
+    (if is_mach b then put (codes "local") (number (unsigned h.local)) ms else ms)
 
 -- the request record of a value
 abbrev pub request_json : Binding → Op → Head → Val → Data
 request_json b o h v =
-    object (put (codes "op") (string (text_of (dotted b.unit.interfaces o))) (head_json b.back h (put (codes "args") (json_of (face_at b.nodes b.shapes o.request) v) no_members)))
+    object (put (codes "op") (string (text_of (dotted b.unit.interfaces o)))
+    (head_json b.back h (put (codes "args") (json_of (face_at b.nodes b.shapes o.request) v) no_members)))

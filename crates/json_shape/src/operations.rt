@@ -71,7 +71,8 @@ pub(crate) fn op_named<'a>(bound: &'a Bound, text: &str) -> Result<Option<(u32, 
 /// The operation of a number, as its file has it.
 #[tactic(auto, using(crate::proofs::Sources::lists))]
 fn source_in(interfaces: &[Interface], back: Back, k: u32) -> Option<&Operation>
-    ensures { option_map (λ o. plain_operation o.now) result ≡ slice_index_or (sources back (map plain_interface interfaces.now)) k None }
+    ensures { option_map (λ o. plain_operation o.now) result
+        ≡ slice_index_or (sources back (map plain_interface interfaces.now)) k None }
 {
     let mut left = k as usize;
     for interface in interfaces {

@@ -27,9 +27,11 @@ use std::alloc::Global;
 /// The value that the JSON presents for a node.
 pub fn to_value(alloc: Global, bound: &Bound, id: NodeId, json: &Json) -> Result<Value, ShapeErr>
     requires { id < length bound.now.nodes }
-    ensures value { IfOk result (λ v. Presents (face_at bound.now.nodes bound.now.shapes id) (view json.now) (seen v)) }
+    ensures value { IfOk result (λ v.
+        Presents (face_at bound.now.nodes bound.now.shapes id) (view json.now) (seen v)) }
     ensures typed { IfOk result (λ v. IsWellTyped (type_at bound.now.nodes id) (seen v)) }
-    ensures shape { IfErr result (λ e. e ≡ ShapeErr.Shape → (v : Val) → ¬ Presents (face_at bound.now.nodes bound.now.shapes id) (view json.now) v) }
+    ensures shape { IfErr result (λ e. e ≡ ShapeErr.Shape
+        → (v : Val) → ¬ Presents (face_at bound.now.nodes bound.now.shapes id) (view json.now) v) }
 {
     // A node is of the type of its face.
     let Some(_) = bound.part(id) else {
@@ -90,7 +92,8 @@ fn group(
     requires id { id < length bound.now.nodes }
     requires below { AreBelow id ids.now }
     requires named { IsGroupShape ids.now shape.now }
-    ensures { Gives seen result (value_of (group_face (faces bound.now.nodes bound.now.shapes) ids.now shape.now) (view json.now)) }
+    ensures { Gives seen result
+        (value_of (group_face (faces bound.now.nodes bound.now.shapes) ids.now shape.now) (view json.now)) }
 {
     let values = match shape {
         Shape::FieldNames(names) => members(alloc, bound, id, ids, names, json)?,
@@ -113,7 +116,9 @@ fn members(
     requires id { id < length bound.now.nodes }
     requires below { AreBelow id ids.now }
     requires named { length names.now ≡ length ids.now }
-    ensures { Gives all_seen result (in_object (count (parts_at (faces bound.now.nodes bound.now.shapes) names.now ids.now)) (by_name (parts_at (faces bound.now.nodes bound.now.shapes) names.now ids.now)) (view json.now)) }
+    ensures { Gives all_seen result (in_object
+        (count (parts_at (faces bound.now.nodes bound.now.shapes) names.now ids.now))
+        (by_name (parts_at (faces bound.now.nodes bound.now.shapes) names.now ids.now)) (view json.now)) }
 {
     let Some(object) = json.as_object() else {
         return Err(ShapeErr::Shape);
@@ -137,7 +142,8 @@ fn by_name(
     requires id { id < length bound.now.nodes }
     requires below { AreBelow id ids.now }
     requires named { length names.now ≡ length ids.now }
-    ensures { Gives all_seen result (by_name (parts_at (faces bound.now.nodes bound.now.shapes) names.now ids.now) (members_in (view json.now))) }
+    ensures { Gives all_seen result (by_name
+        (parts_at (faces bound.now.nodes bound.now.shapes) names.now ids.now) (members_in (view json.now))) }
 {
     let names = names.as_slice();
     let mut values = Values::new(alloc);
@@ -162,7 +168,8 @@ fn arguments(
 ) -> Result<Values, ShapeErr>
     requires id { id < length bound.now.nodes }
     requires below { AreBelow id ids.now }
-    ensures { Gives all_seen result (in_array (in_order (parts_at (faces bound.now.nodes bound.now.shapes) [] ids.now)) (view json.now)) }
+    ensures { Gives all_seen result (in_array (in_order
+        (parts_at (faces bound.now.nodes bound.now.shapes) [] ids.now)) (view json.now)) }
 {
     match json.as_array() {
         Some(list) => in_order(alloc, bound, id, ids, list.as_slice()),
@@ -181,7 +188,8 @@ fn in_order(
 ) -> Result<Values, ShapeErr>
     requires id { id < length bound.now.nodes }
     requires below { AreBelow id ids.now }
-    ensures { Gives all_seen result (in_order (parts_at (faces bound.now.nodes bound.now.shapes) [] ids.now) (items_view list.now)) }
+    ensures { Gives all_seen result (in_order (parts_at (faces bound.now.nodes bound.now.shapes) [] ids.now)
+        (items_view list.now)) }
 {
     if list.len() != ids.len() {
         return Err(ShapeErr::Shape);
@@ -205,7 +213,8 @@ fn items(
 ) -> Result<Value, ShapeErr>
     requires id { id < length bound.now.nodes }
     requires below { item < id }
-    ensures { Gives seen result (value_of (list size (face_at bound.now.nodes bound.now.shapes item)) (view json.now)) }
+    ensures { Gives seen result (value_of (list size (face_at bound.now.nodes bound.now.shapes item))
+        (view json.now)) }
 {
     match json.as_array() {
         Some(list) => Ok(Value::Items(each(alloc, bound, id, item, list.as_slice())?)),
@@ -224,7 +233,8 @@ fn each(
 ) -> Result<Values, ShapeErr>
     requires id { id < length bound.now.nodes }
     requires below { item < id }
-    ensures { Gives all_seen result (each (value_of (face_at bound.now.nodes bound.now.shapes item)) (items_view list.now)) }
+    ensures { Gives all_seen result (each (value_of (face_at bound.now.nodes bound.now.shapes item))
+        (items_view list.now)) }
 {
     let mut values = Values::new(alloc);
     for json in list {
@@ -244,7 +254,8 @@ fn maybe(
 ) -> Result<Value, ShapeErr>
     requires id { id < length bound.now.nodes }
     requires below { item < id }
-    ensures { Gives seen result (value_of (maybe (face_at bound.now.nodes bound.now.shapes item)) (view json.now)) }
+    ensures { Gives seen result (value_of (maybe (face_at bound.now.nodes bound.now.shapes item))
+        (view json.now)) }
 {
     let Some(list) = json.as_array() else {
         return Err(ShapeErr::Shape);
@@ -271,7 +282,8 @@ fn choice(
     requires id { id < length bound.now.nodes }
     requires below { ArmsBelow id arms.now }
     requires other { IsBelow id other }
-    ensures { Gives seen result (value_of (choice (sign_of tag.now shape.now) (arms_at (faces bound.now.nodes bound.now.shapes) arms.now other)) (view json.now)) }
+    ensures { Gives seen result (value_of (choice (sign_of tag.now shape.now)
+        (arms_at (faces bound.now.nodes bound.now.shapes) arms.now other)) (view json.now)) }
 {
     if !has_arm_members(json) {
         return Err(ShapeErr::Shape);
@@ -298,7 +310,8 @@ fn arm(
     requires id { id < length bound.now.nodes }
     requires below { ArmsBelow id arms.now }
     requires other { IsBelow id other }
-    ensures { Gives seen result (option_map (behind_number n.now) (behind (arms_at (faces bound.now.nodes bound.now.shapes) arms.now other) n.now (view json.now))) }
+    ensures { Gives seen result (option_map (behind_number n.now)
+        (behind (arms_at (faces bound.now.nodes bound.now.shapes) arms.now other) n.now (view json.now))) }
 {
     match arm_of(arms, other, n) {
         Some(item) => Ok(Value::arm(alloc, *n, value(alloc, bound, item, json)?)?),

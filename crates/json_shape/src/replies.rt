@@ -8,6 +8,7 @@ ghost use Rattle.serde_json.specs.Data.{item};
 ghost use Rattle.serde_json.specs.Find.{get};
 ghost use Rattle.serde_json.specs.View.{view, items_view};
 ghost use Rattle.json_shape.specs.Members.{list_at, table_at, any_at};
+ghost use Rattle.json_shape.specs.Operations.{replying};
 ghost use Rattle.json_shape.specs.Records.{Comes};
 ghost use Rattle.json_shape.specs.Replies.{is_given, is_raised, is_reply, items_of, given_tree, raised_tree, reply_tree, reply_of};
 
@@ -18,6 +19,7 @@ use crate::members::{
 use crate::operations::{op_named, raise_named, raises};
 use crate::records::RequestRec;
 use crate::requests::{finish, head_of};
+use crate::texts::text_of;
 use crate::writing::arm_json;
 use aoi::Raise;
 use kit_base::NoMemory;
@@ -31,7 +33,8 @@ pub fn read_reply(alloc: Global, bound: &Bound, json: &Json) -> Result<RequestRe
     ensures comes { Comes (reply_of bound.now (view json.now)) result }
     ensures op { IfOk result (λ r. r.op < length bound.now.ops) }
     ensures reply { IfOk result (λ r. IfSome (slice_get bound.now.ops r.op) (λ o. o.has_reply ≡ true)) }
-    ensures typed { IfOk result (λ r. IfSome (slice_get bound.now.ops r.op) (λ o. IsWellTyped (type_at bound.now.nodes o.reply) (seen r.value))) }
+    ensures typed { IfOk result (λ r. IfSome (slice_get bound.now.ops r.op)
+        (λ o. IsWellTyped (type_at bound.now.nodes o.reply) (seen r.value))) }
 {
     let back = bound.back();
     if !is_reply(back, json) {
@@ -50,6 +53,23 @@ pub fn read_reply(alloc: Global, bound: &Bound, json: &Json) -> Result<RequestRe
     finish(alloc, bound, number, head, op.reply, &tree)
 }
 
+/// The number of the first operation of a name, where it has a reply.
+pub fn reply_named(alloc: Global, bound: &Bound, name: &[u8]) -> Result<Option<u32>, NoMemory>
+    ensures found { IfOk result (λ o. o ≡ replying bound.now name.now) }
+    ensures there { IfOk result (λ o. IfSome o (λ k. k < length bound.now.ops)) }
+    ensures reply { IfOk result (λ o. IfSome o
+        (λ k. IfSome (slice_get bound.now.ops k) (λ op. op.has_reply ≡ true))) }
+{
+    let text = text_of(alloc, name)?;
+    let Some((number, op)) = op_named(bound, text.as_str())? else {
+        return Ok(None);
+    };
+    if !op.has_reply {
+        return Ok(None);
+    }
+    Ok(Some(number))
+}
+
 /// Whether the JSON is a reply record.
 fn is_reply(back: Back, json: &Json) -> bool
     ensures { result ≡ is_reply back (view json.now) }
@@ -61,7 +81,8 @@ fn is_reply(back: Back, json: &Json) -> bool
 }
 
 fn is_answer(json: &Json) -> bool
-    ensures { result ≡ (if is_some (get (codes "raise") (view json.now)) then is_raised (view json.now) else is_given (view json.now)) }
+    ensures { result ≡ (if is_some (get (codes "raise") (view json.now)) then is_raised (view json.now)
+        else is_given (view json.now)) }
 {
     if json.get("raise").is_some() {
         is_raised(json)
@@ -96,7 +117,8 @@ fn reply_tree(alloc: Global, raises: &[Raise], json: &Json) -> Result<Option<Jso
 }
 
 fn raised_tree(alloc: Global, raises: &[Raise], json: &Json) -> Result<Option<Json>, NoMemory>
-    ensures { IfOk result (λ o. option_map view o ≡ raised_tree (map plain_raise raises.now) (view json.now)) }
+    ensures { IfOk result (λ o.
+        option_map view o ≡ raised_tree (map plain_raise raises.now) (view json.now)) }
 {
     let Some(number) = raise_named(raises, text_at(json, "raise"))? else {
         return Ok(None);

@@ -27,7 +27,8 @@ use wire_def::{Back, Head, Order};
 pub fn read_request(alloc: Global, bound: &Bound, json: &Json) -> Result<RequestRec, RecordErr>
     ensures comes { Comes (request_of bound.now (view json.now)) result }
     ensures op { IfOk result (λ r. r.op < length bound.now.ops) }
-    ensures typed { IfOk result (λ r. IfSome (slice_get bound.now.ops r.op) (λ o. IsWellTyped (type_at bound.now.nodes o.request) (seen r.value))) }
+    ensures typed { IfOk result (λ r. IfSome (slice_get bound.now.ops r.op)
+        (λ o. IsWellTyped (type_at bound.now.nodes o.request) (seen r.value))) }
 {
     if !is_request(bound.back(), json) {
         return Err(RecordErr::Request);
@@ -100,7 +101,8 @@ pub(crate) fn head_of(back: Back, id: u32, local: u32, wants: bool) -> Head
 }
 
 fn head_in(bound: &Bound, number: u32, json: &Json) -> Head
-    ensures { result ≡ head_of bound.now.back (number_at (head_key bound.now.back) (view json.now)) (number_at (codes "local") (view json.now)) (not (is_oneway bound.now number)) }
+    ensures { result ≡ head_of bound.now.back (number_at (head_key bound.now.back) (view json.now))
+        (number_at (codes "local") (view json.now)) (not (is_oneway bound.now number)) }
 {
     let back = bound.back();
     let id = number_at(json, head_key(back));
@@ -124,7 +126,12 @@ pub(crate) fn finish(
     requires { node < length bound.now.nodes }
     ensures op { IfOk result (λ r. r.op ≡ op) }
     ensures typed { IfOk result (λ r. IsWellTyped (type_at bound.now.nodes node) (seen r.value)) }
-    ensures comes { Comes (Ok (record { op = op; head = head; face = face_at bound.now.nodes bound.now.shapes node; tree = view json.now })) result }
+    ensures comes { Comes (Ok (record {
+      op = op;
+      head = head;
+      face = face_at bound.now.nodes bound.now.shapes node;
+      tree = view json.now;
+    })) result }
 {
     match to_value(alloc, bound, node, json) {
         Ok(value) => Ok(RequestRec { op, head, value }),

@@ -66,7 +66,8 @@ pub(crate) fn text_of(alloc: Global, octets: &[u8]) -> Result<String, NoMemory>
 /// What stands behind the string of the octets.
 pub(crate) fn behind<'a>(octets: &[u8], chars: Chars<'a>) -> Option<Chars<'a>>
     requires { IsUtf8 (chars_rest chars) }
-    ensures some { IfSome result (λ r. IsUtf8 (chars_rest r) × (chars_rest chars.entry ≡ text_of octets.now ++ chars_rest r)) }
+    ensures some { IfSome result (λ r. IsUtf8 (chars_rest r)
+        × (chars_rest chars.entry ≡ text_of octets.now ++ chars_rest r)) }
     ensures none { IfNone result ((more : List ℕ) → chars_rest chars.entry ≢ text_of octets.now ++ more) }
 {
     let mut rest = chars;

@@ -25,8 +25,10 @@ use std::alloc::Global;
 pub fn to_json(alloc: Global, bound: &Bound, id: NodeId, value: &Value) -> Result<Json, NoMemory>
     requires id { id < length bound.now.nodes }
     requires typed { IsWellTyped (type_at bound.now.nodes id) (seen value.now) }
-    ensures json { IfOk result (λ j. view j ≡ json_of (face_at bound.now.nodes bound.now.shapes id) (seen value.now)) }
-    ensures presents { IfOk result (λ j. Presents (face_at bound.now.nodes bound.now.shapes id) (view j) (seen value.now)) }
+    ensures json { IfOk result (λ j.
+        view j ≡ json_of (face_at bound.now.nodes bound.now.shapes id) (seen value.now)) }
+    ensures presents { IfOk result (λ j.
+        Presents (face_at bound.now.nodes bound.now.shapes id) (view j) (seen value.now)) }
 {
     // The names in a binding differ, and a node is of the type of its face.
     let _ops = bound.ops();
@@ -40,7 +42,8 @@ pub fn to_json(alloc: Global, bound: &Bound, id: NodeId, value: &Value) -> Resul
 #[cycle(write)]
 fn json(alloc: Global, bound: &Bound, id: NodeId, value: &Value) -> Result<Json, NoMemory>
     requires { id < length bound.now.nodes }
-    ensures { IfOk result (λ j. view j ≡ json_of (face_at bound.now.nodes bound.now.shapes id) (seen value.now)) }
+    ensures { IfOk result (λ j.
+        view j ≡ json_of (face_at bound.now.nodes bound.now.shapes id) (seen value.now)) }
 {
     let Some((node, shape)) = bound.part(id) else {
         unreachable!()
@@ -114,7 +117,9 @@ fn group(
     requires id { id < length bound.now.nodes }
     requires below { AreBelow id ids.now }
     requires named { IsGroupShape ids.now shape.now }
-    ensures { IfOk result (λ j. view j ≡ json_of (group_face (faces bound.now.nodes bound.now.shapes) ids.now shape.now) (group (all_seen values.now))) }
+    ensures { IfOk result (λ j. view j
+        ≡ json_of (group_face (faces bound.now.nodes bound.now.shapes) ids.now shape.now)
+        (group (all_seen values.now))) }
 {
     match shape {
         Shape::FieldNames(names) => Ok(Json::Object(by_name(
@@ -137,7 +142,9 @@ fn by_name(
     requires id { id < length bound.now.nodes }
     requires below { AreBelow id ids.now }
     requires named { length names.now ≡ length ids.now }
-    ensures { IfOk result (λ m. members_view m.entries ≡ by_name_json (parts_at (faces bound.now.nodes bound.now.shapes) names.now ids.now) (all_seen values.now)) }
+    ensures { IfOk result (λ m. members_view m.entries
+        ≡ by_name_json (parts_at (faces bound.now.nodes bound.now.shapes) names.now ids.now)
+        (all_seen values.now)) }
 {
     let ids = ids.as_slice();
     let names = names.as_slice();
@@ -163,7 +170,9 @@ fn in_order(
 ) -> Result<Vec<Json>, NoMemory>
     requires id { id < length bound.now.nodes }
     requires below { AreBelow id ids.now }
-    ensures { IfOk result (λ l. items_view l.items ≡ in_order_json (parts_at (faces bound.now.nodes bound.now.shapes) [] ids.now) (all_seen values.now)) }
+    ensures { IfOk result (λ l. items_view l.items
+        ≡ in_order_json (parts_at (faces bound.now.nodes bound.now.shapes) [] ids.now)
+        (all_seen values.now)) }
 {
     let ids = ids.as_slice();
     let values = values.as_slice();
@@ -184,7 +193,9 @@ fn items(
 ) -> Result<Json, NoMemory>
     requires id { id < length bound.now.nodes }
     requires below { item < id }
-    ensures { IfOk result (λ j. view j ≡ array (items_json (json_of (face_at bound.now.nodes bound.now.shapes item)) (all_seen values.now))) }
+    ensures { IfOk result (λ j. view j
+        ≡ array (items_json (json_of (face_at bound.now.nodes bound.now.shapes item))
+        (all_seen values.now))) }
 {
     let mut list = Vec::new(alloc);
     for value in values.as_slice() {
@@ -208,7 +219,8 @@ pub(crate) fn arm(
     requires id { id < length bound.now.nodes }
     requires below { ArmsBelow id arms.now }
     requires other { IsBelow id other }
-    ensures { IfOk result (λ j. view j ≡ behind_json (arms_at (faces bound.now.nodes bound.now.shapes) arms.now other) n.now (seen inner.now)) }
+    ensures { IfOk result (λ j. view j ≡ behind_json
+        (arms_at (faces bound.now.nodes bound.now.shapes) arms.now other) n.now (seen inner.now)) }
 {
     match arm_of(arms, other, n) {
         Some(item) => json(alloc, bound, item, inner),

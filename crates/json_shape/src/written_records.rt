@@ -5,10 +5,9 @@ ghost use Rattle.mint.specs.Typed.{IsWellTyped};
 ghost use Rattle.mint.specs.Types.{type_at};
 ghost use Rattle.mint.specs.Values.{seen};
 ghost use Rattle.pres.specs.Faces.{face_at};
-ghost use Rattle.serde_json.specs.Data.{array, no_members, put};
 ghost use Rattle.serde_json.specs.Find.{as_array};
 ghost use Rattle.serde_json.specs.View.{view, items_view, members_view};
-ghost use Rattle.json_shape.specs.Replies.{reply_json, outcome_members, answer_members, behind_members, given_members, raised_members, refusal_json, refusal_name, IsOutcome};
+ghost use Rattle.json_shape.specs.Replies.{reply_json, outcome_members, answer_members, behind_members, given_members, raised_members, refused_members, refusal_json, refusal_name, IsOutcome};
 ghost use Rattle.json_shape.specs.Requests.{request_json, head_json};
 
 use crate::members::{head_key, head_word, is_mach};
@@ -34,8 +33,10 @@ pub fn write_request(
     value: &Value,
 ) -> Result<Json, NoMemory>
     requires op { op < length bound.now.ops }
-    requires typed { IfSome (slice_get bound.now.ops op) (λ o. IsWellTyped (type_at bound.now.nodes o.request) (seen value.now)) }
-    ensures { IfOk result (λ j. IfSome (slice_get bound.now.ops op) (λ o. view j ≡ request_json bound.now o head.now (seen value.now))) }
+    requires typed { IfSome (slice_get bound.now.ops op)
+        (λ o. IsWellTyped (type_at bound.now.nodes o.request) (seen value.now)) }
+    ensures { IfOk result (λ j. IfSome (slice_get bound.now.ops op)
+        (λ o. view j ≡ request_json bound.now o head.now (seen value.now))) }
 {
     let Some(operation) = bound.ops().get(op as usize) else {
         unreachable!()
@@ -60,7 +61,8 @@ fn put_head(
     head: &Head,
     members: &mut Map<String, Json>,
 ) -> Result<(), NoMemory>
-    ensures { OnOk result (members_view members.new.entries ≡ head_json back head.now (members_view members.old.entries)) }
+    ensures { OnOk result (members_view members.new.entries
+        ≡ head_json back head.now (members_view members.old.entries)) }
 {
     if is_mach(back) {
         put(members, alloc, "local", Json::from(head.local))?;
@@ -84,8 +86,10 @@ pub fn write_reply(
 ) -> Result<Json, NoMemory>
     requires op { op < length bound.now.ops }
     requires reply { IfSome (slice_get bound.now.ops op) (λ o. o.has_reply ≡ true) }
-    requires typed { IfSome (slice_get bound.now.ops op) (λ o. IsOutcome (type_at bound.now.nodes o.reply) outcome.now) }
-    ensures { IfOk result (λ j. IfSome (slice_get bound.now.ops op) (λ o. view j ≡ reply_json bound.now op o head.now outcome.now)) }
+    requires typed { IfSome (slice_get bound.now.ops op)
+        (λ o. IsOutcome (type_at bound.now.nodes o.reply) outcome.now) }
+    ensures { IfOk result (λ j. IfSome (slice_get bound.now.ops op)
+        (λ o. view j ≡ reply_json bound.now op o head.now outcome.now)) }
 {
     let Some(operation) = bound.ops().get(op as usize) else {
         unreachable!()
@@ -111,7 +115,9 @@ fn outcome_members(
     outcome: &Outcome,
 ) -> Result<Map<String, Json>, NoMemory>
     requires { node < length bound.now.nodes }
-    ensures { IfOk result (λ m. members_view m.entries ≡ outcome_members (map plain_raise raises.now) (face_at bound.now.nodes bound.now.shapes node) outcome.now) }
+    ensures { IfOk result (λ m. members_view m.entries
+        ≡ outcome_members (map plain_raise raises.now)
+        (face_at bound.now.nodes bound.now.shapes node) outcome.now) }
 {
     match outcome {
         Outcome::Answer(value) => answer_members(alloc, bound, raises, node, value),
@@ -120,7 +126,7 @@ fn outcome_members(
 }
 
 fn refused_members(alloc: Global, why: &Refusal) -> Result<Map<String, Json>, NoMemory>
-    ensures { IfOk result (λ m. members_view m.entries ≡ put (codes "refused") (array (refusal_json why.now)) no_members) }
+    ensures { IfOk result (λ m. members_view m.entries ≡ refused_members why.now) }
 {
     let mut members = Map::new(alloc);
     put(
@@ -183,7 +189,9 @@ fn answer_members(
     value: &Value,
 ) -> Result<Map<String, Json>, NoMemory>
     requires { node < length bound.now.nodes }
-    ensures { IfOk result (λ m. members_view m.entries ≡ answer_members (map plain_raise raises.now) (face_at bound.now.nodes bound.now.shapes node) (seen value.now)) }
+    ensures { IfOk result (λ m. members_view m.entries
+        ≡ answer_members (map plain_raise raises.now) (face_at bound.now.nodes bound.now.shapes node)
+        (seen value.now)) }
 {
     let Some((choice, _)) = bound.part(node) else {
         unreachable!()
@@ -205,7 +213,8 @@ fn behind_members(
     n: &i128,
     json: Json,
 ) -> Result<Map<String, Json>, NoMemory>
-    ensures { IfOk result (λ m. members_view m.entries ≡ behind_members (map plain_raise raises.now) n.now (view json)) }
+    ensures { IfOk result (λ m. members_view m.entries
+        ≡ behind_members (map plain_raise raises.now) n.now (view json)) }
 {
     match usize::try_from(*n) {
         Ok(0) => given_members(alloc, json),
@@ -246,7 +255,8 @@ fn raised_members(
     k: usize,
     json: Json,
 ) -> Result<Map<String, Json>, NoMemory>
-    ensures { IfOk result (λ m. members_view m.entries ≡ raised_members (map plain_raise raises.now) k (view json)) }
+    ensures { IfOk result (λ m. members_view m.entries
+        ≡ raised_members (map plain_raise raises.now) k (view json)) }
 {
     let mut members = Map::new(alloc);
     if k >= raises.len() {

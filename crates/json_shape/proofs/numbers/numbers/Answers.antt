@@ -11,10 +11,12 @@ loop-i-preserved c =
     let there = rw c.len-i-end.ensures at c.loop-i-test.true in
     let fits : SFits w128 c.in-Some.n = search rules in
     let same = to_z-of_z w128 c.in-Some.n fits in
-    let more = numbers_more c.args.kind c.args.row.now.numbers c.loop-i.i c.in-Some.n c.loop-i.list.items c.in_ok-number_json.field-0 there c.in-Some.ensures (rw same at c.in_ok-number_json.ensures) in
+    let more = numbers_more c.args.kind c.args.row.now.numbers c.loop-i.i c.in-Some.n c.loop-i.list.items
+    c.in_ok-number_json.field-0 there c.in-Some.ensures (rw same at c.in_ok-number_json.ensures) in
     rw c.in_ok-push.ensures.items (sym more ∙ c.loop-i.invariant)
 
 pub returns : goal.returns
 returns c =
     let past = rw c.len-i-end.ensures at c.loop-i-test.false in
-    view-Array c.loop-i.list ∙ ap array (numbers_done c.args.kind c.args.row.now.numbers c.loop-i.i c.loop-i.list.items _ past c.loop-i.invariant)
+    view-Array c.loop-i.list
+    ∙ ap array (numbers_done c.args.kind c.args.row.now.numbers c.loop-i.i c.loop-i.list.items _ past c.loop-i.invariant)

@@ -3,7 +3,13 @@ use Rattle.json_shape.proofs.Blocks.{hex_row, char_row}
 use Rattle.json_shape.proofs.numbers.row_json.Goals as goal
 
 pub returns-in-Octet : goal.returns-in-Octet
-returns-in-Octet c = rw (sym (hex_row c.args.row.now.kind c.args.row.now.numbers c.image.result.now c.in-Octet.ensures.value c.in-Octet.ensures.ranged c.image.ensures.value)) c.hexadecimal.ensures
+returns-in-Octet c =
+    let same = hex_row c.args.row.now.kind c.args.row.now.numbers c.image.result.now
+    c.in-Octet.ensures.value c.in-Octet.ensures.ranged c.image.ensures.value in
+    rw (sym same) c.hexadecimal.ensures
 
 pub returns-in-Char : goal.returns-in-Char
-returns-in-Char c = rw (sym (char_row c.args.row.now.kind c.args.row.now.numbers c.image-in-Char.result.now c.in-Char.ensures.value c.in-Char.ensures.ranged c.image-in-Char.ensures.value)) c.string.ensures
+returns-in-Char c =
+    let same = char_row c.args.row.now.kind c.args.row.now.numbers c.image-in-Char.result.now
+    c.in-Char.ensures.value c.in-Char.ensures.ranged c.image-in-Char.ensures.value in
+    rw (sym same) c.string.ensures

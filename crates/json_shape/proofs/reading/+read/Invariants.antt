@@ -45,12 +45,14 @@ decreases-arm l = l.id + l.id + l.id + l.id + 1
 abbrev pub invariant-by_name-loop-i : goal.invariant-by_name-loop-i
 invariant-by_name-loop-i l =
     let fs = faces l.bound.nodes l.bound.shapes in
-    option_map (joined (all_seen l.values)) (by_name (parts_at fs (drop l.i l.fn.names) (drop l.i l.fn.ids)) (members_in (view l.fn.json))) ≡ by_name (parts_at fs l.fn.names l.fn.ids) (members_in (view l.fn.json))
+    option_map (joined (all_seen l.values)) (by_name (parts_at fs (drop l.i l.fn.names) (drop l.i l.fn.ids)) (members_in (view l.fn.json)))
+    ≡ by_name (parts_at fs l.fn.names l.fn.ids) (members_in (view l.fn.json))
 
 abbrev pub invariant-in_order-loop-i : goal.invariant-in_order-loop-i
 invariant-in_order-loop-i l =
     let fs = faces l.bound.nodes l.bound.shapes in
-    option_map (joined (all_seen l.values)) (in_order (parts_at fs [] (drop l.i l.fn.ids)) (items_view (drop l.i l.fn.list))) ≡ in_order (parts_at fs [] l.fn.ids) (items_view l.fn.list)
+    option_map (joined (all_seen l.values)) (in_order (parts_at fs [] (drop l.i l.fn.ids)) (items_view (drop l.i l.fn.list))) ≡ in_order
+    (parts_at fs [] l.fn.ids) (items_view l.fn.list)
 
 abbrev pub invariant-each-loop-json : goal.invariant-each-loop-json
 invariant-each-loop-json l =

@@ -11,7 +11,9 @@ returns-in-Ok-clause-value c =
 
 pub returns-in-Ok-2-clause-shape : goal.returns-in-Ok-2-clause-shape
 returns-in-Ok-2-clause-shape c same =
-    let misfit = λ (t : IsWellTyped (type_at c.args.bound.now.nodes c.args.id) (seen c.in-Ok.value)). let yes = c.fits.ensures.1 (rw (← c.mint.ensures) at t) in absurd cc in
+    let misfit =
+    λ (t : IsWellTyped (type_at c.args.bound.now.nodes c.args.id) (seen c.in-Ok.value)). let yes = c.fits.ensures.1
+    (rw (← c.mint.ensures) at t) in absurd cc in
     misfit_presented _ _ _ _ c.in-Some.ensures.type_ c.in-Ok.ensures misfit
 
 pub returns-in-Err-clause-shape : goal.returns-in-Err-clause-shape

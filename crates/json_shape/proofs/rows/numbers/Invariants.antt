@@ -8,5 +8,6 @@ use Rattle.json_shape.proofs.rows.numbers.Given as goal
 abbrev pub invariant-loop-json : goal.invariant-loop-json
 invariant-loop-json l = record {
   kind : l.row.kind ≡ l.kind;
-  read : option_map (λ ns. l.row.numbers ++ ns) (each_in l.kind (items_view (drop l.json-index l.list))) ≡ each_in l.kind (items_view l.list);
+  read : option_map (λ ns. l.row.numbers ++ ns) (each_in l.kind (items_view (drop l.json-index l.list))) ≡ each_in l.kind
+      (items_view l.list);
 }

@@ -29,7 +29,8 @@ abbrev pub invariant-by_name-loop-i : goal.invariant-by_name-loop-i
 invariant-by_name-loop-i l = record {
   ids_within : l.i ≤ length l.fn.ids;
   values_within : l.i ≤ length l.fn.values;
-  written : members_view l.members.entries ≡ by_name_json (parts_at (faces l.bound.nodes l.bound.shapes) (drop l.i l.fn.names) (drop l.i l.fn.ids)) (all_seen (drop l.i l.fn.values));
+  written : members_view l.members.entries ≡ by_name_json
+      (parts_at (faces l.bound.nodes l.bound.shapes) (drop l.i l.fn.names) (drop l.i l.fn.ids)) (all_seen (drop l.i l.fn.values));
 }
 
 abbrev pub decreases-by_name-loop-i : goal.decreases-by_name-loop-i
@@ -39,9 +40,11 @@ decreases-by_name-loop-i l = l.i
 abbrev pub invariant-in_order-loop-i : goal.invariant-in_order-loop-i
 invariant-in_order-loop-i l =
     let fs = faces l.bound.nodes l.bound.shapes in
-    behind_items (items_view l.list.items) (in_order_json (parts_at fs [] (drop l.i l.fn.ids)) (all_seen (drop l.i l.fn.values))) ≡ in_order_json (parts_at fs [] l.fn.ids) (all_seen l.fn.values)
+    behind_items (items_view l.list.items) (in_order_json (parts_at fs [] (drop l.i l.fn.ids)) (all_seen (drop l.i l.fn.values))) ≡
+    in_order_json (parts_at fs [] l.fn.ids) (all_seen l.fn.values)
 
 abbrev pub invariant-items-loop-value : goal.invariant-items-loop-value
 invariant-items-loop-value l =
     let one = json_of (face_at l.bound.nodes l.bound.shapes l.item) in
-    behind_items (items_view l.list.items) (items_json one (all_seen (drop l.value-index l.fn.values))) ≡ items_json one (all_seen l.fn.values)
+    behind_items (items_view l.list.items) (items_json one (all_seen (drop l.value-index l.fn.values))) ≡ items_json one
+    (all_seen l.fn.values)
