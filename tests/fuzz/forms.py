@@ -16,8 +16,11 @@ OUT_OF_MEMORY = "? memory"  # what the model says of a file over which the progr
 NUMBER = r"(0|[1-9][0-9]*)"
 GIOP = ("Short", "Magic", "Version", "Order", "Type", "Size", "Item", "Text")
 HEADS = {"xdr": ("Short", "Type", "Version", "Cred", "Pad"), "cdr-be": GIOP, "cdr-le": GIOP, "mach": ("Short", "Complex", "Size")}
+REPLY_HEADS = {"xdr": ("Short", "Type", "Item", "Cred", "Pad"), "cdr-be": GIOP, "cdr-le": GIOP, "mach": ("Short", "Complex", "Size", "Type", "Item")}
 BODIES = {"xdr": ["BadPad"], "mach": ["BadItem"]}
 KEYS = {"xdr": ["xid"], "cdr-be": ["id"], "cdr-le": ["id"], "mach": ["local", "remote"]}
+REPLY_KEYS = {"xdr": ["xid"], "cdr-be": ["id"], "cdr-le": ["id"], "mach": ["remote"]}
+CAME = (["outs", "result"], ["members", "raise"], ["refused"])  # what a reply record says, beside its operation and number
 NAMES = {"onc": ("Unknown", "Twice", "NotType", "NotConst", "Range", "Label", "Limit", "OutOfScope"),
          "mig": ("Unknown", "Twice", "Range", "Limit", "OutOfScope", "Oneway", "Port"),
          "corba": ("Unknown", "Twice", "CaseClash", "NotType", "NotConst", "Range", "Label", "Limit", "OutOfScope", "Oneway")}
@@ -29,15 +32,17 @@ def saying_of(front):
                       rf"name (?:{'|'.join(NAMES[front])}) {NUMBER}|bind (?:Many|Deep|Heavy|Wide{'|Raises' if front == 'corba' else ''}))")
 
 
-def no_record_of(back):
-    """The lines by which `unmarshal` refuses, over a back end."""
+def no_record_of(back, heads, others):
+    """The lines by which `unmarshal` or `unreply` refuses, over a back end."""
     kinds = "|".join(["Short", "OverBound", "BadValue", "BadText", *BODIES.get(back, [])])
-    return re.compile(rf"! (long|hex|head (?:{'|'.join(HEADS[back])})|interface|operation|body (?:{kinds}) {NUMBER}|trailing {NUMBER})")
+    return re.compile(rf"! (long|hex|{others}|head (?:{'|'.join(heads[back])})|body (?:{kinds}) {NUMBER}|trailing {NUMBER})")
 
 
 SAYING = {front: saying_of(front) for front in NAMES}
 NO_CALL = {back: re.compile(rf"! (?:long|json|request|op|value{'|head' if back == 'mach' else ''})") for back in HEADS}
-NO_RECORD = {back: no_record_of(back) for back in HEADS}
+NO_RECORD = {back: no_record_of(back, HEADS, "interface|operation") for back in HEADS}
+NO_REPLY = re.compile("! (?:long|json|request|op|value)")
+NO_REPLY_RECORD = {back: no_record_of(back, REPLY_HEADS, "request|op") for back in HEADS}
 CALL = {
     # The transaction, 0, the protocol's version, three numbers, two empty bodies, and words.
     "xdr": re.compile(r"[0-9a-f]{8}0000000000000002[0-9a-f]{24}0{32}([0-9a-f]{8})*"),
@@ -46,6 +51,15 @@ CALL = {
     "cdr-le": re.compile(r"47494f5001000100([0-9a-f]{8})0{8}[0-9a-f]{8}0[01]([0-9a-f]{2})*"),
     # What becomes of the ports' rights, the size, the two ports, 0 and the id, and words. Without a reply there is no local port.
     "mach": re.compile(r"13(?:15|00(?=0000.{16}0{8}))0000([0-9a-f]{8})[0-9a-f]{16}0{8}[0-9a-f]{8}([0-9a-f]{8})*"),
+}
+REPLY = {
+    # The transaction, a reply that is accepted, an empty verifier, success, and words.
+    "xdr": re.compile(r"[0-9a-f]{8}000000010{32}([0-9a-f]{8})*"),
+    # The letters, the version, the order and the type; the size; no contexts, the id, and whether an exception is raised.
+    "cdr-be": re.compile(r"47494f5001000001([0-9a-f]{8})0{8}[0-9a-f]{8}0000000[01]([0-9a-f]{2})*"),
+    "cdr-le": re.compile(r"47494f5001000101([0-9a-f]{8})0{8}[0-9a-f]{8}0[01]000000([0-9a-f]{2})*"),
+    # What becomes of the port's right, the size, the remote port, no local one, 0 and the id, the return code 0, and words.
+    "mach": re.compile(r"12000000([0-9a-f]{8})[0-9a-f]{8}0{16}[0-9a-f]{8}0220011000000000([0-9a-f]{8})*"),
 }
 HEX = re.compile(rb"([0-9A-Fa-f]{2})+")
 BLANKS = b" \t\n\v\f\r"
@@ -146,33 +160,67 @@ def wrong_fault(back, message, form):
     return None if holds.get(kind, True) else f"a place in the message at which `{kind}` holds"
 
 
-def is_call(back, answer):
-    """Whether an answer is a call as `marshal` writes it. Where it states its size, that is right."""
-    form = CALL[back].fullmatch(answer)
+def is_message(forms, back, answer):
+    """Whether an answer is a message as `marshal` or `reply` writes it. Where it states its size, that is right."""
+    form = forms[back].fullmatch(answer)
     uncounted, order = {"mach": (0, "little"), "cdr-le": (12, "little"), "cdr-be": (12, "big")}.get(back, (0, None))
     return form is not None and (order is None or int.from_bytes(bytes.fromhex(form[1]), order) == len(answer) // 2 - uncounted)
 
 
-def record_of(back, answer):
-    """The members of a record as `unmarshal` writes it, or None."""
+def tree_of(answer, keys, others):
+    """The members of a record that has an operation, these head numbers and some others, or None."""
     try:
         tree = json.loads(answer)
     except ValueError:
         return None
-    is_record = isinstance(tree, dict) and list(tree) == sorted(["args", "op", *KEYS[back]]) and isinstance(tree["args"], list) and isinstance(tree["op"], str)
-    if not is_record or any(type(tree[key]) is not int or not 0 <= tree[key] < 2 ** 32 for key in KEYS[back]):
+    is_record = isinstance(tree, dict) and any(list(tree) == sorted(["op", *keys, *each]) for each in others) and isinstance(tree["op"], str)
+    if not is_record or any(type(tree[key]) is not int or not 0 <= tree[key] < 2 ** 32 for key in keys):
         return None
     return tree if json.dumps(tree, ensure_ascii=False, sort_keys=True, separators=(",", ":")) == answer else None
+
+
+def record_of(back, answer):
+    """The members of a record as `unmarshal` writes it, or None."""
+    tree = tree_of(answer, KEYS[back], [["args"]])
+    return tree if tree and isinstance(tree["args"], list) else None
+
+
+def reply_record_of(back, answer):
+    """The members of a record as `unreply` writes it, or None."""
+    tree = tree_of(answer, REPLY_KEYS[back], CAME)
+    if not tree or "members" in tree:
+        return tree if tree and isinstance(tree["members"], dict) and isinstance(tree["raise"], str) else None
+    return tree if isinstance(tree.get("outs", tree.get("refused")), list) else None
 
 
 def wrong_answer(back, command, line, answer):
     """Of an answer to a line."""
     if answer == "! long":
-        return None if command == "marshal" or len(line) > LONGEST_LINE else "another answer to a short line"
+        return None if command in ("marshal", "reply") or len(line) > LONGEST_LINE else "another answer to a short line"
     if command == "marshal":
-        return None if NO_CALL[back].fullmatch(answer) or is_call(back, answer) else "a call, or one of the lines by which `marshal` refuses"
+        return None if NO_CALL[back].fullmatch(answer) or is_message(CALL, back, answer) else "a call, or one of the lines by which `marshal` refuses"
+    if command == "reply":
+        return None if NO_REPLY.fullmatch(answer) or is_message(REPLY, back, answer) else "a reply, or one of the lines by which `reply` refuses"
+    if command == "unreply":
+        return wrong_unreplied(back, line, answer)
     if not HEX.fullmatch(line):
         return None if answer == "! hex" else "`! hex`"
     if form := NO_RECORD[back].fullmatch(answer):
         return wrong_fault(back, bytes.fromhex(line.decode()), form)
     return None if record_of(back, answer) else "a record, or one of the lines by which `unmarshal` refuses"
+
+
+def wrong_unreplied(back, line, answer):
+    """Of an answer of `unreply`: where the operation is known, its digits are looked at."""
+    name, space, digits = line.partition(b" ")
+    if not space or answer == "! request":
+        return None if not space and answer == "! request" else "`! request` of a line without a space, and of no other"
+    if answer == "! op":
+        return None
+    if digits and not HEX.fullmatch(digits):
+        return None if answer == "! hex" else "`! hex`, or `! op`"
+    if form := NO_REPLY_RECORD[back].fullmatch(answer):
+        at, octets = int(form[2] or form[3] or "0"), len(digits) // 2
+        return None if form[1] != "hex" and at <= octets + 7 else "a place in the message"
+    record = reply_record_of(back, answer)
+    return None if record and record["op"].encode() == name else "the operation's record, or one of the lines by which `unreply` refuses"

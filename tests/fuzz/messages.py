@@ -1,7 +1,7 @@
 """Light edits of messages over each back end, by a seeded generator."""
 from typing import NamedTuple
 
-from giop import read_call
+from giop import read_call, read_reply
 
 COUNTS = [0, 1, 2, 3, 4, 5, 7, 8, 16, 17, 127, 128, 255, 256, 400, 401, 32767, 32768, 65535, 65536, 2 ** 24, 2 ** 30, 2 ** 31 - 1, 2 ** 31, 2 ** 31 + 1, 2 ** 32 - 4,
           2 ** 32 - 2, 2 ** 32 - 1]
@@ -27,6 +27,16 @@ def shape_of(back, message):
         return Shape(MACH_BODY, "little", 4, 0, [edit_descriptor, edit_descriptor, *[edit_data] * 4])
     said = read_call(message)
     return Shape(said["used"], said["order"], 8, 12, [edit_contexts, edit_principal])
+
+
+def shape_of_reply(back, message):
+    """The shape of a right reply; over Mach its return code belongs to its head."""
+    if back == "xdr":
+        return Shape(24, "big", None, 0, [])
+    if back == "mach":
+        return Shape(MACH_BODY + 8, "little", 4, 0, [edit_descriptor, *[edit_data] * 2])
+    said = read_reply(message)
+    return Shape(said["used"], said["order"], 8, 12, [edit_contexts])
 
 
 def sized(message, shape):
@@ -172,7 +182,7 @@ def cut(rng, message, shape):
     return short, r"! head Short" if at < shape.body else r"! body Short [0-9]+"
 
 
-def edited_message(rng, back, message, others):
+def edited_message(rng, back, message, others, shape_of=shape_of):
     """A message with one to three edits, and what has to be answered where that is plain: a form of the answer, or None."""
     shape = shape_of(back, message)
     kind = rng.choice(["none", "cut", "behind", "other body"] + ["edits"] * 12)

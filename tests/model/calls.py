@@ -235,9 +235,3 @@ BACKS = {"xdr": Onc(), "cdr-be": Cdr("big"), "cdr-le": Cdr("little"), "mach": Ma
 def lines_of(octets):
     """The lines of an input: without a carriage return at their end, and none without octets."""
     return [line for line in (line.removesuffix(b"\r") for line in octets.split(b"\n")) if line]
-
-
-def answers(command, back, interfaces, octets):
-    """What a command over a back end writes over an input, and its status."""
-    told = [COMMANDS[command](BACKS[back], interfaces, line) for line in lines_of(octets)]
-    return "".join(f"{answer}\n" for answer in told).encode(), int(any(answer.startswith("!") for answer in told))

@@ -4,8 +4,9 @@ As all of the model it is written from the standards and docs/, with nothing of 
 answers is its arm and its values: arm 0 has the result and the outs, arm k the members of the k-th exception that the
 operation lists.
 """
+import calls
 import mach
-from calls import LONGEST_LINE, LONGEST_MESSAGE, HeadFault, NoTree, Onc, auth, is_hex, text_of, tree_of, word
+from calls import LONGEST_LINE, LONGEST_MESSAGE, HeadFault, NoTree, Onc, auth, is_hex, lines_of, text_of, tree_of, word
 from cdr import Cdr, Writing
 from giop import REPLY, SYSTEM, USER, Reading, Stop, message, read_reply, refusal, reply_fields, sequence
 from values import Fault, NoValue, Reader, need
@@ -234,3 +235,18 @@ def record_of(back, interface, operation, octets):
     except Fault as fault:
         return f"! body {fault}"
     return text_of(record) if used == len(octets) else f"! trailing {used}"
+
+
+COMMANDS = {"reply": reply, "unreply": unreply}
+
+
+def answer(command, back, interfaces, line):
+    """What a command over a back end answers to a line."""
+    commands, backs = (COMMANDS, BACKS) if command in COMMANDS else (calls.COMMANDS, calls.BACKS)
+    return commands[command](backs[back], interfaces, line)
+
+
+def answers(command, back, interfaces, octets):
+    """What a command over a back end writes over an input, and its status."""
+    told = [answer(command, back, interfaces, line) for line in lines_of(octets)]
+    return "".join(f"{each}\n" for each in told).encode(), int(any(each.startswith("!") for each in told))

@@ -8,7 +8,8 @@ use Rattle.flick_top.specs.Statement.{Input, TakesMore, Completes}
 use Rattle.flick_top.specs.Status.{number_of}
 
 -- what was taken has one length
-same_length : (left left' : Input) (input taken got : List ℕ) → left ≡ Some input → Consumes left left' taken → Consumes left left' got → length taken ≡ length got
+same_length : (left left' : Input) (input taken got : List ℕ) → left ≡ Some input → Consumes left left' taken → Consumes left left' got
+    → length taken ≡ length got
 same_length left None input taken got told a b = absurd (subst (λ (o : Input). Consumes o None taken) told a)
 same_length left (Some rest) input taken got told a b =
     let first : input ≡ taken ++ rest = subst (λ (o : Input). Consumes o (Some rest) taken) told a in
@@ -16,7 +17,8 @@ same_length left (Some rest) input taken got told a b =
     omega (arith, ap length first, ap length second, length-append taken rest, length-append got rest)
 
 pub completes : (left left' : Input) (SourceRose SinkRose ShelfRose : Type 0) (status : Status) → TakesMore left left' (number_of status)
-    → (number_of status ≡ 4 → SourceRose) → (number_of status ≡ 5 → SinkRose) → (status ≡ s.Shelf → ⊥) → Completes left left' SourceRose SinkRose ShelfRose (number_of status)
+    → (number_of status ≡ 4 → SourceRose) → (number_of status ≡ 5 → SinkRose) → (status ≡ s.Shelf → ⊥)
+    → Completes left left' SourceRose SinkRose ShelfRose (number_of status)
 completes left left' A B C s.Done more source sink shelf = λ input told taken took few a b c. inl (lit≤ tt)
 completes left left' A B C s.Refused more source sink shelf = λ input told taken took few a b c. inl (lit≤ tt)
 completes left left' A B C s.Usage more source sink shelf = λ input told taken took few a b c. inl (lit≤ tt)

@@ -32,23 +32,30 @@ no_end (x ∷ xs) h =
 split_ended : (xs : List ℕ) → (tail : List ℕ) × (xs ≡ ended_part xs ++ tail) × HasNoEnd tail
 split_ended [] = ([], refl, All-nil (λ (x : ℕ). x ≢ 10))
 split_ended (x ∷ xs) = go (has_end (x ∷ xs)) refl (split_ended xs) where
-  go : (b : Bool) → has_end (x ∷ xs) ≡ b → (tail : List ℕ) × (xs ≡ ended_part xs ++ tail) × HasNoEnd tail → (tail : List ℕ) × (x ∷ xs ≡ ended_part (x ∷ xs) ++ tail) × HasNoEnd tail
+  go : (b : Bool) → has_end (x ∷ xs) ≡ b → (tail : List ℕ) × (xs ≡ ended_part xs ++ tail) × HasNoEnd tail
+      → (tail : List ℕ) × (x ∷ xs ≡ ended_part (x ∷ xs) ++ tail) × HasNoEnd tail
   go true e (tail, split, none) = (tail, rw e (ap (λ (l : List ℕ). x ∷ l) split), none)
   go false e (tail, split, none) = (x ∷ xs, rw e refl, no_end (x ∷ xs) e)
 
 from_step : (n : ℕ) (begun : List ℕ) (x : ℕ) (xs ys : List ℕ) (b c : Bool) → (x == 10) ≡ b → has_end xs ≡ c → (b || c) ≡ true
-    → ((begun' : List ℕ) → has_end xs ≡ true → lines_from n begun' (ended_part xs ++ ys) ≡ lines_from n begun' (ended_part xs) ++ lines n ys)
+    → ((begun' : List ℕ) → has_end xs ≡ true
+    → lines_from n begun' (ended_part xs ++ ys) ≡ lines_from n begun' (ended_part xs) ++ lines n ys)
     → lines_from n begun (x ∷ (ended_part xs ++ ys)) ≡ lines_from n begun (x ∷ ended_part xs) ++ lines n ys
-from_step n begun x xs ys true true e f h ih = rw e (ap (λ (l : List Line). line_of n begun ++ l) (ih [] f) ∙ sym (append_assoc (line_of n begun) (lines_from n [] (ended_part xs)) (lines n ys)))
+from_step n begun x xs ys true true e f h ih =
+    rw e
+    (ap (λ (l : List Line). line_of n begun ++ l) (ih [] f)
+    ∙ sym (append_assoc (line_of n begun) (lines_from n [] (ended_part xs)) (lines n ys)))
 from_step n begun x xs ys true false e f h ih =
     let gone : ended_part xs ≡ [] = none-ended xs f in
     rw (e, gone) (ap (λ (l : List Line). l ++ lines n ys) (sym (append-nil (line_of n begun))))
 from_step n begun x xs ys false true e f h ih = rw e (ih (begun ++ x ∷ []) f)
 from_step n begun x xs ys false false e f h ih = absurd (cc h)
 
-from_ended : (n : ℕ) (begun xs ys : List ℕ) → has_end xs ≡ true → lines_from n begun (ended_part xs ++ ys) ≡ lines_from n begun (ended_part xs) ++ lines n ys
+from_ended : (n : ℕ) (begun xs ys : List ℕ) → has_end xs ≡ true
+    → lines_from n begun (ended_part xs ++ ys) ≡ lines_from n begun (ended_part xs) ++ lines n ys
 from_ended n begun [] ys h = absurd (cc h)
-from_ended n begun (x ∷ xs) ys h = rw h (from_step n begun x xs ys (x == 10) (has_end xs) refl refl h (λ begun' e. from_ended n begun' xs ys e))
+from_ended n begun (x ∷ xs) ys h =
+    rw h (from_step n begun x xs ys (x == 10) (has_end xs) refl refl h (λ begun' e. from_ended n begun' xs ys e))
 
 -- the lines that ended, and those behind
 lines-ended : (n : ℕ) (xs ys : List ℕ) → lines n (ended_part xs ++ ys) ≡ lines n (ended_part xs) ++ lines n ys
@@ -85,22 +92,29 @@ pending_by true n kept more none none' long =
     ap (λ (l : List Line). Long ∷ l) (ap (lines_behind n) (sym (append-nil (kept ++ more))) ∙ lines_behind-append n (kept ++ more) [] all)
 pending_by false n kept more none none' long = filled n kept more none none' long
 
-ended_lines : (s u : State) (got : List ℕ) (ls : List Line) (n most : ℕ) → s ≡ fresh n most → Passed s u got ls → HasNoEnd u.kept → u.ended ≡ false → lines n (ended_part got) ≡ ls
+ended_lines : (s u : State) (got : List ℕ) (ls : List Line) (n most : ℕ) → s ≡ fresh n most → Passed s u got ls → HasNoEnd u.kept
+    → u.ended ≡ false
+    → lines n (ended_part got) ≡ ls
 ended_lines s u got ls n most new passed none unended =
     let (tail, split, none') = split_ended got in
     let more = filler (n + 2) in
     let long : n + 1 < length more = omega (arith, length-filler (n + 2)) in
     let longest : u.longest ≡ n = passed.longest ∙ ap (λ (r : State). r.longest) new in
     let all : pending s (got ++ more) ≡ ls ++ pending u more = passed.answers more (λ e. absurd (cc (e, unended))) in
-    let begun : pending (fresh n most) (got ++ more) ≡ ls ++ pending u more = subst (λ (r : State). pending r (got ++ more) ≡ ls ++ pending u more) new all in
-    let behind : pending u more ≡ Long ∷ [] = pending_by u.skips u.longest u.kept more none (filler-none (n + 2)) (omega (arith, long, longest)) in
+    let begun : pending (fresh n most) (got ++ more) ≡ ls ++ pending u more =
+    subst (λ (r : State). pending r (got ++ more) ≡ ls ++ pending u more) new all in
+    let behind : pending u more ≡ Long ∷ [] =
+    pending_by u.skips u.longest u.kept more none (filler-none (n + 2)) (omega (arith, long, longest)) in
     let parts : lines n (got ++ more) ≡ lines n (ended_part got) ++ (Long ∷ []) =
     ap (λ (l : List ℕ). lines n (l ++ more)) split ∙ ap (lines n) (append_assoc (ended_part got) tail more)
-    ∙ lines-ended n got (tail ++ more) ∙ ap (λ (l : List Line). lines n (ended_part got) ++ l) (filled n tail more none' (filler-none (n + 2)) long) in
+    ∙ lines-ended n got (tail ++ more)
+    ∙ ap (λ (l : List Line). lines n (ended_part got) ++ l) (filled n tail more none' (filler-none (n + 2)) long) in
     append_cancel_right (lines n (ended_part got)) ls (Long ∷ []) (sym parts ∙ begun ∙ ap (λ (l : List Line). ls ++ l) behind)
 
 -- the answers are those of the lines that ended in the octets taken
-pub wrote-ended : (before now after : Option (List ℕ)) (s t u : State) (ls : List Line) (f : Answering) (held held' : Option (List ℕ)) (n most : ℕ) → s ≡ fresh n most
+pub wrote-ended : (before now after : Option (List ℕ)) (s t u : State) (ls : List Line) (f : Answering) (held held' : Option (List ℕ))
+    (n most : ℕ)
+    → s ≡ fresh n most
     → Advances before now s t ls → Advances now after t u [] → HasNoEnd u.kept → u.ended ≡ false → Appends held held' (answers f ls)
     → (taken : List ℕ) × Consumes before after taken × Appends held held' (answers f (lines n (ended_part taken)))
 wrote-ended before now after s t u ls f held held' n most new p q none unended wrote =

@@ -1,13 +1,15 @@
 -- Each line has an answer.
-use Rattle.std.proofs.Common.{◌≡◌, ◌⊎◌, inl, inr, ℕ, List, [], ◌∷◌, ◌++◌, Result, Ok, Err, Option, Some, None, refl, sym, subst, map}
-use Rattle.std.specs.Prelude.{codes, slice_index_or}
+use Rattle.std.proofs.Common.{◌≡◌, ◌⊎◌, inl, inr, ℕ, pos, ℤ, List, [], ◌∷◌, ◌++◌, Bool, true, false, take, drop, Result, Ok, Err, Option, Some, None, refl, sym, subst, map}
+use Rattle.std.specs.Prelude.{◌+◌, ◌==◌, codes, slice_index_or, unwrap_or, if◌then◌else◌}
+use Rattle.std.specs.List.{position}
+use Rattle.std.specs.Ordering.{int_eq}
 use Rattle.hex.specs.Hex.{decode_of}
 use Rattle.hex.specs.declared.error.FromHexError.{FromHexError}
 use Rattle.hex.proofs.HexLemmas.{decode_of-ok}
 use Rattle.kit_base.specs.declared.lines.Line.{Line}
 use Rattle.kit_base.specs.declared.lines.Line.TheVariants.{Text, Long, End}
-use Rattle.mint.specs.Sound.{IsSound}
-use Rattle.mint.specs.Types.{type_at}
+use Rattle.mint.specs.Sound.{IsSound, ArmsSound}
+use Rattle.mint.specs.Types.{Scalar, Ty, void_type, scalar_type, array_type, group_type, items_type, choice_type, maybe_type, Arms, no_other, others, arm_type as arm_of, type_at}
 use Rattle.pres.specs.declared.ops.Op.{Op}
 use Rattle.pres.specs.Bindings.{Binding}
 use Rattle.serde_json.specs.Data.{Data}
@@ -16,73 +18,123 @@ use Rattle.back_xdr.proofs.Exact.{all_octets}
 use Rattle.json_shape.specs.declared.errors.RecordErr.{RecordErr}
 use Rattle.json_shape.specs.declared.errors.RecordErr.TheVariants as errors
 use Rattle.json_shape.specs.Laws.{IsPresented}
+use Rattle.json_shape.specs.Operations.{replying}
 use Rattle.json_shape.specs.Records.{Begun}
+use Rattle.json_shape.specs.Replies.{reply_of}
 use Rattle.json_shape.specs.Requests.{request_of}
 use Rattle.json_shape.proofs.Deciding.{value_or_none}
+use Rattle.flick_engine.specs.declared.errors.MessageErr.{MessageErr}
 use Rattle.flick_engine.proofs.Existing.{something}
+use Rattle.flick_engine.proofs.ExistingReplies.{something_reply}
 use Rattle.flick_engine.specs.Backs.{IsMade}
 use Rattle.flick_engine.specs.Messages.{request_type, message}
+use Rattle.flick_engine.specs.Received.{ReadCall}
+use Rattle.flick_engine.specs.Replies.{reply_type, arm_type_in, arm_type, reply_message}
+use Rattle.flick_engine.specs.RepliesReceived.{ReadReply}
+use Rattle.flick_top.specs.declared.command.Verb.{Verb}
+use Rattle.flick_top.specs.declared.command.Verb.TheVariants.{Marshal, Unmarshal, Reply, Unreply}
 use Rattle.flick_top.specs.declared.task.Job.{Job}
-use Rattle.flick_top.specs.declared.task.Job.TheVariants.{Marshal, Unmarshal}
 use Rattle.flick_top.specs.Answer.{Answering, IsAnswer, IsAnswerTo, IsAnswering}
-use Rattle.flick_top.specs.Marshalled.{record_refusal, digits_of, IsMessage, IsOfRecord, IsOfTree, tree_of}
+use Rattle.flick_top.specs.Marshalled.{record_refusal, digits_of, Beginning, Messages, IsMessage, IsOfRecord, IsOfTree, tree_of}
 use Rattle.flick_top.specs.Output.{AreAnswered}
-use Rattle.flick_top.specs.Unmarshalled.{answer_text, IsOfOctets}
+use Rattle.flick_top.specs.Unmarshalled.{answer_text, request_text, reply_text, IsOfOctets, IsOfReply, IsParted}
 
--- a binding that messages are made of: its back end is one of an engine, and the types of all its requests are sound
+-- a binding that messages are made of: its back end is one of an engine, and the types of its requests and replies are sound
 pub record IsFit (b : Binding) : Type 0 where
   pub made : IsMade b.back
-  pub sound : (op : ℕ) → IsSound (request_type b op)
+  pub requests : (op : ℕ) → IsSound (request_type b op)
+  pub replies : (op k : ℕ) → IsSound (arm_type b op k)
 
--- what a job is bound to
-abbrev pub bound_of : Job → Binding
-bound_of (Marshal e) = e.binding
-bound_of (Unmarshal e) = e.binding
+-- ---- records
 
-message_of : (b : Binding) (r : Begun) → IsPresented r.face r.tree ⊎ (IsPresented r.face r.tree → ⊥) → (a : List ℕ) × IsMessage b r a
-message_of b r (inl (v, p)) = (digits_of (message b r.op r.head v), inl (v, p, refl))
-message_of b r (inr none) = (record_refusal errors.Shape, inr ((λ v p. none (v, p)), refl))
+message_has : (m : Messages) (r : Begun) → IsPresented r.face r.tree ⊎ (IsPresented r.face r.tree → ⊥)
+    → (a : List ℕ) × IsMessage m r a
+message_has m r (inl (v, p)) = (digits_of (m r.op r.head v), inl (v, p, refl))
+message_has m r (inr none) = (record_refusal errors.Shape, inr ((λ v p. none (v, p)), refl))
 
-of_record : (b : Binding) (r : Result Begun RecordErr) → (a : List ℕ) × IsOfRecord b r a
-of_record b (Err e) = (record_refusal e, refl)
-of_record b (Ok r) = message_of b r (value_or_none r.face r.tree)
+record_has : (m : Messages) (r : Result Begun RecordErr) → (a : List ℕ) × IsOfRecord m r a
+record_has m (Err e) = (record_refusal e, refl)
+record_has m (Ok r) = message_has m r (value_or_none r.face r.tree)
 
-of_tree : (b : Binding) (tree : Option Data) → (a : List ℕ) × IsOfTree b tree a
-of_tree b None = (codes "! json", refl)
-of_tree b (Some tree) = of_record b (request_of b tree)
+tree_has : (begun : Beginning) (m : Messages) (tree : Option Data) → (a : List ℕ) × IsOfTree begun m tree a
+tree_has begun m None = (codes "! json", refl)
+tree_has begun m (Some tree) = record_has m (begun tree)
 
-of_octets : (b : Binding) → IsFit b → (line : List ℕ) (o : Result (List ℕ) FromHexError) → decode_of line ≡ o → (a : List ℕ) × IsOfOctets b o a
-of_octets b fit line (Err e) is = (codes "! hex", refl)
-of_octets b fit line (Ok o) is =
-    let octets : AreOctets o = all_octets o (decode_of-ok line o is).3 in
-    let (x, reads) = something b fit.made fit.sound o octets in
-    (answer_text b x, (x, reads, refl))
+-- ---- messages
 
-of_text : (job : Job) → IsFit (bound_of job) → (octets : List ℕ) → (a : List ℕ) × IsAnswerTo job octets a
-of_text (Marshal e) fit octets = of_tree e.binding (tree_of octets)
-of_text (Unmarshal e) fit octets = of_octets e.binding fit octets (decode_of octets) refl
+-- octets are something
+abbrev Reads : {R : Type 0} → (List ℕ → Result R MessageErr → Type 0) → Type 0
+Reads {R} Is = (o : List ℕ) → AreOctets o → (x : Result R MessageErr) × Is o x
 
-of_line : (job : Job) → IsFit (bound_of job) → (line : Line) → (a : List ℕ) × IsAnswer job line a
-of_line job sound (Text octets) = let (a, is) = of_text job sound octets in (a ++ 10 ∷ [], (a, is, refl))
-of_line job sound Long = (codes "! long\n", refl)
-of_line job sound End = ([], refl)
+octets_have : {R : Type 0} (Is : List ℕ → Result R MessageErr → Type 0) (text : R → List ℕ) → Reads Is
+    → (line : List ℕ) (o : Result (List ℕ) FromHexError) → decode_of line ≡ o → (a : List ℕ) × IsOfOctets Is text o a
+octets_have Is text reads line (Err e) is = (codes "! hex", refl)
+octets_have Is text reads line (Ok o) is =
+    let (x, read) = reads o (all_octets o (decode_of-ok line o is).3) in
+    (answer_text text x, (x, read, refl))
+
+reply_has : (b : Binding) → IsFit b → (k : Option ℕ) (digits : List ℕ) → (a : List ℕ) × IsOfReply b k digits a
+reply_has b fit None digits = (record_refusal errors.Op, refl)
+reply_has b fit (Some k) digits =
+    octets_have (ReadReply b k) (reply_text b k) (something_reply b k (fit.replies k)) digits (decode_of digits) refl
+
+parted_has : (b : Binding) → IsFit b → (line : List ℕ) (n : Option ℕ) → (a : List ℕ) × IsParted b line n a
+parted_has b fit line None = (record_refusal errors.Request, refl)
+parted_has b fit line (Some n) = reply_has b fit (replying b (take n line)) (drop (n + 1) line)
+
+-- ---- lines
+
+text_has : (v : Verb) (b : Binding) → IsFit b → (octets : List ℕ) → (a : List ℕ) × IsAnswerTo v b octets a
+text_has Marshal b fit octets = tree_has (request_of b) (message b) (tree_of octets)
+text_has Unmarshal b fit octets =
+    octets_have (ReadCall b) (request_text b) (something b fit.made fit.requests) octets (decode_of octets) refl
+text_has Reply b fit octets = tree_has (reply_of b) (reply_message b) (tree_of octets)
+text_has Unreply b fit octets = parted_has b fit octets (position (λ o. o == 32) octets)
+
+line_has : (job : Job) → IsFit job.engine.binding → (line : Line) → (a : List ℕ) × IsAnswer job line a
+line_has job fit (Text octets) =
+    let (a, is) = text_has job.verb job.engine.binding fit octets in
+    (a ++ 10 ∷ [], (a, is, refl))
+line_has job fit Long = (codes "! long\n", refl)
+line_has job fit End = ([], refl)
 
 -- a job answers each line
-pub all_lines : (job : Job) → IsFit (bound_of job) → (f : Answering) × IsAnswering job f
-all_lines job sound = (λ line. (of_line job sound line).0, λ line. (of_line job sound line).1)
+pub all_lines : (job : Job) → IsFit job.engine.binding → (f : Answering) × IsAnswering job f
+all_lines job fit = (λ line. (line_has job fit line).0, λ line. (line_has job fit line).1)
 
--- the types of a binding's table are sound, and so are those of its requests
+-- ---- the types of a binding
+
+-- the type of an arm, or of none
+if_sound : (t : Bool) (x y : Option Ty) → IsSound (unwrap_or x void_type) → IsSound (unwrap_or y void_type)
+    → IsSound (unwrap_or (if t then x else y) void_type)
+if_sound true x y p q = p
+if_sound false x y p q = q
+
+arm_sound : (s : Scalar) (arms : Arms) (k : ℕ) → ArmsSound arms → IsSound (unwrap_or (arm_type_in (choice_type s arms) k) void_type)
+arm_sound s no_other k h = refl
+arm_sound s (others t) k h = h
+arm_sound s (arm_of m t arms) k h =
+    if_sound (int_eq (pos k) m) (Some t) (arm_type_in (choice_type s arms) k) h.0 (arm_sound s arms k h.1)
+
+in_sound : (t : Ty) (k : ℕ) → IsSound t → IsSound (unwrap_or (arm_type_in t k) void_type)
+in_sound (choice_type s arms) k h = arm_sound s arms k h.1
+in_sound void_type k h = refl
+in_sound (scalar_type s) k h = refl
+in_sound (array_type a) k h = refl
+in_sound (group_type ts) k h = refl
+in_sound (items_type c t) k h = refl
+in_sound (maybe_type t) k h = refl
+
+-- the types of a binding's table are sound, and so are those of its requests and replies
 pub all_fit : (b : Binding) → IsMade b.back → ((id : ℕ) → IsSound (type_at b.nodes id)) → IsFit b
-all_fit b made sound = record { made = made; sound = λ op. sound (slice_index_or (map (λ (o : Op). o.request) b.ops) op 0) }
+all_fit b made sound = record {
+  made = made;
+  requests = λ op. sound (slice_index_or (map (λ (o : Op). o.request) b.ops) op 0);
+  replies = λ op k. in_sound (reply_type b op) k (sound (slice_index_or (map (λ (o : Op). o.reply) b.ops) op 0));
+}
 
--- the same for a job that is known to be this one
-pub some_answers : (job known : Job) → job ≡ known → IsFit (bound_of known) → (f : Answering) × IsAnswering job f
-some_answers job known is fit = subst (λ (j : Job). (f : Answering) × IsAnswering j f) (sym is) (all_lines known fit)
+-- ---- tasks
 
 -- where no lines are answered, any answers will do
 pub no_lines : (lines : Option Job) → lines ≡ None → (f : Answering) × AreAnswered lines f
 no_lines lines is = (λ line. [], subst (λ (l : Option Job). AreAnswered l (λ line. [])) (sym is) tt)
-
--- the answers of a job, as those of a task that answers its lines
-pub job_lines : (lines : Option Job) (job : Job) → lines ≡ Some job → (f : Answering) × IsAnswering job f → (f : Answering) × AreAnswered lines f
-job_lines lines job is (f, all) = (f, subst (λ (l : Option Job). AreAnswered l f) (sym is) all)

@@ -17,7 +17,9 @@ either true P x y h g = h
 either false P x y h g = g
 
 option_known : (word : List ℕ) → IfSome (option_of word) IsKnown
-option_known word = either (bytes_eq word (codes "--help")) IsKnown (Some Help) _ tt (either (bytes_eq word (codes "--version")) IsKnown (Some Version) None tt tt)
+option_known word =
+    either (bytes_eq word (codes "--help")) IsKnown (Some Help) _ tt
+    (either (bytes_eq word (codes "--version")) IsKnown (Some Version) None tt tt)
 
 over_known : (v : Option Verb) (f : Option Front) (b : Option Back) → IfSome f IsRead → IfSome b IsMade → IfSome (over_file v f b) IsKnown
 over_known None f b h g = tt

@@ -16,6 +16,8 @@ pub mod Tasking
 pub mod Tasks
 pub mod Trees
 pub mod Turning
+pub mod TwinMessages
+pub mod TwinRecords
 pub mod Twins
 pub mod WholeLines
 pub mod Written

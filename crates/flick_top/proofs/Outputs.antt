@@ -22,21 +22,24 @@ use Rattle.flick_top.specs.declared.saying.Saying.{Saying}
 use Rattle.flick_top.specs.declared.saying.Saying.TheVariants as sayings
 use Rattle.flick_top.specs.declared.status.Status.{Status}
 use Rattle.flick_top.specs.declared.task.Job.{Job}
-use Rattle.flick_top.specs.declared.task.Job.TheVariants.{Marshal, Unmarshal}
 use Rattle.flick_top.specs.declared.task.Task.{Task}
 use Rattle.flick_top.specs.Answer.{Answering, IsAnswerTo, IsAnswer, IsAnswering, answers, is_refusal, refuses}
 use Rattle.flick_top.specs.Command.{command_of, word_at}
 use Rattle.flick_top.specs.File.{Told, IsOver, BindSays, BoundSays, FileSays}
 use Rattle.flick_top.specs.Fronts.{Read, UnitOf}
 use Rattle.flick_top.specs.Marshalled.{tree_of}
-use Rattle.flick_top.specs.Output.{Files, saying_task, shapeless_task, job_of, task_over, IsOverFile, Comes, IsTask, AreAnswered, IsAnswered, Out, text_out, out_of}
+use Rattle.flick_top.specs.Output.{Files, saying_task, shapeless_task, task_over, IsOverFile, Comes, IsTask, AreAnswered, IsAnswered, Out, text_out, out_of}
 use Rattle.flick_top.proofs.Determined.{one_answer}
 use Rattle.flick_top.proofs.UnitsOfFronts.{one_unit}
-use Rattle.flick_top.proofs.Twins.{AreTwins, tree_over, octets_over}
+use Rattle.flick_top.proofs.Twins.{AreTwins}
+use Rattle.flick_top.proofs.TwinMessages.{calls_over, unreplied_over}
+use Rattle.flick_top.proofs.TwinRecords.{requests_over, replies_over}
 
 -- ---- what a file says
 
-within_says : (k : Front) (text : List ℕ) (r s : Read) (b : Bool) → MatchBool b (UnitOf k text r) (r ≡ Err sayings.TooLarge) → MatchBool b (UnitOf k text s) (s ≡ Err sayings.TooLarge) → r ≡ s
+within_says : (k : Front) (text : List ℕ) (r s : Read) (b : Bool) → MatchBool b (UnitOf k text r) (r ≡ Err sayings.TooLarge)
+    → MatchBool b (UnitOf k text s) (s ≡ Err sayings.TooLarge)
+    → r ≡ s
 within_says k text r s true p q = one_unit k text r s p q
 within_says k text r s false p q = p ∙ sym q
 
@@ -56,7 +59,8 @@ told_by : (r s x y : Told) → r ≡ x → s ≡ y → AreTold x y → AreTold r
 told_by r s x y p q h = subst (λ (z : Told). AreTold z s) (sym p) (subst (λ (z : Told). AreTold x z) (sym q) h)
 
 twins : (k : Back) (u : PlainUnit) (b c : Binding) → IsOver u k b → IsOver u k c → AreTwins b c
-twins k u b c one other = record { units = one.unit ∙ sym other.unit; backs = one.back ∙ sym other.back; one = one.stands; other = other.stands }
+twins k u b c one other =
+    record { units = one.unit ∙ sym other.unit; backs = one.back ∙ sym other.back; one = one.stands; other = other.stands }
 
 bind_says : (k : Back) (u : PlainUnit) (e : Option BindErr) (r s : Told) → BindSays u k e r → BindSays u k e s → AreTold r s
 bind_says k u (Some e) r s p q = told_by r s (Err (sayings.Bind e)) (Err (sayings.Bind e)) p q refl
@@ -69,11 +73,10 @@ bound_says k (Ok u) r s p q = bind_says k u (bind_fault u k) r s p q
 
 -- ---- what the words come to
 
--- one way of answering over bindings that answer alike
-abbrev AreJobs : Job → Job → Type 0
-AreJobs (Marshal d) (Marshal e) = AreTwins d.binding e.binding
-AreJobs (Unmarshal d) (Unmarshal e) = AreTwins d.binding e.binding
-AreJobs _ _ = ⊥
+-- one verb over bindings that answer alike
+record AreJobs (j k : Job) : Type 0 where
+  pub verbs : j.verb ≡ k.verb
+  pub twins : AreTwins j.engine.binding k.engine.binding
 
 -- no lines, or those of jobs that answer alike
 abbrev AreLines : Option Job → Option Job → Type 0
@@ -93,12 +96,8 @@ tasks_by t u x y p q h = subst (λ (z : Task). AreTasks z u) (sym p) (subst (λ 
 no_lines : (t u x : Task) → x.lines ≡ None → t ≡ x → u ≡ x → AreTasks t u
 no_lines t u x none p q = tasks_by t u x x p q (record { text = refl; status = refl; lines = rw none tt })
 
-job_over : (v : Verb) (d e : Compiled) → AreTwins d.binding e.binding → AreJobs (job_of v d) (job_of v e)
-job_over verbs.Marshal d e t = t
-job_over verbs.Unmarshal d e t = t
-
 over_told : (v : Verb) (r s : Told) → AreTold r s → AreTasks (task_over v r) (task_over v s)
-over_told v (Ok d) (Ok e) t = record { text = refl; status = refl; lines = job_over v d e t }
+over_told v (Ok d) (Ok e) t = record { text = refl; status = refl; lines = record { verbs = refl; twins = t } }
 over_told v (Ok d) (Err f) t = absurd t
 over_told v (Err e) (Ok c) t = absurd t
 over_told v (Err e) (Err f) t = no_lines (saying_task e) (saying_task f) (saying_task f) refl (ap (λ (x : Saying). saying_task x) t) refl
@@ -109,7 +108,9 @@ over_file n content t u (x, r, px, pr, e) (y, s, py, ps, f) =
     tasks_by t u (task_over n.verb r) (task_over n.verb s) e f
     (over_told n.verb r s (bound_says n.back y r s (subst (λ (z : Read). BoundSays n.back z r) same pr) ps))
 
-over_files : (command : Option Command) (words : List (List ℕ)) (files : Files) (t u : Task) → Comes command words files t → Comes command words files u → AreTasks t u
+over_files : (command : Option Command) (words : List (List ℕ)) (files : Files) (t u : Task) → Comes command words files t
+    → Comes command words files u
+    → AreTasks t u
 over_files None words files t u p q = no_lines t u shapeless_task refl p q
 over_files (Some commands.Help) words files t u p q = no_lines t u (saying_task sayings.Help) refl p q
 over_files (Some commands.Version) words files t u p q = no_lines t u (saying_task sayings.Version) refl p q
@@ -117,14 +118,16 @@ over_files (Some (commands.Over n)) words files t u p q = over_file n (files (wo
 
 -- ---- what is written
 
-to_over : (j k : Job) (octets a : List ℕ) → AreJobs j k → IsAnswerTo j octets a → IsAnswerTo k octets a
-to_over (Marshal d) (Marshal e) octets a t h = tree_over d.binding e.binding t (tree_of octets) a h
-to_over (Marshal d) (Unmarshal e) octets a t h = absurd t
-to_over (Unmarshal d) (Marshal e) octets a t h = absurd t
-to_over (Unmarshal d) (Unmarshal e) octets a t h = octets_over d.binding e.binding t (decode_of octets) a h
+to_over : (v : Verb) (b c : Binding) → AreTwins b c → (octets a : List ℕ) → IsAnswerTo v b octets a → IsAnswerTo v c octets a
+to_over verbs.Marshal b c t octets a h = requests_over b c t (tree_of octets) a h
+to_over verbs.Unmarshal b c t octets a h = calls_over b c t (decode_of octets) a h
+to_over verbs.Reply b c t octets a h = replies_over b c t (tree_of octets) a h
+to_over verbs.Unreply b c t octets a h = unreplied_over b c t octets a h
 
 line_over : (j k : Job) (line : Line) (x : List ℕ) → AreJobs j k → IsAnswer j line x → IsAnswer k line x
-line_over j k (Text octets) x t (a, is, e) = (a, to_over j k octets a t is, e)
+line_over j k (Text octets) x t (a, is, e) =
+    let same = subst (λ (v : Verb). IsAnswerTo v j.engine.binding octets a) t.verbs is in
+    (a, to_over k.verb j.engine.binding k.engine.binding t.twins octets a same, e)
 line_over j k Long x t h = h
 line_over j k End x t h = h
 
@@ -138,13 +141,16 @@ answers_alike f g (l ∷ ls) h = ap (λ (x : List ℕ). x ++ answers f ls) (h l)
 
 refuses_alike : (f g : Answering) (ls : List Line) → ((line : Line) → f line ≡ g line) → refuses f ls ≡ refuses g ls
 refuses_alike f g [] h = refl
-refuses_alike f g (l ∷ ls) h = ap (λ (x : List ℕ). is_refusal x || refuses f ls) (h l) ∙ ap (λ (b : Bool). is_refusal (g l) || b) (refuses_alike f g ls h)
+refuses_alike f g (l ∷ ls) h =
+    ap (λ (x : List ℕ). is_refusal x || refuses f ls) (h l) ∙ ap (λ (b : Bool). is_refusal (g l) || b) (refuses_alike f g ls h)
 
 -- a text, and what is written after it, where a refusal may be among it
 abbrev out_with : List ℕ → List ℕ → Bool → Out
 out_with text octets refused = record { octets = text ++ octets; status = if refused then 1 else 0 }
 
-lines_output : (l m : Option Job) (text : List ℕ) (status : Status) (f g : Answering) → AreLines l m → AreAnswered l f → AreAnswered m g → (input : List ℕ) → text_out text status l f input ≡ text_out text status m g input
+lines_output : (l m : Option Job) (text : List ℕ) (status : Status) (f g : Answering) → AreLines l m → AreAnswered l f → AreAnswered m g
+    → (input : List ℕ)
+    → text_out text status l f input ≡ text_out text status m g input
 lines_output None None text status f g e h i input = refl
 lines_output None (Some k) text status f g e h i input = absurd e
 lines_output (Some j) None text status f g e h i input = absurd e
@@ -153,12 +159,14 @@ lines_output (Some j) (Some k) text status f g t h i input =
     ap (λ (x : List ℕ). out_with text x (refuses f (lines longest_line input))) (answers_alike f g (lines longest_line input) alike)
     ∙ ap (λ (b : Bool). out_with text (answers g (lines longest_line input)) b) (refuses_alike f g (lines longest_line input) alike)
 
-tasks_output : (t u : Task) (f g : Answering) → AreTasks t u → IsAnswered t f → IsAnswered u g → (input : List ℕ) → out_of t f input ≡ out_of u g input
+tasks_output : (t u : Task) (f g : Answering) → AreTasks t u → IsAnswered t f → IsAnswered u g → (input : List ℕ)
+    → out_of t f input ≡ out_of u g input
 tasks_output t u f g same h i input =
     ap (λ (x : List ℕ). text_out x t.status t.lines f input) same.text
     ∙ ap (λ (x : Status). text_out u.text x t.lines f input) same.status
     ∙ lines_output t.lines u.lines u.text u.status f g same.lines h i input
 
-pub one_output : (words : List (List ℕ)) (files : Files) (t u : Task) (f g : Answering) → IsTask words files t → IsTask words files u → IsAnswered t f → IsAnswered u g
+pub one_output : (words : List (List ℕ)) (files : Files) (t u : Task) (f g : Answering) → IsTask words files t → IsTask words files u
+    → IsAnswered t f → IsAnswered u g
     → (input : List ℕ) → out_of t f input ≡ out_of u g input
 one_output words files t u f g p q h i input = tasks_output t u f g (over_files (command_of words) words files t u p q) h i input

@@ -18,14 +18,18 @@ WroteFront held held' octets = (front : List ℕ) × (rest : List ℕ) × (octet
 abbrev pub fresh : ℕ → ℕ → State
 fresh n most = record { longest = n; most = most; kept = []; skips = false; ended = false; taken = 0; error = None }
 
-pub lines-split : (input rest : List ℕ) (s t : State) (ls : List Line) → s.kept ≡ [] → s.skips ≡ false → Advances (Some input) (Some rest) s t ls → KnowsEnd t (Some rest)
+pub lines-split : (input rest : List ℕ) (s t : State) (ls : List Line) → s.kept ≡ [] → s.skips ≡ false
+    → Advances (Some input) (Some rest) s t ls → KnowsEnd t (Some rest)
     → lines s.longest input ≡ ls ++ pending t rest
 lines-split input rest s t ls kept skips (got, consumed, passed) knows =
     let begun : lines s.longest (got ++ rest) ≡ pending s (got ++ rest) = rw (kept, skips) in
     ap (lines s.longest) consumed ∙ begun ∙ passed.answers rest knows
 
-pub wrote-answers : (input : List ℕ) (before after : Option (List ℕ)) (s t : State) (ls : List Line) (f : Answering) (held held' : Option (List ℕ)) → before ≡ Some input → s.kept ≡ [] → s.skips ≡ false
-    → Advances before after s t ls → KnowsEnd t after → Appends held held' (answers f ls) → WroteFront held held' (answers f (lines s.longest input))
+pub wrote-answers : (input : List ℕ) (before after : Option (List ℕ)) (s t : State) (ls : List Line) (f : Answering)
+    (held held' : Option (List ℕ))
+    → before ≡ Some input → s.kept ≡ [] → s.skips ≡ false
+    → Advances before after s t ls → KnowsEnd t after → Appends held held' (answers f ls)
+    → WroteFront held held' (answers f (lines s.longest input))
 wrote-answers input before None s t ls f held held' told kept skips advances knows wrote =
     let (got, consumed, passed) = subst (λ (o : Option (List ℕ)). Advances o None s t ls) told advances in absurd consumed
 wrote-answers input before (Some rest) s t ls f held held' told kept skips advances knows wrote =
@@ -37,46 +41,60 @@ wrote-answers input before (Some rest) s t ls f held held' told kept skips advan
     )
 
 -- the same, for a reader that was made with a longest line
-pub front-answers : (input : List ℕ) (before after : Option (List ℕ)) (s t : State) (ls : List Line) (f : Answering) (held held' : Option (List ℕ)) (n most : ℕ)
+pub front-answers : (input : List ℕ) (before after : Option (List ℕ)) (s t : State) (ls : List Line) (f : Answering)
+    (held held' : Option (List ℕ)) (n most : ℕ)
     → s ≡ fresh n most → before ≡ Some input
-    → Advances before after s t ls → KnowsEnd t after → Appends held held' (answers f ls) → WroteFront held held' (answers f (lines n input))
+    → Advances before after s t ls → KnowsEnd t after → Appends held held' (answers f ls)
+    → WroteFront held held' (answers f (lines n input))
 front-answers input before after s t ls f held held' n most new told advances knows wrote =
     subst (λ (k : ℕ). WroteFront held held' (answers f (lines k input))) (ap (λ (r : State). r.longest) new)
-    (wrote-answers input before after s t ls f held held' told (ap (λ (r : State). r.kept) new) (ap (λ (r : State). r.skips) new) advances knows wrote)
+    (wrote-answers input before after s t ls f held held' told (ap (λ (r : State). r.kept) new) (ap (λ (r : State). r.skips) new)
+    advances knows wrote)
 
 -- a front of a front and what follows it
-pub front-part : (held held' : Option (List ℕ)) (whole done more : List ℕ) → WroteFront held held' done → (x : List ℕ) → whole ≡ done ++ x → WroteFront held held' whole
+pub front-part : (held held' : Option (List ℕ)) (whole done more : List ℕ) → WroteFront held held' done → (x : List ℕ) → whole ≡ done ++ x
+    → WroteFront held held' whole
 front-part held held' whole done more (front, rest, e, wrote) x w =
     (front, rest ++ x, w ∙ ap (λ (l : List ℕ). l ++ x) e ∙ append_assoc front rest x, wrote)
 
 -- the answers so far, and a front of the next
-pub front-next : (held held' held'' : Option (List ℕ)) (f : Answering) (ls : List Line) (line : Line) → Appends held held' (answers f ls) → WroteFront held' held'' (f line)
+pub front-next : (held held' held'' : Option (List ℕ)) (f : Answering) (ls : List Line) (line : Line) → Appends held held' (answers f ls)
+    → WroteFront held' held'' (f line)
     → WroteFront held held'' (answers f (ls ++ line ∷ []))
 front-next held held' held'' f ls line wrote (front, rest, e, more) =
-    (answers f ls ++ front, rest, answers-push f ls line ∙ ap (λ (l : List ℕ). answers f ls ++ l) e ∙ sym (append_assoc (answers f ls) front rest), Appends-trans held held' held'' (answers f ls) front wrote more)
+    let parts = answers-push f ls line ∙ ap (λ (l : List ℕ). answers f ls ++ l) e ∙ sym (append_assoc (answers f ls) front rest) in
+    (answers f ls ++ front, rest, parts, Appends-trans held held' held'' (answers f ls) front wrote more)
 
-front_split : (input : List ℕ) (before after : Option (List ℕ)) (s t : State) (ls : List Line) (f : Answering) → before ≡ Some input → s.kept ≡ [] → s.skips ≡ false
+front_split : (input : List ℕ) (before after : Option (List ℕ)) (s t : State) (ls : List Line) (f : Answering) → before ≡ Some input
+    → s.kept ≡ [] → s.skips ≡ false
     → Advances before after s t ls → KnowsEnd t after → (x : List ℕ) × (answers f (lines s.longest input) ≡ answers f ls ++ x)
 front_split input before None s t ls f told kept skips advances knows =
     let (got, consumed, passed) = subst (λ (o : Option (List ℕ)). Advances o None s t ls) told advances in absurd consumed
 front_split input before (Some rest) s t ls f told kept skips advances knows =
     let moved = subst (λ (o : Option (List ℕ)). Advances o (Some rest) s t ls) told advances in
-    (answers f (pending t rest), ap (answers f) (lines-split input rest s t ls kept skips moved knows) ∙ flat_map-append f ls (pending t rest))
+    let split = ap (answers f) (lines-split input rest s t ls kept skips moved knows) in
+    (answers f (pending t rest), split ∙ flat_map-append f ls (pending t rest))
 
 -- a write that failed wrote a front of its line
-pub front-failed : (input : List ℕ) (before now after : Option (List ℕ)) (s t u : State) (ls : List Line) (line : Line) (f : Answering) (held held' held'' : Option (List ℕ)) (n most : ℕ)
+pub front-failed : (input : List ℕ) (before now after : Option (List ℕ)) (s t u : State) (ls : List Line) (line : Line) (f : Answering)
+    (held held' held'' : Option (List ℕ)) (n most : ℕ)
     → s ≡ fresh n most → before ≡ Some input
-    → Advances before now s t ls → Advances now after t u (line ∷ []) → KnowsEnd u after → Appends held held' (answers f ls) → WroteFront held' held'' (f line)
+    → Advances before now s t ls → Advances now after t u (line ∷ []) → KnowsEnd u after → Appends held held' (answers f ls)
+    → WroteFront held' held'' (f line)
     → WroteFront held held'' (answers f (lines n input))
 front-failed input before now after s t u ls line f held held' held'' n most new told p q knows wrote part =
     let both = advances-trans before now after s t u ls (line ∷ []) p q in
-    let (x, e) = front_split input before after s u (ls ++ line ∷ []) f told (ap (λ (r : State). r.kept) new) (ap (λ (r : State). r.skips) new) both knows in
+    let kept = ap (λ (r : State). r.kept) new in
+    let skips = ap (λ (r : State). r.skips) new in
+    let (x, e) = front_split input before after s u (ls ++ line ∷ []) f told kept skips both knows in
     subst (λ (k : ℕ). WroteFront held held'' (answers f (lines k input))) (ap (λ (r : State). r.longest) new)
-    (front-part held held'' (answers f (lines s.longest input)) (answers f (ls ++ line ∷ [])) [] (front-next held held' held'' f ls line wrote part) x e)
+    (front-part held held'' (answers f (lines s.longest input)) (answers f (ls ++ line ∷ [])) []
+    (front-next held held' held'' f ls line wrote part) x e)
 
 -- a reader that took more than its most
 pub took-more : (before now after : Option (List ℕ)) (s t u : State) (ls : List Line) (n most : ℕ) → s ≡ fresh n most
-    → Advances before now s t ls → Advances now after t u [] → u.most < u.taken → (got : List ℕ) × Consumes before after got × (most < length got)
+    → Advances before now s t ls → Advances now after t u [] → u.most < u.taken
+    → (got : List ℕ) × Consumes before after got × (most < length got)
 took-more before now after s t u ls n most new p q over =
     let (got, consumed, passed) = advances-trans before now after s t u ls [] p q in
     let begun : s.taken ≡ 0 = ap (λ (r : State). r.taken) new in
@@ -92,6 +110,7 @@ took-at_most before now s t ls n most new (got, consumed, passed) within =
     (got, consumed, omega (arith, passed.count, passed.most, begun, limit, within))
 
 pub took-at_most-next : (before now after : Option (List ℕ)) (s t u : State) (ls more : List Line) (n most : ℕ) → s ≡ fresh n most
-    → Advances before now s t ls → Advances now after t u more → u.taken ≤ u.most → (got : List ℕ) × Consumes before after got × (length got ≤ most)
+    → Advances before now s t ls → Advances now after t u more → u.taken ≤ u.most
+    → (got : List ℕ) × Consumes before after got × (length got ≤ most)
 took-at_most-next before now after s t u ls more n most new p q within =
     took-at_most before after s u (ls ++ more) n most new (advances-trans before now after s t u ls more p q) within

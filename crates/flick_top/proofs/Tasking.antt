@@ -46,15 +46,18 @@ Lines = List ℕ → Out
 task_out : (task : Task) (lines : Option Job) (f : Answering) → task.lines ≡ lines → out_of task f ≡ text_out task.text task.status lines f
 task_out task lines f is = ap (λ (l : Option Job). text_out task.text task.status l f) is
 
-pub front-after : (task : Task) (job : Job) (f : Answering) (left : Input) (held mid held' : Option (List ℕ)) → task.lines ≡ Some job → Appends held mid task.text
+pub front-after : (task : Task) (job : Job) (f : Answering) (left : Input) (held mid held' : Option (List ℕ)) → task.lines ≡ Some job
+    → Appends held mid task.text
     → WritesFront (answers_out f) left mid held' → WritesFront (out_of task f) left held held'
 front-after task job f left held mid held' is text wrote =
     subst (λ (over : Lines). WritesFront over left held held') (sym (task_out task (Some job) f is))
     (λ input told.
     let (front, rest, parts, more) = wrote input told in
-    (task.text ++ front, rest, ap (λ (o : List ℕ). task.text ++ o) parts ∙ sym (append_assoc task.text front rest), Appends-trans held mid held' task.text front text more))
+    let all = ap (λ (o : List ℕ). task.text ++ o) parts ∙ sym (append_assoc task.text front rest) in
+    (task.text ++ front, rest, all, Appends-trans held mid held' task.text front text more))
 
-pub ended-after : (task : Task) (job : Job) (f : Answering) (left left' : Input) (held mid held' : Option (List ℕ)) (n : ℕ) → task.lines ≡ Some job → Appends held mid task.text
+pub ended-after : (task : Task) (job : Job) (f : Answering) (left left' : Input) (held mid held' : Option (List ℕ)) (n : ℕ)
+    → task.lines ≡ Some job → Appends held mid task.text
     → WritesEnded (answers_out f) left left' mid held' n → WritesEnded (out_of task f) left left' held held' n
 ended-after task job f left left' held mid held' n is text wrote =
     subst (λ (over : Lines). WritesEnded over left left' held held' n) (sym (task_out task (Some job) f is))
@@ -62,7 +65,9 @@ ended-after task job f left left' held mid held' n is text wrote =
     let (taken, consumed, more) = wrote four input told in
     (taken, consumed, Appends-trans held mid held' task.text _ text more))
 
-pub whole-after : (text : List ℕ) (held mid held' : Option (List ℕ)) (n : ℕ) → AreWholeLines text → Appends held mid text → WritesWholeLines mid held' n → WritesWholeLines held held' n
+pub whole-after : (text : List ℕ) (held mid held' : Option (List ℕ)) (n : ℕ) → AreWholeLines text → Appends held mid text
+    → WritesWholeLines mid held' n
+    → WritesWholeLines held held' n
 whole-after text held mid held' n whole first wrote = λ other.
     let (octets, more, ended) = wrote other in
     (text ++ octets, Appends-trans held mid held' text octets first more, both_whole text octets whole ended)
@@ -74,9 +79,11 @@ out_begins : (task : Task) (lines : Option Job) (f : Answering) (front rest : Li
     → (more : List ℕ) × ((text_out task.text task.status lines f input).octets ≡ front ++ more)
 out_begins task None f front rest parts input = (rest, parts)
 out_begins task (Some job) f front rest parts input =
-    (rest ++ (answers_out f input).octets, ap (λ (o : List ℕ). o ++ (answers_out f input).octets) parts ∙ append_assoc front rest (answers_out f input).octets)
+    let more = (answers_out f input).octets in
+    (rest ++ more, ap (λ (o : List ℕ). o ++ more) parts ∙ append_assoc front rest more)
 
-pub front-broken : (task : Task) (f : Answering) (left : Input) (held held' : Option (List ℕ)) → (front : List ℕ) × (rest : List ℕ) × (task.text ≡ front ++ rest) × Appends held held' front
+pub front-broken : (task : Task) (f : Answering) (left : Input) (held held' : Option (List ℕ))
+    → (front : List ℕ) × (rest : List ℕ) × (task.text ≡ front ++ rest) × Appends held held' front
     → WritesFront (out_of task f) left held held'
 front-broken task f left held held' (front, rest, parts, wrote) = λ input told.
     let (more, all) = out_begins task task.lines f front rest parts input in
@@ -84,17 +91,22 @@ front-broken task f left held held' (front, rest, parts, wrote) = λ input told.
 
 -- ---- what was taken
 
-pub took : (before now after : Option (List ℕ)) (s t u : State) (ls more : List Line) → Advances before now s t ls → Advances now after t u more → TakesFront before after
+pub took : (before now after : Option (List ℕ)) (s t u : State) (ls more : List Line) → Advances before now s t ls
+    → Advances now after t u more
+    → TakesFront before after
 took before now after s t u ls more p q =
     let (got, consumed, passed) = advances-trans before now after s t u ls more p q in (got, consumed)
 
 -- ---- what the words come to
 
-pub is-task : (words : List (List ℕ)) (files : Files) (task : Task) (found : Option Command) (command : Command) → found ≡ command_of words → found ≡ Some command → Comes (Some command) words files task → IsTask words files task
+pub is-task : (words : List (List ℕ)) (files : Files) (task : Task) (found : Option Command) (command : Command) → found ≡ command_of words
+    → found ≡ Some command → Comes (Some command) words files task
+    → IsTask words files task
 is-task words files task found command is some comes = subst (λ (o : Option Command). Comes o words files task) (sym some ∙ is) comes
 
 -- where the words have no shape, nothing is all the work
-pub shapeless-work : (words : List (List ℕ)) (files : Files) (left : Input) (faults : ℕ) (held : Option (List ℕ)) → command_of words ≡ None → Works words files left left faults faults held held 2
+pub shapeless-work : (words : List (List ℕ)) (files : Files) (left : Input) (faults : ℕ) (held : Option (List ℕ)) → command_of words ≡ None
+    → Works words files left left faults faults held held 2
 shapeless-work words files left faults held none = inr (
   shapeless_task,
   (λ line. []),

@@ -45,7 +45,8 @@ file_has k read (Some text) = within_has k read text (nat_le (length text) longe
 
 -- ---- words
 
-command_has : (command : Option Command) (words : List (List ℕ)) (files : Files) → IfSome command IsKnown → (task : Task) × Comes command words files task
+command_has : (command : Option Command) (words : List (List ℕ)) (files : Files) → IfSome command IsKnown
+    → (task : Task) × Comes command words files task
 command_has None words files all = (shapeless_task, refl)
 command_has (Some commands.Help) words files all = (saying_task sayings.Help, refl)
 command_has (Some commands.Version) words files all = (saying_task sayings.Version, refl)

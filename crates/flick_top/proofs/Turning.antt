@@ -21,7 +21,8 @@ or_false false = refl
 
 refuses-push : (f : Answering) (ls : List Line) (line : Line) → refuses f (ls ++ line ∷ []) ≡ (refuses f ls || is_refusal (f line))
 refuses-push f [] line = or_false (is_refusal (f line))
-refuses-push f (l ∷ ls) line = ap (λ (b : Bool). is_refusal (f l) || b) (refuses-push f ls line) ∙ or_assoc (is_refusal (f l)) (refuses f ls) (is_refusal (f line))
+refuses-push f (l ∷ ls) line =
+    ap (λ (b : Bool). is_refusal (f l) || b) (refuses-push f ls line) ∙ or_assoc (is_refusal (f l)) (refuses f ls) (is_refusal (f line))
 
 pub answers-push : (f : Answering) (ls : List Line) (line : Line) → answers f (ls ++ line ∷ []) ≡ answers f ls ++ f line
 answers-push f ls line = flat_map-append f ls (line ∷ []) ∙ ap (λ (l : List ℕ). answers f ls ++ l) (append-nil (f line))
@@ -30,8 +31,10 @@ answers-push f ls line = flat_map-append f ls (line ∷ []) ∙ ap (λ (l : List
 abbrev pub AreWritten : Job → List Line → Option (List ℕ) → Option (List ℕ) → Bool → Type 0
 AreWritten job ls held held' refused = (f : Answering) → IsAnswering job f → Appends held held' (answers f ls) × (refused ≡ refuses f ls)
 
-pub one_more : (left left' left'' : Option (List ℕ)) (s t u : State) (held held' held'' : Option (List ℕ)) (job : Job) (ls : List Line) (line : Line) (refused refused' : Bool) (answer : List ℕ)
-    → Advances left left' s t ls → Advances left' left'' t u (line ∷ []) → AreWritten job ls held held' refused → IsAnswer job line answer → Appends held' held'' answer
+pub one_more : (left left' left'' : Option (List ℕ)) (s t u : State) (held held' held'' : Option (List ℕ)) (job : Job) (ls : List Line)
+    (line : Line) (refused refused' : Bool) (answer : List ℕ)
+    → Advances left left' s t ls → Advances left' left'' t u (line ∷ []) → AreWritten job ls held held' refused → IsAnswer job line answer
+    → Appends held' held'' answer
     → refused' ≡ (refused || is_refusal answer)
     → (more : List Line) × Advances left left'' s u more × AreWritten job more held held'' refused'
 one_more left left' left'' s t u held held' held'' job ls line refused refused' answer p q written is a r' = (
@@ -40,7 +43,9 @@ one_more left left' left'' s t u held held' held'' job ls line refused refused' 
   λ f all.
       let (before, told) = written f all in
       let same : answer ≡ f line = one_answer job line answer (f line) is (all line) in (
-        subst (Appends held held'') (sym (answers-push f ls line)) (Appends-trans held held' held'' (answers f ls) (f line) before (subst (Appends held' held'') same a)),
-        r' ∙ ap (λ (x : List ℕ). refused || is_refusal x) same ∙ ap (λ (x : Bool). x || is_refusal (f line)) told ∙ sym (refuses-push f ls line),
+        subst (Appends held held'') (sym (answers-push f ls line))
+            (Appends-trans held held' held'' (answers f ls) (f line) before (subst (Appends held' held'') same a)),
+        r' ∙ ap (λ (x : List ℕ). refused || is_refusal x) same ∙ ap (λ (x : Bool). x || is_refusal (f line)) told
+            ∙ sym (refuses-push f ls line),
       ),
 )

@@ -61,7 +61,8 @@ same_line : {D : Type 0} (S : D → Text) (tokens : List Token) (l m : ℕ) → 
 same_line S tokens l m f g =
     let up : length f.front ≤ length g.front = g.longest f.tree f.front (f.token ∷ f.rest) f.derives f.parts in
     let down : length g.front ≤ length f.front = f.longest g.tree g.front (g.token ∷ g.rest) g.derives g.parts in
-    let same : f.token ≡ g.token = same_token f.front g.front f.token g.token f.rest g.rest (sym f.parts ∙ g.parts) (omega (arith, up, down)) in
+    let same : f.token ≡ g.token =
+    same_token f.front g.front f.token g.token f.rest g.rest (sym f.parts ∙ g.parts) (omega (arith, up, down)) in
     f.line_is ∙ ap (λ (t : Token). t.line) same ∙ sym g.line_is
 
 -- ---- trees of any front end
@@ -73,12 +74,15 @@ abbrev OneLine : (List Token → ℕ → Type 0) → Type 0
 OneLine FailsAt = (tokens : List Token) (l m : ℕ) → FailsAt tokens l → FailsAt tokens m → l ≡ m
 
 -- tokens with one tree, or one line where they fail, say one thing
-said_once : (T : Type 0) (D : T → List Token → Type 0) (F : List Token → ℕ → Type 0) (resolved : T → Result PlainUnit NameErr) → OneTree T D → OneLine F
+said_once : (T : Type 0) (D : T → List Token → Type 0) (F : List Token → ℕ → Type 0) (resolved : T → Result PlainUnit NameErr) → OneTree T D
+    → OneLine F
     → (tokens : List Token) (r s : Read) → Says D F resolved tokens r → Says D F resolved tokens s → r ≡ s
-said_once T D F resolved one line tokens r s (inl (a, da, ea)) (inl (b, db, eb)) = ea ∙ ap (λ (t : T). in_words (resolved t)) (one a b tokens da db) ∙ sym eb
+said_once T D F resolved one line tokens r s (inl (a, da, ea)) (inl (b, db, eb)) =
+    ea ∙ ap (λ (t : T). in_words (resolved t)) (one a b tokens da db) ∙ sym eb
 said_once T D F resolved one line tokens r s (inl (a, da, ea)) (inr (m, none, g, eb)) = absurd (none a da)
 said_once T D F resolved one line tokens r s (inr (l, none, f, ea)) (inl (b, db, eb)) = absurd (none b db)
-said_once T D F resolved one line tokens r s (inr (l, none, f, ea)) (inr (m, more, g, eb)) = ea ∙ ap (λ (n : ℕ). Err (sayings.Syntax n)) (line tokens l m f g) ∙ sym eb
+said_once T D F resolved one line tokens r s (inr (l, none, f, ea)) (inr (m, more, g, eb)) =
+    ea ∙ ap (λ (n : ℕ). Err (sayings.Syntax n)) (line tokens l m f g) ∙ sym eb
 
 words_sound : (x : Result PlainUnit NameErr) → ((u : PlainUnit) → x ≡ Ok u → IsSoundPlain u) → IsSoundRead (in_words x)
 words_sound (Err e) f = tt
@@ -89,8 +93,13 @@ words_sound (Ok u) f = f u refl
 onc_line : OneLine OncFailsAt
 onc_line tokens l m f g = same_line (λ (d : Def). def d & mark (codes ";")) tokens l m f g
 
-onc_have : (tokens : List Token) → ((tree : List Def) × OncDerives tree tokens) ⊎ ((line : ℕ) × ((tree : List Def) → OncDerives tree tokens → ⊥) × OncFailsAt tokens line) → TokensHave front.Onc tokens
-onc_have tokens (inl (tree, derives)) = (in_words (onc_resolved tree), inl (tree, derives, refl), words_sound (onc_resolved tree) (λ u is. onc_sound tree u (onc_whole tree tokens derives) is))
+onc_have : (tokens : List Token)
+    → ((tree : List Def) × OncDerives tree tokens) ⊎
+    ((line : ℕ) × ((tree : List Def) → OncDerives tree tokens → ⊥) × OncFailsAt tokens line)
+    → TokensHave front.Onc tokens
+onc_have tokens (inl (tree, derives)) =
+    let sound = words_sound (onc_resolved tree) (λ u is. onc_sound tree u (onc_whole tree tokens derives) is) in
+    (in_words (onc_resolved tree), inl (tree, derives, refl), sound)
 onc_have tokens (inr (line, none, fails)) = (Err (sayings.Syntax line), inr (line, none, fails, refl), tt)
 
 -- ---- CORBA IDL files
@@ -121,8 +130,12 @@ mig_line tokens l m (inr (rest, h, f)) (inr (more, k, g)) =
     let same = read_is (h.name, h.base) (k.name, k.base) rest more (sym (headed tokens rest h) ∙ headed tokens more k) in
     same_line statement more l m (subst (λ z. defs_fail_at statement z l) same.1 f) g
 
-mig_have : (tokens : List Token) → ((tree : Subsystem) × MigDerives tree tokens) ⊎ ((line : ℕ) × (((tree : Subsystem) → MigDerives tree tokens → ⊥) × MigFailsAt tokens line)) → TokensHave front.Mig tokens
-mig_have tokens (inl (tree, derives)) = (in_words (mig_resolved tree), inl (tree, derives, refl), words_sound (mig_resolved tree) (mig_sound tree))
+mig_have : (tokens : List Token)
+    → ((tree : Subsystem) × MigDerives tree tokens) ⊎
+    ((line : ℕ) × (((tree : Subsystem) → MigDerives tree tokens → ⊥) × MigFailsAt tokens line))
+    → TokensHave front.Mig tokens
+mig_have tokens (inl (tree, derives)) =
+    (in_words (mig_resolved tree), inl (tree, derives, refl), words_sound (mig_resolved tree) (mig_sound tree))
 mig_have tokens (inr (line, h)) = (Err (sayings.Syntax line), inr (line, h.0, h.1, refl), tt)
 
 -- ---- each front end
@@ -159,7 +172,9 @@ one_unit k text r s (inl (a, (ps, stand, ta), ra)) (inr (f, is, sb)) = absurd (n
 one_unit k text r s (inr (e, is, ra)) (inl (b, (qs, stand, tb), sb)) = absurd (not_both k text qs e stand is)
 one_unit k text r s (inr (e, is, ra)) (inr (f, js, sb)) = ra ∙ ap (λ x. Err (sayings.Lex x)) (same_fault k text e f is js) ∙ sym sb
 
-text_has : (k : Front) → IsRead k → (text : List ℕ) → ((tokens : List Token) × AreTokens k text tokens) ⊎ ((fault : LexErr) × IsFirstFault k text fault) → Has k text
+text_has : (k : Front) → IsRead k → (text : List ℕ)
+    → ((tokens : List Token) × AreTokens k text tokens) ⊎ ((fault : LexErr) × IsFirstFault k text fault)
+    → Has k text
 text_has k read text (inl (tokens, are)) = let h = tokens_have k read tokens in (h.0, inl (tokens, are, h.1), h.2)
 text_has k read text (inr (fault, is)) = (Err (sayings.Lex fault), inr (fault, is, refl), tt)
 

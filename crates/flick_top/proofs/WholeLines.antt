@@ -35,7 +35,8 @@ answers_whole job f [] all = inl refl
 answers_whole job f (l ∷ ls) all = both_whole (f l) (answers f ls) (answer_whole job l (f l) (all l)) (answers_whole job f ls all)
 
 -- answers that were written are whole lines
-pub wrote-whole : (job : Job) (f : Answering) (ls : List Line) (held held' : Option (List ℕ)) → IsAnswering job f → Appends held held' (answers f ls)
+pub wrote-whole : (job : Job) (f : Answering) (ls : List Line) (held held' : Option (List ℕ)) → IsAnswering job f
+    → Appends held held' (answers f ls)
     → (octets : List ℕ) × Appends held held' octets × AreWholeLines octets
 wrote-whole job f ls held held' all wrote = (answers f ls, wrote, answers_whole job f ls all)
 

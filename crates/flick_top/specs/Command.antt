@@ -8,7 +8,7 @@ use Rattle.flick_top.specs.declared.command.Command.{Command}
 use Rattle.flick_top.specs.declared.command.Command.TheVariants.{Help, Version, Over}
 use Rattle.flick_top.specs.declared.command.Named.{Named}
 use Rattle.flick_top.specs.declared.command.Verb.{Verb}
-use Rattle.flick_top.specs.declared.command.Verb.TheVariants.{Marshal, Unmarshal}
+use Rattle.flick_top.specs.declared.command.Verb.TheVariants.{Marshal, Unmarshal, Reply, Unreply}
 use Rattle.flick_top.specs.Fronts.{front_of, IsRead}
 
 -- the command of one word
@@ -23,6 +23,8 @@ abbrev pub verb_of : List ℕ → Option Verb
 verb_of word =
     if bytes_eq word (codes "marshal") then Some Marshal
     else if bytes_eq word (codes "unmarshal") then Some Unmarshal
+    else if bytes_eq word (codes "reply") then Some Reply
+    else if bytes_eq word (codes "unreply") then Some Unreply
     else None
 
 -- a verb, a front end and a back end, each where its word names one, over the file of the fourth word

@@ -41,7 +41,8 @@ in_words (Err error) = Err (Name error)
 in_words (Ok unit) = Ok unit
 
 -- tokens have a tree, whose unit it is; or none, and the line where they fail is said
-abbrev pub Says : {T : Type 0} → (T → List Token → Type 0) → (List Token → ℕ → Type 0) → (T → Result PlainUnit NameErr) → List Token → Read → Type 0
+abbrev pub Says : {T : Type 0} → (T → List Token → Type 0) → (List Token → ℕ → Type 0) → (T → Result PlainUnit NameErr)
+    → List Token → Read → Type 0
 Says {T} Derives FailsAt resolved tokens read =
     ((tree : T) × Derives tree tokens × (read ≡ in_words (resolved tree)))
     ⊎ ((line : ℕ) × ((tree : T) → Derives tree tokens → ⊥) × FailsAt tokens line × (read ≡ Err (Syntax line)))

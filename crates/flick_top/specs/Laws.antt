@@ -6,7 +6,8 @@ use Rattle.flick_top.specs.Output.{Files, IsTask, IsAnswered, out_of}
 
 -- the words have one output over the files
 abbrev pub OneOutput : Type 0
-OneOutput = (words : List (List ℕ)) (files : Files) (t u : Task) (f g : Answering) → IsTask words files t → IsTask words files u → IsAnswered t f → IsAnswered u g
+OneOutput = (words : List (List ℕ)) (files : Files) (t u : Task) (f g : Answering)
+    → IsTask words files t → IsTask words files u → IsAnswered t f → IsAnswered u g
     → (input : List ℕ) → out_of t f input ≡ out_of u g input
 
 -- all words and files have a task

@@ -1,4 +1,4 @@
--- The answers of `marshal`: the messages of request records.
+-- The answers of `marshal` and `reply`: the messages of request records, and of reply records.
 use Rattle.std.specs.Prelude.{◌≡◌, ◌⊎◌, ℕ, List, length, nat_le, ◌==◌, if◌then◌else◌, Option, Some, None, Result, Ok, Err, codes}
 use Rattle.std.specs.Str.Lossy.{utf8_valid_len}
 use Rattle.kit_base.specs.Limits.{longest_message}
@@ -6,13 +6,16 @@ use Rattle.hex.specs.Hex.{encode_lower}
 use Rattle.serde_json.specs.Data.{Data}
 use Rattle.serde_json.specs.Read.{read}
 use Rattle.mint.specs.Values.{Val}
+use Rattle.wire_def.specs.declared.head.Head.{Head}
 use Rattle.pres.specs.Bindings.{Binding}
 use Rattle.json_shape.specs.declared.errors.RecordErr.{RecordErr}
 use Rattle.json_shape.specs.declared.errors.RecordErr.TheVariants as errors
 use Rattle.json_shape.specs.Presents.{Presents}
 use Rattle.json_shape.specs.Records.{Begun}
+use Rattle.json_shape.specs.Replies.{reply_of}
 use Rattle.json_shape.specs.Requests.{request_of}
 use Rattle.flick_engine.specs.Messages.{message}
+use Rattle.flick_engine.specs.Replies.{reply_message}
 
 -- the tree of a line, where it is JSON
 abbrev pub tree_of : List ℕ → Option Data
@@ -30,22 +33,34 @@ record_refusal errors.NoMemory = codes ""
 abbrev pub digits_of : List ℕ → List ℕ
 digits_of m = if nat_le (length m) longest_message then encode_lower m else codes "! long"
 
+-- what a tree begins as a record, or its first refusal
+abbrev pub Beginning : Type 0
+Beginning = Data → Result Begun RecordErr
+
+-- the message of an operation by a head and a value
+abbrev pub Messages : Type 0
+Messages = ℕ → Head → Val → List ℕ
+
 -- the message of the value that the record presents, or the refusal where it presents none
-abbrev pub IsMessage : Binding → Begun → List ℕ → Type 0
-IsMessage b r a =
-    ((v : Val) × Presents r.face r.tree v × (a ≡ digits_of (message b r.op r.head v)))
+abbrev pub IsMessage : Messages → Begun → List ℕ → Type 0
+IsMessage message_of r a =
+    ((v : Val) × Presents r.face r.tree v × (a ≡ digits_of (message_of r.op r.head v)))
     ⊎ (((v : Val) → ¬ Presents r.face r.tree v) × (a ≡ record_refusal errors.Shape))
 
 -- the answer to a record that begins so, or is none
-abbrev pub IsOfRecord : Binding → Result Begun RecordErr → List ℕ → Type 0
-IsOfRecord b (Err e) a = a ≡ record_refusal e
-IsOfRecord b (Ok r) a = IsMessage b r a
+abbrev pub IsOfRecord : Messages → Result Begun RecordErr → List ℕ → Type 0
+IsOfRecord message_of (Err e) a = a ≡ record_refusal e
+IsOfRecord message_of (Ok r) a = IsMessage message_of r a
 
--- the answer to a tree
-abbrev pub IsOfTree : Binding → Option Data → List ℕ → Type 0
-IsOfTree b None a = a ≡ codes "! json"
-IsOfTree b (Some tree) a = IsOfRecord b (request_of b tree) a
+-- the answer to a tree, by what trees begin and by the messages of that
+abbrev pub IsOfTree : Beginning → Messages → Option Data → List ℕ → Type 0
+IsOfTree begun message_of None a = a ≡ codes "! json"
+IsOfTree begun message_of (Some tree) a = IsOfRecord message_of (begun tree) a
 
--- the answer to a line, without its line feed
+-- the answer to a line as a request record, without its line feed: the message of its call
 abbrev pub IsMarshalled : Binding → List ℕ → List ℕ → Type 0
-IsMarshalled b line a = IsOfTree b (tree_of line) a
+IsMarshalled b line a = IsOfTree (request_of b) (message b) (tree_of line) a
+
+-- the answer to a line as a reply record: the message of its reply
+abbrev pub IsReplied : Binding → List ℕ → List ℕ → Type 0
+IsReplied b line a = IsOfTree (reply_of b) (reply_message b) (tree_of line) a

@@ -2,18 +2,15 @@
 use Rattle.std.specs.Prelude.{◌≡◌, ℕ, List, [], ◌++◌, if◌then◌else◌, Option, Some, None, Ok, Err}
 use Rattle.kit_base.specs.Limits.{longest_line}
 use Rattle.kit_base.specs.Lines.{lines}
-use Rattle.flick_engine.specs.Engines.{Compiled}
 use Rattle.flick_top.specs.declared.command.Command.{Command}
 use Rattle.flick_top.specs.declared.command.Command.TheVariants as commands
 use Rattle.flick_top.specs.declared.command.Named.{Named}
 use Rattle.flick_top.specs.declared.command.Verb.{Verb}
-use Rattle.flick_top.specs.declared.command.Verb.TheVariants as verbs
 use Rattle.flick_top.specs.declared.saying.Saying.{Saying}
 use Rattle.flick_top.specs.declared.saying.Saying.TheVariants as sayings
 use Rattle.flick_top.specs.declared.status.Status.{Status}
 use Rattle.flick_top.specs.declared.status.Status.TheVariants.{Done, Usage}
 use Rattle.flick_top.specs.declared.task.Job.{Job}
-use Rattle.flick_top.specs.declared.task.Job.TheVariants as jobs
 use Rattle.flick_top.specs.declared.task.Task.{Task}
 use Rattle.flick_top.specs.Answer.{Answering, IsAnswering, answers, refuses}
 use Rattle.flick_top.specs.Command.{command_of, word_at}
@@ -40,14 +37,9 @@ answering_task job = record { text = []; status = Done; lines = Some job }
 abbrev pub shapeless_task : Task
 shapeless_task = record { text = []; status = Usage; lines = None }
 
--- what answers the lines of a verb, over what was made
-abbrev pub job_of : Verb → Compiled → Job
-job_of verbs.Marshal e = jobs.Marshal e
-job_of verbs.Unmarshal e = jobs.Unmarshal e
-
 -- what a verb comes to over what was made, or is said instead
 abbrev pub task_over : Verb → Told → Task
-task_over verb (Ok e) = answering_task (job_of verb e)
+task_over verb (Ok e) = answering_task (record { verb = verb; engine = e })
 task_over verb (Err saying) = saying_task saying
 
 -- a task is the verb's over the content of its file, by its front end and over its back end

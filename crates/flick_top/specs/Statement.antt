@@ -23,7 +23,8 @@ Writes over left held held' status =
 -- whatever the status, a front of the output was appended
 abbrev pub WritesFront : (List ℕ → Out) → Input → Option (List ℕ) → Option (List ℕ) → Type 0
 WritesFront over left held held' =
-    (input : List ℕ) → left ≡ Some input → (front : List ℕ) × (rest : List ℕ) × ((over input).octets ≡ front ++ rest) × Appends held held' front
+    (input : List ℕ) → left ≡ Some input
+    → (front : List ℕ) × (rest : List ℕ) × ((over input).octets ≡ front ++ rest) × Appends held held' front
 
 -- a line ends in these octets
 abbrev pub has_end : List ℕ → Bool
@@ -37,7 +38,8 @@ ended_part (x ∷ xs) = if has_end (x ∷ xs) then x ∷ ended_part xs else []
 -- with status 4 exactly the output over the lines that ended in the octets taken was appended
 abbrev pub WritesEnded : (List ℕ → Out) → Input → Input → Option (List ℕ) → Option (List ℕ) → ℕ → Type 0
 WritesEnded over left left' held held' status =
-    status ≡ 4 → (input : List ℕ) → left ≡ Some input → (taken : List ℕ) × Consumes left left' taken × Appends held held' (over (ended_part taken)).octets
+    status ≡ 4 → (input : List ℕ) → left ≡ Some input
+    → (taken : List ℕ) × Consumes left left' taken × Appends held held' (over (ended_part taken)).octets
 
 -- a task that answers no lines takes nothing from the source, which has not failed, nor given too much
 abbrev pub LeavesInput : Option Job → Input → Input → ℕ → ℕ → ℕ → Type 0
@@ -48,7 +50,8 @@ abbrev pub EndsInput : Option Job → Input → ℕ → Type 0
 EndsInput lines left' status = lines ≢ None → status ≤ 1 → IsAtEnd left'
 
 -- what was taken and written of a task, by the status
-pub record Writing (task : Task) (f : Answering) (left left' : Input) (before now : ℕ) (held held' : Option (List ℕ)) (status : ℕ) : Type 0 where
+pub record Writing (task : Task) (f : Answering) (left left' : Input) (before now : ℕ) (held held' : Option (List ℕ))
+    (status : ℕ) : Type 0 where
   pub output : Writes (out_of task f) left held held' status
   pub front : WritesFront (out_of task f) left held held'
   pub ended : WritesEnded (out_of task f) left left' held held' status
@@ -112,7 +115,7 @@ ComesBy of before now status = status ≡ of → Rose before now
 abbrev pub StandsUnless : ℕ → ℕ → ℕ → ℕ → Type 0
 StandsUnless of before now status = status ≢ of → before ≡ now
 
--- where the source tells, at most the greatest input was taken and no count of faults rose, the status is 0 to 3, or 7 for want of memory
+-- where the source tells, at most the greatest input was taken and no count of faults rose, the status is 0 to 3, or 7 for out of memory
 abbrev pub Completes : Input → Input → Type 0 → Type 0 → Type 0 → ℕ → Type 0
 Completes left left' SourceRose SinkRose ShelfRose status =
     (input : List ℕ) → left ≡ Some input → (taken : List ℕ) → Consumes left left' taken → length taken ≤ most_input

@@ -3,10 +3,13 @@ ghost use Rattle.std.specs.Prelude.{◌≡◌, IfOk};
 ghost use Rattle.raw_buf.specs.Buf.{NoneFell};
 ghost use Rattle.flick_top.specs.Answer.{IsAnswer, IsAnswerTo, is_refusal};
 
+use crate::command::Verb;
 use crate::marshal::marshal;
+use crate::reply::reply;
 use crate::task::Job;
 use crate::text::{copied, ended};
 use crate::unmarshal::unmarshal;
+use crate::unreply::unreply;
 use kit_base::{Line, NoMemory, Octets};
 use raw_buf::SendBuf;
 use std::alloc::Global;
@@ -35,12 +38,14 @@ fn answer_to_text(
     text: &[u8],
     buf: &mut SendBuf,
 ) -> Result<Octets, NoMemory>
-    ensures value { IfOk result (λ o. IsAnswerTo job.now text.now o) }
+    ensures value { IfOk result (λ o. IsAnswerTo job.now.verb job.now.engine.binding text.now o) }
     ensures spent { NoneFell buf.old.spent buf.new.spent }
 {
-    match job {
-        Job::Marshal(engine) => marshal(alloc, engine, text, buf),
-        Job::Unmarshal(engine) => unmarshal(alloc, engine, text),
+    match job.verb {
+        Verb::Marshal => marshal(alloc, &job.engine, text, buf),
+        Verb::Unmarshal => unmarshal(alloc, &job.engine, text),
+        Verb::Reply => reply(alloc, &job.engine, text, buf),
+        Verb::Unreply => unreply(alloc, &job.engine, text),
     }
 }
 

@@ -28,6 +28,10 @@ pub enum Verb {
     Marshal,
     /// `unmarshal`
     Unmarshal,
+    /// `reply`
+    Reply,
+    /// `unreply`
+    Unreply,
 }
 
 /// What the words of a command over a file name.
@@ -71,7 +75,8 @@ fn option_of(word: &[u8]) -> Option<Command>
 
 /// The command of a verb, a front end and a back end, before a file.
 fn over_file(verb: &[u8], front: &[u8], back: &[u8]) -> Option<Command>
-    ensures value { result ≡ over_file (verb_of verb.now) (fronts.front_of front.now) (backs.back_of back.now) }
+    ensures value { result
+        ≡ over_file (verb_of verb.now) (fronts.front_of front.now) (backs.back_of back.now) }
     ensures known { IfSome result IsKnown }
 {
     let verb = verb_of(verb)?;
@@ -94,6 +99,12 @@ fn verb_of(word: &[u8]) -> Option<Verb>
     }
     if word == b"unmarshal".as_slice() {
         return Some(Verb::Unmarshal);
+    }
+    if word == b"reply".as_slice() {
+        return Some(Verb::Reply);
+    }
+    if word == b"unreply".as_slice() {
+        return Some(Verb::Unreply);
     }
     None
 }

@@ -7,6 +7,7 @@ mod file;
 mod fronts;
 mod laws;
 mod marshal;
+mod reply;
 mod saying;
 mod status;
 mod task;
@@ -14,6 +15,7 @@ mod text;
 mod top;
 mod turns;
 mod unmarshal;
+mod unreply;
 
 pub use laws::{outputs_are_determined, words_have_tasks};
 pub use top::flick;

@@ -6,8 +6,8 @@ ghost use Rattle.mint.specs.Types.{type_at};
 ghost use Rattle.mint.specs.Values.{seen};
 ghost use Rattle.raw_buf.specs.Buf.{NoneFell};
 ghost use Rattle.flick_engine.specs.Messages.{message};
-ghost use Rattle.flick_top.specs.Marshalled.{tree_of, record_refusal, digits_of, IsMarshalled, IsOfRecord};
 ghost use Rattle.json_shape.specs.Requests.{request_of};
+ghost use Rattle.flick_top.specs.Marshalled.{tree_of, record_refusal, digits_of, IsMarshalled, IsOfRecord};
 
 use crate::text::copied;
 use flick_engine::{Engine, MarshalErr};
@@ -34,7 +34,7 @@ pub fn marshal(
 }
 
 /// The tree of a line, where it is JSON. Of what is no text none is read, and no memory is wanted.
-fn tree_of(alloc: Global, line: &[u8]) -> Result<Option<Json>, NoMemory>
+pub(crate) fn tree_of(alloc: Global, line: &[u8]) -> Result<Option<Json>, NoMemory>
     ensures value { IfOk result (λ o. option_map view o ≡ tree_of line.now) }
     ensures memory { OnErr result (IsUtf8 line.now) }
 {
@@ -58,7 +58,8 @@ fn of_tree(
     json: &Json,
     buf: &mut SendBuf,
 ) -> Result<Octets, NoMemory>
-    ensures value { IfOk result (λ o. IsOfRecord engine.now.binding (request_of engine.now.binding (view json.now)) o) }
+    ensures value { IfOk result (λ o. IsOfRecord (message engine.now.binding)
+        (request_of engine.now.binding (view json.now)) o) }
     ensures spent { NoneFell buf.old.spent buf.new.spent }
 {
     match read_request(alloc, engine.bound(), json) {
@@ -67,8 +68,8 @@ fn of_tree(
     }
 }
 
-/// The answer to what is no request.
-fn refused(alloc: Global, refusal: RecordErr) -> Result<Octets, NoMemory>
+/// The answer to what is not a record.
+pub(crate) fn refused(alloc: Global, refusal: RecordErr) -> Result<Octets, NoMemory>
     ensures told { IfOk result (λ o. o ≡ record_refusal refusal) }
     ensures memory { OnOk result (refusal ≢ RecordErr.NoMemory) }
 {
@@ -89,8 +90,10 @@ fn digits_of(
     buf: &mut SendBuf,
 ) -> Result<Octets, NoMemory>
     requires op { record.now.op < length engine.now.binding.ops }
-    requires typed { IfSome (slice_get engine.now.binding.ops record.now.op) (λ o. IsWellTyped (type_at engine.now.binding.nodes o.request) (seen record.now.value)) }
-    ensures value { IfOk result (λ o. o ≡ digits_of (message engine.now.binding record.now.op record.now.head (seen record.now.value))) }
+    requires typed { IfSome (slice_get engine.now.binding.ops record.now.op)
+        (λ o. IsWellTyped (type_at engine.now.binding.nodes o.request) (seen record.now.value)) }
+    ensures value { IfOk result (λ o. o ≡ digits_of
+        (message engine.now.binding record.now.op record.now.head (seen record.now.value))) }
     ensures spent { NoneFell buf.old.spent buf.new.spent }
 {
     match engine.marshal(alloc, record.op, &record.head, &record.value, buf) {

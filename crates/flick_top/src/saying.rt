@@ -18,14 +18,18 @@ commands:\n\
 \x20                           hexadecimal digits of its message\n\
 \x20 unmarshal FRONT BACK FILE answer each message in hexadecimal digits by its request\n\
 \x20                           record\n\
+\x20 reply FRONT BACK FILE     answer each reply record by the hexadecimal digits of its\n\
+\x20                           message\n\
+\x20 unreply FRONT BACK FILE   answer each name of an operation, space and reply to it in\n\
+\x20                           hexadecimal digits by its reply record\n\
 \x20 --help                    write this page\n\
 \x20 --version                 write name and version\n\
 \n\
 FRONT is the language of FILE: onc, for the ONC RPC language, corba, for CORBA IDL,\n\
 or mig, for MIG definitions.\n\
-BACK is xdr, for ONC calls, cdr-be or cdr-le, for GIOP requests in big or little order,\n\
-or mach, for typed messages in the manner of Mach 3.\n\
-A request record is a line of JSON.\n\
+BACK is xdr, for ONC messages, cdr-be or cdr-le, for GIOP messages in big or little\n\
+order, or mach, for typed messages in the manner of Mach 3.\n\
+A request record or reply record is a line of JSON.\n\
 \n\
 status:\n\
 \x20 0  the work was done, and no answer begins with `!`\n\

@@ -27,6 +27,7 @@ pub enum Status {
 impl Status {
     ghost use Rattle.flick_top.specs.Status.{number_of};
 
+    /// The number of the status.
     pub fn number(self) -> u8
         ensures { result ≡ number_of self }
     {

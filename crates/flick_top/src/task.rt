@@ -5,7 +5,7 @@ ghost use Rattle.flick_top.specs.Answer.{Answering, IsAnswering};
 ghost use Rattle.flick_top.specs.Command.{IsKnown, word_at};
 ghost use Rattle.flick_top.specs.File.{FileSays, IsSoundly, plainly};
 ghost use Rattle.flick_top.specs.Fronts.{IsRead};
-ghost use Rattle.flick_top.specs.Output.{Files, Comes, IsOverFile, IsAnswered, saying_task, answering_task, task_over, job_of};
+ghost use Rattle.flick_top.specs.Output.{Files, Comes, IsOverFile, IsAnswered, saying_task, answering_task, task_over};
 ghost use Rattle.flick_top.specs.Turn.{IsReady};
 ghost use Rattle.flick_top.specs.declared.command.Named.{Named as SpecNamed};
 
@@ -22,32 +22,19 @@ use std::alloc::Global;
 
 /// What answers the lines of the input.
 #[derive(Drop)]
-pub enum Job {
-    /// Each request record by the message of its call.
-    Marshal(Engine),
-    /// Each call by its request record.
-    Unmarshal(Engine),
+pub struct Job {
+    /// What is done with each line.
+    pub verb: Verb,
+    /// The operations whose messages are made or read.
+    pub engine: Engine,
 }
 
 impl Job {
-    /// What answers the lines of a verb, over what was made.
-    fn of(verb: Verb, engine: Engine) -> Job
-        ensures { result ≡ job_of verb engine }
-    {
-        match verb {
-            Verb::Marshal => Job::Marshal(engine),
-            Verb::Unmarshal => Job::Unmarshal(engine),
-        }
-    }
-
     /// Each line has an answer. It does nothing.
     fn lines_are_answered(&self)
         ensures { (f : Answering) × IsAnswering self.now f }
     {
-        match self {
-            Job::Marshal(engine) => engine.bound().mint().types_are_sound(),
-            Job::Unmarshal(engine) => engine.bound().mint().types_are_sound(),
-        }
+        self.engine.bound().mint().types_are_sound();
     }
 }
 
@@ -93,7 +80,7 @@ impl Task {
         ensures ready { IfOk result IsReady }
     {
         match told {
-            Ok(engine) => Ok(Task::of_job(alloc, Job::of(verb, engine))),
+            Ok(engine) => Ok(Task::of_job(alloc, Job { verb, engine })),
             Err(saying) => Task::of_saying(alloc, saying),
         }
     }
@@ -137,7 +124,8 @@ pub fn task_of<F: Shelf>(
     shelf: &mut F,
 ) -> Result<Task, TaskErr>
     requires known { IsKnown command }
-    ensures task { IfOk result (λ task. (files : Files) → F.files shelf.old ≡ Some files → Comes (Some command) words.now files task) }
+    ensures task { IfOk result (λ task. (files : Files) → F.files shelf.old ≡ Some files
+        → Comes (Some command) words.now files task) }
     ensures ready { IfOk result IsReady }
     ensures files { F.files shelf.new ≡ F.files shelf.old }
     ensures later { F.faults shelf.old ≤ F.faults shelf.new }
@@ -160,7 +148,8 @@ fn over_file<F: Shelf>(
     shelf: &mut F,
 ) -> Result<Task, TaskErr>
     requires known { IsKnown (Command.Over named.now) }
-    ensures task { IfOk result (λ task. (files : Files) → F.files shelf.old ≡ Some files → IsOverFile named.now (files path.now) task) }
+    ensures task { IfOk result (λ task. (files : Files) → F.files shelf.old ≡ Some files
+        → IsOverFile named.now (files path.now) task) }
     ensures ready { IfOk result IsReady }
     ensures files { F.files shelf.new ≡ F.files shelf.old }
     ensures later { F.faults shelf.old ≤ F.faults shelf.new }
@@ -181,7 +170,8 @@ fn unit_at<F: Shelf>(
     shelf: &mut F,
 ) -> Result<Result<Unit, Saying>, TaskErr>
     requires read { IsRead front }
-    ensures told { IfOk result (λ read. (files : Files) → F.files shelf.old ≡ Some files → FileSays front (files path.now) (plainly read)) }
+    ensures told { IfOk result (λ read. (files : Files) → F.files shelf.old ≡ Some files
+        → FileSays front (files path.now) (plainly read)) }
     ensures sound { IfOk result IsSoundly }
     ensures files { F.files shelf.new ≡ F.files shelf.old }
     ensures later { F.faults shelf.old ≤ F.faults shelf.new }

@@ -25,7 +25,9 @@ pub fn flick<F: Shelf, S: Source, K: Sink>(
     output: &mut K,
     buf: &mut SendBuf,
 ) -> u8
-    ensures work { (files : Files) → F.files shelf.old ≡ Some files → Works words.now files (S.left input.old) (S.left input.new) (S.faults input.old) (S.faults input.new) (K.held output.old) (K.held output.new) result }
+    ensures work { (files : Files) → F.files shelf.old ≡ Some files
+        → Works words.now files (S.left input.old) (S.left input.new)
+        (S.faults input.old) (S.faults input.new) (K.held output.old) (K.held output.new) result }
     ensures usage { IsUsage words.now result }
     ensures file { NeedsFile words.now result }
     ensures nothing { WritesNothing (K.held output.old) (K.held output.new) result }
@@ -41,7 +43,9 @@ pub fn flick<F: Shelf, S: Source, K: Sink>(
     ensures source_told { StandsUnless 4 (S.faults input.old) (S.faults input.new) result }
     ensures sink_told { StandsUnless 5 (K.faults output.old) (K.faults output.new) result }
     ensures shelf_told { StandsUnless 6 (F.faults shelf.old) (F.faults shelf.new) result }
-    ensures completes { Completes (S.left input.old) (S.left input.new) (Rose (S.faults input.old) (S.faults input.new)) (Rose (K.faults output.old) (K.faults output.new)) (Rose (F.faults shelf.old) (F.faults shelf.new)) result }
+    ensures completes { Completes (S.left input.old) (S.left input.new)
+        (Rose (S.faults input.old) (S.faults input.new)) (Rose (K.faults output.old) (K.faults output.new))
+        (Rose (F.faults shelf.old) (F.faults shelf.new)) result }
     ensures spent { NoneFell buf.old.spent buf.new.spent }
     ensures range { result ≤ 8 }
 {

@@ -25,11 +25,16 @@ pub fn perform<S: Source, K: Sink>(
     buf: &mut SendBuf,
 ) -> Status
     requires ready { IsReady task.now }
-    ensures output { (f : Answering) → IsAnswered task.now f → Writes (out_of task.now f) (S.left input.old) (K.held output.old) (K.held output.new) (number_of result) }
-    ensures front { (f : Answering) → IsAnswered task.now f → WritesFront (out_of task.now f) (S.left input.old) (K.held output.old) (K.held output.new) }
-    ensures ended { (f : Answering) → IsAnswered task.now f → WritesEnded (out_of task.now f) (S.left input.old) (S.left input.new) (K.held output.old) (K.held output.new) (number_of result) }
-    ensures lines { (f : Answering) → IsAnswered task.now f → WritesWholeLines (K.held output.old) (K.held output.new) (number_of result) }
-    ensures unread { LeavesInput task.now.lines (S.left input.old) (S.left input.new) (S.faults input.old) (S.faults input.new) (number_of result) }
+    ensures output { (f : Answering) → IsAnswered task.now f → Writes (out_of task.now f) (S.left input.old)
+        (K.held output.old) (K.held output.new) (number_of result) }
+    ensures front { (f : Answering) → IsAnswered task.now f
+        → WritesFront (out_of task.now f) (S.left input.old) (K.held output.old) (K.held output.new) }
+    ensures ended { (f : Answering) → IsAnswered task.now f → WritesEnded (out_of task.now f)
+        (S.left input.old) (S.left input.new) (K.held output.old) (K.held output.new) (number_of result) }
+    ensures lines { (f : Answering) → IsAnswered task.now f
+        → WritesWholeLines (K.held output.old) (K.held output.new) (number_of result) }
+    ensures unread { LeavesInput task.now.lines (S.left input.old) (S.left input.new)
+        (S.faults input.old) (S.faults input.new) (number_of result) }
     ensures at_end { EndsInput task.now.lines (S.left input.new) (number_of result) }
     ensures taken { TakesFront (S.left input.old) (S.left input.new) }
     ensures more { TakesMore (S.left input.old) (S.left input.new) (number_of result) }
@@ -61,10 +66,14 @@ fn answer_lines<S: Source, K: Sink>(
     output: &mut K,
     buf: &mut SendBuf,
 ) -> Status
-    ensures output { (f : Answering) → IsAnswering job.now f → Writes (answers_out f) (S.left input.old) (K.held output.old) (K.held output.new) (number_of result) }
-    ensures front { (f : Answering) → IsAnswering job.now f → WritesFront (answers_out f) (S.left input.old) (K.held output.old) (K.held output.new) }
-    ensures ended { (f : Answering) → IsAnswering job.now f → WritesEnded (answers_out f) (S.left input.old) (S.left input.new) (K.held output.old) (K.held output.new) (number_of result) }
-    ensures lines { (f : Answering) → IsAnswering job.now f → WritesWholeLines (K.held output.old) (K.held output.new) (number_of result) }
+    ensures output { (f : Answering) → IsAnswering job.now f → Writes (answers_out f) (S.left input.old)
+        (K.held output.old) (K.held output.new) (number_of result) }
+    ensures front { (f : Answering) → IsAnswering job.now f → WritesFront (answers_out f) (S.left input.old)
+        (K.held output.old) (K.held output.new) }
+    ensures ended { (f : Answering) → IsAnswering job.now f → WritesEnded (answers_out f)
+        (S.left input.old) (S.left input.new) (K.held output.old) (K.held output.new) (number_of result) }
+    ensures lines { (f : Answering) → IsAnswering job.now f
+        → WritesWholeLines (K.held output.old) (K.held output.new) (number_of result) }
     ensures more { TakesMore (S.left input.old) (S.left input.new) (number_of result) }
     ensures at_most { TakesAtMost (S.left input.old) (S.left input.new) (number_of result) }
     ensures source { ComesBy 4 (S.faults input.old) (S.faults input.new) (number_of result) }

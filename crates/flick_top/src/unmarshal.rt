@@ -1,10 +1,10 @@
 // The answers of `unmarshal`.
-ghost use Rattle.std.specs.Prelude.{◌≡◌, ◌≢◌, ◌<◌, length, IfOk, OnOk, Ok, slice_get, string_bytes};
+ghost use Rattle.std.specs.Prelude.{◌≡◌, ◌≢◌, ◌<◌, length, IfOk, OnOk, Ok, string_bytes};
 ghost use Rattle.mint.specs.Typed.{IsWellTyped};
 ghost use Rattle.mint.specs.Values.{seen};
 ghost use Rattle.flick_engine.specs.Messages.{request_type};
-ghost use Rattle.flick_engine.specs.Received.{asked};
-ghost use Rattle.flick_top.specs.Unmarshalled.{head_name, kind_name, message_refusal, record_text, IsOfOctets, IsUnmarshalled};
+ghost use Rattle.flick_engine.specs.Received.{asked, ReadCall};
+ghost use Rattle.flick_top.specs.Unmarshalled.{head_name, kind_name, message_refusal, request_text, IsOfOctets, IsUnmarshalled};
 
 use crate::text::copied;
 use flick_engine::{Engine, MessageErr, Request};
@@ -28,7 +28,8 @@ pub fn unmarshal(alloc: Global, engine: &Engine, line: &[u8]) -> Result<Octets, 
 
 /// The answer to a message.
 fn of_octets(alloc: Global, engine: &Engine, message: &[u8]) -> Result<Octets, NoMemory>
-    ensures { IfOk result (λ o. IsOfOctets engine.now.binding (Ok message.now) o) }
+    ensures { IfOk result (λ o.
+        IsOfOctets (ReadCall engine.now.binding) (request_text engine.now.binding) (Ok message.now) o) }
 {
     let mut view = RecvView::new(message);
     match engine.unmarshal(alloc, &mut view) {
@@ -41,7 +42,7 @@ fn of_octets(alloc: Global, engine: &Engine, message: &[u8]) -> Result<Octets, N
 fn record_text(alloc: Global, engine: &Engine, request: &Request) -> Result<String, NoMemory>
     requires op { request.now.op < length engine.now.binding.ops }
     requires typed { IsWellTyped (request_type engine.now.binding request.now.op) (seen request.now.value) }
-    ensures { IfOk result (λ s. string_bytes s ≡ record_text engine.now.binding (slice_get engine.now.binding.ops request.now.op) (asked request.now)) }
+    ensures { IfOk result (λ s. string_bytes s ≡ request_text engine.now.binding (asked request.now)) }
 {
     let record = write_request(
         alloc,
@@ -53,8 +54,8 @@ fn record_text(alloc: Global, engine: &Engine, request: &Request) -> Result<Stri
     Ok(record.to_string(alloc)?)
 }
 
-/// Why octets are no message.
-fn refusal_text(alloc: Global, refusal: MessageErr) -> Result<String, NoMemory>
+/// Why octets are not a message.
+pub(crate) fn refusal_text(alloc: Global, refusal: MessageErr) -> Result<String, NoMemory>
     ensures told { IfOk result (λ s. string_bytes s ≡ message_refusal refusal) }
     ensures memory { OnOk result (refusal ≢ MessageErr.NoMemory) }
 {

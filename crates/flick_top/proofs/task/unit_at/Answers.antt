@@ -6,4 +6,5 @@ use Rattle.flick_top.proofs.task.unit_at.Goals as goal
 pub returns-in-Ok-read_content-clause-told : goal.returns-in-Ok-read_content-clause-told
 returns-in-Ok-read_content-clause-told g c = λ files told.
     told-decides c.args.front _ files c.args.path.now c.in-Ok.text _ c.in-Ok.ensures.content told
-    (subst (λ (t : List ℕ). FileSays c.args.front (Some t) (plainly c.in-Ok-read_content.read)) c.as_slice.ensures c.in-Ok-read_content.ensures.says)
+    (subst (λ (t : List ℕ). FileSays c.args.front (Some t) (plainly c.in-Ok-read_content.read)) c.as_slice.ensures
+    c.in-Ok-read_content.ensures.says)

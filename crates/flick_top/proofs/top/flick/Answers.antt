@@ -4,10 +4,13 @@ use Rattle.flick_top.proofs.Tasking.{is-task, shapeless-work}
 use Rattle.flick_top.proofs.top.flick.Goals as goal
 
 pub returns-in_default-clause-work : goal.returns-in_default-clause-work
-returns-in_default-clause-work g c = λ files told. rw c.number.ensures (shapeless-work c.args.words.now files _ _ _ (cc (c.command_of.ensures.value, c.in_default.is)))
+returns-in_default-clause-work g c =
+    λ files told. rw c.number.ensures (shapeless-work c.args.words.now files _ _ _ (cc (c.command_of.ensures.value, c.in_default.is)))
 
 pub returns-in-Ok-clause-completes : goal.returns-in-Ok-clause-completes
-returns-in-Ok-clause-completes g c = rw c.number-in-Ok.ensures (completes _ _ _ _ _ c.perform.result c.perform.ensures.more c.perform.ensures.source c.perform.ensures.sink c.perform.ensures.shelf)
+returns-in-Ok-clause-completes g c =
+    rw c.number-in-Ok.ensures
+    (completes _ _ _ _ _ c.perform.result c.perform.ensures.more c.perform.ensures.source c.perform.ensures.sink c.perform.ensures.shelf)
 
 pub returns-in-Ok-clause-work : goal.returns-in-Ok-clause-work
 returns-in-Ok-clause-work g c = λ files told.

@@ -65,17 +65,20 @@ turns-preserved-in_default-write_whole g c =
 pub returns-in-Err-clause-front : goal.returns-in-Err-clause-front
 returns-in-Err-clause-front g c = λ f all octets told.
     let (ls, advances, written) = c.turns.invariant.answered in
-    front-answers octets _ _ c.new-lines.result _ ls f _ _ _ _ c.new-lines.ensures told advances c.turns.invariant.knows_end (written f all).0
+    front-answers octets _ _ c.new-lines.result _ ls f _ _ _ _ c.new-lines.ensures told advances c.turns.invariant.knows_end
+    (written f all).0
 
 pub returns-then-is_end-clause-front : goal.returns-then-is_end-clause-front
 returns-then-is_end-clause-front g c = λ f all octets told.
     let (ls, advances, written) = c.turns.invariant.answered in
-    front-answers octets _ _ c.new-lines.result _ ls f _ _ _ _ c.new-lines.ensures told advances c.turns.invariant.knows_end (written f all).0
+    front-answers octets _ _ c.new-lines.result _ ls f _ _ _ _ c.new-lines.ensures told advances c.turns.invariant.knows_end
+    (written f all).0
 
 pub returns-in_default-clause-front : goal.returns-in_default-clause-front
 returns-in_default-clause-front g c = λ f all octets told.
     let (ls, advances, written) = c.turns.invariant.answered in
-    front-answers octets _ _ c.new-lines.result _ ls f _ _ _ _ c.new-lines.ensures told advances c.turns.invariant.knows_end (written f all).0
+    front-answers octets _ _ c.new-lines.result _ ls f _ _ _ _ c.new-lines.ensures told advances c.turns.invariant.knows_end
+    (written f all).0
 
 pub returns-in-Err-write_whole-clause-front : goal.returns-in-Err-write_whole-clause-front
 returns-in-Err-write_whole-clause-front g c = λ f all octets told.
@@ -84,19 +87,22 @@ returns-in-Err-write_whole-clause-front g c = λ f all octets told.
     let turn = rw (answered-line c.in-Ok.line is_line) at c.in-Ok.ensures.lines in
     let same = one_answer c.args.job.now c.in-Ok.line _ (f c.in-Ok.line) c.in-Ok-answer_to.ensures.value (all c.in-Ok.line) in
     let part = rw (c.as_slice-in-turns.ensures, same) at c.in-Err-write_whole.ensures.err in
-    front-failed octets _ _ _ c.new-lines.result _ _ ls c.in-Ok.line f _ _ _ _ _ c.new-lines.ensures told advances turn (c.next.ensures.knows_end c.turns.invariant.knows_end) (written f all).0 part
+    front-failed octets _ _ _ c.new-lines.result _ _ ls c.in-Ok.line f _ _ _ _ _ c.new-lines.ensures told advances turn
+    (c.next.ensures.knows_end c.turns.invariant.knows_end) (written f all).0 part
 
 pub returns-in-Err-clause-more : goal.returns-in-Err-clause-more
 returns-in-Err-clause-more g c = λ eight.
     let (ls, advances, written) = c.turns.invariant.answered in
     let error : c.in-Err.error ≡ TooMuch = too_much-of c.in-Err.error (ap number_of (sym c.status_at.ensures) ∙ eight) in
-    took-more _ _ _ c.new-lines.result _ _ ls _ _ c.new-lines.ensures advances c.in-Err.ensures.lines (c.next.ensures.too_much c.turns.invariant.fresh (c.in-Err.is ∙ ap Err error))
+    took-more _ _ _ c.new-lines.result _ _ ls _ _ c.new-lines.ensures advances c.in-Err.ensures.lines
+    (c.next.ensures.too_much c.turns.invariant.fresh (c.in-Err.is ∙ ap Err error))
 
 pub returns-in-Err-clause-at_most : goal.returns-in-Err-clause-at_most
 returns-in-Err-clause-at_most g c = λ six.
     let (ls, advances, written) = c.turns.invariant.answered in
     let error : c.in-Err.error ≡ Failed = failed-of c.in-Err.error (omega (arith, ap number_of c.status_at.ensures, six)) in
-    let within = c.next.ensures.within c.turns.invariant.fresh (λ e. absurd (cc (e, c.in-Err.is, error))) (λ e. absurd (cc (e, c.in-Err.is, error))) in
+    let within = c.next.ensures.within c.turns.invariant.fresh
+    (λ e. absurd (cc (e, c.in-Err.is, error))) (λ e. absurd (cc (e, c.in-Err.is, error))) in
     took-at_most-next _ _ _ c.new-lines.result _ _ ls [] _ _ c.new-lines.ensures advances c.in-Err.ensures.lines within
 
 pub returns-then-is_end-clause-at_most : goal.returns-then-is_end-clause-at_most
@@ -116,7 +122,8 @@ returns-in-Err-clause-ended g c = λ f all four octets told.
     let (ls, advances, written) = c.turns.invariant.answered in
     let error : c.in-Err.error ≡ Failed = failed-of c.in-Err.error (omega (arith, ap number_of c.status_at.ensures, four)) in
     let failed = c.next.ensures.failed c.turns.invariant.fresh (c.in-Err.is ∙ ap Err error) in
-    wrote-ended _ _ _ c.new-lines.result _ _ ls f _ _ _ _ c.new-lines.ensures advances c.in-Err.ensures.lines failed.1 failed.2 (written f all).0
+    wrote-ended _ _ _ c.new-lines.result _ _ ls f _ _ _ _ c.new-lines.ensures advances c.in-Err.ensures.lines failed.1 failed.2
+    (written f all).0
 
 pub returns-in-Err-clause-source_told : goal.returns-in-Err-clause-source_told
 returns-in-Err-clause-source_told g c = λ other.

@@ -7,14 +7,17 @@ returns-in-Err-clause-front g c = λ f all. front-broken c.args.task.now f _ _ _
 pub returns-in-Some-clause-front : goal.returns-in-Some-clause-front
 returns-in-Some-clause-front g c = λ f all.
     let text = rw c.as_slice.ensures at c.in_default.ensures.ok in
-    front-after c.args.task.now c.in-Some.job f _ _ _ _ c.in-Some.is text (c.answer_lines.ensures.front f (answers-of _ _ f c.in-Some.is all))
+    front-after c.args.task.now c.in-Some.job f _ _ _ _ c.in-Some.is text
+    (c.answer_lines.ensures.front f (answers-of _ _ f c.in-Some.is all))
 
 pub returns-in-Some-clause-ended : goal.returns-in-Some-clause-ended
 returns-in-Some-clause-ended g c = λ f all.
     let text = rw c.as_slice.ensures at c.in_default.ensures.ok in
-    ended-after c.args.task.now c.in-Some.job f _ _ _ _ _ _ c.in-Some.is text (c.answer_lines.ensures.ended f (answers-of _ _ f c.in-Some.is all))
+    ended-after c.args.task.now c.in-Some.job f _ _ _ _ _ _ c.in-Some.is text
+    (c.answer_lines.ensures.ended f (answers-of _ _ f c.in-Some.is all))
 
 pub returns-in-Some-clause-lines : goal.returns-in-Some-clause-lines
 returns-in-Some-clause-lines g c = λ f all.
     let text = rw c.as_slice.ensures at c.in_default.ensures.ok in
-    whole-after c.args.task.now.text _ _ _ _ c.requires.ready.whole text (c.answer_lines.ensures.lines f (answers-of _ _ f c.in-Some.is all))
+    whole-after c.args.task.now.text _ _ _ _ c.requires.ready.whole text
+    (c.answer_lines.ensures.lines f (answers-of _ _ f c.in-Some.is all))

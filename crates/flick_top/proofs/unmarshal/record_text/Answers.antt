@@ -4,4 +4,5 @@ use Rattle.flick_top.proofs.unmarshal.record_text.Goals as goal
 
 pub returns : goal.returns
 returns c =
-    record-written c.args.engine.now.binding (asked c.args.request.now) _ _ c.requires.op (rw c.bound.ensures.value at c.in_ok-record.ensures) c.in_ok-to_string.ensures.text
+    record-written c.args.engine.now.binding (asked c.args.request.now) _ _ c.requires.op
+    (rw c.bound.ensures.value at c.in_ok-record.ensures) c.in_ok-to_string.ensures.text
