@@ -1,0 +1,5 @@
+use Rattle.stub_print.proofs.RecvTold.{recv_texts_tell}
+use Rattle.stub_print.proofs.laws.recv_texts_tell_their_codes.Goals as goal
+
+pub returns : goal.returns
+returns c = recv_texts_tell

@@ -1,0 +1,5 @@
+use Rattle.stub_print.proofs.SendTold.{send_texts_tell}
+use Rattle.stub_print.proofs.laws.send_texts_tell_their_codes.Goals as goal
+
+pub returns : goal.returns
+returns c = send_texts_tell
