@@ -1,0 +1,4 @@
+pub mod Choosing
+pub mod Drawing
+pub mod Typing
+pub mod Weighing
