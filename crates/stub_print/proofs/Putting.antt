@@ -1,5 +1,5 @@
 -- Texts put one after the other.
-use Rattle.std.proofs.Common.{◌≡◌, ℕ, ◌+◌, ◌<◌, ◌≤◌, suc, Result, Ok, Err, OnOk, List, [], ◌∷◌, ◌++◌, length, map, drop, get_or, refl, sym, ap, ◌∙◌, subst, append_assoc, append-nil, arith}
+use Rattle.std.proofs.Common.{◌≡◌, ℕ, Result, Ok, Err, OnOk, List, [], ◌∷◌, ◌++◌, sym, ap, ◌∙◌, append_assoc}
 use Rattle.stub_print.specs.Putting.{IsPut}
 
 -- octets that are appended are put
@@ -17,7 +17,8 @@ pub put_then : (old mid new : List ℕ) (f g : List ℕ → List ℕ) → IsPut 
 put_then old mid new f g h k rest = h (g rest) ∙ k rest
 
 -- the same where the last may be refused
-pub then_put : {E : Type 0} (r : Result (Unit {0}) E) (old mid new : List ℕ) (f g : List ℕ → List ℕ) → IsPut old f mid → OnOk r (IsPut mid g new)
+pub then_put : {E : Type 0} (r : Result (Unit {0}) E) (old mid new : List ℕ) (f g : List ℕ → List ℕ) → IsPut old f mid
+    → OnOk r (IsPut mid g new)
     → OnOk r (IsPut old (λ rest. f (g rest)) new)
 then_put (Ok u) old mid new f g h k = put_then old mid new f g h k
 then_put (Err e) old mid new f g h k = tt

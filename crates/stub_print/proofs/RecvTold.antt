@@ -1,12 +1,11 @@
 -- The text of code that receives tells its name and the code.
-use Rattle.std.proofs.Common.{◌≡◌, ℕ, zero, suc, Bool, true, false, cond, if◌then◌else◌, ℤ, List, [], ◌∷◌, ◌++◌, drop, refl, sym, ap, ◌∙◌, codes}
-use Rattle.kit_base.specs.Lines.{HasNoEnd}
+use Rattle.std.proofs.Common.{◌≡◌, ℕ, suc, if◌then◌else◌, ℤ, List, [], ◌∷◌, drop, refl, sym, ap, ◌∙◌, codes}
 use Rattle.cast_stub.specs.declared.recv.Get.{Get}
 use Rattle.cast_stub.specs.declared.recv.Get.TheVariants as get
 use Rattle.cast_stub.specs.RecvBlock.{Recv, finish, need, need_row, skip_any, skip_zero, pass, desc, row_block, row_wide, each, switch, if_there, call, Cases, no_default, default, case}
 use Rattle.stub_print.specs.Laws.{RecvTextsTell}
-use Rattle.stub_print.specs.RecvText.{get_words, gets_text, block_text, cases_text, subs_text, recv_text}
-use Rattle.stub_print.specs.Words.{numeral, integer, path_word, order_word, hex, line, ended}
+use Rattle.stub_print.specs.RecvText.{get_words, gets_text, block_text, cases_text, subs_text}
+use Rattle.stub_print.specs.Words.{numeral, integer, path_word, order_word, line, ended}
 use Rattle.stub_print.proofs.Numerals.{value, value_numeral}
 use Rattle.stub_print.proofs.Told.{Line, IsClean, AreClean, rows, rows_line, same, same_names, word_at, clean_numeral, integer_of, integer_told, clean_integer, path_of, path_told, clean_path, order_of, order_told, clean_order, octets_of, hex_told, clean_hex}
 
@@ -24,7 +23,8 @@ get_of ws =
     if same (word_at 1 ws) (codes "num") then get.Num (number_at 0 ws) (path_at 2 ws) (number_at 3 ws) (order_of (word_at 4 ws))
     else (if same (word_at 1 ws) (codes "tag") then get.Tag (number_at 0 ws) (path_at 2 ws) (number_at 3 ws) (order_of (word_at 4 ws))
     else (if same (word_at 1 ws) (codes "flag") then get.Flag (number_at 0 ws) (path_at 2 ws) (number_at 3 ws) (order_of (word_at 4 ws))
-    else (if same (word_at 1 ws) (codes "count") then get.Count (number_at 0 ws) (path_at 2 ws) (number_at 3 ws) (number_at 4 ws) (number_at 5 ws) (order_of (word_at 6 ws))
+    else (if same (word_at 1 ws) (codes "count") then get.Count (number_at 0 ws) (path_at 2 ws) (number_at 3 ws) (number_at 4 ws)
+    (number_at 5 ws) (order_of (word_at 6 ws))
     else get.Const (number_at 0 ws) (octets_of (word_at 2 ws)))))
 
 get_told : (g : Get) → get_of (get_words g) ≡ g
@@ -134,7 +134,8 @@ told_gets (p ∷ ps) rest b cs ss fs e =
     (told_gets ps rest b cs ss fs e) (ap (λ z. frame b cs (z ∷ ps) ss ∷ fs) (get_told p))
 
 mutual
-  told_block : (b : Recv) (rest : List ℕ) (cs : Cases) (ps : List Get) (ss : List Recv) (fs : List Frame) → told rest ≡ frame finish cs ps ss ∷ fs
+  told_block : (b : Recv) (rest : List ℕ) (cs : Cases) (ps : List Get) (ss : List Recv) (fs : List Frame)
+      → told rest ≡ frame finish cs ps ss ∷ fs
       → told (block_text b rest) ≡ frame b cs ps ss ∷ fs
   told_block finish rest cs ps ss fs e = e
   told_block (need n b) rest cs ps ss fs e =
@@ -182,7 +183,8 @@ mutual
       told_line (codes "call") (numeral k ∷ path_word p ∷ []) (block_text b rest) (frame b cs ps ss ∷ fs) (frame (call k p b) cs ps ss ∷ fs) refl
       (clean_numeral k, (clean_path p, tt)) (told_block b rest cs ps ss fs e) (rw (value_numeral k, path_told p) refl)
 
-  told_cases : (cs : Cases) (rest : List ℕ) (ps : List Get) (ss : List Recv) (fs : List Frame) → told rest ≡ frame finish no_default ps ss ∷ fs
+  told_cases : (cs : Cases) (rest : List ℕ) (ps : List Get) (ss : List Recv) (fs : List Frame)
+      → told rest ≡ frame finish no_default ps ss ∷ fs
       → told (cases_text cs rest) ≡ frame finish cs ps ss ∷ fs
   told_cases no_default rest ps ss fs e = e
   told_cases (default body) rest ps ss fs e =
@@ -192,7 +194,8 @@ mutual
       told_line (codes "case") (integer n ∷ []) (block_text body (cases_text cs rest)) (frame body cs ps ss ∷ fs) (frame finish (case n body cs) ps ss ∷ fs) refl
       (clean_integer n, tt) (told_block body (cases_text cs rest) cs ps ss fs (told_cases cs rest ps ss fs e)) (rw (integer_told n) refl)
 
-told_subs : (bs : List Recv) (k : ℕ) (rest : List ℕ) (b : Recv) (cs : Cases) (ps : List Get) (fs : List Frame) → told rest ≡ frame b cs ps [] ∷ fs
+told_subs : (bs : List Recv) (k : ℕ) (rest : List ℕ) (b : Recv) (cs : Cases) (ps : List Get) (fs : List Frame)
+    → told rest ≡ frame b cs ps [] ∷ fs
     → told (subs_text k bs rest) ≡ frame b cs ps bs ∷ fs
 told_subs [] k rest b cs ps fs e = e
 told_subs (a ∷ bs) k rest b cs ps fs e =

@@ -1,14 +1,13 @@
 -- The text of code that sends tells its name and the code.
-use Rattle.std.proofs.Common.{◌≡◌, ℕ, zero, suc, Bool, true, false, cond, if◌then◌else◌, ℤ, List, [], ◌∷◌, ◌++◌, drop, refl, sym, ap, ◌∙◌, codes}
-use Rattle.kit_base.specs.Lines.{HasNoEnd}
+use Rattle.std.proofs.Common.{◌≡◌, ℕ, suc, if◌then◌else◌, ℤ, List, [], ◌∷◌, drop, refl, sym, ap, ◌∙◌, codes}
 use Rattle.cast_stub.specs.declared.put.HeadField.{HeadField}
 use Rattle.cast_stub.specs.declared.put.HeadField.TheVariants.{Id, Remote, Local}
 use Rattle.cast_stub.specs.declared.put.Put.{Put}
 use Rattle.cast_stub.specs.declared.put.Put.TheVariants as put
 use Rattle.cast_stub.specs.Block.{Block, stop, ensure, ensure_row, align, chunk, row_copy, row_swap, row_wide, each, switch, if_there, call, patch, Cases, no_default, default, case}
 use Rattle.stub_print.specs.Laws.{SendTextsTell}
-use Rattle.stub_print.specs.SendText.{field_word, put_words, puts_text, block_text, cases_text, subs_text, send_text}
-use Rattle.stub_print.specs.Words.{numeral, integer, path_word, order_word, hex, line, ended}
+use Rattle.stub_print.specs.SendText.{field_word, put_words, puts_text, block_text, cases_text, subs_text}
+use Rattle.stub_print.specs.Words.{numeral, integer, path_word, order_word, line, ended}
 use Rattle.stub_print.proofs.Numerals.{value, value_numeral}
 use Rattle.stub_print.proofs.Told.{Line, IsClean, AreClean, rows, rows_line, same, same_names, word_at, clean_numeral, integer_of, integer_told, clean_integer, path_of, path_told, clean_path, order_of, order_told, clean_order, octets_of, hex_told, clean_hex}
 
@@ -39,8 +38,10 @@ put_of ws =
     if same (word_at 1 ws) (codes "num") then put.Num (number_at 0 ws) (path_at 2 ws) (number_at 3 ws) (order_of (word_at 4 ws))
     else (if same (word_at 1 ws) (codes "tag") then put.Tag (number_at 0 ws) (path_at 2 ws) (number_at 3 ws) (order_of (word_at 4 ws))
     else (if same (word_at 1 ws) (codes "flag") then put.Flag (number_at 0 ws) (path_at 2 ws) (number_at 3 ws) (order_of (word_at 4 ws))
-    else (if same (word_at 1 ws) (codes "count") then put.Count (number_at 0 ws) (path_at 2 ws) (number_at 3 ws) (number_at 4 ws) (number_at 5 ws) (order_of (word_at 6 ws))
-    else (if same (word_at 1 ws) (codes "short") then put.Short (number_at 0 ws) (path_at 2 ws) (number_at 3 ws) (number_at 4 ws) (number_at 5 ws)
+    else (if same (word_at 1 ws) (codes "count") then put.Count (number_at 0 ws) (path_at 2 ws) (number_at 3 ws) (number_at 4 ws)
+    (number_at 5 ws) (order_of (word_at 6 ws))
+    else (if same (word_at 1 ws) (codes "short") then put.Short (number_at 0 ws) (path_at 2 ws) (number_at 3 ws) (number_at 4 ws)
+    (number_at 5 ws)
     else (if same (word_at 1 ws) (codes "const") then put.Const (number_at 0 ws) (octets_of (word_at 2 ws))
     else put.Head (number_at 0 ws) (field_of (word_at 2 ws)) (number_at 3 ws) (order_of (word_at 4 ws)))))))
 
@@ -153,7 +154,8 @@ told_puts (p ∷ ps) rest b cs ss fs e =
     (told_puts ps rest b cs ss fs e) (ap (λ z. frame b cs (z ∷ ps) ss ∷ fs) (put_told p))
 
 mutual
-  told_block : (b : Block) (rest : List ℕ) (cs : Cases) (ps : List Put) (ss : List Block) (fs : List Frame) → told rest ≡ frame stop cs ps ss ∷ fs
+  told_block : (b : Block) (rest : List ℕ) (cs : Cases) (ps : List Put) (ss : List Block) (fs : List Frame)
+      → told rest ≡ frame stop cs ps ss ∷ fs
       → told (block_text b rest) ≡ frame b cs ps ss ∷ fs
   told_block stop rest cs ps ss fs e = e
   told_block (ensure n b) rest cs ps ss fs e =
@@ -201,7 +203,8 @@ mutual
       told_line (codes "patch") (numeral at ∷ numeral sub ∷ order_word o ∷ []) (block_text b rest) (frame b cs ps ss ∷ fs) (frame (patch at sub o b) cs ps ss ∷ fs) refl
       (clean_numeral at, (clean_numeral sub, (clean_order o, tt))) (told_block b rest cs ps ss fs e) (rw (value_numeral at, value_numeral sub, order_told o) refl)
 
-  told_cases : (cs : Cases) (rest : List ℕ) (ps : List Put) (ss : List Block) (fs : List Frame) → told rest ≡ frame stop no_default ps ss ∷ fs
+  told_cases : (cs : Cases) (rest : List ℕ) (ps : List Put) (ss : List Block) (fs : List Frame)
+      → told rest ≡ frame stop no_default ps ss ∷ fs
       → told (cases_text cs rest) ≡ frame stop cs ps ss ∷ fs
   told_cases no_default rest ps ss fs e = e
   told_cases (default body) rest ps ss fs e =
@@ -211,7 +214,8 @@ mutual
       told_line (codes "case") (integer n ∷ []) (block_text body (cases_text cs rest)) (frame body cs ps ss ∷ fs) (frame stop (case n body cs) ps ss ∷ fs) refl
       (clean_integer n, tt) (told_block body (cases_text cs rest) cs ps ss fs (told_cases cs rest ps ss fs e)) (rw (integer_told n) refl)
 
-told_subs : (bs : List Block) (k : ℕ) (rest : List ℕ) (b : Block) (cs : Cases) (ps : List Put) (fs : List Frame) → told rest ≡ frame b cs ps [] ∷ fs
+told_subs : (bs : List Block) (k : ℕ) (rest : List ℕ) (b : Block) (cs : Cases) (ps : List Put) (fs : List Frame)
+    → told rest ≡ frame b cs ps [] ∷ fs
     → told (subs_text k bs rest) ≡ frame b cs ps bs ∷ fs
 told_subs [] k rest b cs ps fs e = e
 told_subs (a ∷ bs) k rest b cs ps fs e =

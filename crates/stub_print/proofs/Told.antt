@@ -1,11 +1,11 @@
 -- What octets tell: lines of words, and in words numbers, paths, orders and octets.
-use Rattle.std.proofs.Common.{◌≡◌, ◌≢◌, ℕ, zero, suc, ◌+◌, ◌-◌, ◌*◌, ◌/◌, ◌%◌, ◌<◌, ◌≤◌, Bool, true, false, not, ◌&&◌, cond, if◌then◌else◌, eqb, ltb, ℤ, pos, negsuc, List, [], ◌∷◌, ◌++◌, length, refl, sym, ap, ◌∙◌, arith, codes, ne_eqb, lt-ltb, le-ltb, inl, inr}
+use Rattle.std.proofs.Common.{◌≡◌, ◌≢◌, ℕ, zero, suc, ◌+◌, ◌-◌, ◌*◌, ◌/◌, ◌%◌, ◌<◌, ◌≤◌, Bool, true, false, not, ◌&&◌, cond, if◌then◌else◌, eqb, ltb, ℤ, pos, negsuc, List, [], ◌∷◌, ◌++◌, length, refl, ap, ◌∙◌, arith, codes, ne_eqb, lt-ltb, le-ltb, inl, inr}
 use Rattle.std.specs.List.{list_all}
 use Rattle.std.proofs.lemmas.List.Elements.{All-head, All-tail}
 use Rattle.kit_base.specs.Lines.{HasNoEnd}
 use Rattle.wire_def.specs.declared.head.Order.{Order}
 use Rattle.wire_def.specs.declared.head.Order.TheVariants.{Big, Little}
-use Rattle.stub_print.specs.Words.{numeral, integer, points, path_word, order_word, hex_digit, hex, spaced, words, line}
+use Rattle.stub_print.specs.Words.{numeral, integer, points, path_word, order_word, hex_digit, hex, words, line}
 use Rattle.stub_print.proofs.Numerals.{below_or_not, value, value_numeral, AreDigits, numeral_digits, numeral_some}
 
 -- ---- lines and words

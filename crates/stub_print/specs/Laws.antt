@@ -18,4 +18,5 @@ RecvTextsTell = (n m : List ℕ) (a b : Recv) (subs others : List Recv) → HasN
 
 -- no text is both of a code that sends and of one that receives
 abbrev pub TextsAreApart : Type 0
-TextsAreApart = (n m : List ℕ) (a : Block) (b : Recv) (subs : List Block) (others : List Recv) → send_text n a subs ≡ recv_text m b others → ⊥
+TextsAreApart = (n m : List ℕ) (a : Block) (b : Recv) (subs : List Block) (others : List Recv)
+    → send_text n a subs ≡ recv_text m b others → ⊥

@@ -33,7 +33,8 @@ abbrev mutual
   pub block_text : Block → List ℕ → List ℕ
   block_text stop rest = rest
   block_text (ensure n b) rest = line (codes "ensure") (numeral n ∷ []) (block_text b rest)
-  block_text (ensure_row p unit extra b) rest = line (codes "ensure_row") (path_word p ∷ numeral unit ∷ numeral extra ∷ []) (block_text b rest)
+  block_text (ensure_row p unit extra b) rest = line (codes "ensure_row") (path_word p ∷ numeral unit ∷ numeral extra ∷ [])
+      (block_text b rest)
   block_text (align a b) rest = line (codes "align") (numeral a ∷ []) (block_text b rest)
   block_text (chunk size ps b) rest = line (codes "chunk") (numeral size ∷ []) (puts_text ps (ended (block_text b rest)))
   block_text (row_copy p b) rest = line (codes "row_copy") (path_word p ∷ []) (block_text b rest)

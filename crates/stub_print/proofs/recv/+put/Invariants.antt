@@ -1,7 +1,6 @@
 use Rattle.std.proofs.Common.{◌≡◌, ℕ, List, ◌++◌, drop}
 use Rattle.cast_stub.specs.RecvBlock.{code_seen, cases_seen}
 use Rattle.stub_print.specs.RecvText.{block_text, cases_text}
-use Rattle.stub_print.specs.Words.{line}
 use Rattle.stub_print.proofs.recv.+put.Given as goal
 
 -- what is put, and what is left

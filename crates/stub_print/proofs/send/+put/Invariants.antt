@@ -1,7 +1,6 @@
 use Rattle.std.proofs.Common.{◌≡◌, ℕ, List, ◌++◌, drop}
 use Rattle.cast_stub.specs.Block.{code_seen, cases_seen}
 use Rattle.stub_print.specs.SendText.{block_text, cases_text}
-use Rattle.stub_print.specs.Words.{line}
 use Rattle.stub_print.proofs.send.+put.Given as goal
 
 -- what is put, and what is left
