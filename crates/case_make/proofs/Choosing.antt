@@ -1,5 +1,5 @@
 -- The arm that is drawn is the one that is found.
-use Rattle.std.proofs.Common.{◌≡◌, ℕ, suc, ◌+◌, ◌<◌, Bool, true, false, cond, ℤ, List, [], ◌∷◌, map, Option, None, Some, int_eq, refl, sym, ap, ◌∙◌, subst, arith}
+use Rattle.std.proofs.Common.{◌≡◌, ℕ, ◌+◌, Bool, true, false, cond, ℤ, List, [], ◌∷◌, map, Option, None, Some, int_eq, refl, sym, ap, ◌∙◌, subst, arith}
 use Rattle.mint.specs.Arms.{arm_found}
 use Rattle.mint.specs.Sound.{arm_numbers}
 use Rattle.mint.specs.Types.{Ty, at, arms_at}
@@ -26,7 +26,8 @@ arm_drawn ts [] (Some m) n i s e =
 arm_drawn ts (a ∷ arms) o n i s e =
     this_or_later (int_eq n a.0) i a.1 (arm_found arms o n) ts s (drawn_arm (arms_at ts arms o) n s) e (arm_drawn ts arms o n i s)
 
-later_none : (b : Bool) (j : ℕ) (rest : Option ℕ) (this later : Drawn Val) (w : Drawn Val) → cond b (Some j) rest ≡ None → (rest ≡ None → later ≡ w)
+later_none : (b : Bool) (j : ℕ) (rest : Option ℕ) (this later : Drawn Val) (w : Drawn Val) → cond b (Some j) rest ≡ None
+    → (rest ≡ None → later ≡ w)
     → cond b this later ≡ w
 later_none true j rest this later w e h = absurd cc
 later_none false j rest this later w e h = h e
@@ -59,7 +60,8 @@ arm_same : (f : ℤ → ℕ → Drawn Val) (m n : ℤ) (s q : ℕ) → m ≡ n �
 arm_same f m n s q d e = ap (λ z. f z s) d ∙ ap (f n) e
 
 pub choice_made : (blank : ℤ) (ts : List Ty) (arms : List (ℤ × ℕ)) (o : Option ℕ) (old tagged new : Maker) (n : ℤ) (v w : Val)
-    → Tagged blank (map (λ a. a.0) arms) old tagged n → IsMade weight tagged new (drawn_arm (arms_at ts arms o) n tagged.state) v → w ≡ arm n v
+    → Tagged blank (map (λ a. a.0) arms) old tagged n → IsMade weight tagged new (drawn_arm (arms_at ts arms o) n tagged.state) v
+    → w ≡ arm n v
     → IsMade weight old new (drawn_tagged (drawn_arm (arms_at ts arms o)) (drawn_one blank (arm_numbers (arms_at ts arms o)) old.state)) w
 choice_made blank ts arms o old tagged new n v w t m is =
     let d = drawn_one blank (map (λ a. a.0) arms) old.state in

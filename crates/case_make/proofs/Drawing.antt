@@ -1,5 +1,5 @@
 -- What is drawn: numbers in range, lengths that are allowed, and one of several.
-use Rattle.std.proofs.Common.{◌≡◌, ℕ, zero, suc, ◌+◌, ◌-◌, ◌*◌, ◌/◌, ◌%◌, ◌^◌, ◌<◌, ◌≤◌, ◌⊎◌, inl, inr, min, Bool, true, false, ◌&&◌, ◌||◌, not, cond, ℤ, pos, negsuc, ◌-ℤ◌, List, [], ◌∷◌, length, map, get_or, refl, sym, ap, ◌∙◌, arith, lt-ltb, le-ltb, mod-lt, IsTrue, int_eq, Option, None, Some, slice_get}
+use Rattle.std.proofs.Common.{◌≡◌, ℕ, zero, suc, ◌+◌, ◌-◌, ◌*◌, ◌/◌, ◌%◌, ◌^◌, ◌<◌, ◌≤◌, ◌⊎◌, inl, inr, min, Bool, true, false, ◌||◌, ℤ, pos, negsuc, ◌-ℤ◌, List, [], ◌∷◌, length, map, get_or, refl, ap, ◌∙◌, arith, lt-ltb, mod-lt, int_eq, None, Some, slice_get}
 use Rattle.std.specs.List.{list_all, list_any}
 use Rattle.std.proofs.lemmas.Bool.{cases_order}
 use Rattle.std.proofs.lemmas.Bool.Decides.{Decides-int_eq}
@@ -10,7 +10,7 @@ use Rattle.mint.specs.declared.kind.Kind.TheVariants as kind
 use Rattle.mint.specs.declared.kind.Count.{Count}
 use Rattle.mint.specs.declared.kind.Count.TheVariants.{Exactly, AtMost, Any}
 use Rattle.mint.specs.Kinds.{above, under, in_range, is_letter, Allows}
-use Rattle.case_make.specs.Draws.{Drawn, drawn_as, next, below, drawing, several, span, drawn_number, drawn_one, drawn_length, drawn_letter}
+use Rattle.case_make.specs.Draws.{Drawn, next, below, several, span, drawn_number, drawn_one, drawn_length, drawn_letter}
 
 pub below_or_not : (n m : ℕ) → (n < m) ⊎ (m ≤ n)
 below_or_not n m =
@@ -118,7 +118,8 @@ pub next_is : (s : ℕ) → (s * 6364136223846793005 % 18446744073709551616 + 14
 unfolding next
 next_is s = omega arith
 
-pub below_is : (many s : ℕ) → (s * 6364136223846793005 % 18446744073709551616 + 1442695040888963407) % 18446744073709551616 / 8589934592 % many ≡ below many s
+pub below_is : (many s : ℕ) →
+    (s * 6364136223846793005 % 18446744073709551616 + 1442695040888963407) % 18446744073709551616 / 8589934592 % many ≡ below many s
 unfolding below
 below_is many s = ap (λ z. z / 8589934592 % many) (next_is s)
 

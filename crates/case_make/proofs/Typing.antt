@@ -1,5 +1,5 @@
 -- What is drawn for a sound type is of it.
-use Rattle.std.proofs.Common.{◌≡◌, ℕ, zero, suc, ◌+◌, ◌<◌, ◌≤◌, Bool, true, false, ◌&&◌, not, cond, MatchBool, IsTrue, nat_le, nat_lt, ℤ, pos, List, [], ◌∷◌, length, get_or, None, refl, sym, ap, ◌∙◌, arith, inl, inr, lt-ltb, le-ltb, int_eq, ltb, eqb}
+use Rattle.std.proofs.Common.{◌≡◌, ℕ, zero, suc, ◌<◌, ◌≤◌, Bool, true, false, ◌&&◌, not, cond, MatchBool, nat_le, ℤ, pos, List, [], ◌∷◌, length, get_or, None, refl, ap, ◌∙◌, arith, inl, inr, lt-ltb, le-ltb, int_eq, eqb}
 use Rattle.std.specs.List.{list_all}
 use Rattle.std.proofs.lemmas.Bool.Decides.{Decides-int_eq}
 use Rattle.kit_base.specs.Limits.{heaviest_blank, most_labels}
@@ -12,9 +12,9 @@ use Rattle.mint.specs.Typed.{is_scalar, IsScalar, has_arm, Each, IsOf, AreOf, Is
 use Rattle.mint.specs.Values.{Val, present, absent, vals_of, weight}
 use Rattle.mint.proofs.BlankTyped.{blank_is_of, blank_is_well_typed}
 use Rattle.mint.proofs.Fitting.{count-vals_of}
-use Rattle.mint.proofs.Measuring.{Taken, level_taken, sound_taken, split}
-use Rattle.case_make.specs.Draws.{Drawn, below, next, drawn_as, several, drawing, drawn_one, drawn_scalar, drawn_length, drawn_letter, drawn_number}
-use Rattle.case_make.specs.Made.{as_many, drawn_array, drawn_maybe, drawn, drawn_fields, drawn_arm, made}
+use Rattle.mint.proofs.Measuring.{level_taken, sound_taken, split}
+use Rattle.case_make.specs.Draws.{Drawn, below, next, drawn_as, several, drawn_one, drawn_scalar, drawn_length, drawn_letter, drawn_number}
+use Rattle.case_make.specs.Made.{drawn_array, drawn, drawn_fields, drawn_arm, made}
 use Rattle.case_make.proofs.Drawing.{below_or_not, below-lt, drawn_in, drawn_letter_in, drawn_allowed, length-several, all_several, all_at, any_at}
 
 not_false : (b : Bool) → not b ≡ false → b ≡ true
@@ -72,7 +72,8 @@ arm_at (others t) i d l = refl
 arm_at (arm_type m t arms) zero d l = let same : int_eq m m ≡ true = (Decides-int_eq m m).1 refl in rw same refl
 arm_at (arm_type m t arms) (suc i) d l = or_later (int_eq (get_or (arm_numbers arms) i d) m) _ (arm_at arms i d (omega arith))
 
-tag_has_arm : (a : Scalar) (arms : Arms) (s : ℕ) → is_armless arms ≡ false → has_arm arms (drawn_one (blank_scalar a) (arm_numbers arms) s).value ≡ true
+tag_has_arm : (a : Scalar) (arms : Arms) (s : ℕ) → is_armless arms ≡ false
+    → has_arm arms (drawn_one (blank_scalar a) (arm_numbers arms) s).value ≡ true
 tag_has_arm a no_other s h = absurd cc
 tag_has_arm a (others t) s h = refl
 tag_has_arm a (arm_type m t arms) s h =
@@ -103,7 +104,8 @@ each_drawn : (t : Ty) (f : ℕ → Drawn Val) → ((s : ℕ) → IsOf t (f s).va
 each_drawn t f h zero s = tt
 each_drawn t f h (suc n) s = (h s, each_drawn t f h n (f s).state)
 
-maybe_is : (t : Ty) (b : Bool) (f : Drawn Val) (q : ℕ) → IsOf t f.value → IsOf (maybe_type t) (cond b (drawn_as present f) (record { value = absent; state = q })).value
+maybe_is : (t : Ty) (b : Bool) (f : Drawn Val) (q : ℕ) → IsOf t f.value
+    → IsOf (maybe_type t) (cond b (drawn_as present f) (record { value = absent; state = q })).value
 maybe_is t true f q h = h
 maybe_is t false f q h = tt
 

@@ -1,11 +1,11 @@
 -- Values made one after the other.
-use Rattle.std.proofs.Common.{◌≡◌, ℕ, zero, suc, ◌+◌, ◌-◌, ◌<◌, ◌≤◌, List, [], ◌∷◌, ◌++◌, length, refl, sym, ap, ◌∙◌, arith, append_assoc, append-nil, subst, ℤ, Result, Ok, Err, IfErr, map, drop, get_or}
+use Rattle.std.proofs.Common.{◌≡◌, ℕ, suc, ◌+◌, ◌-◌, ◌<◌, ◌≤◌, List, [], ◌∷◌, ◌++◌, length, refl, sym, ap, ◌∙◌, arith, append_assoc, append-nil, subst, ℤ, Result, Ok, Err, IfErr, map, drop, get_or}
 use Rattle.mint.specs.declared.kind.Kind.{Kind}
 use Rattle.mint.specs.declared.kind.Count.{Count}
 use Rattle.std.proofs.lemmas.List.{drop_more}
 use Rattle.mint.specs.declared.value.Value.{Value}
 use Rattle.mint.specs.Types.{Ty, items_type, at, fields_at}
-use Rattle.mint.specs.Values.{Val, row, seen, vals_of, weight, weights}
+use Rattle.mint.specs.Values.{Val, row, seen, weight}
 use Rattle.case_make.specs.declared.maker.Maker.{Maker}
 use Rattle.case_make.specs.Draws.{Drawn, drawn_as, several, drawn_length}
 use Rattle.case_make.specs.Made.{as_many, drawn, drawn_fields}
@@ -30,7 +30,8 @@ pub record Going (rest : ℕ → Drawn (List Val)) (all : Drawn (List Val)) (val
   pub state : (rest now.state).state ≡ all.state
   pub left : now.left + weigh_all values ≡ old.left
 
-pub going_on : (f : ℕ → Drawn Val) (more : ℕ → Drawn (List Val)) (all : Drawn (List Val)) (values : List Val) (v : Val) (old now new : Maker)
+pub going_on : (f : ℕ → Drawn Val) (more : ℕ → Drawn (List Val)) (all : Drawn (List Val)) (values : List Val) (v : Val)
+    (old now new : Maker)
     → Going (first f more) all values old now → IsMade weight now new (f now.state) v → Going more all (values ++ (v ∷ [])) old new
 going_on f more all values v old now new g m = record {
   value = append_assoc values (v ∷ []) (more new.state).value ∙ ap (λ z. values ++ (z ∷ (more new.state).value)) m.value
@@ -39,7 +40,8 @@ going_on f more all values v old now new g m = record {
   left = omega (arith, weights-append values (v ∷ []), g.left, m.left);
 }
 
-pub gone : (all : Drawn (List Val)) (values : List Val) (old now : Maker) → Going none all values old now → IsMade weigh_all old now all values
+pub gone : (all : Drawn (List Val)) (values : List Val) (old now : Maker) → Going none all values old now
+    → IsMade weigh_all old now all values
 gone all values old now g = record { value = sym (append-nil values) ∙ g.value; state = g.state; left = g.left }
 
 pub too_heavy : (f : ℕ → Drawn Val) (more : ℕ → Drawn (List Val)) (all : Drawn (List Val)) (values : List Val) (old now : Maker)
@@ -126,7 +128,8 @@ push_seen [] x = refl
 push_seen (y ∷ xs) x = ap (λ z. seen y ∷ z) (push_seen xs x)
 
 -- one more value
-pub pushed_on : (f : ℕ → Drawn Val) (more : ℕ → Drawn (List Val)) (all : Drawn (List Val)) (xs ys : List Value) (x : Value) (old now new : Maker)
+pub pushed_on : (f : ℕ → Drawn Val) (more : ℕ → Drawn (List Val)) (all : Drawn (List Val)) (xs ys : List Value) (x : Value)
+    (old now new : Maker)
     → ys ≡ xs ++ (x ∷ []) → Going (first f more) all (map seen xs) old now → IsMade weight now new (f now.state) (seen x)
     → Going more all (map seen ys) old new
 pushed_on f more all xs ys x old now new is g m =

@@ -45,7 +45,8 @@ impl Maker {
         requires { id < length mint.now }
         ensures ok { IfOk result
             (λ v. IsMade weight self.old self.new (drawn (type_at mint.now id) self.old.state) (seen v)) }
-        ensures heavy { IfErr result (λ e. e ≡ Stop.Heavy → IsTooHeavy weight self.old (drawn (type_at mint.now id) self.old.state)) }
+        ensures heavy { IfErr result (λ e. e ≡ Stop.Heavy → IsTooHeavy weight self.old
+            (drawn (type_at mint.now id) self.old.state)) }
     {
         let Some(node) = mint.node(id) else {
             unreachable!()
@@ -85,8 +86,11 @@ impl Maker {
         requires id { id < length mint.now }
         requires below { AreBelow id ids.now }
         ensures ok { IfOk result
-            (λ v. IsMade weigh_all self.old self.new (drawn_fields (fields_at (unfolded mint.now) ids.now) self.old.state) (map seen v)) }
-        ensures heavy { IfErr result (λ e. e ≡ Stop.Heavy → IsTooHeavy weigh_all self.old (drawn_fields (fields_at (unfolded mint.now) ids.now) self.old.state)) }
+            (λ v. IsMade weigh_all self.old self.new
+            (drawn_fields (fields_at (unfolded mint.now) ids.now) self.old.state)
+            (map seen v)) }
+        ensures heavy { IfErr result (λ e. e ≡ Stop.Heavy → IsTooHeavy weigh_all self.old
+            (drawn_fields (fields_at (unfolded mint.now) ids.now) self.old.state)) }
     {
         let mut values = Values::new(alloc);
         for field in ids.as_slice() {
@@ -108,8 +112,11 @@ impl Maker {
         requires id { id < length mint.now }
         requires below { item < id }
         ensures ok { IfOk result
-            (λ v. IsMade weigh_all self.old self.new (several (drawn (type_at mint.now item)) many self.old.state) (map seen v)) }
-        ensures heavy { IfErr result (λ e. e ≡ Stop.Heavy → IsTooHeavy weigh_all self.old (several (drawn (type_at mint.now item)) many self.old.state)) }
+            (λ v. IsMade weigh_all self.old self.new
+            (several (drawn (type_at mint.now item)) many self.old.state)
+            (map seen v)) }
+        ensures heavy { IfErr result (λ e. e ≡ Stop.Heavy → IsTooHeavy weigh_all self.old
+            (several (drawn (type_at mint.now item)) many self.old.state)) }
     {
         let mut values = Values::new(alloc);
         for _ in 0..many {
@@ -133,8 +140,13 @@ impl Maker {
         requires below { ArmsBelow id arms.now }
         requires other { IsBelow id other }
         ensures ok { IfOk result
-            (λ v. IsMade weight self.old self.new (drawn (choice_type (scalar_of tag.now) (arms_at (unfolded mint.now) arms.now other)) self.old.state) (seen v)) }
-        ensures heavy { IfErr result (λ e. e ≡ Stop.Heavy → IsTooHeavy weight self.old (drawn (choice_type (scalar_of tag.now) (arms_at (unfolded mint.now) arms.now other)) self.old.state)) }
+            (λ v. IsMade weight self.old self.new
+            (drawn (choice_type (scalar_of tag.now) (arms_at (unfolded mint.now) arms.now other))
+            self.old.state)
+            (seen v)) }
+        ensures heavy { IfErr result (λ e. e ≡ Stop.Heavy → IsTooHeavy weight self.old
+            (drawn (choice_type (scalar_of tag.now) (arms_at (unfolded mint.now) arms.now other))
+            self.old.state)) }
     {
         self.weigh(1)?;
         let n = self.tag(tag, arms);
@@ -157,8 +169,11 @@ impl Maker {
         requires below { ArmsBelow id arms.now }
         requires other { IsBelow id other }
         ensures ok { IfOk result
-            (λ v. IsMade weight self.old self.new (drawn_arm (arms_at (unfolded mint.now) arms.now other) n.now self.old.state) (seen v)) }
-        ensures heavy { IfErr result (λ e. e ≡ Stop.Heavy → IsTooHeavy weight self.old (drawn_arm (arms_at (unfolded mint.now) arms.now other) n.now self.old.state)) }
+            (λ v. IsMade weight self.old self.new
+            (drawn_arm (arms_at (unfolded mint.now) arms.now other) n.now self.old.state)
+            (seen v)) }
+        ensures heavy { IfErr result (λ e. e ≡ Stop.Heavy → IsTooHeavy weight self.old
+            (drawn_arm (arms_at (unfolded mint.now) arms.now other) n.now self.old.state)) }
     {
         match arm_of(arms, other, n) {
             Some(item) => self.value(alloc, mint, item),
@@ -172,8 +187,11 @@ impl Maker {
         requires id { id < length mint.now }
         requires below { item < id }
         ensures ok { IfOk result
-            (λ v. IsMade weight self.old self.new (drawn (maybe_type (type_at mint.now item)) self.old.state) (seen v)) }
-        ensures heavy { IfErr result (λ e. e ≡ Stop.Heavy → IsTooHeavy weight self.old (drawn (maybe_type (type_at mint.now item)) self.old.state)) }
+            (λ v. IsMade weight self.old self.new
+            (drawn (maybe_type (type_at mint.now item)) self.old.state)
+            (seen v)) }
+        ensures heavy { IfErr result (λ e. e ≡ Stop.Heavy → IsTooHeavy weight self.old
+            (drawn (maybe_type (type_at mint.now item)) self.old.state)) }
     {
         self.weigh(1)?;
         if self.draw(2) == 0 {
@@ -186,8 +204,11 @@ impl Maker {
     /// The octets of a text.
     fn text(&mut self, alloc: Global, count: Count) -> Result<Row, Stop>
         ensures ok { IfOk result
-            (λ v. IsMade weight self.old self.new (drawn_array (text count) self.old.state) (row v.kind v.numbers)) }
-        ensures heavy { IfErr result (λ e. e ≡ Stop.Heavy → IsTooHeavy weight self.old (drawn_array (text count) self.old.state)) }
+            (λ v. IsMade weight self.old self.new
+            (drawn_array (text count) self.old.state)
+            (row v.kind v.numbers)) }
+        ensures heavy { IfErr result (λ e. e ≡ Stop.Heavy → IsTooHeavy weight self.old
+            (drawn_array (text count) self.old.state)) }
     {
         let many = self.length(count);
         self.weigh(1 + u64::from(many))?;
@@ -201,8 +222,11 @@ impl Maker {
     /// The numbers of an array.
     fn row(&mut self, alloc: Global, kind: Kind, count: Count) -> Result<Row, Stop>
         ensures ok { IfOk result
-            (λ v. IsMade weight self.old self.new (drawn_array (row_of kind count) self.old.state) (row v.kind v.numbers)) }
-        ensures heavy { IfErr result (λ e. e ≡ Stop.Heavy → IsTooHeavy weight self.old (drawn_array (row_of kind count) self.old.state)) }
+            (λ v. IsMade weight self.old self.new
+            (drawn_array (row_of kind count) self.old.state)
+            (row v.kind v.numbers)) }
+        ensures heavy { IfErr result (λ e. e ≡ Stop.Heavy → IsTooHeavy weight self.old
+            (drawn_array (row_of kind count) self.old.state)) }
     {
         let many = self.length(count);
         self.weigh(1 + u64::from(many))?;

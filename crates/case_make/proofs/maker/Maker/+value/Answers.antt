@@ -1,15 +1,14 @@
-use Rattle.std.proofs.Common.{◌≡◌, ℕ, ◌+◌, ◌-◌, ◌<◌, List, map, drop, get_or, Err, IfOk, IfErr, sym, ap, ◌∙◌, subst, refl, arith, rules, FitsSigned}
+use Rattle.std.proofs.Common.{◌≡◌, ℕ, ◌+◌, ◌-◌, List, drop, get_or, Err, IfOk, IfErr, sym, ap, ◌∙◌, subst, refl, arith, rules, FitsSigned}
 use Rattle.std.specs.Int.{w128}
 use Rattle.std.proofs.lemmas.Int.{to_z-of_z}
 use Rattle.mint.specs.declared.value.Value.{Void}
-use Rattle.mint.specs.Blank.{blank_scalar}
-use Rattle.mint.specs.Types.{type_at, unfolded, fields_at, arms_at, scalar_of, at, level}
+use Rattle.mint.specs.Types.{type_at, unfolded, fields_at, at, level}
 use Rattle.mint.specs.Values.{Val, seen, weight}
 use Rattle.mint.proofs.Arms.{arm_below}
 use Rattle.mint.proofs.Seen.{seen-Void}
 use Rattle.case_make.specs.declared.maker.Stop.TheVariants.{Heavy}
 use Rattle.case_make.specs.Draws.{Drawn, several}
-use Rattle.case_make.specs.Made.{drawn, drawn_fields, drawn_arm}
+use Rattle.case_make.specs.Made.{drawn, drawn_fields}
 use Rattle.case_make.specs.Making.{IsMade, IsTooHeavy, weigh_all}
 use Rattle.case_make.proofs.Choosing.{arm_drawn, none_drawn, tagged_by, choice_made, choice_heavy}
 use Rattle.case_make.proofs.Weighing.{fields_next, items_on, pushed_on, too_heavy, items_heavy}

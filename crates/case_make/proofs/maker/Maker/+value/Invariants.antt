@@ -31,5 +31,6 @@ invariant-fields-loop-field l =
 
 abbrev pub invariant-items-loop : goal.invariant-items-loop
 invariant-items-loop l =
-    Going (several (drawn (type_at l.mint l.item)) (l.many - l.counter)) (several (drawn (type_at l.mint l.item)) l.many l.fn.self.state) (map seen l.values)
+    Going (several (drawn (type_at l.mint l.item)) (l.many - l.counter)) (several (drawn
+    (type_at l.mint l.item)) l.many l.fn.self.state) (map seen l.values)
     l.fn.self l.self

@@ -1,4 +1,4 @@
-use Rattle.std.proofs.Common.{◌≡◌, ◌<◌, length, Some, None, slice_get, ap, sym, ◌∙◌, rules, arith, FitsSigned}
+use Rattle.std.proofs.Common.{◌<◌, length, slice_get, ap, sym, ◌∙◌, rules, arith, FitsSigned}
 use Rattle.std.specs.Int.{w128}
 use Rattle.std.proofs.lemmas.Int.{to_z-of_z}
 use Rattle.case_make.specs.Draws.{below}
