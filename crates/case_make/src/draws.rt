@@ -1,5 +1,5 @@
 // Draws of numbers, lengths and labels, and what a value weighs.
-ghost use Rattle.std.specs.Prelude.{◌≡◌, ◌<◌, ◌≤◌, ◌+◌, ◌*◌, ◌%◌, ◌^◌, ◌∷◌, ◌++◌, map, pos, ◌-ℤ◌, length, OnOk, IfErr};
+ghost use Rattle.std.specs.Prelude.{◌≡◌, ◌<◌, ◌+◌, ◌*◌, ◌%◌, map, pos, ◌-ℤ◌, length, OnOk, IfErr};
 ghost use Rattle.mint.specs.Kinds.{IsInRange, under};
 ghost use Rattle.mint.specs.Types.{scalar_of};
 ghost use Rattle.mint.specs.Blank.{blank_scalar, first_of};

@@ -1,9 +1,9 @@
 // The text of code that receives.
-ghost use Rattle.std.specs.Prelude.{◌≡◌, ◌∷◌, [], ◌++◌, codes, List, ℕ, map, IfOk, OnOk};
+ghost use Rattle.std.specs.Prelude.{◌≡◌, ◌∷◌, [], codes, map, IfOk, OnOk};
 ghost use Rattle.kit_base.specs.Lines.{HasNoEnd};
-ghost use Rattle.cast_stub.specs.RecvBlock.{pass, op_seen, code_seen, cases_seen};
+ghost use Rattle.cast_stub.specs.RecvBlock.{pass, op_seen, code_seen};
 ghost use Rattle.stub_print.specs.Putting.{IsPut, IsRecvPut};
-ghost use Rattle.stub_print.specs.RecvText.{block_text, cases_text, recv_text, subs_text};
+ghost use Rattle.stub_print.specs.RecvText.{block_text, recv_text, subs_text};
 ghost use Rattle.stub_print.specs.Words.{line, numeral, path_word};
 
 use crate::gets::put_gets;

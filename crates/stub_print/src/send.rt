@@ -1,9 +1,9 @@
 // The text of code that sends.
-ghost use Rattle.std.specs.Prelude.{◌≡◌, ◌∷◌, [], ◌++◌, codes, List, ℕ, map, IfOk, OnOk};
+ghost use Rattle.std.specs.Prelude.{◌≡◌, ◌∷◌, [], codes, map, IfOk, OnOk};
 ghost use Rattle.kit_base.specs.Lines.{HasNoEnd};
-ghost use Rattle.cast_stub.specs.Block.{chunk, op_seen, code_seen, cases_seen};
+ghost use Rattle.cast_stub.specs.Block.{chunk, op_seen, code_seen};
 ghost use Rattle.stub_print.specs.Putting.{IsPut, IsSendPut};
-ghost use Rattle.stub_print.specs.SendText.{block_text, cases_text, send_text, subs_text};
+ghost use Rattle.stub_print.specs.SendText.{block_text, send_text, subs_text};
 ghost use Rattle.stub_print.specs.Words.{line, numeral, order_word};
 
 use crate::lines::{
