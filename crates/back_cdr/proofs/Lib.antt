@@ -1,9 +1,20 @@
+-- The proofs, each after those that it uses; * marks those that the proofs of functions use.
+
+-- * Each operation of a bound unit is one that requests name, and they are few
 pub mod Counting
+-- * A head as chunks appends its octets
 pub mod Coding
+-- * Fields that are put after octets depend on the length of these alone, so the id may be put in later
 pub mod Growing
+-- * The operation at a place among those of all interfaces
 pub mod Naming
+-- Octets that are known by another name
 pub mod Along
+-- * The operations that are named are among those that there are, and are found from left to right
 pub mod NamedBelow
+-- A message has one head of a request or one first fault of it, over a binding too
 pub mod Heading
+-- * The operation that a request names has its key and its name
 pub mod NamedRight
+-- The operation that a request names is the one of its name, of the interface whose name is the key
 pub mod NamedBy

@@ -1,4 +1,10 @@
+-- The proofs, each after those that it uses; * marks those that the proofs of functions use.
+
+-- * The arm that is drawn is the one that is found
 pub mod Choosing
+-- * What is drawn: numbers in range, lengths that are allowed, and one of several
 pub mod Drawing
+-- * What is drawn for a sound type is of it
 pub mod Typing
+-- * Values made one after the other
 pub mod Weighing

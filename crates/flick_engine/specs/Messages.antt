@@ -16,4 +16,3 @@ parts b op head v = lead b op head ++ send (encoding b.back) (request_type b op)
 -- octets, and a value of a node at the position after them
 abbrev pub with_value : Binding → List ℕ → ℕ → Val → List ℕ
 with_value b o id v = o ++ send (encoding b.back) (type_at b.nodes id) (length o) v
-

@@ -14,6 +14,7 @@ use crate::reply_leads::{
 use back_mach::routines::routine_of;
 use call_kit::Called;
 use kit_base::NoMemory;
+use op_codes::encoding_of;
 use raw_buf::SendBuf;
 use std::alloc::Global;
 use wire_def::{Back, Encoding, Head, HeadErr, Order, ReplyHead};
@@ -43,12 +44,7 @@ impl Engine {
     pub(crate) fn encoding(&self) -> Encoding
         ensures { result ≡ encoding self.now.binding.back }
     {
-        match self.bound().back() {
-            Back::Xdr => back_xdr::ENCODING,
-            Back::CdrBig => Encoding::CdrBig,
-            Back::CdrLittle => Encoding::CdrLittle,
-            Back::Mach => back_mach::ENCODING,
-        }
+        encoding_of(self.bound().back())
     }
 
     /// Tells the length of a message that is whole, where its head tells it.

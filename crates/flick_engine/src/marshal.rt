@@ -18,8 +18,8 @@ use mint::table::NodeId;
 use mint::value::Value;
 use plain_wire::plain_send;
 use raw_buf::SendBuf;
-use stub_machine::SendErr;
 use std::alloc::Global;
+use stub_machine::SendErr;
 use wire_def::Head;
 
 impl Engine {

@@ -96,7 +96,7 @@ fn digits_of(
         (message engine.now.binding record.now.op record.now.head (seen record.now.value))) }
     ensures spent { NoneFell buf.old.spent buf.new.spent }
 {
-    match engine.marshal(alloc, record.op, &record.head, &record.value, buf) {
+    match engine.marshal(record.op, &record.head, &record.value, buf) {
         Ok(()) => copied(alloc, hex::encode(alloc, buf.octets())?.as_bytes()),
         Err(MarshalErr::Long) => copied(alloc, b"! long"),
         Err(MarshalErr::NoMemory) => Err(NoMemory),

@@ -1,29 +1,60 @@
-pub mod Bounds
-pub mod Covered
-pub mod EnsuredRows
+-- The proofs, each after those that it uses; * marks those that the proofs of functions use.
+
+-- A chunk has as many octets as it says
 pub mod Filled
-pub mod Grouping
-pub mod Heavy
-pub mod InStep
-pub mod Keeping
-mod Least
-pub mod Light
-pub mod Nodes
-pub mod OnWay
-pub mod Passing
-pub mod Planned
-pub mod Promised
-pub mod Quiet
-pub mod Reversed
-pub mod Rooms
-pub mod Rowless
-pub mod SpanSizes
-pub mod Sparing
-pub mod Sparse
-pub mod Standing
-pub mod Taken
+-- The parts of a value of a type are of the types of the parts
 pub mod TypedParts
-pub mod Ways
+-- * A block appends at most its bound
+pub mod Bounds
+-- Room for steps, by what they append
+pub mod Rooms
+-- * Hoisted code has room for all that it appends
+pub mod Covered
+-- * Hoisted code ensures nothing within a loop over a row or text
+pub mod Sparse
+-- * Hoisted code ensures each big row by the length of its list
+pub mod EnsuredRows
+-- Groups of parts, by the octets that fill them
+pub mod Grouping
+-- What hoisted code ensures, weighed against groups of parts
 pub mod Weighing
+-- Code that goes through a type ensures nothing, and is bounded where the type is
+pub mod Quiet
+-- The way to a field, and bounds of code that goes through a type
+pub mod Ways
+-- What the code of a small part adds
+pub mod Light
+-- What the parts of a type are, and where a row is pending
+pub mod Standing
+-- Hoisted code looks at the buffer at most once for each group of parts
+pub mod Heavy
+-- * Bodies in step with arms; operations of code that is taken
+pub mod InStep
+-- * Hoisted code makes the same steps, but for the room that it ensures
+pub mod Keeping
+-- * The least of eight
+mod Least
+-- * Nodes of parts, and bounds of operations before others
+pub mod Nodes
+-- * Steps of the way to a part
+pub mod OnWay
+-- * One operation more before a reversed code
+pub mod Reversed
+-- * Operations put before code that was visited
+pub mod Passing
+-- Plans by the roles of operations and the bounds of their bodies
+pub mod Planned
+-- * Spans are sizes that belong together
+pub mod SpanSizes
+-- * Code between a lead and a patch
+pub mod Sparing
+-- * Code that goes through a type is taken
+pub mod Taken
+-- * What the pass promises, of code that is the given one hoisted
+pub mod Promised
+-- * Code without row operations stays without them
+pub mod Rowless
+-- Codes hoisted by hand, and regions counted by hand
 pub mod Worked
+-- Sizes over XDR, worked out by hand
 pub mod WorkedSizes

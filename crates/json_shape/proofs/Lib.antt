@@ -1,16 +1,34 @@
+-- The proofs, each after those that it uses; * marks those that the proofs of functions use.
+
+-- * The arm that is found among the arms of a choice
 pub mod Arms
+-- * The image of a row whose numbers are octets is these octets
 pub mod Blocks
-pub mod Deciding
-pub mod Fields
-pub mod Items
-pub mod Letters
-pub mod Lookups
-pub mod Naming
-pub mod Sources
+-- * Values that may be there
 pub mod Options
-pub mod Passing
-pub mod ReadBack
-pub mod Seen
+-- * What a tree shows is what is read of it
 pub mod Shown
-pub mod Written
+-- * A value is well typed or it is not; so a tree presents a value or none
+pub mod Deciding
+-- * Members of JSON trees, as the lists that the program walks
+pub mod Lookups
+-- * One more field or element
+pub mod Fields
+-- * Items of arrays, one behind the other
+pub mod Items
+-- * The characters of a string, one by one
+pub mod Letters
+-- Numbers, items, texts and rows that are written are read
 pub mod WrittenScalars
+-- * The tree that is written for a value shows it
+pub mod Written
+-- * The faces of nodes with their shapes have different names
+pub mod Naming
+-- * Names and exceptions of operations
+pub mod Sources
+-- * Strings that begin with the string of octets
+pub mod Passing
+-- * Request records that are written are read back
+pub mod ReadBack
+-- * Values that are made, as they are seen
+pub mod Seen

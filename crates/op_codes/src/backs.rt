@@ -13,7 +13,7 @@ use std::alloc::Global;
 use wire_def::{Back, Encoding};
 
 /// How the bodies of messages that are sent are laid out.
-pub(crate) fn encoding_of(back: Back) -> Encoding
+pub fn encoding_of(back: Back) -> Encoding
     ensures { result ≡ encoding back }
 {
     match back {

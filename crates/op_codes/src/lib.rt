@@ -15,6 +15,7 @@ mod send;
 mod sending;
 mod stub;
 
+pub use backs::encoding_of;
 pub use codes::Codes;
 pub use laws::bodies_are_taken;
 pub use stub::{Stub, Stubs};

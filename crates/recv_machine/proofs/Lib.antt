@@ -1,12 +1,26 @@
-pub mod Becoming
-pub mod Blocking
-pub mod Digits
+-- The proofs, each after those that it uses; * marks those that the proofs of functions use.
+
+-- * Drafts by their variants, and parts that are taken out, changed and put back
 pub mod Drafting
-pub mod Getting
-pub mod Images
-pub mod Looking
-pub mod Over
-pub mod Running
-pub mod Sizing
-pub mod Skipping
+-- * Drafts that have become values
+pub mod Becoming
+-- A number of a row stays one of the row's numbers
+pub mod Digits
+-- * What is done to a part of a draft: it is taken out, changed and put back
 pub mod Within
+-- * Operations that are run, one after the other
+pub mod Running
+-- * The numbers of a row as a block
+pub mod Blocking
+-- * Numbers that are put into drafts
+pub mod Getting
+-- * The numbers of a row are those of its image
+pub mod Images
+-- * Parts of drafts that are looked at
+pub mod Looking
+-- * What loops over drafts go over
+pub mod Over
+-- * How many operations are in a code: the measure of a run
+pub mod Sizing
+-- * Octets that are passed up to a multiple
+pub mod Skipping

@@ -1,6 +1,14 @@
+-- The proofs, each after those that it uses; * marks those that the proofs of functions use.
+
+-- * Lists of eight
 pub mod Eights
-pub mod Powers
+-- Lengths by the remainder of the position
 pub mod Residues
+-- * Lengths of many parts, by halves
+pub mod Powers
+-- Lengths of wholes, from those of their parts
 pub mod Within
+-- * What is sent has a length that the span of its type allows
 pub mod Sent
+-- * One more arm before the others
 pub mod Known

@@ -1,25 +1,52 @@
+-- The proofs, each after those that it uses; * marks those that the proofs of functions use.
+
+-- One operation more after a code
 pub mod Adding
+-- When a run gives what a reader gives
 pub mod Agreeing
+-- * Code that is made piece by piece
 pub mod Building
-pub mod Cdr
-pub mod Encoded
-pub mod Exact
-pub mod Following
-pub mod Mach
-pub mod Receiving
-pub mod RecvArrays
-pub mod RecvBuilding
-pub mod RecvDesc
-pub mod RecvEncoded
-pub mod RecvItems
-pub mod RecvMach
-pub mod RecvCdr
-pub mod RecvCdrArrays
-pub mod RecvPass
-pub mod RecvWhole
-pub mod Sending
-pub mod Tracing
-pub mod UnitLaws
-pub mod Whole
+-- The octets of a number, as a put stores it and as it is sent
 pub mod Words
+-- What steps append, piece by piece
 pub mod Writing
+-- What an encoding's leaves append: a scalar, a count, an array
+pub mod Encoded
+-- What the leaves of CDR append: numbers after their alignment, texts that end, rows
+pub mod Cdr
+-- A run that gives what the reader gives is exact
+pub mod Exact
+-- The code of a node goes through its type in order
+pub mod Following
+-- What an encoding's leaves read: a scalar, a count
+pub mod RecvEncoded
+-- What an item of a Mach message reads
+pub mod RecvItems
+-- Units of Mach messages, and so many elements of so many octets
+pub mod UnitLaws
+-- What the leaves of Mach messages append: items, descriptors, rows and texts
+pub mod Mach
+-- What the code of a row or text reads, and that of XDR
+pub mod RecvArrays
+-- Where a scalar by itself passes a test: over each encoding the test may as well come last
+pub mod RecvPass
+-- The code of a node reads its values, over those of its parts
+pub mod Receiving
+-- * Code that is made piece by piece
+pub mod RecvBuilding
+-- What the descriptors of rows and texts of Mach messages read
+pub mod RecvDesc
+-- What the leaves of CDR read: numbers after their alignment, texts that end, rows
+pub mod RecvCdr
+-- What the code of a row or text reads in a Mach message
+pub mod RecvMach
+-- What the code of a row or text reads over CDR
+pub mod RecvCdrArrays
+-- The code of a node that receives goes through its type in order
+pub mod Tracing
+-- The code of a node sends its values, over those of its parts
+pub mod Sending
+-- * The codes of a whole table
+pub mod Whole
+-- * The codes of a whole table that receive
+pub mod RecvWhole
