@@ -27,7 +27,8 @@ module _ (e : Encoding) (t : Ty) (p : ℕ) (o : List ℕ) where
   same_value v w q r a b x first second = let same = sym first ∙ second in (cc, cc)
 
   -- a run that is exact, over octets that begin with a value's
-  gives_it : (v : Val) (used : ℕ) (x : Run Val) → BeginsWith e t p o v used → IsExact e t p o x → (tests : ℕ) × (told x ≡ given v (p + used) tests)
+  gives_it : (v : Val) (used : ℕ) (x : Run Val) → BeginsWith e t p o v used → IsExact e t p o x
+      → (tests : ℕ) × (told x ≡ given v (p + used) tests)
   gives_it v used (gives w s) begins exact =
       let same = same_value v w (p + used) (p + exact.0) _ _ (read e t p o) (reads v used begins) (reads w exact.0 exact.3) in
       (s.tests, ap (λ (y : Val). given y s.pos s.tests) (sym same.0) ∙ ap (λ (q : ℕ). given v q s.tests) (exact.1 ∙ sym same.1))

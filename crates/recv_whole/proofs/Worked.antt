@@ -21,9 +21,11 @@ pairs = items_type (AtMost 2) (group_type (field (scalar_type (number I32)) (fie
 
 abbrev pairs_code : Recv
 pairs_code =
-    need 4 (pass 4 (get.Count 0 [] 1 0 4 Big ∷ []) (each [] (need 4 (pass 4 (get.Num 0 (0 ∷ []) 4 Big ∷ []) (need 4 (pass 4 (get.Num 0 (1 ∷ []) 4 Big ∷ []) finish)))) finish))
+    need 4 (pass 4 (get.Count 0 [] 1 0 4 Big ∷ [])
+    (each [] (need 4 (pass 4 (get.Num 0 (0 ∷ []) 4 Big ∷ []) (need 4 (pass 4 (get.Num 0 (1 ∷ []) 4 Big ∷ []) finish)))) finish))
 
-a_list : gives_of pairs pairs_code 0 (0 ∷ 0 ∷ 0 ∷ 1 ∷ 0 ∷ 0 ∷ 0 ∷ 7 ∷ 255 ∷ 255 ∷ 255 ∷ 254 ∷ 9 ∷ []) ≡ given (items (val (group (val (num (pos 7)) (val (num (negsuc 1)) no_more))) no_more)) 12 3
+a_list : gives_of pairs pairs_code 0 (0 ∷ 0 ∷ 0 ∷ 1 ∷ 0 ∷ 0 ∷ 0 ∷ 7 ∷ 255 ∷ 255 ∷ 255 ∷ 254 ∷ 9 ∷ [])
+    ≡ given (items (val (group (val (num (pos 7)) (val (num (negsuc 1)) no_more))) no_more)) 12 3
 a_list = refl
 
 above_its_bound : gives_of pairs pairs_code 0 (0 ∷ 0 ∷ 0 ∷ 3 ∷ 0 ∷ 0 ∷ 0 ∷ 7 ∷ 255 ∷ 255 ∷ 255 ∷ 254 ∷ 9 ∷ []) ≡ not_given
@@ -43,11 +45,13 @@ numbers = array_type (row_of I32 Any)
 abbrev item : Recv
 item = desc [] 2 32 1 (need_row [] 4 0 (row_block [] Little finish))
 
-short_form : gives_of numbers item 4 (2 ∷ 32 ∷ 2 ∷ 16 ∷ 7 ∷ 0 ∷ 0 ∷ 0 ∷ 254 ∷ 255 ∷ 255 ∷ 255 ∷ []) ≡ given (row I32 (pos 7 ∷ negsuc 1 ∷ [])) 16 2
+short_form : gives_of numbers item 4 (2 ∷ 32 ∷ 2 ∷ 16 ∷ 7 ∷ 0 ∷ 0 ∷ 0 ∷ 254 ∷ 255 ∷ 255 ∷ 255 ∷ [])
+    ≡ given (row I32 (pos 7 ∷ negsuc 1 ∷ [])) 16 2
 short_form = refl
 
 -- the long form, whose first word holds more that is not looked at
-long_form : gives_of numbers item 0 (1 ∷ 2 ∷ 3 ∷ 48 ∷ 2 ∷ 0 ∷ 32 ∷ 0 ∷ 1 ∷ 0 ∷ 0 ∷ 0 ∷ 7 ∷ 0 ∷ 0 ∷ 0 ∷ []) ≡ given (row I32 (pos 7 ∷ [])) 16 3
+long_form : gives_of numbers item 0 (1 ∷ 2 ∷ 3 ∷ 48 ∷ 2 ∷ 0 ∷ 32 ∷ 0 ∷ 1 ∷ 0 ∷ 0 ∷ 0 ∷ 7 ∷ 0 ∷ 0 ∷ 0 ∷ [])
+    ≡ given (row I32 (pos 7 ∷ [])) 16 3
 long_form = refl
 
 another_name : gives_of numbers item 0 (1 ∷ 32 ∷ 1 ∷ 16 ∷ 7 ∷ 0 ∷ 0 ∷ 0 ∷ []) ≡ not_given
@@ -60,12 +64,15 @@ another_size = refl
 another_form : gives_of numbers item 0 (2 ∷ 32 ∷ 1 ∷ 80 ∷ 7 ∷ 0 ∷ 0 ∷ 0 ∷ []) ≡ not_given
 another_form = refl
 
--- three units are no whole number of 64-bit numbers
-half_a_number : gives_of (array_type (row_of I64 Any)) (desc [] 2 32 2 (need_row [] 8 0 (row_block [] Little finish))) 0 (2 ∷ 32 ∷ 3 ∷ 16 ∷ 7 ∷ 0 ∷ 0 ∷ 0 ∷ 0 ∷ 0 ∷ 0 ∷ 0 ∷ 0 ∷ 0 ∷ 0 ∷ 0 ∷ []) ≡ not_given
+-- three units are not a whole number of 64-bit numbers
+half_a_number : gives_of (array_type (row_of I64 Any)) (desc [] 2 32 2 (need_row [] 8 0 (row_block [] Little finish))) 0
+    (2 ∷ 32 ∷ 3 ∷ 16 ∷ 7 ∷ 0 ∷ 0 ∷ 0 ∷ 0 ∷ 0 ∷ 0 ∷ 0 ∷ 0 ∷ 0 ∷ 0 ∷ 0 ∷ [])
+    ≡ not_given
 half_a_number = refl
 
 -- short numbers in four octets each, which have to be in range
-wide : gives_of (array_type (row_of I16 (Exactly 2))) (need 8 (row_wide [] Big finish)) 0 (0 ∷ 0 ∷ 0 ∷ 7 ∷ 255 ∷ 255 ∷ 255 ∷ 254 ∷ []) ≡ given (row I16 (pos 7 ∷ negsuc 1 ∷ [])) 8 1
+wide : gives_of (array_type (row_of I16 (Exactly 2))) (need 8 (row_wide [] Big finish)) 0 (0 ∷ 0 ∷ 0 ∷ 7 ∷ 255 ∷ 255 ∷ 255 ∷ 254 ∷ [])
+    ≡ given (row I16 (pos 7 ∷ negsuc 1 ∷ [])) 8 1
 wide = refl
 
 too_wide : gives_of (array_type (row_of I16 (Exactly 1))) (need 4 (row_wide [] Big finish)) 0 (0 ∷ 1 ∷ 0 ∷ 7 ∷ []) ≡ not_given

@@ -19,9 +19,11 @@ use Rattle.cast_stub.specs.Runs.{Place}
 abbrev pub Sends : Encoding → Ty → SendCode → Type 0
 Sends e t code = (h : Head) (v : Val) (p : ℕ) → IsPlace e p → IsWellTyped t v → meaning code h v p ≡ Some (send e t p v)
 
--- the value of such octets, which any others may follow, is given, and the run stands after them
+-- the value of such octets, which any others may follow, is given, and the run is after them
 abbrev pub WhatIsSentIsReceived : Type 0
-WhatIsSentIsReceived = (e : Encoding) (t : Ty) (sends : SendCode) (receives : RecvCode) → Sends e t sends → IsSoundCode e t (IsPlace e) receives
-    → (h : Head) (v : Val) (s : Place) (octets rest : List ℕ) → IsPlace e s.pos → IsWellTyped t v → meaning sends h v s.pos ≡ Some octets → s.left ≡ octets ++ rest
+WhatIsSentIsReceived = (e : Encoding) (t : Ty) (sends : SendCode) (receives : RecvCode) → Sends e t sends
+    → IsSoundCode e t (IsPlace e) receives
+    → (h : Head) (v : Val) (s : Place) (octets rest : List ℕ) → IsPlace e s.pos → IsWellTyped t v → meaning sends h v s.pos ≡ Some octets
+    → s.left ≡ octets ++ rest
     → AreOctets s.left → s.pos + length s.left ≤ longest_message
     → (tests : ℕ) × (got_by receives t s ≡ given v (s.pos + length octets) tests)

@@ -2,7 +2,7 @@
 ghost use Rattle.recv_whole.specs.RoundTrip.{WhatIsSentIsReceived};
 
 /// Sound code that receives gives back the value whose octets code that sends has appended, whatever
-/// follows them, and stands after them.
+/// follows them, and is after them.
 pub fn what_is_sent_is_received()
     ensures { WhatIsSentIsReceived }
 {}

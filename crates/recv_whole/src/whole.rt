@@ -47,7 +47,7 @@ fn octets_of(octets: &[u8]) -> &[u8]
     &octets[0..]
 }
 
-// The octets that are left, and that there are no fewer than the place says.
+// The octets that are left, and that there are at least as many as the place says.
 fn rest_of<'a>(view: &RecvView<'a>) -> &'a [u8]
     ensures octets { AreOctets (drop view.now.pos view.now.octets) }
     ensures within { view.now.pos ≤ length view.now.octets }
