@@ -1,7 +1,7 @@
 // How many operations a code has.
 use cast_stub::{SendOp, SendOps};
 
-/// How deep operations stand within one another at most that are counted.
+/// How deep the operations that are counted are nested at most.
 const NESTED: u32 = 256;
 
 /// The number of operations, those of bodies with them.

@@ -41,6 +41,7 @@ pub enum Step {
     Read,
 }
 
+/// The step of a word of the command line.
 pub fn step_of(word: &str) -> Option<Step> {
     match word {
         "make" => Some(Step::Make),
@@ -61,6 +62,7 @@ pub enum Matter {
     Text,
 }
 
+/// What a row is of, by a word of the command line.
 pub fn matter_of(word: &str) -> Option<Matter> {
     match word {
         "ints" => Some(Matter::Ints),

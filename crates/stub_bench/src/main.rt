@@ -42,7 +42,7 @@ fn pass_of(word: &str) -> Option<Pass> {
     }
 }
 
-/// The numbers of operations behind each pass, 0 where it was not made.
+/// The numbers of operations after each pass, 0 where it was not made.
 #[derive(Clone, Copy)]
 struct Operations {
     lowered: u64,

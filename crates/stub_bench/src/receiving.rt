@@ -25,6 +25,7 @@ pub enum Reading {
     Walk,
 }
 
+/// What is done, by a word of the command line.
 pub fn reading_of(word: &str) -> Option<Reading> {
     match word {
         "prepare" => Some(Reading::Prepare),
@@ -41,10 +42,11 @@ pub enum Content {
     Ints,
     /// A list of structs of four `int`, of so many `int`.
     Structs,
-    /// So many octets, in front of which the greatest count stands for a row of `int`.
+    /// So many octets, and before them the greatest count, as if a row of `int` came.
     Claim,
 }
 
+/// What a message holds, by a word of the command line.
 pub fn content_of(word: &str) -> Option<Content> {
     match word {
         "ints" => Some(Content::Ints),

@@ -22,6 +22,7 @@ pub enum Shape {
     Arms,
 }
 
+/// The type of a word of the command line.
 pub fn shape_of(word: &str) -> Option<Shape> {
     match word {
         "fields" => Some(Shape::Fields),

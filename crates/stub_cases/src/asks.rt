@@ -80,7 +80,7 @@ pub fn value_at(alloc: Global, row: &Json, table: &Mint, id: NodeId) -> Result<V
     }
 }
 
-/// The position at which a value begins, 0 where none is told.
+/// The position at which a value begins, 0 where none is given.
 pub fn place_of(row: &Json) -> Result<usize, Bad>
     ensures { IfOk result (λ at. at ≤ 4194304) }
 {

@@ -27,7 +27,7 @@ use storage_class::{Classes, classify};
 use stub_lower::lower;
 use stub_machine::{SendErr, run_send};
 
-/// The head in front of a value.
+/// The head before a value.
 fn lead_of(alloc: Global, row: &Json) -> Result<SendCode, Bad>
     ensures { IfOk result IsLead }
 {

@@ -7,13 +7,15 @@ use mint::table::Mint;
 use serde_json::Value as Json;
 use std::alloc::Global;
 
-/// What the nodes of a case came to.
+/// What became of the nodes of a case.
 pub enum Made {
+    /// The table of them all.
     Table(Mint),
     /// The first that is refused, by its place.
     Refused(MintErr, usize),
 }
 
+/// The kind of a number, by its name: `"i32"`.
 pub fn kind_of(json: &Json) -> Result<Kind, Bad> {
     match json.as_str() {
         Some("octet") => Ok(Kind::Octet),

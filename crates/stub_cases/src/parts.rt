@@ -8,7 +8,7 @@ use std::alloc::{AllocError, Global};
 /// Why a case has no answer.
 #[derive(Clone, Copy, Debug)]
 pub enum Bad {
-    /// The row is none of the forms.
+    /// The row has none of the forms.
     Row(&'static str),
     /// No memory was there.
     NoMemory,

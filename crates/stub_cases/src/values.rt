@@ -7,7 +7,7 @@ use mint::value::{Value, Values};
 use serde_json::Value as Json;
 use std::alloc::Global;
 
-/// How deep values stand within one another at most.
+/// How deep values are nested at most.
 const DEEPEST: u32 = 40;
 
 /// A row of numbers.

@@ -22,6 +22,7 @@ pub fn put_token(alloc: Global, out: &mut String, token: &Token) -> Result<(), B
     }
 }
 
+/// Octets of a name or a mark, each as the character of its code.
 pub fn put_octets(out: &mut String, octets: &[u8]) -> Result<(), Bad> {
     for octet in octets {
         out.push(char::from(*octet))?;
@@ -29,6 +30,7 @@ pub fn put_octets(out: &mut String, octets: &[u8]) -> Result<(), Bad> {
     Ok(())
 }
 
+/// A number by its decimal digits.
 fn put_number(alloc: Global, out: &mut String, n: i128) -> Result<(), Bad> {
     let digits = format!(in alloc; "{n}")?;
     out.push_str(digits.as_str())?;
@@ -53,6 +55,7 @@ fn put_text(alloc: Global, out: &mut String, codes: &[u8]) -> Result<(), Bad> {
     Ok(())
 }
 
+/// A scoped name: its parts with `::` between them, and before the first where it is absolute.
 pub fn put_name(out: &mut String, name: &ScopedName) -> Result<(), Bad> {
     let mut is_first = !name.absolute;
     for part in name.parts.as_slice() {
@@ -137,6 +140,7 @@ fn simple_word(simple: Simple) -> &'static str {
     }
 }
 
+/// An integer type by its keyword, with `unsigned-` before it where it has no sign.
 pub fn put_int(out: &mut String, int: &Int) -> Result<(), Bad> {
     if int.unsigned {
         out.push_str("unsigned-")?;
