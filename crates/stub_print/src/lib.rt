@@ -14,6 +14,3 @@ mod words;
 pub use laws::{recv_texts_tell_their_codes, send_texts_tell_their_codes, texts_are_apart};
 pub use recv::print_recv;
 pub use send::print_send;
-
-#[cfg(test)]
-mod tests;
