@@ -1,0 +1,93 @@
+// `! head`, `! interface` and `! operation` of messages: the octets that they are said of.
+use crate::octets::octets_told;
+use crate::text::shown;
+use kit_base::NoMemory;
+use pres::Bound;
+use std::alloc::Global;
+use wire_def::Back;
+
+/// How many interfaces are listed.
+const LISTED: usize = 8;
+
+/// The octets that a fault of a head is said of: the first, and the one after the last.
+pub fn head_octets(back: Back, word: &[u8]) -> (usize, usize) {
+    match back {
+        Back::Xdr => call_octets(word),
+        Back::CdrBig | Back::CdrLittle => giop_octets(word),
+        Back::Mach => mach_octets(word),
+    }
+}
+
+/// Those of an ONC call.
+fn call_octets(word: &[u8]) -> (usize, usize) {
+    match word {
+        b"Type" => (4, 8),
+        b"Version" => (8, 12),
+        b"Cred" | b"Pad" => (24, 48),
+        _ => (0, 0),
+    }
+}
+
+/// Those of a GIOP request.
+fn giop_octets(word: &[u8]) -> (usize, usize) {
+    match word {
+        b"Magic" => (0, 4),
+        b"Version" => (4, 6),
+        b"Order" => (6, 7),
+        b"Type" => (7, 8),
+        b"Size" => (8, 12),
+        _ => (0, 0),
+    }
+}
+
+/// Those of a Mach message.
+fn mach_octets(word: &[u8]) -> (usize, usize) {
+    match word {
+        b"Complex" => (0, 4),
+        b"Size" => (4, 8),
+        _ => (0, 0),
+    }
+}
+
+/// What a head is said to have, for a word.
+pub fn head_told(
+    alloc: Global,
+    back: Back,
+    word: &[u8],
+    message: &[u8],
+) -> Result<String, NoMemory> {
+    let (first, end) = head_octets(back, word);
+    octets_told(alloc, message, first, end)
+}
+
+/// What a message names in place of an interface of the file.
+pub fn interface_told(alloc: Global, bound: &Bound, message: &[u8]) -> Result<String, NoMemory> {
+    let mut out = match bound.back() {
+        Back::Xdr => octets_told(alloc, message, 12, 20)?,
+        Back::CdrBig | Back::CdrLittle => octets_told(alloc, message, 12, 64)?,
+        Back::Mach => octets_told(alloc, message, 20, 24)?,
+    };
+    out.push_str("; the file has")?;
+    let mut between = " ";
+    let interfaces = bound.unit().interfaces().as_slice();
+    for interface in &interfaces[..interfaces.len().min(LISTED)] {
+        out.push_str(between)?;
+        let name = shown(alloc, interface.name.as_slice())?;
+        let text = format!(in alloc;
+            "{name} (program {}, version {}, id {})",
+            interface.program, interface.version, interface.base
+        )?;
+        out.push_str(text.as_str())?;
+        between = ", ";
+    }
+    Ok(out)
+}
+
+/// What a message names in place of an operation.
+pub fn operation_told(alloc: Global, back: Back, message: &[u8]) -> Result<String, NoMemory> {
+    match back {
+        Back::Xdr => octets_told(alloc, message, 20, 24),
+        Back::CdrBig | Back::CdrLittle => octets_told(alloc, message, 12, 64),
+        Back::Mach => octets_told(alloc, message, 20, 24),
+    }
+}

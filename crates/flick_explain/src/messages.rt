@@ -1,0 +1,111 @@
+// What is said of a line of the input that was refused.
+use crate::bodies::part_told;
+use crate::heads::{head_told, interface_told, operation_told};
+use crate::misfits::misfit;
+use crate::octets::{around, digits_told, message_of, octets_told};
+use crate::records::{json_of, json_told, op_of, op_told, request_told};
+use crate::refusals::Refusal;
+use crate::text::{number_in, text_of};
+use kit_base::NoMemory;
+use pres::Bound;
+use serde_json::Value as Json;
+use std::alloc::Global;
+
+/// What a refused line has, where it is given.
+pub fn detail(
+    alloc: Global,
+    bound: &Bound,
+    refusal: &Refusal<'_>,
+    line: &[u8],
+) -> Result<String, NoMemory> {
+    match refusal.word {
+        b"long" => Ok(format!(in alloc; "the line has {} octets", line.len())?),
+        b"json" => json_told(alloc, line),
+        b"request" | b"op" | b"value" => match json_of(alloc, line)? {
+            Some(json) => record_detail(alloc, bound, refusal, &json),
+            None => text_of(alloc, "the line is not JSON"),
+        },
+        b"hex" => digits_told(alloc, line),
+        b"head" if !refusal.has_kind() => text_of(alloc, "the member 'local' is not 0"),
+        _ => match message_of(alloc, line)? {
+            Some(message) => message_detail(alloc, bound, refusal, message.as_slice()),
+            None => text_of(alloc, "the line is not a message"),
+        },
+    }
+}
+
+/// What a record has that was refused.
+fn record_detail(
+    alloc: Global,
+    bound: &Bound,
+    refusal: &Refusal<'_>,
+    json: &Json,
+) -> Result<String, NoMemory> {
+    match refusal.word {
+        b"request" => request_told(alloc, bound.back(), json),
+        b"op" => op_told(alloc, bound, json),
+        _ => value_detail(alloc, bound, json),
+    }
+}
+
+/// Where the arguments of a record present no value.
+fn value_detail(alloc: Global, bound: &Bound, json: &Json) -> Result<String, NoMemory> {
+    let Some(op) = op_of(alloc, bound, json)? else {
+        return op_told(alloc, bound, json);
+    };
+    match json.get("args") {
+        Some(args) => misfit(alloc, bound, op.request, args),
+        None => {
+            let none = Json::Array(Vec::new(alloc));
+            misfit(alloc, bound, op.request, &none)
+        }
+    }
+}
+
+/// What a message has that was refused.
+fn message_detail(
+    alloc: Global,
+    bound: &Bound,
+    refusal: &Refusal<'_>,
+    message: &[u8],
+) -> Result<String, NoMemory> {
+    match refusal.word {
+        b"head" => head_told(alloc, bound.back(), refusal.kind, message),
+        b"interface" => interface_told(alloc, bound, message),
+        b"operation" => operation_told(alloc, bound.back(), message),
+        b"body" => body_detail(alloc, bound, refusal, message),
+        _ => trailing_detail(alloc, refusal, message),
+    }
+}
+
+/// The part that an octet of the body belongs to, and the octets around it.
+fn body_detail(
+    alloc: Global,
+    bound: &Bound,
+    refusal: &Refusal<'_>,
+    message: &[u8],
+) -> Result<String, NoMemory> {
+    let path = part_told(alloc, bound, message)?;
+    match number_in(refusal.at) {
+        Some(at) => {
+            let octets = around(alloc, message, at as usize)?;
+            Ok(format!(in alloc; "{path}: {octets}")?)
+        }
+        None => Ok(path),
+    }
+}
+
+/// The octets after the last argument.
+fn trailing_detail(
+    alloc: Global,
+    refusal: &Refusal<'_>,
+    message: &[u8],
+) -> Result<String, NoMemory> {
+    match number_in(refusal.kind) {
+        Some(at) => {
+            let first = at as usize;
+            octets_told(alloc, message, first, first.saturating_add(16))
+        }
+        None => text_of(alloc, "octets after the last argument"),
+    }
+}

@@ -1,0 +1,65 @@
+// The octets of a message, as they are shown.
+use crate::text::{cut, text_of};
+use hex::FromHexError;
+use kit_base::NoMemory;
+use std::alloc::Global;
+
+/// How many octets are shown on either side of one.
+const BESIDE: usize = 8;
+
+/// The octets of a line of digits, where it is one.
+pub fn message_of(alloc: Global, line: &[u8]) -> Result<Option<Vec<u8>>, NoMemory> {
+    match hex::decode(alloc, line) {
+        Ok(message) => Ok(Some(message)),
+        Err(FromHexError::OutOfMemory) => Err(NoMemory),
+        Err(_) => Ok(None),
+    }
+}
+
+/// Some octets of a message with their places.
+pub fn octets_told(
+    alloc: Global,
+    message: &[u8],
+    first: usize,
+    end: usize,
+) -> Result<String, NoMemory> {
+    let stop = end.min(message.len());
+    if first >= stop {
+        return Ok(format!(in alloc; "the message has {} octets", message.len())?);
+    }
+    let digits = hex::encode(alloc, cut(message, first, stop))?;
+    Ok(format!(in alloc; "octets {first} to {} are {digits}", stop.saturating_sub(1))?)
+}
+
+/// The octets around one of a message, which stands in brackets.
+pub fn around(alloc: Global, message: &[u8], at: usize) -> Result<String, NoMemory> {
+    let first = at.saturating_sub(BESIDE);
+    let after = at.saturating_add(1);
+    let last = after.saturating_add(BESIDE).min(message.len());
+    if at >= message.len() {
+        let before = hex::encode(alloc, cut(message, first, message.len()))?;
+        return Ok(format!(in alloc;
+            "the message ends after octet {}: {before}[]",
+            message.len()
+        )?);
+    }
+    let before = hex::encode(alloc, cut(message, first, at))?;
+    let one = hex::encode(alloc, cut(message, at, after))?;
+    let behind = hex::encode(alloc, cut(message, after, last))?;
+    Ok(format!(in alloc; "octets {first} on: {before}[{one}]{behind}")?)
+}
+
+/// Why a line is not digits.
+pub fn digits_told(alloc: Global, line: &[u8]) -> Result<String, NoMemory> {
+    let good = line.iter().take_while(|o| o.is_ascii_hexdigit()).count();
+    if good < line.len() {
+        return Ok(format!(in alloc;
+            "the character in column {} is no hexadecimal digit",
+            good.saturating_add(1)
+        )?);
+    }
+    if good % 2 == 1 {
+        return Ok(format!(in alloc; "{good} digits, an odd number")?);
+    }
+    text_of(alloc, "the digits are even in number")
+}
