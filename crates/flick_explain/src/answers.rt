@@ -52,11 +52,11 @@ impl From<NoMemory> for Ended {
 }
 
 /// What is known of a run.
-#[derive(Drop)]
+#[derive(Clone, Copy)]
 struct Known<'a> {
     run: Run<'a>,
-    text: Option<Octets>,
-    bound: Option<Bound>,
+    text: Option<&'a [u8]>,
+    bound: Option<&'a Bound>,
 }
 
 /// Says of each refusal of a run where and why, and answers a status.
@@ -89,16 +89,55 @@ fn explained<F: Shelf, S: Source, K: Sink>(
         Some(path) => content(alloc, path, MOST_LINES, shelf)?,
         None => None,
     };
-    let bound = match &text {
-        Some(text) => bound_of(alloc, run.front, run.back, text.as_slice())?.ok(),
+    over(
+        alloc,
+        run,
+        octets_of(&text),
+        octets_of(&lines),
+        input,
+        output,
+    )
+}
+
+/// The octets of a file that is there.
+fn octets_of(file: &Option<Octets>) -> Option<&[u8]> {
+    match file {
+        Some(octets) => Some(octets.as_slice()),
         None => None,
-    };
-    let known = Known { run, text, bound };
-    let mut inputs = match &lines {
-        Some(lines) => Inputs::of(lines.as_slice()),
+    }
+}
+
+/// Says of each answer over a file what there is to say.
+fn over<S: Source, K: Sink>(
+    alloc: Global,
+    run: Run<'_>,
+    text: Option<&[u8]>,
+    lines: Option<&[u8]>,
+    input: &mut S,
+    output: &mut K,
+) -> Result<(), Ended> {
+    let mut inputs = match lines {
+        Some(lines) => Inputs::of(lines),
         None => Inputs::of(&[]),
     };
+    let bound = binding(alloc, &run, text)?;
+    let known = Known {
+        run,
+        text,
+        bound: bound.as_ref(),
+    };
     say_all(alloc, &known, &mut inputs, input, output)
+}
+
+/// The file bound to the back end of the run, where it is accepted.
+fn binding(alloc: Global, run: &Run<'_>, text: Option<&[u8]>) -> Result<Option<Bound>, NoMemory> {
+    match text {
+        Some(text) => match bound_of(alloc, run.front, run.back, text)? {
+            Ok(bound) => Ok(Some(bound)),
+            Err(_) => Ok(None),
+        },
+        None => Ok(None),
+    }
 }
 
 /// The octets of a file, where it is there.
@@ -134,19 +173,30 @@ fn say_all<S: Source, K: Sink>(
 ) -> Result<(), Ended> {
     let mut lines = Lines::new(alloc, LONGEST_LINE, MOST_INPUT);
     for _ in 0..MOST_INPUT {
-        match lines.next(input) {
-            Ok(Line::End) => return Ok(()),
-            Ok(Line::Long) => {
-                inputs.next();
-            }
-            Ok(Line::Text(answer)) => {
-                let told = known.told(alloc, answer.as_slice(), inputs)?;
-                write(output, told.as_bytes())?;
-            }
-            Err(error) => return Err(ended_by(error)),
+        if !say_one(alloc, known, inputs, &mut lines, input, output)? {
+            return Ok(());
         }
     }
     Ok(())
+}
+
+/// Says what there is to say of the next line, and whether there was one.
+fn say_one<S: Source, K: Sink>(
+    alloc: Global,
+    known: &Known<'_>,
+    inputs: &mut Inputs<'_>,
+    lines: &mut Lines,
+    input: &mut S,
+    output: &mut K,
+) -> Result<bool, Ended> {
+    match lines.next(input) {
+        Ok(line) => {
+            let told = known.line(alloc, &line, inputs)?;
+            write(output, told.as_bytes())?;
+            Ok(!line.is_end())
+        }
+        Err(error) => Err(ended_by(error)),
+    }
 }
 
 /// How a failing input ends the work.
@@ -159,6 +209,23 @@ fn ended_by(error: LineErr) -> Ended {
 }
 
 impl Known<'_> {
+    /// What is said of a line of standard input.
+    fn line(
+        &self,
+        alloc: Global,
+        line: &Line,
+        inputs: &mut Inputs<'_>,
+    ) -> Result<String, NoMemory> {
+        match line {
+            Line::Text(answer) => self.told(alloc, answer.as_slice(), inputs),
+            Line::Long => {
+                inputs.next();
+                Ok(String::new(alloc))
+            }
+            Line::End => Ok(String::new(alloc)),
+        }
+    }
+
     /// What is said of an answer.
     fn told(
         &self,
@@ -182,7 +249,7 @@ impl Known<'_> {
     /// What is said of a refusal of the file.
     fn file_told(&self, alloc: Global, answer: &[u8]) -> Result<String, NoMemory> {
         let path = self.run.path;
-        let Some(text) = &self.text else {
+        let Some(text) = self.text else {
             let path = shown(alloc, path)?;
             return Ok(format!(in alloc; "{path}: there is no such file\n")?);
         };
@@ -194,7 +261,7 @@ impl Known<'_> {
             front: self.run.front,
             back: self.run.back,
             path,
-            text: text.as_slice(),
+            text,
         };
         match file_detail(alloc, &file, answer)? {
             Some(told) => Ok(told),
@@ -212,7 +279,7 @@ impl Known<'_> {
     ) -> Result<String, NoMemory> {
         let refusal = Refusal::of(answer);
         let mut out = self.line_begin(alloc, number)?;
-        match (line, &self.bound) {
+        match (line, self.bound) {
             (Some(line), Some(bound)) => {
                 out.push_str(detail(alloc, bound, &refusal, line)?.as_str())?;
             }
