@@ -25,7 +25,8 @@ pub union_is : (tag : Shape) (arms : List (ℤ × Ty)) (other : Option Shape) (r
     → r ≡ are_sound_labels tag there (map (λ a. a.0) arms) → there ≡ has_arm (arms_seen arms other)
     → r ≡ is_sound_union tag (arms_seen arms other)
 union_is tag arms other r there a b =
-    a ∙ ap (λ z. are_sound_labels tag z (map (λ a. a.0) arms)) b ∙ ap (are_sound_labels tag (has_arm (arms_seen arms other))) (sym (numbers_seen arms other))
+    a ∙ ap (λ z. are_sound_labels tag z (map (λ a. a.0) arms)) b
+    ∙ ap (are_sound_labels tag (has_arm (arms_seen arms other))) (sym (numbers_seen arms other))
 
 abbrev Item : Type 0
 Item = List ℕ × ℤ
@@ -64,7 +65,8 @@ follow_on types v s n i left k d is lt name_is below within =
     let named : name_in s ≡ Some k = sym name_is in
     let inside : k < length types = omega (arith, below, within) in
     let there : get_or (shapes types) k void ≡ seen (get_or types k d).1 = get_or-map (λ t. seen t.1) types k d void inside in
-    let one : unfolded (n - i) (shapes types) left s ≡ unfolded (n - (i + 1)) (shapes types) k (get_or (shapes types) k void) = rw (more, named, yes) refl in
+    let one : unfolded (n - i) (shapes types) left s ≡ unfolded (n - (i + 1)) (shapes types) k (get_or (shapes types) k void) =
+    rw (more, named, yes) refl in
     (omega (arith, inside), is ∙ one ∙ ap (unfolded (n - (i + 1)) (shapes types) k) there)
 
 pub member_there : (fields : List Field) → has_member (members fields) ≡ not (length fields == 0)
@@ -84,7 +86,8 @@ pub arms_split : (types : List Shape) (limit : ℕ) (arms : List (ℤ × Ty)) (o
 arms_split types limit [] other = refl
 arms_split types limit (a ∷ arms) other =
     ap (λ z. or_void (seen a.1) (is_sound_type types limit (seen a.1)) && z) (arms_split types limit arms other)
-    ∙ regrouped (or_void (seen a.1) (is_sound_type types limit (seen a.1))) (are_sound_arms types limit (arms_seen arms None)) (are_sound_arms types limit (default_of other))
+    ∙ regrouped (or_void (seen a.1) (is_sound_type types limit (seen a.1))) (are_sound_arms types limit (arms_seen arms None))
+    (are_sound_arms types limit (default_of other))
 
 pub choice_is : (types : List Shape) (limit : ℕ) (tag below : Shape) (arms : List (ℤ × Ty)) (other : Option Shape) (r a b c d e : Bool)
     → r ≡ (a && b && e) → e ≡ (c && d) → a ≡ is_sound_type types limit tag
@@ -93,7 +96,10 @@ pub choice_is : (types : List Shape) (limit : ℕ) (tag below : Shape) (arms : L
     → r ≡ is_sound_type types limit (choice tag (arms_seen arms other))
 choice_is types limit tag below arms other r a b c d e r_is e_is a_is b_is below_is c_is d_is =
     let arms_are : e ≡ are_sound_arms types limit (arms_seen arms other) =
-    e_is ∙ ap (λ z. z && d) c_is ∙ ap (λ z. are_sound_arms types limit (arms_seen arms None) && z) d_is ∙ sym (arms_split types limit arms other) in
-    let labels : b ≡ is_sound_union (unfolded limit types limit tag) (arms_seen arms other) = b_is ∙ ap (λ z. is_sound_union z (arms_seen arms other)) below_is in
+    e_is
+    ∙ ap (λ z. z && d) c_is ∙ ap (λ z.
+    are_sound_arms types limit (arms_seen arms None) && z) d_is ∙ sym (arms_split types limit arms other) in
+    let labels : b ≡ is_sound_union (unfolded limit types limit tag) (arms_seen arms other) = b_is
+    ∙ ap (λ z. is_sound_union z (arms_seen arms other)) below_is in
     r_is ∙ ap (λ z. z && b && e) a_is ∙ ap (λ z. is_sound_type types limit tag && z && e) labels
     ∙ ap (λ z. is_sound_type types limit tag && is_sound_union (unfolded limit types limit tag) (arms_seen arms other) && z) arms_are

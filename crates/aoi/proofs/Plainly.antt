@@ -36,9 +36,13 @@ types_plain (t ∷ ts) = ap (λ z. seen t.1 ∷ z) (types_plain ts)
 
 pub sound_plain : (u : Parts) → is_sound u ≡ is_sound_plain (plain u)
 sound_plain u =
-    interfaces_step ∙ ap (λ z. are_sound_types z 0 z && list_all (is_sound_plain_interface z) (map plain_interface u.interfaces)) (types_plain u.types)
+    interfaces_step
+    ∙ ap (λ z.
+    are_sound_types z 0 z && list_all (is_sound_plain_interface z) (map plain_interface u.interfaces)) (types_plain u.types)
   where
-    interfaces_step : is_sound u ≡ (are_sound_types (shapes u.types) 0 (shapes u.types) && list_all (is_sound_plain_interface (shapes u.types)) (map plain_interface u.interfaces))
+    interfaces_step : is_sound u
+        ≡ (are_sound_types (shapes u.types) 0 (shapes u.types)
+        && list_all (is_sound_plain_interface (shapes u.types)) (map plain_interface u.interfaces))
     interfaces_step = ap (λ z. are_sound_types (shapes u.types) 0 (shapes u.types) && z) (interfaces_plain (shapes u.types) u.interfaces)
 
 -- a unit's types, and then its interfaces
@@ -46,12 +50,14 @@ pub sound_then : (u : Parts) (ts : List (List ℕ × Ty)) (is : List Interface) 
     → a ≡ are_sound_types (shapes ts) 0 (shapes ts) → a ≡ true → r ≡ list_all (is_sound_interface (shapes ts)) is
     → r ≡ is_sound_plain (plain u)
 sound_then u ts is a r t i a_is all r_is =
-    let types : are_sound_types (shapes u.types) 0 (shapes u.types) ≡ true = ap (λ z. are_sound_types (shapes z) 0 (shapes z)) (sym t) ∙ sym a_is ∙ all in
+    let types : are_sound_types (shapes u.types) 0 (shapes u.types)
+    ≡ true = ap (λ z. are_sound_types (shapes z) 0 (shapes z)) (sym t) ∙ sym a_is ∙ all in
     r_is ∙ ap (λ z. list_all (is_sound_interface (shapes z)) is) t ∙ ap (list_all (is_sound_interface (shapes u.types))) i
     ∙ sym (ap (λ z. z && list_all (is_sound_interface (shapes u.types)) u.interfaces) types) ∙ sound_plain u
 
 pub sound_else : (u : Parts) (ts : List (List ℕ × Ty)) (a : Bool) → ts ≡ u.types → a ≡ are_sound_types (shapes ts) 0 (shapes ts) → a ≡ false
     → a ≡ is_sound_plain (plain u)
 sound_else u ts a t a_is none =
-    let types : are_sound_types (shapes u.types) 0 (shapes u.types) ≡ false = ap (λ z. are_sound_types (shapes z) 0 (shapes z)) (sym t) ∙ sym a_is ∙ none in
+    let types : are_sound_types (shapes u.types) 0 (shapes u.types)
+    ≡ false = ap (λ z. are_sound_types (shapes z) 0 (shapes z)) (sym t) ∙ sym a_is ∙ none in
     none ∙ sym (ap (λ z. z && list_all (is_sound_interface (shapes u.types)) u.interfaces) types) ∙ sound_plain u

@@ -11,5 +11,7 @@ use Rattle.aoi.specs.Shapes.{Shape, choice, seen, seen_level, seen_member, arms_
 
 pub choice_seen : (tag : Box Ty Global) (arms : List (ℤ × Ty)) (other : Option (Box Ty Global))
     → seen (view.Union tag arms other) ≡ choice (seen tag.value) (arms_seen arms (option_map (λ b. seen b.value) other))
-choice_seen tag arms None = ap seen (sym (rolls-Union tag arms None)) ∙ fold-roll-Ty Shape (List ℕ × Shape) seen_level seen_member (open_.Union tag arms None)
-choice_seen tag arms (Some b) = ap seen (sym (rolls-Union tag arms (Some b))) ∙ fold-roll-Ty Shape (List ℕ × Shape) seen_level seen_member (open_.Union tag arms (Some b))
+choice_seen tag arms None = ap seen (sym (rolls-Union tag arms None))
+    ∙ fold-roll-Ty Shape (List ℕ × Shape) seen_level seen_member (open_.Union tag arms None)
+choice_seen tag arms (Some b) = ap seen (sym (rolls-Union tag arms (Some b)))
+    ∙ fold-roll-Ty Shape (List ℕ × Shape) seen_level seen_member (open_.Union tag arms (Some b))

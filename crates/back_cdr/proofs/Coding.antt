@@ -45,8 +45,10 @@ filled_const : (h : Head) (v : Val) (n : ℕ) (os : List ℕ) → n ≡ length o
 filled_const h v n os long = rw (long, placed_whole os, full_whole os) refl
 
 word_long : (r : Order) (n : ℕ) → n < 4294967296 → word 4 r (pos n) ≡ Some (long_octets r n)
-word_long Big n h = ap (λ (o : Option ℕ). on_some o (λ (m : ℕ). Some (in_order Big 4 m))) (if_so (nat_lt n 4294967296) n (lt-ltb n 4294967296 h))
-word_long Little n h = ap (λ (o : Option ℕ). on_some o (λ (m : ℕ). Some (in_order Little 4 m))) (if_so (nat_lt n 4294967296) n (lt-ltb n 4294967296 h))
+word_long Big n h =
+    ap (λ (o : Option ℕ). on_some o (λ (m : ℕ). Some (in_order Big 4 m))) (if_so (nat_lt n 4294967296) n (lt-ltb n 4294967296 h))
+word_long Little n h =
+    ap (λ (o : Option ℕ). on_some o (λ (m : ℕ). Some (in_order Little 4 m))) (if_so (nat_lt n 4294967296) n (lt-ltb n 4294967296 h))
 
 long_four : (r : Order) (n : ℕ) → 4 ≡ length (long_octets r n)
 long_four Big n = refl
@@ -66,7 +68,8 @@ coded_leads : (r : Order) (octets : List ℕ) (code : SendCode) → 20 ≤ lengt
     → Leads (λ h. with_id r octets h.id) code
 coded_leads r octets code long is h v p fits =
     subst (λ (b : Block). on_some (steps (calls_of code.subs h deepest) h b v) (wrote p []) ≡ Some (with_id r octets h.id)) (sym is)
-    (three_lead (calls_of code.subs h deepest) h v p r (take 16 octets) (drop 20 octets) 16 (length octets - 20) fits.id (omega (arith, length-take 16 octets, long)) (omega (arith, length-drop 20 octets)))
+    (three_lead (calls_of code.subs h deepest) h v p r (take 16 octets) (drop 20 octets) 16 (length octets - 20) fits.id
+    (omega (arith, length-take 16 octets, long)) (omega (arith, length-drop 20 octets)))
 
 coded_chunks : (r : Order) (octets : List ℕ) (code : SendCode) → IsCoded r octets code → AreChunks code
 coded_chunks r octets code is = (3, rw is refl, omega arith)

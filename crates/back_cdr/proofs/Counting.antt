@@ -30,7 +30,8 @@ length-offers fs b k (i ∷ is) h =
 
 pub counted : (b : Binding) → IsBinding b → IsCdr b.back → length (targets b.unit.interfaces) ≡ length b.ops
 counted b stands cdr =
-    sym (length-offers (type_faces b.unit) b.back 0 b.unit.interfaces cdr) ∙ ap length (sym stands.offered) ∙ length-map b.ops (offer_at (faces b.nodes b.shapes))
+    sym (length-offers (type_faces b.unit) b.back 0 b.unit.interfaces cdr) ∙ ap length (sym stands.offered)
+    ∙ length-map b.ops (offer_at (faces b.nodes b.shapes))
 
 -- the operations of interfaces that are apart are few
 pub few : (is : List Interface) → AreApart is → length (targets (map plain_interface is)) ≤ 257 * length is
@@ -38,4 +39,11 @@ few [] apart = omega arith
 few (i ∷ is) apart =
     let j : PlainInterface = plain_interface i in
     let own : length j.ops ≡ length i.ops = length-map i.ops plain_operation in
-    omega (arith, own, length-map j.ops (target_in j), length-append (targets_in j) (targets (map plain_interface is)), apart.1, few is apart.2)
+    omega (
+      arith,
+      own,
+      length-map j.ops (target_in j),
+      length-append (targets_in j) (targets (map plain_interface is)),
+      apart.1,
+      few is apart.2,
+    )

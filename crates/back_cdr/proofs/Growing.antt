@@ -66,27 +66,52 @@ module _ (r : Order) (type : ℕ) (f : List ℕ → List ℕ) (grows : Grows f) 
   parts : (id : ℕ) → (t : List ℕ) × (head id ≡ (first r type ++ long_octets r id) ++ t) × (head 0 ≡ (first r type ++ long_octets r 0) ++ t)
   parts id =
       let same : length (first r type ++ long_octets r id) ≡ length (first r type ++ long_octets r 0) =
-      omega (arith, length-append (first r type) (long_octets r id), length-append (first r type) (long_octets r 0), long_four r id, long_four r 0) in
+      omega (
+        arith,
+        length-append (first r type) (long_octets r id),
+        length-append (first r type) (long_octets r 0),
+        long_four r id,
+        long_four r 0,
+      ) in
       let g = grows (first r type ++ long_octets r id) (first r type ++ long_octets r 0) same in
       (g.0, ap f (begun r type id) ∙ g.1, ap f (begun r type 0) ∙ g.2)
 
   pub id_put : (id : ℕ) → with_id r (head 0) id ≡ head id
   id_put id =
       let s = parts id in
-      let front : take 16 (head 0) ≡ first r type = ap (take 16) (s.2 ∙ append_assoc (first r type) (long_octets r 0) s.0) ∙ take_at (first r type) (long_octets r 0 ++ s.0) 16 (long_first r type) in
-      let twenty : length (first r type ++ long_octets r 0) ≡ 20 = omega (arith, length-append (first r type) (long_octets r 0), long_first r type, long_four r 0) in
+      let front : take 16 (head 0) ≡ first r type = ap (take 16) (s.2 ∙ append_assoc (first r type) (long_octets r 0) s.0)
+      ∙ take_at (first r type) (long_octets r 0 ++ s.0) 16 (long_first r type) in
+      let twenty : length (first r type ++ long_octets r 0)
+      ≡ 20 = omega (arith, length-append (first r type) (long_octets r 0), long_first r type, long_four r 0) in
       let rest : drop 20 (head 0) ≡ s.0 = ap (drop 20) s.2 ∙ drop_at (first r type ++ long_octets r 0) s.0 20 twenty in
       rw (front, rest) (sym s.1)
 
   pub long_head : 20 ≤ length (head 0)
   long_head =
       let s = parts 0 in
-      omega (arith, ap length s.2, length-append (first r type ++ long_octets r 0) s.0, length-append (first r type) (long_octets r 0), long_first r type, long_four r 0)
+      omega (
+        arith,
+        ap length s.2,
+        length-append (first r type ++ long_octets r 0) s.0,
+        length-append (first r type) (long_octets r 0),
+        long_first r type,
+        long_four r 0,
+      )
 
   pub one_length : (id : ℕ) → length (head id) ≡ length (head 0)
   one_length id =
       let s = parts id in
-      omega (arith, ap length s.1, ap length s.2, length-append (first r type ++ long_octets r id) s.0, length-append (first r type ++ long_octets r 0) s.0, length-append (first r type) (long_octets r id), length-append (first r type) (long_octets r 0), long_four r id, long_four r 0)
+      omega (
+        arith,
+        ap length s.1,
+        ap length s.2,
+        length-append (first r type ++ long_octets r id) s.0,
+        length-append (first r type ++ long_octets r 0) s.0,
+        length-append (first r type) (long_octets r id),
+        length-append (first r type) (long_octets r 0),
+        long_four r id,
+        long_four r 0,
+      )
 
 -- ---- requests and replies
 
@@ -109,7 +134,8 @@ told r t (suc k) o = then_string r (slice_index_or t.ids k []) (then_long r 1 o)
 
 told_grows : (r : Order) (t : Target) (arm : ℕ) → Grows (told r t arm)
 told_grows r t zero = long_grows r 0
-told_grows r t (suc k) = and_then (then_long r 1) (then_string r (slice_index_or t.ids k [])) (long_grows r 1) (string_grows r (slice_index_or t.ids k []))
+told_grows r t (suc k) = and_then (then_long r 1) (then_string r (slice_index_or t.ids k [])) (long_grows r 1)
+    (string_grows r (slice_index_or t.ids k []))
 
 pub call_put : (r : Order) (t : Target) (id : ℕ) → with_id r (lead r t 0) id ≡ lead r t id
 unfolding request_octets

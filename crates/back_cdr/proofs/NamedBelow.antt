@@ -28,7 +28,8 @@ either_place n k false o h g = g
 position_below : (p : PlainOperation → Bool) (k : ℕ) (ops : List PlainOperation)
     → IsBelow (k + length ops) (operation_at (position_from p k ops))
 position_below p k [] = tt
-position_below p k (op ∷ ops) = either_place _ k (p op) (position_from p (k + 1) ops) (omega arith) (more _ _ _ (position_below p (k + 1) ops) (omega arith))
+position_below p k (op ∷ ops) = either_place _ k (p op) (position_from p (k + 1) ops) (omega arith)
+    (more _ _ _ (position_below p (k + 1) ops) (omega arith))
 
 pub length-targets : (i : PlainInterface) (is : List PlainInterface) → length (targets (i ∷ is)) ≡ length i.ops + length (targets is)
 length-targets i is = length-append (targets_in i) (targets is) ∙ ap (λ n. n + length (targets is)) (length-map i.ops (target_in i))

@@ -64,14 +64,30 @@ in_first : (k : ℕ) (i : PlainInterface) (is : List PlainInterface) (key name :
     → bytes_eq i.name key ≡ true → Found (has_name name) k i.ops j
     → IsNamedBy k (i ∷ is) key name j
 in_first k i is key name j called (n, p, at, there, has) =
-    let here : slice_get (pairs_in i) n ≡ Some (i, p) = slice_get-map (λ (q : PlainOperation). (i, q)) i.ops n ∙ ap (option_map (λ (q : PlainOperation). (i, q))) there in
-    (n, i, p, at, in_front (pairs_in i) (pairs is) n (i, p) here, (bytes_eq-Decides i.name key).0 called, (bytes_eq-Decides p.name name).0 has)
+    let here : slice_get (pairs_in i) n ≡ Some (i, p) =
+    slice_get-map (λ (q : PlainOperation). (i, q)) i.ops n ∙ ap (option_map (λ (q : PlainOperation). (i, q))) there in (
+      n,
+      i,
+      p,
+      at,
+      in_front (pairs_in i) (pairs is) n (i, p) here,
+      (bytes_eq-Decides i.name key).0 called,
+      (bytes_eq-Decides p.name name).0 has,
+    )
 
 in_others : (k : ℕ) (i : PlainInterface) (is : List PlainInterface) (key name : List ℕ) (j : ℕ) → IsNamedBy (k + length i.ops) is key name j
     → IsNamedBy k (i ∷ is) key name j
 in_others k i is key name j (n, o, p, at, there, its_key, its_name) =
-    let many : length (pairs_in i) ≡ length i.ops = length-map i.ops (λ (q : PlainOperation). (i, q)) in
-    (length i.ops + n, o, p, omega (arith, at), behind (pairs_in i) (pairs is) n (length i.ops + n) (omega (arith, many)) ∙ there, its_key, its_name)
+    let many : length (pairs_in i) ≡ length i.ops = length-map i.ops (λ (q : PlainOperation). (i, q)) in (
+      length i.ops + n,
+      o,
+      p,
+      omega (arith, at),
+      behind (pairs_in i) (pairs is) n (length i.ops + n) (omega (arith, many))
+          ∙ there,
+      its_key,
+      its_name,
+    )
 
 named_step : (k : ℕ) (i : PlainInterface) (is : List PlainInterface) (key name : List ℕ) (j : ℕ) (t : Bool) → bytes_eq i.name key ≡ t
     → (named_from (k + length i.ops) is key name ≡ Operation j → IsNamedBy (k + length i.ops) is key name j)

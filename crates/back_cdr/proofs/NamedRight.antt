@@ -60,12 +60,17 @@ named_step : (k : ℕ) (i : PlainInterface) (is : List PlainInterface) (key name
     → IsAt k (i ∷ is) key name op
 named_step k i is key name op true called later e = in_first k i is key name op called (found (has_name name) k i.ops op (place_of _ op e))
 named_step k i is key name op false called later e =
-    let f = later e in
-    (length i.ops + f.0, omega (arith, f.1), ap (λ (t : Target). t.key) (behind_first i is f.0) ∙ f.2, ap (λ (t : Target). t.name) (behind_first i is f.0) ∙ f.3)
+    let f = later e in (
+      length i.ops + f.0,
+      omega (arith, f.1),
+      ap (λ (t : Target). t.key) (behind_first i is f.0) ∙ f.2,
+      ap (λ (t : Target). t.name) (behind_first i is f.0) ∙ f.3,
+    )
 
 named_at : (k : ℕ) (is : List PlainInterface) (key name : List ℕ) (op : ℕ) → named_from k is key name ≡ Operation op → IsAt k is key name op
 named_at k [] key name op e = absurd cc
 named_at k (i ∷ is) key name op e = named_step k i is key name op (bytes_eq i.name key) refl (named_at (k + length i.ops) is key name op) e
 
 pub named_right : IsNamedRight
-named_right b t op e = let f = named_at 0 b.unit.interfaces t.key t.name op e in let same : op ≡ f.0 = omega (arith, f.1) in rw same (f.2, f.3)
+named_right b t op e = let f = named_at 0 b.unit.interfaces t.key t.name op e in let same : op
+    ≡ f.0 = omega (arith, f.1) in rw same (f.2, f.3)

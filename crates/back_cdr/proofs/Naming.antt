@@ -18,7 +18,8 @@ in_first i is place d below =
     let own : length (targets_in (plain_interface i)) ≡ length i.ops = many i in
     let plain : length (map plain_operation i.ops) ≡ length i.ops = length-map i.ops plain_operation in
     get_or_append_left (targets_in (plain_interface i)) (targets (map plain_interface is)) no_target place (omega (arith, own, below))
-    ∙ get_or-map (target_in (plain_interface i)) (map plain_operation i.ops) place (plain_operation d) no_target (omega (arith, plain, below))
+    ∙ get_or-map (target_in (plain_interface i)) (map plain_operation i.ops) place (plain_operation d) no_target
+    (omega (arith, plain, below))
     ∙ ap (target_in (plain_interface i)) (get_or-map plain_operation i.ops place d (plain_operation d) below)
 
 -- after them
@@ -36,7 +37,9 @@ pub id_there : (rs : List Raise) (k : ℕ) (d : Raise) → k < length rs
     → (get_or rs k d).id ≡ get_or (map (λ (r : PlainRaise). r.id) (map plain_raise rs)) k []
 id_there rs k d below =
     let plain : length (map plain_raise rs) ≡ length rs = length-map rs plain_raise in
-    sym (get_or-map (λ (r : PlainRaise). r.id) (map plain_raise rs) k (plain_raise d) [] (omega (arith, plain, below)) ∙ ap (λ (r : PlainRaise). r.id) (get_or-map plain_raise rs k d (plain_raise d) below))
+    sym (get_or-map
+    (λ (r : PlainRaise). r.id) (map plain_raise rs) k (plain_raise d) [] (omega (arith, plain, below)) ∙ ap (λ (r : PlainRaise).
+    r.id) (get_or-map plain_raise rs k d (plain_raise d) below))
 
 pub many_ids : (rs : List Raise) → length (map (λ (r : PlainRaise). r.id) (map plain_raise rs)) ≡ length rs
 many_ids rs = length-map (map plain_raise rs) (λ (r : PlainRaise). r.id) ∙ length-map rs plain_raise

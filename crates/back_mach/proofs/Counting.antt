@@ -41,7 +41,14 @@ few [] apart = omega arith
 few (i ∷ is) apart =
     let j : PlainInterface = plain_interface i in
     let own : length j.ops ≡ length i.ops = length-map i.ops plain_operation in
-    omega (arith, own, length-map j.ops (routine_in j), length-append (routines_in j) (routines (map plain_interface is)), apart.1, few is apart.2)
+    omega (
+      arith,
+      own,
+      length-map j.ops (routine_in j),
+      length-append (routines_in j) (routines (map plain_interface is)),
+      apart.1,
+      few is apart.2,
+    )
 
 -- ---- ids
 
@@ -87,4 +94,8 @@ all_at (r ∷ rs) (suc n) h below = all_at rs n h.1 (omega (arith, below))
 -- so it is of each operation of a unit that is sound
 pub ids_small : (u : PlainUnit) (n : ℕ) → IsSoundPlain u → n < length (routines u.interfaces)
     → (get_or (routines u.interfaces) n no_routine).id + 100 < 2 ^ 31
-ids_small u n sound below = all_at (routines u.interfaces) n (small (plain_shapes u) u.interfaces (and_parts (are_sound_types (plain_shapes u) 0 (plain_shapes u)) (list_all (is_sound_plain_interface (plain_shapes u)) u.interfaces) sound).1) below
+ids_small u n sound below =
+    all_at (routines u.interfaces) n
+    (small (plain_shapes u) u.interfaces
+    (and_parts (are_sound_types (plain_shapes u) 0 (plain_shapes u)) (list_all (is_sound_plain_interface (plain_shapes u)) u.interfaces)
+    sound).1) below

@@ -25,7 +25,19 @@ header_of x = record { bits = x.0; size = x.1.0; remote = x.1.1.0; local = x.1.1
 
 forth : (p : ℕ) (o : List ℕ) (x : Values) → Six p o x → SixSpell p o (header_of x)
 unfolding SixSpell WordSpells
-forth p o x (a, b, is, (first, fits), (a1, b1, is1, (first1, fits1), (a2, b2, is2, (first2, fits2), (a3, b3, is3, (first3, fits3), (a4, b4, is4, (first4, fits4), (first5, fits5)))))) = (
+forth p o x (
+  a,
+  b,
+  is,
+  (first, fits),
+  (
+    a1,
+    b1,
+    is1,
+    (first1, fits1),
+    (a2, b2, is2, (first2, fits2), (a3, b3, is3, (first3, fits3), (a4, b4, is4, (first4, fits4), (first5, fits5)))),
+  ),
+) = (
   rw (is, first, is1, first1, is2, first2, is3, first3, is4, first4, first5) refl,
   record { bits = fits; size = fits1; remote = fits2; local = fits3; sequence = fits4; id = fits5 },
 )
@@ -65,7 +77,9 @@ back p o y (is, fits) = (
 six_is : IsGrammar read_six SixSpell SixStop
 unfolding read_six SixStop
 six_is = mapped header_of SixSpell
-    (both_are word_is (λ bits. both_are word_is (λ size. both_are word_is (λ remote. both_are word_is (λ local. both_are word_is (λ sequence. word_is))))))
+    (both_are word_is
+    (λ bits.
+    both_are word_is (λ size. both_are word_is (λ remote. both_are word_is (λ local. both_are word_is (λ sequence. word_is))))))
     forth back
 
 simple_is : IsGrammar read_simple SimpleSpells SimpleStops

@@ -57,7 +57,8 @@ module _ (w : Way) (o : List ℕ) where
       cc
 
   pub decided : AreOctets o → IsDecided w o
-  decided oct = record { either = either oct (read_head w (length o) 0 o) refl; not_both = not_both; one_head = one_head; one_fault = one_fault }
+  decided oct =
+      record { either = either oct (read_head w (length o) 0 o) refl; not_both = not_both; one_head = one_head; one_fault = one_fault }
 
 pub heads_are_decided : HeadsAreDecided
 heads_are_decided w o oct = decided w o oct

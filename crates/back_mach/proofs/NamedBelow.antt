@@ -27,7 +27,8 @@ either_place n k false o h g = g
 position_below : (p : PlainOperation → Bool) (k : ℕ) (ops : List PlainOperation)
     → IsBelow (k + length ops) (operation_at (position_from p k ops))
 position_below p k [] = tt
-position_below p k (op ∷ ops) = either_place _ k (p op) (position_from p (k + 1) ops) (omega arith) (more _ _ _ (position_below p (k + 1) ops) (omega arith))
+position_below p k (op ∷ ops) = either_place _ k (p op) (position_from p (k + 1) ops) (omega arith)
+    (more _ _ _ (position_below p (k + 1) ops) (omega arith))
 
 pub length-routines : (i : PlainInterface) (is : List PlainInterface) → length (routines (i ∷ is)) ≡ length i.ops + length (routines is)
 length-routines i is = length-append (routines_in i) (routines is) ∙ ap (λ n. n + length (routines is)) (length-map i.ops (routine_in i))

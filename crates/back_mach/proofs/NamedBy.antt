@@ -71,7 +71,8 @@ IsNamedBy k is id j = (n : ℕ) × (i : PlainInterface) × (p : PlainOperation) 
 in_first : (k : ℕ) (i : PlainInterface) (is : List PlainInterface) (id j : ℕ) → Found (has_slot i.base id) k i.ops j
     → IsNamedBy k (i ∷ is) id j
 in_first k i is id j (n, p, at, there, has) =
-    let here : slice_get (pairs_in i) n ≡ Some (i, p) = slice_get-map (λ (q : PlainOperation). (i, q)) i.ops n ∙ ap (option_map (λ (q : PlainOperation). (i, q))) there in
+    let here : slice_get (pairs_in i) n ≡ Some (i, p) =
+    slice_get-map (λ (q : PlainOperation). (i, q)) i.ops n ∙ ap (option_map (λ (q : PlainOperation). (i, q))) there in
     (n, i, p, at, in_front (pairs_in i) (pairs is) n (i, p) here, eqb-true _ _ has)
 
 in_others : (k : ℕ) (i : PlainInterface) (is : List PlainInterface) (id j : ℕ) → IsNamedBy (k + length i.ops) is id j
@@ -111,6 +112,9 @@ named_right b c op e =
     let (n, i, p, at, there, its) = named_by 0 b.unit.interfaces c.id op e in
     let place : op ≡ n = omega (arith, at) in
     let mapped : slice_get (routines b.unit.interfaces) n ≡ Some (routine_in i p) =
-    ap (λ (l : List Routine). slice_get l n) (all_routines b.unit.interfaces) ∙ slice_get-map routine_at (pairs b.unit.interfaces) n ∙ ap (option_map routine_at) there in
-    let here : get_or (routines b.unit.interfaces) n no_routine ≡ routine_in i p = at_some (routines b.unit.interfaces) n (routine_in i p) no_routine mapped in
+    ap (λ (l : List Routine).
+    slice_get l n) (all_routines b.unit.interfaces) ∙ slice_get-map routine_at (pairs b.unit.interfaces) n
+    ∙ ap (option_map routine_at) there in
+    let here : get_or (routines b.unit.interfaces) n no_routine ≡ routine_in i p =
+    at_some (routines b.unit.interfaces) n (routine_in i p) no_routine mapped in
     ap (λ (m : ℕ). (get_or (routines b.unit.interfaces) m no_routine).id) place ∙ ap (λ (r : Routine). r.id) here ∙ its

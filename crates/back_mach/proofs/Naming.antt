@@ -17,7 +17,8 @@ in_first i is place d below =
     let own : length (routines_in (plain_interface i)) ≡ length i.ops = many i in
     let plain : length (map plain_operation i.ops) ≡ length i.ops = length-map i.ops plain_operation in
     get_or_append_left (routines_in (plain_interface i)) (routines (map plain_interface is)) no_routine place (omega (arith, own, below))
-    ∙ get_or-map (routine_in (plain_interface i)) (map plain_operation i.ops) place (plain_operation d) no_routine (omega (arith, plain, below))
+    ∙ get_or-map (routine_in (plain_interface i)) (map plain_operation i.ops) place (plain_operation d) no_routine
+    (omega (arith, plain, below))
     ∙ ap (routine_in (plain_interface i)) (get_or-map plain_operation i.ops place d (plain_operation d) below)
 
 -- after them

@@ -43,7 +43,15 @@ pub length_sized : (o : List ℕ) → 8 ≤ length o → length (with_size o) �
 length_sized o long =
     let size : List ℕ = word (length o) in
     let is : with_size o ≡ (take 4 o ++ size) ++ drop 8 o = refl in
-    omega (arith, long, ap length is, length-append (take 4 o ++ size) (drop 8 o), length-append (take 4 o) size, length-take 4 o, length-drop 8 o)
+    omega (
+      arith,
+      long,
+      ap length is,
+      length-append (take 4 o ++ size) (drop 8 o),
+      length-append (take 4 o) size,
+      length-take 4 o,
+      length-drop 8 o,
+    )
 
 bits_fit : (wants : Bool) → request_bits wants < 2 ^ 31
 bits_fit true = omega arith
@@ -64,7 +72,15 @@ asks r head n id ports fits =
       (
         (
           refl,
-          record { bits = omega (arith, bits); size = fits; remote = ports.0; local = port_fits r.wants head.local ports.1; sequence = omega arith; id = id },
+          record {
+            bits = omega (arith, bits);
+            size = fits;
+            remote = ports.0;
+            local = port_fits r.wants head.local ports.1;
+            sequence =
+                omega arith;
+            id = id;
+          },
         ),
         simple_bits r.wants,
       ),
@@ -75,7 +91,8 @@ asks r head n id ports fits =
 pub requests_begin : RequestsAreRead
 requests_begin r head body id ports fits =
     let n : ℕ = length (lead r head ++ body) in
-    let long : length (with_size (lead r head ++ body)) ≡ n = length_sized (lead r head ++ body) (omega (arith, length-append (lead r head) body)) in
+    let long : length (with_size (lead r head ++ body))
+    ≡ n = length_sized (lead r head ++ body) (omega (arith, length-append (lead r head) body)) in
     let first : take 24 (with_size (lead r head ++ body)) ≡ sized r head n = take_at (sized r head n) body 24 refl in
     (asking r head n, 24, (omega (arith, long, length-append (lead r head) body), rw (first, long) (asks r head n id ports fits)), refl)
 
@@ -120,13 +137,21 @@ reply_begins : (id remote m : ℕ) (body : List ℕ) → IsWord remote → IsWor
     (defs.reply_told (record { header = answering id remote (length (reply_octets id remote m ++ body)); code = m }) 32)
 reply_begins id remote m body port code fits =
     let n : ℕ = length (reply_octets id remote m ++ body) in
-    let long : length (with_size (reply_octets id remote m ++ body)) ≡ n = length_sized (reply_octets id remote m ++ body) (omega (arith, length-append (reply_octets id remote m) body)) in
-    let first : take 32 (with_size (reply_octets id remote m ++ body)) ≡ header_told id remote n ++ code_told m = take_at (header_told id remote n ++ code_told m) body 32 refl in (
+    let long : length (with_size (reply_octets id remote m ++ body))
+    ≡ n = length_sized (reply_octets id remote m ++ body) (omega (arith, length-append (reply_octets id remote m) body)) in
+    let first : take 32 (with_size (reply_octets id remote m ++ body)) ≡ header_told id remote n ++ code_told m =
+    take_at (header_told id remote n ++ code_told m) body 32 refl in (
       record { header = answering id remote n; code = m },
       32,
       (
         omega (arith, long, length-append (reply_octets id remote m) body),
-        rw (first, long) (header_told id remote n, code_told m, refl, (answers id remote n port fits, eq-eqb (reply_id id) (reply_id id) refl), code_spelled 24 m code),
+        rw (first, long) (
+          header_told id remote n,
+          code_told m,
+          refl,
+          (answers id remote n port fits, eq-eqb (reply_id id) (reply_id id) refl),
+          code_spelled 24 m code,
+        ),
       ),
       refl,
     )
@@ -150,8 +175,13 @@ refusals_read id remote n o port fits other is =
     let begins = reply_begins id remote m [] port code (omega arith) in
     let same : defs.status_of m ≡ status.RetCode n = own_code m n other refl (to_z-of_z w32 n fits) in
     let octets : with_size (reply_octets id remote m) ≡ o = cc in
-    subst (λ (l : List ℕ). BeginsReply (reply_id id) l (record { head = defs.shared_head remote 0; status = status.RetCode n; used = 32 })) octets
-    (subst (λ (s : Status). BeginsReply (reply_id id) (with_size (reply_octets id remote m)) (record { head = defs.shared_head remote 0; status = s; used = 32 })) same begins)
+    subst
+    (λ (l : List ℕ).
+    BeginsReply (reply_id id) l (record { head = defs.shared_head remote 0; status = status.RetCode n; used = 32 })) octets
+    (subst
+    (λ (s : Status).
+    BeginsReply (reply_id id) (with_size (reply_octets id remote m))
+    (record { head = defs.shared_head remote 0; status = s; used = 32 })) same begins)
 
 pub own_octets : OwnHaveOctets
 own_octets id remote (RetCode n) = ((λ own. (_, refl)), λ has. tt)

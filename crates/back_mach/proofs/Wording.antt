@@ -11,7 +11,14 @@ pub none_fell-put : (t : Tally) → NoneFell t (moved (stored t))
 none_fell-put t = record { checks = omega arith; moves = omega arith; stores = omega arith; rows = omega arith }
 
 pub none_fell-trans : (a b c : Tally) → NoneFell a b → NoneFell b c → NoneFell a c
-none_fell-trans a b c f g = record { checks = omega (arith, f.checks, g.checks); moves = omega (arith, f.moves, g.moves); stores = omega (arith, f.stores, g.stores); rows = omega (arith, f.rows, g.rows) }
+none_fell-trans a b c f g =
+    record {
+      checks = omega (arith, f.checks, g.checks);
+      moves = omega (arith, f.moves, g.moves);
+      stores =
+          omega (arith, f.stores, g.stores);
+      rows = omega (arith, f.rows, g.rows);
+    }
 
 pub none_fell-refl : (a : Tally) → NoneFell a a
 none_fell-refl a = record { checks = omega arith; moves = omega arith; stores = omega arith; rows = omega arith }
@@ -31,4 +38,5 @@ word_rest front n h =
 pub words_more : (d ns : List ℕ) (i : ℕ) → i < length ns → (d ++ words (take i ns)) ++ word (get_or ns i 0) ≡ d ++ words (take (i + 1) ns)
 words_more d ns i lt =
     let next : suc i ≡ i + 1 = omega arith in
-    flat_map_more word d (take i ns) (get_or ns i 0) ∙ ap (λ (l : List ℕ). d ++ words l) (sym (take-suc ns i 0 lt) ∙ ap (λ (k : ℕ). take k ns) next)
+    flat_map_more word d (take i ns) (get_or ns i 0)
+    ∙ ap (λ (l : List ℕ). d ++ words l) (sym (take-suc ns i 0 lt) ∙ ap (λ (k : ℕ). take k ns) next)

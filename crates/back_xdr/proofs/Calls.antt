@@ -36,7 +36,31 @@ call_of x = record {
 
 forth : (p : ℕ) (o : List ℕ) (x : Values) → Items p o x → CallSpells p o (call_of x)
 unfolding AuthSpells WordSpells
-forth p o x (a, b, is, (first, fits), (a1, b1, is1, ((first1, fits1), kind), (a2, b2, is2, ((first2, fits2), protocol), (a3, b3, is3, (first3, fits3), (a4, b4, is4, (first4, fits4), (a5, b5, is5, (first5, fits5), (a6, b6, is6, (first6, fits6), (first7, fits7)))))))) =
+forth p o x (
+  a,
+  b,
+  is,
+  (first, fits),
+  (
+    a1,
+    b1,
+    is1,
+    ((first1, fits1), kind),
+    (
+      a2,
+      b2,
+      is2,
+      ((first2, fits2), protocol),
+      (
+        a3,
+        b3,
+        is3,
+        (first3, fits3),
+        (a4, b4, is4, (first4, fits4), (a5, b5, is5, (first5, fits5), (a6, b6, is6, (first6, fits6), (first7, fits7)))),
+      ),
+    ),
+  ),
+) =
     let zero_ : x.1.0 ≡ 0 = eqb-true _ _ kind in
     let two : x.1.1.0 ≡ 2 = eqb-true _ _ protocol in (
       rw (is, first, is1, first1, is2, first2, is3, first3, is4, first4, is5, first5, is6, first6, first7, zero_, two) refl,

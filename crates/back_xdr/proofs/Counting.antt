@@ -43,7 +43,16 @@ few (i ∷ is) apart =
     let j : PlainInterface = plain_interface i in
     let one : length (gotten back.Xdr j) ≤ 1 = at_most_one (gets_null back.Xdr j) in
     let own : length j.ops ≡ length i.ops = length-map i.ops plain_operation in
-    omega (arith, one, own, length-append j.ops (gotten back.Xdr j), length-numbers j, length-procedures j (map plain_interface is), apart.1, few is apart.2)
+    omega (
+      arith,
+      one,
+      own,
+      length-append j.ops (gotten back.Xdr j),
+      length-numbers j,
+      length-procedures j (map plain_interface is),
+      apart.1,
+      few is apart.2,
+    )
 
 -- the number of an operation among those of its interface
 pub number_at : (ops : List Operation) (others : List PlainOperation) (n : ℕ) (d : Operation) → n < length ops

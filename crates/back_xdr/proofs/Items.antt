@@ -26,8 +26,14 @@ word_spelled p o n q rest oct e =
     let t = picked_got (ltb (length o) 4) Short p (from_be_bytes w32 (take 4 o)) n (p + 4) q (drop 4 o) rest e in
     let enough : 4 ≤ length o = ltb-false _ _ t.0 in
     let long : length (take 4 o) ≡ 4 = omega (arith, length-take 4 o) in
-    let octs : AreOctets (take 4 o) = octets_before (take 4 o) (drop 4 o) (rw take-append-drop oct) in
-    (take 4 o, sym (take-append-drop 4 o) ∙ ap (λ z. take 4 o ++ z) t.3, omega (arith, t.2, long), (rw (← t.1) (sym (wide32.back (take 4 o) long octs)), rw (← t.1) (wide32.below (take 4 o) long octs)))
+    let octs : AreOctets (take 4 o) = octets_before (take 4 o) (drop 4 o) (rw take-append-drop oct) in (
+      take 4 o,
+      sym (take-append-drop 4 o)
+          ∙ ap (λ z.
+          take 4 o ++ z) t.3,
+      omega (arith, t.2, long),
+      (rw (← t.1) (sym (wide32.back (take 4 o) long octs)), rw (← t.1) (wide32.below (take 4 o) long octs)),
+    )
 
 word_stops : (p : ℕ) (o : List ℕ) (k : HeadErr) (at : ℕ) → WordStops p o k at → read_word p o ≡ stop k at
 unfolding WordStops read_word

@@ -26,7 +26,8 @@ either_place n k false o h g = g
 
 position_below : (p : ℕ → Bool) (k : ℕ) (ns : List ℕ) → IsBelow (k + length ns) (operation_at (position_from p k ns))
 position_below p k [] = tt
-position_below p k (n ∷ ns) = either_place _ k (p n) (position_from p (k + 1) ns) (omega arith) (more _ _ _ (position_below p (k + 1) ns) (omega arith))
+position_below p k (n ∷ ns) = either_place _ k (p n) (position_from p (k + 1) ns) (omega arith)
+    (more _ _ _ (position_below p (k + 1) ns) (omega arith))
 
 -- what is named is there
 pub named_below : (k : ℕ) (is : List PlainInterface) (c : OncCall) → IsBelow (k + length (procedures is)) (named_from k is c)

@@ -54,11 +54,16 @@ Accepted n p o s = Parts p o (λ a. PassSpells (up_to 5) p a n) (λ q b. StateSp
 
 accepted_forth : (n p : ℕ) (o : List ℕ) (s : Status) → Accepted n p o s → AcceptedSpells p o s
 unfolding WordSpells
-accepted_forth zero p o s (a, b, is, ((first, fits), few), (none, same)) = subst (λ z. AcceptedSpells p o z) same (rw (is, first, none) refl)
-accepted_forth (suc zero) p o s (a, b, is, ((first, fits), few), (none, same)) = subst (λ z. AcceptedSpells p o z) same (rw (is, first, none) refl)
-accepted_forth (suc (suc zero)) p o s (a, b, is, ((first, fits), few), (x, same, (c, d, is', (low, lows), (high, highs)))) = subst (λ z. AcceptedSpells p o z) same (rw (is, first, is', low, high) refl, lows, highs)
-accepted_forth (suc (suc (suc zero))) p o s (a, b, is, ((first, fits), few), (none, same)) = subst (λ z. AcceptedSpells p o z) same (rw (is, first, none) refl)
-accepted_forth (suc (suc (suc (suc zero)))) p o s (a, b, is, ((first, fits), few), (none, same)) = subst (λ z. AcceptedSpells p o z) same (rw (is, first, none) refl)
+accepted_forth zero p o s (a, b, is, ((first, fits), few), (none, same)) =
+    subst (λ z. AcceptedSpells p o z) same (rw (is, first, none) refl)
+accepted_forth (suc zero) p o s (a, b, is, ((first, fits), few), (none, same)) =
+    subst (λ z. AcceptedSpells p o z) same (rw (is, first, none) refl)
+accepted_forth (suc (suc zero)) p o s (a, b, is, ((first, fits), few), (x, same, (c, d, is', (low, lows), (high, highs)))) =
+    subst (λ z. AcceptedSpells p o z) same (rw (is, first, is', low, high) refl, lows, highs)
+accepted_forth (suc (suc (suc zero))) p o s (a, b, is, ((first, fits), few), (none, same)) =
+    subst (λ z. AcceptedSpells p o z) same (rw (is, first, none) refl)
+accepted_forth (suc (suc (suc (suc zero)))) p o s (a, b, is, ((first, fits), few), (none, same)) =
+    subst (λ z. AcceptedSpells p o z) same (rw (is, first, none) refl)
 accepted_forth (suc (suc (suc (suc (suc n))))) p o s (a, b, is, ((first, fits), few), (none, same)) =
     let most : suc (suc (suc (suc (suc n)))) ≤ 5 = leb-true _ _ few in
     let five : n ≡ 0 = omega (arith, most) in
@@ -68,8 +73,17 @@ accepted_back : (p : ℕ) (o : List ℕ) (s : Status) → AcceptedSpells p o s �
 unfolding WordSpells
 accepted_back p o Answer is = ((0, Answer), refl, (word 0, [], is, ((refl, omega arith), refl), (refl, refl)))
 accepted_back p o ProgUnavail is = ((1, ProgUnavail), refl, (word 1, [], is, ((refl, omega arith), refl), (refl, refl)))
-accepted_back p o (ProgMismatch low high) (is, lows, highs) =
-    ((2, ProgMismatch low high), refl, (word 2, word low ++ word high, is, ((refl, omega arith), refl), ((low, high), refl, (word low, word high, refl, (refl, lows), (refl, highs)))))
+accepted_back p o (ProgMismatch low high) (is, lows, highs) = (
+  (2, ProgMismatch low high),
+  refl,
+  (
+    word 2,
+    word low ++ word high,
+    is,
+    ((refl, omega arith), refl),
+    ((low, high), refl, (word low, word high, refl, (refl, lows), (refl, highs))),
+  ),
+)
 accepted_back p o ProcUnavail is = ((3, ProcUnavail), refl, (word 3, [], is, ((refl, omega arith), refl), (refl, refl)))
 accepted_back p o GarbageArgs is = ((4, GarbageArgs), refl, (word 4, [], is, ((refl, omega arith), refl), (refl, refl)))
 accepted_back p o SystemErr is = ((5, SystemErr), refl, (word 5, [], is, ((refl, omega arith), refl), (refl, refl)))
@@ -77,7 +91,9 @@ accepted_back p o _ h = absurd h
 
 pub accepted_is : IsGrammar read_accepted AcceptedSpells AcceptedStops
 unfolding read_accepted
-accepted_is = mapped (λ (x : ℕ × Status). x.1) AcceptedSpells (both_are (pass_is (up_to 5) Item) state_is) (λ p o x h. accepted_forth x.0 p o x.1 h) accepted_back
+accepted_is =
+    mapped (λ (x : ℕ × Status). x.1) AcceptedSpells (both_are (pass_is (up_to 5) Item) state_is) (λ p o x h.
+    accepted_forth x.0 p o x.1 h) accepted_back
 
 -- ---- a denied call
 
@@ -94,7 +110,8 @@ Denied n p o s = Parts p o (λ a. PassSpells (up_to 1) p a n) (λ q b. DenialSpe
 
 denied_forth : (n p : ℕ) (o : List ℕ) (s : Status) → Denied n p o s → DeniedSpells p o s
 unfolding WordSpells
-denied_forth zero p o s (a, b, is, ((first, fits), few), (x, same, (c, d, is', (low, lows), (high, highs)))) = subst (λ z. DeniedSpells p o z) same (rw (is, first, is', low, high) refl, lows, highs)
+denied_forth zero p o s (a, b, is, ((first, fits), few), (x, same, (c, d, is', (low, lows), (high, highs)))) =
+    subst (λ z. DeniedSpells p o z) same (rw (is, first, is', low, high) refl, lows, highs)
 denied_forth (suc n) p o s (a, b, is, ((first, fits), few), (x, same, (why, whys))) =
     let most : suc n ≤ 1 = leb-true _ _ few in
     let one : n ≡ 0 = omega (arith, most) in
@@ -102,14 +119,26 @@ denied_forth (suc n) p o s (a, b, is, ((first, fits), few), (x, same, (why, whys
 
 denied_back : (p : ℕ) (o : List ℕ) (s : Status) → DeniedSpells p o s → (x : ℕ × Status) × (x.1 ≡ s) × Denied x.0 p o x.1
 unfolding WordSpells
-denied_back p o (RpcMismatch low high) (is, lows, highs) =
-    ((0, RpcMismatch low high), refl, (word 0, word low ++ word high, is, ((refl, omega arith), refl), ((low, high), refl, (word low, word high, refl, (refl, lows), (refl, highs)))))
-denied_back p o (AuthError why) (is, whys) = ((1, AuthError why), refl, (word 1, word why, is, ((refl, omega arith), refl), (why, refl, (refl, whys))))
+denied_back p o (RpcMismatch low high) (is, lows, highs) = (
+  (0, RpcMismatch low high),
+  refl,
+  (
+    word 0,
+    word low ++ word high,
+    is,
+    ((refl, omega arith), refl),
+    ((low, high), refl, (word low, word high, refl, (refl, lows), (refl, highs))),
+  ),
+)
+denied_back p o (AuthError why) (is, whys) =
+    ((1, AuthError why), refl, (word 1, word why, is, ((refl, omega arith), refl), (why, refl, (refl, whys))))
 denied_back p o _ h = absurd h
 
 pub denied_is : IsGrammar read_denied DeniedSpells DeniedStops
 unfolding read_denied
-denied_is = mapped (λ (x : ℕ × Status). x.1) DeniedSpells (both_are (pass_is (up_to 1) Item) denial_is) (λ p o x h. denied_forth x.0 p o x.1 h) denied_back
+denied_is =
+    mapped (λ (x : ℕ × Status). x.1) DeniedSpells (both_are (pass_is (up_to 1) Item) denial_is) (λ p o x h.
+    denied_forth x.0 p o x.1 h) denied_back
 
 -- ---- either
 
@@ -119,7 +148,9 @@ OutcomeSpells zero p o f = (x : Auth × Status) × (accepted x.0 x.1 ≡ f)
 OutcomeSpells _ p o f = (s : Status) × (denied s ≡ f) × DeniedSpells p o s
 
 outcome_is : (n : ℕ) → IsGrammar (read_outcome n) (OutcomeSpells n) (OutcomeStops n)
-outcome_is zero = mapped (λ (x : Auth × Status). accepted x.0 x.1) (OutcomeSpells zero) (both_are auth_is (λ verf. accepted_is)) (λ p o x h. (x, refl, h)) (λ p o y h. h)
+outcome_is zero =
+    mapped (λ (x : Auth × Status). accepted x.0 x.1) (OutcomeSpells zero) (both_are auth_is (λ verf. accepted_is)) (λ p o x h.
+    (x, refl, h)) (λ p o y h. h)
 outcome_is (suc n) = mapped denied (OutcomeSpells (suc n)) denied_is (λ p o s h. (s, refl, h)) (λ p o y h. h)
 
 abbrev Outcome : ℕ → Spelling Fate
@@ -137,11 +168,14 @@ fate_forth (suc n) p o f (a, b, is, ((first, fits), few), (s, same, behind)) =
 
 fate_back : (p : ℕ) (o : List ℕ) (f : Fate) → FateSpells p o f → (x : ℕ × Fate) × (x.1 ≡ f) × Outcome x.0 p o x.1
 unfolding WordSpells
-fate_back p o (accepted verf s) (a, b, is, first, behind) = ((0, accepted verf s), refl, (a, b, is, ((first, omega arith), refl), ((verf, s), refl, behind)))
+fate_back p o (accepted verf s) (a, b, is, first, behind) =
+    ((0, accepted verf s), refl, (a, b, is, ((first, omega arith), refl), ((verf, s), refl, behind)))
 fate_back p o (denied s) (a, b, is, first, behind) = ((1, denied s), refl, (a, b, is, ((first, omega arith), refl), (s, refl, behind)))
 
 fate_is : IsGrammar read_fate FateSpells FateStops
-fate_is = mapped (λ (x : ℕ × Fate). x.1) FateSpells (both_are (pass_is (up_to 1) Item) outcome_is) (λ p o x h. fate_forth x.0 p o x.1 h) fate_back
+fate_is =
+    mapped (λ (x : ℕ × Fate). x.1) FateSpells (both_are (pass_is (up_to 1) Item) outcome_is) (λ p o x h.
+    fate_forth x.0 p o x.1 h) fate_back
 
 abbrev Values : Type 0
 Values = ℕ × (ℕ × Fate)
@@ -160,7 +194,8 @@ forth p o x (a, b, is, first, (c, d, is', ((second, fits), kind), behind)) =
 
 back : (p : ℕ) (o : List ℕ) (y : Reply) → ReplySpells p o y → (x : Values) × (reply_of x ≡ y) × Items p o x
 unfolding WordSpells
-back p o y (a, b, is, first, (c, d, is', second, behind)) = ((y.xid, (1, y.fate)), refl, (a, b, is, first, (c, d, is', ((second, omega arith), refl), behind)))
+back p o y (a, b, is, first, (c, d, is', second, behind)) =
+    ((y.xid, (1, y.fate)), refl, (a, b, is, first, (c, d, is', ((second, omega arith), refl), behind)))
 
 pub reply_is : IsGrammar read_head_of_reply ReplySpells ReplyStops
 reply_is = mapped reply_of ReplySpells (both_are word_is (λ xid. both_are (pass_is (only 1) Type_) (λ type. fate_is))) forth back

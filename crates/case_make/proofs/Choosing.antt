@@ -66,9 +66,15 @@ pub choice_made : (blank : ℤ) (ts : List Ty) (arms : List (ℤ × ℕ)) (o : O
 choice_made blank ts arms o old tagged new n v w t m is =
     let d = drawn_one blank (map (λ a. a.0) arms) old.state in
     let same = arm_same (drawn_arm (arms_at ts arms o)) n d.value tagged.state d.state t.number t.state in
-    subst (λ ns. IsMade weight old new (drawn_tagged (drawn_arm (arms_at ts arms o)) (drawn_one blank ns old.state)) w) (sym (numbers_listed ts arms o))
+    subst
+    (λ ns.
+    IsMade weight old new (drawn_tagged (drawn_arm (arms_at ts arms o)) (drawn_one blank ns old.state)) w)
+    (sym (numbers_listed ts arms o))
     (record {
-      value = is ∙ ap (arm n) (m.value ∙ ap (λ z. z.value) same) ∙ ap (λ z. arm z (drawn_arm (arms_at ts arms o) d.value d.state).value) t.number;
+      value =
+          is
+          ∙ ap (arm n)
+          (m.value ∙ ap (λ z. z.value) same) ∙ ap (λ z. arm z (drawn_arm (arms_at ts arms o) d.value d.state).value) t.number;
       state = m.state ∙ ap (λ z. z.state) same;
       left = omega (arith, ap weight is, m.left, t.left);
     })
@@ -78,6 +84,11 @@ pub choice_heavy : (blank : ℤ) (ts : List Ty) (arms : List (ℤ × ℕ)) (o : 
     → IsTooHeavy weight old (drawn_tagged (drawn_arm (arms_at ts arms o)) (drawn_one blank (arm_numbers (arms_at ts arms o)) old.state))
 choice_heavy blank ts arms o old tagged n t h =
     let d = drawn_one blank (map (λ a. a.0) arms) old.state in
-    let same = ap (λ (z : Drawn Val). weight z.value) (arm_same (drawn_arm (arms_at ts arms o)) n d.value tagged.state d.state t.number t.state) in
-    subst (λ ns. IsTooHeavy weight old (drawn_tagged (drawn_arm (arms_at ts arms o)) (drawn_one blank ns old.state))) (sym (numbers_listed ts arms o))
+    let same =
+    ap (λ (z : Drawn Val).
+    weight z.value) (arm_same (drawn_arm (arms_at ts arms o)) n d.value tagged.state d.state t.number t.state) in
+    subst
+    (λ ns.
+    IsTooHeavy weight old (drawn_tagged (drawn_arm (arms_at ts arms o)) (drawn_one blank ns old.state)))
+    (sym (numbers_listed ts arms o))
     (omega (arith, h, same, t.left))

@@ -137,7 +137,10 @@ pub drawn_arm_at : (arms : List (ℤ × ℕ)) (other : ℤ) (s : ℕ) (a : ℤ �
     → (drawn_one other (map (λ b. b.0) arms) s).value ≡ a.0
 drawn_arm_at [] other s a e = absurd cc
 drawn_arm_at (b ∷ arms) other s a e =
-    ap (λ m. get_or (map (λ c. c.0) (b ∷ arms)) (below (suc m) s) other) (many_numbers arms) ∙ number_at (b ∷ arms) (below (length (b ∷ arms)) s) a other e
+    ap (λ m.
+    get_or
+    (map
+    (λ c. c.0) (b ∷ arms)) (below (suc m) s) other) (many_numbers arms) ∙ number_at (b ∷ arms) (below (length (b ∷ arms)) s) a other e
 
 pub found_there : {A : Type 0} (xs : List A) (i : ℕ) → i < length xs → slice_get xs i ≡ None → ⊥
 found_there [] i h e = omega arith

@@ -60,7 +60,8 @@ blank_scalar_is (label ns) h = blank_is_of (scalar_type (label ns)) (rw h refl)
 tag_is_scalar : (a : Scalar) (ns : List ℤ) (s : ℕ) → is_labelled a ≡ true → list_all (is_scalar a) ns ≡ true
     → IsScalar a (drawn_one (blank_scalar a) ns s).value
 tag_is_scalar a [] s h k = blank_scalar_is a h
-tag_is_scalar a (n ∷ ns) s h k = all_at (is_scalar a) (n ∷ ns) (below (length (n ∷ ns)) s) (blank_scalar a) k (below-lt (length (n ∷ ns)) s (omega arith))
+tag_is_scalar a (n ∷ ns) s h k = all_at (is_scalar a) (n ∷ ns) (below (length (n ∷ ns)) s) (blank_scalar a) k
+    (below-lt (length (n ∷ ns)) s (omega arith))
 
 or_later : (b c : Bool) → c ≡ true → cond b true c ≡ true
 or_later true c h = refl
@@ -93,10 +94,17 @@ not_true true h = absurd cc
 armed : (a : Scalar) (arms : Arms) → level_refusal (choice_type a arms) ≡ None → Armed a arms
 armed a arms h =
     let ns = arm_numbers arms in
-    let both = split (is_labelled a) (are_arms a arms) (not_false (is_labelled a && are_arms a arms) (level_taken (choice_type a arms) h).labelled) in
+    let both =
+    split (is_labelled a) (are_arms a arms)
+    (not_false (is_labelled a && are_arms a arms) (level_taken (choice_type a arms) h).labelled) in
     let parts = split (are_tagged a ns) (not (is_armless arms)) both.1 in
     let tagged = split (nat_le (length ns) most_labels) (rise_from None ns && list_all (is_scalar a) ns) parts.0 in
-    record { labelled = both.0; scalars = (split (rise_from None ns) (list_all (is_scalar a) ns) tagged.1).1; some = not_true (is_armless arms) parts.1 }
+    record {
+      labelled = both.0;
+      scalars = (split (rise_from None ns) (list_all (is_scalar a) ns) tagged.1).1;
+      some =
+          not_true (is_armless arms) parts.1;
+    }
 
 -- ---- types
 

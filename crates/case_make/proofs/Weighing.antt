@@ -84,8 +84,11 @@ row_on f many i numbers start now new x h g is next =
 pub row_done : (f : ℕ → Drawn ℤ) (many i : ℕ) (numbers : List ℤ) (start now : ℕ) → many ≤ i → Rowing f many i numbers start now
     → (numbers ≡ (several f many start).value) × (now ≡ (several f many start).state)
 row_done f many i numbers start now h g =
-    let none = none_less many i h in
-    (sym (append-nil numbers) ∙ ap (λ m. numbers ++ (several f m now).value) (sym none) ∙ g.value, ap (λ m. (several f m now).state) (sym none) ∙ g.state)
+    let none = none_less many i h in (
+      sym (append-nil numbers)
+          ∙ ap (λ m. numbers ++ (several f m now).value) (sym none) ∙ g.value,
+      ap (λ m. (several f m now).state) (sym none) ∙ g.state,
+    )
 
 -- a row that is made
 pub row_made : (k : Kind) (f : ℕ → Drawn ℤ) (c : Count) (old new : Maker) (many i start : ℕ) (numbers : List ℤ) → many ≤ i
@@ -96,7 +99,12 @@ row_made k f c old new many i start numbers h g length_is start_is left =
     let whole : several f many start ≡ as_many f (drawn_length c old.state) =
     ap (λ m. several f m start) length_is ∙ ap (λ s. several f (drawn_length c old.state).value s) start_is in
     let long : length numbers ≡ many = ap length done.0 ∙ length-several f many start in
-    record { value = ap (row k) (done.0 ∙ ap (λ z. z.value) whole); state = done.1 ∙ ap (λ z. z.state) whole; left = omega (arith, long, left) }
+    record {
+      value =
+          ap (row k) (done.0 ∙ ap (λ z. z.value) whole);
+      state = done.1 ∙ ap (λ z. z.state) whole;
+      left = omega (arith, long, left);
+    }
 
 pub heavy_row : (f : ℕ → Drawn ℤ) (c : Count) (s left n : ℕ) → left < 1 + n → n ≡ (drawn_length c s).value
     → left < suc (length (as_many f (drawn_length c s)).value)
@@ -115,7 +123,8 @@ items_on f many i all values old now h g =
 
 pub items_done : (f : ℕ → Drawn Val) (many i : ℕ) (all : Drawn (List Val)) (values : List Val) (old now : Maker) → many ≤ i
     → Going (several f (many - i)) all values old now → IsMade weigh_all old now all values
-items_done f many i all values old now h g = gone all values old now (subst (λ m. Going (several f m) all values old now) (none_less many i h) g)
+items_done f many i all values old now h g =
+    gone all values old now (subst (λ m. Going (several f m) all values old now) (none_less many i h) g)
 
 -- the fields that are left
 pub fields_next : (u : List Ty) (xs : List ℕ) (i : ℕ) (all : Drawn (List Val)) (values : List Val) (old now : Maker) → i < length xs
@@ -133,7 +142,9 @@ pub pushed_on : (f : ℕ → Drawn Val) (more : ℕ → Drawn (List Val)) (all :
     → ys ≡ xs ++ (x ∷ []) → Going (first f more) all (map seen xs) old now → IsMade weight now new (f now.state) (seen x)
     → Going more all (map seen ys) old new
 pushed_on f more all xs ys x old now new is g m =
-    subst (λ vs. Going more all vs old new) (sym (ap (map seen) is ∙ push_seen xs x)) (going_on f more all (map seen xs) (seen x) old now new g m)
+    subst
+    (λ vs.
+    Going more all vs old new) (sym (ap (map seen) is ∙ push_seen xs x)) (going_on f more all (map seen xs) (seen x) old now new g m)
 
 -- a list whose elements are too heavy
 pub items_heavy : (ty inner : Ty) (c : Count) (old weighed counted : Maker) (many : ℕ) → ty ≡ items_type c inner

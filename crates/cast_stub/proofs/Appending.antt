@@ -27,18 +27,36 @@ regrouped x y z w e = ap (both x) e ∙ sym (both_assoc x z w)
 
 pub steps-append : (c : Calls) (h : Head) (a b : Block) (v : Val) → steps c h (append a b) v ≡ both (steps c h a v) (steps c h b v)
 steps-append c h stop b v = sym (both_first (steps c h b v))
-steps-append c h (ensure n r) b v = regrouped (Some (Room n ∷ [])) (steps c h (append r b) v) (steps c h r v) (steps c h b v) (steps-append c h r b v)
-steps-append c h (ensure_row p u e r) b v = regrouped (on_some (on_some (at p v) length_in) (λ n. Some (Room (n * u + e) ∷ []))) (steps c h (append r b) v) (steps c h r v) (steps c h b v) (steps-append c h r b v)
-steps-append c h (align a r) b v = regrouped (if is_width a then Some (Pad a ∷ []) else None) (steps c h (append r b) v) (steps c h r v) (steps c h b v) (steps-append c h r b v)
-steps-append c h (chunk s ps r) b v = regrouped (on_some (filled s ps h v) (λ o. Some (Stored o (length ps) ∷ []))) (steps c h (append r b) v) (steps c h r v) (steps c h b v) (steps-append c h r b v)
-steps-append c h (row_copy p r) b v = regrouped (copy_steps p v) (steps c h (append r b) v) (steps c h r v) (steps c h b v) (steps-append c h r b v)
-steps-append c h (row_swap p r) b v = regrouped (swap_steps p v) (steps c h (append r b) v) (steps c h r v) (steps c h b v) (steps-append c h r b v)
-steps-append c h (row_wide p o r) b v = regrouped (wide_steps p o v) (steps c h (append r b) v) (steps c h r v) (steps c h b v) (steps-append c h r b v)
-steps-append c h (each p a r) b v = regrouped (on_some (on_some (at p v) elements_in) (over (steps c h a))) (steps c h (append r b) v) (steps c h r v) (steps c h b v) (steps-append c h r b v)
-steps-append c h (switch p cs r) b v = regrouped (on_some (on_some (at p v) arm_in) (λ a. case_steps c h cs a.0 a.1)) (steps c h (append r b) v) (steps c h r v) (steps c h b v) (steps-append c h r b v)
-steps-append c h (if_there p a r) b v = regrouped (on_some (at p v) (if_present (steps c h a))) (steps c h (append r b) v) (steps c h r v) (steps c h b v) (steps-append c h r b v)
-steps-append c h (call k p r) b v = regrouped (on_some (at p v) (c k)) (steps c h (append r b) v) (steps c h r v) (steps c h b v) (steps-append c h r b v)
-steps-append c h (patch a s o r) b v = regrouped (Some (Patched a s o ∷ [])) (steps c h (append r b) v) (steps c h r v) (steps c h b v) (steps-append c h r b v)
+steps-append c h (ensure n r) b v = regrouped (Some (Room n ∷ [])) (steps c h (append r b) v) (steps c h r v) (steps c h b v)
+    (steps-append c h r b v)
+steps-append c h (ensure_row p u e r) b v =
+    regrouped
+    (on_some (on_some (at p v) length_in)
+    (λ n. Some (Room (n * u + e) ∷ []))) (steps c h (append r b) v) (steps c h r v) (steps c h b v) (steps-append c h r b v)
+steps-append c h (align a r) b v = regrouped (if is_width a then Some (Pad a ∷ []) else None) (steps c h (append r b) v) (steps c h r v)
+    (steps c h b v) (steps-append c h r b v)
+steps-append c h (chunk s ps r) b v =
+    regrouped
+    (on_some (filled s ps h v)
+    (λ o. Some (Stored o (length ps) ∷ []))) (steps c h (append r b) v) (steps c h r v) (steps c h b v) (steps-append c h r b v)
+steps-append c h (row_copy p r) b v = regrouped (copy_steps p v) (steps c h (append r b) v) (steps c h r v) (steps c h b v)
+    (steps-append c h r b v)
+steps-append c h (row_swap p r) b v = regrouped (swap_steps p v) (steps c h (append r b) v) (steps c h r v) (steps c h b v)
+    (steps-append c h r b v)
+steps-append c h (row_wide p o r) b v = regrouped (wide_steps p o v) (steps c h (append r b) v) (steps c h r v) (steps c h b v)
+    (steps-append c h r b v)
+steps-append c h (each p a r) b v = regrouped (on_some (on_some (at p v) elements_in) (over (steps c h a))) (steps c h (append r b) v)
+    (steps c h r v) (steps c h b v) (steps-append c h r b v)
+steps-append c h (switch p cs r) b v =
+    regrouped
+    (on_some (on_some (at p v) arm_in)
+    (λ a. case_steps c h cs a.0 a.1)) (steps c h (append r b) v) (steps c h r v) (steps c h b v) (steps-append c h r b v)
+steps-append c h (if_there p a r) b v = regrouped (on_some (at p v) (if_present (steps c h a))) (steps c h (append r b) v) (steps c h r v)
+    (steps c h b v) (steps-append c h r b v)
+steps-append c h (call k p r) b v = regrouped (on_some (at p v) (c k)) (steps c h (append r b) v) (steps c h r v) (steps c h b v)
+    (steps-append c h r b v)
+steps-append c h (patch a s o r) b v = regrouped (Some (Patched a s o ∷ [])) (steps c h (append r b) v) (steps c h r v) (steps c h b v)
+    (steps-append c h r b v)
 
 piece-append : (x : SendOp-F Piece) (a b : Block) → append (piece_level x a) b ≡ piece_level x (append a b)
 piece-append (SendOp-F.Ensure n) a b = refl
@@ -56,7 +74,11 @@ piece-append (SendOp-F.Patch at sub order) a b = refl
 
 -- an operation is a piece in front
 pub op-append : (o : SendOp) (a b : Block) → append (op_seen o a) b ≡ op_seen o (append a b)
-op-append o a b = subst (λ (p : Piece). append (p a) b ≡ p (append a b)) (sym (fold_out-SendOp Piece piece_level o)) (piece-append (map-SendOp SendOp Piece op_seen (out-SendOp o)) a b)
+op-append o a b =
+    subst
+    (λ (p : Piece).
+    append (p a) b ≡ p (append a b)) (sym (fold_out-SendOp Piece piece_level o))
+    (piece-append (map-SendOp SendOp Piece op_seen (out-SendOp o)) a b)
 
 pub append-stop : (a : Block) → append a stop ≡ a
 append-stop stop = refl

@@ -27,13 +27,19 @@ fits Id h is = is.id
 fits Remote h is = is.remote
 fits Local h is = is.local
 
-covered : (c : Calls) (f : HeadField) (h : Head) (v : Val) (p : ℕ) → IsHead h → AreCovered (steps c h (ensure 4 (chunk 4 (put.Head 0 f 4 Big ∷ []) stop)) v) p
+covered : (c : Calls) (f : HeadField) (h : Head) (v : Val) (p : ℕ) → IsHead h
+    → AreCovered (steps c h (ensure 4 (chunk 4 (put.Head 0 f 4 Big ∷ []) stop)) v) p
 covered c f h v p is = rw (word_of (head_number f h) (fits f h is)) (tt, (omega arith, tt))
 
 -- a number of the head is covered for each type and at each position
 heads_are_covered : (t : Ty) (p : ℕ) (f : HeadField) → IsCovered t p (head_word f)
-heads_are_covered t p f h v is typed = rw (seen-Ensure 4, seen-Chunk 4 (put.Head 0 f 4 Big ∷ [])) (covered (calls_of [] h deepest) f h v p is)
+heads_are_covered t p f h v is typed = rw (seen-Ensure 4, seen-Chunk 4 (put.Head 0 f 4 Big ∷ []))
+    (covered (calls_of [] h deepest) f h v p is)
 
 -- a number that no word can hold is not covered
-too_great : AreCovered (steps (λ k v. None) (record { id = 4294967296; remote = 0; local = 0; wants = true; order = Big }) (chunk 4 (put.Head 0 Id 4 Big ∷ []) stop) void) 0 → ⊥
+too_great : AreCovered
+    (steps
+    (λ k v.
+    None) (record { id = 4294967296; remote = 0; local = 0; wants = true; order = Big }) (chunk 4 (put.Head 0 Id 4 Big ∷ []) stop) void) 0
+    → ⊥
 too_great h = h

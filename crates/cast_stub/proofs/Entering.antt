@@ -23,9 +23,12 @@ entered-append e (chunk s ps r) b v = entered-append e r b v
 entered-append e (row_copy p r) b v = entered-append e r b v
 entered-append e (row_swap p r) b v = entered-append e r b v
 entered-append e (row_wide p o r) b v = entered-append e r b v
-entered-append e (each p a r) b v = behind (of_some (on_some (at p v) elements_in) (of_each (entered e a))) _ (entered e r v) (entered e b v) (entered-append e r b v)
-entered-append e (switch p cs r) b v = behind (of_some (on_some (at p v) arm_in) (λ a. case_entered e cs a.0 a.1)) _ (entered e r v) (entered e b v) (entered-append e r b v)
-entered-append e (if_there p a r) b v = behind (of_some (at p v) (of_present (entered e a))) _ (entered e r v) (entered e b v) (entered-append e r b v)
+entered-append e (each p a r) b v = behind (of_some (on_some (at p v) elements_in) (of_each (entered e a))) _ (entered e r v)
+    (entered e b v) (entered-append e r b v)
+entered-append e (switch p cs r) b v =
+    behind (of_some (on_some (at p v) arm_in) (λ a. case_entered e cs a.0 a.1)) _ (entered e r v) (entered e b v) (entered-append e r b v)
+entered-append e (if_there p a r) b v = behind (of_some (at p v) (of_present (entered e a))) _ (entered e r v) (entered e b v)
+    (entered-append e r b v)
 entered-append e (call k p r) b v = behind (of_some (at p v) (λ w. k ∷ e k w)) _ (entered e r v) (entered e b v) (entered-append e r b v)
 entered-append e (patch a s o r) b v = entered-append e r b v
 
@@ -67,16 +70,24 @@ mutual
   entered-unensured e (row_swap p r) v = entered-unensured e r v
   entered-unensured e (row_wide p o r) v = entered-unensured e r v
   entered-unensured e (each p b r) v =
-      both_same (of_some (on_some (at p v) elements_in) (of_each (entered e (unensured b)))) (of_some (on_some (at p v) elements_in) (of_each (entered e b))) (entered e (unensured r) v) (entered e r v)
-      (some_same (on_some (at p v) elements_in) (of_each (entered e (unensured b))) (of_each (entered e b)) (each_same (entered e (unensured b)) (entered e b) (λ w. entered-unensured e b w)))
+      both_same (of_some (on_some (at p v) elements_in) (of_each (entered e (unensured b))))
+      (of_some (on_some (at p v) elements_in) (of_each (entered e b))) (entered e (unensured r) v) (entered e r v)
+      (some_same (on_some (at p v) elements_in) (of_each (entered e (unensured b))) (of_each (entered e b))
+      (each_same (entered e (unensured b)) (entered e b) (λ w. entered-unensured e b w)))
       (entered-unensured e r v)
   entered-unensured e (switch p cs r) v =
-      both_same (of_some (on_some (at p v) arm_in) (λ a. case_entered e (cases_unensured cs) a.0 a.1)) (of_some (on_some (at p v) arm_in) (λ a. case_entered e cs a.0 a.1)) (entered e (unensured r) v) (entered e r v)
-      (some_same (on_some (at p v) arm_in) (λ a. case_entered e (cases_unensured cs) a.0 a.1) (λ a. case_entered e cs a.0 a.1) (λ a. cases-unensured e cs a.0 a.1))
+      both_same
+      (of_some (on_some (at p v) arm_in)
+      (λ a. case_entered e (cases_unensured cs) a.0 a.1)) (of_some (on_some (at p v) arm_in) (λ a.
+      case_entered e cs a.0 a.1)) (entered e (unensured r) v) (entered e r v)
+      (some_same (on_some (at p v) arm_in)
+      (λ a. case_entered e (cases_unensured cs) a.0 a.1) (λ a. case_entered e cs a.0 a.1) (λ a. cases-unensured e cs a.0 a.1))
       (entered-unensured e r v)
   entered-unensured e (if_there p b r) v =
-      both_same (of_some (at p v) (of_present (entered e (unensured b)))) (of_some (at p v) (of_present (entered e b))) (entered e (unensured r) v) (entered e r v)
-      (some_same (at p v) (of_present (entered e (unensured b))) (of_present (entered e b)) (present_same (entered e (unensured b)) (entered e b) (λ w. entered-unensured e b w)))
+      both_same (of_some (at p v) (of_present (entered e (unensured b)))) (of_some (at p v) (of_present (entered e b)))
+      (entered e (unensured r) v) (entered e r v)
+      (some_same (at p v) (of_present (entered e (unensured b))) (of_present (entered e b))
+      (present_same (entered e (unensured b)) (entered e b) (λ w. entered-unensured e b w)))
       (entered-unensured e r v)
   entered-unensured e (call k p r) v = ap (λ (l : List ℕ). of_some (at p v) (λ w. k ∷ e k w) ++ l) (entered-unensured e r v)
   entered-unensured e (patch a s o r) v = entered-unensured e r v
@@ -85,7 +96,8 @@ mutual
   cases-unensured e no_default n w = refl
   cases-unensured e (default b) n w = entered-unensured e b w
   cases-unensured e (case m b cs) n w =
-      if_same (int_eq n m) (entered e (unensured b) w) (entered e b w) (case_entered e (cases_unensured cs) n w) (case_entered e cs n w) (entered-unensured e b w) (cases-unensured e cs n w)
+      if_same (int_eq n m) (entered e (unensured b) w) (entered e b w) (case_entered e (cases_unensured cs) n w) (case_entered e cs n w)
+      (entered-unensured e b w) (cases-unensured e cs n w)
 
 -- ---- code without calls
 
@@ -125,7 +137,8 @@ mutual
   entered-none e (row_wide p o r) v h = entered-none e r v h
   entered-none e (each p b r) v h =
       both_same (of_some (on_some (at p v) elements_in) (of_each (entered e b))) [] (entered e r v) []
-      (some_none (on_some (at p v) elements_in) (of_each (entered e b)) (each_none (entered e b) (λ w. entered-none e b w h.0))) (entered-none e r v h.1)
+      (some_none (on_some (at p v) elements_in) (of_each (entered e b))
+      (each_none (entered e b) (λ w. entered-none e b w h.0))) (entered-none e r v h.1)
   entered-none e (switch p cs r) v h =
       both_same (of_some (on_some (at p v) arm_in) (λ a. case_entered e cs a.0 a.1)) [] (entered e r v) []
       (some_none (on_some (at p v) arm_in) (λ a. case_entered e cs a.0 a.1) (λ a. case-none e cs a.0 a.1 h.0)) (entered-none e r v h.1)

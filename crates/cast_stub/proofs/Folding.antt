@@ -14,7 +14,8 @@ room-more p a b (Widened o k ∷ ss) le h = (omega (arith, h.0), room-more (p + 
 room-more p a b (Copied o ∷ ss) le h = (omega (arith, h.0), room-more (p + length o) (a - length o) (b - length o) ss (omega arith) h.1)
 room-more p a b (Patched at sub order ∷ ss) le h = room-more p a b ss le h
 
-then_wrote : (x : Option (List ℕ)) (base : ℕ) (a b : List Step) → ((o : List ℕ) → wrote base o (a ++ b) ≡ on_some (wrote base o a) (λ p. wrote base p b))
+then_wrote : (x : Option (List ℕ)) (base : ℕ) (a b : List Step)
+    → ((o : List ℕ) → wrote base o (a ++ b) ≡ on_some (wrote base o a) (λ p. wrote base p b))
     → on_some x (λ o. wrote base o (a ++ b)) ≡ on_some (on_some x (λ o. wrote base o a)) (λ p. wrote base p b)
 then_wrote None base a b h = refl
 then_wrote (Some o) base a b h = h o
@@ -29,7 +30,13 @@ wrote-append base o (Copied os ∷ a) b = wrote-append base (o ++ os) a b
 wrote-append base o (Patched at sub order ∷ a) b = then_wrote (patched base at sub order o) base a b (λ p. wrote-append base p a b)
 
 sum_assoc : (a b c : Cost) → sum (sum a b) c ≡ sum a (sum b c)
-sum_assoc a b c = rw (add_assoc a.checks b.checks c.checks, add_assoc a.moves b.moves c.moves, add_assoc a.stores b.stores c.stores, add_assoc a.rows b.rows c.rows) refl
+sum_assoc a b c =
+    rw (
+      add_assoc a.checks b.checks c.checks,
+      add_assoc a.moves b.moves c.moves,
+      add_assoc a.stores b.stores c.stores,
+      add_assoc a.rows b.rows c.rows,
+    ) refl
 
 none_first : (c : Cost) → sum no_cost c ≡ c
 none_first c =

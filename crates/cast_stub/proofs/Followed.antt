@@ -51,7 +51,8 @@ count_rowless Any b h = flat_rowless b h.0 h.1
 
 loop_rowless : (p : List ℕ) (b : Block) → IsLoop p b → IsRowless b
 loop_rowless p b f =
-    subst IsRowless (sym f.6) (append_rowless f.0 (each p f.1 f.2) (flat_rowless f.0 f.3 f.7) (flat_rowless f.1 f.4 f.8, flat_rowless f.2 f.5 f.9))
+    subst IsRowless (sym f.6) (append_rowless f.0 (each p f.1 f.2) (flat_rowless f.0 f.3 f.7)
+    (flat_rowless f.1 f.4 f.8, flat_rowless f.2 f.5 f.9))
 
 module _ (L : Loops) (loops : (a : Array) (p : List ℕ) (b : Block) → L a p b → IsRowless b) (subs : ℕ → Option Block) where
   child_rowless : (F : Going) (below : ℕ) (p : List ℕ) (b : Block) → (F below p b → IsRowless b) → Child subs F below p b → IsRowless b
@@ -68,7 +69,8 @@ module _ (L : Loops) (loops : (a : Array) (p : List ℕ) (b : Block) → L a p b
         let body = child_rowless (FollowsBy L subs t) below [] f.1 (go_rowless t below [] f.1) f.4 in
         subst IsRowless (sym f.2) (append_rowless f.0 (each p f.1 stop) (count_rowless c f.0 f.3) (body, tt))
     go_rowless (choice_type s arms) below p b f =
-        subst IsRowless (sym f.2) (append_rowless f.0 (switch p f.1 stop) (flat_rowless f.0 (f.3).0 (f.3).1) (arms_rowless arms below f.1 f.4, tt))
+        subst IsRowless (sym f.2) (append_rowless f.0 (switch p f.1 stop) (flat_rowless f.0 (f.3).0 (f.3).1)
+        (arms_rowless arms below f.1 f.4, tt))
     go_rowless (maybe_type t) below p b f =
         let body = child_rowless (FollowsBy L subs t) below [] f.1 (go_rowless t below [] f.1) f.4 in
         subst IsRowless (sym f.2) (append_rowless f.0 (if_there p f.1 stop) (flat_rowless f.0 (f.3).0 (f.3).1) (body, tt))

@@ -15,7 +15,8 @@ pub seen-Each : (path : List ℕ) (code : List SendOp) → op_seen (op.Each path
 seen-Each path code = ap op_seen (sym (op.rolls-Each path code)) ∙ fold-roll-SendOp Piece piece_level (SendOp-F.Each path code)
 
 pub seen-EnsureRow : (path : List ℕ) (unit extra : ℕ) → op_seen (op.EnsureRow path unit extra) ≡ ensure_row path unit extra
-seen-EnsureRow path unit extra = ap op_seen (sym (op.rolls-EnsureRow path unit extra)) ∙ fold-roll-SendOp Piece piece_level (SendOp-F.EnsureRow path unit extra)
+seen-EnsureRow path unit extra = ap op_seen (sym (op.rolls-EnsureRow path unit extra))
+    ∙ fold-roll-SendOp Piece piece_level (SendOp-F.EnsureRow path unit extra)
 
 pub seen-Align : (n : ℕ) → op_seen (op.Align n) ≡ align n
 seen-Align n = ap op_seen (sym (op.rolls-Align n)) ∙ fold-roll-SendOp Piece piece_level (SendOp-F.Align n)
@@ -32,9 +33,12 @@ seen-RowSwap path = ap op_seen (sym (op.rolls-RowSwap path)) ∙ fold-roll-SendO
 pub seen-RowWide : (path : List ℕ) (order : Order) → op_seen (op.RowWide path order) ≡ row_wide path order
 seen-RowWide path order = ap op_seen (sym (op.rolls-RowWide path order)) ∙ fold-roll-SendOp Piece piece_level (SendOp-F.RowWide path order)
 
-pub seen-Switch : (path : List ℕ) (cases : List (ℤ × List SendOp)) (other : Option (List SendOp)) → op_seen (op.Switch path cases other) ≡ switch path (cases_seen cases other)
-seen-Switch path cases None = ap op_seen (sym (op.rolls-Switch path cases None)) ∙ fold-roll-SendOp Piece piece_level (SendOp-F.Switch path cases None)
-seen-Switch path cases (Some os) = ap op_seen (sym (op.rolls-Switch path cases (Some os))) ∙ fold-roll-SendOp Piece piece_level (SendOp-F.Switch path cases (Some os))
+pub seen-Switch : (path : List ℕ) (cases : List (ℤ × List SendOp)) (other : Option (List SendOp)) → op_seen (op.Switch path cases other)
+    ≡ switch path (cases_seen cases other)
+seen-Switch path cases None = ap op_seen (sym (op.rolls-Switch path cases None))
+    ∙ fold-roll-SendOp Piece piece_level (SendOp-F.Switch path cases None)
+seen-Switch path cases (Some os) = ap op_seen (sym (op.rolls-Switch path cases (Some os)))
+    ∙ fold-roll-SendOp Piece piece_level (SendOp-F.Switch path cases (Some os))
 
 pub seen-Some : (path : List ℕ) (code : List SendOp) → op_seen (op.Some path code) ≡ if_there path (code_seen code)
 seen-Some path code = ap op_seen (sym (op.rolls-Some path code)) ∙ fold-roll-SendOp Piece piece_level (SendOp-F.Some path code)
@@ -45,4 +49,17 @@ seen-Call k path = ap op_seen (sym (op.rolls-Call k path)) ∙ fold-roll-SendOp 
 pub seen-Patch : (at sub : ℕ) (order : Order) → op_seen (op.Patch at sub order) ≡ patch at sub order
 seen-Patch at sub order = ap op_seen (sym (op.rolls-Patch at sub order)) ∙ fold-roll-SendOp Piece piece_level (SendOp-F.Patch at sub order)
 
-pub ruleset pieces = (seen-Ensure, seen-EnsureRow, seen-Align, seen-Chunk, seen-RowCopy, seen-RowSwap, seen-RowWide, seen-Each, seen-Switch, seen-Some, seen-Call, seen-Patch)
+pub ruleset pieces = (
+  seen-Ensure,
+  seen-EnsureRow,
+  seen-Align,
+  seen-Chunk,
+  seen-RowCopy,
+  seen-RowSwap,
+  seen-RowWide,
+  seen-Each,
+  seen-Switch,
+  seen-Some,
+  seen-Call,
+  seen-Patch,
+)

@@ -12,7 +12,8 @@ use Rattle.cast_stub.specs.Block.{Block, stop, ensure, ensure_row, align, chunk,
 use Rattle.cast_stub.specs.Steps.{Room, Patched, both, Calls, steps}
 use Rattle.cast_stub.specs.Append.{put_rebased, rebase}
 
-on_some-on_some : {A B C : Type 0} (o : Option A) (f : A → Option B) (g : B → Option C) → on_some (on_some o f) g ≡ on_some o (λ a. on_some (f a) g)
+on_some-on_some : {A B C : Type 0} (o : Option A) (f : A → Option B) (g : B → Option C) → on_some (on_some o f) g
+    ≡ on_some o (λ a. on_some (f a) g)
 on_some-on_some None f g = refl
 on_some-on_some (Some a) f g = refl
 
@@ -34,8 +35,10 @@ put-rebase : (h : Head) (q : List ℕ) (p : Put) (v w : Val) → at q v ≡ Some
 put-rebase h q (put.Num off p w' o) v w e = ap (λ x. on_some (on_some x number_in) (word w' o)) (at-rebase q p v w e)
 put-rebase h q (put.Tag off p w' o) v w e = ap (λ x. on_some (on_some x tag_in) (word w' o)) (at-rebase q p v w e)
 put-rebase h q (put.Flag off p w' o) v w e = ap (λ x. on_some (on_some x flag_in) (word w' o)) (at-rebase q p v w e)
-put-rebase h q (put.Count off p m a w' o) v w e = ap (λ x. on_some (on_some x length_in) (λ n. word w' o (pos (n * m + a)))) (at-rebase q p v w e)
-put-rebase h q (put.Short off p name size m) v w e = ap (λ x. on_some (on_some x length_in) (λ n. descriptor name size (n * m))) (at-rebase q p v w e)
+put-rebase h q (put.Count off p m a w' o) v w e =
+    ap (λ x. on_some (on_some x length_in) (λ n. word w' o (pos (n * m + a)))) (at-rebase q p v w e)
+put-rebase h q (put.Short off p name size m) v w e =
+    ap (λ x. on_some (on_some x length_in) (λ n. descriptor name size (n * m))) (at-rebase q p v w e)
 put-rebase h q (put.Const off os) v w e = refl
 put-rebase h q (put.Head off f w' o) v w e = refl
 
@@ -48,10 +51,14 @@ offset-rebase q (put.Short off p name size m) = refl
 offset-rebase q (put.Const off os) = refl
 offset-rebase q (put.Head off f w' o) = refl
 
-put_all-rebase : (h : Head) (q : List ℕ) (ps : List Put) (v w : Val) (cs : Cells) → at q v ≡ Some w → put_all h v (map (put_rebased q) ps) cs ≡ put_all h w ps cs
+put_all-rebase : (h : Head) (q : List ℕ) (ps : List Put) (v w : Val) (cs : Cells) → at q v ≡ Some w
+    → put_all h v (map (put_rebased q) ps) cs ≡ put_all h w ps cs
 put_all-rebase h q [] v w cs e = refl
 put_all-rebase h q (p ∷ ps) v w cs e =
-    rw (put-rebase h q p v w e, offset-rebase q p) (on_some_same (on_some (put_octets h p w) (λ os. placed (offset p) os cs)) (put_all h v (map (put_rebased q) ps)) (put_all h w ps) (λ ds. put_all-rebase h q ps v w ds e))
+    rw (put-rebase h q p v w e, offset-rebase q p)
+    (on_some_same
+    (on_some (put_octets h p w) (λ os. placed (offset p) os cs)) (put_all h v (map (put_rebased q) ps)) (put_all h w ps) (λ ds.
+    put_all-rebase h q ps v w ds e))
 
 -- code made for a part, seen from the whole; where the part is there
 pub steps-rebase : (c : Calls) (h : Head) (q : List ℕ) (b : Block) (v w : Val) → at q v ≡ Some w → steps c h (rebase q b) v ≡ steps c h b w
@@ -59,7 +66,8 @@ steps-rebase c h q stop v w e = refl
 steps-rebase c h q (ensure n r) v w e = ap (both (Some (Room n ∷ []))) (steps-rebase c h q r v w e)
 steps-rebase c h q (ensure_row p u x r) v w e = rw (at-rebase q p v w e, steps-rebase c h q r v w e) refl
 steps-rebase c h q (align a r) v w e = rw (steps-rebase c h q r v w e) refl
-steps-rebase c h q (chunk s ps r) v w e = rw (put_all-rebase h q ps v w (replicate s None) e, length-map ps (put_rebased q), steps-rebase c h q r v w e) refl
+steps-rebase c h q (chunk s ps r) v w e =
+    rw (put_all-rebase h q ps v w (replicate s None) e, length-map ps (put_rebased q), steps-rebase c h q r v w e) refl
 steps-rebase c h q (row_copy p r) v w e = rw (at-rebase q p v w e, steps-rebase c h q r v w e) refl
 steps-rebase c h q (row_swap p r) v w e = rw (at-rebase q p v w e, steps-rebase c h q r v w e) refl
 steps-rebase c h q (row_wide p o r) v w e = rw (at-rebase q p v w e, steps-rebase c h q r v w e) refl

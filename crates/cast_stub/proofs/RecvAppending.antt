@@ -10,7 +10,8 @@ use Rattle.cast_stub.specs.Into.{needed, passed, skipped, all_zero, desc_into, r
 use Rattle.cast_stub.specs.Runs.{Place, Run, gives, refuses, strays, then_run, if_some}
 use Rattle.std.specs.Prelude.{true, ◌*◌, ◌+◌}
 
-pub regrouped : {A B C : Type 0} (x : Run A) (f : A → Place → Run C) (g : A → Place → Run B) (h : B → Place → Run C) → ((y : A) (t : Place) → f y t ≡ then_run (g y t) h) → then_run x f ≡ then_run (then_run x g) h
+pub regrouped : {A B C : Type 0} (x : Run A) (f : A → Place → Run C) (g : A → Place → Run B) (h : B → Place → Run C)
+    → ((y : A) (t : Place) → f y t ≡ then_run (g y t) h) → then_run x f ≡ then_run (then_run x g) h
 regrouped (gives y t) f g h e = e y t
 regrouped refuses f g h e = refl
 regrouped strays f g h e = refl
@@ -25,18 +26,27 @@ then_same strays f g e = refl
 pub fill-append : (c : Callees) (a b : Recv) (d : Draft) (s : Place) → fill c (append a b) d s ≡ then_run (fill c a d s) (fill c b)
 fill-append c finish b d s = refl
 fill-append c (need n r) b d s = regrouped (needed n d s) (fill c (append r b)) (fill c r) (fill c b) (fill-append c r b)
-fill-append c (need_row p u e r) b d s = regrouped (if_some (part p d) (λ x. if_some (length_in x) (λ n. needed (n * u + e) d s))) (fill c (append r b)) (fill c r) (fill c b) (fill-append c r b)
+fill-append c (need_row p u e r) b d s =
+    regrouped
+    (if_some (part p d)
+    (λ x. if_some (length_in x) (λ n. needed (n * u + e) d s))) (fill c (append r b)) (fill c r) (fill c b) (fill-append c r b)
 fill-append c (skip_any a r) b d s = regrouped (skipped (λ o. true) a d s) (fill c (append r b)) (fill c r) (fill c b) (fill-append c r b)
 fill-append c (skip_zero a r) b d s = regrouped (skipped all_zero a d s) (fill c (append r b)) (fill c r) (fill c b) (fill-append c r b)
 fill-append c (pass n gs r) b d s =
     regrouped (all_got gs d s) (λ x t. then_run (passed n x t) (fill c (append r b))) (λ x t. then_run (passed n x t) (fill c r)) (fill c b)
     (λ (x : Draft) (t : Place). regrouped (passed n x t) (fill c (append r b)) (fill c r) (fill c b) (fill-append c r b))
-fill-append c (desc p name size mul r) b d s = regrouped (within p (desc_into name size mul) d s) (fill c (append r b)) (fill c r) (fill c b) (fill-append c r b)
-fill-append c (row_block p o r) b d s = regrouped (within p (row_into o) d s) (fill c (append r b)) (fill c r) (fill c b) (fill-append c r b)
-fill-append c (row_wide p o r) b d s = regrouped (within p (wide_into o) d s) (fill c (append r b)) (fill c r) (fill c b) (fill-append c r b)
-fill-append c (each p a r) b d s = regrouped (within p (fill_each (fill c a)) d s) (fill c (append r b)) (fill c r) (fill c b) (fill-append c r b)
-fill-append c (switch p cs r) b d s = regrouped (within p (fill_arm (fill_case c cs)) d s) (fill c (append r b)) (fill c r) (fill c b) (fill-append c r b)
-fill-append c (if_there p a r) b d s = regrouped (within p (fill_present (fill c a)) d s) (fill c (append r b)) (fill c r) (fill c b) (fill-append c r b)
+fill-append c (desc p name size mul r) b d s = regrouped (within p (desc_into name size mul) d s) (fill c (append r b)) (fill c r)
+    (fill c b) (fill-append c r b)
+fill-append c (row_block p o r) b d s = regrouped (within p (row_into o) d s) (fill c (append r b)) (fill c r) (fill c b)
+    (fill-append c r b)
+fill-append c (row_wide p o r) b d s = regrouped (within p (wide_into o) d s) (fill c (append r b)) (fill c r) (fill c b)
+    (fill-append c r b)
+fill-append c (each p a r) b d s = regrouped (within p (fill_each (fill c a)) d s) (fill c (append r b)) (fill c r) (fill c b)
+    (fill-append c r b)
+fill-append c (switch p cs r) b d s = regrouped (within p (fill_arm (fill_case c cs)) d s) (fill c (append r b)) (fill c r) (fill c b)
+    (fill-append c r b)
+fill-append c (if_there p a r) b d s = regrouped (within p (fill_present (fill c a)) d s) (fill c (append r b)) (fill c r) (fill c b)
+    (fill-append c r b)
 fill-append c (call k p r) b d s = regrouped (within p (c k) d s) (fill c (append r b)) (fill c r) (fill c b) (fill-append c r b)
 
 piece-append : (x : RecvOp-F Piece) (a b : Recv) → append (piece_level x a) b ≡ piece_level x (append a b)
@@ -55,7 +65,11 @@ piece-append (RecvOp-F.Call k path) a b = refl
 
 -- an operation is a piece in front
 pub op-append : (o : RecvOp) (a b : Recv) → append (op_seen o a) b ≡ op_seen o (append a b)
-op-append o a b = subst (λ (p : Piece). append (p a) b ≡ p (append a b)) (sym (fold_out-RecvOp Piece piece_level o)) (piece-append (map-RecvOp RecvOp Piece op_seen (out-RecvOp o)) a b)
+op-append o a b =
+    subst
+    (λ (p : Piece).
+    append (p a) b ≡ p (append a b)) (sym (fold_out-RecvOp Piece piece_level o))
+    (piece-append (map-RecvOp RecvOp Piece op_seen (out-RecvOp o)) a b)
 
 pub append-finish : (a : Recv) → append a finish ≡ a
 append-finish finish = refl

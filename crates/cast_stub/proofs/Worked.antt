@@ -43,7 +43,8 @@ its_cost : spent numbers seven_and_minus_two ≡ Some (record { checks = 2; move
 its_cost = refl
 
 -- a text as a Mach item: the descriptor of CHAR, 8 bits, 3 units; the octets; a zero
-a_text : octets 0 (chunk 4 (put.Short 0 [] 8 8 1 ∷ []) (row_copy [] (align 4 stop))) (row Char (pos 97 ∷ pos 98 ∷ pos 99 ∷ [])) ≡ Some (8 ∷ 8 ∷ 3 ∷ 16 ∷ 97 ∷ 98 ∷ 99 ∷ 0 ∷ [])
+a_text : octets 0 (chunk 4 (put.Short 0 [] 8 8 1 ∷ []) (row_copy [] (align 4 stop))) (row Char (pos 97 ∷ pos 98 ∷ pos 99 ∷ []))
+    ≡ Some (8 ∷ 8 ∷ 3 ∷ 16 ∷ 97 ∷ 98 ∷ 99 ∷ 0 ∷ [])
 unfolding octets_of
 a_text = refl
 
@@ -53,7 +54,8 @@ two_numbers : octets 0 (row_copy [] (row_swap [] (row_wide [] Little stop))) (ro
 unfolding octets_of
 two_numbers = refl
 
-their_cost : spent (row_copy [] (row_swap [] (row_wide [] Little stop))) (row I16 (pos 1 ∷ negsuc 1 ∷ [])) ≡ Some (record { checks = 0; moves = 1; stores = 2; rows = 2 })
+their_cost : spent (row_copy [] (row_swap [] (row_wide [] Little stop))) (row I16 (pos 1 ∷ negsuc 1 ∷ []))
+    ≡ Some (record { checks = 0; moves = 1; stores = 2; rows = 2 })
 their_cost = refl
 
 -- the length so far, less 4, at octet 2 of a message that begins at 1
@@ -68,11 +70,15 @@ an_early_patch : octets 1 (chunk 6 (put.Const 0 (9 ∷ 0 ∷ 0 ∷ 0 ∷ 0 ∷ 9
 an_early_patch = refl
 
 -- a field of the head, and a flag that stands over an earlier put
-a_head : octets 0 (chunk 3 (put.Head 0 Remote 2 Little ∷ put.Const 1 (9 ∷ 9 ∷ []) ∷ put.Flag 2 (1 ∷ []) 1 Big ∷ []) stop) (group (val void (val (present void) no_more))) ≡ Some (2 ∷ 9 ∷ 1 ∷ [])
+a_head : octets 0 (chunk 3 (put.Head 0 Remote 2 Little ∷ put.Const 1 (9 ∷ 9 ∷ []) ∷ put.Flag 2 (1 ∷ []) 1 Big ∷ []) stop)
+    (group (val void (val (present void) no_more))) ≡ Some (2 ∷ 9 ∷ 1 ∷ [])
 a_head = refl
 
 -- arms by their numbers, and the last for all others
-an_arm : octets 0 (chunk 1 (put.Tag 0 [] 1 Big ∷ []) (switch [] (case (pos 1) (chunk 1 (put.Const 0 (5 ∷ []) ∷ []) stop) (default (chunk 1 (put.Num 0 [] 1 Big ∷ []) stop))) stop)) (arm (pos 2) (num (pos 6))) ≡ Some (2 ∷ 6 ∷ [])
+an_arm : octets 0
+    (chunk 1 (put.Tag 0 [] 1 Big ∷ [])
+    (switch [] (case (pos 1) (chunk 1 (put.Const 0 (5 ∷ []) ∷ []) stop) (default (chunk 1 (put.Num 0 [] 1 Big ∷ []) stop))) stop))
+    (arm (pos 2) (num (pos 6))) ≡ Some (2 ∷ 6 ∷ [])
 an_arm = refl
 
 no_arm : octets 0 (switch [] (case (pos 1) stop no_default) stop) (arm (pos 2) void) ≡ None
@@ -114,11 +120,22 @@ not_enough : HasRoom 1 0 (Room 3 ∷ Pad 2 ∷ Stored (1 ∷ 2 ∷ 3 ∷ []) 1 �
 not_enough h = omega (arith, h.1.0)
 
 -- the code of a list goes through its type, and four puts are too many for one number
-in_order : Follows (λ k. None) (items_type Any (scalar_type (number I32))) 0 [] (chunk 4 (put.Count 0 [] 1 0 4 Big ∷ []) (each [] (chunk 4 (put.Num 0 [] 4 Big ∷ []) stop) stop))
-in_order = (chunk 4 (put.Count 0 [] 1 0 4 Big ∷ []) stop, chunk 4 (put.Num 0 [] 4 Big ∷ []) stop, refl, (1, refl, omega arith), inl (1, refl, omega arith))
+in_order : Follows
+    (λ k.
+    None) (items_type Any (scalar_type (number I32))) 0 []
+    (chunk 4 (put.Count 0 [] 1 0 4 Big ∷ []) (each [] (chunk 4 (put.Num 0 [] 4 Big ∷ []) stop) stop))
+in_order = (
+  chunk 4 (put.Count 0 [] 1 0 4 Big ∷ []) stop,
+  chunk 4 (put.Num 0 [] 4 Big ∷ []) stop,
+  refl,
+  (1, refl, omega arith),
+  inl (1, refl, omega arith),
+)
 
 -- the type of the part at a path, and none behind the last field or below a scalar
-a_part_type : ty_at (1 ∷ 0 ∷ []) (group_type (field void_type (field (group_type (field (scalar_type (number I64)) no_fields)) no_fields))) ≡ Some (scalar_type (number I64))
+a_part_type : ty_at (1 ∷ 0 ∷ [])
+    (group_type (field void_type (field (group_type (field (scalar_type (number I64)) no_fields)) no_fields)))
+    ≡ Some (scalar_type (number I64))
 a_part_type = refl
 
 no_part_type : ty_at (1 ∷ []) (group_type (field void_type no_fields)) ≡ None

@@ -50,20 +50,25 @@ abbrev mutual
   FollowsBy L subs (scalar_type s) below p b = IsFlat 3 b
   FollowsBy L subs (array_type a) below p b = L a p b
   FollowsBy L subs (group_type ts) below p b = FieldsFollowBy L subs ts 0 below p b
-  FollowsBy L subs (items_type c t) below p b = (a : Block) × (body : Block) × (b ≡ append a (each p body stop)) × IsCount c a × Child subs (FollowsBy L subs t) below [] body
-  FollowsBy L subs (choice_type s arms) below p b = (a : Block) × (cases : Cases) × (b ≡ append a (switch p cases stop)) × IsFlat 3 a × ArmsFollowBy L subs arms below cases
-  FollowsBy L subs (maybe_type t) below p b = (a : Block) × (body : Block) × (b ≡ append a (if_there p body stop)) × IsFlat 3 a × Child subs (FollowsBy L subs t) below [] body
+  FollowsBy L subs (items_type c t) below p b = (a : Block) × (body : Block) × (b ≡ append a (each p body stop)) × IsCount c a
+      × Child subs (FollowsBy L subs t) below [] body
+  FollowsBy L subs (choice_type s arms) below p b = (a : Block) × (cases : Cases) × (b ≡ append a (switch p cases stop)) × IsFlat 3 a
+      × ArmsFollowBy L subs arms below cases
+  FollowsBy L subs (maybe_type t) below p b = (a : Block) × (body : Block) × (b ≡ append a (if_there p body stop)) × IsFlat 3 a
+      × Child subs (FollowsBy L subs t) below [] body
 
   -- the fields, the first of them of this number
   pub FieldsFollowBy : Loops → (ℕ → Option Block) → Tys → ℕ → Going
   FieldsFollowBy L subs no_fields i below p b = b ≡ stop
-  FieldsFollowBy L subs (field t ts) i below p b = (a : Block) × (r : Block) × (b ≡ append a r) × Child subs (FollowsBy L subs t) below (p ++ i ∷ []) a × FieldsFollowBy L subs ts (suc i) below p r
+  FieldsFollowBy L subs (field t ts) i below p b = (a : Block) × (r : Block) × (b ≡ append a r)
+      × Child subs (FollowsBy L subs t) below (p ++ i ∷ []) a × FieldsFollowBy L subs ts (suc i) below p r
 
   -- a body for each arm, and for the default
   pub ArmsFollowBy : Loops → (ℕ → Option Block) → Arms → ℕ → Cases → Type 0
   ArmsFollowBy L subs no_other below cases = cases ≡ no_default
   ArmsFollowBy L subs (others t) below cases = (b : Block) × (cases ≡ default b) × Child subs (FollowsBy L subs t) below [] b
-  ArmsFollowBy L subs (arm_type n t arms) below cases = (b : Block) × (cs : Cases) × (cases ≡ case n b cs) × Child subs (FollowsBy L subs t) below [] b × ArmsFollowBy L subs arms below cs
+  ArmsFollowBy L subs (arm_type n t arms) below cases = (b : Block) × (cs : Cases) × (cases ≡ case n b cs)
+      × Child subs (FollowsBy L subs t) below [] b × ArmsFollowBy L subs arms below cs
 
 -- each operation in the type's order, at the path of its value
 abbrev pub Follows : (ℕ → Option Block) → Ty → Going

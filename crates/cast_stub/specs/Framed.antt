@@ -20,4 +20,5 @@ IsTail _ = ⊥
 
 -- chunks of so many octets, code that goes through a type, and at most one patch
 abbrev pub IsFramed : ℕ → Ty → Block → Type 0
-IsFramed n t b = (lead : Block) × (body : Block) × (tail : Block) × (below : ℕ) × (b ≡ append lead (append body tail)) × (lead_length lead ≡ Some n) × Follows no_subs t below [] body × IsTail tail
+IsFramed n t b = (lead : Block) × (body : Block) × (tail : Block) × (below : ℕ) × (b ≡ append lead (append body tail))
+    × (lead_length lead ≡ Some n) × Follows no_subs t below [] body × IsTail tail

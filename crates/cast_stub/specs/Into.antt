@@ -58,13 +58,15 @@ is_digit (row_of k c) n = in_range k n
 
 -- a number of a width for a scalar, of which a draft is made
 abbrev pub scalar_into : Scalar → (ℤ → Option Draft) → Width → ℕ → Place → Run Draft
-scalar_into t f x m s = if is_scalar t (number_of (is_signed t) x m) then if_passed (f (number_of (is_signed t) x m)) (λ d. gives d s) else refuses
+scalar_into t f x m s = if is_scalar t (number_of (is_signed t) x m) then if_passed (f (number_of (is_signed t) x m))
+    (λ d. gives d s) else refuses
 
 -- a number, or an element of a row or text
 abbrev pub num_into : Width → ℕ → Filler
 num_into x m (raw (scalar_type t)) s = scalar_into t (λ n. Some (done (num n))) x m s
 num_into x m (digit a) s =
-    if is_digit a (number_of (is_signed (number (kind_of a))) x m) then gives (done (num (number_of (is_signed (number (kind_of a))) x m))) s else refuses
+    if is_digit a (number_of (is_signed (number (kind_of a))) x m) then gives
+    (done (num (number_of (is_signed (number (kind_of a))) x m))) s else refuses
 num_into x m _ s = strays
 
 -- the number of a union
@@ -126,11 +128,14 @@ short_into name size mul m d s = units_into (nat_eq (m % 256) name && nat_eq (m 
 -- the long form: name and size in two octets each after the first word, and the number in four
 abbrev pub long_into : ℕ → ℕ → ℕ → Filler
 long_into name size mul d s =
-    then_run (needed 12 d s) (λ x t. units_into (nat_eq (little w16 4 2 t.left) name && nat_eq (little w16 6 2 t.left) size) mul (little w32 8 4 t.left) 12 x t)
+    then_run (needed 12 d s)
+    (λ x t.
+    units_into (nat_eq (little w16 4 2 t.left) name && nat_eq (little w16 6 2 t.left) size) mul (little w32 8 4 t.left) 12 x t)
 
 -- by the first word: bits 28 and 29 alone of the highest four, or bit 28 alone
 abbrev pub form_into : ℕ → ℕ → ℕ → ℕ → Filler
-form_into name size mul m d s = if is_marked m then long_into name size mul d s else if nat_eq (m / 2 ^ 28) 1 then short_into name size mul m d s else refuses
+form_into name size mul m d s = if is_marked m then long_into name size mul d s else if nat_eq (m / 2 ^ 28) 1 then short_into name size
+    mul m d s else refuses
 
 -- a descriptor in either form, which gives the length
 abbrev pub desc_into : ℕ → ℕ → ℕ → Filler
@@ -143,13 +148,17 @@ abbrev pub numbers_at : Array → Order → Width → ℕ → ℕ → List ℕ �
 numbers_at a o x w zero os = Some []
 numbers_at a o x w (suc n) os =
     if is_digit a (number_of (is_signed (number (kind_of a))) x (loaded o x (take w os)))
-    then option_map (λ zs. number_of (is_signed (number (kind_of a))) x (loaded o x (take w os)) ∷ zs) (numbers_at a o x w n (drop w os)) else None
+    then option_map
+    (λ zs. number_of (is_signed (number (kind_of a))) x (loaded o x (take w os)) ∷ zs) (numbers_at a o x w n (drop w os)) else None
 
 -- a row of so many numbers, each in so many octets, all of which are known to be there
 abbrev pub fill_block : Order → ℕ → Array → ℕ → Going Draft
 fill_block o w a n s =
     if_some (width_in w) (λ x. if nat_le (n * w) s.near
-    then if_passed (numbers_at a o x w n s.left) (λ zs. gives (done (row (kind_of a) zs)) (record { pos = s.pos + n * w; left = drop (n * w) s.left; near = s.near - n * w; tests = s.tests })) else strays)
+    then if_passed (numbers_at a o x w n s.left)
+    (λ zs.
+    gives (done (row (kind_of a) zs))
+    (record { pos = s.pos + n * w; left = drop (n * w) s.left; near = s.near - n * w; tests = s.tests })) else strays)
 
 -- the numbers of a row whose length is known, each in the octets of its kind, or in four
 abbrev pub row_into : Order → Filler

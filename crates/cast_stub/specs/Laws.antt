@@ -70,4 +70,5 @@ later k not_given = not_given
 
 -- tests that were made before are added, and change nothing else
 abbrev pub TestsAdd : Type 0
-TestsAdd = (code : RecvCode) (t : Ty) (s : Place) → Holds (by.received code t (untested s.pos s.left)) → got_by code t s ≡ later s.tests (got_by code t (untested s.pos s.left))
+TestsAdd = (code : RecvCode) (t : Ty) (s : Place) → Holds (by.received code t (untested s.pos s.left)) → got_by code t s
+    ≡ later s.tests (got_by code t (untested s.pos s.left))

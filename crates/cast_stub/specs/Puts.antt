@@ -18,7 +18,8 @@ wrapped half (negsuc n) = if nat_lt n half then Some (half + half - 1 - n) else 
 
 -- half as many as the numbers of so many octets
 abbrev pub half_of : ℕ → Option ℕ
-half_of w = if nat_eq w 1 then Some (2 ^ 7) else if nat_eq w 2 then Some (2 ^ 15) else if nat_eq w 4 then Some (2 ^ 31) else if nat_eq w 8 then Some (2 ^ 63) else None
+half_of w = if nat_eq w 1 then Some (2 ^ 7) else if nat_eq w 2 then Some (2 ^ 15) else if nat_eq w 4 then Some (2 ^ 31) else if nat_eq w 8
+    then Some (2 ^ 63) else None
 
 -- the octets of a number, in two's complement
 abbrev pub word : ℕ → Order → ℤ → Option (List ℕ)

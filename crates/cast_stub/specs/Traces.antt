@@ -86,20 +86,25 @@ abbrev mutual
   TracesBy L subs (scalar_type s) below p b = IsFlat p b
   TracesBy L subs (array_type a) below p b = L a p b
   TracesBy L subs (group_type ts) below p b = FieldsTraceBy L subs ts 0 below p b
-  TracesBy L subs (items_type c t) below p b = (a : Recv) × (body : Recv) × (b ≡ append a (each p body finish)) × IsCount p c a × Child subs (TracesBy L subs t) below [] body
-  TracesBy L subs (choice_type s arms) below p b = (a : Recv) × (cases : Cases) × (b ≡ append a (switch p cases finish)) × IsFlat p a × ArmsTraceBy L subs arms below cases
-  TracesBy L subs (maybe_type t) below p b = (a : Recv) × (body : Recv) × (b ≡ append a (if_there p body finish)) × IsFlat p a × Child subs (TracesBy L subs t) below [] body
+  TracesBy L subs (items_type c t) below p b = (a : Recv) × (body : Recv) × (b ≡ append a (each p body finish)) × IsCount p c a
+      × Child subs (TracesBy L subs t) below [] body
+  TracesBy L subs (choice_type s arms) below p b = (a : Recv) × (cases : Cases) × (b ≡ append a (switch p cases finish)) × IsFlat p a
+      × ArmsTraceBy L subs arms below cases
+  TracesBy L subs (maybe_type t) below p b = (a : Recv) × (body : Recv) × (b ≡ append a (if_there p body finish)) × IsFlat p a
+      × Child subs (TracesBy L subs t) below [] body
 
   -- the fields, the first of them of this number
   pub FieldsTraceBy : Loops → (ℕ → Option Recv) → Tys → ℕ → Going
   FieldsTraceBy L subs no_fields i below p b = b ≡ finish
-  FieldsTraceBy L subs (field t ts) i below p b = (a : Recv) × (r : Recv) × (b ≡ append a r) × Child subs (TracesBy L subs t) below (p ++ i ∷ []) a × FieldsTraceBy L subs ts (suc i) below p r
+  FieldsTraceBy L subs (field t ts) i below p b = (a : Recv) × (r : Recv) × (b ≡ append a r)
+      × Child subs (TracesBy L subs t) below (p ++ i ∷ []) a × FieldsTraceBy L subs ts (suc i) below p r
 
   -- a body for each arm, and for the default
   pub ArmsTraceBy : Loops → (ℕ → Option Recv) → Arms → ℕ → Cases → Type 0
   ArmsTraceBy L subs no_other below cases = cases ≡ no_default
   ArmsTraceBy L subs (others t) below cases = (b : Recv) × (cases ≡ default b) × Child subs (TracesBy L subs t) below [] b
-  ArmsTraceBy L subs (arm_type n t arms) below cases = (b : Recv) × (cs : Cases) × (cases ≡ case n b cs) × Child subs (TracesBy L subs t) below [] b × ArmsTraceBy L subs arms below cs
+  ArmsTraceBy L subs (arm_type n t arms) below cases = (b : Recv) × (cs : Cases) × (cases ≡ case n b cs)
+      × Child subs (TracesBy L subs t) below [] b × ArmsTraceBy L subs arms below cs
 
 -- each operation in the type's order, at the path of its value
 abbrev pub Traces : (ℕ → Option Recv) → Ty → Going
@@ -121,4 +126,5 @@ AllTrace nodes subs = (k : ℕ) (b : Recv) → sub_at subs k ≡ Some b → Trac
 
 -- each code of a list goes through its node, with such loops
 abbrev pub AllTurned : Layout → List Node → List (List RecvOp) → Type 0
-AllTurned layout nodes subs = (k : ℕ) (b : Recv) → sub_at subs k ≡ Some b → TracesBy (IsTurned layout) (sub_at subs) (type_at nodes k) k [] b
+AllTurned layout nodes subs = (k : ℕ) (b : Recv) → sub_at subs k ≡ Some b
+    → TracesBy (IsTurned layout) (sub_at subs) (type_at nodes k) k [] b

@@ -27,4 +27,5 @@ IsTurned layout a p b = (before : Block) × (turn : Block) × (behind : Block) �
 
 -- each code of a list goes through its node, with such loops
 abbrev pub AllTurned : Layout → List Node → List (List SendOp) → Type 0
-AllTurned layout nodes subs = (k : ℕ) (b : Block) → sub_at subs k ≡ Some b → FollowsBy (IsTurned layout) (sub_at subs) (type_at nodes k) k [] b
+AllTurned layout nodes subs = (k : ℕ) (b : Block) → sub_at subs k ≡ Some b
+    → FollowsBy (IsTurned layout) (sub_at subs) (type_at nodes k) k [] b

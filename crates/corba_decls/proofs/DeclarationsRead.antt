@@ -45,7 +45,8 @@ Ended rest = begins_with (mark_is (codes ";")) rest ≡ true
 -- an expression ends before `;`
 before_end : (rest : List Token) → Ended rest → May false 6 rest
 before_end [] e = absurd cc
-before_end (t ∷ ts) e = let is = mark_named (codes ";") t.kind e in record { name = rw is refl; no_operator = λ d lt. rw is refl; joint = λ yes. absurd cc }
+before_end (t ∷ ts) e = let is =
+    mark_named (codes ";") t.kind e in record { name = rw is refl; no_operator = λ d lt. rw is refl; joint = λ yes. absurd cc }
 
 module _ (n : ℕ) where
   -- ---- typedefs
@@ -99,7 +100,8 @@ module _ (n : ℕ) where
 
   declarators_is : IsGrammar (joined_at (codes ",") (declarator_at n)) (joined (codes ",") (declarator n)) Ended
   declarators_is = weaker
-      (joined_is (codes ",") (declarator_is n) (λ ts h. turns (mark_is (codes ",")) (mark_is (codes "[")) (apart_mark (mark_is (codes ",")) (codes "[") refl) ts h))
+      (joined_is (codes ",") (declarator_is n)
+      (λ ts h. turns (mark_is (codes ",")) (mark_is (codes "[")) (apart_mark (mark_is (codes ",")) (codes "[") refl) ts h))
       (λ rest e. (
         turns (mark_is (codes ";")) (mark_is (codes ",")) (apart_mark (mark_is (codes ";")) (codes ",") refl) rest e,
         turns (mark_is (codes ";")) (mark_is (codes "[")) (apart_mark (mark_is (codes ";")) (codes "[") refl) rest e,
@@ -108,11 +110,14 @@ module _ (n : ℕ) where
   typedef_is : IsGrammar (typedef_at n) (typedef n) Ended
   unfolding typedef_at
   typedef_is = mapped_is typedef_of (typedef n)
-      (behind_is (word_reads (codes "typedef")) (both_is aliased_is declarators_is (λ ds front rest s e. declarators_close n ds front rest s (joint_ended rest e))))
+      (behind_is (word_reads (codes "typedef"))
+      (both_is aliased_is declarators_is (λ ds front rest s e. declarators_close n ds front rest s (joint_ended rest e))))
       (λ x ks s. s) (λ t ks s. ((t.of, t.declarators), refl, s))
 
   leads_typedef : Leads (typedef n) (word_is (codes "typedef"))
-  leads_typedef t ks s = leads_behind (λ (x : Typedef). aliased n x.of & joined (codes ",") (declarator n) x.declarators) (leads_word (codes "typedef")) t ks s
+  leads_typedef t ks s =
+      leads_behind
+      (λ (x : Typedef). aliased n x.of & joined (codes ",") (declarator n) x.declarators) (leads_word (codes "typedef")) t ks s
 
   -- ---- constants
 
@@ -217,7 +222,12 @@ module _ (n : ℕ) where
 
 pub declaration_is : (n : ℕ) → IsGrammar (declaration_at n) (declaration n) Ended
 declaration_is zero = record { found = λ ts x rest e. absurd cc; again = λ x front rest s may. absurd s }
-declaration_is (suc n) = record { found = λ ts x rest e. (declared_is (suc n)).found ts x rest e; again = λ x front rest s may. (declared_is (suc n)).again x front rest s may }
+declaration_is (suc n) =
+    record {
+      found = λ ts x rest e. (declared_is (suc n)).found ts x rest e;
+      again = λ x front rest s may.
+          (declared_is (suc n)).again x front rest s may;
+    }
 
 pub leads_declaration : (n : ℕ) → Leads (declaration n) is_declaration
 leads_declaration zero d ks s = absurd s
@@ -232,6 +242,8 @@ with_lines (k ∷ ks) = let r = with_lines ks in (record { kind = k; line = 1 } 
 pub one_only : (n : ℕ) (a b : Declaration) (ks : List TokenKind) → declaration n a ks → declaration n b ks → a ≡ b
 one_only n a b ks s t =
     let w = with_lines ks in
-    let x = (declaration_is n).again a w.0 (record { kind = K.Mark (codes ";"); line = 1 } ∷ []) (subst (declaration n a) (sym w.1) s) refl in
-    let y = (declaration_is n).again b w.0 (record { kind = K.Mark (codes ";"); line = 1 } ∷ []) (subst (declaration n b) (sym w.1) t) refl in
+    let x = (declaration_is n).again a w.0 (record { kind = K.Mark (codes ";"); line = 1 } ∷ []) (subst (declaration n a) (sym w.1) s)
+    refl in
+    let y = (declaration_is n).again b w.0 (record { kind = K.Mark (codes ";"); line = 1 } ∷ []) (subst (declaration n b) (sym w.1) t)
+    refl in
     (read_is a b _ _ (sym x ∙ y)).0

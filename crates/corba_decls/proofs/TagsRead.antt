@@ -53,7 +53,9 @@ number_is : IsGrammar number_at number_text NumberMay
 number_is = either_is (begins_with is_int) (weaker int_is (λ rest may. may.0)) (weaker scoped_is (λ rest may. may.1))
     (λ i front rest s may. begins_so leads_int i front rest s)
     (λ n front rest s may. begins_not is_int leads_scoped
-    (apart_or is_name (word_is (codes "unsigned")) is_size (apart_word is_name (codes "unsigned") refl) (apart_or is_name (word_is (codes "short")) (word_is (codes "long")) (apart_word is_name (codes "short") refl) (apart_word is_name (codes "long") refl))) n front rest s)
+    (apart_or is_name (word_is (codes "unsigned")) is_size (apart_word is_name (codes "unsigned") refl)
+    (apart_or is_name (word_is (codes "short")) (word_is (codes "long")) (apart_word is_name (codes "short") refl)
+    (apart_word is_name (codes "long") refl))) n front rest s)
 
 abbrev is_number : TokenKind → Bool
 is_number k = is_int k || is_name k
@@ -89,11 +91,14 @@ tag_back (T.Named n) ks s = (inr (inr (inr n)), refl, s)
 
 tag_type_is : IsGrammar tag_type_at tag_type NumberMay
 unfolding tag_type_at
-tag_type_is = mapped_is tag_of tag_type (word_or_is (codes "char") (word_or_is (codes "boolean") number_is leads_number refl) leads_boolean_or refl) tag_forth tag_back
+tag_type_is =
+    mapped_is tag_of tag_type (word_or_is (codes "char") (word_or_is (codes "boolean") number_is leads_number refl) leads_boolean_or refl)
+    tag_forth tag_back
 
 pub tag_is : (n : ℕ) → IsGrammar (tag_at n) (tag n) NumberMay
 tag_is zero = record { found = λ ts x rest e. absurd cc; again = λ x front rest s may. absurd s }
-tag_is (suc n) = record { found = λ ts x rest e. tag_type_is.found ts x rest e; again = λ x front rest s may. tag_type_is.again x front rest s may }
+tag_is (suc n) =
+    record { found = λ ts x rest e. tag_type_is.found ts x rest e; again = λ x front rest s may. tag_type_is.again x front rest s may }
 
 -- ---- constants
 
@@ -140,5 +145,7 @@ constant_back (C.Named n) ks s = (inr (inr (inr (inr (inr n)))), refl, s)
 pub constant_type_is : IsGrammar constant_type_at constant_type NumberMay
 unfolding constant_type_at
 constant_type_is = mapped_is constant_type_of constant_type
-    (word_or_is (codes "char") (word_or_is (codes "boolean") (word_or_is (codes "octet") (word_or_is (codes "string") number_is leads_number refl) leads_string_or refl) leads_octet_or refl) leads_truth_or refl)
+    (word_or_is (codes "char")
+    (word_or_is (codes "boolean") (word_or_is (codes "octet") (word_or_is (codes "string") number_is leads_number refl)
+    leads_string_or refl) leads_octet_or refl) leads_truth_or refl)
     constant_forth constant_back

@@ -34,7 +34,13 @@ use Rattle.corba_decls.proofs.TagsRead.{led_or_is, NumberMay, tag_is}
 before_colon : (front rest : List Token) → mark (codes ":") (kinds front) → May false 6 (front ++ rest)
 before_colon front rest s =
     let t = one_kind front (K.Mark (codes ":")) s in
-    subst (λ z. May false 6 (z ++ rest)) (sym t.1) (record { name = rw t.2 refl; no_operator = λ d lt. rw t.2 refl; joint = λ yes. absurd cc })
+    subst
+    (λ z. May false 6 (z ++ rest)) (sym t.1) (record {
+      name = rw t.2 refl;
+      no_operator = λ d lt. rw t.2 refl;
+      joint = λ yes.
+          absurd cc;
+    })
 
 module _ (n : ℕ) where
   -- ---- labels
@@ -65,7 +71,9 @@ module _ (n : ℕ) where
   label_is : IsGrammar (label_at n) (label n) Any
   unfolding label_at
   label_is = mapped_is label_of (label n)
-      (led_or_is (codes "case") (behind_is (word_reads (codes "case")) (before_is (expression_is n false) (mark_reads (codes ":")) before_colon)) (behind_is (word_reads (codes "default")) (mark_reads (codes ":"))) leads_case_label leads_default_label refl)
+      (led_or_is (codes "case")
+      (behind_is (word_reads (codes "case")) (before_is (expression_is n false) (mark_reads (codes ":")) before_colon))
+      (behind_is (word_reads (codes "default")) (mark_reads (codes ":"))) leads_case_label leads_default_label refl)
       label_forth label_back
 
   leads_label : Leads (label n) is_label
@@ -73,7 +81,8 @@ module _ (n : ℕ) where
 
   labels_is : IsGrammar (many has_label (label_at n)) (each (label n)) (λ rest. has_label rest ≡ false)
   labels_is = weaker
-      (many_is has_label label_is (record { ends = refl; begins = λ l front rest s. begins_so leads_label l front rest s; goes_on = λ ts h. tt }))
+      (many_is has_label label_is
+      (record { ends = refl; begins = λ l front rest s. begins_so leads_label l front rest s; goes_on = λ ts h. tt }))
       (λ rest may. (may, tt))
 
   -- ---- cases
@@ -85,7 +94,8 @@ module _ (n : ℕ) where
   element x = whole n x.0 & named x.1
 
   no_dimension : (front rest : List Token) → mark (codes ";") (kinds front) → has_dimension (front ++ rest) ≡ false
-  no_dimension front rest s = begins_not (mark_is (codes "[")) (leads_mark (codes ";")) (apart_mark (mark_is (codes ";")) (codes "[") refl) tt front rest s
+  no_dimension front rest s = begins_not (mark_is (codes "[")) (leads_mark (codes ";"))
+      (apart_mark (mark_is (codes ";")) (codes "[") refl) tt front rest s
 
   -- one declarator is a list of them
   named_closes : (d : Declarator) (front rest : List Token) → named d (kinds front) → Closes (front ++ rest)
@@ -94,12 +104,14 @@ module _ (n : ℕ) where
   no_label : (x : (List (Option Tree) × Base) × Declarator) (front rest : List Token) → element x (kinds front)
       → has_label (front ++ rest) ≡ false
   no_label x front rest s = begins_not is_label (leads_both named (leads_type n))
-      (apart_or is_type (word_is (codes "case")) (word_is (codes "default")) (apart_word is_type (codes "case") refl) (apart_word is_type (codes "default") refl)) x front rest s
+      (apart_or is_type (word_is (codes "case")) (word_is (codes "default")) (apart_word is_type (codes "case") refl)
+      (apart_word is_type (codes "default") refl)) x front rest s
 
   case_is : IsGrammar (case_at n) (case n) Any
   unfolding case_at
   case_is = mapped_is case_of (case n)
-      (both_is (some_is labels_is) (both_is (type_is n) (before_is (declarator_is n) (mark_reads (codes ";")) no_dimension) (λ d front rest s may. named_closes d front rest s)) (λ x front rest s may. no_label x front rest s))
+      (both_is (some_is labels_is) (both_is (type_is n) (before_is (declarator_is n) (mark_reads (codes ";")) no_dimension)
+      (λ d front rest s may. named_closes d front rest s)) (λ x front rest s may. no_label x front rest s))
       (λ x ks s. s) (λ c ks s. ((c.labels, (c.of, c.declarator)), refl, s))
 
   leads_case : Leads (case n) is_label
@@ -107,7 +119,14 @@ module _ (n : ℕ) where
 
   cases_is : IsGrammar (many is_open (case_at n)) (each (case n)) (λ rest. is_open rest ≡ false)
   cases_is = weaker
-      (many_is is_open case_is (record { ends = refl; begins = λ c front rest s. begins_else (mark_is (codes "}")) leads_case (apart_mark is_label (codes "}") refl) c front rest s; goes_on = λ ts h. tt }))
+      (many_is is_open case_is
+      (record {
+        ends = refl;
+        begins =
+            λ c front rest s.
+            begins_else (mark_is (codes "}")) leads_case (apart_mark is_label (codes "}") refl) c front rest s;
+        goes_on = λ ts h. tt;
+      }))
       (λ rest may. (may, tt))
 
   -- ---- unions
@@ -127,11 +146,16 @@ module _ (n : ℕ) where
   pub union_is : IsGrammar (union_at n) (union n) Any
   unfolding union_at
   union_is = mapped_is union_of (union n)
-      (behind_is (word_reads (codes "union")) (both_is identifier_is (behind_is (word_reads (codes "switch")) (behind_is (mark_reads (codes "("))
-      (both_is (tag_is (n - 1)) (behind_is (mark_reads (codes ")")) (behind_is (mark_reads (codes "{")) (before_is (some_is cases_is) (mark_reads (codes "}")) (closed n))))
+      (behind_is (word_reads (codes "union"))
+      (both_is identifier_is (behind_is (word_reads (codes "switch")) (behind_is (mark_reads (codes "("))
+      (both_is (tag_is (n - 1))
+      (behind_is (mark_reads (codes ")"))
+      (behind_is (mark_reads (codes "{")) (before_is (some_is cases_is) (mark_reads (codes "}")) (closed n))))
       (λ cs front rest s may. after_tag cs front rest s)))) (λ b front rest t may. tt)))
       (λ x ks s. s) (λ u ks s. ((u.name, (u.tag, u.cases)), refl, s))
 
   pub leads_union : Leads (union n) (word_is (codes "union"))
   leads_union u ks s = leads_behind
-      (λ (x : UnionDef). identifier x.name & (word (codes "switch") & (mark (codes "(") & (tag (n - 1) x.tag & body x.cases)))) (leads_word (codes "union")) u ks s
+      (λ (x : UnionDef).
+      identifier x.name & (word (codes "switch") & (mark (codes "(") & (tag (n - 1) x.tag & body x.cases))))
+      (leads_word (codes "union")) u ks s

@@ -35,7 +35,8 @@ and_none false = refl
 operator_again : (angle : Bool) (op : BinaryOp) (t : Token) (rest : List Token) → t.kind ≡ K.Mark (binary_spell op)
     → (angle ≡ true → closes rest ≡ false)
     → operator_at angle (looseness op) (t ∷ rest) ≡ Some op
-operator_again false op t rest k open_ = let same : (looseness op == looseness op) ≡ true = eq-eqb (looseness op) (looseness op) refl in rw (k, binary_back op, same) refl
+operator_again false op t rest k open_ = let same : (looseness op == looseness op)
+    ≡ true = eq-eqb (looseness op) (looseness op) refl in rw (k, binary_back op, same) refl
 operator_again true op t rest k open_ =
     let same : (looseness op == looseness op) ≡ true = eq-eqb (looseness op) (looseness op) refl in
     let shut = open_ refl in
@@ -46,7 +47,8 @@ operator_again true op t rest k open_ =
 operator_other : (angle : Bool) (op : BinaryOp) (d : ℕ) (t : Token) (rest : List Token)
     → t.kind ≡ K.Mark (binary_spell op) → d < looseness op
     → operator_at angle d (t ∷ rest) ≡ None
-operator_other angle op d t rest k lt = let other : (looseness op == d) ≡ false = ne_eqb (looseness op) d (omega (arith, lt)) in rw (k, binary_back op, other) refl
+operator_other angle op d t rest k lt = let other : (looseness op == d)
+    ≡ false = ne_eqb (looseness op) d (omega (arith, lt)) in rw (k, binary_back op, other) refl
 
 name_ended : (op : BinaryOp) → mark_is (codes "::") (K.Mark (binary_spell op)) ≡ false
 name_ended B.Or = refl
@@ -125,7 +127,8 @@ module _ (n : ℕ) (reads : Reads n) (chains : (d : ℕ) → Chains n d) where
       let goes = begins_so leads_unary op p.0 (p.1 ++ rest) sign in
       let one = unary_is.again op p.0 (p.1 ++ rest) sign tt in
       let parts : front ++ rest ≡ p.0 ++ (p.1 ++ rest) = ap (λ z. z ++ rest) p.2 ∙ append_assoc p.0 p.1 rest in
-      let done : primary_at (within_at m) angle (p.0 ++ (p.1 ++ rest)) ≡ Some ((unary op a, suc r.0), rest) = rw (no_open, goes, one, r.2) refl in
+      let done : primary_at (within_at m) angle (p.0 ++ (p.1 ++ rest)) ≡ Some ((unary op a, suc r.0), rest) =
+      rw (no_open, goes, one, r.2) refl in
       (suc r.0, omega (arith, r.1), ap (primary_at (within_at m) angle) parts ∙ done)
 
   by_parentheses : (angle : Bool) (t : Tree) (front rest : List Token) (m : ℕ) → n ≤ m
@@ -138,10 +141,16 @@ module _ (n : ℕ) (reads : Reads n) (chains : (d : ℕ) → Chains n d) where
       let c = one_kind q.1 (K.Mark (codes ")")) (q.4 ∙ s.4.4) in
       let r = reads false 6 t q.0 (c.0 ∷ rest) m le (subst (within n 6 t) (sym q.3) s.4.3) (before_close c.0 rest c.2) in
       let parts : front ++ rest ≡ o.0 ∷ (q.0 ++ (c.0 ∷ rest)) =
-      ap (λ z. z ++ rest) (p.2 ∙ ap (λ z. z ++ p.1) o.1 ∙ ap (λ z. o.0 ∷ z) (q.2 ∙ ap (λ z. q.0 ++ z) c.1)) ∙ ap (λ z. o.0 ∷ z) (append_assoc q.0 (c.0 ∷ []) rest) in
-      (suc r.0, omega (arith, r.1), ap (primary_at (within_at m) angle) parts ∙ closed m angle o.0 c.0 (q.0 ++ (c.0 ∷ rest)) rest (t, r.0) o.2 c.2 r.2)
+      ap (λ z. z ++ rest) (p.2 ∙ ap (λ z. z ++ p.1) o.1 ∙ ap (λ z. o.0 ∷ z) (q.2 ∙ ap (λ z. q.0 ++ z) c.1)) ∙ ap (λ z.
+      o.0 ∷ z) (append_assoc q.0 (c.0 ∷ []) rest) in (
+        suc r.0,
+        omega (arith, r.1),
+        ap (primary_at (within_at m) angle) parts
+            ∙ closed m angle o.0 c.0 (q.0 ++ (c.0 ∷ rest)) rest (t, r.0) o.2 c.2 r.2,
+      )
     where
-      closed : (m : ℕ) (angle : Bool) (o c : Token) (us rest : List Token) (x : Levelled) → o.kind ≡ K.Mark (codes "(") → c.kind ≡ K.Mark (codes ")") → within_at m false 6 us ≡ Some (x, c ∷ rest)
+      closed : (m : ℕ) (angle : Bool) (o c : Token) (us rest : List Token) (x : Levelled) → o.kind ≡ K.Mark (codes "(") → c.kind
+          ≡ K.Mark (codes ")") → within_at m false 6 us ≡ Some (x, c ∷ rest)
           → primary_at (within_at m) angle (o ∷ us) ≡ Some ((x.0, suc x.1), rest)
       closed m angle o c us rest x p q e = rw (p, e, q) refl
 
@@ -175,18 +184,23 @@ module _ (n : ℕ) (reads : Reads n) (chains : (d : ℕ) → Chains n d) where
       let o = one_kind q.0 (K.Mark (binary_spell op)) (q.3 ∙ s.4.3) in
       let right : within n d b (kinds q.1) = subst (within n d b) (sym q.4) s.4.4 in
       let y = reads angle d b q.1 rest m (omega (arith, le)) right may in
-      let x = chains d angle a p.0 (o.0 ∷ (q.1 ++ rest)) m (omega (arith, le)) (subst (within n (suc d) a) (sym p.3) s.3) (before_operator angle op o.0 (q.1 ++ rest) o.2) in
+      let x = chains d angle a p.0 (o.0 ∷ (q.1 ++ rest)) m (omega (arith, le)) (subst (within n (suc d) a) (sym p.3) s.3)
+      (before_operator angle op o.0 (q.1 ++ rest) o.2) in
       let goes = operator_again angle op o.0 (q.1 ++ rest) o.2 (λ yes. goes_on n d b q.1 rest right (may.joint yes)) in
       let low : nat_le (suc (max x.0 y.0)) (suc m) ≡ true = le-leb (suc (max x.0 y.0)) (suc m) (omega (arith, x.2, y.1, le)) in
       let some : x.1 ≡ suc (x.1 - 1) = omega (arith, x.3, le) in
-      let step : chain_on (within_at m angle d) (operator_at angle d) (suc m) x.1 (a, x.0) (o.0 ∷ (q.1 ++ rest)) ≡ chain_on (within_at m angle d) (operator_at angle d) (suc m) (x.1 - 1) (binary op a b, suc (max x.0 y.0)) rest =
-      stepped (within_at m angle d) (operator_at angle d) (suc m) x.1 (x.1 - 1) (a, x.0) (b, y.0) op o.0 (q.1 ++ rest) rest some goes y.2 low in
+      let step : chain_on (within_at m angle d) (operator_at angle d) (suc m) x.1 (a, x.0) (o.0 ∷ (q.1 ++ rest))
+      ≡ chain_on (within_at m angle d) (operator_at angle d) (suc m) (x.1 - 1) (binary op a b, suc (max x.0 y.0)) rest =
+      stepped (within_at m angle d) (operator_at angle d) (suc m) x.1 (x.1 - 1) (a, x.0) (b, y.0) op o.0 (q.1 ++ rest) rest some goes y.2
+      low in
       let parts : front ++ rest ≡ p.0 ++ (o.0 ∷ (q.1 ++ rest)) =
       ap (λ z. z ++ rest) (p.2 ∙ ap (λ z. p.0 ++ z) (q.2 ∙ ap (λ z. z ++ q.1) o.1)) ∙ append_assoc p.0 (o.0 ∷ q.1) rest in
       (suc (max x.0 y.0), x.1 - 1, omega (arith, x.2, y.1), omega (arith, x.3, some), rw parts (x.4 ∙ step))
     where
-      stepped : (operand : Reader Levelled) (op : List Token → Option BinaryOp) (levels more_ left : ℕ) (x y : Levelled) (o : BinaryOp) (t : Token) (ts rest : List Token) → more_ ≡ suc left
-          → op (t ∷ ts) ≡ Some o → operand ts ≡ Some (y, rest) → nat_le (over o x y).1 levels ≡ true → chain_on operand op levels more_ x (t ∷ ts) ≡ chain_on operand op levels left (over o x y) rest
+      stepped : (operand : Reader Levelled) (op : List Token → Option BinaryOp) (levels more_ left : ℕ) (x y : Levelled) (o : BinaryOp)
+          (t : Token) (ts rest : List Token) → more_ ≡ suc left
+          → op (t ∷ ts) ≡ Some o → operand ts ≡ Some (y, rest) → nat_le (over o x y).1 levels ≡ true
+          → chain_on operand op levels more_ x (t ∷ ts) ≡ chain_on operand op levels left (over o x y) rest
       stepped operand op levels more_ left x y o t ts rest some goes e low = rw (some, goes, e, low) refl
 
   chains_at : (d : ℕ) → Climbs (suc n) d → Chains (suc n) d
@@ -196,7 +210,11 @@ module _ (n : ℕ) (reads : Reads n) (chains : (d : ℕ) → Chains n d) where
     | inl lt ↦ tighter_chain d climbs angle (binary op a b) front rest m le (inl (lt, s.1)) may
     | inr ge ↦
         let same : looseness op ≡ d = omega (arith, ge, s.0) in
-        subst (λ z. May angle z rest → (h : ℕ) × (left : ℕ) × (h ≤ suc n) × (suc (suc m) ≤ left + suc n) × (climb (within_at m) m angle (suc z) (front ++ rest) ≡ chain_on (within_at m angle z) (operator_at angle z) (suc m) left (binary op a b, h) rest))
+        subst
+        (λ z.
+        May angle z rest → (h : ℕ) × (left : ℕ) × (h ≤ suc n) × (suc (suc m) ≤ left + suc n)
+        × (climb (within_at m) m angle (suc z) (front ++ rest)
+        ≡ chain_on (within_at m angle z) (operator_at angle z) (suc m) left (binary op a b, h) rest))
         same (one_more angle op a b front rest m le s.1) may
   ]
   chains_at d climbs angle t front rest m le (inr p) may = tighter_chain d climbs angle t front rest m le (inr p) may
@@ -205,10 +223,15 @@ module _ (n : ℕ) (reads : Reads n) (chains : (d : ℕ) → Chains n d) where
   climbs_all zero angle t front rest m le s may = climbs_first angle t front rest m le s may
   climbs_all (suc d) angle t front rest m le s may =
       let c = chains_at d (climbs_all d) angle t front rest m le s (tighter angle d (suc d) rest (omega arith) may) in
-      let some : c.1 ≡ suc (c.1 - 1) = omega (arith, c.3, le) in
-      (c.0, c.2, c.4 ∙ ended (within_at m angle d) (operator_at angle d) (suc m) c.1 (c.1 - 1) (t, c.0) rest some (may.no_operator d (omega arith)))
+      let some : c.1 ≡ suc (c.1 - 1) = omega (arith, c.3, le) in (
+        c.0,
+        c.2,
+        c.4 ∙ ended (within_at m angle d) (operator_at angle d) (suc m) c.1 (c.1 - 1) (t, c.0) rest some
+            (may.no_operator d (omega arith)),
+      )
     where
-      ended : (operand : Reader Levelled) (op : List Token → Option BinaryOp) (levels more_ left : ℕ) (x : Levelled) (ts : List Token) → more_ ≡ suc left → op ts ≡ None → chain_on operand op levels more_ x ts ≡ Some (x, ts)
+      ended : (operand : Reader Levelled) (op : List Token → Option BinaryOp) (levels more_ left : ℕ) (x : Levelled) (ts : List Token)
+          → more_ ≡ suc left → op ts ≡ None → chain_on operand op levels more_ x ts ≡ Some (x, ts)
       ended operand op levels more_ left x ts some none = rw (some, none) refl
 
   reads_next : Reads (suc n)

@@ -47,7 +47,8 @@ pub scoped_is : IsGrammar scoped_at scoped NameMay
 unfolding scoped_at
 scoped_is = mapped_is scoped_of scoped
     (both_is (flag_reads (codes "::")) (weaker (joined_is (codes "::") identifier_is (λ ts h. tt)) (λ rest may. (may, tt)))
-    (λ parts front rest s may. begins_not (mark_is (codes "::")) leads_parts (apart_mark is_identifier (codes "::") refl) parts front rest s))
+    (λ parts front rest s may.
+    begins_not (mark_is (codes "::")) leads_parts (apart_mark is_identifier (codes "::") refl) parts front rest s))
     (λ x ks s. s) (λ n ks s. ((n.absolute, n.parts), refl, s))
 
 -- whether a token begins a scoped name
@@ -55,7 +56,9 @@ abbrev pub is_name : TokenKind → Bool
 is_name k = mark_is (codes "::") k || is_identifier k
 
 pub leads_scoped : Leads scoped is_name
-leads_scoped = leads_by scoped_of (λ n ks s. ((n.absolute, n.parts), refl, s)) (leads_when {P = mark (codes "::")} (leads_mark (codes "::")) leads_parts)
+leads_scoped =
+    leads_by scoped_of
+    (λ n ks s. ((n.absolute, n.parts), refl, s)) (leads_when {P = mark (codes "::")} (leads_mark (codes "::")) leads_parts)
 
 -- ---- literals
 
@@ -66,9 +69,12 @@ literal_text l ks = leaf_text l ks
 
 truth_forth : (n : List ℕ) (l : Leaf) → truth_in n ≡ Some l → literal_text l (K.Name n ∷ [])
 truth_forth n l e = go (bytes_eq n (codes "TRUE")) (bytes_eq n (codes "FALSE")) refl refl e where
-  go : (a b : Bool) → bytes_eq n (codes "TRUE") ≡ a → bytes_eq n (codes "FALSE") ≡ b → cond a (Some (L.Truth true)) (cond b (Some (L.Truth false)) None) ≡ Some l → literal_text l (K.Name n ∷ [])
-  go true b h g q = let is : L.Truth true ≡ l = cc in subst (λ z. literal_text z (K.Name n ∷ [])) is (ap (λ z. K.Name z ∷ []) (same_bytes n (codes "TRUE") h))
-  go false true h g q = let is : L.Truth false ≡ l = cc in subst (λ z. literal_text z (K.Name n ∷ [])) is (ap (λ z. K.Name z ∷ []) (same_bytes n (codes "FALSE") g))
+  go : (a b : Bool) → bytes_eq n (codes "TRUE") ≡ a → bytes_eq n (codes "FALSE") ≡ b
+      → cond a (Some (L.Truth true)) (cond b (Some (L.Truth false)) None) ≡ Some l → literal_text l (K.Name n ∷ [])
+  go true b h g q = let is : L.Truth true
+      ≡ l = cc in subst (λ z. literal_text z (K.Name n ∷ [])) is (ap (λ z. K.Name z ∷ []) (same_bytes n (codes "TRUE") h))
+  go false true h g q = let is : L.Truth false
+      ≡ l = cc in subst (λ z. literal_text z (K.Name n ∷ [])) is (ap (λ z. K.Name z ∷ []) (same_bytes n (codes "FALSE") g))
   go false false h g q = absurd cc
 
 literal_forth : (k : TokenKind) (l : Leaf) → literal_in k ≡ Some l → literal_text l (k ∷ [])
@@ -141,9 +147,12 @@ leads_leaf = leads_by leaf_of leaf_back (leads_either leads_literal leads_scoped
 
 unary_named : (m : List ℕ) (op : UnaryOp) → unary_of m ≡ Some op → K.Mark m ∷ [] ≡ K.Mark (unary_spell op) ∷ []
 unary_named m op e = go (bytes_eq m (codes "-")) (bytes_eq m (codes "+")) refl refl e where
-  go : (a b : Bool) → bytes_eq m (codes "-") ≡ a → bytes_eq m (codes "+") ≡ b → cond a (Some U.Minus) (cond b (Some U.Plus) None) ≡ Some op → K.Mark m ∷ [] ≡ K.Mark (unary_spell op) ∷ []
-  go true b h g q = let is : U.Minus ≡ op = cc in subst (λ z. K.Mark m ∷ [] ≡ K.Mark (unary_spell z) ∷ []) is (ap (λ z. K.Mark z ∷ []) (same_bytes m (codes "-") h))
-  go false true h g q = let is : U.Plus ≡ op = cc in subst (λ z. K.Mark m ∷ [] ≡ K.Mark (unary_spell z) ∷ []) is (ap (λ z. K.Mark z ∷ []) (same_bytes m (codes "+") g))
+  go : (a b : Bool) → bytes_eq m (codes "-") ≡ a → bytes_eq m (codes "+") ≡ b → cond a (Some U.Minus) (cond b (Some U.Plus) None)
+      ≡ Some op → K.Mark m ∷ [] ≡ K.Mark (unary_spell op) ∷ []
+  go true b h g q = let is : U.Minus ≡ op =
+      cc in subst (λ z. K.Mark m ∷ [] ≡ K.Mark (unary_spell z) ∷ []) is (ap (λ z. K.Mark z ∷ []) (same_bytes m (codes "-") h))
+  go false true h g q = let is : U.Plus ≡ op =
+      cc in subst (λ z. K.Mark m ∷ [] ≡ K.Mark (unary_spell z) ∷ []) is (ap (λ z. K.Mark z ∷ []) (same_bytes m (codes "+") g))
   go false false h g q = absurd cc
 
 unary_forth : (k : TokenKind) (op : UnaryOp) → unary_in k ≡ Some op → mark (unary_spell op) (k ∷ [])

@@ -1,6 +1,14 @@
+-- The proofs, each after those that it uses; * marks those that the proofs of functions use.
+
+-- * A loop over operators reads what `chain_on` reads
 pub mod Chains
+-- Identifiers, scoped names, literals and operators: what is read is what is spelled
 pub mod LeavesRead
+-- What is read of an expression is spelled, within the levels that it takes
 pub mod Within
+-- An expression between `<` and `>` is not taken for what follows a type
 pub mod Closing
+-- What is spelled is read
 pub mod Again
+-- * Expressions: what is read is what is spelled
 pub mod ExpressionsRead

@@ -55,7 +55,8 @@ binary_named m op e =
     (at (bytes_eq m (codes "/")) _ B.Div refl (λ h. same_bytes m (codes "/") h)
     (at (bytes_eq m (codes "%")) None B.Rem refl (λ h. same_bytes m (codes "%") h) (λ q. absurd cc)))))))))) e
   where
-    at : (b : Bool) (others : Option BinaryOp) (o : BinaryOp) {c : Bool} → b ≡ c → (b ≡ true → m ≡ binary_spell o) → (others ≡ Some op → m ≡ binary_spell op) → cond b (Some o) others ≡ Some op → m ≡ binary_spell op
+    at : (b : Bool) (others : Option BinaryOp) (o : BinaryOp) {c : Bool} → b ≡ c → (b ≡ true → m ≡ binary_spell o)
+        → (others ≡ Some op → m ≡ binary_spell op) → cond b (Some o) others ≡ Some op → m ≡ binary_spell op
     at true others o h named others_are q = let is : o ≡ op = cc in subst (λ z. m ≡ binary_spell z) is (named refl)
     at false others o h named others_are q = others_are q
 
@@ -120,7 +121,10 @@ module _ (n : ℕ) (operand : Bool → ℕ → Reader Levelled) (found : (angle 
   joined_up o loose y z f g t is k s w =
       let left = more y.1 (max y.1 z.1) (omega arith) (suc loose) (suc (looseness o)) (omega (arith, is)) y.0 (kinds f) s in
       let right = more z.1 (max y.1 z.1) (omega arith) loose (looseness o) (omega (arith, is)) z.0 (kinds g) w in
-      inl (omega (arith, is), (kinds f, kinds (t ∷ g), kinds-append f (t ∷ g), left, (t.kind ∷ [], kinds g, refl, ap (λ k. k ∷ []) k, right)))
+      inl (
+        omega (arith, is),
+        (kinds f, kinds (t ∷ g), kinds-append f (t ∷ g), left, (t.kind ∷ [], kinds g, refl, ap (λ k. k ∷ []) k, right)),
+      )
 
   abbrev Chain : Bool → ℕ → ℕ → Levelled → List Token → Type 0
   Chain angle loose fuel x rest = (y : Levelled) (us f0 : List Token) → y.1 ≤ suc n → within y.1 (suc loose) y.0 (kinds f0)
@@ -138,16 +142,32 @@ module _ (n : ℕ) (operand : Bool → ℕ → Reader Levelled) (found : (angle 
       ≡ Some (x, rest)
       → (x.1 ≤ suc n) × ((f : List Token) × (us ≡ f ++ rest) × within x.1 (suc loose) x.0 (kinds (f0 ++ f)))
   chain_by angle loose fuel x rest next y us f0 le s None h q =
-      let is = read_is y x us rest q in
-      (subst (λ z. z.1 ≤ suc n) is.0 le, ([], is.1, subst (λ (z : Levelled). within z.1 (suc loose) z.0 (kinds (f0 ++ []))) is.0 (subst (λ z. within y.1 (suc loose) y.0 (kinds z)) (sym (append-nil f0)) s)))
+      let is = read_is y x us rest q in (
+        subst
+            (λ z. z.1 ≤ suc n) is.0 le,
+        (
+          [],
+          is.1,
+          subst (λ (z : Levelled).
+              within z.1 (suc loose) z.0 (kinds (f0 ++ []))) is.0
+              (subst (λ z. within y.1 (suc loose) y.0 (kinds z)) (sym (append-nil f0)) s),
+        ),
+      )
   chain_by angle loose fuel x rest next y us f0 le s (Some o) h q =
-      let m = then_some (operand angle loose (drop 1 us)) (λ z vs. kept_in (suc n) (over o y z) (chain_on (operand angle loose) (operator_at angle loose) (suc n) fuel (over o y z)) vs) (x, rest) q in
+      let m =
+      then_some (operand angle loose (drop 1 us))
+      (λ z vs.
+      kept_in (suc n) (over o y z) (chain_on (operand angle loose) (operator_at angle loose) (suc n) fuel (over o y z)) vs) (x, rest)
+      q in
       let z = m.0.0 in
-      let low = kept (nat_le (over o y z).1 (suc n)) (chain_on (operand angle loose) (operator_at angle loose) (suc n) fuel (over o y z) m.0.1) (x, rest) m.2 in
+      let low =
+      kept (nat_le (over o y z).1 (suc n)) (chain_on (operand angle loose) (operator_at angle loose) (suc n) fuel (over o y z) m.0.1)
+      (x, rest) m.2 in
       let t = operator_found angle loose us o h in
       let a = found angle loose (drop 1 us) z m.0.1 m.1 in
       let us_is : us ≡ t.0 ∷ (a.1.0 ++ m.0.1) = t.2 ∙ ap (λ w. t.0 ∷ w) (sym (ap (drop 1) t.2) ∙ a.1.1) in
-      let b = next (over o y z) m.0.1 (f0 ++ t.0 ∷ a.1.0) (leb-true _ _ low.0) (joined_up o loose y z f0 a.1.0 t.0 t.4 t.3 s a.1.2) low.1 in (
+      let b = next (over o y z) m.0.1 (f0 ++ t.0 ∷ a.1.0) (leb-true _ _ low.0) (joined_up o loose y z f0 a.1.0 t.0 t.4 t.3 s a.1.2) low.1
+      in (
         b.0,
         (
           t.0 ∷ (a.1.0 ++ b.1.0),
@@ -158,7 +178,8 @@ module _ (n : ℕ) (operand : Bool → ℕ → Reader Levelled) (found : (angle 
 
   chain_found : (angle : Bool) (loose fuel : ℕ) (x : Levelled) (rest : List Token) → Chain angle loose fuel x rest
   chain_found angle loose zero x rest y us f0 le s e = absurd cc
-  chain_found angle loose (suc fuel) x rest y us f0 le s e = chain_by angle loose fuel x rest (chain_found angle loose fuel x rest) y us f0 le s (operator_at angle loose us) refl e
+  chain_found angle loose (suc fuel) x rest y us f0 le s e = chain_by angle loose fuel x rest (chain_found angle loose fuel x rest) y us
+      f0 le s (operator_at angle loose us) refl e
 
   abbrev Spelled : Levelled → List Token → List Token → Type 0
   Spelled x ts rest = (x.1 ≤ suc n) × ((front : List Token) × (ts ≡ front ++ rest) × within x.1 0 x.0 (kinds front))
@@ -175,8 +196,16 @@ module _ (n : ℕ) (operand : Bool → ℕ → Reader Levelled) (found : (angle 
         omega (arith, b.0),
         (
           a.0 ++ (b.1.0 ++ c.0),
-          a.1 ∙ ap (λ z. a.0 ++ z) (b.1.1 ∙ ap (λ z. b.1.0 ++ z) c.1 ∙ sym (append_assoc b.1.0 c.0 rest)) ∙ sym (append_assoc a.0 (b.1.0 ++ c.0) rest),
-          inr (kinds a.0, kinds (b.1.0 ++ c.0), kinds-append a.0 (b.1.0 ++ c.0), a.2, (kinds b.1.0, kinds c.0, kinds-append b.1.0 c.0, b.1.2, c.2)),
+          a.1
+              ∙ ap (λ z. a.0 ++ z) (b.1.1 ∙ ap (λ z. b.1.0 ++ z) c.1 ∙ sym (append_assoc b.1.0 c.0 rest))
+              ∙ sym (append_assoc a.0 (b.1.0 ++ c.0) rest),
+          inr (
+            kinds a.0,
+            kinds (b.1.0 ++ c.0),
+            kinds-append a.0 (b.1.0 ++ c.0),
+            a.2,
+            (kinds b.1.0, kinds c.0, kinds-append b.1.0 c.0, b.1.2, c.2),
+          ),
         ),
       )
 
@@ -200,7 +229,10 @@ module _ (n : ℕ) (operand : Bool → ℕ → Reader Levelled) (found : (angle 
 
   primary_found : (angle : Bool) → Found (primary_at operand angle) (suc n) 0
   primary_found angle ts x rest e =
-      let m = map_some primary_of (either (begins_with (mark_is (codes "("))) (behind (mark_at (codes "(")) (before (operand false 6) (mark_at (codes ")")))) (either (begins_with is_unary) (both (token_at unary_in) (operand angle 0)) leaf_at) ts) x rest e in
+      let m =
+      map_some primary_of
+      (either (begins_with (mark_is (codes "("))) (behind (mark_at (codes "(")) (before (operand false 6) (mark_at (codes ")"))))
+      (either (begins_with is_unary) (both (token_at unary_in) (operand angle 0)) leaf_at) ts) x rest e in
       subst (λ z. Spelled z ts rest) m.2 (elim (cond_some (begins_with (mark_is (codes "(")) ts) _ _ (m.0, rest) m.1) [
         | inl (t, e1) ↦
             let k = map_some inl (behind (mark_at (codes "(")) (before (operand false 6) (mark_at (codes ")"))) ts) m.0 rest e1 in
@@ -221,10 +253,14 @@ module _ (n : ℕ) (operand : Bool → ℕ → Reader Levelled) (found : (angle 
   climb_found : (angle : Bool) (loose : ℕ) → Found (climb operand n angle loose) (suc n) loose
   climb_found angle zero ts x rest e = primary_found angle ts x rest e
   climb_found angle (suc loose) ts x rest e =
-      let m = then_some (climb operand n angle loose ts) (λ y us. chain_on (operand angle loose) (operator_at angle loose) (suc n) (suc n) y us) (x, rest) e in
+      let m =
+      then_some (climb operand n angle loose ts)
+      (λ y us. chain_on (operand angle loose) (operator_at angle loose) (suc n) (suc n) y us) (x, rest) e in
       let y = m.0.0 in
       let a = climb_found angle loose ts y m.0.1 m.1 in
-      let b = chain_found angle loose (suc n) x rest y m.0.1 a.1.0 a.0 (more y.1 y.1 (omega arith) loose (suc loose) (omega arith) y.0 (kinds a.1.0) a.1.2) m.2 in
+      let b =
+      chain_found angle loose (suc n) x rest y m.0.1 a.1.0 a.0
+      (more y.1 y.1 (omega arith) loose (suc loose) (omega arith) y.0 (kinds a.1.0) a.1.2) m.2 in
       (b.0, (a.1.0 ++ b.1.0, a.1.1 ∙ ap (λ w. a.1.0 ++ w) b.1.1 ∙ sym (append_assoc a.1.0 b.1.0 rest), b.1.2))
 
 pub within_found : (n : ℕ) (angle : Bool) (loose : ℕ) → Found (within_at n angle loose) n loose

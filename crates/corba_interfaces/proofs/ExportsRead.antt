@@ -29,10 +29,14 @@ apart_semicolon : Apart (mark_is (codes ";")) is_joint
 apart_semicolon k e = let is = mark_named (codes ";") k e in rw is refl
 
 attribute_ended : (rest : List Token) → Ended rest → AttributeMay rest
-attribute_ended rest may = (turns (mark_is (codes ";")) (mark_is (codes ",")) (apart_mark (mark_is (codes ";")) (codes ",") refl) rest may, turns (mark_is (codes ";")) is_joint apart_semicolon rest may)
+attribute_ended rest may = (
+  turns (mark_is (codes ";")) (mark_is (codes ",")) (apart_mark (mark_is (codes ";")) (codes ",") refl) rest may,
+  turns (mark_is (codes ";")) is_joint apart_semicolon rest may,
+)
 
 operation_ended : (rest : List Token) → Ended rest → OperationMay rest
-operation_ended rest may = turns (mark_is (codes ";")) (word_is (codes "raises")) (apart_word (mark_is (codes ";")) (codes "raises") refl) rest may
+operation_ended rest may = turns (mark_is (codes ";")) (word_is (codes "raises")) (apart_word (mark_is (codes ";")) (codes "raises") refl)
+    rest may
 
 -- ---- what each begins with
 
@@ -40,16 +44,19 @@ abbrev pub is_member : TokenKind → Bool
 is_member k = is_attribute k || is_operation k
 
 apart_attribute : Apart is_operation is_attribute
-apart_attribute = apart_or is_operation (word_is (codes "readonly")) (word_is (codes "attribute")) (apart_word is_operation (codes "readonly") refl) (apart_word is_operation (codes "attribute") refl)
+apart_attribute = apart_or is_operation (word_is (codes "readonly")) (word_is (codes "attribute"))
+    (apart_word is_operation (codes "readonly") refl) (apart_word is_operation (codes "attribute") refl)
 
 apart_words_of : (g : TokenKind → Bool) → Apart g (word_is (codes "typedef")) → Apart g (word_is (codes "struct"))
     → Apart g (word_is (codes "union")) → Apart g (word_is (codes "enum")) → Apart g (word_is (codes "const"))
     → Apart g (word_is (codes "exception"))
     → Apart g is_declaration
-apart_words_of g a b c d e f k h = let p = a k h in let q = b k h in let r = c k h in let s = d k h in let t = e k h in let u = f k h in rw (p, q, r, s, t, u) refl
+apart_words_of g a b c d e f k h = let p = a k h in let q = b k h in let r = c k h in let s = d k h in let t = e k h in let u =
+    f k h in rw (p, q, r, s, t, u) refl
 
 apart_declaration : Apart is_member is_declaration
-apart_declaration = apart_words_of is_member (apart_word is_member (codes "typedef") refl) (apart_word is_member (codes "struct") refl) (apart_word is_member (codes "union") refl)
+apart_declaration = apart_words_of is_member (apart_word is_member (codes "typedef") refl) (apart_word is_member (codes "struct") refl)
+    (apart_word is_member (codes "union") refl)
     (apart_word is_member (codes "enum") refl) (apart_word is_member (codes "const") refl) (apart_word is_member (codes "exception") refl)
 
 -- whether a token begins what an interface declares
@@ -81,7 +88,8 @@ module _ (n : ℕ) where
   unfolding exported_at
   exported_is = mapped_is exported_of (exported n)
       (either_is {May = Ended} (begins_with is_declaration) (declaration_is n)
-      (either_is {May = Ended} (begins_with is_attribute) (weaker (attribute_is n) attribute_ended) (weaker (operation_is n) operation_ended)
+      (either_is {May = Ended} (begins_with is_attribute) (weaker (attribute_is n) attribute_ended)
+      (weaker (operation_is n) operation_ended)
       (λ a front rest s may. begins_so (leads_attribute n) a front rest s)
       (λ o front rest s may. begins_not is_attribute (leads_operation n) apart_attribute o front rest s))
       (λ d front rest s may. begins_so (leads_declaration n) d front rest s)
@@ -100,5 +108,12 @@ module _ (n : ℕ) where
 
   pub exports_is : IsGrammar (many is_open (export_at n)) (each (export n)) (λ rest. is_open rest ≡ false)
   exports_is = weaker
-      (many_is is_open export_is (record { ends = refl; begins = λ e front rest s. begins_else (mark_is (codes "}")) leads_export (apart_mark is_export (codes "}") refl) e front rest s; goes_on = λ ts h. tt }))
+      (many_is is_open export_is
+      (record {
+        ends = refl;
+        begins =
+            λ e front rest s.
+            begins_else (mark_is (codes "}")) leads_export (apart_mark is_export (codes "}") refl) e front rest s;
+        goes_on = λ ts h. tt;
+      }))
       (λ rest may. (may, tt))

@@ -28,14 +28,18 @@ abbrev end_text : Text
 end_text = mark (codes "}") & mark (codes ";")
 
 closed : (front rest : List Token) → end_text (kinds front) → is_open (front ++ rest) ≡ false
-closed front rest s = not_other (mark_is (codes "}")) (front ++ rest) (begins_so (leads_behind (λ (_ : Unit {0}). mark (codes ";")) (leads_mark (codes "}"))) tt front rest s)
+closed front rest s =
+    not_other (mark_is (codes "}")) (front ++ rest)
+    (begins_so (leads_behind (λ (_ : Unit {0}). mark (codes ";")) (leads_mark (codes "}"))) tt front rest s)
 
 module _ (n : ℕ) where
   bases_is : IsGrammar (bases_at n) (if_any (bases n)) BasesMay
   unfolding bases_at
   bases_is = any_is {May = BasesMay} (begins_with (mark_is (codes ":")))
       (weaker
-      (behind_is (mark_reads (codes ":")) (joined_is (codes ",") (reference_is n) (λ ts h. turns (mark_is (codes ",")) (mark_is (codes "::")) (apart_mark (mark_is (codes ",")) (codes "::") refl) ts h)))
+      (behind_is (mark_reads (codes ":"))
+      (joined_is (codes ",") (reference_is n)
+      (λ ts h. turns (mark_is (codes ",")) (mark_is (codes "::")) (apart_mark (mark_is (codes ",")) (codes "::") refl) ts h)))
       (λ rest may. may.1))
       (λ ks s. s.4)
       (λ rs front rest s may. begins_so (leads_behind (joined (codes ",") (reference n)) (leads_mark (codes ":"))) rs front rest s)
@@ -60,7 +64,10 @@ module _ (n : ℕ) where
   unfolding interface_at
   interface_is = mapped_is interface_of (interface n)
       (behind_is (word_reads (codes "interface")) (both_is identifier_is
-      (both_is bases_is (behind_is (mark_reads (codes "{")) (before_is (exports_is n) (behind_is (mark_reads (codes "}")) (mark_reads (codes ";"))) closed)) (λ es front rest s may. before_body es front rest s))
+      (both_is bases_is
+      (behind_is (mark_reads (codes "{"))
+      (before_is (exports_is n) (behind_is (mark_reads (codes "}")) (mark_reads (codes ";"))) closed))
+      (λ es front rest s may. before_body es front rest s))
       (λ b front rest t may. tt)))
       (λ x ks s. s) (λ i ks s. ((i.name, (i.bases, i.exports)), refl, s))
 

@@ -32,7 +32,13 @@ use Rattle.corba_members.specs.Readers.{dimension_of, dimension_at, has_dimensio
 before_bracket : (front rest : List Token) → mark (codes "]") (kinds front) → May false 6 (front ++ rest)
 before_bracket front rest s =
     let t = one_kind front (K.Mark (codes "]")) s in
-    subst (λ z. May false 6 (z ++ rest)) (sym t.1) (record { name = rw t.2 refl; no_operator = λ d lt. rw t.2 refl; joint = λ yes. absurd cc })
+    subst
+    (λ z. May false 6 (z ++ rest)) (sym t.1) (record {
+      name = rw t.2 refl;
+      no_operator = λ d lt. rw t.2 refl;
+      joint = λ yes.
+          absurd cc;
+    })
 
 -- a mark after which no expression goes on
 apart_bracket : Apart (mark_is (codes "[")) is_joint
@@ -56,8 +62,10 @@ leads_type_of : (n : ℕ) (bounds : List (Option Tree)) (b : Base) (ks : List To
     → (k : TokenKind) × (more : List TokenKind) × (ks ≡ k ∷ more)
     × ((word_is (codes "sequence") k || (word_is (codes "string") k || is_plain 0 k)) ≡ true)
 leads_type_of zero bounds b ks s = absurd s
-leads_type_of (suc n) [] b ks s = let x = leads_base (suc n) (([], b), false) ks (refl, s) in (x.0, x.1, x.2, or_right (word_is (codes "sequence") x.0) _ x.3)
-leads_type_of (suc n) (c ∷ cs) b ks s = let x = leads_word (codes "sequence") tt s.0 s.3 in (x.0, x.1 ++ s.1, s.2 ∙ ap (λ z. z ++ s.1) x.2, or_left _ _ x.3)
+leads_type_of (suc n) [] b ks s = let x =
+    leads_base (suc n) (([], b), false) ks (refl, s) in (x.0, x.1, x.2, or_right (word_is (codes "sequence") x.0) _ x.3)
+leads_type_of (suc n) (c ∷ cs) b ks s = let x =
+    leads_word (codes "sequence") tt s.0 s.3 in (x.0, x.1 ++ s.1, s.2 ∙ ap (λ z. z ++ s.1) x.2, or_left _ _ x.3)
 
 pub leads_type : (n : ℕ) → Leads (whole n) (λ k. word_is (codes "sequence") k || (word_is (codes "string") k || is_plain 0 k))
 leads_type n v ks s = leads_type_of n v.0 v.1 ks s
@@ -65,7 +73,9 @@ leads_type n v ks s = leads_type_of n v.0 v.1 ks s
 module _ (n : ℕ) where
   pub dimension_is : IsGrammar (dimension_at n) (dimension n) Any
   unfolding dimension_at
-  dimension_is = mapped_is dimension_of (dimension n) (behind_is (mark_reads (codes "[")) (before_is (expression_is n false) (mark_reads (codes "]")) before_bracket))
+  dimension_is =
+      mapped_is dimension_of (dimension n)
+      (behind_is (mark_reads (codes "[")) (before_is (expression_is n false) (mark_reads (codes "]")) before_bracket))
       (λ x ks s. s) (λ d ks s. (d.length, refl, s))
 
   leads_dimension : Leads (dimension n) (mark_is (codes "["))
@@ -76,11 +86,17 @@ module _ (n : ℕ) where
   DeclaratorMay rest = has_dimension rest ≡ false
 
   dimensions_is : IsGrammar (many has_dimension (dimension_at n)) (each (dimension n)) DeclaratorMay
-  dimensions_is = weaker (many_is has_dimension dimension_is (record { ends = refl; begins = λ d front rest s. begins_so leads_dimension d front rest s; goes_on = λ ts h. tt })) (λ rest may. (may, tt))
+  dimensions_is =
+      weaker
+      (many_is has_dimension dimension_is
+      (record { ends = refl; begins = λ d front rest s. begins_so leads_dimension d front rest s; goes_on = λ ts h. tt })) (λ rest may.
+      (may, tt))
 
   pub declarator_is : IsGrammar (declarator_at n) (declarator n) DeclaratorMay
   unfolding declarator_at
-  declarator_is = mapped_is declarator_of (declarator n) (both_is identifier_is dimensions_is (λ b front rest t may. tt)) (λ x ks s. s) (λ d ks s. ((d.name, d.dimensions), refl, s))
+  declarator_is =
+      mapped_is declarator_of (declarator n)
+      (both_is identifier_is dimensions_is (λ b front rest t may. tt)) (λ x ks s. s) (λ d ks s. ((d.name, d.dimensions), refl, s))
 
   pub leads_declarator : Leads (declarator n) is_identifier
   leads_declarator d ks s = leads_both (each (dimension n)) leads_identifier (d.name, d.dimensions) ks s
@@ -137,7 +153,8 @@ module _ (n : ℕ) where
 
   declared_is : IsGrammar (before (joined_at (codes ",") (declarator_at n)) (mark_at (codes ";"))) declared Any
   declared_is = before_is
-      (joined_is (codes ",") declarator_is (λ ts h. turns (mark_is (codes ",")) (mark_is (codes "[")) (apart_mark (mark_is (codes ",")) (codes "[") refl) ts h))
+      (joined_is (codes ",") declarator_is
+      (λ ts h. turns (mark_is (codes ",")) (mark_is (codes "[")) (apart_mark (mark_is (codes ",")) (codes "[") refl) ts h))
       (mark_reads (codes ";"))
       (λ front rest s. (
         begins_not (mark_is (codes ",")) (leads_mark (codes ";")) (apart_mark (mark_is (codes ";")) (codes ",") refl) tt front rest s,
@@ -146,7 +163,9 @@ module _ (n : ℕ) where
 
   pub member_is : IsGrammar (member_at n) (member n) Any
   unfolding member_at
-  member_is = mapped_is member_of (member n) (both_is (type_is n) declared_is (λ ds front rest s may. declared_closes ds front rest s)) (λ x ks s. s) (λ m ks s. ((m.of, m.declarators), refl, s))
+  member_is =
+      mapped_is member_of (member n) (both_is (type_is n) declared_is (λ ds front rest s may. declared_closes ds front rest s)) (λ x ks s.
+      s) (λ m ks s. ((m.of, m.declarators), refl, s))
 
   abbrev is_member : TokenKind → Bool
   is_member k = word_is (codes "sequence") k || (word_is (codes "string") k || is_plain 0 k)
@@ -156,7 +175,14 @@ module _ (n : ℕ) where
 
   members_is : IsGrammar (many is_open (member_at n)) (each (member n)) (λ rest. is_open rest ≡ false)
   members_is = weaker
-      (many_is is_open member_is (record { ends = refl; begins = λ m front rest s. begins_else (mark_is (codes "}")) leads_member (apart_mark is_member (codes "}") refl) m front rest s; goes_on = λ ts h. tt }))
+      (many_is is_open member_is
+      (record {
+        ends = refl;
+        begins =
+            λ m front rest s.
+            begins_else (mark_is (codes "}")) leads_member (apart_mark is_member (codes "}") refl) m front rest s;
+        goes_on = λ ts h. tt;
+      }))
       (λ rest may. (may, tt))
 
   pub closed : (front rest : List Token) → mark (codes "}") (kinds front) → is_open (front ++ rest) ≡ false
@@ -165,30 +191,49 @@ module _ (n : ℕ) where
   pub structure_is : IsGrammar (structure_at n) (structure n) Any
   unfolding structure_at
   structure_is = mapped_is structure_of (structure n)
-      (behind_is (word_reads (codes "struct")) (both_is identifier_is (behind_is (mark_reads (codes "{")) (before_is (some_is members_is) (mark_reads (codes "}")) closed)) (λ b front rest t may. tt)))
+      (behind_is (word_reads (codes "struct"))
+      (both_is identifier_is (behind_is (mark_reads (codes "{")) (before_is (some_is members_is) (mark_reads (codes "}")) closed))
+      (λ b front rest t may. tt)))
       (λ x ks s. s) (λ d ks s. ((d.name, d.members), refl, s))
 
   pub leads_structure : Leads (structure n) (word_is (codes "struct"))
-  leads_structure d ks s = leads_behind (λ (x : Struct). identifier x.name & (mark (codes "{") & (some (member n) x.members & mark (codes "}")))) (leads_word (codes "struct")) d ks s
+  leads_structure d ks s =
+      leads_behind
+      (λ (x : Struct).
+      identifier x.name & (mark (codes "{") & (some (member n) x.members & mark (codes "}")))) (leads_word (codes "struct")) d ks s
 
   pub exception_is : IsGrammar (exception_at n) (exception n) Any
   unfolding exception_at
   exception_is = mapped_is exception_of (exception n)
-      (behind_is (word_reads (codes "exception")) (both_is identifier_is (behind_is (mark_reads (codes "{")) (before_is members_is (mark_reads (codes "}")) closed)) (λ b front rest t may. tt)))
+      (behind_is (word_reads (codes "exception"))
+      (both_is identifier_is (behind_is (mark_reads (codes "{")) (before_is members_is (mark_reads (codes "}")) closed))
+      (λ b front rest t may. tt)))
       (λ x ks s. s) (λ d ks s. ((d.name, d.members), refl, s))
 
   pub leads_exception : Leads (exception n) (word_is (codes "exception"))
-  leads_exception d ks s = leads_behind (λ (x : Exception). identifier x.name & (mark (codes "{") & (each (member n) x.members & mark (codes "}")))) (leads_word (codes "exception")) d ks s
+  leads_exception d ks s =
+      leads_behind
+      (λ (x : Exception).
+      identifier x.name & (mark (codes "{") & (each (member n) x.members & mark (codes "}")))) (leads_word (codes "exception")) d ks s
 
 pub enumeration_is : IsGrammar enumeration_at enumeration Any
 unfolding enumeration_at
 enumeration_is = mapped_is enumeration_of enumeration
-    (behind_is (word_reads (codes "enum")) (both_is identifier_is (behind_is (mark_reads (codes "{")) (before_is (joined_is (codes ",") identifier_is (λ ts h. tt)) (mark_reads (codes "}"))
-    (λ front rest s. (begins_not (mark_is (codes ",")) (leads_mark (codes "}")) (apart_mark (mark_is (codes "}")) (codes ",") refl) tt front rest s, tt)))) (λ b front rest t may. tt)))
+    (behind_is (word_reads (codes "enum"))
+    (both_is identifier_is
+    (behind_is (mark_reads (codes "{")) (before_is (joined_is (codes ",") identifier_is (λ ts h. tt)) (mark_reads (codes "}"))
+    (λ front rest s. (
+      begins_not (mark_is (codes ",")) (leads_mark (codes "}")) (apart_mark (mark_is (codes "}")) (codes ",") refl) tt front rest s,
+      tt,
+    )))) (λ b front rest t may. tt)))
     (λ x ks s. s) (λ d ks s. ((d.name, d.items), refl, s))
 
 pub leads_enumeration : Leads enumeration (word_is (codes "enum"))
-leads_enumeration d ks s = leads_behind (λ (x : Enum). identifier x.name & (mark (codes "{") & (joined (codes ",") identifier x.items & mark (codes "}")))) (leads_word (codes "enum")) d ks s
+leads_enumeration d ks s =
+    leads_behind
+    (λ (x : Enum).
+    identifier x.name & (mark (codes "{") & (joined (codes ",") identifier x.items & mark (codes "}")))) (leads_word (codes "enum")) d ks
+    s
 
 -- ---- one tree
 

@@ -37,8 +37,10 @@ or_left false b e = absurd cc
 leads_type_of : (n : ℕ) (bounds : List (Option Tree)) (b : Base) (ks : List TokenKind) → type n bounds b false ks
     → (k : TokenKind) × (more : List TokenKind) × (ks ≡ k ∷ more) × (is_type k ≡ true)
 leads_type_of zero bounds b ks s = absurd s
-leads_type_of (suc n) [] b ks s = let x = leads_base (suc n) (([], b), false) ks (refl, s) in (x.0, x.1, x.2, or_right (word_is (codes "sequence") x.0) _ x.3)
-leads_type_of (suc n) (c ∷ cs) b ks s = let x = leads_word (codes "sequence") tt s.0 s.3 in (x.0, x.1 ++ s.1, s.2 ∙ ap (λ z. z ++ s.1) x.2, or_left _ _ x.3)
+leads_type_of (suc n) [] b ks s = let x =
+    leads_base (suc n) (([], b), false) ks (refl, s) in (x.0, x.1, x.2, or_right (word_is (codes "sequence") x.0) _ x.3)
+leads_type_of (suc n) (c ∷ cs) b ks s = let x =
+    leads_word (codes "sequence") tt s.0 s.3 in (x.0, x.1 ++ s.1, s.2 ∙ ap (λ z. z ++ s.1) x.2, or_left _ _ x.3)
 
 pub leads_type : (n : ℕ) → Leads (type_text n) is_type
 leads_type n v ks s = leads_type_of n v.0 v.1 ks s
@@ -59,7 +61,8 @@ names_end : (is : List Identifier) (f rest : List Token) → each next_name is (
     → begins_with is_joint (f ++ rest) ≡ false
 names_end [] [] rest s j = j
 names_end [] (t ∷ f) rest s j = absurd cc
-names_end (i ∷ is) f rest s j = begins_not is_joint (leads_both (each next_name) (leads_behind identifier (leads_mark (codes ",")))) apart_comma (i, is) f rest s
+names_end (i ∷ is) f rest s j = begins_not is_joint (leads_both (each next_name) (leads_behind identifier (leads_mark (codes ","))))
+    apart_comma (i, is) f rest s
 
 names_close : (is : List Identifier) (front rest : List Token) → joined (codes ",") identifier is (kinds front)
     → begins_with is_joint rest ≡ false
@@ -84,13 +87,18 @@ module _ (n : ℕ) where
   attribute_is = mapped_is attribute_of (attribute n)
       (both_is (word_flag_reads (codes "readonly"))
       (behind_is (word_reads (codes "attribute"))
-      (both_is (type_is n) (weaker {May' = AttributeMay} (joined_is (codes ",") identifier_is (λ ts h. tt)) (λ rest may. (may.0, tt))) (λ is front rest s may. names_close is front rest s may.1)))
-      (λ x front rest s may. begins_not (word_is (codes "readonly")) (leads_behind typed_names (leads_word (codes "attribute"))) (apart_word (word_is (codes "attribute")) (codes "readonly") refl) x front rest s))
+      (both_is (type_is n)
+      (weaker {May' = AttributeMay} (joined_is (codes ",") identifier_is (λ ts h. tt)) (λ rest may.
+      (may.0, tt))) (λ is front rest s may. names_close is front rest s may.1)))
+      (λ x front rest s may.
+      begins_not (word_is (codes "readonly")) (leads_behind typed_names (leads_word (codes "attribute")))
+      (apart_word (word_is (codes "attribute")) (codes "readonly") refl) x front rest s))
       (λ x ks s. s) (λ a ks s. ((a.readonly, (a.of, a.names)), refl, s))
 
   pub leads_attribute : Leads (attribute n) is_attribute
   leads_attribute a ks s =
-      leads_when {P = word (codes "readonly")} (leads_word (codes "readonly")) (leads_behind typed_names (leads_word (codes "attribute"))) (a.readonly, (a.of, a.names)) ks s
+      leads_when {P = word (codes "readonly")} (leads_word (codes "readonly")) (leads_behind typed_names (leads_word (codes "attribute")))
+      (a.readonly, (a.of, a.names)) ks s
 
 pub one_attribute_only : (n : ℕ) (a b : Attribute) (ts : List Token) → attribute n a (kinds ts) → attribute n b (kinds ts) → a ≡ b
 one_attribute_only n = one_tree (attribute_is n) (refl, refl)

@@ -79,11 +79,14 @@ module _ (n : ℕ) where
   parameter_is : IsGrammar (parameter_at n) (parameter n) ParameterMay
   unfolding parameter_at
   parameter_is = mapped_is parameter_of (parameter n)
-      (both_is direction_is (both_is (type_is n) (weaker {May' = ParameterMay} identifier_is (λ rest may. tt)) (λ i front rest s may. after_name i front rest s may)) (λ b front rest t may. tt))
+      (both_is direction_is
+      (both_is (type_is n) (weaker {May' = ParameterMay} identifier_is (λ rest may. tt)) (λ i front rest s may.
+      after_name i front rest s may)) (λ b front rest t may. tt))
       (λ x ks s. s) (λ p ks s. ((p.direction, (p.of, p.name)), refl, s))
 
   leads_parameter : Leads (parameter n) is_direction
-  leads_parameter p ks s = leads_both typed_name (leads_words direction_words direction_spell direction_back) (p.direction, (p.of, p.name)) ks s
+  leads_parameter p ks s = leads_both typed_name (leads_words direction_words direction_spell direction_back)
+      (p.direction, (p.of, p.name)) ks s
 
   parameters_is : IsGrammar (parameters_at n) (parameters n) Any
   unfolding parameters_at
@@ -91,7 +94,9 @@ module _ (n : ℕ) where
       (any_is {May = ClosedMay} (begins_other (mark_is (codes ")")))
       (weaker (joined_is (codes ",") parameter_is (λ ts h. turns (mark_is (codes ",")) is_joint apart_comma ts h)) (λ rest may. may.1))
       (λ ks s. s)
-      (λ ps front rest s may. begins_else (mark_is (codes ")")) (leads_joined (codes ",") leads_parameter) (apart_mark is_direction (codes ")") refl) ps front rest s)
+      (λ ps front rest s may.
+      begins_else (mark_is (codes ")")) (leads_joined (codes ",") leads_parameter) (apart_mark is_direction (codes ")") refl) ps front
+      rest s)
       (λ rest may. may.0))
       (mark_reads (codes ")")) closing_bracket)
 
@@ -105,7 +110,8 @@ module _ (n : ℕ) where
   raises_is = any_is {May = OperationMay} (begins_with (word_is (codes "raises")))
       (weaker
       (behind_is (word_reads (codes "raises")) (behind_is (mark_reads (codes "(")) (before_is
-      (joined_is (codes ",") (reference_is n) (λ ts h. turns (mark_is (codes ",")) (mark_is (codes "::")) (apart_mark (mark_is (codes ",")) (codes "::") refl) ts h))
+      (joined_is (codes ",") (reference_is n)
+      (λ ts h. turns (mark_is (codes ",")) (mark_is (codes "::")) (apart_mark (mark_is (codes ",")) (codes "::") refl) ts h))
       (mark_reads (codes ")")) closing_names)))
       (λ rest may. tt))
       (λ ks s. s.4.4.3)
@@ -149,7 +155,9 @@ module _ (n : ℕ) where
   tail_text x = parameters (n - 1) x.0 & if_any (raises (n - 1)) x.1
 
   leads_tail : Leads tail_text (mark_is (codes "("))
-  leads_tail = leads_both (if_any (raises (n - 1))) (leads_behind (λ ps. if_any (joined (codes ",") (parameter (n - 1))) ps & mark (codes ")")) (leads_mark (codes "(")))
+  leads_tail =
+      leads_both (if_any (raises (n - 1)))
+      (leads_behind (λ ps. if_any (joined (codes ",") (parameter (n - 1))) ps & mark (codes ")")) (leads_mark (codes "(")))
 
   abbrev named_text : Identifier × (List Parameter × List Reference) → Text
   named_text x = identifier x.0 & tail_text x.1
@@ -175,12 +183,14 @@ module _ (n : ℕ) where
       (both_is (result_is n)
       (both_is identifier_is (both_is (parameters_is (n - 1)) (raises_is (n - 1)) (λ b front rest t may. tt)) (λ b front rest t may. tt))
       (λ x front rest s may. named_closes x front rest s))
-      (λ x front rest s may. begins_not (word_is (codes "oneway")) leads_result_named (apart_word (is_result n) (codes "oneway") refl) x front rest s))
+      (λ x front rest s may.
+      begins_not (word_is (codes "oneway")) leads_result_named (apart_word (is_result n) (codes "oneway") refl) x front rest s))
       (λ x ks s. s) (λ o ks s. ((o.oneway, (o.result, (o.name, (o.parameters, o.raises)))), refl, s))
 
   pub leads_operation : Leads (operation n) is_operation
   leads_operation o ks s =
-      leads_when {P = word (codes "oneway")} (leads_word (codes "oneway")) leads_result_named (o.oneway, (o.result, (o.name, (o.parameters, o.raises)))) ks s
+      leads_when {P = word (codes "oneway")} (leads_word (codes "oneway")) leads_result_named
+      (o.oneway, (o.result, (o.name, (o.parameters, o.raises)))) ks s
 
 pub one_operation_only : (n : ℕ) (a b : Operation) (ts : List Token) → operation n a (kinds ts) → operation n b (kinds ts) → a ≡ b
 one_operation_only n = one_tree (operation_is n) refl

@@ -31,18 +31,26 @@ any_is {A} {r} {S} {May} go g none does not_so = mapped_is or_none (if_any S) (o
 -- a word that may be missing
 pub word_flag_reads : (w : List ℕ) → IsGrammar (flag_at (word_is w)) (when (word w)) (λ rest. begins_with (word_is w) rest ≡ false)
 word_flag_reads w = record { found = finds; again = reads } where
-  finds : (ts : List Token) (b : Bool) (rest : List Token) → flag_at (word_is w) ts ≡ Some (b, rest) → (front : List Token) × (ts ≡ front ++ rest) × when (word w) b (kinds front)
+  finds : (ts : List Token) (b : Bool) (rest : List Token) → flag_at (word_is w) ts ≡ Some (b, rest) → (front : List Token)
+      × (ts ≡ front ++ rest) × when (word w) b (kinds front)
   finds [] b rest e = let is = read_is false b [] rest e in ([], is.1, subst (λ z. when (word w) z []) is.0 refl)
   finds (t ∷ ts) b rest e = go (word_is w t.kind) refl e where
-    go : (c : Bool) → word_is w t.kind ≡ c → cond {A = Option (Bool × List Token)} c (Some (true, ts)) (Some (false, t ∷ ts)) ≡ Some (b, rest) → (front : List Token) × (t ∷ ts ≡ front ++ rest) × when (word w) b (kinds front)
-    go true h q = let is = read_is true b ts rest q in (t ∷ [], ap (λ z. t ∷ z) is.1, subst (λ z. when (word w) z (t.kind ∷ [])) is.0 (ap (λ z. z ∷ []) (word_named w t.kind h)))
+    go : (c : Bool) → word_is w t.kind ≡ c → cond {A = Option (Bool × List Token)} c (Some (true, ts)) (Some (false, t ∷ ts))
+        ≡ Some (b, rest) → (front : List Token) × (t ∷ ts ≡ front ++ rest) × when (word w) b (kinds front)
+    go true h q = let is =
+        read_is true b ts rest q in (
+          t ∷ [],
+          ap (λ z. t ∷ z) is.1,
+          subst (λ z. when (word w) z (t.kind ∷ [])) is.0 (ap (λ z. z ∷ []) (word_named w t.kind h)),
+        )
     go false h q = let is = read_is false b (t ∷ ts) rest q in ([], is.1, subst (λ z. when (word w) z []) is.0 refl)
 
   stays : (rest : List Token) → begins_with (word_is w) rest ≡ false → flag_at (word_is w) rest ≡ Some (false, rest)
   stays [] h = refl
   stays (t ∷ ts) h = rw h refl
 
-  reads : (b : Bool) (front rest : List Token) → when (word w) b (kinds front) → begins_with (word_is w) rest ≡ false → flag_at (word_is w) (front ++ rest) ≡ Some (b, rest)
+  reads : (b : Bool) (front rest : List Token) → when (word w) b (kinds front) → begins_with (word_is w) rest ≡ false
+      → flag_at (word_is w) (front ++ rest) ≡ Some (b, rest)
   reads false [] rest s may = stays rest may
   reads false (t ∷ front) rest s may = absurd cc
   reads true [] rest s may = absurd cc

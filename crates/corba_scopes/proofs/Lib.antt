@@ -1,3 +1,8 @@
+-- The proofs, each after those that it uses; * marks those that the proofs of functions use.
+
+-- Rows worked by hand: names at a place in B of this file. const long x = 3; interface A { const long x = 1; const string s = "t"; }; module M { const long x = 2; interface B : ::A { .. }; };
 mod Rows
+-- * Names in a map or a set of indexmap, as lists
 pub mod Keyed
+-- What holds of everything that names stand for, and what stays when a name is declared
 pub mod Standing

@@ -32,7 +32,8 @@ use Rattle.corba_shapes.proofs.Filling.{placed_is}
 
 -- ---- the tag
 
-pub tag_use_is : (types : List Shape) (labels : List (ℕ × ℤ)) (s : Names) (env : List (List ℕ)) (d : ℕ) (t : TagTree) (u : Use) → ScopeIs types labels s → tag_use s env d t ≡ Ok u → UseIs types labels u
+pub tag_use_is : (types : List Shape) (labels : List (ℕ × ℤ)) (s : Names) (env : List (List ℕ)) (d : ℕ) (t : TagTree) (u : Use)
+    → ScopeIs types labels s → tag_use s env d t ≡ Ok u → UseIs types labels u
 tag_use_is types labels s env d (T.Int i) u is h = subst (UseIs types labels) (ok_same (Number (kind_of i)) u h) tt
 tag_use_is types labels s env d T.Char u is h = subst (UseIs types labels) (ok_same _ u h) tt
 tag_use_is types labels s env d T.Boolean u is h = subst (UseIs types labels) (ok_same _ u h) tt
@@ -47,32 +48,46 @@ tag_is tag.Other h = absurd cc
 
 -- ---- labels
 
-label_longer : (s : Names) (labels : List (ℕ × ℤ)) (t : Tag) (env : List (List ℕ)) (d : ℕ) (ls out : Labels) (x : LabelTree) → NumbersAre labels t ls.numbers → label_on s labels t env d ls x ≡ Ok out → Longer labels t ls.numbers out.numbers
+label_longer : (s : Names) (labels : List (ℕ × ℤ)) (t : Tag) (env : List (List ℕ)) (d : ℕ) (ls out : Labels) (x : LabelTree)
+    → NumbersAre labels t ls.numbers → label_on s labels t env d ls x ≡ Ok out → Longer labels t ls.numbers out.numbers
 label_longer s labels t env d ls out (L.Case e) are h =
     let a = then_ok (number s env d e) _ out h in
     let b = then_ok (numbered labels t d ls.numbers a.given) _ out a.rest in
     let made : Labels = record ls { numbers = b.given } in
-    subst (λ (z : Labels). Longer labels t ls.numbers z.numbers) (ok_same made out b.rest) (number_added labels t d ls.numbers b.given a.given are b.first).0
+    subst
+    (λ (z : Labels).
+    Longer labels t ls.numbers z.numbers) (ok_same made out b.rest) (number_added labels t d ls.numbers b.given a.given are b.first).0
 label_longer s labels t env d ls out L.Default are h =
     let a = then_ok (refused Label d ls.default) _ out h in
     let made : Labels = record ls { default = true } in
-    subst (λ (z : Labels). Longer labels t ls.numbers z.numbers) (ok_same made out a.rest) (record { more = []; grown = nothing_more ls.numbers; are = are })
+    subst
+    (λ (z : Labels).
+    Longer labels t ls.numbers z.numbers) (ok_same made out a.rest) (record { more = []; grown = nothing_more ls.numbers; are = are })
 
-labels_longer : (s : Names) (labels : List (ℕ × ℤ)) (t : Tag) (env : List (List ℕ)) (d : ℕ) (ls out : Labels) (xs : List LabelTree) → NumbersAre labels t ls.numbers → labels_on s labels t env d ls xs ≡ Ok out → Longer labels t ls.numbers out.numbers
+labels_longer : (s : Names) (labels : List (ℕ × ℤ)) (t : Tag) (env : List (List ℕ)) (d : ℕ) (ls out : Labels) (xs : List LabelTree)
+    → NumbersAre labels t ls.numbers → labels_on s labels t env d ls xs ≡ Ok out → Longer labels t ls.numbers out.numbers
 labels_longer s labels t env d ls out [] are h =
-    subst (λ (z : Labels). Longer labels t ls.numbers z.numbers) (ok_same ls out h) (record { more = []; grown = nothing_more ls.numbers; are = are })
+    subst
+    (λ (z : Labels).
+    Longer labels t ls.numbers z.numbers) (ok_same ls out h) (record { more = []; grown = nothing_more ls.numbers; are = are })
 labels_longer s labels t env d ls out (x ∷ xs) are h =
     let a = then_ok (label_on s labels t env d ls x) _ out h in
     let one = label_longer s labels t env d ls a.given x are a.first in
     let rest = labels_longer s labels t env d a.given out xs one.are a.rest in
-    record { more = one.more ++ rest.more; grown = rest.grown ∙ ap (λ z. z ++ rest.more) one.grown ∙ joined ls.numbers one.more rest.more; are = rest.are }
+    record {
+      more = one.more ++ rest.more;
+      grown = rest.grown
+          ∙ ap (λ z. z ++ rest.more) one.grown ∙ joined ls.numbers one.more rest.more;
+      are = rest.are;
+    }
 
 -- ---- cases
 
 abbrev OtherGood : List Shape → Option Shape → Type 0
 OtherGood types o = good types (unwrap_or o void) ≡ true
 
-other_good : (types : List Shape) (b : Bool) (o : Option Shape) (s : Shape) → OtherGood types o → good types s ≡ true → OtherGood types (other_with b o s)
+other_good : (types : List Shape) (b : Bool) (o : Option Shape) (s : Shape) → OtherGood types o → good types s ≡ true
+    → OtherGood types (other_with b o s)
 other_good types true None s old new = new
 other_good types true (Some x) s old new = old
 other_good types false None s old new = old
@@ -83,7 +98,8 @@ pub record CasesAre (types : List Shape) (labels : List (ℕ × ℤ)) (t : Tag) 
   pub choices : ArmsAre types labels t cs.numbers cs.arms
   pub rest : OtherGood types cs.other
 
-case_is : (types : List Shape) (labels : List (ℕ × ℤ)) (t : Tag) (env : List (List ℕ)) (d : ℕ) (cs out : Cases) (c : Case) → CasesAre types labels t cs → case_on labels t env d cs c ≡ Ok out → CasesAre types labels t out
+case_is : (types : List Shape) (labels : List (ℕ × ℤ)) (t : Tag) (env : List (List ℕ)) (d : ℕ) (cs out : Cases) (c : Case)
+    → CasesAre types labels t cs → case_on labels t env d cs c ≡ Ok out → CasesAre types labels t out
 case_is types labels t env d cs out c are h =
     let before : Labels = record { numbers = cs.numbers; default = is_some cs.other } in
     let a = then_ok (labels_on cs.names labels t env d before c.labels) _ out h in
@@ -93,15 +109,24 @@ case_is types labels t env d cs out c are h =
     let form = form_is types labels cs.names env d c.of.0 c.of.1 b.given are.standing b.first in
     let one = placed_is types labels env d cs.names c.declarator e.given are.standing e.first in
     let shape = form_shape b.given e.given.1 in
-    let sound : good types shape ≡ true = or_void_true shape (is_sound_type types (length types) shape) (form_sound types labels b.given e.given.1 form one.lengths) in
-    let made : Cases = record { names = e.given.0; numbers = a.given.numbers; arms = with_arm a.given.numbers cs.arms shape; other = other_with a.given.default cs.other shape } in
+    let sound : good types shape ≡ true = or_void_true shape (is_sound_type types (length types) shape)
+    (form_sound types labels b.given e.given.1 form one.lengths) in
+    let made : Cases =
+    record {
+      names = e.given.0;
+      numbers = a.given.numbers;
+      arms = with_arm a.given.numbers cs.arms shape;
+      other =
+          other_with a.given.default cs.other shape;
+    } in
     subst (CasesAre types labels t) (ok_same made out e.rest) (record {
       standing = one.scope;
       choices = arms_added types labels t cs.numbers a.given.numbers cs.arms shape are.choices more sound;
       rest = other_good types a.given.default cs.other shape are.rest sound;
     })
 
-pub cases_are : (types : List Shape) (labels : List (ℕ × ℤ)) (t : Tag) (env : List (List ℕ)) (d : ℕ) (cs out : Cases) (list : List Case) → CasesAre types labels t cs → cases_on labels t env d cs list ≡ Ok out → CasesAre types labels t out
+pub cases_are : (types : List Shape) (labels : List (ℕ × ℤ)) (t : Tag) (env : List (List ℕ)) (d : ℕ) (cs out : Cases) (list : List Case)
+    → CasesAre types labels t cs → cases_on labels t env d cs list ≡ Ok out → CasesAre types labels t out
 cases_are types labels t env d cs out [] are h = subst (CasesAre types labels t) (ok_same cs out h) are
 cases_are types labels t env d cs out (c ∷ list) are h =
     let a = then_ok (case_on labels t env d cs c) _ out h in
@@ -113,7 +138,9 @@ some_arm : (arms : List Arm_) (s : Shape) → has_arm (arms_of arms (default s))
 some_arm [] s = refl
 some_arm (a ∷ arms) s = refl
 
-pub union_sound : (types : List Shape) (labels : List (ℕ × ℤ)) (u : Use) (cs : Cases) → UseIs types labels u → is_no_tag (tag_of_use u) ≡ false → CasesAre types labels (tag_of_use u) cs → is_sound_type types (length types) (union_shape u cs) ≡ true
+pub union_sound : (types : List Shape) (labels : List (ℕ × ℤ)) (u : Use) (cs : Cases) → UseIs types labels u → is_no_tag (tag_of_use u)
+    ≡ false → CasesAre types labels (tag_of_use u) cs → is_sound_type types (length types) (union_shape u cs) ≡ true
 union_sound types labels u cs used fit are =
     let other : Shape = unwrap_or cs.other void in
-    choice_sound types labels u cs.numbers cs.arms (default other) used (tag_is (tag_of_use u) fit) are.choices (record { numbers = refl; sound = are.rest }) (some_arm cs.arms other)
+    choice_sound types labels u cs.numbers cs.arms (default other) used (tag_is (tag_of_use u) fit) are.choices
+    (record { numbers = refl; sound = are.rest }) (some_arm cs.arms other)

@@ -24,8 +24,10 @@ pub record ItemsAre (types : List Shape) (base : List (ℕ × ℤ)) (scope : Lis
   pub different : are_distinct (names s.items) ≡ true
   pub fresh : Fresh scope s.names (names s.items)
 
-pub items_are : (types : List Shape) (base : List (ℕ × ℤ)) (d : ℕ) (scope : List ℕ) (k place : ℕ) (s out : Items) (list : List Identifier) → ItemsAre types base scope k place s → items_on d scope k place s list ≡ Ok out
-    → ItemsAre types base scope k place out × (is_some_list s.items ≡ true → is_some_list out.items ≡ true) × (is_some_list list ≡ true → is_some_list out.items ≡ true)
+pub items_are : (types : List Shape) (base : List (ℕ × ℤ)) (d : ℕ) (scope : List ℕ) (k place : ℕ) (s out : Items) (list : List Identifier)
+    → ItemsAre types base scope k place s → items_on d scope k place s list ≡ Ok out
+    → ItemsAre types base scope k place out × (is_some_list s.items ≡ true → is_some_list out.items ≡ true)
+    × (is_some_list list ≡ true → is_some_list out.items ≡ true)
 items_are types base d scope k place s out [] are h =
     let same = ok_same s out h in (
       subst (ItemsAre types base scope k place) same are,
@@ -44,9 +46,13 @@ items_are types base d scope k place s out (i ∷ list) are h =
     let numbers' : numbers (s.items ++ last ∷ []) ≡ numbers s.items ++ n ∷ [] = append_map (λ (i : Item_). i.1) s.items last in
     let whole : ItemsAre types base scope k place next = record {
       standing = declared_is types base s.names scope i.name (M.Number n) a.given are.standing tt one;
-      labelling = subst (LabelsAre k place base b.given) (sym numbers') (labels_added k place base s.labels b.given (numbers s.items) n are.labelling (label_is d k place s.labels b.given n b.first));
+      labelling =
+          subst (LabelsAre k place base b.given) (sym numbers')
+          (labels_added k place base s.labels b.given (numbers s.items) n are.labelling (label_is d k place s.labels b.given n b.first));
       different = subst (λ z. are_distinct z ≡ true) (sym names') (distinct_push (names s.items) i.name are.different free);
-      fresh = subst (λ z. Fresh scope a.given z) (sym names') (fresh_push scope s.names a.given (names s.items) i.name (M.Number n) are.fresh one);
+      fresh =
+          subst
+          (λ z. Fresh scope a.given z) (sym names') (fresh_push scope s.names a.given (names s.items) i.name (M.Number n) are.fresh one);
     } in
     let rest = items_are types base d scope k place next out list whole b.rest in
     (rest.0, λ _. rest.1 (some_push s.items last), λ _. rest.1 (some_push s.items last))

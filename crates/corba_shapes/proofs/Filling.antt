@@ -32,26 +32,32 @@ use Rattle.corba_shapes.proofs.Lasting.{are_plain, plain_push}
 abbrev pub Fresh : List ℕ → Names → List (List ℕ) → Type 0
 Fresh scope s names = (n : List ℕ) → is_declared (scope ++ n) s.meanings ≡ false → has n names ≡ false
 
-not_added : (n : List ℕ) (names : List (List ℕ)) (name : List ℕ) → has n names ≡ false → bytes_eq n name ≡ false → has n (names ++ name ∷ []) ≡ false
+not_added : (n : List ℕ) (names : List (List ℕ)) (name : List ℕ) → has n names ≡ false → bytes_eq n name ≡ false
+    → has n (names ++ name ∷ []) ≡ false
 not_added n [] name a b = or_from _ _ b refl
 not_added n (m ∷ names) name a b = let h = or_parts _ _ a in or_from _ _ h.0 (not_added n names name h.1 b)
 
-fresh_by : (scope : List ℕ) (s : Names) (names : List (List ℕ)) (name : List ℕ) (m : Meaning) → Fresh scope s names → (n : List ℕ) → is_declared (scope ++ n) (s.meanings ++ (scope ++ name, m) ∷ []) ≡ false → has n (names ++ name ∷ []) ≡ false
+fresh_by : (scope : List ℕ) (s : Names) (names : List (List ℕ)) (name : List ℕ) (m : Meaning) → Fresh scope s names → (n : List ℕ)
+    → is_declared (scope ++ n) (s.meanings ++ (scope ++ name, m) ∷ []) ≡ false → has n (names ++ name ∷ []) ≡ false
 fresh_by scope s names name m fresh n h =
     let two = apart (scope ++ n) (scope ++ name) m s.meanings h in
     not_added n names name (fresh n two.0) (differ scope n name two.1)
 
-pub fresh_push : (scope : List ℕ) (s out : Names) (names : List (List ℕ)) (name : List ℕ) (m : Meaning) → Fresh scope s names → Declared s scope name m out → Fresh scope out (names ++ name ∷ [])
-fresh_push scope s out names name m fresh h = subst (λ (z : Names). Fresh scope z (names ++ name ∷ [])) h.same (fresh_by scope s names name m fresh)
+pub fresh_push : (scope : List ℕ) (s out : Names) (names : List (List ℕ)) (name : List ℕ) (m : Meaning) → Fresh scope s names
+    → Declared s scope name m out → Fresh scope out (names ++ name ∷ [])
+fresh_push scope s out names name m fresh h =
+    subst (λ (z : Names). Fresh scope z (names ++ name ∷ [])) h.same (fresh_by scope s names name m fresh)
 
 -- ---- declarators
 
-pub record Placed (types : List Shape) (labels : List (ℕ × ℤ)) (env : List (List ℕ)) (s : Names) (x : Declarator) (r : Names × List Count) : Type 0 where
+pub record Placed (types : List Shape) (labels : List (ℕ × ℤ)) (env : List (List ℕ)) (s : Names) (x : Declarator)
+    (r : Names × List Count) : Type 0 where
   pub declared : Declared s (innermost env) x.name.name M.Other r.0
   pub scope : ScopeIs types labels r.0
   pub lengths : list_all is_some_count r.1 ≡ true
 
-pub placed_is : (types : List Shape) (labels : List (ℕ × ℤ)) (env : List (List ℕ)) (d : ℕ) (s : Names) (x : Declarator) (r : Names × List Count) → ScopeIs types labels s → placed_on env d s x ≡ Ok r → Placed types labels env s x r
+pub placed_is : (types : List Shape) (labels : List (ℕ × ℤ)) (env : List (List ℕ)) (d : ℕ) (s : Names) (x : Declarator)
+    (r : Names × List Count) → ScopeIs types labels s → placed_on env d s x ≡ Ok r → Placed types labels env s x r
 placed_is types labels env d s x r is h =
     let a = then_ok (refused_by d (clash s (innermost env) x.name.name)) _ r h in
     let b = then_ok (lengths_on s env d [] x.dimensions) _ r a.rest in
@@ -72,8 +78,10 @@ pub record BodyIs (types : List Shape) (labels : List (ℕ × ℤ)) (env : List 
   pub plain : are_plain (length types) (members_of b.fields) ≡ true
   pub fresh : Fresh (innermost env) b.names (map (λ f. f.0) b.fields)
 
-pub fields_are : (types : List Shape) (labels : List (ℕ × ℤ)) (env : List (List ℕ)) (d : ℕ) (f : Form) (b out : Body) (xs : List Declarator) → FormIs types labels f → BodyIs types labels env b → fields_on env d f b xs ≡ Ok out
-    → BodyIs types labels env out × (is_some_list b.fields ≡ true → is_some_list out.fields ≡ true) × (is_some_list xs ≡ true → is_some_list out.fields ≡ true)
+pub fields_are : (types : List Shape) (labels : List (ℕ × ℤ)) (env : List (List ℕ)) (d : ℕ) (f : Form) (b out : Body)
+    (xs : List Declarator) → FormIs types labels f → BodyIs types labels env b → fields_on env d f b xs ≡ Ok out
+    → BodyIs types labels env out × (is_some_list b.fields ≡ true → is_some_list out.fields ≡ true)
+    × (is_some_list xs ≡ true → is_some_list out.fields ≡ true)
 fields_are types labels env d f b out [] form is h =
     let same = ok_same b out h in (
       subst (BodyIs types labels env) same is,
@@ -87,18 +95,25 @@ fields_are types labels env d f b out (x ∷ xs) form is h =
     let new : has name (map (λ f. f.0) b.fields) ≡ false = is.fresh name one.declared.new in
     let last : Field = (name, form_shape f a.given.1) in
     let next : Body = record { names = a.given.0; fields = b.fields ++ last ∷ [] } in
-    let names : map (λ (f : Field). f.0) (b.fields ++ last ∷ []) ≡ map (λ (f : Field). f.0) b.fields ++ name ∷ [] = append_map (λ (f : Field). f.0) b.fields last in
+    let names : map (λ (f : Field). f.0) (b.fields ++ last ∷ []) ≡ map (λ (f : Field).
+    f.0) b.fields ++ name ∷ [] = append_map (λ (f : Field). f.0) b.fields last in
     let whole : BodyIs types labels env next = record {
       scope = one.scope;
       plain = plain_push (length types) b.fields last is.plain (form_plain types labels f a.given.1 form one.lengths);
       are = fields_push types b.fields name (form_shape f a.given.1) is.are new (form_sound types labels f a.given.1 form one.lengths);
-      fresh = subst (λ z. Fresh (innermost env) a.given.0 z) (sym names) (fresh_push (innermost env) b.names a.given.0 (map (λ f. f.0) b.fields) name M.Other is.fresh one.declared);
+      fresh =
+          subst
+          (λ z.
+          Fresh (innermost env) a.given.0 z) (sym names)
+          (fresh_push (innermost env) b.names a.given.0 (map (λ f. f.0) b.fields) name M.Other is.fresh one.declared);
     } in
     let rest = fields_are types labels env d f next out xs form whole a.rest in
     (rest.0, λ _. rest.1 (some_push b.fields last), λ _. rest.1 (some_push b.fields last))
 
-pub members_are : (types : List Shape) (labels : List (ℕ × ℤ)) (env : List (List ℕ)) (d : ℕ) (b out : Body) (ms : List Member) → BodyIs types labels env b → members_on env d b ms ≡ Ok out
-    → BodyIs types labels env out × (is_some_list b.fields ≡ true → is_some_list out.fields ≡ true) × (has_field ms ≡ true → is_some_list out.fields ≡ true)
+pub members_are : (types : List Shape) (labels : List (ℕ × ℤ)) (env : List (List ℕ)) (d : ℕ) (b out : Body) (ms : List Member)
+    → BodyIs types labels env b → members_on env d b ms ≡ Ok out
+    → BodyIs types labels env out × (is_some_list b.fields ≡ true → is_some_list out.fields ≡ true)
+    × (has_field ms ≡ true → is_some_list out.fields ≡ true)
 members_are types labels env d b out [] is h =
     let same = ok_same b out h in (
       subst (BodyIs types labels env) same is,

@@ -92,7 +92,8 @@ pub record TypedIs (s : State) (t : Tag) (out : State) : Type 0 where
   pub used : UseIs (shapes_of out) out.labels (use_.Declared (length s.types) t)
   pub forms : (f : Form) → FormIs (shapes_of s) s.labels f → FormIs (shapes_of out) out.labels f
 
-typed_is : (d : ℕ) (env : List (List ℕ)) (name : List ℕ) (new : Shape) (t : Tag) (text : Option Count) (s out : State) → Takes s new t → with_type d env name new t text s ≡ Ok out → TypedIs s t out
+typed_is : (d : ℕ) (env : List (List ℕ)) (name : List ℕ) (new : Shape) (t : Tag) (text : Option Count) (s out : State) → Takes s new t
+    → with_type d env name new t text s ≡ Ok out → TypedIs s t out
 typed_is d env name new t text s out take h =
     let old : List Shape = shapes_of s in
     let m : Meaning = M.Type (use_.Declared (length s.types) t) text in
@@ -104,13 +105,19 @@ typed_is d env name new t text s out take h =
     let count : length (old ++ new ∷ []) ≡ length old + 1 = length-append old (new ∷ []) in
     let place : length s.types ≡ length old = sym (length-map s.types (λ t. t.1)) in
     let below : length s.types < length (old ++ new ∷ []) = omega (arith, count, place) in
-    let tagged : TagIs (old ++ new ∷ []) s.labels (length s.types) t = subst (λ z. TagIs (old ++ new ∷ []) s.labels z t) (sym place) take.tag in
-    let whole : ScopeIs (old ++ new ∷ []) s.labels a.given = declared_is (old ++ new ∷ []) s.labels s.names (innermost env) name m a.given take.scope (below, tagged) one in
+    let tagged : TagIs (old ++ new ∷ []) s.labels (length s.types) t =
+    subst (λ z. TagIs (old ++ new ∷ []) s.labels z t) (sym place) take.tag in
+    let whole : ScopeIs (old ++ new ∷ []) s.labels a.given = declared_is (old ++ new ∷ []) s.labels s.names (innermost env) name m a.given
+    take.scope (below, tagged) one in
     let here : StateIs made = record {
       types = subst (λ z. are_sound_types z 0 z ≡ true) (sym grown) (types_push old new take.types take.sound);
       scope = subst (λ z. ScopeIs z s.labels a.given) (sym grown) whole;
       labels = λ k n le. take.labels k n (let le' = subst (λ z. length z ≤ k) grown le in omega (arith, le', count));
-      exceptions = subst (λ z. RaisesAre (length z) s.exceptions) (sym grown) (raises_grow (length old) (length (old ++ new ∷ [])) s.exceptions (omega (arith, count)) take.exceptions);
+      exceptions =
+          subst
+          (λ z.
+          RaisesAre (length z) s.exceptions) (sym grown)
+          (raises_grow (length old) (length (old ++ new ∷ [])) s.exceptions (omega (arith, count)) take.exceptions);
     } in
     subst (TypedIs s t) (ok_same made out a.rest) (record {
       is = here;
@@ -119,7 +126,8 @@ typed_is d env name new t text s out take h =
     })
 
 -- the same where names and labels are as they were
-takes : (s : State) (new : Shape) (t : Tag) → StateIs s → is_sound_type (shapes_of s) (length (shapes_of s)) new ≡ true → TagIs (shapes_of s ++ new ∷ []) s.labels (length (shapes_of s)) t → Takes s new t
+takes : (s : State) (new : Shape) (t : Tag) → StateIs s → is_sound_type (shapes_of s) (length (shapes_of s)) new ≡ true
+    → TagIs (shapes_of s ++ new ∷ []) s.labels (length (shapes_of s)) t → Takes s new t
 takes s new t is sound tagged = record {
   types = is.types;
   sound = sound;
@@ -134,7 +142,8 @@ takes s new t is sound tagged = record {
 no_fields : (s : State) (env : List (List ℕ)) → StateIs s → BodyIs (shapes_of s) s.labels env (record { names = s.names; fields = [] })
 no_fields s env is = record { scope = is.scope; are = record { different = refl; sound = refl }; plain = refl; fresh = λ n h. refl }
 
-pub struct_is : (d : ℕ) (env : List (List ℕ)) (s out : State) (t : Struct) → StateIs s → has_field t.members ≡ true → struct_on d env s t ≡ Ok out → TypedIs s tag.Other out
+pub struct_is : (d : ℕ) (env : List (List ℕ)) (s out : State) (t : Struct) → StateIs s → has_field t.members ≡ true → struct_on d env s t
+    ≡ Ok out → TypedIs s tag.Other out
 struct_is d env s out t is some h =
     let name = t.name.name in
     let none : Body = record { names = s.names; fields = [] } in
@@ -143,7 +152,8 @@ struct_is d env s out t is some h =
     let are = members_are (shapes_of s) s.labels (inside name env) d none b.given t.members (no_fields s (inside name env) is) b.first in
     let mid : State = record s { names = b.given.names } in
     let new = structure (members_of b.given.fields) in
-    let take = takes mid new tag.Other (names_is s b.given.names is are.0.scope) (struct_sound (shapes_of s) b.given.fields are.0.are (are.2 some)) tt in
+    let take = takes mid new tag.Other (names_is s b.given.names is are.0.scope)
+    (struct_sound (shapes_of s) b.given.fields are.0.are (are.2 some)) tt in
     let one = typed_is d env name new tag.Other None mid out take b.rest in
     record { is = one.is; used = one.used; forms = one.forms }
 
@@ -155,11 +165,13 @@ exception_is d env s out e is h =
     let a = then_ok (refused_by d (clash s.names (innermost env) name)) _ out h in
     let b = then_ok (members_on (inside name env) d none e.members) _ out a.rest in
     let c = then_ok (declared_on d b.given.names (innermost env) name m) _ out b.rest in
-    let are = (members_are (shapes_of s) s.labels (inside name env) d none b.given e.members (no_fields s (inside name env) is) b.first).0 in
+    let are = (members_are (shapes_of s) s.labels (inside name env) d none b.given e.members (no_fields s (inside name env) is) b.first).0
+    in
     let one = declared_ok d b.given.names (innermost env) name m c.given c.first in
     let last = raised (innermost env ++ name) (members_of b.given.fields) in
     let made : State = record s { names = c.given; exceptions = s.exceptions ++ last ∷ [] } in
-    let sound : RaiseIs (length (shapes_of s)) last = record { different = ap are_distinct (names_are b.given.fields) ∙ are.are.different; plain = are.plain } in
+    let sound : RaiseIs (length (shapes_of s)) last =
+    record { different = ap are_distinct (names_are b.given.fields) ∙ are.are.different; plain = are.plain } in
     subst StateIs (ok_same made out c.rest) (record {
       types = is.types;
       scope = declared_is (shapes_of s) s.labels b.given.names (innermost env) name m c.given are.scope tt one;
@@ -169,7 +181,8 @@ exception_is d env s out e is h =
 
 -- ---- enums
 
-items_start : (s : State) (scope : List ℕ) (k : ℕ) → StateIs s → k ≡ length (shapes_of s) → ItemsAre (shapes_of s) s.labels scope k (length s.labels) (record { names = s.names; labels = s.labels; items = [] })
+items_start : (s : State) (scope : List ℕ) (k : ℕ) → StateIs s → k ≡ length (shapes_of s)
+    → ItemsAre (shapes_of s) s.labels scope k (length s.labels) (record { names = s.names; labels = s.labels; items = [] })
 items_start s scope k is place = record {
   standing = is.scope;
   labelling = record { own = λ n. is.labels k n (omega (arith, place)); others = λ j n ne. refl; count = omega arith; few = omega arith };
@@ -177,12 +190,14 @@ items_start s scope k is place = record {
   fresh = λ n h. refl;
 }
 
-enum_takes : (s : State) (scope : List ℕ) (k : ℕ) (r : Items) → StateIs s → k ≡ length (shapes_of s) → ItemsAre (shapes_of s) s.labels scope k (length s.labels) r → is_some_list r.items ≡ true
+enum_takes : (s : State) (scope : List ℕ) (k : ℕ) (r : Items) → StateIs s → k ≡ length (shapes_of s)
+    → ItemsAre (shapes_of s) s.labels scope k (length s.labels) r → is_some_list r.items ≡ true
     → Takes (record s { names = r.names; labels = r.labels }) (enumeration r.items) (tag.Enum k)
 enum_takes s scope k r is place are some =
     let new = enumeration r.items in
     let old = shapes_of s in
-    let fewer : FewerBelow (length old) s.labels r.labels = λ j n lt h. sym (are.labelling.others j n (λ e. omega (arith, lt, e, place))) ∙ h in
+    let fewer : FewerBelow (length old) s.labels r.labels =
+    λ j n lt h. sym (are.labelling.others j n (λ e. omega (arith, lt, e, place))) ∙ h in
     let count : length (old ++ new ∷ []) ≡ length old + 1 = length-append old (new ∷ []) in
     let tagged : EnumIs (old ++ new ∷ []) r.labels (length old) k = record {
       below = omega (arith, count, place);
@@ -199,7 +214,8 @@ enum_takes s scope k r is place are some =
       exceptions = is.exceptions;
     }
 
-pub enum_is : (d : ℕ) (env : List (List ℕ)) (s out : State) (e : Enum) → StateIs s → is_some_list e.items ≡ true → enum_on d env s e ≡ Ok out
+pub enum_is : (d : ℕ) (env : List (List ℕ)) (s out : State) (e : Enum) → StateIs s → is_some_list e.items ≡ true → enum_on d env s e
+    ≡ Ok out
     → StateIs out × UseIs (shapes_of out) out.labels (use_.Declared (length s.types) (tag.Enum (length s.types)))
 enum_is d env s out e is some h =
     let name = e.name.name in
@@ -211,7 +227,8 @@ enum_is d env s out e is some h =
     let b = then_ok (items_on d scope k (length s.labels) none e.items) _ out a.rest in
     let are = items_are (shapes_of s) s.labels d scope k (length s.labels) none b.given e.items (items_start s scope k is place) b.first in
     let mid : State = record s { names = b.given.names; labels = b.given.labels } in
-    let one = typed_is d env name (enumeration b.given.items) (tag.Enum k) None mid out (enum_takes s scope k b.given is place are.0 (are.2 some)) b.rest in
+    let one = typed_is d env name (enumeration b.given.items) (tag.Enum k) None mid out
+    (enum_takes s scope k b.given is place are.0 (are.2 some)) b.rest in
     (one.is, one.used)
 
 -- ---- unions
@@ -227,55 +244,76 @@ union_is d env s out u is h =
     let e = then_ok (cases_on s.labels (tag_of_use b.given) inner d none u.cases) _ out c.rest in
     let fit = refused_ok NotType d (is_no_tag (tag_of_use b.given)) c.given c.first in
     let used = tag_use_is (shapes_of s) s.labels s.names inner d u.tag b.given is.scope b.first in
-    let first : CasesAre (shapes_of s) s.labels (tag_of_use b.given) none = record { standing = is.scope; choices = record { numbers = record { different = refl; few = omega arith; all = refl }; arms = refl; sound = refl }; rest = refl } in
+    let first : CasesAre (shapes_of s) s.labels (tag_of_use b.given) none =
+    record {
+      standing = is.scope;
+      choices =
+          record { numbers = record { different = refl; few = omega arith; all = refl }; arms = refl; sound = refl };
+      rest = refl;
+    } in
     let are = cases_are (shapes_of s) s.labels (tag_of_use b.given) inner d none e.given u.cases first e.first in
     let mid : State = record s { names = e.given.names } in
     let new = union_shape b.given e.given in
-    let take = takes mid new tag.Other (names_is s e.given.names is are.standing) (union_sound (shapes_of s) s.labels b.given e.given used fit are) tt in
+    let take = takes mid new tag.Other (names_is s e.given.names is are.standing)
+    (union_sound (shapes_of s) s.labels b.given e.given used fit are) tt in
     let one = typed_is d env name new tag.Other None mid out take e.rest in
     record { is = one.is; used = one.used; forms = one.forms }
 
 -- ---- typedefs
 
-alias_is : (d : ℕ) (env : List (List ℕ)) (f : Form) (s out : State) (x : Declarator) → StateIs s → FormIs (shapes_of s) s.labels f → alias_on d env f s x ≡ Ok out → StateIs out × FormIs (shapes_of out) out.labels f
+alias_is : (d : ℕ) (env : List (List ℕ)) (f : Form) (s out : State) (x : Declarator) → StateIs s → FormIs (shapes_of s) s.labels f
+    → alias_on d env f s x ≡ Ok out → StateIs out × FormIs (shapes_of out) out.labels f
 alias_is d env f s out x is form h =
     let name = x.name.name in
     let a = then_ok (refused_by d (clash s.names (innermost env) name)) _ out h in
     let b = then_ok (lengths_on s.names env d [] x.dimensions) _ out a.rest in
     let are = lengths_are s.names env d [] x.dimensions b.given refl b.first in
-    let take = takes s (form_shape f b.given) (form_tag f b.given) is (form_sound (shapes_of s) s.labels f b.given form are) (form_tagged (shapes_of s) s.labels f b.given form) in
+    let take = takes s (form_shape f b.given) (form_tag f b.given) is (form_sound (shapes_of s) s.labels f b.given form are)
+    (form_tagged (shapes_of s) s.labels f b.given form) in
     let one = typed_is d env name (form_shape f b.given) (form_tag f b.given) (form_text f b.given) s out take b.rest in
     (one.is, one.forms f form)
 
-aliases_are : (d : ℕ) (env : List (List ℕ)) (f : Form) (s out : State) (xs : List Declarator) → StateIs s → FormIs (shapes_of s) s.labels f → aliases_on d env f s xs ≡ Ok out → StateIs out
+aliases_are : (d : ℕ) (env : List (List ℕ)) (f : Form) (s out : State) (xs : List Declarator) → StateIs s
+    → FormIs (shapes_of s) s.labels f → aliases_on d env f s xs ≡ Ok out → StateIs out
 aliases_are d env f s out [] is form h = subst StateIs (ok_same s out h) is
 aliases_are d env f s out (x ∷ xs) is form h =
     let a = then_ok (alias_on d env f s x) _ out h in
     let one = alias_is d env f s a.given x is form a.first in
     aliases_are d env f a.given out xs one.0 one.1 a.rest
 
-aliased_is : (d : ℕ) (env : List (List ℕ)) (s : State) (of : Aliased) (r : State × Form) → StateIs s → is_whole_aliased of ≡ true → aliased_on d env s of ≡ Ok r → StateIs r.0 × FormIs (shapes_of r.0) r.0.labels r.1
+aliased_is : (d : ℕ) (env : List (List ℕ)) (s : State) (of : Aliased) (r : State × Form) → StateIs s → is_whole_aliased of ≡ true
+    → aliased_on d env s of ≡ Ok r → StateIs r.0 × FormIs (shapes_of r.0) r.0.labels r.1
 aliased_is d env s (A.Type t) r is whole h =
     let a = then_ok (type_form s.names env d t.0 t.1) _ r h in
     let made : State × Form = (s, a.given) in
-    subst (λ (r : State × Form). StateIs r.0 × FormIs (shapes_of r.0) r.0.labels r.1) (ok_same made r a.rest) (is, form_is (shapes_of s) s.labels s.names env d t.0 t.1 a.given is.scope a.first)
+    subst
+    (λ (r : State × Form).
+    StateIs r.0 × FormIs (shapes_of r.0) r.0.labels r.1) (ok_same made r a.rest)
+    (is, form_is (shapes_of s) s.labels s.names env d t.0 t.1 a.given is.scope a.first)
 aliased_is d env s (A.Struct t) r is whole h =
     let a = then_ok (struct_on d env s t) _ r h in
     let one = struct_is d env s a.given t is whole a.first in
     let made : State × Form = (a.given, next_form s tag.Other) in
-    subst (λ (r : State × Form). StateIs r.0 × FormIs (shapes_of r.0) r.0.labels r.1) (ok_same made r a.rest) (one.is, record { core = one.used; rows = refl })
+    subst
+    (λ (r : State × Form).
+    StateIs r.0 × FormIs (shapes_of r.0) r.0.labels r.1) (ok_same made r a.rest) (one.is, record { core = one.used; rows = refl })
 aliased_is d env s (A.Union u) r is whole h =
     let a = then_ok (union_on d env s u) _ r h in
     let one = union_is d env s a.given u is a.first in
     let made : State × Form = (a.given, next_form s tag.Other) in
-    subst (λ (r : State × Form). StateIs r.0 × FormIs (shapes_of r.0) r.0.labels r.1) (ok_same made r a.rest) (one.is, record { core = one.used; rows = refl })
+    subst
+    (λ (r : State × Form).
+    StateIs r.0 × FormIs (shapes_of r.0) r.0.labels r.1) (ok_same made r a.rest) (one.is, record { core = one.used; rows = refl })
 aliased_is d env s (A.Enum e) r is whole h =
     let a = then_ok (enum_on d env s e) _ r h in
     let one = enum_is d env s a.given e is whole a.first in
     let made : State × Form = (a.given, next_form s (tag.Enum (length s.types))) in
-    subst (λ (r : State × Form). StateIs r.0 × FormIs (shapes_of r.0) r.0.labels r.1) (ok_same made r a.rest) (one.0, record { core = one.1; rows = refl })
+    subst
+    (λ (r : State × Form).
+    StateIs r.0 × FormIs (shapes_of r.0) r.0.labels r.1) (ok_same made r a.rest) (one.0, record { core = one.1; rows = refl })
 
-typedef_is : (d : ℕ) (env : List (List ℕ)) (s out : State) (t : Typedef) → StateIs s → is_whole_aliased t.of ≡ true → typedef_on d env s t ≡ Ok out → StateIs out
+typedef_is : (d : ℕ) (env : List (List ℕ)) (s out : State) (t : Typedef) → StateIs s → is_whole_aliased t.of ≡ true → typedef_on d env s t
+    ≡ Ok out → StateIs out
 typedef_is d env s out t is whole h =
     let a = then_ok (aliased_on d env s t.of) _ out h in
     let one = aliased_is d env s t.of a.given is whole a.first in
@@ -298,12 +336,14 @@ constant_is d env s out c is h =
     let i = then_ok (declared_on d s.names (innermost env) name (meaning_of_constant f.given)) _ out g.rest in
     let one = declared_ok d s.names (innermost env) name (meaning_of_constant f.given) i.given i.first in
     subst StateIs (ok_same (record s { names = i.given }) out i.rest)
-    (names_is s i.given is (declared_is (shapes_of s) s.labels s.names (innermost env) name (meaning_of_constant f.given) i.given is.scope (constant_means (shapes_of s) s.labels f.given) one))
+    (names_is s i.given is (declared_is (shapes_of s) s.labels s.names (innermost env) name (meaning_of_constant f.given) i.given is.scope
+    (constant_means (shapes_of s) s.labels f.given) one))
 
 -- ---- declarations
 
 -- a declaration keeps the types and exceptions sound
-pub declaration_is : (d : ℕ) (env : List (List ℕ)) (s out : State) (x : Declaration) → StateIs s → is_whole x ≡ true → declaration_on d env s x ≡ Ok out → StateIs out
+pub declaration_is : (d : ℕ) (env : List (List ℕ)) (s out : State) (x : Declaration) → StateIs s → is_whole x ≡ true
+    → declaration_on d env s x ≡ Ok out → StateIs out
 declaration_is d env s out (D.Typedef t) is whole h = typedef_is d env s out t is whole h
 declaration_is d env s out (D.Struct t) is whole h = (struct_is d env s out t is whole h).is
 declaration_is d env s out (D.Union u) is whole h = (union_is d env s out u is h).is

@@ -22,7 +22,8 @@ plain_sound types limit void h = absurd cc
 plain_sound types limit (number k) h = refl
 plain_sound types limit (enumeration items) h = absurd cc
 plain_sound types limit (text c) h = h
-plain_sound types limit (array s c) h = let parts = and_parts (is_some_count c) (is_plain limit s) h in and_from _ _ parts.0 (plain_sound types limit s parts.1)
+plain_sound types limit (array s c) h = let parts = and_parts (is_some_count c) (is_plain limit s) h in and_from _ _ parts.0
+    (plain_sound types limit s parts.1)
 plain_sound types limit (structure ms) h = absurd cc
 plain_sound types limit (choice s arms) h = absurd cc
 plain_sound types limit (optional s) h = absurd cc
@@ -31,14 +32,16 @@ plain_sound types limit (named k) h = h
 pub members_sound : (types : List Shape) (limit : ℕ) (ms : Members) → are_plain limit ms ≡ true → are_sound types limit ms ≡ true
 members_sound types limit no_more h = refl
 members_sound types limit (member n s ms) h =
-    let parts = and_parts (is_plain limit s) (are_plain limit ms) h in and_from _ _ (plain_sound types limit s parts.0) (members_sound types limit ms parts.1)
+    let parts = and_parts (is_plain limit s) (are_plain limit ms) h in and_from _ _ (plain_sound types limit s parts.0)
+    (members_sound types limit ms parts.1)
 
 pub plain_grow : (low high : ℕ) (s : Shape) → low ≤ high → is_plain low s ≡ true → is_plain high s ≡ true
 plain_grow low high void le h = absurd cc
 plain_grow low high (number k) le h = refl
 plain_grow low high (enumeration items) le h = absurd cc
 plain_grow low high (text c) le h = h
-plain_grow low high (array s c) le h = let parts = and_parts (is_some_count c) (is_plain low s) h in and_from _ _ parts.0 (plain_grow low high s le parts.1)
+plain_grow low high (array s c) le h = let parts = and_parts (is_some_count c) (is_plain low s) h in and_from _ _ parts.0
+    (plain_grow low high s le parts.1)
 plain_grow low high (structure ms) le h = absurd cc
 plain_grow low high (choice s arms) le h = absurd cc
 plain_grow low high (optional s) le h = absurd cc
@@ -47,11 +50,14 @@ plain_grow low high (named k) le h = let lt = ltb-true k low h in lt-ltb k high 
 pub members_grow : (low high : ℕ) (ms : Members) → low ≤ high → are_plain low ms ≡ true → are_plain high ms ≡ true
 members_grow low high no_more le h = refl
 members_grow low high (member n s ms) le h =
-    let parts = and_parts (is_plain low s) (are_plain low ms) h in and_from _ _ (plain_grow low high s le parts.0) (members_grow low high ms le parts.1)
+    let parts = and_parts (is_plain low s) (are_plain low ms) h in and_from _ _ (plain_grow low high s le parts.0)
+    (members_grow low high ms le parts.1)
 
-pub plain_push : (limit : ℕ) (fields : List (List ℕ × Shape)) (f : List ℕ × Shape) → are_plain limit (members_of fields) ≡ true → is_plain limit f.1 ≡ true → are_plain limit (members_of (fields ++ f ∷ [])) ≡ true
+pub plain_push : (limit : ℕ) (fields : List (List ℕ × Shape)) (f : List ℕ × Shape) → are_plain limit (members_of fields) ≡ true
+    → is_plain limit f.1 ≡ true → are_plain limit (members_of (fields ++ f ∷ [])) ≡ true
 plain_push limit [] f a b = and_from _ _ b refl
-plain_push limit (g ∷ fields) f a b = let parts = and_parts (is_plain limit g.1) (are_plain limit (members_of fields)) a in and_from _ _ parts.0 (plain_push limit fields f parts.1 b)
+plain_push limit (g ∷ fields) f a b = let parts = and_parts (is_plain limit g.1) (are_plain limit (members_of fields)) a in and_from _ _
+    parts.0 (plain_push limit fields f parts.1 b)
 
 -- ---- exceptions
 
@@ -66,15 +72,18 @@ RaisesAre limit (e ∷ es) = RaiseIs limit e × RaisesAre limit es
 
 pub raises_grow : (low high : ℕ) (es : List PlainRaise) → low ≤ high → RaisesAre low es → RaisesAre high es
 raises_grow low high [] le h = tt
-raises_grow low high (e ∷ es) le h = (record { different = h.0.different; plain = members_grow low high e.members le h.0.plain }, raises_grow low high es le h.1)
+raises_grow low high (e ∷ es) le h =
+    (record { different = h.0.different; plain = members_grow low high e.members le h.0.plain }, raises_grow low high es le h.1)
 
-pub raises_push : (limit : ℕ) (es : List PlainRaise) (e : PlainRaise) → RaisesAre limit es → RaiseIs limit e → RaisesAre limit (es ++ e ∷ [])
+pub raises_push : (limit : ℕ) (es : List PlainRaise) (e : PlainRaise) → RaisesAre limit es → RaiseIs limit e
+    → RaisesAre limit (es ++ e ∷ [])
 raises_push limit [] e h is = (is, tt)
 raises_push limit (x ∷ es) e h is = (h.0, raises_push limit es e h.1 is)
 
 pub raise_sound : (types : List Shape) (e : PlainRaise) → RaiseIs (length types) e → is_sound_plain_raise types e ≡ true
 raise_sound types e is = and_from _ _ is.different (members_sound types (length types) e.members is.plain)
 
-pub raises_sound : (types : List Shape) (es : List PlainRaise) → RaisesAre (length types) es → list_all (is_sound_plain_raise types) es ≡ true
+pub raises_sound : (types : List Shape) (es : List PlainRaise) → RaisesAre (length types) es → list_all (is_sound_plain_raise types) es
+    ≡ true
 raises_sound types [] h = refl
 raises_sound types (e ∷ es) h = and_from _ _ (raise_sound types e h.0) (raises_sound types es h.1)

@@ -41,29 +41,44 @@ exceptions_of (Ok s) = s.exceptions
 exceptions_of (Err e) = []
 
 -- enum hue { red, green };
-row1 : types_of (declaration_on 1 file start (D.Enum (record { name = called (codes "hue"); items = called (codes "red") ∷ called (codes "green") ∷ [] })))
+row1 : types_of
+    (declaration_on 1 file start
+    (D.Enum (record { name = called (codes "hue"); items = called (codes "red") ∷ called (codes "green") ∷ [] })))
     ≡ (codes "hue", enumeration ((codes "red", pos 0) ∷ (codes "green", pos 1) ∷ [])) ∷ []
 row1 = refl
 
 -- enum a { A, a };
-row2 : declaration_on 1 file start (D.Enum (record { name = called (codes "a"); items = called (codes "A") ∷ called (codes "a") ∷ [] })) ≡ fault fault_.Twice 1
+row2 : declaration_on 1 file start (D.Enum (record { name = called (codes "a"); items = called (codes "A") ∷ called (codes "a") ∷ [] }))
+    ≡ fault fault_.Twice 1
 row2 = refl
 
 -- enum a { A };
-row3 : declaration_on 1 file start (D.Enum (record { name = called (codes "a"); items = called (codes "A") ∷ [] })) ≡ fault fault_.CaseClash 1
+row3 : declaration_on 1 file start (D.Enum (record { name = called (codes "a"); items = called (codes "A") ∷ [] }))
+    ≡ fault fault_.CaseClash 1
 row3 = refl
 
 -- module M { exception Bad { long why; }; };
-row4 : exceptions_of (declaration_on 2 (inside (codes "M") file) start (D.Exception (record { name = called (codes "Bad"); members = record { of = long; declarators = plain (codes "why") ∷ [] } ∷ [] })))
+row4 : exceptions_of
+    (declaration_on 2 (inside (codes "M") file) start
+    (D.Exception (record { name = called (codes "Bad"); members = record { of = long; declarators = plain (codes "why") ∷ [] } ∷ [] })))
     ≡ record { name = codes "M.Bad"; id = codes "IDL:M/Bad:1.0"; members = member (codes "why") (number kind.I32) no_more } ∷ []
 row4 = refl
 
 -- const octet X = 256;
-row5 : declaration_on 1 file start (D.Constant (record { of = C.Octet; name = called (codes "X"); value = leaf (E.Number (pos 256)) })) ≡ fault fault_.Range 1
+row5 : declaration_on 1 file start (D.Constant (record { of = C.Octet; name = called (codes "X"); value = leaf (E.Number (pos 256)) }))
+    ≡ fault fault_.Range 1
 row5 = refl
 
 -- union u switch (boolean) { case TRUE: long a; };
-row6 : types_of (declaration_on 1 file start (D.Union (record { name = called (codes "u"); tag = T.Boolean; cases = record { labels = L.Case (leaf (E.Truth true)) ∷ []; of = long; declarator = plain (codes "a") } ∷ [] })))
+row6 : types_of
+    (declaration_on 1 file start
+    (D.Union
+    (record {
+      name = called (codes "u");
+      tag = T.Boolean;
+      cases =
+          record { labels = L.Case (leaf (E.Truth true)) ∷ []; of = long; declarator = plain (codes "a") } ∷ [];
+    })))
     ≡ (codes "u", choice (number kind.Bool) (arm (pos 1) (number kind.I32) (default void))) ∷ []
 row6 = refl
 

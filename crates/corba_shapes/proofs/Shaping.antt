@@ -38,8 +38,10 @@ use Rattle.corba_shapes.proofs.Lasting.{is_plain, plain_sound}
 
 -- ---- names
 
-meaning_use : (types : List Shape) (labels : List (ℕ × ℤ)) (d : ℕ) (m : Meaning) (t : Use × Option Count) → MeaningIs types labels m → type_of_meaning d m ≡ Ok t → UseIs types labels t.0
-meaning_use types labels d (M.Type u c) t m h = let made : Use × Option Count = (u, c) in subst (λ (t : Use × Option Count). UseIs types labels t.0) (ok_same made t h) m
+meaning_use : (types : List Shape) (labels : List (ℕ × ℤ)) (d : ℕ) (m : Meaning) (t : Use × Option Count) → MeaningIs types labels m
+    → type_of_meaning d m ≡ Ok t → UseIs types labels t.0
+meaning_use types labels d (M.Type u c) t m h = let made : Use × Option Count =
+    (u, c) in subst (λ (t : Use × Option Count). UseIs types labels t.0) (ok_same made t h) m
 meaning_use types labels d (M.Number n) t m h = absurd cc
 meaning_use types labels d M.Text t m h = absurd cc
 meaning_use types labels d (M.Exception k) t m h = absurd cc
@@ -47,11 +49,13 @@ meaning_use types labels d (M.Interface k) t m h = absurd cc
 meaning_use types labels d M.Module t m h = absurd cc
 meaning_use types labels d M.Other t m h = absurd cc
 
-entry_use : (types : List Shape) (labels : List (ℕ × ℤ)) (d : ℕ) (o : Option Entry) (t : Use × Option Count) → IfFound (MeaningIs types labels) o → type_of_entry d o ≡ Ok t → UseIs types labels t.0
+entry_use : (types : List Shape) (labels : List (ℕ × ℤ)) (d : ℕ) (o : Option Entry) (t : Use × Option Count)
+    → IfFound (MeaningIs types labels) o → type_of_entry d o ≡ Ok t → UseIs types labels t.0
 entry_use types labels d None t m h = absurd cc
 entry_use types labels d (Some e) t m h = meaning_use types labels d e.meaning t m h
 
-pub named_type_is : (types : List Shape) (labels : List (ℕ × ℤ)) (s : Names) (env : List (List ℕ)) (d : ℕ) (n : ScopedName) (t : Use × Option Count) → ScopeIs types labels s → named_type s env d n ≡ Ok t → UseIs types labels t.0
+pub named_type_is : (types : List Shape) (labels : List (ℕ × ℤ)) (s : Names) (env : List (List ℕ)) (d : ℕ) (n : ScopedName)
+    (t : Use × Option Count) → ScopeIs types labels s → named_type s env d n ≡ Ok t → UseIs types labels t.0
 named_type_is types labels s env d n t is h = entry_use types labels d (named s env n) t (named_is (MeaningIs types labels) s env n is) h
 
 -- ---- types
@@ -65,9 +69,11 @@ Bounds c = (is_some_count c ≡ true) × (is_open c ≡ true)
 
 bounded_is : (s : Names) (env : List (List ℕ)) (d : ℕ) (b : Option Tree) (c : Count) → bounded s env d b ≡ Ok c → Bounds c
 bounded_is s env d None c h = subst Bounds (ok_same Any c h) (refl, refl)
-bounded_is s env d (Some e) c h = let a = then_ok (length_of s env d e) _ c h in subst Bounds (ok_same (AtMost a.given) c a.rest) (refl, refl)
+bounded_is s env d (Some e) c h = let a = then_ok (length_of s env d e) _ c h in subst Bounds (ok_same (AtMost a.given) c a.rest)
+    (refl, refl)
 
-pub named_core_is : (types : List Shape) (labels : List (ℕ × ℤ)) (s : Names) (env : List (List ℕ)) (d : ℕ) (n : ScopedName) (c : Core) → ScopeIs types labels s → named_core s env d n ≡ Ok c → CoreIs types labels c
+pub named_core_is : (types : List Shape) (labels : List (ℕ × ℤ)) (s : Names) (env : List (List ℕ)) (d : ℕ) (n : ScopedName) (c : Core)
+    → ScopeIs types labels s → named_core s env d n ≡ Ok c → CoreIs types labels c
 named_core_is types labels s env d n c is h =
     let a = then_ok (named_type s env d n) _ c h in
     subst (CoreIs types labels) (ok_same (C.Used a.given.0 a.given.1) c a.rest) (named_type_is types labels s env d n a.given is a.first)
@@ -83,7 +89,8 @@ simple_is types labels d S.Wstring c h = absurd cc
 simple_is types labels d S.Any c h = absurd cc
 simple_is types labels d S.Object c h = absurd cc
 
-base_is : (types : List Shape) (labels : List (ℕ × ℤ)) (s : Names) (env : List (List ℕ)) (d : ℕ) (b : Base) (c : Core) → ScopeIs types labels s → base_core s env d b ≡ Ok c → CoreIs types labels c
+base_is : (types : List Shape) (labels : List (ℕ × ℤ)) (s : Names) (env : List (List ℕ)) (d : ℕ) (b : Base) (c : Core)
+    → ScopeIs types labels s → base_core s env d b ≡ Ok c → CoreIs types labels c
 base_is types labels s env d (B.Simple w) c is h = simple_is types labels d w c h
 base_is types labels s env d B.LongDouble c is h = absurd cc
 base_is types labels s env d (B.Int i) c is h = subst (CoreIs types labels) (ok_same (number_core (kind_of i)) c h) tt
@@ -96,27 +103,33 @@ pub record FormIs (types : List Shape) (labels : List (ℕ × ℤ)) (f : Form) :
   pub core : CoreIs types labels f.core
   pub rows : list_all is_some_count f.rows ≡ true
 
-counts_push : (cs : List Count) (c : Count) → list_all is_some_count cs ≡ true → is_some_count c ≡ true → list_all is_some_count (cs ++ c ∷ []) ≡ true
+counts_push : (cs : List Count) (c : Count) → list_all is_some_count cs ≡ true → is_some_count c ≡ true
+    → list_all is_some_count (cs ++ c ∷ []) ≡ true
 counts_push [] c a b = and_from _ _ b refl
 counts_push (x ∷ cs) c a b = let h = and_parts (is_some_count x) (list_all is_some_count cs) a in and_from _ _ h.0 (counts_push cs c h.1 b)
 
-pub form_is : (types : List Shape) (labels : List (ℕ × ℤ)) (s : Names) (env : List (List ℕ)) (d : ℕ) (bounds : List (Option Tree)) (b : Base) (f : Form) → ScopeIs types labels s → type_form s env d bounds b ≡ Ok f → FormIs types labels f
+pub form_is : (types : List Shape) (labels : List (ℕ × ℤ)) (s : Names) (env : List (List ℕ)) (d : ℕ) (bounds : List (Option Tree))
+    (b : Base) (f : Form) → ScopeIs types labels s → type_form s env d bounds b ≡ Ok f → FormIs types labels f
 form_is types labels s env d [] b f is h =
     let a = then_ok (base_core s env d b) _ f h in
-    subst (FormIs types labels) (ok_same (single a.given) f a.rest) (record { core = base_is types labels s env d b a.given is a.first; rows = refl })
+    subst (FormIs types labels) (ok_same (single a.given) f a.rest)
+    (record { core = base_is types labels s env d b a.given is a.first; rows = refl })
 form_is types labels s env d (x ∷ xs) b f is h =
     let a = then_ok (type_form s env d xs b) _ f h in
     let c = then_ok (bounded s env d x) _ f a.rest in
     let inner = form_is types labels s env d xs b a.given is a.first in
     let made : Form = record { core = a.given.core; rows = a.given.rows ++ c.given ∷ [] } in
-    subst (FormIs types labels) (ok_same made f c.rest) (record { core = inner.core; rows = counts_push a.given.rows c.given inner.rows (bounded_is s env d x c.given c.first).0 })
+    subst (FormIs types labels) (ok_same made f c.rest)
+    (record { core = inner.core; rows = counts_push a.given.rows c.given inner.rows (bounded_is s env d x c.given c.first).0 })
 
-pub lengths_are : (s : Names) (env : List (List ℕ)) (d : ℕ) (done : List Count) (xs : List Dimension) (ns : List Count) → list_all is_some_count done ≡ true → lengths_on s env d done xs ≡ Ok ns → list_all is_some_count ns ≡ true
+pub lengths_are : (s : Names) (env : List (List ℕ)) (d : ℕ) (done : List Count) (xs : List Dimension) (ns : List Count)
+    → list_all is_some_count done ≡ true → lengths_on s env d done xs ≡ Ok ns → list_all is_some_count ns ≡ true
 lengths_are s env d done [] ns are h = subst (λ z. list_all is_some_count z ≡ true) (ok_same done ns h) are
 lengths_are s env d done (x ∷ xs) ns are h =
     let a = then_ok (length_of s env d x.length) _ ns h in
     let b = then_ok (number s env d x.length) _ a.given a.first in
-    lengths_are s env d (done ++ Exactly a.given ∷ []) xs ns (counts_push done (Exactly a.given) are (natural_low 1 d a.given b.given b.rest)) a.rest
+    lengths_are s env d (done ++ Exactly a.given ∷ []) xs ns
+    (counts_push done (Exactly a.given) are (natural_low 1 d a.given b.given b.rest)) a.rest
 
 -- ---- sound
 
@@ -128,18 +141,25 @@ core_plain types labels (C.Used (Number k) c) is = refl
 core_plain types labels (C.Used (Declared k t) c) is = lt-ltb k (length types) is.0
 core_plain types labels (C.Text c) is = is
 
-rowed_plain : (types : List Shape) (s : Shape) (cs : List Count) → Plain types s → list_all is_some_count cs ≡ true → Plain types (rowed s cs)
+rowed_plain : (types : List Shape) (s : Shape) (cs : List Count) → Plain types s → list_all is_some_count cs ≡ true
+    → Plain types (rowed s cs)
 rowed_plain types s [] plain are = plain
-rowed_plain types s (c ∷ cs) plain are = let h = and_parts (is_some_count c) (list_all is_some_count cs) are in rowed_plain types (array s c) cs (and_from _ _ h.0 plain) h.1
+rowed_plain types s (c ∷ cs) plain are = let h = and_parts (is_some_count c) (list_all is_some_count cs) are in rowed_plain types
+    (array s c) cs (and_from _ _ h.0 plain) h.1
 
-arrayed_plain : (types : List Shape) (s : Shape) (cs : List Count) → Plain types s → list_all is_some_count cs ≡ true → Plain types (arrayed s cs)
+arrayed_plain : (types : List Shape) (s : Shape) (cs : List Count) → Plain types s → list_all is_some_count cs ≡ true
+    → Plain types (arrayed s cs)
 arrayed_plain types s [] plain are = plain
-arrayed_plain types s (c ∷ cs) plain are = let h = and_parts (is_some_count c) (list_all is_some_count cs) are in and_from _ _ h.0 (arrayed_plain types s cs plain h.1)
+arrayed_plain types s (c ∷ cs) plain are = let h = and_parts (is_some_count c) (list_all is_some_count cs) are in and_from _ _ h.0
+    (arrayed_plain types s cs plain h.1)
 
-pub form_plain : (types : List Shape) (labels : List (ℕ × ℤ)) (f : Form) (ns : List Count) → FormIs types labels f → list_all is_some_count ns ≡ true → is_plain (length types) (form_shape f ns) ≡ true
-form_plain types labels f ns is are = arrayed_plain types (rowed (core_shape f.core) f.rows) ns (rowed_plain types (core_shape f.core) f.rows (core_plain types labels f.core is.core) is.rows) are
+pub form_plain : (types : List Shape) (labels : List (ℕ × ℤ)) (f : Form) (ns : List Count) → FormIs types labels f
+    → list_all is_some_count ns ≡ true → is_plain (length types) (form_shape f ns) ≡ true
+form_plain types labels f ns is are = arrayed_plain types (rowed (core_shape f.core) f.rows) ns
+    (rowed_plain types (core_shape f.core) f.rows (core_plain types labels f.core is.core) is.rows) are
 
-pub form_sound : (types : List Shape) (labels : List (ℕ × ℤ)) (f : Form) (ns : List Count) → FormIs types labels f → list_all is_some_count ns ≡ true → is_sound_type types (length types) (form_shape f ns) ≡ true
+pub form_sound : (types : List Shape) (labels : List (ℕ × ℤ)) (f : Form) (ns : List Count) → FormIs types labels f
+    → list_all is_some_count ns ≡ true → is_sound_type types (length types) (form_shape f ns) ≡ true
 form_sound types labels f ns is are = plain_sound types (length types) (form_shape f ns) (form_plain types labels f ns is are)
 
 core_grow : (types more : List Shape) (labels : List (ℕ × ℤ)) (c : Core) → CoreIs types labels c → CoreIs (types ++ more) labels c
@@ -151,7 +171,8 @@ form_grow types more labels f is = record { core = core_grow types more labels f
 
 -- ---- tags
 
-core_tagged : (types : List Shape) (labels : List (ℕ × ℤ)) (c : Core) → CoreIs types labels c → TagIs (types ++ core_shape c ∷ []) labels (length types) (core_tag c)
+core_tagged : (types : List Shape) (labels : List (ℕ × ℤ)) (c : Core) → CoreIs types labels c
+    → TagIs (types ++ core_shape c ∷ []) labels (length types) (core_tag c)
 core_tagged types labels (C.Used u c) is = use_tagged types labels u is
 core_tagged types labels (C.Text c) is = tt
 
@@ -161,5 +182,6 @@ rows_tagged types labels c [] [] is = core_tagged types labels c is
 rows_tagged types labels c [] (n ∷ ns) is = tt
 rows_tagged types labels c (r ∷ rows) ns is = tt
 
-pub form_tagged : (types : List Shape) (labels : List (ℕ × ℤ)) (f : Form) (ns : List Count) → FormIs types labels f → TagIs (types ++ form_shape f ns ∷ []) labels (length types) (form_tag f ns)
+pub form_tagged : (types : List Shape) (labels : List (ℕ × ℤ)) (f : Form) (ns : List Count) → FormIs types labels f
+    → TagIs (types ++ form_shape f ns ∷ []) labels (length types) (form_tag f ns)
 form_tagged types labels f ns is = rows_tagged types labels f.core f.rows ns is.core

@@ -22,7 +22,8 @@ MeaningIs types labels _ = Unit {0}
 abbrev pub ScopeIs : List Shape → List (ℕ × ℤ) → Names → Type 0
 ScopeIs types labels s = AllMeanings (MeaningIs types labels) s.meanings
 
-meaning_grow : (types more : List Shape) (labels labels' : List (ℕ × ℤ)) → FewerBelow (length types) labels labels' → (m : Meaning) → MeaningIs types labels m → MeaningIs (types ++ more) labels' m
+meaning_grow : (types more : List Shape) (labels labels' : List (ℕ × ℤ)) → FewerBelow (length types) labels labels' → (m : Meaning)
+    → MeaningIs types labels m → MeaningIs (types ++ more) labels' m
 meaning_grow types more labels labels' fewer (M.Type u c) h = use_grow types more labels labels' u fewer h
 meaning_grow types more labels labels' fewer (M.Number n) h = tt
 meaning_grow types more labels labels' fewer M.Text h = tt
@@ -31,8 +32,10 @@ meaning_grow types more labels labels' fewer (M.Interface k) h = tt
 meaning_grow types more labels labels' fewer M.Module h = tt
 meaning_grow types more labels labels' fewer M.Other h = tt
 
-pub scope_grow : (types more : List Shape) (labels labels' : List (ℕ × ℤ)) (s : Names) → FewerBelow (length types) labels labels' → ScopeIs types labels s → ScopeIs (types ++ more) labels' s
-scope_grow types more labels labels' s fewer h = all_follow (MeaningIs types labels) (MeaningIs (types ++ more) labels') s.meanings (meaning_grow types more labels labels' fewer) h
+pub scope_grow : (types more : List Shape) (labels labels' : List (ℕ × ℤ)) (s : Names) → FewerBelow (length types) labels labels'
+    → ScopeIs types labels s → ScopeIs (types ++ more) labels' s
+scope_grow types more labels labels' s fewer h = all_follow (MeaningIs types labels) (MeaningIs (types ++ more) labels') s.meanings
+    (meaning_grow types more labels labels' fewer) h
 
 -- ---- a name that is declared
 
@@ -41,7 +44,8 @@ not_refused d true o x h = absurd cc
 not_refused d false o x h = refl
 
 -- a name that is not refused is not declared
-pub is_new : (d : ℕ) (s : Names) (scope name : List ℕ) (x : Unit {0}) → refused_by d (clash s scope name) ≡ Ok x → is_declared (scope ++ name) s.meanings ≡ false
+pub is_new : (d : ℕ) (s : Names) (scope name : List ℕ) (x : Unit {0}) → refused_by d (clash s scope name) ≡ Ok x
+    → is_declared (scope ++ name) s.meanings ≡ false
 is_new d s scope name x h = not_refused d (is_declared (scope ++ name) s.meanings) _ x h
 
 -- what a declaration makes of the names
@@ -49,13 +53,16 @@ pub record Declared (s : Names) (scope name : List ℕ) (m : Meaning) (out : Nam
   pub new : is_declared (scope ++ name) s.meanings ≡ false
   pub same : declared scope name m s ≡ out
 
-pub declared_ok : (d : ℕ) (s : Names) (scope name : List ℕ) (m : Meaning) (out : Names) → declared_on d s scope name m ≡ Ok out → Declared s scope name m out
+pub declared_ok : (d : ℕ) (s : Names) (scope name : List ℕ) (m : Meaning) (out : Names) → declared_on d s scope name m ≡ Ok out
+    → Declared s scope name m out
 declared_ok d s scope name m out h =
     let a = then_ok (refused_by d (clash s scope name)) _ out h in
     record { new = is_new d s scope name a.given a.first; same = ok_same (declared scope name m s) out a.rest }
 
-pub declared_is : (types : List Shape) (labels : List (ℕ × ℤ)) (s : Names) (scope name : List ℕ) (m : Meaning) (out : Names) → ScopeIs types labels s → MeaningIs types labels m → Declared s scope name m out → ScopeIs types labels out
-declared_is types labels s scope name m out is means h = subst (ScopeIs types labels) h.same (all_declared (MeaningIs types labels) scope name m s is means)
+pub declared_is : (types : List Shape) (labels : List (ℕ × ℤ)) (s : Names) (scope name : List ℕ) (m : Meaning) (out : Names)
+    → ScopeIs types labels s → MeaningIs types labels m → Declared s scope name m out → ScopeIs types labels out
+declared_is types labels s scope name m out is means h =
+    subst (ScopeIs types labels) h.same (all_declared (MeaningIs types labels) scope name m s is means)
 
 -- ---- what is not declared
 
@@ -63,16 +70,19 @@ pub record Apart (q other : List ℕ) (es : Meanings) : Type 0 where
   pub old : is_declared q es ≡ false
   pub last : bytes_eq q other ≡ false
 
-last_by : (q other : List ℕ) (m : Meaning) (b : Bool) → bytes_eq q other ≡ b → is_some (if b then Some m else None) ≡ false → Apart q other []
+last_by : (q other : List ℕ) (m : Meaning) (b : Bool) → bytes_eq q other ≡ b → is_some (if b then Some m else None) ≡ false
+    → Apart q other []
 last_by q other m true e h = absurd cc
 last_by q other m false e h = record { old = refl; last = e }
 
-apart_by : (b : Bool) (x : Meaning) (o p : Option Meaning) (T : Type 0) → is_some (if b then Some x else p) ≡ false → (is_some p ≡ false → (is_some o ≡ false) × T) → (is_some (if b then Some x else o) ≡ false) × T
+apart_by : (b : Bool) (x : Meaning) (o p : Option Meaning) (T : Type 0) → is_some (if b then Some x else p) ≡ false
+    → (is_some p ≡ false → (is_some o ≡ false) × T) → (is_some (if b then Some x else o) ≡ false) × T
 apart_by true x o p T h f = absurd cc
 apart_by false x o p T h f = f h
 
 -- what is not declared behind one more name was not before, and is another
-pub apart : (q other : List ℕ) (m : Meaning) (es : Meanings) → is_declared q (es ++ (other, m) ∷ []) ≡ false → (is_declared q es ≡ false) × (bytes_eq q other ≡ false)
+pub apart : (q other : List ℕ) (m : Meaning) (es : Meanings) → is_declared q (es ++ (other, m) ∷ []) ≡ false → (is_declared q es ≡ false)
+    × (bytes_eq q other ≡ false)
 apart q other m [] h = let a = last_by q other m (bytes_eq q other) refl h in (refl, a.last)
 apart q other m (e ∷ es) h = apart_by (bytes_eq q e.0) e.1 (look_up q es) (look_up q (es ++ (other, m) ∷ [])) _ h (apart q other m es)
 

@@ -30,7 +30,9 @@ abbrev end_text : Text
 end_text = mark (codes "}") & mark (codes ";")
 
 closed : (front rest : List Token) → end_text (kinds front) → is_open (front ++ rest) ≡ false
-closed front rest s = not_other (mark_is (codes "}")) (front ++ rest) (begins_so (leads_behind (λ (_ : Unit {0}). mark (codes ";")) (leads_mark (codes "}"))) tt front rest s)
+closed front rest s =
+    not_other (mark_is (codes "}")) (front ++ rest)
+    (begins_so (leads_behind (λ (_ : Unit {0}). mark (codes ";")) (leads_mark (codes "}"))) tt front rest s)
 
 -- ---- declarations
 
@@ -54,7 +56,11 @@ parts_text inner x = word (codes "module") & (identifier x.0 & (mark (codes "{")
 
 parts_forth : (inner : Definition → Text) (x : Identifier × List Definition) (ks : List TokenKind) → parts_text inner x ks
     → module_text inner (module_of x) ks
-parts_forth inner x ks s = subst (λ z. (word (codes "module") & identifier z.name & mark (codes "{") & each inner z.definitions & end_text) ks) (sym (out-roll-Module (record { name = x.0; definitions = x.1 }))) s
+parts_forth inner x ks s =
+    subst
+    (λ z.
+    (word (codes "module") & identifier z.name & mark (codes "{") & each inner z.definitions & end_text) ks)
+    (sym (out-roll-Module (record { name = x.0; definitions = x.1 }))) s
 
 parts_back : (inner : Definition → Text) (m : Module) (ks : List TokenKind) → module_text inner m ks
     → (x : Identifier × List Definition) × (module_of x ≡ m) × parts_text inner x ks
@@ -67,13 +73,28 @@ module _ (n : ℕ) (g : IsGrammar (definition_at n) (definition n) Any) (leads :
   module_is : IsGrammar (module_at (definition_at n)) (module_text inner) Any
   module_is = mapped_is module_of (module_text inner)
       (behind_is (word_reads (codes "module")) (both_is identifier_is (behind_is (mark_reads (codes "{")) (before_is
-      (weaker {May' = λ rest. is_open rest ≡ false} (many_is is_open g (record { ends = refl; begins = λ d front rest s. begins_else (mark_is (codes "}")) leads (apart_mark is_definition (codes "}") refl) d front rest s; goes_on = λ ts h. tt })) (λ rest may. (may, tt)))
+      (weaker {May' =
+      λ rest.
+      is_open rest ≡ false}
+      (many_is is_open g
+      (record {
+        ends = refl;
+        begins =
+            λ d front rest s.
+            begins_else (mark_is (codes "}")) leads (apart_mark is_definition (codes "}") refl) d front rest s;
+        goes_on =
+            λ ts h. tt;
+      })) (λ rest may. (may, tt)))
       (behind_is (mark_reads (codes "}")) (mark_reads (codes ";"))) closed))
       (λ b front rest t may. tt)))
       (parts_forth inner) (parts_back inner)
 
   leads_module : Leads (module_text inner) (word_is (codes "module"))
-  leads_module m ks s = leads_behind (λ (x : Module). identifier (out-Module x).name & mark (codes "{") & each inner (out-Module x).definitions & end_text) (leads_word (codes "module")) m ks s
+  leads_module m ks s =
+      leads_behind
+      (λ (x : Module).
+      identifier (out-Module x).name & mark (codes "{") & each inner (out-Module x).definitions & end_text) (leads_word (codes "module"))
+      m ks s
 
   abbrev other_text : Interface ⊎ Declaration → Text
   other_text = one_of (interface (suc n)) (declared_text (suc n))
@@ -95,7 +116,8 @@ module _ (n : ℕ) (g : IsGrammar (definition_at n) (definition n) Any) (leads :
   shape_back : (d : Definition) (ks : List TokenKind) → definition (suc n) d ks
       → (x : Module ⊎ Interface ⊎ Declaration) × (definition_of x ≡ d) × shape_text x ks
   shape_back d ks s = go (out-Definition d) (roll-out-Definition d) s where
-    go : (f : Definition-F Definition Module) → roll-Definition f ≡ d → one_text f ks → (x : Module ⊎ Interface ⊎ Declaration) × (definition_of x ≡ d) × shape_text x ks
+    go : (f : Definition-F Definition Module) → roll-Definition f ≡ d → one_text f ks → (x : Module ⊎ Interface ⊎ Declaration)
+        × (definition_of x ≡ d) × shape_text x ks
     go (Definition-F.Module m) is t = (inl m, sym (V.rolls-Module m) ∙ is, t)
     go (Definition-F.Interface i) is t = (inr (inl i), sym (V.rolls-Interface i) ∙ is, t)
     go (Definition-F.Declaration e) is t = (inr (inr e), sym (V.rolls-Declaration e) ∙ is, t)
@@ -105,9 +127,13 @@ module _ (n : ℕ) (g : IsGrammar (definition_at n) (definition n) Any) (leads :
       (either_is (begins_with (word_is (codes "module"))) module_is
       (either_is (begins_with (word_is (codes "interface"))) (interface_is (suc n)) (declared_is (suc n))
       (λ i front rest s may. begins_so (leads_interface (suc n)) i front rest s)
-      (λ d front rest s may. begins_not (word_is (codes "interface")) (leads_declared (suc n)) (apart_word is_declaration (codes "interface") refl) d front rest s))
+      (λ d front rest s may.
+      begins_not (word_is (codes "interface")) (leads_declared (suc n)) (apart_word is_declaration (codes "interface") refl) d front
+      rest s))
       (λ m front rest s may. begins_so leads_module m front rest s)
-      (λ x front rest s may. begins_not (word_is (codes "module")) leads_other (apart_word (λ k. word_is (codes "interface") k || is_declaration k) (codes "module") refl) x front rest s))
+      (λ x front rest s may.
+      begins_not (word_is (codes "module")) leads_other
+      (apart_word (λ k. word_is (codes "interface") k || is_declaration k) (codes "module") refl) x front rest s))
       shape_forth shape_back
 
   next_leads : Leads (definition (suc n)) is_definition

@@ -55,9 +55,13 @@ leads_long = leads_behind (maybe (λ (_ : Unit {0}). word (codes "long"))) (lead
 pub size_is : IsGrammar size_at size IntMay
 size_is = mapped_is size_of size
     (either_is {A = Unit {0}} (begins_with (word_is (codes "short"))) (weaker (word_reads (codes "short")) (λ rest may. tt))
-    (behind_is (word_reads (codes "long")) (option_is {S = λ (_ : Unit {0}). word (codes "long")} (begins_with (word_is (codes "long"))) (weaker (word_reads (codes "long")) (λ rest may. tt)) (λ a front rest s may. begins_so (leads_word (codes "long")) a front rest s) (λ rest may. may)))
+    (behind_is (word_reads (codes "long"))
+    (option_is {S =
+    λ (_ : Unit {0}). word (codes "long")} (begins_with (word_is (codes "long"))) (weaker (word_reads (codes "long")) (λ rest may.
+    tt)) (λ a front rest s may. begins_so (leads_word (codes "long")) a front rest s) (λ rest may. may)))
     (λ a front rest s may. begins_so (leads_word (codes "short")) a front rest s)
-    (λ a front rest s may. begins_not (word_is (codes "short")) leads_long (apart_word (word_is (codes "long")) (codes "short") refl) a front rest s))
+    (λ a front rest s may.
+    begins_not (word_is (codes "short")) leads_long (apart_word (word_is (codes "long")) (codes "short") refl) a front rest s))
     size_forth size_back
 
 abbrev is_size : TokenKind → Bool
@@ -194,26 +198,38 @@ no_double_int : (x : IntSize ⊎ IntSize) (front rest : List Token) → int_text
     → begins_with (word_is (codes "double")) rest ≡ false
     → is_long_double (front ++ rest) ≡ false
 no_double_int (inl i) front rest s may =
-    and_false _ _ (begins_not (word_is (codes "long")) (leads_behind size (leads_word (codes "unsigned"))) (apart_word (word_is (codes "unsigned")) (codes "long") refl) i front rest s)
+    and_false _ _ (begins_not (word_is (codes "long")) (leads_behind size (leads_word (codes "unsigned")))
+    (apart_word (word_is (codes "unsigned")) (codes "long") refl) i front rest s)
 no_double_int (inr i) front rest s may = no_double_size i front rest s may
 
 no_double : (x : Int ⊎ ScopedName) (front rest : List Token) → one_of int scoped x (kinds front) → Closes rest
     → is_long_double (front ++ rest) ≡ false
-no_double (inl i) front rest s may = let b = int_back i (kinds front) s in no_double_int b.0 front rest b.2 (no_word (codes "double") refl rest may)
-no_double (inr n) front rest s may = and_false _ _ (begins_not (word_is (codes "long")) leads_scoped (apart_word is_name (codes "long") refl) n front rest s)
+no_double (inl i) front rest s may = let b = int_back i (kinds front) s in no_double_int b.0 front rest b.2
+    (no_word (codes "double") refl rest may)
+no_double (inr n) front rest s may =
+    and_false _ _ (begins_not (word_is (codes "long")) leads_scoped (apart_word is_name (codes "long") refl) n front rest s)
 
 pub plain_is : IsGrammar plain_at plain_base Closes
 unfolding plain_at
 plain_is = mapped_is plain_of plain_base
-    (either_is (begins_with is_simple) (weaker (words_are simple_words simple_spell (refl, (refl, (refl, (refl, (refl, (refl, (refl, (refl, (refl, tt))))))))) simple_word) (λ rest may. tt))
+    (either_is (begins_with is_simple)
+    (weaker (words_are simple_words simple_spell (refl, (refl, (refl, (refl, (refl, (refl, (refl, (refl, (refl, tt)))))))))
+    simple_word) (λ rest may. tt))
     (either_is is_long_double (weaker (behind_is (word_reads (codes "long")) (word_reads (codes "double"))) (λ rest may. tt))
-    (either_is (begins_with is_int) (weaker int_is (λ rest may. no_word (codes "long") refl rest may)) (weaker scoped_is (λ rest may. no_mark (codes "::") refl rest may))
+    (either_is (begins_with is_int)
+    (weaker int_is (λ rest may. no_word (codes "long") refl rest may)) (weaker scoped_is (λ rest may.
+    no_mark (codes "::") refl rest may))
     (λ i front rest s may. begins_so leads_int i front rest s)
-    (λ n front rest s may. begins_not is_int leads_scoped (apart_or is_name (word_is (codes "unsigned")) is_size (apart_word is_name (codes "unsigned") refl) (apart_or is_name (word_is (codes "short")) (word_is (codes "long")) (apart_word is_name (codes "short") refl) (apart_word is_name (codes "long") refl))) n front rest s))
+    (λ n front rest s may.
+    begins_not is_int leads_scoped (apart_or is_name (word_is (codes "unsigned")) is_size (apart_word is_name (codes "unsigned") refl)
+    (apart_or is_name (word_is (codes "short")) (word_is (codes "long")) (apart_word is_name (codes "short") refl)
+    (apart_word is_name (codes "long") refl))) n front rest s))
     (λ u front rest s may. is_double u front rest s)
     (λ x front rest s may. no_double x front rest s may))
     (λ a front rest s may. begins_so leads_simple a front rest s)
-    (λ x front rest s may. begins_not is_simple leads_rest (apart_words is_rest simple_words (refl, (refl, (refl, (refl, (refl, (refl, (refl, (refl, (refl, tt)))))))))) x front rest s))
+    (λ x front rest s may.
+    begins_not is_simple leads_rest
+    (apart_words is_rest simple_words (refl, (refl, (refl, (refl, (refl, (refl, (refl, (refl, (refl, tt)))))))))) x front rest s))
     plain_forth plain_back
 
 pub leads_plain : Leads plain_base (λ k. is_simple k || is_rest k)
@@ -223,7 +239,8 @@ leads_plain = leads_by plain_of plain_back (leads_either leads_simple leads_rest
 
 close_forth : (k : TokenKind) (b : Bool) → close_in k ≡ Some b → close b (k ∷ [])
 close_forth k b e = go (mark_is (codes ">") k) (mark_is (codes ">>") k) refl refl e where
-  go : (x y : Bool) → mark_is (codes ">") k ≡ x → mark_is (codes ">>") k ≡ y → cond x (Some false) (cond y (Some true) None) ≡ Some b → close b (k ∷ [])
+  go : (x y : Bool) → mark_is (codes ">") k ≡ x → mark_is (codes ">>") k ≡ y → cond x (Some false) (cond y (Some true) None) ≡ Some b
+      → close b (k ∷ [])
   go true y h g q = let is : false ≡ b = cc in subst (λ z. close z (k ∷ [])) is (ap (λ z. z ∷ []) (mark_named (codes ">") k h))
   go false true h g q = let is : true ≡ b = cc in subst (λ z. close z (k ∷ [])) is (ap (λ z. z ∷ []) (mark_named (codes ">>") k g))
   go false false h g q = absurd cc
@@ -250,10 +267,22 @@ and_no false = refl
 pub before_close : (b : Bool) (front rest : List Token) → close b (kinds front) → Closes rest → May true 6 (front ++ rest)
 before_close false front rest s may =
     let t = one_kind front (K.Mark (codes ">")) s in
-    subst (λ z. May true 6 (z ++ rest)) (sym t.1) (record { name = rw t.2 refl; no_operator = λ d lt. rw t.2 refl; joint = λ yes. rw t.2 refl })
+    subst
+    (λ z. May true 6 (z ++ rest)) (sym t.1) (record {
+      name = rw t.2 refl;
+      no_operator = λ d lt. rw t.2 refl;
+      joint = λ yes.
+          rw t.2 refl;
+    })
 before_close true front rest s may =
     let t = one_kind front (K.Mark (codes ">>")) s in
-    subst (λ z. May true 6 (z ++ rest)) (sym t.1) (record { name = rw t.2 refl; no_operator = λ d lt. (let none = and_no (2 == d) in rw (t.2, may, none) refl); joint = λ yes. rw t.2 refl })
+    subst
+    (λ z. May true 6 (z ++ rest)) (sym t.1) (record {
+      name = rw t.2 refl;
+      no_operator = λ d lt.
+          (let none = and_no (2 == d) in rw (t.2, may, none) refl);
+      joint = λ yes. rw t.2 refl;
+    })
 
 -- ---- strings
 
@@ -290,7 +319,8 @@ module _ (n : ℕ) where
   pub string_is : IsGrammar (string_at n) (string_text n) Closes
   unfolding string_at
   string_is = mapped_is string_of (string_text n)
-      (option_is (begins_with (mark_is (codes "<"))) (behind_is (mark_reads (codes "<")) (both_is (expression_is n true) close_is before_close))
+      (option_is (begins_with (mark_is (codes "<")))
+      (behind_is (mark_reads (codes "<")) (both_is (expression_is n true) close_is before_close))
       (λ x front rest s may. begins_so leads_sized x front rest s) (λ rest may. no_mark (codes "<") refl rest may))
       string_forth string_back
 
@@ -357,7 +387,11 @@ module _ (n : ℕ) where
   pub bound_is : IsGrammar (bound_at n) (λ x. bound n x.0 x.1) Closes
   unfolding bound_at
   bound_is = both_is {May = BoundMay}
-      (option_is {May = BoundMay} (begins_with (mark_is (codes ","))) (behind_is (mark_reads (codes ",")) (weaker (expression_is n true) (λ rest may. may.1)))
+      (option_is {May = BoundMay} (begins_with (mark_is (codes ",")))
+      (behind_is (mark_reads (codes ",")) (weaker (expression_is n true) (λ rest may. may.1)))
       (λ x front rest s may. begins_so leads_comma x front rest s) (λ rest may. may.0))
       close_is
-      (λ b front rest s may. (begins_not (mark_is (codes ",")) leads_close (apart_mark is_close (codes ",") refl) b front rest s, before_close b front rest s may))
+      (λ b front rest s may. (
+        begins_not (mark_is (codes ",")) leads_close (apart_mark is_close (codes ",") refl) b front rest s,
+        before_close b front rest s may,
+      ))

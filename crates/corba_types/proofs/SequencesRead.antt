@@ -46,21 +46,34 @@ module _ (n : ℕ) (g : IsGrammar (shared_at n) (typed n) Closes) where
       → (front : List Token) × (us ≡ front ++ rest) × held_text n x (kinds (f ++ front))
   ended_found t f us x rest true h w e =
       let is = read_is (sequence_of t (None, false)) x us rest e in
-      let whole : kinds (f ++ []) ≡ kinds f = kinds-append f [] ∙ no_more (kinds f) in
-      ([], is.1, subst (λ (z : Typed). held_text n z (kinds (f ++ []))) is.0 (inl (refl, refl, subst (type n t.0.0 t.0.1 true) (sym whole) (subst (λ z. type n t.0.0 t.0.1 z (kinds f)) h w))))
+      let whole : kinds (f ++ []) ≡ kinds f = kinds-append f [] ∙ no_more (kinds f) in (
+        [],
+        is.1,
+        subst
+            (λ (z : Typed).
+            held_text n z (kinds (f ++ []))) is.0
+            (inl (refl, refl, subst (type n t.0.0 t.0.1 true) (sym whole) (subst (λ z. type n t.0.0 t.0.1 z (kinds f)) h w))),
+      )
     where
       no_more : (ks : List TokenKind) → ks ++ [] ≡ ks
       no_more [] = refl
       no_more (k ∷ ks) = ap (λ z. k ∷ z) (no_more ks)
   ended_found t f us x rest false h w e =
       let m = map_some (sequence_of t) (bound_at (suc n) us) x rest e in
-      let b = (bound_is (suc n)).found us m.0 rest m.1 in
-      (b.0, b.1, subst (λ (z : Typed). held_text n z (kinds (f ++ b.0))) m.2 (inr (kinds f, kinds b.0, kinds-append f b.0, subst (λ z. type n t.0.0 t.0.1 z (kinds f)) h w, b.2)))
+      let b = (bound_is (suc n)).found us m.0 rest m.1 in (
+        b.0,
+        b.1,
+        subst
+            (λ (z : Typed).
+            held_text n z (kinds (f ++ b.0))) m.2
+            (inr (kinds f, kinds b.0, kinds-append f b.0, subst (λ z. type n t.0.0 t.0.1 z (kinds f)) h w, b.2)),
+      )
 
   shared_end : (bounds : List (Option Tree)) (base : Base) (x : Option Tree) (shared : Bool) (front rest : List Token)
       → x ≡ None → shared ≡ false → type n bounds base true (kinds front) → Closes rest
       → held_at (front ++ rest) ≡ Some (((x ∷ bounds, base), shared), rest)
-  shared_end bounds base x shared front rest x_is shared_is w may = let one = g.again ((bounds, base), true) front rest w may in rw (one, x_is, shared_is) refl
+  shared_end bounds base x shared front rest x_is shared_is w may = let one =
+      g.again ((bounds, base), true) front rest w may in rw (one, x_is, shared_is) refl
 
   own_end : (bounds : List (Option Tree)) (base : Base) (x : Option Tree) (shared : Bool) (front rest : List Token)
       → (type n bounds base false & bound (suc n) x shared) (kinds front) → Closes rest
@@ -68,7 +81,8 @@ module _ (n : ℕ) (g : IsGrammar (shared_at n) (typed n) Closes) where
   own_end bounds base x shared front rest s may =
       let p = parted front s.0 s.1 s.2 in
       let second : bound (suc n) x shared (kinds p.1) = subst (bound (suc n) x shared) (sym p.4) s.4 in
-      let one = g.again ((bounds, base), false) p.0 (p.1 ++ rest) (subst (type n bounds base false) (sym p.3) s.3) (bound_closes (suc n) (x, shared) p.1 rest second) in
+      let one = g.again ((bounds, base), false) p.0 (p.1 ++ rest) (subst (type n bounds base false) (sym p.3) s.3)
+      (bound_closes (suc n) (x, shared) p.1 rest second) in
       let two = (bound_is (suc n)).again (x, shared) p.1 rest second may in
       let done : held_at (p.0 ++ (p.1 ++ rest)) ≡ Some (((x ∷ bounds, base), shared), rest) = rw (one, two) refl in
       ap (λ z. held_at (z ++ rest)) p.2 ∙ ap held_at (append_assoc p.0 p.1 rest) ∙ done
@@ -110,13 +124,19 @@ module _ (n : ℕ) (g : IsGrammar (shared_at n) (typed n) Closes) where
         ];
     again = λ x front rest s may. reads x front rest s may;
   } where
-    reads : (x : Typed) (front rest : List Token) → typed (suc n) x (kinds front) → Closes rest → shared_at (suc n) (front ++ rest) ≡ Some (x, rest)
+    reads : (x : Typed) (front rest : List Token) → typed (suc n) x (kinds front) → Closes rest → shared_at (suc n) (front ++ rest)
+        ≡ Some (x, rest)
     reads (([], b), shared) front rest s may =
-        let no = begins_not (word_is (codes "sequence")) (leads_base (suc n)) (apart_word (λ k. word_is (codes "string") k || is_plain (suc n) k) (codes "sequence") refl) (([], b), shared) front rest (refl, s) in
+        let no = begins_not (word_is (codes "sequence")) (leads_base (suc n))
+        (apart_word
+        (λ k. word_is (codes "string") k || is_plain (suc n) k) (codes "sequence") refl) (([], b), shared) front rest (refl, s) in
         let one = (base_is (suc n)).again (([], b), shared) front rest (refl, s) may in
         rw (no, one) refl
     reads ((x ∷ xs, b), shared) front rest s may =
-        let so = begins_so (leads_behind (λ (z : Typed). mark (codes "<") & held_text n z) (leads_word (codes "sequence"))) ((x ∷ xs, b), shared) front rest s in
+        let so =
+        begins_so
+        (leads_behind
+        (λ (z : Typed). mark (codes "<") & held_text n z) (leads_word (codes "sequence"))) ((x ∷ xs, b), shared) front rest s in
         let one = sequence_is.again ((x ∷ xs, b), shared) front rest s may in
         rw so one
 

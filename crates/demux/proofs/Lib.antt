@@ -1,0 +1,1 @@
+-- The proofs, each after those that it uses; * marks those that the proofs of functions use.

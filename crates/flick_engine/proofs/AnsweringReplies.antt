@@ -19,14 +19,17 @@ use Rattle.flick_engine.proofs.RepliesOfBacks.{one_reply}
 
 module _ (b : Binding) (op : ℕ) (o : List ℕ) (t : Heard) where
   -- octets follow a refusal that nothing may follow
-  pub is_followed_refusal : (why : Refusal) → Says b op o t (Refused why) → is_followed why t.used o ≡ true → IsExactlyReply b op o (Err (err.Trailing t.used))
+  pub is_followed_refusal : (why : Refusal) → Says b op o t (Refused why) → is_followed why t.used o ≡ true
+      → IsExactlyReply b op o (Err (err.Trailing t.used))
   is_followed_refusal why says more = exactly_reply b op o _ (inr (t, why, says, (refl, more)))
 
   -- none do
-  pub is_refusal : (why : Refusal) → Says b op o t (Refused why) → is_followed why t.used o ≡ false → IsExactlyReply b op o (Ok (record { head = t.head; came = refused why }))
+  pub is_refusal : (why : Refusal) → Says b op o t (Refused why) → is_followed why t.used o ≡ false
+      → IsExactlyReply b op o (Ok (record { head = t.head; came = refused why }))
   is_refusal why says none = exactly_reply b op o _ (t, why, says, (refl, refl, none))
 
-  module _ (k : ℕ) (says : Says b op o t (Arm k)) (w : Val) (used : ℕ) (spells : FirstSpell t.encoding (arm_type b op k) t.used (drop t.used o) w used) where
+  module _ (k : ℕ) (says : Says b op o t (Arm k)) (w : Val) (used : ℕ)
+      (spells : FirstSpell t.encoding (arm_type b op k) t.used (drop t.used o) w used) where
     -- a body lies within the message
     pub answer_within : t.used + used ≤ length o
     answer_within =
@@ -44,8 +47,11 @@ module _ (b : Binding) (op : ℕ) (o : List ℕ) (t : Heard) where
         exactly_reply b op o _ (t, k, says, (refl, (w, refl, rw all at spells.spelled)))
 
     -- the value is one of the reply
-    pub is_reply_value : IsChoice (reply_type b op) → HasArm b op k → IsSound (arm_type b op k) → k < 4294967296 → IsWellTyped (reply_type b op) (arm (pos k) w)
+    pub is_reply_value : IsChoice (reply_type b op) → HasArm b op k → IsSound (arm_type b op k) → k < 4294967296
+        → IsWellTyped (reply_type b op) (arm (pos k) w)
     is_reply_value choice there sound fits =
-        let short : length (take used (drop t.used o)) ≤ 4194304 = omega (arith, length-take used (drop t.used o), length-drop t.used o, says.0) in
+        let short : length (take used (drop t.used o)) ≤ 4194304 =
+        omega (arith, length-take used (drop t.used o), length-drop t.used o, says.0) in
         let light = are_light t.encoding (arm_type b op k) sound t.used (take used (drop t.used o)) w short spells.spelled.octets in
-        arm_reply (reply_type b op) k (arm_type b op k) w choice fits (some_type (arm_type_in (reply_type b op) k) there) spells.spelled.typed.is_of light
+        arm_reply (reply_type b op) k (arm_type b op k) w choice fits (some_type (arm_type_in (reply_type b op) k) there)
+        spells.spelled.typed.is_of light

@@ -22,31 +22,37 @@ use Rattle.flick_engine.specs.Replies.{IsChoice, arm_type_in}
 
 -- the type of the arm that is found among the arms of a node
 module _ (us : List Ty) (n : ℤ) where
-  found_at : (b : Bool) (j i : ℕ) (rest : Option ℕ) (x : Option Ty) → cond b (Some j) rest ≡ Some i → (rest ≡ Some i → x ≡ Some (types.at us i)) → cond b (Some (types.at us j)) x ≡ Some (types.at us i)
+  found_at : (b : Bool) (j i : ℕ) (rest : Option ℕ) (x : Option Ty) → cond b (Some j) rest ≡ Some i
+      → (rest ≡ Some i → x ≡ Some (types.at us i)) → cond b (Some (types.at us j)) x ≡ Some (types.at us i)
   found_at true j i rest x is more =
       let same : j ≡ i = cc in
       ap (λ (k : ℕ). Some (types.at us k)) same
   found_at false j i rest x is more = more is
 
-  pub found_type : (arms : List (ℤ × ℕ)) (o : Option ℕ) (i : ℕ) → arm_found arms o n ≡ Some i → type_of_arm (arms_at us arms o) n ≡ Some (types.at us i)
+  pub found_type : (arms : List (ℤ × ℕ)) (o : Option ℕ) (i : ℕ) → arm_found arms o n ≡ Some i → type_of_arm (arms_at us arms o) n
+      ≡ Some (types.at us i)
   found_type [] None i is = absurd cc
   found_type [] (Some j) i is =
       let same : j ≡ i = cc in
       ap (λ (k : ℕ). Some (types.at us k)) same
-  found_type (a ∷ arms) o i is = found_at (int_eq n a.0) a.1 i (arm_found arms o n) (type_of_arm (arms_at us arms o) n) is (λ f. found_type arms o i f)
+  found_type (a ∷ arms) o i is = found_at (int_eq n a.0) a.1 i (arm_found arms o n) (type_of_arm (arms_at us arms o) n) is
+      (λ f. found_type arms o i f)
 
-  none_at : (b : Bool) (j : ℕ) (rest : Option ℕ) (x : Option Ty) → cond b (Some j) rest ≡ None → (rest ≡ None → x ≡ None) → cond b (Some (types.at us j)) x ≡ None
+  none_at : (b : Bool) (j : ℕ) (rest : Option ℕ) (x : Option Ty) → cond b (Some j) rest ≡ None → (rest ≡ None → x ≡ None)
+      → cond b (Some (types.at us j)) x ≡ None
   none_at true j rest x is more = absurd cc
   none_at false j rest x is more = more is
 
   pub none_type : (arms : List (ℤ × ℕ)) (o : Option ℕ) → arm_found arms o n ≡ None → type_of_arm (arms_at us arms o) n ≡ None
   none_type [] None is = refl
   none_type [] (Some j) is = absurd cc
-  none_type (a ∷ arms) o is = none_at (int_eq n a.0) a.1 (arm_found arms o n) (type_of_arm (arms_at us arms o) n) is (λ f. none_type arms o f)
+  none_type (a ∷ arms) o is = none_at (int_eq n a.0) a.1 (arm_found arms o n) (type_of_arm (arms_at us arms o) n) is
+      (λ f. none_type arms o f)
 
 -- a value of an arm is one of its type, and the other way round
 module _ (n : ℤ) (v : Val) where
-  typed_at : (b : Bool) (t : Ty) (x : Option Ty) (R : Type 0) → MatchBool b (IsOf t v) R → (R → (u : Ty) × (x ≡ Some u) × IsOf u v) → (u : Ty) × (cond b (Some t) x ≡ Some u) × IsOf u v
+  typed_at : (b : Bool) (t : Ty) (x : Option Ty) (R : Type 0) → MatchBool b (IsOf t v) R → (R → (u : Ty) × (x ≡ Some u) × IsOf u v)
+      → (u : Ty) × (cond b (Some t) x ≡ Some u) × IsOf u v
   typed_at true t x R h more = (t, refl, h)
   typed_at false t x R h more = more h
 
@@ -55,7 +61,8 @@ module _ (n : ℤ) (v : Val) where
   arm_is (others t) h = (t, refl, h)
   arm_is (arm_type m t arms) h = typed_at (int_eq n m) t (type_of_arm arms n) (IsOfArm arms n v) h (λ f. arm_is arms f)
 
-  of_at : (b : Bool) (t u : Ty) (x : Option Ty) (R : Type 0) → cond b (Some t) x ≡ Some u → IsOf u v → (x ≡ Some u → R) → MatchBool b (IsOf t v) R
+  of_at : (b : Bool) (t u : Ty) (x : Option Ty) (R : Type 0) → cond b (Some t) x ≡ Some u → IsOf u v → (x ≡ Some u → R)
+      → MatchBool b (IsOf t v) R
   of_at true t u x R is h more =
       let same : u ≡ t = cc in
       subst (λ (s : Ty). IsOf s v) same h
@@ -94,7 +101,8 @@ pub record IsArmOf (t : Ty) (v : Val) : Type 0 where
   pub there : arm_type_in t number ≡ Some type
   pub typed : IsWellTyped type value
 
-arm_of_choice : (arms : Arms) (v : Val) → IsWellTyped (choice_type (number kind.U32) arms) v → IsArmOf (choice_type (number kind.U32) arms) v
+arm_of_choice : (arms : Arms) (v : Val) → IsWellTyped (choice_type (number kind.U32) arms) v
+    → IsArmOf (choice_type (number kind.U32) arms) v
 arm_of_choice arms (arm (pos k) w) typed =
     let (u, there, of) = arm_is (pos k) w arms typed.is_of.1 in
     record {
@@ -110,16 +118,23 @@ arm_of_choice arms (arm (negsuc k) w) typed = absurd (omega (arith, ltb-true k 0
 arm_of_choice arms _ typed = absurd typed.is_of
 
 pub reply_arm : (t : Ty) (v : Val) → IsChoice t → IsWellTyped t v → IsArmOf t v
-reply_arm t v (arms, is) typed = subst (λ (s : Ty). IsArmOf s v) (sym is) (arm_of_choice arms v (subst (λ (s : Ty). IsWellTyped s v) is typed))
+reply_arm t v (arms, is) typed =
+    subst (λ (s : Ty). IsArmOf s v) (sym is) (arm_of_choice arms v (subst (λ (s : Ty). IsWellTyped s v) is typed))
 
-choice_of_arm : (arms : Arms) (k : ℕ) (u : Ty) (w : Val) → k < 4294967296 → type_of_arm arms (pos k) ≡ Some u → IsOf u w → weight w ≤ 138412032
+choice_of_arm : (arms : Arms) (k : ℕ) (u : Ty) (w : Val) → k < 4294967296 → type_of_arm arms (pos k) ≡ Some u → IsOf u w
+    → weight w ≤ 138412032
     → IsWellTyped (choice_type (number kind.U32) arms) (arm (pos k) w)
-choice_of_arm arms k u w fits there of light = record { is_of = (lt-ltb k 4294967296 fits, is_arm (pos k) w arms u there of); light = omega (arith, light) }
+choice_of_arm arms k u w fits there of light =
+    record { is_of = (lt-ltb k 4294967296 fits, is_arm (pos k) w arms u there of); light = omega (arith, light) }
 
 -- a light value of an arm of the reply is a value of the reply
-pub arm_reply : (t : Ty) (k : ℕ) (u : Ty) (w : Val) → IsChoice t → k < 4294967296 → arm_type_in t k ≡ Some u → IsOf u w → weight w ≤ 138412032 → IsWellTyped t (arm (pos k) w)
+pub arm_reply : (t : Ty) (k : ℕ) (u : Ty) (w : Val) → IsChoice t → k < 4294967296 → arm_type_in t k ≡ Some u → IsOf u w
+    → weight w ≤ 138412032 → IsWellTyped t (arm (pos k) w)
 arm_reply t k u w (arms, is) fits there of light =
-    subst (λ (s : Ty). IsWellTyped s (arm (pos k) w)) (sym is) (choice_of_arm arms k u w fits (ap (λ (s : Ty). arm_type_in s k) (sym is) ∙ there) of light)
+    subst
+    (λ (s : Ty).
+    IsWellTyped s (arm (pos k) w)) (sym is)
+    (choice_of_arm arms k u w fits (ap (λ (s : Ty). arm_type_in s k) (sym is) ∙ there) of light)
 
 -- ---- the arms that there are
 
@@ -128,17 +143,21 @@ not_same n k same is =
     let one : int_eq (pos n) (pos k) ≡ true = (Decides-int_eq (pos n) (pos k)).1 (ap (λ (m : ℕ). pos m) same) in
     cc
 
-arm_step : (b : Bool) (n k : ℕ) (t : Ty) (x : Option Ty) → int_eq (pos n) (pos k) ≡ b → (n ≢ k → IsTrue (is_some x)) → IsTrue (is_some (cond b (Some t) x))
+arm_step : (b : Bool) (n k : ℕ) (t : Ty) (x : Option Ty) → int_eq (pos n) (pos k) ≡ b → (n ≢ k → IsTrue (is_some x))
+    → IsTrue (is_some (cond b (Some t) x))
 arm_step true n k t x is more = refl
 arm_step false n k t x is more = more (λ same. not_same n k same is)
 
 -- the k-th exception has an arm, where there are so many
-raised_there : (fs : List Face) (rs : List PlainRaise) (k n : ℕ) → k ≤ n → n < k + length rs → IsTrue (is_some (type_of_arm (arm_types_of (raised fs k rs)) (pos n)))
+raised_there : (fs : List Face) (rs : List PlainRaise) (k n : ℕ) → k ≤ n → n < k + length rs
+    → IsTrue (is_some (type_of_arm (arm_types_of (raised fs k rs)) (pos n)))
 raised_there fs [] k n least most = absurd (omega (arith, least, most))
 raised_there fs (r ∷ rs) k n least most =
-    arm_step (int_eq (pos n) (pos k)) n k _ _ refl (λ other. raised_there fs rs (suc k) n (omega (arith, least, other)) (omega (arith, most)))
+    arm_step (int_eq (pos n) (pos k)) n k _ _ refl
+    (λ other. raised_there fs rs (suc k) n (omega (arith, least, other)) (omega (arith, most)))
 
-pub arm_there : (fs : List Face) (p : PlainOperation) (k : ℕ) → k ≤ length p.raises → IsTrue (is_some (arm_type_in (type_of (reply_of fs p)) k))
+pub arm_there : (fs : List Face) (p : PlainOperation) (k : ℕ) → k ≤ length p.raises
+    → IsTrue (is_some (arm_type_in (type_of (reply_of fs p)) k))
 arm_there fs p k most =
     arm_step (int_eq (pos k) (pos 0)) k 0 _ _ refl (λ other. raised_there fs p.raises 1 k (omega (arith, other)) (omega (arith, most)))
 
@@ -177,7 +196,11 @@ is_put : (t : Ty) (v : Val) (a : IsArmOf t v) (k : ℕ) (w : Val) → a.number �
 is_put t v a k w same is =
     let there : arm_type_in t k ≡ Some a.type = ap (arm_type_in t) (sym same) ∙ a.there in
     let some = type_some (arm_type_in t k) a.type there in
-    record { there = some.1; typed = subst (λ (u : Ty). IsWellTyped u w) (sym some.0) (subst (λ (x : Val). IsWellTyped a.type x) (sym is) a.typed) }
+    record {
+      there = some.1;
+      typed =
+          subst (λ (u : Ty). IsWellTyped u w) (sym some.0) (subst (λ (x : Val). IsWellTyped a.type x) (sym is) a.typed);
+    }
 
 pub put_arm : (t : Ty) (v : Val) (n : ℤ) (k : ℕ) (w : Val) → IsChoice t → IsWellTyped t v → Some (n, w) ≡ arm_in v → n ≡ pos k → IsPut t k w
 put_arm t v n k w choice typed e is =
@@ -189,11 +212,14 @@ put_arm t v n k w choice typed e is =
 -- ---- the node of an arm
 
 module _ (us : List Ty) (k : ℕ) (t : Ty) where
-  pub arm_node : (tag : Tag) (arms : List (ℤ × ℕ)) (o : Option ℕ) (i : ℕ) → t ≡ types.level us (node.Choice tag arms o) → arm_found arms o (pos k) ≡ Some i
+  pub arm_node : (tag : Tag) (arms : List (ℤ × ℕ)) (o : Option ℕ) (i : ℕ) → t ≡ types.level us (node.Choice tag arms o)
+      → arm_found arms o (pos k) ≡ Some i
       → types.at us i ≡ unwrap_or (arm_type_in t k) void_type
-  arm_node tag arms o i is found = sym (type_some (arm_type_in t k) (types.at us i) (ap (λ (s : Ty). arm_type_in s k) is ∙ found_type us (pos k) arms o i found)).0
+  arm_node tag arms o i is found =
+      sym (type_some (arm_type_in t k) (types.at us i) (ap (λ (s : Ty). arm_type_in s k) is ∙ found_type us (pos k) arms o i found)).0
 
-  pub no_node : (tag : Tag) (arms : List (ℤ × ℕ)) (o : Option ℕ) → t ≡ types.level us (node.Choice tag arms o) → arm_found arms o (pos k) ≡ None
+  pub no_node : (tag : Tag) (arms : List (ℤ × ℕ)) (o : Option ℕ) → t ≡ types.level us (node.Choice tag arms o) → arm_found arms o (pos k)
+      ≡ None
       → IsTrue (is_some (arm_type_in t k)) → ⊥
   no_node tag arms o is found there =
       let none : arm_type_in t k ≡ None = ap (λ (s : Ty). arm_type_in s k) is ∙ none_type us (pos k) arms o found in

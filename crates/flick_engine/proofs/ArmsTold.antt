@@ -89,32 +89,42 @@ here (y ∷ xs) zero x d e = cc
 here (y ∷ xs) (suc n) x d e = here xs n x d e
 
 -- the ids that replies tell apart are those of the operation's exceptions
-many_ids : (k : Back) → IsCdr k → (b : Binding) (op : ℕ) (i : PlainInterface) (p : PlainOperation) → slice_get (operations_in k b.unit.interfaces) op ≡ Some (i, p)
+many_ids : (k : Back) → IsCdr k → (b : Binding) (op : ℕ) (i : PlainInterface) (p : PlainOperation)
+    → slice_get (operations_in k b.unit.interfaces) op ≡ Some (i, p)
     → length (target_of b op).ids ≡ length p.raises
 many_ids k cdr b op i p is =
     let there : slice_get (targets b.unit.interfaces) op ≡ Some (target_in i p) =
-    ap (λ (l : List Target). slice_get l op) (targets_are k cdr b.unit.interfaces) ∙ slice_get-map target_at (operations_in k b.unit.interfaces) op ∙ ap (option_map target_at) is in
-    ap (λ (t : Target). length t.ids) (here (targets b.unit.interfaces) op (target_in i p) no_target there) ∙ length-map p.raises (λ (r : PlainRaise). r.id)
+    ap (λ (l : List Target).
+    slice_get l op) (targets_are k cdr b.unit.interfaces) ∙ slice_get-map target_at (operations_in k b.unit.interfaces) op
+    ∙ ap (option_map target_at) is in
+    ap (λ (t : Target).
+    length t.ids) (here (targets b.unit.interfaces) op (target_in i p) no_target there)
+    ∙ length-map p.raises (λ (r : PlainRaise). r.id)
 
 -- ---- the arms that replies tell
 
-module _ (b : Binding) (op : ℕ) (i : PlainInterface) (p : PlainOperation) (o : List ℕ) (t : Heard) (n : ℕ) (arm : t.fate ≡ fates.Arm n) where
-  giop_few : (k : Back) → IsCdr k → slice_get (operations_in k b.unit.interfaces) op ≡ Some (i, p) → RepliesInOrder b op o t → n ≤ length p.raises
-  giop_few k cdr is (r, used, starts, told) =
-      let most = arm_few (target_of b op).ids r.fate n (ap (λ (x : Heard). x.fate) told ∙ arm) in
-      omega (arith, most, many_ids k cdr b op i p is)
+module _ (b : Binding) (op : ℕ) (i : PlainInterface) (p : PlainOperation) (o : List ℕ) (t : Heard) (n : ℕ) (arm : t.fate ≡ fates.Arm n)
+  where
+    giop_few : (k : Back) → IsCdr k → slice_get (operations_in k b.unit.interfaces) op ≡ Some (i, p) → RepliesInOrder b op o t
+        → n ≤ length p.raises
+    giop_few k cdr is (r, used, starts, told) =
+        let most = arm_few (target_of b op).ids r.fate n (ap (λ (x : Heard). x.fate) told ∙ arm) in
+        omega (arith, most, many_ids k cdr b op i p is)
 
-  few_over : (k : Back) → slice_get (operations_in k b.unit.interfaces) op ≡ Some (i, p) → RepliesOver k b op o t → n ≤ length p.raises
-  few_over back.Xdr is (r, starts, told) =
-      let none = arm_zero r.status n (ap (λ (x : Heard). x.fate) told ∙ arm) in
-      omega (arith, none)
-  few_over back.CdrBig is begins = giop_few back.CdrBig refl is begins
-  few_over back.CdrLittle is begins = giop_few back.CdrLittle refl is begins
-  few_over back.Mach is (r, starts, told) =
-      let none = arm_zero r.status n (ap (λ (x : Heard). x.fate) told ∙ arm) in
-      omega (arith, none)
+    few_over : (k : Back) → slice_get (operations_in k b.unit.interfaces) op ≡ Some (i, p) → RepliesOver k b op o t → n ≤ length p.raises
+    few_over back.Xdr is (r, starts, told) =
+        let none = arm_zero r.status n (ap (λ (x : Heard). x.fate) told ∙ arm) in
+        omega (arith, none)
+    few_over back.CdrBig is begins = giop_few back.CdrBig refl is begins
+    few_over back.CdrLittle is begins = giop_few back.CdrLittle refl is begins
+    few_over back.Mach is (r, starts, told) =
+        let none = arm_zero r.status n (ap (λ (x : Heard). x.fate) told ∙ arm) in
+        omega (arith, none)
 
-pub told_arm : (b : Binding) (op : ℕ) → IsBinding b → op < length b.ops → (o : List ℕ) (t : Heard) (k : ℕ) → BeginsReply b op o t → t.fate ≡ fates.Arm k → HasArm b op k
+pub told_arm : (b : Binding) (op : ℕ) → IsBinding b → op < length b.ops → (o : List ℕ) (t : Heard) (k : ℕ) → BeginsReply b op o t → t.fate
+    ≡ fates.Arm k → HasArm b op k
 told_arm b op stands h o t k begins arm =
     let (i, p, is, same) = are_the_replies b op stands h in
-    subst (λ (s : Ty). IsTrue (is_some (arm_type_in s k))) (sym same) (arm_there (type_faces b.unit) p k (few_over b op i p o t k arm b.back is begins))
+    subst
+    (λ (s : Ty).
+    IsTrue (is_some (arm_type_in s k))) (sym same) (arm_there (type_faces b.unit) p k (few_over b op i p o t k arm b.back is begins))

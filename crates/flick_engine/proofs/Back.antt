@@ -13,7 +13,8 @@ use Rattle.flick_engine.specs.Laws.{IsReadBack}
 use Rattle.flick_engine.proofs.HeadsOfBacks.{received, says_made, long_lead, same_length}
 
 -- what is sent after a lead spells the value from the lead's end, where it follows the head
-pub spells_after : (e f : Encoding) (t : Ty) (p used : ℕ) (o : List ℕ) (v : Val) → f ≡ e → used ≡ p → drop used o ≡ send e t p v → IsWellTyped t v → IsSpelling f t used (drop used o) v
+pub spells_after : (e f : Encoding) (t : Ty) (p used : ℕ) (o : List ℕ) (v : Val) → f ≡ e → used ≡ p → drop used o ≡ send e t p v
+    → IsWellTyped t v → IsSpelling f t used (drop used o) v
 spells_after e f t p used o v same long after typed = rw (after, same, long) (sent_spells e t p v typed)
 
 pub read_back : IsReadBack
@@ -22,9 +23,15 @@ read_back b op head v c says named typed short =
     let body = send (encoding b.back) (request_type b op) (length (lead b op head)) v in
     let made = says_made b.back b op head c says in
     let lead_long = long_lead b.back made b op head in
-    let same : length (message b op head v) ≡ length (lead b op head ++ body) = same_length b.back (lead b op head ++ body) (omega (arith, lead_long, length-append (lead b op head) body)) in (
+    let same : length (message b op head v) ≡ length (lead b op head ++ body) =
+    same_length b.back (lead b op head ++ body) (omega (arith, lead_long, length-append (lead b op head) body)) in (
       c,
       op,
       (short, is.begins body (omega (arith, short, same)), named),
-      (refl, refl, spells_after (encoding b.back) c.encoding (request_type b op) (length (lead b op head)) c.used (message b op head v) v is.encoding is.used (is.follows body) typed),
+      (
+        refl,
+        refl,
+        spells_after (encoding b.back) c.encoding (request_type b op) (length (lead b op head)) c.used (message b op head v) v
+            is.encoding is.used (is.follows body) typed,
+      ),
     )

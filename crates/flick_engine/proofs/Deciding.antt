@@ -68,15 +68,18 @@ after b o (Some (Ok c)) = after_name b c (drop c.used o) c.naming
 abbrev IsMadeOf : Binding → List ℕ → Result Asked MessageErr → Type 0
 IsMadeOf b o x = (f : Found) × IsFound b o f × (x ≡ after b o f)
 
-when_named : (b : Binding) (o : List ℕ) (c : Called) (n : Naming) (x : Result Asked MessageErr) → Names b o c n → after_name b c (drop c.used o) n ≡ x → IsMadeOf b o x
+when_named : (b : Binding) (o : List ℕ) (c : Called) (n : Naming) (x : Result Asked MessageErr) → Names b o c n
+    → after_name b c (drop c.used o) n ≡ x → IsMadeOf b o x
 when_named b o c n x (short, begins, is) e = (Some (Ok c), (short, begins), sym e ∙ ap (after_name b c (drop c.used o)) (sym is))
 
-when_called : (b : Binding) (o : List ℕ) (c : Called) (op : ℕ) (r : Reading FaultKind Val) (x : Result Asked MessageErr) → Names b o c (naming.Operation op)
+when_called : (b : Binding) (o : List ℕ) (c : Called) (op : ℕ) (r : Reading FaultKind Val) (x : Result Asked MessageErr)
+    → Names b o c (naming.Operation op)
     → read c.encoding (request_type b op) c.used (drop c.used o) ≡ r → after_body c op r ≡ x → IsMadeOf b o x
 when_called b o c op r x names is e = when_named b o c (naming.Operation op) x names (ap (after_body c op) is ∙ e)
 
 -- the first octets are read as the value that they spell
-pub first_read : (n : Encoding) (t : Ty) (p : ℕ) (o : List ℕ) (v : Val) (used : ℕ) → FirstSpell n t p o v used → read n t p o ≡ got v (p + used) (drop used o)
+pub first_read : (n : Encoding) (t : Ty) (p : ℕ) (o : List ℕ) (v : Val) (used : ℕ) → FirstSpell n t p o v used → read n t p o
+    ≡ got v (p + used) (drop used o)
 first_read n t p o v used h =
     let long : length (take used o) ≡ used = omega (arith, length-take used o, h.there) in
     let whole : take used o ++ drop used o ≡ o = take-append-drop used o in
@@ -104,7 +107,8 @@ when_read b o (Err (err.Trailing at)) (c, op, names, (v, used, spells, is, more)
     (trailing c op v (c.used + used) (drop used (drop c.used o)) left ∙ ap (λ n. Err (err.Trailing n)) (sym is))
 when_read b o (Err err.NoMemory) h = absurd h
 when_read b o (Ok r) (c, op, names, (is, head, spells)) =
-    when_called b o c op _ _ names (whole_read c.encoding (request_type b op) c.used (drop c.used o) r.value spells) (rw (← is, ← head) refl)
+    when_called b o c op _ _ names (whole_read c.encoding (request_type b op) c.used (drop c.used o) r.value spells)
+    (rw (← is, ← head) refl)
 
 -- ---- so it is determined
 

@@ -83,7 +83,8 @@ module _ (b : Binding) (op : ℕ) (o : List ℕ) where
       → read t.encoding (arm_type b op k) t.used (drop t.used o) ≡ r → after_body t k r ≡ x → IsMadeOf x
   when_answered t k r x says is e = when_said t (fates.Arm k) x says (ap (after_body t k) is ∙ e)
 
-  when_refused : (t : Heard) (why : Refusal) (followed : Bool) (x : Answer) → Says b op o t (fates.Refused why) → is_followed why t.used o ≡ followed
+  when_refused : (t : Heard) (why : Refusal) (followed : Bool) (x : Answer) → Says b op o t (fates.Refused why) → is_followed why t.used o
+      ≡ followed
       → after_refusal t why followed ≡ x → IsMadeOf x
   when_refused t why followed x says is e = when_said t (fates.Refused why) x says (ap (after_refusal t why) is ∙ e)
 
@@ -105,7 +106,8 @@ module _ (b : Binding) (op : ℕ) (o : List ℕ) where
       let left : 0 < length (drop used (drop t.used o)) = omega (arith, length-drop t.used o, length-drop used (drop t.used o), is, more) in
       when_answered t k _ _ says (first_read t.encoding (arm_type b op k) t.used (drop t.used o) w used spells)
       (trailing t k w (t.used + used) (drop used (drop t.used o)) left ∙ ap (λ n. Err (err.Trailing n)) (sym is))
-  when_read (Err (err.Trailing at)) (inr (t, why, says, (is, more))) = when_refused t why true _ says more (ap (λ n. Err (err.Trailing n)) (sym is))
+  when_read (Err (err.Trailing at)) (inr (t, why, says, (is, more))) =
+      when_refused t why true _ says more (ap (λ n. Err (err.Trailing n)) (sym is))
   when_read (Err err.NoInterface) h = absurd h
   when_read (Err err.NoOperation) h = absurd h
   when_read (Err err.NoMemory) h = absurd h

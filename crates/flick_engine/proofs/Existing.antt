@@ -32,7 +32,8 @@ module _ (b : Binding) (made : IsMade b.back) (sound : (op : ℕ) → IsSound (r
   Something = (x : Result Asked MessageErr) × ReadCall b o x
 
   -- a body that begins with a value's spelling
-  spelled : (c : Called) (op : ℕ) → Names b o c (naming.Operation op) → (a rest : List ℕ) (v : Val) → drop c.used o ≡ a ++ rest → IsSpelling c.encoding (request_type b op) c.used a v → Something
+  spelled : (c : Called) (op : ℕ) → Names b o c (naming.Operation op) → (a rest : List ℕ) (v : Val) → drop c.used o ≡ a ++ rest
+      → IsSpelling c.encoding (request_type b op) c.used a v → Something
   spelled c op names a [] v is spells = (
     Ok (record { op = op; head = c.head; value = v }),
     (c, op, names, (refl, refl, rw (is, append-nil) spells)),
@@ -58,7 +59,8 @@ module _ (b : Binding) (made : IsMade b.back) (sound : (op : ℕ) → IsSound (r
 
   -- a body
   body : (c : Called) (op : ℕ) → Names b o c (naming.Operation op)
-      → BeginsSpelled c.encoding (request_type b op) c.used (drop c.used o) ⊎ HasFault c.encoding (request_type b op) c.used (drop c.used o) → Something
+      → BeginsSpelled c.encoding (request_type b op) c.used (drop c.used o)
+      ⊎ HasFault c.encoding (request_type b op) c.used (drop c.used o) → Something
   body c op names (inl (a, rest, v, is, spells)) = spelled c op names a rest v is spells
   body c op names (inr (k, at, stops)) = (Err (err.Body (record { kind = k; at = at })), (c, op, names, stops))
 

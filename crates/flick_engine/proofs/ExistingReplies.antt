@@ -29,7 +29,8 @@ module _ (b : Binding) (op : ℕ) (sound : (k : ℕ) → IsSound (arm_type b op 
   Something = (x : Result Replied MessageErr) × ReadReply b op o x
 
   -- a body that begins with the spelling of an arm's value
-  spelled : (t : Heard) (k : ℕ) → Says b op o t (fates.Arm k) → (a rest : List ℕ) (w : Val) → drop t.used o ≡ a ++ rest → IsSpelling t.encoding (arm_type b op k) t.used a w → Something
+  spelled : (t : Heard) (k : ℕ) → Says b op o t (fates.Arm k) → (a rest : List ℕ) (w : Val) → drop t.used o ≡ a ++ rest
+      → IsSpelling t.encoding (arm_type b op k) t.used a w → Something
   spelled t k says a [] w is spells = (
     Ok (record { head = t.head; came = answered (arm (pos k) w) }),
     (t, k, says, (refl, (w, refl, rw (is, append-nil) spells))),
@@ -55,12 +56,14 @@ module _ (b : Binding) (op : ℕ) (sound : (k : ℕ) → IsSound (arm_type b op 
 
   -- a body
   body : (t : Heard) (k : ℕ) → Says b op o t (fates.Arm k)
-      → BeginsSpelled t.encoding (arm_type b op k) t.used (drop t.used o) ⊎ HasFault t.encoding (arm_type b op k) t.used (drop t.used o) → Something
+      → BeginsSpelled t.encoding (arm_type b op k) t.used (drop t.used o) ⊎ HasFault t.encoding (arm_type b op k) t.used (drop t.used o)
+      → Something
   body t k says (inl (a, rest, w, is, spells)) = spelled t k says a rest w is spells
   body t k says (inr (kind, at, stops)) = (Err (err.Body (record { kind = kind; at = at })), (t, k, says, stops))
 
   -- a refusal that octets follow which may not, or another
-  refusal : (t : Heard) (why : Refusal) (followed : Bool) → is_followed why t.used o ≡ followed → Says b op o t (fates.Refused why) → Something
+  refusal : (t : Heard) (why : Refusal) (followed : Bool) → is_followed why t.used o ≡ followed → Says b op o t (fates.Refused why)
+      → Something
   refusal t why false is says = (Ok (record { head = t.head; came = refused why }), (t, why, says, (refl, refl, is)))
   refusal t why true is says = (Err (err.Trailing t.used), inr (t, why, says, (refl, is)))
 

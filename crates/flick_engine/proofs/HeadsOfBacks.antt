@@ -114,19 +114,22 @@ same_length back.Mach o long = mach_sent.length_sized o (omega (arith, long))
 
 -- a head that is sent is received as what it says, and its body follows it
 pub record IsReceived (k : Back) (b : Binding) (op : ℕ) (head : Head) (c : Called) : Type 0 where
-  pub begins : (rest : List ℕ) → length (lead_over k b op head ++ rest) ≤ longest_message → BeginsOver k b (sized k (lead_over k b op head ++ rest)) c
+  pub begins : (rest : List ℕ) → length (lead_over k b op head ++ rest) ≤ longest_message
+      → BeginsOver k b (sized k (lead_over k b op head ++ rest)) c
   pub follows : (rest : List ℕ) → drop c.used (sized k (lead_over k b op head ++ rest)) ≡ rest
   pub used : c.used ≡ length (lead_over k b op head)
   pub encoding : c.encoding ≡ encoding k
 
-xdr_used : (b : Binding) (op : ℕ) (head : Head) (c : Called) → SaysOver back.Xdr b op head c → c.used ≡ length (lead_over back.Xdr b op head)
+xdr_used : (b : Binding) (op : ℕ) (head : Head) (c : Called) → SaysOver back.Xdr b op head c → c.used
+    ≡ length (lead_over back.Xdr b op head)
 xdr_used b op head c (fits, words, is) = sym (ap (λ (x : Called). x.used) is)
 
 module _ (r : Order) (b : Binding) (op : ℕ) (head : Head) (c : Called) (says : SaysByName r b op head c) where
   abbrev asking : Request
   asking = request_of (target_of b op) head.id
 
-  cdr_begins : (rest : List ℕ) → length (cdr_leads.lead r (target_of b op) head.id ++ rest) ≤ longest_message → cdr_seeking.Calls b (with_size r (cdr_leads.lead r (target_of b op) head.id ++ rest)) c
+  cdr_begins : (rest : List ℕ) → length (cdr_leads.lead r (target_of b op) head.id ++ rest) ≤ longest_message
+      → cdr_seeking.Calls b (with_size r (cdr_leads.lead r (target_of b op) head.id ++ rest)) c
   cdr_begins rest few = (told_of r (target_of b op) head.id, requests_begin r asking rest says.0 (omega (arith, few)), says.1)
 
   cdr_follows : (rest : List ℕ) → drop c.used (with_size r (cdr_leads.lead r (target_of b op) head.id ++ rest)) ≡ rest
@@ -147,10 +150,29 @@ received_over back.Xdr b op head c (fits, words, is) = record {
   used = xdr_used b op head c (fits, words, is);
   encoding = sym (ap (λ (x : Called). x.encoding) is);
 }
-received_over back.CdrBig b op head c says = record { begins = cdr_begins Big b op head c says; follows = cdr_follows Big b op head c says; used = cdr_used Big b op head c says; encoding = cdr_encoding Big b op head c says }
-received_over back.CdrLittle b op head c says = record { begins = cdr_begins Little b op head c says; follows = cdr_follows Little b op head c says; used = cdr_used Little b op head c says; encoding = cdr_encoding Little b op head c says }
+received_over back.CdrBig b op head c says =
+    record {
+      begins = cdr_begins Big b op head c says;
+      follows = cdr_follows Big b op head c says;
+      used =
+          cdr_used Big b op head c says;
+      encoding = cdr_encoding Big b op head c says;
+    }
+received_over back.CdrLittle b op head c says =
+    record {
+      begins = cdr_begins Little b op head c says;
+      follows = cdr_follows Little b op head c says;
+      used =
+          cdr_used Little b op head c says;
+      encoding = cdr_encoding Little b op head c says;
+    }
 received_over back.Mach b op head c (fits, ports, is) = record {
-  begins = λ rest few. (mach_laws.call_of (routine_of b op) head, mach_sent.requests_begin (routine_of b op) head rest fits ports (omega (arith, few)), is);
+  begins =
+      λ rest few. (
+        mach_laws.call_of (routine_of b op) head,
+        mach_sent.requests_begin (routine_of b op) head rest fits ports (omega (arith, few)),
+        is,
+      );
   follows = λ rest. ap (λ (x : Called). drop x.used (sized back.Mach (lead_over back.Mach b op head ++ rest))) (sym is)
       ∙ mach_sent.follows_request (routine_of b op) head rest;
   used = ap (λ (x : Called). x.used) (sym is);
@@ -203,46 +225,55 @@ module _ (b c : Binding) (units : b.unit ≡ c.unit) where
   xdr_below : IsBinding b → b.back ≡ back.Xdr → (o : List ℕ) (x : Called) → Calls b o x → IsBelow (length b.ops) x.naming
   xdr_below stands xdr o x (call, begins, is) =
       let all : 0 + length (procedures b.unit.interfaces) ≡ length b.ops = omega (arith, counted b stands xdr) in
-      let below : IsBelow (length b.ops) (named b call) = subst (λ (n : ℕ). IsBelow n (named b call)) all (named_below 0 b.unit.interfaces call) in
+      let below : IsBelow (length b.ops) (named b call) =
+      subst (λ (n : ℕ). IsBelow n (named b call)) all (named_below 0 b.unit.interfaces call) in
       subst (λ (y : Called). IsBelow (length b.ops) y.naming) is below
 
-  cdr_leads_alike : (r : Order) (op : ℕ) (head : Head) → cdr_leads.lead r (target_of b op) head.id ≡ cdr_leads.lead r (target_of c op) head.id
+  cdr_leads_alike : (r : Order) (op : ℕ) (head : Head) → cdr_leads.lead r (target_of b op) head.id
+      ≡ cdr_leads.lead r (target_of c op) head.id
   cdr_leads_alike r op head =
       let same : target_of b op ≡ target_of c op = place_same _ _ op no_target (ap (λ (u : PlainUnit). targets u.interfaces) units) in
       ap (λ (t : Target). cdr_leads.lead r t head.id) same
 
   cdr_begins_alike : (o : List ℕ) (x : Called) → cdr_seeking.Calls b o x → cdr_seeking.Calls c o x
   cdr_begins_alike o x (t, begins, is) =
-      let same : cdr_seeking.called b t ≡ cdr_seeking.called c t = ap (told_with t) (ap (λ (u : PlainUnit). cdr_seeking.named_from 0 u.interfaces t.key t.name) units) in
+      let same : cdr_seeking.called b t ≡ cdr_seeking.called c t =
+      ap (told_with t) (ap (λ (u : PlainUnit). cdr_seeking.named_from 0 u.interfaces t.key t.name) units) in
       (t, begins, sym same ∙ is)
 
   cdr_below : IsBinding b → IsCdr b.back → (o : List ℕ) (x : Called) → cdr_seeking.Calls b o x → IsBelow (length b.ops) x.naming
   cdr_below stands cdr o x (t, begins, is) =
       let all : 0 + length (targets b.unit.interfaces) ≡ length b.ops = omega (arith, cdr_counting.counted b stands cdr) in
-      let below : IsBelow (length b.ops) (cdr_seeking.named b t) = subst (λ (n : ℕ). IsBelow n (cdr_seeking.named b t)) all (cdr_named.named_below 0 b.unit.interfaces t.key t.name) in
+      let below : IsBelow (length b.ops) (cdr_seeking.named b t) =
+      subst (λ (n : ℕ). IsBelow n (cdr_seeking.named b t)) all (cdr_named.named_below 0 b.unit.interfaces t.key t.name) in
       subst (λ (y : Called). IsBelow (length b.ops) y.naming) is below
 
   cdr_is : (k : Back) → IsCdr k → b.back ≡ k → IsCdr b.back
   cdr_is k is of = subst IsCdr (sym of) is
 
   mach_leads_alike : (op : ℕ) (head : Head) → lead_over back.Mach b op head ≡ lead_over back.Mach c op head
-  mach_leads_alike op head = ap (λ r. mach_leads.lead r head) (place_same _ _ op no_routine (ap (λ (u : PlainUnit). routines u.interfaces) units))
+  mach_leads_alike op head =
+      ap (λ r. mach_leads.lead r head) (place_same _ _ op no_routine (ap (λ (u : PlainUnit). routines u.interfaces) units))
 
   mach_begins_alike : (o : List ℕ) (x : Called) → mach_seeking.Calls b o x → mach_seeking.Calls c o x
   mach_begins_alike o x (call, begins, is) =
-      let same : mach_seeking.called b call ≡ mach_seeking.called c call = ap (mach_with call) (ap (λ (u : PlainUnit). mach_seeking.named_from 0 u.interfaces call.id) units) in
+      let same : mach_seeking.called b call ≡ mach_seeking.called c call =
+      ap (mach_with call) (ap (λ (u : PlainUnit). mach_seeking.named_from 0 u.interfaces call.id) units) in
       (call, begins, sym same ∙ is)
 
   mach_below : IsBinding b → b.back ≡ back.Mach → (o : List ℕ) (x : Called) → mach_seeking.Calls b o x → IsBelow (length b.ops) x.naming
   mach_below stands mach o x (call, begins, is) =
       let all : 0 + length (routines b.unit.interfaces) ≡ length b.ops = omega (arith, mach_counting.counted b stands mach) in
-      let below : IsBelow (length b.ops) (mach_seeking.named b call) = subst (λ (n : ℕ). IsBelow n (mach_seeking.named b call)) all (mach_named.named_below 0 b.unit.interfaces call.id) in
+      let below : IsBelow (length b.ops) (mach_seeking.named b call) =
+      subst (λ (n : ℕ). IsBelow n (mach_seeking.named b call)) all (mach_named.named_below 0 b.unit.interfaces call.id) in
       subst (λ (y : Called). IsBelow (length b.ops) y.naming) is below
 
   alike_over : (k : Back) → IsBinding b → b.back ≡ k → AreAlike k b c
   alike_over back.Xdr stands of = record { leads = xdr_leads_alike; begins = xdr_begins; below = xdr_below stands of }
-  alike_over back.CdrBig stands of = record { leads = cdr_leads_alike Big; begins = cdr_begins_alike; below = cdr_below stands (cdr_is back.CdrBig refl of) }
-  alike_over back.CdrLittle stands of = record { leads = cdr_leads_alike Little; begins = cdr_begins_alike; below = cdr_below stands (cdr_is back.CdrLittle refl of) }
+  alike_over back.CdrBig stands of =
+      record { leads = cdr_leads_alike Big; begins = cdr_begins_alike; below = cdr_below stands (cdr_is back.CdrBig refl of) }
+  alike_over back.CdrLittle stands of =
+      record { leads = cdr_leads_alike Little; begins = cdr_begins_alike; below = cdr_below stands (cdr_is back.CdrLittle refl of) }
   alike_over back.Mach stands of = record { leads = mach_leads_alike; begins = mach_begins_alike; below = mach_below stands of }
 
 -- the heads of bindings of one unit
@@ -253,7 +284,8 @@ heads_alike b c units stands = alike_over b c units b.back stands refl
 
 -- the operation of a number over this back end is one of the unit, which the message asks for
 abbrev IsAskedOver : Back → Binding → List ℕ → ℕ → Type 0
-IsAskedOver k b o op = (i : PlainInterface) × (p : PlainOperation) × (slice_get (operations_in k b.unit.interfaces) op ≡ Some (i, p)) × AsksFor k i p o
+IsAskedOver k b o op = (i : PlainInterface) × (p : PlainOperation) × (slice_get (operations_in k b.unit.interfaces) op ≡ Some (i, p))
+    × AsksFor k i p o
 
 abbrev procedure_in : PlainInterface → ℕ → Procedure
 procedure_in i n = record { program = i.program; version = i.version; number = n }
@@ -285,10 +317,12 @@ xdr_asked b o x op (call, begins, is) names =
     let ps : List Procedure = procedures b.unit.interfaces in
     let same : named b call ≡ Operation op = ap (λ (y : Called). y.naming) is ∙ names in
     let all : 0 + length ps ≡ length ps = omega arith in
-    let within : IsBelow (length ps) (named b call) = subst (λ (n : ℕ). IsBelow n (named b call)) all (named_below 0 b.unit.interfaces call) in
+    let within : IsBelow (length ps) (named b call) =
+    subst (λ (n : ℕ). IsBelow n (named b call)) all (named_below 0 b.unit.interfaces call) in
     let below : op < length ps = subst (λ (n : Naming). IsBelow (length ps) n) same within in
     let there : slice_get ps op ≡ Some (procedure_of b op) = slice_get-get_or ps op no_procedure below in
-    let (q, stands, of) = placed procedure_at (operations_in back.Xdr b.unit.interfaces) op (procedure_of b op) (ap (λ (l : List Procedure). slice_get l op) (sym (xdr_procedures b.unit.interfaces)) ∙ there) in
+    let (q, stands, of) = placed procedure_at (operations_in back.Xdr b.unit.interfaces) op (procedure_of b op)
+    (ap (λ (l : List Procedure). slice_get l op) (sym (xdr_procedures b.unit.interfaces)) ∙ there) in
     (q.0, q.1, stands, (call, begins, sym (named_right b call op same) ∙ sym of))
 
 -- over CDR no operation is gotten
@@ -303,8 +337,14 @@ cdr_asked : (k : Back) → IsCdr k → (b : Binding) (o : List ℕ) (x : Called)
 cdr_asked k cdr b o x op (t, begins, is) names =
     let same : cdr_seeking.named b t ≡ Operation op = ap (λ (y : Called). y.naming) is ∙ names in
     let (n, i, p, at, there, key, name) = named_by 0 b.unit.interfaces t.key t.name op same in
-    let place : op ≡ n = omega (arith, at) in
-    (i, p, ap (λ (l : List (PlainInterface × PlainOperation)). slice_get l op) (cdr_pairs k cdr b.unit.interfaces) ∙ ap (slice_get (pairs b.unit.interfaces)) place ∙ there, (t, begins, key, name))
+    let place : op ≡ n = omega (arith, at) in (
+      i,
+      p,
+      ap (λ (l : List (PlainInterface × PlainOperation)).
+          slice_get l op) (cdr_pairs k cdr b.unit.interfaces) ∙ ap (slice_get (pairs b.unit.interfaces)) place
+          ∙ there,
+      (t, begins, key, name),
+    )
 
 mach_own : (is : List PlainInterface) → operations_in back.Mach is ≡ mach_pairs.pairs is
 mach_own [] = refl
@@ -312,14 +352,22 @@ mach_own (i ∷ is) =
     ap (λ (ps : List PlainOperation). map (λ (p : PlainOperation). (i, p)) ps ++ operations_in back.Mach is) (mach_counting.own_alone i)
     ∙ ap (λ (l : List (PlainInterface × PlainOperation)). mach_pairs.pairs_in i ++ l) (mach_own is)
 
-mach_asked : (b : Binding) (o : List ℕ) (x : Called) (op : ℕ) → mach_seeking.Calls b o x → x.naming ≡ Operation op → IsAskedOver back.Mach b o op
+mach_asked : (b : Binding) (o : List ℕ) (x : Called) (op : ℕ) → mach_seeking.Calls b o x → x.naming ≡ Operation op
+    → IsAskedOver back.Mach b o op
 mach_asked b o x op (call, begins, is) names =
     let same : mach_seeking.named b call ≡ Operation op = ap (λ (y : Called). y.naming) is ∙ names in
     let (n, i, p, at, there, id) = mach_pairs.named_by 0 b.unit.interfaces call.id op same in
-    let place : op ≡ n = omega (arith, at) in
-    (i, p, ap (λ (l : List (PlainInterface × PlainOperation)). slice_get l op) (mach_own b.unit.interfaces) ∙ ap (slice_get (mach_pairs.pairs b.unit.interfaces)) place ∙ there, (call, begins, id))
+    let place : op ≡ n = omega (arith, at) in (
+      i,
+      p,
+      ap (λ (l : List (PlainInterface × PlainOperation)).
+          slice_get l op) (mach_own b.unit.interfaces) ∙ ap (slice_get (mach_pairs.pairs b.unit.interfaces)) place
+          ∙ there,
+      (call, begins, id),
+    )
 
-asked_over : (k : Back) (b : Binding) (o : List ℕ) (x : Called) (op : ℕ) → BeginsOver k b o x → x.naming ≡ Operation op → IsAskedOver k b o op
+asked_over : (k : Back) (b : Binding) (o : List ℕ) (x : Called) (op : ℕ) → BeginsOver k b o x → x.naming ≡ Operation op
+    → IsAskedOver k b o op
 asked_over back.Xdr b o x op begins names = xdr_asked b o x op begins names
 asked_over back.CdrBig b o x op begins names = cdr_asked back.CdrBig refl b o x op begins names
 asked_over back.CdrLittle b o x op begins names = cdr_asked back.CdrLittle refl b o x op begins names

@@ -21,11 +21,14 @@ request_at fs q = request_of fs q.1
 abbrev request_in : Offer → Face
 request_in x = x.request
 
-first_requests : (fs : List Face) (k : Back) (n : ℕ) (i : PlainInterface) → map request_in (map (offer fs k n) (operations k i)) ≡ map (request_at fs) (map (λ (p : PlainOperation). (i, p)) (operations k i))
-first_requests fs k n i = map-map request_in (offer fs k n) (operations k i) ∙ sym (map-map (request_at fs) (λ (p : PlainOperation). (i, p)) (operations k i))
+first_requests : (fs : List Face) (k : Back) (n : ℕ) (i : PlainInterface) → map request_in (map (offer fs k n) (operations k i))
+    ≡ map (request_at fs) (map (λ (p : PlainOperation). (i, p)) (operations k i))
+first_requests fs k n i = map-map request_in (offer fs k n) (operations k i)
+    ∙ sym (map-map (request_at fs) (λ (p : PlainOperation). (i, p)) (operations k i))
 
 -- what goes into the operations that are offered
-requests : (fs : List Face) (k : Back) (n : ℕ) (is : List PlainInterface) → map request_in (offers_from fs k n is) ≡ map (request_at fs) (operations_in k is)
+requests : (fs : List Face) (k : Back) (n : ℕ) (is : List PlainInterface) → map request_in (offers_from fs k n is)
+    ≡ map (request_at fs) (operations_in k is)
 requests fs k n [] = refl
 requests fs k n (i ∷ is) =
     map-append request_in (map (offer fs k n) (operations k i)) (offers_from fs k (suc n) is)

@@ -8,5 +8,6 @@ some_of f None y e = absurd cc
 some_of f (Some a) y e = (a, refl, cc)
 
 -- an element at a place of a mapped list is that of the element there
-pub placed : {A B : Type 0} (f : A → B) (xs : List A) (n : ℕ) (y : B) → slice_get (map f xs) n ≡ Some y → (a : A) × (slice_get xs n ≡ Some a) × (f a ≡ y)
+pub placed : {A B : Type 0} (f : A → B) (xs : List A) (n : ℕ) (y : B) → slice_get (map f xs) n ≡ Some y → (a : A)
+    × (slice_get xs n ≡ Some a) × (f a ≡ y)
 placed f xs n y e = some_of f (slice_get xs n) y (sym (slice_get-map f xs n) ∙ e)

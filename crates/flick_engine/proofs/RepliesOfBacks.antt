@@ -54,7 +54,8 @@ module _ (b : Binding) (op : ℕ) (o : List ℕ) where
   xdr_one : (t u : Heard) → RepliesOver back.Xdr b op o t → RepliesOver back.Xdr b op o u → t ≡ u
   xdr_one t u (r, (h, used, starts, told), is) (s, (j, m, starts', told'), is') =
       let same = xdr_lawful.one_head xdr.reply o h j used m starts starts' in
-      sym is ∙ ap (heard_over back.Xdr b op) (sym told ∙ ap (λ (x : xdr_reply.Reply). xdr_told.reply_told x used) same.0 ∙ ap (xdr_told.reply_told j) same.1 ∙ told') ∙ is'
+      sym is ∙ ap (heard_over back.Xdr b op)
+      (sym told ∙ ap (λ (x : xdr_reply.Reply). xdr_told.reply_told x used) same.0 ∙ ap (xdr_told.reply_told j) same.1 ∙ told') ∙ is'
 
   xdr_one_reply : IsOneReply o (RepliesOver back.Xdr b op o) (ReplyStopsOver back.Xdr b op o)
   xdr_one_reply = record {
@@ -95,7 +96,9 @@ module _ (b : Binding) (op : ℕ) (o : List ℕ) where
   mach_one : (t u : Heard) → RepliesOver back.Mach b op o t → RepliesOver back.Mach b op o u → t ≡ u
   mach_one t u (r, (h, used, starts, told), is) (s, (j, m, starts', told'), is') =
       let same = mach_lawful.one_head way o h j used m starts starts' in
-      sym is ∙ ap (heard_over back.Mach b op) (sym told ∙ ap (λ (x : mach_reply.Reply). mach_told.reply_told x used) same.0 ∙ ap (mach_told.reply_told j) same.1 ∙ told') ∙ is'
+      sym is ∙ ap (heard_over back.Mach b op)
+      (sym told
+      ∙ ap (λ (x : mach_reply.Reply). mach_told.reply_told x used) same.0 ∙ ap (mach_told.reply_told j) same.1 ∙ told') ∙ is'
 
   mach_one_reply : IsOneReply o (RepliesOver back.Mach b op o) (ReplyStopsOver back.Mach b op o)
   mach_one_reply = record {
@@ -156,7 +159,8 @@ abbrev hearing : Head → Fate → Encoding → ℕ → Heard
 hearing h f e used = record { head = h; fate = f; encoding = e; used = used }
 
 heard_same : (ids : List (List ℕ)) (y : giop_reply.Reply) (used : ℕ) (r : ReplyHead) → giop_told.reply_told y used ≡ giop_told.reply_seen r
-    → hearing (giop_told.shared_head y.id true y.order) (giop_fate ids y.fate) (laid y.order) used ≡ hearing r.head (fate_of ids r.status) (laid r.head.order) r.used
+    → hearing (giop_told.shared_head y.id true y.order) (giop_fate ids y.fate) (laid y.order) used
+    ≡ hearing r.head (fate_of ids r.status) (laid r.head.order) r.used
 heard_same ids y used r e =
     let heads : giop_told.shared_head y.id true y.order ≡ r.head = ap (λ (x : giop_told.ToldReply). x.head) e in
     let fates : giop_fate ids y.fate ≡ fate_of ids r.status = fate_same ids r.status y.fate (ap (λ (x : giop_told.ToldReply). x.fate) e) in
@@ -182,17 +186,20 @@ module _ (b : Binding) (op : ℕ) (o : List ℕ) where
   xdr_read (Ok r) is h = over back.Xdr r is (r, (h r).0 refl, refl)
   xdr_read (Err e) is h = tt
 
-  pub xdr_faults : (x : Result ReplyHead HeadErr) → b.back ≡ back.Xdr → ((e : HeadErr) → (x ≡ Err e) ↔ xdr.StopsWith xdr.reply o e) → IfErr x (λ e. ReplyStops b op o e)
+  pub xdr_faults : (x : Result ReplyHead HeadErr) → b.back ≡ back.Xdr → ((e : HeadErr) → (x ≡ Err e) ↔ xdr.StopsWith xdr.reply o e)
+      → IfErr x (λ e. ReplyStops b op o e)
   xdr_faults (Ok r) is h = tt
   xdr_faults (Err e) is h = stops_over back.Xdr e is ((h e).0 refl)
 
-  giop_told_as : (k : Back) → IsCdr k → (r : ReplyHead) → giop_told.BeginsReply o (giop_told.reply_seen r) → RepliesOver k b op o (heard_over k b op r)
+  giop_told_as : (k : Back) → IsCdr k → (r : ReplyHead) → giop_told.BeginsReply o (giop_told.reply_seen r)
+      → RepliesOver k b op o (heard_over k b op r)
   giop_told_as back.CdrBig cdr r (y, used, starts, told) = (y, used, starts, heard_same (target_of b op).ids y used r told)
   giop_told_as back.CdrLittle cdr r (y, used, starts, told) = (y, used, starts, heard_same (target_of b op).ids y used r told)
   giop_told_as back.Xdr cdr r begins = absurd cc
   giop_told_as back.Mach cdr r begins = absurd cc
 
-  pub giop_read : (x : Result ReplyHead HeadErr) → IsCdr b.back → ((r : giop_told.ToldReply) → giop_told.Tells giop_told.reply_seen x r ↔ giop_told.BeginsReply o r)
+  pub giop_read : (x : Result ReplyHead HeadErr) → IsCdr b.back
+      → ((r : giop_told.ToldReply) → giop_told.Tells giop_told.reply_seen x r ↔ giop_told.BeginsReply o r)
       → IfOk x (λ r. BeginsReply b op o (heard b op r))
   giop_read (Ok r) cdr h = giop_told_as b.back cdr r ((h (giop_told.reply_seen r)).0 refl)
   giop_read (Err e) cdr h = tt
@@ -203,16 +210,19 @@ module _ (b : Binding) (op : ℕ) (o : List ℕ) where
   giop_stop back.Xdr cdr e stops = absurd cc
   giop_stop back.Mach cdr e stops = absurd cc
 
-  pub giop_faults : (x : Result ReplyHead HeadErr) → IsCdr b.back → ((e : HeadErr) → (x ≡ Err e) ↔ giop.StopsWith Replies o e) → IfErr x (λ e. ReplyStops b op o e)
+  pub giop_faults : (x : Result ReplyHead HeadErr) → IsCdr b.back → ((e : HeadErr) → (x ≡ Err e) ↔ giop.StopsWith Replies o e)
+      → IfErr x (λ e. ReplyStops b op o e)
   giop_faults (Ok r) cdr h = tt
   giop_faults (Err e) cdr h = giop_stop b.back cdr e ((h e).0 refl)
 
-  pub mach_read : (x : Result ReplyHead HeadErr) (id : ℕ) → b.back ≡ back.Mach → id ≡ reply_id b op → ((r : ReplyHead) → (x ≡ Ok r) ↔ mach_told.BeginsReply id o r)
+  pub mach_read : (x : Result ReplyHead HeadErr) (id : ℕ) → b.back ≡ back.Mach → id ≡ reply_id b op
+      → ((r : ReplyHead) → (x ≡ Ok r) ↔ mach_told.BeginsReply id o r)
       → IfOk x (λ r. BeginsReply b op o (heard b op r))
   mach_read (Ok r) id is own h = over back.Mach r is (r, subst (λ (n : ℕ). mach_told.BeginsReply n o r) own ((h r).0 refl), refl)
   mach_read (Err e) id is own h = tt
 
-  pub mach_faults : (x : Result ReplyHead HeadErr) (id : ℕ) → b.back ≡ back.Mach → id ≡ reply_id b op → ((e : HeadErr) → (x ≡ Err e) ↔ mach.StopsWith (mach.reply id) o e)
+  pub mach_faults : (x : Result ReplyHead HeadErr) (id : ℕ) → b.back ≡ back.Mach → id ≡ reply_id b op
+      → ((e : HeadErr) → (x ≡ Err e) ↔ mach.StopsWith (mach.reply id) o e)
       → IfErr x (λ e. ReplyStops b op o e)
   mach_faults (Ok r) id is own h = tt
   mach_faults (Err e) id is own h = stops_over back.Mach e is (subst (λ (n : ℕ). mach.StopsWith (mach.reply n) o e) own ((h e).0 refl))
@@ -223,7 +233,8 @@ module _ (b : Binding) (op : ℕ) (o : List ℕ) where
 long_over : (k : Back) (b : Binding) (op arm : ℕ) (head : Head) → 12 ≤ length (reply_lead_over k b op arm head)
 long_over back.Xdr b op arm head = omega arith
 long_over back.CdrBig b op arm head = omega (arith, reply_long Big (target_of b op) arm, reply_length Big (target_of b op) arm head.id)
-long_over back.CdrLittle b op arm head = omega (arith, reply_long Little (target_of b op) arm, reply_length Little (target_of b op) arm head.id)
+long_over back.CdrLittle b op arm head =
+    omega (arith, reply_long Little (target_of b op) arm, reply_length Little (target_of b op) arm head.id)
 long_over back.Mach b op arm head = omega arith
 
 pub long_reply_lead : (b : Binding) (op arm : ℕ) (head : Head) → 12 ≤ length (reply_lead_over b.back b op arm head)

@@ -36,7 +36,8 @@ use Rattle.flick_engine.specs.Fates.{Heard}
 
 -- a head that is sent is received as what it says, and its body follows it
 pub record IsReplyReceived (k : Back) (b : Binding) (op arm : ℕ) (head : Head) (t : Heard) : Type 0 where
-  pub begins : (rest : List ℕ) → length (reply_lead_over k b op arm head ++ rest) ≤ longest_message → RepliesOver k b op (sized k (reply_lead_over k b op arm head ++ rest)) t
+  pub begins : (rest : List ℕ) → length (reply_lead_over k b op arm head ++ rest) ≤ longest_message
+      → RepliesOver k b op (sized k (reply_lead_over k b op arm head ++ rest)) t
   pub follows : (rest : List ℕ) → drop t.used (sized k (reply_lead_over k b op arm head ++ rest)) ≡ rest
   pub used : t.used ≡ length (reply_lead_over k b op arm head)
   pub encoding : t.encoding ≡ encoding k
@@ -57,7 +58,13 @@ onc_answers id o fits =
       24,
       (
         omega (arith, length-append (answer_lead id) o),
-        rw first (word id, word 1 ++ (word 0 ++ (word 0 ++ (word 0 ++ word 0))), refl, (refl, fits), (word 1, word 0 ++ (word 0 ++ (word 0 ++ word 0)), refl, refl, fate)),
+        rw first (
+          word id,
+          word 1 ++ (word 0 ++ (word 0 ++ (word 0 ++ word 0))),
+          refl,
+          (refl, fits),
+          (word 1, word 0 ++ (word 0 ++ (word 0 ++ word 0)), refl, refl, fate),
+        ),
       ),
       refl,
     )
@@ -76,17 +83,20 @@ lead_octets r t (suc k) id = refl
 
 module _ (r : Order) (id : ℕ) (f : Fate) (body : List ℕ) (small : IsLong id) (is : IsFate f) where
   pub giop_begins : length (reply_octets r id f ++ body) - 12 < 2 ^ 32
-      → giop.BeginsWith Replies (with_size r (reply_octets r id f ++ body)) (record { order = r; id = id; fate = f }) (length (reply_octets r id f))
+      → giop.BeginsWith Replies (with_size r (reply_octets r id f ++ body)) (record { order = r; id = id; fate = f })
+      (length (reply_octets r id f))
   giop_begins fits =
       let t = reply_puts r id f small is (header_octets r 1) in
-      let P : ℕ → List ℕ → Type 0 = λ p o. Parts p o (λ a. ContextsSpell r p a tt) (λ q b. Parts q b (λ a. LongSpells r q a id) (λ s c. FateSpells r s c f)) in
+      let P : ℕ → List ℕ → Type 0 =
+      λ p o. Parts p o (λ a. ContextsSpell r p a tt) (λ q b. Parts q b (λ a. LongSpells r q a id) (λ s c. FateSpells r s c f)) in
       let all : reply_octets r id f ≡ header_octets r 1 ++ t.0 = replied r id f ∙ t.1 in
       rw all (within Replies r 1 t.0 body P t.2 refl, begins Replies r 1 t.0 body P t.2 refl (rw all at fits))
 
   pub giop_follows : drop (length (reply_octets r id f)) (with_size r (reply_octets r id f ++ body)) ≡ body
   giop_follows =
       let t = reply_puts r id f small is (header_octets r 1) in
-      let P : ℕ → List ℕ → Type 0 = λ p o. Parts p o (λ a. ContextsSpell r p a tt) (λ q b. Parts q b (λ a. LongSpells r q a id) (λ s c. FateSpells r s c f)) in
+      let P : ℕ → List ℕ → Type 0 =
+      λ p o. Parts p o (λ a. ContextsSpell r p a tt) (λ q b. Parts q b (λ a. LongSpells r q a id) (λ s c. FateSpells r s c f)) in
       let all : reply_octets r id f ≡ header_octets r 1 ++ t.0 = replied r id f ∙ t.1 in
       rw all (rest Replies r 1 t.0 body P t.2 refl)
 
@@ -129,18 +139,39 @@ mach_follows id remote body = refl
 
 -- ---- each back end
 
-received_over : (k : Back) (b : Binding) (op arm : ℕ) (head : Head) (t : Heard) → TellsOver k b op arm head t → IsReplyReceived k b op arm head t
+received_over : (k : Back) (b : Binding) (op arm : ℕ) (head : Head) (t : Heard) → TellsOver k b op arm head t
+    → IsReplyReceived k b op arm head t
 received_over back.Xdr b op arm head t (fits, is) = record {
   begins = λ rest few. (answer_of head.id, onc_answers head.id rest fits, is);
   follows = λ rest. ap (λ (x : Heard). drop x.used (answer_lead head.id ++ rest)) (sym is) ∙ drop_at (answer_lead head.id) rest 24 refl;
   used = ap (λ (x : Heard). x.used) (sym is);
   encoding = ap (λ (x : Heard). x.encoding) (sym is);
 }
-received_over back.CdrBig b op arm head t tells = record { begins = in_order_begins Big b op arm head t tells; follows = in_order_follows Big b op arm head t tells; used = in_order_used Big b op arm head t tells; encoding = in_order_laid Big b op arm head t tells }
-received_over back.CdrLittle b op arm head t tells = record { begins = in_order_begins Little b op arm head t tells; follows = in_order_follows Little b op arm head t tells; used = in_order_used Little b op arm head t tells; encoding = in_order_laid Little b op arm head t tells }
+received_over back.CdrBig b op arm head t tells =
+    record {
+      begins = in_order_begins Big b op arm head t tells;
+      follows = in_order_follows Big b op arm head t tells;
+      used =
+          in_order_used Big b op arm head t tells;
+      encoding = in_order_laid Big b op arm head t tells;
+    }
+received_over back.CdrLittle b op arm head t tells =
+    record {
+      begins = in_order_begins Little b op arm head t tells;
+      follows = in_order_follows Little b op arm head t tells;
+      used =
+          in_order_used Little b op arm head t tells;
+      encoding = in_order_laid Little b op arm head t tells;
+    }
 received_over back.Mach b op arm head t (ports, is) = record {
-  begins = λ rest few. (mach_laws.reply_of head.remote Answer, mach_sent.answers_read (routine_of b op) head rest ports (omega (arith, few)), is);
-  follows = λ rest. ap (λ (x : Heard). drop x.used (sized back.Mach (reply_lead_over back.Mach b op arm head ++ rest))) (sym is) ∙ mach_follows (routine_of b op).id head.remote rest;
+  begins =
+      λ rest few.
+      (mach_laws.reply_of head.remote Answer, mach_sent.answers_read (routine_of b op) head rest ports (omega (arith, few)), is);
+  follows =
+      λ rest.
+      ap (λ (x : Heard).
+      drop x.used (sized back.Mach (reply_lead_over back.Mach b op arm head ++ rest))) (sym is)
+      ∙ mach_follows (routine_of b op).id head.remote rest;
   used = ap (λ (x : Heard). x.used) (sym is);
   encoding = ap (λ (x : Heard). x.encoding) (sym is);
 }

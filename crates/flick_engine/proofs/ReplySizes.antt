@@ -16,4 +16,6 @@ module _ (b : Binding) (op k : ℕ) (head : Head) where
 
   -- to tell the length changes none
   pub as_long_arm : (w : Val) → length (arm_message b op k head w) ≡ length (arm_parts b op k head w)
-  as_long_arm w = same_length b.back (arm_parts b op k head w) (long_reply (send (encoding b.back) (arm_type b op k) (length (reply_lead b op k head)) w))
+  as_long_arm w =
+      same_length b.back (arm_parts b op k head w)
+      (long_reply (send (encoding b.back) (arm_type b op k) (length (reply_lead b op k head)) w))

@@ -22,10 +22,12 @@ reply_in x = x.reply
 
 first_replies : (fs : List Face) (k : Back) (n : ℕ) (i : PlainInterface)
     → map reply_in (map (offer fs k n) (operations k i)) ≡ map (reply_at fs) (map (λ (p : PlainOperation). (i, p)) (operations k i))
-first_replies fs k n i = map-map reply_in (offer fs k n) (operations k i) ∙ sym (map-map (reply_at fs) (λ (p : PlainOperation). (i, p)) (operations k i))
+first_replies fs k n i = map-map reply_in (offer fs k n) (operations k i)
+    ∙ sym (map-map (reply_at fs) (λ (p : PlainOperation). (i, p)) (operations k i))
 
 -- what comes back from the operations that are offered
-replies : (fs : List Face) (k : Back) (n : ℕ) (is : List PlainInterface) → map reply_in (offers_from fs k n is) ≡ map (reply_at fs) (operations_in k is)
+replies : (fs : List Face) (k : Back) (n : ℕ) (is : List PlainInterface) → map reply_in (offers_from fs k n is)
+    ≡ map (reply_at fs) (operations_in k is)
 replies fs k n [] = refl
 replies fs k n (i ∷ is) =
     map-append reply_in (map (offer fs k n) (operations k i)) (offers_from fs k (suc n) is)

@@ -64,11 +64,15 @@ silence = None
 module _ (b : Binding) (work : ℕ → Val → Val → Type 0) (o : List ℕ) where
   pub stopped : {E : Type 0} (r : Result Served E) (d : List ℕ) (e : HeadErr) → IsShort o → Stops b.back o e
       → IfOk r (λ s. AnswersFault b.back b o e (reply_in s d)) → IfOk r (λ s. Serves b work o (reply_in s d))
-  stopped r d e short stops h = IfOk-weaker r (λ s. AnswersFault b.back b o e (reply_in s d)) (λ s. Serves b work o (reply_in s d)) (λ s a. inr (inl (short, e, stops, a))) h
+  stopped r d e short stops h =
+      IfOk-weaker r (λ s. AnswersFault b.back b o e (reply_in s d)) (λ s. Serves b work o (reply_in s d)) (λ s a.
+      inr (inl (short, e, stops, a))) h
 
   pub begun : {E : Type 0} (r : Result Served E) (d : List ℕ) (c : Called) → IsShort o → Begins b o c
       → IfOk r (λ s. ServesCall b work o c (reply_in s d)) → IfOk r (λ s. Serves b work o (reply_in s d))
-  begun r d c short begins h = IfOk-weaker r (λ s. ServesCall b work o c (reply_in s d)) (λ s. Serves b work o (reply_in s d)) (λ s a. inr (inr (short, c, begins, a))) h
+  begun r d c short begins h =
+      IfOk-weaker r (λ s. ServesCall b work o c (reply_in s d)) (λ s. Serves b work o (reply_in s d)) (λ s a.
+      inr (inr (short, c, begins, a))) h
 
   pub answered : (c : Called) (x : Option (List ℕ)) (t : Bool) → is_answered b c ≡ t → t ≡ true → AnswersCall b work o c x
       → ServesCall b work o c x
@@ -104,7 +108,9 @@ module _ (r : Order) (o : List ℕ) (e : HeadErr) (t : Bool) (is : t ≡ is_pass
   passed_over shown = subst (λ (z : Bool). None ≡ (if z then None else Some (header_octets r 6))) (sym (sym is ∙ shown)) refl
 
   pub told_wrong : (d : List ℕ) → t ≡ false → d ≡ header_octets r 6 → Some d ≡ giop_answer r o e
-  told_wrong d shown same = subst (λ (z : Bool). Some d ≡ (if z then None else Some (header_octets r 6))) (sym (sym is ∙ shown)) (ap (λ (x : List ℕ). Some x) same)
+  told_wrong d shown same =
+      subst
+      (λ (z : Bool). Some d ≡ (if z then None else Some (header_octets r 6))) (sym (sym is ∙ shown)) (ap (λ (x : List ℕ). Some x) same)
 
 -- ---- replies that refuse
 
@@ -115,4 +121,6 @@ module _ {A E : Type 0} (r : Result A E) (b : Binding) (o : List ℕ) (head : He
   pub mach_refuses : (call : MachCall) → b.back ≡ back.Mach → BeginsCall o call → OnOk r (mach.refusal_octets call.id head.remote why ≡ x)
       → OnOk r (RefusesOver b.back o head why x)
   mach_refuses call is begins h =
-      refuses_by back.Mach is (IfOk-weaker r (λ _. mach.refusal_octets call.id head.remote why ≡ x) (λ _. RefusesOver back.Mach o head why x) (λ u e. (call, begins, e)) h)
+      refuses_by back.Mach is
+      (IfOk-weaker r (λ _. mach.refusal_octets call.id head.remote why ≡ x) (λ _. RefusesOver back.Mach o head why x) (λ u e.
+      (call, begins, e)) h)

@@ -74,9 +74,12 @@ module _ (r : Order) (b : Binding) (o : List ℕ) where
   one_other x y (inl (id, key, begins, is)) (inl (m, s, begins', is')) =
       let same = same_search id m key s (one_giop o (sought id key) (sought m s) begins begins') in
       is ∙ ap (λ (n : ℕ). located n key) same.0 ∙ ap (located m) same.1 ∙ sym is'
-  one_other x y (inl (id, key, (h, used, begins, told), is)) (inr (e, stops, is')) = absurd (giop_lawful.not_both Asks o h used e begins stops)
-  one_other x y (inr (e, stops, is)) (inl (id, key, (h, used, begins, told), is')) = absurd (giop_lawful.not_both Asks o h used e begins stops)
-  one_other x y (inr (e, stops, is)) (inr (d, stops', is')) = is ∙ ap (giop_answer r o) (giop_lawful.one_fault Asks o e d stops stops') ∙ sym is'
+  one_other x y (inl (id, key, (h, used, begins, told), is)) (inr (e, stops, is')) =
+      absurd (giop_lawful.not_both Asks o h used e begins stops)
+  one_other x y (inr (e, stops, is)) (inl (id, key, (h, used, begins, told), is')) =
+      absurd (giop_lawful.not_both Asks o h used e begins stops)
+  one_other x y (inr (e, stops, is)) (inr (d, stops', is')) = is ∙ ap (giop_answer r o) (giop_lawful.one_fault Asks o e d stops stops')
+      ∙ sym is'
 
 one_answer_over : (k : Back) (b : Binding) (o : List ℕ) (e : HeadErr) (x y : Option (List ℕ)) → AnswersFault k b o e x
     → AnswersFault k b o e y → x ≡ y
@@ -151,8 +154,10 @@ module _ (b : Binding) (work : ℕ → Val → Val) (o : List ℕ) where
   once x y (inr (inl (short, e, stops, answers))) (inr (inl (short', d, stops', answers'))) =
       let same : d ≡ e = (one_head b o).one_fault d e stops' stops in
       one_answer_over b.back b o e x y answers (subst (λ (z : HeadErr). AnswersFault b.back b o z y) same answers')
-  once x y (inr (inl (short, e, stops, answers))) (inr (inr (short', c, begins, serves))) = absurd ((one_head b o).not_both c e begins stops)
-  once x y (inr (inr (short, c, begins, serves))) (inr (inl (short', e, stops, answers))) = absurd ((one_head b o).not_both c e begins stops)
+  once x y (inr (inl (short, e, stops, answers))) (inr (inr (short', c, begins, serves))) =
+      absurd ((one_head b o).not_both c e begins stops)
+  once x y (inr (inr (short, c, begins, serves))) (inr (inl (short', e, stops, answers))) =
+      absurd ((one_head b o).not_both c e begins stops)
   once x y (inr (inr (short, c, begins, serves))) (inr (inr (short', d, begins', serves'))) =
       let same : d ≡ c = (one_head b o).one_head d c begins' begins in
       called_once (is_answered b c) c x y serves (subst (λ (z : Called). ServesCall b (gives work) o z y) same serves')
@@ -214,7 +219,9 @@ module _ (b : Binding) (work : ℕ → Val → Val) (o : List ℕ) (c : Called) 
       (x, (w, is, refuses))
   answer_as head (Ok r) =
       let w : Val = work r.op r.value in
-      let (x, replies) = reply head r.op w (above_or_not longest_message (length (reply_message b r.op head w)) (nat_lt longest_message (length (reply_message b r.op head w))) refl) in
+      let (x, replies) =
+      reply head r.op w (above_or_not longest_message (length (reply_message b r.op head w))
+      (nat_lt longest_message (length (reply_message b r.op head w))) refl) in
       (x, (w, refl, replies))
 
   call_somehow : (t : Bool) (r : Result Asked MessageErr) → ReadCall b o r
@@ -238,4 +245,5 @@ module _ (b : Binding) (work : ℕ → Val → Val) (made : IsMade b.back) (soun
   sized_so (inr short) = headed short (has_head b made o oct)
 
 pub served_somehow : IsServingSomething
-served_somehow b work made sound o oct = sized_so b work made sound o oct (above_or_not longest_message (length o) (nat_lt longest_message (length o)) refl)
+served_somehow b work made sound o oct =
+    sized_so b work made sound o oct (above_or_not longest_message (length o) (nat_lt longest_message (length o)) refl)

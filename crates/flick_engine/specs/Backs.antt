@@ -75,7 +75,8 @@ AsksByName i p o = (t : ToldRequest) × BeginsRequest o t × (i.name ≡ t.key) 
 
 -- a message begins with the head of a call that asks for this operation of this interface
 abbrev pub AsksFor : Back → PlainInterface → PlainOperation → List ℕ → Type 0
-AsksFor back.Xdr i p o = (c : OncCall) × BeginsCall o c × (called_by c ≡ record { program = i.program; version = i.version; number = p.proc_no })
+AsksFor back.Xdr i p o = (c : OncCall) × BeginsCall o c
+    × (called_by c ≡ record { program = i.program; version = i.version; number = p.proc_no })
 AsksFor back.CdrBig i p o = AsksByName i p o
 AsksFor back.CdrLittle i p o = AsksByName i p o
 AsksFor back.Mach i p o = (c : MachCall) × mach_told.BeginsCall o c × ((routine_in i p).id ≡ c.id)
@@ -95,10 +96,12 @@ abbrev pub SaysByName : Order → Binding → ℕ → Head → Called → Type 0
 SaysByName r b op head c = IsRequest (request_of (target_of b op) head.id) × (cdr_seeking.called b (told_of r (target_of b op) head.id) ≡ c)
 
 abbrev pub SaysOver : Back → Binding → ℕ → Head → Called → Type 0
-SaysOver back.Xdr b op head c = IsWord head.id × AreWords (procedure_of b op) × (xdr_seeking.called b (call_of (procedure_of b op) head.id) ≡ c)
+SaysOver back.Xdr b op head c = IsWord head.id × AreWords (procedure_of b op)
+    × (xdr_seeking.called b (call_of (procedure_of b op) head.id) ≡ c)
 SaysOver back.CdrBig b op head c = SaysByName Big b op head c
 SaysOver back.CdrLittle b op head c = SaysByName Little b op head c
-SaysOver back.Mach b op head c = IsWord (routine_of b op).id × HasPorts head × (mach_seeking.called b (mach_laws.call_of (routine_of b op) head) ≡ c)
+SaysOver back.Mach b op head c = IsWord (routine_of b op).id × HasPorts head
+    × (mach_seeking.called b (mach_laws.call_of (routine_of b op) head) ≡ c)
 
 -- the head of an operation's call, whose numbers fit, says this
 abbrev pub Says : Binding → ℕ → Head → Called → Type 0

@@ -44,7 +44,8 @@ ReadCall b o (Err err.NoOperation) = (c : Called) × Names b o c NoOperation
 ReadCall b o (Err (err.Body f)) = Calls b o (λ c op. bodies.Stops c.encoding (request_type b op) c.used (drop c.used o) f.kind f.at)
 -- they begin with a value's, and others follow at the place
 ReadCall b o (Err (err.Trailing at)) = Calls b o (λ c op.
-    (v : Val) × (used : ℕ) × FirstSpell c.encoding (request_type b op) c.used (drop c.used o) v used × (at ≡ c.used + used) × (at < length o))
+    (v : Val) × (used : ℕ) × FirstSpell c.encoding (request_type b op) c.used (drop c.used o) v used × (at ≡ c.used + used)
+    × (at < length o))
 -- they are a value's
 ReadCall b o (Ok r) = Calls b o (λ c op.
     (r.op ≡ op) × (r.head ≡ c.head) × IsSpelling c.encoding (request_type b op) c.used (drop c.used o) r.value)

@@ -114,7 +114,8 @@ fn position_in(buf: &SendBuf) -> Result<usize, MarshalErr>
 fn put_body(body: &[u8], buf: &mut SendBuf) -> Result<(), MarshalErr>
     requires few { length buf.old.done ≤ longest_message }
     ensures ok { OnOk result (buf.new.done ≡ buf.old.done ++ body.now) }
-    ensures long { (result ≡ Err MarshalErr.Long) ↔ (longest_message < length buf.old.done + length body.now) }
+    ensures long { (result ≡ Err MarshalErr.Long)
+        ↔ (longest_message < length buf.old.done + length body.now) }
     ensures spent { NoneFell buf.old.spent buf.new.spent }
 {
     let position = buf.octets().len();

@@ -89,7 +89,8 @@ impl Engine {
         requires empty { buf.old.done ≡ [] }
         ensures ok { OnOk result (buf.new.done
             ≡ arm_message self.now.binding op arm head.now (seen value.now)) }
-        ensures short { OnOk result (IsShort (arm_message self.now.binding op arm head.now (seen value.now))) }
+        ensures short { OnOk result
+            (IsShort (arm_message self.now.binding op arm head.now (seen value.now))) }
         ensures long { (result ≡ Err MarshalErr.Long)
             → longest_message < length (arm_message self.now.binding op arm head.now (seen value.now)) }
         ensures spent { NoneFell buf.old.spent buf.new.spent }

@@ -27,7 +27,8 @@ impl Engine {
         ensures read { Answers self.now.binding view.old.octets result }
         ensures op { IfOk result (λ r. r.op < length self.now.binding.ops) }
         ensures typed { IfOk result (λ r. IsWellTyped (request_type self.now.binding r.op) (seen r.value)) }
-        ensures code { IfOk result (λ r. IsReadByCode self.now.binding r.op (seen r.value) view.old view.new) }
+        ensures code { IfOk result (λ r.
+            IsReadByCode self.now.binding r.op (seen r.value) view.old view.new) }
     {
         self.read_message(alloc, view.rest(), view)
     }
@@ -44,7 +45,8 @@ impl Engine {
         ensures read { Answers self.now.binding message.now result }
         ensures op { IfOk result (λ r. r.op < length self.now.binding.ops) }
         ensures typed { IfOk result (λ r. IsWellTyped (request_type self.now.binding r.op) (seen r.value)) }
-        ensures code { IfOk result (λ r. IsReadByCode self.now.binding r.op (seen r.value) view.old view.new) }
+        ensures code { IfOk result (λ r.
+            IsReadByCode self.now.binding r.op (seen r.value) view.old view.new) }
     {
         match self.begin(message) {
             Ok((called, op)) => self.read_body(alloc, op, &called, message, view),
@@ -89,7 +91,8 @@ impl Engine {
         ensures read { Answers self.now.binding message.now result }
         ensures op { IfOk result (λ r. r.op < length self.now.binding.ops) }
         ensures typed { IfOk result (λ r. IsWellTyped (request_type self.now.binding r.op) (seen r.value)) }
-        ensures code { IfOk result (λ r. IsReadByCode self.now.binding r.op (seen r.value) view.old view.new) }
+        ensures code { IfOk result (λ r.
+            IsReadByCode self.now.binding r.op (seen r.value) view.old view.new) }
     {
         bodies_are_taken();
         pass_head(called.used, view);
@@ -127,8 +130,12 @@ impl Engine {
     ) -> Result<Request, MessageErr>
         requires op { op < length self.now.binding.ops }
         requires names { Names self.now.binding message.now called.now (Naming.Operation op) }
-        requires value { (v : Val) (used : ℕ) → IsValue read v used ↔ FirstSpell called.now.encoding (request_type self.now.binding op) called.now.used (drop called.now.used message.now) v used }
-        requires stop { (k : FaultKind) (at : ℕ) → IsStop read k at ↔ Stops called.now.encoding (request_type self.now.binding op) called.now.used (drop called.now.used message.now) k at }
+        requires value { (v : Val) (used : ℕ) → IsValue read v used
+            ↔ FirstSpell called.now.encoding (request_type self.now.binding op) called.now.used
+            (drop called.now.used message.now) v used }
+        requires stop { (k : FaultKind) (at : ℕ) → IsStop read k at
+            ↔ Stops called.now.encoding (request_type self.now.binding op) called.now.used
+            (drop called.now.used message.now) k at }
         ensures read { Answers self.now.binding message.now result }
         ensures op { IfOk result (λ r. r.op < length self.now.binding.ops) }
         ensures typed { IfOk result (λ r. IsWellTyped (request_type self.now.binding r.op) (seen r.value)) }

@@ -104,10 +104,12 @@ impl Engine {
         requires says { Says self.now.binding op message.now (heard self.now.binding op reply.now)
             (fates.Arm arm) }
         requires value { (v : Val) (used : ℕ) → IsValue read v used
-            ↔ FirstSpell (encoding_by self.now.binding.back reply.now.head.order) (arm_type self.now.binding op arm)
+            ↔ FirstSpell (encoding_by self.now.binding.back reply.now.head.order)
+            (arm_type self.now.binding op arm)
             reply.now.used (drop reply.now.used message.now) v used }
         requires stop { (k : FaultKind) (at : ℕ) → IsStop read k at
-            ↔ Stops (encoding_by self.now.binding.back reply.now.head.order) (arm_type self.now.binding op arm)
+            ↔ Stops (encoding_by self.now.binding.back reply.now.head.order)
+            (arm_type self.now.binding op arm)
             reply.now.used (drop reply.now.used message.now) k at }
         ensures ok { IfOk result (λ w. IsExactlyReply self.now.binding op message.now
             (Ok (record { head = reply.now.head; came = answered (values.arm (pos arm) (seen w)) }))) }

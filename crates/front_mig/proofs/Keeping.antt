@@ -141,7 +141,14 @@ operations_grow : (low high few many : ℕ) (os : List PlainOperation) → low �
     → OperationsAre high many os
 operations_grow low high few many [] le more h = tt
 operations_grow low high few many (o ∷ os) le more h = (
-  record { ins = members_grow low high o.ins le h.0.ins; outs = members_grow low high o.outs le h.0.outs; result = h.0.result; raises = h.0.raises; slot = omega (arith, h.0.slot, more) },
+  record {
+    ins = members_grow low high o.ins le h.0.ins;
+    outs = members_grow low high o.outs le h.0.outs;
+    result = h.0.result;
+    raises =
+        h.0.raises;
+    slot = omega (arith, h.0.slot, more);
+  },
   operations_grow low high few many os le more h.1,
 )
 
@@ -184,7 +191,13 @@ type_added base s name shape tag is simple =
 form_added : (base : ℕ) (s : State) (name : List ℕ) (f : Form) → StateIs base s → FormIs (length s.types) f
     → StateIs base (with_form name f s)
 form_added base s name F.Port is one =
-    record { types = is.types; scope = scope_join (length s.types) s.scope ((name, M.Port) ∷ []) is.scope (tt, tt); ops = is.ops; ids = is.ids }
+    record {
+      types = is.types;
+      scope = scope_join (length s.types) s.scope ((name, M.Port) ∷ []) is.scope (tt, tt);
+      ops = is.ops;
+      ids =
+          is.ids;
+    }
 form_added base s name (F.Data x) is one = type_added base s name (shape_of_use x) (tag_of_use x) is (shape_simple (length s.types) x one)
 form_added base s name (F.Row x c) is one =
     type_added base s name (array (shape_of_use x) c) tag.Other is (and_from _ _ one.1 (shape_datum (length s.types) x one.0))
@@ -193,7 +206,8 @@ type_keeps : (base d : ℕ) (s out : State) (name : List ℕ) (t : TypeForm) →
 type_keeps base d s out name t is h =
     let a = then_ok (refused Twice d (is_declared name s.scope)) _ out h in
     let f = then_ok (form s.scope d t) _ out a.rest in
-    subst (StateIs base) (ok_same (with_form name f.given s) out f.rest) (form_added base s name f.given is (form_is (length s.types) s.scope d t f.given is.scope f.first))
+    subst (StateIs base) (ok_same (with_form name f.given s) out f.rest)
+    (form_added base s name f.given is (form_is (length s.types) s.scope d t f.given is.scope f.first))
 
 pub not_false : (b : Bool) → not b ≡ false → b ≡ true
 not_false true h = refl
@@ -229,10 +243,13 @@ routine_keeps base d s out r is h =
     let are = parameters_are (length s.types) s.scope d r.simple r.parameters f.given is.scope f.first in
     let o = operation (length s.ops) s.slots r.name r.simple f.given.0 f.given.1 in
     let next : State = record s { slots = s.slots + 1 } in
-    let fits : OperationIs (length s.types) (s.slots + 1) o = record { ins = are.0; outs = are.1; result = refl; raises = refl; slot = omega arith } in
+    let fits : OperationIs (length s.types) (s.slots + 1) o =
+    record { ins = are.0; outs = are.1; result = refl; raises = refl; slot = omega arith } in
     let whole : length s.types ≤ length s.types = omega arith in
     let more : s.slots ≤ s.slots + 1 = omega arith in
-    let ops = operations_push (length s.types) (s.slots + 1) s.ops o (operations_grow (length s.types) (length s.types) s.slots (s.slots + 1) s.ops whole more is.ops) fits in
+    let ops =
+    operations_push (length s.types) (s.slots + 1) s.ops o
+    (operations_grow (length s.types) (length s.types) s.slots (s.slots + 1) s.ops whole more is.ops) fits in
     let made : StateIs base (with_routine r.name o next) = record { types = is.types; scope = is.scope; ops = ops; ids = one.ids } in
     subst (StateIs base) (ap (with_routine r.name o) (sym one.same) ∙ ok_same (with_routine r.name o b.given) out f.rest) made
 

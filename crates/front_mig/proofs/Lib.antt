@@ -1,5 +1,12 @@
+-- The proofs, each after those that it uses; * marks those that the proofs of functions use.
+
+-- Files worked out by hand
 mod Rows
+-- * Names in a map of indexmap, as lists
 pub mod Tables
+-- What names stand for, and the types that are made of them, over so many types of the unit
 pub mod Standing
+-- Every statement keeps what makes a unit sound
 pub mod Keeping
+-- * The unit of a file is sound
 pub mod Whole

@@ -125,7 +125,8 @@ found_is limit d (Some n) m h g = subst (MeaningIs limit) (ok_same n m g) h
 pub type_is : (limit : ℕ) (scope : Scope) (d : ℕ) (name : List ℕ) (m : Meaning) → ScopeIs limit scope → type_of scope d name ≡ Ok m
     → MeaningIs limit m
 type_is limit scope d name m is h =
-    found_is limit d (meaning_in name (scope ++ known)) m (found_at limit (scope ++ known) name (scope_join limit scope known is (known_is limit))) h
+    found_is limit d (meaning_in name (scope ++ known)) m
+    (found_at limit (scope ++ known) name (scope_join limit scope known is (known_is limit))) h
 
 pub data_is : (limit d : ℕ) (m : Meaning) (x : Use) → MeaningIs limit m → data_in d m ≡ Ok x → DataIs limit x
 data_is limit d M.Port x is h = absurd cc
@@ -165,7 +166,9 @@ row_is limit scope d e name r is h =
     let c = then_ok (numbers_in d b.given) _ r b.rest in
     let x = then_ok (data_in d b.given) _ c.given c.first in
     let k = then_ok (kind_in d (tag_of_use x.given)) _ c.given x.rest in
-    let used : DataIs limit c.given = subst (DataIs limit) (ok_same x.given c.given k.rest) (data_is limit d b.given x.given (type_is limit scope d name b.given is b.first) x.first) in
+    let used : DataIs limit c.given =
+    subst (DataIs limit) (ok_same x.given c.given k.rest)
+    (data_is limit d b.given x.given (type_is limit scope d name b.given is b.first) x.first) in
     let made : ℕ × Use = (a.given, c.given) in
     subst (RowIs limit) (ok_same made r c.rest) (used, natural_low 1 d a.given v.given v.rest)
 

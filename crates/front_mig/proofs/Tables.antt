@@ -22,7 +22,8 @@ module _ {K : Type 0} (items : K → List ℕ) where
       → is_some (lookup (λ k. bytes_eq name (items k)) es) ≡ is_declared name (plain es)
   declared_map name [] = refl
   declared_map name (e ∷ es) =
-      some_either (bytes_eq name (items e.0)) e.1 (lookup (λ k. bytes_eq name (items k)) es) ∙ ap (λ z. bytes_eq name (items e.0) || z) (declared_map name es)
+      some_either (bytes_eq name (items e.0)) e.1
+      (lookup (λ k. bytes_eq name (items k)) es) ∙ ap (λ z. bytes_eq name (items e.0) || z) (declared_map name es)
 
   pub meaning_map : (name : List ℕ) (es : List (K × Meaning)) → lookup (λ k. bytes_eq name (items k)) es ≡ meaning_in name (plain es)
   meaning_map name [] = refl
@@ -64,6 +65,7 @@ pub meaning_after : (name : List ℕ) (scope back : Scope) → meaning_in name s
     → meaning_in name (scope ++ back) ≡ meaning_in name back
 meaning_after name [] back h = refl
 meaning_after name (e ∷ es) back h =
-    after_by (bytes_eq name e.0) e.1 (meaning_in name es) (meaning_in name (es ++ back)) (meaning_in name back) (meaning_after name es back) h
+    after_by (bytes_eq name e.0) e.1 (meaning_in name es) (meaning_in name (es ++ back)) (meaning_in name back)
+    (meaning_after name es back) h
 
 pub ruleset joined = (meaning_here, meaning_after)

@@ -27,7 +27,8 @@ operation_sound : (types : List Shape) (slots : ℕ) (o : PlainOperation) → Op
 operation_sound types slots o is =
     let ins = members_sound types (length types) o.ins is.ins in
     let outs = members_sound types (length types) o.outs is.outs in
-    let result : or_void o.result (is_sound_type types (length types) o.result) ≡ true = ap (λ z. or_void z (is_sound_type types (length types) z)) is.result in
+    let result : or_void o.result (is_sound_type types (length types) o.result)
+    ≡ true = ap (λ z. or_void z (is_sound_type types (length types) z)) is.result in
     let few : nat_le (length o.raises) 4095 ≡ true = ap (λ (z : List PlainRaise). nat_le (length z) 4095) is.raises in
     let raises : list_all (is_sound_plain_raise types) o.raises ≡ true = ap (list_all (is_sound_plain_raise types)) is.raises in
     and_from _ _ (and_from _ _ (and_from _ _ (and_from _ _ (and_from _ _ ins outs) result) few) raises) (lt-ltb o.slot slots is.slot)
@@ -41,7 +42,8 @@ state_sound : (name : List ℕ) (base : ℕ) (s : State) → StateIs base s → 
 state_sound name base s is =
     let view : List ℕ × Shape → Shape = λ t. t.1 in
     let types = types_sound (shapes_of s) 0 (shapes_of s) is.types in
-    let ops : OperationsAre (length (shapes_of s)) s.slots s.ops = subst (λ z. OperationsAre z s.slots s.ops) (sym (length-map s.types view)) is.ops in
+    let ops : OperationsAre (length (shapes_of s)) s.slots s.ops =
+    subst (λ z. OperationsAre z s.slots s.ops) (sym (length-map s.types view)) is.ops in
     and_from _ _ types (and_from _ _ (and_from _ _ is.ids (operations_sound (shapes_of s) s.slots s.ops ops)) refl)
 
 base_fits : (d : ℕ) (e : Tree) (base : ℕ) → base_of d e ≡ Ok base → ids_fit base 0 ≡ true
@@ -56,7 +58,10 @@ resolved_sound tree u h =
     let a = then_ok (base_of 1 tree.base) _ u h in
     let b = then_ok (stated_on a.given 1 start tree.statements) _ u a.rest in
     let first : StateIs a.given start = record { types = tt; scope = tt; ops = tt; ids = base_fits 1 tree.base a.given a.first } in
-    subst (λ z. is_sound_plain z ≡ true) (ok_same (unit_of tree.name a.given b.given) u b.rest) (state_sound tree.name a.given b.given (statements_keep a.given 1 start b.given tree.statements first b.first))
+    subst
+    (λ z.
+    is_sound_plain z ≡ true) (ok_same (unit_of tree.name a.given b.given) u b.rest)
+    (state_sound tree.name a.given b.given (statements_keep a.given 1 start b.given tree.statements first b.first))
 
 -- what is made of a state after statements is sound, if it is made
 pub made_sound : (e : Tree) (base : ℕ) (name : List ℕ) (list : List Statement) (s0 s : State) (r : Result Parts NameErr)

@@ -46,11 +46,13 @@ pub form_sound : (types : List Shape) (labels : List (ℕ × ℤ)) (scope : Scop
 form_sound types labels scope d taken (D.Plain t n) f s h =
     let a = then_ok (type_use scope d t) _ f h in
     let b = then_ok (refused Twice d taken) _ f a.rest in
-    subst (Sound types) (ok_same (F.Plain a.given) f b.rest) (use_sound types labels a.given (type_use_is types labels scope d t a.given s a.first))
+    subst (Sound types) (ok_same (F.Plain a.given) f b.rest)
+    (use_sound types labels a.given (type_use_is types labels scope d t a.given s a.first))
 form_sound types labels scope d taken (D.Pointer t n) f s h =
     let a = then_ok (type_use scope d t) _ f h in
     let b = then_ok (refused Twice d taken) _ f a.rest in
-    subst (Sound types) (ok_same (F.Optional a.given) f b.rest) (use_sound types labels a.given (type_use_is types labels scope d t a.given s a.first))
+    subst (Sound types) (ok_same (F.Optional a.given) f b.rest)
+    (use_sound types labels a.given (type_use_is types labels scope d t a.given s a.first))
 form_sound types labels scope d taken (D.Array t n v) f s h =
     let a = then_ok (type_use scope d t) _ f h in
     let b = then_ok (refused Twice d taken) _ f a.rest in
@@ -79,13 +81,17 @@ form_sound types labels scope d taken (D.Text n v) f s h =
 -- what a form that was not refused says of its name
 pub form_free : (scope : Scope) (d : ℕ) (taken : Bool) (decl : Decl) (f : Form) → form scope d taken decl ≡ Ok f → taken ≡ false
 form_free scope d taken (D.Plain t n) f h =
-    let a = then_ok (type_use scope d t) _ f h in let b = then_ok (refused Twice d taken) _ f a.rest in refused_ok Twice d taken b.given b.first
+    let a = then_ok (type_use scope d t) _ f h in let b = then_ok (refused Twice d taken) _ f a.rest in refused_ok Twice d taken b.given
+    b.first
 form_free scope d taken (D.Pointer t n) f h =
-    let a = then_ok (type_use scope d t) _ f h in let b = then_ok (refused Twice d taken) _ f a.rest in refused_ok Twice d taken b.given b.first
+    let a = then_ok (type_use scope d t) _ f h in let b = then_ok (refused Twice d taken) _ f a.rest in refused_ok Twice d taken b.given
+    b.first
 form_free scope d taken (D.Array t n v) f h =
-    let a = then_ok (type_use scope d t) _ f h in let b = then_ok (refused Twice d taken) _ f a.rest in refused_ok Twice d taken b.given b.first
+    let a = then_ok (type_use scope d t) _ f h in let b = then_ok (refused Twice d taken) _ f a.rest in refused_ok Twice d taken b.given
+    b.first
 form_free scope d taken (D.List t n v) f h =
-    let a = then_ok (type_use scope d t) _ f h in let b = then_ok (refused Twice d taken) _ f a.rest in refused_ok Twice d taken b.given b.first
+    let a = then_ok (type_use scope d t) _ f h in let b = then_ok (refused Twice d taken) _ f a.rest in refused_ok Twice d taken b.given
+    b.first
 form_free scope d taken (D.OpaqueArray n v) f h = let b = then_ok (refused Twice d taken) _ f h in refused_ok Twice d taken b.given b.first
 form_free scope d taken (D.OpaqueList n v) f h = let b = then_ok (refused Twice d taken) _ f h in refused_ok Twice d taken b.given b.first
 form_free scope d taken (D.Text n v) f h = let b = then_ok (refused Twice d taken) _ f h in refused_ok Twice d taken b.given b.first
@@ -95,11 +101,13 @@ form_free scope d taken (D.Text n v) f h = let b = then_ok (refused Twice d take
 pub members_are : (types : List Shape) (labels : List (ℕ × ℤ)) (scope : Scope) (d : ℕ) (fields out : List Field) (ms : List Member)
     → ScopeIs types labels scope → FieldsAre types fields → members_on scope d fields ms ≡ Ok out
     → FieldsAre types out × (is_some_list fields ≡ true → is_some_list out ≡ true)
-members_are types labels scope d fields out [] s are h = (subst (FieldsAre types) (ok_same fields out h) are, λ some. subst (λ z. is_some_list z ≡ true) (ok_same fields out h) some)
+members_are types labels scope d fields out [] s are h =
+    (subst (FieldsAre types) (ok_same fields out h) are, λ some. subst (λ z. is_some_list z ≡ true) (ok_same fields out h) some)
 members_are types labels scope d fields out (m ∷ ms) s are h =
     let taken = has (name_of m.decl) (map (λ f. f.0) fields) in
     let a = then_ok (form scope d taken m.decl) _ out h in
-    let next = fields_push types fields (name_of m.decl) (shape a.given) are (form_free scope d taken m.decl a.given a.first) (form_sound types labels scope d taken m.decl a.given s a.first) in
+    let next = fields_push types fields (name_of m.decl) (shape a.given) are (form_free scope d taken m.decl a.given a.first)
+    (form_sound types labels scope d taken m.decl a.given s a.first) in
     let rest = members_are types labels scope d (fields ++ (name_of m.decl, shape a.given) ∷ []) out ms s next a.rest in
     (rest.0, λ _. rest.1 (some_push fields (name_of m.decl, shape a.given)))
 
@@ -110,5 +118,6 @@ members_some types labels scope d out [] s some h = absurd cc
 members_some types labels scope d out (m ∷ ms) s some h =
     let taken = has (name_of m.decl) [] in
     let a = then_ok (form scope d taken m.decl) _ out h in
-    let next = fields_push types [] (name_of m.decl) (shape a.given) (record { different = refl; sound = refl }) refl (form_sound types labels scope d taken m.decl a.given s a.first) in
+    let next = fields_push types [] (name_of m.decl) (shape a.given) (record { different = refl; sound = refl }) refl
+    (form_sound types labels scope d taken m.decl a.given s a.first) in
     (members_are types labels scope d ((name_of m.decl, shape a.given) ∷ []) out ms s next a.rest).1 refl

@@ -56,7 +56,14 @@ counted_is : (s : State) → StateIs s → StateIs (counted s)
 counted_is s is = record { types = is.types; scope = is.scope; labels = is.labels; interfaces = is.interfaces }
 
 declared_is : (name : List ℕ) (m : Meaning) (s : State) → StateIs s → MeaningIs (shapes_of s) s.labels m → StateIs (declared name m s)
-declared_is name m s is means = record { types = is.types; scope = scope_push (shapes_of s) s.labels s.scope (name, m) is.scope means; labels = is.labels; interfaces = is.interfaces }
+declared_is name m s is means =
+    record {
+      types = is.types;
+      scope = scope_push (shapes_of s) s.labels s.scope (name, m) is.scope means;
+      labels =
+          is.labels;
+      interfaces = is.interfaces;
+    }
 
 -- ---- one more type
 
@@ -77,8 +84,10 @@ typed_is name new t s take =
     let count : length (old ++ new ∷ []) ≡ length old + 1 = length-append old (new ∷ []) in
     let place : length s.types ≡ length old = sym (length-map s.types (λ t. t.1)) in
     let below : length s.types < length (old ++ new ∷ []) = omega (arith, count, place) in
-    let tagged : TagIs (old ++ new ∷ []) s.labels (length s.types) t = subst (λ z. TagIs (old ++ new ∷ []) s.labels z t) (sym place) take.tag in
-    let whole : ScopeIs (old ++ new ∷ []) s.labels (s.scope ++ (name, M.Type (Declared (length s.types) t)) ∷ []) = scope_push (old ++ new ∷ []) s.labels s.scope _ take.scope (below, tagged) in
+    let tagged : TagIs (old ++ new ∷ []) s.labels (length s.types) t =
+    subst (λ z. TagIs (old ++ new ∷ []) s.labels z t) (sym place) take.tag in
+    let whole : ScopeIs (old ++ new ∷ []) s.labels (s.scope ++ (name, M.Type (Declared (length s.types) t)) ∷ []) =
+    scope_push (old ++ new ∷ []) s.labels s.scope _ take.scope (below, tagged) in
     record {
       types = rw grown (types_push old new take.types take.sound);
       scope = rw grown whole;
@@ -107,12 +116,17 @@ form_tagged : (types : List Shape) (labels : List (ℕ × ℤ)) (scope : Scope) 
 form_tagged types labels scope d taken (L.Plain t n) f is h =
     let a = then_ok (type_use scope d t) _ f h in
     let b = then_ok (refused Twice d taken) _ f a.rest in
-    subst (λ f. TagIs (types ++ shape f ∷ []) labels (length types) (tag_of f)) (ok_same (F.Plain a.given) f b.rest) (use_tagged types labels a.given (type_use_is types labels scope d t a.given is a.first))
+    subst
+    (λ f.
+    TagIs (types ++ shape f ∷ []) labels (length types) (tag_of f)) (ok_same (F.Plain a.given) f b.rest)
+    (use_tagged types labels a.given (type_use_is types labels scope d t a.given is a.first))
 form_tagged types labels scope d taken (L.Array t n v) f is h =
-    let a = then_ok (type_use scope d t) _ f h in let b = then_ok (refused Twice d taken) _ f a.rest in let c = then_ok (exactly scope d v) _ f b.rest in
+    let a = then_ok (type_use scope d t) _ f h in let b = then_ok (refused Twice d taken) _ f a.rest in let c =
+    then_ok (exactly scope d v) _ f b.rest in
     subst (λ f. TagIs (types ++ shape f ∷ []) labels (length types) (tag_of f)) (ok_same (F.Array a.given c.given) f c.rest) tt
 form_tagged types labels scope d taken (L.List t n v) f is h =
-    let a = then_ok (type_use scope d t) _ f h in let b = then_ok (refused Twice d taken) _ f a.rest in let c = then_ok (at_most scope d v) _ f b.rest in
+    let a = then_ok (type_use scope d t) _ f h in let b = then_ok (refused Twice d taken) _ f a.rest in let c =
+    then_ok (at_most scope d v) _ f b.rest in
     subst (λ f. TagIs (types ++ shape f ∷ []) labels (length types) (tag_of f)) (ok_same (F.Array a.given c.given) f c.rest) tt
 form_tagged types labels scope d taken (L.Pointer t n) f is h =
     let a = then_ok (type_use scope d t) _ f h in let b = then_ok (refused Twice d taken) _ f a.rest in
@@ -134,8 +148,10 @@ typedef_is d s out decl is h =
     let taken = is_declared (name_of decl) s.scope in
     let a = then_ok (form s.scope d taken decl) _ out h in
     let f = a.given in
-    let take = takes s (shape f) (tag_of f) is (form_sound (shapes_of s) s.labels s.scope d taken decl f is.scope a.first) (form_tagged (shapes_of s) s.labels s.scope d taken decl f is.scope a.first) in
-    subst StateIs (ok_same (with_type (name_of decl) (shape f) (tag_of f) s) out a.rest) (typed_is (name_of decl) (shape f) (tag_of f) s take)
+    let take = takes s (shape f) (tag_of f) is (form_sound (shapes_of s) s.labels s.scope d taken decl f is.scope a.first)
+    (form_tagged (shapes_of s) s.labels s.scope d taken decl f is.scope a.first) in
+    subst StateIs (ok_same (with_type (name_of decl) (shape f) (tag_of f) s) out a.rest)
+    (typed_is (name_of decl) (shape f) (tag_of f) s take)
 
 struct_is : (d : ℕ) (s out : State) (name : List ℕ) (members : List Member) → StateIs s → is_some_list members ≡ true
     → struct_on d s name members ≡ Ok out
@@ -143,7 +159,9 @@ struct_is : (d : ℕ) (s out : State) (name : List ℕ) (members : List Member) 
 struct_is d s out name members is some h =
     let a = then_ok (refused Twice d (is_declared name s.scope)) _ out h in
     let b = then_ok (members_on s.scope d [] members) _ out a.rest in
-    let are = (members_are (shapes_of s) s.labels s.scope d [] b.given members is.scope (record { different = refl; sound = refl }) b.first).0 in
+    let are =
+    (members_are (shapes_of s) s.labels s.scope d [] b.given members is.scope (record { different = refl; sound = refl }) b.first).0
+    in
     let there = members_some (shapes_of s) s.labels s.scope d b.given members is.scope some b.first in
     let new = structure (members_of b.given) in
     let take = takes s new tag.Other is (struct_sound (shapes_of s) b.given are there) tt in
@@ -188,13 +206,18 @@ enum_takes : (s t : State) (k : ℕ) (items : List (List ℕ × ℤ)) → StateI
 enum_takes s t k items is place are some =
     let new = enumeration items in
     let same : shapes_of t ≡ shapes_of s = ap (λ (z : List (List ℕ × Shape)). map (λ t. t.1) z) are.types in
-    let fewer : FewerBelow (length (shapes_of s)) s.labels t.labels = λ j n lt h. sym (are.labels.others j n (λ e. omega (arith, lt, e, place))) ∙ h in
-    let old : ScopeIs (shapes_of s ++ new ∷ []) t.labels s.scope = scope_grow (shapes_of s) (new ∷ []) s.labels t.labels s.scope fewer is.scope in
+    let fewer : FewerBelow (length (shapes_of s)) s.labels t.labels =
+    λ j n lt h. sym (are.labels.others j n (λ e. omega (arith, lt, e, place))) ∙ h in
+    let old : ScopeIs (shapes_of s ++ new ∷ []) t.labels s.scope = scope_grow (shapes_of s) (new ∷ []) s.labels t.labels s.scope fewer
+    is.scope in
     let count : length (shapes_of s ++ new ∷ []) ≡ length (shapes_of s) + 1 = length-append (shapes_of s) (new ∷ []) in
     let tagged : EnumIs (shapes_of s ++ new ∷ []) t.labels (length (shapes_of s)) k = record {
       below = omega (arith, count, place);
       items = items;
-      ends = λ n le. ap (unfolded n (shapes_of s ++ new ∷ []) (length (shapes_of s))) (last_is (shapes_of s) new) ∙ enum_ends n (shapes_of s ++ new ∷ []) (length (shapes_of s)) items;
+      ends =
+          λ n le.
+          ap (unfolded n (shapes_of s ++ new ∷ []) (length (shapes_of s))) (last_is (shapes_of s) new)
+          ∙ enum_ends n (shapes_of s ++ new ∷ []) (length (shapes_of s)) items;
       numbers = λ n h. items_turned items n ∙ sym (are.labels.own n) ∙ h;
     } in
     let whole = scope_join (shapes_of s ++ new ∷ []) t.labels s.scope _ old (constants_are (shapes_of s ++ new ∷ []) t.labels items) in
@@ -203,7 +226,9 @@ enum_takes s t k items is place are some =
       sound = enum_sound k (length s.labels) s t items are some;
       scope = rw (same, are.scope) whole;
       tag = rw same tagged;
-      labels = λ j n lt. let lt' = subst (λ z. length z < j) same lt in are.labels.others j n (λ e. omega (arith, lt', e, place)) ∙ is.labels j n (omega (arith, lt'));
+      labels =
+          λ j n lt. let lt' = subst (λ z. length z < j) same lt in are.labels.others j n (λ e.
+          omega (arith, lt', e, place)) ∙ is.labels j n (omega (arith, lt'));
       interfaces = rw (same, are.interfaces) is.interfaces;
     }
 
@@ -218,7 +243,8 @@ enum_is d s out name list is some h =
     let are = (items_are d k (length s.labels) s s [] None list b.given first b.first).0 in
     let there = items_some d k (length s.labels) s list b.given first some b.first in
     let take = enum_takes s b.given.0 k b.given.1 is place are there in
-    subst StateIs (ok_same (with_type name (enumeration b.given.1) (tag.Enum k) b.given.0) out b.rest) (typed_is name (enumeration b.given.1) (tag.Enum k) b.given.0 take)
+    subst StateIs (ok_same (with_type name (enumeration b.given.1) (tag.Enum k) b.given.0) out b.rest)
+    (typed_is name (enumeration b.given.1) (tag.Enum k) b.given.0 take)
 
 const_is : (d : ℕ) (s out : State) (name : List ℕ) (v : Value) → StateIs s → const_on d s name v ≡ Ok out → StateIs out
 const_is d s out name v is h =
@@ -245,7 +271,8 @@ program_is d s out name list v is h =
     let c = then_ok number _ out b.rest in
     let none : Offers s s = record { scope = refl; labels = refl; types = refl; interfaces = is.interfaces } in
     let offers = versions_are name (given number) [] s s b.given list is.scope none b.first in
-    subst StateIs (ok_same (declared name M.Program b.given) out c.rest) (declared_is name M.Program b.given (offers_is s b.given is offers) tt)
+    subst StateIs (ok_same (declared name M.Program b.given) out c.rest)
+    (declared_is name M.Program b.given (offers_is s b.given is offers) tt)
 
 -- ---- the file
 

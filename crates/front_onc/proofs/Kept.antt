@@ -20,7 +20,8 @@ not_behind name [] n m a b = or_from _ _ b refl
 not_behind name (e ∷ es) n m a b = let h = or_parts _ _ a in or_from _ _ h.0 (not_behind name es n m h.1 b)
 
 pub label_scope : (d k place : ℕ) (s t : State) (n : ℤ) → with_label d k place s n ≡ Ok t → t.scope ≡ s.scope
-label_scope d k place s t n h = let x = then_ok (labelled d k place s.labels n) _ t h in ap (λ z. z.scope) (sym (ok_same (record s { labels = x.given }) t x.rest))
+label_scope d k place s t n h = let x =
+    then_ok (labelled d k place s.labels n) _ t h in ap (λ z. z.scope) (sym (ok_same (record s { labels = x.given }) t x.rest))
 
 pub item_keeps : (name : List ℕ) (d k place : ℕ) (s : State) (previous : Option ℤ) (i : Item) (r : State × ℤ)
     → item_on d k place s previous i ≡ Ok r → is_declared name s.scope ≡ false → bytes_eq name i.name ≡ false

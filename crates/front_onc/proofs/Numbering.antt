@@ -59,7 +59,8 @@ none_of_them : (scope : Scope) (items : List Item_) (name : List ℕ)
     → is_declared name (scope ++ map (λ i. (i.0, Constant i.1)) items) ≡ false
     → has name (names items) ≡ false
 none_of_them [] [] name h = refl
-none_of_them [] (i ∷ items) name h = let parts = or_parts (bytes_eq name i.0) _ h in or_from _ _ parts.0 (none_of_them [] items name parts.1)
+none_of_them [] (i ∷ items) name h = let parts =
+    or_parts (bytes_eq name i.0) _ h in or_from _ _ parts.0 (none_of_them [] items name parts.1)
 none_of_them (e ∷ scope) items name h = let parts = or_parts (bytes_eq name e.0) _ h in none_of_them scope items name parts.1
 
 added : {A : Type 0} (xs ys : List A) (z : A) → (xs ++ ys) ++ z ∷ [] ≡ xs ++ (ys ++ z ∷ [])
@@ -84,9 +85,19 @@ item_added d k place s t items previous i r are h =
       types = l.types ∙ are.types;
       interfaces = l.interfaces ∙ are.interfaces;
       versions = l.versions ∙ are.versions;
-      scope = ap (λ z. z ++ (i.name, Constant c.given) ∷ []) (l.scope ∙ are.scope) ∙ added s.scope (map f items) (f last) ∙ ap (λ z. s.scope ++ z) (sym (append_map f items last));
-      labels = subst (LabelsAre k place s.labels e.given.labels) (sym (append_map (λ (i : Item_). i.1) items last)) (labels_added k place s.labels t.labels e.given.labels (numbers items) c.given are.labels l.labels);
-      different = subst (λ z. are_distinct z ≡ true) (sym (append_map (λ (i : Item_). i.0) items last)) (distinct_push (names items) i.name are.different free);
+      scope =
+          ap (λ z. z ++ (i.name, Constant c.given) ∷ []) (l.scope ∙ are.scope) ∙ added s.scope (map f items) (f last) ∙ ap (λ z.
+          s.scope ++ z) (sym (append_map f items last));
+      labels =
+          subst (LabelsAre k place s.labels e.given.labels)
+          (sym (append_map
+          (λ (i : Item_).
+          i.1) items last)) (labels_added k place s.labels t.labels e.given.labels (numbers items) c.given are.labels l.labels);
+      different =
+          subst
+          (λ z.
+          are_distinct z ≡ true)
+          (sym (append_map (λ (i : Item_). i.0) items last)) (distinct_push (names items) i.name are.different free);
     })
 
 pub items_are : (d k place : ℕ) (s t : State) (items : List Item_) (previous : Option ℤ) (list : List Item) (r : State × List Item_)
@@ -94,11 +105,15 @@ pub items_are : (d k place : ℕ) (s t : State) (items : List Item_) (previous :
     → ItemsAre k place s r.0 r.1 × (is_some_list items ≡ true → is_some_list r.1 ≡ true)
 items_are d k place s t items previous [] r are h =
     let here : State × List Item_ = (t, items) in
-    let same = ok_same here r h in
-    (subst (λ (r : State × List Item_). ItemsAre k place s r.0 r.1) same are, λ some. subst (λ (r : State × List Item_). is_some_list r.1 ≡ true) same some)
+    let same = ok_same here r h in (
+      subst (λ (r : State × List Item_). ItemsAre k place s r.0 r.1) same are,
+      λ some.
+          subst (λ (r : State × List Item_). is_some_list r.1 ≡ true) same some,
+    )
 items_are d k place s t items previous (i ∷ list) r are h =
     let a = then_ok (item_on d k place t previous i) _ r h in
-    let rest = items_are d k place s a.given.0 (items ++ (i.name, a.given.1) ∷ []) (Some a.given.1) list r (item_added d k place s t items previous i a.given are a.first) a.rest in
+    let rest = items_are d k place s a.given.0 (items ++ (i.name, a.given.1) ∷ []) (Some a.given.1) list r
+    (item_added d k place s t items previous i a.given are a.first) a.rest in
     (rest.0, λ _. rest.1 (some_push items (i.name, a.given.1)))
 
 pub items_some : (d k place : ℕ) (s : State) (list : List Item) (r : State × List Item_) → ItemsAre k place s s []
@@ -107,7 +122,8 @@ pub items_some : (d k place : ℕ) (s : State) (list : List Item) (r : State × 
 items_some d k place s [] r are some h = absurd cc
 items_some d k place s (i ∷ list) r are some h =
     let a = then_ok (item_on d k place s None i) _ r h in
-    (items_are d k place s a.given.0 ((i.name, a.given.1) ∷ []) (Some a.given.1) list r (item_added d k place s s [] None i a.given are a.first) a.rest).1 refl
+    (items_are d k place s a.given.0 ((i.name, a.given.1) ∷ []) (Some a.given.1) list r
+    (item_added d k place s s [] None i a.given are a.first) a.rest).1 refl
 
 pub enum_sound : (k place : ℕ) (s t : State) (items : List Item_) → ItemsAre k place s t items → is_some_list items ≡ true
     → is_sound_enum items ≡ true

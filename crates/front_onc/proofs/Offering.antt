@@ -51,7 +51,8 @@ simple_sound types limit (named k) h = h
 pub members_sound : (types : List Shape) (limit : ℕ) (ms : Members) → are_simple limit ms ≡ true → are_sound types limit ms ≡ true
 members_sound types limit no_more h = refl
 members_sound types limit (member n s ms) h =
-    let parts = and_parts (is_simple limit s) (are_simple limit ms) h in and_from _ _ (simple_sound types limit s parts.0) (members_sound types limit ms parts.1)
+    let parts = and_parts (is_simple limit s) (are_simple limit ms) h in and_from _ _ (simple_sound types limit s parts.0)
+    (members_sound types limit ms parts.1)
 
 pub simple_grow : (low high : ℕ) (s : Shape) → low ≤ high → is_simple low s ≡ true → is_simple high s ≡ true
 simple_grow low high void le h = absurd cc
@@ -67,7 +68,8 @@ simple_grow low high (named k) le h = let lt = ltb-true k low h in lt-ltb k high
 pub members_grow : (low high : ℕ) (ms : Members) → low ≤ high → are_simple low ms ≡ true → are_simple high ms ≡ true
 members_grow low high no_more le h = refl
 members_grow low high (member n s ms) le h =
-    let parts = and_parts (is_simple low s) (are_simple low ms) h in and_from _ _ (simple_grow low high s le parts.0) (members_grow low high ms le parts.1)
+    let parts = and_parts (is_simple low s) (are_simple low ms) h in and_from _ _ (simple_grow low high s le parts.0)
+    (members_grow low high ms le parts.1)
 
 use_simple : (types : List Shape) (labels : List (ℕ × ℤ)) (u : Use) → UseIs types labels u
     → is_simple (length types) (shape_of_use u) ≡ true
@@ -85,7 +87,8 @@ result_is types labels scope d P.Void s is h = inl (sym (ok_same void s h))
 result_is types labels scope d P.Text s is h = inr (subst (λ z. is_simple (length types) z ≡ true) (ok_same (text Any) s h) refl)
 result_is types labels scope d (P.Plain t) s is h =
     let a = then_ok (type_use scope d t) _ s h in
-    inr (subst (λ z. is_simple (length types) z ≡ true) (ok_same (shape_of_use a.given) s a.rest) (use_simple types labels a.given (type_use_is types labels scope d t a.given is a.first)))
+    inr (subst (λ z. is_simple (length types) z ≡ true) (ok_same (shape_of_use a.given) s a.rest)
+    (use_simple types labels a.given (type_use_is types labels scope d t a.given is a.first)))
 
 parameter_is : (types : List Shape) (labels : List (ℕ × ℤ)) (scope : Scope) (d : ℕ) (t : ProcType) (s : Shape)
     → ScopeIs types labels scope → parameter scope d t ≡ Ok s
@@ -94,7 +97,10 @@ parameter_is types labels scope d P.Void s is h = absurd cc
 parameter_is types labels scope d P.Text s is h = subst (λ z. is_simple (length types) z ≡ true) (ok_same (text Any) s h) refl
 parameter_is types labels scope d (P.Plain t) s is h =
     let a = then_ok (type_use scope d t) _ s h in
-    subst (λ z. is_simple (length types) z ≡ true) (ok_same (shape_of_use a.given) s a.rest) (use_simple types labels a.given (type_use_is types labels scope d t a.given is a.first))
+    subst
+    (λ z.
+    is_simple (length types) z ≡ true) (ok_same (shape_of_use a.given) s a.rest)
+    (use_simple types labels a.given (type_use_is types labels scope d t a.given is a.first))
 
 abbrev Field : Type 0
 Field = List ℕ × Shape
@@ -102,15 +108,19 @@ Field = List ℕ × Shape
 simple_push : (limit : ℕ) (fields : List Field) (f : Field) → are_simple limit (members_of fields) ≡ true → is_simple limit f.1 ≡ true
     → are_simple limit (members_of (fields ++ f ∷ [])) ≡ true
 simple_push limit [] f a b = and_from _ _ b refl
-simple_push limit (g ∷ fields) f a b = let parts = and_parts (is_simple limit g.1) (are_simple limit (members_of fields)) a in and_from _ _ parts.0 (simple_push limit fields f parts.1 b)
+simple_push limit (g ∷ fields) f a b = let parts = and_parts (is_simple limit g.1) (are_simple limit (members_of fields)) a in and_from _
+    _ parts.0 (simple_push limit fields f parts.1 b)
 
 parameters_are : (types : List Shape) (labels : List (ℕ × ℤ)) (scope : Scope) (d : ℕ) (fields out : List Field) (list : List ProcType)
     → ScopeIs types labels scope → are_simple (length types) (members_of fields) ≡ true → parameters_on scope d fields list ≡ Ok out
     → are_simple (length types) (members_of out) ≡ true
-parameters_are types labels scope d fields out [] is are h = subst (λ z. are_simple (length types) (members_of z) ≡ true) (ok_same fields out h) are
+parameters_are types labels scope d fields out [] is are h =
+    subst (λ z. are_simple (length types) (members_of z) ≡ true) (ok_same fields out h) are
 parameters_are types labels scope d fields out (p ∷ list) is are h =
     let a = then_ok (parameter scope d p) _ out h in
-    parameters_are types labels scope d (fields ++ (argument (length fields + 1), a.given) ∷ []) out list is (simple_push (length types) fields (argument (length fields + 1), a.given) are (parameter_is types labels scope d p a.given is a.first)) a.rest
+    parameters_are types labels scope d (fields ++ (argument (length fields + 1), a.given) ∷ []) out list is
+    (simple_push (length types) fields (argument (length fields + 1), a.given) are
+    (parameter_is types labels scope d p a.given is a.first)) a.rest
 
 abbrev fields_given : List Field → Answer (List Field)
 fields_given f = Ok f
@@ -124,7 +134,8 @@ by_void false limit rest out f h = f h
 ins_are : (types : List Shape) (labels : List (ℕ × ℤ)) (scope : Scope) (d : ℕ) (out : List Field) (list : List ProcType)
     → ScopeIs types labels scope → parameters scope d list ≡ Ok out
     → are_simple (length types) (members_of out) ≡ true
-ins_are types labels scope d out list is h = by_void (is_void list) (length types) (parameters_on scope d [] list) out (λ h. parameters_are types labels scope d [] out list is refl h) h
+ins_are types labels scope d out list is h = by_void (is_void list) (length types) (parameters_on scope d [] list) out
+    (λ h. parameters_are types labels scope d [] out list is refl h) h
 
 -- ---- operations
 
@@ -146,8 +157,17 @@ result_grow low high s le (inr h) = inr (simple_grow low high s le h)
 operations_grow : (low high few many : ℕ) (os : List PlainOperation) → low ≤ high → few ≤ many → OperationsAre low few os
     → OperationsAre high many os
 operations_grow low high few many [] le more h = tt
-operations_grow low high few many (o ∷ os) le more h =
-    (record { ins = members_grow low high o.ins le h.0.ins; outs = h.0.outs; result = result_grow low high o.result le h.0.result; raises = h.0.raises; slot = omega (arith, h.0.slot, more) }, operations_grow low high few many os le more h.1)
+operations_grow low high few many (o ∷ os) le more h = (
+  record {
+    ins = members_grow low high o.ins le h.0.ins;
+    outs = h.0.outs;
+    result =
+        result_grow low high o.result le h.0.result;
+    raises = h.0.raises;
+    slot = omega (arith, h.0.slot, more);
+  },
+  operations_grow low high few many os le more h.1,
+)
 
 operations_push : (limit slots : ℕ) (os : List PlainOperation) (o : PlainOperation) → OperationsAre limit slots os
     → OperationIs limit slots o
@@ -184,7 +204,9 @@ procedure_added types labels scope d ps out p is are h =
       slot = omega (arith, count);
     } in
     let whole : ProceduresAre (length types) (ps.ops ++ o ∷ []) = record {
-      ops = operations_push (length types) _ ps.ops o (operations_grow (length types) (length types) (length ps.ops) _ ps.ops same more are.ops) one;
+      ops =
+          operations_push (length types) _ ps.ops o
+          (operations_grow (length types) (length types) (length ps.ops) _ ps.ops same more are.ops) one;
       few = omega (arith, count, room);
     } in
     subst (λ (z : Procedures). ProceduresAre (length types) z.ops) (ok_same made out g.rest) whole
@@ -211,8 +233,10 @@ procedures_are s0 s ps [] r is same are h =
 procedures_are s0 s ps (p ∷ list) r is same are h =
     let a = then_ok (procedure_on s.scope (s.count + 1) ps p) _ r h in
     let scope = subst (ScopeIs (shapes_of s0) s0.labels) (sym same.scope) is in
-    let next : Same s0 (counted s) = record { scope = same.scope; labels = same.labels; types = same.types; interfaces = same.interfaces; versions = same.versions } in
-    procedures_are s0 (counted s) a.given list r is next (procedure_added (shapes_of s0) s0.labels s.scope (s.count + 1) ps a.given p scope are a.first) a.rest
+    let next : Same s0 (counted s) =
+    record { scope = same.scope; labels = same.labels; types = same.types; interfaces = same.interfaces; versions = same.versions } in
+    procedures_are s0 (counted s) a.given list r is next
+    (procedure_added (shapes_of s0) s0.labels s.scope (s.count + 1) ps a.given p scope are a.first) a.rest
 
 operations_are : (s : State) (list : List Procedure) (r : State × List PlainOperation)
     → ScopeIs (shapes_of s) s.labels s.scope → operations s list ≡ Ok r
@@ -236,7 +260,10 @@ InterfacesAre limit (i ∷ is) = InterfaceIs limit i × InterfacesAre limit is
 
 pub interfaces_grow : (low high : ℕ) (is : List PlainInterface) → low ≤ high → InterfacesAre low is → InterfacesAre high is
 interfaces_grow low high [] le h = tt
-interfaces_grow low high (i ∷ is) le h = (record { ids = h.0.ids; ops = operations_grow low high i.slots i.slots i.ops le (omega arith) h.0.ops }, interfaces_grow low high is le h.1)
+interfaces_grow low high (i ∷ is) le h = (
+  record { ids = h.0.ids; ops = operations_grow low high i.slots i.slots i.ops le (omega arith) h.0.ops },
+  interfaces_grow low high is le h.1,
+)
 
 interfaces_push : (limit : ℕ) (is : List PlainInterface) (i : PlainInterface) → InterfacesAre limit is → InterfaceIs limit i
     → InterfacesAre limit (is ++ i ∷ [])
@@ -256,7 +283,14 @@ version_out : (d : ℕ) (program : List ℕ) (number : Option ℕ) (name : List 
     → Offers s out
 version_out d program None name version ops s t out same room are ps h =
     let next : State = record t { versions = t.versions + 1 } in
-    subst (Offers s) (ok_same next out h) (record { scope = same.scope; labels = same.labels; types = same.types; interfaces = subst (InterfacesAre (length (shapes_of s))) (sym same.interfaces) are })
+    subst (Offers s) (ok_same next out h)
+    (record {
+      scope = same.scope;
+      labels = same.labels;
+      types = same.types;
+      interfaces =
+          subst (InterfacesAre (length (shapes_of s))) (sym same.interfaces) are;
+    })
 version_out d program (Some n) name version ops s t out same room are ps h =
     let i = interface t.versions program n name version ops in
     let a = then_ok (refused Twice d (list_any (λ j. are_twins j i) t.interfaces)) _ out h in
@@ -266,7 +300,9 @@ version_out d program (Some n) name version ops s t out same room are ps h =
       scope = same.scope;
       labels = same.labels;
       types = same.types;
-      interfaces = interfaces_push (length (shapes_of s)) t.interfaces i (subst (InterfacesAre (length (shapes_of s))) (sym same.interfaces) are) one;
+      interfaces =
+          interfaces_push (length (shapes_of s)) t.interfaces i (subst (InterfacesAre (length (shapes_of s))) (sym same.interfaces) are)
+          one;
     })
 
 version_is : (d : ℕ) (program : List ℕ) (given_ : Option ℕ) (names : List (List ℕ)) (s out : State) (v : Version)
@@ -293,5 +329,13 @@ versions_are program given_ names s0 s out (v ∷ list) is offers h =
     let scope' : ScopeIs (shapes_of s) s.labels s.scope = rw (offers.labels, offers.types) scope in
     let are : InterfacesAre (length (shapes_of s)) s.interfaces = rw offers.types offers.interfaces in
     let one = version_is (s.count + 1) program given_ names (counted s) a.given v scope' are a.first in
-    let next : Offers s0 a.given = record { scope = one.scope ∙ offers.scope; labels = one.labels ∙ offers.labels; types = one.types ∙ offers.types; interfaces = subst (λ (z : List (List ℕ × Shape)). InterfacesAre (length (map (λ t. t.1) z)) a.given.interfaces) offers.types one.interfaces } in
+    let next : Offers s0 a.given =
+    record {
+      scope = one.scope ∙ offers.scope;
+      labels = one.labels ∙ offers.labels;
+      types = one.types ∙ offers.types;
+      interfaces =
+          subst
+          (λ (z : List (List ℕ × Shape)). InterfacesAre (length (map (λ t. t.1) z)) a.given.interfaces) offers.types one.interfaces;
+    } in
     versions_are program given_ (names ++ v.name ∷ []) s0 a.given out list is next a.rest

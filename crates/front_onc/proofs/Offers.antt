@@ -28,13 +28,16 @@ offer_ok d i h now unit r x twice ok is view =
     let none : list_any (λ j. are_twins j (plain_interface i)) (map plain_interface h.unit.interfaces) ≡ false =
     twins i h.unit.interfaces ∙ not_true (is_twice i h.unit.interfaces) (λ t. let no = sym ok ∙ twice.1 t in absurd cc) in
     let here : offered d (plain_interface i) (state h) ≡ Ok (state (record h { unit = unit; versions = h.versions + 1 })) =
-    rw (none, is) (ap (λ z. Ok (record (state h) { interfaces = z; versions = h.versions + 1 })) (sym (append_map plain_interface h.unit.interfaces i))) in
+    rw (none, is)
+    (ap (λ z.
+    Ok (record (state h) { interfaces = z; versions = h.versions + 1 })) (sym (append_map plain_interface h.unit.interfaces i))) in
     ap (λ z. offered d (plain_interface i) (state z)) (sym view) ∙ here
 
 pub offer_twice : (d : ℕ) (i : Interface) (h now : Held) (r : Result (Unit {0}) UnitErr)
     → (r ≡ Err err.Twice) ↔ (is_twice i h.unit.interfaces ≡ true) → r ≡ Err err.Twice → h ≡ now
     → offered d (plain_interface i) (state now) ≡ fault Twice d
 offer_twice d i h now r twice is view =
-    let some : list_any (λ j. are_twins j (plain_interface i)) (map plain_interface h.unit.interfaces) ≡ true = twins i h.unit.interfaces ∙ twice.0 is in
+    let some : list_any
+    (λ j. are_twins j (plain_interface i)) (map plain_interface h.unit.interfaces) ≡ true = twins i h.unit.interfaces ∙ twice.0 is in
     let here : offered d (plain_interface i) (state h) ≡ fault Twice d = rw some refl in
     ap (λ z. offered d (plain_interface i) (state z)) (sym view) ∙ here

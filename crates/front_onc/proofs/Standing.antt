@@ -34,7 +34,8 @@ pub scope_grow : (types more : List Shape) (labels labels' : List (ℕ × ℤ)) 
     → FewerBelow (length types) labels labels' → ScopeIs types labels scope
     → ScopeIs (types ++ more) labels' scope
 scope_grow types more labels labels' [] fewer h = tt
-scope_grow types more labels labels' (e ∷ es) fewer h = (meaning_grow types more labels labels' e.1 fewer h.0, scope_grow types more labels labels' es fewer h.1)
+scope_grow types more labels labels' (e ∷ es) fewer h =
+    (meaning_grow types more labels labels' e.1 fewer h.0, scope_grow types more labels labels' es fewer h.1)
 
 pub scope_push : (types : List Shape) (labels : List (ℕ × ℤ)) (scope : Scope) (e : List ℕ × Meaning)
     → ScopeIs types labels scope → MeaningIs types labels e.1
@@ -57,7 +58,8 @@ meaning_here types labels false m o h r = r
 pub meaning_at : (types : List Shape) (labels : List (ℕ × ℤ)) (scope : Scope) (name : List ℕ) → ScopeIs types labels scope
     → MeaningAt types labels (meaning_of name scope)
 meaning_at types labels [] name h = tt
-meaning_at types labels (e ∷ es) name h = meaning_here types labels (bytes_eq name e.0) e.1 (meaning_of name es) h.0 (meaning_at types labels es name h.1)
+meaning_at types labels (e ∷ es) name h = meaning_here types labels (bytes_eq name e.0) e.1 (meaning_of name es) h.0
+    (meaning_at types labels es name h.1)
 
 use_at : (types : List Shape) (labels : List (ℕ × ℤ)) (d : ℕ) (o : Option Meaning) (u : Use) → MeaningAt types labels o → use_of d o ≡ Ok u
     → UseIs types labels u
@@ -73,4 +75,5 @@ pub type_use_is : (types : List Shape) (labels : List (ℕ × ℤ)) (scope : Sco
 type_use_is types labels scope d (T.Int unsigned word) u s h = subst (UseIs types labels) (ok_same _ u h) tt
 type_use_is types labels scope d T.Unsigned u s h = subst (UseIs types labels) (ok_same _ u h) tt
 type_use_is types labels scope d T.Bool u s h = subst (UseIs types labels) (ok_same _ u h) tt
-type_use_is types labels scope d (T.Named prefix name) u s h = use_at types labels d (meaning_of name scope) u (meaning_at types labels scope name s) h
+type_use_is types labels scope d (T.Named prefix name) u s h =
+    use_at types labels d (meaning_of name scope) u (meaning_at types labels scope name s) h

@@ -20,7 +20,9 @@ module _ {K : Type 0} (items : K → List ℕ) where
   pub declared_map : (name : List ℕ) (es : List (K × Meaning))
       → is_some (lookup (λ k. bytes_eq name (items k)) es) ≡ is_declared name (plain es)
   declared_map name [] = refl
-  declared_map name (e ∷ es) = some_either (bytes_eq name (items e.0)) e.1 (lookup (λ k. bytes_eq name (items k)) es) ∙ ap (λ z. bytes_eq name (items e.0) || z) (declared_map name es)
+  declared_map name (e ∷ es) =
+      some_either (bytes_eq name (items e.0)) e.1
+      (lookup (λ k. bytes_eq name (items k)) es) ∙ ap (λ z. bytes_eq name (items e.0) || z) (declared_map name es)
 
   pub meaning_map : (name : List ℕ) (es : List (K × Meaning)) → lookup (λ k. bytes_eq name (items k)) es ≡ meaning_of name (plain es)
   meaning_map name [] = refl

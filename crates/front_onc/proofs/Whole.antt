@@ -38,7 +38,8 @@ operations_sound types slots (o ∷ os) are = and_from _ _ (operation_sound type
 interfaces_sound : (types : List Shape) (is : List PlainInterface) → InterfacesAre (length types) is
     → list_all (is_sound_plain_interface types) is ≡ true
 interfaces_sound types [] are = refl
-interfaces_sound types (i ∷ is) are = and_from _ _ (and_from _ _ (le-leb _ _ are.0.ids) (operations_sound types i.slots i.ops are.0.ops)) (interfaces_sound types is are.1)
+interfaces_sound types (i ∷ is) are = and_from _ _ (and_from _ _ (le-leb _ _ are.0.ids) (operations_sound types i.slots i.ops are.0.ops))
+    (interfaces_sound types is are.1)
 
 state_sound : (s : State) → StateIs s → is_sound_plain (record { types = s.types; interfaces = s.interfaces }) ≡ true
 state_sound s is = and_from _ _ is.types (interfaces_sound (shapes_of s) s.interfaces is.interfaces)
@@ -47,7 +48,9 @@ pub resolved_sound : (tree : List Def) (u : PlainUnit) → list_all is_whole tre
 resolved_sound tree u whole h =
     let a = then_ok (defined_on start tree) _ u h in
     let made : PlainUnit = record { types = a.given.types; interfaces = a.given.interfaces } in
-    subst (λ z. is_sound_plain z ≡ true) (ok_same made u a.rest) (state_sound a.given (defined_all start a.given tree start_is whole a.first))
+    subst
+    (λ z.
+    is_sound_plain z ≡ true) (ok_same made u a.rest) (state_sound a.given (defined_all start a.given tree start_is whole a.first))
 
 pub unit_sound : (tree : List Def) (u : Parts) → IsWhole tree → resolved tree ≡ Ok (plain u) → IsSound u
 unit_sound tree u whole h = sound_plain u ∙ resolved_sound tree (plain u) whole h

@@ -17,7 +17,10 @@ Fields = Unit {0} × (ℕ × (Bool × (List ℕ × (List ℕ × Unit {0}))))
 request_is : (r : Order) → IsGrammar (read_request r) (RequestSpells r) (RequestStops r)
 unfolding read_request
 request_is r = mapped (λ (x : Fields). record { id = x.1.0; wants = x.1.1.0; key = x.1.1.1.0; name = x.1.1.1.1.0 }) (RequestSpells r)
-    (both_are (contexts_are r) (λ contexts. both_are (long_is r) (λ id. both_are flag_is (λ wants. both_are (sequence_is r) (λ key. both_are (string_is r) (λ name. any_sequence_is r))))))
+    (both_are (contexts_are r)
+    (λ contexts.
+    both_are (long_is r)
+    (λ id. both_are flag_is (λ wants. both_are (sequence_is r) (λ key. both_are (string_is r) (λ name. any_sequence_is r))))))
     (λ p o x h. h)
     (λ p o y h. ((tt, (y.id, (y.wants, (y.key, (y.name, tt))))), refl, h))
 
@@ -44,13 +47,23 @@ forth : (n : ℕ) (r : Order) (m p : ℕ) (o : List ℕ) (c : Call)
 forth n r zero p o c (a, b, is, header, (q, same, fields)) = subst (λ z. CallSpells n p o z) same (a, b, is, header, fields)
 forth n r (suc m) p o c (a, b, is, header, (s, same, fields)) =
     let two : m ≡ 2 = asks_three m (is_expected Asks n a (record { order = r; message_type = suc m }) header.1) in
-    subst (λ z. CallSpells n p o z) same (a, b, is, subst (λ z. HeaderSpells Asks n p a (record { order = r; message_type = suc z })) two header, fields)
+    subst
+    (λ z.
+    CallSpells n p o z) same (
+      a,
+      b,
+      is,
+      subst (λ z. HeaderSpells Asks n p a (record { order = r; message_type = suc z })) two header,
+      fields,
+    )
 
 back : (n p : ℕ) (o : List ℕ) (c : Call) → CallSpells n p o c
     → (x : Heading × Call) × (x.1 ≡ c)
     × Parts p o (λ a. HeaderSpells Asks n p a x.0) (λ q b. AskedSpells n x.0.order x.0.message_type q b x.1)
-back n p o (request r q) (a, b, is, header, fields) = ((record { order = r; message_type = 0 }, request r q), refl, (a, b, is, header, (q, refl, fields)))
-back n p o (search_for r s) (a, b, is, header, fields) = ((record { order = r; message_type = 3 }, search_for r s), refl, (a, b, is, header, (s, refl, fields)))
+back n p o (request r q) (a, b, is, header, fields) =
+    ((record { order = r; message_type = 0 }, request r q), refl, (a, b, is, header, (q, refl, fields)))
+back n p o (search_for r s) (a, b, is, header, fields) =
+    ((record { order = r; message_type = 3 }, search_for r s), refl, (a, b, is, header, (s, refl, fields)))
 
 pub call_is : (n : ℕ) → IsGrammar (read_head_of_call n) (CallSpells n) (CallStops n)
 call_is n = mapped (λ (x : Heading × Call). x.1) (CallSpells n) (both_are (header_is Asks n) (λ h. asked_is n h.order h.message_type))
@@ -67,6 +80,9 @@ ordered_forth n r m q p o (a, b, is, header, fields) =
     (a, b, is, subst (λ z. HeaderSpells Requests n p a (record { order = r; message_type = z })) none header, fields)
 
 pub ordered_is : (n : ℕ) → IsGrammar (read_head_of_request n) (OrderedSpells n) (OrderedStops n)
-ordered_is n = mapped (λ (x : Heading × Request). record { order = x.0.order; request = x.1 }) (OrderedSpells n) (both_are (header_is Requests n) (λ h. request_is h.order))
+ordered_is n =
+    mapped
+    (λ (x : Heading × Request). record { order = x.0.order; request = x.1 }) (OrderedSpells n) (both_are (header_is Requests n) (λ h.
+    request_is h.order))
     (λ p o x h. ordered_forth n x.0.order x.0.message_type x.1 p o h)
     (λ p o y h. ((record { order = y.order; message_type = 0 }, y.request), refl, h))

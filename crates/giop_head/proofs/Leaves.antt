@@ -120,11 +120,21 @@ string_forth r p o n s (a, b, is, counts, ((same, long), ended)) =
     let size : length s ≡ suc (length parts.0) = ap length parts.1 ∙ (omega (arith, length-append parts.0 (0 ∷ []))) in
     let front : take (n - 1) s ≡ parts.0 = ap (take (n - 1)) parts.1 ∙ take_at parts.0 (0 ∷ []) (n - 1) (omega (arith, size, long)) in
     let counted : n ≡ suc (length parts.0) = omega (arith, size, long) in
-    subst (λ z. StringSpells r p o z) (sym front) (a, b, is, subst (λ (m : ℕ). LongSpells r p a m) counted counts, (same ∙ parts.1, parts.2))
+    subst
+    (λ z. StringSpells r p o z) (sym front) (
+      a,
+      b,
+      is,
+      subst (λ (m : ℕ).
+          LongSpells r p a m) counted counts,
+      (same ∙ parts.1, parts.2),
+    )
 
 pub string_is : (r : Order) → IsGrammar (read_string r) (StringSpells r) (StringStops r)
 unfolding read_string
-string_is r = mapped (λ (x : ℕ × List ℕ). take (x.0 - 1) x.1) (StringSpells r) (both_are (long_is r) (λ n. tested_are is_ended Text (λ p. p) (body_is n)))
+string_is r =
+    mapped
+    (λ (x : ℕ × List ℕ). take (x.0 - 1) x.1) (StringSpells r) (both_are (long_is r) (λ n. tested_are is_ended Text (λ p. p) (body_is n)))
     (λ p o x h. string_forth r p o x.0 x.1 h)
     (λ p o s (a, b, is, counts, (same, letters)). (
       (suc (length s), s ++ (0 ∷ [])),

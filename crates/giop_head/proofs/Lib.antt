@@ -1,12 +1,26 @@
+-- The proofs, each after those that it uses; * marks those that the proofs of functions use.
+
+-- * Octets that have one octet 0, which is the last
 pub mod Ended
+-- What the fields of heads are made of is a grammar each
 pub mod Leaves
+-- * Unsigned longs and booleans as they are read
 pub mod Steps
+-- * Service contexts and principals are passed over, one by one
 pub mod Passed
+-- The header of a message is a grammar, whatever is expected
 pub mod Headers
+-- The heads of Request and LocateRequest messages are a grammar
 pub mod Calls
+-- The heads of Reply messages are a grammar
 pub mod Replies
+-- * The laws, from reading being one function
 pub mod Lawful
+-- * What is reported of a message is decided by its head, or by its first fault
 pub mod Exact
+-- * Octets that are put into a buffer
 pub mod Putting
+-- What is put after octets spells what it is put for
 pub mod Sending
+-- * Heads that are sent are read as what they are sent for
 pub mod Sent

@@ -15,11 +15,14 @@ context_is r = both_are (long_is r) (λ id. sequence_is r)
 
 many_are : (r : Order) (n : ℕ) → IsGrammar (pass_many r n) (ManySpell r n) (ManyStop r n)
 unfolding pass_many
-many_are r n = mapped (λ (cs : List Context). tt) (ManySpell r n) (times_are n (context_is r)) (λ p o cs h. (cs, h)) (λ p o x h. (h.0, refl, h.1))
+many_are r n =
+    mapped (λ (cs : List Context). tt) (ManySpell r n) (times_are n (context_is r)) (λ p o cs h. (cs, h)) (λ p o x h. (h.0, refl, h.1))
 
 pub contexts_are : (r : Order) → IsGrammar (pass_contexts r) (ContextsSpell r) (ContextsStop r)
 unfolding pass_contexts
-contexts_are r = mapped (λ (x : ℕ × Unit {0}). x.1) (ContextsSpell r) (both_are (long_is r) (many_are r)) (λ p o x h. (x.0, h)) (λ p o x h. ((h.0, tt), refl, h.1))
+contexts_are r =
+    mapped (λ (x : ℕ × Unit {0}). x.1) (ContextsSpell r) (both_are (long_is r) (many_are r)) (λ p o x h. (x.0, h)) (λ p o x h.
+    ((h.0, tt), refl, h.1))
 
 pub any_sequence_is : (r : Order) → IsGrammar (pass_sequence r) (AnySequence r) (SequenceStops r)
 unfolding pass_sequence

@@ -22,7 +22,10 @@ Thrown r p o f = (x : Exception) × (system x.0 x.1.0 x.1.1 ≡ f) × SystemSpel
 
 system_is : (r : Order) → IsGrammar (read_system r) (Thrown r) (SystemStops r)
 unfolding read_system
-system_is r = mapped (λ (x : Exception). system x.0 x.1.0 x.1.1) (Thrown r) (both_are (string_is r) (λ s. both_are (long_is r) (λ minor. pass_is r 2))) (λ p o x h. (x, refl, h)) (λ p o f h. h)
+system_is r =
+    mapped
+    (λ (x : Exception). system x.0 x.1.0 x.1.1) (Thrown r) (both_are (string_is r) (λ s.
+    both_are (long_is r) (λ minor. pass_is r 2))) (λ p o x h. (x, refl, h)) (λ p o f h. h)
 
 abbrev Bare : Spelling Fate
 Bare p o f = (o ≡ []) × (answer ≡ f)
@@ -53,11 +56,14 @@ fate_forth r (suc (suc m)) p o f (a, b, is, (number, few), (x, same, thrown)) =
 fate_back : (r : Order) (p : ℕ) (o : List ℕ) (f : Fate) → FateSpells r p o f → (x : ℕ × Fate) × (x.1 ≡ f) × Status r x.0 p o x.1
 fate_back r p o answer h = ((0, answer), refl, (o, [], sym (append-nil o), (h, refl), (refl, refl)))
 fate_back r p o (user s) (a, b, is, number, id) = ((1, user s), refl, (a, b, is, (number, refl), (s, refl, id)))
-fate_back r p o (system s minor completion) (a, b, is, number, thrown) = ((2, system s minor completion), refl, (a, b, is, (number, refl), ((s, (minor, completion)), refl, thrown)))
+fate_back r p o (system s minor completion) (a, b, is, number, thrown) =
+    ((2, system s minor completion), refl, (a, b, is, (number, refl), ((s, (minor, completion)), refl, thrown)))
 
 fate_is : (r : Order) → IsGrammar (read_fate r) (FateSpells r) (FateStops r)
 unfolding read_fate
-fate_is r = mapped (λ (x : ℕ × Fate). x.1) (FateSpells r) (both_are (pass_is r 2) (status_is r)) (λ p o x h. fate_forth r x.0 p o x.1 h) (fate_back r)
+fate_is r =
+    mapped (λ (x : ℕ × Fate). x.1) (FateSpells r) (both_are (pass_is r 2) (status_is r)) (λ p o x h.
+    fate_forth r x.0 p o x.1 h) (fate_back r)
 
 abbrev Values : Type 0
 Values = Heading × (Unit {0} × (ℕ × Fate))

@@ -57,7 +57,16 @@ module _ (w : Way) (r : Order) (type : ℕ) (fields body : List ℕ) (P : ℕ �
       ∙ ap (λ (o : List ℕ). sized r type (length o - 12) ++ (fields ++ body)) (sym (append_assoc (header_octets r type) fields body))
 
   same_length : length message ≡ length (head ++ body)
-  same_length = omega (arith, ap length whole, twelve r type (length (head ++ body) - 12), length-append (sized r type (length (head ++ body) - 12)) (fields ++ body), ap length (append_assoc (header_octets r type) fields body), length-append (header_octets r type) (fields ++ body))
+  same_length =
+      omega (
+        arith,
+        ap length whole,
+        twelve r type (length (head ++ body) - 12),
+        length-append (sized r type (length (head ++ body) - 12))
+            (fields ++ body),
+        ap length (append_assoc (header_octets r type) fields body),
+        length-append (header_octets r type) (fields ++ body),
+      )
 
   pub within : length head ≤ length message
   within = omega (arith, same_length, length-append head body)
@@ -65,17 +74,32 @@ module _ (w : Way) (r : Order) (type : ℕ) (fields body : List ℕ) (P : ℕ �
   front : take (length head) message ≡ sized r type (length (head ++ body) - 12) ++ fields
   front = ap (take (length head)) (whole ∙ sym (append_assoc (sized r type (length (head ++ body) - 12)) fields body))
       ∙ take_at (sized r type (length (head ++ body) - 12) ++ fields) body (length head)
-      (omega (arith, length-append (sized r type (length (head ++ body) - 12)) fields, twelve r type (length (head ++ body) - 12), length-append (header_octets r type) fields))
+      (omega (
+        arith,
+        length-append (sized r type (length (head ++ body) - 12)) fields,
+        twelve r type (length (head ++ body) - 12),
+        length-append (header_octets r type) fields,
+      ))
 
   pub begins : length (head ++ body) - 12 < 2 ^ 32
       → Parts 0 (take (length head) message) (λ a. HeaderSpells w (length message) 0 a (record { order = r; message_type = type })) P
-  begins fits = rw (front, same_length)
-      (sized r type (length (head ++ body) - 12), fields, refl, (twelve r type (length (head ++ body) - 12), is_right w r type (length (head ++ body)) is fits), rw (twelve r type (length (head ++ body) - 12)) spelled)
+  begins fits = rw (front, same_length) (
+    sized r type (length (head ++ body) - 12),
+    fields,
+    refl,
+    (twelve r type (length (head ++ body) - 12), is_right w r type (length (head ++ body)) is fits),
+    rw (twelve r type (length (head ++ body) - 12)) spelled,
+  )
 
   pub rest : drop (length head) message ≡ body
   rest = ap (drop (length head)) (whole ∙ sym (append_assoc (sized r type (length (head ++ body) - 12)) fields body))
       ∙ drop_at (sized r type (length (head ++ body) - 12) ++ fields) body (length head)
-      (omega (arith, length-append (sized r type (length (head ++ body) - 12)) fields, twelve r type (length (head ++ body) - 12), length-append (header_octets r type) fields))
+      (omega (
+        arith,
+        length-append (sized r type (length (head ++ body) - 12)) fields,
+        twelve r type (length (head ++ body) - 12),
+        length-append (header_octets r type) fields,
+      ))
 
 -- a request's fields after its header
 requested_octets : (r : Order) (q : Request) (t : List ℕ) → then_sequence r []
@@ -90,7 +114,12 @@ requests_read r q body is fits =
     let t = request_puts r q is (header_octets r 0) in
     let P : ℕ → List ℕ → Type 0 = λ p o. RequestSpells r p o q in
     let all : request_octets r q ≡ header_octets r 0 ++ t.0 = requested_octets r q t.0 t.1 in
-    rw all (request r q, length (header_octets r 0 ++ t.0), (within Asks r 0 t.0 body P t.2 refl, begins Asks r 0 t.0 body P t.2 refl (rw all at fits)), refl)
+    rw all (
+      request r q,
+      length (header_octets r 0 ++ t.0),
+      (within Asks r 0 t.0 body P t.2 refl, begins Asks r 0 t.0 body P t.2 refl (rw all at fits)),
+      refl,
+    )
 
 -- so it is where requests alone are read
 pub requests_begin : (r : Order) (q : Request) (body : List ℕ) → IsRequest q → IsLong (length (request_octets r q ++ body) - 12)
@@ -100,7 +129,12 @@ requests_begin r q body is fits =
     let t = request_puts r q is (header_octets r 0) in
     let P : ℕ → List ℕ → Type 0 = λ p o. RequestSpells r p o q in
     let all : request_octets r q ≡ header_octets r 0 ++ t.0 = requested_octets r q t.0 t.1 in
-    rw all (record { order = r; request = q }, length (header_octets r 0 ++ t.0), (within Requests r 0 t.0 body P t.2 refl, begins Requests r 0 t.0 body P t.2 refl (rw all at fits)), refl)
+    rw all (
+      record { order = r; request = q },
+      length (header_octets r 0 ++ t.0),
+      (within Requests r 0 t.0 body P t.2 refl, begins Requests r 0 t.0 body P t.2 refl (rw all at fits)),
+      refl,
+    )
 
 -- and what follows the head is what was put after it
 pub follows_request : (r : Order) (q : Request) (body : List ℕ) → IsRequest q
@@ -120,7 +154,16 @@ pub length_sized : (r : Order) (o : List ℕ) → 12 ≤ length o → length (wi
 length_sized r o long =
     let size : List ℕ = long_octets r (length o - 12) in
     let is : with_size r o ≡ (take 8 o ++ size) ++ drop (8 + length size) o = refl in
-    omega (arith, long, ap length is, long_four r (length o - 12), length-append (take 8 o ++ size) (drop (8 + length size) o), length-append (take 8 o) size, length-take 8 o, length-drop (8 + length size) o)
+    omega (
+      arith,
+      long,
+      ap length is,
+      long_four r (length o - 12),
+      length-append (take 8 o ++ size) (drop (8 + length size) o),
+      length-append (take 8 o) size,
+      length-take 8 o,
+      length-drop (8 + length size) o,
+    )
 
 -- a reply's fields after its header
 replied : (r : Order) (id : ℕ) (f : Fate) → reply_octets r id f ≡ fated r f (then_long r id (then_long r 0 (header_octets r 1)))
@@ -131,9 +174,15 @@ replied r id (system s minor completion) = refl
 pub replies_read : RepliesAreRead
 replies_read r id f body small is fits =
     let t = reply_puts r id f small is (header_octets r 1) in
-    let P : ℕ → List ℕ → Type 0 = λ p o. Parts p o (λ a. ContextsSpell r p a tt) (λ q b. Parts q b (λ a. LongSpells r q a id) (λ s c. FateSpells r s c f)) in
+    let P : ℕ → List ℕ → Type 0 =
+    λ p o. Parts p o (λ a. ContextsSpell r p a tt) (λ q b. Parts q b (λ a. LongSpells r q a id) (λ s c. FateSpells r s c f)) in
     let all : reply_octets r id f ≡ header_octets r 1 ++ t.0 = replied r id f ∙ t.1 in
-    rw all (record { order = r; id = id; fate = f }, length (header_octets r 1 ++ t.0), (within Replies r 1 t.0 body P t.2 refl, begins Replies r 1 t.0 body P t.2 refl (rw all at fits)), refl)
+    rw all (
+      record { order = r; id = id; fate = f },
+      length (header_octets r 1 ++ t.0),
+      (within Replies r 1 t.0 body P t.2 refl, begins Replies r 1 t.0 body P t.2 refl (rw all at fits)),
+      refl,
+    )
 
 pub own_octets : OwnHaveOctets
 own_octets r id (SystemException name minor completion) = ((λ own. (_, refl)), λ has. tt)

@@ -87,13 +87,16 @@ piece_has_octets : (front : Front) (imports : Bool) (before text : List ℕ) (p 
     → 0 < length (octets_of p)
 piece_has_octets front imports before text (blanks os) h = rw h.1 (run_has is_blank text h.0)
 piece_has_octets front imports before text (comment os) h = rw h.1.2 (omega (arith, length-take (2 + h.1.0) text, comment_some text h.0))
-piece_has_octets front imports before text (skipped_line os) h = rw h.1 (run_has is_in_line text (begins_in_line text (skipped_is_other front before text h.0)))
+piece_has_octets front imports before text (skipped_line os) h =
+    rw h.1 (run_has is_in_line text (begins_in_line text (skipped_is_other front before text h.0)))
 piece_has_octets front imports before text (name os) h = rw h.1 (run_has is_word_octet text (begins_word text h.0))
 piece_has_octets front imports before text (number os) h = number_some os h.2
 piece_has_octets front imports before text (character code os) h =
     rw h.2.2 (omega (arith, length-take h.2.0 text, other_some text (quote_is_other front text h.0), character_some code h.2.0 text h.2.1))
-piece_has_octets front imports before text (string codes os) h = rw h.2.3 (omega (arith, length-take (1 + h.2.0) text, other_some text (quote_is_other front text h.0)))
-piece_has_octets front imports before text (file_name path os) h = rw h.3 (omega (arith, length-take (2 + h.0) text, other_some text (file_is_other front imports text h.0 h.1)))
+piece_has_octets front imports before text (string codes os) h =
+    rw h.2.3 (omega (arith, length-take (1 + h.2.0) text, other_some text (quote_is_other front text h.0)))
+piece_has_octets front imports before text (file_name path os) h =
+    rw h.3 (omega (arith, length-take (2 + h.0) text, other_some text (file_is_other front imports text h.0 h.1)))
 piece_has_octets front imports before text (mark os) h = rw h.1 (omega (arith, length-take (mark_count text) text, mark_some text h.0, h.0))
 
 -- ---- a text from its beginning to its end
@@ -113,11 +116,19 @@ module _ (front : Front) (text : List ℕ) where
     next (Ok p) is =
         let rest = drop at text in
         let n = length (octets_of p) in
-        let read : IsRead front imports (take at text) rest (Ok p) = subst (λ z. IsRead front imports (take at text) rest z) is (piece_is_read front imports (take at text) rest) in
+        let read : IsRead front imports (take at text) rest (Ok p) =
+        subst (λ z. IsRead front imports (take at text) rest z) is (piece_is_read front imports (take at text) rest) in
         let some : 0 < n = piece_has_octets front imports (take at text) rest p read.1 in
         let fits : n ≤ length rest = omega (arith, ap length read.0, length-append (octets_of p) (drop n rest)) in
         let line' = min (line + line_feeds (take n rest)) (2 ^ 32 - 1) in
-        inl (line', at + n, imports_on imports (kind_of p), tokens ++ token_on line (kind_of p), go_on_at front text line at n line' imports tokens (kind_of p) s lt (ap shown is) fits refl, omega (arith, some))
+        inl (
+          line',
+          at + n,
+          imports_on imports (kind_of p),
+          tokens ++ token_on line (kind_of p),
+          go_on_at front text line at n line' imports tokens (kind_of p) s lt (ap shown is) fits refl,
+          omega (arith, some),
+        )
     next (Err e) is = inr (e, first_fault front text line at imports tokens e s lt (ap shown is))
 
   whole : (line at : ℕ) (imports : Bool) (tokens : List Token) → So front text line at imports tokens → length text ≤ at
@@ -140,4 +151,6 @@ module _ (front : Front) (text : List ℕ) where
 
 pub decided : (front : Front) → TextsAreDecided front
 decided front text =
-    decide front text (length text) 1 0 false [] (record { pieces = []; before_is = refl; stand = tt; tokens_are = refl; line_is = refl; imports_is = refl; within = omega arith }) (omega arith)
+    decide front text (length text) 1 0 false []
+    (record { pieces = []; before_is = refl; stand = tt; tokens_are = refl; line_is = refl; imports_is = refl; within = omega arith })
+    (omega arith)

@@ -18,4 +18,5 @@ read_on base n i v os is lt = is ∙ ap (value_on base n) (drop_at os i lt)
 -- the number is at least what is read so far
 pub at_least : (base n i v : ℕ) (os : List ℕ) → v ≡ value_on base n (drop i os) → i < length os → 0 < base
     → n * base + digit_value (get_or os i 0) ≤ v
-at_least base n i v os is lt some = omega (arith, grows base (n * base + digit_value (get_or os i 0)) (drop (i + 1) os) some, read_on base n i v os is lt)
+at_least base n i v os is lt some =
+    omega (arith, grows base (n * base + digit_value (get_or os i 0)) (drop (i + 1) os) some, read_on base n i v os is lt)

@@ -83,7 +83,8 @@ skipped_is_other front before text h =
 among : (is : ℕ → Bool) (o : ℕ) (ms : List ℕ) → list_all is ms ≡ true → list_any (λ m. nat_eq o m) ms ≡ true → is o ≡ true
 among is o [] all any = absurd (false≢true any)
 among is o (m ∷ ms) all any =
-    elim (or_cases (nat_eq o m) _ any) [ inl h ↦ subst (λ z. is z ≡ true) (sym (eqb-true o m h)) (and_parts _ _ all).0 | inr h ↦ among is o ms (and_parts _ _ all).1 h ]
+    elim (or_cases (nat_eq o m) _ any)
+    [ inl h ↦ subst (λ z. is z ≡ true) (sym (eqb-true o m h)) (and_parts _ _ all).0 | inr h ↦ among is o ms (and_parts _ _ all).1 h ]
 
 mark_other : (o : ℕ) (os : List ℕ) (twin one : Bool) → begins_twin (o ∷ os) ≡ twin → is_mark_octet o ≡ one → 0 < mark_count (o ∷ os)
     → is_other o ≡ true
@@ -150,7 +151,9 @@ quote_is_other Mig text h = absurd (false≢true h)
 
 -- a text that begins with a quote has no other sort of piece
 quote_is : (P : ℕ → Bool) → P 39 ≡ false → P 34 ≡ false → (o : ℕ) → is_quote o ≡ true → P o ≡ false
-quote_is P s d o h = elim (or_cases _ _ h) [ inl a ↦ subst (λ z. P z ≡ false) (sym (eqb-true o 39 a)) s | inr b ↦ subst (λ z. P z ≡ false) (sym (eqb-true o 34 b)) d ]
+quote_is P s d o h =
+    elim (or_cases _ _ h)
+    [ inl a ↦ subst (λ z. P z ≡ false) (sym (eqb-true o 39 a)) s | inr b ↦ subst (λ z. P z ≡ false) (sym (eqb-true o 34 b)) d ]
 
 pub quote_opens_none : (front : Front) (text : List ℕ) → opens_quote front text ≡ true → opens_comment text ≡ false
 quote_opens_none Corba [] h = absurd (false≢true h)

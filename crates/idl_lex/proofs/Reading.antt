@@ -28,17 +28,21 @@ one_more_stands front before (q ∷ ps) p behind a s =
     let same : all_octets ps ++ (octets_of p ++ behind) ≡ all_octets (ps ++ p ∷ []) ++ behind =
     sym (ap (λ z. z ++ behind) (octets_behind ps p) ∙ append_assoc (all_octets ps) (octets_of p) behind) in (
       subst (λ z. Stands front before q z) same a.0,
-      one_more_stands front (before ++ q ∷ []) ps p behind a.1 (subst (λ z. Stands front z p behind) (sym (append_assoc before (q ∷ []) ps)) s),
+      one_more_stands front (before ++ q ∷ []) ps p behind a.1
+          (subst (λ z. Stands front z p behind) (sym (append_assoc before (q ∷ []) ps)) s),
     )
 
 one_more_token : (before ps : List Piece) (p : Piece)
     → tokens_behind before (ps ++ p ∷ []) ≡ tokens_behind before ps ++ token_on (line_behind (all_octets (before ++ ps))) (kind_of p)
 one_more_token before [] p =
-    append-nil (token_on (line_behind (all_octets before)) (kind_of p)) ∙ ap (λ z. token_on (line_behind (all_octets z)) (kind_of p)) (sym (append-nil before))
+    append-nil (token_on (line_behind (all_octets before)) (kind_of p))
+    ∙ ap (λ z. token_on (line_behind (all_octets z)) (kind_of p)) (sym (append-nil before))
 one_more_token before (q ∷ ps) p =
     let here = token_on (line_behind (all_octets before)) (kind_of q) in
     ap (λ z. here ++ z) (one_more_token (before ++ q ∷ []) ps p)
-    ∙ ap (λ z. here ++ (tokens_behind (before ++ q ∷ []) ps ++ token_on (line_behind (all_octets z)) (kind_of p))) (append_assoc before (q ∷ []) ps)
+    ∙ ap (λ z.
+    here ++ (tokens_behind (before ++ q ∷ []) ps ++ token_on (line_behind (all_octets z)) (kind_of p)))
+    (append_assoc before (q ∷ []) ps)
     ∙ sym (append_assoc here (tokens_behind (before ++ q ∷ []) ps) (token_on (line_behind (all_octets (before ++ q ∷ ps))) (kind_of p)))
 
 feeds-append : (a b : List ℕ) → line_feeds (a ++ b) ≡ line_feeds a + line_feeds b
@@ -94,7 +98,9 @@ at_pieces : (front : Front) (text : List ℕ) (line at : ℕ) (imports : Bool) (
     → IsPieceOf front imports (take at text) p (drop at text)
     → IsPieceOf front (imports_behind false s.pieces) (all_octets s.pieces) p (drop at text)
 at_pieces front text line at imports tokens s p is =
-    subst (λ z. IsPieceOf front z (all_octets s.pieces) p (drop at text)) s.imports_is (subst (λ z. IsPieceOf front imports z p (drop at text)) (sym s.before_is) is)
+    subst
+    (λ z. IsPieceOf front z (all_octets s.pieces) p (drop at text)) s.imports_is (subst (λ z.
+    IsPieceOf front imports z p (drop at text)) (sym s.before_is) is)
 
 -- and the other way round
 at_place : (front : Front) (text : List ℕ) (line at : ℕ) (imports : Bool) (tokens : List Token)
@@ -102,7 +108,9 @@ at_place : (front : Front) (text : List ℕ) (line at : ℕ) (imports : Bool) (t
     → IsPieceOf front (imports_behind false s.pieces) (all_octets s.pieces) p (drop at text)
     → IsPieceOf front imports (take at text) p (drop at text)
 at_place front text line at imports tokens s p is =
-    subst (λ z. IsPieceOf front imports z p (drop at text)) s.before_is (subst (λ z. IsPieceOf front z (all_octets s.pieces) p (drop at text)) (sym s.imports_is) is)
+    subst
+    (λ z. IsPieceOf front imports z p (drop at text)) s.before_is (subst (λ z.
+    IsPieceOf front z (all_octets s.pieces) p (drop at text)) (sym s.imports_is) is)
 
 pub go_on_at : (front : Front) (text : List ℕ) (line at n line' : ℕ) (imports : Bool) (tokens : List Token) (kind : Option TokenKind)
     → So front text line at imports tokens → at < length text
@@ -112,20 +120,28 @@ pub go_on_at : (front : Front) (text : List ℕ) (line at n line' : ℕ) (import
 go_on_at front text line at n line' imports tokens kind s lt read fits line_is =
     let rest = drop at text in
     let x = is_shown _ kind n read in
-    let one : IsRead front imports (take at text) rest (Ok x.p) = subst (λ z. IsRead front imports (take at text) rest z) x.is (piece_is_read front imports (take at text) rest) in
-    let octets : take n rest ≡ octets_of x.p = ap (take n) one.0 ∙ take_at (octets_of x.p) (drop (length (octets_of x.p)) rest) n x.count_is in
-    let parts : rest ≡ octets_of x.p ++ drop (at + n) text = one.0 ∙ ap (λ z. octets_of x.p ++ z) (ap (λ z. drop z rest) x.count_is ∙ drop-drop n at text) in
+    let one : IsRead front imports (take at text) rest (Ok x.p) =
+    subst (λ z. IsRead front imports (take at text) rest z) x.is (piece_is_read front imports (take at text) rest) in
+    let octets : take n rest ≡ octets_of x.p = ap (take n) one.0
+    ∙ take_at (octets_of x.p) (drop (length (octets_of x.p)) rest) n x.count_is in
+    let parts : rest ≡ octets_of x.p ++ drop (at + n) text = one.0
+    ∙ ap (λ z. octets_of x.p ++ z) (ap (λ z. drop z rest) x.count_is ∙ drop-drop n at text) in
     record {
       pieces = s.pieces ++ x.p ∷ [];
-      before_is = octets_behind s.pieces x.p ∙ ap (λ z. z ++ octets_of x.p) s.before_is ∙ ap (λ z. take at text ++ z) (sym octets) ∙ sym (take-add at n text);
+      before_is = octets_behind s.pieces x.p
+          ∙ ap (λ z. z ++ octets_of x.p) s.before_is ∙ ap (λ z. take at text ++ z) (sym octets) ∙ sym (take-add at n text);
       stand = one_more_stands front [] s.pieces x.p (drop (at + n) text) (subst (λ z. AllStand front [] s.pieces z) parts s.stand)
-          (subst (λ z. IsPieceOf front (imports_behind false s.pieces) (all_octets s.pieces) x.p z) parts (at_pieces front text line at imports tokens s x.p one.1));
+          (subst
+          (λ z.
+          IsPieceOf front (imports_behind false s.pieces) (all_octets s.pieces) x.p z) parts
+          (at_pieces front text line at imports tokens s x.p one.1));
       tokens_are = ap (λ z. z ++ token_on line kind) s.tokens_are
           ∙ ap (λ z. tokens_behind [] s.pieces ++ token_on z kind) (s.line_is ∙ ap line_behind (sym s.before_is))
           ∙ ap (λ z. tokens_behind [] s.pieces ++ token_on (line_behind (all_octets s.pieces)) z) (sym x.kind_is)
           ∙ sym (one_more_token [] s.pieces x.p);
       line_is =
-          let count : line_feeds (take (at + n) text) ≡ line_feeds (take at text) + line_feeds (take n rest) = ap line_feeds (take-add at n text) ∙ feeds-append (take at text) (take n rest) in
+          let count : line_feeds (take (at + n) text) ≡ line_feeds (take at text) + line_feeds (take n rest) =
+          ap line_feeds (take-add at n text) ∙ feeds-append (take at text) (take n rest) in
           omega (arith, line_is, s.line_is, count);
       imports_is = ap (λ z. imports_on z kind) s.imports_is ∙ ap (imports_on (imports_behind false s.pieces)) (sym x.kind_is)
           ∙ sym (one_more_imports false s.pieces x.p);
@@ -141,8 +157,12 @@ pub go_on : (front : Front) (text before rest : List ℕ) (line at n line' : ℕ
     → So front text line' (at + n) imports' tokens'
 go_on front text before rest line at n line' imports imports' tokens tokens' kind s lt before_is rest_is read fits line_is imports_is put =
     subst (λ z. So front text line' (at + n) z tokens') (sym imports_is)
-    (subst (λ z. So front text line' (at + n) (imports_on imports kind) z) (sym put) (go_on_at front text line at n line' imports tokens kind s lt
-    (subst (λ z. shown (piece_at front imports (take at text) z) ≡ Ok (kind, n)) rest_is (subst (λ z. shown (piece_at front imports z rest) ≡ Ok (kind, n)) before_is read))
+    (subst
+    (λ z.
+    So front text line' (at + n) (imports_on imports kind) z) (sym put) (go_on_at front text line at n line' imports tokens kind s lt
+    (subst
+    (λ z. shown (piece_at front imports (take at text) z) ≡ Ok (kind, n)) rest_is (subst (λ z.
+    shown (piece_at front imports z rest) ≡ Ok (kind, n)) before_is read))
     (subst (λ z. n ≤ length z) rest_is fits)
     (subst (λ z. line' ≡ min (line + line_feeds (take n z)) (2 ^ 32 - 1)) rest_is line_is)))
 
@@ -163,7 +183,8 @@ first_fault front text line at imports tokens e s lt read =
           let a = stands_is_read front imports (take at text) rest p (at_place front text line at imports tokens s p here) in
           no_fault _ p e a is;
       cause =
-          let why : IsRead front imports (take at text) rest (Err e) = subst (λ z. IsRead front imports (take at text) rest z) is (piece_is_read front imports (take at text) rest) in
+          let why : IsRead front imports (take at text) rest (Err e) =
+          subst (λ z. IsRead front imports (take at text) rest z) is (piece_is_read front imports (take at text) rest) in
           why ∙ ap (λ z. fault_at z rest) (sym s.before_is);
     }
 
@@ -173,9 +194,11 @@ explained_at : (front : Front) (text : List ℕ) (line at : ℕ) (imports : Bool
     (shown (piece_at front imports (take at text) (drop at text)))
     → Explains front text e
 explained_at front text line at imports tokens (BadOctet n) s lt read = first_fault front text line at imports tokens (BadOctet n) s lt read
-explained_at front text line at imports tokens (OpenComment n) s lt read = first_fault front text line at imports tokens (OpenComment n) s lt read
+explained_at front text line at imports tokens (OpenComment n) s lt read = first_fault front text line at imports tokens (OpenComment n) s
+    lt read
 explained_at front text line at imports tokens (Wide n) s lt read = first_fault front text line at imports tokens (Wide n) s lt read
-explained_at front text line at imports tokens (Directive n) s lt read = first_fault front text line at imports tokens (Directive n) s lt read
+explained_at front text line at imports tokens (Directive n) s lt read = first_fault front text line at imports tokens (Directive n) s lt
+    read
 explained_at front text line at imports tokens NoMemory s lt read = tt
 
 pub explained : (front : Front) (text before rest : List ℕ) (line at : ℕ) (imports : Bool) (tokens : List Token) (e : LexErr)
@@ -183,5 +206,6 @@ pub explained : (front : Front) (text before rest : List ℕ) (line at : ℕ) (i
     → Gives (let x : Result (Option TokenKind × ℕ) LexErr = Err e in x) (shown (piece_at front imports before rest))
     → Explains front text e
 explained front text before rest line at imports tokens e s lt before_is rest_is read =
-    let P : List ℕ → List ℕ → Type 0 = λ b r. Gives (let x : Result (Option TokenKind × ℕ) LexErr = Err e in x) (shown (piece_at front imports b r)) in
+    let P : List ℕ → List ℕ → Type 0 =
+    λ b r. Gives (let x : Result (Option TokenKind × ℕ) LexErr = Err e in x) (shown (piece_at front imports b r)) in
     explained_at front text line at imports tokens e s lt (subst (λ z. P (take at text) z) rest_is (subst (λ z. P z rest) before_is read))

@@ -41,7 +41,8 @@ number_is_read front imports before text digit =
     let os = take (digit_count text) text in
     let P : Read → Type 0 = IsRead front imports before text in
     let opens = digit_opens_none text digit in
-    cond_both (is_number os) (cond (nat_lt (value_of os) (2 ^ 127)) (Ok (number os)) (Err (Wide (length before)))) (Err (BadOctet (length before))) P
+    cond_both (is_number os) (cond (nat_lt (value_of os) (2 ^ 127)) (Ok (number os)) (Err (Wide (length before))))
+    (Err (BadOctet (length before))) P
     (λ good. cond_both (nat_lt (value_of os) (2 ^ 127)) (Ok (number os)) (Err (Wide (length before))) P
     (λ small. (cut (digit_count text) text, (digit, refl, good, ltb-true _ _ small)))
     (λ large. rw (opens, digit, good) refl))
@@ -53,7 +54,8 @@ mark_is_read : (front : Front) (imports : Bool) (before text : List ℕ) → ope
 mark_is_read front imports before text opens digit skips file =
     let n = mark_count text in
     let P : Read → Type 0 = IsRead front imports before text in
-    cond_both (n == 0) (cond (is_hash_line before text) (Err (Directive (length before))) (Err (BadOctet (length before)))) (Ok (mark (take n text))) P
+    cond_both (n == 0) (cond (is_hash_line before text) (Err (Directive (length before))) (Err (BadOctet (length before))))
+    (Ok (mark (take n text))) P
     (λ none. cond_both (is_hash_line before text) (Err (Directive (length before))) (Err (BadOctet (length before))) P
     (λ hash. rw (opens, digit, hash) refl)
     (λ hash. rw (opens, digit, hash) refl))
@@ -68,13 +70,15 @@ file_is_read front imports before text (Some n) opens digit skips is = (cut (2 +
 character_is_read : (front : Front) (imports : Bool) (before text : List ℕ) (c : Option (ℕ × ℕ)) → opens_quote front text ≡ true
     → opens_comment text ≡ false → begins is_digit text ≡ false → begins is_single text ≡ true → character_at text ≡ c
     → IsRead front imports before text (character_of (length before) text c)
-character_is_read front imports before text None quote opens digit single is = let hash = quote_no_hash front before text quote in rw (opens, digit, hash) refl
+character_is_read front imports before text None quote opens digit single is = let hash =
+    quote_no_hash front before text quote in rw (opens, digit, hash) refl
 character_is_read front imports before text (Some x) quote opens digit single is = (cut x.1 text, (quote, single, (x.1, is, refl)))
 
 string_is_read : (front : Front) (imports : Bool) (before text : List ℕ) (c : Option ℕ) → opens_quote front text ≡ true
     → opens_comment text ≡ false → begins is_digit text ≡ false → begins is_single text ≡ false → string_count false (drop 1 text) ≡ c
     → IsRead front imports before text (string_of (length before) text c)
-string_is_read front imports before text None quote opens digit single is = let hash = quote_no_hash front before text quote in rw (opens, digit, hash) refl
+string_is_read front imports before text None quote opens digit single is = let hash =
+    quote_no_hash front before text quote in rw (opens, digit, hash) refl
 string_is_read front imports before text (Some n) quote opens digit single is = (cut (1 + n) text, (quote, single, (n, is, refl, refl)))
 
 quoted_is_read : (front : Front) (imports : Bool) (before text : List ℕ) → opens_quote front text ≡ true
@@ -90,7 +94,8 @@ pub piece_is_read : (front : Front) (imports : Bool) (before text : List ℕ)
 piece_is_read front imports before text =
     let P : Read → Type 0 = IsRead front imports before text in
     cond_both (begins is_blank text) _ _ P (λ yes. (cut (prefix_len is_blank text) text, (yes, refl)))
-    (λ blank. cond_both (opens_comment text) _ _ P (λ yes. comment_is_read front imports before text (count_to_close (drop 2 text)) yes refl)
+    (λ blank.
+    cond_both (opens_comment text) _ _ P (λ yes. comment_is_read front imports before text (count_to_close (drop 2 text)) yes refl)
     (λ opens. cond_both (begins is_letter text) _ _ P (λ yes. (cut (prefix_len is_word_octet text) text, (yes, refl)))
     (λ letter. cond_both (begins is_digit text) _ _ P (λ yes. number_is_read front imports before text yes)
     (λ digit. cond_both (is_skipped front before text) _ _ P (λ yes. (cut (prefix_len is_in_line text) text, (yes, refl)))
@@ -180,7 +185,8 @@ abbrev pub IsStuck : Front → List Piece → List ℕ → Type 0
 IsStuck front before rest = (p : Piece) (behind : List ℕ) → rest ≡ octets_of p ++ behind → Stands front before p behind → ⊥
 
 pub stuck_at_end : (front : Front) (before : List Piece) → IsStuck front before []
-stuck_at_end front before p behind is stands = nothing_at_end front (imports_behind false before) (all_octets before) p (subst (λ z. IsPieceOf front (imports_behind false before) (all_octets before) p z) (sym is) stands)
+stuck_at_end front before p behind is stands = nothing_at_end front (imports_behind false before) (all_octets before) p
+    (subst (λ z. IsPieceOf front (imports_behind false before) (all_octets before) p z) (sym is) stands)
 
 same_ok : (p q : Piece) → (let x : Read = Ok p in x) ≡ Ok q → p ≡ q
 same_ok p q e = cc
@@ -207,7 +213,8 @@ determined front before (p ∷ ps) [] r s a k b l e =
 determined front before (p ∷ ps) (q ∷ qs) r s a k b l e =
     let e' = sym (append_assoc (octets_of p) (all_octets ps) r) ∙ e ∙ append_assoc (octets_of q) (all_octets qs) s in
     let one = one_piece front before p q (all_octets ps ++ r) (all_octets qs ++ s) a.0 b.0 e' in
-    let more = append_cancel_left (octets_of p) (all_octets ps ++ r) (all_octets qs ++ s) (e' ∙ ap (λ z. octets_of z ++ (all_octets qs ++ s)) (sym one)) in
+    let more = append_cancel_left (octets_of p) (all_octets ps ++ r) (all_octets qs ++ s)
+    (e' ∙ ap (λ z. octets_of z ++ (all_octets qs ++ s)) (sym one)) in
     let rest = determined front (before ++ p ∷ []) ps qs r s a.1
     (subst (λ z. IsStuck front z r) (sym (append_assoc before (p ∷ []) ps)) k)
     (subst (λ z. AllStand front (before ++ z ∷ []) qs s) (sym one) b.1)
@@ -219,7 +226,8 @@ determined front before (p ∷ ps) (q ∷ qs) r s a k b l e =
 
 pub same_pieces : (front : Front) (text : List ℕ) (ps qs : List Piece) → ArePieces front text ps → ArePieces front text qs → ps ≡ qs
 same_pieces front text ps qs a b =
-    (determined front [] ps qs [] [] a.1 (stuck_at_end front ps) b.1 (stuck_at_end front qs) (append-nil (all_octets ps) ∙ sym a.0 ∙ b.0 ∙ sym (append-nil (all_octets qs)))).0
+    (determined front [] ps qs [] [] a.1 (stuck_at_end front ps) b.1 (stuck_at_end front qs)
+    (append-nil (all_octets ps) ∙ sym a.0 ∙ b.0 ∙ sym (append-nil (all_octets qs)))).0
 
 pub same_fault : (front : Front) (text : List ℕ) (e f : LexErr) → IsFirstFault front text e → IsFirstFault front text f → e ≡ f
 same_fault front text e f a b =
@@ -228,4 +236,6 @@ same_fault front text e f a b =
 
 pub not_both : (front : Front) (text : List ℕ) (ps : List Piece) (e : LexErr) → ArePieces front text ps → IsFirstFault front text e → ⊥
 not_both front text ps e a b =
-    b.more (sym (determined front [] ps b.pieces [] b.rest a.1 (stuck_at_end front ps) b.stand b.none (append-nil (all_octets ps) ∙ sym a.0 ∙ b.parts)).1)
+    b.more
+    (sym (determined front [] ps b.pieces [] b.rest a.1 (stuck_at_end front ps) b.stand b.none
+    (append-nil (all_octets ps) ∙ sym a.0 ∙ b.parts)).1)

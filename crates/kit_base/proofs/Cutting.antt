@@ -49,7 +49,8 @@ pub lines-cut : (longest : ℕ) (kept more : List ℕ) (i : ℕ) → HasNoEnd (t
 lines-cut longest kept more i none split =
     let front = take i kept in
     let rest = drop (i + 1) kept in
-    let whole : kept ++ more ≡ front ++ (10 ∷ (rest ++ more)) = ap (λ (l : List ℕ). l ++ more) split ∙ append_assoc front (10 ∷ rest) more in
+    let whole : kept ++ more ≡ front ++ (10 ∷ (rest ++ more)) =
+    ap (λ (l : List ℕ). l ++ more) split ∙ append_assoc front (10 ∷ rest) more in
     ap (lines longest) whole ∙ lines_from-append longest [] front (10 ∷ (rest ++ more)) none
 
 -- the rest of a line that is too long has its end
@@ -58,7 +59,8 @@ pub lines_behind-cut : (longest : ℕ) (kept more : List ℕ) (i : ℕ) → HasN
 lines_behind-cut longest kept more i none split =
     let front = take i kept in
     let rest = drop (i + 1) kept in
-    let whole : kept ++ more ≡ front ++ (10 ∷ (rest ++ more)) = ap (λ (l : List ℕ). l ++ more) split ∙ append_assoc front (10 ∷ rest) more in
+    let whole : kept ++ more ≡ front ++ (10 ∷ (rest ++ more)) =
+    ap (λ (l : List ℕ). l ++ more) split ∙ append_assoc front (10 ∷ rest) more in
     ap (lines_behind longest) whole ∙ lines_behind-append longest front (10 ∷ (rest ++ more)) none
 
 -- a line of which so much is there is too long
@@ -78,7 +80,8 @@ cut_more : (b : Bool) (longest : ℕ) (kept more : List ℕ) (i : ℕ) (answer :
     → kept ≡ take i kept ++ 10 ∷ drop (i + 1) kept → answer ≡ (if b then Long ∷ [] else line_of longest (take i kept))
     → (if b then Long ∷ lines_behind longest (kept ++ more) else lines longest (kept ++ more))
     ≡ answer ++ lines longest (drop (i + 1) kept ++ more)
-cut_more true longest kept more i answer none split e = rw e (ap (λ (l : List Line). Long ∷ l) (lines_behind-cut longest kept more i none split))
+cut_more true longest kept more i answer none split e =
+    rw e (ap (λ (l : List Line). Long ∷ l) (lines_behind-cut longest kept more i none split))
 cut_more false longest kept more i answer none split e = rw e (lines-cut longest kept more i none split)
 
 -- a line is cut off what is kept
@@ -118,7 +121,10 @@ passed-last s answer none end e = record {
   longest = refl;
   most = refl;
   ended = λ h. (refl, h);
-  answers = λ more h. subst (λ (m : List ℕ). pending s m ≡ answer ++ lines s.longest m) (sym (h end)) (pending-last s answer none e ∙ sym (append-nil answer));
+  answers =
+      λ more h.
+      subst
+      (λ (m : List ℕ). pending s m ≡ answer ++ lines s.longest m) (sym (h end)) (pending-last s answer none e ∙ sym (append-nil answer));
 }
 
 refill_more : (b b' : Bool) (longest longest' : ℕ) (kept kept' got more : List ℕ) → b' ≡ b → longest' ≡ longest → kept' ≡ kept ++ got
@@ -130,14 +136,17 @@ refill_more b b' longest longest' kept kept' got more e f k = rw (e, f, k, appen
 pub passed-refill : (s t : State) → take (length s.kept) t.kept ≡ s.kept → t.taken + length s.kept ≡ s.taken + length t.kept
     → t.longest ≡ s.longest → t.most ≡ s.most → t.skips ≡ s.skips → s.ended ≡ false → Passed s t (drop (length s.kept) t.kept) []
 passed-refill s t front count longest most skips unended =
-    let split : t.kept ≡ s.kept ++ drop (length s.kept) t.kept = sym (take-append-drop (length s.kept) t.kept) ∙ ap (λ (l : List ℕ). l ++ drop (length s.kept) t.kept) front in
-    let lengths : length t.kept ≡ length s.kept + length (drop (length s.kept) t.kept) = ap length split ∙ length-append s.kept (drop (length s.kept) t.kept) in
+    let split : t.kept ≡ s.kept ++ drop (length s.kept) t.kept = sym (take-append-drop (length s.kept) t.kept)
+    ∙ ap (λ (l : List ℕ). l ++ drop (length s.kept) t.kept) front in
+    let lengths : length t.kept ≡ length s.kept + length (drop (length s.kept) t.kept) = ap length split
+    ∙ length-append s.kept (drop (length s.kept) t.kept) in
     record {
       count = omega (arith, lengths, count);
       longest = longest;
       most = most;
       ended = λ h. absurd (cc (h, unended));
-      answers = λ more _. refill_more s.skips t.skips s.longest t.longest s.kept t.kept (drop (length s.kept) t.kept) more skips longest split;
+      answers =
+          λ more _. refill_more s.skips t.skips s.longest t.longest s.kept t.kept (drop (length s.kept) t.kept) more skips longest split;
     }
 
 pub passed-refl : (s : State) → Passed s s [] []

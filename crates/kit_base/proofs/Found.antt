@@ -8,7 +8,8 @@ use Rattle.kit_base.specs.Decimal.{value_on, number_in}
 pub value_on-le : (n : ℕ) (ds : List ℕ) (m : ℕ) → value_on n ds ≡ Some m → n ≤ m
 value_on-le n [] m e = let same : n ≡ m = cc in omega arith
 value_on-le n (d ∷ ds) m e = go (nat_le 48 d && nat_le d 57) (value_on-le (10 * n + (d - 48)) ds m) e where
-  go : (b : Bool) → (value_on (10 * n + (d - 48)) ds ≡ Some m → 10 * n + (d - 48) ≤ m) → (if b then value_on (10 * n + (d - 48)) ds else None) ≡ Some m → n ≤ m
+  go : (b : Bool) → (value_on (10 * n + (d - 48)) ds ≡ Some m → 10 * n + (d - 48) ≤ m)
+      → (if b then value_on (10 * n + (d - 48)) ds else None) ≡ Some m → n ≤ m
   go true below f = let more = below f in omega (arith, more)
   go false below f = absurd (cc f)
 

@@ -30,11 +30,13 @@ binary_back B.Div = refl
 -- the operator that is there is read
 operator_again : (op : Operator) (t : Token) (rest : List Token) → t.kind ≡ K.Mark (binary_spell op)
     → operator_at (looseness op) (t ∷ rest) ≡ Some op
-operator_again op t rest k = let same : (looseness op == looseness op) ≡ true = eq-eqb (looseness op) (looseness op) refl in rw (k, binary_back op, same) refl
+operator_again op t rest k = let same : (looseness op == looseness op)
+    ≡ true = eq-eqb (looseness op) (looseness op) refl in rw (k, binary_back op, same) refl
 
 -- and is none that binds otherwise
 before_operator : (op : Operator) (t : Token) (rest : List Token) → t.kind ≡ K.Mark (binary_spell op) → May (looseness op) (t ∷ rest)
-before_operator op t rest k = λ d lt. let other : (looseness op == d) ≡ false = ne_eqb (looseness op) d (omega (arith, lt)) in rw (k, binary_back op, other) refl
+before_operator op t rest k =
+    λ d lt. let other : (looseness op == d) ≡ false = ne_eqb (looseness op) d (omega (arith, lt)) in rw (k, binary_back op, other) refl
 
 -- what follows what is in parentheses
 before_close : (t : Token) (rest : List Token) → t.kind ≡ K.Mark (codes ")") → May 2 (t ∷ rest)
@@ -75,10 +77,12 @@ module _ (n : ℕ) (reads : Reads n) (chains : (d : ℕ) → Chains n d) where
       let c = one_kind q.1 (K.Mark (codes ")")) (q.4 ∙ s.4.4) in
       let r = reads 2 t q.0 (c.0 ∷ rest) m le (subst (within n 2 t) (sym q.3) s.4.3) (before_close c.0 rest c.2) in
       let parts : front ++ rest ≡ o.0 ∷ (q.0 ++ (c.0 ∷ rest)) =
-      ap (λ z. z ++ rest) (p.2 ∙ ap (λ z. z ++ p.1) o.1 ∙ ap (λ z. o.0 ∷ z) (q.2 ∙ ap (λ z. q.0 ++ z) c.1)) ∙ ap (λ z. o.0 ∷ z) (append_assoc q.0 (c.0 ∷ []) rest) in
+      ap (λ z. z ++ rest) (p.2 ∙ ap (λ z. z ++ p.1) o.1 ∙ ap (λ z. o.0 ∷ z) (q.2 ∙ ap (λ z. q.0 ++ z) c.1)) ∙ ap (λ z.
+      o.0 ∷ z) (append_assoc q.0 (c.0 ∷ []) rest) in
       (suc r.0, omega (arith, r.1), ap (primary_at (within_at m)) parts ∙ closed m o.0 c.0 (q.0 ++ (c.0 ∷ rest)) rest (t, r.0) o.2 c.2 r.2)
     where
-      closed : (m : ℕ) (o c : Token) (us rest : List Token) (x : Levelled) → o.kind ≡ K.Mark (codes "(") → c.kind ≡ K.Mark (codes ")") → within_at m 2 us ≡ Some (x, c ∷ rest)
+      closed : (m : ℕ) (o c : Token) (us rest : List Token) (x : Levelled) → o.kind ≡ K.Mark (codes "(") → c.kind ≡ K.Mark (codes ")")
+          → within_at m 2 us ≡ Some (x, c ∷ rest)
           → primary_at (within_at m) (o ∷ us) ≡ Some ((x.0, suc x.1), rest)
       closed m o c us rest x p q e = rw (p, e, q) refl
 
@@ -110,18 +114,22 @@ module _ (n : ℕ) (reads : Reads n) (chains : (d : ℕ) → Chains n d) where
       let o = one_kind q.0 (K.Mark (binary_spell op)) (q.3 ∙ s.4.3) in
       let right : within n d b (kinds q.1) = subst (within n d b) (sym q.4) s.4.4 in
       let y = reads d b q.1 rest m (omega (arith, le)) right may in
-      let x = chains d a p.0 (o.0 ∷ (q.1 ++ rest)) m (omega (arith, le)) (subst (within n (suc d) a) (sym p.3) s.3) (before_operator op o.0 (q.1 ++ rest) o.2) in
+      let x = chains d a p.0 (o.0 ∷ (q.1 ++ rest)) m (omega (arith, le)) (subst (within n (suc d) a) (sym p.3) s.3)
+      (before_operator op o.0 (q.1 ++ rest) o.2) in
       let goes = operator_again op o.0 (q.1 ++ rest) o.2 in
       let low : nat_le (suc (max x.0 y.0)) (suc m) ≡ true = le-leb (suc (max x.0 y.0)) (suc m) (omega (arith, x.2, y.1, le)) in
       let some : x.1 ≡ suc (x.1 - 1) = omega (arith, x.3, le) in
-      let step : chain_on (within_at m d) (operator_at d) (suc m) x.1 (a, x.0) (o.0 ∷ (q.1 ++ rest)) ≡ chain_on (within_at m d) (operator_at d) (suc m) (x.1 - 1) (binary op a b, suc (max x.0 y.0)) rest =
+      let step : chain_on (within_at m d) (operator_at d) (suc m) x.1 (a, x.0) (o.0 ∷ (q.1 ++ rest))
+      ≡ chain_on (within_at m d) (operator_at d) (suc m) (x.1 - 1) (binary op a b, suc (max x.0 y.0)) rest =
       stepped (within_at m d) (operator_at d) (suc m) x.1 (x.1 - 1) (a, x.0) (b, y.0) op o.0 (q.1 ++ rest) rest some goes y.2 low in
       let parts : front ++ rest ≡ p.0 ++ (o.0 ∷ (q.1 ++ rest)) =
       ap (λ z. z ++ rest) (p.2 ∙ ap (λ z. p.0 ++ z) (q.2 ∙ ap (λ z. z ++ q.1) o.1)) ∙ append_assoc p.0 (o.0 ∷ q.1) rest in
       (suc (max x.0 y.0), x.1 - 1, omega (arith, x.2, y.1), omega (arith, x.3, some), rw parts (x.4 ∙ step))
     where
-      stepped : (operand : Reader Levelled) (op : List Token → Option Operator) (levels more_ left : ℕ) (x y : Levelled) (o : Operator) (t : Token) (ts rest : List Token) → more_ ≡ suc left
-          → op (t ∷ ts) ≡ Some o → operand ts ≡ Some (y, rest) → nat_le (over o x y).1 levels ≡ true → chain_on operand op levels more_ x (t ∷ ts) ≡ chain_on operand op levels left (over o x y) rest
+      stepped : (operand : Reader Levelled) (op : List Token → Option Operator) (levels more_ left : ℕ) (x y : Levelled) (o : Operator)
+          (t : Token) (ts rest : List Token) → more_ ≡ suc left
+          → op (t ∷ ts) ≡ Some o → operand ts ≡ Some (y, rest) → nat_le (over o x y).1 levels ≡ true
+          → chain_on operand op levels more_ x (t ∷ ts) ≡ chain_on operand op levels left (over o x y) rest
       stepped operand op levels more_ left x y o t ts rest some goes e low = rw (some, goes, e, low) refl
 
   chains_at : (d : ℕ) → Climbs (suc n) d → Chains (suc n) d
@@ -130,7 +138,11 @@ module _ (n : ℕ) (reads : Reads n) (chains : (d : ℕ) → Chains n d) where
     | inl lt ↦ tighter_chain d climbs (binary op a b) front rest m le (inl (lt, s.1)) may
     | inr ge ↦
         let same : looseness op ≡ d = omega (arith, ge, s.0) in
-        subst (λ z. May z rest → (h : ℕ) × (left : ℕ) × (h ≤ suc n) × (suc (suc m) ≤ left + suc n) × (climb (within_at m) m (suc z) (front ++ rest) ≡ chain_on (within_at m z) (operator_at z) (suc m) left (binary op a b, h) rest))
+        subst
+        (λ z.
+        May z rest → (h : ℕ) × (left : ℕ) × (h ≤ suc n) × (suc (suc m) ≤ left + suc n)
+        × (climb (within_at m) m (suc z) (front ++ rest) ≡ chain_on (within_at m z) (operator_at z) (suc m) left (binary op a b, h)
+        rest))
         same (one_more op a b front rest m le s.1) may
   ]
   chains_at d climbs t front rest m le (inr p) may = tighter_chain d climbs t front rest m le (inr p) may
@@ -142,7 +154,8 @@ module _ (n : ℕ) (reads : Reads n) (chains : (d : ℕ) → Chains n d) where
       let some : c.1 ≡ suc (c.1 - 1) = omega (arith, c.3, le) in
       (c.0, c.2, c.4 ∙ ended (within_at m d) (operator_at d) (suc m) c.1 (c.1 - 1) (t, c.0) rest some (may d (omega arith)))
     where
-      ended : (operand : Reader Levelled) (op : List Token → Option Operator) (levels more_ left : ℕ) (x : Levelled) (ts : List Token) → more_ ≡ suc left → op ts ≡ None → chain_on operand op levels more_ x ts ≡ Some (x, ts)
+      ended : (operand : Reader Levelled) (op : List Token → Option Operator) (levels more_ left : ℕ) (x : Levelled) (ts : List Token)
+          → more_ ≡ suc left → op ts ≡ None → chain_on operand op levels more_ x ts ≡ Some (x, ts)
       ended operand op levels more_ left x ts some none = rw (some, none) refl
 
   reads_next : Reads (suc n)

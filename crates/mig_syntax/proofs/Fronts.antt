@@ -27,7 +27,8 @@ parts_of : (ts : List Token) (s : Subsystem) → Derives s ts
     → (rest : List Token) × (heading_at ts ≡ Some ((s.name, s.base), rest)) × AreDefs statement s.statements rest
 parts_of ts s d =
     let p = parted ts d.0 d.1 d.2 in
-    let h : Headed ts p.1 = record { name = s.name; base = s.base; front = p.0; parts = p.2; spells = subst (heading s.name s.base) (sym p.3) d.3 } in
+    let h : Headed ts p.1 =
+    record { name = s.name; base = s.base; front = p.0; parts = p.2; spells = subst (heading s.name s.base) (sym p.3) d.3 } in
     (p.1, headed ts p.1 h, subst (each statement s.statements) (sym p.4) d.4)
 
 pub whole : (ts rest : List Token) (n : List ℕ) (b : Tree) (ss : List Statement) → heading_at ts ≡ Some ((n, b), rest)
@@ -73,7 +74,8 @@ one_tree_only a b tokens s t =
     let p = parts_of tokens a s in
     let q = parts_of tokens b t in
     let head = read_is (a.name, a.base) (b.name, b.base) p.0 q.0 (sym p.1 ∙ q.1) in
-    let rest : a.statements ≡ b.statements = files.one_tree_only statement_is leads_statement a.statements b.statements q.0 (subst (AreDefs statement a.statements) head.1 p.2) q.2 in
+    let rest : a.statements ≡ b.statements = files.one_tree_only statement_is leads_statement a.statements b.statements q.0
+    (subst (AreDefs statement a.statements) head.1 p.2) q.2 in
     same a.name b.name a.base b.base a.statements b.statements (ap (λ z. z.0) head.0) (ap (λ z. z.1) head.0) rest
   where
     same : (n m : List ℕ) (x y : Tree) (us vs : List Statement) → n ≡ m → x ≡ y → us ≡ vs → file n x us ≡ file m y vs

@@ -37,9 +37,17 @@ pub parameter_is : IsGrammar parameter_at parameter Any
 unfolding parameter_at
 parameter_is = mapped_is parameter_of parameter
     (both_is
-    (option_is {May = λ rest. begins_with (has_like direction_words) rest ≡ false} (begins_with (has_like direction_words)) (weaker direction_is (λ rest may. tt)) (λ d front rest s may. begins_so leads_direction d front rest s) (λ rest may. may))
+    (option_is {May =
+    λ rest.
+    begins_with (has_like direction_words) rest ≡ false} (begins_with (has_like direction_words))
+    (weaker direction_is (λ rest may. tt)) (λ d front rest s may. begins_so leads_direction d front rest s) (λ rest may. may))
     (both_is identifier_reads (behind_is (mark_reads (codes ":")) identifier_reads) (λ b front rest t may. tt))
-    (λ x front rest t may. begins_not {S = named_text} (has_like direction_words) (leads_both (λ n. mark (codes ":") & identifier n) leads_identifier) (apart_identifiers direction_words (refl, (refl, (refl, (refl, tt))))) x front rest t))
+    (λ x front rest t may.
+    begins_not {S = named_text} (has_like direction_words)
+    (leads_both
+    (λ n.
+    mark (codes ":") & identifier n) leads_identifier) (apart_identifiers direction_words (refl, (refl, (refl, (refl, tt))))) x front
+    rest t))
     (λ x ks s. s) (λ p ks s. ((p.direction, (p.name, p.of)), refl, s))
 
 routine_back : (b : Bool) → lower_in routine_words (K.Name (lower (routine_spell b))) ≡ Some b
@@ -57,7 +65,11 @@ unfolding routine_at
 routine_is = mapped_is routine_of routine
     (both_is (likes_are routine_words routine_spell routine_back (refl, (refl, tt)))
     (both_is identifier_reads
-    (behind_is (mark_reads (codes "(")) (before_is (joined_is (codes ";") parameter_is (λ ts h. tt)) (mark_reads (codes ")")) (λ front rest s. (begins_not (mark_is (codes ";")) (leads_mark (codes ")")) (apart_mark (mark_is (codes ")")) (codes ";") refl) tt front rest s, tt))))
+    (behind_is (mark_reads (codes "("))
+    (before_is (joined_is (codes ";") parameter_is (λ ts h. tt)) (mark_reads (codes ")")) (λ front rest s. (
+      begins_not (mark_is (codes ";")) (leads_mark (codes ")")) (apart_mark (mark_is (codes ")")) (codes ";") refl) tt front rest s,
+      tt,
+    ))))
     (λ b front rest t may. tt))
     (λ b front rest t may. tt))
     (λ x ks s. s) (λ r ks s. ((r.simple, (r.name, r.parameters)), refl, s))

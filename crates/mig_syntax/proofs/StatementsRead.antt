@@ -33,7 +33,9 @@ definition_text x = like (codes "type") & (identifier x.0 & (mark (codes "=") & 
 
 definition_is : IsGrammar definition_at definition_text Any
 unfolding definition_at
-definition_is = behind_is (like_reads (codes "type")) (both_is identifier_reads (behind_is (mark_reads (codes "=")) type_is) (λ b front rest t may. tt))
+definition_is =
+    behind_is (like_reads (codes "type"))
+    (both_is identifier_reads (behind_is (mark_reads (codes "=")) type_is) (λ b front rest t may. tt))
 
 leads_definition : Leads definition_text (like_is (codes "type"))
 leads_definition = leads_behind (λ (x : List ℕ × TypeForm). identifier x.0 & (mark (codes "=") & type_form x.1)) (leads_like (codes "type"))
@@ -73,7 +75,8 @@ import_text x = like (importer_spell x.0) & file_text x.1
 
 import_is : IsGrammar import_at import_text Any
 unfolding import_at
-import_is = both_is (likes_are importer_words importer_spell importer_back (refl, (refl, (refl, tt)))) (token_is file_in file_text file_named (λ f ks s. (K.FileName f, s, refl))) (λ b front rest t may. tt)
+import_is = both_is (likes_are importer_words importer_spell importer_back (refl, (refl, (refl, tt))))
+    (token_is file_in file_text file_named (λ f ks s. (K.FileName f, s, refl))) (λ b front rest t may. tt)
 
 leads_import : Leads import_text (has_like importer_words)
 leads_import = leads_both file_text (leads_likes importer_words importer_spell importer_back)
@@ -155,7 +158,9 @@ body_is = mapped_is body_of body
     (either_is (begins_with (has_like side_words)) prefix_is
     (either_is (begins_with (has_like importer_words)) import_is (like_reads (codes "skip"))
     (λ x front rest s may. begins_so leads_import x front rest s)
-    (λ x front rest s may. begins_not (has_like importer_words) (leads_like (codes "skip")) (apart_likes low_5 importer_words (refl, (refl, (refl, tt)))) x front rest s))
+    (λ x front rest s may.
+    begins_not (has_like importer_words) (leads_like (codes "skip")) (apart_likes low_5 importer_words (refl, (refl, (refl, tt)))) x
+    front rest s))
     (λ x front rest s may. begins_so leads_prefix x front rest s)
     (λ x front rest s may. begins_not (has_like side_words) leads_4 (apart_likes low_4 side_words (refl, (refl, tt))) x front rest s))
     (λ x front rest s may. begins_so leads_routine x front rest s)
@@ -182,5 +187,6 @@ heading_text x = heading x.0 x.1
 pub heading_is : IsGrammar heading_at heading_text Any
 unfolding heading_at
 heading_is = behind_is (like_reads (codes "subsystem")) (both_is identifier_reads
-    (before_is (expression_is 32) (mark_reads (codes ";")) (λ front rest s. closed_by {S = λ (_ : Unit {0}). mark (codes ";")} (codes ";") refl (leads_mark (codes ";")) tt front rest s))
+    (before_is (expression_is 32) (mark_reads (codes ";"))
+    (λ front rest s. closed_by {S = λ (_ : Unit {0}). mark (codes ";")} (codes ";") refl (leads_mark (codes ";")) tt front rest s))
     (λ b front rest t may. tt))

@@ -52,7 +52,9 @@ row_end n = mark (codes "]") & (like (codes "of") & identifier n)
 row_is : IsGrammar row_at row_text Any
 unfolding row_at
 row_is = both_is (expression_is 32) (behind_is (mark_reads (codes "]")) (behind_is (like_reads (codes "of")) identifier_reads))
-    (λ n front rest s may. closed_by {S = row_end} (codes "]") refl (leads_behind (λ n. like (codes "of") & identifier n) (leads_mark (codes "]"))) n front rest s)
+    (λ n front rest s may.
+    closed_by {S = row_end} (codes "]") refl
+    (leads_behind (λ n. like (codes "of") & identifier n) (leads_mark (codes "]"))) n front rest s)
 
 abbrev sized_text : List ℕ × Tree → Text
 sized_text x = mark (codes "(") & (identifier x.0 & (mark (codes ",") & (expression 31 x.1 & mark (codes ")"))))
@@ -60,7 +62,9 @@ sized_text x = mark (codes "(") & (identifier x.0 & (mark (codes ",") & (express
 sized_is : IsGrammar sized_at sized_text Any
 unfolding sized_at
 sized_is = behind_is (mark_reads (codes "(")) (both_is identifier_reads
-    (behind_is (mark_reads (codes ",")) (before_is (expression_is 31) (mark_reads (codes ")")) (λ front rest s. closed_by {S = λ (_ : Unit {0}). mark (codes ")")} (codes ")") refl (leads_mark (codes ")")) tt front rest s)))
+    (behind_is (mark_reads (codes ","))
+    (before_is (expression_is 31) (mark_reads (codes ")"))
+    (λ front rest s. closed_by {S = λ (_ : Unit {0}). mark (codes ")")} (codes ")") refl (leads_mark (codes ")")) tt front rest s)))
     (λ b front rest t may. tt))
 
 abbrev starred_text : Row → Text
@@ -84,9 +88,14 @@ leads_within = leads where
 
   leads : (n loose : ℕ) → Leads (within n loose) is_operand
   leads zero loose t ks s = absurd s
-  leads (suc n) loose t ks (inr p) = let x = leads_behind {P = mark (codes "(")} (λ (t : Tree). within n 2 t & mark (codes ")")) (leads_mark (codes "(")) t ks p in (x.0, x.1, x.2, or_first (mark_is (codes "(") x.0) (is_number x.0) x.3)
+  leads (suc n) loose t ks (inr p) = let x =
+      leads_behind {P = mark (codes "(")}
+      (λ (t : Tree).
+      within n 2 t & mark (codes ")")) (leads_mark (codes "(")) t ks p
+      in (x.0, x.1, x.2, or_first (mark_is (codes "(") x.0) (is_number x.0) x.3)
   leads (suc n) loose (leaf l) ks (inl s) = (K.Number l, [], s, refl)
-  leads (suc n) loose (binary op a b) ks (inl s) = leads_both (λ (t : Tree). mark (binary_spell op) & within n (looseness op) t) (leads n (suc (looseness op))) (a, b) ks s.1
+  leads (suc n) loose (binary op a b) ks (inl s) =
+      leads_both (λ (t : Tree). mark (binary_spell op) & within n (looseness op) t) (leads n (suc (looseness op))) (a, b) ks s.1
 
 leads_row : Leads row_text is_operand
 leads_row x ks s = leads_both row_end (leads_within 32 2) x ks s
@@ -151,7 +160,8 @@ leads_2 : Leads text_2 is_2
 leads_2 = leads_either leads_array leads_3
 
 apart_3 : Apart is_3 (like_is (codes "array"))
-apart_3 = either_apart (like_is (codes "struct")) is_identifier (like_is (codes "array")) (apart_like (word_is (codes "struct")) (codes "array") refl) (apart_identifier (codes "array") refl)
+apart_3 = either_apart (like_is (codes "struct")) is_identifier (like_is (codes "array"))
+    (apart_like (word_is (codes "struct")) (codes "array") refl) (apart_identifier (codes "array") refl)
 
 pub type_is : IsGrammar type_at type_form Any
 unfolding type_at
@@ -163,6 +173,10 @@ type_is = mapped_is type_of type_form
     (λ n front rest s may. begins_not (like_is (codes "struct")) leads_identifier (apart_identifier (codes "struct") refl) n front rest s))
     (λ x front rest s may. begins_so leads_array x front rest s)
     (λ x front rest s may. begins_not (like_is (codes "array")) leads_3 apart_3 x front rest s))
-    (λ x front rest s may. begins_so (leads_behind (λ (x : List ℕ × Tree). identifier x.0 & (mark (codes ",") & (expression 31 x.1 & mark (codes ")")))) (leads_mark (codes "("))) x front rest s)
+    (λ x front rest s may.
+    begins_so
+    (leads_behind
+    (λ (x : List ℕ × Tree).
+    identifier x.0 & (mark (codes ",") & (expression 31 x.1 & mark (codes ")")))) (leads_mark (codes "("))) x front rest s)
     (λ x front rest s may. begins_not (mark_is (codes "(")) leads_2 (apart_mark is_2 (codes "(") refl) x front rest s))
     forth back

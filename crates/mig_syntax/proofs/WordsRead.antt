@@ -44,7 +44,8 @@ leads_like w a ks s = (K.Name s.0, [], s.1, is_like w s.0 s.2)
 lower_by : {A : Type 0} (spell : A → List ℕ) (x : List ℕ × A) (k : TokenKind) (a : A) (b : Bool) (others : Option A) → spell x.1 ≡ x.0
     → word_is (lower x.0) k ≡ b → (others ≡ Some a → k ≡ K.Name (lower (spell a))) → cond b (Some x.1) others ≡ Some a
     → k ≡ K.Name (lower (spell a))
-lower_by spell x k a true others h is rest q = let same : x.1 ≡ a = cc in word_named (lower x.0) k is ∙ ap (λ z. K.Name (lower z)) (sym h) ∙ ap (λ z. K.Name (lower (spell z))) same
+lower_by spell x k a true others h is rest q = let same : x.1 ≡ a = cc in word_named (lower x.0) k is
+    ∙ ap (λ z. K.Name (lower z)) (sym h) ∙ ap (λ z. K.Name (lower (spell z))) same
 lower_by spell x k a false others h is rest q = rest q
 
 lower_named : {A : Type 0} (spell : A → List ℕ) (es : List (List ℕ × A)) → AllByRecursion (λ e. spell e.1 ≡ e.0) es

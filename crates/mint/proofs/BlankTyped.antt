@@ -107,8 +107,10 @@ mutual
   blank_is_of (scalar_type s) h = blank_is_scalar s (not_false (is_labelled s) (level_taken (scalar_type s) h).labelled)
   blank_is_of (array_type a) h = blank_is_array a (level_taken (array_type a) h)
   blank_is_of (group_type ts) h = blanks_are_of ts h.1
-  blank_is_of (items_type c t) h = (least_allowed c _ (count-copies (least c) (blank t)), each_copy (IsOf t) (least c) (blank t) (blank_is_of t h.1))
-  blank_is_of (choice_type s arms) h = let a = armed_scalar s arms (level_taken (choice_type s arms) h.0) in blank_arm_is_of s arms a.0 a.1 h.1
+  blank_is_of (items_type c t) h =
+      (least_allowed c _ (count-copies (least c) (blank t)), each_copy (IsOf t) (least c) (blank t) (blank_is_of t h.1))
+  blank_is_of (choice_type s arms) h = let a = armed_scalar s arms (level_taken (choice_type s arms) h.0) in blank_arm_is_of s arms a.0
+      a.1 h.1
   blank_is_of (maybe_type t) h = tt
 
   blanks_are_of : (ts : Tys) → AreSound ts → AreOf ts (blanks ts)

@@ -59,7 +59,8 @@ first_made r ts arms o s a n x h is tag inner = arm_made r (arm n x) _ h (rw (ta
 pub other_made : (r : Result Value NoMemory) (ts : List Ty) (arms : List (ℤ × ℕ)) (o : Option ℕ) (s : Scalar) (i : ℕ) (n : ℤ) (x : Val)
     → IfOk r (λ v. seen v ≡ arm n x) → None ≡ slice_get arms 0 → o ≡ Some i → n ≡ blank_scalar s → x ≡ blank (at ts i)
     → IfOk r (λ v. seen v ≡ blank_arm s (arms_at ts arms o))
-other_made r ts arms o s i n x h none is tag inner = arm_made r (arm n x) _ h (rw (tag, inner) (ap (blank_arm s) (arms_none ts arms o none) ∙ ap (λ z. blank_arm s (others_at ts z)) is))
+other_made r ts arms o s i n x h none is tag inner =
+    arm_made r (arm n x) _ h (rw (tag, inner) (ap (blank_arm s) (arms_none ts arms o none) ∙ ap (λ z. blank_arm s (others_at ts z)) is))
 
 pub none_made : (ts : List Ty) (arms : List (ℤ × ℕ)) (o : Option ℕ) (s : Scalar) → None ≡ slice_get arms 0 → o ≡ None
     → void ≡ blank_arm s (arms_at ts arms o)

@@ -63,14 +63,28 @@ number_back kind.Bool (pos n) h = let lt : n < 2 = ltb-true n 2 h in ap pos (ome
 number_back kind.U16 (pos n) h = ap pos (from_le_bytes-to_le_bytes_2 n (ltb-true n 65536 h))
 number_back kind.U32 (pos n) h = ap pos (from_le_bytes-to_le_bytes_4 n (ltb-true n 4294967296 h))
 number_back kind.U64 (pos n) h = ap pos (from_le_bytes-to_le_bytes_8 n (ltb-true n 18446744073709551616 h))
-number_back kind.I8 (pos n) h = let lt : n < 128 = ltb-true n 128 h in signed w8 (λ m. m % 256) (pos n) (record { sfits = lt }) (omega arith)
-number_back kind.I8 (negsuc n) h = let lt : n < 128 = ltb-true n 128 h in signed w8 (λ m. m % 256) (negsuc n) (record { sfits = lt }) (omega arith)
-number_back kind.I16 (pos n) h = let lt : n < 32768 = ltb-true n 32768 h in signed w16 (λ m. from_le_bytes w16 (to_le_bytes w16 m)) (pos n) (record { sfits = lt }) (from_le_bytes-to_le_bytes_2 _ (omega arith))
-number_back kind.I16 (negsuc n) h = let lt : n < 32768 = ltb-true n 32768 h in signed w16 (λ m. from_le_bytes w16 (to_le_bytes w16 m)) (negsuc n) (record { sfits = lt }) (from_le_bytes-to_le_bytes_2 _ (omega arith))
-number_back kind.I32 (pos n) h = let lt : n < 2147483648 = ltb-true n 2147483648 h in signed w32 (λ m. from_le_bytes w32 (to_le_bytes w32 m)) (pos n) (record { sfits = lt }) (from_le_bytes-to_le_bytes_4 _ (omega arith))
-number_back kind.I32 (negsuc n) h = let lt : n < 2147483648 = ltb-true n 2147483648 h in signed w32 (λ m. from_le_bytes w32 (to_le_bytes w32 m)) (negsuc n) (record { sfits = lt }) (from_le_bytes-to_le_bytes_4 _ (omega arith))
-number_back kind.I64 (pos n) h = let lt : n < 9223372036854775808 = ltb-true n 9223372036854775808 h in signed w64 (λ m. from_le_bytes w64 (to_le_bytes w64 m)) (pos n) (record { sfits = lt }) (from_le_bytes-to_le_bytes_8 _ (omega arith))
-number_back kind.I64 (negsuc n) h = let lt : n < 9223372036854775808 = ltb-true n 9223372036854775808 h in signed w64 (λ m. from_le_bytes w64 (to_le_bytes w64 m)) (negsuc n) (record { sfits = lt }) (from_le_bytes-to_le_bytes_8 _ (omega arith))
+number_back kind.I8 (pos n) h = let lt : n < 128 =
+    ltb-true n 128 h in signed w8 (λ m. m % 256) (pos n) (record { sfits = lt }) (omega arith)
+number_back kind.I8 (negsuc n) h = let lt : n < 128 =
+    ltb-true n 128 h in signed w8 (λ m. m % 256) (negsuc n) (record { sfits = lt }) (omega arith)
+number_back kind.I16 (pos n) h = let lt : n < 32768 =
+    ltb-true n 32768 h in signed w16
+    (λ m. from_le_bytes w16 (to_le_bytes w16 m)) (pos n) (record { sfits = lt }) (from_le_bytes-to_le_bytes_2 _ (omega arith))
+number_back kind.I16 (negsuc n) h = let lt : n < 32768 =
+    ltb-true n 32768 h in signed w16
+    (λ m. from_le_bytes w16 (to_le_bytes w16 m)) (negsuc n) (record { sfits = lt }) (from_le_bytes-to_le_bytes_2 _ (omega arith))
+number_back kind.I32 (pos n) h = let lt : n < 2147483648 =
+    ltb-true n 2147483648 h in signed w32
+    (λ m. from_le_bytes w32 (to_le_bytes w32 m)) (pos n) (record { sfits = lt }) (from_le_bytes-to_le_bytes_4 _ (omega arith))
+number_back kind.I32 (negsuc n) h = let lt : n < 2147483648 =
+    ltb-true n 2147483648 h in signed w32
+    (λ m. from_le_bytes w32 (to_le_bytes w32 m)) (negsuc n) (record { sfits = lt }) (from_le_bytes-to_le_bytes_4 _ (omega arith))
+number_back kind.I64 (pos n) h = let lt : n < 9223372036854775808 =
+    ltb-true n 9223372036854775808 h in signed w64
+    (λ m. from_le_bytes w64 (to_le_bytes w64 m)) (pos n) (record { sfits = lt }) (from_le_bytes-to_le_bytes_8 _ (omega arith))
+number_back kind.I64 (negsuc n) h = let lt : n < 9223372036854775808 =
+    ltb-true n 9223372036854775808 h in signed w64
+    (λ m. from_le_bytes w64 (to_le_bytes w64 m)) (negsuc n) (record { sfits = lt }) (from_le_bytes-to_le_bytes_8 _ (omega arith))
 number_back kind.Octet (negsuc n) h = absurd (omega (arith, ltb-true n 0 h))
 number_back kind.U8 (negsuc n) h = absurd (omega (arith, ltb-true n 0 h))
 number_back kind.Char (negsuc n) h = absurd (omega (arith, ltb-true n 0 h))
@@ -148,7 +162,11 @@ low_8 h y =
 signed_ranged : (k : Kind) (half m : ℕ) → above k ≡ half → under k ≡ half → m < half + half
     → in_range k (cond (ltb m half) (pos m) (negsuc (half + half - suc m))) ≡ true
 signed_ranged k half m up down lt =
-    elim (cases_lt m half) [ inl less ↦ rw (lt-ltb m half less, up) (lt-ltb m half less) | inr more ↦ rw (le-ltb m half more, down) (lt-ltb (half + half - suc m) half (omega arith)) ]
+    elim (cases_lt m half) [
+      | inl less ↦ rw (lt-ltb m half less, up) (lt-ltb m half less)
+      | inr more ↦ rw (le-ltb m half more, down)
+          (lt-ltb (half + half - suc m) half (omega arith))
+    ]
 
 pub number_ranged : (k : Kind) (o : List ℕ) → k ≢ kind.Bool → AreOctets o → IsTrue (in_range k (number_in k o))
 unfolding number_in
@@ -177,17 +195,22 @@ joined false b g h = absurd cc
 pub ranged-append : (k : Kind) (ns ms : List ℤ) → IsTrue (list_all (in_range k) ns) → IsTrue (list_all (in_range k) ms)
     → IsTrue (list_all (in_range k) (ns ++ ms))
 ranged-append k [] ms g h = h
-ranged-append k (n ∷ ns) ms g h = let s = split (in_range k n) (list_all (in_range k) ns) g in joined (in_range k n) _ s.0 (ranged-append k ns ms s.1 h)
+ranged-append k (n ∷ ns) ms g h = let s = split (in_range k n) (list_all (in_range k) ns) g in joined (in_range k n) _ s.0
+    (ranged-append k ns ms s.1 h)
 
 pub image-append : (k : Kind) (ns ms : List ℤ) → image_of k (ns ++ ms) ≡ image_of k ns ++ image_of k ms
 image-append k [] ms = refl
-image-append k (n ∷ ns) ms = ap (λ z. octets_of k n ++ z) (image-append k ns ms) ∙ sym (append_assoc (octets_of k n) (image_of k ns) (image_of k ms))
+image-append k (n ∷ ns) ms =
+    ap (λ z. octets_of k n ++ z) (image-append k ns ms) ∙ sym (append_assoc (octets_of k n) (image_of k ns) (image_of k ms))
 
 -- the first number of an image
 numbers-front : (k : Kind) (a o : List ℕ) → length a ≡ width k → numbers_of k (a ++ o) ≡ number_in k a ∷ numbers_of k o
 unfolding numbers_of numbers_in
 numbers-front k a o len =
-    let many : length (a ++ o) / width k ≡ suc (length o / width k) = ap (λ z. z / width k) (length-append a o ∙ ap (λ z. z + length o) len) ∙ add-div_left (length o) (some_octets k) ∙ add-one (length o / width k) in
+    let many : length (a ++ o) / width k ≡ suc (length o / width k) =
+    ap (λ z.
+    z / width k)
+    (length-append a o ∙ ap (λ z. z + length o) len) ∙ add-div_left (length o) (some_octets k) ∙ add-one (length o / width k) in
     rw (many, take_at a o (width k) len, drop_at a o (width k) len) refl
 
 pub numbers-none : (k : Kind) → numbers_of k [] ≡ []
@@ -216,7 +239,8 @@ numbers-behind k (n ∷ ns) o h =
     ∙ ap (λ z. n ∷ z) (numbers-behind k ns o s.1)
 
 pub numbers-image : (k : Kind) (ns : List ℤ) → IsTrue (list_all (in_range k) ns) → numbers_of k (image_of k ns) ≡ ns
-numbers-image k ns h = ap (numbers_of k) (sym (append-nil (image_of k ns))) ∙ numbers-behind k ns [] h ∙ ap (λ z. ns ++ z) (numbers-none k) ∙ append-nil ns
+numbers-image k ns h = ap (numbers_of k) (sym (append-nil (image_of k ns))) ∙ numbers-behind k ns [] h
+    ∙ ap (λ z. ns ++ z) (numbers-none k) ∙ append-nil ns
 
 -- ---- images of numbers
 
@@ -245,7 +269,9 @@ image_in k (suc n) o len oct =
 ranged_in : (k : Kind) (n : ℕ) (o : List ℕ) → k ≢ kind.Bool → AreOctets o → IsTrue (list_all (in_range k) (numbers_in k n o))
 unfolding numbers_in
 ranged_in k zero o other oct = refl
-ranged_in k (suc n) o other oct = joined (in_range k (number_in k (take (width k) o))) _ (number_ranged k (take (width k) o) other (octets_taken (width k) o oct)) (ranged_in k n (drop (width k) o) other (octets_dropped (width k) o oct))
+ranged_in k (suc n) o other oct =
+    joined (in_range k (number_in k (take (width k) o))) _ (number_ranged k (take (width k) o) other (octets_taken (width k) o oct))
+    (ranged_in k n (drop (width k) o) other (octets_dropped (width k) o oct))
 
 whole_words : (w l : ℕ) → l % w ≡ 0 → l ≡ l / w * w
 whole_words w l h = sym (omega (arith, div-add-mod' l w))
@@ -274,7 +300,8 @@ pub IsImage-append : (k : Kind) (o p : List ℕ) → IsImage k o → IsImage k p
 IsImage-append k o p is also =
     let ns : List ℤ = numbers_of k o in
     let ms : List ℤ = numbers_of k p in
-    let both : image_of k (ns ++ ms) ≡ o ++ p = image-append k ns ms ∙ ap (λ z. z ++ image_of k ms) is.whole ∙ ap (λ z. o ++ z) also.whole in
+    let both : image_of k (ns ++ ms) ≡ o ++ p = image-append k ns ms
+    ∙ ap (λ z. z ++ image_of k ms) is.whole ∙ ap (λ z. o ++ z) also.whole in
     subst (IsImage k) both (IsImage-numbers k (ns ++ ms) (ranged-append k ns ms is.ranged also.ranged))
 
 -- the image of one number
@@ -300,7 +327,8 @@ pub grown : (k : Kind) (old piece new : List ℕ) (r : Result (Unit {0}) NoMemor
     → OnOk r (new ≡ old ++ piece) → IsImage k old → row_of k (numbers_of k old) ≡ was → numbers_of was.kind piece ≡ ms
     → OnOk r (row_of k (numbers_of k new) ≡ row_of was.kind (was.numbers ++ ms))
 grown k old piece new (Ok x) was ms ok is same also =
-    let P : Numbers → Type 0 = λ (w : Numbers). numbers_of w.kind piece ≡ ms → row_of k (numbers_of k new) ≡ row_of w.kind (w.numbers ++ ms) in
+    let P : Numbers → Type 0 =
+    λ (w : Numbers). numbers_of w.kind piece ≡ ms → row_of k (numbers_of k new) ≡ row_of w.kind (w.numbers ++ ms) in
     subst P same (λ e. ap (row_of k) (ap (numbers_of k) ok ∙ numbers-append k old piece is ∙ ap (λ z. numbers_of k old ++ z) e)) also
 grown k old piece new (Err x) was ms ok is same also = tt
 
@@ -318,10 +346,15 @@ low_octets kind.U32 (pos n) h = refl
 low_octets kind.I64 (pos n) h = refl
 low_octets kind.U64 (pos n) h = refl
 low_octets kind.Bool (pos n) h = refl
-low_octets kind.I8 (negsuc n) h = let lt : n < 128 = ltb-true n 128 h in ap (λ z. take 1 (to_le_bytes w128 z)) (omega arith) ∙ low_1 (2 ^ 120 - 1) (256 - suc n)
-low_octets kind.I16 (negsuc n) h = let lt : n < 32768 = ltb-true n 32768 h in ap (λ z. take 2 (to_le_bytes w128 z)) (omega arith) ∙ low_2 (2 ^ 112 - 1) (65536 - suc n)
-low_octets kind.I32 (negsuc n) h = let lt : n < 2147483648 = ltb-true n 2147483648 h in ap (λ z. take 4 (to_le_bytes w128 z)) (omega arith) ∙ low_4 (2 ^ 96 - 1) (4294967296 - suc n)
-low_octets kind.I64 (negsuc n) h = let lt : n < 9223372036854775808 = ltb-true n 9223372036854775808 h in ap (λ z. take 8 (to_le_bytes w128 z)) (omega arith) ∙ low_8 (2 ^ 64 - 1) (18446744073709551616 - suc n)
+low_octets kind.I8 (negsuc n) h = let lt : n < 128 =
+    ltb-true n 128 h in ap (λ z. take 1 (to_le_bytes w128 z)) (omega arith) ∙ low_1 (2 ^ 120 - 1) (256 - suc n)
+low_octets kind.I16 (negsuc n) h = let lt : n < 32768 =
+    ltb-true n 32768 h in ap (λ z. take 2 (to_le_bytes w128 z)) (omega arith) ∙ low_2 (2 ^ 112 - 1) (65536 - suc n)
+low_octets kind.I32 (negsuc n) h = let lt : n < 2147483648 =
+    ltb-true n 2147483648 h in ap (λ z. take 4 (to_le_bytes w128 z)) (omega arith) ∙ low_4 (2 ^ 96 - 1) (4294967296 - suc n)
+low_octets kind.I64 (negsuc n) h = let lt : n < 9223372036854775808 =
+    ltb-true n 9223372036854775808 h
+    in ap (λ z. take 8 (to_le_bytes w128 z)) (omega arith) ∙ low_8 (2 ^ 64 - 1) (18446744073709551616 - suc n)
 low_octets kind.Octet (negsuc n) h = absurd (omega (arith, ltb-true n 0 h))
 low_octets kind.U8 (negsuc n) h = absurd (omega (arith, ltb-true n 0 h))
 low_octets kind.Char (negsuc n) h = absurd (omega (arith, ltb-true n 0 h))

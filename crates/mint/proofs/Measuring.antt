@@ -68,7 +68,8 @@ are_below k (i ∷ is) h = let s = split (nat_lt i k) (list_all (λ j. nat_lt j 
 
 arms_below : (k : ℕ) (arms : List (ℤ × ℕ)) → list_all (λ a. nat_lt a.1 k) arms ≡ true → ArmsBelow k arms
 arms_below k [] h = tt
-arms_below k (a ∷ arms) h = let s = split (nat_lt a.1 k) (list_all (λ b. nat_lt b.1 k) arms) h in (ltb-true a.1 k s.0, arms_below k arms s.1)
+arms_below k (a ∷ arms) h = let s =
+    split (nat_lt a.1 k) (list_all (λ b. nat_lt b.1 k) arms) h in (ltb-true a.1 k s.0, arms_below k arms s.1)
 
 other_below : (k : ℕ) (o : Option ℕ) → is_below k o ≡ true → IsBelow k o
 other_below k None h = tt
@@ -82,7 +83,8 @@ below_taken k (node.Text c) h = tt
 below_taken k (node.Row x c) h = tt
 below_taken k (node.Group ids) h = are_below k ids h
 below_taken k (node.Items i c) h = ltb-true i k h
-below_taken k (node.Choice t arms o) h = let s = split (list_all (λ a. nat_lt a.1 k) arms) (is_below k o) h in (arms_below k arms s.0, other_below k o s.1)
+below_taken k (node.Choice t arms o) h = let s =
+    split (list_all (λ a. nat_lt a.1 k) arms) (is_below k o) h in (arms_below k arms s.0, other_below k o s.1)
 below_taken k (node.Maybe i) h = ltb-true i k h
 
 -- ---- a node that is not refused
@@ -174,7 +176,9 @@ measured-push nodes sizes n s are h is =
       table = IsTable-push nodes n are.table a.below;
       many = omega (arith, length-append nodes (n ∷ []), a.room);
       measured = rw (unfolded-push nodes n, map-append, ← are.measured, is) refl;
-      sound = rw (unfolded-push nodes n) (all-push IsSound (unfolded nodes) t are.sound (level_sound (unfolded nodes) n are.sound (rw many a.below) a.level));
+      sound =
+          rw (unfolded-push nodes n)
+          (all-push IsSound (unfolded nodes) t are.sound (level_sound (unfolded nodes) n are.sound (rw many a.below) a.level));
     }
 
 -- the size that is kept of a node

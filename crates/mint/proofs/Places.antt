@@ -39,7 +39,8 @@ number_at k zero o i h = absurd (omega arith)
 number_at k (suc n) o zero h = let none : 0 ≡ 0 * width k = omega arith in ap (λ z. Some (number_in k (take (width k) (drop z o)))) none
 number_at k (suc n) o (suc i) h =
     let next : width k + i * width k ≡ suc i * width k = omega arith in
-    number_at k n (drop (width k) o) i (omega arith) ∙ ap (λ z. Some (number_in k (take (width k) z))) (drop-drop (i * width k) (width k) o ∙ ap (λ z. drop z o) next)
+    number_at k n (drop (width k) o) i (omega arith)
+    ∙ ap (λ z. Some (number_in k (take (width k) z))) (drop-drop (i * width k) (width k) o ∙ ap (λ z. drop z o) next)
 
 -- the number at a place is that of its octets
 pub number_there : (k : Kind) (o : List ℕ) (i : ℕ) → i < length o / width k

@@ -54,7 +54,8 @@ stands ts (m ∷ nodes) zero n is below =
     let same : m ≡ n = cc in
     let more : List Ty = ts ++ level ts m ∷ [] in
     let long : length more ≡ length ts + 1 = length-append ts (level ts m ∷ []) in
-    let agree : AgreeBelow (length ts) ts (unfolded_from more nodes) = λ i h. sym (stays more nodes i (omega arith) ∙ get_or-append ts (level ts m ∷ []) void_type i h) in
+    let agree : AgreeBelow (length ts) ts (unfolded_from more nodes) =
+    λ i h. sym (stays more nodes i (omega arith) ∙ get_or-append ts (level ts m ∷ []) void_type i h) in
     rw add-zero (
     stays more nodes (length ts) (omega arith) ∙ get_or-append_seam ts (level ts m) [] void_type
     ∙ ap (level ts) same ∙ level_agree (length ts) ts (unfolded_from more nodes) n agree (rw add-zero at below))

@@ -44,7 +44,8 @@ different_push (m ∷ ns) n a b =
 -- ---- counting
 
 pub same_test : (a b : ℤ) → int_eq a b ≡ int_eq b a
-same_test a b = one_answer (int_eq a b) (int_eq b a) (Decides-int_eq a b) (let d = Decides-int_eq b a in (λ t. sym (d.0 t), λ e. d.1 (sym e)))
+same_test a b = one_answer (int_eq a b) (int_eq b a) (Decides-int_eq a b)
+    (let d = Decides-int_eq b a in (λ t. sym (d.0 t), λ e. d.1 (sym e)))
 
 any_turned : (ns : List ℤ) (n : ℤ) → list_any (λ k. int_eq k n) ns ≡ list_any (int_eq n) ns
 any_turned [] n = refl
@@ -83,4 +84,5 @@ count_push (m ∷ ns) n =
     let first = any_last (λ k. int_eq k m) ns n in
     let same : int_eq n m ≡ true → list_any (λ k. int_eq k m) ns ≡ list_any (int_eq n) ns =
     λ t. any_turned ns m ∙ ap (λ z. list_any (int_eq z) ns) (sym ((Decides-int_eq n m).0 t)) in
-    rw (first, count_push ns n) (head_counts (int_eq n m) (list_any (λ k. int_eq k m) ns) (list_any (int_eq n) ns) (count_different ns) same)
+    rw (first, count_push ns n)
+    (head_counts (int_eq n m) (list_any (λ k. int_eq k m) ns) (list_any (int_eq n) ns) (count_different ns) same)

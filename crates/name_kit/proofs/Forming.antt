@@ -21,7 +21,8 @@ low_by true low d m n f h = subst (λ z. nat_le low z ≡ true) (ok_same m n h) 
 low_by false low d m n f h = absurd cc
 
 pub natural_low : (low d n : ℕ) (z : ℤ) → natural low d z ≡ Ok n → nat_le low n ≡ true
-natural_low low d n (pos m) h = low_by (nat_le low m && nat_lt m (2 ^ 32)) low d m n (λ b. (and_parts (nat_le low m) (nat_lt m (2 ^ 32)) b).0) h
+natural_low low d n (pos m) h =
+    low_by (nat_le low m && nat_lt m (2 ^ 32)) low d m n (λ b. (and_parts (nat_le low m) (nat_lt m (2 ^ 32)) b).0) h
 natural_low low d n (negsuc m) h = absurd cc
 
 -- ---- members
@@ -38,7 +39,8 @@ pub sound_push : (types : List Shape) (limit : ℕ) (fields : List Field) (f : F
     → are_sound types limit (members_of (fields ++ f ∷ [])) ≡ true
 sound_push types limit [] f a b = and_from _ _ b refl
 sound_push types limit (g ∷ fields) f a b =
-    let parts = and_parts (is_sound_type types limit g.1) (are_sound types limit (members_of fields)) a in and_from _ _ parts.0 (sound_push types limit fields f parts.1 b)
+    let parts = and_parts (is_sound_type types limit g.1) (are_sound types limit (members_of fields)) a in and_from _ _ parts.0
+    (sound_push types limit fields f parts.1 b)
 
 pub record FieldsAre (types : List Shape) (fields : List Field) : Type 0 where
   pub different : are_distinct (map (λ f. f.0) fields) ≡ true
@@ -48,7 +50,11 @@ pub fields_push : (types : List Shape) (fields : List Field) (n : List ℕ) (s :
     → has n (map (λ f. f.0) fields) ≡ false → is_sound_type types (length types) s ≡ true
     → FieldsAre types (fields ++ (n, s) ∷ [])
 fields_push types fields n s are new sound = record {
-  different = subst (λ z. are_distinct z ≡ true) (sym (append_map (λ (f : Field). f.0) fields (n, s))) (distinct_push (map (λ f. f.0) fields) n are.different new);
+  different =
+      subst
+      (λ z.
+      are_distinct z ≡ true)
+      (sym (append_map (λ (f : Field). f.0) fields (n, s))) (distinct_push (map (λ f. f.0) fields) n are.different new);
   sound = sound_push types (length types) fields (n, s) are.sound sound;
 }
 

@@ -41,7 +41,8 @@ mutual
   sound_grow types more limit (text c) le = refl
   sound_grow types more limit (array s c) le = rw (sound_grow types more limit s le) refl
   sound_grow types more limit (structure ms) le = rw (members_grow types more limit ms le) refl
-  sound_grow types more limit (choice s arms) le = rw (sound_grow types more limit s le, unfolded_grow limit types more limit s le, arms_grow types more limit arms le) refl
+  sound_grow types more limit (choice s arms) le =
+      rw (sound_grow types more limit s le, unfolded_grow limit types more limit s le, arms_grow types more limit arms le) refl
   sound_grow types more limit (optional s) le = sound_grow types more limit s le
   sound_grow types more limit (named k) le = refl
 
@@ -79,4 +80,5 @@ pub types_push : (types : List Shape) (s : Shape) → are_sound_types types 0 ty
 types_push types s a b =
     let whole : 0 + length types ≤ length types = omega arith in
     let last : length types ≤ length types = omega arith in
-    one_behind (types ++ s ∷ []) 0 (length types) types s (omega arith) (types_grow types (s ∷ []) 0 types whole ∙ a) (sound_grow types (s ∷ []) (length types) s last ∙ b)
+    one_behind (types ++ s ∷ []) 0 (length types) types s (omega arith) (types_grow types (s ∷ []) 0 types whole ∙ a)
+    (sound_grow types (s ∷ []) (length types) s last ∙ b)

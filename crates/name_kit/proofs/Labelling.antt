@@ -61,8 +61,10 @@ number_added labels t d ns out n are h =
       different = different_push ns n are.different parts.1;
       few = omega (arith, room, count);
       all = all_push (is_of labels t) ns n are.all (not_negated _ parts.0);
-    } in
-    (record { more = n ∷ []; grown = sym same; are = subst (NumbersAre labels t) same all }, subst (λ z. is_some_list z ≡ true) same (some_push ns n))
+    } in (
+      record { more = n ∷ []; grown = sym same; are = subst (NumbersAre labels t) same all },
+      subst (λ z. is_some_list z ≡ true) same (some_push ns n),
+    )
 
 pub joined : {A : Type 0} (xs ys zs : List A) → (xs ++ ys) ++ zs ≡ xs ++ (ys ++ zs)
 joined [] ys zs = refl
@@ -107,7 +109,8 @@ all_good types s (n ∷ ns) h = and_from _ _ h (all_good types s ns h)
 
 behind_them : (arms : List Arm_) (old more : List ℤ) → map (λ a. a.0) arms ≡ old → drop (length arms) (old ++ more) ≡ more
 behind_them [] old more h = ap (λ z. z ++ more) (sym h)
-behind_them (a ∷ arms) old more h = subst (λ z. drop (suc (length arms)) (z ++ more) ≡ more) h (behind_them arms (map (λ a. a.0) arms) more refl)
+behind_them (a ∷ arms) old more h =
+    subst (λ z. drop (suc (length arms)) (z ++ more) ≡ more) h (behind_them arms (map (λ a. a.0) arms) more refl)
 
 firsts : (arms more : List Arm_) → map (λ a. a.0) (arms ++ more) ≡ map (λ a. a.0) arms ++ map (λ a. a.0) more
 firsts [] more = refl
@@ -120,8 +123,14 @@ arms_added types labels t ns new arms s are longer sound =
     let rest : drop (length arms) new ≡ longer.more = ap (drop (length arms)) longer.grown ∙ behind_them arms ns longer.more are.arms in
     record {
       numbers = longer.are;
-      arms = firsts arms (arms_for s (drop (length arms) new)) ∙ ap (λ z. map (λ a. a.0) arms ++ z) (numbers_back s (drop (length arms) new) ∙ rest) ∙ ap (λ z. z ++ longer.more) are.arms ∙ sym longer.grown;
-      sound = list_all-append (λ a. good types a.1) arms (arms_for s (drop (length arms) new)) ∙ and_from _ _ are.sound (all_good types s (drop (length arms) new) sound);
+      arms = firsts arms (arms_for s (drop (length arms) new))
+          ∙ ap (λ z. map (λ a. a.0) arms ++ z) (numbers_back s (drop (length arms) new) ∙ rest) ∙ ap (λ z.
+          z ++ longer.more) are.arms ∙ sym longer.grown;
+      sound =
+          list_all-append
+          (λ a.
+          good types a.1) arms (arms_for s (drop (length arms) new))
+          ∙ and_from _ _ are.sound (all_good types s (drop (length arms) new) sound);
     }
 
 -- ---- the tag
@@ -145,11 +154,15 @@ named_ends types (suc n) limit k e is lt ends =
 
 use_fits : (types : List Shape) (labels : List (ℕ × ℤ)) (u : Use) → UseIs types labels u → is_other (tag_of_use u) ≡ false
     → Fits labels (tag_of_use u) (unfolded (length types) types (length types) (shape_of_use u))
-use_fits types labels (Number k) is ok = subst (Fits labels (tag.Number k)) (sym (number_ends (length types) types (length types) k)) (record { tag = refl; of = λ n h. h })
+use_fits types labels (Number k) is ok = subst (Fits labels (tag.Number k)) (sym (number_ends (length types) types (length types) k))
+    (record { tag = refl; of = λ n h. h })
 use_fits types labels (Declared k (tag.Number kind)) is ok =
-    subst (Fits labels (tag.Number kind)) (sym (named_ends types (length types) (length types) k (number kind) (omega arith) is.0 is.1)) (record { tag = refl; of = λ n h. h })
+    subst (Fits labels (tag.Number kind)) (sym (named_ends types (length types) (length types) k (number kind) (omega arith) is.0 is.1))
+    (record { tag = refl; of = λ n h. h })
 use_fits types labels (Declared k (tag.Enum j)) is ok =
-    subst (Fits labels (tag.Enum j)) (sym (named_ends types (length types) (length types) k (enumeration is.1.items) (omega arith) is.0 is.1.ends)) (record { tag = refl; of = is.1.numbers })
+    subst (Fits labels (tag.Enum j))
+    (sym (named_ends types (length types) (length types) k (enumeration is.1.items) (omega arith) is.0 is.1.ends))
+    (record { tag = refl; of = is.1.numbers })
 use_fits types labels (Declared k tag.Other) is ok = absurd cc
 
 -- ---- the union
@@ -169,7 +182,8 @@ sound_arms : (types : List Shape) (arms : List Arm_) (o : Arms) → list_all (λ
     → are_sound_arms types (length types) o ≡ true
     → are_sound_arms types (length types) (arms_of arms o) ≡ true
 sound_arms types [] o a b = b
-sound_arms types (x ∷ arms) o a b = let parts = and_parts (good types x.1) (list_all (λ a. good types a.1) arms) a in and_from _ _ parts.0 (sound_arms types arms o parts.1 b)
+sound_arms types (x ∷ arms) o a b = let parts =
+    and_parts (good types x.1) (list_all (λ a. good types a.1) arms) a in and_from _ _ parts.0 (sound_arms types arms o parts.1 b)
 
 pub some_arm : (arms : List Arm_) (o : Arms) → is_some_list (map (λ a. a.0) arms) ≡ true → has_arm (arms_of arms o) ≡ true
 some_arm [] o h = absurd cc
@@ -187,8 +201,11 @@ choice_sound types labels u ns arms o used fit are last has =
     let fits = use_fits types labels u used fit in
     let numbers : numbers_of (arms_of arms o) ≡ ns = numbers_arms arms o last.numbers ∙ are.arms in
     let end_ = unfolded (length types) types (length types) (shape_of_use u) in
-    let few : nat_le (length (numbers_of (arms_of arms o))) most_labels ≡ true = ap (λ z. nat_le (length z) most_labels) numbers ∙ le-leb _ _ are.numbers.few in
-    let all : list_all (is_of_tag end_) (numbers_of (arms_of arms o)) ≡ true = ap (list_all (is_of_tag end_)) numbers ∙ all_of (is_of labels t) (is_of_tag end_) ns fits.of are.numbers.all in
+    let few : nat_le (length (numbers_of (arms_of arms o))) most_labels
+    ≡ true = ap (λ z. nat_le (length z) most_labels) numbers ∙ le-leb _ _ are.numbers.few in
+    let all : list_all (is_of_tag end_) (numbers_of (arms_of arms o)) ≡ true = ap (list_all (is_of_tag end_)) numbers
+    ∙ all_of (is_of labels t) (is_of_tag end_) ns fits.of are.numbers.all in
     let different : are_different (numbers_of (arms_of arms o)) ≡ true = ap are_different numbers ∙ are.numbers.different in
-    let whole : is_sound_union end_ (arms_of arms o) ≡ true = and_from _ _ (and_from _ _ (and_from _ _ (and_from _ _ fits.tag has) few) all) different in
+    let whole : is_sound_union end_ (arms_of arms o)
+    ≡ true = and_from _ _ (and_from _ _ (and_from _ _ (and_from _ _ fits.tag has) few) all) different in
     and_from _ _ (and_from _ _ (use_sound types labels u used) whole) (sound_arms types arms o are.sound last.sound)

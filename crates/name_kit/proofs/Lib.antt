@@ -1,10 +1,22 @@
+-- The proofs, each after those that it uses; * marks those that the proofs of functions use.
+
+-- What is known of the parts of an answer
 pub mod Parts
+-- * Names and numbers in a set of indexmap, as lists
 pub mod Tables
+-- A loop's step along a list
 pub mod Steps
+-- Types after others, and what they leave as it is
 pub mod Growing
+-- Names and numbers that are different from those before them
 pub mod Different
+-- What a type that is used stands for, over the types so far
 pub mod Standing
+-- Structs of sound fields are sound
 pub mod Forming
+-- Enums whose items were numbered are sound, and their labels are the numbers of their items
 pub mod Numbering
+-- Unions of sound arms are sound
 pub mod Labelling
+-- What a new type is as the tag of a union
 pub mod Tagging

@@ -36,7 +36,9 @@ pub record LabelsAre (k place : ℕ) (base labels : List (ℕ × ℤ)) (ns : Lis
 
 label_last : (j k : ℕ) (n m : ℤ) (labels : List (ℕ × ℤ))
     → is_label j n (labels ++ (k, m) ∷ []) ≡ (is_label j n labels || (j == k && int_eq n m))
-label_last j k n m labels = list_any-append (λ l. j == l.0 && int_eq n l.1) labels ((k, m) ∷ []) ∙ ap (λ z. is_label j n labels || z) (or_nothing (j == k && int_eq n m))
+label_last j k n m labels =
+    list_any-append (λ l. j == l.0 && int_eq n l.1) labels ((k, m) ∷ []) ∙ ap (λ z.
+    is_label j n labels || z) (or_nothing (j == k && int_eq n m))
   where
     or_nothing : (b : Bool) → (b || false) ≡ b
     or_nothing true = refl
@@ -69,18 +71,24 @@ labels_added k place base old new ns n are (inl (had, same)) =
     let there : list_any (int_eq n) ns ≡ true = sym (are.own n) ∙ had in
     let more : count_different (ns ++ n ∷ []) ≡ count_different ns + 0 = count_push ns n ∙ ap (λ b. count_different ns + new_one b) there in
     record {
-      own = λ m. ap (is_label k m) same ∙ are.own m ∙ absorbed (list_any (int_eq m) ns) (int_eq m n) (λ t. ap (λ z. list_any (int_eq z) ns) ((Decides-int_eq m n).0 t) ∙ there) ∙ sym (any_last (int_eq m) ns n);
+      own =
+          λ m. ap (is_label k m) same ∙ are.own m ∙ absorbed (list_any (int_eq m) ns) (int_eq m n) (λ t.
+          ap (λ z. list_any (int_eq z) ns) ((Decides-int_eq m n).0 t) ∙ there) ∙ sym (any_last (int_eq m) ns n);
       others = λ j m ne. ap (is_label j m) same ∙ are.others j m ne;
       count = ap length same ∙ omega (arith, are.count, more);
       few = omega (arith, are.few, more);
     }
 labels_added k place base old new ns n are (inr (none, grown, room)) =
     let absent : list_any (int_eq n) ns ≡ false = sym (are.own n) ∙ none in
-    let more : count_different (ns ++ n ∷ []) ≡ count_different ns + 1 = count_push ns n ∙ ap (λ b. count_different ns + new_one b) absent in
+    let more : count_different (ns ++ n ∷ []) ≡ count_different ns + 1 = count_push ns n
+    ∙ ap (λ b. count_different ns + new_one b) absent in
     let longer : length new ≡ length old + 1 = ap length grown ∙ length-append old ((k, n) ∷ []) in
     let self : (k == k) ≡ true = eq-eqb k k refl in
     record {
-      own = λ m. ap (is_label k m) grown ∙ label_last k k m n old ∙ rw self (ap (λ z. z || int_eq m n) (are.own m)) ∙ sym (any_last (int_eq m) ns n);
+      own =
+          λ m.
+          ap (is_label k m) grown ∙ label_last k k m n old
+          ∙ rw self (ap (λ z. z || int_eq m n) (are.own m)) ∙ sym (any_last (int_eq m) ns n);
       others = λ j m ne. ap (is_label j m) grown ∙ other_label j k m n old (ne_eqb j k ne) ∙ are.others j m ne;
       count = omega (arith, longer, are.count, more);
       few = omega (arith, are.count, room, more);

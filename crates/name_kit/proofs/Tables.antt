@@ -18,7 +18,9 @@ append_map f (y ∷ ys) x = ap (λ z. f y ∷ z) (append_map f ys x)
 module _ {K : Type 0} (items : K → List ℕ) where
   pub push_map : (k : K) (ks : List K) → has (items k) (map items ks) ≡ false
       → map items (insert_key (λ a b. bytes_eq (items a) (items b)) ks k) ≡ map items ks ++ items k ∷ []
-  push_map k ks h = let new : list_any (λ b. bytes_eq (items k) (items b)) ks ≡ false = any_map (bytes_eq (items k)) items ks ∙ h in rw new (append_map items ks k)
+  push_map k ks h =
+      let new : list_any
+      (λ b. bytes_eq (items k) (items b)) ks ≡ false = any_map (bytes_eq (items k)) items ks ∙ h in rw new (append_map items ks k)
 
   pub push_on : (k : K) (ks new : List K) (old : List (List ℕ)) (name start : List ℕ)
       → new ≡ insert_key (λ a b. bytes_eq (items a) (items b)) ks k → items k ≡ start ++ name → start ≡ []
@@ -38,4 +40,5 @@ same_label p q = nat_eq p.0 q.0 && int_eq p.1 q.1
 pub label_put : (labels new : List (ℕ × ℤ)) (k : ℕ) (n m : ℤ) → new ≡ insert_key same_label labels (k, m) → m ≡ n
     → is_label k n labels ≡ false
     → new ≡ labels ++ (k, n) ∷ []
-label_put labels new k n m made same none = made ∙ ap (λ z. insert_key same_label labels (k, z)) same ∙ insert_new same_label labels (k, n) none
+label_put labels new k n m made same none = made
+    ∙ ap (λ z. insert_key same_label labels (k, z)) same ∙ insert_new same_label labels (k, n) none

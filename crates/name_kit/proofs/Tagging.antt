@@ -31,9 +31,19 @@ new_named types j e lt ends n le =
 
 pub use_tagged : (types : List Shape) (labels : List (ℕ × ℤ)) (u : Use) → UseIs types labels u
     → TagIs (types ++ shape_of_use u ∷ []) labels (length types) (tag_of_use u)
-use_tagged types labels (Number k) is = λ n le. ap (unfolded n (types ++ number k ∷ []) (length types)) (last_is types (number k)) ∙ number_ends n (types ++ number k ∷ []) (length types) k
+use_tagged types labels (Number k) is =
+    λ n le.
+    ap (unfolded n (types ++ number k ∷ []) (length types)) (last_is types (number k))
+    ∙ number_ends n (types ++ number k ∷ []) (length types) k
 use_tagged types labels (Declared j (tag.Number kind)) is = new_named types j (number kind) is.0 is.1
-use_tagged types labels (Declared j (tag.Enum k)) is = record { below = longer types (named j ∷ []) k is.1.below; items = is.1.items; ends = new_named types j (enumeration is.1.items) is.0 is.1.ends; numbers = is.1.numbers }
+use_tagged types labels (Declared j (tag.Enum k)) is =
+    record {
+      below = longer types (named j ∷ []) k is.1.below;
+      items = is.1.items;
+      ends =
+          new_named types j (enumeration is.1.items) is.0 is.1.ends;
+      numbers = is.1.numbers;
+    }
 use_tagged types labels (Declared j tag.Other) is = tt
 
 pub items_turned : (items : List (List ℕ × ℤ)) (n : ℤ) → list_any (λ i. int_eq i.1 n) items ≡ list_any (int_eq n) (numbers items)

@@ -30,7 +30,9 @@ unfolding at_most_at
 at_most_is = behind_is (mark_reads (codes "<"))
     (before_is
     (option_is {May = λ rest. begins_other is_close rest ≡ false} (begins_other is_close) (weaker value_is (λ rest may. tt))
-    (λ a front rest s may. begins_else is_close leads_value (apart_mark (λ k. is_name k || leads_signed k) (codes ">") refl) a front rest s) (λ rest may. may))
+    (λ a front rest s may.
+    begins_else is_close leads_value (apart_mark (λ k. is_name k || leads_signed k) (codes ">") refl) a front rest s) (λ rest may.
+    may))
     (mark_reads (codes ">"))
     (λ front rest p. not_other is_close (front ++ rest) (begins_so (leads_mark (codes ">")) tt front rest p)))
 
@@ -40,7 +42,8 @@ leads_at_most = leads_behind (λ v. maybe value v & mark (codes ">")) (leads_mar
 sized_is : IsGrammar (either (begins_with (mark_is (codes "["))) exactly_at at_most_at) (one_of exactly at_most) Any
 sized_is = either_is (begins_with (mark_is (codes "["))) exactly_is at_most_is
     (λ a front rest s may. begins_so leads_exactly a front rest s)
-    (λ a front rest s may. begins_not (mark_is (codes "[")) leads_at_most (apart_mark (mark_is (codes "<")) (codes "[") refl) a front rest s)
+    (λ a front rest s may.
+    begins_not (mark_is (codes "[")) leads_at_most (apart_mark (mark_is (codes "<")) (codes "[") refl) a front rest s)
 
 -- no size follows it
 abbrev pub DeclMay : List Token → Type 0
@@ -49,9 +52,11 @@ DeclMay rest = (begins_with (mark_is (codes "[")) rest ≡ false) × (begins_wit
 tail_is : IsGrammar (either (begins_with (mark_is (codes "["))) exactly_at (option (begins_with (mark_is (codes "<"))) at_most_at))
     (one_of exactly (maybe at_most)) DeclMay
 tail_is = either_is (begins_with (mark_is (codes "["))) (weaker exactly_is (λ rest may. tt))
-    (option_is (begins_with (mark_is (codes "<"))) (weaker at_most_is (λ rest may. tt)) (λ a front rest s may. begins_so leads_at_most a front rest s) (λ rest may. may.1))
+    (option_is (begins_with (mark_is (codes "<")))
+    (weaker at_most_is (λ rest may. tt)) (λ a front rest s may. begins_so leads_at_most a front rest s) (λ rest may. may.1))
     (λ a front rest s may. begins_so leads_exactly a front rest s)
-    (λ a front rest s may. maybe_not (mark_is (codes "[")) leads_at_most (apart_mark (mark_is (codes "<")) (codes "[") refl) a front rest s may.0)
+    (λ a front rest s may.
+    maybe_not (mark_is (codes "[")) leads_at_most (apart_mark (mark_is (codes "<")) (codes "[") refl) a front rest s may.0)
 
 abbrev DeclShape : Type 0
 DeclShape = (List ℕ × (Value ⊎ Option Value)) ⊎ (List ℕ × Option Value) ⊎ (Ty × (List ℕ ⊎ (List ℕ × (Value ⊎ Option (Option Value)))))
@@ -92,7 +97,8 @@ abbrev is_after_type : TokenKind → Bool
 is_after_type k = mark_is (codes "*") k || is_name k
 
 leads_after_type : Leads after_type is_after_type
-leads_after_type = leads_either (leads_behind name (leads_mark (codes "*"))) (leads_both (one_of exactly (maybe at_most)) (leads_id onc_words))
+leads_after_type = leads_either (leads_behind name (leads_mark (codes "*")))
+    (leads_both (one_of exactly (maybe at_most)) (leads_id onc_words))
 
 abbrev plain_text : Ty × (List ℕ ⊎ (List ℕ × (Value ⊎ Option (Option Value)))) → Text
 plain_text x = type x.0 & after_type x.1
@@ -112,18 +118,25 @@ decl_is = mapped_is decl_of decl
     (led_is (codes "string")
     (weaker (both_is is_name_grammar at_most_is (λ b front rest t may. tt)) (λ rest may. tt))
     (both_is type_is
-    (marked_is (codes "*") (weaker is_name_grammar (λ rest may. tt)) (both_is is_name_grammar tail_is (λ b front rest t may. tt)) (leads_both (one_of exactly (maybe at_most)) (leads_id onc_words)) refl)
-    (λ b front rest t may. begins_not is_int leads_after_type (apart_words is_after_type int_words (refl, (refl, (refl, (refl, (refl, tt)))))) b front rest t))
+    (marked_is (codes "*")
+    (weaker is_name_grammar (λ rest may. tt)) (both_is is_name_grammar tail_is (λ b front rest t may.
+    tt)) (leads_both (one_of exactly (maybe at_most)) (leads_id onc_words)) refl)
+    (λ b front rest t may.
+    begins_not is_int leads_after_type (apart_words is_after_type int_words (refl, (refl, (refl, (refl, (refl, tt)))))) b front rest
+    t))
     leads_plain refl)
     leads_string refl)
     decl_forth decl_back
 
 pub leads_decl : Leads decl (λ k. word_is (codes "opaque") k || (word_is (codes "string") k || is_type k))
-leads_decl = leads_by decl_of decl_back (leads_either (leads_behind (λ x. name x.0 & one_of exactly at_most x.1) (leads_word (codes "opaque"))) leads_string)
+leads_decl =
+    leads_by decl_of decl_back
+    (leads_either (leads_behind (λ x. name x.0 & one_of exactly at_most x.1) (leads_word (codes "opaque"))) leads_string)
 
 pub decl_stops : (front rest : List Token) → mark (codes ";") (kinds front) → DeclMay (front ++ rest)
 decl_stops front rest s =
-    let at = λ (m : List ℕ) (h : mark_is (codes ";") (Mark m) ≡ false). begins_not (mark_is m) (leads_mark (codes ";")) (apart_mark (mark_is (codes ";")) m h) tt front rest s in
+    let at = λ (m : List ℕ) (h : mark_is (codes ";") (Mark m) ≡ false).
+    begins_not (mark_is m) (leads_mark (codes ";")) (apart_mark (mark_is (codes ";")) m h) tt front rest s in
     (at (codes "[") refl, at (codes "<") refl)
 
 abbrev pub is_decl : TokenKind → Bool

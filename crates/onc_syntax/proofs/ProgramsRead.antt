@@ -43,14 +43,18 @@ proc_type_is = mapped_is proc_type_of proc_type
     (λ a front rest s may. begins_so (leads_word (codes "string")) a front rest s)
     (λ d front rest s may. begins_not (word_is (codes "string")) leads_type (apart_word is_type (codes "string") refl) d front rest s))
     (λ a front rest s may. begins_so (leads_word (codes "void")) a front rest s)
-    (λ d front rest s may. begins_not (word_is (codes "void")) (leads_either (leads_word (codes "string")) leads_type) (apart_word (λ k. word_is (codes "string") k || is_type k) (codes "void") refl) d front rest s))
+    (λ d front rest s may.
+    begins_not (word_is (codes "void")) (leads_either (leads_word (codes "string")) leads_type)
+    (apart_word (λ k. word_is (codes "string") k || is_type k) (codes "void") refl) d front rest s))
     proc_type_forth proc_type_back
 
 abbrev is_proc_type : TokenKind → Bool
 is_proc_type k = word_is (codes "void") k || (word_is (codes "string") k || is_type k)
 
 leads_proc_type : Leads proc_type is_proc_type
-leads_proc_type = leads_by proc_type_of proc_type_back (leads_either (leads_word (codes "void")) (leads_either (leads_word (codes "string")) leads_type))
+leads_proc_type =
+    leads_by proc_type_of proc_type_back
+    (leads_either (leads_word (codes "void")) (leads_either (leads_word (codes "string")) leads_type))
 
 abbrev no_int : (g : TokenKind → Bool) → Type 0
 no_int g = AllByRecursion (λ (e : List ℕ × IntWord). g (Name e.0) ≡ false) int_words
@@ -60,7 +64,9 @@ abbrev closed : Value → Text
 closed v = mark (codes ")") & (mark (codes "=") & (value v & mark (codes ";")))
 
 closed_is : IsGrammar (behind (mark_at (codes ")")) (behind (mark_at (codes "=")) (before value_at (mark_at (codes ";"))))) closed Any
-closed_is = behind_is (mark_reads (codes ")")) (behind_is (mark_reads (codes "=")) (before_is value_is (mark_reads (codes ";")) (λ front rest p. tt)))
+closed_is =
+    behind_is (mark_reads (codes ")"))
+    (behind_is (mark_reads (codes "=")) (before_is value_is (mark_reads (codes ";")) (λ front rest p. tt)))
 
 leads_closed : Leads closed (mark_is (codes ")"))
 leads_closed = leads_behind (λ v. mark (codes "=") & (value v & mark (codes ";"))) (leads_mark (codes ")"))
@@ -73,11 +79,14 @@ listed_is : IsGrammar
     (behind (mark_at (codes ")")) (behind (mark_at (codes "=")) (before value_at (mark_at (codes ";"))))))
     listed Any
 listed_is = both_is
-    (joined_is (codes ",") proc_type_is (λ ts h. turns (mark_is (codes ",")) is_int (apart_words (mark_is (codes ",")) int_words (refl, (refl, (refl, (refl, (refl, tt)))))) ts h))
+    (joined_is (codes ",") proc_type_is
+    (λ ts h.
+    turns (mark_is (codes ",")) is_int (apart_words (mark_is (codes ",")) int_words (refl, (refl, (refl, (refl, (refl, tt)))))) ts h))
     closed_is
     (λ v front rest s may. (
       begins_not (mark_is (codes ",")) leads_closed (apart_mark (mark_is (codes ")")) (codes ",") refl) v front rest s,
-      begins_not is_int leads_closed (apart_words (mark_is (codes ")")) int_words (refl, (refl, (refl, (refl, (refl, tt)))))) v front rest s,
+      begins_not is_int leads_closed (apart_words (mark_is (codes ")")) int_words (refl, (refl, (refl, (refl, (refl, tt)))))) v front rest
+          s,
     ))
 
 abbrev named_list : List ℕ × (List ProcType × Value) → Text
@@ -90,7 +99,8 @@ procedure_is : IsGrammar procedure_at procedure Any
 unfolding procedure_at
 procedure_is = mapped_is procedure_of procedure
     (both_is proc_type_is (both_is is_name_grammar (behind_is (mark_reads (codes "(")) listed_is) (λ b front rest t may. tt))
-    (λ x front rest s may. begins_not is_int leads_named_list (apart_words is_name int_words (refl, (refl, (refl, (refl, (refl, tt)))))) x front rest s))
+    (λ x front rest s may.
+    begins_not is_int leads_named_list (apart_words is_name int_words (refl, (refl, (refl, (refl, (refl, tt)))))) x front rest s))
     (λ x ks s. s) (λ p ks s. ((p.result, (p.name, (p.parameters, p.number))), refl, s))
 
 leads_procedure : Leads procedure is_proc_type
@@ -104,8 +114,12 @@ version_is : IsGrammar version_at version Any
 unfolding version_at
 version_is = mapped_is version_of version
     (behind_is (word_reads (codes "version")) (both_is is_name_grammar (behind_is (mark_reads (codes "{"))
-    (both_is procedures_is (behind_is (mark_reads (codes "}")) (behind_is (mark_reads (codes "=")) (before_is value_is (mark_reads (codes ";")) (λ front rest p. tt))))
-    (λ v front rest s may. stopped (codes "}") (leads_behind (λ v. mark (codes "=") & (value v & mark (codes ";"))) (leads_mark (codes "}"))) v front rest s)))
+    (both_is procedures_is
+    (behind_is (mark_reads (codes "}"))
+    (behind_is (mark_reads (codes "=")) (before_is value_is (mark_reads (codes ";")) (λ front rest p. tt))))
+    (λ v front rest s may.
+    stopped (codes "}")
+    (leads_behind (λ v. mark (codes "=") & (value v & mark (codes ";"))) (leads_mark (codes "}"))) v front rest s)))
     (λ b front rest t may. tt)))
     (λ x ks s. s) (λ v ks s. ((v.name, (v.procedures, v.number)), refl, s))
 
@@ -118,6 +132,7 @@ program_text x = name x.0 & (mark (codes "{") & (some version x.1.0 & (mark (cod
 pub program_is : IsGrammar program_at program_text Any
 unfolding program_at
 program_is = both_is is_name_grammar (behind_is (mark_reads (codes "{"))
-    (both_is (some_is (until_is (codes "}") version_is leads_version (apart_mark (word_is (codes "version")) (codes "}") refl))) (behind_is (mark_reads (codes "}")) (behind_is (mark_reads (codes "=")) value_is))
+    (both_is (some_is (until_is (codes "}") version_is leads_version (apart_mark (word_is (codes "version")) (codes "}") refl)))
+    (behind_is (mark_reads (codes "}")) (behind_is (mark_reads (codes "=")) value_is))
     (λ v front rest s may. stopped (codes "}") (leads_behind (λ v. mark (codes "=") & value v) (leads_mark (codes "}"))) v front rest s)))
     (λ b front rest t may. tt)

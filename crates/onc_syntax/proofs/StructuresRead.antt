@@ -23,7 +23,9 @@ item_is : IsGrammar item_at item ItemMay
 unfolding item_at
 item_is = mapped_is item_of item
     (both_is is_name_grammar
-    (option_is (begins_with (mark_is (codes "="))) (weaker (behind_is (mark_reads (codes "=")) value_is) (λ rest may. tt)) (λ a front rest s may. begins_so (leads_behind value (leads_mark (codes "="))) a front rest s) (λ rest may. may))
+    (option_is (begins_with (mark_is (codes "=")))
+    (weaker (behind_is (mark_reads (codes "=")) value_is) (λ rest may. tt)) (λ a front rest s may.
+    begins_so (leads_behind value (leads_mark (codes "="))) a front rest s) (λ rest may. may))
     (λ b front rest t may. tt))
     (λ x ks s. s) (λ i ks s. ((i.name, i.value), refl, s))
 
@@ -32,7 +34,9 @@ leads_item i ks s = leads_both (maybe (λ v. mark (codes "=") & value v)) (leads
 
 member_is : IsGrammar member_at member Any
 unfolding member_at
-member_is = mapped_is (λ d. record { decl = d }) member (before_is decl_is (mark_reads (codes ";")) decl_stops) (λ x ks s. s) (λ m ks s. (m.decl, refl, s))
+member_is =
+    mapped_is (λ d. record { decl = d }) member (before_is decl_is (mark_reads (codes ";")) decl_stops) (λ x ks s. s) (λ m ks s.
+    (m.decl, refl, s))
 
 leads_member : Leads member is_decl
 leads_member m ks s = leads_both (λ (_ : Unit {0}). mark (codes ";")) leads_decl (m.decl, tt) ks s
@@ -43,7 +47,11 @@ enum_text x = name x.0 & (mark (codes "{") & (joined (codes ",") item x.1 & mark
 pub enum_is : IsGrammar enum_at enum_text Any
 unfolding enum_at
 enum_is = both_is is_name_grammar (behind_is (mark_reads (codes "{"))
-    (before_is (joined_is (codes ",") item_is (λ ts h. turns (mark_is (codes ",")) (mark_is (codes "=")) (apart_mark (mark_is (codes ",")) (codes "=") refl) ts h)) (mark_reads (codes "}"))
+    (before_is
+    (joined_is (codes ",") item_is
+    (λ ts h.
+    turns (mark_is (codes ",")) (mark_is (codes "=")) (apart_mark (mark_is (codes ",")) (codes "=") refl) ts h))
+    (mark_reads (codes "}"))
     (λ front rest s. (
       begins_not (mark_is (codes ",")) (leads_mark (codes "}")) (apart_mark (mark_is (codes "}")) (codes ",") refl) tt front rest s,
       begins_not (mark_is (codes "=")) (leads_mark (codes "}")) (apart_mark (mark_is (codes "}")) (codes "=") refl) tt front rest s,

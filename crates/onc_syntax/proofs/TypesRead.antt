@@ -42,9 +42,12 @@ pub value_is : IsGrammar value_at value Any
 unfolding value_at
 value_is = mapped_is value_of value
     (either_is (begins_with is_name) (id_reads onc_words)
-    (both_is (flag_reads (codes "-")) number_reads (λ n front rest t may. begins_not (mark_is (codes "-")) leads_number (apart_mark is_number (codes "-") refl) n front rest t))
+    (both_is (flag_reads (codes "-")) number_reads
+    (λ n front rest t may. begins_not (mark_is (codes "-")) leads_number (apart_mark is_number (codes "-") refl) n front rest t))
     (λ n front rest s may. begins_so (leads_id onc_words) n front rest s)
-    (λ x front rest s may. begins_not is_name (leads_when (leads_mark (codes "-")) leads_number) (apart_id onc_words leads_signed (λ n. refl)) x front rest s))
+    (λ x front rest s may.
+    begins_not is_name (leads_when (leads_mark (codes "-")) leads_number)
+    (apart_id onc_words leads_signed (λ n. refl)) x front rest s))
     value_forth value_back
 
 pub leads_value : Leads value (λ k. is_name k || leads_signed k)
@@ -79,9 +82,12 @@ named_text x = maybe prefix x.0 & name x.1
 
 named_is : IsGrammar (both (option (begins_with is_prefix) prefix_at) name_at) (λ x. maybe prefix x.0 & name x.1) Any
 named_is = both_is
-    (option_is {May = λ rest. begins_with is_prefix rest ≡ false} (begins_with is_prefix) (weaker prefix_is (λ rest may. tt)) (λ a front rest s may. begins_so leads_prefix a front rest s) (λ rest may. may))
+    (option_is {May =
+    λ rest. begins_with is_prefix rest ≡ false} (begins_with is_prefix) (weaker prefix_is (λ rest may. tt)) (λ a front rest s may.
+    begins_so leads_prefix a front rest s) (λ rest may. may))
     is_name_grammar
-    (λ n front rest t may. begins_not is_prefix (leads_id onc_words) (apart_words is_name prefix_words (refl, (refl, (refl, tt)))) n front rest t)
+    (λ n front rest t may.
+    begins_not is_prefix (leads_id onc_words) (apart_words is_name prefix_words (refl, (refl, (refl, tt)))) n front rest t)
 
 abbrev is_named : TokenKind → Bool
 is_named k = is_prefix k || is_name k
@@ -128,14 +134,17 @@ pub type_is : IsGrammar type_at type TypeMay
 unfolding type_at
 type_is = mapped_is type_of type
     (led_is (codes "unsigned")
-    (option_is (begins_with is_int) (weaker int_is (λ rest may. tt)) (λ a front rest s may. begins_so leads_int a front rest s) (λ rest may. may))
+    (option_is (begins_with is_int)
+    (weaker int_is (λ rest may. tt)) (λ a front rest s may. begins_so leads_int a front rest s) (λ rest may. may))
     (weaker
     (either_is (begins_with is_int) int_is
     (either_is (begins_with (word_is (codes "bool"))) (word_reads (codes "bool")) named_is
     (λ a front rest s may. begins_so (leads_word (codes "bool")) a front rest s)
     (λ x front rest s may. begins_not (word_is (codes "bool")) leads_named (apart_word is_named (codes "bool") refl) x front rest s))
     (λ a front rest s may. begins_so leads_int a front rest s)
-    (λ x front rest s may. begins_not is_int (leads_either (leads_word (codes "bool")) leads_named) (apart_words is_boolean int_words (refl, (refl, (refl, (refl, (refl, tt)))))) x front rest s))
+    (λ x front rest s may.
+    begins_not is_int (leads_either (leads_word (codes "bool")) leads_named)
+    (apart_words is_boolean int_words (refl, (refl, (refl, (refl, (refl, tt)))))) x front rest s))
     (λ rest may. tt))
     leads_signed_type refl)
     type_forth type_back

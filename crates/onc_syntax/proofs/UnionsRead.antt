@@ -46,7 +46,12 @@ leads_arm = leads_by arm_of arm_back (leads_either (leads_word (codes "void")) l
 
 label_is : IsGrammar label_at label Any
 unfolding label_at
-label_is = mapped_is (λ v. record { value = v }) label (behind_is (word_reads (codes "case")) (before_is value_is (mark_reads (codes ":")) (λ front rest p. tt))) (λ x ks s. s) (λ l ks s. (l.value, refl, s))
+label_is =
+    mapped_is
+    (λ v.
+    record { value = v }) label
+    (behind_is (word_reads (codes "case")) (before_is value_is (mark_reads (codes ":")) (λ front rest p. tt))) (λ x ks s. s) (λ l ks s.
+    (l.value, refl, s))
 
 leads_label : Leads label (word_is (codes "case"))
 leads_label l ks s = leads_behind (λ v. value v & mark (codes ":")) (leads_word (codes "case")) l.value ks s
@@ -69,7 +74,8 @@ leads_case c ks s = leads_both arm_ended (leads_some leads_label) (c.labels, c.a
 
 default_is : IsGrammar default_at default Any
 unfolding default_at
-default_is = behind_is (word_reads (codes "default")) (behind_is (mark_reads (codes ":")) (before_is arm_is (mark_reads (codes ";")) decl_stops))
+default_is =
+    behind_is (word_reads (codes "default")) (behind_is (mark_reads (codes ":")) (before_is arm_is (mark_reads (codes ";")) decl_stops))
 
 leads_default : Leads default (word_is (codes "default"))
 leads_default = leads_behind (λ a. mark (codes ":") & arm a & mark (codes ";")) (leads_word (codes "default"))
@@ -83,10 +89,17 @@ cases_is : IsGrammar
     cases_text Any
 cases_is = both_is (some_is (while_is (codes "case") case_is leads_case))
     (before_is
-    (option_is {May = λ rest. begins_with (word_is (codes "default")) rest ≡ false} (begins_with (word_is (codes "default"))) (weaker default_is (λ rest may. tt)) (λ a front rest s may. begins_so leads_default a front rest s) (λ rest may. may))
+    (option_is {May =
+    λ rest.
+    begins_with (word_is (codes "default")) rest ≡ false} (begins_with (word_is (codes "default")))
+    (weaker default_is (λ rest may. tt)) (λ a front rest s may. begins_so leads_default a front rest s) (λ rest may. may))
     (mark_reads (codes "}"))
-    (λ front rest s. begins_not (word_is (codes "default")) (leads_mark (codes "}")) (apart_word (mark_is (codes "}")) (codes "default") refl) tt front rest s))
-    (λ a front rest s may. begins_not (word_is (codes "case")) (leads_maybe leads_default (leads_mark (codes "}"))) (apart_word (λ k. word_is (codes "default") k || mark_is (codes "}") k) (codes "case") refl) (a, tt) front rest s)
+    (λ front rest s.
+    begins_not (word_is (codes "default")) (leads_mark (codes "}")) (apart_word (mark_is (codes "}")) (codes "default") refl) tt front
+    rest s))
+    (λ a front rest s may.
+    begins_not (word_is (codes "case")) (leads_maybe leads_default (leads_mark (codes "}")))
+    (apart_word (λ k. word_is (codes "default") k || mark_is (codes "}") k) (codes "case") refl) (a, tt) front rest s)
 
 abbrev pub union_text : UnionDef → Text
 union_text u = name u.name & (word (codes "switch") & (mark (codes "(") & (type u.tag & (name u.tag_name & (mark (codes ")")
@@ -96,8 +109,14 @@ pub union_is : IsGrammar union_at union_text Any
 unfolding union_at
 union_is = mapped_is union_of union_text
     (both_is is_name_grammar (behind_is (word_reads (codes "switch")) (behind_is (mark_reads (codes "("))
-    (both_is type_is (both_is is_name_grammar (behind_is (mark_reads (codes ")")) (behind_is (mark_reads (codes "{")) cases_is)) (λ b front rest t may. tt))
-    (λ x front rest s may. begins_not is_int (leads_both (λ y. mark (codes ")") & (mark (codes "{") & cases_text y)) (leads_id onc_words)) (apart_words is_name int_words (refl, (refl, (refl, (refl, (refl, tt)))))) x front rest s))))
+    (both_is type_is (both_is is_name_grammar (behind_is (mark_reads (codes ")")) (behind_is (mark_reads (codes "{")) cases_is))
+    (λ b front rest t may. tt))
+    (λ x front rest s may.
+    begins_not is_int
+    (leads_both
+    (λ y.
+    mark (codes ")") & (mark (codes "{") & cases_text y)) (leads_id onc_words))
+    (apart_words is_name int_words (refl, (refl, (refl, (refl, (refl, tt)))))) x front rest s))))
     (λ b front rest t may. tt))
     (λ x ks s. s) (λ u ks s. ((u.name, (u.tag, (u.tag_name, (u.cases, u.default)))), refl, s))
 

@@ -24,7 +24,8 @@ module _ (us : List Ty) (n : ℤ) where
   arm_typed [] (Some j) v i e h =
       let same : j ≡ i = cc in
       rw same at h
-  arm_typed (a ∷ arms) o v i e h = typed_at (int_eq n a.0) a.1 (arm_found arms o n) None v (IsOfArm (arms_at us arms o) n v) i e h (λ f g. arm_typed arms o v i f g)
+  arm_typed (a ∷ arms) o v i e h = typed_at (int_eq n a.0) a.1 (arm_found arms o n) None v (IsOfArm (arms_at us arms o) n v) i e h
+      (λ f g. arm_typed arms o v i f g)
 
   none_at : (b : Bool) (j : ℕ) (rest : Option ℕ) (v : Val) (R : Type 0) → cond b (Some j) rest ≡ None
       → MatchBool b (IsOf (at us j) v) R → (rest ≡ None → R → ⊥)
@@ -35,7 +36,8 @@ module _ (us : List Ty) (n : ℤ) where
   pub arm_none : (arms : List (ℤ × ℕ)) (o : Option ℕ) (v : Val) → arm_found arms o n ≡ None → IsOfArm (arms_at us arms o) n v → ⊥
   arm_none [] None v e h = h
   arm_none [] (Some j) v e h = absurd cc
-  arm_none (a ∷ arms) o v e h = none_at (int_eq n a.0) a.1 (arm_found arms o n) v (IsOfArm (arms_at us arms o) n v) e h (λ f g. arm_none arms o v f g)
+  arm_none (a ∷ arms) o v e h = none_at (int_eq n a.0) a.1 (arm_found arms o n) v (IsOfArm (arms_at us arms o) n v) e h
+      (λ f g. arm_none arms o v f g)
 
   sent_at : (e : Encoding) (b : Bool) (j : ℕ) (rest : Option ℕ) (p : ℕ) (v : Val) (x : List ℕ) (i : ℕ)
       → cond b (Some j) rest ≡ Some i → (rest ≡ Some i → x ≡ send e (at us i) p v)
@@ -52,4 +54,5 @@ module _ (us : List Ty) (n : ℤ) where
   arm_sent e [] (Some j) p v i is =
       let same : j ≡ i = cc in
       rw same refl
-  arm_sent e (a ∷ arms) o p v i is = sent_at e (int_eq n a.0) a.1 (arm_found arms o n) p v (send_arm e (arms_at us arms o) n p v) i is (λ f. arm_sent e arms o p v i f)
+  arm_sent e (a ∷ arms) o p v i is = sent_at e (int_eq n a.0) a.1 (arm_found arms o n) p v (send_arm e (arms_at us arms o) n p v) i is
+      (λ f. arm_sent e arms o p v i f)

@@ -68,7 +68,8 @@ char_octet (negsuc m) h = h
 pub letters_fit : (ns : List ℤ) → list_all is_letter ns ≡ true → list_all (in_range kind.Octet) ns ≡ true
 letters_fit [] h = refl
 letters_fit (n ∷ ns) h =
-    let char : in_range kind.Char n ≡ true = left_true (in_range kind.Char n) (not (int_eq n (pos 0))) (left_true (is_letter n) (list_all is_letter ns) h) in
+    let char : in_range kind.Char n ≡ true = left_true (in_range kind.Char n) (not (int_eq n (pos 0)))
+    (left_true (is_letter n) (list_all is_letter ns) h) in
     and_true (in_range kind.Octet n) _ (char_octet n char) (letters_fit ns (right_true (is_letter n) _ h))
 
 pub ruleset rows = (octet_elements, other_elements)

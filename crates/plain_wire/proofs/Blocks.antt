@@ -14,7 +14,8 @@ pub octets_there : (n p : ℕ) (o : List ℕ) → n ≤ length o → times any_o
 unfolding read_octet
 octets_there zero p o h = rw add-zero refl
 octets_there (suc n) p [] h = absurd (omega arith)
-octets_there (suc n) p (b ∷ o) h = rw (octets_there n (p + 1) o (omega arith)) (ap (λ m. got (pos b ∷ map pos (take n o)) m (drop n o)) (omega arith))
+octets_there (suc n) p (b ∷ o) h =
+    rw (octets_there n (p + 1) o (omega arith)) (ap (λ m. got (pos b ∷ map pos (take n o)) m (drop n o)) (omega arith))
 
 pub octets_cut : (n p : ℕ) (o : List ℕ) → length o < n → times any_octet n p o ≡ stop Short (p + length o)
 unfolding read_octet
@@ -46,7 +47,8 @@ unfolding read_octet
 zero_stops zero p o h = absurd (omega arith)
 zero_stops (suc n) p [] h = absurd (omega arith)
 zero_stops (suc n) p (b ∷ o) h =
-    rw not_zero (zero_here (b == 0) b p (position_or_len is_zero (take n o)) (length (take n o)) o (times any_letter n) h (λ k. zero_stops n (p + 1) o k))
+    rw not_zero (zero_here (b == 0) b p (position_or_len is_zero (take n o)) (length (take n o)) o (times any_letter n) h
+    (λ k. zero_stops n (p + 1) o k))
 
 none_here : (t : Bool) (b p m l : ℕ) (o : List ℕ) (behind : Reader FaultKind (List ℤ)) (same : Reading FaultKind (List ℤ))
     → suc l ≤ cond (not t) (1 + m) 0 → (l ≤ m → behind (p + 1) o ≡ same)
@@ -60,7 +62,8 @@ unfolding read_octet
 no_zero zero p o h = refl
 no_zero (suc n) p [] h = refl
 no_zero (suc n) p (b ∷ o) h =
-    rw not_zero (none_here (b == 0) b p (position_or_len is_zero (take n o)) (length (take n o)) o (times any_letter n) (times any_octet n (p + 1) o) h (λ k. no_zero n (p + 1) o k))
+    rw not_zero (none_here (b == 0) b p (position_or_len is_zero (take n o)) (length (take n o)) o (times any_letter n)
+    (times any_octet n (p + 1) o) h (λ k. no_zero n (p + 1) o k))
 
 found_at : (t : Bool) (m i : ℕ) → cond t (Some m) None ≡ Some i → (t ≡ true) × (m ≡ i)
 found_at true m i h = (refl, cc)
@@ -76,6 +79,8 @@ letter_zero n p o i h =
     rw (← f.1) (zero_stops n p o (ltb-true _ _ f.0))
 
 pub letters_only : (n p : ℕ) (o : List ℕ) → position is_zero (take n o) ≡ None → times any_letter n p o ≡ times any_octet n p o
-letters_only n p o h = no_zero n p o (ltb-false _ _ (found_none (ltb (position_or_len is_zero (take n o)) (length (take n o))) (position_or_len is_zero (take n o)) h))
+letters_only n p o h =
+    no_zero n p o
+    (ltb-false _ _ (found_none (ltb (position_or_len is_zero (take n o)) (length (take n o))) (position_or_len is_zero (take n o)) h))
 
 pub ruleset blocks = (octets_there, octets_cut, letter_zero, letters_only)

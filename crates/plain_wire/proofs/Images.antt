@@ -23,6 +23,7 @@ octet_image k (negsuc n) narrow h = absurd (omega (arith, ltb-true n 0 h))
 pub octets_image : (k : Kind) (ns : List ℤ) → word k ≡ w8 → list_all (in_range kind.Octet) ns ≡ true → image_of k ns ≡ map natural ns
 octets_image k [] narrow h = refl
 octets_image k (n ∷ ns) narrow h =
-    rw (octet_image k n narrow (left_true (in_range kind.Octet n) _ h), octets_image k ns narrow (right_true (in_range kind.Octet n) _ h)) refl
+    rw (octet_image k n narrow (left_true (in_range kind.Octet n) _ h), octets_image k ns narrow (right_true (in_range kind.Octet n) _ h))
+    refl
 
 pub ruleset images = (octets_image, octet_numbers, whole_octets, not_bool)

@@ -106,7 +106,8 @@ module _ (e : Encoding) (front : Vals) (t : Ty) (ts : Tys) (p : ℕ) (o : List �
       → map_got (joined front) (read_fields e (field t ts) p o) ≡ map_got (joined (joined front (val v no_more))) (read_fields e ts q rest)
   unfolding read
   fields_got v q rest is = rw is (same (read_fields e ts q rest)) where
-    same : (r : Reading FaultKind Vals) → map_got (joined front) (map_got (λ (x : Val × Vals). val x.0 x.1) (map_got (λ vs. (v, vs)) r)) ≡ map_got (joined (joined front (val v no_more))) r
+    same : (r : Reading FaultKind Vals) → map_got (joined front)
+        (map_got (λ (x : Val × Vals). val x.0 x.1) (map_got (λ vs. (v, vs)) r)) ≡ map_got (joined (joined front (val v no_more))) r
     same (got vs m b) = ap (λ z. got z m b) (sym (joined_one front v vs))
     same (stop k at) = refl
 
@@ -142,7 +143,9 @@ arm_read e us [] None n i p o is = absurd cc
 arm_read e us [] (Some j) n i p o is =
     let same : j ≡ i = cc in
     rw same refl
-arm_read e us (a ∷ arms) other n i p o is = arm_at e us (int_eq n a.0) a.1 (arm_found arms other n) (read_arm e (arms_at us arms other) n p o) i p o is (λ f. arm_read e us arms other n i p o f)
+arm_read e us (a ∷ arms) other n i p o is =
+    arm_at e us (int_eq n a.0) a.1 (arm_found arms other n) (read_arm e (arms_at us arms other) n p o) i p o is
+    (λ f. arm_read e us arms other n i p o f)
 
 has_at : (b : Bool) (j : ℕ) (rest found : Option ℕ) (c : Bool) → cond b (Some j) rest ≡ found → (rest ≡ found → c ≡ is_some found)
     → cond b true c ≡ is_some found
@@ -153,7 +156,8 @@ pub arm_is_there : (us : List Ty) (arms : List (ℤ × ℕ)) (other : Option ℕ
     → has_arm (arms_at us arms other) n ≡ is_some found
 arm_is_there us [] None n found is = rw (← is) refl
 arm_is_there us [] (Some j) n found is = rw (← is) refl
-arm_is_there us (a ∷ arms) other n found is = has_at (int_eq n a.0) a.1 (arm_found arms other n) found (has_arm (arms_at us arms other) n) is (λ f. arm_is_there us arms other n found f)
+arm_is_there us (a ∷ arms) other n found is = has_at (int_eq n a.0) a.1 (arm_found arms other n) found (has_arm (arms_at us arms other) n)
+    is (λ f. arm_is_there us arms other n found f)
 
 module _ (e : Encoding) (s : Scalar) (arms : List (ℤ × ℕ)) (other : Option ℕ) (p : ℕ) (o : List ℕ) where
   -- a number with an arm, without one, or none
@@ -185,7 +189,9 @@ module _ (test same : ℤ → Bool) (is : (n : ℤ) → test n ≡ same n) where
   tested_same : (r : Reader FaultKind ℤ) (place : ℕ → ℕ) (p : ℕ) (o : List ℕ)
       → tested r test BadValue place p o ≡ tested r same BadValue place p o
   tested_same r place p o = on (r p o) where
-    on : (x : Reading FaultKind ℤ) → then_on x (λ n q rest. if test n then got n q rest else stop BadValue (place p)) ≡ then_on x (λ n q rest. if same n then got n q rest else stop BadValue (place p))
+    on : (x : Reading FaultKind ℤ) → then_on x
+        (λ n q rest. if test n then got n q rest else stop BadValue (place p)) ≡ then_on x (λ n q rest.
+        if same n then got n q rest else stop BadValue (place p))
     on (got n q rest) = rw is refl
     on (stop k at) = refl
 
@@ -198,7 +204,8 @@ module _ (test same : ℤ → Bool) (is : (n : ℤ) → test n ≡ same n) where
     number_in : Unit {0} × (ℤ × Unit {0}) → ℤ
     number_in y = y.1.0
 
-    on : (x : Reading FaultKind (Unit {0})) → map_got number_in (then_on x (λ u q b. inside u (r q b))) ≡ map_got number_in (then_on x (λ u q b. inside u (r' q b)))
+    on : (x : Reading FaultKind (Unit {0}))
+        → map_got number_in (then_on x (λ u q b. inside u (r q b))) ≡ map_got number_in (then_on x (λ u q b. inside u (r' q b)))
     on (got u q b) = ap (λ z. map_got number_in (inside u z)) (each q b)
     on (stop k place) = refl
 
@@ -206,12 +213,14 @@ module _ (test same : ℤ → Bool) (is : (n : ℤ) → test n ≡ same n) where
   pass_same Xdr s p o = tested_same (read_scalar Xdr s) (scalar_place Xdr s) p o
   pass_same CdrBig s p o = tested_same (read_scalar CdrBig s) (scalar_place CdrBig s) p o
   pass_same CdrLittle s p o = tested_same (read_scalar CdrLittle s) (scalar_place CdrLittle s) p o
-  pass_same Mach s p o = item_same s (tested (read_scalar Mach s) test BadValue (scalar_place Mach s)) (tested (read_scalar Mach s) same BadValue (scalar_place Mach s)) (tested_same (read_scalar Mach s) (scalar_place Mach s)) p o
+  pass_same Mach s p o = item_same s (tested (read_scalar Mach s) test BadValue (scalar_place Mach s))
+      (tested (read_scalar Mach s) same BadValue (scalar_place Mach s)) (tested_same (read_scalar Mach s) (scalar_place Mach s)) p o
 
 module _ (e : Encoding) (s : Scalar) (us : List Ty) (arms : List (ℤ × ℕ)) (other : Option ℕ) (p : ℕ) (o : List ℕ) where
   -- the same tag, whether its arms are types or nodes
   same_tag : read_pass e s (has_arm (arms_at us arms other)) BadValue p o ≡ read_pass e s (lists arms other) BadValue p o
-  same_tag = pass_same (has_arm (arms_at us arms other)) (lists arms other) (λ n. arm_is_there us arms other n (arm_found arms other n) refl) e s p o
+  same_tag = pass_same (has_arm (arms_at us arms other)) (lists arms other)
+      (λ n. arm_is_there us arms other n (arm_found arms other n) refl) e s p o
 
   module _ (n : ℤ) (q : ℕ) (rest : List ℕ) (i : ℕ) (found : arm_found arms other n ≡ Some i)
       (tag : read_pass e s (lists arms other) BadValue p o ≡ got n q rest) where
@@ -242,12 +251,14 @@ pub fields_next : (e : Encoding) (us : List Ty) (ids : List ℕ) (k : ℕ) (fron
     → k < length ids → read e (at us (get_or ids k 0)) p o ≡ got v q rest
     → map_got (joined front) (read_fields e (fields_at us (drop k ids)) p o)
     ≡ map_got (joined (joined front (val v no_more))) (read_fields e (fields_at us (drop (k + 1) ids)) q rest)
-fields_next e us ids k front p o v q rest h is = rw (add-one, drop-cons ids k 0) (fields_got e front (at us (get_or ids k 0)) (fields_at us (drop (suc k) ids)) p o v q rest is)
+fields_next e us ids k front p o v q rest h is =
+    rw (add-one, drop-cons ids k 0) (fields_got e front (at us (get_or ids k 0)) (fields_at us (drop (suc k) ids)) p o v q rest is)
 
 pub fields_broken : (e : Encoding) (us : List Ty) (ids : List ℕ) (k : ℕ) (front : Vals) (p : ℕ) (o : List ℕ) (f : FaultKind) (place : ℕ)
     → k < length ids → read e (at us (get_or ids k 0)) p o ≡ stop f place
     → map_got (joined front) (read_fields e (fields_at us (drop k ids)) p o) ≡ stop f place
-fields_broken e us ids k front p o f place h is = rw (drop-cons ids k 0) (fields_stop e front (at us (get_or ids k 0)) (fields_at us (drop (suc k) ids)) p o f place is)
+fields_broken e us ids k front p o f place h is =
+    rw (drop-cons ids k 0) (fields_stop e front (at us (get_or ids k 0)) (fields_at us (drop (suc k) ids)) p o f place is)
 
 pub fields_none : (e : Encoding) (us : List Ty) (ids : List ℕ) (k : ℕ) (front : Vals) (p : ℕ) (o : List ℕ) → length ids ≤ k
     → map_got (joined front) (read_fields e (fields_at us (drop k ids)) p o) ≡ got front p o

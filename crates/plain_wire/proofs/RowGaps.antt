@@ -73,9 +73,12 @@ row_gapped e k p [] = refl
 row_gapped e k p (n ∷ ns) =
     let g : ℕ = gap p (alignment_of e (number k)) in
     let w : ℕ = byte_len (width_of e (number k)) in
-    let long : length (replicate g 0 ++ bare_octets e k n) ≡ g + w = length-append (replicate g 0) (bare_octets e k n) ∙ ap (λ z. z + length (bare_octets e k n)) (length-replicate g 0) ∙ ap (λ z. g + z) (bare_long e k n) in
+    let long : length (replicate g 0 ++ bare_octets e k n) ≡ g + w = length-append (replicate g 0) (bare_octets e k n)
+    ∙ ap (λ z. z + length (bare_octets e k n)) (length-replicate g 0) ∙ ap (λ z. g + z) (bare_long e k n) in
     let there : p + g + w ≡ p + (g + w) = omega arith in
-    let aligned : gap (p + (g + w)) (alignment_of e (number k)) ≡ 0 = subst (λ q. gap q (alignment_of e (number k)) ≡ 0) there (behind_aligned e (number k) (p + g) (gap_aligned e (number k) p)) in
+    let aligned : gap (p + (g + w)) (alignment_of e (number k))
+    ≡ 0 =
+    subst (λ q. gap q (alignment_of e (number k)) ≡ 0) there (behind_aligned e (number k) (p + g) (gap_aligned e (number k) p)) in
     ap (λ q. (replicate g 0 ++ bare_octets e k n) ++ elements_octets (scalar_octets e (number k)) (p + q) ns) long
     ∙ ap (λ z. (replicate g 0 ++ bare_octets e k n) ++ z) (aligned_elements e k (p + (g + w)) ns aligned)
     ∙ append_assoc (replicate g 0) (bare_octets e k n) (numbers_octets e k ns)
@@ -89,7 +92,9 @@ gap_none p o = rw (le-ltb (length o) 0 (omega arith), add-zero) refl
 module _ (e : Encoding) (s : Scalar) where
   -- where a number begins there is no gap
   here_aligned : (p : ℕ) (o : List ℕ) → gap p (alignment_of e s) ≡ 0 → read_scalar e s p o ≡ read_here e s p o
-  here_aligned p o h = scalar_behind e s p o ∙ ap (λ g. then_on (read_gap g p o) (λ x q b. read_here e s q b)) h ∙ ap (λ r. then_on r (λ x q b. read_here e s q b)) (gap_none p o)
+  here_aligned p o h = scalar_behind e s p o
+      ∙ ap (λ g. then_on (read_gap g p o) (λ x q b. read_here e s q b)) h ∙ ap (λ r.
+      then_on r (λ x q b. read_here e s q b)) (gap_none p o)
 
   -- a number is read from the octets of its width
   tested_place : (u : Bool) (m n : ℤ) (p q r : ℕ) (d b : List ℕ) → cond u (got m q d) (stop BadValue p) ≡ got n r b → r ≡ q
@@ -104,7 +109,9 @@ module _ (e : Encoding) (s : Scalar) where
     f : ℕ → ℤ
     f = number_of (is_signed s) (width_of e s)
 
-    past : (t : Bool) → then_on (map_got f (cond t (stop Short p) (got m (p + byte_len (width_of e s)) (drop (byte_len (width_of e s)) o)))) (λ x r c. if is_scalar s x then got x r c else stop BadValue p) ≡ got n q b → q ≡ p + byte_len (width_of e s)
+    past : (t : Bool)
+        → then_on (map_got f (cond t (stop Short p) (got m (p + byte_len (width_of e s)) (drop (byte_len (width_of e s)) o))))
+        (λ x r c. if is_scalar s x then got x r c else stop BadValue p) ≡ got n q b → q ≡ p + byte_len (width_of e s)
     past true is' = absurd cc
     past false is' = tested_place (is_scalar s (f m)) (f m) n p (p + byte_len (width_of e s)) q (drop (byte_len (width_of e s)) o) b is'
 
@@ -112,8 +119,10 @@ module _ (e : Encoding) (s : Scalar) where
   times_aligned : (n p : ℕ) (o : List ℕ) → gap p (alignment_of e s) ≡ 0 → times (read_scalar e s) n p o ≡ times (read_here e s) n p o
   times_aligned zero p o h = refl
   times_aligned (suc n) p o h = rw (here_aligned p o h) (more (λ q b aligned. times_aligned n q b aligned) (read_here e s p o) refl) where
-    more : ((q : ℕ) (b : List ℕ) → gap q (alignment_of e s) ≡ 0 → times (read_scalar e s) n q b ≡ times (read_here e s) n q b) → (r : Reading FaultKind ℤ) → read_here e s p o ≡ r
-        → then_on r (λ x q rest. map_got (λ xs. x ∷ xs) (times (read_scalar e s) n q rest)) ≡ then_on r (λ x q rest. map_got (λ xs. x ∷ xs) (times (read_here e s) n q rest))
+    more : ((q : ℕ) (b : List ℕ) → gap q (alignment_of e s) ≡ 0 → times (read_scalar e s) n q b ≡ times (read_here e s) n q b)
+        → (r : Reading FaultKind ℤ) → read_here e s p o ≡ r
+        → then_on r (λ x q rest. map_got (λ xs. x ∷ xs) (times (read_scalar e s) n q rest)) ≡ then_on r (λ x q rest.
+        map_got (λ xs. x ∷ xs) (times (read_here e s) n q rest))
     more rest (got x q b) is =
         let aligned = rw (← here_place p o x q b is) at (behind_aligned e s p h) in
         ap (λ z. map_got (λ xs. x ∷ xs) z) (rest q b aligned)
@@ -126,7 +135,8 @@ module _ (e : Encoding) (s : Scalar) where
     rest : Reading FaultKind ℤ → Reading FaultKind (List ℤ)
     rest r = then_on r (λ x q b. map_got (λ xs. x ∷ xs) (times (read_scalar e s) n q b))
 
-    behind : (r : Reading FaultKind (Unit {0})) → read_gap (gap p (alignment_of e s)) p o ≡ r → rest (then_on r (λ x q b. read_here e s q b)) ≡ then_on r (λ x q b. times (read_here e s) (suc n) q b)
+    behind : (r : Reading FaultKind (Unit {0})) → read_gap (gap p (alignment_of e s)) p o ≡ r
+        → rest (then_on r (λ x q b. read_here e s q b)) ≡ then_on r (λ x q b. times (read_here e s) (suc n) q b)
     behind (got x q b) is =
         let there = gap_got (gap p (alignment_of e s)) p o x q b is in
         let aligned = rw (← there) at (gap_aligned e s p) in

@@ -75,12 +75,15 @@ bare_copied e k n (same, way) h =
     let m = residue (width_of e (number k)) n in
     ap (λ w. number_octets e w m) same
     ∙ copied_octets e (word k) m way
-    ∙ ap (to_le_bytes (word k)) (cast_residue (width_of e (number k)) (own_of e (number k)) n (fits_width e (number k) n h) ∙ ap (λ w. cast_unsigned w n) same)
+    ∙ ap (to_le_bytes (word k)) (cast_residue (width_of e (number k)) (own_of e (number k)) n (fits_width e (number k) n h)
+    ∙ ap (λ w. cast_unsigned w n) same)
 
 copied_row : (e : Encoding) (k : Kind) (ns : List ℤ) → IsWay e k Copied → IsTrue (list_all (in_range k) ns)
     → image_of k ns ≡ numbers_octets e k ns
 copied_row e k [] way h = refl
-copied_row e k (n ∷ ns) way h = ap (λ z. z ++ image_of k ns) (sym (bare_copied e k n way (left_true (in_range k n) _ h))) ∙ ap (λ z. bare_octets e k n ++ z) (copied_row e k ns way (right_true (in_range k n) _ h))
+copied_row e k (n ∷ ns) way h =
+    ap (λ z. z ++ image_of k ns) (sym (bare_copied e k n way (left_true (in_range k n) _ h))) ∙ ap (λ z.
+    bare_octets e k n ++ z) (copied_row e k ns way (right_true (in_range k n) _ h))
 
 pub row_copied : (e : Encoding) (k l : Kind) (ns : List ℤ) → IsWay e l Copied → k ≡ l → IsTrue (list_all (in_range l) ns)
     → image_of k ns ≡ numbers_octets e l ns
@@ -127,14 +130,17 @@ bare_swapped e k n (same, big, wide) h =
     let m = residue (width_of e (number k)) n in
     ap (λ w. number_octets e w m) same
     ∙ swapped_octets e (word k) m big (many k wide)
-    ∙ ap (λ z. reverse (to_le_bytes (word k) z)) (cast_residue (width_of e (number k)) (own_of e (number k)) n (fits_width e (number k) n h) ∙ ap (λ w. cast_unsigned w n) same)
+    ∙ ap (λ z.
+    reverse (to_le_bytes (word k) z))
+    (cast_residue (width_of e (number k)) (own_of e (number k)) n (fits_width e (number k) n h) ∙ ap (λ w. cast_unsigned w n) same)
 
 swapped_row : (e : Encoding) (k : Kind) (ns : List ℤ) → IsWay e k Swapped → IsTrue (list_all (in_range k) ns)
     → swapped (width k) (image_of k ns) ≡ numbers_octets e k ns
 swapped_row e k [] way h = swapped-none (width k) way.2
 swapped_row e k (n ∷ ns) way h =
     swapped-first (width k) (octets_of k n) (image_of k ns) (wide k) (octets_many k n)
-    ∙ ap (λ z. z ++ swapped (width k) (image_of k ns)) (sym (bare_swapped e k n way (left_true (in_range k n) _ h))) ∙ ap (λ z. bare_octets e k n ++ z) (swapped_row e k ns way (right_true (in_range k n) _ h))
+    ∙ ap (λ z. z ++ swapped (width k) (image_of k ns)) (sym (bare_swapped e k n way (left_true (in_range k n) _ h))) ∙ ap (λ z.
+    bare_octets e k n ++ z) (swapped_row e k ns way (right_true (in_range k n) _ h))
 
 pub row_swapped : (e : Encoding) (k l : Kind) (ns : List ℤ) → IsWay e l Swapped → k ≡ l → IsTrue (list_all (in_range l) ns)
     → swapped (width l) (image_of k ns) ≡ numbers_octets e l ns
@@ -159,16 +165,24 @@ whole_words w l h = sym (omega (arith, div-add-mod' l w))
 
 -- a piece is whole numbers, and so is what follows it
 pub piece_mod : (w n l : ℕ) → IsSwapWidth w → l % w ≡ 0 → n ≡ min l 512 → n % w ≡ 0
-piece_mod w n l is whole cut = elim (cases_lt l 512) [ inl lt ↦ (let same : n ≡ l = omega arith in rw same whole) | inr le ↦ (let same : n ≡ 512 = omega arith in rw same (even w is)) ] where
-  even : (w : ℕ) → IsSwapWidth w → 512 % w ≡ 0
-  even w (inl is) = rw is refl
-  even w (inr (inl is)) = rw is refl
-  even w (inr (inr is)) = rw is refl
+piece_mod w n l is whole cut =
+    elim (cases_lt l 512) [
+      | inl lt ↦ (let same : n ≡ l = omega arith in rw same whole)
+      | inr le ↦
+          (let same : n ≡ 512 = omega arith in rw same (even w is))
+    ] where
+      even : (w : ℕ) → IsSwapWidth w → 512 % w ≡ 0
+      even w (inl is) = rw is refl
+      even w (inr (inl is)) = rw is refl
+      even w (inr (inr is)) = rw is refl
 
 pub rest_mod : (w n l : ℕ) → IsSwapWidth w → l % w ≡ 0 → n % w ≡ 0 → n ≤ l → (l - n) % w ≡ 0
-rest_mod w n l (inl is) whole cut h = subst (λ v. (l - n) % v ≡ 0) (sym is) (let a : l % 2 ≡ 0 = rw (← is) whole in let b : n % 2 ≡ 0 = rw (← is) cut in omega arith)
-rest_mod w n l (inr (inl is)) whole cut h = subst (λ v. (l - n) % v ≡ 0) (sym is) (let a : l % 4 ≡ 0 = rw (← is) whole in let b : n % 4 ≡ 0 = rw (← is) cut in omega arith)
-rest_mod w n l (inr (inr is)) whole cut h = subst (λ v. (l - n) % v ≡ 0) (sym is) (let a : l % 8 ≡ 0 = rw (← is) whole in let b : n % 8 ≡ 0 = rw (← is) cut in omega arith)
+rest_mod w n l (inl is) whole cut h =
+    subst (λ v. (l - n) % v ≡ 0) (sym is) (let a : l % 2 ≡ 0 = rw (← is) whole in let b : n % 2 ≡ 0 = rw (← is) cut in omega arith)
+rest_mod w n l (inr (inl is)) whole cut h =
+    subst (λ v. (l - n) % v ≡ 0) (sym is) (let a : l % 4 ≡ 0 = rw (← is) whole in let b : n % 4 ≡ 0 = rw (← is) cut in omega arith)
+rest_mod w n l (inr (inr is)) whole cut h =
+    subst (λ v. (l - n) % v ≡ 0) (sym is) (let a : l % 8 ≡ 0 = rw (← is) whole in let b : n % 8 ≡ 0 = rw (← is) cut in omega arith)
 
 -- what is swapped of a row: a first piece, and the rest
 pub swapped_piece : (w n : ℕ) (o : List ℕ) → IsSwapWidth w → n % w ≡ 0 → n ≤ length o
@@ -186,7 +200,12 @@ piece_turned w n rest out spare is whole cut same =
     let even = piece_mod w n (length rest) is whole cut in
     let within : n ≤ length rest = omega arith in
     let front : length (take n rest) ≡ n = omega (arith, length-take n rest) in
-    let long : length (swapped w (take n rest)) ≡ n = length-swapped w (take n rest) is (rw front even) ∙ front in
-    (ap (λ z. take n (z ++ spare)) same ∙ take_at (swapped w (take n rest)) spare n long, swapped_piece w n rest is even within, even, rw length-drop (rest_mod w n (length rest) is whole even within))
+    let long : length (swapped w (take n rest)) ≡ n = length-swapped w (take n rest) is (rw front even) ∙ front in (
+      ap (λ z.
+          take n (z ++ spare)) same ∙ take_at (swapped w (take n rest)) spare n long,
+      swapped_piece w n rest is even within,
+      even,
+      rw length-drop (rest_mod w n (length rest) is whole even within),
+    )
 
 pub ruleset pieces = (piece_mod, rest_mod, swapped_piece, swapped-none, length-swapped, append-nil)

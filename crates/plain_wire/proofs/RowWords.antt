@@ -74,7 +74,8 @@ module _ (r : Reader FaultKind ℤ) (value : List ℕ → ℤ) (w : ℕ) (some :
           rw (step p o oct, lt-ltb _ _ lt, none, zero-mul, add-zero) refl
       | inr le ↦
           let split : length o ≡ w + length (drop w o) = omega (arith, length-drop w o) in
-          let more : length o / w ≡ suc (length (drop w o) / w) = ap (λ z. z / w) split ∙ add-div_left (length (drop w o)) some ∙ add-one (length (drop w o) / w) in
+          let more : length o / w ≡ suc (length (drop w o) / w) =
+          ap (λ z. z / w) split ∙ add-div_left (length (drop w o)) some ∙ add-one (length (drop w o) / w) in
           let rest = words_cut n (p + w) (drop w o) (dropped w o oct) (omega (arith, more)) in
           let m : ℕ = length (drop w o) / w in
           let long : w + m * w ≡ suc m * w = omega arith in
@@ -147,7 +148,8 @@ joined (b ∷ x) y g h = (g.0, joined x y g.1 h)
 
 turned_octets : (o : List ℕ) → AllByRecursion (λ b. b < 256) o → AllByRecursion (λ b. b < 256) (reverse o)
 turned_octets [] h = tt
-turned_octets (a ∷ o) h = subst (AllByRecursion (λ b. b < 256)) (sym (reverse-append (a ∷ []) o)) (joined (reverse o) (a ∷ []) (turned_octets o h.1) (h.0, tt))
+turned_octets (a ∷ o) h =
+    subst (AllByRecursion (λ b. b < 256)) (sym (reverse-append (a ∷ []) o)) (joined (reverse o) (a ∷ []) (turned_octets o h.1) (h.0, tt))
 
 reversed : (o : List ℕ) → AreOctets o → AreOctets (reverse o)
 reversed o oct = octet_at (reverse o) (turned_octets o (each_octet o oct))
@@ -169,13 +171,22 @@ here_word : (e : Encoding) (k : Kind) (value : List ℕ → ℤ) → InImage e k
     → read_here e (number k) p o
     ≡ (if nat_lt (length o) (width k) then stop Short p else got (value (take (width k) o)) (p + width k) (drop (width k) o))
 here_word e k value same is ranged p o oct =
-    ap (λ r. then_on (map_got (number_of (is_signed (number k)) (width_of e (number k))) r) (λ n q b. if in_range k n then got n q b else stop BadValue p)) (word_here e (width_of e (number k)) p o)
-    ∙ ap (λ w. then_on (map_got (number_of (is_signed (number k)) w) (if nat_lt (length o) (byte_len w) then stop Short p else got (octets_number e w (take (byte_len w) o)) (p + byte_len w) (drop (byte_len w) o))) (λ n q b. if in_range k n then got n q b else stop BadValue p)) same
+    ap (λ r. then_on (map_got (number_of (is_signed (number k)) (width_of e (number k))) r) (λ n q b.
+    if in_range k n then got n q b else stop BadValue p)) (word_here e (width_of e (number k)) p o)
+    ∙ ap (λ w.
+    then_on
+    (map_got (number_of (is_signed (number k)) w)
+    (if nat_lt (length o) (byte_len w) then stop Short p else got (octets_number e w (take (byte_len w) o)) (p + byte_len w)
+    (drop (byte_len w) o))) (λ n q b. if in_range k n then got n q b else stop BadValue p)) same
     ∙ by (ltb (length o) (width k)) refl where
       x : List ℕ
       x = take (width k) o
 
-      by : (t : Bool) → ltb (length o) (width k) ≡ t → then_on (map_got (number_of (is_signed (number k)) (word k)) (cond t (stop Short p) (got (octets_number e (word k) x) (p + width k) (drop (width k) o)))) (λ n q b. if in_range k n then got n q b else stop BadValue p)
+      by : (t : Bool) → ltb (length o) (width k) ≡ t
+          → then_on
+          (map_got (number_of (is_signed (number k)) (word k))
+          (cond t (stop Short p) (got (octets_number e (word k) x) (p + width k) (drop (width k) o))))
+          (λ n q b. if in_range k n then got n q b else stop BadValue p)
           ≡ cond t (stop Short p) (got (value x) (p + width k) (drop (width k) o))
       by true cut = refl
       by false there =
@@ -208,7 +219,8 @@ words_first : (value : List ℕ → ℤ) (w n : ℕ) (o : List ℕ) → n * w �
 words_first value w zero o h = refl
 words_first value w (suc n) o h =
     let long : suc n * w ≡ w + n * w = omega arith in
-    let front : take w (take (w + n * w) o) ≡ take w o = rw take-add (take_at (take w o) (take (n * w) (drop w o)) w (omega (arith, length-take w o, long))) in
+    let front : take w (take (w + n * w) o)
+    ≡ take w o = rw take-add (take_at (take w o) (take (n * w) (drop w o)) w (omega (arith, length-take w o, long))) in
     let rest : n * w ≤ length (drop w o) = omega (arith, long, length-drop w o) in
     rw (long, front, drop-take w (n * w) o, words_first value w n (drop w o) rest) refl
 
@@ -222,10 +234,12 @@ within k n l h = (le-div_iff_mul-le (wide k)).0 h
 way_words : (e : Encoding) (k : Kind) (way : Way) → IsWay e k way → way ≢ Single → (n : ℕ) (o : List ℕ) → length o ≡ n * width k
     → words_read (word_value way k) (width k) n o ≡ numbers_of k (arranged way (width k) o)
 unfolding numbers_of
-way_words e k Copied way block n o len = copied_words k n o ∙ ap (λ m. numbers_in k m o) (sym (ap (λ z. z / width k) len ∙ mul-div_cancel n (wide k)))
+way_words e k Copied way block n o len = copied_words k n o
+    ∙ ap (λ m. numbers_in k m o) (sym (ap (λ z. z / width k) len ∙ mul-div_cancel n (wide k)))
 way_words e k Swapped way block n o len =
     let whole : length o % width k ≡ 0 = ap (λ z. z % width k) len ∙ mul-mod_left n (width k) in
-    let same : length (swapped (width k) o) / width k ≡ n = ap (λ z. z / width k) (length-swapped (width k) o way.2 whole ∙ len) ∙ mul-div_cancel n (wide k) in
+    let same : length (swapped (width k) o) / width k
+    ≡ n = ap (λ z. z / width k) (length-swapped (width k) o way.2 whole ∙ len) ∙ mul-div_cancel n (wide k) in
     swapped_words k way.2 n o len ∙ ap (λ m. numbers_in k m (swapped (width k) o)) (sym same)
 way_words e k Single way block n o len = absurd (block refl)
 
@@ -241,8 +255,11 @@ module _ (e : Encoding) (k : Kind) (way : Way) (is : IsWay e k way) (block : way
       ≡ got (numbers_of k (arranged way (width k) (take (n * width k) o))) (p + n * width k) (drop (n * width k) o)
   image_there h =
       let fits = within k n (length o) h in
-      let value : words_read (word_value way k) (width k) n o ≡ numbers_of k (arranged way (width k) (take (n * width k) o)) = sym (words_first (word_value way k) (width k) n o fits) ∙ way_words e k way is block n (take (n * width k) o) (first_long (width k) n o fits) in
-      words_there (read_here e (number k)) (word_value way k) (width k) (wide k) step n p o oct fits ∙ ap (λ z. got z (p + n * width k) (drop (n * width k) o)) value
+      let value : words_read (word_value way k) (width k) n o ≡ numbers_of k (arranged way (width k) (take (n * width k) o)) =
+      sym (words_first (word_value way k) (width k) n o fits)
+      ∙ way_words e k way is block n (take (n * width k) o) (first_long (width k) n o fits) in
+      words_there (read_here e (number k)) (word_value way k) (width k) (wide k) step n p o oct fits
+      ∙ ap (λ z. got z (p + n * width k) (drop (n * width k) o)) value
 
   pub image_cut : length o / width k < n → times (read_here e (number k)) n p o ≡ stop Short (p + length o / width k * width k)
   image_cut h = words_cut (read_here e (number k)) (word_value way k) (width k) (wide k) step n p o oct h
@@ -255,7 +272,9 @@ pub ruleset images = (image_there, image_cut, image_whole, within)
 numbers_first : (k : Kind) (a o : List ℕ) → length a ≡ width k → numbers_of k (a ++ o) ≡ number_in k a ∷ numbers_of k o
 unfolding numbers_of numbers_in
 numbers_first k a o len =
-    let more : length (a ++ o) / width k ≡ suc (length o / width k) = ap (λ z. z / width k) (length-append a o ∙ ap (λ z. z + length o) len) ∙ add-div_left (length o) (wide k) ∙ add-one (length o / width k) in
+    let more : length (a ++ o) / width k ≡ suc (length o / width k) =
+    ap (λ z.
+    z / width k) (length-append a o ∙ ap (λ z. z + length o) len) ∙ add-div_left (length o) (wide k) ∙ add-one (length o / width k) in
     rw (more, take_at a o (width k) len, drop_at a o (width k) len) refl
 
 numbers_both : (k : Kind) (n : ℕ) (a b : List ℕ) → length a ≡ n * width k → numbers_of k (a ++ b) ≡ numbers_of k a ++ numbers_of k b
@@ -269,7 +288,8 @@ numbers_both k (suc n) a b len =
     let front : length f ≡ w = omega (arith, length-take w a, long) in
     let rest : length r ≡ n * w = omega (arith, length-drop w a, long) in
     ap (λ z. numbers_of k (z ++ b)) (sym (take-append-drop w a)) ∙ ap (numbers_of k) (append_assoc f r b) ∙ numbers_first k f (r ++ b) front
-    ∙ ap (λ z. number_in k f ∷ z) (numbers_both k n r b rest) ∙ ap (λ z. z ++ numbers_of k b) (sym (numbers_first k f r front) ∙ ap (numbers_of k) (take-append-drop w a))
+    ∙ ap (λ z. number_in k f ∷ z) (numbers_both k n r b rest) ∙ ap (λ z.
+    z ++ numbers_of k b) (sym (numbers_first k f r front) ∙ ap (numbers_of k) (take-append-drop w a))
 
 -- the numbers of a swapped piece and of the rest
 pub numbers_piece : (k : Kind) (n : ℕ) (o : List ℕ) → IsSwapWidth (width k) → n % width k ≡ 0 → n ≤ length o
@@ -278,7 +298,9 @@ numbers_piece k n o is whole h =
     let long : length (take n o) ≡ n = omega (arith, length-take n o) in
     let even : length (take n o) % width k ≡ 0 = rw long whole in
     let same : length (swapped (width k) (take n o)) ≡ n = length-swapped (width k) (take n o) is even ∙ long in
-    ap (numbers_of k) (swapped_piece (width k) n o is whole h) ∙ numbers_both k (n / width k) (swapped (width k) (take n o)) (swapped (width k) (drop n o)) (same ∙ whole_words (width k) n whole)
+    ap (numbers_of k) (swapped_piece (width k) n o is whole h)
+    ∙ numbers_both k (n / width k) (swapped (width k) (take n o)) (swapped (width k) (drop n o))
+    (same ∙ whole_words (width k) n whole)
 
 pub same_row : (r : Numbers) (k : Kind) (ns : List ℤ) → r.kind ≡ k → r.numbers ≡ ns → r ≡ record { kind = k; numbers = ns }
 same_row r k ns first second = ap (λ j. record { kind = j; numbers = r.numbers }) first ∙ ap (λ z. record { kind = k; numbers = z }) second

@@ -79,8 +79,10 @@ unfolding scalar_octets
 ended_wraps e p n few many =
     let is : n ≡ 4294967295 = omega arith in
     rw is (wraps e) where
-      wraps : (e : Encoding) → replicate (gap p (alignment_of e counted)) 0 ++ number_octets e (width_of e counted) (residue (width_of e counted) (pos 0))
-          ≡ replicate (gap p (alignment_of e counted)) 0 ++ number_octets e (width_of e counted) (residue (width_of e counted) (pos (suc 4294967295)))
+      wraps : (e : Encoding) → replicate (gap p (alignment_of e counted)) 0
+          ++ number_octets e (width_of e counted) (residue (width_of e counted) (pos 0))
+          ≡ replicate (gap p (alignment_of e counted)) 0
+          ++ number_octets e (width_of e counted) (residue (width_of e counted) (pos (suc 4294967295)))
       wraps Xdr = refl
       wraps CdrBig = refl
       wraps CdrLittle = refl

@@ -43,7 +43,8 @@ word_behind e a w p o = elim (cases_lt (length o) (gap p a)) [
       let none : gap (p + gap p a) 1 ≡ 0 = omega arith in
       let there : ltb (length o) (gap p a) ≡ false = le-ltb _ _ le in
       let long : length (drop (gap p a) o) ≡ length o - gap p a = length-drop (gap p a) o in
-      let same : ltb (length (drop (gap p a) o)) (byte_len w) ≡ ltb (length o) (gap p a + byte_len w) = elim (cases_lt (length o) (gap p a + byte_len w)) [
+      let same : ltb (length (drop (gap p a) o)) (byte_len w) ≡ ltb (length o) (gap p a + byte_len w) =
+      elim (cases_lt (length o) (gap p a + byte_len w)) [
         | inl few ↦ rw (lt-ltb _ _ few) (lt-ltb _ _ (omega arith))
         | inr many ↦ rw (le-ltb _ _ many) (le-ltb _ _ (omega arith))
       ] in
@@ -61,17 +62,20 @@ gap_got n p o x q b e = past (ltb (length o) n) e where
 pub scalar_behind : (e : Encoding) (s : Scalar) (p : ℕ) (o : List ℕ)
     → read_scalar e s p o ≡ then_on (read_gap (gap p (alignment_of e s)) p o) (λ x q b. read_here e s q b)
 unfolding read_scalar
-scalar_behind e s p o = rw (word_behind e (alignment_of e s) (width_of e s) p o) (behind (read_gap (gap p (alignment_of e s)) p o) refl) where
-  w : Width
-  w = width_of e s
+scalar_behind e s p o = rw (word_behind e (alignment_of e s) (width_of e s) p o) (behind (read_gap (gap p (alignment_of e s)) p o) refl)
+  where
+    w : Width
+    w = width_of e s
 
-  ends : ℕ → Reading FaultKind ℤ → Reading FaultKind ℤ
-  ends place r = then_on r (λ n q b. if is_scalar s n then got n q b else stop BadValue place)
+    ends : ℕ → Reading FaultKind ℤ → Reading FaultKind ℤ
+    ends place r = then_on r (λ n q b. if is_scalar s n then got n q b else stop BadValue place)
 
-  behind : (r : Reading FaultKind (Unit {0})) → read_gap (gap p (alignment_of e s)) p o ≡ r
-      → ends (scalar_place e s p) (map_got (number_of (is_signed s) w) (then_on r (λ x q b. read_word e 1 w q b))) ≡ then_on r (λ x q b. ends q (map_got (number_of (is_signed s) w) (read_word e 1 w q b)))
-  behind (got x q b) is = ap (λ z. ends z (map_got (number_of (is_signed s) w) (read_word e 1 w q b))) (sym (gap_got (gap p (alignment_of e s)) p o x q b is))
-  behind (stop k at) is = refl
+    behind : (r : Reading FaultKind (Unit {0})) → read_gap (gap p (alignment_of e s)) p o ≡ r
+        → ends (scalar_place e s p) (map_got (number_of (is_signed s) w) (then_on r (λ x q b. read_word e 1 w q b))) ≡ then_on r (λ x q b.
+        ends q (map_got (number_of (is_signed s) w) (read_word e 1 w q b)))
+    behind (got x q b) is =
+        ap (λ z. ends z (map_got (number_of (is_signed s) w) (read_word e 1 w q b))) (sym (gap_got (gap p (alignment_of e s)) p o x q b is))
+    behind (stop k at) is = refl
 
 pub ruleset scalars = (scalar_behind)
 

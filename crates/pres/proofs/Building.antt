@@ -99,7 +99,14 @@ pub push_behind : (s a : Sketch) (xs : List Face) (n : Node) (h : Shape) (f : Fa
     → HasChildrenBelow (length (drawn a)) n → IsNamed n h → level (drawn a) n h ≡ f → Draws s (xs ++ f ∷ []) f
 push_behind s a xs n h f is g fits below named same =
     let d = push a n h is (fits_rest s a xs (f ∷ []) g fits) below named in
-    record { new = d.new; id = d.id; is = d.is; grows = node_behind s a d.new xs (level (drawn a) n h) f same g d.grows; there = drawn_as d.new d.id (level (drawn a) n h) f same d.there }
+    record {
+      new = d.new;
+      id = d.id;
+      is = d.is;
+      grows = node_behind s a d.new xs (level (drawn a) n h) f same g d.grows;
+      there =
+          drawn_as d.new d.id (level (drawn a) n h) f same d.there;
+    }
 
 -- ---- tags
 
@@ -139,7 +146,8 @@ unfolding faces_from
 signed_from fs [] [] all named = all
 signed_from fs [] (h ∷ hs) all named = absurd named
 signed_from fs (n ∷ ns) [] all named = absurd named
-signed_from fs (n ∷ ns) (h ∷ hs) all named = signed_from (fs ++ level fs n h ∷ []) ns hs (signed_more fs (level fs n h) all (signed_level fs n h named.0)) named.1
+signed_from fs (n ∷ ns) (h ∷ hs) all named =
+    signed_from (fs ++ level fs n h ∷ []) ns hs (signed_more fs (level fs n h) all (signed_level fs n h named.0)) named.1
 
 signed_at : (fs : List Face) (i : ℕ) → AllByRecursion IsSigned fs → IsSigned (at fs i)
 signed_at [] i all = tt
@@ -183,7 +191,14 @@ no_tag = record { tag = tag.Num kind.U32; shape = Plain; named = tt; same = refl
 
 tag_of : (f : Face) → IsSigned f → IsTagOf (sign_in f)
 tag_of (scalar (number k)) signed = record { tag = tag.Num k; shape = Plain; named = tt; same = refl }
-tag_of (scalar (item items)) signed = record { tag = tag.Enum (labels_of items); shape = LabelNames items; named = record { labels = refl; distinct = signed }; same = refl }
+tag_of (scalar (item items)) signed =
+    record {
+      tag = tag.Enum (labels_of items);
+      shape = LabelNames items;
+      named = record { labels = refl; distinct = signed };
+      same =
+          refl;
+    }
 tag_of nothing signed = no_tag
 tag_of (numbers a) signed = no_tag
 tag_of (values ps) signed = no_tag
@@ -208,33 +223,46 @@ mutual
       → Fits s (made fs x) → Draws s (made fs x) (face_of fs x)
   draw aoi.void fs s is k d fits = push s node.Void Plain is fits tt tt
   draw (aoi.number q) fs s is k d fits = push s (node.Num q) Plain is fits tt tt
-  draw (aoi.enumeration items) fs s is k d fits = push s (node.Enum (labels_of items)) (LabelNames items) is fits tt (record { labels = refl; distinct = d })
+  draw (aoi.enumeration items) fs s is k d fits = push s (node.Enum (labels_of items)) (LabelNames items) is fits tt
+      (record { labels = refl; distinct = d })
   draw (aoi.text c) fs s is k d fits = push s (node.Text c) Plain is fits tt tt
   draw (aoi.array x c) fs s is k d fits = draw_elements (packed (face_of fs x)) c (face_of fs x) s (made fs x) is (draw x fs s is k d) fits
   draw (aoi.structure ms) fs s is k d fits =
       let parts = both (are_distinct (names_of ms)) (are_drawable (length fs) ms) d in
       let e = draw_members ms fs s is k parts.1 (fits_first s (made_inside fs ms) (members (parts_of fs ms) ∷ []) fits) in
-      push_behind s e.new (made_inside fs ms) (node.Group e.ids) (FieldNames (names_of ms)) (members (parts_of fs ms)) e.is e.grows fits e.there.below
-      (record { each = names_each (drawn e.new) fs e.ids ms e.there.are; distinct = parts.0 }) (members_by e.new fs e.ids (names_of ms) ms e.there refl)
+      push_behind s e.new (made_inside fs ms) (node.Group e.ids) (FieldNames (names_of ms)) (members (parts_of fs ms)) e.is e.grows fits
+      e.there.below
+      (record { each = names_each (drawn e.new) fs e.ids ms e.there.are; distinct = parts.0 })
+      (members_by e.new fs e.ids (names_of ms) ms e.there refl)
   draw (aoi.choice t arms) fs s is k d fits =
       let parts = both (is_drawable (length fs) t) (arms_drawable (length fs) arms) d in
       let f : Face = choice (sign_in (face_of fs t)) (arms_of fs arms) in
       let e = draw_arms arms fs s is k parts.1 (fits_first s (made_behind fs arms) (f ∷ []) fits) in
       let g = tag_of (face_of fs t) (signed_type fs t s is k parts.0) in
-      push_behind s e.new (made_behind fs arms) (node.Choice g.tag e.arms e.last) g.shape f e.is e.grows fits (e.there.below, e.there.other) g.named
+      push_behind s e.new (made_behind fs arms) (node.Choice g.tag e.arms e.last) g.shape f e.is e.grows fits
+      (e.there.below, e.there.other) g.named
       (ap (λ z. choice z (arms_at (drawn e.new) e.arms e.last)) g.same ∙ ap (choice (sign_in (face_of fs t))) e.there.are)
   draw (aoi.optional x) fs s is k d fits =
       let r = draw x fs s is k d (fits_first s (made fs x) (maybe (face_of fs x) ∷ []) fits) in
-      push_behind s r.new (made fs x) (node.Maybe r.id) Plain (maybe (face_of fs x)) r.is r.grows fits r.there.below tt (ap maybe r.there.is)
+      push_behind s r.new (made fs x) (node.Maybe r.id) Plain (maybe (face_of fs x)) r.is r.grows fits r.there.below tt
+      (ap maybe r.there.is)
   draw (aoi.named n) fs s is k d fits =
       let below : n < length s.types = omega (arith, ltb-true n (length fs) d, ap length k, known-length s) in
       let id : ℕ = get_or s.types n 0 in
-      record { new = s; id = id; is = is; grows = grows_none s; there = drawn_as s id (at (known s) n) (at fs n) (ap (λ z. at z n) k) (type_drawn s n 0 is below) }
+      record {
+        new = s;
+        id = id;
+        is = is;
+        grows = grows_none s;
+        there =
+            drawn_as s id (at (known s) n) (at fs n) (ap (λ z. at z n) k) (type_drawn s n 0 is below);
+      }
 
   pub draw_members : (ms : aoi.Members) (fs : List Face) (s : Sketch) → IsSketch s → known s ≡ fs → IsTrue (are_drawable (length fs) ms)
       → Fits s (made_inside fs ms)
       → DrawsAll s (made_inside fs ms) (faces_inside fs ms)
-  draw_members aoi.no_more fs s is k d fits = record { new = s; ids = []; is = is; grows = grows_none s; there = record { below = tt; are = refl } }
+  draw_members aoi.no_more fs s is k d fits =
+      record { new = s; ids = []; is = is; grows = grows_none s; there = record { below = tt; are = refl } }
   draw_members (aoi.member n x ms) fs s is k d fits =
       let parts = both (is_drawable (length fs) x) (are_drawable (length fs) ms) d in
       let r = draw x fs s is k parts.0 (fits_first s (made fs x) (made_inside fs ms) fits) in
@@ -245,16 +273,30 @@ mutual
         ids = r.id ∷ e.ids;
         is = e.is;
         grows = grows_twice s r.new e.new (made fs x) (made_inside fs ms) r.grows e.grows;
-        there = record { below = (st.below, e.there.below); are = ap (λ z. z ∷ map (at (drawn e.new)) e.ids) st.is ∙ ap (λ z. face_of fs x ∷ z) e.there.are };
+        there =
+            record {
+              below = (st.below, e.there.below);
+              are =
+                  ap (λ z. z ∷ map (at (drawn e.new)) e.ids) st.is ∙ ap (λ z. face_of fs x ∷ z) e.there.are;
+            };
       }
 
   pub draw_arms : (arms : aoi.Arms) (fs : List Face) (s : Sketch) → IsSketch s → known s ≡ fs → IsTrue (arms_drawable (length fs) arms)
       → Fits s (made_behind fs arms)
       → DrawsArms s (made_behind fs arms) (arms_of fs arms)
-  draw_arms aoi.no_default fs s is k d fits = record { new = s; arms = []; last = None; is = is; grows = grows_none s; there = record { below = tt; other = tt; are = refl } }
+  draw_arms aoi.no_default fs s is k d fits =
+      record { new = s; arms = []; last = None; is = is; grows = grows_none s; there = record { below = tt; other = tt; are = refl } }
   draw_arms (aoi.default x) fs s is k d fits =
       let r = draw x fs s is k d fits in
-      record { new = r.new; arms = []; last = Some r.id; is = r.is; grows = r.grows; there = record { below = tt; other = r.there.below; are = ap other r.there.is } }
+      record {
+        new = r.new;
+        arms = [];
+        last = Some r.id;
+        is = r.is;
+        grows = r.grows;
+        there =
+            record { below = tt; other = r.there.below; are = ap other r.there.is };
+      }
   draw_arms (aoi.arm n x arms) fs s is k d fits =
       let parts = both (is_drawable (length fs) x) (arms_drawable (length fs) arms) d in
       let e = draw_arms arms fs s is k parts.1 (fits_first s (made_behind fs arms) (made fs x) fits) in
@@ -281,26 +323,31 @@ draw_request : (op : PlainOperation) (fs : List Face) (s : Sketch) → IsSketch 
     → Fits s (made_request fs op) → Draws s (made_request fs op) (request_of fs op)
 draw_request op fs s is k d fits =
     let e = draw_members op.ins fs s is k d.ins (fits_first s (made_inside fs op.ins) (request_of fs op ∷ []) fits) in
-    push_behind s e.new (made_inside fs op.ins) (node.Group e.ids) Plain (request_of fs op) e.is e.grows fits e.there.below tt (values_by e.new fs e.ids op.ins e.there)
+    push_behind s e.new (made_inside fs op.ins) (node.Group e.ids) Plain (request_of fs op) e.is e.grows fits e.there.below tt
+    (values_by e.new fs e.ids op.ins e.there)
 
 draw_answer : (op : PlainOperation) (fs : List Face) (s : Sketch) → IsSketch s → known s ≡ fs → IsDrawableOperation (length fs) op
     → Fits s (made_answer fs op) → Draws s (made_answer fs op) (answer_of fs op)
 draw_answer op fs s is k d fits =
     let inner = fits_first s (made fs op.result ++ made_inside fs op.outs) (answer_of fs op ∷ []) fits in
     let r = draw op.result fs s is k d.result (fits_first s (made fs op.result) (made_inside fs op.outs) inner) in
-    let e = draw_members op.outs fs r.new r.is (r.grows.types ∙ k) d.outs (fits_rest s r.new (made fs op.result) (made_inside fs op.outs) r.grows inner) in
+    let e = draw_members op.outs fs r.new r.is (r.grows.types ∙ k) d.outs
+    (fits_rest s r.new (made fs op.result) (made_inside fs op.outs) r.grows inner) in
     let st = drawn_stays r.new e.new (made_inside fs op.outs) r.id (face_of fs op.result) e.grows r.there in
     let g = grows_twice s r.new e.new (made fs op.result) (made_inside fs op.outs) r.grows e.grows in
-    push_behind s e.new (made fs op.result ++ made_inside fs op.outs) (node.Group (r.id ∷ e.ids)) Plain (answer_of fs op) e.is g fits (st.below, e.there.below) tt
+    push_behind s e.new (made fs op.result ++ made_inside fs op.outs) (node.Group (r.id ∷ e.ids)) Plain (answer_of fs op) e.is g fits
+    (st.below, e.there.below) tt
     (answer_by r.new e.new (made_inside fs op.outs) op r.id e.ids (r.id ∷ e.ids) fs e.grows r.there e.there refl)
 
 draw_raises : (rs : List PlainRaise) (j : ℕ) (fs : List Face) (s : Sketch) → IsSketch s → known s ≡ fs
     → AllByRecursion (λ r. IsTrue (is_drawable (length fs) (exception r))) rs → Fits s (made_raised fs rs)
     → DrawsArms s (made_raised fs rs) (raised fs j rs)
-draw_raises [] j fs s is k d fits = record { new = s; arms = []; last = None; is = is; grows = grows_none s; there = record { below = tt; other = tt; are = refl } }
+draw_raises [] j fs s is k d fits =
+    record { new = s; arms = []; last = None; is = is; grows = grows_none s; there = record { below = tt; other = tt; are = refl } }
 draw_raises (x ∷ rs) j fs s is k d fits =
     let r = draw (exception x) fs s is k d.0 (fits_first s (made fs (exception x)) (made_raised fs rs) fits) in
-    let e = draw_raises rs (suc j) fs r.new r.is (r.grows.types ∙ k) d.1 (fits_rest s r.new (made fs (exception x)) (made_raised fs rs) r.grows fits) in
+    let e = draw_raises rs (suc j) fs r.new r.is (r.grows.types ∙ k) d.1
+    (fits_rest s r.new (made fs (exception x)) (made_raised fs rs) r.grows fits) in
     let st = drawn_stays r.new e.new (made_raised fs rs) r.id (face_of fs (exception x)) e.grows r.there in
     record {
       new = e.new;
@@ -320,12 +367,15 @@ draw_reply : (op : PlainOperation) (fs : List Face) (s : Sketch) → IsSketch s 
 draw_reply op fs s is k d fits =
     let inner = fits_first s (made_answer fs op ++ made_raised fs op.raises) (reply_of fs op ∷ []) fits in
     let r = draw_answer op fs s is k d (fits_first s (made_answer fs op) (made_raised fs op.raises) inner) in
-    let e = draw_raises op.raises 1 fs r.new r.is (r.grows.types ∙ k) d.raises (fits_rest s r.new (made_answer fs op) (made_raised fs op.raises) r.grows inner) in
+    let e = draw_raises op.raises 1 fs r.new r.is (r.grows.types ∙ k) d.raises
+    (fits_rest s r.new (made_answer fs op) (made_raised fs op.raises) r.grows inner) in
     let st = drawn_stays r.new e.new (made_raised fs op.raises) r.id (answer_of fs op) e.grows r.there in
     let g = grows_twice s r.new e.new (made_answer fs op) (made_raised fs op.raises) r.grows e.grows in
-    push_behind s e.new (made_answer fs op ++ made_raised fs op.raises) (node.Choice (tag.Num kind.U32) ((pos 0, r.id) ∷ e.arms) e.last) Plain (reply_of fs op) e.is g fits
+    push_behind s e.new (made_answer fs op ++ made_raised fs op.raises) (node.Choice (tag.Num kind.U32) ((pos 0, r.id) ∷ e.arms) e.last)
+    Plain (reply_of fs op) e.is g fits
     ((st.below, e.there.below), e.there.other) tt
-    (ap (λ z. choice (number kind.U32) (arm (pos 0) z (arms_at (drawn e.new) e.arms e.last))) st.is ∙ ap (λ z. choice (number kind.U32) (arm (pos 0) (answer_of fs op) z)) e.there.are)
+    (ap (λ z. choice (number kind.U32) (arm (pos 0) z (arms_at (drawn e.new) e.arms e.last))) st.is ∙ ap (λ z.
+    choice (number kind.U32) (arm (pos 0) (answer_of fs op) z)) e.there.are)
 
 -- ---- operations
 
@@ -338,10 +388,13 @@ placed_both n (o ∷ os) ps h k = (h.0, placed_both n os ps h.1 k)
 offered_both : (old new : Sketch) (more : List Face) (os ps : List Op) (fs gs : List Offer) → Grows old new more → AreOffered old os fs
     → AreOffered new ps gs → AreOffered new (os ++ ps) (fs ++ gs)
 offered_both old new more os ps fs gs g h k = record {
-  placed = placed_both (length (drawn new)) os ps (placed_more (length (drawn old)) (length (drawn new)) os (omega (arith, longer old new more g)) h.placed) k.placed;
+  placed =
+      placed_both (length (drawn new)) os ps
+      (placed_more (length (drawn old)) (length (drawn new)) os (omega (arith, longer old new more g)) h.placed) k.placed;
   are =
       map-append (offer_at (drawn new)) os ps
-      ∙ ap (λ z. z ++ map (offer_at (drawn new)) ps) (ap (λ z. map (offer_at z) os) g.nodes ∙ offers_stay (drawn old) more os h.placed ∙ h.are)
+      ∙ ap (λ z.
+      z ++ map (offer_at (drawn new)) ps) (ap (λ z. map (offer_at z) os) g.nodes ∙ offers_stay (drawn old) more os h.placed ∙ h.are)
       ∙ ap (λ z. fs ++ z) k.are;
 }
 
@@ -392,7 +445,8 @@ gotten_drawable n b i = by (gets_null b i) where
 
 -- the same nodes for offers that are the same
 offers_as : (s : Sketch) (more : List Face) (fs gs : List Offer) → fs ≡ gs → DrawsOps s more fs → DrawsOps s more gs
-offers_as s more fs gs same d = record { new = d.new; ops = d.ops; is = d.is; grows = d.grows; there = subst (AreOffered d.new d.ops) same d.there }
+offers_as s more fs gs same d =
+    record { new = d.new; ops = d.ops; is = d.is; grows = d.grows; there = subst (AreOffered d.new d.ops) same d.there }
 
 draw_interface : (i : PlainInterface) (b : Back) (j : ℕ) (fs : List Face) (s : Sketch) → IsSketch s → known s ≡ fs
     → IsDrawableInterface (length fs) i → Fits s (made_by fs i.ops ++ made_by fs (gotten b i))
@@ -401,8 +455,10 @@ draw_interface i b j fs s is k d fits =
     let own : List Face = made_by fs i.ops in
     let got : List Face = made_by fs (gotten b i) in
     let a = draw_operations i.ops b j fs s is k d (fits_first s own got fits) in
-    let e = draw_operations (gotten b i) b j fs a.new a.is (a.grows.types ∙ k) (gotten_drawable (length fs) b i) (fits_rest s a.new own got a.grows fits) in
-    offers_as s (own ++ got) _ _ (sym (map-append (offer fs b j) i.ops (gotten b i))) (draw_both s own got (map (offer fs b j) i.ops) (map (offer fs b j) (gotten b i)) a e)
+    let e = draw_operations (gotten b i) b j fs a.new a.is (a.grows.types ∙ k) (gotten_drawable (length fs) b i)
+    (fits_rest s a.new own got a.grows fits) in
+    offers_as s (own ++ got) _ _ (sym (map-append (offer fs b j) i.ops (gotten b i)))
+    (draw_both s own got (map (offer fs b j) i.ops) (map (offer fs b j) (gotten b i)) a e)
 
 pub draw_interfaces : (is : List PlainInterface) (b : Back) (j : ℕ) (fs : List Face) (s : Sketch) → IsSketch s → known s ≡ fs
     → AllByRecursion (IsDrawableInterface (length fs)) is → Fits s (made_in_interfaces fs b is)
@@ -411,7 +467,8 @@ draw_interfaces [] b j fs s sound k d fits = no_operations s sound
 draw_interfaces (i ∷ is) b j fs s sound k d fits =
     let one : List Face = made_by fs i.ops ++ made_by fs (gotten b i) in
     let a = draw_interface i b j fs s sound k d.0 (fits_first s one (made_in_interfaces fs b is) fits) in
-    let e = draw_interfaces is b (suc j) fs a.new a.is (a.grows.types ∙ k) d.1 (fits_rest s a.new one (made_in_interfaces fs b is) a.grows fits) in
+    let e = draw_interfaces is b (suc j) fs a.new a.is (a.grows.types ∙ k) d.1
+    (fits_rest s a.new one (made_in_interfaces fs b is) a.grows fits) in
     draw_both s one (made_in_interfaces fs b is) (map (offer fs b j) (operations b i)) (offers_from fs b (suc j) is) a e
 
 -- ---- named types
@@ -431,13 +488,17 @@ draw_types (x ∷ ss) fs s is k d fits =
     let r = draw x fs s is k d.0 (fits_first s (made fs x) (made_in_types more ss) fits) in
     let t : Sketch = sketch r.new.nodes r.new.shapes (r.new.types ++ r.id ∷ []) in
     let same : drawn t ≡ drawn r.new = named_drawn r.new r.id in
-    let names : known t ≡ more = named_known r.new r.id ∙ ap (λ z. z ++ at (drawn r.new) r.id ∷ []) (r.grows.types ∙ k) ∙ ap (λ z. fs ++ z ∷ []) r.there.is in
+    let names : known t ≡ more = named_known r.new r.id
+    ∙ ap (λ z. z ++ at (drawn r.new) r.id ∷ []) (r.grows.types ∙ k) ∙ ap (λ z. fs ++ z ∷ []) r.there.is in
     let count : suc (length fs) ≡ length more = omega (arith, length-append fs (face_of fs x ∷ [])) in
-    let room : Fits t (made_in_types more ss) = omega (arith, fits_rest s r.new (made fs x) (made_in_types more ss) r.grows fits, ap length same) in
+    let room : Fits t (made_in_types more ss) =
+    omega (arith, fits_rest s r.new (made fs x) (made_in_types more ss) r.grows fits, ap length same) in
     let e = draw_types ss more t (sketch_name r.new r.id r.is r.there.below) names (subst (λ n. AreDrawable n ss) count d.1) room in
     record {
       new = e.new;
       is = e.is;
-      nodes = e.nodes ∙ ap (λ z. z ++ made_in_types more ss) (same ∙ r.grows.nodes) ∙ append_assoc (drawn s) (made fs x) (made_in_types more ss);
+      nodes =
+          e.nodes
+          ∙ ap (λ z. z ++ made_in_types more ss) (same ∙ r.grows.nodes) ∙ append_assoc (drawn s) (made fs x) (made_in_types more ss);
       types = e.types;
     }

@@ -35,7 +35,8 @@ unfolding faces_from
 faces_length fs [] [] named = omega arith
 faces_length fs [] (r ∷ ss) named = absurd named
 faces_length fs (m ∷ ns) [] named = absurd named
-faces_length fs (m ∷ ns) (r ∷ ss) named = omega (arith, faces_length (fs ++ level fs m r ∷ []) ns ss named.1, length-append fs (level fs m r ∷ []))
+faces_length fs (m ∷ ns) (r ∷ ss) named =
+    omega (arith, faces_length (fs ++ level fs m r ∷ []) ns ss named.1, length-append fs (level fs m r ∷ []))
 
 pub faces-length : (ns : List Node) (ss : List Shape) → AreNamed ns ss → length (faces ns ss) ≡ length ns
 unfolding faces

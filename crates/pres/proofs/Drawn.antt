@@ -94,13 +94,17 @@ pub field_ids : (fs : List Face) (fields : List Field) (i : ℕ) (f : Field) (mi
     × (map (at (drawn new)) ids' ++ faces_inside fs (aoi.members (drop (i + 1) fields)) ≡ all)
 field_ids fs fields i f mid new more ids ids' id all lt is g below d ids_are h =
     let longer : length (drawn new) ≡ length (drawn mid) + length more = ap length g.nodes ∙ length-append (drawn mid) more in
-    let inside : AllByRecursion (λ j. j < length (drawn new)) ids = below_more (length (drawn mid)) (length (drawn new)) ids (omega (arith, longer)) below in
+    let inside : AllByRecursion
+    (λ j. j < length (drawn new)) ids = below_more (length (drawn mid)) (length (drawn new)) ids (omega (arith, longer)) below in
     let stay : map (at (drawn new)) ids ≡ map (at (drawn mid)) ids = rw g.nodes (at_stays (drawn mid) more ids below) in
     let rest : List Face = faces_inside fs (aoi.members (drop (i + 1) fields)) in
     let all_ids : map (at (drawn new)) ids' ≡ map (at (drawn mid)) ids ++ face_of fs (aoi.seen f.ty) ∷ [] =
-    ap (map (at (drawn new))) ids_are ∙ map-append (at (drawn new)) ids (id ∷ []) ∙ ap (λ z. z ++ at (drawn new) id ∷ []) stay ∙ ap (λ z. map (at (drawn mid)) ids ++ z ∷ []) d.is in (
+    ap (map (at (drawn new))) ids_are ∙ map-append (at (drawn new)) ids (id ∷ [])
+    ∙ ap (λ z. z ++ at (drawn new) id ∷ []) stay ∙ ap (λ z. map (at (drawn mid)) ids ++ z ∷ []) d.is in (
       subst (AllByRecursion (λ j. j < length (drawn new))) (sym ids_are) (below_push (length (drawn new)) ids id inside d.below),
-      ap (λ z. z ++ rest) all_ids ∙ append_assoc (map (at (drawn mid)) ids) (face_of fs (aoi.seen f.ty) ∷ []) rest ∙ (rw (cut_fields fields i f lt is) at h),
+      ap (λ z.
+          z ++ rest) all_ids ∙ append_assoc (map (at (drawn mid)) ids) (face_of fs (aoi.seen f.ty) ∷ []) rest
+          ∙ (rw (cut_fields fields i f lt is) at h),
     )
 
 -- names and nodes in step give the parts
@@ -130,7 +134,8 @@ pub names_each : (gs fs : List Face) (ids : List ℕ) (ms : aoi.Members) → map
 names_each gs fs [] aoi.no_more is = refl
 names_each gs fs [] (aoi.member n s ms) is = absurd cc
 names_each gs fs (i ∷ ids) aoi.no_more is = absurd cc
-names_each gs fs (i ∷ ids) (aoi.member n s ms) is = let rest : map (at gs) ids ≡ faces_inside fs ms = cc in ap suc (names_each gs fs ids ms rest)
+names_each gs fs (i ∷ ids) (aoi.member n s ms) is = let rest : map (at gs) ids ≡ faces_inside fs ms =
+    cc in ap suc (names_each gs fs ids ms rest)
 
 pub members_by : (s : Sketch) (fs : List Face) (ids : List ℕ) (names : List (List ℕ)) (ms : aoi.Members)
     → AreDrawn s ids (faces_inside fs ms) → names ≡ names_of ms
@@ -172,14 +177,18 @@ pub behind_room : (fs : List Face) (o : Option aoi.Shape) (arms : List Pair) (i 
 behind_room fs o [] zero = omega arith
 behind_room fs o [] (suc i) = omega arith
 behind_room fs o (a ∷ arms) zero = omega arith
-behind_room fs o (a ∷ arms) (suc i) = omega (arith, behind_room fs o arms i, length-append (made_behind fs (aoi.arms_seen arms o)) (made fs (aoi.seen a.1)))
+behind_room fs o (a ∷ arms) (suc i) =
+    omega (arith, behind_room fs o arms i, length-append (made_behind fs (aoi.arms_seen arms o)) (made fs (aoi.seen a.1)))
 
 pub arm_nodes : (fs : List Face) (o : Option aoi.Shape) (arms : List Pair) (i : ℕ) (a : Pair) (old mid new : List Face)
     → i < length arms → a ≡ get_or arms (length arms - 1 - i) a
     → mid ≡ old ++ made_behind fs (aoi.arms_seen (drop (length arms - i) arms) o) → new ≡ mid ++ made fs (aoi.seen a.1)
     → new ≡ old ++ made_behind fs (aoi.arms_seen (drop (length arms - (i + 1)) arms) o)
 arm_nodes fs o arms i a old mid new lt is mid_is new_is =
-    new_is ∙ ap (λ z. z ++ made fs (aoi.seen a.1)) mid_is ∙ append_assoc old (made_behind fs (aoi.arms_seen (drop (length arms - i) arms) o)) (made fs (aoi.seen a.1))
+    new_is
+    ∙ ap (λ z.
+    z ++ made fs (aoi.seen a.1)) mid_is ∙ append_assoc old (made_behind fs (aoi.arms_seen (drop (length arms - i) arms) o))
+    (made fs (aoi.seen a.1))
     ∙ ap (λ z. old ++ made_behind fs (aoi.arms_seen z o)) (sym (cut_arms arms i a lt is))
 
 pub arm_room : (fs : List Face) (o : Option aoi.Shape) (arms : List Pair) (i : ℕ) (a : Pair) (old mid : List Face) → i < length arms
@@ -188,7 +197,13 @@ pub arm_room : (fs : List Face) (o : Option aoi.Shape) (arms : List Pair) (i : �
 arm_room fs o arms i a old mid lt is mid_is =
     let whole = arm_nodes fs o arms i a old mid (mid ++ made fs (aoi.seen a.1)) lt is mid_is refl in
     let k : ℕ = length arms - (i + 1) in
-    omega (arith, ap length whole, length-append old (made_behind fs (aoi.arms_seen (drop k arms) o)), length-append old (made_behind fs (aoi.arms_seen arms o)), behind_room fs o arms k)
+    omega (
+      arith,
+      ap length whole,
+      length-append old (made_behind fs (aoi.arms_seen (drop k arms) o)),
+      length-append old (made_behind fs (aoi.arms_seen arms o)),
+      behind_room fs o arms k,
+    )
 
 pub below_pair : (n : ℕ) (a : ℤ × ℕ) (arms : List (ℤ × ℕ)) → a.1 < n → ArmsBelow n arms → ArmsBelow n (put_pair a arms)
 below_pair n a [] h below = (h, tt)
@@ -213,7 +228,8 @@ arms_stay mid new more arms o gs g are =
     record {
       below = arms_below_more (length (drawn mid)) _ arms (omega (arith, longer)) are.below;
       other = other_below_more (length (drawn mid)) _ o (omega (arith, longer)) are.other;
-      are = arms_agree (length (drawn mid)) (drawn new) (drawn mid) arms o (λ i h. rw g.nodes (get_or-append (drawn mid) more nothing i h)) are.below are.other ∙ are.are;
+      are = arms_agree (length (drawn mid)) (drawn new) (drawn mid) arms o
+          (λ i h. rw g.nodes (get_or-append (drawn mid) more nothing i h)) are.below are.other ∙ are.are;
     }
 
 pub arm_on : (fs : List Face) (o : Option aoi.Shape) (arms : List Pair) (i : ℕ) (a : Pair) (mid new : Sketch)
@@ -225,7 +241,8 @@ arm_on fs o arms i a mid new more sorted sorted' last id lt is g d sorted_is are
     let still = arms_stay mid new more sorted last _ g are in
     let rest : Arms = arms_of fs (aoi.arms_seen (drop (length arms - i) arms) o) in
     let arms_are : arms_at (drawn new) (put_pair (a.0, id) sorted) last ≡ arms_of fs (aoi.arms_seen (drop (length arms - (i + 1)) arms) o) =
-    put_pair-face (drawn new) (a.0, id) sorted last ∙ ap (λ z. put_arm a.0 z (arms_at (drawn new) sorted last)) d.is ∙ ap (put_arm a.0 (face_of fs (aoi.seen a.1))) still.are
+    put_pair-face (drawn new) (a.0, id) sorted last
+    ∙ ap (λ z. put_arm a.0 z (arms_at (drawn new) sorted last)) d.is ∙ ap (put_arm a.0 (face_of fs (aoi.seen a.1))) still.are
     ∙ ap (λ z. arms_of fs (aoi.arms_seen z o)) (sym (cut_arms arms i a lt is)) in
     record {
       below = subst (ArmsBelow (length (drawn new))) (sym sorted_is) (below_pair (length (drawn new)) (a.0, id) sorted d.below still.below);
@@ -245,7 +262,8 @@ put_before : (n : ℤ) (f : Face) (arms d : Arms) → put_arm n f d ≡ arm n f 
 put_before n f no_other d end_ = end_
 put_before n f (other g) d end_ = end_
 put_before n f (arm m g arms) d end_ = by (int_lt n m) refl (put_before n f arms d end_) where
-  by : (t : Bool) → int_lt n m ≡ t → put_arm n f (with_end arms d) ≡ with_end (put_arm n f arms) d → put_arm n f (with_end (arm m g arms) d) ≡ with_end (put_arm n f (arm m g arms)) d
+  by : (t : Bool) → int_lt n m ≡ t → put_arm n f (with_end arms d) ≡ with_end (put_arm n f arms) d
+      → put_arm n f (with_end (arm m g arms) d) ≡ with_end (put_arm n f (arm m g arms)) d
   by true e ih = rw e refl
   by false e ih = rw e (ap (arm m g) ih)
 
@@ -259,7 +277,8 @@ arms_end : (fs : List Face) (o : Option aoi.Shape) (arms : List Pair)
 arms_end fs o [] = refl
 arms_end fs o (a ∷ arms) =
     ap (put_arm a.0 (face_of fs (aoi.seen a.1))) (arms_end fs o arms)
-    ∙ put_before a.0 (face_of fs (aoi.seen a.1)) (arms_of fs (aoi.arms_seen arms None)) (arms_of fs (aoi.default_of o)) (end_first fs o a.0 (face_of fs (aoi.seen a.1)))
+    ∙ put_before a.0 (face_of fs (aoi.seen a.1)) (arms_of fs (aoi.arms_seen arms None)) (arms_of fs (aoi.default_of o))
+    (end_first fs o a.0 (face_of fs (aoi.seen a.1)))
 
 arms_at-end : (fs : List Face) (arms : List (ℤ × ℕ)) (o : Option ℕ) → arms_at fs arms o ≡ with_end (arms_at fs arms None) (arms_at fs [] o)
 arms_at-end fs [] o = refl
@@ -268,7 +287,10 @@ arms_at-end fs (a ∷ arms) o = ap (arm a.0 (at fs a.1)) (arms_at-end fs arms o)
 pub behind_split : (fs : List Face) (o : Option aoi.Shape) (arms : List Pair)
     → made_behind fs (aoi.arms_seen arms o) ≡ made_behind fs (aoi.default_of o) ++ made_behind fs (aoi.arms_seen arms None)
 behind_split fs o [] = sym (append-nil (made_behind fs (aoi.default_of o)))
-behind_split fs o (a ∷ arms) = ap (λ z. z ++ made fs (aoi.seen a.1)) (behind_split fs o arms) ∙ append_assoc (made_behind fs (aoi.default_of o)) (made_behind fs (aoi.arms_seen arms None)) (made fs (aoi.seen a.1))
+behind_split fs o (a ∷ arms) =
+    ap (λ z.
+    z ++ made fs (aoi.seen a.1)) (behind_split fs o arms)
+    ∙ append_assoc (made_behind fs (aoi.default_of o)) (made_behind fs (aoi.arms_seen arms None)) (made fs (aoi.seen a.1))
 
 pub arms_drawable_alone : (n : ℕ) (o : Option aoi.Shape) (arms : List Pair) → IsTrue (arms_drawable n (aoi.arms_seen arms o))
     → IsTrue (arms_drawable n (aoi.arms_seen arms None))
@@ -287,7 +309,10 @@ choice_arms fs o arms a b more ids id g other_ are =
     record {
       below = are.below;
       other = still.other;
-      are = arms_at-end (drawn b) ids id ∙ ap (λ z. with_end z (arms_at (drawn b) [] id)) are.are ∙ ap (with_end (arms_of fs (aoi.arms_seen arms None))) still.are ∙ sym (arms_end fs o arms);
+      are = arms_at-end (drawn b) ids id
+          ∙ ap (λ z.
+          with_end z (arms_at (drawn b) [] id)) are.are ∙ ap (with_end (arms_of fs (aoi.arms_seen arms None))) still.are
+          ∙ sym (arms_end fs o arms);
     }
 
 pub choice_nodes : (old a b new : Sketch) (ds es : List Face) (f g : Face) (all : List Face) → all ≡ ds ++ es → f ≡ g
@@ -295,7 +320,12 @@ pub choice_nodes : (old a b new : Sketch) (ds es : List Face) (f g : Face) (all 
     → Grows old new (all ++ g ∷ [])
 choice_nodes old a b new ds es f g all all_is same x y z =
     let whole = grows_twice old b new (ds ++ es) (f ∷ []) (grows_twice old a b ds es x y) z in
-    record { nodes = whole.nodes ∙ ap (λ z. drawn old ++ (z ++ f ∷ [])) (sym all_is) ∙ ap (λ z. drawn old ++ (all ++ z ∷ [])) same; types = whole.types }
+    record {
+      nodes =
+          whole.nodes
+          ∙ ap (λ z. drawn old ++ (z ++ f ∷ [])) (sym all_is) ∙ ap (λ z. drawn old ++ (all ++ z ∷ [])) same;
+      types = whole.types;
+    }
 
 -- a node after those inside it
 pub node_behind : (old mid new : Sketch) (xs : List Face) (f g : Face) → f ≡ g → Grows old mid xs → Grows mid new (f ∷ [])
@@ -316,18 +346,40 @@ behind_overflows old xs ys all e is h = overflows_more _ _ e h (rw is (room_behi
 pub next_overflows : (old mid xs ys zs all : List Face) (e : BindErr) → all ≡ xs ++ (ys ++ zs) → mid ≡ old ++ xs → Overflows (mid ++ ys) e
     → Overflows (old ++ all) e
 next_overflows old mid xs ys zs all e is mid_is h =
-    overflows_more _ _ e h (omega (arith, length-append mid ys, ap length mid_is, length-append old xs, length-append old all, ap length is, length-append xs (ys ++ zs), length-append ys zs))
+    overflows_more _ _ e h
+    (omega (
+      arith,
+      length-append mid ys,
+      ap length mid_is,
+      length-append old xs,
+      length-append old all,
+      ap length is,
+      length-append xs (ys ++ zs),
+      length-append ys zs,
+    ))
 
 pub last_overflows : (old mid xs all : List Face) (f g : Face) (e : BindErr) → all ≡ xs ++ g ∷ [] → mid ≡ old ++ xs
     → Overflows (mid ++ f ∷ []) e
     → Overflows (old ++ all) e
 last_overflows old mid xs all f g e is mid_is h =
-    overflows_more _ _ e h (omega (arith, length-append mid (f ∷ []), ap length mid_is, length-append old xs, length-append old all, ap length is, length-append xs (g ∷ [])))
+    overflows_more _ _ e h
+    (omega (
+      arith,
+      length-append mid (f ∷ []),
+      ap length mid_is,
+      length-append old xs,
+      length-append old all,
+      ap length is,
+      length-append xs (g ∷ []),
+    ))
 
 pub made_split : (fs : List Face) (o : Option aoi.Shape) (arms : List Pair) (f : Face)
     → made_behind fs (aoi.arms_seen arms o) ++ f ∷ []
     ≡ made_behind fs (aoi.default_of o) ++ (made_behind fs (aoi.arms_seen arms None) ++ f ∷ [])
-made_split fs o arms f = ap (λ z. z ++ f ∷ []) (behind_split fs o arms) ∙ append_assoc (made_behind fs (aoi.default_of o)) (made_behind fs (aoi.arms_seen arms None)) (f ∷ [])
+made_split fs o arms f =
+    ap (λ z.
+    z ++ f ∷ []) (behind_split fs o arms) ∙ append_assoc (made_behind fs (aoi.default_of o)) (made_behind fs (aoi.arms_seen arms None))
+    (f ∷ [])
 
 -- ---- answers
 
@@ -356,4 +408,12 @@ pub cause_last : {T : Type 0} (r : Result T BindErr) (old mid xs : List Face) (f
     → IfErr r (Overflows (mid ++ f ∷ []))
     → IfErr r (Overflows (old ++ (xs ++ g ∷ [])))
 cause_last r old mid xs f g is h =
-    cause_more r (mid ++ f ∷ []) (old ++ (xs ++ g ∷ [])) (omega (arith, length-append mid (f ∷ []), ap length is, length-append old xs, length-append old (xs ++ g ∷ []), length-append xs (g ∷ []))) h
+    cause_more r (mid ++ f ∷ []) (old ++ (xs ++ g ∷ []))
+    (omega (
+      arith,
+      length-append mid (f ∷ []),
+      ap length is,
+      length-append old xs,
+      length-append old (xs ++ g ∷ []),
+      length-append xs (g ∷ []),
+    )) h

@@ -58,7 +58,10 @@ pub raise_nodes : (fs : List Face) (rs : List Raise) (i : ℕ) (r : Raise) (mid 
     → mid ++ made_raised fs (map plain_raise (drop i rs)) ≡ all → new ≡ mid ++ made fs (exception (plain_raise r))
     → new ++ made_raised fs (map plain_raise (drop (i + 1) rs)) ≡ all
 raise_nodes fs rs i r mid new all lt is h new_is =
-    ap (λ z. z ++ made_raised fs (map plain_raise (drop (i + 1) rs))) new_is ∙ append_assoc mid (made fs (exception (plain_raise r))) (made_raised fs (map plain_raise (drop (i + 1) rs))) ∙ (rw (cut_raises rs i r lt is) at h)
+    ap (λ z.
+    z ++ made_raised fs (map plain_raise (drop (i + 1) rs))) new_is
+    ∙ append_assoc mid (made fs (exception (plain_raise r))) (made_raised fs (map plain_raise (drop (i + 1) rs)))
+    ∙ (rw (cut_raises rs i r lt is) at h)
 
 -- the arms so far, and those of the exceptions left
 pub record AreSoFar (s : Sketch) (arms : List (ℤ × ℕ)) (rest all : Arms) : Type 0 where
@@ -74,16 +77,23 @@ raise_arms fs rs i r mid new more arms arms' n id all lt is g d n_is arms_are so
     let still = arms_stay mid new more arms None _ g (record { below = so.below; other = tt; are = refl }) in
     let next : suc (1 + i) ≡ 1 + (i + 1) = omega arith in
     let rest : Arms = raised fs (1 + (i + 1)) (map plain_raise (drop (i + 1) rs)) in
-    let cut : raised fs (1 + i) (map plain_raise (drop i rs)) ≡ arm (pos (1 + i)) (face_of fs (exception (plain_raise r))) rest = ap (λ z. raised fs (1 + i) (map plain_raise z)) (cut_raises rs i r lt is) ∙ ap (λ k. arm (pos (1 + i)) (face_of fs (exception (plain_raise r))) (raised fs k (map plain_raise (drop (i + 1) rs)))) next in
-    let old : with_end (arms_at (drawn mid) arms None) (arm (pos (1 + i)) (face_of fs (exception (plain_raise r))) rest) ≡ all = ap (with_end (arms_at (drawn mid) arms None)) (sym cut) ∙ so.are in
-    let grown : arms_at (drawn new) arms' None ≡ with_end (arms_at (drawn mid) arms None) (arm (pos (1 + i)) (face_of fs (exception (plain_raise r))) no_other) =
+    let cut : raised fs (1 + i) (map plain_raise (drop i rs)) ≡ arm (pos (1 + i)) (face_of fs (exception (plain_raise r))) rest =
+    ap (λ z. raised fs (1 + i) (map plain_raise z)) (cut_raises rs i r lt is) ∙ ap (λ k.
+    arm (pos (1 + i)) (face_of fs (exception (plain_raise r))) (raised fs k (map plain_raise (drop (i + 1) rs)))) next in
+    let old : with_end (arms_at (drawn mid) arms None) (arm (pos (1 + i)) (face_of fs (exception (plain_raise r))) rest)
+    ≡ all = ap (with_end (arms_at (drawn mid) arms None)) (sym cut) ∙ so.are in
+    let grown : arms_at (drawn new) arms' None
+    ≡ with_end (arms_at (drawn mid) arms None) (arm (pos (1 + i)) (face_of fs (exception (plain_raise r))) no_other) =
     ap (λ z. arms_at (drawn new) z None) arms_are ∙ arms_at-push (drawn new) arms (n, id)
     ∙ ap (λ z. with_end z (arm n (at (drawn new) id) no_other)) still.are
     ∙ ap (λ z. with_end (arms_at (drawn mid) arms None) (arm n z no_other)) d.is
     ∙ ap (λ z. with_end (arms_at (drawn mid) arms None) (arm z (face_of fs (exception (plain_raise r))) no_other)) n_is in
     record {
       below = subst (ArmsBelow (length (drawn new))) (sym arms_are) (arms_below_push (length (drawn new)) arms (n, id) still.below d.below);
-      are = ap (λ z. with_end z rest) grown ∙ with_one (arms_at (drawn mid) arms None) (pos (1 + i)) (face_of fs (exception (plain_raise r))) rest ∙ old;
+      are =
+          ap (λ z.
+          with_end z rest) grown ∙ with_one (arms_at (drawn mid) arms None) (pos (1 + i)) (face_of fs (exception (plain_raise r))) rest
+          ∙ old;
     }
 
 ends_none : (fs : List Face) (arms : List (ℤ × ℕ)) → with_end (arms_at fs arms None) no_other ≡ arms_at fs arms None
@@ -115,7 +125,10 @@ pub op_nodes : (fs : List Face) (ops : List Operation) (i : ℕ) (op : Operation
     → new ≡ mid ++ (made_request fs (plain_operation op) ++ made_reply fs (plain_operation op))
     → new ++ made_by fs (map plain_operation (drop (i + 1) ops)) ≡ all
 op_nodes fs ops i op mid new all lt is h new_is =
-    ap (λ z. z ++ made_by fs (map plain_operation (drop (i + 1) ops))) new_is ∙ append_assoc mid (made_request fs (plain_operation op) ++ made_reply fs (plain_operation op)) (made_by fs (map plain_operation (drop (i + 1) ops))) ∙ (rw (cut_ops ops i op lt is) at h)
+    ap (λ z.
+    z ++ made_by fs (map plain_operation (drop (i + 1) ops))) new_is
+    ∙ append_assoc mid (made_request fs (plain_operation op) ++ made_reply fs (plain_operation op))
+    (made_by fs (map plain_operation (drop (i + 1) ops))) ∙ (rw (cut_ops ops i op lt is) at h)
 
 pub placed_more : (n m : ℕ) (os : List Op) → n ≤ m → AllByRecursion (λ (o : Op). (o.request < n) × (o.reply < n)) os
     → AllByRecursion (λ (o : Op). (o.request < m) × (o.reply < m)) os
@@ -131,7 +144,8 @@ placed_push n (p ∷ os) o h a b = (h.0, placed_push n os o h.1 a b)
 pub offers_stay : (fs more : List Face) (os : List Op) → AllByRecursion (λ (o : Op). (o.request < length fs) × (o.reply < length fs)) os
     → map (offer_at (fs ++ more)) os ≡ map (offer_at fs) os
 offers_stay fs more [] h = refl
-offers_stay fs more (o ∷ os) h = rw (get_or-append fs more nothing o.request h.0.0, get_or-append fs more nothing o.reply h.0.1, offers_stay fs more os h.1) refl
+offers_stay fs more (o ∷ os) h =
+    rw (get_or-append fs more nothing o.request h.0.0, get_or-append fs more nothing o.reply h.0.1, offers_stay fs more os h.1) refl
 
 pub listed_stay : (mid new : Sketch) (more : List Face) (os : List Op) (rest all : List Offer) → Grows mid new more
     → AreListed mid os rest all
@@ -147,9 +161,15 @@ pub listed_push : (s : Sketch) (os os' : List Op) (o : Op) (f : Offer) (rest all
     → IsOffered s o f → AreListed s os (f ∷ rest) all
     → AreListed s os' rest all
 listed_push s os os' o f rest all is d l = record {
-  placed = subst (AllByRecursion (λ (o : Op). (o.request < length (drawn s)) × (o.reply < length (drawn s)))) (sym is) (placed_push (length (drawn s)) os o l.placed d.request d.reply);
+  placed =
+      subst
+      (AllByRecursion
+      (λ (o : Op).
+      (o.request < length (drawn s)) × (o.reply < length (drawn s)))) (sym is)
+      (placed_push (length (drawn s)) os o l.placed d.request d.reply);
   are = ap (λ z. map (offer_at (drawn s)) z ++ rest) is ∙ ap (λ z. z ++ rest) (map-append (offer_at (drawn s)) os (o ∷ []))
-      ∙ append_assoc (map (offer_at (drawn s)) os) (offer_at (drawn s) o ∷ []) rest ∙ ap (λ z. map (offer_at (drawn s)) os ++ z ∷ rest) d.is ∙ l.are;
+      ∙ append_assoc (map (offer_at (drawn s)) os) (offer_at (drawn s) o ∷ []) rest
+      ∙ ap (λ z. map (offer_at (drawn s)) os ++ z ∷ rest) d.is ∙ l.are;
 }
 
 pub op_listed : (fs : List Face) (b : Back) (k : ℕ) (ops : List Operation) (i : ℕ) (op : Operation) (mid new : Sketch)
@@ -158,9 +178,11 @@ pub op_listed : (fs : List Face) (b : Back) (k : ℕ) (ops : List Operation) (i 
     → os' ≡ os ++ o ∷ [] → AreListed mid os (map (offer fs b k) (map plain_operation (drop i ops))) all
     → AreListed new os' (map (offer fs b k) (map plain_operation (drop (i + 1) ops))) all
 op_listed fs b k ops i op mid new more os os' o all lt is g d os_is l =
-    let cut : map (offer fs b k) (map plain_operation (drop i ops)) ≡ offer fs b k (plain_operation op) ∷ map (offer fs b k) (map plain_operation (drop (i + 1) ops)) =
+    let cut : map (offer fs b k) (map plain_operation (drop i ops)) ≡ offer fs b k (plain_operation op)
+    ∷ map (offer fs b k) (map plain_operation (drop (i + 1) ops)) =
     ap (λ z. map (offer fs b k) (map plain_operation z)) (cut_ops ops i op lt is) in
-    listed_push new os os' o (offer fs b k (plain_operation op)) _ all os_is d (listed_stay mid new more os _ all g (subst (λ z. AreListed mid os z all) cut l))
+    listed_push new os os' o (offer fs b k (plain_operation op)) _ all os_is d
+    (listed_stay mid new more os _ all g (subst (λ z. AreListed mid os z all) cut l))
 
 pub listed_none : (s : Sketch) (os : List Op) (all : List Offer) → AreListed s os [] all → AreOffered s os all
 listed_none s os all l = record { placed = l.placed; are = sym (append-nil (map (offer_at (drawn s)) os)) ∙ l.are }
@@ -173,5 +195,6 @@ pub one_gotten : (b : Back) (i : PlainInterface) (fs : List Face) (k : ℕ) (old
 one_gotten b i fs k old new more os os' o op gets l g op_is d os_is =
     let yes : gets_null b i ≡ true = sym gets in
     let got : map (offer fs b k) (gotten b i) ≡ offer fs b k op ∷ [] = rw (yes, op_is) refl in
-    let first : AreListed old os (offer fs b k op ∷ []) (map (offer_at (drawn old)) os ++ map (offer fs b k) (gotten b i)) = record { placed = l.placed; are = ap (λ z. map (offer_at (drawn old)) os ++ z) (sym got) } in
+    let first : AreListed old os (offer fs b k op ∷ []) (map (offer_at (drawn old)) os ++ map (offer fs b k) (gotten b i)) =
+    record { placed = l.placed; are = ap (λ z. map (offer_at (drawn old)) os ++ z) (sym got) } in
     listed_none new os' _ (listed_push new os os' o (offer fs b k op) [] _ os_is d (listed_stay old new more os _ _ g first))

@@ -56,7 +56,8 @@ draw_unit u b sound few =
     let room : Fits start (first ++ rest) = omega (arith, few, ap length start_drawn) in
     let t = draw_types (plain_shapes u) [] start start_is start_known d.types (fits_first start first rest room) in
     let nodes : drawn t.new ≡ first = t.nodes ∙ ap (λ z. z ++ first) start_drawn in
-    let count : length u.types ≡ length fs = omega (arith, faces_count [] (plain_shapes u), length-map u.types (λ (x : List ℕ × aoi.Shape). x.1)) in
+    let count : length u.types ≡ length fs =
+    omega (arith, faces_count [] (plain_shapes u), length-map u.types (λ (x : List ℕ × aoi.Shape). x.1)) in
     let drawable = subst (λ n. AllByRecursion (IsDrawableInterface n) u.interfaces) count d.interfaces in
     let fits : Fits t.new rest = omega (arith, few, length-append first rest, ap length nodes) in
     let e = draw_interfaces u.interfaces b 0 fs t.new t.is t.types drawable fits in
@@ -69,7 +70,12 @@ not_many false true x h = absurd cc
 not_many false false x h = refl
 
 few_made : (u : PlainUnit) (b : Back) → bind_fault u b ≡ None → length (all_made u b) ≤ 65536
-few_made u b h = omega (arith, ltb-false 65536 (length (all_made u b)) (not_many (not (is_cdr b) && has_raises u) (nat_lt 65536 (length (all_made u b))) _ h))
+few_made u b h =
+    omega (
+      arith,
+      ltb-false 65536 (length (all_made u b))
+          (not_many (not (is_cdr b) && has_raises u) (nat_lt 65536 (length (all_made u b))) _ h),
+    )
 
 pub units_bound : UnitsAreBound
 units_bound u b sound none =

@@ -76,10 +76,12 @@ stands fs (m ∷ nodes) (r ∷ shapes) zero n s is is' below =
     let more : List Face = fs ++ level fs m r ∷ [] in
     let parts : List (Node × Shape) = zip nodes shapes in
     let long : length more ≡ length fs + 1 = length-append fs (level fs m r ∷ []) in
-    let agree : AgreeBelow (length fs) fs (faces_from more parts) = λ i h. sym (stays more parts i (omega arith) ∙ get_or-append fs (level fs m r ∷ []) nothing i h) in
+    let agree : AgreeBelow (length fs) fs (faces_from more parts) =
+    λ i h. sym (stays more parts i (omega arith) ∙ get_or-append fs (level fs m r ∷ []) nothing i h) in
     rw add-zero (
     stays more parts (length fs) (omega arith) ∙ get_or-append_seam fs (level fs m r) [] nothing
-    ∙ ap (λ z. level fs z r) same ∙ ap (level fs n) same' ∙ level_agree (length fs) fs (faces_from more parts) n s agree (rw add-zero at below))
+    ∙ ap (λ z.
+    level fs z r) same ∙ ap (level fs n) same' ∙ level_agree (length fs) fs (faces_from more parts) n s agree (rw add-zero at below))
 stands fs (m ∷ nodes) (r ∷ shapes) (suc k) n s is is' below =
     let more : List Face = fs ++ level fs m r ∷ [] in
     let long : length more + k ≡ length fs + suc k = omega (arith, length-append fs (level fs m r ∷ [])) in
@@ -141,7 +143,8 @@ types_from fs [] (s ∷ shapes) named = absurd named
 types_from fs (n ∷ nodes) [] named = absurd named
 types_from fs (n ∷ nodes) (s ∷ shapes) named =
     types_from (fs ++ level fs n s ∷ []) nodes shapes named.1
-    ∙ ap (λ ts. unfolded_from ts nodes) (map-append type_of fs (level fs n s ∷ []) ∙ ap (λ t. map type_of fs ++ t ∷ []) (level_type fs n s named.0))
+    ∙ ap (λ ts. unfolded_from ts nodes) (map-append type_of fs (level fs n s ∷ []) ∙ ap (λ t.
+    map type_of fs ++ t ∷ []) (level_type fs n s named.0))
 
 pub types_unfold : (nodes : List Node) (shapes : List Shape) → AreNamed nodes shapes → map type_of (faces nodes shapes) ≡ unfolded nodes
 unfolding faces unfolded

@@ -71,7 +71,8 @@ each_over : (fs : List Face) (o : Op) → nat_lt 65536 (nodes_of (map size_of fs
 each_over fs o =
     let a : ℕ = spread (at fs o.request) in
     let b : ℕ = spread (at fs o.reply) in
-    rw (size-nodes fs o.request, size-nodes fs o.reply) (less_same (min a 65537 + min b 65537) (a + b) 65536 (λ h. omega (arith, h)) (λ h. omega (arith, h)))
+    rw (size-nodes fs o.request, size-nodes fs o.reply)
+    (less_same (min a 65537 + min b 65537) (a + b) 65536 (λ h. omega (arith, h)) (λ h. omega (arith, h)))
 
 each_exact : (fs : List Face) (o : Op) → nat_lt 65536 (spread_of (offer_at fs o)) ≡ false
     → nodes_of (map size_of fs) o ≡ spread_of (offer_at fs o)
@@ -91,11 +92,19 @@ sum_exact : (fs : List Face) (os : List Op) → list_any (λ o. nat_lt 65536 (sp
 sum_exact fs [] h = refl
 sum_exact fs (o ∷ os) h =
     let p = neither (nat_lt 65536 (spread_of (offer_at fs o))) _ h in
-    omega (arith, each_exact fs o p.0, sum_exact fs os p.1, sum_by-cons (nodes_of (map size_of fs)) o os, sum_by-cons spread_of (offer_at fs o) (map (offer_at fs) os))
+    omega (
+      arith,
+      each_exact fs o p.0,
+      sum_exact fs os p.1,
+      sum_by-cons (nodes_of (map size_of fs)) o os,
+      sum_by-cons spread_of (offer_at fs o) (map (offer_at fs) os),
+    )
 
 pub over_spread : (fs : List Face) (os : List Op) → is_over (map size_of fs) os ≡ is_spread (map (offer_at fs) os)
 over_spread fs os = by (list_any (λ o. nat_lt 65536 (spread_of o)) (map (offer_at fs) os)) refl where
-  by : (t : Bool) → list_any (λ o. nat_lt 65536 (spread_of o)) (map (offer_at fs) os) ≡ t → is_over (map size_of fs) os ≡ is_spread (map (offer_at fs) os)
+  by : (t : Bool)
+      → list_any
+      (λ o. nat_lt 65536 (spread_of o)) (map (offer_at fs) os) ≡ t → is_over (map size_of fs) os ≡ is_spread (map (offer_at fs) os)
   by true e = let one : list_any (λ o. nat_lt 65536 (nodes_of (map size_of fs) o)) os ≡ true = any_over fs os ∙ e in rw (one, e) refl
   by false e =
       let one : list_any (λ o. nat_lt 65536 (nodes_of (map size_of fs) o)) os ≡ false = any_over fs os ∙ e in
@@ -106,7 +115,8 @@ over_spread fs os = by (list_any (λ o. nat_lt 65536 (spread_of o)) (map (offer_
 pub wide_is : (u : PlainUnit) (b : Back) (fs : List Face) (ss : List Size) (os : List Op) → ss ≡ map size_of fs
     → map (offer_at fs) os ≡ offers u b
     → (list_any has_long_in u.interfaces || is_over ss os) ≡ is_wide u b
-wide_is u b fs ss os sizes_are offers_are = ap (λ z. list_any has_long_in u.interfaces || z) (ap (λ z. is_over z os) sizes_are ∙ over_spread fs os ∙ ap is_spread offers_are)
+wide_is u b fs ss os sizes_are offers_are =
+    ap (λ z. list_any has_long_in u.interfaces || z) (ap (λ z. is_over z os) sizes_are ∙ over_spread fs os ∙ ap is_spread offers_are)
 
 pub placed_by : (b : Binding) (n : ℕ) (os : List Op) → n ≡ length b.nodes → AllByRecursion (λ (o : Op). (o.request < n) × (o.reply < n)) os
     → AllByRecursion (IsPlaced b) os

@@ -39,22 +39,31 @@ inside-at : (fs : List Face) (k : ℕ) (names : List (List ℕ)) (is : List ℕ)
     → inside_at (map size_of (take k fs)) is ≡ size_inside (parts_at fs names is)
 inside-at fs k names [] below = refl
 inside-at fs k [] (i ∷ is) below =
-    rw (size-at fs k i below.0, inside-at fs k [] is below.1) (beside_sized (depth (type_of (at fs i))) (spread (at fs i)) (fields_depth (types_of (parts_at fs [] is))) (spread_inside (parts_at fs [] is)))
+    rw (size-at fs k i below.0, inside-at fs k [] is below.1)
+    (beside_sized (depth (type_of (at fs i))) (spread (at fs i)) (fields_depth (types_of (parts_at fs [] is)))
+    (spread_inside (parts_at fs [] is)))
 inside-at fs k (n ∷ names) (i ∷ is) below =
-    rw (size-at fs k i below.0, inside-at fs k names is below.1) (beside_sized (depth (type_of (at fs i))) (spread (at fs i)) (fields_depth (types_of (parts_at fs names is))) (spread_inside (parts_at fs names is)))
+    rw (size-at fs k i below.0, inside-at fs k names is below.1)
+    (beside_sized (depth (type_of (at fs i))) (spread (at fs i)) (fields_depth (types_of (parts_at fs names is)))
+    (spread_inside (parts_at fs names is)))
 
 behind-at : (fs : List Face) (k : ℕ) (arms : List (ℤ × ℕ)) (o : Option ℕ) → ArmsBelow k arms → IsBelow k o
     → behind_at (map size_of (take k fs)) arms o ≡ size_behind (arms_at fs arms o)
 behind-at fs k [] None below last = refl
 behind-at fs k [] (Some i) below last = size-at fs k i last
 behind-at fs k (a ∷ arms) o below last =
-    rw (size-at fs k a.1 below.0, behind-at fs k arms o below.1 last) (beside_sized (depth (type_of (at fs a.1))) (spread (at fs a.1)) (arms_depth (arm_types_of (arms_at fs arms o))) (spread_behind (arms_at fs arms o)))
+    rw (size-at fs k a.1 below.0, behind-at fs k arms o below.1 last)
+    (beside_sized (depth (type_of (at fs a.1))) (spread (at fs a.1)) (arms_depth (arm_types_of (arms_at fs arms o)))
+    (spread_behind (arms_at fs arms o)))
 
 group-at : (fs : List Face) (k : ℕ) (ids : List ℕ) (s : Shape) → AreBelow k ids
     → over (inside_at (map size_of (take k fs)) ids) ≡ size_of (group_face fs ids s)
-group-at fs k ids Plain below = ap over (inside-at fs k [] ids below) ∙ over_sized (fields_depth (types_of (parts_at fs [] ids))) (spread_inside (parts_at fs [] ids))
-group-at fs k ids (FieldNames names) below = ap over (inside-at fs k names ids below) ∙ over_sized (fields_depth (types_of (parts_at fs names ids))) (spread_inside (parts_at fs names ids))
-group-at fs k ids (LabelNames items) below = ap over (inside-at fs k [] ids below) ∙ over_sized (fields_depth (types_of (parts_at fs [] ids))) (spread_inside (parts_at fs [] ids))
+group-at fs k ids Plain below = ap over (inside-at fs k [] ids below)
+    ∙ over_sized (fields_depth (types_of (parts_at fs [] ids))) (spread_inside (parts_at fs [] ids))
+group-at fs k ids (FieldNames names) below = ap over (inside-at fs k names ids below)
+    ∙ over_sized (fields_depth (types_of (parts_at fs names ids))) (spread_inside (parts_at fs names ids))
+group-at fs k ids (LabelNames items) below = ap over (inside-at fs k [] ids below)
+    ∙ over_sized (fields_depth (types_of (parts_at fs [] ids))) (spread_inside (parts_at fs [] ids))
 
 size_level : (fs : List Face) (k : ℕ) (n : Node) (s : Shape) → HasChildrenBelow k n
     → size_at (map size_of (take k fs)) n ≡ size_of (level fs n s)
@@ -65,7 +74,8 @@ size_level fs k (node.Text c) s below = refl
 size_level fs k (node.Row x c) s below = refl
 size_level fs k (node.Group ids) s below = group-at fs k ids s below
 size_level fs k (node.Items i c) s below = ap over (size-at fs k i below) ∙ over_sized (depth (type_of (at fs i))) (spread (at fs i))
-size_level fs k (node.Choice t arms o) s below = ap over (behind-at fs k arms o below.0 below.1) ∙ over_sized (arms_depth (arm_types_of (arms_at fs arms o))) (spread_behind (arms_at fs arms o))
+size_level fs k (node.Choice t arms o) s below = ap over (behind-at fs k arms o below.0 below.1)
+    ∙ over_sized (arms_depth (arm_types_of (arms_at fs arms o))) (spread_behind (arms_at fs arms o))
 size_level fs k (node.Maybe i) s below = ap over (size-at fs k i below) ∙ over_sized (depth (type_of (at fs i))) (spread (at fs i))
 
 pub sizes_on : (fs : List Face) (k : ℕ) (n : Node) (s : Shape) (old slice new : List Size) (size : Size) → k < length fs
@@ -73,5 +83,6 @@ pub sizes_on : (fs : List Face) (k : ℕ) (n : Node) (s : Shape) (old slice new 
     → size ≡ size_at slice n → new ≡ old ++ size ∷ []
     → new ≡ map size_of (take (k + 1) fs)
 sizes_on fs k n s old slice new size lt below is slice_is old_is size_is new_is =
-    let one : size ≡ size_of (at fs k) = size_is ∙ ap (λ z. size_at z n) (slice_is ∙ old_is) ∙ size_level fs k n s below ∙ ap size_of (sym is) in
+    let one : size ≡ size_of (at fs k) = size_is
+    ∙ ap (λ z. size_at z n) (slice_is ∙ old_is) ∙ size_level fs k n s below ∙ ap size_of (sym is) in
     new_is ∙ ap (λ z. z ++ size ∷ []) old_is ∙ ap (λ z. map size_of (take k fs) ++ z ∷ []) one ∙ sym (map_more size_of fs k nothing lt)

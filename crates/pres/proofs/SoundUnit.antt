@@ -29,7 +29,8 @@ mutual
   drawable : (ss : List aoi.Shape) (l : ℕ) (s : aoi.Shape) → is_sound_type ss l s ≡ true → is_drawable l s ≡ true
   drawable ss l aoi.void h = refl
   drawable ss l (aoi.number k) h = refl
-  drawable ss l (aoi.enumeration items) h = (both (not (length items == 0) && nat_le (count_different (map (λ i. i.1) items)) 4096) (are_distinct (map (λ i. i.0) items)) h).1
+  drawable ss l (aoi.enumeration items) h =
+      (both (not (length items == 0) && nat_le (count_different (map (λ i. i.1) items)) 4096) (are_distinct (map (λ i. i.0) items)) h).1
   drawable ss l (aoi.text c) h = refl
   drawable ss l (aoi.array s c) h = drawable ss l s ((both (is_some_count c) (is_sound_type ss l s) h).1)
   drawable ss l (aoi.structure ms) h =
@@ -151,12 +152,18 @@ stand_on : (ss : List aoi.Shape) (fs : List Face) (l : ℕ) (s : aoi.Shape) → 
 stand_on ss fs l s long st is h = record {
   sound = λ k lt. elim (last k lt) [ inl less ↦ st.sound k less | inr same ↦ rw (same, is) h ];
   named = λ k lt. elim (last k lt) [
-    | inl less ↦ get_or-append fs (face_of fs s ∷ []) nothing k (omega (arith, less, long)) ∙ st.named k less ∙ ap (λ z. face_of z (slice_index_or ss k aoi.void)) (sym (take-append-le k fs (face_of fs s ∷ []) (omega (arith, less, long))))
-    | inr same ↦ rw (same, is, long) (get_or-append_seam fs (face_of fs s) [] nothing ∙ ap (λ z. face_of z s) (sym (take-append-le (length fs) fs (face_of fs s ∷ []) (omega arith) ∙ take-length fs)))
+    | inl less ↦ get_or-append fs (face_of fs s ∷ []) nothing k (omega (arith, less, long)) ∙ st.named k less
+        ∙ ap (λ z. face_of z (slice_index_or ss k aoi.void)) (sym (take-append-le k fs (face_of fs s ∷ []) (omega (arith, less, long))))
+    | inr same ↦ rw (same, is, long) (get_or-append_seam fs (face_of fs s) [] nothing
+        ∙ ap (λ z. face_of z s) (sym (take-append-le (length fs) fs (face_of fs s ∷ []) (omega arith) ∙ take-length fs)))
   ];
   weigh = λ k lt. elim (last k lt) [
-    | inl less ↦ subst (λ f. 1 ≤ weight (blank (type_of f))) (sym (get_or-append fs (face_of fs s ∷ []) nothing k (omega (arith, less, long)))) (st.weigh k less)
-    | inr same ↦ rw (same, long) (subst (λ f. 1 ≤ weight (blank (type_of f))) (sym (get_or-append_seam fs (face_of fs s) [] nothing)) (made_weighs ss fs l s st h))
+    | inl less ↦ subst
+        (λ f.
+        1 ≤ weight (blank (type_of f))) (sym (get_or-append fs (face_of fs s ∷ []) nothing k (omega (arith, less, long))))
+        (st.weigh k less)
+    | inr same ↦ rw (same, long)
+        (subst (λ f. 1 ≤ weight (blank (type_of f))) (sym (get_or-append_seam fs (face_of fs s) [] nothing)) (made_weighs ss fs l s st h))
   ];
 }
   where
@@ -184,7 +191,8 @@ types_regular ss fs l (s ∷ rest) long st same h =
 raised_numbers : (fs : List Face) (k : ℕ) (rs : List PlainRaise)
     → rise_from (Some (pos k)) (arm_numbers (arm_types_of (raised fs (suc k) rs))) ≡ true
 raised_numbers fs k [] = refl
-raised_numbers fs k (r ∷ rs) = let up : nat_lt k (suc k) ≡ true = lt-ltb k (suc k) (omega arith) in rw (up, raised_numbers fs (suc k) rs) refl
+raised_numbers fs k (r ∷ rs) = let up : nat_lt k (suc k) ≡ true = lt-ltb k (suc k) (omega arith) in rw (up, raised_numbers fs (suc k) rs)
+    refl
 
 raised_count : (fs : List Face) (k : ℕ) (rs : List PlainRaise) → length (arm_numbers (arm_types_of (raised fs k rs))) ≡ length rs
 raised_count fs k [] = refl
@@ -213,7 +221,8 @@ raises_regular ss fs (r ∷ rs) st h =
     let p = both (is_sound_plain_raise ss r) (list_all (is_sound_plain_raise ss) rs) h in
     let q = both (are_distinct (names_of r.members)) (are_sound ss (length ss) r.members) p.0 in
     regular_both (made fs (exception r)) (made_raised fs rs)
-    (regular_one (made_inside fs r.members) _ (inside_regular ss fs (length ss) r.members st q.1) (record { fit = refl; full = refl; labelled = λ r. refl }))
+    (regular_one (made_inside fs r.members) _ (inside_regular ss fs (length ss) r.members st q.1)
+    (record { fit = refl; full = refl; labelled = λ r. refl }))
     (raises_regular ss fs rs st p.1)
 
 operation_regular : (ss : List aoi.Shape) (fs : List Face) (op : PlainOperation) → Standing ss fs (length ss) → IsSoundOperation ss op
@@ -222,10 +231,14 @@ operation_regular ss fs op st s =
     let n : ℕ = length ss in
     let result : AreRegular (made fs op.result) = void_or ss fs n op.result s.result (made_regular ss fs n op.result st) in
     let outs : AreRegular (made_inside fs op.outs) = inside_regular ss fs n op.outs st s.outs in
-    let answer : AreRegular (made_answer fs op) = regular_one _ _ (regular_both (made fs op.result) (made_inside fs op.outs) result outs) (record { fit = refl; full = refl; labelled = λ r. refl }) in
+    let answer : AreRegular (made_answer fs op) = regular_one _ _ (regular_both (made fs op.result) (made_inside fs op.outs) result outs)
+    (record { fit = refl; full = refl; labelled = λ r. refl }) in
     regular_both (made_request fs op) (made_reply fs op)
-    (regular_one (made_inside fs op.ins) _ (inside_regular ss fs n op.ins st s.ins) (record { fit = refl; full = refl; labelled = λ r. refl }))
-    (regular_one (made_answer fs op ++ made_raised fs op.raises) _ (regular_both (made_answer fs op) (made_raised fs op.raises) answer (raises_regular ss fs op.raises st s.raises)) (reply_regular fs op s.few))
+    (regular_one (made_inside fs op.ins) _ (inside_regular ss fs n op.ins st s.ins)
+    (record { fit = refl; full = refl; labelled = λ r. refl }))
+    (regular_one (made_answer fs op ++ made_raised fs op.raises) _
+    (regular_both (made_answer fs op) (made_raised fs op.raises) answer (raises_regular ss fs op.raises st s.raises))
+    (reply_regular fs op s.few))
 
 operations_regular : (ss : List aoi.Shape) (fs : List Face) (slots : ℕ) (ops : List PlainOperation)
     → Standing ss fs (length ss) → list_all (is_sound_plain_operation ss slots) ops ≡ true
@@ -233,7 +246,8 @@ operations_regular : (ss : List aoi.Shape) (fs : List Face) (slots : ℕ) (ops :
 operations_regular ss fs slots [] st h = tt
 operations_regular ss fs slots (op ∷ ops) st h =
     let p = both (is_sound_plain_operation ss slots op) (list_all (is_sound_plain_operation ss slots) ops) h in
-    regular_both (made_request fs op ++ made_reply fs op) (made_by fs ops) (operation_regular ss fs op st (operation_parts ss slots op p.0)) (operations_regular ss fs slots ops st p.1)
+    regular_both (made_request fs op ++ made_reply fs op) (made_by fs ops)
+    (operation_regular ss fs op st (operation_parts ss slots op p.0)) (operations_regular ss fs slots ops st p.1)
 
 null_sound : (ss : List aoi.Shape) → IsSoundOperation ss null_operation
 null_sound ss = record { ins = refl; outs = refl; result = refl; few = omega arith; raises = refl }
@@ -242,7 +256,8 @@ gotten_regular : (ss : List aoi.Shape) (fs : List Face) (b : Back) (i : PlainInt
     → AreRegular (made_by fs (gotten b i))
 gotten_regular ss fs b i st = by (gets_null b i) where
   by : (t : Bool) → AreRegular (made_by fs (if t then null_operation ∷ [] else []))
-  by true = regular_both (made_request fs null_operation ++ made_reply fs null_operation) [] (operation_regular ss fs null_operation st (null_sound ss)) tt
+  by true = regular_both (made_request fs null_operation ++ made_reply fs null_operation) []
+      (operation_regular ss fs null_operation st (null_sound ss)) tt
   by false = tt
 
 interfaces_regular : (ss : List aoi.Shape) (fs : List Face) (b : Back) (is : List PlainInterface)
@@ -253,7 +268,8 @@ interfaces_regular ss fs b (i ∷ is) st h =
     let p = both (is_sound_plain_interface ss i) (list_all (is_sound_plain_interface ss) is) h in
     let q = both (nat_le (i.base + i.slots + 100) (2 ^ 31 - 1)) (list_all (is_sound_plain_operation ss i.slots) i.ops) p.0 in
     regular_both (made_by fs i.ops ++ made_by fs (gotten b i)) (made_in_interfaces fs b is)
-    (regular_both (made_by fs i.ops) (made_by fs (gotten b i)) (operations_regular ss fs i.slots i.ops st q.1) (gotten_regular ss fs b i st))
+    (regular_both (made_by fs i.ops) (made_by fs (gotten b i)) (operations_regular ss fs i.slots i.ops st q.1)
+    (gotten_regular ss fs b i st))
     (interfaces_regular ss fs b is st p.1)
 
 pub unit_regular : (u : PlainUnit) (b : Back) → is_sound_plain u ≡ true → AreRegular (all_made u b)
@@ -261,7 +277,13 @@ unfolding all_made type_faces
 unit_regular u b h =
     let ss : List aoi.Shape = plain_shapes u in
     let p = both (are_sound_types ss 0 ss) (list_all (is_sound_plain_interface ss) u.interfaces) h in
-    let none : Standing ss [] 0 = record { sound = λ k lt. absurd (omega (arith, lt)); named = λ k lt. absurd (omega (arith, lt)); weigh = λ k lt. absurd (omega (arith, lt)) } in
+    let none : Standing ss [] 0 =
+    record {
+      sound = λ k lt. absurd (omega (arith, lt));
+      named = λ k lt. absurd (omega (arith, lt));
+      weigh = λ k lt.
+          absurd (omega (arith, lt));
+    } in
     let front = types_regular ss [] 0 ss refl none (λ k. let same : 0 + k ≡ k = omega arith in rw same refl) p.0 in
     let same : 0 + length ss ≡ length ss = omega arith in
     regular_both (made_in_types [] ss) _ front.0 (interfaces_regular ss (type_faces u) b u.interfaces (rw same at front.1) p.1)

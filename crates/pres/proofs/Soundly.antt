@@ -64,7 +64,9 @@ ranged_in : (ls : List ℤ) (n : ℤ) → list_all (in_range kind.I32) ls ≡ tr
     → in_range kind.I32 n ≡ true
 ranged_in [] n a h = absurd (true≢false (sym h))
 ranged_in (l ∷ ls) n a h = by (int_eq l n) refl (both (in_range kind.I32 l) _ a) (ranged_in ls n) where
-  by : (t : Bool) → int_eq l n ≡ t → (in_range kind.I32 l ≡ true) × (list_all (in_range kind.I32) ls ≡ true) → (list_all (in_range kind.I32) ls ≡ true → list_any (λ l. int_eq l n) ls ≡ true → in_range kind.I32 n ≡ true) → in_range kind.I32 n ≡ true
+  by : (t : Bool) → int_eq l n ≡ t → (in_range kind.I32 l ≡ true) × (list_all (in_range kind.I32) ls ≡ true)
+      → (list_all (in_range kind.I32) ls ≡ true
+      → list_any (λ l. int_eq l n) ls ≡ true → in_range kind.I32 n ≡ true) → in_range kind.I32 n ≡ true
   by true e p ih = subst (λ z. in_range kind.I32 z ≡ true) (same_number l n e) p.0
   by false e p ih = ih p.1 (rw e at h)
 
@@ -82,7 +84,8 @@ all_of (aoi.number k) (n ∷ ns) t l h = let p = both (in_range k n) _ h in rw (
 all_of (aoi.enumeration items) (n ∷ ns) t l h =
     let p = both (list_any (λ i. int_eq i.1 n) items) _ h in
     let there : list_any (λ m. int_eq m n) (labels_of items) ≡ true = labels_there items n p.0 in
-    let range : in_range kind.I32 n ≡ true = ranged_in (labels_of items) n ((both (list_all (in_range kind.I32) (labels_of items)) _ l).0) there in
+    let range : in_range kind.I32 n ≡ true = ranged_in (labels_of items) n ((both (list_all (in_range kind.I32) (labels_of items)) _ l).0)
+    there in
     rw (range, there, all_of (aoi.enumeration items) ns t l p.1) refl
 all_of aoi.void (n ∷ ns) t l h = absurd (true≢false (sym t))
 all_of (aoi.text c) (n ∷ ns) t l h = absurd (true≢false (sym t))
@@ -124,7 +127,8 @@ choice_regular fs tag arms enums sound =
       full = refl;
       labelled = λ r.
           let labels = tag_labelled tag (arm_types_of (arms_of fs arms)) enums r in
-          let all : list_all (is_scalar (scalar_of (tag_sign tag))) (put_numbers ns) ≡ true = numbers_all _ ns ∙ all_of tag ns w.0 labels y.1 in
+          let all : list_all (is_scalar (scalar_of (tag_sign tag))) (put_numbers ns) ≡ true = numbers_all _ ns
+          ∙ all_of tag ns w.0 labels y.1 in
           rw (labels, listed, few, rise, all, there) refl;
     }
 
@@ -155,7 +159,8 @@ sign_follows : (n : ℕ) (ss : List aoi.Shape) (gs : List Face) (l : ℕ) (s : a
     → is_tag (unfolded (suc n) ss l s) ≡ true
     → sign_in (face_of gs s) ≡ tag_sign (unfolded (suc n) ss l s)
 sign_follows n ss gs l (aoi.named k) o is named ih t = by (nat_lt k l) refl where
-  by : (b : Bool) → nat_lt k l ≡ b → sign_in (at gs k) ≡ tag_sign (if nat_lt k l then unfolded n ss k (slice_index_or ss k aoi.void) else aoi.named k)
+  by : (b : Bool) → nat_lt k l ≡ b → sign_in (at gs k)
+      ≡ tag_sign (if nat_lt k l then unfolded n ss k (slice_index_or ss k aoi.void) else aoi.named k)
   by true e = let lt : k < l = ltb-true k l e in rw e (ap sign_in (named k lt) ∙ ih k lt (rw e at t))
   by false e = absurd (true≢false (sym (rw e at t)))
 sign_follows n ss gs l aoi.void o is named ih t = own_sign gs aoi.void t
@@ -180,7 +185,8 @@ sign_is : (n : ℕ) (ss : List aoi.Shape) (gs : List Face) (l : ℕ) (s : aoi.Sh
 sign_is zero ss gs l s named t = own_sign gs s t
 sign_is (suc n) ss gs l s named t =
     sign_follows n ss gs l s (name_in s) refl named
-    (λ k lt u. sign_is n ss (take k gs) k (slice_index_or ss k aoi.void) (named_front ss gs k (λ j less. named j (omega (arith, less, lt)))) u) t
+    (λ k lt u.
+    sign_is n ss (take k gs) k (slice_index_or ss k aoi.void) (named_front ss gs k (λ j less. named j (omega (arith, less, lt)))) u) t
 
 -- an enum that is reached by names is sound
 enum_is : (n : ℕ) (ss : List aoi.Shape) (l : ℕ) (s : aoi.Shape) (items : ItemList)
@@ -212,7 +218,9 @@ union_regular ss fs l tag arms st h u =
     let z = both (is_tag below && has_arm arms) (nat_le (length ns) 4096) y.0 in
     let w = both (is_tag below) (has_arm arms) z.0 in
     let same : sign_in (face_of fs tag) ≡ tag_sign below = sign_is l ss fs l tag st.named w.0 in
-    subst (λ s. IsRegular (type_of (choice s (arms_of fs arms)))) (sym same) (choice_regular fs below arms (λ items is. enum_is l ss l tag items st.sound h is) u)
+    subst
+    (λ s. IsRegular (type_of (choice s (arms_of fs arms)))) (sym same) (choice_regular fs below arms (λ items is.
+    enum_is l ss l tag items st.sound h is) u)
 
 union_weighs : (fs : List Face) (below : aoi.Shape) (s : Sign) (arms : aoi.Arms) → is_sound_union below arms ≡ true
     → 1 ≤ weight (blank (type_of (choice s (arms_of fs arms))))
@@ -244,7 +252,8 @@ mutual
       let p = both (is_sound_type ss l tag && is_sound_union (unfolded l ss l tag) arms) (are_sound_arms ss l arms) h in
       let q = both (is_sound_type ss l tag) (is_sound_union (unfolded l ss l tag) arms) p.0 in
       regular_one (made_behind fs arms) _ (behind_regular ss fs l arms st p.1) (union_regular ss fs l tag arms st q.0 q.1)
-  made_regular ss fs l (aoi.optional s) st h = regular_one (made fs s) _ (made_regular ss fs l s st h) (record { fit = refl; full = refl; labelled = λ r. refl })
+  made_regular ss fs l (aoi.optional s) st h =
+      regular_one (made fs s) _ (made_regular ss fs l s st h) (record { fit = refl; full = refl; labelled = λ r. refl })
   made_regular ss fs l (aoi.named k) st h = tt
 
   pub made_weighs : (ss : List aoi.Shape) (fs : List Face) (l : ℕ) (s : aoi.Shape) → Standing ss fs l → is_sound_type ss l s ≡ true
@@ -280,7 +289,8 @@ mutual
   behind_regular ss fs l (aoi.default s) st h = void_or ss fs l s h (made_regular ss fs l s st)
   behind_regular ss fs l (aoi.arm n s arms) st h =
       let p = both (or_void s (is_sound_type ss l s)) (are_sound_arms ss l arms) h in
-      regular_both (made_behind fs arms) (made fs s) (behind_regular ss fs l arms st p.1) (void_or ss fs l s p.0 (made_regular ss fs l s st))
+      regular_both (made_behind fs arms) (made fs s) (behind_regular ss fs l arms st p.1)
+      (void_or ss fs l s p.0 (made_regular ss fs l s st))
 
   pub void_or : (ss : List aoi.Shape) (fs : List Face) (l : ℕ) (s : aoi.Shape) → or_void s (is_sound_type ss l s) ≡ true
       → (is_sound_type ss l s ≡ true → AreRegular (made fs s))

@@ -83,7 +83,9 @@ pub record IsStage (s : Sketch) (m : List Node) (ps : List Shape) (rest : List E
 pub within : (s : Sketch) (m : List Node) (ps : List Shape) (e : Entry) (rest : List Entry) → IsSketch s → IsStage s m ps (e ∷ rest)
     → (length m < length (drawn s)) × (length m < 65536)
 within s m ps e rest is st =
-    let long : length s.nodes ≡ length m + suc (length (map (λ (e : Entry). e.node) rest)) = ap length (sym st.nodes) ∙ length-append m (map (λ (e : Entry). e.node) (e ∷ rest)) in
+    let long : length s.nodes ≡ length m + suc
+    (length (map (λ (e : Entry). e.node) rest)) = ap length (sym st.nodes) ∙ length-append m (map (λ (e : Entry).
+    e.node) (e ∷ rest)) in
     (omega (arith, long, drawn-length s is), omega (arith, long, is.few))
 
 face_is : (s : Sketch) (m : List Node) (ps : List Shape) (e : Entry) (rest : List Entry) → IsSketch s → IsStage s m ps (e ∷ rest)
@@ -91,11 +93,17 @@ face_is : (s : Sketch) (m : List Node) (ps : List Shape) (e : Entry) (rest : Lis
     × (at (drawn s) (length m) ≡ level (take (length m) (drawn s)) e.node e.shape)
 face_is s m ps e rest is st =
     let k : ℕ = length m in
-    let n_is : slice_get s.nodes k ≡ Some e.node = ap (λ z. slice_get z k) (sym st.nodes) ∙ seam_get m e.node (map (λ (e : Entry). e.node) rest) in
-    let h_is : slice_get s.shapes k ≡ Some e.shape = ap (λ z. slice_get z k) (sym st.shapes) ∙ ap (slice_get (ps ++ e.shape ∷ map (λ (e : Entry). e.shape) rest)) st.step ∙ seam_get ps e.shape (map (λ (e : Entry). e.shape) rest) in
+    let n_is : slice_get s.nodes k ≡ Some e.node =
+    ap (λ z. slice_get z k) (sym st.nodes) ∙ seam_get m e.node (map (λ (e : Entry). e.node) rest) in
+    let h_is : slice_get s.shapes k ≡ Some e.shape =
+    ap (λ z.
+    slice_get z k) (sym st.shapes)
+    ∙ ap (slice_get (ps ++ e.shape ∷ map (λ (e : Entry). e.shape) rest)) st.step ∙ seam_get ps e.shape (map (λ (e : Entry).
+    e.shape) rest) in
     let below : HasChildrenBelow k e.node = is.table k e.node n_is in (
       (below, named_at s.nodes s.shapes k e.node e.shape is.named n_is h_is),
-      level-at s k e.node e.shape is n_is h_is ∙ level_agree k (drawn s) (take k (drawn s)) e.node e.shape (λ i lt. sym (at_take (drawn s) k i lt)) below,
+      level-at s k e.node e.shape is n_is h_is
+          ∙ level_agree k (drawn s) (take k (drawn s)) e.node e.shape (λ i lt. sym (at_take (drawn s) k i lt)) below,
     )
 
 tree_is : (s : Sketch) (m : List Node) (ps : List Shape) (e : Entry) (rest : List Entry) → IsSketch s → IsStage s m ps (e ∷ rest)
@@ -155,12 +163,17 @@ next_stage s m m' ps ps' e rest is st m_is ps_is =
     let lt = within s m ps e rest is st in
     let f = face_is s m ps e rest is st in
     record {
-      nodes = ap (λ z. z ++ map (λ (e : Entry). e.node) rest) m_is ∙ append_assoc m (e.node ∷ []) (map (λ (e : Entry). e.node) rest) ∙ st.nodes;
-      shapes = ap (λ z. z ++ map (λ (e : Entry). e.shape) rest) ps_is ∙ append_assoc ps (e.shape ∷ []) (map (λ (e : Entry). e.shape) rest) ∙ st.shapes;
+      nodes =
+          ap (λ z. z ++ map (λ (e : Entry). e.node) rest) m_is ∙ append_assoc m (e.node ∷ []) (map (λ (e : Entry).
+          e.node) rest) ∙ st.nodes;
+      shapes =
+          ap (λ z. z ++ map (λ (e : Entry). e.shape) rest) ps_is ∙ append_assoc ps (e.shape ∷ []) (map (λ (e : Entry).
+          e.shape) rest) ∙ st.shapes;
       step = omega (arith, count, count', st.step);
       trees =
           ap (λ z. map type_of (take z (drawn s))) count ∙ map_more type_of (drawn s) (length m) nothing lt.0
-          ∙ ap (λ z. z ++ type_of (at (drawn s) (length m)) ∷ []) st.trees ∙ ap (λ z. unfolded m ++ z ∷ []) (sym (tree_is s m ps e rest is st))
+          ∙ ap (λ z. z ++ type_of (at (drawn s) (length m)) ∷ []) st.trees ∙ ap (λ z.
+          unfolded m ++ z ∷ []) (sym (tree_is s m ps e rest is st))
           ∙ sym (unfolded-push m e.node) ∙ ap unfolded (sym m_is);
     }
 

@@ -24,7 +24,12 @@ pub types_first : (u : Parts) (b : Back) → length (made_in_types [] (aoi.shape
 unfolding all_made
 types_first u b =
     let same = ap (λ z. length (made_in_types [] z)) (types_plain u.types) in
-    omega (arith, same, length-append (made_in_types [] (plain_shapes (plain u))) (made_in_interfaces (type_faces (plain u)) b (plain u).interfaces))
+    omega (
+      arith,
+      same,
+      length-append (made_in_types [] (plain_shapes (plain u)))
+          (made_in_interfaces (type_faces (plain u)) b (plain u).interfaces),
+    )
 
 pub all_offers : (u : Parts) (b : Back) (ks : List Face) → ks ≡ faces_of [] (aoi.shapes u.types)
     → offers_from ks b 0 (map plain_interface u.interfaces) ≡ offers (plain u) b

@@ -75,7 +75,10 @@ single_octets k o is = ap (λ (w : ℕ). swapped w o) is ∙ swapped-octets o
 first_number : (k : Kind) (a o : List ℕ) → length a ≡ width k → numbers_of k (a ++ o) ≡ number_in k a ∷ numbers_of k o
 unfolding numbers_of numbers_in
 first_number k a o len =
-    let many : length (a ++ o) / width k ≡ suc (length o / width k) = ap (λ (z : ℕ). z / width k) (length-append a o ∙ ap (λ (z : ℕ). z + length o) len) ∙ add-div_left (length o) (some_octets k) ∙ add-one (length o / width k) in
+    let many : length (a ++ o) / width k ≡ suc (length o / width k) =
+    ap (λ (z : ℕ).
+    z / width k)
+    (length-append a o ∙ ap (λ (z : ℕ). z + length o) len) ∙ add-div_left (length o) (some_octets k) ∙ add-one (length o / width k) in
     rw (many, take_at a o (width k) len, drop_at a o (width k) len) refl
 
 joined : (k : Kind) (n : ℕ) (a o : List ℕ) → length a ≡ n * width k → numbers_of k (a ++ o) ≡ numbers_of k a ++ numbers_of k o
@@ -89,7 +92,9 @@ joined k (suc n) a o len =
     let front : length f ≡ w = omega (arith, length-take w a) in
     let rest : length r ≡ n * w = omega (arith, length-drop w a) in
     let whole : f ++ r ≡ a = take-append-drop w a in
-    ap (λ (z : List ℕ). numbers_of k (z ++ o)) (sym whole) ∙ ap (numbers_of k) (append_assoc f r o) ∙ first_number k f (r ++ o) front ∙ ap (λ (z : List ℤ). number_in k f ∷ z) (joined k n r o rest)
+    ap (λ (z : List ℕ).
+    numbers_of k (z ++ o)) (sym whole) ∙ ap (numbers_of k) (append_assoc f r o) ∙ first_number k f (r ++ o) front
+    ∙ ap (λ (z : List ℤ). number_in k f ∷ z) (joined k n r o rest)
     ∙ ap (λ (z : List ℤ). z ++ numbers_of k o) (sym (first_number k f r front) ∙ ap (numbers_of k) whole)
 
 pub numbers-joined : (k : Kind) (a o : List ℕ) → length a % width k ≡ 0 → numbers_of k (a ++ o) ≡ numbers_of k a ++ numbers_of k o
@@ -116,17 +121,21 @@ turned_end k at image r so past = so ∙ ap (λ (o : List ℕ). row_of k (number
 -- how many octets the next block has
 size_whole : (w at l size : ℕ) → IsSwapWidth w → at % w ≡ 0 → l % w ≡ 0 → at ≤ l → size ≡ min (l - at) 512 → size % w ≡ 0
 size_whole w at l size is a b le so =
-    at_width (λ (n : ℕ). at % n ≡ 0 → l % n ≡ 0 → size % n ≡ 0) (λ x y. omega (arith, x, y, le, so)) (λ x y. omega (arith, x, y, le, so)) (λ x y. omega (arith, x, y, le, so)) w is a b
+    at_width (λ (n : ℕ). at % n ≡ 0 → l % n ≡ 0 → size % n ≡ 0) (λ x y. omega (arith, x, y, le, so)) (λ x y.
+    omega (arith, x, y, le, so)) (λ x y. omega (arith, x, y, le, so)) w is a b
 
 pub block_whole : (w at size : ℕ) (image : List ℕ) → IsSwapWidth w → at % w ≡ 0 → length image % w ≡ 0
     → at ≤ length image → size ≡ min (length image - at) 512
     → length (take (at + size - at) (drop at image)) % w ≡ 0
 block_whole w at size image is a b le so =
-    let long : length (take (at + size - at) (drop at image)) ≡ size = omega (arith, length-take (at + size - at) (drop at image), length-drop at image, le, so) in
+    let long : length (take (at + size - at) (drop at image))
+    ≡ size = omega (arith, length-take (at + size - at) (drop at image), length-drop at image, le, so) in
     ap (λ (n : ℕ). n % w) long ∙ size_whole w at (length image) size is a b le so
 
 pub block_next : (w at l size : ℕ) → IsSwapWidth w → at % w ≡ 0 → l % w ≡ 0 → at ≤ l → size ≡ min (l - at) 512 → (at + size) % w ≡ 0
-block_next w at l size is a b le so = at_width (λ (n : ℕ). at % n ≡ 0 → size % n ≡ 0 → (at + size) % n ≡ 0) (λ x y. omega (arith, x, y)) (λ x y. omega (arith, x, y)) (λ x y. omega (arith, x, y)) w is a (size_whole w at l size is a b le so)
+block_next w at l size is a b le so =
+    at_width (λ (n : ℕ). at % n ≡ 0 → size % n ≡ 0 → (at + size) % n ≡ 0) (λ x y. omega (arith, x, y)) (λ x y.
+    omega (arith, x, y)) (λ x y. omega (arith, x, y)) w is a (size_whole w at l size is a b le so)
 
 pub turned_more : (k : Kind) (at size : ℕ) (image : List ℕ) (r s : Numbers) → IsSwapWidth (width k) → at % width k ≡ 0
     → at ≤ length image → r ≡ turned_to k at image
@@ -144,4 +153,5 @@ turned_more k at size image r s is start within so put =
     let turned : length (swapped w a) % w ≡ 0 = ap (λ (z : ℕ). z % w) (length-swapped w a is whole) ∙ whole in
     put ∙ ap (λ (q : Numbers). record q { numbers = q.numbers ++ numbers_of q.kind (swapped (width q.kind) piece) }) so
     ∙ ap (λ (p : List ℕ). row_of k (numbers_of k (swapped w a) ++ numbers_of k (swapped w p))) part
-    ∙ ap (row_of k) (sym (numbers-joined k (swapped w a) (swapped w b) turned) ∙ ap (numbers_of k) (sym (swapped-append w a b is whole) ∙ ap (swapped w) (sym (take-add at size image))))
+    ∙ ap (row_of k) (sym (numbers-joined k (swapped w a) (swapped w b) turned)
+    ∙ ap (numbers_of k) (sym (swapped-append w a b is whole) ∙ ap (swapped w) (sym (take-add at size image))))

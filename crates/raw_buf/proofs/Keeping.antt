@@ -18,13 +18,15 @@ in_place f o off h =
 piece_of : (w e : List ℕ) (off k m : ℕ) → take (length w) e ≡ w → off + k ≤ length w → off + k ≤ m
     → take k (drop off (take m e)) ≡ take k (drop off w)
 piece_of w e off k m begins within far =
-    sym (drop-take off k (take m e)) ∙ ap (drop off) (take-take (off + k) m e far ∙ sym (take-take (off + k) (length w) e within) ∙ ap (take (off + k)) begins) ∙ drop-take off k w
+    sym (drop-take off k (take m e)) ∙ ap (drop off)
+    (take-take (off + k) m e far ∙ sym (take-take (off + k) (length w) e within) ∙ ap (take (off + k)) begins) ∙ drop-take off k w
 
 pub puts : PutsAreDone
 puts front octets off n m put ensured fits is ensures far =
     let long : length (written front off octets) ≡ length front = length_written front octets off fits in
     ap (take (length octets)) (drop-append-add put.done (take m ensured.front) off)
-    ∙ piece_of (written front off octets) ensured.front off (length octets) m (ap (λ (x : List ℕ). take (length x) ensured.front) (sym is) ∙ ensures.kept ∙ is) (rw long fits) far
+    ∙ piece_of (written front off octets) ensured.front off (length octets) m
+    (ap (λ (x : List ℕ). take (length x) ensured.front) (sym is) ∙ ensures.kept ∙ is) (rw long fits) far
     ∙ in_place front octets off fits
   where
     length_written : (f o : List ℕ) (off : ℕ) → off + length o ≤ length f → length (written f off o) ≡ length f

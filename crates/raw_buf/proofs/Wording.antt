@@ -24,7 +24,8 @@ pub worded_more : (n : ℕ) (t : Tally) → moved (stored (worded n t)) ≡ word
 worded_more n t =
     let moves : raised (raised t.moves n) 1 ≡ raised t.moves (n + 1) = omega arith in
     let stores : raised (raised t.stores n) 1 ≡ raised t.stores (n + 1) = omega arith in
-    same_tally t.checks (raised (raised t.moves n) 1) (raised t.moves (n + 1)) (raised (raised t.stores n) 1) (raised t.stores (n + 1)) t.rows moves stores
+    same_tally t.checks (raised (raised t.moves n) 1) (raised t.moves (n + 1)) (raised (raised t.stores n) 1) (raised t.stores (n + 1))
+    t.rows moves stores
 
 -- four octets after so many words
 pub drop_more : (n : ℕ) (os : List ℕ) → drop 4 (drop (4 * n) os) ≡ drop (4 * (n + 1)) os
@@ -36,4 +37,5 @@ drop_more n os =
 pub words_more : (d ns : List ℕ) (i : ℕ) → i < length ns → (d ++ words (take i ns)) ++ be 4 (get_or ns i 0) ≡ d ++ words (take (i + 1) ns)
 words_more d ns i lt =
     let next : suc i ≡ i + 1 = omega arith in
-    flat_map_more (be 4) d (take i ns) (get_or ns i 0) ∙ ap (λ (l : List ℕ). d ++ words l) (sym (take-suc ns i 0 lt) ∙ ap (λ (k : ℕ). take k ns) next)
+    flat_map_more (be 4) d (take i ns) (get_or ns i 0)
+    ∙ ap (λ (l : List ℕ). d ++ words l) (sym (take-suc ns i 0 lt) ∙ ap (λ (k : ℕ). take k ns) next)

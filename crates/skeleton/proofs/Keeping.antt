@@ -37,7 +37,8 @@ module _ (k : Kept) (op : ℕ) (v : Value) (kept : IsKept k) (there : op < lengt
       → IsWellTyped (reply_type k.binding n) (seen w)
   typed_at n w true is e =
       let same : n ≡ op = eqb-true n op is in
-      let here : get_or (set k.replies op (Some v)) n None ≡ Some v = get_or-set_at k.replies op n (Some v) None same (omega (arith, kept.places, there)) in
+      let here : get_or (set k.replies op (Some v)) n None
+      ≡ Some v = get_or-set_at k.replies op n (Some v) None same (omega (arith, kept.places, there)) in
       let value : v ≡ w = cc in
       rw (same, ← value) fits
   typed_at n w false is e = kept.typed n w (sym (get_or-set_other k.replies op n (Some v) None (eqb-false n op is)) ∙ e)

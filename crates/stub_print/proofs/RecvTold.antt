@@ -31,14 +31,16 @@ get_told : (g : Get) → get_of (get_words g) ≡ g
 get_told (get.Num off p w o) = rw (value_numeral off, path_told p, value_numeral w, order_told o) refl
 get_told (get.Tag off p w o) = rw (value_numeral off, path_told p, value_numeral w, order_told o) refl
 get_told (get.Flag off p w o) = rw (value_numeral off, path_told p, value_numeral w, order_told o) refl
-get_told (get.Count off p mul add w o) = rw (value_numeral off, path_told p, value_numeral mul, value_numeral add, value_numeral w, order_told o) refl
+get_told (get.Count off p mul add w o) =
+    rw (value_numeral off, path_told p, value_numeral mul, value_numeral add, value_numeral w, order_told o) refl
 get_told (get.Const off os) = rw (value_numeral off, hex_told os) refl
 
 clean_get : (g : Get) → AreClean (get_words g)
 clean_get (get.Num off p w o) = (clean_numeral off, (refl, (clean_path p, (clean_numeral w, (clean_order o, tt)))))
 clean_get (get.Tag off p w o) = (clean_numeral off, (refl, (clean_path p, (clean_numeral w, (clean_order o, tt)))))
 clean_get (get.Flag off p w o) = (clean_numeral off, (refl, (clean_path p, (clean_numeral w, (clean_order o, tt)))))
-clean_get (get.Count off p mul add w o) = (clean_numeral off, (refl, (clean_path p, (clean_numeral mul, (clean_numeral add, (clean_numeral w, (clean_order o, tt)))))))
+clean_get (get.Count off p mul add w o) =
+    (clean_numeral off, (refl, (clean_path p, (clean_numeral mul, (clean_numeral add, (clean_numeral w, (clean_order o, tt)))))))
 clean_get (get.Const off os) = (clean_numeral off, (refl, (clean_hex os, tt)))
 
 -- ---- lines, from the last to the first
@@ -142,45 +144,58 @@ mutual
       told_line (codes "need") (numeral n ∷ []) (block_text b rest) (frame b cs ps ss ∷ fs) (frame (need n b) cs ps ss ∷ fs)
       refl (clean_numeral n, tt) (told_block b rest cs ps ss fs e) (rw (value_numeral n) refl)
   told_block (need_row p unit extra b) rest cs ps ss fs e =
-      told_line (codes "need_row") (path_word p ∷ numeral unit ∷ numeral extra ∷ []) (block_text b rest) (frame b cs ps ss ∷ fs) (frame (need_row p unit extra b) cs ps ss ∷ fs)
-      refl (clean_path p, (clean_numeral unit, (clean_numeral extra, tt))) (told_block b rest cs ps ss fs e) (rw (path_told p, value_numeral unit, value_numeral extra) refl)
+      told_line (codes "need_row") (path_word p ∷ numeral unit ∷ numeral extra ∷ []) (block_text b rest) (frame b cs ps ss ∷ fs)
+      (frame (need_row p unit extra b) cs ps ss ∷ fs)
+      refl (clean_path p, (clean_numeral unit, (clean_numeral extra, tt))) (told_block b rest cs ps ss fs e)
+      (rw (path_told p, value_numeral unit, value_numeral extra) refl)
   told_block (skip_any a b) rest cs ps ss fs e =
-      told_line (codes "skip") (numeral a ∷ codes "any" ∷ []) (block_text b rest) (frame b cs ps ss ∷ fs) (frame (skip_any a b) cs ps ss ∷ fs)
+      told_line (codes "skip") (numeral a ∷ codes "any" ∷ []) (block_text b rest) (frame b cs ps ss ∷ fs)
+      (frame (skip_any a b) cs ps ss ∷ fs)
       refl (clean_numeral a, (refl, tt)) (told_block b rest cs ps ss fs e) (rw (value_numeral a) refl)
   told_block (skip_zero a b) rest cs ps ss fs e =
-      told_line (codes "skip") (numeral a ∷ codes "zero" ∷ []) (block_text b rest) (frame b cs ps ss ∷ fs) (frame (skip_zero a b) cs ps ss ∷ fs)
+      told_line (codes "skip") (numeral a ∷ codes "zero" ∷ []) (block_text b rest) (frame b cs ps ss ∷ fs)
+      (frame (skip_zero a b) cs ps ss ∷ fs)
       refl (clean_numeral a, (refl, tt)) (told_block b rest cs ps ss fs e) (rw (value_numeral a) refl)
   told_block (pass size qs b) rest cs ps ss fs e =
       let after = told_end (block_text b rest) (frame b cs ps ss ∷ fs) (told_block b rest cs ps ss fs e) in
-      told_line (codes "take") (numeral size ∷ []) (gets_text qs (ended (block_text b rest))) (frame finish no_default qs [] ∷ frame b cs ps ss ∷ fs)
+      told_line (codes "take") (numeral size ∷ []) (gets_text qs (ended (block_text b rest)))
+      (frame finish no_default qs [] ∷ frame b cs ps ss ∷ fs)
       (frame (pass size qs b) cs ps ss ∷ fs) refl (clean_numeral size, tt)
       (told_gets qs (ended (block_text b rest)) finish no_default [] (frame b cs ps ss ∷ fs) after) (rw (value_numeral size) refl)
   told_block (desc p name size mul b) rest cs ps ss fs e =
-      told_line (codes "desc") (path_word p ∷ numeral name ∷ numeral size ∷ numeral mul ∷ []) (block_text b rest) (frame b cs ps ss ∷ fs) (frame (desc p name size mul b) cs ps ss ∷ fs)
-      refl (clean_path p, (clean_numeral name, (clean_numeral size, (clean_numeral mul, tt)))) (told_block b rest cs ps ss fs e) (rw (path_told p, value_numeral name, value_numeral size, value_numeral mul) refl)
+      told_line (codes "desc") (path_word p ∷ numeral name ∷ numeral size ∷ numeral mul ∷ []) (block_text b rest) (frame b cs ps ss ∷ fs)
+      (frame (desc p name size mul b) cs ps ss ∷ fs)
+      refl (clean_path p, (clean_numeral name, (clean_numeral size, (clean_numeral mul, tt)))) (told_block b rest cs ps ss fs e)
+      (rw (path_told p, value_numeral name, value_numeral size, value_numeral mul) refl)
   told_block (row_block p o b) rest cs ps ss fs e =
-      told_line (codes "row") (path_word p ∷ order_word o ∷ []) (block_text b rest) (frame b cs ps ss ∷ fs) (frame (row_block p o b) cs ps ss ∷ fs)
+      told_line (codes "row") (path_word p ∷ order_word o ∷ []) (block_text b rest) (frame b cs ps ss ∷ fs)
+      (frame (row_block p o b) cs ps ss ∷ fs)
       refl (clean_path p, (clean_order o, tt)) (told_block b rest cs ps ss fs e) (rw (path_told p, order_told o) refl)
   told_block (row_wide p o b) rest cs ps ss fs e =
-      told_line (codes "row_wide") (path_word p ∷ order_word o ∷ []) (block_text b rest) (frame b cs ps ss ∷ fs) (frame (row_wide p o b) cs ps ss ∷ fs)
+      told_line (codes "row_wide") (path_word p ∷ order_word o ∷ []) (block_text b rest) (frame b cs ps ss ∷ fs)
+      (frame (row_wide p o b) cs ps ss ∷ fs)
       refl (clean_path p, (clean_order o, tt)) (told_block b rest cs ps ss fs e) (rw (path_told p, order_told o) refl)
   told_block (each p body b) rest cs ps ss fs e =
       let after = told_end (block_text b rest) (frame b cs ps ss ∷ fs) (told_block b rest cs ps ss fs e) in
-      told_line (codes "each") (path_word p ∷ []) (block_text body (ended (block_text b rest))) (frame body no_default [] [] ∷ frame b cs ps ss ∷ fs)
+      told_line (codes "each") (path_word p ∷ []) (block_text body (ended (block_text b rest)))
+      (frame body no_default [] [] ∷ frame b cs ps ss ∷ fs)
       (frame (each p body b) cs ps ss ∷ fs) refl (clean_path p, tt)
       (told_block body (ended (block_text b rest)) no_default [] [] (frame b cs ps ss ∷ fs) after) (rw (path_told p) refl)
   told_block (switch p cases b) rest cs ps ss fs e =
       let after = told_end (block_text b rest) (frame b cs ps ss ∷ fs) (told_block b rest cs ps ss fs e) in
-      told_line (codes "switch") (path_word p ∷ []) (cases_text cases (ended (block_text b rest))) (frame finish cases [] [] ∷ frame b cs ps ss ∷ fs)
+      told_line (codes "switch") (path_word p ∷ []) (cases_text cases (ended (block_text b rest)))
+      (frame finish cases [] [] ∷ frame b cs ps ss ∷ fs)
       (frame (switch p cases b) cs ps ss ∷ fs) refl (clean_path p, tt)
       (told_cases cases (ended (block_text b rest)) [] [] (frame b cs ps ss ∷ fs) after) (rw (path_told p) refl)
   told_block (if_there p body b) rest cs ps ss fs e =
       let after = told_end (block_text b rest) (frame b cs ps ss ∷ fs) (told_block b rest cs ps ss fs e) in
-      told_line (codes "some") (path_word p ∷ []) (block_text body (ended (block_text b rest))) (frame body no_default [] [] ∷ frame b cs ps ss ∷ fs)
+      told_line (codes "some") (path_word p ∷ []) (block_text body (ended (block_text b rest)))
+      (frame body no_default [] [] ∷ frame b cs ps ss ∷ fs)
       (frame (if_there p body b) cs ps ss ∷ fs) refl (clean_path p, tt)
       (told_block body (ended (block_text b rest)) no_default [] [] (frame b cs ps ss ∷ fs) after) (rw (path_told p) refl)
   told_block (call k p b) rest cs ps ss fs e =
-      told_line (codes "call") (numeral k ∷ path_word p ∷ []) (block_text b rest) (frame b cs ps ss ∷ fs) (frame (call k p b) cs ps ss ∷ fs) refl
+      told_line (codes "call") (numeral k ∷ path_word p ∷ []) (block_text b rest) (frame b cs ps ss ∷ fs)
+      (frame (call k p b) cs ps ss ∷ fs) refl
       (clean_numeral k, (clean_path p, tt)) (told_block b rest cs ps ss fs e) (rw (value_numeral k, path_told p) refl)
 
   told_cases : (cs : Cases) (rest : List ℕ) (ps : List Get) (ss : List Recv) (fs : List Frame)
@@ -188,10 +203,12 @@ mutual
       → told (cases_text cs rest) ≡ frame finish cs ps ss ∷ fs
   told_cases no_default rest ps ss fs e = e
   told_cases (default body) rest ps ss fs e =
-      told_line (codes "default") [] (block_text body rest) (frame body no_default ps ss ∷ fs) (frame finish (default body) ps ss ∷ fs) refl tt
+      told_line (codes "default") [] (block_text body rest) (frame body no_default ps ss ∷ fs) (frame finish (default body) ps ss ∷ fs)
+      refl tt
       (told_block body rest no_default ps ss fs e) refl
   told_cases (case n body cs) rest ps ss fs e =
-      told_line (codes "case") (integer n ∷ []) (block_text body (cases_text cs rest)) (frame body cs ps ss ∷ fs) (frame finish (case n body cs) ps ss ∷ fs) refl
+      told_line (codes "case") (integer n ∷ []) (block_text body (cases_text cs rest)) (frame body cs ps ss ∷ fs)
+      (frame finish (case n body cs) ps ss ∷ fs) refl
       (clean_integer n, tt) (told_block body (cases_text cs rest) cs ps ss fs (told_cases cs rest ps ss fs e)) (rw (integer_told n) refl)
 
 told_subs : (bs : List Recv) (k : ℕ) (rest : List ℕ) (b : Recv) (cs : Cases) (ps : List Get) (fs : List Frame)
@@ -200,7 +217,8 @@ told_subs : (bs : List Recv) (k : ℕ) (rest : List ℕ) (b : Recv) (cs : Cases)
 told_subs [] k rest b cs ps fs e = e
 told_subs (a ∷ bs) k rest b cs ps fs e =
     let after = told_end (subs_text (suc k) bs rest) (frame b cs ps bs ∷ fs) (told_subs bs (suc k) rest b cs ps fs e) in
-    told_line (codes "sub") (numeral k ∷ []) (block_text a (ended (subs_text (suc k) bs rest))) (frame a no_default [] [] ∷ frame b cs ps bs ∷ fs)
+    told_line (codes "sub") (numeral k ∷ []) (block_text a (ended (subs_text (suc k) bs rest)))
+    (frame a no_default [] [] ∷ frame b cs ps bs ∷ fs)
     (frame b cs ps (a ∷ bs) ∷ fs) refl (clean_numeral k, tt)
     (told_block a (ended (subs_text (suc k) bs rest)) no_default [] [] (frame b cs ps bs ∷ fs) after) refl
 
@@ -214,7 +232,8 @@ body a subs = block_text a (subs_text 0 subs (ended []))
 
 told_body : (a : Recv) (subs : List Recv) → told (body a subs) ≡ frame a no_default [] subs ∷ []
 told_body a subs =
-    told_block a (subs_text 0 subs (ended [])) no_default [] subs [] (told_subs subs 0 (ended []) finish no_default [] [] (told_end [] [] nothing_told))
+    told_block a (subs_text 0 subs (ended [])) no_default [] subs []
+    (told_subs subs 0 (ended []) finish no_default [] [] (told_end [] [] nothing_told))
 
 abbrev top_block : List Frame → Recv
 top_block [] = finish

@@ -49,8 +49,10 @@ put_told : (p : Put) → put_of (put_words p) ≡ p
 put_told (put.Num off p w o) = rw (value_numeral off, path_told p, value_numeral w, order_told o) refl
 put_told (put.Tag off p w o) = rw (value_numeral off, path_told p, value_numeral w, order_told o) refl
 put_told (put.Flag off p w o) = rw (value_numeral off, path_told p, value_numeral w, order_told o) refl
-put_told (put.Count off p mul add w o) = rw (value_numeral off, path_told p, value_numeral mul, value_numeral add, value_numeral w, order_told o) refl
-put_told (put.Short off p name size mul) = rw (value_numeral off, path_told p, value_numeral name, value_numeral size, value_numeral mul) refl
+put_told (put.Count off p mul add w o) =
+    rw (value_numeral off, path_told p, value_numeral mul, value_numeral add, value_numeral w, order_told o) refl
+put_told (put.Short off p name size mul) = rw (value_numeral off, path_told p, value_numeral name, value_numeral size, value_numeral mul)
+    refl
 put_told (put.Const off os) = rw (value_numeral off, hex_told os) refl
 put_told (put.Head off f w o) = rw (value_numeral off, field_told f, value_numeral w, order_told o) refl
 
@@ -58,8 +60,10 @@ clean_put : (p : Put) → AreClean (put_words p)
 clean_put (put.Num off p w o) = (clean_numeral off, (refl, (clean_path p, (clean_numeral w, (clean_order o, tt)))))
 clean_put (put.Tag off p w o) = (clean_numeral off, (refl, (clean_path p, (clean_numeral w, (clean_order o, tt)))))
 clean_put (put.Flag off p w o) = (clean_numeral off, (refl, (clean_path p, (clean_numeral w, (clean_order o, tt)))))
-clean_put (put.Count off p mul add w o) = (clean_numeral off, (refl, (clean_path p, (clean_numeral mul, (clean_numeral add, (clean_numeral w, (clean_order o, tt)))))))
-clean_put (put.Short off p name size mul) = (clean_numeral off, (refl, (clean_path p, (clean_numeral name, (clean_numeral size, (clean_numeral mul, tt))))))
+clean_put (put.Count off p mul add w o) =
+    (clean_numeral off, (refl, (clean_path p, (clean_numeral mul, (clean_numeral add, (clean_numeral w, (clean_order o, tt)))))))
+clean_put (put.Short off p name size mul) =
+    (clean_numeral off, (refl, (clean_path p, (clean_numeral name, (clean_numeral size, (clean_numeral mul, tt))))))
 clean_put (put.Const off os) = (clean_numeral off, (refl, (clean_hex os, tt)))
 clean_put (put.Head off f w o) = (clean_numeral off, (refl, (clean_field f, (clean_numeral w, (clean_order o, tt)))))
 
@@ -159,59 +163,75 @@ mutual
       → told (block_text b rest) ≡ frame b cs ps ss ∷ fs
   told_block stop rest cs ps ss fs e = e
   told_block (ensure n b) rest cs ps ss fs e =
-      told_line (codes "ensure") (numeral n ∷ []) (block_text b rest) (frame b cs ps ss ∷ fs) (frame (ensure n b) cs ps ss ∷ fs) refl (clean_numeral n, tt)
+      told_line (codes "ensure") (numeral n ∷ []) (block_text b rest) (frame b cs ps ss ∷ fs) (frame (ensure n b) cs ps ss ∷ fs) refl
+      (clean_numeral n, tt)
       (told_block b rest cs ps ss fs e) (rw (value_numeral n) refl)
   told_block (ensure_row p unit extra b) rest cs ps ss fs e =
-      told_line (codes "ensure_row") (path_word p ∷ numeral unit ∷ numeral extra ∷ []) (block_text b rest) (frame b cs ps ss ∷ fs) (frame (ensure_row p unit extra b) cs ps ss ∷ fs)
-      refl (clean_path p, (clean_numeral unit, (clean_numeral extra, tt))) (told_block b rest cs ps ss fs e) (rw (path_told p, value_numeral unit, value_numeral extra) refl)
+      told_line (codes "ensure_row") (path_word p ∷ numeral unit ∷ numeral extra ∷ []) (block_text b rest) (frame b cs ps ss ∷ fs)
+      (frame (ensure_row p unit extra b) cs ps ss ∷ fs)
+      refl (clean_path p, (clean_numeral unit, (clean_numeral extra, tt))) (told_block b rest cs ps ss fs e)
+      (rw (path_told p, value_numeral unit, value_numeral extra) refl)
   told_block (align a b) rest cs ps ss fs e =
-      told_line (codes "align") (numeral a ∷ []) (block_text b rest) (frame b cs ps ss ∷ fs) (frame (align a b) cs ps ss ∷ fs) refl (clean_numeral a, tt)
+      told_line (codes "align") (numeral a ∷ []) (block_text b rest) (frame b cs ps ss ∷ fs) (frame (align a b) cs ps ss ∷ fs) refl
+      (clean_numeral a, tt)
       (told_block b rest cs ps ss fs e) (rw (value_numeral a) refl)
   told_block (chunk size qs b) rest cs ps ss fs e =
       let after = told_end (block_text b rest) (frame b cs ps ss ∷ fs) (told_block b rest cs ps ss fs e) in
-      told_line (codes "chunk") (numeral size ∷ []) (puts_text qs (ended (block_text b rest))) (frame stop no_default qs [] ∷ frame b cs ps ss ∷ fs)
+      told_line (codes "chunk") (numeral size ∷ []) (puts_text qs (ended (block_text b rest)))
+      (frame stop no_default qs [] ∷ frame b cs ps ss ∷ fs)
       (frame (chunk size qs b) cs ps ss ∷ fs) refl (clean_numeral size, tt)
       (told_puts qs (ended (block_text b rest)) stop no_default [] (frame b cs ps ss ∷ fs) after) (rw (value_numeral size) refl)
   told_block (row_copy p b) rest cs ps ss fs e =
-      told_line (codes "row_copy") (path_word p ∷ []) (block_text b rest) (frame b cs ps ss ∷ fs) (frame (row_copy p b) cs ps ss ∷ fs) refl (clean_path p, tt)
+      told_line (codes "row_copy") (path_word p ∷ []) (block_text b rest) (frame b cs ps ss ∷ fs) (frame (row_copy p b) cs ps ss ∷ fs)
+      refl (clean_path p, tt)
       (told_block b rest cs ps ss fs e) (rw (path_told p) refl)
   told_block (row_swap p b) rest cs ps ss fs e =
-      told_line (codes "row_swap") (path_word p ∷ []) (block_text b rest) (frame b cs ps ss ∷ fs) (frame (row_swap p b) cs ps ss ∷ fs) refl (clean_path p, tt)
+      told_line (codes "row_swap") (path_word p ∷ []) (block_text b rest) (frame b cs ps ss ∷ fs) (frame (row_swap p b) cs ps ss ∷ fs)
+      refl (clean_path p, tt)
       (told_block b rest cs ps ss fs e) (rw (path_told p) refl)
   told_block (row_wide p o b) rest cs ps ss fs e =
-      told_line (codes "row_wide") (path_word p ∷ order_word o ∷ []) (block_text b rest) (frame b cs ps ss ∷ fs) (frame (row_wide p o b) cs ps ss ∷ fs) refl
+      told_line (codes "row_wide") (path_word p ∷ order_word o ∷ []) (block_text b rest) (frame b cs ps ss ∷ fs)
+      (frame (row_wide p o b) cs ps ss ∷ fs) refl
       (clean_path p, (clean_order o, tt)) (told_block b rest cs ps ss fs e) (rw (path_told p, order_told o) refl)
   told_block (each p body b) rest cs ps ss fs e =
       let after = told_end (block_text b rest) (frame b cs ps ss ∷ fs) (told_block b rest cs ps ss fs e) in
-      told_line (codes "each") (path_word p ∷ []) (block_text body (ended (block_text b rest))) (frame body no_default [] [] ∷ frame b cs ps ss ∷ fs)
+      told_line (codes "each") (path_word p ∷ []) (block_text body (ended (block_text b rest)))
+      (frame body no_default [] [] ∷ frame b cs ps ss ∷ fs)
       (frame (each p body b) cs ps ss ∷ fs) refl (clean_path p, tt)
       (told_block body (ended (block_text b rest)) no_default [] [] (frame b cs ps ss ∷ fs) after) (rw (path_told p) refl)
   told_block (switch p cases b) rest cs ps ss fs e =
       let after = told_end (block_text b rest) (frame b cs ps ss ∷ fs) (told_block b rest cs ps ss fs e) in
-      told_line (codes "switch") (path_word p ∷ []) (cases_text cases (ended (block_text b rest))) (frame stop cases [] [] ∷ frame b cs ps ss ∷ fs)
+      told_line (codes "switch") (path_word p ∷ []) (cases_text cases (ended (block_text b rest)))
+      (frame stop cases [] [] ∷ frame b cs ps ss ∷ fs)
       (frame (switch p cases b) cs ps ss ∷ fs) refl (clean_path p, tt)
       (told_cases cases (ended (block_text b rest)) [] [] (frame b cs ps ss ∷ fs) after) (rw (path_told p) refl)
   told_block (if_there p body b) rest cs ps ss fs e =
       let after = told_end (block_text b rest) (frame b cs ps ss ∷ fs) (told_block b rest cs ps ss fs e) in
-      told_line (codes "some") (path_word p ∷ []) (block_text body (ended (block_text b rest))) (frame body no_default [] [] ∷ frame b cs ps ss ∷ fs)
+      told_line (codes "some") (path_word p ∷ []) (block_text body (ended (block_text b rest)))
+      (frame body no_default [] [] ∷ frame b cs ps ss ∷ fs)
       (frame (if_there p body b) cs ps ss ∷ fs) refl (clean_path p, tt)
       (told_block body (ended (block_text b rest)) no_default [] [] (frame b cs ps ss ∷ fs) after) (rw (path_told p) refl)
   told_block (call k p b) rest cs ps ss fs e =
-      told_line (codes "call") (numeral k ∷ path_word p ∷ []) (block_text b rest) (frame b cs ps ss ∷ fs) (frame (call k p b) cs ps ss ∷ fs) refl
+      told_line (codes "call") (numeral k ∷ path_word p ∷ []) (block_text b rest) (frame b cs ps ss ∷ fs)
+      (frame (call k p b) cs ps ss ∷ fs) refl
       (clean_numeral k, (clean_path p, tt)) (told_block b rest cs ps ss fs e) (rw (value_numeral k, path_told p) refl)
   told_block (patch at sub o b) rest cs ps ss fs e =
-      told_line (codes "patch") (numeral at ∷ numeral sub ∷ order_word o ∷ []) (block_text b rest) (frame b cs ps ss ∷ fs) (frame (patch at sub o b) cs ps ss ∷ fs) refl
-      (clean_numeral at, (clean_numeral sub, (clean_order o, tt))) (told_block b rest cs ps ss fs e) (rw (value_numeral at, value_numeral sub, order_told o) refl)
+      told_line (codes "patch") (numeral at ∷ numeral sub ∷ order_word o ∷ []) (block_text b rest) (frame b cs ps ss ∷ fs)
+      (frame (patch at sub o b) cs ps ss ∷ fs) refl
+      (clean_numeral at, (clean_numeral sub, (clean_order o, tt))) (told_block b rest cs ps ss fs e)
+      (rw (value_numeral at, value_numeral sub, order_told o) refl)
 
   told_cases : (cs : Cases) (rest : List ℕ) (ps : List Put) (ss : List Block) (fs : List Frame)
       → told rest ≡ frame stop no_default ps ss ∷ fs
       → told (cases_text cs rest) ≡ frame stop cs ps ss ∷ fs
   told_cases no_default rest ps ss fs e = e
   told_cases (default body) rest ps ss fs e =
-      told_line (codes "default") [] (block_text body rest) (frame body no_default ps ss ∷ fs) (frame stop (default body) ps ss ∷ fs) refl tt
+      told_line (codes "default") [] (block_text body rest) (frame body no_default ps ss ∷ fs) (frame stop (default body) ps ss ∷ fs) refl
+      tt
       (told_block body rest no_default ps ss fs e) refl
   told_cases (case n body cs) rest ps ss fs e =
-      told_line (codes "case") (integer n ∷ []) (block_text body (cases_text cs rest)) (frame body cs ps ss ∷ fs) (frame stop (case n body cs) ps ss ∷ fs) refl
+      told_line (codes "case") (integer n ∷ []) (block_text body (cases_text cs rest)) (frame body cs ps ss ∷ fs)
+      (frame stop (case n body cs) ps ss ∷ fs) refl
       (clean_integer n, tt) (told_block body (cases_text cs rest) cs ps ss fs (told_cases cs rest ps ss fs e)) (rw (integer_told n) refl)
 
 told_subs : (bs : List Block) (k : ℕ) (rest : List ℕ) (b : Block) (cs : Cases) (ps : List Put) (fs : List Frame)
@@ -220,7 +240,8 @@ told_subs : (bs : List Block) (k : ℕ) (rest : List ℕ) (b : Block) (cs : Case
 told_subs [] k rest b cs ps fs e = e
 told_subs (a ∷ bs) k rest b cs ps fs e =
     let after = told_end (subs_text (suc k) bs rest) (frame b cs ps bs ∷ fs) (told_subs bs (suc k) rest b cs ps fs e) in
-    told_line (codes "sub") (numeral k ∷ []) (block_text a (ended (subs_text (suc k) bs rest))) (frame a no_default [] [] ∷ frame b cs ps bs ∷ fs)
+    told_line (codes "sub") (numeral k ∷ []) (block_text a (ended (subs_text (suc k) bs rest)))
+    (frame a no_default [] [] ∷ frame b cs ps bs ∷ fs)
     (frame b cs ps (a ∷ bs) ∷ fs) refl (clean_numeral k, tt)
     (told_block a (ended (subs_text (suc k) bs rest)) no_default [] [] (frame b cs ps bs ∷ fs) after) refl
 
@@ -234,7 +255,8 @@ body a subs = block_text a (subs_text 0 subs (ended []))
 
 told_body : (a : Block) (subs : List Block) → told (body a subs) ≡ frame a no_default [] subs ∷ []
 told_body a subs =
-    told_block a (subs_text 0 subs (ended [])) no_default [] subs [] (told_subs subs 0 (ended []) stop no_default [] [] (told_end [] [] nothing_told))
+    told_block a (subs_text 0 subs (ended [])) no_default [] subs []
+    (told_subs subs 0 (ended []) stop no_default [] [] (told_end [] [] nothing_told))
 
 abbrev top_block : List Frame → Block
 top_block [] = stop

@@ -20,14 +20,16 @@ pub each_put : {E : Type 0} (r : Result (Unit {0}) E) (o : SendOp) (path : List 
     → IsPut old (line (codes "each") (path_word path ∷ [])) a → IsPut a (block_text (code_seen ops)) b → OnOk r (IsPut b ended new)
     → OnOk r (IsSendPut old (op_seen o) new)
 each_put r o path ops old a b new is first body last =
-    on_ok_weaker r (λ end x rest. seen_text o _ old x rest (ap op_seen is ∙ seen-Each path ops) ∙ first _ ∙ body _ ∙ end (block_text x rest)) last
+    on_ok_weaker r
+    (λ end x rest. seen_text o _ old x rest (ap op_seen is ∙ seen-Each path ops) ∙ first _ ∙ body _ ∙ end (block_text x rest)) last
 
 pub some_put : {E : Type 0} (r : Result (Unit {0}) E) (o : SendOp) (path : List ℕ) (ops : List SendOp) (old a b new : List ℕ)
     → o ≡ op.Some path ops
     → IsPut old (line (codes "some") (path_word path ∷ [])) a → IsPut a (block_text (code_seen ops)) b → OnOk r (IsPut b ended new)
     → OnOk r (IsSendPut old (op_seen o) new)
 some_put r o path ops old a b new is first body last =
-    on_ok_weaker r (λ end x rest. seen_text o _ old x rest (ap op_seen is ∙ seen-Some path ops) ∙ first _ ∙ body _ ∙ end (block_text x rest)) last
+    on_ok_weaker r
+    (λ end x rest. seen_text o _ old x rest (ap op_seen is ∙ seen-Some path ops) ∙ first _ ∙ body _ ∙ end (block_text x rest)) last
 
 -- the bodies that are left where the loop over them ends
 left_text : (items cases : List (ℤ × List SendOp)) (other : Option (List SendOp)) (i : ℕ) (a b r : List ℕ) → items ≡ cases

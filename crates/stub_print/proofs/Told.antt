@@ -253,7 +253,9 @@ octet_told o a b h k = omega arith
 pub hex_told : (os : List ℕ) → octets_of (hex os) ≡ os
 hex_told [] = refl
 hex_told (o ∷ os) =
-    ap (λ z. z ∷ octets_of (hex os)) (octet_told o (digit_in (hex_digit (o / 16))) (digit_in (hex_digit (o % 16))) (digit_told (o / 16)) (digit_told (o % 16)))
+    ap (λ z.
+    z ∷ octets_of (hex os)) (octet_told o (digit_in (hex_digit (o / 16))) (digit_in (hex_digit (o % 16))) (digit_told (o / 16))
+    (digit_told (o % 16)))
     ∙ ap (λ z. o ∷ z) (hex_told os)
 
 hex_digit_from : (d : ℕ) → 48 ≤ hex_digit d

@@ -32,25 +32,42 @@ eight_lanes = 7 ∷ 6 ∷ 5 ∷ 4 ∷ 3 ∷ 2 ∷ 1 ∷ 0 ∷ 15 ∷ 14 ∷ 13 �
 
 pub two_swap : SwapsLanes 2 two_lanes
 unfolding swapped
-two_swap = record { there = (tt, (tt, (tt, (tt, (tt, (tt, (tt, (tt, (tt, (tt, (tt, (tt, (tt, (tt, (tt, (tt, tt)))))))))))))))); swaps = λ v long. spelled (λ xs. swz_l w8 16 xs 0 two_lanes ≡ swapped 2 xs) 16 (λ f. refl) v long }
+two_swap =
+    record {
+      there = (tt, (tt, (tt, (tt, (tt, (tt, (tt, (tt, (tt, (tt, (tt, (tt, (tt, (tt, (tt, (tt, tt))))))))))))))));
+      swaps =
+          λ v long. spelled (λ xs. swz_l w8 16 xs 0 two_lanes ≡ swapped 2 xs) 16 (λ f. refl) v long;
+    }
 
 pub four_swap : SwapsLanes 4 four_lanes
 unfolding swapped
-four_swap = record { there = (tt, (tt, (tt, (tt, (tt, (tt, (tt, (tt, (tt, (tt, (tt, (tt, (tt, (tt, (tt, (tt, tt)))))))))))))))); swaps = λ v long. spelled (λ xs. swz_l w8 16 xs 0 four_lanes ≡ swapped 4 xs) 16 (λ f. refl) v long }
+four_swap =
+    record {
+      there = (tt, (tt, (tt, (tt, (tt, (tt, (tt, (tt, (tt, (tt, (tt, (tt, (tt, (tt, (tt, (tt, tt))))))))))))))));
+      swaps =
+          λ v long. spelled (λ xs. swz_l w8 16 xs 0 four_lanes ≡ swapped 4 xs) 16 (λ f. refl) v long;
+    }
 
 pub eight_swap : SwapsLanes 8 eight_lanes
 unfolding swapped
-eight_swap = record { there = (tt, (tt, (tt, (tt, (tt, (tt, (tt, (tt, (tt, (tt, (tt, (tt, (tt, (tt, (tt, (tt, tt)))))))))))))))); swaps = λ v long. spelled (λ xs. swz_l w8 16 xs 0 eight_lanes ≡ swapped 8 xs) 16 (λ f. refl) v long }
+eight_swap =
+    record {
+      there = (tt, (tt, (tt, (tt, (tt, (tt, (tt, (tt, (tt, (tt, (tt, (tt, (tt, (tt, (tt, (tt, tt))))))))))))))));
+      swaps =
+          λ v long. spelled (λ xs. swz_l w8 16 xs 0 eight_lanes ≡ swapped 8 xs) 16 (λ f. refl) v long;
+    }
 
 -- ---- places where a number begins
 
 -- there is room for a number where the end is not reached
 pub one_fits : (w at l : ℕ) → IsSwapWidth w → at % w ≡ 0 → l % w ≡ 0 → at < l → at + w ≤ l
 one_fits w at l is a b lt =
-    at_width (λ n. at % n ≡ 0 → l % n ≡ 0 → at + n ≤ l) (λ x y. omega (arith, x, y, lt)) (λ x y. omega (arith, x, y, lt)) (λ x y. omega (arith, x, y, lt)) w is a b
+    at_width (λ n. at % n ≡ 0 → l % n ≡ 0 → at + n ≤ l) (λ x y. omega (arith, x, y, lt)) (λ x y. omega (arith, x, y, lt)) (λ x y.
+    omega (arith, x, y, lt)) w is a b
 
 pub next_start : (w at : ℕ) → IsSwapWidth w → at % w ≡ 0 → (at + w) % w ≡ 0
-next_start w at is a = at_width (λ n. at % n ≡ 0 → (at + n) % n ≡ 0) (λ x. omega (arith, x)) (λ x. omega (arith, x)) (λ x. omega (arith, x)) w is a
+next_start w at is a =
+    at_width (λ n. at % n ≡ 0 → (at + n) % n ≡ 0) (λ x. omega (arith, x)) (λ x. omega (arith, x)) (λ x. omega (arith, x)) w is a
 
 pub first_start : (w at : ℕ) → IsSwapWidth w → at % 16 ≡ 0 → at % w ≡ 0
 first_start w at is a = at_width (λ n. at % n ≡ 0) (omega arith) (omega arith) (omega arith) w is
@@ -78,7 +95,8 @@ more w at n image old is start step within =
     let swapped_a : length (swapped w a) ≡ at = length-swapped w a is (ap (λ z. z % w) la ∙ start) ∙ la in
     let swapped_b : length (swapped w b) ≡ n = length-swapped w b is (ap (λ z. z % w) lb ∙ step) ∙ lb in
     put_next (swapped w a) (swapped w b) (drop at old) at n swapped_a swapped_b
-    ∙ (rw (drop-drop n at old, take-add at n image) (ap (λ z. z ++ drop (at + n) old) (sym (swapped-append w a b is (ap (λ z. z % w) la ∙ start)))))
+    ∙ (rw (drop-drop n at old, take-add at n image)
+    (ap (λ z. z ++ drop (at + n) old) (sym (swapped-append w a b is (ap (λ z. z % w) la ∙ start)))))
 
 length-swapped_to : (w at : ℕ) (image old : List ℕ) → IsSwapWidth w → at % w ≡ 0 → at ≤ length image → length old ≡ length image
     → length (swapped_to w at image old) ≡ length image
@@ -138,4 +156,5 @@ pub before : (w at : ℕ) (image old new : List ℕ) → IsSwapWidth w → at % 
     → take at new ≡ swapped w (take at image)
 before w at image old new is start within so =
     let la : length (take at image) ≡ at = length-take-le at image within in
-    ap (take at) so ∙ take_at (swapped w (take at image)) (drop at old) at (length-swapped w (take at image) is (ap (λ z. z % w) la ∙ start) ∙ la)
+    ap (take at) so ∙ take_at (swapped w (take at image)) (drop at old) at
+    (length-swapped w (take at image) is (ap (λ z. z % w) la ∙ start) ∙ la)

@@ -9,12 +9,14 @@ use Rattle.swap_kit.specs.Swapped.{swapped, IsSwapWidth}
 pub swapped-first : (w : ℕ) (a o : List ℕ) → 0 < w → length a ≡ w → swapped w (a ++ o) ≡ reverse a ++ swapped w o
 unfolding swapped
 swapped-first w a o some len =
-    let many : length (a ++ o) / w ≡ suc (length o / w) = ap (λ z. z / w) (length-append a o ∙ ap (λ z. z + length o) len) ∙ add-div_left (length o) some ∙ add-one (length o / w) in
+    let many : length (a ++ o) / w ≡ suc (length o / w) =
+    ap (λ z. z / w) (length-append a o ∙ ap (λ z. z + length o) len) ∙ add-div_left (length o) some ∙ add-one (length o / w) in
     rw (many, take_at a o w len, drop_at a o w len) refl
 
 -- a fact of each width, from the same of the three
 pub at_width : (P : ℕ → Type 0) → P 2 → P 4 → P 8 → (w : ℕ) → IsSwapWidth w → P w
-at_width P two four eight w is = elim is [ inl e ↦ subst P (sym e) two | inr more ↦ elim more [ inl e ↦ subst P (sym e) four | inr e ↦ subst P (sym e) eight ] ]
+at_width P two four eight w is =
+    elim is [ inl e ↦ subst P (sym e) two | inr more ↦ elim more [ inl e ↦ subst P (sym e) four | inr e ↦ subst P (sym e) eight ] ]
 
 pub swapped-none : (w : ℕ) → IsSwapWidth w → swapped w [] ≡ []
 unfolding swapped
@@ -26,7 +28,8 @@ swaps_some w is = at_width (λ n. 0 < n) (omega arith) (omega arith) (omega arit
 -- one run
 pub swapped-one : (w : ℕ) (a : List ℕ) → IsSwapWidth w → length a ≡ w → swapped w a ≡ reverse a
 swapped-one w a is len =
-    ap (swapped w) (sym (append-nil a)) ∙ swapped-first w a [] (swaps_some w is) len ∙ ap (λ z. reverse a ++ z) (swapped-none w is) ∙ append-nil (reverse a)
+    ap (swapped w) (sym (append-nil a)) ∙ swapped-first w a [] (swaps_some w is) len
+    ∙ ap (λ z. reverse a ++ z) (swapped-none w is) ∙ append-nil (reverse a)
 
 -- n runs, and others after them
 behind : (w n : ℕ) (a o : List ℕ) → IsSwapWidth w → length a ≡ n * w → swapped w (a ++ o) ≡ swapped w a ++ swapped w o
@@ -40,8 +43,10 @@ behind w (suc n) a o is len =
     let rest : length r ≡ n * w = omega (arith, length-drop w a) in
     let some = swaps_some w is in
     let whole : f ++ r ≡ a = take-append-drop w a in
-    ap (λ z. swapped w (z ++ o)) (sym whole) ∙ ap (swapped w) (append_assoc f r o) ∙ swapped-first w f (r ++ o) some front ∙ ap (λ z. reverse f ++ z) (behind w n r o is rest)
-    ∙ sym (append_assoc (reverse f) (swapped w r) (swapped w o)) ∙ ap (λ z. z ++ swapped w o) (sym (swapped-first w f r some front) ∙ ap (swapped w) whole)
+    ap (λ z. swapped w (z ++ o)) (sym whole) ∙ ap (swapped w) (append_assoc f r o) ∙ swapped-first w f (r ++ o) some front ∙ ap (λ z.
+    reverse f ++ z) (behind w n r o is rest)
+    ∙ sym (append_assoc (reverse f) (swapped w r) (swapped w o))
+    ∙ ap (λ z. z ++ swapped w o) (sym (swapped-first w f r some front) ∙ ap (swapped w) whole)
 
 pub whole_runs : (w l : ℕ) → l % w ≡ 0 → l ≡ l / w * w
 whole_runs w l h = sym (omega (arith, div-add-mod' l w))
@@ -58,7 +63,9 @@ many w (suc n) o is len =
     let r = drop w o in
     let front : length f ≡ w = omega (arith, length-take w o) in
     let rest : length r ≡ n * w = omega (arith, length-drop w o) in
-    ap (λ z. length (swapped w z)) (sym (take-append-drop w o)) ∙ ap length (swapped-first w f r (swaps_some w is) front) ∙ length-append (reverse f) (swapped w r)
+    ap (λ z.
+    length (swapped w z)) (sym (take-append-drop w o)) ∙ ap length (swapped-first w f r (swaps_some w is) front)
+    ∙ length-append (reverse f) (swapped w r)
     ∙ omega (arith, length-reverse f, many w n r is rest)
 
 pub length-swapped : (w : ℕ) (o : List ℕ) → IsSwapWidth w → length o % w ≡ 0 → length (swapped w o) ≡ length o
@@ -74,7 +81,9 @@ twice w (suc n) o is len =
     let front : length f ≡ w = omega (arith, length-take w o) in
     let rest : length r ≡ n * w = omega (arith, length-drop w o) in
     let some = swaps_some w is in
-    ap (λ z. swapped w (swapped w z)) (sym (take-append-drop w o)) ∙ ap (swapped w) (swapped-first w f r some front) ∙ swapped-first w (reverse f) (swapped w r) some (length-reverse f ∙ front)
+    ap (λ z.
+    swapped w (swapped w z)) (sym (take-append-drop w o)) ∙ ap (swapped w) (swapped-first w f r some front)
+    ∙ swapped-first w (reverse f) (swapped w r) some (length-reverse f ∙ front)
     ∙ rw (reverse-reverse f, twice w n r is rest) (take-append-drop w o)
 
 -- turned twice

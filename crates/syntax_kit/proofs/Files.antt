@@ -36,7 +36,8 @@ module _ {D : Type 0} {r : Reader D} {S : D → Text} {f : TokenKind → Bool} (
       record {
         front = s.front ++ a.0;
         parts = s.parts ∙ ap (λ z. s.front ++ z) a.1 ∙ sym (append_assoc s.front a.0 after);
-        derives = subst (each S (defs ++ d ∷ [])) (sym (kinds-append s.front a.0)) (each_behind S defs d (kinds s.front) (kinds a.0) s.derives a.2);
+        derives = subst (each S (defs ++ d ∷ [])) (sym (kinds-append s.front a.0))
+            (each_behind S defs d (kinds s.front) (kinds a.0) s.derives a.2);
       }
 
   pub shorter : (rest after : List Token) (d : D) → r rest ≡ Some (d, after) → length after < length rest
@@ -80,7 +81,14 @@ module _ {D : Type 0} {r : Reader D} {S : D → Text} {f : TokenKind → Bool} (
 
   pub one_tree_only : (a b : List D) (tokens : List Token) → AreDefs S a tokens → AreDefs S b tokens → a ≡ b
   one_tree_only a b tokens s t =
-      one_tree (many_is is_more g (record { ends = refl; begins = λ d front rest u. begins_else (λ _. false) leads (λ k e. refl) d front rest u; goes_on = λ ts h. tt })) (refl, tt) a b tokens s t
+      one_tree
+      (many_is is_more g
+      (record {
+        ends = refl;
+        begins = λ d front rest u. begins_else (λ _. false) leads (λ k e. refl) d front rest u;
+        goes_on = λ ts h.
+            tt;
+      })) (refl, tt) a b tokens s t
 
   decide : (n : ℕ) (tokens rest : List Token) (defs : List D) → So S tokens rest defs → length rest ≤ n
       → ((tree : List D) × AreDefs S tree tokens) ⊎ ((line : ℕ) × HaveNone S tokens line)
@@ -88,7 +96,8 @@ module _ {D : Type 0} {r : Reader D} {S : D → Text} {f : TokenKind → Bool} (
   decide zero tokens (t ∷ rest) defs s few = absurd (omega (arith, few))
   decide (suc n) tokens (t ∷ rest) defs s few = elim (either_read (r (t ∷ rest))) [
     | inl none ↦ inr (t.line, fails_at tokens (t ∷ rest) defs t s (omega arith) refl none)
-    | inr (x, is) ↦ decide n tokens x.1 (defs ++ x.0 ∷ []) (next tokens (t ∷ rest) x.1 defs x.0 s is) (omega (arith, few, shorter (t ∷ rest) x.1 x.0 is))
+    | inr (x, is) ↦ decide n tokens x.1 (defs ++ x.0 ∷ []) (next tokens (t ∷ rest) x.1 defs x.0 s is)
+        (omega (arith, few, shorter (t ∷ rest) x.1 x.0 is))
   ]
 
   pub decided : AreDecided S

@@ -149,7 +149,9 @@ repeat_found {A} {S = S} go g zero ts xs rest e =
     let is = read_is [] xs ts rest e in
     ([], is.1, subst (λ z. each S z []) is.0 refl)
 repeat_found {A} {r} {S} go g (suc n) ts xs rest e =
-    elim (cond_some (go ts) (then_on (r ts) (λ x us. then_on (repeat go r n us) (λ xs vs. Some (x ∷ xs, vs)))) (Some ([], ts)) (xs, rest) e) [
+    elim
+    (cond_some (go ts)
+    (then_on (r ts) (λ x us. then_on (repeat go r n us) (λ xs vs. Some (x ∷ xs, vs)))) (Some ([], ts)) (xs, rest) e) [
       | inl (t, e1) ↦
           let m = then_some (r ts) (λ x us. then_on (repeat go r n us) (λ xs vs. Some (x ∷ xs, vs))) (xs, rest) e1 in
           let l = then_some (repeat go r n m.0.1) (λ xs vs. Some (m.0.0 ∷ xs, vs)) (xs, rest) m.2 in
@@ -205,7 +207,9 @@ pub many_is : {A : Type 0} {r : Reader A} {S : A → Text} {May : List Token →
     → IsGrammar (many go r) (each S) (λ rest. (go rest ≡ false) × May rest)
 many_is {A} {r} {S} {May} go g row = record {
   found = λ ts xs rest e. repeat_found go g (length ts) ts xs rest e;
-  again = λ xs front rest t may. repeat_again go g row xs (length (front ++ rest)) front rest (omega (arith, length-append front rest)) t may.0 may.1;
+  again =
+      λ xs front rest t may.
+      repeat_again go g row xs (length (front ++ rest)) front rest (omega (arith, length-append front rest)) t may.0 may.1;
 }
 
 -- ---- one tree

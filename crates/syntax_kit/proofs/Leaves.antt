@@ -30,7 +30,8 @@ token_is {A} f S forth back = record {
       let t = one_kind front b.0 b.1 in
       rw (t.1, t.2, b.2) refl;
 } where
-  take : (ts : List Token) (a : A) (rest : List Token) → token_at f ts ≡ Some (a, rest) → (front : List Token) × (ts ≡ front ++ rest) × S a (kinds front)
+  take : (ts : List Token) (a : A) (rest : List Token) → token_at f ts ≡ Some (a, rest) → (front : List Token) × (ts ≡ front ++ rest)
+      × S a (kinds front)
   take [] a rest e = absurd cc
   take (t ∷ ts) a rest e =
       let is = rest_some ts (f t.kind) a rest e in

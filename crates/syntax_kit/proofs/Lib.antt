@@ -1,6 +1,14 @@
+-- The proofs, each after those that it uses; * marks those that the proofs of functions use.
+
+-- What is put together of grammars is one
 pub mod Grammars
+-- One token, what it begins with, and what that is apart from
 pub mod Leaves
-pub mod Lists
-pub mod Loops
+-- The forms that productions are made of
 pub mod Productions
+-- Lists of items, and how far a list of items goes
+pub mod Lists
+-- * A loop over items reads what `repeat` reads
+pub mod Loops
+-- The definitions so far are those of the tokens so far
 pub mod Files

@@ -35,22 +35,36 @@ joined_is {A} {r} {S} {May} m g goes_on = mapped_is cons (joined m S)
     row : IsRow (begins_with (mark_is m)) (λ y. mark m & S y) May
     row = record { ends = refl; begins = λ a front rest s. begins_so (leads_behind S (leads_mark m)) a front rest s; goes_on = goes_on }
 
-    stands : (ys : List A) (front rest : List Token) → each (λ y. mark m & S y) ys (kinds front) → (begins_with (mark_is m) rest ≡ false) × May rest → May (front ++ rest)
+    stands : (ys : List A) (front rest : List Token)
+        → each (λ y. mark m & S y) ys (kinds front) → (begins_with (mark_is m) rest ≡ false) × May rest → May (front ++ rest)
     stands [] front rest s may = subst (λ z. May (z ++ rest)) (sym (no_kinds front s)) may.1
-    stands (y ∷ ys) front rest s may = goes_on (front ++ rest) (begins_so (leads_both (each (λ z. mark m & S z)) (leads_behind S (leads_mark m))) (y, ys) front rest s)
+    stands (y ∷ ys) front rest s may =
+        goes_on (front ++ rest) (begins_so (leads_both (each (λ z. mark m & S z)) (leads_behind S (leads_mark m))) (y, ys) front rest s)
 
-    back : (xs : List A) (ks : List TokenKind) → joined m S xs ks → (x : A × List A) × (cons x ≡ xs) × (S x.0 & each (λ y. mark m & S y) x.1) ks
+    back : (xs : List A) (ks : List TokenKind) → joined m S xs ks → (x : A × List A) × (cons x ≡ xs)
+        × (S x.0 & each (λ y. mark m & S y) x.1) ks
     back [] ks s = absurd s
     back (x ∷ xs) ks s = ((x, xs), refl, s)
 
 pub until_is : {A : Type 0} {r : Reader A} {S : A → Text} {f : TokenKind → Bool} (close : List ℕ) → IsGrammar r S Any
     → Leads S f → Apart f (mark_is close)
     → IsGrammar (until_at close r) (each S) (λ rest. begins_other (mark_is close) rest ≡ false)
-until_is {S = S} close g l apart = weaker (many_is (begins_other (mark_is close)) g (record { ends = refl; begins = λ a front rest s. begins_else (mark_is close) l apart a front rest s; goes_on = λ ts h. tt })) (λ rest may. (may, tt))
+until_is {S = S} close g l apart =
+    weaker
+    (many_is (begins_other (mark_is close)) g
+    (record {
+      ends = refl;
+      begins = λ a front rest s. begins_else (mark_is close) l apart a front rest s;
+      goes_on = λ ts h.
+          tt;
+    })) (λ rest may. (may, tt))
 
 pub while_is : {A : Type 0} {r : Reader A} {S : A → Text} (w : List ℕ) → IsGrammar r S Any → Leads S (word_is w)
     → IsGrammar (while_at w r) (each S) (λ rest. begins_with (word_is w) rest ≡ false)
-while_is {S = S} w g l = weaker (many_is (begins_with (word_is w)) g (record { ends = refl; begins = λ a front rest s. begins_so l a front rest s; goes_on = λ ts h. tt })) (λ rest may. (may, tt))
+while_is {S = S} w g l =
+    weaker
+    (many_is (begins_with (word_is w)) g
+    (record { ends = refl; begins = λ a front rest s. begins_so l a front rest s; goes_on = λ ts h. tt })) (λ rest may. (may, tt))
 
 pub some_is : {A : Type 0} {r : Reader (List A)} {S : A → Text} {May : List Token → Type 0} → IsGrammar r (each S) May
     → IsGrammar (some_at r) (some S) May
@@ -62,7 +76,8 @@ some_is {A} {r} {S} {May} g = record {
       (a.0, a.1 ∙ ap (λ z. a.0 ++ z) is.1, is.2 (kinds a.0) a.2);
   again = λ xs front rest s may. reads xs front rest s may;
 } where
-  same : (ys : List A) (us : List Token) (xs : List A) (rest : List Token) → if_some ys us ≡ Some (xs, rest) → (ys ≡ xs) × (us ≡ rest) × ((ks : List TokenKind) → each S ys ks → some S xs ks)
+  same : (ys : List A) (us : List Token) (xs : List A) (rest : List Token) → if_some ys us ≡ Some (xs, rest) → (ys ≡ xs) × (us ≡ rest)
+      × ((ks : List TokenKind) → each S ys ks → some S xs ks)
   same [] us xs rest e = absurd cc
   same (y ∷ ys) us xs rest e = let is = read_is (y ∷ ys) xs us rest e in (is.0, is.1, λ ks s. subst (λ z. some S z ks) is.0 s)
 
@@ -88,7 +103,8 @@ longest g xs [] front rest a b is s t none = omega (arith, ap length (no_kinds a
 longest {r = r} {S = S} g [] (y ∷ ys) front rest a b is s t none =
     let q = parted a t.0 t.1 t.2 in
     let one = g.again y q.0 (q.1 ++ b) (subst (S y) (sym q.3) t.3) tt in
-    let whole : rest ≡ q.0 ++ (q.1 ++ b) = ap (λ z. z ++ rest) (sym (no_kinds front s)) ∙ is ∙ ap (λ z. z ++ b) q.2 ∙ append_assoc q.0 q.1 b in
+    let whole : rest ≡ q.0 ++ (q.1 ++ b) =
+    ap (λ z. z ++ rest) (sym (no_kinds front s)) ∙ is ∙ ap (λ z. z ++ b) q.2 ∙ append_assoc q.0 q.1 b in
     let both_ways : Some (y, q.1 ++ b) ≡ None = sym one ∙ ap r (sym whole) ∙ none in
     absurd cc
 longest {r = r} {S = S} g (x ∷ xs) (y ∷ ys) front rest a b is s t none =
@@ -101,4 +117,15 @@ longest {r = r} {S = S} g (x ∷ xs) (y ∷ ys) front rest a b is s t none =
     let whole : p.0 ++ (p.1 ++ rest) ≡ q.0 ++ (q.1 ++ b) = sym left ∙ is ∙ right in
     let same = read_is x y (p.1 ++ rest) (q.1 ++ b) (sym one ∙ ap r whole ∙ two) in
     let others = longest g xs ys p.1 rest q.1 b same.1 (subst (each S xs) (sym p.4) s.4) (subst (each S ys) (sym q.4) t.4) none in
-    omega (arith, others, ap length whole, ap length same.1, ap length p.2, ap length q.2, length-append p.0 p.1, length-append q.0 q.1, length-append p.0 (p.1 ++ rest), length-append q.0 (q.1 ++ b))
+    omega (
+      arith,
+      others,
+      ap length whole,
+      ap length same.1,
+      ap length p.2,
+      ap length q.2,
+      length-append p.0 p.1,
+      length-append q.0 q.1,
+      length-append p.0 (p.1 ++ rest),
+      length-append q.0 (q.1 ++ b),
+    )

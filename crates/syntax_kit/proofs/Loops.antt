@@ -31,7 +31,8 @@ pub goes_on : {A : Type 0} (go : List Token → Bool) (r : Reader A) (n i : ℕ)
     → Left go r (n - (i + 1)) (xs ++ x ∷ []) after all
 goes_on go r n i xs rest all x after l lt does one =
     let k : n - i ≡ suc (n - (i + 1)) = omega arith in
-    let h : with_front xs (repeat go r (n - i) rest) ≡ with_front (xs ++ x ∷ []) (repeat go r (n - (i + 1)) after) = rw (k, does, one) (regroup xs x (repeat go r (n - (i + 1)) after)) in
+    let h : with_front xs (repeat go r (n - i) rest) ≡ with_front (xs ++ x ∷ []) (repeat go r (n - (i + 1)) after) =
+    rw (k, does, one) (regroup xs x (repeat go r (n - (i + 1)) after)) in
     record { whole = sym h ∙ l.whole }
 
 pub fails : {A : Type 0} (go : List Token → Bool) (r : Reader A) (n i : ℕ) (xs : List A) (rest : List Token) (all : Read (List A))

@@ -18,12 +18,16 @@ weaker g h = record { found = g.found; again = λ a front rest s may. g.again a 
 
 pub behind_is : {A : Type 0} {r : Reader (Unit {0})} {s : Reader A} {P : Text} {S : A → Text} {May : List Token → Type 0}
     → IsGrammar r (λ _. P) Any → IsGrammar s S May → IsGrammar (behind r s) (λ a. P & S a) May
-behind_is {A} {P = P} {S = S} g h = mapped_is (λ (x : Unit {0} × A). x.1) (λ a. P & S a) (both_is g h (λ b front rest t may. tt)) (λ x ks s. s) (λ y ks s. ((tt, y), refl, s))
+behind_is {A} {P = P} {S = S} g h =
+    mapped_is (λ (x : Unit {0} × A). x.1) (λ a. P & S a) (both_is g h (λ b front rest t may. tt)) (λ x ks s. s) (λ y ks s.
+    ((tt, y), refl, s))
 
 pub before_is : {A : Type 0} {r : Reader A} {s : Reader (Unit {0})} {S : A → Text} {P : Text} {May May' : List Token → Type 0}
     → IsGrammar r S May → IsGrammar s (λ _. P) May' → ((front rest : List Token) → P (kinds front) → May (front ++ rest))
     → IsGrammar (before r s) (λ a. S a & P) May'
-before_is {A} {S = S} {P = P} g h next = mapped_is (λ (x : A × Unit {0}). x.0) (λ a. S a & P) (both_is g h (λ b front rest t may. next front rest t)) (λ x ks s. s) (λ y ks s. ((y, tt), refl, s))
+before_is {A} {S = S} {P = P} g h next =
+    mapped_is (λ (x : A × Unit {0}). x.0) (λ a. S a & P) (both_is g h (λ b front rest t may. next front rest t)) (λ x ks s. s) (λ y ks s.
+    ((y, tt), refl, s))
 
 -- a word and what follows it, or something that does not begin with the word
 pub led_is : {A B : Type 0} {r : Reader A} {s : Reader B} {S : A → Text} {T : B → Text} {May : List Token → Type 0}
@@ -84,18 +88,26 @@ leads_when {B} {P} {T} {f} {g} l m x ks s = go x.0 s where
 -- a mark that may be missing
 pub flag_reads : (m : List ℕ) → IsGrammar (flag_at (mark_is m)) (when (mark m)) (λ rest. begins_with (mark_is m) rest ≡ false)
 flag_reads m = record { found = finds; again = reads } where
-  finds : (ts : List Token) (b : Bool) (rest : List Token) → flag_at (mark_is m) ts ≡ Some (b, rest) → (front : List Token) × (ts ≡ front ++ rest) × when (mark m) b (kinds front)
+  finds : (ts : List Token) (b : Bool) (rest : List Token) → flag_at (mark_is m) ts ≡ Some (b, rest) → (front : List Token)
+      × (ts ≡ front ++ rest) × when (mark m) b (kinds front)
   finds [] b rest e = let is = read_is false b [] rest e in ([], is.1, subst (λ z. when (mark m) z []) is.0 refl)
   finds (t ∷ ts) b rest e = go (mark_is m t.kind) refl e where
-    go : (c : Bool) → mark_is m t.kind ≡ c → cond {A = Option (Bool × List Token)} c (Some (true, ts)) (Some (false, t ∷ ts)) ≡ Some (b, rest) → (front : List Token) × (t ∷ ts ≡ front ++ rest) × when (mark m) b (kinds front)
-    go true h q = let is = read_is true b ts rest q in (t ∷ [], ap (λ z. t ∷ z) is.1, subst (λ z. when (mark m) z (t.kind ∷ [])) is.0 (ap (λ z. z ∷ []) (mark_named m t.kind h)))
+    go : (c : Bool) → mark_is m t.kind ≡ c → cond {A = Option (Bool × List Token)} c (Some (true, ts)) (Some (false, t ∷ ts))
+        ≡ Some (b, rest) → (front : List Token) × (t ∷ ts ≡ front ++ rest) × when (mark m) b (kinds front)
+    go true h q = let is =
+        read_is true b ts rest q in (
+          t ∷ [],
+          ap (λ z. t ∷ z) is.1,
+          subst (λ z. when (mark m) z (t.kind ∷ [])) is.0 (ap (λ z. z ∷ []) (mark_named m t.kind h)),
+        )
     go false h q = let is = read_is false b (t ∷ ts) rest q in ([], is.1, subst (λ z. when (mark m) z []) is.0 refl)
 
   stays : (rest : List Token) → begins_with (mark_is m) rest ≡ false → flag_at (mark_is m) rest ≡ Some (false, rest)
   stays [] h = refl
   stays (t ∷ ts) h = rw h refl
 
-  reads : (b : Bool) (front rest : List Token) → when (mark m) b (kinds front) → begins_with (mark_is m) rest ≡ false → flag_at (mark_is m) (front ++ rest) ≡ Some (b, rest)
+  reads : (b : Bool) (front rest : List Token) → when (mark m) b (kinds front) → begins_with (mark_is m) rest ≡ false
+      → flag_at (mark_is m) (front ++ rest) ≡ Some (b, rest)
   reads false [] rest s may = stays rest may
   reads false (t ∷ front) rest s may = absurd cc
   reads true [] rest s may = absurd cc
@@ -107,7 +119,8 @@ flag_reads m = record { found = finds; again = reads } where
 named_by : {A : Type 0} (spell : A → List ℕ) (x : List ℕ × A) (k : TokenKind) (a : A) (b : Bool) (more : Option A)
     → spell x.1 ≡ x.0 → word_is x.0 k ≡ b → (more ≡ Some a → k ≡ Name (spell a)) → cond b (Some x.1) more ≡ Some a
     → k ≡ Name (spell a)
-named_by spell x k a true more h is others q = let same : x.1 ≡ a = cc in word_named x.0 k is ∙ ap Name (sym h) ∙ ap (λ z. Name (spell z)) same
+named_by spell x k a true more h is others q = let same : x.1 ≡ a = cc in word_named x.0 k is ∙ ap Name (sym h)
+    ∙ ap (λ z. Name (spell z)) same
 named_by spell x k a false more h is others q = others q
 
 named : {A : Type 0} (spell : A → List ℕ) (es : List (List ℕ × A)) → AllByRecursion (λ e. spell e.1 ≡ e.0) es
@@ -119,7 +132,9 @@ named spell (x ∷ es) h k a e = named_by spell x k a (word_is x.0 k) (word_in e
 pub words_are : {A : Type 0} (table : List (List ℕ × A)) (spell : A → List ℕ)
     → AllByRecursion (λ e. spell e.1 ≡ e.0) table → ((a : A) → word_in table (Name (spell a)) ≡ Some a)
     → IsGrammar (token_at (word_in table)) (λ a. word (spell a)) Any
-words_are {A} table spell all back = token_is (word_in table) (λ a. word (spell a)) (λ k a e. ap (λ z. z ∷ []) (named spell table all k a e)) (λ a ks s. (Name (spell a), s, back a))
+words_are {A} table spell all back =
+    token_is (word_in table) (λ a. word (spell a)) (λ k a e. ap (λ z. z ∷ []) (named spell table all k a e)) (λ a ks s.
+    (Name (spell a), s, back a))
 
 pub leads_words : {A : Type 0} (table : List (List ℕ × A)) (spell : A → List ℕ) → ((a : A) → word_in table (Name (spell a)) ≡ Some a)
     → Leads (λ a. word (spell a)) (has_word table)

@@ -122,7 +122,8 @@ module _ (fault : FaultKind) where
       → read_zeros n fault p (o ++ rest) ≡ got x (p + length o) rest
   unfolding read_zeros
   zeros_reads zero p o rest x is = rw (is, add-zero) refl
-  zeros_reads (suc n) p o rest x is = rw (is, zeros_reads n (p + 1) (replicate n 0) rest tt refl) (ap (λ (m : ℕ). got tt m rest) (omega arith))
+  zeros_reads (suc n) p o rest x is = rw (is, zeros_reads n (p + 1) (replicate n 0) rest tt refl)
+      (ap (λ (m : ℕ). got tt m rest) (omega arith))
 
   zeros_spelled : (n p : ℕ) (o : List ℕ) (x : Unit {0}) (q : ℕ) (rest : List ℕ) → AreOctets o → read_zeros n fault p o ≡ got x q rest
       → (a : List ℕ) × (o ≡ a ++ rest) × (q ≡ p + length a) × (a ≡ replicate n 0)
@@ -181,7 +182,8 @@ array_is e a = mapped (λ (x : ℕ × (List ℤ × Unit {0})). x.1.0) (ArraySpel
     (λ p o ns h. ((length ns, (ns, tt)), refl, h))
   where
     forth : (p : ℕ) (o : List ℕ) (n : ℕ) (ns : List ℤ)
-        → Parts p o (λ x. HeadSpells e a p x n) (λ q b. Parts q b (λ x. SpellTimes (ElementSpells e a) n q x ns) (λ r d. TailSpells e a n r d tt))
+        → Parts p o
+        (λ x. HeadSpells e a p x n) (λ q b. Parts q b (λ x. SpellTimes (ElementSpells e a) n q x ns) (λ r d. TailSpells e a n r d tt))
         → ArraySpells e a p o ns
     forth p o n ns (x, y, is, head, (u, v, is', elements, tail)) =
         rw (times_length (ElementSpells e a) n (p + length x) u ns elements) (x, y, is, head, (u, v, is', elements, tail))

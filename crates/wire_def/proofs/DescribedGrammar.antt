@@ -57,7 +57,8 @@ chosen false g g' = g'
 
 rest_is : (m : ℕ) → IsGrammar (read_rest m) (RestSpells m) (RestStops m)
 unfolding read_rest RestSpells RestStops
-rest_is m = chosen (is_marked m) (before_is (word_is Mach 1 w64 rest_wide)) (done (widened m) (λ p o d. (o ≡ []) × (widened m ≡ d)) (λ p. (refl, refl)) (λ p o y h. h))
+rest_is m = chosen (is_marked m) (before_is (word_is Mach 1 w64 rest_wide))
+    (done (widened m) (λ p o d. (o ≡ []) × (widened m ≡ d)) (λ p. (refl, refl)) (λ p o y h. h))
 
 form_is : (c : Count) (s : Scalar) → IsGrammar (both (read_first c s) read_rest) (FormSpells c s) (FormStops c s)
 form_is c s = both_are (first_is c s) rest_is
@@ -68,7 +69,10 @@ many_is : (c : Count) (s : Scalar)
     (tested (both (read_first c s) read_rest) (λ x. is_right c s x.1) BadItem (λ p. p) q b))
     (ManySpell c s) (λ p o k at. FormStops c s p o k at
     ⊎ ((x : ℕ × ℕ) × Parts p o (λ a. FormSpells c s p a x) (λ q b. (is_right c s x.1 ≡ false) × (k ≡ BadItem) × (at ≡ p))))
-many_is c s = mapped (λ (x : ℕ × ℕ). elements_in s (x.1 / 2 ^ 32)) (ManySpell c s) (tested_are (λ (x : ℕ × ℕ). is_right c s x.1) BadItem (λ p. p) (form_is c s))
+many_is c s =
+    mapped
+    (λ (x : ℕ × ℕ). elements_in s (x.1 / 2 ^ 32)) (ManySpell c s) (tested_are (λ (x : ℕ × ℕ). is_right c s x.1) BadItem (λ p.
+    p) (form_is c s))
     (λ p o x h. (x, refl, h.0, h.1)) (λ p o n h. (h.0, h.1, (h.2, h.3)))
 
 pub described_is : (c : Count) (s : Scalar) → IsGrammar (read_described c s) (DescribedSpells c s) (DescribedStops c s)
@@ -241,7 +245,8 @@ right_of c s n h =
     let d : ℕ = long_words (unit_name s) (unit_bits s) (n * units_of s) in
     let whole : is_whole s (d / 2 ^ 32) ≡ true = rw high (whole_of s n) in
     let fixed : is_fixed c s (d / 2 ^ 32) ≡ true = rw high (fixed_of c s n h) in
-    both_true (nat_eq (d % 2 ^ 32) (long_words (unit_name s) (unit_bits s) 0)) (is_whole s (d / 2 ^ 32) && is_fixed c s (d / 2 ^ 32)) (eq-eqb _ _ low) (both_true (is_whole s (d / 2 ^ 32)) (is_fixed c s (d / 2 ^ 32)) whole fixed)
+    both_true (nat_eq (d % 2 ^ 32) (long_words (unit_name s) (unit_bits s) 0)) (is_whole s (d / 2 ^ 32) && is_fixed c s (d / 2 ^ 32))
+    (eq-eqb _ _ low) (both_true (is_whole s (d / 2 ^ 32)) (is_fixed c s (d / 2 ^ 32)) whole fixed)
 
 many_of : (s : Scalar) (n : ℕ) → elements_in s (long_words (unit_name s) (unit_bits s) (n * units_of s) / 2 ^ 32) ≡ n
 many_of s n =
@@ -272,19 +277,32 @@ described_sent c s p n h few = sent_as (is_long c s) refl where
   units = mul-le-mul_left n (units_few s)
 
   sent_as : (b : Bool) → is_long c s ≡ b
-      → ManySpell c s p (cond b (le 4 long_mark ++ le 8 (long_words (unit_name s) (unit_bits s) (n * units_of s))) (le 4 (short_word (unit_name s) (unit_bits s) (n * units_of s)))) n × (allowed c n ≡ true)
+      → ManySpell c s p (cond b (le 4 long_mark ++ le 8 (long_words (unit_name s) (unit_bits s) (n * units_of s)))
+      (le 4 (short_word (unit_name s) (unit_bits s) (n * units_of s)))) n × (allowed c n ≡ true)
   sent_as true long =
-      let d = long_words (unit_name s) (unit_bits s) (n * units_of s) in
-      (((long_mark, d), many_of s n, form_long c s p d long (omega (arith, units, few, name_small s, bits_small s)), right_of c s n h), is_allowed c n h)
+      let d = long_words (unit_name s) (unit_bits s) (n * units_of s) in (
+        ((long_mark, d), many_of s n, form_long c s p d long (omega (arith, units, few, name_small s, bits_small s)), right_of c s n h),
+        is_allowed c n h,
+      )
   sent_as false short =
       let k = few_units c s n short h in
       let m = short_word (unit_name s) (unit_bits s) (n * units_of s) in
-      let d = long_words (unit_name s) (unit_bits s) (n * units_of s) in
-      (((m, d), many_of s n, form_short c s p m d short (unmarked _ _ _ (name_small s) (bits_small s) k) (omega (arith, k, name_small s, bits_small s)) (widened_short _ _ _ (name_small s) (bits_small s) k), right_of c s n h), is_allowed c n h)
+      let d = long_words (unit_name s) (unit_bits s) (n * units_of s) in (
+        (
+          (m, d),
+          many_of s n,
+          form_short c s p m d short (unmarked _ _ _ (name_small s) (bits_small s) k)
+              (omega (arith, k, name_small s, bits_small s)) (widened_short _ _ _ (name_small s) (bits_small s) k),
+          right_of c s n h,
+        ),
+        is_allowed c n h,
+      )
 
 pub described_most : (c : Count) (s : Scalar) (n : ℕ) → length (described_octets c s n) ≤ 12
 unfolding described_octets
 described_most c s n = either (is_long c s) where
-  either : (b : Bool) → length (cond b (le 4 long_mark ++ le 8 (long_words (unit_name s) (unit_bits s) (n * units_of s))) (le 4 (short_word (unit_name s) (unit_bits s) (n * units_of s)))) ≤ 12
+  either : (b : Bool)
+      → length (cond b (le 4 long_mark ++ le 8 (long_words (unit_name s) (unit_bits s) (n * units_of s)))
+      (le 4 (short_word (unit_name s) (unit_bits s) (n * units_of s)))) ≤ 12
   either true = omega arith
   either false = omega arith

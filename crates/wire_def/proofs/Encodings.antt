@@ -34,7 +34,16 @@ module _ (e : Encoding) where
       | inl (v, a, b, is, h) ↦
           let within : length a ≤ 4194304 = omega (arith, ap length is, length-append a b) in
           let weighs = are_light t sound p a v within h in
-          inl (a, b, v, is, record { typed = record { is_of = typed e t p a v (octets_before a b (rw is at oct)) h; light = omega (arith, weighs) }; octets = h })
+          inl (
+            a,
+            b,
+            v,
+            is,
+            record {
+              typed = record { is_of = typed e t p a v (octets_before a b (rw is at oct)) h; light = omega (arith, weighs) };
+              octets = h;
+            },
+          )
       | inr f ↦ inr f
     ]
 

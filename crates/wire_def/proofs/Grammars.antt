@@ -88,10 +88,21 @@ both_are {E} {A} {B} {r} {S} {F} {s} {T} {G} g h = record {
         | inl e1 ↦ inl (g.faulty p o k at oct e1)
         | inr (x, m, b, e1, e2) ↦
             let a = g.spelled p o x m b oct e1 in
-            inr (x, (a.0, b, a.1, a.3, subst (λ z. G x z b k at) a.2 ((h x).faulty m b k at (octets_behind a.0 b (rw a.1 at oct)) (mapped_stop (λ (y : B). (x, y)) (s x m b) k at e2))))
+            inr (
+              x,
+              (
+                a.0,
+                b,
+                a.1,
+                a.3,
+                subst (λ z. G x z b k at) a.2
+                    ((h x).faulty m b k at (octets_behind a.0 b (rw a.1 at oct)) (mapped_stop (λ (y : B). (x, y)) (s x m b) k at e2)),
+              ),
+            )
       ];
 } where
-  both_stop : (p : ℕ) (o : List ℕ) (k : E) (at : ℕ) → F p o k at ⊎ ((x : A) × Parts p o (λ a. S p a x) (λ q b. G x q b k at)) → both r s p o ≡ stop k at
+  both_stop : (p : ℕ) (o : List ℕ) (k : E) (at : ℕ) → F p o k at
+      ⊎ ((x : A) × Parts p o (λ a. S p a x) (λ q b. G x q b k at)) → both r s p o ≡ stop k at
   both_stop p o k at (inl f) = rw (g.stops p o k at f) refl
   both_stop p o k at (inr (x, (a, b, is, first, second))) = rw (is, g.reads p a b x first, (h x).stops (p + length a) b k at second) refl
 
@@ -128,7 +139,8 @@ times_stops : {E A : Type 0} {r : Reader E A} {S : Spelling A} {F : Stopping E} 
     → times r n p o ≡ stop k at
 times_stops g zero p o k at f = absurd f
 times_stops g (suc n) p o k at (inl f) = rw (g.stops p o k at f) refl
-times_stops g (suc n) p o k at (inr (x, (a, b, is, first, more))) = rw (is, g.reads p a b x first, times_stops g n (p + length a) b k at more) refl
+times_stops g (suc n) p o k at (inr (x, (a, b, is, first, more))) =
+    rw (is, g.reads p a b x first, times_stops g n (p + length a) b k at more) refl
 
 times_faulty : {E A : Type 0} {r : Reader E A} {S : Spelling A} {F : Stopping E} → IsGrammar r S F
     → (n p : ℕ) (o : List ℕ) (k : E) (at : ℕ) → AreOctets o → times r n p o ≡ stop k at
@@ -139,7 +151,18 @@ times_faulty {E} {A} {r} {S} {F} g (suc n) p o k at oct e =
       | inl e1 ↦ inl (g.faulty p o k at oct e1)
       | inr (x, m, b, e1, e2) ↦
           let a = g.spelled p o x m b oct e1 in
-          inr (x, (a.0, b, a.1, a.3, subst (λ z. StopTimes S F n z b k at) a.2 (times_faulty g n m b k at (octets_behind a.0 b (rw a.1 at oct)) (mapped_stop (λ (ys : List A). x ∷ ys) (times r n m b) k at e2))))
+          inr (
+            x,
+            (
+              a.0,
+              b,
+              a.1,
+              a.3,
+              subst (λ z. StopTimes S F n z b k at) a.2
+                  (times_faulty g n m b k at (octets_behind a.0 b (rw a.1 at oct))
+                  (mapped_stop (λ (ys : List A). x ∷ ys) (times r n m b) k at e2)),
+            ),
+          )
     ]
 
 pub times_are : {E A : Type 0} {r : Reader E A} {S : Spelling A} {F : Stopping E} (n : ℕ) → IsGrammar r S F
@@ -182,7 +205,9 @@ tested_are {E} {A} {r} {S} {F} test k0 place g = record {
             inr (x, (a.0, b, a.1, a.3, tested_stop (test x) x m b k0 k (place p) at e2))
       ];
 } where
-  tested_stops : (p : ℕ) (o : List ℕ) (k : E) (at : ℕ) → F p o k at ⊎ ((x : A) × Parts p o (λ a. S p a x) (λ q b. (test x ≡ false) × (k ≡ k0) × (at ≡ place p))) → tested r test k0 place p o ≡ stop k at
+  tested_stops : (p : ℕ) (o : List ℕ) (k : E) (at : ℕ) → F p o k at
+      ⊎ ((x : A)
+      × Parts p o (λ a. S p a x) (λ q b. (test x ≡ false) × (k ≡ k0) × (at ≡ place p))) → tested r test k0 place p o ≡ stop k at
   tested_stops p o k at (inl f) = rw (g.stops p o k at f) refl
   tested_stops p o k at (inr (x, (a, b, is, first, (fails, which, there)))) = rw (is, g.reads p a b x first, fails, which, there) refl
 

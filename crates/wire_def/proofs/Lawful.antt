@@ -20,7 +20,8 @@ module _ {E A : Type 0} {r : Reader E A} {S : Spelling A} {F : Stopping E} (g : 
   pub something : (p : ℕ) (o : List ℕ) → AreOctets o
       → ((v : A) × (a : List ℕ) × (b : List ℕ) × (o ≡ a ++ b) × S p a v) ⊎ ((k : E) × (at : ℕ) × F p o k at)
   something p o oct = decide (r p o) refl where
-    decide : (x : Reading E A) → r p o ≡ x → ((v : A) × (a : List ℕ) × (b : List ℕ) × (o ≡ a ++ b) × S p a v) ⊎ ((k : E) × (at : ℕ) × F p o k at)
+    decide : (x : Reading E A) → r p o ≡ x → ((v : A) × (a : List ℕ) × (b : List ℕ) × (o ≡ a ++ b) × S p a v)
+        ⊎ ((k : E) × (at : ℕ) × F p o k at)
     decide (got v q rest) e = let s = g.spelled p o v q rest oct e in inl (v, s.0, rest, s.1, s.3)
     decide (stop k at) e = inr (k, at, g.faulty p o k at oct e)
 

@@ -1,19 +1,40 @@
+-- The proofs, each after those that it uses; * marks those that the proofs of functions use.
+
+-- What is put together of grammars is one
 pub mod Grammars
+-- A number of a width is read as it is written
 pub mod Words
+-- A scalar is a word that is one of its numbers
 pub mod ScalarGrammar
+-- Scalars by themselves are grammars
 pub mod LoneGrammar
+-- Parts of heads are grammars
 pub mod HeadItems
+-- Descriptors of arrays are a grammar, and what is sent is one
 pub mod DescribedGrammar
+-- Counts, rows and texts are grammars
 pub mod ArrayGrammar
+-- Every type is a grammar
 pub mod TypeGrammar
+-- The laws, from reading being one function
 pub mod Lawful
+-- What is sent is a spelling
 pub mod Sent
+-- * What is sent has at most 16 octets for each of the value's weight
 pub mod Short
+-- What a table refuses leaves types whose values take room
 pub mod Sound
+-- Each weighted part of a value begins at an octet, and few begin at one
 pub mod Room
+-- * Octets that are a value make it one of the type
 pub mod Typing
+-- * The laws, over each encoding
 pub mod Encodings
+-- The laws over XDR, by the names of what cites them
 pub mod Xdr
+-- Octets worked out by hand: the laws alone would hold of other formats too
 mod Worked
+-- Octets that are read, worked out by hand: the first fault and its place
 mod WorkedFaults
+-- Short descriptors worked by hand
 pub mod DescriptorRows

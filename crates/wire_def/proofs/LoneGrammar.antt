@@ -53,7 +53,10 @@ desc_is w = mapped (λ (m : ℕ). tt) (DescSpells w) (tested_are (λ m. nat_eq m
 
 pub item_is : {A : Type 0} (s : Scalar) {r : Reader FaultKind A} {S : Spelling A} {F : Stopping FaultKind} → IsGrammar r S F
     → IsGrammar (read_item s r) (ItemSpells s S) (ItemStops s S F)
-item_is {A} s {r} {S} {F} g = mapped (λ (x : Unit {0} × (A × Unit {0})). x.1.0) (ItemSpells s S) (both_are (desc_is (scalar_word s)) (λ _. both_are g (λ _. any_are (filling s))))
+item_is {A} s {r} {S} {F} g =
+    mapped
+    (λ (x : Unit {0} × (A × Unit {0})). x.1.0) (ItemSpells s S) (both_are (desc_is (scalar_word s)) (λ _.
+    both_are g (λ _. any_are (filling s))))
     (λ p o x h. h)
     (λ p o x h. ((tt, (x, tt)), refl, h))
 

@@ -110,7 +110,8 @@ module _ (e : Encoding) where
   element_room (row_of k c) p o n h = scalar_room (number k) p o n h
 
   head_room : (a : Array) (p : ℕ) (o : List ℕ) (n : ℕ) → IsCount (count_of a) → HeadSpells e a p o n → 1 ≤ length o + n
-  head_room a p o n some h = elim (head_either e a p o n h) [ inl count ↦ count_room (count_of a) p o n some count | inr long ↦ omega (arith, long) ]
+  head_room a p o n some h =
+      elim (head_either e a p o n h) [ inl count ↦ count_room (count_of a) p o n some count | inr long ↦ omega (arith, long) ]
 
   array_room : (a : Array) (p : ℕ) (o : List ℕ) (ns : List ℤ) → IsCount (count_of a) → ArraySpells e a p o ns
       → (1 ≤ length o) × (length ns ≤ length o)
@@ -118,7 +119,8 @@ module _ (e : Encoding) where
   array_room a p o ns some (x, y, is, head, (u, v, is', elements, tail)) =
       let first = head_room a p x (length ns) some head in
       let second = each_room (ElementSpells e a) (element_room a) (length ns) (p + length x) u ns elements in
-      let long : length o ≡ length x + (length u + length v) = omega (arith, ap length is, length-append x y, ap length is', length-append u v) in
+      let long : length o ≡ length x + (length u + length v) =
+      omega (arith, ap length is, length-append x y, ap length is', length-append u v) in
       (omega (arith, first, second, long), omega (arith, second, long))
 
   array_heavy : (a : Array) (d p : ℕ) (o : List ℕ) (ns : List ℤ) → 1 ≤ d → IsCount (count_of a) → ArraySpells e a p o ns

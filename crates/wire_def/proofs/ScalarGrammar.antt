@@ -138,19 +138,24 @@ module _ (e : Encoding) (s : Scalar) where
   pub scalar_is : IsGrammar (read_scalar e s) (ScalarSpells e s) (ScalarStops e s)
   unfolding ScalarSpells ScalarStops read_scalar WordSpells
   scalar_is = reshaped
-      (tested_are (is_scalar s) BadValue (scalar_place e s) (mapped (number_of (is_signed s) w) BitsSpell (word_is e a w (wide e s)) (λ p o m h. (m, refl, h)) (λ p o n h. h)))
+      (tested_are (is_scalar s) BadValue (scalar_place e s)
+      (mapped (number_of (is_signed s) w) BitsSpell (word_is e a w (wide e s)) (λ p o m h. (m, refl, h)) (λ p o n h. h)))
       (λ p o. refl)
       (λ p o n h. ((residue w n, number_residue (is_signed s) w n (fits_in e s n h.1), h.0), h.1))
-      (λ p o n h. (subst (λ z. WordSpells e a w p o z) (sym (residue_number (is_signed s) w h.0.0 h.0.2.3) ∙ ap (residue w) h.0.1) h.0.2, h.1))
+      (λ p o n h.
+      (subst (λ z. WordSpells e a w p o z) (sym (residue_number (is_signed s) w h.0.0 h.0.2.3) ∙ ap (residue w) h.0.1) h.0.2, h.1))
       (λ p o k at f. stops_from p o k at f)
       (λ p o k at f. stops_to p o k at f)
     where
       stops_from : (p : ℕ) (o : List ℕ) (k : FaultKind) (at : ℕ) → ScalarStops e s p o k at
-          → WordStops e a w p o k at ⊎ ((n : ℤ) × Parts p o (λ b. BitsSpell p b n) (λ q c. (is_scalar s n ≡ false) × (k ≡ BadValue) × (at ≡ scalar_place e s p)))
+          → WordStops e a w p o k at
+          ⊎ ((n : ℤ) × Parts p o (λ b. BitsSpell p b n) (λ q c. (is_scalar s n ≡ false) × (k ≡ BadValue) × (at ≡ scalar_place e s p)))
       stops_from p o k at (inl f) = inl f
       stops_from p o k at (inr (m, (b, c, is, spelled, bad))) = inr (number_of (is_signed s) w m, (b, c, is, (m, refl, spelled), bad))
 
-      stops_to : (p : ℕ) (o : List ℕ) (k : FaultKind) (at : ℕ) → WordStops e a w p o k at ⊎ ((n : ℤ) × Parts p o (λ b. BitsSpell p b n) (λ q c. (is_scalar s n ≡ false) × (k ≡ BadValue) × (at ≡ scalar_place e s p)))
+      stops_to : (p : ℕ) (o : List ℕ) (k : FaultKind) (at : ℕ) → WordStops e a w p o k at
+          ⊎ ((n : ℤ) × Parts p o (λ b. BitsSpell p b n) (λ q c. (is_scalar s n ≡ false) × (k ≡ BadValue) × (at ≡ scalar_place e s p)))
           → ScalarStops e s p o k at
       stops_to p o k at (inl f) = inl f
-      stops_to p o k at (inr (n, (b, c, is, (m, same, spelled), (bad, which, there)))) = inr (m, (b, c, is, spelled, (rw same bad, which, there)))
+      stops_to p o k at (inr (n, (b, c, is, (m, same, spelled), (bad, which, there)))) =
+          inr (m, (b, c, is, spelled, (rw same bad, which, there)))

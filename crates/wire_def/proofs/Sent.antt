@@ -60,8 +60,13 @@ lone_sent Xdr s p n h = scalar_sent Xdr s p n h
 lone_sent CdrBig s p n h = scalar_sent CdrBig s p n h
 lone_sent CdrLittle s p n h = scalar_sent CdrLittle s p n h
 lone_sent Mach s p n h =
-    let none : gap p 1 ≡ 0 = omega arith in
-    (le 4 (scalar_word s), _, refl, ([], sym none, refl, word_below s), (scalar_octets Mach s (p + 4) n, replicate (filling s) 0, refl, scalar_sent Mach s (p + 4) n h, length-replicate (filling s) 0))
+    let none : gap p 1 ≡ 0 = omega arith in (
+      le 4 (scalar_word s),
+      _,
+      refl,
+      ([], sym none, refl, word_below s),
+      (scalar_octets Mach s (p + 4) n, replicate (filling s) 0, refl, scalar_sent Mach s (p + 4) n h, length-replicate (filling s) 0),
+    )
 
 count_sent : (e : Encoding) (c : Count) (p n : ℕ) → Allows c n → CountSpells e c p (count_octets e c p n) n
 unfolding CountSpells count_octets
@@ -115,13 +120,38 @@ elements_sent : (e : Encoding) (a : Array) (p : ℕ) (ns : List ℤ) → list_al
     → SpellTimes (ElementSpells e a) (length ns) p (elements_octets (element_octets e a) p ns) ns
 unfolding elements_octets
 elements_sent e a p [] h = refl
-elements_sent e a p (n ∷ ns) h = (element_octets e a p n, _, refl, element_sent e a p n (left_true _ _ h), elements_sent e a (p + length (element_octets e a p n)) ns (right_true _ _ h))
+elements_sent e a p (n ∷ ns) h = (
+  element_octets e a p n,
+  _,
+  refl,
+  element_sent e a p n (left_true _ _ h),
+  elements_sent e a (p + length (element_octets e a p n)) ns
+      (right_true _ _ h),
+)
 
 array_sent : (e : Encoding) (a : Array) (p : ℕ) (k : Kind) (ns : List ℤ) → IsArray a k ns → length ns < 268435456
     → (k ≡ kind_of a) × ArraySpells e a p (array_octets e a p ns) ns
 unfolding ArraySpells array_octets
-array_sent e (text c) p k ns h few = (h.0, (_, _, refl, head_sent e (text c) p (length ns) h.1 few, (_, _, refl, elements_sent e (text c) _ ns h.2, tail_sent e (text c) _ (length ns))))
-array_sent e (row_of k' c) p k ns h few = (h.0, (_, _, refl, head_sent e (row_of k' c) p (length ns) h.1 few, (_, _, refl, elements_sent e (row_of k' c) _ ns h.2, tail_sent e (row_of k' c) _ (length ns))))
+array_sent e (text c) p k ns h few = (
+  h.0,
+  (
+    _,
+    _,
+    refl,
+    head_sent e (text c) p (length ns) h.1 few,
+    (_, _, refl, elements_sent e (text c) _ ns h.2, tail_sent e (text c) _ (length ns)),
+  ),
+)
+array_sent e (row_of k' c) p k ns h few = (
+  h.0,
+  (
+    _,
+    _,
+    refl,
+    head_sent e (row_of k' c) p (length ns) h.1 few,
+    (_, _, refl, elements_sent e (row_of k' c) _ ns h.2, tail_sent e (row_of k' c) _ (length ns)),
+  ),
+)
 
 -- values of a weight
 abbrev pub IsLight : ℕ → Type 0
@@ -132,7 +162,8 @@ each_sent : (e : Encoding) (t : Ty) → ((p : ℕ) (v : Val) → IsOf t v → Is
     → (p : ℕ) (vs : Vals) → Each (IsOf t) vs → IsLight (weights vs)
     → SpellTimes (Spells e t) (count vs) p (send_each (send e t) p vs) (list_of vs)
 each_sent e t one p no_more h few = refl
-each_sent e t one p (val v vs) h few = (_, _, refl, one p v h.0 (omega arith), each_sent e t one (p + length (send e t p v)) vs h.1 (omega arith))
+each_sent e t one p (val v vs) h few =
+    (_, _, refl, one p v h.0 (omega arith), each_sent e t one (p + length (send e t p v)) vs h.1 (omega arith))
 
 armed_at : (P Q : Type 0) (b : Bool) {c : Bool} → MatchBool b P Q → (Q → c ≡ true) → cond b true c ≡ true
 armed_at P Q true h more = refl
@@ -156,8 +187,10 @@ mutual
   sent e (scalar_type s) p (num n) h few = lone_sent e s p n h
   sent e (array_type a) p (row k ns) h few = array_sent e a p k ns h (omega arith)
   sent e (group_type ts) p (group vs) h few = fields_sent e ts p vs h few
-  sent e (items_type c t) p (items vs) h few = (_, _, refl, count_sent e c p (count vs) h.0, each_sent e t (sent e t) _ vs h.1 (omega arith))
-  sent e (choice_type s arms) p (arm n v) h few = (_, _, refl, (lone_sent e s p n h.0, armed arms n v h.1), arm_sent e arms n _ v h.1 (omega arith))
+  sent e (items_type c t) p (items vs) h few =
+      (_, _, refl, count_sent e c p (count vs) h.0, each_sent e t (sent e t) _ vs h.1 (omega arith))
+  sent e (choice_type s arms) p (arm n v) h few =
+      (_, _, refl, (lone_sent e s p n h.0, armed arms n v h.1), arm_sent e arms n _ v h.1 (omega arith))
   sent e (maybe_type t) p absent h few = lone_sent e flag p (pos 0) refl
   sent e (maybe_type t) p (present v) h few = (_, _, refl, lone_sent e flag p (pos 1) refl, sent e t _ v h (omega arith))
   sent e _ p _ h few = absurd h
@@ -172,4 +205,5 @@ mutual
       → ArmSpells e arms n p (send_arm e arms n p v) v
   arm_sent e no_other n p v h few = absurd h
   arm_sent e (others t) n p v h few = sent e t p v h few
-  arm_sent e (arm_type m t arms) n p v h few = arm_at (int_eq n m) (send e t p v) (send_arm e arms n p v) (λ o. Spells e t p o v) (λ o. ArmSpells e arms n p o v) (λ j. sent e t p v j few) (λ j. arm_sent e arms n p v j few) h
+  arm_sent e (arm_type m t arms) n p v h few = arm_at (int_eq n m) (send e t p v) (send_arm e arms n p v)
+      (λ o. Spells e t p o v) (λ o. ArmSpells e arms n p o v) (λ j. sent e t p v j few) (λ j. arm_sent e arms n p v j few) h

@@ -58,7 +58,8 @@ lone_most CdrBig s p n = scalar_most CdrBig s p n
 lone_most CdrLittle s p n = scalar_most CdrLittle s p n
 lone_most Mach s p n =
     let inside = scalar_long Mach s (p + 4) n in
-    simp (length-append, length-replicate) (omega (arith, inside, no_gap (p + 4), width_most (width_of Mach s) (own_of Mach s), filling_most s))
+    simp (length-append, length-replicate)
+    (omega (arith, inside, no_gap (p + 4), width_most (width_of Mach s) (own_of Mach s), filling_most s))
 
 counted_most : (e : Encoding) (p : ℕ) (n : ℤ) → length (scalar_octets e counted p n) ≤ 7
 counted_most Xdr p n = omega (arith, scalar_long Xdr counted p n, no_gap p)
@@ -174,4 +175,5 @@ mutual
   arm_most : (e : Encoding) (arms : Arms) (n : ℤ) (p : ℕ) (v : Val) → length (send_arm e arms n p v) ≤ 16 * weight v
   arm_most e no_other n p v = omega arith
   arm_most e (others t) n p v = sent_most e t p v
-  arm_most e (arm_type m t arms) n p v = either_most (int_eq n m) (16 * weight v) (send e t p v) (send_arm e arms n p v) (sent_most e t p v) (arm_most e arms n p v)
+  arm_most e (arm_type m t arms) n p v = either_most (int_eq n m) (16 * weight v) (send e t p v) (send_arm e arms n p v)
+      (sent_most e t p v) (arm_most e arms n p v)

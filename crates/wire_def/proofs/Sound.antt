@@ -57,7 +57,8 @@ none_refused false false false true e v w x y z h = absurd cc
 none_refused false false false false e v w x y z h = (refl, refl)
 
 level_passes : (t : Ty) → level_refusal t ≡ None → (is_empty t ≡ false) × (nat_lt 32 (depth t) ≡ false)
-level_passes t h = none_refused (is_unfit t) (is_empty t) (is_mislabelled t) (nat_lt 32 (depth t)) (nat_lt 1048576 (weight (blank t))) _ _ _ _ _ h
+level_passes t h = none_refused (is_unfit t) (is_empty t) (is_mislabelled t) (nat_lt 32 (depth t)) (nat_lt 1048576 (weight (blank t))) _ _
+    _ _ _ h
 
 own : (t : Ty) → IsSound t → level_refusal t ≡ None
 own void_type h = h

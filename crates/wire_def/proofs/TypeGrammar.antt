@@ -102,7 +102,8 @@ module _ (e : Encoding) (t : Ty) where
   maybe_forth p o (pos zero) v a b is first (none, same) =
       rw (← same, is, none, append-nil) first
   maybe_forth p o (pos (suc zero)) v a b is first (w, same, second) = rw (← same) (a, b, is, first, second)
-  maybe_forth p o (pos (suc (suc n))) v a b is first second = elim (flags e p a (pos (suc (suc n))) first) [ inl h ↦ absurd cc | inr h ↦ absurd cc ]
+  maybe_forth p o (pos (suc (suc n))) v a b is first second =
+      elim (flags e p a (pos (suc (suc n))) first) [ inl h ↦ absurd cc | inr h ↦ absurd cc ]
   maybe_forth p o (negsuc n) v a b is first second = elim (flags e p a (negsuc n) first) [ inl h ↦ absurd cc | inr h ↦ absurd cc ]
 
   maybe_back : (p : ℕ) (o : List ℕ) (v : Val) → Spells e (maybe_type t) p o v
@@ -118,7 +119,8 @@ module _ (e : Encoding) (t : Ty) where
   unfolding BehindStops
   maybe_stops_to p o k at (pos zero) a b is first f = absurd f
   maybe_stops_to p o k at (pos (suc zero)) a b is first f = inr (a, b, is, first, f)
-  maybe_stops_to p o k at (pos (suc (suc n))) a b is first f = elim (flags e p a (pos (suc (suc n))) first) [ inl h ↦ absurd cc | inr h ↦ absurd cc ]
+  maybe_stops_to p o k at (pos (suc (suc n))) a b is first f =
+      elim (flags e p a (pos (suc (suc n))) first) [ inl h ↦ absurd cc | inr h ↦ absurd cc ]
   maybe_stops_to p o k at (negsuc n) a b is first f = elim (flags e p a (negsuc n) first) [ inl h ↦ absurd cc | inr h ↦ absurd cc ]
 
   maybe_stops : (p : ℕ) (o : List ℕ) (k : FaultKind) (at : ℕ)
@@ -126,11 +128,14 @@ module _ (e : Encoding) (t : Ty) where
       ⊎ ((n : ℤ) × Parts p o (λ a. LoneSpells e flag p a n) (λ q b. BehindStops (Stops e t) n q b k at)))
   unfolding BehindStops
   maybe_stops p o k at = (to, from) where
-    to : Stops e (maybe_type t) p o k at → LoneStops e flag p o k at ⊎ ((n : ℤ) × Parts p o (λ a. LoneSpells e flag p a n) (λ q b. BehindStops (Stops e t) n q b k at))
+    to : Stops e (maybe_type t) p o k at → LoneStops e flag p o k at
+        ⊎ ((n : ℤ) × Parts p o (λ a. LoneSpells e flag p a n) (λ q b. BehindStops (Stops e t) n q b k at))
     to (inl f) = inl f
     to (inr h) = inr (pos 1, h)
 
-    from : LoneStops e flag p o k at ⊎ ((n : ℤ) × Parts p o (λ a. LoneSpells e flag p a n) (λ q b. BehindStops (Stops e t) n q b k at)) → Stops e (maybe_type t) p o k at
+    from : LoneStops e flag p o k at
+        ⊎ ((n : ℤ)
+        × Parts p o (λ a. LoneSpells e flag p a n) (λ q b. BehindStops (Stops e t) n q b k at)) → Stops e (maybe_type t) p o k at
     from (inl f) = inl f
     from (inr (n, (a, b, is, first, f))) = maybe_stops_to p o k at n a b is first f
 
@@ -186,9 +191,16 @@ mutual
   type_is e (scalar_type s) = mapped num _ (lone_is e s) (λ p o x h. h) (scalar_back e s)
   type_is e (array_type a) = mapped (row (kind_of a)) _ (array_is e a) (λ p o x h. (refl, h)) (array_back e a)
   type_is e (group_type ts) = mapped group _ (fields_are e ts) (λ p o x h. h) (group_back e ts)
-  type_is e (items_type c t) = mapped (λ x. items (vals_of x.1)) _ (both_are (count_is e c) (λ n. times_are n (type_is e t))) (items_forth e c t) (items_back e c t)
-  type_is e (choice_type s arms) = mapped (λ x. arm x.0 x.1) _ (both_are (pass_is e s (has_arm arms) BadValue) (λ n. arm_is e arms n)) (λ p o x h. h) (choice_back e s arms)
-  type_is e (maybe_type t) = reshaped (mapped (λ x. x.1) (Spells e (maybe_type t)) (both_are (lone_is e flag) (λ n. behind_is (type_is e t) n)) (λ p o x h. maybe_forth e t p o x.0 x.1 h.0 h.1 h.2 h.3 h.4) (maybe_back e t))
+  type_is e (items_type c t) =
+      mapped
+      (λ x. items (vals_of x.1)) _ (both_are (count_is e c) (λ n. times_are n (type_is e t))) (items_forth e c t) (items_back e c t)
+  type_is e (choice_type s arms) =
+      mapped (λ x. arm x.0 x.1) _ (both_are (pass_is e s (has_arm arms) BadValue) (λ n. arm_is e arms n)) (λ p o x h.
+      h) (choice_back e s arms)
+  type_is e (maybe_type t) =
+      reshaped
+      (mapped (λ x. x.1) (Spells e (maybe_type t)) (both_are (lone_is e flag) (λ n. behind_is (type_is e t) n)) (λ p o x h.
+      maybe_forth e t p o x.0 x.1 h.0 h.1 h.2 h.3 h.4) (maybe_back e t))
       (λ p o. refl) (λ p o x h. h) (λ p o x h. h) (λ p o k at. (maybe_stops e t p o k at).0) (λ p o k at. (maybe_stops e t p o k at).1)
 
   pub fields_are : (e : Encoding) → (ts : Tys) → IsGrammar (read_fields e ts) (FieldsSpell e ts) (FieldsStop e ts)

@@ -92,15 +92,19 @@ elements_typed S test one zero p o (x ∷ xs) oct h = absurd h
 elements_typed S test one (suc n) p o [] oct h = absurd h
 elements_typed S test one (suc n) p o (x ∷ xs) oct (a, b, is, first, more) =
     let whole = rw is at oct in
-    both_true (test x) (list_all test xs) (one p a x (octets_before a b whole) first) (elements_typed S test one n (p + length a) b xs (octets_behind a b whole) more)
+    both_true (test x) (list_all test xs) (one p a x (octets_before a b whole) first)
+    (elements_typed S test one n (p + length a) b xs (octets_behind a b whole) more)
 
 array_typed : (e : Encoding) (a : Array) (p : ℕ) (o : List ℕ) (ns : List ℤ) → AreOctets o → ArraySpells e a p o ns
     → Allows (count_of a) (length ns) × (list_all (is_element a) ns ≡ true)
 unfolding ArraySpells
 array_typed e a p o ns oct (x, y, is, head, (u, v, is', elements, tail)) =
     let behind = octets_behind x y (rw is at oct) in
-    let there = octets_before u v (rw is' at behind) in
-    (head_typed e a p x (length ns) head, elements_typed (ElementSpells e a) (is_element a) (element_typed e a) (length ns) (p + length x) u ns there elements)
+    let there = octets_before u v (rw is' at behind) in (
+      head_typed e a p x (length ns) head,
+      elements_typed (ElementSpells e a) (is_element a) (element_typed e a) (length ns) (p + length x)
+          u ns there elements,
+    )
 
 row_typed : (e : Encoding) (a : Array) (p : ℕ) (o : List ℕ) (k : Kind) (ns : List ℤ) → AreOctets o
     → (k ≡ kind_of a) × ArraySpells e a p o ns
@@ -123,8 +127,11 @@ mutual
   typed e (array_type a) p o (row k ns) oct h = row_typed e a p o k ns oct h
   typed e (group_type ts) p o (group vs) oct h = fields_typed e ts p o vs oct h
   typed e (items_type c t) p o (items vs) oct (a, b, is, first, more) =
-      let whole = rw is at oct in
-      (count_typed e c p a (count vs) first, each_typed (Spells e t) (IsOf t) (typed e t) vs (p + length a) b (octets_behind a b whole) more)
+      let whole = rw is at oct in (
+        count_typed e c p a (count vs) first,
+        each_typed (Spells e t) (IsOf t) (typed e t) vs (p + length a) b (octets_behind a b whole)
+            more,
+      )
   typed e (choice_type s arms) p o (arm n v) oct (a, b, is, first, more) =
       let whole = rw is at oct in
       (lone_typed e s p a n first.0, arm_typed e arms n (p + length a) b v (octets_behind a b whole) more)

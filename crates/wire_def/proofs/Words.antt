@@ -201,7 +201,15 @@ module _ (e : Encoding) (a : ℕ) (w : Width) (is_wide : IsWide e w) where
       let long : length o ≡ gap p a + byte_len w = omega (arith, ap length is, length-append junk num, is_wide.len m) in
       let enough : ltb (length (o ++ rest)) (gap p a + byte_len w) ≡ false = le-ltb _ _ (omega (arith, length-append o rest)) in
       let apart : o ++ rest ≡ junk ++ (num ++ rest) = ap (λ z. z ++ rest) is ∙ append_assoc junk num rest in
-      rw (enough, apart, drop_at junk (num ++ rest) (gap p a) len, take_at num rest (byte_len w) (is_wide.len m), drop_at num rest (byte_len w) (is_wide.len m), is_wide.again m lt, ← long) refl
+      rw (
+        enough,
+        apart,
+        drop_at junk (num ++ rest) (gap p a) len,
+        take_at num rest (byte_len w) (is_wide.len m),
+        drop_at num rest (byte_len w) (is_wide.len m),
+        is_wide.again m lt,
+        ← long,
+      ) refl
 
   word_spelled : (p : ℕ) (o : List ℕ) (m q : ℕ) (rest : List ℕ) → AreOctets o → read_word e a w p o ≡ got m q rest
       → (b : List ℕ) × (o ≡ b ++ rest) × (q ≡ p + length b) × WordSpells e a w p b m
@@ -209,7 +217,8 @@ module _ (e : Encoding) (a : ℕ) (w : Width) (is_wide : IsWide e w) where
   word_spelled p o m q rest oct is =
       let g : ℕ = gap p a in
       let n : ℕ = byte_len w in
-      let t = picked_got (ltb (length o) (g + n)) Short (p + g) (octets_number e w (take n (drop g o))) m (p + (g + n)) q (drop n (drop g o)) rest is in
+      let t = picked_got (ltb (length o) (g + n)) Short (p + g) (octets_number e w (take n (drop g o))) m (p + (g + n)) q
+      (drop n (drop g o)) rest is in
       let enough : g + n ≤ length o = ltb-false _ _ t.0 in
       let junk : List ℕ = take g o in
       let num : List ℕ = take n (drop g o) in
@@ -217,8 +226,19 @@ module _ (e : Encoding) (a : ℕ) (w : Width) (is_wide : IsWide e w) where
       let num_len : length num ≡ n = omega (arith, length-take n (drop g o), length-drop g o) in
       let behind : AreOctets (drop g o) = octets_behind junk (drop g o) (rw take-append-drop oct) in
       let oct_num : AreOctets num = octets_before num (drop n (drop g o)) (rw take-append-drop behind) in
-      let whole : o ≡ (junk ++ num) ++ rest = sym (append_assoc junk num rest ∙ ap (λ z. junk ++ (num ++ z)) (sym t.3) ∙ ap (λ z. junk ++ z) (take-append-drop n (drop g o)) ∙ take-append-drop g o) in
-      (junk ++ num, whole, omega (arith, t.2, length-append junk num), (junk, junk_len, ap (λ z. junk ++ z) (rw (← t.1) (sym (is_wide.back num num_len oct_num))), rw (← t.1) (is_wide.below num num_len oct_num)))
+      let whole : o ≡ (junk ++ num) ++ rest =
+      sym (append_assoc junk num rest
+      ∙ ap (λ z. junk ++ (num ++ z)) (sym t.3) ∙ ap (λ z. junk ++ z) (take-append-drop n (drop g o)) ∙ take-append-drop g o) in (
+        junk ++ num,
+        whole,
+        omega (arith, t.2, length-append junk num),
+        (
+          junk,
+          junk_len,
+          ap (λ z. junk ++ z) (rw (← t.1) (sym (is_wide.back num num_len oct_num))),
+          rw (← t.1) (is_wide.below num num_len oct_num),
+        ),
+      )
 
   word_stops : (p : ℕ) (o : List ℕ) (k : FaultKind) (at : ℕ) → WordStops e a w p o k at → read_word e a w p o ≡ stop k at
   unfolding WordStops read_word
@@ -229,7 +249,8 @@ module _ (e : Encoding) (a : ℕ) (w : Width) (is_wide : IsWide e w) where
   word_faulty p o k at oct is =
       let g : ℕ = gap p a in
       let n : ℕ = byte_len w in
-      let t = picked_stop (ltb (length o) (g + n)) Short k (p + g) at (octets_number e w (take n (drop g o))) (p + (g + n)) (drop n (drop g o)) is in
+      let t = picked_stop (ltb (length o) (g + n)) Short k (p + g) at (octets_number e w (take n (drop g o))) (p + (g + n))
+      (drop n (drop g o)) is in
       (ltb-true _ _ t.0, t.1, t.2)
 
   pub word_is : IsGrammar (read_word e a w) (WordSpells e a w) (WordStops e a w)

@@ -94,5 +94,6 @@ faults : map (λ (s : Try). read s.0 s.1.0 s.1.1.0 s.1.1.1) tries ≡
     got (num (pos 258)) 4 [] ∷
     got (row kind.Char (pos 97 ∷ [])) 40 [] ∷
     []
-unfolding read read_fields read_arm read_array read_head read_tail read_element read_octet read_zeros read_count read_scalar read_word read_any read_desc read_described read_first read_rest told_before
+unfolding read read_fields read_arm read_array read_head read_tail read_element read_octet read_zeros read_count read_scalar read_word
+    read_any read_desc read_described read_first read_rest told_before
 faults = refl

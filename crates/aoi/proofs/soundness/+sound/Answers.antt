@@ -18,4 +18,6 @@ is_sound_type-returns-in-Union t c =
     (c.unfolded.ensures ∙ ap (λ q. unfolded limit types limit (seen q)) c.deref-in-Union-2.ensures)
     (c.are_sound_arms-are_arms.ensures ∙ ap (λ q. are_sound_arms types limit (arms_seen q None)) c.as_slice-in-Union-2.ensures)
     c.is_sound_other-is_other.ensures
-    ∙ sym (ap (λ q. is_sound_type types limit (seen q)) c.in-Union.is ∙ ap (is_sound_type types limit) (choice_seen c.in-Union.tag c.in-Union.arms c.in-Union.other))
+    ∙ sym (ap (λ q.
+    is_sound_type types limit (seen q)) c.in-Union.is
+    ∙ ap (is_sound_type types limit) (choice_seen c.in-Union.tag c.in-Union.arms c.in-Union.other))

@@ -4,4 +4,6 @@ use Rattle.back_cdr.proofs.leads.chunks_of.Goals as goal
 pub returns : goal.returns
 returns c =
     rw (c.in_ok-push-3.ensures.ok, c.in_ok-push-2.ensures.ok, c.in_ok-push.ensures.ok, c.new-ops.ensures)
-    (three_seen c.in_ok-constant.field-0 c.in_ok-id.field-0 c.in_ok-constant-2.field-0 c.args.order c.args.octets.now c.before_id.result.now c.after_id.result.now c.requires c.before_id.ensures c.after_id.ensures c.in_ok-constant.ensures c.in_ok-id.ensures c.in_ok-constant-2.ensures)
+    (three_seen c.in_ok-constant.field-0 c.in_ok-id.field-0 c.in_ok-constant-2.field-0 c.args.order c.args.octets.now
+    c.before_id.result.now c.after_id.result.now c.requires c.before_id.ensures c.after_id.ensures c.in_ok-constant.ensures
+    c.in_ok-id.ensures c.in_ok-constant-2.ensures)

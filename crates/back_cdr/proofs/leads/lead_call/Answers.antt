@@ -7,10 +7,15 @@ use Rattle.back_cdr.proofs.Growing.{call_long, call_put}
 use Rattle.back_cdr.proofs.leads.lead_call.Goals as goal
 
 pub code_of-requires : goal.code_of-requires
-code_of-requires c = rw (c.as_slice.ensures, c.in_ok-octets.ensures) (call_long c.sent_order-order.result (target_of c.args.bound.now c.args.op))
+code_of-requires c =
+    rw (c.as_slice.ensures, c.in_ok-octets.ensures) (call_long c.sent_order-order.result (target_of c.args.bound.now c.args.op))
 
 pub returns-clause-means : goal.returns-clause-means
 returns-clause-means c =
-    let same : (id : ℕ) → with_id c.sent_order-order.result c.as_slice.result.now id ≡ lead (order_of c.args.bound.now.back) (target_of c.args.bound.now c.args.op) id =
-    λ id. rw (c.as_slice.ensures, c.in_ok-octets.ensures, c.sent_order-order.ensures) (call_put (order_of c.args.bound.now.back) (target_of c.args.bound.now c.args.op) id) in
-    leads_along c.code_of.result (with_id c.sent_order-order.result c.as_slice.result.now) (lead (order_of c.args.bound.now.back) (target_of c.args.bound.now c.args.op)) same c.code_of.ensures.means
+    let same : (id : ℕ) → with_id c.sent_order-order.result c.as_slice.result.now id
+    ≡ lead (order_of c.args.bound.now.back) (target_of c.args.bound.now c.args.op) id =
+    λ id.
+    rw (c.as_slice.ensures, c.in_ok-octets.ensures, c.sent_order-order.ensures)
+    (call_put (order_of c.args.bound.now.back) (target_of c.args.bound.now c.args.op) id) in
+    leads_along c.code_of.result (with_id c.sent_order-order.result c.as_slice.result.now)
+    (lead (order_of c.args.bound.now.back) (target_of c.args.bound.now c.args.op)) same c.code_of.ensures.means

@@ -7,10 +7,16 @@ use Rattle.back_cdr.proofs.Growing.{reply_long, reply_put}
 use Rattle.back_cdr.proofs.leads.lead_reply.Goals as goal
 
 pub code_of-requires : goal.code_of-requires
-code_of-requires c = rw (c.as_slice.ensures, c.in_ok-octets.ensures) (reply_long c.sent_order-order.result (target_of c.args.bound.now c.args.op) c.args.arm)
+code_of-requires c =
+    rw (c.as_slice.ensures, c.in_ok-octets.ensures)
+    (reply_long c.sent_order-order.result (target_of c.args.bound.now c.args.op) c.args.arm)
 
 pub returns-clause-means : goal.returns-clause-means
 returns-clause-means c =
-    let same : (id : ℕ) → with_id c.sent_order-order.result c.as_slice.result.now id ≡ reply_lead (order_of c.args.bound.now.back) (target_of c.args.bound.now c.args.op) c.args.arm id =
-    λ id. rw (c.as_slice.ensures, c.in_ok-octets.ensures, c.sent_order-order.ensures) (reply_put (order_of c.args.bound.now.back) (target_of c.args.bound.now c.args.op) c.args.arm id) in
-    leads_along c.code_of.result (with_id c.sent_order-order.result c.as_slice.result.now) (reply_lead (order_of c.args.bound.now.back) (target_of c.args.bound.now c.args.op) c.args.arm) same c.code_of.ensures.means
+    let same : (id : ℕ) → with_id c.sent_order-order.result c.as_slice.result.now id
+    ≡ reply_lead (order_of c.args.bound.now.back) (target_of c.args.bound.now c.args.op) c.args.arm id =
+    λ id.
+    rw (c.as_slice.ensures, c.in_ok-octets.ensures, c.sent_order-order.ensures)
+    (reply_put (order_of c.args.bound.now.back) (target_of c.args.bound.now c.args.op) c.args.arm id) in
+    leads_along c.code_of.result (with_id c.sent_order-order.result c.as_slice.result.now)
+    (reply_lead (order_of c.args.bound.now.back) (target_of c.args.bound.now c.args.op) c.args.arm) same c.code_of.ensures.means

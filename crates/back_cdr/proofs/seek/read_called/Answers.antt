@@ -11,8 +11,10 @@ returns-in-Ok-clause-begins c =
     let begins = (c.in-Ok.ensures.spells (request_seen request)).0 refl in (
       request_seen request,
       begins,
-      ap (λ (n : Naming). record { naming = n; head = request.head; encoding = laid request.head.order; used = request.used }) (sym c.named.ensures.value)
-          ∙ ap (λ (e : Encoding). record { naming = c.named.result; head = request.head; encoding = e; used = request.used }) (sym c.laid.ensures.value),
+      ap (λ (n : Naming).
+          record { naming = n; head = request.head; encoding = laid request.head.order; used = request.used }) (sym c.named.ensures.value)
+          ∙ ap (λ (e : Encoding).
+          record { naming = c.named.result; head = request.head; encoding = e; used = request.used }) (sym c.laid.ensures.value),
     )
 
 pub returns-in-Err-clause-stops : goal.returns-in-Err-clause-stops

@@ -11,7 +11,8 @@ pub returns-clause-few : goal.returns-clause-few
 returns-clause-few c =
     let all = counted c.args.bound.now c.ops-ops.ensures.stands c.requires.mach in
     let most = few _ c.interfaces_are_apart.ensures.apart in
-    let same : map plain_interface c.unit.result.now.interfaces ≡ c.args.bound.now.unit.interfaces = ap (λ (u : PlainUnit). u.interfaces) c.unit.ensures in
+    let same : map plain_interface c.unit.result.now.interfaces ≡ c.args.bound.now.unit.interfaces =
+    ap (λ (u : PlainUnit). u.interfaces) c.unit.ensures in
     omega (arith, all, most, ap (λ (is : List PlainInterface). length (routines is)) same, c.interfaces_are_apart.ensures.few)
 
 pub returns-clause-ids : goal.returns-clause-ids

@@ -8,6 +8,9 @@ use Rattle.back_mach.proofs.seek.named.Goals as goal
 
 pub returns-clause-below : goal.returns-clause-below
 returns-clause-below c =
-    let below : IsBelow (length (routines c.args.bound.now.unit.interfaces)) (named_from 0 c.args.bound.now.unit.interfaces c.args.call.now.id) = rw zero-add at (named_below 0 c.args.bound.now.unit.interfaces c.args.call.now.id) in
-    let same : map plain_interface c.unit.result.now.interfaces ≡ c.args.bound.now.unit.interfaces = ap (λ (u : PlainUnit). u.interfaces) c.unit.ensures in
+    let below : IsBelow (length (routines c.args.bound.now.unit.interfaces))
+    (named_from 0 c.args.bound.now.unit.interfaces c.args.call.now.id) =
+    rw zero-add at (named_below 0 c.args.bound.now.unit.interfaces c.args.call.now.id) in
+    let same : map plain_interface c.unit.result.now.interfaces ≡ c.args.bound.now.unit.interfaces =
+    ap (λ (u : PlainUnit). u.interfaces) c.unit.ensures in
     rw (c.seek.ensures, c.as_slice.ensures, c.interfaces.ensures, same, ← c.operations_are_routines.ensures.many) below

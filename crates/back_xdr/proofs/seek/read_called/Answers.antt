@@ -7,8 +7,11 @@ use Rattle.back_xdr.proofs.seek.read_called.Goals as goal
 pub returns-in-Ok-clause-begins : goal.returns-in-Ok-clause-begins
 returns-in-Ok-clause-begins c =
     let begins = (c.in-Ok.ensures.spells c.in-Ok.call).0 refl in
-    let call = c.in-Ok.call in
-    (call, begins, ap (λ (n : Naming). record { naming = n; head = call.head; encoding = encoding; used = call.used }) (sym c.named.ensures.value))
+    let call = c.in-Ok.call in (
+      call,
+      begins,
+      ap (λ (n : Naming). record { naming = n; head = call.head; encoding = encoding; used = call.used }) (sym c.named.ensures.value),
+    )
 
 pub returns-in-Err-clause-stops : goal.returns-in-Err-clause-stops
 returns-in-Err-clause-stops c = (c.in-Err.ensures.stops c.in-Err.fault).0 refl

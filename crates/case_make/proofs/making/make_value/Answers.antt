@@ -22,4 +22,5 @@ pub returns-in-Err-Heavy-clause-light : goal.returns-in-Err-Heavy-clause-light
 returns-in-Err-Heavy-clause-light c =
     let ty = type_at c.args.mint.now c.args.id in
     let light = (sound_taken ty (c.types_are_sound.ensures c.args.id)).light in
-    IfOk-weaker c.blank.result _ (λ (v : Value). weight (seen v) ≤ heaviest_blank) (λ (v : Value) e. subst (λ (w : Val). weight w ≤ heaviest_blank) (sym e) light) c.blank.ensures.value
+    IfOk-weaker c.blank.result _ (λ (v : Value). weight (seen v) ≤ heaviest_blank) (λ (v : Value) e.
+    subst (λ (w : Val). weight w ≤ heaviest_blank) (sym e) light) c.blank.ensures.value

@@ -6,5 +6,14 @@ use Rattle.corba_shapes.specs.Unions.{cases_on}
 use Rattle.corba_shapes.proofs.unions.cases.Given as goal
 
 abbrev pub invariant-loop-c : goal.invariant-loop-c
-invariant-loop-c l = cases_on l.labels.keys l.tag l.env l.d (record { names = l.initial.scopes; numbers = l.initial.numbers.keys; arms = []; other = None }) l.list
-    ≡ cases_on l.labels.keys l.tag l.env l.d (record { names = l.scopes; numbers = l.numbers.keys; arms = arms_held l.arms; other = option_map (λ b. seen b.value) l.other }) (drop l.c-index l.list)
+invariant-loop-c l =
+    cases_on l.labels.keys l.tag l.env l.d
+    (record { names = l.initial.scopes; numbers = l.initial.numbers.keys; arms = []; other = None }) l.list
+    ≡ cases_on l.labels.keys l.tag l.env l.d
+    (record {
+      names = l.scopes;
+      numbers = l.numbers.keys;
+      arms = arms_held l.arms;
+      other =
+          option_map (λ b. seen b.value) l.other;
+    }) (drop l.c-index l.list)

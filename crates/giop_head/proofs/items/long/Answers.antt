@@ -4,4 +4,5 @@ use Rattle.giop_head.proofs.Steps.{long_short}
 use Rattle.giop_head.proofs.items.long.Goals as goal
 
 pub returns-then-at-gap : goal.returns-then-at-gap
-returns-then-at-gap c = (c.args.at.place + gap c.args.at.place 4, long_short c.args.order c.args.at.place c.args.at.rest.now c.if-at-gap.true)
+returns-then-at-gap c =
+    (c.args.at.place + gap c.args.at.place 4, long_short c.args.order c.args.at.place c.args.at.rest.now c.if-at-gap.true)

@@ -6,7 +6,8 @@ use Rattle.kit_base.proofs.outside.write_whole.Goals as goal
 
 moves_front : (all done rest : List ℕ) (n : ℕ) → all ≡ done ++ rest → all ≡ (done ++ take n rest) ++ take (length rest - n) (drop n rest)
 moves_front all done rest n e =
-    e ∙ ap (λ l. done ++ l) (sym (take-append-drop n rest)) ∙ sym (append_assoc done (take n rest) (drop n rest)) ∙ ap (λ l. (done ++ take n rest) ++ l) (sym (take_rest rest n))
+    e ∙ ap (λ l. done ++ l) (sym (take-append-drop n rest))
+    ∙ sym (append_assoc done (take n rest) (drop n rest)) ∙ ap (λ l. (done ++ take n rest) ++ l) (sym (take_rest rest n))
 
 pub loop-rest-init : goal.loop-rest-init
 loop-rest-init g c = record { appended = ([], refl, Appends-nil _); stands = refl }
@@ -21,7 +22,10 @@ loop-rest-preserved g c =
     let (done, split, appended) = c.loop-rest.invariant.appended in
     let rest = c.loop-rest.rest.now in
     let n = c.in-Ok.count in
-    record { appended = (done ++ take n rest, moves_front _ done rest n split, Appends-trans _ _ _ _ _ appended c.in-Ok.ensures.bytes); stands = c.loop-rest.invariant.stands ∙ c.in-Ok.ensures.cause.ok }
+    record {
+      appended = (done ++ take n rest, moves_front _ done rest n split, Appends-trans _ _ _ _ _ appended c.in-Ok.ensures.bytes);
+      stands = c.loop-rest.invariant.stands ∙ c.in-Ok.ensures.cause.ok;
+    }
 
 pub returns-clause-ok : goal.returns-clause-ok
 returns-clause-ok g c =

@@ -10,7 +10,11 @@ use Rattle.mint.proofs.blank_value.+blank.Goals as goal
 
 pub blanks-returns : goal.blanks-returns
 blanks-returns t c =
-    let made = all_made (λ is. list_of (blanks (fields_at (unfolded c.args.mint.now) is))) _ _ _ c.loop-field.field-index c.as_slice-field-items.ensures c.loop-field-test.false refl c.loop-field.invariant in
+    let made =
+    all_made
+    (λ is.
+    list_of (blanks (fields_at (unfolded c.args.mint.now) is))) _ _ _ c.loop-field.field-index c.as_slice-field-items.ensures
+    c.loop-field-test.false refl c.loop-field.invariant in
     all_listed _ _ made
 
 pub copies-returns : goal.copies-returns
@@ -24,7 +28,8 @@ blank_arm-returns-in_ok-blank_of-in-Some t c =
 pub blank_arm-returns-in_ok-blank_of-in-Some-other : goal.blank_arm-returns-in_ok-blank_of-in-Some-other
 blank_arm-returns-in_ok-blank_of-in-Some-other t c =
     let fits : FitsSigned w128 c.blank_tag.result = search rules in
-    other_made _ _ _ _ _ _ _ _ c.arm-in-Some-other.ensures c.in-None.ensures c.in-Some-other.is (to_z-of_z w128 _ fits ∙ c.blank_tag.ensures) c.in_ok-blank_of-in-Some-other.ensures
+    other_made _ _ _ _ _ _ _ _ c.arm-in-Some-other.ensures c.in-None.ensures c.in-Some-other.is
+    (to_z-of_z w128 _ fits ∙ c.blank_tag.ensures) c.in_ok-blank_of-in-Some-other.ensures
 
 pub blank_arm-returns-in-None-other : goal.blank_arm-returns-in-None-other
 blank_arm-returns-in-None-other t c = seen-Void ∙ none_made _ _ _ _ c.in-None.ensures c.in-None-other.is

@@ -4,4 +4,6 @@ use Rattle.mint.proofs.Fitting.{items_are}
 use Rattle.mint.proofs.fits.+is_of.Goals as goal
 
 pub is_of-returns-then-allows : goal.is_of-returns-then-allows
-is_of-returns-then-allows t c = items_are _ _ c.in-Items.count _ c.in-Some-as_items.values.now _ (c.in-Some.ensures.is ∙ ap (level (unfolded c.args.mint.now)) c.in-Items.is) c.in-Some-as_items.ensures (search rules) c.each_is_of.ensures
+is_of-returns-then-allows t c = items_are _ _ c.in-Items.count _ c.in-Some-as_items.values.now _
+    (c.in-Some.ensures.is ∙ ap (level (unfolded c.args.mint.now)) c.in-Items.is) c.in-Some-as_items.ensures (search rules)
+    c.each_is_of.ensures

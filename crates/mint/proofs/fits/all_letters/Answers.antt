@@ -4,4 +4,5 @@ use Rattle.mint.proofs.Images.{letters_are}
 use Rattle.mint.proofs.fits.all_letters.Goals as goal
 
 pub returns : goal.returns
-returns c = c.has_no_zero.ensures ∙ ap (list_all (λ o. not (o == 0))) c.image.ensures.value ∙ letters_are _ _ c.requires c.image.ensures.ranged
+returns c =
+    c.has_no_zero.ensures ∙ ap (list_all (λ o. not (o == 0))) c.image.ensures.value ∙ letters_are _ _ c.requires c.image.ensures.ranged

@@ -3,4 +3,8 @@ use Rattle.name_kit.proofs.Tables.{label_put}
 use Rattle.name_kit.proofs.labels.push_label.Goals as goal
 
 pub returns : goal.returns
-returns c = record { ok = label_put c.args.labels.now.keys c.insert.new.self.keys c.args.k c.args.n _ c.in_ok-insert.ensures.keys (to_z-of_z c.ranges.n) c.requires }
+returns c =
+    record {
+      ok = label_put c.args.labels.now.keys c.insert.new.self.keys c.args.k c.args.n _ c.in_ok-insert.ensures.keys
+          (to_z-of_z c.ranges.n) c.requires;
+    }

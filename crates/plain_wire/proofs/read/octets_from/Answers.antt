@@ -15,4 +15,5 @@ part_fits n m o h =
     octets_before (take n (drop m o)) (drop n (drop m o)) (rw take-append-drop behind)
 
 pub returns-clause-octets : goal.returns-clause-octets
-returns-clause-octets c = part_fits (length c.args.message.now - c.args.place) c.args.place c.args.message.now (each_fits c.args.message.now (λ i. search (rules, c.type_inv.message)))
+returns-clause-octets c = part_fits (length c.args.message.now - c.args.place) c.args.place c.args.message.now
+    (each_fits c.args.message.now (λ i. search (rules, c.type_inv.message)))

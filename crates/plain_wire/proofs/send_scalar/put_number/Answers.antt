@@ -7,10 +7,12 @@ pub returns-in_err-behind : goal.returns-in_err-behind
 unfolding bare_octets
 returns-in_err-behind c =
     let cut = rw c.gap_of.ensures.is at c.in_err-behind.ensures in
-    rw scalar_aligned (breaks c.from_residual.result c.in_err-behind.field-0.0 c.args.out.now c.args.out.now c.put_zeros.new.out _ _ _ c.args.place c.args.place c.from_residual.ensures.0 refl (omega arith) cut)
+    rw scalar_aligned (breaks c.from_residual.result c.in_err-behind.field-0.0 c.args.out.now c.args.out.now c.put_zeros.new.out _ _ _
+    c.args.place c.args.place c.from_residual.ensures.0 refl (omega arith) cut)
 
 pub returns : goal.returns
 unfolding bare_octets
 returns c =
-    let whole = both_appended c.put_bare.result c.args.out.now c.put_zeros.new.out c.put_bare.new.out _ _ c.args.place c.in_ok-behind.behind c.in_ok-behind.ensures.0 c.in_ok-behind.ensures.1 c.put_bare.ensures in
+    let whole = both_appended c.put_bare.result c.args.out.now c.put_zeros.new.out c.put_bare.new.out _ _ c.args.place
+    c.in_ok-behind.behind c.in_ok-behind.ensures.0 c.in_ok-behind.ensures.1 c.put_bare.ensures in
     rw scalar_aligned (rw c.gap_of.ensures.is at whole)

@@ -5,4 +5,9 @@ use Rattle.raw_buf.proofs.view.big_row.Goals as goal
 
 pub returns-then-width-eq1 : goal.returns-then-width-eq1
 returns-then-width-eq1 c =
-    subst (λ (o : List ℕ). IfOk c.plain_row.result (λ r. r ≡ record { kind = c.args.kind; numbers = numbers_of c.args.kind o })) (sym (single_octets c.args.kind c.args.image.now (sym c.width.ensures ∙ c.if-width-eq1.true))) c.plain_row.ensures
+    subst
+    (λ (o : List ℕ).
+    IfOk c.plain_row.result
+    (λ r.
+    r ≡ record { kind = c.args.kind; numbers = numbers_of c.args.kind o }))
+    (sym (single_octets c.args.kind c.args.image.now (sym c.width.ensures ∙ c.if-width-eq1.true))) c.plain_row.ensures

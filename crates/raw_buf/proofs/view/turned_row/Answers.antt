@@ -14,23 +14,30 @@ loop-at-init c = record {
 }
 
 pub append_turned-requires-clause-width : goal.append_turned-requires-clause-width
-append_turned-requires-clause-width c = subst (λ (k : Kind). IsSwapWidth (width k)) (sym (ap (λ (q : Numbers). q.kind) c.loop-at.invariant.row)) c.requires.width
+append_turned-requires-clause-width c =
+    subst (λ (k : Kind). IsSwapWidth (width k)) (sym (ap (λ (q : Numbers). q.kind) c.loop-at.invariant.row)) c.requires.width
 
 pub append_turned-requires-clause-whole : goal.append_turned-requires-clause-whole
 append_turned-requires-clause-whole c =
     let image = c.args.image.now in
     let at = c.loop-at.at in
-    subst (λ (k : Kind). length (take (at + c.min-size.result - at) (drop at image)) % width k ≡ 0) (sym (ap (λ (q : Numbers). q.kind) c.loop-at.invariant.row))
-    (block_whole (width c.args.kind) at c.min-size.result image c.requires.width c.loop-at.invariant.start c.requires.whole c.loop-at.invariant.within c.min-size.ensures)
+    subst
+    (λ (k : Kind).
+    length (take (at + c.min-size.result - at) (drop at image)) % width k ≡ 0)
+    (sym (ap (λ (q : Numbers). q.kind) c.loop-at.invariant.row))
+    (block_whole (width c.args.kind) at c.min-size.result image c.requires.width c.loop-at.invariant.start c.requires.whole
+    c.loop-at.invariant.within c.min-size.ensures)
 
 pub loop-at-preserved : goal.loop-at-preserved
 loop-at-preserved c =
     let image = c.args.image.now in
     let at = c.loop-at.at in
     record {
-      start = block_next (width c.args.kind) at (length image) c.min-size.result c.requires.width c.loop-at.invariant.start c.requires.whole c.loop-at.invariant.within c.min-size.ensures;
+      start = block_next (width c.args.kind) at (length image) c.min-size.result c.requires.width c.loop-at.invariant.start
+          c.requires.whole c.loop-at.invariant.within c.min-size.ensures;
       within = omega (arith, c.min-size.ensures, c.loop-at.invariant.within);
-      row = turned_more c.args.kind at c.min-size.result image c.loop-at.row c.append_turned.new.row c.requires.width c.loop-at.invariant.start c.loop-at.invariant.within c.loop-at.invariant.row c.in_ok-append_turned.ensures;
+      row = turned_more c.args.kind at c.min-size.result image c.loop-at.row c.append_turned.new.row c.requires.width
+          c.loop-at.invariant.start c.loop-at.invariant.within c.loop-at.invariant.row c.in_ok-append_turned.ensures;
     }
 
 pub returns : goal.returns

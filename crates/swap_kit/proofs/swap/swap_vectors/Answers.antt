@@ -8,4 +8,5 @@ loop-vector-init c = begun c.args.width c.args.image.now c.args.out.now c.requir
 pub loop-vector-preserved : goal.loop-vector-preserved
 loop-vector-preserved c =
     let k = c.loop-vector.vector in
-    more_vectors c.args.width k c.lanes_of-lanes.result c.args.image.now c.args.out.now c.requires.width c.lanes_of-lanes.ensures (omega arith) c.requires.room _ _ c.loop-vector.invariant c.swap_vector.ensures
+    more_vectors c.args.width k c.lanes_of-lanes.result c.args.image.now c.args.out.now c.requires.width c.lanes_of-lanes.ensures
+    (omega arith) c.requires.room _ _ c.loop-vector.invariant c.swap_vector.ensures

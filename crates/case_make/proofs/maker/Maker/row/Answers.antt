@@ -12,24 +12,35 @@ use Rattle.case_make.proofs.maker.Maker.row.Goals as goal
 
 pub returns-in_err-weigh-clause-heavy : goal.returns-in_err-weigh-clause-heavy
 returns-in_err-weigh-clause-heavy c =
-    let less : c.args.self.now.left < 1 + c.length-many.result = omega (arith, c.in_err-weigh.ensures.err.1, c.from.ensures, c.length-many.ensures.left) in
-    whatever c.from_residual.result _ (heavy_row (drawn_number c.args.kind) c.args.count c.args.self.now.state c.args.self.now.left c.length-many.result less c.length-many.ensures.value)
+    let less : c.args.self.now.left < 1 + c.length-many.result =
+    omega (arith, c.in_err-weigh.ensures.err.1, c.from.ensures, c.length-many.ensures.left) in
+    whatever c.from_residual.result _ (heavy_row (drawn_number c.args.kind) c.args.count c.args.self.now.state c.args.self.now.left
+    c.length-many.result less c.length-many.ensures.value)
 
 pub loop-preserved : goal.loop-preserved
 loop-preserved c =
     let fits : FitsSigned w128 c.number.result = search rules in
     let is = to_z-of_z w128 _ fits ∙ c.number.ensures.value in
-    let more = row_on (drawn_number c.args.kind) c.length-many.result c.loop.counter c.loop.row.numbers c.weigh.new.self.state c.loop.self.state c.number.new.self.state _ c.loop-test.true c.loop.invariant.2 is c.number.ensures.state in (
+    let more = row_on (drawn_number c.args.kind) c.length-many.result c.loop.counter c.loop.row.numbers c.weigh.new.self.state
+    c.loop.self.state c.number.new.self.state _ c.loop-test.true c.loop.invariant.2 is c.number.ensures.state in (
       ap (λ (r : Numbers). r.kind) c.in_ok-push.ensures.ok ∙ c.loop.invariant.0,
       c.number.ensures.left ∙ c.loop.invariant.1,
-      subst (λ (ns : List ℤ). Rowing (drawn_number c.args.kind) c.length-many.result (c.loop.counter + 1) ns c.weigh.new.self.state c.number.new.self.state)
+      subst
+          (λ (ns : List ℤ).
+          Rowing (drawn_number c.args.kind) c.length-many.result (c.loop.counter + 1) ns c.weigh.new.self.state c.number.new.self.state)
           (sym (ap (λ (r : Numbers). r.numbers) c.in_ok-push.ensures.ok)) more,
     )
 
 pub returns-clause-ok : goal.returns-clause-ok
 returns-clause-ok c =
-    let left : c.loop.self.left + (1 + c.length-many.result) ≡ c.args.self.now.left = omega (arith, c.loop.invariant.1, c.in_ok-weigh.ensures.ok, c.from.ensures, c.length-many.ensures.left) in
-    subst (λ (k : Kind). IsMade weight c.args.self.now c.loop.self (drawn_as (row c.args.kind) (as_many (drawn_number c.args.kind) (drawn_length c.args.count c.args.self.now.state))) (row k c.loop.row.numbers))
+    let left : c.loop.self.left + (1 + c.length-many.result) ≡ c.args.self.now.left =
+    omega (arith, c.loop.invariant.1, c.in_ok-weigh.ensures.ok, c.from.ensures, c.length-many.ensures.left) in
+    subst
+    (λ (k : Kind).
+    IsMade weight c.args.self.now c.loop.self
+    (drawn_as (row c.args.kind) (as_many (drawn_number c.args.kind) (drawn_length c.args.count c.args.self.now.state)))
+    (row k c.loop.row.numbers))
     (sym c.loop.invariant.0)
-    (row_made c.args.kind (drawn_number c.args.kind) c.args.count c.args.self.now c.loop.self c.length-many.result c.loop.counter c.weigh.new.self.state c.loop.row.numbers c.loop-test.false c.loop.invariant.2
+    (row_made c.args.kind (drawn_number c.args.kind) c.args.count c.args.self.now c.loop.self c.length-many.result c.loop.counter
+    c.weigh.new.self.state c.loop.row.numbers c.loop-test.false c.loop.invariant.2
     c.length-many.ensures.value (c.weigh.ensures.state ∙ c.length-many.ensures.state) left)

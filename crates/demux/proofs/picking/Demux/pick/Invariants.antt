@@ -7,5 +7,6 @@ use Rattle.demux.proofs.picking.Demux.pick.Given as goal
 abbrev pub invariant-loop-other : goal.invariant-loop-other
 invariant-loop-other l = record {
   place : l.place ≡ l.other-index;
-  left : position_from (bytes_eq l.name.name) 0 l.other-items ≡ position_from (bytes_eq l.name.name) l.place (drop l.other-index l.other-items);
+  left : position_from (bytes_eq l.name.name) 0 l.other-items
+      ≡ position_from (bytes_eq l.name.name) l.place (drop l.other-index l.other-items);
 }

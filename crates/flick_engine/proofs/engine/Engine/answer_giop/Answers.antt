@@ -14,17 +14,24 @@ unreachable-requires c =
 pub returns-then-is_passed_over-clause-serves : goal.returns-then-is_passed_over-clause-serves
 returns-then-is_passed_over-clause-serves c =
     let stops = (c.in-Err.ensures.stops c.in-Err.fault).0 refl in
-    inr (c.in-Err.fault, stops, passed_over c.args.order c.args.message.now c.in-Err.fault c.is_passed_over.result c.is_passed_over.ensures c.if-is_passed_over.true)
+    inr (
+      c.in-Err.fault,
+      stops,
+      passed_over c.args.order c.args.message.now c.in-Err.fault c.is_passed_over.result
+          c.is_passed_over.ensures c.if-is_passed_over.true,
+    )
 
 pub returns-in_ok-put_locate_reply-in-Ok-Locate-clause-serves : goal.returns-in_ok-put_locate_reply-in-Ok-Locate-clause-serves
 returns-in_ok-put_locate_reply-in-Ok-Locate-clause-serves c =
     let s = c.in-Ok-Locate in
     let begins = (s.ensures.spells (sought s.id s.key.now)).0 (ap call_seen s.field-0-is) in
-    let same = c.in_ok-put_locate_reply-in-Ok-Locate.ensures.ok ∙ ap (λ (h : Bool). locate_octets c.args.order s.id h) c.has_object.ensures in
+    let same = c.in_ok-put_locate_reply-in-Ok-Locate.ensures.ok
+    ∙ ap (λ (h : Bool). locate_octets c.args.order s.id h) c.has_object.ensures in
     inl (s.id, s.key.now, begins, ap (λ (x : List ℕ). Some x) same)
 
 pub returns-in_ok-put_message_error-in-Err-clause-serves : goal.returns-in_ok-put_message_error-in-Err-clause-serves
 returns-in_ok-put_message_error-in-Err-clause-serves c =
     let stops = (c.in-Err.ensures.stops c.in-Err.fault).0 refl in
-    let wrong = told_wrong c.args.order c.args.message.now c.in-Err.fault c.is_passed_over.result c.is_passed_over.ensures _ c.if-is_passed_over.false c.in_ok-put_message_error-in-Err.ensures.ok in
+    let wrong = told_wrong c.args.order c.args.message.now c.in-Err.fault c.is_passed_over.result c.is_passed_over.ensures _
+    c.if-is_passed_over.false c.in_ok-put_message_error-in-Err.ensures.ok in
     inr (c.in-Err.fault, stops, wrong)

@@ -15,17 +15,24 @@ pub unreachable-requires-in_default-arm_of : goal.unreachable-requires-in_defaul
 unreachable-requires-in_default-arm_of c =
     let fits : FitsSigned w128 c.from.result = search rules in
     let found : arm_found c.in-Choice.arms c.in-Choice.other (pos c.args.arm) ≡ None =
-    sym (c.arm_of.ensures ∙ ap (arm_found c.in-Choice.arms c.in-Choice.other) (to_z-of_z w128 _ fits ∙ c.from.ensures)) ∙ c.in_default-arm_of.is in
+    sym (c.arm_of.ensures ∙ ap (arm_found c.in-Choice.arms c.in-Choice.other) (to_z-of_z w128 _ fits ∙ c.from.ensures))
+    ∙ c.in_default-arm_of.is in
     let nodes : c.mint.result.now ≡ c.args.self.now.binding.nodes = c.mint.ensures ∙ ap (λ (b : Binding). b.nodes) c.bound.ensures.value in
-    let is = sym c.reply.ensures.type_ ∙ ap (λ (ns : List Node). type_at ns c.reply.result) (sym nodes) ∙ c.in-Some.ensures.is ∙ ap (level (unfolded c.mint.result.now)) c.in-Choice.is in
-    no_node (unfolded c.mint.result.now) c.args.arm (reply_type c.args.self.now.binding c.args.op) c.in-Choice.field-0 c.in-Choice.arms c.in-Choice.other is found c.requires.arm
+    let is =
+    sym c.reply.ensures.type_
+    ∙ ap (λ (ns : List Node).
+    type_at ns c.reply.result) (sym nodes) ∙ c.in-Some.ensures.is ∙ ap (level (unfolded c.mint.result.now)) c.in-Choice.is in
+    no_node (unfolded c.mint.result.now) c.args.arm (reply_type c.args.self.now.binding c.args.op) c.in-Choice.field-0 c.in-Choice.arms
+    c.in-Choice.other is found c.requires.arm
 
 pub returns-clause-node : goal.returns-clause-node
 returns-clause-node c =
     let fits : FitsSigned w128 c.from.result = search rules in
     let found : arm_found c.in-Choice.arms c.in-Choice.other (pos c.args.arm) ≡ Some c.in-Some-arm_of.id =
-    sym (c.arm_of.ensures ∙ ap (arm_found c.in-Choice.arms c.in-Choice.other) (to_z-of_z w128 _ fits ∙ c.from.ensures)) ∙ c.in-Some-arm_of.is in
-    let below : HasChildrenBelow c.reply.result (node.Choice c.in-Choice.field-0 c.in-Choice.arms c.in-Choice.other) = subst (HasChildrenBelow c.reply.result) c.in-Choice.is c.in-Some.ensures.below in
+    sym (c.arm_of.ensures ∙ ap (arm_found c.in-Choice.arms c.in-Choice.other) (to_z-of_z w128 _ fits ∙ c.from.ensures))
+    ∙ c.in-Some-arm_of.is in
+    let below : HasChildrenBelow c.reply.result (node.Choice c.in-Choice.field-0 c.in-Choice.arms c.in-Choice.other) =
+    subst (HasChildrenBelow c.reply.result) c.in-Choice.is c.in-Some.ensures.below in
     let less = arm_below c.in-Choice.arms c.in-Choice.other (pos c.args.arm) c.reply.result c.in-Some-arm_of.id found below.0 below.1 in
     omega (arith, less, c.reply.ensures.node)
 
@@ -33,8 +40,13 @@ pub returns-clause-type_ : goal.returns-clause-type_
 returns-clause-type_ c =
     let fits : FitsSigned w128 c.from.result = search rules in
     let found : arm_found c.in-Choice.arms c.in-Choice.other (pos c.args.arm) ≡ Some c.in-Some-arm_of.id =
-    sym (c.arm_of.ensures ∙ ap (arm_found c.in-Choice.arms c.in-Choice.other) (to_z-of_z w128 _ fits ∙ c.from.ensures)) ∙ c.in-Some-arm_of.is in
+    sym (c.arm_of.ensures ∙ ap (arm_found c.in-Choice.arms c.in-Choice.other) (to_z-of_z w128 _ fits ∙ c.from.ensures))
+    ∙ c.in-Some-arm_of.is in
     let nodes : c.mint.result.now ≡ c.args.self.now.binding.nodes = c.mint.ensures ∙ ap (λ (b : Binding). b.nodes) c.bound.ensures.value in
-    let is = sym c.reply.ensures.type_ ∙ ap (λ (ns : List Node). type_at ns c.reply.result) (sym nodes) ∙ c.in-Some.ensures.is ∙ ap (level (unfolded c.mint.result.now)) c.in-Choice.is in
+    let is =
+    sym c.reply.ensures.type_
+    ∙ ap (λ (ns : List Node).
+    type_at ns c.reply.result) (sym nodes) ∙ c.in-Some.ensures.is ∙ ap (level (unfolded c.mint.result.now)) c.in-Choice.is in
     ap (λ (ns : List Node). type_at ns c.in-Some-arm_of.id) (sym nodes)
-    ∙ arm_node (unfolded c.mint.result.now) c.args.arm (reply_type c.args.self.now.binding c.args.op) c.in-Choice.field-0 c.in-Choice.arms c.in-Choice.other c.in-Some-arm_of.id is found
+    ∙ arm_node (unfolded c.mint.result.now) c.args.arm (reply_type c.args.self.now.binding c.args.op) c.in-Choice.field-0 c.in-Choice.arms
+    c.in-Choice.other c.in-Some-arm_of.id is found

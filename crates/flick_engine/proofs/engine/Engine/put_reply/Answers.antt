@@ -10,22 +10,27 @@ use Rattle.flick_engine.proofs.engine.Engine.put_reply.Goals as goal
 
 pub unreachable-requires : goal.unreachable-requires
 unreachable-requires c =
-    no_arm (reply_type c.args.self.now.binding c.args.op) (seen c.args.value.now) c.replies_tell_arms.ensures.choice c.requires.typed c.in_default.ensures
+    no_arm (reply_type c.args.self.now.binding c.args.op) (seen c.args.value.now) c.replies_tell_arms.ensures.choice c.requires.typed
+    c.in_default.ensures
 
 pub unreachable-requires-in_default-arm_number : goal.unreachable-requires-in_default-arm_number
 unreachable-requires-in_default-arm_number c =
     let fits : FitsSigned w128 c.in-Some.n = search rules in
-    let far : in_range kind.U32 c.in-Some.n ≡ false = ap (in_range kind.U32) (sym (to_z-of_z w128 _ fits)) ∙ c.in_default-arm_number.ensures.none in
-    no_word (reply_type c.args.self.now.binding c.args.op) (seen c.args.value.now) c.in-Some.n (seen c.in-Some.inner.now) c.replies_tell_arms.ensures.choice c.requires.typed c.in-Some.ensures far
+    let far : in_range kind.U32 c.in-Some.n ≡ false = ap (in_range kind.U32) (sym (to_z-of_z w128 _ fits))
+    ∙ c.in_default-arm_number.ensures.none in
+    no_word (reply_type c.args.self.now.binding c.args.op) (seen c.args.value.now) c.in-Some.n (seen c.in-Some.inner.now)
+    c.replies_tell_arms.ensures.choice c.requires.typed c.in-Some.ensures far
 
 pub put_arm-requires-clause-arm : goal.put_arm-requires-clause-arm
 put_arm-requires-clause-arm c =
     let fits : FitsSigned w128 c.in-Some.n = search rules in
     let is : c.in-Some.n ≡ pos c.in-Some-arm_number.arm = sym (to_z-of_z w128 _ fits) ∙ c.in-Some-arm_number.ensures.some in
-    (put_arm (reply_type c.args.self.now.binding c.args.op) (seen c.args.value.now) c.in-Some.n c.in-Some-arm_number.arm (seen c.in-Some.inner.now) c.replies_tell_arms.ensures.choice c.requires.typed c.in-Some.ensures is).there
+    (put_arm (reply_type c.args.self.now.binding c.args.op) (seen c.args.value.now) c.in-Some.n c.in-Some-arm_number.arm
+    (seen c.in-Some.inner.now) c.replies_tell_arms.ensures.choice c.requires.typed c.in-Some.ensures is).there
 
 pub put_arm-requires-clause-typed : goal.put_arm-requires-clause-typed
 put_arm-requires-clause-typed c =
     let fits : FitsSigned w128 c.in-Some.n = search rules in
     let is : c.in-Some.n ≡ pos c.in-Some-arm_number.arm = sym (to_z-of_z w128 _ fits) ∙ c.in-Some-arm_number.ensures.some in
-    (put_arm (reply_type c.args.self.now.binding c.args.op) (seen c.args.value.now) c.in-Some.n c.in-Some-arm_number.arm (seen c.in-Some.inner.now) c.replies_tell_arms.ensures.choice c.requires.typed c.in-Some.ensures is).typed
+    (put_arm (reply_type c.args.self.now.binding c.args.op) (seen c.args.value.now) c.in-Some.n c.in-Some-arm_number.arm
+    (seen c.in-Some.inner.now) c.replies_tell_arms.ensures.choice c.requires.typed c.in-Some.ensures is).typed

@@ -33,12 +33,20 @@ pub returns-in-Mach-clause-begins : goal.returns-in-Mach-clause-begins
 returns-in-Mach-clause-begins c =
     let own = ap (λ (b : Binding). b.back) (sym c.bound.ensures.value) in
     let is = own ∙ sym c.back.ensures ∙ c.in-Mach.is in
-    let id = c.reply_id-id.ensures ∙ ap (λ (r : Routine). mach_id r.id) c.routine_of.ensures ∙ ap (λ (b : Binding). mach_id (routine_of b c.args.op).id) c.bound-in-Mach.ensures.value in
-    mach_read c.args.self.now.binding c.args.op c.args.message.now c.read_reply-in-Mach.result c.reply_id-id.result is id c.read_reply-in-Mach.ensures.spells
+    let id =
+    c.reply_id-id.ensures
+    ∙ ap (λ (r : Routine). mach_id r.id) c.routine_of.ensures ∙ ap (λ (b : Binding).
+    mach_id (routine_of b c.args.op).id) c.bound-in-Mach.ensures.value in
+    mach_read c.args.self.now.binding c.args.op c.args.message.now c.read_reply-in-Mach.result c.reply_id-id.result is id
+    c.read_reply-in-Mach.ensures.spells
 
 pub returns-in-Mach-clause-stops : goal.returns-in-Mach-clause-stops
 returns-in-Mach-clause-stops c =
     let own = ap (λ (b : Binding). b.back) (sym c.bound.ensures.value) in
     let is = own ∙ sym c.back.ensures ∙ c.in-Mach.is in
-    let id = c.reply_id-id.ensures ∙ ap (λ (r : Routine). mach_id r.id) c.routine_of.ensures ∙ ap (λ (b : Binding). mach_id (routine_of b c.args.op).id) c.bound-in-Mach.ensures.value in
-    mach_faults c.args.self.now.binding c.args.op c.args.message.now c.read_reply-in-Mach.result c.reply_id-id.result is id c.read_reply-in-Mach.ensures.stops
+    let id =
+    c.reply_id-id.ensures
+    ∙ ap (λ (r : Routine). mach_id r.id) c.routine_of.ensures ∙ ap (λ (b : Binding).
+    mach_id (routine_of b c.args.op).id) c.bound-in-Mach.ensures.value in
+    mach_faults c.args.self.now.binding c.args.op c.args.message.now c.read_reply-in-Mach.result c.reply_id-id.result is id
+    c.read_reply-in-Mach.ensures.stops

@@ -18,7 +18,8 @@ returns-then-end-message-clause-read c =
 pub returns-else-end-message-clause-read : goal.returns-else-end-message-clause-read
 returns-else-end-message-clause-read c =
     let first = (c.requires.value (seen c.in-Value.value) c.in-Value.used).0 (rw c.in-Value.is (refl, refl)) in
-    is_request c.args.self.now.binding c.args.message.now c.args.called.now c.args.op c.requires.names _ _ first (omega (arith, c.if-end-message.false))
+    is_request c.args.self.now.binding c.args.message.now c.args.called.now c.args.op c.requires.names _ _ first
+    (omega (arith, c.if-end-message.false))
 
 pub returns-else-end-message-clause-typed : goal.returns-else-end-message-clause-typed
 returns-else-end-message-clause-typed c =

@@ -5,4 +5,5 @@ use Rattle.front_mig.proofs.names.Scope.declared.Goals as goal
 
 pub returns : goal.returns
 returns c =
-    c.copied.ensures ∙ c.get.ensures.value ∙ meaning_map (λ k. k.items) c.args.name.now c.self.inside.meanings.entries ∙ ap (meaning_in c.args.name.now) c.self.view_is
+    c.copied.ensures ∙ c.get.ensures.value
+    ∙ meaning_map (λ k. k.items) c.args.name.now c.self.inside.meanings.entries ∙ ap (meaning_in c.args.name.now) c.self.view_is

@@ -5,4 +5,5 @@ use Rattle.front_mig.proofs.names.Scope.has.Goals as goal
 
 pub returns : goal.returns
 returns c =
-    c.contains_key.ensures ∙ declared_map (λ k. k.items) c.args.name.now c.self.inside.meanings.entries ∙ ap (is_declared c.args.name.now) c.self.view_is
+    c.contains_key.ensures ∙ declared_map
+    (λ k. k.items) c.args.name.now c.self.inside.meanings.entries ∙ ap (is_declared c.args.name.now) c.self.view_is

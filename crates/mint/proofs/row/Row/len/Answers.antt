@@ -4,4 +4,5 @@ use Rattle.mint.proofs.Places.{numbers_many}
 use Rattle.mint.proofs.row.Row.len.Goals as goal
 
 pub returns : goal.returns
-returns c = rw (c.len.ensures, c.width.ensures, ← numbers_many c.self.inside.kind c.self.inside.image) (ap (λ (r : Numbers). length r.numbers) c.self.view_is)
+returns c = rw (c.len.ensures, c.width.ensures, ← numbers_many c.self.inside.kind c.self.inside.image)
+    (ap (λ (r : Numbers). length r.numbers) c.self.view_is)

@@ -5,4 +5,6 @@ use Rattle.name_kit.proofs.Tables.{any_map}
 use Rattle.name_kit.proofs.names.Names.has.Goals as goal
 
 pub returns : goal.returns
-returns c = c.contains.ensures ∙ any_map (bytes_eq c.args.name.now) (λ k. k.items) c.self.inside.names.keys ∙ ap (has c.args.name.now) c.self.view_is
+returns c =
+    c.contains.ensures ∙ any_map (bytes_eq c.args.name.now)
+    (λ k. k.items) c.self.inside.names.keys ∙ ap (has c.args.name.now) c.self.view_is

@@ -20,7 +20,8 @@ draw_fields-loop-field-preserved t c =
     let f = c.field-item.result in
     let inv = c.loop-field.invariant in
     let g = c.in_ok-id.ensures.grows in
-    let ids = field_ids fs fields i f c.loop-field.self c.draw.new.self _ c.loop-field.ids c.push.new.self c.in_ok-id.id _ c.loop-field-test.true c.field-item.is g inv.below (rw inv.same at c.in_ok-id.ensures.id) c.in_ok-push.ensures.ok inv.ids in
+    let ids = field_ids fs fields i f c.loop-field.self c.draw.new.self _ c.loop-field.ids c.push.new.self c.in_ok-id.id _
+    c.loop-field-test.true c.field-item.is g inv.below (rw inv.same at c.in_ok-id.ensures.id) c.in_ok-push.ensures.ok inv.ids in
     record {
       same = g.types ∙ inv.same;
       nodes = field_nodes fs fields i f _ _ _ c.loop-field-test.true c.field-item.is inv.nodes (rw inv.same at g.nodes);
@@ -53,8 +54,12 @@ draw_struct-returns-clause-id t c =
 -- ---- arms
 
 pub draw_arms-draw-requires : goal.draw_arms-draw-requires
-draw_arms-draw-requires t c =
-    (search (rules, the_lemmas), rw c.loop-i.invariant.same (arm_drawable (length (known c.args.self.now)) c.args.arms.now None (length c.args.arms.now - 1 - c.loop-i.i) _ c.requires (omega (arith, c.loop-i-test.true)) c.index-arms-arms.is))
+draw_arms-draw-requires t c = (
+  search (rules, the_lemmas),
+  rw c.loop-i.invariant.same
+      (arm_drawable (length (known c.args.self.now)) c.args.arms.now None (length c.args.arms.now - 1 - c.loop-i.i) _ c.requires
+      (omega (arith, c.loop-i-test.true)) c.index-arms-arms.is),
+)
 
 pub draw_arms-returns-in_err-id-clause-cause : goal.draw_arms-returns-in_err-id-clause-cause
 draw_arms-returns-in_err-id-clause-cause t c =
@@ -73,7 +78,8 @@ draw_arms-loop-i-preserved t c =
     record {
       same = g.types ∙ inv.same;
       nodes = arm_nodes fs None arms c.loop-i.i _ _ _ _ c.loop-i-test.true c.index-arms-arms.is inv.nodes (rw inv.same at g.nodes);
-      arms = arm_on fs None arms c.loop-i.i _ _ _ _ _ _ _ _ c.loop-i-test.true c.index-arms-arms.is g (rw inv.same at c.in_ok-id.ensures.id) c.in_ok-put_arm.ensures inv.arms;
+      arms = arm_on fs None arms c.loop-i.i _ _ _ _ _ _ _ _ c.loop-i-test.true c.index-arms-arms.is g
+          (rw inv.same at c.in_ok-id.ensures.id) c.in_ok-put_arm.ensures inv.arms;
     }
 
 -- ---- a choice
@@ -85,13 +91,17 @@ draw-draw_other-requires t c =
 
 pub draw-draw_arms-requires : goal.draw-draw_arms-requires
 draw-draw_arms-requires t c =
-    let drawable = rw (ap aoi.seen c.in-Union.is ∙ choice_seen c.in-Union.tag c.in-Union.arms c.in-Union.other) at c.requires in
-    (search (rules, the_lemmas), rw (c.in_ok-other-in-Union.ensures.grows.types, c.as_slice-in-Union.ensures) (arms_drawable_alone _ _ c.in-Union.arms ((both _ _ drawable).1)))
+    let drawable = rw (ap aoi.seen c.in-Union.is ∙ choice_seen c.in-Union.tag c.in-Union.arms c.in-Union.other) at c.requires in (
+      search (rules, the_lemmas),
+      rw (c.in_ok-other-in-Union.ensures.grows.types, c.as_slice-in-Union.ensures)
+          (arms_drawable_alone _ _ c.in-Union.arms ((both _ _ drawable).1)),
+    )
 
 pub draw-draw_choice-requires-clause-tag : goal.draw-draw_choice-requires-clause-tag
 draw-draw_choice-requires-clause-tag t c =
     let drawable = rw (ap aoi.seen c.in-Union.is ∙ choice_seen c.in-Union.tag c.in-Union.arms c.in-Union.other) at c.requires in
-    rw (c.in_ok-arms-in-Union.ensures.grows.types, c.in_ok-other-in-Union.ensures.grows.types, c.deref-in-Union.ensures) ((both _ _ drawable).0)
+    rw (c.in_ok-arms-in-Union.ensures.grows.types, c.in_ok-other-in-Union.ensures.grows.types, c.deref-in-Union.ensures)
+    ((both _ _ drawable).0)
 
 pub draw-returns-in_err-other-in-Union-clause-cause : goal.draw-returns-in_err-other-in-Union-clause-cause
 draw-returns-in_err-other-in-Union-clause-cause t c =
@@ -99,9 +109,11 @@ draw-returns-in_err-other-in-Union-clause-cause t c =
     let o = option_map (λ b. aoi.seen b.value) c.in-Union.other in
     let e = c.in_err-other-in-Union.field-0.0 in
     let arms = c.in-Union.arms in
-    let rest = made_behind fs (aoi.arms_seen arms None) ++ face_of fs (aoi.choice (aoi.seen c.in-Union.tag.value) (aoi.arms_seen arms o)) ∷ [] in
+    let rest = made_behind fs (aoi.arms_seen arms None) ++ face_of fs (aoi.choice (aoi.seen c.in-Union.tag.value) (aoi.arms_seen arms o))
+    ∷ [] in
     let seen_is = ap aoi.seen c.in-Union.is ∙ choice_seen c.in-Union.tag arms c.in-Union.other in
-    handed_on _ e _ c.from_residual.ensures.1 (rw seen_is (behind_overflows _ _ rest _ e (made_split fs o arms _) c.in_err-other-in-Union.ensures.cause))
+    handed_on _ e _ c.from_residual.ensures.1
+    (rw seen_is (behind_overflows _ _ rest _ e (made_split fs o arms _) c.in_err-other-in-Union.ensures.cause))
 
 pub draw-returns-in_err-arms-in-Union-clause-cause : goal.draw-returns-in_err-arms-in-Union-clause-cause
 draw-returns-in_err-arms-in-Union-clause-cause t c =
@@ -113,7 +125,8 @@ draw-returns-in_err-arms-in-Union-clause-cause t c =
     let seen_is = ap aoi.seen c.in-Union.is ∙ choice_seen c.in-Union.tag arms c.in-Union.other in
     let g = c.in_ok-other-in-Union.ensures.grows in
     handed_on _ e _ c.from_residual-in_err-arms-in-Union.ensures.1
-    (rw seen_is (next_overflows _ _ _ _ last _ e (made_split fs o arms _) g.nodes (rw (g.types, c.as_slice-in-Union.ensures) at c.in_err-arms-in-Union.ensures.cause)))
+    (rw seen_is (next_overflows _ _ _ _ last _ e (made_split fs o arms _) g.nodes
+    (rw (g.types, c.as_slice-in-Union.ensures) at c.in_err-arms-in-Union.ensures.cause)))
 
 choice_is : (t : ℕ) (c : goal.draw-After-draw_choice t)
     → choice (sign_in (face_of (known c.draw_arms.new.self) (aoi.seen c.deref-in-Union.result.now)))
@@ -136,7 +149,8 @@ draw-returns-in_ok-arms-in-Union-clause-grows t c =
     let g = c.in_ok-other-in-Union.ensures.grows in
     let h = rw (g.types, c.as_slice-in-Union.ensures) at c.in_ok-arms-in-Union.ensures.grows in
     let seen_is = ap aoi.seen c.in-Union.is ∙ choice_seen c.in-Union.tag c.in-Union.arms c.in-Union.other in
-    rw seen_is (on_ok _ _ _ (choice_nodes _ _ _ _ _ _ _ _ _ (behind_split fs o c.in-Union.arms) (choice_is t c) g h) c.draw_choice.ensures.grows)
+    rw seen_is (on_ok _ _ _ (choice_nodes _ _ _ _ _ _ _ _ _ (behind_split fs o c.in-Union.arms) (choice_is t c) g h)
+    c.draw_choice.ensures.grows)
 
 pub draw-returns-in_ok-arms-in-Union-clause-id : goal.draw-returns-in_ok-arms-in-Union-clause-id
 draw-returns-in_ok-arms-in-Union-clause-id t c =
@@ -151,5 +165,8 @@ draw-returns-in_ok-arms-in-Union-clause-cause t c =
     let h = rw (g.types, c.as_slice-in-Union.ensures) at c.in_ok-arms-in-Union.ensures.grows in
     let seen_is = ap aoi.seen c.in-Union.is ∙ choice_seen c.in-Union.tag c.in-Union.arms c.in-Union.other in
     let two = grows_twice _ _ _ _ _ g h in
-    let all = ap (λ z. z ++ face_of fs (aoi.choice (aoi.seen c.in-Union.tag.value) (aoi.arms_seen c.in-Union.arms o)) ∷ []) (behind_split fs o c.in-Union.arms) in
+    let all =
+    ap (λ z.
+    z ++ face_of fs (aoi.choice (aoi.seen c.in-Union.tag.value) (aoi.arms_seen c.in-Union.arms o)) ∷ [])
+    (behind_split fs o c.in-Union.arms) in
     rw seen_is (if_err _ _ _ (λ e h. last_overflows _ _ _ _ _ _ e all two.nodes h) c.draw_choice.ensures.cause)

@@ -13,8 +13,15 @@ pub loop-entry-init : goal.loop-entry-init
 loop-entry-init c = record {
   next = tt;
   finite = tt;
-  long = omega (arith, c.into_iter-entry-iterator.ensures.into_iter_gives.1, ap length c.into_iter-entry-iterator.ensures.into_iter_gives.0, c.into_entries-entry-items.result.ok.0);
-  stage = first_stage c.args.self _ _ _ _ c.new-mint.ensures c.new-pres.ensures c.into_iter-entry-iterator.ensures.into_iter_gives.0 c.into_entries-entry-items.ensures.nodes c.into_entries-entry-items.ensures.shapes;
+  long =
+      omega (
+        arith,
+        c.into_iter-entry-iterator.ensures.into_iter_gives.1,
+        ap length c.into_iter-entry-iterator.ensures.into_iter_gives.0,
+        c.into_entries-entry-items.result.ok.0,
+      );
+  stage = first_stage c.args.self _ _ _ _ c.new-mint.ensures c.new-pres.ensures c.into_iter-entry-iterator.ensures.into_iter_gives.0
+      c.into_entries-entry-items.ensures.nodes c.into_entries-entry-items.ensures.shapes;
   light = rw c.new-mint.ensures refl;
 }
 
@@ -41,13 +48,15 @@ loop-entry-preserved c =
     let is = c.into_entries-entry-items.ensures.sketch in
     let st = rw c.in-Some.ensures.steps.0 at c.loop-entry.invariant.stage in
     let whole = refusal_is s _ _ c.in-Some.entry _ is st c.requires.regular c.requires.shallow c.is_ranged.ensures in
-    let count : length c.add.new.mint ≡ length c.loop-entry.mint + 1 = ap length c.in_ok-add.ensures.ok ∙ length-append c.loop-entry.mint (c.in-Some.entry.node ∷ []) in
+    let count : length c.add.new.mint ≡ length c.loop-entry.mint + 1 = ap length c.in_ok-add.ensures.ok
+    ∙ length-append c.loop-entry.mint (c.in-Some.entry.node ∷ []) in
     record {
       next = tt;
       finite = tt;
       long = omega (arith, c.loop-entry.invariant.long, c.in-Some.ensures.steps.1, ap length c.in-Some.ensures.steps.0);
       stage = next_stage s _ _ _ _ c.in-Some.entry _ is st c.in_ok-add.ensures.ok c.in_ok-push.ensures.ok;
-      light = light_on (drawn s) (length c.loop-entry.mint) (length c.add.new.mint) count ((within s _ _ c.in-Some.entry _ is st).0) c.loop-entry.invariant.light (was_light _ _ whole c.in_ok-add.ensures.taken);
+      light = light_on (drawn s) (length c.loop-entry.mint) (length c.add.new.mint) count ((within s _ _ c.in-Some.entry _ is st).0)
+          c.loop-entry.invariant.light (was_light _ _ whole c.in_ok-add.ensures.taken);
     }
 
 none_left : (c : goal.After-drop-entry-iterator-2) → into_iter_items c.loop-entry.entry-iterator ≡ []
@@ -63,4 +72,5 @@ pub returns-clause-named : goal.returns-clause-named
 returns-clause-named c = rw (returns-clause-nodes c, returns-clause-shapes c) c.into_entries-entry-items.ensures.sketch.named
 
 pub returns-clause-light : goal.returns-clause-light
-returns-clause-light c = all_light c.args.self _ _ c.into_entries-entry-items.ensures.sketch (rw (none_left c) at c.loop-entry.invariant.stage) c.loop-entry.invariant.light
+returns-clause-light c = all_light c.args.self _ _ c.into_entries-entry-items.ensures.sketch
+    (rw (none_left c) at c.loop-entry.invariant.stage) c.loop-entry.invariant.light

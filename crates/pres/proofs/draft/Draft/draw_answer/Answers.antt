@@ -35,4 +35,6 @@ pub returns-clause-cause : goal.returns-clause-cause
 returns-clause-cause c =
     let fs = known c.args.self.now in
     let op = plain_operation c.args.op.now in
-    cause_last c.push-2.result (drawn c.args.self.now) (drawn c.draw_fields.new.self) (made fs op.result ++ made_inside fs op.outs) (values (parts_at (drawn c.draw_fields.new.self) [] c.append.new.self)) (answer_of fs op) (both_grow c).nodes c.push-2.ensures.cause
+    cause_last c.push-2.result (drawn c.args.self.now) (drawn c.draw_fields.new.self) (made fs op.result ++ made_inside fs op.outs)
+    (values (parts_at (drawn c.draw_fields.new.self) [] c.append.new.self)) (answer_of fs op) (both_grow c).nodes
+    c.push-2.ensures.cause

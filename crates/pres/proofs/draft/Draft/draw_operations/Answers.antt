@@ -16,6 +16,7 @@ loop-op-preserved c =
     record {
       same = g.types ∙ inv.same;
       nodes = op_nodes fs ops i op _ _ _ lt is inv.nodes (rw inv.same at g.nodes);
-      listed = op_listed fs c.args.back c.args.k ops i op _ _ _ _ _ c.in_ok-op.op _ lt is g (rw inv.same at c.in_ok-op.ensures.op) c.in_ok-push.ensures.ok inv.listed;
+      listed = op_listed fs c.args.back c.args.k ops i op _ _ _ _ _ c.in_ok-op.op _ lt is g (rw inv.same at c.in_ok-op.ensures.op)
+          c.in_ok-push.ensures.ok inv.listed;
       left = (op_left _ ops i op lt is inv.left).1;
     }

@@ -24,12 +24,14 @@ loop-k-preserved c =
     record {
       same = g.types ∙ inv.same;
       nodes = raise_nodes fs rs i r _ _ _ lt is inv.nodes (rw inv.same at g.nodes);
-      arms = raise_arms fs rs i r _ _ _ _ _ _ _ _ lt is g d (to_z-of_z w128 _ fits ∙ c.arm_number.ensures) c.in_ok-push-2.ensures.ok inv.arms;
+      arms = raise_arms fs rs i r _ _ _ _ _ _ _ _ lt is g d (to_z-of_z w128 _ fits ∙ c.arm_number.ensures) c.in_ok-push-2.ensures.ok
+          inv.arms;
       left = (raise_left _ rs i r lt is inv.left).1;
     }
 
 pub returns-clause-arms : goal.returns-clause-arms
 returns-clause-arms c =
     let over : raised (known c.args.self.now) (1 + c.loop-k.k) (map plain_raise (drop c.loop-k.k c.args.raises.now)) ≡ no_other =
-    ap (λ z. raised (known c.args.self.now) (1 + c.loop-k.k) (map plain_raise z)) (drop_of_length-le c.args.raises.now c.loop-k-test.false) in
+    ap (λ z.
+    raised (known c.args.self.now) (1 + c.loop-k.k) (map plain_raise z)) (drop_of_length-le c.args.raises.now c.loop-k-test.false) in
     raises_end _ _ _ (rw over at c.loop-k.invariant.arms)

@@ -9,7 +9,9 @@ use Rattle.pres.proofs.draft.Draft.draw_unit.Goals as goal
 pub returns-in_err-draw_types-clause-cause : goal.returns-in_err-draw_types-clause-cause
 returns-in_err-draw_types-clause-cause c =
     let e = c.in_err-draw_types.field-0.0 in
-    handed_on _ e _ c.from_residual.ensures.1 (overflows_more _ _ e (rw (c.as_slice.ensures, c.types.ensures) at c.in_err-draw_types.ensures.cause) (types_first c.args.unit.now c.args.back))
+    handed_on _ e _ c.from_residual.ensures.1
+    (overflows_more _ _ e (rw (c.as_slice.ensures, c.types.ensures) at c.in_err-draw_types.ensures.cause)
+    (types_first c.args.unit.now c.args.back))
 
 pub draw_types-requires-clause-drawable : goal.draw_types-requires-clause-drawable
 draw_types-requires-clause-drawable c = rw (c.as_slice.ensures, c.types.ensures) (types_drawn c.args.unit.now c.requires.drawable.types)
@@ -24,7 +26,10 @@ returns-clause-nodes c =
     let u = c.args.unit.now in
     let nodes = rw (c.as_slice.ensures, c.types.ensures) at c.in_ok-draw_types.ensures.nodes in
     let types = rw (c.as_slice.ensures, c.types.ensures) at c.in_ok-draw_types.ensures.types in
-    let all = ap (λ z. drawn c.draw_types.new.self ++ made_in_interfaces (known c.draw_types.new.self) c.args.back (map plain_interface z)) (c.as_slice-2.ensures ∙ c.interfaces.ensures) ∙ all_nodes u c.args.back _ _ nodes types in
+    let all =
+    ap (λ z.
+    drawn c.draw_types.new.self ++ made_in_interfaces (known c.draw_types.new.self) c.args.back (map plain_interface z))
+    (c.as_slice-2.ensures ∙ c.interfaces.ensures) ∙ all_nodes u c.args.back _ _ nodes types in
     on_ok _ _ _ (λ (g : Grows _ _ _). g.nodes ∙ all) c.draw_interfaces.ensures.grows
 
 pub returns-clause-offers : goal.returns-clause-offers
@@ -38,5 +43,8 @@ returns-clause-cause c =
     let u = c.args.unit.now in
     let nodes = rw (c.as_slice.ensures, c.types.ensures) at c.in_ok-draw_types.ensures.nodes in
     let types = rw (c.as_slice.ensures, c.types.ensures) at c.in_ok-draw_types.ensures.types in
-    let all = ap (λ z. drawn c.draw_types.new.self ++ made_in_interfaces (known c.draw_types.new.self) c.args.back (map plain_interface z)) (c.as_slice-2.ensures ∙ c.interfaces.ensures) ∙ all_nodes u c.args.back _ _ nodes types in
+    let all =
+    ap (λ z.
+    drawn c.draw_types.new.self ++ made_in_interfaces (known c.draw_types.new.self) c.args.back (map plain_interface z))
+    (c.as_slice-2.ensures ∙ c.interfaces.ensures) ∙ all_nodes u c.args.back _ _ nodes types in
     rw (← all) c.draw_interfaces.ensures.cause

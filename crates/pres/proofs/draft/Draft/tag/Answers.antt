@@ -6,4 +6,5 @@ use Rattle.pres.proofs.Drawn.{sign_by}
 use Rattle.pres.proofs.draft.Draft.tag.Goals as goal
 
 pub returns-in-None-clause-sign : goal.returns-in-None-clause-sign
-returns-in-None-clause-sign c = ap number (c.unwrap_or.ensures ∙ ap (λ z. unwrap_or z kind.U32) c.kind.ensures) ∙ sign_by _ c.in-None.ensures.value
+returns-in-None-clause-sign c =
+    ap number (c.unwrap_or.ensures ∙ ap (λ z. unwrap_or z kind.U32) c.kind.ensures) ∙ sign_by _ c.in-None.ensures.value

@@ -16,8 +16,14 @@ pass-requires c =
     let f = c.args.self.now.front in
     let wide : c.width.result ≡ width c.args.row.now.kind = c.width.ensures ∙ ap width c.kind.ensures.value in
     let so : c.store_swapped.new.self.front ≡ swapped (width c.args.row.now.kind) o ++ drop (length o) f =
-    c.store_swapped.ensures.front ∙ (λ i. swapped (wide i) (c.image-image.ensures.value i) ++ drop (length (c.image-image.ensures.value i)) f) in
-    omega (arith, ap length c.image-image.ensures.value, swapped_fits (width c.args.row.now.kind) o f c.store_swapped.new.self.front c.requires.width (image_whole c.args.row.now.kind c.args.row.now.numbers) so)
+    c.store_swapped.ensures.front
+    ∙ (λ i. swapped (wide i) (c.image-image.ensures.value i) ++ drop (length (c.image-image.ensures.value i)) f) in
+    omega (
+      arith,
+      ap length c.image-image.ensures.value,
+      swapped_fits (width c.args.row.now.kind) o f c.store_swapped.new.self.front
+          c.requires.width (image_whole c.args.row.now.kind c.args.row.now.numbers) so,
+    )
 
 pub returns-clause-done : goal.returns-clause-done
 returns-clause-done c =
@@ -25,9 +31,13 @@ returns-clause-done c =
     let f = c.args.self.now.front in
     let wide : c.width.result ≡ width c.args.row.now.kind = c.width.ensures ∙ ap width c.kind.ensures.value in
     let so : c.store_swapped.new.self.front ≡ swapped (width c.args.row.now.kind) o ++ drop (length o) f =
-    c.store_swapped.ensures.front ∙ (λ i. swapped (wide i) (c.image-image.ensures.value i) ++ drop (length (c.image-image.ensures.value i)) f) in
-    let there = swapped_done (width c.args.row.now.kind) o f c.store_swapped.new.self.front c.requires.width (image_whole c.args.row.now.kind c.args.row.now.numbers) so in
-    c.count_row.ensures.done ∙ c.pass.ensures.done ∙ (λ i. c.store_swapped.ensures.done i ++ take (length (c.image-image.ensures.value i)) c.store_swapped.new.self.front) ∙ ap (λ z. c.args.self.now.done ++ z) there
+    c.store_swapped.ensures.front
+    ∙ (λ i. swapped (wide i) (c.image-image.ensures.value i) ++ drop (length (c.image-image.ensures.value i)) f) in
+    let there = swapped_done (width c.args.row.now.kind) o f c.store_swapped.new.self.front c.requires.width
+    (image_whole c.args.row.now.kind c.args.row.now.numbers) so in
+    c.count_row.ensures.done ∙ c.pass.ensures.done
+    ∙ (λ i. c.store_swapped.ensures.done i ++ take (length (c.image-image.ensures.value i)) c.store_swapped.new.self.front) ∙ ap (λ z.
+    c.args.self.now.done ++ z) there
 
 pub returns-clause-front : goal.returns-clause-front
 returns-clause-front c =
@@ -35,6 +45,9 @@ returns-clause-front c =
     let f = c.args.self.now.front in
     let wide : c.width.result ≡ width c.args.row.now.kind = c.width.ensures ∙ ap width c.kind.ensures.value in
     let so : c.store_swapped.new.self.front ≡ swapped (width c.args.row.now.kind) o ++ drop (length o) f =
-    c.store_swapped.ensures.front ∙ (λ i. swapped (wide i) (c.image-image.ensures.value i) ++ drop (length (c.image-image.ensures.value i)) f) in
-    let there = swapped_left (width c.args.row.now.kind) o f c.store_swapped.new.self.front c.requires.width (image_whole c.args.row.now.kind c.args.row.now.numbers) so in
-    c.count_row.ensures.front ∙ c.pass.ensures.front ∙ ap (λ z. drop (length z) c.store_swapped.new.self.front) c.image-image.ensures.value ∙ there
+    c.store_swapped.ensures.front
+    ∙ (λ i. swapped (wide i) (c.image-image.ensures.value i) ++ drop (length (c.image-image.ensures.value i)) f) in
+    let there = swapped_left (width c.args.row.now.kind) o f c.store_swapped.new.self.front c.requires.width
+    (image_whole c.args.row.now.kind c.args.row.now.numbers) so in
+    c.count_row.ensures.front ∙ c.pass.ensures.front
+    ∙ ap (λ z. drop (length z) c.store_swapped.new.self.front) c.image-image.ensures.value ∙ there

@@ -9,11 +9,15 @@ pub returns-clause-front : goal.returns-clause-front
 returns-clause-front c =
     let memory = c.self.inside.memory.items in
     let image = c.args.image.now in
-    rw (← c.self.view_is, c.swap_at.ensures) (front-written_first memory (swapped c.args.width image) c.self.inside.len c.self.inside.ahead (length image) c.self.invariant (length-swapped c.args.width image c.requires.width c.requires.whole) (grind (arith, common_steps)))
+    rw (← c.self.view_is, c.swap_at.ensures)
+    (front-written_first memory (swapped c.args.width image) c.self.inside.len c.self.inside.ahead (length image) c.self.invariant
+    (length-swapped c.args.width image c.requires.width c.requires.whole) (grind (arith, common_steps)))
 
 pub returns-clause-room : goal.returns-clause-room
 returns-clause-room c =
     let memory = c.self.inside.memory.items in
     let image = c.args.image.now in
     let fits : c.self.inside.len + length image ≤ length memory = grind (arith, common_steps) in
-    rw (← c.self.view_is, c.swap_at.ensures) (length-written memory (swapped c.args.width image) c.self.inside.len (omega (arith, fits, length-swapped c.args.width image c.requires.width c.requires.whole)))
+    rw (← c.self.view_is, c.swap_at.ensures)
+    (length-written memory (swapped c.args.width image) c.self.inside.len
+    (omega (arith, fits, length-swapped c.args.width image c.requires.width c.requires.whole)))
