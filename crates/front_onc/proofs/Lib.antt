@@ -1,6 +1,6 @@
 -- The proofs, each after those that it uses; * marks those that the proofs of functions use.
 
---
+-- Worked rows: what short files resolve to
 mod Rows
 -- * Names in a map or a set of indexmap, as lists
 pub mod Tables

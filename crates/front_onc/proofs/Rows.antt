@@ -1,3 +1,4 @@
+-- Worked rows: what short files resolve to
 use Rattle.std.proofs.Common.{◌≡◌, [], ◌∷◌, None, false, refl}
 use Rattle.std.specs.Prelude.{pos, codes, Ok}
 use Rattle.mint.specs.declared.kind.Kind.TheVariants as kind
