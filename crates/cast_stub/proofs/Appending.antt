@@ -1,4 +1,4 @@
--- A code behind a code, and an operation as a piece in front of others.
+-- A code after a code, and an operation as a piece before others.
 use Rattle.std.proofs.Common.{◌≡◌, List, [], ◌∷◌, ◌++◌, length, if◌then◌else◌, ◌+◌, ◌*◌, subst, Some, None, refl, sym, ap, ◌∙◌, append_assoc}
 use Rattle.mint.specs.Values.{Val, arm_in}
 use Rattle.wire_def.specs.declared.head.Head.{Head}
@@ -23,7 +23,7 @@ both_first (Some x) = refl
 regrouped : (x y z w : Steps) → y ≡ both z w → both x y ≡ both (both x z) w
 regrouped x y z w e = ap (both x) e ∙ sym (both_assoc x z w)
 
--- ---- one code behind another
+-- ---- one code after another
 
 pub steps-append : (c : Calls) (h : Head) (a b : Block) (v : Val) → steps c h (append a b) v ≡ both (steps c h a v) (steps c h b v)
 steps-append c h stop b v = sym (both_first (steps c h b v))
@@ -110,7 +110,7 @@ append-assoc (if_there p w r) b c = ap (if_there p w) (append-assoc r b c)
 append-assoc (call k p r) b c = ap (call k p) (append-assoc r b c)
 append-assoc (patch x s o r) b c = ap (patch x s o) (append-assoc r b c)
 
--- operations behind operations
+-- operations after operations
 pub code_seen-append : (a b : List SendOp) → code_seen (a ++ b) ≡ append (code_seen a) (code_seen b)
 code_seen-append [] b = refl
 code_seen-append (o ∷ a) b = ap (op_seen o) (code_seen-append a b) ∙ sym (op-append o (code_seen a) (code_seen b))

@@ -1,4 +1,4 @@
--- The calls that are run: of blocks one behind the other, without ensures, and of code without calls.
+-- The calls that are run: of blocks one after the other, without ensures, and of code without calls.
 use Rattle.std.proofs.Common.{◌≡◌, ℕ, zero, suc, ℤ, pos, List, [], ◌∷◌, ◌++◌, Option, Some, None, refl, sym, ap, ◌∙◌, append_assoc, Bool, true, false, if◌then◌else◌}
 use Rattle.std.specs.Ordering.{int_eq}
 use Rattle.mint.specs.Values.{Val, void, num, row, group, items, arm, absent, present, Vals, no_more, val, arm_in}
@@ -9,7 +9,7 @@ use Rattle.cast_stub.specs.Entered.{Entries, of_some, of_each, of_present, enter
 use Rattle.cast_stub.specs.Kept.{unensured, cases_unensured}
 use Rattle.cast_stub.specs.Laws.{CallsInTurn, EnsuresRunNoCall, NoCallRunsNone}
 
--- ---- one behind the other
+-- ---- one after the other
 
 behind : (x a b c : List ℕ) → a ≡ b ++ c → x ++ a ≡ (x ++ b) ++ c
 behind x a b c e = ap (λ (l : List ℕ). x ++ l) e ∙ sym (append_assoc x b c)

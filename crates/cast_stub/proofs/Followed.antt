@@ -16,7 +16,7 @@ pub own : (F : Going) (below : ℕ) (p : List ℕ) (b : Block) → Child no_subs
 own F below p b (inl f) = f
 own F below p b (inr c) = absurd (let none = c.4 in cc)
 
--- what is there behind a function was there before it
+-- what is there after a function was there before it
 pub mapped : (f : ℕ → ℕ) (x : Option ℕ) (n : ℕ) → option_map f x ≡ Some n → (m : ℕ) × (x ≡ Some m)
 mapped f None n e = absurd cc
 mapped f (Some m) n e = (m, refl)

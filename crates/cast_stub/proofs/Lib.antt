@@ -1,8 +1,8 @@
 -- The proofs, each after those that it uses; * marks those that the proofs of functions use.
 
--- * A code behind a code, and an operation as a piece in front of others
+-- * A code after a code, and an operation as a piece before others
 pub mod Appending
--- * A receive code behind a receive code, and an operation as a piece in front of others
+-- * A receive code after a receive code, and an operation as a piece before others
 pub mod RecvAppending
 -- * One operation more after a code
 pub mod Adding
@@ -16,9 +16,9 @@ pub mod Pieces
 pub mod Putting
 -- Code that puts a number of the head, and the heads that it is covered for
 mod Covering
--- * The calls that are run: of blocks one behind the other, without ensures, and of code without calls
+-- * The calls that are run: of blocks one after the other, without ensures, and of code without calls
 pub mod Entering
--- * What steps behind steps write and cost, and room that is more than enough
+-- * What steps after steps write and cost, and room that is more than enough
 pub mod Folding
 -- Code that goes through a type: a child's own code, and no row operation
 pub mod Followed

@@ -1,4 +1,4 @@
--- A receive code behind a receive code, and an operation as a piece in front of others.
+-- A receive code after a receive code, and an operation as a piece before others.
 use Rattle.std.proofs.Common.{◌≡◌, List, [], ◌∷◌, ◌++◌, subst, refl, sym, ap, ◌∙◌}
 use Rattle.cast_stub.specs.declared.recv.RecvOp.{RecvOp, out-RecvOp, map-RecvOp, fold_out-RecvOp}
 use Rattle.cast_stub.specs.declared.recv.RecvOp.TheOpen.{RecvOp-F}
@@ -21,7 +21,7 @@ then_same (gives y t) f g e = e y t
 then_same refuses f g e = refl
 then_same strays f g e = refl
 
--- ---- one code behind another
+-- ---- one code after another
 
 pub fill-append : (c : Callees) (a b : Recv) (d : Draft) (s : Place) → fill c (append a b) d s ≡ then_run (fill c a d s) (fill c b)
 fill-append c finish b d s = refl
@@ -101,7 +101,7 @@ append-assoc (switch p cs r) b c = ap (switch p cs) (append-assoc r b c)
 append-assoc (if_there p w r) b c = ap (if_there p w) (append-assoc r b c)
 append-assoc (call k p r) b c = ap (call k p) (append-assoc r b c)
 
--- operations behind operations
+-- operations after operations
 pub code_seen-append : (a b : List RecvOp) → code_seen (a ++ b) ≡ append (code_seen a) (code_seen b)
 code_seen-append [] b = refl
 code_seen-append (o ∷ a) b = ap (op_seen o) (code_seen-append a b) ∙ sym (op-append o (code_seen a) (code_seen b))

@@ -130,7 +130,7 @@ module _ (x : Draft) where
   put_same (n ∷ p) (flagged t) e = absurd cc
   put_same (n ∷ p) (done v) e = absurd cc
 
--- ---- one operation, and those behind it
+-- ---- one operation, and those after it
 
 -- what is done to the whole is what is done to the part, put back
 abbrev pub Lifts : List ℕ → Filler → Filler → Type 0

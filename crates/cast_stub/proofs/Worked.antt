@@ -132,7 +132,7 @@ in_order = (
   inl (1, refl, omega arith),
 )
 
--- the type of the part at a path, and none behind the last field or below a scalar
+-- the type of the part at a path, and none after the last field or below a scalar
 a_part_type : ty_at (1 ∷ 0 ∷ [])
     (group_type (field void_type (field (group_type (field (scalar_type (number I64)) no_fields)) no_fields)))
     ≡ Some (scalar_type (number I64))

@@ -1,10 +1,10 @@
--- Code behind code, and code for a part as code for the whole.
+-- Code after code, and code for a part as code for the whole.
 use Rattle.std.specs.Prelude.{ℕ, List, ◌++◌, map}
 use Rattle.cast_stub.specs.declared.put.Put.{Put}
 use Rattle.cast_stub.specs.declared.put.Put.TheVariants as put
 use Rattle.cast_stub.specs.Block.{Block, stop, ensure, ensure_row, align, chunk, row_copy, row_swap, row_wide, each, switch, if_there, call, patch}
 
--- a block behind a block
+-- a block after a block
 abbrev pub append : Block → Block → Block
 append stop b = b
 append (ensure n r) b = ensure n (append r b)
@@ -20,7 +20,7 @@ append (if_there p a r) b = if_there p a (append r b)
 append (call k p r) b = call k p (append r b)
 append (patch a s o r) b = patch a s o (append r b)
 
--- a put with a path in front of its own
+-- a put with a path before its own
 abbrev pub put_rebased : List ℕ → Put → Put
 put_rebased q (put.Num off p w o) = put.Num off (q ++ p) w o
 put_rebased q (put.Tag off p w o) = put.Tag off (q ++ p) w o
@@ -30,7 +30,7 @@ put_rebased q (put.Short off p name size m) = put.Short off (q ++ p) name size m
 put_rebased q (put.Const off os) = put.Const off os
 put_rebased q (put.Head off f w o) = put.Head off f w o
 
--- a block with a path in front of its own; bodies go by their own current value
+-- a block with a path before its own; bodies go by their own current value
 abbrev pub rebase : List ℕ → Block → Block
 rebase q stop = stop
 rebase q (ensure n r) = ensure n (rebase q r)

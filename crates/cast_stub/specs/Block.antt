@@ -26,11 +26,11 @@ mutual
     default : Block → Cases
     case : ℤ → Block → Cases → Cases
 
--- an operation, in front of what follows it
+-- an operation, before what follows it
 abbrev pub Piece : Type 0
 Piece = Block → Block
 
--- pieces one behind the other
+-- pieces one after the other
 abbrev pub joined : List Piece → Block
 joined [] = stop
 joined (o ∷ os) = o (joined os)

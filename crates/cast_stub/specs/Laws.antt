@@ -22,7 +22,7 @@ use Rattle.cast_stub.specs.Kept.{unensured}
 use Rattle.cast_stub.specs.Steps.{Step, Calls, both, steps}
 use Rattle.cast_stub.specs.Meaning.{wrote, costs, sum, HasRoom}
 
--- the steps of a block behind a block
+-- the steps of a block after a block
 abbrev pub CodeBehindCode : Type 0
 CodeBehindCode = (c : Calls) (h : Head) (a b : Block) (v : Val) → steps c h (append a b) v ≡ both (steps c h a v) (steps c h b v)
 
@@ -34,15 +34,15 @@ CodeForPart = (c : Calls) (h : Head) (q : List ℕ) (b : Block) (v w : Val) → 
 abbrev pub MoreRoom : Type 0
 MoreRoom = (p a b : ℕ) (ss : List Step) → a ≤ b → HasRoom p a ss → HasRoom p b ss
 
--- what steps behind steps write
+-- what steps after steps write
 abbrev pub WrittenInTurn : Type 0
 WrittenInTurn = (base : ℕ) (o : List ℕ) (a b : List Step) → wrote base o (a ++ b) ≡ on_some (wrote base o a) (λ p. wrote base p b)
 
--- what steps behind steps cost
+-- what steps after steps cost
 abbrev pub CostsAdd : Type 0
 CostsAdd = (a b : List Step) → costs (a ++ b) ≡ sum (costs a) (costs b)
 
--- the calls that a block behind a block runs
+-- the calls that a block after a block runs
 abbrev pub CallsInTurn : Type 0
 CallsInTurn = (e : Entries) (a b : Block) (v : Val) → entered e (append a b) v ≡ entered e a v ++ entered e b v
 

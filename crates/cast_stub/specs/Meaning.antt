@@ -22,7 +22,7 @@ patched base at sub order o =
     if nat_le base at && nat_le (at + 4) (base + length o)
     then Some (written o (at - base) (in_order order 4 ((base + length o + 2 ^ 32 - sub) % 2 ^ 32))) else None
 
--- octets that stand from a base on, and behind them what the steps append
+-- octets that stand from a base on, and after them what the steps append
 abbrev pub wrote : ℕ → List ℕ → List Step → Option (List ℕ)
 wrote base o [] = Some o
 wrote base o (Room n ∷ ss) = wrote base o ss

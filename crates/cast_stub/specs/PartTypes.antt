@@ -33,7 +33,7 @@ abbrev pub present_type : Ty → Option Ty
 present_type (maybe_type t) = Some t
 present_type _ = None
 
--- the types behind a tag
+-- the types after a tag
 abbrev pub arms_type : Ty → Option Arms
 arms_type (choice_type s arms) = Some arms
 arms_type _ = None

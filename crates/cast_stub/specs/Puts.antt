@@ -69,7 +69,7 @@ placed zero (o ∷ os) (c ∷ cs) = option_map (λ ds. Some o ∷ ds) (placed ze
 placed (suc n) os [] = None
 placed (suc n) os (c ∷ cs) = option_map (λ ds. c ∷ ds) (placed n os cs)
 
--- cells behind one put; a later put stands over an earlier one
+-- cells after one put; a later put stands over an earlier one
 abbrev pub put_one : Head → Val → Put → Cells → Option Cells
 put_one h v p cs = on_some (put_octets h p v) (λ os. placed (offset p) os cs)
 

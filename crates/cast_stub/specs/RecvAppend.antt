@@ -1,10 +1,10 @@
--- Receive code behind receive code, and code for a part as code for the whole.
+-- Receive code after receive code, and code for a part as code for the whole.
 use Rattle.std.specs.Prelude.{ℕ, List, ◌++◌, map}
 use Rattle.cast_stub.specs.declared.recv.Get.{Get}
 use Rattle.cast_stub.specs.declared.recv.Get.TheVariants as get
 use Rattle.cast_stub.specs.RecvBlock.{Recv, finish, need, need_row, skip_any, skip_zero, pass, desc, row_block, row_wide, each, switch, if_there, call}
 
--- a block behind a block
+-- a block after a block
 abbrev pub append : Recv → Recv → Recv
 append finish b = b
 append (need n r) b = need n (append r b)
@@ -20,7 +20,7 @@ append (switch p cs r) b = switch p cs (append r b)
 append (if_there p a r) b = if_there p a (append r b)
 append (call k p r) b = call k p (append r b)
 
--- a get with a path in front of its own
+-- a get with a path before its own
 abbrev pub get_rebased : List ℕ → Get → Get
 get_rebased q (get.Num off p w o) = get.Num off (q ++ p) w o
 get_rebased q (get.Tag off p w o) = get.Tag off (q ++ p) w o
@@ -28,7 +28,7 @@ get_rebased q (get.Flag off p w o) = get.Flag off (q ++ p) w o
 get_rebased q (get.Count off p m a w o) = get.Count off (q ++ p) m a w o
 get_rebased q (get.Const off os) = get.Const off os
 
--- a block with a path in front of its own; bodies go by their own current value
+-- a block with a path before its own; bodies go by their own current value
 abbrev pub rebase : List ℕ → Recv → Recv
 rebase q finish = finish
 rebase q (need n r) = need n (rebase q r)

@@ -26,11 +26,11 @@ mutual
     default : Recv → Cases
     case : ℤ → Recv → Cases → Cases
 
--- an operation, in front of what follows it
+-- an operation, before what follows it
 abbrev pub Piece : Type 0
 Piece = Recv → Recv
 
--- pieces one behind the other
+-- pieces one after the other
 abbrev pub joined : List Piece → Recv
 joined [] = finish
 joined (o ∷ os) = o (joined os)

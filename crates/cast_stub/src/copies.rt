@@ -95,7 +95,7 @@ pub fn copy_last(alloc: Global, last: &Option<SendOps>) -> Result<Option<SendOps
     }
 }
 
-/// Puts the same operations behind those of `out`.
+/// Puts the same operations after those of `out`.
 pub fn put_copies(alloc: Global, ops: &SendOps, out: &mut SendOps) -> Result<(), NoMemory>
     ensures { OnOk result (out.new ≡ out.old ++ ops.now) }
 {

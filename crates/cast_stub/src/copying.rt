@@ -1,4 +1,4 @@
-//! Copies of what operations hold, for a part of the value; and operations put one behind the other.
+//! Copies of what operations hold, for a part of the value; and operations put one after the other.
 
 ghost use Rattle.std.specs.Prelude.{◌≡◌, [], ◌∷◌, ◌++◌, map, OnOk, IfOk};
 ghost use Rattle.cast_stub.specs.Append.{append, put_rebased};
@@ -77,7 +77,7 @@ pub fn puts_behind(alloc: Global, prefix: &Path, puts: &Puts) -> Result<Puts, No
     Ok(copy)
 }
 
-/// Puts an operation behind the last.
+/// Puts an operation after the last.
 #[tactic(auto, using(crate::proofs::Adding::adding))]
 pub fn add(out: &mut SendOps, op: SendOp) -> Result<(), NoMemory>
     ensures { OnOk result (code_seen out.new ≡ append (code_seen out.old) (op_seen op stop)) }

@@ -1,13 +1,13 @@
 // The laws of stub code, each the contract of a function that does nothing.
 ghost use Rattle.cast_stub.specs.Laws.{CallsInTurn, CodeBehindCode, CodeForPart, CostsAdd, EnsuresRunNoCall, MoreRoom, NoCallRunsNone, WrittenInTurn};
 
-/// The steps of code behind code are the steps of the first and then those of the second.
+/// The steps of code after code are the steps of the first and then those of the second.
 pub fn code_behind_code()
     ensures { CodeBehindCode }
 {}
 
 /// Code that is made for a part of a value does the same on the whole, once the part's path stands
-/// in front of its paths.
+/// before its paths.
 pub fn code_for_a_part()
     ensures { CodeForPart }
 {}
@@ -17,17 +17,17 @@ pub fn more_room_never_harms()
     ensures { MoreRoom }
 {}
 
-/// Steps behind steps write behind what the first have written.
+/// Steps after steps write after what the first have written.
 pub fn steps_write_in_turn()
     ensures { WrittenInTurn }
 {}
 
-/// Steps behind steps cost the sum.
+/// Steps after steps cost the sum.
 pub fn costs_add_up()
     ensures { CostsAdd }
 {}
 
-/// Code behind code runs the calls of the first and then those of the second.
+/// Code after code runs the calls of the first and then those of the second.
 pub fn calls_run_in_turn()
     ensures { CallsInTurn }
 {}

@@ -77,7 +77,7 @@ names_is s names is scope = record { types = is.types; scope = scope; labels = i
 
 -- ---- one more type
 
--- what a state has to be so that a type may be put behind the others
+-- what a state has to be so that a type may be put after the others
 record Takes (s : State) (new : Shape) (t : Tag) : Type 0 where
   types : are_sound_types (shapes_of s) 0 (shapes_of s) ≡ true
   sound : is_sound_type (shapes_of s) (length (shapes_of s)) new ≡ true
@@ -86,7 +86,7 @@ record Takes (s : State) (new : Shape) (t : Tag) : Type 0 where
   labels : (k : ℕ) (n : ℤ) → length (shapes_of s) < k → is_label k n s.labels ≡ false
   exceptions : RaisesAre (length (shapes_of s)) s.exceptions
 
--- what a type behind the others makes of a state
+-- what a type after the others makes of a state
 pub record TypedIs (s : State) (t : Tag) (out : State) : Type 0 where
   pub is : StateIs out
   pub used : UseIs (shapes_of out) out.labels (use_.Declared (length s.types) t)

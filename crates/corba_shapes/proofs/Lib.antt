@@ -1,6 +1,6 @@
 -- The proofs, each after those that it uses; * marks those that the proofs of functions use.
 
--- Types that stay sound when types are put behind the others: numbers, texts, names, and rows of these
+-- Types that stay sound when types are put after the others: numbers, texts, names, and rows of these
 pub mod Lasting
 -- What the names of a file stand for, over the types so far
 pub mod Standing

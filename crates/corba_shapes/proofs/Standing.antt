@@ -80,7 +80,7 @@ apart_by : (b : Bool) (x : Meaning) (o p : Option Meaning) (T : Type 0) → is_s
 apart_by true x o p T h f = absurd cc
 apart_by false x o p T h f = f h
 
--- what is not declared behind one more name was not before, and is another
+-- what is not declared after one more name was not before, and is another
 pub apart : (q other : List ℕ) (m : Meaning) (es : Meanings) → is_declared q (es ++ (other, m) ∷ []) ≡ false → (is_declared q es ≡ false)
     × (bytes_eq q other ≡ false)
 apart q other m [] h = let a = last_by q other m (bytes_eq q other) refl h in (refl, a.last)

@@ -30,14 +30,14 @@ aliased_on d env s (A.Struct t) = and_then (struct_on d env s t) (λ r. Ok (r, n
 aliased_on d env s (A.Union u) = and_then (union_on d env s u) (λ r. Ok (r, next_form s tag.Other))
 aliased_on d env s (A.Enum e) = and_then (enum_on d env s e) (λ r. Ok (r, next_form s (tag.Enum (length s.types))))
 
--- a name of a type, tested where it stands, and declared at the end of its declarator
+-- a name of a type, tested where it is, and declared at the end of its declarator
 abbrev pub alias_on : ℕ → List (List ℕ) → Form → State → Declarator → Answer State
 alias_on d env f s x =
     and_then (refused_by d (clash s.names (innermost env) x.name.name)) (λ _.
     and_then (lengths_on s.names env d [] x.dimensions) (λ ns.
     with_type d env x.name.name (form_shape f ns) (form_tag f ns) (form_text f ns) s))
 
--- names of a type behind those that stand before them
+-- names of a type after those before them
 abbrev pub aliases_on : ℕ → List (List ℕ) → Form → State → List Declarator → Answer State
 aliases_on d env f s [] = Ok s
 aliases_on d env f s (x ∷ xs) = and_then (alias_on d env f s x) (λ s. aliases_on d env f s xs)

@@ -49,7 +49,7 @@ abbrev pub fits : List (ℕ × ℤ) → Core → Constant → Bool
 fits labels c (V.Number n) = is_of labels (core_tag c) n
 fits labels c (V.Text n) = is_text (core_text c) n
 
--- a name with the value of an expression; it is tested where it stands, and declared behind its value
+-- a name with the value of an expression; it is tested where it is, and declared after its value
 abbrev pub constant_on : ℕ → List (List ℕ) → State → ConstantTree → Answer State
 constant_on d env s c =
     and_then (constant_core s.names env d c.of) (λ t.

@@ -14,7 +14,7 @@ use Rattle.corba_shapes.specs.Unions.{union_on}
 use Rattle.corba_shapes.specs.Aliases.{typedef_on}
 use Rattle.corba_shapes.specs.Constants.{constant_on}
 
--- what is declared behind a declaration, by its number and the scopes around it
+-- what is declared after a declaration, by its number and the scopes around it
 abbrev pub declaration_on : ℕ → List (List ℕ) → State → Declaration → Answer State
 declaration_on d env s (D.Typedef t) = typedef_on d env s t
 declaration_on d env s (D.Struct t) = struct_on d env s t

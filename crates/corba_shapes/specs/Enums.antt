@@ -34,7 +34,7 @@ pub record Items : Type 0 where
   pub labels : List (ℕ × ℤ)
   pub items : List (List ℕ × ℤ)
 
--- items of the k-th type behind those that stand before them: each is a constant, whose number is its place
+-- items of the k-th type after those before them: each is a constant, whose number is its place
 abbrev pub items_on : ℕ → List ℕ → ℕ → ℕ → Items → List Identifier → Answer Items
 items_on d scope k place s [] = Ok s
 items_on d scope k place s (i ∷ is) =
@@ -42,7 +42,7 @@ items_on d scope k place s (i ∷ is) =
     and_then (labelled d k place s.labels (pos (length s.items))) (λ labels.
     items_on d scope k place (record { names = names; labels = labels; items = s.items ++ (i.name, pos (length s.items)) ∷ [] }) is))
 
--- an enum and its items belong to one scope: its name is tested where it stands, and declared behind them
+-- an enum and its items belong to one scope: its name is tested where it is, and declared after them
 abbrev pub enum_on : ℕ → List (List ℕ) → State → Enum → Answer State
 enum_on d env s e =
     and_then (refused_by d (lower_of (clash s.names (innermost env) e.name.name) (item_clash e.name.name e.items))) (λ _.

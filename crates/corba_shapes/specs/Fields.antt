@@ -14,12 +14,12 @@ use Rattle.corba_scopes.specs.Consts.{length_of}
 use Rattle.corba_shapes.specs.declared.forms.Form.{Form}
 use Rattle.corba_shapes.specs.Forms.{type_form, form_shape}
 
--- the lengths of an array, behind those that stand before them
+-- the lengths of an array, after those before them
 abbrev pub lengths_on : Names → List (List ℕ) → ℕ → List Count → List Dimension → Answer (List Count)
 lengths_on s env d done [] = Ok done
 lengths_on s env d done (x ∷ xs) = and_then (length_of s env d x.length) (λ n. lengths_on s env d (done ++ Exactly n ∷ []) xs)
 
--- a name that hides others in its scope, and its lengths: it is tested where it stands, and declared at the end of its declarator
+-- a name that hides others in its scope, and its lengths: it is tested where it is, and declared at the end of its declarator
 abbrev pub placed_on : List (List ℕ) → ℕ → Names → Declarator → Answer (Names × List Count)
 placed_on env d s x =
     and_then (refused_by d (clash s (innermost env) x.name.name)) (λ _.
@@ -32,14 +32,14 @@ pub record Body : Type 0 where
   pub names : Names
   pub fields : List (List ℕ × Shape)
 
--- fields of one type behind those that stand before them
+-- fields of one type after those before them
 abbrev pub fields_on : List (List ℕ) → ℕ → Form → Body → List Declarator → Answer Body
 fields_on env d f b [] = Ok b
 fields_on env d f b (x ∷ xs) =
     and_then (placed_on env d b.names x) (λ r.
     fields_on env d f (record { names = r.0; fields = b.fields ++ (x.name.name, form_shape f r.1) ∷ [] }) xs)
 
--- members behind those that stand before them
+-- members after those before them
 abbrev pub members_on : List (List ℕ) → ℕ → Body → List Member → Answer Body
 members_on env d b [] = Ok b
 members_on env d b (m ∷ ms) =

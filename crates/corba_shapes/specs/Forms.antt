@@ -79,7 +79,7 @@ abbrev pub bounded : Names → List (List ℕ) → ℕ → Option Tree → Answe
 bounded s env d None = Ok Any
 bounded s env d (Some e) = and_then (length_of s env d e) (λ n. Ok (AtMost n))
 
--- a type that is no sequence
+-- a type that is not a sequence
 abbrev pub base_core : Names → List (List ℕ) → ℕ → Base → Answer Core
 base_core s env d (B.Simple w) = simple_core d w
 base_core s env d B.LongDouble = fault OutOfScope d
@@ -101,7 +101,7 @@ type_form s env d (x ∷ xs) b =
 
 -- ---- what they are
 
--- the plain tree of what is no row
+-- the plain tree of what is not a row
 abbrev pub core_shape : Core → Shape
 core_shape (C.Used u c) = shape_of_use u
 core_shape (C.Text c) = text c
@@ -125,12 +125,12 @@ abbrev pub is_row : List Count → List Count → Bool
 is_row [] [] = false
 is_row _ _ = true
 
--- what is no row as the tag of a union
+-- what is not a row as the tag of a union
 abbrev pub core_tag : Core → Tag
 core_tag (C.Used u c) = tag_of_use u
 core_tag (C.Text c) = tag.Other
 
--- how long what is no row may be, where it is a string
+-- how long what is not a row may be, where it is a string
 abbrev pub core_text : Core → Option Count
 core_text (C.Used u c) = c
 core_text (C.Text c) = Some c

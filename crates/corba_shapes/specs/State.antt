@@ -10,7 +10,7 @@ use Rattle.corba_scopes.specs.declared.meanings.Meaning.TheVariants as M
 use Rattle.corba_scopes.specs.Names.{Names, nothing, declared_on}
 use Rattle.corba_scopes.specs.Around.{innermost}
 
--- what is declared so far: the names; the numbers of the enums, each behind its enum's number as a type; the types with their
+-- what is declared so far: the names; the numbers of the enums, each after its enum's number as a type; the types with their
 -- full names; the exceptions; and how many declarations there are
 pub record State : Type 0 where
   pub names : Names

@@ -12,7 +12,7 @@ use Rattle.corba_scopes.specs.Around.{innermost, inside}
 use Rattle.corba_shapes.specs.State.{State, with_type}
 use Rattle.corba_shapes.specs.Fields.{members_on}
 
--- a type with the members as its fields; its name is tested where it stands, and declared behind them
+-- a type with the members as its fields; its name is tested where it is, and declared after them
 abbrev pub struct_on : ℕ → List (List ℕ) → State → Struct → Answer State
 struct_on d env s t =
     and_then (refused_by d (clash s.names (innermost env) t.name.name)) (λ _.
@@ -33,7 +33,7 @@ repository full = codes "IDL:" ++ map slashed full ++ codes ":1.0"
 abbrev pub raised : List ℕ → Members → PlainRaise
 raised full members = record { name = full; id = repository full; members = members }
 
--- an exception behind the others; its name is tested where it stands, and declared behind its members
+-- an exception after the others; its name is tested where it is, and declared after its members
 abbrev pub exception_on : ℕ → List (List ℕ) → State → Exception → Answer State
 exception_on d env s e =
     and_then (refused_by d (clash s.names (innermost env) e.name.name)) (λ _.

@@ -47,7 +47,7 @@ pub record Labels : Type 0 where
   pub numbers : List ℤ
   pub default : Bool
 
--- a label behind those that stand before it; there is one default at most
+-- a label after those before it; there is one default at most
 abbrev pub label_on : Names → List (ℕ × ℤ) → Tag → List (List ℕ) → ℕ → Labels → LabelTree → Answer Labels
 label_on s labels tag env d ls (L.Case e) =
     and_then (number s env d e) (λ n.
@@ -55,7 +55,7 @@ label_on s labels tag env d ls (L.Case e) =
     Ok (record ls { numbers = numbers })))
 label_on s labels tag env d ls L.Default = and_then (refused Label d ls.default) (λ _. Ok (record ls { default = true }))
 
--- labels behind those that stand before them
+-- labels after those before them
 abbrev pub labels_on : Names → List (ℕ × ℤ) → Tag → List (List ℕ) → ℕ → Labels → List LabelTree → Answer Labels
 labels_on s labels tag env d ls [] = Ok ls
 labels_on s labels tag env d ls (x ∷ xs) = and_then (label_on s labels tag env d ls x) (λ ls. labels_on s labels tag env d ls xs)
@@ -74,7 +74,7 @@ abbrev pub other_with : Bool → Option Shape → Shape → Option Shape
 other_with true None s = Some s
 other_with _ other s = other
 
--- a case behind those that stand before it
+-- a case after those before it
 abbrev pub case_on : List (ℕ × ℤ) → Tag → List (List ℕ) → ℕ → Cases → Case → Answer Cases
 case_on labels tag env d cs c =
     and_then (labels_on cs.names labels tag env d (record { numbers = cs.numbers; default = is_some cs.other }) c.labels) (λ ls.
@@ -87,7 +87,7 @@ case_on labels tag env d cs c =
       other = other_with ls.default cs.other (form_shape f r.1);
     }))))
 
--- cases behind those that stand before them
+-- cases after those before them
 abbrev pub cases_on : List (ℕ × ℤ) → Tag → List (List ℕ) → ℕ → Cases → List Case → Answer Cases
 cases_on labels tag env d cs [] = Ok cs
 cases_on labels tag env d cs (c ∷ rest) = and_then (case_on labels tag env d cs c) (λ cs. cases_on labels tag env d cs rest)
@@ -98,7 +98,7 @@ cases_on labels tag env d cs (c ∷ rest) = and_then (case_on labels tag env d c
 abbrev pub union_shape : Use → Cases → Shape
 union_shape t cs = choice (shape_of_use t) (arms_of cs.arms (default (unwrap_or cs.other void)))
 
--- a type with a choice; its name is tested where it stands, and declared behind its cases
+-- a type with a choice; its name is tested where it is, and declared after its cases
 abbrev pub union_on : ℕ → List (List ℕ) → State → Union → Answer State
 union_on d env s u =
     and_then (refused_by d (clash s.names (innermost env) u.name.name)) (λ _.

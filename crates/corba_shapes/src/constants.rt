@@ -36,7 +36,7 @@ fn constant_core(
     }
 }
 
-/// Whether a type is no number, enum or string.
+/// Whether a type is not a number, an enum or a string.
 fn is_no_constant(core: Core) -> bool
     ensures { result ≡ is_no_constant core }
 {

@@ -19,7 +19,7 @@ use std::alloc::Global;
 /// Counts, in order.
 pub type Counts = Listed<Count>;
 
-/// A type that is no sequence and no array.
+/// A type that is neither a sequence nor an array.
 #[derive(Clone, Copy, Debug, PartialEq, Eq)]
 pub enum Core {
     /// A number, or a type of the unit; and where that is a string, how many characters it has.
@@ -138,7 +138,7 @@ fn bounded(
     }
 }
 
-/// A type that is no sequence.
+/// A type that is not a sequence.
 fn base_core(
     alloc: Global,
     scopes: &Scopes,
@@ -190,7 +190,7 @@ pub fn type_form(
     }
 }
 
-/// The type of what is no row.
+/// The type of what is not a row.
 fn core_ty(core: Core) -> Ty
     ensures { seen result ≡ core_shape core }
 {
@@ -230,7 +230,7 @@ fn is_row(rows: &[Count], lengths: &[Count]) -> bool
     }
 }
 
-/// What is no row as the tag of a union.
+/// What is not a row as the tag of a union.
 pub(crate) fn core_tag(core: Core) -> Tag
     ensures { result ≡ core_tag core }
 {
@@ -240,7 +240,7 @@ pub(crate) fn core_tag(core: Core) -> Tag
     }
 }
 
-/// How many characters what is no row has, where it is a string.
+/// How many characters what is not a row has, where it is a string.
 pub(crate) fn core_text(core: Core) -> Option<Count>
     ensures { result ≡ core_text core }
 {

@@ -40,7 +40,7 @@ fn tag_use(
     }
 }
 
-/// Whether a type is no tag.
+/// Whether a type is not a tag.
 fn is_no_tag(tag: Tag) -> bool
     ensures { result ≡ is_no_tag tag }
 {

@@ -43,7 +43,7 @@ two_apart k place i j lt h =
     let other : (536870912 + k == 536870912 + place) ≡ false = ne_eqb (536870912 + k) (536870912 + place) (λ e. omega (arith, lt, e)) in
     or_from _ _ (turned i.name j.name ∙ h) (not_both (536870912 + k == 536870912 + place) true other)
 
--- an interface and one of those behind it
+-- an interface and one of those after it
 later : (k place : ℕ) (i : PlainOffering) (is : List PlainOffering) (xs ys : List PlainInterface) (y : PlainInterface)
     → xs ++ y ∷ ys ≡ interfaces place is → k < place → list_any (λ m. bytes_eq m i.name) (full_names is) ≡ false
     → twins (interface k i) y ≡ false
@@ -58,7 +58,7 @@ later k place i (j ∷ is) (x ∷ xs) ys y e lt h =
     let same = head_same x (interface place j) (xs ++ y ∷ ys) (interfaces (place + 1) is) e in
     later k (place + 1) i is xs ys y same.1 (omega (arith, lt)) parts.1
 
--- an interface is no twin of those before it
+-- an interface is not a twin of those before it
 pub none_before : (k : ℕ) (is : List PlainOffering) (xs ys : List PlainInterface) (y : PlainInterface)
     → xs ++ y ∷ ys ≡ interfaces k is → are_distinct (full_names is) ≡ true → list_any (λ j. twins j y) xs ≡ false
 none_before k is [] ys y e h = refl

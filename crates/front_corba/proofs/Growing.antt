@@ -1,4 +1,4 @@
--- A declaration puts types behind the others, if any.
+-- A declaration puts types after the others, if any.
 use Rattle.std.proofs.Common.{◌≡◌, ℕ, ◌≤◌, not, List, [], ◌∷◌, ◌++◌, length, Option, None, subst, arith}
 use Rattle.std.specs.Prelude.{Ok}
 use Rattle.std.proofs.lemmas.List.{length-append}

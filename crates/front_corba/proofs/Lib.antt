@@ -6,7 +6,7 @@ pub mod Indexing
 pub mod Getting
 -- * What a copy of a union is seen as
 pub mod Copying
--- A declaration puts types behind the others, if any
+-- A declaration puts types after the others, if any
 pub mod Growing
 -- The operations of interfaces are sound
 pub mod Offering

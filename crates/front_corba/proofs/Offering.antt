@@ -84,7 +84,7 @@ offers_push : (limit slots : ℕ) (os : List PlainOffer) (o : PlainOffer) → Of
 offers_push limit slots [] o h is below = (is, (below, tt))
 offers_push limit slots (p ∷ os) o h is below = (h.0, (h.1.0, offers_push limit slots os o h.1.1 is below))
 
--- an operation behind the others
+-- an operation after the others
 pub added_is : (limit d home : ℕ) (o : PlainOperation) (ops out : List PlainOffer) → SeatedAre limit ops → OperationIs limit o
     → added_on d home o ops ≡ Ok out → SeatedAre limit out
 added_is limit d home o ops out are is h =
@@ -207,7 +207,7 @@ result_is types labels s env d (Some t) r is h =
     inr (subst (λ z. is_plain (length types) z ≡ true) (ok_same (form_shape a.given []) r a.rest)
     (form_plain types labels a.given [] form refl))
 
--- an operation, whose name is declared, behind the others
+-- an operation, whose name is declared, after the others
 offered_is : (d : ℕ) (scope : List ℕ) (home : ℕ) (b out : Body) (o : PlainOperation) → BodyIs b
     → OperationIs (length (shapes_of b.state)) o → offered_on d scope home b o ≡ Ok out → BodyIs out
 offered_is d scope home b out o is one h =
@@ -221,7 +221,7 @@ offered_is d scope home b out o is one h =
       ops = added_is (length (shapes_of s)) d home o b.ops c.given is.ops one c.first;
     })
 
--- what is put behind the others keeps the types and numbers as they are
+-- what is put after the others keeps the types and numbers as they are
 pub record Same (b out : Body) : Type 0 where
   pub types : out.state.types ≡ b.state.types
   pub labels : out.state.labels ≡ b.state.labels

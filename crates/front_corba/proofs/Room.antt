@@ -43,7 +43,7 @@ few_kept x place i made low =
     let same = ap (λ (z : PlainInterface). length z.ops) made in
     omega (arith, a, b, c, same, low)
 
--- the interface at a place is no twin of those before it
+-- the interface at a place is not a twin of those before it
 pub none_there : (list : List Offering) (others : List Interface) (place : ℕ) (i : Offering) (x : Interface)
     → are_fit (map plain_offering list) ≡ true
     → map plain_interface others ++ interfaces place (map plain_offering (drop place list)) ≡ interfaces 0 (map plain_offering list)

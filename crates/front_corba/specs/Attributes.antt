@@ -59,7 +59,7 @@ attribute_on d scope home readonly f b x =
     and_then (offered_on d scope home (record b { state = record b.state { names = names } }) (getter x (form_shape f []))) (λ b.
     setter_on d scope home readonly f b x)))
 
--- attributes of a type behind those that stand before them
+-- attributes of a type after those before them
 abbrev pub attribute_names_on : ℕ → List ℕ → ℕ → Bool → Form → Body → List Identifier → Answer Body
 attribute_names_on d scope home readonly f b [] = Ok b
 attribute_names_on d scope home readonly f b (x ∷ xs) =

@@ -29,16 +29,16 @@ abbrev pub base_clash : List PlainOffer → List PlainOffer → Option NameFault
 base_clash ops [] = None
 base_clash ops (o ∷ os) = lower_of (offer_clash ops o) (base_clash ops os)
 
--- the operation of a base behind the others, unless it is there
+-- the operation of a base after the others, unless it is there
 abbrev pub inherited : ℕ → List PlainOffer → PlainOffer → Answer (List PlainOffer)
 inherited d ops o = if is_there o ops then Ok ops else added_on d o.home o.operation ops
 
--- the operations of a base behind the others, without those that are there
+-- the operations of a base after the others, without those that are there
 abbrev pub inherited_on : ℕ → List PlainOffer → List PlainOffer → Answer (List PlainOffer)
 inherited_on d ops [] = Ok ops
 inherited_on d ops (o ∷ os) = and_then (inherited d ops o) (λ ops. inherited_on d ops os)
 
--- the operations of a base, if it is there, behind the others
+-- the operations of a base, if it is there, after the others
 abbrev pub joined_on : ℕ → List PlainOffer → Option PlainOffering → Answer (List PlainOffer)
 joined_on d ops None = Ok ops
 joined_on d ops (Some i) = and_then (refused_by d (base_clash ops i.ops)) (λ _. inherited_on d ops i.ops)
@@ -60,15 +60,15 @@ new_base d s b i =
     and_then (joined_on d b.ops (slice_get s.interfaces i.0)) (λ ops.
     Ok (record { numbers = b.numbers ++ i.0 ∷ []; line = with_base s.state.names (prefix_of i.1) b.line; ops = ops }))
 
--- a base behind those before it; one that comes again adds nothing
+-- a base after those before it; one that comes again adds nothing
 abbrev pub next_base : ℕ → File → Heirs → ℕ × List ℕ → Answer Heirs
 next_base d s b i = if list_any (nat_eq i.0) b.numbers then Ok b else new_base d s b i
 
--- a base by its name behind those before it
+-- a base by its name after those before it
 abbrev pub base_on : ℕ → List (List ℕ) → File → Heirs → Reference → Answer Heirs
 base_on d env s b r = and_then (interface_at d (named s.state.names env r.name)) (next_base d s b)
 
--- bases behind those that stand before them
+-- bases after those before them
 abbrev pub bases_on : ℕ → List (List ℕ) → File → Heirs → List Reference → Answer Heirs
 bases_on d env s b [] = Ok b
 bases_on d env s b (r ∷ rs) = and_then (base_on d env s b r) (λ b. bases_on d env s b rs)

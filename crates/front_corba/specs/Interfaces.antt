@@ -24,13 +24,13 @@ export_on d env home b (E.Declaration x) = and_then (declaration_on d env b.stat
 export_on d env home b (E.Attribute a) = attributes_on d env home b a
 export_on d env home b (E.Operation o) = operation_on d env home b o
 
--- what an interface declares behind what stands before it, each a declaration
+-- what an interface declares after what is before it, each a declaration
 abbrev pub exports_on : List (List ℕ) → ℕ → Body → List Export → Answer Body
 exports_on env home b [] = Ok b
 exports_on env home b (x ∷ xs) =
     and_then (export_on (b.state.count + 1) env home (record b { state = counted b.state }) x) (λ b. exports_on env home b xs)
 
--- the name of an interface, which is declared behind its bases, and the line of its own scope
+-- the name of an interface, which is declared after its bases, and the line of its own scope
 abbrev pub opened_on : ℕ → List ℕ → List ℕ → ℕ → Names → List ℕ → List (List ℕ) → Answer Names
 opened_on d scope inner home s name line = and_then (declared_on d s scope name (M.Interface home)) (λ s. Ok (with_line inner line s))
 
@@ -42,7 +42,7 @@ full_names is = map (λ i. i.name) is
 abbrev pub offering : List ℕ → List PlainOffer → PlainOffering
 offering name ops = record { name = name; ops = ops }
 
--- the number and the full name of an interface that may be beside these, of which there are at most 64; its name is tested where it stands
+-- the number and the full name of an interface that may be beside these, of which there are at most 64; its name is tested where it is
 abbrev pub seat_on : ℕ → List (List ℕ) → Names → List PlainOffering → List ℕ → Answer (ℕ × List ℕ)
 seat_on d env s interfaces name =
     and_then (refused_by d (clash s (innermost env) name)) (λ _.
@@ -55,19 +55,19 @@ abbrev pub heritage_on : ℕ → List (List ℕ) → File → Interface → Answ
 heritage_on d env s i =
     and_then (bases_on d env s (no_bases (innermost (inside i.name.name env))) i.bases) (λ h. Ok (h.line, h.ops))
 
--- the name of an interface, and what it declares behind the operations of its bases
+-- the name of an interface, and what it declares after the operations of its bases
 abbrev pub entered_on : ℕ → List (List ℕ) → ℕ → List (List ℕ) → Body → Interface → Answer Body
 entered_on d env home line b i =
     and_then (opened_on d (innermost env) (innermost (inside i.name.name env)) home b.state.names i.name.name line) (λ names.
     exports_on (inside i.name.name env) home (with_names names b) i.exports)
 
--- an interface of this number and full name behind the others
+-- an interface of this number and full name after the others
 abbrev pub seated_on : ℕ → List (List ℕ) → File → Interface → ℕ × List ℕ → Answer File
 seated_on d env s i seat =
     and_then (heritage_on d env s i) (λ h.
     and_then (entered_on d env seat.0 h.0 (record { state = s.state; ops = h.1 }) i) (λ b.
     Ok (record { state = b.state; interfaces = s.interfaces ++ offering seat.1 b.ops ∷ [] })))
 
--- an interface behind the others
+-- an interface after the others
 abbrev pub interface_on : ℕ → List (List ℕ) → File → Interface → Answer File
 interface_on d env s i = and_then (seat_on d env s.state.names s.interfaces i.name.name) (seated_on d env s i)

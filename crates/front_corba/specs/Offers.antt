@@ -34,13 +34,13 @@ at_place n o = record o { proc_no = n + 1; slot = n }
 abbrev pub placed : ℕ → ℕ → PlainOperation → PlainOffer
 placed home n o = record { home = home; operation = at_place n o }
 
--- an operation behind the others, of which there are at most 256
+-- an operation after the others, of which there are at most 256
 abbrev pub added_on : ℕ → ℕ → PlainOperation → List PlainOffer → Answer (List PlainOffer)
 added_on d home o ops =
     and_then (refused Limit d (nat_le most_operations (length ops))) (λ _.
     Ok (ops ++ placed home (length ops) o ∷ []))
 
--- an operation behind the others, whose name is declared in its interface's scope
+-- an operation after the others, whose name is declared in its interface's scope
 abbrev pub offered_on : ℕ → List ℕ → ℕ → Body → PlainOperation → Answer Body
 offered_on d scope home b o =
     and_then (declared_on d b.state.names scope o.name M.Other) (λ names.

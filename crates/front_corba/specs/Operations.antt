@@ -39,7 +39,7 @@ operation_of o ins outs result raises = record {
   oneway = o.oneway;
 }
 
--- the plain tree of the result of an operation that may be beside these: its name is tested where it stands
+-- the plain tree of the result of an operation that may be beside these: its name is tested where it is
 abbrev pub judged_on : ℕ → List (List ℕ) → Names → List PlainOffer → Operation → Answer Shape
 judged_on d env s ops o =
     and_then (refused Oneway d (o.oneway && gives_back o)) (λ _.
@@ -55,7 +55,7 @@ signed_on d env s exceptions o result =
     and_then (raises_on ps.names exceptions env d [] o.raises) (λ raises.
     Ok (ps.names, operation_of o ps.ins ps.outs result raises)))
 
--- an operation, whose name is declared behind it
+-- an operation, whose name is declared after it
 abbrev pub operation_on : ℕ → List (List ℕ) → ℕ → Body → Operation → Answer Body
 operation_on d env home b o =
     and_then (judged_on d env b.state.names b.ops o) (λ result.

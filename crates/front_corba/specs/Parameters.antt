@@ -40,11 +40,11 @@ pub record Parameters : Type 0 where
 abbrev pub no_parameters : Names → Parameters
 no_parameters names = record { names = names; ins = []; outs = [] }
 
--- a field behind the others, where something holds
+-- a field after the others, where something holds
 abbrev pub with_field : Bool → List (List ℕ × Shape) → List ℕ × Shape → List (List ℕ × Shape)
 with_field b fields f = if b then fields ++ f ∷ [] else fields
 
--- a parameter behind the others of its directions; its name is declared behind it, and hides others
+-- a parameter after the others of its directions; its name is declared after it, and hides others
 abbrev pub parameter_on : List (List ℕ) → ℕ → Parameters → Parameter → Answer Parameters
 parameter_on env d ps p =
     and_then (type_form ps.names env d p.of.0 p.of.1) (λ f.
@@ -55,7 +55,7 @@ parameter_on env d ps p =
       outs = with_field (comes_out p.direction) ps.outs (p.name.name, form_shape f []);
     })))
 
--- parameters behind those that stand before them
+-- parameters after those before them
 abbrev pub parameters_on : List (List ℕ) → ℕ → Parameters → List Parameter → Answer Parameters
 parameters_on env d ps [] = Ok ps
 parameters_on env d ps (p ∷ rest) = and_then (parameter_on env d ps p) (λ ps. parameters_on env d ps rest)
@@ -71,19 +71,19 @@ abbrev pub exception_at : ℕ → Option Entry → Answer ℕ
 exception_at d None = fault Unknown d
 exception_at d (Some e) = exception_of_meaning d e.meaning
 
--- an exception, if it is there, behind the others
+-- an exception, if it is there, after the others
 abbrev pub with_raise : List PlainRaise → Option PlainRaise → List PlainRaise
 with_raise raises None = raises
 with_raise raises (Some e) = raises ++ e ∷ []
 
--- an exception by its name behind the others, of which there are at most 4,095
+-- an exception by its name after the others, of which there are at most 4,095
 abbrev pub raised_by : Names → List PlainRaise → List (List ℕ) → ℕ → List PlainRaise → Reference → Answer (List PlainRaise)
 raised_by s exceptions env d raises r =
     and_then (exception_at d (named s env r.name)) (λ k.
     and_then (refused Limit d (nat_le most_raises (length raises))) (λ _.
     Ok (with_raise raises (slice_get exceptions k))))
 
--- exceptions by their names behind those that stand before them
+-- exceptions by their names after those before them
 abbrev pub raises_on : Names → List PlainRaise → List (List ℕ) → ℕ → List PlainRaise → List Reference → Answer (List PlainRaise)
 raises_on s exceptions env d raises [] = Ok raises
 raises_on s exceptions env d raises (r ∷ rs) =

@@ -41,7 +41,7 @@ begun_on d s scope name = if is_module (found s scope name) then Ok s else decla
 abbrev pub Walk : Type 0
 Walk = List (List ℕ) → File → Answer File
 
--- definitions behind what is declared, each a declaration
+-- definitions after what is declared, each a declaration
 abbrev pub walks_on : List Walk → Walk
 walks_on [] env s = Ok s
 walks_on (w ∷ ws) env s = and_then (w env (next s)) (λ s. walks_on ws env s)

@@ -89,7 +89,7 @@ fn has_full(full: &[u8], interfaces: &[Offering]) -> bool
     false
 }
 
-/// The number and the full name of an interface, whose name is tested where it stands.
+/// The number and the full name of an interface, whose name is tested where it is.
 fn seat(
     alloc: Global,
     scopes: &Scopes,

@@ -89,7 +89,7 @@ fn breaks_oneway(o: &OperationTree) -> bool
     o.oneway && gives_back(o)
 }
 
-/// The type of the result of an operation, whose name is tested where it stands.
+/// The type of the result of an operation, whose name is tested where it is.
 fn judged(
     alloc: Global,
     scopes: &Scopes,

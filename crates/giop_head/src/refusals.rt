@@ -16,7 +16,7 @@ const SYSTEM: u32 = 2;
 /// The octets of the longest repository id whose message has a size of 32 bits.
 const LONGEST_ID: usize = 4_294_967_232;
 
-/// Writes the reply that refuses a request into an empty buffer. After want of memory the buffer is
+/// Writes the reply that refuses a request into an empty buffer. After running out of memory the buffer is
 /// as it was.
 pub fn put_refusal(refusal: &Refusal, head: &Head, buf: &mut SendBuf) -> Result<(), NoMemory>
     requires empty { buf.old.done ≡ [] }
