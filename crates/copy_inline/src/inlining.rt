@@ -207,12 +207,16 @@ pub(crate) fn levels() -> u32
 /// The code of a node, each call replaced by the code that it names. The codes go through the nodes of
 /// one table.
 pub fn inline(alloc: Global, subs: &SendSubs, id: NodeId) -> Result<SendCode, NoMemory>
+    // What may be inlined.
     requires id { id < length subs.now }
     requires types { GoThroughTypes subs.now }
+    // What the code does.
     ensures steps { IfOk result (λ code. Does subs.now id code) }
+    // What it has no more.
     ensures subs { IfOk result (λ code. code.subs ≡ []) }
     ensures calls { IfOk result (λ code. HasNoCall (code_seen code.ops)) }
     ensures no_row { IfOk result HasNoRow }
+    // How it goes through the type.
     ensures follows { IfOk result (λ code. Goes subs.now id code) }
     ensures turned { IfOk result (λ code. Turns subs.now id code) }
 {

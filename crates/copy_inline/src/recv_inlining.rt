@@ -204,11 +204,15 @@ fn case_of(n: &i128, body: RecvOps) -> (i128, RecvOps)
 /// The code of a node, each call replaced by the code that it names. The codes go through the nodes of
 /// one table.
 pub fn inline_recv(alloc: Global, subs: &RecvSubs, id: NodeId) -> Result<RecvCode, NoMemory>
+    // What may be inlined.
     requires id { id < length subs.now }
     requires types { GoThroughTypes subs.now }
+    // What the code does.
     ensures same { IfOk result (λ code. Does subs.now id code) }
+    // What it has no more.
     ensures subs { IfOk result (λ code. code.subs ≡ []) }
     ensures calls { IfOk result (λ code. HasNoCall (code_seen code.ops)) }
+    // How it goes through the type.
     ensures traces { IfOk result (λ code. Goes subs.now id code) }
     ensures turned { IfOk result (λ code. Turns subs.now id code) }
 {

@@ -118,13 +118,16 @@ impl Lines {
     pub fn next<S: Source>(&mut self, source: &mut S) -> Result<Line, LineErr>
         ensures lines { Advances (S.left source.old) (S.left source.new) self.old self.new (answered result) }
         ensures knows_end { KnowsEnd self.old (S.left source.old) → KnowsEnd self.new (S.left source.new) }
+        // Whether the source failed.
         ensures later { S.faults source.old ≤ S.faults source.new }
         ensures told { result ≢ Err LineErr.Failed → S.faults source.old ≡ S.faults source.new }
         ensures falls { IfOk result (λ line. line ≢ Line.End → work self.new < work self.old) }
+        // What is kept of an error.
         ensures again { (e : LineErr) → self.old.error ≡ Some e → (result ≡ Err e) × (self.new ≡ self.old) }
         ensures fresh { OnOk result (self.new.error ≡ None) }
         ensures stands { IfErr result (λ e. self.new.error ≡ Some e) }
         ensures end { result ≡ Ok Line.End → (pending self.new [] ≡ []) × (self.new.ended ≡ true) }
+        // When each error comes.
         ensures failed { self.old.error ≡ None → result ≡ Err LineErr.Failed
             → Rose (S.faults source.old) (S.faults source.new) × HasNoEnd self.new.kept
             × (self.new.ended ≡ false) }
@@ -146,9 +149,11 @@ impl Lines {
     }
 
     fn step_on<S: Source>(&mut self, source: &mut S) -> Result<Line, LineErr>
+        // What the line is.
         ensures lines { Advances (S.left source.old) (S.left source.new) self.old self.new (answered result) }
         ensures knows_end { KnowsEnd self.old (S.left source.old) → KnowsEnd self.new (S.left source.new) }
         ensures end { result ≡ Ok Line.End → (pending self.new [] ≡ []) × (self.new.ended ≡ true) }
+        // Whether the source failed.
         ensures later { S.faults source.old ≤ S.faults source.new }
         ensures told { result ≢ Err LineErr.Failed → S.faults source.old ≡ S.faults source.new }
         ensures failed { result ≡ Err LineErr.Failed → Rose (S.faults source.old) (S.faults source.new)
@@ -184,6 +189,7 @@ impl Lines {
         ensures lines { IfOk result (λ c. Passed self.old self.new [] (option_to_list (line_in c))) }
         ensures no_end { IfOk result (λ c. c ≢ Cut.Found (Some Line.End)) }
         ensures err { IfErr result (λ e. (e ≡ LineErr.NoMemory) × (self.new ≡ self.old)) }
+        // What is left.
         ensures whole { IfOk result (λ c. IsFound c → work self.new < work self.old) }
         ensures open_end { IfOk result
             (λ c. c ≡ Cut.NoEnd → HasNoEnd self.new.kept × (work self.new ≤ work self.old)) }
@@ -302,6 +308,7 @@ impl Lines {
         requires room { self.old.taken ≤ self.old.most }
         requires more { self.old.ended ≡ false }
         requires small { length self.old.kept ≤ self.old.longest + 1 }
+        // What is kept.
         ensures kept { take (length self.old.kept) self.new.kept ≡ self.old.kept }
         ensures got { Consumes (S.left source.old) (S.left source.new)
             (drop (length self.old.kept) self.new.kept) }
@@ -312,9 +319,11 @@ impl Lines {
         ensures stays { OnOk result (self.new.ended ≡ true → self.new.kept ≡ self.old.kept) }
         ensures none { OnErr result (self.new.kept ≡ self.old.kept) }
         ensures end { OnOk result (KnowsEnd self.new (S.left source.new)) }
+        // What stays the same.
         ensures same { (self.new.longest ≡ self.old.longest) × (self.new.most ≡ self.old.most)
             × (self.new.skips ≡ self.old.skips) × (self.new.error ≡ self.old.error) }
         ensures err { OnErr result (self.new.ended ≡ self.old.ended) }
+        // When each error comes.
         ensures later { S.faults source.old ≤ S.faults source.new }
         ensures told { result ≢ Err LineErr.Failed → S.faults source.old ≡ S.faults source.new }
         ensures failed { result ≡ Err LineErr.Failed → Rose (S.faults source.old) (S.faults source.new) }

@@ -83,16 +83,20 @@ impl Shelf for MemShelf {
     ghost faults = { λ s. s.plan.faults };
 
     fn read_file(&mut self, alloc: Global, path: &[u8], most: u32) -> Result<Octets, ShelfErr>
+        // What the files are.
         ensures same { Some (content_of self.new.files) ≡ Some (content_of self.old.files) }
+        // What was read.
         ensures content { IfOk result
             (λ octets. HasFile (Some (content_of self.old.files)) path.now most octets) }
         ensures bound { IfOk result (λ octets. length octets ≤ most) }
         ensures absent { IsErrOf result ShelfErr.Absent
             → LacksFile (Some (content_of self.old.files)) path.now }
+        // When it fails.
         ensures later { self.old.plan.faults ≤ self.new.plan.faults }
         ensures failed { IsErrOf result ShelfErr.Failed → Rose self.old.plan.faults self.new.plan.faults }
         ensures told { result ≢ Err ShelfErr.Failed → self.old.plan.faults ≡ self.new.plan.faults }
         ensures listed { IsErrOf result ShelfErr.Failed ↔ (fails_next self.old.plan ≡ true) }
+        // What is left of the plan.
         ensures after { self.new
             ≡ record self.old { plan = called self.old.plan (fails_next self.old.plan) } }
     {

@@ -181,9 +181,11 @@ impl Sink for MemSink {
     ghost faults = { λ s. s.plan.faults };
 
     fn write(&mut self, piece: &[u8]) -> Result<usize, Failed>
+        // What was taken.
         ensures bound { WritesAtMost result piece.now }
         ensures some { IfOk result (λ n. 0 < length piece.now → 0 < n) }
         ensures bytes { WriteAppends (Some self.old.held) (Some self.new.held) result piece.now }
+        // When it fails, and how much is taken at once.
         ensures cause { HasCause self.old.plan.faults self.new.plan.faults result }
         ensures size { IfOk result
             (λ n. n ≡ min (min self.old.most (length piece.now)) (room_of self.old.held)) }

@@ -60,10 +60,13 @@ pub trait Shelf {
 
     /// The content of a file, or as many of its first octets as are wanted.
     fn read_file(&mut self, alloc: Global, path: &[u8], most: u32) -> Result<Octets, ShelfErr>
+        // What the files are.
         ensures same { files self.new ≡ files self.old }
+        // What was read.
         ensures content { IfOk result (λ octets. HasFile (files self.old) path.now most octets) }
         ensures bound { IfOk result (λ octets. length octets ≤ most) }
         ensures absent { IsErrOf result ShelfErr.Absent → LacksFile (files self.old) path.now }
+        // When it fails.
         ensures later { faults self.old ≤ faults self.new }
         ensures failed { IsErrOf result ShelfErr.Failed → Rose (faults self.old) (faults self.new) }
         ensures told { result ≢ Err ShelfErr.Failed → faults self.old ≡ faults self.new };

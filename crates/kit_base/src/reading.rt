@@ -20,13 +20,16 @@ pub(crate) fn read_behind<S: Source>(
     buffer: &mut Vec<u8>,
 ) -> Result<usize, LineErr>
     requires { length piece.old ≤ 65536 }
+    // What was read.
     ensures kept { take (length buffer.old.items) buffer.new.items ≡ buffer.old.items }
     ensures got { Consumes (S.left source.old) (S.left source.new)
         (drop (length buffer.old.items) buffer.new.items) }
     ensures count { IfOk result (λ n. (length buffer.new.items ≡ length buffer.old.items + n)
         × (n ≤ length piece.old) × (n ≤ 65536)) }
     ensures none { OnErr result (buffer.new.items ≡ buffer.old.items) }
+    // When the source is at its end.
     ensures end { IfOk result (λ n. n ≡ 0 → 0 < length piece.old → IsAtEnd (S.left source.new)) }
+    // When it fails.
     ensures later { S.faults source.old ≤ S.faults source.new }
     ensures told { result ≢ Err LineErr.Failed → S.faults source.old ≡ S.faults source.new }
     ensures failed { result ≡ Err LineErr.Failed → Rose (S.faults source.old) (S.faults source.new) }

@@ -185,9 +185,11 @@ fn put_choice(
     inner: &Value,
     out: &mut Octets,
 ) -> Result<usize, NoMemory>
+    // The union.
     requires id { id < length mint.now }
     requires below { ArmsBelow id arms.now }
     requires other { IsBelow id other }
+    // Its value.
     requires tagged { IsScalar (scalar_of tag.now) n.now }
     requires typed { IsOfArm (arms_at (unfolded mint.now) arms.now other) n.now (seen inner.now) }
     requires near { IsNear place out.old }

@@ -81,11 +81,13 @@ fn draw(alloc: Global, unit: &Unit, back: Back) -> Result<(Mint, Pres, Ops), Bin
 /// its labels and arms.
 pub fn bind(alloc: Global, unit: Unit, back: Back) -> Result<Bound, BindErr>
     requires { IsSoundPlain (plain unit) }
+    // What is bound.
     ensures unit { IfOk result (λ b. b.unit ≡ plain unit) }
     ensures back { IfOk result (λ b. b.back ≡ back) }
     ensures stands { IfOk result (λ b. IsBinding b) }
     ensures offers { IfOk result (λ b. map (offer_at (faces b.nodes b.shapes)) b.ops ≡ offers b.unit b.back) }
     ensures nodes { IfOk result (λ b. faces b.nodes b.shapes ≡ all_made (plain unit) back) }
+    // When it is not.
     ensures ok { OnOk result (bind_fault (plain unit) back ≡ None) }
     ensures cause { IfErr result (λ e. e ≢ BindErr.NoMemory → bind_fault (plain unit) back ≡ Some e) }
 {

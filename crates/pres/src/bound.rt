@@ -92,9 +92,11 @@ impl Bound {
 
     /// A node and its shape.
     pub fn part(&self, id: NodeId) -> Option<(&Node, &Shape)>
+        // The node and its shape.
         ensures node { IfSome result (λ p. slice_get self.now.nodes id ≡ Some p.0.now) }
         ensures shape { IfSome result (λ p. slice_get self.now.shapes id ≡ Some p.1.now) }
         ensures none { IfNone result (length self.now.nodes ≤ id) }
+        // What they are.
         ensures below { IfSome result (λ p. HasChildrenBelow id p.0.now) }
         ensures named { IfSome result (λ p. IsNamed p.0.now p.1.now) }
         ensures is { IfSome result (λ p. face_at self.now.nodes self.now.shapes id

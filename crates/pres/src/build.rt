@@ -71,11 +71,14 @@ fn add(mint: &mut Mint, node: Node) -> Result<(), BindErr>
 impl Draft {
     /// The nodes as a table, and their shapes.
     pub(crate) fn build(self, alloc: Global) -> Result<(Mint, Pres), BindErr>
+        // What may be built.
         requires regular { AreRegular (drawn self) }
         requires shallow { list_any is_deep (drawn self) ≡ false }
+        // What is built.
         ensures nodes { IfOk result (λ r. r.0 ≡ self.nodes) }
         ensures shapes { IfOk result (λ r. r.1 ≡ self.shapes) }
         ensures named { IfOk result (λ r. AreNamed r.0 r.1) }
+        // When it is not.
         ensures light { OnOk result (list_any is_heavy (drawn self) ≡ false) }
         ensures cause { IfErr result
             (λ e. e ≢ BindErr.NoMemory → (e ≡ BindErr.Heavy) × (list_any is_heavy (drawn self) ≡ true)) }

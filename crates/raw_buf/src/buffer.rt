@@ -80,11 +80,14 @@ impl SendBuf {
 
     /// Stores a number in the space that is ensured.
     pub fn put(&mut self, off: usize, width: usize, order: Order, v: u64)
+        // What is put.
         requires width { IsWidth width }
         requires within { off + width ≤ length self.old.front }
         requires fits { v < 256 ^ width }
+        // What is written.
         ensures done { self.new.done ≡ self.old.done }
         ensures front { self.new.front ≡ written self.old.front off (in_order order width v) }
+        // What it costs.
         ensures tally { self.new.tally ≡ stored self.old.tally }
         ensures spent { self.new.spent ≡ stored self.old.spent }
         ensures room { self.new.room ≡ self.old.room }
@@ -130,10 +133,13 @@ impl SendBuf {
 
     /// Appends zeros up to a multiple of a.
     pub fn align(&mut self, a: usize)
+        // What is passed.
         requires width { IsWidth a }
         requires within { gap (length self.old.done) a ≤ length self.old.front }
+        // What is written.
         ensures done { self.new.done ≡ self.old.done ++ replicate (gap (length self.old.done) a) 0 }
         ensures front { self.new.front ≡ drop (gap (length self.old.done) a) self.old.front }
+        // What it costs.
         ensures tally { self.new.tally ≡ moved self.old.tally }
         ensures spent { self.new.spent ≡ moved self.old.spent }
         ensures room { self.new.room ≡ self.old.room }
@@ -225,11 +231,14 @@ impl SendBuf {
 
     /// Stores the numbers of an image at the beginning of the space, the octets of each reversed.
     pub(crate) fn store_swapped(&mut self, width: usize, image: &[u8])
+        // What is stored.
         requires width { IsSwapWidth width }
         requires whole { length image.now % width ≡ 0 }
         requires within { length image.now ≤ length self.old.front }
+        // What is written.
         ensures done { self.new.done ≡ self.old.done }
         ensures front { self.new.front ≡ swapped width image.now ++ drop (length image.now) self.old.front }
+        // What stays the same.
         ensures tally { self.new.tally ≡ self.old.tally }
         ensures spent { self.new.spent ≡ self.old.spent }
         ensures room { self.new.room ≡ self.old.room }
@@ -238,10 +247,13 @@ impl SendBuf {
     }
 
     fn store_zeros(&mut self, count: usize)
+        // What is stored.
         requires within { count ≤ length self.old.front }
         requires few { count < 8 }
+        // What is written.
         ensures done { self.new.done ≡ self.old.done }
         ensures front { self.new.front ≡ replicate count 0 ++ drop count self.old.front }
+        // What stays the same.
         ensures tally { self.new.tally ≡ self.old.tally }
         ensures spent { self.new.spent ≡ self.old.spent }
         ensures room { self.new.room ≡ self.old.room }

@@ -27,12 +27,15 @@ impl SendBuf {
 
     /// Appends a row in the space that is ensured: its numbers, the most significant octet first.
     pub fn row_swap(&mut self, row: &Row)
+        // What is put.
         requires width { IsSwapWidth (width row.now.kind) }
         requires within { length (image_of row.now.kind row.now.numbers) ≤ length self.old.front }
+        // What is written.
         ensures done { self.new.done
             ≡ self.old.done ++ swapped (width row.now.kind) (image_of row.now.kind row.now.numbers) }
         ensures front { self.new.front
             ≡ drop (length (image_of row.now.kind row.now.numbers)) self.old.front }
+        // What it costs.
         ensures tally { self.new.tally ≡ rowed self.old.tally }
         ensures spent { self.new.spent ≡ rowed self.old.spent }
         ensures room { self.new.room ≡ self.old.room }

@@ -121,8 +121,10 @@ impl<'a> RecvView<'a> {
         count: usize,
         order: Order,
     ) -> Result<Row, NoMemory>
+        // What is read.
         requires kind { kind ≢ Kind.Bool }
         requires near { count * width kind ≤ self.old.near }
+        // What was read.
         ensures row { IfOk result (λ r. r ≡ record {
           kind = kind;
           numbers = numbers_of kind
@@ -131,6 +133,7 @@ impl<'a> RecvView<'a> {
         ensures pos { OnOk result (self.new.pos ≡ self.old.pos + count * width kind) }
         ensures near { OnOk result (self.new.near ≡ self.old.near - count * width kind) }
         ensures tests { OnOk result (self.new.tests ≡ self.old.tests) }
+        // What the view is then.
         ensures octets { OnOk result (self.new.octets ≡ self.old.octets) }
         ensures err { OnErr result (self.new ≡ self.old) }
     {

@@ -209,11 +209,14 @@ fn run_put(put: &Put, head: &Head, value: &Value, buf: &mut SendBuf)
 
 // Stores what each put says, one after the other.
 fn run_puts(size: u32, puts: &Puts, head: &Head, value: &Value, buf: &mut SendBuf)
+    // What may be put.
     requires there { IsThere (put_all head.now (seen value.now) puts.now (replicate size None)) }
     requires within { size ≤ length buf.old.front }
+    // What is written.
     ensures over { OverAll (put_all head.now (seen value.now) puts.now (replicate size None)) buf.new.front }
     ensures front { length buf.new.front ≡ length buf.old.front }
     ensures done { buf.new.done ≡ buf.old.done }
+    // What it costs.
     ensures tally { buf.new.tally ≡ stored_times (length puts.now) buf.old.tally }
     ensures spent { buf.new.spent ≡ stored_times (length puts.now) buf.old.spent }
 {

@@ -23,6 +23,7 @@ pub fn run_send(
     buf: &mut SendBuf,
 ) -> Result<(), SendErr>
     requires { AreCovered (sent_steps code.now head.now (seen value.now)) (length buf.old.done) }
+    // What `Ok` holds.
     ensures done { OnOk result (option_map (λ o. buf.old.done ++ o)
         (meaning code.now head.now (seen value.now) (length buf.old.done)) ≡ Some buf.new.done) }
     ensures tally { OnOk result
@@ -30,8 +31,11 @@ pub fn run_send(
     ensures spent { OnOk result
         (option_map (paid buf.old.spent) (cost code.now head.now (seen value.now)) ≡ Some buf.new.spent) }
     ensures short { OnOk result (length buf.new.done ≤ most) }
+    // When each error comes.
     ensures memory { (result ≡ Err SendErr.NoMemory) → length buf.new.done ≤ most }
+    // What stays the same.
     ensures stands { NoneFell buf.old.spent buf.new.spent }
+    // When the message is too long.
     ensures long { (result ≡ Err SendErr.Long)
         → IsLong (length buf.old.done) (meaning code.now head.now (seen value.now) (length buf.old.done)) }
 {

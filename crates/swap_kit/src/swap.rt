@@ -36,10 +36,12 @@ fn swap_vectors(width: usize, image: &[u8], out: &mut [u8])
 
 // Number by number from a place on, to the end.
 fn swap_rest(width: usize, image: &[u8], from: usize, out: &mut [u8])
+    // The row, and the place from which on it is left.
     requires width { IsSwapWidth width }
     requires whole { length image.now % width ≡ 0 }
     requires start { from % 16 ≡ 0 }
     requires within { from ≤ length image.now }
+    // What is swapped already.
     requires room { length out.old ≡ length image.now }
     requires before { take from out.old ≡ swapped width (take from image.now) }
     ensures { out.new ≡ swapped width image.now }
