@@ -33,6 +33,15 @@ impl<T> Listed<T> {
         }
     }
 
+    /// A list without items, with space for so many.
+    pub fn with_room(alloc: Global, items: usize) -> Result<Listed<T>, NoMemory>
+        ensures { IfOk result (λ list. list ≡ []) }
+    {
+        Ok(Listed {
+            items: Vec::with_capacity(alloc, items)?,
+        })
+    }
+
     /// How many items there are.
     pub fn len(&self) -> usize
         ensures { result ≡ length self.now }

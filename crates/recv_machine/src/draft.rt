@@ -66,7 +66,7 @@ fn all_fresh(alloc: Global, mint: &Mint, id: u32, ids: &NodeIds) -> Result<Filli
     requires below { AreBelow id ids.now }
     ensures { IfOk result (λ ds. all_drawn mint.now ds ≡ all_fresh (fields_at (unfolded mint.now) ids.now)) }
 {
-    let mut drafts = Fillings::new(alloc);
+    let mut drafts = Fillings::with_room(alloc, ids.len())?;
     for field in ids.as_slice() {
         drafts.push(fresh(alloc, mint, *field)?)?;
     }

@@ -50,8 +50,8 @@ fn settle_all(alloc: Global, mint: &Mint, fields: Fillings) -> Result<Values, No
     requires { IsThere (settles (all_drawn mint.now fields)) }
     ensures { IfOk result (λ vs. settles (all_drawn mint.now fields) ≡ Some (all_seen vs)) }
 {
-    let mut values = Values::new(alloc);
     let mut rest = fields;
+    let mut values = Values::with_room(alloc, rest.len())?;
     for i in 0..rest.len() {
         let mut field = Filling::Raw(0);
         rest.exchange(i, &mut field);
