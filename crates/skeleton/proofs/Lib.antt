@@ -1,4 +1,4 @@
 -- The proofs, each after those that it uses; * marks those that the proofs of functions use.
 
--- * Tables of replies
-mod Keeping
+-- Tables of replies that fit the operations of a binding
+pub mod Keeping

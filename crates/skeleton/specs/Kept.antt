@@ -1,5 +1,5 @@
 -- Replies that are kept for the operations of a binding.
-use Rattle.std.specs.Prelude.{◌≡◌, ℕ, List, length, replicate, slice_index_or, slice_set, Option, None, Some}
+use Rattle.std.specs.Prelude.{◌≡◌, ℕ, List, length, slice_index_or, Option, None, Some}
 use Rattle.mint.specs.declared.value.Value.{Value}
 use Rattle.mint.specs.Blank.{blank}
 use Rattle.mint.specs.Typed.{IsWellTyped}
@@ -8,14 +8,22 @@ use Rattle.mint.specs.Values.{Val, seen}
 use Rattle.pres.specs.Bindings.{Binding}
 use Rattle.skeleton.specs.Exchanges.{reply_type}
 
+-- a table of replies: a place for each operation
+abbrev pub Places : Type 0
+Places = List (Option Value)
+
+-- the reply in the place of an operation
+abbrev pub kept_in : Places → ℕ → Option Value
+kept_in places op = slice_index_or places op None
+
 -- a binding, and for each of its operations a place for a reply
 pub record Kept : Type 0 where
   pub binding : Binding
-  pub replies : List (Option Value)
+  pub replies : Places
 
 -- the reply that is kept for an operation
 abbrev pub reply_at : Kept → ℕ → Option Value
-reply_at k op = slice_index_or k.replies op None
+reply_at k op = kept_in k.replies op
 
 -- a reply, or else the blank value of a type
 abbrev pub reply_or_blank : Ty → Option Value → Val
@@ -25,14 +33,6 @@ reply_or_blank t (Some v) = seen v
 -- what an operation is answered: the reply that is kept for it, or else the blank one
 abbrev pub answer_at : Kept → ℕ → Val
 answer_at k op = reply_or_blank (reply_type k.binding op) (reply_at k op)
-
--- no reply is kept
-abbrev pub none_kept : Binding → Kept
-none_kept b = record { binding = b; replies = replicate (length b.ops) None }
-
--- a reply is kept for an operation
-abbrev pub with_reply : Kept → ℕ → Value → Kept
-with_reply k op v = record { binding = k.binding; replies = slice_set k.replies op (Some v) }
 
 -- each operation has a place, and each reply is one of its operation
 pub record IsKept (k : Kept) : Type 0 where

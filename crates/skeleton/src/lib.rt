@@ -1,8 +1,10 @@
 //! What a server does for the calls of an interface.
 #![tactic(auto)]
 
+mod answering;
 mod table;
 mod work;
 
+pub use answering::Kept;
 pub use table::{Replies, Twice};
 pub use work::Skeleton;

@@ -1,18 +1,9 @@
-// Replies that are kept.
-ghost use Rattle.std.specs.Prelude.{◌≡◌, ◌<◌, None, Some, length, replicate, slice_get, is_err, is_some, IfNone, IfOk, IfSome, OnErr, OnOk};
-ghost use Rattle.mint.specs.Typed.{IsWellTyped};
-ghost use Rattle.mint.specs.Types.{type_at};
-ghost use Rattle.mint.specs.Values.{seen};
-ghost use Rattle.skeleton.specs.Exchanges.{reply_type};
-ghost use Rattle.skeleton.specs.Kept.{answer_at, none_kept, reply_at, with_reply};
+// A table of replies.
+ghost use Rattle.std.specs.Prelude.{◌≡◌, ◌<◌, None, Some, length, replicate, slice_set, is_err, is_some, IfNone, IfOk, IfSome, OnErr, OnOk};
+ghost use Rattle.skeleton.specs.Kept.{kept_in};
 
-use crate::work::Skeleton;
 use kit_base::{Listed, NoMemory};
-use mint::blank_value::blank;
-use mint::copying::copy_value;
-use mint::table::NodeId;
 use mint::value::Value;
-use pres::Bound;
 use std::alloc::Global;
 use std::marker::Model;
 
@@ -20,27 +11,22 @@ use std::marker::Model;
 #[derive(Clone, Copy, Debug, PartialEq, Eq)]
 pub struct Twice;
 
-/// Replies to the operations of a binding: a kept one for some, the blank one for the others. They
-/// are given whatever the request.
+/// Replies to some of the operations of a binding, by their numbers.
 #[derive(Drop)]
-pub struct Replies<'a> {
-    bound: &'a Bound,
-    kept: Listed<Option<Value>>,
+pub struct Replies {
+    places: Listed<Option<Value>>,
 }
 
-impl<'a> Model for Replies<'a> {
+impl Model for Replies {
     ghost use Rattle.std.specs.Coded.{codes};
-    ghost use Rattle.aoi.specs.Stored.{coded_shape, coded_members};
     ghost use Rattle.mint.specs.contracts.value.Value as value;
-    ghost use Rattle.skeleton.specs.Kept.{IsKept, Kept};
+    ghost use Rattle.skeleton.specs.Kept.{Places};
 
-    ghost Value = { Kept };
+    ghost Value = { Places };
 
-    ghost coded = { Prim.hlevel (codes, coded_shape, coded_members, value.the_row.coded) };
+    ghost coded = { Prim.hlevel (codes, value.the_row.coded) };
 
-    ghost view = { λ r. record { binding = r.bound.now; replies = r.kept } };
-
-    ghost invariant = { λ r. IsKept (record { binding = r.bound.now; replies = r.kept }) };
+    ghost view = { λ r. r.places };
 }
 
 /// Places without a reply.
@@ -54,73 +40,47 @@ fn empty_places(alloc: Global, many: usize) -> Result<Listed<Option<Value>>, NoM
     Ok(places)
 }
 
-impl<'a> Replies<'a> {
-    /// Blank replies alone.
-    pub fn new(alloc: Global, bound: &'a Bound) -> Result<Replies<'a>, NoMemory>
-        ensures { IfOk result (λ r. r ≡ none_kept bound.now) }
+impl Replies {
+    /// No reply to any of so many operations.
+    pub fn new(alloc: Global, many: usize) -> Result<Replies, NoMemory>
+        ensures { IfOk result (λ r. r ≡ replicate many None) }
     {
-        let kept = empty_places(alloc, bound.ops().len())?;
-        Ok(Replies { bound, kept })
+        let places = empty_places(alloc, many)?;
+        Ok(Replies { places })
     }
 
-    /// The reply that is kept for an operation.
-    fn kept(&self, op: u32) -> Option<&Value>
-        requires { op < length self.now.binding.ops }
-        ensures some { IfSome result (λ v. reply_at self.now op ≡ Some v.now) }
-        ensures none { IfNone result (reply_at self.now op ≡ None) }
+    /// The reply to an operation, if there is one.
+    pub fn get(&self, op: u32) -> Option<&Value>
+        requires { op < length self.now }
+        ensures some { IfSome result (λ v. kept_in self.now op ≡ Some v.now) }
+        ensures none { IfNone result (kept_in self.now op ≡ None) }
     {
-        match self.kept.get(op as usize) {
+        match self.places.get(op as usize) {
             Some(Some(reply)) => Some(reply),
             _ => None,
         }
     }
 
-    /// Whether a reply is kept for an operation.
+    /// Whether there is a reply to an operation.
     pub fn has(&self, op: u32) -> bool
-        requires { op < length self.now.binding.ops }
-        ensures { result ≡ is_some (reply_at self.now op) }
+        requires { op < length self.now }
+        ensures { result ≡ is_some (kept_in self.now op) }
     {
-        self.kept(op).is_some()
+        self.get(op).is_some()
     }
 
-    /// Keeps a reply for an operation that has none. It takes no memory.
+    /// Keeps a reply to an operation that has none. It takes no memory.
     pub fn put(&mut self, op: u32, reply: Value) -> Result<(), Twice>
-        requires op { op < length self.old.binding.ops }
-        requires typed { IsWellTyped (reply_type self.old.binding op) (seen reply) }
-        ensures ok { OnOk result (self.new ≡ with_reply self.old op reply) }
+        requires { op < length self.old }
+        ensures ok { OnOk result (self.new ≡ slice_set self.old op (Some reply)) }
         ensures err { OnErr result (self.new ≡ self.old) }
-        ensures twice { is_err result ≡ is_some (reply_at self.old op) }
+        ensures twice { is_err result ≡ is_some (kept_in self.old op) }
     {
         if self.has(op) {
             return Err(Twice);
         }
         let mut place = Some(reply);
-        self.kept.exchange(op as usize, &mut place);
+        self.places.exchange(op as usize, &mut place);
         Ok(())
-    }
-
-    /// The node of what comes back from an operation.
-    fn reply(&self, op: u32) -> NodeId
-        requires { op < length self.now.binding.ops }
-        ensures node { result < length self.now.binding.nodes }
-        ensures type_ { type_at self.now.binding.nodes result ≡ reply_type self.now.binding op }
-    {
-        match self.bound.ops().get(op as usize) {
-            Some(operation) => operation.reply,
-            None => unreachable!(),
-        }
-    }
-}
-
-impl<'a> Skeleton for Replies<'a> {
-    ghost binding = { λ r. r.binding };
-
-    ghost Answers = { λ r op request v. v ≡ answer_at r op };
-
-    fn call(&self, alloc: Global, op: u32, _request: &Value) -> Result<Value, NoMemory> {
-        match self.kept(op) {
-            Some(reply) => copy_value(alloc, reply),
-            None => blank(alloc, self.bound.mint(), self.reply(op)),
-        }
     }
 }
