@@ -1,4 +1,4 @@
--- Items of arrays, one behind the other.
+-- Items of arrays, one after the other.
 use Rattle.std.proofs.Common.{◌≡◌, ℕ, suc, ◌<◌, ◌≤◌, ◌+◌, List, [], ◌∷◌, ◌++◌, length, get_or, slice_get, zero, Some, drop, ℤ, refl, sym, ap, ◌∙◌, arith, add-one, length-drop}
 use Rattle.std.proofs.Math.Seq.{drop-cons}
 use Rattle.std.proofs.lemmas.List.{drop_all}
@@ -12,7 +12,7 @@ use Rattle.serde_json.specs.View.{view, items_view}
 use Rattle.json_shape.specs.Texts.{text_of}
 use Rattle.json_shape.specs.Written.{number_json, each_json, items_json, json_of, in_order_json, by_name_json}
 
--- items behind items
+-- items after items
 abbrev pub behind_items : Items → Items → Items
 behind_items no_items js = js
 behind_items (item i is) js = item i (behind_items is js)
@@ -105,7 +105,7 @@ module _ (fs : List Face) where
       named_out (drop i names) (drop i ids) (drop i vs) (λ m n.
       h (omega (arith, m, length-drop i ids)) (omega (arith, n, length-drop i vs)))
 
-  -- one field more before those behind it
+  -- one field more before those after it
   pub named_more : (names : List (List ℕ)) (ids : List ℕ) (vs : List Value) (i : ℕ) (e : List ℕ) (d : Value) (ms : Members) (name : List ℕ)
       (v : Json)
       → i < length names → i < length ids → i < length vs

@@ -48,6 +48,6 @@ ends front rest all l none =
     let there : front ≡ chars all = sym (append-nil front) ∙ ap (λ cs. front ++ cs) (sym empty) ∙ l.whole in
     rw (← there, l.small) refl
 
--- one more octet behind the string of others
+-- one more octet after the string of others
 pub text_of-push : (octets : List ℕ) (o : ℕ) → text_of octets ++ encode_utf8 o ≡ text_of (octets ++ o ∷ [])
 text_of-push octets o = ap (λ bs. text_of octets ++ bs) (sym (append-nil (encode_utf8 o))) ∙ sym (encodes-append octets (o ∷ []))

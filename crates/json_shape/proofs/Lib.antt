@@ -14,7 +14,7 @@ pub mod Deciding
 pub mod Lookups
 -- * One more field or element
 pub mod Fields
--- * Items of arrays, one behind the other
+-- * Items of arrays, one after the other
 pub mod Items
 -- * The characters of a string, one by one
 pub mod Letters

@@ -91,6 +91,14 @@ answered_of b j (Some o) = if o.1.has_reply then told_of b j o.0 o.1 (reply_tree
 abbrev pub reply_of : Binding → Data → Result Begun RecordErr
 reply_of b j = if is_reply b.back j then answered_of b j (op_named b (text_at (codes "op") j)) else Err errors.Request
 
+-- a reply record has a head number
+abbrev pub has_head : Back → Data → Bool
+has_head b j = is_some (get (head_key b) j)
+
+-- the reply that a tree without a head number begins, or the first refusal
+abbrev pub given_of : Binding → Data → Result Begun RecordErr
+given_of b j = if has_head b.back j then Err errors.Request else reply_of b j
+
 -- ---- what is written
 
 -- the name of the exception at a place

@@ -24,7 +24,7 @@ impl From<NoMemory> for ShapeErr {
 /// Why no record was read; of two causes the first one.
 #[derive(Clone, Copy, Debug, PartialEq, Eq)]
 pub enum RecordErr {
-    /// The JSON is no record.
+    /// The JSON is not a record.
     Request,
     /// No operation has the name.
     Op,

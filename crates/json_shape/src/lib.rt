@@ -23,7 +23,7 @@ pub use laws::{
 };
 pub use reading::to_value;
 pub use records::RequestRec;
-pub use replies::{read_reply, reply_named};
+pub use replies::{read_given, read_reply, reply_named};
 pub use requests::read_request;
 pub use writing::to_json;
 pub use written_records::{write_reply, write_request};

@@ -295,7 +295,7 @@ fn choice(
     }
 }
 
-/// The value of the number's arm, behind the number.
+/// The value of the number's arm, after the number.
 #[cycle(read)]
 #[tactic(auto, using(crate::proofs::Arms::arms), unfolding(crate::specs::Reading::value_of))]
 fn arm(

@@ -10,7 +10,7 @@ ghost use Rattle.serde_json.specs.View.{view, items_view};
 ghost use Rattle.json_shape.specs.Members.{list_at, table_at, any_at};
 ghost use Rattle.json_shape.specs.Operations.{replying};
 ghost use Rattle.json_shape.specs.Records.{Comes};
-ghost use Rattle.json_shape.specs.Replies.{is_given, is_raised, is_reply, items_of, given_tree, raised_tree, reply_tree, reply_of};
+ghost use Rattle.json_shape.specs.Replies.{is_given, is_raised, is_reply, has_head, items_of, given_tree, raised_tree, reply_tree, reply_of, given_of};
 
 use crate::errors::RecordErr;
 use crate::members::{
@@ -53,6 +53,19 @@ pub fn read_reply(alloc: Global, bound: &Bound, json: &Json) -> Result<RequestRe
     finish(alloc, bound, number, head, op.reply, &tree)
 }
 
+/// The reply that a record without a head number presents. One with a head number is no such record.
+pub fn read_given(alloc: Global, bound: &Bound, json: &Json) -> Result<RequestRec, RecordErr>
+    ensures comes { Comes (given_of bound.now (view json.now)) result }
+    ensures op { IfOk result (λ r. r.op < length bound.now.ops) }
+    ensures typed { IfOk result (λ r. IfSome (slice_get bound.now.ops r.op)
+        (λ o. IsWellTyped (type_at bound.now.nodes o.reply) (seen r.value))) }
+{
+    if has_head(bound.back(), json) {
+        return Err(RecordErr::Request);
+    }
+    read_reply(alloc, bound, json)
+}
+
 /// The number of the first operation of a name, where it has a reply.
 pub fn reply_named(alloc: Global, bound: &Bound, name: &[u8]) -> Result<Option<u32>, NoMemory>
     ensures found { IfOk result (λ o. o ≡ replying bound.now name.now) }
@@ -78,6 +91,13 @@ fn is_reply(back: Back, json: &Json) -> bool
         && is_text(json.get("op"))
         && head_number(json.get(head_key(back))).is_some()
         && is_answer(json)
+}
+
+/// Whether the record has a head number.
+fn has_head(back: Back, json: &Json) -> bool
+    ensures { result ≡ has_head back (view json.now) }
+{
+    json.get(head_key(back)).is_some()
 }
 
 fn is_answer(json: &Json) -> bool

@@ -63,7 +63,7 @@ pub(crate) fn text_of(alloc: Global, octets: &[u8]) -> Result<String, NoMemory>
     Ok(text)
 }
 
-/// What stands behind the string of the octets.
+/// What stands after the string of the octets.
 pub(crate) fn behind<'a>(octets: &[u8], chars: Chars<'a>) -> Option<Chars<'a>>
     requires { IsUtf8 (chars_rest chars) }
     ensures some { IfSome result (λ r. IsUtf8 (chars_rest r)
