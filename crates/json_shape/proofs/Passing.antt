@@ -7,7 +7,7 @@ use Rattle.std.proofs.lemmas.Slice.Eq.{bytes_eq-Decides}
 use Rattle.std.proofs.lemmas.Bool.Decides.{Decides-eqb}
 use Rattle.json_shape.specs.Texts.{text_of}
 
--- the string of the first octets is after us, and what may still come is that of the others
+-- the string of the first octets has been read, and what may still come is that of the others
 pub record Passing (octets : List ℕ) (k : ℕ) (start rest : List ℕ) : Type 0 where
   pub utf8 : IsUtf8 rest
   pub past : start ≡ text_of (take k octets) ++ rest
