@@ -1,6 +1,5 @@
 pub mod Fates
 pub mod Backs
-pub mod Engines
 pub mod Messages
 pub mod Costs
 pub mod Operations

@@ -1,32 +1,34 @@
 // An engine.
-ghost use Rattle.std.specs.Prelude.{◌≡◌, IfOk};
+ghost use Rattle.std.specs.Prelude.{◌≡◌, ◌<◌, length, IfOk, Some, option_map, slice_get};
+ghost use Rattle.op_codes.specs.Stubs.{IsCoded};
 ghost use Rattle.flick_engine.specs.Backs.{IsMade};
 
+use cast_stub::{RecvCode, SendCode};
 use kit_base::NoMemory;
 use op_codes::Codes;
 use pres::Bound;
 use std::alloc::Global;
 use std::marker::Model;
 
-/// The operations of a unit over a back end, ready to make messages and to read them.
+/// The operations of a unit over a back end, each with its stub code, ready to make messages and to read them.
 #[derive(Drop)]
 pub struct Engine {
     stubs: Codes,
 }
 
 impl Model for Engine {
-    ghost use Rattle.flick_engine.specs.Engines.{Compiled};
+    ghost use Rattle.op_codes.specs.Stubs.{Coded};
     ghost use Rattle.flick_engine.specs.Backs.{IsMade};
     ghost use Rattle.std.specs.Coded.{codes};
     ghost use Rattle.aoi.specs.Stored.{coded_shape, coded_members};
     ghost use Rattle.cast_stub.specs.contracts.send.SendOp as s;
     ghost use Rattle.cast_stub.specs.contracts.recv.RecvOp as r;
 
-    ghost Value = { Compiled };
+    ghost Value = { Coded };
 
     ghost coded = { Prim.hlevel (codes, coded_shape, coded_members, s.the_row.coded, r.the_row.coded) };
 
-    ghost view = { λ e. record { binding = e.stubs.binding } };
+    ghost view = { λ e. e.stubs };
 
     ghost invariant = { λ e. IsMade e.stubs.binding.back };
 }
@@ -36,7 +38,8 @@ impl Engine {
     /// code that comes out.
     pub fn compile(alloc: Global, bound: Bound) -> Result<Engine, NoMemory>
         requires made { IsMade bound.back }
-        ensures { IfOk result (λ e. e.binding ≡ bound) }
+        ensures binding { IfOk result (λ e. e.binding ≡ bound) }
+        ensures coded { IfOk result IsCoded }
     {
         Ok(Engine {
             stubs: Codes::compile(alloc, bound)?,
@@ -51,9 +54,34 @@ impl Engine {
         self.stubs.bound()
     }
 
+    /// There is one code for each operation, and each is what is promised of its operation: the code that sends
+    /// means exactly the octets of the message, ensures the room for all that it appends, and checks the buffer at
+    /// most once a region; the code that receives gives a value exactly where octets spell one. It does nothing.
+    pub fn codes_are_the_operations(&self)
+        ensures { IsCoded self.now }
+    {
+        self.stubs.codes_are_the_operations();
+    }
+
+    /// The code that sends an operation's requests.
+    pub fn send_code(&self, op: u32) -> &SendCode
+        requires { op < length self.now.binding.ops }
+        ensures found { option_map (λ s. s.send) (slice_get self.now.stubs op) ≡ Some result.now }
+    {
+        self.stubs.send_code(op)
+    }
+
+    /// The code that receives what goes into an operation, laid out as it is sent.
+    pub fn recv_code(&self, op: u32) -> &RecvCode
+        requires { op < length self.now.binding.ops }
+        ensures found { option_map (λ s. s.recv) (slice_get self.now.stubs op) ≡ Some result.now }
+    {
+        self.stubs.recv_code(op)
+    }
+
     /// The stub code of each operation.
     pub(crate) fn stubs(&self) -> &Codes
-        ensures { result.now.binding ≡ self.now.binding }
+        ensures { result.now ≡ self.now }
     {
         &self.stubs
     }

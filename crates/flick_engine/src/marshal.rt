@@ -39,7 +39,7 @@ impl Engine {
         ensures short { OnOk result
             (length (message self.now.binding op head.now (seen value.now)) ≤ longest_message) }
         ensures cost { OnOk result
-            (IsSentByCode self.now.binding op head.now (seen value.now) buf.old.spent buf.new) }
+            (IsSentByCode self.now.stubs op head.now (seen value.now) buf.old.spent buf.new) }
         // When each error comes.
         ensures long { (result ≡ Err MarshalErr.Long)
             → longest_message < length (message self.now.binding op head.now (seen value.now)) }
@@ -47,9 +47,7 @@ impl Engine {
         ensures err { OnErr result (buf.new.done ≡ []) }
         ensures spent { NoneFell buf.old.spent buf.new.spent }
     {
-        let stubs = self.stubs();
-        let _stub = stubs.stub(op);
-        match stubs.send(op, head, value, buf) {
+        match self.stubs().send(op, head, value, buf) {
             Ok(()) => Ok(()),
             Err(SendErr::Long) => Err(MarshalErr::Long),
             Err(SendErr::NoMemory) => Err(MarshalErr::NoMemory),

@@ -28,7 +28,7 @@ impl Engine {
         ensures op { IfOk result (λ r. r.op < length self.now.binding.ops) }
         ensures typed { IfOk result (λ r. IsWellTyped (request_type self.now.binding r.op) (seen r.value)) }
         ensures code { IfOk result (λ r.
-            IsReadByCode self.now.binding r.op (seen r.value) view.old view.new) }
+            IsReadByCode self.now r.op (seen r.value) view.old view.new) }
     {
         self.read_message(alloc, view.rest(), view)
     }
@@ -46,7 +46,7 @@ impl Engine {
         ensures op { IfOk result (λ r. r.op < length self.now.binding.ops) }
         ensures typed { IfOk result (λ r. IsWellTyped (request_type self.now.binding r.op) (seen r.value)) }
         ensures code { IfOk result (λ r.
-            IsReadByCode self.now.binding r.op (seen r.value) view.old view.new) }
+            IsReadByCode self.now r.op (seen r.value) view.old view.new) }
     {
         match self.begin(message) {
             Ok((called, op)) => self.read_body(alloc, op, &called, message, view),
@@ -92,7 +92,7 @@ impl Engine {
         ensures op { IfOk result (λ r. r.op < length self.now.binding.ops) }
         ensures typed { IfOk result (λ r. IsWellTyped (request_type self.now.binding r.op) (seen r.value)) }
         ensures code { IfOk result (λ r.
-            IsReadByCode self.now.binding r.op (seen r.value) view.old view.new) }
+            IsReadByCode self.now r.op (seen r.value) view.old view.new) }
     {
         bodies_are_taken();
         pass_head(called.used, view);

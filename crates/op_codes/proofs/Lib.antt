@@ -8,6 +8,8 @@ mod Leading
 mod Chained
 -- * What a run of an operation's code has done, as it is promised of the operation
 mod Done
+-- * What a request costs by the code that is kept
+mod Costing
 -- * A value that was received is what the message has, and nothing else
 mod Found
 -- * What the passes make of such code sends the messages

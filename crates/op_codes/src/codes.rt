@@ -4,7 +4,7 @@ ghost use Rattle.op_codes.specs.Backs.{encoding, lead, Takes};
 ghost use Rattle.op_codes.specs.Messages.{request_type};
 ghost use Rattle.op_codes.specs.Receiving.{Receives};
 ghost use Rattle.op_codes.specs.Sending.{Sends};
-ghost use Rattle.op_codes.specs.Stubs.{IsStub};
+ghost use Rattle.op_codes.specs.Stubs.{IsCoded, IsStub};
 
 use crate::backs::encoding_of;
 use crate::compile::stubs_of;
@@ -43,7 +43,8 @@ impl Model for Codes {
 impl Codes {
     /// The code of each operation of what is bound. The nodes are lowered once.
     pub fn compile(alloc: Global, bound: Bound) -> Result<Codes, NoMemory>
-        ensures { IfOk result (λ c. c.binding ≡ bound) }
+        ensures binding { IfOk result (λ c. c.binding ≡ bound) }
+        ensures coded { IfOk result IsCoded }
     {
         let stubs = stubs_of(alloc, &bound)?;
         Ok(Codes { bound, stubs })
@@ -54,6 +55,13 @@ impl Codes {
         ensures { result.now ≡ self.now.binding }
     {
         &self.bound
+    }
+
+    /// There is one code for each operation, and each is what is promised of its operation. It does nothing.
+    pub fn codes_are_the_operations(&self)
+        ensures { IsCoded self.now }
+    {
+        let _stubs = &self.stubs;
     }
 
     /// The code of an operation.

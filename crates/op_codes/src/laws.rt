@@ -1,7 +1,13 @@
-// The laws of bodies, each the contract of a function that does nothing.
-ghost use Rattle.op_codes.specs.Laws.{BodiesAreTaken};
+// The laws of bodies and of costs, each the contract of a function that does nothing.
+ghost use Rattle.op_codes.specs.Laws.{BodiesAreTaken, RequestsHaveCosts};
 
 /// The body of a call that is received may be received by the code of an operation, from the head's end on.
 pub fn bodies_are_taken()
     ensures { BodiesAreTaken }
+{}
+
+/// A request has a cost, by the code that is kept for its operation, which checks the buffer at most once for each
+/// region of its message.
+pub fn requests_have_costs()
+    ensures { RequestsHaveCosts }
 {}

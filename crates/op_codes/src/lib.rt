@@ -17,5 +17,5 @@ mod stub;
 
 pub use backs::encoding_of;
 pub use codes::Codes;
-pub use laws::bodies_are_taken;
+pub use laws::{bodies_are_taken, requests_have_costs};
 pub use stub::{Stub, Stubs};
