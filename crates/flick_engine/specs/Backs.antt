@@ -87,7 +87,7 @@ AsksFor back.Mach i p o = (c : MachCall) × mach_told.BeginsCall o c × ((routin
 abbrev pub request_of : Target → ℕ → Request
 request_of t id = record { id = id; wants = t.wants; key = t.key; name = t.name }
 
--- what is told of its head in this order
+-- what is reported of its head in this order
 abbrev pub told_of : Order → Target → ℕ → ToldRequest
 told_of r t id = record { head = shared_head id t.wants r; key = t.key; name = t.name; used = length (cdr_leads.lead r t id) }
 

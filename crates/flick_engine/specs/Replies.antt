@@ -32,7 +32,7 @@ abbrev pub arm_parts : Binding → ℕ → ℕ → Head → Val → List ℕ
 arm_parts b op k head w =
     reply_lead b op k head ++ send (encoding b.back) (arm_type b op k) (length (reply_lead b op k head)) w
 
--- the two, in which the length of the whole is told
+-- the two, in which the length of the whole is stated
 abbrev pub arm_message : Binding → ℕ → ℕ → Head → Val → List ℕ
 arm_message b op k head w = sized b.back (arm_parts b op k head w)
 

@@ -43,7 +43,7 @@ over q o x at h =
 grouped : (q o x : List ℕ) (ss : List Step) (r : List ℕ) → wrote 0 (q ++ (o ++ x)) ss ≡ Some r → wrote 0 ((q ++ o) ++ x) ss ≡ Some r
 grouped q o x ss r h = ap (λ (y : List ℕ). wrote 0 y ss) (append_assoc q o x) ∙ h
 
--- what steps write behind octets, they write also where these stand in a message
+-- what steps write after octets, they write also where these stand in a message
 pub behind : (q : List ℕ) (ss : List Step) (o r : List ℕ) → wrote (length q) o ss ≡ Some r → wrote 0 (q ++ o) ss ≡ Some (q ++ r)
 behind q [] o r e = ap (λ (x : List ℕ). Some (q ++ x)) (some_same o r e)
 behind q (Room n ∷ ss) o r e = behind q ss o r e

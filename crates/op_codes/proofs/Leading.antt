@@ -17,7 +17,7 @@ use Rattle.back_mach.specs.Routines.{routine_of}
 use Rattle.op_codes.specs.Backs.{lead_over, lead}
 use Rattle.op_codes.specs.Sending.{AreHeads}
 
--- a body may stand behind each head
+-- a body may stand after each head
 pub are_heads : (k : Back) (b : Binding) (op : ℕ) → AreHeads k (lead_over k b op)
 are_heads back.Xdr b op = record { place = λ h. refl; long = λ h. omega arith }
 are_heads back.CdrBig b op = record { place = λ h. tt; long = λ h. long_request Big (target_of b op) h.id }

@@ -41,7 +41,7 @@ use Rattle.op_codes.specs.Sending.{AreHeads, IsWhole}
 use Rattle.op_codes.proofs.Following.{behind, chunks-length, chunks-steps, chunks-append}
 use Rattle.op_codes.proofs.Stated.{tail_steps, tail_runs, states}
 
--- ---- steps behind others
+-- ---- steps after others
 
 opened : {A B : Type 0} (x : Option A) (f : A → Option B) (b : B) → on_some x f ≡ Some b → (a : A) × (x ≡ Some a) × (f a ≡ Some b)
 opened None f b e = absurd cc

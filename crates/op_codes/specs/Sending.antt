@@ -19,7 +19,7 @@ use Rattle.copy_inline.specs.Rows.{GivesBlocks}
 use Rattle.op_codes.specs.Backs.{encoding, tail}
 use Rattle.op_codes.specs.Messages.{framed}
 
--- the octets of heads behind which a body may stand, and in which a length may be stated
+-- the octets of heads after which a body may stand, and in which a length may be stated
 pub record AreHeads (k : Back) (o : Head → List ℕ) : Type 0 where
   pub place : (h : Head) → IsPlace (encoding k) (length (o h))
   pub long : (h : Head) → 12 ≤ length (o h)
