@@ -54,7 +54,7 @@ impl Engine {
         }
     }
 
-    /// The operation that a message calls, and what its head says. It wants no memory.
+    /// The operation that a message calls, and what its head says. It takes no memory.
     fn begin(&self, message: &[u8]) -> Result<(Called, u32), MessageErr>
         ensures ok { IfOk result (λ r. Names self.now.binding message.now r.0 (Naming.Operation r.1)) }
         ensures op { IfOk result (λ r. r.1 < length self.now.binding.ops) }
@@ -120,7 +120,7 @@ impl Engine {
         self.read_body(alloc, op, called, message, &mut view)
     }
 
-    /// The request of a message whose body was read so. It wants no memory.
+    /// The request of a message whose body was read so. It takes no memory.
     fn told_by_body(
         &self,
         op: u32,

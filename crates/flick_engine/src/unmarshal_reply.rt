@@ -42,7 +42,7 @@ impl Engine {
         }
     }
 
-    /// The head of a reply to an operation. It wants no memory.
+    /// The head of a reply to an operation. It takes no memory.
     fn begin_reply<'m>(&self, op: u32, message: &'m [u8]) -> Result<ReplyHead<'m>, MessageErr>
         requires op { op < length self.now.binding.ops }
         ensures ok { IfOk result (λ r. IsShort message.now
@@ -88,7 +88,7 @@ impl Engine {
         })
     }
 
-    /// The value of an arm by the body that was read after the head of a reply. It wants no memory.
+    /// The value of an arm by the body that was read after the head of a reply. It takes no memory.
     fn told_by_answer(
         &self,
         op: u32,
@@ -130,7 +130,7 @@ impl Engine {
         }
     }
 
-    /// A reply that refuses. It wants no memory.
+    /// A reply that refuses. It takes no memory.
     fn told_by_refusal(
         &self,
         op: u32,
