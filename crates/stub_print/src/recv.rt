@@ -1,6 +1,5 @@
 // The text of code that receives.
 ghost use Rattle.std.specs.Prelude.{◌≡◌, ◌∷◌, [], codes, map, IfOk, OnOk};
-ghost use Rattle.kit_base.specs.Lines.{HasNoEnd};
 ghost use Rattle.cast_stub.specs.RecvBlock.{pass, op_seen, code_seen};
 ghost use Rattle.stub_print.specs.Putting.{IsPut, IsRecvPut};
 ghost use Rattle.stub_print.specs.RecvText.{block_text, recv_text, subs_text};
@@ -19,7 +18,6 @@ use std::alloc::Global;
 /// The text of a code that receives: `recv` and the name, the operations, each code that calls name
 /// after `sub` and its number, and `end`.
 pub fn print_recv(alloc: Global, name: &Name, code: &RecvCode) -> Result<Octets, NoMemory>
-    requires name { HasNoEnd name.now }
     ensures { IfOk result (λ text.
         text ≡ recv_text name.now (code_seen code.now.ops) (map code_seen code.now.subs)) }
 {

@@ -1,6 +1,5 @@
 // The text of code that sends.
 ghost use Rattle.std.specs.Prelude.{◌≡◌, ◌∷◌, [], codes, map, IfOk, OnOk};
-ghost use Rattle.kit_base.specs.Lines.{HasNoEnd};
 ghost use Rattle.cast_stub.specs.Block.{chunk, op_seen, code_seen};
 ghost use Rattle.stub_print.specs.Putting.{IsPut, IsSendPut};
 ghost use Rattle.stub_print.specs.SendText.{block_text, send_text, subs_text};
@@ -19,7 +18,6 @@ use wire_def::Order;
 /// The text of a code that sends: `send` and the name, the operations, each code that calls name
 /// after `sub` and its number, and `end`.
 pub fn print_send(alloc: Global, name: &Name, code: &SendCode) -> Result<Octets, NoMemory>
-    requires name { HasNoEnd name.now }
     ensures { IfOk result (λ text.
         text ≡ send_text name.now (code_seen code.now.ops) (map code_seen code.now.subs)) }
 {

@@ -1,0 +1,16 @@
+use Rattle.raw_buf.proofs.Standing.{none_fell-trans}
+use Rattle.kit_texts.specs.MadeText.{is_within, made_message}
+use Rattle.kit_texts.proofs.Counting.{made_as, one_counted}
+use Rattle.kit_texts.proofs.made.sums_of.Goals as goal
+
+pub loop-i-preserved : goal.loop-i-preserved
+loop-i-preserved c =
+    let message_of = made_message c.args.engine.now.binding c.args.number in
+    let m = message_of c.loop-i.i in
+    let made = made_as (is_within c.in_ok-trip.trip) c.is_within.result m c.make_message.new.buf.done c.octets.result.now
+    c.is_within.ensures c.octets.ensures c.in_ok-trip.ensures.trip.made in
+    record {
+      counted = one_counted message_of c.args.many c.loop-i.i c.loop-i.sums c.count.new.self c.loop-i-test.true (c.count.ensures m made)
+          c.loop-i.invariant.counted;
+      spent = none_fell-trans _ _ _ c.loop-i.invariant.spent c.in_ok-trip.ensures.spent;
+    }

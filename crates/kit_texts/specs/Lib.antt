@@ -1,0 +1,6 @@
+pub mod Counted
+pub mod MadeText
+pub mod Show
+pub mod StubTexts
+pub mod TypeText
+pub mod WholeLines
