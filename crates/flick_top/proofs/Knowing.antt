@@ -7,7 +7,7 @@ use Rattle.wire_def.specs.declared.encoding.Back.{Back}
 use Rattle.flick_engine.specs.Backs.{IsMade, back_of}
 use Rattle.flick_engine.proofs.HeadsOfBacks.{back_made}
 use Rattle.flick_top.specs.declared.command.Command.TheVariants.{Help, Version}
-use Rattle.flick_top.specs.declared.command.Verb.{Verb}
+use Rattle.flick_lines.specs.declared.verb.Verb.{Verb}
 use Rattle.flick_top.specs.Command.{command_of, option_of, verb_of, over_file, IsKnown}
 use Rattle.flick_top.specs.Fronts.{front_of, IsRead}
 use Rattle.flick_top.proofs.UnitsOfFronts.{front_read}

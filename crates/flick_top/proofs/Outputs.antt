@@ -2,7 +2,6 @@
 use Rattle.std.proofs.Common.{◌≡◌, ℕ, List, [], ◌∷◌, ◌++◌, length, Bool, true, false, ◌||◌, Option, Some, None, Ok, Err, refl, sym, ap, ◌∙◌, subst}
 use Rattle.std.specs.Prelude.{nat_le, MatchBool, if◌then◌else◌}
 use Rattle.kit_base.specs.Limits.{longest_file, longest_line}
-use Rattle.hex.specs.Hex.{decode_of}
 use Rattle.kit_base.specs.declared.lines.Line.{Line}
 use Rattle.kit_base.specs.declared.lines.Line.TheVariants.{Text, Long, End}
 use Rattle.kit_base.specs.Lines.{lines}
@@ -12,28 +11,25 @@ use Rattle.aoi.specs.Plain.{PlainUnit}
 use Rattle.pres.specs.declared.errors.BindErr.{BindErr}
 use Rattle.pres.specs.Bindings.{Binding}
 use Rattle.pres.specs.Faults.{bind_fault}
-use Rattle.flick_engine.specs.Engines.{Compiled}
 use Rattle.flick_top.specs.declared.command.Command.{Command}
 use Rattle.flick_top.specs.declared.command.Command.TheVariants as commands
 use Rattle.flick_top.specs.declared.command.Named.{Named}
-use Rattle.flick_top.specs.declared.command.Verb.{Verb}
-use Rattle.flick_top.specs.declared.command.Verb.TheVariants as verbs
+use Rattle.flick_lines.specs.declared.verb.Verb.{Verb}
 use Rattle.flick_top.specs.declared.saying.Saying.{Saying}
 use Rattle.flick_top.specs.declared.saying.Saying.TheVariants as sayings
 use Rattle.flick_top.specs.declared.status.Status.{Status}
 use Rattle.flick_top.specs.declared.task.Job.{Job}
 use Rattle.flick_top.specs.declared.task.Task.{Task}
-use Rattle.flick_top.specs.Answer.{Answering, IsAnswerTo, IsAnswer, IsAnswering, answers, is_refusal, refuses}
+use Rattle.flick_top.specs.Answer.{Answering, IsAnswer, IsAnswering, answers, is_refusal, refuses}
 use Rattle.flick_top.specs.Command.{command_of, word_at}
 use Rattle.flick_top.specs.File.{Told, IsOver, BindSays, BoundSays, FileSays}
 use Rattle.flick_top.specs.Fronts.{Read, UnitOf}
-use Rattle.flick_top.specs.Marshalled.{tree_of}
 use Rattle.flick_top.specs.Output.{Files, saying_task, shapeless_task, task_over, IsOverFile, Comes, IsTask, AreAnswered, IsAnswered, Out, text_out, out_of}
 use Rattle.flick_top.proofs.Determined.{one_answer}
 use Rattle.flick_top.proofs.UnitsOfFronts.{one_unit}
-use Rattle.flick_top.proofs.Twins.{AreTwins}
-use Rattle.flick_top.proofs.TwinMessages.{calls_over, unreplied_over}
-use Rattle.flick_top.proofs.TwinRecords.{requests_over, replies_over}
+use Rattle.flick_lines.specs.Verbs.{IsAnswerTo}
+use Rattle.flick_lines.proofs.Twins.{AreTwins}
+use Rattle.flick_lines.proofs.Alike.{answer_over}
 
 -- ---- what a file says
 
@@ -64,8 +60,7 @@ twins k u b c one other =
 
 bind_says : (k : Back) (u : PlainUnit) (e : Option BindErr) (r s : Told) → BindSays u k e r → BindSays u k e s → AreTold r s
 bind_says k u (Some e) r s p q = told_by r s (Err (sayings.Bind e)) (Err (sayings.Bind e)) p q refl
-bind_says k u None r s (b, one, p) (c, other, q) =
-    told_by r s (Ok (record { binding = b })) (Ok (record { binding = c })) p q (twins k u b c one other)
+bind_says k u None r s (c, one, p) (d, other, q) = told_by r s (Ok c) (Ok d) p q (twins k u c.binding d.binding one other)
 
 bound_says : (k : Back) (read : Read) (r s : Told) → BoundSays k read r → BoundSays k read s → AreTold r s
 bound_says k (Err e) r s p q = told_by r s (Err e) (Err e) p q refl
@@ -118,16 +113,10 @@ over_files (Some (commands.Over n)) words files t u p q = over_file n (files (wo
 
 -- ---- what is written
 
-to_over : (v : Verb) (b c : Binding) → AreTwins b c → (octets a : List ℕ) → IsAnswerTo v b octets a → IsAnswerTo v c octets a
-to_over verbs.Marshal b c t octets a h = requests_over b c t (tree_of octets) a h
-to_over verbs.Unmarshal b c t octets a h = calls_over b c t (decode_of octets) a h
-to_over verbs.Reply b c t octets a h = replies_over b c t (tree_of octets) a h
-to_over verbs.Unreply b c t octets a h = unreplied_over b c t octets a h
-
 line_over : (j k : Job) (line : Line) (x : List ℕ) → AreJobs j k → IsAnswer j line x → IsAnswer k line x
 line_over j k (Text octets) x t (a, is, e) =
-    let same = subst (λ (v : Verb). IsAnswerTo v j.engine.binding octets a) t.verbs is in
-    (a, to_over k.verb j.engine.binding k.engine.binding t.twins octets a same, e)
+    let same = subst (λ (v : Verb). IsAnswerTo v j.engine octets a) t.verbs is in
+    (a, answer_over k.verb j.engine k.engine t.twins octets a same, e)
 line_over j k Long x t h = h
 line_over j k End x t h = h
 

@@ -1,5 +1,5 @@
 -- All words and files have a task.
-use Rattle.std.proofs.Common.{◌≡◌, ℕ, Bool, true, false, List, length, Option, Some, None, Ok, Err, refl}
+use Rattle.std.proofs.Common.{◌≡◌, ℕ, Bool, true, false, List, [], length, Option, Some, None, Ok, Err, refl}
 use Rattle.std.specs.Prelude.{nat_le, MatchBool, IfSome}
 use Rattle.kit_base.specs.Limits.{longest_file}
 use Rattle.wire_def.specs.declared.encoding.Back.{Back}
@@ -8,6 +8,7 @@ use Rattle.aoi.specs.Plain.{PlainUnit, IsSoundPlain}
 use Rattle.pres.specs.declared.errors.BindErr.{BindErr}
 use Rattle.pres.specs.Faults.{bind_fault}
 use Rattle.pres.proofs.Existing.{units_bound}
+use Rattle.op_codes.specs.Stubs.{Coded}
 use Rattle.flick_top.specs.declared.command.Command.{Command}
 use Rattle.flick_top.specs.declared.command.Command.TheVariants as commands
 use Rattle.flick_top.specs.declared.saying.Saying.TheVariants as sayings
@@ -26,7 +27,8 @@ bind_has : (u : PlainUnit) (k : Back) (e : Option BindErr) → IsSoundPlain u �
 bind_has u k (Some e) sound is = (Err (sayings.Bind e), refl)
 bind_has u k None sound is =
     let (b, stands, unit, of, nodes) = units_bound u k sound is in
-    (Ok (record { binding = b }), (b, record { stands = stands; unit = unit; back = of; nodes = nodes }, refl))
+    let c : Coded = record { binding = b; stubs = [] } in
+    (Ok c, (c, record { stands = stands; unit = unit; back = of; nodes = nodes }, refl))
 
 bound_has : (k : Back) (read : Read) → IsSoundRead read → (told : Told) × BoundSays k read told
 bound_has k (Err saying) sound = (Err saying, refl)

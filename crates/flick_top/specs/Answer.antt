@@ -2,23 +2,12 @@
 use Rattle.std.specs.Prelude.{◌≡◌, ℕ, List, [], ◌∷◌, ◌++◌, Bool, false, ◌||◌, ◌==◌, codes, flat_map}
 use Rattle.kit_base.specs.declared.lines.Line.{Line}
 use Rattle.kit_base.specs.declared.lines.Line.TheVariants.{Text, Long, End}
-use Rattle.pres.specs.Bindings.{Binding}
-use Rattle.flick_top.specs.declared.command.Verb.{Verb}
-use Rattle.flick_top.specs.declared.command.Verb.TheVariants.{Marshal, Unmarshal, Reply, Unreply}
+use Rattle.flick_lines.specs.Verbs.{IsAnswerTo}
 use Rattle.flick_top.specs.declared.task.Job.{Job}
-use Rattle.flick_top.specs.Marshalled.{IsMarshalled, IsReplied}
-use Rattle.flick_top.specs.Unmarshalled.{IsUnmarshalled, IsUnreplied}
-
--- the answer of a verb to the octets of a line
-abbrev pub IsAnswerTo : Verb → Binding → List ℕ → List ℕ → Type 0
-IsAnswerTo Marshal b octets a = IsMarshalled b octets a
-IsAnswerTo Unmarshal b octets a = IsUnmarshalled b octets a
-IsAnswerTo Reply b octets a = IsReplied b octets a
-IsAnswerTo Unreply b octets a = IsUnreplied b octets a
 
 -- the answer to a line, with its line feed
 abbrev pub IsAnswer : Job → Line → List ℕ → Type 0
-IsAnswer job (Text octets) answer = (a : List ℕ) × IsAnswerTo job.verb job.engine.binding octets a × (answer ≡ a ++ 10 ∷ [])
+IsAnswer job (Text octets) answer = (a : List ℕ) × IsAnswerTo job.verb job.engine octets a × (answer ≡ a ++ 10 ∷ [])
 IsAnswer job Long answer = answer ≡ codes "! long\n"
 IsAnswer job End answer = answer ≡ []
 

@@ -7,8 +7,8 @@ use Rattle.flick_engine.specs.Backs.{back_of, IsMade}
 use Rattle.flick_top.specs.declared.command.Command.{Command}
 use Rattle.flick_top.specs.declared.command.Command.TheVariants.{Help, Version, Over}
 use Rattle.flick_top.specs.declared.command.Named.{Named}
-use Rattle.flick_top.specs.declared.command.Verb.{Verb}
-use Rattle.flick_top.specs.declared.command.Verb.TheVariants.{Marshal, Unmarshal, Reply, Unreply}
+use Rattle.flick_lines.specs.declared.verb.Verb.{Verb}
+use Rattle.flick_lines.specs.declared.verb.Verb.TheVariants.{Marshal, Unmarshal, Reply, Unreply}
 use Rattle.flick_top.specs.Fronts.{front_of, IsRead}
 
 -- the command of one word

@@ -10,7 +10,7 @@ use Rattle.pres.specs.Bindings.{Binding, IsBinding}
 use Rattle.pres.specs.Faces.{faces}
 use Rattle.pres.specs.Faults.{bind_fault}
 use Rattle.pres.specs.Made.{all_made}
-use Rattle.flick_engine.specs.Engines.{Compiled}
+use Rattle.op_codes.specs.Stubs.{Coded}
 use Rattle.flick_top.specs.declared.saying.Saying.{Saying}
 use Rattle.flick_top.specs.declared.saying.Saying.TheVariants.{NoFile, TooLarge, Bind}
 use Rattle.flick_top.specs.Fronts.{Read, UnitOf}
@@ -32,7 +32,7 @@ IsSoundly (Err saying) = Unit {0}
 
 -- an engine, or what is said instead
 abbrev pub Told : Type 0
-Told = Result Compiled Saying
+Told = Result Coded Saying
 
 -- a unit over a back end: a binding whose nodes are those that the unit makes
 pub record IsOver (u : PlainUnit) (k : Back) (b : Binding) : Type 0 where
@@ -44,7 +44,7 @@ pub record IsOver (u : PlainUnit) (k : Back) (b : Binding) : Type 0 where
 -- a unit that has this reason against it, or else is bound
 abbrev pub BindSays : PlainUnit → Back → Option BindErr → Told → Type 0
 BindSays u back (Some e) told = told ≡ Err (Bind e)
-BindSays u back None told = (b : Binding) × IsOver u back b × (told ≡ Ok (record { binding = b }))
+BindSays u back None told = (c : Coded) × IsOver u back c.binding × (told ≡ Ok c)
 
 -- what was read, over a back end
 abbrev pub BoundSays : Back → Read → Told → Type 0

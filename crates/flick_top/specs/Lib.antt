@@ -3,10 +3,8 @@ pub mod Command
 pub mod File
 pub mod Fronts
 pub mod Laws
-pub mod Marshalled
 pub mod Output
 pub mod Saying
 pub mod Statement
 pub mod Status
 pub mod Turn
-pub mod Unmarshalled

@@ -5,7 +5,7 @@ use Rattle.kit_base.specs.Lines.{lines}
 use Rattle.flick_top.specs.declared.command.Command.{Command}
 use Rattle.flick_top.specs.declared.command.Command.TheVariants as commands
 use Rattle.flick_top.specs.declared.command.Named.{Named}
-use Rattle.flick_top.specs.declared.command.Verb.{Verb}
+use Rattle.flick_lines.specs.declared.verb.Verb.{Verb}
 use Rattle.flick_top.specs.declared.saying.Saying.{Saying}
 use Rattle.flick_top.specs.declared.saying.Saying.TheVariants as sayings
 use Rattle.flick_top.specs.declared.status.Status.{Status}

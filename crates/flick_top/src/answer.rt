@@ -1,15 +1,10 @@
 // The answer to a line.
 ghost use Rattle.std.specs.Prelude.{◌≡◌, IfOk};
 ghost use Rattle.raw_buf.specs.Buf.{NoneFell};
-ghost use Rattle.flick_top.specs.Answer.{IsAnswer, IsAnswerTo, is_refusal};
+ghost use Rattle.flick_top.specs.Answer.{IsAnswer, is_refusal};
 
-use crate::command::Verb;
-use crate::marshal::marshal;
-use crate::reply::reply;
 use crate::task::Job;
-use crate::text::{copied, ended};
-use crate::unmarshal::unmarshal;
-use crate::unreply::unreply;
+use flick_lines::{answer, copied, ended};
 use kit_base::{Line, NoMemory, Octets};
 use raw_buf::SendBuf;
 use std::alloc::Global;
@@ -27,25 +22,7 @@ pub fn answer_to(
     match line {
         Line::End => Ok(Octets::new(alloc)),
         Line::Long => copied(alloc, b"! long\n"),
-        Line::Text(text) => ended(answer_to_text(alloc, job, text.as_slice(), buf)?),
-    }
-}
-
-/// The answer to the octets of a line, without its line feed.
-fn answer_to_text(
-    alloc: Global,
-    job: &Job,
-    text: &[u8],
-    buf: &mut SendBuf,
-) -> Result<Octets, NoMemory>
-    ensures value { IfOk result (λ o. IsAnswerTo job.now.verb job.now.engine.binding text.now o) }
-    ensures spent { NoneFell buf.old.spent buf.new.spent }
-{
-    match job.verb {
-        Verb::Marshal => marshal(alloc, &job.engine, text, buf),
-        Verb::Unmarshal => unmarshal(alloc, &job.engine, text),
-        Verb::Reply => reply(alloc, &job.engine, text, buf),
-        Verb::Unreply => unreply(alloc, &job.engine, text),
+        Line::Text(text) => ended(answer(alloc, job.verb, &job.engine, text.as_slice(), buf)?),
     }
 }
 

@@ -6,6 +6,7 @@ ghost use Rattle.flick_engine.specs.Backs as backs;
 
 use crate::fronts::front_of;
 use flick_engine::back_of;
+use flick_lines::Verb;
 use idl_lex::Front;
 use kit_base::Words;
 use wire_def::Back;
@@ -19,19 +20,6 @@ pub enum Command {
     Version,
     /// `VERB FRONT BACK FILE`
     Over(Named),
-}
-
-/// What is done over a file.
-#[derive(Clone, Copy, Debug, PartialEq, Eq)]
-pub enum Verb {
-    /// `marshal`
-    Marshal,
-    /// `unmarshal`
-    Unmarshal,
-    /// `reply`
-    Reply,
-    /// `unreply`
-    Unreply,
 }
 
 /// What the words of a command over a file name.

@@ -6,16 +6,11 @@ mod command;
 mod file;
 mod fronts;
 mod laws;
-mod marshal;
-mod reply;
 mod saying;
 mod status;
 mod task;
-mod text;
 mod top;
 mod turns;
-mod unmarshal;
-mod unreply;
 
 pub use laws::{outputs_are_determined, words_have_tasks};
 pub use top::flick;

@@ -3,8 +3,8 @@ ghost use Rattle.std.specs.Prelude.{◌≡◌, IfOk, string_bytes};
 ghost use Rattle.flick_top.specs.Saying.{said, ending, lex_name, place_of, name_name, bind_name};
 
 use crate::status::Status;
-use crate::text::copied;
 use aoi::{NameErr, NameFault};
+use flick_lines::copied;
 use idl_lex::LexErr;
 use kit_base::{NoMemory, Octets};
 use pres::BindErr;

@@ -9,12 +9,13 @@ ghost use Rattle.flick_top.specs.Output.{Files, Comes, IsOverFile, IsAnswered, s
 ghost use Rattle.flick_top.specs.Turn.{IsReady};
 ghost use Rattle.flick_top.specs.declared.command.Named.{Named as SpecNamed};
 
-use crate::command::{Command, Named, Verb, word_at};
+use crate::command::{Command, Named, word_at};
 use crate::file::{made_of, read_content};
 use crate::saying::Saying;
 use crate::status::Status;
 use aoi::Unit;
 use flick_engine::Engine;
+use flick_lines::Verb;
 use idl_lex::Front;
 use kit_base::limits::LONGEST_FILE;
 use kit_base::{NoMemory, Octets, Shelf, ShelfErr, Words};
@@ -34,7 +35,7 @@ impl Job {
     fn lines_are_answered(&self)
         ensures { (f : Answering) × IsAnswering self.now f }
     {
-        self.engine.bound().mint().types_are_sound();
+        flick_lines::lines_are_answered(&self.engine);
     }
 }
 

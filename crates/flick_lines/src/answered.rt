@@ -1,0 +1,37 @@
+// The answer to a line.
+ghost use Rattle.std.specs.Prelude.{IfOk, OnOk};
+ghost use Rattle.raw_buf.specs.Buf.{NoneFell};
+ghost use Rattle.flick_lines.specs.Paid.{IsPaid};
+ghost use Rattle.flick_lines.specs.Verbs.{IsAnswerTo};
+
+use crate::counted::count;
+use crate::marshalled::marshal;
+use crate::replied::reply;
+use crate::unmarshalled::unmarshal;
+use crate::unreplied::unreply;
+use crate::verb::Verb;
+use flick_engine::Engine;
+use kit_base::{NoMemory, Octets};
+use raw_buf::SendBuf;
+use std::alloc::Global;
+
+/// The answer of a verb to the octets of a line, without its line feed.
+pub fn answer(
+    alloc: Global,
+    verb: Verb,
+    engine: &Engine,
+    text: &[u8],
+    buf: &mut SendBuf,
+) -> Result<Octets, NoMemory>
+    ensures value { IfOk result (λ o. IsAnswerTo verb engine.now text.now o) }
+    ensures spent { NoneFell buf.old.spent buf.new.spent }
+    ensures paid { OnOk result (IsPaid verb engine.now text.now buf.old buf.new) }
+{
+    match verb {
+        Verb::Marshal => marshal(alloc, engine, text, buf),
+        Verb::Unmarshal => unmarshal(alloc, engine, text),
+        Verb::Reply => reply(alloc, engine, text, buf),
+        Verb::Unreply => unreply(alloc, engine, text),
+        Verb::Count => count(alloc, engine, text, buf),
+    }
+}

@@ -1,0 +1,79 @@
+// The answers of `reply`.
+ghost use Rattle.std.specs.Prelude.{◌≡◌, ◌<◌, length, IfOk, IfSome, OnOk, slice_get};
+ghost use Rattle.serde_json.specs.View.{view};
+ghost use Rattle.mint.specs.Typed.{IsWellTyped};
+ghost use Rattle.mint.specs.Types.{type_at};
+ghost use Rattle.mint.specs.Values.{seen};
+ghost use Rattle.raw_buf.specs.Buf.{NoneFell};
+ghost use Rattle.json_shape.specs.Replies.{reply_of};
+ghost use Rattle.flick_engine.specs.Replies.{reply_message};
+ghost use Rattle.flick_lines.specs.declared.verb.Verb.TheVariants as verbs;
+ghost use Rattle.flick_lines.specs.Marshalled.{digits_of, reply_digits, IsOfRecord, IsReplied};
+ghost use Rattle.flick_lines.specs.Paid.{by_fields, IsPaid, IsPaidRecord};
+
+use crate::marshalled::{refused, tree_of};
+use crate::text::copied;
+use flick_engine::{Engine, MarshalErr};
+use json_shape::{RequestRec, read_reply};
+use kit_base::{NoMemory, Octets};
+use raw_buf::SendBuf;
+use serde_json::Value as Json;
+use std::alloc::Global;
+
+/// The answer of `reply` to a line, without its line feed. The message is made in the buffer.
+pub fn reply(
+    alloc: Global,
+    engine: &Engine,
+    line: &[u8],
+    buf: &mut SendBuf,
+) -> Result<Octets, NoMemory>
+    ensures value { IfOk result (λ o. IsReplied engine.now.binding line.now o) }
+    ensures spent { NoneFell buf.old.spent buf.new.spent }
+    ensures paid { OnOk result (IsPaid verbs.Reply engine.now line.now buf.old buf.new) }
+{
+    match tree_of(alloc, line)? {
+        Some(json) => of_tree(alloc, engine, &json, buf),
+        None => copied(alloc, b"! json"),
+    }
+}
+
+fn of_tree(
+    alloc: Global,
+    engine: &Engine,
+    json: &Json,
+    buf: &mut SendBuf,
+) -> Result<Octets, NoMemory>
+    ensures value { IfOk result (λ o. IsOfRecord (reply_digits engine.now.binding)
+        (reply_of engine.now.binding (view json.now)) o) }
+    ensures spent { NoneFell buf.old.spent buf.new.spent }
+    ensures paid { OnOk result (IsPaidRecord by_fields
+        (reply_of engine.now.binding (view json.now)) buf.old buf.new) }
+{
+    match read_reply(alloc, engine.bound(), json) {
+        Ok(record) => digits_of(alloc, engine, &record, buf),
+        Err(refusal) => refused(alloc, refusal),
+    }
+}
+
+/// The message of a reply in hexadecimal digits, unless it is too long.
+fn digits_of(
+    alloc: Global,
+    engine: &Engine,
+    record: &RequestRec,
+    buf: &mut SendBuf,
+) -> Result<Octets, NoMemory>
+    requires op { record.now.op < length engine.now.binding.ops }
+    requires typed { IfSome (slice_get engine.now.binding.ops record.now.op)
+        (λ o. IsWellTyped (type_at engine.now.binding.nodes o.reply) (seen record.now.value)) }
+    ensures value { IfOk result (λ o. o ≡ digits_of
+        (reply_message engine.now.binding record.now.op record.now.head (seen record.now.value))) }
+    ensures spent { NoneFell buf.old.spent buf.new.spent }
+    ensures paid { OnOk result (by_fields record.now.op record.now.head
+        (seen record.now.value) buf.old buf.new) }
+{
+    match engine.marshal_reply(alloc, record.op, &record.head, &record.value, buf) {
+        Ok(()) => copied(alloc, hex::encode(alloc, buf.octets())?.as_bytes()),
+        Err(MarshalErr::Long) => copied(alloc, b"! long"),
+        Err(MarshalErr::NoMemory) => Err(NoMemory),
+    }
+}
