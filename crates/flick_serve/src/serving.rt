@@ -1,0 +1,134 @@
+// A server.
+ghost use Rattle.std.specs.Prelude.{◌≡◌, ℕ, List, Result, IfOk, Ok};
+ghost use Rattle.hex.specs.Hex.{decode_of};
+ghost use Rattle.raw_buf.specs.Buf.{NoneFell};
+ghost use Rattle.skeleton.specs.Kept.{answer_at};
+ghost use Rattle.flick_serve.specs.Given.{Given, FileGives};
+ghost use Rattle.flick_serve.specs.Served.{AgreesWith, IsOfMessage, IsServed};
+
+use crate::given::{WrongLine, replies_in};
+use flick_engine::{Engine, Served};
+use flick_lines::copied;
+use hex::FromHexError;
+use kit_base::{NoMemory, Octets};
+use raw_buf::{RecvView, SendBuf};
+use skeleton::{Kept, Replies};
+use std::alloc::Global;
+use std::marker::Model;
+
+/// An engine, and the replies that a file gives for its operations.
+#[derive(Drop)]
+pub struct Server {
+    engine: Engine,
+    text: Octets,
+    replies: Replies,
+}
+
+impl Model for Server {
+    ghost use Rattle.std.specs.Coded.{codes};
+    ghost use Rattle.aoi.specs.Stored.{coded_shape, coded_members};
+    ghost use Rattle.cast_stub.specs.contracts.send.SendOp as s;
+    ghost use Rattle.cast_stub.specs.contracts.recv.RecvOp as r;
+    ghost use Rattle.flick_serve.specs.Served.{IsServing, Serving};
+
+    ghost Value = { Serving };
+
+    ghost coded = { Prim.hlevel (codes, coded_shape, coded_members, s.the_row.coded, r.the_row.coded) };
+
+    ghost view = { λ s. record { coded = s.engine; text = s.text } };
+
+    ghost invariant = { λ s. IsServing (record { coded = s.engine; text = s.text }) s.replies };
+}
+
+impl Server {
+    /// A server with the replies that a text gives for the operations of an engine, or the first line
+    /// that is wrong.
+    pub fn new(
+        alloc: Global,
+        engine: Engine,
+        text: Octets,
+    ) -> Result<Result<Server, WrongLine>, NoMemory>
+        ensures is { IfOk result (λ r. IfOk r (λ s. s ≡ record { coded = engine; text = text })) }
+        ensures gives { IfOk result (λ r.
+            (x : Result Given ℕ) × FileGives engine.binding text x × AgreesWith r x) }
+    {
+        match replies_in(alloc, &engine, text.as_slice())? {
+            Ok(replies) => Ok(Ok(Server {
+                engine,
+                text,
+                replies,
+            })),
+            Err(wrong) => Ok(Err(wrong)),
+        }
+    }
+
+    /// The engine.
+    pub fn engine(&self) -> &Engine
+        ensures { result.now ≡ self.now.coded }
+    {
+        &self.engine
+    }
+
+    /// The engine, without the replies.
+    pub fn into_engine(self) -> Engine
+        ensures { result ≡ self.coded }
+    {
+        self.engine
+    }
+
+    /// The answer of `serve` to a line, without its line feed. The reply is made in the buffer.
+    pub fn answer(&self, alloc: Global, line: &[u8], buf: &mut SendBuf) -> Result<Octets, NoMemory>
+        ensures value { IfOk result (λ o. IsServed self.now.coded.binding self.now.text line.now o) }
+        ensures spent { NoneFell buf.old.spent buf.new.spent }
+    {
+        let kept = Kept::new(self.engine.bound(), &self.replies);
+        of_line(alloc, &self.engine, &kept, line, buf)
+    }
+
+    /// Each line has an answer. It does nothing.
+    pub fn lines_are_answered(&self)
+        ensures { (line : List ℕ) → (a : List ℕ) × IsServed self.now.coded.binding self.now.text line a }
+    {
+        self.engine.bound().mint().types_are_sound();
+    }
+}
+
+/// The answer to a line as the digits of a message.
+fn of_line(
+    alloc: Global,
+    engine: &Engine,
+    kept: &Kept<'_>,
+    line: &[u8],
+    buf: &mut SendBuf,
+) -> Result<Octets, NoMemory>
+    requires { kept.now.binding ≡ engine.now.binding }
+    ensures value { IfOk result (λ o.
+        IsOfMessage engine.now.binding (answer_at kept.now) (decode_of line.now) o) }
+    ensures spent { NoneFell buf.old.spent buf.new.spent }
+{
+    match hex::decode(alloc, line) {
+        Ok(message) => of_message(alloc, engine, kept, message.as_slice(), buf),
+        Err(FromHexError::OutOfMemory) => Err(NoMemory),
+        Err(_) => copied(alloc, b"! hex"),
+    }
+}
+
+/// The answer to a message.
+fn of_message(
+    alloc: Global,
+    engine: &Engine,
+    kept: &Kept<'_>,
+    message: &[u8],
+    buf: &mut SendBuf,
+) -> Result<Octets, NoMemory>
+    requires { kept.now.binding ≡ engine.now.binding }
+    ensures value { IfOk result (λ o.
+        IsOfMessage engine.now.binding (answer_at kept.now) (Ok message.now) o) }
+    ensures spent { NoneFell buf.old.spent buf.new.spent }
+{
+    let mut view = RecvView::new(message);
+    match engine.serve(alloc, kept, &mut view, buf)? {
+        Served::Reply => copied(alloc, hex::encode(alloc, buf.octets())?.as_bytes()),
+        Served::Silent => copied(alloc, b"-"),
+    }
+}
