@@ -48,6 +48,14 @@ fn main(rt: HostRuntime) -> ExitCode {
     let mut shelf = StdShelf::new(&rt);
     let mut input = StdSource::new(rt.reader());
     let mut output = StdSink::new(io::writer(&rt));
-    let status = flick(alloc, &words, &mut shelf, &mut input, &mut output, &mut buf);
+    let status = flick(
+        alloc,
+        &words,
+        &mut shelf,
+        &mut input,
+        &mut output,
+        &mut buf,
+        &mut None,
+    );
     ExitCode::from(status)
 }

@@ -4,7 +4,8 @@ use Rattle.std.specs.Prelude.{Some, None}
 use Rattle.std.specs.Io.KnownBytes.{Consumes}
 use Rattle.flick_top.specs.declared.status.Status.{Status}
 use Rattle.flick_top.specs.declared.status.Status.TheVariants as s
-use Rattle.flick_top.specs.Statement.{Input, TakesMore, Completes}
+use Rattle.flick_top.specs.Outside.{Input}
+use Rattle.flick_top.specs.Statement.{TakesMore, Completes}
 use Rattle.flick_top.specs.Status.{number_of}
 
 -- what was taken has one length

@@ -10,7 +10,7 @@ use Rattle.kit_base.specs.declared.lines.Line.TheVariants.{Long}
 use Rattle.kit_base.specs.Lines.{State, Passed, Advances, pending, lines, lines_from, lines_behind, line_of, HasNoEnd}
 use Rattle.kit_base.proofs.Cutting.{advances-trans, lines-long, lines_behind-append}
 use Rattle.flick_top.specs.Answer.{Answering, answers}
-use Rattle.flick_top.specs.Statement.{has_end, ended_part}
+use Rattle.flick_top.specs.Outside.{has_end, ended_part}
 use Rattle.flick_top.proofs.Prefix.{fresh}
 
 none-ended : (xs : List ℕ) → has_end xs ≡ false → ended_part xs ≡ []

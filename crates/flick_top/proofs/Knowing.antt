@@ -6,9 +6,9 @@ use Rattle.idl_lex.specs.declared.kinds.Front.{Front}
 use Rattle.wire_def.specs.declared.encoding.Back.{Back}
 use Rattle.flick_engine.specs.Backs.{IsMade, back_of}
 use Rattle.flick_engine.proofs.HeadsOfBacks.{back_made}
-use Rattle.flick_top.specs.declared.command.Command.TheVariants.{Help, Version}
-use Rattle.flick_lines.specs.declared.verb.Verb.{Verb}
-use Rattle.flick_top.specs.Command.{command_of, option_of, verb_of, over_file, IsKnown}
+use Rattle.flick_top.specs.declared.command.Action.{Action}
+use Rattle.flick_top.specs.declared.command.Command.TheVariants.{Help, Version, Show}
+use Rattle.flick_top.specs.Command.{command_of, option_of, action_of, showing, over_file, IsKnown}
 use Rattle.flick_top.specs.Fronts.{front_of, IsRead}
 use Rattle.flick_top.proofs.UnitsOfFronts.{front_read}
 
@@ -21,16 +21,20 @@ option_known word =
     either (bytes_eq word (codes "--help")) IsKnown (Some Help) _ tt
     (either (bytes_eq word (codes "--version")) IsKnown (Some Version) None tt tt)
 
-over_known : (v : Option Verb) (f : Option Front) (b : Option Back) → IfSome f IsRead → IfSome b IsMade → IfSome (over_file v f b) IsKnown
+showing_known : (word : List ℕ) (f : Option Front) → IfSome f IsRead → IfSome (showing word f) IsKnown
+showing_known word None h = tt
+showing_known word (Some f) h = either (bytes_eq word (codes "show")) IsKnown (Some (Show f)) None h tt
+
+over_known : (a : Option Action) (f : Option Front) (b : Option Back) → IfSome f IsRead → IfSome b IsMade → IfSome (over_file a f b) IsKnown
 over_known None f b h g = tt
-over_known (Some v) None b h g = tt
-over_known (Some v) (Some f) None h g = tt
-over_known (Some v) (Some f) (Some b) h g = (h, g)
+over_known (Some a) None b h g = tt
+over_known (Some a) (Some f) None h g = tt
+over_known (Some a) (Some f) (Some b) h g = (h, g)
 
 pub known : (words : List (List ℕ)) → IfSome (command_of words) IsKnown
 known [] = tt
 known (word ∷ []) = option_known word
 known (a ∷ b ∷ []) = tt
-known (a ∷ b ∷ c ∷ []) = tt
-known (verb ∷ front ∷ back ∷ file ∷ []) = over_known (verb_of verb) (front_of front) (back_of back) (front_read front) (back_made back)
-known (a ∷ b ∷ c ∷ d ∷ e ∷ words) = tt
+known (word ∷ front ∷ file ∷ []) = showing_known word (front_of front) (front_read front)
+known (word ∷ front ∷ back ∷ file ∷ more) =
+    over_known (action_of word more) (front_of front) (back_of back) (front_read front) (back_made back)

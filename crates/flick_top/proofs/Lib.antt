@@ -12,14 +12,16 @@ pub mod Prefix
 pub mod Ended
 -- * Each line has an answer
 pub mod Existing
--- * A file's front of one octet more than its limit says what the whole file says
+-- * A file's prefix of one octet more than its limit says what the whole file says
 pub mod Front
 -- A text has a unit that is sound, or a saying, and one alone, whatever its front end
 pub mod UnitsOfFronts
 -- What words name is known
 pub mod Knowing
--- * Four words name a command over a file
-pub mod Naming
+-- A file says one thing; over a back end it comes to one saying, or to engines with the same codes that answer alike
+pub mod FilesSay
+-- Texts are the same over engines that answer alike
+pub mod TwinTexts
 -- * The words have one output over the files
 pub mod Outputs
 -- * Which error of a reader of lines a status tells
@@ -30,3 +32,9 @@ pub mod WholeLines
 pub mod Tasking
 -- * All words and files have a task
 pub mod Tasks
+-- * The engine that a command leaves of its file
+pub mod Leaving
+-- * The task of an action over what was made of a file is that of its command
+pub mod OverFiles
+-- * The numbers of words, read digit by digit
+pub mod Digits

@@ -1,77 +1,48 @@
 -- The words have one output over the files.
-use Rattle.std.proofs.Common.{◌≡◌, ℕ, List, [], ◌∷◌, ◌++◌, length, Bool, true, false, ◌||◌, Option, Some, None, Ok, Err, refl, sym, ap, ◌∙◌, subst}
+use Rattle.std.proofs.Common.{◌≡◌, ℕ, List, [], ◌∷◌, ◌++◌, length, Bool, true, false, ◌||◌, Option, Some, None, Result, Ok, Err, refl, sym, ap, ◌∙◌, subst}
 use Rattle.std.specs.Prelude.{nat_le, MatchBool, if◌then◌else◌}
-use Rattle.kit_base.specs.Limits.{longest_file, longest_line}
+use Rattle.kit_base.specs.Limits.{longest_line}
 use Rattle.kit_base.specs.declared.lines.Line.{Line}
 use Rattle.kit_base.specs.declared.lines.Line.TheVariants.{Text, Long, End}
 use Rattle.kit_base.specs.Lines.{lines}
-use Rattle.wire_def.specs.declared.encoding.Back.{Back}
-use Rattle.idl_lex.specs.declared.kinds.Front.{Front}
-use Rattle.aoi.specs.Plain.{PlainUnit}
-use Rattle.pres.specs.declared.errors.BindErr.{BindErr}
-use Rattle.pres.specs.Bindings.{Binding}
-use Rattle.pres.specs.Faults.{bind_fault}
+use Rattle.op_codes.specs.declared.stub.Stub.{Stub}
+use Rattle.op_codes.specs.Stubs.{Coded}
+use Rattle.flick_lines.specs.declared.verb.Verb.{Verb}
+use Rattle.flick_lines.specs.Verbs.{IsAnswerTo}
+use Rattle.flick_lines.proofs.Alike.{answer_over}
+use Rattle.flick_serve.specs.Given.{Given}
+use Rattle.flick_serve.specs.Served.{IsServed}
+use Rattle.flick_serve.proofs.Alike.{file_over, served_over}
+use Rattle.flick_serve.proofs.Deciding.{given_once}
+use Rattle.kit_texts.specs.MadeText.{make_text}
+use Rattle.kit_texts.specs.Show.{show_text}
+use Rattle.kit_texts.specs.StubTexts.{stubs_text}
+use Rattle.flick_top.specs.declared.command.Action.{Action}
+use Rattle.flick_top.specs.declared.command.Action.TheVariants as actions
 use Rattle.flick_top.specs.declared.command.Command.{Command}
 use Rattle.flick_top.specs.declared.command.Command.TheVariants as commands
-use Rattle.flick_top.specs.declared.command.Named.{Named}
-use Rattle.flick_lines.specs.declared.verb.Verb.{Verb}
+use Rattle.flick_top.specs.declared.job.Job.{Job}
+use Rattle.flick_top.specs.declared.job.Job.TheVariants as jobs
 use Rattle.flick_top.specs.declared.saying.Saying.{Saying}
 use Rattle.flick_top.specs.declared.saying.Saying.TheVariants as sayings
 use Rattle.flick_top.specs.declared.status.Status.{Status}
-use Rattle.flick_top.specs.declared.task.Job.{Job}
 use Rattle.flick_top.specs.declared.task.Task.{Task}
-use Rattle.flick_top.specs.Answer.{Answering, IsAnswer, IsAnswering, answers, is_refusal, refuses}
+use Rattle.flick_top.specs.Answer.{Answering, IsAnswerOf, IsAnswer, IsAnswering, answers, is_refusal, refuses}
 use Rattle.flick_top.specs.Command.{command_of, word_at}
-use Rattle.flick_top.specs.File.{Told, IsOver, BindSays, BoundSays, FileSays}
-use Rattle.flick_top.specs.Fronts.{Read, UnitOf}
-use Rattle.flick_top.specs.Output.{Files, saying_task, shapeless_task, task_over, IsOverFile, Comes, IsTask, AreAnswered, IsAnswered, Out, text_out, out_of}
+use Rattle.flick_top.specs.File.{Told, longest_replies}
+use Rattle.flick_top.specs.Fronts.{Read}
+use Rattle.flick_top.specs.Output.{Files, saying_task, answering_task, writing_task, showing_task, text_before, shapeless_task, serving_task, ServesText, ServesFile, Acts, ActsOver, Comes, IsTask, AreAnswered, IsAnswered, Out, text_out, out_of}
 use Rattle.flick_top.proofs.Determined.{one_answer}
-use Rattle.flick_top.proofs.UnitsOfFronts.{one_unit}
-use Rattle.flick_lines.specs.Verbs.{IsAnswerTo}
-use Rattle.flick_lines.proofs.Twins.{AreTwins}
-use Rattle.flick_lines.proofs.Alike.{answer_over}
-
--- ---- what a file says
-
-within_says : (k : Front) (text : List ℕ) (r s : Read) (b : Bool) → MatchBool b (UnitOf k text r) (r ≡ Err sayings.TooLarge)
-    → MatchBool b (UnitOf k text s) (s ≡ Err sayings.TooLarge)
-    → r ≡ s
-within_says k text r s true p q = one_unit k text r s p q
-within_says k text r s false p q = p ∙ sym q
-
-file_says : (k : Front) (content : Option (List ℕ)) (r s : Read) → FileSays k content r → FileSays k content s → r ≡ s
-file_says k None r s p q = p ∙ sym q
-file_says k (Some text) r s p q = within_says k text r s (nat_le (length text) longest_file) p q
-
--- ---- what is made of it
-
--- one saying, or bindings that answer alike
-abbrev AreTold : Told → Told → Type 0
-AreTold (Ok d) (Ok e) = AreTwins d.binding e.binding
-AreTold (Err e) (Err f) = e ≡ f
-AreTold _ _ = ⊥
-
-told_by : (r s x y : Told) → r ≡ x → s ≡ y → AreTold x y → AreTold r s
-told_by r s x y p q h = subst (λ (z : Told). AreTold z s) (sym p) (subst (λ (z : Told). AreTold x z) (sym q) h)
-
-twins : (k : Back) (u : PlainUnit) (b c : Binding) → IsOver u k b → IsOver u k c → AreTwins b c
-twins k u b c one other =
-    record { units = one.unit ∙ sym other.unit; backs = one.back ∙ sym other.back; one = one.stands; other = other.stands }
-
-bind_says : (k : Back) (u : PlainUnit) (e : Option BindErr) (r s : Told) → BindSays u k e r → BindSays u k e s → AreTold r s
-bind_says k u (Some e) r s p q = told_by r s (Err (sayings.Bind e)) (Err (sayings.Bind e)) p q refl
-bind_says k u None r s (c, one, p) (d, other, q) = told_by r s (Ok c) (Ok d) p q (twins k u c.binding d.binding one other)
-
-bound_says : (k : Back) (read : Read) (r s : Told) → BoundSays k read r → BoundSays k read s → AreTold r s
-bound_says k (Err e) r s p q = told_by r s (Err e) (Err e) p q refl
-bound_says k (Ok u) r s p q = bind_says k u (bind_fault u k) r s p q
+use Rattle.flick_top.proofs.FilesSay.{AreAlike, AreTold, file_says, told_alike}
+use Rattle.flick_top.proofs.TwinTexts.{before_alike, stubs_alike, made_alike}
 
 -- ---- what the words come to
 
--- one verb over bindings that answer alike
-record AreJobs (j k : Job) : Type 0 where
-  pub verbs : j.verb ≡ k.verb
-  pub twins : AreTwins j.engine.binding k.engine.binding
+-- one verb over engines that answer alike, or servers over such engines with one text
+abbrev AreJobs : Job → Job → Type 0
+AreJobs (jobs.Over v d) (jobs.Over w e) = (v ≡ w) × AreAlike d e
+AreJobs (jobs.Serve r) (jobs.Serve s) = AreAlike r.coded s.coded × (r.text ≡ s.text)
+AreJobs _ _ = ⊥
 
 -- no lines, or those of jobs that answer alike
 abbrev AreLines : Option Job → Option Job → Type 0
@@ -91,32 +62,78 @@ tasks_by t u x y p q h = subst (λ (z : Task). AreTasks z u) (sym p) (subst (λ 
 no_lines : (t u x : Task) → x.lines ≡ None → t ≡ x → u ≡ x → AreTasks t u
 no_lines t u x none p q = tasks_by t u x x p q (record { text = refl; status = refl; lines = rw none tt })
 
-over_told : (v : Verb) (r s : Told) → AreTold r s → AreTasks (task_over v r) (task_over v s)
-over_told v (Ok d) (Ok e) t = record { text = refl; status = refl; lines = record { verbs = refl; twins = t } }
-over_told v (Ok d) (Err f) t = absurd t
-over_told v (Err e) (Ok c) t = absurd t
-over_told v (Err e) (Err f) t = no_lines (saying_task e) (saying_task f) (saying_task f) refl (ap (λ (x : Saying). saying_task x) t) refl
+given_alike : (d e : Coded) → AreAlike d e → (text : List ℕ) (x : Result Given ℕ) (t u : Task)
+    → t ≡ serving_task d text x → u ≡ serving_task e text x → AreTasks t u
+given_alike d e alike text (Ok g) t u p q =
+    tasks_by t u (serving_task d text (Ok g)) (serving_task e text (Ok g)) p q
+    (record { text = refl; status = refl; lines = (alike, refl) })
+given_alike d e alike text (Err line) t u p q = no_lines t u (saying_task (sayings.WrongReply line)) refl p q
 
-over_file : (n : Named) (content : Option (List ℕ)) (t u : Task) → IsOverFile n content t → IsOverFile n content u → AreTasks t u
-over_file n content t u (x, r, px, pr, e) (y, s, py, ps, f) =
-    let same : x ≡ y = file_says n.front content x y px py in
-    tasks_by t u (task_over n.verb r) (task_over n.verb s) e f
-    (over_told n.verb r s (bound_says n.back y r s (subst (λ (z : Read). BoundSays n.back z r) same pr) ps))
+serves_text : (d e : Coded) → AreAlike d e → (text : List ℕ) (t u : Task) → ServesText d text t → ServesText e text u → AreTasks t u
+serves_text d e alike text t u (x, gives, p) (y, also, q) =
+    let same : x ≡ y = given_once e.binding text x y (file_over d.binding e.binding alike.twins text x gives) also in
+    given_alike d e alike text y t u (p ∙ ap (λ (z : Result Given ℕ). serving_task d text z) same) q
 
-over_files : (command : Option Command) (words : List (List ℕ)) (files : Files) (t u : Task) → Comes command words files t
-    → Comes command words files u
+within_serves : (d e : Coded) → AreAlike d e → (text : List ℕ) (t u : Task) (b : Bool)
+    → MatchBool b (ServesText d text t) (t ≡ saying_task sayings.LargeReplies)
+    → MatchBool b (ServesText e text u) (u ≡ saying_task sayings.LargeReplies) → AreTasks t u
+within_serves d e alike text t u true p q = serves_text d e alike text t u p q
+within_serves d e alike text t u false p q = no_lines t u (saying_task sayings.LargeReplies) refl p q
+
+serves_file : (d e : Coded) → AreAlike d e → (content : Option (List ℕ)) (t u : Task)
+    → ServesFile d content t → ServesFile e content u → AreTasks t u
+serves_file d e alike None t u p q = no_lines t u (saying_task sayings.NoReplies) refl p q
+serves_file d e alike (Some text) t u p q = within_serves d e alike text t u (nat_le (length text) longest_replies) p q
+
+acts_alike : (a : Action) (d e : Coded) → AreAlike d e → (content : Option (List ℕ)) (t u : Task)
+    → Acts a d content t → Acts a e content u → AreTasks t u
+acts_alike actions.Serve d e alike content t u p q = serves_file d e alike content t u p q
+acts_alike (actions.Answer v) d e alike content t u p q =
+    tasks_by t u (answering_task (text_before v d) (jobs.Over v d)) (answering_task (text_before v e) (jobs.Over v e)) p q
+    (record { text = before_alike v d e alike; status = refl; lines = (refl, alike) })
+acts_alike actions.Stubs d e alike content t u p q =
+    tasks_by t u (writing_task (stubs_text d) (Some d)) (writing_task (stubs_text e) (Some e)) p q
+    (record { text = stubs_alike d e alike; status = refl; lines = tt })
+acts_alike (actions.Make number many) d e alike content t u p q =
+    tasks_by t u (writing_task (make_text d.binding number many) (Some d)) (writing_task (make_text e.binding number many) (Some e)) p q
+    (record { text = made_alike d.binding e.binding alike.twins number many; status = refl; lines = tt })
+
+over_told : (a : Action) (r s : Told) → AreTold r s → (content : Option (List ℕ)) (t u : Task)
+    → ActsOver a r content t → ActsOver a s content u → AreTasks t u
+over_told a (Ok d) (Ok e) same content t u p q = acts_alike a d e same content t u p q
+over_told a (Ok d) (Err f) same content t u p q = absurd same
+over_told a (Err e) (Ok c) same content t u p q = absurd same
+over_told a (Err e) (Err f) same content t u p q = no_lines t u (saying_task f) refl (p ∙ ap (λ (x : Saying). saying_task x) same) q
+
+shown_alike : (r : Read) (t u : Task) → t ≡ showing_task r → u ≡ showing_task r → AreTasks t u
+shown_alike (Ok v) t u p q = no_lines t u (writing_task (show_text v) None) refl p q
+shown_alike (Err saying) t u p q = no_lines t u (saying_task saying) refl p q
+
+over_files : (codes : List Stub) (command : Option Command) (words : List (List ℕ)) (files : Files) (t u : Task)
+    → Comes codes command words files t → Comes codes command words files u
     → AreTasks t u
-over_files None words files t u p q = no_lines t u shapeless_task refl p q
-over_files (Some commands.Help) words files t u p q = no_lines t u (saying_task sayings.Help) refl p q
-over_files (Some commands.Version) words files t u p q = no_lines t u (saying_task sayings.Version) refl p q
-over_files (Some (commands.Over n)) words files t u p q = over_file n (files (word_at words n.file)) t u p q
+over_files codes None words files t u p q = no_lines t u shapeless_task refl p q
+over_files codes (Some commands.Help) words files t u p q = no_lines t u (saying_task sayings.Help) refl p q
+over_files codes (Some commands.Version) words files t u p q = no_lines t u (saying_task sayings.Version) refl p q
+over_files codes (Some (commands.Show front)) words files t u (r, says, p) (s, also, q) =
+    let same : r ≡ s = file_says front (files (word_at words 2)) r s says also in
+    shown_alike s t u (p ∙ ap (λ (x : Read). showing_task x) same) q
+over_files codes (Some (commands.Over a n)) words files t u (r, mr, p) (s, ms, q) =
+    over_told a r s (told_alike codes n (files (word_at words n.file)) r s mr ms) (files (word_at words 4)) t u p q
 
 -- ---- what is written
 
+text_over : (j k : Job) → AreJobs j k → (octets a : List ℕ) → IsAnswerOf j octets a → IsAnswerOf k octets a
+text_over (jobs.Over v d) (jobs.Over w e) (same, alike) octets a is =
+    answer_over w d e alike.twins (λ count. alike.codes) octets a (subst (λ (z : Verb). IsAnswerTo z d octets a) same is)
+text_over (jobs.Serve r) (jobs.Serve s) (alike, same) octets a is =
+    served_over r.coded.binding s.coded.binding alike.twins s.text octets a
+    (subst (λ (text : List ℕ). IsServed r.coded.binding text octets a) same is)
+text_over (jobs.Over v d) (jobs.Serve s) h octets a is = absurd h
+text_over (jobs.Serve r) (jobs.Over w e) h octets a is = absurd h
+
 line_over : (j k : Job) (line : Line) (x : List ℕ) → AreJobs j k → IsAnswer j line x → IsAnswer k line x
-line_over j k (Text octets) x t (a, is, e) =
-    let same = subst (λ (v : Verb). IsAnswerTo v j.engine octets a) t.verbs is in
-    (a, answer_over k.verb j.engine k.engine t.twins octets a same, e)
+line_over j k (Text octets) x t (a, is, e) = (a, text_over j k t octets a is, e)
 line_over j k Long x t h = h
 line_over j k End x t h = h
 
@@ -155,7 +172,8 @@ tasks_output t u f g same h i input =
     ∙ ap (λ (x : Status). text_out u.text x t.lines f input) same.status
     ∙ lines_output t.lines u.lines u.text u.status f g same.lines h i input
 
-pub one_output : (words : List (List ℕ)) (files : Files) (t u : Task) (f g : Answering) → IsTask words files t → IsTask words files u
-    → IsAnswered t f → IsAnswered u g
+pub one_output : (codes : List Stub) (words : List (List ℕ)) (files : Files) (t u : Task) (f g : Answering)
+    → IsTask codes words files t → IsTask codes words files u → IsAnswered t f → IsAnswered u g
     → (input : List ℕ) → out_of t f input ≡ out_of u g input
-one_output words files t u f g p q h i input = tasks_output t u f g (over_files (command_of words) words files t u p q) h i input
+one_output codes words files t u f g p q h i input =
+    tasks_output t u f g (over_files codes (command_of words) words files t u p q) h i input

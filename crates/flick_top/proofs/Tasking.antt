@@ -5,16 +5,20 @@ use Rattle.std.proofs.KnownBytes.{Appends-trans, Appends-nil, Consumes-nil}
 use Rattle.kit_base.specs.declared.lines.Line.{Line}
 use Rattle.kit_base.specs.Lines.{State, Advances}
 use Rattle.kit_base.proofs.Cutting.{advances-trans}
+use Rattle.op_codes.specs.Stubs.{Coded}
 use Rattle.flick_top.specs.declared.saying.Saying.{Saying}
 use Rattle.flick_top.specs.declared.saying.Saying.TheVariants as sayings
 use Rattle.flick_top.specs.declared.status.Status.TheVariants.{Done, File}
-use Rattle.flick_top.specs.declared.task.Job.{Job}
+use Rattle.flick_top.specs.declared.job.Job.{Job}
 use Rattle.flick_top.specs.declared.task.Task.{Task}
 use Rattle.flick_top.specs.Answer.{Answering, IsAnswering}
 use Rattle.flick_top.specs.Output.{Files, Out, saying_task, shapeless_task, Comes, IsTask, AreAnswered, text_out, answers_out, out_of}
+use Rattle.flick_top.specs.Made.{codes_of, engine_of, LeavesEngine}
 use Rattle.flick_top.specs.Saying.{ending}
 use Rattle.flick_top.specs.Command.{command_of}
-use Rattle.flick_top.specs.Statement.{Input, AreWholeLines, WritesFront, WritesEnded, WritesWholeLines, TakesFront, Works}
+use Rattle.kit_texts.specs.WholeLines.{AreWholeLines}
+use Rattle.flick_top.specs.Outside.{Input, TakesFront}
+use Rattle.flick_top.specs.Statement.{WritesFront, WritesEnded, WritesWholeLines, Works, Leaves}
 use Rattle.flick_top.specs.declared.command.Command.{Command}
 use Rattle.flick_top.specs.Turn.{IsReady}
 use Rattle.flick_top.proofs.WholeLines.{both_whole, said-whole}
@@ -28,6 +32,9 @@ ends (sayings.Lex fault) = inr refl
 ends (sayings.Syntax line) = inr refl
 ends (sayings.Name error) = inr refl
 ends (sayings.Bind reason) = inr refl
+ends sayings.NoReplies = inr refl
+ends sayings.LargeReplies = inr refl
+ends (sayings.WrongReply line) = inr refl
 
 -- to say something is a task that is ready
 pub saying-ready : (saying : Saying) (task : Task) → task ≡ saying_task saying → IsReady task
@@ -99,18 +106,22 @@ took before now after s t u ls more p q =
 
 -- ---- what the words come to
 
-pub is-task : (words : List (List ℕ)) (files : Files) (task : Task) (found : Option Command) (command : Command) → found ≡ command_of words
-    → found ≡ Some command → Comes (Some command) words files task
-    → IsTask words files task
-is-task words files task found command is some comes = subst (λ (o : Option Command). Comes o words files task) (sym some ∙ is) comes
+pub is-task : (words : List (List ℕ)) (files : Files) (task : Task) (made : Option Coded) (found : Option Command) (command : Command)
+    → found ≡ command_of words → found ≡ Some command → made ≡ engine_of task
+    → Comes (codes_of (engine_of task)) (Some command) words files task
+    → IsTask (codes_of made) words files task
+is-task words files task made found command is some left comes =
+    let same : Comes (codes_of made) (Some command) words files task =
+    subst (λ (o : Option Coded). Comes (codes_of o) (Some command) words files task) (sym left) comes in
+    subst (λ (o : Option Command). Comes (codes_of made) o words files task) (sym some ∙ is) same
 
 -- where the words have no shape, nothing is all the work
-pub shapeless-work : (words : List (List ℕ)) (files : Files) (left : Input) (faults : ℕ) (held : Option (List ℕ)) → command_of words ≡ None
-    → Works words files left left faults faults held held 2
-shapeless-work words files left faults held none = inr (
+pub shapeless-work : (made : Option Coded) (words : List (List ℕ)) (files : Files) (left : Input) (faults : ℕ) (held : Option (List ℕ))
+    → command_of words ≡ None → Works made words files left left faults faults held held 2
+shapeless-work made words files left faults held none = inr (
   shapeless_task,
   (λ line. []),
-  subst (λ (o : Option Command). Comes o words files shapeless_task) (sym none) refl,
+  subst (λ (o : Option Command). Comes (codes_of made) o words files shapeless_task) (sym none) refl,
   tt,
   record {
     output = λ few input told. (refl, Appends-nil held);
@@ -120,3 +131,9 @@ shapeless-work words files left faults held none = inr (
     at_end = λ some. absurd (some refl);
   },
 )
+
+-- and no engine is left
+pub shapeless-leaves : (made : Option Coded) (words : List (List ℕ)) (files : Files) (left : Input) (held : Option (List ℕ)) (status : ℕ)
+    → command_of words ≡ None → Leaves made words files left left held held status
+shapeless-leaves made words files left held status none =
+    inr (subst (λ (o : Option Command). LeavesEngine made o words files) (sym none) tt)

@@ -8,31 +8,38 @@ use Rattle.aoi.specs.Plain.{PlainUnit, IsSoundPlain}
 use Rattle.pres.specs.declared.errors.BindErr.{BindErr}
 use Rattle.pres.specs.Faults.{bind_fault}
 use Rattle.pres.proofs.Existing.{units_bound}
+use Rattle.op_codes.specs.declared.stub.Stub.{Stub}
 use Rattle.op_codes.specs.Stubs.{Coded}
+use Rattle.flick_serve.proofs.Deciding.{given_somehow}
+use Rattle.kit_texts.specs.MadeText.{make_text}
+use Rattle.kit_texts.specs.StubTexts.{stubs_text}
+use Rattle.flick_top.specs.declared.command.Action.{Action}
+use Rattle.flick_top.specs.declared.command.Action.TheVariants as actions
 use Rattle.flick_top.specs.declared.command.Command.{Command}
 use Rattle.flick_top.specs.declared.command.Command.TheVariants as commands
+use Rattle.flick_top.specs.declared.job.Job.TheVariants as jobs
 use Rattle.flick_top.specs.declared.saying.Saying.TheVariants as sayings
 use Rattle.flick_top.specs.declared.task.Task.{Task}
 use Rattle.flick_top.specs.Command.{command_of, word_at, IsKnown}
-use Rattle.flick_top.specs.File.{Told, BindSays, BoundSays, FileSays}
+use Rattle.flick_top.specs.File.{Told, BindSays, BoundSays, FileSays, longest_replies}
 use Rattle.flick_top.specs.Fronts.{Read, IsRead, UnitOf}
 use Rattle.flick_top.specs.Laws.{WordsHaveTasks}
-use Rattle.flick_top.specs.Output.{Files, saying_task, shapeless_task, task_over, Comes, IsTask}
+use Rattle.flick_top.specs.Output.{Files, saying_task, answering_task, writing_task, showing_task, text_before, shapeless_task, serving_task, ServesText, ServesFile, Acts, ActsOver, Comes}
 use Rattle.flick_top.proofs.Knowing.{known}
 use Rattle.flick_top.proofs.UnitsOfFronts.{IsSoundRead, unit_has}
 
 -- ---- over a back end
 
-bind_has : (u : PlainUnit) (k : Back) (e : Option BindErr) → IsSoundPlain u → bind_fault u k ≡ e → (told : Told) × BindSays u k e told
-bind_has u k (Some e) sound is = (Err (sayings.Bind e), refl)
-bind_has u k None sound is =
+bind_has : (codes : List Stub) (u : PlainUnit) (k : Back) (e : Option BindErr) → IsSoundPlain u → bind_fault u k ≡ e
+    → (told : Told) × BindSays codes u k e told
+bind_has codes u k (Some e) sound is = (Err (sayings.Bind e), refl)
+bind_has codes u k None sound is =
     let (b, stands, unit, of, nodes) = units_bound u k sound is in
-    let c : Coded = record { binding = b; stubs = [] } in
-    (Ok c, (c, record { stands = stands; unit = unit; back = of; nodes = nodes }, refl))
+    (Ok (record { binding = b; stubs = codes }), (record { stands = stands; unit = unit; back = of; nodes = nodes }, refl))
 
-bound_has : (k : Back) (read : Read) → IsSoundRead read → (told : Told) × BoundSays k read told
-bound_has k (Err saying) sound = (Err saying, refl)
-bound_has k (Ok u) sound = bind_has u k (bind_fault u k) sound refl
+bound_has : (codes : List Stub) (k : Back) (read : Read) → IsSoundRead read → (told : Told) × BoundSays codes k read told
+bound_has codes k (Err saying) sound = (Err saying, refl)
+bound_has codes k (Ok u) sound = bind_has codes u k (bind_fault u k) sound refl
 
 -- ---- a file
 
@@ -47,18 +54,38 @@ file_has k read (Some text) = within_has k read text (nat_le (length text) longe
 
 -- ---- words
 
-command_has : (command : Option Command) (words : List (List ℕ)) (files : Files) → IfSome command IsKnown
-    → (task : Task) × Comes command words files task
-command_has None words files all = (shapeless_task, refl)
-command_has (Some commands.Help) words files all = (saying_task sayings.Help, refl)
-command_has (Some commands.Version) words files all = (saying_task sayings.Version, refl)
-command_has (Some (commands.Over n)) words files all =
-    let (read, says, sound) = file_has n.front all.0 (files (word_at words n.file)) in
-    let (told, bound) = bound_has n.back read sound in
-    (task_over n.verb told, (read, told, says, bound, refl))
+within_serves : (e : Coded) (text : List ℕ) (b : Bool)
+    → (task : Task) × MatchBool b (ServesText e text task) (task ≡ saying_task sayings.LargeReplies)
+within_serves e text true = let (x, gives) = given_somehow e.binding text in (serving_task e text x, (x, gives, refl))
+within_serves e text false = (saying_task sayings.LargeReplies, refl)
 
-words_have : (words : List (List ℕ)) (files : Files) → (task : Task) × IsTask words files task
-words_have words files = command_has (command_of words) words files (known words)
+serves_has : (e : Coded) (content : Option (List ℕ)) → (task : Task) × ServesFile e content task
+serves_has e None = (saying_task sayings.NoReplies, refl)
+serves_has e (Some text) = within_serves e text (nat_le (length text) longest_replies)
+
+action_has : (a : Action) (e : Coded) (content : Option (List ℕ)) → (task : Task) × Acts a e content task
+action_has actions.Serve e content = serves_has e content
+action_has (actions.Answer verb) e content = (answering_task (text_before verb e) (jobs.Over verb e), refl)
+action_has actions.Stubs e content = (writing_task (stubs_text e) (Some e), refl)
+action_has (actions.Make number many) e content = (writing_task (make_text e.binding number many) (Some e), refl)
+
+told_has : (a : Action) (told : Told) (content : Option (List ℕ)) → (task : Task) × ActsOver a told content task
+told_has a (Ok e) content = action_has a e content
+told_has a (Err saying) content = (saying_task saying, refl)
+
+command_has : (codes : List Stub) (command : Option Command) (words : List (List ℕ)) (files : Files) → IfSome command IsKnown
+    → (task : Task) × Comes codes command words files task
+command_has codes None words files all = (shapeless_task, refl)
+command_has codes (Some commands.Help) words files all = (saying_task sayings.Help, refl)
+command_has codes (Some commands.Version) words files all = (saying_task sayings.Version, refl)
+command_has codes (Some (commands.Show front)) words files all =
+    let (read, says, sound) = file_has front all (files (word_at words 2)) in
+    (showing_task read, (read, says, refl))
+command_has codes (Some (commands.Over a n)) words files all =
+    let (read, says, sound) = file_has n.front all.0 (files (word_at words n.file)) in
+    let (told, bound) = bound_has codes n.back read sound in
+    let (task, acts) = told_has a told (files (word_at words 4)) in
+    (task, (told, (read, says, bound), acts))
 
 pub words_task : WordsHaveTasks
-words_task words files = words_have words files
+words_task codes words files = command_has codes (command_of words) words files (known words)

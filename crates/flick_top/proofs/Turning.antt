@@ -7,7 +7,7 @@ use Rattle.std.proofs.lemmas.Grind.{flat_map-append}
 use Rattle.kit_base.specs.declared.lines.Line.{Line}
 use Rattle.kit_base.specs.Lines.{State, Advances}
 use Rattle.kit_base.proofs.Cutting.{advances-trans}
-use Rattle.flick_top.specs.declared.task.Job.{Job}
+use Rattle.flick_top.specs.declared.job.Job.{Job}
 use Rattle.flick_top.specs.Answer.{Answering, IsAnswering, IsAnswer, answers, refuses, is_refusal}
 use Rattle.flick_top.proofs.Determined.{one_answer}
 

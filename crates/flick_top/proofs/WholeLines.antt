@@ -8,10 +8,10 @@ use Rattle.kit_base.specs.declared.lines.Line.TheVariants.{Text, Long, End}
 use Rattle.flick_top.specs.declared.saying.TheConstants.{USAGE, VERSION}
 use Rattle.flick_top.specs.declared.saying.Saying.{Saying}
 use Rattle.flick_top.specs.declared.saying.Saying.TheVariants as sayings
-use Rattle.flick_top.specs.declared.task.Job.{Job}
+use Rattle.flick_top.specs.declared.job.Job.{Job}
 use Rattle.flick_top.specs.Answer.{Answering, IsAnswering, IsAnswer, answers}
 use Rattle.flick_top.specs.Saying.{said, lex_name, place_of, name_name, bind_name}
-use Rattle.flick_top.specs.Statement.{AreWholeLines}
+use Rattle.kit_texts.specs.WholeLines.{AreWholeLines}
 
 -- octets that a line feed ends
 abbrev IsEnded : List ℕ → Type 0
@@ -70,3 +70,6 @@ said-whole (sayings.Lex fault) = inr (place_ended (codes "? lex ") (lex_name fau
 said-whole (sayings.Syntax line) = inr (word_ended (codes "? syntax ") (decimal line))
 said-whole (sayings.Name error) = inr (place_ended (codes "? name ") (name_name error.fault) (decimal error.decl))
 said-whole (sayings.Bind reason) = inr (word_ended (codes "? bind ") (bind_name reason))
+said-whole sayings.NoReplies = inr (codes "? replies file", refl)
+said-whole sayings.LargeReplies = inr (codes "? replies size", refl)
+said-whole (sayings.WrongReply line) = inr (word_ended (codes "? replies ") (decimal line))

@@ -3,11 +3,18 @@ use Rattle.std.specs.Prelude.{◌≡◌, ℕ, List, [], ◌∷◌, ◌++◌, Boo
 use Rattle.kit_base.specs.declared.lines.Line.{Line}
 use Rattle.kit_base.specs.declared.lines.Line.TheVariants.{Text, Long, End}
 use Rattle.flick_lines.specs.Verbs.{IsAnswerTo}
-use Rattle.flick_top.specs.declared.task.Job.{Job}
+use Rattle.flick_serve.specs.Served.{IsServed}
+use Rattle.flick_top.specs.declared.job.Job.{Job}
+use Rattle.flick_top.specs.declared.job.Job.TheVariants.{Over, Serve}
+
+-- the answer of a job to the octets of a line
+abbrev pub IsAnswerOf : Job → List ℕ → List ℕ → Type 0
+IsAnswerOf (Over verb e) octets a = IsAnswerTo verb e octets a
+IsAnswerOf (Serve s) octets a = IsServed s.coded.binding s.text octets a
 
 -- the answer to a line, with its line feed
 abbrev pub IsAnswer : Job → Line → List ℕ → Type 0
-IsAnswer job (Text octets) answer = (a : List ℕ) × IsAnswerTo job.verb job.engine octets a × (answer ≡ a ++ 10 ∷ [])
+IsAnswer job (Text octets) answer = (a : List ℕ) × IsAnswerOf job octets a × (answer ≡ a ++ 10 ∷ [])
 IsAnswer job Long answer = answer ≡ codes "! long\n"
 IsAnswer job End answer = answer ≡ []
 

@@ -4,12 +4,14 @@ use Rattle.std.specs.Str.{bytes_eq}
 use Rattle.idl_lex.specs.declared.kinds.Front.{Front}
 use Rattle.wire_def.specs.declared.encoding.Back.{Back}
 use Rattle.flick_engine.specs.Backs.{back_of, IsMade}
+use Rattle.flick_lines.specs.declared.verb.Verb.TheVariants.{Marshal, Unmarshal, Reply, Unreply, Count}
+use Rattle.flick_top.specs.declared.command.Action.{Action}
+use Rattle.flick_top.specs.declared.command.Action.TheVariants.{Answer, Serve, Stubs, Make}
 use Rattle.flick_top.specs.declared.command.Command.{Command}
-use Rattle.flick_top.specs.declared.command.Command.TheVariants.{Help, Version, Over}
+use Rattle.flick_top.specs.declared.command.Command.TheVariants.{Help, Version, Show, Over}
 use Rattle.flick_top.specs.declared.command.Named.{Named}
-use Rattle.flick_lines.specs.declared.verb.Verb.{Verb}
-use Rattle.flick_lines.specs.declared.verb.Verb.TheVariants.{Marshal, Unmarshal, Reply, Unreply}
 use Rattle.flick_top.specs.Fronts.{front_of, IsRead}
+use Rattle.flick_top.specs.Numbers.{number_in}
 
 -- the command of one word
 abbrev pub option_of : List ℕ → Option Command
@@ -18,41 +20,71 @@ option_of word =
     else if bytes_eq word (codes "--version") then Some Version
     else None
 
--- the verb of a word
-abbrev pub verb_of : List ℕ → Option Verb
-verb_of word =
-    if bytes_eq word (codes "marshal") then Some Marshal
-    else if bytes_eq word (codes "unmarshal") then Some Unmarshal
-    else if bytes_eq word (codes "reply") then Some Reply
-    else if bytes_eq word (codes "unreply") then Some Unreply
+-- the action of a word, where FILE is the last word
+abbrev pub last_action : List ℕ → Option Action
+last_action word =
+    if bytes_eq word (codes "marshal") then Some (Answer Marshal)
+    else if bytes_eq word (codes "unmarshal") then Some (Answer Unmarshal)
+    else if bytes_eq word (codes "reply") then Some (Answer Reply)
+    else if bytes_eq word (codes "unreply") then Some (Answer Unreply)
+    else if bytes_eq word (codes "count") then Some (Answer Count)
+    else if bytes_eq word (codes "stubs") then Some Stubs
     else None
 
--- a verb, a front end and a back end, each where its word names one, over the file of the fourth word
-abbrev pub over_file : Option Verb → Option Front → Option Back → Option Command
+-- `serve`
+abbrev pub serving : List ℕ → Option Action
+serving word = if bytes_eq word (codes "serve") then Some Serve else None
+
+-- `make`, a number, and how many messages are made from it on
+abbrev pub making : List ℕ → Option ℕ → Option ℕ → Option Action
+making word None many = None
+making word (Some number) None = None
+making word (Some number) (Some many) = if bytes_eq word (codes "make") then Some (Make number many) else None
+
+-- the action of a word, with the words after FILE
+abbrev pub action_of : List ℕ → List (List ℕ) → Option Action
+action_of word [] = last_action word
+action_of word (replies ∷ []) = serving word
+action_of word (number ∷ many ∷ []) = making word (number_in 18446744073709551615 number) (number_in 1000000 many)
+action_of word (a ∷ b ∷ c ∷ words) = None
+
+-- `show`, and a front end where its word names one
+abbrev pub showing : List ℕ → Option Front → Option Command
+showing word None = None
+showing word (Some f) = if bytes_eq word (codes "show") then Some (Show f) else None
+
+-- an action, a front end and a back end, each where its word names one, over the file of the fourth word
+abbrev pub over_file : Option Action → Option Front → Option Back → Option Command
 over_file None front back = None
-over_file (Some v) None back = None
-over_file (Some v) (Some f) None = None
-over_file (Some v) (Some f) (Some b) = Some (Over (record { verb = v; front = f; back = b; file = 3 }))
+over_file (Some a) None back = None
+over_file (Some a) (Some f) None = None
+over_file (Some a) (Some f) (Some b) = Some (Over a (record { front = f; back = b; file = 3 }))
 
 -- the command, where the words have the shape of one
 abbrev pub command_of : List (List ℕ) → Option Command
 command_of [] = None
 command_of (word ∷ []) = option_of word
 command_of (a ∷ b ∷ []) = None
-command_of (a ∷ b ∷ c ∷ []) = None
-command_of (verb ∷ front ∷ back ∷ file ∷ []) = over_file (verb_of verb) (front_of front) (back_of back)
-command_of (a ∷ b ∷ c ∷ d ∷ e ∷ words) = None
+command_of (word ∷ front ∷ file ∷ []) = showing word (front_of front)
+command_of (word ∷ front ∷ back ∷ file ∷ more) = over_file (action_of word more) (front_of front) (back_of back)
 
 -- the word at a place
 abbrev pub word_at : List (List ℕ) → ℕ → List ℕ
 word_at words place = unwrap_or (slice_get words place) []
 
--- a command whose front end reads files, and for whose back end engines are made
+-- a front end that reads files, and a back end that engines are made for
+abbrev pub IsNamed : Named → Type 0
+IsNamed n = IsRead n.front × IsMade n.back
+
+-- a command of these
 abbrev pub IsKnown : Command → Type 0
 IsKnown Help = Unit {0}
 IsKnown Version = Unit {0}
-IsKnown (Over n) = IsRead n.front × IsMade n.back
+IsKnown (Show front) = IsRead front
+IsKnown (Over action n) = IsNamed n
 
--- words that name a file
-abbrev pub HasFile : List (List ℕ) → Type 0
-HasFile words = (n : Named) × (command_of words ≡ Some (Over n))
+-- a command over files
+abbrev pub ReadsFiles : Option Command → Type 0
+ReadsFiles (Some (Show front)) = Unit {0}
+ReadsFiles (Some (Over action n)) = Unit {0}
+ReadsFiles _ = ⊥

@@ -1,5 +1,5 @@
 -- What the content of a file comes to: a unit, and what is made of it over a back end, or what is said instead.
-use Rattle.std.specs.Prelude.{◌≡◌, ℕ, List, length, nat_le, MatchBool, Option, Some, None, Result, Ok, Err}
+use Rattle.std.specs.Prelude.{◌≡◌, ℕ, List, [], length, nat_le, MatchBool, Option, Some, None, Result, Ok, Err, IsOkAnd}
 use Rattle.kit_base.specs.Limits.{longest_file}
 use Rattle.wire_def.specs.declared.encoding.Back.{Back}
 use Rattle.idl_lex.specs.declared.kinds.Front.{Front}
@@ -10,10 +10,15 @@ use Rattle.pres.specs.Bindings.{Binding, IsBinding}
 use Rattle.pres.specs.Faces.{faces}
 use Rattle.pres.specs.Faults.{bind_fault}
 use Rattle.pres.specs.Made.{all_made}
+use Rattle.op_codes.specs.declared.stub.Stub.{Stub}
 use Rattle.op_codes.specs.Stubs.{Coded}
 use Rattle.flick_top.specs.declared.saying.Saying.{Saying}
 use Rattle.flick_top.specs.declared.saying.Saying.TheVariants.{NoFile, TooLarge, Bind}
 use Rattle.flick_top.specs.Fronts.{Read, UnitOf}
+
+-- the octets of the longest file of replies
+abbrev pub longest_replies : ℕ
+longest_replies = 8388608
 
 -- what the content of a file says, where there is the file
 abbrev pub FileSays : Front → Option (List ℕ) → Read → Type 0
@@ -34,6 +39,11 @@ IsSoundly (Err saying) = Unit {0}
 abbrev pub Told : Type 0
 Told = Result Coded Saying
 
+-- the codes of an engine, or none
+abbrev pub codes_in : Told → List Stub
+codes_in (Ok e) = e.stubs
+codes_in (Err saying) = []
+
 -- a unit over a back end: a binding whose nodes are those that the unit makes
 pub record IsOver (u : PlainUnit) (k : Back) (b : Binding) : Type 0 where
   pub stands : IsBinding b
@@ -41,12 +51,12 @@ pub record IsOver (u : PlainUnit) (k : Back) (b : Binding) : Type 0 where
   pub back : b.back ≡ k
   pub nodes : faces b.nodes b.shapes ≡ all_made u k
 
--- a unit that has this reason against it, or else is bound
-abbrev pub BindSays : PlainUnit → Back → Option BindErr → Told → Type 0
-BindSays u back (Some e) told = told ≡ Err (Bind e)
-BindSays u back None told = (c : Coded) × IsOver u back c.binding × (told ≡ Ok c)
+-- a unit that has this reason against it; or else the engine that is told is over its binding, and these are its codes
+abbrev pub BindSays : List Stub → PlainUnit → Back → Option BindErr → Told → Type 0
+BindSays codes u back (Some e) told = told ≡ Err (Bind e)
+BindSays codes u back None told = IsOkAnd told (λ e. IsOver u back e.binding × (e.stubs ≡ codes))
 
 -- what was read, over a back end
-abbrev pub BoundSays : Back → Read → Told → Type 0
-BoundSays back (Err saying) told = told ≡ Err saying
-BoundSays back (Ok u) told = BindSays u back (bind_fault u back) told
+abbrev pub BoundSays : List Stub → Back → Read → Told → Type 0
+BoundSays codes back (Err saying) told = told ≡ Err saying
+BoundSays codes back (Ok u) told = BindSays codes u back (bind_fault u back) told

@@ -3,7 +3,10 @@ pub mod Command
 pub mod File
 pub mod Fronts
 pub mod Laws
+pub mod Made
+pub mod Numbers
 pub mod Output
+pub mod Outside
 pub mod Saying
 pub mod Statement
 pub mod Status

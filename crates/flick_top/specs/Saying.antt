@@ -8,7 +8,7 @@ use Rattle.aoi.specs.declared.faults.NameFault.{NameFault}
 use Rattle.aoi.specs.declared.faults.NameFault.TheVariants as name
 use Rattle.flick_top.specs.declared.saying.TheConstants.{USAGE, VERSION}
 use Rattle.flick_top.specs.declared.saying.Saying.{Saying}
-use Rattle.flick_top.specs.declared.saying.Saying.TheVariants.{Help, Version, NoFile, TooLarge, Lex, Syntax, Name, Bind}
+use Rattle.flick_top.specs.declared.saying.Saying.TheVariants.{Help, Version, NoFile, TooLarge, Lex, Syntax, Name, Bind, NoReplies, LargeReplies, WrongReply}
 use Rattle.flick_top.specs.declared.status.Status.{Status}
 use Rattle.flick_top.specs.declared.status.Status.TheVariants.{Done, File}
 
@@ -62,6 +62,9 @@ said (Lex fault) = codes "? lex " ++ lex_name fault ++ codes " " ++ decimal (pla
 said (Syntax line) = codes "? syntax " ++ decimal line ++ codes "\n"
 said (Name error) = codes "? name " ++ name_name error.fault ++ codes " " ++ decimal error.decl ++ codes "\n"
 said (Bind reason) = codes "? bind " ++ bind_name reason ++ codes "\n"
+said NoReplies = codes "? replies file\n"
+said LargeReplies = codes "? replies size\n"
+said (WrongReply line) = codes "? replies " ++ decimal line ++ codes "\n"
 
 -- how a call ends that says it
 abbrev pub ending : Saying → Status
@@ -73,3 +76,6 @@ ending (Lex fault) = File
 ending (Syntax line) = File
 ending (Name error) = File
 ending (Bind reason) = File
+ending NoReplies = File
+ending LargeReplies = File
+ending (WrongReply line) = File

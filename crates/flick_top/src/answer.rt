@@ -3,8 +3,8 @@ ghost use Rattle.std.specs.Prelude.{◌≡◌, IfOk};
 ghost use Rattle.raw_buf.specs.Buf.{NoneFell};
 ghost use Rattle.flick_top.specs.Answer.{IsAnswer, is_refusal};
 
-use crate::task::Job;
-use flick_lines::{answer, copied, ended};
+use crate::job::Job;
+use flick_lines::{copied, ended};
 use kit_base::{Line, NoMemory, Octets};
 use raw_buf::SendBuf;
 use std::alloc::Global;
@@ -22,7 +22,7 @@ pub fn answer_to(
     match line {
         Line::End => Ok(Octets::new(alloc)),
         Line::Long => copied(alloc, b"! long\n"),
-        Line::Text(text) => ended(answer(alloc, job.verb, &job.engine, text.as_slice(), buf)?),
+        Line::Text(text) => ended(job.answer(alloc, text.as_slice(), buf)?),
     }
 }
 

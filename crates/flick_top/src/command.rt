@@ -1,15 +1,19 @@
 // The command that the words name.
-ghost use Rattle.std.specs.Prelude.{◌≡◌, IfSome};
-ghost use Rattle.flick_top.specs.Command.{command_of, option_of, verb_of, over_file, word_at, IsKnown};
+ghost use Rattle.std.specs.Prelude.{◌≡◌, ◌≤◌, IfSome};
+ghost use Rattle.flick_top.specs.Command.{command_of, option_of, last_action, serving, making, action_of, showing, over_file, word_at, IsKnown};
 ghost use Rattle.flick_top.specs.Fronts as fronts;
 ghost use Rattle.flick_engine.specs.Backs as backs;
 
 use crate::fronts::front_of;
+use crate::numbers::number_in;
 use flick_engine::back_of;
 use flick_lines::Verb;
 use idl_lex::Front;
-use kit_base::Words;
+use kit_base::{Octets, Words};
 use wire_def::Back;
+
+/// How many messages `make` makes at most.
+const MOST_MADE: u64 = 1_000_000;
 
 /// A command.
 #[derive(Clone, Copy, Debug, PartialEq, Eq)]
@@ -18,15 +22,28 @@ pub enum Command {
     Help,
     /// `--version`
     Version,
-    /// `VERB FRONT BACK FILE`
-    Over(Named),
+    /// `show FRONT FILE`
+    Show(Front),
+    /// `COMMAND FRONT BACK FILE`, and what follows
+    Over(Action, Named),
 }
 
-/// What the words of a command over a file name.
+/// What is done over a file and a back end.
+#[derive(Clone, Copy, Debug, PartialEq, Eq)]
+pub enum Action {
+    /// To answer the lines of the input.
+    Answer(Verb),
+    /// To answer messages by the replies of a file: `serve`
+    Serve,
+    /// To write the stub code of each operation: `stubs`
+    Stubs,
+    /// To make requests from a number on, so many, and to write what is counted of their messages: `make`
+    Make(u64, u32),
+}
+
+/// The file of a command, and its back end.
 #[derive(Clone, Copy, Debug, PartialEq, Eq)]
 pub struct Named {
-    /// What is done.
-    pub verb: Verb,
     /// The language of the file.
     pub front: Front,
     /// Which messages are made.
@@ -42,7 +59,12 @@ pub fn command_of(words: &Words) -> Option<Command>
 {
     match words.as_slice() {
         [word] => option_of(word.as_slice()),
-        [verb, front, back, _] => over_file(verb.as_slice(), front.as_slice(), back.as_slice()),
+        [show, language, _] => showing(show.as_slice(), language.as_slice()),
+        [word, front, back, _, more @ ..] => over_file(
+            action_of(word.as_slice(), more),
+            front.as_slice(),
+            back.as_slice(),
+        ),
         _ => None,
     }
 }
@@ -61,38 +83,96 @@ fn option_of(word: &[u8]) -> Option<Command>
     None
 }
 
-/// The command of a verb, a front end and a back end, before a file.
-fn over_file(verb: &[u8], front: &[u8], back: &[u8]) -> Option<Command>
-    ensures value { result
-        ≡ over_file (verb_of verb.now) (fronts.front_of front.now) (backs.back_of back.now) }
+/// The command of an action, a front end and a back end, before a file.
+fn over_file(action: Option<Action>, front: &[u8], back: &[u8]) -> Option<Command>
+    ensures value { result ≡ over_file action (fronts.front_of front.now) (backs.back_of back.now) }
     ensures known { IfSome result IsKnown }
 {
-    let verb = verb_of(verb)?;
+    let action = action?;
     let front = front_of(front)?;
     let back = back_of(back)?;
-    Some(Command::Over(Named {
-        verb,
-        front,
-        back,
-        file: 3,
-    }))
+    Some(Command::Over(
+        action,
+        Named {
+            front,
+            back,
+            file: 3,
+        },
+    ))
 }
 
-/// The verb of a word.
-fn verb_of(word: &[u8]) -> Option<Verb>
-    ensures { result ≡ verb_of word.now }
+/// `show` of a front end, before a file.
+fn showing(word: &[u8], front: &[u8]) -> Option<Command>
+    ensures value { result ≡ showing word.now (fronts.front_of front.now) }
+    ensures known { IfSome result IsKnown }
+{
+    let front = front_of(front)?;
+    if word == b"show".as_slice() {
+        return Some(Command::Show(front));
+    }
+    None
+}
+
+/// The action of a word, with the words after the file's.
+fn action_of(word: &[u8], more: &[Octets]) -> Option<Action>
+    ensures { result ≡ action_of word.now more.now }
+{
+    match more {
+        [] => last_action(word),
+        [_] => serving(word),
+        [number, many] => making(
+            word,
+            number_in(u64::MAX, number.as_slice()),
+            number_in(MOST_MADE, many.as_slice()),
+        ),
+        _ => None,
+    }
+}
+
+/// `serve`.
+fn serving(word: &[u8]) -> Option<Action>
+    ensures { result ≡ serving word.now }
+{
+    if word == b"serve".as_slice() {
+        return Some(Action::Serve);
+    }
+    None
+}
+
+/// `make` of two numbers.
+fn making(word: &[u8], number: Option<u64>, many: Option<u64>) -> Option<Action>
+    requires { IfSome many (λ n. n ≤ 1000000) }
+    ensures { result ≡ making word.now number many }
+{
+    let number = number?;
+    let many = many?;
+    if word == b"make".as_slice() {
+        return Some(Action::Make(number, many as u32));
+    }
+    None
+}
+
+/// The action of a word, where the file's word is the last.
+fn last_action(word: &[u8]) -> Option<Action>
+    ensures { result ≡ last_action word.now }
 {
     if word == b"marshal".as_slice() {
-        return Some(Verb::Marshal);
+        return Some(Action::Answer(Verb::Marshal));
     }
     if word == b"unmarshal".as_slice() {
-        return Some(Verb::Unmarshal);
+        return Some(Action::Answer(Verb::Unmarshal));
     }
     if word == b"reply".as_slice() {
-        return Some(Verb::Reply);
+        return Some(Action::Answer(Verb::Reply));
     }
     if word == b"unreply".as_slice() {
-        return Some(Verb::Unreply);
+        return Some(Action::Answer(Verb::Unreply));
+    }
+    if word == b"count".as_slice() {
+        return Some(Action::Answer(Verb::Count));
+    }
+    if word == b"stubs".as_slice() {
+        return Some(Action::Stubs);
     }
     None
 }

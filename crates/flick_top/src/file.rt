@@ -3,7 +3,7 @@ ghost use Rattle.std.specs.Prelude.{◌≡◌, Some, IfOk};
 ghost use Rattle.aoi.specs.Plain.{plain, IsSoundPlain};
 ghost use Rattle.pres.specs.Faults.{bind_fault};
 ghost use Rattle.flick_engine.specs.Backs.{IsMade};
-ghost use Rattle.flick_top.specs.File.{FileSays, BindSays, BoundSays, IsSoundly, plainly};
+ghost use Rattle.flick_top.specs.File.{FileSays, BindSays, BoundSays, IsSoundly, codes_in, plainly};
 ghost use Rattle.flick_top.specs.Fronts.{IsRead};
 
 use crate::fronts::unit_of;
@@ -41,7 +41,7 @@ pub fn made_of(
 ) -> Result<Result<Engine, Saying>, NoMemory>
     requires made { IsMade back }
     requires sound { IsSoundly read }
-    ensures { IfOk result (λ told. BoundSays back (plainly read) told) }
+    ensures { IfOk result (λ told. BoundSays (codes_in told) back (plainly read) told) }
 {
     match read {
         Ok(unit) => bound_to(alloc, back, unit),
@@ -53,7 +53,8 @@ pub fn made_of(
 fn bound_to(alloc: Global, back: Back, unit: Unit) -> Result<Result<Engine, Saying>, NoMemory>
     requires made { IsMade back }
     requires sound { IsSoundPlain (plain unit) }
-    ensures { IfOk result (λ told. BindSays (plain unit) back (bind_fault (plain unit) back) told) }
+    ensures { IfOk result (λ told.
+        BindSays (codes_in told) (plain unit) back (bind_fault (plain unit) back) told) }
 {
     match bind(alloc, unit, back) {
         Ok(bound) => Ok(Ok(Engine::compile(alloc, bound)?)),

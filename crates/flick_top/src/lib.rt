@@ -2,10 +2,13 @@
 #![tactic(auto)]
 
 mod answer;
+mod coming;
 mod command;
 mod file;
 mod fronts;
+mod job;
 mod laws;
+mod numbers;
 mod saying;
 mod status;
 mod task;

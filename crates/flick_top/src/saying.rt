@@ -14,32 +14,49 @@ use std::alloc::Global;
 pub const USAGE: &[u8] = b"usage: flick COMMAND\n\
 \n\
 commands:\n\
-\x20 marshal FRONT BACK FILE   answer each request record on standard input by the\n\
-\x20                           hexadecimal digits of its message\n\
-\x20 unmarshal FRONT BACK FILE answer each message in hexadecimal digits by its request\n\
-\x20                           record\n\
-\x20 reply FRONT BACK FILE     answer each reply record by the hexadecimal digits of its\n\
-\x20                           message\n\
-\x20 unreply FRONT BACK FILE   answer each name of an operation, space and reply to it in\n\
-\x20                           hexadecimal digits by its reply record\n\
-\x20 --help                    write this page\n\
-\x20 --version                 write name and version\n\
+\x20 marshal FRONT BACK FILE        answer each request record on standard input by the\n\
+\x20                                hexadecimal digits of its message\n\
+\x20 unmarshal FRONT BACK FILE      answer each message in hexadecimal digits by its request\n\
+\x20                                record\n\
+\x20 reply FRONT BACK FILE          answer each reply record by the hexadecimal digits of its\n\
+\x20                                message\n\
+\x20 unreply FRONT BACK FILE        answer each name of an operation, space and reply to it in\n\
+\x20                                hexadecimal digits by its reply record\n\
+\x20 count FRONT BACK FILE          write the stub code that sends each operation's requests,\n\
+\x20                                then answer as marshal, with what the code cost after the\n\
+\x20                                digits: checks, moves, stores and rows\n\
+\x20 serve FRONT BACK FILE REPLIES  answer each message in hexadecimal digits by that of its\n\
+\x20                                reply, or by a dash; REPLIES has a reply record on each line\n\
+\x20 stubs FRONT BACK FILE          write the stub code of each operation\n\
+\x20 show FRONT FILE                write the types and operations of FILE\n\
+\x20 make FRONT BACK FILE NUMBER N  make N requests from NUMBER on, and write what is counted\n\
+\x20                                of their messages\n\
+\x20 --help                         write this page\n\
+\x20 --version                      write name and version\n\
 \n\
 FRONT is the language of FILE: onc, for the ONC RPC language, corba, for CORBA IDL,\n\
 or mig, for MIG definitions.\n\
 BACK is xdr, for ONC messages, cdr-be or cdr-le, for GIOP messages in big or little\n\
 order, or mach, for typed messages in the manner of Mach 3.\n\
 A request record or reply record is a line of JSON.\n\
+NUMBER is at most 18,446,744,073,709,551,615 and N at most 1,000,000.\n\
+\n\
+example:\n\
+\x20 echo '{\"op\":\"CALC.V.ADD\",\"xid\":7,\"args\":[{\"a\":1,\"b\":-2}]}' |\n\
+\x20   flick marshal onc xdr examples/calc.x\n\
+\n\
+docs/ERRORS.md explains each line that begins with `?` or `!`, and ./explain says\n\
+where and why a file or a line was refused.\n\
 \n\
 status:\n\
 \x20 0  the work was done, and no answer begins with `!`\n\
 \x20 1  the work was done, and an answer begins with `!`\n\
 \x20 2  the words name no command\n\
-\x20 3  the file is not there or was refused; the output is one line with `?`\n\
+\x20 3  a file is not there or was refused; the output is one line with `?`\n\
 \x20 4  standard input failed\n\
 \x20 5  standard output failed\n\
-\x20 6  the file could not be read\n\
-\x20 7  there was no memory\n\
+\x20 6  a file could not be read\n\
+\x20 7  out of memory\n\
 \x20 8  standard input has more than 1,073,741,824 octets\n\
 \x20 9  the arguments are no text\n";
 
@@ -65,6 +82,12 @@ pub enum Saying {
     Name(NameErr),
     /// The unit of the file is not bound to the back end.
     Bind(BindErr),
+    /// The file of replies is not there.
+    NoReplies,
+    /// The file of replies has more octets than one may have.
+    LargeReplies,
+    /// A line of the file of replies gives no reply; its number, counted from 1.
+    WrongReply(usize),
 }
 
 impl Saying {
@@ -87,6 +110,12 @@ impl Saying {
                 alloc,
                 format!(in alloc; "? bind {}\n", bind_name(reason))?.as_bytes(),
             ),
+            Saying::NoReplies => copied(alloc, b"? replies file\n"),
+            Saying::LargeReplies => copied(alloc, b"? replies size\n"),
+            Saying::WrongReply(line) => copied(
+                alloc,
+                format!(in alloc; "? replies {line}\n")?.as_bytes(),
+            ),
         }
     }
 
@@ -101,7 +130,10 @@ impl Saying {
             | Saying::Lex(_)
             | Saying::Syntax(_)
             | Saying::Name(_)
-            | Saying::Bind(_) => Status::File,
+            | Saying::Bind(_)
+            | Saying::NoReplies
+            | Saying::LargeReplies
+            | Saying::WrongReply(_) => Status::File,
         }
     }
 }

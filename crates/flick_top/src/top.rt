@@ -3,12 +3,14 @@ ghost use Rattle.std.specs.Prelude.{◌≡◌, ◌≤◌, Some};
 ghost use Rattle.kit_base.specs.Causes.{Rose};
 ghost use Rattle.raw_buf.specs.Buf.{NoneFell};
 ghost use Rattle.flick_top.specs.Output.{Files};
-ghost use Rattle.flick_top.specs.Statement.{Works, IsUsage, NeedsFile, TakesFront, WritesNothing, WritesWholeLines, TakesMore, TakesAtMost, TakesNothing, ComesBy, StandsUnless, Completes};
+ghost use Rattle.flick_top.specs.Outside.{TakesFront, ComesBy, StandsUnless};
+ghost use Rattle.flick_top.specs.Statement.{Works, Leaves, IsUsage, NeedsFile, WritesNothing, WritesWholeLines, TakesMore, TakesAtMost, TakesNothing, Completes};
 
+use crate::coming::{TaskErr, task_of};
 use crate::command::command_of;
 use crate::status::Status;
-use crate::task::{TaskErr, task_of};
 use crate::turns::perform;
+use flick_engine::Engine;
 use kit_base::{Shelf, Sink, Source, Words};
 use raw_buf::SendBuf;
 use std::alloc::Global;
@@ -16,7 +18,8 @@ use std::alloc::Global;
 /// Runs the command of the words, and answers its status.
 ///
 /// The words are those of a command line without the program's name. Messages are made in `buf`,
-/// which may hold anything. Each answer is written as a whole, with its line feed.
+/// which may hold anything. Each answer is written as a whole, with its line feed. The engine of a
+/// command over a back end is left in `made`, which may hold anything before.
 pub fn flick<F: Shelf, S: Source, K: Sink>(
     alloc: Global,
     words: &Words,
@@ -24,10 +27,14 @@ pub fn flick<F: Shelf, S: Source, K: Sink>(
     input: &mut S,
     output: &mut K,
     buf: &mut SendBuf,
+    made: &mut Option<Engine>,
 ) -> u8
     ensures work { (files : Files) → F.files shelf.old ≡ Some files
-        → Works words.now files (S.left input.old) (S.left input.new)
+        → Works made.new words.now files (S.left input.old) (S.left input.new)
         (S.faults input.old) (S.faults input.new) (K.held output.old) (K.held output.new) result }
+    ensures made { (files : Files) → F.files shelf.old ≡ Some files
+        → Leaves made.new words.now files (S.left input.old) (S.left input.new)
+        (K.held output.old) (K.held output.new) result }
     ensures usage { IsUsage words.now result }
     ensures file { NeedsFile words.now result }
     ensures nothing { WritesNothing (K.held output.old) (K.held output.new) result }
@@ -52,10 +59,13 @@ pub fn flick<F: Shelf, S: Source, K: Sink>(
     let Some(command) = command_of(words) else {
         return Status::Usage.number();
     };
-    match task_of(alloc, words, command, shelf) {
+    match task_of(alloc, words, command, shelf, buf) {
         Ok(task) => {
             task.lines_are_answered();
-            perform(alloc, &task, input, output, buf).number()
+            task.codes_are_the_operations();
+            let status = perform(alloc, &task, input, output, buf);
+            *made = task.into_engine();
+            status.number()
         }
         Err(TaskErr::Shelf) => Status::Shelf.number(),
         Err(TaskErr::NoMemory) => Status::Memory.number(),

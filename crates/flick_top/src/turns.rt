@@ -3,14 +3,16 @@ ghost use Rattle.std.specs.Prelude.{◌≡◌, ◌≢◌, ◌≤◌, ◌||◌, i
 ghost use Rattle.std.specs.Io.KnownBytes.{IsAtEnd};
 ghost use Rattle.raw_buf.specs.Buf.{NoneFell};
 ghost use Rattle.flick_top.specs.Answer.{Answering, IsAnswering};
-ghost use Rattle.flick_top.specs.Output.{answers_out, out_of, IsAnswered};
-ghost use Rattle.flick_top.specs.Statement.{Writes, WritesFront, WritesEnded, WritesNothing, WritesWholeLines, TakesMore, TakesAtMost, TakesNothing, TakesFront, LeavesInput, EndsInput, ComesBy, StandsUnless};
+ghost use Rattle.flick_top.specs.Output.{answers_out, out_of, IsAnswered, LeavesInput, EndsInput};
+ghost use Rattle.flick_top.specs.Outside.{TakesFront, ComesBy, StandsUnless};
+ghost use Rattle.flick_top.specs.Statement.{Writes, WritesFront, WritesEnded, WritesNothing, WritesWholeLines, TakesMore, TakesAtMost, TakesNothing};
 ghost use Rattle.flick_top.specs.Status.{number_of};
 ghost use Rattle.flick_top.specs.Turn.{status_at, IsReady};
 
 use crate::answer::{answer_to, is_refusal};
+use crate::job::Job;
 use crate::status::Status;
-use crate::task::{Job, Task};
+use crate::task::Task;
 use kit_base::limits::{LONGEST_LINE, MOST_INPUT};
 use kit_base::{Failed, LineErr, Lines, Sink, Source, write_whole};
 use raw_buf::SendBuf;

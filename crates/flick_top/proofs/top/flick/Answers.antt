@@ -1,16 +1,24 @@
 use Rattle.std.proofs.Common.{inr}
+use Rattle.flick_top.specs.Made.{codes_of}
 use Rattle.flick_top.proofs.Completing.{completes}
-use Rattle.flick_top.proofs.Tasking.{is-task, shapeless-work}
+use Rattle.flick_top.proofs.Leaving.{task-leaves}
+use Rattle.flick_top.proofs.Tasking.{is-task, shapeless-work, shapeless-leaves}
 use Rattle.flick_top.proofs.top.flick.Goals as goal
 
 pub returns-in_default-clause-work : goal.returns-in_default-clause-work
-returns-in_default-clause-work g c =
-    λ files told. rw c.number.ensures (shapeless-work c.args.words.now files _ _ _ (cc (c.command_of.ensures.value, c.in_default.is)))
+returns-in_default-clause-work g c = λ files told.
+    rw c.number.ensures
+    (shapeless-work c.args.made.now c.args.words.now files _ _ _ (cc (c.command_of.ensures.value, c.in_default.is)))
+
+pub returns-in_default-clause-made : goal.returns-in_default-clause-made
+returns-in_default-clause-made g c = λ files told.
+    shapeless-leaves c.args.made.now c.args.words.now files _ _ _ (cc (c.command_of.ensures.value, c.in_default.is))
 
 pub returns-in-Ok-clause-completes : goal.returns-in-Ok-clause-completes
 returns-in-Ok-clause-completes g c =
     rw c.number-in-Ok.ensures
-    (completes _ _ _ _ _ c.perform.result c.perform.ensures.more c.perform.ensures.source c.perform.ensures.sink c.perform.ensures.shelf)
+    (completes _ _ _ _ _ c.perform-status.result c.perform-status.ensures.more c.perform-status.ensures.source
+    c.perform-status.ensures.sink c.perform-status.ensures.shelf)
 
 pub returns-in-Ok-clause-work : goal.returns-in-Ok-clause-work
 returns-in-Ok-clause-work g c = λ files told.
@@ -18,18 +26,26 @@ returns-in-Ok-clause-work g c = λ files told.
     inr (
       c.in-Ok.task,
       f,
-      is-task c.args.words.now files c.in-Ok.task _ _ c.command_of.ensures.value c.in-Some.is (c.in-Ok.ensures.task files told),
+      is-task c.args.words.now files c.in-Ok.task c.into_engine.result _ _ c.command_of.ensures.value c.in-Some.is
+          c.into_engine.ensures (c.in-Ok.ensures.task files told),
       all,
       record {
-        output = rw c.number-in-Ok.ensures (c.perform.ensures.output f all);
-        front = c.perform.ensures.front f all;
-        ended = rw c.number-in-Ok.ensures (c.perform.ensures.ended f all);
-        unread = rw c.number-in-Ok.ensures c.perform.ensures.unread;
-        at_end = rw c.number-in-Ok.ensures c.perform.ensures.at_end;
+        output = rw c.number-in-Ok.ensures (c.perform-status.ensures.output f all);
+        front = c.perform-status.ensures.front f all;
+        ended = rw c.number-in-Ok.ensures (c.perform-status.ensures.ended f all);
+        unread = rw c.number-in-Ok.ensures c.perform-status.ensures.unread;
+        at_end = rw c.number-in-Ok.ensures c.perform-status.ensures.at_end;
       },
     )
+
+pub returns-in-Ok-clause-made : goal.returns-in-Ok-clause-made
+returns-in-Ok-clause-made g c = λ files told.
+    let comes = is-task c.args.words.now files c.in-Ok.task c.into_engine.result _ _ c.command_of.ensures.value c.in-Some.is
+    c.into_engine.ensures (c.in-Ok.ensures.task files told) in
+    inr (task-leaves (codes_of c.into_engine.result) c.args.words.now files c.in-Ok.task c.into_engine.result comes
+    c.codes_are_the_operations.ensures c.into_engine.ensures)
 
 pub returns-in-Ok-clause-lines : goal.returns-in-Ok-clause-lines
 returns-in-Ok-clause-lines g c =
     let (f, all) = c.lines_are_answered.ensures in
-    rw c.number-in-Ok.ensures (c.perform.ensures.lines f all)
+    rw c.number-in-Ok.ensures (c.perform-status.ensures.lines f all)

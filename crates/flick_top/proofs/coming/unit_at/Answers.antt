@@ -1,7 +1,7 @@
 use Rattle.std.proofs.Common.{List, ℕ, Some, subst}
 use Rattle.flick_top.specs.File.{FileSays, plainly}
 use Rattle.flick_top.proofs.Front.{told-decides}
-use Rattle.flick_top.proofs.task.unit_at.Goals as goal
+use Rattle.flick_top.proofs.coming.unit_at.Goals as goal
 
 pub returns-in-Ok-read_content-clause-told : goal.returns-in-Ok-read_content-clause-told
 returns-in-Ok-read_content-clause-told g c = λ files told.

@@ -1,0 +1,101 @@
+-- Texts are the same over engines that answer alike.
+use Rattle.std.proofs.Common.{◌≡◌, ℕ, zero, suc, ◌+◌, ◌^◌, ◌<◌, Bool, true, false, List, [], ◌∷◌, ◌++◌, map, length, refl, sym, ap, ◌∙◌, arith}
+use Rattle.std.specs.Prelude.{◌%◌, ◌==◌, if◌then◌else◌, codes}
+use Rattle.std.proofs.lemmas.Bool.Decides.{nat_tests}
+use Rattle.std.proofs.lemmas.List.{length-map}
+use Rattle.mint.specs.Types.{Ty}
+use Rattle.case_make.specs.Made.{made}
+use Rattle.aoi.specs.Plain.{PlainInterface}
+use Rattle.pres.specs.declared.ops.Op.{Op}
+use Rattle.pres.specs.Bindings.{Binding}
+use Rattle.pres.specs.Faces.{Face}
+use Rattle.pres.specs.Offers.{offer_at}
+use Rattle.json_shape.specs.Operations.{dotted}
+use Rattle.op_codes.specs.declared.stub.Stub.{Stub}
+use Rattle.op_codes.specs.Stubs.{Coded}
+use Rattle.flick_engine.specs.Messages.{request_type, message}
+use Rattle.flick_lines.specs.declared.verb.Verb.{Verb}
+use Rattle.flick_lines.specs.declared.verb.Verb.TheVariants as verbs
+use Rattle.flick_lines.proofs.Twins.{AreTwins, faces_in, AreSame, ops_alike, first_same, rest_same, none_same, names_alike, dotted_alike, request_alike, message_alike}
+use Rattle.kit_texts.specs.MadeText.{turn, made_head, made_message, messages_from, messages, made_line, make_text}
+use Rattle.kit_texts.specs.StubTexts.{sent_text, both_texts, texts_of, stubs_text, counted_text}
+use Rattle.flick_top.specs.Output.{text_before}
+use Rattle.flick_top.proofs.FilesSay.{AreAlike}
+
+-- ---- stub code
+
+-- interfaces of the same names
+abbrev AreNamed : List PlainInterface → List PlainInterface → Type 0
+AreNamed is js = map (λ (i : PlainInterface). i.name) is ≡ map (λ (i : PlainInterface). i.name) js
+
+texts_alike : (text : List ℕ → Stub → List ℕ) (is js : List PlainInterface) (fs gs : List Face) (os ps : List Op) (ss : List Stub)
+    → AreNamed is js → AreSame fs gs os ps → texts_of text is os ss ≡ texts_of text js ps ss
+texts_alike text is js fs gs [] [] [] names e = refl
+texts_alike text is js fs gs [] [] (s ∷ ss) names e = refl
+texts_alike text is js fs gs [] (p ∷ ps) ss names e = absurd (none_same fs gs p ps e)
+texts_alike text is js fs gs (o ∷ os) [] ss names e = absurd (none_same gs fs o os (sym e))
+texts_alike text is js fs gs (o ∷ os) (p ∷ ps) [] names e = refl
+texts_alike text is js fs gs (o ∷ os) (p ∷ ps) (s ∷ ss) names e =
+    ap (λ (n : List ℕ). text n s ++ texts_of text is os ss) (dotted_alike fs gs is js o p names (first_same fs gs o p os ps e))
+    ∙ ap (λ (t : List ℕ). text (dotted js p) s ++ t)
+    (texts_alike text is js fs gs os ps ss names (rest_same fs gs o p os ps e))
+
+-- the texts of the operations of an engine
+abbrev texts_in : (List ℕ → Stub → List ℕ) → Coded → List Stub → List ℕ
+texts_in text c ss = texts_of text c.binding.unit.interfaces c.binding.ops ss
+
+all_texts : (text : List ℕ → Stub → List ℕ) (d e : Coded) → AreAlike d e → texts_in text d d.stubs ≡ texts_in text e e.stubs
+all_texts text d e alike =
+    texts_alike text d.binding.unit.interfaces e.binding.unit.interfaces (faces_in d.binding) (faces_in e.binding)
+    d.binding.ops e.binding.ops d.stubs (names_alike d.binding e.binding alike.twins) (ops_alike d.binding e.binding alike.twins)
+    ∙ ap (λ (ss : List Stub). texts_in text e ss) alike.codes
+
+pub stubs_alike : (d e : Coded) → AreAlike d e → stubs_text d ≡ stubs_text e
+stubs_alike d e alike = all_texts both_texts d e alike
+
+pub before_alike : (v : Verb) (d e : Coded) → AreAlike d e → text_before v d ≡ text_before v e
+before_alike verbs.Count d e alike = ap (λ (t : List ℕ). t ++ codes "--\n") (all_texts sent_text d e alike)
+before_alike verbs.Marshal d e alike = refl
+before_alike verbs.Unmarshal d e alike = refl
+before_alike verbs.Reply d e alike = refl
+before_alike verbs.Unreply d e alike = refl
+
+-- ---- messages that a number makes
+
+count_alike : (b c : Binding) → AreTwins b c → length b.ops ≡ length c.ops
+count_alike b c t =
+    sym (length-map b.ops (offer_at (faces_in b))) ∙ ap length (ops_alike b c t) ∙ length-map c.ops (offer_at (faces_in c))
+
+turn_alike : (b c : Binding) → AreTwins b c → (i : ℕ) → turn b i ≡ turn c i
+turn_alike b c t i = ap (λ (n : ℕ). i % n) (count_alike b c t)
+
+made_message_alike : (b c : Binding) → AreTwins b c → 0 < length b.ops → (number i : ℕ)
+    → made_message b number i ≡ made_message c number i
+made_message_alike b c t some number i =
+    let k = turn b i in
+    let seed = (number + i) % 2 ^ 64 in
+    let below : k < length b.ops = omega arith in
+    message_alike b c t k below (made_head i) (made (request_type b k) seed)
+    ∙ ap (λ (ty : Ty). message c k (made_head i) (made ty seed)) (request_alike b c t k below)
+    ∙ ap (λ (j : ℕ). message c j (made_head i) (made (request_type c j) seed)) (turn_alike b c t i)
+
+from_alike : (f g : ℕ → List ℕ) (i n : ℕ) → ((j : ℕ) → f j ≡ g j) → messages_from f i n ≡ messages_from g i n
+from_alike f g i zero same = refl
+from_alike f g i (suc n) same =
+    ap (λ (m : List ℕ). m ∷ messages_from f (suc i) n) (same i)
+    ∙ ap (λ (ms : List (List ℕ)). g i ∷ ms) (from_alike f g (suc i) n same)
+
+messages_alike : (b c : Binding) → AreTwins b c → (number many : ℕ) → messages b number many ≡ messages c number many
+messages_alike b c t number many = go (length b.ops == 0) refl where
+  go : (none : Bool) → (length b.ops == 0) ≡ none → messages b number many ≡ messages c number many
+  go true e =
+      let also : (length c.ops == 0) ≡ true = ap (λ (n : ℕ). n == 0) (sym (count_alike b c t)) ∙ e in
+      rw (e, also) refl
+  go false e =
+      let also : (length c.ops == 0) ≡ false = ap (λ (n : ℕ). n == 0) (sym (count_alike b c t)) ∙ e in
+      let some : 0 < length b.ops = grind (arith, nat_tests, e) in
+      rw (e, also)
+      (from_alike (made_message b number) (made_message c number) 0 many (made_message_alike b c t some number))
+
+pub made_alike : (b c : Binding) → AreTwins b c → (number many : ℕ) → make_text b number many ≡ make_text c number many
+made_alike b c t number many = ap (λ (ms : List (List ℕ)). made_line ms) (messages_alike b c t number many)
