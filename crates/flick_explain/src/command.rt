@@ -4,69 +4,166 @@ use idl_lex::Front;
 use kit_base::{Octets, Words};
 use wire_def::Back;
 
+/// What was done over a file.
+#[derive(Clone, Copy, PartialEq, Eq)]
+pub enum Verb {
+    /// Each request record gave the message of the request.
+    Marshal,
+    /// Each message gave the record of its request.
+    Unmarshal,
+    /// Each reply record gave the message of the reply.
+    Reply,
+    /// Each message gave the record of the reply to an operation.
+    Unreply,
+    /// Each request record gave what it costs to send its message.
+    Count,
+    /// Each message gave the message of its reply.
+    Serve,
+    /// The texts of the stub code were written.
+    Stubs,
+    /// What the file offers was written.
+    Show,
+    /// Messages of values that a number makes were tried.
+    Make,
+}
+
 /// The run that is explained.
 #[derive(Clone, Copy)]
 pub struct Run<'a> {
+    /// What was done.
+    pub verb: Verb,
     /// The language of the interface file.
     pub front: Front,
-    /// The format of the messages.
+    /// The format of the messages; `xdr` for `show`, which makes none.
     pub back: Back,
     /// The path of the interface file.
     pub path: &'a [u8],
+    /// The path of the file of replies, where the run has one.
+    pub replies: Option<&'a [u8]>,
     /// The path of what the run read, where it is given.
     pub lines: Option<&'a [u8]>,
 }
 
-/// The run of the words: `VERB FRONT BACK FILE [--lines INPUT]`.
+/// The run of the words, which may have `--lines INPUT` after them where it reads lines.
 pub fn run_of(words: &Words) -> Option<Run<'_>> {
     match words.as_slice() {
-        [verb, front, back, path] => run_in(verb, front, back, path, None),
+        [verb, front, path] => show_of(verb, front, path),
+        [verb, front, back, path] => over_file(verb, front, back, path),
+        [verb, front, back, path, replies] => serve_of(verb, front, back, path, replies),
         [verb, front, back, path, option, lines] => {
-            if option.as_slice() != b"--lines".as_slice() {
-                return None;
+            if is_option(option) {
+                return read_from(over_file(verb, front, back, path)?, lines);
             }
-            run_in(verb, front, back, path, Some(lines.as_slice()))
+            make_of(verb, front, back, path)
+        }
+        [verb, front, back, path, replies, option, lines] => {
+            if is_option(option) {
+                return read_from(serve_of(verb, front, back, path, replies)?, lines);
+            }
+            None
         }
         _ => None,
     }
 }
 
-/// The run of its words.
-fn run_in<'a>(
+/// Whether a word says that the file of the input comes after it.
+fn is_option(word: &Octets) -> bool {
+    word.as_slice() == b"--lines".as_slice()
+}
+
+/// The same run, with the file that it read, where it reads lines.
+fn read_from<'a>(run: Run<'a>, lines: &'a Octets) -> Option<Run<'a>> {
+    match run.verb {
+        Verb::Stubs | Verb::Show | Verb::Make => None,
+        _ => Some(Run {
+            lines: Some(lines.as_slice()),
+            ..run
+        }),
+    }
+}
+
+/// The run of a verb over a file alone.
+fn over_file<'a>(
     verb: &Octets,
     front: &Octets,
     back: &Octets,
     path: &'a Octets,
-    lines: Option<&'a [u8]>,
 ) -> Option<Run<'a>> {
-    if !is_verb(verb.as_slice()) {
+    run_in(verb_of(verb.as_slice())?, front, back, path)
+}
+
+/// The run of `serve FRONT BACK FILE REPLIES`.
+fn serve_of<'a>(
+    verb: &Octets,
+    front: &Octets,
+    back: &Octets,
+    path: &'a Octets,
+    replies: &'a Octets,
+) -> Option<Run<'a>> {
+    if verb.as_slice() != b"serve".as_slice() {
         return None;
     }
-    let front = front_of(front.as_slice())?;
-    let back = back_of(back.as_slice())?;
+    let run = run_in(Verb::Serve, front, back, path)?;
     Some(Run {
-        front,
-        back,
-        path: path.as_slice(),
-        lines,
+        replies: Some(replies.as_slice()),
+        ..run
     })
 }
 
-/// Whether a word is that of a command over a file.
-fn is_verb(word: &[u8]) -> bool {
-    word == b"marshal".as_slice() || word == b"unmarshal".as_slice()
+/// The run of `show FRONT FILE`.
+fn show_of<'a>(verb: &Octets, front: &Octets, path: &'a Octets) -> Option<Run<'a>> {
+    if verb.as_slice() != b"show".as_slice() {
+        return None;
+    }
+    Some(run_by(Verb::Show, front_of(front.as_slice())?, Back::Xdr, path))
+}
+
+/// The run of `make FRONT BACK FILE NUMBER N`.
+fn make_of<'a>(verb: &Octets, front: &Octets, back: &Octets, path: &'a Octets) -> Option<Run<'a>> {
+    if verb.as_slice() != b"make".as_slice() {
+        return None;
+    }
+    run_in(Verb::Make, front, back, path)
+}
+
+/// The run of the words of a language and a format.
+fn run_in<'a>(verb: Verb, front: &Octets, back: &Octets, path: &'a Octets) -> Option<Run<'a>> {
+    let front = front_of(front.as_slice())?;
+    let back = back_of(back.as_slice())?;
+    Some(run_by(verb, front, back, path))
+}
+
+/// The run in a language over a format.
+fn run_by(verb: Verb, front: Front, back: Back, path: &Octets) -> Run<'_> {
+    Run {
+        verb,
+        front,
+        back,
+        path: path.as_slice(),
+        replies: None,
+        lines: None,
+    }
+}
+
+/// What a word does over a file alone.
+fn verb_of(word: &[u8]) -> Option<Verb> {
+    match word {
+        b"marshal" => Some(Verb::Marshal),
+        b"unmarshal" => Some(Verb::Unmarshal),
+        b"reply" => Some(Verb::Reply),
+        b"unreply" => Some(Verb::Unreply),
+        b"count" => Some(Verb::Count),
+        b"stubs" => Some(Verb::Stubs),
+        _ => None,
+    }
 }
 
 /// The language of a word.
 fn front_of(word: &[u8]) -> Option<Front> {
-    if word == b"onc".as_slice() {
-        return Some(Front::Onc);
+    match word {
+        b"onc" => Some(Front::Onc),
+        b"corba" => Some(Front::Corba),
+        b"mig" => Some(Front::Mig),
+        _ => None,
     }
-    if word == b"corba".as_slice() {
-        return Some(Front::Corba);
-    }
-    if word == b"mig".as_slice() {
-        return Some(Front::Mig);
-    }
-    None
 }

@@ -51,7 +51,7 @@ fn here<'a>(alloc: Global, wanted: String) -> Result<Step<'a>, NoMemory> {
 }
 
 /// Whether the JSON presents a value of a node.
-fn fits(alloc: Global, bound: &Bound, id: NodeId, json: &Json) -> Result<bool, NoMemory> {
+pub fn fits(alloc: Global, bound: &Bound, id: NodeId, json: &Json) -> Result<bool, NoMemory> {
     if id as usize >= bound.mint().len() {
         return Ok(false);
     }

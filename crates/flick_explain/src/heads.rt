@@ -10,7 +10,7 @@ use wire_def::Back;
 const LISTED: usize = 8;
 
 /// The octets that a fault of a head is said of: the first, and the one after the last.
-pub fn head_octets(back: Back, word: &[u8]) -> (usize, usize) {
+fn head_octets(back: Back, word: &[u8]) -> (usize, usize) {
     match back {
         Back::Xdr => call_octets(word),
         Back::CdrBig | Back::CdrLittle => giop_octets(word),
@@ -47,6 +47,45 @@ fn mach_octets(word: &[u8]) -> (usize, usize) {
         b"Size" => (4, 8),
         _ => (0, 0),
     }
+}
+
+/// The octets of a reply that a fault of its head is said of: the first, and the one after the last.
+fn reply_octets(back: Back, word: &[u8]) -> (usize, usize) {
+    match back {
+        Back::Xdr => onc_reply_octets(word),
+        Back::CdrBig | Back::CdrLittle => giop_octets(word),
+        Back::Mach => mach_reply_octets(word),
+    }
+}
+
+/// Those of an ONC reply.
+fn onc_reply_octets(word: &[u8]) -> (usize, usize) {
+    match word {
+        b"Type" => (4, 8),
+        b"Item" => (8, 28),
+        b"Cred" | b"Pad" => (12, 32),
+        _ => (0, 0),
+    }
+}
+
+/// Those of a Mach reply.
+fn mach_reply_octets(word: &[u8]) -> (usize, usize) {
+    match word {
+        b"Type" => (20, 24),
+        b"Item" => (24, 32),
+        _ => mach_octets(word),
+    }
+}
+
+/// What the head of a reply is said to have, for a word.
+pub fn reply_head_told(
+    alloc: Global,
+    back: Back,
+    word: &[u8],
+    message: &[u8],
+) -> Result<String, NoMemory> {
+    let (first, end) = reply_octets(back, word);
+    octets_told(alloc, message, first, end)
 }
 
 /// What a head is said to have, for a word.

@@ -1,11 +1,16 @@
 // The lines that a run read, beside its answers.
+use crate::command::Verb;
 use crate::text::{cut, from};
+
+/// The line that ends what `count` writes before its answers.
+const MARK: &[u8] = b"--";
 
 /// What is left of the lines that a run read.
 #[derive(Clone, Copy)]
 pub struct Inputs<'a> {
     rest: &'a [u8],
     number: usize,
+    has_begun: bool,
 }
 
 impl<'a> Inputs<'a> {
@@ -14,7 +19,27 @@ impl<'a> Inputs<'a> {
         Inputs {
             rest: octets,
             number: 0,
+            has_begun: true,
         }
+    }
+
+    /// The lines that a run read, where they are there.
+    pub fn of_run(verb: Verb, octets: Option<&'a [u8]>) -> Inputs<'a> {
+        let mut inputs = match octets {
+            Some(octets) => Inputs::of(octets),
+            None => Inputs::of(&[]),
+        };
+        inputs.has_begun = verb != Verb::Count;
+        inputs
+    }
+
+    /// Whether a line of the run is ahead of its answers, up to the mark before the first.
+    pub fn is_ahead(&mut self, answer: &[u8]) -> bool {
+        let is_ahead = !self.has_begun;
+        if answer == MARK {
+            self.has_begun = true;
+        }
+        is_ahead
     }
 
     /// The number of the last line that was given, from 1; of the last answer where no lines are left.

@@ -1,11 +1,14 @@
 // What is said of a line of the input that was refused.
 use crate::bodies::part_told;
+use crate::command::Verb;
 use crate::heads::{head_told, interface_told, operation_told};
 use crate::misfits::misfit;
-use crate::octets::{around, digits_told, message_of, octets_told};
+use crate::octets::{around, digits_told, message_of, trailing_told};
 use crate::records::{json_of, json_told, op_of, op_told, request_told};
 use crate::refusals::Refusal;
+use crate::reply_records::reply_record_told;
 use crate::text::{number_in, text_of};
+use crate::unreplies::reply_line_told;
 use kit_base::NoMemory;
 use pres::Bound;
 use serde_json::Value as Json;
@@ -14,18 +17,35 @@ use std::alloc::Global;
 /// What a refused line has, where it is given.
 pub fn detail(
     alloc: Global,
+    verb: Verb,
+    bound: &Bound,
+    refusal: &Refusal<'_>,
+    line: &[u8],
+) -> Result<String, NoMemory> {
+    if refusal.word == b"long".as_slice() {
+        return Ok(format!(in alloc; "the line has {} octets", line.len())?);
+    }
+    match verb {
+        Verb::Unreply => reply_line_told(alloc, bound, refusal, line),
+        _ => line_told(alloc, verb, bound, refusal, line),
+    }
+}
+
+/// What a line has that was refused as a record or as a message.
+fn line_told(
+    alloc: Global,
+    verb: Verb,
     bound: &Bound,
     refusal: &Refusal<'_>,
     line: &[u8],
 ) -> Result<String, NoMemory> {
     match refusal.word {
-        b"long" => Ok(format!(in alloc; "the line has {} octets", line.len())?),
         b"json" => json_told(alloc, line),
         b"request" | b"op" | b"value" => match json_of(alloc, line)? {
-            Some(json) => record_detail(alloc, bound, refusal, &json),
+            Some(json) => record_detail(alloc, verb, bound, refusal, &json),
             None => text_of(alloc, "the line is not JSON"),
         },
-        b"hex" => digits_told(alloc, line),
+        b"hex" => digits_told(alloc, 0, line),
         b"head" if !refusal.has_kind() => text_of(alloc, "the member 'local' is not 0"),
         _ => match message_of(alloc, line)? {
             Some(message) => message_detail(alloc, bound, refusal, message.as_slice()),
@@ -37,10 +57,14 @@ pub fn detail(
 /// What a record has that was refused.
 fn record_detail(
     alloc: Global,
+    verb: Verb,
     bound: &Bound,
     refusal: &Refusal<'_>,
     json: &Json,
 ) -> Result<String, NoMemory> {
+    if verb == Verb::Reply {
+        return reply_record_told(alloc, bound, refusal.word, json);
+    }
     match refusal.word {
         b"request" => request_told(alloc, bound.back(), json),
         b"op" => op_told(alloc, bound, json),
@@ -54,10 +78,10 @@ fn value_detail(alloc: Global, bound: &Bound, json: &Json) -> Result<String, NoM
         return op_told(alloc, bound, json);
     };
     match json.get("args") {
-        Some(args) => misfit(alloc, bound, op.request, args),
+        Some(args) => misfit(alloc, bound, "args", op.request, args),
         None => {
             let none = Json::Array(Vec::new(alloc));
-            misfit(alloc, bound, op.request, &none)
+            misfit(alloc, bound, "args", op.request, &none)
         }
     }
 }
@@ -74,7 +98,7 @@ fn message_detail(
         b"interface" => interface_told(alloc, bound, message),
         b"operation" => operation_told(alloc, bound.back(), message),
         b"body" => body_detail(alloc, bound, refusal, message),
-        _ => trailing_detail(alloc, refusal, message),
+        _ => trailing_told(alloc, message, refusal.kind),
     }
 }
 
@@ -92,20 +116,5 @@ fn body_detail(
             Ok(format!(in alloc; "{path}: {octets}")?)
         }
         None => Ok(path),
-    }
-}
-
-/// The octets after the last argument.
-fn trailing_detail(
-    alloc: Global,
-    refusal: &Refusal<'_>,
-    message: &[u8],
-) -> Result<String, NoMemory> {
-    match number_in(refusal.kind) {
-        Some(at) => {
-            let first = at as usize;
-            octets_told(alloc, message, first, first.saturating_add(16))
-        }
-        None => text_of(alloc, "octets after the last argument"),
     }
 }

@@ -10,9 +10,15 @@ use std::alloc::Global;
 /// More levels than any type has.
 const LEVELS: u32 = 64;
 
-/// Where the JSON of the arguments first presents no value, and what is wanted there.
-pub fn misfit(alloc: Global, bound: &Bound, id: NodeId, json: &Json) -> Result<String, NoMemory> {
-    let mut path = text_of(alloc, "args")?;
+/// Where the JSON of a part of a record first presents no value, and what is wanted there.
+pub fn misfit(
+    alloc: Global,
+    bound: &Bound,
+    part_name: &str,
+    id: NodeId,
+    json: &Json,
+) -> Result<String, NoMemory> {
+    let mut path = text_of(alloc, part_name)?;
     let mut node = id;
     let mut part = json;
     for _ in 0..LEVELS {

@@ -1,5 +1,5 @@
 // The octets of a message, as they are shown.
-use crate::text::{cut, text_of};
+use crate::text::{cut, number_in, text_of};
 use hex::FromHexError;
 use kit_base::NoMemory;
 use std::alloc::Global;
@@ -49,13 +49,32 @@ pub fn around(alloc: Global, message: &[u8], at: usize) -> Result<String, NoMemo
     Ok(format!(in alloc; "octets {first} on: {before}[{one}]{behind}")?)
 }
 
-/// Why a line is not digits.
-pub fn digits_told(alloc: Global, line: &[u8]) -> Result<String, NoMemory> {
-    let good = line.iter().take_while(|o| o.is_ascii_hexdigit()).count();
-    if good < line.len() {
+/// An octet of a message, where the place is a number, and those around it.
+pub fn place_told(alloc: Global, message: &[u8], place: &[u8]) -> Result<String, NoMemory> {
+    match number_in(place) {
+        Some(at) => around(alloc, message, at as usize),
+        None => octets_told(alloc, message, 0, 16),
+    }
+}
+
+/// The octets after the last value, where the place is a number.
+pub fn trailing_told(alloc: Global, message: &[u8], place: &[u8]) -> Result<String, NoMemory> {
+    match number_in(place) {
+        Some(at) => {
+            let first = at as usize;
+            octets_told(alloc, message, first, first.saturating_add(16))
+        }
+        None => text_of(alloc, "octets after the last value"),
+    }
+}
+
+/// Why some octets of a line are not digits, after so many others.
+pub fn digits_told(alloc: Global, before: usize, digits: &[u8]) -> Result<String, NoMemory> {
+    let good = digits.iter().take_while(|o| o.is_ascii_hexdigit()).count();
+    if good < digits.len() {
         return Ok(format!(in alloc;
             "the character in column {} is no hexadecimal digit",
-            good.saturating_add(1)
+            before.saturating_add(good).saturating_add(1)
         )?);
     }
     if good % 2 == 1 {

@@ -61,7 +61,7 @@ fn is_key(back: Back, key: &str) -> bool {
 }
 
 /// The member that numbers a message.
-fn head_key(back: Back) -> &'static str {
+pub fn head_key(back: Back) -> &'static str {
     match back {
         Back::Xdr => "xid",
         Back::CdrBig | Back::CdrLittle => "id",
@@ -91,7 +91,7 @@ fn member_told(alloc: Global, back: Back, json: &Json) -> Result<String, NoMemor
 }
 
 /// Whether a member is absent, or a whole number of 32 bits.
-fn is_word(member: Option<&Json>) -> bool {
+pub fn is_word(member: Option<&Json>) -> bool {
     match member {
         Some(json) => match json.as_u64() {
             Some(n) => n < 4294967296,
@@ -103,10 +103,15 @@ fn is_word(member: Option<&Json>) -> bool {
 
 /// The name that a record gives its operation, and the names that the file has.
 pub fn op_told(alloc: Global, bound: &Bound, json: &Json) -> Result<String, NoMemory> {
-    let name = match json.get("op").and_then(Json::as_str) {
-        Some(text) => shown(alloc, text.as_bytes())?,
-        None => String::new(alloc),
-    };
+    match json.get("op").and_then(Json::as_str) {
+        Some(text) => unknown_told(alloc, bound, text.as_bytes()),
+        None => unknown_told(alloc, bound, &[]),
+    }
+}
+
+/// A name that no operation has, and the names that the file has.
+pub fn unknown_told(alloc: Global, bound: &Bound, name: &[u8]) -> Result<String, NoMemory> {
+    let name = shown(alloc, name)?;
     let mut out = format!(in alloc; "no operation is named '{name}'; the file has")?;
     let mut between = " ";
     let ops = bound.ops().as_slice();

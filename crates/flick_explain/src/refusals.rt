@@ -1,6 +1,8 @@
 // The words of a line that begins with `!`, and what each means.
 use crate::causes::Cause;
+use crate::command::Verb;
 use crate::completions::{first_word, past_word};
+use crate::given_causes::NO_VALUE;
 
 /// A refusal of a line: its words after the `!`.
 #[derive(Clone, Copy)]
@@ -30,11 +32,13 @@ impl Refusal<'_> {
         !self.kind.is_empty()
     }
 
-    /// What it means.
-    pub fn cause(&self) -> Option<Cause> {
+    /// What it means after a run.
+    pub fn cause(&self, verb: Verb) -> Option<Cause> {
         match self.word {
-            b"long" | b"json" | b"request" | b"op" | b"value" => record_cause(self.word),
-            b"head" => Some(head_cause(self.has_kind(), self.kind)),
+            b"long" => Some(LONG),
+            b"json" => Some(JSON),
+            b"request" | b"op" | b"value" => Some(record_cause(verb, self.word)),
+            b"head" => Some(head_cause(verb, self.has_kind(), self.kind)),
             b"body" => body_cause(self.kind),
             _ => message_cause(self.word),
         }
@@ -76,14 +80,51 @@ const VALUE: Cause = Cause {
     of_names: false,
 };
 
+const REPLY_RECORD: Cause = Cause {
+    what: "",
+    why: "a reply record has op, the number of its head, and result and outs or raise and members.",
+    repair: "docs/COMMANDS.md has the members of a reply record.",
+    of_names: false,
+};
+
+const NO_SPACE: Cause = Cause {
+    what: "",
+    why: "a line is the name of an operation, one space, and the digits of a reply to it.",
+    repair: "write the name of the operation before the digits.",
+    of_names: false,
+};
+
+const NOT_REPLIED: Cause = Cause {
+    what: "",
+    why: "op is the full name of an operation that has a reply, with dots; case counts.",
+    repair: "write the name of an operation with a reply.",
+    of_names: false,
+};
+
 /// What a refusal of a record means.
-fn record_cause(word: &[u8]) -> Option<Cause> {
+fn record_cause(verb: Verb, word: &[u8]) -> Cause {
+    match verb {
+        Verb::Reply | Verb::Unreply => reply_cause(verb, word),
+        _ => request_cause(word),
+    }
+}
+
+/// What a refusal of a request record means.
+fn request_cause(word: &[u8]) -> Cause {
     match word {
-        b"long" => Some(LONG),
-        b"json" => Some(JSON),
-        b"request" => Some(REQUEST),
-        b"op" => Some(OP),
-        _ => Some(VALUE),
+        b"request" => REQUEST,
+        b"op" => OP,
+        _ => VALUE,
+    }
+}
+
+/// What a refusal of a reply record, or of the name of an operation, means.
+fn reply_cause(verb: Verb, word: &[u8]) -> Cause {
+    match word {
+        b"request" if verb == Verb::Unreply => NO_SPACE,
+        b"request" => REPLY_RECORD,
+        b"op" => NOT_REPLIED,
+        _ => NO_VALUE,
     }
 }
 
@@ -110,7 +151,7 @@ const OPERATION: Cause = Cause {
 
 const TRAILING: Cause = Cause {
     what: "",
-    why: "octets follow the last argument.",
+    why: "octets follow the last value.",
     repair: "the file may have a field too few, or the line two messages.",
     of_names: false,
 };
@@ -154,13 +195,21 @@ const HEAD_OTHER: Cause = Cause {
     of_names: false,
 };
 
+const NOT_A_REPLY: Cause = Cause {
+    what: "",
+    why: "the message is not a reply to this operation.",
+    repair: "the operation before the space is the one that was called; unmarshal reads calls and requests.",
+    of_names: false,
+};
+
 /// What a refusal of a head means.
-fn head_cause(has_kind: bool, kind: &[u8]) -> Cause {
+fn head_cause(verb: Verb, has_kind: bool, kind: &[u8]) -> Cause {
     if !has_kind {
         return NO_REPLY;
     }
     match kind {
         b"Short" => HEAD_SHORT,
+        b"Type" if verb == Verb::Unreply => NOT_A_REPLY,
         b"Type" => HEAD_TYPE,
         _ => HEAD_OTHER,
     }

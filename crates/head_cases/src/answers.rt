@@ -1,94 +1,89 @@
-// What is asked of a row, and what a head says.
-use crate::parts::{Bad, member, octets};
-use crate::records;
-use crate::refusals::refused;
-use giop_head::{GiopCall, read_call, read_reply};
-use hex::encode;
+// What is asked of a row.
+use crate::parts::{Bad, member};
+use crate::{giop, mach, records, refusals};
 use serde_json::{Category, Value as Json};
 use std::alloc::Global;
-use wire_def::{Order, ReplyHead, Status};
+
+/// What is asked of a row, by the member `ask`.
+#[derive(Clone, Copy)]
+enum Ask {
+    /// What the head of a GIOP message says that asks something.
+    GiopCall,
+    /// What the head of a GIOP reply says.
+    GiopReply,
+    /// The octets of the GIOP reply that refuses a request.
+    GiopRefuse,
+    /// What the head of a request over Mach says.
+    MachCall,
+    /// What the head of a reply over Mach says.
+    MachReply,
+    /// The octets of the reply that refuses a request over Mach.
+    MachRefuse,
+    /// The record of a request, read and written again.
+    RecordRequest,
+    /// The record of a reply, read and written again.
+    RecordReply,
+}
+
+/// What these words ask, if they ask something.
+fn ask_of(words: &str) -> Option<Ask> {
+    match words {
+        "giop call" => Some(Ask::GiopCall),
+        "giop reply" => Some(Ask::GiopReply),
+        "giop refuse" => Some(Ask::GiopRefuse),
+        "mach call" => Some(Ask::MachCall),
+        "mach reply" => Some(Ask::MachReply),
+        "mach refuse" => Some(Ask::MachRefuse),
+        "record request" => Some(Ask::RecordRequest),
+        "record reply" => Some(Ask::RecordReply),
+        _ => None,
+    }
+}
+
+/// What a row asks.
+fn asked(row: &Json) -> Result<Ask, Bad> {
+    let Some(words) = member(row, "ask")?.as_str() else {
+        return Err(Bad::Row("nothing is asked"));
+    };
+    match ask_of(words) {
+        Some(ask) => Ok(ask),
+        None => Err(Bad::Row("nothing is asked")),
+    }
+}
+
+/// The answer to what is asked of a row.
+fn answer_to(alloc: Global, row: &Json, ask: Ask) -> Result<String, Bad> {
+    match ask {
+        Ask::GiopCall => giop::call(alloc, row),
+        Ask::GiopReply => giop::reply(alloc, row),
+        Ask::GiopRefuse => refusals::refused(alloc, row),
+        Ask::MachCall => mach::call(alloc, row),
+        Ask::MachReply => mach::reply(alloc, row),
+        Ask::MachRefuse => mach::refused(alloc, row),
+        Ask::RecordRequest => records::request(alloc, row),
+        Ask::RecordReply => records::reply(alloc, row),
+    }
+}
+
+/// The answer to a row that is read.
+fn answered(alloc: Global, row: &Json) -> Result<String, Bad> {
+    let ask = asked(row)?;
+    answer_to(alloc, row, ask)
+}
+
+/// The row of a line.
+fn row_of(alloc: Global, line: &str) -> Result<Json, Bad> {
+    match Json::from_str(alloc, line) {
+        Ok(row) => Ok(row),
+        Err(error) => match error.classify() {
+            Category::Memory => Err(Bad::NoMemory),
+            _ => Err(Bad::Row("no JSON")),
+        },
+    }
+}
 
 /// The answer to a row.
 pub fn answer(alloc: Global, line: &str) -> Result<String, Bad> {
-    let row = match Json::from_str(alloc, line) {
-        Ok(row) => row,
-        Err(error) if error.classify() == Category::Memory => return Err(Bad::NoMemory),
-        Err(_) => return Err(Bad::Row("no JSON")),
-    };
-    match member(&row, "ask")?.as_str() {
-        Some("giop call") => call(alloc, octets(alloc, member(&row, "octets")?)?.as_slice()),
-        Some("giop reply") => reply(alloc, octets(alloc, member(&row, "octets")?)?.as_slice()),
-        Some("giop refuse") => refused(alloc, &row),
-        Some("record request") => records::request(alloc, &row),
-        Some("record reply") => records::reply(alloc, &row),
-        _ => Err(Bad::Row("nothing is asked")),
-    }
-}
-
-/// Digits, or a dash in place of none.
-fn digits(alloc: Global, octets: &[u8]) -> Result<String, Bad> {
-    if octets.is_empty() {
-        Ok(format!(in alloc; "-")?)
-    } else {
-        Ok(encode(alloc, octets)?)
-    }
-}
-
-fn name_of(order: Order) -> &'static str {
-    match order {
-        Order::Big => "Big",
-        Order::Little => "Little",
-    }
-}
-
-/// What the head of a message that asks says, or the first fault.
-fn call(alloc: Global, message: &[u8]) -> Result<String, Bad> {
-    match read_call(message) {
-        Ok(
-            GiopCall::Request {
-                head,
-                key,
-                name,
-                used,
-            },
-        ) => {
-            let wants = if head.wants { "wants" } else { "oneway" };
-            let order = name_of(head.order);
-            let key = digits(alloc, key)?;
-            let name = digits(alloc, name)?;
-            Ok(format!(in alloc; "request {} {wants} {order} {key} {name} {used}", head.id)?)
-        }
-        Ok(GiopCall::Locate { id, key }) => {
-            let key = digits(alloc, key)?;
-            Ok(format!(in alloc; "locate {id} {key}")?)
-        }
-        Err(fault) => Ok(format!(in alloc; "{fault:?}")?),
-    }
-}
-
-/// What the head of a reply says, or the first fault.
-fn reply(alloc: Global, message: &[u8]) -> Result<String, Bad> {
-    match read_reply(message) {
-        Ok(reply) => fate(alloc, &reply),
-        Err(fault) => Ok(format!(in alloc; "{fault:?}")?),
-    }
-}
-
-/// How a request fared.
-fn fate(alloc: Global, reply: &ReplyHead<'_>) -> Result<String, Bad> {
-    let id = reply.head.id;
-    let order = name_of(reply.head.order);
-    let used = reply.used;
-    match reply.status {
-        Status::Answer => Ok(format!(in alloc; "answer {id} {order} {used}")?),
-        Status::User(name) => {
-            let name = digits(alloc, name)?;
-            Ok(format!(in alloc; "user {id} {order} {name} {used}")?)
-        }
-        Status::System(name, minor, completion) => {
-            let name = digits(alloc, name)?;
-            Ok(format!(in alloc; "system {id} {order} {name} {minor} {completion} {used}")?)
-        }
-        _ => Err(Bad::Row("no status of these replies")),
-    }
+    let row = row_of(alloc, line)?;
+    answered(alloc, &row)
 }

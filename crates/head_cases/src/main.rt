@@ -3,7 +3,9 @@
 #![tactic(auto)]
 
 mod answers;
+mod giop;
 mod interfaces;
+mod mach;
 mod parts;
 mod records;
 mod refusals;

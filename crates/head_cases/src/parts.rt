@@ -41,6 +41,17 @@ pub fn word(json: &Json) -> Result<u32, Bad> {
     }
 }
 
+/// A signed number of 32 bits.
+pub fn signed(json: &Json) -> Result<i32, Bad> {
+    match json.as_i64() {
+        Some(n) => match i32::try_from(n) {
+            Ok(n) => Ok(n),
+            Err(_) => Err(Bad::Row("no signed number of 32 bits")),
+        },
+        None => Err(Bad::Row("no signed number of 32 bits")),
+    }
+}
+
 /// The octets of hexadecimal digits.
 pub fn octets(alloc: Global, json: &Json) -> Result<Octets, Bad> {
     let Some(digits) = json.as_str() else {

@@ -4,7 +4,9 @@ ghost use Rattle.std.specs.Prelude.{◌<◌, ◌≤◌, length, IfOk};
 use crate::codes::stub;
 use crate::heads::{refused, reply};
 use crate::nodes::{Made, build, table_of};
+use crate::numbered::made_of_number;
 use crate::parts::{Bad, member, octets, told, word};
+use crate::printed::text;
 use crate::received::received_case;
 use crate::swaps::swapped;
 use crate::values::value_of;
@@ -21,26 +23,54 @@ use std::alloc::Global;
 use storage_class::classify;
 use wire_def::Encoding;
 
+/// The answer to a case about a head, by what is asked.
+fn head_answer(alloc: Global, row: &Json, ask: &str) -> Result<String, Bad> {
+    match ask {
+        "reply" => reply(alloc, octets(alloc, member(row, "octets")?)?.as_slice()),
+        "refuse" => refused(alloc, member(row, "why")?),
+        _ => Err(Bad::Row("nothing is asked")),
+    }
+}
+
+/// The answer to a case about stub code, or about a head, by what is asked.
+fn code_answer(alloc: Global, row: &Json, ask: &str) -> Result<String, Bad> {
+    match ask {
+        "stub" => stub(alloc, row, false),
+        "rows" => stub(alloc, row, true),
+        "receive" => received_case(alloc, row),
+        "text" => text(alloc, row),
+        _ => head_answer(alloc, row, ask),
+    }
+}
+
+/// The answer to a case, by what is asked.
+fn answer_to(alloc: Global, row: &Json, ask: &str) -> Result<String, Bad> {
+    match ask {
+        "add" => add(alloc, row),
+        "fits" => is_of(alloc, row),
+        "send" => send(alloc, row),
+        "read" => read(alloc, row),
+        "span" => span(alloc, row),
+        "swapped" => swapped(alloc, row),
+        "make" => made_of_number(alloc, row),
+        _ => code_answer(alloc, row, ask),
+    }
+}
+
+/// The answer to a case that is read.
+fn answered(alloc: Global, row: &Json) -> Result<String, Bad> {
+    match member(row, "ask")?.as_str() {
+        Some(ask) => answer_to(alloc, row, ask),
+        None => Err(Bad::Row("nothing is asked")),
+    }
+}
+
 /// The answer to a case.
 pub fn answer(alloc: Global, line: &str) -> Result<String, Bad> {
-    let row = match Json::from_str(alloc, line) {
-        Ok(row) => row,
-        Err(error) if error.classify() == Category::Memory => return Err(Bad::NoMemory),
-        Err(_) => return Err(Bad::Row("no JSON")),
-    };
-    match member(&row, "ask")?.as_str() {
-        Some("add") => add(alloc, &row),
-        Some("fits") => is_of(alloc, &row),
-        Some("send") => send(alloc, &row),
-        Some("read") => read(alloc, &row),
-        Some("span") => span(alloc, &row),
-        Some("stub") => stub(alloc, &row, false),
-        Some("rows") => stub(alloc, &row, true),
-        Some("receive") => received_case(alloc, &row),
-        Some("swapped") => swapped(alloc, &row),
-        Some("reply") => reply(alloc, octets(alloc, member(&row, "octets")?)?.as_slice()),
-        Some("refuse") => refused(alloc, member(&row, "why")?),
-        _ => Err(Bad::Row("nothing is asked")),
+    match Json::from_str(alloc, line) {
+        Ok(row) => answered(alloc, &row),
+        Err(error) if error.classify() == Category::Memory => Err(Bad::NoMemory),
+        Err(_) => Err(Bad::Row("no JSON")),
     }
 }
 

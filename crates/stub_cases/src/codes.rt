@@ -28,7 +28,7 @@ use stub_lower::lower;
 use stub_machine::{SendErr, run_send};
 
 /// The head before a value.
-fn lead_of(alloc: Global, row: &Json) -> Result<SendCode, Bad>
+pub fn lead_of(alloc: Global, row: &Json) -> Result<SendCode, Bad>
     ensures { IfOk result IsLead }
 {
     let Some(which) = row.get("lead") else {
@@ -55,7 +55,7 @@ fn both(alloc: Global, lead: SendCode, body: &SendCode) -> Result<SendCode, NoMe
 }
 
 /// The code of a message, which is a head and a value of the node; and the same with its rows as blocks.
-fn message(
+pub fn message(
     alloc: Global,
     head: SendCode,
     table: &Mint,

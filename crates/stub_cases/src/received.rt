@@ -26,7 +26,7 @@ use stub_lower::lower_recv;
 use wire_def::Encoding;
 
 /// The code of a node without calls, its rows as blocks.
-fn in_rows(alloc: Global, enc: Encoding, table: &Mint, id: NodeId) -> Result<RecvCode, NoMemory>
+pub fn in_rows(alloc: Global, enc: Encoding, table: &Mint, id: NodeId) -> Result<RecvCode, NoMemory>
     requires { id < length table.now }
     ensures { IfOk result (λ code. IsSoundCode enc (type_at table.now id) (IsPlace enc) code) }
 {

@@ -1,0 +1,172 @@
+// What is known of a run, and what is said of each line that it wrote.
+use crate::bindings::bind_told;
+use crate::command::Run;
+use crate::files::File;
+use crate::given::{Given, replies_told};
+use crate::inputs::Inputs;
+use crate::lexing::{lex_told, put_cause};
+use crate::messages::detail;
+use crate::names::name_told;
+use crate::refusals::Refusal;
+use crate::syntax::syntax_told;
+use crate::text::shown;
+use kit_base::limits::LONGEST_FILE;
+use kit_base::{Line, NoMemory};
+use pres::Bound;
+use std::alloc::Global;
+
+/// What is known of a run.
+#[derive(Clone, Copy)]
+pub struct Known<'a> {
+    /// The run.
+    pub run: Run<'a>,
+    /// The octets of the interface file, where it is there.
+    pub text: Option<&'a [u8]>,
+    /// Those of the file of replies, where it is there.
+    pub replies: Option<&'a [u8]>,
+    /// The interface file bound to the back end, where it is accepted.
+    pub bound: Option<&'a Bound>,
+}
+
+impl Known<'_> {
+    /// What is said of a line of standard input.
+    pub fn line(
+        &self,
+        alloc: Global,
+        line: &Line,
+        inputs: &mut Inputs<'_>,
+    ) -> Result<String, NoMemory> {
+        match line {
+            Line::Text(answer) => self.told(alloc, answer.as_slice(), inputs),
+            Line::Long => {
+                inputs.next();
+                Ok(String::new(alloc))
+            }
+            Line::End => Ok(String::new(alloc)),
+        }
+    }
+
+    /// What is said of an answer.
+    fn told(
+        &self,
+        alloc: Global,
+        answer: &[u8],
+        inputs: &mut Inputs<'_>,
+    ) -> Result<String, NoMemory> {
+        if let [b'?', ..] = answer {
+            return self.refused(alloc, answer);
+        }
+        if inputs.is_ahead(answer) {
+            return Ok(String::new(alloc));
+        }
+        let line = inputs.next();
+        match answer {
+            [b'!', ..] => self.line_told(alloc, answer, inputs.number(), line),
+            _ => Ok(String::new(alloc)),
+        }
+    }
+
+    /// What is said of a refusal of a file.
+    fn refused(&self, alloc: Global, answer: &[u8]) -> Result<String, NoMemory> {
+        let refusal = Refusal::of(answer);
+        match self.run.replies {
+            Some(path) if refusal.word == b"replies".as_slice() => {
+                self.replies_refused(alloc, path, answer, refusal.kind)
+            }
+            _ => self.file_told(alloc, answer),
+        }
+    }
+
+    /// What is said of a refusal of the file of replies.
+    fn replies_refused(
+        &self,
+        alloc: Global,
+        path: &[u8],
+        answer: &[u8],
+        word: &[u8],
+    ) -> Result<String, NoMemory> {
+        let given = Given {
+            path,
+            text: self.replies,
+            bound: self.bound,
+        };
+        match replies_told(alloc, &given, word)? {
+            Some(told) => Ok(told),
+            None => unsaid(alloc, path, answer),
+        }
+    }
+
+    /// What is said of a refusal of the interface file.
+    fn file_told(&self, alloc: Global, answer: &[u8]) -> Result<String, NoMemory> {
+        let path = self.run.path;
+        let Some(text) = self.text else {
+            let path = shown(alloc, path)?;
+            return Ok(format!(in alloc; "{path}: there is no such file\n")?);
+        };
+        if text.len() > LONGEST_FILE as usize {
+            let path = shown(alloc, path)?;
+            return Ok(format!(in alloc; "{path}: a file has at most 1048576 octets\n")?);
+        }
+        let file = File {
+            front: self.run.front,
+            back: self.run.back,
+            path,
+            text,
+        };
+        match file_detail(alloc, &file, answer)? {
+            Some(told) => Ok(told),
+            None => unsaid(alloc, path, answer),
+        }
+    }
+
+    /// What is said of a refusal of a line.
+    fn line_told(
+        &self,
+        alloc: Global,
+        answer: &[u8],
+        number: usize,
+        line: Option<&[u8]>,
+    ) -> Result<String, NoMemory> {
+        let refusal = Refusal::of(answer);
+        let mut out = self.line_begin(alloc, number)?;
+        match (line, self.bound) {
+            (Some(line), Some(bound)) => {
+                out.push_str(detail(alloc, self.run.verb, bound, &refusal, line)?.as_str())?;
+            }
+            _ => out.push_str(shown(alloc, answer)?.as_str())?,
+        }
+        out.push('\n')?;
+        match refusal.cause(self.run.verb) {
+            Some(cause) => put_cause(&mut out, &cause)?,
+            None => out.push_str("  this is not an answer of flick\n")?,
+        }
+        Ok(out)
+    }
+
+    /// The path and number of a line.
+    fn line_begin(&self, alloc: Global, number: usize) -> Result<String, NoMemory> {
+        match self.run.lines {
+            Some(path) => Ok(format!(in alloc; "{}:{number}: ", shown(alloc, path)?)?),
+            None => Ok(format!(in alloc; "answer {number}: ")?),
+        }
+    }
+}
+
+/// What is said of a refusal of a file, where the file shows it.
+fn file_detail(alloc: Global, file: &File<'_>, answer: &[u8]) -> Result<Option<String>, NoMemory> {
+    let refusal = Refusal::of(answer);
+    match refusal.word {
+        b"lex" => lex_told(alloc, file, refusal.kind, refusal.at),
+        b"syntax" => syntax_told(alloc, file, refusal.kind),
+        b"name" => name_told(alloc, file, refusal.kind, refusal.at),
+        b"bind" => bind_told(alloc, file, refusal.kind),
+        _ => Ok(None),
+    }
+}
+
+/// What is said where the file does not show the refusal.
+fn unsaid(alloc: Global, path: &[u8], answer: &[u8]) -> Result<String, NoMemory> {
+    let path = shown(alloc, path)?;
+    let answer = shown(alloc, answer)?;
+    Ok(format!(in alloc; "{path}: nothing more is known of '{answer}'\n")?)
+}
