@@ -61,6 +61,17 @@ REPLY = {
     # What becomes of the port's right, the size, the remote port, no local one, 0 and the id, the return code 0, and words.
     "mach": re.compile(r"12000000([0-9a-f]{8})[0-9a-f]{8}0{16}[0-9a-f]{8}0220011000000000([0-9a-f]{8})*"),
 }
+# What a server sends: for each kind of message the digits that it may have, with its size, and which of them are those of the request.
+SERVED = {
+    # The transaction; accepted, with an empty verifier and a state; or denied, as only version 2 is known.
+    "xdr": re.compile(r"[0-9a-f]{8}00000001(?:0{24}(?:0{8}(?:[0-9a-f]{8})*|0000000[1345]|00000002[0-9a-f]{16})|00000001000000000000000200000002)"),
+    # A Reply that answers, raises or refuses, a LocateReply, or a MessageError.
+    "cdr-be": re.compile(r"47494f50010000(?:01([0-9a-f]{8})0{8}[0-9a-f]{8}0000000[012](?:[0-9a-f]{2})*|0400000008[0-9a-f]{8}0000000[01]|0600000000)"),
+    "cdr-le": re.compile(r"47494f50010001(?:01([0-9a-f]{8})0{8}[0-9a-f]{8}0[012]000000(?:[0-9a-f]{2})*|0408000000[0-9a-f]{8}0[01]000000|0600000000)"),
+    # The return code 0 and words, or one of the two that refuse.
+    "mach": re.compile(r"12000000([0-9a-f]{8})[0-9a-f]{8}0{16}[0-9a-f]{8}02200110(?:0{8}(?:[0-9a-f]{8})*|d[01]feffff)"),
+}
+BAD_REPLIES = re.compile(r"\? replies (?:file|size|[1-9][0-9]*)")
 HEX = re.compile(rb"([0-9A-Fa-f]{2})+")
 BLANKS = b" \t\n\v\f\r"
 
@@ -161,10 +172,10 @@ def wrong_fault(back, message, form):
 
 
 def is_message(forms, back, answer):
-    """Whether an answer is a message as `marshal` or `reply` writes it. Where it states its size, that is right."""
+    """Whether an answer is a message as `marshal`, `reply` or `serve` writes it. Where it states its size, that is right."""
     form = forms[back].fullmatch(answer)
     uncounted, order = {"mach": (0, "little"), "cdr-le": (12, "little"), "cdr-be": (12, "big")}.get(back, (0, None))
-    return form is not None and (order is None or int.from_bytes(bytes.fromhex(form[1]), order) == len(answer) // 2 - uncounted)
+    return form is not None and (order is None or form[1] is None or int.from_bytes(bytes.fromhex(form[1]), order) == len(answer) // 2 - uncounted)
 
 
 def tree_of(answer, keys, others):
@@ -205,9 +216,18 @@ def wrong_answer(back, command, line, answer):
         return wrong_unreplied(back, line, answer)
     if not HEX.fullmatch(line):
         return None if answer == "! hex" else "`! hex`"
+    if command == "serve":
+        return None if answer == "-" or is_message(SERVED, back, answer) and is_of(back, bytes.fromhex(line.decode()), bytes.fromhex(answer)) else "`-`, or a reply to the message"
     if form := NO_RECORD[back].fullmatch(answer):
         return wrong_fault(back, bytes.fromhex(line.decode()), form)
     return None if record_of(back, answer) else "a record, or one of the lines by which `unmarshal` refuses"
+
+
+def is_of(back, message, reply):
+    """Whether what a server sends has the number of the message: its transaction; or its local port, and its id plus 100. Over CDR this place depends on the contexts."""
+    if back == "mach":
+        return reply[8:12] == message[12:16] and int.from_bytes(reply[20:24], "little") == (int.from_bytes(message[20:24], "little") + 100) % 2 ** 32
+    return back != "xdr" or reply[:4] == message[:4]
 
 
 def wrong_unreplied(back, line, answer):

@@ -69,6 +69,11 @@ def texts(front, back):
             rows = [row for row in content["rows"] if row.get("command") == "marshal" and row.get("over", "xdr") == back]
             lines = [row["line"].encode() for row in rows if isinstance(row["line"], str)]
             yield f"tests/lines/{table}", tables.spelled(content["file"]), [line for line in lines if b"\n" not in line]
+    for table in sorted(os.listdir(f"{TOP}/tests/texts")):
+        content = json.loads(tables.content(f"{TOP}/tests/texts/{table}"))
+        if content["front"] == front:
+            for text in {tables.spelled(row.get("file", content.get("file", ""))): None for row in content["rows"]}:
+                yield f"tests/texts/{table}", text, []
     for folder in ("examples", "bench", "tests/fuzz/seeds"):
         for place, _, names in sorted(os.walk(f"{TOP}/{folder}")):
             for name in sorted(names):
@@ -112,10 +117,11 @@ def sources(front, back):
 
 @lru_cache(maxsize=1000)
 def interfaces_of(front, source_text):
-    """The interfaces of a source, where requests over them are not long."""
+    """The interfaces of a source, where neither requests over them nor replies are long."""
     interfaces, known = interfaces_in(front, source_text), {}
-    heaviest = max((weight(ty, known) for interface in interfaces for _, _, types in interface.operations for ty in types), default=0)
-    return interfaces if heaviest <= HEAVIEST_SEED else []
+    operations = [operation for interface in interfaces for operation in interface.operations]
+    types = [ty for operation in operations for ty in (*operation[2], operation.result, *operation.outs, *(raised.members for raised in operation.raises))]
+    return interfaces if max((weight(ty, known) for ty in types), default=0) <= HEAVIEST_SEED else []
 
 
 def numbers_of(rng, back, operation):

@@ -7,7 +7,7 @@ import files
 import mach
 import mig
 from calls import BACKS, LONGEST_MESSAGE, marshal, unmarshal
-from corba_nodes import Table, kind_of
+from corba_nodes import Table, kind_of, told_of_names
 from giop import request
 from nodes import arm_of, blank, count_of, greatest, is_exact, least, row_kind, sent
 from values import Array, Enum, Number, Opaque, Pointer, String, Struct, Union, Void
@@ -167,6 +167,19 @@ def offers_of(front, text):
     if front == "onc":
         return files.types_of(text), files.interfaces_of(text)
     return corba_names.offer_of(text.encode()).types, corba_names.interfaces_of(text)
+
+
+def refusal_of(front, back, text):
+    """The line with which a file is refused over a back end, or nothing. Files of ONC are all accepted here."""
+    if front == "onc":
+        return ""
+    return mig.told_of_file(text.encode()) if front == "mig" else told_of_names(text.encode(), back)
+
+
+def shown(front, text):
+    """What is written about a file, which is not bound to a back end."""
+    refusal = refusal_of(front, "cdr-be", text)
+    return refusal if refusal and not refusal.startswith("? bind") else "\n".join(show(front, text))
 
 
 def show(front, text):

@@ -284,8 +284,8 @@ def weight(nodes, id):
     return 1 + weight(nodes, rest[1][0][1]) if form == "choice" else 0
 
 
-def file_of(text):
-    """What a file declares. Of the limits of a binding only that of weight is reached by the files here."""
+def declared_in(text):
+    """What a file declares."""
     subsystem = None
     for number, tree in enumerate(trees_of(text), 1):
         try:
@@ -295,6 +295,12 @@ def file_of(text):
                 subsystem.declare(tree)
         except NameFault as fault:
             raise Refused(f"? name {fault} {number}") from None
+    return subsystem
+
+
+def file_of(text):
+    """What a file that is bound declares. Of the limits of a binding only that of weight is reached by the files here."""
+    subsystem = declared_in(text)
     if any(weight(subsystem.nodes, id) > HEAVIEST for id in range(len(subsystem.nodes))):
         raise Refused("? bind Heavy")
     return subsystem
@@ -314,8 +320,8 @@ def texts(types):
 
 
 def offered(text):
-    """What an accepted file offers, in lines: its types, its interface, and what its operations take and give."""
-    subsystem = file_of(text)
+    """What a file offers, in lines: its types, its interface, and what its operations take and give."""
+    subsystem = declared_in(text)
     lines = [f"type {name} = {meaning}" for name, meaning in subsystem.types]
     lines.append(f"interface {subsystem.name} program {PROGRAM} version {VERSION} base {subsystem.base}")
     for operation in subsystem.operations:

@@ -1,5 +1,6 @@
 """Random interface files, request lines and calls, by a seeded generator."""
 import json
+import re
 
 from calls import BACKS, marshal
 from values import Array, Bool, Enum, Number, Opaque, Pointer, String, Struct, Void
@@ -89,6 +90,38 @@ class FileMaker:
     def parameters(self):
         known = list(self.sizes)
         return ", ".join(self.rng.choice([*NUMBERS[:2], "string", *known[-3:]]) for _ in range(self.rng.randint(0, 3))) or "void"
+
+
+def widened(rng, text):
+    """A file of ONC some of whose lists and texts may be long: so that a type is about as long as a region, or longer."""
+    return re.sub(r"<\d>", lambda bound: f"<{rng.choice([20, 300, 2_000, 4_100, 9_000])}>" if rng.random() < 0.6 else bound[0], text)
+
+
+LENGTHS = [4, 60, 1_000, 2_000, 4_000, 4_052, 4_096, 4_148, 8_000, 8_140, 8_148, 8_152, 8_156, 8_184, 8_188, 8_192, 8_196]
+
+
+def long_field(rng, number, known):
+    """A field that is about as long as one of the lengths, or a short one, or one of the structs so far."""
+    n = rng.choice(LENGTHS)
+    forms = [f"opaque %s[{n}]", f"opaque %s<{n}>", f"string %s<{n}>", f"int %s<{n // 4}>", f"short %s[{n // 4}]", f"hyper %s<{n // 8 + 1}>", "int %s", "bool %s", "string %s<>"]
+    return rng.choice([*forms, *(f"{name} %s{count}" for name in known for count in ("", "<2>", "<>"))]) % f"f{number}"
+
+
+def about_a_region(rng):
+    """Fields that are together just as long as a region with a head before them, or a few octets less or more."""
+    least, first, gap = 4 * rng.randint(1, 10), 4 * rng.randint(900, 1_100), 4 * rng.randint(-20, 2)
+    return [f"opaque f0[{least}]", f"opaque f1[{first}]", f"opaque f2[{8_152 - least - first + gap}]", *[f"int f{n}" for n in range(3, rng.randint(3, 6))]]
+
+
+def long_file(rng):
+    """A file of ONC of structs whose fields are together about as long as some regions."""
+    known, structs = [], []
+    for k in range(rng.randint(1, 3)):
+        others = [long_field(rng, number, known) for number in range(rng.randint(1, 5))]
+        fields = "; ".join(about_a_region(rng) if rng.random() < 0.4 else others)
+        structs.append(f"struct s{k} {{ {fields}; }};")
+        known.append(f"s{k}")
+    return "\n".join([*structs, f"program P {{ version V {{ {' '.join(f'void F{k}({name}) = {k};' for k, name in enumerate(known))} }} = 1; }} = 9;", ""])
 
 
 def sample(rng, ty):

@@ -224,13 +224,18 @@ def serve(server, interfaces, table, line):
     return "-" if reply is None else reply.hex()
 
 
+def taken(back, interfaces, given):
+    """The answers of a file of replies; None stands for no file."""
+    if given is None:
+        raise BadReplies("file")
+    return table_of(REPLIES[back], interfaces, given)
+
+
 def told(back, interfaces, given, octets):
-    """What `serve` writes over an input, and its status. `given` are the octets of the replies, or None where there is no file."""
+    """What `serve` writes over an input, and its status."""
     try:
-        if given is None:
-            raise BadReplies("file")
-        table = table_of(REPLIES[back], interfaces, given)
+        table = taken(back, interfaces, given)
     except BadReplies as bad:
-        return f"? replies {bad}\n", 3
+        return f"? replies {bad}\n".encode(), 3
     answers = [serve(SERVERS[back], interfaces, table, line) for line in lines_of(octets)]
-    return "".join(f"{answer}\n" for answer in answers), int(any(answer.startswith("!") for answer in answers))
+    return "".join(f"{answer}\n" for answer in answers).encode(), int(any(answer.startswith("!") for answer in answers))

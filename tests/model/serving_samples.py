@@ -14,11 +14,11 @@ from calls import BACKS, marshal
 from corba_names import interfaces_of
 from corba_nodes import told_of_names
 from files import interfaces_of as onc_interfaces_of
-from giop import LOCATE_REPLY, MESSAGE_ERROR
+from giop import LOCATE_REPLY, LOCATE_REQUEST, MESSAGE_ERROR, REQUEST, long, message, read_call, request_fields
 from replies import BACKS as REPLIES
 from replies import members_of, record_of, reply, types_of, unreply
-from samples import ODD_LINES, FileMaker, call_lines, mutated, request_lines, sample
-from serving import NO_OPERATION, SERVERS, answered, table_of
+from samples import ODD_LINES, FileMaker, call_lines, mach_sized, mutated, request_lines, resized, sample
+from serving import NO_OPERATION, SERVERS, BadReplies, answered, table_of
 
 LINES = 20
 
@@ -58,9 +58,94 @@ def replied_lines(rng, back, interfaces, lines):
                 yield f"{name} {rng.choice([message[:at], message + octet, message[:at] + octet + message[at + 2:]])}".encode()
 
 
+def given_records(rng, back, interfaces):
+    """Records of replies for some of the operations, in any order."""
+    records = [record for _, _, record in answers_of(rng, back, interfaces) if rng.random() < 0.5]
+    return rng.sample(records, len(records))
+
+
+def file_of(rng, lines):
+    """The octets of lines, at times with empty ones between them, other ends, or no end of the last one."""
+    ends = rng.choice([["\n"], ["\n"], ["\n", "\r\n"], ["\n", "\n\n", "\n\r\n"]])
+    octets = "".join(line + rng.choice(ends) for line in lines)
+    return (rng.choice(["", "", "\n", "\r\n\n"]) + (octets.removesuffix("\n") if rng.random() < 0.2 else octets)).encode()
+
+
 def given_lines(rng, back, interfaces):
-    """The octets of replies for some of the operations."""
-    return "".join(f"{written(rng, record)}\n" for _, _, record in answers_of(rng, back, interfaces) if rng.random() < 0.5).encode()
+    """The octets of replies that are taken."""
+    return file_of(rng, [written(rng, record) for record in given_records(rng, back, interfaces)])
+
+
+def refused_lines(rng, back, interfaces):
+    """The octets of replies of which a line or two are wrong, most of them, or those of no operation that has a reply."""
+    records = given_records(rng, back, interfaces)
+    lines = [written(rng, record) for record in records]
+    for _ in range(rng.choice([1, 1, 2])):
+        record = rng.choice(records) if records else {"op": "I.f"}
+        odd = rng.choice([lambda: written(rng, mutated(rng, record)), lambda: written(rng, record), lambda: written(rng, record | {back.number: 0}), lambda: written(rng, {**record, "op": record["op"] + "x"}),
+                          lambda: rng.choice(ODD_LINES), lambda: written(rng, record)[:-1], lambda: written(rng, {"op": record["op"], "raise": "E"}), lambda: " "])
+        lines.insert(rng.randint(0, len(lines)), odd())
+    return file_of(rng, lines)
+
+
+# ---- messages to a server
+
+def onc_aimed(rng, interfaces, call):
+    """A call with other words in its head: its type, the protocol, the program, its version and the procedure."""
+    other = rng.choice(interfaces)
+    for at, words in rng.sample([(4, [1, 2]), (8, [1, 3]), (12, [other.program, other.program + 1]), (16, [other.version, other.version + 1, 0]),
+                                 (20, [rng.choice(other.operations)[1], 0, 99])], rng.choice([0, 1, 1, 2])):
+        call = call[:at] + (rng.choice(words) % 2 ** 32).to_bytes(4, "big") + call[at + 4:]
+    return call
+
+
+def giop_aimed(rng, interfaces, call):
+    """A request with another type, version or order in its header, another boolean, key or name; or a search of its object."""
+    said = read_call(call)
+    order, edits = said["order"], rng.choice([0, 0, 0, 1, 1, 2])
+    key = rng.choice([said["key"], said["key"], rng.choice(interfaces).name.encode(), said["key"] + b"x", said["key"][:-1]])
+    if rng.random() < 0.2:
+        fields = long(order, said["id"]) + long(order, len(key)) + key + rng.choice([b"", b"", b"", b"\0"])
+        return message(order, LOCATE_REQUEST, fields)[:len(fields) + 12 - rng.choice([0, 0, 0, 1])]
+    name = rng.choice([said["name"], said["name"] + b"x", said["name"][:-1], b""])
+    if rng.random() < 0.5:
+        fields = request_fields(order, said["id"], rng.choice([said["wants"], 0]), key.decode(), name.decode())
+        call = message(order, REQUEST, fields + call[said["used"]:])
+    for at, octets in rng.sample([(7, [1, 2, 3, 4, 5, 6, 7, 255]), (5, [1, 2]), (6, [0, 1, 2]), (0, [0]), (20, [0, 0, 0, 2])], edits):
+        call = call[:at] + bytes([rng.choice(octets)]) + call[at + 1:]
+    return call
+
+
+def mach_aimed(rng, interfaces, call):
+    """A request with another id or local port, or other bits in its header."""
+    other = rng.choice(interfaces)
+    ids = [other.base - 1, other.base + other.slots, other.base + rng.randrange(other.slots + 1), 2 ** 32 - 100]
+    for at, words in rng.sample([(12, [0, 9]), (20, ids), (20, ids), (0, [0, 1 << 31]), (4, [0])], rng.choice([0, 1, 1, 2])):
+        call = call[:at] + (rng.choice(words) % 2 ** 32).to_bytes(4, "little") + call[at + 4:]
+    return call
+
+
+AIMED = {"xdr": onc_aimed, "mach": mach_aimed}
+ORDERS = {"cdr-be": ("cdr-be", "cdr-be", "cdr-le"), "cdr-le": ("cdr-le", "cdr-le", "cdr-be")}  # what requests over CDR are written by
+
+
+def with_body(rng, name, call):
+    """A message that is cut, or with octets after it; its head tells its size."""
+    call = rng.choice([call, call, call[:rng.randrange(len(call))], call + b"\0", call + bytes(4)])
+    if name == "xdr" or len(call) < 12:
+        return call
+    return bytes.fromhex(mach_sized(call.hex()) if name == "mach" else resized(call.hex()))
+
+
+def served_lines(rng, name, interfaces, requests, count=3):
+    """Lines of `serve` over a back end: right messages, and so many of each that a server refuses in some way, most of them."""
+    for line in requests:
+        call = marshal(BACKS[rng.choice(ORDERS.get(name, [name]))], interfaces, line)
+        if not call.startswith("!"):
+            yield call.encode()
+            for _ in range(count):
+                aimed = AIMED.get(name, giop_aimed)(rng, interfaces, bytes.fromhex(call))
+                yield (with_body(rng, name, aimed) if rng.random() < 0.4 else aimed).hex().encode()
 
 
 def unread(back, interfaces, line):
@@ -83,6 +168,22 @@ def unanswered(name, table, interfaces, octets):
     return "" if is_unknown or any(not record.startswith("!") for record in records) else told.hex()
 
 
+def untaken(back, interfaces, octets):
+    """What is wrong with how replies are refused, or nothing: the lines before the one that is named are taken, and with it they are not."""
+    try:
+        table_of(back, interfaces, octets)
+        return ""
+    except BadReplies as bad:
+        number = bad.args[0]
+    lines = octets.split(b"\n")
+    try:
+        table_of(back, interfaces, b"\n".join(lines[:number - 1]))
+        table_of(back, interfaces, b"\n".join(lines[:number]))
+    except BadReplies as bad:
+        return "" if bad.args[0] == number else f"line {bad.args[0]}, and not {number}, of {octets}"
+    return f"not line {number} of {octets}"
+
+
 def checked(rng, interfaces):
     """What is wrong over a file, by each back end."""
     for name, back in REPLIES.items():
@@ -90,15 +191,12 @@ def checked(rng, interfaces):
             continue
         for line in reply_lines(rng, back, interfaces, LINES):
             yield unread(back, interfaces, line)
+        yield untaken(back, interfaces, refused_lines(rng, back, interfaces))
         table = table_of(back, interfaces, given_lines(rng, back, interfaces))
         requests = list(request_lines(rng, name, interfaces, LINES))
-        for line in call_lines(rng, name, interfaces, requests):
+        for line in [*call_lines(rng, name, interfaces, requests), *served_lines(rng, name, interfaces, requests)]:
             if len(line) % 2 == 0:
                 yield unanswered(name, table, interfaces, bytes.fromhex(line.decode()))
-        for line in requests:
-            message = marshal(BACKS[name], interfaces, line)
-            if not message.startswith("!"):
-                yield unanswered(name, table, interfaces, bytes.fromhex(message))
 
 
 def main():

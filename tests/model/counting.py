@@ -1,0 +1,229 @@
+"""What `stubs` and `count` write: the text of each operation's code, and what its code costs on a request.
+
+Which code an operation has is not fixed. What is written is held to this: it is the text of stubs, of each operation in
+order; by code that sends each request is the message of the model, within the room that it ensures, with at most one look
+at the buffer a region and with each row that travels as a block in one piece, and costs what `count` says; by code that
+receives each message is the request of which it was made, and other octets are none exactly where the model says so.
+As all of the model it is written from docs/, with nothing of the crates in it.
+"""
+from collections import namedtuple
+
+import giop
+import mach
+from calls import BACKS, marshal, tree_of
+from corba_nodes import Table, is_row, kind_of
+from making import made
+from nodes import is_exact, numbers_of, regions
+from stub_runs import Undefined, received_by, sent_by
+from stub_texts import NoStub, stubs_of
+from values import Array, Fault, Number, Opaque, Pointer, Reader, String, Struct, Union
+
+ENCODINGS = {"xdr": "xdr", "cdr-be": "cdr_big", "cdr-le": "cdr_little", "mach": "mach"}
+HEAD = {"id": 0, "remote": 0, "local": 0}
+
+# An operation with its whole name, the node of its requests, and the octets of their head.
+Request = namedtuple("Request", "interface operation name nodes id lead")
+
+
+class Wrong(Exception):
+    """What is not as it is held to be."""
+
+
+def need(holds, why):
+    if not holds:
+        raise Wrong(why)
+
+
+# ---- requests as values of nodes
+
+def requests_of(back, interfaces):
+    """Each operation over a back end, in order."""
+    table, found = Table(), []
+    for interface in interfaces:
+        for operation in BACKS[back].operations(interface):
+            id = table.id(Struct([("", ty) for ty in operation[2]]))
+            lead = len(BACKS[back].message(interface, operation, dict.fromkeys(BACKS[back].keys, 0), []))
+            found.append(Request(interface, operation, f"{interface.name}.{operation[0]}", table.nodes, id, lead))
+    return found
+
+
+def node_value(ty, value):
+    """A value of a type as one of its node."""
+    if isinstance(ty, Opaque):
+        return {"row": "char" if isinstance(ty, String) else "octet", "of": list(value)}
+    if is_row(ty):
+        return {"row": kind_of(ty.element), "of": list(value)}
+    if isinstance(ty, Array):
+        return {"items": [node_value(ty.element, element) for element in value]}
+    if isinstance(ty, Pointer):
+        return {"opt": [node_value(ty.array.element, element) for element in value or []]}
+    if isinstance(ty, Struct):
+        return {"group": [node_value(field, element) for (_, field), element in zip(ty.fields, value)]}
+    if isinstance(ty, Union):
+        return {"arm": [value[0], node_value(ty.arm(value[0]), value[1])]}
+    return int(value) if isinstance(ty, Number) else None
+
+
+def type_value(ty, value):
+    """A value of a type's node as one of the type."""
+    if isinstance(ty, Opaque):
+        return bytes(numbers_of(value))
+    if is_row(ty):
+        return numbers_of(value)
+    if isinstance(ty, Array):
+        return [type_value(ty.element, element) for element in value["items"]]
+    if isinstance(ty, Pointer):
+        return [type_value(ty.array.element, element) for element in value["opt"]] or None
+    if isinstance(ty, Struct):
+        return [type_value(field, element) for (_, field), element in zip(ty.fields, value["group"])]
+    if isinstance(ty, Union):
+        return value["arm"][0], type_value(ty.arm(value["arm"][0]), value["arm"][1])
+    return value
+
+
+def message_of(back, request, head, value):
+    """The message of a request, by the walk over its types."""
+    numbers = {"xdr": {"xid": head["id"]}, "mach": head}.get(back, head)
+    values = [type_value(ty, part) for ty, part in zip(request.operation[2], value["group"])]
+    return BACKS[back].message(request.interface, request.operation, numbers, values)
+
+
+def read_of(back, request, message):
+    """The value that the octets after the head spell, and the place after it; or None."""
+    reader = {"xdr": Reader, "mach": mach.Reading}.get(back, lambda octets, at: giop.Reading(octets, at, BACKS[back].order))(message, request.lead)
+    try:
+        values = [BACKS[back].read(reader, ty) for ty in request.operation[2]]
+    except Fault:
+        return None
+    return {"group": [node_value(ty, value) for ty, value in zip(request.operation[2], values)]}, reader.at
+
+
+# ---- texts
+
+def stubs_in(text, requests, kinds):
+    """The stubs of a text: for each operation in order one of each kind."""
+    try:
+        stubs = stubs_of(text)
+    except NoStub as fault:
+        raise Wrong(f"no text of stubs: {fault}") from None
+    wanted = [(kind, request.name) for request in requests for kind in kinds]
+    need([(stub.kind, stub.name) for stub in stubs] == wanted, "other stubs than one of each kind for each operation in order")
+    return stubs
+
+
+def texts_of(output, requests):
+    """The codes that `count` writes first, and the lines after them."""
+    texts, border, rest = output.partition("--\n")
+    need(border and (not texts or texts.endswith("\n")), "no line `--`")
+    return stubs_in(texts, requests, ["send"]), rest
+
+
+# ---- costs
+
+def is_block(encoding, node, kind, place):
+    """Whether a row or a text travels in one piece: as octets that are its numbers one after the other."""
+    if node[0] == "text" or encoding == "mach":
+        return True
+    if encoding == "xdr":
+        return kind in ("octet", "i32", "u32", "i64", "u64")
+    return kind not in ("i64", "u64") or is_exact(node, place)
+
+
+def blocks(encoding, nodes, id, value):
+    """How many rows and texts of a value travel in one piece."""
+    node = nodes[id]
+    form = node[0]
+    if form in ("text", "row"):
+        return int(is_block(encoding, node, *(("char", 1) if form == "text" else (node[1], 2))))
+    if form == "group":
+        return sum(blocks(encoding, nodes, child, inner) for child, inner in zip(node[1], value["group"]))
+    if form == "items":
+        return sum(blocks(encoding, nodes, node[1], inner) for inner in value["items"])
+    if form == "choice":
+        n, inner = value["arm"]
+        arm = next((child for label, child in node[2] if label == n), node[3] if len(node) > 3 else None)
+        return blocks(encoding, nodes, arm, inner)
+    return sum(blocks(encoding, nodes, node[1], inner) for inner in value["opt"]) if form == "maybe" else 0
+
+
+def shown_cost(cost):
+    return " ".join(map(str, cost))
+
+
+def cost_of(back, request, stub, head, value, message):
+    """What a request costs by a code that sends it, which is looked at."""
+    try:
+        octets, cost = sent_by(stub, head, value)
+    except Undefined as fault:
+        raise Wrong(f"code that cannot be run: {fault}") from None
+    need(octets == message, f"code that sends {octets.hex()[:400]} in place of {message.hex()[:400]}")
+    most = regions(ENCODINGS[back], request.nodes, request.id, value, request.lead)
+    need(cost.checks <= most, f"{cost.checks} checks over {most} regions")
+    pieces = blocks(ENCODINGS[back], request.nodes, request.id, value)
+    need(cost.rows == pieces, f"{cost.rows} rows, and {pieces} that travel in one piece")
+    return cost
+
+
+def request_in(back, requests, line):
+    """The place of the operation that a line names, its head and its value; the line presents a request."""
+    tree = tree_of(line)
+    place = next(place for place, request in enumerate(requests) if request.name == tree["op"])
+    types = requests[place].operation[2]
+    value = {"group": [node_value(ty, ty.value(arg)) for ty, arg in zip(types, tree.get("args", []))]}
+    return place, {"id": tree.get("xid", tree.get("id", 0)), "remote": tree.get("remote", 0), "local": tree.get("local", 0)}, value
+
+
+def counted(back, interfaces, requests, stubs, line):
+    """The answer of `count` to a line, by the codes that it wrote."""
+    told = marshal(BACKS[back], interfaces, line)
+    if told.startswith("!"):
+        return told
+    place, head, value = request_in(back, requests, line)
+    return f"{told} {shown_cost(cost_of(back, requests[place], stubs[place], head, value, bytes.fromhex(told)))}"
+
+
+def regions_of(back, interfaces, line):
+    """How many regions the message has that a line makes."""
+    requests = requests_of(back, interfaces)
+    place, _, value = request_in(back, requests, line)
+    return regions(ENCODINGS[back], requests[place].nodes, requests[place].id, value, requests[place].lead)
+
+
+# ---- stubs
+
+def receive_by(back, request, stub, message):
+    """The value that code gives of a message's octets after its head, and the place after it; or None."""
+    try:
+        given = received_by(stub, request.nodes, request.id, message, request.lead)
+    except Undefined as fault:
+        raise Wrong(f"code that strays over {message.hex()[:400]}: {fault}") from None
+    return given and given[:2]
+
+
+def changed(rng, message, lead):
+    """A message with its octets after the head cut, changed or followed by others."""
+    at = rng.randrange(lead, len(message) + 1)
+    octet, more = rng.choice([0, 1, 2, 8, 16, 127, 128, 255, rng.randrange(256)]), bytes([rng.randrange(256), 0, 0])
+    return rng.choice([message[:at], message + more, message[:at] + bytes([octet]) + message[at + 1:], message[:at] + bytes([octet]) + message[at + 1:]])
+
+
+def stubs_wrong(rng, back, interfaces, text, times=3, changes=6):
+    """What is wrong with what `stubs` writes over a back end, or nothing: codes are run on made values, and on messages of
+    them that are cut and changed."""
+    requests = requests_of(back, interfaces)
+    try:
+        stubs = stubs_in(text, requests, ["send", "recv"])
+        for place, request in enumerate(requests):
+            send, receive = stubs[2 * place:2 * place + 2]
+            for _ in range(times):
+                value = made(rng.randrange(2 ** 64), request.nodes, request.id)
+                head = {name: rng.choice([0, 1, 2 ** 32 - 1]) for name in HEAD}
+                head["local"] *= not request.operation.oneway
+                message = message_of(back, request, head, value)
+                cost_of(back, request, send, head, value, message)
+                for octets in (message, *(changed(rng, message, request.lead) for _ in range(changes))):
+                    told, wanted = receive_by(back, request, receive, octets), read_of(back, request, octets)
+                    need(told == wanted, f"{request.name}: code that receives {told} in place of {wanted} of {octets.hex()[:400]}")
+    except Wrong as fault:
+        return str(fault)
+    return ""
