@@ -12,7 +12,7 @@ pub mod Listing
 pub mod Making
 -- * Names of types by their numbers
 pub mod Naming
--- What is read of a message that was made
+-- * What is read of a message that was made
 pub mod Reading
 -- * The text of a unit is of whole lines
 pub mod ShowEnding

@@ -1,14 +1,13 @@
 -- What is read of a message that was made.
-use Rattle.std.proofs.Common.{◌≡◌, ℕ, ◌<◌, ◌≤◌, List, [], length, Ok, Err, refl, subst}
-use Rattle.kit_base.specs.Limits.{longest_message}
+use Rattle.std.proofs.Common.{◌≡◌, ℕ, List, Result, Ok, Err, IfOk, OnOk, refl, sym, subst}
 use Rattle.pres.specs.Bindings.{Binding}
 use Rattle.flick_engine.specs.declared.errors.MessageErr.{MessageErr}
 use Rattle.flick_engine.specs.declared.errors.MessageErr.TheVariants as err
 use Rattle.flick_engine.specs.declared.requests.Request.{Request}
 use Rattle.flick_engine.specs.Received.{asked, Answers, ReadCall}
 use Rattle.kit_texts.specs.declared.trip.Trip.{Trip}
-use Rattle.kit_texts.specs.declared.trip.Trip.TheVariants.{Long, Read, Refused}
-use Rattle.kit_texts.specs.MadeText.{IsRead, IsTrip}
+use Rattle.kit_texts.specs.declared.trip.Trip.TheVariants.{Refused}
+use Rattle.kit_texts.specs.MadeText.{IsRead}
 
 -- what was read of a call is what it is
 pub call_read : (b : Binding) (m : List ℕ) (r : Request) → Answers b m (Ok r) → ReadCall b m (Ok (asked r))
@@ -23,12 +22,9 @@ call_refused b m (err.Body f) exactly other = (exactly (Err (err.Body f))).0 ref
 call_refused b m (err.Trailing at) exactly other = (exactly (Err (err.Trailing at))).0 refl
 call_refused b m err.NoMemory exactly other = absurd (other refl)
 
--- a message that is there, and was read
-pub trip_read : (b : Binding) (m done : List ℕ) (t : Trip) → done ≡ m → length m ≤ longest_message → IsRead b done t → IsTrip b m t done
-trip_read b m done Long same few h = absurd h
-trip_read b m done (Read r) same few h = record { made = (same, few); read = λ e. subst (λ o. IsRead b o (Read r)) same h }
-trip_read b m done (Refused f) same few h = record { made = (same, few); read = λ e. subst (λ o. IsRead b o (Refused f)) same h }
-
--- a message above the limit
-pub trip_long : (b : Binding) (m done : List ℕ) → done ≡ [] → longest_message < length m → IsTrip b m Long done
-trip_long b m done none long = record { made = (none, long); read = λ e. absurd (cc) }
+-- what was refused is what it is, where there was memory
+pub refused_read : {E : Type 0} (r : Result Trip E) (b : Binding) (m : List ℕ) (e : MessageErr) → Answers b m (Err e)
+    → IfOk r (λ t. t ≡ Refused e) → OnOk r (e ≡ err.NoMemory → ⊥)
+    → IfOk r (λ t. IsRead b m t)
+refused_read (Ok t) b m e exactly is other = subst (IsRead b m) (sym is) (call_refused b m e exactly other)
+refused_read (Err x) b m e exactly is other = tt
