@@ -1,5 +1,5 @@
 -- Files give the same, and lines are answered the same, over bindings of one unit over one back end.
-use Rattle.std.proofs.Common.{◌≡◌, inl, inr, ℕ, zero, suc, ◌+◌, ◌<◌, List, [], ◌∷◌, map, length, replicate, Bool, true, false, Result, Ok, Err, Option, Some, None, refl, sym, ap, ◌∙◌, subst, arith}
+use Rattle.std.proofs.Common.{◌≡◌, inl, inr, ℕ, zero, suc, ◌+◌, ◌<◌, List, [], ◌∷◌, map, length, replicate, Bool, true, false, Result, Ok, Err, Option, Some, None, refl, sym, ap, ◌∙◌, subst}
 use Rattle.std.specs.Prelude.{◌&&◌, MatchBool, slice_index_or, if◌then◌else◌}
 use Rattle.std.proofs.lemmas.List.{length-map}
 use Rattle.kit_base.specs.Limits.{longest_message}
@@ -29,16 +29,15 @@ use Rattle.json_shape.specs.Records.{Begun}
 use Rattle.json_shape.specs.Replies.{has_head, given_of, reply_of}
 use Rattle.flick_engine.specs.declared.errors.MessageErr.{MessageErr}
 use Rattle.flick_engine.specs.declared.errors.MessageErr.TheVariants as err
-use Rattle.flick_engine.specs.Backs.{Begins, Stops}
+use Rattle.flick_engine.specs.Backs.{Stops}
 use Rattle.flick_engine.specs.Received.{Asked, IsShort, ReadCall}
 use Rattle.flick_engine.specs.Refusals.{wants_reply, reply_head, NoInterfaceOver, no_operation, bad_body, long_reply, RefusesOver, AnswersFault}
-use Rattle.flick_engine.specs.Replies.{reply_type, reply_message}
-use Rattle.flick_engine.specs.Serving.{gives, has_reply, names_reply, is_answered, IsRefused, Replies, RefusesCall, AnswersAs, AnswersCall, ServesCall, Serves}
+use Rattle.flick_engine.specs.Serving.{gives, names_reply, is_answered, IsRefused, Replies, RefusesCall, AnswersAs, AnswersCall, Serves}
 use Rattle.flick_lines.specs.Marshalled.{tree_of}
 use Rattle.flick_lines.proofs.Twins.{AreTwins, faces_in, AreSame, ops_alike, first_same, rest_same, none_same, reply_alike, reply_message_alike, of_unit}
 use Rattle.flick_lines.proofs.TwinRecords.{AreOne, IsOfFew, replies_alike}
 use Rattle.flick_lines.proofs.TwinMessages.{begins_over, begins_below, call_over}
-use Rattle.flick_serve.specs.Given.{IsReplyOf, IsInTree, IsGiven, Given, given_at, Adds, Give, lines_of, FileGives}
+use Rattle.flick_serve.specs.Given.{IsReplyOf, IsInTree, Given, given_at, Adds, Give, lines_of, FileGives}
 use Rattle.flick_serve.specs.Served.{or_blank, answer_of, IsOfMessage, IsServed}
 
 -- twins the other way round
@@ -87,7 +86,7 @@ give_over b c t k g (l ∷ ls) x (inr (wrong, is)) =
 -- as many operations
 pub many_alike : (b c : Binding) → AreTwins b c → length b.ops ≡ length c.ops
 many_alike b c t =
-    sym (length-map (offer_at (faces_in b)) b.ops) ∙ ap length (ops_alike b c t) ∙ length-map (offer_at (faces_in c)) c.ops
+    sym (length-map b.ops (offer_at (faces_in b))) ∙ ap length (ops_alike b c t) ∙ length-map c.ops (offer_at (faces_in c))
 
 pub file_over : (b c : Binding) → AreTwins b c → (text : List ℕ) (x : Result Given ℕ) → FileGives b text x → FileGives c text x
 file_over b c t text x h =

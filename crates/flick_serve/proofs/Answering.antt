@@ -16,7 +16,7 @@ use Rattle.flick_engine.specs.Replies.{reply_type}
 use Rattle.flick_engine.specs.Serving.{gives, Serves}
 use Rattle.flick_engine.proofs.Servings.{served_once, served_somehow}
 use Rattle.flick_lines.proofs.Existing.{IsFit}
-use Rattle.flick_serve.specs.Given.{Given, given_at, given_in, FileGives}
+use Rattle.flick_serve.specs.Given.{Given, given_in}
 use Rattle.flick_serve.specs.Laws.{IsServedOnce}
 use Rattle.flick_serve.specs.Served.{or_blank, answer_of, reply_text, IsOfMessage, IsServed, Serving, IsServing}
 use Rattle.flick_serve.proofs.Deciding.{given_once}
@@ -63,6 +63,14 @@ served_somewhat s places serving fit line =
     (a, (given_in places, serving.given, is))
 
 -- ---- as the answers of calls
+
+-- the answer to digits that spell a message
+pub digits_answer : {E : Type 0} (b : Binding) (answer : ℕ → Val) (line message slice : List ℕ) (y : Result (List ℕ) E)
+    → decode_of line ≡ Ok message → slice ≡ message → IfOk y (λ o. IsOfMessage b answer (Ok slice) o)
+    → IfOk y (λ o. IsOfMessage b answer (decode_of line) o)
+digits_answer b answer line message slice y is same h =
+    let spelled = subst (λ (m : List ℕ). IfOk y (λ o. IsOfMessage b answer (Ok m) o)) same h in
+    subst (λ (d : Result (List ℕ) FromHexError). IfOk y (λ o. IsOfMessage b answer d o)) (sym is) spelled
 
 -- the digits of a reply
 pub reply_answer : {E : Type 0} (b : Binding) (answer : ℕ → Val) (message octets : List ℕ) (y : Result (List ℕ) E)

@@ -1,5 +1,5 @@
 -- What a line and a file give, by what was read of them.
-use Rattle.std.proofs.Common.{◌≡◌, ℕ, zero, suc, List, [], ◌∷◌, length, replicate, Result, Ok, Err, Option, Some, None, refl, sym, ap, ◌∙◌, subst, false}
+use Rattle.std.proofs.Common.{◌≡◌, ℕ, zero, suc, List, ◌∷◌, length, replicate, Ok, Err, Option, Some, None, refl, sym, ap, ◌∙◌, subst, false}
 use Rattle.std.specs.Prelude.{◌==◌, IfSome}
 use Rattle.std.proofs.lemmas.Bool.{eqb-false}
 use Rattle.mint.specs.declared.value.Value.{Value}

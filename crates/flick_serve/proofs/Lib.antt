@@ -8,8 +8,6 @@ pub mod Finding
 pub mod Taking
 -- * What a line and a file give, by what was read of them
 mod Filing
--- A server is made where its file gives replies
-mod Making
 -- * What the lines of a text give, by those that are left
 mod Reading
 -- * What a file gives is determined, and is something
