@@ -13,9 +13,9 @@ import mach
 from calls import BACKS, marshal, tree_of
 from corba_nodes import Table, is_row, kind_of
 from making import made
-from nodes import is_exact, numbers_of, regions
-from stub_runs import Undefined, received_by, sent_by
-from stub_texts import NoStub, stubs_of
+from nodes import is_exact, numbers_of, regions, sent
+from stub_runs import Sending, Undefined, received_by, sent_by
+from stub_texts import NoStub, stubs_of, text_of
 from values import Array, Fault, Number, Opaque, Pointer, Reader, String, Struct, Union
 
 ENCODINGS = {"xdr": "xdr", "cdr-be": "cdr_big", "cdr-le": "cdr_little", "mach": "mach"}
@@ -226,4 +226,26 @@ def stubs_wrong(rng, back, interfaces, text, times=3, changes=6):
                     need(told == wanted, f"{request.name}: code that receives {told} in place of {wanted} of {octets.hex()[:400]}")
     except Wrong as fault:
         return str(fault)
+    return ""
+
+
+def printed_wrong(case, text, times=20):
+    """What is wrong with the text of one code of a node, or nothing. Lowered and inlined code ensures nothing, so it has room; a head before it is not looked at."""
+    nodes, encoding = case["nodes"], case["in"]
+    id = case.get("id", len(nodes) - 1)
+    stub, = stubs_of(text)
+    need(text_of(stub) == text, "a text that is written otherwise")
+    for number in range(times):
+        value = made(number, nodes, id)
+        octets = sent(encoding, nodes, id, value)
+        if stub.kind == "recv":
+            told = received_by(stub, nodes, id, octets + b"\x2a", 0)
+            told = told and (sent(encoding, nodes, id, told[0]), told[1])
+        else:
+            sending = Sending(HEAD, stub.subs)
+            sending.room = 0 if case["of"] in ("ensured", "rows") else 2 ** 32
+            sending.run(stub.code, value)
+            told = bytes(sending.octets[len(sending.octets) - len(octets):]), len(octets)
+        if told != (octets, len(octets)):
+            return f"{told} in place of {octets.hex()}"
     return ""
