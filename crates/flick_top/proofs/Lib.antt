@@ -38,3 +38,5 @@ pub mod Leaving
 pub mod OverFiles
 -- * The numbers of words, read digit by digit
 pub mod Digits
+-- * A server answers lines by the replies that the text of a file gives
+pub mod Servers

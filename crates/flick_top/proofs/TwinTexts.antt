@@ -17,7 +17,8 @@ use Rattle.flick_engine.specs.Messages.{request_type, message}
 use Rattle.flick_lines.specs.declared.verb.Verb.{Verb}
 use Rattle.flick_lines.specs.declared.verb.Verb.TheVariants as verbs
 use Rattle.flick_lines.proofs.Twins.{AreTwins, faces_in, AreSame, ops_alike, first_same, rest_same, none_same, names_alike, dotted_alike, request_alike, message_alike}
-use Rattle.kit_texts.specs.MadeText.{turn, made_head, made_message, messages_from, messages, made_line, make_text}
+use Rattle.kit_texts.specs.Counted.{messages_from, made_line}
+use Rattle.kit_texts.specs.MadeText.{turn, made_head, made_message, messages, make_text}
 use Rattle.kit_texts.specs.StubTexts.{sent_text, both_texts, texts_of, stubs_text, counted_text}
 use Rattle.flick_top.specs.Output.{text_before}
 use Rattle.flick_top.proofs.FilesSay.{AreAlike}
