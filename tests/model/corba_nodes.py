@@ -124,7 +124,7 @@ class Table:
 
     def node(self, ty):
         if isinstance(ty, Enum):
-            return ["enum", sorted(n for _, n in ty.items)]
+            return ["enum", sorted({n for _, n in ty.items})]
         if isinstance(ty, Number):
             return ["num", kind_of(ty)]
         if isinstance(ty, String):
