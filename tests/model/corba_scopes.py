@@ -44,7 +44,10 @@ class Chars(Array):
 def row_of(element, count):
     """So many elements."""
     if isinstance(element, Octet):
-        return Opaque(count)
+        row = Opaque(count)
+        # What is shown of it: an octet by the name of its type, where it has one.
+        row.element = element
+        return row
     return (Chars if isinstance(element, Char) else Array)(element, count)
 
 

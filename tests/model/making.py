@@ -142,7 +142,7 @@ def meaning_of(ty):
     if isinstance(ty, String):
         return "text" if ty.count.bound is None else f"text {ty.count.bound}"
     if isinstance(ty, (Opaque, Array)):
-        return counted(ty, "octet" if isinstance(ty, Opaque) else text_of(ty.element))
+        return counted(ty, text_of(ty.element) if hasattr(ty, "element") else "octet")
     if isinstance(ty, Pointer):
         return f"maybe {text_of(ty.array.element)}"
     if isinstance(ty, Struct):
