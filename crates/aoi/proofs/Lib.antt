@@ -1,10 +1,10 @@
 -- The proofs, each after those that it uses; * marks those that the proofs of functions use.
 
--- * One more interface
+-- * One more interface, by induction on the interfaces before it
 pub mod Apart
--- * Numbers of arms and of items, and names that are followed
+-- * Numbers of arms and of items, and names that are followed; unions, by induction on the arms
 pub mod Numbers
 -- * What a union is seen as
 pub mod Seen
--- * A unit is sound where its plain tree is
+-- * A unit is sound where its plain tree is, by induction on the lists of its parts
 pub mod Plainly

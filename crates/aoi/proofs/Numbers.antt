@@ -1,4 +1,4 @@
--- Numbers of arms and of items, and names that are followed.
+-- Numbers of arms and of items, and names that are followed; unions, by induction on the arms.
 use Rattle.std.proofs.Common.{◌≡◌, ℕ, suc, ◌+◌, ◌-◌, ◌<◌, ◌≤◌, ℤ, get_or, take, drop, nat_lt, true, false, if◌then◌else◌, sym, subst, ◌∙◌, length-drop, arith, List, [], ◌∷◌, map, Option, Some, None, Bool, not, ◌||◌, ◌&&◌, ◌==◌, length, refl, ap}
 use Rattle.std.specs.List.{list_any}
 use Rattle.std.specs.Ordering.{int_eq}

@@ -1,4 +1,4 @@
--- A unit is sound where its plain tree is.
+-- A unit is sound where its plain tree is, by induction on the lists of its parts.
 use Rattle.std.proofs.Common.{◌≡◌, Bool, true, false, ℕ, ◌&&◌, List, [], ◌∷◌, map, refl, sym, ap, ◌∙◌}
 use Rattle.std.specs.List.{list_all}
 use Rattle.std.proofs.lemmas.List.{length-map}

@@ -1,4 +1,4 @@
--- Each operation of a bound unit is one that requests name, and they are few.
+-- Each operation of a bound unit is one that requests name, and they are few, by induction on the interfaces.
 use Rattle.std.proofs.Common.{◌≡◌, ◌*◌, ◌≤◌, ℕ, suc, List, [], ◌∷◌, map, length, length-append, append-nil, refl, ap, sym, ◌∙◌, arith}
 use Rattle.std.proofs.lemmas.List.{length-map}
 use Rattle.wire_def.specs.declared.encoding.Back.{Back}

@@ -1,6 +1,6 @@
 -- The proofs, each after those that it uses; * marks those that the proofs of functions use.
 
--- * Each operation of a bound unit is one that requests name, and they are few
+-- * Each operation of a bound unit is one that requests name, and they are few, by induction on the interfaces
 pub mod Counting
 -- * A head as chunks appends its octets
 pub mod Coding
@@ -10,11 +10,11 @@ pub mod Growing
 pub mod Naming
 -- Octets that are known by another name
 pub mod Along
--- * The operations that are named are among those that there are, and are found from left to right
+-- * Operations that are named are among those there are, found from left to right, by induction on the interfaces
 pub mod NamedBelow
 -- A message has one head of a request or one first fault of it, over a binding too
 pub mod Heading
--- * The operation that a request names has its key and its name
+-- * The operation that a request names has its key and its name, by induction on the interfaces
 pub mod NamedRight
 -- The operation that a request names is the one of its name, of the interface whose name is the key
 pub mod NamedBy

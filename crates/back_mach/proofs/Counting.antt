@@ -1,4 +1,4 @@
--- Each operation of a bound unit is a routine, they are few, and their ids have 31 bits.
+-- Each operation of a bound unit is a routine, they are few, and ids have 31 bits, by induction on the interfaces.
 use Rattle.std.proofs.Common.{◌≡◌, ◌+◌, ◌*◌, ◌<◌, ◌≤◌, ◌^◌, ℕ, zero, suc, Bool, true, List, [], ◌∷◌, ◌++◌, get_or, map, length, length-append, append-nil, refl, ap, sym, ◌∙◌, arith}
 use Rattle.std.specs.Prelude.{◌&&◌, nat_le, nat_lt}
 use Rattle.std.specs.List.{list_all, AllByRecursion}

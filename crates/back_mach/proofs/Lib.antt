@@ -12,13 +12,13 @@ pub mod Steps
 pub mod Lawful
 -- * What is reported of a message is decided by its head, or by its first fault
 pub mod Exact
--- * Each operation of a bound unit is a routine, they are few, and their ids have 31 bits
+-- * Each operation of a bound unit is a routine, they are few, and ids have 31 bits, by induction on the interfaces
 pub mod Counting
 -- * The operation at a place among those of all interfaces
 pub mod Naming
--- * The operations that are named are among those that there are, and are found from left to right
+-- * Operations that are named are among those there are, found from left to right, by induction on the interfaces
 pub mod NamedBelow
--- * The operation that a request names is the one of its id
+-- * The operation that a request names is the one of its id, by induction on the interfaces
 pub mod NamedBy
 -- A message has one head of a request or one first fault of it, over a binding too
 pub mod Heading

@@ -1,4 +1,4 @@
--- The operations that are named are among those that there are, and are found from left to right.
+-- Operations that are named are among those there are, found from left to right, by induction on the interfaces.
 use Rattle.std.proofs.Common.{◌≡◌, ◌+◌, ◌<◌, ◌≤◌, ℕ, Bool, true, false, List, [], ◌∷◌, Option, Some, drop, map, length, length-append, get_or, refl, ap, sym, ◌∙◌, arith}
 use Rattle.std.specs.Prelude.{if◌then◌else◌}
 use Rattle.std.specs.List.{position_from}

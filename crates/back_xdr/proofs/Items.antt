@@ -1,4 +1,4 @@
--- Words and pads are grammars.
+-- Words and pads are grammars, pads by induction on their length.
 use Rattle.std.proofs.Common.{◌≡◌, ℕ, zero, suc, ◌+◌, ◌≤◌, List, [], ◌∷◌, ◌++◌, length, take, drop, replicate, Bool, false, ltb, refl, sym, ap, ◌∙◌, length-append, arith, add-zero}
 use Rattle.std.specs.Int.{w32, from_be_bytes}
 use Rattle.std.proofs.lemmas.Bool.{ltb-false, ltb-true, le-ltb, lt-ltb}

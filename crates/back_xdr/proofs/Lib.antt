@@ -1,6 +1,6 @@
 -- The proofs, each after those that it uses; * marks those that the proofs of functions use.
 
--- Words and pads are grammars
+-- Words and pads are grammars, pads by induction on their length
 pub mod Items
 -- Credentials and verifiers are a grammar
 pub mod Auths
@@ -14,7 +14,7 @@ pub mod Lawful
 pub mod Steps
 -- * What is reported of a message is decided by its head, or by its first fault
 pub mod Exact
--- * How many operations there are
+-- * How many operations there are, by induction on the interfaces
 pub mod Counting
 -- * A head as one chunk appends its octets
 pub mod Coding
@@ -22,9 +22,9 @@ pub mod Coding
 pub mod Wording
 -- * The operation that a call names, found from left to right
 pub mod Finding
--- * The operations that are named are among those that there are
+-- * The operations that are named are among those that there are, by induction on the interfaces
 pub mod NamedBelow
--- * The operation that a call names is the procedure that it calls
+-- * The operation that a call names is the procedure that it calls, by induction on the interfaces
 pub mod NamedRight
 -- A message has one head of a call or one first fault of it, over a binding too
 pub mod Heading

@@ -1,4 +1,4 @@
--- The operations that are named are among those that there are.
+-- The operations that are named are among those that there are, by induction on the interfaces.
 use Rattle.std.proofs.Common.{◌+◌, ◌<◌, ◌≤◌, ℕ, Bool, true, false, List, [], ◌∷◌, Option, Some, length, arith}
 use Rattle.std.specs.Prelude.{◌==◌, if◌then◌else◌}
 use Rattle.std.specs.List.{position_from}

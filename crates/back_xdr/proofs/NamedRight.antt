@@ -1,4 +1,4 @@
--- The operation that a call names is the procedure that it calls.
+-- The operation that a call names is the procedure that it calls, by induction on the interfaces.
 use Rattle.std.proofs.Common.{◌≡◌, ◌+◌, ◌<◌, ℕ, suc, Bool, true, false, List, [], ◌∷◌, Option, Some, None, length, get_or, refl, ◌∙◌, arith}
 use Rattle.std.specs.Prelude.{◌==◌, ◌&&◌, if◌then◌else◌}
 use Rattle.std.specs.List.{position_from}

@@ -1,4 +1,4 @@
--- The arm that is drawn is the one that is found.
+-- The arm that is drawn is the one that is found, by induction on the arms.
 use Rattle.std.proofs.Common.{◌≡◌, ℕ, ◌+◌, Bool, true, false, cond, ℤ, List, [], ◌∷◌, map, Option, None, Some, int_eq, refl, sym, ap, ◌∙◌, subst, arith}
 use Rattle.mint.specs.Arms.{arm_found}
 use Rattle.mint.specs.Sound.{arm_numbers}

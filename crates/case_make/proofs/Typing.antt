@@ -1,4 +1,4 @@
--- What is drawn for a sound type is of it.
+-- What is drawn for a sound type is of it, by mutual induction on types, fields and arms.
 use Rattle.std.proofs.Common.{◌≡◌, ℕ, zero, suc, ◌<◌, ◌≤◌, Bool, true, false, ◌&&◌, not, cond, MatchBool, nat_le, ℤ, pos, List, [], ◌∷◌, length, get_or, None, refl, ap, ◌∙◌, arith, inl, inr, lt-ltb, le-ltb, int_eq, eqb}
 use Rattle.std.specs.List.{list_all}
 use Rattle.std.proofs.lemmas.Bool.Decides.{Decides-int_eq}

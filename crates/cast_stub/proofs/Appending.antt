@@ -1,4 +1,4 @@
--- A code after a code, and an operation as a piece before others.
+-- A code after a code, and an operation as a piece before others, by induction on the first code.
 use Rattle.std.proofs.Common.{◌≡◌, List, [], ◌∷◌, ◌++◌, length, if◌then◌else◌, ◌+◌, ◌*◌, subst, Some, None, refl, sym, ap, ◌∙◌, append_assoc}
 use Rattle.mint.specs.Values.{Val, arm_in}
 use Rattle.wire_def.specs.declared.head.Head.{Head}

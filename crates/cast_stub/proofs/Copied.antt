@@ -1,4 +1,4 @@
--- A copy for the whole is the same.
+-- A copy for the whole is the same, by induction on the list of puts.
 use Rattle.std.proofs.Common.{◌≡◌, List, [], ◌∷◌, map, refl, ap, ◌∙◌}
 use Rattle.cast_stub.specs.declared.put.Put.{Put}
 use Rattle.cast_stub.specs.declared.put.Put.TheVariants as put

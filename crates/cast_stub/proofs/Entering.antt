@@ -1,4 +1,4 @@
--- The calls that are run: of blocks one after the other, without ensures, and of code without calls.
+-- The calls that are run: of blocks in turn, without ensures, and of code without calls, by induction on the code.
 use Rattle.std.proofs.Common.{◌≡◌, ℕ, zero, suc, ℤ, pos, List, [], ◌∷◌, ◌++◌, Option, Some, None, refl, sym, ap, ◌∙◌, append_assoc, Bool, true, false, if◌then◌else◌}
 use Rattle.std.specs.Ordering.{int_eq}
 use Rattle.mint.specs.Values.{Val, void, num, row, group, items, arm, absent, present, Vals, no_more, val, arm_in}

@@ -1,4 +1,4 @@
--- What steps after steps write and cost, and room that is more than enough.
+-- What steps after steps write and cost, and room that is more than enough, by induction on the steps.
 use Rattle.std.proofs.Common.{◌≡◌, ℕ, ◌+◌, ◌-◌, ◌≤◌, max, List, [], ◌∷◌, ◌++◌, length, replicate, Option, Some, None, refl, sym, ap, ◌∙◌, arith, add_assoc}
 use Rattle.wire_def.specs.Scalars.{gap}
 use Rattle.cast_stub.specs.Parts.{on_some}

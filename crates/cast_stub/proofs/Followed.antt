@@ -1,4 +1,4 @@
--- Code that goes through a type: a child's own code, and no row operation.
+-- Code that goes through a type: a child's own code, and no row operation, by induction on the type.
 use Rattle.std.proofs.Common.{◌≡◌, inl, inr, ℕ, suc, ◌+◌, List, [], ◌∷◌, ◌++◌, length, Option, Some, None, option_map, refl, sym, subst}
 use Rattle.mint.specs.declared.kind.Count.{Count}
 use Rattle.mint.specs.declared.kind.Count.TheVariants.{Exactly, AtMost, Any}

@@ -1,14 +1,14 @@
 -- The proofs, each after those that it uses; * marks those that the proofs of functions use.
 
--- * A code after a code, and an operation as a piece before others
+-- * A code after a code, and an operation as a piece before others, by induction on the first code
 pub mod Appending
--- * A receive code after a receive code, and an operation as a piece before others
+-- * A receive code after a receive code, and an operation as a piece before others, by induction on the first code
 pub mod RecvAppending
 -- * One operation more after a code
 pub mod Adding
 -- Code from an operation on
 pub mod Codes
--- * A copy for the whole is the same
+-- * A copy for the whole is the same, by induction on the list of puts
 pub mod Copied
 -- Each operation as a piece of a block
 pub mod Pieces
@@ -16,23 +16,23 @@ pub mod Pieces
 pub mod Putting
 -- Code that puts a number of the head, and the heads that it is covered for
 mod Covering
--- * The calls that are run: of blocks one after the other, without ensures, and of code without calls
+-- * The calls that are run: of blocks in turn, without ensures, and of code without calls, by induction on the code
 pub mod Entering
--- * What steps after steps write and cost, and room that is more than enough
+-- * What steps after steps write and cost, and room that is more than enough, by induction on the steps
 pub mod Folding
--- Code that goes through a type: a child's own code, and no row operation
+-- Code that goes through a type: a child's own code, and no row operation, by induction on the type
 pub mod Followed
--- * A part's code on the whole
+-- * A part's code on the whole, by induction on the code
 pub mod Rebasing
--- What is done to a part of a draft is done to the whole, with the part put back
+-- What is done to a part of a draft is done to the whole, with the part put back, by induction on the path to the part
 pub mod RecvParts
 -- Each operation that receives as a piece of a block
 pub mod RecvPieces
--- * Code that receives, made for a part, on the whole
+-- * Code that receives, made for a part, on the whole, by induction on the code
 pub mod RecvRebasing
--- * What was tested before a run changes neither what it gives nor where it ends; its tests are added
+-- * Tests before a run change neither what it gives nor where it ends, and are added, by induction on code and calls
 mod RecvTests
--- Code without row operations gives no row as a block
+-- Code without row operations gives no row as a block, by induction on the code and the depth of calls
 pub mod Rowless
 -- Rows worked by hand: what single codes do with single values
 pub mod Worked

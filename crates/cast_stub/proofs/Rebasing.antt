@@ -1,4 +1,4 @@
--- A part's code on the whole.
+-- A part's code on the whole, by induction on the code.
 use Rattle.std.proofs.Common.{◌≡◌, ℕ, List, [], ◌∷◌, ◌++◌, map, replicate, pos, ◌+◌, ◌*◌, Option, Some, None, refl, sym, ap, ◌∙◌}
 use Rattle.std.proofs.lemmas.List.{length-map}
 use Rattle.mint.specs.Values.{Val}

@@ -1,4 +1,4 @@
--- A receive code after a receive code, and an operation as a piece before others.
+-- A receive code after a receive code, and an operation as a piece before others, by induction on the first code.
 use Rattle.std.proofs.Common.{◌≡◌, List, [], ◌∷◌, ◌++◌, subst, refl, sym, ap, ◌∙◌}
 use Rattle.cast_stub.specs.declared.recv.RecvOp.{RecvOp, out-RecvOp, map-RecvOp, fold_out-RecvOp}
 use Rattle.cast_stub.specs.declared.recv.RecvOp.TheOpen.{RecvOp-F}

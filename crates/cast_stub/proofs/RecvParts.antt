@@ -1,4 +1,4 @@
--- What is done to a part of a draft is done to the whole, with the part put back.
+-- What is done to a part of a draft is done to the whole, with the part put back, by induction on the path to the part.
 use Rattle.std.proofs.Common.{◌≡◌, ℕ, zero, suc, List, [], ◌∷◌, Option, None, Some, option_map, refl, ap, ◌∙◌}
 use Rattle.cast_stub.specs.Parts.{on_some, IsThere}
 use Rattle.cast_stub.specs.Draft.{Draft, raw, digit, listed, lined, tagged, flagged, done, fields, Drafts, no_draft, draft}

@@ -1,4 +1,4 @@
--- Code that receives, made for a part, on the whole.
+-- Code that receives, made for a part, on the whole, by induction on the code.
 use Rattle.std.proofs.Common.{◌≡◌, ℕ, zero, suc, ◌+◌, ◌-◌, ◌*◌, List, [], ◌∷◌, ◌++◌, map, length, take, drop, Option, None, Some, option_map, refl, sym, ap, subst, ◌∙◌, Bool, true, false, if◌then◌else◌}
 use Rattle.std.specs.Prelude.{nat_le, nat_lt, max}
 use Rattle.std.specs.Int.{Width}

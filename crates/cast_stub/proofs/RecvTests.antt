@@ -1,4 +1,4 @@
--- What was tested before a run changes neither what it gives nor where it ends; its tests are added.
+-- Tests before a run change neither what it gives nor where it ends, and are added, by induction on code and calls.
 use Rattle.std.proofs.Common.{◌≡◌, ℕ, zero, suc, ◌+◌, ◌-◌, ◌*◌, ◌≤◌, ℤ, List, [], ◌∷◌, length, take, drop, Option, None, Some, refl, sym, ap, subst, Bool, true, false, if◌then◌else◌, arith}
 use Rattle.std.specs.Prelude.{nat_eq, nat_le, nat_lt, max, ◌&&◌, ◌/◌, ◌%◌, ◌^◌}
 use Rattle.std.specs.Int.{Width, w16, w32}

@@ -1,4 +1,4 @@
--- Code without row operations gives no row as a block.
+-- Code without row operations gives no row as a block, by induction on the code and the depth of calls.
 use Rattle.std.proofs.Common.{◌≡◌, ℕ, zero, suc, ℤ, List, [], ◌∷◌, ◌++◌, length, ◌+◌, ◌*◌, Option, Some, None, refl, Bool, true, false, if◌then◌else◌}
 use Rattle.std.specs.Ordering.{int_eq}
 use Rattle.mint.specs.Values.{Val, void, num, row, group, items, arm, absent, present, Vals, no_more, val, arm_in}

@@ -1,4 +1,4 @@
--- Blocks after blocks, and for parts of parts.
+-- Blocks after blocks, and for parts of parts, by induction on the block.
 use Rattle.std.proofs.Common.{◌≡◌, ℕ, List, [], ◌∷◌, ◌++◌, map, refl, sym, ap, ◌∙◌, append_assoc}
 use Rattle.cast_stub.specs.declared.put.Put.{Put}
 use Rattle.cast_stub.specs.declared.put.Put.TheVariants as put

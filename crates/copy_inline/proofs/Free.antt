@@ -1,4 +1,4 @@
--- Code whose calls are replaced has no call.
+-- Code whose calls are replaced has no call, by induction on the depth of calls and the code.
 use Rattle.std.proofs.Common.{ℕ, zero, suc, List, Option, Some, None}
 use Rattle.cast_stub.specs.Block.{Block, stop, ensure, ensure_row, align, chunk, row_copy, row_swap, row_wide, each, switch, if_there, call, patch, Cases, no_default, default, case}
 use Rattle.cast_stub.specs.Append.{append, rebase}

@@ -1,4 +1,4 @@
--- Steps with stores that follow one another given as one row.
+-- Steps with stores that follow one another given as one row, by induction on the steps.
 use Rattle.std.proofs.Common.{◌≡◌, ℕ, ◌+◌, ◌-◌, ◌≤◌, max, List, [], ◌∷◌, ◌++◌, length, replicate, Option, None, Some, option_map, refl, sym, ap, subst, ◌∙◌, arith, append_assoc, append-nil, length-append}
 use Rattle.wire_def.specs.Scalars.{gap}
 use Rattle.cast_stub.specs.Parts.{on_some, IsThere}

@@ -1,4 +1,4 @@
--- Code that goes through a type goes through it with its calls replaced.
+-- Code that goes through a type goes through it with its calls replaced, by induction on the type.
 use Rattle.std.proofs.Common.{◌≡◌, inl, inr, ℕ, zero, suc, ◌<◌, ◌≤◌, List, [], ◌∷◌, ◌++◌, map, Option, Some, option_map, refl, sym, ap, subst, ◌∙◌, arith, append_assoc}
 use Rattle.std.proofs.lemmas.List.{append-nil}
 use Rattle.mint.specs.declared.kind.Count.{Count}

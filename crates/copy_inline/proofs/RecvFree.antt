@@ -1,4 +1,4 @@
--- Code whose calls are replaced has no call.
+-- Code whose calls are replaced has no call, by induction on the depth of calls and the code.
 use Rattle.std.proofs.Common.{ℕ, zero, suc, List, Option, Some, None}
 use Rattle.cast_stub.specs.RecvBlock.{Recv, finish, need, need_row, skip_any, skip_zero, pass, desc, row_block, row_wide, each, switch, if_there, call, Cases, no_default, default, case}
 use Rattle.cast_stub.specs.RecvAppend.{append, rebase}

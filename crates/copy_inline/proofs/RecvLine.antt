@@ -1,4 +1,4 @@
--- Numbers that are received one by one, and the same as a row.
+-- Numbers that are received one by one, and the same as a row, by induction on how many there are.
 use Rattle.std.proofs.Common.{◌≡◌, ℕ, zero, suc, ◌+◌, ◌-◌, ◌*◌, ◌≤◌, ℤ, List, [], ◌∷◌, length, take, drop, Option, None, Some, option_map, refl, sym, ap, subst, ◌∙◌, arith, length-drop, Bool, true, false, if◌then◌else◌}
 use Rattle.std.specs.Prelude.{nat_le, nat_lt, max}
 use Rattle.std.specs.Int.{Width, w8, w16, w32, w64}

@@ -1,4 +1,4 @@
--- Bodies in step with arms; operations of code that receives and is ready.
+-- Bodies in step with arms; operations of code that receives and is ready, by induction on arms and operations.
 use Rattle.wire_def.specs.declared.encoding.Encoding.{Encoding}
 use Rattle.std.proofs.Common.{◌≡◌, ℕ, zero, suc, ◌+◌, ◌<◌, ◌≤◌, ℤ, List, [], ◌∷◌, ◌++◌, length, get_or, Option, Some, None, refl, sym, ap, ◌∙◌, subst, arith}
 use Rattle.std.proofs.Math.ListN.{take}

@@ -1,4 +1,4 @@
--- Code whose calls are replaced gives the same.
+-- Code whose calls are replaced gives the same, by induction on the depth of calls and the code.
 use Rattle.std.proofs.Common.{◌≡◌, ℕ, zero, suc, ◌+◌, ◌*◌, ℤ, List, [], ◌∷◌, Option, Some, None, refl, sym, ap, subst, ◌∙◌, Bool, true, false, if◌then◌else◌}
 use Rattle.std.specs.Ordering.{int_eq}
 use Rattle.mint.specs.Types.{Ty, array_type, items_type, scalar_type, group_type, choice_type, maybe_type, void_type, Array}

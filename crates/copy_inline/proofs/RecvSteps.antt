@@ -1,4 +1,4 @@
--- Code with its rows as blocks gives what the given code gives, but for how often it tests.
+-- Code with its rows as blocks gives what the given code gives, but for how often it tests, by induction on the code.
 use Rattle.std.proofs.Common.{◌≡◌, ℕ, zero, suc, ◌+◌, ◌*◌, arith, option_map, ℤ, List, [], ◌∷◌, length, Option, None, Some, refl, sym, ap, subst, ◌∙◌, Bool, true, false, if◌then◌else◌}
 use Rattle.std.specs.Prelude.{nat_lt, max}
 use Rattle.std.specs.Ordering.{int_eq}

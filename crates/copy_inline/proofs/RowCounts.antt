@@ -1,4 +1,4 @@
--- Code with its rows as blocks gives one row for each row or text of that sort.
+-- Code with its rows as blocks gives one row for each row or text of that sort, by induction on the type.
 use Rattle.std.proofs.Common.{◌≡◌, ℕ, suc, ◌+◌, ◌*◌, ℤ, List, [], ◌∷◌, ◌++◌, length, Option, None, Some, refl, sym, ap, subst, ◌∙◌, arith, Bool, true, false, if◌then◌else◌}
 use Rattle.std.specs.Prelude.{MatchBool}
 use Rattle.std.specs.Ordering.{int_eq}

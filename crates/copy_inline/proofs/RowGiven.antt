@@ -1,4 +1,4 @@
--- Code that goes through a type has no ensures of its own, so what `hoist` makes of it is taken.
+-- Code that goes through a type has no own ensures, so what `hoist` makes of it is taken, by induction on the type.
 use Rattle.std.proofs.Common.{◌≡◌, ℕ, suc, ◌+◌, List, [], ◌∷◌, ◌++◌, length, Some, refl, sym, subst, ◌∙◌}
 use Rattle.mint.specs.declared.kind.Count.{Count}
 use Rattle.mint.specs.declared.kind.Count.TheVariants.{Exactly, AtMost, Any}

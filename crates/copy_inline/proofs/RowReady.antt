@@ -1,4 +1,4 @@
--- Code that the pass takes has loops of the one shape, whatever is ensured between.
+-- Code that the pass takes has loops of the one shape, whatever is ensured between, by induction on type and code.
 use Rattle.std.proofs.Common.{◌≡◌, ℕ, suc, ◌+◌, List, [], ◌∷◌, ◌++◌, length, Option, None, Some, refl, sym, ap, subst, ◌∙◌}
 use Rattle.mint.specs.declared.kind.Count.{Count}
 use Rattle.mint.specs.declared.kind.Count.TheVariants.{Exactly, AtMost, Any}

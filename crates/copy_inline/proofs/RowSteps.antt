@@ -1,4 +1,4 @@
--- Code with its rows as blocks makes the given steps, the stores of a row as one.
+-- Code with its rows as blocks makes the given steps, the stores of a row as one, by induction on the code.
 use Rattle.std.proofs.Common.{◌≡◌, ℕ, suc, ◌+◌, ◌*◌, ℤ, List, [], ◌∷◌, length, map, Option, None, Some, option_map, refl, sym, ap, subst, ◌∙◌, Bool, true, false, if◌then◌else◌}
 use Rattle.std.specs.Prelude.{MatchBool}
 use Rattle.std.specs.Ordering.{int_eq}

@@ -1,4 +1,4 @@
--- Numbers that a loop puts one by one, and the row's octets.
+-- Numbers that a loop puts one by one, and the row's octets, by induction on the numbers.
 use Rattle.std.proofs.Common.{◌≡◌, ℕ, ◌-◌, ◌<◌, ℤ, pos, negsuc, List, [], ◌∷◌, ◌++◌, length, map, replicate, reverse, Option, None, Some, option_map, refl, sym, ap, subst, ◌∙◌, arith, Bool, true, false, IsTrue, ◌&&◌, if◌then◌else◌}
 use Rattle.std.specs.Prelude.{nat_lt}
 use Rattle.std.specs.List.{list_all}

@@ -1,4 +1,4 @@
--- Code whose calls are replaced makes the same steps.
+-- Code whose calls are replaced makes the same steps, by induction on the depth of calls and the code.
 use Rattle.std.proofs.Common.{◌≡◌, ℕ, zero, suc, ℤ, List, [], ◌∷◌, Option, Some, None, refl, sym, subst, Bool, true, false, if◌then◌else◌}
 use Rattle.std.specs.Ordering.{int_eq}
 use Rattle.mint.specs.Values.{Val, Vals, no_more, val, absent, present, arm_in}

@@ -1,4 +1,4 @@
--- Codes that go through the types of a table have few levels.
+-- Codes that go through the types of a table have few levels, by induction on the type.
 use Rattle.std.proofs.Common.{◌≡◌, inl, inr, ℕ, zero, suc, ◌+◌, ◌-◌, ◌*◌, ◌<◌, ◌≤◌, ℤ, List, [], ◌∷◌, ◌++◌, length, get_or, Option, Some, None, option_map, sym, ap, subst, ◌∙◌, arith}
 use Rattle.std.proofs.lemmas.Option.{slice_get-get_or}
 use Rattle.mint.specs.declared.kind.Count.{Count}

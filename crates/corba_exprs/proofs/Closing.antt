@@ -1,4 +1,4 @@
--- An expression between `<` and `>` is not taken for what follows a type.
+-- An expression between `<` and `>` is not taken for what follows a type, by induction on the levels.
 use Rattle.std.proofs.Common.{◌≡◌, inl, inr, ℕ, zero, suc, List, [], ◌∷◌, ◌++◌, Some, Bool, true, false, ◌&&◌, refl, sym, ap, subst, ◌∙◌, append_assoc}
 use Rattle.std.specs.Prelude.{codes}
 use Rattle.idl_lex.specs.declared.kinds.Token.{Token}

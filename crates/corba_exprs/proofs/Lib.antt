@@ -4,11 +4,11 @@
 pub mod Chains
 -- Identifiers, scoped names, literals and operators: what is read is what is spelled
 pub mod LeavesRead
--- What is read of an expression is spelled, within the levels that it takes
+-- What is read of an expression is spelled, within the levels that it takes, by induction on levels and looseness
 pub mod Within
--- An expression between `<` and `>` is not taken for what follows a type
+-- An expression between `<` and `>` is not taken for what follows a type, by induction on the levels
 pub mod Closing
--- What is spelled is read
+-- What is spelled is read, by induction on levels and looseness
 pub mod Again
 -- * Expressions: what is read is what is spelled
 pub mod ExpressionsRead

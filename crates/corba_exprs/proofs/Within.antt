@@ -1,4 +1,4 @@
--- What is read of an expression is spelled, within the levels that it takes.
+-- What is read of an expression is spelled, within the levels that it takes, by induction on levels and looseness.
 use Rattle.std.proofs.Common.{◌≡◌, inl, inr, ℕ, zero, suc, ◌≤◌, max, List, [], ◌∷◌, ◌++◌, drop, Option, Some, None, Bool, true, false, ◌&&◌, cond, ◌==◌, nat_le, refl, sym, ap, subst, ◌∙◌, append_assoc, arith}
 use Rattle.std.specs.Prelude.{codes}
 use Rattle.std.specs.Str.{bytes_eq}

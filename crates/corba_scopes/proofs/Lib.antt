@@ -2,7 +2,7 @@
 
 -- Rows worked by hand: names at a place in B of this file. const long x = 3; interface A { const long x = 1; const string s = "t"; }; module M { const long x = 2; interface B : ::A { .. }; };
 mod Rows
--- * Names in a map or a set of indexmap, as lists
+-- * Names in a map or a set of indexmap, as lists, by induction on the list
 pub mod Keyed
--- What holds of everything that names stand for, and what stays when a name is declared
+-- What holds of everything that names stand for, and what stays when a name is declared, by induction on the names
 pub mod Standing

@@ -1,4 +1,4 @@
--- What holds of everything that names stand for, and what stays when a name is declared.
+-- What holds of everything that names stand for, and what stays when a name is declared, by induction on the names.
 use Rattle.std.proofs.Common.{◌≡◌, ℕ, Bool, true, false, List, [], ◌∷◌, ◌++◌, Option, Some, None, refl, if◌then◌else◌}
 use Rattle.std.specs.Option.{is_some, option_or, option_map}
 use Rattle.std.specs.Str.{bytes_eq}

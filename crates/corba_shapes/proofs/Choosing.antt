@@ -1,4 +1,4 @@
--- Unions are sound.
+-- Unions are sound, by induction on the cases and on the labels of each.
 use Rattle.std.proofs.Common.{◌≡◌, ℕ, ℤ, Bool, true, false, List, [], ◌∷◌, ◌++◌, length, Option, Some, None, refl, ap, subst, ◌∙◌}
 use Rattle.std.specs.Prelude.{Ok}
 use Rattle.std.specs.Option.{is_some, unwrap_or}

@@ -1,4 +1,4 @@
--- Enumerations are sound, and their labels are the numbers of their items.
+-- Enumerations are sound, and their labels are the numbers of their items, by induction on the items.
 use Rattle.std.proofs.Common.{◌≡◌, ℕ, ℤ, pos, true, List, [], ◌∷◌, ◌++◌, length, sym, subst}
 use Rattle.std.specs.Prelude.{Ok}
 use Rattle.aoi.specs.Shapes.{Shape}

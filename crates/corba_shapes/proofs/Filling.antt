@@ -1,4 +1,4 @@
--- The fields of structs and exceptions are sound.
+-- The fields of structs and exceptions are sound, by induction on the members and on the declarators of each.
 use Rattle.std.proofs.Common.{◌≡◌, ℕ, ℤ, true, false, List, [], ◌∷◌, ◌++◌, length, map, refl, sym, subst}
 use Rattle.std.specs.Prelude.{Ok}
 use Rattle.std.specs.List.{list_all}

@@ -1,4 +1,4 @@
--- Types that stay sound when types are put after the others: numbers, texts, names, and rows of these.
+-- Types that stay sound when others are put after them: numbers, texts, names, rows of these, by induction on the type.
 use Rattle.std.proofs.Common.{◌≡◌, ℕ, ◌≤◌, Bool, true, false, ◌&&◌, nat_lt, List, [], ◌∷◌, ◌++◌, length, refl, arith}
 use Rattle.std.specs.List.{list_all}
 use Rattle.std.proofs.lemmas.Bool.{and_parts, and_from, lt-ltb, ltb-true}

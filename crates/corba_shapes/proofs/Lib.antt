@@ -1,16 +1,16 @@
 -- The proofs, each after those that it uses; * marks those that the proofs of functions use.
 
--- Types that stay sound when types are put after the others: numbers, texts, names, and rows of these
+-- Types that stay sound when others are put after them: numbers, texts, names, rows of these, by induction on the type
 pub mod Lasting
 -- What the names of a file stand for, over the types so far
 pub mod Standing
--- The types that are used are sound
+-- The types that are used are sound, by induction on the bounds of sequences and the lengths of arrays
 pub mod Shaping
--- The fields of structs and exceptions are sound
+-- The fields of structs and exceptions are sound, by induction on the members and on the declarators of each
 pub mod Filling
--- Enumerations are sound, and their labels are the numbers of their items
+-- Enumerations are sound, and their labels are the numbers of their items, by induction on the items
 pub mod Counting
--- Unions are sound
+-- Unions are sound, by induction on the cases and on the labels of each
 pub mod Choosing
 -- Every declaration keeps what makes a unit sound
 pub mod Keeping

@@ -1,4 +1,4 @@
--- The types that are used are sound.
+-- The types that are used are sound, by induction on the bounds of sequences and the lengths of arrays.
 use Rattle.std.proofs.Common.{◌≡◌, ℕ, ℤ, true, List, [], ◌∷◌, ◌++◌, length, Option, Some, None, refl, subst, if◌then◌else◌}
 use Rattle.std.specs.Prelude.{Ok}
 use Rattle.std.specs.List.{list_all}

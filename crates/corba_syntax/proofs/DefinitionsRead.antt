@@ -1,4 +1,4 @@
--- Definitions: what is read is what is spelled.
+-- Definitions: what is read is what is spelled, by induction on the levels.
 use Rattle.std.proofs.Common.{◌≡◌, ◌⊎◌, inl, inr, ℕ, zero, suc, List, ◌++◌, Bool, false, ◌||◌, refl, sym, subst, ◌∙◌}
 use Rattle.std.specs.Prelude.{codes}
 use Rattle.idl_lex.specs.declared.kinds.Token.{Token}

@@ -2,7 +2,7 @@
 
 -- * One level of a definition
 pub mod Steps
--- * Definitions: what is read is what is spelled
+-- * Definitions: what is read is what is spelled, by induction on the levels
 pub mod DefinitionsRead
 -- * Files, which are a grammar and begin with words of their own
 pub mod Fronts

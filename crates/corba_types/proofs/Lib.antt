@@ -4,5 +4,5 @@
 pub mod Steps
 -- Types that are not sequences: what is read is what is spelled
 pub mod BasesRead
--- * Types: what is read is what is spelled
+-- * Types: what is read is what is spelled, by induction on the levels
 pub mod SequencesRead

@@ -1,4 +1,4 @@
--- Types: what is read is what is spelled.
+-- Types: what is read is what is spelled, by induction on the levels.
 use Rattle.std.proofs.Common.{◌≡◌, inl, inr, ℕ, zero, suc, List, [], ◌∷◌, ◌++◌, Option, Some, None, Bool, true, false, ◌||◌, cond, refl, sym, ap, subst, ◌∙◌, append_assoc}
 use Rattle.std.specs.Prelude.{codes}
 use Rattle.idl_lex.specs.declared.kinds.Token.{Token}

@@ -1,4 +1,4 @@
--- The arms of what comes back from an operation.
+-- The arms of what comes back from an operation, by induction on the arms.
 use Rattle.std.proofs.Common.{◌≡◌, ◌≢◌, ◌+◌, ◌<◌, ◌≤◌, ℕ, suc, ℤ, pos, negsuc, Bool, true, false, List, [], ◌∷◌, length, Option, Some, None, refl, sym, ap, ◌∙◌, subst, int_eq, cond, arith}
 use Rattle.std.specs.Prelude.{is_some, IsTrue, unwrap_or, MatchBool}
 use Rattle.std.proofs.lemmas.Bool.{ltb-true, lt-ltb}

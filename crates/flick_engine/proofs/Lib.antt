@@ -14,11 +14,11 @@ pub mod Existing
 pub mod Answering
 -- * What is sent is what is received
 pub mod Back
--- * The operations of a binding are those of its unit
+-- * The operations of a binding are those of its unit, by induction on the interfaces
 pub mod Operating
 -- * What comes back from an operation of a binding is what its unit has: a choice of the answer and the exceptions
 pub mod ReplyTypes
--- * The arms of what comes back from an operation
+-- * The arms of what comes back from an operation, by induction on the arms
 pub mod Arming
 -- * What holds of the heads of replies over each back end
 pub mod RepliesOfBacks

@@ -62,12 +62,15 @@ impl Engine {
         value: &Value,
         buf: &mut SendBuf,
     ) -> Result<(), MarshalErr>
+        // What is put.
         requires id { id < length self.now.binding.nodes }
         requires typed { IsWellTyped (type_at self.now.binding.nodes id) (seen value.now) }
         requires head { 12 ≤ length buf.old.done }
+        // What `Ok` holds.
         ensures ok { OnOk result (buf.new.done
             ≡ sized self.now.binding.back (with_value self.now.binding buf.old.done id (seen value.now))) }
         ensures short { OnOk result (IsShort (with_value self.now.binding buf.old.done id (seen value.now))) }
+        // When it is too long, and what stays.
         ensures long { (result ≡ Err MarshalErr.Long)
             → longest_message < length (with_value self.now.binding buf.old.done id (seen value.now)) }
         ensures spent { NoneFell buf.old.spent buf.new.spent }

@@ -29,11 +29,14 @@ impl Engine {
         value: &Value,
         buf: &mut SendBuf,
     ) -> Result<(), MarshalErr>
+        // What is sent.
         requires op { op < length self.now.binding.ops }
         requires typed { IsWellTyped (reply_type self.now.binding op) (seen value.now) }
+        // What `Ok` holds.
         ensures ok { OnOk result (buf.new.done
             ≡ reply_message self.now.binding op head.now (seen value.now)) }
         ensures short { OnOk result (IsShort (reply_message self.now.binding op head.now (seen value.now))) }
+        // When it is not made, and what stays.
         ensures err { OnErr result (buf.new.done ≡ []) }
         ensures long { (result ≡ Err MarshalErr.Long)
             → longest_message < length (reply_message self.now.binding op head.now (seen value.now)) }
@@ -53,12 +56,15 @@ impl Engine {
         value: &Value,
         buf: &mut SendBuf,
     ) -> Result<(), MarshalErr>
+        // What is sent.
         requires op { op < length self.now.binding.ops }
         requires typed { IsWellTyped (reply_type self.now.binding op) (seen value.now) }
         requires empty { buf.old.done ≡ [] }
+        // What `Ok` holds.
         ensures ok { OnOk result (buf.new.done
             ≡ reply_message self.now.binding op head.now (seen value.now)) }
         ensures short { OnOk result (IsShort (reply_message self.now.binding op head.now (seen value.now))) }
+        // When it is not made, and what stays.
         ensures long { (result ≡ Err MarshalErr.Long)
             → longest_message < length (reply_message self.now.binding op head.now (seen value.now)) }
         ensures spent { NoneFell buf.old.spent buf.new.spent }
@@ -83,14 +89,17 @@ impl Engine {
         value: &Value,
         buf: &mut SendBuf,
     ) -> Result<(), MarshalErr>
+        // What is sent.
         requires op { op < length self.now.binding.ops }
         requires arm { HasArm self.now.binding op arm }
         requires typed { IsWellTyped (arm_type self.now.binding op arm) (seen value.now) }
         requires empty { buf.old.done ≡ [] }
+        // What `Ok` holds.
         ensures ok { OnOk result (buf.new.done
             ≡ arm_message self.now.binding op arm head.now (seen value.now)) }
         ensures short { OnOk result
             (IsShort (arm_message self.now.binding op arm head.now (seen value.now))) }
+        // When it is not made, and what stays.
         ensures long { (result ≡ Err MarshalErr.Long)
             → longest_message < length (arm_message self.now.binding op arm head.now (seen value.now)) }
         ensures spent { NoneFell buf.old.spent buf.new.spent }

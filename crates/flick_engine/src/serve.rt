@@ -93,11 +93,14 @@ impl Engine {
         message: &[u8],
         buf: &mut SendBuf,
     ) -> Result<Served, NoMemory>
+        // Who answers, and what is called.
         requires made_for { S.binding skeleton.now ≡ self.now.binding }
         requires short { IsShort message.now }
         requires begins { Begins self.now.binding message.now called.now }
         requires below { IsBelow (length self.now.binding.ops) called.now.naming }
+        // Where the answer goes.
         requires empty { buf.old.done ≡ [] }
+        // What is answered, and what stays.
         ensures serves { IfOk result (λ s.
             ServesCall self.now.binding (S.Answers skeleton.now) message.now called.now
             (reply_in s buf.new.done)) }
@@ -120,11 +123,14 @@ impl Engine {
         message: &[u8],
         buf: &mut SendBuf,
     ) -> Result<(), NoMemory>
+        // Who answers, and what is called.
         requires made_for { S.binding skeleton.now ≡ self.now.binding }
         requires short { IsShort message.now }
         requires begins { Begins self.now.binding message.now called.now }
         requires below { IsBelow (length self.now.binding.ops) called.now.naming }
+        // Where the answer goes.
         requires empty { buf.old.done ≡ [] }
+        // What is answered, and what stays.
         ensures answers { OnOk result
             (AnswersCall self.now.binding (S.Answers skeleton.now) message.now called.now
             (Some buf.new.done)) }

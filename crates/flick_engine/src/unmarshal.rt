@@ -84,10 +84,13 @@ impl Engine {
         message: &[u8],
         view: &mut RecvView<'_>,
     ) -> Result<Request, MessageErr>
+        // What is called.
         requires op { op < length self.now.binding.ops }
         requires names { Names self.now.binding message.now called.now (Naming.Operation op) }
+        // What is read.
         requires start { view.old.pos ≡ 0 }
         requires message { view.old.octets ≡ message.now }
+        // What it is.
         ensures read { Answers self.now.binding message.now result }
         ensures op { IfOk result (λ r. r.op < length self.now.binding.ops) }
         ensures typed { IfOk result (λ r. IsWellTyped (request_type self.now.binding r.op) (seen r.value)) }
@@ -128,14 +131,17 @@ impl Engine {
         message: &[u8],
         read: Read,
     ) -> Result<Request, MessageErr>
+        // What is called.
         requires op { op < length self.now.binding.ops }
         requires names { Names self.now.binding message.now called.now (Naming.Operation op) }
+        // What was read.
         requires value { (v : Val) (used : ℕ) → IsValue read v used
             ↔ FirstSpell called.now.encoding (request_type self.now.binding op) called.now.used
             (drop called.now.used message.now) v used }
         requires stop { (k : FaultKind) (at : ℕ) → IsStop read k at
             ↔ Stops called.now.encoding (request_type self.now.binding op) called.now.used
             (drop called.now.used message.now) k at }
+        // What it is.
         ensures read { Answers self.now.binding message.now result }
         ensures op { IfOk result (λ r. r.op < length self.now.binding.ops) }
         ensures typed { IfOk result (λ r. IsWellTyped (request_type self.now.binding r.op) (seen r.value)) }

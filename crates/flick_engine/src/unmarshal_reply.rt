@@ -97,12 +97,14 @@ impl Engine {
         message: &[u8],
         read: Read,
     ) -> Result<Value, MessageErr>
+        // What is answered.
         requires op { op < length self.now.binding.ops }
         requires choice { IsChoice (reply_type self.now.binding op) }
         requires there { HasArm self.now.binding op arm }
         requires sound { IsSound (arm_type self.now.binding op arm) }
         requires says { Says self.now.binding op message.now (heard self.now.binding op reply.now)
             (fates.Arm arm) }
+        // What was read.
         requires value { (v : Val) (used : ℕ) → IsValue read v used
             ↔ FirstSpell (encoding_by self.now.binding.back reply.now.head.order)
             (arm_type self.now.binding op arm)
@@ -111,6 +113,7 @@ impl Engine {
             ↔ Stops (encoding_by self.now.binding.back reply.now.head.order)
             (arm_type self.now.binding op arm)
             reply.now.used (drop reply.now.used message.now) k at }
+        // What it is.
         ensures ok { IfOk result (λ w. IsExactlyReply self.now.binding op message.now
             (Ok (record { head = reply.now.head; came = answered (values.arm (pos arm) (seen w)) }))) }
         ensures typed { IfOk result (λ w.

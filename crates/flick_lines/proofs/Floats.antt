@@ -1,4 +1,4 @@
--- What is written has no float.
+-- What is written has no float, by mutual induction on faces, parts and arms.
 use Rattle.std.proofs.Common.{◌≡◌, ℕ, zero, suc, ℤ, List, [], ◌∷◌, length, Bool, true, false, Ordering, Less, Equal, Greater, nat_cmp, refl, codes}
 use Rattle.std.specs.Prelude.{◌||◌, pos, negsuc, nat_lt, if◌then◌else◌}
 use Rattle.std.specs.Cmp.Lexicographic.{slice_cmp}

@@ -4,7 +4,7 @@
 pub mod Determined
 -- * Each line has an answer
 pub mod Existing
--- What is written has no float
+-- What is written has no float, by mutual induction on faces, parts and arms
 pub mod Floats
 -- * What follows for an answer, if there is one
 pub mod Options
@@ -14,7 +14,7 @@ pub mod Recorded
 pub mod Trees
 -- Bindings of one unit over one back end have the same operations and messages, whatever numbers their nodes have
 pub mod Twins
--- Records begin the same over bindings of one unit over one back end
+-- Records begin the same over bindings of one unit over one back end, by induction on the operations
 pub mod TwinRecords
 -- Messages are read the same over bindings of one unit over one back end, and have the same records
 pub mod TwinMessages

@@ -1,4 +1,4 @@
--- Records begin the same over bindings of one unit over one back end.
+-- Records begin the same over bindings of one unit over one back end, by induction on the operations.
 use Rattle.std.proofs.Common.{◌≡◌, inl, inr, ℕ, suc, ◌+◌, ◌<◌, ◌≤◌, List, [], ◌∷◌, map, length, Bool, true, false, Option, Some, None, Result, Ok, Err, refl, sym, ap, ◌∙◌, subst, arith}
 use Rattle.std.specs.Prelude.{codes, not, ◌&&◌, ◌==◌, slice_index_or, if◌then◌else◌}
 use Rattle.std.specs.Option.{option_map_or}

@@ -1,4 +1,4 @@
--- What a file gives is determined, and is something.
+-- What a file gives is determined, and is something, by induction on its lines.
 use Rattle.std.proofs.Common.{◌≡◌, ◌⊎◌, inl, inr, ℕ, ◌+◌, List, [], ◌∷◌, length, replicate, Result, Ok, Err, Option, Some, None, set, refl, sym, ap, ◌∙◌, subst}
 use Rattle.kit_base.specs.Lines.{chomp}
 use Rattle.mint.specs.Values.{Val}

@@ -10,7 +10,7 @@ pub mod Taking
 mod Filing
 -- * What the lines of a text give, by those that are left
 mod Reading
--- * What a file gives is determined, and is something
+-- * What a file gives is determined, and is something, by induction on its lines
 pub mod Deciding
 -- * The answers by a table of replies are those by the file that gives them; each line has one, and one alone
 pub mod Answering

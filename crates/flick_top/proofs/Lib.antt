@@ -8,7 +8,7 @@ pub mod Determined
 pub mod Turning
 -- * Whatever ends a run, a front of the defined output was written
 pub mod Prefix
--- * What was answered where the source failed: the lines that ended in the octets taken
+-- * What was answered where the source failed: the lines that ended in the octets taken, by induction on the octets
 pub mod Ended
 -- * Each line has an answer
 pub mod Existing
@@ -20,13 +20,13 @@ pub mod UnitsOfFronts
 pub mod Knowing
 -- A file says one thing; over a back end it comes to one saying, or to engines with the same codes that answer alike
 pub mod FilesSay
--- Texts are the same over engines that answer alike
+-- Texts are the same over engines that answer alike, by induction on the operations or on the number of messages
 pub mod TwinTexts
--- * The words have one output over the files
+-- * The words have one output over the files, by induction on the input's lines
 pub mod Outputs
 -- * Which error of a reader of lines a status tells
 pub mod Stops
--- * Answers and sayings are whole lines
+-- * Answers and sayings are whole lines, answers by induction on the lines
 pub mod WholeLines
 -- * What a task takes and writes: its text, and what is written of its lines after it
 pub mod Tasking

@@ -1,4 +1,4 @@
--- The words have one output over the files.
+-- The words have one output over the files, by induction on the input's lines.
 use Rattle.std.proofs.Common.{◌≡◌, ℕ, List, [], ◌∷◌, ◌++◌, length, Bool, true, false, ◌||◌, Option, Some, None, Result, Ok, Err, refl, sym, ap, ◌∙◌, subst}
 use Rattle.std.specs.Prelude.{nat_le, MatchBool, if◌then◌else◌}
 use Rattle.kit_base.specs.Limits.{longest_line}

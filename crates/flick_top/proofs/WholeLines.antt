@@ -1,4 +1,4 @@
--- Answers and sayings are whole lines.
+-- Answers and sayings are whole lines, answers by induction on the lines.
 use Rattle.std.proofs.Common.{◌≡◌, inl, inr, ℕ, Bool, true, false, List, [], ◌∷◌, ◌++◌, refl, sym, ap, ◌∙◌, append_assoc, append-nil}
 use Rattle.std.specs.Prelude.{Option, ◌==◌, codes, decimal}
 use Rattle.std.proofs.lemmas.Bool.{eqb-true}

@@ -64,14 +64,17 @@ pub fn task_of<F: Shelf>(
     buf: &mut SendBuf,
 ) -> Result<Task, TaskErr>
     requires known { IsKnown command }
+    // What it comes to.
     ensures task { IfOk result (λ task. (files : Files) → F.files shelf.old ≡ Some files
         → Comes (codes_of (engine_of task)) (Some command) words.now files task) }
     ensures ready { IfOk result IsReady }
+    // Whether the shelf failed.
     ensures files { F.files shelf.new ≡ F.files shelf.old }
     ensures later { F.faults shelf.old ≤ F.faults shelf.new }
     ensures cause { IfErr result (λ e. e ≡ TaskErr.Shelf → Rose (F.faults shelf.old) (F.faults shelf.new)) }
     ensures file { IfErr result (λ e. e ≡ TaskErr.Shelf → ReadsFiles (Some command)) }
     ensures stands { result ≢ Err TaskErr.Shelf → F.faults shelf.old ≡ F.faults shelf.new }
+    // What stays the same.
     ensures spent { NoneFell buf.old.spent buf.new.spent }
 {
     match command {
@@ -108,14 +111,17 @@ fn acted<F: Shelf>(
     shelf: &mut F,
     buf: &mut SendBuf,
 ) -> Result<Task, TaskErr>
+    // What it comes to.
     ensures acts { IfOk result (λ task. (files : Files) → F.files shelf.old ≡ Some files
         → ActsOver action told (files path.now) task) }
     ensures codes { IfOk result (λ task. HasCodes told task) }
     ensures ready { IfOk result IsReady }
+    // Whether the shelf failed.
     ensures files { F.files shelf.new ≡ F.files shelf.old }
     ensures later { F.faults shelf.old ≤ F.faults shelf.new }
     ensures cause { IfErr result (λ e. e ≡ TaskErr.Shelf → Rose (F.faults shelf.old) (F.faults shelf.new)) }
     ensures stands { result ≢ Err TaskErr.Shelf → F.faults shelf.old ≡ F.faults shelf.new }
+    // What stays the same.
     ensures spent { NoneFell buf.old.spent buf.new.spent }
 {
     match told {
@@ -133,14 +139,17 @@ fn acting<F: Shelf>(
     shelf: &mut F,
     buf: &mut SendBuf,
 ) -> Result<Task, TaskErr>
+    // What it comes to.
     ensures acts { IfOk result (λ task. (files : Files) → F.files shelf.old ≡ Some files
         → Acts action engine (files path.now) task) }
     ensures codes { IfOk result (λ task. HasCodes (Ok engine) task) }
     ensures ready { IfOk result IsReady }
+    // Whether the shelf failed.
     ensures files { F.files shelf.new ≡ F.files shelf.old }
     ensures later { F.faults shelf.old ≤ F.faults shelf.new }
     ensures cause { IfErr result (λ e. e ≡ TaskErr.Shelf → Rose (F.faults shelf.old) (F.faults shelf.new)) }
     ensures stands { result ≢ Err TaskErr.Shelf → F.faults shelf.old ≡ F.faults shelf.new }
+    // What stays the same.
     ensures spent { NoneFell buf.old.spent buf.new.spent }
 {
     match action {
@@ -165,10 +174,12 @@ fn serving<F: Shelf>(
     path: &[u8],
     shelf: &mut F,
 ) -> Result<Task, TaskErr>
+    // What it comes to.
     ensures serves { IfOk result (λ task. (files : Files) → F.files shelf.old ≡ Some files
         → ServesFile engine (files path.now) task) }
     ensures codes { IfOk result (λ task. HasCodes (Ok engine) task) }
     ensures ready { IfOk result IsReady }
+    // Whether the shelf failed.
     ensures files { F.files shelf.new ≡ F.files shelf.old }
     ensures later { F.faults shelf.old ≤ F.faults shelf.new }
     ensures cause { IfErr result (λ e. e ≡ TaskErr.Shelf → Rose (F.faults shelf.old) (F.faults shelf.new)) }
@@ -255,9 +266,11 @@ fn unit_at<F: Shelf>(
     shelf: &mut F,
 ) -> Result<Result<Unit, Saying>, TaskErr>
     requires read { IsRead front }
+    // What was read.
     ensures told { IfOk result (λ read. (files : Files) → F.files shelf.old ≡ Some files
         → FileSays front (files path.now) (plainly read)) }
     ensures sound { IfOk result IsSoundly }
+    // Whether the shelf failed.
     ensures files { F.files shelf.new ≡ F.files shelf.old }
     ensures later { F.faults shelf.old ≤ F.faults shelf.new }
     ensures cause { IfErr result (λ e. e ≡ TaskErr.Shelf → Rose (F.faults shelf.old) (F.faults shelf.new)) }

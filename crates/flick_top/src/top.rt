@@ -29,20 +29,24 @@ pub fn flick<F: Shelf, S: Source, K: Sink>(
     buf: &mut SendBuf,
     made: &mut Option<Engine>,
 ) -> u8
+    // What was done, and the engine that is left.
     ensures work { (files : Files) → F.files shelf.old ≡ Some files
         → Works made.new words.now files (S.left input.old) (S.left input.new)
         (S.faults input.old) (S.faults input.new) (K.held output.old) (K.held output.new) result }
     ensures made { (files : Files) → F.files shelf.old ≡ Some files
         → Leaves made.new words.now files (S.left input.old) (S.left input.new)
         (K.held output.old) (K.held output.new) result }
+    // What a status says of the words, and of what was written.
     ensures usage { IsUsage words.now result }
     ensures file { NeedsFile words.now result }
     ensures nothing { WritesNothing (K.held output.old) (K.held output.new) result }
     ensures lines { WritesWholeLines (K.held output.old) (K.held output.new) result }
+    // What was taken.
     ensures taken { TakesFront (S.left input.old) (S.left input.new) }
     ensures more { TakesMore (S.left input.old) (S.left input.new) result }
     ensures at_most { TakesAtMost (S.left input.old) (S.left input.new) result }
     ensures unread { TakesNothing (S.left input.old) (S.left input.new) result }
+    // What failed.
     ensures files { F.files shelf.new ≡ F.files shelf.old }
     ensures source { ComesBy 4 (S.faults input.old) (S.faults input.new) result }
     ensures sink { ComesBy 5 (K.faults output.old) (K.faults output.new) result }
@@ -50,9 +54,11 @@ pub fn flick<F: Shelf, S: Source, K: Sink>(
     ensures source_told { StandsUnless 4 (S.faults input.old) (S.faults input.new) result }
     ensures sink_told { StandsUnless 5 (K.faults output.old) (K.faults output.new) result }
     ensures shelf_told { StandsUnless 6 (F.faults shelf.old) (F.faults shelf.new) result }
+    // When the work is done.
     ensures completes { Completes (S.left input.old) (S.left input.new)
         (Rose (S.faults input.old) (S.faults input.new)) (Rose (K.faults output.old) (K.faults output.new))
         (Rose (F.faults shelf.old) (F.faults shelf.new)) result }
+    // What holds of each answer.
     ensures spent { NoneFell buf.old.spent buf.new.spent }
     ensures range { result ≤ 8 }
 {

@@ -27,6 +27,7 @@ pub fn perform<S: Source, K: Sink>(
     buf: &mut SendBuf,
 ) -> Status
     requires ready { IsReady task.now }
+    // What was written.
     ensures output { (f : Answering) → IsAnswered task.now f → Writes (out_of task.now f) (S.left input.old)
         (K.held output.old) (K.held output.new) (number_of result) }
     ensures front { (f : Answering) → IsAnswered task.now f
@@ -35,6 +36,7 @@ pub fn perform<S: Source, K: Sink>(
         (S.left input.old) (S.left input.new) (K.held output.old) (K.held output.new) (number_of result) }
     ensures lines { (f : Answering) → IsAnswered task.now f
         → WritesWholeLines (K.held output.old) (K.held output.new) (number_of result) }
+    // What was taken.
     ensures unread { LeavesInput task.now.lines (S.left input.old) (S.left input.new)
         (S.faults input.old) (S.faults input.new) (number_of result) }
     ensures at_end { EndsInput task.now.lines (S.left input.new) (number_of result) }
@@ -42,6 +44,7 @@ pub fn perform<S: Source, K: Sink>(
     ensures more { TakesMore (S.left input.old) (S.left input.new) (number_of result) }
     ensures at_most { TakesAtMost (S.left input.old) (S.left input.new) (number_of result) }
     ensures none_taken { TakesNothing (S.left input.old) (S.left input.new) (number_of result) }
+    // Which status came.
     ensures nothing { WritesNothing (K.held output.old) (K.held output.new) (number_of result) }
     ensures source { ComesBy 4 (S.faults input.old) (S.faults input.new) (number_of result) }
     ensures sink { ComesBy 5 (K.faults output.old) (K.faults output.new) (number_of result) }
@@ -49,6 +52,7 @@ pub fn perform<S: Source, K: Sink>(
     ensures sink_told { StandsUnless 5 (K.faults output.old) (K.faults output.new) (number_of result) }
     ensures usage { result ≢ Status.Usage }
     ensures shelf { result ≢ Status.Shelf }
+    // What stays the same.
     ensures spent { NoneFell buf.old.spent buf.new.spent }
 {
     if let Err(Failed) = write_whole(output, task.text.as_slice()) {
@@ -68,6 +72,7 @@ fn answer_lines<S: Source, K: Sink>(
     output: &mut K,
     buf: &mut SendBuf,
 ) -> Status
+    // What was written.
     ensures output { (f : Answering) → IsAnswering job.now f → Writes (answers_out f) (S.left input.old)
         (K.held output.old) (K.held output.new) (number_of result) }
     ensures front { (f : Answering) → IsAnswering job.now f → WritesFront (answers_out f) (S.left input.old)
@@ -76,6 +81,7 @@ fn answer_lines<S: Source, K: Sink>(
         (S.left input.old) (S.left input.new) (K.held output.old) (K.held output.new) (number_of result) }
     ensures lines { (f : Answering) → IsAnswering job.now f
         → WritesWholeLines (K.held output.old) (K.held output.new) (number_of result) }
+    // What was taken, and which status came.
     ensures more { TakesMore (S.left input.old) (S.left input.new) (number_of result) }
     ensures at_most { TakesAtMost (S.left input.old) (S.left input.new) (number_of result) }
     ensures source { ComesBy 4 (S.faults input.old) (S.faults input.new) (number_of result) }
@@ -85,6 +91,7 @@ fn answer_lines<S: Source, K: Sink>(
     ensures others { (result ≢ Status.Usage) × (result ≢ Status.File) × (result ≢ Status.Shelf) }
     ensures at_end { number_of result ≤ 1 → IsAtEnd (S.left input.new) }
     ensures taken { TakesFront (S.left input.old) (S.left input.new) }
+    // What stays the same.
     ensures spent { NoneFell buf.old.spent buf.new.spent }
 {
     let mut lines = Lines::new(alloc, LONGEST_LINE, MOST_INPUT);

@@ -1,4 +1,4 @@
--- The trees that the grammar gives are whole.
+-- The trees that the grammar gives are whole, by induction on the depth of modules and the definitions.
 use Rattle.std.proofs.Common.{◌≡◌, ℕ, zero, suc, true, List, [], ◌∷◌, refl}
 use Rattle.std.specs.Prelude.{codes, Bool}
 use Rattle.std.specs.List.{list_all}

@@ -1,4 +1,4 @@
--- Elements of lists, by their places, as plain trees.
+-- Elements of lists, by their places, as plain trees, by induction on the list.
 use Rattle.std.proofs.Common.{◌≡◌, ℕ, zero, suc, List, [], ◌∷◌, map, refl}
 use Rattle.std.specs.Prelude.{slice_get}
 use Rattle.std.specs.Option.{option_map}

@@ -1,4 +1,4 @@
--- The interfaces of a file have room in its unit.
+-- The interfaces of a file have room in its unit, by induction on the interfaces.
 use Rattle.std.proofs.Common.{◌≡◌, ℕ, zero, suc, ◌+◌, ◌<◌, ◌≤◌, ◌&&◌, nat_le, true, false, get_or, drop, List, [], ◌∷◌, ◌++◌, length, map, sym, ap, subst, ◌∙◌, arith}
 use Rattle.std.specs.List.{list_all}
 use Rattle.std.proofs.Math.Seq.{drop-cons}

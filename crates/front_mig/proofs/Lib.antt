@@ -2,11 +2,11 @@
 
 -- Files worked out by hand
 mod Rows
--- * Names in a map of indexmap, as lists
+-- * Names in a map of indexmap, as lists, by induction on the list
 pub mod Tables
--- What names stand for, and the types that are made of them, over so many types of the unit
+-- What names stand for, and the types that are made of them, over so many types of the unit, by induction on the scope
 pub mod Standing
--- Every statement keeps what makes a unit sound
+-- Every statement keeps what makes a unit sound, by induction on the statements
 pub mod Keeping
--- * The unit of a file is sound
+-- * The unit of a file is sound, by induction on its operations
 pub mod Whole

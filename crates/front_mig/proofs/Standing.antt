@@ -1,4 +1,4 @@
--- What names stand for, and the types that are made of them, over so many types of the unit.
+-- What names stand for, and the types that are made of them, over so many types of the unit, by induction on the scope.
 use Rattle.std.proofs.Common.{◌≡◌, ℕ, ◌+◌, ◌<◌, ◌≤◌, Bool, true, false, not, nat_lt, ◌&&◌, List, [], ◌∷◌, ◌++◌, length, Option, Some, None, refl, subst, arith}
 use Rattle.std.specs.Prelude.{Ok, cond, pos}
 use Rattle.std.specs.Ordering.{int_eq}

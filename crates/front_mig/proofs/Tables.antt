@@ -1,4 +1,4 @@
--- Names in a map of indexmap, as lists.
+-- Names in a map of indexmap, as lists, by induction on the list.
 use Rattle.std.proofs.Common.{◌≡◌, ℕ, List, [], ◌∷◌, ◌++◌, map, Bool, true, false, ◌||◌, Option, Some, None, refl, ap, ◌∙◌}
 use Rattle.std.specs.Prelude.{cond}
 use Rattle.std.specs.Option.{is_some}

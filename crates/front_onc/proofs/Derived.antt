@@ -1,4 +1,4 @@
--- The trees that the grammar gives are whole.
+-- The trees that the grammar gives are whole, by induction on the definitions.
 use Rattle.std.proofs.Common.{◌≡◌, ℕ, true, List, [], ◌∷◌, refl}
 use Rattle.std.specs.Prelude.{codes}
 use Rattle.std.specs.List.{list_all}

@@ -1,4 +1,4 @@
--- The types of declarations and structs are sound.
+-- The types of declarations and structs are sound, by induction on the members.
 use Rattle.std.proofs.Common.{◌≡◌, ℕ, ℤ, Bool, true, false, List, [], ◌∷◌, ◌++◌, length, map, Option, Some, None, refl, subst}
 use Rattle.std.specs.Prelude.{Ok}
 use Rattle.std.proofs.lemmas.Bool.{and_from}

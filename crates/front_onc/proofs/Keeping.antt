@@ -1,4 +1,4 @@
--- Every definition keeps what makes a unit sound.
+-- Every definition keeps what makes a unit sound, by induction on the definitions.
 use Rattle.std.proofs.Common.{◌≡◌, ℤ, ℕ, ◌+◌, ◌<◌, ◌≤◌, Bool, true, false, ◌||◌, List, [], ◌∷◌, ◌++◌, length, map, None, refl, sym, ap, subst, ◌∙◌, arith}
 use Rattle.std.specs.Prelude.{Ok}
 use Rattle.std.specs.List.{list_all}

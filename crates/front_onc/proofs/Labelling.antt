@@ -1,4 +1,4 @@
--- Unions are sound.
+-- Unions are sound, by induction on the cases and on the labels of each.
 use Rattle.std.proofs.Common.{◌≡◌, ℕ, ℤ, true, List, [], ◌∷◌, ◌++◌, length, map, Option, Some, None, refl, sym, ap, subst, ◌∙◌, arith}
 use Rattle.std.specs.Prelude.{Ok}
 use Rattle.aoi.specs.declared.faults.NameFault.TheVariants.{NotType}

@@ -2,27 +2,27 @@
 
 -- Worked rows: what short files resolve to
 mod Rows
--- * Names in a map or a set of indexmap, as lists
+-- * Names in a map or a set of indexmap, as lists, by induction on the list
 pub mod Tables
--- * Names that stay undeclared
+-- * Names that stay undeclared, by induction on the items
 pub mod Kept
 -- * A loop's step along a list
 pub mod Steps
 -- * An interface among others, as plain trees
 pub mod Offers
--- What the names in a scope stand for, over the types so far
+-- What the names in a scope stand for, over the types so far, by induction on the scope
 pub mod Standing
--- The types of declarations and structs are sound
+-- The types of declarations and structs are sound, by induction on the members
 pub mod Forming
--- Enums are sound, and their labels are the numbers of their items
+-- Enums are sound, and their labels are the numbers of their items, by induction on the items
 pub mod Numbering
--- Unions are sound
+-- Unions are sound, by induction on the cases and on the labels of each
 pub mod Labelling
--- Interfaces are sound
+-- Interfaces are sound, by induction on the versions, the procedures of each and their parameters
 pub mod Offering
--- Every definition keeps what makes a unit sound
+-- Every definition keeps what makes a unit sound, by induction on the definitions
 pub mod Keeping
--- * The unit of a file is sound
+-- * The unit of a file is sound, by induction on its interfaces and on the operations of each
 pub mod Whole
--- * The trees that the grammar gives are whole
+-- * The trees that the grammar gives are whole, by induction on the definitions
 pub mod Derived

@@ -1,4 +1,4 @@
--- Enums are sound, and their labels are the numbers of their items.
+-- Enums are sound, and their labels are the numbers of their items, by induction on the items.
 use Rattle.std.proofs.Common.{◌≡◌, ℕ, ℤ, true, false, List, [], ◌∷◌, ◌++◌, map, Option, Some, None, refl, sym, ap, subst, ◌∙◌}
 use Rattle.std.specs.Prelude.{Ok}
 use Rattle.std.specs.Str.{bytes_eq}

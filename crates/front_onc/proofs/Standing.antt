@@ -1,4 +1,4 @@
--- What the names in a scope stand for, over the types so far.
+-- What the names in a scope stand for, over the types so far, by induction on the scope.
 use Rattle.std.proofs.Common.{◌≡◌, ℕ, ℤ, Bool, true, false, List, [], ◌∷◌, ◌++◌, length, Option, Some, None, subst, if◌then◌else◌}
 use Rattle.std.specs.Prelude.{Ok}
 use Rattle.std.specs.Str.{bytes_eq}

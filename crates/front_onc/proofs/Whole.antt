@@ -1,4 +1,4 @@
--- The unit of a file is sound.
+-- The unit of a file is sound, by induction on its interfaces and on the operations of each.
 use Rattle.std.proofs.Common.{◌≡◌, ℕ, true, nat_le, List, [], ◌∷◌, length, refl, sym, ap, subst, inl, inr, ◌∙◌}
 use Rattle.std.specs.Prelude.{Ok}
 use Rattle.std.specs.List.{list_all}

@@ -1,4 +1,4 @@
--- Octets that have one octet 0, which is the last.
+-- Octets that have one octet 0, which is the last, by induction on the octets.
 use Rattle.std.proofs.Common.{◌≡◌, inl, inr, ℕ, zero, suc, ◌-◌, ◌<◌, List, [], ◌∷◌, ◌++◌, length, Some, None, Bool, true, false, cond, ltb, refl, ap, arith}
 use Rattle.std.specs.Prelude.{◌==◌}
 use Rattle.std.specs.List.{position, position_or_len}

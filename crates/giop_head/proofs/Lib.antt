@@ -1,6 +1,6 @@
 -- The proofs, each after those that it uses; * marks those that the proofs of functions use.
 
--- * Octets that have one octet 0, which is the last
+-- * Octets that have one octet 0, which is the last, by induction on the octets
 pub mod Ended
 -- What the fields of heads are made of is a grammar each
 pub mod Leaves

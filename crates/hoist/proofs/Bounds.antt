@@ -1,4 +1,4 @@
--- A block appends at most its bound.
+-- A block appends at most its bound, by induction on the block.
 use Rattle.std.proofs.Common.{◌≡◌, ℕ, zero, suc, ◌+◌, ◌-◌, ◌*◌, ◌≤◌, max, ℤ, List, [], ◌∷◌, ◌++◌, length, Option, None, Some, refl, ap, subst, arith, Bool, true, false, if◌then◌else◌, MatchBool}
 use Rattle.std.specs.Ordering.{int_eq}
 use Rattle.std.proofs.lemmas.Bool.Decides.{Decides-int_eq}

@@ -1,4 +1,4 @@
--- Hoisted code has room for all that it appends.
+-- Hoisted code has room for all that it appends, by induction on the code.
 use Rattle.std.proofs.Common.{◌≡◌, ℕ, zero, suc, ◌+◌, ◌-◌, ℤ, List, [], ◌∷◌, Option, None, Some, refl, sym, ap, subst, ◌∙◌, arith, Bool, true, false, nat_lt, if◌then◌else◌, MatchBool}
 use Rattle.std.specs.Ordering.{int_eq}
 use Rattle.mint.specs.declared.kind.Count.{Count}

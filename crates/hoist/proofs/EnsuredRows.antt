@@ -1,4 +1,4 @@
--- Hoisted code ensures each big row by the length of its list.
+-- Hoisted code ensures each big row by the length of its list, by induction on the code.
 use Rattle.std.proofs.Common.{◌≡◌, ℕ, zero, suc, ◌-◌, List, Option, None, Some, refl, sym, subst, Bool, true, false, nat_lt}
 use Rattle.mint.specs.Types.{Ty, Arms, no_other, others, arm_type}
 use Rattle.mint.specs.declared.kind.Count.{Count}

@@ -1,4 +1,4 @@
--- A chunk has as many octets as it says.
+-- A chunk has as many octets as it says, by induction on its puts and cells.
 use Rattle.std.proofs.Common.{◌≡◌, ℕ, zero, suc, List, [], ◌∷◌, length, replicate, Option, Some, None, option_map, refl, sym, ap, ◌∙◌}
 use Rattle.std.proofs.lemmas.List.{length-replicate}
 use Rattle.mint.specs.Values.{Val}

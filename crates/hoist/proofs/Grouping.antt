@@ -1,4 +1,4 @@
--- Groups of parts, by the octets that fill them.
+-- Groups of parts, by the octets that fill them, by induction on the list of parts.
 use Rattle.std.proofs.Common.{◌≡◌, ℕ, zero, suc, ◌+◌, ◌*◌, ◌≤◌, min, Bool, true, false, nat_le, if◌then◌else◌, List, [], ◌∷◌, ◌++◌, Option, None, Some, refl, ap, ◌∙◌, arith, append_assoc}
 use Rattle.std.proofs.lemmas.Bool.Decides.{nat_tests}
 use Rattle.mint.specs.Values.{Val, Vals, no_more, val}

@@ -1,4 +1,4 @@
--- Hoisted code looks at the buffer at most once for each group of parts.
+-- Hoisted code looks at the buffer at most once for each group of parts, by induction on the type.
 use Rattle.std.proofs.Common.{◌≡◌, ℕ, suc, ◌+◌, ◌-◌, ◌*◌, ◌≤◌, ℤ, List, [], ◌∷◌, ◌++◌, length, Option, None, Some, refl, sym, ap, subst, ◌∙◌, arith, append_assoc, Bool, true, false, ◌||◌, if◌then◌else◌, MatchBool}
 use Rattle.std.proofs.lemmas.List.{append-nil}
 use Rattle.std.specs.Ordering.{int_eq}

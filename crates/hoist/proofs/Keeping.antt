@@ -1,4 +1,4 @@
--- Hoisted code makes the same steps, but for the room that it ensures.
+-- Hoisted code makes the same steps, but for the room that it ensures, by induction on the code.
 use Rattle.std.proofs.Common.{◌≡◌, ℕ, zero, suc, ◌+◌, ◌-◌, ◌*◌, ℤ, List, [], ◌∷◌, ◌++◌, Option, None, Some, option_map, refl, sym, ap, ◌∙◌, Bool, true, false, nat_lt, if◌then◌else◌}
 use Rattle.std.specs.Ordering.{int_eq}
 use Rattle.mint.specs.Types.{Ty, Arms, no_other, others, arm_type}

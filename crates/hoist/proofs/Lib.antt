@@ -1,36 +1,36 @@
 -- The proofs, each after those that it uses; * marks those that the proofs of functions use.
 
--- A chunk has as many octets as it says
+-- A chunk has as many octets as it says, by induction on its puts and cells
 pub mod Filled
--- The parts of a value of a type are of the types of the parts
+-- The parts of a value of a type are of the types of the parts, by induction on the path to the part
 pub mod TypedParts
--- * A block appends at most its bound
+-- * A block appends at most its bound, by induction on the block
 pub mod Bounds
--- Room for steps, by what they append
+-- Room for steps, by what they append, by induction on the steps
 pub mod Rooms
--- * Hoisted code has room for all that it appends
+-- * Hoisted code has room for all that it appends, by induction on the code
 pub mod Covered
--- * Hoisted code ensures nothing within a loop over a row or text
+-- * Hoisted code ensures nothing within a loop over a row or text, by induction on the code
 pub mod Sparse
--- * Hoisted code ensures each big row by the length of its list
+-- * Hoisted code ensures each big row by the length of its list, by induction on the code
 pub mod EnsuredRows
--- Groups of parts, by the octets that fill them
+-- Groups of parts, by the octets that fill them, by induction on the list of parts
 pub mod Grouping
 -- What hoisted code ensures, weighed against groups of parts
 pub mod Weighing
--- Code that goes through a type ensures nothing, and is bounded where the type is
+-- Code that goes through a type ensures nothing, and is bounded where the type is, by induction on type and code
 pub mod Quiet
--- The way to a field, and bounds of code that goes through a type
+-- The way to a field, and bounds of code that goes through a type, by induction on the path and the type
 pub mod Ways
--- What the code of a small part adds
+-- What the code of a small part adds, by induction on its type
 pub mod Light
 -- What the parts of a type are, and where a row is pending
 pub mod Standing
--- Hoisted code looks at the buffer at most once for each group of parts
+-- Hoisted code looks at the buffer at most once for each group of parts, by induction on the type
 pub mod Heavy
--- * Bodies in step with arms; operations of code that is taken
+-- * Bodies in step with arms; operations of code that is taken, by induction on the arms and the operations
 pub mod InStep
--- * Hoisted code makes the same steps, but for the room that it ensures
+-- * Hoisted code makes the same steps, but for the room that it ensures, by induction on the code
 pub mod Keeping
 -- * The least of eight
 mod Least
@@ -44,15 +44,15 @@ pub mod Reversed
 pub mod Passing
 -- Plans by the roles of operations and the bounds of their bodies
 pub mod Planned
--- * Spans are sizes that belong together
+-- * Spans are sizes that belong together, by induction on the type
 pub mod SpanSizes
--- * Code between a lead and a patch
+-- * Code between a lead and a patch, by induction on the lead
 pub mod Sparing
--- * Code that goes through a type is taken
+-- * Code that goes through a type is taken, by induction on the type
 pub mod Taken
 -- * What the pass promises, of code that is the given one hoisted
 pub mod Promised
--- * Code without row operations stays without them
+-- * Code without row operations stays without them, by induction on the code
 pub mod Rowless
 -- Codes hoisted by hand, and regions counted by hand
 pub mod Worked

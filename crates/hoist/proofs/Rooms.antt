@@ -1,4 +1,4 @@
--- Room for steps, by what they append.
+-- Room for steps, by what they append, by induction on the steps.
 use Rattle.std.proofs.Common.{◌≡◌, ℕ, ◌+◌, ◌-◌, ◌*◌, ◌≤◌, max, List, [], ◌∷◌, ◌++◌, length, Option, None, Some, refl, ap, subst, ◌∙◌, arith}
 use Rattle.mint.specs.Types.{Ty}
 use Rattle.mint.specs.Typed.{IsOf, Each}

@@ -1,4 +1,4 @@
--- Code without row operations stays without them.
+-- Code without row operations stays without them, by induction on the code.
 use Rattle.std.proofs.Common.{◌≡◌, ℕ, ◌+◌, List, [], length, Option, None, Some, sym, subst}
 use Rattle.mint.specs.Types.{Ty}
 use Rattle.cast_stub.specs.declared.send.SendOp.{SendOp}

@@ -1,4 +1,4 @@
--- Spans are sizes that belong together.
+-- Spans are sizes that belong together, by induction on the type.
 use Rattle.std.proofs.Common.{◌≡◌, ℕ, zero, suc, ◌+◌, ◌-◌, ◌*◌, ◌%◌, ◌<◌, ◌≤◌, max, nat_le, Bool, true, false, ◌&&◌, ◌||◌, IsTrue, cond, List, [], ◌∷◌, length, get_or, Option, None, Some, refl, sym, ap, arith}
 use Rattle.std.specs.List.{list_all}
 use Rattle.std.specs.Int.{Width, byte_len}

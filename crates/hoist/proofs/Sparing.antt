@@ -1,4 +1,4 @@
--- Code between a lead and a patch.
+-- Code between a lead and a patch, by induction on the lead.
 use Rattle.std.proofs.Common.{◌≡◌, ℕ, zero, suc, ◌+◌, ◌≤◌, List, [], ◌++◌, length, Some, option_map, refl, sym, ap, subst, arith}
 use Rattle.std.proofs.lemmas.List.{append-nil}
 use Rattle.mint.specs.Types.{Ty}

@@ -1,4 +1,4 @@
--- Hoisted code ensures nothing within a loop over a row or text.
+-- Hoisted code ensures nothing within a loop over a row or text, by induction on the code.
 use Rattle.std.proofs.Common.{◌≡◌, ℕ, ◌-◌, List, Option, None, Some, refl, sym, subst, Bool, true, false, nat_lt, if◌then◌else◌}
 use Rattle.std.specs.Ordering.{int_eq}
 use Rattle.mint.specs.declared.kind.Count.{Count}

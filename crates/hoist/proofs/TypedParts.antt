@@ -1,4 +1,4 @@
--- The parts of a value of a type are of the types of the parts.
+-- The parts of a value of a type are of the types of the parts, by induction on the path to the part.
 use Rattle.std.proofs.Common.{◌≡◌, ℕ, zero, suc, ℤ, List, [], ◌∷◌, length, map, Option, None, Some, refl, sym, ap, subst, ◌∙◌, Bool, true, false, IsTrue, ◌&&◌}
 use Rattle.std.specs.List.{list_all}
 use Rattle.mint.specs.declared.kind.Kind.{Kind}

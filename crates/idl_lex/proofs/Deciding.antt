@@ -1,4 +1,4 @@
--- A text has tokens or a first fault.
+-- A text has tokens or a first fault, by induction on a bound on the octets that are left.
 use Rattle.std.proofs.Common.{◌≡◌, ◌⊎◌, inl, inr, ℕ, zero, suc, ◌+◌, ◌-◌, ◌^◌, ◌<◌, ◌≤◌, min, List, [], ◌∷◌, ◌++◌, length, take, drop, Option, Some, None, Ok, Err, Bool, ◌&&◌, true, false, refl, sym, subst, ◌∙◌, ap, arith}
 use Rattle.std.specs.List.{take_while, prefix_len}
 use Rattle.std.proofs.lemmas.Bool.{cond_both, false≢true, cases_lt}

@@ -1,4 +1,4 @@
--- A number grows with each digit.
+-- A number grows with each digit, by induction on the digits.
 use Rattle.std.proofs.Common.{◌≡◌, ℕ, ◌+◌, ◌*◌, ◌≤◌, ◌<◌, List, [], ◌∷◌, length, get_or, drop, ap, ◌∙◌, arith}
 use Rattle.std.proofs.Math.Nat.{mul-le-mul_left}
 use Rattle.idl_lex.proofs.Counts.{drop_at}

@@ -1,4 +1,4 @@
--- The tokens so far are those of the text so far.
+-- The tokens so far are those of the text so far, by induction on the pieces.
 use Rattle.std.proofs.Common.{◌≡◌, ℕ, ◌+◌, ◌-◌, ◌^◌, ◌<◌, ◌≤◌, min, List, [], ◌∷◌, ◌++◌, length, take, drop, Option, None, Result, Ok, Err, Bool, false, cond, ◌==◌, refl, sym, subst, ◌∙◌, ap, append_assoc, length-drop, arith}
 use Rattle.std.proofs.lemmas.List.{append-nil, take-append-drop, take_at, drop-drop}
 use Rattle.std.proofs.lemmas.List.Sums.{sum_by-append}

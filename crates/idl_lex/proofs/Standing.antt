@@ -1,4 +1,4 @@
--- What is read at a place is the piece that is there, and no other is.
+-- What is read at a place is the piece that is there, and no other is, by induction on the pieces.
 use Rattle.std.proofs.Common.{◌≡◌, ℕ, suc, zero, ◌+◌, ◌^◌, List, [], ◌∷◌, ◌++◌, length, take, drop, Option, Some, None, Ok, Err, Bool, true, false, cond, nat_lt, ◌==◌, refl, sym, subst, ◌∙◌, ap, append_assoc, arith}
 use Rattle.std.specs.List.{prefix_len}
 use Rattle.std.proofs.lemmas.Bool.{cond_both, ltb-true, lt-ltb, eqb-false, ne_eqb, false≢true}

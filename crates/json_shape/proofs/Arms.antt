@@ -1,4 +1,4 @@
--- The arm that is found among the arms of a choice.
+-- The arm that is found among the arms of a choice, by induction on the arms.
 use Rattle.std.proofs.Common.{◌≡◌, ℕ, ℤ, List, [], ◌∷◌, Option, None, Some, refl, int_eq, Bool, true, false, cond, option_map, option_and_then, sym}
 use Rattle.std.specs.Option.{option_map_or}
 use Rattle.mint.specs.Arms.{arm_found}

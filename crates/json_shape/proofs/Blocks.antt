@@ -1,4 +1,4 @@
--- The image of a row whose numbers are octets is these octets.
+-- The image of a row whose numbers are octets is these octets, by induction on the numbers.
 use Rattle.std.proofs.Common.{◌≡◌, ℕ, ◌%◌, ◌<◌, ℤ, pos, negsuc, List, [], ◌∷◌, map, true, IsTrue, nat_abs, refl, sym, ap, ◌∙◌, arith}
 use Rattle.std.specs.List.{list_all}
 use Rattle.std.specs.Int.{w8}

@@ -1,4 +1,4 @@
--- A value is well typed or it is not; so a tree presents a value or none.
+-- A value is well typed or it is not; so a tree presents a value or none, by mutual induction on types, fields, arms.
 use Rattle.std.proofs.Common.{◌≡◌, ◌⊎◌, inl, inr, ℕ, ◌<◌, ◌≤◌, ℤ, List, length, Bool, true, false, ltb, leb, int_eq, IsTrue, MatchBool, refl, Option, Some, None, arith}
 use Rattle.std.specs.List.{list_all}
 use Rattle.std.proofs.lemmas.Bool.{ltb-true, lt-ltb, leb-true, le-leb}

@@ -1,34 +1,34 @@
 -- The proofs, each after those that it uses; * marks those that the proofs of functions use.
 
--- * The arm that is found among the arms of a choice
+-- * The arm that is found among the arms of a choice, by induction on the arms
 pub mod Arms
--- * The image of a row whose numbers are octets is these octets
+-- * The image of a row whose numbers are octets is these octets, by induction on the numbers
 pub mod Blocks
 -- * Values that may be there
 pub mod Options
--- * What a tree shows is what is read of it
+-- * What a tree shows is what is read of it, by mutual induction on faces, their parts and their arms
 pub mod Shown
--- * A value is well typed or it is not; so a tree presents a value or none
+-- * A value is well typed or it is not; so a tree presents a value or none, by mutual induction on types, fields, arms
 pub mod Deciding
--- * Members of JSON trees, as the lists that the program walks
+-- * Members of JSON trees, as the lists that the program walks, by induction on the members
 pub mod Lookups
 -- * One more field or element
 pub mod Fields
--- * Items of arrays, one after the other
+-- * Items of arrays, one after the other, by induction on the items
 pub mod Items
 -- * The characters of a string, one by one
 pub mod Letters
--- Numbers, items, texts and rows that are written are read
+-- Numbers, items, texts and rows that are written are read, by induction on numbers, octets and items
 pub mod WrittenScalars
--- * The tree that is written for a value shows it
+-- * The tree that is written for a value shows it, by mutual induction on faces, their parts and their arms
 pub mod Written
--- * The faces of nodes with their shapes have different names
+-- * The faces of nodes with their shapes have different names, by induction on the nodes
 pub mod Naming
--- * Names and exceptions of operations
+-- * Names and exceptions of operations, by induction on the list
 pub mod Sources
 -- * Strings that begin with the string of octets
 pub mod Passing
--- * Request records that are written are read back
+-- * Request records that are written are read back, by induction on the operations
 pub mod ReadBack
 -- * Values that are made, as they are seen
 pub mod Seen

@@ -1,4 +1,4 @@
--- Members of JSON trees, as the lists that the program walks.
+-- Members of JSON trees, as the lists that the program walks, by induction on the members.
 use Rattle.std.proofs.Common.{◌≡◌, ℕ, ◌≤◌, Bool, true, false, ◌==◌, ◌&&◌, List, [], ◌∷◌, length, map, Some, None, refl, ap, arith}
 use Rattle.std.proofs.lemmas.Bool.Decides.{nat_tests}
 use Rattle.std.specs.Prelude.{String, string_bytes}

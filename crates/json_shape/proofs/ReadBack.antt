@@ -1,4 +1,4 @@
--- Request records that are written are read back.
+-- Request records that are written are read back, by induction on the operations.
 use Rattle.std.proofs.Common.{◌≡◌, ℕ, zero, suc, ◌+◌, ◌^◌, ◌<◌, List, [], ◌∷◌, ◌++◌, map, slice_get, Bool, true, false, not, Some, None, Ok, bytes_eq, refl, sym, ap, ◌∙◌, subst, arith}
 use Rattle.std.specs.Prelude.{if◌then◌else◌, codes, nat_lt, is_some}
 use Rattle.std.specs.List.{list_any, AllByRecursion}

@@ -1,4 +1,4 @@
--- What a tree shows is what is read of it.
+-- What a tree shows is what is read of it, by mutual induction on faces, their parts and their arms.
 use Rattle.std.proofs.Common.{◌≡◌, ℤ, Bool, true, false, Option, Some, None, option_map, option_and_then, refl, sym, ap, ◌∙◌, ◌==◌, MatchBool, int_eq, arith, is_some}
 use Rattle.std.proofs.lemmas.Bool.Decides.{nat_tests}
 use Rattle.std.specs.Prelude.{if◌then◌else◌}

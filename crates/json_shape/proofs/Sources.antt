@@ -1,4 +1,4 @@
--- Names and exceptions of operations.
+-- Names and exceptions of operations, by induction on the list.
 use Rattle.std.proofs.Common.{◌≡◌, ℕ, zero, suc, ◌<◌, List, [], ◌∷◌, ◌++◌, map, length, get_or, drop, Option, Some, None, refl, sym, ap, ◌∙◌, append_assoc, arith}
 use Rattle.std.specs.Prelude.{if◌then◌else◌, slice_index_or}
 use Rattle.std.proofs.Math.ListN.{get_or-append}

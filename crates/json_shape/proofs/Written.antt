@@ -1,4 +1,4 @@
--- The tree that is written for a value shows it.
+-- The tree that is written for a value shows it, by mutual induction on faces, their parts and their arms.
 use Rattle.std.proofs.Common.{◌≡◌, ℕ, ◌+◌, ℤ, List, Bool, true, false, ◌||◌, not, int_eq, Some, None, MatchBool, Ordering, Less, Equal, Greater, nat_cmp, bytes_eq, refl, sym, ◌∙◌, arith}
 use Rattle.std.specs.Prelude.{if◌then◌else◌}
 use Rattle.std.specs.Ordering.{match_ordering}

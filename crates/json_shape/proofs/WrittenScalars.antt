@@ -1,4 +1,4 @@
--- Numbers, items, texts and rows that are written are read.
+-- Numbers, items, texts and rows that are written are read, by induction on numbers, octets and items.
 use Rattle.std.proofs.Common.{◌≡◌, ℕ, zero, suc, ◌<◌, ℤ, pos, negsuc, List, [], ◌∷◌, map, Bool, true, false, ◌||◌, not, nat_lt, nat_abs, int_eq, int_lt, Some, option_map, option_and_then, bytes_eq, refl, ap, arith}
 use Rattle.std.specs.Prelude.{if◌then◌else◌}
 use Rattle.std.specs.List.{list_all, list_any}

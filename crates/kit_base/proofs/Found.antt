@@ -1,4 +1,4 @@
--- Numbers that are read digit by digit, and what is sought from a place on.
+-- Numbers that are read digit by digit, and what is sought from a place on, by induction on the digits.
 use Rattle.std.proofs.Common.{◌≡◌, ℕ, ◌+◌, ◌-◌, ◌*◌, ◌<◌, ◌≤◌, Bool, true, false, List, [], ◌∷◌, length, drop, drop-cons, get_or, suc, sym, ◌∙◌, arith}
 use Rattle.std.specs.Prelude.{Some, None, ◌&&◌, ◌==◌, nat_le, if◌then◌else◌}
 use Rattle.std.proofs.lemmas.Bool.Decides.{nat_tests}

@@ -4,19 +4,19 @@
 pub mod Counting
 -- * Texts that end a line, and texts of whole lines
 pub mod Ending
--- The texts of stub code end a line
+-- The texts of stub code end a line, by mutual induction on code and cases
 pub mod StubEnding
 -- * The texts of operations, one after the other, and the names of their interfaces
 pub mod Listing
 -- * The line of the messages that a number makes
 pub mod Making
--- * Names of types by their numbers
+-- * Names of types by their numbers, by induction on the list of types
 pub mod Naming
 -- * What is read of a message that was made
 pub mod Reading
--- * The text of a unit is of whole lines
+-- * The text of a unit is of whole lines, by induction on its interfaces and its types
 pub mod ShowEnding
--- * The text of a union
+-- * The text of a union, by induction on its arms
 pub mod Unions
 -- Texts that were worked out by hand
 mod Worked

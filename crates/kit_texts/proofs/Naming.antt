@@ -1,4 +1,4 @@
--- Names of types by their numbers.
+-- Names of types by their numbers, by induction on the list of types.
 use Rattle.std.proofs.Common.{◌≡◌, ℕ, zero, suc, ◌<◌, List, [], ◌∷◌, length, get_or, ap, arith}
 use Rattle.std.specs.Prelude.{slice_index_or}
 use Rattle.aoi.specs.declared.types.Ty.{Ty}

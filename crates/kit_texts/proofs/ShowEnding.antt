@@ -1,4 +1,4 @@
--- The text of a unit is of whole lines.
+-- The text of a unit is of whole lines, by induction on its interfaces and its types.
 use Rattle.std.proofs.Common.{◌≡◌, inl, inr, ℕ, ℤ, Bool, true, false, List, [], ◌∷◌, ◌++◌, map, codes, decimal, refl, ap, sym, ◌∙◌, subst}
 use Rattle.std.specs.Fmt.{signed_decimal}
 use Rattle.std.specs.Prelude.{slice_index_or}

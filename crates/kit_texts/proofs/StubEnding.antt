@@ -1,4 +1,4 @@
--- The texts of stub code end a line.
+-- The texts of stub code end a line, by mutual induction on code and cases.
 use Rattle.std.proofs.Common.{ℕ, List, [], ◌∷◌, codes, refl}
 use Rattle.cast_stub.specs.declared.put.Put.{Put}
 use Rattle.cast_stub.specs.declared.recv.Get.{Get}

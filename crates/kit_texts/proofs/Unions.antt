@@ -1,4 +1,4 @@
--- The text of a union.
+-- The text of a union, by induction on its arms.
 use Rattle.std.proofs.Common.{◌≡◌, ℕ, ℤ, Result, OnOk, List, [], ◌∷◌, ◌++◌, Option, None, refl, ap, ◌∙◌, subst, codes}
 use Rattle.std.specs.Prelude.{Box}
 use Rattle.std.specs.declared.alloc.Global.{Global}

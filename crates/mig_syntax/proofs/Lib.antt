@@ -4,9 +4,9 @@
 pub mod Cases
 -- * A loop over operators reads what `chain_on` reads
 pub mod Chains
--- What is read of an expression is spelled, within the levels that it takes
+-- What is read of an expression is spelled, within the levels that it takes, by induction on levels and looseness
 pub mod Within
--- What is spelled is read
+-- What is spelled is read, by induction on levels and looseness
 pub mod Again
 -- * Expressions: what is read is what is spelled
 pub mod ExpressionsRead

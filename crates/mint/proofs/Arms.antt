@@ -1,4 +1,4 @@
--- The arm that is found comes before the node.
+-- The arm that is found comes before the node, by induction on the arms.
 use Rattle.std.proofs.Common.{◌≡◌, ℕ, ◌<◌, ℤ, List, [], ◌∷◌, Option, None, Some, int_eq, Bool, true, false, cond}
 use Rattle.mint.specs.Types.{ArmsBelow, IsBelow}
 use Rattle.mint.specs.Arms.{arm_found}

@@ -1,4 +1,4 @@
--- The blank value of a sound type is well typed.
+-- The blank value of a sound type is well typed, by mutual induction on types, fields and arms.
 use Rattle.std.proofs.Common.{◌≡◌, Bool, true, false, ◌&&◌, not, nat_le, ℕ, zero, suc, ℤ, pos, List, [], ◌∷◌, length, replicate, None, refl, ap, arith}
 use Rattle.std.specs.List.{list_all}
 use Rattle.std.specs.Ordering.{int_eq}

@@ -1,4 +1,4 @@
--- Blank values, field by field and copy by copy.
+-- Blank values, field by field and copy by copy, by induction on the values and on the number of copies.
 use Rattle.std.proofs.Common.{◌≡◌, IsTrue, ℕ, zero, suc, pos, List, [], ◌++◌, refl, sym, ap, ◌∙◌, replicate, ◌≤◌, length, drop, append-nil, Result, Ok, Err, IfOk, ℤ, Option, None, Some, slice_get}
 use Rattle.std.proofs.Math.ListN.{drop_of_length-le}
 use Rattle.mint.specs.declared.kind.Kind.{Kind}

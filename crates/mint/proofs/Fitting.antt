@@ -1,4 +1,4 @@
--- One more field, element or arm.
+-- One more field, element or arm, by induction on the list of values.
 use Rattle.std.proofs.Common.{Bool, IsTrue, ◌↔◌, Some, ◌≡◌, ℕ, suc, List, [], ◌∷◌, length, refl, ap}
 use Rattle.mint.specs.declared.kind.Count.{Count}
 use Rattle.mint.specs.Kinds.{Allows}

@@ -1,4 +1,4 @@
--- An image gives its numbers back, and numbers their image.
+-- An image gives its numbers back, and numbers their image, by induction on the numbers and on how many they are.
 use Rattle.std.proofs.Common.{FitsSigned, ◌≡◌, ◌≢◌, IsTrue, Bool, true, false, cond, ltb, not, ◌==◌, ◌&&◌, ℕ, zero, suc, ◌+◌, ◌-◌, ◌*◌, ◌/◌, ◌%◌, ◌^◌, ◌<◌, ℤ, pos, negsuc, List, [], ◌∷◌, ◌++◌, length, get_or, take, drop, Result, Ok, Err, OnOk, OnErr, refl, sym, ap, ◌∙◌, subst, inl, inr, append_assoc, length-append, append-nil, add-one, arith}
 use Rattle.std.specs.List.{list_all, AllByRecursion}
 use Rattle.std.specs.Int.{Width, w8, w16, w32, w64, w128, byte_at, to_le_bytes, from_le_bytes, cast_unsigned, cast_signed}

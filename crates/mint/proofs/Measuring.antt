@@ -1,4 +1,4 @@
--- What a table keeps of its nodes stays true when a node is put after them.
+-- What a table keeps of its nodes stays true when a node is put after them, by induction on the nodes.
 use Rattle.std.proofs.Common.{FitsSigned, pos, negsuc, ◌≡◌, Bool, true, false, cond, ltb, nat_lt, nat_le, ◌&&◌, not, ℕ, zero, suc, ◌+◌, ◌*◌, ◌<◌, ◌≤◌, ℤ, List, [], ◌∷◌, ◌++◌, length, get_or, map, Option, None, Some, option_map, slice_get, refl, sym, ap, ◌∙◌, ◌⊎◌, inl, inr, length-append, suc-mul, arith}
 use Rattle.std.specs.List.{list_all, AllByRecursion}
 use Rattle.std.proofs.lemmas.Bool.{ltb-true, ltb-false, leb-false, lt-ltb}

@@ -1,4 +1,4 @@
--- How many numbers an image has, and what is where.
+-- How many numbers an image has, and what is where, by induction on how many there are.
 use Rattle.std.proofs.Common.{◌≡◌, ℕ, zero, suc, ◌+◌, ◌-◌, ◌*◌, ◌/◌, ◌<◌, ◌≤◌, ℤ, List, [], ◌∷◌, length, take, drop, None, Some, slice_get, refl, sym, ap, ◌∙◌, arith}
 use Rattle.std.proofs.lemmas.List.{drop-drop}
 use Rattle.mint.specs.declared.kind.Kind.{Kind}

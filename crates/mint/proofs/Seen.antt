@@ -1,4 +1,4 @@
--- Values that are made, as they are seen.
+-- Values that are made, as they are seen, by induction on the list of values.
 use Rattle.std.proofs.Common.{◌≡◌, List, [], ◌∷◌, ◌++◌, Some, Box, Global, refl, ap, rules}
 use Rattle.mint.specs.declared.value.Value.{Value, Opt, Void, the_lemmas}
 use Rattle.mint.specs.Values.{Val, Vals, no_more, val, void, present, seen, all_seen}

@@ -1,4 +1,4 @@
--- A node of a table unfolds to its level over the trees of the table.
+-- A node of a table unfolds to its level over the trees of the table, by induction on the nodes.
 use Rattle.std.proofs.Common.{◌≡◌, ℕ, zero, suc, ◌+◌, ◌<◌, ℤ, List, [], ◌∷◌, ◌++◌, length, Option, None, Some, slice_get, refl, sym, ap, ◌∙◌, arith, length-append, add-zero, zero-add, Bor}
 use Rattle.std.proofs.Math.ListN.{get_or-append}
 use Rattle.std.specs.Option.{option_copied, IfSome}

@@ -1,4 +1,4 @@
--- Names and numbers in a set of indexmap, as lists.
+-- Names and numbers in a set of indexmap, as lists, by induction on the list.
 use Rattle.std.proofs.Common.{◌≡◌, ℕ, ℤ, nat_eq, ◌&&◌, List, [], ◌∷◌, ◌++◌, map, Bool, false, ◌||◌, refl, ap, ◌∙◌}
 use Rattle.std.specs.List.{list_any}
 use Rattle.std.specs.Str.{bytes_eq}

@@ -1,6 +1,6 @@
 -- The proofs, each after those that it uses; * marks those that the proofs of functions use.
 
--- Steps after the octets of a head, and the length of chunks
+-- Steps after the octets of a head, and the length of chunks, by induction on the steps and on the code
 mod Following
 -- * The heads of requests, and their code
 mod Leading

@@ -31,14 +31,17 @@ impl Codes {
         enc: Encoding,
         view: &mut RecvView<'_>,
     ) -> Result<Got, NoMemory>
+        // What is received.
         requires op { op < length self.now.binding.ops }
         requires takes { Takes self.now.binding.back enc }
         requires place { IsPlace enc view.old.pos }
         requires short { length view.old.octets ≤ longest_message }
+        // What it gives.
         ensures spelled { IfOk result
             (λ got. IsSpelled enc (request_type self.now.binding op) got view.old view.new) }
         ensures given { (enc ≡ encoding self.now.binding.back) → IfOk result
             (λ got. IsGivenBy self.now.stubs op (request_type self.now.binding op) got view.old view.new) }
+        // What stays the same.
         ensures octets { view.new.octets ≡ view.old.octets }
     {
         let code = self.recv_code_over(op, enc);

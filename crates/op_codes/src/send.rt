@@ -60,13 +60,16 @@ fn run_from_front(
     buf: &mut SendBuf,
 ) -> Result<(), SendErr>
     requires { AreCovered (sent_steps code.now head.now (seen value.now)) 0 }
+    // What `Ok` holds.
     ensures done { OnOk result (meaning code.now head.now (seen value.now) 0 ≡ Some buf.new.done) }
     ensures short { OnOk result (length buf.new.done ≤ longest_message) }
     ensures tally { OnOk result
         (option_map (paid none) (cost code.now head.now (seen value.now)) ≡ Some buf.new.tally) }
     ensures spent { OnOk result
         (option_map (paid buf.old.spent) (cost code.now head.now (seen value.now)) ≡ Some buf.new.spent) }
+    // When it is too long.
     ensures long { (result ≡ Err SendErr.Long) → IsLong 0 (meaning code.now head.now (seen value.now) 0) }
+    // What stays the same.
     ensures err { OnErr result (buf.new.done ≡ []) }
     ensures stands { NoneFell buf.old.spent buf.new.spent }
 {

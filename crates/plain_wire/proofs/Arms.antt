@@ -1,4 +1,4 @@
--- The arm that is found among the arms of a choice.
+-- The arm that is found among the arms of a choice, by induction on the arms.
 use Rattle.std.proofs.Common.{◌≡◌, ℕ, ℤ, List, [], ◌∷◌, Option, None, Some, refl, int_eq, Bool, true, false, cond}
 use Rattle.std.specs.Prelude.{MatchBool}
 use Rattle.mint.specs.Values.{Val}

@@ -1,4 +1,4 @@
--- The octets of an array, by the sort of its elements.
+-- The octets of an array, by the sort of its elements, by induction on the elements.
 use Rattle.std.proofs.Common.{◌≡◌, ℕ, ◌+◌, ◌-◌, ◌*◌, ◌%◌, ◌<◌, arith, ℤ, List, [], ◌∷◌, length, map, Bool, ◌&&◌, true, false, not, int_eq, refl, ap, pos, negsuc}
 use Rattle.std.specs.List.{list_all}
 use Rattle.mint.specs.declared.kind.Kind.{Kind}

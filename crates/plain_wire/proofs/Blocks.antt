@@ -1,4 +1,4 @@
--- Octets read one by one are read as a block.
+-- Octets read one by one are read as a block, by induction on how many they are.
 use Rattle.std.proofs.Common.{◌≡◌, ℕ, zero, suc, ◌+◌, ◌<◌, ◌≤◌, ℤ, pos, List, [], ◌∷◌, length, map, take, drop, Some, None, Bool, true, false, cond, not, ltb, refl, sym, ap, ◌∙◌, add-zero, arith}
 use Rattle.std.specs.Prelude.{◌==◌}
 use Rattle.std.specs.List.{position, position_or_len}

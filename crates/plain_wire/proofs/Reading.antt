@@ -1,4 +1,4 @@
--- Values as they are read.
+-- Values as they are read, and of a choice the arm that is found, by induction on the arms.
 use Rattle.std.proofs.Common.{◌≡◌, ℕ, ◌+◌, ◌-◌, ◌<◌, ◌≤◌, List, length, drop, cond, refl, arith}
 use Rattle.std.specs.Prelude.{if◌then◌else◌}
 use Rattle.wire_def.specs.declared.encoding.Encoding.{Encoding}

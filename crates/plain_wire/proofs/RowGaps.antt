@@ -1,4 +1,4 @@
--- The elements of a row are one gap, and then numbers without gaps.
+-- The elements of a row are one gap, and then numbers without gaps, by induction on the numbers and on their number.
 use Rattle.std.proofs.Common.{◌≡◌, ℕ, zero, suc, ◌+◌, ℤ, List, [], ◌∷◌, ◌++◌, length, replicate, take, drop, Bool, true, false, cond, ltb, refl, sym, ap, ◌∙◌, subst, append_assoc, length-append, add-zero, arith}
 use Rattle.std.specs.Prelude.{if◌then◌else◌}
 use Rattle.std.specs.Int.{Width, byte_len}

@@ -1,4 +1,4 @@
--- The numbers of a row are sent as their image, swapped piece by piece where the order is the other.
+-- The numbers of a row are sent as their image, swapped by pieces in the other order, by induction on the numbers.
 use Rattle.std.proofs.Common.{◌≡◌, ◌≢◌, ◌⊎◌, inl, inr, ℕ, zero, suc, ◌+◌, ◌-◌, ◌*◌, ◌/◌, ◌%◌, ◌<◌, ◌≤◌, ℤ, pos, negsuc, List, [], ◌∷◌, ◌++◌, length, take, drop, get_or, Bool, true, false, cond, ltb, nat_lt, refl, sym, ap, ◌∙◌, subst, zero-mul, add-zero, add_assoc, add-one, append-nil, append_assoc, arith, min, reverse, length-append, length-take, length-drop}
 use Rattle.std.specs.Prelude.{IsTrue}
 use Rattle.std.specs.List.{list_all}

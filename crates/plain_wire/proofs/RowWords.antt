@@ -1,4 +1,4 @@
--- The numbers of a row are read as their image, or cut at the first that is not there.
+-- The numbers of a row are read as their image, or cut at the first that is not there, by induction on their number.
 use Rattle.std.proofs.Common.{◌≡◌, ◌≢◌, ◌⊎◌, inl, inr, ℕ, zero, suc, ◌+◌, ◌-◌, ◌*◌, ◌/◌, ◌%◌, ◌<◌, ◌≤◌, ℤ, pos, negsuc, List, [], ◌∷◌, ◌++◌, length, take, drop, Bool, true, false, cond, ltb, nat_lt, refl, sym, ap, ◌∙◌, subst, zero-mul, add-zero, add-one, append_assoc, arith, reverse, length-append, length-take, length-drop}
 use Rattle.std.specs.Prelude.{if◌then◌else◌, IsTrue}
 use Rattle.std.specs.List.{AllByRecursion}

@@ -1,4 +1,4 @@
--- Sketches that are drawn in definitions: nodes for a type, for a message, for a unit.
+-- Sketches that are drawn in definitions: nodes for a type, for a message, for a unit, by induction on the type.
 use Rattle.std.proofs.Common.{◌≡◌, IsTrue, Bool, true, false, ℕ, zero, suc, ◌+◌, ◌<◌, ◌≤◌, ℤ, pos, List, [], ◌∷◌, ◌++◌, map, length, get_or, zip, Option, None, Some, if◌then◌else◌, refl, sym, ap, ◌∙◌, subst, length-append, append_assoc, append-nil, arith}
 use Rattle.std.specs.List.{AllByRecursion}
 use Rattle.std.proofs.lemmas.Bool.{ltb-true}

@@ -1,4 +1,4 @@
--- Types that are drawn, part by part.
+-- Types that are drawn, part by part, by induction on the members and on the arms.
 use Rattle.std.proofs.Common.{◌≡◌, IsTrue, Bool, true, false, ◌&&◌, ℕ, zero, suc, ◌+◌, ◌-◌, ◌<◌, ◌≤◌, ℤ, List, [], ◌∷◌, ◌++◌, map, length, get_or, drop, Option, None, Some, if◌then◌else◌, refl, sym, ap, ◌∙◌, subst, length-append, append_assoc, append-nil, Result, Ok, Err, OnOk, IfOk, IfErr, IsErrAnd, arith, rules, true≢false}
 use Rattle.std.specs.Prelude.{int_lt}
 use Rattle.std.specs.List.{AllByRecursion}

@@ -1,4 +1,4 @@
--- Requests and replies that are drawn.
+-- Requests and replies that are drawn, by induction on the arms and on the operations.
 use Rattle.std.proofs.Common.{◌≡◌, IsTrue, true, ℕ, suc, ◌+◌, ◌<◌, ◌≤◌, ℤ, pos, List, [], ◌∷◌, ◌++◌, map, length, get_or, drop, None, refl, sym, ap, ◌∙◌, subst, length-append, append_assoc, append-nil, arith}
 use Rattle.std.specs.List.{AllByRecursion}
 use Rattle.std.proofs.Math.ListN.{get_or-append}

@@ -1,4 +1,4 @@
--- A node and its shape unfold to their level over the faces of the table, and a face is a face of its node's type.
+-- A node and its shape unfold to their level over the faces, and faces are of nodes' types, by induction on the nodes.
 use Rattle.std.proofs.Common.{◌≡◌, ℕ, zero, suc, ◌+◌, ◌<◌, ◌≤◌, ℤ, List, [], ◌∷◌, ◌++◌, map, length, Option, None, Some, slice_get, refl, sym, ap, ◌∙◌, arith, length-append, add-zero, zero-add}
 use Rattle.std.specs.List.{zip, AllByRecursion}
 use Rattle.std.proofs.Math.ListN.{get_or-append, get_or-map}

@@ -1,4 +1,4 @@
--- Sizes up to a limit are those of faces.
+-- Sizes up to a limit are those of faces, by induction on the fields and on the arms.
 use Rattle.std.proofs.Common.{◌≡◌, ℕ, zero, suc, ◌+◌, ◌<◌, min, max, ℤ, List, [], ◌∷◌, ◌++◌, map, take, length, Option, None, Some, refl, sym, ap, ◌∙◌, arith}
 use Rattle.std.proofs.Math.ListN.{get_or-map}
 use Rattle.std.proofs.lemmas.List.{map_more}

@@ -1,4 +1,4 @@
--- A sound unit can be drawn, and its nodes are regular.
+-- A sound unit can be drawn, and its nodes are regular, by induction on its types and on its interfaces.
 use Rattle.std.proofs.Common.{◌≡◌, IsTrue, Bool, true, false, not, ◌&&◌, ◌==◌, ℕ, suc, ◌+◌, ◌-◌, ◌^◌, ◌<◌, ◌≤◌, ℤ, pos, List, [], ◌∷◌, ◌++◌, length, map, nat_lt, nat_le, if◌then◌else◌, Some, refl, sym, ap, ◌∙◌, subst, arith, length-append, slice_index_or, ◌⊎◌, inl, inr}
 use Rattle.std.specs.List.{list_all, AllByRecursion}
 use Rattle.std.proofs.Math.ListN.{get_or-append}

@@ -1,4 +1,4 @@
--- The nodes that sound types make are regular, and their blank values weigh something.
+-- The nodes that sound types make are regular, and their blank values weigh something, by induction on the type.
 use Rattle.std.proofs.Common.{◌≡◌, Bool, true, false, ◌&&◌, ℕ, zero, suc, ◌<◌, ◌≤◌, ℤ, List, [], ◌∷◌, length, take, nat_lt, nat_le, if◌then◌else◌, Option, None, refl, sym, ap, ◌∙◌, subst, arith, true≢false, slice_index_or}
 use Rattle.std.specs.Prelude.{int_lt}
 use Rattle.std.specs.List.{list_all, list_any}

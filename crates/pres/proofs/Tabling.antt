@@ -1,4 +1,4 @@
--- Nodes that are put into a table, one after another.
+-- Nodes that are put into a table, one after another, by induction on the faces and on a node's parts.
 use Rattle.std.proofs.Common.{◌≡◌, ◌≢◌, Bool, true, false, ◌||◌, ℕ, zero, suc, ◌+◌, ◌<◌, ℤ, List, [], ◌∷◌, ◌++◌, map, take, drop, length, nat_lt, nat_le, if◌then◌else◌, Option, None, Some, slice_get, refl, sym, ap, ◌∙◌, length-append, append_assoc, append-nil, arith}
 use Rattle.std.specs.List.{list_any, list_all}
 use Rattle.std.proofs.Math.ListN.{drop_of_length-le}

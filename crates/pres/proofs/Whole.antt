@@ -1,4 +1,4 @@
--- The types of a unit, and then its interfaces.
+-- The types of a unit, and then its interfaces, by induction on the types.
 use Rattle.std.proofs.Common.{◌≡◌, ◌+◌, ◌≤◌, List, [], ◌∷◌, ◌++◌, map, length, ap, sym, ◌∙◌, subst, length-append, arith}
 use Rattle.std.proofs.lemmas.List.{length-map}
 use Rattle.wire_def.specs.declared.encoding.Back.{Back}

@@ -1,4 +1,4 @@
--- The images of rows, as they are and with each number's octets reversed.
+-- The images of rows, as they are and with each number's octets reversed, by induction on how many numbers there are.
 use Rattle.std.proofs.Common.{◌≡◌, ◌≢◌, ◌≤◌, ◌<◌, inl, inr, ℕ, zero, suc, ◌+◌, ◌-◌, ◌*◌, ◌/◌, ◌%◌, ℤ, min, List, [], ◌∷◌, ◌++◌, length, take, drop, reverse, sym, ap, refl, ◌∙◌, arith, add-one, append_assoc, length-append, length-take, length-drop}
 use Rattle.std.proofs.Math.Nat.{mul-mod_left, add-div_left}
 use Rattle.std.proofs.Math.Seq.{take-add}

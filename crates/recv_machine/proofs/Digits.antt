@@ -1,4 +1,4 @@
--- A number of a row stays one of the row's numbers.
+-- A number of a row stays one of the row's numbers, by induction on the code and the depth of calls.
 use Rattle.std.proofs.Common.{◌≡◌, ◌⊎◌, inl, inr, ℕ, zero, suc, ◌+◌, ◌-◌, ◌*◌, ℤ, List, [], ◌∷◌, length, take, drop, Option, Some, None, refl, sym, ap, subst, ◌∙◌, Bool, true, false, if◌then◌else◌}
 use Rattle.std.specs.Prelude.{nat_eq, nat_le, nat_lt, max, ◌&&◌, ◌/◌, ◌%◌, ◌^◌}
 use Rattle.std.specs.Int.{Width, w16, w32}

@@ -1,4 +1,4 @@
--- Drafts by their variants, and parts that are taken out, changed and put back.
+-- Drafts by their variants, and parts that are taken out, changed and put back, by induction on the list of parts.
 use Rattle.std.proofs.Common.{◌≡◌, ℕ, ℤ, zero, suc, ◌+◌, ◌<◌, ◌≤◌, List, [], ◌∷◌, ◌++◌, length, drop, get_or, Option, None, Some, option_map, slice_get, refl, sym, ap, subst, ◌∙◌, add-one, arith}
 use Rattle.std.specs.Prelude.{slice_set}
 use Rattle.std.proofs.Math.Seq.{drop-cons}

@@ -1,4 +1,4 @@
--- The numbers of a row are those of its image.
+-- The numbers of a row are those of its image, by induction on how many numbers there are.
 use Rattle.std.proofs.Common.{◌≡◌, ℕ, zero, suc, ◌+◌, ◌-◌, ◌*◌, ◌/◌, ◌<◌, ◌≤◌, ℤ, pos, negsuc, List, [], ◌∷◌, ◌++◌, length, take, drop, reverse, Bool, true, false, cond, ltb, Option, None, Some, option_map, refl, sym, ap, ◌∙◌, inl, inr, arith, length-take, length-drop, length-append}
 use Rattle.std.specs.Prelude.{if◌then◌else◌, ◌&&◌}
 use Rattle.std.specs.List.{list_all}

@@ -1,10 +1,10 @@
 -- The proofs, each after those that it uses; * marks those that the proofs of functions use.
 
--- * Drafts by their variants, and parts that are taken out, changed and put back
+-- * Drafts by their variants, and parts that are taken out, changed and put back, by induction on the list of parts
 pub mod Drafting
 -- * Drafts that have become values
 pub mod Becoming
--- A number of a row stays one of the row's numbers
+-- A number of a row stays one of the row's numbers, by induction on the code and the depth of calls
 pub mod Digits
 -- * What is done to a part of a draft: it is taken out, changed and put back
 pub mod Within
@@ -14,13 +14,13 @@ pub mod Running
 pub mod Blocking
 -- * Numbers that are put into drafts
 pub mod Getting
--- * The numbers of a row are those of its image
+-- * The numbers of a row are those of its image, by induction on how many numbers there are
 pub mod Images
 -- * Parts of drafts that are looked at
 pub mod Looking
 -- * What loops over drafts go over
 pub mod Over
--- * How many operations are in a code: the measure of a run
+-- * How many operations are in a code: the measure of a run, by induction on the code
 pub mod Sizing
 -- * Octets that are passed up to a multiple
 pub mod Skipping

@@ -1,4 +1,4 @@
--- How many operations are in a code: the measure of a run.
+-- How many operations are in a code: the measure of a run, by induction on the code.
 use Rattle.std.proofs.Common.{◌≡◌, ℕ, zero, suc, ◌+◌, ◌*◌, ◌<◌, ◌≤◌, ℤ, List, [], ◌∷◌, length, get_or, Option, Some, slice_get, sym, ap, ◌∙◌, arith}
 use Rattle.std.proofs.Math.Nat.{suc-mul}
 use Rattle.cast_stub.specs.declared.recv.RecvOp.{RecvOp}

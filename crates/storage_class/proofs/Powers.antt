@@ -1,4 +1,4 @@
--- Lengths of many parts, by halves.
+-- Lengths of many parts, by halves, by induction on their number.
 use Rattle.std.proofs.Common.{◌≡◌, ℕ, zero, suc, ◌+◌, ◌*◌, ◌/◌, ◌%◌, ◌<◌, ◌≤◌, List, [], ◌∷◌, Bool, true, false, cond, nat_le, true≢false, refl, sym, ap, ◌∙◌, arith, zero-add, add_assoc}
 use Rattle.std.specs.List.{list_all}
 use Rattle.std.proofs.lemmas.Bool.{le-leb}

@@ -1,4 +1,4 @@
--- What is sent has a length that the span of its type allows.
+-- What is sent has a length that the span of its type allows, by induction on the type.
 use Rattle.std.proofs.Common.{◌≡◌, ◌⊎◌, inl, inr, ℕ, zero, suc, ◌+◌, ◌*◌, ◌%◌, ◌≤◌, ℤ, pos, List, [], ◌∷◌, ◌++◌, length, Bool, true, false, cond, refl, sym, ap, ◌∙◌, int_eq, arith, length-append, zero-add, add-zero, suc-mul}
 use Rattle.std.proofs.Math.Nat.{zero-mul, mul-le-mul_right}
 use Rattle.std.specs.Prelude.{MatchBool}

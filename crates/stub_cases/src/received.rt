@@ -117,9 +117,11 @@ fn alike(
     at: usize,
     message: &[u8],
 ) -> Result<(bool, String), Bad>
+    // The codes.
     requires lowered { IsSoundCode enc (type_at table.now id) (IsPlace enc) codes.0.now }
     requires inlined { IsSoundCode enc (type_at table.now id) (IsPlace enc) codes.1.now }
     requires rows { IsSoundCode enc (type_at table.now id) (IsPlace enc) codes.2.now }
+    // What they receive, and where.
     requires id { id < length table.now }
     requires place { IsPlace enc at }
     requires at { at ≤ length message.now }
@@ -149,9 +151,11 @@ fn varied(
     step: usize,
     message: &[u8],
 ) -> Result<String, Bad>
+    // The codes.
     requires lowered { IsSoundCode enc (type_at table.now id) (IsPlace enc) codes.0.now }
     requires inlined { IsSoundCode enc (type_at table.now id) (IsPlace enc) codes.1.now }
     requires rows { IsSoundCode enc (type_at table.now id) (IsPlace enc) codes.2.now }
+    // What they receive, and where.
     requires id { id < length table.now }
     requires place { IsPlace enc at }
     requires at { at ≤ length message.now }

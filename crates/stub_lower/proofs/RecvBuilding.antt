@@ -1,4 +1,4 @@
--- Code that is made piece by piece.
+-- Code that is made piece by piece, by induction on the fields and the cases.
 use Rattle.std.proofs.Common.{◌≡◌, ℕ, ℤ, suc, ◌+◌, ◌<◌, ◌≤◌, List, [], ◌∷◌, ◌++◌, length, get_or, map, Option, refl, sym, ap, ◌∙◌, arith}
 use Rattle.std.proofs.Math.ListN.{take}
 use Rattle.std.proofs.lemmas.List.{map-append, take_all, take_more, length-take-le}

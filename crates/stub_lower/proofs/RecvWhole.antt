@@ -1,4 +1,4 @@
--- The codes of a whole table that receive.
+-- The codes of a whole table that receive, by induction on the depth of calls and the node's number.
 use Rattle.std.proofs.Common.{◌≡◌, ℕ, zero, suc, ◌+◌, ◌<◌, ◌≤◌, List, [], ◌∷◌, ◌++◌, length, map, Option, Some, None, option_map, slice_get, refl, sym, ap, subst, ◌∙◌, arith}
 use Rattle.std.proofs.Math.ListN.{take}
 use Rattle.std.proofs.lemmas.List.{length-map, map-append, take_all}

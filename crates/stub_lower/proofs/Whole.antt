@@ -1,4 +1,4 @@
--- The codes of a whole table.
+-- The codes of a whole table, by induction on the depth of calls and the node's number.
 use Rattle.std.proofs.Common.{◌≡◌, ◌⊎◌, inl, inr, ℕ, zero, suc, ◌+◌, ◌<◌, ◌≤◌, List, [], ◌∷◌, ◌++◌, length, map, Option, Some, None, option_map, slice_get, refl, sym, ap, subst, ◌∙◌, arith}
 use Rattle.std.proofs.Math.ListN.{take}
 use Rattle.std.proofs.Math.Nat.{eq-or-lt_of_le}

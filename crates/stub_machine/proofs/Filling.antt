@@ -1,4 +1,4 @@
--- Octets that are put one after the other fill a chunk.
+-- Octets that are put one after the other fill a chunk, by induction on the chunk's cells.
 use Rattle.std.proofs.Common.{◌≡◌, ℕ, zero, suc, ◌+◌, ◌-◌, ◌<◌, ◌≤◌, List, [], ◌∷◌, ◌++◌, length, take, drop, get_or, replicate, Option, Some, None, option_map, refl, sym, ap, subst, ◌∙◌, add-one, arith, length-drop, Bool, true, false, nat_le, if◌then◌else◌}
 use Rattle.std.proofs.Math.Seq.{drop-cons}
 use Rattle.std.proofs.lemmas.List.{length-replicate, length-take-le, drop_all}

@@ -1,4 +1,4 @@
--- Steps after steps, run one after the other.
+-- Steps after steps, run one after the other, by induction on the first steps.
 use Rattle.std.proofs.Common.{◌≡◌, List, [], ◌∷◌, ◌++◌, Option, Some, None, refl, sym, ap, subst, ◌∙◌}
 use Rattle.mint.specs.Values.{Val}
 use Rattle.wire_def.specs.declared.head.Head.{Head}

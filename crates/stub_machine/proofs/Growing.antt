@@ -1,4 +1,4 @@
--- What is done only grows.
+-- What is done only grows, by induction on the steps.
 use Rattle.std.proofs.Common.{◌≡◌, ℕ, ℤ, pos, ◌+◌, ◌<◌, ◌≤◌, List, [], ◌∷◌, ◌++◌, length, drop, get_or, map, replicate, Option, Some, None, refl, sym, ap, subst, ◌∙◌, arith, Bool, true, false, nat_le, if◌then◌else◌, length-append, Result, Ok, Err, OnErr}
 use Rattle.std.proofs.lemmas.Bool.{leb-true}
 use Rattle.kit_base.specs.Bytes.{written}

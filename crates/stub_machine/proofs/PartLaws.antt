@@ -1,4 +1,4 @@
--- Parts of a value, and of its tree.
+-- Parts of a value, and of its tree, by induction on the list of values.
 use Rattle.std.proofs.Common.{◌≡◌, ℕ, zero, suc, ◌+◌, ◌<◌, List, [], ◌∷◌, length, drop, get_or, Option, Some, None, option_map, slice_get, Bor, refl, sym, ap, ◌∙◌, add-one}
 use Rattle.std.specs.Option.{option_copied}
 use Rattle.std.proofs.Math.Seq.{drop-cons}

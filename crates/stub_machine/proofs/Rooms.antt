@@ -1,4 +1,4 @@
--- Steps that have their room run, and lead to what they write and cost.
+-- Steps that have their room run, and lead to what they write and cost, by induction on the steps.
 use Rattle.std.proofs.Common.{◌≡◌, ℕ, zero, suc, ◌+◌, ◌-◌, ◌^◌, ◌%◌, ◌≤◌, max, List, [], ◌∷◌, ◌++◌, length, take, drop, replicate, Option, None, Some, refl, sym, ap, subst, ◌∙◌, arith, append_assoc, length-append, length-drop, Bool, true, false, nat_le, if◌then◌else◌, ◌&&◌}
 use Rattle.std.proofs.lemmas.List.{length-replicate, length-take-le}
 use Rattle.std.proofs.lemmas.Bool.{le-leb, leb-true}

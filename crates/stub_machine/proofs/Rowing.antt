@@ -1,4 +1,4 @@
--- Rows that are given as a block.
+-- Rows that are given as a block, by induction on the row's numbers.
 use Rattle.std.proofs.Common.{◌≡◌, ◌≢◌, ◌≤◌, ◌<◌, ℕ, zero, suc, ◌+◌, ◌-◌, ◌*◌, ℤ, pos, List, [], ◌∷◌, ◌++◌, length, take, drop, get_or, slice_get, reverse, Option, None, Some, option_map, refl, sym, ap, subst, ◌∙◌, arith, append_assoc, append-nil, length-append, length-drop, Bool, true, false, nat_le, if◌then◌else◌}
 use Rattle.std.proofs.Math.Seq.{take-suc, drop-drop}
 use Rattle.std.proofs.lemmas.List.{length-reverse, take_at, drop_at, take_all}

@@ -1,4 +1,4 @@
--- What a buffer has spent does not fall, whatever is run.
+-- What a buffer has spent does not fall, whatever is run, by induction on the steps.
 use Rattle.std.proofs.Common.{◌≡◌, ℕ, zero, suc, ◌+◌, List, [], ◌∷◌, length, replicate, Option, Some, None, Bool, true, false, nat_le, if◌then◌else◌, subst, refl}
 use Rattle.wire_def.specs.Scalars.{gap}
 use Rattle.raw_buf.specs.declared.tally.Tally.{Tally}

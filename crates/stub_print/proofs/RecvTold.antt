@@ -1,4 +1,4 @@
--- The text of code that receives tells its name and the code.
+-- The text of code that receives tells its name and the code, by mutual induction on code and cases.
 use Rattle.std.proofs.Common.{◌≡◌, ℕ, suc, if◌then◌else◌, ℤ, List, [], ◌∷◌, drop, refl, sym, ap, ◌∙◌, codes}
 use Rattle.cast_stub.specs.declared.recv.Get.{Get}
 use Rattle.cast_stub.specs.declared.recv.Get.TheVariants as get

@@ -1,4 +1,4 @@
--- Runs of octets, each reversed: of one run, of runs one after the other, and turned twice.
+-- Runs of octets, each reversed: one, one after the other, and turned twice, by induction on the number of runs.
 use Rattle.std.proofs.Common.{◌≡◌, ◌<◌, ℕ, zero, suc, ◌+◌, ◌*◌, ◌/◌, ◌%◌, List, [], ◌∷◌, ◌++◌, length, take, drop, reverse, inl, inr, refl, sym, ap, ◌∙◌, subst, arith, add-one, append_assoc, append-nil, length-append, length-take, length-drop}
 use Rattle.std.proofs.Math.Nat.{add-div_left}
 use Rattle.std.proofs.lemmas.List.{take_at, drop_at, length-reverse, reverse-reverse, take-append-drop}

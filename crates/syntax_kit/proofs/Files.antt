@@ -1,4 +1,4 @@
--- The definitions so far are those of the tokens so far.
+-- The definitions so far are those of the tokens so far; one tree or none, by induction on a bound on the tokens left.
 use Rattle.std.proofs.Common.{◌≡◌, ◌⊎◌, inl, inr, ℕ, zero, suc, ◌<◌, ◌≤◌, List, [], ◌∷◌, ◌++◌, length, get_or, Some, None, Bool, false, refl, sym, ap, subst, ◌∙◌, append_assoc, length-append, arith}
 use Rattle.std.proofs.lemmas.List.{append-nil}
 use Rattle.idl_lex.specs.declared.kinds.Token.{Token}

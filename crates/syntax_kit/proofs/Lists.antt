@@ -1,4 +1,4 @@
--- Lists of items, and how far a list of items goes.
+-- Lists of items, and how far a list of items goes, by induction on the items.
 use Rattle.std.proofs.Common.{◌≡◌, ℕ, ◌≤◌, ◌<◌, List, [], ◌∷◌, ◌++◌, length, Some, None, Bool, true, false, refl, sym, ap, subst, ◌∙◌, append_assoc, length-append, arith}
 use Rattle.idl_lex.specs.declared.kinds.Token.{Token}
 use Rattle.idl_lex.specs.declared.kinds.TokenKind.{TokenKind}

@@ -1,4 +1,4 @@
--- Counts, rows and texts are grammars.
+-- Counts, rows and texts are grammars, and the zeros after them, by induction on how many there are.
 use Rattle.std.proofs.Common.{◌≡◌, ◌⊎◌, ℕ, zero, suc, ◌+◌, ℤ, pos, negsuc, List, [], ◌∷◌, ◌++◌, length, replicate, Bool, true, false, cond, refl, sym, ap, arith, add-zero}
 use Rattle.std.proofs.lemmas.Bool.{ltb-true}
 use Rattle.mint.specs.declared.kind.Kind.TheVariants as kind

@@ -1,4 +1,4 @@
--- What is put together of grammars is one.
+-- What is put together of grammars is one, repeated ones by induction on the number of items.
 use Rattle.std.proofs.Common.{◌≡◌, ◌⊎◌, inl, inr, ℕ, zero, suc, ◌+◌, List, [], ◌∷◌, ◌++◌, length, Bool, true, false, IsTrue, cond, refl, sym, ap, subst, ◌∙◌, append_assoc, length-append, add_assoc, add-zero, arith}
 use Rattle.wire_def.specs.Grammar.{Reading, got, stop, Reader, Spelling, Stopping, AreOctets, then_on, map_got, both, times, tested, Parts, SpellTimes, StopTimes, StopsInOrder, TestedSpells, TestedStops, IsGrammar}
 

@@ -1,4 +1,4 @@
--- Each weighted part of a value begins at an octet, and few begin at one.
+-- Each weighted part of a value begins at an octet, and few at one, by mutual induction on types, fields and arms.
 use Rattle.std.proofs.Common.{◌≡◌, ◌⊎◌, inl, inr, ℕ, zero, suc, ◌+◌, ◌*◌, ◌≤◌, ℤ, pos, List, [], ◌∷◌, length, Bool, true, false, ◌||◌, int_eq, refl, ap, arith, length-append}
 use Rattle.std.specs.Prelude.{MatchBool}
 use Rattle.std.specs.Int.{Width, w8, w16, w32, w64, byte_len}

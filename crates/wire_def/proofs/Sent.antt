@@ -1,4 +1,4 @@
--- What is sent is a spelling.
+-- What is sent is a spelling, by mutual induction on types, fields and arms.
 use Rattle.std.proofs.Common.{◌≡◌, ℕ, zero, suc, ◌+◌, ◌<◌, ◌≤◌, ℤ, pos, negsuc, List, [], ◌∷◌, length, replicate, Bool, not, true, false, cond, ltb, int_eq, true≢false, refl, sym, arith}
 use Rattle.std.specs.Prelude.{MatchBool}
 use Rattle.std.specs.List.{list_all}

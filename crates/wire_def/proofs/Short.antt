@@ -1,4 +1,4 @@
--- What is sent has at most 16 octets for each of the value's weight.
+-- What is sent has at most 16 octets for each of the value's weight, by mutual induction on types, fields and arms.
 use Rattle.std.proofs.Common.{◌≡◌, ℕ, suc, ◌+◌, ◌*◌, ◌≤◌, ℤ, pos, List, [], ◌∷◌, length, Bool, true, false, cond, int_eq, arith, lit≤, length-append}
 use Rattle.std.specs.Int.{Width, byte_len}
 use Rattle.std.proofs.lemmas.List.{length-replicate}

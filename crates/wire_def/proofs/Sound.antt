@@ -1,4 +1,4 @@
--- What a table refuses leaves types whose values take room.
+-- What a table refuses leaves types whose values take room, by mutual induction on types, fields and arms.
 use Rattle.std.proofs.Common.{◌≡◌, ℕ, zero, suc, ◌<◌, ◌≤◌, Bool, true, false, ◌||◌, IsTrue, cond, None, Some, refl, arith}
 use Rattle.std.specs.Prelude.{nat_eq, nat_lt}
 use Rattle.std.proofs.lemmas.Bool.{ltb-false}

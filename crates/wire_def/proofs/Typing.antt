@@ -1,4 +1,4 @@
--- Octets that are a value make it one of the type.
+-- Octets that are a value make it one of the type, by mutual induction on types, fields and arms.
 use Rattle.std.proofs.Common.{◌≡◌, ℕ, zero, suc, ◌+◌, ◌<◌, ℤ, pos, List, [], ◌∷◌, length, Bool, ◌&&◌, not, true, false, ltb, int_eq, refl, sym, arith}
 use Rattle.std.specs.Prelude.{MatchBool}
 use Rattle.std.specs.List.{list_all}
