@@ -165,6 +165,10 @@ pub reply_length : (r : Order) (t : Target) (arm id : ℕ) → length (reply_lea
 reply_length r t zero id = one_length r 1 (told r t zero) (told_grows r t zero) id
 reply_length r t (suc k) id = one_length r 1 (told r t (suc k)) (told_grows r t (suc k)) id
 
+-- and so does that of a reply
+pub long_reply : (r : Order) (t : Target) (arm id : ℕ) → 12 ≤ length (reply_lead r t arm id)
+long_reply r t arm id = omega (arith, reply_length r t arm id, reply_long r t arm)
+
 -- ---- replies by the number of their arm
 
 pub reply_none : (r : Order) (t : Target) (arm id : ℕ) → arm ≡ 0 → answer_octets r id ≡ reply_lead r t arm id

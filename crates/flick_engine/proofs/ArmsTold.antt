@@ -1,29 +1,26 @@
 -- An arm that the head of a reply tells is one of the operation's reply.
-use Rattle.std.proofs.Common.{◌≡◌, ◌+◌, ◌<◌, ◌≤◌, ℕ, zero, suc, Bool, true, false, List, [], ◌∷◌, ◌++◌, map, length, Option, Some, None, refl, sym, ap, ◌∙◌, subst, arith}
-use Rattle.std.specs.Prelude.{IsTrue, is_some, if◌then◌else◌, slice_get, slice_index_or, option_map}
+use Rattle.std.proofs.Common.{◌≡◌, ◌+◌, ◌<◌, ◌≤◌, ℕ, Bool, true, false, List, [], ◌∷◌, length, Option, Some, None, refl, sym, ap, ◌∙◌, subst, arith}
+use Rattle.std.specs.Prelude.{IsTrue, is_some, if◌then◌else◌, slice_get}
 use Rattle.std.specs.List.{position_from}
 use Rattle.std.specs.Str.{bytes_eq}
-use Rattle.std.proofs.lemmas.List.{map-append, length-map}
-use Rattle.std.proofs.lemmas.Option.{slice_get-map}
-use Rattle.std.proofs.lemmas.Simd.{map-map}
 use Rattle.wire_def.specs.declared.encoding.Back.{Back}
 use Rattle.wire_def.specs.declared.encoding.Back.TheVariants as back
 use Rattle.wire_def.specs.declared.reply.Status.{Status}
 use Rattle.wire_def.specs.declared.reply.Status.TheVariants as status
 use Rattle.mint.specs.Types.{Ty}
-use Rattle.aoi.specs.Plain.{PlainRaise, PlainInterface, PlainOperation}
+use Rattle.aoi.specs.Plain.{PlainInterface, PlainOperation}
 use Rattle.pres.specs.Bindings.{Binding, IsBinding}
-use Rattle.pres.specs.Offers.{operations, type_faces}
+use Rattle.pres.specs.Offers.{type_faces}
 use Rattle.giop_head.specs.Reply as giop_reply
-use Rattle.back_cdr.specs.Targets.{IsCdr, Target, no_target, target_in, targets_in, targets, target_of}
-use Rattle.back_cdr.proofs.Counting.{own_alone}
+use Rattle.back_cdr.specs.Targets.{IsCdr, target_of}
+use Rattle.op_codes.proofs.ArmIds.{many_ids}
 use Rattle.flick_engine.specs.declared.replies.Fate.TheVariants as fates
 use Rattle.flick_engine.specs.Backs.{RepliesInOrder, RepliesOver, BeginsReply}
 use Rattle.flick_engine.specs.Fates.{Heard, raised_at, fate_of, giop_fate}
 use Rattle.flick_engine.specs.Operations.{operations_in}
 use Rattle.flick_engine.specs.Replies.{arm_type_in, HasArm}
 use Rattle.flick_engine.proofs.Arming.{arm_there}
-use Rattle.flick_engine.proofs.ReplyTypes.{are_the_replies}
+use Rattle.op_codes.proofs.ReplyTypes.{are_the_replies}
 
 -- ---- what a status tells
 
@@ -68,38 +65,6 @@ arm_few ids (giop_reply.user id) k e =
     let h = below (bytes_eq id) 1 k ids (found_at id (position_from (bytes_eq id) 1 ids) k e) in
     omega (arith, h)
 arm_few ids (giop_reply.system id minor completion) k e = absurd cc
-
--- ---- the exceptions of an operation
-
-abbrev target_at : PlainInterface × PlainOperation → Target
-target_at q = target_in q.0 q.1
-
-targets_are : (k : Back) → IsCdr k → (is : List PlainInterface) → targets is ≡ map target_at (operations_in k is)
-targets_are k cdr [] = refl
-targets_are k cdr (i ∷ is) =
-    let first : targets_in i ≡ map target_at (map (λ (p : PlainOperation). (i, p)) (operations k i)) =
-    sym (map-map target_at (λ (p : PlainOperation). (i, p)) (operations k i) ∙ ap (map (target_in i)) (own_alone k i cdr)) in
-    ap (λ (l : List Target). l ++ targets is) first
-    ∙ ap (λ (l : List Target). map target_at (map (λ (p : PlainOperation). (i, p)) (operations k i)) ++ l) (targets_are k cdr is)
-    ∙ sym (map-append target_at (map (λ (p : PlainOperation). (i, p)) (operations k i)) (operations_in k is))
-
-here : {A : Type 0} (xs : List A) (n : ℕ) (x d : A) → slice_get xs n ≡ Some x → slice_index_or xs n d ≡ x
-here [] n x d e = absurd cc
-here (y ∷ xs) zero x d e = cc
-here (y ∷ xs) (suc n) x d e = here xs n x d e
-
--- the ids that replies tell apart are those of the operation's exceptions
-many_ids : (k : Back) → IsCdr k → (b : Binding) (op : ℕ) (i : PlainInterface) (p : PlainOperation)
-    → slice_get (operations_in k b.unit.interfaces) op ≡ Some (i, p)
-    → length (target_of b op).ids ≡ length p.raises
-many_ids k cdr b op i p is =
-    let there : slice_get (targets b.unit.interfaces) op ≡ Some (target_in i p) =
-    ap (λ (l : List Target).
-    slice_get l op) (targets_are k cdr b.unit.interfaces) ∙ slice_get-map target_at (operations_in k b.unit.interfaces) op
-    ∙ ap (option_map target_at) is in
-    ap (λ (t : Target).
-    length t.ids) (here (targets b.unit.interfaces) op (target_in i p) no_target there)
-    ∙ length-map p.raises (λ (r : PlainRaise). r.id)
 
 -- ---- the arms that replies tell
 

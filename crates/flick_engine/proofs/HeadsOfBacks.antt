@@ -56,7 +56,7 @@ use Rattle.back_mach.proofs.NamedBy as mach_pairs
 use Rattle.back_mach.proofs.Sent as mach_sent
 use Rattle.flick_engine.specs.Backs.{IsMade, back_of, encoding, lead_over, sized, BeginsOver, Begins, AsksByName, AsksFor, Stops, request_of, told_of, SaysByName, SaysOver, Says}
 use Rattle.flick_engine.specs.Operations.{operations_in}
-use Rattle.flick_engine.proofs.Places.{placed}
+use Rattle.op_codes.proofs.Places.{placed}
 
 -- ---- names
 

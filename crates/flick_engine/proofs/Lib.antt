@@ -1,7 +1,5 @@
 -- The proofs, each after those that it uses; * marks those that the proofs of functions use.
 
--- Elements of lists that are mapped
-mod Places
 -- What holds of the heads of each back end
 pub mod HeadsOfBacks
 -- The length of a message is that of its head and of its value
@@ -16,8 +14,6 @@ pub mod Answering
 pub mod Back
 -- * The operations of a binding are those of its unit, by induction on the interfaces
 pub mod Operating
--- * What comes back from an operation of a binding is what its unit has: a choice of the answer and the exceptions
-pub mod ReplyTypes
 -- * The arms of what comes back from an operation, by induction on the arms
 pub mod Arming
 -- * What holds of the heads of replies over each back end

@@ -28,7 +28,6 @@ use Rattle.giop_head.specs.Call.{Request}
 use Rattle.giop_head.specs.Heads as giop
 use Rattle.giop_head.specs.Items.{laid}
 use Rattle.giop_head.specs.Laws.{IsLong, IsFate, IsRequest}
-use Rattle.giop_head.specs.Printed.{with_size}
 use Rattle.giop_head.specs.Reply as giop_reply
 use Rattle.giop_head.specs.Told.{ToldRequest, BeginsRequest, shared_head}
 use Rattle.back_cdr.specs.Leads as cdr_leads
@@ -42,7 +41,7 @@ use Rattle.back_mach.specs.Leads as mach_leads
 use Rattle.back_mach.specs.Routines.{routine_in, routine_of}
 use Rattle.back_mach.specs.Seeking as mach_seeking
 use Rattle.back_mach.specs.Told as mach_told
-pub use Rattle.op_codes.specs.Backs.{encoding, lead_over, lead, sized, BeginsOver, Begins}
+pub use Rattle.op_codes.specs.Backs.{encoding, lead_over, lead, reply_lead_over, reply_lead, sized, BeginsOver, Begins}
 use Rattle.flick_engine.specs.Fates.{Heard, fate_of, giop_fate}
 
 -- a back end that engines are made for
@@ -106,18 +105,6 @@ SaysOver back.Mach b op head c = IsWord (routine_of b op).id × HasPorts head
 -- the head of an operation's call, whose numbers fit, says this
 abbrev pub Says : Binding → ℕ → Head → Called → Type 0
 Says b op head c = SaysOver b.back b op head c
-
--- ---- the heads of replies that are sent
-
-abbrev pub reply_lead_over : Back → Binding → ℕ → ℕ → Head → List ℕ
-reply_lead_over back.Xdr b op k head = xdr_leads.answer_lead head.id
-reply_lead_over back.CdrBig b op k head = cdr_leads.reply_lead Big (target_of b op) k head.id
-reply_lead_over back.CdrLittle b op k head = cdr_leads.reply_lead Little (target_of b op) k head.id
-reply_lead_over back.Mach b op k head = mach_leads.answer_lead (routine_of b op) head
-
--- the head of a reply to an operation with an arm: 0 is the answer, k the k-th exception, which CDR alone tells
-abbrev pub reply_lead : Binding → ℕ → ℕ → Head → List ℕ
-reply_lead b op k head = reply_lead_over b.back b op k head
 
 -- ---- the heads of replies that are received
 

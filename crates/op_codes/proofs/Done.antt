@@ -1,20 +1,19 @@
 -- What a run of an operation's code has done, as it is promised of the operation.
-use Rattle.std.proofs.Common.{◌≡◌, ℕ, ◌+◌, ◌<◌, ◌≤◌, List, length, Option, None, Some, option_map, Result, Ok, Err, IfOk, OnOk, slice_get, sym, ap, subst, ◌∙◌, arith}
+use Rattle.std.proofs.Common.{◌≡◌, ℕ, ◌+◌, ◌<◌, ◌≤◌, List, length, Option, None, Some, option_map, Result, Ok, Err, OnOk, slice_get, sym, ap, subst, ◌∙◌, arith}
 use Rattle.kit_base.specs.Limits.{longest_message}
-use Rattle.mint.specs.Types.{Ty}
 use Rattle.mint.specs.Values.{Val}
 use Rattle.wire_def.specs.declared.head.Head.{Head}
 use Rattle.raw_buf.specs.declared.tally.Tally.{Tally}
-use Rattle.raw_buf.specs.View.{View}
-use Rattle.cast_stub.specs.declared.recv.RecvCode.{RecvCode}
-use Rattle.cast_stub.specs.Got.{got_by}
+use Rattle.cast_stub.specs.declared.send.SendCode.{SendCode}
 use Rattle.cast_stub.specs.Meaning.{cost}
 use Rattle.cast_stub.specs.Parts.{on_some}
 use Rattle.stub_machine.specs.Sending.{paid, IsLong}
-use Rattle.recv_machine.specs.declared.recv.Got.{Got}
-use Rattle.recv_machine.specs.Ran.{place_of, IsGot}
+use Rattle.pres.specs.Bindings.{Binding}
 use Rattle.op_codes.specs.declared.stub.Stub.{Stub}
-use Rattle.op_codes.specs.Stubs.{sent_cost, IsGivenBy}
+use Rattle.op_codes.specs.Backs.{reply_lead}
+use Rattle.op_codes.specs.Replies.{HasArm, arm_type}
+use Rattle.op_codes.specs.Sending.{Sends}
+use Rattle.op_codes.specs.Stubs.{IsStub, sent_cost, reply_code_at, reply_cost}
 use Rattle.op_codes.proofs.Following.{some_same}
 
 -- ---- sending
@@ -40,7 +39,35 @@ module _ {A E : Type 0} (r : Result A E) where
   sent_paid stubs op s h v t u found ran =
       subst (λ (x : Option Stub). OnOk r (option_map (paid t) (on_some x (λ (y : Stub). cost y.send h v)) ≡ Some u)) (sym found) ran
 
+  -- that of the arm's code
+  pub reply_paid : (stubs : List Stub) (op k : ℕ) (s : SendCode) (h : Head) (v : Val) (t u : Tally) → reply_code_at stubs op k ≡ Some s
+      → OnOk r (option_map (paid t) (cost s h v) ≡ Some u) → OnOk r (option_map (paid t) (reply_cost stubs op k h v) ≡ Some u)
+  reply_paid stubs op k s h v t u found ran =
+      subst (λ (x : Option SendCode). OnOk r (option_map (paid t) (on_some x (λ (y : SendCode). cost y h v)) ≡ Some u)) (sym found) ran
+
 pub sent_long : (x : Option (List ℕ)) (m : List ℕ) → x ≡ Some m → IsLong 0 x → longest_message < length m
 sent_long x m means long =
     let more : 4194304 < 0 + length m = subst (IsLong 0) means long in
     omega (arith, more)
+
+-- ---- the code of an arm
+
+-- it stands at the arm's place of the operation's codes
+pub kept_at : (stubs : List Stub) (op k : ℕ) (s : Stub) (code : SendCode) → slice_get stubs op ≡ Some s
+    → slice_get s.replies k ≡ Some code → reply_code_at stubs op k ≡ Some code
+kept_at stubs op k s code found there = ap (λ (x : Option Stub). on_some x (λ (y : Stub). slice_get y.replies k)) found ∙ there
+
+-- and sends the replies with the arm
+pub kept_is : (b : Binding) (op k : ℕ) (s : Stub) (code : SendCode) → IsStub b op s → HasArm b op k
+    → slice_get s.replies k ≡ Some code → Sends b.back (reply_lead b op k) (arm_type b op k) code
+kept_is b op k s code is has there =
+    let (kept, found, sends) = is.replies k has in
+    subst (λ (x : SendCode). Sends b.back (reply_lead b op k) (arm_type b op k) x) (some_same kept code (sym found ∙ there)) sends
+
+-- there is one
+pub none_kept : (b : Binding) (op k : ℕ) (s : Stub) → IsStub b op s → HasArm b op k → slice_get s.replies k ≡ None → ⊥
+none_kept b op k s is has none =
+    let (kept, found, sends) = is.replies k has in
+    never_none kept (slice_get s.replies k) found none where
+      never_none : (x : SendCode) (y : Option SendCode) → y ≡ Some x → y ≡ None → ⊥
+      never_none x y e f = let same = sym e ∙ f in absurd cc

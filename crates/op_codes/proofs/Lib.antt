@@ -2,13 +2,21 @@
 
 -- Steps after the octets of a head, and the length of chunks, by induction on the steps and on the code
 mod Following
--- * The heads of requests, and their code
+-- * The heads of requests and of replies, and their code
 mod Leading
--- * The codes of operations, one after the other, and what a run of one has done
+-- Elements of lists, by their places
+pub mod Places
+-- What comes back from an operation of a binding is what its unit has: a choice of the answer and the exceptions, by induction on the interfaces
+pub mod ReplyTypes
+-- * The arm of a number stands at the place of the number among the arms of a reply's node, by induction on the arms
+mod Numbering
+-- * Over CDR the arms of a reply above 0 are as many as the ids of its operation's exceptions, by induction on the interfaces
+pub mod ArmIds
+-- * The codes of operations and of their arms, one after the other
 mod Chained
 -- * What a run of an operation's code has done, as it is promised of the operation
 mod Done
--- * What a request costs by the code that is kept
+-- * What requests and replies cost by the codes that are kept
 mod Costing
 -- * A value that was received is what the message has, and nothing else
 mod Found

@@ -1,4 +1,4 @@
--- What differs from one back end to another: how bodies are laid out, the heads of requests, and the size that a head states.
+-- What differs from one back end to another: how bodies are laid out, the heads of requests and of replies, and the size that a head states.
 use Rattle.std.specs.Prelude.{◌≡◌, ◌⊎◌, ℕ, List, Option, None, Some}
 use Rattle.wire_def.specs.declared.encoding.Back.{Back}
 use Rattle.wire_def.specs.declared.encoding.Back.TheVariants as back
@@ -46,6 +46,16 @@ lead_over back.Mach b op head = mach_leads.lead (routine_of b op) head
 -- the head of an operation's request
 abbrev pub lead : Binding → ℕ → Head → List ℕ
 lead b op head = lead_over b.back b op head
+
+abbrev pub reply_lead_over : Back → Binding → ℕ → ℕ → Head → List ℕ
+reply_lead_over back.Xdr b op k head = xdr_leads.answer_lead head.id
+reply_lead_over back.CdrBig b op k head = cdr_leads.reply_lead Big (target_of b op) k head.id
+reply_lead_over back.CdrLittle b op k head = cdr_leads.reply_lead Little (target_of b op) k head.id
+reply_lead_over back.Mach b op k head = mach_leads.answer_lead (routine_of b op) head
+
+-- the head of a reply to an operation with an arm: 0 is the answer, k the k-th exception, which CDR alone tells
+abbrev pub reply_lead : Binding → ℕ → ℕ → Head → List ℕ
+reply_lead b op k head = reply_lead_over b.back b op k head
 
 -- a message that is whole, in which its length is stated where its head states it
 abbrev pub sized : Back → List ℕ → List ℕ

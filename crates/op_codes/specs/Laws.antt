@@ -1,4 +1,4 @@
--- Laws of bodies that are received, and of what requests cost.
+-- Laws of bodies that are received, and of what requests and replies cost.
 use Rattle.std.specs.Prelude.{◌≡◌, ◌<◌, ◌≤◌, ℕ, List, length, Some}
 use Rattle.mint.specs.Typed.{IsWellTyped}
 use Rattle.mint.specs.Values.{Val}
@@ -10,9 +10,10 @@ use Rattle.call_kit.specs.declared.called.Called.{Called}
 use Rattle.pres.specs.Bindings.{Binding}
 use Rattle.hoist.specs.Regions.{regions}
 use Rattle.hoist.specs.SpanSizes.{sizes}
-use Rattle.op_codes.specs.Backs.{Begins, Takes, encoding, lead}
+use Rattle.op_codes.specs.Backs.{Begins, Takes, encoding, lead, reply_lead}
 use Rattle.op_codes.specs.Messages.{request_type}
-use Rattle.op_codes.specs.Stubs.{Coded, IsCoded, sent_cost}
+use Rattle.op_codes.specs.Replies.{HasArm, arm_type}
+use Rattle.op_codes.specs.Stubs.{Coded, IsCoded, sent_cost, reply_cost}
 
 -- the body of a call that is received is laid out in a way that its back end takes, and begins where a body may begin
 abbrev pub BodiesAreTaken : Type 0
@@ -24,3 +25,10 @@ RequestsHaveCosts = (x : Coded) (op : ℕ) (h : Head) (v : Val) → IsCoded x �
     → IsWellTyped (request_type x.binding op) v
     → (c : Cost) × (sent_cost x.stubs op h v ≡ Some c)
     × (c.checks ≤ regions (sizes (encoding x.binding.back)) (length (lead x.binding op h)) (request_type x.binding op) v)
+
+-- a reply has a cost, by the code that is kept for its arm: it checks the buffer at most once for each region
+abbrev pub RepliesHaveCosts : Type 0
+RepliesHaveCosts = (x : Coded) (op k : ℕ) (h : Head) (v : Val) → IsCoded x → op < length x.binding.ops → HasArm x.binding op k → IsHead h
+    → IsWellTyped (arm_type x.binding op k) v
+    → (c : Cost) × (reply_cost x.stubs op k h v ≡ Some c)
+    × (c.checks ≤ regions (sizes (encoding x.binding.back)) (length (reply_lead x.binding op k h)) (arm_type x.binding op k) v)

@@ -2,6 +2,8 @@ pub mod Backs
 pub mod Laws
 pub mod Lowered
 pub mod Messages
+pub mod Operations
 pub mod Receiving
+pub mod Replies
 pub mod Sending
 pub mod Stubs

@@ -1,9 +1,10 @@
 -- The stub code of each operation of a binding.
-use Rattle.std.specs.Prelude.{◌≡◌, ℕ, List, length, Some, Option, slice_get}
+use Rattle.std.specs.Prelude.{◌≡◌, ◌<◌, ℕ, List, length, Some, Option, slice_get}
 use Rattle.mint.specs.Types.{Ty}
 use Rattle.mint.specs.Values.{Val}
 use Rattle.wire_def.specs.declared.head.Head.{Head}
 use Rattle.raw_buf.specs.View.{View}
+use Rattle.cast_stub.specs.declared.send.SendCode.{SendCode}
 use Rattle.cast_stub.specs.Got as stub
 use Rattle.cast_stub.specs.Got.{got_by}
 use Rattle.cast_stub.specs.Meaning.{Cost, cost}
@@ -12,16 +13,25 @@ use Rattle.recv_machine.specs.declared.recv.Got.{Got}
 use Rattle.recv_machine.specs.Ran.{place_of, IsGot}
 use Rattle.pres.specs.Bindings.{Binding}
 use Rattle.op_codes.specs.declared.stub.Stub.{Stub}
-use Rattle.op_codes.specs.Backs.{encoding, other_encoding, lead}
+use Rattle.op_codes.specs.Backs.{encoding, other_encoding, lead, reply_lead}
 use Rattle.op_codes.specs.Messages.{request_type}
 use Rattle.op_codes.specs.Receiving.{Receives, ReceivesOther}
+use Rattle.op_codes.specs.Replies.{HasArm, arm_type}
 use Rattle.op_codes.specs.Sending.{Sends}
 
--- the code of an operation: it sends its requests, and receives what goes into it, in either order where there are two
+-- the place of each arm of an operation's reply has code that sends the messages of the arm
+abbrev pub HasReplies : Binding → ℕ → List SendCode → Type 0
+HasReplies b op codes = (k : ℕ) → HasArm b op k
+    → (code : SendCode) × (slice_get codes k ≡ Some code) × Sends b.back (reply_lead b op k) (arm_type b op k) code
+
+-- the code of an operation: it sends its requests, receives what goes into it, in either order where there are two, and
+-- sends its replies, one code for each arm
 pub record IsStub (b : Binding) (op : ℕ) (s : Stub) : Type 0 where
   pub send : Sends b.back (lead b op) (request_type b op) s.send
   pub recv : Receives (encoding b.back) (request_type b op) s.recv
   pub other : ReceivesOther (other_encoding b.back) (request_type b op) s.other
+  pub replies : HasReplies b op s.replies
+  pub arms : (k : ℕ) → k < length s.replies → HasArm b op k
 
 -- each of a list is the code of the operation of its place
 abbrev pub AreStubs : Binding → List Stub → Type 0
@@ -40,6 +50,14 @@ pub record IsCoded (c : Coded) : Type 0 where
 -- what the code of an operation costs that sends
 abbrev pub sent_cost : List Stub → ℕ → Head → Val → Option Cost
 sent_cost stubs op h v = on_some (slice_get stubs op) (λ s. cost s.send h v)
+
+-- the code that is kept for an arm of an operation's reply
+abbrev pub reply_code_at : List Stub → ℕ → ℕ → Option SendCode
+reply_code_at stubs op k = on_some (slice_get stubs op) (λ s. slice_get s.replies k)
+
+-- what that code costs
+abbrev pub reply_cost : List Stub → ℕ → ℕ → Head → Val → Option Cost
+reply_cost stubs op k h v = on_some (reply_code_at stubs op k) (λ c. cost c h v)
 
 -- what the code of an operation gives, that receives in the order of the messages that are sent
 abbrev pub IsGivenBy : List Stub → ℕ → Ty → Got → View → View → Type 0

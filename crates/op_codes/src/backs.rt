@@ -3,8 +3,10 @@ ghost use Rattle.std.specs.Prelude.{◌≡◌, ◌<◌, length, IfOk, OnOk};
 ghost use Rattle.cast_stub.specs.Append.{append};
 ghost use Rattle.cast_stub.specs.Block.{code_seen};
 ghost use Rattle.stub_lower.specs.Leads.{AreChunks, Leads};
-ghost use Rattle.op_codes.specs.Backs.{encoding, other_encoding, lead, tail};
+ghost use Rattle.op_codes.specs.Backs.{encoding, other_encoding, lead, reply_lead, tail};
+ghost use Rattle.op_codes.specs.Replies.{HasArm};
 
+use crate::arms::arms_have_ids;
 use cast_stub::copying::add;
 use cast_stub::{SendCode, SendOps};
 use kit_base::NoMemory;
@@ -45,6 +47,26 @@ pub(crate) fn lead_of(alloc: Global, bound: &Bound, op: u32) -> Result<SendCode,
         Back::Xdr => back_xdr::lead_call(alloc, bound, op),
         Back::CdrBig | Back::CdrLittle => back_cdr::lead_call(alloc, bound, op),
         Back::Mach => back_mach::lead_call(alloc, bound, op),
+    }
+}
+
+/// The code of the head of a reply to an operation with an arm.
+pub(crate) fn reply_lead_of(
+    alloc: Global,
+    bound: &Bound,
+    op: u32,
+    arm: u32,
+) -> Result<SendCode, NoMemory>
+    requires op { op < length bound.now.ops }
+    requires arm { HasArm bound.now op arm }
+    ensures means { IfOk result (λ code. Leads (reply_lead bound.now op arm) code) }
+    ensures chunks { IfOk result AreChunks }
+{
+    arms_have_ids(bound, op, arm);
+    match bound.back() {
+        Back::Xdr => back_xdr::lead_reply(alloc, bound, op, arm),
+        Back::CdrBig | Back::CdrLittle => back_cdr::lead_reply(alloc, bound, op, arm),
+        Back::Mach => back_mach::lead_reply(alloc, bound, op, arm),
     }
 }
 

@@ -1,10 +1,11 @@
 // A binding with the code of each of its operations.
 ghost use Rattle.std.specs.Prelude.{◌≡◌, ◌<◌, length, IfOk, Some, option_map, slice_get};
-ghost use Rattle.op_codes.specs.Backs.{encoding, lead, Takes};
+ghost use Rattle.op_codes.specs.Backs.{encoding, lead, reply_lead, Takes};
 ghost use Rattle.op_codes.specs.Messages.{request_type};
 ghost use Rattle.op_codes.specs.Receiving.{Receives};
+ghost use Rattle.op_codes.specs.Replies.{HasArm, arm_type};
 ghost use Rattle.op_codes.specs.Sending.{Sends};
-ghost use Rattle.op_codes.specs.Stubs.{IsCoded, IsStub};
+ghost use Rattle.op_codes.specs.Stubs.{IsCoded, IsStub, reply_code_at};
 
 use crate::backs::encoding_of;
 use crate::compile::stubs_of;
@@ -16,8 +17,8 @@ use std::alloc::Global;
 use std::marker::Model;
 use wire_def::Encoding;
 
-/// The operations of a unit over a back end, each with the code that sends its requests and the code that receives
-/// them.
+/// The operations of a unit over a back end, each with the code that sends its requests, the code that receives them,
+/// and the codes that send its replies.
 #[derive(Drop)]
 pub struct Codes {
     bound: Bound,
@@ -84,6 +85,20 @@ impl Codes {
             (request_type self.now.binding op) result.now }
     {
         &self.stub(op).send
+    }
+
+    /// The code that sends the replies to an operation with an arm.
+    pub fn reply_code(&self, op: u32, arm: u32) -> &SendCode
+        requires op { op < length self.now.binding.ops }
+        requires arm { HasArm self.now.binding op arm }
+        ensures found { reply_code_at self.now.stubs op arm ≡ Some result.now }
+        ensures sends { Sends self.now.binding.back (reply_lead self.now.binding op arm)
+            (arm_type self.now.binding op arm) result.now }
+    {
+        match self.stub(op).replies.get(arm as usize) {
+            Some(code) => code,
+            None => unreachable!(),
+        }
     }
 
     /// The code that receives what goes into an operation, laid out as it is sent.

@@ -8,6 +8,7 @@ ghost use Rattle.op_codes.specs.Stubs.{AreStubs, IsStub};
 use crate::backs::{encoding_of, lead_of, other_of};
 use crate::lowered::{Lowered, lower_all};
 use crate::receiving::{receiving, receiving_other};
+use crate::replying::replies_of;
 use crate::sending::sending;
 use crate::stub::{Stub, Stubs};
 use kit_base::NoMemory;
@@ -40,7 +41,13 @@ fn stub_of(alloc: Global, bound: &Bound, low: &Lowered, op: u32) -> Result<Stub,
     let send = sending(alloc, back, lead, low, mint, id)?;
     let recv = receiving(alloc, encoding_of(back), &low.recvs, mint, id)?;
     let other = receiving_other(alloc, other_of(back), &low.others, mint, id)?;
-    Ok(Stub { send, recv, other })
+    let replies = replies_of(alloc, bound, low, op)?;
+    Ok(Stub {
+        send,
+        recv,
+        other,
+        replies,
+    })
 }
 
 /// The code of each operation, in their order. The nodes are lowered once.

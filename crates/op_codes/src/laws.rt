@@ -1,5 +1,5 @@
 // The laws of bodies and of costs, each the contract of a function that does nothing.
-ghost use Rattle.op_codes.specs.Laws.{BodiesAreTaken, RequestsHaveCosts};
+ghost use Rattle.op_codes.specs.Laws.{BodiesAreTaken, RepliesHaveCosts, RequestsHaveCosts};
 
 /// The body of a call that is received may be received by the code of an operation, from the head's end on.
 pub fn bodies_are_taken()
@@ -10,4 +10,10 @@ pub fn bodies_are_taken()
 /// region of its message.
 pub fn requests_have_costs()
     ensures { RequestsHaveCosts }
+{}
+
+/// A reply has a cost, by the code that is kept for its arm, which checks the buffer at most once for each region of its
+/// message.
+pub fn replies_have_costs()
+    ensures { RepliesHaveCosts }
 {}

@@ -1,4 +1,4 @@
-// Requests that are sent by the code of their operation.
+// Requests that are sent by the code of their operation, and replies by the code of their arm.
 ghost use Rattle.std.specs.Prelude.{◌≡◌, ◌<◌, ◌≤◌, [], length, option_map, Some, Err, OnErr, OnOk};
 ghost use Rattle.kit_base.specs.Limits.{longest_message};
 ghost use Rattle.mint.specs.Typed.{IsWellTyped};
@@ -8,7 +8,8 @@ ghost use Rattle.cast_stub.specs.Meaning.{meaning, cost, AreCovered};
 ghost use Rattle.cast_stub.specs.Subs.{sent_steps};
 ghost use Rattle.stub_machine.specs.Sending.{paid, IsLong};
 ghost use Rattle.op_codes.specs.Messages.{request_type, message};
-ghost use Rattle.op_codes.specs.Stubs.{sent_cost};
+ghost use Rattle.op_codes.specs.Replies.{HasArm, arm_type, arm_message};
+ghost use Rattle.op_codes.specs.Stubs.{sent_cost, reply_cost};
 
 use crate::codes::Codes;
 use crate::heads::numbers_are_words;
@@ -49,6 +50,42 @@ impl Codes {
     {
         numbers_are_words(head);
         run_from_front(&self.stub(op).send, head, value, buf)
+    }
+
+    /// Makes the message of a reply with an arm's value in a buffer by the code of the arm, whatever the buffer held;
+    /// where there is none, the buffer is empty. What the buffer spent is kept.
+    pub fn reply(
+        &self,
+        op: u32,
+        arm: u32,
+        head: &Head,
+        value: &Value,
+        buf: &mut SendBuf,
+    ) -> Result<(), SendErr>
+        // What is sent.
+        requires op { op < length self.now.binding.ops }
+        requires arm { HasArm self.now.binding op arm }
+        requires typed { IsWellTyped (arm_type self.now.binding op arm) (seen value.now) }
+        // What `Ok` holds.
+        ensures ok { OnOk result
+            (buf.new.done ≡ arm_message self.now.binding op arm head.now (seen value.now)) }
+        ensures short { OnOk result
+            (length (arm_message self.now.binding op arm head.now (seen value.now)) ≤ longest_message) }
+        ensures tally { OnOk result
+            (option_map (paid none) (reply_cost self.now.stubs op arm head.now (seen value.now))
+            ≡ Some buf.new.tally) }
+        ensures spent { OnOk result
+            (option_map (paid buf.old.spent) (reply_cost self.now.stubs op arm head.now (seen value.now))
+            ≡ Some buf.new.spent) }
+        // When each error comes.
+        ensures long { (result ≡ Err SendErr.Long)
+            → longest_message < length (arm_message self.now.binding op arm head.now (seen value.now)) }
+        // What stays the same.
+        ensures err { OnErr result (buf.new.done ≡ []) }
+        ensures stands { NoneFell buf.old.spent buf.new.spent }
+    {
+        numbers_are_words(head);
+        run_from_front(self.reply_code(op, arm), head, value, buf)
     }
 }
 

@@ -2,7 +2,7 @@
 use cast_stub::{RecvCode, SendCode};
 use kit_base::Listed;
 
-/// The code of an operation's requests.
+/// The code of an operation's requests and replies.
 #[derive(Drop)]
 pub struct Stub {
     /// The code that sends a request.
@@ -11,6 +11,8 @@ pub struct Stub {
     pub recv: RecvCode,
     /// The code that receives it in the other order, which CDR alone has.
     pub other: Option<RecvCode>,
+    /// The codes that send its replies: that of arm 0, the answer, and that of arm k, the k-th exception, at place k.
+    pub replies: Listed<SendCode>,
 }
 
 /// The codes of operations, in their order.

@@ -9,4 +9,4 @@ returns c =
     let other = rw (c.other_of.ensures, c.mint-mint.ensures, c.back-back.ensures) at c.in_ok-other.ensures in
     stub_made c.args.bound.now c.args.op (type_at c.args.bound.now.nodes c.request_of-id.result) c.in_ok-lead.lead _
     c.request_of-id.ensures.type_
-    c.in_ok-lead.ensures.means sends receives other
+    c.in_ok-lead.ensures.means sends receives other c.in_ok-replies.ensures.each c.in_ok-replies.ensures.arms

@@ -5,7 +5,7 @@ use Rattle.pres.specs.Offers.{type_faces}
 use Rattle.flick_engine.specs.Replies.{IsChoice}
 use Rattle.flick_engine.proofs.Arming.{reply_choice}
 use Rattle.flick_engine.proofs.ArmsTold.{told_arm}
-use Rattle.flick_engine.proofs.ReplyTypes.{are_the_replies}
+use Rattle.op_codes.proofs.ReplyTypes.{are_the_replies}
 use Rattle.flick_engine.proofs.engine.Engine.replies_tell_arms.Goals as goal
 
 pub returns-clause-choice : goal.returns-clause-choice

@@ -1,5 +1,5 @@
--- Elements of lists that are mapped.
-use Rattle.std.proofs.Common.{◌≡◌, ℕ, List, map, Option, Some, None, option_map, refl, sym, ◌∙◌}
+-- Elements of lists, by their places.
+use Rattle.std.proofs.Common.{◌≡◌, ◌<◌, ℕ, zero, suc, List, [], ◌∷◌, length, arith, map, Option, Some, None, option_map, refl, sym, ◌∙◌}
 use Rattle.std.specs.Prelude.{slice_get}
 use Rattle.std.proofs.lemmas.Option.{slice_get-map}
 
@@ -11,3 +11,9 @@ some_of f (Some a) y e = (a, refl, cc)
 pub placed : {A B : Type 0} (f : A → B) (xs : List A) (n : ℕ) (y : B) → slice_get (map f xs) n ≡ Some y → (a : A)
     × (slice_get xs n ≡ Some a) × (f a ≡ y)
 placed f xs n y e = some_of f (slice_get xs n) y (sym (slice_get-map f xs n) ∙ e)
+
+-- a place of a list has an item
+pub item_at : {A : Type 0} (xs : List A) (n : ℕ) → n < length xs → (x : A) × (slice_get xs n ≡ Some x)
+item_at [] n h = absurd (omega (arith, h))
+item_at (x ∷ xs) zero h = (x, refl)
+item_at (x ∷ xs) (suc n) h = item_at xs n (omega (arith, h))

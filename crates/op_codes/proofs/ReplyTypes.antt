@@ -1,4 +1,5 @@
--- What comes back from an operation of a binding is what its unit has: a choice of the answer and the exceptions.
+-- What comes back from an operation of a binding is what its unit has: a choice of the answer and the exceptions, by
+-- induction on the interfaces.
 use Rattle.std.proofs.Common.{◌≡◌, ◌<◌, ℕ, zero, suc, List, [], ◌∷◌, ◌++◌, map, length, Some, refl, sym, ap, ◌∙◌, arith}
 use Rattle.std.specs.Prelude.{slice_get, slice_index_or}
 use Rattle.std.proofs.lemmas.List.{map-append}
@@ -6,12 +7,13 @@ use Rattle.std.proofs.lemmas.Simd.{map-map}
 use Rattle.wire_def.specs.declared.encoding.Back.{Back}
 use Rattle.aoi.specs.Plain.{PlainInterface, PlainOperation}
 use Rattle.pres.specs.declared.ops.Op.{Op}
+use Rattle.pres.specs.Bindings.{Binding, IsBinding}
 use Rattle.pres.specs.Faces.{Face, at, faces, type_of}
 use Rattle.pres.specs.Offers.{Offer, operations, offer, offers_from, offer_at, reply_of, type_faces}
 use Rattle.pres.proofs.Facing.{type_at-face}
-use Rattle.flick_engine.specs.Laws.{AreTheReplies}
-use Rattle.flick_engine.specs.Operations.{operations_in}
-use Rattle.flick_engine.proofs.Places.{placed}
+use Rattle.op_codes.specs.Operations.{operations_in, IsOperation}
+use Rattle.op_codes.specs.Replies.{reply_type}
+use Rattle.op_codes.proofs.Places.{placed}
 
 -- what comes back from an operation with its interface
 abbrev reply_at : List Face → PlainInterface × PlainOperation → Face
@@ -42,7 +44,10 @@ face_there gs [] n h = absurd (omega (arith, h))
 face_there gs (o ∷ os) zero h = refl
 face_there gs (o ∷ os) (suc n) h = face_there gs os n (omega (arith, h))
 
-pub are_the_replies : AreTheReplies
+-- each operation is one of the unit, and what comes back is what that one has
+pub are_the_replies : (b : Binding) (op : ℕ) → IsBinding b → op < length b.ops
+    → (i : PlainInterface) × (p : PlainOperation) × IsOperation b op i p
+    × (reply_type b op ≡ type_of (reply_of (type_faces b.unit) p))
 are_the_replies b op stands h =
     let all = ap (map reply_in) stands.offered ∙ replies (type_faces b.unit) b.back 0 b.unit.interfaces in
     let there = ap (λ (l : List Face). slice_get l op) (sym all) ∙ face_there (faces b.nodes b.shapes) b.ops op h in
