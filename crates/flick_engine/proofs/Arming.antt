@@ -4,13 +4,9 @@ use Rattle.std.specs.Prelude.{is_some, IsTrue, unwrap_or, MatchBool}
 use Rattle.std.proofs.lemmas.Bool.{ltb-true, lt-ltb}
 use Rattle.std.proofs.lemmas.Bool.Decides.{Decides-int_eq}
 use Rattle.mint.specs.declared.kind.Kind.TheVariants as kind
-use Rattle.mint.specs.Arms.{arm_found}
 use Rattle.mint.specs.Typed.{IsOf, IsOfArm, IsWellTyped}
-use Rattle.mint.specs.Types.{Ty, void_type, choice_type, Arms, no_other, others, arm_type, number, arms_at}
-use Rattle.mint.specs.Types as types
+use Rattle.mint.specs.Types.{Ty, void_type, choice_type, Arms, no_other, others, arm_type, number}
 use Rattle.mint.specs.Values.{Val, arm, arm_in, weight}
-use Rattle.mint.specs.declared.node.Node.TheVariants as node
-use Rattle.mint.specs.declared.node.Tag.{Tag}
 use Rattle.mint.specs.Kinds.{in_range}
 use Rattle.cast_stub.specs.Draft.{type_of_arm}
 use Rattle.aoi.specs.Plain.{PlainRaise, PlainOperation}
@@ -19,35 +15,6 @@ use Rattle.pres.specs.Offers.{raised, reply_of}
 use Rattle.flick_engine.specs.Replies.{IsChoice, arm_type_in}
 
 -- ---- the type of an arm
-
--- the type of the arm that is found among the arms of a node
-module _ (us : List Ty) (n : ℤ) where
-  found_at : (b : Bool) (j i : ℕ) (rest : Option ℕ) (x : Option Ty) → cond b (Some j) rest ≡ Some i
-      → (rest ≡ Some i → x ≡ Some (types.at us i)) → cond b (Some (types.at us j)) x ≡ Some (types.at us i)
-  found_at true j i rest x is more =
-      let same : j ≡ i = cc in
-      ap (λ (k : ℕ). Some (types.at us k)) same
-  found_at false j i rest x is more = more is
-
-  pub found_type : (arms : List (ℤ × ℕ)) (o : Option ℕ) (i : ℕ) → arm_found arms o n ≡ Some i → type_of_arm (arms_at us arms o) n
-      ≡ Some (types.at us i)
-  found_type [] None i is = absurd cc
-  found_type [] (Some j) i is =
-      let same : j ≡ i = cc in
-      ap (λ (k : ℕ). Some (types.at us k)) same
-  found_type (a ∷ arms) o i is = found_at (int_eq n a.0) a.1 i (arm_found arms o n) (type_of_arm (arms_at us arms o) n) is
-      (λ f. found_type arms o i f)
-
-  none_at : (b : Bool) (j : ℕ) (rest : Option ℕ) (x : Option Ty) → cond b (Some j) rest ≡ None → (rest ≡ None → x ≡ None)
-      → cond b (Some (types.at us j)) x ≡ None
-  none_at true j rest x is more = absurd cc
-  none_at false j rest x is more = more is
-
-  pub none_type : (arms : List (ℤ × ℕ)) (o : Option ℕ) → arm_found arms o n ≡ None → type_of_arm (arms_at us arms o) n ≡ None
-  none_type [] None is = refl
-  none_type [] (Some j) is = absurd cc
-  none_type (a ∷ arms) o is = none_at (int_eq n a.0) a.1 (arm_found arms o n) (type_of_arm (arms_at us arms o) n) is
-      (λ f. none_type arms o f)
 
 -- a value of an arm is one of its type, and the other way round
 module _ (n : ℤ) (v : Val) where
@@ -188,11 +155,13 @@ no_word t v n w choice typed e far =
     let near : in_range kind.U32 n ≡ true = ap (in_range kind.U32) (arm_value t v n w e a).0 ∙ lt-ltb a.number 4294967296 a.fits in
     absurd cc
 
-pub record IsPut (t : Ty) (k : ℕ) (w : Val) : Type 0 where
+-- the arm of a reply's value: the reply has it, and the value within is of its type
+pub record IsPut (t : Ty) (k : ℕ) (w v : Val) : Type 0 where
   pub there : IsTrue (is_some (arm_type_in t k))
   pub typed : IsWellTyped (unwrap_or (arm_type_in t k) void_type) w
+  pub is : v ≡ arm (pos k) w
 
-is_put : (t : Ty) (v : Val) (a : IsArmOf t v) (k : ℕ) (w : Val) → a.number ≡ k → w ≡ a.value → IsPut t k w
+is_put : (t : Ty) (v : Val) (a : IsArmOf t v) (k : ℕ) (w : Val) → a.number ≡ k → w ≡ a.value → IsPut t k w v
 is_put t v a k w same is =
     let there : arm_type_in t k ≡ Some a.type = ap (arm_type_in t) (sym same) ∙ a.there in
     let some = type_some (arm_type_in t k) a.type there in
@@ -200,28 +169,13 @@ is_put t v a k w same is =
       there = some.1;
       typed =
           subst (λ (u : Ty). IsWellTyped u w) (sym some.0) (subst (λ (x : Val). IsWellTyped a.type x) (sym is) a.typed);
+      is = a.is ∙ ap (λ (n : ℕ). arm (pos n) a.value) same ∙ ap (arm (pos k)) (sym is);
     }
 
-pub put_arm : (t : Ty) (v : Val) (n : ℤ) (k : ℕ) (w : Val) → IsChoice t → IsWellTyped t v → Some (n, w) ≡ arm_in v → n ≡ pos k → IsPut t k w
+pub put_arm : (t : Ty) (v : Val) (n : ℤ) (k : ℕ) (w : Val) → IsChoice t → IsWellTyped t v → Some (n, w) ≡ arm_in v → n ≡ pos k
+    → IsPut t k w v
 put_arm t v n k w choice typed e is =
     let a = reply_arm t v choice typed in
     let (same, inner) = arm_value t v n w e a in
     let numbers : pos a.number ≡ pos k = sym same ∙ is in
     is_put t v a k w (unpos a.number k numbers) inner
-
--- ---- the node of an arm
-
-module _ (us : List Ty) (k : ℕ) (t : Ty) where
-  pub arm_node : (tag : Tag) (arms : List (ℤ × ℕ)) (o : Option ℕ) (i : ℕ) → t ≡ types.level us (node.Choice tag arms o)
-      → arm_found arms o (pos k) ≡ Some i
-      → types.at us i ≡ unwrap_or (arm_type_in t k) void_type
-  arm_node tag arms o i is found =
-      sym (type_some (arm_type_in t k) (types.at us i) (ap (λ (s : Ty). arm_type_in s k) is ∙ found_type us (pos k) arms o i found)).0
-
-  pub no_node : (tag : Tag) (arms : List (ℤ × ℕ)) (o : Option ℕ) → t ≡ types.level us (node.Choice tag arms o) → arm_found arms o (pos k)
-      ≡ None
-      → IsTrue (is_some (arm_type_in t k)) → ⊥
-  no_node tag arms o is found there =
-      let none : arm_type_in t k ≡ None = ap (λ (s : Ty). arm_type_in s k) is ∙ none_type us (pos k) arms o found in
-      let not : is_some (arm_type_in t k) ≡ false = ap is_some none in
-      absurd cc

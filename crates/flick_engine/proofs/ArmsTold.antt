@@ -1,6 +1,6 @@
 -- An arm that the head of a reply tells is one of the operation's reply.
-use Rattle.std.proofs.Common.{◌≡◌, ◌+◌, ◌<◌, ◌≤◌, ℕ, Bool, true, false, List, [], ◌∷◌, length, Option, Some, None, refl, sym, ap, ◌∙◌, subst, arith}
-use Rattle.std.specs.Prelude.{IsTrue, is_some, if◌then◌else◌, slice_get}
+use Rattle.std.proofs.Common.{◌≡◌, ◌<◌, ◌≤◌, ℕ, List, [], length, Option, Some, None, refl, sym, ap, ◌∙◌, subst, arith}
+use Rattle.std.specs.Prelude.{IsTrue, is_some, slice_get}
 use Rattle.std.specs.List.{position_from}
 use Rattle.std.specs.Str.{bytes_eq}
 use Rattle.wire_def.specs.declared.encoding.Back.{Back}
@@ -20,6 +20,7 @@ use Rattle.flick_engine.specs.Fates.{Heard, raised_at, fate_of, giop_fate}
 use Rattle.flick_engine.specs.Operations.{operations_in}
 use Rattle.flick_engine.specs.Replies.{arm_type_in, HasArm}
 use Rattle.flick_engine.proofs.Arming.{arm_there}
+use Rattle.flick_engine.proofs.Picking.{below}
 use Rattle.op_codes.proofs.ReplyTypes.{are_the_replies}
 
 -- ---- what a status tells
@@ -37,19 +38,6 @@ arm_zero (status.AuthError why) k e = absurd cc
 arm_zero (status.User id) k e = absurd cc
 arm_zero (status.System id minor completion) k e = absurd cc
 arm_zero (status.RetCode code) k e = absurd cc
-
-module _ {A : Type 0} (p : A → Bool) where
-  below_step : (t : Bool) (n k : ℕ) (x : A) (xs : List A) → (position_from p (n + 1) xs ≡ Some k → k < (n + 1) + length xs)
-      → (if t then Some n else position_from p (n + 1) xs) ≡ Some k → k < n + length (x ∷ xs)
-  below_step true n k x xs later e =
-      let same : n ≡ k = cc in
-      omega (arith, same)
-  below_step false n k x xs later e = let h = later e in omega (arith, h)
-
-  -- a place that is found lies within the list
-  below : (n k : ℕ) (xs : List A) → position_from p n xs ≡ Some k → k < n + length xs
-  below n k [] e = absurd cc
-  below n k (x ∷ xs) e = below_step (p x) n k x xs (below (n + 1) k xs) e
 
 found_at : (id : List ℕ) (o : Option ℕ) (k : ℕ) → raised_at id o ≡ fates.Arm k → o ≡ Some k
 found_at id None k e = absurd cc

@@ -1,9 +1,9 @@
 -- The proofs, each after those that it uses; * marks those that the proofs of functions use.
 
--- What holds of the heads of each back end
+-- * What holds of the heads of each back end
 pub mod HeadsOfBacks
--- The length of a message is that of its head and of its value
-pub mod Sizes
+-- * A name that is picked among those of an engine is the one that is sought, by induction on the interfaces
+pub mod Picking
 -- * What a message is, is determined, since it is what reading from left to right gives
 pub mod Deciding
 -- * Octets are always something
@@ -22,8 +22,6 @@ pub mod RepliesOfBacks
 pub mod DecidingReplies
 -- * An arm that the head of a reply tells is one of the operation's reply
 pub mod ArmsTold
--- * The length of a reply's message is that of its head and of its value
-pub mod ReplySizes
 -- * Octets are always something as a reply to an operation
 pub mod ExistingReplies
 -- The heads of replies that are sent are received as what they say
@@ -36,5 +34,7 @@ pub mod AnsweringReplies
 pub mod Searching
 -- * How messages are answered, by what the parts of the code answer
 pub mod Replying
+-- * What a served message costs: a request that is answered costs what the code of its reply's arm does
+pub mod ServingCosts
 -- * How a message is answered is determined, and each is answered in some way
 pub mod Servings

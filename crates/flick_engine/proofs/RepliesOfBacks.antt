@@ -24,7 +24,7 @@ use Rattle.giop_head.specs.Told as giop_told
 use Rattle.giop_head.proofs.Lawful as giop_lawful
 use Rattle.giop_head.proofs.Sent.{begins}
 use Rattle.back_cdr.specs.Targets.{IsCdr, target_of}
-use Rattle.back_cdr.proofs.Growing.{reply_long, reply_length}
+use Rattle.back_cdr.proofs.Growing.{long_reply}
 use Rattle.back_mach.specs.Heads as mach
 use Rattle.back_mach.specs.Reply as mach_reply
 use Rattle.back_mach.specs.Told as mach_told
@@ -232,9 +232,8 @@ module _ (b : Binding) (op : ℕ) (o : List ℕ) where
 -- the length of a message lies within the head of a reply
 long_over : (k : Back) (b : Binding) (op arm : ℕ) (head : Head) → 12 ≤ length (reply_lead_over k b op arm head)
 long_over back.Xdr b op arm head = omega arith
-long_over back.CdrBig b op arm head = omega (arith, reply_long Big (target_of b op) arm, reply_length Big (target_of b op) arm head.id)
-long_over back.CdrLittle b op arm head =
-    omega (arith, reply_long Little (target_of b op) arm, reply_length Little (target_of b op) arm head.id)
+long_over back.CdrBig b op arm head = long_reply Big (target_of b op) arm head.id
+long_over back.CdrLittle b op arm head = long_reply Little (target_of b op) arm head.id
 long_over back.Mach b op arm head = omega arith
 
 pub long_reply_lead : (b : Binding) (op arm : ℕ) (head : Head) → 12 ≤ length (reply_lead_over b.back b op arm head)

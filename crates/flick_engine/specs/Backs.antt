@@ -4,7 +4,6 @@ use Rattle.std.specs.Str.{bytes_eq}
 use Rattle.wire_def.specs.declared.encoding.Back.{Back}
 use Rattle.wire_def.specs.declared.encoding.Back.TheVariants as back
 use Rattle.wire_def.specs.declared.encoding.Encoding.{Encoding}
-use Rattle.wire_def.specs.declared.encoding.Encoding.TheVariants.{CdrBig, CdrLittle}
 use Rattle.wire_def.specs.declared.fault.HeadErr.{HeadErr}
 use Rattle.wire_def.specs.declared.head.Head.{Head}
 use Rattle.wire_def.specs.declared.head.Order.{Order}

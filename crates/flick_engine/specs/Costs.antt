@@ -1,28 +1,40 @@
 -- What it costs to make and to read messages by stub code.
-use Rattle.std.specs.Prelude.{◌≡◌, ℕ, ◌-◌, List, length, max, Some, option_map, slice_get}
-use Rattle.mint.specs.Values.{Val}
+use Rattle.std.specs.Prelude.{◌≡◌, ℕ, pos, ◌-◌, List, length, max, Option, None, Some, option_map, slice_get}
+use Rattle.mint.specs.Values.{Val, arm}
 use Rattle.wire_def.specs.declared.head.Head.{Head}
 use Rattle.raw_buf.specs.declared.tally.Tally.{Tally}
 use Rattle.raw_buf.specs.Buf.{Buf, none}
 use Rattle.raw_buf.specs.View.{View}
 use Rattle.kit_base.specs.Causes.{raised}
 use Rattle.cast_stub.specs.Got.{got_by, given}
+use Rattle.cast_stub.specs.Meaning.{Cost}
 use Rattle.stub_machine.specs.Sending.{paid}
 use Rattle.recv_machine.specs.Ran.{place_of}
 use Rattle.call_kit.specs.declared.called.Called.{Called}
 use Rattle.skeleton.specs.Exchanges.{request_type}
 use Rattle.op_codes.specs.Backs.{Begins, encoding}
 use Rattle.op_codes.specs.declared.stub.Stub.{Stub}
-use Rattle.op_codes.specs.Stubs.{Coded, sent_cost}
+use Rattle.op_codes.specs.Stubs.{Coded, sent_cost, reply_cost}
 
--- counts are those that the cost of the operation's code raises others to
-abbrev pub IsRaised : List Stub → ℕ → Head → Val → Tally → Tally → Type 0
-IsRaised stubs op head v old new = option_map (paid old) (sent_cost stubs op head v) ≡ Some new
+-- counts are those that this cost raises others to
+abbrev pub IsRaised : Option Cost → Tally → Tally → Type 0
+IsRaised x old new = option_map (paid old) x ≡ Some new
 
 -- the buffer's counts are exactly those of a run of the operation's code over the request: of the run alone, and beside what
 -- the buffer spent before
 abbrev pub IsSentByCode : List Stub → ℕ → Head → Val → Tally → Buf → Type 0
-IsSentByCode stubs op head v spent new = IsRaised stubs op head v none new.tally × IsRaised stubs op head v spent new.spent
+IsSentByCode stubs op head v spent new =
+    IsRaised (sent_cost stubs op head v) none new.tally × IsRaised (sent_cost stubs op head v) spent new.spent
+
+-- what the code costs that sends an operation's reply: that of the arm that the value is of
+abbrev pub answer_cost : List Stub → ℕ → Head → Val → Option Cost
+answer_cost stubs op head (arm (pos k) w) = reply_cost stubs op k head w
+answer_cost stubs op head _ = None
+
+-- the same of a reply to an operation, by the code of its arm
+abbrev pub IsAnsweredByCode : List Stub → ℕ → Head → Val → Tally → Buf → Type 0
+IsAnsweredByCode stubs op head v spent new =
+    IsRaised (answer_cost stubs op head v) none new.tally × IsRaised (answer_cost stubs op head v) spent new.spent
 
 -- a view after the head of a message, whose octets took one test
 abbrev pub after_head : ℕ → View → View

@@ -5,16 +5,20 @@ use Rattle.mint.specs.Values.{Val}
 use Rattle.wire_def.specs.declared.fault.HeadErr.{HeadErr}
 use Rattle.wire_def.specs.declared.head.Head.{Head}
 use Rattle.wire_def.specs.declared.outcome.Refusal.{Refusal}
+use Rattle.raw_buf.specs.declared.tally.Tally.{Tally}
+use Rattle.raw_buf.specs.Buf.{Buf}
 use Rattle.call_kit.specs.declared.called.Called.{Called}
 use Rattle.call_kit.specs.declared.called.Naming.{Naming}
 use Rattle.call_kit.specs.declared.called.Naming.TheVariants.{Operation}
 use Rattle.pres.specs.declared.ops.Op.{Op}
 use Rattle.pres.specs.Bindings.{Binding}
+use Rattle.op_codes.specs.Stubs.{Coded}
 use Rattle.flick_engine.specs.declared.errors.MessageErr.{MessageErr}
 use Rattle.flick_engine.specs.declared.errors.MessageErr.TheVariants as err
 use Rattle.flick_engine.specs.declared.serve.Served.{Served}
 use Rattle.flick_engine.specs.declared.serve.Served.TheVariants as served
 use Rattle.flick_engine.specs.Backs.{Begins, Stops}
+use Rattle.flick_engine.specs.Costs.{IsAnsweredByCode}
 use Rattle.flick_engine.specs.Received.{Asked, IsShort, ReadCall}
 use Rattle.flick_engine.specs.Refusals.{wants_reply, reply_head, NoInterfaceOver, no_operation, bad_body, long_reply, RefusesOver, AnswersFault}
 use Rattle.flick_engine.specs.Replies.{reply_message}
@@ -80,3 +84,25 @@ Serves b work o x =
     ((longest_message < length o) × (x ≡ None))
     ⊎ (IsShort o × (e : HeadErr) × Stops b.back o e × AnswersFault b.back b o e x)
     ⊎ (IsShort o × (c : Called) × Begins b o c × ServesCall b work o c x)
+
+-- ---- what it costs a buffer
+
+-- where the message of a reply is not too long, it is the answer, and the buffer's counts are exactly those of a run of the
+-- code of its arm
+abbrev pub RepliesByCode : Coded → Head → ℕ → Val → Option (List ℕ) → Tally → Buf → Type 0
+RepliesByCode x head op w answer spent new = IsShort (reply_message x.binding op head w)
+    → (answer ≡ Some (reply_message x.binding op head w)) × IsAnsweredByCode x.stubs op head w spent new
+
+-- so is a request answered, by a reply that the work gives
+abbrev pub AnswersByCode : Coded → Work → Head → Asked → Option (List ℕ) → Tally → Buf → Type 0
+AnswersByCode x work head r answer spent new = (w : Val) × work r.op r.value w × RepliesByCode x head r.op w answer spent new
+
+-- a call, if its message is a request
+abbrev pub AnswersCallByCode : Coded → Work → List ℕ → Called → Option (List ℕ) → Tally → Buf → Type 0
+AnswersCallByCode x work o c answer spent new = (r : Asked) → ReadCall x.binding o (Ok r)
+    → AnswersByCode x work (reply_head x.binding.back c.head) r answer spent new
+
+-- a message, if it begins with the head of a call that is answered
+abbrev pub ServesByCode : Coded → Work → List ℕ → Option (List ℕ) → Tally → Buf → Type 0
+ServesByCode x work o answer spent new = (c : Called) → Begins x.binding o c → is_answered x.binding c ≡ true
+    → AnswersCallByCode x work o c answer spent new

@@ -1,22 +1,13 @@
 // What differs from one back end to another, from the crate of each.
-ghost use Rattle.std.specs.Prelude.{◌≡◌, ◌<◌, ◌≤◌, [], length, IfOk, IfErr, IfSome, OnOk};
-ghost use Rattle.kit_base.specs.Limits.{longest_message};
-ghost use Rattle.raw_buf.specs.Buf.{NoneFell};
+ghost use Rattle.std.specs.Prelude.{◌≡◌, ◌<◌, length, IfOk, IfErr, IfSome};
 ghost use Rattle.call_kit.specs.Calls.{IsBelow};
-ghost use Rattle.back_cdr.specs.Leads.{reply_lead as giop_lead};
-ghost use Rattle.back_cdr.specs.Targets.{target_of};
-ghost use Rattle.flick_engine.specs.Backs.{IsMade, back_of, encoding, lead, sized, Begins, Stops, reply_lead, encoding_by, heard, BeginsReply, ReplyStops};
+ghost use Rattle.back_cdr.specs.Targets.{IsCdr};
+ghost use Rattle.flick_engine.specs.Backs.{IsMade, back_of, Begins, Stops, encoding_by, heard, BeginsReply, ReplyStops};
 
 use crate::engine::Engine;
-use crate::reply_leads::{
-    put_giop_answer, put_giop_exception, put_mach_answer, put_onc_answer, reply_id,
-};
+use crate::reply_leads::reply_id;
 use back_mach::routines::routine_of;
 use call_kit::Called;
-use kit_base::NoMemory;
-use op_codes::encoding_of;
-use raw_buf::SendBuf;
-use std::alloc::Global;
 use wire_def::{Back, Encoding, Head, HeadErr, Order, ReplyHead};
 
 /// The back end of a name, where engines are made for it.
@@ -40,28 +31,6 @@ pub fn back_of(word: &[u8]) -> Option<Back>
 }
 
 impl Engine {
-    /// How the bodies of messages that are sent are laid out.
-    pub(crate) fn encoding(&self) -> Encoding
-        ensures { result ≡ encoding self.now.binding.back }
-    {
-        encoding_of(self.bound().back())
-    }
-
-    /// Tells the length of a message that is whole, where its head tells it.
-    pub(crate) fn put_size(&self, buf: &mut SendBuf)
-        requires long { 12 ≤ length buf.old.done }
-        requires few { length buf.old.done ≤ longest_message }
-        ensures done { buf.new.done ≡ sized self.now.binding.back buf.old.done }
-        ensures spent { NoneFell buf.old.spent buf.new.spent }
-    {
-        match self.bound().back() {
-            Back::Xdr => {}
-            Back::CdrBig => giop_head::put_size(Order::Big, buf),
-            Back::CdrLittle => giop_head::put_size(Order::Little, buf),
-            Back::Mach => back_mach::put_size(buf),
-        }
-    }
-
     /// Reads the head of a call from the first octets of a message.
     pub(crate) fn read_head(&self, message: &[u8]) -> Result<Called, HeadErr>
         ensures begins { IfOk result (λ c. Begins self.now.binding message.now c) }
@@ -70,49 +39,30 @@ impl Engine {
     {
         match self.bound().back() {
             Back::Xdr => back_xdr::read_called(self.bound(), message),
-            Back::CdrBig | Back::CdrLittle => back_cdr::read_called(self.bound(), message),
+            Back::CdrBig | Back::CdrLittle => self.read_named(message),
             Back::Mach => back_mach::read_called(self.bound(), message),
         }
     }
 
-    /// Puts the head of a reply to an operation, with an arm, into an empty buffer.
-    pub(crate) fn put_reply_lead(
-        &self,
-        op: u32,
-        arm: u32,
-        head: &Head,
-        buf: &mut SendBuf,
-    ) -> Result<(), NoMemory>
-        requires op { op < length self.now.binding.ops }
-        requires empty { buf.old.done ≡ [] }
-        ensures ok { OnOk result (buf.new.done ≡ reply_lead self.now.binding op arm head.now) }
-        ensures spent { NoneFell buf.old.spent buf.new.spent }
+    /// Reads the head of a request over CDR from the first octets of a message. What it names is picked among the
+    /// names of the engine.
+    fn read_named(&self, message: &[u8]) -> Result<Called, HeadErr>
+        requires cdr { IsCdr self.now.binding.back }
+        ensures begins { IfOk result (λ c. Begins self.now.binding message.now c) }
+        ensures below { IfOk result (λ c. IsBelow (length self.now.binding.ops) c.naming) }
+        ensures stops { IfErr result (λ e. Stops self.now.binding.back message.now e) }
     {
-        match self.bound().back() {
-            Back::Xdr => put_onc_answer(head.id, buf),
-            Back::CdrBig => self.put_giop_lead(Order::Big, op, arm, head.id, buf),
-            Back::CdrLittle => self.put_giop_lead(Order::Little, op, arm, head.id, buf),
-            Back::Mach => put_mach_answer(routine_of(self.bound(), op).id, head.remote, buf),
-        }
-    }
-
-    /// Puts the head of a GIOP reply to an operation, with an arm, into an empty buffer.
-    fn put_giop_lead(
-        &self,
-        order: Order,
-        op: u32,
-        arm: u32,
-        id: u32,
-        buf: &mut SendBuf,
-    ) -> Result<(), NoMemory>
-        requires { buf.old.done ≡ [] }
-        ensures ok { OnOk result (buf.new.done ≡ giop_lead order (target_of self.now.binding op) arm id) }
-        ensures spent { NoneFell buf.old.spent buf.new.spent }
-    {
-        if arm == 0 {
-            put_giop_answer(order, id, buf)
-        } else {
-            put_giop_exception(order, id, self.raised_id(op, arm - 1), buf)
+        match giop_head::read_request(message) {
+            Ok(request) => {
+                let _ops = self.bound().ops();
+                Ok(Called {
+                    naming: self.names().find(request.key, request.name),
+                    head: request.head,
+                    encoding: self.encoding_of(&request.head),
+                    used: request.used,
+                })
+            }
+            Err(fault) => Err(fault),
         }
     }
 

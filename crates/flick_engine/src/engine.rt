@@ -1,8 +1,11 @@
 // An engine.
 ghost use Rattle.std.specs.Prelude.{◌≡◌, ◌<◌, length, IfOk, Some, option_map, slice_get};
-ghost use Rattle.op_codes.specs.Stubs.{IsCoded};
+ghost use Rattle.op_codes.specs.Stubs.{IsCoded, reply_code_at};
 ghost use Rattle.flick_engine.specs.Backs.{IsMade};
+ghost use Rattle.flick_engine.specs.Names.{AreNamesOver};
+ghost use Rattle.flick_engine.specs.Replies.{HasArm};
 
+use crate::names::Names;
 use cast_stub::{RecvCode, SendCode};
 use kit_base::NoMemory;
 use op_codes::Codes;
@@ -14,11 +17,12 @@ use std::marker::Model;
 #[derive(Drop)]
 pub struct Engine {
     stubs: Codes,
+    names: Names,
 }
 
 impl Model for Engine {
     ghost use Rattle.op_codes.specs.Stubs.{Coded};
-    ghost use Rattle.flick_engine.specs.Backs.{IsMade};
+    ghost use Rattle.flick_engine.specs.Names.{IsReady};
     ghost use Rattle.std.specs.Coded.{codes};
     ghost use Rattle.aoi.specs.Stored.{coded_shape, coded_members};
     ghost use Rattle.cast_stub.specs.contracts.send.SendOp as s;
@@ -30,19 +34,21 @@ impl Model for Engine {
 
     ghost view = { λ e. e.stubs };
 
-    ghost invariant = { λ e. IsMade e.stubs.binding.back };
+    ghost invariant = { λ e. IsReady e.stubs.binding e.names };
 }
 
 impl Engine {
-    /// An engine for what is bound, with the stub code of each operation. Time and memory are linear in the
-    /// code that comes out.
+    /// An engine for what is bound, with the stub code of each operation, and the names by which requests find
+    /// them. Time and memory are linear in the code that comes out.
     pub fn compile(alloc: Global, bound: Bound) -> Result<Engine, NoMemory>
         requires made { IsMade bound.back }
         ensures binding { IfOk result (λ e. e.binding ≡ bound) }
         ensures coded { IfOk result IsCoded }
     {
+        let names = Names::of(alloc, &bound)?;
         Ok(Engine {
             stubs: Codes::compile(alloc, bound)?,
+            names,
         })
     }
 
@@ -77,6 +83,22 @@ impl Engine {
         ensures found { option_map (λ s. s.recv) (slice_get self.now.stubs op) ≡ Some result.now }
     {
         self.stubs.recv_code(op)
+    }
+
+    /// The code that sends an operation's replies with an arm: 0 is the answer, k the k-th exception.
+    pub fn reply_code(&self, op: u32, arm: u32) -> &SendCode
+        requires op { op < length self.now.binding.ops }
+        requires arm { HasArm self.now.binding op arm }
+        ensures found { reply_code_at self.now.stubs op arm ≡ Some result.now }
+    {
+        self.stubs.reply_code(op, arm)
+    }
+
+    /// The names by which requests find operations.
+    pub(crate) fn names(&self) -> &Names
+        ensures { AreNamesOver self.now.binding.back self.now.binding.unit.interfaces result.now }
+    {
+        &self.names
     }
 
     /// The stub code of each operation.

@@ -1,5 +1,5 @@
 // The exceptions of operations, and how calls fare by them.
-ghost use Rattle.std.specs.Prelude.{◌≡◌, ◌+◌, [], map, IfOk, slice_index_or};
+ghost use Rattle.std.specs.Prelude.{◌≡◌, ◌+◌, map, IfOk, slice_index_or};
 ghost use Rattle.std.specs.List.{position_from};
 ghost use Rattle.std.specs.Str.{bytes_eq};
 ghost use Rattle.aoi.specs.Plain.{plain_interface};
@@ -75,16 +75,6 @@ impl Engine {
         ensures { ids_of result.now ≡ (target_of self.now.binding op).ids }
     {
         raises_at(self.bound().unit().interfaces().as_slice(), op as usize)
-    }
-
-    /// The repository id of an operation's exception, by its place from 0; none, where it has none.
-    pub(crate) fn raised_id(&self, op: u32, place: u32) -> &[u8]
-        ensures { result.now ≡ slice_index_or (target_of self.now.binding op).ids place [] }
-    {
-        match self.all_raises(op).get(place as usize) {
-            Some(raise) => raise.id.as_slice(),
-            None => &[],
-        }
     }
 
     /// How a call of an operation fared, by the status of its reply. It copies the id of an exception

@@ -6,24 +6,23 @@ ghost use Rattle.mint.specs.Kinds.{in_range};
 ghost use Rattle.mint.specs.Typed.{IsWellTyped};
 ghost use Rattle.mint.specs.Values.{seen};
 ghost use Rattle.raw_buf.specs.Buf.{NoneFell};
+ghost use Rattle.flick_engine.specs.Costs.{IsAnsweredByCode};
 ghost use Rattle.flick_engine.specs.Received.{IsShort};
-ghost use Rattle.flick_engine.specs.Replies.{reply_type, reply_message, HasArm, arm_type, arm_message};
+ghost use Rattle.flick_engine.specs.Replies.{reply_type, reply_message};
 
 use crate::engine::Engine;
 use crate::errors::MarshalErr;
-use crate::marshal::emptied;
 use mint::value::Value;
 use raw_buf::SendBuf;
-use std::alloc::Global;
+use stub_machine::SendErr;
 use wire_def::Head;
 
 impl Engine {
-    /// Makes the message of a reply to an operation in a buffer, whatever it held; where there is none,
-    /// the buffer is empty. What the buffer spent is kept. The value is an arm of the operation's reply:
-    /// 0 is the answer, k the k-th exception, which CDR alone tells.
+    /// Makes the message of a reply to an operation in a buffer by the stub code of its arm, whatever the
+    /// buffer held; where there is none, the buffer is empty. What the buffer spent is kept. The value is an
+    /// arm of the operation's reply: 0 is the answer, k the k-th exception, which CDR alone tells.
     pub fn marshal_reply(
         &self,
-        alloc: Global,
         op: u32,
         head: &Head,
         value: &Value,
@@ -36,35 +35,10 @@ impl Engine {
         ensures ok { OnOk result (buf.new.done
             ≡ reply_message self.now.binding op head.now (seen value.now)) }
         ensures short { OnOk result (IsShort (reply_message self.now.binding op head.now (seen value.now))) }
+        ensures cost { OnOk result
+            (IsAnsweredByCode self.now.stubs op head.now (seen value.now) buf.old.spent buf.new) }
         // When it is not made, and what stays.
         ensures err { OnErr result (buf.new.done ≡ []) }
-        ensures long { (result ≡ Err MarshalErr.Long)
-            → longest_message < length (reply_message self.now.binding op head.now (seen value.now)) }
-        ensures spent { NoneFell buf.old.spent buf.new.spent }
-    {
-        buf.clear();
-        let made = self.put_reply(alloc, op, head, value, buf);
-        emptied(made, buf)
-    }
-
-    /// Makes the message of a reply in an empty buffer.
-    fn put_reply(
-        &self,
-        alloc: Global,
-        op: u32,
-        head: &Head,
-        value: &Value,
-        buf: &mut SendBuf,
-    ) -> Result<(), MarshalErr>
-        // What is sent.
-        requires op { op < length self.now.binding.ops }
-        requires typed { IsWellTyped (reply_type self.now.binding op) (seen value.now) }
-        requires empty { buf.old.done ≡ [] }
-        // What `Ok` holds.
-        ensures ok { OnOk result (buf.new.done
-            ≡ reply_message self.now.binding op head.now (seen value.now)) }
-        ensures short { OnOk result (IsShort (reply_message self.now.binding op head.now (seen value.now))) }
-        // When it is not made, and what stays.
         ensures long { (result ≡ Err MarshalErr.Long)
             → longest_message < length (reply_message self.now.binding op head.now (seen value.now)) }
         ensures spent { NoneFell buf.old.spent buf.new.spent }
@@ -76,36 +50,11 @@ impl Engine {
         let Some(arm) = arm_number(&n) else {
             unreachable!()
         };
-        self.put_arm(alloc, op, arm, head, inner, buf)
-    }
-
-    /// Makes the message of a reply with an arm's value in an empty buffer.
-    fn put_arm(
-        &self,
-        alloc: Global,
-        op: u32,
-        arm: u32,
-        head: &Head,
-        value: &Value,
-        buf: &mut SendBuf,
-    ) -> Result<(), MarshalErr>
-        // What is sent.
-        requires op { op < length self.now.binding.ops }
-        requires arm { HasArm self.now.binding op arm }
-        requires typed { IsWellTyped (arm_type self.now.binding op arm) (seen value.now) }
-        requires empty { buf.old.done ≡ [] }
-        // What `Ok` holds.
-        ensures ok { OnOk result (buf.new.done
-            ≡ arm_message self.now.binding op arm head.now (seen value.now)) }
-        ensures short { OnOk result
-            (IsShort (arm_message self.now.binding op arm head.now (seen value.now))) }
-        // When it is not made, and what stays.
-        ensures long { (result ≡ Err MarshalErr.Long)
-            → longest_message < length (arm_message self.now.binding op arm head.now (seen value.now)) }
-        ensures spent { NoneFell buf.old.spent buf.new.spent }
-    {
-        self.put_reply_lead(op, arm, head, buf)?;
-        self.put_value(alloc, self.arm(op, arm), value, buf)
+        match self.stubs().reply(op, arm, head, inner, buf) {
+            Ok(()) => Ok(()),
+            Err(SendErr::Long) => Err(MarshalErr::Long),
+            Err(SendErr::NoMemory) => Err(MarshalErr::NoMemory),
+        }
     }
 }
 

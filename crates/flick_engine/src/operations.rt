@@ -5,10 +5,9 @@ ghost use Rattle.flick_engine.specs.Messages.{request_type};
 ghost use Rattle.flick_engine.specs.declared.replies.Fate.TheVariants as fates;
 ghost use Rattle.flick_engine.specs.Backs.{BeginsReply};
 ghost use Rattle.flick_engine.specs.Fates.{Heard};
-ghost use Rattle.flick_engine.specs.Replies.{reply_type, IsChoice, HasArm, arm_type};
+ghost use Rattle.flick_engine.specs.Replies.{reply_type, IsChoice, HasArm};
 
 use crate::engine::Engine;
-use mint::node::{Node, arm_of};
 use mint::table::NodeId;
 
 impl Engine {
@@ -35,25 +34,6 @@ impl Engine {
             Some(operation) => operation.reply,
             None => unreachable!(),
         }
-    }
-
-    /// The node of the value of an arm of what comes back.
-    pub(crate) fn arm(&self, op: u32, arm: u32) -> NodeId
-        requires op { op < length self.now.binding.ops }
-        requires arm { HasArm self.now.binding op arm }
-        ensures node { result < length self.now.binding.nodes }
-        ensures type_ { type_at self.now.binding.nodes result ≡ arm_type self.now.binding op arm }
-    {
-        let Some(choice) = self.bound().mint().node(self.reply(op)) else {
-            unreachable!()
-        };
-        let Node::Choice(_, arms, other) = choice else {
-            unreachable!()
-        };
-        let Some(id) = arm_of(arms, *other, &i128::from(arm)) else {
-            unreachable!()
-        };
-        id
     }
 
     /// What comes back from an operation is a choice, and the heads of its replies tell arms that it

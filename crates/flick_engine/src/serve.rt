@@ -10,7 +10,7 @@ ghost use Rattle.flick_engine.specs.Received.{Names, ReadCall, IsShort, asked};
 ghost use Rattle.flick_engine.specs.Refusals as refusals;
 ghost use Rattle.flick_engine.specs.Refusals.{AnswersFault, reply_head};
 ghost use Rattle.flick_engine.specs.Serving as serving;
-ghost use Rattle.flick_engine.specs.Serving.{Serves, ServesCall, AnswersCall, AnswersAs, reply_in};
+ghost use Rattle.flick_engine.specs.Serving.{Serves, ServesByCode, ServesCall, AnswersCall, AnswersCallByCode, AnswersAs, AnswersByCode, reply_in};
 
 use crate::engine::Engine;
 use crate::errors::{MarshalErr, MessageErr};
@@ -44,10 +44,14 @@ impl Engine {
     ) -> Result<Served, NoMemory>
         requires made_for { S.binding skeleton.now ≡ self.now.binding }
         requires start { view.old.pos ≡ 0 }
+        // What is answered.
         ensures serves { IfOk result (λ s.
             Serves self.now.binding (S.Answers skeleton.now) view.old.octets (reply_in s buf.new.done)) }
         ensures silent { (result ≡ Ok Served.Silent) → buf.new.done ≡ [] }
         ensures err { OnErr result (buf.new.done ≡ []) }
+        // What it costs.
+        ensures cost { IfOk result (λ s. ServesByCode self.now (S.Answers skeleton.now)
+            view.old.octets (reply_in s buf.new.done) buf.old.spent buf.new) }
         ensures spent { NoneFell buf.old.spent buf.new.spent }
     {
         buf.clear();
@@ -73,6 +77,8 @@ impl Engine {
         ensures serves { IfOk result (λ s.
             Serves self.now.binding (S.Answers skeleton.now) message.now (reply_in s buf.new.done)) }
         ensures silent { (result ≡ Ok Served.Silent) → buf.new.done ≡ [] }
+        ensures cost { IfOk result (λ s. ServesByCode self.now (S.Answers skeleton.now)
+            message.now (reply_in s buf.new.done) buf.old.spent buf.new) }
         ensures spent { NoneFell buf.old.spent buf.new.spent }
     {
         if message.len() > LONGEST_MESSAGE {
@@ -100,11 +106,13 @@ impl Engine {
         requires below { IsBelow (length self.now.binding.ops) called.now.naming }
         // Where the answer goes.
         requires empty { buf.old.done ≡ [] }
-        // What is answered, and what stays.
+        // What is answered, and what it costs.
         ensures serves { IfOk result (λ s.
             ServesCall self.now.binding (S.Answers skeleton.now) message.now called.now
             (reply_in s buf.new.done)) }
         ensures silent { (result ≡ Ok Served.Silent) → buf.new.done ≡ [] }
+        ensures cost { IfOk result (λ s. ServesByCode self.now (S.Answers skeleton.now)
+            message.now (reply_in s buf.new.done) buf.old.spent buf.new) }
         ensures spent { NoneFell buf.old.spent buf.new.spent }
     {
         if !self.is_answered(called) {
@@ -130,10 +138,13 @@ impl Engine {
         requires below { IsBelow (length self.now.binding.ops) called.now.naming }
         // Where the answer goes.
         requires empty { buf.old.done ≡ [] }
-        // What is answered, and what stays.
+        // What is answered, and what it costs.
         ensures answers { OnOk result
             (AnswersCall self.now.binding (S.Answers skeleton.now) message.now called.now
             (Some buf.new.done)) }
+        ensures cost { OnOk result
+            (AnswersCallByCode self.now (S.Answers skeleton.now) message.now called.now
+            (Some buf.new.done) buf.old.spent buf.new) }
         ensures spent { NoneFell buf.old.spent buf.new.spent }
     {
         match called.naming {
@@ -162,18 +173,24 @@ impl Engine {
         message: &[u8],
         buf: &mut SendBuf,
     ) -> Result<(), NoMemory>
+        // Who answers, and what is asked.
         requires made_for { S.binding skeleton.now ≡ self.now.binding }
         requires begins { Begins self.now.binding message.now called.now }
         requires op { request.now.op < length self.now.binding.ops }
         requires typed { IsWellTyped (request_type self.now.binding request.now.op) (seen request.now.value) }
+        // What is answered, and what it costs.
         ensures answers { OnOk result
             (AnswersAs self.now.binding (S.Answers skeleton.now) message.now
             (reply_head self.now.binding.back called.now.head) (Ok (asked request.now)) (Some buf.new.done)) }
+        ensures cost { OnOk result
+            (AnswersByCode self.now (S.Answers skeleton.now)
+            (reply_head self.now.binding.back called.now.head) (asked request.now)
+            (Some buf.new.done) buf.old.spent buf.new) }
         ensures spent { NoneFell buf.old.spent buf.new.spent }
     {
         let head = self.reply_head(&called.head);
         let reply = skeleton.call(alloc, request.op, &request.value)?;
-        match self.marshal_reply(alloc, request.op, &head, &reply, buf) {
+        match self.marshal_reply(request.op, &head, &reply, buf) {
             Ok(()) => Ok(()),
             Err(MarshalErr::Long) => {
                 let why = self.long_reply(alloc)?;

@@ -19,6 +19,7 @@ use crate::errors::MessageErr;
 use crate::replies::{Fate, Reply};
 use kit_base::limits::LONGEST_MESSAGE;
 use mint::value::Value;
+use op_codes::arm_node;
 use plain_wire::{Read, plain_read};
 use std::alloc::Global;
 use wire_def::{Outcome, Refusal, ReplyHead};
@@ -78,7 +79,7 @@ impl Engine {
         let encoding = self.encoding_of(&reply.head);
         let mint = self.bound().mint();
         mint.types_are_sound();
-        let id = self.arm(op, arm);
+        let id = arm_node(self.bound(), op, arm);
         let read = plain_read(alloc, encoding, mint, id, reply.used, message)?;
         let value = self.told_by_answer(op, arm, reply, message, read)?;
         let value = Value::arm(alloc, i128::from(arm), value)?;

@@ -71,7 +71,7 @@ fn digits_of(
     ensures paid { OnOk result (by_fields record.now.op record.now.head
         (seen record.now.value) buf.old buf.new) }
 {
-    match engine.marshal_reply(alloc, record.op, &record.head, &record.value, buf) {
+    match engine.marshal_reply(record.op, &record.head, &record.value, buf) {
         Ok(()) => copied(alloc, hex::encode(alloc, buf.octets())?.as_bytes()),
         Err(MarshalErr::Long) => copied(alloc, b"! long"),
         Err(MarshalErr::NoMemory) => Err(NoMemory),

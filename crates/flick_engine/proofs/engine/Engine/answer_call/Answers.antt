@@ -2,6 +2,7 @@ use Rattle.std.proofs.Common.{Some}
 use Rattle.flick_engine.specs.declared.errors.MessageErr.TheVariants as err
 use Rattle.flick_engine.proofs.Deciding.{exactly}
 use Rattle.flick_engine.proofs.Replying.{refused, requested}
+use Rattle.flick_engine.proofs.ServingCosts.{refused_at, requested_at}
 use Rattle.flick_engine.proofs.engine.Engine.answer_call.Goals as goal
 
 pub refuse_call-requires-clause-is : goal.refuse_call-requires-clause-is
@@ -34,3 +35,27 @@ returns-in-Err-clause-answers g c =
     let r = c.refuse_call-in-Err in
     refused c.args.self.now.binding (g.S.Skeleton.Answers c.args.skeleton.now) c.args.message.now r.result c.args.called.now
     c.in-Err.fault (Some r.new.buf.done) r.ensures.ok r.ensures.there
+
+pub returns-in-NoInterface-clause-cost : goal.returns-in-NoInterface-clause-cost
+returns-in-NoInterface-clause-cost g c =
+    let r = c.refuse_call in
+    refused_at c.args.self.now (g.S.Skeleton.Answers c.args.skeleton.now) c.args.message.now (Some r.new.buf.done) c.args.buf.now.spent
+    r.new.buf r.result c.args.called.now err.NoInterface r.ensures.there
+
+pub returns-in-NoOperation-clause-cost : goal.returns-in-NoOperation-clause-cost
+returns-in-NoOperation-clause-cost g c =
+    let r = c.refuse_call-in-NoOperation in
+    refused_at c.args.self.now (g.S.Skeleton.Answers c.args.skeleton.now) c.args.message.now (Some r.new.buf.done) c.args.buf.now.spent
+    r.new.buf r.result c.args.called.now err.NoOperation r.ensures.there
+
+pub returns-in-Ok-clause-cost : goal.returns-in-Ok-clause-cost
+returns-in-Ok-clause-cost g c =
+    let r = c.answer_request in
+    requested_at c.args.self.now (g.S.Skeleton.Answers c.args.skeleton.now) c.args.message.now (Some r.new.buf.done) c.args.buf.now.spent
+    r.new.buf r.result c.args.called.now c.in-Ok.request c.in-Ok.ensures.read r.ensures.cost
+
+pub returns-in-Err-clause-cost : goal.returns-in-Err-clause-cost
+returns-in-Err-clause-cost g c =
+    let r = c.refuse_call-in-Err in
+    refused_at c.args.self.now (g.S.Skeleton.Answers c.args.skeleton.now) c.args.message.now (Some r.new.buf.done) c.args.buf.now.spent
+    r.new.buf r.result c.args.called.now c.in-Err.fault r.ensures.there

@@ -1,5 +1,7 @@
 use Rattle.std.proofs.Common.{◌≡◌, ◌∙◌, ℕ, List, drop, ap, subst}
-use Rattle.flick_engine.specs.Serving.{Serves, reply_in}
+use Rattle.raw_buf.specs.declared.tally.Tally.{Tally}
+use Rattle.raw_buf.specs.Buf.{Buf}
+use Rattle.flick_engine.specs.Serving.{Serves, ServesByCode, reply_in}
 use Rattle.flick_engine.proofs.engine.Engine.serve.Goals as goal
 
 pub returns-in-Ok-clause-serves : goal.returns-in-Ok-clause-serves
@@ -10,3 +12,15 @@ returns-in-Ok-clause-serves g c =
     subst
     (λ (o : List ℕ).
     Serves c.args.self.now.binding work o (reply_in c.in-Ok.served c.serve_message.new.buf.done)) whole c.in-Ok.ensures.serves
+
+pub returns-in-Ok-clause-cost : goal.returns-in-Ok-clause-cost
+returns-in-Ok-clause-cost g c =
+    let whole : c.rest.result.now ≡ c.args.view.now.octets = c.rest.ensures.value
+    ∙ ap (λ (n : ℕ). drop n c.args.view.now.octets) c.requires.start in
+    let work = g.S.Skeleton.Answers c.args.skeleton.now in
+    let r = c.serve_message in
+    let kept : c.clear.new.self.spent ≡ c.args.buf.now.spent = ap (λ (b : Buf). b.spent) c.clear.ensures in
+    subst (λ (o : List ℕ). ServesByCode c.args.self.now work o (reply_in c.in-Ok.served r.new.buf.done) c.args.buf.now.spent r.new.buf)
+    whole
+    (subst (λ (t : Tally). ServesByCode c.args.self.now work c.rest.result.now (reply_in c.in-Ok.served r.new.buf.done) t r.new.buf) kept
+    c.in-Ok.ensures.cost)

@@ -6,7 +6,7 @@ use Rattle.mint.specs.Kinds.{in_range}
 use Rattle.mint.specs.Values.{seen}
 use Rattle.flick_engine.specs.Replies.{reply_type}
 use Rattle.flick_engine.proofs.Arming.{no_arm, no_word, put_arm}
-use Rattle.flick_engine.proofs.engine.Engine.put_reply.Goals as goal
+use Rattle.flick_engine.proofs.engine.Engine.marshal_reply.Goals as goal
 
 pub unreachable-requires : goal.unreachable-requires
 unreachable-requires c =
@@ -21,16 +21,18 @@ unreachable-requires-in_default-arm_number c =
     no_word (reply_type c.args.self.now.binding c.args.op) (seen c.args.value.now) c.in-Some.n (seen c.in-Some.inner.now)
     c.replies_tell_arms.ensures.choice c.requires.typed c.in-Some.ensures far
 
-pub put_arm-requires-clause-arm : goal.put_arm-requires-clause-arm
-put_arm-requires-clause-arm c =
+pub reply-requires-clause-arm : goal.reply-requires-clause-arm
+reply-requires-clause-arm c =
     let fits : FitsSigned w128 c.in-Some.n = search rules in
     let is : c.in-Some.n ≡ pos c.in-Some-arm_number.arm = sym (to_z-of_z w128 _ fits) ∙ c.in-Some-arm_number.ensures.some in
-    (put_arm (reply_type c.args.self.now.binding c.args.op) (seen c.args.value.now) c.in-Some.n c.in-Some-arm_number.arm
-    (seen c.in-Some.inner.now) c.replies_tell_arms.ensures.choice c.requires.typed c.in-Some.ensures is).there
+    let put = put_arm (reply_type c.args.self.now.binding c.args.op) (seen c.args.value.now) c.in-Some.n c.in-Some-arm_number.arm
+    (seen c.in-Some.inner.now) c.replies_tell_arms.ensures.choice c.requires.typed c.in-Some.ensures is in
+    rw c.stubs.ensures put.there
 
-pub put_arm-requires-clause-typed : goal.put_arm-requires-clause-typed
-put_arm-requires-clause-typed c =
+pub reply-requires-clause-typed : goal.reply-requires-clause-typed
+reply-requires-clause-typed c =
     let fits : FitsSigned w128 c.in-Some.n = search rules in
     let is : c.in-Some.n ≡ pos c.in-Some-arm_number.arm = sym (to_z-of_z w128 _ fits) ∙ c.in-Some-arm_number.ensures.some in
-    (put_arm (reply_type c.args.self.now.binding c.args.op) (seen c.args.value.now) c.in-Some.n c.in-Some-arm_number.arm
-    (seen c.in-Some.inner.now) c.replies_tell_arms.ensures.choice c.requires.typed c.in-Some.ensures is).typed
+    let put = put_arm (reply_type c.args.self.now.binding c.args.op) (seen c.args.value.now) c.in-Some.n c.in-Some-arm_number.arm
+    (seen c.in-Some.inner.now) c.replies_tell_arms.ensures.choice c.requires.typed c.in-Some.ensures is in
+    rw c.stubs.ensures put.typed

@@ -1,0 +1,79 @@
+-- What a served message costs: a request that is answered costs what the code of its reply's arm does.
+use Rattle.std.proofs.Common.{◌≡◌, ◌<◌, ℕ, List, Bool, true, false, Some, length, refl, sym, ap, ◌∙◌, subst, arith}
+use Rattle.std.specs.Prelude.{Option, Result, Ok, Err, IfOk, OnOk}
+use Rattle.kit_base.specs.Limits.{longest_message}
+use Rattle.mint.specs.Values.{Val}
+use Rattle.wire_def.specs.declared.fault.HeadErr.{HeadErr}
+use Rattle.wire_def.specs.declared.head.Head.{Head}
+use Rattle.raw_buf.specs.declared.tally.Tally.{Tally}
+use Rattle.raw_buf.specs.Buf.{Buf}
+use Rattle.call_kit.specs.declared.called.Called.{Called}
+use Rattle.op_codes.specs.Stubs.{Coded}
+use Rattle.flick_engine.specs.declared.errors.MessageErr.{MessageErr}
+use Rattle.flick_engine.specs.declared.requests.Request.{Request}
+use Rattle.flick_engine.specs.declared.serve.Served.{Served}
+use Rattle.flick_engine.specs.Backs.{Begins, Stops}
+use Rattle.flick_engine.specs.Costs.{IsAnsweredByCode}
+use Rattle.flick_engine.specs.Received.{Answers, Asked, ReadCall, asked}
+use Rattle.flick_engine.specs.Refusals.{reply_head}
+use Rattle.flick_engine.specs.Replies.{reply_message}
+use Rattle.flick_engine.specs.Serving.{reply_in, is_answered, AnswersByCode, AnswersCallByCode, ServesByCode}
+use Rattle.flick_engine.proofs.Deciding.{determined}
+use Rattle.flick_engine.proofs.HeadsOfBacks.{one_head}
+
+no_request : (e : MessageErr) (r : Asked) (y : Result Asked MessageErr) → y ≡ Err e → y ≡ Ok r → ⊥
+no_request e r y is not = cc
+
+one_request : (q r : Asked) (y : Result Asked MessageErr) → y ≡ Ok q → y ≡ Ok r → q ≡ r
+one_request q r y first second = let same = sym first ∙ second in cc
+
+unshown : (t : Bool) → t ≡ true → t ≡ false → ⊥
+unshown t is not = cc
+
+module _ (x : Coded) (work : ℕ → Val → Val → Type 0) (o : List ℕ) (answer : Option (List ℕ)) (spent : Tally) (new : Buf) where
+  -- a call that is refused is no request
+  pub refused_at : {A E : Type 0} (y : Result A E) (c : Called) (e : MessageErr) → OnOk y (ReadCall x.binding o (Err e))
+      → OnOk y (AnswersCallByCode x work o c answer spent new)
+  refused_at (Ok u) c e reads = λ r is. absurd (no_request e r (Err e) refl (determined x.binding o (Err e) (Ok r) reads is))
+  refused_at (Err n) c e reads = tt
+
+  -- a call that is a request
+  pub requested_at : {A E : Type 0} (y : Result A E) (c : Called) (q : Request) → Answers x.binding o (Ok q)
+      → OnOk y (AnswersByCode x work (reply_head x.binding.back c.head) (asked q) answer spent new)
+      → OnOk y (AnswersCallByCode x work o c answer spent new)
+  requested_at (Ok u) c q is h =
+      λ r reads.
+      subst (λ (p : Asked). AnswersByCode x work (reply_head x.binding.back c.head) p answer spent new)
+      (one_request (asked q) r (Ok (asked q)) refl ((is (Ok r)).1 reads)) h
+  requested_at (Err n) c q is h = tt
+
+  -- a call that is answered
+  pub answered_at : (c : Called) → Begins x.binding o c → AnswersCallByCode x work o c answer spent new
+      → ServesByCode x work o answer spent new
+  answered_at c begins h d starts is =
+      subst (λ (y : Called). AnswersCallByCode x work o y answer spent new) ((one_head x.binding o).one_head c d begins starts) h
+
+  -- a call that is not
+  pub unanswered_at : (c : Called) → Begins x.binding o c → is_answered x.binding c ≡ false → ServesByCode x work o answer spent new
+  unanswered_at c begins not d starts is =
+      let same = (one_head x.binding o).one_head c d begins starts in
+      absurd (unshown (is_answered x.binding d) is (ap (is_answered x.binding) (sym same) ∙ not))
+
+-- a message that begins with no head of a call
+pub stopped_at : {E : Type 0} (x : Coded) (work : ℕ → Val → Val → Type 0) (o d : List ℕ) (spent : Tally) (new : Buf) (y : Result Served E)
+    (e : HeadErr) → Stops x.binding.back o e → IfOk y (λ s. ServesByCode x work o (reply_in s d) spent new)
+stopped_at x work o d spent new (Ok s) e stops = λ c starts is. absurd ((one_head x.binding o).not_both c e starts stops)
+stopped_at x work o d spent new (Err n) e stops = tt
+
+module _ (x : Coded) (work : ℕ → Val → Val → Type 0) (head : Head) (q : Request) (w : Val) (spent : Tally) (new : Buf) where
+  -- the reply of a request was sent
+  pub sent_at : work q.op (asked q).value w → new.done ≡ reply_message x.binding q.op head w
+      → IsAnsweredByCode x.stubs q.op head w spent new
+      → AnswersByCode x work head (asked q) (Some new.done) spent new
+  sent_at does is paid = (w, does, λ short. (ap (λ (z : List ℕ). Some z) is, paid))
+
+  -- it is too long
+  pub too_long_at : {A E : Type 0} (y : Result A E) → work q.op (asked q).value w → longest_message
+      < length (reply_message x.binding q.op head w) → OnOk y (AnswersByCode x work head (asked q) (Some new.done) spent new)
+  too_long_at (Ok u) does long = (w, does, λ short. absurd (omega (arith, long, short)))
+  too_long_at (Err n) does long = tt

@@ -1,0 +1,8 @@
+use Rattle.flick_engine.proofs.ServingCosts.{stopped_at}
+use Rattle.flick_engine.proofs.engine.Engine.serve_message.Goals as goal
+
+pub returns-in-Err-clause-cost : goal.returns-in-Err-clause-cost
+returns-in-Err-clause-cost g c =
+    let r = c.answer_fault in
+    stopped_at c.args.self.now (g.S.Skeleton.Answers c.args.skeleton.now) c.args.message.now r.new.buf.done c.args.buf.now.spent r.new.buf
+    r.result c.in-Err.fault c.in-Err.ensures.stops

@@ -1,0 +1,12 @@
+use Rattle.std.proofs.Common.{◌≡◌, ◌++◌, map, drop}
+use Rattle.aoi.specs.Plain.{plain_interface}
+use Rattle.flick_engine.specs.Offered.{keys_of, offered_from}
+use Rattle.flick_engine.proofs.names.Names.new.Given as goal
+
+-- the names so far, and those of the interfaces that are left
+abbrev pub invariant-loop-i : goal.invariant-loop-i
+invariant-loop-i l = record {
+  keys : keys_of (map plain_interface l.interfaces) ≡ l.words ++ keys_of (map plain_interface (drop l.i-index l.interfaces));
+  offered : offered_from 0 (map plain_interface l.interfaces)
+      ≡ l.offered ++ offered_from l.first (map plain_interface (drop l.i-index l.interfaces));
+}

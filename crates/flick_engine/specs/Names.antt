@@ -1,0 +1,39 @@
+-- The names by which requests over CDR find operations, as an engine keeps them.
+use Rattle.std.specs.Prelude.{◌≡◌, ℕ, List, Option, None, Some, slice_get}
+use Rattle.std.specs.List.{position_from}
+use Rattle.std.specs.Str.{bytes_eq}
+use Rattle.wire_def.specs.declared.encoding.Back.{Back}
+use Rattle.wire_def.specs.declared.encoding.Back.TheVariants as back
+use Rattle.aoi.specs.Plain.{PlainInterface}
+use Rattle.call_kit.specs.declared.called.Naming.{Naming}
+use Rattle.call_kit.specs.declared.called.Naming.TheVariants.{NoInterface}
+use Rattle.cast_stub.specs.Parts.{on_some}
+use Rattle.pres.specs.Bindings.{Binding}
+use Rattle.flick_engine.specs.declared.names.Names.{Names}
+use Rattle.flick_engine.specs.Backs.{IsMade}
+use Rattle.flick_engine.specs.Offered.{Offered, keys_of, offered_from, operation_in}
+
+-- the names of interfaces and of their operations
+pub record AreNames (is : List PlainInterface) (n : Names) : Type 0 where
+  pub keys : n.interfaces ≡ keys_of is
+  pub offered : n.offered ≡ offered_from 0 is
+
+-- those of interfaces over a back end, where its requests have names
+abbrev pub AreNamesOver : Back → List PlainInterface → Names → Type 0
+AreNamesOver back.CdrBig is n = AreNames is n
+AreNamesOver back.CdrLittle is n = AreNames is n
+AreNamesOver _ is n = Unit {0}
+
+-- an engine is made for such a back end, and has the names
+pub record IsReady (b : Binding) (n : Names) : Type 0 where
+  pub made : IsMade b.back
+  pub names : AreNamesOver b.back b.unit.interfaces n
+
+-- the operation of a name, where there is an interface
+abbrev pub operation_of : Option Offered → List ℕ → Naming
+operation_of None name = NoInterface
+operation_of (Some x) name = operation_in x name
+
+-- the operation of a key and a name: the first interface of the key, and its first operation of the name
+abbrev pub found : Names → List ℕ → List ℕ → Naming
+found n key name = operation_of (on_some (position_from (bytes_eq key) 0 n.interfaces) (slice_get n.offered)) name

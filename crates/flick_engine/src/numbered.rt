@@ -1,0 +1,90 @@
+// The operations of an interface, found by their names.
+ghost use Rattle.std.specs.Prelude.{◌≡◌, ◌+◌, length, map, IfOk};
+ghost use Rattle.aoi.specs.Plain.{plain_operation};
+ghost use Rattle.flick_engine.specs.Offered.{names_of, operation_in};
+
+use aoi::Operation;
+use call_kit::Naming;
+use demux::{Demux, WordName};
+use kit_base::{Name, NoMemory, Words};
+use std::alloc::Global;
+use std::marker::Model;
+
+/// The operations of an interface by their names, numbered from the first of them on.
+#[derive(Drop)]
+pub(crate) struct Numbered {
+    first: u32,
+    names: Demux,
+}
+
+impl Model for Numbered {
+    ghost use Rattle.std.specs.Prelude.{◌+◌, ◌<◌, ◌^◌, length};
+    ghost use Rattle.flick_engine.specs.Offered.{Offered};
+
+    ghost Value = { Offered };
+
+    ghost view = { λ n. record { first = n.first; names = n.names } };
+
+    ghost invariant = { λ n. n.first + length n.names < 2 ^ 32 };
+}
+
+/// The number after so many others.
+fn number_after(first: u32, many: usize) -> Result<u32, NoMemory>
+    ensures { IfOk result (λ n. n ≡ first + many) }
+{
+    match u32::try_from(many) {
+        Ok(many) => match first.checked_add(many) {
+            Some(n) => Ok(n),
+            None => Err(NoMemory),
+        },
+        Err(_) => Err(NoMemory),
+    }
+}
+
+/// Names that are to be found.
+pub(crate) fn demux_of(alloc: Global, names: &Words) -> Result<Demux, NoMemory>
+    ensures { IfOk result (λ d. d ≡ names.now) }
+{
+    if names.len() > 4_294_967_295 {
+        return Err(NoMemory);
+    }
+    Demux::new(alloc, names)
+}
+
+/// The names of operations.
+fn words_of(alloc: Global, ops: &[Operation]) -> Result<Words, NoMemory>
+    ensures { IfOk result (λ w. w ≡ names_of (map plain_operation ops.now)) }
+{
+    let mut words = Words::new(alloc);
+    for op in ops {
+        words.push(Name::from_slice(alloc, op.name.as_slice())?)?;
+    }
+    Ok(words)
+}
+
+impl Numbered {
+    /// The operations of an interface, of which the first has this number, and the number after them.
+    pub(crate) fn new(
+        alloc: Global,
+        first: u32,
+        ops: &[Operation],
+    ) -> Result<(Numbered, u32), NoMemory>
+        ensures value { IfOk result (λ n. n.0
+            ≡ record { first = first; names = names_of (map plain_operation ops.now) }) }
+        ensures next { IfOk result (λ n. n.1 ≡ first + length (map plain_operation ops.now)) }
+    {
+        let next = number_after(first, ops.len())?;
+        let names = demux_of(alloc, &words_of(alloc, ops)?)?;
+        Ok((Numbered { first, names }, next))
+    }
+
+    /// The operation of a name.
+    pub(crate) fn find(&self, name: &[u8]) -> Naming
+        ensures { result ≡ operation_in self.now name.now }
+    {
+        match self.names.pick(&mut WordName::new(name)) {
+            Some(place) => Naming::Operation(self.first + place),
+            None => Naming::NoOperation,
+        }
+    }
+}
