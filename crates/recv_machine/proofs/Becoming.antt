@@ -1,5 +1,5 @@
 -- Drafts that have become values.
-use Rattle.std.proofs.Common.{◌≡◌, ℕ, zero, suc, ◌+◌, ◌≤◌, List, [], ◌∷◌, ◌++◌, length, drop, Option, None, Some, option_map, slice_get, refl, sym, ap, subst, ◌∙◌, arith}
+use Rattle.std.proofs.Common.{◌≡◌, ℕ, zero, suc, ◌+◌, ◌≤◌, List, [], ◌∷◌, ◌++◌, length, drop, Option, None, Some, option_map, slice_get, Vec, Global, refl, sym, ap, subst, ◌∙◌, arith}
 use Rattle.std.specs.Prelude.{slice_set}
 use Rattle.std.proofs.Math.Seq.{drop-drop}
 use Rattle.std.proofs.lemmas.List.{drop_all}
@@ -56,8 +56,8 @@ field_size ns [] i d e = absurd cc
 field_size ns (x ∷ ds) zero d e = let s : x ≡ d = cc in omega (arith, ap (λ (y : Filling). draft_size (drawn ns y)) s)
 field_size ns (x ∷ ds) (suc i) d e = omega (arith, field_size ns ds i d e)
 
-pub fields_size : (ns : List Node) (d : Filling) (ds : List Filling) → d ≡ filling.Fields ds
-    → draft_size (drawn ns d) ≡ suc (drafts_size (all_drawn ns ds))
+pub fields_size : (ns : List Node) (d : Filling) (ds : Vec Filling Global) → d ≡ filling.Fields ds
+    → draft_size (drawn ns d) ≡ suc (drafts_size (all_drawn ns ds.items))
 fields_size ns d ds is = ap (λ (x : Filling). draft_size (drawn ns x)) is ∙ ap draft_size (drawn-Fields ns ds)
 
 -- ---- one field more
@@ -174,8 +174,8 @@ settle_end ns fields rest values i h past =
 seen-Group : (vs : List Value) → seen (value.Group vs) ≡ group (all_seen vs)
 seen-Group vs = ap seen (sym (value.rolls-Group vs)) ∙ fold-roll-Value Val seen_level (Value-F.Group vs)
 
-pub fields_settled : (ns : List Node) (d : Filling) (ds : List Filling) (vs : List Value) → d ≡ filling.Fields ds
-    → settles (all_drawn ns ds) ≡ Some (all_seen vs)
+pub fields_settled : (ns : List Node) (d : Filling) (ds : Vec Filling Global) (vs : List Value) → d ≡ filling.Fields ds
+    → settles (all_drawn ns ds.items) ≡ Some (all_seen vs)
     → settle (drawn ns d) ≡ Some (seen (value.Group vs))
 fields_settled ns d ds vs is e =
     ap (λ (x : Filling). settle (drawn ns x)) is ∙ ap settle (drawn-Fields ns ds) ∙ ap (option_map group) e

@@ -1,5 +1,5 @@
--- Drafts by their variants, and parts that are taken out, changed and put back, by induction on the list of parts.
-use Rattle.std.proofs.Common.{◌≡◌, ℕ, ℤ, zero, suc, ◌+◌, ◌<◌, ◌≤◌, List, [], ◌∷◌, ◌++◌, length, drop, get_or, Option, None, Some, option_map, slice_get, refl, sym, ap, subst, ◌∙◌, add-one, arith}
+-- Drafts by their variants, and parts that are exchanged, by induction on the list of parts.
+use Rattle.std.proofs.Common.{◌≡◌, ℕ, ℤ, zero, suc, ◌+◌, ◌<◌, ◌≤◌, List, [], ◌∷◌, ◌++◌, length, drop, get_or, Option, None, Some, option_map, slice_get, Vec, Global, refl, sym, ap, subst, ◌∙◌, add-one, arith}
 use Rattle.std.specs.Prelude.{slice_set}
 use Rattle.std.proofs.Math.Seq.{drop-cons}
 use Rattle.mint.specs.declared.node.Node.{Node}
@@ -46,7 +46,7 @@ pub drawn-Done : (ns : List Node) (v : Value) → drawn ns (filling.Done v) ≡ 
 unfolding drawn
 drawn-Done ns v = ap (drawn ns) (sym (filling.rolls-Done v)) ∙ fold-roll-Filling Draft (drawn_level ns) (Filling-F.Done v)
 
-pub drawn-Fields : (ns : List Node) (ds : List Filling) → drawn ns (filling.Fields ds) ≡ fields (all_drawn ns ds)
+pub drawn-Fields : (ns : List Node) (ds : Vec Filling Global) → drawn ns (filling.Fields ds) ≡ fields (all_drawn ns ds.items)
 unfolding drawn
 drawn-Fields ns ds = ap (drawn ns) (sym (filling.rolls-Fields ds)) ∙ fold-roll-Filling Draft (drawn_level ns) (Filling-F.Fields ds)
 
@@ -118,74 +118,29 @@ field_is ns n [] d e = absurd cc
 field_is ns zero (x ∷ ds) d e = let s : x ≡ d = cc in ap (λ (y : Filling). Some (drawn ns y)) s
 field_is ns (suc n) (x ∷ ds) d e = field_is ns n ds d e
 
-there_mapped : {A B : Type 0} (z : Option A) (f : A → B) → IsThere (option_map f z) → IsThere z
-there_mapped None f h = h
-there_mapped (Some a) f h = tt
+pub part_here : (ns : List Node) (n : ℕ) (f : Draft → Option Draft) (ds : List Filling) (d : Filling) → slice_get ds n ≡ Some d
+    → IsThere (on_some (field_at n (all_drawn ns ds)) f)
+    → IsThere (f (drawn ns d))
+part_here ns n f ds d e h = subst (λ (o : Option Draft). IsThere (on_some o f)) (field_is ns n ds d e) h
 
-pub put_there : (ns : List Node) (n : ℕ) (p : List ℕ) (y : Draft) (ds : List Filling) → IsThere (put_field n p y (all_drawn ns ds))
-    → n < length ds
-put_there ns n p y [] h = absurd h
-put_there ns zero p y (d ∷ ds) h = omega arith
-put_there ns (suc n) p y (d ∷ ds) h =
-    let k = put_there ns n p y ds (there_mapped (put_field n p y (all_drawn ns ds)) (λ x. draft (drawn ns d) x) h) in
-    omega (arith, k)
-
-pub put_runs : (ns : List Node) (n : ℕ) (p : List ℕ) (y : Draft) (ds : List Filling) (d : Filling)
-    → slice_get ds n ≡ Some d → IsThere (put_field n p y (all_drawn ns ds))
-    → IsThere (put_part p y (drawn ns d))
-put_runs ns n p y [] d e h = absurd h
-put_runs ns zero p y (x ∷ ds) d e h =
-    let s : x ≡ d = cc in
-    subst (λ (z : Filling). IsThere (put_part p y (drawn ns z))) s
-    (there_mapped (put_part p y (drawn ns x)) (λ z. draft z (all_drawn ns ds)) h)
-put_runs ns (suc n) p y (x ∷ ds) d e h =
-    put_runs ns n p y ds d e (there_mapped (put_field n p y (all_drawn ns ds)) (λ z. draft (drawn ns x) z) h)
-
-pub put_is : (ns : List Node) (n : ℕ) (p : List ℕ) (y : Draft) (ds : List Filling) (d hole d' : Filling)
+-- a part is exchanged in a field
+pub put_is : (ns : List Node) (n : ℕ) (p : List ℕ) (y : Draft) (ds : List Filling) (d d' : Filling)
     → slice_get ds n ≡ Some d → put_part p y (drawn ns d) ≡ Some (drawn ns d')
-    → put_field n p y (all_drawn ns ds) ≡ Some (all_drawn ns (slice_set (slice_set ds n hole) n d'))
-put_is ns n p y [] d hole d' e h = absurd cc
-put_is ns zero p y (x ∷ ds) d hole d' e h =
+    → put_field n p y (all_drawn ns ds) ≡ Some (all_drawn ns (slice_set ds n d'))
+put_is ns n p y [] d d' e h = absurd cc
+put_is ns zero p y (x ∷ ds) d d' e h =
     let s : x ≡ d = cc in
     ap (option_map (λ z. draft z (all_drawn ns ds))) (ap (λ (z : Filling). put_part p y (drawn ns z)) s ∙ h)
-put_is ns (suc n) p y (x ∷ ds) d hole d' e h = ap (option_map (λ z. draft (drawn ns x) z)) (put_is ns n p y ds d hole d' e h)
+put_is ns (suc n) p y (x ∷ ds) d d' e h = ap (option_map (λ z. draft (drawn ns x) z)) (put_is ns n p y ds d d' e h)
 
--- a field whose part is put back all the same
-pub rest_same : (ns : List Node) (n : ℕ) (p : List ℕ) (ds : List Filling) (d hole d' : Filling)
-    → slice_get ds n ≡ Some d → ((y : Draft) → put_part p y (drawn ns d') ≡ put_part p y (drawn ns d)) → (y : Draft)
-    → put_field n p y (all_drawn ns (slice_set (slice_set ds n hole) n d')) ≡ put_field n p y (all_drawn ns ds)
-rest_same ns n p [] d hole d' e h y = absurd cc
-rest_same ns zero p (x ∷ ds) d hole d' e h y =
-    let s : d ≡ x = cc in
-    ap (option_map (λ z. draft z (all_drawn ns ds))) (h y ∙ ap (λ (z : Filling). put_part p y (drawn ns z)) s)
-rest_same ns (suc n) p (x ∷ ds) d hole d' e h y = ap (option_map (λ z. draft (drawn ns x) z)) (rest_same ns n p ds d hole d' e h y)
-
-pub rest_back : (ns : List Node) (n : ℕ) (p : List ℕ) (ds mid new : List Filling) (d hole d' : Filling)
-    → slice_get ds n ≡ Some d → mid ≡ slice_set ds n hole → new ≡ slice_set mid n d'
-    → ((y : Draft) → put_part p y (drawn ns d') ≡ put_part p y (drawn ns d)) → (y : Draft)
-    → put_field n p y (all_drawn ns new) ≡ put_field n p y (all_drawn ns ds)
-rest_back ns n p ds mid new d hole d' e f g h y =
-    ap (λ (l : List Filling). put_field n p y (all_drawn ns l)) (g ∙ ap (λ (l : List Filling). slice_set l n d') f)
-    ∙ rest_same ns n p ds d hole d' e h y
+pub got_field : (ds : List Filling) (n : ℕ) (d e : Filling) → n < length ds → d ≡ get_or ds n e → slice_get ds n ≡ Some d
+got_field [] n d e lt is = absurd (omega (arith, lt))
+got_field (x ∷ ds) zero d e lt is = ap (λ (y : Filling). Some y) (sym is)
+got_field (x ∷ ds) (suc n) d e lt is = got_field ds n d e (omega (arith, lt)) is
 
 pub ruleset drafting = (drawn-Raw, drawn-Fields, no_node)
 
-pub ruleset putting = (
-  drawn-Raw,
-  drawn-Digit,
-  drawn-Listed,
-  drawn-Lined,
-  drawn-Tagged,
-  drawn-Flagged,
-  drawn-Done,
-  drawn-Fields,
-  path-drop,
-  put_there,
-  put_runs,
-  put_is,
-)
-
-pub ruleset taking = (
+pub ruleset exchanging = (
   drawn-Raw,
   drawn-Digit,
   drawn-Listed,

@@ -1,5 +1,5 @@
 -- Numbers that are put into drafts.
-use Rattle.std.proofs.Common.{◌≡◌, ℕ, ℤ, List, [], ◌∷◌, Option, None, Some, option_map, refl, sym, ap, ◌∙◌, Bool, true, false, if◌then◌else◌}
+use Rattle.std.proofs.Common.{◌≡◌, ℕ, ℤ, List, [], ◌∷◌, Option, None, Some, option_map, refl, sym, ap, subst, ◌∙◌, Bool, true, false, if◌then◌else◌}
 use Rattle.std.specs.Int.{Width}
 use Rattle.mint.specs.declared.node.Node.{Node}
 use Rattle.mint.specs.declared.value.Value.TheOpen.{Value-F}
@@ -17,7 +17,8 @@ use Rattle.wire_def.specs.Arrays.{kind_of}
 use Rattle.cast_stub.specs.Parts.{on_some}
 use Rattle.cast_stub.specs.Draft.{Draft, raw, done, tagged, type_of_arm}
 use Rattle.cast_stub.specs.Into.{is_digit, num_into, tag_into, arm_draft}
-use Rattle.cast_stub.specs.Runs.{Place, gives, refuses, if_passed}
+use Rattle.cast_stub.specs.Runs.{Place, gives, refuses, if_passed, Holds}
+use Rattle.recv_machine.specs.Ran.{Took}
 use Rattle.recv_machine.specs.declared.draft.Filling.{Filling}
 use Rattle.recv_machine.specs.declared.draft.Filling.TheVariants as filling
 use Rattle.recv_machine.specs.Drawn.{array_at, drawn, scalar_in, passing, digit_passing}
@@ -26,37 +27,42 @@ use Rattle.recv_machine.proofs.Drafting.{drawn-Raw, drawn-Digit, drawn-Listed, d
 pub seen-Num : (n : ℤ) → seen (value.Num n) ≡ num n
 seen-Num n = ap seen (sym (value.rolls-Num n)) ∙ fold-roll-Value Val seen_level (Value-F.Num n)
 
-passed_so : (b : Bool) (z n : ℤ) (s : Place) → (if b then Some z else None) ≡ Some n
-    → (if b then gives (done (num z)) s else refuses) ≡ gives (done (num n)) s
-passed_so true z n s e = let same : z ≡ n = cc in ap (λ (y : ℤ). gives (done (num y)) s) same
-passed_so false z n s e = absurd cc
+passed_so : (b : Bool) (z : ℤ) (s : Place) (o : Option ℤ) → (if b then Some z else None) ≡ o
+    → Took (λ n. done (num n)) o s (if b then gives (done (num z)) s else refuses)
+passed_so true z s (Some n) e =
+    let same : z ≡ n = cc in
+    ap (λ (y : ℤ). gives (done (num y)) s) same
+passed_so true z s None e = absurd cc
+passed_so false z s (Some n) e = absurd cc
+passed_so false z s None e = refl
 
-scalar_taken : (T : Ty) (x : Width) (m : ℕ) (n : ℤ) (s : Place) → on_some (scalar_in T) (passing x m) ≡ Some n
-    → num_into x m (raw T) s ≡ gives (done (num n)) s
-scalar_taken (scalar_type t) x m n s e = passed_so (is_scalar t (number_of (is_signed t) x m)) (number_of (is_signed t) x m) n s e
-scalar_taken void_type x m n s e = absurd cc
-scalar_taken (array_type a) x m n s e = absurd cc
-scalar_taken (group_type ts) x m n s e = absurd cc
-scalar_taken (items_type c t) x m n s e = absurd cc
-scalar_taken (choice_type t a) x m n s e = absurd cc
-scalar_taken (maybe_type t) x m n s e = absurd cc
+scalar_taken : (T : Ty) (x : Width) (m : ℕ) (s : Place) (o : Option ℤ) → on_some (scalar_in T) (passing x m) ≡ o
+    → Holds (num_into x m (raw T) s)
+    → Took (λ n. done (num n)) o s (num_into x m (raw T) s)
+scalar_taken (scalar_type t) x m s o e h = passed_so (is_scalar t (number_of (is_signed t) x m)) (number_of (is_signed t) x m) s o e
+scalar_taken void_type x m s o e h = absurd h
+scalar_taken (array_type a) x m s o e h = absurd h
+scalar_taken (group_type ts) x m s o e h = absurd h
+scalar_taken (items_type c t) x m s o e h = absurd h
+scalar_taken (choice_type t a) x m s o e h = absurd h
+scalar_taken (maybe_type t) x m s o e h = absurd h
 
--- a draft of a number
-pub num_read : (ns : List Node) (old new : Filling) (id : ℕ) (x : Width) (m : ℕ) (n : ℤ) (s : Place)
-    → old ≡ filling.Raw id → on_some (scalar_in (type_at ns id)) (passing x m) ≡ Some n → drawn ns new ≡ done (num n)
-    → num_into x m (drawn ns old) s ≡ gives (drawn ns new) s
-num_read ns old new id x m n s is e f =
-    ap (λ (d : Draft). num_into x m d s) (ap (drawn ns) is ∙ drawn-Raw ns id) ∙ scalar_taken (type_at ns id) x m n s e
-    ∙ ap (λ (d : Draft). gives d s) (sym f)
+-- a number of a scalar
+pub num_read : (ns : List Node) (old : Filling) (id : ℕ) (x : Width) (m : ℕ) (o : Option ℤ) (s : Place)
+    → old ≡ filling.Raw id → on_some (scalar_in (type_at ns id)) (passing x m) ≡ o → Holds (num_into x m (drawn ns old) s)
+    → Took (λ n. done (num n)) o s (num_into x m (drawn ns old) s)
+num_read ns old id x m o s is e h =
+    let same : drawn ns old ≡ raw (type_at ns id) = ap (drawn ns) is ∙ drawn-Raw ns id in
+    subst (λ (d : Draft). Took (λ n. done (num n)) o s (num_into x m d s)) (sym same)
+    (scalar_taken (type_at ns id) x m s o e (subst (λ (d : Draft). Holds (num_into x m d s)) same h))
 
-pub digit_read : (ns : List Node) (old new : Filling) (id : ℕ) (x : Width) (m : ℕ) (n : ℤ) (s : Place)
-    → old ≡ filling.Digit id → digit_passing (array_at ns id) x m ≡ Some n → drawn ns new ≡ done (num n)
-    → num_into x m (drawn ns old) s ≡ gives (drawn ns new) s
-digit_read ns old new id x m n s is e f =
+pub digit_read : (ns : List Node) (old : Filling) (id : ℕ) (x : Width) (m : ℕ) (o : Option ℤ) (s : Place)
+    → old ≡ filling.Digit id → digit_passing (array_at ns id) x m ≡ o
+    → Took (λ n. done (num n)) o s (num_into x m (drawn ns old) s)
+digit_read ns old id x m o s is e =
     let a : Array = array_at ns id in
-    ap (λ (d : Draft). num_into x m d s) (ap (drawn ns) is ∙ drawn-Digit ns id)
-    ∙ passed_so (is_digit a (number_of (is_signed (number (kind_of a))) x m)) (number_of (is_signed (number (kind_of a))) x m) n s e
-    ∙ ap (λ (d : Draft). gives d s) (sym f)
+    subst (λ (d : Draft). Took (λ n. done (num n)) o s (num_into x m d s)) (sym (ap (drawn ns) is ∙ drawn-Digit ns id))
+    (passed_so (is_digit a (number_of (is_signed (number (kind_of a))) x m)) (number_of (is_signed (number (kind_of a))) x m) s o e)
 
 pub seen-None : seen (value.Opt None) ≡ absent
 seen-None = ap seen (sym (value.rolls-Opt None)) ∙ fold-roll-Value Val seen_level (Value-F.Opt None)

@@ -1,12 +1,14 @@
 -- The proofs, each after those that it uses; * marks those that the proofs of functions use.
 
--- * Drafts by their variants, and parts that are taken out, changed and put back, by induction on the list of parts
+-- * Drafts by their variants, and parts that are exchanged, by induction on the list of parts
 pub mod Drafting
 -- * Drafts that have become values
 pub mod Becoming
+-- * A number that is put into a part in place, by induction on the list of parts
+pub mod Putting
 -- A number of a row stays one of the row's numbers, by induction on the code and the depth of calls
 pub mod Digits
--- * What is done to a part of a draft: it is taken out, changed and put back
+-- * What is done to a part of a draft: it is taken out, changed and put back, by induction on the path to the part
 pub mod Within
 -- * Operations that are run, one after the other
 pub mod Running

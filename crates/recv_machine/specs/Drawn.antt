@@ -36,7 +36,7 @@ drawn_level nodes (Filling-F.Lined id n) = lined (array_at nodes id) n
 drawn_level nodes (Filling-F.Tagged n id) = tagged n (type_at nodes id)
 drawn_level nodes (Filling-F.Flagged id) = flagged (type_at nodes id)
 drawn_level nodes (Filling-F.Done v) = done (seen v)
-drawn_level nodes (Filling-F.Fields ds) = fields (drafts_of ds)
+drawn_level nodes (Filling-F.Fields ds) = fields (drafts_of ds.items)
 
 unfoldable pub drawn : List Node → Filling → Draft
 drawn nodes = fold-Filling Draft (drawn_level nodes)

@@ -3,7 +3,7 @@ ghost use Rattle.std.specs.Prelude.{◌≡◌, ◌≤◌};
 ghost use Rattle.cast_stub.specs.Into.{desc_into, long_into, short_into, units_into};
 ghost use Rattle.cast_stub.specs.Runs.{Holds};
 ghost use Rattle.recv_machine.specs.Drawn.{drawn};
-ghost use Rattle.recv_machine.specs.Ran.{place_of, Took};
+ghost use Rattle.recv_machine.specs.Ran.{place_of, Tested};
 
 use crate::draft::Filling;
 use crate::gets::count_into;
@@ -18,22 +18,22 @@ pub fn desc_into(
     name: u32,
     size: u32,
     mul: u32,
-    part: &Filling,
+    part: &mut Filling,
     view: &mut RecvView<'_>,
-) -> Option<Filling>
-    requires { Holds (desc_into name size mul (drawn mint.now part.now) (place_of view.old)) }
-    ensures done { Took (drawn mint.now) result (place_of view.new)
-        (desc_into name size mul (drawn mint.now part.now) (place_of view.old)) }
+) -> bool
+    requires { Holds (desc_into name size mul (drawn mint.now part.old) (place_of view.old)) }
+    ensures done { Tested result (drawn mint.now part.new) (place_of view.new)
+        (desc_into name size mul (drawn mint.now part.old) (place_of view.old)) }
     ensures octets { view.new.octets ≡ view.old.octets }
 {
     if !view.need(4) {
-        return None;
+        return false;
     }
     let first = view.load(0, 4, Order::Little);
     match first / 268_435_456 {
         3 => long_into(mint, name, size, mul, part, view),
         1 => short_into(mint, name, size, mul, first, part, view),
-        _ => None,
+        _ => false,
     }
 }
 
@@ -44,13 +44,13 @@ fn short_into(
     size: u32,
     mul: u32,
     first: u64,
-    part: &Filling,
+    part: &mut Filling,
     view: &mut RecvView<'_>,
-) -> Option<Filling>
+) -> bool
     requires near { 4 ≤ view.old.near }
-    requires holds { Holds (short_into name size mul first (drawn mint.now part.now) (place_of view.old)) }
-    ensures done { Took (drawn mint.now) result (place_of view.new)
-        (short_into name size mul first (drawn mint.now part.now) (place_of view.old)) }
+    requires holds { Holds (short_into name size mul first (drawn mint.now part.old) (place_of view.old)) }
+    ensures done { Tested result (drawn mint.now part.new) (place_of view.new)
+        (short_into name size mul first (drawn mint.now part.old) (place_of view.old)) }
     ensures octets { view.new.octets ≡ view.old.octets }
 {
     let right = first % 256 == u64::from(name) && first / 256 % 256 == u64::from(size);
@@ -63,16 +63,16 @@ fn long_into(
     name: u32,
     size: u32,
     mul: u32,
-    part: &Filling,
+    part: &mut Filling,
     view: &mut RecvView<'_>,
-) -> Option<Filling>
-    requires { Holds (long_into name size mul (drawn mint.now part.now) (place_of view.old)) }
-    ensures done { Took (drawn mint.now) result (place_of view.new)
-        (long_into name size mul (drawn mint.now part.now) (place_of view.old)) }
+) -> bool
+    requires { Holds (long_into name size mul (drawn mint.now part.old) (place_of view.old)) }
+    ensures done { Tested result (drawn mint.now part.new) (place_of view.new)
+        (long_into name size mul (drawn mint.now part.old) (place_of view.old)) }
     ensures octets { view.new.octets ≡ view.old.octets }
 {
     if !view.need(12) {
-        return None;
+        return false;
     }
     let there = view.load(4, 2, Order::Little);
     let bits = view.load(6, 2, Order::Little);
@@ -88,23 +88,21 @@ fn units_into(
     mul: u32,
     many: u64,
     n: usize,
-    part: &Filling,
+    part: &mut Filling,
     view: &mut RecvView<'_>,
-) -> Option<Filling>
+) -> bool
     requires near { n ≤ view.old.near }
-    requires holds { Holds (units_into right mul many n (drawn mint.now part.now) (place_of view.old)) }
-    ensures done { Took (drawn mint.now) result (place_of view.new)
-        (units_into right mul many n (drawn mint.now part.now) (place_of view.old)) }
+    requires holds { Holds (units_into right mul many n (drawn mint.now part.old) (place_of view.old)) }
+    ensures done { Tested result (drawn mint.now part.new) (place_of view.new)
+        (units_into right mul many n (drawn mint.now part.old) (place_of view.old)) }
     ensures octets { view.new.octets ≡ view.old.octets }
 {
     if !right {
-        return None;
+        return false;
     }
-    match count_into(mint, mul, 0, many, part, view) {
-        Some(new) => {
-            view.take(n);
-            Some(new)
-        }
-        None => None,
+    if !count_into(mint, mul, 0, many, part, view) {
+        return false;
     }
+    view.take(n);
+    true
 }

@@ -8,7 +8,7 @@ ghost use Rattle.cast_stub.specs.Fill.{into};
 ghost use Rattle.cast_stub.specs.Into.{num_into, tag_into, flag_into, count_into};
 ghost use Rattle.cast_stub.specs.Runs.{Holds};
 ghost use Rattle.recv_machine.specs.Drawn.{drawn};
-ghost use Rattle.recv_machine.specs.Ran.{place_of, Took};
+ghost use Rattle.recv_machine.specs.Ran.{place_of, Tested, Took};
 
 use crate::counts::counted;
 use crate::draft::Filling;
@@ -19,41 +19,47 @@ use mint::table::Mint;
 use mint::value::Value;
 use raw_buf::RecvView;
 
-// The draft of a number that was read.
-#[tactic(auto, using(crate::proofs::Drafting::drawing))]
-fn number_read(mint: &Mint, n: &i128) -> Filling
-    ensures { drawn mint.now result ≡ done (num n.now) }
-{
-    Filling::Done(Value::Num(*n))
-}
-
-// A number is read, where it is one of the part's.
+// The number that is read, where it is one of the part's.
 #[tactic(auto, using(crate::proofs::Getting::getting))]
-fn num_into(mint: &Mint, width: u32, m: u64, part: &Filling, view: &RecvView<'_>) -> Option<Filling>
+fn number_for(mint: &Mint, width: u32, m: u64, part: &Filling, view: &RecvView<'_>) -> Option<i128>
     requires fits { m < 256 ^ width }
     requires holds { Holds (num_into (width_as width) m (drawn mint.now part.now) (place_of view.now)) }
-    ensures { Took (drawn mint.now) result (place_of view.now)
+    ensures { Took (λ n. done (num n)) result (place_of view.now)
         (num_into (width_as width) m (drawn mint.now part.now) (place_of view.now)) }
 {
     match part {
-        Filling::Raw(id) => {
-            match scalar_number(mint, *id, width, m) {
-                Some(n) => Some(number_read(mint, &n)),
-                None => None,
-            }
-        }
-        Filling::Digit(id) => {
-            match digit_number(mint, *id, width, m) {
-                Some(n) => Some(number_read(mint, &n)),
-                None => None,
-            }
-        }
+        Filling::Raw(id) => scalar_number(mint, *id, width, m),
+        Filling::Digit(id) => digit_number(mint, *id, width, m),
         Filling::Listed(_, _) => unreachable!(),
         Filling::Lined(_, _) => unreachable!(),
         Filling::Tagged(_, _) => unreachable!(),
         Filling::Flagged(_) => unreachable!(),
         Filling::Done(_) => unreachable!(),
         Filling::Fields(_) => unreachable!(),
+    }
+}
+
+// The draft of a number that was read.
+#[tactic(auto, using(crate::proofs::Drafting::drawing))]
+fn number_read(mint: &Mint, part: &mut Filling, n: &i128)
+    ensures { drawn mint.now part.new ≡ done (num n.now) }
+{
+    *part = Filling::Done(Value::Num(*n));
+}
+
+// A number is read, where it is one of the part's.
+fn num_into(mint: &Mint, width: u32, m: u64, part: &mut Filling, view: &RecvView<'_>) -> bool
+    requires fits { m < 256 ^ width }
+    requires holds { Holds (num_into (width_as width) m (drawn mint.now part.old) (place_of view.now)) }
+    ensures { Tested result (drawn mint.now part.new) (place_of view.now)
+        (num_into (width_as width) m (drawn mint.now part.old) (place_of view.now)) }
+{
+    match number_for(mint, width, m, part, view) {
+        Some(n) => {
+            number_read(mint, part, &n);
+            true
+        }
+        None => false,
     }
 }
 
@@ -110,28 +116,29 @@ fn tag_read(mint: &Mint, n: &i128, item: u32) -> Filling
 
 // Whether a value is there is read.
 #[tactic(auto, using(crate::proofs::Getting::getting))]
-fn flag_into(
-    mint: &Mint,
-    width: u32,
-    m: u64,
-    part: &Filling,
-    view: &RecvView<'_>,
-) -> Option<Filling>
-    requires holds { Holds (flag_into (width_as width) m (drawn mint.now part.now) (place_of view.now)) }
-    ensures { Took (drawn mint.now) result (place_of view.now)
-        (flag_into (width_as width) m (drawn mint.now part.now) (place_of view.now)) }
+fn flag_into(mint: &Mint, width: u32, m: u64, part: &mut Filling, view: &RecvView<'_>) -> bool
+    requires holds { Holds (flag_into (width_as width) m (drawn mint.now part.old) (place_of view.now)) }
+    ensures { Tested result (drawn mint.now part.new) (place_of view.now)
+        (flag_into (width_as width) m (drawn mint.now part.old) (place_of view.now)) }
 {
     match part {
         Filling::Raw(id) => {
-            let Some(node) = mint.node(*id) else {
+            let id = *id;
+            let Some(node) = mint.node(id) else {
                 unreachable!()
             };
             match node {
                 Node::Maybe(item) => {
                     match m {
-                        0 => Some(Filling::Done(Value::Opt(None))),
-                        1 => Some(Filling::Flagged(*item)),
-                        _ => None,
+                        0 => {
+                            *part = Filling::Done(Value::Opt(None));
+                            true
+                        }
+                        1 => {
+                            *part = Filling::Flagged(*item);
+                            true
+                        }
+                        _ => false,
                     }
                 }
                 Node::Void => unreachable!(),
@@ -161,36 +168,40 @@ pub fn count_into(
     mul: u32,
     add: u32,
     m: u64,
-    part: &Filling,
+    part: &mut Filling,
     view: &RecvView<'_>,
-) -> Option<Filling>
-    requires holds { Holds (count_into mul add m (drawn mint.now part.now) (place_of view.now)) }
-    ensures { Took (drawn mint.now) result (place_of view.now)
-        (count_into mul add m (drawn mint.now part.now) (place_of view.now)) }
+) -> bool
+    requires holds { Holds (count_into mul add m (drawn mint.now part.old) (place_of view.now)) }
+    ensures { Tested result (drawn mint.now part.new) (place_of view.now)
+        (count_into mul add m (drawn mint.now part.old) (place_of view.now)) }
 {
     match part {
         Filling::Raw(id) => {
-            let Some(node) = mint.node(*id) else {
+            let id = *id;
+            let Some(node) = mint.node(id) else {
                 unreachable!()
             };
             match node {
                 Node::Items(item, count) => {
-                    match counted(*count, mul, add, m) {
-                        Some(n) => Some(Filling::Listed(*item, n)),
-                        None => None,
-                    }
+                    let Some(n) = counted(*count, mul, add, m) else {
+                        return false;
+                    };
+                    *part = Filling::Listed(*item, n);
+                    true
                 }
                 Node::Text(count) => {
-                    match counted(*count, mul, add, m) {
-                        Some(n) => Some(Filling::Lined(*id, n)),
-                        None => None,
-                    }
+                    let Some(n) = counted(*count, mul, add, m) else {
+                        return false;
+                    };
+                    *part = Filling::Lined(id, n);
+                    true
                 }
                 Node::Row(_, count) => {
-                    match counted(*count, mul, add, m) {
-                        Some(n) => Some(Filling::Lined(*id, n)),
-                        None => None,
-                    }
+                    let Some(n) = counted(*count, mul, add, m) else {
+                        return false;
+                    };
+                    *part = Filling::Lined(id, n);
+                    true
                 }
                 Node::Void => unreachable!(),
                 Node::Num(_) => unreachable!(),
@@ -216,17 +227,25 @@ pub fn into(
     get: &Get,
     width: u32,
     m: u64,
-    part: &Filling,
+    part: &mut Filling,
     view: &RecvView<'_>,
-) -> Option<Filling>
+) -> bool
     requires fits { m < 256 ^ width }
-    requires holds { Holds (into get.now (width_as width) m (drawn mint.now part.now) (place_of view.now)) }
-    ensures { Took (drawn mint.now) result (place_of view.now)
-        (into get.now (width_as width) m (drawn mint.now part.now) (place_of view.now)) }
+    requires holds { Holds (into get.now (width_as width) m (drawn mint.now part.old) (place_of view.now)) }
+    ensures { Tested result (drawn mint.now part.new) (place_of view.now)
+        (into get.now (width_as width) m (drawn mint.now part.old) (place_of view.now)) }
 {
     match get {
         Get::Num(_, _, _, _) => num_into(mint, width, m, part, view),
-        Get::Tag(_, _, _, _) => tag_into(mint, width, m, part, view),
+        Get::Tag(_, _, _, _) => {
+            match tag_into(mint, width, m, part, view) {
+                Some(new) => {
+                    *part = new;
+                    true
+                }
+                None => false,
+            }
+        }
         Get::Flag(_, _, _, _) => flag_into(mint, width, m, part, view),
         Get::Count(_, _, mul, add, _, _) => count_into(mint, *mul, *add, m, part, view),
         Get::Const(_, _) => unreachable!(),

@@ -1,5 +1,6 @@
 // Tests for as many octets as a length says.
-ghost use Rattle.std.specs.Prelude.{◌≡◌, ◌+◌, ◌*◌, option_map};
+ghost use Rattle.std.specs.Prelude.{◌≡◌, ◌+◌, ◌*◌, option_map, slice_get};
+ghost use Rattle.std.specs.Option.{option_copied};
 ghost use Rattle.cast_stub.specs.Draft.{length_in, done};
 ghost use Rattle.mint.specs.Values.{seen};
 ghost use Rattle.cast_stub.specs.Fill.{in_draft, field_at, part};
@@ -16,12 +17,20 @@ use mint::table::Mint;
 use mint::value::Value;
 use raw_buf::RecvView;
 
+// The draft of a field, where it is there.
+fn item(fields: &Fillings, n: usize) -> Option<&Filling>
+    ensures { option_copied result ≡ slice_get fields.now.items n }
+{
+    fields.get(n)
+}
+
 // The draft at a place.
 #[tactic(auto, using(crate::proofs::Looking::fields))]
 fn nth<'a>(mint: &Mint, fields: &'a Fillings, n: u32) -> Option<&'a Filling>
-    ensures { option_map (λ w. drawn mint.now w.now) result ≡ field_at n (all_drawn mint.now fields.now) }
+    ensures { option_map (λ w. drawn mint.now w.now) result
+        ≡ field_at n (all_drawn mint.now fields.now.items) }
 {
-    fields.get(n as usize)
+    item(fields, n as usize)
 }
 
 // The draft of a field, where there is a struct that has it.

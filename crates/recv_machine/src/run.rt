@@ -10,7 +10,7 @@ ghost use Rattle.recv_machine.specs.Ran.{place_of, Gave};
 
 use crate::blocks::{row_into, wide_into};
 use crate::desc::desc_into;
-use crate::draft::{Filling, fresh, put_back, take_part};
+use crate::draft::{Filling, exchange_part, fresh};
 use crate::errors::{Halt, tested};
 use crate::looping::{Elements, elements_of};
 use crate::machine::Machine;
@@ -96,9 +96,10 @@ fn run_at(
     ensures octets { view.new.octets ≡ view.old.octets }
 {
     let path = path.as_slice();
-    let part = take_part(machine.mint, draft, path, 0);
-    let new = act(machine, calls, op, part, view)?;
-    put_back(machine.mint, draft, path, 0, new);
+    let mut part = Filling::Raw(0);
+    exchange_part(machine.mint, draft, path, 0, &mut part);
+    let mut new = act(machine, calls, op, part, view)?;
+    exchange_part(machine.mint, draft, path, 0, &mut new);
     Ok(())
 }
 
@@ -118,9 +119,10 @@ fn act(
 {
     match op {
         RecvOp::Desc(_, name, size, mul) => {
-            match desc_into(machine.mint, *name, *size, *mul, &part, view) {
-                Some(new) => Ok(new),
-                None => Err(Halt::Refused),
+            let mut part = part;
+            match desc_into(machine.mint, *name, *size, *mul, &mut part, view) {
+                true => Ok(part),
+                false => Err(Halt::Refused),
             }
         }
         RecvOp::Row(_, order) => row_into(machine.alloc, machine.mint, *order, &part, view),

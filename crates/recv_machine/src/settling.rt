@@ -1,5 +1,5 @@
 // The value that a draft has become.
-ghost use Rattle.std.specs.Prelude.{◌≡◌, Some, IfOk};
+ghost use Rattle.std.specs.Prelude.{◌≡◌, ◌<◌, length, slice_get, slice_set, Some, IfOk};
 ghost use Rattle.mint.specs.Blank.{blank};
 ghost use Rattle.mint.specs.Types.{type_at};
 ghost use Rattle.mint.specs.Values.{seen, all_seen};
@@ -47,15 +47,31 @@ pub fn settle(alloc: Global, mint: &Mint, draft: Filling) -> Result<Value, NoMem
 #[cycle(settle)]
 #[tactic(auto, using(crate::proofs::Becoming::settling))]
 fn settle_all(alloc: Global, mint: &Mint, fields: Fillings) -> Result<Values, NoMemory>
-    requires { IsThere (settles (all_drawn mint.now fields)) }
-    ensures { IfOk result (λ vs. settles (all_drawn mint.now fields) ≡ Some (all_seen vs)) }
+    requires { IsThere (settles (all_drawn mint.now fields.items)) }
+    ensures { IfOk result (λ vs. settles (all_drawn mint.now fields.items) ≡ Some (all_seen vs)) }
 {
     let mut rest = fields;
     let mut values = Values::with_room(alloc, rest.len())?;
-    for i in 0..rest.len() {
+    for i in 0..count(&rest) {
         let mut field = Filling::Raw(0);
-        rest.exchange(i, &mut field);
+        exchange(&mut rest, i, &mut field);
         values.push(settle(alloc, mint, field)?)?;
     }
     Ok(values)
+}
+
+// How many fields there are.
+fn count(fields: &Fillings) -> usize
+    ensures { result ≡ length fields.now.items }
+{
+    fields.len()
+}
+
+// Exchanges the draft of a field for another.
+fn exchange(fields: &mut Fillings, at: usize, field: &mut Filling)
+    requires { at < length fields.old.items }
+    ensures items { fields.new.items ≡ slice_set fields.old.items at field.old }
+    ensures item { slice_get fields.old.items at ≡ Some field.new }
+{
+    std::mem::swap(&mut fields[at], field);
 }

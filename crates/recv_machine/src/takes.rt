@@ -1,14 +1,14 @@
 // The gets of a take, one after the other.
-ghost use Rattle.std.specs.Prelude.{◌≡◌, ◌≤◌, ◌+◌, length, true, false, None, take, drop};
+ghost use Rattle.std.specs.Prelude.{◌≡◌, ◌<◌, ◌≤◌, ◌+◌, ◌^◌, length, slice_index, true, false, None, take, drop};
 ghost use Rattle.raw_buf.specs.Buf.{IsWidth};
-ghost use Rattle.raw_buf.specs.View.{width_in};
-ghost use Rattle.cast_stub.specs.Fill.{word_got, got, all_got};
+ghost use Rattle.raw_buf.specs.View.{width_in, width_as};
+ghost use Rattle.cast_stub.specs.Fill.{at_field, within, into, word_got, got, all_got};
 ghost use Rattle.cast_stub.specs.Into.{passed, same_octets};
 ghost use Rattle.cast_stub.specs.Runs.{Holds, then_run};
-ghost use Rattle.recv_machine.specs.Drawn.{drawn};
+ghost use Rattle.recv_machine.specs.Drawn.{drawn, all_drawn};
 ghost use Rattle.recv_machine.specs.Ran.{place_of, Tested};
 
-use crate::draft::{Filling, put_back, take_part};
+use crate::draft::{Filling, Fillings};
 use crate::gets::into;
 use cast_stub::{Get, Gets, Path};
 use kit_base::Octets;
@@ -22,6 +22,69 @@ pub fn is_width(width: u32) -> bool
     ensures no { (result ≡ false) → width_in width ≡ None }
 {
     matches!(width, 1 | 2 | 4 | 8)
+}
+
+// A number that was taken is put into the part at a path, from a place of the path on.
+#[cycle(putting)]
+#[tactic(auto, using(crate::proofs::Putting::putting))]
+fn put_word(
+    mint: &Mint,
+    get: &Get,
+    width: u32,
+    m: u64,
+    draft: &mut Filling,
+    path: &[u32],
+    from: usize,
+    view: &RecvView<'_>,
+) -> bool
+    requires fits { m < 256 ^ width }
+    requires length { from ≤ length path.now }
+    requires holds { Holds (within (drop from path.now) (into get.now (width_as width) m)
+        (drawn mint.now draft.old) (place_of view.now)) }
+    ensures { Tested result (drawn mint.now draft.new) (place_of view.now)
+        (within (drop from path.now) (into get.now (width_as width) m)
+        (drawn mint.now draft.old) (place_of view.now)) }
+{
+    if from == path.len() {
+        return into(mint, get, width, m, draft, view);
+    }
+    match draft {
+        Filling::Raw(_) => unreachable!(),
+        Filling::Digit(_) => unreachable!(),
+        Filling::Listed(_, _) => unreachable!(),
+        Filling::Lined(_, _) => unreachable!(),
+        Filling::Tagged(_, _) => unreachable!(),
+        Filling::Flagged(_) => unreachable!(),
+        Filling::Done(_) => unreachable!(),
+        Filling::Fields(fields) => put_in(mint, get, width, m, fields, path, from, view),
+    }
+}
+
+// The same in the fields of a struct.
+#[cycle(putting)]
+#[tactic(auto, using(crate::proofs::Putting::putting))]
+fn put_in(
+    mint: &Mint,
+    get: &Get,
+    width: u32,
+    m: u64,
+    fields: &mut Fillings,
+    path: &[u32],
+    from: usize,
+    view: &RecvView<'_>,
+) -> bool
+    requires fits { m < 256 ^ width }
+    requires length { from < length path.now }
+    requires holds { Holds (at_field (slice_index path.now from)
+        (within (drop (from + 1) path.now) (into get.now (width_as width) m))
+        (all_drawn mint.now fields.old.items) (place_of view.now)) }
+    ensures { Tested result (all_drawn mint.now fields.new.items) (place_of view.now)
+        (at_field (slice_index path.now from)
+        (within (drop (from + 1) path.now) (into get.now (width_as width) m))
+        (all_drawn mint.now fields.old.items) (place_of view.now)) }
+{
+    let at = path[from] as usize;
+    put_word(mint, get, width, m, &mut fields[at], path, from + 1, view)
 }
 
 // A number is taken at an offset, for the part at a path.
@@ -45,14 +108,7 @@ fn run_word(
     }
     let path = path.as_slice();
     let m = view.load(off as usize, width as usize, order);
-    let part = take_part(mint, draft, path, 0);
-    match into(mint, get, width, m, &part, view) {
-        Some(new) => {
-            put_back(mint, draft, path, 0, new);
-            true
-        }
-        None => false,
-    }
+    put_word(mint, get, width, m, draft, path, 0, view)
 }
 
 // Whether the octets at an offset are these.

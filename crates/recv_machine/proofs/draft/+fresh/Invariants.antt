@@ -13,5 +13,5 @@ decreases-fresh l = l.id + l.id + 1
 
 abbrev pub invariant-all_fresh-loop-field : goal.invariant-all_fresh-loop-field
 invariant-all_fresh-loop-field l =
-    drafts_joined (all_drawn l.mint l.drafts) (all_fresh (fields_at (unfolded l.mint) (drop l.field-index l.field-items)))
+    drafts_joined (all_drawn l.mint l.drafts.items) (all_fresh (fields_at (unfolded l.mint) (drop l.field-index l.field-items)))
     ≡ all_fresh (fields_at (unfolded l.mint) l.field-items)

@@ -16,7 +16,7 @@ use Rattle.recv_machine.specs.Ran.{place_of, Gave, Ran}
 use Rattle.recv_machine.proofs.Drafting.{drawn-Digit}
 use Rattle.recv_machine.specs.Sizes.{code_size}
 use Rattle.recv_machine.proofs.Sizing.{op-in-code, called-is-less}
-use Rattle.recv_machine.proofs.Within.{put_fits}
+use Rattle.recv_machine.proofs.Within.{put_fits, put_again}
 use Rattle.recv_machine.proofs.Running.{op_holds, op_gives, op_halts, settle_holds, item_holds, item_turn, each_acted, some_acted, switch_acted, part_there, part_holds, part_gives, part_halts, no_arm, arm_given, arm_halts, digit_there, no_digit, digit_is, values_given, numbers_given, number_holds, number_turn, numbers_end, called_is}
 use Rattle.recv_machine.proofs.run.+run.Goals as goal
 
@@ -38,8 +38,8 @@ act-returns-in-Switch-clause-done t c = subst (λ (f : Filler). Gave (drawn c.ar
     (sym (switch_acted (calls_of c.args.machine.now.subs.now c.args.calls) c.args.op.now c.in-Switch.field-0 c.in-Switch.cases
     c.in-Switch.other c.in-Switch.is)) c.run_switch.ensures.done
 
-pub run_at-take_part-part-requires-clause-there : goal.run_at-take_part-part-requires-clause-there
-run_at-take_part-part-requires-clause-there t c = part_there (calls_of c.args.machine.now.subs.now c.args.calls) c.args.op.now
+pub run_at-exchange_part-requires-clause-there : goal.run_at-exchange_part-requires-clause-there
+run_at-exchange_part-requires-clause-there t c = part_there (calls_of c.args.machine.now.subs.now c.args.calls) c.args.op.now
     c.args.path.now c.as_slice-path.result.now (drawn c.args.machine.now.mint.now c.args.draft.now) (place_of c.args.view.now)
     c.requires.path c.as_slice-path.ensures c.requires.holds
 
@@ -48,28 +48,30 @@ run_at-act-requires t c = (
   omega arith,
   part_holds (calls_of c.args.machine.now.subs.now c.args.calls) c.args.op.now c.args.path.now c.as_slice-path.result.now
       (drawn c.args.machine.now.mint.now c.args.draft.now) (place_of c.args.view.now) c.requires.path c.as_slice-path.ensures _
-      c.requires.holds c.take_part-part.ensures.taken,
+      c.requires.holds c.exchange_part.ensures.taken,
 )
 
 pub run_at-returns-in_err-new-clause-done : goal.run_at-returns-in_err-new-clause-done
 run_at-returns-in_err-new-clause-done t c =
     let same : c.from_residual.result ≡ Err c.in_err-new.field-0.0 = search rules in
-    subst (λ r. Ran r (drawn c.args.machine.now.mint.now c.take_part-part.new.draft) (place_of c.act.new.view)
+    subst (λ r. Ran r (drawn c.args.machine.now.mint.now c.exchange_part.new.draft) (place_of c.act.new.view)
     (fill (calls_of c.args.machine.now.subs.now c.args.calls) (op_seen c.args.op.now finish)
     (drawn c.args.machine.now.mint.now c.args.draft.now) (place_of c.args.view.now))) (sym same)
     (part_halts (calls_of c.args.machine.now.subs.now c.args.calls) c.args.op.now c.args.path.now c.as_slice-path.result.now
     (drawn c.args.machine.now.mint.now c.args.draft.now) (place_of c.args.view.now) c.requires.path c.as_slice-path.ensures _ _ _
-    c.in_err-new.field-0.0 (drawn c.args.machine.now.mint.now) c.take_part-part.ensures.taken c.in_err-new.ensures.done)
+    c.in_err-new.field-0.0 (drawn c.args.machine.now.mint.now) c.exchange_part.ensures.taken c.in_err-new.ensures.done)
 
-pub run_at-put_back-requires-clause-there : goal.run_at-put_back-requires-clause-there
-run_at-put_back-requires-clause-there t c = put_fits c.as_slice-path.result.now _ _ (drawn c.args.machine.now.mint.now c.args.draft.now)
-    (drawn c.args.machine.now.mint.now c.take_part-part.new.draft) c.take_part-part.ensures.taken c.take_part-part.ensures.rest
+pub run_at-exchange_part-requires-2-clause-there : goal.run_at-exchange_part-requires-2-clause-there
+run_at-exchange_part-requires-2-clause-there t c = put_fits c.as_slice-path.result.now _
+    (drawn c.args.machine.now.mint.now c.args.draft.now) (drawn c.args.machine.now.mint.now c.exchange_part.new.draft)
+    c.exchange_part.ensures.put
 
 pub run_at-returns-clause-done : goal.run_at-returns-clause-done
 run_at-returns-clause-done t c = part_gives (calls_of c.args.machine.now.subs.now c.args.calls) c.args.op.now c.args.path.now
     c.as_slice-path.result.now (drawn c.args.machine.now.mint.now c.args.draft.now) (place_of c.args.view.now) c.requires.path
-    c.as_slice-path.ensures c.as_slice-path.result.now _ _ _ _ _ c.as_slice-path.ensures c.take_part-part.ensures.taken
-    c.take_part-part.ensures.rest c.in_ok-new.ensures.done c.put_back.ensures
+    c.as_slice-path.ensures c.as_slice-path.result.now _ _ _ _ _ c.as_slice-path.ensures c.exchange_part.ensures.taken
+    (λ z. put_again c.as_slice-path.result.now _ z _ _ c.exchange_part.ensures.put) c.in_ok-new.ensures.done
+    c.exchange_part-2.ensures.put
 
 pub run_block-run_op-requires : goal.run_block-run_op-requires
 run_block-run_op-requires t c = (
