@@ -36,3 +36,9 @@ mod RecvTests
 pub mod Rowless
 -- Rows worked by hand: what single codes do with single values
 pub mod Worked
+-- What code that sends and code that receives have in common, by induction on the operations
+pub mod Trees
+-- Code that sends and code that receives, as what they have in common
+pub mod Directions
+-- Lists in step, one member more of each, by induction on the lists
+pub mod InStep

@@ -8,6 +8,7 @@ pub mod Fill
 pub mod Follows
 pub mod Framed
 pub mod Got
+pub mod InStep
 pub mod Into
 pub mod Kept
 pub mod Laws

@@ -9,10 +9,10 @@ pub mod Blocks
 -- Code that goes through a type goes through it with its calls replaced, by induction on the type
 pub mod Followed
 -- * The code that is given, as the code of a number with its calls replaced
-mod Whole
+pub mod Whole
 -- Sorts of rows and texts, and code with rows as blocks, worked by hand
 mod WorkedRows
--- * One operation more, for a part, calls put in their place
+-- * What is made of a block for a part, calls put in their place: of blocks after blocks, and of the bodies of a switch
 pub mod Emitting
 -- Numbers that a loop puts one by one, and the row's octets, by induction on the numbers
 pub mod RowWords
@@ -20,7 +20,7 @@ pub mod RowWords
 pub mod Joined
 -- Blocks after blocks, and for parts of parts, by induction on the block
 pub mod RecvBlocks
--- * One operation more, for a part, calls put in their place
+-- * What is made of a block that receives for a part, calls put in their place: of blocks after blocks, of bodies of a switch
 pub mod RecvEmitting
 -- Code that goes through a type goes through it with its calls replaced, by induction on the type
 pub mod RecvFollowed
@@ -44,7 +44,7 @@ pub mod RecvSteps
 pub mod RowReady
 -- * What the pass promises, of code that receives and is the given one with its rows as blocks
 pub mod RecvRowWhole
--- * Bodies in step with arms; operations of code that receives and is ready, by induction on arms and operations
+-- * Bodies in step with arms, as a switch; blocks that receive and are ready, by induction on the arms and the block
 pub mod RecvRowsInStep
 -- Code whose calls are replaced gives the same, by induction on the depth of calls and the code
 pub mod RecvSame
@@ -52,15 +52,15 @@ pub mod RecvSame
 pub mod RecvShallow
 -- * The code that is given, as the code of a number with its calls replaced
 pub mod RecvWhole
--- Code with its rows as blocks gives one row for each row or text of that sort, by induction on the type
+-- * Code with its rows as blocks gives one row for each row or text of that sort, by induction on the type
 pub mod RowCounts
--- * One operation more, or what replaces it
+-- * What is known by the type at a path; how operations are seen
 pub mod RowEmitting
 -- Code that goes through a type has no own ensures, so what `hoist` makes of it is taken, by induction on the type
 pub mod RowGiven
 -- * What the pass promises, of code that is the given one with its rows as blocks
 pub mod RowWhole
--- * Bodies in step with arms; operations of code that is ready, by induction on the arms and the operations
+-- * Bodies in step with arms, as a switch; blocks that are ready, by induction on the arms and the block
 pub mod RowsInStep
 -- * Codes that go through the types of a table have few levels, by induction on the type
 pub mod Shallow

@@ -1,7 +1,5 @@
 -- The code that is given, as the code of a number with its calls replaced.
-use Rattle.std.proofs.Common.{◌≡◌, ◌⊎◌, inl, inr, ℕ, suc, ◌+◌, ◌<◌, ◌≤◌, List, [], length, get_or, Option, Some, None, option_map, sym, ap, subst, ◌∙◌, arith}
-use Rattle.std.specs.Prelude.{slice_get}
-use Rattle.std.proofs.lemmas.Option.{slice_get_cases}
+use Rattle.std.proofs.Common.{◌≡◌, ℕ, suc, ◌+◌, ◌<◌, ◌≤◌, List, [], length, Option, Some, option_map, sym, ap, subst, ◌∙◌, arith}
 use Rattle.mint.specs.Types.{Ty, type_at}
 use Rattle.mint.specs.Blank.{depth}
 use Rattle.mint.specs.Sound.{IsSound}
@@ -20,6 +18,7 @@ use Rattle.copy_inline.specs.RecvCallFree.{HasNoCall}
 use Rattle.cast_stub.specs.Traces.{IsLoop, Loops, TracesBy, IsTurned}
 use Rattle.copy_inline.specs.RecvSpliced.{inlined, spliced_or_stop, spliced}
 use Rattle.copy_inline.specs.RecvInlined.{Does, Goes, Turns}
+use Rattle.copy_inline.proofs.Whole.{sub_there}
 use Rattle.copy_inline.proofs.RecvBlocks.{rebase-none}
 use Rattle.copy_inline.proofs.RecvSame.{agrees}
 use Rattle.copy_inline.proofs.RecvFree.{inlined_free}
@@ -55,22 +54,13 @@ pub free : (subs : List (List RecvOp)) (k : ℕ) (ops : List RecvOp) → code_se
     → HasNoCall (code_seen ops)
 free subs k ops is = subst HasNoCall (sym is) (inlined_free (sub_at subs) (suc deepest) k)
 
--- the code at a place
-sub_there : (subs : List (List RecvOp)) (k : ℕ) → k < length subs → (b : Recv) × (sub_at subs k ≡ Some b)
-sub_there subs k lt = found (slice_get_cases subs k).1 where
-  found : ((x : List RecvOp) × (k < length subs) × (slice_get subs k ≡ Some x) × (get_or subs k x ≡ x))
-      ⊎ ((length subs ≤ k) × (slice_get subs k ≡ None))
-      → (b : Recv) × (sub_at subs k ≡ Some b)
-  found (inl f) = (code_seen f.0, ap (option_map code_seen) f.2)
-  found (inr n) = absurd (omega (arith, lt, n.0))
-
 module _ (L : Loops) (kept : AreKept L) (subs : List (List RecvOp)) (k : ℕ) (ops : List RecvOp) (there : k < length subs)
     (is : code_seen ops ≡ inlined (sub_at subs) (suc deepest) k) where
   by : (t : Ty) → IsSound t → ((b : Recv) → sub_at subs k ≡ Some b → TracesBy L (sub_at subs) t k [] b)
       → TracesBy L no_subs t k [] (code_seen ops)
   unfolding deepest
   by t sound all =
-      let sub = sub_there subs k there in
+      let sub = sub_there code_seen subs k there in
       let shallow : depth t ≤ 32 = (sound_taken t sound).shallow in
       let made = goes L kept (sub_at subs) t deepest k k [] sub.0 (omega (arith, shallow)) (all sub.0 sub.1) in
       let same : spliced (inlined (sub_at subs) deepest) sub.0 ≡ code_seen ops =

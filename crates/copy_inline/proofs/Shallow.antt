@@ -1,5 +1,5 @@
 -- Codes that go through the types of a table have few levels, by induction on the type.
-use Rattle.std.proofs.Common.{◌≡◌, inl, inr, ℕ, zero, suc, ◌+◌, ◌-◌, ◌*◌, ◌<◌, ◌≤◌, ℤ, List, [], ◌∷◌, ◌++◌, length, get_or, Option, Some, None, option_map, sym, ap, subst, ◌∙◌, arith}
+use Rattle.std.proofs.Common.{◌≡◌, inl, inr, ℕ, zero, suc, ◌+◌, ◌-◌, ◌*◌, ◌<◌, ◌≤◌, List, [], ◌∷◌, ◌++◌, length, get_or, Option, Some, option_map, sym, ap, subst, arith}
 use Rattle.std.proofs.lemmas.Option.{slice_get-get_or}
 use Rattle.mint.specs.declared.kind.Count.{Count}
 use Rattle.mint.specs.declared.kind.Count.TheVariants.{Exactly, AtMost, Any}
@@ -7,20 +7,20 @@ use Rattle.mint.specs.Types.{Ty, void_type, scalar_type, array_type, group_type,
 use Rattle.mint.specs.Blank.{depth, fields_depth, arms_depth}
 use Rattle.mint.proofs.Measuring.{sound_taken}
 use Rattle.cast_stub.specs.declared.send.SendOp.{SendOp}
-use Rattle.cast_stub.specs.declared.send.SendOp.TheVariants as op
-use Rattle.cast_stub.specs.Block.{Block, Piece, stop, ensure, ensure_row, align, chunk, row_copy, row_swap, row_wide, each, switch, if_there, call, patch, Cases, op_seen, code_seen, cases_seen}
+use Rattle.cast_stub.specs.Block.{Block, stop, ensure, ensure_row, align, chunk, row_copy, row_swap, row_wide, each, switch, if_there, call, patch, Cases, op_seen, code_seen}
 use Rattle.cast_stub.specs.Append.{append}
 use Rattle.cast_stub.specs.Subs.{sub_at}
 use Rattle.cast_stub.specs.Follows.{flat, IsCount, Child, Follows, FieldsFollow, ArmsFollow}
-use Rattle.cast_stub.proofs.Appending.{op-append}
 use Rattle.cast_stub.proofs.Followed.{mapped}
-use Rattle.cast_stub.proofs.Pieces.{seen-Each, seen-Some, seen-Switch, seen-Call}
 use Rattle.copy_inline.specs.Inlined.{GoThroughTypes}
+use Rattle.cast_stub.proofs.Directions.{sends}
+use Rattle.cast_stub.proofs.Trees.{OfEach, op_has}
 use Rattle.copy_inline.specs.Nested.{OfCode, CasesAre, Within, IsShallow}
 
 -- ---- the operations of a code
 
-both_within : (subs : ℕ → Option Block) (P : Block → Type 0) (a b : Block) → Within subs P (append a b) → Within subs P a × Within subs P b
+pub both_within : (subs : ℕ → Option Block) (P : Block → Type 0) (a b : Block) → Within subs P (append a b) → Within subs P a × Within
+    subs P b
 both_within subs P stop b h = (tt, h)
 both_within subs P (ensure n r) b h = both_within subs P r b h
 both_within subs P (ensure_row p u e r) b h = both_within subs P r b h
@@ -34,18 +34,6 @@ both_within subs P (switch p cs r) b h = let k = both_within subs P r b h.1 in (
 both_within subs P (if_there p c r) b h = let k = both_within subs P r b h.1 in ((h.0, k.0), k.1)
 both_within subs P (call j p r) b h = let k = both_within subs P r b h.1 in ((h.0, k.0), k.1)
 both_within subs P (patch x s o r) b h = both_within subs P r b h
-
-op_parts : (subs : ℕ → Option Block) (P : Block → Type 0) (o : SendOp) (ops : List SendOp) → Within subs P (code_seen (o ∷ ops))
-    → Within subs P (op_seen o stop) × Within subs P (code_seen ops)
-op_parts subs P o ops h =
-    both_within subs P (op_seen o stop) (code_seen ops) (subst (Within subs P) (sym (op-append o stop (code_seen ops))) h)
-
-op_within : (subs : ℕ → Option Block) (P : Block → Type 0) (ops : List SendOp) (i : ℕ) (d : SendOp) → i < length ops
-    → Within subs P (code_seen ops)
-    → Within subs P (op_seen (get_or ops i d) stop)
-op_within subs P [] i d lt h = absurd (omega (arith, lt))
-op_within subs P (o ∷ ops) zero d lt h = (op_parts subs P o ops h).0
-op_within subs P (o ∷ ops) (suc i) d lt h = op_within subs P ops i d (omega (arith, lt)) (op_parts subs P o ops h).1
 
 -- a code of some level
 pub has_level : (subs : ℕ → Option Block) (n : ℕ) (b : Block) → IsShallow subs n b → 1 ≤ n
@@ -61,46 +49,17 @@ pub one_op : (subs : ℕ → Option Block) (n : ℕ) (ops : List SendOp) (i : �
     → Within subs (IsShallow subs (n - 1)) (op_seen o stop)
 one_op subs n ops i d o lt is h =
     subst (λ (x : SendOp). Within subs (IsShallow subs (n - 1)) (op_seen x stop)) (sym is)
-    (op_within subs (IsShallow subs (n - 1)) ops i d lt (own_level subs n (code_seen ops) h))
+    (op_has sends (Within subs (IsShallow subs (n - 1))) (both_within subs (IsShallow subs (n - 1))) ops i d lt
+    (own_level subs n (code_seen ops) h))
 
-module _ (subs : ℕ → Option Block) (P : Block → Type 0) (o : SendOp) (h : Within subs P (op_seen o stop)) where
-  pub each_body : (p : List ℕ) (body : List SendOp) → o ≡ op.Each p body → P (code_seen body)
-  each_body p body e = (subst (λ (x : Piece). Within subs P (x stop)) (ap op_seen e ∙ seen-Each p body) h).0
-
-  pub some_body : (p : List ℕ) (body : List SendOp) → o ≡ op.Some p body → P (code_seen body)
-  some_body p body e = (subst (λ (x : Piece). Within subs P (x stop)) (ap op_seen e ∙ seen-Some p body) h).0
-
-  all_bodies : (p : List ℕ) (cases : List (ℤ × List SendOp)) (last : Option (List SendOp)) → o ≡ op.Switch p cases last
-      → CasesAre P (cases_seen cases last)
-  all_bodies p cases last e = (subst (λ (x : Piece). Within subs P (x stop)) (ap op_seen e ∙ seen-Switch p cases last) h).0
-
-  without_last : (cases : List (ℤ × List SendOp)) (last : Option (List SendOp)) → CasesAre P (cases_seen cases last)
-      → CasesAre P (cases_seen cases None)
-  without_last [] last k = tt
-  without_last (c ∷ cases) last k = (k.0, without_last cases last k.1)
-
-  last_alone : (cases : List (ℤ × List SendOp)) (last : Option (List SendOp)) → CasesAre P (cases_seen cases last)
-      → CasesAre P (cases_seen [] last)
-  last_alone [] last k = k
-  last_alone (c ∷ cases) last k = last_alone cases last k.1
-
-  pub switch_bodies : (p : List ℕ) (cases : List (ℤ × List SendOp)) (last : Option (List SendOp)) → o ≡ op.Switch p cases last
-      → CasesAre P (cases_seen cases None)
-  switch_bodies p cases last e = without_last cases last (all_bodies p cases last e)
-
-  pub switch_last : (p : List ℕ) (cases : List (ℤ × List SendOp)) (last : Option (List SendOp)) → o ≡ op.Switch p cases last
-      → CasesAre P (cases_seen [] last)
-  switch_last p cases last e = last_alone cases last (all_bodies p cases last e)
-
-  pub called_code : (k : ℕ) (p : List ℕ) → o ≡ op.Call k p → OfCode (subs k) P
-  called_code k p e = (subst (λ (x : Piece). Within subs P (x stop)) (ap op_seen e ∙ seen-Call k p) h).0
-
-pub one_body : (P : Block → Type 0) (cases : List (ℤ × List SendOp)) (i : ℕ) (d c : ℤ × List SendOp) → i < length cases
-    → c ≡ get_or cases i d → CasesAre P (cases_seen cases None)
-    → P (code_seen c.1)
-one_body P [] i d c lt is h = absurd (omega (arith, lt))
-one_body P (x ∷ cases) zero d c lt is h = subst (λ (y : ℤ × List SendOp). P (code_seen y.1)) (sym is) h.0
-one_body P (x ∷ cases) (suc i) d c lt is h = one_body P cases i d c (omega (arith, lt)) is h.1
+-- a fact of each body of a switch
+pub of_each : (P : Block → Type 0) → OfEach sends P (CasesAre P)
+of_each P = record {
+  none = tt;
+  into = λ n b cs h k. (h, k);
+  first = λ n b cs h. h.0;
+  rest = λ n b cs h. h.1;
+}
 
 -- ---- codes that go through types
 

@@ -48,12 +48,13 @@ pub free : (subs : List (List SendOp)) (k : ℕ) (ops : List SendOp) → code_se
 free subs k ops is = subst HasNoCall (sym is) (inlined_free (sub_at subs) (suc deepest) k)
 
 -- the code at a place
-sub_there : (subs : List (List SendOp)) (k : ℕ) → k < length subs → (b : Block) × (sub_at subs k ≡ Some b)
-sub_there subs k lt = found (slice_get_cases subs k).1 where
-  found : ((x : List SendOp) × (k < length subs) × (slice_get subs k ≡ Some x) × (get_or subs k x ≡ x))
+pub sub_there : {O B : Type 0} (seen : List O → B) (subs : List (List O)) (k : ℕ) → k < length subs
+    → (b : B) × (option_map seen (slice_get subs k) ≡ Some b)
+sub_there {O} {B} seen subs k lt = found (slice_get_cases subs k).1 where
+  found : ((x : List O) × (k < length subs) × (slice_get subs k ≡ Some x) × (get_or subs k x ≡ x))
       ⊎ ((length subs ≤ k) × (slice_get subs k ≡ None))
-      → (b : Block) × (sub_at subs k ≡ Some b)
-  found (inl f) = (code_seen f.0, ap (option_map code_seen) f.2)
+      → (b : B) × (option_map seen (slice_get subs k) ≡ Some b)
+  found (inl f) = (seen f.0, ap (option_map seen) f.2)
   found (inr n) = absurd (omega (arith, lt, n.0))
 
 module _ (L : Loops) (kept : AreKept L) (subs : List (List SendOp)) (k : ℕ) (ops : List SendOp) (there : k < length subs)
@@ -62,7 +63,7 @@ module _ (L : Loops) (kept : AreKept L) (subs : List (List SendOp)) (k : ℕ) (o
       → FollowsBy L no_subs t k [] (code_seen ops)
   unfolding deepest
   by t sound all =
-      let sub = sub_there subs k there in
+      let sub = sub_there code_seen subs k there in
       let shallow : depth t ≤ 32 = (sound_taken t sound).shallow in
       let made = goes L kept (sub_at subs) t deepest k k [] sub.0 (omega (arith, shallow)) (all sub.0 sub.1) in
       let same : spliced (inlined (sub_at subs) deepest) sub.0 ≡ code_seen ops =

@@ -28,7 +28,7 @@ pub mod Light
 pub mod Standing
 -- Hoisted code looks at the buffer at most once for each group of parts, by induction on the type
 pub mod Heavy
--- * Bodies in step with arms; operations of code that is taken, by induction on the arms and the operations
+-- * Bodies in step with arms, as a switch; blocks that are taken, by induction on the arms and the block
 pub mod InStep
 -- * Hoisted code makes the same steps, but for the room that it ensures, by induction on the code
 pub mod Keeping

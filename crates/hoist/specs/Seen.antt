@@ -1,9 +1,10 @@
 -- What the code keeps, as what the definitions speak of.
-use Rattle.std.specs.Prelude.{◌≡◌, ℕ, ℤ, List, [], ◌∷◌, length, reverse}
+use Rattle.std.specs.Prelude.{◌≡◌, ℕ, ℤ, List, reverse}
 use Rattle.mint.specs.Types.{Ty, at}
 use Rattle.wire_def.specs.declared.encoding.Encoding.{Encoding}
 use Rattle.cast_stub.specs.declared.send.SendOp.{SendOp}
 use Rattle.cast_stub.specs.Block.{Block, op_seen, code_seen}
+use Rattle.cast_stub.specs.InStep.{InStep, AllInStep}
 use Rattle.hoist.specs.declared.ahead.Ahead.{Ahead}
 use Rattle.hoist.specs.declared.ahead.Ahead.TheVariants as ahead
 use Rattle.hoist.specs.declared.ahead.Plan.{Plan as CodePlan}
@@ -45,14 +46,18 @@ InFront e t o x y = (r : Block) → hoisted (span_roles e) t r ≡ x → hoisted
 abbrev pub IsHoisted : Encoding → Ty → ℤ × List SendOp → ℤ × List SendOp → Type 0
 IsHoisted e t c b = (b.0 ≡ c.0) × (code_seen b.1 ≡ closed (hoisted (span_roles e) t (code_seen c.1)))
 
+-- a body is that of the same number, hoisted for the node of an arm
+abbrev pub HoistedFor : Encoding → List Ty → ℤ × ℕ → ℤ × List SendOp → ℤ × List SendOp → Type 0
+HoistedFor e us a c b = IsHoisted e (at us a.1) c b
+
 -- so are bodies, in step with arms
 abbrev pub AreHoisted : Encoding → List Ty → List (ℤ × ℕ) → List (ℤ × List SendOp) → List (ℤ × List SendOp) → Type 0
-AreHoisted e us [] [] [] = Unit {0}
-AreHoisted e us (a ∷ arms) (c ∷ cases) (b ∷ bodies) = IsHoisted e (at us a.1) c b × AreHoisted e us arms cases bodies
-AreHoisted e us _ _ _ = ⊥
+AreHoisted e us = AllInStep (HoistedFor e us)
 
--- bodies in step with arms are taken
+-- a body is taken for the node of an arm
+abbrev pub TakenFor : Encoding → List Ty → ℤ × ℕ → ℤ × List SendOp → Type 0
+TakenFor e us a c = IsTaken (span_roles e) (at us a.1) (code_seen c.1)
+
+-- so are bodies, in step with arms
 abbrev pub ArmsTaken : Encoding → List Ty → List (ℤ × ℕ) → List (ℤ × List SendOp) → Type 0
-ArmsTaken e us [] [] = Unit {0}
-ArmsTaken e us (a ∷ arms) (c ∷ cases) = IsTaken (span_roles e) (at us a.1) (code_seen c.1) × ArmsTaken e us arms cases
-ArmsTaken e us _ _ = ⊥
+ArmsTaken e us = InStep (TakenFor e us)

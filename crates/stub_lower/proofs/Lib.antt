@@ -4,7 +4,7 @@
 pub mod Adding
 -- When a run gives what a reader gives
 pub mod Agreeing
--- * Code that is made piece by piece, by induction on the fields and the cases
+-- * Code that is made piece by piece
 pub mod Building
 -- The octets of a number, as a put stores it and as it is sent
 pub mod Words
@@ -32,7 +32,7 @@ pub mod RecvArrays
 pub mod RecvPass
 -- The code of a node reads its values, over those of its parts
 pub mod Receiving
--- * Code that is made piece by piece, by induction on the fields and the cases
+-- * Code that receives, made piece by piece
 pub mod RecvBuilding
 -- What the descriptors of rows and texts of Mach messages read
 pub mod RecvDesc
@@ -46,7 +46,11 @@ pub mod RecvCdrArrays
 pub mod Tracing
 -- The code of a node sends its values, over those of its parts
 pub mod Sending
+-- * The codes of the first nodes of a table, and of all of them, in code of either direction, by induction on the node's number
+pub mod Tables
 -- * The codes of a whole table, by induction on the depth of calls and the node's number
 pub mod Whole
 -- * The codes of a whole table that receive, by induction on the depth of calls and the node's number
 pub mod RecvWhole
+-- * Calls for fields and for arms, in code of either direction, by induction on the fields and the cases
+pub mod Calling

@@ -1,11 +1,8 @@
 -- The codes of a whole table that receive, by induction on the depth of calls and the node's number.
-use Rattle.std.proofs.Common.{◌≡◌, ℕ, zero, suc, ◌+◌, ◌<◌, ◌≤◌, List, [], ◌∷◌, ◌++◌, length, map, Option, Some, None, option_map, slice_get, refl, sym, ap, subst, ◌∙◌, arith}
-use Rattle.std.proofs.Math.ListN.{take}
-use Rattle.std.proofs.lemmas.List.{length-map, map-append, take_all}
+use Rattle.std.proofs.Common.{◌≡◌, ℕ, zero, suc, ◌<◌, ◌≤◌, List, [], length, Option, Some, slice_get, refl, sym, subst, arith}
 use Rattle.mint.specs.declared.node.Node.{Node}
 use Rattle.mint.specs.Blank.{depth}
-use Rattle.mint.specs.Sound.{IsSound}
-use Rattle.mint.specs.Types.{Array, Ty, group_type, items_type, choice_type, maybe_type, type_at, unfolded, level, HasChildrenBelow, IsTable}
+use Rattle.mint.specs.Types.{Array, Ty, type_at, unfolded, level}
 use Rattle.mint.proofs.Unfolding.{type_at-level}
 use Rattle.mint.proofs.Measuring.{sound_taken}
 use Rattle.wire_def.specs.declared.encoding.Encoding.{Encoding}
@@ -24,7 +21,8 @@ use Rattle.wire_def.specs.Places.{IsPlace}
 use Rattle.cast_stub.specs.Layouts.{layout_of}
 use Rattle.stub_lower.specs.RecvCodes.{array_code, node_code}
 use Rattle.stub_lower.specs.RecvLowered.{CodesReceive, CallsReceive}
-use Rattle.stub_lower.proofs.Whole.{AreKnown, take_at, known_more, get-map, in_list, found}
+use Rattle.stub_lower.proofs.Tables as tables
+use Rattle.stub_lower.proofs.Tables.{found, in_list, depth_some, below, sound, sub_is, code_of, codes_go}
 use Rattle.stub_lower.proofs.Agreeing.{Agrees, Settles, agrees-settled}
 use Rattle.stub_lower.proofs.RecvEncoded.{LonesRead, xdr_scalar}
 use Rattle.stub_lower.proofs.RecvArrays.{ArraysRead, xdr_array}
@@ -36,64 +34,9 @@ use Rattle.stub_lower.proofs.Receiving.{node-reads}
 use Rattle.stub_lower.proofs.Exact.{exact}
 use Rattle.stub_lower.proofs.Tracing.{array_turned, array_loops, node-traces}
 
--- ---- node by node
-
 -- the codes of the first nodes
-pub record AreLowered (e : Encoding) (nodes : List Node) (n : ℕ) (subs : List (List RecvOp)) : Type 0 where
-  pub codes : map code_seen subs ≡ map (node_code e) (take n nodes)
-  pub known : AreKnown nodes n
-
-pub none_lowered : (e : Encoding) (nodes : List Node) → AreLowered e nodes 0 []
-none_lowered e nodes = record { codes = refl; known = λ j m lt is. absurd (omega (arith, lt)) }
-
-pub one_more : (e : Encoding) (nodes : List Node) (k : ℕ) (m : Node) (subs new : List (List RecvOp)) (code : List RecvOp)
-    → Some m ≡ slice_get nodes k → HasChildrenBelow k m → IsSound (type_at nodes k) → AreLowered e nodes k subs
-    → code_seen code ≡ node_code e m → new ≡ subs ++ code ∷ []
-    → AreLowered e nodes (k + 1) new
-one_more e nodes k m subs new code found below sound so_far made is = record {
-  codes = ap (map code_seen) is ∙ map-append code_seen subs (code ∷ []) ∙ ap (λ (l : List Recv). l ++ code_seen code ∷ []) so_far.codes
-      ∙ ap (λ (c : Recv). map (node_code e) (take k nodes) ++ c ∷ []) made
-      ∙ sym (ap (map (node_code e)) (take_at nodes k m (sym found)) ∙ map-append (node_code e) (take k nodes) (m ∷ []));
-  known = known_more nodes k m (sym found) below sound so_far.known;
-}
-
--- ---- the whole table
-
--- a node and its code
-record Stands (e : Encoding) (nodes : List Node) (k : ℕ) (code : Recv) : Type 0 where
-  node : Node
-  is : slice_get nodes k ≡ Some node
-  made : code ≡ node_code e node
-
-stands : (e : Encoding) (nodes : List Node) (k : ℕ) (o : Option Node) (code : Recv) → slice_get nodes k ≡ o
-    → Some code ≡ option_map (node_code e) o
-    → Stands e nodes k code
-stands e nodes k None code is same = absurd cc
-stands e nodes k (Some m) code is same = record { node = m; is = is; made = cc }
-
-module _ (e : Encoding) (nodes : List Node) (subs : List (List RecvOp)) (whole : AreLowered e nodes (length nodes) subs) where
-  all_codes : map code_seen subs ≡ map (node_code e) nodes
-  all_codes = whole.codes ∙ ap (map (node_code e)) (take_all (length nodes) nodes (omega arith))
-
-  pub many : length subs ≡ length nodes
-  many = sym (length-map subs code_seen) ∙ ap length all_codes ∙ length-map nodes (node_code e)
-
-  below : IsTable nodes
-  below k m is = (whole.known k m (in_list nodes k m is) is).0
-
-  sound : (k : ℕ) (m : Node) → slice_get nodes k ≡ Some m → IsSound (type_at nodes k)
-  sound k m is = (whole.known k m (in_list nodes k m is) is).1
-
-  sub_is : (k : ℕ) (m : Node) → slice_get nodes k ≡ Some m → sub_at subs k ≡ Some (node_code e m)
-  sub_is k m is = get-map code_seen subs k ∙ ap (λ (l : List Recv). slice_get l k) all_codes ∙ sym (get-map (node_code e) nodes k)
-      ∙ ap (option_map (node_code e)) is
-
-  code_at : (k : ℕ) (b : Recv) → sub_at subs k ≡ Some b → Stands e nodes k b
-  code_at k b is = stands e nodes k (slice_get nodes k) b refl
-      (sym is ∙ get-map code_seen subs k ∙ ap (λ (l : List Recv). slice_get l k) all_codes ∙ sym (get-map (node_code e) nodes k))
-
-  code_of : (k : ℕ) (ops : List RecvOp) → slice_get subs k ≡ Some ops → Stands e nodes k (code_seen ops)
-  code_of k ops is = code_at k (code_seen ops) (ap (option_map code_seen) is)
+abbrev pub AreLowered : Encoding → List Node → ℕ → List (List RecvOp) → Type 0
+AreLowered e = tables.AreLowered code_seen (node_code e)
 
 -- ---- what an encoding gives
 
@@ -110,20 +53,11 @@ arrays CdrLittle = little_array
 arrays Mach = mach_array
 
 module _ (e : Encoding) (nodes : List Node) (subs : List (List RecvOp)) (whole : AreLowered e nodes (length nodes) subs) where
-  module _ (L : Loops) (array : (a : Array) → L a [] (array_code e a)) where
-    traces : (n k : ℕ) (m : Node) → k < n → slice_get nodes k ≡ Some m → TracesBy L (sub_at subs) (type_at nodes k) k [] (node_code e m)
-    traces zero k m lt is = absurd (omega (arith, lt))
-    traces (suc n) k m lt is =
-        subst (λ (t : Ty). TracesBy L (sub_at subs) t k [] (node_code e m)) (sym (type_at-level nodes k m (below e nodes subs whole) is))
-        (node-traces e L array (sub_at subs) (unfolded nodes) k
-        (λ (i : ℕ) i_lt. let f = found nodes i (omega (arith, i_lt, in_list nodes k m is)) in
-        (node_code e f.node, sub_is e nodes subs whole i f.node f.is, traces n i f.node (omega (arith, i_lt, lt)) f.is))
-        m (below e nodes subs whole k m is))
-
-    pub codes_trace : (k : ℕ) (b : Recv) → sub_at subs k ≡ Some b → TracesBy L (sub_at subs) (type_at nodes k) k [] b
-    codes_trace k b is =
-        let s = code_at e nodes subs whole k b is in
-        subst (TracesBy L (sub_at subs) (type_at nodes k) k []) (sym s.made) (traces (suc k) k s.node (omega arith) s.is)
+  pub codes_trace : (L : Loops) → ((a : Array) → L a [] (array_code e a)) → (k : ℕ) (b : Recv) → sub_at subs k ≡ Some b
+      → TracesBy L (sub_at subs) (type_at nodes k) k [] b
+  codes_trace L array =
+      codes_go code_seen (node_code e) nodes subs whole (λ (t : Ty) (k : ℕ) (b : Recv). TracesBy L (sub_at subs) t k [] b)
+      (node-traces e L array (sub_at subs) (unfolded nodes))
 
   -- a node's code, where calls may be nested so deep
   node_read : (n k : ℕ) (m : Node) (s : Place) → slice_get nodes k ≡ Some m → depth (type_at nodes k) ≤ suc n → IsPlace e s.pos
@@ -133,19 +67,12 @@ module _ (e : Encoding) (nodes : List Node) (subs : List (List RecvOp)) (whole :
       → Agrees (IsPlace e) Settles (fill (called (sub_at subs) n) (node_code e m) (fresh (type_at nodes k)) s)
       (read e (type_at nodes k) s.pos s.left)
   node_read n k m s is low here oct part =
-      let same : type_at nodes k ≡ level (unfolded nodes) m = type_at-level nodes k m (below e nodes subs whole) is in
+      let same : type_at nodes k ≡ level (unfolded nodes) m = type_at-level nodes k m (below code_seen (node_code e) nodes subs whole) is in
       subst (λ (t : Ty). Agrees (IsPlace e) Settles (fill (called (sub_at subs) n) (node_code e m) (fresh t) s) (read e t s.pos s.left))
       (sym same)
       (node-reads e (lones e) (arrays e) (unfolded nodes) (called (sub_at subs) n) n k
       (λ (i : ℕ) (t : Place) lt d p o. part i t (omega (arith, lt, in_list nodes k m is)) d p o)
-      m s (below e nodes subs whole k m is) (subst (λ (t : Ty). depth t ≤ suc n) same low) here oct)
-
-  depth_some : (t : Ty) → 1 ≤ depth t
-  depth_some (group_type ts) = omega arith
-  depth_some (items_type c t) = omega arith
-  depth_some (choice_type s arms) = omega arith
-  depth_some (maybe_type t) = omega arith
-  depth_some _ = omega arith
+      m s (below code_seen (node_code e) nodes subs whole k m is) (subst (λ (t : Ty). depth t ≤ suc n) same low) here oct)
 
   call_read : (n k : ℕ) (s : Place) → k < length nodes → depth (type_at nodes k) ≤ n → IsPlace e s.pos → AreOctets s.left
       → Agrees (IsPlace e) Settles (called (sub_at subs) n k (fresh (type_at nodes k)) s) (read e (type_at nodes k) s.pos s.left)
@@ -153,7 +80,7 @@ module _ (e : Encoding) (nodes : List Node) (subs : List (List RecvOp)) (whole :
   call_read (suc n) k s lt low here oct =
       let f = found nodes k lt in
       subst (λ (o : Option Recv). Agrees (IsPlace e) Settles (if_some o (λ b. fill (called (sub_at subs) n) b (fresh (type_at nodes k)) s))
-      (read e (type_at nodes k) s.pos s.left)) (sym (sub_is e nodes subs whole k f.node f.is))
+      (read e (type_at nodes k) s.pos s.left)) (sym (sub_is code_seen (node_code e) nodes subs whole k f.node f.is))
       (node_read n k f.node s f.is low here oct (λ (i : ℕ) (t : Place) l d p o. call_read n i t l d p o))
 
   enough : 32 ≤ suc deepest
@@ -162,8 +89,8 @@ module _ (e : Encoding) (nodes : List Node) (subs : List (List RecvOp)) (whole :
 
   pub codes_receive : CodesReceive e nodes subs
   codes_receive k ops is z place oct short =
-      let s = code_of e nodes subs whole k ops is in
-      let here = sound e nodes subs whole k s.node s.is in
+      let s = code_of code_seen (node_code e) nodes subs whole k ops is in
+      let here = sound code_seen (node_code e) nodes subs whole k s.node s.is in
       let shallow : depth (type_at nodes k) ≤ suc deepest = omega (arith, enough, (sound_taken (type_at nodes k) here).shallow) in
       subst
       (λ (b : Recv). IsExact e (type_at nodes k) z.pos z.left (settled (fill (called (sub_at subs) deepest) b (fresh (type_at nodes k)) z)))
@@ -187,7 +114,7 @@ module _ (e : Encoding) (nodes : List Node) (subs : List (List RecvOp)) (whole :
   pub calls_receive : CallsReceive e nodes subs
   calls_receive k ops lt is z place oct short =
       let f = found nodes k lt in
-      let here = sound e nodes subs whole k f.node f.is in
+      let here = sound code_seen (node_code e) nodes subs whole k f.node f.is in
       let shallow : depth (type_at nodes k) ≤ deepest = omega (arith, few, (sound_taken (type_at nodes k) here).shallow) in
       let run = called (sub_at subs) deepest k (fresh (type_at nodes k)) z in
       subst
@@ -197,14 +124,7 @@ module _ (e : Encoding) (nodes : List Node) (subs : List (List RecvOp)) (whole :
       (exact e (type_at nodes k) here z.pos z.left oct short (IsPlace e) (settled run) (read e (type_at nodes k) z.pos z.left) refl
       (agrees-settled (IsPlace e) run (read e (type_at nodes k) z.pos z.left) (call_read deepest k z lt shallow place oct))))
 
--- ---- at the end of the table
-
-pub ended : (e : Encoding) (nodes : List Node) (id count : ℕ) (subs : List (List RecvOp)) → count ≡ length nodes → count ≤ id → id ≤ count
-    → AreLowered e nodes id subs
-    → AreLowered e nodes (length nodes) subs
-ended e nodes id count subs all past within whole =
-    let same : id ≡ length nodes = omega (arith, all, past, within) in
-    subst (λ (n : ℕ). AreLowered e nodes n subs) same whole
+-- ---- what is promised of all codes
 
 pub all_receive : (e : Encoding) (nodes : List Node) (subs : List (List RecvOp)) → AreLowered e nodes (length nodes) subs
     → CodesReceive e nodes subs

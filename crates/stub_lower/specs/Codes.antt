@@ -19,6 +19,7 @@ use Rattle.cast_stub.specs.declared.send.SendOp.{SendOp}
 use Rattle.cast_stub.specs.Block.{Block, stop, align, chunk, each, switch, if_there, call, Cases, no_default, default, case, code_seen}
 use Rattle.cast_stub.specs.Append.{append}
 use Rattle.cast_stub.specs.Layouts.{order_of, scalar_width, element_width, is_gapped}
+use Rattle.stub_lower.specs.Calls.{calls_of, cases_of}
 use Rattle.stub_lower.specs.Items.{number_at, item_rest}
 
 -- ---- what an encoding gives
@@ -128,8 +129,7 @@ call_here i = call i [] stop
 
 -- calls for fields, the first of them of this number
 abbrev pub calls_from : ℕ → List ℕ → Block
-calls_from j [] = stop
-calls_from j (i ∷ is) = call i (j ∷ []) (calls_from (suc j) is)
+calls_from = calls_of call stop
 
 -- the call of the last arm
 abbrev pub default_at : Option ℕ → Cases
@@ -138,8 +138,7 @@ default_at (Some i) = default (call_here i)
 
 -- a call for each arm
 abbrev pub cases_at : List (ℤ × ℕ) → Option ℕ → Cases
-cases_at [] other = default_at other
-cases_at (a ∷ arms) other = case a.0 (call_here a.1) (cases_at arms other)
+cases_at arms other = cases_of case call_here (default_at other) arms
 
 -- a body that is a call, and its number
 abbrev pub IsCall : ℤ × List SendOp → ℤ → ℕ → Type 0

@@ -18,6 +18,7 @@ use Rattle.cast_stub.specs.declared.recv.RecvOp.{RecvOp}
 use Rattle.cast_stub.specs.RecvBlock.{Recv, finish, need, skip_any, skip_zero, pass, desc, each, switch, if_there, call, Cases, no_default, default, case, code_seen}
 use Rattle.cast_stub.specs.RecvAppend.{append}
 use Rattle.cast_stub.specs.Layouts.{order_of, scalar_width, element_width, is_gapped}
+use Rattle.stub_lower.specs.Calls.{calls_of, cases_of}
 use Rattle.stub_lower.specs.Items.{number_at, item_rest}
 
 -- ---- what an encoding gives
@@ -124,8 +125,7 @@ call_here i = call i [] finish
 
 -- calls for fields, the first of them of this number
 abbrev pub calls_from : ℕ → List ℕ → Recv
-calls_from j [] = finish
-calls_from j (i ∷ is) = call i (j ∷ []) (calls_from (suc j) is)
+calls_from = calls_of call finish
 
 -- the call of the last arm
 abbrev pub default_at : Option ℕ → Cases
@@ -134,8 +134,7 @@ default_at (Some i) = default (call_here i)
 
 -- a call for each arm
 abbrev pub cases_at : List (ℤ × ℕ) → Option ℕ → Cases
-cases_at [] other = default_at other
-cases_at (a ∷ arms) other = case a.0 (call_here a.1) (cases_at arms other)
+cases_at arms other = cases_of case call_here (default_at other) arms
 
 -- a body that is a call, and its number
 abbrev pub IsCall : ℤ × List RecvOp → ℤ → ℕ → Type 0

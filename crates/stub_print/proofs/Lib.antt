@@ -4,13 +4,15 @@
 pub mod Numerals
 -- * Texts put one after the other
 pub mod Putting
--- * The text of an operation with bodies
-pub mod Receiving
 -- * What octets tell: lines of words, and in words numbers, paths, orders and octets
 pub mod Told
+-- * The text of code of either direction: what it is made of, and how an operation with bodies is put
+pub mod Texts
+-- * The texts of code that sends and of code that receives, as what they have in common
+pub mod BothTexts
+-- What lines tell of code of either direction, from the last to the first, by induction on puts or gets and on codes
+pub mod Frames
 -- * The text of code that receives tells its name and the code, by mutual induction on code and cases
 pub mod RecvTold
 -- * The text of code that sends tells its name and the code, by mutual induction on code and cases
 pub mod SendTold
--- * The text of an operation with bodies
-pub mod Sending

@@ -1,4 +1,4 @@
-use Rattle.std.proofs.Common.{rules, ◌≡◌, ◌<◌, ℕ, ℤ, List, length, ap, sym, ◌∙◌, arith, subst}
+use Rattle.std.proofs.Common.{rules, ◌≡◌, ◌<◌, ℕ, ℤ, List, length, refl, ap, sym, ◌∙◌, arith, subst}
 use Rattle.std.specs.Prelude.{OnOk}
 use Rattle.std.proofs.Math.ListN.{take}
 use Rattle.mint.specs.Types.{type_at, unfolded, level, ArmsBelow}
@@ -7,12 +7,16 @@ use Rattle.cast_stub.specs.declared.send.SendOp.{SendOp}
 use Rattle.cast_stub.specs.Append.{append}
 use Rattle.cast_stub.specs.Block.{Block, stop, op_seen, code_seen, cases_seen}
 use Rattle.cast_stub.specs.PartTypes.{ty_at, arms_at}
+use Rattle.cast_stub.proofs.Directions.{sends}
+use Rattle.cast_stub.proofs.InStep.{as-many, this-has, more-have, all-have}
+use Rattle.cast_stub.proofs.Trees.{op_has, one_more, switch_has, switch_is}
 use Rattle.hoist.proofs.InStep.{arm-below}
 use Rattle.copy_inline.specs.Ready.{IsReady, CasesReady}
-use Rattle.copy_inline.specs.RowBodies.{AreRowed, ArmsReady}
-use Rattle.copy_inline.specs.Rowed.{cases_rowed}
-use Rattle.copy_inline.proofs.RowEmitting.{one_more, switch_is, switch_ready, typed, by_typed, arms_there}
-use Rattle.copy_inline.proofs.RowsInStep.{as-many, this-ready, one-rowed, all-rowed, arms-ready, cases-rowed, op-ready}
+use Rattle.copy_inline.specs.RowBodies.{RowedFor, AreRowed, ReadyFor, ArmsReady}
+use Rattle.copy_inline.specs.Rowed.{by_type, rowed, cases_rowed}
+use Rattle.copy_inline.proofs.RowCounts.{rowed-append}
+use Rattle.copy_inline.proofs.RowEmitting.{typed, by_typed, arms_there}
+use Rattle.copy_inline.proofs.RowsInStep.{arms-ready, cases-rowed, both-ready}
 use Rattle.copy_inline.proofs.sent_rows.+rows.Goals as goal
 
 pub rows_ops-put_op-requires : goal.rows_ops-put_op-requires
@@ -22,14 +26,17 @@ rows_ops-put_op-requires t c =
       (
         c.requires.id,
         subst (λ (o : SendOp). IsReady c.args.enc ty (op_seen o stop)) (sym c.op-item.is)
-            (op-ready c.args.enc ty c.as_slice-op-items.result.now c.loop-op.op-index c.op-item.result c.loop-op-test.true
+            (op_has sends (IsReady c.args.enc ty) (both-ready c.args.enc ty) c.as_slice-op-items.result.now c.loop-op.op-index
+            c.op-item.result c.loop-op-test.true
             (subst (λ (l : List SendOp). IsReady c.args.enc ty (code_seen l)) (sym c.as_slice-op-items.ensures) c.requires.ready)),
       ),
     )
 
 pub rows_ops-loop-op-preserved : goal.rows_ops-loop-op-preserved
 rows_ops-loop-op-preserved t c =
-    one_more c.args.enc (type_at c.args.mint.now c.args.id) _ _ c.op-item.result _ _ c.loop-op-test.true c.op-item.is c.loop-op.invariant
+    let ty = type_at c.args.mint.now c.args.id in
+    one_more sends (rowed c.args.enc ty) (rowed-append c.args.enc ty) _ _ c.op-item.result stop _ _ c.loop-op-test.true c.op-item.is
+    c.loop-op.invariant
     c.in_ok-put_op.ensures
 
 pub put_op-switch_bodies-requires : goal.put_op-switch_bodies-requires
@@ -37,21 +44,24 @@ put_op-switch_bodies-requires t c = (
   omega arith,
   (
     c.requires.id,
-    switch_ready c.args.enc (type_at c.args.mint.now c.args.id) c.args.op.now c.in-Switch.path c.in-Switch.cases c.in-Switch.last
-        c.in-Switch.is c.requires.ready,
+    (switch_has sends (IsReady c.args.enc (type_at c.args.mint.now c.args.id)) c.args.op.now c.requires.ready c.in-Switch.path
+        c.in-Switch.cases c.in-Switch.last c.in-Switch.is).0,
   ),
 )
 
 pub put_op-returns-in_ok-copy_path-in-Switch : goal.put_op-returns-in_ok-copy_path-in-Switch
 put_op-returns-in_ok-copy_path-in-Switch t c =
+    let ty = type_at c.args.mint.now c.args.id in
     subst (λ (b : Block). OnOk c.add-in-Switch.result (code_seen c.add-in-Switch.new.out ≡ append (code_seen c.args.out.now) b))
-    (switch_is c.args.enc (type_at c.args.mint.now c.args.id) c.args.op.now c.in-Switch.path _ c.in-Switch.cases _ c.in-Switch.last _
-    c.in-Switch.is c.in_ok-copy_path-in-Switch.ensures c.in_ok-bodies-in-Switch.ensures)
+    (switch_is sends (rowed c.args.enc ty) c.args.op.now c.in-Switch.path _ c.in-Switch.path c.in-Switch.cases _ c.in-Switch.last _
+    (by_type (arms_at c.in-Switch.path ty) (cases_seen c.in-Switch.cases c.in-Switch.last)
+    (λ arms. cases_rowed c.args.enc arms (cases_seen c.in-Switch.cases c.in-Switch.last)))
+    c.in-Switch.is refl c.in_ok-copy_path-in-Switch.ensures c.in_ok-bodies-in-Switch.ensures)
     c.add-in-Switch.ensures
 
 pub rows_cases-bounds-arms-i : goal.rows_cases-bounds-arms-i
 rows_cases-bounds-arms-i t c =
-    let many = as-many c.args.enc (unfolded c.args.mint.now) c.args.arms.now c.args.cases.now c.requires.ready in
+    let many = as-many (ReadyFor c.args.enc (unfolded c.args.mint.now)) c.args.arms.now c.args.cases.now c.requires.ready in
     omega (arith, c.loop-i-test.true, many, ap length c.as_slice-arms.ensures, ap length c.as_slice-cases.ensures)
 
 pub rows_cases-rows_case-requires : goal.rows_cases-rows_case-requires
@@ -61,14 +71,14 @@ rows_cases-rows_case-requires t c =
     (subst (λ (l : List (ℤ × List SendOp)). ArmsReady c.args.enc us c.args.arms.now l) (sym c.as_slice-cases.ensures)
     c.requires.ready) in
     let within : c.loop-i.i < length c.as_slice-arms.result.now =
-    omega (arith, c.loop-i-test.true, as-many c.args.enc us c.as_slice-arms.result.now c.as_slice-cases.result.now ready) in
+    omega (arith, c.loop-i-test.true, as-many (ReadyFor c.args.enc us) c.as_slice-arms.result.now c.as_slice-cases.result.now ready) in
     let below = subst (ArmsBelow c.args.id) (sym c.as_slice-arms.ensures) c.requires.arms in (
       omega arith,
       (
         c.requires.id,
         (
           arm-below c.args.id c.as_slice-arms.result.now c.loop-i.i _ within below,
-          this-ready c.args.enc us c.as_slice-arms.result.now c.as_slice-cases.result.now c.loop-i.i _ c.index-cases-i.result
+          this-has (ReadyFor c.args.enc us) c.as_slice-arms.result.now c.as_slice-cases.result.now c.loop-i.i _ c.index-cases-i.result
               c.loop-i-test.true c.index-cases-i.is ready,
         ),
       ),
@@ -80,8 +90,10 @@ rows_cases-loop-i-preserved t c =
     let ready = subst (λ (l : List (ℤ × ℕ)). ArmsReady c.args.enc us l c.as_slice-cases.result.now) (sym c.as_slice-arms.ensures)
     (subst (λ (l : List (ℤ × List SendOp)). ArmsReady c.args.enc us c.args.arms.now l) (sym c.as_slice-cases.ensures)
     c.requires.ready) in
-    one-rowed c.args.enc us c.as_slice-arms.result.now c.as_slice-cases.result.now c.loop-i.bodies c.push.new.self c.loop-i.i _
-    c.index-cases-i.result c.in_ok-rows_case.field-0 ready c.loop-i-test.true c.index-cases-i.is c.loop-i.invariant
+    more-have (RowedFor c.args.enc us) c.as_slice-arms.result.now c.as_slice-cases.result.now c.loop-i.bodies c.push.new.self c.loop-i.i _
+    c.index-cases-i.result c.in_ok-rows_case.field-0
+    (as-many (ReadyFor c.args.enc us) c.as_slice-arms.result.now c.as_slice-cases.result.now ready) c.loop-i-test.true
+    c.index-cases-i.is c.loop-i.invariant
     c.in_ok-rows_case.ensures c.in_ok-push.ensures.ok
 
 pub rows_cases-returns : goal.rows_cases-returns
@@ -92,7 +104,8 @@ rows_cases-returns t c =
     (subst
     (λ (l : List (ℤ × List SendOp)). AreRowed c.args.enc us (take c.loop-i.i c.as_slice-arms.result.now) (take c.loop-i.i l)
     c.loop-i.bodies) c.as_slice-cases.ensures c.loop-i.invariant) in
-    all-rowed c.args.enc us c.args.arms.now c.args.cases.now c.loop-i.bodies c.loop-i.i c.requires.ready
+    all-have (RowedFor c.args.enc us) c.args.arms.now c.args.cases.now c.loop-i.bodies c.loop-i.i
+    (as-many (ReadyFor c.args.enc us) c.args.arms.now c.args.cases.now c.requires.ready)
     (omega (arith, c.loop-i-test.false, ap length c.as_slice-cases.ensures)) so_far
 
 pub switch_bodies-rows_cases-requires : goal.switch_bodies-rows_cases-requires

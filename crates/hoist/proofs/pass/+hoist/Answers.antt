@@ -7,14 +7,17 @@ use Rattle.cast_stub.specs.declared.send.SendOp.{SendOp}
 use Rattle.cast_stub.specs.Block.{Block, stop, op_seen, code_seen, cases_seen}
 use Rattle.cast_stub.specs.PartTypes.{ty_at, present_at}
 use Rattle.hoist.specs.Hoisted.{closed, hoisted, kept, items_at, or_void, IsTaken}
-use Rattle.hoist.specs.Seen.{span_roles, plan_seen, AreHoisted, ArmsTaken}
+use Rattle.hoist.specs.Seen.{span_roles, plan_seen, HoistedFor, AreHoisted, TakenFor, ArmsTaken}
 use Rattle.hoist.proofs.Passing.{front-align, front-chunk, front-patch, front-each, front-some, front-switch, switch-taken, switch-apart, switch-kept, each-kept, some-kept}
-use Rattle.hoist.proofs.InStep.{arm-below, as-many, this-taken, one-hoisted, all-hoisted, arms-taken, cases-hoisted, op-taken}
+use Rattle.cast_stub.proofs.Directions.{sends}
+use Rattle.cast_stub.proofs.InStep.{as-many, this-has, more-have, all-have}
+use Rattle.cast_stub.proofs.Trees.{op_has}
+use Rattle.hoist.proofs.InStep.{arm-below, arms-taken, cases-hoisted, both-taken}
 use Rattle.hoist.proofs.pass.+hoist.Goals as goal
 
 pub hoist_cases-bounds-arms-i : goal.hoist_cases-bounds-arms-i
 hoist_cases-bounds-arms-i t c =
-    let many = as-many c.args.classes.now.enc (unfolded c.args.mint.now) c.args.arms.now c.args.cases.now c.requires.taken in
+    let many = as-many (TakenFor c.args.classes.now.enc (unfolded c.args.mint.now)) c.args.arms.now c.args.cases.now c.requires.taken in
     omega (arith, c.loop-i-test.true, many, ap length c.as_slice-arms.ensures, ap length c.as_slice-cases.ensures)
 
 pub hoist_cases-hoist_case-requires : goal.hoist_cases-hoist_case-requires
@@ -24,7 +27,12 @@ hoist_cases-hoist_case-requires t c =
     (sym c.as_slice-arms.ensures) (subst (λ (l : List (ℤ × List SendOp)). ArmsTaken c.args.classes.now.enc us c.args.arms.now l)
     (sym c.as_slice-cases.ensures) c.requires.taken) in
     let within : c.loop-i.i < length c.as_slice-arms.result.now =
-    omega (arith, c.loop-i-test.true, as-many c.args.classes.now.enc us c.as_slice-arms.result.now c.as_slice-cases.result.now taken) in
+    omega (
+      arith,
+      c.loop-i-test.true,
+      as-many (TakenFor c.args.classes.now.enc us) c.as_slice-arms.result.now
+          c.as_slice-cases.result.now taken,
+    ) in
     let below = subst (ArmsBelow c.args.id) (sym c.as_slice-arms.ensures) c.requires.arms in (
       omega arith,
       (
@@ -33,7 +41,8 @@ hoist_cases-hoist_case-requires t c =
           c.requires.classes,
           (
             arm-below c.args.id c.as_slice-arms.result.now c.loop-i.i _ within below,
-            this-taken c.args.classes.now.enc us c.as_slice-arms.result.now c.as_slice-cases.result.now c.loop-i.i _ c.index-cases-i.result
+            this-has (TakenFor c.args.classes.now.enc us) c.as_slice-arms.result.now c.as_slice-cases.result.now c.loop-i.i _
+                c.index-cases-i.result
                 c.loop-i-test.true c.index-cases-i.is taken,
           ),
         ),
@@ -46,8 +55,10 @@ hoist_cases-loop-i-preserved t c =
     let taken = subst (λ (l : List (ℤ × ℕ)). ArmsTaken c.args.classes.now.enc us l c.as_slice-cases.result.now)
     (sym c.as_slice-arms.ensures) (subst (λ (l : List (ℤ × List SendOp)). ArmsTaken c.args.classes.now.enc us c.args.arms.now l)
     (sym c.as_slice-cases.ensures) c.requires.taken) in
-    one-hoisted c.args.classes.now.enc us c.as_slice-arms.result.now c.as_slice-cases.result.now c.loop-i.bodies c.push.new.self c.loop-i.i
-    _ c.index-cases-i.result c.in_ok-hoist_case.field-0 taken c.loop-i-test.true c.index-cases-i.is c.loop-i.invariant
+    more-have (HoistedFor c.args.classes.now.enc us) c.as_slice-arms.result.now c.as_slice-cases.result.now c.loop-i.bodies c.push.new.self
+    c.loop-i.i _ c.index-cases-i.result c.in_ok-hoist_case.field-0
+    (as-many (TakenFor c.args.classes.now.enc us) c.as_slice-arms.result.now c.as_slice-cases.result.now taken) c.loop-i-test.true
+    c.index-cases-i.is c.loop-i.invariant
     c.in_ok-hoist_case.ensures c.in_ok-push.ensures.ok
 
 pub hoist_cases-returns : goal.hoist_cases-returns
@@ -59,7 +70,8 @@ hoist_cases-returns t c =
     (subst
     (λ (l : List (ℤ × List SendOp)). AreHoisted c.args.classes.now.enc us (take c.loop-i.i c.as_slice-arms.result.now) (take c.loop-i.i l)
     c.loop-i.bodies) c.as_slice-cases.ensures c.loop-i.invariant) in
-    all-hoisted c.args.classes.now.enc us c.args.arms.now c.args.cases.now c.loop-i.bodies c.loop-i.i c.requires.taken
+    all-have (HoistedFor c.args.classes.now.enc us) c.args.arms.now c.args.cases.now c.loop-i.bodies c.loop-i.i
+    (as-many (TakenFor c.args.classes.now.enc us) c.args.arms.now c.args.cases.now c.requires.taken)
     (omega (arith, c.loop-i-test.false, ap length c.as_slice-cases.ensures)) so_far
 
 pub hoist_op-switch_bodies-requires : goal.hoist_op-switch_bodies-requires
@@ -133,7 +145,8 @@ hoist_ops-hoist_op-requires t c =
         (
           c.requires.classes,
           subst (λ (o : SendOp). IsTaken (span_roles c.args.classes.now.enc) ty (op_seen o stop)) (sym c.index-list-i.is)
-              (op-taken c.args.classes.now.enc ty c.as_slice-list.result.now (c.loop-i.i - 1) c.index-list-i.result within taken),
+              (op_has sends (IsTaken (span_roles c.args.classes.now.enc) ty) (both-taken c.args.classes.now.enc ty)
+              c.as_slice-list.result.now (c.loop-i.i - 1) c.index-list-i.result within taken),
         ),
       ),
     )

@@ -1,6 +1,7 @@
 use Rattle.std.proofs.Math.ListN.{take}
-use Rattle.stub_lower.proofs.Building.{AreCalls}
+use Rattle.cast_stub.proofs.Directions.{sends}
+use Rattle.stub_lower.proofs.Calling.{AreCalls}
 use Rattle.stub_lower.proofs.nodes.add_switch.Given as goal
 
 abbrev pub invariant-loop-n : goal.invariant-loop-n
-invariant-loop-n l = AreCalls l.cases (take l.n-index l.n-items)
+invariant-loop-n l = AreCalls sends l.cases (take l.n-index l.n-items)
