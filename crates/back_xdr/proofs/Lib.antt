@@ -16,6 +16,10 @@ pub mod Steps
 pub mod Exact
 -- * How many operations there are, by induction on the interfaces
 pub mod Counting
+-- * The procedure of an operation is found in the operation's own interface, by induction on the interfaces
+pub mod Homes
+-- * How many operations the interfaces before one have, by induction on the interfaces
+pub mod Before
 -- * A head as one chunk appends its octets
 pub mod Coding
 -- * Words that are put let no count fall

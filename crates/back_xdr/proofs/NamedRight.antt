@@ -8,7 +8,7 @@ use Rattle.aoi.specs.Plain.{PlainInterface}
 use Rattle.back_xdr.specs.declared.call.OncCall.{OncCall}
 use Rattle.back_xdr.specs.declared.procedures.Procedure.{Procedure}
 use Rattle.call_kit.specs.declared.called.Naming.TheVariants.{Operation}
-use Rattle.back_xdr.specs.Procedures.{numbers, procedures_of, procedures}
+use Rattle.back_xdr.specs.Procedures.{numbers, procedure_in, procedures_of, procedures}
 use Rattle.back_xdr.specs.Seeking.{is_called, operation_at, named_from}
 use Rattle.back_xdr.specs.Laws.{called_by, IsNamedRight}
 
@@ -42,9 +42,6 @@ place_of (Some j) op e = cc
 
 abbrev IsAt : ℕ → List PlainInterface → OncCall → ℕ → Type 0
 IsAt k is c op = (i : ℕ) × (op ≡ k + i) × (get_or (procedures is) i none ≡ called_by c)
-
-abbrev procedure_in : PlainInterface → ℕ → Procedure
-procedure_in i n = record { program = i.program; version = i.version; number = n }
 
 behind_first : (i : PlainInterface) (is : List PlainInterface) (j : ℕ)
     → get_or (procedures (i ∷ is)) (length (numbers i) + j) none ≡ get_or (procedures is) j none

@@ -1,14 +1,16 @@
 //! The procedures of interfaces.
 
-ghost use Rattle.std.specs.Prelude.{◌≡◌, ◌+◌, ◌<◌, ◌^◌, ◌==◌, length, map, slice_get, slice_index, Some};
+ghost use Rattle.std.specs.Prelude.{◌≡◌, ◌+◌, ◌<◌, ◌^◌, ◌==◌, length, map, slice_index};
 ghost use Rattle.std.specs.List.{list_any, position_from};
+ghost use Rattle.std.specs.List.Sorted.{IsNonDecreasingBy};
 ghost use Rattle.aoi.specs.Plain.{PlainOperation, plain_operation, plain_interface};
 ghost use Rattle.wire_def.specs.declared.encoding.Back.TheVariants.{Xdr};
+ghost use Rattle.pres.specs.declared.ops.Op.{Op as OpRecord};
 ghost use Rattle.pres.specs.Offers.{gets_null};
-ghost use Rattle.back_xdr.specs.Procedures.{numbers, procedures, procedure_of};
+ghost use Rattle.back_xdr.specs.Procedures.{numbers, procedures, procedure_in, procedure_of, before, homes, IsFirst};
 
 use aoi::{Interface, Operation};
-use pres::Bound;
+use pres::{Bound, Op};
 
 /// A procedure: its program, the program's version, and its number.
 #[derive(Clone, Copy, Debug, PartialEq, Eq)]
@@ -62,24 +64,53 @@ fn number(i: &Interface, place: usize) -> u32
     }
 }
 
-/// The procedure at a place, counted from 0 over all interfaces.
-pub(crate) fn procedure_at(interfaces: &[Interface], place: usize) -> Procedure
-    requires { place < length (procedures (map plain_interface interfaces.now)) }
-    ensures { slice_get (procedures (map plain_interface interfaces.now)) place ≡ Some result }
+/// The procedure of an interface by its place, counted from 0.
+fn procedure_in(i: &Interface, place: usize) -> Procedure
+    requires { place < length (numbers (plain_interface i.now)) }
+    ensures { result ≡ procedure_in (plain_interface i.now)
+        (slice_index (numbers (plain_interface i.now)) place) }
 {
-    let Some((i, others)) = interfaces.split_first() else {
-        unreachable!()
-    };
-    let own = count(i);
-    if place < own {
-        let number = number(i, place);
-        Procedure {
-            program: i.program,
-            version: i.version,
-            number,
-        }
-    } else {
-        procedure_at(others, place - own)
+    Procedure {
+        program: i.program,
+        version: i.version,
+        number: number(i, place),
+    }
+}
+
+/// The place of the first operation of the interface that the operation at a place is of.
+fn first_of(ops: &[Op], place: usize) -> usize
+    requires place { place < length ops.now }
+    requires rise { IsNonDecreasingBy (λ (op : OpRecord). op.interface) ops.now }
+    ensures { IsFirst (homes ops.now) place result }
+{
+    let home = ops[place].interface;
+    ops.partition_point(|op| op.interface < home)
+}
+
+/// How many operations the interfaces before a place have.
+pub(crate) fn before(bound: &Bound, place: usize) -> u32
+    requires { bound.now.back ≡ Xdr }
+    ensures { result ≡ before place bound.now.unit.interfaces }
+{
+    operations_are_procedures(bound);
+    let ops = bound.ops().as_slice();
+    ops.partition_point(|op| (op.interface as usize) < place) as u32
+}
+
+/// The interface that an operation is of, and the operation's place in it.
+fn home_of(bound: &Bound, op: u32) -> (&Interface, usize)
+    requires xdr { bound.now.back ≡ Xdr }
+    requires op { op < length bound.now.ops }
+    ensures place { result.1 < length (numbers (plain_interface result.0.now)) }
+    ensures procedure { procedure_of bound.now op ≡ procedure_in (plain_interface result.0.now)
+        (slice_index (numbers (plain_interface result.0.now)) result.1) }
+{
+    let ops = bound.ops().as_slice();
+    let place = op as usize;
+    let first = first_of(ops, place);
+    match bound.unit().interfaces().get(ops[place].interface as usize) {
+        Some(i) => (i, place - first),
+        None => unreachable!(),
     }
 }
 
@@ -112,12 +143,12 @@ pub fn operations_are_procedures(bound: &Bound)
     bound.unit().interfaces_are_apart();
 }
 
-/// The procedure that is an operation of a bound unit.
+/// The procedure that is an operation of a bound unit. It is found in the operation's own interface alone.
 pub fn procedure_of(bound: &Bound, op: u32) -> Procedure
     requires xdr { bound.now.back ≡ Xdr }
     requires op { op < length bound.now.ops }
     ensures { result ≡ procedure_of bound.now op }
 {
-    operations_are_procedures(bound);
-    procedure_at(bound.unit().interfaces().as_slice(), op as usize)
+    let (i, place) = home_of(bound, op);
+    procedure_in(i, place)
 }

@@ -1,16 +1,15 @@
 //! What calls name, and what their heads say, over a bound unit.
 
-ghost use Rattle.std.specs.Prelude.{◌≡◌, ◌+◌, ◌<◌, ◌^◌, length, map, IfOk, IfErr};
+ghost use Rattle.std.specs.Prelude.{◌≡◌, length, map, IfOk, IfErr};
 ghost use Rattle.wire_def.specs.declared.encoding.Back.TheVariants.{Xdr};
 ghost use Rattle.aoi.specs.Plain.{plain_interface};
 ghost use Rattle.call_kit.specs.Calls.{IsBelow};
 ghost use Rattle.back_xdr.specs.Heads.{StopsWith};
 ghost use Rattle.back_xdr.specs.Heads as heads;
-ghost use Rattle.back_xdr.specs.Procedures.{procedures};
-ghost use Rattle.back_xdr.specs.Seeking.{named, named_from, is_called, operation_at, Calls};
+ghost use Rattle.back_xdr.specs.Seeking.{named, is_called, operation_at, Calls};
 
 use crate::call::{OncCall, read_call};
-use crate::procedures::{count, operations_are_procedures, place_of};
+use crate::procedures::{before, operations_are_procedures, place_of};
 use aoi::Interface;
 use call_kit::{Called, Naming};
 use pres::Bound;
@@ -34,17 +33,19 @@ fn operation_at(place: Option<u32>) -> Naming
     }
 }
 
-/// The operation that a call names, where those of the interfaces are counted from a number.
-fn seek(interfaces: &[Interface], first: u32, call: &OncCall) -> Naming
-    requires { first + length (procedures (map plain_interface interfaces.now)) < 2 ^ 32 }
-    ensures { result ≡ named_from first (map plain_interface interfaces.now) call.now }
+/// The operation that a call names, in the first of the interfaces that it calls.
+fn seek(bound: &Bound, interfaces: &[Interface], call: &OncCall) -> Naming
+    requires xdr { bound.now.back ≡ Xdr }
+    requires all { map plain_interface interfaces.now ≡ bound.now.unit.interfaces }
+    ensures { result ≡ named bound.now call.now }
 {
-    let mut first = first;
+    operations_are_procedures(bound);
+    let mut place = 0;
     for i in interfaces {
         if is_called(call, i) {
-            return operation_at(place_of(i, first, call.proc_no));
+            return operation_at(place_of(i, before(bound, place), call.proc_no));
         }
-        first += count(i) as u32;
+        place += 1;
     }
     Naming::NoInterface
 }
@@ -56,7 +57,7 @@ fn named(bound: &Bound, call: &OncCall) -> Naming
     ensures below { IsBelow (length bound.now.ops) result }
 {
     operations_are_procedures(bound);
-    seek(bound.unit().interfaces().as_slice(), 0, call)
+    seek(bound, bound.unit().interfaces().as_slice(), call)
 }
 
 /// Reads the head of a call from the first octets of a message: what it says over a bound unit, or

@@ -1,16 +1,15 @@
-use Rattle.std.proofs.Common.{◌≡◌, ◌∙◌, map, sym, ap, subst, length, zero-add}
-use Rattle.aoi.specs.Plain.{PlainUnit, PlainInterface, plain_interface}
+use Rattle.std.proofs.Common.{ℕ, sym, subst, length, zero-add}
+use Rattle.call_kit.specs.declared.called.Naming.{Naming}
 use Rattle.call_kit.specs.Calls.{IsBelow}
 use Rattle.back_xdr.specs.Procedures.{procedures}
-use Rattle.back_xdr.specs.Seeking.{named_from}
+use Rattle.back_xdr.specs.Seeking.{named}
 use Rattle.back_xdr.proofs.NamedBelow.{named_below}
 use Rattle.back_xdr.proofs.seek.named.Goals as goal
 
 pub returns-clause-below : goal.returns-clause-below
 returns-clause-below c =
-    let below : IsBelow (length (procedures c.args.bound.now.unit.interfaces))
-    (named_from 0 c.args.bound.now.unit.interfaces c.args.call.now) =
-    rw zero-add at (named_below 0 c.args.bound.now.unit.interfaces c.args.call.now) in
-    let same : map plain_interface c.unit.result.now.interfaces ≡ c.args.bound.now.unit.interfaces =
-    ap (λ (u : PlainUnit). u.interfaces) c.unit.ensures in
-    rw (c.seek.ensures, c.as_slice.ensures, c.interfaces.ensures, same, ← c.operations_are_procedures.ensures.many) below
+    let b = c.args.bound.now in
+    let below : IsBelow (length (procedures b.unit.interfaces)) (named b c.args.call.now) =
+    rw zero-add at (named_below 0 b.unit.interfaces c.args.call.now) in
+    let few = subst (λ (n : ℕ). IsBelow n (named b c.args.call.now)) c.operations_are_procedures.ensures.many below in
+    subst (λ (x : Naming). IsBelow (length b.ops) x) (sym c.seek.ensures) few
