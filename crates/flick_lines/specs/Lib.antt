@@ -1,5 +1,6 @@
 pub mod Counted
 pub mod Marshalled
 pub mod Paid
+pub mod Sent
 pub mod Unmarshalled
 pub mod Verbs

@@ -8,6 +8,10 @@ pub mod Determined
 pub mod Turning
 -- * Whatever ends a run, a front of the defined output was written
 pub mod Prefix
+-- * What becomes of the buffer over the lines that were answered is what becomes of it over the input's
+pub mod Passing
+-- * What becomes of the buffer from line to line is what is sent of the lines, by induction on the lines
+pub mod Spending
 -- * What was answered where the source failed: the lines that ended in the octets taken, by induction on the octets
 pub mod Ended
 -- * Each line has an answer

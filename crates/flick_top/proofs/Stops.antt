@@ -14,3 +14,9 @@ pub too_much-of : (e : LineErr) → number_of (status_at e) ≡ 8 → e ≡ TooM
 too_much-of Failed h = absurd (omega arith)
 too_much-of TooMuch h = refl
 too_much-of NoMemory h = absurd (omega arith)
+
+-- no error ends as work that was done
+pub over-one : (e : LineErr) → number_of (status_at e) ≤ 1 → ⊥
+over-one Failed h = omega arith
+over-one TooMuch h = omega arith
+over-one NoMemory h = omega arith

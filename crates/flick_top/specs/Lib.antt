@@ -7,7 +7,9 @@ pub mod Made
 pub mod Numbers
 pub mod Output
 pub mod Outside
+pub mod Passing
 pub mod Saying
+pub mod Spending
 pub mod Statement
 pub mod Status
 pub mod Turn

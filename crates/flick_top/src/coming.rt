@@ -74,7 +74,8 @@ pub fn task_of<F: Shelf>(
     ensures cause { IfErr result (λ e. e ≡ TaskErr.Shelf → Rose (F.faults shelf.old) (F.faults shelf.new)) }
     ensures file { IfErr result (λ e. e ≡ TaskErr.Shelf → ReadsFiles (Some command)) }
     ensures stands { result ≢ Err TaskErr.Shelf → F.faults shelf.old ≡ F.faults shelf.new }
-    // What stays the same.
+    // What becomes of the buffer.
+    ensures buffer { IfOk result (λ task. task.lines ≢ None → buf.new ≡ buf.old) }
     ensures spent { NoneFell buf.old.spent buf.new.spent }
 {
     match command {
@@ -121,7 +122,8 @@ fn acted<F: Shelf>(
     ensures later { F.faults shelf.old ≤ F.faults shelf.new }
     ensures cause { IfErr result (λ e. e ≡ TaskErr.Shelf → Rose (F.faults shelf.old) (F.faults shelf.new)) }
     ensures stands { result ≢ Err TaskErr.Shelf → F.faults shelf.old ≡ F.faults shelf.new }
-    // What stays the same.
+    // What becomes of the buffer.
+    ensures buffer { IfOk result (λ task. task.lines ≢ None → buf.new ≡ buf.old) }
     ensures spent { NoneFell buf.old.spent buf.new.spent }
 {
     match told {
@@ -149,7 +151,8 @@ fn acting<F: Shelf>(
     ensures later { F.faults shelf.old ≤ F.faults shelf.new }
     ensures cause { IfErr result (λ e. e ≡ TaskErr.Shelf → Rose (F.faults shelf.old) (F.faults shelf.new)) }
     ensures stands { result ≢ Err TaskErr.Shelf → F.faults shelf.old ≡ F.faults shelf.new }
-    // What stays the same.
+    // What becomes of the buffer.
+    ensures buffer { IfOk result (λ task. task.lines ≢ None → buf.new ≡ buf.old) }
     ensures spent { NoneFell buf.old.spent buf.new.spent }
 {
     match action {

@@ -1,9 +1,10 @@
 // What answers the lines of the input.
-ghost use Rattle.std.specs.Prelude.{◌≡◌, IfOk};
+ghost use Rattle.std.specs.Prelude.{◌≡◌, IfOk, OnOk};
 ghost use Rattle.raw_buf.specs.Buf.{NoneFell};
 ghost use Rattle.op_codes.specs.Stubs.{IsCoded};
 ghost use Rattle.flick_top.specs.Answer.{Answering, IsAnswering, IsAnswerOf};
 ghost use Rattle.flick_top.specs.Made.{engine_in};
+ghost use Rattle.flick_top.specs.Passing.{PassesText};
 
 use flick_engine::Engine;
 use flick_lines::Verb;
@@ -25,6 +26,7 @@ impl Job {
     /// The answer to the octets of a line, without its line feed.
     pub fn answer(&self, alloc: Global, text: &[u8], buf: &mut SendBuf) -> Result<Octets, NoMemory>
         ensures value { IfOk result (λ o. IsAnswerOf self.now text.now o) }
+        ensures passes { OnOk result (PassesText self.now text.now buf.old buf.new) }
         ensures spent { NoneFell buf.old.spent buf.new.spent }
     {
         match self {

@@ -4,6 +4,7 @@ ghost use Rattle.kit_base.specs.Causes.{Rose};
 ghost use Rattle.raw_buf.specs.Buf.{NoneFell};
 ghost use Rattle.flick_top.specs.Output.{Files};
 ghost use Rattle.flick_top.specs.Outside.{TakesFront, ComesBy, StandsUnless};
+ghost use Rattle.flick_top.specs.Spending.{SpendsBuf};
 ghost use Rattle.flick_top.specs.Statement.{Works, Leaves, IsUsage, NeedsFile, WritesNothing, WritesWholeLines, TakesMore, TakesAtMost, TakesNothing, Completes};
 
 use crate::coming::{TaskErr, task_of};
@@ -58,8 +59,11 @@ pub fn flick<F: Shelf, S: Source, K: Sink>(
     ensures completes { Completes (S.left input.old) (S.left input.new)
         (Rose (S.faults input.old) (S.faults input.new)) (Rose (K.faults output.old) (K.faults output.new))
         (Rose (F.faults shelf.old) (F.faults shelf.new)) result }
-    // What holds of each answer.
+    // What the buffer spent and holds.
+    ensures spends { (files : Files) → F.files shelf.old ≡ Some files
+        → SpendsBuf made.new words.now files (S.left input.old) buf.old buf.new result }
     ensures spent { NoneFell buf.old.spent buf.new.spent }
+    // What holds of each answer.
     ensures range { result ≤ 8 }
 {
     let Some(command) = command_of(words) else {

@@ -5,6 +5,7 @@ ghost use Rattle.raw_buf.specs.Buf.{NoneFell};
 ghost use Rattle.flick_top.specs.Answer.{Answering, IsAnswering};
 ghost use Rattle.flick_top.specs.Output.{answers_out, out_of, IsAnswered, LeavesInput, EndsInput};
 ghost use Rattle.flick_top.specs.Outside.{TakesFront, ComesBy, StandsUnless};
+ghost use Rattle.flick_top.specs.Passing.{PassesInput, PassesOf};
 ghost use Rattle.flick_top.specs.Statement.{Writes, WritesFront, WritesEnded, WritesNothing, WritesWholeLines, TakesMore, TakesAtMost, TakesNothing};
 ghost use Rattle.flick_top.specs.Status.{number_of};
 ghost use Rattle.flick_top.specs.Turn.{status_at, IsReady};
@@ -52,7 +53,8 @@ pub fn perform<S: Source, K: Sink>(
     ensures sink_told { StandsUnless 5 (K.faults output.old) (K.faults output.new) (number_of result) }
     ensures usage { result ≢ Status.Usage }
     ensures shelf { result ≢ Status.Shelf }
-    // What stays the same.
+    // What becomes of the buffer.
+    ensures passes { PassesOf task.now.lines (S.left input.old) buf.old buf.new (number_of result) }
     ensures spent { NoneFell buf.old.spent buf.new.spent }
 {
     if let Err(Failed) = write_whole(output, task.text.as_slice()) {
@@ -91,7 +93,8 @@ fn answer_lines<S: Source, K: Sink>(
     ensures others { (result ≢ Status.Usage) × (result ≢ Status.File) × (result ≢ Status.Shelf) }
     ensures at_end { number_of result ≤ 1 → IsAtEnd (S.left input.new) }
     ensures taken { TakesFront (S.left input.old) (S.left input.new) }
-    // What stays the same.
+    // What becomes of the buffer.
+    ensures passes { PassesInput job.now (S.left input.old) buf.old buf.new (number_of result) }
     ensures spent { NoneFell buf.old.spent buf.new.spent }
 {
     let mut lines = Lines::new(alloc, LONGEST_LINE, MOST_INPUT);

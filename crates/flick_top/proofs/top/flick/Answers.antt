@@ -1,7 +1,8 @@
-use Rattle.std.proofs.Common.{inr}
+use Rattle.std.proofs.Common.{arith, inr}
 use Rattle.flick_top.specs.Made.{codes_of}
 use Rattle.flick_top.proofs.Completing.{completes}
 use Rattle.flick_top.proofs.Leaving.{task-leaves}
+use Rattle.flick_top.proofs.Spending.{spends-for}
 use Rattle.flick_top.proofs.Tasking.{is-task, shapeless-work, shapeless-leaves}
 use Rattle.flick_top.proofs.top.flick.Goals as goal
 
@@ -49,3 +50,18 @@ pub returns-in-Ok-clause-lines : goal.returns-in-Ok-clause-lines
 returns-in-Ok-clause-lines g c =
     let (f, all) = c.lines_are_answered.ensures in
     rw c.number-in-Ok.ensures (c.perform-status.ensures.lines f all)
+
+pub returns-in_default-clause-spends : goal.returns-in_default-clause-spends
+returns-in_default-clause-spends g c = λ files told few. absurd (omega (arith, c.number.ensures, few))
+
+pub returns-in-Ok-clause-spends : goal.returns-in-Ok-clause-spends
+returns-in-Ok-clause-spends g c = λ files told few input is.
+    let (f, all) = c.lines_are_answered.ensures in (
+      c.in-Ok.task,
+      f,
+      is-task c.args.words.now files c.in-Ok.task c.into_engine.result _ _ c.command_of.ensures.value c.in-Some.is
+          c.into_engine.ensures (c.in-Ok.ensures.task files told),
+      all,
+      spends-for c.in-Ok.task.lines _ _ _ _ _ c.in-Ok.ensures.buffer c.perform-status.ensures.passes
+          (rw c.number-in-Ok.ensures at few) input is,
+    )

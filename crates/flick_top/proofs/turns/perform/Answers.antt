@@ -1,3 +1,5 @@
+use Rattle.std.proofs.Common.{arith}
+use Rattle.flick_top.proofs.Passing.{passes-of, passes-other}
 use Rattle.flick_top.proofs.Tasking.{answers-of, front-after, ended-after, whole-after, front-broken}
 use Rattle.flick_top.proofs.turns.perform.Goals as goal
 
@@ -21,3 +23,9 @@ returns-in-Some-clause-lines g c = λ f all.
     let text = rw c.as_slice.ensures at c.in_default.ensures.ok in
     whole-after c.args.task.now.text _ _ _ _ c.requires.ready.whole text
     (c.answer_lines.ensures.lines f (answers-of _ _ f c.in-Some.is all))
+
+pub returns-in-Err-clause-passes : goal.returns-in-Err-clause-passes
+returns-in-Err-clause-passes g c = passes-other c.args.task.now.lines _ _ _ _ (λ few. omega (arith, few))
+
+pub returns-in-Some-clause-passes : goal.returns-in-Some-clause-passes
+returns-in-Some-clause-passes g c = passes-of c.args.task.now.lines c.in-Some.job _ _ _ _ c.in-Some.is c.answer_lines.ensures.passes

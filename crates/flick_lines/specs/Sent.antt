@@ -1,0 +1,84 @@
+-- What is sent of lines under `marshal` and `count`, and what a buffer spends and holds that they are sent in.
+use Rattle.std.specs.Prelude.{◌≡◌, ◌⊎◌, ℕ, ◌<◌, ◌≤◌, List, [], ◌∷◌, length, Option, Some, None, IfSome, Result, Ok, Err}
+use Rattle.kit_base.specs.Limits.{longest_message}
+use Rattle.mint.specs.Values.{Val}
+use Rattle.wire_def.specs.declared.head.Head.{Head}
+use Rattle.raw_buf.specs.Buf.{Buf, NoneFell}
+use Rattle.cast_stub.specs.Meaning.{Cost, no_cost, sum}
+use Rattle.stub_machine.specs.Sending.{paid}
+use Rattle.op_codes.specs.Stubs.{Coded, sent_cost}
+use Rattle.serde_json.specs.Data.{Data}
+use Rattle.json_shape.specs.declared.errors.RecordErr.{RecordErr}
+use Rattle.json_shape.specs.Presents.{Presents}
+use Rattle.json_shape.specs.Records.{Begun}
+use Rattle.json_shape.specs.Requests.{request_of}
+use Rattle.flick_engine.specs.Messages.{message}
+use Rattle.flick_lines.specs.Marshalled.{Beginning, tree_of}
+
+-- what is sent: nothing, a message that is too long, or a message at what the code costs that makes it
+pub data Sending : Type 0 where
+  nothing : Sending
+  too_long : Sending
+  sends : List ℕ → Cost → Sending
+
+-- ---- a line
+
+-- what is sent of an operation, a head and a value
+abbrev pub Sent : Type 1
+Sent = ℕ → Head → Val → Sending → Type 0
+
+-- the message of a call, at what the code that is kept for its operation costs; or a message that is too long
+abbrev pub call_sent : Coded → ℕ → Head → Val → Sending → Type 0
+call_sent c op h v nothing = ⊥
+call_sent c op h v too_long = longest_message < length (message c.binding op h v)
+call_sent c op h v (sends octets k) =
+    (octets ≡ message c.binding op h v) × (length octets ≤ longest_message) × (sent_cost c.stubs op h v ≡ Some k)
+
+-- what is sent of a record: that of the value that it presents; nothing where it presents none
+abbrev pub IsSentOnce : Sent → Begun → Sending → Type 0
+IsSentOnce is_sent r s =
+    ((v : Val) × Presents r.face r.tree v × is_sent r.op r.head v s)
+    ⊎ (((v : Val) → ¬ Presents r.face r.tree v) × (s ≡ nothing))
+
+-- the same of a record that begins so; nothing of what is none
+abbrev pub IsSentRecord : Sent → Result Begun RecordErr → Sending → Type 0
+IsSentRecord is_sent (Err e) s = s ≡ nothing
+IsSentRecord is_sent (Ok r) s = IsSentOnce is_sent r s
+
+-- the same of a tree, by what trees begin
+abbrev pub IsSentTree : Sent → Beginning → Option Data → Sending → Type 0
+IsSentTree is_sent begun None s = s ≡ nothing
+IsSentTree is_sent begun (Some tree) s = IsSentRecord is_sent (begun tree) s
+
+-- what is sent of the octets of a line as a request record: the message of its call
+abbrev pub IsCallSent : Coded → List ℕ → Sending → Type 0
+IsCallSent c line s = IsSentTree (call_sent c) (request_of c.binding) (tree_of line) s
+
+-- ---- one after the other
+
+-- the sum of what the messages cost
+abbrev pub total : List Sending → Cost
+total [] = no_cost
+total (nothing ∷ ss) = total ss
+total (too_long ∷ ss) = total ss
+total (sends octets k ∷ ss) = sum k (total ss)
+
+-- no message is too long
+abbrev pub AllFit : List Sending → Type 0
+AllFit [] = Unit {0}
+AllFit (nothing ∷ ss) = AllFit ss
+AllFit (too_long ∷ ss) = ⊥
+AllFit (sends octets k ∷ ss) = AllFit ss
+
+-- what is held after them, where that is known: the last message, or what was held before; nothing is known after one that is too long
+abbrev pub held : Option (List ℕ) → List Sending → Option (List ℕ)
+held before [] = before
+held before (nothing ∷ ss) = held before ss
+held before (too_long ∷ ss) = held None ss
+held before (sends octets k ∷ ss) = held (Some octets) ss
+
+-- what the buffer spent rose by exactly the sum, or by at least that where a message is too long, and it holds the last message
+pub record IsSpentBy (ss : List Sending) (old new : Buf) : Type 0 where
+  pub exactly : AllFit ss → new.spent ≡ paid old.spent (total ss)
+  pub at_least : NoneFell (paid old.spent (total ss)) new.spent
+  pub done : IfSome (held (Some old.done) ss) (λ octets. new.done ≡ octets)

@@ -1,0 +1,51 @@
+-- What the buffer spends and holds where the lines of an input are answered.
+use Rattle.std.specs.Prelude.{◌≡◌, ◌≤◌, ℕ, List, [], ◌∷◌, Option, None, Some}
+use Rattle.kit_base.specs.Limits.{longest_line}
+use Rattle.kit_base.specs.declared.lines.Line.{Line}
+use Rattle.kit_base.specs.declared.lines.Line.TheVariants.{Text, Long, End}
+use Rattle.kit_base.specs.Lines.{lines}
+use Rattle.raw_buf.specs.Buf.{Buf}
+use Rattle.op_codes.specs.Stubs.{Coded}
+use Rattle.flick_lines.specs.declared.verb.Verb.{Verb}
+use Rattle.flick_lines.specs.declared.verb.Verb.TheVariants.{Marshal, Unmarshal, Reply, Unreply, Count}
+use Rattle.flick_lines.specs.Sent.{Sending, nothing, IsCallSent, IsSpentBy}
+use Rattle.flick_top.specs.declared.job.Job.{Job}
+use Rattle.flick_top.specs.declared.job.Job.TheVariants.{Over, Serve}
+use Rattle.flick_top.specs.Made.{codes_of}
+use Rattle.flick_top.specs.Output.{Files, Does}
+use Rattle.flick_top.specs.Outside.{Input}
+
+-- what is sent of a line, by what is sent of its octets; nothing of one that is too long
+abbrev pub IsSentLine : (List ℕ → Sending → Type 0) → Line → Sending → Type 0
+IsSentLine IsSent (Text octets) s = IsSent octets s
+IsSentLine IsSent Long s = s ≡ nothing
+IsSentLine IsSent End s = s ≡ nothing
+
+-- what is sent of each line, in order
+abbrev pub AreSent : (List ℕ → Sending → Type 0) → List Line → List Sending → Type 0
+AreSent IsSent [] ss = ss ≡ []
+AreSent IsSent (l ∷ ls) [] = ⊥
+AreSent IsSent (l ∷ ls) (s ∷ ss) = IsSentLine IsSent l s × AreSent IsSent ls ss
+
+-- the buffer is spent by what is sent of the lines, and holds the last message
+abbrev pub SendsLines : (List ℕ → Sending → Type 0) → List Line → Buf → Buf → Type 0
+SendsLines IsSent ls old new = (ss : List Sending) × AreSent IsSent ls ss × IsSpentBy ss old new
+
+-- what becomes of the buffer where a verb answers the lines; messages are read without it
+abbrev pub Spends : Verb → Coded → List Line → Buf → Buf → Type 0
+Spends Marshal c ls old new = SendsLines (IsCallSent c) ls old new
+Spends Unmarshal c ls old new = new ≡ old
+Spends Reply c ls old new = Unit {0}
+Spends Unreply c ls old new = new ≡ old
+Spends Count c ls old new = SendsLines (IsCallSent c) ls old new
+
+-- the same, where lines are answered
+abbrev pub SpendsFor : Option Job → List Line → Buf → Buf → Type 0
+SpendsFor None ls old new = Unit {0}
+SpendsFor (Some (Over verb c)) ls old new = Spends verb c ls old new
+SpendsFor (Some (Serve s)) ls old new = Unit {0}
+
+-- with status 0 and 1 so of the input's lines, for the task to which the words come over the files; its codes are those of this engine
+abbrev pub SpendsBuf : Option Coded → List (List ℕ) → Files → Input → Buf → Buf → ℕ → Type 0
+SpendsBuf made words files left old new status = status ≤ 1 → (input : List ℕ) → left ≡ Some input
+    → Does (codes_of made) words files (λ task f. SpendsFor task.lines (lines longest_line input) old new)
