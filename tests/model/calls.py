@@ -69,14 +69,16 @@ def no_constant(_):
     raise NoTree
 
 
-STRING = re.compile(r'"(?:[^"\\]|\\.)*"')
+STRING = re.compile(r'"[^"\\]*(?:\\.[^"\\]*)*"')
+BRACKET = re.compile(r"[][{}]")
+HALF = re.compile("[\ud800-\udfff]")
 
 
 def is_readable(text):
     """Whether a text of JSON has no half of a surrogate pair, and is nested no deeper than is read."""
-    if any(0xd800 <= ord(c) < 0xe000 for string in STRING.findall(text) for c in json.loads(string)):
+    if "\\u" in text and any(HALF.search(json.loads(string)) for string in STRING.findall(text)):
         return False
-    steps = ({"[": 1, "{": 1, "]": -1, "}": -1}.get(c, 0) for c in STRING.sub("", text))
+    steps = (1 if c in "[{" else -1 for c in BRACKET.findall(STRING.sub("", text)))
     return max(accumulate(steps), default=0) <= DEEPEST
 
 
@@ -92,12 +94,8 @@ def tree_of(line):
 
 
 def text_of(tree):
-    """JSON without blanks, members in the order of their names' octets."""
-    if isinstance(tree, dict):
-        return "{" + ",".join(f"{text_of(k)}:{text_of(tree[k])}" for k in sorted(tree, key=str.encode)) + "}"
-    if isinstance(tree, list):
-        return "[" + ",".join(map(text_of, tree)) + "]"
-    return json.dumps(tree, ensure_ascii=False)
+    """JSON without blanks, members in the order of their names' characters, which is that of their octets."""
+    return json.dumps(tree, ensure_ascii=False, separators=(",", ":"), sort_keys=True)
 
 
 def word(n):

@@ -3,16 +3,15 @@
 As all of the model it is written from the standard and docs/, with nothing of the crates in it.
 """
 from giop import Reading, Stop, header, message, request_fields, REQUEST
-from values import Array, Bool, Enum, Fault, Number, Opaque, Pointer, String, Struct, Union
+from packing import packed
+from values import Array, Bool, Fault, Number, Opaque, Pointer, String, Struct, Union
 
 BODY = 12  # the octets of a header, which stand before the fields
 
 
 def width(ty):
-    """How many octets a number takes, which is what it is aligned to."""
-    if isinstance(ty, Enum):
-        return 4
-    return 1 if isinstance(ty, Bool) else (ty.greatest - ty.least).bit_length() // 8
+    """How many octets a number takes, which is what it is aligned to. An enum has 32 bits."""
+    return 1 if isinstance(ty, Bool) else ty.bits // 8
 
 
 class Writing:
@@ -24,6 +23,11 @@ class Writing:
     def number(self, n, octets):
         self.fields += bytes(-(BODY + len(self.fields)) % octets) + (n % 2 ** (8 * octets)).to_bytes(octets, self.order)
 
+    def numbers(self, numbers, octets):
+        """Numbers one after the other: only the first may have zeros before it."""
+        if numbers:
+            self.fields += bytes(-(BODY + len(self.fields)) % octets) + packed(numbers, octets, self.order)
+
     def value(self, ty, value):
         if isinstance(ty, Number):
             self.number(value, width(ty))
@@ -33,6 +37,9 @@ class Writing:
         elif isinstance(ty, Opaque):
             self.count(ty.count, len(value))
             self.fields += value
+        elif isinstance(ty, Array) and isinstance(ty.element, Number):
+            self.count(ty.count, len(value))
+            self.numbers(value, width(ty.element))
         elif isinstance(ty, Array):
             self.count(ty.count, len(value))
             for element in value:
@@ -63,6 +70,15 @@ def number_in(reading, ty):
     return n
 
 
+def numbers_in(reading, ty, length):
+    """So many numbers: all at once, or one by one up to the fault."""
+    begin, numbers = reading.at, reading.numbers(length, width(ty), ty.signed)
+    if numbers is not None and all(map(ty.has, numbers)):
+        return numbers
+    reading.at = begin
+    return [number_in(reading, ty) for _ in range(length)]
+
+
 def count_in(reading, count, more=0):
     """A number of elements, or the length of a string with the octet that ends it."""
     try:
@@ -86,12 +102,10 @@ def octets_in(reading, length):
 
 def text_in(reading, ty):
     length = count_in(reading, ty.count, 1)
-    for place in range(reading.at, reading.at + length):
-        if place >= len(reading.octets):
-            raise Fault("Short", place)
-        if (reading.octets[place] == 0) != (place == reading.at + length - 1):
-            raise Fault("BadText", place)
-    return octets_in(reading, length)[:-1]
+    try:
+        return reading.text(length)
+    except Stop as stop:
+        raise Fault(*str(stop).split()) from None
 
 
 def value_in(reading, ty):
@@ -103,6 +117,8 @@ def value_in(reading, ty):
         return octets_in(reading, ty.count.bound if ty.count.exact else count_in(reading, ty.count))
     if isinstance(ty, Array):
         length = ty.count.bound if ty.count.exact else count_in(reading, ty.count)
+        if isinstance(ty.element, Number):
+            return numbers_in(reading, ty.element, length)
         return [value_in(reading, ty.element) for _ in range(length)]
     if isinstance(ty, Pointer):
         return [value_in(reading, ty.array.element)] if number_in(reading, Bool()) else None

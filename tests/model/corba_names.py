@@ -4,6 +4,7 @@ The whole tree is walked once, and every fault is kept with the place of its tok
 whose token stands first; at one token it is the first one of `FAULTS`. After a fault whatever it touches is None, which
 has no faults of its own. As all of the model it is written from the rules, with nothing of the crates in it.
 """
+from functools import lru_cache
 from itertools import count
 
 from calls import Called, Interface
@@ -363,12 +364,18 @@ def resolved(trees):
     return resolver.offer
 
 
+@lru_cache(maxsize=1)
+def read(text):
+    """The trees of a text and the token after them. All that is asked of a file is asked of its trees, which never change."""
+    return file_of(tokens_of(text))
+
+
 def offer_of(text):
     """What a file offers."""
     if len(text) > MOST_OCTETS:
         raise Refused("size")
     try:
-        trees, failing = file_of(tokens_of(text))
+        trees, failing = read(text)
     except TextFault as fault:
         raise Refused(f"lex {fault}") from None
     if failing:

@@ -3,6 +3,7 @@
 As all of the model it is written from the standard and docs/, with nothing of the crates in it.
 """
 from nodes import WIDTHS, arm_of, count_of, greatest, is_exact, least, sent, tag_kind
+from packing import unpacked
 
 REQUEST, REPLY, LOCATE_REQUEST, LOCATE_REPLY, MESSAGE_ERROR = 0, 1, 3, 4, 6
 USER, SYSTEM = 1, 2
@@ -31,6 +32,26 @@ class Reading:
             raise Stop("Short", place)
         self.at = place + width
         return place, int.from_bytes(self.octets[place:self.at], self.order, signed=signed)
+
+    def numbers(self, length, width, signed=False):
+        """So many numbers one after the other, or None where they are not all there."""
+        place = self.at + -self.at % width if length else self.at
+        if len(self.octets) < place + length * width:
+            return None
+        self.at = place + length * width
+        return unpacked(self.octets[place:self.at], width, self.order, signed)
+
+    def text(self, length):
+        """A text of so many octets with the NUL that ends it, without it: no other is 0, and the first fault counts."""
+        end = self.octets.find(b"\0", self.at, self.at + length)
+        last = self.at + length - 1
+        if 0 <= end < last:
+            raise Stop("BadText", end)
+        if last >= len(self.octets):
+            raise Stop("Short", len(self.octets))
+        if end < 0:
+            raise Stop("BadText", last)
+        return self.block(length)[:-1]
 
     def block(self, length):
         """So many octets: the first that is not there is the fault."""
@@ -210,12 +231,7 @@ def read_text(reading, node):
         raise Stop("BadText", at)
     if n - 1 > bound_of(node, 1):
         raise Stop("OverBound", at)
-    for place in range(reading.at, reading.at + n):
-        if place >= len(reading.octets):
-            raise Stop("Short", place)
-        if (reading.octets[place] == 0) != (place == reading.at + n - 1):
-            raise Stop("BadText", place)
-    return {"row": "char", "of": list(reading.block(n)[:-1])}
+    return {"row": "char", "of": list(reading.text(n))}
 
 
 def read_value(reading, nodes, id):

@@ -6,6 +6,7 @@ the rules, with nothing of the crates in it.
 from corba_scopes import Char
 from giop import Stop
 from nodes import ITEMS, LONG, SHORT, Mach as Writing, arm_of, blank, count_of, greatest, is_exact, is_long, item_width, least, sent, span, span_told, tag_kind
+from packing import unpacked
 from values import Array, Bool, Enum, Fault, Number, Opaque, Pointer, String, Struct, Union
 
 HEADER = 24  # the octets of a header: bits, size, remote port, local port, sequence number and id
@@ -90,7 +91,7 @@ class Reading:
 
     def row(self, kind, exact, bound):
         image, width = self.image(kind, exact, bound), item_width(kind)
-        return [int.from_bytes(image[at:at + width], "little", signed=least(kind) < 0) for at in range(0, len(image), width)]
+        return unpacked(image, width, "little", least(kind) < 0)
 
     def text(self, bound):
         length = self.length("char", False, bound)

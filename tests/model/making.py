@@ -21,6 +21,11 @@ class TooHeavy(Exception):
     """A value whose weight has passed the greatest."""
 
 
+def choices(kind):
+    """How many numbers of a kind may be made, from its least on."""
+    return min(2 ** 31, greatest(kind) - least(kind) + 1)
+
+
 class Maker:
     """Draws from a state of 64 bits, and the weight of what was made of them so far."""
 
@@ -38,7 +43,7 @@ class Maker:
             raise TooHeavy
 
     def number(self, kind):
-        return least(kind) + self.draw(min(2 ** 31, greatest(kind) - least(kind) + 1))
+        return least(kind) + self.draw(choices(kind))
 
     def length(self, node, place):
         _, n = count_of(node, place)
@@ -68,7 +73,8 @@ class Maker:
     def row(self, node, form, kind, place):
         length = self.length(node, place)
         self.weigh(1 + length)
-        return {"row": kind, "of": [1 + self.draw(255) if form == "text" else self.number(kind) for _ in range(length)]}
+        first, many = (1, 255) if form == "text" else (least(kind), choices(kind))
+        return {"row": kind, "of": [first + self.draw(many) for _ in range(length)]}
 
 
 def blank_tag(tag):

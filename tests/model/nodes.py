@@ -4,6 +4,10 @@ what values a plan gives, how long what is sent of a node is, and into how many 
 Nodes and values have the form of the cases of tests/layers. As all of the model it is written from the
 standards and docs/, with nothing of the crates in it.
 """
+from functools import lru_cache
+
+from packing import packed, unpacked
+
 WIDTHS = {"octet": 1, "i8": 1, "u8": 1, "char": 1, "bool": 1, "i16": 2, "u16": 2, "i32": 4, "u32": 4, "i64": 8, "u64": 8}
 SIGNED = {"i8", "i16", "i32", "i64"}
 ENOUGH = 8192
@@ -15,10 +19,12 @@ MOST_UNITS = 4095  # the most that the short form of a descriptor can state
 SHORT, LONG = 0b0001, 0b0011  # the four greatest bits of a descriptor: inline, and inline in the long form
 
 
+@lru_cache(maxsize=None)
 def least(kind):
     return -2 ** (8 * WIDTHS[kind] - 1) if kind in SIGNED else 0
 
 
+@lru_cache(maxsize=None)
 def greatest(kind):
     return 1 if kind == "bool" else least(kind) + 2 ** (8 * WIDTHS[kind]) - 1
 
@@ -45,8 +51,7 @@ def numbers_of(value):
     """The numbers of a row."""
     if "of" in value:
         return value["of"]
-    image, width = bytes.fromhex(value["image"]), WIDTHS[value["row"]]
-    return [int.from_bytes(image[i:i + width], "little", signed=value["row"] in SIGNED) for i in range(0, len(image), width)]
+    return unpacked(bytes.fromhex(value["image"]), WIDTHS[value["row"]], "little", value["row"] in SIGNED)
 
 
 class Xdr:
@@ -62,6 +67,10 @@ class Xdr:
     def number(self, kind, n):
         width = max(4, WIDTHS[kind])
         self.octets += (n % 2 ** (8 * width)).to_bytes(width, "big")
+
+    def numbers(self, kind, numbers):
+        """Numbers one after the other."""
+        self.octets += packed(numbers, max(4, WIDTHS[kind]), "big")
 
     def flag(self, there):
         self.number("bool", there)
@@ -83,9 +92,8 @@ class Xdr:
         self.count(node, 2, len(numbers))
         if node[1] == "octet":
             self.block(bytes(numbers))
-        else:
-            for n in numbers:
-                self.number(node[1], n)
+        elif numbers:
+            self.numbers(node[1], numbers)
 
 
 class Cdr(Xdr):
@@ -99,6 +107,11 @@ class Cdr(Xdr):
         width = WIDTHS[kind]
         self.octets += bytes(-(self.at + len(self.octets)) % width)
         self.octets += (n % 2 ** (8 * width)).to_bytes(width, self.order)
+
+    def numbers(self, kind, numbers):
+        """Numbers one after the other: only the first may have zeros before it."""
+        width = WIDTHS[kind]
+        self.octets += bytes(-(self.at + len(self.octets)) % width) + packed(numbers, width, self.order)
 
     def block(self, octets):
         self.octets += octets
@@ -132,7 +145,7 @@ class Mach(Xdr):
             fields = [(SHORT << 28 | stated << 16 | bits << 8 | name, 4)]
         self.octets += b"".join(n.to_bytes(octets, "little") for n, octets in fields)
         width = item_width(kind)
-        self.block(numbers if isinstance(numbers, bytes) else b"".join((n % 2 ** (8 * width)).to_bytes(width, "little") for n in numbers))
+        self.block(numbers if isinstance(numbers, bytes) else packed(numbers, width, "little"))
 
     def number(self, kind, n):
         self.item(kind, [n])
@@ -223,8 +236,7 @@ def number(kind, first, i):
 
 
 def row(kind, count, first):
-    width = WIDTHS[kind]
-    return {"row": kind, "image": b"".join((number(kind, first, i) % 2 ** (8 * width)).to_bytes(width, "little") for i in range(count)).hex()}
+    return {"row": kind, "image": packed([number(kind, first, i) for i in range(count)], WIDTHS[kind], "little").hex()}
 
 
 def planned(nodes, id, plan, arm=None):

@@ -124,6 +124,12 @@ def long_file(rng):
     return "\n".join([*structs, f"program P {{ version V {{ {' '.join(f'void F{k}({name}) = {k};' for k, name in enumerate(known))} }} = 1; }} = 9;", ""])
 
 
+def drawn(rng, least, greatest, count):
+    """So many numbers, the same as by as many calls of `randint`, whose checks of its bounds take most of its time."""
+    below, choices = rng._randbelow, greatest - least + 1
+    return [least + below(choices) for _ in range(count)]
+
+
 def sample(rng, ty):
     """A value of a type."""
     if isinstance(ty, Void):
@@ -133,9 +139,9 @@ def sample(rng, ty):
     if isinstance(ty, Bool):
         return rng.randint(0, 1)
     if isinstance(ty, Number):
-        return rng.choice([ty.least, ty.greatest, 0, 1, rng.randint(ty.least, ty.greatest)])
+        return rng.choice([ty.least, ty.greatest, 0, 1, *drawn(rng, ty.least, ty.greatest, 1)])
     if isinstance(ty, Opaque):
-        return bytes(rng.randint(int(isinstance(ty, String)), 255) for _ in range(length(rng, ty.count)))
+        return bytes(drawn(rng, int(isinstance(ty, String)), 255, length(rng, ty.count)))
     if isinstance(ty, Array):
         return [sample(rng, ty.element) for _ in range(length(rng, ty.count))]
     if isinstance(ty, Pointer):

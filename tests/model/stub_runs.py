@@ -6,6 +6,7 @@ nothing of the crates in it.
 from collections import namedtuple
 
 from nodes import ITEMS, LONG, SHORT, WIDTHS, arm_of, blank, count_of, greatest, is_exact, least, numbers_of, row_kind
+from packing import packed, unpacked
 
 WHOLE_WIDTHS = (1, 2, 4, 8)
 MOST_CALLS = 4_096  # how deep calls may be nested
@@ -59,6 +60,12 @@ def octets_of(n, width, order):
     need(width in WHOLE_WIDTHS, f"the width {width}")
     need(-2 ** (8 * width - 1) <= n < 2 ** (8 * width), "a number that does not fit")
     return (n % 2 ** (8 * width)).to_bytes(width, order)
+
+
+def octets_of_row(numbers, width, order):
+    """Numbers in two's complement, one after the other."""
+    need(not numbers or -2 ** (8 * width - 1) <= min(numbers) and max(numbers) < 2 ** (8 * width), "a number that does not fit")
+    return packed(numbers, width, order)
 
 
 def short(name, size, units):
@@ -143,13 +150,13 @@ class Sending:
 
     def row(self, value, path, order):
         width = WIDTHS[member(value, path, "row")]
-        self.append(b"".join(octets_of(n, width, order) for n in elements(value, path)))
+        self.append(octets_of_row(elements(value, path), width, order))
         self.count(rows=1)
 
     def on_row_wide(self, value, body, path, order):
         need(member(value, path, "row"), "no row at a path")
         numbers = elements(value, path)
-        self.append(b"".join(octets_of(n, 4, order) for n in numbers))
+        self.append(octets_of_row(numbers, 4, order))
         self.count(moves=1, stores=len(numbers))
 
     def on_each(self, value, body, path):
@@ -252,10 +259,10 @@ class Digit(Draft):
 
     def __init__(self, node):
         self.kind, self.form, self.parts = row_kind(node)[0], "digit", None
-        self.least = 1 if node[0] == "text" else least(self.kind)
+        self.least, self.greatest = 1 if node[0] == "text" else least(self.kind), greatest(self.kind)
 
     def allows(self, n):
-        return self.least <= n <= greatest(self.kind)
+        return self.least <= n <= self.greatest
 
     def is_list(self):
         return False
@@ -376,8 +383,8 @@ class Receiving:
         need(draft.node[0] != "items", "a list in place of a row")
         kind, length = row_kind(draft.node)[0], draft.length_of()
         octets, digit = self.take(length * width), Digit(draft.node)
-        numbers = [int.from_bytes(octets[at:at + width], order, signed=least(kind) < 0) for at in range(0, len(octets), width)]
-        test(all(map(digit.allows, numbers)))
+        numbers = unpacked(octets, width, order, least(kind) < 0)
+        test(not numbers or digit.allows(min(numbers)) and digit.allows(max(numbers)))
         draft.done({"row": kind, "of": numbers})
 
     def on_each(self, draft, body, path):

@@ -4,7 +4,11 @@ A second opinion on the crates: written from the standards and docs/, field by f
 the crates in it. Numbers, booleans and enums are ints; opaques and strings are bytes; arrays and
 structs are lists; a union is a pair of tag and value; a pointer is None or a list of the one value.
 """
+import re
 from copy import copy
+
+HEX = re.compile("[0-9a-fA-F]*")
+CHARACTERS = re.compile("[\x01-\xff]*")
 
 
 class Fault(Exception):
@@ -170,7 +174,7 @@ class Opaque:
         return octets
 
     def value(self, tree):
-        need(isinstance(tree, str) and len(tree) % 2 == 0 and all(c in "0123456789abcdefABCDEF" for c in tree))
+        need(isinstance(tree, str) and len(tree) % 2 == 0 and HEX.fullmatch(tree))
         need(self.count.has(len(tree) // 2))
         return bytes.fromhex(tree)
 
@@ -187,7 +191,7 @@ class String(Opaque):
         return octets
 
     def value(self, tree):
-        need(isinstance(tree, str) and all(1 <= ord(c) <= 255 for c in tree) and self.count.has(len(tree)))
+        need(isinstance(tree, str) and CHARACTERS.fullmatch(tree) and self.count.has(len(tree)))
         return tree.encode("latin-1")
 
     def tree(self, octets):
