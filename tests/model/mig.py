@@ -5,6 +5,7 @@ Tokens and trees are read as those of corba.py are: the grammar is a table of ru
 the model it is written from the rules, with nothing of the crates in it.
 """
 from collections import namedtuple
+from functools import lru_cache
 
 from calls import Called, Interface
 from corba import Fault, Reading, Token, rules_of, words_of
@@ -80,6 +81,7 @@ def first_of(rule, tokens):
     return next(((parts[0], tokens[end // 2:]) for end, parts in ends.items()), (None, tokens))
 
 
+@lru_cache(maxsize=1)
 def trees_of(text):
     """The trees of a file: the subsystem, and its statements. The line of a fault is that of what fails: a statement, or
     the subsystem, which begins with the first token."""
@@ -94,7 +96,7 @@ def trees_of(text):
             raise Refused(f"? syntax {tokens[0].line if tokens else 1}")
         trees.append(tree)
         tokens, rule = rest, "statement"
-    return trees
+    return tuple(trees)
 
 
 def parts_of(tree):
@@ -306,6 +308,7 @@ def file_of(text):
     return subsystem
 
 
+@lru_cache(maxsize=1)
 def told_of_file(text):
     """The line with which a file is refused, or nothing."""
     try:
