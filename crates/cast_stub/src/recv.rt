@@ -1,13 +1,14 @@
 // Code that receives.
 use crate::put::Path;
 use kit_base::{Listed, Octets};
+use mint::keyed::Keyed;
 use wire_def::Order;
 
 /// Operations, in order.
 pub type RecvOps = Listed<RecvOp>;
 
 /// The bodies of a switch, each with its number.
-pub type RecvCases = Listed<(i128, RecvOps)>;
+pub type RecvCases = Keyed<RecvOps>;
 
 /// Codes that call one another by their places.
 pub type RecvSubs = Listed<RecvOps>;

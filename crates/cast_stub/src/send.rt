@@ -1,13 +1,14 @@
 // Code that sends.
 use crate::put::{Path, Puts};
 use kit_base::Listed;
+use mint::keyed::Keyed;
 use wire_def::Order;
 
 /// Operations, in order.
 pub type SendOps = Listed<SendOp>;
 
 /// The bodies of a switch, each with its number.
-pub type SendCases = Listed<(i128, SendOps)>;
+pub type SendCases = Keyed<SendOps>;
 
 /// Codes that call one another by their places.
 pub type SendSubs = Listed<SendOps>;

@@ -3,6 +3,7 @@ ghost use Rattle.std.specs.Prelude.{◌≡◌, ◌≢◌, ◌<◌, ◌≤◌, �
 ghost use Rattle.kit_base.specs.Lines.{line_of, HasNoEnd, chomp};
 
 use crate::{Line, LineErr, NoMemory, Octets};
+use memchr::memchr;
 use std::alloc::Global;
 
 /// Where the first line ends, where none ends before `from`.
@@ -13,12 +14,15 @@ pub(crate) fn find_end(octets: &[u8], from: usize) -> Option<usize>
         × (octets.now ≡ take i octets.now ++ 10 ∷ drop (i + 1) octets.now)) }
     ensures none { IfNone result (HasNoEnd octets.now) }
 {
-    for i in from..octets.len() {
-        if octets[i] == 10 {
-            return Some(i);
-        }
-    }
-    None
+    let found = memchr(10, rest_from(octets, from))?;
+    Some(from + found)
+}
+
+fn rest_from(octets: &[u8], from: usize) -> &[u8]
+    requires { from ≤ length octets.now }
+    ensures { result.now ≡ drop from octets.now }
+{
+    &octets[from..]
 }
 
 /// What is answered for the octets of a line.

@@ -10,7 +10,10 @@ pub(crate) fn discard_front(buffer: &mut Vec<u8>, n: usize)
     requires { n ≤ length buffer.old.items }
     ensures { buffer.new.items ≡ drop n buffer.old.items }
 {
-    buffer.drain(..n);
+    if n > 0 {
+        buffer.copy_within(n.., 0);
+        buffer.truncate(buffer.len() - n);
+    }
 }
 
 /// Reads once, after what the buffer holds.

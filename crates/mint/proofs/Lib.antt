@@ -1,5 +1,7 @@
 -- The proofs, each after those that it uses; * marks those that the proofs of functions use.
 
+-- What the entry of a number is asked for, by the number's place, by induction on the entries
+pub mod Placing
 -- The arm that is found comes before the node, by induction on the arms
 pub mod Arms
 -- * A node of a table unfolds to its level over the trees of the table, by induction on the nodes
@@ -20,3 +22,5 @@ pub mod Octets
 pub mod Places
 -- * Values that are made, as they are seen, by induction on the list of values
 pub mod Seen
+-- * A number that is found by halving, by induction on the list
+pub mod Halving

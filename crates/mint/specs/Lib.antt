@@ -1,5 +1,6 @@
 pub mod Arms
 pub mod Blank
+pub mod Keyed
 pub mod Kinds
 pub mod Measured
 pub mod Row
@@ -7,3 +8,4 @@ pub mod Sound
 pub mod Typed
 pub mod Types
 pub mod Values
+pub mod formers

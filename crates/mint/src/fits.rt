@@ -9,7 +9,7 @@ ghost use Rattle.std.specs.List.{list_all, list_any};
 ghost use Rattle.std.specs.Ordering.{int_eq};
 
 use crate::kind::{Count, Kind};
-use crate::node::{Arms, Labels, Node, NodeIds, Tag};
+use crate::node::{Arms, Labels, Node, NodeIds, Tag, arm_of};
 use crate::table::Mint;
 use crate::value::{Row, Value, Values};
 use kit_base::limits::HEAVIEST;
@@ -30,13 +30,7 @@ impl Tag {
 pub fn has_label(labels: &Labels, n: i128) -> bool
     ensures { result ≡ is_scalar (label labels.now) n }
 {
-    Kind::I32.has(n) && is_among(labels, n)
-}
-
-fn is_among(labels: &Labels, n: i128) -> bool
-    ensures { result ≡ list_any (λ l. int_eq l n) labels.now }
-{
-    labels.as_slice().iter().any(|l| i128::from(*l) == n)
+    Kind::I32.has(n) && labels.has(&n)
 }
 
 /// Whether the row is a text of an allowed length.
@@ -103,7 +97,7 @@ pub fn is_of(mint: &Mint, id: u32, value: &Value) -> bool
             None => false,
         },
         Node::Choice(tag, arms, other) => match value.as_arm() {
-            Some((n, inner)) => tag.has(n) && is_of_arm(mint, id, arms, *other, n, inner),
+            Some((n, inner)) => tag.has(n) && is_of_arm(mint, id, arms, *other, &n, inner),
             None => false,
         },
         Node::Maybe(item) => match value.as_opt() {
@@ -150,19 +144,14 @@ fn each_is_of(mint: &Mint, id: u32, item: u32, values: &Values) -> bool
 }
 
 #[cycle(is_of)]
-#[tactic(auto, using(crate::proofs::Fitting::counting))]
-fn is_of_arm(mint: &Mint, id: u32, arms: &Arms, other: Option<u32>, n: i128, inner: &Value) -> bool
+#[tactic(auto, using(crate::proofs::Arms::arms))]
+fn is_of_arm(mint: &Mint, id: u32, arms: &Arms, other: Option<u32>, n: &i128, inner: &Value) -> bool
     requires id { id < length mint.now }
     requires below { ArmsBelow id arms.now }
     requires other { IsBelow id other }
-    ensures { IsTrue result ↔ IsOfArm (arms_at (unfolded mint.now) arms.now other) n (seen inner.now) }
+    ensures { IsTrue result ↔ IsOfArm (arms_at (unfolded mint.now) arms.now other) n.now (seen inner.now) }
 {
-    for (m, arm) in arms.as_slice() {
-        if *m == n {
-            return is_of(mint, *arm, inner);
-        }
-    }
-    match other {
+    match arm_of(arms, other, n) {
         Some(item) => is_of(mint, item, inner),
         None => false,
     }

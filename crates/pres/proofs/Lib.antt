@@ -30,3 +30,5 @@ pub mod Faulty
 pub mod Building
 -- * Each sound unit that has no reason against it has a binding
 pub mod Existing
+-- * Items that are found by their names and by their numbers, by induction on the items
+pub mod Tabled

@@ -11,10 +11,7 @@ use Rattle.mint.specs.Types as mint
 use Rattle.mint.specs.Types.{Array, text, row_of, Ty, void_type, scalar_type, array_type, group_type, items_type, choice_type, maybe_type, Tys, no_fields, field, arm_type}
 use Rattle.pres.specs.declared.shape.Shape.{Shape}
 use Rattle.pres.specs.declared.shape.Shape.TheVariants.{FieldNames, LabelNames}
-
--- the items of an enum, each with its number
-abbrev pub ItemList : Type 0
-ItemList = List (List ℕ × ℤ)
+pub use Rattle.pres.specs.Tables.{ItemList}
 
 -- a number of a kind, or an item of an enum
 pub data Sign : Type 0 where

@@ -9,3 +9,4 @@ pub mod Rising
 pub mod Sizes
 pub mod Regular
 pub mod Laws
+pub mod Tables

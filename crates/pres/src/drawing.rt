@@ -11,7 +11,7 @@ ghost use Rattle.pres.specs.Offers.{face_of, arms_of, sign_in};
 use crate::draft::Draft;
 use crate::naming::{copy_items, field_names};
 use crate::sorting::{labels_of, put_arm};
-use crate::{BindErr, Shape};
+use crate::{BindErr, ItemTable, Shape};
 use aoi::{Field, Items, Ty};
 use kit_base::NoMemory;
 use mint::kind::Count;
@@ -55,9 +55,10 @@ impl Draft {
         ensures cause { IfErr result
             (λ e. Overflows (drawn self.old ++ made (known self.old) (enumeration items.now)) e) }
     {
-        let labels = labels_of(alloc, items)?;
-        let names = copy_items(alloc, items)?;
-        self.push(Node::Enum(labels), Shape::LabelNames(names))
+        let labels = labels_of(alloc, items.as_slice())?;
+        let names = copy_items(alloc, items.as_slice())?;
+        let table = ItemTable::new(alloc, names)?;
+        self.push(Node::Enum(labels), Shape::LabelNames(table))
     }
 
     #[cycle(draw)]

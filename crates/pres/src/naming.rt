@@ -5,8 +5,8 @@ ghost use Rattle.aoi.specs.Sound.{are_distinct, names_of};
 ghost use Rattle.pres.specs.Faces.{item, sign_of};
 ghost use Rattle.pres.specs.Named.{IsTagShape};
 
-use crate::Shape;
 use crate::sorting::labels_of;
+use crate::{FieldTable, ItemTable, Shape};
 use aoi::{Field, Items};
 use kit_base::{Name, NoMemory, Words};
 use mint::node::Tag;
@@ -21,8 +21,8 @@ pub(crate) fn copy_name(alloc: Global, name: &Name) -> Result<Name, NoMemory>
     Ok(copy)
 }
 
-/// The names of fields.
-pub(crate) fn field_names(alloc: Global, fields: &[Field]) -> Result<Words, NoMemory>
+/// The words of fields.
+fn field_words(alloc: Global, fields: &[Field]) -> Result<Words, NoMemory>
     ensures { IfOk result (λ ws. ws ≡ names_of (members fields.now)) }
 {
     let mut names = Words::new(alloc);
@@ -32,24 +32,33 @@ pub(crate) fn field_names(alloc: Global, fields: &[Field]) -> Result<Words, NoMe
     Ok(names)
 }
 
+/// The names of fields.
+pub(crate) fn field_names(alloc: Global, fields: &[Field]) -> Result<FieldTable, NoMemory>
+    ensures { IfOk result (λ ws. ws ≡ names_of (members fields.now)) }
+{
+    let words = field_words(alloc, fields)?;
+    FieldTable::new(alloc, words)
+}
+
 /// A copy of the items of an enum.
-pub(crate) fn copy_items(alloc: Global, items: &Items) -> Result<Items, NoMemory>
+pub(crate) fn copy_items(alloc: Global, items: &[(Name, i32)]) -> Result<Items, NoMemory>
     ensures { IfOk result (λ is. is ≡ items.now) }
 {
     let mut copies = Items::new(alloc);
-    for (name, n) in items.as_slice() {
+    for (name, n) in items {
         copies.push((copy_name(alloc, name)?, *n))?;
     }
     Ok(copies)
 }
 
 /// The tag that is an enum.
-pub(crate) fn enum_tag(alloc: Global, items: &Items) -> Result<(Tag, Shape), NoMemory>
+pub(crate) fn enum_tag(alloc: Global, items: &[(Name, i32)]) -> Result<(Tag, Shape), NoMemory>
     requires { IsTrue (are_distinct (map (λ i. i.0) items.now)) }
     ensures named { IfOk result (λ t. IsTagShape t.0 t.1) }
     ensures sign { IfOk result (λ t. sign_of t.0 t.1 ≡ item items.now) }
 {
     let labels = labels_of(alloc, items)?;
     let names = copy_items(alloc, items)?;
-    Ok((Tag::Enum(labels), Shape::LabelNames(names)))
+    let table = ItemTable::new(alloc, names)?;
+    Ok((Tag::Enum(labels), Shape::LabelNames(table)))
 }

@@ -11,8 +11,8 @@ ghost use Rattle.pres.specs.Offers.{face_of, packed, sign_in};
 use crate::Shape;
 use crate::draft::Draft;
 use crate::naming::enum_tag;
-use aoi::{Items, Ty};
-use kit_base::NoMemory;
+use aoi::Ty;
+use kit_base::{Name, NoMemory};
 use mint::kind::Kind;
 use mint::node::{Node, Tag};
 use mint::table::NodeId;
@@ -41,14 +41,14 @@ impl Draft {
     }
 
     /// The items of a node that is an enum.
-    fn node_items(&self, id: NodeId) -> Option<&Items>
+    fn node_items(&self, id: NodeId) -> Option<&[(Name, i32)]>
         requires { id < length (drawn self.now) }
         ensures value { option_copied result ≡ enum_in (at (drawn self.now) id) }
         ensures distinct { IfSome result (λ items. IsTrue (are_distinct (map (λ i. i.0) items.now))) }
     {
         let entry = self.entry(id);
         match (&entry.node, &entry.shape) {
-            (Node::Enum(_), Shape::LabelNames(items)) => Some(items),
+            (Node::Enum(_), Shape::LabelNames(items)) => Some(items.as_slice()),
             _ => None,
         }
     }
@@ -66,13 +66,13 @@ impl Draft {
     }
 
     /// The items of a type that is an enum.
-    fn items<'a>(&'a self, ty: &'a Ty) -> Option<&'a Items>
+    fn items<'a>(&'a self, ty: &'a Ty) -> Option<&'a [(Name, i32)]>
         requires { IsTrue (is_drawable (length (known self.now)) (seen ty.now)) }
         ensures value { option_copied result ≡ enum_in (face_of (known self.now) (seen ty.now)) }
         ensures distinct { IfSome result (λ items. IsTrue (are_distinct (map (λ i. i.0) items.now))) }
     {
         match ty {
-            Ty::Enum(items) => Some(items),
+            Ty::Enum(items) => Some(items.as_slice()),
             Ty::Named(k) => self.node_items(self.type_node(*k)),
             _ => None,
         }

@@ -1,10 +1,13 @@
 -- Operations that are run, one after the other.
 use Rattle.std.proofs.Common.{◌≡◌, ℕ, ℤ, suc, ◌+◌, ◌-◌, ◌<◌, ◌≤◌, List, [], ◌∷◌, ◌++◌, length, drop, get_or, map, Option, None, Some, option_map, slice_get, refl, sym, ap, subst, ◌∙◌, add-one, arith, append_assoc}
-use Rattle.std.specs.Prelude.{Err, Bool, true, false, if◌then◌else◌, not, ◌&&◌, pos, IsTrue}
+use Rattle.std.specs.Prelude.{Err, Bool, true, false, not, ◌&&◌, pos, IsTrue}
 use Rattle.std.proofs.Common.{inl}
 use Rattle.std.specs.Ordering.{int_eq}
 use Rattle.std.proofs.Math.Seq.{drop-cons}
 use Rattle.std.proofs.lemmas.List.{drop_all, append-nil, map-append}
+use Rattle.mint.specs.Keyed.{place_of}
+use Rattle.mint.proofs.Placing.{Asks, placed}
+use Rattle.mint.proofs.Placing as placing
 use Rattle.mint.specs.declared.value.Value.{Value}
 use Rattle.mint.specs.declared.value.Value.TheOpen.{Value-F}
 use Rattle.mint.specs.declared.value.Value.TheVariants as value
@@ -105,49 +108,31 @@ module _ (c : Callees) (ops items : List RecvOp) (i : ℕ) (o : RecvOp) (d0 d : 
       ∙ ap (λ (x : Run Draft). then_run x (fill c (code_seen (drop (i + 1) items)))) ran
   op_halts e t NoMemory ran = tt
 
-abbrev pub Passed : List (ℤ × List RecvOp) → Option (List RecvOp) → ℤ → ℕ → Type 0
-Passed cases other n i = (c : Callees) (d : Draft) (s : Place)
-    → fill_case c (cases_seen cases other) n d s ≡ fill_case c (cases_seen (drop i cases) other) n d s
-
-here-drop : (cases : List (ℤ × List RecvOp)) (i : ℕ) (b : ℤ × List RecvOp) → i < length cases → b ≡ get_or cases i b
-    → drop i cases ≡ b ∷ drop (i + 1) cases
-here-drop cases i b lt same = rw (add-one, drop-cons cases i b) (ap (λ (x : ℤ × List RecvOp). x ∷ drop (suc i) cases) (sym same))
-
-if_so : (b : Bool) (x y : Run Draft) → b ≡ true → (if b then x else y) ≡ x
-if_so true x y e = refl
-if_so false x y e = absurd cc
-
-if_not : (b : Bool) (x y : Run Draft) → b ≡ false → (if b then x else y) ≡ y
-if_not true x y e = absurd cc
-if_not false x y e = refl
-
-pub pass_more : (cases : List (ℤ × List RecvOp)) (other : Option (List RecvOp)) (n : ℤ) (i : ℕ) (b : ℤ × List RecvOp)
-    → Passed cases other n i → i < length cases → b ≡ get_or cases i b → int_eq n b.0 ≡ false
-    → Passed cases other n (i + 1)
-pass_more cases other n i b passed lt same miss c d s =
-    passed c d s ∙ ap (λ (l : List (ℤ × List RecvOp)). fill_case c (cases_seen l other) n d s) (here-drop cases i b lt same)
-    ∙ if_not (int_eq n b.0) (fill c (code_seen b.1) d s) (fill_case c (cases_seen (drop (i + 1) cases) other) n d s) miss
-
-pub hit : (cases items : List (ℤ × List RecvOp)) (other : Option (List RecvOp)) (n : ℤ) (i : ℕ) (b : ℤ × List RecvOp)
-    → items ≡ cases → Passed items other n i → i < length items → b ≡ get_or items i b → int_eq n b.0 ≡ true
-    → Picks cases other n (Some b.1)
-hit cases items other n i b whole passed lt same found c d s =
-    ap (λ (l : List (ℤ × List RecvOp)). fill_case c (cases_seen l other) n d s) (sym whole)
-    ∙ passed c d s ∙ ap (λ (l : List (ℤ × List RecvOp)). fill_case c (cases_seen l other) n d s) (here-drop items i b lt same)
-    ∙ if_so (int_eq n b.0) (fill c (code_seen b.1) d s) (fill_case c (cases_seen (drop (i + 1) items) other) n d s) found
-
 last_picks : (other : Option (List RecvOp)) (n : ℤ) (c : Callees) (d : Draft) (s : Place)
     → fill_case c (cases_seen [] other) n d s ≡ picked c other d s
 last_picks None n c d s = refl
 last_picks (Some b) n c d s = refl
 
-pub missed : (cases items : List (ℤ × List RecvOp)) (other body : Option (List RecvOp)) (n : ℤ) (i : ℕ) → items ≡ cases
-    → Passed items other n i → length items ≤ i → other ≡ body
+asks_body : (other : Option (List RecvOp)) (n : ℤ) (c : Callees) (d : Draft) (s : Place)
+    → Asks n (λ (cases : List (ℤ × List RecvOp)). fill_case c (cases_seen cases other) n d s) (λ b. fill c (code_seen b.1) d s)
+    (picked c other d s)
+asks_body other n c d s = record { none = last_picks other n c d s; step = λ b cases. refl }
+
+-- the body at the place of the number
+pub hit : (cases items : List (ℤ × List RecvOp)) (other : Option (List RecvOp)) (n : ℤ) (i : ℕ) (b : ℤ × List RecvOp)
+    → items ≡ cases → Some i ≡ place_of n cases → Picks cases other n (Some (get_or items i b).1)
+hit cases items other n i b same e c d s =
+    placed n (λ (l : List (ℤ × List RecvOp)). fill_case c (cases_seen l other) n d s) (λ b. fill c (code_seen b.1) d s)
+    (picked c other d s) (asks_body other n c d s) cases i b e
+    ∙ ap (λ (l : List (ℤ × List RecvOp)). fill c (code_seen (get_or l i b).1) d s) (sym same)
+
+-- the number has no body of its own
+pub missed : (cases : List (ℤ × List RecvOp)) (other body : Option (List RecvOp)) (n : ℤ) → None ≡ place_of n cases → other ≡ body
     → Picks cases other n body
-missed cases items other body n i whole passed past is c d s =
-    ap (λ (l : List (ℤ × List RecvOp)). fill_case c (cases_seen l other) n d s) (sym whole)
-    ∙ passed c d s ∙ ap (λ (l : List (ℤ × List RecvOp)). fill_case c (cases_seen l other) n d s) (drop_all i items past)
-    ∙ last_picks other n c d s ∙ ap (λ (o : Option (List RecvOp)). picked c o d s) is
+missed cases other body n e is c d s =
+    placing.missed n (λ (l : List (ℤ × List RecvOp)). fill_case c (cases_seen l other) n d s) (λ b. fill c (code_seen b.1) d s)
+    (picked c other d s) (asks_body other n c d s) cases e
+    ∙ ap (λ (o : Option (List RecvOp)). picked c o d s) is
 
 pub block_end : (c : Callees) (ops items : List RecvOp) (i : ℕ) (d0 d : Draft) (s0 s : Place) → items ≡ ops
     → length items ≤ i → fill c (code_seen items) d0 s0 ≡ fill c (code_seen (drop i items)) d s

@@ -67,12 +67,16 @@ cases-in-op o path cases other is =
 
 -- ---- the bodies of a switch
 
-pub case_size : (cases : List (ℤ × List RecvOp)) (other : Option (List RecvOp)) (i : ℕ) (b : ℤ × List RecvOp)
-    → i < length cases → b ≡ get_or cases i b
-    → code_size b.1 ≤ sizes (cases_seen cases other)
-case_size [] other i b lt is = absurd (omega (arith, lt))
-case_size (x ∷ cases) other zero b lt is = rw is (omega arith)
-case_size (x ∷ cases) other (suc i) b lt is = omega (arith, case_size cases other i b (omega (arith, lt)) is)
+case_size : (cases : List (ℤ × List RecvOp)) (other : Option (List RecvOp)) (i : ℕ) (b : ℤ × List RecvOp) → i < length cases
+    → code_size (get_or cases i b).1 ≤ sizes (cases_seen cases other)
+case_size [] other i b lt = absurd (omega (arith, lt))
+case_size (x ∷ cases) other zero b lt = omega arith
+case_size (x ∷ cases) other (suc i) b lt = omega (arith, case_size cases other i b (omega (arith, lt)))
+
+-- the body at a place
+pub placed_size : (cases items : List (ℤ × List RecvOp)) (other : Option (List RecvOp)) (i : ℕ) (b : ℤ × List RecvOp)
+    → items ≡ cases → i < length cases → code_size (get_or items i b).1 ≤ sizes (cases_seen cases other)
+placed_size cases items other i b same lt = rw same (case_size cases other i b lt)
 
 pub default_size : (cases : List (ℤ × List RecvOp)) (body : List RecvOp) → code_size body ≤ sizes (cases_seen cases (Some body))
 default_size [] body = omega arith

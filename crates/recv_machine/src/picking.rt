@@ -1,7 +1,5 @@
 // The body of a number.
-ghost use Rattle.std.specs.Prelude.{◌≡◌};
 ghost use Rattle.std.specs.Option.{option_copied};
-ghost use Rattle.std.specs.Ordering.{int_eq};
 ghost use Rattle.cast_stub.specs.RecvBlock.{cases_seen};
 ghost use Rattle.recv_machine.specs.Picking.{Picks};
 ghost use Rattle.recv_machine.specs.Sizes.{IsBody};
@@ -17,20 +15,11 @@ pub fn body_of<'a>(
     ensures picks { Picks cases.now other.now n.now (option_copied result) }
     ensures within { IsBody (option_copied result) (cases_seen cases.now other.now) }
 {
-    for case in cases.as_slice() {
-        if same(n, &case.0) {
-            return Some(&case.1);
-        }
+    match cases.find(n) {
+        Some(place) => Some(&cases.as_slice()[place].1),
+        None => match other {
+            Some(body) => Some(body),
+            None => None,
+        },
     }
-    match other {
-        Some(body) => Some(body),
-        None => None,
-    }
-}
-
-// Whether two numbers are the same.
-fn same(n: &i128, m: &i128) -> bool
-    ensures { result ≡ int_eq n.now m.now }
-{
-    *n == *m
 }

@@ -1,7 +1,5 @@
 -- The proofs, each after those that it uses; * marks those that the proofs of functions use.
 
--- A switch of one case, as the tests build it
-pub mod Examples
 -- Steps that have their room run, and lead to what they write and cost, by induction on the steps
 pub mod Rooms
 -- * Octets that are put one after the other fill a chunk, by induction on the chunk's cells
@@ -16,7 +14,7 @@ pub mod Running
 pub mod Growing
 -- * Parts of a value, and of its tree, by induction on the list of values
 pub mod PartLaws
--- * The body of a number, by induction on the cases
+-- * The body of a number, by its place among the cases
 pub mod Picks
 -- * Rows that are given as a block, by induction on the row's numbers
 pub mod Rowing

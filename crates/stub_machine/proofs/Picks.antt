@@ -1,60 +1,39 @@
--- The body of a number, by induction on the cases.
-use Rattle.std.proofs.Common.{◌≡◌, ℕ, zero, ℤ, suc, ◌+◌, ◌<◌, ◌≤◌, List, [], ◌∷◌, length, drop, get_or, Option, Some, None, slice_get, refl, sym, ap, ◌∙◌, add-one, arith, Bool, true, false, if◌then◌else◌}
-use Rattle.std.specs.Ordering.{int_eq}
-use Rattle.std.proofs.Math.Seq.{drop-cons}
-use Rattle.std.proofs.lemmas.List.{drop_all}
+-- The body of a number, by its place among the cases.
+use Rattle.std.proofs.Common.{◌≡◌, ℕ, zero, ℤ, suc, ◌<◌, List, [], ◌∷◌, length, get_or, Option, Some, None, IfSome, slice_get, refl, sym, ap, ◌∙◌, arith}
+use Rattle.std.proofs.lemmas.Option.{get_or_from_slice_get}
+use Rattle.mint.specs.Keyed.{place_of}
+use Rattle.mint.proofs.Placing.{Asks, placed, missed}
 use Rattle.mint.specs.Values.{Val, arm_in}
 use Rattle.cast_stub.specs.declared.send.SendOp.{SendOp}
 use Rattle.wire_def.specs.declared.head.Head.{Head}
 use Rattle.cast_stub.specs.Block.{cases_seen}
-use Rattle.cast_stub.specs.Steps.{Steps, Calls, case_steps, code_steps, switch_steps}
+use Rattle.cast_stub.specs.Steps.{Calls, case_steps, code_steps, switch_steps}
 use Rattle.cast_stub.specs.Parts.{on_some, at}
 use Rattle.std.specs.Prelude.{Result, Ok, Err, OnOk}
 use Rattle.stub_machine.specs.Picking.{PickedAt}
 
-if_so : (b : Bool) (x y : Steps) → b ≡ true → (if b then x else y) ≡ x
-if_so true x y e = refl
-if_so false x y e = absurd cc
+asks_body : (c : Calls) (h : Head) (o : Option (List SendOp)) (n : ℤ) (w : Val)
+    → Asks n (λ (cases : List (ℤ × List SendOp)). case_steps c h (cases_seen cases o) n w) (λ d. code_steps c h d.1 w)
+    (case_steps c h (cases_seen [] o) n w)
+asks_body c h o n w = record { none = refl; step = λ d cases. refl }
 
-if_not : (b : Bool) (x y : Steps) → b ≡ false → (if b then x else y) ≡ y
-if_not true x y e = absurd cc
-if_not false x y e = refl
-
--- the first i have other numbers
-abbrev pub Passed : List (ℤ × List SendOp) → ℤ → ℕ → Type 0
-Passed cases n i = (c : Calls) (h : Head) (o : Option (List SendOp)) (w : Val)
-    → case_steps c h (cases_seen cases o) n w ≡ case_steps c h (cases_seen (drop i cases) o) n w
-
-here-drop : (cases : List (ℤ × List SendOp)) (i : ℕ) (d : ℤ × List SendOp) → i < length cases → d ≡ get_or cases i d
-    → drop i cases ≡ d ∷ drop (i + 1) cases
-here-drop cases i d lt same = rw (add-one, drop-cons cases i d) (ap (λ (x : ℤ × List SendOp). x ∷ drop (suc i) cases) (sym same))
-
-pub pass_more : (cases : List (ℤ × List SendOp)) (n : ℤ) (i : ℕ) (d : ℤ × List SendOp) → Passed cases n i
-    → i < length cases → d ≡ get_or cases i d → int_eq n d.0 ≡ false
-    → Passed cases n (i + 1)
-pass_more cases n i d passed lt same miss c h o w =
-    passed c h o w ∙ ap (λ (l : List (ℤ × List SendOp)). case_steps c h (cases_seen l o) n w) (here-drop cases i d lt same)
-    ∙ if_not (int_eq n d.0) (code_steps c h d.1 w) (case_steps c h (cases_seen (drop (i + 1) cases) o) n w) miss
-
-get_at : (cases : List (ℤ × List SendOp)) (i : ℕ) (d x : ℤ × List SendOp) → d ≡ get_or cases i d → slice_get cases i ≡ Some x → d ≡ x
-get_at [] i d x same e = absurd cc
-get_at (y ∷ cases) zero d x same e = cc
-get_at (y ∷ cases) (suc i) d x same e = get_at cases i d x same e
-
-pub hit : (cases : List (ℤ × List SendOp)) (n : ℤ) (i : ℕ) (d : ℤ × List SendOp) → Passed cases n i → i < length cases
-    → d ≡ get_or cases i d → int_eq n d.0 ≡ true
-    → PickedAt cases n (Some i)
-hit cases n i d passed lt same found = (
-  lt,
-  λ (c : Calls) (h : Head) (o : Option (List SendOp)) (w : Val) (x : ℤ × List SendOp) is.
-      passed c h o w ∙ ap (λ (l : List (ℤ × List SendOp)). case_steps c h (cases_seen l o) n w) (here-drop cases i d lt same)
-      ∙ if_so (int_eq n d.0) (code_steps c h d.1 w) (case_steps c h (cases_seen (drop (i + 1) cases) o) n w) found
-      ∙ ap (λ (y : ℤ × List SendOp). code_steps c h y.1 w) (get_at cases i d x same is),
+-- the body at the place of the number
+placed_at : (cases : List (ℤ × List SendOp)) (n : ℤ) (i : ℕ) → Some i ≡ place_of n cases → i < length cases → PickedAt cases n (Some i)
+placed_at cases n i e within = (
+  within,
+  λ (c : Calls) (h : Head) (o : Option (List SendOp)) (w : Val) (d : ℤ × List SendOp) is.
+      placed n (λ (l : List (ℤ × List SendOp)). case_steps c h (cases_seen l o) n w) (λ d. code_steps c h d.1 w)
+      (case_steps c h (cases_seen [] o) n w) (asks_body c h o n w) cases i d e
+      ∙ ap (λ (y : ℤ × List SendOp). code_steps c h y.1 w) (get_or_from_slice_get cases i d d is),
 )
 
-pub passed_all : (cases : List (ℤ × List SendOp)) (n : ℤ) (i : ℕ) → Passed cases n i → length cases ≤ i → PickedAt cases n None
-passed_all cases n i passed past c h o w =
-    passed c h o w ∙ ap (λ (l : List (ℤ × List SendOp)). case_steps c h (cases_seen l o) n w) (drop_all i cases past)
+pub picked : (cases : List (ℤ × List SendOp)) (n : ℤ) (r : Option ℕ) → r ≡ place_of n cases → IfSome r (λ i. i < length cases)
+    → PickedAt cases n r
+picked cases n None e within =
+    λ (c : Calls) (h : Head) (o : Option (List SendOp)) (w : Val).
+    missed n (λ (l : List (ℤ × List SendOp)). case_steps c h (cases_seen l o) n w) (λ d. code_steps c h d.1 w)
+    (case_steps c h (cases_seen [] o) n w) (asks_body c h o n w) cases e
+picked cases n (Some i) e within = placed_at cases n i e within
 
 -- ---- a switch is the body that is picked
 

@@ -2,7 +2,6 @@
 ghost use Rattle.std.specs.Prelude.{◌≡◌, ◌+◌, ◌*◌, ℕ, pos, length, option_map};
 ghost use Rattle.mint.specs.Values.{seen, all_seen};
 ghost use Rattle.cast_stub.specs.Parts.{at, field, in_group, number_in, tag_in, flag_in, length_in, on_some};
-ghost use Rattle.std.specs.Ordering.{int_eq};
 ghost use Rattle.mint.specs.Values.{arm_in, row_in};
 ghost use Rattle.stub_machine.specs.Picking.{PickedAt};
 
@@ -142,17 +141,5 @@ fn arm(value: &Value) -> Option<(&i128, &Value)>
 pub fn position(cases: &SendCases, n: &i128) -> Option<usize>
     ensures { PickedAt cases.now n.now result }
 {
-    for (i, case) in cases.as_slice().iter().enumerate() {
-        if same(n, &case.0) {
-            return Some(i);
-        }
-    }
-    None
-}
-
-// Whether two numbers are the same.
-fn same(n: &i128, m: &i128) -> bool
-    ensures { result ≡ int_eq n.now m.now }
-{
-    *n == *m
+    cases.find(n)
 }

@@ -1,7 +1,7 @@
 use Rattle.std.proofs.Common.{◌↔◌, ◌+◌, drop}
-use Rattle.mint.specs.Values.{seen, all_seen}
-use Rattle.mint.specs.Types.{type_at, unfolded, fields_at, arms_at}
-use Rattle.mint.specs.Typed.{IsOf, AreOf, IsOfArm, Each}
+use Rattle.mint.specs.Values.{all_seen}
+use Rattle.mint.specs.Types.{type_at, unfolded, fields_at}
+use Rattle.mint.specs.Typed.{IsOf, AreOf, Each}
 use Rattle.mint.proofs.fits.+is_of.Given as goal
 
 abbrev pub decreases-is_of : goal.decreases-is_of
@@ -24,7 +24,3 @@ invariant-are_of-loop-i l = AreOf (fields_at (unfolded l.mint) l.ids) (all_seen 
 abbrev pub invariant-each_is_of-loop-value : goal.invariant-each_is_of-loop-value
 invariant-each_is_of-loop-value l = Each (IsOf (type_at l.mint l.item)) (all_seen l.values)
     ↔ Each (IsOf (type_at l.mint l.item)) (all_seen (drop l.value-index l.value-items))
-
-abbrev pub invariant-is_of_arm-loop-m : goal.invariant-is_of_arm-loop-m
-invariant-is_of_arm-loop-m l = IsOfArm (arms_at (unfolded l.mint) l.arms l.other) l.n (seen l.inner)
-    ↔ IsOfArm (arms_at (unfolded l.mint) (drop l.m-index l.m-items) l.other) l.n (seen l.inner)

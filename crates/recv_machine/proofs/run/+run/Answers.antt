@@ -15,7 +15,7 @@ use Rattle.recv_machine.specs.Drawn.{drawn, array_at}
 use Rattle.recv_machine.specs.Ran.{place_of, Gave, Ran}
 use Rattle.recv_machine.proofs.Drafting.{drawn-Digit}
 use Rattle.recv_machine.specs.Sizes.{code_size}
-use Rattle.recv_machine.proofs.Sizing.{op-in-code, called-is-less}
+use Rattle.recv_machine.proofs.Sizing.{op-in-code, cases-in-op, called-is-less}
 use Rattle.recv_machine.proofs.Within.{put_fits, put_again}
 use Rattle.recv_machine.proofs.Running.{op_holds, op_gives, op_halts, settle_holds, item_holds, item_turn, each_acted, some_acted, switch_acted, part_there, part_holds, part_gives, part_halts, no_arm, arm_given, arm_halts, digit_there, no_digit, digit_is, values_given, numbers_given, number_holds, number_turn, numbers_end, called_is}
 use Rattle.recv_machine.proofs.run.+run.Goals as goal
@@ -31,6 +31,14 @@ act-returns-in-Some-clause-done t c = subst (λ (f : Filler). Gave (drawn c.args
     (place_of c.run_some.new.view) (f (drawn c.args.machine.now.mint.now c.args.part) (place_of c.args.view.now)))
     (sym (some_acted (calls_of c.args.machine.now.subs.now c.args.calls) c.args.op.now c.in-Some.field-0 c.in-Some.body c.in-Some.is))
     c.run_some.ensures.done
+
+pub act-run_switch-requires : goal.act-run_switch-requires
+act-run_switch-requires t c = (
+  omega (arith, cases-in-op c.args.op.now c.in-Switch.field-0 c.in-Switch.cases c.in-Switch.other c.in-Switch.is),
+  subst (λ (f : Filler). Holds (f (drawn c.args.machine.now.mint.now c.args.part) (place_of c.args.view.now)))
+      (switch_acted (calls_of c.args.machine.now.subs.now c.args.calls) c.args.op.now c.in-Switch.field-0 c.in-Switch.cases
+      c.in-Switch.other c.in-Switch.is) c.requires,
+)
 
 pub act-returns-in-Switch-clause-done : goal.act-returns-in-Switch-clause-done
 act-returns-in-Switch-clause-done t c = subst (λ (f : Filler). Gave (drawn c.args.machine.now.mint.now) c.run_switch.result
