@@ -2,13 +2,13 @@
 use crate::descent::word_at;
 use crate::text::{cut, shown, text_of};
 use call_kit::{Called, Naming};
+use kit_base::NoMemory;
 use kit_base::limits::LONGEST_MESSAGE;
-use kit_base::{NoMemory, Words};
 use mint::kind::{Count, Kind};
 use mint::node::{Arms, Node, NodeIds, Tag, arm_of};
 use mint::table::NodeId;
 use plain_wire::{Read, plain_read};
-use pres::{Bound, Shape};
+use pres::{Bound, FieldTable, Shape};
 use std::alloc::Global;
 use wire_def::{Back, Encoding};
 
@@ -116,7 +116,7 @@ impl Body<'_> {
         &self,
         alloc: Global,
         ids: &NodeIds,
-        names: &Words,
+        names: &FieldTable,
         at: usize,
     ) -> Result<Option<Inner>, NoMemory> {
         let mut place = at;

@@ -5,11 +5,11 @@ use crate::scalars::{
 };
 use crate::text::{shown, text_of};
 use json_shape::{ShapeErr, to_value};
-use kit_base::{NoMemory, Words};
+use kit_base::NoMemory;
 use mint::kind::{Count, Kind};
 use mint::node::{Arms, Node, NodeIds, Tag, arm_of};
 use mint::table::NodeId;
-use pres::{Bound, Shape};
+use pres::{Bound, FieldTable, Shape};
 use serde_json::Value as Json;
 use std::alloc::Global;
 
@@ -99,7 +99,7 @@ fn fields<'a>(
     alloc: Global,
     bound: &Bound,
     ids: &NodeIds,
-    names: &Words,
+    names: &FieldTable,
     json: &'a Json,
 ) -> Result<Step<'a>, NoMemory> {
     let Some(object) = json.as_object() else {
@@ -122,8 +122,8 @@ fn fields<'a>(
 }
 
 /// The word at a place.
-pub fn word_at(words: &Words, i: usize) -> &[u8] {
-    match words.get(i) {
+pub fn word_at(words: &FieldTable, i: usize) -> &[u8] {
+    match words.as_slice().get(i) {
         Some(word) => word.as_slice(),
         None => &[],
     }

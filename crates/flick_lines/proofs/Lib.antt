@@ -24,6 +24,8 @@ pub mod Alike
 pub mod Written
 -- * What becomes of a buffer where a record was read, or refused
 pub mod Paying
+-- * Lines whose requests are read without their trees are answered by their trees
+pub mod WithoutTrees
 -- * Each message has counts
 pub mod Counting
 -- What is sent of a line is what its answer makes of the buffer, and what is sent one after the other adds up

@@ -43,6 +43,16 @@ pub record-written : (b : Binding) (r : Asked) (d : Data) (text : List ℕ) → 
     → (has_float d ≡ false → text ≡ compact_text d) → text ≡ request_text b r
 record-written b r d text h is compact = of-op b r d text (slice_get b.ops r.op) (there b.ops r.op h) is compact
 
+of-text : (b : Binding) (r : Asked) (text : List ℕ) (op : Option Op) → (op ≡ None → ⊥)
+    → IfSome op (λ o. text ≡ compact_text (request_json b o r.head r.value)) → text ≡ record_text b op r
+of-text b r text None some is = absurd (some refl)
+of-text b r text (Some o) some is = is
+
+-- a text that is that of the request's record
+pub text-written : (b : Binding) (r : Asked) (text : List ℕ) → r.op < length b.ops
+    → IfSome (slice_get b.ops r.op) (λ o. text ≡ compact_text (request_json b o r.head r.value)) → text ≡ request_text b r
+text-written b r text h is = of-text b r text (slice_get b.ops r.op) (there b.ops r.op h) is
+
 -- ---- replies
 
 -- what a call came to has the members that are written of it

@@ -3,4 +3,5 @@ pub mod Marshalled
 pub mod Paid
 pub mod Sent
 pub mod Unmarshalled
+pub mod Usual
 pub mod Verbs

@@ -13,7 +13,8 @@ ghost use Rattle.flick_lines.specs.Marshalled.{IsOfRecord};
 ghost use Rattle.flick_lines.specs.Paid.{by_code, IsPaid, IsPaidRecord};
 
 use crate::marshalled::{refused, tree_of};
-use crate::text::copied;
+use crate::text::{copied, digits};
+use crate::usual::usual_of;
 use flick_engine::{Engine, MarshalErr};
 use json_shape::{RequestRec, read_request};
 use kit_base::{NoMemory, Octets};
@@ -24,6 +25,23 @@ use std::alloc::Global;
 /// The answer of `count` to a line, without its line feed. The message is made in the buffer, whose counts of it
 /// are those that are written.
 pub fn count(
+    alloc: Global,
+    engine: &Engine,
+    line: &[u8],
+    buf: &mut SendBuf,
+) -> Result<Octets, NoMemory>
+    ensures value { IfOk result (λ o. IsCounted engine.now line.now o) }
+    ensures spent { NoneFell buf.old.spent buf.new.spent }
+    ensures paid { OnOk result (IsPaid verbs.Count engine.now line.now buf.old buf.new) }
+{
+    match usual_of(alloc, engine, line)? {
+        Some(record) => counted_of(alloc, engine, &record, buf),
+        None => by_tree(alloc, engine, line, buf),
+    }
+}
+
+/// The answer of `count` by the tree of a line.
+fn by_tree(
     alloc: Global,
     engine: &Engine,
     line: &[u8],
@@ -84,7 +102,7 @@ fn counted_of(
 fn with_counts(alloc: Global, message: &[u8], counts: Tally) -> Result<Octets, NoMemory>
     ensures { IfOk result (λ o. o ≡ encode_lower message.now ++ counts_text (Some counts)) }
 {
-    let mut out = copied(alloc, hex::encode(alloc, message)?.as_bytes())?;
+    let mut out = digits(alloc, message)?;
     out.append(counts_text(alloc, counts)?.as_bytes())?;
     Ok(out)
 }

@@ -9,6 +9,7 @@ mod replied;
 mod text;
 mod unmarshalled;
 mod unreplied;
+mod usual;
 mod verb;
 
 pub use answered::answer;
@@ -16,7 +17,7 @@ pub use counted::count;
 pub use laws::{lines_are_answered, messages_are_counted};
 pub use marshalled::{marshal, tree_of};
 pub use replied::reply;
-pub use text::{copied, ended};
+pub use text::{copied, digits, ended};
 pub use unmarshalled::unmarshal;
 pub use unreplied::unreply;
 pub use verb::Verb;

@@ -11,7 +11,8 @@ ghost use Rattle.flick_lines.specs.declared.verb.Verb.TheVariants as verbs;
 ghost use Rattle.flick_lines.specs.Marshalled.{call_digits, digits_of, record_refusal, tree_of, IsMarshalled, IsOfRecord};
 ghost use Rattle.flick_lines.specs.Paid.{by_code, IsPaid, IsPaidRecord};
 
-use crate::text::copied;
+use crate::text::{copied, digits};
+use crate::usual::usual_of;
 use flick_engine::{Engine, MarshalErr};
 use json_shape::{RecordErr, RequestRec, read_request};
 use kit_base::{NoMemory, Octets};
@@ -21,6 +22,23 @@ use std::alloc::Global;
 
 /// The answer of `marshal` to a line, without its line feed. The message is made in the buffer.
 pub fn marshal(
+    alloc: Global,
+    engine: &Engine,
+    line: &[u8],
+    buf: &mut SendBuf,
+) -> Result<Octets, NoMemory>
+    ensures value { IfOk result (λ o. IsMarshalled engine.now.binding line.now o) }
+    ensures spent { NoneFell buf.old.spent buf.new.spent }
+    ensures paid { OnOk result (IsPaid verbs.Marshal engine.now line.now buf.old buf.new) }
+{
+    match usual_of(alloc, engine, line)? {
+        Some(record) => digits_of(alloc, engine, &record, buf),
+        None => by_tree(alloc, engine, line, buf),
+    }
+}
+
+/// The answer of `marshal` by the tree of a line.
+fn by_tree(
     alloc: Global,
     engine: &Engine,
     line: &[u8],
@@ -104,7 +122,7 @@ fn digits_of(
         (seen record.now.value) buf.old buf.new) }
 {
     match engine.marshal(record.op, &record.head, &record.value, buf) {
-        Ok(()) => copied(alloc, hex::encode(alloc, buf.octets())?.as_bytes()),
+        Ok(()) => digits(alloc, buf.octets()),
         Err(MarshalErr::Long) => copied(alloc, b"! long"),
         Err(MarshalErr::NoMemory) => Err(NoMemory),
     }

@@ -12,7 +12,7 @@ ghost use Rattle.flick_lines.specs.Marshalled.{digits_of, reply_digits, IsOfReco
 ghost use Rattle.flick_lines.specs.Paid.{by_fields, IsPaid, IsPaidRecord};
 
 use crate::marshalled::{refused, tree_of};
-use crate::text::copied;
+use crate::text::{copied, digits};
 use flick_engine::{Engine, MarshalErr};
 use json_shape::{RequestRec, read_reply};
 use kit_base::{NoMemory, Octets};
@@ -72,7 +72,7 @@ fn digits_of(
         (seen record.now.value) buf.old buf.new) }
 {
     match engine.marshal_reply(record.op, &record.head, &record.value, buf) {
-        Ok(()) => copied(alloc, hex::encode(alloc, buf.octets())?.as_bytes()),
+        Ok(()) => digits(alloc, buf.octets()),
         Err(MarshalErr::Long) => copied(alloc, b"! long"),
         Err(MarshalErr::NoMemory) => Err(NoMemory),
     }

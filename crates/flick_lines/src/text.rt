@@ -1,5 +1,6 @@
-// Octets in memory of their own.
+// Octets in memory of their own, with space for a line feed.
 ghost use Rattle.std.specs.Prelude.{◌≡◌, ◌∷◌, ◌++◌, [], IfOk};
+ghost use Rattle.hex.specs.Hex.{encode_lower};
 
 use kit_base::{NoMemory, Octets};
 use std::alloc::Global;
@@ -8,12 +9,22 @@ use std::alloc::Global;
 pub fn copied(alloc: Global, octets: &[u8]) -> Result<Octets, NoMemory>
     ensures { IfOk result (λ o. o ≡ octets.now) }
 {
-    let mut out = Octets::new(alloc);
+    let mut out = Octets::with_room(alloc, octets.len().saturating_add(1))?;
     out.append(octets)?;
     Ok(out)
 }
 
-/// An answer with its line feed.
+/// Octets in hexadecimal digits, the letters in lower case.
+pub fn digits(alloc: Global, octets: &[u8]) -> Result<Octets, NoMemory>
+    ensures { IfOk result (λ o. o ≡ encode_lower octets.now) }
+{
+    let room = octets.len().saturating_mul(2).saturating_add(1);
+    let mut out = Octets::with_room(alloc, room)?;
+    digit_kit::put(octets, &mut out)?;
+    Ok(out)
+}
+
+/// An answer with its line feed, for which `copied` and `digits` have space.
 pub fn ended(answer: Octets) -> Result<Octets, NoMemory>
     ensures { IfOk result (λ o. o ≡ answer ++ 10 ∷ []) }
 {

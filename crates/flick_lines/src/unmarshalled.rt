@@ -19,7 +19,7 @@ use wire_def::{FaultKind, HeadErr};
 pub fn unmarshal(alloc: Global, engine: &Engine, line: &[u8]) -> Result<Octets, NoMemory>
     ensures { IfOk result (λ o. IsUnmarshalled engine.now.binding line.now o) }
 {
-    match hex::decode(alloc, line) {
+    match digit_kit::decode(alloc, line) {
         Ok(message) => of_octets(alloc, engine, message.as_slice()),
         Err(FromHexError::OutOfMemory) => Err(NoMemory),
         Err(_) => copied(alloc, b"! hex"),
@@ -33,16 +33,29 @@ fn of_octets(alloc: Global, engine: &Engine, message: &[u8]) -> Result<Octets, N
 {
     let mut view = RecvView::new(message);
     match engine.unmarshal(alloc, &mut view) {
-        Ok(request) => copied(alloc, record_text(alloc, engine, &request)?.as_bytes()),
+        Ok(request) => copied(alloc, record_text(alloc, engine, &request)?.as_slice()),
         Err(refusal) => copied(alloc, refusal_text(alloc, refusal)?.as_bytes()),
     }
 }
 
-/// The record of a request as JSON without blanks.
-fn record_text(alloc: Global, engine: &Engine, request: &Request) -> Result<String, NoMemory>
+/// The record of a request as JSON without blanks: straight from its value, or by its tree.
+fn record_text(alloc: Global, engine: &Engine, request: &Request) -> Result<Vec<u8>, NoMemory>
     requires op { request.now.op < length engine.now.binding.ops }
     requires typed { IsWellTyped (request_type engine.now.binding request.now.op) (seen request.now.value) }
-    ensures { IfOk result (λ s. string_bytes s ≡ request_text engine.now.binding (asked request.now)) }
+    ensures { IfOk result (λ text. text.items ≡ request_text engine.now.binding (asked request.now)) }
+{
+    let bound = engine.bound();
+    match json_shape::request_text(alloc, bound, request.op, &request.head, &request.value)? {
+        Some(text) => Ok(text),
+        None => by_tree(alloc, engine, request),
+    }
+}
+
+/// The record of a request by its tree.
+fn by_tree(alloc: Global, engine: &Engine, request: &Request) -> Result<Vec<u8>, NoMemory>
+    requires op { request.now.op < length engine.now.binding.ops }
+    requires typed { IsWellTyped (request_type engine.now.binding request.now.op) (seen request.now.value) }
+    ensures { IfOk result (λ text. text.items ≡ request_text engine.now.binding (asked request.now)) }
 {
     let record = write_request(
         alloc,
@@ -51,7 +64,7 @@ fn record_text(alloc: Global, engine: &Engine, request: &Request) -> Result<Stri
         &request.head,
         &request.value,
     )?;
-    Ok(record.to_string(alloc)?)
+    Ok(record.to_vec(alloc)?)
 }
 
 /// Why octets are not a message.

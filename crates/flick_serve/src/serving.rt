@@ -8,7 +8,7 @@ ghost use Rattle.flick_serve.specs.Served.{AgreesWith, IsOfMessage, IsServed};
 
 use crate::given::{WrongLine, replies_in};
 use flick_engine::{Engine, Served};
-use flick_lines::copied;
+use flick_lines::{copied, digits};
 use hex::FromHexError;
 use kit_base::{NoMemory, Octets};
 use raw_buf::{RecvView, SendBuf};
@@ -106,7 +106,7 @@ fn of_line(
         IsOfMessage engine.now.binding (answer_at kept.now) (decode_of line.now) o) }
     ensures spent { NoneFell buf.old.spent buf.new.spent }
 {
-    match hex::decode(alloc, line) {
+    match digit_kit::decode(alloc, line) {
         Ok(message) => of_message(alloc, engine, kept, message.as_slice(), buf),
         Err(FromHexError::OutOfMemory) => Err(NoMemory),
         Err(_) => copied(alloc, b"! hex"),
@@ -128,7 +128,7 @@ fn of_message(
 {
     let mut view = RecvView::new(message);
     match engine.serve(alloc, kept, &mut view, buf)? {
-        Served::Reply => copied(alloc, hex::encode(alloc, buf.octets())?.as_bytes()),
+        Served::Reply => digits(alloc, buf.octets()),
         Served::Silent => copied(alloc, b"-"),
     }
 }

@@ -33,6 +33,30 @@ got [] i n h = absurd cc
 got (m ∷ ns) zero n h = cc
 got (m ∷ ns) (suc i) n h = got ns i n h
 
+-- one number, and those after it
+pub numbers_next : (k : Kind) (ns : List ℤ) (i : ℕ) (n : ℤ) → i < length ns → Some n ≡ slice_get ns i
+    → each_json k (drop i ns) ≡ item (number_json k n) (each_json k (drop (i + 1) ns))
+numbers_next k ns i n h there =
+    rw (add-one, drop-cons ns i n)
+    (ap (λ (m : ℤ). item (number_json k m) (each_json k (drop (suc i) ns))) (sym (got ns i n there)))
+
+-- one value, and those after it
+pub values_next : (f : Face) (vs : List Value) (i : ℕ) (d : Value) → i < length vs → d ≡ get_or vs i d
+    → items_json (json_of f) (all_seen (drop i vs)) ≡ item (json_of f (seen d)) (items_json (json_of f) (all_seen (drop (i + 1) vs)))
+values_next f vs i d h same =
+    rw (add-one, drop-cons vs i d)
+    (ap (λ (w : Value). item (json_of f (seen w)) (items_json (json_of f) (all_seen (drop (suc i) vs)))) (sym same))
+
+-- one part, and those after it
+pub parts_next : (fs : List Face) (ids : List ℕ) (vs : List Value) (i : ℕ) (d : Value) → i < length ids → i < length vs
+    → d ≡ get_or vs i d
+    → in_order_json (parts_at fs [] (drop i ids)) (all_seen (drop i vs))
+    ≡ item (json_of (at fs (get_or ids i 0)) (seen d)) (in_order_json (parts_at fs [] (drop (i + 1) ids)) (all_seen (drop (i + 1) vs)))
+parts_next fs ids vs i d h l same =
+    rw (add-one, drop-cons ids i 0, drop-cons vs i d)
+    (ap (λ (w : Value). item (json_of (at fs (get_or ids i 0)) (seen w))
+    (in_order_json (parts_at fs [] (drop (suc i) ids)) (all_seen (drop (suc i) vs)))) (sym same))
+
 pub numbers_more : (k : Kind) (ns : List ℤ) (i : ℕ) (n : ℤ) (front : List Json) (v : Json) → i < length ns → Some n ≡ slice_get ns i
     → view v ≡ number_json k n
     → behind_items (items_view front) (each_json k (drop i ns))
@@ -86,11 +110,15 @@ module _ (fs : List Face) where
   parts_out (i ∷ ids) [] h = refl
   parts_out (i ∷ ids) (v ∷ vs) h = absurd (h (omega arith) (omega arith))
 
+  pub parts_none : (ids : List ℕ) (vs : List Value) (i : ℕ) → (i < length ids → i < length vs → ⊥)
+      → in_order_json (parts_at fs [] (drop i ids)) (all_seen (drop i vs)) ≡ no_items
+  parts_none ids vs i h =
+      parts_out (drop i ids) (drop i vs) (λ m n. h (omega (arith, m, length-drop i ids)) (omega (arith, n, length-drop i vs)))
+
   pub parts_done : (ids : List ℕ) (vs : List Value) (i : ℕ) (front : List Json) (all : Items) → (i < length ids → i < length vs → ⊥)
       → behind_items (items_view front) (in_order_json (parts_at fs [] (drop i ids)) (all_seen (drop i vs))) ≡ all → items_view front ≡ all
   parts_done ids vs i front all h is =
-      let out = parts_out (drop i ids) (drop i vs) (λ m n. h (omega (arith, m, length-drop i ids)) (omega (arith, n, length-drop i vs))) in
-      sym (ap (behind_items (items_view front)) out ∙ behind_none (items_view front)) ∙ is
+      sym (ap (behind_items (items_view front)) (parts_none ids vs i h) ∙ behind_none (items_view front)) ∙ is
 
   named_out : (names : List (List ℕ)) (ids : List ℕ) (vs : List Value) → (0 < length ids → 0 < length vs → ⊥)
       → by_name_json (parts_at fs names ids) (all_seen vs) ≡ no_members

@@ -18,6 +18,8 @@ pub mod Fields
 pub mod Items
 -- * The characters of a string, one by one
 pub mod Letters
+-- * Strings of ASCII characters are their own octets, by induction on the octets
+pub mod Ascii
 -- Numbers, items, texts and rows that are written are read, by induction on numbers, octets and items
 pub mod WrittenScalars
 -- * The tree that is written for a value shows it, by mutual induction on faces, their parts and their arms
@@ -28,7 +30,27 @@ pub mod Naming
 pub mod Sources
 -- * Strings that begin with the string of octets
 pub mod Passing
+-- * Names and strings of ASCII, by induction on the octets
+pub mod Plain
 -- * Request records that are written are read back, by induction on the operations
 pub mod ReadBack
 -- * Values that are made, as they are seen
 pub mod Seen
+-- * The name of an item, as a string, by induction on the items
+pub mod Texted
+-- * Operations stand interface by interface, by induction on the interfaces
+pub mod Homes
+-- * Tokens that are written one after the other
+pub mod Adding
+-- * The order of fields by their keys, by induction on the order and on the names
+pub mod FieldPlaces
+-- * The tokens of a request record and the text that they are
+pub mod RecordTokens
+-- * Operations by their names and numbers, interface by interface, by induction on the operations of one
+pub mod Seeking
+-- * Numbers, items, texts and rows that are read of text in the usual form
+pub mod UsualTexts
+-- * What is read of text in the usual form, by induction on items and on members
+pub mod UsualReading
+-- * Request records in the usual form
+pub mod UsualRecords

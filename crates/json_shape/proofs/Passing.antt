@@ -20,7 +20,7 @@ is_next : (octets : List ℕ) (k : ℕ) (more : List ℕ) → k < length octets
     → text_of (drop k octets) ++ more ≡ encode_utf8 (get_or octets k 0) ++ (text_of (drop (suc k) octets) ++ more)
 is_next octets k more h = rw (drop-cons octets k 0) (append_assoc (encode_utf8 (get_or octets k 0)) (text_of (drop (suc k) octets)) more)
 
-never_empty : (c : ℕ) (more : List ℕ) → 0 < length (encode_utf8 c ++ more)
+pub never_empty : (c : ℕ) (more : List ℕ) → 0 < length (encode_utf8 c ++ more)
 never_empty c more = omega (arith, length-append (encode_utf8 c) more, length-encode c, len_utf8_bounds c)
 
 pub goes_on : (octets : List ℕ) (k c : ℕ) (start rest more : List ℕ) → k < length octets → Passing octets k start rest
@@ -67,7 +67,7 @@ whole_text octets text rest is none =
     let empty : rest ≡ [] = nil_from_length rest none in
     (bytes_eq-Decides (text_of octets) text).1 (sym (is ∙ ap (λ bs. text_of octets ++ bs) empty ∙ append-nil (text_of octets)))
 
-is_false : (b : Bool) → (b ≡ true → ⊥) → b ≡ false
+pub is_false : (b : Bool) → (b ≡ true → ⊥) → b ≡ false
 is_false true h = absurd (h refl)
 is_false false h = refl
 

@@ -74,43 +74,43 @@ found is (p ∷ ops) k (suc j) o h there =
 -- ---- the members of a record
 
 -- the record of a name, a head and arguments
-abbrev written : Back → List ℕ → Head → Data → Data
+abbrev pub written : Back → List ℕ → Head → Data → Data
 written k t h args = object (put (codes "op") (string t) (head_json k h (put (codes "args") args no_members)))
 
 in_word : (n : ℕ) → n < 2 ^ 32 → (if nat_lt n (2 ^ 32) then Some n else None) ≡ Some n
 in_word n h = let yes : nat_lt n (2 ^ 32) ≡ true = lt-ltb n (2 ^ 32) h in rw yes refl
 
-text_is : (k : Back) (t : List ℕ) (h : Head) (args : Data) → text_at (codes "op") (written k t h args) ≡ t
+pub text_is : (k : Back) (t : List ℕ) (h : Head) (args : Data) → text_at (codes "op") (written k t h args) ≡ t
 text_is back.Xdr t h args = refl
 text_is back.CdrBig t h args = refl
 text_is back.CdrLittle t h args = refl
 text_is back.Mach t h args = refl
 
-args_are : (k : Back) (t : List ℕ) (h : Head) (args : Data) → list_at (codes "args") (written k t h args) ≡ args
+pub args_are : (k : Back) (t : List ℕ) (h : Head) (args : Data) → list_at (codes "args") (written k t h args) ≡ args
 args_are back.Xdr t h args = refl
 args_are back.CdrBig t h args = refl
 args_are back.CdrLittle t h args = refl
 args_are back.Mach t h args = refl
 
 -- the head that is read of a record
-abbrev head_read : Back → Data → Bool → Head
+abbrev pub head_read : Back → Data → Bool → Head
 head_read k j wants = head_of k (number_at (head_key k) j) (number_at (codes "local") j) wants
 
-head_is : (k : Back) (t : List ℕ) (h : Head) (args : Data) (wants : Bool) → head_word k h < 2 ^ 32 → h.local < 2 ^ 32
+pub head_is : (k : Back) (t : List ℕ) (h : Head) (args : Data) (wants : Bool) → head_word k h < 2 ^ 32 → h.local < 2 ^ 32
     → head_read k (written k t h args) wants ≡ head_of k (head_word k h) h.local wants
 head_is back.Xdr t h args wants w p = rw (lt-ltb h.id (2 ^ 32) w) refl
 head_is back.CdrBig t h args wants w p = rw (lt-ltb h.id (2 ^ 32) w) refl
 head_is back.CdrLittle t h args wants w p = rw (lt-ltb h.id (2 ^ 32) w) refl
 head_is back.Mach t h args wants w p = rw (lt-ltb h.remote (2 ^ 32) w, lt-ltb h.local (2 ^ 32) p) refl
 
-is_record : (k : Back) (t : List ℕ) (h : Head) (args : Data) → head_word k h < 2 ^ 32 → h.local < 2 ^ 32 → is_some (as_array args) ≡ true
-    → is_request k (written k t h args) ≡ true
+pub is_record : (k : Back) (t : List ℕ) (h : Head) (args : Data) → head_word k h < 2 ^ 32 → h.local < 2 ^ 32
+    → is_some (as_array args) ≡ true → is_request k (written k t h args) ≡ true
 is_record back.Xdr t h args w p a = rw (lt-ltb h.id (2 ^ 32) w, a) refl
 is_record back.CdrBig t h args w p a = rw (lt-ltb h.id (2 ^ 32) w, a) refl
 is_record back.CdrLittle t h args w p a = rw (lt-ltb h.id (2 ^ 32) w, a) refl
 is_record back.Mach t h args w p a = rw (lt-ltb h.remote (2 ^ 32) w, lt-ltb h.local (2 ^ 32) p, a) refl
 
-answered : (k : Back) (t : List ℕ) (h : Head) (args : Data) (o : Op) → h.local < 2 ^ 32 → has_idle_port k o h ≡ false
+pub answered : (k : Back) (t : List ℕ) (h : Head) (args : Data) (o : Op) → h.local < 2 ^ 32 → has_idle_port k o h ≡ false
     → is_unanswered k o (written k t h args) ≡ false
 answered back.Xdr t h args o p i = refl
 answered back.CdrBig t h args o p i = refl
@@ -158,7 +158,7 @@ args_listed f ps v is typed = rw is (list_written ps v (rw is at typed))
 -- ---- records
 
 -- what is read of a record that has the members of one
-whole : (b : Binding) (j : Data) (k : ℕ) (o : Op) → is_request b.back j ≡ true → op_named b (text_at (codes "op") j) ≡ Some (k, o)
+pub whole : (b : Binding) (j : Data) (k : ℕ) (o : Op) → is_request b.back j ≡ true → op_named b (text_at (codes "op") j) ≡ Some (k, o)
     → is_unanswered b.back o j ≡ false
     → request_of b j ≡ Ok (record {
       op = k;

@@ -28,7 +28,7 @@ each_shows f P one (val v vs) h = (one v h.0, each_shows f P one vs h.1)
 -- ---- members of objects
 
 -- a member of another name stays
-other_member : (m n : List ℕ) (d : Data) (ms : Members) → bytes_eq m n ≡ false → member_of m (put (text_of n) d ms) ≡ member_of m ms
+pub other_member : (m n : List ℕ) (d : Data) (ms : Members) → bytes_eq m n ≡ false → member_of m (put (text_of n) d ms) ≡ member_of m ms
 other_member m n d ms h =
     get_member-put_other (text_of m) (text_of n) d ms
     (λ e. let same : bytes_eq m n ≡ true = (bytes_eq-Decides m n).1 (encodes_same m n e) in absurd cc)
@@ -63,7 +63,7 @@ missing (part m f ps) (val v vs) q h =
         step false is = refl
         step true is = let same : bytes_eq a b ≡ true = (bytes_eq-Decides a b).1 (sym ((bytes_eq-Decides b a).0 is)) in absurd cc
 
-size-put : (k : List ℕ) (d : Data) (ms : Members) → get_member k ms ≡ None → size (put k d ms) ≡ size ms + 1
+pub size-put : (k : List ℕ) (d : Data) (ms : Members) → get_member k ms ≡ None → size (put k d ms) ≡ size ms + 1
 size-put k d no_members h = refl
 size-put k d (member l e ms) h = step (slice_cmp nat_cmp k l) h (size-put k d ms) where
   step : (o : Ordering) → match_ordering o (get_member k ms) (Some e) (get_member k ms) ≡ None

@@ -1,13 +1,16 @@
 pub mod Gives
+pub mod Homes
 pub mod Laws
 pub mod Members
 pub mod Named
 pub mod Operations
 pub mod Presents
+pub mod Printed
 pub mod Reading
 pub mod Records
 pub mod Replies
 pub mod Requests
 pub mod Scalars
 pub mod Texts
+pub mod Usual
 pub mod Written

@@ -1,15 +1,15 @@
 -- Numbers, items of enums, texts and rows in JSON.
 use Rattle.std.specs.Prelude.{ℕ, ℤ, pos, Bool, true, false, List, [], ◌∷◌, map, Option, Some, None, if◌then◌else◌, option_and_then, option_map}
-use Rattle.std.specs.Str.{bytes_eq}
 use Rattle.mint.specs.declared.kind.Kind.{Kind}
 use Rattle.mint.specs.declared.kind.Kind.TheVariants as kind
 use Rattle.mint.specs.Kinds.{in_range}
 use Rattle.mint.specs.Types.{Array, text, row_of}
-use Rattle.pres.specs.Faces.{ItemList, Sign, number, item}
+use Rattle.pres.specs.Faces.{Sign, number, item}
+pub use Rattle.pres.specs.Tables.{number_named}
 use Rattle.serde_json.specs.Data.{Data, Items, no_items}
 use Rattle.serde_json.specs.Data as json
 use Rattle.serde_json.specs.Find.{as_bool, as_number, as_integer, as_str, as_array}
-use Rattle.json_shape.specs.Texts.{text_of, octets_in, hex_in}
+use Rattle.json_shape.specs.Texts.{octets_in, hex_in}
 
 -- the number of false and of true
 abbrev pub flag : Bool → ℤ
@@ -34,11 +34,6 @@ abbrev pub number_in : Kind → Data → Option ℤ
 number_in kind.Bool j = option_map flag (as_bool j)
 number_in kind.Char j = option_and_then only (octets_in j)
 number_in k j = whole_in k j
-
--- the number of the first item whose name a string is
-abbrev pub number_named : ItemList → List ℕ → Option ℤ
-number_named [] s = None
-number_named (i ∷ items) s = if bytes_eq (text_of i.0) s then Some i.1 else number_named items s
 
 -- the number that a tree is, or that of the item which a string names
 abbrev pub sign_in : Sign → Data → Option ℤ

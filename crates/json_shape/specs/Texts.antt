@@ -1,15 +1,12 @@
 -- Strings that stand for octets, one character each.
 use Rattle.std.specs.Prelude.{ℕ, List, Option, Some, None, if◌then◌else◌, nat_lt, option_and_then, Bool}
 use Rattle.std.specs.List.{list_all}
-use Rattle.std.specs.Str.{chars, encode_utf8_all}
+use Rattle.std.specs.Str.{chars}
 use Rattle.std.specs.Result.{result_ok}
 use Rattle.hex.specs.Hex.{decode_of}
 use Rattle.serde_json.specs.Data.{Data}
 use Rattle.serde_json.specs.Find.{as_str}
-
--- the string of octets: each as the character of that code
-abbrev pub text_of : List ℕ → List ℕ
-text_of octets = encode_utf8_all octets
+pub use Rattle.pres.specs.Tables.{text_of}
 
 abbrev pub is_octet : ℕ → Bool
 is_octet c = nat_lt c 256

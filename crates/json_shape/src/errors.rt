@@ -1,5 +1,7 @@
 // Why JSON gives no value.
+use hex::FromHexError;
 use kit_base::NoMemory;
+use std::alloc::{AllocError, AllocFailed};
 
 /// Why no value was read.
 #[derive(Clone, Copy, Debug, PartialEq, Eq)]
@@ -44,5 +46,59 @@ impl From<NoMemory> for RecordErr {
 
     fn from(_refused: NoMemory) -> RecordErr {
         RecordErr::NoMemory
+    }
+}
+
+/// Why a text was not written straight from its value, or read straight as one.
+#[derive(Clone, Copy, Debug, PartialEq, Eq)]
+pub(crate) enum Halt {
+    /// It is to be done by its tree.
+    Otherwise,
+    /// Memory ran out.
+    NoMemory,
+}
+
+impl From<NoMemory> for Halt {
+    fn from(_refused: NoMemory) -> Halt {
+        Halt::NoMemory
+    }
+}
+
+impl From<AllocError> for Halt {
+    fn from(_refused: AllocError) -> Halt {
+        Halt::NoMemory
+    }
+}
+
+impl<T: Drop> From<AllocFailed<T>> for Halt {
+    fn from(_refused: AllocFailed<T>) -> Halt {
+        Halt::NoMemory
+    }
+}
+
+impl From<ShapeErr> for Halt {
+    fn from(error: ShapeErr) -> Halt {
+        match error {
+            ShapeErr::Shape => Halt::Otherwise,
+            ShapeErr::NoMemory => Halt::NoMemory,
+        }
+    }
+}
+
+impl From<FromHexError> for Halt {
+    fn from(error: FromHexError) -> Halt {
+        match error {
+            FromHexError::OutOfMemory => Halt::NoMemory,
+            _ => Halt::Otherwise,
+        }
+    }
+}
+
+impl From<json::Error> for Halt {
+    fn from(error: json::Error) -> Halt {
+        match error {
+            json::Error::OutOfMemory => Halt::NoMemory,
+            _ => Halt::Otherwise,
+        }
     }
 }

@@ -2,11 +2,16 @@
 #![tactic(auto)]
 
 mod errors;
+mod field_order;
 mod laws;
 mod members;
+mod names;
 mod numbers;
 mod objects;
 mod operations;
+mod printed_records;
+mod printed_scalars;
+mod printing;
 mod reading;
 mod records;
 mod replies;
@@ -14,6 +19,10 @@ mod requests;
 mod rows;
 mod scalars;
 mod texts;
+mod usual;
+mod usual_requests;
+mod usual_scalars;
+mod usual_tokens;
 mod writing;
 mod written_records;
 
@@ -21,9 +30,11 @@ pub use errors::{RecordErr, ShapeErr};
 pub use laws::{
     json_is_decided, json_presents_one_value, records_are_read_back, written_json_presents,
 };
+pub use printed_records::request_text;
 pub use reading::to_value;
 pub use records::RequestRec;
 pub use replies::{read_given, read_reply, reply_named};
 pub use requests::read_request;
+pub use usual_requests::usual_request;
 pub use writing::to_json;
 pub use written_records::{write_reply, write_request};

@@ -2,20 +2,19 @@
 ghost use Rattle.std.specs.Prelude.{◌≡◌, [], ◌∷◌, true, IfOk};
 ghost use Rattle.hex.specs.Hex.{encode_lower};
 ghost use Rattle.mint.specs.Kinds.{in_range};
-ghost use Rattle.pres.specs.Faces.{sign_of, item};
+ghost use Rattle.pres.specs.Faces.{items_in, sign_of, item};
 ghost use Rattle.serde_json.specs.Data.{array, string, number};
 ghost use Rattle.serde_json.specs.Find.{of_integer};
 ghost use Rattle.serde_json.specs.View.{view};
 ghost use Rattle.json_shape.specs.Texts.{text_of};
 ghost use Rattle.json_shape.specs.Written.{number_json, number_tree, sign_json, row_json, each_json, letters};
 
-use crate::scalars::items_of;
 use crate::texts::text_of;
-use kit_base::{Name, NoMemory};
+use kit_base::NoMemory;
 use mint::kind::Kind;
 use mint::node::Tag;
 use mint::row::Row;
-use pres::Shape;
+use pres::{ItemTable, Shape};
 use serde_json::{Number, Value as Json};
 use std::alloc::Global;
 
@@ -59,15 +58,23 @@ fn whole(kind: Kind, n: &i128) -> Json
 }
 
 /// The name of the first item with a number.
-pub(crate) fn item_json(alloc: Global, items: &[(Name, i32)], n: &i128) -> Result<Json, NoMemory>
+pub(crate) fn item_json(alloc: Global, shape: &Shape, n: &i128) -> Result<Json, NoMemory>
+    ensures { IfOk result (λ j. view j ≡ sign_json (item (items_in shape.now)) n.now) }
+{
+    match shape {
+        Shape::LabelNames(items) => name_json(alloc, items, n),
+        _ => string(alloc, &[]),
+    }
+}
+
+#[tactic(auto, using(crate::proofs::Texted::texted))]
+fn name_json(alloc: Global, items: &ItemTable, n: &i128) -> Result<Json, NoMemory>
     ensures { IfOk result (λ j. view j ≡ sign_json (item items.now) n.now) }
 {
-    for (name, m) in items {
-        if i128::from(*m) == *n {
-            return string(alloc, name.as_slice());
-        }
+    match items.text(n) {
+        Some(text) => Ok(Json::try_from_str(alloc, text)?),
+        None => string(alloc, &[]),
     }
-    string(alloc, &[])
 }
 
 /// The JSON of a tag.
@@ -76,7 +83,7 @@ pub(crate) fn sign_json(alloc: Global, tag: &Tag, shape: &Shape, n: &i128) -> Re
 {
     match tag {
         Tag::Num(kind) => number_json(alloc, *kind, n),
-        Tag::Enum(_) => item_json(alloc, items_of(shape), n),
+        Tag::Enum(_) => item_json(alloc, shape, n),
     }
 }
 
@@ -94,7 +101,7 @@ pub(crate) fn row_json(alloc: Global, row: &Row) -> Result<Json, NoMemory>
 fn hexadecimal(alloc: Global, octets: &[u8]) -> Result<Json, NoMemory>
     ensures { IfOk result (λ j. view j ≡ string (encode_lower octets.now)) }
 {
-    Ok(Json::String(hex::encode(alloc, octets)?))
+    Ok(Json::String(digit_kit::encode(alloc, octets)?))
 }
 
 fn numbers(alloc: Global, kind: Kind, row: &Row) -> Result<Json, NoMemory>

@@ -1,10 +1,11 @@
 // Members of objects.
-ghost use Rattle.std.specs.Prelude.{◌≡◌, IfOk, false, option_map, string_bytes};
+ghost use Rattle.std.specs.Prelude.{◌≡◌, ◌<◌, [], length, slice_index_or, false, option_map, string_bytes};
 ghost use Rattle.std.specs.Option.{option_map_or};
 ghost use Rattle.std.specs.List.{list_all};
 ghost use Rattle.std.specs.BTreeMap.{keys};
 ghost use Rattle.pres.specs.Faces.{sign_of};
-ghost use Rattle.serde_json.specs.View.{view};
+ghost use Rattle.serde_json.specs.Data.{put};
+ghost use Rattle.serde_json.specs.View.{view, members_view};
 ghost use Rattle.serde_json.specs.Find.{get, as_object};
 ghost use Rattle.json_shape.specs.Gives.{Gives};
 ghost use Rattle.json_shape.specs.Presents.{is_arm, is_arm_key, members_in, tag_in};
@@ -12,23 +13,18 @@ ghost use Rattle.json_shape.specs.Texts.{text_of};
 
 use crate::errors::ShapeErr;
 use crate::scalars::sign;
-use crate::texts::text_of;
-use kit_base::NoMemory;
 use mint::node::Tag;
-use pres::Shape;
+use pres::{FieldTable, Shape};
 use serde_json::{Map, Value as Json};
 use std::alloc::Global;
 
-/// The member of a name.
-pub(crate) fn member<'a>(
-    alloc: Global,
-    name: &[u8],
-    json: &'a Json,
-) -> Result<Option<&'a Json>, NoMemory>
-    ensures { IfOk result (λ o. option_map (λ j. view j.now) o ≡ get (text_of name.now) (view json.now)) }
+/// The member of the field at a place.
+pub(crate) fn member<'a>(names: &FieldTable, i: usize, json: &'a Json) -> Option<&'a Json>
+    requires { i < length names.now }
+    ensures { option_map (λ j. view j.now) result
+        ≡ get (text_of (slice_index_or names.now i [])) (view json.now) }
 {
-    let key = text_of(alloc, name)?;
-    Ok(json.get(key.as_str()))
+    json.get(names.text(i))
 }
 
 /// Whether the JSON is an object without members besides those of a choice.

@@ -1,16 +1,20 @@
 // The operations that records name.
-ghost use Rattle.std.specs.Prelude.{◌≡◌, IfOk, IfSome, None, Some, map, option_map, slice_get, slice_index_or};
-ghost use Rattle.std.specs.Str.{bytes_eq};
+ghost use Rattle.std.specs.Prelude.{◌≡◌, ◌<◌, ◌≤◌, ◌++◌, ℕ, List, IfOk, IfSome, None, Some, true, codes, length, map, option_map, slice_get, slice_index_or};
+ghost use Rattle.std.specs.List.{position_from};
+ghost use Rattle.std.specs.Str.{IsAscii, bytes_eq};
 ghost use Rattle.aoi.specs.Plain.{plain_raise, plain_operation, plain_interface};
+ghost use Rattle.pres.specs.declared.ops.Op.{Op as OpRecord};
 ghost use Rattle.pres.specs.Bindings.{IsPlaced};
+ghost use Rattle.pres.specs.Offers.{gets_null, operations};
+ghost use Rattle.json_shape.specs.Homes.{Leads, homes, homes_from};
 ghost use Rattle.json_shape.specs.Operations.{interface_name, dotted, op_named, sources, source, is_oneway, raises};
 ghost use Rattle.json_shape.specs.Replies.{raise_from, raise_name};
 ghost use Rattle.json_shape.specs.Texts.{text_of};
 
-use crate::texts::{behind, is_rest_of, is_text_of};
+use crate::names::{after_name, is_name};
 use aoi::{Interface, Operation, Raise};
 use kit_base::{NoMemory, Octets};
-use pres::{Bound, Op, gets_null};
+use pres::{Bound, Op};
 use std::alloc::Global;
 use wire_def::Back;
 
@@ -25,16 +29,55 @@ fn interface_name(interfaces: &[Interface], k: u32) -> &[u8]
     }
 }
 
-/// Whether a string names an operation.
-fn is_dotted(interfaces: &[Interface], op: &Op, text: &str) -> bool
-    ensures { result ≡ bytes_eq (text_of (dotted (map plain_interface interfaces.now) op.now)) text.now }
+/// The place of the first operation whose own name a string is.
+fn own_place(ops: &[Op], text: &str) -> Option<usize>
+    ensures place { result ≡ position_from (λ (o : OpRecord). bytes_eq (text_of o.name) text.now) 0 ops.now }
+    ensures within { IfSome result (λ i. i < length ops.now) }
 {
-    let Some(rest) = behind(interface_name(interfaces, op.interface), text.chars()) else {
-        return false;
-    };
-    match behind(b".", rest) {
-        Some(rest) => is_rest_of(op.name.as_slice(), rest),
+    let plain = text.is_ascii();
+    for (i, op) in ops.iter().enumerate() {
+        if is_name(op.name.as_slice(), text, plain) {
+            return Some(i);
+        }
+    }
+    None
+}
+
+/// The place of the first operation that a string names, among those of an interface.
+fn place_in(name: &[u8], ops: &[Op], text: &str, plain: bool) -> Option<usize>
+    requires { plain ≡ true → IsAscii text.now }
+    ensures place { result ≡ position_from
+        (λ (o : OpRecord). bytes_eq (text_of (name.now ++ (codes "." ++ o.name))) text.now) 0 ops.now }
+    ensures within { IfSome result (λ i. i < length ops.now) }
+{
+    match after_name(name, text, plain) {
+        Some(rest) => own_place(ops, rest),
+        None => None,
+    }
+}
+
+/// Whether the operations of an interface end with a procedure that it gets.
+fn is_given_null(back: Back, interface: &Interface, k: usize, ops: &[Op]) -> bool
+    requires { Leads back k (plain_interface interface.now) ops.now }
+    ensures { result ≡ gets_null back (plain_interface interface.now) }
+{
+    match ops.get(interface.ops.len()) {
+        Some(op) => op.interface as usize == k,
         None => false,
+    }
+}
+
+/// How many operations an interface has.
+fn count_of(back: Back, interface: &Interface, k: usize, ops: &[Op]) -> usize
+    requires { Leads back k (plain_interface interface.now) ops.now }
+    ensures value { result ≡ length (operations back (plain_interface interface.now)) }
+    ensures within { result ≤ length ops.now }
+{
+    let own = interface.ops.len();
+    if is_given_null(back, interface, k, ops) {
+        own + 1
+    } else {
+        own
     }
 }
 
@@ -55,38 +98,50 @@ pub(crate) fn op_named<'a>(bound: &'a Bound, text: &str) -> Result<Option<(u32, 
     ensures there { IfOk result (λ o. IfSome o (λ p. slice_get bound.now.ops p.0 ≡ Some p.1.now)) }
     ensures placed { IfOk result (λ o. IfSome o (λ p. IsPlaced bound.now p.1.now)) }
 {
-    let interfaces = bound.unit().interfaces().as_slice();
-    for (i, op) in bound.ops().as_slice().iter().enumerate() {
-        if is_dotted(interfaces, op, text) {
+    let ops = bound.ops().as_slice();
+    let plain = text.is_ascii();
+    let mut from = 0;
+    for (k, interface) in bound.unit().interfaces().as_slice().iter().enumerate() {
+        let rest = &ops[from..];
+        let count = count_of(bound.back(), interface, k, rest);
+        if let Some(place) = place_in(interface.name.as_slice(), &rest[..count], text, plain) {
             // More operations than numbers are more than memory holds.
-            let Ok(number) = u32::try_from(i) else {
+            let Ok(number) = u32::try_from(from + place) else {
                 return Err(NoMemory);
             };
-            return Ok(Some((number, op)));
+            return Ok(Some((number, &ops[from + place])));
         }
+        from += count;
     }
     Ok(None)
 }
 
 /// The operation of a number, as its file has it.
 #[tactic(auto, using(crate::proofs::Sources::lists))]
-fn source_in(interfaces: &[Interface], back: Back, k: u32) -> Option<&Operation>
+fn source_in<'a>(
+    interfaces: &'a [Interface],
+    back: Back,
+    ops: &[Op],
+    k: u32,
+) -> Option<&'a Operation>
+    requires { homes ops.now ≡ homes_from back 0 (map plain_interface interfaces.now) }
     ensures { option_map (λ o. plain_operation o.now) result
         ≡ slice_index_or (sources back (map plain_interface interfaces.now)) k None }
 {
     let mut left = k as usize;
-    for interface in interfaces {
+    let mut from = 0;
+    for (j, interface) in interfaces.iter().enumerate() {
         let operations = interface.ops.as_slice();
         if left < operations.len() {
             return Some(&operations[left]);
         }
-        left -= operations.len();
-        if gets_null(back, interface) {
-            if left == 0 {
-                return None;
-            }
-            left -= 1;
+        let count = count_of(back, interface, j, &ops[from..]);
+        // The last is a procedure that the interface gets.
+        if left < count {
+            return None;
         }
+        left -= count;
+        from += count;
     }
     None
 }
@@ -94,7 +149,12 @@ fn source_in(interfaces: &[Interface], back: Back, k: u32) -> Option<&Operation>
 fn source(bound: &Bound, k: u32) -> Option<&Operation>
     ensures { option_map (λ o. plain_operation o.now) result ≡ source bound.now k }
 {
-    source_in(bound.unit().interfaces().as_slice(), bound.back(), k)
+    source_in(
+        bound.unit().interfaces().as_slice(),
+        bound.back(),
+        bound.ops().as_slice(),
+        k,
+    )
 }
 
 /// Whether an operation has no answer in its file.
@@ -121,8 +181,9 @@ pub(crate) fn raises(bound: &Bound, k: u32) -> &[Raise]
 pub(crate) fn raise_named(raises: &[Raise], text: &str) -> Result<Option<u32>, NoMemory>
     ensures { IfOk result (λ k. k ≡ raise_from text.now 1 (map plain_raise raises.now)) }
 {
+    let plain = text.is_ascii();
     for (i, raise) in raises.iter().enumerate() {
-        if is_text_of(raise.name.as_slice(), text) {
+        if is_name(raise.name.as_slice(), text, plain) {
             // More exceptions than numbers are more than memory holds.
             let Ok(number) = u32::try_from(i + 1) else {
                 return Err(NoMemory);

@@ -13,14 +13,13 @@ ghost use Rattle.json_shape.specs.Reading.{value_of, each, in_array, in_object, 
 use crate::errors::ShapeErr;
 use crate::objects::{has_arm_members, member, tag_in};
 use crate::rows::{row, text};
-use crate::scalars::{item, items_of, number};
-use kit_base::Words;
+use crate::scalars::{item, number};
 use mint::fits::fits;
 use mint::kind::Count;
 use mint::node::{Arms, Node, NodeIds, Tag, arm_of};
 use mint::table::NodeId;
 use mint::value::{Value, Values};
-use pres::{Bound, Shape};
+use pres::{Bound, FieldTable, Shape};
 use serde_json::Value as Json;
 use std::alloc::Global;
 
@@ -57,7 +56,7 @@ fn value(alloc: Global, bound: &Bound, id: NodeId, json: &Json) -> Result<Value,
     match node {
         Node::Void => nothing(json),
         Node::Num(kind) => Ok(Value::Num(number(alloc, *kind, json)?)),
-        Node::Enum(_) => Ok(Value::Num(item(items_of(shape), json)?)),
+        Node::Enum(_) => Ok(Value::Num(item(shape, json)?)),
         Node::Text(_) => Ok(Value::Row(text(alloc, json)?)),
         Node::Row(kind, _) => Ok(Value::Row(row(alloc, *kind, json)?)),
         Node::Group(ids) => group(alloc, bound, id, ids, shape, json),
@@ -110,7 +109,7 @@ fn members(
     bound: &Bound,
     id: NodeId,
     ids: &NodeIds,
-    names: &Words,
+    names: &FieldTable,
     json: &Json,
 ) -> Result<Values, ShapeErr>
     requires id { id < length bound.now.nodes }
@@ -136,7 +135,7 @@ fn by_name(
     bound: &Bound,
     id: NodeId,
     ids: &NodeIds,
-    names: &Words,
+    names: &FieldTable,
     json: &Json,
 ) -> Result<Values, ShapeErr>
     requires id { id < length bound.now.nodes }
@@ -145,10 +144,9 @@ fn by_name(
     ensures { Gives all_seen result (by_name
         (parts_at (faces bound.now.nodes bound.now.shapes) names.now ids.now) (members_in (view json.now))) }
 {
-    let names = names.as_slice();
     let mut values = Values::new(alloc);
     for (i, field) in ids.as_slice().iter().enumerate() {
-        let Some(part) = member(alloc, names[i].as_slice(), json)? else {
+        let Some(part) = member(names, i, json) else {
             return Err(ShapeErr::Shape);
         };
         values.push(value(alloc, bound, *field, part)?)?;

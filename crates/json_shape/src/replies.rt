@@ -19,11 +19,10 @@ use crate::members::{
 use crate::operations::{op_named, raise_named, raises};
 use crate::records::RequestRec;
 use crate::requests::{finish, head_of};
-use crate::texts::text_of;
 use crate::writing::arm_json;
 use aoi::Raise;
 use kit_base::NoMemory;
-use pres::Bound;
+use pres::{Bound, text_of};
 use serde_json::{Map, Value as Json};
 use std::alloc::Global;
 use wire_def::Back;

@@ -47,7 +47,7 @@ fn octets(alloc: Global, json: &Json) -> Result<Row, ShapeErr>
 
 /// The row of these octets, as one block.
 #[tactic(auto, using(crate::proofs::Blocks::blocks))]
-fn block(alloc: Global, kind: Kind, octets: &[u8]) -> Result<Row, NoMemory>
+pub(crate) fn block(alloc: Global, kind: Kind, octets: &[u8]) -> Result<Row, NoMemory>
     requires { above kind ≡ 256 }
     ensures { IfOk result (λ r. r ≡ record { kind = kind; numbers = map pos octets.now }) }
 {

@@ -7,11 +7,10 @@ ghost use Rattle.json_shape.specs.Gives.{Gives};
 ghost use Rattle.json_shape.specs.Scalars.{number_in, number_named, sign_in, whole_in};
 
 use crate::errors::ShapeErr;
-use crate::texts::{is_text_of, octets_in};
-use kit_base::Name;
+use crate::texts::octets_in;
 use mint::kind::Kind;
 use mint::node::Tag;
-use pres::Shape;
+use pres::{ItemTable, Shape};
 use serde_json::Value as Json;
 use std::alloc::Global;
 
@@ -58,35 +57,33 @@ fn whole(kind: Kind, json: &Json) -> Result<i128, ShapeErr>
     }
 }
 
-/// The items that a shape names.
-pub(crate) fn items_of(shape: &Shape) -> &[(Name, i32)]
-    ensures { result.now ≡ items_in shape.now }
-{
-    match shape {
-        Shape::LabelNames(items) => items.as_slice(),
-        _ => &[],
-    }
-}
-
 /// The number of the item that the JSON names.
-pub(crate) fn item(items: &[(Name, i32)], json: &Json) -> Result<i128, ShapeErr>
-    ensures { Gives (λ n. n) result (sign_in (item items.now) (view json.now)) }
+pub(crate) fn item(shape: &Shape, json: &Json) -> Result<i128, ShapeErr>
+    ensures { Gives (λ n. n) result (sign_in (item (items_in shape.now)) (view json.now)) }
 {
     match json.as_str() {
-        Some(text) => number_named(items, text),
+        Some(text) => number_named(shape, text),
         None => Err(ShapeErr::Shape),
     }
 }
 
-fn number_named(items: &[(Name, i32)], text: &str) -> Result<i128, ShapeErr>
+/// The number of the item that a string names.
+pub(crate) fn number_named(shape: &Shape, text: &str) -> Result<i128, ShapeErr>
+    ensures { Gives (λ n. n) result (number_named (items_in shape.now) text.now) }
+{
+    match shape {
+        Shape::LabelNames(items) => number_among(items, text),
+        _ => Err(ShapeErr::Shape),
+    }
+}
+
+fn number_among(items: &ItemTable, text: &str) -> Result<i128, ShapeErr>
     ensures { Gives (λ n. n) result (number_named items.now text.now) }
 {
-    for (name, n) in items {
-        if is_text_of(name.as_slice(), text) {
-            return Ok(i128::from(*n));
-        }
+    match items.number(text) {
+        Some(n) => Ok(n),
+        None => Err(ShapeErr::Shape),
     }
-    Err(ShapeErr::Shape)
 }
 
 /// The number that the JSON is for a tag.
@@ -95,6 +92,6 @@ pub(crate) fn sign(alloc: Global, tag: &Tag, shape: &Shape, json: &Json) -> Resu
 {
     match tag {
         Tag::Num(kind) => number(alloc, *kind, json),
-        Tag::Enum(_) => item(items_of(shape), json),
+        Tag::Enum(_) => item(shape, json),
     }
 }

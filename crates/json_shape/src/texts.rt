@@ -1,5 +1,5 @@
 // Strings that stand for octets.
-ghost use Rattle.std.specs.Prelude.{IfNone, IfOk, IfSome, IsUtf8, ◌≡◌, ◌≢◌, ◌++◌, ℕ, List, string_bytes};
+ghost use Rattle.std.specs.Prelude.{IfNone, IfOk, IfSome, IsUtf8, string_bytes, ◌≡◌, ◌≢◌, ◌++◌, ℕ, List};
 ghost use Rattle.std.specs.Str.{bytes_eq};
 ghost use Rattle.std.specs.Str.Iter.{chars_rest};
 ghost use Rattle.serde_json.specs.View.{view};
@@ -13,8 +13,18 @@ use serde_json::Value as Json;
 use std::alloc::Global;
 use std::str::Chars;
 
-/// The octets that are a string's characters.
-fn octets_of(alloc: Global, text: &str) -> Result<Octets, ShapeErr>
+/// The octets that are a string's characters. Those of an ASCII string are its own octets.
+pub(crate) fn octets_of(alloc: Global, text: &str) -> Result<Octets, ShapeErr>
+    ensures { Gives (λ o. o) result (octets_of text.now) }
+{
+    if text.is_ascii() {
+        return Ok(Octets::from_slice(alloc, text.as_bytes())?);
+    }
+    each_octet(alloc, text)
+}
+
+/// The octets that are a string's characters, one by one.
+fn each_octet(alloc: Global, text: &str) -> Result<Octets, ShapeErr>
     ensures { Gives (λ o. o) result (octets_of text.now) }
 {
     let mut octets = Octets::new(alloc);
@@ -45,10 +55,23 @@ pub(crate) fn hex_in(alloc: Global, json: &Json) -> Result<Vec<u8>, ShapeErr>
     let Some(text) = json.as_str() else {
         return Err(ShapeErr::Shape);
     };
-    match hex::decode(alloc, text.as_bytes()) {
+    match digit_kit::decode(alloc, text.as_bytes()) {
         Ok(octets) => Ok(octets),
         Err(FromHexError::OutOfMemory) => Err(ShapeErr::NoMemory),
         Err(_) => Err(ShapeErr::Shape),
+    }
+}
+
+/// The string of ASCII octets, which are its own octets; none where one is no ASCII.
+pub(crate) fn ascii_of(octets: &[u8]) -> Option<&str>
+    ensures { IfSome result (λ s. s.now ≡ text_of octets.now) }
+{
+    if !octets.is_ascii() {
+        return None;
+    }
+    match str::from_utf8(octets) {
+        Ok(text) => Some(text),
+        Err(_) => None,
     }
 }
 
@@ -56,11 +79,10 @@ pub(crate) fn hex_in(alloc: Global, json: &Json) -> Result<Vec<u8>, ShapeErr>
 pub(crate) fn text_of(alloc: Global, octets: &[u8]) -> Result<String, NoMemory>
     ensures { IfOk result (λ s. string_bytes s ≡ text_of octets.now) }
 {
-    let mut text = String::new(alloc);
-    for octet in octets {
-        text.push(char::from(*octet))?;
+    match ascii_of(octets) {
+        Some(text) => Ok(String::from_str(alloc, text)?),
+        None => pres::text_of(alloc, octets),
     }
-    Ok(text)
 }
 
 /// What stands after the string of the octets.

@@ -11,13 +11,11 @@ ghost use Rattle.json_shape.specs.Presents.{Presents};
 ghost use Rattle.json_shape.specs.Written.{json_of, items_json, in_order_json, by_name_json, behind_json, arm_json};
 
 use crate::numbers::{item_json, number_json, row_json, sign_json};
-use crate::scalars::items_of;
-use crate::texts::text_of;
-use kit_base::{NoMemory, Words};
+use kit_base::NoMemory;
 use mint::node::{Arms, Node, NodeIds, arm_of};
 use mint::table::NodeId;
 use mint::value::{Value, Values};
-use pres::{Bound, Shape};
+use pres::{Bound, FieldTable, Shape};
 use serde_json::{Map, Value as Json, put};
 use std::alloc::Global;
 
@@ -55,7 +53,7 @@ fn json(alloc: Global, bound: &Bound, id: NodeId, value: &Value) -> Result<Json,
             None => Ok(Json::Null),
         },
         Node::Enum(_) => match value.as_num() {
-            Some(n) => item_json(alloc, items_of(shape), &n),
+            Some(n) => item_json(alloc, shape, &n),
             None => Ok(Json::Null),
         },
         Node::Text(_) | Node::Row(_, _) => match value.as_row() {
@@ -136,7 +134,7 @@ fn by_name(
     bound: &Bound,
     id: NodeId,
     ids: &NodeIds,
-    names: &Words,
+    names: &FieldTable,
     values: &Values,
 ) -> Result<Map<String, Json>, NoMemory>
     requires id { id < length bound.now.nodes }
@@ -147,15 +145,13 @@ fn by_name(
         (all_seen values.now)) }
 {
     let ids = ids.as_slice();
-    let names = names.as_slice();
     let values = values.as_slice();
     let mut members = Map::new(alloc);
     let mut i = ids.len().min(values.len());
     while i > 0 {
         i -= 1;
         let member = json(alloc, bound, ids[i], &values[i])?;
-        let name = text_of(alloc, names[i].as_slice())?;
-        put(&mut members, alloc, name.as_str(), member)?;
+        put(&mut members, alloc, names.text(i), member)?;
     }
     Ok(members)
 }

@@ -11,7 +11,7 @@ returns-in_ok-record_text-in-Ok c =
     let b = c.args.engine.now.binding in
     let reads = call-read b c.args.message.now c.in-Ok.request (rw c.new-view.ensures at c.in-Ok.ensures.read) in
     if-ok _ _ _ (octets-read (ReadCall b) (request_text b) c.args.message.now (asked c.in-Ok.request) reads)
-    (rw (c.as_bytes.ensures.value, c.in_ok-record_text-in-Ok.ensures) at c.copied.ensures)
+    (rw (c.as_slice.ensures.value, c.in_ok-record_text-in-Ok.ensures) at c.copied.ensures)
 
 pub returns-in_ok-refusal_text-in-Err : goal.returns-in_ok-refusal_text-in-Err
 returns-in_ok-refusal_text-in-Err c =
@@ -20,4 +20,4 @@ returns-in_ok-refusal_text-in-Err c =
     let answers = subst (λ (o : List ℕ). Answers b o (Err c.in-Err.refusal)) same c.in-Err.ensures.read in
     let reads = call-refused b c.args.message.now c.in-Err.refusal answers c.in_ok-refusal_text-in-Err.ensures.memory in
     if-ok _ _ _ (octets-refused (ReadCall b) (request_text b) c.args.message.now c.in-Err.refusal reads)
-    (rw (c.as_bytes-in-Err.ensures.value, c.in_ok-refusal_text-in-Err.ensures.told) at c.copied-in-Err.ensures)
+    (rw (c.as_bytes.ensures.value, c.in_ok-refusal_text-in-Err.ensures.told) at c.copied-in-Err.ensures)

@@ -1,4 +1,4 @@
-use Rattle.std.proofs.Common.{◌≡◌, ℕ, List, Some, ap, ◌∙◌, subst}
+use Rattle.std.proofs.Common.{◌≡◌, ℕ, List, Some, ap, subst}
 use Rattle.std.specs.Prelude.{IfOk}
 use Rattle.hex.specs.Hex.{encode_lower}
 use Rattle.raw_buf.specs.View.{View}
@@ -8,8 +8,8 @@ use Rattle.flick_engine.specs.Serving.{gives, Serves, reply_in}
 use Rattle.flick_serve.proofs.Answering.{reply_answer}
 use Rattle.flick_serve.proofs.serving.of_message.Goals as goal
 
-pub returns-in_ok-encode-in-Reply-clause-value : goal.returns-in_ok-encode-in-Reply-clause-value
-returns-in_ok-encode-in-Reply-clause-value c =
+pub returns-in-Reply-clause-value : goal.returns-in-Reply-clause-value
+returns-in-Reply-clause-value c =
     let b = c.args.engine.now.binding in
     let work = gives (λ op request. answer_at c.args.kept.now op) in
     let octets = c.serve.new.buf.done in
@@ -17,7 +17,5 @@ returns-in_ok-encode-in-Reply-clause-value c =
     let replied = subst (λ (s : Served). Serves b work c.new-view.result.octets (reply_in s octets)) c.in-Reply.is
     c.in_ok-serve.ensures.serves in
     let serves = subst (λ (o : List ℕ). Serves b work o (Some octets)) message replied in
-    let digits : c.as_bytes.result.now ≡ encode_lower octets = c.as_bytes.ensures.value ∙ c.in_ok-encode-in-Reply.ensures
-    ∙ ap encode_lower c.octets.ensures in
-    reply_answer b (answer_at c.args.kept.now) c.args.message.now octets c.copied.result serves
-    (subst (λ (d : List ℕ). IfOk c.copied.result (λ o. o ≡ d)) digits c.copied.ensures)
+    reply_answer b (answer_at c.args.kept.now) c.args.message.now octets c.digits.result serves
+    (subst (λ (o : List ℕ). IfOk c.digits.result (λ a. a ≡ encode_lower o)) c.octets.ensures c.digits.ensures)

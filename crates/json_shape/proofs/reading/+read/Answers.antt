@@ -1,9 +1,9 @@
-use Rattle.std.proofs.Common.{sym, ◌∙◌, ap, arith, option_map, Bor}
+use Rattle.std.proofs.Common.{sym, ◌∙◌, ap, arith, get_or, []}
 use Rattle.std.proofs.lemmas.Grind.{common_steps}
+use Rattle.std.proofs.lemmas.List.{get_or_default}
 use Rattle.mint.specs.Values.{all_seen}
 use Rattle.mint.specs.declared.node.Node.{Node}
 use Rattle.pres.specs.Faces.{faces, face_at, level, parts_at}
-use Rattle.serde_json.specs.declared.value.Value.{Value as Json}
 use Rattle.serde_json.specs.View.{view}
 use Rattle.json_shape.specs.Reading.{value_of}
 use Rattle.mint.proofs.Seen.{all_seen-push}
@@ -49,21 +49,21 @@ pub by_name-loop-i-preserved : goal.by_name-loop-i-preserved
 by_name-loop-i-preserved t c =
     let fs = faces c.args.bound.now.nodes c.args.bound.now.shapes in
     let there = rw c.as_slice-field-items.ensures at c.loop-i-test.true in
-    let there_is = sym c.in_ok-part.ensures ∙ ap (option_map (λ (j : Bor Json). view j.now)) c.in-Some.is in
     let more =
-    by_name_more fs c.args.names.now c.args.ids.now c.loop-i.i c.index-names-i.result (view c.args.json.now) (view c.in-Some.part.now)
+    by_name_more fs c.args.names.now c.args.ids.now c.loop-i.i (get_or c.args.names.now c.loop-i.i []) (view c.args.json.now)
+    (view c.in-Some.part.now)
     (all_seen c.loop-i.values) c.in_ok-value.field-0 (omega (arith, there, c.requires.named)) there
-    (rw c.as_slice-names.ensures at c.index-names-i.is) (rw c.as_slice.ensures at there_is)
+    (get_or_default c.args.names.now c.loop-i.i [] _ (omega (arith, there, c.requires.named))) (sym c.in-Some.ensures)
     (rw c.as_slice-field-items.ensures at c.in_ok-value.ensures) in
     rw (c.in_ok-push.ensures.ok, all_seen-push c.loop-i.values c.in_ok-value.field-0) (sym more ∙ c.loop-i.invariant)
 
 pub by_name-returns-in_default : goal.by_name-returns-in_default
 by_name-returns-in_default t c =
     let there = rw c.as_slice-field-items.ensures at c.loop-i-test.true in
-    let none_is = sym c.in_ok-part.ensures ∙ ap (option_map (λ (j : Bor Json). view j.now)) c.in_default.is in
-    by_name_missed (faces c.args.bound.now.nodes c.args.bound.now.shapes) c.args.names.now c.args.ids.now c.loop-i.i c.index-names-i.result
+    by_name_missed (faces c.args.bound.now.nodes c.args.bound.now.shapes) c.args.names.now c.args.ids.now c.loop-i.i
+    (get_or c.args.names.now c.loop-i.i [])
     (view c.args.json.now) (all_seen c.loop-i.values) _ (omega (arith, there, c.requires.named)) there
-    (rw c.as_slice-names.ensures at c.index-names-i.is) (rw c.as_slice.ensures at none_is) c.loop-i.invariant
+    (get_or_default c.args.names.now c.loop-i.i [] _ (omega (arith, there, c.requires.named))) (sym c.in_default.ensures) c.loop-i.invariant
 
 pub by_name-returns : goal.by_name-returns
 by_name-returns t c =

@@ -1,0 +1,28 @@
+// The requests of lines in the usual form.
+ghost use Rattle.std.specs.Prelude.{◌<◌, length, slice_get, IfOk, IfSome};
+ghost use Rattle.mint.specs.Typed.{IsWellTyped};
+ghost use Rattle.mint.specs.Types.{type_at};
+ghost use Rattle.mint.specs.Values.{seen};
+ghost use Rattle.flick_lines.specs.Usual.{IsUsual};
+
+use flick_engine::Engine;
+use json_shape::{RequestRec, usual_request};
+use kit_base::NoMemory;
+use std::alloc::Global;
+
+/// The request of a line in the usual form; none says nothing of the line.
+pub(crate) fn usual_of(
+    alloc: Global,
+    engine: &Engine,
+    line: &[u8],
+) -> Result<Option<RequestRec>, NoMemory>
+    ensures request { IfOk result (λ o. IfSome o (λ r. IsUsual engine.now.binding line.now r)) }
+    ensures op { IfOk result (λ o. IfSome o (λ r. r.op < length engine.now.binding.ops)) }
+    ensures typed { IfOk result (λ o. IfSome o (λ r. IfSome (slice_get engine.now.binding.ops r.op)
+        (λ op. IsWellTyped (type_at engine.now.binding.nodes op.request) (seen r.value)))) }
+{
+    match str::from_utf8(line) {
+        Ok(text) => usual_request(alloc, engine.bound(), text),
+        Err(_) => Ok(None),
+    }
+}

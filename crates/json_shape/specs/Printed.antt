@@ -1,0 +1,66 @@
+-- What is written of a tree, token by token.
+use Rattle.std.specs.Prelude.{◌≡◌, ℕ, suc, List, [], ◌∷◌, ◌++◌, get_or, decimal, codes}
+use Rattle.json.specs.Token.{Token, key, number}
+use Rattle.json.specs.Tree.{json_tokens, items_tokens, members_tokens}
+use Rattle.json.specs.Written.{Written}
+use Rattle.wire_def.specs.declared.encoding.Back.{Back}
+use Rattle.wire_def.specs.declared.encoding.Back.TheVariants as back
+use Rattle.wire_def.specs.declared.head.Head.{Head}
+use Rattle.serde_json.specs.Data.{Data, Items, Members, no_members, member, put}
+use Rattle.serde_json.specs.Written.{outline, items_outline, members_outline}
+use Rattle.json_shape.specs.Texts.{text_of}
+
+-- the tokens of a tree
+abbrev pub tokens_of : Data → List Token
+tokens_of j = json_tokens (outline j)
+
+-- those of the items of an array, with its closing bracket
+abbrev pub tokens_of_items : Items → List Token
+tokens_of_items js = items_tokens (items_outline js)
+
+-- those of the members of an object, with its closing bracket
+abbrev pub tokens_of_members : Members → List Token
+tokens_of_members ms = members_tokens (members_outline ms)
+
+-- tokens were appended, and what stood before them stays
+pub record Adds (old new : Written) (ts : List Token) : Type 0 where
+  pub tokens : new.tokens ≡ old.tokens ++ ts
+  pub before : new.before ≡ old.before
+
+-- ---- members by an order of their places
+
+-- the member of a place, by the names of all
+abbrev pub key_at : List (List ℕ) → ℕ → List ℕ
+key_at names i = text_of (get_or names i [])
+
+-- the members at places
+abbrev pub members_at : List (List ℕ) → (ℕ → Data) → List ℕ → Members
+members_at names tree [] = no_members
+members_at names tree (i ∷ is) = member (key_at names i) (tree i) (members_at names tree is)
+
+-- the members of names, the first of which has place k, each where the order of keys has it
+abbrev pub put_from : ℕ → List (List ℕ) → (ℕ → Data) → Members
+put_from k [] tree = no_members
+put_from k (n ∷ ns) tree = put (text_of n) (tree k) (put_from (suc k) ns tree)
+
+-- the places of names in the order of their keys, whatever the trees
+abbrev pub IsOrder : List (List ℕ) → List ℕ → Type 0
+IsOrder names order = (tree : ℕ → Data) → put_from 0 names tree ≡ members_at names tree order
+
+-- ---- the numbers of a head
+
+-- a member with a number
+abbrev pub word_tokens : List ℕ → ℕ → List Token
+word_tokens k n = key k ∷ number (decimal n) ∷ []
+
+-- the number whose key is before `op`
+abbrev pub head_before : Back → Head → List Token
+head_before back.Xdr h = []
+head_before back.Mach h = word_tokens (codes "local") h.local
+head_before _ h = word_tokens (codes "id") h.id
+
+-- the number whose key is after `op`
+abbrev pub head_after : Back → Head → List Token
+head_after back.Xdr h = word_tokens (codes "xid") h.id
+head_after back.Mach h = word_tokens (codes "remote") h.remote
+head_after _ h = []

@@ -1,0 +1,70 @@
+-- What is read of a tree of text, where it is in the usual form.
+use Rattle.std.specs.Prelude.{◌≡◌, ℕ, zero, suc, ℤ, List, Option, Some, Ok, true, is_some, option_and_then, codes}
+use Rattle.json.specs.Json as text
+use Rattle.mint.specs.declared.kind.Kind.{Kind}
+use Rattle.mint.specs.Values.{Val, Vals}
+use Rattle.wire_def.specs.declared.encoding.Back.{Back}
+use Rattle.pres.specs.Bindings.{Binding}
+use Rattle.pres.specs.Faces.{Face}
+use Rattle.serde_json.specs.Data.{Data, Items, Members, no_members}
+use Rattle.serde_json.specs.Read.{of_json, of_items, of_members, read}
+use Rattle.json_shape.specs.declared.records.RequestRec.{RequestRec}
+use Rattle.serde_json.specs.Find.{as_array}
+use Rattle.json_shape.specs.Members.{head_key}
+use Rattle.json_shape.specs.Presents.{size, Presents}
+use Rattle.json_shape.specs.Records.{Comes}
+use Rattle.json_shape.specs.Requests.{request_of}
+use Rattle.json_shape.specs.Scalars.{each_in}
+
+-- a tree of text is a tree, of which f gives x
+pub record IsRead {X : Type 0} (j : text.Json) (f : Data → Option X) (x : X) : Type 0 where
+  pub tree : Data
+  pub is : of_json j ≡ Some tree
+  pub gives : f tree ≡ Some x
+
+-- the items of an array are trees, of which f gives values
+pub record AreRead (js : text.Items) (f : Items → Option Vals) (vs : Vals) : Type 0 where
+  pub trees : Items
+  pub are : of_items js ≡ Some trees
+  pub gives : f trees ≡ Some vs
+
+-- the members of an object are so many members, of which f gives values
+pub record MembersRead (ms : text.Members) (n : ℕ) (f : Members → Option Vals) (vs : Vals) : Type 0 where
+  pub members : Members
+  pub are : of_members ms no_members ≡ Some members
+  pub number : size members ≡ n
+  pub gives : f members ≡ Some vs
+
+-- the numbers of a kind that an array is
+abbrev pub listed_in : Kind → Data → Option (List ℤ)
+listed_in k j = option_and_then (each_in k) (as_array j)
+
+-- the member at a place
+abbrev pub IsMember : ℕ → text.Members → List ℕ → text.Json → Type 0
+IsMember i text.no_members k j = ⊥
+IsMember zero (text.member l v ms) k j = (l ≡ k) × (v ≡ j)
+IsMember (suc i) (text.member l v ms) k j = IsMember i ms k j
+
+-- a record with its members in the usual order
+abbrev pub usual : Back → text.Json → text.Json → text.Json → text.Json
+usual k op id args =
+    text.object (text.member (codes "op") op (text.member (head_key k) id (text.member (codes "args") args text.no_members)))
+
+-- a tree of text is an array, which presents a value
+pub record IsPresented (j : text.Json) (f : Face) (v : Val) : Type 0 where
+  pub tree : Data
+  pub is : of_json j ≡ Some tree
+  pub listed : is_some (as_array tree) ≡ true
+  pub presents : Presents f tree v
+
+-- a tree of text is a tree, and the record is the request that it presents
+pub record IsRequestOf (b : Binding) (j : text.Json) (r : RequestRec) : Type 0 where
+  pub tree : Data
+  pub is : of_json j ≡ Some tree
+  pub comes : Comes (request_of b tree) (Ok r)
+
+-- a text is a tree, and the record is the request that it presents
+pub record IsRequestIn (b : Binding) (line : List ℕ) (r : RequestRec) : Type 0 where
+  pub tree : Data
+  pub is : read line ≡ Some tree
+  pub comes : Comes (request_of b tree) (Ok r)
