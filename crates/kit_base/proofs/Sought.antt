@@ -3,8 +3,16 @@ use Rattle.std.proofs.Common.{◌≡◌, ℕ, zero, suc, ◌+◌, ◌-◌, ◌<�
 use Rattle.std.proofs.lemmas.List.{get_or-drop, take-append-drop, take_all, length-drop}
 use Rattle.std.proofs.lemmas.List.Elements.{All-more}
 use Rattle.std.proofs.lemmas.Bool.Decides.{nat_tests}
-use Rattle.memchr.specs.Find.{Nowhere, Passes, is_byte}
+use Rattle.memchr.specs.Find.{NoneBefore, Nowhere, Passes, is_byte}
 use Rattle.kit_base.specs.Lines.{HasNoEnd}
+
+-- the first end is at a place
+abbrev pub IsFirstEnd : List ℕ → ℕ → Type 0
+IsFirstEnd rest n = NoneBefore (Passes (is_byte 10) rest) 0 (length rest) n × Passes (is_byte 10) rest n
+
+-- no end is among octets
+abbrev pub IsWithout : List ℕ → Type 0
+IsWithout rest = Nowhere (Passes (is_byte 10) rest) 0 (length rest)
 
 -- where no end was passed over, none ends before the place that was come to
 pub none_before : (octets : List ℕ) (from n : ℕ) → HasNoEnd (take from octets)

@@ -2,7 +2,7 @@
 
 -- What the entry of a number is asked for, by the number's place, by induction on the entries
 pub mod Placing
--- The arm that is found comes before the node, by induction on the arms
+-- * The arm that is found comes before the node, by induction on the arms
 pub mod Arms
 -- * A node of a table unfolds to its level over the trees of the table, by induction on the nodes
 pub mod Unfolding
