@@ -11,16 +11,19 @@ use crate::unmarshalled::unmarshal;
 use crate::unreplied::unreply;
 use crate::verb::Verb;
 use flick_engine::Engine;
+use json_shape::Scratch;
 use kit_base::{NoMemory, Octets};
 use raw_buf::SendBuf;
 use std::alloc::Global;
 
-/// The answer of a verb to the octets of a line, without its line feed.
+/// The answer of a verb to the octets of a line, without its line feed. Messages are made in the buffer, and the
+/// scratch is for reading.
 pub fn answer(
     alloc: Global,
     verb: Verb,
     engine: &Engine,
     text: &[u8],
+    scratch: &mut Scratch,
     buf: &mut SendBuf,
 ) -> Result<Octets, NoMemory>
     ensures value { IfOk result (λ o. IsAnswerTo verb engine.now text.now o) }
@@ -28,10 +31,10 @@ pub fn answer(
     ensures paid { OnOk result (IsPaid verb engine.now text.now buf.old buf.new) }
 {
     match verb {
-        Verb::Marshal => marshal(alloc, engine, text, buf),
+        Verb::Marshal => marshal(alloc, engine, text, scratch, buf),
         Verb::Unmarshal => unmarshal(alloc, engine, text),
         Verb::Reply => reply(alloc, engine, text, buf),
         Verb::Unreply => unreply(alloc, engine, text),
-        Verb::Count => count(alloc, engine, text, buf),
+        Verb::Count => count(alloc, engine, text, scratch, buf),
     }
 }

@@ -16,25 +16,26 @@ use crate::marshalled::{refused, tree_of};
 use crate::text::{copied, digits};
 use crate::usual::usual_of;
 use flick_engine::{Engine, MarshalErr};
-use json_shape::{RequestRec, read_request};
+use json_shape::{RequestRec, Scratch, read_request};
 use kit_base::{NoMemory, Octets};
 use raw_buf::{SendBuf, Tally};
 use serde_json::Value as Json;
 use std::alloc::Global;
 
 /// The answer of `count` to a line, without its line feed. The message is made in the buffer, whose counts of it
-/// are those that are written.
+/// are those that are written. The scratch is for reading.
 pub fn count(
     alloc: Global,
     engine: &Engine,
     line: &[u8],
+    scratch: &mut Scratch,
     buf: &mut SendBuf,
 ) -> Result<Octets, NoMemory>
     ensures value { IfOk result (λ o. IsCounted engine.now line.now o) }
     ensures spent { NoneFell buf.old.spent buf.new.spent }
     ensures paid { OnOk result (IsPaid verbs.Count engine.now line.now buf.old buf.new) }
 {
-    match usual_of(alloc, engine, line)? {
+    match usual_of(alloc, engine, line, scratch)? {
         Some(record) => counted_of(alloc, engine, &record, buf),
         None => by_tree(alloc, engine, line, buf),
     }

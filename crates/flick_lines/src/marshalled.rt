@@ -14,24 +14,26 @@ ghost use Rattle.flick_lines.specs.Paid.{by_code, IsPaid, IsPaidRecord};
 use crate::text::{copied, digits};
 use crate::usual::usual_of;
 use flick_engine::{Engine, MarshalErr};
-use json_shape::{RecordErr, RequestRec, read_request};
+use json_shape::{RecordErr, RequestRec, Scratch, read_request};
 use kit_base::{NoMemory, Octets};
 use raw_buf::SendBuf;
 use serde_json::{Category, Value as Json};
 use std::alloc::Global;
 
-/// The answer of `marshal` to a line, without its line feed. The message is made in the buffer.
+/// The answer of `marshal` to a line, without its line feed. The message is made in the buffer, and the scratch is
+/// for reading.
 pub fn marshal(
     alloc: Global,
     engine: &Engine,
     line: &[u8],
+    scratch: &mut Scratch,
     buf: &mut SendBuf,
 ) -> Result<Octets, NoMemory>
     ensures value { IfOk result (λ o. IsMarshalled engine.now.binding line.now o) }
     ensures spent { NoneFell buf.old.spent buf.new.spent }
     ensures paid { OnOk result (IsPaid verbs.Marshal engine.now line.now buf.old buf.new) }
 {
-    match usual_of(alloc, engine, line)? {
+    match usual_of(alloc, engine, line, scratch)? {
         Some(record) => digits_of(alloc, engine, &record, buf),
         None => by_tree(alloc, engine, line, buf),
     }

@@ -6,7 +6,7 @@ ghost use Rattle.mint.specs.Values.{seen};
 ghost use Rattle.flick_lines.specs.Usual.{IsUsual};
 
 use flick_engine::Engine;
-use json_shape::{RequestRec, usual_request};
+use json_shape::{RequestRec, Scratch, usual_request};
 use kit_base::NoMemory;
 use std::alloc::Global;
 
@@ -15,6 +15,7 @@ pub(crate) fn usual_of(
     alloc: Global,
     engine: &Engine,
     line: &[u8],
+    scratch: &mut Scratch,
 ) -> Result<Option<RequestRec>, NoMemory>
     ensures request { IfOk result (λ o. IfSome o (λ r. IsUsual engine.now.binding line.now r)) }
     ensures op { IfOk result (λ o. IfSome o (λ r. r.op < length engine.now.binding.ops)) }
@@ -22,7 +23,7 @@ pub(crate) fn usual_of(
         (λ op. IsWellTyped (type_at engine.now.binding.nodes op.request) (seen r.value)))) }
 {
     match str::from_utf8(line) {
-        Ok(text) => usual_request(alloc, engine.bound(), text),
+        Ok(text) => usual_request(alloc, engine.bound(), text, scratch),
         Err(_) => Ok(None),
     }
 }

@@ -6,15 +6,17 @@ ghost use Rattle.flick_top.specs.Passing.{PassesLine};
 
 use crate::job::Job;
 use flick_lines::{copied, ended};
+use json_shape::Scratch;
 use kit_base::{Line, NoMemory, Octets};
 use raw_buf::SendBuf;
 use std::alloc::Global;
 
-/// The answer to a line, with its line feed.
+/// The answer to a line, with its line feed. The scratch is for reading.
 pub fn answer_to(
     alloc: Global,
     job: &Job,
     line: &Line,
+    scratch: &mut Scratch,
     buf: &mut SendBuf,
 ) -> Result<Octets, NoMemory>
     ensures value { IfOk result (λ o. IsAnswer job.now line.now o) }
@@ -24,7 +26,7 @@ pub fn answer_to(
     match line {
         Line::End => Ok(Octets::new(alloc)),
         Line::Long => copied(alloc, b"! long\n"),
-        Line::Text(text) => ended(job.answer(alloc, text.as_slice(), buf)?),
+        Line::Text(text) => ended(job.answer(alloc, text.as_slice(), scratch, buf)?),
     }
 }
 

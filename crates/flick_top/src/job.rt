@@ -9,6 +9,7 @@ ghost use Rattle.flick_top.specs.Passing.{PassesText};
 use flick_engine::Engine;
 use flick_lines::Verb;
 use flick_serve::Server;
+use json_shape::Scratch;
 use kit_base::{NoMemory, Octets};
 use raw_buf::SendBuf;
 use std::alloc::Global;
@@ -23,14 +24,22 @@ pub enum Job {
 }
 
 impl Job {
-    /// The answer to the octets of a line, without its line feed.
-    pub fn answer(&self, alloc: Global, text: &[u8], buf: &mut SendBuf) -> Result<Octets, NoMemory>
+    /// The answer to the octets of a line, without its line feed. The scratch is for reading.
+    pub fn answer(
+        &self,
+        alloc: Global,
+        text: &[u8],
+        scratch: &mut Scratch,
+        buf: &mut SendBuf,
+    ) -> Result<Octets, NoMemory>
         ensures value { IfOk result (λ o. IsAnswerOf self.now text.now o) }
         ensures passes { OnOk result (PassesText self.now text.now buf.old buf.new) }
         ensures spent { NoneFell buf.old.spent buf.new.spent }
     {
         match self {
-            Job::Over(verb, engine) => flick_lines::answer(alloc, *verb, engine, text, buf),
+            Job::Over(verb, engine) => flick_lines::answer(
+                alloc, *verb, engine, text, scratch, buf,
+            ),
             Job::Serve(server) => server.answer(alloc, text, buf),
         }
     }

@@ -14,6 +14,7 @@ use crate::answer::{answer_to, is_refusal};
 use crate::job::Job;
 use crate::status::Status;
 use crate::task::Task;
+use json_shape::Scratch;
 use kit_base::limits::{LONGEST_LINE, MOST_INPUT};
 use kit_base::{Failed, LineErr, Lines, Sink, Source, write_whole};
 use raw_buf::SendBuf;
@@ -98,6 +99,8 @@ fn answer_lines<S: Source, K: Sink>(
     ensures spent { NoneFell buf.old.spent buf.new.spent }
 {
     let mut lines = Lines::new(alloc, LONGEST_LINE, MOST_INPUT);
+    // What reading needs is made once, and not for each line.
+    let mut scratch = Scratch::new(alloc);
     let mut refused = false;
     'turns: loop {
         let line = match lines.next(input) {
@@ -107,7 +110,7 @@ fn answer_lines<S: Source, K: Sink>(
         if line.is_end() {
             return finished(refused);
         }
-        let Ok(text) = answer_to(alloc, job, &line, buf) else {
+        let Ok(text) = answer_to(alloc, job, &line, &mut scratch, buf) else {
             return Status::Memory;
         };
         refused = either(refused, is_refusal(text.as_slice()));

@@ -27,6 +27,7 @@ mod writing;
 mod written_records;
 
 pub use errors::{RecordErr, ShapeErr};
+pub use json::Scratch;
 pub use laws::{
     json_is_decided, json_presents_one_value, records_are_read_back, written_json_presents,
 };

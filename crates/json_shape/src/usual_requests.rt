@@ -29,10 +29,12 @@ use std::alloc::Global;
 const DEEPEST: usize = 127;
 
 /// The request that a text presents as a record, where it is in the usual form; none says nothing of the text.
+/// The scratch has space for its strings and places: one is kept from line to line.
 pub fn usual_request(
     alloc: Global,
     bound: &Bound,
     line: &str,
+    scratch: &mut Scratch,
 ) -> Result<Option<RequestRec>, NoMemory>
     ensures request { IfOk result (λ o. IfSome o (λ r. IsRequestIn bound.now line.now r)) }
     ensures op { IfOk result (λ o. IfSome o (λ r. r.op < length bound.now.ops)) }
@@ -43,8 +45,7 @@ pub fn usual_request(
     if is_mach(bound.back()) {
         return Ok(None);
     }
-    let mut scratch = Scratch::new(alloc);
-    match request_in(alloc, bound, line, &mut scratch) {
+    match request_in(alloc, bound, line, scratch) {
         Ok(record) => Ok(Some(record)),
         Err(Halt::Otherwise) => Ok(None),
         Err(Halt::NoMemory) => Err(NoMemory),
