@@ -28,7 +28,7 @@ targets_in i = map (target_in i) i.ops
 abbrev pub targets : List PlainInterface → List Target
 targets is = flat_map targets_in is
 
--- what a number that no operation has would have as its target
+-- the target of a number that no operation has
 abbrev pub no_target : Target
 no_target = record { key = []; name = []; wants = true; ids = [] }
 

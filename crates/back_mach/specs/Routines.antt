@@ -16,7 +16,7 @@ routines_in i = map (routine_in i) i.ops
 abbrev pub routines : List PlainInterface → List Routine
 routines is = flat_map routines_in is
 
--- what a number that no operation has would have as its routine
+-- the routine of a number that no operation has
 abbrev pub no_routine : Routine
 no_routine = record { id = 0; wants = true }
 

@@ -165,7 +165,7 @@ fn refusal(alloc: Global, why: &Refusal) -> Result<Vec<Json>, NoMemory>
     Ok(list)
 }
 
-/// The word of a refusal, as its standard has it.
+/// The word of a refusal.
 fn refusal_name(why: &Refusal) -> &'static str
     ensures { result.now ≡ refusal_name why.now }
 {
