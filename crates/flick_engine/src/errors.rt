@@ -23,7 +23,7 @@ impl From<NoMemory> for MarshalErr {
     }
 }
 
-/// Why octets are no message of an interface. Places are counted from the first octet.
+/// Why octets are not a message of an interface. Places are counted from the first octet.
 #[derive(Clone, Copy, Debug, PartialEq, Eq)]
 pub enum MessageErr {
     /// There are more than 4,194,304 octets.

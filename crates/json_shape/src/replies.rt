@@ -52,7 +52,7 @@ pub fn read_reply(alloc: Global, bound: &Bound, json: &Json) -> Result<RequestRe
     finish(alloc, bound, number, head, op.reply, &tree)
 }
 
-/// The reply that a record without a head number presents. One with a head number is no such record.
+/// The reply that a record without a head number presents. A record with a head number is not one.
 pub fn read_given(alloc: Global, bound: &Bound, json: &Json) -> Result<RequestRec, RecordErr>
     ensures comes { Comes (given_of bound.now (view json.now)) result }
     ensures op { IfOk result (λ r. r.op < length bound.now.ops) }

@@ -93,7 +93,7 @@ fn alone(alloc: Global, json: Json) -> Result<Json, NoMemory>
     Ok(Json::Array(list))
 }
 
-/// The object of a tag and what stands after it.
+/// The object of a tag and its value.
 pub(crate) fn arm_json(alloc: Global, tag: Json, behind: Json) -> Result<Json, NoMemory>
     ensures { IfOk result (λ j. view j ≡ arm_json (view tag) (view behind)) }
 {

@@ -185,7 +185,7 @@ fn numbers_at(
     Ok(row)
 }
 
-// How many octets are left, which are no fewer than those that are known to be there.
+// How many octets are left, at least as many as are known to be there.
 fn octets_left(view: &RecvView<'_>) -> usize
     ensures { view.now.near ≤ result }
 {
