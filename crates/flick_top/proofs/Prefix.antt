@@ -1,4 +1,4 @@
--- Whatever ends a run, a front of the defined output was written.
+-- Whatever ends a run, a prefix of the defined output was written.
 use Rattle.std.proofs.Common.{◌≡◌, ℕ, false, List, [], ◌∷◌, ◌++◌, sym, ◌∙◌, ap, subst, append_assoc, ◌<◌, ◌≤◌, length, arith}
 use Rattle.std.specs.Prelude.{Option, Some, None}
 use Rattle.std.specs.Io.KnownBytes.{Appends, Consumes}
