@@ -73,6 +73,7 @@ placed (suc n) os (c ∷ cs) = option_map (λ ds. c ∷ ds) (placed n os cs)
 abbrev pub put_one : Head → Val → Put → Cells → Option Cells
 put_one h v p cs = on_some (put_octets h p v) (λ os. placed (offset p) os cs)
 
+-- cells after puts, one after the other
 abbrev pub put_all : Head → Val → List Put → Cells → Option Cells
 put_all h v [] cs = Some cs
 put_all h v (p ∷ ps) cs = on_some (put_one h v p cs) (put_all h v ps)
