@@ -12,9 +12,10 @@ use Rattle.wire_def.specs.declared.fault.HeadErr.TheVariants as faults
 use Rattle.pres.specs.declared.ops.Op.{Op}
 use Rattle.pres.specs.Bindings.{Binding}
 use Rattle.pres.specs.Faces.{Face, face_at}
+use Rattle.pres.specs.Raises.{raises}
 use Rattle.aoi.specs.Plain.{PlainRaise}
 use Rattle.json_shape.specs.declared.errors.RecordErr.TheVariants as errors
-use Rattle.json_shape.specs.Operations.{raises, replying}
+use Rattle.json_shape.specs.Operations.{replying}
 use Rattle.json_shape.specs.Replies.{answer_members, refused_members, reply_with}
 use Rattle.json_shape.specs.Requests.{request_json}
 use Rattle.flick_engine.specs.declared.errors.MessageErr.{MessageErr}
