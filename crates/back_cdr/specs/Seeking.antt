@@ -14,11 +14,13 @@ use Rattle.pres.specs.Bindings.{Binding}
 abbrev pub has_name : List ℕ → PlainOperation → Bool
 has_name name op = bytes_eq op.name name
 
+-- what is named by an operation's place, where there is one
 abbrev pub operation_at : Option ℕ → Naming
 operation_at None = NoOperation
 operation_at (Some op) = one op
 
--- the first interface whose name is the key, and its first operation of the name, where the operations of the interfaces are counted from k
+-- the first interface whose name is the key, and its first operation of the name, where the operations of the interfaces
+-- are counted from k
 abbrev pub named_from : ℕ → List PlainInterface → List ℕ → List ℕ → Naming
 named_from k [] key name = NoInterface
 named_from k (i ∷ is) key name = if bytes_eq i.name key then operation_at (position_from (has_name name) k i.ops)

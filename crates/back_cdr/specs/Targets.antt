@@ -16,6 +16,7 @@ pub record Target : Type 0 where
   pub wants : Bool
   pub ids : List (List ℕ)
 
+-- the target of an operation of an interface
 abbrev pub target_in : PlainInterface → PlainOperation → Target
 target_in i op = record { key = i.name; name = op.name; wants = not op.oneway; ids = map (λ (r : PlainRaise). r.id) op.raises }
 
@@ -27,6 +28,7 @@ targets_in i = map (target_in i) i.ops
 abbrev pub targets : List PlainInterface → List Target
 targets is = flat_map targets_in is
 
+-- the target of a number that no operation has
 abbrev pub no_target : Target
 no_target = record { key = []; name = []; wants = true; ids = [] }
 

@@ -5,11 +5,9 @@
 mod laws;
 mod leads;
 mod printing;
-mod putting;
 mod seek;
 mod targets;
 
 pub use laws::{leads_have_one_length, requests_are_named_right};
 pub use leads::{lead_call, lead_reply, size_patch};
-pub use putting::put_lead;
 pub use seek::read_called;

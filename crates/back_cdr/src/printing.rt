@@ -9,9 +9,10 @@ use kit_base::{NoMemory, Octets};
 use std::alloc::Global;
 use wire_def::Order;
 
-/// The message types of requests and of replies.
+/// The message type of requests.
 const REQUEST: u8 = 0;
 
+/// The message type of replies.
 const REPLY: u8 = 1;
 
 /// A number of octets as an unsigned long.

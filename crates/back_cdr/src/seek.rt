@@ -53,6 +53,7 @@ fn has_key(i: &Interface, key: &[u8]) -> bool
     i.name.as_slice() == key
 }
 
+/// What is named by an operation's place, where there is one.
 fn operation_at(place: Option<u32>) -> Naming
     ensures { result ≡ operation_at place }
 {

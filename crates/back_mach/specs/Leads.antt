@@ -54,7 +54,7 @@ reply_octets id remote code = words (move_send_once ∷ 0 ∷ remote ∷ 0 ∷ 0
 abbrev pub answer_lead : Routine → Head → List ℕ
 answer_lead r head = reply_octets r.id head.remote 0
 
--- the length of the head of an answer
+-- the length of the head of an answer, whatever it says
 abbrev pub answer_lead_length : ℕ
 answer_lead_length = 32
 

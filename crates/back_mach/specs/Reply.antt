@@ -53,6 +53,7 @@ ReplyStops id n = StopsInOrder (OwnSpells id n) (OwnStops id n) (λ h. CodeStops
 
 -- ---- reading it
 
+-- the header of a reply that must have an id
 unfoldable pub read_own : ℕ → ℕ → Reader HeadErr MachHeader
 read_own id n = tested (read_header n) (has_id id) Type_ (λ p. p + 20)
 

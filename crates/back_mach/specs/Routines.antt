@@ -16,6 +16,7 @@ routines_in i = map (routine_in i) i.ops
 abbrev pub routines : List PlainInterface → List Routine
 routines is = flat_map routines_in is
 
+-- the routine of a number that no operation has
 abbrev pub no_routine : Routine
 no_routine = record { id = 0; wants = true }
 

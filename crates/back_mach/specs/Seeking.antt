@@ -23,6 +23,7 @@ has_id id i = nat_le i.base id && nat_lt id (i.base + i.slots)
 abbrev pub has_slot : ℕ → ℕ → PlainOperation → Bool
 has_slot base id op = base + op.slot == id
 
+-- what is named by an operation's place, where there is one
 abbrev pub operation_at : Option ℕ → Naming
 operation_at None = NoOperation
 operation_at (Some op) = one op

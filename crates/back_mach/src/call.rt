@@ -40,6 +40,7 @@ pub fn read_call(message: &[u8]) -> Result<MachCall, HeadErr>
     call_at(message.len(), at)
 }
 
+/// The head of a request, in a message of so many octets.
 fn call_at(total: usize, at: Cursor<'_>) -> Result<MachCall, HeadErr>
     ensures { result ≡ told call_told (read_header total at.entry.place at.entry.rest.now) }
 {

@@ -24,7 +24,6 @@ pub use laws::{
     requests_are_named_right, requests_are_read,
 };
 pub use leads::{lead_call, lead_reply, size_patch};
-pub use putting::{answer_lead_length, lead_length, put_lead, put_size};
 pub use refusals::put_refusal;
 pub use reply::read_reply;
 pub use seek::{ENCODING, read_called};

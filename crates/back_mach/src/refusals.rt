@@ -10,8 +10,8 @@ use kit_base::NoMemory;
 use raw_buf::SendBuf;
 use wire_def::{Head, Refusal};
 
-/// Writes the reply that refuses the request with an id into an empty buffer. After out of memory
-/// the buffer is as it was.
+/// Writes the reply that refuses the request with an id into an empty buffer. Where memory runs
+/// out, the buffer is as it was.
 pub fn put_refusal(
     refusal: &Refusal,
     head: &Head,

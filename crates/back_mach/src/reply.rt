@@ -34,6 +34,7 @@ pub fn read_reply(message: &[u8], id: u32) -> Result<ReplyHead<'_>, HeadErr>
     reply_at(id, message.len(), at)
 }
 
+/// The head of a reply that must have an id, in a message of so many octets.
 fn reply_at(id: u32, total: usize, at: Cursor<'_>) -> Result<ReplyHead<'_>, HeadErr>
     ensures { result ≡ told reply_told (read_head_of_reply id total at.entry.place at.entry.rest.now) }
 {

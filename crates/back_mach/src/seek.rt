@@ -42,6 +42,7 @@ fn place_of(i: &Interface, first: u32, id: u32) -> Option<u32>
     None
 }
 
+/// What is named by an operation's place, where there is one.
 fn operation_at(place: Option<u32>) -> Naming
     ensures { result ≡ operation_at place }
 {

@@ -22,8 +22,6 @@ pub mod Homes
 pub mod Before
 -- * A head as one chunk appends its octets
 pub mod Coding
--- * Words that are put let no count fall
-pub mod Wording
 -- * The operation that a call names, found from left to right
 pub mod Finding
 -- * The operations that are named are among those that there are, by induction on the interfaces

@@ -20,11 +20,13 @@ encoding = Xdr
 abbrev pub is_called : OncCall → PlainInterface → Bool
 is_called c i = c.program == i.program && c.version == i.version
 
+-- what is named by an operation's place, where there is one
 abbrev pub operation_at : Option ℕ → Naming
 operation_at None = NoOperation
 operation_at (Some op) = one op
 
--- the first interface that is called, and its first operation with the call's procedure number, where the operations of the interfaces are counted from k
+-- the first interface that is called, and its first operation with the call's procedure number, where the operations of
+-- the interfaces are counted from k
 abbrev pub named_from : ℕ → List PlainInterface → OncCall → Naming
 named_from k [] c = NoInterface
 named_from k (i ∷ is) c = if is_called c i then operation_at (position_from (λ n. n == c.proc_no) k (numbers i))

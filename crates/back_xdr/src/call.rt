@@ -50,6 +50,7 @@ pub fn read_call(message: &[u8]) -> Result<OncCall, HeadErr>
     })
 }
 
+/// The head of a call, item by item.
 fn call_at(at: Cursor<'_>) -> Result<OncCall, HeadErr>
     ensures { result ≡ told call_told (read_head_of_call at.entry.place at.entry.rest.now) }
 {

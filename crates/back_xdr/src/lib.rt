@@ -11,7 +11,6 @@ mod laws;
 mod leads;
 mod lowering;
 pub mod procedures;
-mod putting;
 mod refusals;
 mod reply;
 mod seek;
@@ -25,7 +24,6 @@ pub use laws::{
 };
 pub use leads::{lead_call, lead_reply};
 pub use lowering::lower_send;
-pub use putting::{answer_lead_length, lead_length, put_lead};
 pub use refusals::put_refusal;
 pub use reply::read_reply;
 pub use seek::{ENCODING, read_called};

@@ -9,8 +9,8 @@ use kit_base::NoMemory;
 use raw_buf::SendBuf;
 use wire_def::{Head, Refusal};
 
-/// Writes the reply that refuses a call into an empty buffer, with an empty verifier. After want of
-/// memory the buffer is as it was.
+/// Writes the reply that refuses a call into an empty buffer, with an empty verifier. Where memory runs
+/// out, the buffer is as it was.
 pub fn put_refusal(refusal: &Refusal, head: &Head, buf: &mut SendBuf) -> Result<(), NoMemory>
     requires empty { buf.old.done ≡ [] }
     requires own { IsOwn refusal.now }

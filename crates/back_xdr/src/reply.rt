@@ -32,6 +32,7 @@ pub fn read_reply(message: &[u8]) -> Result<ReplyHead<'_>, HeadErr>
     })
 }
 
+/// The head of a reply, item by item.
 fn reply_at(at: Cursor<'_>) -> Result<ReplyHead<'_>, HeadErr>
     ensures { result ≡ told reply_told (read_head_of_reply at.entry.place at.entry.rest.now) }
 {

@@ -18,12 +18,14 @@ use wire_def::{Encoding, HeadErr};
 /// How bodies are laid out.
 pub const ENCODING: Encoding = Encoding::Xdr;
 
+/// Whether a call is one of an interface: it has the interface's program and version.
 fn is_called(call: &OncCall, i: &Interface) -> bool
     ensures { result ≡ is_called call.now (plain_interface i.now) }
 {
     call.program == i.program && call.version == i.version
 }
 
+/// What is named by an operation's place, where there is one.
 fn operation_at(place: Option<u32>) -> Naming
     ensures { result ≡ operation_at place }
 {

@@ -156,7 +156,7 @@ module _ (q : List ℕ) (g h : Filler) (lifts : Lifts q g h) where
   pub behind : (F G : Filler) → Lifts q F G → Lifts q (λ d s. then_run (F d s) g) (λ x s. then_run (G x s) h)
   behind F G first d x s e = ap (λ (z : Run Draft). then_run z g) (first d x s e) ∙ lifted (G x s) d x e
 
--- what doesn't look at the draft, and leaves it
+-- what does not look at the draft, and leaves it
 abbrev pub IsIdle : Filler → Type 0
 IsIdle f = (d x : Draft) (s : Place) → f d s ≡ map_run (λ y. d) (f x s)
 

@@ -40,7 +40,7 @@ IfTyped None P = Unit {0}
 IfTyped (Some a) P = P a
 
 abbrev mutual
-  -- no ensure stands in the body of a loop over a row or text
+  -- no ensure is in the body of a loop over a row or text
   pub RowsAreBare : Ty → Block → Type 0
   RowsAreBare t stop = Unit {0}
   RowsAreBare t (ensure n r) = RowsAreBare t r

@@ -23,6 +23,7 @@ at_field n f no_draft s = strays
 at_field zero f (draft d ds) s = map_run (λ x. draft x ds) (f d s)
 at_field (suc n) f (draft d ds) s = map_run (draft d) (at_field n f ds s)
 
+-- a filler of fields, on a draft that has them
 abbrev pub in_fields : (Drafts → Place → Run Drafts) → Filler
 in_fields f (fields ds) s = map_run fields (f ds s)
 in_fields f _ s = strays
@@ -38,10 +39,12 @@ field_at n no_draft = None
 field_at zero (draft d ds) = Some d
 field_at (suc n) (draft d ds) = field_at n ds
 
+-- the field of a number, of a draft that has fields
 abbrev pub in_draft : ℕ → Draft → Option Draft
 in_draft n (fields ds) = field_at n ds
 in_draft n _ = None
 
+-- the part at a path, from the first number on
 abbrev pub part : List ℕ → Draft → Option Draft
 part [] d = Some d
 part (n ∷ p) d = on_some (in_draft n d) (part p)
@@ -60,11 +63,13 @@ into (get.Const off os) x m = λ d s. strays
 abbrev pub word_got : Get → ℕ → List ℕ → ℕ → Order → Filler
 word_got g off p w o d s = word_at off w o s (λ x m. within p (into g x m) d s)
 
+-- octets at an offset that must be these
 abbrev pub const_got : ℕ → List ℕ → Filler
 const_got off os d s =
     if nat_le (off + length os) s.near then (if same_octets os (take (length os) (drop off s.left)) then gives d s else refuses)
     else strays
 
+-- what a get does
 abbrev pub got : Get → Filler
 got (get.Num off p w o) d s = word_got (get.Num off p w o) off p w o d s
 got (get.Tag off p w o) d s = word_got (get.Tag off p w o) off p w o d s
@@ -72,6 +77,7 @@ got (get.Flag off p w o) d s = word_got (get.Flag off p w o) off p w o d s
 got (get.Count off p mul add w o) d s = word_got (get.Count off p mul add w o) off p w o d s
 got (get.Const off os) d s = const_got off os d s
 
+-- what gets do, one after the other
 abbrev pub all_got : List Get → Filler
 all_got [] d s = gives d s
 all_got (g ∷ gs) d s = then_run (got g d s) (all_got gs)

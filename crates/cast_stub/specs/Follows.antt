@@ -26,7 +26,7 @@ IsLoop p b = (before : Block) × (turn : Block) × (behind : Block) × (k : ℕ)
     × (b ≡ append before (each p turn behind)) × (flat before ≡ Some k) × (flat turn ≡ Some l) × (flat behind ≡ Some m)
     × (l ≤ 3) × (k + (l - 1) + m ≤ 3)
 
--- what stands before the loop over a list
+-- what comes before the loop over a list
 abbrev pub IsCount : Count → Block → Type 0
 IsCount (Exactly n) b = b ≡ stop
 IsCount _ b = IsFlat 3 b

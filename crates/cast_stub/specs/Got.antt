@@ -31,6 +31,7 @@ called subs (suc n) k d s = if_some (subs k) (λ b. fill (called subs n) b d s)
 abbrev pub sub_at : List (List RecvOp) → ℕ → Option Recv
 sub_at subs k = option_map code_seen (slice_get subs k)
 
+-- the same of a list of codes
 abbrev pub calls_of : List (List RecvOp) → ℕ → Callees
 calls_of subs n = called (sub_at subs) n
 
@@ -49,6 +50,7 @@ told (gives v s) = given v s.pos s.tests
 told refuses = not_given
 told strays = not_given
 
+-- what a code gives over the octets from a place
 abbrev pub got_by : RecvCode → Ty → Place → Got
 got_by code t s = told (received code t s)
 

@@ -33,6 +33,7 @@ passed n d s =
     if nat_le n s.near then gives d (record { pos = s.pos + n; left = drop n s.left; near = s.near - n; tests = s.tests })
     else strays
 
+-- octets 0
 abbrev pub all_zero : List ℕ → Bool
 all_zero [] = true
 all_zero (zero ∷ o) = all_zero o
@@ -52,6 +53,7 @@ abbrev pub word_at : ℕ → ℕ → Order → Place → (Width → ℕ → Run 
 word_at off w o s f =
     if_passed (width_in w) (λ x. if nat_le (off + w) s.near then f x (loaded o x (take w (drop off s.left))) else strays)
 
+-- a number that the row may hold, or an octet of a text
 abbrev pub is_digit : Array → ℤ → Bool
 is_digit (text c) n = is_letter n
 is_digit (row_of k c) n = in_range k n
@@ -73,6 +75,7 @@ num_into x m _ s = strays
 abbrev pub arm_draft : Arms → ℤ → Option Draft
 arm_draft arms n = option_map (tagged n) (type_of_arm arms n)
 
+-- a discriminant that has an arm
 abbrev pub tag_into : Width → ℕ → Filler
 tag_into x m (raw (choice_type t arms)) s = scalar_into t (arm_draft arms) x m s
 tag_into x m _ s = strays
@@ -82,6 +85,7 @@ abbrev pub flag_draft : Ty → ℤ → Option Draft
 flag_draft t (pos zero) = Some (done absent)
 flag_draft t _ = Some (flagged t)
 
+-- whether an optional value is there
 abbrev pub flag_into : Width → ℕ → Filler
 flag_into x m (raw (maybe_type t)) s = scalar_into flag (flag_draft t) x m s
 flag_into x m _ s = strays
@@ -101,11 +105,13 @@ allows Any n = nat_lt n 4294967296
 abbrev pub length_into : Count → (ℕ → Draft) → ℕ → ℕ → ℕ → Place → Run Draft
 length_into c f mul add m s = if_passed (length_of mul add m) (λ n. if allows c n then gives (f n) s else refuses)
 
+-- the length of a list, row or text
 abbrev pub count_into : ℕ → ℕ → ℕ → Filler
 count_into mul add m (raw (items_type c t)) s = length_into c (listed t) mul add m s
 count_into mul add m (raw (array_type a)) s = length_into (count_of a) (lined a) mul add m s
 count_into mul add m _ s = strays
 
+-- equal octets
 abbrev pub same_octets : List ℕ → List ℕ → Bool
 same_octets [] [] = true
 same_octets (a ∷ x) (b ∷ y) = nat_eq a b && same_octets x y
@@ -166,6 +172,7 @@ row_into o (lined a n) s = fill_block o (width (kind_of a)) a n s
 row_into o (raw (array_type a)) s = fill_block o (width (kind_of a)) a (least (count_of a)) s
 row_into o _ s = strays
 
+-- the same, each number in four octets
 abbrev pub wide_into : Order → Filler
 wide_into o (lined a n) s = fill_block o 4 a n s
 wide_into o (raw (array_type a)) s = fill_block o 4 a (least (count_of a)) s

@@ -33,7 +33,7 @@ abbrev pub is_free : Count → Bool
 is_free (Exactly m) = false
 is_free _ = true
 
--- numbers of 64 bits whose padding stands only before a first element
+-- rows of 64 bits with padding only before a first element
 abbrev pub is_gapped : Array → Bool
 is_gapped (row_of kind.I64 c) = is_free c
 is_gapped (row_of kind.U64 c) = is_free c

@@ -45,12 +45,15 @@ pub record Cost : Type 0 where
   pub stores : ℕ
   pub rows : ℕ
 
+-- no calls of a buffer
 abbrev pub no_cost : Cost
 no_cost = record { checks = 0; moves = 0; stores = 0; rows = 0 }
 
+-- two costs together
 abbrev pub sum : Cost → Cost → Cost
 sum a b = record { checks = a.checks + b.checks; moves = a.moves + b.moves; stores = a.stores + b.stores; rows = a.rows + b.rows }
 
+-- what a step costs
 abbrev pub cost_of : Step → Cost
 cost_of (Room n) = record no_cost { checks = 1 }
 cost_of (Pad a) = record no_cost { moves = 1 }
@@ -59,6 +62,7 @@ cost_of (Widened os k) = record no_cost { moves = 1; stores = k }
 cost_of (Copied os) = record no_cost { rows = 1 }
 cost_of (Patched at sub order) = record no_cost { stores = 1 }
 
+-- what steps cost together
 abbrev pub costs : List Step → Cost
 costs [] = no_cost
 costs (s ∷ ss) = sum (cost_of s) (costs ss)

@@ -7,6 +7,7 @@ abbrev pub on_some : {A B : Type 0} → Option A → (A → Option B) → Option
 on_some None f = None
 on_some (Some a) f = f a
 
+-- something is there
 abbrev pub IsThere : {A : Type 0} → Option A → Type 0
 IsThere None = ⊥
 IsThere (Some a) = Unit {0}
@@ -17,6 +18,7 @@ field n no_more = None
 field zero (val v vs) = Some v
 field (suc n) (val v vs) = field n vs
 
+-- the field of a number, of a value that is a struct
 abbrev pub in_group : ℕ → Val → Option Val
 in_group n (group vs) = field n vs
 in_group n _ = None

@@ -47,7 +47,7 @@ put_octets h (put.Short off p name size m) v = on_some (on_some (at p v) length_
 put_octets h (put.Const off os) v = Some os
 put_octets h (put.Head off f w o) v = word w o (pos (head_number f h))
 
--- where a put stands in its chunk
+-- the place of a put in its chunk
 abbrev pub offset : Put → ℕ
 offset (put.Num off p w o) = off
 offset (put.Tag off p w o) = off
@@ -69,10 +69,11 @@ placed zero (o ∷ os) (c ∷ cs) = option_map (λ ds. Some o ∷ ds) (placed ze
 placed (suc n) os [] = None
 placed (suc n) os (c ∷ cs) = option_map (λ ds. c ∷ ds) (placed n os cs)
 
--- cells after one put; a later put stands over an earlier one
+-- cells after one put; a later put replaces an earlier one
 abbrev pub put_one : Head → Val → Put → Cells → Option Cells
 put_one h v p cs = on_some (put_octets h p v) (λ os. placed (offset p) os cs)
 
+-- cells after puts, one after the other
 abbrev pub put_all : Head → Val → List Put → Cells → Option Cells
 put_all h v [] cs = Some cs
 put_all h v (p ∷ ps) cs = on_some (put_one h v p cs) (put_all h v ps)

@@ -3,7 +3,7 @@ use Rattle.std.specs.Prelude.{ℕ, List, Option, None, Some}
 use Rattle.cast_stub.specs.Draft.{Draft}
 
 -- where a run is: the position, the octets that are left, how many of them are known to be there,
--- and the tests so far; a number of tests that has reached 2^64 - 1 stands
+-- and the tests so far; a number of tests that has reached 2^64 - 1 stays there
 pub record Place : Type 0 where
   pub pos : ℕ
   pub left : List ℕ

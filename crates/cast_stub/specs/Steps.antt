@@ -41,12 +41,15 @@ both (Some a) (Some b) = Some (a ++ b)
 abbrev pub is_width : ℕ → Bool
 is_width w = nat_eq w 1 || nat_eq w 2 || nat_eq w 4 || nat_eq w 8
 
+-- a chunk: its octets, by a store for each put
 abbrev pub chunk_steps : ℕ → List Put → Head → Val → Steps
 chunk_steps size ps h v = on_some (filled size ps h v) (λ o. Some (Stored o (length ps) ∷ []))
 
+-- zeros up to a multiple, where that is a width
 abbrev pub align_steps : ℕ → Steps
 align_steps a = if is_width a then Some (Pad a ∷ []) else None
 
+-- the length at a path, multiplied and raised: so many octets are ensured
 abbrev pub row_room : List ℕ → ℕ → ℕ → Val → Steps
 row_room p u e v = on_some (on_some (at p v) length_in) (λ n. Some (Room (n * u + e) ∷ []))
 
@@ -62,12 +65,15 @@ abbrev pub wide : Order → List ℤ → Option (List ℕ)
 wide o [] = Some []
 wide o (n ∷ ns) = on_some (word 4 o n) (λ a. on_some (wide o ns) (λ b. Some (a ++ b)))
 
+-- the image of the row at a path
 abbrev pub copy_steps : List ℕ → Val → Steps
 copy_steps p v = on_some (on_some (at p v) row_in) (λ r. Some (Copied (image_of r.0 r.1) ∷ []))
 
+-- the same with the octets of each number in the other order
 abbrev pub swap_steps : List ℕ → Val → Steps
 swap_steps p v = on_some (on_some (at p v) row_in) (λ r. Some (Copied (swapped r.0 r.1) ∷ []))
 
+-- the numbers of the row at a path, each in four octets
 abbrev pub wide_steps : List ℕ → Order → Val → Steps
 wide_steps p o v = on_some (on_some (at p v) row_in) (λ r. on_some (wide o r.1) (λ os. Some (Widened os (length r.1) ∷ [])))
 
@@ -113,14 +119,18 @@ abbrev mutual
 
 -- ---- the same of operations in a list
 
+-- the steps of operations
 abbrev pub code_steps : Calls → Head → List SendOp → Val → Steps
 code_steps c h ops v = steps c h (code_seen ops) v
 
+-- those of a loop over the part at a path
 abbrev pub each_steps : Calls → Head → List ℕ → List SendOp → Val → Steps
 each_steps c h p ops v = on_some (on_some (at p v) elements_in) (over (code_steps c h ops))
 
+-- those of a body on the value that may be at a path
 abbrev pub some_steps : Calls → Head → List ℕ → List SendOp → Val → Steps
 some_steps c h p ops v = on_some (at p v) (if_present (code_steps c h ops))
 
+-- those of the body for the arm at a path
 abbrev pub switch_steps : Calls → Head → List ℕ → List (ℤ × List SendOp) → Option (List SendOp) → Val → Steps
 switch_steps c h p cases other v = on_some (on_some (at p v) arm_in) (λ a. case_steps c h (cases_seen cases other) a.0 a.1)

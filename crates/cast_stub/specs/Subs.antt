@@ -29,9 +29,11 @@ deepest = 4096
 abbrev pub sub_at : List (List SendOp) → ℕ → Option Block
 sub_at subs k = option_map code_seen (slice_get subs k)
 
+-- the same of a list of codes
 abbrev pub calls_of : List (List SendOp) → Head → ℕ → Calls
 calls_of subs h n = called (sub_at subs) h n
 
+-- the steps of a call on the part at a path
 abbrev pub call_steps : Calls → ℕ → List ℕ → Val → Steps
 call_steps c k p v = on_some (at p v) (c k)
 

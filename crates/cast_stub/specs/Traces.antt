@@ -62,7 +62,7 @@ pub record IsLoop (p : List ℕ) (b : Recv) : Type 0 where
   pub ends : (descs behind ≡ Some last) × IsAt p behind
   pub few : first + last ≤ 1
 
--- what stands before the loop over the list at a path
+-- what comes before the loop over the list at a path
 abbrev pub IsCount : List ℕ → Count → Recv → Type 0
 IsCount p (Exactly n) b = b ≡ finish
 IsCount p _ b = IsFlat p b

@@ -37,7 +37,7 @@ pub fn copy_ops(alloc: Global, ops: &SendOps) -> Result<SendOps, NoMemory>
     Ok(copy)
 }
 
-// The same operation.
+/// The same operation.
 #[cycle(copy)]
 fn copy_op(alloc: Global, op: &SendOp) -> Result<SendOp, NoMemory>
     ensures { IfOk result (λ o. o ≡ op.now) }

@@ -28,7 +28,7 @@ pub fn copy_octets(alloc: Global, octets: &Octets) -> Result<Octets, NoMemory>
     Ok(copy)
 }
 
-// The put for the whole, of a put for the part at the prefix.
+/// The put for the whole, of a put for the part at the prefix.
 fn put_behind(alloc: Global, prefix: &Path, put: &Put) -> Result<Put, NoMemory>
     ensures { IfOk result (λ p. p ≡ put_rebased prefix.now put.now) }
 {

@@ -6,7 +6,7 @@ pub fn code_behind_code()
     ensures { CodeBehindCode }
 {}
 
-/// Code that is made for a part of a value does the same on the whole, once the part's path stands
+/// Code that is made for a part of a value does the same on the whole, once the part's path is
 /// before its paths.
 pub fn code_for_a_part()
     ensures { CodeForPart }

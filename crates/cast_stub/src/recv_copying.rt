@@ -10,7 +10,7 @@ use crate::recv::{Get, Gets, RecvOp, RecvOps};
 use kit_base::NoMemory;
 use std::alloc::Global;
 
-// The get for the whole, of a get for the part at the prefix.
+/// The get for the whole, of a get for the part at the prefix.
 fn get_behind(alloc: Global, prefix: &Path, get: &Get) -> Result<Get, NoMemory>
     ensures { IfOk result (λ p. p ≡ get_rebased prefix.now get.now) }
 {

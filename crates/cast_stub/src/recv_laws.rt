@@ -6,7 +6,7 @@ pub fn recv_code_after_code()
     ensures { RecvAfterRecv }
 {}
 
-/// Code that is made for a part of a draft does the same on the whole, once the part's path stands
+/// Code that is made for a part of a draft does the same on the whole, once the part's path is
 /// before its paths: the part is filled and put back.
 pub fn recv_code_for_a_part()
     ensures { RecvForPart }

@@ -21,7 +21,7 @@ use std::alloc::Global;
 /// the code that it calls, and two for a row.
 pub(crate) const LEVELS: u32 = 66;
 
-// The operations of a code after those of `out`, for the part at the prefix.
+/// The operations of a code after those of `out`, for the part at the prefix.
 #[cycle(inline)]
 #[tactic(auto, using(crate::proofs::Emitting::emitting))]
 fn put_code(
@@ -46,7 +46,7 @@ fn put_code(
     Ok(())
 }
 
-// The operation after those of `out`, for the part at the prefix.
+/// The operation after those of `out`, for the part at the prefix.
 #[cycle(inline)]
 #[tactic(auto, using(crate::proofs::Emitting::emitting))]
 fn put_op(
@@ -108,7 +108,7 @@ fn put_op(
     }
 }
 
-// A body, which goes by its own current value.
+/// A body, which goes by its own current value.
 #[cycle(inline)]
 #[tactic(auto, using(crate::proofs::Emitting::emitting))]
 fn body_of(
@@ -129,7 +129,7 @@ fn body_of(
     Ok(inner)
 }
 
-// The bodies of a switch.
+/// The bodies of a switch.
 #[cycle(inline)]
 #[tactic(auto, using(crate::proofs::Emitting::emitting))]
 fn bodies_of(
@@ -152,7 +152,7 @@ fn bodies_of(
     Ok(bodies)
 }
 
-// The body of every other number.
+/// The body of every other number.
 #[cycle(inline)]
 #[tactic(auto, using(crate::proofs::Emitting::emitting))]
 fn last_of(
@@ -173,7 +173,7 @@ fn last_of(
     }
 }
 
-// The code of a number after the operations of `out`, for the part at a path.
+/// The code of a number after the operations of `out`, for the part at a path.
 #[cycle(inline)]
 #[tactic(auto, using(crate::proofs::Emitting::emitting))]
 fn put_called(

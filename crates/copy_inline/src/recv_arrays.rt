@@ -33,8 +33,8 @@ pub(crate) fn put_text(
     put_tested(alloc, path, 1, text, out)
 }
 
-// One test of the octets of a row at a path, of numbers of a width, and the operation that takes them,
-// after the operations of `out`.
+/// One test of the octets of a row at a path, of numbers of a width, and the operation that takes them,
+/// after the operations of `out`.
 fn put_tested(
     alloc: Global,
     path: &Path,
@@ -83,7 +83,7 @@ pub(crate) fn put_row(
     }
 }
 
-// The octets of a number of a row.
+/// The octets of a number of a row.
 #[tactic(auto, using(crate::proofs::RecvRowEmitting::emitting))]
 fn element_width(enc: Encoding, kind: Kind) -> u32
     ensures { (c : Count) → result ≡ element_width enc (row_of kind c) }
@@ -103,7 +103,7 @@ pub(crate) fn copy_gets(alloc: Global, gets: &Gets) -> Result<Gets, NoMemory>
     gets_behind(alloc, &Path::new(alloc), gets)
 }
 
-// The same tests, skips and takes.
+/// The same tests, skips and takes.
 #[tactic(auto, using(crate::proofs::RecvRowEmitting::emitting))]
 fn copy_turn(alloc: Global, ops: &RecvOps) -> Result<RecvOps, NoMemory>
     requires { descs (code_seen ops.now) ≡ Some 0 }
@@ -116,7 +116,7 @@ fn copy_turn(alloc: Global, ops: &RecvOps) -> Result<RecvOps, NoMemory>
     Ok(out)
 }
 
-// The same test, skip or take, after the operations of `out`.
+/// The same test, skip or take, after the operations of `out`.
 #[tactic(auto, using(crate::proofs::RecvRowEmitting::emitting))]
 fn put_copy(alloc: Global, op: &RecvOp, out: &mut RecvOps) -> Result<(), NoMemory>
     requires { descs (op_seen op.now finish) ≡ Some 0 }

@@ -17,7 +17,7 @@ use kit_base::NoMemory;
 use mint::table::NodeId;
 use std::alloc::Global;
 
-// The operations of a code after those of `out`, for the part at the prefix.
+/// The operations of a code after those of `out`, for the part at the prefix.
 #[cycle(inline)]
 #[tactic(auto, using(crate::proofs::RecvEmitting::emitting))]
 fn put_code(
@@ -42,7 +42,7 @@ fn put_code(
     Ok(())
 }
 
-// The operation after those of `out`, for the part at the prefix.
+/// The operation after those of `out`, for the part at the prefix.
 #[cycle(inline)]
 #[tactic(auto, using(crate::proofs::RecvEmitting::emitting))]
 fn put_op(
@@ -105,7 +105,7 @@ fn put_op(
     }
 }
 
-// A body, which goes by its own current value.
+/// A body, which goes by its own current value.
 #[cycle(inline)]
 #[tactic(auto, using(crate::proofs::RecvEmitting::emitting))]
 fn body_of(
@@ -126,7 +126,7 @@ fn body_of(
     Ok(inner)
 }
 
-// The bodies of a switch.
+/// The bodies of a switch.
 #[cycle(inline)]
 #[tactic(auto, using(crate::proofs::RecvEmitting::emitting))]
 fn bodies_of(
@@ -149,7 +149,7 @@ fn bodies_of(
     Ok(bodies)
 }
 
-// The body of every other number.
+/// The body of every other number.
 #[cycle(inline)]
 #[tactic(auto, using(crate::proofs::RecvEmitting::emitting))]
 fn last_of(
@@ -170,7 +170,7 @@ fn last_of(
     }
 }
 
-// The code of a number after the operations of `out`, for the part at a path.
+/// The code of a number after the operations of `out`, for the part at a path.
 #[cycle(inline)]
 #[tactic(auto, using(crate::proofs::RecvEmitting::emitting))]
 fn put_called(
@@ -193,7 +193,7 @@ fn put_called(
     }
 }
 
-// A number and its body.
+/// A number and its body.
 fn case_of(n: &i128, body: RecvOps) -> (i128, RecvOps)
     ensures number { result.0 ≡ n.now }
     ensures body { result.1 ≡ body }

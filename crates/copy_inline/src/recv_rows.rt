@@ -25,7 +25,7 @@ use mint::table::{Mint, NodeId};
 use std::alloc::Global;
 use wire_def::Encoding;
 
-// The operations, with their rows as blocks, for a value of the node.
+/// The operations, with their rows as blocks, for a value of the node.
 #[cycle(rows)]
 #[tactic(auto, using(crate::proofs::RecvRowEmitting::emitting))]
 fn rows_ops(
@@ -46,7 +46,7 @@ fn rows_ops(
     Ok(out)
 }
 
-// The operation, or what replaces it, after those of `out`.
+/// The operation, or what replaces it, after those of `out`.
 #[cycle(rows)]
 #[tactic(auto, using(crate::proofs::RecvRowEmitting::emitting))]
 fn put_op(
@@ -87,7 +87,7 @@ fn put_op(
     }
 }
 
-// What replaces a loop over the part at a path, after the operations of `out`.
+/// What replaces a loop over the part at a path, after the operations of `out`.
 #[cycle(rows)]
 #[tactic(auto, using(crate::proofs::RecvRowEmitting::emitting))]
 fn put_loop(
@@ -128,7 +128,7 @@ fn put_loop(
     }
 }
 
-// The body for a value that may be there.
+/// The body for a value that may be there.
 #[cycle(rows)]
 #[tactic(auto, using(crate::proofs::RecvRowEmitting::emitting))]
 fn some_body(
@@ -154,7 +154,7 @@ fn some_body(
     rows_ops(alloc, enc, mint, *item, body)
 }
 
-// The bodies of a switch, and that of every other number.
+/// The bodies of a switch, and that of every other number.
 #[cycle(rows)]
 #[tactic(auto, using(crate::proofs::RecvRowEmitting::emitting))]
 fn switch_bodies(
@@ -184,7 +184,7 @@ fn switch_bodies(
     Ok((bodies, rest))
 }
 
-// The bodies of arms, each by itself.
+/// The bodies of arms, each by itself.
 #[cycle(rows)]
 #[tactic(auto, using(crate::proofs::RecvRowEmitting::emitting))]
 fn rows_cases(
@@ -209,7 +209,7 @@ fn rows_cases(
     Ok(bodies)
 }
 
-// The body of an arm.
+/// The body of an arm.
 #[cycle(rows)]
 #[tactic(auto, using(crate::proofs::RecvRowEmitting::emitting))]
 fn rows_case(
@@ -228,7 +228,7 @@ fn rows_case(
     Ok((case.0, rows_ops(alloc, enc, mint, arm.1, &case.1)?))
 }
 
-// The body of every other number.
+/// The body of every other number.
 #[cycle(rows)]
 #[tactic(auto, using(crate::proofs::RecvRowEmitting::emitting))]
 fn rows_last(

@@ -25,7 +25,7 @@ use mint::table::{Mint, NodeId};
 use std::alloc::Global;
 use wire_def::{Encoding, Order};
 
-// The operations, with their rows as blocks, for a value of the node.
+/// The operations, with their rows as blocks, for a value of the node.
 #[cycle(rows)]
 #[tactic(auto, using(crate::proofs::RowEmitting::emitting))]
 fn rows_ops(
@@ -46,7 +46,7 @@ fn rows_ops(
     Ok(out)
 }
 
-// The operation, or what replaces it, after those of `out`.
+/// The operation, or what replaces it, after those of `out`.
 #[cycle(rows)]
 #[tactic(auto, using(crate::proofs::RowEmitting::emitting))]
 fn put_op(
@@ -91,7 +91,7 @@ fn put_op(
     }
 }
 
-// What replaces a loop over the part at a path.
+/// What replaces a loop over the part at a path.
 #[cycle(rows)]
 #[tactic(auto, using(crate::proofs::RowEmitting::emitting))]
 fn loop_op(
@@ -130,7 +130,7 @@ fn loop_op(
     }
 }
 
-// What replaces a loop over a row.
+/// What replaces a loop over a row.
 #[tactic(auto, using(crate::proofs::RowEmitting::emitting))]
 fn row_op(
     alloc: Global,
@@ -151,7 +151,7 @@ fn row_op(
     }
 }
 
-// A row as it is, or with the octets of each number reversed.
+/// A row as it is, or with the octets of each number reversed.
 #[tactic(auto, using(crate::proofs::RowEmitting::emitting))]
 fn block_op(alloc: Global, order: Order, kind: Kind, path: &Path) -> Result<SendOp, NoMemory>
     ensures { IfOk result
@@ -164,7 +164,7 @@ fn block_op(alloc: Global, order: Order, kind: Kind, path: &Path) -> Result<Send
     }
 }
 
-// The body for a value that may be there.
+/// The body for a value that may be there.
 #[cycle(rows)]
 #[tactic(auto, using(crate::proofs::RowEmitting::emitting))]
 fn some_body(
@@ -190,7 +190,7 @@ fn some_body(
     rows_ops(alloc, enc, mint, *item, body)
 }
 
-// The bodies of a switch, and that of every other number.
+/// The bodies of a switch, and that of every other number.
 #[cycle(rows)]
 #[tactic(auto, using(crate::proofs::RowEmitting::emitting))]
 fn switch_bodies(
@@ -220,7 +220,7 @@ fn switch_bodies(
     Ok((bodies, rest))
 }
 
-// The bodies of arms, each by itself.
+/// The bodies of arms, each by itself.
 #[cycle(rows)]
 #[tactic(auto, using(crate::proofs::RowEmitting::emitting))]
 fn rows_cases(
@@ -245,7 +245,7 @@ fn rows_cases(
     Ok(bodies)
 }
 
-// The body of an arm.
+/// The body of an arm.
 #[cycle(rows)]
 #[tactic(auto, using(crate::proofs::RowEmitting::emitting))]
 fn rows_case(
@@ -264,7 +264,7 @@ fn rows_case(
     Ok((case.0, rows_ops(alloc, enc, mint, arm.1, &case.1)?))
 }
 
-// The body of every other number.
+/// The body of every other number.
 #[cycle(rows)]
 #[tactic(auto, using(crate::proofs::RowEmitting::emitting))]
 fn rows_last(

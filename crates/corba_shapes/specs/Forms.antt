@@ -120,7 +120,7 @@ arrayed s (c ∷ cs) = array (arrayed s cs) c
 abbrev pub form_shape : Form → List Count → Shape
 form_shape f ns = arrayed (rowed (core_shape f.core) f.rows) ns
 
--- what stands in a row
+-- what a row may have as elements
 abbrev pub is_row : List Count → List Count → Bool
 is_row [] [] = false
 is_row _ _ = true

@@ -38,8 +38,8 @@ impl Demux {
         Ok(Demux { names: copies })
     }
 
-    /// The place of the first name that is equal to this one. It wants no memory, and reads at most as
-    /// many words as the name has, and one.
+    /// The place of the first name that is equal to this one. It takes no memory, and reads at
+    /// most a quarter as many words as the name has octets, and one.
     pub fn pick(&self, name: &mut WordName<'_>) -> Option<u32>
         ensures place { result ≡ position_from (bytes_eq name.old.name) 0 self.now }
         ensures name { name.new.name ≡ name.old.name }

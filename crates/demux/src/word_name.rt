@@ -47,7 +47,7 @@ impl<'a> WordName<'a> {
         word_of(&self.name[4 * i..])
     }
 
-    /// How many words were read. Past 18,446,744,073,709,551,615 the count stands.
+    /// How many words were read. The count stops at 18,446,744,073,709,551,615.
     pub fn reads(&self) -> u64
         ensures { result ≡ self.now.reads }
     {

@@ -11,7 +11,7 @@ use std::{env, io};
 /// The status where the process cannot give its arguments as text. `flick` never answers it.
 const NO_ARGUMENTS: u8 = 9;
 
-/// The status where there is no memory, as `flick` answers it.
+/// The status where memory ran out, as `flick` answers it.
 const NO_MEMORY: u8 = 7;
 
 /// The arguments as words, without the program's name.

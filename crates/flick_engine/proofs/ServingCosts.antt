@@ -31,7 +31,7 @@ unshown : (t : Bool) → t ≡ true → t ≡ false → ⊥
 unshown t is not = cc
 
 module _ (x : Coded) (work : ℕ → Val → Val → Type 0) (o : List ℕ) (answer : Option (List ℕ)) (spent : Tally) (new : Buf) where
-  -- a call that is refused is no request
+  -- a call that is refused is not a request
   pub refused_at : {A E : Type 0} (y : Result A E) (c : Called) (e : MessageErr) → OnOk y (ReadCall x.binding o (Err e))
       → OnOk y (AnswersCallByCode x work o c answer spent new)
   refused_at (Ok u) c e reads = λ r is. absurd (no_request e r (Err e) refl (determined x.binding o (Err e) (Ok r) reads is))

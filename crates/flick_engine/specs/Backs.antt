@@ -67,7 +67,8 @@ Stops back.CdrBig o e = giop.StopsWith Requests o e
 Stops back.CdrLittle o e = giop.StopsWith Requests o e
 Stops back.Mach o e = mach.StopsWith mach.call o e
 
--- a message, in either order, begins with the head of a request with this key, which is the interface's name, and the name of this operation
+-- a message, in either order, begins with the head of a request with this key, which is the interface's name, and the
+-- name of this operation
 abbrev pub AsksByName : PlainInterface → PlainOperation → List ℕ → Type 0
 AsksByName i p o = (t : ToldRequest) × BeginsRequest o t × (i.name ≡ t.key) × (p.name ≡ t.name)
 
@@ -93,6 +94,7 @@ told_of r t id = record { head = shared_head id t.wants r; key = t.key; name = t
 abbrev pub SaysByName : Order → Binding → ℕ → Head → Called → Type 0
 SaysByName r b op head c = IsRequest (request_of (target_of b op) head.id) × (cdr_seeking.called b (told_of r (target_of b op) head.id) ≡ c)
 
+-- the head of an operation's call over a back end, whose numbers fit, says this
 abbrev pub SaysOver : Back → Binding → ℕ → Head → Called → Type 0
 SaysOver back.Xdr b op head c = IsWord head.id × AreWords (procedure_of b op)
     × (xdr_seeking.called b (call_of (procedure_of b op) head.id) ≡ c)
@@ -129,6 +131,7 @@ abbrev pub heard_over : Back → Binding → ℕ → ReplyHead → Heard
 heard_over k b op r =
     record { head = r.head; fate = fate_of (ids_over k b op) r.status; encoding = encoding_by k r.head.order; used = r.used }
 
+-- the same over the back end of a binding
 abbrev pub heard : Binding → ℕ → ReplyHead → Heard
 heard b op r = heard_over b.back b op r
 
@@ -141,6 +144,7 @@ giop_heard b op r used =
 abbrev pub RepliesInOrder : Binding → ℕ → List ℕ → Heard → Type 0
 RepliesInOrder b op o t = (r : giop_reply.Reply) × (used : ℕ) × giop.BeginsWith Replies o r used × (giop_heard b op r used ≡ t)
 
+-- a message begins with the head of a reply to an operation over a back end that says this
 abbrev pub RepliesOver : Back → Binding → ℕ → List ℕ → Heard → Type 0
 RepliesOver back.Xdr b op o t = (r : ReplyHead) × xdr_told.BeginsReply o r × (heard_over back.Xdr b op r ≡ t)
 RepliesOver back.CdrBig b op o t = RepliesInOrder b op o t
@@ -151,6 +155,7 @@ RepliesOver back.Mach b op o t = (r : ReplyHead) × mach_told.BeginsReply (reply
 abbrev pub BeginsReply : Binding → ℕ → List ℕ → Heard → Type 0
 BeginsReply b op o t = RepliesOver b.back b op o t
 
+-- the first item of such a head that is cut off or wrong
 abbrev pub ReplyStopsOver : Back → Binding → ℕ → List ℕ → HeadErr → Type 0
 ReplyStopsOver back.Xdr b op o e = xdr.StopsWith xdr.reply o e
 ReplyStopsOver back.CdrBig b op o e = giop.StopsWith Replies o e
@@ -182,6 +187,7 @@ TellsInOrder r b op k head t =
     IsLong head.id × IsFate (giop_fate_of (target_of b op) k)
     × (giop_heard b op (giop_answer r (target_of b op) k head.id) (length (cdr_leads.reply_lead r (target_of b op) k head.id)) ≡ t)
 
+-- the head of a reply to an operation with an arm over a back end, whose numbers fit, says this
 abbrev pub TellsOver : Back → Binding → ℕ → ℕ → Head → Heard → Type 0
 TellsOver back.Xdr b op k head t = IsWord head.id × (heard_over back.Xdr b op (answer_of head.id) ≡ t)
 TellsOver back.CdrBig b op k head t = TellsInOrder Big b op k head t

@@ -87,7 +87,7 @@ impl Engine {
         }
     }
 
-    /// How the body of a reply is laid out, by its head.
+    /// How the body of a message is laid out, by its head.
     pub(crate) fn encoding_of(&self, head: &Head) -> Encoding
         ensures { result ≡ encoding_by self.now.binding.back head.now.order }
     {

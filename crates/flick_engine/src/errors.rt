@@ -11,7 +11,7 @@ use wire_def::{Fault, HeadErr};
 pub enum MarshalErr {
     /// The message would have more than 4,194,304 octets.
     Long,
-    /// No memory was there.
+    /// Memory ran out.
     NoMemory,
 }
 
@@ -23,22 +23,22 @@ impl From<NoMemory> for MarshalErr {
     }
 }
 
-/// Why octets are no message of an interface. Places are counted from the first octet.
+/// Why octets are not a message of an interface. Places are counted from the first octet.
 #[derive(Clone, Copy, Debug, PartialEq, Eq)]
 pub enum MessageErr {
     /// There are more than 4,194,304 octets.
     Long,
     /// The head is cut off or wrong.
     Head(HeadErr),
-    /// No interface is the one that the call names: by program and version, or by the object's key.
+    /// No interface is the one that the call names: by program and version, by the object's key, or by an id.
     NoInterface,
-    /// The interface has no operation of the call's procedure number, or of its name.
+    /// The interface has no operation of the call's procedure number, name or id.
     NoOperation,
     /// The body is cut off or wrong.
     Body(Fault),
     /// Octets follow the body from this place on.
     Trailing(usize),
-    /// No memory was there.
+    /// Memory ran out.
     NoMemory,
 }
 

@@ -69,7 +69,7 @@ fn answer_onc(fault: HeadErr, message: &[u8], buf: &mut SendBuf) -> Result<Serve
     Ok(Served::Reply)
 }
 
-/// Whether a type of GIOP messages asks for nothing.
+/// Whether a type of GIOP messages asks for nothing: Reply, CancelRequest, LocateReply, CloseConnection, MessageError.
 fn asks_nothing(message_type: u8) -> bool
     ensures { result ≡ refusals.asks_nothing message_type }
 {
@@ -80,7 +80,7 @@ fn asks_nothing(message_type: u8) -> bool
         || message_type == 6
 }
 
-/// Whether a message is of such a type.
+/// Whether a message is of such a type, by its eighth octet.
 fn has_such_type(message: &[u8]) -> bool
     ensures { result ≡ refusals.has_such_type message.now }
 {

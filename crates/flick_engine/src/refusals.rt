@@ -19,14 +19,16 @@ use raw_buf::SendBuf;
 use std::alloc::Global;
 use wire_def::{Back, Head, Order, Refusal};
 
-/// All was done of what a call asks for, or nothing of it (CORBA's completion status).
+/// All was done of what a call asks for (CORBA's completion status COMPLETED_YES).
 const DONE: u32 = 0;
 
+/// Nothing of it was done (COMPLETED_NO).
 const UNDONE: u32 = 1;
 
-/// No routine has the id of a request, or its parameters are others (Mach's interface generator).
+/// No routine has the id of a request (MIG_BAD_ID of Mach's interface generator).
 const BAD_ID: i32 = -303;
 
+/// The parameters of a request are others (MIG_BAD_ARGUMENTS).
 const BAD_ARGUMENTS: i32 = -304;
 
 /// A range of versions with one more.

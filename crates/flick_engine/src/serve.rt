@@ -27,14 +27,14 @@ use std::alloc::Global;
 pub enum Served {
     /// The buffer has the reply.
     Reply,
-    /// There is no reply.
+    /// No reply is sent, and the buffer is empty.
     Silent,
 }
 
 impl Engine {
     /// Answers a message in a buffer, whatever the buffer held: by the work that is done for the
-    /// operation that it names, or by a refusal, or not at all. Where there is no reply, and after out
-    /// of memory, the buffer is empty. What it spent is kept. Where the view is then is not said.
+    /// operation that it names, or by a refusal, or not at all. Where no reply is sent, and where
+    /// memory runs out, the buffer is empty. What it spent is kept. Where the view is then is not said.
     pub fn serve<S: Skeleton>(
         &self,
         alloc: Global,

@@ -125,7 +125,7 @@ fn first_line(rest: &[u8]) -> &[u8] {
     cut(rest, 0, length)
 }
 
-/// What comes after the first word and the octet behind it.
+/// What comes after the first word and the octet after it.
 pub fn past_word(rest: &[u8]) -> &[u8] {
     from(rest, first_word(rest).len().saturating_add(1))
 }

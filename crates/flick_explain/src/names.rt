@@ -47,7 +47,8 @@ pub fn name_told(
     Ok(Some(out))
 }
 
-/// The token at fault. Of names it is the first from a token on that is no word of the language, or else the last before.
+/// The token at fault. Of names it is the first from a token on that is not a word of the language, or else the last
+/// before.
 fn name_at(question: &Question<'_>, at: usize, of_names: bool) -> usize {
     let statement = question.statement;
     let last = statement.end.saturating_sub(1);
@@ -92,7 +93,7 @@ fn is_of_language(question: &Question<'_>, name: &[u8]) -> bool {
     false
 }
 
-/// The name at a token with the names behind it that `::` joins to it.
+/// The name at a token with the names after it that `::` joins to it.
 fn scoped<'t>(placed: &Placed, text: &'t [u8], at: usize) -> &'t [u8] {
     let mut end = at;
     for _ in at..placed.len() {

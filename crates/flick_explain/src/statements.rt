@@ -17,7 +17,7 @@ pub enum Container {
     Version,
 }
 
-/// The tokens of a declaration: up to its `;`, or to the `{` behind which others begin.
+/// The tokens of a declaration: up to its `;`, or to the `{` after which others begin.
 #[derive(Clone, Copy)]
 pub struct Statement {
     /// The number of its first token, from 0.

@@ -18,10 +18,11 @@ use Rattle.pres.specs.declared.ops.Op.{Op}
 use Rattle.pres.specs.Bindings.{Binding}
 use Rattle.pres.specs.Faces.{Face, Parts, no_parts, part, Arms, Sign, face_at}
 use Rattle.pres.specs.Faces as face
+use Rattle.pres.specs.Raises.{raises}
 use Rattle.serde_json.specs.Data.{Data, null, boolean, number, unsigned, string, array, object, no_items, item, Members, no_members, member, put}
 use Rattle.serde_json.specs.Find.{as_array, is_float, of_integer}
 use Rattle.serde_json.specs.Written.{has_float, items_have_float, members_have_float}
-use Rattle.json_shape.specs.Operations.{dotted, raises}
+use Rattle.json_shape.specs.Operations.{dotted}
 use Rattle.json_shape.specs.Members.{is_mach, head_key, head_word}
 use Rattle.json_shape.specs.Replies.{raise_name, given_members, behind_members, answer_members, word, refusal_says, refusal_json, refused_members, outcome_members, reply_json}
 use Rattle.json_shape.specs.Requests.{head_json, request_json}

@@ -17,10 +17,11 @@ use Rattle.pres.specs.declared.ops.Op.{Op}
 use Rattle.pres.specs.Bindings.{Binding}
 use Rattle.pres.specs.Faces.{Face, at}
 use Rattle.pres.specs.Offers.{Offer, offer_at}
+use Rattle.pres.specs.Raises.{raises}
 use Rattle.serde_json.specs.Data.{Data, Members, no_members, string, object, put}
 use Rattle.serde_json.specs.Written.{compact_text}
 use Rattle.json_shape.specs.Members.{head_key, head_word}
-use Rattle.json_shape.specs.Operations.{dotted, raises, replying}
+use Rattle.json_shape.specs.Operations.{dotted, replying}
 use Rattle.json_shape.specs.Replies.{word, reply_with}
 use Rattle.json_shape.specs.Requests.{head_json, request_json}
 use Rattle.json_shape.specs.Texts.{text_of}

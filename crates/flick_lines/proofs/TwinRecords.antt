@@ -11,11 +11,12 @@ use Rattle.pres.specs.declared.ops.Op.{Op}
 use Rattle.pres.specs.Bindings.{Binding}
 use Rattle.pres.specs.Faces.{Face, at}
 use Rattle.pres.specs.Offers.{Offer, offer_at}
+use Rattle.pres.specs.Raises.{sources, raises}
 use Rattle.serde_json.specs.Data.{Data}
 use Rattle.json_shape.specs.declared.errors.RecordErr.{RecordErr}
 use Rattle.json_shape.specs.declared.errors.RecordErr.TheVariants as errors
 use Rattle.json_shape.specs.Members.{is_mach, head_key, number_at, list_at, text_at}
-use Rattle.json_shape.specs.Operations.{dotted, op_from, op_named, if_replying, replying, sources, is_oneway, raises}
+use Rattle.json_shape.specs.Operations.{dotted, op_from, op_named, if_replying, replying, is_oneway}
 use Rattle.json_shape.specs.Records.{Begun}
 use Rattle.json_shape.specs.Replies.{is_reply, reply_tree, told_of, answered_of, reply_of}
 use Rattle.json_shape.specs.Requests.{head_of, is_request, is_unanswered, asked, asked_of, request_of}

@@ -11,7 +11,7 @@ use Rattle.aoi.specs.Plain.{PlainRaise}
 use Rattle.pres.specs.declared.ops.Op.{Op}
 use Rattle.pres.specs.Bindings.{Binding}
 use Rattle.pres.specs.Faces.{Face, face_at}
-use Rattle.json_shape.specs.Operations.{raises}
+use Rattle.pres.specs.Raises.{raises}
 use Rattle.json_shape.specs.Replies.{outcome_members, reply_with, reply_json, IsOutcome}
 use Rattle.json_shape.specs.Requests.{request_json}
 use Rattle.flick_engine.specs.declared.errors.MessageErr.{MessageErr}

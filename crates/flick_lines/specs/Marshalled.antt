@@ -21,7 +21,7 @@ use Rattle.flick_engine.specs.Replies.{reply_message}
 abbrev pub tree_of : List ℕ → Option Data
 tree_of line = if utf8_valid_len line == length line then read line else None
 
--- why a record is none, or has no value
+-- the refusal of a line whose record is none, or has no value
 abbrev pub record_refusal : RecordErr → List ℕ
 record_refusal errors.Request = codes "! request"
 record_refusal errors.Op = codes "! op"

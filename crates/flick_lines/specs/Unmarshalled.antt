@@ -12,9 +12,10 @@ use Rattle.wire_def.specs.declared.fault.HeadErr.TheVariants as faults
 use Rattle.pres.specs.declared.ops.Op.{Op}
 use Rattle.pres.specs.Bindings.{Binding}
 use Rattle.pres.specs.Faces.{Face, face_at}
+use Rattle.pres.specs.Raises.{raises}
 use Rattle.aoi.specs.Plain.{PlainRaise}
 use Rattle.json_shape.specs.declared.errors.RecordErr.TheVariants as errors
-use Rattle.json_shape.specs.Operations.{raises, replying}
+use Rattle.json_shape.specs.Operations.{replying}
 use Rattle.json_shape.specs.Replies.{answer_members, refused_members, reply_with}
 use Rattle.json_shape.specs.Requests.{request_json}
 use Rattle.flick_engine.specs.declared.errors.MessageErr.{MessageErr}
@@ -23,7 +24,7 @@ use Rattle.flick_engine.specs.Received.{Asked, ReadCall}
 use Rattle.flick_engine.specs.RepliesReceived.{Came, answered, refused, Replied, ReadReply}
 use Rattle.flick_lines.specs.Marshalled.{record_refusal}
 
--- the name of a head's fault
+-- the word of a head's fault
 abbrev pub head_name : HeadErr → List ℕ
 head_name faults.Short = codes "Short"
 head_name faults.Magic = codes "Magic"
@@ -37,7 +38,7 @@ head_name faults.Cred = codes "Cred"
 head_name faults.Complex = codes "Complex"
 head_name faults.Item = codes "Item"
 
--- the name of a body's fault
+-- the word of a body's fault
 abbrev pub kind_name : FaultKind → List ℕ
 kind_name kinds.Short = codes "Short"
 kind_name kinds.OverBound = codes "OverBound"
@@ -46,7 +47,7 @@ kind_name kinds.BadPad = codes "BadPad"
 kind_name kinds.BadText = codes "BadText"
 kind_name kinds.BadItem = codes "BadItem"
 
--- why octets are no message of the binding
+-- the refusal of octets that are no message of the binding
 abbrev pub message_refusal : MessageErr → List ℕ
 message_refusal err.Long = codes "! long"
 message_refusal (err.Head e) = codes "! head " ++ head_name e

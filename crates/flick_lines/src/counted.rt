@@ -58,6 +58,7 @@ fn by_tree(
     }
 }
 
+/// The answer of `count` to a tree as a request record.
 fn of_tree(
     alloc: Global,
     engine: &Engine,

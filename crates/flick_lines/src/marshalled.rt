@@ -56,7 +56,7 @@ fn by_tree(
     }
 }
 
-/// The tree of a line, where it is JSON. Of what is no text none is read, and no memory is wanted.
+/// The tree of a line, where it is JSON. A line that is not UTF-8 has none, and takes no memory.
 pub fn tree_of(alloc: Global, line: &[u8]) -> Result<Option<Json>, NoMemory>
     ensures value { IfOk result (λ o. option_map view o ≡ tree_of line.now) }
     ensures memory { OnErr result (IsUtf8 line.now) }
@@ -75,6 +75,7 @@ pub fn tree_of(alloc: Global, line: &[u8]) -> Result<Option<Json>, NoMemory>
     }
 }
 
+/// The answer of `marshal` to a tree as a request record.
 fn of_tree(
     alloc: Global,
     engine: &Engine,

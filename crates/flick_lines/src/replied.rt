@@ -37,6 +37,7 @@ pub fn reply(
     }
 }
 
+/// The answer of `reply` to a tree as a reply record.
 fn of_tree(
     alloc: Global,
     engine: &Engine,

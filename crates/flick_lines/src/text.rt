@@ -5,7 +5,7 @@ ghost use Rattle.hex.specs.Hex.{encode_lower};
 use kit_base::{NoMemory, Octets};
 use std::alloc::Global;
 
-/// The same octets.
+/// The same octets, with space for a line feed after them.
 pub fn copied(alloc: Global, octets: &[u8]) -> Result<Octets, NoMemory>
     ensures { IfOk result (λ o. o ≡ octets.now) }
 {

@@ -67,7 +67,7 @@ fn by_tree(alloc: Global, engine: &Engine, request: &Request) -> Result<Vec<u8>,
     Ok(record.to_vec(alloc)?)
 }
 
-/// Why octets are not a message.
+/// The refusal of octets that are not a message.
 pub(crate) fn refusal_text(alloc: Global, refusal: MessageErr) -> Result<String, NoMemory>
     ensures told { IfOk result (λ s. string_bytes s ≡ message_refusal refusal) }
     ensures memory { OnOk result (refusal ≢ MessageErr.NoMemory) }
@@ -88,6 +88,7 @@ pub(crate) fn refusal_text(alloc: Global, refusal: MessageErr) -> Result<String,
     Ok(text)
 }
 
+/// The word of a head's fault.
 fn head_name(fault: HeadErr) -> &'static str
     ensures { result.now ≡ head_name fault }
 {
@@ -106,6 +107,7 @@ fn head_name(fault: HeadErr) -> &'static str
     }
 }
 
+/// The word of a body's fault.
 fn kind_name(kind: FaultKind) -> &'static str
     ensures { result.now ≡ kind_name kind }
 {

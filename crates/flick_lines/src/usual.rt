@@ -10,7 +10,7 @@ use json_shape::{RequestRec, Scratch, usual_request};
 use kit_base::NoMemory;
 use std::alloc::Global;
 
-/// The request of a line in the usual form; none says nothing of the line.
+/// The request of a line in the usual form. `None` says nothing of the line, which may have a request all the same.
 pub(crate) fn usual_of(
     alloc: Global,
     engine: &Engine,

@@ -1,4 +1,4 @@
--- Without faults and with little input the work is done, unless there is no memory.
+-- Without faults and with little input the work is done, unless memory runs out.
 use Rattle.std.proofs.Common.{◌≡◌, inl, inr, ℕ, List, ◌++◌, length, refl, ap, subst, arith, lit≤, length-append}
 use Rattle.std.specs.Prelude.{Some, None}
 use Rattle.std.specs.Io.KnownBytes.{Consumes}

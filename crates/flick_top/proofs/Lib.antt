@@ -1,12 +1,12 @@
 -- The proofs, each after those that it uses; * marks those that the proofs of functions use.
 
--- * Without faults and with little input the work is done, unless there is no memory
+-- * Without faults and with little input the work is done, unless memory runs out
 pub mod Completing
 -- * A line has one answer
 pub mod Determined
 -- * One more line is answered
 pub mod Turning
--- * Whatever ends a run, a front of the defined output was written
+-- * Whatever ends a run, a prefix of the defined output was written
 pub mod Prefix
 -- * What becomes of the buffer over the lines that were answered is what becomes of it over the input's
 pub mod Passing

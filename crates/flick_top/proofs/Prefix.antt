@@ -1,4 +1,4 @@
--- Whatever ends a run, a front of the defined output was written.
+-- Whatever ends a run, a prefix of the defined output was written.
 use Rattle.std.proofs.Common.{◌≡◌, ℕ, false, List, [], ◌∷◌, ◌++◌, sym, ◌∙◌, ap, subst, append_assoc, ◌<◌, ◌≤◌, length, arith}
 use Rattle.std.specs.Prelude.{Option, Some, None}
 use Rattle.std.specs.Io.KnownBytes.{Appends, Consumes}
@@ -10,7 +10,7 @@ use Rattle.kit_base.proofs.Cutting.{advances-trans}
 use Rattle.flick_top.proofs.Turning.{answers-push}
 use Rattle.flick_top.specs.Answer.{Answering, answers}
 
--- a front of these octets was appended
+-- a prefix of these octets was appended
 abbrev pub WroteFront : Option (List ℕ) → Option (List ℕ) → List ℕ → Type 0
 WroteFront held held' octets = (front : List ℕ) × (rest : List ℕ) × (octets ≡ front ++ rest) × Appends held held' front
 
@@ -51,13 +51,13 @@ front-answers input before after s t ls f held held' n most new told advances kn
     (wrote-answers input before after s t ls f held held' told (ap (λ (r : State). r.kept) new) (ap (λ (r : State). r.skips) new)
     advances knows wrote)
 
--- a front of a front and what follows it
+-- a prefix of a prefix and what follows it
 pub front-part : (held held' : Option (List ℕ)) (whole done more : List ℕ) → WroteFront held held' done → (x : List ℕ) → whole ≡ done ++ x
     → WroteFront held held' whole
 front-part held held' whole done more (front, rest, e, wrote) x w =
     (front, rest ++ x, w ∙ ap (λ (l : List ℕ). l ++ x) e ∙ append_assoc front rest x, wrote)
 
--- the answers so far, and a front of the next
+-- the answers so far, and a prefix of the next
 pub front-next : (held held' held'' : Option (List ℕ)) (f : Answering) (ls : List Line) (line : Line) → Appends held held' (answers f ls)
     → WroteFront held' held'' (f line)
     → WroteFront held held'' (answers f (ls ++ line ∷ []))
@@ -75,7 +75,7 @@ front_split input before (Some rest) s t ls f told kept skips advances knows =
     let split = ap (answers f) (lines-split input rest s t ls kept skips moved knows) in
     (answers f (pending t rest), split ∙ flat_map-append f ls (pending t rest))
 
--- a write that failed wrote a front of its line
+-- a write that failed wrote a prefix of its line
 pub front-failed : (input : List ℕ) (before now after : Option (List ℕ)) (s t u : State) (ls : List Line) (line : Line) (f : Answering)
     (held held' held'' : Option (List ℕ)) (n most : ℕ)
     → s ≡ fresh n most → before ≡ Some input

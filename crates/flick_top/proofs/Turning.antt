@@ -29,7 +29,7 @@ refuses-push f (l ∷ ls) line =
 pub answers-push : (f : Answering) (ls : List Line) (line : Line) → answers f (ls ++ line ∷ []) ≡ answers f ls ++ f line
 answers-push f ls line = flat_map-append f ls (line ∷ []) ∙ ap (λ (l : List ℕ). answers f ls ++ l) (append-nil (f line))
 
--- whatever answers the lines of a job, these were written for lines, and that one is a refusal was told
+-- whatever answers the lines of a job, these were written for lines, and that one is a refusal was reported
 abbrev pub AreWritten : Job → List Line → Option (List ℕ) → Option (List ℕ) → Bool → Type 0
 AreWritten job ls held held' refused = (f : Answering) → IsAnswering job f → Appends held held' (answers f ls) × (refused ≡ refuses f ls)
 

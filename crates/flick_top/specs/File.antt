@@ -51,7 +51,7 @@ pub record IsOver (u : PlainUnit) (k : Back) (b : Binding) : Type 0 where
   pub back : b.back ≡ k
   pub nodes : faces b.nodes b.shapes ≡ all_made u k
 
--- a unit that has this reason against it; or else the engine that is told is over its binding, and these are its codes
+-- a unit that has this reason against it; or else the engine that is given is over its binding, and these are its codes
 abbrev pub BindSays : List Stub → PlainUnit → Back → Option BindErr → Told → Type 0
 BindSays codes u back (Some e) told = told ≡ Err (Bind e)
 BindSays codes u back None told = IsOkAnd told (λ e. IsOver u back e.binding × (e.stubs ≡ codes))

@@ -49,7 +49,7 @@ answering_task text job = record { text = text; status = Done; lines = Some job;
 abbrev pub writing_task : List ℕ → Option Coded → Task
 writing_task text idle = record { text = text; status = Done; lines = None; idle = idle }
 
--- what words without a shape come to
+-- what words come to that name no command
 abbrev pub shapeless_task : Task
 shapeless_task = record { text = []; status = Usage; lines = None; idle = None }
 
@@ -134,6 +134,7 @@ EndsInput lines left' status = lines ≢ None → status ≤ 1 → IsAtEnd left'
 
 -- ---- what is written
 
+-- what is written, and the status
 pub record Out : Type 0 where
   pub octets : List ℕ
   pub status : ℕ

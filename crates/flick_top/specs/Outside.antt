@@ -25,7 +25,7 @@ abbrev pub ended_part : List ℕ → List ℕ
 ended_part [] = []
 ended_part (x ∷ xs) = if has_end (x ∷ xs) then x ∷ ended_part xs else []
 
--- the shelf failed or there was no memory before there was a task, nothing was taken, and nothing was written
+-- the shelf failed or memory ran out, nothing was taken, and nothing was written: so it is where there was no task
 abbrev pub Fails : Input → Input → Held → Held → ℕ → Type 0
 Fails left left' held held' status = ((status ≡ 6) ⊎ (status ≡ 7)) × Consumes left left' [] × Appends held held' []
 

@@ -12,7 +12,7 @@ use Rattle.flick_top.specs.declared.saying.Saying.TheVariants.{Help, Version, No
 use Rattle.flick_top.specs.declared.status.Status.{Status}
 use Rattle.flick_top.specs.declared.status.Status.TheVariants.{Done, File}
 
--- the name of a fault of a text
+-- the word of a fault of a text
 abbrev pub lex_name : LexErr → List ℕ
 lex_name (lex.BadOctet at) = codes "BadOctet"
 lex_name (lex.OpenComment at) = codes "OpenComment"
@@ -20,7 +20,7 @@ lex_name (lex.Wide at) = codes "Wide"
 lex_name (lex.Directive at) = codes "Directive"
 lex_name lex.NoMemory = codes "NoMemory"
 
--- the place of a fault of a text
+-- the octet at which a text has its fault, counted from 0
 abbrev pub place_of : LexErr → ℕ
 place_of (lex.BadOctet at) = at
 place_of (lex.OpenComment at) = at
@@ -28,7 +28,7 @@ place_of (lex.Wide at) = at
 place_of (lex.Directive at) = at
 place_of lex.NoMemory = 0
 
--- the name of a fault of a name
+-- the word of a fault of a name
 abbrev pub name_name : NameFault → List ℕ
 name_name name.Unknown = codes "Unknown"
 name_name name.Twice = codes "Twice"
@@ -43,7 +43,7 @@ name_name name.Oneway = codes "Oneway"
 name_name name.Port = codes "Port"
 name_name name.NoMemory = codes "NoMemory"
 
--- the name of a reason why a unit is not bound
+-- the word of a reason why a unit is not bound
 abbrev pub bind_name : BindErr → List ℕ
 bind_name bind.Raises = codes "Raises"
 bind_name bind.Many = codes "Many"

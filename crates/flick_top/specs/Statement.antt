@@ -12,12 +12,12 @@ use Rattle.flick_top.specs.Made.{codes_of, LeavesEngine}
 use Rattle.flick_top.specs.Output.{Files, Out, out_of, Does, LeavesInput, EndsInput}
 use Rattle.flick_top.specs.Outside.{Input, Held, ended_part, Fails}
 
--- a status of 0 to 3 is that of the output, and exactly its octets were appended, whatever counts rose
+-- a status of 0 to 3 is that of the output, and exactly its octets were appended, whatever counts of faults rose
 abbrev pub Writes : (List ℕ → Out) → Input → Held → Held → ℕ → Type 0
 Writes over left held held' status =
     status ≤ 3 → (input : List ℕ) → left ≡ Some input → (status ≡ (over input).status) × Appends held held' (over input).octets
 
--- whatever the status, a front of the output was appended
+-- whatever the status, a prefix of the output was appended
 abbrev pub WritesFront : (List ℕ → Out) → Input → Held → Held → Type 0
 WritesFront over left held held' = (input : List ℕ) → left ≡ Some input
     → (front : List ℕ) × (rest : List ℕ) × ((over input).octets ≡ front ++ rest) × Appends held held' front
@@ -45,7 +45,7 @@ abbrev pub Leaves : Option Coded → List (List ℕ) → Files → Input → Inp
 Leaves made words files left left' held held' status =
     Fails left left' held held' status ⊎ LeavesEngine made (command_of words) words files
 
--- status 2 comes exactly where the words have no shape
+-- status 2 comes exactly where the words name no command
 abbrev pub IsUsage : List (List ℕ) → ℕ → Type 0
 IsUsage words status = (status ≡ 2) ↔ (command_of words ≡ None)
 
@@ -61,7 +61,7 @@ WritesNothing held held' status = (status ≡ 2) ⊎ (status ≡ 6) → Appends 
 abbrev pub TakesMore : Input → Input → ℕ → Type 0
 TakesMore left left' status = status ≡ 8 → (taken : List ℕ) × Consumes left left' taken × (most_input < length taken)
 
--- no more was taken with any status up to 6
+-- with any status up to 6 at most the greatest input was taken
 abbrev pub TakesAtMost : Input → Input → ℕ → Type 0
 TakesAtMost left left' status = status ≤ 6 → (taken : List ℕ) × Consumes left left' taken × (length taken ≤ most_input)
 

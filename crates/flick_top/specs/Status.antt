@@ -3,6 +3,7 @@ use Rattle.std.specs.Prelude.{ℕ}
 use Rattle.flick_top.specs.declared.status.Status.{Status}
 use Rattle.flick_top.specs.declared.status.Status.TheVariants.{Done, Refused, Usage, File, Source, Sink, Shelf, Memory, Length}
 
+-- the number of a way to end, as the status of the process
 abbrev pub number_of : Status → ℕ
 number_of Done = 0
 number_of Refused = 1

@@ -12,7 +12,7 @@ pub record IsReady (task : Task) : Type 0 where
   pub ends : (task.status ≡ Done) ⊎ (task.status ≡ File)
   pub whole : AreWholeLines task.text
 
--- how the work ends
+-- how the work ends where the input cannot be read on
 abbrev pub status_at : LineErr → Status
 status_at errors.Failed = Source
 status_at errors.NoMemory = Memory

@@ -40,7 +40,7 @@ const LONGEST_REPLIES: u32 = 8_388_608;
 pub enum TaskErr {
     /// The shelf failed.
     Shelf,
-    /// No memory was there.
+    /// Memory ran out.
     NoMemory,
 }
 
@@ -170,7 +170,7 @@ fn acting<F: Shelf>(
 }
 
 /// To serve by the replies of the file at a path, or what is said instead. One octet more than the greatest
-/// length tells a longer one.
+/// length is read, which shows that a file is longer.
 fn serving<F: Shelf>(
     alloc: Global,
     engine: Engine,
@@ -261,7 +261,7 @@ fn engine_at<F: Shelf>(
 }
 
 /// The unit of the file at a path, or what is said instead. One octet more than the greatest
-/// length tells a longer one.
+/// length is read, which shows that a file is longer.
 fn unit_at<F: Shelf>(
     alloc: Global,
     front: Front,

@@ -72,6 +72,7 @@ fn named(error: NameErr) -> Result<Result<Unit, Saying>, NoMemory>
 
 // ---- files in the ONC RPC language
 
+/// The unit of the tokens of an ONC file, or what is said instead.
 fn onc_tokens(alloc: Global, tokens: &Tokens) -> Result<Result<Unit, Saying>, NoMemory>
     ensures says { IfOk result (λ read. OncTokensSay tokens.now (plainly read)) }
     ensures sound { IfOk result IsSoundly }
@@ -84,6 +85,7 @@ fn onc_tokens(alloc: Global, tokens: &Tokens) -> Result<Result<Unit, Saying>, No
     }
 }
 
+/// The unit of the tree of an ONC file, or what is said instead.
 fn onc_tree(alloc: Global, tree: &onc_syntax::Tree) -> Result<Result<Unit, Saying>, NoMemory>
     requires { OncIsWhole tree.now }
     ensures says { IfOk result (λ read. plainly read ≡ in_words (onc_resolved tree.now)) }
@@ -97,6 +99,7 @@ fn onc_tree(alloc: Global, tree: &onc_syntax::Tree) -> Result<Result<Unit, Sayin
 
 // ---- CORBA IDL files
 
+/// The unit of the tokens of a CORBA file, or what is said instead.
 fn corba_tokens(alloc: Global, tokens: &Tokens) -> Result<Result<Unit, Saying>, NoMemory>
     ensures says { IfOk result (λ read. CorbaTokensSay tokens.now (plainly read)) }
     ensures sound { IfOk result IsSoundly }
@@ -109,6 +112,7 @@ fn corba_tokens(alloc: Global, tokens: &Tokens) -> Result<Result<Unit, Saying>, 
     }
 }
 
+/// The unit of the tree of a CORBA file, or what is said instead.
 fn corba_tree(alloc: Global, tree: &corba_syntax::Tree) -> Result<Result<Unit, Saying>, NoMemory>
     requires { CorbaIsWhole tree.now }
     ensures says { IfOk result (λ read. plainly read ≡ in_words (corba_resolved tree.now)) }
@@ -122,6 +126,7 @@ fn corba_tree(alloc: Global, tree: &corba_syntax::Tree) -> Result<Result<Unit, S
 
 // ---- MIG files
 
+/// The unit of the tokens of a MIG file, or what is said instead.
 fn mig_tokens(alloc: Global, tokens: &Tokens) -> Result<Result<Unit, Saying>, NoMemory>
     ensures says { IfOk result (λ read. MigTokensSay tokens.now (plainly read)) }
     ensures sound { IfOk result IsSoundly }
@@ -133,6 +138,7 @@ fn mig_tokens(alloc: Global, tokens: &Tokens) -> Result<Result<Unit, Saying>, No
     }
 }
 
+/// The unit of the tree of a MIG file, or what is said instead.
 fn mig_tree(alloc: Global, tree: &mig_syntax::Tree) -> Result<Result<Unit, Saying>, NoMemory>
     ensures says { IfOk result (λ read. plainly read ≡ in_words (mig_resolved tree.now)) }
     ensures sound { IfOk result IsSoundly }

@@ -72,19 +72,19 @@ pub enum Saying {
     Version,
     /// The file is not there.
     NoFile,
-    /// The file has more octets than one may have.
+    /// The file has more than 1,048,576 octets.
     TooLarge,
-    /// The text of the file has no tokens.
+    /// The text of the file has no tokens: its first fault.
     Lex(LexErr),
     /// The tokens of the file have no tree; the line where the first definition that fails begins.
     Syntax(u32),
-    /// A name of the file is not resolved.
+    /// A name of the file is not resolved: the first fault, and the number of its declaration.
     Name(NameErr),
-    /// The unit of the file is not bound to the back end.
+    /// The unit of the file is not bound to the back end: the first reason.
     Bind(BindErr),
     /// The file of replies is not there.
     NoReplies,
-    /// The file of replies has more octets than one may have.
+    /// The file of replies has more than 8,388,608 octets.
     LargeReplies,
     /// A line of the file of replies gives no reply; its number, counted from 1.
     WrongReply(usize),
@@ -138,18 +138,21 @@ impl Saying {
     }
 }
 
+/// The line of a fault of a text.
 fn lex_text(alloc: Global, fault: LexErr) -> Result<String, NoMemory>
     ensures { IfOk result (λ s. string_bytes s ≡ said (Saying.Lex fault)) }
 {
     Ok(format!(in alloc; "? lex {} {}\n", lex_name(fault), place_of(fault))?)
 }
 
+/// The line of a name that is not resolved.
 fn name_text(alloc: Global, error: NameErr) -> Result<String, NoMemory>
     ensures { IfOk result (λ s. string_bytes s ≡ said (Saying.Name error)) }
 {
     Ok(format!(in alloc; "? name {} {}\n", name_name(error.fault), error.decl)?)
 }
 
+/// The word of a fault of a text.
 fn lex_name(fault: LexErr) -> &'static str
     ensures { result.now ≡ lex_name fault }
 {
@@ -162,6 +165,7 @@ fn lex_name(fault: LexErr) -> &'static str
     }
 }
 
+/// The octet at which a text has its fault, counted from 0.
 fn place_of(fault: LexErr) -> usize
     ensures { result ≡ place_of fault }
 {
@@ -172,6 +176,7 @@ fn place_of(fault: LexErr) -> usize
     }
 }
 
+/// The word of a fault of a name.
 fn name_name(fault: NameFault) -> &'static str
     ensures { result.now ≡ name_name fault }
 {
@@ -191,6 +196,7 @@ fn name_name(fault: NameFault) -> &'static str
     }
 }
 
+/// The word of a reason why a unit is not bound.
 fn bind_name(reason: BindErr) -> &'static str
     ensures { result.now ≡ bind_name reason }
 {

@@ -8,9 +8,9 @@ pub enum Status {
     Done = 0,
     /// The work was done, and an answer is a refusal.
     Refused = 1,
-    /// The words have no shape.
+    /// The words name no command.
     Usage = 2,
-    /// The file is not there or was refused.
+    /// A file is not there or was refused.
     File = 3,
     /// The source failed.
     Source = 4,
@@ -18,9 +18,9 @@ pub enum Status {
     Sink = 5,
     /// The shelf failed.
     Shelf = 6,
-    /// There was no memory.
+    /// Memory ran out.
     Memory = 7,
-    /// The source gave more octets than a call takes.
+    /// The source gave more than 1,073,741,824 octets.
     Length = 8,
 }
 

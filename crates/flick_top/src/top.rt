@@ -20,7 +20,8 @@ use std::alloc::Global;
 ///
 /// The words are those of a command line without the program's name. Messages are made in `buf`,
 /// which may hold anything. Each answer is written as a whole, with its line feed. The engine of a
-/// command over a back end is left in `made`, which may hold anything before.
+/// command over a back end is left in `made`, which may hold anything before; what is left there where
+/// no engine was made is not said.
 pub fn flick<F: Shelf, S: Source, K: Sink>(
     alloc: Global,
     words: &Words,
@@ -63,7 +64,7 @@ pub fn flick<F: Shelf, S: Source, K: Sink>(
     ensures spends { (files : Files) → F.files shelf.old ≡ Some files
         → SpendsBuf made.new words.now files (S.left input.old) buf.old buf.new result }
     ensures spent { NoneFell buf.old.spent buf.new.spent }
-    // What holds of each answer.
+    // Which statuses there are.
     ensures range { result ≤ 8 }
 {
     let Some(command) = command_of(words) else {

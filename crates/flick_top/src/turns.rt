@@ -142,6 +142,7 @@ fn status_at(error: LineErr) -> Status
     }
 }
 
+/// Whether one of the two holds.
 fn either(a: bool, b: bool) -> bool
     ensures { result ≡ (a || b) }
 {

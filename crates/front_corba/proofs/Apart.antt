@@ -1,4 +1,4 @@
--- The interfaces of a file are no twins in its unit, by induction on the interfaces.
+-- The interfaces of a file are not twins in its unit, by induction on the interfaces.
 use Rattle.std.proofs.Common.{◌≡◌, ℕ, ◌+◌, ◌<◌, Bool, true, false, not, ◌&&◌, ◌||◌, ◌==◌, List, [], ◌∷◌, ◌++◌, map, refl, sym, subst, ◌∙◌, arith}
 use Rattle.std.specs.List.{list_any}
 use Rattle.std.specs.Str.{bytes_eq}

@@ -12,7 +12,7 @@ pub mod Growing
 pub mod Offering
 -- Every definition keeps what makes a unit sound, by induction on the depth of modules and the definitions
 pub mod Keeping
--- The interfaces of a file are no twins in its unit, by induction on the interfaces
+-- The interfaces of a file are not twins in its unit, by induction on the interfaces
 pub mod Apart
 -- * The interfaces of a file have room in its unit, by induction on the interfaces
 pub mod Room

@@ -33,6 +33,7 @@ RequestStops r =
     StopsInOrder (SequenceSpells r) (SequenceStops r) (λ key.
     StopsInOrder (StringSpells r) (StringStops r) (λ name. SequenceStops r)))))
 
+-- the fields of a request, read from a position
 unfoldable pub read_request : Order → Reader HeadErr Request
 read_request r p o = map_got (λ x. record { id = x.1.0; wants = x.1.1.0; key = x.1.1.1.0; name = x.1.1.1.1.0 })
     (both (pass_contexts r) (λ contexts. both (read_long r) (λ id. both read_flag (λ wants.
@@ -49,11 +50,13 @@ SearchSpells r n p0 o0 s =
     Parts p0 o0 (λ a. LongSpells r p0 a s.id) (λ p1 o1.
     Parts p1 o1 (λ a. SequenceSpells r p1 a s.key) (λ p2 o2. EndSpells n p2 o2 tt))
 
+-- the first of these fields that is cut off, or octets that follow
 abbrev pub SearchStops : Order → ℕ → Stopping HeadErr
 SearchStops r n =
     StopsInOrder (LongSpells r) LongStops (λ id.
     StopsInOrder (SequenceSpells r) (SequenceStops r) (λ key. EndStops n))
 
+-- the fields of a search, read from a position
 unfoldable pub read_search : Order → ℕ → Reader HeadErr Search
 read_search r n p o = map_got (λ x. record { id = x.0; key = x.1.0 })
     (both (read_long r) (λ id. both (read_sequence r) (λ key. read_end n)) p o)
@@ -75,13 +78,16 @@ abbrev pub AskedStops : ℕ → Order → ℕ → Stopping HeadErr
 AskedStops n r zero = RequestStops r
 AskedStops n r (suc m) = SearchStops r n
 
+-- a header that stops, or a field of its type
 abbrev pub CallStops : ℕ → Stopping HeadErr
 CallStops n = StopsInOrder (HeaderSpells Asks n) (HeaderStops Asks n) (λ h. AskedStops n h.order h.message_type)
 
+-- the fields of this type, read after the header
 abbrev pub read_asked : ℕ → Order → ℕ → Reader HeadErr Call
 read_asked n r zero p o = map_got (request r) (read_request r p o)
 read_asked n r (suc m) p o = map_got (search_for r) (read_search r n p o)
 
+-- a header and the fields of its type, read from a position
 abbrev pub read_head_of_call : ℕ → Reader HeadErr Call
 read_head_of_call n p o = map_got (λ x. x.1) (both (read_header Asks n) (λ h. read_asked n h.order h.message_type) p o)
 
@@ -97,9 +103,11 @@ abbrev pub OrderedSpells : ℕ → Spelling Ordered
 OrderedSpells n p o x = Parts p o (λ a. HeaderSpells Requests n p a (record { order = x.order; message_type = 0 }))
     (λ p1 o1. RequestSpells x.order p1 o1 x.request)
 
+-- a header that stops, or a field of a request
 abbrev pub OrderedStops : ℕ → Stopping HeadErr
 OrderedStops n = StopsInOrder (HeaderSpells Requests n) (HeaderStops Requests n) (λ h. RequestStops h.order)
 
+-- a header and the fields of a request, read from a position
 abbrev pub read_head_of_request : ℕ → Reader HeadErr Ordered
 read_head_of_request n p o = map_got (λ x. record { order = x.0.order; request = x.1 })
     (both (read_header Requests n) (λ h. read_request h.order) p o)

@@ -26,6 +26,7 @@ has_version o = slice_index o 4 == 1 && slice_index o 5 == 0
 abbrev pub has_order : List ℕ → Bool
 has_order o = nat_le (slice_index o 6) 1
 
+-- the order of an octet: 0 is big, any other little
 abbrev pub order_of : ℕ → Order
 order_of zero = Big
 order_of (suc n) = Little
@@ -40,6 +41,7 @@ expected Replies n = n == 1
 abbrev pub size_in : List ℕ → ℕ
 size_in o = octets_number (laid (order_of (slice_index o 6))) w32 (take 4 (drop 8 o))
 
+-- what a header says of order and type
 abbrev pub header_of : List ℕ → Heading
 header_of o = record { order = order_of (slice_index o 6); message_type = slice_index o 7 }
 
@@ -70,5 +72,6 @@ abbrev pub given : Result Heading HeadErr → Reader HeadErr Heading
 given (Ok h) p o = got h p o
 given (Err k) p o = stop k p
 
+-- the header of a message of so many octets, read from a position
 unfoldable pub read_header : Way → ℕ → Reader HeadErr Heading
 read_header w n p o = map_got (λ x. x.1) (both (read_body 12) (λ x. given (judged w n x)) p o)

@@ -20,6 +20,7 @@ laid Little = CdrLittle
 
 -- ---- unsigned longs: four octets, the first at a multiple of 4, after octets of any content
 
+-- an unsigned long and its number
 abbrev pub LongSpells : Order → Spelling ℕ
 LongSpells r = WordSpells (laid r) 4 w32
 
@@ -32,6 +33,7 @@ abbrev pub or_short : {A : Type 0} → Reading FaultKind A → Reading HeadErr A
 or_short (got x p o) = got x p o
 or_short (stop k at) = stop Short at
 
+-- an unsigned long, read from a position
 unfoldable pub read_long : Order → Reader HeadErr ℕ
 read_long r p o = or_short (read_word (laid r) 4 w32 p o)
 
@@ -47,26 +49,32 @@ long_place p = p + gap p 4
 abbrev pub PassSpells : Order → ℕ → Spelling ℕ
 PassSpells r m = TestedSpells (LongSpells r) (up_to m)
 
+-- a number that is cut off, or above the greatest
 abbrev pub PassStops : Order → ℕ → Stopping HeadErr
 PassStops r m = TestedStops (LongSpells r) LongStops (up_to m) Item long_place
 
+-- a number up to the greatest, read from a position
 abbrev pub read_pass : Order → ℕ → Reader HeadErr ℕ
 read_pass r m = tested (read_long r) (up_to m) Item long_place
 
 -- ---- booleans: an octet 0 or 1
 
+-- the octet of a boolean
 abbrev pub flag : Bool → ℕ
 flag false = 0
 flag true = 1
 
+-- a boolean and its octet
 abbrev pub FlagSpells : Spelling Bool
 FlagSpells p o b = o ≡ flag b ∷ []
 
+-- no octet, or one above 1
 unfoldable pub FlagStops : Stopping HeadErr
 FlagStops p [] k at = (k ≡ Short) × (at ≡ p)
 FlagStops p (suc (suc b) ∷ o) k at = (k ≡ Item) × (at ≡ p)
 FlagStops p (b ∷ o) k at = ⊥
 
+-- a boolean, read from a position
 unfoldable pub read_flag : Reader HeadErr Bool
 read_flag p [] = stop Short p
 read_flag p (zero ∷ o) = got false (p + 1) o
@@ -75,12 +83,15 @@ read_flag p (suc (suc b) ∷ o) = stop Item p
 
 -- ---- sequences of octets: their number, and they
 
+-- a sequence and its octets
 abbrev pub SequenceSpells : Order → Spelling (List ℕ)
 SequenceSpells r p o s = Parts p o (λ a. LongSpells r p a (length s)) (λ q b. b ≡ s)
 
+-- a sequence that is cut off
 abbrev pub SequenceStops : Order → Stopping HeadErr
 SequenceStops r = StopsInOrder (LongSpells r) LongStops BodyStops
 
+-- a sequence, read from a position
 unfoldable pub read_sequence : Order → Reader HeadErr (List ℕ)
 read_sequence r p o = map_got (λ x. x.1) (both (read_long r) read_body p o)
 
@@ -90,6 +101,7 @@ read_sequence r p o = map_got (λ x. x.1) (both (read_long r) read_body p o)
 abbrev pub HasNoZero : List ℕ → Type 0
 HasNoZero s = AllByRecursion (λ b. 0 < b) s
 
+-- a string and its octets
 abbrev pub StringSpells : Order → Spelling (List ℕ)
 StringSpells r p o s = Parts p o (λ a. LongSpells r p a (suc (length s))) (λ q b. (b ≡ s ++ (0 ∷ [])) × HasNoZero s)
 
@@ -104,16 +116,20 @@ is_ended (suc b ∷ o) = is_ended o
 abbrev pub StringStops : Order → Stopping HeadErr
 StringStops r = StopsInOrder (LongSpells r) LongStops (λ n. TestedStops (BodySpells n) (BodyStops n) is_ended Text (λ p. p))
 
+-- a string without the 0 at its end, read from a position
 unfoldable pub read_string : Order → Reader HeadErr (List ℕ)
 read_string r p o = map_got (λ x. take (x.0 - 1) x.1) (both (read_long r) (λ n. tested (read_body n) is_ended Text (λ p. p)) p o)
 
 -- ---- the end of a message of so many octets
 
+-- no octets, at the message's end
 abbrev pub EndSpells : ℕ → Spelling (Unit {0})
 EndSpells n p o x = (o ≡ []) × (p ≡ n)
 
+-- a position that is not the message's end
 abbrev pub EndStops : ℕ → Stopping HeadErr
 EndStops n p o k at = ((p == n) ≡ false) × (k ≡ Size) × (at ≡ p)
 
+-- the end, read from a position
 abbrev pub read_end : ℕ → Reader HeadErr (Unit {0})
 read_end n p o = if p == n then got tt p o else stop Size p

@@ -30,6 +30,7 @@ then_string r s o = then_long r (suc (length s)) o ++ s ++ (0 ∷ [])
 
 -- ---- the header
 
+-- the octet of an order in the header
 abbrev pub order_octet : Order → ℕ
 order_octet Big = 0
 order_octet Little = 1

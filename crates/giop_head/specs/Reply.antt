@@ -41,6 +41,7 @@ ReplySpells n p0 o0 y =
 
 -- ---- where it stops
 
+-- the first field of a system exception that is cut off or wrong
 abbrev pub SystemStops : Order → Stopping HeadErr
 SystemStops r =
     StopsInOrder (StringSpells r) (StringStops r) (λ s.
@@ -56,14 +57,17 @@ StatusStops r _ p o k at = SystemStops r p o k at
 abbrev pub FateStops : Order → Stopping HeadErr
 FateStops r = StopsInOrder (PassSpells r 2) (PassStops r 2) (StatusStops r)
 
+-- the first field after the header that is cut off or wrong
 abbrev pub FieldsStop : Order → Stopping HeadErr
 FieldsStop r = StopsInOrder (ContextsSpell r) (ContextsStop r) (λ contexts. StopsInOrder (LongSpells r) LongStops (λ id. FateStops r))
 
+-- a header that stops, or a field after it
 abbrev pub ReplyStops : ℕ → Stopping HeadErr
 ReplyStops n = StopsInOrder (HeaderSpells Replies n) (HeaderStops Replies n) (λ h. FieldsStop h.order)
 
 -- ---- reading it
 
+-- a system exception, read from a position
 unfoldable pub read_system : Order → Reader HeadErr Fate
 read_system r p o = map_got (λ x. system x.0 x.1.0 x.1.1) (both (read_string r) (λ s. both (read_long r) (λ minor. read_pass r 2)) p o)
 
@@ -73,9 +77,11 @@ read_status r zero p o = got answer p o
 read_status r (suc zero) p o = map_got user (read_string r p o)
 read_status r (suc (suc n)) p o = read_system r p o
 
+-- how a request fared, read from its status on
 unfoldable pub read_fate : Order → Reader HeadErr Fate
 read_fate r p o = map_got (λ x. x.1) (both (read_pass r 2) (read_status r) p o)
 
+-- the head of a reply, read from a position
 abbrev pub read_head_of_reply : ℕ → Reader HeadErr Reply
 read_head_of_reply n p o = map_got (λ x. record { order = x.0.order; id = x.1.1.0; fate = x.1.1.1 })
     (both (read_header Replies n) (λ h. both (pass_contexts h.order) (λ contexts. both (read_long h.order) (λ id. read_fate h.order))) p o)

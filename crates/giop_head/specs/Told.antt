@@ -27,6 +27,7 @@ pub data ToldCall : Type 0 where
   requested : Head → List ℕ → List ℕ → ℕ → ToldCall
   sought : ℕ → List ℕ → ToldCall
 
+-- what is reported, with the octets in place of what is borrowed
 abbrev pub call_seen : GiopCall → ToldCall
 call_seen (calls.Request head key name used) = requested head key.now name.now used
 call_seen (calls.Locate id key) = sought id key.now
@@ -57,6 +58,7 @@ pub record ToldRequest : Type 0 where
   pub name : List ℕ
   pub used : ℕ
 
+-- the same of a request
 abbrev pub request_seen : GiopRequest → ToldRequest
 request_seen r = record { head = r.head; key = r.key.now; name = r.name.now; used = r.used }
 
@@ -88,6 +90,7 @@ fate_seen (User id) = Some (user id.now)
 fate_seen (System id minor completion) = Some (system id.now minor completion)
 fate_seen _ = None
 
+-- the same of a reply
 abbrev pub reply_seen : ReplyHead → ToldReply
 reply_seen r = record { head = r.head; fate = fate_seen r.status; used = r.used }
 

@@ -83,6 +83,7 @@ pub fn read_request(message: &[u8]) -> Result<GiopRequest<'_>, HeadErr>
     request_at(message.len(), at)
 }
 
+/// The head of a request, in a message of so many octets.
 fn request_at(total: usize, at: Cursor<'_>) -> Result<GiopRequest<'_>, HeadErr>
     ensures { seen_by request_seen result
         ≡ told request_told (read_head_of_request total at.entry.place at.entry.rest.now) }
@@ -97,6 +98,7 @@ fn request_at(total: usize, at: Cursor<'_>) -> Result<GiopRequest<'_>, HeadErr>
     })
 }
 
+/// The head of a message that asks, of so many octets.
 fn call_at(total: usize, at: Cursor<'_>) -> Result<GiopCall<'_>, HeadErr>
     ensures { seen_by call_seen result
         ≡ told call_told (read_head_of_call total at.entry.place at.entry.rest.now) }

@@ -12,8 +12,10 @@ use wire_def::{HeadErr, Order};
 /// The message types that heads of this crate have.
 const REQUEST: u8 = 0;
 
+/// The message type of replies.
 const REPLY: u8 = 1;
 
+/// The message type of searches for an object.
 const LOCATE: u8 = 3;
 
 /// Which messages are expected.
@@ -36,6 +38,7 @@ pub struct Heading {
     pub message_type: u8,
 }
 
+/// Whether a header begins with the letters GIOP.
 fn has_magic(octets: &[u8]) -> bool
     requires { length octets.now ≡ 12 }
     ensures { result ≡ heads.has_magic octets.now }
@@ -43,6 +46,7 @@ fn has_magic(octets: &[u8]) -> bool
     octets[0] == b'G' && octets[1] == b'I' && octets[2] == b'O' && octets[3] == b'P'
 }
 
+/// Whether its version is 1.0.
 fn has_version(octets: &[u8]) -> bool
     requires { length octets.now ≡ 12 }
     ensures { result ≡ heads.has_version octets.now }
@@ -50,6 +54,7 @@ fn has_version(octets: &[u8]) -> bool
     octets[4] == 1 && octets[5] == 0
 }
 
+/// Whether a message type is one that is read in this way.
 fn is_expected(way: Way, message_type: u8) -> bool
     ensures { result ≡ heads.expected way message_type }
 {
@@ -60,6 +65,7 @@ fn is_expected(way: Way, message_type: u8) -> bool
     }
 }
 
+/// The order of an octet: 0 is big, any other little.
 fn order_of(octet: u8) -> Order
     ensures { result ≡ heads.order_of octet }
 {

@@ -30,6 +30,7 @@ pub fn read_reply(message: &[u8]) -> Result<ReplyHead<'_>, HeadErr>
     reply_at(message.len(), at)
 }
 
+/// The head of a reply, in a message of so many octets.
 fn reply_at(total: usize, at: Cursor<'_>) -> Result<ReplyHead<'_>, HeadErr>
     ensures { seen_by reply_seen result
         ≡ told reply_told (read_head_of_reply total at.entry.place at.entry.rest.now) }

@@ -15,7 +15,7 @@ use mint::kind::Count;
 use mint::node::{Arms, Node};
 use mint::table::{Mint, NodeId};
 
-// The sum, which is a u32, or none where memory runs out.
+/// The sum, which is a u32, or none where memory runs out.
 fn plus(a: Option<u32>, b: Option<u32>) -> Result<Option<u32>, NoMemory>
     ensures { IfOk result (λ n. n ≡ plus a b) }
 {
@@ -31,7 +31,7 @@ fn plus(a: Option<u32>, b: Option<u32>) -> Result<Option<u32>, NoMemory>
     }
 }
 
-// So many times, by the greatest count.
+/// So many times, by the greatest count.
 fn times(count: Count, turn: Option<u32>) -> Result<Option<u32>, NoMemory>
     ensures { IfOk result (λ n. n ≡ times (most count) turn) }
 {
@@ -47,7 +47,7 @@ fn times(count: Count, turn: Option<u32>) -> Result<Option<u32>, NoMemory>
     }
 }
 
-// The most that operations on a number append.
+/// The most that operations on a number append.
 #[tactic(auto, using(crate::proofs::Nodes::nodes))]
 pub(crate) fn number_bound(ops: &SendOps) -> Result<Option<u32>, NoMemory>
     ensures { IfOk result (λ n. (s : Scalar) → n ≡ bound (scalar_type s) (code_seen ops.now)) }
@@ -120,7 +120,7 @@ fn op_bound(mint: &Mint, id: NodeId, op: &SendOp) -> Result<Option<u32>, NoMemor
     }
 }
 
-// The most that a loop over the part at a path appends.
+/// The most that a loop over the part at a path appends.
 #[cycle(bound)]
 #[tactic(auto, using(crate::proofs::Nodes::nodes))]
 pub(crate) fn loop_bound(
@@ -139,7 +139,7 @@ pub(crate) fn loop_bound(
     times(count, turn_bound(mint, id, path, body)?)
 }
 
-// The count of the list at a path.
+/// The count of the list at a path.
 fn count_at(mint: &Mint, id: NodeId, path: &Path) -> Option<Count>
     requires { id < length mint.now }
     ensures { result ≡ option_map (λ e. e.1) (element_at path.now (type_at mint.now id)) }
@@ -335,7 +335,7 @@ fn is_same(m: &i128, n: &i128) -> bool
     *m == *n
 }
 
-// The greater of two bounds.
+/// The greater of two bounds.
 fn greater(a: Option<u32>, b: Option<u32>) -> Option<u32>
     ensures { result ≡ greater a b }
 {

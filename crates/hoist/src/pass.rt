@@ -22,7 +22,7 @@ use mint::table::{Mint, NodeId};
 use std::alloc::Global;
 use storage_class::Classes;
 
-// Operations in their order, given from the last to the first.
+/// Operations in their order, given from the last to the first.
 fn in_order(alloc: Global, back: Vec<SendOp>) -> Result<SendOps, NoMemory>
     ensures { IfOk result (λ ops. ops ≡ reverse back.items) }
 {
@@ -59,7 +59,7 @@ pub(crate) fn hoist_ops(
     in_order(alloc, back)
 }
 
-// An operation before those that were visited.
+/// An operation before those that were visited.
 #[cycle(hoist)]
 fn hoist_op(
     alloc: Global,
@@ -119,7 +119,7 @@ fn hoist_op(
     }
 }
 
-// The body of a loop.
+/// The body of a loop.
 #[cycle(hoist)]
 fn each_body(
     alloc: Global,
@@ -152,7 +152,7 @@ fn each_body(
     }
 }
 
-// The body for a value that may be there.
+/// The body for a value that may be there.
 #[cycle(hoist)]
 fn some_body(
     alloc: Global,
@@ -185,7 +185,7 @@ fn some_body(
     }
 }
 
-// The bodies of a switch, and that of every other number.
+/// The bodies of a switch, and that of every other number.
 #[cycle(hoist)]
 fn switch_bodies(
     alloc: Global,
@@ -224,7 +224,7 @@ fn switch_bodies(
     }
 }
 
-// The bodies of arms, each by itself.
+/// The bodies of arms, each by itself.
 #[cycle(hoist)]
 fn hoist_cases(
     alloc: Global,
@@ -250,7 +250,7 @@ fn hoist_cases(
     Ok(bodies)
 }
 
-// The body of an arm.
+/// The body of an arm.
 #[cycle(hoist)]
 fn hoist_case(
     alloc: Global,
@@ -270,7 +270,7 @@ fn hoist_case(
     Ok((case.0, hoist_ops(alloc, mint, classes, arm.1, &case.1)?))
 }
 
-// The body of every other number.
+/// The body of every other number.
 #[cycle(hoist)]
 fn hoist_last(
     alloc: Global,

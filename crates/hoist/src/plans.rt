@@ -14,7 +14,7 @@ use kit_base::NoMemory;
 use mint::table::{Mint, NodeId};
 use storage_class::Classes;
 
-// The plan of what appends at most so many octets, if that is bounded.
+/// The plan of what appends at most so many octets, if that is bounded.
 fn small_plan(most: Option<u32>, k: u32) -> Plan
     ensures { (p : List ℕ) → plan_seen p result ≡ body_plan (is_small k) most }
 {

@@ -23,7 +23,7 @@ pub(crate) enum Role {
     Break,
 }
 
-// The greatest length of a node, if there is one.
+/// The greatest length of a node, if there is one.
 fn top_of(mint: &Mint, classes: &Classes, id: NodeId) -> Option<u32>
     requires id { id < length mint.now }
     requires classes { AreClasses mint.now classes.now }
@@ -32,7 +32,7 @@ fn top_of(mint: &Mint, classes: &Classes, id: NodeId) -> Option<u32>
     classes.span(id).top()
 }
 
-// Whether all values of a node have one length.
+/// Whether all values of a node have one length.
 fn is_fixed(mint: &Mint, classes: &Classes, id: NodeId) -> bool
     requires id { id < length mint.now }
     requires classes { AreClasses mint.now classes.now }
@@ -41,7 +41,7 @@ fn is_fixed(mint: &Mint, classes: &Classes, id: NodeId) -> bool
     matches!(classes.span(id), Span::Fixed(_))
 }
 
-// Whether what is of that length at most is small.
+/// Whether what is of that length at most is small.
 fn is_light(top: Option<u32>) -> bool
     ensures { result ≡ is_light top }
 {
@@ -51,7 +51,7 @@ fn is_light(top: Option<u32>) -> bool
     }
 }
 
-// The node of a field.
+/// The node of a field.
 #[tactic(auto, using(crate::proofs::Nodes::nodes))]
 fn field_node(mint: &Mint, id: NodeId, i: u32) -> Option<NodeId>
     requires { id < length mint.now }
@@ -67,7 +67,7 @@ fn field_node(mint: &Mint, id: NodeId, i: u32) -> Option<NodeId>
     }
 }
 
-// Whether a node on the way to the part at a path is small.
+/// Whether a node on the way to the part at a path is small.
 fn is_on_way(mint: &Mint, classes: &Classes, id: NodeId, path: &[u32]) -> bool
     requires id { id < length mint.now }
     requires classes { AreClasses mint.now classes.now }
@@ -85,7 +85,7 @@ fn is_on_way(mint: &Mint, classes: &Classes, id: NodeId, path: &[u32]) -> bool
     }
 }
 
-// Whether the elements of a part are of one length.
+/// Whether the elements of a part are of one length.
 fn is_alike(mint: &Mint, classes: &Classes, id: NodeId) -> bool
     requires id { id < length mint.now }
     requires classes { AreClasses mint.now classes.now }
@@ -106,7 +106,7 @@ fn is_alike(mint: &Mint, classes: &Classes, id: NodeId) -> bool
     }
 }
 
-// The least of lengths.
+/// The least of lengths.
 #[tactic(auto, using(crate::proofs::Least::lengths))]
 fn least(f: &[u32; 8]) -> u32
     ensures { result ≡ least f.now }
@@ -116,7 +116,7 @@ fn least(f: &[u32; 8]) -> u32
     low.min(high)
 }
 
-// One less than the least length of a part, where lengths are known, or than their bound.
+/// One less than the least length of a part, where lengths are known, or than their bound.
 fn weight_of(span: Span) -> u32
     ensures { result ≡ weight_of span }
 {
@@ -127,7 +127,7 @@ fn weight_of(span: Span) -> u32
     }
 }
 
-// What an operation over a part weighs where it is small.
+/// What an operation over a part weighs where it is small.
 fn small_length(mint: &Mint, classes: &Classes, part: Option<NodeId>) -> u32
     requires part { IfSome part (λ r. r < length mint.now) }
     requires classes { AreClasses mint.now classes.now }
@@ -139,7 +139,7 @@ fn small_length(mint: &Mint, classes: &Classes, part: Option<NodeId>) -> u32
     }
 }
 
-// What an operation over a part is that is not small.
+/// What an operation over a part is that is not small.
 fn role_of(mint: &Mint, classes: &Classes, part: Option<NodeId>) -> Role
     requires part { IfSome part (λ r. r < length mint.now) }
     requires classes { AreClasses mint.now classes.now }

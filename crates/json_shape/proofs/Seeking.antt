@@ -13,8 +13,9 @@ use Rattle.aoi.specs.Plain.{PlainOperation, PlainInterface, PlainUnit, plain, pl
 use Rattle.pres.specs.declared.ops.Op.{Op}
 use Rattle.pres.specs.Bindings.{Binding, IsBinding}
 use Rattle.pres.specs.Offers.{operations, gets_null, null_operation}
+use Rattle.pres.specs.Raises.{sources, sources_of}
 use Rattle.json_shape.specs.Homes.{homes, homes_from, Leads}
-use Rattle.json_shape.specs.Operations.{dotted, interface_name, op_from, op_named, sources, sources_of}
+use Rattle.json_shape.specs.Operations.{dotted, interface_name, op_from, op_named}
 use Rattle.json_shape.specs.Texts.{text_of}
 use Rattle.json_shape.proofs.Homes.{AreOf, are_of, bound_homes, count_within}
 

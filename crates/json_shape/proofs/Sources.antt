@@ -10,7 +10,8 @@ use Rattle.aoi.specs.declared.interfaces.Operation.{Operation}
 use Rattle.aoi.specs.declared.interfaces.Raise.{Raise}
 use Rattle.aoi.specs.Plain.{PlainOperation, plain_raise, plain_operation, plain_interface}
 use Rattle.pres.specs.Offers.{gets_null}
-use Rattle.json_shape.specs.Operations.{interface_name, sources}
+use Rattle.pres.specs.Raises.{sources}
+use Rattle.json_shape.specs.Operations.{interface_name}
 use Rattle.json_shape.specs.Replies.{raise_name}
 
 pub nothing_yet : (n : ℕ) → n ≡ n

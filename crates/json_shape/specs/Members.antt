@@ -17,6 +17,7 @@ each_key p (member k j ms) = p k && each_key p ms
 abbrev pub has_only : (List ℕ → Bool) → Data → Bool
 has_only p j = option_map_or (each_key p) (as_object j) false
 
+-- messages of Mach
 abbrev pub is_mach : Back → Bool
 is_mach back.Mach = true
 is_mach _ = false
@@ -41,33 +42,41 @@ abbrev pub head_number : Option Data → Option ℕ
 head_number None = Some 0
 head_number (Some j) = word_in j
 
--- the tests of members: a string; an array, an object or nothing
+-- ---- the tests of members
 
+-- a string
 abbrev pub is_text : Option Data → Bool
 is_text None = false
 is_text (Some j) = is_some (as_str j)
 
+-- an array, or nothing
 abbrev pub is_list : Option Data → Bool
 is_list None = true
 is_list (Some j) = is_some (as_array j)
 
+-- an object, or nothing
 abbrev pub is_table : Option Data → Bool
 is_table None = true
 is_table (Some j) = is_some (as_object j)
 
--- what a member is: of a string its octets; absent, the array or the object without members, or null
+-- ---- what members are, by their keys
 
+-- the text of a member; empty where it is none
 abbrev pub text_at : List ℕ → Data → List ℕ
 text_at k j = unwrap_or (option_and_then as_str (get k j)) (codes "")
 
+-- the head number of a member; 0 where it is none
 abbrev pub number_at : List ℕ → Data → ℕ
 number_at k j = unwrap_or (head_number (get k j)) 0
 
+-- a member; the empty array where it is absent
 abbrev pub list_at : List ℕ → Data → Data
 list_at k j = unwrap_or (get k j) (array no_items)
 
+-- a member; the object without members where it is absent
 abbrev pub table_at : List ℕ → Data → Data
 table_at k j = unwrap_or (get k j) (object no_members)
 
+-- a member; null where it is absent
 abbrev pub any_at : List ℕ → Data → Data
 any_at k j = unwrap_or (get k j) json.null

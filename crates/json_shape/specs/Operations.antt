@@ -2,11 +2,10 @@
 use Rattle.std.specs.Prelude.{Bool, false, ◌++◌, ℕ, suc, List, [], ◌∷◌, map, Option, Some, None, if◌then◌else◌, slice_index_or, codes}
 use Rattle.std.specs.Option.{option_map_or}
 use Rattle.std.specs.Str.{bytes_eq}
-use Rattle.wire_def.specs.declared.encoding.Back.{Back}
-use Rattle.aoi.specs.Plain.{PlainRaise, PlainOperation, PlainInterface}
+use Rattle.aoi.specs.Plain.{PlainInterface}
 use Rattle.pres.specs.declared.ops.Op.{Op}
 use Rattle.pres.specs.Bindings.{Binding}
-use Rattle.pres.specs.Offers.{gets_null}
+use Rattle.pres.specs.Raises.{source}
 use Rattle.json_shape.specs.Texts.{text_of}
 
 -- the name of an interface
@@ -35,22 +34,5 @@ if_replying (Some o) = if o.1.has_reply then Some o.0 else None
 abbrev pub replying : Binding → List ℕ → Option ℕ
 replying b name = if_replying (op_named b (text_of name))
 
--- the operations of an interface as its file has them, and none for a procedure that it gets
-abbrev pub sources_of : Back → PlainInterface → List (Option PlainOperation)
-sources_of b i = map (λ op. Some op) i.ops ++ (if gets_null b i then None ∷ [] else [])
-
--- those of all interfaces, in the order of the operations of the back end
-abbrev pub sources : Back → List PlainInterface → List (Option PlainOperation)
-sources b [] = []
-sources b (i ∷ is) = sources_of b i ++ sources b is
-
--- the operation of a number, as its file has it
-abbrev pub source : Binding → ℕ → Option PlainOperation
-source b k = slice_index_or (sources b.back b.unit.interfaces) k None
-
 abbrev pub is_oneway : Binding → ℕ → Bool
 is_oneway b k = option_map_or (λ op. op.oneway) (source b k) false
-
--- the exceptions of an operation
-abbrev pub raises : Binding → ℕ → List PlainRaise
-raises b k = option_map_or (λ op. op.raises) (source b k) []

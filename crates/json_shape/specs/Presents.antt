@@ -46,7 +46,7 @@ member_of name ms = get_member (text_of name) ms
 abbrev pub tag_in : Sign → Members → Option ℤ
 tag_in s ms = option_and_then (sign_in s) (get_member (codes "tag") ms)
 
--- what stands after a tag: null where the member is absent
+-- what follows a tag: null where the member is absent
 abbrev pub behind_tag : Members → Data
 behind_tag ms = unwrap_or (get_member (codes "value") ms) json.null
 

@@ -22,7 +22,7 @@ tokens_of_items js = items_tokens (items_outline js)
 abbrev pub tokens_of_members : Members → List Token
 tokens_of_members ms = members_tokens (members_outline ms)
 
--- tokens were appended, and what stood before them stays
+-- tokens were appended, and what was before them is unchanged
 pub record Adds (old new : Written) (ts : List Token) : Type 0 where
   pub tokens : new.tokens ≡ old.tokens ++ ts
   pub before : new.before ≡ old.before

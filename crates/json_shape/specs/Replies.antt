@@ -1,5 +1,5 @@
 -- Reply records.
-use Rattle.std.specs.Prelude.{Bool, true, ◌&&◌, ◌||◌, is_some, is_none, ℕ, zero, suc, ℤ, pos, negsuc, length, nat_lt, List, [], ◌∷◌, map, Option, Some, None, option_map, unwrap_or, Result, Ok, Err, if◌then◌else◌, slice_index_or, codes}
+use Rattle.std.specs.Prelude.{Bool, true, ◌&&◌, ◌||◌, is_some, is_none, ℕ, zero, suc, ℤ, pos, negsuc, length, nat_lt, List, [], map, Option, Some, None, option_map, unwrap_or, Result, Ok, Err, if◌then◌else◌, slice_index_or, codes}
 use Rattle.std.specs.Str.{bytes_eq}
 use Rattle.mint.specs.Types.{Ty}
 use Rattle.mint.specs.Typed.{IsWellTyped}
@@ -14,12 +14,13 @@ use Rattle.aoi.specs.Plain.{PlainRaise}
 use Rattle.pres.specs.declared.ops.Op.{Op}
 use Rattle.pres.specs.Bindings.{Binding}
 use Rattle.pres.specs.Faces.{Face, choice, face_at}
+use Rattle.pres.specs.Raises.{raise_from, raises}
 use Rattle.serde_json.specs.Data.{Data, Items, no_items, item, Members, no_members, number, unsigned, string, array, object, put}
 use Rattle.serde_json.specs.Find.{get, as_array, of_integer}
 use Rattle.json_shape.specs.declared.errors.RecordErr.{RecordErr}
 use Rattle.json_shape.specs.declared.errors.RecordErr.TheVariants as errors
 use Rattle.json_shape.specs.Members.{has_only, head_key, head_word, head_number, is_text, is_list, is_table, text_at, number_at, list_at, table_at, any_at}
-use Rattle.json_shape.specs.Operations.{dotted, op_named, raises}
+use Rattle.json_shape.specs.Operations.{dotted, op_named}
 use Rattle.json_shape.specs.Records.{Begun}
 use Rattle.json_shape.specs.Requests.{head_of}
 use Rattle.json_shape.specs.Texts.{text_of}
@@ -46,11 +47,6 @@ abbrev pub is_reply : Back → Data → Bool
 is_reply b j =
     has_only (is_reply_key b) j && is_text (get (codes "op") j) && is_some (head_number (get (head_key b) j))
     && (if is_some (get (codes "raise") j) then is_raised j else is_given j)
-
--- the place, from k on, of the first exception whose name a string is
-abbrev pub raise_from : List ℕ → ℕ → List PlainRaise → Option ℕ
-raise_from s k [] = None
-raise_from s k (r ∷ rs) = if bytes_eq (text_of r.name) s then Some k else raise_from s (suc k) rs
 
 -- the items of an array
 abbrev pub items_of : Data → Items

@@ -8,9 +8,11 @@ use Rattle.serde_json.specs.Data.{Data}
 use Rattle.serde_json.specs.Find.{as_str}
 pub use Rattle.pres.specs.Tables.{text_of}
 
+-- a number that an octet can hold
 abbrev pub is_octet : ℕ → Bool
 is_octet c = nat_lt c 256
 
+-- numbers that octets can hold
 abbrev pub are_octets : List ℕ → Bool
 are_octets = list_all is_octet
 

@@ -52,7 +52,7 @@ abbrev pub items_json : (Val → Data) → Vals → Items
 items_json f no_more = no_items
 items_json f (val v vs) = item (f v) (items_json f vs)
 
--- the object of a tag and what stands after it
+-- the object of a tag and its value
 abbrev pub arm_json : Data → Data → Data
 arm_json tag behind = object (put (codes "tag") tag (put (codes "value") behind no_members))
 

@@ -29,7 +29,7 @@ pub(crate) fn order_of(alloc: Global, names: &FieldTable) -> Result<Vec<usize>, 
     Ok(order)
 }
 
-/// Where the key of a place stands among those of others.
+/// The place of a key among other keys.
 fn place_of(names: &FieldTable, i: usize, order: &[usize]) -> Result<usize, Halt>
     ensures within { IfOk result (λ p. p ≤ length order.now) }
     ensures place { IfOk result (λ p. (tree : ℕ → Data)

@@ -32,18 +32,21 @@ pub(crate) fn head_word(back: Back, head: &Head) -> u32
     }
 }
 
+/// Whether messages are those of Mach.
 pub(crate) fn is_mach(back: Back) -> bool
     ensures { result ≡ is_mach back }
 {
     back == Back::Mach
 }
 
+/// Whether a request record may have a member of the key.
 fn is_request_key(back: Back, key: &str) -> bool
     ensures { result ≡ is_request_key back key.now }
 {
     key == "op" || key == "args" || key == head_key(back) || (is_mach(back) && key == "local")
 }
 
+/// Whether a reply record may have a member of the key.
 fn is_reply_key(back: Back, key: &str) -> bool
     ensures { result ≡ is_reply_key back key.now }
 {
@@ -65,6 +68,7 @@ pub(crate) fn has_request_keys(back: Back, json: &Json) -> bool
     }
 }
 
+/// Whether all members are those of a request record.
 fn are_request_keys(back: Back, members: &Map<String, Json>) -> bool
     ensures { result ≡ list_all (λ k. is_request_key back (string_bytes k)) (keys members.now) }
 {
@@ -81,12 +85,14 @@ pub(crate) fn has_reply_keys(back: Back, json: &Json) -> bool
     }
 }
 
+/// Whether all members are those of a reply record.
 fn are_reply_keys(back: Back, members: &Map<String, Json>) -> bool
     ensures { result ≡ list_all (λ k. is_reply_key back (string_bytes k)) (keys members.now) }
 {
     members.keys().all(|k| is_reply_key(back, k.as_str()))
 }
 
+/// The whole number of 32 bits that the JSON is.
 fn word_in(json: &Json) -> Option<u32>
     ensures { result ≡ word_in (view json.now) }
 {
@@ -103,6 +109,7 @@ pub(crate) fn head_number(member: Option<&Json>) -> Option<u32>
     }
 }
 
+/// Whether a member is a string.
 pub(crate) fn is_text(member: Option<&Json>) -> bool
     ensures { result ≡ is_text (option_map (λ j. view j.now) member.entry) }
 {
@@ -112,6 +119,7 @@ pub(crate) fn is_text(member: Option<&Json>) -> bool
     }
 }
 
+/// Whether a member is an array, or absent.
 pub(crate) fn is_list(member: Option<&Json>) -> bool
     ensures { result ≡ is_list (option_map (λ j. view j.now) member.entry) }
 {
@@ -121,6 +129,7 @@ pub(crate) fn is_list(member: Option<&Json>) -> bool
     }
 }
 
+/// Whether a member is an object, or absent.
 pub(crate) fn is_table(member: Option<&Json>) -> bool
     ensures { result ≡ is_table (option_map (λ j. view j.now) member.entry) }
 {
@@ -140,6 +149,7 @@ pub(crate) fn text_at<'a>(json: &'a Json, key: &str) -> &'a str
     }
 }
 
+/// The text that the JSON is; empty where it is none.
 fn text_in(json: &Json) -> &str
     ensures { result.now ≡ unwrap_or (as_str (view json.now)) (codes "") }
 {

@@ -32,6 +32,7 @@ pub(crate) fn number_json(alloc: Global, kind: Kind, n: &i128) -> Result<Json, N
     }
 }
 
+/// The string of one character.
 fn letter(alloc: Global, n: &i128) -> Result<Json, NoMemory>
     requires { in_range Kind.Char n.now ≡ true }
     ensures { IfOk result (λ j. view j ≡ letters (n.now ∷ [])) }
@@ -47,6 +48,7 @@ pub(crate) fn string(alloc: Global, octets: &[u8]) -> Result<Json, NoMemory>
     Ok(Json::String(text_of(alloc, octets)?))
 }
 
+/// A whole number.
 fn whole(kind: Kind, n: &i128) -> Json
     requires { in_range kind n.now ≡ true }
     ensures { view result ≡ number (of_integer n.now) }
@@ -67,6 +69,7 @@ pub(crate) fn item_json(alloc: Global, shape: &Shape, n: &i128) -> Result<Json, 
     }
 }
 
+/// The name of the first of the items with a number; empty where none has it.
 #[tactic(auto, using(crate::proofs::Texted::texted))]
 fn name_json(alloc: Global, items: &ItemTable, n: &i128) -> Result<Json, NoMemory>
     ensures { IfOk result (λ j. view j ≡ sign_json (item items.now) n.now) }
@@ -98,12 +101,14 @@ pub(crate) fn row_json(alloc: Global, row: &Row) -> Result<Json, NoMemory>
     }
 }
 
+/// The string of octets in hexadecimal digits, the letters in lower case.
 fn hexadecimal(alloc: Global, octets: &[u8]) -> Result<Json, NoMemory>
     ensures { IfOk result (λ j. view j ≡ string (encode_lower octets.now)) }
 {
     Ok(Json::String(digit_kit::encode(alloc, octets)?))
 }
 
+/// The array of a row's numbers.
 fn numbers(alloc: Global, kind: Kind, row: &Row) -> Result<Json, NoMemory>
     ensures { IfOk result (λ j. view j ≡ array (each_json kind row.now.numbers)) }
 {

@@ -37,12 +37,14 @@ pub(crate) fn has_arm_members(json: &Json) -> bool
     has_arm_keys(members)
 }
 
+/// Whether all members are those of a choice.
 fn has_arm_keys(members: &Map<String, Json>) -> bool
     ensures { result ≡ list_all (λ k. is_arm_key (string_bytes k)) (keys members.now) }
 {
     members.keys().all(|k| is_arm_key(k.as_str()))
 }
 
+/// Whether a choice may have a member of the key.
 fn is_arm_key(key: &str) -> bool
     ensures { result ≡ is_arm_key key.now }
 {

@@ -6,9 +6,10 @@ ghost use Rattle.aoi.specs.Plain.{plain_raise, plain_operation, plain_interface}
 ghost use Rattle.pres.specs.declared.ops.Op.{Op as OpRecord};
 ghost use Rattle.pres.specs.Bindings.{IsPlaced};
 ghost use Rattle.pres.specs.Offers.{gets_null, operations};
+ghost use Rattle.pres.specs.Raises.{sources, source, raises};
 ghost use Rattle.json_shape.specs.Homes.{Leads, homes, homes_from};
-ghost use Rattle.json_shape.specs.Operations.{interface_name, dotted, op_named, sources, source, is_oneway, raises};
-ghost use Rattle.json_shape.specs.Replies.{raise_from, raise_name};
+ghost use Rattle.json_shape.specs.Operations.{interface_name, dotted, op_named, is_oneway};
+ghost use Rattle.json_shape.specs.Replies.{raise_name};
 ghost use Rattle.json_shape.specs.Texts.{text_of};
 
 use crate::names::{after_name, is_name};
@@ -175,23 +176,6 @@ pub(crate) fn raises(bound: &Bound, k: u32) -> &[Raise]
         Some(op) => op.raises.as_slice(),
         None => &[],
     }
-}
-
-/// The number of the first exception that a string names, from 1.
-pub(crate) fn raise_named(raises: &[Raise], text: &str) -> Result<Option<u32>, NoMemory>
-    ensures { IfOk result (λ k. k ≡ raise_from text.now 1 (map plain_raise raises.now)) }
-{
-    let plain = text.is_ascii();
-    for (i, raise) in raises.iter().enumerate() {
-        if is_name(raise.name.as_slice(), text, plain) {
-            // More exceptions than numbers are more than memory holds.
-            let Ok(number) = u32::try_from(i + 1) else {
-                return Err(NoMemory);
-            };
-            return Ok(Some(number));
-        }
-    }
-    Ok(None)
 }
 
 /// The name of the exception at a place.

@@ -42,6 +42,7 @@ pub fn request_text(
     }
 }
 
+/// The text of the record of an operation's request.
 fn text_of_record(
     alloc: Global,
     bound: &Bound,
@@ -105,6 +106,7 @@ fn put_after(back: Back, head: &Head, out: &mut Writer) -> Result<(), Halt>
     }
 }
 
+/// Writes a member with a head number.
 #[tactic(auto, using(crate::proofs::Adding::adding))]
 fn put_word(key: &str, n: u32, out: &mut Writer) -> Result<(), Halt>
     ensures { OnOk result (Adds out.old out.new (word_tokens key.now n)) }

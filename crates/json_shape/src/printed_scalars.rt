@@ -47,6 +47,7 @@ pub(crate) fn put_number(alloc: Global, kind: Kind, n: &i128, out: &mut Writer) 
     }
 }
 
+/// Writes false or true.
 fn put_truth(truth: bool, out: &mut Writer) -> Result<(), Halt>
     ensures { OnOk result (Adds out.old out.new (boolean truth ∷ [])) }
 {
@@ -54,6 +55,7 @@ fn put_truth(truth: bool, out: &mut Writer) -> Result<(), Halt>
     Ok(())
 }
 
+/// Writes the string of one character.
 fn put_letter(alloc: Global, n: &i128, out: &mut Writer) -> Result<(), Halt>
     requires { in_range Kind.Char n.now ≡ true }
     ensures { OnOk result (Adds out.old out.new (tokens_of (letters (n.now ∷ [])))) }
@@ -88,6 +90,7 @@ pub(crate) fn put_item(shape: &Shape, n: &i128, out: &mut Writer) -> Result<(), 
     }
 }
 
+/// Writes the name of the first of the items with a number; empty where none has it.
 #[tactic(auto, using(crate::proofs::Texted::texted))]
 fn put_name(items: &ItemTable, n: &i128, out: &mut Writer) -> Result<(), Halt>
     ensures { OnOk result (Adds out.old out.new (tokens_of (sign_json (item items.now) n.now))) }
@@ -99,6 +102,7 @@ fn put_name(items: &ItemTable, n: &i128, out: &mut Writer) -> Result<(), Halt>
     Ok(())
 }
 
+/// Writes the empty string.
 fn put_empty(out: &mut Writer) -> Result<(), Halt>
     ensures { OnOk result (Adds out.old out.new (string_token [] ∷ [])) }
 {
@@ -133,6 +137,7 @@ pub(crate) fn put_row(alloc: Global, row: &Row, out: &mut Writer) -> Result<(), 
     }
 }
 
+/// Writes the string of octets in hexadecimal digits, the letters in lower case.
 fn put_digits(alloc: Global, octets: &[u8], out: &mut Writer) -> Result<(), Halt>
     ensures { OnOk result (Adds out.old out.new (string_token (encode_lower octets.now) ∷ [])) }
 {
@@ -141,6 +146,7 @@ fn put_digits(alloc: Global, octets: &[u8], out: &mut Writer) -> Result<(), Halt
     Ok(())
 }
 
+/// Writes the array of a row's numbers.
 fn put_numbers(alloc: Global, kind: Kind, row: &Row, out: &mut Writer) -> Result<(), Halt>
     ensures { OnOk result (Adds out.old out.new (tokens_of (array (each_json kind row.now.numbers)))) }
 {

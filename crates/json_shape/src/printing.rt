@@ -72,6 +72,7 @@ pub(crate) fn print(
     }
 }
 
+/// Writes null.
 fn put_null(out: &mut Writer) -> Result<(), Halt>
     ensures { OnOk result (Adds out.old out.new (null_token ∷ [])) }
 {
@@ -111,6 +112,7 @@ fn alone(
     Ok(())
 }
 
+/// Writes a struct as an object, and arguments as an array.
 #[cycle(print)]
 #[tactic(auto, using(crate::proofs::Adding::adding))]
 fn group(
@@ -175,6 +177,7 @@ fn by_name(
     Ok(())
 }
 
+/// Writes values as the items of an array.
 #[cycle(print)]
 #[tactic(auto, using(crate::proofs::Adding::adding))]
 fn in_order(
@@ -200,6 +203,7 @@ fn in_order(
     Ok(())
 }
 
+/// Writes a list. The order of the fields of its structs is made once.
 #[cycle(print)]
 #[tactic(auto, using(crate::proofs::Adding::adding))]
 fn items(
@@ -226,6 +230,7 @@ fn items(
     each(alloc, bound, id, item, values, out)
 }
 
+/// Writes the values of a list, one after the other.
 #[cycle(print)]
 #[tactic(auto, using(crate::proofs::Adding::adding))]
 fn each(
@@ -312,6 +317,7 @@ fn choice(
     Ok(())
 }
 
+/// Writes the value of the number's arm.
 #[cycle(print)]
 #[tactic(auto, using(crate::proofs::Adding::adding, crate::proofs::Arms::arms_written))]
 fn arm(

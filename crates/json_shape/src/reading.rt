@@ -68,6 +68,7 @@ fn value(alloc: Global, bound: &Bound, id: NodeId, json: &Json) -> Result<Value,
     }
 }
 
+/// The void value, from null.
 fn nothing(json: &Json) -> Result<Value, ShapeErr>
     ensures { Gives seen result (value_of nothing (view json.now)) }
 {
@@ -78,6 +79,7 @@ fn nothing(json: &Json) -> Result<Value, ShapeErr>
     }
 }
 
+/// A struct from an object, or arguments from an array.
 #[cycle(read)]
 #[tactic(auto, unfolding(crate::specs::Reading::value_of))]
 fn group(
@@ -128,6 +130,7 @@ fn members(
     by_name(alloc, bound, id, ids, names, json)
 }
 
+/// The fields of a struct, each from the member of its name.
 #[cycle(read)]
 #[tactic(auto, using(crate::proofs::Fields::fields), unfolding(crate::specs::Reading::value_of))]
 fn by_name(
@@ -175,6 +178,7 @@ fn arguments(
     }
 }
 
+/// Values from as many items.
 #[cycle(read)]
 #[tactic(auto, using(crate::proofs::Fields::fields), unfolding(crate::specs::Reading::value_of))]
 fn in_order(
@@ -199,6 +203,7 @@ fn in_order(
     Ok(values)
 }
 
+/// A list from an array.
 #[cycle(read)]
 #[tactic(auto, unfolding(crate::specs::Reading::value_of))]
 fn items(
@@ -220,6 +225,7 @@ fn items(
     }
 }
 
+/// The values of a list, one from each item.
 #[cycle(read)]
 #[tactic(auto, using(crate::proofs::Fields::elements))]
 fn each(
@@ -241,6 +247,7 @@ fn each(
     Ok(values)
 }
 
+/// An optional value, from an array of none or one.
 #[cycle(read)]
 #[tactic(auto, unfolding(crate::specs::Reading::value_of))]
 fn maybe(
@@ -265,6 +272,7 @@ fn maybe(
     }
 }
 
+/// A choice, from an object of its tag and of the value of its arm, which is null where it is absent.
 #[cycle(read)]
 #[tactic(auto, unfolding(crate::specs::Reading::value_of))]
 fn choice(

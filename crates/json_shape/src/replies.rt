@@ -1,9 +1,9 @@
 // Reply records.
-ghost use Rattle.std.specs.Prelude.{◌≡◌, ◌<◌, length, map, true, slice_get, IfOk, IfSome, is_some, if◌then◌else◌, option_map, codes};
-ghost use Rattle.aoi.specs.Plain.{plain_raise};
+ghost use Rattle.std.specs.Prelude.{◌≡◌, ◌<◌, length, true, slice_get, IfOk, IfSome, is_some, if◌then◌else◌, option_map, codes};
 ghost use Rattle.mint.specs.Typed.{IsWellTyped};
 ghost use Rattle.mint.specs.Types.{type_at};
 ghost use Rattle.mint.specs.Values.{seen};
+ghost use Rattle.pres.specs.Raises.{raises};
 ghost use Rattle.serde_json.specs.Data.{item};
 ghost use Rattle.serde_json.specs.Find.{get};
 ghost use Rattle.serde_json.specs.View.{view, items_view};
@@ -16,11 +16,10 @@ use crate::errors::RecordErr;
 use crate::members::{
     has_reply_keys, head_key, head_number, is_list, is_table, is_text, number_at, text_at,
 };
-use crate::operations::{op_named, raise_named, raises};
+use crate::operations::op_named;
 use crate::records::RequestRec;
 use crate::requests::{finish, head_of};
 use crate::writing::arm_json;
-use aoi::Raise;
 use kit_base::NoMemory;
 use pres::{Bound, text_of};
 use serde_json::{Map, Value as Json};
@@ -45,14 +44,14 @@ pub fn read_reply(alloc: Global, bound: &Bound, json: &Json) -> Result<RequestRe
     if !op.has_reply {
         return Err(RecordErr::Op);
     }
-    let Some(tree) = reply_tree(alloc, raises(bound, number), json)? else {
+    let Some(tree) = reply_tree(alloc, bound, number, json)? else {
         return Err(RecordErr::Shape);
     };
     let head = head_of(back, number_at(json, head_key(back)), 0, true);
     finish(alloc, bound, number, head, op.reply, &tree)
 }
 
-/// The reply that a record without a head number presents. One with a head number is no such record.
+/// The reply that a record without a head number presents. A record with a head number is not one.
 pub fn read_given(alloc: Global, bound: &Bound, json: &Json) -> Result<RequestRec, RecordErr>
     ensures comes { Comes (given_of bound.now (view json.now)) result }
     ensures op { IfOk result (λ r. r.op < length bound.now.ops) }
@@ -125,21 +124,20 @@ fn is_raised(json: &Json) -> bool
         && is_table(json.get("members"))
 }
 
-/// The reply as a choice, unless it is an exception that is not listed.
-fn reply_tree(alloc: Global, raises: &[Raise], json: &Json) -> Result<Option<Json>, NoMemory>
-    ensures { IfOk result (λ o. option_map view o ≡ reply_tree (map plain_raise raises.now) (view json.now)) }
+/// The reply of an operation as a choice, unless it is an exception that the operation does not list.
+fn reply_tree(alloc: Global, bound: &Bound, op: u32, json: &Json) -> Result<Option<Json>, NoMemory>
+    ensures { IfOk result (λ o. option_map view o ≡ reply_tree (raises bound.now op) (view json.now)) }
 {
     if json.get("raise").is_some() {
-        return raised_tree(alloc, raises, json);
+        return raised_tree(alloc, bound, op, json);
     }
     Ok(Some(given_tree(alloc, json)?))
 }
 
-fn raised_tree(alloc: Global, raises: &[Raise], json: &Json) -> Result<Option<Json>, NoMemory>
-    ensures { IfOk result (λ o.
-        option_map view o ≡ raised_tree (map plain_raise raises.now) (view json.now)) }
+fn raised_tree(alloc: Global, bound: &Bound, op: u32, json: &Json) -> Result<Option<Json>, NoMemory>
+    ensures { IfOk result (λ o. option_map view o ≡ raised_tree (raises bound.now op) (view json.now)) }
 {
-    let Some(number) = raise_named(raises, text_at(json, "raise"))? else {
+    let Some(number) = bound.raise_named(op, text_at(json, "raise")) else {
         return Ok(None);
     };
     let members = table_at(alloc, json)?;

@@ -100,6 +100,7 @@ pub(crate) fn head_of(back: Back, id: u32, local: u32, wants: bool) -> Head
     }
 }
 
+/// The head of a request record for an operation.
 fn head_in(bound: &Bound, number: u32, json: &Json) -> Head
     ensures { result ≡ head_of bound.now.back (number_at (head_key bound.now.back) (view json.now))
         (number_at (codes "local") (view json.now)) (not (is_oneway bound.now number)) }

@@ -38,6 +38,7 @@ pub(crate) fn row(alloc: Global, kind: Kind, json: &Json) -> Result<Row, ShapeEr
     }
 }
 
+/// The row of octets that a string has in hexadecimal digits.
 fn octets(alloc: Global, json: &Json) -> Result<Row, ShapeErr>
     ensures { GivesRow kind.Octet result (row_in kind.Octet (view json.now)) }
 {
@@ -56,6 +57,7 @@ pub(crate) fn block(alloc: Global, kind: Kind, octets: &[u8]) -> Result<Row, NoM
     Ok(row)
 }
 
+/// The row of the numbers of an array.
 fn numbers(alloc: Global, kind: Kind, list: &[Json]) -> Result<Row, ShapeErr>
     ensures { GivesRow kind result (each_in kind (items_view list.now)) }
 {

@@ -25,6 +25,7 @@ pub(crate) fn number(alloc: Global, kind: Kind, json: &Json) -> Result<i128, Sha
     }
 }
 
+/// 0 from false, and 1 from true.
 fn truth(json: &Json) -> Result<i128, ShapeErr>
     ensures { Gives (λ n. n) result (number_in kind.Bool (view json.now)) }
 {
@@ -45,6 +46,7 @@ fn letter(alloc: Global, json: &Json) -> Result<i128, ShapeErr>
     }
 }
 
+/// A whole number in the range of a kind.
 fn whole(kind: Kind, json: &Json) -> Result<i128, ShapeErr>
     ensures { Gives (λ n. n) result (whole_in kind (view json.now)) }
 {
@@ -77,6 +79,7 @@ pub(crate) fn number_named(shape: &Shape, text: &str) -> Result<i128, ShapeErr>
     }
 }
 
+/// The number of the first of the items with a name.
 fn number_among(items: &ItemTable, text: &str) -> Result<i128, ShapeErr>
     ensures { Gives (λ n. n) result (number_named items.now text.now) }
 {

@@ -62,7 +62,7 @@ pub(crate) fn hex_in(alloc: Global, json: &Json) -> Result<Vec<u8>, ShapeErr>
     }
 }
 
-/// The string of ASCII octets, which are its own octets; none where one is no ASCII.
+/// The string of ASCII octets, which are its own octets; none where an octet is not ASCII.
 pub(crate) fn ascii_of(octets: &[u8]) -> Option<&str>
     ensures { IfSome result (λ s. s.now ≡ text_of octets.now) }
 {

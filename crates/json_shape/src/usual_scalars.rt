@@ -90,7 +90,7 @@ fn has_minus(octets: &[u8]) -> bool
     !octets.is_empty() && octets[0] == b'-'
 }
 
-/// What stands after the first octet.
+/// What follows the first octet.
 fn after_minus(octets: &[u8]) -> &[u8]
     requires { 0 < length octets.now }
     ensures { result.now ≡ drop 1 octets.now }

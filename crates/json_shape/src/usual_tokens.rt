@@ -75,7 +75,7 @@ pub(crate) fn member_at<'v, 'a>(
     Ok(tree)
 }
 
-/// What stands behind the key of a member, where it is this one.
+/// The value of a member, where its key is this one.
 pub(crate) fn behind_key<'v, 'a>(
     key: &str,
     member: &'v (&'a str, Tree<'a>),

@@ -93,7 +93,7 @@ fn alone(alloc: Global, json: Json) -> Result<Json, NoMemory>
     Ok(Json::Array(list))
 }
 
-/// The object of a tag and what stands after it.
+/// The object of a tag and its value.
 pub(crate) fn arm_json(alloc: Global, tag: Json, behind: Json) -> Result<Json, NoMemory>
     ensures { IfOk result (λ j. view j ≡ arm_json (view tag) (view behind)) }
 {
@@ -103,6 +103,7 @@ pub(crate) fn arm_json(alloc: Global, tag: Json, behind: Json) -> Result<Json, N
     Ok(Json::Object(members))
 }
 
+/// A struct as an object, and arguments as an array.
 #[cycle(write)]
 fn group(
     alloc: Global,
@@ -156,6 +157,7 @@ fn by_name(
     Ok(members)
 }
 
+/// Values as the items of an array.
 #[cycle(write)]
 fn in_order(
     alloc: Global,
@@ -179,6 +181,7 @@ fn in_order(
     Ok(list)
 }
 
+/// A list as an array.
 #[cycle(write)]
 fn items(
     alloc: Global,

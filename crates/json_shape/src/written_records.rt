@@ -107,6 +107,7 @@ pub fn write_reply(
     Ok(Json::Object(members))
 }
 
+/// The members of what a call came to.
 fn outcome_members(
     alloc: Global,
     bound: &Bound,
@@ -125,6 +126,7 @@ fn outcome_members(
     }
 }
 
+/// The member of a refusal.
 fn refused_members(alloc: Global, why: &Refusal) -> Result<Map<String, Json>, NoMemory>
     ensures { IfOk result (λ m. members_view m.entries ≡ refused_members why.now) }
 {
@@ -163,6 +165,7 @@ fn refusal(alloc: Global, why: &Refusal) -> Result<Vec<Json>, NoMemory>
     Ok(list)
 }
 
+/// The word of a refusal.
 fn refusal_name(why: &Refusal) -> &'static str
     ensures { result.now ≡ refusal_name why.now }
 {
@@ -223,6 +226,7 @@ fn behind_members(
     }
 }
 
+/// The items of an array.
 fn into_array(json: Json) -> Option<Vec<Json>>
     ensures { option_map (λ l. items_view l.items) result ≡ as_array (view json) }
 {
@@ -232,6 +236,7 @@ fn into_array(json: Json) -> Option<Vec<Json>>
     }
 }
 
+/// The members of an answer: the result and the parameters that come out.
 fn given_members(alloc: Global, json: Json) -> Result<Map<String, Json>, NoMemory>
     ensures { IfOk result (λ m. members_view m.entries ≡ given_members (as_array (view json))) }
 {
@@ -249,6 +254,7 @@ fn given_members(alloc: Global, json: Json) -> Result<Map<String, Json>, NoMemor
     Ok(members)
 }
 
+/// The members of an exception, by its place from 0 among those of the operation.
 fn raised_members(
     alloc: Global,
     raises: &[Raise],

@@ -38,6 +38,7 @@ IsRead b m Long = ⊥
 IsRead b m (Read r) = ReadCall b m (Ok (asked r))
 IsRead b m (Refused e) = ReadCall b m (Err e)
 
+-- the message of a request is within the limit
 abbrev pub is_within : Trip → Bool
 is_within Long = false
 is_within _ = true

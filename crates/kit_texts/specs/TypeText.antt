@@ -8,6 +8,7 @@ use Rattle.mint.specs.declared.kind.Count.TheVariants.{Exactly, AtMost, Any}
 use Rattle.aoi.specs.declared.types.Ty.{Ty}
 use Rattle.aoi.specs.Shapes.{Shape, void, number, enumeration, text, array, structure, choice, optional, named, Members, no_more, member, Arms, no_default, default, arm, seen}
 
+-- the word of a kind of numbers
 abbrev pub kind_word : Kind → List ℕ
 kind_word kind.Octet = codes "octet"
 kind_word kind.I8 = codes "i8"

@@ -28,7 +28,7 @@ impl Trip {
     }
 }
 
-/// A message that was refused, unless there was no memory.
+/// A message that was refused, unless memory ran out.
 pub(crate) fn refused(fault: MessageErr) -> Result<Trip, NoMemory>
     ensures fault { IfOk result (λ t. t ≡ Trip.Refused fault) }
     ensures memory { OnOk result (fault ≢ MessageErr.NoMemory) }

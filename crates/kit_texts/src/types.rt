@@ -188,6 +188,7 @@ fn put_elements(out: &mut Octets, count: Count) -> Result<(), NoMemory>
     }
 }
 
+/// The word of a kind of numbers.
 fn kind_word(kind: Kind) -> &'static [u8]
     ensures { result.now ≡ kind_word kind }
 {

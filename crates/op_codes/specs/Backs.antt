@@ -1,4 +1,4 @@
--- What differs from one back end to another: how bodies are laid out, the heads of requests and of replies, and the size that a head states.
+-- What differs from one back end to another: how bodies are laid out, the heads of messages, and the size that a head states.
 use Rattle.std.specs.Prelude.{◌≡◌, ◌⊎◌, ℕ, List, Option, None, Some}
 use Rattle.wire_def.specs.declared.encoding.Back.{Back}
 use Rattle.wire_def.specs.declared.encoding.Back.TheVariants as back
@@ -37,6 +37,7 @@ other_encoding _ = None
 abbrev pub Takes : Back → Encoding → Type 0
 Takes k e = (e ≡ encoding k) ⊎ (other_encoding k ≡ Some e)
 
+-- the head of an operation's request over a back end
 abbrev pub lead_over : Back → Binding → ℕ → Head → List ℕ
 lead_over back.Xdr b op head = xdr_leads.lead (procedure_of b op) head.id
 lead_over back.CdrBig b op head = cdr_leads.lead Big (target_of b op) head.id
@@ -47,13 +48,14 @@ lead_over back.Mach b op head = mach_leads.lead (routine_of b op) head
 abbrev pub lead : Binding → ℕ → Head → List ℕ
 lead b op head = lead_over b.back b op head
 
+-- the head of a reply to an operation with an arm, over a back end
 abbrev pub reply_lead_over : Back → Binding → ℕ → ℕ → Head → List ℕ
 reply_lead_over back.Xdr b op k head = xdr_leads.answer_lead head.id
 reply_lead_over back.CdrBig b op k head = cdr_leads.reply_lead Big (target_of b op) k head.id
 reply_lead_over back.CdrLittle b op k head = cdr_leads.reply_lead Little (target_of b op) k head.id
 reply_lead_over back.Mach b op k head = mach_leads.answer_lead (routine_of b op) head
 
--- the head of a reply to an operation with an arm: 0 is the answer, k the k-th exception, which CDR alone tells
+-- the head of a reply to an operation with an arm: 0 is the answer, k the k-th exception, which the heads of CDR alone tell
 abbrev pub reply_lead : Binding → ℕ → ℕ → Head → List ℕ
 reply_lead b op k head = reply_lead_over b.back b op k head
 
@@ -71,6 +73,7 @@ tail back.CdrBig = patch 8 12 Big stop
 tail back.CdrLittle = patch 8 12 Little stop
 tail back.Mach = patch 4 0 Little stop
 
+-- a message begins with the head of a call over a back end that says this
 abbrev pub BeginsOver : Back → Binding → List ℕ → Called → Type 0
 BeginsOver back.Xdr b o c = xdr_seeking.Calls b o c
 BeginsOver back.CdrBig b o c = cdr_seeking.Calls b o c

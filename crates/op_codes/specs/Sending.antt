@@ -29,7 +29,7 @@ pub record IsWhole (k : Back) (lead body code : SendCode) : Type 0 where
   pub ops : code_seen code.ops ≡ append (code_seen lead.ops) (append (code_seen body.ops) (tail k))
   pub subs : code.subs ≡ []
 
--- code that sends the messages of heads, and of values of a type, from the front of an empty buffer
+-- code that sends the messages of heads, and of values of a type, from the beginning of an empty buffer
 pub record Sends (k : Back) (o : Head → List ℕ) (t : Ty) (code : SendCode) : Type 0 where
   -- it appends exactly the octets of the message
   pub means : (h : Head) (v : Val) → IsHead h → IsWellTyped t v → meaning code h v 0 ≡ Some (framed k (o h) t v)

@@ -28,7 +28,7 @@ pub(crate) fn request_of(bound: &Bound, op: u32) -> NodeId
     }
 }
 
-// The code of an operation.
+/// The code of an operation.
 fn stub_of(alloc: Global, bound: &Bound, low: &Lowered, op: u32) -> Result<Stub, NoMemory>
     requires op { op < length bound.now.ops }
     requires lowered { AreLowered bound.now.back bound.now.nodes low.now }

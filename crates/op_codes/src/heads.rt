@@ -4,18 +4,21 @@ ghost use Rattle.cast_stub.specs.Puts.{IsHead};
 
 use wire_def::Head;
 
+/// The id.
 fn id_of(head: &Head) -> u32
     ensures { result ≡ head.now.id }
 {
     head.id
 }
 
+/// The port that the message is sent to.
 fn remote_of(head: &Head) -> u32
     ensures { result ≡ head.now.remote }
 {
     head.remote
 }
 
+/// The port that a reply is sent to.
 fn local_of(head: &Head) -> u32
     ensures { result ≡ head.now.local }
 {

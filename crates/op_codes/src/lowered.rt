@@ -42,14 +42,14 @@ pub(crate) fn lower_all(alloc: Global, back: Back, mint: &Mint) -> Result<Lowere
     })
 }
 
-// The codes that receive over an encoding.
+/// The codes that receive over an encoding.
 fn receivers(alloc: Global, enc: Encoding, mint: &Mint) -> Result<RecvSubs, NoMemory>
     ensures { IfOk result (λ subs. AreReceivers enc mint.now subs) }
 {
     lower_recv(alloc, enc, mint)
 }
 
-// The codes that receive over another encoding, where there is one.
+/// The codes that receive over another encoding, where there is one.
 fn other_receivers(
     alloc: Global,
     other: Option<Encoding>,

@@ -50,7 +50,7 @@ impl Codes {
     }
 }
 
-// Receives a value of a node by its code.
+/// Receives a value of a node by its code.
 fn received(
     alloc: Global,
     code: &RecvCode,
@@ -71,7 +71,7 @@ fn received(
     run_recv(alloc, code, mint, id, view)
 }
 
-// The octets that are left, and that there are no fewer than the place says.
+/// The octets that are left. The place is within the message.
 fn rest_of<'a>(view: &RecvView<'a>) -> &'a [u8]
     ensures octets { AreOctets (drop view.now.pos view.now.octets) }
     ensures within { view.now.pos ≤ length view.now.octets }
@@ -80,7 +80,7 @@ fn rest_of<'a>(view: &RecvView<'a>) -> &'a [u8]
     octets_of(view.rest())
 }
 
-// The same octets.
+/// The same octets, of which each is below 256.
 fn octets_of(octets: &[u8]) -> &[u8]
     ensures same { result.now ≡ octets.now }
     ensures octets { AreOctets result.now }

@@ -89,7 +89,7 @@ impl Codes {
     }
 }
 
-// Runs a code from the front of a buffer, whatever it held; after a refusal the buffer is empty.
+/// Runs a code from the beginning of a buffer, whatever it held; after a refusal the buffer is empty.
 fn run_from_front(
     code: &SendCode,
     head: &Head,
@@ -115,7 +115,7 @@ fn run_from_front(
     emptied(ran, buf)
 }
 
-// What was answered, the buffer empty where it is not Ok.
+/// What a run answered; the buffer is emptied where that is not `Ok`.
 fn emptied(ran: Result<(), SendErr>, buf: &mut SendBuf) -> Result<(), SendErr>
     ensures same { result ≡ ran }
     ensures ok { OnOk result (buf.new ≡ buf.old) }

@@ -16,7 +16,7 @@ use mint::table::{Mint, NodeId};
 use std::alloc::Global;
 use wire_def::Back;
 
-// The operations of a head, those of a body, and what states the length.
+/// The operations of a head, those of a body, and what states the length.
 #[tactic(auto, using(crate::proofs::Wholes::wholes))]
 fn whole(alloc: Global, back: Back, lead: SendCode, body: &SendCode) -> Result<SendCode, NoMemory>
     ensures { IfOk result (λ code. IsWhole back lead body.now code) }

@@ -119,6 +119,7 @@ fn value<'a>(
     }
 }
 
+/// The fields of a struct, one after the other.
 #[cycle(read)]
 #[tactic(auto, using(crate::proofs::Reading::readers), unfolding(wire_def::specs::Reading::read))]
 fn fields<'a>(
@@ -144,6 +145,7 @@ fn fields<'a>(
     Ok((values, at))
 }
 
+/// A list: its count, and its elements.
 #[cycle(read)]
 #[tactic(auto, using(crate::proofs::Reading::readers), unfolding(wire_def::specs::Reading::read))]
 fn items<'a>(
@@ -165,6 +167,7 @@ fn items<'a>(
     Ok((Value::Items(values), last))
 }
 
+/// So many elements, one after the other.
 #[cycle(read)]
 #[tactic(auto, using(crate::proofs::Reading::readers), unfolding(wire_def::specs::Reading::read))]
 fn each<'a>(
@@ -191,6 +194,7 @@ fn each<'a>(
     Ok((values, at))
 }
 
+/// A union: its discriminant, and the value of its arm.
 #[cycle(read)]
 #[tactic(auto, using(crate::proofs::Reading::readers), unfolding(wire_def::specs::Reading::read))]
 fn choice<'a>(
@@ -215,6 +219,7 @@ fn choice<'a>(
     Ok((Value::Arm(n, boxed(alloc, inner)?), last))
 }
 
+/// An optional value: whether it is there, and the value.
 #[cycle(read)]
 #[tactic(auto, using(crate::proofs::Reading::readers), unfolding(wire_def::specs::Reading::read))]
 fn maybe<'a>(
@@ -238,6 +243,7 @@ fn maybe<'a>(
     Ok((Value::Opt(Some(boxed(alloc, inner)?)), last))
 }
 
+/// A value in memory of its own.
 fn boxed(alloc: Global, inner: Value) -> Result<Box<Value>, NoMemory>
     ensures { IfOk result (λ b. b.value ≡ inner) }
 {

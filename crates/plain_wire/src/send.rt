@@ -96,6 +96,7 @@ fn put_value(
     }
 }
 
+/// Appends the fields of a struct, one after the other.
 #[cycle(put)]
 #[tactic(auto, using(crate::proofs::Values::values), unfolding(wire_def::specs::Send::send))]
 fn put_fields(
@@ -123,6 +124,7 @@ fn put_fields(
     Ok(at)
 }
 
+/// Appends a list: its count, and its elements.
 #[cycle(put)]
 #[tactic(auto, using(crate::proofs::Values::values), unfolding(wire_def::specs::Send::send))]
 fn put_items(
@@ -146,6 +148,7 @@ fn put_items(
     put_each(enc, mint, id, item, behind, values, out)
 }
 
+/// Appends elements, one after the other.
 #[cycle(put)]
 #[tactic(auto, using(crate::proofs::Values::values), unfolding(wire_def::specs::Send::send))]
 fn put_each(
@@ -171,6 +174,7 @@ fn put_each(
     Ok(at)
 }
 
+/// Appends a union: its discriminant, and the value of its arm.
 #[cycle(put)]
 #[tactic(auto, using(crate::proofs::Values::values), unfolding(wire_def::specs::Send::send))]
 fn put_choice(
@@ -200,6 +204,7 @@ fn put_choice(
     put_arm(enc, mint, id, arms, other, behind, n, inner, out)
 }
 
+/// Appends the value of the discriminant's arm.
 #[cycle(put)]
 #[tactic(auto, using(crate::proofs::Values::values), unfolding(wire_def::specs::Send::send))]
 fn put_arm(
@@ -227,6 +232,7 @@ fn put_arm(
     }
 }
 
+/// Appends an optional value that is there.
 #[cycle(put)]
 #[tactic(auto, using(crate::proofs::Values::values), unfolding(wire_def::specs::Send::send))]
 fn put_present(

@@ -32,3 +32,5 @@ pub mod Building
 pub mod Existing
 -- * Items that are found by their names and by their numbers, by induction on the items
 pub mod Tabled
+-- * Exceptions that are found by their names, by induction on the exceptions and on the operations
+pub mod Found

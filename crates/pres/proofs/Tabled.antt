@@ -1,5 +1,5 @@
 -- Items that are found by their names and by their numbers, by induction on the items.
-use Rattle.std.proofs.Common.{◌≡◌, Bool, true, false, cond, ℕ, zero, suc, ◌+◌, ◌-◌, ◌<◌, ◌≤◌, ℤ, List, [], ◌∷◌, length, map, drop, get_or, Option, None, Some, String, option_map, string_bytes, refl, ap, sym, ◌∙◌, arith}
+use Rattle.std.proofs.Common.{◌≡◌, Bool, true, false, cond, ℕ, zero, suc, ◌-◌, ◌<◌, ◌≤◌, ℤ, List, [], ◌∷◌, length, map, drop, get_or, Option, Some, String, option_map, string_bytes, refl, ap, sym, ◌∙◌, arith}
 use Rattle.std.specs.Prelude.{if◌then◌else◌}
 use Rattle.std.specs.Map.{update}
 use Rattle.std.specs.BTreeMap.{BTreeMap, get, get_by_text, Updates}
@@ -28,12 +28,12 @@ drop-item : (items : ItemList) (i : ℕ) (d : List ℕ × ℤ) → i < length it
 drop-item items i d h = drop-cons items i d h
 
 -- one more name has its number
-pub number_put : {Y : Type 0} (old new : BTreeMap (String Y) ℤ) (bs name : List ℕ) (k n : ℤ) → bs ≡ text_of name → k ≡ n
+pub number_put : {X Y : Type 0} (old new : BTreeMap (String Y) X) (bs name : List ℕ) (k n : X) → bs ≡ text_of name → k ≡ n
     → ((s : List ℕ) → get_by_text new s ≡ update bytes_eq (get_by_text old) bs (Some k) s)
     → (s : List ℕ) → get_by_text new s ≡ (if bytes_eq (text_of name) s then Some n else get_by_text old s)
-number_put old new bs name k n e same put s =
+number_put {X} old new bs name k n e same put s =
     put s ∙ ap (λ (b : List ℕ). cond (bytes_eq b s) (Some k) (get_by_text old s)) e
-    ∙ ap (λ (m : ℤ). cond (bytes_eq (text_of name) s) (Some m) (get_by_text old s)) same
+    ∙ ap (λ (m : X). cond (bytes_eq (text_of name) s) (Some m) (get_by_text old s)) same
 
 -- one more item, before those that are found
 number_more : {Y : Type 0} (items : ItemList) (i : ℕ) (d : List ℕ × ℤ) (old new : BTreeMap (String Y) ℤ)

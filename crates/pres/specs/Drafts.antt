@@ -30,6 +30,7 @@ drawn s = faces s.nodes s.shapes
 unfoldable pub known : Sketch → List Face
 known s = map (at (drawn s)) s.types
 
+-- nodes that a table may hold, each with a shape that it may have, and types among them
 pub record IsSketch (s : Sketch) : Type 0 where
   pub table : IsTable s.nodes
   pub named : AreNamed s.nodes s.shapes

@@ -53,6 +53,7 @@ abbrev pub labels_of : ItemList → List ℤ
 labels_of [] = []
 labels_of (i ∷ items) = put_in i.1 (labels_of items)
 
+-- the scalar of a number, or of the items of an enum
 abbrev pub scalar_of : Sign → mint.Scalar
 scalar_of (number k) = mint.number k
 scalar_of (item items) = mint.label (labels_of items)
@@ -79,6 +80,7 @@ abbrev mutual
 
 -- ---- what a node and its shape unfold to
 
+-- the face of a number among those of the nodes before; nothing where there is none
 abbrev pub at : List Face → ℕ → Face
 at fs i = slice_index_or fs i nothing
 
@@ -88,10 +90,12 @@ parts_at fs names [] = no_parts
 parts_at fs [] (i ∷ is) = part [] (at fs i) (parts_at fs [] is)
 parts_at fs (n ∷ names) (i ∷ is) = part n (at fs i) (parts_at fs names is)
 
+-- the face of the default, where there is one
 abbrev pub other_at : List Face → Option ℕ → Arms
 other_at fs None = no_other
 other_at fs (Some i) = other (at fs i)
 
+-- the faces of arms by their numbers, and that of the default
 abbrev pub arms_at : List Face → List (ℤ × ℕ) → Option ℕ → Arms
 arms_at fs [] o = other_at fs o
 arms_at fs (a ∷ arms) o = arm a.0 (at fs a.1) (arms_at fs arms o)
@@ -101,6 +105,7 @@ abbrev pub items_in : Shape → ItemList
 items_in (LabelNames items) = items
 items_in _ = []
 
+-- what a discriminant is in JSON: a number, or an item by its name
 abbrev pub sign_of : Tag → Shape → Sign
 sign_of (tag.Num k) s = number k
 sign_of (tag.Enum labels) s = item (items_in s)

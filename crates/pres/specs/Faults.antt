@@ -16,6 +16,7 @@ use Rattle.pres.specs.Made.{all_made}
 abbrev pub raises : PlainOperation → Bool
 raises op = not (length op.raises == 0)
 
+-- an operation of the unit raises exceptions
 abbrev pub has_raises : PlainUnit → Bool
 has_raises u = list_any (λ (i : PlainInterface). list_any raises i.ops) u.interfaces
 
@@ -72,6 +73,7 @@ has_long_in i = is_long i.name || list_any has_long i.ops
 abbrev pub is_spread : List Offer → Bool
 is_spread os = list_any (λ o. nat_lt most_operation_nodes (spread_of o)) os || nat_lt most_unit_nodes (sum_by spread_of os)
 
+-- a long name in the unit, or operations with too many nodes
 abbrev pub is_wide : PlainUnit → Back → Bool
 is_wide u b = list_any has_long_in u.interfaces || is_spread (offers u b)
 

@@ -10,3 +10,4 @@ pub mod Sizes
 pub mod Regular
 pub mod Laws
 pub mod Tables
+pub mod Raises

@@ -107,11 +107,13 @@ pub record Offer : Type 0 where
   pub reply : Face
   pub has_reply : Bool
 
+-- a back end of GIOP messages
 abbrev pub is_cdr : Back → Bool
 is_cdr back.CdrBig = true
 is_cdr back.CdrLittle = true
 is_cdr _ = false
 
+-- the back end of ONC messages
 abbrev pub is_xdr : Back → Bool
 is_xdr back.Xdr = true
 is_xdr _ = false

@@ -13,10 +13,12 @@ is_ranged (scalar_type (label ns)) = list_all (in_range kind.I32) ns
 is_ranged (choice_type (label ns) arms) = list_all (in_range kind.I32) ns
 is_ranged _ = true
 
+-- a type that no table refuses for its kind, for being empty, or for labels of 32 bits
 pub record IsRegular (t : Ty) : Type 0 where
   pub fit : is_unfit t ≡ false
   pub full : is_empty t ≡ false
   pub labelled : is_ranged t ≡ true → is_mislabelled t ≡ false
 
+-- faces of such types
 abbrev pub AreRegular : List Face → Type 0
 AreRegular fs = AllByRecursion (λ f. IsRegular (type_of f)) fs

@@ -11,6 +11,7 @@ use Rattle.pres.specs.declared.sizes.Size.{Size}
 use Rattle.pres.specs.Faces.{Face, Parts, Arms, type_of, types_of, arm_types_of}
 use Rattle.pres.specs.Faults.{spread, spread_inside, spread_behind, has_long_in}
 
+-- so many levels and nodes, each up to one more than is allowed
 abbrev pub sized : ℕ → ℕ → Size
 sized d n = record { depth = min d (suc deepest); nodes = min n (suc most_operation_nodes) }
 
@@ -18,9 +19,11 @@ sized d n = record { depth = min d (suc deepest); nodes = min n (suc most_operat
 abbrev pub size_of : Face → Size
 size_of f = sized (depth (type_of f)) (spread f)
 
+-- the size of parts, side by side
 abbrev pub size_inside : Parts → Size
 size_inside ps = sized (fields_depth (types_of ps)) (spread_inside ps)
 
+-- the size of arms, side by side
 abbrev pub size_behind : Arms → Size
 size_behind arms = sized (arms_depth (arm_types_of arms)) (spread_behind arms)
 
@@ -32,20 +35,25 @@ beside a b = sized (max a.depth b.depth) (a.nodes + b.nodes)
 abbrev pub over : Size → Size
 over a = sized (suc a.depth) (suc a.nodes)
 
+-- the size of nothing
 abbrev pub no_size : Size
 no_size = sized 0 0
 
+-- the size of a number among those of the nodes before
 abbrev pub at : List Size → ℕ → Size
 at sizes i = slice_index_or sizes i (sized 1 1)
 
+-- the size of fields by their numbers
 abbrev pub inside_at : List Size → List ℕ → Size
 inside_at sizes [] = no_size
 inside_at sizes (i ∷ is) = beside (at sizes i) (inside_at sizes is)
 
+-- the size of the default, where there is one
 abbrev pub other_at : List Size → Option ℕ → Size
 other_at sizes None = no_size
 other_at sizes (Some i) = at sizes i
 
+-- the size of arms by their numbers, and of the default
 abbrev pub behind_at : List Size → List (ℤ × ℕ) → Option ℕ → Size
 behind_at sizes [] o = other_at sizes o
 behind_at sizes (a ∷ arms) o = beside (at sizes a.1) (behind_at sizes arms o)

@@ -13,6 +13,7 @@ ghost use Rattle.pres.specs.Sizes.{has_deep, is_too_wide};
 use crate::draft::Draft;
 use crate::faults::{has_long_names, has_raises, is_deep, is_over};
 use crate::messages::is_cdr;
+use crate::raises::raise_tables;
 use crate::sizes::Size;
 use crate::{BindErr, Bound, Op, Ops, Pres};
 use aoi::Unit;
@@ -92,5 +93,6 @@ pub fn bind(alloc: Global, unit: Unit, back: Back) -> Result<Bound, BindErr>
     ensures cause { IfErr result (λ e. e ≢ BindErr.NoMemory → bind_fault (plain unit) back ≡ Some e) }
 {
     let (mint, pres, ops) = draw(alloc, &unit, back)?;
-    Ok(Bound::of_parts(mint, pres, ops, unit, back))
+    let tables = raise_tables(alloc, &unit, back)?;
+    Ok(Bound::of_parts(mint, pres, ops, tables, unit, back))
 }

@@ -5,7 +5,9 @@ ghost use Rattle.mint.specs.Types.{HasChildrenBelow, type_at};
 ghost use Rattle.pres.specs.Bindings.{IsBinding};
 ghost use Rattle.pres.specs.Faces.{face_at, faces, level, type_of};
 ghost use Rattle.pres.specs.Named.{IsNamed};
+ghost use Rattle.pres.specs.Raises.{IsBound, raise_from, raises};
 
+use crate::raises::{RaiseTables, number_in};
 use crate::{Ops, Pres, Shape};
 use aoi::Unit;
 use mint::node::Node;
@@ -19,12 +21,14 @@ pub struct Bound {
     mint: Mint,
     pres: Pres,
     ops: Ops,
+    tables: RaiseTables,
     unit: Unit,
     back: Back,
 }
 
 impl Model for Bound {
-    ghost use Rattle.pres.specs.Bindings.{Binding, IsBinding};
+    ghost use Rattle.pres.specs.Bindings.{Binding};
+    ghost use Rattle.pres.specs.Raises.{IsBound};
     ghost use Rattle.std.specs.Coded.{codes};
     ghost use Rattle.aoi.specs.Plain.{plain};
     ghost use Rattle.aoi.specs.Stored.{coded_shape, coded_members};
@@ -35,20 +39,28 @@ impl Model for Bound {
 
     ghost view = { λ b. record { nodes = b.mint; shapes = b.pres; ops = b.ops; unit = plain b.unit; back = b.back } };
 
-    ghost invariant = { λ b. IsBinding (record { nodes = b.mint; shapes = b.pres; ops = b.ops; unit = plain b.unit; back = b.back }) };
+    ghost invariant = { λ b. IsBound (record { nodes = b.mint; shapes = b.pres; ops = b.ops; unit = plain b.unit; back = b.back }) b.tables.items };
 }
 
 impl Bound {
-    /// Nodes, shapes and operations that stand for a unit.
-    pub(crate) fn of_parts(mint: Mint, pres: Pres, ops: Ops, unit: Unit, back: Back) -> Bound
-        requires { IsBinding
-            (record { nodes = mint; shapes = pres; ops = ops; unit = plain unit; back = back }) }
+    /// Nodes, shapes and operations that stand for a unit, with what finds the exceptions of these.
+    pub(crate) fn of_parts(
+        mint: Mint,
+        pres: Pres,
+        ops: Ops,
+        tables: RaiseTables,
+        unit: Unit,
+        back: Back,
+    ) -> Bound
+        requires { IsBound
+            (record { nodes = mint; shapes = pres; ops = ops; unit = plain unit; back = back }) tables.items }
         ensures { result ≡ record { nodes = mint; shapes = pres; ops = ops; unit = plain unit; back = back } }
     {
         Bound {
             mint,
             pres,
             ops,
+            tables,
             unit,
             back,
         }
@@ -74,6 +86,16 @@ impl Bound {
         ensures stands { IsBinding self.now }
     {
         &self.ops
+    }
+
+    /// The number of the first exception of an operation whose name a string is, from 1.
+    pub fn raise_named(&self, op: u32, text: &str) -> Option<u32>
+        ensures { result ≡ raise_from text.now 1 (raises self.now op) }
+    {
+        match self.tables.get(op as usize) {
+            Some(table) => number_in(table, text),
+            None => None,
+        }
     }
 
     /// The unit.

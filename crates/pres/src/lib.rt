@@ -14,6 +14,7 @@ mod laws;
 mod messages;
 mod naming;
 mod ops;
+mod raises;
 mod scalars;
 mod shape;
 mod sizes;

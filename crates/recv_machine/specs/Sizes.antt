@@ -35,7 +35,7 @@ abbrev pub all_sizes : List (List RecvOp) → ℕ
 all_sizes [] = 0
 all_sizes (c ∷ cs) = code_size c + all_sizes cs
 
--- a body that may be there is no larger than the bodies of a switch together
+-- a body that may be there is at most as large as the bodies of a switch together
 abbrev pub IsBody : Option (List RecvOp) → Cases → Type 0
 IsBody None cs = Unit {0}
 IsBody (Some b) cs = code_size b ≤ sizes cs

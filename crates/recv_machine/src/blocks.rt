@@ -63,7 +63,7 @@ pub fn wide_into(
     }
 }
 
-// So many numbers of a node's row, each in the octets of its kind, read at once.
+/// So many numbers of a node's row, each in the octets of its kind, read at once.
 fn whole_block(
     alloc: Global,
     mint: &Mint,
@@ -90,7 +90,7 @@ fn whole_block(
     }
 }
 
-// Whether the numbers of a row are all a node's.
+/// Whether the numbers of a row are all a node's.
 #[tactic(auto, using(crate::proofs::Drafting::drafting))]
 fn are_digits(mint: &Mint, id: u32, row: &Row) -> bool
     requires { row.now.kind ≡ kind_of (array_at mint.now id) }
@@ -112,7 +112,7 @@ fn are_digits(mint: &Mint, id: u32, row: &Row) -> bool
     }
 }
 
-// The numbers of a row are in the range of its kind.
+/// The numbers of a row are in the range of its kind.
 fn are_in_range(row: &Row) -> bool
     ensures { result ≡ list_all (in_range row.now.kind) row.now.numbers }
 {
@@ -120,7 +120,7 @@ fn are_in_range(row: &Row) -> bool
     true
 }
 
-// Whether the numbers of a text are letters: none of its octets is zero.
+/// Whether the numbers of a text are letters: none of its octets is zero.
 fn are_letters(row: &Row) -> bool
     requires { row.now.kind ≡ Kind.Char }
     ensures { result ≡ list_all is_letter row.now.numbers }
@@ -134,7 +134,7 @@ fn has_no_zero(image: &[u8]) -> bool
     image.iter().all(|o| *o != 0)
 }
 
-// So many numbers of a node's row, each in so many octets.
+/// So many numbers of a node's row, each in so many octets.
 fn fill_block(
     alloc: Global,
     mint: &Mint,
@@ -155,7 +155,7 @@ fn fill_block(
     Ok(Filling::Done(Value::Row(row)))
 }
 
-// The numbers themselves, where each is one of the node's.
+/// The numbers themselves, where each is one of the node's.
 fn numbers_at(
     alloc: Global,
     mint: &Mint,
@@ -185,7 +185,7 @@ fn numbers_at(
     Ok(row)
 }
 
-// How many octets are left, which are no fewer than those that are known to be there.
+/// How many octets are left, at least as many as are known to be there.
 fn octets_left(view: &RecvView<'_>) -> usize
     ensures { view.now.near ≤ result }
 {

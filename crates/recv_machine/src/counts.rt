@@ -6,7 +6,7 @@ ghost use Rattle.recv_machine.specs.Drawn.{allowed};
 
 use mint::kind::Count;
 
-// A length that is multiplied and raised in a number.
+/// A length that is multiplied and raised in a number.
 fn length_of(mul: u32, add: u32, m: u64) -> Option<u64>
     ensures { result ≡ length_of mul add m }
 {
@@ -24,7 +24,7 @@ fn length_of(mul: u32, add: u32, m: u64) -> Option<u64>
     }
 }
 
-// A length that a count allows.
+/// A length that a count allows.
 fn allowed(count: Count, n: u64) -> Option<u32>
     ensures { result ≡ allowed count n }
 {

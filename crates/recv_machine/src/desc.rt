@@ -37,7 +37,7 @@ pub fn desc_into(
     }
 }
 
-// The short form: name, size and number in the first word.
+/// The short form: name, size and number in the first word.
 fn short_into(
     mint: &Mint,
     name: u32,
@@ -57,7 +57,7 @@ fn short_into(
     units_into(mint, right, mul, first / 65536 % 4096, 4, part, view)
 }
 
-// The long form: name and size in two octets each after the first word, and the number in four.
+/// The long form: name and size in two octets each after the first word, and the number in four.
 fn long_into(
     mint: &Mint,
     name: u32,
@@ -81,7 +81,7 @@ fn long_into(
     units_into(mint, right, mul, many, 12, part, view)
 }
 
-// The length of so many units, where name and size are as expected; so many octets are passed.
+/// The length of so many units, where name and size are as expected; so many octets are passed.
 fn units_into(
     mint: &Mint,
     right: bool,

@@ -106,7 +106,7 @@ pub fn exchange_part(
     }
 }
 
-// The same in the fields of a struct.
+/// The same in the fields of a struct.
 #[cycle(exchanging)]
 #[tactic(auto, using(crate::proofs::Drafting::exchanging))]
 fn exchange_in(mint: &Mint, fields: &mut Fillings, path: &[u32], from: usize, other: &mut Filling)

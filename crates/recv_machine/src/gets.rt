@@ -19,7 +19,7 @@ use mint::table::Mint;
 use mint::value::Value;
 use raw_buf::RecvView;
 
-// The number that is read, where it is one of the part's.
+/// The number that is read, where it is one of the part's.
 #[tactic(auto, using(crate::proofs::Getting::getting))]
 fn number_for(mint: &Mint, width: u32, m: u64, part: &Filling, view: &RecvView<'_>) -> Option<i128>
     requires fits { m < 256 ^ width }
@@ -39,7 +39,7 @@ fn number_for(mint: &Mint, width: u32, m: u64, part: &Filling, view: &RecvView<'
     }
 }
 
-// The draft of a number that was read.
+/// The draft of a number that was read.
 #[tactic(auto, using(crate::proofs::Drafting::drawing))]
 fn number_read(mint: &Mint, part: &mut Filling, n: &i128)
     ensures { drawn mint.now part.new ≡ done (num n.now) }
@@ -47,7 +47,7 @@ fn number_read(mint: &Mint, part: &mut Filling, n: &i128)
     *part = Filling::Done(Value::Num(*n));
 }
 
-// A number is read, where it is one of the part's.
+/// A number is read, where it is one of the part's.
 fn num_into(mint: &Mint, width: u32, m: u64, part: &mut Filling, view: &RecvView<'_>) -> bool
     requires fits { m < 256 ^ width }
     requires holds { Holds (num_into (width_as width) m (drawn mint.now part.old) (place_of view.now)) }
@@ -63,7 +63,7 @@ fn num_into(mint: &Mint, width: u32, m: u64, part: &mut Filling, view: &RecvView
     }
 }
 
-// The number of a union is read, where it has an arm.
+/// The number of a union is read, where it has an arm.
 #[tactic(auto, using(crate::proofs::Getting::getting))]
 fn tag_into(mint: &Mint, width: u32, m: u64, part: &Filling, view: &RecvView<'_>) -> Option<Filling>
     requires fits { m < 256 ^ width }
@@ -106,7 +106,7 @@ fn tag_into(mint: &Mint, width: u32, m: u64, part: &Filling, view: &RecvView<'_>
     }
 }
 
-// The draft of a union whose number was read.
+/// The draft of a union whose number was read.
 #[tactic(auto, using(crate::proofs::Drafting::drawing))]
 fn tag_read(mint: &Mint, n: &i128, item: u32) -> Filling
     ensures { drawn mint.now result ≡ tagged n.now (type_at mint.now item) }
@@ -114,7 +114,7 @@ fn tag_read(mint: &Mint, n: &i128, item: u32) -> Filling
     Filling::Tagged(*n, item)
 }
 
-// Whether a value is there is read.
+/// Whether a value is there is read.
 #[tactic(auto, using(crate::proofs::Getting::getting))]
 fn flag_into(mint: &Mint, width: u32, m: u64, part: &mut Filling, view: &RecvView<'_>) -> bool
     requires holds { Holds (flag_into (width_as width) m (drawn mint.now part.old) (place_of view.now)) }

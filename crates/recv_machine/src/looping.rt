@@ -35,7 +35,7 @@ pub fn elements_of(mint: &Mint, part: &Filling) -> Elements
     }
 }
 
-// The elements of a node of which nothing was read: the fewest that there may be.
+/// The elements of a node of which nothing was read: the fewest that there may be.
 fn elements_at(mint: &Mint, id: u32) -> Elements
     ensures { GoesOver mint.now result (raw (type_at mint.now id)) }
 {

@@ -13,7 +13,7 @@ use mint::kind::Kind;
 use mint::node::{Labels, Node, Tag};
 use mint::table::Mint;
 
-// The number of a word in two's complement.
+/// The number of a word in two's complement.
 fn signed(width: u32, m: u64) -> i128
     requires { m < 256 ^ width }
     ensures { result ≡ number_of true (width_as width) m }
@@ -33,7 +33,7 @@ fn signed(width: u32, m: u64) -> i128
     }
 }
 
-// The number of a word, for a kind.
+/// The number of a word, for a kind.
 fn kind_number(kind: Kind, width: u32, m: u64) -> i128
     requires { m < 256 ^ width }
     ensures { result ≡ number_of (is_signed (number kind)) (width_as width) m }
@@ -55,7 +55,7 @@ pub fn tag_number(tag: &Tag, width: u32, m: u64) -> Option<i128>
     }
 }
 
-// The number of a word, where it is one of the labels.
+/// The number of a word, where it is one of the labels.
 fn label_number(labels: &Labels, width: u32, m: u64) -> Option<i128>
     requires { m < 256 ^ width }
     ensures { result ≡ passing (width_as width) m (label labels.now) }
@@ -90,7 +90,7 @@ pub fn scalar_number(mint: &Mint, id: u32, width: u32, m: u64) -> Option<i128>
     }
 }
 
-// The number of a word, where it is one of the kind's.
+/// The number of a word, where it is one of the kind's.
 fn number_in_row(kind: Kind, width: u32, m: u64) -> Option<i128>
     requires { m < 256 ^ width }
     ensures { result ≡ passing (width_as width) m (number kind) }
@@ -102,7 +102,7 @@ fn number_in_row(kind: Kind, width: u32, m: u64) -> Option<i128>
     }
 }
 
-// The number of a word, where it is a letter's.
+/// The number of a word, where it is a letter's.
 fn letter_number(width: u32, m: u64) -> Option<i128>
     requires { m < 256 ^ width }
     ensures { result ≡ digit_passing (text Any) (width_as width) m }

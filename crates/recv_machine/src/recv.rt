@@ -26,7 +26,7 @@ pub enum Got {
     Not,
 }
 
-// How many calls may be nested.
+/// How many calls may be nested.
 fn deepest_call() -> u32
     ensures { result ≡ deepest }
 {

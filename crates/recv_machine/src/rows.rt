@@ -17,14 +17,14 @@ use mint::table::Mint;
 use mint::value::Value;
 use raw_buf::RecvView;
 
-// The draft of a field, where it is there.
+/// The draft of a field, where it is there.
 fn item(fields: &Fillings, n: usize) -> Option<&Filling>
     ensures { option_copied result ≡ slice_get fields.now.items n }
 {
     fields.get(n)
 }
 
-// The draft at a place.
+/// The draft at a place.
 #[tactic(auto, using(crate::proofs::Looking::fields))]
 fn nth<'a>(mint: &Mint, fields: &'a Fillings, n: u32) -> Option<&'a Filling>
     ensures { option_map (λ w. drawn mint.now w.now) result
@@ -33,7 +33,7 @@ fn nth<'a>(mint: &Mint, fields: &'a Fillings, n: u32) -> Option<&'a Filling>
     item(fields, n as usize)
 }
 
-// The draft of a field, where there is a struct that has it.
+/// The draft of a field, where there is a struct that has it.
 #[tactic(auto, using(crate::proofs::Drafting::drawing))]
 fn field_of<'a>(mint: &Mint, draft: &'a Filling, n: u32) -> Option<&'a Filling>
     ensures { option_map (λ w. drawn mint.now w.now) result ≡ in_draft n (drawn mint.now draft.now) }
@@ -50,7 +50,7 @@ fn field_of<'a>(mint: &Mint, draft: &'a Filling, n: u32) -> Option<&'a Filling>
     }
 }
 
-// The part at a path.
+/// The part at a path.
 #[tactic(auto, using(crate::proofs::Looking::parts))]
 fn part_at<'a>(mint: &Mint, draft: &'a Filling, path: &Path) -> Option<&'a Filling>
     ensures { option_map (λ w. drawn mint.now w.now) result ≡ part path.now (drawn mint.now draft.now) }
@@ -65,7 +65,7 @@ fn part_at<'a>(mint: &Mint, draft: &'a Filling, path: &Path) -> Option<&'a Filli
     Some(here)
 }
 
-// How many elements a list, row or text has.
+/// How many elements a list, row or text has.
 #[tactic(auto, using(crate::proofs::Looking::lengths))]
 fn length_at(mint: &Mint, draft: &Filling) -> Option<usize>
     ensures { result ≡ length_in (drawn mint.now draft.now) }
@@ -97,7 +97,7 @@ fn length_at(mint: &Mint, draft: &Filling) -> Option<usize>
     }
 }
 
-// How many elements a value has that was read.
+/// How many elements a value has that was read.
 #[tactic(auto, using(crate::proofs::Looking::lengths))]
 fn length_of_value(mint: &Mint, value: &Value) -> Option<usize>
     ensures { result ≡ length_in (done (seen value.now)) }

@@ -45,7 +45,7 @@ pub fn run_block(
     Ok(())
 }
 
-// Runs one operation.
+/// Runs one operation.
 #[cycle(run)]
 #[tactic(auto, using(crate::proofs::Running::running))]
 fn run_op(
@@ -78,7 +78,7 @@ fn run_op(
     }
 }
 
-// Runs an operation on the part at its path.
+/// Runs an operation on the part at its path.
 #[cycle(run)]
 #[tactic(auto, using(crate::proofs::Running::running))]
 fn run_at(
@@ -103,7 +103,7 @@ fn run_at(
     Ok(())
 }
 
-// What an operation makes of the part at its path.
+/// What an operation makes of the part at its path.
 #[cycle(run)]
 #[tactic(auto, using(crate::proofs::Running::running))]
 fn act(
@@ -139,7 +139,7 @@ fn act(
     }
 }
 
-// Fills a draft by the code of a number.
+/// Fills a draft by the code of a number.
 #[cycle(run)]
 #[tactic(auto, using(crate::proofs::Running::running))]
 fn run_called(
@@ -187,7 +187,7 @@ pub fn run_fresh(
     Ok(value)
 }
 
-// Fills the value that may be there.
+/// Fills the value that may be there.
 #[cycle(run)]
 #[tactic(auto, using(crate::proofs::Running::running))]
 fn run_some(
@@ -216,7 +216,7 @@ fn run_some(
     }
 }
 
-// Fills the value of a union's arm.
+/// Fills the value of a union's arm.
 #[cycle(run)]
 #[tactic(auto, using(crate::proofs::Running::running))]
 fn run_switch(
@@ -250,7 +250,7 @@ fn run_switch(
     }
 }
 
-// Fills so many values of a node.
+/// Fills so many values of a node.
 #[cycle(run)]
 #[tactic(auto, using(crate::proofs::Running::running))]
 fn run_items(
@@ -273,7 +273,7 @@ fn run_items(
     Ok(values)
 }
 
-// Fills a number of a node's row or text.
+/// Fills a number of a node's row or text.
 #[cycle(run)]
 #[tactic(auto, using(crate::proofs::Running::running))]
 fn run_digit(
@@ -298,7 +298,7 @@ fn run_digit(
     }
 }
 
-// Fills so many numbers of a node's row or text.
+/// Fills so many numbers of a node's row or text.
 #[cycle(run)]
 #[tactic(auto, using(crate::proofs::Running::running))]
 fn run_numbers(
@@ -322,7 +322,7 @@ fn run_numbers(
     Ok(row)
 }
 
-// Fills each element of a list whose length is known.
+/// Fills each element of a list whose length is known.
 #[cycle(run)]
 #[tactic(auto, using(crate::proofs::Running::running))]
 fn run_each(

@@ -14,7 +14,7 @@ use mint::table::Mint;
 use mint::value::{Value, Values};
 use std::alloc::Global;
 
-// The blank value of a node, which is void where the table does not have the node.
+/// The blank value of a node, which is void where the table does not have the node.
 #[tactic(auto, using(crate::proofs::Becoming::settling))]
 fn blank_at(alloc: Global, mint: &Mint, id: u32) -> Result<Value, NoMemory>
     ensures { IfOk result (λ v. seen v ≡ blank (type_at mint.now id)) }
@@ -60,14 +60,14 @@ fn settle_all(alloc: Global, mint: &Mint, fields: Fillings) -> Result<Values, No
     Ok(values)
 }
 
-// How many fields there are.
+/// How many fields there are.
 fn count(fields: &Fillings) -> usize
     ensures { result ≡ length fields.now.items }
 {
     fields.len()
 }
 
-// Exchanges the draft of a field for another.
+/// Exchanges the draft of a field for another.
 fn exchange(fields: &mut Fillings, at: usize, field: &mut Filling)
     requires { at < length fields.old.items }
     ensures items { fields.new.items ≡ slice_set fields.old.items at field.old }

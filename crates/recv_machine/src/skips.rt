@@ -9,14 +9,14 @@ use crate::draft::Filling;
 use mint::table::Mint;
 use raw_buf::RecvView;
 
-// Whether it is a number that positions are multiples of.
+/// Whether it is a number that positions are multiples of.
 fn is_multiple(a: u32) -> bool
     ensures { result ≡ is_width a }
 {
     a == 1 || a == 2 || a == 4 || a == 8
 }
 
-// Whether octets are all 0.
+/// Whether octets are all 0.
 #[tactic(auto, using(crate::proofs::Skipping::zeros))]
 fn are_zeros(octets: &[u8]) -> bool
     ensures { result ≡ all_zero octets.now }

@@ -24,7 +24,7 @@ pub fn is_width(width: u32) -> bool
     matches!(width, 1 | 2 | 4 | 8)
 }
 
-// A number that was taken is put into the part at a path, from a place of the path on.
+/// A number that was taken is put into the part at a path, from a place of the path on.
 #[cycle(putting)]
 #[tactic(auto, using(crate::proofs::Putting::putting))]
 fn put_word(
@@ -60,7 +60,7 @@ fn put_word(
     }
 }
 
-// The same in the fields of a struct.
+/// The same in the fields of a struct.
 #[cycle(putting)]
 #[tactic(auto, using(crate::proofs::Putting::putting))]
 fn put_in(
@@ -87,7 +87,7 @@ fn put_in(
     put_word(mint, get, width, m, &mut fields[at], path, from + 1, view)
 }
 
-// A number is taken at an offset, for the part at a path.
+/// A number is taken at an offset, for the part at a path.
 fn run_word(
     mint: &Mint,
     get: &Get,
@@ -111,7 +111,7 @@ fn run_word(
     put_word(mint, get, width, m, draft, path, 0, view)
 }
 
-// Whether the octets at an offset are these.
+/// Whether the octets at an offset are these.
 #[tactic(auto, using(crate::proofs::Within::octets))]
 fn run_const(off: u32, octets: &Octets, view: &RecvView<'_>) -> bool
     requires { off + length octets.now ≤ view.now.near }
@@ -122,7 +122,7 @@ fn run_const(off: u32, octets: &Octets, view: &RecvView<'_>) -> bool
     octets.as_slice() == &view.rest()[off..off + octets.len()]
 }
 
-// One get.
+/// One get.
 #[tactic(auto, using(crate::proofs::Within::constants))]
 fn run_get(mint: &Mint, get: &Get, draft: &mut Filling, view: &RecvView<'_>) -> bool
     requires { Holds (got get.now (drawn mint.now draft.old) (place_of view.now)) }
@@ -146,7 +146,7 @@ fn run_get(mint: &Mint, get: &Get, draft: &mut Filling, view: &RecvView<'_>) -> 
     }
 }
 
-// The gets of a take, one after the other.
+/// The gets of a take, one after the other.
 fn run_gets(mint: &Mint, gets: &Gets, draft: &mut Filling, view: &RecvView<'_>) -> bool
     requires { Holds (all_got gets.now (drawn mint.now draft.old) (place_of view.now)) }
     ensures { Tested result (drawn mint.now draft.new) (place_of view.now)

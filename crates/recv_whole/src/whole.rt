@@ -39,7 +39,7 @@ pub fn inlined(alloc: Global, enc: Encoding, mint: &Mint, id: u32) -> Result<Rec
     inline_recv(alloc, &subs, id)
 }
 
-// The same octets.
+/// The same octets.
 fn octets_of(octets: &[u8]) -> &[u8]
     ensures same { result.now ≡ octets.now }
     ensures octets { AreOctets result.now }
@@ -47,7 +47,7 @@ fn octets_of(octets: &[u8]) -> &[u8]
     &octets[0..]
 }
 
-// The octets that are left, and that there are at least as many as the place says.
+/// The octets that are left, and that there are at least as many as the place says.
 fn rest_of<'a>(view: &RecvView<'a>) -> &'a [u8]
     ensures octets { AreOctets (drop view.now.pos view.now.octets) }
     ensures within { view.now.pos ≤ length view.now.octets }

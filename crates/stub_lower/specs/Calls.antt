@@ -1,7 +1,7 @@
 -- Calls of the codes of parts, whatever blocks they stand in.
 use Rattle.std.specs.Prelude.{ℕ, suc, ℤ, List, [], ◌∷◌}
 
--- calls for fields, the first of them of this number, and what stands after them
+-- calls for fields, the first of them of this number, and what follows them
 abbrev pub calls_of : {B : Type 0} → (ℕ → List ℕ → B → B) → B → ℕ → List ℕ → B
 calls_of call stop j [] = stop
 calls_of call stop j (i ∷ is) = call i (j ∷ []) (calls_of call stop (suc j) is)

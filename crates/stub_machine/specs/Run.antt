@@ -62,7 +62,7 @@ Runs x s = IsThere (ended x s)
 abbrev pub Ends : Steps → State → State → Type 0
 Ends x s t = ended x s ≡ Some t
 
--- a state where steps from another were broken off: wherever they lead, there are no fewer octets than
+-- a state where steps from another were broken off: wherever they lead, there are at least as many octets as
 -- here, and no count of what was spent fell so far
 pub record Grown (x : Steps) (s t : State) : Type 0 where
   pub grows : (u : State) → Ends x s u → length t.done ≤ length u.done

@@ -55,7 +55,7 @@ pub fn run_block(
     Ok(())
 }
 
-// Runs one operation.
+/// Runs one operation.
 #[cycle(run)]
 #[tactic(auto, using(crate::proofs::Running::running, crate::proofs::Growing::growing))]
 fn run_op(
@@ -118,7 +118,7 @@ fn run_op(
     }
 }
 
-// Runs a body on each element of the value at a path.
+/// Runs a body on each element of the value at a path.
 #[cycle(run)]
 #[tactic(auto, using(crate::proofs::Running::running, crate::proofs::Growing::growing))]
 fn run_each(
@@ -142,7 +142,7 @@ fn run_each(
     run_elements(machine, calls, body, here, buf)
 }
 
-// Runs a body on each element.
+/// Runs a body on each element.
 #[cycle(run)]
 #[tactic(auto, using(crate::proofs::Running::running, crate::proofs::Growing::growing))]
 fn run_elements(
@@ -169,7 +169,7 @@ fn run_elements(
     }
 }
 
-// Runs a body on each value.
+/// Runs a body on each value.
 #[cycle(run)]
 #[tactic(auto, using(crate::proofs::Running::running, crate::proofs::Growing::growing))]
 fn run_items(
@@ -192,7 +192,7 @@ fn run_items(
     Ok(())
 }
 
-// Runs a body on each number of a row.
+/// Runs a body on each number of a row.
 #[cycle(run)]
 #[tactic(auto, using(crate::proofs::Running::running, crate::proofs::Growing::growing))]
 fn run_numbers(
@@ -219,7 +219,7 @@ fn run_numbers(
     Ok(())
 }
 
-// The number at a place of a row, as a value.
+/// The number at a place of a row, as a value.
 #[tactic(auto, using(crate::proofs::Running::values))]
 fn number_at(row: &Row, i: usize) -> Value
     requires { i < length row.now.numbers }
@@ -231,7 +231,7 @@ fn number_at(row: &Row, i: usize) -> Value
     }
 }
 
-// Runs a body on the value that may be there at a path.
+/// Runs a body on the value that may be there at a path.
 #[cycle(run)]
 #[tactic(auto, using(crate::proofs::Running::running, crate::proofs::Growing::growing))]
 fn run_some(
@@ -255,7 +255,7 @@ fn run_some(
     run_present(machine, calls, body, here, buf)
 }
 
-// Runs a body on the value that may be there.
+/// Runs a body on the value that may be there.
 #[cycle(run)]
 #[tactic(auto, using(crate::proofs::Running::running, crate::proofs::Growing::growing))]
 fn run_present(
@@ -279,7 +279,7 @@ fn run_present(
     }
 }
 
-// Runs the code of a number on the value at a path.
+/// Runs the code of a number on the value at a path.
 #[cycle(run)]
 #[tactic(auto, using(crate::proofs::Running::running, crate::proofs::Growing::growing))]
 fn run_called(

@@ -19,7 +19,7 @@ fn field_of(value: &Value, n: u32) -> Option<&Value>
     }
 }
 
-// The value at a place.
+/// The value at a place.
 #[tactic(auto, using(crate::proofs::PartLaws::parts))]
 fn nth(values: &Values, n: u32) -> Option<&Value>
     ensures { option_map (λ w. seen w.now) result ≡ field n (all_seen values.now) }
@@ -76,7 +76,7 @@ pub fn row_at<'a>(path: &Path, value: &'a Value) -> Option<&'a Row>
     }
 }
 
-// The row that a value is.
+/// The row that a value is.
 #[tactic(auto, using(crate::proofs::PartLaws::parts))]
 fn row_of(value: &Value) -> Option<&Row>
     ensures { option_map (λ r. (r.now.kind, r.now.numbers)) result ≡ row_in (seen value.now) }
@@ -127,7 +127,7 @@ pub fn arm_at<'a>(path: &Path, value: &'a Value) -> Option<(&'a i128, &'a Value)
     }
 }
 
-// The tag of an arm, and the value after it.
+/// The tag of an arm, and the value after it.
 fn arm(value: &Value) -> Option<(&i128, &Value)>
     ensures { option_map (λ a. (a.0.now, seen a.1.now)) result ≡ arm_in (seen value.now) }
 {

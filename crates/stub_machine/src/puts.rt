@@ -15,7 +15,7 @@ use mint::value::Value;
 use raw_buf::SendBuf;
 use wire_def::{Head, Order};
 
-// A number modulo twice the half, where it fits.
+/// A number modulo twice the half, where it fits.
 fn wrap(half: u64, n: &i128) -> Option<u64>
     requires { half ≤ 2 ^ 63 }
     ensures { result ≡ wrapped half n.now }
@@ -30,7 +30,7 @@ fn wrap(half: u64, n: &i128) -> Option<u64>
     }
 }
 
-// Half as many as the numbers of so many octets.
+/// Half as many as the numbers of so many octets.
 fn half(width: u32) -> Option<u64>
     ensures { result ≡ half_of width }
 {
@@ -58,7 +58,7 @@ pub fn put_word(buf: &mut SendBuf, off: usize, width: u32, order: Order, n: &i12
     buf.put(off, width as usize, order, v);
 }
 
-// Stores the number at a path.
+/// Stores the number at a path.
 fn put_number(buf: &mut SendBuf, off: u32, path: &Path, width: u32, order: Order, value: &Value)
     requires there { IsThere (on_some (on_some (at path.now (seen value.now)) number_in) (word width order)) }
     requires within { off
@@ -76,7 +76,7 @@ fn put_number(buf: &mut SendBuf, off: u32, path: &Path, width: u32, order: Order
     put_word(buf, off as usize, width, order, &n);
 }
 
-// Stores the tag of the arm at a path.
+/// Stores the tag of the arm at a path.
 fn put_tag(buf: &mut SendBuf, off: u32, path: &Path, width: u32, order: Order, value: &Value)
     requires there { IsThere (on_some (on_some (at path.now (seen value.now)) tag_in) (word width order)) }
     requires within { off
@@ -94,7 +94,7 @@ fn put_tag(buf: &mut SendBuf, off: u32, path: &Path, width: u32, order: Order, v
     put_word(buf, off as usize, width, order, &n);
 }
 
-// Stores whether a value is there at a path.
+/// Stores whether a value is there at a path.
 fn put_flag(buf: &mut SendBuf, off: u32, path: &Path, width: u32, order: Order, value: &Value)
     requires there { IsThere (on_some (on_some (at path.now (seen value.now)) flag_in) (word width order)) }
     requires within { off
@@ -112,7 +112,7 @@ fn put_flag(buf: &mut SendBuf, off: u32, path: &Path, width: u32, order: Order, 
     put_word(buf, off as usize, width, order, &n);
 }
 
-// Stores a length, multiplied and raised.
+/// Stores a length, multiplied and raised.
 fn put_count(
     buf: &mut SendBuf,
     off: u32,
@@ -140,7 +140,7 @@ fn put_count(
     put_word(buf, off as usize, width, order, &number);
 }
 
-// The number of a short Mach descriptor, where its parts fit.
+/// The number of a short Mach descriptor, where its parts fit.
 fn descriptor_of(name: u32, size: u32, n: usize, mul: u32) -> Option<u32>
     ensures { option_map (λ d. le 4 d) result ≡ descriptor name size (n * mul) }
 {
@@ -152,7 +152,7 @@ fn descriptor_of(name: u32, size: u32, n: usize, mul: u32) -> Option<u32>
     }
 }
 
-// Stores a short Mach descriptor, whose number is a length, multiplied.
+/// Stores a short Mach descriptor, whose number is a length, multiplied.
 fn put_short(
     buf: &mut SendBuf,
     off: u32,
@@ -182,7 +182,7 @@ fn put_short(
     buf.put(off as usize, 4, Order::Little, u64::from(number));
 }
 
-// Stores what a put says.
+/// Stores what a put says.
 fn run_put(put: &Put, head: &Head, value: &Value, buf: &mut SendBuf)
     requires there { IsThere (put_octets head.now put.now (seen value.now)) }
     requires within { offset put.now + octets_in (put_octets head.now put.now (seen value.now))
@@ -207,7 +207,7 @@ fn run_put(put: &Put, head: &Head, value: &Value, buf: &mut SendBuf)
     }
 }
 
-// Stores what each put says, one after the other.
+/// Stores what each put says, one after the other.
 fn run_puts(size: u32, puts: &Puts, head: &Head, value: &Value, buf: &mut SendBuf)
     // What may be put.
     requires there { IsThere (put_all head.now (seen value.now) puts.now (replicate size None)) }

@@ -52,7 +52,7 @@ pub fn run_row_wide(path: &Path, order: Order, value: &Value, buf: &mut SendBuf)
     buf.advance(4 * row.len());
 }
 
-// Stores the numbers of a row at the beginning of the space, each in four octets.
+/// Stores the numbers of a row at the beginning of the space, each in four octets.
 fn put_wide(row: &Row, order: Order, buf: &mut SendBuf)
     requires there { IsThere (wide order row.now.numbers) }
     requires within { 4 * length row.now.numbers ≤ length buf.old.front }

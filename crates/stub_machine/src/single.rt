@@ -68,7 +68,7 @@ pub fn run_patch(at: u32, sub: u32, order: Order, buf: &mut SendBuf)
     buf.patch4(at as usize, order, length);
 }
 
-// A length less a number, modulo 2^32.
+/// A length less a number, modulo 2^32.
 fn length_less(n: usize, sub: u32) -> u32
     ensures { result ≡ (n + 2 ^ 32 - sub) % 2 ^ 32 }
 {

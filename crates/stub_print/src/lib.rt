@@ -1,6 +1,6 @@
 //! The text of stub code: a line for each operation, put and get.
 //!
-//! A text tells its code: two names and codes that have one text are the same.
+//! A text determines its code: two names without a line feed, with codes, that have one text are the same.
 #![tactic(auto)]
 
 mod gets;
