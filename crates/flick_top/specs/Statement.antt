@@ -49,6 +49,10 @@ Leaves made words files left left' held held' status =
 abbrev pub IsUsage : List (List ℕ) → ℕ → Type 0
 IsUsage words status = (status ≡ 2) ↔ (command_of words ≡ None)
 
+-- with status 2 and 6 no engine is left
+abbrev pub LeavesNone : Option Coded → ℕ → Type 0
+LeavesNone made status = (status ≡ 2) ⊎ (status ≡ 6) → made ≡ None
+
 -- status 6 comes only where the words name a file
 abbrev pub NeedsFile : List (List ℕ) → ℕ → Type 0
 NeedsFile words status = status ≡ 6 → ReadsFiles (command_of words)

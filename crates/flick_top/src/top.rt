@@ -5,7 +5,7 @@ ghost use Rattle.raw_buf.specs.Buf.{NoneFell};
 ghost use Rattle.flick_top.specs.Output.{Files};
 ghost use Rattle.flick_top.specs.Outside.{TakesFront, ComesBy, StandsUnless};
 ghost use Rattle.flick_top.specs.Spending.{SpendsBuf};
-ghost use Rattle.flick_top.specs.Statement.{Works, Leaves, IsUsage, NeedsFile, WritesNothing, WritesWholeLines, TakesMore, TakesAtMost, TakesNothing, Completes};
+ghost use Rattle.flick_top.specs.Statement.{Works, Leaves, LeavesNone, IsUsage, NeedsFile, WritesNothing, WritesWholeLines, TakesMore, TakesAtMost, TakesNothing, Completes};
 
 use crate::coming::{TaskErr, task_of};
 use crate::command::command_of;
@@ -20,8 +20,7 @@ use std::alloc::Global;
 ///
 /// The words are those of a command line without the program's name. Messages are made in `buf`,
 /// which may hold anything. Each answer is written as a whole, with its line feed. The engine of a
-/// command over a back end is left in `made`, which may hold anything before; what is left there where
-/// no engine was made is not said.
+/// command over a back end is left in `made`; what was there before is dropped first.
 pub fn flick<F: Shelf, S: Source, K: Sink>(
     alloc: Global,
     words: &Words,
@@ -38,6 +37,7 @@ pub fn flick<F: Shelf, S: Source, K: Sink>(
     ensures made { (files : Files) → F.files shelf.old ≡ Some files
         → Leaves made.new words.now files (S.left input.old) (S.left input.new)
         (K.held output.old) (K.held output.new) result }
+    ensures stale { LeavesNone made.new result }
     // What a status says of the words, and of what was written.
     ensures usage { IsUsage words.now result }
     ensures file { NeedsFile words.now result }
@@ -67,6 +67,7 @@ pub fn flick<F: Shelf, S: Source, K: Sink>(
     // Which statuses there are.
     ensures range { result ≤ 8 }
 {
+    *made = None;
     let Some(command) = command_of(words) else {
         return Status::Usage.number();
     };

@@ -1,4 +1,4 @@
-use Rattle.std.proofs.Common.{arith, inr}
+use Rattle.std.proofs.Common.{arith, inr, None}
 use Rattle.flick_top.specs.Made.{codes_of}
 use Rattle.flick_top.proofs.Completing.{completes}
 use Rattle.flick_top.proofs.Leaving.{task-leaves}
@@ -9,11 +9,11 @@ use Rattle.flick_top.proofs.top.flick.Goals as goal
 pub returns-in_default-clause-work : goal.returns-in_default-clause-work
 returns-in_default-clause-work g c = λ files told.
     rw c.number.ensures
-    (shapeless-work c.args.made.now c.args.words.now files _ _ _ (cc (c.command_of.ensures.value, c.in_default.is)))
+    (shapeless-work None c.args.words.now files _ _ _ (cc (c.command_of.ensures.value, c.in_default.is)))
 
 pub returns-in_default-clause-made : goal.returns-in_default-clause-made
 returns-in_default-clause-made g c = λ files told.
-    shapeless-leaves c.args.made.now c.args.words.now files _ _ _ (cc (c.command_of.ensures.value, c.in_default.is))
+    shapeless-leaves None c.args.words.now files _ _ _ (cc (c.command_of.ensures.value, c.in_default.is))
 
 pub returns-in-Ok-clause-completes : goal.returns-in-Ok-clause-completes
 returns-in-Ok-clause-completes g c =
