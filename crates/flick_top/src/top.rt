@@ -56,7 +56,6 @@ pub fn flick<F: Shelf, S: Source, K: Sink>(
     ensures source_told { StandsUnless 4 (S.faults input.old) (S.faults input.new) result }
     ensures sink_told { StandsUnless 5 (K.faults output.old) (K.faults output.new) result }
     ensures shelf_told { StandsUnless 6 (F.faults shelf.old) (F.faults shelf.new) result }
-    // When the work is done.
     ensures completes { Completes (S.left input.old) (S.left input.new)
         (Rose (S.faults input.old) (S.faults input.new)) (Rose (K.faults output.old) (K.faults output.new))
         (Rose (F.faults shelf.old) (F.faults shelf.new)) result }
@@ -64,7 +63,6 @@ pub fn flick<F: Shelf, S: Source, K: Sink>(
     ensures spends { (files : Files) → F.files shelf.old ≡ Some files
         → SpendsBuf made.new words.now files (S.left input.old) buf.old buf.new result }
     ensures spent { NoneFell buf.old.spent buf.new.spent }
-    // Which statuses there are.
     ensures range { result ≤ 8 }
 {
     *made = None;
