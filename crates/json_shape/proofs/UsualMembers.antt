@@ -82,9 +82,20 @@ pub usual_tree : (k : Back) (op : text.Json) (id local args : Option text.Json) 
     → of_json op ≡ Some (string t) → AreAlike id i → AreAlike (port_of k local) l → AreAlike args a
     → of_json (usual k op id local args) ≡ Some (object (members_of k t i l a))
 usual_tree k op id local args t i l a is_op is_id is_local is_args =
-    ap (option_map object)
-    (set_next (codes "op") (Some op) (Some (string t)) _ _ is_op ∙ set_next (head_key k) id i _ _ is_id
-    ∙ set_next (codes "local") (port_of k local) l _ _ is_local ∙ set_next (codes "args") args a _ _ is_args)
+    let with_args : text.Members = put_some (codes "args") args text.no_members in
+    let with_local : text.Members = put_some (codes "local") (port_of k local) with_args in
+    let with_id : text.Members = put_some (head_key k) id with_local in
+    let op_set : Members = set_some (codes "op") (Some (string t)) no_members in
+    let id_set : Members = set_some (head_key k) i op_set in
+    let local_set : Members = set_some (codes "local") l id_set in
+    let args_set : Members = set_some (codes "args") a local_set in
+    let one : of_members (put_some (codes "op") (Some op) with_id) no_members ≡ of_members with_id op_set =
+    set_next (codes "op") (Some op) (Some (string t)) with_id no_members is_op in
+    let two : of_members with_id op_set ≡ of_members with_local id_set = set_next (head_key k) id i with_local op_set is_id in
+    let three : of_members with_local id_set ≡ of_members with_args local_set =
+    set_next (codes "local") (port_of k local) l with_args id_set is_local in
+    let four : of_members with_args local_set ≡ Some args_set = set_next (codes "args") args a text.no_members local_set is_args in
+    ap (option_map object) (one ∙ two ∙ three ∙ four)
 
 -- a key that is none of the others
 abbrev IsApart : List ℕ → Type 0

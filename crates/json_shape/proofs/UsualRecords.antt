@@ -20,7 +20,7 @@ use Rattle.json_shape.specs.Operations.{is_oneway, op_named}
 use Rattle.json_shape.specs.Presents.{Presents}
 use Rattle.json_shape.specs.Records.{Comes}
 use Rattle.json_shape.specs.Requests.{head_of, is_idle_port, is_unanswered}
-use Rattle.json_shape.specs.Usual.{args_of, port_of, put_some, usual, IsPresented, IsRead, IsRequestOf, IsWord}
+use Rattle.json_shape.specs.Usual.{args_of, usual, IsPresented, IsRead, IsRequestOf, IsWord}
 use Rattle.json_shape.specs.Reading.{value_of}
 use Rattle.json_shape.proofs.Shown.{read_presents}
 use Rattle.json_shape.proofs.ReadBack.{head_read, whole}
@@ -93,11 +93,3 @@ value_presented j js f v t same is read typed =
       listed = array_listed j read.tree there read.is;
       presents = read_presents f read.tree v t same read.gives typed;
     }
-
--- a tree with the members of a record and no others
-pub usual_members : (j : text.Json) (k : Back) (op : text.Json) (id local args : Option text.Json)
-    (all after_op after_id after_local : text.Members) → j ≡ text.object all → all ≡ text.member (codes "op") op after_op → after_op ≡ put_some (head_key k) id after_id
-    → after_id ≡ put_some (codes "local") (port_of k local) after_local → after_local ≡ put_some (codes "args") args text.no_members
-    → j ≡ usual k op id local args
-usual_members j k op id local args all after_op after_id after_local is first second third last =
-    rw (is, first, second, third, last) refl

@@ -5,5 +5,5 @@ use Rattle.json_shape.proofs.usual_requests.request_of.Goals as goal
 
 pub returns-clause-request : goal.returns-clause-request
 returns-clause-request c =
-    subst (λ (j : text.Json). IsRequestOf c.args.bound.now j c.in_ok-record.record) (sym c.in_ok-members.ensures)
-    c.in_ok-record.ensures.request
+    let is = rw c.back.ensures at c.in_ok-members.ensures in
+    subst (λ (j : text.Json). IsRequestOf c.args.bound.now j c.in_ok-record.record) (sym is) c.in_ok-record.ensures.request
