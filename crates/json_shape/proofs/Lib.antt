@@ -52,5 +52,7 @@ pub mod Seeking
 pub mod UsualTexts
 -- * What is read of text in the usual form, by induction on items and on members
 pub mod UsualReading
+-- The members of request records in the usual form, by cases on what is there
+pub mod UsualMembers
 -- * Request records in the usual form
 pub mod UsualRecords

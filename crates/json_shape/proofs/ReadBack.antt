@@ -77,7 +77,8 @@ found is (p ∷ ops) k (suc j) o h there =
 abbrev pub written : Back → List ℕ → Head → Data → Data
 written k t h args = object (put (codes "op") (string t) (head_json k h (put (codes "args") args no_members)))
 
-in_word : (n : ℕ) → n < 2 ^ 32 → (if nat_lt n (2 ^ 32) then Some n else None) ≡ Some n
+-- a number of 32 bits
+pub in_word : (n : ℕ) → n < 2 ^ 32 → (if nat_lt n (2 ^ 32) then Some n else None) ≡ Some n
 in_word n h = let yes : nat_lt n (2 ^ 32) ≡ true = lt-ltb n (2 ^ 32) h in rw yes refl
 
 pub text_is : (k : Back) (t : List ℕ) (h : Head) (args : Data) → text_at (codes "op") (written k t h args) ≡ t

@@ -26,7 +26,7 @@ use Rattle.json_shape.specs.Presents.{count, member_of, size}
 use Rattle.json_shape.specs.Reading.{before, value_of, each, in_order, by_name}
 use Rattle.json_shape.specs.Scalars.{each_in, number_in}
 use Rattle.json_shape.specs.Texts.{text_of}
-use Rattle.json_shape.specs.Usual.{listed_in, AreRead, IsMember, IsRead, MembersRead}
+use Rattle.json_shape.specs.Usual.{listed_in, AreRead, IsRead, MembersRead}
 use Rattle.json_shape.proofs.Written.{neither, not_true, other_member, size-put}
 use Rattle.json_shape.proofs.WrittenScalars.{is_name}
 use Rattle.wire_def.proofs.ScalarGrammar.{left_true, right_true}
@@ -254,22 +254,3 @@ list_read j js c f vs same read = record {
   is = ap of_json same ∙ ap (option_map json.array) read.are;
   gives = ap (option_map vals.items) read.gives ∙ ap Some (sym (seen-Items vs));
 }
-
--- ---- the members of a record
-
-pub member_here : {A : Type 0} → (ms : List (Member A)) (i : ℕ) (m : Member A) (j : text.Json) (k : List ℕ) → i < length ms
-    → m ≡ get_or ms i m → bytes_eq m.0.now k ≡ true → j ≡ value_view m.1 → IsMember i (members_view ms) k j
-member_here [] i m j k h is same there = absurd (omega (arith, h))
-member_here {A} (x ∷ ms) zero m j k h is same there =
-    let key = ap (λ (y : Member A). y.0.now) (sym is) ∙ (bytes_eq-Decides m.0.now k).0 same in
-    (key, ap (λ (y : Member A). value_view y.1) (sym is) ∙ sym there)
-member_here (x ∷ ms) (suc i) m j k h is same there = member_here ms i m j k (omega (arith, h)) is same there
-
-pub three_members : {A : Type 0} → (ms : List (Member A)) (k l m : List ℕ) (a b c : text.Json) → length ms ≡ 3
-    → IsMember 0 (members_view ms) k a → IsMember 1 (members_view ms) l b → IsMember 2 (members_view ms) m c
-    → members_view ms ≡ text.member k a (text.member l b (text.member m c text.no_members))
-three_members [] k l m a b c len p q r = absurd (omega (arith, len))
-three_members (x ∷ []) k l m a b c len p q r = absurd (omega (arith, len))
-three_members (x ∷ y ∷ []) k l m a b c len p q r = absurd (omega (arith, len))
-three_members (x ∷ y ∷ z ∷ []) k l m a b c len p q r = rw (p.0, p.1, q.0, q.1, r.0, r.1) refl
-three_members (x ∷ y ∷ z ∷ w ∷ ms) k l m a b c len p q r = absurd (omega (arith, len))

@@ -1,33 +1,30 @@
 -- Request records in the usual form.
-use Rattle.std.proofs.Common.{◌≡◌, ℕ, ◌<◌, ◌^◌, ℤ, pos, List, length, Bool, true, false, not, Option, Some, None, Ok, option_map, refl, sym, ap, ◌∙◌, codes, subst, arith}
-use Rattle.std.specs.Prelude.{is_some}
+use Rattle.std.proofs.Common.{◌≡◌, ℕ, ◌<◌, ◌^◌, ℤ, pos, List, Bool, true, false, not, ◌&&◌, Option, Some, None, Ok, option_map, refl, sym, ap, ◌∙◌, codes, subst}
+use Rattle.std.specs.Prelude.{is_some, option_and_then, unwrap_or}
 use Rattle.json.specs.Json as text
 use Rattle.json.specs.Find as find
-use Rattle.json.specs.Value.{members_view}
 use Rattle.mint.specs.Typed.{IsWellTyped}
 use Rattle.mint.specs.Types.{Ty}
 use Rattle.mint.specs.Values.{Val, seen}
 use Rattle.wire_def.specs.declared.encoding.Back.{Back}
-use Rattle.wire_def.specs.declared.encoding.Back.TheVariants as back
 use Rattle.pres.specs.declared.ops.Op.{Op}
 use Rattle.pres.specs.Bindings.{Binding}
 use Rattle.pres.specs.Faces.{Face, face_at, type_of}
-use Rattle.serde_json.specs.Data.{Data, number, string, unsigned}
+use Rattle.serde_json.specs.Data.{Data, array, no_items, number, object, string, unsigned}
 use Rattle.serde_json.specs.Data as json
-use Rattle.serde_json.specs.Find.{as_array, of_integer}
+use Rattle.serde_json.specs.Find.{as_array, as_str, of_integer}
 use Rattle.serde_json.specs.Read.{number_of, of_items, of_json}
 use Rattle.json_shape.specs.declared.records.RequestRec.{RequestRec}
-use Rattle.json_shape.specs.Laws.{has_idle_port}
-use Rattle.json_shape.specs.Members.{head_key, head_word, is_mach, text_at}
+use Rattle.json_shape.specs.Members.{head_key, head_number, is_mach, list_at, number_at, text_at}
 use Rattle.json_shape.specs.Operations.{is_oneway, op_named}
 use Rattle.json_shape.specs.Presents.{Presents}
 use Rattle.json_shape.specs.Records.{Comes}
-use Rattle.json_shape.specs.Requests.{head_of, request_of}
-use Rattle.json_shape.specs.Usual.{usual, IsMember, IsPresented, IsRead, IsRequestOf}
+use Rattle.json_shape.specs.Requests.{head_of, is_idle_port, is_unanswered}
+use Rattle.json_shape.specs.Usual.{args_of, usual, IsPresented, IsRead, IsRequestOf, IsWord}
 use Rattle.json_shape.specs.Reading.{value_of}
 use Rattle.json_shape.proofs.Shown.{read_presents}
-use Rattle.json_shape.proofs.UsualReading.{Member, three_members}
-use Rattle.json_shape.proofs.ReadBack.{answered, args_are, head_is, is_record, text_is, whole, written}
+use Rattle.json_shape.proofs.ReadBack.{head_read, whole}
+use Rattle.json_shape.proofs.UsualMembers.{args_there, args_tree, head_there, is_usual, local_there, members_of, op_there, port_answered, port_kept, port_number, port_tree, usual_tree, word_tree}
 
 -- the number of a head
 pub word_read : (j : text.Json) (s : List ℕ) (n : ℤ) (m : ℕ) → j ≡ text.number s → number_of s ≡ Some (of_integer n) → pos m ≡ n
@@ -49,59 +46,40 @@ array_listed (text.number s) d h is = absurd cc
 array_listed (text.string s) d h is = absurd cc
 array_listed (text.object ms) d h is = absurd cc
 
--- ---- the members of a record
-
-usual_tree : (k : Back) (op id args : text.Json) (t : List ℕ) (n : ℕ) (d : Data) → is_mach k ≡ false → of_json op ≡ Some (string t)
-    → of_json id ≡ Some (number (unsigned n)) → of_json args ≡ Some d
-    → of_json (usual k op id args) ≡ Some (written k t (head_of k n 0 true) d)
-usual_tree back.Xdr op id args t n d other o i a = rw (o, i, a) refl
-usual_tree back.CdrBig op id args t n d other o i a = rw (o, i, a) refl
-usual_tree back.CdrLittle op id args t n d other o i a = rw (o, i, a) refl
-usual_tree back.Mach op id args t n d other o i a = absurd cc
-
-word_is : (k : Back) (n : ℕ) → is_mach k ≡ false → n ≡ head_word k (head_of k n 0 true)
-word_is back.Xdr n other = refl
-word_is back.CdrBig n other = refl
-word_is back.CdrLittle n other = refl
-word_is back.Mach n other = absurd cc
-
-port_is : (k : Back) (n : ℕ) → is_mach k ≡ false → (head_of k n 0 true).local ≡ 0
-port_is back.Xdr n other = refl
-port_is back.CdrBig n other = refl
-port_is back.CdrLittle n other = refl
-port_is back.Mach n other = absurd cc
-
-busy : (k : Back) (o : Op) (n : ℕ) → is_mach k ≡ false → has_idle_port k o (head_of k n 0 true) ≡ false
-busy back.Xdr o n other = refl
-busy back.CdrBig o n other = refl
-busy back.CdrLittle o n other = refl
-busy back.Mach o n other = absurd cc
-
 -- a record that has the operation, the head and a value of such members
-pub usual_comes : (b : Binding) (op id args : text.Json) (t : List ℕ) (n k : ℕ) (o : Op) (r : RequestRec) → is_mach b.back ≡ false
-    → n < 2 ^ 32 → of_json op ≡ Some (string t) → of_json id ≡ Some (number (unsigned n)) → op_named b t ≡ Some (k, o)
-    → IsPresented args (face_at b.nodes b.shapes o.request) (seen r.value) → r.op ≡ k
-    → r.head ≡ head_of b.back n 0 (not (is_oneway b k)) → IsRequestOf b (usual b.back op id args) r
-usual_comes b op id args t n k o r other small is_op is_id named value number_is head_is_so =
-    let h = head_of b.back n 0 true in
-    let d = value.tree in
-    let j : Data = written b.back t h d in
-    let word : head_word b.back h < 2 ^ 32 = subst (λ (m : ℕ). m < 2 ^ 32) (word_is b.back n other) small in
-    let port : h.local < 2 ^ 32 = omega (arith, port_is b.back n other) in
-    let is = is_record b.back t h d word port value.listed in
-    let idle = answered b.back t h d o port (busy b.back o n other) in
-    let named_there : op_named b (text_at (codes "op") j) ≡ Some (k, o) = ap (op_named b) (text_is b.back t h d) ∙ named in
-    let begun = whole b j k o is named_there idle in
-    let heads = head_is b.back t h d (not (is_oneway b k)) word port in
-    let plain : head_of b.back (head_word b.back h) h.local (not (is_oneway b k)) ≡ head_of b.back n 0 (not (is_oneway b k)) =
-    ap (λ (m : ℕ). head_of b.back m h.local (not (is_oneway b k))) (sym (word_is b.back n other))
-    ∙ ap (λ (m : ℕ). head_of b.back n m (not (is_oneway b k))) (port_is b.back n other) in
-    let presents : Presents (face_at b.nodes b.shapes o.request) _ (seen r.value) =
-    subst (λ (x : Data). Presents (face_at b.nodes b.shapes o.request) x (seen r.value)) (sym (args_are b.back t h d)) value.presents in
+pub usual_comes : (b : Binding) (op : text.Json) (id local args : Option text.Json) (t : List ℕ) (n m k : ℕ) (o : Op) (r : RequestRec)
+    → n < 2 ^ 32 → m < 2 ^ 32 → of_json op ≡ Some (string t) → IsWord id n → IsWord local m → op_named b t ≡ Some (k, o)
+    → is_idle_port o m ≡ false → IsPresented (args_of args) (face_at b.nodes b.shapes o.request) (seen r.value) → r.op ≡ k
+    → r.head ≡ head_of b.back n m (not (is_oneway b k)) → IsRequestOf b (usual b.back op id local args) r
+usual_comes b op id local args t n m k o r small little is_op is_id is_local named busy value number_is head_is =
+    let f : Face = face_at b.nodes b.shapes o.request in
+    let wants : Bool = not (is_oneway b k) in
+    let i = word_tree id n small is_id in
+    let l = port_tree b.back local m little is_local in
+    let a = args_tree args f (seen r.value) value in
+    let j : Data = object (members_of b.back t i.tree l.tree a.tree) in
+    let is = is_usual b.back t local i.tree l.tree a.tree n (port_number b.back m) l.alike i.number l.number a.listed in
+    let op_is : text_at (codes "op") j ≡ t =
+    ap (λ (x : Option Data). unwrap_or (option_and_then as_str x) (codes "")) (op_there b.back t i.tree l.tree a.tree) in
+    let word_is : number_at (head_key b.back) j ≡ n =
+    ap (λ (x : Option Data). unwrap_or (head_number x) 0) (head_there b.back t i.tree l.tree a.tree)
+    ∙ ap (λ (x : Option ℕ). unwrap_or x 0) i.number in
+    let port_is : number_at (codes "local") j ≡ port_number b.back m =
+    ap (λ (x : Option Data). unwrap_or (head_number x) 0) (local_there b.back t i.tree l.tree a.tree)
+    ∙ ap (λ (x : Option ℕ). unwrap_or x 0) l.number in
+    let idle : is_unanswered b.back o j ≡ false =
+    ap (λ (x : ℕ). is_mach b.back && is_idle_port o x) port_is ∙ port_answered b.back o m busy in
+    let begun = whole b j k o is (ap (op_named b) op_is ∙ named) idle in
+    let heads : head_read b.back j wants ≡ head_of b.back n m wants =
+    ap (λ (x : ℕ). head_of b.back x (number_at (codes "local") j) wants) word_is
+    ∙ ap (λ (x : ℕ). head_of b.back n x wants) port_is ∙ port_kept b.back n m wants in
+    let presents : Presents f (list_at (codes "args") j) (seen r.value) =
+    subst (λ (x : Option Data). Presents f (unwrap_or x (array no_items)) (seen r.value))
+    (sym (args_there b.back t i.tree l.tree a.tree)) a.presents in
     record {
       tree = j;
-      is = usual_tree b.back op id args t n d other is_op is_id value.is;
-      comes = subst (λ x. Comes x (Ok r)) (sym begun) (number_is, head_is_so ∙ sym (heads ∙ plain), presents);
+      is = usual_tree b.back op id local args t i.tree l.tree a.tree is_op i.alike l.alike a.alike;
+      comes = subst (λ x. Comes x (Ok r)) (sym begun) (number_is, head_is ∙ sym heads, presents);
     }
 
 -- a value that an array shows and that is well typed
@@ -115,10 +93,3 @@ value_presented j js f v t same is read typed =
       listed = array_listed j read.tree there read.is;
       presents = read_presents f read.tree v t same read.gives typed;
     }
-
--- a tree with the three members of a record
-pub usual_members : {A : Type 0} → (j : text.Json) (ms : List (Member A)) (k : Back) (op id args : text.Json)
-    → j ≡ text.object (members_view ms) → length ms ≡ 3 → IsMember 0 (members_view ms) (codes "op") op
-    → IsMember 1 (members_view ms) (head_key k) id → IsMember 2 (members_view ms) (codes "args") args → j ≡ usual k op id args
-usual_members j ms k op id args is len p q r =
-    is ∙ ap text.object (three_members ms (codes "op") (head_key k) (codes "args") op id args len p q r)

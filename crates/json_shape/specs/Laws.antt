@@ -1,5 +1,5 @@
 -- Laws of the JSON of values.
-use Rattle.std.specs.Prelude.{Bool, false, not, ◌&&◌, ◌==◌, ◌≡◌, ◌⊎◌, ◌<◌, ◌^◌, ℕ, map, Some, Ok, slice_get, IsTrue}
+use Rattle.std.specs.Prelude.{Bool, false, not, ◌&&◌, ◌≡◌, ◌⊎◌, ◌<◌, ◌^◌, ℕ, map, Some, Ok, slice_get, IsTrue}
 use Rattle.mint.specs.Values.{Val}
 use Rattle.mint.specs.Typed.{IsWellTyped}
 use Rattle.wire_def.specs.declared.encoding.Back.{Back}
@@ -14,7 +14,7 @@ use Rattle.json_shape.specs.Named.{is_named}
 use Rattle.json_shape.specs.Operations.{dotted, is_oneway}
 use Rattle.json_shape.specs.Presents.{Presents}
 use Rattle.json_shape.specs.Records.{Begun}
-use Rattle.json_shape.specs.Requests.{head_of, request_of, request_json}
+use Rattle.json_shape.specs.Requests.{head_of, is_idle_port, request_of, request_json}
 use Rattle.json_shape.specs.Written.{json_of}
 
 -- a tree presents at most one value
@@ -39,9 +39,9 @@ ValueOrNone = (f : Face) (j : Data) → IsPresented f j ⊎ (IsPresented f j →
 abbrev pub are_told_apart : Binding → Bool
 are_told_apart b = are_distinct (map (dotted b.unit.interfaces) b.ops)
 
--- a port for a reply that never comes
+-- a head over Mach that has a port for a reply that never comes
 abbrev pub has_idle_port : Back → Op → Head → Bool
-has_idle_port b o h = is_mach b && not o.has_reply && not (h.local == 0)
+has_idle_port b o h = is_mach b && is_idle_port o h.local
 
 -- a head that the request record of an operation can have
 pub record IsHeadOf (b : Back) (o : Op) (h : Head) : Type 0 where

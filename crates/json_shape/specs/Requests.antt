@@ -38,8 +38,12 @@ head_of back.CdrLittle id local wants = record { id = id; remote = 0; local = 0;
 head_of back.Mach id local wants = record { id = 0; remote = id; local = local; wants = true; order = Big }
 
 -- a port for a reply that never comes
+abbrev pub is_idle_port : Op → ℕ → Bool
+is_idle_port o port = not o.has_reply && not (port == 0)
+
+-- a record over Mach that has such a port
 abbrev pub is_unanswered : Back → Op → Data → Bool
-is_unanswered b o j = is_mach b && not o.has_reply && not (number_at (codes "local") j == 0)
+is_unanswered b o j = is_mach b && is_idle_port o (number_at (codes "local") j)
 
 -- the request of an operation
 abbrev pub asked : Binding → Data → ℕ → Op → Begun

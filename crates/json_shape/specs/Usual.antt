@@ -1,16 +1,19 @@
 -- What is read of a tree of text, where it is in the usual form.
-use Rattle.std.specs.Prelude.{◌≡◌, ℕ, zero, suc, ℤ, List, Option, Some, Ok, true, is_some, option_and_then, codes}
+use Rattle.std.specs.Prelude.{◌≡◌, ℕ, ℤ, List, Option, Some, None, Ok, true, is_some, option_and_then, option_map, unwrap_or, if◌then◌else◌, codes}
+use Rattle.std.specs.Borrow.{Bor}
 use Rattle.json.specs.Json as text
+use Rattle.json.specs.Value.{value_view}
+use Rattle.json.specs.declared.value.Value.{Value}
 use Rattle.mint.specs.declared.kind.Kind.{Kind}
 use Rattle.mint.specs.Values.{Val, Vals}
 use Rattle.wire_def.specs.declared.encoding.Back.{Back}
 use Rattle.pres.specs.Bindings.{Binding}
 use Rattle.pres.specs.Faces.{Face}
-use Rattle.serde_json.specs.Data.{Data, Items, Members, no_members}
+use Rattle.serde_json.specs.Data.{Data, Items, Members, no_members, number, unsigned}
 use Rattle.serde_json.specs.Read.{of_json, of_items, of_members, read}
 use Rattle.json_shape.specs.declared.records.RequestRec.{RequestRec}
 use Rattle.serde_json.specs.Find.{as_array}
-use Rattle.json_shape.specs.Members.{head_key}
+use Rattle.json_shape.specs.Members.{head_key, is_mach}
 use Rattle.json_shape.specs.Presents.{size, Presents}
 use Rattle.json_shape.specs.Records.{Comes}
 use Rattle.json_shape.specs.Requests.{request_of}
@@ -39,16 +42,34 @@ pub record MembersRead (ms : text.Members) (n : ℕ) (f : Members → Option Val
 abbrev pub listed_in : Kind → Data → Option (List ℤ)
 listed_in k j = option_and_then (each_in k) (as_array j)
 
--- the member at a place
-abbrev pub IsMember : ℕ → text.Members → List ℕ → text.Json → Type 0
-IsMember i text.no_members k j = ⊥
-IsMember zero (text.member l v ms) k j = (l ≡ k) × (v ≡ j)
-IsMember (suc i) (text.member l v ms) k j = IsMember i ms k j
+-- a member before others, where it is there
+abbrev pub put_some : List ℕ → Option text.Json → text.Members → text.Members
+put_some k None ms = ms
+put_some k (Some j) ms = text.member k j ms
 
--- a record with its members in the usual order
-abbrev pub usual : Back → text.Json → text.Json → text.Json → text.Json
-usual k op id args =
-    text.object (text.member (codes "op") op (text.member (head_key k) id (text.member (codes "args") args text.no_members)))
+-- a member that may be there, as it is seen
+abbrev pub member_view : {A : Type 0} → Option (Bor (Value A)) → Option text.Json
+member_view = option_map (λ t. value_view t.now)
+
+-- the second head number, which records have over Mach alone
+abbrev pub port_of : Back → Option text.Json → Option text.Json
+port_of k local = if is_mach k then local else None
+
+-- a record with its members in the usual order, of which only the operation must be there
+abbrev pub usual : Back → text.Json → Option text.Json → Option text.Json → Option text.Json → text.Json
+usual k op id local args =
+    text.object
+    (text.member (codes "op") op
+    (put_some (head_key k) id (put_some (codes "local") (port_of k local) (put_some (codes "args") args text.no_members))))
+
+-- a member is a head number: 0 where it is absent
+abbrev pub IsWord : Option text.Json → ℕ → Type 0
+IsWord None n = n ≡ 0
+IsWord (Some j) n = of_json j ≡ Some (number (unsigned n))
+
+-- the arguments: an empty array where the member is absent
+abbrev pub args_of : Option text.Json → text.Json
+args_of args = unwrap_or args (text.array text.no_items)
 
 -- a tree of text is an array, which presents a value
 pub record IsPresented (j : text.Json) (f : Face) (v : Val) : Type 0 where

@@ -8,7 +8,7 @@ ghost use Rattle.serde_json.specs.View.{view};
 ghost use Rattle.json_shape.specs.Members.{number_at, head_key};
 ghost use Rattle.json_shape.specs.Operations.{is_oneway};
 ghost use Rattle.json_shape.specs.Records.{Comes};
-ghost use Rattle.json_shape.specs.Requests.{is_request, head_of, is_unanswered, request_of};
+ghost use Rattle.json_shape.specs.Requests.{is_request, head_of, is_idle_port, is_unanswered, request_of};
 
 use crate::errors::{RecordErr, ShapeErr};
 use crate::members::{
@@ -64,7 +64,14 @@ fn is_request(back: Back, json: &Json) -> bool
 fn is_unanswered(back: Back, op: &Op, json: &Json) -> bool
     ensures { result ≡ is_unanswered back op.now (view json.now) }
 {
-    is_mach(back) && !op.has_reply && number_at(json, "local") != 0
+    is_mach(back) && is_idle_port(op, number_at(json, "local"))
+}
+
+/// Whether a port is one for a reply that never comes.
+pub(crate) fn is_idle_port(op: &Op, port: u32) -> bool
+    ensures { result ≡ is_idle_port op.now port }
+{
+    !op.has_reply && port != 0
 }
 
 /// A head from its numbers, and whether a reply is awaited.

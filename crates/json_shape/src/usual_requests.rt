@@ -1,22 +1,22 @@
-// Request records from text in the usual form: the name of the operation, the number of the head, the arguments.
-ghost use Rattle.std.specs.Prelude.{◌≡◌, ◌<◌, ◌^◌, length, slice_get, IfOk, IfSome, Some};
-ghost use Rattle.json.specs.Value.{value_view};
+// Request records from text in the usual form: the name of the operation, then what is there of the head numbers and the arguments.
+ghost use Rattle.std.specs.Prelude.{◌≡◌, ◌<◌, ◌^◌, codes, length, slice_get, IfOk, IfSome, Some};
+ghost use Rattle.json.specs.Value.{members_view, value_view};
 ghost use Rattle.mint.specs.Typed.{IsWellTyped};
 ghost use Rattle.mint.specs.Types.{type_at};
 ghost use Rattle.mint.specs.Values.{seen};
 ghost use Rattle.pres.specs.Faces.{face_at};
 ghost use Rattle.serde_json.specs.Data.{number, unsigned};
 ghost use Rattle.serde_json.specs.Read.{of_json};
-ghost use Rattle.json_shape.specs.Usual.{usual, IsPresented, IsRequestIn, IsRequestOf};
+ghost use Rattle.json_shape.specs.Usual.{args_of, member_view, port_of, put_some, usual, IsPresented, IsRequestIn, IsRequestOf, IsWord};
 
 use crate::errors::Halt;
 use crate::members::{head_key, is_mach};
 use crate::operations::{is_oneway, op_named};
 use crate::records::RequestRec;
-use crate::requests::head_of;
+use crate::requests::{head_of, is_idle_port};
 use crate::usual::scan;
 use crate::usual_scalars::integer;
-use crate::usual_tokens::{digits_in, items_in, member_at, members_in, string_in};
+use crate::usual_tokens::{digits_in, items_in, leading, members_in, string_in};
 use json::{Reader, Scratch, Value as Tree};
 use kit_base::NoMemory;
 use mint::fits::fits;
@@ -24,6 +24,7 @@ use mint::table::NodeId;
 use mint::value::Value;
 use pres::Bound;
 use std::alloc::Global;
+use wire_def::Back;
 
 /// The levels of the deepest JSON.
 const DEEPEST: usize = 127;
@@ -41,10 +42,6 @@ pub fn usual_request(
     ensures typed { IfOk result (λ o. IfSome o (λ r. IfSome (slice_get bound.now.ops r.op)
         (λ op. IsWellTyped (type_at bound.now.nodes op.request) (seen r.value)))) }
 {
-    // What is not read here costs little: a record of two ports is not looked at.
-    if is_mach(bound.back()) {
-        return Ok(None);
-    }
     match request_in(alloc, bound, line, scratch) {
         Ok(record) => Ok(Some(record)),
         Err(Halt::Otherwise) => Ok(None),
@@ -79,47 +76,101 @@ fn request_of(alloc: Global, bound: &Bound, tree: &Tree<'_>) -> Result<RequestRe
     ensures typed { IfOk result (λ r. IfSome (slice_get bound.now.ops r.op)
         (λ op. IsWellTyped (type_at bound.now.nodes op.request) (seen r.value))) }
 {
-    let found = members_in(tree)?;
-    if found.len() != 3 {
-        return Err(Halt::Otherwise);
-    }
-    let op = member_at(found, 0, "op")?;
-    let id = member_at(found, 1, head_key(bound.back()))?;
-    let args = member_at(found, 2, "args")?;
-    let record = record_of(alloc, bound, op, id, args)?;
+    let members = request_members(bound.back(), tree)?;
+    let record = record_of(alloc, bound, &members)?;
     Ok(record)
 }
 
-/// The request of the members of a record.
+/// The members of a request record, of which only the operation must be there.
+#[derive(Clone, Copy)]
+struct RequestMembers<'v, 'a> {
+    op: &'v Tree<'a>,
+    id: Option<&'v Tree<'a>>,
+    local: Option<&'v Tree<'a>>,
+    args: Option<&'v Tree<'a>>,
+}
+
+/// The members of a record in their order, where there are no others.
+fn request_members<'v, 'a>(back: Back, tree: &'v Tree<'a>) -> Result<RequestMembers<'v, 'a>, Halt>
+    ensures { IfOk result (λ m. value_view tree.now
+        ≡ usual back (value_view m.op.now) (member_view m.id) (member_view m.local) (member_view m.args)) }
+{
+    let found = members_in(tree)?;
+    let (Some(op), after_op) = leading(found, "op") else {
+        return Err(Halt::Otherwise);
+    };
+    let (id, after_id) = leading(after_op, head_key(back));
+    let (local, after_local) = leading_port(back, after_id);
+    let (args, others) = leading(after_local, "args");
+    if !others.is_empty() {
+        return Err(Halt::Otherwise);
+    }
+    Ok(RequestMembers {
+        op,
+        id,
+        local,
+        args,
+    })
+}
+
+/// The member of the second head number, which is sought over Mach alone, and the members after it.
+fn leading_port<'v, 'a>(
+    back: Back,
+    found: &'v [(&'a str, Tree<'a>)],
+) -> (Option<&'v Tree<'a>>, &'v [(&'a str, Tree<'a>)])
+    ensures { members_view found.now ≡ put_some (codes "local")
+        (port_of back (member_view result.0)) (members_view result.1.now) }
+{
+    if is_mach(back) {
+        leading(found, "local")
+    } else {
+        (None, found)
+    }
+}
+
+/// The request of the members of a record. What is cheap to know of them is looked at before the operation is sought.
 fn record_of(
     alloc: Global,
     bound: &Bound,
-    op: &Tree<'_>,
-    id: &Tree<'_>,
-    args: &Tree<'_>,
+    members: &RequestMembers<'_, '_>,
 ) -> Result<RequestRec, Halt>
     ensures request { IfOk result (λ r. IsRequestOf bound.now
-        (usual bound.now.back (value_view op.now) (value_view id.now) (value_view args.now)) r) }
+        (usual bound.now.back (value_view members.now.op.now) (member_view members.now.id)
+        (member_view members.now.local) (member_view members.now.args)) r) }
     ensures op { IfOk result (λ r. r.op < length bound.now.ops) }
     ensures typed { IfOk result (λ r. IfSome (slice_get bound.now.ops r.op)
         (λ op. IsWellTyped (type_at bound.now.nodes op.request) (seen r.value))) }
 {
-    let back = bound.back();
-    if is_mach(back) {
-        return Err(Halt::Otherwise);
+    let name = string_in(members.op)?;
+    let word = word_at(members.id)?;
+    let port = word_at(members.local)?;
+    if let Some(args) = members.args {
+        let _listed = items_in(args)?;
     }
-    let name = string_in(op)?;
-    let word = word_in(id)?;
     let Some((number, operation)) = op_named(bound, name)? else {
         return Err(Halt::Otherwise);
     };
-    let value = value_in(alloc, bound, operation.request, args)?;
-    let head = head_of(back, word, 0, !is_oneway(bound, number));
+    if is_idle_port(operation, port) {
+        return Err(Halt::Otherwise);
+    }
+    let value = args_in(alloc, bound, operation.request, members.args)?;
+    let head = head_of(bound.back(), word, port, !is_oneway(bound, number));
     Ok(RequestRec {
         op: number,
         head,
         value,
     })
+}
+
+/// The head number that a member is; 0 where it is absent.
+fn word_at(member: Option<&Tree<'_>>) -> Result<u32, Halt>
+    ensures word { IfOk result (λ n. IsWord (member_view member.entry) n) }
+    ensures small { IfOk result (λ n. n < 2 ^ 32) }
+{
+    match member {
+        Some(tree) => word_in(tree),
+        None => Ok(0),
+    }
 }
 
 /// The number of a head that it is.
@@ -135,6 +186,22 @@ fn word_in(tree: &Tree<'_>) -> Result<u32, Halt>
     match u32::try_from(n) {
         Ok(word) => Ok(word),
         Err(_) => Err(Halt::Otherwise),
+    }
+}
+
+/// The value that the arguments present for a node; where they are absent, an empty array.
+fn args_in(alloc: Global, bound: &Bound, id: NodeId, args: Option<&Tree<'_>>) -> Result<Value, Halt>
+    requires { id < length bound.now.nodes }
+    ensures value { IfOk result (λ v. IsPresented (args_of (member_view args.entry))
+        (face_at bound.now.nodes bound.now.shapes id) (seen v)) }
+    ensures typed { IfOk result (λ v. IsWellTyped (type_at bound.now.nodes id) (seen v)) }
+{
+    match args {
+        Some(tree) => value_in(alloc, bound, id, tree),
+        None => {
+            let none = Tree::Array(Vec::new(alloc));
+            value_in(alloc, bound, id, &none)
+        }
     }
 }
 

@@ -3,7 +3,7 @@ ghost use Rattle.std.specs.Prelude.{◌≡◌, true, IfOk, OnOk};
 ghost use Rattle.std.specs.Str.{bytes_eq};
 ghost use Rattle.json.specs.Json.{array, boolean, number, object, string};
 ghost use Rattle.json.specs.Value.{value_view, items_view, members_view};
-ghost use Rattle.json_shape.specs.Usual.{IsMember};
+ghost use Rattle.json_shape.specs.Usual.{member_view, put_some};
 
 use crate::errors::Halt;
 use json::Value as Tree;
@@ -60,19 +60,18 @@ pub(crate) fn members_in<'v, 'a>(tree: &'v Tree<'a>) -> Result<&'v [(&'a str, Tr
     }
 }
 
-/// The member at a place, where it has the key.
-pub(crate) fn member_at<'v, 'a>(
+/// The first member, where it has the key, and the members after it; none and all of them where it has another.
+pub(crate) fn leading<'v, 'a>(
     found: &'v [(&'a str, Tree<'a>)],
-    i: usize,
     key: &str,
-) -> Result<&'v Tree<'a>, Halt>
-    ensures { IfOk result (λ t. IsMember i (members_view found.now) key.now (value_view t.now)) }
+) -> (Option<&'v Tree<'a>>, &'v [(&'a str, Tree<'a>)])
+    ensures { members_view found.now
+        ≡ put_some key.now (member_view result.0) (members_view result.1.now) }
 {
-    let Some(member) = found.get(i) else {
-        return Err(Halt::Otherwise);
-    };
-    let tree = behind_key(key, member)?;
-    Ok(tree)
+    match found.split_first() {
+        Some((first, rest)) if first.0 == key => (Some(&first.1), rest),
+        _ => (None, found),
+    }
 }
 
 /// The value of a member, where its key is this one.
