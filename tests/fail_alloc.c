@@ -95,7 +95,7 @@ static int run_in_child(long number, const char *input, struct octets whole)
     length = snprintf(line, sizeof line, "%ld %d %zu %d %zu\n", number, WIFEXITED(status) ? WEXITSTATUS(status) : -WTERMSIG(status),
                       wrote.length, is_prefix(wrote, whole), said.length);
     if (write(1, line, (size_t)length) != length)
-        give_up("told");
+        give_up("standard output");
     if (wrote.length)
         munmap((void *)wrote.at, wrote.length);
     if (said.length)
