@@ -12,6 +12,7 @@ import corba_samples
 import files
 import mig
 import mig_samples
+import onc
 from calls import BACKS
 from corba_nodes import told_of_names
 from samples import sample
@@ -24,6 +25,7 @@ LONGEST_READ = {"onc": 20_000, "mig": 6_000, "corba": 6_000}
 GENERATED = 30
 SUFFIXES = {"onc": ".x", "mig": ".defs", "corba": ".idl"}
 READERS = {"onc": files.interfaces_of, "mig": mig.interfaces_of, "corba": corba_names.interfaces_of}
+TOLD = {"onc": onc.told_of_file, "corba": told_of_names}
 UNREAD = (AssertionError, KeyError, IndexError, ValueError, AttributeError, TypeError, RecursionError, mig.Refused, corba_names.Refused)
 
 
@@ -94,10 +96,10 @@ def interfaces_in(front, text):
 
 def refusal_of(front, back, text):
     """The line with which the model refuses a text, nothing where it accepts it, or None where it is not asked."""
-    if front == "onc" or len(text) > LONGEST_READ[front]:
+    if len(text) > LONGEST_READ[front]:
         return None
     octets = text.encode("latin-1")
-    return mig.told_of_file(octets) if front == "mig" else told_of_names(octets, back)
+    return mig.told_of_file(octets) if front == "mig" else TOLD[front](octets, back)
 
 
 def weight(ty, known):

@@ -202,6 +202,40 @@ def words_of(grammar):
     return set(re.findall(r'"(\w+)"', grammar))
 
 
+def firsts_of(form, rules):
+    """What a form may begin with by the sets of its rules so far: words and marks in quotes, kinds of tokens, and None where it may be empty."""
+    kind, inner = form
+    if kind == "mark":
+        return {f'"{inner}"'}
+    if kind == "rule":
+        return rules.get(inner, {inner})
+    if kind == "one_of":
+        return set().union(*(firsts_of(each, rules) for each in inner))
+    if kind != "all_of":
+        return firsts_of(inner, rules) | ({None} if kind == "many" else set())
+    found = {None}
+    for each in inner:
+        if None in found:
+            found = found - {None} | firsts_of(each, rules)
+    return found
+
+
+def forms_in(form):
+    """A form and those within it."""
+    yield form
+    for inner in form[1] if form[0] in ("one_of", "all_of") else [form[1]] if form[0] in ("many", "deeper") else []:
+        yield from forms_in(inner)
+
+
+def beginnings_of(rules):
+    """For each form of a grammar, by its identity, what it may begin with. The sets of the rules grow until none does."""
+    sets, before = {name: set() for name in rules}, None
+    while before != sets:
+        before = sets
+        sets = {name: firsts_of(form, before) for name, form in rules.items()}
+    return {id(form): frozenset(firsts_of(form, sets)) for rule in rules.values() for form in forms_in(rule)}
+
+
 RULES = rules_of(GRAMMAR)
 WORDS = words_of(GRAMMAR)
 
@@ -229,17 +263,28 @@ class Reading:
     a token is that part. Beyond the last level nothing has a tree.
     """
 
-    kinds, rules = KINDS, RULES
+    kinds, rules, beginnings = KINDS, RULES, beginnings_of(RULES)
 
     def __init__(self, tokens, levels=LEVELS):
         self.tokens, self.levels, self.known = tokens, levels, {}
+        self.heads = [self.head(place) for place in range(2 * len(tokens) + 1)]
         self.places = {}
         for n, token in enumerate(tokens):
             for part in {token.value, token.value[:1]} if token.kind in ("mark", "word") else ():
                 self.places.setdefault(part, []).append(2 * n)
 
+    def head(self, place):
+        """What a form may begin with that begins at a place."""
+        token = self.token(place)
+        if token is None:
+            return frozenset([None])
+        marks = [">"] if place % 2 else [token.value, ">"] if token.value == ">>" else [token.value] if token.kind in ("mark", "word") else []
+        return frozenset([None, *(f'"{mark}"' for mark in marks), *(name for name, kind in self.kinds.items() if kind == token.kind)])
+
     def ends(self, form, place, level):
-        """Where a form that begins at a place may end, each with its parts."""
+        """Where a form that begins at a place may end, each with its parts. A form that begins otherwise need not be tried."""
+        if self.beginnings[id(form)].isdisjoint(self.heads[place]):
+            return {}
         return getattr(self, form[0])(form[1], place, level)
 
     def one_of(self, forms, place, level):
@@ -252,12 +297,11 @@ class Reading:
         return ends
 
     def lacks(self, forms, place):
-        """Whether forms need a mark that does not stand from a place on: such forms need not be tried.
+        """Whether a chain needs a mark that does not stand from a place on: it need not be tried.
 
         A chain begins with a chain that is one level deeper, and ends before the next `;`.
         """
-        end = self.next(";", place) if forms and forms[0][0] == "deeper" else len(self.tokens) * 2
-        return any(self.needs(form, place, end) for form in forms)
+        return bool(forms) and forms[0][0] == "deeper" and any(self.needs(form, place, self.next(";", place)) for form in forms[1:])
 
     def needs(self, form, place, end):
         kind, inner = form

@@ -19,6 +19,8 @@ def children_of(ty):
     """The types within a type whose nodes are its own node's children."""
     if isinstance(ty, Struct):
         return [field for _, field in ty.fields]
+    if isinstance(ty, Pointer):
+        return [ty.array.element]
     if isinstance(ty, Union):
         return [*(ty.arms[n] for n in sorted(ty.arms)), *([ty.default] if ty.default else [])]
     return [ty.element] if isinstance(ty, Array) and not is_row(ty) else []
@@ -54,8 +56,8 @@ class Sums:
         if isinstance(ty, (String, Opaque, Array)):
             n = ty.count.bound if ty.count.exact else 0
             return 1 + n * (1 if is_row(ty) else self.of("weight", ty.element))
-        if isinstance(ty, Union):
-            return 1 + self.of("weight", children_of(ty)[0])
+        if isinstance(ty, (Union, Pointer)):
+            return 1 + (self.of("weight", children_of(ty)[0]) if isinstance(ty, Union) else 0)
         return int(isinstance(ty, Number)) + sum(self.of("weight", child) for child in children_of(ty))
 
 
@@ -69,11 +71,14 @@ def refusal_of(offer, back):
     operations = [operation for interface in offer.interfaces for operation in interface.operations]
     if back in ("xdr", "mach") and any(operation.raises for operation in operations):
         return "Raises"
-    named = {id(ty) for _, ty in offer.types}
-    types = [ty for _, ty in offer.types if id(ty.meaning) not in named]
-    messages = [messages_of(operation) for operation in operations]
+    return limit_of(offer.types, [messages_of(operation) for operation in operations], 4 * len(offer.interfaces) if back == "xdr" else 0)
+
+
+def limit_of(declared, messages, added):
+    """The first limit that types with their names, and pairs of a request and a reply, pass together with nodes that are added, or None."""
+    named = {id(ty) for _, ty in declared}
+    types = [ty for _, ty in declared if id(ty.meaning) not in named]
     pairs = [part for pair in messages for part in pair]
-    added = 4 * len(offer.interfaces) if back == "xdr" else 0
     sums = Sums()
     if sum(written(ty, named) for ty in types) + added + sum(written(part, named) for part in pairs) > MOST_NODES:
         return "Many"

@@ -8,7 +8,7 @@ from collections import namedtuple
 from functools import lru_cache
 
 from calls import Called, Interface
-from corba import Fault, Reading, Token, rules_of, words_of
+from corba import Fault, Reading, Token, beginnings_of, rules_of, words_of
 from corba import tokens_of as tokens_of_front
 from corba_scopes import Char, Octet, row_of
 from nodes import sent
@@ -66,19 +66,22 @@ def as_word(token):
     return token._replace(value=lower) if lower in WORDS else token._replace(kind="identifier")
 
 
+RULES = rules_of(GRAMMAR)
+
+
 class MigReading(Reading):
-    kinds, rules = {"identifier": "identifier", "number": "number", "file": "file name"}, rules_of(GRAMMAR)
+    kinds, rules, beginnings = {"identifier": "identifier", "number": "number", "file": "file name"}, RULES, beginnings_of(RULES)
 
     def leaf(self, name, place):
         token = self.token(place)
         return {place + 2: (token,)} if token and token.kind == self.kinds[name] else {}
 
 
-def first_of(rule, tokens):
-    """The tree of a rule that comes first, and the tokens after it; or no tree. It ends with its `;`, so there is one."""
-    ends = MigReading(tokens).rule(rule, 0, 1)
+def tree_at(reading, rule, place):
+    """The tree of a rule from a place on, and where it ends; or no tree. It ends with its `;`, so there is one."""
+    ends = reading.rule(rule, place, 1)
     assert len(ends) <= 1, f"{rule} ends at {sorted(ends)}"
-    return next(((parts[0], tokens[end // 2:]) for end, parts in ends.items()), (None, tokens))
+    return next(((parts[0], end) for end, parts in ends.items()), (None, place))
 
 
 @lru_cache(maxsize=1)
@@ -89,13 +92,13 @@ def trees_of(text):
         tokens = tokens_of(text)
     except Fault as fault:
         raise Refused(f"? lex {fault}") from None
-    trees, rule = [], "subsystem"
-    while tokens or not trees:
-        tree, rest = first_of(rule, tokens)
+    reading, trees, rule, place = MigReading(tokens), [], "subsystem", 0
+    while place < 2 * len(tokens) or not trees:
+        tree, place = tree_at(reading, rule, place)
         if tree is None:
-            raise Refused(f"? syntax {tokens[0].line if tokens else 1}")
+            raise Refused(f"? syntax {tokens[place // 2].line if tokens else 1}")
         trees.append(tree)
-        tokens, rule = rest, "statement"
+        rule = "statement"
     return tuple(trees)
 
 

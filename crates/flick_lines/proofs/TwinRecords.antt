@@ -115,7 +115,7 @@ either_one n false false x y e is h = record { same = refl; few = tt }
 -- a request over a back end, of an operation that has a reply or none
 abbrev asked_over : Back → Bool → Data → ℕ → Face → Bool → Result Begun RecordErr
 asked_over k wants j n f reply =
-    if is_mach k && not reply && not (number_at (codes "local") j == 0) then Err errors.Head
+    if is_mach k && (not reply && not (number_at (codes "local") j == 0)) then Err errors.Head
     else Ok (record {
       op = n;
       head = head_of k (number_at (head_key k) j) (number_at (codes "local") j) wants;
