@@ -60,6 +60,10 @@ class Sums:
             return 1 + (self.of("weight", children_of(ty)[0]) if isinstance(ty, Union) else 0)
         return int(isinstance(ty, Number)) + sum(self.of("weight", child) for child in children_of(ty))
 
+    def heaviest(self, ty):
+        """How heavy the least value of a type within it is: of an arm of a union, or of what is raised."""
+        return max([self.of("weight", ty), *(self.of("heaviest", child) for child in children_of(ty))])
+
 
 def written(ty, named):
     """How many nodes a type has where it is written."""
@@ -84,7 +88,7 @@ def limit_of(declared, messages, added):
         return "Many"
     if any(sums.of("depth", ty) > DEEPEST for ty in [*types, *pairs]):
         return "Deep"
-    if any(sums.of("weight", ty) > HEAVIEST for ty in [*types, *pairs]):
+    if any(sums.of("heaviest", ty) > HEAVIEST for ty in [*types, *pairs]):
         return "Heavy"
     widths = [sum(sums.of("width", part) for part in pair) for pair in messages]
     return "Wide" if sum(widths) + added > WIDEST_IN_ALL or max(widths, default=0) > WIDEST else None
