@@ -4,6 +4,8 @@
 pub mod HeadsOfBacks
 -- * A name that is picked among those of an engine is the one that is sought, by induction on the interfaces
 pub mod Picking
+-- * An exception that is found among those of an engine is the one that a reply tells, by induction on the interfaces
+pub mod Raising
 -- * What a message is, is determined, since it is what reading from left to right gives
 pub mod Deciding
 -- * Octets are always something

@@ -58,7 +58,7 @@ placed_at : (t : Bool) (k n : ℕ) (x y : Option ℕ) → x ≡ option_map (λ (
 placed_at true k n x y more = refl
 placed_at false k n x y more = more
 
-counted : (p : List ℕ → Bool) (k n : ℕ) (xs : List (List ℕ))
+pub counted : (p : List ℕ → Bool) (k n : ℕ) (xs : List (List ℕ))
     → position_from p (k + n) xs ≡ option_map (λ (j : ℕ). k + j) (position_from p n xs)
 counted p k n [] = refl
 counted p k n (x ∷ xs) =

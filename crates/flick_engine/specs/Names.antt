@@ -1,5 +1,5 @@
--- The names by which requests over CDR find operations, as an engine keeps them.
-use Rattle.std.specs.Prelude.{◌≡◌, ℕ, List, Option, None, Some, slice_get}
+-- The names by which requests over CDR find operations and replies exceptions, as an engine keeps them.
+use Rattle.std.specs.Prelude.{◌≡◌, ℕ, List, Option, None, Some, slice_get, slice_index_or}
 use Rattle.std.specs.List.{position_from}
 use Rattle.std.specs.Str.{bytes_eq}
 use Rattle.wire_def.specs.declared.encoding.Back.{Back}
@@ -11,12 +11,13 @@ use Rattle.cast_stub.specs.Parts.{on_some}
 use Rattle.pres.specs.Bindings.{Binding}
 use Rattle.flick_engine.specs.declared.names.Names.{Names}
 use Rattle.flick_engine.specs.Backs.{IsMade}
-use Rattle.flick_engine.specs.Offered.{Offered, keys_of, offered_from, operation_in}
+use Rattle.flick_engine.specs.Offered.{Offered, keys_of, nothing, number_in, offered_from, operation_in, raised_each}
 
--- the names of interfaces and of their operations
+-- the names of interfaces, and of their operations, and the ids of the exceptions of these
 pub record AreNames (is : List PlainInterface) (n : Names) : Type 0 where
   pub keys : n.interfaces ≡ keys_of is
   pub offered : n.offered ≡ offered_from 0 is
+  pub raised : n.raised ≡ raised_each is
 
 -- those of interfaces over a back end, where its requests have names
 abbrev pub AreNamesOver : Back → List PlainInterface → Names → Type 0
@@ -37,3 +38,7 @@ operation_of (Some x) name = operation_in x name
 -- the operation of a key and a name: the first interface of the key, and its first operation of the name
 abbrev pub found : Names → List ℕ → List ℕ → Naming
 found n key name = operation_of (on_some (position_from (bytes_eq key) 0 n.interfaces) (slice_get n.offered)) name
+
+-- the number of the first exception of an operation with a repository id, from 1
+abbrev pub raise_of : Names → ℕ → List ℕ → Option ℕ
+raise_of n op id = number_in (slice_index_or n.raised op nothing) id

@@ -1,12 +1,12 @@
--- The operations of interfaces by their names.
-use Rattle.std.specs.Prelude.{ℕ, ◌+◌, List, [], ◌∷◌, map, length, option_map}
+-- The operations of interfaces by their names, and the exceptions of operations by their repository ids.
+use Rattle.std.specs.Prelude.{ℕ, ◌+◌, List, [], ◌∷◌, ◌++◌, map, length, Option, option_map}
 use Rattle.std.specs.List.{position_from}
 use Rattle.std.specs.Str.{bytes_eq}
-use Rattle.aoi.specs.Plain.{PlainInterface, PlainOperation}
+use Rattle.aoi.specs.Plain.{PlainRaise, PlainInterface, PlainOperation}
 use Rattle.call_kit.specs.declared.called.Naming.{Naming}
 use Rattle.back_cdr.specs.Seeking.{operation_at}
 
--- the operations of an interface by their names, and the number of the first of them
+-- names in order, and the number of the first of them
 pub record Offered : Type 0 where
   pub first : ℕ
   pub names : List (List ℕ)
@@ -24,6 +24,23 @@ abbrev pub offered_from : ℕ → List PlainInterface → List Offered
 offered_from k [] = []
 offered_from k (i ∷ is) = record { first = k; names = names_of i.ops } ∷ offered_from (k + length i.ops) is
 
+-- the exceptions of an operation by their repository ids, numbered from 1
+abbrev pub raised_by : PlainOperation → Offered
+raised_by p = record { first = 1; names = map (λ (r : PlainRaise). r.id) p.raises }
+
+-- those of each operation of interfaces
+abbrev pub raised_each : List PlainInterface → List Offered
+raised_each [] = []
+raised_each (i ∷ is) = map raised_by i.ops ++ raised_each is
+
+-- what has no names
+abbrev pub nothing : Offered
+nothing = record { first = 1; names = [] }
+
+-- the number of the first such name
+abbrev pub number_in : Offered → List ℕ → Option ℕ
+number_in x name = option_map (λ (n : ℕ). x.first + n) (position_from (bytes_eq name) 0 x.names)
+
 -- the operation of a name
 abbrev pub operation_in : Offered → List ℕ → Naming
-operation_in x name = operation_at (option_map (λ (n : ℕ). x.first + n) (position_from (bytes_eq name) 0 x.names))
+operation_in x name = operation_at (number_in x name)

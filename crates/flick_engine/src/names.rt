@@ -1,10 +1,12 @@
-// The names by which requests over CDR find operations.
-ghost use Rattle.std.specs.Prelude.{◌≡◌, map, IfOk};
-ghost use Rattle.aoi.specs.Plain.{plain_interface};
-ghost use Rattle.flick_engine.specs.Names.{AreNames, AreNamesOver, found};
+// The names by which requests over CDR find operations, and replies exceptions.
+ghost use Rattle.std.specs.Prelude.{◌≡◌, ◌++◌, map, IfOk, OnOk};
+ghost use Rattle.aoi.specs.Plain.{plain_interface, plain_operation, plain_raise};
+ghost use Rattle.flick_engine.specs.Fates.{ids_of};
+ghost use Rattle.flick_engine.specs.Names.{AreNames, AreNamesOver, found, raise_of};
+ghost use Rattle.flick_engine.specs.Offered.{raised_by};
 
 use crate::numbered::{Numbered, demux_of};
-use aoi::Interface;
+use aoi::{Interface, Operation, Raise};
 use call_kit::Naming;
 use demux::{Demux, WordName};
 use kit_base::{Listed, Name, NoMemory, Words};
@@ -12,34 +14,65 @@ use pres::Bound;
 use std::alloc::Global;
 use wire_def::Back;
 
-/// The names of interfaces, and in their order the operations of each.
+/// The names of interfaces, in their order the operations of each, and in the order of all operations the
+/// exceptions of each.
 #[derive(Drop)]
 pub(crate) struct Names {
     interfaces: Demux,
     offered: Listed<Numbered>,
+    raised: Listed<Numbered>,
+}
+
+/// The repository ids of exceptions.
+fn words_of(alloc: Global, raises: &[Raise]) -> Result<Words, NoMemory>
+    ensures { IfOk result (λ w. w ≡ ids_of raises.now) }
+{
+    let mut words = Words::new(alloc);
+    for raise in raises {
+        words.push(Name::from_slice(alloc, raise.id.as_slice())?)?;
+    }
+    Ok(words)
+}
+
+/// Appends the exceptions of each of these operations.
+fn append_raised(
+    alloc: Global,
+    ops: &[Operation],
+    raised: &mut Listed<Numbered>,
+) -> Result<(), NoMemory>
+    ensures { OnOk result (raised.new ≡ raised.old ++ map raised_by (map plain_operation ops.now)) }
+{
+    for op in ops {
+        let ids = words_of(alloc, op.raises.as_slice())?;
+        raised.push(Numbered::of(alloc, 1, &ids)?)?;
+    }
+    Ok(())
 }
 
 impl Names {
-    /// The names of interfaces and of their operations.
+    /// The names of interfaces and of their operations, and the exceptions of these.
     fn new(alloc: Global, interfaces: &[Interface]) -> Result<Names, NoMemory>
         ensures { IfOk result (AreNames (map plain_interface interfaces.now)) }
     {
         let mut words = Words::new(alloc);
         let mut offered = Listed::new(alloc);
+        let mut raised = Listed::new(alloc);
         let mut first = 0;
         for i in interfaces {
             words.push(Name::from_slice(alloc, i.name.as_slice())?)?;
             let (numbered, next) = Numbered::new(alloc, first, i.ops.as_slice())?;
             offered.push(numbered)?;
+            append_raised(alloc, i.ops.as_slice(), &mut raised)?;
             first = next;
         }
         Ok(Names {
             interfaces: demux_of(alloc, &words)?,
             offered,
+            raised,
         })
     }
 
-    /// The names of what is bound, where its requests have names.
+    /// The names of what is bound, where its messages have names.
     pub(crate) fn of(alloc: Global, bound: &Bound) -> Result<Names, NoMemory>
         ensures { IfOk result (AreNamesOver bound.now.back bound.now.unit.interfaces) }
     {
@@ -61,6 +94,16 @@ impl Names {
         match self.offered.get(place as usize) {
             Some(numbered) => numbered.find(name),
             None => Naming::NoInterface,
+        }
+    }
+
+    /// The number of the first exception of an operation with a repository id, from 1.
+    pub(crate) fn raise(&self, op: u32, id: &[u8]) -> Option<u32>
+        ensures { result ≡ raise_of self.now op id.now }
+    {
+        match self.raised.get(op as usize) {
+            Some(numbered) => numbered.number(id),
+            None => None,
         }
     }
 }

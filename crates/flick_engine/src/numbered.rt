@@ -1,7 +1,7 @@
-// The operations of an interface, found by their names.
+// Names that are found, each with its number.
 ghost use Rattle.std.specs.Prelude.{◌≡◌, ◌+◌, length, map, IfOk};
 ghost use Rattle.aoi.specs.Plain.{plain_operation};
-ghost use Rattle.flick_engine.specs.Offered.{names_of, operation_in};
+ghost use Rattle.flick_engine.specs.Offered.{names_of, number_in, operation_in};
 
 use aoi::Operation;
 use call_kit::Naming;
@@ -10,7 +10,8 @@ use kit_base::{Name, NoMemory, Words};
 use std::alloc::Global;
 use std::marker::Model;
 
-/// The operations of an interface by their names, numbered from the first of them on.
+/// Names in order, numbered from the first of them on: of the operations of an interface, or the repository
+/// ids of the exceptions of an operation.
 #[derive(Drop)]
 pub(crate) struct Numbered {
     first: u32,
@@ -63,6 +64,17 @@ fn words_of(alloc: Global, ops: &[Operation]) -> Result<Words, NoMemory>
 }
 
 impl Numbered {
+    /// Names, of which the first has this number.
+    pub(crate) fn of(alloc: Global, first: u32, names: &Words) -> Result<Numbered, NoMemory>
+        ensures { IfOk result (λ n. n ≡ record { first = first; names = names.now }) }
+    {
+        number_after(first, names.len())?;
+        Ok(Numbered {
+            first,
+            names: demux_of(alloc, names)?,
+        })
+    }
+
     /// The operations of an interface, of which the first has this number, and the number after them.
     pub(crate) fn new(
         alloc: Global,
@@ -74,16 +86,26 @@ impl Numbered {
         ensures next { IfOk result (λ n. n.1 ≡ first + length (map plain_operation ops.now)) }
     {
         let next = number_after(first, ops.len())?;
-        let names = demux_of(alloc, &words_of(alloc, ops)?)?;
-        Ok((Numbered { first, names }, next))
+        let numbered = Numbered::of(alloc, first, &words_of(alloc, ops)?)?;
+        Ok((numbered, next))
+    }
+
+    /// The number of the first such name.
+    pub(crate) fn number(&self, name: &[u8]) -> Option<u32>
+        ensures { result ≡ number_in self.now name.now }
+    {
+        match self.names.pick(&mut WordName::new(name)) {
+            Some(place) => Some(self.first + place),
+            None => None,
+        }
     }
 
     /// The operation of a name.
     pub(crate) fn find(&self, name: &[u8]) -> Naming
         ensures { result ≡ operation_in self.now name.now }
     {
-        match self.names.pick(&mut WordName::new(name)) {
-            Some(place) => Naming::Operation(self.first + place),
+        match self.number(name) {
+            Some(op) => Naming::Operation(op),
             None => Naming::NoOperation,
         }
     }

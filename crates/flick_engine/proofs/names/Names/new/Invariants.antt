@@ -1,6 +1,6 @@
 use Rattle.std.proofs.Common.{◌≡◌, ◌++◌, map, drop}
 use Rattle.aoi.specs.Plain.{plain_interface}
-use Rattle.flick_engine.specs.Offered.{keys_of, offered_from}
+use Rattle.flick_engine.specs.Offered.{keys_of, offered_from, raised_each}
 use Rattle.flick_engine.proofs.names.Names.new.Given as goal
 
 -- the names so far, and those of the interfaces that are left
@@ -9,4 +9,5 @@ invariant-loop-i l = record {
   keys : keys_of (map plain_interface l.interfaces) ≡ l.words ++ keys_of (map plain_interface (drop l.i-index l.interfaces));
   offered : offered_from 0 (map plain_interface l.interfaces)
       ≡ l.offered ++ offered_from l.first (map plain_interface (drop l.i-index l.interfaces));
+  raised : raised_each (map plain_interface l.interfaces) ≡ l.raised ++ raised_each (map plain_interface (drop l.i-index l.interfaces));
 }

@@ -1,0 +1,59 @@
+-- An exception that is found among those of an engine is the one that a reply tells, by induction on the interfaces.
+use Rattle.std.proofs.Common.{◌≡◌, ℕ, zero, suc, List, [], ◌∷◌, ◌++◌, map, refl, sym, ap, ◌∙◌}
+use Rattle.std.specs.Prelude.{Option, None, slice_get, slice_index_or, unwrap_or}
+use Rattle.std.specs.List.{position_from}
+use Rattle.std.specs.Str.{bytes_eq}
+use Rattle.std.proofs.lemmas.List.{map-append}
+use Rattle.std.proofs.lemmas.Option.{unwrap_or-slice_get}
+use Rattle.wire_def.specs.declared.encoding.Back.{Back}
+use Rattle.wire_def.specs.declared.encoding.Back.TheVariants as back
+use Rattle.aoi.specs.Plain.{PlainInterface, PlainOperation}
+use Rattle.pres.specs.Bindings.{Binding}
+use Rattle.back_cdr.specs.Targets.{IsCdr, Target, no_target, target_in, targets_in, targets}
+use Rattle.flick_engine.specs.declared.names.Names.{Names}
+use Rattle.flick_engine.specs.Backs.{ids_over}
+use Rattle.flick_engine.specs.Names.{AreNames, AreNamesOver, raise_of}
+use Rattle.flick_engine.specs.Offered.{Offered, nothing, number_in, raised_by, raised_each}
+use Rattle.flick_engine.proofs.Picking.{counted}
+
+-- the exceptions of a target
+abbrev told : Target → Offered
+told t = record { first = 1; names = t.ids }
+
+of_one : (i : PlainInterface) (ops : List PlainOperation) → map raised_by ops ≡ map told (map (target_in i) ops)
+of_one i [] = refl
+of_one i (op ∷ ops) = ap (λ l. raised_by op ∷ l) (of_one i ops)
+
+of_all : (is : List PlainInterface) → raised_each is ≡ map told (targets is)
+of_all [] = refl
+of_all (i ∷ is) =
+    ap (λ l. map raised_by i.ops ++ l) (of_all is)
+    ∙ ap (λ l. l ++ map told (targets is)) (of_one i i.ops)
+    ∙ sym (map-append told (targets_in i) (targets is))
+
+told_at : (ts : List Target) (k : ℕ) → slice_index_or (map told ts) k nothing ≡ told (slice_index_or ts k no_target)
+told_at [] k = refl
+told_at (t ∷ ts) zero = refl
+told_at (t ∷ ts) (suc k) = told_at ts k
+
+-- the number of an exception among those of an operation
+pub raise_found : (is : List PlainInterface) (n : Names) (op : ℕ) (id : List ℕ) → AreNames is n
+    → raise_of n op id ≡ position_from (bytes_eq id) 1 (slice_index_or (targets is) op no_target).ids
+raise_found is n op id are =
+    ap (λ (l : List Offered). number_in (slice_index_or l op nothing) id) (are.raised ∙ of_all is)
+    ∙ ap (λ (x : Offered). number_in x id) (told_at (targets is) op)
+    ∙ sym (counted (bytes_eq id) 1 0 (slice_index_or (targets is) op no_target).ids)
+
+-- of those that replies over CDR tell apart
+pub raise_over : (k : Back) (b : Binding) (n : Names) (op : ℕ) (id : List ℕ) → IsCdr k → AreNamesOver k b.unit.interfaces n
+    → raise_of n op id ≡ position_from (bytes_eq id) 1 (ids_over k b op)
+raise_over back.CdrBig b n op id cdr are = raise_found b.unit.interfaces n op id are
+raise_over back.CdrLittle b n op id cdr are = raise_found b.unit.interfaces n op id are
+raise_over back.Xdr b n op id cdr are = absurd cc
+raise_over back.Mach b n op id cdr are = absurd cc
+
+-- an operation past the last has no exceptions
+pub none_past : (n : Names) (op : ℕ) (id : List ℕ) → None ≡ slice_get n.raised op → None ≡ raise_of n op id
+none_past n op id past =
+    ap (λ (x : Offered). number_in x id)
+    (ap (λ (o : Option Offered). unwrap_or o nothing) past ∙ unwrap_or-slice_get n.raised op nothing)
