@@ -182,8 +182,19 @@ def request_lines(rng, back, interfaces, count):
             record["args"] = [*args[:k], mutated(rng, args[k]), *args[k + 1:]]
         elif rng.random() < 0.2:
             record = mutated(rng, record)
-        line = json.dumps(record, ensure_ascii=rng.random() < 0.5, separators=rng.choice([(",", ":"), (" , ", " : ")]))
-        yield (rng.choice(ODD_LINES) if rng.random() < 0.05 else line).encode()
+        yield (rng.choice(ODD_LINES) if rng.random() < 0.05 else written(rng, record)).encode()
+
+
+def written(rng, tree):
+    """The text of a tree, in one of its forms. The members of an object are at times in another order, or one of them stands twice."""
+    form = {"ensure_ascii": rng.random() < 0.5, "separators": rng.choice([(",", ":"), (" , ", " : ")])}
+    if not isinstance(tree, dict) or rng.random() < 0.5:
+        return json.dumps(tree, **form)
+    members = rng.choice([sorted, lambda items: rng.sample(items, len(items))])(list(tree.items()))
+    if members and rng.random() < 0.1:
+        members.insert(rng.randrange(len(members) + 1), (rng.choice(members)[0], rng.choice([0, 7, [], None])))
+    comma, colon = form["separators"]
+    return "{" + comma.join(json.dumps(key, **form) + colon + json.dumps(value, **form) for key, value in members) + "}"
 
 
 def call_lines(rng, back, interfaces, requests):

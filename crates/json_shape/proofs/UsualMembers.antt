@@ -17,7 +17,7 @@ use Rattle.serde_json.proofs.Views.{get_member-put, get_member-put_other}
 use Rattle.json_shape.specs.Members.{each_key, head_key, head_number, is_list, is_mach, is_text}
 use Rattle.json_shape.specs.Presents.{Presents}
 use Rattle.json_shape.specs.Requests.{head_of, is_idle_port, is_request, is_request_key}
-use Rattle.json_shape.specs.Usual.{args_of, port_of, put_some, usual, IsPresented, IsWord}
+use Rattle.json_shape.specs.Usual.{args_of, members_after, port_of, put_before, put_some, IsOnce, IsPresented, IsWord}
 use Rattle.json_shape.proofs.ReadBack.{in_word}
 use Rattle.wire_def.proofs.ScalarGrammar.{left_true, right_true}
 
@@ -71,31 +71,77 @@ keys_set p k (Some d) ms is all = keys_put p k d ms is all
 
 -- ---- the members of a request record
 
--- the members of a record whose operation is t
-abbrev pub members_of : Back → List ℕ → Option Data → Option Data → Option Data → Members
-members_of k t id local args =
-    set_some (codes "args") args
-    (set_some (codes "local") local (set_some (head_key k) id (set_some (codes "op") (Some (string t)) no_members)))
+-- a member that stands before the operation or after it
+abbrev pub later : Option Data → Option Data → Option Data
+later before None = before
+later before (Some d) = Some d
 
--- the tree of a record in the usual form
-pub usual_tree : (k : Back) (op : text.Json) (id local args : Option text.Json) (t : List ℕ) (i l a : Option Data)
-    → of_json op ≡ Some (string t) → AreAlike id i → AreAlike (port_of k local) l → AreAlike args a
-    → of_json (usual k op id local args) ≡ Some (object (members_of k t i l a))
-usual_tree k op id local args t i l a is_op is_id is_local is_args =
-    let with_args : text.Members = put_some (codes "args") args text.no_members in
-    let with_local : text.Members = put_some (codes "local") (port_of k local) with_args in
-    let with_id : text.Members = put_some (head_key k) id with_local in
-    let op_set : Members = set_some (codes "op") (Some (string t)) no_members in
-    let id_set : Members = set_some (head_key k) i op_set in
-    let local_set : Members = set_some (codes "local") l id_set in
-    let args_set : Members = set_some (codes "args") a local_set in
-    let one : of_members (put_some (codes "op") (Some op) with_id) no_members ≡ of_members with_id op_set =
-    set_next (codes "op") (Some op) (Some (string t)) with_id no_members is_op in
-    let two : of_members with_id op_set ≡ of_members with_local id_set = set_next (head_key k) id i with_local op_set is_id in
-    let three : of_members with_local id_set ≡ of_members with_args local_set =
-    set_next (codes "local") (port_of k local) l with_args id_set is_local in
-    let four : of_members with_args local_set ≡ Some args_set = set_next (codes "args") args a text.no_members local_set is_args in
-    ap (option_map object) (one ∙ two ∙ three ∙ four)
+-- set where it stands, it is found by its key
+found_later : (q : List ℕ) (before after : Option Data) (ms : Members) → get_member q ms ≡ before
+    → get_member q (set_some q after ms) ≡ later before after
+found_later q before None ms is = is
+found_later q before (Some d) ms is = get_member-put q d ms
+
+-- a member of a text that stands once, as trees before the operation and after it
+pub record Parted (before after : Option text.Json) (d : Option Data) : Type 0 where
+  pub trees : Option Data × Option Data
+  pub alike_before : AreAlike before trees.0
+  pub alike_after : AreAlike after trees.1
+  pub is : later trees.0 trees.1 ≡ d
+
+later_alone : (d : Option Data) → later None d ≡ d
+later_alone None = refl
+later_alone (Some d) = refl
+
+pub parted : (before after o : Option text.Json) (d : Option Data) → IsOnce before after o → AreAlike o d → Parted before after d
+parted None after o d once alike = record {
+  trees = (None, d);
+  alike_before = tt;
+  alike_after = subst (λ (x : Option text.Json). AreAlike x d) once alike;
+  is = later_alone d;
+}
+parted (Some j) None o d once alike = record {
+  trees = (d, None);
+  alike_before = subst (λ (x : Option text.Json). AreAlike x d) once alike;
+  alike_after = tt;
+  is = refl;
+}
+parted (Some j) (Some i) o d once alike = absurd once
+
+-- the members before the operation of a record
+abbrev pub members_before : Back → Option Data × Option Data → Option Data × Option Data → Option Data × Option Data → Members
+members_before k id local args =
+    set_some (codes "local") local.0 (set_some (head_key k) id.0 (set_some (codes "args") args.0 no_members))
+
+-- the members of a record whose operation is t
+abbrev pub members_of : Back → List ℕ → Option Data × Option Data → Option Data × Option Data → Option Data × Option Data → Members
+members_of k t id local args =
+    set_some (codes "args") args.1
+    (set_some (codes "local") local.1 (set_some (head_key k) id.1 (put (codes "op") (string t) (members_before k id local args))))
+
+-- the tree of a record in a usual order
+module _ (k : Back) (op : text.Json) (t : List ℕ) (i0 i1 l0 l1 a0 a1 : Option text.Json) (i l a : Option Data × Option Data)
+    (is_op : of_json op ≡ Some (string t)) (i_before : AreAlike i0 i.0) (i_after : AreAlike i1 i.1)
+    (l_before : AreAlike (port_of k l0) l.0) (l_after : AreAlike (port_of k l1) l.1)
+    (a_before : AreAlike a0 a.0) (a_after : AreAlike a1 a.1)
+  where
+    -- the text from its operation on
+    abbrev pub from_op : text.Members
+    from_op = text.member (codes "op") op (members_after k i1 l1 a1)
+
+    before_op : of_members (put_before k i0 l0 a0 from_op) no_members ≡ of_members from_op (members_before k i l a)
+    before_op =
+        set_next (codes "args") a0 a.0 _ no_members a_before ∙ set_next (head_key k) i0 i.0 _ _ i_before
+        ∙ set_next (codes "local") (port_of k l0) l.0 from_op _ l_before
+
+    after_op : of_members from_op (members_before k i l a) ≡ Some (members_of k t i l a)
+    after_op =
+        set_next (codes "op") (Some op) (Some (string t)) (members_after k i1 l1 a1) (members_before k i l a) is_op
+        ∙ set_next (head_key k) i1 i.1 _ _ i_after ∙ set_next (codes "local") (port_of k l1) l.1 _ _ l_after
+        ∙ set_next (codes "args") a1 a.1 text.no_members _ a_after
+
+    pub usual_tree : of_json (text.object (put_before k i0 l0 a0 from_op)) ≡ Some (object (members_of k t i l a))
+    usual_tree = ap (option_map object) (before_op ∙ after_op)
 
 -- a key that is none of the others
 abbrev IsApart : List ℕ → Type 0
@@ -109,25 +155,38 @@ head_apart back.CdrBig = (refl, refl, refl, refl, refl, refl)
 head_apart back.CdrLittle = (refl, refl, refl, refl, refl, refl)
 head_apart back.Mach = (refl, refl, refl, refl, refl, refl)
 
-pub op_there : (k : Back) (t : List ℕ) (i l a : Option Data) → get (codes "op") (object (members_of k t i l a)) ≡ Some (string t)
-op_there k t i l a =
-    found_past (codes "op") (codes "args") a _ refl ∙ found_past (codes "op") (codes "local") l _ refl
-    ∙ found_past (codes "op") (head_key k) i _ (head_apart k).0
+module _ (k : Back) (t : List ℕ) (i l a : Option Data × Option Data) where
+  -- the operation among the members before it
+  with_op : (q : List ℕ) → bytes_eq q (codes "op") ≡ false
+      → get_member q (put (codes "op") (string t) (members_before k i l a)) ≡ get_member q (members_before k i l a)
+  with_op q other = found_past q (codes "op") (Some (string t)) (members_before k i l a) other
 
-pub head_there : (k : Back) (t : List ℕ) (i l a : Option Data) → get (head_key k) (object (members_of k t i l a)) ≡ i
-head_there k t i l a =
-    found_past (head_key k) (codes "args") a _ (head_apart k).5 ∙ found_past (head_key k) (codes "local") l _ (head_apart k).4
-    ∙ found_set (head_key k) i _ (found_past (head_key k) (codes "op") (Some (string t)) no_members (head_apart k).3)
+  pub op_there : get (codes "op") (object (members_of k t i l a)) ≡ Some (string t)
+  op_there =
+      found_past (codes "op") (codes "args") a.1 _ refl ∙ found_past (codes "op") (codes "local") l.1 _ refl
+      ∙ found_past (codes "op") (head_key k) i.1 _ (head_apart k).0 ∙ get_member-put (codes "op") (string t) (members_before k i l a)
 
-pub local_there : (k : Back) (t : List ℕ) (i l a : Option Data) → get (codes "local") (object (members_of k t i l a)) ≡ l
-local_there k t i l a =
-    found_past (codes "local") (codes "args") a _ refl
-    ∙ found_set (codes "local") l _ (found_past (codes "local") (head_key k) i _ (head_apart k).1)
+  pub head_there : get (head_key k) (object (members_of k t i l a)) ≡ later i.0 i.1
+  head_there =
+      found_past (head_key k) (codes "args") a.1 _ (head_apart k).5 ∙ found_past (head_key k) (codes "local") l.1 _ (head_apart k).4
+      ∙ found_later (head_key k) i.0 i.1 _
+      (with_op (head_key k) (head_apart k).3 ∙ found_past (head_key k) (codes "local") l.0 _ (head_apart k).4
+      ∙ found_set (head_key k) i.0 _ (found_past (head_key k) (codes "args") a.0 no_members (head_apart k).5))
 
-pub args_there : (k : Back) (t : List ℕ) (i l a : Option Data) → get (codes "args") (object (members_of k t i l a)) ≡ a
-args_there k t i l a =
-    found_set (codes "args") a _
-    (found_past (codes "args") (codes "local") l _ refl ∙ found_past (codes "args") (head_key k) i _ (head_apart k).2)
+  pub local_there : get (codes "local") (object (members_of k t i l a)) ≡ later l.0 l.1
+  local_there =
+      found_past (codes "local") (codes "args") a.1 _ refl
+      ∙ found_later (codes "local") l.0 l.1 _
+      (found_past (codes "local") (head_key k) i.1 _ (head_apart k).1 ∙ with_op (codes "local") refl
+      ∙ found_set (codes "local") l.0 _
+      (found_past (codes "local") (head_key k) i.0 _ (head_apart k).1 ∙ found_past (codes "local") (codes "args") a.0 no_members refl))
+
+  pub args_there : get (codes "args") (object (members_of k t i l a)) ≡ later a.0 a.1
+  args_there =
+      found_later (codes "args") a.0 a.1 _
+      (found_past (codes "args") (codes "local") l.1 _ refl ∙ found_past (codes "args") (head_key k) i.1 _ (head_apart k).2
+      ∙ with_op (codes "args") refl ∙ found_past (codes "args") (codes "local") l.0 _ refl
+      ∙ found_past (codes "args") (head_key k) i.0 _ (head_apart k).2 ∙ found_set (codes "args") a.0 no_members refl)
 
 head_known : (k : Back) → is_request_key k (head_key k) ≡ true
 head_known back.Xdr = refl
@@ -150,16 +209,27 @@ all_true : (a b c d e : Bool) → a ≡ true → b ≡ true → c ≡ true → d
 all_true a b c d e p q r s t = rw (p, q, r, s, t) refl
 
 -- these members are a request record
-pub is_usual : (k : Back) (t : List ℕ) (local : Option text.Json) (i l a : Option Data) (n m : ℕ) → AreAlike (port_of k local) l
-    → head_number i ≡ Some n → head_number l ≡ Some m → is_list a ≡ true → is_request k (object (members_of k t i l a)) ≡ true
-is_usual k t local i l a n m alike word port listed =
-    let op_known = keys_set (is_request_key k) (codes "op") (Some (string t)) no_members refl refl in
-    let known = keys_set (is_request_key k) (head_key k) i _ (head_known k) op_known in
-    all_true _ _ _ _ _
-    (keys_set (is_request_key k) (codes "args") a _ refl (local_known k local l _ alike known))
-    (ap is_text (op_there k t i l a)) (ap is_list (args_there k t i l a) ∙ listed)
-    (ap (λ o. is_some (head_number o)) (head_there k t i l a) ∙ ap is_some word)
-    (ap (λ o. is_some (head_number o)) (local_there k t i l a) ∙ ap is_some port)
+module _ (k : Back) (t : List ℕ) (l0 l1 : Option text.Json) (i l a : Option Data × Option Data)
+    (before : AreAlike (port_of k l0) l.0) (after : AreAlike (port_of k l1) l.1) where
+  known_before : each_key (is_request_key k) (members_before k i l a) ≡ true
+  known_before =
+      local_known k l0 l.0 _ before
+      (keys_set (is_request_key k) (head_key k) i.0 _ (head_known k) (keys_set (is_request_key k) (codes "args") a.0 no_members refl refl))
+
+  all_known : each_key (is_request_key k) (members_of k t i l a) ≡ true
+  all_known =
+      keys_set (is_request_key k) (codes "args") a.1 _ refl
+      (local_known k l1 l.1 _ after
+      (keys_set (is_request_key k) (head_key k) i.1 _ (head_known k)
+      (keys_put (is_request_key k) (codes "op") (string t) (members_before k i l a) refl known_before)))
+
+  pub is_usual : (n m : ℕ) → head_number (later i.0 i.1) ≡ Some n → head_number (later l.0 l.1) ≡ Some m → is_list (later a.0 a.1) ≡ true
+      → is_request k (object (members_of k t i l a)) ≡ true
+  is_usual n m word port listed =
+      all_true _ _ _ _ _ all_known
+      (ap is_text (op_there k t i l a)) (ap is_list (args_there k t i l a) ∙ listed)
+      (ap (λ o. is_some (head_number o)) (head_there k t i l a) ∙ ap is_some word)
+      (ap (λ o. is_some (head_number o)) (local_there k t i l a) ∙ ap is_some port)
 
 -- ---- what the members are
 
@@ -182,6 +252,14 @@ port_tree back.Xdr local n small is = record { tree = None; alike = tt; number =
 port_tree back.CdrBig local n small is = record { tree = None; alike = tt; number = refl }
 port_tree back.CdrLittle local n small is = record { tree = None; alike = tt; number = refl }
 port_tree back.Mach local n small is = word_tree local n small is
+
+-- the second head number stands once over Mach, and nowhere else
+pub port_once : (k : Back) (before after o : Option text.Json) → IsOnce before after o
+    → IsOnce (port_of k before) (port_of k after) (port_of k o)
+port_once back.Xdr before after o once = refl
+port_once back.CdrBig before after o once = refl
+port_once back.CdrLittle before after o once = refl
+port_once back.Mach before after o once = once
 
 -- a head has this number of a port
 pub port_kept : (k : Back) (n m : ℕ) (wants : Bool) → head_of k n (port_number k m) wants ≡ head_of k n m wants

@@ -1,5 +1,5 @@
 -- What is read of text in the usual form, by induction on items and on members.
-use Rattle.std.proofs.Common.{◌≡◌, ◌==◌, ℕ, ℤ, zero, suc, ◌<◌, ◌≤◌, ◌+◌, List, [], ◌∷◌, ◌++◌, length, get_or, take, Bool, true, false, ◌||◌, Option, Some, None, Bor, option_map, bytes_eq, refl, sym, ap, ◌∙◌, subst, arith, take_all}
+use Rattle.std.proofs.Common.{◌≡◌, ◌==◌, ℕ, ℤ, suc, ◌<◌, ◌≤◌, ◌+◌, List, [], ◌∷◌, ◌++◌, length, get_or, take, Bool, true, false, Option, Some, None, Bor, option_map, bytes_eq, refl, sym, ap, ◌∙◌, subst, arith, take_all}
 use Rattle.std.specs.Prelude.{if◌then◌else◌}
 use Rattle.std.proofs.lemmas.Bool.Decides.{nat_tests}
 use Rattle.std.proofs.lemmas.List.{take_more, length-take}
@@ -23,7 +23,7 @@ use Rattle.serde_json.specs.Data as json
 use Rattle.serde_json.specs.Read.{of_items, of_json, of_members}
 use Rattle.serde_json.proofs.Views.{get_member-put}
 use Rattle.json_shape.specs.Presents.{count, member_of, size}
-use Rattle.json_shape.specs.Reading.{before, value_of, each, in_order, by_name}
+use Rattle.json_shape.specs.Reading.{value_of, each, in_order, by_name}
 use Rattle.json_shape.specs.Scalars.{each_in, number_in}
 use Rattle.json_shape.specs.Texts.{text_of}
 use Rattle.json_shape.specs.Usual.{listed_in, AreRead, IsRead, MembersRead}

@@ -55,12 +55,35 @@ member_view = option_map (λ t. value_view t.now)
 abbrev pub port_of : Back → Option text.Json → Option text.Json
 port_of k local = if is_mach k then local else None
 
--- a record with its members in the usual order, of which only the operation must be there
-abbrev pub usual : Back → text.Json → Option text.Json → Option text.Json → Option text.Json → text.Json
-usual k op id local args =
-    text.object
-    (text.member (codes "op") op
-    (put_some (head_key k) id (put_some (codes "local") (port_of k local) (put_some (codes "args") args text.no_members))))
+-- a member that stands once, before the operation or after it, or is absent
+abbrev pub IsOnce : Option text.Json → Option text.Json → Option text.Json → Type 0
+IsOnce None after o = o ≡ after
+IsOnce (Some j) None o = o ≡ Some j
+IsOnce (Some j) (Some i) o = ⊥
+
+-- members after the operation: the head number, over Mach the second one, the arguments
+abbrev pub members_after : Back → Option text.Json → Option text.Json → Option text.Json → text.Members
+members_after k id local args =
+    put_some (head_key k) id (put_some (codes "local") (port_of k local) (put_some (codes "args") args text.no_members))
+
+-- members before others: the arguments, the head number, over Mach the second one
+abbrev pub put_before : Back → Option text.Json → Option text.Json → Option text.Json → text.Members → text.Members
+put_before k id local args ms =
+    put_some (codes "args") args (put_some (head_key k) id (put_some (codes "local") (port_of k local) ms))
+
+-- a record of these members in a usual order; only the operation must be there
+pub record IsRecord (k : Back) (j op : text.Json) (id local args : Option text.Json) : Type 0 where
+  pub id_before : Option text.Json
+  pub id_after : Option text.Json
+  pub local_before : Option text.Json
+  pub local_after : Option text.Json
+  pub args_before : Option text.Json
+  pub args_after : Option text.Json
+  pub is : j ≡ text.object
+      (put_before k id_before local_before args_before (text.member (codes "op") op (members_after k id_after local_after args_after)))
+  pub id_once : IsOnce id_before id_after id
+  pub local_once : IsOnce local_before local_after local
+  pub args_once : IsOnce args_before args_after args
 
 -- a member is a head number: 0 where it is absent
 abbrev pub IsWord : Option text.Json → ℕ → Type 0

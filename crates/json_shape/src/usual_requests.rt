@@ -1,5 +1,7 @@
-// Request records from text in the usual form: the name of the operation, then what is there of the head numbers and the arguments.
+// Request records from text in the usual form. Before the name of the operation stands what is there of the arguments
+// and the head numbers, or after it what is there of the head numbers and the arguments.
 ghost use Rattle.std.specs.Prelude.{◌≡◌, ◌<◌, ◌^◌, codes, length, slice_get, IfOk, IfSome, Some};
+ghost use Rattle.json.specs.Json.{Json};
 ghost use Rattle.json.specs.Value.{members_view, value_view};
 ghost use Rattle.mint.specs.Typed.{IsWellTyped};
 ghost use Rattle.mint.specs.Types.{type_at};
@@ -7,7 +9,7 @@ ghost use Rattle.mint.specs.Values.{seen};
 ghost use Rattle.pres.specs.Faces.{face_at};
 ghost use Rattle.serde_json.specs.Data.{number, unsigned};
 ghost use Rattle.serde_json.specs.Read.{of_json};
-ghost use Rattle.json_shape.specs.Usual.{args_of, member_view, port_of, put_some, usual, IsPresented, IsRequestIn, IsRequestOf, IsWord};
+ghost use Rattle.json_shape.specs.Usual.{args_of, member_view, port_of, put_some, IsOnce, IsPresented, IsRecord, IsRequestIn, IsRequestOf, IsWord};
 
 use crate::errors::Halt;
 use crate::members::{head_key, is_mach};
@@ -90,27 +92,44 @@ struct RequestMembers<'v, 'a> {
     args: Option<&'v Tree<'a>>,
 }
 
-/// The members of a record in their order, where there are no others.
+/// The members of a record in a usual order, where there are no others and none stands twice.
 fn request_members<'v, 'a>(back: Back, tree: &'v Tree<'a>) -> Result<RequestMembers<'v, 'a>, Halt>
-    ensures { IfOk result (λ m. value_view tree.now
-        ≡ usual back (value_view m.op.now) (member_view m.id) (member_view m.local) (member_view m.args)) }
+    ensures { IfOk result (λ m. IsRecord back (value_view tree.now)
+        (value_view m.op.now) (member_view m.id) (member_view m.local) (member_view m.args)) }
 {
     let found = members_in(tree)?;
-    let (Some(op), after_op) = leading(found, "op") else {
+    let (args_before, past_args) = leading(found, "args");
+    let (id_before, past_id) = leading(past_args, head_key(back));
+    let (local_before, from_op) = leading_port(back, past_id);
+    let (Some(op), after_op) = leading(from_op, "op") else {
         return Err(Halt::Otherwise);
     };
-    let (id, after_id) = leading(after_op, head_key(back));
-    let (local, after_local) = leading_port(back, after_id);
-    let (args, others) = leading(after_local, "args");
+    let (id_after, after_id) = leading(after_op, head_key(back));
+    let (local_after, after_local) = leading_port(back, after_id);
+    let (args_after, others) = leading(after_local, "args");
     if !others.is_empty() {
         return Err(Halt::Otherwise);
     }
     Ok(RequestMembers {
         op,
-        id,
-        local,
-        args,
+        id: once(id_before, id_after)?,
+        local: once(local_before, local_after)?,
+        args: once(args_before, args_after)?,
     })
+}
+
+/// A member that may stand before the operation or after it, where it does not stand twice.
+fn once<'v, 'a>(
+    before: Option<&'v Tree<'a>>,
+    after: Option<&'v Tree<'a>>,
+) -> Result<Option<&'v Tree<'a>>, Halt>
+    ensures { IfOk result (λ o. IsOnce (member_view before.entry) (member_view after.entry) (member_view o)) }
+{
+    match (before, after) {
+        (None, after) => Ok(after),
+        (before, None) => Ok(before),
+        _ => Err(Halt::Otherwise),
+    }
 }
 
 /// The member of the second head number, which is sought over Mach alone, and the members after it.
@@ -134,9 +153,9 @@ fn record_of(
     bound: &Bound,
     members: &RequestMembers<'_, '_>,
 ) -> Result<RequestRec, Halt>
-    ensures request { IfOk result (λ r. IsRequestOf bound.now
-        (usual bound.now.back (value_view members.now.op.now) (member_view members.now.id)
-        (member_view members.now.local) (member_view members.now.args)) r) }
+    ensures request { IfOk result (λ r. (j : Json) → IsRecord bound.now.back j
+        (value_view members.now.op.now) (member_view members.now.id)
+        (member_view members.now.local) (member_view members.now.args) → IsRequestOf bound.now j r) }
     ensures op { IfOk result (λ r. r.op < length bound.now.ops) }
     ensures typed { IfOk result (λ r. IfSome (slice_get bound.now.ops r.op)
         (λ op. IsWellTyped (type_at bound.now.nodes op.request) (seen r.value))) }
