@@ -1,5 +1,5 @@
 // The operations of a send code, one after the other and one within another.
-ghost use Rattle.std.specs.Prelude.{◌≡◌, ◌<◌, Err, OnOk, OnErr, map, length, slice_index_or, pos};
+ghost use Rattle.std.specs.Prelude.{◌≡◌, ◌<◌, ◌≤◌, Err, OnOk, OnErr, map, length, slice_index_or, pos};
 ghost use Rattle.mint.specs.Values.{seen, all_seen, vals_of, num};
 ghost use Rattle.cast_stub.specs.Parts.{elements_in, on_some};
 ghost use Rattle.cast_stub.specs.Block.{Block, stop, op_seen};
@@ -29,7 +29,8 @@ pub struct Machine<'a> {
     pub head: &'a Head,
 }
 
-/// Runs operations on a value, where at most so many calls are nested.
+/// Runs operations on a value, where at most so many calls are nested. The length is tested after each of them, so
+/// that no more memory is taken than one of them needs beyond the longest message.
 #[cycle(run)]
 #[tactic(auto, using(crate::proofs::Running::running, crate::proofs::Growing::growing))]
 pub fn run_block(
@@ -45,6 +46,7 @@ pub fn run_block(
     ensures err { OnErr result
         (Grown (code_run machine.now calls code.now (seen value.now)) (state_of buf.old) (state_of buf.new)) }
     ensures long { (result ≡ Err Stopped.Long) → most < length buf.new.done }
+    ensures short { OnOk result (0 < length code.now → length buf.new.done ≤ most) }
 {
     for op in code.as_slice() {
         run_op(machine, calls, op, value, buf)?;

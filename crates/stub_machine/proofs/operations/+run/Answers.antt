@@ -1,4 +1,4 @@
-use Rattle.std.proofs.Common.{◌≡◌, ◌<◌, ◌-◌, suc, arith, length, sym, ap, subst, List, OnOk, OnErr}
+use Rattle.std.proofs.Common.{◌≡◌, ◌<◌, ◌≤◌, ◌-◌, suc, arith, length, sym, ap, subst, List, OnOk, OnErr}
 use Rattle.stub_machine.proofs.Sizes.{code_size, op-in-code, each-in-op, case-in-op, default-in-op, called-is-less}
 use Rattle.mint.specs.Values.{seen, all_seen, Val}
 use Rattle.mint.specs.declared.value.Value.{Value}
@@ -9,6 +9,7 @@ use Rattle.cast_stub.specs.Subs.{calls_of}
 use Rattle.stub_machine.proofs.Running.{each_runs, block_fits, block_step, items_fit, items_step, numbers_fit, numbers_step, call_is, call_ends, switch_ends, switch_runs}
 use Rattle.stub_machine.proofs.Growing.{block_broken, block_grown, items_grown, numbers_grown, each_grown, switch_grown, err_map, on_err}
 use Rattle.stub_machine.specs.Run.{Grown}
+use Rattle.stub_machine.specs.Sending.{most}
 use Rattle.stub_machine.proofs.Picks.{picked_body, default_steps, nothing_steps, ok_map}
 use Rattle.stub_machine.proofs.operations.+run.Goals as goal
 
@@ -17,7 +18,7 @@ run_block-run_op-requires t c =
     let r = subst (λ (ops : List SendOp). Runs (code_steps (calls_of c.args.machine.now.subs.now c.args.machine.now.head.now c.args.calls)
     c.args.machine.now.head.now ops (seen c.args.value.now)) (state_of c.args.buf.now)) (sym c.as_slice-op-items.ensures) c.requires in (
       omega (arith, op-in-code _ _ c.op-item.result c.loop-op-test.true c.op-item.is, ap code_size c.as_slice-op-items.ensures),
-      block_fits _ _ _ _ _ c.op-item.result _ _ c.loop-op.invariant c.loop-op-test.true c.op-item.is r,
+      block_fits _ _ _ _ _ c.op-item.result _ _ c.loop-op.invariant.left c.loop-op-test.true c.op-item.is r,
     )
 
 pub run_items-run_block-requires : goal.run_items-run_block-requires
@@ -112,18 +113,20 @@ run_op-unreachable-requires-in-None-other t c =
     subst (λ (x : Steps). Runs x (state_of c.args.buf.now)) e r
 
 pub run_block-loop-op-preserved : goal.run_block-loop-op-preserved
-run_block-loop-op-preserved t c =
-    block_step _ _ _ _ _ c.op-item.result _ _ _ c.loop-op.invariant c.loop-op-test.true c.op-item.is c.in_ok-run_op.ensures.ok
+run_block-loop-op-preserved t c = record {
+  left = block_step _ _ _ _ _ c.op-item.result _ _ _ c.loop-op.invariant.left c.loop-op-test.true c.op-item.is c.in_ok-run_op.ensures.ok;
+  short = λ h. let short : length c.octets.result.now ≤ most = omega (arith, c.if-octets-gt-MOST.false) in rw c.octets.ensures at short;
+}
 
 pub run_block-returns-then-octets-gt-MOST-clause-err : goal.run_block-returns-then-octets-gt-MOST-clause-err
 run_block-returns-then-octets-gt-MOST-clause-err t c =
     rw (← c.as_slice-op-items.ensures)
-    (block_broken _ _ _ _ _ c.op-item.result _ _ _ c.loop-op.invariant c.loop-op-test.true c.op-item.is c.in_ok-run_op.ensures.ok)
+    (block_broken _ _ _ _ _ c.op-item.result _ _ _ c.loop-op.invariant.left c.loop-op-test.true c.op-item.is c.in_ok-run_op.ensures.ok)
 
 pub run_block-returns-in_err-run_op-clause-err : goal.run_block-returns-in_err-run_op-clause-err
 run_block-returns-in_err-run_op-clause-err t c =
     rw (← c.as_slice-op-items.ensures) (on_err c.from_residual.result _
-    (block_grown _ _ _ _ _ c.op-item.result _ _ _ c.loop-op.invariant c.loop-op-test.true c.op-item.is c.in_err-run_op.ensures.err))
+    (block_grown _ _ _ _ _ c.op-item.result _ _ _ c.loop-op.invariant.left c.loop-op-test.true c.op-item.is c.in_err-run_op.ensures.err))
 
 pub run_items-returns-in_err-run_block-clause-err : goal.run_items-returns-in_err-run_block-clause-err
 run_items-returns-in_err-run_block-clause-err t c =

@@ -1,19 +1,24 @@
-use Rattle.std.proofs.Common.{drop, map}
+use Rattle.std.proofs.Common.{◌<◌, ◌≤◌, drop, length, map}
 use Rattle.mint.specs.Values.{seen, all_seen, vals_of, num}
 use Rattle.cast_stub.specs.Subs.{calls_of}
 use Rattle.cast_stub.specs.Steps.{code_steps, over}
 use Rattle.stub_machine.specs.Run.{state_of}
+use Rattle.stub_machine.specs.Sending.{most}
 use Rattle.std.proofs.Common.{◌+◌}
 use Rattle.cast_stub.specs.Block.{op_seen, stop}
 use Rattle.stub_machine.proofs.Running.{Left}
 use Rattle.stub_machine.proofs.Sizes.{size, code_size, left_to_run}
 use Rattle.stub_machine.proofs.operations.+run.Given as goal
 
+-- what was run, and after the first operation at most so many octets
 abbrev pub invariant-run_block-loop-op : goal.invariant-run_block-loop-op
-invariant-run_block-loop-op l = Left
-    (code_steps (calls_of l.machine.subs.now l.machine.head.now l.calls) l.machine.head.now l.op-items (seen l.value))
-    (code_steps (calls_of l.machine.subs.now l.machine.head.now l.calls) l.machine.head.now (drop l.op-index l.op-items) (seen l.value))
-    (state_of l.fn.buf) (state_of l.buf)
+invariant-run_block-loop-op l = record {
+  left : Left
+      (code_steps (calls_of l.machine.subs.now l.machine.head.now l.calls) l.machine.head.now l.op-items (seen l.value))
+      (code_steps (calls_of l.machine.subs.now l.machine.head.now l.calls) l.machine.head.now (drop l.op-index l.op-items) (seen l.value))
+      (state_of l.fn.buf) (state_of l.buf);
+  short : 0 < l.op-index → length l.buf.done ≤ most;
+}
 
 abbrev pub invariant-run_items-loop-value : goal.invariant-run_items-loop-value
 invariant-run_items-loop-value l = Left
