@@ -31,7 +31,7 @@ use Rattle.corba_decls.specs.declared.tree.Constant.{Constant}
 use Rattle.corba_decls.specs.declared.tree.Declaration.{Declaration}
 use Rattle.corba_decls.specs.declared.tree.Declaration.TheVariants as D
 
--- this word, or what does not begin with it
+-- this word alone, or what does not begin with it
 abbrev pub word_or : {A : Type 0} → List ℕ → Reader A → Reader (Unit {0} ⊎ A)
 word_or w r = either (begins_with (word_is w)) (word_at w) r
 

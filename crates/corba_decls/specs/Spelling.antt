@@ -26,7 +26,7 @@ tag_type T.Char = word (codes "char")
 tag_type T.Boolean = word (codes "boolean")
 tag_type (T.Named n) = scoped n
 
--- a tag within so many levels: it has one
+-- a tag within so many levels: it needs one
 abbrev pub tag : ℕ → Tag → Text
 tag zero t ks = ⊥
 tag (suc n) t ks = tag_type t ks
@@ -40,7 +40,7 @@ label n L.Default = word (codes "default") & mark (codes ":")
 abbrev pub case : ℕ → Case → Text
 case n c = some (label n) c.labels & type n c.of.0 c.of.1 false & declarator n c.declarator & mark (codes ";")
 
--- union = "union" identifier "switch" "(" tag ")" "{" case { case } "}", whose tag has one level more
+-- union = "union" identifier "switch" "(" tag ")" "{" case { case } "}", whose tag has one level less
 abbrev pub union : ℕ → Union → Text
 union n u = word (codes "union") & identifier u.name & word (codes "switch") & mark (codes "(") & tag (n - 1) u.tag
     & mark (codes ")") & mark (codes "{") & some (case n) u.cases & mark (codes "}")
@@ -78,7 +78,7 @@ declared n (D.Enum e) = enumeration e
 declared n (D.Constant c) = constant n c
 declared n (D.Exception e) = exception n e
 
--- a declaration within so many levels, without its `;`: it has one
+-- a declaration within so many levels, without its `;`: it needs one level
 abbrev pub declaration : ℕ → Declaration → Text
 declaration zero d ks = ⊥
 declaration (suc n) d ks = declared (suc n) d ks

@@ -1,5 +1,6 @@
-//! The declarations of CORBA IDL (CORBA, chapter on IDL syntax and semantics): typedefs, structs,
-//! unions, enumerations, constants and exceptions.
+//! The declarations of CORBA IDL (CORBA, chapter on IDL syntax and semantics, "Constant declaration",
+//! "Type declaration" and "Exception declaration"): typedefs, structs, unions, enumerations, constants
+//! and exceptions.
 //!
 //! [`declaration`] reads one from the beginning of some tokens; [`Declaration`] is its tree.
 #![tactic(auto)]

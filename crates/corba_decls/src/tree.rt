@@ -51,7 +51,7 @@ pub struct Union {
 /// What a typedef gives names to (the `<type_spec>` of a `<type_declarator>`).
 #[derive(Drop)]
 pub enum Aliased {
-    /// A type by its name, a string or a sequence.
+    /// A type that is not declared here.
     Type(TypeName),
     /// A struct, which is declared here.
     Struct(Struct),

@@ -66,7 +66,7 @@ impl Nested for Case {
     }
 }
 
-/// A union within so many levels.
+/// A union within so many levels. Its tag, in parentheses, has one level less.
 #[tactic(auto, unfolding(crate::specs::Readers::union_at))]
 pub(crate) fn union(alloc: Global, levels: u32, tokens: &[Token]) -> Result<(Union, &[Token]), Halt>
     requires { levels ≤ 32 }

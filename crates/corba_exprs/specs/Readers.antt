@@ -115,7 +115,7 @@ abbrev pub is_right : BinaryOp → Bool
 is_right B.Right = true
 is_right _ = false
 
--- an operator, where it is one that binds so loosely; between `<` and `>` a `>>` after which the type is whole is none
+-- an operator, where it is one that binds so loosely; between `<` and `>` a `>>` after which a type is whole is not one
 abbrev pub operator_of : Bool → ℕ → List Token → Option BinaryOp → Option BinaryOp
 operator_of angle loose ts None = None
 operator_of angle loose ts (Some op) = if looseness op == loose && not (angle && (is_right op && closes ts)) then Some op else None
@@ -127,6 +127,7 @@ operator_at angle loose (t ∷ ts) = operator_of angle loose ts (binary_in t.kin
 
 -- ---- expressions, each with how many levels it takes
 
+-- an expression, and how many levels it takes
 abbrev pub Levelled : Type 0
 Levelled = Tree × ℕ
 
@@ -140,6 +141,7 @@ primary_of (inl x) = (x.0, suc x.1)
 primary_of (inr (inl x)) = (unary x.0 x.1.0, suc x.1.1)
 primary_of (inr (inr l)) = (leaf l, 1)
 
+-- the same, over the reader of an operand
 abbrev pub primary_at : (Bool → ℕ → Reader Levelled) → Bool → Reader Levelled
 primary_at operand angle = mapped primary_of (
     either (begins_with (mark_is (codes "("))) (behind (mark_at (codes "(")) (before (operand false 6) (mark_at (codes ")"))))
@@ -160,13 +162,13 @@ chain_on operand op levels zero x ts = None
 chain_on operand op levels (suc more) x ts = by_operator (op ts) (Some (x, ts))
     (λ o. then_on (operand (drop 1 ts)) (λ y us. kept_in levels (over o x y) (chain_on operand op levels more (over o x y)) us))
 
--- an expression whose operators bind less loosely, over the reader of its operands
+-- an expression whose operators bind less loosely than `loose`, over the reader of its operands
 abbrev pub climb : (Bool → ℕ → Reader Levelled) → ℕ → Bool → ℕ → Reader Levelled
 climb operand below angle zero ts = primary_at operand angle ts
 climb operand below angle (suc loose) ts = then_on (climb operand below angle loose ts)
     (λ x us. chain_on (operand angle loose) (operator_at angle loose) (suc below) (suc below) x us)
 
--- an expression within so many levels, and how many it takes
+-- an expression whose operators bind less loosely than `loose`, within so many levels, and how many it takes
 abbrev pub within_at : ℕ → Bool → ℕ → Reader Levelled
 within_at zero angle loose ts = None
 within_at (suc n) angle loose ts = climb (within_at n) n angle loose ts

@@ -27,8 +27,8 @@ pub fn expression(
     Ok((tree, rest))
 }
 
-/// An expression within so many levels, and how many it takes. Between `<` and `>` a `>>` after
-/// which a type is whole is not an operator.
+/// An expression whose operators bind less loosely than `loose`, within so many levels, and how many
+/// levels it takes. Between `<` and `>` a `>>` after which a type is whole is not an operator.
 #[cycle(climbing)]
 fn within(
     alloc: Global,
@@ -48,7 +48,8 @@ fn within(
     climb(alloc, levels - 1, angle, loose, tokens)
 }
 
-/// An expression whose operators bind less loosely, with so many levels below it.
+/// An expression whose operators bind less loosely than `loose`, with so many levels below it, and how
+/// many levels it takes.
 #[cycle(climbing)]
 fn climb(
     alloc: Global,
@@ -87,7 +88,8 @@ fn climb(
     Err(Halt::Syntax)
 }
 
-/// An operand in parentheses, an operator before its operand, a literal or a name.
+/// An operand in parentheses, an operator before its operand, a literal or a name (`<unary_expr>`); and
+/// how many levels it takes.
 #[cycle(climbing)]
 fn primary(
     alloc: Global,

@@ -79,7 +79,7 @@ impl Production for Identifier {
     }
 }
 
-/// A scoped name.
+/// A scoped name (`<scoped_name>`), and the tokens after it.
 #[tactic(auto, unfolding(crate::specs::Readers::scoped_at))]
 pub fn scoped(alloc: Global, tokens: &[Token]) -> Result<(ScopedName, &[Token]), Halt>
     ensures { Gives (λ x. (x.0, x.1.now)) result (scoped_at tokens.now) }

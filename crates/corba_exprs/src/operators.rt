@@ -93,7 +93,8 @@ fn begins_joint(tokens: &[Token]) -> bool
     }
 }
 
-/// Whether the tokens follow a whole type.
+/// Whether the tokens follow a whole type: `,`, `>` or `>>` comes first, or an identifier with which no
+/// expression goes on.
 pub fn closes(tokens: &[Token]) -> bool
     ensures { result ≡ closes tokens.now }
 {
@@ -108,8 +109,8 @@ pub fn closes(tokens: &[Token]) -> bool
     }
 }
 
-/// The operator that comes first, where it binds so loosely. Between `<` and `>` a `>>` that ends
-/// a type is none.
+/// The operator that comes first, where it binds so loosely. Between `<` and `>` a `>>` after which a
+/// type is whole is not one.
 pub(crate) fn operator(angle: bool, loose: u32, tokens: &[Token]) -> Option<BinaryOp>
     ensures { result ≡ operator_at angle loose tokens.now }
 {

@@ -17,7 +17,7 @@ pub struct Identifier {
 /// A scoped name (`<scoped_name>`).
 #[derive(Debug, Drop)]
 pub struct ScopedName {
-    /// Whether `::` comes first, so that the name is sought from the file.
+    /// Whether `::` comes first, so that the name is sought from the file's scope on.
     pub absolute: bool,
     /// The identifiers, one at least.
     pub parts: Listed<Identifier>,

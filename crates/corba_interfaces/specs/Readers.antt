@@ -33,7 +33,7 @@ export_at n = before (exported_at n) (mark_at (codes ";"))
 abbrev pub is_open : List Token → Bool
 is_open = begins_other (mark_is (codes "}"))
 
--- the interfaces that are inherited from
+-- the interfaces that are inherited from; none where no `:` comes first
 unfoldable pub bases_at : ℕ → Reader (List Reference)
 bases_at n = any_at (begins_with (mark_is (codes ":"))) (behind (mark_at (codes ":")) (joined_at (codes ",") (reference_at n)))
 

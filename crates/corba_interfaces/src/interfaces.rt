@@ -11,7 +11,7 @@ use kit_base::Listed;
 use std::alloc::Global;
 use syntax_kit::{Halt, Production, begins_mark, each_nested, joined_nested, mark, word};
 
-/// The interfaces that are inherited from.
+/// The interfaces that are inherited from (`<inheritance_spec>`); none where no `:` comes first.
 #[tactic(auto, unfolding(crate::specs::Readers::bases_at))]
 fn bases(
     alloc: Global,

@@ -9,7 +9,7 @@ use kit_base::Listed;
 pub enum Export {
     /// A type, a constant or an exception.
     Declaration(Declaration),
-    /// Attributes.
+    /// Attributes of one type.
     Attribute(Attribute),
     /// An operation.
     Operation(Operation),

@@ -9,7 +9,7 @@ use idl_lex::Token;
 use std::alloc::Global;
 use syntax_kit::{Halt, Production, each_nested, joined, mark, some_nested, word};
 
-/// A struct within so many levels.
+/// A struct (`<struct_type>`) within so many levels, and the tokens after it.
 #[tactic(auto, unfolding(crate::specs::Readers::structure_at))]
 pub fn structure(alloc: Global, levels: u32, tokens: &[Token]) -> Result<(Struct, &[Token]), Halt>
     requires { levels ≤ 32 }
@@ -23,7 +23,8 @@ pub fn structure(alloc: Global, levels: u32, tokens: &[Token]) -> Result<(Struct
     Ok((Struct { name, members }, rest))
 }
 
-/// An exception within so many levels.
+/// An exception (`<except_dcl>`) within so many levels, and the tokens after it: it does not take the `;`
+/// that ends it.
 #[tactic(auto, unfolding(crate::specs::Readers::exception_at))]
 pub fn exception(
     alloc: Global,
@@ -41,7 +42,7 @@ pub fn exception(
     Ok((Exception { name, members }, rest))
 }
 
-/// An enumeration.
+/// An enumeration (`<enum_type>`), and the tokens after it.
 #[tactic(auto, unfolding(crate::specs::Readers::enumeration_at))]
 pub fn enumeration(alloc: Global, tokens: &[Token]) -> Result<(Enum, &[Token]), Halt>
     ensures { Gives (λ x. (x.0, x.1.now)) result (enumeration_at tokens.now) }

@@ -1,6 +1,8 @@
-//! The declarators, structs and exceptions of CORBA IDL (CORBA, chapter on IDL syntax and semantics).
+//! The declarators, structs, exceptions and enumerations of CORBA IDL (CORBA, chapter on IDL syntax and
+//! semantics, "Type declaration" and "Exception declaration").
 //!
-//! [`structure`] and [`exception`] read one from the beginning of some tokens, after its word.
+//! [`structure`], [`exception`] and [`enumeration`] read one from the beginning of some tokens, up to its
+//! `}`.
 #![tactic(auto)]
 
 mod bodies;

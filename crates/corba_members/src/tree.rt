@@ -42,7 +42,7 @@ pub struct Struct {
 pub struct Exception {
     /// Its name.
     pub name: Identifier,
-    /// Its members.
+    /// Its members; there may be none.
     pub members: Listed<Member>,
 }
 

@@ -17,6 +17,7 @@ use Rattle.corba_operations.specs.declared.tree.Direction.TheVariants as D
 use Rattle.corba_operations.specs.declared.tree.Parameter.{Parameter}
 use Rattle.corba_operations.specs.declared.tree.Operation.{Operation}
 
+-- a type, as the bounds of its sequences and what they hold
 abbrev Type' : Type 0
 Type' = List (Option Tree) × Base
 
@@ -25,7 +26,7 @@ abbrev pub or_none : {A : Type 0} → Option (List A) → List A
 or_none None = []
 or_none (Some xs) = xs
 
--- a list where the test passes, else none
+-- a list where the test passes, else the empty one
 abbrev pub any_at : {A : Type 0} → (List Token → Bool) → Reader (List A) → Reader (List A)
 any_at go r = mapped or_none (option go r)
 
@@ -36,7 +37,7 @@ is_further = begins_with (mark_is (codes ","))
 abbrev pub reference_of : ScopedName → Reference
 reference_of n = record { name = n }
 
--- a name that refers to an interface or an exception
+-- a name that refers to an interface or an exception: it needs one level
 abbrev pub reference_at : ℕ → Reader Reference
 reference_at zero ts = None
 reference_at (suc n) ts = mapped reference_of scoped_at ts
@@ -81,7 +82,7 @@ unfoldable pub parameters_at : ℕ → Reader (List Parameter)
 parameters_at n = behind (mark_at (codes "("))
     (before (any_at (begins_other (mark_is (codes ")"))) (joined_at (codes ",") (parameter_at n))) (mark_at (codes ")")))
 
--- the exceptions that are raised
+-- the exceptions that are raised; none where `raises` does not come first
 unfoldable pub raises_at : ℕ → Reader (List Reference)
 raises_at n = any_at (begins_with (word_is (codes "raises"))) (behind (word_at (codes "raises"))
     (behind (mark_at (codes "(")) (before (joined_at (codes ",") (reference_at n)) (mark_at (codes ")")))))
@@ -97,7 +98,7 @@ result_at n = mapped result_of (either (begins_with (word_is (codes "void"))) (w
 abbrev pub operation_of : Bool × (Option Type' × (Identifier × (List Parameter × List Reference))) → Operation
 operation_of x = record { oneway = x.0; result = x.1.0; name = x.1.1.0; parameters = x.1.1.1.0; raises = x.1.1.1.1 }
 
--- an operation
+-- an operation, with one level less in its parentheses
 unfoldable pub operation_at : ℕ → Reader Operation
 operation_at n = mapped operation_of (both (flag_at (word_is (codes "oneway")))
     (both (result_at n) (both identifier_at (both (parameters_at (n - 1)) (raises_at (n - 1))))))

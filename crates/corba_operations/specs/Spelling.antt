@@ -12,7 +12,7 @@ use Rattle.corba_operations.specs.declared.tree.Direction.TheVariants as D
 use Rattle.corba_operations.specs.declared.tree.Parameter.{Parameter}
 use Rattle.corba_operations.specs.declared.tree.Operation.{Operation}
 
--- a list that has no text where it is empty
+-- the text of a list, and no tokens where the list is empty
 abbrev pub if_any : {A : Type 0} → (List A → Text) → List A → Text
 if_any S [] = empty
 if_any S (x ∷ xs) = S (x ∷ xs)

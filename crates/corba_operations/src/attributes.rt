@@ -21,7 +21,7 @@ pub fn begins_attribute(tokens: &[Token]) -> bool
     }
 }
 
-/// Attributes within so many levels, and the tokens after them.
+/// Attributes of one type (`<attr_dcl>`) within so many levels, and the tokens after them.
 #[tactic(auto, unfolding(crate::specs::Readers::attribute_at))]
 pub fn attribute(
     alloc: Global,

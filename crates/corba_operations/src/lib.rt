@@ -1,6 +1,7 @@
-//! The attributes and operations of CORBA IDL (CORBA, chapter on IDL syntax and semantics).
+//! The attributes and operations of CORBA IDL (CORBA, chapter on IDL syntax and semantics, "Attribute
+//! declaration" and "Operation declaration").
 //!
-//! [`attribute`] and [`operation`] read one from the beginning of some tokens.
+//! [`attribute`] and [`operation`] read one from the beginning of some tokens, without the `;` that ends it.
 #![tactic(auto)]
 
 mod attributes;

@@ -91,7 +91,7 @@ fn parameters(
     Ok((Listed::new(alloc), rest))
 }
 
-/// The exceptions that are raised.
+/// The exceptions that are raised (`<raises_expr>`); none where `raises` does not come first.
 #[tactic(auto, unfolding(crate::specs::Readers::raises_at))]
 fn raises(
     alloc: Global,
@@ -129,7 +129,8 @@ fn result_type(
     Ok((Some(of), rest))
 }
 
-/// An operation within so many levels, and the tokens after it. Its parentheses have one level more.
+/// An operation (`<op_dcl>`) within so many levels, and the tokens after it. What is in its parentheses has
+/// one level less.
 #[tactic(auto, unfolding(crate::specs::Readers::operation_at))]
 pub fn operation(
     alloc: Global,

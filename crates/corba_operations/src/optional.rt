@@ -5,7 +5,7 @@ ghost use Rattle.syntax_kit.specs.Reading.{word_is, flag_at};
 use idl_lex::Token;
 use syntax_kit::is_word;
 
-/// Whether the word comes first, and the tokens after it if it does.
+/// Whether the word comes first, and the tokens after it; all the tokens where it does not.
 pub(crate) fn word_flag<'a>(tokens: &'a [Token], word: &[u8]) -> (bool, &'a [Token])
     ensures { flag_at (word_is word.now) tokens.now ≡ Some (result.0, result.1.now) }
 {

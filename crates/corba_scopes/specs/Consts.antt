@@ -25,7 +25,7 @@ abbrev pub number_of : ℕ → Option Entry → Answer ℤ
 number_of d None = fault Unknown d
 number_of d (Some e) = number_of_meaning d e.meaning
 
--- the number of a leaf: a character is its code, and a string is none
+-- the number of a leaf: that of a character is its code, and a string does not have one
 abbrev pub leaf_number : Names → List (List ℕ) → ℕ → Leaf → Answer ℤ
 leaf_number s env d (L.Number n) = Ok n
 leaf_number s env d (L.Character c) = Ok (pos c)

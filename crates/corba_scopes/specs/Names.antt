@@ -13,7 +13,7 @@ use Rattle.corba_scopes.specs.declared.meanings.Meaning.{Meaning}
 abbrev pub Meanings : Type 0
 Meanings = List (List ℕ × Meaning)
 
--- what is declared: full names, each with what it stands for; the same but for the case of the last identifier; the lines of interfaces
+-- what is declared: full names, each with what it stands for; the same with the last identifier in lower case; the lines of interfaces
 pub record Names : Type 0 where
   pub meanings : Meanings
   pub folded : List (List ℕ)
@@ -41,7 +41,7 @@ is_declared full meanings = is_some (look_up full meanings)
 abbrev pub lower : List ℕ → List ℕ
 lower name = map to_ascii_lowercase name
 
--- why a name may not be declared in a scope: it is declared there, or but for the case of letters
+-- why a name may not be declared in a scope: it is declared there, or one is that differs only in the case of letters
 abbrev pub clash : Names → List ℕ → List ℕ → Option NameFault
 clash s scope name =
     if is_declared (scope ++ name) s.meanings then Some Twice

@@ -33,7 +33,7 @@ pub fn of_file(alloc: Global) -> Result<Env, NoMemory>
     Ok(env)
 }
 
-/// The prefix of the innermost scope; of none it is the file's.
+/// The prefix of the innermost scope; where there is none, that of the file.
 pub fn innermost(env: &[Name]) -> &[u8]
     ensures { result.now ≡ innermost env.now }
 {

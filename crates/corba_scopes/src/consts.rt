@@ -12,7 +12,7 @@ use kit_base::Name;
 use name_kit::natural;
 use std::alloc::Global;
 
-/// The number that a name stands for.
+/// The number that a name stands for, or the fault of a name that stands for none.
 fn number_of(decl: u32, entry: Option<Entry>) -> Result<i128, NameErr>
     ensures value { Gives (λ x. x) result (number_of decl entry) }
     ensures exact { result ≡ number_of decl entry }
@@ -30,7 +30,7 @@ fn number_of(decl: u32, entry: Option<Entry>) -> Result<i128, NameErr>
     Err(NameErr { fault, decl })
 }
 
-/// What an operator gives, or a number out of range.
+/// The number that an operator gives; where it gives none, the number is out of range.
 fn in_range(decl: u32, given: Result<i128, ConstErr>) -> Result<i128, NameErr>
     ensures value { Gives (λ x. x) result (in_range decl given) }
     ensures exact { result ≡ in_range decl given }
@@ -68,7 +68,7 @@ impl Scopes {
         }
     }
 
-    /// The number of an expression at a place.
+    /// The number of an expression at a place, or its leftmost fault.
     pub fn number(
         &self,
         alloc: Global,
@@ -92,7 +92,7 @@ impl Scopes {
         }
     }
 
-    /// The value of a constant at a place.
+    /// The value of a constant at a place: a string alone is a string, and anything else a number.
     pub fn constant(
         &self,
         alloc: Global,
@@ -108,7 +108,7 @@ impl Scopes {
         }
     }
 
-    /// A bound, or the length of an array, at a place.
+    /// A bound, or the length of an array, at a place: from 1 up to 2^32 - 1.
     pub fn length(
         &self,
         alloc: Global,

@@ -92,7 +92,7 @@ impl Scopes {
         }
     }
 
-    /// The first identifier of a scoped name.
+    /// The first identifier of a scoped name: with `::` before it, it is one of the file.
     fn first(
         &self,
         alloc: Global,

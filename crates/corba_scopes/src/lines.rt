@@ -35,7 +35,7 @@ impl Line {
         Ok(line)
     }
 
-    /// Puts a scope after the others, where it is none of them.
+    /// Puts a scope after the others, unless it is there.
     pub fn add(&mut self, alloc: Global, scope: &[u8]) -> Result<(), NoMemory>
         ensures { OnOk result (self.new ≡ added scope.now self.old) }
     {

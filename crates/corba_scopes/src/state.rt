@@ -17,8 +17,11 @@ use std::marker::Model;
 /// The names that a file has declared, each in its scope.
 #[derive(Drop)]
 pub struct Scopes {
+    /// Full names, each with what it stands for.
     table: Table,
+    /// The same names with the last identifier in lower case.
     folded: Names,
+    /// The lines of interfaces.
     lines: Lines,
 }
 
@@ -110,7 +113,7 @@ impl Scopes {
         Ok(())
     }
 
-    /// Declares a name, or refuses it.
+    /// Declares a name, or refuses it where it clashes.
     pub fn declare_new(
         &mut self,
         alloc: Global,

@@ -19,7 +19,7 @@ use Rattle.corba_shapes.specs.Structs.{struct_on}
 use Rattle.corba_shapes.specs.Enums.{enum_on}
 use Rattle.corba_shapes.specs.Unions.{union_on}
 
--- the type that the declaration of one begins with this number
+-- the type that is declared next, as one that is used
 abbrev pub next_form : State → Tag → Form
 next_form s tag = single (C.Used (Declared (length s.types) tag) None)
 

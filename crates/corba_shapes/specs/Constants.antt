@@ -30,7 +30,7 @@ constant_core s env d C.Octet = Ok (number_core kind.Octet)
 constant_core s env d C.Text = Ok (K.Text Any)
 constant_core s env d (C.Named n) = named_core s env d n
 
--- a constant is a number, an enumerator or a string
+-- a type that no constant has: it is not a number, an enum or a string
 abbrev pub is_no_constant : Core → Bool
 is_no_constant c = is_other (core_tag c) && is_none (core_text c)
 
@@ -40,6 +40,7 @@ has_length (Exactly m) n = n == m
 has_length (AtMost m) n = nat_le n m
 has_length Any n = true
 
+-- the same of a length, if there is one
 abbrev pub is_text : Option Count → ℕ → Bool
 is_text None n = false
 is_text (Some c) n = has_length c n

@@ -36,6 +36,7 @@ is_whole_aliased (A.Struct t) = has_field t.members
 is_whole_aliased (A.Enum e) = is_some_list e.items
 is_whole_aliased _ = true
 
+-- the same of a declaration
 abbrev pub is_whole : Declaration → Bool
 is_whole (D.Typedef t) = is_whole_aliased t.of
 is_whole (D.Struct t) = has_field t.members

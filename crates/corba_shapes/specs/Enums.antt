@@ -21,7 +21,7 @@ item_clash name items =
     else if has (lower name) (map (λ i. lower i.name) items) then Some CaseClash
     else None
 
--- the lower of two faults of one identifier
+-- the lower of two faults of one identifier: Twice is lower than CaseClash
 abbrev pub lower_of : Option NameFault → Option NameFault → Option NameFault
 lower_of None g = g
 lower_of (Some f) None = Some f

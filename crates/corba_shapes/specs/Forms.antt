@@ -62,6 +62,7 @@ type_of_entry d (Some e) = type_of_meaning d e.meaning
 abbrev pub named_type : Names → List (List ℕ) → ℕ → ScopedName → Answer (Use × Option Count)
 named_type s env d n = type_of_entry d (named s env n)
 
+-- the same as one that is not a row
 abbrev pub named_core : Names → List (List ℕ) → ℕ → ScopedName → Answer Core
 named_core s env d n = and_then (named_type s env d n) (λ t. Ok (C.Used t.0 t.1))
 
@@ -74,7 +75,7 @@ simple_core d S.Boolean = Ok (number_core kind.Bool)
 simple_core d S.Octet = Ok (number_core kind.Octet)
 simple_core d _ = fault OutOfScope d
 
--- how many elements a sequence has, or characters a string: at most its bound, which is from 1, or any number
+-- how many elements a sequence may have, or characters a string: at most its bound, which is from 1, or any number
 abbrev pub bounded : Names → List (List ℕ) → ℕ → Option Tree → Answer Count
 bounded s env d None = Ok Any
 bounded s env d (Some e) = and_then (length_of s env d e) (λ n. Ok (AtMost n))
@@ -120,7 +121,7 @@ arrayed s (c ∷ cs) = array (arrayed s cs) c
 abbrev pub form_shape : Form → List Count → Shape
 form_shape f ns = arrayed (rowed (core_shape f.core) f.rows) ns
 
--- what a row may have as elements
+-- a type with the lengths of an array is a row: a sequence or an array
 abbrev pub is_row : List Count → List Count → Bool
 is_row [] [] = false
 is_row _ _ = true

@@ -10,8 +10,8 @@ use Rattle.corba_scopes.specs.declared.meanings.Meaning.TheVariants as M
 use Rattle.corba_scopes.specs.Names.{Names, nothing, declared_on}
 use Rattle.corba_scopes.specs.Around.{innermost}
 
--- what is declared so far: the names; the numbers of the enums, each after its enum's number as a type; the types with their
--- full names; the exceptions; and how many declarations there are
+-- what is declared so far: the names; the numbers of the items of enums, each after the number of its enum among the
+-- types; the types with their full names; the exceptions; and how many declarations have begun
 pub record State : Type 0 where
   pub names : Names
   pub labels : List (ℕ × ℤ)
@@ -27,7 +27,7 @@ start = record { names = nothing; labels = []; types = []; exceptions = []; coun
 abbrev pub counted : State → State
 counted s = record s { count = s.count + 1 }
 
--- the name of the next type, in the innermost of the scopes around a place; and how long the type is, where it is a string
+-- one more type, by its name in the innermost of the scopes around a place; and how long it is, where it is a string
 abbrev pub with_type : ℕ → List (List ℕ) → List ℕ → Shape → Tag → Option Count → State → Answer State
 with_type d env name shape tag text s =
     and_then (declared_on d s.names (innermost env) name (M.Type (Declared (length s.types) tag) text)) (λ names.

@@ -34,7 +34,7 @@ tag_use s env d T.Char = Ok (Number kind.Char)
 tag_use s env d T.Boolean = Ok (Number kind.Bool)
 tag_use s env d (T.Named n) = and_then (named_type s env d n) (λ t. Ok t.0)
 
--- a tag is an integer, a character, a truth value or an enum
+-- a type that no tag has: it is not an integer, a character, a truth value or an enum
 abbrev pub is_no_tag : Tag → Bool
 is_no_tag (tag.Number kind.Octet) = true
 is_no_tag tag.Other = true
@@ -69,7 +69,7 @@ pub record Cases : Type 0 where
   pub arms : List (ℤ × Shape)
   pub other : Option Shape
 
--- what the default is, where a case is the first that has it
+-- what the default is after a case: the type of the case, where it is the first that has the default
 abbrev pub other_with : Bool → Option Shape → Shape → Option Shape
 other_with true None s = Some s
 other_with _ other s = other

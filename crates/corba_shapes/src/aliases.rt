@@ -19,7 +19,7 @@ use kit_base::Name;
 use name_kit::{Tag, Use};
 use std::alloc::Global;
 
-/// A type that was declared with this number.
+/// The type that is declared with this number, as one that is used.
 fn declared_form(alloc: Global, k: u32, tag: Tag) -> Form
     ensures { result ≡ single (Core.Used (Use.Declared k tag) None) }
 {
@@ -54,7 +54,7 @@ fn aliased(
     }
 }
 
-/// A name of a type.
+/// Declares a name of a type, with the lengths after it.
 fn alias(
     alloc: Global,
     r: &mut Shapes,
@@ -81,7 +81,7 @@ fn alias(
     )
 }
 
-/// Names of a type.
+/// Declares names of a type.
 fn aliases(
     alloc: Global,
     r: &mut Shapes,
@@ -98,7 +98,7 @@ fn aliases(
     Ok(())
 }
 
-/// A typedef.
+/// Declares what a typedef declares.
 pub(crate) fn typedef(
     alloc: Global,
     r: &mut Shapes,

@@ -77,7 +77,7 @@ fn fits(labels: &IndexSet<(u32, i128)>, core: Core, value: Constant) -> bool
     }
 }
 
-/// A constant.
+/// Declares a constant, after its value is judged.
 pub(crate) fn constant(
     alloc: Global,
     r: &mut Shapes,

@@ -59,7 +59,7 @@ fn item_clash(
     Ok(None)
 }
 
-/// The lower of two faults of one identifier.
+/// The lower of two faults of one identifier: Twice is lower than CaseClash.
 fn lower_of(f: Option<NameFault>, g: Option<NameFault>) -> Option<NameFault>
     ensures { result ≡ lower_of f g }
 {
@@ -91,7 +91,7 @@ fn refuse_name(
     }
 }
 
-/// An item of a type.
+/// An item of an enum: its name and its number.
 fn owned(alloc: Global, name: &[u8], n: i32) -> Result<(Name, i32), NoMemory>
     ensures { IfOk result (λ i. i ≡ (name.now, n)) }
 {
@@ -126,7 +126,7 @@ fn items(
     Ok(items)
 }
 
-/// An enum.
+/// Declares an enum and its items.
 pub(crate) fn enum_(
     alloc: Global,
     r: &mut Shapes,

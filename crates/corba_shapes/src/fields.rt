@@ -14,11 +14,11 @@ use kit_base::{Name, NoMemory};
 use mint::kind::Count;
 use std::alloc::Global;
 
-/// The most lengths after one name. They nest the type as deep, and types are walked and dropped by recursion: with more
-/// lengths there is no stack for it, and that is reported as out of memory.
+/// The most lengths after one name. They nest the type as deep, and types are walked and dropped by
+/// recursion: for more of them the stack may not suffice, and that is reported as out of memory.
 const MOST_LENGTHS: usize = 1024;
 
-/// The lengths of an array.
+/// The lengths of an array, the outermost first.
 pub(crate) fn lengths(
     alloc: Global,
     scopes: &Scopes,

@@ -31,7 +31,7 @@ pub enum Core {
 /// A type that is used.
 #[derive(Drop)]
 pub struct Form {
-    /// What its innermost sequence holds, or it is itself.
+    /// What its innermost sequence holds; itself, where it is not a sequence.
     pub core: Core,
     /// How many elements its sequences have, the innermost first.
     pub rows: Counts,
@@ -92,7 +92,7 @@ pub fn named_type(
     type_of_entry(d, &entry)
 }
 
-/// The same as a type that is used.
+/// The type that a scoped name stands for at a place, as one that is not a row.
 pub(crate) fn named_core(
     alloc: Global,
     scopes: &Scopes,
@@ -106,7 +106,7 @@ pub(crate) fn named_core(
     Ok(Core::Used(used, text))
 }
 
-/// A type of one word.
+/// A type of one word: `char`, `boolean` and `octet` are numbers, and the others are out of scope.
 fn simple_core(d: u32, word: Simple) -> Result<Core, NameErr>
     ensures value { Gives (λ x. x) result (simple_core d word) }
     ensures exact { result ≡ simple_core d word }
@@ -122,7 +122,7 @@ fn simple_core(d: u32, word: Simple) -> Result<Core, NameErr>
     }
 }
 
-/// How many elements a sequence has, or characters a string.
+/// How many elements a sequence may have, or characters a string.
 fn bounded(
     alloc: Global,
     scopes: &Scopes,
@@ -170,7 +170,7 @@ pub(crate) fn single(alloc: Global, core: Core) -> Form
     }
 }
 
-/// A type.
+/// A type as it is used at a place.
 pub fn type_form(
     alloc: Global,
     scopes: &Scopes,
@@ -210,7 +210,7 @@ fn rowed(alloc: Global, ty: Ty, rows: &[Count]) -> Result<Ty, NoMemory>
     }
 }
 
-/// The type of a type with the lengths of an array, the outermost first.
+/// A type that is used, with the lengths of an array after it, the outermost first, as a type of the unit.
 pub fn form_ty(alloc: Global, form: &Form, lengths: &[Count]) -> Result<Ty, NoMemory>
     ensures { IfOk result (λ t. seen t ≡ form_shape form.now lengths.now) }
 {
@@ -220,7 +220,7 @@ pub fn form_ty(alloc: Global, form: &Form, lengths: &[Count]) -> Result<Ty, NoMe
     }
 }
 
-/// Whether something stands in a row.
+/// Whether a type with the lengths of an array is a row: a sequence or an array.
 fn is_row(rows: &[Count], lengths: &[Count]) -> bool
     ensures { result ≡ is_row rows.now lengths.now }
 {

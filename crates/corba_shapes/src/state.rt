@@ -20,17 +20,17 @@ use std::alloc::Global;
 pub struct Shapes {
     /// The names.
     pub scopes: Scopes,
-    /// The numbers of the enums, each after its enum's number as a type.
+    /// The numbers of the items of enums, each after the number of its enum among the types.
     pub labels: IndexSet<(u32, i128)>,
     /// The types, by their full names.
     pub types: TypeList,
     /// The exceptions.
     pub exceptions: Raises,
-    /// How many declarations there are.
+    /// How many declarations have begun.
     pub count: u32,
 }
 
-/// A fault that stands for out of memory.
+/// The fault of out of memory, which is in no declaration.
 pub(crate) fn want() -> NameErr
     ensures { result.fault ≡ WantOfMemory }
 {

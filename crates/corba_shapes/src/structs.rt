@@ -15,7 +15,7 @@ use kit_base::{Name, NoMemory};
 use name_kit::{Tag, struct_of};
 use std::alloc::Global;
 
-/// A struct.
+/// Declares a struct, after its members.
 pub(crate) fn struct_(
     alloc: Global,
     r: &mut Shapes,
@@ -38,14 +38,14 @@ pub(crate) fn struct_(
     r.declare_type(alloc, d, env, name, struct_of(fields), Tag::Other, None)
 }
 
-/// A slash in the place of a dot.
+/// An octet, but a slash in the place of a dot.
 fn slashed(c: u8) -> u8
     ensures { result ≡ slashed c }
 {
     if c == b'.' { b'/' } else { c }
 }
 
-/// Puts a full name after the others, with slashes in the place of its dots.
+/// Puts a full name at the end of an id, with slashes in the place of its dots.
 fn add_slashed(alloc: Global, id: &mut Name, full: &[u8]) -> Result<(), NoMemory>
     ensures { OnOk result (id.new ≡ id.old ++ map slashed full.now) }
 {
@@ -55,7 +55,7 @@ fn add_slashed(alloc: Global, id: &mut Name, full: &[u8]) -> Result<(), NoMemory
     Ok(())
 }
 
-/// The repository id of a full name.
+/// The repository id of a full name: `IDL:M/Bad:1.0`.
 fn repository(alloc: Global, full: &[u8]) -> Result<Name, NoMemory>
     ensures { IfOk result (λ id. id ≡ repository full.now) }
 {
@@ -76,7 +76,7 @@ fn raised(alloc: Global, full: Name, fields: Fields) -> Result<Raise, NoMemory>
     })
 }
 
-/// An exception.
+/// Declares an exception, after its members, and puts it after the others.
 pub(crate) fn exception(
     alloc: Global,
     r: &mut Shapes,

@@ -119,7 +119,7 @@ fn add_arms(
     Ok(())
 }
 
-/// What the default is, where a case is the first that has it.
+/// What the default is after a case: the type of the case, where it is the first that has the default.
 fn other_with(
     alloc: Global,
     default: bool,
@@ -243,7 +243,7 @@ fn union_ty(
     union_of(alloc, ty_of_use(used), arms, Some(other))
 }
 
-/// A union.
+/// Declares a union, after its cases.
 pub(crate) fn union_(
     alloc: Global,
     r: &mut Shapes,

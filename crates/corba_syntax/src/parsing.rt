@@ -10,7 +10,7 @@ use idl_lex::Tokens;
 use std::alloc::Global;
 use syntax_kit::{Halt, SyntaxErr};
 
-/// The tree that has these tokens.
+/// The tree that has these tokens, or the line where the first definition begins that has none.
 pub fn parse(alloc: Global, tokens: &Tokens) -> Result<Tree, SyntaxErr>
     ensures tree { IfOk result (λ tree. Derives tree tokens.now) }
     ensures stop { IfErr result (λ fault. Explains fault tokens.now) }

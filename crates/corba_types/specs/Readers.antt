@@ -47,6 +47,7 @@ simple_words =
     (codes "char", S.Char) ∷ (codes "boolean", S.Boolean) ∷ (codes "octet", S.Octet) ∷ (codes "float", S.Float) ∷ (codes "double", S.Double)
     ∷ (codes "wchar", S.Wchar) ∷ (codes "wstring", S.Wstring) ∷ (codes "any", S.Any) ∷ (codes "Object", S.Object) ∷ []
 
+-- the type of one word that a token is
 abbrev pub simple_in : TokenKind → Option Simple
 simple_in = word_in simple_words
 
@@ -78,13 +79,14 @@ abbrev pub string_of : Option (Tree × Bool) → Base × Bool
 string_of None = (B.Text None, false)
 string_of (Some x) = (B.Text (Some x.0), x.1)
 
--- what follows `string`
+-- what follows `string`, and whether its last mark ends the sequence around it too
 unfoldable pub string_at : ℕ → Reader (Base × Bool)
 string_at n = mapped string_of
     (option (begins_with (mark_is (codes "<"))) (behind (mark_at (codes "<")) (both (expression_at n true) (token_at close_in))))
 
 -- ---- types
 
+-- a type, and whether its last mark ends the sequence around it too
 abbrev pub Typed : Type 0
 Typed = (List (Option Tree) × Base) × Bool
 
@@ -96,7 +98,7 @@ base_of (inr b) = (([], b), false)
 unfoldable pub base_at : ℕ → Reader Typed
 base_at n = mapped base_of (either (begins_with (word_is (codes "string"))) (behind (word_at (codes "string")) (string_at n)) plain_at)
 
--- the bound of a sequence, and the mark that ends it
+-- the bound of a sequence, and whether the mark that ends it ends the sequence around it too
 unfoldable pub bound_at : ℕ → Reader (Option Tree × Bool)
 bound_at n = both (option (begins_with (mark_is (codes ","))) (behind (mark_at (codes ",")) (expression_at n true))) (token_at close_in)
 
@@ -108,7 +110,7 @@ sequence_of t b = ((b.0 ∷ t.0.0, t.0.1), b.1)
 abbrev pub ended_at : ℕ → Typed → Reader Typed
 ended_at n t ts = if t.1 then Some (sequence_of t (None, false), ts) else map_read (sequence_of t) (bound_at n ts)
 
--- a sequence, or a type that is none
+-- a sequence, or a type that is not one
 abbrev pub type_by : Reader Typed → ℕ → Reader Typed
 type_by element n ts =
     if begins_with (word_is (codes "sequence")) ts

@@ -38,7 +38,7 @@ abbrev pub close : Bool → Text
 close false = mark (codes ">")
 close true = mark (codes ">>")
 
--- a type that is not a sequence and has its own end, or needs none
+-- a type that shares no mark with the sequence around it: where it must share one, it has no text
 abbrev pub alone : Text → Bool → Text
 alone P false ks = P ks
 alone P true ks = ⊥

@@ -26,7 +26,7 @@ pub struct Int {
     pub size: IntSize,
 }
 
-/// A type of one word. The last seven are read and stand for nothing here.
+/// A type of one word. The last six are read and stand for nothing here.
 #[derive(Clone, Copy, Debug, PartialEq, Eq, Drop)]
 pub enum Simple {
     /// `char`

@@ -33,7 +33,7 @@ fn plain(alloc: Global, tokens: &[Token]) -> Result<(Base, &[Token]), Halt>
     Ok((Base::Name(name), rest))
 }
 
-/// What follows `string`.
+/// What follows `string`, and whether its last mark ends the sequence around it too.
 #[tactic(auto, unfolding(crate::specs::Readers::string_at))]
 fn string(alloc: Global, levels: u32, tokens: &[Token]) -> Result<(Base, bool, &[Token]), Halt>
     requires { levels ≤ 32 }

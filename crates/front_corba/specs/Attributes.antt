@@ -47,7 +47,7 @@ abbrev pub attribute_clash : Names → List ℕ → List PlainOffer → Bool →
 attribute_clash s scope ops readonly x =
     lower_of (clash s scope x) (lower_of (own_clash s scope (get_name x) ops) (set_clash s scope ops readonly x))
 
--- the operation that sets an attribute, unless it can only be read
+-- the operation that sets an attribute after the others, unless the attribute can only be read
 abbrev pub setter_on : ℕ → List ℕ → ℕ → Bool → Form → Body → List ℕ → Answer Body
 setter_on d scope home readonly f b x = if readonly then Ok b else offered_on d scope home b (setter x (form_shape f []))
 

@@ -20,7 +20,7 @@ use Rattle.front_corba.specs.Offers.{operation_clash, added_on}
 abbrev pub is_there : PlainOffer → List PlainOffer → Bool
 is_there o ops = list_any (λ p. p.home == o.home && bytes_eq p.operation.name o.operation.name) ops
 
--- why the operation of a base may not be beside these: it is another of one name
+-- why the operation of a base may not be beside these: another has its name, or has it but for the case of letters
 abbrev pub offer_clash : List PlainOffer → PlainOffer → Option NameFault
 offer_clash ops o = if is_there o ops then None else operation_clash o.operation.name ops
 
@@ -54,7 +54,7 @@ abbrev pub interface_at : ℕ → Option Entry → Answer (ℕ × List ℕ)
 interface_at d None = fault Unknown d
 interface_at d (Some e) = interface_of_meaning d e.name e.meaning
 
--- a base that is none of those before it
+-- a base that is not one of those before it, after them
 abbrev pub new_base : ℕ → File → Heirs → ℕ × List ℕ → Answer Heirs
 new_base d s b i =
     and_then (joined_on d b.ops (slice_get s.interfaces i.0)) (λ ops.

@@ -9,9 +9,11 @@ use Rattle.front_corba.specs.declared.state.Heir.{Heir}
 use Rattle.front_corba.specs.declared.state.Resolver.{Resolver}
 use Rattle.front_corba.specs.State.{PlainOffer, Body, Heirs, PlainOffering, File}
 
+-- an operation, and where it is declared
 abbrev pub plain_offer : Offer → PlainOffer
 plain_offer o = record { home = o.home; operation = plain_operation o.operation }
 
+-- an interface, by its full name
 abbrev pub plain_offering : Offering → PlainOffering
 plain_offering i = record { name = i.name; ops = map plain_offer i.ops }
 

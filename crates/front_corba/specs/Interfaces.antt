@@ -18,7 +18,7 @@ use Rattle.front_corba.specs.Bases.{bases_on}
 use Rattle.front_corba.specs.Operations.{operation_on}
 use Rattle.front_corba.specs.Attributes.{attributes_on}
 
--- what an interface declares, by its number
+-- one export of an interface, by its number as a declaration
 abbrev pub export_on : ℕ → List (List ℕ) → ℕ → Body → Export → Answer Body
 export_on d env home b (E.Declaration x) = and_then (declaration_on d env b.state x) (λ s. Ok (record b { state = s }))
 export_on d env home b (E.Attribute a) = attributes_on d env home b a
@@ -30,7 +30,7 @@ exports_on env home b [] = Ok b
 exports_on env home b (x ∷ xs) =
     and_then (export_on (b.state.count + 1) env home (record b { state = counted b.state }) x) (λ b. exports_on env home b xs)
 
--- the name of an interface, which is declared after its bases, and the line of its own scope
+-- the name of an interface, which is declared after its bases, and the line of the interface's own scope
 abbrev pub opened_on : ℕ → List ℕ → List ℕ → ℕ → Names → List ℕ → List (List ℕ) → Answer Names
 opened_on d scope inner home s name line = and_then (declared_on d s scope name (M.Interface home)) (λ s. Ok (with_line inner line s))
 

@@ -37,6 +37,7 @@ pub record Parameters : Type 0 where
   pub ins : List (List ℕ × Shape)
   pub outs : List (List ℕ × Shape)
 
+-- no parameters, beside these names
 abbrev pub no_parameters : Names → Parameters
 no_parameters names = record { names = names; ins = []; outs = [] }
 

@@ -75,7 +75,7 @@ definitions_on list = walks_on (map walk list)
 abbrev pub operations_of : List PlainOffer → List PlainOperation
 operations_of ops = map (λ o. o.operation) ops
 
--- an interface by its place: programs are numbered from 20000000 in hexadecimal digits, messages from 1,000
+-- an interface by its place: programs are numbered from 536,870,912 (0x20000000), message ids from 1,000, 2,000 and so on
 abbrev pub interface : ℕ → PlainOffering → PlainInterface
 interface place i = record {
   name = i.name;
@@ -105,10 +105,12 @@ are_fit is = nat_le (length is) most_interfaces && are_distinct (full_names is) 
 
 -- ---- what the grammar sees to
 
+-- a struct of an export has a field, and an enum an item
 abbrev pub is_whole_export : Export → Bool
 is_whole_export (E.Declaration x) = is_whole x
 is_whole_export _ = true
 
+-- the same of a definition, over that of a definition in it
 abbrev pub is_whole_level : (Definition → Bool) → Definition-F Definition Module → Bool
 is_whole_level inner (Definition-F.Module m) = list_all inner (out-Module m).definitions
 is_whole_level inner (Definition-F.Interface i) = list_all is_whole_export i.exports

@@ -7,7 +7,6 @@ ghost use Rattle.corba_shapes.specs.Forms.{form_shape};
 ghost use Rattle.front_corba.specs.Held.{plain_offer, body};
 ghost use Rattle.front_corba.specs.Attributes.{getter, setter, get_name, set_name, set_clash, attribute_clash, setter_on, attribute_on, attributes_on, attribute_names_on};
 
-use crate::copies::copy_name;
 use crate::named::Offers;
 use crate::offers::{lower_of, offer, own_clash, refuse_fault};
 use crate::parameters::field;
@@ -75,7 +74,8 @@ fn setter(alloc: Global, name: &[u8], form: &Form) -> Result<Operation, NoMemory
     })
 }
 
-/// Why an operation that sets an attribute may not be beside these, or nothing.
+/// Why the operation that sets an attribute may not be beside these, or nothing; an attribute that can only
+/// be read does not have it.
 fn set_clash(
     alloc: Global,
     scopes: &Scopes,
@@ -111,7 +111,7 @@ fn attribute_clash(
     Ok(lower_of(f, lower_of(g, h)))
 }
 
-/// The operation that sets an attribute, unless it can only be read.
+/// Declares the operation that sets an attribute, unless the attribute can only be read.
 fn offer_setter(
     alloc: Global,
     d: u32,
@@ -140,7 +140,7 @@ fn offer_setter(
     )
 }
 
-/// An attribute: its name, and its operations.
+/// Declares an attribute: its name, and its operations.
 fn attribute(
     alloc: Global,
     d: u32,
@@ -172,7 +172,7 @@ fn attribute(
     offer_setter(alloc, d, scope, home, readonly, form, shapes, ops, name)
 }
 
-/// Attributes of one type.
+/// Declares attributes of one type.
 pub(crate) fn attributes(
     alloc: Global,
     env: &[Name],
@@ -199,7 +199,7 @@ pub(crate) fn attributes(
     )
 }
 
-/// Attributes of a type, by their names.
+/// Declares attributes of a type, by their names.
 fn attributes_of(
     alloc: Global,
     d: u32,

@@ -64,7 +64,7 @@ fn inherit(alloc: Global, d: u32, ops: &mut Offers, base: &[Offer]) -> Result<()
     Ok(())
 }
 
-/// Puts the operations of a base after the others.
+/// Puts the operations of a base, if it is there, after the others, or refuses them.
 fn join(alloc: Global, d: u32, ops: &mut Offers, base: Option<&Offering>) -> Result<(), NameErr>
     ensures { Gives (λ _. map plain_offer ops.new) result
         (joined_on d (map plain_offer ops.old) (option_map plain_offering (option_copied base.entry))) }
@@ -97,7 +97,7 @@ fn interface_at(d: u32, entry: Option<Entry>) -> Result<(u32, Name), NameErr>
     }
 }
 
-/// Puts what a base has after what those before it have.
+/// Puts what a base has after what those before it have, where it is not one of them.
 #[tactic(auto, using(crate::proofs::Getting::offering_got))]
 fn new_base(
     alloc: Global,
@@ -119,7 +119,7 @@ fn new_base(
     Ok(())
 }
 
-/// Puts what a base has after what those before it have.
+/// Puts what a base has after what those before it have; one that comes again adds nothing.
 fn base(
     alloc: Global,
     r: &Resolver,

@@ -20,7 +20,7 @@ use kit_base::limits::MOST_INTERFACES;
 use name_kit::refuse;
 use std::alloc::Global;
 
-/// What an interface declares, by its number.
+/// Declares one export of an interface, by its number as a declaration.
 fn export(
     alloc: Global,
     env: &[Name],
@@ -40,7 +40,7 @@ fn export(
     }
 }
 
-/// What an interface declares.
+/// Declares the exports of an interface, each as a declaration of its own number.
 fn exports(
     alloc: Global,
     env: &[Name],
@@ -200,7 +200,7 @@ fn seated(
     Ok(())
 }
 
-/// An interface.
+/// Declares an interface, and puts it after the others.
 pub(crate) fn interface(
     alloc: Global,
     r: &mut Resolver,

@@ -1,5 +1,7 @@
-//! The names of a CORBA IDL file (CORBA, chapter on IDL syntax and semantics): its interfaces, and the unit that the
-//! file offers.
+//! The names of a CORBA IDL file (CORBA, chapter on IDL syntax and semantics): its interfaces, and the unit
+//! that the file offers.
+//!
+//! [`parse`] gives the tree of a file's tokens, and [`resolve`] the unit of a tree, or its first fault.
 #![tactic(auto)]
 
 mod attributes;

@@ -91,6 +91,7 @@ fn index(
 /// The operations of an interface in order, found by their names.
 #[derive(Drop)]
 pub(crate) struct Offers {
+    /// The operations.
     list: Listed<Offer>,
     /// Their names.
     names: Names,
@@ -158,7 +159,7 @@ impl Offers {
         self.folded.has(small)
     }
 
-    /// Whether an operation is one of these.
+    /// Whether an operation is one of these: by the interface that declares it, and its name.
     pub(crate) fn is_there(&self, alloc: Global, offer: &Offer) -> Result<bool, NoMemory>
         ensures { IfOk result (λ b. b ≡ is_there (plain_offer offer.now) (map plain_offer self.now)) }
     {
@@ -194,7 +195,7 @@ impl Offers {
         })
     }
 
-    /// Puts an operation after the others.
+    /// Puts an operation after the others. Where that is out of memory, no operation is left.
     pub(crate) fn push(&mut self, alloc: Global, offer: Offer) -> Result<(), NoMemory>
         ensures ok { OnOk result (self.new ≡ self.old ++ offer ∷ []) }
     {

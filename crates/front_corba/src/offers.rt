@@ -36,7 +36,7 @@ pub(crate) fn operation_clash(
     Ok(None)
 }
 
-/// The lower of two faults of one token.
+/// The lower of two faults of one token: Twice is lower than CaseClash.
 pub(crate) fn lower_of(f: Option<NameFault>, g: Option<NameFault>) -> Option<NameFault>
     ensures { result ≡ lower_of f g }
 {
@@ -48,7 +48,7 @@ pub(crate) fn lower_of(f: Option<NameFault>, g: Option<NameFault>) -> Option<Nam
     }
 }
 
-/// A fault in a declaration, if there is one.
+/// Refuses what has a fault, with the number of its declaration.
 pub(crate) fn refuse_fault(d: u32, fault: Option<NameFault>) -> Result<(), NameErr>
     ensures value { Gives (λ x. x) result (refused_by d fault) }
     ensures exact { result ≡ refused_by d fault }
@@ -74,7 +74,7 @@ pub(crate) fn own_clash(
     Ok(lower_of(f, g))
 }
 
-/// An operation at its place.
+/// An operation at its place: procedures are numbered from 1, slots from 0.
 fn placed(home: u32, mut operation: Operation, place: usize) -> Offer
     requires { place ≤ most_operations }
     ensures { plain_offer result ≡ placed home place (plain_operation operation) }

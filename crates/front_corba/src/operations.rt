@@ -32,7 +32,7 @@ fn are_some(list: &[Reference]) -> bool
     }
 }
 
-/// Whether an operation gives something back.
+/// Whether an operation gives something back: a result, what a parameter brings out, or an exception.
 fn gives_back(o: &OperationTree) -> bool
     ensures { result ≡ gives_back o.now }
 {
@@ -58,7 +58,7 @@ fn result_of(
     }
 }
 
-/// An operation of these parts.
+/// An operation of these parts, before it has its place.
 fn operation_of(
     alloc: Global,
     o: &OperationTree,
@@ -109,7 +109,7 @@ fn judged(
     Ok(ty)
 }
 
-/// An operation of a result, in its own scope.
+/// An operation of a result; its parameters are declared in its own scope.
 fn signed(
     alloc: Global,
     scopes: &mut Scopes,
@@ -137,7 +137,7 @@ fn signed(
     Ok(operation_of(alloc, o, ins, outs, ty, raises)?)
 }
 
-/// An operation, whose name is declared after it.
+/// Declares an operation, and at its end its name.
 pub(crate) fn operation(
     alloc: Global,
     env: &[Name],

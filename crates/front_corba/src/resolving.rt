@@ -50,7 +50,7 @@ fn begin(
     scopes.declare_new(alloc, d, scope, name, Meaning::Module)
 }
 
-/// A module.
+/// Declares a module, and what is defined in it.
 #[cycle(definitions)]
 fn module(alloc: Global, r: &mut Resolver, env: &[Name], m: &Module) -> Result<(), NameErr>
     ensures { Gives (λ _. held r.new) result (module_walk m.now env.now (held r.old)) }
@@ -62,7 +62,7 @@ fn module(alloc: Global, r: &mut Resolver, env: &[Name], m: &Module) -> Result<(
     define_all(alloc, r, inner.as_slice(), m.definitions.as_slice())
 }
 
-/// A definition.
+/// Declares what a definition declares.
 #[cycle(definitions)]
 fn define(alloc: Global, r: &mut Resolver, env: &[Name], def: &Definition) -> Result<(), NameErr>
     ensures { Gives (λ _. held r.new) result (walk def.now env.now (held r.old)) }
@@ -80,7 +80,7 @@ fn define(alloc: Global, r: &mut Resolver, env: &[Name], def: &Definition) -> Re
     }
 }
 
-/// Definitions, in order.
+/// Declares what definitions declare, in order; each is one more declaration.
 #[cycle(definitions)]
 fn define_all(
     alloc: Global,
@@ -166,8 +166,10 @@ fn unit_of(alloc: Global, r: Resolver) -> Result<Unit, NameErr>
     Ok(unit)
 }
 
-/// The unit of a file, or the first fault of its text. Structs and enums are not empty, and modules are in at most 31
-/// others.
+/// The unit of a file, or the first fault of its text.
+///
+/// No struct and no enum of the tree is empty, and each definition is in at most 31 modules: the trees that
+/// `parse` gives are so, by the contract of [`files_are_whole`].
 #[tactic(auto, using(crate::proofs::Whole::unit_sound))]
 pub fn resolve(alloc: Global, tree: &Tree) -> Result<Unit, NameErr>
     requires { IsWhole tree.now }
@@ -181,7 +183,8 @@ pub fn resolve(alloc: Global, tree: &Tree) -> Result<Unit, NameErr>
     unit_of(alloc, r)
 }
 
-/// The trees that the grammar gives are whole. It does nothing.
+/// The trees that the grammar gives meet the condition of [`resolve`]. The function does nothing; its
+/// contract is the law.
 pub fn files_are_whole()
     ensures { (tree : List DefinitionTree) (tokens : List Token) → Derives tree tokens → IsWhole tree }
 {}
