@@ -6,8 +6,9 @@ LABELS, FIELDS, INTERFACES, OPERATIONS, RAISES = 4_096, 20_000, 64, 256, 4_095
 ALIKE, LONG = 1_000, 8_000
 
 # A case: its name, a front and a back end, the text of the file, and its lines. Each is a request's record, or a reply's, and
-# whether it is answered, or refused with `!`; and whether its file takes long to start.
-Case = namedtuple("Case", "name front back text requests replies refused is_slow", defaults=((), (), (), False))
+# whether it is answered, or refused with `!`; whether its file takes long to start; and of how many values, one within another,
+# an octet of a message is.
+Case = namedtuple("Case", "name front back text requests replies refused is_slow levels", defaults=((), (), (), False, 1))
 
 
 def spread(count, each, between=""):
@@ -67,7 +68,8 @@ def cases():
     yield Case("the last of labels that fall", "onc", "xdr", onc(FALLS, "E"), *asked("onc", '"L0000"', ALIKE))
     yield Case("the last of arms that fall", "onc", "xdr", onc(ARMS_FALL, "U"), *asked("onc", '{"tag":0,"value":1}', ALIKE))
     yield Case("the last label of an arm, and its default", "onc", "xdr", onc(DEFAULT, "U"), asked("onc", f'{{"tag":{LABELS - 1},"value":1}}', ALIKE)[0] + asked("onc", f'{{"tag":{LABELS},"value":1}}', ALIKE)[0])
-    yield Case(f"structs within one another, {DEEP} deep", "corba", "cdr-be", corba(NESTED, f"s{DEEP - 1}"), *asked("corba", '{"a":' * DEEP + "1" + "}" * DEEP, ALIKE))
+    yield Case(f"structs within one another, {DEEP} deep", "corba", "cdr-be", corba(NESTED, f"s{DEEP - 1}"), *asked("corba", '{"a":' * DEEP + "1" + "}" * DEEP, ALIKE),
+               levels=DEEP)
     yield Case("a field of 10,000 letters", "onc", "xdr", onc("struct S { int " + "f" * 10_000 + "; };\n", "S"), *asked("onc", '{"' + "f" * 10_000 + '":1}', 100))
     struct = "struct S {" + "".join(f"int f{i:05};" for i in range(FIELDS)) + "};\n"
     one = [asked("onc", fields(order)) for order in (range(FIELDS), reversed(range(FIELDS)))]
