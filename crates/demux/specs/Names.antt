@@ -1,5 +1,5 @@
 -- Names that are read a word at a time.
-use Rattle.std.specs.Prelude.{ℕ, ◌*◌, List, [], ◌∷◌, ◌++◌, take, drop, replicate}
+use Rattle.std.specs.Prelude.{ℕ, ◌*◌, List, ◌++◌, take, drop, replicate}
 use Rattle.std.specs.Int.{w32, from_be_bytes}
 
 -- a name, and how many words of it were read
