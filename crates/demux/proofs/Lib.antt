@@ -1,4 +1,4 @@
 -- The proofs, each after those that it uses; * marks those that the proofs of functions use.
 
--- what a map has for each name after one more, and what it finds of names from a place on *
+-- * Names that are found by their octets, by what a map has for each name after one more
 mod Finding
