@@ -7,7 +7,7 @@ use wire_def::{Encoding, Head};
 pub enum Naming {
     /// An operation by its number among those of the binding, from 0.
     Operation(u32),
-    /// No interface is the one that is called.
+    /// There is no such interface.
     NoInterface,
     /// The interface has no such operation.
     NoOperation,
@@ -22,6 +22,6 @@ pub struct Called {
     pub head: Head,
     /// How the body is laid out.
     pub encoding: Encoding,
-    /// How many octets the head takes.
+    /// How many octets the head takes, from the beginning of the message.
     pub used: usize,
 }

@@ -1,4 +1,4 @@
--- Names that are found by their octets, by what a map has for each name after one more.
+-- What a map has for each name after one more is put, and the names from a place on that it finds.
 use Rattle.std.proofs.Common.{◌≡◌, ⊎_elim, true, false, cond, ℕ, suc, ◌-◌, ◌+◌, ◌<◌, ◌≤◌, List, ◌∷◌, length, drop, get_or, Some, ap, sym, ◌∙◌, subst, arith}
 use Rattle.std.specs.Prelude.{if◌then◌else◌, Vec}
 use Rattle.std.specs.BTreeMap.{BTreeMap, UpdatesBy}

@@ -1,4 +1,4 @@
 -- The proofs, each after those that it uses; * marks those that the proofs of functions use.
 
--- * Names that are found by their octets, by what a map has for each name after one more
+-- * What a map has for each name after one more is put, and the names from a place on that it finds
 mod Finding

@@ -7,7 +7,7 @@ use Rattle.std.specs.Ordering.{nat_cmp}
 use Rattle.std.specs.Str.{bytes_eq}
 
 module _ {Y : Type 0} where
-  -- what a map has for a name
+  -- the place that a map has for a name
   abbrev pub place_in : BTreeMap (Vec ℕ Y) ℕ → List ℕ → Option ℕ
   place_in places s = get_by (λ k. slice_cmp nat_cmp s k.items) places
 

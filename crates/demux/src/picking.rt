@@ -12,10 +12,10 @@ use std::alloc::Global;
 use std::collections::BTreeMap;
 use std::marker::Model;
 
-/// The place of the first of each name, by its octets.
+/// For each name the place of the first one that is equal to it, counted from 0.
 type Places = BTreeMap<Vec<u8>, u32>;
 
-/// Names, each at its place from 0, of which the first that is equal to another name is found.
+/// Names, each at its place from 0, among which the first that is equal to a given one is found.
 #[derive(Drop)]
 pub struct Demux {
     names: Words,
@@ -44,7 +44,7 @@ fn copied(alloc: Global, names: &Words) -> Result<Words, NoMemory>
     Ok(copies)
 }
 
-/// Gives a name its place.
+/// Keeps a place for a name, instead of the one that it had.
 fn put_place(alloc: Global, places: &mut Places, name: &[u8], place: u32) -> Result<(), NoMemory>
     ensures { OnOk result ((s : List ℕ) → place_in places.new s
         ≡ (if bytes_eq name.now s then Some place else place_in places.old s)) }
@@ -53,7 +53,8 @@ fn put_place(alloc: Global, places: &mut Places, name: &[u8], place: u32) -> Res
     Ok(())
 }
 
-/// Gives each name the place of the first that is equal to it, from the last to the first.
+/// Keeps the places of the names from the last to the first, so that of equal names the place of
+/// the first stays.
 fn put_places(alloc: Global, places: &mut Places, names: &[Name]) -> Result<(), NoMemory>
     requires few { length names.now < 2 ^ 32 }
     requires empty { IsEmpty places.old }
@@ -81,8 +82,8 @@ impl Demux {
         })
     }
 
-    /// The place of the first name that is equal to this one. It takes no memory, and reads at
-    /// most a quarter as many words as the name has octets, and one.
+    /// The place of the first name that is equal to this one, counted from 0. It takes no memory,
+    /// and reads at most a quarter as many words as the name has octets, rounded up, and one.
     pub fn pick(&self, name: &mut WordName<'_>) -> Option<u32>
         ensures place { result ≡ position_from (bytes_eq name.old.name) 0 self.now }
         ensures name { name.new.name ≡ name.old.name }

@@ -8,7 +8,8 @@ use kit_base::{NoMemory, Octets};
 /// How many octets are written at once.
 const PIECE: usize = 256;
 
-/// Appends octets in hexadecimal digits, the letters in lower case. After a refusal some of them may be there.
+/// Appends octets in hexadecimal digits, the letters in lower case. After a refusal some of the
+/// digits may be there.
 pub fn put(octets: &[u8], out: &mut Octets) -> Result<(), NoMemory>
     ensures { OnOk result (out.new ≡ out.old ++ encode_lower octets.now) }
 {

@@ -7,7 +7,8 @@ ghost use Rattle.hex.specs.declared.error.FromHexError.TheVariants.{OddLength, O
 use hex::FromHexError;
 use std::alloc::Global;
 
-/// The octets of digits, two digits each. Where these are others, `hex` says why.
+/// The octets that digits spell, two digits for each. Where the text is not such digits, the error
+/// is the one of `hex`.
 pub fn decode(alloc: Global, digits: &[u8]) -> Result<Vec<u8>, FromHexError>
     ensures ok { IfOk result (λ octets. decode_of digits.now ≡ Ok octets.items) }
     ensures err { IfErr result (λ e. (e ≡ OutOfMemory) ⊎ (decode_of digits.now ≡ Err e)) }
@@ -21,7 +22,7 @@ pub fn decode(alloc: Global, digits: &[u8]) -> Result<Vec<u8>, FromHexError>
     Ok(octets)
 }
 
-// Whether each octet is a digit. Without a way out of the loop, this is done by vectors.
+// Whether each octet is a digit. The loop has no early exit, so that a compiler can use vectors.
 fn are_digits(octets: &[u8]) -> bool
     ensures { result ≡ list_all is_hex_digit octets.now }
 {

@@ -29,7 +29,7 @@ lines_behind-append longest (x ∷ xs) ys h =
 pub length-chomp : (xs : List ℕ) → length xs ≤ length (chomp xs) + 1
 length-chomp xs = grind (arith, nat_tests, common_steps)
 
--- such a line is too long
+-- a line above the limit is answered as Long
 line_of-long : (longest : ℕ) (xs : List ℕ) → longest < length xs → answer_of longest xs ≡ Long ∷ []
 line_of-long longest [] h = absurd (omega arith)
 line_of-long longest (x ∷ xs) h = grind (arith, nat_tests, h)
@@ -63,7 +63,7 @@ lines_behind-cut longest kept more i none split =
     ap (λ (l : List ℕ). l ++ more) split ∙ append_assoc front (10 ∷ rest) more in
     ap (lines_behind longest) whole ∙ lines_behind-append longest front (10 ∷ (rest ++ more)) none
 
--- a line of which so much is there is too long
+-- a line without its end, of which more than the limit and a return is kept, is too long
 pub lines-long : (longest : ℕ) (kept more : List ℕ) → HasNoEnd kept → longest + 1 < length kept
     → lines longest (kept ++ more) ≡ Long ∷ lines_behind longest more
 lines-long longest kept more none long =
@@ -132,7 +132,7 @@ refill_more : (b b' : Bool) (longest longest' : ℕ) (kept kept' got more : List
     ≡ (if b' then Long ∷ lines_behind longest' (kept' ++ more) else lines longest' (kept' ++ more))
 refill_more b b' longest longest' kept kept' got more e f k = rw (e, f, k, append_assoc)
 
--- more was read after what is kept
+-- a read appends to what is kept, and answers nothing
 pub passed-refill : (s t : State) → take (length s.kept) t.kept ≡ s.kept → t.taken + length s.kept ≡ s.taken + length t.kept
     → t.longest ≡ s.longest → t.most ≡ s.most → t.skips ≡ s.skips → s.ended ≡ false → Passed s t (drop (length s.kept) t.kept) []
 passed-refill s t front count longest most skips unended =

@@ -1,10 +1,10 @@
--- Numbers that are read digit by digit, and what is sought from a place on, by induction on the digits.
+-- Numbers that are read digit by digit, by induction on the digits.
 use Rattle.std.proofs.Common.{◌≡◌, ℕ, ◌+◌, ◌-◌, ◌*◌, ◌<◌, ◌≤◌, Bool, true, false, List, [], ◌∷◌, length, drop, drop-cons, get_or, suc, sym, ◌∙◌, arith}
 use Rattle.std.specs.Prelude.{Some, None, ◌&&◌, ◌==◌, nat_le, if◌then◌else◌}
 use Rattle.std.proofs.lemmas.Bool.Decides.{nat_tests}
 use Rattle.kit_base.specs.Decimal.{value_on, number_in}
 
--- a number grows as it is read on
+-- a number does not fall as it is read on
 pub value_on-le : (n : ℕ) (ds : List ℕ) (m : ℕ) → value_on n ds ≡ Some m → n ≤ m
 value_on-le n [] m e = let same : n ≡ m = cc in omega arith
 value_on-le n (d ∷ ds) m e = go (nat_le 48 d && nat_le d 57) (value_on-le (10 * n + (d - 48)) ds m) e where

@@ -10,7 +10,7 @@ use Rattle.kit_base.specs.Lines.{HasNoEnd}
 abbrev pub IsFirstEnd : List ℕ → ℕ → Type 0
 IsFirstEnd rest n = NoneBefore (Passes (is_byte 10) rest) 0 (length rest) n × Passes (is_byte 10) rest n
 
--- no end is among octets
+-- octets without the end of a line
 abbrev pub IsWithout : List ℕ → Type 0
 IsWithout rest = Nowhere (Passes (is_byte 10) rest) 0 (length rest)
 

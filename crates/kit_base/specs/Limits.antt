@@ -17,7 +17,7 @@ longest_file = 1048576
 abbrev pub most_input : ℕ
 most_input = 1073741824
 
--- the nodes of the greatest table
+-- the nodes of the largest table of types
 abbrev pub most_nodes : ℕ
 most_nodes = 65536
 

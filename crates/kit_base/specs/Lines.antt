@@ -11,16 +11,16 @@ use Rattle.kit_base.specs.declared.lines.Cut.TheVariants.{Found, NoEnd}
 abbrev pub chomp : List ℕ → List ℕ
 chomp octets = if slice_index octets (length octets - 1) == 13 then take (length octets - 1) octets else octets
 
--- what is answered for a line: nothing where it is empty
+-- the answer for a line without a carriage return at its end: none where it is empty
 abbrev pub answer_of : ℕ → List ℕ → List Line
 answer_of longest [] = []
 answer_of longest (x ∷ xs) = (if nat_lt longest (length (x ∷ xs)) then Long else Text (x ∷ xs)) ∷ []
 
--- what is answered for the octets of a line
+-- the answer for a line that may still have its carriage return
 abbrev pub line_of : ℕ → List ℕ → List Line
 line_of longest octets = answer_of longest (chomp octets)
 
--- the lines of a line that was begun, and of the octets after it
+-- the answers for a line that was begun and the octets after it
 abbrev pub lines_from : ℕ → List ℕ → List ℕ → List Line
 lines_from longest begun [] = line_of longest begun
 lines_from longest begun (x ∷ xs) =
@@ -31,11 +31,12 @@ lines_from longest begun (x ∷ xs) =
 abbrev pub lines : ℕ → List ℕ → List Line
 lines longest octets = lines_from longest [] octets
 
--- the lines after the rest of one that is too long
+-- the lines after the rest of a line that is too long
 abbrev pub lines_behind : ℕ → List ℕ → List Line
 lines_behind longest [] = []
 lines_behind longest (x ∷ xs) = if x == 10 then lines longest xs else lines_behind longest xs
 
+-- a reader of lines: its two limits, the octets that it keeps, and how far it has come
 pub record State : Type 0 where
   pub longest : ℕ
   pub most : ℕ
@@ -52,11 +53,11 @@ pub record State : Type 0 where
 abbrev pub pending : State → List ℕ → List Line
 pending s more = if s.skips then Long ∷ lines_behind s.longest (s.kept ++ more) else lines s.longest (s.kept ++ more)
 
--- no line ends in these octets
+-- octets without a line feed
 abbrev pub HasNoEnd : List ℕ → Type 0
 HasNoEnd octets = All (λ x. x ≢ 10) octets
 
--- Between the two states these octets were taken and these lines answered, whatever follows; after the end nothing does.
+-- two states between which these octets were taken and these lines answered, whatever follows before the end
 pub record Passed (old new : State) (got : List ℕ) (answered : List Line) : Type 0 where
   pub count : new.taken ≡ old.taken + length got
   pub longest : new.longest ≡ old.longest
@@ -64,30 +65,31 @@ pub record Passed (old new : State) (got : List ℕ) (answered : List Line) : Ty
   pub ended : old.ended ≡ true → (got ≡ []) × (new.ended ≡ true)
   pub answers : (more : List ℕ) → (new.ended ≡ true → more ≡ []) → pending old (got ++ more) ≡ answered ++ pending new more
 
--- the octets that were taken are those that the source lost
+-- two states of a source and of its reader: the octets taken are those that the source gave
 abbrev pub Advances : Option (List ℕ) → Option (List ℕ) → State → State → List Line → Type 0
 Advances before after old new answered = (got : List ℕ) × Consumes before after got × Passed old new got answered
 
--- the line that a call answers
+-- the line that a call answers: none at the end, and none with an error
 abbrev pub answered : Result Line LineErr → List Line
 answered (Ok (Text octets)) = Text octets ∷ []
 answered (Ok Long) = Long ∷ []
 answered (Ok End) = []
 answered (Err e) = []
 
--- where the end was given, nothing is left
+-- a reader that has seen the end only where the source has nothing left
 abbrev pub KnowsEnd : State → Option (List ℕ) → Type 0
 KnowsEnd s left = s.ended ≡ true → IsAtEnd left
 
--- what a cut found
+-- the answer for the line that a cut found
 abbrev pub line_in : Cut → Option Line
 line_in (Found o) = o
 line_in NoEnd = None
 
+-- a cut that found the end of a line
 abbrev pub IsFound : Cut → Type 0
 IsFound (Found o) = Unit {0}
 IsFound NoEnd = ⊥
 
--- what may still be read, and what is kept
+-- a measure that falls with each line: twice what may still be read, what is kept, and two flags
 abbrev pub work : State → ℕ
 work s = 2 * (s.most + 2 - s.taken) + length s.kept + (if s.ended then 0 else 1) + (if s.skips then 1 else 0)

@@ -1,16 +1,16 @@
--- What the ends in memory are seen as, and what a shelf reports of a file.
+-- Sources, sinks and shelves in memory, and what a shelf reports of a file.
 use Rattle.std.specs.Prelude.{◌≡◌, ℕ, ◌-◌, List, [], ◌∷◌, ◌++◌, take, drop, length, Option, Some, None, Bool, Result, Ok, Err, is_err, if◌then◌else◌}
 use Rattle.std.specs.Str.{bytes_eq}
 use Rattle.kit_base.specs.Causes.{raised}
 use Rattle.kit_base.specs.Decimal.{is_listed}
 use Rattle.kit_base.specs.declared.errors.Failed.{Failed}
 
--- where files are reported, there is one at the path, and this is its prefix
+-- octets that are the prefix of the file at a path, where files are reported
 abbrev pub HasFile : Option (List ℕ → Option (List ℕ)) → List ℕ → ℕ → List ℕ → Type 0
 HasFile None path most octets = Unit {0}
 HasFile (Some content) path most octets = (whole : List ℕ) × (content path ≡ Some whole) × (octets ≡ take most whole)
 
--- where files are reported, there is none at the path
+-- a path that has no file, where files are reported
 abbrev pub LacksFile : Option (List ℕ → Option (List ℕ)) → List ℕ → Type 0
 LacksFile None path = Unit {0}
 LacksFile (Some content) path = content path ≡ None
@@ -24,25 +24,25 @@ abbrev pub content_of : List FileView → List ℕ → Option (List ℕ)
 content_of [] path = None
 content_of (f ∷ fs) path = if bytes_eq f.0 path then Some f.1 else content_of fs path
 
--- which calls fail, by their decimal numbers, and how many were made and failed so far
+-- a plan: the decimal numbers of the calls that fail, from 1, and how many were made and failed so far
 pub record Planned : Type 0 where
   pub fails : List (List ℕ)
   pub calls : ℕ
   pub faults : ℕ
 
--- no call has been made
+-- a plan before the first call
 abbrev pub fresh : List (List ℕ) → Planned
 fresh fails = record { fails = fails; calls = 0; faults = 0 }
 
--- the next call is a listed one
+-- whether the next call is a listed one
 abbrev pub fails_next : Planned → Bool
 fails_next p = is_listed (raised p.calls 1) p.fails
 
--- one fault more
+-- a plan after one more fault
 abbrev pub faulted : Planned → Planned
 faulted p = record p { faults = raised p.faults 1 }
 
--- one call more, which failed or not
+-- a plan after one more call, which failed or not
 abbrev pub called : Planned → Bool → Planned
 called p failed = record p { calls = raised p.calls 1; faults = if failed then raised p.faults 1 else p.faults }
 
@@ -81,7 +81,7 @@ held_after held piece (Err e) = held
 abbrev pub taken : Taken → List ℕ → Result ℕ Failed → Taken
 taken s piece result = record s { held = held_after s.held piece result; plan = called s.plan (is_err result) }
 
--- the octets that still fit after these
+-- how many octets still fit after these
 abbrev pub room_of : List ℕ → ℕ
 room_of held = 16777216 - length held
 

@@ -4,7 +4,7 @@ ghost use Rattle.kit_base.specs.Decimal.{is_listed, is_number, number_in};
 
 use crate::Words;
 
-/// Whether one of the words is this number.
+/// Whether one of the words is this number in decimal digits, without a leading zero.
 pub(crate) fn is_listed(n: u64, words: &Words) -> bool
     ensures { result ≡ is_listed n words.now }
 {
@@ -25,7 +25,7 @@ fn is_number(n: u64, word: &[u8]) -> bool
     }
 }
 
-/// A decimal number from 1 that fits.
+/// The number that a word writes in decimal: from 1, below 2^64, without a leading zero.
 fn read_number(word: &[u8]) -> Option<u64>
     ensures some { IfSome result (λ n. number_in word.now ≡ Some n) }
     ensures none { result ≡ None → (n : ℕ) → n < 2 ^ 64 → number_in word.now ≢ Some n }

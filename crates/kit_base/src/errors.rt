@@ -1,11 +1,11 @@
-// The two refusals that carry nothing.
+// The two errors without fields.
 use std::alloc::{AllocError, AllocFailed};
 
-/// The allocator had no memory. Nothing else is ever merged with this.
+/// Out of memory. A failure with another cause is never reported as this.
 #[derive(Clone, Copy, Debug, PartialEq, Eq)]
 pub struct NoMemory;
 
-/// A source, a sink or a shelf failed, and its count of faults rose.
+/// A source or a sink failed, and its count of faults rose. A shelf reports `ShelfErr::Failed`.
 #[derive(Clone, Copy, Debug, PartialEq, Eq)]
 pub struct Failed;
 

@@ -1,7 +1,8 @@
 //! The outside as traits, octets and lists of them, and the lines of an input.
 //!
 //! A program that reads a [`Source`], writes a [`Sink`] and takes files from a [`Shelf`] can be
-//! proved against what these report: their contents, where they report any, and their counts of faults.
+//! proved against what these report: their contents, where they report any, and their counts of
+//! faults.
 #![tactic(auto)]
 
 mod decimal;

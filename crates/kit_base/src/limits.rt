@@ -12,7 +12,7 @@ pub const LONGEST_FILE: u32 = 1_048_576;
 /// The octets that may be taken of an input.
 pub const MOST_INPUT: u64 = 1_073_741_824;
 
-/// The nodes of the greatest table.
+/// The nodes of the largest table of types.
 pub const MOST_NODES: usize = 65_536;
 
 /// The levels of the deepest type.
@@ -36,7 +36,8 @@ pub const MOST_INTERFACES: usize = 64;
 /// The operations of one interface.
 pub const MOST_OPERATIONS: usize = 256;
 
-/// The octets of the longest name of an interface or operation, and of the longest id of an exception.
+/// The octets of the longest name of an interface or operation, and of the longest id of an
+/// exception.
 pub const LONGEST_NAME: usize = 16_777_216;
 
 /// The nodes that the request and the reply of one operation unfold to.

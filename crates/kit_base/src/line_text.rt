@@ -6,7 +6,7 @@ use crate::{Line, LineErr, NoMemory, Octets};
 use memchr::memchr;
 use std::alloc::Global;
 
-/// Where the first line ends, where none ends before `from`.
+/// The place of the first line feed, counted from 0, where there is none before `from`.
 pub(crate) fn find_end(octets: &[u8], from: usize) -> Option<usize>
     requires within { from ≤ length octets.now }
     requires searched { HasNoEnd (take from octets.now) }
@@ -25,7 +25,8 @@ fn rest_from(octets: &[u8], from: usize) -> &[u8]
     &octets[from..]
 }
 
-/// What is answered for the octets of a line.
+/// The answer for a line, given without its line feed: none where it is empty, and `Long` above
+/// `longest` octets, not counting the carriage return at its end.
 pub(crate) fn read_line(alloc: Global, longest: u32, octets: &[u8]) -> Result<Option<Line>, LineErr>
     ensures lines { IfOk result (λ o. option_to_list o ≡ line_of longest octets.now) }
     ensures no_end { IfOk result (λ o. o ≢ Some Line.End) }

@@ -17,7 +17,7 @@ const PIECE: usize = 65_536;
 /// A line of an input, without the line feed and the carriage return at its end.
 #[derive(Debug, Drop)]
 pub enum Line {
-    /// The octets of a line that is not too long.
+    /// The octets of a line that is neither empty nor too long.
     Text(Octets),
     /// A line above the greatest length. Its octets are passed over.
     Long,
@@ -35,7 +35,7 @@ impl Line {
     }
 }
 
-/// Why no line is given. After an error each call gives it again.
+/// Why no line is given. After an error each call gives the same error.
 #[derive(Clone, Copy, Debug, PartialEq, Eq)]
 pub enum LineErr {
     /// A read failed.
@@ -70,8 +70,8 @@ impl Model for Lines {
 
     ghost view = { λ s. record { longest = s.longest; most = s.most; kept = drop s.from s.buffer.items; skips = s.skips; ended = s.ended; taken = s.taken; error = s.error } };
 
-    // No line ends in the octets of a begun line that were searched already. The buffer holds a
-    // longest line, its carriage return and a piece at most.
+    // From `from` on `searched` octets have no line feed. At most one octet above `most` is taken.
+    // The buffer holds at most a longest line, its carriage return and a piece.
     ghost invariant = { λ s. (s.from ≤ length s.buffer.items) × (s.taken ≤ s.most + 1) × (s.most < 2 ^ 64 - 1)
         × (s.from + s.searched ≤ length s.buffer.items) × HasNoEnd (take s.searched (drop s.from s.buffer.items))
         × (length s.buffer.items ≤ s.longest + 65537) };
@@ -107,14 +107,14 @@ impl Lines {
         }
     }
 
-    /// No more is kept than a longest line, its carriage return and a piece. It does nothing.
+    /// Does nothing. It states that at most a longest line, a carriage return and a piece are kept.
     pub fn keeps_little(&self)
         ensures { length self.now.kept ≤ self.now.longest + 65537 }
     {
         let _ = &self.buffer;
     }
 
-    /// The next line, past empty ones.
+    /// The next line that is not empty, or the end.
     pub fn next<S: Source>(&mut self, source: &mut S) -> Result<Line, LineErr>
         ensures lines { Advances (S.left source.old) (S.left source.new) self.old self.new (answered result) }
         ensures knows_end { KnowsEnd self.old (S.left source.old) → KnowsEnd self.new (S.left source.new) }
@@ -122,7 +122,7 @@ impl Lines {
         ensures later { S.faults source.old ≤ S.faults source.new }
         ensures told { result ≢ Err LineErr.Failed → S.faults source.old ≡ S.faults source.new }
         ensures falls { IfOk result (λ line. line ≢ Line.End → work self.new < work self.old) }
-        // What is kept of an error.
+        // What is kept of an error, and what holds at the end.
         ensures again { (e : LineErr) → self.old.error ≡ Some e → (result ≡ Err e) × (self.new ≡ self.old) }
         ensures fresh { OnOk result (self.new.error ≡ None) }
         ensures stands { IfErr result (λ e. self.new.error ≡ Some e) }
@@ -183,7 +183,7 @@ impl Lines {
         }
     }
 
-    /// Cuts the first line off what is kept, where its end is there.
+    /// Cuts the first line off what is kept. Without its end, a line that is too long is dropped.
     #[tactic(auto, using(crate::proofs::Cutting::cutting))]
     fn cut(&mut self) -> Result<Cut, LineErr>
         ensures lines { IfOk result (λ c. Passed self.old self.new [] (option_to_list (line_in c))) }
@@ -207,7 +207,7 @@ impl Lines {
         Ok(Cut::Found(line))
     }
 
-    /// Where the first line that is kept ends. Octets that were searched are not searched again.
+    /// The place of the first line feed that is kept. What was searched is not searched again.
     fn find(&mut self) -> Option<usize>
         ensures found { IfSome result (λ i. (i < length self.old.kept) × HasNoEnd (take i self.old.kept)
             × (self.old.kept ≡ take i self.old.kept ++ 10 ∷ drop (i + 1) self.old.kept)) }
@@ -223,7 +223,7 @@ impl Lines {
         found
     }
 
-    /// The line of the first octets that are kept.
+    /// The answer for the line that ends after the first `end` octets that are kept.
     fn line_to(&self, end: usize) -> Result<Option<Line>, LineErr>
         requires { end ≤ length self.now.kept }
         ensures lines { IfOk result (λ o. option_to_list o
@@ -237,7 +237,7 @@ impl Lines {
         read_line(self.alloc, self.longest, &self.kept()[..end])
     }
 
-    /// What is kept, as the last line.
+    /// What is kept, as the last line, or the end where it is empty.
     fn last(&mut self) -> Result<Line, LineErr>
         requires open_end { HasNoEnd self.old.kept }
         requires ended { self.old.ended ≡ true }
@@ -303,7 +303,7 @@ impl Lines {
         self.searched = 0;
     }
 
-    /// Reads once, after what is kept.
+    /// Reads once, and appends what came to what is kept. Where nothing came, the input has ended.
     fn refill<S: Source>(&mut self, source: &mut S) -> Result<(), LineErr>
         requires room { self.old.taken ≤ self.old.most }
         requires more { self.old.ended ≡ false }

@@ -33,7 +33,7 @@ impl<T> Listed<T> {
         }
     }
 
-    /// A list without items, with space for so many.
+    /// A list without items that has room for `items` of them.
     pub fn with_room(alloc: Global, items: usize) -> Result<Listed<T>, NoMemory>
         ensures { IfOk result (λ list. list ≡ []) }
     {
@@ -56,7 +56,7 @@ impl<T> Listed<T> {
         self.items.get(i)
     }
 
-    /// Exchanges the item at a place for another.
+    /// Exchanges the item at a place, counted from 0, with `item`.
     pub fn exchange(&mut self, at: usize, item: &mut T)
         requires { at < length self.old }
         ensures items { self.new ≡ slice_set self.old at item.old }
@@ -74,7 +74,7 @@ impl<T> Listed<T> {
 }
 
 impl<T: Drop> Listed<T> {
-    /// Appends an item. A refused item is dropped.
+    /// Appends an item. Where memory runs out the item is dropped, and the list is as it was.
     pub fn push(&mut self, item: T) -> Result<(), NoMemory>
         ensures ok { OnOk result (self.new ≡ self.old ++ item ∷ []) }
         ensures err { OnErr result (self.new ≡ self.old) }
@@ -92,7 +92,7 @@ impl<T: Drop> Listed<T> {
 }
 
 impl<T: Copy> Listed<T> {
-    /// A list of these items. A refusal leaves nothing.
+    /// A list of copies of these items.
     pub fn from_slice(alloc: Global, items: &[T]) -> Result<Listed<T>, NoMemory>
         ensures { IfOk result (λ list. list ≡ items.now) }
     {
@@ -101,7 +101,7 @@ impl<T: Copy> Listed<T> {
         Ok(list)
     }
 
-    /// Appends a piece.
+    /// Appends copies of all items of a piece, or of none where memory runs out.
     pub fn append(&mut self, piece: &[T]) -> Result<(), NoMemory>
         ensures ok { OnOk result (self.new ≡ self.old ++ piece.now) }
         ensures err { OnErr result (self.new ≡ self.old) }

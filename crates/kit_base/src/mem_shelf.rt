@@ -15,7 +15,7 @@ struct File {
     content: Octets,
 }
 
-/// Files in memory. Of two at one path the first counts.
+/// Files in memory. Of two at one path the first is read. Reads fail at listed calls.
 #[derive(Drop)]
 pub struct MemShelf {
     alloc: Global,
@@ -46,7 +46,7 @@ impl MemShelf {
         }
     }
 
-    /// Appends a file.
+    /// Appends a file. Where there is one at this path already, that one is still read.
     pub fn add(&mut self, path: &[u8], content: &[u8]) -> Result<(), NoMemory>
         ensures ok { OnOk result
             (self.new ≡ record self.old { files = self.old.files ++ (path.now, content.now) ∷ [] }) }

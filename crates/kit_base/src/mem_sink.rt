@@ -10,7 +10,7 @@ use crate::{Failed, NoMemory, Sink, Words};
 use std::alloc::Global;
 use std::marker::Model;
 
-/// The room of a sink in memory, in octets. It is made when the sink is made.
+/// The room of a sink in memory, in octets. All of it is allocated when the sink is made.
 const ROOM: usize = 16_777_216;
 
 /// The octets that a sink in memory holds.
@@ -103,7 +103,8 @@ impl Sink for SureSink {
     }
 }
 
-/// Holds what was written, takes at most so many octets at a time, and fails at listed calls.
+/// Holds what was written, takes at most a given number of octets at a call, and fails at listed
+/// calls and where no room is left.
 #[derive(Drop)]
 pub struct MemSink {
     room: Room,

@@ -37,7 +37,7 @@ impl MemSure {
         requires { n ≤ length self.old }
         ensures { self.new ≡ drop n self.old }
     {
-        // A slice's length fits, so the sum does.
+        // The length of a slice fits in a `usize`, so the sum does.
         let _all = self.content.as_slice().len();
         self.at += n;
     }
@@ -60,7 +60,8 @@ impl Source for MemSure {
     }
 }
 
-/// Copies as many octets as there are and fit.
+/// Copies the first octets of `from` to the beginning of `into`, as many as both have, and gives
+/// their number.
 fn copy_front(from: &[u8], into: &mut [u8]) -> usize
     ensures count { result ≡ min (length from.now) (length into.old) }
     ensures front { take result into.new ≡ take result from.now }
@@ -70,7 +71,7 @@ fn copy_front(from: &[u8], into: &mut [u8]) -> usize
     count
 }
 
-/// Gives its octets, at most so many at a time, and fails at listed calls.
+/// Gives its octets, at most a given number at a call, and fails at listed calls.
 #[derive(Drop)]
 pub struct MemSource {
     content: Octets,

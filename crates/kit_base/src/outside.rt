@@ -16,7 +16,8 @@ pub trait Source {
     /// How often a read has failed.
     ghost faults: { Self → ℕ };
 
-    /// Takes octets off what is left; none only at the end, or where there is no room.
+    /// Takes octets off what is left, and puts them at the beginning of `into`. It takes none only
+    /// at the end, or where there is no room.
     fn read(&mut self, into: &mut [u8]) -> Result<usize, Failed>
         ensures bound { ReadsAtMost result into.new }
         ensures bytes { ReadConsumes (left self.old) (left self.new) result into.new }
@@ -58,7 +59,7 @@ pub trait Shelf {
     /// How often a file could not be read.
     ghost faults: { Self → ℕ };
 
-    /// The content of a file, or as many of its first octets as are wanted.
+    /// The content of the file at a path, or its first `most` octets where it is longer.
     fn read_file(&mut self, alloc: Global, path: &[u8], most: u32) -> Result<Octets, ShelfErr>
         // What the files are.
         ensures same { files self.new ≡ files self.old }

@@ -1,4 +1,4 @@
-// Which calls of an end in memory fail.
+// Which calls of a source, a sink or a shelf in memory fail.
 ghost use Rattle.std.specs.Prelude.{◌≡◌, ◌≤◌, true, false, [], if◌then◌else◌};
 ghost use Rattle.kit_base.specs.Memory.{fails_next, called, faulted, fresh};
 
@@ -23,7 +23,7 @@ impl Model for Plan {
 }
 
 impl Plan {
-    /// No call has been made.
+    /// A plan before the first call.
     pub fn new(fails: Words) -> Plan
         ensures { result ≡ fresh fails }
     {
@@ -47,7 +47,7 @@ impl Plan {
         false
     }
 
-    /// Counts a fault that no plan foresaw.
+    /// Counts a fault at a call that is not listed, as of a sink without room.
     pub fn fault(&mut self)
         ensures { self.new ≡ faulted self.old }
     {

@@ -5,7 +5,7 @@ ghost use Rattle.std.specs.Io.KnownBytes.{Consumes, IsAtEnd};
 
 use crate::{Failed, LineErr, Source};
 
-/// Drops octets from the beginning of a buffer.
+/// Drops the first `n` octets of a buffer.
 pub(crate) fn discard_front(buffer: &mut Vec<u8>, n: usize)
     requires { n ≤ length buffer.old.items }
     ensures { buffer.new.items ≡ drop n buffer.old.items }
@@ -16,7 +16,8 @@ pub(crate) fn discard_front(buffer: &mut Vec<u8>, n: usize)
     }
 }
 
-/// Reads once, after what the buffer holds.
+/// Reads once into `piece`, and appends what came to the buffer. Room is made before the read, so
+/// that no octet is lost where memory runs out.
 pub(crate) fn read_behind<S: Source>(
     source: &mut S,
     piece: &mut [u8],

@@ -4,10 +4,10 @@ use Rattle.mint.specs.Types.{Ty, type_at}
 use Rattle.pres.specs.declared.ops.Op.{Op}
 use Rattle.pres.specs.Bindings.{Binding}
 
--- the type of what goes into an operation
+-- the type of the request of an operation
 abbrev pub request_type : Binding → ℕ → Ty
 request_type b op = type_at b.nodes (slice_index_or (map (λ (o : Op). o.request) b.ops) op 0)
 
--- the type of what comes back from an operation: a choice whose arm 0 is the answer, and whose arm k is the k-th exception
+-- the type of the reply of an operation: a union whose arm 0 is the answer, and arm k the k-th exception
 abbrev pub reply_type : Binding → ℕ → Ty
 reply_type b op = type_at b.nodes (slice_index_or (map (λ (o : Op). o.reply) b.ops) op 0)

@@ -30,11 +30,11 @@ abbrev pub reply_or_blank : Ty → Option Value → Val
 reply_or_blank t None = blank t
 reply_or_blank t (Some v) = seen v
 
--- what an operation is answered: the reply that is kept for it, or else the blank one
+-- the reply to an operation: the one that is kept for it, or else the blank one
 abbrev pub answer_at : Kept → ℕ → Val
 answer_at k op = reply_or_blank (reply_type k.binding op) (reply_at k op)
 
--- each operation has a place, and each reply is one of its operation
+-- a table with a place for each operation, in which each reply is a well-typed one of its operation
 pub record IsKept (k : Kept) : Type 0 where
   pub places : length k.replies ≡ length k.binding.ops
   pub typed : (op : ℕ) (v : Value) → reply_at k op ≡ Some v → IsWellTyped (reply_type k.binding op) (seen v)

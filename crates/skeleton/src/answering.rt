@@ -56,7 +56,7 @@ impl<'a> Kept<'a> {
         self.replies.get(op)
     }
 
-    /// The node of what comes back from an operation.
+    /// The node of the type of an operation's reply.
     fn reply(&self, op: u32) -> NodeId
         requires { op < length self.now.binding.ops }
         ensures node { result < length self.now.binding.nodes }

@@ -29,7 +29,7 @@ impl Model for Replies {
     ghost view = { λ r. r.places };
 }
 
-/// Places without a reply.
+/// `many` places, each without a reply.
 fn empty_places(alloc: Global, many: usize) -> Result<Listed<Option<Value>>, NoMemory>
     ensures { IfOk result (λ places. places ≡ replicate many None) }
 {
@@ -41,7 +41,7 @@ fn empty_places(alloc: Global, many: usize) -> Result<Listed<Option<Value>>, NoM
 }
 
 impl Replies {
-    /// No reply to any of so many operations.
+    /// A table for `many` operations, none of which has a reply.
     pub fn new(alloc: Global, many: usize) -> Result<Replies, NoMemory>
         ensures { IfOk result (λ r. r ≡ replicate many None) }
     {

@@ -9,13 +9,13 @@ use kit_base::NoMemory;
 use mint::value::Value;
 use std::alloc::Global;
 
-/// What a server does for calls: a reply to each request for an operation of a binding. That a call
-/// is met is part of the trait, so that who serves has nothing to test.
+/// What a server does for calls: a reply to each request for an operation of a binding. By its
+/// contract each request and each reply is well typed, so that neither side has to test this.
 pub trait Skeleton {
     /// The binding whose operations are called.
     ghost binding: { Self → Binding };
 
-    /// The replies that may be given: to an operation, and the request that it is called with.
+    /// Which replies may be given: an operation, its request, and a reply that may answer it.
     ghost Answers: { Self → ℕ → Val → Val → Type 0 };
 
     /// A reply to an operation that is called with a request: arm 0 is the answer, arm k the k-th

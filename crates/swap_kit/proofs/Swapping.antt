@@ -1,4 +1,4 @@
--- Runs of octets, each reversed: one, one after the other, and turned twice, by induction on the number of runs.
+-- Runs of octets, each reversed: one, one after the other, and swapped twice, by induction on their number.
 use Rattle.std.proofs.Common.{◌≡◌, ◌<◌, ℕ, zero, suc, ◌+◌, ◌*◌, ◌/◌, ◌%◌, List, [], ◌∷◌, ◌++◌, length, take, drop, reverse, inl, inr, refl, sym, ap, ◌∙◌, subst, arith, add-one, append_assoc, append-nil, length-append, length-take, length-drop}
 use Rattle.std.proofs.Math.Nat.{add-div_left}
 use Rattle.std.proofs.lemmas.List.{take_at, drop_at, length-reverse, reverse-reverse, take-append-drop}
@@ -86,7 +86,7 @@ twice w (suc n) o is len =
     ∙ swapped-first w (reverse f) (swapped w r) some (length-reverse f ∙ front)
     ∙ rw (reverse-reverse f, twice w n r is rest) (take-append-drop w o)
 
--- turned twice
+-- a row that is swapped twice
 pub swapped-swapped : (w : ℕ) (o : List ℕ) → IsSwapWidth w → length o % w ≡ 0 → swapped w (swapped w o) ≡ o
 swapped-swapped w o is whole = twice w (length o / w) o is (whole_runs w (length o) whole)
 

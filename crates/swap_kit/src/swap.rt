@@ -22,7 +22,7 @@ pub fn swap_numbers(width: usize, image: &[u8], out: &mut [u8])
     swap_rest(width, image, image.len() / LANES * LANES, out);
 }
 
-// As many octets as fill whole vectors.
+// Swaps as many octets as fill whole vectors.
 fn swap_vectors(width: usize, image: &[u8], out: &mut [u8])
     requires width { IsSwapWidth width }
     requires room { length out.old ≡ length image.now }
@@ -34,9 +34,9 @@ fn swap_vectors(width: usize, image: &[u8], out: &mut [u8])
     }
 }
 
-// Number by number from a place on, to the end.
+// Swaps number by number, from a place to the end.
 fn swap_rest(width: usize, image: &[u8], from: usize, out: &mut [u8])
-    // The row, and the place from which on it is left.
+    // The row, and the place up to which it is swapped.
     requires width { IsSwapWidth width }
     requires whole { length image.now % width ≡ 0 }
     requires start { from % 16 ≡ 0 }
@@ -83,7 +83,7 @@ fn eights() -> u8x16
     u8x16::from_array([7, 6, 5, 4, 3, 2, 1, 0, 15, 14, 13, 12, 11, 10, 9, 8])
 }
 
-// The sixteen octets at a place, from these lanes.
+// Writes the sixteen octets at a place, each from the lane that `lanes` has for it.
 #[inline(always)]
 fn swap_vector(lanes: u8x16, image: &[u8], at: usize, out: &mut [u8])
     requires lanes { SwzOk w8 16 16 0 lanes }
@@ -96,7 +96,7 @@ fn swap_vector(lanes: u8x16, image: &[u8], at: usize, out: &mut [u8])
         .copy_to_slice(&mut out[at..]);
 }
 
-// The number at a place.
+// Writes the number at a place with its octets reversed.
 fn swap_number(width: usize, image: &[u8], at: usize, out: &mut [u8])
     requires within { at + width ≤ length image.now }
     requires room { length out.old ≡ length image.now }
