@@ -54,12 +54,12 @@ abbrev pub name_in : Shape → Option ℕ
 name_in (named k) = Some k
 name_in _ = None
 
--- what a number gives, where there is one, or else a type
+-- the type that a number leads to, where there is one, or else a type
 abbrev pub followed : Option ℕ → (ℕ → Shape) → Shape → Shape
 followed None follow s = s
 followed (Some k) follow s = follow k
 
--- what a type is once its names are followed, at most n of them: each to a type below the limit, whose own limit is then its place
+-- a type once its names, at most n, are followed, each to a type below the limit, which is then its place
 abbrev pub unfolded : ℕ → List Shape → ℕ → Shape → Shape
 unfolded zero types limit s = s
 unfolded (suc n) types limit s = followed (name_in s)
@@ -77,12 +77,12 @@ is_of_tag (number k) n = in_range k n
 is_of_tag (enumeration items) n = list_any (λ i. int_eq i.1 n) items
 is_of_tag _ n = false
 
--- a count of a text: no `Exactly`
+-- a count that a text may have: not `Exactly`
 abbrev pub is_open : Count → Bool
 is_open (Exactly n) = false
 is_open _ = true
 
--- a count of an array: an `Exactly` has a number from 1
+-- a count that an array may have: not `Exactly` 0
 abbrev pub is_some_count : Count → Bool
 is_some_count (Exactly n) = nat_lt 0 n
 is_some_count _ = true
@@ -117,7 +117,7 @@ abbrev pub or_void : Shape → Bool → Bool
 or_void void b = true
 or_void _ b = b
 
--- a type that is sound where it may name the types below a limit; void is none
+-- a type that is sound where it may name the types below a limit; void is not one
 abbrev mutual
   pub is_sound_type : List Shape → ℕ → Shape → Bool
   is_sound_type types limit void = false

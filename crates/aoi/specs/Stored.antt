@@ -133,7 +133,7 @@ abbrev mutual
   arms_code (default s) = gcons gnil (shape_code s)
   arms_code (arm n s arms) = gcons (gcons (number_code n) (shape_code s)) (arms_code arms)
 
--- what a tree is as each of these, and what its two parts are
+-- what a stored tree is read as: a type, fields or arms, and what its first and second half are read as
 pub record Reading : Type 0 where
   pub shape : Shape
   pub fields : Members

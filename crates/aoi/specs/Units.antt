@@ -19,7 +19,7 @@ are_twins i j = bytes_eq i.name j.name || (i.program == j.program && i.version =
 abbrev pub is_twice : Interface → List Interface → Bool
 is_twice i others = list_any (λ j. are_twins j i) others
 
--- interfaces of which no two are twins, each with few operations
+-- interfaces of which no two are twins, each with at most 256 operations
 abbrev pub AreApart : List Interface → Type 0
 AreApart [] = Unit {0}
 AreApart (i ∷ is) = (list_any (are_twins i) is ≡ false) × (length i.ops ≤ most_operations) × AreApart is

@@ -11,7 +11,7 @@ pub enum NameFault {
     /// No such name is in reach.
     #[error("Unknown")]
     Unknown,
-    /// It is declared again in its scope.
+    /// It is declared again in its scope, or its number is taken there.
     #[error("Twice")]
     Twice,
     /// It is declared again in its scope, but for the case of letters.
@@ -26,22 +26,23 @@ pub enum NameFault {
     /// A number is outside its range.
     #[error("Range")]
     Range,
-    /// A label is none of the tag's, or is there twice.
+    /// A label is not one of the tag's or is there twice, or there is a second default.
     #[error("Label")]
     Label,
-    /// There are more than 64 interfaces, 256 operations or 4,096 labels.
+    /// There are more than 64 interfaces, 256 operations of an interface, 4,095 exceptions of an
+    /// operation, or 4,096 labels of an enum or a union.
     #[error("Limit")]
     Limit,
-    /// The language has it, and no unit does.
+    /// The language allows it, but a unit cannot hold it.
     #[error("OutOfScope")]
     OutOfScope,
-    /// An operation without reply gives something back.
+    /// An operation without reply gives something back or raises exceptions.
     #[error("Oneway")]
     Oneway,
-    /// A parameter's port type is missing, or is where none may be.
+    /// The first parameter is missing or is not a port, or a later one is a request port.
     #[error("Port")]
     Port,
-    /// No memory was there.
+    /// Out of memory.
     #[error("NoMemory")]
     NoMemory,
 }
@@ -51,7 +52,7 @@ pub enum NameFault {
 pub struct NameErr {
     /// What is wrong.
     pub fault: NameFault,
-    /// The number of the declaration, from 1; 0 where there was no memory.
+    /// The number of the declaration, from 1; 0 where the fault is `NoMemory`.
     pub decl: u32,
 }
 

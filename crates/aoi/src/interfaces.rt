@@ -23,7 +23,7 @@ pub struct Operation {
     pub name: Name,
     /// The number of its procedure in an ONC program.
     pub proc_no: u32,
-    /// The place of its message ids, from 0, below the slots of its interface.
+    /// The message id of its request, counted from `base` of its interface, and below `slots`.
     pub slot: u32,
     /// The parameters that go in, in order.
     pub ins: Fields,
@@ -40,7 +40,8 @@ pub struct Operation {
 /// Operations, in order.
 pub type Operations = Listed<Operation>;
 
-/// An interface. Its operations have message ids from `base` up, below `base` plus `slots`.
+/// An interface. The requests of its operations have message ids from `base` up, below `base` plus
+/// `slots`.
 #[derive(Debug, Drop)]
 pub struct Interface {
     /// Its name, which no other interface of the unit has.
@@ -49,7 +50,7 @@ pub struct Interface {
     pub program: u32,
     /// The number of its version of that program.
     pub version: u32,
-    /// The least message id.
+    /// The least message id of a request.
     pub base: u32,
     /// How many message ids there are for requests.
     pub slots: u32,

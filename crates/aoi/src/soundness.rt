@@ -15,8 +15,8 @@ use kit_base::Name;
 use kit_base::limits::{MOST_LABELS, MOST_RAISES};
 use mint::kind::Count;
 
-/// Whether the types and interfaces of a unit are sound. It takes time of the square of the longest
-/// list of names.
+/// Whether the types and interfaces of a unit are sound. Its time grows with the square of the
+/// longest list of names or labels.
 pub fn is_sound(unit: &Unit) -> bool
     ensures { result ≡ is_sound_plain (plain unit.now) }
 {
@@ -181,7 +181,8 @@ fn name_in(ty: &Ty) -> Option<u32>
     }
 }
 
-/// What a type is once its names are followed, each to a type before a limit that falls with them.
+/// What a type is once its names are followed, each to a type whose number is below the limit. That
+/// number is the next limit.
 pub fn unfolded<'a>(types: &'a [(Name, Ty)], limit: usize, ty: &'a Ty) -> &'a Ty
     requires { limit ≤ length types.now }
     ensures { seen result.now ≡ unfolded limit (shapes types.now) limit (seen ty.now) }

@@ -24,7 +24,7 @@ pub enum Ty {
     Num(Kind),
     /// An enumeration: the name of each item, and its number.
     Enum(Items),
-    /// A string, of so many octets without 0.
+    /// A string, none of whose octets is 0, and how many it may have.
     Text(Count),
     /// An array or a sequence: the type of its elements, and how many there are.
     Array(Box<Ty>, Count),

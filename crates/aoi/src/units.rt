@@ -17,7 +17,7 @@ pub enum UnitErr {
     Twice,
     /// The unit has 64 interfaces, or this one has more than 256 operations.
     Many,
-    /// No memory was there.
+    /// Out of memory.
     NoMemory,
 }
 
@@ -117,7 +117,8 @@ impl Unit {
         Ok(())
     }
 
-    /// What holds of the interfaces of each unit. It does nothing.
+    /// A law: a unit has at most 64 interfaces, each with at most 256 operations, and no two
+    /// collide. The function does nothing.
     pub fn interfaces_are_apart(&self)
         ensures few { length self.now.interfaces ≤ most_interfaces }
         ensures apart { AreApart self.now.interfaces }

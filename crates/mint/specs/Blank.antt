@@ -6,7 +6,7 @@ use Rattle.mint.specs.declared.kind.Count.TheVariants.{Exactly}
 use Rattle.mint.specs.Values.{Val, void, num, row, group, items, arm, absent, Vals, no_more, val}
 use Rattle.mint.specs.Types.{Scalar, number, label, Array, text, row_of, Ty, void_type, scalar_type, array_type, group_type, items_type, choice_type, maybe_type, Tys, no_fields, field, Arms, no_other, others, arm_type}
 
--- the least length of a list
+-- the least length that a count allows
 abbrev pub least : Count → ℕ
 least (Exactly n) = n
 least _ = 0
@@ -50,7 +50,7 @@ abbrev mutual
   blank_arm s (others t) = arm (blank_scalar s) (blank t)
   blank_arm s (arm_type n t arms) = arm n (blank t)
 
--- the levels of a type
+-- how many levels a type has
 abbrev mutual
   pub depth : Ty → ℕ
   depth (group_type ts) = suc (fields_depth ts)

@@ -8,7 +8,7 @@ abbrev pub Rise : List ℤ → Type 0
 Rise [] = Unit {0}
 Rise (n ∷ ns) = AllByRecursion (λ m. int_lt n m ≡ true) ns × Rise ns
 
--- what is kept of the numbers of a list: that they rise, where it says so
+-- a mark of a list that is true only where its numbers rise
 abbrev pub IsTold : Bool → List ℤ → Type 0
 IsTold rising ns = rising ≡ true → Rise ns
 

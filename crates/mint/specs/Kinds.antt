@@ -39,7 +39,7 @@ word kind.I64 = w64
 word kind.U64 = w64
 word _ = w8
 
--- the octets of that word
+-- how many octets that word has
 abbrev pub width : Kind → ℕ
 width k = byte_len (word k)
 
@@ -50,7 +50,7 @@ in_range k (negsuc n) = nat_lt n (under k)
 abbrev pub IsInRange : Kind → ℤ → Type 0
 IsInRange k n = IsTrue (in_range k n)
 
--- an octet of a text
+-- an octet that a text may have: each but 0
 abbrev pub is_letter : ℤ → Bool
 is_letter n = in_range kind.Char n && not (int_eq n (pos 0))
 

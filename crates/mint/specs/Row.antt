@@ -22,7 +22,7 @@ number_from kind.I32 m = cast_signed w32 m
 number_from kind.I64 m = cast_signed w64 m
 number_from _ m = pos m
 
--- the number of the octets of a word
+-- the number that the octets of a word stand for
 unfoldable pub number_in : Kind → List ℕ → ℤ
 number_in k o = number_from k (from_le_bytes (word k) o)
 

@@ -66,6 +66,7 @@ is_armless _ = false
 abbrev pub are_arms : Scalar → Arms → Bool
 are_arms s arms = are_tagged s (arm_numbers arms) && not (is_armless arms)
 
+-- labels or arms that are not allowed
 abbrev pub is_mislabelled : Ty → Bool
 is_mislabelled (scalar_type s) = not (is_labelled s)
 is_mislabelled (choice_type s arms) = not (is_labelled s && are_arms s arms)
@@ -81,11 +82,12 @@ level_refusal t =
     else (if nat_lt heaviest_blank (weight (blank t)) then Some err.Heavy
     else None))))
 
--- a child that comes before the node of number k
+-- a default arm, if there is one, that comes before the node of number k
 abbrev pub is_below : ℕ → Option ℕ → Bool
 is_below k None = true
 is_below k (Some i) = nat_lt i k
 
+-- a node whose children all come before the node of number k
 abbrev pub children_below : ℕ → Node → Bool
 children_below k (node.Group ids) = list_all (λ i. nat_lt i k) ids
 children_below k (node.Items i c) = nat_lt i k
@@ -100,7 +102,7 @@ refusal nodes n =
     else (if not (children_below (length nodes) n) then Some err.Forward
     else level_refusal (level (unfolded nodes) n))
 
--- nothing is refused at a type or inside it
+-- a type where nothing is refused, neither at it nor inside it
 abbrev mutual
   pub IsSound : Ty → Type 0
   IsSound void_type = level_refusal void_type ≡ None

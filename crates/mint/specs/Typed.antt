@@ -26,11 +26,12 @@ has_arm no_other n = false
 has_arm (others t) n = true
 has_arm (arm_type m t arms) n = if int_eq n m then true else has_arm arms n
 
--- each of the values has the fact
+-- values each of which has the fact
 abbrev pub Each : (Val → Type 0) → Vals → Type 0
 Each P no_more = Unit {0}
 Each P (val v vs) = P v × Each P vs
 
+-- a value of the type, whatever it weighs; values of the fields
 abbrev mutual
   pub IsOf : Ty → Val → Type 0
   IsOf void_type void = Unit {0}
@@ -48,12 +49,13 @@ abbrev mutual
   AreOf (field t ts) (val v vs) = IsOf t v × AreOf ts vs
   AreOf _ _ = ⊥
 
-  -- the value is of the arm of the number
+  -- a value of the number's arm
   pub IsOfArm : Arms → ℤ → Val → Type 0
   IsOfArm no_other n v = ⊥
   IsOfArm (others t) n v = IsOf t v
   IsOfArm (arm_type m t arms) n v = MatchBool (int_eq n m) (IsOf t v) (IsOfArm arms n v)
 
+-- a value of the type that is not too heavy
 pub record IsWellTyped (t : Ty) (v : Val) : Type 0 where
   pub is_of : IsOf t v
   pub light : weight v ≤ heaviest

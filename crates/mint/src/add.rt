@@ -18,8 +18,8 @@ use crate::table::{Mint, NodeId};
 use kit_base::limits::{DEEPEST, HEAVIEST_BLANK, MOST_NODES};
 
 impl Mint {
-    /// Appends a node, and gives its number. Only children that come before it
-    /// count for its depth and its blank value.
+    /// Appends a node, and gives its number, counted from 0. Its children are nodes that the table
+    /// has already.
     pub fn add(&mut self, node: Node) -> Result<NodeId, MintErr>
         ensures ok { OnOk result (self.new ≡ self.old ++ node ∷ []) }
         ensures id { IfOk result (λ id. id ≡ length self.old) }
@@ -33,7 +33,7 @@ impl Mint {
         Ok(id)
     }
 
-    /// The size of a node that may be added.
+    /// The size of a node, or why the table does not take it.
     fn size_of(&self, node: &Node) -> Result<Size, MintErr>
         ensures ok { IfOk result (λ s. s ≡ size_of (level (unfolded self.now) node.now)) }
         ensures taken { OnOk result (refusal self.now node.now ≡ None) }
@@ -48,7 +48,7 @@ impl Mint {
         self.measure(node)
     }
 
-    /// The size of a node whose children are there.
+    /// The size of a node whose children are in the table, or why the table does not take it.
     fn measure(&self, node: &Node) -> Result<Size, MintErr>
         requires { HasChildrenBelow (length self.now) node.now }
         ensures ok { IfOk result (λ s. s ≡ size_of (level (unfolded self.now) node.now)) }
@@ -88,7 +88,7 @@ impl Mint {
         )
     }
 
-    /// Whether a count is exactly 0, or an element weighs nothing.
+    /// Whether the count of a node is exactly 0, or the blank value of its element weighs nothing.
     fn is_empty(&self, node: &Node) -> bool
         requires { HasChildrenBelow (length self.now) node.now }
         ensures { result ≡ is_empty (level (unfolded self.now) node.now) }
@@ -100,7 +100,7 @@ impl Mint {
         }
     }
 
-    /// Whether a node may not have its labels or its arms.
+    /// Whether a node has labels or arms that are not allowed.
     fn is_mislabelled(&self, node: &Node) -> bool
         ensures { result ≡ is_mislabelled (level (unfolded self.now) node.now) }
     {
@@ -111,7 +111,7 @@ impl Mint {
         }
     }
 
-    /// The levels of a node.
+    /// How many levels the type of a node has.
     fn depth(&self, node: &Node) -> u32
         requires { HasChildrenBelow (length self.now) node.now }
         ensures { result ≡ depth (level (unfolded self.now) node.now) }
@@ -197,7 +197,7 @@ impl Mint {
 }
 
 impl Count {
-    /// The least length that it allows.
+    /// The least number of elements that it allows.
     pub fn least(self) -> u32
         ensures { result ≡ least self }
     {
@@ -214,7 +214,7 @@ impl Count {
     }
 }
 
-/// Whether each child of a node has a number below another.
+/// Whether the number of each child of a node is below `id`.
 fn has_children_below(node: &Node, id: NodeId) -> bool
     ensures { result ≡ children_below id node.now }
 {

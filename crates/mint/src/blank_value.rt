@@ -15,8 +15,8 @@ use crate::value::{Value, Values};
 use kit_base::NoMemory;
 use std::alloc::Global;
 
-/// The blank value of a node's type. It goes down the levels of the table, of which there are at
-/// most 32.
+/// The blank value of a node's type. It calls itself as deep as the type has levels, of which there
+/// are at most 32.
 pub fn blank(alloc: Global, mint: &Mint, id: NodeId) -> Result<Value, NoMemory>
     requires { id < length mint.now }
     ensures value { IfOk result (λ v. seen v ≡ blank (type_at mint.now id)) }

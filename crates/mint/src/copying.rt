@@ -7,8 +7,8 @@ use crate::value::{Value, Values};
 use kit_base::NoMemory;
 use std::alloc::Global;
 
-/// Another value that is the same. It goes down the levels of the value: one that fits a node has
-/// as many as the node's type at most, so at most 32.
+/// A copy of a value. It calls itself as deep as the value has levels. A value that fits a node has
+/// at most as many levels as the node's type, so at most 32.
 #[cycle(copy)]
 pub fn copy_value(alloc: Global, value: &Value) -> Result<Value, NoMemory>
     ensures { IfOk result (λ v. seen v ≡ seen value.now) }

@@ -13,11 +13,12 @@ pub enum MintErr {
     Many,
     /// A blank value of weight above 1,048,576.
     Heavy,
-    /// Labels or arms that are none, more than 4,096, not rising, or not the tag's.
+    /// An enum without labels, a union with neither an arm nor a default, more than 4,096 labels or
+    /// arms, numbers that do not rise, or an arm for a number that is not one of the tag's.
     Labels,
     /// A row of Bool, or a text of an exact length.
     Kind,
-    /// The allocator had no memory.
+    /// Out of memory.
     NoMemory,
 }
 

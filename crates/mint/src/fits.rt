@@ -157,7 +157,7 @@ fn is_of_arm(mint: &Mint, id: u32, arms: &Arms, other: Option<u32>, n: &i128, in
     }
 }
 
-/// What is left of a weight after a value, if the value has no more.
+/// A weight less that of a value, or none where the value weighs more.
 #[cycle(weigh)]
 fn take_weight(left: u32, value: &Value) -> Option<u32>
     ensures some { IfSome result (λ n. n + weight (seen value.now) ≡ left) }
@@ -198,7 +198,7 @@ fn take_len(left: u32, len: usize) -> Option<u32>
     }
 }
 
-/// Whether a value is well typed for a node.
+/// Whether a value is of a node's type, and weighs at most 268,435,456.
 pub fn fits(mint: &Mint, id: u32, value: &Value) -> bool
     requires { id < length mint.now }
     ensures { IsTrue result ↔ IsWellTyped (type_at mint.now id) (seen value.now) }

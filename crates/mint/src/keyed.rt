@@ -8,7 +8,8 @@ use kit_base::NoMemory;
 use std::alloc::Global;
 use std::marker::Model;
 
-/// A list of entries, each with a number. Where the numbers rise it knows so, and finds one by halving.
+/// A list of entries, each with a number. It keeps whether the numbers rise; where they do, it
+/// finds one by halving.
 #[derive(Drop)]
 pub struct Keyed<T> {
     entries: Vec<(i128, T)>,
@@ -140,7 +141,7 @@ fn are_rising<T>(entries: &[(i128, T)]) -> bool
 }
 
 impl<T: Copy> Keyed<T> {
-    /// Appends a piece.
+    /// Appends a piece. It looks again at all numbers, whether they rise.
     pub fn append(&mut self, piece: &[(i128, T)]) -> Result<(), NoMemory>
         ensures ok { OnOk result (self.new ≡ self.old ++ piece.now) }
         ensures err { OnErr result (self.new ≡ self.old) }

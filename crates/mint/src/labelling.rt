@@ -13,7 +13,7 @@ use crate::node::{Arms, Labels, Tag};
 use crate::table::NodeId;
 use kit_base::limits::MOST_LABELS;
 
-/// Whether a tag's labels are labels.
+/// Whether a tag is a number, or an enum whose labels an enum may have.
 pub(crate) fn is_labelled(tag: &Tag) -> bool
     ensures { result ≡ is_labelled (scalar_of tag.now) }
 {

@@ -10,7 +10,7 @@ use kit_base::NoMemory;
 use std::alloc::Global;
 use std::marker::Model;
 
-/// Numbers of an enum. Where they rise it knows so, and finds one by halving.
+/// Numbers of an enum. It keeps whether they rise; where they do, it finds one by halving.
 #[derive(Drop)]
 pub struct Labels {
     numbers: Vec<i32>,
@@ -149,7 +149,7 @@ impl Labels {
         Ok(())
     }
 
-    /// Appends a piece.
+    /// Appends a piece. It looks again at all numbers, whether they rise.
     pub fn append(&mut self, piece: &[i32]) -> Result<(), NoMemory>
         ensures ok { OnOk result (self.new ≡ self.old ++ piece.now) }
         ensures err { OnErr result (self.new ≡ self.old) }

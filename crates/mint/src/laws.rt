@@ -1,5 +1,5 @@
-//! What the definitions promise, as contracts of functions that do nothing. A caller knows what it
-//! calls.
+//! What the definitions promise, as contracts of functions that do nothing. A function that calls
+//! one has the promise among its facts.
 
 ghost use Rattle.std.specs.Prelude.{List, IsTrue, ℕ, ℤ, ◌≡◌, ◌≢◌, ◌≤◌, ◌<◌, ◌%◌, length};
 ghost use Rattle.std.specs.List.{list_all, AllByRecursion};
@@ -24,13 +24,13 @@ pub fn images_are_exact()
         → AllByRecursion (λ b. b < 256) o → IsTrue (list_all (in_range k) (numbers_of k o)) }
 {}
 
-/// What a table holds is small.
+/// A sound type has at most 32 levels, and a blank value of weight at most 1,048,576.
 pub fn sound_types_are_small()
     ensures depth { (t : Ty) → IsSound t → depth t ≤ deepest }
     ensures weight { (t : Ty) → IsSound t → weight (blank t) ≤ heaviest_blank }
 {}
 
-/// The blank value of what a table holds is well typed.
+/// The blank value of a sound type is well typed.
 pub fn blanks_are_well_typed()
     ensures { (t : Ty) → IsSound t → IsWellTyped t (blank t) }
 {}

@@ -109,7 +109,7 @@ impl Row {
 }
 
 impl Kind {
-    /// The octets that a number takes in an image.
+    /// How many octets a number takes in an image.
     pub fn width(self) -> usize
         ensures { result ≡ width self }
     {
@@ -121,7 +121,7 @@ impl Kind {
         }
     }
 
-    /// The number of the octets of a word.
+    /// The number that the octets of a word stand for.
     #[tactic(auto, unfolding(crate::specs::Row::number_in))]
     fn number(self, octets: &[u8]) -> i128
         requires { length octets.now ≡ width self }

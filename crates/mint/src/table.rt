@@ -45,7 +45,7 @@ impl Model for Mint {
 }
 
 impl Mint {
-    /// Without nodes.
+    /// A table without nodes.
     pub fn new(alloc: Global) -> Mint
         ensures { result ≡ [] }
     {
@@ -62,7 +62,7 @@ impl Mint {
         self.entries.len()
     }
 
-    /// The node of a number.
+    /// The node with a number, if there is one.
     pub fn node(&self, id: NodeId) -> Option<&Node>
         ensures found { option_copied result ≡ slice_get self.now id }
         ensures below { IfSome result (λ n. HasChildrenBelow id n.now) }
@@ -75,7 +75,7 @@ impl Mint {
         }
     }
 
-    /// The type of each node is sound. It does nothing.
+    /// A law: the type of each node is sound. The function does nothing.
     pub fn types_are_sound(&self)
         ensures { (id : ℕ) → IsSound (type_at self.now id) }
     {

@@ -25,26 +25,26 @@ pub enum Value {
     Items(Values),
     /// The discriminant of a union, and the value of its arm.
     Arm(i128, Box<Value>),
-    /// An optional value, where it is present.
+    /// An optional value: the value, or `None` where it is absent.
     Opt(Option<Box<Value>>),
 }
 
 impl Value {
-    /// The value of an arm, after its tag.
+    /// A union's value: a discriminant, and the value of its arm.
     pub fn arm(alloc: Global, n: i128, inner: Value) -> Result<Value, NoMemory>
         ensures { IfOk result (λ v. seen v ≡ arm n (seen inner)) }
     {
         Ok(Value::Arm(n, Box::new(alloc, inner)?))
     }
 
-    /// A value that is there.
+    /// An optional value that is present.
     pub fn present(alloc: Global, inner: Value) -> Result<Value, NoMemory>
         ensures { IfOk result (λ v. seen v ≡ present (seen inner)) }
     {
         Ok(Value::Opt(Some(Box::new(alloc, inner)?)))
     }
 
-    /// Whether it is nothing.
+    /// Whether it is `Void`.
     pub fn is_void(&self) -> bool
         ensures { result ≡ is_nothing (seen self.now) }
     {
@@ -91,7 +91,7 @@ impl Value {
         }
     }
 
-    /// The tag, and the value after it.
+    /// The discriminant of a union, and the value of its arm.
     pub fn as_arm(&self) -> Option<(i128, &Value)>
         ensures { option_map (λ a. (a.0, seen a.1.now)) result ≡ arm_in (seen self.now) }
     {
@@ -101,7 +101,7 @@ impl Value {
         }
     }
 
-    /// The value that may be there.
+    /// The optional value that it is: `Some(None)` where it is one that is absent.
     pub fn as_opt(&self) -> Option<Option<&Value>>
         ensures { option_map (option_map (λ v. seen v.now)) result ≡ opt_in (seen self.now) }
     {

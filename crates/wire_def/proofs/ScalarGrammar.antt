@@ -25,7 +25,7 @@ half_half _ = refl
 small : (m n : ℕ) → m < n → m % n ≡ m
 small m n h = mod-eq_of_lt h
 
--- the number of the bits of a number
+-- a number that the width holds, with a sign or without
 unfoldable pub FitsIn : Bool → Width → ℤ → Type 0
 FitsIn true w (pos n) = n < half w
 FitsIn true w (negsuc n) = n < half w

@@ -22,12 +22,12 @@ abbrev mutual
   fields_fill no_fields = false
   fields_fill (field t ts) = fills t || fields_fill ts
 
--- not exactly none
+-- a count that is not exactly 0
 abbrev pub IsCount : Count → Type 0
 IsCount (Exactly m) = 0 < m
 IsCount _ = Unit {0}
 
--- no count is exactly none, and each element fills
+-- a type in which no count is exactly 0, and each element fills
 abbrev mutual
   pub TakesRoom : Ty → Type 0
   TakesRoom (array_type a) = IsCount (count_of a)

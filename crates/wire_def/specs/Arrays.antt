@@ -17,7 +17,7 @@ use Rattle.wire_def.specs.Described.{allowed, described_octets, DescribedSpells,
 
 -- ---- counts
 
--- a number that is not below 0
+-- a number, or 0 where it is below 0
 abbrev pub natural : ℤ → ℕ
 natural (pos n) = n
 natural (negsuc n) = 0
@@ -68,7 +68,7 @@ unfoldable pub read_octet : (ℕ → Bool) → FaultKind → Reader FaultKind �
 read_octet test fault p [] = stop Short p
 read_octet test fault p (b ∷ o) = if test b then got (pos b) (p + 1) o else stop fault p
 
--- octets 0
+-- the first of so many octets that is missing or is not 0
 unfoldable pub ZerosStop : ℕ → FaultKind → Stopping FaultKind
 ZerosStop zero fault p o k at = ⊥
 ZerosStop (suc n) fault p [] k at = (k ≡ Short) × (at ≡ p)
@@ -120,7 +120,7 @@ ElementSpells e (text c) = OctetSpells (may_stand (text c))
 ElementSpells e (row_of kind.Octet c) = OctetSpells (λ b. true)
 ElementSpells e (row_of k c) = ScalarSpells e (number k)
 
--- an element that is cut off, or none of its kind
+-- an element that is cut off, or is not of its kind
 unfoldable pub ElementStops : Encoding → Array → Stopping FaultKind
 ElementStops e (text c) = OctetStops (may_stand (text c)) BadText
 ElementStops e (row_of kind.Octet c) = OctetStops (λ b. true) BadText

@@ -21,13 +21,13 @@ allowed Any n = true
 
 -- ---- what is sent
 
--- whether so many elements have a long descriptor: where their units may be above 4,095
+-- whether an array has a long descriptor: where its count allows more than 4,095 units
 abbrev pub is_long : Count → Scalar → Bool
 is_long (Exactly m) s = nat_lt 4095 (m * units_of s)
 is_long (AtMost m) s = nat_lt 4095 (m * units_of s)
 is_long Any s = true
 
--- the first word of a long descriptor, but for 28 bits that are not looked at
+-- the first word of a long descriptor, as it is sent; of one that is read the low 28 bits are not looked at
 abbrev pub long_mark : ℕ
 long_mark = 2 ^ 28 + 2 ^ 29
 
@@ -47,7 +47,7 @@ described_octets c s n =
 abbrev pub is_marked : ℕ → Bool
 is_marked m = nat_eq (m / 2 ^ 28) 3
 
--- a row of fixed length is in the form in which it is sent
+-- whether the form, long or short, may be there: for a fixed length only the one that is sent
 abbrev pub takes : Count → Scalar → Bool → Bool
 takes (Exactly m) s true = nat_lt 4095 (m * units_of s)
 takes (Exactly m) s false = nat_le (m * units_of s) 4095
@@ -73,7 +73,7 @@ elements_in (number kind.I64) k = k / 2
 elements_in (number kind.U64) k = k / 2
 elements_in _ k = k
 
--- a fixed number of units is this one
+-- whether a number of units is that of the fixed length, if the length is fixed
 abbrev pub is_fixed : Count → Scalar → ℕ → Bool
 is_fixed (Exactly m) s k = nat_eq k (m * units_of s)
 is_fixed _ s k = true
@@ -82,7 +82,7 @@ is_fixed _ s k = true
 abbrev pub is_right : Count → Scalar → ℕ → Bool
 is_right c s d = nat_eq (d % 2 ^ 32) (long_words (unit_name s) (unit_bits s) 0) && (is_whole s (d / 2 ^ 32) && is_fixed c s (d / 2 ^ 32))
 
--- a word, whose fault is placed before the four octets ahead of it where it is cut off
+-- what was read, but with its fault placed at p
 unfoldable pub told_before : {A : Type 0} → ℕ → Reading FaultKind A → Reading FaultKind A
 told_before p (got x q o) = got x q o
 told_before p (stop k at) = stop k p

@@ -30,12 +30,12 @@ abbrev pub then_on : {E A B : Type 0} → Reading E A → (A → Reader E B) →
 then_on (got x p o) f = f x p o
 then_on (stop k at) f = stop k at
 
--- what was read, seen otherwise
+-- what was read, with a function applied to the value
 abbrev pub map_got : {E A B : Type 0} → (A → B) → Reading E A → Reading E B
 map_got f (got x p o) = got (f x) p o
 map_got f (stop k at) = stop k at
 
--- one after the other
+-- a reader, and after it another that knows the value of the first
 abbrev pub both : {E A B : Type 0} → Reader E A → (A → Reader E B) → Reader E (A × B)
 both r s p o = then_on (r p o) (λ x q rest. map_got (λ y. (x, y)) (s x q rest))
 
@@ -60,7 +60,7 @@ SpellTimes S zero p o [] = o ≡ []
 SpellTimes S (suc n) p o (x ∷ xs) = Parts p o (λ a. S p a x) (λ q b. SpellTimes S n q b xs)
 SpellTimes S _ p o _ = ⊥
 
--- one of the n stops, after those before it
+-- one of n values stops, after those before it are spelled
 abbrev pub StopTimes : {E A : Type 0} → Spelling A → Stopping E → ℕ → Stopping E
 StopTimes S F zero p o k at = ⊥
 StopTimes {E} {A} S F (suc n) p o k at = F p o k at ⊎ ((x : A) × Parts p o (λ a. S p a x) (λ q b. StopTimes S F n q b k at))
@@ -87,7 +87,7 @@ pub record IsGrammar {E A : Type 0} (r : Reader E A) (S : Spelling A) (F : Stopp
   -- what is read is spelled
   pub spelled : (p : ℕ) (o : List ℕ) (x : A) (q : ℕ) (rest : List ℕ) → AreOctets o → r p o ≡ got x q rest
       → (a : List ℕ) × (o ≡ a ++ rest) × (q ≡ p + length a) × S p a x
-  -- where it stops, reading stops
+  -- octets that have a fault are read to that fault
   pub stops : (p : ℕ) (o : List ℕ) (k : E) (at : ℕ) → F p o k at → r p o ≡ stop k at
-  -- where reading stops, it stops
+  -- a fault that reading gives is one that the octets have
   pub faulty : (p : ℕ) (o : List ℕ) (k : E) (at : ℕ) → AreOctets o → r p o ≡ stop k at → F p o k at

@@ -28,7 +28,7 @@ pub record BeginsWith (e : Encoding) (t : Ty) (p : ℕ) (o : List ℕ) (v : Val)
 abbrev pub SentSpells : Encoding → Type 0
 SentSpells e = (t : Ty) (p : ℕ) (v : Val) → IsWellTyped t v → IsSpelling e t p (send e t p v) v
 
--- what is sent has at most 16 octets for each of the value's weight
+-- what is sent has at most 16 times the value's weight in octets
 abbrev pub SentIsShort : Encoding → Type 0
 SentIsShort e = (t : Ty) (p : ℕ) (v : Val) → length (send e t p v) ≤ 16 * weight v
 
@@ -36,7 +36,7 @@ SentIsShort e = (t : Ty) (p : ℕ) (v : Val) → length (send e t p v) ≤ 16 * 
 abbrev pub OneValue : Encoding → Type 0
 OneValue e = (t : Ty) (p : ℕ) (o : List ℕ) (v w : Val) → IsSpelling e t p o v → IsSpelling e t p o w → v ≡ w
 
--- no spelling begins another one of the same type at the same position
+-- no spelling is a proper prefix of another one of the same type at the same position
 abbrev pub NoneBegins : Encoding → Type 0
 NoneBegins e = (t : Ty) (p : ℕ) (a b : List ℕ) (v w : Val) → IsSpelling e t p a v → IsSpelling e t p (a ++ b) w → b ≡ []
 
@@ -54,7 +54,7 @@ pub record IsDecided (e : Encoding) (t : Ty) (p : ℕ) (o : List ℕ) : Type 0 w
   pub not_both : BeginsSpelled e t p o → HasFault e t p o → ⊥
   pub one_fault : (k l : FaultKind) (at place : ℕ) → Stops e t p o k at → Stops e t p o l place → (k ≡ l) × (at ≡ place)
 
--- so it is for the octets of a message, which has at most 4,194,304
+-- this decision, for the octets from a position of a message of at most 4,194,304 octets
 abbrev pub SpelledOrStopped : Encoding → Type 0
 SpelledOrStopped e = (t : Ty) → IsSound t → (p : ℕ) (o : List ℕ) → AreOctets o → p + length o ≤ longest_message → IsDecided e t p o
 

@@ -22,7 +22,7 @@ IsPlain _ = Unit {0}
 abbrev pub AnySpell : ℕ → Spelling (Unit {0})
 AnySpell n p o x = length o ≡ n
 
--- octets that end before
+-- fewer octets than so many; the fault is placed where they end
 abbrev pub AnyStop : ℕ → Stopping FaultKind
 AnyStop n p o k at = (length o < n) × (k ≡ Short) × (at ≡ p + length o)
 
@@ -81,7 +81,7 @@ read_desc w p o = map_got (λ m. tt) (tested (read_word Mach 1 w32) (λ m. nat_e
 
 -- ---- items: a descriptor, what it describes, and octets up to a multiple of 4
 
--- the octets after a scalar's
+-- how many octets fill the item of a scalar up to a multiple of 4
 abbrev pub filling : Scalar → ℕ
 filling s = gap (byte_len (width_of Mach s)) 4
 

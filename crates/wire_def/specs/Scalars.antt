@@ -11,7 +11,7 @@ use Rattle.wire_def.specs.declared.fault.FaultKind.{FaultKind}
 use Rattle.wire_def.specs.declared.fault.FaultKind.TheVariants.{Short, BadValue}
 use Rattle.wire_def.specs.Grammar.{got, stop, Reader, Spelling, Stopping, map_got, tested, Parts}
 
--- the least count that makes a position a multiple of a
+-- how many octets take a position p to a multiple of a, at the least
 abbrev pub gap : ℕ → ℕ → ℕ
 gap p a = (a - p % a) % a
 
@@ -34,7 +34,7 @@ abbrev pub residue : Width → ℤ → ℕ
 residue w (pos n) = n % full w
 residue w (negsuc n) = full w - 1 - n % full w
 
--- the number of these bits
+-- the number that these bits stand for, with a sign or without
 abbrev pub number_of : Bool → Width → ℕ → ℤ
 number_of true w m = if nat_lt m (half w) then pos m else negsuc (full w - 1 - m)
 number_of false w m = pos m
@@ -48,7 +48,7 @@ is_signed (number kind.I64) = true
 is_signed (number _) = false
 is_signed (label labels) = true
 
--- the width of a kind by itself
+-- the width of a scalar, whatever the encoding
 abbrev pub own_width : Scalar → Width
 own_width (number kind.Octet) = w8
 own_width (number kind.I8) = w8
@@ -85,7 +85,7 @@ number_octets Xdr w m = be (byte_len w) m
 number_octets CdrBig w m = be (byte_len w) m
 number_octets _ w m = le (byte_len w) m
 
--- the number of octets, in the order of the encoding
+-- the number that octets stand for, in the order of the encoding
 abbrev pub octets_number : Encoding → Width → List ℕ → ℕ
 octets_number Xdr w o = from_be_bytes w o
 octets_number CdrBig w o = from_be_bytes w o
@@ -121,7 +121,7 @@ scalar_place e s p = p + gap p (alignment_of e s)
 unfoldable pub ScalarSpells : Encoding → Scalar → Spelling ℤ
 ScalarSpells e s p o n = WordSpells e (alignment_of e s) (width_of e s) p o (residue (width_of e s) n) × IsScalar s n
 
--- octets that are cut off, or whose number is none of the scalar's
+-- octets that are cut off, or whose number is not one of the scalar's
 unfoldable pub ScalarStops : Encoding → Scalar → Stopping FaultKind
 ScalarStops e s p o k at = WordStops e (alignment_of e s) (width_of e s) p o k at
     ⊎ ((m : ℕ) × Parts p o (λ a. WordSpells e (alignment_of e s) (width_of e s) p a m)

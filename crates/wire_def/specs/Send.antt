@@ -17,7 +17,7 @@ abbrev pub send_each : (ℕ → Val → List ℕ) → ℕ → Vals → List ℕ
 send_each one p no_more = []
 send_each one p (val v vs) = followed p (one p v) (λ q. send_each one q vs)
 
--- a flag is a Bool
+-- the scalar that says whether an optional value is present
 abbrev pub flag : Scalar
 flag = number kind.Bool
 

@@ -10,7 +10,7 @@ use Rattle.wire_def.specs.Lone.{LoneSpells, PassSpells}
 use Rattle.wire_def.specs.Arrays.{CountSpells, ArraySpells, kind_of}
 use Rattle.wire_def.specs.Send.{flag}
 
--- a tag has an arm
+-- a discriminant that has an arm
 abbrev pub TagSpells : Encoding → Scalar → Arms → Spelling ℤ
 TagSpells e s arms = PassSpells e s (has_arm arms)
 

@@ -13,7 +13,7 @@ use Rattle.wire_def.specs.Arrays.{CountSpells, CountStops, ArrayStops}
 use Rattle.wire_def.specs.Send.{flag}
 use Rattle.wire_def.specs.Spells.{Spells, TagSpells}
 
--- a tag stops as a scalar, or has no arm
+-- a discriminant that stops as a scalar, or does not have an arm
 abbrev pub TagStops : Encoding → Scalar → Arms → Stopping FaultKind
 TagStops e s arms = PassStops e s (has_arm arms) BadValue
 

@@ -18,9 +18,9 @@ pub enum Encoding {
 pub enum Back {
     /// ONC remote procedure calls (RFC 5531) over XDR.
     Xdr,
-    /// GIOP 1.0 in the big order.
+    /// GIOP 1.0, the most significant octet first.
     CdrBig,
-    /// GIOP 1.0 in the little order.
+    /// GIOP 1.0, the least significant octet first.
     CdrLittle,
     /// Mach messages.
     Mach,

@@ -11,17 +11,17 @@ pub enum HeadErr {
     Version,
     /// A message of another type.
     Type_,
-    /// The size in the header is not that of the message.
+    /// The size in the header is not that of the message, or octets follow where it should end.
     Size,
-    /// No such order of octets.
+    /// The octet that says the order of octets is neither 0 nor 1.
     Order,
     /// A pad octet is not 0.
     Pad,
     /// A string without its end, or with an octet 0 inside.
     Text,
-    /// A credential or verifier is too long.
+    /// A credential or verifier of more than 400 octets.
     Cred,
-    /// A complex message.
+    /// A Mach message with the complex bit.
     Complex,
     /// A field has a number that it cannot have.
     Item,
@@ -34,13 +34,13 @@ pub enum FaultKind {
     Short,
     /// A count above its bound.
     OverBound,
-    /// A number out of range, no boolean, no label, or a discriminant without an arm.
+    /// A number out of range, not a boolean or not a label, or a discriminant without an arm.
     BadValue,
     /// A pad octet that is not 0.
     BadPad,
-    /// An octet 0 inside a text, or a text without the one at its end.
+    /// An octet 0 inside a text; over CDR also a text without the one at its end, or of length 0.
     BadText,
-    /// A descriptor of another item.
+    /// A descriptor other than that of the item.
     BadItem,
 }
 
