@@ -72,7 +72,7 @@ piece-append (SendOp-F.Some path code) a b = refl
 piece-append (SendOp-F.Call k path) a b = refl
 piece-append (SendOp-F.Patch at sub order) a b = refl
 
--- an operation is a piece in front
+-- an operation is a piece before others
 pub op-append : (o : SendOp) (a b : Block) → append (op_seen o a) b ≡ op_seen o (append a b)
 op-append o a b =
     subst

@@ -63,7 +63,7 @@ piece-append (RecvOp-F.Switch path cases other) a b = refl
 piece-append (RecvOp-F.Some path code) a b = refl
 piece-append (RecvOp-F.Call k path) a b = refl
 
--- an operation is a piece in front
+-- an operation is a piece before others
 pub op-append : (o : RecvOp) (a b : Recv) → append (op_seen o a) b ≡ op_seen o (append a b)
 op-append o a b =
     subst

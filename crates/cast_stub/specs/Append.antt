@@ -30,7 +30,7 @@ put_rebased q (put.Short off p name size m) = put.Short off (q ++ p) name size m
 put_rebased q (put.Const off os) = put.Const off os
 put_rebased q (put.Head off f w o) = put.Head off f w o
 
--- a block with a path before its own; bodies go by their own current value
+-- a block with a path before its own paths, but not in bodies, which go by their own current value
 abbrev pub rebase : List ℕ → Block → Block
 rebase q stop = stop
 rebase q (ensure n r) = ensure n (rebase q r)

@@ -5,7 +5,7 @@ use Rattle.cast_stub.specs.Block.{Block, stop, ensure, ensure_row, align, chunk,
 use Rattle.cast_stub.specs.PartTypes.{ty_at, present_at, arms_at}
 
 abbrev mutual
-  -- no ensure, row as a block or call, in bodies neither
+  -- no ensure, no row as a block and no call, nor one in a body
   pub IsBare : Block → Type 0
   IsBare stop = Unit {0}
   IsBare (ensure n r) = ⊥
@@ -29,7 +29,7 @@ abbrev mutual
 
 -- ---- loops over rows
 
--- a fact of the elements of a list, or another where it is none
+-- a fact of the type of the elements of a list, or another fact where the type is not a list
 abbrev pub OfItems : Option Ty → (Ty → Type 0) → Type 0 → Type 0
 OfItems (Some (items_type c t)) P Q = P t
 OfItems _ P Q = Q
@@ -40,7 +40,7 @@ IfTyped None P = Unit {0}
 IfTyped (Some a) P = P a
 
 abbrev mutual
-  -- no ensure is in the body of a loop over a row or text
+  -- no ensure, row as a block or call is in the body of a loop over a row or text
   pub RowsAreBare : Ty → Block → Type 0
   RowsAreBare t stop = Unit {0}
   RowsAreBare t (ensure n r) = RowsAreBare t r

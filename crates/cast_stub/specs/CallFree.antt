@@ -2,7 +2,7 @@
 use Rattle.cast_stub.specs.Block.{Block, stop, ensure, ensure_row, align, chunk, row_copy, row_swap, row_wide, each, switch, if_there, call, patch, Cases, no_default, default, case}
 
 abbrev mutual
-  -- no call, in bodies neither
+  -- no call, nor one in a body
   pub HasNoCall : Block → Type 0
   HasNoCall stop = Unit {0}
   HasNoCall (ensure n r) = HasNoCall r

@@ -19,7 +19,7 @@ mutual
     lined : Array → ℕ → Draft
     -- a union, of which the number was read, and the type of its arm
     tagged : ℤ → Ty → Draft
-    -- a value of the type that is there
+    -- an optional value that is there, of this type, not yet read
     flagged : Ty → Draft
     -- a value that was read
     done : Val → Draft

@@ -11,7 +11,7 @@ use Rattle.cast_stub.specs.Subs.{deepest, sub_at}
 abbrev pub Entries : Type 0
 Entries = ℕ → Val → List ℕ
 
--- numbers of what is there
+-- the numbers that are made of something, or none where it is not there
 abbrev pub of_some : {A : Type 0} → Option A → (A → List ℕ) → List ℕ
 of_some None f = []
 of_some (Some a) f = f a

@@ -17,7 +17,7 @@ use Rattle.cast_stub.specs.Runs.{Place, Run, gives, refuses, strays, Going, Fill
 
 -- ---- parts
 
--- the filler on the part of a number
+-- the filler on the field of a number
 abbrev pub at_field : ℕ → Filler → Drafts → Place → Run Drafts
 at_field n f no_draft s = strays
 at_field zero f (draft d ds) s = map_run (λ x. draft x ds) (f d s)
@@ -33,7 +33,7 @@ abbrev pub within : List ℕ → Filler → Filler
 within [] f = f
 within (n ∷ p) f = in_fields (at_field n (within p f))
 
--- the part at a path
+-- the field of a number
 abbrev pub field_at : ℕ → Drafts → Option Draft
 field_at n no_draft = None
 field_at zero (draft d ds) = Some d
@@ -51,7 +51,7 @@ part (n ∷ p) d = on_some (in_draft n d) (part p)
 
 -- ---- gets
 
--- what a get does with the number of its octets
+-- what a get does with the number that its octets hold
 abbrev pub into : Get → Width → ℕ → Filler
 into (get.Num off p w o) x m = num_into x m
 into (get.Tag off p w o) x m = tag_into x m
@@ -84,17 +84,17 @@ all_got (g ∷ gs) d s = then_run (got g d s) (all_got gs)
 
 -- ---- operations with bodies
 
--- a value that was filled
+-- the value of a draft that was filled; the run strays where something in it waits to be filled
 abbrev pub settled : Run Draft → Run Val
 settled (gives d s) = if_some (settle d) (λ v. gives v s)
 settled refuses = refuses
 settled strays = strays
 
--- a number that was filled
+-- the number of a draft that was filled
 abbrev pub settled_number : Run Draft → Run ℤ
 settled_number x = then_run (settled x) (λ v s. if_some (num_in v) (λ n. gives n s))
 
--- so many, one after the other
+-- so many runs, one after the other, and the list of what they give
 abbrev pub runs : {A : Type 0} → Going A → ℕ → Going (List A)
 runs f zero s = gives [] s
 runs f (suc n) s = then_run (f s) (λ x t. map_run (λ xs. x ∷ xs) (runs f n t))
@@ -147,7 +147,7 @@ abbrev mutual
   fill c (if_there p b r) d s = then_run (within p (fill_present (fill c b)) d s) (fill c r)
   fill c (call k p r) d s = then_run (within p (c k) d s) (fill c r)
 
-  -- by the body of a number
+  -- a draft filled by the body of a number
   pub fill_case : Callees → Cases → ℤ → Filler
   fill_case c no_default n d s = strays
   fill_case c (default b) n d s = fill c b d s

@@ -20,7 +20,7 @@ flat _ = None
 abbrev pub IsFlat : ℕ → Block → Type 0
 IsFlat most b = (n : ℕ) × (flat b ≡ Some n) × (n ≤ most)
 
--- chunks and aligns, a loop whose turn is chunks and aligns, and chunks and aligns
+-- a loop with chunks and aligns in its turn, before it and after it, which have few puts and aligns
 abbrev pub IsLoop : List ℕ → Block → Type 0
 IsLoop p b = (before : Block) × (turn : Block) × (behind : Block) × (k : ℕ) × (l : ℕ) × (m : ℕ)
     × (b ≡ append before (each p turn behind)) × (flat before ≡ Some k) × (flat turn ≡ Some l) × (flat behind ≡ Some m)
@@ -31,7 +31,7 @@ abbrev pub IsCount : Count → Block → Type 0
 IsCount (Exactly n) b = b ≡ stop
 IsCount _ b = IsFlat 3 b
 
--- codes that go through a type: of calls below a number, for the value at a path
+-- what is said of code for the value at a path, whose calls name codes below a number
 abbrev pub Going : Type 1
 Going = ℕ → List ℕ → Block → Type 0
 
@@ -44,7 +44,7 @@ abbrev pub Loops : Type 1
 Loops = Array → List ℕ → Block → Type 0
 
 abbrev mutual
-  -- each operation in the type's order, loops over rows being such
+  -- each operation in the type's order, where L says what the code of a row or text is
   pub FollowsBy : Loops → (ℕ → Option Block) → Ty → Going
   FollowsBy L subs void_type below p b = IsFlat 0 b
   FollowsBy L subs (scalar_type s) below p b = IsFlat 3 b

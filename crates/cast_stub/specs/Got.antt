@@ -14,7 +14,7 @@ use Rattle.cast_stub.specs.Draft.{fresh}
 use Rattle.cast_stub.specs.Fill.{Callees, fill, settled}
 use Rattle.cast_stub.specs.Runs.{Place, Run, gives, refuses, strays, if_some}
 
--- no code
+-- callees where there is no code: each call strays
 abbrev pub no_calls : Callees
 no_calls k d s = strays
 
@@ -35,7 +35,7 @@ sub_at subs k = option_map code_seen (slice_get subs k)
 abbrev pub calls_of : List (List RecvOp) → ℕ → Callees
 calls_of subs n = called (sub_at subs) n
 
--- what a code gives over the octets from a place: a value of the type, or that a test failed
+-- the run of a code over the octets from a place: it gives a value of the type, refuses or strays
 abbrev pub received : RecvCode → Ty → Place → Run Val
 received code t s = settled (fill (calls_of code.subs deepest) (code_seen code.ops) (fresh t) s)
 
@@ -44,7 +44,7 @@ pub data Got : Type 0 where
   given : Val → ℕ → ℕ → Got
   not_given : Got
 
--- what a run gives; a run that strays gives none
+-- what a run gives; a run that refuses or strays gives none
 abbrev pub told : Run Val → Got
 told (gives v s) = given v s.pos s.tests
 told refuses = not_given

@@ -21,7 +21,7 @@ use Rattle.cast_stub.specs.Runs.{Place, Run, gives, refuses, strays, Going, Fill
 
 -- ---- octets
 
--- so many octets follow
+-- the test that so many octets follow
 abbrev pub needed : ℕ → Filler
 needed n d s =
     if nat_lt (length s.left) n then refuses
@@ -33,7 +33,7 @@ passed n d s =
     if nat_le n s.near then gives d (record { pos = s.pos + n; left = drop n s.left; near = s.near - n; tests = s.tests })
     else strays
 
--- octets 0
+-- whether all octets are 0
 abbrev pub all_zero : List ℕ → Bool
 all_zero [] = true
 all_zero (zero ∷ o) = all_zero o
@@ -48,12 +48,12 @@ skipped test a d s =
 
 -- ---- numbers
 
--- the number of octets at an offset
+-- the number that octets at an offset hold
 abbrev pub word_at : ℕ → ℕ → Order → Place → (Width → ℕ → Run Draft) → Run Draft
 word_at off w o s f =
     if_passed (width_in w) (λ x. if nat_le (off + w) s.near then f x (loaded o x (take w (drop off s.left))) else strays)
 
--- a number that the row may hold, or an octet of a text
+-- whether a number is one that the row may hold, or an octet of a text
 abbrev pub is_digit : Array → ℤ → Bool
 is_digit (text c) n = is_letter n
 is_digit (row_of k c) n = in_range k n
@@ -71,7 +71,7 @@ num_into x m (digit a) s =
     (done (num (number_of (is_signed (number (kind_of a))) x m))) s else refuses
 num_into x m _ s = strays
 
--- the number of a union
+-- the draft of a union whose number was read, if an arm has that number
 abbrev pub arm_draft : Arms → ℤ → Option Draft
 arm_draft arms n = option_map (tagged n) (type_of_arm arms n)
 
@@ -80,7 +80,7 @@ abbrev pub tag_into : Width → ℕ → Filler
 tag_into x m (raw (choice_type t arms)) s = scalar_into t (arm_draft arms) x m s
 tag_into x m _ s = strays
 
--- whether a value is there
+-- the draft of an optional value: absent where the number is 0, else to be filled
 abbrev pub flag_draft : Ty → ℤ → Option Draft
 flag_draft t (pos zero) = Some (done absent)
 flag_draft t _ = Some (flagged t)
@@ -101,7 +101,7 @@ allows (Exactly m) n = nat_eq n m
 allows (AtMost m) n = nat_lt n 4294967296 && nat_le n m
 allows Any n = nat_lt n 4294967296
 
--- the length of a list, row or text
+-- a length that the count allows, of which a draft is made
 abbrev pub length_into : Count → (ℕ → Draft) → ℕ → ℕ → ℕ → Place → Run Draft
 length_into c f mul add m s = if_passed (length_of mul add m) (λ n. if allows c n then gives (f n) s else refuses)
 
@@ -111,7 +111,7 @@ count_into mul add m (raw (items_type c t)) s = length_into c (listed t) mul add
 count_into mul add m (raw (array_type a)) s = length_into (count_of a) (lined a) mul add m s
 count_into mul add m _ s = strays
 
--- equal octets
+-- whether octets are the same
 abbrev pub same_octets : List ℕ → List ℕ → Bool
 same_octets [] [] = true
 same_octets (a ∷ x) (b ∷ y) = nat_eq a b && same_octets x y
@@ -119,7 +119,7 @@ same_octets _ _ = false
 
 -- ---- descriptors of Mach messages
 
--- a number of octets at an offset, the least significant octet first
+-- the number that octets at an offset hold, the least significant octet first
 abbrev pub little : Width → ℕ → ℕ → List ℕ → ℕ
 little x off w o = from_le_bytes x (take w (drop off o))
 
@@ -138,7 +138,7 @@ long_into name size mul d s =
     (λ x t.
     units_into (nat_eq (little w16 4 2 t.left) name && nat_eq (little w16 6 2 t.left) size) mul (little w32 8 4 t.left) 12 x t)
 
--- by the first word: bits 28 and 29 alone of the highest four, or bit 28 alone
+-- the form by the first word's highest four bits: long where 28 and 29 alone are set, short where 28 alone is
 abbrev pub form_into : ℕ → ℕ → ℕ → ℕ → Filler
 form_into name size mul m d s = if is_marked m then long_into name size mul d s else if nat_eq (m / 2 ^ 28) 1 then short_into name size
     mul m d s else refuses

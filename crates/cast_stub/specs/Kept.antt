@@ -48,7 +48,7 @@ without_room (Patched at sub order ∷ ss) = Patched at sub order ∷ without_ro
 abbrev pub SendsTheSame : SendCode → SendCode → Type 0
 SendsTheSame given code = (h : Head) (v : Val) (p : ℕ) → meaning code h v p ≡ meaning given h v p
 
--- ensures alone were added
+-- the same code, except for ensures
 abbrev pub AddsEnsures : SendCode → SendCode → Type 0
 AddsEnsures given code = unensured (code_seen code.ops) ≡ unensured (code_seen given.ops)
 

@@ -28,18 +28,18 @@ scalar_width e (number k) = byte_len (width_of e (number k))
 abbrev pub element_width : Encoding → Array → ℕ
 element_width e a = if is_octets a then 1 else scalar_width e (number (kind_of a))
 
--- a length that is not fixed
+-- whether a length is not fixed
 abbrev pub is_free : Count → Bool
 is_free (Exactly m) = false
 is_free _ = true
 
--- rows of 64 bits with padding only before a first element
+-- whether a row is of 64-bit numbers and of no fixed length: padding is only before a first element
 abbrev pub is_gapped : Array → Bool
 is_gapped (row_of kind.I64 c) = is_free c
 is_gapped (row_of kind.U64 c) = is_free c
 is_gapped _ = false
 
--- an array that goes element by element
+-- whether an array goes element by element
 abbrev pub is_looped : Encoding → Array → Bool
 is_looped CdrBig a = is_gapped a
 is_looped CdrLittle a = is_gapped a

@@ -16,7 +16,7 @@ use Rattle.cast_stub.specs.Subs.{sent_steps}
 
 -- ---- octets
 
--- octets from a base on, with their length less a number at a place of the message
+-- octets from a base on, with the length of the message so far, less a number, at a place of the message
 abbrev pub patched : ℕ → ℕ → ℕ → Order → List ℕ → Option (List ℕ)
 patched base at sub order o =
     if nat_le base at && nat_le (at + 4) (base + length o)

@@ -33,16 +33,16 @@ abbrev pub present_type : Ty → Option Ty
 present_type (maybe_type t) = Some t
 present_type _ = None
 
--- the types after a tag
+-- the arms of a union type
 abbrev pub arms_type : Ty → Option Arms
 arms_type (choice_type s arms) = Some arms
 arms_type _ = None
 
--- the elements of the part at a path
+-- the type of an element of the part at a path, and the count
 abbrev pub element_at : List ℕ → Ty → Option (Ty × Count)
 element_at p t = on_some (ty_at p t) elements_type
 
--- the value that may be there at a path
+-- the type of the value that may be there at a path
 abbrev pub present_at : List ℕ → Ty → Option Ty
 present_at p t = on_some (ty_at p t) present_type
 

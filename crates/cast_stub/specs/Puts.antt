@@ -16,7 +16,7 @@ abbrev pub wrapped : ℕ → ℤ → Option ℕ
 wrapped half (pos n) = if nat_lt n (half + half) then Some n else None
 wrapped half (negsuc n) = if nat_lt n half then Some (half + half - 1 - n) else None
 
--- half as many as the numbers of so many octets
+-- half of how many numbers so many octets can hold
 abbrev pub half_of : ℕ → Option ℕ
 half_of w = if nat_eq w 1 then Some (2 ^ 7) else if nat_eq w 2 then Some (2 ^ 15) else if nat_eq w 4 then Some (2 ^ 31) else if nat_eq w 8
     then Some (2 ^ 63) else None

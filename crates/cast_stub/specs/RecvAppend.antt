@@ -28,7 +28,7 @@ get_rebased q (get.Flag off p w o) = get.Flag off (q ++ p) w o
 get_rebased q (get.Count off p m a w o) = get.Count off (q ++ p) m a w o
 get_rebased q (get.Const off os) = get.Const off os
 
--- a block with a path before its own; bodies go by their own current value
+-- a block with a path before its own paths, but not in bodies, which go by their own current value
 abbrev pub rebase : List ℕ → Recv → Recv
 rebase q finish = finish
 rebase q (need n r) = need n (rebase q r)

@@ -17,7 +17,7 @@ pub data Run (A : Type 0) : Type 0 where
   refuses : Run A
   strays : Run A
 
--- from a place
+-- what runs from a place
 abbrev pub Going : Type 0 → Type 0
 Going A = Place → Run A
 
@@ -25,24 +25,24 @@ Going A = Place → Run A
 abbrev pub Filler : Type 0
 Filler = Draft → Place → Run Draft
 
--- one after the other
+-- a run, and another from where it ends, if it gives something
 abbrev pub then_run : {A B : Type 0} → Run A → (A → Place → Run B) → Run B
 then_run (gives x s) f = f x s
 then_run refuses f = refuses
 then_run strays f = strays
 
--- what is given, seen otherwise
+-- a run, with a function on what it gives
 abbrev pub map_run : {A B : Type 0} → (A → B) → Run A → Run B
 map_run f (gives x s) = gives (f x) s
 map_run f refuses = refuses
 map_run f strays = strays
 
--- something, where it is there
+-- the run on something that is there; it strays where it is not
 abbrev pub if_some : {A B : Type 0} → Option A → (A → Run B) → Run B
 if_some None f = strays
 if_some (Some x) f = f x
 
--- something that passed its test
+-- the run on something that passed its test; it refuses where it did not
 abbrev pub if_passed : {A B : Type 0} → Option A → (A → Run B) → Run B
 if_passed None f = refuses
 if_passed (Some x) f = f x

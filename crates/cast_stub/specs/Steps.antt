@@ -12,7 +12,7 @@ use Rattle.cast_stub.specs.Parts.{on_some, at, elements_in, length_in}
 use Rattle.cast_stub.specs.Puts.{word, filled}
 use Rattle.cast_stub.specs.Block.{Block, stop, ensure, ensure_row, align, chunk, row_copy, row_swap, row_wide, each, switch, if_there, call, patch, Cases, no_default, default, case, code_seen, cases_seen}
 
--- one thing that happens
+-- a step of a send code
 pub data Step : Type 0 where
   -- so many octets are ensured
   Room : ℕ → Step
@@ -20,7 +20,7 @@ pub data Step : Type 0 where
   Pad : ℕ → Step
   -- octets, by so many stores
   Stored : List ℕ → ℕ → Step
-  -- the numbers of a row, each by a store
+  -- the octets of the numbers of a row, by so many stores
   Widened : List ℕ → ℕ → Step
   -- the octets of a row
   Copied : List ℕ → Step
@@ -31,13 +31,13 @@ pub data Step : Type 0 where
 abbrev pub Steps : Type 0
 Steps = Option (List Step)
 
--- one after the other
+-- steps and the steps after them, if both are defined
 abbrev pub both : Steps → Steps → Steps
 both None b = None
 both (Some a) None = None
 both (Some a) (Some b) = Some (a ++ b)
 
--- a width, or an alignment
+-- whether a number is a width, or an alignment
 abbrev pub is_width : ℕ → Bool
 is_width w = nat_eq w 1 || nat_eq w 2 || nat_eq w 4 || nat_eq w 8
 

@@ -8,7 +8,7 @@ use Rattle.cast_stub.specs.Parts.{on_some, at}
 use Rattle.cast_stub.specs.Block.{Block, code_seen}
 use Rattle.cast_stub.specs.Steps.{Steps, Calls, steps, code_steps}
 
--- no code
+-- calls where there is no code: none is defined
 abbrev pub no_calls : Calls
 no_calls k v = None
 

@@ -48,7 +48,7 @@ IsAt p _ = Unit {0}
 abbrev pub IsFlat : List ℕ → Recv → Type 0
 IsFlat p b = (descs b ≡ Some 0) × IsAt p b
 
--- tests, skips and takes, perhaps a descriptor; a loop whose turn is tests, skips and takes; and such
+-- a loop with tests, skips and takes in its turn, before it and after it, and at most one descriptor outside
 pub record IsLoop (p : List ℕ) (b : Recv) : Type 0 where
   pub before : Recv
   pub turn : Recv
@@ -67,7 +67,7 @@ abbrev pub IsCount : List ℕ → Count → Recv → Type 0
 IsCount p (Exactly n) b = b ≡ finish
 IsCount p _ b = IsFlat p b
 
--- codes that go through a type: of calls below a number, for the value at a path
+-- what is said of code for the value at a path, whose calls name codes below a number
 abbrev pub Going : Type 1
 Going = ℕ → List ℕ → Recv → Type 0
 
@@ -80,7 +80,7 @@ abbrev pub Loops : Type 1
 Loops = Array → List ℕ → Recv → Type 0
 
 abbrev mutual
-  -- each operation in the type's order, loops over rows being such
+  -- each operation in the type's order, where L says what the code of a row or text is
   pub TracesBy : Loops → (ℕ → Option Recv) → Ty → Going
   TracesBy L subs void_type below p b = b ≡ finish
   TracesBy L subs (scalar_type s) below p b = IsFlat p b

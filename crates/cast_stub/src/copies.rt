@@ -105,7 +105,7 @@ pub fn put_copies(alloc: Global, ops: &SendOps, out: &mut SendOps) -> Result<(),
     Ok(())
 }
 
-/// The body of a number.
+/// A number and its body, as one of the bodies of a switch.
 pub fn case_of(n: &i128, body: SendOps) -> (i128, SendOps)
     ensures number { result.0 ≡ n.now }
     ensures body { result.1 ≡ body }

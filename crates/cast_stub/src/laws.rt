@@ -32,7 +32,7 @@ pub fn calls_run_in_turn()
     ensures { CallsInTurn }
 {}
 
-/// Ensures that are left out take no call with them.
+/// Code without its ensures runs the same calls.
 pub fn ensures_run_no_call()
     ensures { EnsuresRunNoCall }
 {}

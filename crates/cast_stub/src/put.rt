@@ -44,10 +44,10 @@ pub enum Put {
     Tag(u32, Path, u32, Order),
     /// 1 where a value is there, else 0: offset, path, width and order.
     Flag(u32, Path, u32, Order),
-    /// A length, multiplied and raised: offset, path, factor, summand, width and order.
+    /// A length times a factor, plus a summand: offset, path, factor, summand, width and order.
     Count(u32, Path, u32, u32, u32, Order),
-    /// A short Mach descriptor, whose number is a length, multiplied: offset, path, name, size and
-    /// factor.
+    /// A short Mach descriptor, whose number is a length times a factor: offset, path, name, size
+    /// and factor.
     Short(u32, Path, u32, u32, u32),
     /// These octets: offset and octets.
     Const(u32, Octets),

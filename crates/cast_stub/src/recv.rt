@@ -34,7 +34,8 @@ pub enum Get {
     Tag(u32, Path, u32, Order),
     /// Whether a value is there: offset, path, width and order.
     Flag(u32, Path, u32, Order),
-    /// A length, multiplied and raised: offset, path, factor, summand, width and order.
+    /// A length; the number read is the length times a factor, plus a summand: offset, path,
+    /// factor, summand, width and order.
     Count(u32, Path, u32, u32, u32, Order),
     /// These octets: offset and octets.
     Const(u32, Octets),
@@ -43,9 +44,10 @@ pub enum Get {
 /// An operation that receives.
 #[derive(Drop)]
 pub enum RecvOp {
-    /// So many octets follow.
+    /// A test that so many octets follow.
     Need(u32),
-    /// A length is multiplied and raised, and so many octets follow: path, factor, summand.
+    /// A test that as many octets follow as a length times a factor, plus a summand: path, factor,
+    /// summand.
     NeedRow(Path, u32, u32),
     /// Octets up to a multiple, whatever they are.
     SkipAny(u32),

@@ -1,4 +1,5 @@
-//! Copies of what operations that receive hold, for a part of the value; and operations put one after the other.
+//! Copies of what operations that receive hold, for a part of the value; and operations put one
+//! after the other.
 
 ghost use Rattle.std.specs.Prelude.{◌≡◌, map, OnOk, IfOk};
 ghost use Rattle.cast_stub.specs.RecvAppend.{append, get_rebased};

@@ -12,8 +12,8 @@ pub fn recv_code_for_a_part()
     ensures { RecvForPart }
 {}
 
-/// What was tested before a run changes neither what the code gives nor where it ends, and its tests
-/// are added.
+/// What was tested before a run changes neither what the code gives nor where it ends, and those
+/// tests are added.
 pub fn earlier_tests_add()
     ensures { TestsAdd }
 {}

@@ -27,7 +27,8 @@ pub struct SendCode {
 pub enum SendOp {
     /// So many octets are ensured.
     Ensure(u32),
-    /// A length is multiplied and raised, and so many octets are ensured: path, factor, summand.
+    /// As many octets are ensured as a length times a factor, plus a summand: path, factor,
+    /// summand.
     EnsureRow(Path, u32, u32),
     /// Zeros up to a multiple.
     Align(u32),

@@ -12,7 +12,7 @@ use Rattle.wire_def.specs.Described.{long_mark, long_words}
 use Rattle.wire_def.specs.Arrays.{element_octets, elements_octets, head_octets, trailing}
 use Rattle.wire_def.specs.Send.{followed}
 
--- the octets were appended, and the position went past them; or some were, and with those that are left all would have been
+-- the octets were appended, and the position went past them; or, out of memory, a prefix of them was appended
 abbrev pub Appends : List ℕ → List ℕ → ℕ → List ℕ → Result ℕ NoMemory → Type 0
 Appends old new p o (Ok q) = (new ≡ old ++ o) × (q + length old ≡ p + length new)
 Appends old new p o (Err _) = (rest : List ℕ) × (old ++ o ≡ new ++ rest) × (length old ≤ length new)

@@ -20,7 +20,7 @@ use mint::row::Row;
 use std::alloc::Global;
 use wire_def::{Encoding, Fault, FaultKind};
 
-/// So many octets.
+/// The next n octets.
 #[tactic(auto, using(crate::proofs::Blocks::blocks))]
 fn octets(n: usize, at: Cursor<'_>) -> Result<(&[u8], Cursor<'_>), Fault>
     ensures { Reads (λ o. map pos o.now) result (times any_octet n at.entry.place at.entry.rest.now) }
@@ -51,7 +51,8 @@ fn zero_in(octets: &[u8]) -> Option<usize>
     octets.iter().position(|o| *o == 0)
 }
 
-/// So many octets of a text.
+/// The next n octets of a text. A fault is an octet 0 among those that are there, or else that
+/// fewer are there.
 #[tactic(auto, using(crate::proofs::Blocks::blocks))]
 fn letters(n: usize, at: Cursor<'_>) -> Result<(&[u8], Cursor<'_>), Fault>
     ensures { Reads (λ o. map pos o.now) result (times any_letter n at.entry.place at.entry.rest.now) }
@@ -73,7 +74,7 @@ fn row_of_octets(alloc: Global, kind: Kind, octets: &[u8]) -> Result<Row, NoMemo
     Ok(row)
 }
 
-/// An octet.
+/// The next octet.
 #[tactic(auto, unfolding(wire_def::specs::Arrays::read_octet))]
 fn octet(at: Cursor<'_>) -> Result<(u8, Cursor<'_>), Fault>
     ensures { Reads (λ o. pos o) result (any_octet at.entry.place at.entry.rest.now) }
@@ -87,7 +88,7 @@ fn octet(at: Cursor<'_>) -> Result<(u8, Cursor<'_>), Fault>
     }
 }
 
-/// So many zeros.
+/// The next n octets, which are 0; one that is not has the given fault.
 #[tactic(auto, using(crate::proofs::Reading::pads))]
 fn zeros(n: usize, fault: FaultKind, at: Cursor<'_>) -> Result<((), Cursor<'_>), Fault>
     ensures { Reads nothing result (read_zeros n fault at.entry.place at.entry.rest.now) }

@@ -20,7 +20,7 @@ use std::alloc::Global;
 use swap_kit::swap_numbers;
 use wire_def::{Encoding, Fault, FaultKind};
 
-/// How many numbers of a width there are.
+/// How many whole numbers of a width the octets hold.
 fn many(octets: &[u8], width: usize) -> usize
     requires { 0 < width }
     ensures is { result ≡ length octets.now / width }
@@ -29,7 +29,7 @@ fn many(octets: &[u8], width: usize) -> usize
     octets.len() / width
 }
 
-/// The octets of so many numbers, whatever they are.
+/// The octets of the next n numbers, whatever they are.
 #[tactic(auto, using(crate::proofs::RowWords::images))]
 fn image(
     _enc: Encoding,

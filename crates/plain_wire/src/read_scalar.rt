@@ -105,7 +105,7 @@ pub(crate) fn word_64(enc: Encoding, at: Cursor<'_>) -> Result<(u64, Cursor<'_>)
     Ok((n, Cursor { place, rest }))
 }
 
-/// The number of these bits.
+/// The number that 8 bits are, in two's complement where it has a sign.
 fn number_8(signed: bool, m: u8) -> i128
     ensures { result ≡ number_of signed w8 m }
 {
@@ -120,7 +120,7 @@ fn number_8(signed: bool, m: u8) -> i128
     }
 }
 
-/// The number of these bits.
+/// The number that 16 bits are, in two's complement where it has a sign.
 fn number_16(signed: bool, m: u16) -> i128
     ensures { result ≡ number_of signed w16 m }
 {
@@ -135,7 +135,7 @@ fn number_16(signed: bool, m: u16) -> i128
     }
 }
 
-/// The number of these bits.
+/// The number that 32 bits are, in two's complement where it has a sign.
 fn number_32(signed: bool, m: u32) -> i128
     ensures { result ≡ number_of signed w32 m }
 {
@@ -150,7 +150,7 @@ fn number_32(signed: bool, m: u32) -> i128
     }
 }
 
-/// The number of these bits.
+/// The number that 64 bits are, in two's complement where it has a sign.
 fn number_64(signed: bool, m: u64) -> i128
     ensures { result ≡ number_of signed w64 m }
 {

@@ -29,7 +29,7 @@ fn kind_of(tag: &Tag) -> Kind
     }
 }
 
-/// A number of a discriminant.
+/// The number of a discriminant, after its gap.
 fn scalar<'a>(enc: Encoding, tag: &Tag, at: Cursor<'a>) -> Result<(i128, Cursor<'a>), Fault>
     ensures { Reads itself result (read_scalar enc (scalar_of tag.now) at.entry.place at.entry.rest.now) }
 {
@@ -39,7 +39,7 @@ fn scalar<'a>(enc: Encoding, tag: &Tag, at: Cursor<'a>) -> Result<(i128, Cursor<
     }
 }
 
-/// Where a number of a discriminant begins.
+/// Where the number of a discriminant begins, after its gap.
 #[tactic(auto, using(crate::proofs::Words::labels))]
 fn scalar_at(enc: Encoding, tag: &Tag, place: usize) -> usize
     requires { place ≤ longest_message }

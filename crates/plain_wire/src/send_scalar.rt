@@ -218,7 +218,7 @@ pub(crate) fn put_count(
     }
 }
 
-/// Puts the length of a text with the octet after it, modulo 2 to the 32.
+/// Puts the length of a text, which counts the octet 0 after it, modulo 2 to the 32.
 #[tactic(auto, using(crate::proofs::Steps::counts))]
 fn put_ended(enc: Encoding, place: usize, n: usize, out: &mut Octets) -> Result<usize, NoMemory>
     requires few { n < 4294967296 }

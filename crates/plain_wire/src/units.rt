@@ -87,7 +87,7 @@ pub(crate) fn long_of(kind: Kind, many: u128) -> u64
     unit_word(kind) + 4294967296 * ((many % 4294967296) as u64)
 }
 
-/// Whether so many numbers have a long descriptor.
+/// Whether a row or text with this bound has a long descriptor.
 pub(crate) fn has_long(bound: Count, kind: Kind) -> bool
     ensures { result ≡ is_long bound (number kind) }
 {

@@ -136,7 +136,7 @@ pub(crate) fn behind_text(enc: Encoding, n: usize) -> usize
     }
 }
 
-/// What is wrong with an octet after an array that is not 0.
+/// The kind of fault where an octet after an array's elements is not 0.
 pub(crate) fn fault_behind(enc: Encoding) -> FaultKind
     ensures { result ≡ ill_ended enc }
 {

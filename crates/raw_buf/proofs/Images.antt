@@ -71,7 +71,7 @@ swap_width kind.U64 h = inr (inr refl)
 pub single_octets : (k : Kind) (o : List ℕ) → width k ≡ 1 → swapped (width k) o ≡ o
 single_octets k o is = ap (λ (w : ℕ). swapped w o) is ∙ swapped-octets o
 
--- those of the first octets, and those that follow
+-- the number of the first octets, and the numbers of those that follow
 first_number : (k : Kind) (a o : List ℕ) → length a ≡ width k → numbers_of k (a ++ o) ≡ number_in k a ∷ numbers_of k o
 unfolding numbers_of numbers_in
 first_number k a o len =

@@ -18,7 +18,7 @@ pub record Buf : Type 0 where
   -- how many octets the memory holds
   pub room : ℕ
 
--- no calls
+-- the counts of no calls
 abbrev pub none : Tally
 none = record { checks = 0; moves = 0; stores = 0; rows = 0 }
 
@@ -31,19 +31,19 @@ abbrev pub in_order : Order → ℕ → ℕ → List ℕ
 in_order Big w v = be w v
 in_order Little w v = le w v
 
--- one check more
+-- counts with one check more
 abbrev pub checked : Tally → Tally
 checked t = record t { checks = raised t.checks 1 }
 
--- one move more
+-- counts with one move more
 abbrev pub moved : Tally → Tally
 moved t = record t { moves = raised t.moves 1 }
 
--- one store more
+-- counts with one store more
 abbrev pub stored : Tally → Tally
 stored t = record t { stores = raised t.stores 1 }
 
--- one row more
+-- counts with one row more
 abbrev pub rowed : Tally → Tally
 rowed t = record t { rows = raised t.rows 1 }
 

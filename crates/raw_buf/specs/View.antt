@@ -20,21 +20,21 @@ abbrev pub width_in : ℕ → Option Width
 width_in w = if nat_eq w 1 then Some w8
     else if nat_eq w 2 then Some w16 else if nat_eq w 4 then Some w32 else if nat_eq w 8 then Some w64 else None
 
--- the same, where there is one
+-- the width of a number of 1, 2 or 4 octets, and that of 8 for every other count
 abbrev pub width_as : ℕ → Width
 width_as w = if nat_eq w 1 then w8 else if nat_eq w 2 then w16 else if nat_eq w 4 then w32 else w64
 
--- the number of octets, in an order
+-- the number that octets of a width hold, in an order
 abbrev pub loaded : Order → Width → List ℕ → ℕ
 loaded Big x o = from_be_bytes x o
 loaded Little x o = from_le_bytes x o
 
--- the number of octets as many as a width has
+-- the number that octets hold, in an order, if they have a width; otherwise 0
 abbrev pub loaded_of : Order → Option Width → List ℕ → ℕ
 loaded_of o None os = 0
 loaded_of o (Some x) os = loaded o x os
 
--- octets of numbers of a width in an order, as the least significant octet comes first
+-- the octets of numbers of a width that are in an order, with the least significant octet of each first
 abbrev pub in_little : Order → ℕ → List ℕ → List ℕ
 in_little Big w o = swapped w o
 in_little Little w o = o

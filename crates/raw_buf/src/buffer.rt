@@ -59,7 +59,7 @@ impl SendBuf {
         })
     }
 
-    /// Makes sure of n octets after those that are done.
+    /// Ensures at least n octets after those that are done. Out of memory, nothing changes.
     pub fn ensure(&mut self, n: usize) -> Result<(), NoMemory>
         ensures ok { OnOk result (Ensures n self.old self.new) }
         ensures err { OnErr result (self.new ≡ self.old) }
@@ -78,7 +78,8 @@ impl SendBuf {
         Ok(())
     }
 
-    /// Stores a number in the space that is ensured.
+    /// Stores a number in `width` octets at an offset from the cursor, in the space that is
+    /// ensured.
     pub fn put(&mut self, off: usize, width: usize, order: Order, v: u64)
         // What is put.
         requires width { IsWidth width }
@@ -104,7 +105,7 @@ impl SendBuf {
         }
     }
 
-    /// Stores octets in the space that is ensured.
+    /// Stores octets at an offset from the cursor, in the space that is ensured.
     pub fn put_const(&mut self, off: usize, octets: &[u8])
         requires { off + length octets.now ≤ length self.old.front }
         ensures done { self.new.done ≡ self.old.done }
@@ -149,7 +150,7 @@ impl SendBuf {
         self.advance(count);
     }
 
-    /// Stores a number of 32 bits over octets that are done.
+    /// Stores a number of 32 bits over octets that are done, from octet `at` of the message on.
     pub fn patch4(&mut self, at: usize, order: Order, v: u32)
         requires within { at + 4 ≤ length self.old.done }
         ensures done { self.new.done ≡ written self.old.done at (in_order order 4 v) }

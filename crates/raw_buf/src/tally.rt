@@ -3,12 +3,12 @@
 /// Four counts of calls. A count that has reached 2^64 - 1 stays there.
 #[derive(Clone, Copy, Debug, PartialEq, Eq)]
 pub struct Tally {
-    /// Looks at the space that is left.
+    /// Calls of `ensure` that succeeded.
     pub checks: u64,
-    /// Steps of the cursor.
+    /// Moves of the cursor: calls of `advance` and `align`.
     pub moves: u64,
-    /// Stores at an offset from the cursor.
+    /// Stores: calls of `put`, `put_const` and `patch4`.
     pub stores: u64,
-    /// Rows of numbers that were copied as a block.
+    /// Rows that were appended as a block: calls of `row_copy` and `row_swap`.
     pub rows: u64,
 }

@@ -89,7 +89,8 @@ impl<'a> RecvView<'a> {
         true
     }
 
-    /// The number of octets at an offset, which are known to be there.
+    /// The number that `width` octets hold at an offset from the place of the next octet. They are
+    /// known to be there.
     pub fn load(&self, off: usize, width: usize, order: Order) -> u64
         requires width { IsWidth width }
         requires near { off + width ≤ self.now.near }
@@ -173,7 +174,7 @@ fn big_row(alloc: Global, kind: Kind, image: &[u8]) -> Result<Row, NoMemory>
     }
 }
 
-// The row of an image.
+// The row of an image whose numbers have the least significant octet first.
 fn plain_row(alloc: Global, kind: Kind, image: &[u8]) -> Result<Row, NoMemory>
     requires kind { kind ≢ Kind.Bool }
     requires whole { length image.now % width kind ≡ 0 }
@@ -219,7 +220,7 @@ fn append_turned(row: &mut Row, image: &[u8], block: &mut [u8; BLOCK]) -> Result
     row.append_image(turned)
 }
 
-// The number of octets.
+// The number that all these octets hold, in an order.
 fn word(octets: &[u8], order: Order) -> u64
     requires { IsWidth (length octets.now) }
     ensures value { result ≡ loaded_of order (width_in (length octets.now)) octets.now }

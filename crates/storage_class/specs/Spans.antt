@@ -35,7 +35,7 @@ element_length e a = if is_octets a then 1 else byte_len (width_of e (number (ki
 abbrev pub elements_length : Encoding → Array → ℕ → ℕ
 elements_length e a n = n * element_length e a + trailing e a n
 
--- the octets before aligned elements, of which there may be none
+-- the octets before the first of so many aligned elements; 0 where there are none
 abbrev pub first_gap : Array → ℕ → ℕ → ℕ
 first_gap a p zero = 0
 first_gap a p (suc n) = gap p (element_length CdrBig a)
@@ -46,29 +46,29 @@ wide_gap (row_of kind.I64 c) = 4
 wide_gap (row_of kind.U64 c) = 4
 wide_gap _ = 0
 
--- the octets of a descriptor
+-- the octets of an array's descriptor in a Mach message
 abbrev pub described_length : Array → ℕ
 described_length a = if is_long (count_of a) (number (kind_of a)) then 12 else 4
 
--- an array of a fixed length from a position
+-- the octets of an array of a fixed length from a position
 abbrev pub array_length : Encoding → Array → ℕ → ℕ → ℕ
 array_length Xdr a n p = elements_length Xdr a n
 array_length Mach a n p = described_length a + elements_length Mach a n
 array_length e a n p = first_gap a p n + elements_length e a n
 
--- an array of at most so many elements
+-- the most octets of an array of at most so many elements, from any position
 abbrev pub array_most : Encoding → Array → ℕ → ℕ
 array_most Xdr a n = 4 + elements_length Xdr a n
 array_most Mach a n = described_length a + elements_length Mach a n
 array_most e a n = 7 + (wide_gap a + elements_length e a n)
 
--- by the count
+-- the span of an array by its count, except of a text over CDR
 abbrev pub array_counted : Encoding → Array → Count → Span
 array_counted e a (Exactly n) = exactly (from_each (array_length e a n))
 array_counted e a (AtMost n) = at_most (array_most e a n)
 array_counted e a Any = Unbounded
 
--- a text over CDR, which has a length before it and an octet after it also where its count is fixed
+-- the span of a text over CDR, with a length before it and an octet after it also where its count is fixed
 abbrev pub text_counted : Encoding → Count → Span
 text_counted e (Exactly n) = at_most (array_most e (text (Exactly n)) n)
 text_counted e (AtMost n) = at_most (array_most e (text (AtMost n)) n)
@@ -81,14 +81,14 @@ array_span e a = array_counted e a (count_of a)
 
 -- ---- types
 
--- a list of so many elements
+-- the span of a list, by its count and the span of an element
 abbrev pub items_span : Encoding → Count → Span → Span
 items_span e (Exactly n) s = times n s
 items_span e (AtMost n) s = behind (scalar_span e counted) (times_top n (top s))
 items_span e Any s = Unbounded
 
 abbrev mutual
-  -- what is sent of a value of the type
+  -- the span of what is sent of a value of the type
   pub span : Encoding → Ty → Span
   span e void_type = Fixed (from_each (λ p. 0))
   span e (scalar_type s) = scalar_span e s
@@ -98,12 +98,12 @@ abbrev mutual
   span e (choice_type s arms) = behind (scalar_span e s) (arms_span e arms)
   span e (maybe_type t) = behind (scalar_span e flag) (loose (span e t))
 
-  -- fields, one after the other
+  -- the span of fields, one after the other
   pub fields_span : Encoding → Tys → Span
   fields_span e no_fields = Fixed (from_each (λ p. 0))
   fields_span e (field t ts) = behind (span e t) (fields_span e ts)
 
-  -- whichever arm there is
+  -- the span of whichever arm there is
   pub arms_span : Encoding → Arms → Span
   arms_span e no_other = Bounded 0
   arms_span e (others t) = loose (span e t)

@@ -12,7 +12,7 @@ use crate::span::{Span, at_most, exactly};
 use mint::kind::{Count, Kind};
 use wire_def::Encoding;
 
-/// The octets of a row's element.
+/// How many octets an element of a row has.
 #[tactic(auto, using(crate::proofs::Eights::arrays))]
 fn element(enc: Encoding, kind: Kind, _count: Count) -> u64
     ensures is { result ≡ element_length enc (row_of kind _count) }
@@ -39,7 +39,7 @@ fn element(enc: Encoding, kind: Kind, _count: Count) -> u64
     }
 }
 
-/// The octets of a row's elements, and of those after them.
+/// How many octets n elements of a row have, with those after them.
 #[tactic(auto, using(crate::proofs::Eights::arrays))]
 fn elements(enc: Encoding, kind: Kind, count: Count, n: u32) -> u64
     ensures is { result ≡ elements_length enc (row_of kind count) n }
@@ -61,7 +61,7 @@ fn elements(enc: Encoding, kind: Kind, count: Count, n: u32) -> u64
     }
 }
 
-/// Whether so many numbers of a kind have a long descriptor in Mach messages.
+/// Whether a row or text with this bound has a long descriptor in Mach messages.
 fn has_long(bound: Count, kind: Kind) -> bool
     ensures { result ≡ is_long bound (number kind) }
 {
@@ -83,7 +83,7 @@ fn descriptor(kind: Kind, count: Count) -> u64
     if has_long(count, kind) { 12 } else { 4 }
 }
 
-/// The octets from a place to where a row's first element begins over CDR.
+/// How many octets come before a row's first element over CDR, from a position modulo 8.
 #[tactic(auto, using(crate::proofs::Eights::arrays))]
 fn gap_before(kind: Kind, _count: Count, place: u64) -> u64
     requires { place < 8 }
@@ -98,7 +98,7 @@ fn gap_before(kind: Kind, _count: Count, place: u64) -> u64
     }
 }
 
-/// The octets of a row of a fixed length from a position.
+/// How many octets a row of a fixed length has, from a position modulo 8.
 #[tactic(auto, using(crate::proofs::Eights::arrays))]
 fn row_at(enc: Encoding, kind: Kind, count: Count, n: u32, place: u64) -> u64
     requires eighth { place < 8 }
@@ -162,7 +162,7 @@ pub(crate) fn row(enc: Encoding, kind: Kind, count: Count) -> Span
     }
 }
 
-/// The octets of a text of a fixed length from a position, and of what comes after them.
+/// How many octets a text of n octets has, with those after them and without its length.
 #[tactic(auto, using(crate::proofs::Eights::arrays))]
 fn letters(enc: Encoding, _count: Count, n: u32) -> u64
     ensures is { result ≡ elements_length enc (text _count) n }

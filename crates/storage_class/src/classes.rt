@@ -14,7 +14,7 @@ use wire_def::Encoding;
 pub enum Class {
     /// The length from a position, by its remainder modulo 8.
     Fixed([u32; 8]),
-    /// The greatest length.
+    /// No length is above this.
     Bounded(u64),
     /// No bound is known, or it is above 4,294,967,295.
     Unbounded,
@@ -36,7 +36,7 @@ impl Model for Classes {
 }
 
 impl Classes {
-    /// Of no nodes.
+    /// The spans of no nodes.
     pub(crate) fn new(alloc: Global, enc: Encoding) -> Classes
         ensures enc { result.enc ≡ enc }
         ensures spans { result.spans ≡ [] }

@@ -14,7 +14,7 @@ use mint::table::{Mint, NodeId};
 use std::alloc::Global;
 use wire_def::Encoding;
 
-/// The class of each node of a table, in one step for each node and each child.
+/// The span of each node of a table over an encoding, in one step for each node and each child.
 pub fn classify(alloc: Global, enc: Encoding, mint: &Mint) -> Result<Classes, NoMemory>
     ensures encoding { IfOk result (λ c. c.enc ≡ enc) }
     ensures spans { IfOk result (λ c. AreClasses mint.now c) }

@@ -32,7 +32,7 @@ fn behind_at(f: &[u32; 8], g: &[u32; 8], place: u64) -> u64
     m + at(g, place + m)
 }
 
-/// The greatest length.
+/// The greatest of eight lengths.
 #[tactic(auto, using(crate::proofs::Eights::eights))]
 fn greatest(f: &[u32; 8]) -> u32
     ensures { result ≡ greatest f.now }
@@ -42,14 +42,14 @@ fn greatest(f: &[u32; 8]) -> u32
     low.max(high)
 }
 
-/// Whether each length is known.
+/// Whether no length is above 4,294,967,295.
 fn are_told(f: &[u64; 8]) -> bool
     ensures { result ≡ list_all (λ n. nat_le n 4294967295) f.now }
 {
     f.iter().all(|n| *n <= 4294967295)
 }
 
-/// Lengths that are known.
+/// The same lengths in 32 bits each.
 #[tactic(auto, using(crate::proofs::Eights::eights))]
 fn told(f: &[u64; 8]) -> [u32; 8]
     requires { IsTrue (list_all (λ n. nat_le n 4294967295) f.now) }
@@ -67,7 +67,7 @@ fn told(f: &[u64; 8]) -> [u32; 8]
     ]
 }
 
-/// Lengths, unless one is too great.
+/// The fixed span of these lengths; unbounded where one is above 4,294,967,295.
 pub(crate) fn exactly(f: &[u64; 8]) -> Span
     ensures { result ≡ exactly f.now }
 {
@@ -94,7 +94,7 @@ fn one_behind(f: &[u32; 8], g: &[u32; 8]) -> Span
     ])
 }
 
-/// So many parts, by halves.
+/// So many parts of these lengths, made from half as many.
 #[tactic(auto, using(crate::proofs::Powers::powers))]
 fn power(f: &[u32; 8], n: u32) -> Span
     ensures { result ≡ exactly (from_each (run n f.now)) }
@@ -111,7 +111,7 @@ fn power(f: &[u32; 8], n: u32) -> Span
     }
 }
 
-/// A greatest length, unless it is too great.
+/// The span of a bound; unbounded where it is above 4,294,967,295.
 pub(crate) fn at_most(n: u64) -> Span
     ensures { result ≡ at_most n }
 {
@@ -122,7 +122,7 @@ pub(crate) fn at_most(n: u64) -> Span
 }
 
 impl Span {
-    /// The greatest length, if there is one.
+    /// The greatest of fixed lengths, or the bound, if there is one.
     pub fn top(self) -> Option<u32>
         ensures { result ≡ top self }
     {
@@ -133,7 +133,7 @@ impl Span {
         }
     }
 
-    /// The same bound, where the length may be less.
+    /// A span with the same bound, and no fixed length.
     pub(crate) fn loose(self) -> Span
         ensures { result ≡ loose self }
     {
@@ -153,7 +153,7 @@ impl Span {
         }
     }
 
-    /// This one or the other.
+    /// The span of one of the two: bounded by the greater bound.
     pub(crate) fn either(self, other: Span) -> Span
         ensures { result ≡ either self other }
     {
@@ -163,7 +163,7 @@ impl Span {
         }
     }
 
-    /// So many times the same.
+    /// So many parts of this span, one after the other.
     pub(crate) fn times(self, n: u32) -> Span
         ensures { result ≡ times n self }
     {
@@ -173,7 +173,7 @@ impl Span {
         }
     }
 
-    /// The greatest length of so many parts.
+    /// The span of so many parts, by the bound of each alone.
     pub(crate) fn times_top(self, n: u32) -> Span
         ensures { result ≡ times_top n (top self) }
     {
