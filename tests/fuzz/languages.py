@@ -8,7 +8,8 @@ MARKS = ["{", "}", "(", ")", "[", "]", "<", ">", ";", ",", ":", "=", "*", "-", "
 
 class Language(NamedTuple):
     """How a text falls into tokens; words; those of them that are types; marks; a declaration, and what may stand in its place,
-    by a number and by how many times something is there."""
+    by a number and by how many times something is there. A declaration is found in one step an octet: it begins where a word
+    does, and what stands between its brackets is short."""
     token: re.Pattern
     words: list
     types: list
@@ -50,7 +51,7 @@ LANGUAGES = {
          "int", "long", "short", "char", "hyper", "bool", "float", "double", "quadruple", "TRUE", "FALSE", "u_int", "u_char", "x", "F"],
         ["int", "long", "short", "char", "hyper", "bool", "unsigned", "u_int", "u_char", "u_short", "u_long", "float"],
         MARKS,
-        re.compile(r"(\w+)( +)(\*?)([A-Za-z_]\w*)(\[\w*\]|<\w*>)?(?=;)"), onc_forms),
+        re.compile(r"(?<!\w)(\w+)( +)(\*?)([A-Za-z_]\w*)(\[\w*\]|<\w*>)?(?=;)"), onc_forms),
     "mig": Language(
         re.compile(r"/\*.*?\*/|\"[^\"\n]*\"|<[^>\n]*>" + PLAIN, re.S),
         ["subsystem", "type", "routine", "simpleroutine", "skip", "userprefix", "serverprefix", "import", "uimport", "simport", "array", "struct", "of",
@@ -58,7 +59,7 @@ LANGUAGES = {
         ["char", "byte", "short", "int", "unsigned", "mach_port_t", "MACH_MSG_TYPE_CHAR", "MACH_MSG_TYPE_BYTE", "MACH_MSG_TYPE_INTEGER_16",
          "MACH_MSG_TYPE_INTEGER_32", "MACH_MSG_TYPE_COPY_SEND"],
         [*MARKS, "*:", "/", "<a>", "\"a b\"", "2147483547", "2147483548"],
-        re.compile(r"(type\s+)?([a-z_]\w*)\s*[=:]\s*((?:array|struct)\s*\[[^\]]*\]\s*of\s+\w+|\([^()]*\)|[a-z_]\w*)(?=\s*[;)])", re.I), mig_forms),
+        re.compile(r"(?<!\w)(type\s+)?([a-z_]\w*)\s*[=:]\s*((?:array|struct)\s*\[[^\]]{0,99}\]\s*of\s+\w+|\([^()]{0,99}\)|[a-z_]\w*)(?=\s*[;)])", re.I), mig_forms),
     "corba": Language(
         re.compile(r"/\*.*?\*/|//[^\n]*|\"[^\"\n]*\"|'\\?[^\n]'|::|<<|>>" + PLAIN, re.S),
         ["typedef", "const", "enum", "struct", "union", "switch", "case", "default", "module", "interface", "exception", "raises", "attribute", "readonly", "oneway",
@@ -66,5 +67,5 @@ LANGUAGES = {
          "any", "Object", "fixed", "Module", "_struct", "x", "F"],
         ["long", "short", "char", "boolean", "octet", "string", "unsigned", "long long", "unsigned long", "unsigned short", "float", "sequence<long>", "string<3>"],
         [*MARKS, "::", ">>", "<<", "|", "^", "&", "~", "'a'", "'\\n'", "'''", "'\\x41'", "\"a b\"", "1 << 63", "1 << 64", "-1", "5 / 0"],
-        re.compile(r"([A-Za-z_][\w:]*(?:<[\w ,<>]*>)?) +([A-Za-z_]\w*)((?:\[[^\]]*\])*)(?=;)"), corba_forms),
+        re.compile(r"(?<![\w:])([A-Za-z_][\w:]*(?:<[\w ,<>]{0,99}>)?) +([A-Za-z_]\w*)((?:\[[^\]]{0,99}\]){0,40})(?=;)"), corba_forms),
 }

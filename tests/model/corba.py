@@ -242,9 +242,14 @@ WORDS = words_of(GRAMMAR)
 
 # ---- trees
 
-def only(found):
-    """Where a form may end, each with its parts: over the same tokens it has one tree."""
-    return joined({}, found)
+def only_of(found):
+    """Where a form may end in one of several ways, each with its parts: over the same tokens it has one tree."""
+    if len(found) == 1:
+        return found[0]
+    ends = {}
+    for some in found:
+        joined(ends, some.items())
+    return ends
 
 
 def joined(ends, found):
@@ -263,7 +268,7 @@ class Reading:
     a token is that part. Beyond the last level nothing has a tree.
     """
 
-    kinds, rules, beginnings = KINDS, RULES, beginnings_of(RULES)
+    kinds, rules, beginnings, choices = KINDS, RULES, beginnings_of(RULES), {}
 
     def __init__(self, tokens, levels=LEVELS):
         self.tokens, self.levels, self.known = tokens, levels, {}
@@ -288,11 +293,20 @@ class Reading:
         return getattr(self, form[0])(form[1], place, level)
 
     def one_of(self, forms, place, level):
-        return only(found for form in forms for found in self.ends(form, place, level).items())
+        return only_of([getattr(self, kind)(inner, place, level) for kind, inner in self.tried(forms, self.heads[place])])
+
+    def tried(self, forms, head):
+        """The forms of a choice that may begin so. It is worked out once for each choice and each beginning."""
+        key = id(forms), head
+        if key not in self.choices:
+            self.choices[key] = [form for form in forms if not self.beginnings[id(form)].isdisjoint(head)]
+        return self.choices[key]
 
     def all_of(self, forms, place, level):
         ends = {} if self.lacks(forms, place) else {place: ()}
         for form in forms:
+            if not ends:
+                break
             ends = self.after(ends, form, level)
         return ends
 
@@ -324,7 +338,7 @@ class Reading:
 
     def after(self, ends, form, level):
         """Where a form may end that begins where something else ends, each with the parts of both."""
-        return only((end, parts + more) for place, parts in ends.items() for end, more in self.ends(form, place, level).items())
+        return only_of([{end: parts + more for end, more in self.ends(form, place, level).items()} for place, parts in ends.items()])
 
     def deeper(self, form, place, level):
         return self.ends(form, place, level + 1)
