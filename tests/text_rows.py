@@ -64,7 +64,7 @@ def difference(what, wanted, told):
 
 def run(program, words, given=""):
     """What a program writes, and its status."""
-    ran = subprocess.run([program, *words], input=given.encode(), capture_output=True, timeout=SECONDS)
+    ran = subprocess.run([program, *words], input=given.encode(), capture_output=True, timeout=SECONDS, close_fds=False)
     return (ran.stdout + ran.stderr).decode("latin-1"), ran.returncode
 
 
