@@ -1,4 +1,4 @@
-"""Interface files in the ONC RPC language (docs/GRAMMAR.md), read without looking for faults."""
+"""Interface files in the ONC RPC language (docs/GRAMMAR.md), read without looking for faults; onc.py looks for them."""
 import re
 
 from calls import Called, Interface

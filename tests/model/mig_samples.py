@@ -2,7 +2,7 @@
 """Random files in the interface language of MIG, by a seeded generator: accepted ones with what they offer, and broken
 ones with the line with which they are refused.
 
-`tests/model/mig_samples.py [--seed N] [--files N]` holds the model's reader (mig.py) against them.
+`tests/model/mig_samples.py [--seed N] [--files N]` compares the model's reader (mig.py) with them.
 """
 import argparse
 import random
