@@ -1,4 +1,5 @@
-// Names and numbers of which no two are equal.
+//! Names and numbers of which no two are equal.
+
 ghost use Rattle.std.specs.Prelude.{◌≡◌, map, if◌then◌else◌};
 ghost use Rattle.std.specs.List.{list_any};
 ghost use Rattle.std.specs.Ordering.{int_eq};

@@ -1,4 +1,5 @@
-// Why the names of a file are not resolved, for every front end.
+//! Why the names of a file are not resolved, for every front end.
+
 ghost use Rattle.std.specs.Prelude.{◌≡◌};
 ghost use Rattle.aoi.specs.declared.faults.NameFault.TheVariants.{NoMemory as WantOfMemory};
 

@@ -1,4 +1,5 @@
-// Interfaces and their operations.
+//! Interfaces and their operations.
+
 use crate::{Fields, Ty};
 use kit_base::{Listed, Name};
 

@@ -1,4 +1,5 @@
-// Whether a unit is sound.
+//! Whether a unit is sound.
+
 ghost use Rattle.std.specs.Prelude.{◌≡◌, ◌≤◌, length, map, None, ◌&&◌, ◌+◌, ◌-◌, ◌^◌, nat_le};
 ghost use Rattle.std.specs.List.{list_all, list_any};
 ghost use Rattle.std.specs.Option.{option_map};

@@ -1,4 +1,5 @@
-// Types, as a file declares them.
+//! Types, as a file declares them.
+
 use kit_base::{Listed, Name};
 use mint::kind::{Count, Kind};
 

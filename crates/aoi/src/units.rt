@@ -1,5 +1,6 @@
-// The unit of a file.
-ghost use Rattle.std.specs.Prelude.{◌≡◌, ◌<◌, ◌≤◌, ◌^◌, ◌⊎◌, ◌↔◌, [], ◌∷◌, ◌++◌, length, true, false, IfOk, OnOk, OnErr, IsTrue};
+//! The unit of a file.
+
+ghost use Rattle.std.specs.Prelude.{◌≡◌, ◌<◌, ◌≤◌, ◌^◌, ◌⊎◌, ◌↔◌, [], ◌∷◌, ◌++◌, length, true, false, IfOk, OnOk, OnErr};
 ghost use Rattle.kit_base.specs.Limits.{most_interfaces, most_operations};
 ghost use Rattle.aoi.specs.Units.{is_twice, AreApart};
 ghost use Rattle.aoi.specs.declared.units.UnitErr.TheVariants.{NoMemory as WantOfMemory};

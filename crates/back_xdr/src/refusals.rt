@@ -1,6 +1,6 @@
 //! The replies that refuse a call.
 
-ghost use Rattle.std.specs.Prelude.{◌≡◌, ◌≤◌, [], ◌∷◌, ◌++◌, length, Some, OnErr, OnOk};
+ghost use Rattle.std.specs.Prelude.{◌≡◌, ◌≤◌, [], ◌++◌, length, Some, OnErr, OnOk};
 ghost use Rattle.raw_buf.specs.Buf.{NoneFell};
 ghost use Rattle.raw_buf.specs.Words.{words};
 ghost use Rattle.back_xdr.specs.Refusals.{IsOwn, refusal_octets};

@@ -1,4 +1,5 @@
-// Draws of numbers, lengths and labels, and what a value weighs.
+//! Draws of numbers, lengths and labels, and what a value weighs.
+
 ghost use Rattle.std.specs.Prelude.{◌≡◌, ◌<◌, ◌+◌, ◌*◌, ◌%◌, map, pos, ◌-ℤ◌, length, OnOk, IfErr};
 ghost use Rattle.mint.specs.Kinds.{IsInRange, under};
 ghost use Rattle.mint.specs.Types.{scalar_of};

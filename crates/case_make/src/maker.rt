@@ -1,4 +1,5 @@
-// A generator, and why it stops.
+//! A generator, and why it stops.
+
 use kit_base::NoMemory;
 
 /// The state of a generator, and the weight that is left.

@@ -1,4 +1,5 @@
-// Values drawn for nodes.
+//! Values drawn for nodes.
+
 ghost use Rattle.std.specs.Prelude.{◌≡◌, ◌<◌, ◌≤◌, length, map, IfOk, IfErr};
 ghost use Rattle.kit_base.specs.Limits.{heaviest_blank};
 ghost use Rattle.mint.specs.Types.{type_at, unfolded, fields_at, arms_at, scalar_of, text, row_of, choice_type, maybe_type, AreBelow, ArmsBelow, IsBelow};

@@ -1,5 +1,5 @@
 -- The calls that a send code runs.
-use Rattle.std.specs.Prelude.{◌≡◌, ℕ, zero, suc, ℤ, List, [], ◌∷◌, ◌++◌, Option, None, Some, if◌then◌else◌}
+use Rattle.std.specs.Prelude.{ℕ, zero, suc, ℤ, List, [], ◌∷◌, ◌++◌, Option, None, Some, if◌then◌else◌}
 use Rattle.std.specs.Ordering.{int_eq}
 use Rattle.mint.specs.Values.{Val, present, Vals, no_more, val, arm_in}
 use Rattle.cast_stub.specs.declared.send.SendCode.{SendCode}
@@ -57,7 +57,3 @@ entered_by subs (suc n) k v = of_some (subs k) (λ b. entered (entered_by subs n
 -- the numbers of the calls that a send code runs on a value, in order
 abbrev pub calls_run : SendCode → Val → List ℕ
 calls_run code v = entered (entered_by (sub_at code.subs) deepest) (code_seen code.ops) v
-
--- the same calls are run, on every value
-abbrev pub RunsTheSameCalls : SendCode → SendCode → Type 0
-RunsTheSameCalls given code = (v : Val) → calls_run code v ≡ calls_run given v

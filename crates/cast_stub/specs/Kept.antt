@@ -49,8 +49,8 @@ abbrev pub SendsTheSame : SendCode → SendCode → Type 0
 SendsTheSame given code = (h : Head) (v : Val) (p : ℕ) → meaning code h v p ≡ meaning given h v p
 
 -- the same code, except for ensures
-abbrev pub AddsEnsures : SendCode → SendCode → Type 0
-AddsEnsures given code = unensured (code_seen code.ops) ≡ unensured (code_seen given.ops)
+abbrev pub ChangesOnlyEnsures : SendCode → SendCode → Type 0
+ChangesOnlyEnsures given code = unensured (code_seen code.ops) ≡ unensured (code_seen given.ops)
 
 -- wherever the given code sends octets, for a value of the type, there is room for all that is appended
 abbrev pub IsCoveredFor : Ty → SendCode → SendCode → Type 0

@@ -1,4 +1,5 @@
-// The laws of stub code, each the contract of a function that does nothing.
+//! The laws of stub code, each the contract of a function that does nothing.
+
 ghost use Rattle.cast_stub.specs.Laws.{CallsInTurn, CodeBehindCode, CodeForPart, CostsAdd, EnsuresRunNoCall, MoreRoom, NoCallRunsNone, WrittenInTurn};
 
 /// The steps of code after code are the steps of the first and then those of the second.

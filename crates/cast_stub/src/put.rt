@@ -1,4 +1,5 @@
-// What is stored at an offset of a chunk.
+//! What is stored at an offset of a chunk.
+
 ghost use Rattle.std.specs.Prelude.{◌≡◌};
 ghost use Rattle.cast_stub.specs.Puts.{head_number};
 

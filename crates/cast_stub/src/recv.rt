@@ -1,4 +1,5 @@
-// Code that receives.
+//! Code that receives.
+
 use crate::put::Path;
 use kit_base::{Listed, Octets};
 use mint::keyed::Keyed;

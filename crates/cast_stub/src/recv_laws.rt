@@ -1,4 +1,5 @@
-// The laws of code that receives, each the contract of a function that does nothing.
+//! The laws of code that receives, each the contract of a function that does nothing.
+
 ghost use Rattle.cast_stub.specs.Laws.{RecvAfterRecv, RecvForPart, TestsAdd};
 
 /// A run of code after code is the run of the first and then that of the second.

@@ -1,4 +1,5 @@
-// Code that sends.
+//! Code that sends.
+
 use crate::put::{Path, Puts};
 use kit_base::Listed;
 use mint::keyed::Keyed;

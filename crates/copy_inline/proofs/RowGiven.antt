@@ -10,7 +10,7 @@ use Rattle.cast_stub.specs.Bare.{IsBare, CasesBare, RowsAreBare}
 use Rattle.cast_stub.specs.Block.{Block, stop, ensure, ensure_row, align, chunk, row_copy, row_swap, row_wide, each, switch, if_there, call, patch, Cases, code_seen}
 use Rattle.cast_stub.specs.Follows.{flat, IsCount, FollowsBy, FieldsFollowBy, ArmsFollowBy}
 use Rattle.cast_stub.specs.Framed.{lead_length, IsTail}
-use Rattle.cast_stub.specs.Kept.{AddsEnsures}
+use Rattle.cast_stub.specs.Kept.{ChangesOnlyEnsures}
 use Rattle.cast_stub.specs.Layouts.{layout_of}
 use Rattle.cast_stub.specs.Subs.{no_subs}
 use Rattle.cast_stub.specs.Turned.{IsTurned}
@@ -87,7 +87,7 @@ framed_bare e t b f =
     (append_bare f.body f.tail (go_bare e t f.below [] f.body f.goes) (tail_bare f.tail f.ends)))
 
 -- code that goes through a type, with ensures added outside its loops over rows
-pub hoisted_given : (e : Encoding) (t : Ty) (given code : SendCode) → IsFramed e t (code_seen given.ops) → AddsEnsures given code
+pub hoisted_given : (e : Encoding) (t : Ty) (given code : SendCode) → IsFramed e t (code_seen given.ops) → ChangesOnlyEnsures given code
     → RowsAreBare t (code_seen code.ops) → code.subs ≡ []
     → IsGiven e t code
 hoisted_given e t given code framed adds bare none =

@@ -1,6 +1,6 @@
 //! Each call of code that receives, replaced by the code that it names.
 
-ghost use Rattle.std.specs.Prelude.{◌≡◌, ◌<◌, ◌≤◌, ◌+◌, [], length, None, OnOk, IfOk, option_map};
+ghost use Rattle.std.specs.Prelude.{◌≡◌, ◌<◌, ◌≤◌, [], length, None, OnOk, IfOk, option_map};
 ghost use Rattle.cast_stub.specs.RecvAppend.{append, rebase};
 ghost use Rattle.cast_stub.specs.RecvBlock.{finish, op_seen, code_seen, cases_seen};
 ghost use Rattle.cast_stub.specs.Got.{sub_at};

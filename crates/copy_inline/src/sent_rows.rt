@@ -6,7 +6,7 @@ ghost use Rattle.cast_stub.specs.Append.{append};
 ghost use Rattle.cast_stub.specs.Block.{stop, op_seen, code_seen, cases_seen};
 ghost use Rattle.cast_stub.specs.CallFree.{HasNoCall};
 ghost use Rattle.cast_stub.specs.PartTypes.{ty_at, present_at, arms_at};
-ghost use Rattle.copy_inline.specs.Ready.{OfType, IsTurn, LoopIs, IsReady, CasesReady};
+ghost use Rattle.copy_inline.specs.Ready.{OfType, LoopIs, IsReady, CasesReady};
 ghost use Rattle.copy_inline.specs.RowBodies.{ArmsReady, AreRowed, IsRowedBody};
 ghost use Rattle.copy_inline.specs.Rowed.{array_rowed, row_or_loop, loop_rowed, by_type, rowed, cases_rowed};
 ghost use Rattle.copy_inline.specs.Sorts.{is_image};

@@ -20,7 +20,8 @@ use Rattle.corba_types.proofs.BasesRead.{Closes}
 use Rattle.corba_types.proofs.SequencesRead.{whole, type_is, is_type}
 use Rattle.corba_members.specs.declared.tree.Declarator.{Declarator}
 use Rattle.corba_members.specs.Spelling.{declarator}
-use Rattle.corba_members.specs.Readers.{has_dimension, is_open}
+use Rattle.corba_exprs.specs.Readers.{is_open}
+use Rattle.corba_members.specs.Readers.{has_dimension}
 use Rattle.corba_members.proofs.MembersRead.{leads_type, declarator_is, declared_closes, closed}
 use Rattle.corba_decls.specs.declared.tree.Label.{Label}
 use Rattle.corba_decls.specs.declared.tree.Label.TheVariants as L

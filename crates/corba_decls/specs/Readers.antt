@@ -7,7 +7,7 @@ use Rattle.syntax_kit.specs.Reading.{Reader, word_is, word_at, mark_at, begins_w
 use Rattle.corba_exprs.specs.Trees.{Tree}
 use Rattle.corba_exprs.specs.declared.tree.Identifier.{Identifier}
 use Rattle.corba_exprs.specs.declared.tree.ScopedName.{ScopedName}
-use Rattle.corba_exprs.specs.Readers.{identifier_at, scoped_at, expression_at}
+use Rattle.corba_exprs.specs.Readers.{identifier_at, scoped_at, expression_at, is_open}
 use Rattle.corba_types.specs.declared.tree.Int.{Int}
 use Rattle.corba_types.specs.declared.tree.Base.{Base}
 use Rattle.corba_types.specs.Readers.{is_int, int_at, type_at}
@@ -15,7 +15,7 @@ use Rattle.corba_members.specs.declared.tree.Declarator.{Declarator}
 use Rattle.corba_members.specs.declared.tree.Struct.{Struct}
 use Rattle.corba_members.specs.declared.tree.Exception.{Exception}
 use Rattle.corba_members.specs.declared.tree.Enum.{Enum}
-use Rattle.corba_members.specs.Readers.{declarator_at, is_open, structure_at, exception_at, enumeration_at}
+use Rattle.corba_members.specs.Readers.{declarator_at, structure_at, exception_at, enumeration_at}
 use Rattle.corba_decls.specs.declared.tree.Tag.{Tag}
 use Rattle.corba_decls.specs.declared.tree.Tag.TheVariants as T
 use Rattle.corba_decls.specs.declared.tree.Label.{Label}

@@ -1,4 +1,5 @@
-// Typedefs, constants and declarations.
+//! Typedefs, constants and declarations.
+
 ghost use Rattle.std.specs.Prelude.{◌≡◌, ◌≤◌};
 ghost use Rattle.syntax_kit.specs.Reading.{Gives, begins_with};
 ghost use Rattle.corba_decls.specs.Readers.{aliased_at, typedef_at, constant_at, declared_at, is_declaration, declaration_at};

@@ -1,4 +1,5 @@
-// A law of declarations. The function does nothing; its contract is the law.
+//! A law of declarations. The function does nothing; its contract is the law.
+
 ghost use Rattle.std.specs.Prelude.{◌≡◌, ℕ, List};
 ghost use Rattle.idl_lex.specs.declared.kinds.TokenKind.{TokenKind};
 ghost use Rattle.corba_decls.specs.Spelling.{declaration};

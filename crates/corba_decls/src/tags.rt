@@ -1,4 +1,5 @@
-// The types of discriminators and of constants.
+//! The types of discriminators and of constants.
+
 ghost use Rattle.std.specs.Prelude.{◌≡◌};
 ghost use Rattle.syntax_kit.specs.Reading.{Gives};
 ghost use Rattle.corba_decls.specs.Readers.{tag_type_at, tag_at, constant_type_at};

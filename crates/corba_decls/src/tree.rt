@@ -1,4 +1,5 @@
-// The syntax trees of declarations.
+//! The syntax trees of declarations.
+
 use corba_exprs::{Expr, Identifier, ScopedName};
 use corba_members::{Declarator, Enum, Exception, Struct};
 use corba_types::{Int, TypeName};

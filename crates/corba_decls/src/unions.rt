@@ -1,7 +1,8 @@
-// Unions.
+//! Unions.
+
 ghost use Rattle.std.specs.Prelude.{◌≡◌, ◌≤◌};
-ghost use Rattle.syntax_kit.specs.Reading.{Gives, begins_with};
-ghost use Rattle.corba_decls.specs.Readers.{is_label, union_at};
+ghost use Rattle.syntax_kit.specs.Reading.{Gives};
+ghost use Rattle.corba_decls.specs.Readers.{union_at};
 
 use crate::tags::tag;
 use crate::tree::{Case, Label, Union};
@@ -38,7 +39,7 @@ impl Nested for Label {
 }
 
 impl Nested for Case {
-    ghost use Rattle.corba_members.specs.Readers.{is_open};
+    ghost use Rattle.corba_exprs.specs.Readers.{is_open};
     ghost use Rattle.corba_decls.specs.Readers.{case_at};
 
     ghost goes = { is_open };

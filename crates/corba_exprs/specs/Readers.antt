@@ -5,7 +5,7 @@ use Rattle.std.specs.Str.{bytes_eq}
 use Rattle.idl_lex.specs.declared.kinds.Token.{Token}
 use Rattle.idl_lex.specs.declared.kinds.TokenKind.{TokenKind}
 use Rattle.idl_lex.specs.declared.kinds.TokenKind.TheVariants as K
-use Rattle.syntax_kit.specs.Reading.{Read, Reader, then_on, mark_is, mark_at, id_at, is_id, token_at, flag_at, begins_with, both, mapped, either, behind, before, joined_at}
+use Rattle.syntax_kit.specs.Reading.{Read, Reader, then_on, mark_is, mark_at, id_at, is_id, token_at, flag_at, begins_with, begins_other, both, mapped, either, behind, before, joined_at}
 use Rattle.idl_const.specs.declared.tree.UnaryOp.{UnaryOp}
 use Rattle.idl_const.specs.declared.tree.UnaryOp.TheVariants as U
 use Rattle.idl_const.specs.declared.tree.BinaryOp.{BinaryOp}
@@ -33,6 +33,10 @@ identifier_at = mapped identifier_of (id_at corba_words)
 
 abbrev pub scoped_of : Bool × List Identifier → ScopedName
 scoped_of x = record { absolute = x.0; parts = x.1 }
+
+-- whether something else than `}` comes first
+abbrev pub is_open : List Token → Bool
+is_open = begins_other (mark_is (codes "}"))
 
 -- a scoped name
 unfoldable pub scoped_at : Reader ScopedName

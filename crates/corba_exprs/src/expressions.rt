@@ -1,4 +1,5 @@
-// Expressions.
+//! Expressions.
+
 ghost use Rattle.std.specs.Prelude.{◌≡◌, ◌≤◌, ◌<◌, ◌+◌, ◌-◌, IfOk};
 ghost use Rattle.syntax_kit.specs.Reading.{Gives};
 ghost use Rattle.corba_exprs.specs.Readers.{within_at, primary_at, climb, expression_at};

@@ -1,4 +1,5 @@
-// Literals, and the leaves of an expression.
+//! Literals, and the leaves of an expression.
+
 ghost use Rattle.std.specs.Prelude.{◌≡◌};
 ghost use Rattle.syntax_kit.specs.Reading.{Gives, begins_with, token_at};
 ghost use Rattle.corba_exprs.specs.Readers.{is_literal, literal_in, leaf_at};

@@ -1,4 +1,5 @@
-// Identifiers and scoped names.
+//! Identifiers and scoped names.
+
 ghost use Rattle.std.specs.Prelude.{◌≡◌, IfOk};
 ghost use Rattle.syntax_kit.specs.Reading.{Gives, begins_with};
 ghost use Rattle.corba_exprs.specs.Words.{plain};

@@ -1,4 +1,5 @@
-// Operators, and what follows a whole type.
+//! Operators, and what follows a whole type.
+
 ghost use Rattle.std.specs.Prelude.{◌≡◌, drop, IfErr};
 ghost use Rattle.syntax_kit.specs.Reading.{Gives, begins_with, token_at};
 ghost use Rattle.corba_exprs.specs.Spelling.{looseness};

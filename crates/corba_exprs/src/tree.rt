@@ -1,4 +1,5 @@
-// The syntax tree of an expression.
+//! The syntax tree of an expression.
+
 ghost use Rattle.std.specs.Prelude.{◌≡◌, IfOk};
 ghost use Rattle.corba_exprs.specs.Trees.{leaf, unary, binary};
 

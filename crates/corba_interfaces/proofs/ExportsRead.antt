@@ -9,7 +9,7 @@ use Rattle.syntax_kit.proofs.Grammars.{mapped_is, either_is, many_is}
 use Rattle.syntax_kit.proofs.Leaves.{mark_reads, mark_named, leads_mark, Apart, apart_or, apart_word, apart_mark, leads_both, leads_either, begins_so, begins_not, begins_else}
 use Rattle.syntax_kit.proofs.Productions.{weaker, before_is, leads_by}
 use Rattle.syntax_kit.proofs.Lists.{turns}
-use Rattle.corba_exprs.specs.Readers.{is_joint}
+use Rattle.corba_exprs.specs.Readers.{is_joint, is_open}
 use Rattle.corba_decls.specs.declared.tree.Declaration.{Declaration}
 use Rattle.corba_decls.specs.Spelling.{declaration}
 use Rattle.corba_decls.specs.Readers.{is_declaration}
@@ -23,7 +23,7 @@ use Rattle.corba_operations.proofs.OperationsRead.{OperationMay, operation_is, i
 use Rattle.corba_interfaces.specs.declared.tree.Export.{Export}
 use Rattle.corba_interfaces.specs.declared.tree.Export.TheVariants as E
 use Rattle.corba_interfaces.specs.Spelling.{exported, export}
-use Rattle.corba_interfaces.specs.Readers.{exported_of, exported_at, export_at, is_open}
+use Rattle.corba_interfaces.specs.Readers.{exported_of, exported_at, export_at}
 
 apart_semicolon : Apart (mark_is (codes ";")) is_joint
 apart_semicolon k e = let is = mark_named (codes ";") k e in rw is refl

@@ -17,7 +17,8 @@ use Rattle.corba_operations.proofs.PartsRead.{any_is, reference_is}
 use Rattle.corba_interfaces.specs.declared.tree.Export.{Export}
 use Rattle.corba_interfaces.specs.declared.tree.Interface.{Interface}
 use Rattle.corba_interfaces.specs.Spelling.{export, bases, interface}
-use Rattle.corba_interfaces.specs.Readers.{is_open, bases_at, interface_of, interface_at}
+use Rattle.corba_exprs.specs.Readers.{is_open}
+use Rattle.corba_interfaces.specs.Readers.{bases_at, interface_of, interface_at}
 use Rattle.corba_interfaces.proofs.ExportsRead.{exports_is}
 
 -- a `{`, and so no base

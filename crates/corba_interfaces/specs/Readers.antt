@@ -1,10 +1,9 @@
 -- What each function of the parser reads: a tool beside Spelling, tied to it in proofs/.
-use Rattle.std.specs.Prelude.{Bool, ◌⊎◌, ℕ, List, codes}
+use Rattle.std.specs.Prelude.{◌⊎◌, ℕ, List, codes}
 use Rattle.std.proofs.Common.{inl, inr}
-use Rattle.idl_lex.specs.declared.kinds.Token.{Token}
-use Rattle.syntax_kit.specs.Reading.{Reader, mark_is, word_at, mark_at, begins_with, begins_other, both, mapped, either, behind, before, many, joined_at}
+use Rattle.syntax_kit.specs.Reading.{Reader, mark_is, word_at, mark_at, begins_with, both, mapped, either, behind, before, many, joined_at}
 use Rattle.corba_exprs.specs.declared.tree.Identifier.{Identifier}
-use Rattle.corba_exprs.specs.Readers.{identifier_at}
+use Rattle.corba_exprs.specs.Readers.{identifier_at, is_open}
 use Rattle.corba_decls.specs.declared.tree.Declaration.{Declaration}
 use Rattle.corba_decls.specs.Readers.{is_declaration, declaration_at}
 use Rattle.corba_operations.specs.declared.tree.Reference.{Reference}
@@ -28,10 +27,6 @@ exported_at n = mapped exported_of
 -- what is declared, and its end
 unfoldable pub export_at : ℕ → Reader Export
 export_at n = before (exported_at n) (mark_at (codes ";"))
-
--- whether something else than `}` comes first
-abbrev pub is_open : List Token → Bool
-is_open = begins_other (mark_is (codes "}"))
 
 -- the interfaces that are inherited from; none where no `:` comes first
 unfoldable pub bases_at : ℕ → Reader (List Reference)

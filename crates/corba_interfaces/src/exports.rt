@@ -1,8 +1,8 @@
-// What an interface declares.
+//! What an interface declares.
+
 ghost use Rattle.std.specs.Prelude.{◌≡◌, ◌≤◌};
-ghost use Rattle.syntax_kit.specs.Reading.{Gives, begins_with};
+ghost use Rattle.syntax_kit.specs.Reading.{Gives};
 ghost use Rattle.corba_interfaces.specs.Readers.{exported_at};
-ghost use Rattle.corba_operations.specs.Readers.{is_attribute};
 
 use crate::tree::Export;
 use corba_decls::{begins_declaration, declaration};
@@ -30,7 +30,8 @@ fn exported(alloc: Global, levels: u32, tokens: &[Token]) -> Result<(Export, &[T
 }
 
 impl Nested for Export {
-    ghost use Rattle.corba_interfaces.specs.Readers.{is_open, export_at};
+    ghost use Rattle.corba_exprs.specs.Readers.{is_open};
+    ghost use Rattle.corba_interfaces.specs.Readers.{export_at};
 
     ghost goes = { is_open };
 

@@ -1,4 +1,5 @@
-// Interfaces.
+//! Interfaces.
+
 ghost use Rattle.std.specs.Prelude.{◌≡◌, ◌≤◌};
 ghost use Rattle.syntax_kit.specs.Reading.{Gives};
 ghost use Rattle.corba_interfaces.specs.Readers.{bases_at, interface_at};

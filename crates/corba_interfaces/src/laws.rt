@@ -1,4 +1,5 @@
-// A law of interfaces. The function does nothing; its contract is the law.
+//! A law of interfaces. The function does nothing; its contract is the law.
+
 ghost use Rattle.std.specs.Prelude.{◌≡◌, ℕ, List};
 ghost use Rattle.idl_lex.specs.declared.kinds.Token.{Token};
 ghost use Rattle.syntax_kit.specs.Grammar.{kinds};

@@ -1,4 +1,5 @@
-// The syntax tree of an interface.
+//! The syntax tree of an interface.
+
 use corba_decls::Declaration;
 use corba_exprs::Identifier;
 use corba_operations::{Attribute, Operation, Reference};

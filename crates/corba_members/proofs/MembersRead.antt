@@ -13,7 +13,7 @@ use Rattle.syntax_kit.proofs.Lists.{turns, joined_is, some_is}
 use Rattle.corba_exprs.specs.Trees.{Tree}
 use Rattle.corba_exprs.specs.declared.tree.Identifier.{Identifier}
 use Rattle.corba_exprs.specs.Spelling.{identifier, expression}
-use Rattle.corba_exprs.specs.Readers.{is_identifier, is_joint}
+use Rattle.corba_exprs.specs.Readers.{is_identifier, is_joint, is_open}
 use Rattle.corba_exprs.proofs.LeavesRead.{identifier_is, leads_identifier}
 use Rattle.corba_exprs.proofs.Again.{May}
 use Rattle.corba_exprs.proofs.ExpressionsRead.{expression_is}
@@ -27,7 +27,7 @@ use Rattle.corba_members.specs.declared.tree.Struct.{Struct}
 use Rattle.corba_members.specs.declared.tree.Exception.{Exception}
 use Rattle.corba_members.specs.declared.tree.Enum.{Enum}
 use Rattle.corba_members.specs.Spelling.{dimension, declarator, member, structure, exception, enumeration}
-use Rattle.corba_members.specs.Readers.{dimension_of, dimension_at, has_dimension, declarator_of, declarator_at, member_of, member_at, is_open, structure_of, structure_at, exception_of, exception_at, enumeration_of, enumeration_at}
+use Rattle.corba_members.specs.Readers.{dimension_of, dimension_at, has_dimension, declarator_of, declarator_at, member_of, member_at, structure_of, structure_at, exception_of, exception_at, enumeration_of, enumeration_at}
 
 before_bracket : (front rest : List Token) → mark (codes "]") (kinds front) → May false 6 (front ++ rest)
 before_bracket front rest s =

@@ -1,10 +1,10 @@
 -- What each function of the parser reads: a tool beside Spelling, tied to it in proofs/.
 use Rattle.std.specs.Prelude.{ℕ, Bool, false, List, Option, codes}
 use Rattle.idl_lex.specs.declared.kinds.Token.{Token}
-use Rattle.syntax_kit.specs.Reading.{Reader, mark_is, word_at, mark_at, begins_with, begins_other, both, mapped, behind, before, many, some_at, joined_at}
+use Rattle.syntax_kit.specs.Reading.{Reader, mark_is, word_at, mark_at, begins_with, both, mapped, behind, before, many, some_at, joined_at}
 use Rattle.corba_exprs.specs.Trees.{Tree}
 use Rattle.corba_exprs.specs.declared.tree.Identifier.{Identifier}
-use Rattle.corba_exprs.specs.Readers.{identifier_at, expression_at}
+use Rattle.corba_exprs.specs.Readers.{identifier_at, expression_at, is_open}
 use Rattle.corba_types.specs.declared.tree.Base.{Base}
 use Rattle.corba_types.specs.Readers.{type_at}
 use Rattle.corba_members.specs.declared.tree.Dimension.{Dimension}
@@ -38,10 +38,6 @@ member_of x = record { of = x.0; declarators = x.1 }
 -- a member
 unfoldable pub member_at : ℕ → Reader Member
 member_at n = mapped member_of (both (type_at n) (before (joined_at (codes ",") (declarator_at n)) (mark_at (codes ";"))))
-
--- whether something else than `}` comes first
-abbrev pub is_open : List Token → Bool
-is_open = begins_other (mark_is (codes "}"))
 
 abbrev pub structure_of : Identifier × List Member → Struct
 structure_of x = record { name = x.0; members = x.1 }

@@ -1,4 +1,5 @@
-// Structs, exceptions and enumerations.
+//! Structs, exceptions and enumerations.
+
 ghost use Rattle.std.specs.Prelude.{◌≡◌, ◌≤◌};
 ghost use Rattle.syntax_kit.specs.Reading.{Gives};
 ghost use Rattle.corba_members.specs.Readers.{structure_at, exception_at, enumeration_at};

@@ -1,4 +1,5 @@
-// Declarators and members.
+//! Declarators and members.
+
 ghost use Rattle.std.specs.Prelude.{◌≡◌};
 
 use crate::tree::{Declarator, Dimension, Member};
@@ -31,7 +32,8 @@ impl Nested for Dimension {
 }
 
 impl Nested for Declarator {
-    ghost use Rattle.corba_members.specs.Readers.{is_open, declarator_at};
+    ghost use Rattle.corba_exprs.specs.Readers.{is_open};
+    ghost use Rattle.corba_members.specs.Readers.{declarator_at};
 
     ghost goes = { is_open };
 
@@ -50,7 +52,8 @@ impl Nested for Declarator {
 }
 
 impl Nested for Member {
-    ghost use Rattle.corba_members.specs.Readers.{is_open, member_at};
+    ghost use Rattle.corba_exprs.specs.Readers.{is_open};
+    ghost use Rattle.corba_members.specs.Readers.{member_at};
 
     ghost goes = { is_open };
 

@@ -1,4 +1,5 @@
-// The syntax trees of declarators, and of what is made of members.
+//! The syntax trees of declarators, and of what is made of members.
+
 use corba_exprs::{Expr, Identifier};
 use corba_types::TypeName;
 use kit_base::Listed;

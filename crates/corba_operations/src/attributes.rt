@@ -1,4 +1,5 @@
-// Attributes.
+//! Attributes.
+
 ghost use Rattle.std.specs.Prelude.{◌≡◌, ◌≤◌};
 ghost use Rattle.syntax_kit.specs.Reading.{Gives, begins_with};
 ghost use Rattle.corba_operations.specs.Readers.{is_attribute, attribute_at};

@@ -1,4 +1,5 @@
-// Names that refer to interfaces and exceptions.
+//! Names that refer to interfaces and exceptions.
+
 ghost use Rattle.std.specs.Prelude.{◌≡◌, ◌≤◌};
 
 use crate::tree::Reference;

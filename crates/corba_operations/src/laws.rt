@@ -1,4 +1,5 @@
-// Laws of attributes and operations. Each function does nothing; its contract is the law.
+//! Laws of attributes and operations. Each function does nothing; its contract is the law.
+
 ghost use Rattle.std.specs.Prelude.{◌≡◌, ℕ, List};
 ghost use Rattle.idl_lex.specs.declared.kinds.Token.{Token};
 ghost use Rattle.syntax_kit.specs.Grammar.{kinds};

@@ -1,4 +1,5 @@
-// Operations.
+//! Operations.
+
 ghost use Rattle.std.specs.Prelude.{◌≡◌, ◌≤◌, ◌-◌, IfErr};
 ghost use Rattle.syntax_kit.specs.Reading.{Gives, token_at};
 ghost use Rattle.corba_operations.specs.Readers.{direction_in, parameters_at, result_at, raises_at, operation_at};

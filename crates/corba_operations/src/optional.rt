@@ -1,4 +1,5 @@
-// Parts that may be missing.
+//! Parts that may be missing.
+
 ghost use Rattle.std.specs.Prelude.{◌≡◌, Some};
 ghost use Rattle.syntax_kit.specs.Reading.{word_is, flag_at};
 

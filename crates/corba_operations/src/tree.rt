@@ -1,4 +1,5 @@
-// The syntax trees of attributes and operations.
+//! The syntax trees of attributes and operations.
+
 use corba_exprs::{Identifier, ScopedName};
 use corba_types::TypeName;
 use kit_base::Listed;

@@ -52,6 +52,13 @@ clash s scope name =
 abbrev pub declared : List ℕ → List ℕ → Meaning → Names → Names
 declared scope name m s = record s { meanings = s.meanings ++ (scope ++ name, m) ∷ []; folded = s.folded ++ (scope ++ lower name) ∷ [] }
 
+-- the lower of two faults of one identifier: Twice is lower than CaseClash
+abbrev pub lower_of : Option NameFault → Option NameFault → Option NameFault
+lower_of None g = g
+lower_of (Some f) None = Some f
+lower_of (Some Twice) (Some g) = Some Twice
+lower_of (Some f) (Some g) = Some g
+
 -- nothing, or the fault of a declaration
 abbrev pub refused_by : ℕ → Option NameFault → Answer (Unit {0})
 refused_by d None = Ok tt

@@ -1,5 +1,6 @@
-// The prefixes of scopes, and the scopes around a place.
-ghost use Rattle.std.specs.Prelude.{◌≡◌, ◌++◌, ◌∷◌, [], IfOk, OnOk, drop};
+//! The prefixes of scopes, and the scopes around a place.
+
+ghost use Rattle.std.specs.Prelude.{◌≡◌, ◌++◌, [], IfOk, OnOk};
 ghost use Rattle.corba_scopes.specs.Around.{file, prefix_of, innermost, inside};
 
 use kit_base::{Listed, Name, NoMemory};

@@ -1,4 +1,5 @@
-// The values of constant expressions.
+//! The values of constant expressions.
+
 ghost use Rattle.std.specs.Prelude.{◌≡◌};
 ghost use Rattle.name_kit.specs.Answers.{Gives};
 ghost use Rattle.corba_scopes.specs.Consts.{number_of, leaf_number, in_range, number, constant, length_of};

@@ -1,4 +1,5 @@
-// How names are found.
+//! How names are found.
+
 ghost use Rattle.std.specs.Prelude.{◌≡◌, ◌++◌, map, IfOk};
 ghost use Rattle.corba_scopes.specs.Finding.{entry_at, first_in, found, sought, within, first, named};
 

@@ -3,6 +3,7 @@
 #![tactic(auto)]
 
 mod around;
+mod clashes;
 mod consts;
 mod finding;
 mod lines;
@@ -11,6 +12,7 @@ mod state;
 mod tables;
 
 pub use around::{Env, full_name, innermost, inside, of_file, prefix_of};
+pub use clashes::{lower_of, refuse_fault};
 pub use lines::Line;
 pub use meanings::{Constant, Entry, Meaning};
 pub use name_kit::{Tag, Use};

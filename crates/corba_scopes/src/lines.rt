@@ -1,4 +1,5 @@
-// The scopes of interfaces, each with those in which its names are found.
+//! The scopes of interfaces, each with those in which its names are found.
+
 ghost use Rattle.std.specs.Prelude.{◌≡◌, ◌∷◌, [], map, IfOk, OnOk, option_copied};
 ghost use Rattle.corba_scopes.specs.Names.{look_up, put};
 ghost use Rattle.corba_scopes.specs.Finding.{added, joined};

@@ -1,4 +1,5 @@
-// What names stand for.
+//! What names stand for.
+
 ghost use Rattle.std.specs.Prelude.{◌≡◌};
 ghost use Rattle.corba_scopes.specs.Consts.{meaning_of_constant};
 

@@ -1,10 +1,12 @@
-// The names of a file, and how one is declared.
-ghost use Rattle.std.specs.Prelude.{◌≡◌, ◌++◌, None, IfOk, OnOk};
+//! The names of a file, and how one is declared.
+
+ghost use Rattle.std.specs.Prelude.{◌≡◌, None, IfOk, OnOk};
 ghost use Rattle.name_kit.specs.Answers.{Gives};
 ghost use Rattle.corba_scopes.specs.Names.{nothing, clash, declared, declared_on, refused_by};
 ghost use Rattle.corba_scopes.specs.Finding.{with_base, with_line};
 
 use crate::around::full_name;
+use crate::clashes::refuse_fault;
 use crate::lines::{Line, Lines};
 use crate::meanings::Meaning;
 use crate::tables::{Table, lower};
@@ -90,10 +92,8 @@ impl Scopes {
     ) -> Result<(), NameErr>
         ensures { Gives (λ x. x) result (refused_by decl (clash self.now scope.now name.now)) }
     {
-        match self.clash(alloc, scope, name)? {
-            Some(fault) => Err(NameErr { fault, decl }),
-            None => Ok(()),
-        }
+        let fault = self.clash(alloc, scope, name)?;
+        refuse_fault(decl, fault)
     }
 
     /// Declares a name that clashes with none.

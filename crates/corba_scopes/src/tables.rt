@@ -1,4 +1,5 @@
-// Full names in the order of their declarations.
+//! Full names in the order of their declarations.
+
 ghost use Rattle.std.specs.Prelude.{◌≡◌, ◌++◌, ◌∷◌, [], false, IfOk, OnOk};
 ghost use Rattle.corba_scopes.specs.Names.{is_declared, look_up, lower};
 

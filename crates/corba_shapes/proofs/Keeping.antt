@@ -35,7 +35,7 @@ use Rattle.corba_scopes.specs.declared.meanings.Meaning.{Meaning}
 use Rattle.corba_scopes.specs.declared.meanings.Meaning.TheVariants as M
 use Rattle.corba_scopes.specs.declared.meanings.Constant.{Constant}
 use Rattle.corba_scopes.specs.declared.meanings.Constant.TheVariants as V
-use Rattle.corba_scopes.specs.Names.{Names, clash, refused_by, declared_on}
+use Rattle.corba_scopes.specs.Names.{Names, clash, refused_by, declared_on, lower_of}
 use Rattle.corba_scopes.specs.Around.{innermost, inside}
 use Rattle.corba_scopes.specs.Consts.{constant, meaning_of_constant}
 use Rattle.corba_shapes.specs.declared.forms.Form.{Form}
@@ -43,7 +43,7 @@ use Rattle.corba_shapes.specs.Forms.{type_form, form_shape, form_tag, form_text}
 use Rattle.corba_shapes.specs.State.{State, start, counted, with_type}
 use Rattle.corba_shapes.specs.Fields.{lengths_on, Body, members_on}
 use Rattle.corba_shapes.specs.Structs.{struct_on, raised, exception_on}
-use Rattle.corba_shapes.specs.Enums.{item_clash, lower_of, Items, items_on, enum_on}
+use Rattle.corba_shapes.specs.Enums.{item_clash, Items, items_on, enum_on}
 use Rattle.corba_shapes.specs.Unions.{tag_use, is_no_tag, Cases, cases_on, union_shape, union_on}
 use Rattle.corba_shapes.specs.Aliases.{next_form, aliased_on, alias_on, aliases_on, typedef_on}
 use Rattle.corba_shapes.specs.Constants.{constant_core, is_no_constant, fits, constant_on}

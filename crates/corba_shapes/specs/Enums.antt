@@ -10,7 +10,7 @@ use Rattle.name_kit.specs.Labels.{labelled}
 use Rattle.corba_exprs.specs.declared.tree.Identifier.{Identifier}
 use Rattle.corba_members.specs.declared.tree.Enum.{Enum}
 use Rattle.corba_scopes.specs.declared.meanings.Meaning.TheVariants as M
-use Rattle.corba_scopes.specs.Names.{Names, lower, clash, refused_by, declared_on}
+use Rattle.corba_scopes.specs.Names.{Names, lower, clash, lower_of, refused_by, declared_on}
 use Rattle.corba_scopes.specs.Around.{innermost}
 use Rattle.corba_shapes.specs.State.{State, with_type}
 
@@ -20,13 +20,6 @@ item_clash name items =
     if has name (map (λ i. i.name) items) then Some Twice
     else if has (lower name) (map (λ i. lower i.name) items) then Some CaseClash
     else None
-
--- the lower of two faults of one identifier: Twice is lower than CaseClash
-abbrev pub lower_of : Option NameFault → Option NameFault → Option NameFault
-lower_of None g = g
-lower_of (Some f) None = Some f
-lower_of (Some Twice) (Some g) = Some Twice
-lower_of (Some f) (Some g) = Some g
 
 -- the names and numbers so far, and the items
 pub record Items : Type 0 where

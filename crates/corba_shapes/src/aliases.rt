@@ -1,9 +1,10 @@
-// Typedefs.
+//! Typedefs.
+
 ghost use Rattle.std.specs.Prelude.{◌≡◌, None};
 ghost use Rattle.name_kit.specs.Answers.{Gives};
 ghost use Rattle.corba_shapes.specs.Held.{state};
 ghost use Rattle.corba_shapes.specs.Forms.{single};
-ghost use Rattle.corba_shapes.specs.Aliases.{next_form, aliased_on, alias_on, aliases_on, typedef_on};
+ghost use Rattle.corba_shapes.specs.Aliases.{aliased_on, alias_on, aliases_on, typedef_on};
 
 use crate::enums::enum_;
 use crate::fields::lengths;

@@ -1,4 +1,5 @@
-// Constants.
+//! Constants.
+
 ghost use Rattle.std.specs.Prelude.{◌≡◌};
 ghost use Rattle.name_kit.specs.Answers.{Gives};
 ghost use Rattle.corba_shapes.specs.Held.{state};

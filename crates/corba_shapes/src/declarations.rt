@@ -1,5 +1,5 @@
-// Declarations.
-ghost use Rattle.std.specs.Prelude.{◌≡◌};
+//! Declarations.
+
 ghost use Rattle.name_kit.specs.Answers.{Gives};
 ghost use Rattle.corba_shapes.specs.Held.{state};
 ghost use Rattle.corba_shapes.specs.Declarations.{declaration_on};

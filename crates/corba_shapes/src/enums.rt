@@ -1,16 +1,17 @@
-// Enumerations.
-ghost use Rattle.std.specs.Prelude.{◌≡◌, [], ◌∷◌, map, IfOk, OnOk};
+//! Enumerations.
+
+ghost use Rattle.std.specs.Prelude.{◌≡◌, [], map, IfOk};
 ghost use Rattle.name_kit.specs.Answers.{Gives};
 ghost use Rattle.name_kit.specs.Names.{has};
-ghost use Rattle.corba_scopes.specs.Names.{lower, refused_by, clash};
+ghost use Rattle.corba_scopes.specs.Names.{lower, lower_of, refused_by, clash};
 ghost use Rattle.corba_shapes.specs.Held.{state};
-ghost use Rattle.corba_shapes.specs.Enums.{item_clash, lower_of, items_on, enum_on};
+ghost use Rattle.corba_shapes.specs.Enums.{item_clash, items_on, enum_on};
 
 use crate::state::{Shapes, want};
 use aoi::{Items, NameErr, NameFault};
 use corba_exprs::Identifier;
 use corba_members::Enum;
-use corba_scopes::{Meaning, Scopes, innermost};
+use corba_scopes::{Meaning, Scopes, innermost, lower_of, refuse_fault};
 use indexmap::IndexSet;
 use kit_base::{Name, NoMemory};
 use name_kit::{Tag, add_label, enum_of};
@@ -59,18 +60,6 @@ fn item_clash(
     Ok(None)
 }
 
-/// The lower of two faults of one identifier: Twice is lower than CaseClash.
-fn lower_of(f: Option<NameFault>, g: Option<NameFault>) -> Option<NameFault>
-    ensures { result ≡ lower_of f g }
-{
-    match (f, g) {
-        (None, g) => g,
-        (Some(f), None) => Some(f),
-        (Some(NameFault::Twice), Some(_)) => Some(NameFault::Twice),
-        (Some(_), Some(g)) => Some(g),
-    }
-}
-
 /// Refuses the name of an enum that clashes in its scope or with an item.
 fn refuse_name(
     alloc: Global,
@@ -85,10 +74,7 @@ fn refuse_name(
 {
     let f = scopes.clash(alloc, scope, name)?;
     let g = item_clash(alloc, name, items)?;
-    match lower_of(f, g) {
-        Some(fault) => Err(NameErr { fault, decl: d }),
-        None => Ok(()),
-    }
+    refuse_fault(d, lower_of(f, g))
 }
 
 /// An item of an enum: its name and its number.

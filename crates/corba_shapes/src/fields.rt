@@ -1,4 +1,5 @@
-// The fields of structs and exceptions.
+//! The fields of structs and exceptions.
+
 ghost use Rattle.std.specs.Prelude.{◌≡◌, [], map, IfOk};
 ghost use Rattle.aoi.specs.Shapes.{seen_field};
 ghost use Rattle.name_kit.specs.Answers.{Gives};

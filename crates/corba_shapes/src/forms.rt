@@ -1,10 +1,11 @@
-// The types that are used.
+//! The types that are used.
+
 ghost use Rattle.std.specs.Prelude.{◌≡◌, IfOk};
 ghost use Rattle.aoi.specs.Shapes.{seen};
 ghost use Rattle.name_kit.specs.Answers.{Gives};
 ghost use Rattle.corba_shapes.specs.Forms.{kind_of, number_core, type_of_entry, named_type, named_core};
 ghost use Rattle.corba_shapes.specs.Forms.{simple_core, bounded, base_core, single, type_form};
-ghost use Rattle.corba_shapes.specs.Forms.{core_shape, rowed, arrayed, form_shape};
+ghost use Rattle.corba_shapes.specs.Forms.{core_shape, rowed, form_shape};
 ghost use Rattle.corba_shapes.specs.Forms.{is_row, core_tag, core_text, form_tag, form_text};
 
 use aoi::{NameErr, NameFault, Ty};

@@ -1,4 +1,5 @@
-// A law of the trees that the grammar gives. The function does nothing; its contract is the law.
+//! A law of the trees that the grammar gives. The function does nothing; its contract is the law.
+
 ghost use Rattle.std.specs.Prelude.{◌≡◌, ℕ, List, true};
 ghost use Rattle.idl_lex.specs.declared.kinds.TokenKind.{TokenKind};
 ghost use Rattle.corba_decls.specs.declared.tree.Declaration.{Declaration as DeclarationTree};

@@ -1,4 +1,5 @@
-// Structs and exceptions.
+//! Structs and exceptions.
+
 ghost use Rattle.std.specs.Prelude.{◌≡◌, ◌++◌, map, IfOk, OnOk};
 ghost use Rattle.aoi.specs.Shapes.{members};
 ghost use Rattle.aoi.specs.Plain.{plain_raise};

@@ -1,4 +1,5 @@
-// The types of a file, before its interfaces.
+//! The types of a file, before its interfaces.
+
 ghost use Rattle.std.specs.Prelude.{◌≡◌, ◌<◌, ◌^◌, [], ◌∷◌, ◌++◌, length, OnOk, OnErr};
 
 use aoi::{Ty, Unit};

@@ -1,4 +1,5 @@
-// Unions.
+//! Unions.
+
 ghost use Rattle.std.specs.Prelude.{◌≡◌, [], ◌++◌, None, true, false, IfOk, OnOk};
 ghost use Rattle.std.specs.Option.{option_map, unwrap_or, is_some};
 ghost use Rattle.aoi.specs.Shapes.{seen, void, choice, default, arms_of};
@@ -8,7 +9,7 @@ ghost use Rattle.name_kit.specs.Arms.{arms_for, arms_held};
 ghost use Rattle.corba_shapes.specs.Held.{state};
 ghost use Rattle.corba_shapes.specs.Forms.{form_shape};
 ghost use Rattle.corba_shapes.specs.Unions.{tag_use, is_no_tag, label_on, labels_on};
-ghost use Rattle.corba_shapes.specs.Unions.{other_with, case_on, cases_on, union_shape, union_on};
+ghost use Rattle.corba_shapes.specs.Unions.{other_with, case_on, cases_on, union_on};
 
 use crate::fields::placed;
 use crate::forms::{Form, form_ty, kind_of, named_type, type_form};

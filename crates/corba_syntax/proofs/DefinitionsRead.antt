@@ -24,7 +24,8 @@ use Rattle.corba_syntax.specs.declared.tree.Definition.TheVariants as V
 use Rattle.corba_syntax.specs.declared.tree.Definition.TheViews.{roll-Definition, roll-out-Definition, roll-out-Module, out-roll-Module}
 use Rattle.corba_syntax.specs.declared.tree.Module.{Module, out-Module}
 use Rattle.corba_syntax.specs.Derivation.{module_text, definition_text, definition, outermost}
-use Rattle.corba_syntax.specs.Readers.{is_open, declared_at, module_of, module_at, definition_of, definition_at, outermost_at}
+use Rattle.corba_exprs.specs.Readers.{is_open}
+use Rattle.corba_syntax.specs.Readers.{declared_at, module_of, module_at, definition_of, definition_at, outermost_at}
 
 abbrev end_text : Text
 end_text = mark (codes "}") & mark (codes ";")

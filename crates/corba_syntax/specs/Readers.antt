@@ -1,9 +1,8 @@
 -- What each function of the parser reads: a tool beside Derivation, tied to it in proofs/.
-use Rattle.std.specs.Prelude.{Bool, ◌⊎◌, ℕ, zero, suc, List, None, codes}
+use Rattle.std.specs.Prelude.{◌⊎◌, ℕ, zero, suc, List, None, codes}
 use Rattle.std.proofs.Common.{inl, inr}
-use Rattle.idl_lex.specs.declared.kinds.Token.{Token}
-use Rattle.syntax_kit.specs.Reading.{Reader, word_is, mark_is, word_at, mark_at, begins_with, begins_other, both, mapped, either, behind, before, many}
-use Rattle.corba_exprs.specs.Readers.{identifier_at}
+use Rattle.syntax_kit.specs.Reading.{Reader, word_is, word_at, mark_at, begins_with, both, mapped, either, behind, before, many}
+use Rattle.corba_exprs.specs.Readers.{identifier_at, is_open}
 use Rattle.corba_decls.specs.Readers.{declaration_at}
 use Rattle.corba_interfaces.specs.Readers.{interface_at}
 use Rattle.corba_exprs.specs.declared.tree.Identifier.{Identifier}
@@ -12,10 +11,6 @@ use Rattle.corba_interfaces.specs.declared.tree.Interface.{Interface}
 use Rattle.corba_syntax.specs.declared.tree.Definition.{Definition}
 use Rattle.corba_syntax.specs.declared.tree.Definition.TheVariants as V
 use Rattle.corba_syntax.specs.declared.tree.Module.{Module, roll-Module}
-
--- whether something else than `}` comes first
-abbrev pub is_open : List Token → Bool
-is_open = begins_other (mark_is (codes "}"))
 
 -- a declaration, and its end
 abbrev pub declared_at : ℕ → Reader Declaration

@@ -1,7 +1,9 @@
-// Definitions.
+//! Definitions.
+
 ghost use Rattle.std.specs.Prelude.{◌≡◌, ◌≤◌, ◌<◌, ◌+◌};
-ghost use Rattle.syntax_kit.specs.Reading.{Gives, before, mark_at, many};
-ghost use Rattle.corba_syntax.specs.Readers.{is_open, declared_at, module_at, definition_by, definition_at, outermost_at};
+ghost use Rattle.syntax_kit.specs.Reading.{Gives, before, many};
+ghost use Rattle.corba_exprs.specs.Readers.{is_open};
+ghost use Rattle.corba_syntax.specs.Readers.{declared_at, module_at, definition_by, definition_at, outermost_at};
 
 use crate::tree::{Definition, Module};
 use corba_decls::{Declaration, declaration};

@@ -1,4 +1,5 @@
-// The syntax tree of a file.
+//! The syntax tree of a file.
+
 use corba_decls::Declaration;
 use corba_exprs::Identifier;
 use corba_interfaces::Interface;

@@ -1,4 +1,5 @@
-// Integer types.
+//! Integer types.
+
 ghost use Rattle.std.specs.Prelude.{◌≡◌, IfErr};
 ghost use Rattle.syntax_kit.specs.Reading.{Gives, begins_with};
 ghost use Rattle.corba_types.specs.Readers.{is_int, size_at, int_at};

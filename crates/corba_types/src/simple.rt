@@ -1,4 +1,5 @@
-// Types of one word.
+//! Types of one word.
+
 ghost use Rattle.std.specs.Prelude.{◌≡◌, IfErr};
 ghost use Rattle.syntax_kit.specs.Reading.{Gives, begins_with, token_at};
 ghost use Rattle.corba_types.specs.Readers.{simple_in, is_simple, is_long_double, close_in};

@@ -1,4 +1,5 @@
-// The syntax tree of a type.
+//! The syntax tree of a type.
+
 ghost use Rattle.std.specs.Prelude.{◌≡◌, List, [], ◌∷◌, Option, IfOk};
 
 use corba_exprs::{Expr, ScopedName};

@@ -1,4 +1,5 @@
-// Types.
+//! Types.
+
 ghost use Rattle.std.specs.Prelude.{◌≡◌, ◌≤◌, ◌<◌, ◌+◌};
 ghost use Rattle.syntax_kit.specs.Reading.{Gives};
 ghost use Rattle.corba_types.specs.Readers.{plain_at, string_at, base_at, bound_at, type_by, shared_at, type_at};

@@ -1,4 +1,5 @@
-// Names to be found.
+//! Names to be found.
+
 ghost use Rattle.std.specs.Prelude.{◌≡◌, ◌≤◌, ◌+◌, ◌/◌, ◌<◌, ◌^◌, IfOk, OnOk, List, ℕ, Some, length, if◌then◌else◌};
 ghost use Rattle.std.specs.BTreeMap.{IsEmpty};
 ghost use Rattle.demux.specs.Places.{FindsPlaces, place_in};

@@ -1,4 +1,5 @@
-// Names, read a word at a time.
+//! Names, read a word at a time.
+
 ghost use Rattle.std.specs.Prelude.{◌≡◌, ◌≤◌, ◌*◌, length};
 ghost use Rattle.kit_base.specs.Causes.{raised};
 ghost use Rattle.demux.specs.Names.{first_word, word_at};

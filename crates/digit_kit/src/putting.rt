@@ -1,4 +1,5 @@
-// Digits after other octets.
+//! Digits after other octets.
+
 ghost use Rattle.std.specs.Prelude.{◌≡◌, ◌++◌, OnOk};
 ghost use Rattle.hex.specs.Hex.{encode_lower};
 

@@ -1,4 +1,5 @@
-// Digits from octets.
+//! Digits from octets.
+
 ghost use Rattle.std.specs.Prelude.{◌≡◌, ◌*◌, ◌<◌, length, slice_index, string_bytes, IfOk};
 ghost use Rattle.hex.specs.Hex.{encode_lower, lower_digits};
 

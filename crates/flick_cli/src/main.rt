@@ -1,4 +1,5 @@
-// The program: the words and the ends of the process, handed to the library.
+//! The program: the words and the ends of the process, handed to the library.
+
 #![tactic(auto)]
 
 use flick_top::flick;

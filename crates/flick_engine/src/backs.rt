@@ -1,4 +1,5 @@
-// What differs from one back end to another, from the crate of each.
+//! What differs from one back end to another, from the crate of each.
+
 ghost use Rattle.std.specs.Prelude.{◌≡◌, ◌<◌, length, IfOk, IfErr, IfSome};
 ghost use Rattle.call_kit.specs.Calls.{IsBelow};
 ghost use Rattle.back_cdr.specs.Targets.{IsCdr};

@@ -1,4 +1,5 @@
-// An engine.
+//! An engine.
+
 ghost use Rattle.std.specs.Prelude.{◌≡◌, ◌<◌, length, IfOk, Some, option_map, slice_get};
 ghost use Rattle.op_codes.specs.Stubs.{IsCoded, reply_code_at};
 ghost use Rattle.flick_engine.specs.Backs.{IsMade};

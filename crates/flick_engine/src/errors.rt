@@ -1,4 +1,5 @@
-// Why there is no message, or no request.
+//! Why there is no message, or no request.
+
 ghost use Rattle.std.specs.Prelude.{◌≡◌};
 ghost use Rattle.flick_engine.specs.declared.errors.MarshalErr.TheVariants.{NoMemory as NoMessage};
 ghost use Rattle.flick_engine.specs.declared.errors.MessageErr.TheVariants.{NoMemory as NoRequest};

@@ -1,4 +1,5 @@
-// How calls fare by the heads of their replies.
+//! How calls fare by the heads of their replies.
+
 ghost use Rattle.std.specs.Prelude.{◌≡◌, IfOk};
 ghost use Rattle.std.specs.List.{position_from};
 ghost use Rattle.std.specs.Str.{bytes_eq};

@@ -1,4 +1,5 @@
-// Messages that are not calls, and calls that want no reply.
+//! Messages that are not calls, and calls that want no reply.
+
 ghost use Rattle.std.specs.Prelude.{◌≡◌, [], Ok, map, IfOk};
 ghost use Rattle.std.specs.List.{list_any};
 ghost use Rattle.std.specs.Str.{bytes_eq};

@@ -1,4 +1,5 @@
-// The laws of messages, each the contract of a function that does nothing.
+//! The laws of messages, each the contract of a function that does nothing.
+
 ghost use Rattle.flick_engine.specs.Laws.{AreAskedFor, AreTheReplies, AreTheUnits, IsDetermined, IsReadBack, IsReplyDetermined, IsReplyReadBack, IsReplySomething, IsServingDetermined, IsServingSomething, IsSomething};
 
 /// Octets are a request or have a first fault: one of them, and no other.

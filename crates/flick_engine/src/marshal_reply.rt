@@ -1,4 +1,5 @@
-// Replies as messages.
+//! Replies as messages.
+
 ghost use Rattle.std.specs.Prelude.{◌≡◌, ◌<◌, [], false, pos, length, OnErr, OnOk, Err, IfNone, IfSome};
 ghost use Rattle.kit_base.specs.Limits.{longest_message};
 ghost use Rattle.mint.specs.declared.kind.Kind.TheVariants as kind;

@@ -1,6 +1,7 @@
-// The names by which requests over CDR find operations, and replies exceptions.
+//! The names by which requests over CDR find operations, and replies exceptions.
+
 ghost use Rattle.std.specs.Prelude.{◌≡◌, ◌++◌, map, IfOk, OnOk};
-ghost use Rattle.aoi.specs.Plain.{plain_interface, plain_operation, plain_raise};
+ghost use Rattle.aoi.specs.Plain.{plain_interface, plain_operation};
 ghost use Rattle.flick_engine.specs.Fates.{ids_of};
 ghost use Rattle.flick_engine.specs.Names.{AreNames, AreNamesOver, found, raise_of};
 ghost use Rattle.flick_engine.specs.Offered.{raised_by};

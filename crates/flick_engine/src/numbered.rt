@@ -1,4 +1,5 @@
-// Names that are found, each with its number.
+//! Names that are found, each with its number.
+
 ghost use Rattle.std.specs.Prelude.{◌≡◌, ◌+◌, length, map, IfOk};
 ghost use Rattle.aoi.specs.Plain.{plain_operation};
 ghost use Rattle.flick_engine.specs.Offered.{names_of, number_in, operation_in};

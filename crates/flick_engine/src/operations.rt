@@ -1,4 +1,5 @@
-// The operations of an engine.
+//! The operations of an engine.
+
 ghost use Rattle.std.specs.Prelude.{◌≡◌, ◌<◌, ℕ, List, length};
 ghost use Rattle.mint.specs.Types.{type_at};
 ghost use Rattle.flick_engine.specs.Messages.{request_type};

@@ -1,4 +1,5 @@
-// Calls that are refused.
+//! Calls that are refused.
+
 ghost use Rattle.std.specs.Prelude.{◌≡◌, [], Err, Some, map, IfOk, OnOk};
 ghost use Rattle.aoi.specs.Plain.{plain_interface};
 ghost use Rattle.raw_buf.specs.Buf.{NoneFell};

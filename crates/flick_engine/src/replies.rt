@@ -1,4 +1,5 @@
-// Replies, as messages bring them.
+//! Replies, as messages bring them.
+
 use wire_def::{Head, Outcome, Refusal};
 
 /// A reply to an operation.

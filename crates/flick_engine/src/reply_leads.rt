@@ -1,4 +1,5 @@
-// The answers over GIOP to messages that are not requests, in an empty buffer, and the ids of Mach replies.
+//! The answers over GIOP to messages that are not requests, in an empty buffer, and the ids of Mach replies.
+
 ghost use Rattle.std.specs.Prelude.{◌≡◌, ◌≤◌, ◌+◌, ◌++◌, [], length, OnOk};
 ghost use Rattle.raw_buf.specs.Buf.{NoneFell};
 ghost use Rattle.back_mach.specs.Leads as mach;

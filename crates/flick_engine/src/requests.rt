@@ -1,4 +1,5 @@
-// Requests, as messages bring them.
+//! Requests, as messages bring them.
+
 use mint::value::Value;
 use wire_def::Head;
 

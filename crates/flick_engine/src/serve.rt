@@ -1,14 +1,15 @@
-// Messages that are answered.
-ghost use Rattle.std.specs.Prelude.{◌≡◌, ◌≤◌, ◌<◌, ◌+◌, [], true, Ok, Some, length, IfErr, IfOk, OnErr, OnOk};
+//! Messages that are answered.
+
+ghost use Rattle.std.specs.Prelude.{◌≡◌, ◌<◌, [], Ok, Some, length, IfOk, OnErr, OnOk};
 ghost use Rattle.mint.specs.Typed.{IsWellTyped};
 ghost use Rattle.mint.specs.Values.{seen};
 ghost use Rattle.call_kit.specs.Calls.{IsBelow};
 ghost use Rattle.raw_buf.specs.Buf.{NoneFell};
-ghost use Rattle.flick_engine.specs.Backs.{Begins, Stops};
+ghost use Rattle.flick_engine.specs.Backs.{Begins};
 ghost use Rattle.flick_engine.specs.Messages.{request_type};
-ghost use Rattle.flick_engine.specs.Received.{Names, ReadCall, IsShort, asked};
+ghost use Rattle.flick_engine.specs.Received.{IsShort, asked};
 ghost use Rattle.flick_engine.specs.Refusals as refusals;
-ghost use Rattle.flick_engine.specs.Refusals.{AnswersFault, reply_head};
+ghost use Rattle.flick_engine.specs.Refusals.{reply_head};
 ghost use Rattle.flick_engine.specs.Serving as serving;
 ghost use Rattle.flick_engine.specs.Serving.{Serves, ServesByCode, ServesCall, AnswersCall, AnswersCallByCode, AnswersAs, AnswersByCode, reply_in};
 

@@ -1,4 +1,5 @@
-// Messages as requests.
+//! Messages as requests.
+
 ghost use Rattle.std.specs.Prelude.{◌≡◌, ◌≢◌, ◌↔◌, ◌<◌, ◌≤◌, ◌+◌, ◌-◌, ℕ, length, drop, Ok, Err, IfOk, IfErr};
 ghost use Rattle.mint.specs.Typed.{IsWellTyped};
 ghost use Rattle.mint.specs.Values.{Val, seen};

@@ -1,5 +1,6 @@
-// Messages as replies.
-ghost use Rattle.std.specs.Prelude.{◌≡◌, ◌≢◌, ◌↔◌, ◌<◌, ◌≤◌, ℕ, pos, length, drop, Ok, Err, IfOk, IfErr};
+//! Messages as replies.
+
+ghost use Rattle.std.specs.Prelude.{◌≡◌, ◌≢◌, ◌↔◌, ◌<◌, ℕ, pos, length, drop, Ok, Err, IfOk, IfErr};
 ghost use Rattle.mint.specs.Typed.{IsWellTyped};
 ghost use Rattle.mint.specs.Sound.{IsSound};
 ghost use Rattle.mint.specs.Values.{Val, seen};
@@ -12,7 +13,7 @@ ghost use Rattle.flick_engine.specs.Backs.{heard, encoding_by, BeginsReply};
 ghost use Rattle.flick_engine.specs.Fates.{is_alone, is_followed};
 ghost use Rattle.flick_engine.specs.Received.{IsShort};
 ghost use Rattle.flick_engine.specs.Replies.{reply_type, arm_type, HasArm, IsChoice};
-ghost use Rattle.flick_engine.specs.RepliesReceived.{answered, refused, Says, AnswersReply, IsExactlyReply, IsTypedCame, came};
+ghost use Rattle.flick_engine.specs.RepliesReceived.{answered, Says, AnswersReply, IsExactlyReply, IsTypedCame, came};
 
 use crate::engine::Engine;
 use crate::errors::MessageErr;

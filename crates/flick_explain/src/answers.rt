@@ -1,4 +1,5 @@
-// The answers of a run, each with what is said of it where it is a refusal.
+//! The answers of a run, each with what is said of it where it is a refusal.
+
 use crate::command::{Run, run_of};
 use crate::ended::Ended;
 use crate::fronts::bound_of;

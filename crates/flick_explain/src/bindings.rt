@@ -1,4 +1,5 @@
-// `? bind`: the first declaration with which a file is not bound.
+//! `? bind`: the first declaration with which a file is not bound.
+
 use crate::causes::bind_cause;
 use crate::files::{File, Placed};
 use crate::fronts::{Reached, reach_of};

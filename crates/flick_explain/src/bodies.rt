@@ -1,4 +1,5 @@
-// `! body`: the argument, field or element that an octet of a message belongs to.
+//! `! body`: the argument, field or element that an octet of a message belongs to.
+
 use crate::descent::word_at;
 use crate::text::{cut, shown, text_of};
 use call_kit::{Called, Naming};

@@ -1,4 +1,4 @@
-// What each word of a refusal of a file means: what is there, one sentence of cause, and one of repair.
+//! What each word of a refusal of a file means: what is there, one sentence of cause, and one of repair.
 
 /// What is said of a word.
 #[derive(Clone, Copy)]

@@ -1,4 +1,5 @@
-// What the words name: those of the run that is explained, and the file of its input.
+//! What the words name: those of the run that is explained, and the file of its input.
+
 use flick_engine::back_of;
 use idl_lex::Front;
 use kit_base::{Octets, Words};

@@ -1,4 +1,5 @@
-// Whether a part of a declaration can be completed, and by what.
+//! Whether a part of a declaration can be completed, and by what.
+
 use crate::fronts::{Reached, has_tree, reach_of};
 use crate::models::models_of;
 use crate::text::{cut, from};

@@ -1,4 +1,5 @@
-// One step towards the first misfit: into the part that does not fit, or what is wanted of the whole.
+//! One step towards the first misfit: into the part that does not fit, or what is wanted of the whole.
+
 use crate::scalars::{
     count_wanted, item_wanted, kind_wanted, number_of, row_wanted, string_wanted, tag_of,
     tag_wanted,

@@ -1,4 +1,5 @@
-// Why the work ended early.
+//! Why the work ended early.
+
 use kit_base::NoMemory;
 
 /// Why nothing more is said.

@@ -1,4 +1,5 @@
-// An interface file, its tokens, and where they are.
+//! An interface file, its tokens, and where they are.
+
 use crate::fronts::tokens_of;
 use crate::text::cut;
 use crate::tokens::{Spans, spans_of};

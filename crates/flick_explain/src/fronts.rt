@@ -1,4 +1,5 @@
-// What the front ends say of a text: whether it has a tree, a unit, a binding.
+//! What the front ends say of a text: whether it has a tree, a unit, a binding.
+
 ghost use Rattle.front_onc.specs.Resolved.{IsWhole as OncIsWhole};
 ghost use Rattle.front_corba.specs.Resolved.{IsWhole as CorbaIsWhole};
 

@@ -1,4 +1,5 @@
-// The token at which a declaration cannot go on: the one after the longest beginning that some end was found for.
+//! The token at which a declaration cannot go on: the one after the longest beginning that some end was found for.
+
 use crate::completions::{Ends, Part};
 use crate::files::{File, Placed};
 use crate::models::{closer, opener};

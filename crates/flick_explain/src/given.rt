@@ -1,4 +1,5 @@
-// `? replies`: the file of replies, or the line of it that gives none, and why.
+//! `? replies`: the file of replies, or the line of it that gives none, and why.
+
 use crate::causes::Cause;
 use crate::given_causes::{
     AGAIN, HEAD_NUMBER, LONG, NO_JSON, NO_OPERATION, NO_RECORD, NO_REPLY, NO_VALUE,

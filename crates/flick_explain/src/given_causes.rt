@@ -1,4 +1,5 @@
-// What is said of a line that gives no reply: one sentence of cause, and one of repair.
+//! What is said of a line that gives no reply: one sentence of cause, and one of repair.
+
 use crate::causes::Cause;
 
 /// The line is not JSON.

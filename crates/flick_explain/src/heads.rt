@@ -1,4 +1,5 @@
-// `! head`, `! interface` and `! operation` of messages: the octets that they are said of.
+//! `! head`, `! interface` and `! operation` of messages: the octets that they are said of.
+
 use crate::octets::octets_told;
 use crate::text::shown;
 use kit_base::NoMemory;

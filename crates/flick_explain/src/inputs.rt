@@ -1,4 +1,5 @@
-// The lines that a run read, beside its answers.
+//! The lines that a run read, beside its answers.
+
 use crate::command::Verb;
 use crate::text::{cut, from};
 

@@ -1,4 +1,5 @@
-// What is known of a run, and what is said of each line that it wrote.
+//! What is known of a run, and what is said of each line that it wrote.
+
 use crate::bindings::bind_told;
 use crate::command::Run;
 use crate::files::File;

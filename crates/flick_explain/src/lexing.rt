@@ -1,4 +1,5 @@
-// `? lex`: the octet at which the tokens of a text end.
+//! `? lex`: the octet at which the tokens of a text end.
+
 use crate::causes::{Cause, lex_cause};
 use crate::files::File;
 use crate::places::pointed;

@@ -1,4 +1,5 @@
-// The program: the words and the ends of the process, handed to `explain`.
+//! The program: the words and the ends of the process, handed to `explain`.
+
 #![tactic(auto)]
 
 mod answers;

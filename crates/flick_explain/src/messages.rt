@@ -1,4 +1,5 @@
-// What is said of a line of the input that was refused.
+//! What is said of a line of the input that was refused.
+
 use crate::bodies::part_told;
 use crate::command::Verb;
 use crate::heads::{head_told, interface_told, operation_told};

@@ -1,4 +1,5 @@
-// `! value`: the path of the first part that presents no value of its type, and what is wanted there.
+//! `! value`: the path of the first part that presents no value of its type, and what is wanted there.
+
 use crate::descent::{Step, step_at};
 use crate::text::text_of;
 use kit_base::NoMemory;

@@ -1,4 +1,5 @@
-// Declarations whose ends are tried as what may come next, for each language: words with one blank between them.
+//! Declarations whose ends are tried as what may come next, for each language: words with one blank between them.
+
 use crate::statements::Container;
 use idl_lex::Front;
 

@@ -1,4 +1,5 @@
-// `? name`: the declaration, and the name at fault in it.
+//! `? name`: the declaration, and the name at fault in it.
+
 use crate::causes::name_cause;
 use crate::completions::{first_word, past_word};
 use crate::files::{File, Placed, is_mark, is_word};

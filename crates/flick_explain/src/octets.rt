@@ -1,4 +1,5 @@
-// The octets of a message, as they are shown.
+//! The octets of a message, as they are shown.
+
 use crate::text::{cut, number_in, text_of};
 use hex::FromHexError;
 use kit_base::NoMemory;

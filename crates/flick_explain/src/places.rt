@@ -1,4 +1,5 @@
-// Places in a text: line and column, and the line with a mark below it.
+//! Places in a text: line and column, and the line with a mark below it.
+
 use crate::text::{cut, from, shown};
 use kit_base::NoMemory;
 use std::alloc::Global;

@@ -1,4 +1,5 @@
-// `! json`, `! request` and `! op`: what is wrong with a line that is to be a request record.
+//! `! json`, `! request` and `! op`: what is wrong with a line that is to be a request record.
+
 use crate::text::{shown, text_of};
 use kit_base::{NoMemory, Octets};
 use pres::{Bound, Op};

@@ -1,4 +1,5 @@
-// The words of a line that begins with `!`, and what each means.
+//! The words of a line that begins with `!`, and what each means.
+
 use crate::causes::Cause;
 use crate::command::Verb;
 use crate::completions::{first_word, past_word};

@@ -1,4 +1,5 @@
-// What is wrong with a record that is to be one of a reply.
+//! What is wrong with a record that is to be one of a reply.
+
 use crate::descent::fits;
 use crate::misfits::misfit;
 use crate::records::{dotted, head_key, is_named, is_word, op_of, op_told};

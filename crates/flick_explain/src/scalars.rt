@@ -1,4 +1,5 @@
-// `! value` at a number, an item of an enum, a text or a row: what is wanted there.
+//! `! value` at a number, an item of an enum, a text or a row: what is wanted there.
+
 ghost use Rattle.std.specs.Prelude.{IfSome, IsTrue};
 ghost use Rattle.mint.specs.Kinds.{in_range};
 

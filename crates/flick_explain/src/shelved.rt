@@ -1,4 +1,5 @@
-// The files of a run, as they are now.
+//! The files of a run, as they are now.
+
 use crate::command::Run;
 use crate::ended::Ended;
 use kit_base::limits::LONGEST_FILE;

@@ -1,4 +1,5 @@
-// The declarations of a file, counted as refusals count them, and what is open around them.
+//! The declarations of a file, counted as refusals count them, and what is open around them.
+
 use crate::files::{Placed, is_mark, is_word};
 use idl_lex::{Front, TokenKind};
 use kit_base::NoMemory;

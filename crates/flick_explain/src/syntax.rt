@@ -1,4 +1,5 @@
-// `? syntax`: the definition without a tree, and the token at which it cannot go on.
+//! `? syntax`: the definition without a tree, and the token at which it cannot go on.
+
 use crate::completions::{Ends, first_word};
 use crate::files::{File, Placed, is_mark};
 use crate::fronts::has_tree;

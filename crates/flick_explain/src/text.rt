@@ -1,4 +1,5 @@
-// Octets as text that can be printed, and parts of octets.
+//! Octets as text that can be printed, and parts of octets.
+
 use kit_base::NoMemory;
 use std::alloc::Global;
 

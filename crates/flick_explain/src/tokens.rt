@@ -1,4 +1,5 @@
-// Where the tokens of a text are: their lines are known, their columns are found by a walk beside them.
+//! Where the tokens of a text are: their lines are known, their columns are found by a walk beside them.
+
 use crate::text::{cut, from};
 use idl_lex::{Front, TokenKind, Tokens};
 use kit_base::{Listed, NoMemory};

@@ -1,4 +1,5 @@
-// Lines of `unreply`: the name of an operation, a space, and the digits of a reply to it.
+//! Lines of `unreply`: the name of an operation, a space, and the digits of a reply to it.
+
 use crate::heads::reply_head_told;
 use crate::octets::{digits_told, message_of, place_told, trailing_told};
 use crate::records::{dotted, unknown_told};

@@ -1,4 +1,5 @@
-// The laws of answers, each the contract of a function that does nothing.
+//! The laws of answers, each the contract of a function that does nothing.
+
 ghost use Rattle.std.specs.Prelude.{ℕ, List};
 ghost use Rattle.flick_lines.specs.Counted.{AllCounted};
 ghost use Rattle.flick_lines.specs.declared.verb.Verb.{Verb as SpecVerb};

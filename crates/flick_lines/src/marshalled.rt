@@ -1,4 +1,5 @@
-// The answers of `marshal`.
+//! The answers of `marshal`.
+
 ghost use Rattle.std.specs.Prelude.{◌≡◌, ◌≢◌, ◌<◌, length, IfOk, IfSome, IsUtf8, OnErr, OnOk, option_map, slice_get};
 ghost use Rattle.serde_json.specs.View.{view};
 ghost use Rattle.mint.specs.Typed.{IsWellTyped};

@@ -1,4 +1,5 @@
-// The answers of `reply`.
+//! The answers of `reply`.
+
 ghost use Rattle.std.specs.Prelude.{◌≡◌, ◌<◌, length, IfOk, IfSome, OnOk, slice_get};
 ghost use Rattle.serde_json.specs.View.{view};
 ghost use Rattle.mint.specs.Typed.{IsWellTyped};

@@ -1,4 +1,5 @@
-// Octets in memory of their own, with space for a line feed.
+//! Octets in memory of their own, with space for a line feed.
+
 ghost use Rattle.std.specs.Prelude.{◌≡◌, ◌∷◌, ◌++◌, [], IfOk};
 ghost use Rattle.hex.specs.Hex.{encode_lower};
 

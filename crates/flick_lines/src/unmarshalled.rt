@@ -1,4 +1,5 @@
-// The answers of `unmarshal`.
+//! The answers of `unmarshal`.
+
 ghost use Rattle.std.specs.Prelude.{◌≡◌, ◌≢◌, ◌<◌, length, IfOk, OnOk, Ok, string_bytes};
 ghost use Rattle.mint.specs.Typed.{IsWellTyped};
 ghost use Rattle.mint.specs.Values.{seen};

@@ -1,4 +1,5 @@
-// The answers of `unreply`.
+//! The answers of `unreply`.
+
 ghost use Rattle.std.specs.Prelude.{◌≡◌, ◌<◌, ◌+◌, ◌==◌, length, take, drop, true, IfOk, IfSome, Ok, slice_get, string_bytes};
 ghost use Rattle.std.specs.List.{position};
 ghost use Rattle.flick_engine.specs.Replies.{reply_type};

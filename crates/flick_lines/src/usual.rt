@@ -1,4 +1,5 @@
-// The requests of lines in the usual form.
+//! The requests of lines in the usual form.
+
 ghost use Rattle.std.specs.Prelude.{◌<◌, length, slice_get, IfOk, IfSome};
 ghost use Rattle.mint.specs.Typed.{IsWellTyped};
 ghost use Rattle.mint.specs.Types.{type_at};

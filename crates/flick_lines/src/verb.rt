@@ -1,4 +1,4 @@
-// What is done with the lines of an input.
+//! What is done with the lines of an input.
 
 /// What is done with a line.
 #[derive(Clone, Copy, Debug, PartialEq, Eq)]

@@ -1,5 +1,6 @@
-// The replies that a file gives.
-ghost use Rattle.std.specs.Prelude.{◌≡◌, ◌≢◌, ◌<◌, ◌+◌, ◌∷◌, ◌==◌, [], None, Some, true, false, not, length, take, drop, is_some, replicate, slice_get, slice_set, IfNone, IfOk, IfSome, MatchBool, OnOk};
+//! The replies that a file gives.
+
+ghost use Rattle.std.specs.Prelude.{◌≡◌, ◌≢◌, ◌<◌, ◌+◌, ◌∷◌, ◌==◌, [], None, Some, true, false, not, length, take, drop, is_some, slice_get, slice_set, IfNone, IfOk, IfSome, MatchBool, OnOk};
 ghost use Rattle.std.specs.List.{position};
 ghost use Rattle.std.specs.Option.{option_map_or};
 ghost use Rattle.kit_base.specs.Limits.{longest_message};

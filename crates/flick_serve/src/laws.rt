@@ -1,4 +1,5 @@
-// The laws of files of replies and of answers, each the contract of a function that does nothing.
+//! The laws of files of replies and of answers, each the contract of a function that does nothing.
+
 ghost use Rattle.flick_serve.specs.Laws.{IsGivenOnce, IsGivenSomehow, IsServedOnce};
 
 /// A file gives replies or has a first line that is wrong: one of them, and no other.

@@ -1,4 +1,5 @@
-// A server.
+//! A server.
+
 ghost use Rattle.std.specs.Prelude.{◌≡◌, ℕ, List, Result, IfOk, Ok};
 ghost use Rattle.hex.specs.Hex.{decode_of};
 ghost use Rattle.raw_buf.specs.Buf.{NoneFell};

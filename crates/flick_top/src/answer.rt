@@ -1,4 +1,5 @@
-// The answer to a line.
+//! The answer to a line.
+
 ghost use Rattle.std.specs.Prelude.{◌≡◌, IfOk, OnOk};
 ghost use Rattle.raw_buf.specs.Buf.{NoneFell};
 ghost use Rattle.flick_top.specs.Answer.{IsAnswer, is_refusal};

@@ -1,5 +1,6 @@
-// What a command comes to, once its words and its files are read.
-ghost use Rattle.std.specs.Prelude.{◌≡◌, ◌≢◌, ◌≤◌, Option, Some, None, IfOk, IfErr};
+//! What a command comes to, once its words and its files are read.
+
+ghost use Rattle.std.specs.Prelude.{◌≡◌, ◌≢◌, ◌≤◌, Some, None, IfOk, IfErr};
 ghost use Rattle.kit_base.specs.Causes.{Rose};
 ghost use Rattle.raw_buf.specs.Buf.{NoneFell};
 ghost use Rattle.kit_texts.specs.WholeLines.{AreWholeLines};

@@ -1,4 +1,5 @@
-// The command that the words name.
+//! The command that the words name.
+
 ghost use Rattle.std.specs.Prelude.{◌≡◌, ◌≤◌, IfSome};
 ghost use Rattle.flick_top.specs.Command.{command_of, option_of, last_action, serving, making, action_of, showing, over_file, word_at, IsKnown};
 ghost use Rattle.flick_top.specs.Fronts as fronts;

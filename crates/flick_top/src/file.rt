@@ -1,5 +1,6 @@
-// What the content of a file comes to.
-ghost use Rattle.std.specs.Prelude.{◌≡◌, Some, IfOk};
+//! What the content of a file comes to.
+
+ghost use Rattle.std.specs.Prelude.{Some, IfOk};
 ghost use Rattle.aoi.specs.Plain.{plain, IsSoundPlain};
 ghost use Rattle.pres.specs.Faults.{bind_fault};
 ghost use Rattle.flick_engine.specs.Backs.{IsMade};

@@ -1,4 +1,5 @@
-// What differs from one front end to another: its name, and the unit of a file's tokens.
+//! What differs from one front end to another: its name, and the unit of a file's tokens.
+
 ghost use Rattle.std.specs.Prelude.{◌≡◌, ◌≤◌, Err, IfOk, IfSome, length};
 ghost use Rattle.kit_base.specs.Limits.{longest_file};
 ghost use Rattle.aoi.specs.declared.faults.NameFault.TheVariants.{NoMemory as WantOfMemory};

@@ -1,4 +1,5 @@
-// What answers the lines of the input.
+//! What answers the lines of the input.
+
 ghost use Rattle.std.specs.Prelude.{◌≡◌, IfOk, OnOk};
 ghost use Rattle.raw_buf.specs.Buf.{NoneFell};
 ghost use Rattle.op_codes.specs.Stubs.{IsCoded};

@@ -1,4 +1,5 @@
-// The laws of what is written, each the contract of a function that does nothing.
+//! The laws of what is written, each the contract of a function that does nothing.
+
 ghost use Rattle.flick_top.specs.Laws.{OneOutput, WordsHaveTasks};
 
 /// The words have one output over the files: whatever the task to which they come and the answers to its lines, what is

@@ -1,4 +1,5 @@
-// The numbers of words.
+//! The numbers of words.
+
 ghost use Rattle.std.specs.Prelude.{◌≡◌, ◌≢◌, ◌<◌, ◌≤◌, ◌^◌, ℕ, IfSome, Some, None};
 ghost use Rattle.kit_base.specs.Decimal.{value_on};
 ghost use Rattle.flick_top.specs.Numbers.{at_most, number_in};

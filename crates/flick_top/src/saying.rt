@@ -1,4 +1,5 @@
-// What is said in place of answers.
+//! What is said in place of answers.
+
 ghost use Rattle.std.specs.Prelude.{◌≡◌, IfOk, string_bytes};
 ghost use Rattle.flick_top.specs.Saying.{said, ending, lex_name, place_of, name_name, bind_name};
 
@@ -58,7 +59,7 @@ status:\n\
 \x20 6  a file could not be read\n\
 \x20 7  out of memory\n\
 \x20 8  standard input has more than 1,073,741,824 octets\n\
-\x20 9  the arguments are no text\n";
+\x20 9  the arguments are not text\n";
 
 /// The line that `--version` writes.
 pub const VERSION: &[u8] = b"flick 0.1.0\n";

@@ -1,4 +1,5 @@
-// How a call ends.
+//! How a call ends.
+
 ghost use Rattle.std.specs.Prelude.{◌≡◌};
 
 /// How a call ends, by its number as the status of the process.

@@ -1,4 +1,5 @@
-// What is left to do when the files are read.
+//! What is left to do when the files are read.
+
 ghost use Rattle.std.specs.Prelude.{◌≡◌, Option, Some, None, IfOk, IfSome};
 ghost use Rattle.op_codes.specs.Stubs.{IsCoded};
 ghost use Rattle.kit_texts.specs.WholeLines.{AreWholeLines};

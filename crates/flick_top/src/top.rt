@@ -1,4 +1,5 @@
-// The top call.
+//! The top call.
+
 ghost use Rattle.std.specs.Prelude.{◌≡◌, ◌≤◌, Some};
 ghost use Rattle.kit_base.specs.Causes.{Rose};
 ghost use Rattle.raw_buf.specs.Buf.{NoneFell};

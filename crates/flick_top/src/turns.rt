@@ -1,4 +1,5 @@
-// The lines of the input, and what is written of them.
+//! The lines of the input, and what is written of them.
+
 ghost use Rattle.std.specs.Prelude.{◌≡◌, ◌≢◌, ◌≤◌, ◌||◌, if◌then◌else◌};
 ghost use Rattle.std.specs.Io.KnownBytes.{IsAtEnd};
 ghost use Rattle.raw_buf.specs.Buf.{NoneFell};

@@ -7,9 +7,8 @@ use Rattle.name_kit.specs.Answers.{Answer, and_then}
 use Rattle.corba_exprs.specs.declared.tree.Identifier.{Identifier}
 use Rattle.corba_operations.specs.declared.tree.Attribute.{Attribute}
 use Rattle.corba_scopes.specs.declared.meanings.Meaning.TheVariants as M
-use Rattle.corba_scopes.specs.Names.{Names, clash, refused_by, declared_on}
+use Rattle.corba_scopes.specs.Names.{Names, clash, refused_by, declared_on, lower_of}
 use Rattle.corba_scopes.specs.Around.{innermost}
-use Rattle.corba_shapes.specs.Enums.{lower_of}
 use Rattle.corba_shapes.specs.declared.forms.Form.{Form}
 use Rattle.corba_shapes.specs.Forms.{type_form, form_shape}
 use Rattle.front_corba.specs.State.{PlainOffer, Body}

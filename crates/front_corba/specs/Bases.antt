@@ -9,10 +9,9 @@ use Rattle.corba_operations.specs.declared.tree.Reference.{Reference}
 use Rattle.corba_scopes.specs.declared.meanings.Meaning.{Meaning}
 use Rattle.corba_scopes.specs.declared.meanings.Meaning.TheVariants as M
 use Rattle.corba_scopes.specs.declared.meanings.Entry.{Entry}
-use Rattle.corba_scopes.specs.Names.{refused_by}
+use Rattle.corba_scopes.specs.Names.{refused_by, lower_of}
 use Rattle.corba_scopes.specs.Around.{prefix_of}
 use Rattle.corba_scopes.specs.Finding.{named, with_base}
-use Rattle.corba_shapes.specs.Enums.{lower_of}
 use Rattle.front_corba.specs.State.{PlainOffer, Heirs, PlainOffering, File}
 use Rattle.front_corba.specs.Offers.{operation_clash, added_on}
 

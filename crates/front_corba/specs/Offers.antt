@@ -7,8 +7,7 @@ use Rattle.aoi.specs.Plain.{PlainOperation}
 use Rattle.name_kit.specs.Answers.{Answer, and_then, refused}
 use Rattle.name_kit.specs.Names.{has}
 use Rattle.corba_scopes.specs.declared.meanings.Meaning.TheVariants as M
-use Rattle.corba_scopes.specs.Names.{Names, lower, clash, declared_on}
-use Rattle.corba_shapes.specs.Enums.{lower_of}
+use Rattle.corba_scopes.specs.Names.{Names, lower, clash, declared_on, lower_of}
 use Rattle.front_corba.specs.State.{PlainOffer, Body}
 
 -- the names of operations

@@ -1,4 +1,5 @@
-// Attributes.
+//! Attributes.
+
 ghost use Rattle.std.specs.Prelude.{◌≡◌, [], ◌∷◌, map, IfOk};
 ghost use Rattle.aoi.specs.Shapes.{seen_field};
 ghost use Rattle.aoi.specs.Plain.{plain_operation};
@@ -8,13 +9,13 @@ ghost use Rattle.front_corba.specs.Held.{plain_offer, body};
 ghost use Rattle.front_corba.specs.Attributes.{getter, setter, get_name, set_name, set_clash, attribute_clash, setter_on, attribute_on, attributes_on, attribute_names_on};
 
 use crate::named::Offers;
-use crate::offers::{lower_of, offer, own_clash, refuse_fault};
+use crate::offers::{offer, own_clash};
 use crate::parameters::field;
 use crate::{NameErr, NameFault};
 use aoi::{Fields, Operation, Raises, Ty};
 use corba_exprs::Identifier;
 use corba_operations::Attribute;
-use corba_scopes::{Meaning, Scopes, full_name, innermost};
+use corba_scopes::{Meaning, Scopes, full_name, innermost, lower_of, refuse_fault};
 use corba_shapes::{Form, Shapes, form_ty, type_form};
 use kit_base::{Name, NoMemory};
 use std::alloc::Global;

@@ -1,4 +1,5 @@
-// The operations of bases.
+//! The operations of bases.
+
 ghost use Rattle.std.specs.Prelude.{◌≡◌, nat_eq, false, map, option_copied, IfOk};
 ghost use Rattle.std.specs.List.{list_any};
 ghost use Rattle.std.specs.Option.{option_map};
@@ -8,11 +9,11 @@ ghost use Rattle.front_corba.specs.Bases.{offer_clash, base_clash, inherited, in
 
 use crate::copies::copy_operation;
 use crate::named::Offers;
-use crate::offers::{add, lower_of, operation_clash, refuse_fault};
+use crate::offers::{add, operation_clash};
 use crate::state::{Heir, Offer, Offering, Resolver};
 use crate::{NameErr, NameFault};
 use corba_operations::Reference;
-use corba_scopes::{Entry, Meaning, prefix_of};
+use corba_scopes::{Entry, Meaning, lower_of, prefix_of, refuse_fault};
 use kit_base::{Name, NoMemory};
 use name_kit::{add_number, has_number};
 use std::alloc::Global;

@@ -1,4 +1,5 @@
-// Copies of types, exceptions and operations.
+//! Copies of types, exceptions and operations.
+
 ghost use Rattle.std.specs.Prelude.{◌≡◌, map, IfOk};
 ghost use Rattle.std.specs.Option.{option_map};
 ghost use Rattle.aoi.specs.Shapes.{seen, seen_field};

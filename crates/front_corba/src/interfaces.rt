@@ -1,4 +1,5 @@
-// Interfaces.
+//! Interfaces.
+
 ghost use Rattle.std.specs.Prelude.{◌≡◌, map};
 ghost use Rattle.name_kit.specs.Names.{has};
 ghost use Rattle.name_kit.specs.Answers.{Gives};

@@ -1,4 +1,5 @@
-// Operations that are found by their names.
+//! Operations that are found by their names.
+
 ghost use Rattle.std.specs.Prelude.{◌≡◌, [], ◌∷◌, ◌++◌, map, length, IfOk, OnOk};
 ghost use Rattle.name_kit.specs.Names.{has};
 ghost use Rattle.corba_scopes.specs.Names.{lower};

@@ -1,10 +1,9 @@
-// The operations of an interface, and their names.
+//! The operations of an interface, and their names.
+
 ghost use Rattle.std.specs.Prelude.{◌≡◌, ◌≤◌, map, IfOk};
 ghost use Rattle.kit_base.specs.Limits.{most_operations};
 ghost use Rattle.aoi.specs.Plain.{plain_operation};
 ghost use Rattle.name_kit.specs.Answers.{Gives};
-ghost use Rattle.corba_scopes.specs.Names.{refused_by};
-ghost use Rattle.corba_shapes.specs.Enums.{lower_of};
 ghost use Rattle.front_corba.specs.Held.{plain_offer, body};
 ghost use Rattle.front_corba.specs.Offers.{operation_clash, own_clash, placed, added_on, offered_on};
 
@@ -12,7 +11,7 @@ use crate::named::Offers;
 use crate::state::Offer;
 use crate::{NameErr, NameFault};
 use aoi::Operation;
-use corba_scopes::{Meaning, Scopes};
+use corba_scopes::{Meaning, Scopes, lower_of};
 use corba_shapes::Shapes;
 use kit_base::NoMemory;
 use kit_base::limits::MOST_OPERATIONS;
@@ -34,29 +33,6 @@ pub(crate) fn operation_clash(
         return Ok(Some(NameFault::CaseClash));
     }
     Ok(None)
-}
-
-/// The lower of two faults of one token: Twice is lower than CaseClash.
-pub(crate) fn lower_of(f: Option<NameFault>, g: Option<NameFault>) -> Option<NameFault>
-    ensures { result ≡ lower_of f g }
-{
-    match (f, g) {
-        (None, g) => g,
-        (Some(f), None) => Some(f),
-        (Some(NameFault::Twice), Some(_)) => Some(NameFault::Twice),
-        (Some(_), Some(g)) => Some(g),
-    }
-}
-
-/// Refuses what has a fault, with the number of its declaration.
-pub(crate) fn refuse_fault(d: u32, fault: Option<NameFault>) -> Result<(), NameErr>
-    ensures value { Gives (λ x. x) result (refused_by d fault) }
-    ensures exact { result ≡ refused_by d fault }
-{
-    match fault {
-        Some(fault) => Err(NameErr { fault, decl: d }),
-        None => Ok(()),
-    }
 }
 
 /// Why no operation of a scope may have a name beside these, or nothing.

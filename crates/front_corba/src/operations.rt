@@ -1,4 +1,5 @@
-// Operations.
+//! Operations.
+
 ghost use Rattle.std.specs.Prelude.{◌≡◌, ◌&&◌, map, IfOk};
 ghost use Rattle.aoi.specs.Shapes.{seen, seen_field};
 ghost use Rattle.aoi.specs.Plain.{plain_operation, plain_raise};
@@ -9,7 +10,7 @@ ghost use Rattle.front_corba.specs.Operations.{gives_back, result_of, operation_
 
 use crate::copies::copy_name;
 use crate::named::Offers;
-use crate::offers::{offer, own_clash, refuse_fault};
+use crate::offers::{offer, own_clash};
 use crate::parameters::{are_in, parameters, raises};
 use crate::{NameErr, NameFault};
 use aoi::{Fields, Operation, Raises, Ty};

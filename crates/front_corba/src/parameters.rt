@@ -1,4 +1,5 @@
-// The parameters and exceptions of an operation.
+//! The parameters and exceptions of an operation.
+
 ghost use Rattle.std.specs.Prelude.{◌≡◌, [], map, option_copied, IfOk, OnOk};
 ghost use Rattle.std.specs.Option.{option_map};
 ghost use Rattle.aoi.specs.Shapes.{seen_field};

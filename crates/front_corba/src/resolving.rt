@@ -1,4 +1,5 @@
-// The unit of a file.
+//! The unit of a file.
+
 ghost use Rattle.std.specs.Prelude.{◌≡◌, ◌<◌, ◌≤◌, ◌⊎◌, ◌++◌, ◌∷◌, [], map, length, false, IsTrue, IfOk, IfErr, OnOk, List, Ok, Err};
 ghost use Rattle.idl_lex.specs.declared.kinds.Token.{Token};
 ghost use Rattle.corba_syntax.specs.Derivation.{Derives};

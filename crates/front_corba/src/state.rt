@@ -1,4 +1,5 @@
-// What a file offers so far.
+//! What a file offers so far.
+
 ghost use Rattle.std.specs.Prelude.{◌≡◌, IfOk};
 ghost use Rattle.front_corba.specs.Held.{heirs, held};
 ghost use Rattle.front_corba.specs.State.{start, no_bases};

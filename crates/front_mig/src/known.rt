@@ -1,4 +1,5 @@
-// The types that are known before any declaration.
+//! The types that are known before any declaration.
+
 ghost use Rattle.std.specs.Prelude.{◌≡◌};
 ghost use Rattle.front_mig.specs.Types.{known, meaning_in};
 

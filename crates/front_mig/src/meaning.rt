@@ -1,4 +1,5 @@
-// What names stand for, and what a `type` statement makes.
+//! What names stand for, and what a `type` statement makes.
+
 use mint::kind::Count;
 use name_kit::Use;
 

@@ -1,4 +1,5 @@
-// The types that a file declares, by their names.
+//! The types that a file declares, by their names.
+
 ghost use Rattle.std.specs.Prelude.{◌≡◌, [], ◌∷◌, ◌++◌, false, OnOk};
 ghost use Rattle.front_mig.specs.State.{is_declared};
 ghost use Rattle.front_mig.specs.Types.{known, meaning_in};

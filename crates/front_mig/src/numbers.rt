@@ -1,4 +1,5 @@
-// The values of expressions.
+//! The values of expressions.
+
 ghost use Rattle.std.specs.Prelude.{◌≡◌};
 ghost use Rattle.aoi.specs.declared.faults.NameFault.TheVariants.{Range};
 ghost use Rattle.name_kit.specs.Answers.{Gives};

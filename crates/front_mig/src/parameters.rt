@@ -1,5 +1,6 @@
-// Parameters.
-ghost use Rattle.std.specs.Prelude.{◌≡◌, ◌∷◌, ◌++◌, [], map, IfOk, OnOk};
+//! Parameters.
+
+ghost use Rattle.std.specs.Prelude.{◌≡◌, [], map, IfOk, OnOk};
 ghost use Rattle.aoi.specs.Shapes.{seen_field};
 ghost use Rattle.name_kit.specs.Answers.{Gives};
 ghost use Rattle.front_mig.specs.Held.{parameters_held};

@@ -1,12 +1,13 @@
-// Types and routines.
-ghost use Rattle.std.specs.Prelude.{◌≡◌, ◌+◌, ◌<◌, map, length, false, IfOk, IfErr, OnOk};
+//! Types and routines.
+
+ghost use Rattle.std.specs.Prelude.{◌≡◌, ◌+◌, ◌<◌, map, false, IfOk, IfErr, OnOk};
 ghost use Rattle.aoi.specs.declared.faults.NameFault.TheVariants.{NoMemory as WantOfMemory};
 ghost use Rattle.kit_base.specs.Limits.{most_operations};
 ghost use Rattle.aoi.specs.Shapes.{seen_field};
 ghost use Rattle.aoi.specs.Plain.{plain_operation};
 ghost use Rattle.name_kit.specs.Answers.{Gives};
 ghost use Rattle.front_mig.specs.Held.{state};
-ghost use Rattle.front_mig.specs.State.{with_form, type_on, skip_on, is_declared};
+ghost use Rattle.front_mig.specs.State.{with_form, type_on, is_declared};
 ghost use Rattle.front_mig.specs.Routines.{operation, routine_on};
 
 use crate::parameters::parameters;

@@ -1,4 +1,5 @@
-// Types by their names, and what `type` statements make.
+//! Types by their names, and what `type` statements make.
+
 ghost use Rattle.std.specs.Prelude.{◌≡◌};
 ghost use Rattle.name_kit.specs.Answers.{Gives};
 ghost use Rattle.front_mig.specs.Types.{found, type_of, size_of, kind_in, size_in, data_in, numbers_in, sized, plainly, row, form};

@@ -1,4 +1,5 @@
-// What declarations make of their types.
+//! What declarations make of their types.
+
 ghost use Rattle.std.specs.Prelude.{◌≡◌, false, IfOk, OnOk};
 ghost use Rattle.aoi.specs.Shapes.{seen};
 ghost use Rattle.name_kit.specs.Answers.{Gives};

@@ -1,4 +1,5 @@
-// What names stand for, and what a declaration makes of a type.
+//! What names stand for, and what a declaration makes of a type.
+
 use mint::kind::Count;
 use name_kit::Use;
 

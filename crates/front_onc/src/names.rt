@@ -1,5 +1,6 @@
-// Names in the order of their declarations.
-ghost use Rattle.std.specs.Prelude.{◌≡◌, [], ◌∷◌, ◌++◌, false, OnOk, OnErr};
+//! Names in the order of their declarations.
+
+ghost use Rattle.std.specs.Prelude.{◌≡◌, [], ◌∷◌, ◌++◌, false, OnOk};
 ghost use Rattle.front_onc.specs.Names.{is_declared, meaning_of};
 
 use crate::Meaning;

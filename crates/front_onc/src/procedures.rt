@@ -1,5 +1,6 @@
-// Procedures.
-ghost use Rattle.std.specs.Prelude.{◌≡◌, ◌≤◌, [], ◌∷◌, map, length, IfOk, IfErr, OnOk, Err};
+//! Procedures.
+
+ghost use Rattle.std.specs.Prelude.{◌≡◌, ◌≤◌, [], map, length, IfOk, IfErr, OnOk, Err};
 ghost use Rattle.kit_base.specs.Limits.{most_operations};
 ghost use Rattle.aoi.specs.Shapes.{seen, seen_field};
 ghost use Rattle.aoi.specs.Plain.{plain_operation};

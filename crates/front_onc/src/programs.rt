@@ -1,4 +1,5 @@
-// Versions and programs.
+//! Versions and programs.
+
 ghost use Rattle.std.specs.Prelude.{◌≡◌, ◌<◌, ◌≤◌, ◌+◌, ◌++◌, [], map, length, false, codes, IfOk, OnOk};
 ghost use Rattle.kit_base.specs.Limits.{most_interfaces, most_operations};
 ghost use Rattle.aoi.specs.Plain.{plain_interface, plain_operation};

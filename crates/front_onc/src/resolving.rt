@@ -1,4 +1,5 @@
-// The unit of a file.
+//! The unit of a file.
+
 ghost use Rattle.std.specs.Prelude.{◌≡◌, ◌⊎◌, IfOk, IfErr, List, Ok, Err};
 ghost use Rattle.idl_lex.specs.declared.kinds.Token.{Token};
 ghost use Rattle.onc_syntax.specs.Derivation.{Derives};

@@ -1,14 +1,15 @@
-// What is declared so far.
-ghost use Rattle.std.specs.Prelude.{◌≡◌, ◌<◌, ◌≤◌, ◌+◌, false, length, IfOk, IfErr, OnOk, OnErr};
+//! What is declared so far.
+
+ghost use Rattle.std.specs.Prelude.{◌≡◌, ◌<◌, ◌≤◌, ◌+◌, false, length, IfOk, IfErr, OnOk};
 ghost use Rattle.kit_base.specs.Limits.{most_interfaces, most_operations};
 ghost use Rattle.aoi.specs.Shapes.{seen};
 ghost use Rattle.aoi.specs.Plain.{plain_interface};
-ghost use Rattle.name_kit.specs.Answers.{Gives, refused};
+ghost use Rattle.name_kit.specs.Answers.{Gives};
 ghost use Rattle.front_onc.specs.Names.{is_declared};
 ghost use Rattle.front_onc.specs.Held.{state};
 ghost use Rattle.front_onc.specs.Programs.{offered};
 ghost use Rattle.front_onc.specs.Resolved.{start};
-ghost use Rattle.front_onc.specs.State.{State, counted, declared, with_type};
+ghost use Rattle.front_onc.specs.State.{counted, declared, with_type};
 ghost use Rattle.front_onc.specs.Enums.{with_label};
 ghost use Rattle.aoi.specs.declared.faults.NameFault.TheVariants.{NoMemory as WantOfMemory};
 

@@ -1,6 +1,7 @@
-// Typedefs and structs.
+//! Typedefs and structs.
+
 ghost use Rattle.std.specs.Prelude.{◌≡◌, [], map, IfOk};
-ghost use Rattle.aoi.specs.Shapes.{seen_field, seen};
+ghost use Rattle.aoi.specs.Shapes.{seen_field};
 ghost use Rattle.name_kit.specs.Answers.{Gives};
 ghost use Rattle.front_onc.specs.Held.{state};
 ghost use Rattle.front_onc.specs.Declarations.{members_on, shape, typedef, struct_on};

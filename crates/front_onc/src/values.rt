@@ -1,10 +1,10 @@
-// Values, and types by their names.
+//! Values, and types by their names.
+
 ghost use Rattle.std.specs.Prelude.{◌≡◌};
 ghost use Rattle.name_kit.specs.Answers.{Gives};
 ghost use Rattle.front_onc.specs.Names.{value, signed, constant, kind_of, use_of, type_use};
 ghost use Rattle.front_onc.specs.Declarations.{exactly, at_most};
 ghost use Rattle.front_onc.specs.Programs.{number_of};
-ghost use Rattle.front_onc.specs.declared.meaning.Meaning.{Meaning as MeaningData};
 
 use crate::names::Scope;
 use crate::{Meaning, NameErr, NameFault, Use};

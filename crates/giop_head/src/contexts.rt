@@ -1,6 +1,5 @@
 //! What is passed over, whatever it is: service contexts and principals. No memory is taken for it.
 
-ghost use Rattle.std.specs.Prelude.{◌≡◌};
 ghost use Rattle.giop_head.specs.Contexts.{pass_contexts, pass_many, pass_sequence, read_context};
 ghost use Rattle.giop_head.specs.Readers.{Passes, Passing};
 

@@ -1,6 +1,6 @@
 //! The header of a message (OMG CORBA, chapter GIOP, section on the message header).
 
-ghost use Rattle.std.specs.Prelude.{◌≡◌, ◌≤◌, length};
+ghost use Rattle.std.specs.Prelude.{◌≡◌, length};
 ghost use Rattle.giop_head.specs.Header as heads;
 ghost use Rattle.giop_head.specs.Header.{judged, read_header};
 ghost use Rattle.giop_head.specs.Readers.{Gives, same};

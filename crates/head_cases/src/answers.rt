@@ -1,4 +1,5 @@
-// What is asked of a row.
+//! What is asked of a row.
+
 use crate::parts::{Bad, member};
 use crate::{giop, mach, records, refusals};
 use serde_json::{Category, Value as Json};

@@ -1,4 +1,5 @@
-// What the heads of GIOP messages say.
+//! What the heads of GIOP messages say.
+
 use crate::parts::{Bad, member, octets};
 use giop_head::{GiopCall, read_call, read_reply};
 use hex::encode;

@@ -1,4 +1,5 @@
-// Interfaces over back ends that no command has yet, or with what no front end reads yet.
+//! Interfaces over back ends that no command has yet, or with what no front end reads yet.
+
 use crate::parts::Bad;
 use aoi::{Field, Fields, Interface, Operation, Operations, Raise, Raises, Ty, Unit, is_sound};
 use kit_base::{Name, NoMemory};

@@ -1,4 +1,5 @@
-// What the heads of Mach messages say, and the replies that refuse a request.
+//! What the heads of Mach messages say, and the replies that refuse a request.
+
 use crate::parts::{Bad, member, octets, signed, word};
 use back_mach::{put_refusal, read_call, read_reply};
 use hex::encode;

@@ -1,5 +1,6 @@
-// Answers rows of message heads and of JSON records: a JSON object on each line of standard input, and an answer on a
-// line of standard output.
+//! Answers rows of message heads and of JSON records: a JSON object on each line of standard input, and an answer on a
+//! line of standard output.
+
 #![tactic(auto)]
 
 mod answers;

@@ -1,4 +1,5 @@
-// The parts of a row: members, numbers, octets.
+//! The parts of a row: members, numbers, octets.
+
 use hex::FromHexError;
 use kit_base::{NoMemory, Octets};
 use serde_json::Value as Json;

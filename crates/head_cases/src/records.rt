@@ -1,4 +1,5 @@
-// JSON records of requests and replies, read and written again.
+//! JSON records of requests and replies, read and written again.
+
 use crate::interfaces::{raising, silent};
 use crate::parts::{Bad, member};
 use json_shape::{RecordErr, read_reply, read_request, write_reply, write_request};

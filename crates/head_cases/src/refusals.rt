@@ -1,4 +1,5 @@
-// Refusals, as the octets of their replies.
+//! Refusals, as the octets of their replies.
+
 ghost use Rattle.std.specs.Prelude.{IfOk};
 ghost use Rattle.giop_head.specs.Printed.{IsOwn};
 

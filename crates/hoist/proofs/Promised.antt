@@ -11,7 +11,7 @@ use Rattle.cast_stub.specs.Meaning.{patched, wrote, costs, AreCovered}
 use Rattle.cast_stub.specs.Parts.{on_some, IsThere}
 use Rattle.cast_stub.specs.Steps.{Step, Room, Pad, Stored, Widened, Copied, Patched, Steps, Calls, steps}
 use Rattle.cast_stub.specs.Subs.{deepest, calls_of, sent_steps}
-use Rattle.cast_stub.specs.Kept.{unensured, without_room, SendsTheSame, AddsEnsures, IsCoveredFor}
+use Rattle.cast_stub.specs.Kept.{unensured, without_room, SendsTheSame, ChangesOnlyEnsures, IsCoveredFor}
 use Rattle.cast_stub.specs.Bare.{RowsAreBare}
 use Rattle.hoist.specs.Hoisted.{closed, hoisted, IsTaken}
 use Rattle.hoist.specs.Pass.{IsGiven, EnsuresRows, IsSparing}
@@ -74,8 +74,8 @@ module _ (enc : Encoding) (given code : SendCode) (t : Ty)
   pub sends-same : SendsTheSame given code
   sends-same h v p = sym (written-same p (sent_steps code h v)) ∙ ap (written p) (same-steps h v) ∙ written-same p (sent_steps given h v)
 
-  pub adds-ensures : AddsEnsures given code
-  adds-ensures = ap unensured e ∙ keeps_code (span_roles enc) t (code_seen given.ops)
+  pub changes-only-ensures : ChangesOnlyEnsures given code
+  changes-only-ensures = ap unensured e ∙ keeps_code (span_roles enc) t (code_seen given.ops)
 
   pub covered-for : IsTaken (span_roles enc) t (code_seen given.ops) → IsCoveredFor t given code
   covered-for taken h v p typed there = cut (sent_steps code h v) (met h v) (subst IsThere (sym (sends-same h v p)) there) where

@@ -7,7 +7,7 @@ use Rattle.cast_stub.specs.Block.{Block, stop, ensure, ensure_row, align, chunk,
 use Rattle.cast_stub.specs.Append.{append}
 use Rattle.cast_stub.specs.Subs.{sub_at}
 use Rattle.cast_stub.specs.Framed.{IsFramed, lead_length, IsTail}
-use Rattle.cast_stub.specs.Kept.{unensured, cases_unensured, AddsEnsures}
+use Rattle.cast_stub.specs.Kept.{unensured, cases_unensured, ChangesOnlyEnsures}
 use Rattle.cast_stub.specs.Rowless.{IsRowless, AreRowless, HasNoRow}
 use Rattle.cast_stub.proofs.Followed.{mapped, append_rowless, through_rowless}
 use Rattle.hoist.specs.Pass.{IsGiven}
@@ -77,7 +77,7 @@ nothing_there : (k : ℕ) (b : Block) → sub_at [] k ≡ Some b → IsRowless b
 nothing_there k b e = absurd cc
 
 -- with ensures added to a given code
-pub no_row : (t : Ty) (given code : SendCode) → IsGiven t given → AddsEnsures given code → code.subs ≡ [] → HasNoRow code
+pub no_row : (t : Ty) (given code : SendCode) → IsGiven t given → ChangesOnlyEnsures given code → code.subs ≡ [] → HasNoRow code
 no_row t given code is adds none =
     let own = framed_rowless is.1 t (code_seen given.ops) is.2 in
     record {

@@ -1,7 +1,8 @@
-// What is ensured before operations, while they are visited from the last to the first.
+//! What is ensured before operations, while they are visited from the last to the first.
+
 ghost use Rattle.std.specs.Prelude.{◌≡◌, ◌+◌, reverse, OnOk, IfOk};
 ghost use Rattle.cast_stub.specs.Block.{code_seen};
-ghost use Rattle.hoist.specs.Hoisted.{raised, some_octets, closed, settled, small, loop, apart};
+ghost use Rattle.hoist.specs.Hoisted.{raised, some_octets, closed, settled, small, loop};
 ghost use Rattle.hoist.specs.Seen.{ahead_seen, behind, plan_seen};
 
 use cast_stub::{Path, SendOp};

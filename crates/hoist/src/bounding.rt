@@ -1,4 +1,5 @@
-// The most octets that code appends.
+//! The most octets that code appends.
+
 ghost use Rattle.std.specs.Prelude.{◌≡◌, ◌<◌, [], length, option_map, IfOk, None, Some, if◌then◌else◌};
 ghost use Rattle.std.specs.Ordering.{int_eq};
 ghost use Rattle.mint.specs.Types.{Scalar, scalar_type, type_at, unfolded, others_at, ArmsBelow, IsBelow};

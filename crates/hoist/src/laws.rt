@@ -1,4 +1,5 @@
-// The laws of hoisting, each the contract of a function that does nothing.
+//! The laws of hoisting, each the contract of a function that does nothing.
+
 ghost use Rattle.wire_def.specs.declared.encoding.Encoding.{Encoding};
 ghost use Rattle.hoist.specs.Bound.{BoundsHold};
 ghost use Rattle.hoist.specs.Laws.{FramedIsTaken, HoistingCovers, HoistingEnsuresRows, HoistingIsSparing, HoistingKeepsCode, HoistingKeepsSteps, HoistingSparesRows, SpansAreSizes};

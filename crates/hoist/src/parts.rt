@@ -1,4 +1,5 @@
-// The nodes of parts.
+//! The nodes of parts.
+
 ghost use Rattle.std.specs.Prelude.{◌≡◌, ◌<◌, ◌≤◌, length, option_map, IfSome};
 ghost use Rattle.mint.specs.Types.{type_at};
 ghost use Rattle.cast_stub.specs.PartTypes.{ty_at};

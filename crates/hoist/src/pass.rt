@@ -1,4 +1,5 @@
-// The pass: ensures before operations, from the last operation to the first.
+//! The pass: ensures before operations, from the last operation to the first.
+
 ghost use Rattle.std.specs.Prelude.{◌≡◌, ◌<◌, [], length, reverse, IfOk};
 ghost use Rattle.mint.specs.Types.{type_at, unfolded, others_at, ArmsBelow, IsBelow};
 ghost use Rattle.cast_stub.specs.Block.{stop, op_seen, code_seen, cases_seen};
@@ -7,7 +8,7 @@ ghost use Rattle.cast_stub.specs.PartTypes.{present_at, arms_at};
 ghost use Rattle.cast_stub.specs.Bare.{RowsAreBare};
 ghost use Rattle.cast_stub.specs.Rowless.{HasNoRow};
 ghost use Rattle.hoist.specs.Pass.{EnsuresRows, IsGiven, IsSparing};
-ghost use Rattle.cast_stub.specs.Kept.{AddsEnsures, IsCoveredFor, SendsTheSame};
+ghost use Rattle.cast_stub.specs.Kept.{ChangesOnlyEnsures, IsCoveredFor, SendsTheSame};
 ghost use Rattle.hoist.specs.Hoisted.{closed, hoisted, cases_hoisted, kept, items_at, or_void, or_none, InType, IsTaken, CasesTaken, WhereApart};
 ghost use Rattle.hoist.specs.Seen.{AreHoisted, ArmsTaken, IsHoisted, behind, plan_seen, span_roles, InFront};
 
@@ -312,7 +313,7 @@ pub fn hoist(
     requires given { IsGiven (type_at mint.now id) code.now }
     // What it keeps.
     ensures same { IfOk result (λ r. SendsTheSame code.now r) }
-    ensures adds { IfOk result (λ r. AddsEnsures code.now r) }
+    ensures adds { IfOk result (λ r. ChangesOnlyEnsures code.now r) }
     ensures no_row { IfOk result (λ r. HasNoRow r) }
     ensures subs { IfOk result (λ r. r.subs ≡ []) }
     // The room that it ensures.

@@ -1,4 +1,5 @@
-// How the room of operations with bodies is ensured.
+//! How the room of operations with bodies is ensured.
+
 ghost use Rattle.std.specs.Prelude.{◌≡◌, ◌<◌, ℕ, List, length, IfOk};
 ghost use Rattle.mint.specs.Types.{type_at};
 ghost use Rattle.cast_stub.specs.Block.{code_seen, cases_seen};

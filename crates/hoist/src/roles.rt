@@ -1,4 +1,5 @@
-// What operations over parts are, by the sizes of the nodes on the way.
+//! What operations over parts are, by the sizes of the nodes on the way.
+
 ghost use Rattle.std.specs.Prelude.{◌≡◌, ◌<◌, ◌-◌, length, option_map, IfSome};
 ghost use Rattle.mint.specs.Types.{type_at};
 ghost use Rattle.storage_class.specs.Classing.{top};

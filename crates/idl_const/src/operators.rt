@@ -1,5 +1,6 @@
-// What each operator gives.
-ghost use Rattle.std.specs.Prelude.{◌≡◌, ◌<◌, ◌*◌, ◌^◌, pos, MatchOption};
+//! What each operator gives.
+
+ghost use Rattle.std.specs.Prelude.{◌≡◌, ◌<◌, ◌^◌};
 ghost use Rattle.idl_const.specs.Values.{unary_value, binary_value, places};
 
 use crate::{BinaryOp, ConstErr, UnaryOp};

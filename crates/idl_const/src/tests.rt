@@ -1,4 +1,5 @@
-// Values worked out by hand, where a sign or an edge decides.
+//! Values worked out by hand, where a sign or an edge decides.
+
 use super::*;
 use std::test::Fail;
 

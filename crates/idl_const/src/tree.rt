@@ -1,4 +1,5 @@
-// Expressions as a file has them.
+//! Expressions as a file has them.
+
 ghost use Rattle.std.specs.Prelude.{◌≡◌, IfOk};
 ghost use Rattle.idl_const.specs.Exprs.{seen, unary, binary};
 

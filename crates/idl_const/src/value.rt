@@ -1,4 +1,5 @@
-// The value of an expression.
+//! The value of an expression.
+
 ghost use Rattle.std.specs.Prelude.{◌≡◌};
 ghost use Rattle.idl_const.specs.Exprs.{seen, IsShallow};
 ghost use Rattle.idl_const.specs.Values.{value_of, constant_of};

@@ -1,4 +1,5 @@
-// Classes of octets.
+//! Classes of octets.
+
 ghost use Rattle.std.specs.Prelude.{◌≡◌, ◌≤◌, length};
 ghost use Rattle.std.specs.List.{prefix_len};
 ghost use Rattle.idl_lex.specs.Classes.{is_blank, is_in_line, is_line_blank, is_letter, is_digit, is_word_octet, is_hex_digit};

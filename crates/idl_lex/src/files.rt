@@ -1,4 +1,5 @@
-// File names after words that import files.
+//! File names after words that import files.
+
 ghost use Rattle.std.specs.Prelude.{◌≡◌, ◌<◌, ◌≤◌, ◌+◌, length, take, drop, not, ◌&&◌, ◌==◌, IfSome, IfOk, Ok};
 ghost use Rattle.std.specs.List.{prefix_len};
 ghost use Rattle.std.specs.Str.{str_eq_ignore_ascii_case};

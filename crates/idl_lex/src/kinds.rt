@@ -1,4 +1,5 @@
-// Tokens, and the front ends that have them.
+//! Tokens, and the front ends that have them.
+
 use kit_base::{Listed, Name, Octets};
 
 /// The language of a file.

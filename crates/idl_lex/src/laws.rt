@@ -1,4 +1,5 @@
-// Laws of pieces and faults. Each function does nothing; its contract is the law.
+//! Laws of pieces and faults. Each function does nothing; its contract is the law.
+
 ghost use Rattle.std.specs.Prelude.{◌≡◌, List, ℕ};
 ghost use Rattle.idl_lex.specs.Pieces.{Piece};
 ghost use Rattle.idl_lex.specs.Lexed.{ArePieces, IsFirstFault, TextsAreDecided};

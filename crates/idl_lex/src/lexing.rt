@@ -1,4 +1,5 @@
-// The tokens of a text.
+//! The tokens of a text.
+
 ghost use Rattle.std.specs.Prelude.{◌≡◌, ◌++◌, IfOk, IfErr, OnOk};
 ghost use Rattle.idl_lex.specs.Lexed.{AreTokens, Explains, token_on};
 ghost use Rattle.idl_lex.specs.declared.lexing.LexErr.TheVariants.{NoMemory as WantOfMemory};

@@ -1,4 +1,5 @@
-// Lines: their numbers, and those that are skipped.
+//! Lines: their numbers, and those that are skipped.
+
 ghost use Rattle.std.specs.Prelude.{◌≡◌, ◌+◌, ◌-◌, ◌^◌, min, length, ◌==◌};
 ghost use Rattle.idl_lex.specs.Lines.{line_feeds, line_before, is_at_start, is_marker, is_skipped_by, is_hash_line, is_skipped};
 

@@ -1,4 +1,5 @@
-// Digit strings, and the numbers that they stand for.
+//! Digit strings, and the numbers that they stand for.
+
 ghost use Rattle.std.specs.Prelude.{◌≡◌, ◌<◌, ◌≤◌, ◌^◌, length, nat_lt, pos, MatchOption, ◌+◌, ◌*◌};
 ghost use Rattle.std.specs.List.{list_all};
 ghost use Rattle.std.specs.Option.{SomeIff};

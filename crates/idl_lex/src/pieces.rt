@@ -1,4 +1,5 @@
-// The piece that comes first in a text.
+//! The piece that comes first in a text.
+
 ghost use Rattle.std.specs.Prelude.{◌≡◌, ◌<◌, ◌≤◌, ◌+◌, length, take, drop, IfOk, IfSome, IsTrue, Ok};
 ghost use Rattle.std.specs.List.{prefix_len};
 ghost use Rattle.idl_lex.specs.Classes.{is_digit, is_letter, is_word_octet, begins};

@@ -1,8 +1,9 @@
-// Characters and strings between quotes.
-ghost use Rattle.std.specs.Prelude.{◌≡◌, ◌<◌, ◌≤◌, ◌+◌, ◌-◌, length, drop, take, IfOk, IfSome, Ok, is_some};
+//! Characters and strings between quotes.
+
+ghost use Rattle.std.specs.Prelude.{◌≡◌, ◌<◌, ◌≤◌, ◌+◌, ◌-◌, length, drop, IfOk, IfSome, Ok};
 ghost use Rattle.std.specs.Prelude.{false};
 ghost use Rattle.idl_lex.specs.Classes.{begins};
-ghost use Rattle.idl_lex.specs.Quotes.{is_single, opens_quote, is_plain, escape_of, escaped_at, plain_at, character_at, string_count, code_or, spelled};
+ghost use Rattle.idl_lex.specs.Quotes.{is_single, opens_quote, is_plain, escape_of, escaped_at, character_at, string_count, code_or, spelled};
 ghost use Rattle.idl_lex.specs.Reads.{Gives, shown, character_of, string_of, quoted_of};
 
 use crate::{Front, LexErr, TokenKind};

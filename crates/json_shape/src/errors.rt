@@ -1,4 +1,5 @@
-// Why JSON gives no value.
+//! Why JSON gives no value.
+
 use hex::FromHexError;
 use kit_base::NoMemory;
 use std::alloc::{AllocError, AllocFailed};

@@ -1,4 +1,5 @@
-// The order of the fields of a struct in JSON, which is that of their keys.
+//! The order of the fields of a struct in JSON, which is that of their keys.
+
 ghost use Rattle.std.specs.Prelude.{◌≡◌, ◌<◌, ◌≤◌, ℕ, length, insert, IfOk};
 ghost use Rattle.serde_json.specs.Data.{Data, put};
 ghost use Rattle.json_shape.specs.Printed.{key_at, members_at, IsOrder};

@@ -1,4 +1,5 @@
-// The members of records.
+//! The members of records.
+
 ghost use Rattle.std.specs.Prelude.{◌≡◌, option_map, unwrap_or, codes, string_bytes};
 ghost use Rattle.std.specs.List.{list_all};
 ghost use Rattle.std.specs.BTreeMap.{keys};

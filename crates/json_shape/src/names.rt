@@ -1,4 +1,5 @@
-// Names that strings are.
+//! Names that strings are.
+
 ghost use Rattle.std.specs.Prelude.{◌≡◌, ◌≢◌, ◌<◌, ◌==◌, ◌++◌, ℕ, List, IfNone, IfSome, true, false, codes, length, slice_index};
 ghost use Rattle.std.specs.Str.{IsAscii, bytes_eq};
 ghost use Rattle.json_shape.specs.Texts.{text_of};

@@ -1,4 +1,5 @@
-// Numbers, items, texts and rows as JSON.
+//! Numbers, items, texts and rows as JSON.
+
 ghost use Rattle.std.specs.Prelude.{◌≡◌, [], ◌∷◌, true, IfOk};
 ghost use Rattle.hex.specs.Hex.{encode_lower};
 ghost use Rattle.mint.specs.Kinds.{in_range};
@@ -7,7 +8,7 @@ ghost use Rattle.serde_json.specs.Data.{array, string, number};
 ghost use Rattle.serde_json.specs.Find.{of_integer};
 ghost use Rattle.serde_json.specs.View.{view};
 ghost use Rattle.json_shape.specs.Texts.{text_of};
-ghost use Rattle.json_shape.specs.Written.{number_json, number_tree, sign_json, row_json, each_json, letters};
+ghost use Rattle.json_shape.specs.Written.{number_json, sign_json, row_json, each_json, letters};
 
 use crate::texts::text_of;
 use kit_base::NoMemory;

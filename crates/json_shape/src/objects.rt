@@ -1,11 +1,11 @@
-// Members of objects.
+//! Members of objects.
+
 ghost use Rattle.std.specs.Prelude.{◌≡◌, ◌<◌, [], length, slice_index_or, false, option_map, string_bytes};
 ghost use Rattle.std.specs.Option.{option_map_or};
 ghost use Rattle.std.specs.List.{list_all};
 ghost use Rattle.std.specs.BTreeMap.{keys};
 ghost use Rattle.pres.specs.Faces.{sign_of};
-ghost use Rattle.serde_json.specs.Data.{put};
-ghost use Rattle.serde_json.specs.View.{view, members_view};
+ghost use Rattle.serde_json.specs.View.{view};
 ghost use Rattle.serde_json.specs.Find.{get, as_object};
 ghost use Rattle.json_shape.specs.Gives.{Gives};
 ghost use Rattle.json_shape.specs.Presents.{is_arm, is_arm_key, members_in, tag_in};

@@ -1,5 +1,6 @@
-// The operations that records name.
-ghost use Rattle.std.specs.Prelude.{◌≡◌, ◌<◌, ◌≤◌, ◌++◌, ℕ, List, IfOk, IfSome, None, Some, true, codes, length, map, option_map, slice_get, slice_index_or};
+//! The operations that records name.
+
+ghost use Rattle.std.specs.Prelude.{◌≡◌, ◌<◌, ◌≤◌, ◌++◌, IfOk, IfSome, None, Some, true, codes, length, map, option_map, slice_get, slice_index_or};
 ghost use Rattle.std.specs.List.{position_from};
 ghost use Rattle.std.specs.Str.{IsAscii, bytes_eq};
 ghost use Rattle.aoi.specs.Plain.{plain_raise, plain_operation, plain_interface};

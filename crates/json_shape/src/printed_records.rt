@@ -1,4 +1,5 @@
-// Request records, written straight from their values.
+//! Request records, written straight from their values.
+
 ghost use Rattle.std.specs.Prelude.{◌≡◌, ◌<◌, length, slice_get, IfOk, IfSome, OnOk};
 ghost use Rattle.mint.specs.Values.{seen};
 ghost use Rattle.serde_json.specs.Written.{compact_text};

@@ -1,4 +1,5 @@
-// Numbers, items, texts and rows, written as JSON.
+//! Numbers, items, texts and rows, written as JSON.
+
 ghost use Rattle.std.specs.Prelude.{◌≡◌, [], ◌∷◌, true, OnOk};
 ghost use Rattle.hex.specs.Hex.{encode_lower};
 ghost use Rattle.json.specs.Token.{boolean, string as string_token};

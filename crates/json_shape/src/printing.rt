@@ -1,4 +1,5 @@
-// Values, written as JSON straight from their types, without a tree.
+//! Values, written as JSON straight from their types, without a tree.
+
 ghost use Rattle.std.specs.Prelude.{◌≡◌, ◌<◌, [], ◌∷◌, length, OnOk};
 ghost use Rattle.json.specs.Token.{null as null_token};
 ghost use Rattle.mint.specs.Types.{AreBelow, ArmsBelow, IsBelow};

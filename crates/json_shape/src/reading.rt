@@ -1,4 +1,5 @@
-// Values from JSON.
+//! Values from JSON.
+
 ghost use Rattle.std.specs.Prelude.{◌≡◌, ◌<◌, [], length, IfErr, IfOk, option_map};
 ghost use Rattle.mint.specs.Typed.{IsWellTyped};
 ghost use Rattle.mint.specs.Types.{AreBelow, ArmsBelow, IsBelow, type_at};

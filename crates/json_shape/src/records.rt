@@ -1,4 +1,5 @@
-// Records of requests and replies.
+//! Records of requests and replies.
+
 use mint::value::Value;
 use wire_def::Head;
 

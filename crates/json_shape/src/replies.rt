@@ -1,4 +1,5 @@
-// Reply records.
+//! Reply records.
+
 ghost use Rattle.std.specs.Prelude.{◌≡◌, ◌<◌, length, true, slice_get, IfOk, IfSome, is_some, if◌then◌else◌, option_map, codes};
 ghost use Rattle.mint.specs.Typed.{IsWellTyped};
 ghost use Rattle.mint.specs.Types.{type_at};

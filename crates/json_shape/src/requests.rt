@@ -1,4 +1,5 @@
-// Request records.
+//! Request records.
+
 ghost use Rattle.std.specs.Prelude.{◌≡◌, ◌<◌, length, not, codes, slice_get, IfOk, IfSome, Ok};
 ghost use Rattle.mint.specs.Typed.{IsWellTyped};
 ghost use Rattle.mint.specs.Types.{type_at};

@@ -1,4 +1,5 @@
-// Texts and rows of numbers.
+//! Texts and rows of numbers.
+
 ghost use Rattle.std.specs.Prelude.{◌≡◌, IfOk, map, pos};
 ghost use Rattle.mint.specs.declared.kind.Kind.TheVariants as kind;
 ghost use Rattle.mint.specs.Kinds.{above};

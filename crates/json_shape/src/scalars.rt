@@ -1,5 +1,5 @@
-// Numbers and items of enums.
-ghost use Rattle.std.specs.Prelude.{◌≡◌};
+//! Numbers and items of enums.
+
 ghost use Rattle.mint.specs.declared.kind.Kind.TheVariants as kind;
 ghost use Rattle.serde_json.specs.View.{view};
 ghost use Rattle.pres.specs.Faces.{items_in, sign_of, item};

@@ -1,4 +1,5 @@
-// Strings that stand for octets.
+//! Strings that stand for octets.
+
 ghost use Rattle.std.specs.Prelude.{IfNone, IfOk, IfSome, IsUtf8, string_bytes, ◌≡◌, ◌≢◌, ◌++◌, ℕ, List};
 ghost use Rattle.std.specs.Str.{bytes_eq};
 ghost use Rattle.std.specs.Str.Iter.{chars_rest};

@@ -1,6 +1,7 @@
-// Values from text in the usual form: structs with their fields in the order of the file, no union, nothing optional.
-// What is in another form is read by its tree.
-ghost use Rattle.std.specs.Prelude.{◌≡◌, ◌<◌, [], length, IfOk};
+//! Values from text in the usual form: structs with their fields in the order of the file, no union, nothing optional.
+//! What is in another form is read by its tree.
+
+ghost use Rattle.std.specs.Prelude.{◌<◌, [], length, IfOk};
 ghost use Rattle.json.specs.Value.{value_view, items_view, members_view};
 ghost use Rattle.mint.specs.Types.{AreBelow};
 ghost use Rattle.mint.specs.Values.{seen, all_seen};

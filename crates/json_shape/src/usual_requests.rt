@@ -1,5 +1,6 @@
-// Request records from text in the usual form. Before the name of the operation stands what is there of the arguments
-// and the head numbers, or after it what is there of the head numbers and the arguments.
+//! Request records from text in the usual form. Before the name of the operation stands what is there of the arguments
+//! and the head numbers, or after it what is there of the head numbers and the arguments.
+
 ghost use Rattle.std.specs.Prelude.{◌≡◌, ◌<◌, ◌^◌, codes, length, slice_get, IfOk, IfSome, Some};
 ghost use Rattle.json.specs.Json.{Json};
 ghost use Rattle.json.specs.Value.{members_view, value_view};

@@ -1,4 +1,5 @@
-// Numbers, items, texts and rows from text in the usual form.
+//! Numbers, items, texts and rows from text in the usual form.
+
 ghost use Rattle.std.specs.Prelude.{◌≡◌, ◌==◌, ◌<◌, [], ◌∷◌, ◌++◌, true, false, Some, IfOk, OnOk, IfSome, IsTrue, drop, length, slice_index};
 ghost use Rattle.fast_float.specs.Text.{scan};
 ghost use Rattle.json.specs.Value.{value_view};

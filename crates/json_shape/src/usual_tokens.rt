@@ -1,4 +1,5 @@
-// What a tree of text is: a string, a number, a boolean, an array or an object.
+//! What a tree of text is: a string, a number, a boolean, an array or an object.
+
 ghost use Rattle.std.specs.Prelude.{◌≡◌, true, IfOk, OnOk};
 ghost use Rattle.std.specs.Str.{bytes_eq};
 ghost use Rattle.json.specs.Json.{array, boolean, number, object, string};

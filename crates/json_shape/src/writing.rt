@@ -1,4 +1,5 @@
-// Values as JSON.
+//! Values as JSON.
+
 ghost use Rattle.std.specs.Prelude.{◌≡◌, ◌<◌, [], length, IfOk};
 ghost use Rattle.mint.specs.Typed.{IsWellTyped};
 ghost use Rattle.mint.specs.Types.{AreBelow, ArmsBelow, IsBelow, type_at};

@@ -1,5 +1,6 @@
-// Records that are written.
-ghost use Rattle.std.specs.Prelude.{◌≡◌, ◌<◌, length, map, true, codes, IfOk, IfSome, OnOk, slice_get, option_map};
+//! Records that are written.
+
+ghost use Rattle.std.specs.Prelude.{◌≡◌, ◌<◌, length, map, true, IfOk, IfSome, OnOk, slice_get, option_map};
 ghost use Rattle.aoi.specs.Plain.{plain_raise};
 ghost use Rattle.mint.specs.Typed.{IsWellTyped};
 ghost use Rattle.mint.specs.Types.{type_at};

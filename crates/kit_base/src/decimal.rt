@@ -1,4 +1,5 @@
-// Decimal numbers in words.
+//! Decimal numbers in words.
+
 ghost use Rattle.std.specs.Prelude.{◌≡◌, ◌≢◌, ◌<◌, ◌^◌, ℕ, IfSome, Some, None};
 ghost use Rattle.kit_base.specs.Decimal.{is_listed, is_number, number_in};
 

@@ -1,4 +1,5 @@
-// The two errors without fields.
+//! The two errors without fields.
+
 use std::alloc::{AllocError, AllocFailed};
 
 /// Out of memory. A failure with another cause is never reported as this.

@@ -1,4 +1,5 @@
-// Where a line ends, and what is answered for its octets.
+//! Where a line ends, and what is answered for its octets.
+
 ghost use Rattle.std.specs.Prelude.{◌≡◌, ◌≢◌, ◌<◌, ◌≤◌, ◌+◌, ◌∷◌, ◌++◌, length, take, drop, IfOk, IfErr, IfSome, IfNone, Some, option_to_list};
 ghost use Rattle.kit_base.specs.Lines.{line_of, HasNoEnd, chomp};
 

@@ -1,7 +1,7 @@
-// The lines of a source.
-ghost use Rattle.std.specs.Prelude.{◌≡◌, ◌≢◌, ◌<◌, ◌≤◌, ◌-◌, ◌+◌, ◌^◌, List, ℕ, [], ◌∷◌, ◌++◌, length, take, drop, OnOk, OnErr, IfOk, IfErr, IfSome, IfNone, All, Some, None, true, false, option_to_list, IsErrOf, if◌then◌else◌};
+//! The lines of a source.
+ghost use Rattle.std.specs.Prelude.{◌≡◌, ◌≢◌, ◌<◌, ◌≤◌, ◌-◌, ◌+◌, ◌^◌, [], ◌∷◌, ◌++◌, length, take, drop, OnOk, OnErr, IfOk, IfErr, IfSome, IfNone, Some, None, true, false, option_to_list, if◌then◌else◌};
 ghost use Rattle.kit_base.specs.Causes.{Rose};
-ghost use Rattle.kit_base.specs.Lines.{State, Passed, Advances, answered, pending, HasNoEnd, KnowsEnd, line_of, line_in, IsFound, chomp, work};
+ghost use Rattle.kit_base.specs.Lines.{State, Passed, Advances, answered, pending, HasNoEnd, KnowsEnd, line_of, line_in, IsFound, work};
 ghost use Rattle.std.specs.Io.KnownBytes.{Consumes};
 ghost use Rattle.kit_base.specs.declared.lines.Line.TheVariants.{Long};
 ghost use Rattle.kit_base.specs.declared.lines.LineErr.{LineErr};

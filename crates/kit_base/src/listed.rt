@@ -1,4 +1,5 @@
-// One list type, and the lists of octets and of words made of it.
+//! One list type, and the lists of octets and of words made of it.
+
 ghost use Rattle.std.specs.Prelude.{◌≡◌, [], ◌∷◌, ◌++◌, ◌<◌, length, slice_get, slice_set, Some, IfOk, OnOk, OnErr};
 ghost use Rattle.std.specs.Option.{option_copied};
 

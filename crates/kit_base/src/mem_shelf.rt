@@ -1,5 +1,6 @@
-// A shelf in memory.
-ghost use Rattle.std.specs.Prelude.{◌≡◌, ◌≢◌, ◌≤◌, ◌↔◌, [], ◌∷◌, ◌++◌, length, take, Some, None, OnOk, OnErr, IfOk, IfErr, IsErrOf, true, false};
+//! A shelf in memory.
+
+ghost use Rattle.std.specs.Prelude.{◌≡◌, ◌≢◌, ◌≤◌, ◌↔◌, [], ◌∷◌, ◌++◌, length, take, Some, None, OnOk, OnErr, IfOk, IfErr, IsErrOf, true};
 ghost use Rattle.std.specs.Option.{option_copied};
 ghost use Rattle.kit_base.specs.Causes.{Rose};
 ghost use Rattle.kit_base.specs.Memory.{HasFile, LacksFile, content_of, fails_next, called, fresh};

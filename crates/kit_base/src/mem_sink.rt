@@ -1,5 +1,6 @@
-// Sinks in memory.
-ghost use Rattle.std.specs.Prelude.{◌≡◌, ◌<◌, ◌≤◌, ◌-◌, ◌+◌, ◌++◌, ◌↔◌, [], length, take, min, Some, IfOk, OnErr, IsTrue, is_ok, is_err, false, true};
+//! Sinks in memory.
+
+ghost use Rattle.std.specs.Prelude.{◌≡◌, ◌<◌, ◌≤◌, ◌-◌, ◌+◌, ◌++◌, [], length, take, min, Some, IfOk, OnErr, IsTrue, is_err, false, true};
 ghost use Rattle.std.specs.Io.{WritesAtMost};
 ghost use Rattle.std.specs.Io.KnownBytes.{WriteAppends};
 ghost use Rattle.kit_base.specs.Causes.{HasCause};

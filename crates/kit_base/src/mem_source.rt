@@ -1,5 +1,6 @@
-// Sources in memory.
-ghost use Rattle.std.specs.Prelude.{◌≡◌, ◌≤◌, ◌↔◌, [], length, take, drop, min, Some, Ok, IfOk, IsTrue, is_ok, is_err, false};
+//! Sources in memory.
+
+ghost use Rattle.std.specs.Prelude.{◌≡◌, ◌≤◌, ◌↔◌, [], length, take, drop, min, Some, Ok, IfOk, IsTrue, is_ok, false};
 ghost use Rattle.std.specs.Io.{ReadsAtMost};
 ghost use Rattle.std.specs.Io.KnownBytes.{ReadConsumes};
 ghost use Rattle.kit_base.specs.Causes.{HasCause};

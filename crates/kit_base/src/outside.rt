@@ -1,5 +1,6 @@
-// What gives octets, what takes them, and what has files by their paths.
-ghost use Rattle.std.specs.Prelude.{◌≡◌, ◌≢◌, ◌<◌, ◌≤◌, List, ℕ, Bool, [], ◌++◌, length, take, OnOk, OnErr, IfOk, IsErrOf, Option, Some, None, IsSome, IsNone, MatchResult};
+//! What gives octets, what takes them, and what has files by their paths.
+
+ghost use Rattle.std.specs.Prelude.{◌≡◌, ◌≢◌, ◌<◌, ◌≤◌, List, ℕ, ◌++◌, length, take, OnOk, OnErr, IfOk, IsErrOf, Option};
 ghost use Rattle.std.specs.Io.{ReadsAtMost, WritesAtMost};
 ghost use Rattle.std.specs.Io.KnownBytes.{ReadConsumes, WriteAppends, Appends};
 ghost use Rattle.kit_base.specs.Causes.{Rose, HasCause};

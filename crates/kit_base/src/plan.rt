@@ -1,5 +1,6 @@
-// Which calls of a source, a sink or a shelf in memory fail.
-ghost use Rattle.std.specs.Prelude.{◌≡◌, ◌≤◌, true, false, [], if◌then◌else◌};
+//! Which calls of a source, a sink or a shelf in memory fail.
+
+ghost use Rattle.std.specs.Prelude.{◌≡◌, true, false};
 ghost use Rattle.kit_base.specs.Memory.{fails_next, called, faulted, fresh};
 
 use crate::Words;

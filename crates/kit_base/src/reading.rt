@@ -1,4 +1,5 @@
-// Pieces of a source, read into a buffer.
+//! Pieces of a source, read into a buffer.
+
 ghost use Rattle.std.specs.Prelude.{◌≡◌, ◌≢◌, ◌<◌, ◌≤◌, ◌+◌, length, take, drop, OnErr, IfOk};
 ghost use Rattle.kit_base.specs.Causes.{Rose};
 ghost use Rattle.std.specs.Io.KnownBytes.{Consumes, IsAtEnd};

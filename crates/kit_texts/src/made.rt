@@ -1,4 +1,5 @@
-// The requests that a number makes.
+//! The requests that a number makes.
+
 ghost use Rattle.std.specs.Prelude.{◌≡◌, ◌<◌, [], length, IfOk};
 ghost use Rattle.raw_buf.specs.Buf.{NoneFell};
 ghost use Rattle.kit_texts.specs.Counted.{messages_from, Counts};

@@ -1,4 +1,5 @@
-// The lines of operations.
+//! The lines of operations.
+
 ghost use Rattle.std.specs.Prelude.{◌++◌, codes, map, OnOk};
 ghost use Rattle.aoi.specs.Plain.{plain_operation, plain_raise};
 ghost use Rattle.stub_print.specs.Putting.{IsPut};

@@ -1,4 +1,5 @@
-// The text of a unit.
+//! The text of a unit.
+
 ghost use Rattle.std.specs.Prelude.{◌≡◌, map, IfOk, OnOk};
 ghost use Rattle.aoi.specs.Plain.{plain, plain_interface, plain_operation};
 ghost use Rattle.aoi.specs.Shapes.{seen};

@@ -1,8 +1,9 @@
-// The texts of the stub code of operations.
+//! The texts of the stub code of operations.
+
 ghost use Rattle.std.specs.Prelude.{◌≡◌, ◌++◌, ◌<◌, length, map, IfOk, IfSome, OnOk, slice_get};
 ghost use Rattle.aoi.specs.Plain.{plain_interface};
 ghost use Rattle.json_shape.specs.Operations.{interface_name, dotted};
-ghost use Rattle.kit_texts.specs.StubTexts.{both_texts, counted_text, received_text, sent_text, stubs_text, texts_of};
+ghost use Rattle.kit_texts.specs.StubTexts.{both_texts, counted_text, received_text, sent_text, stubs_text};
 ghost use Rattle.kit_texts.specs.WholeLines.{AreWholeLines};
 
 use aoi::Interface;

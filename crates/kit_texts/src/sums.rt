@@ -1,4 +1,5 @@
-// What is counted of messages.
+//! What is counted of messages.
+
 ghost use Rattle.std.specs.Prelude.{◌≡◌, ◌++◌, ◌+◌, ◌<◌, ◌^◌, ℕ, List, length, IfOk, OnOk, codes};
 ghost use Rattle.kit_base.specs.Bytes.{be};
 ghost use Rattle.hex.specs.Hex.{encode_lower};

@@ -1,4 +1,5 @@
-// What became of requests that were made.
+//! What became of requests that were made.
+
 ghost use Rattle.std.specs.Prelude.{◌≡◌, ◌≢◌, IfOk, OnOk};
 ghost use Rattle.kit_texts.specs.MadeText.{is_within};
 

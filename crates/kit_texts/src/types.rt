@@ -1,4 +1,5 @@
-// The texts of types.
+//! The texts of types.
+
 ghost use Rattle.std.specs.Prelude.{◌≡◌, ◌++◌, [], None, OnOk, slice_index_or, codes};
 ghost use Rattle.std.specs.Option.{option_map};
 ghost use Rattle.aoi.specs.Shapes.{arms_seen, default_of, members, seen};

@@ -1,4 +1,5 @@
-// Octets and numbers of a text.
+//! Octets and numbers of a text.
+
 ghost use Rattle.std.specs.Prelude.{◌++◌, OnOk, decimal};
 ghost use Rattle.std.specs.Fmt.{signed_decimal};
 ghost use Rattle.stub_print.specs.Putting.{IsPut};

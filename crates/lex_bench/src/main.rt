@@ -1,5 +1,6 @@
-// Lexes the text on standard input, or lexes and parses it, so that what an octet costs can be counted:
-// [onc|corba|parse].
+//! Lexes the text on standard input, or lexes and parses it, so that what an octet costs can be counted:
+//! [onc|corba|parse].
+
 #![tactic(auto)]
 
 use anyhow::{Result, bail};

@@ -1,4 +1,5 @@
-// Laws of the grammar. Each function does nothing; its contract is the law.
+//! Laws of the grammar. Each function does nothing; its contract is the law.
+
 ghost use Rattle.std.specs.Prelude.{◌≡◌, ℕ, List};
 ghost use Rattle.idl_lex.specs.declared.kinds.TokenKind.{TokenKind};
 ghost use Rattle.mig_syntax.specs.Trees.{Tree};

@@ -1,4 +1,5 @@
-// The operators of expressions.
+//! The operators of expressions.
+
 ghost use Rattle.std.specs.Prelude.{◌≡◌, drop};
 ghost use Rattle.mig_syntax.specs.Spelling.{looseness};
 ghost use Rattle.mig_syntax.specs.Readers.{binary_in, operator_at};

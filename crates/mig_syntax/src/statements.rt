@@ -1,4 +1,5 @@
-// Statements, and the heading of a file.
+//! Statements, and the heading of a file.
+
 ghost use Rattle.std.specs.Prelude.{◌≡◌, IfErr};
 ghost use Rattle.syntax_kit.specs.Reading.{Gives, begins_with, token_at};
 ghost use Rattle.mig_syntax.specs.Words.{like_in, has_like};

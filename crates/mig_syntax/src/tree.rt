@@ -1,4 +1,5 @@
-// The syntax tree of a MIG definition file.
+//! The syntax tree of a MIG definition file.
+
 ghost use Rattle.std.specs.Prelude.{◌≡◌, IfOk};
 ghost use Rattle.mig_syntax.specs.Trees.{leaf, binary};
 

@@ -1,4 +1,5 @@
-// Types.
+//! Types.
+
 ghost use Rattle.std.specs.Prelude.{◌≡◌};
 ghost use Rattle.syntax_kit.specs.Reading.{Gives};
 ghost use Rattle.mig_syntax.specs.StatementReaders.{row_at, sized_at, type_at};

@@ -1,4 +1,5 @@
-// Words in any letter case, and identifiers.
+//! Words in any letter case, and identifiers.
+
 ghost use Rattle.std.specs.Prelude.{◌≡◌, map, IfErr};
 ghost use Rattle.std.specs.Str.{str_eq_ignore_ascii_case, str_to_ascii_lowercase};
 ghost use Rattle.syntax_kit.specs.Reading.{Gives, begins_with, token_at};

@@ -1,6 +1,6 @@
 //! Blank values.
 
-ghost use Rattle.std.specs.Prelude.{◌≡◌, ◌<◌, ℤ, pos, length, replicate, IfOk};
+ghost use Rattle.std.specs.Prelude.{◌≡◌, ◌<◌, pos, length, replicate, IfOk};
 ghost use Rattle.mint.specs.Blank.{blank, blanks, blank_arm, blank_scalar, copies, first_of};
 ghost use Rattle.mint.specs.Typed.{IsWellTyped};
 ghost use Rattle.mint.specs.Types.{type_at, unfolded, fields_at, arms_at, scalar_of, AreBelow, ArmsBelow, IsBelow};

@@ -2,11 +2,10 @@
 
 ghost use Rattle.std.specs.Prelude.{not, ◌==◌, ◌≡◌, ◌↔◌, ◌<◌, ◌+◌, IsTrue, IfSome, IfNone, length};
 ghost use Rattle.mint.specs.Values.{seen, all_seen, weight, weights};
-ghost use Rattle.mint.specs.Types.{type_at, unfolded, fields_at, arms_at, level, scalar_of, label, text, row_of, AreBelow, ArmsBelow, IsBelow};
+ghost use Rattle.mint.specs.Types.{type_at, unfolded, fields_at, arms_at, scalar_of, label, text, row_of, AreBelow, ArmsBelow, IsBelow};
 ghost use Rattle.mint.specs.Typed.{IsWellTyped, IsOf, AreOf, IsOfArm, Each, is_scalar, IsArray};
-ghost use Rattle.mint.specs.Kinds.{in_range, is_letter};
-ghost use Rattle.std.specs.List.{list_all, list_any};
-ghost use Rattle.std.specs.Ordering.{int_eq};
+ghost use Rattle.mint.specs.Kinds.{is_letter};
+ghost use Rattle.std.specs.List.{list_all};
 
 use crate::kind::{Count, Kind};
 use crate::node::{Arms, Labels, Node, NodeIds, Tag, arm_of};

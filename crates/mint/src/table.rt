@@ -1,9 +1,9 @@
 //! A table of nodes.
 
-ghost use Rattle.std.specs.Prelude.{◌≡◌, ℕ, [], ◌∷◌, ◌++◌, ◌<◌, ◌≤◌, length, slice_get, None, IfOk, OnOk, OnErr, IfSome};
+ghost use Rattle.std.specs.Prelude.{◌≡◌, ℕ, [], ◌∷◌, ◌++◌, ◌<◌, ◌≤◌, length, slice_get, None, OnOk, OnErr, IfSome};
 ghost use Rattle.std.specs.Option.{option_copied};
 ghost use Rattle.kit_base.specs.Limits.{most_nodes, deepest, heaviest_blank};
-ghost use Rattle.mint.specs.Blank.{blank, depth};
+ghost use Rattle.mint.specs.Blank.{depth};
 ghost use Rattle.mint.specs.Measured.{size_of};
 ghost use Rattle.mint.specs.Sound.{IsSound, refusal};
 ghost use Rattle.mint.specs.Types.{level, type_at, unfolded, HasChildrenBelow};

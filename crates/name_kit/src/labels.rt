@@ -1,4 +1,5 @@
-// The numbers of enums, and the labels of unions.
+//! The numbers of enums, and the labels of unions.
+
 ghost use Rattle.std.specs.Prelude.{◌≡◌, ◌∷◌, [], ◌++◌, false, OnOk};
 ghost use Rattle.name_kit.specs.Answers.{Gives};
 ghost use Rattle.name_kit.specs.Labels.{is_label, is_of, labelled, numbered};

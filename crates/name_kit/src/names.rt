@@ -1,4 +1,5 @@
-// Names of one place.
+//! Names of one place.
+
 ghost use Rattle.std.specs.Prelude.{◌≡◌, [], ◌∷◌, ◌++◌, false, OnOk};
 ghost use Rattle.name_kit.specs.Names.{has};
 

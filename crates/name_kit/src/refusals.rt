@@ -1,4 +1,5 @@
-// Faults, and the numbers that are none.
+//! Faults, and the numbers that are none.
+
 ghost use Rattle.std.specs.Prelude.{◌≡◌};
 ghost use Rattle.name_kit.specs.Answers.{Gives, natural, refused};
 

@@ -1,4 +1,5 @@
-// Types made of their parts.
+//! Types made of their parts.
+
 ghost use Rattle.std.specs.Prelude.{◌≡◌, IfOk};
 ghost use Rattle.std.specs.Option.{option_map};
 ghost use Rattle.aoi.specs.Shapes.{seen, array, optional, structure, members, enumeration, choice, arms_seen};

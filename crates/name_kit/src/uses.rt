@@ -1,4 +1,5 @@
-// Types that names stand for.
+//! Types that names stand for.
+
 ghost use Rattle.std.specs.Prelude.{◌≡◌};
 ghost use Rattle.aoi.specs.Shapes.{seen};
 ghost use Rattle.name_kit.specs.Uses.{shape_of_use, tag_of_use};

@@ -1,4 +1,5 @@
-// Declarations.
+//! Declarations.
+
 ghost use Rattle.std.specs.Prelude.{◌≡◌};
 ghost use Rattle.syntax_kit.specs.Reading.{Gives};
 ghost use Rattle.onc_syntax.specs.Readers.{exactly_at, at_most_at, decl_at};

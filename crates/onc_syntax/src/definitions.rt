@@ -1,4 +1,5 @@
-// Definitions.
+//! Definitions.
+
 ghost use Rattle.std.specs.Prelude.{◌≡◌};
 ghost use Rattle.syntax_kit.specs.Reading.{Gives};
 ghost use Rattle.onc_syntax.specs.Readers.{const_at, def_at, ended_at};

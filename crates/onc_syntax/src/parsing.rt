@@ -1,4 +1,5 @@
-// The tree of a file.
+//! The tree of a file.
+
 ghost use Rattle.std.specs.Prelude.{◌≡◌, IfOk, IfErr, List};
 ghost use Rattle.idl_lex.specs.declared.kinds.Token.{Token};
 ghost use Rattle.onc_syntax.specs.Derivation.{Derives, Explains, TokensAreDecided};

@@ -1,4 +1,5 @@
-// Programs.
+//! Programs.
+
 ghost use Rattle.std.specs.Prelude.{◌≡◌};
 ghost use Rattle.syntax_kit.specs.Reading.{Gives};
 ghost use Rattle.onc_syntax.specs.Readers.{program_at};

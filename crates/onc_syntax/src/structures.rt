@@ -1,4 +1,5 @@
-// Enums and structs.
+//! Enums and structs.
+
 ghost use Rattle.std.specs.Prelude.{◌≡◌};
 ghost use Rattle.syntax_kit.specs.Reading.{Gives};
 ghost use Rattle.onc_syntax.specs.Readers.{enum_at, struct_at};

@@ -1,4 +1,5 @@
-// The syntax tree of an ONC file: a type for each production of the grammar.
+//! The syntax tree of an ONC file: a type for each production of the grammar.
+
 use kit_base::{Listed, Name};
 
 /// A number or a name.

@@ -1,4 +1,5 @@
-// Names, values and types.
+//! Names, values and types.
+
 ghost use Rattle.std.specs.Prelude.{◌≡◌, IfErr};
 ghost use Rattle.syntax_kit.specs.Reading.{Gives, begins_with};
 ghost use Rattle.onc_syntax.specs.Readers.{is_name, name_at, value_at, int_in, is_int, int_at, prefix_in, is_prefix, prefix_at, type_at};

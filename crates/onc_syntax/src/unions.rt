@@ -1,4 +1,5 @@
-// Unions.
+//! Unions.
+
 ghost use Rattle.std.specs.Prelude.{◌≡◌};
 ghost use Rattle.syntax_kit.specs.Reading.{Gives};
 ghost use Rattle.onc_syntax.specs.Readers.{arm_at, default_at, union_at};

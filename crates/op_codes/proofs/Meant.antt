@@ -18,7 +18,7 @@ use Rattle.cast_stub.specs.Block.{Block, code_seen}
 use Rattle.cast_stub.specs.Follows.{Follows, AllFollow}
 use Rattle.cast_stub.specs.Framed as framed_code
 use Rattle.cast_stub.specs.Framed.{lead_length, IsTail}
-use Rattle.cast_stub.specs.Kept.{AddsEnsures}
+use Rattle.cast_stub.specs.Kept.{ChangesOnlyEnsures}
 use Rattle.cast_stub.specs.Bare.{RowsAreBare}
 use Rattle.cast_stub.specs.Layouts.{layout_of}
 use Rattle.cast_stub.specs.Meaning.{wrote, meaning}
@@ -83,7 +83,7 @@ module _ (k : Back) (nodes : List Node) (id : ℕ) (subs : List (List SendOp)) (
       (r.whole.subs, first.0, (code_seen lead.ops, code_seen body.ops, tail k, id, r.whole.ops, first.1, through, tail_ends k))
 
   -- and then its rows may be made blocks
-  pub rows_given : Turns subs id body → AllTurned (layout_of (encoding k)) nodes subs → (code : SendCode) → AddsEnsures given code
+  pub rows_given : Turns subs id body → AllTurned (layout_of (encoding k)) nodes subs → (code : SendCode) → ChangesOnlyEnsures given code
       → RowsAreBare (type_at nodes id) (code_seen code.ops) → code.subs ≡ [] → rows.IsGiven (encoding k) (type_at nodes id) code
   rows_given turns turned code adds bare no_codes =
       let first = chunks-length (code_seen lead.ops) r.chunks.0 r.chunks.1 in

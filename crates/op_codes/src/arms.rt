@@ -1,4 +1,5 @@
-// The arms of what comes back from an operation, by the table that is bound.
+//! The arms of what comes back from an operation, by the table that is bound.
+
 ghost use Rattle.std.specs.Prelude.{◌≡◌, ◌↔◌, ◌<◌, ◌≤◌, ℕ, length};
 ghost use Rattle.mint.specs.Types.{type_at};
 ghost use Rattle.pres.specs.Bindings.{IsBinding};

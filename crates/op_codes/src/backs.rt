@@ -1,4 +1,5 @@
-// What differs from one back end to another, from the crate of each.
+//! What differs from one back end to another, from the crate of each.
+
 ghost use Rattle.std.specs.Prelude.{◌≡◌, ◌<◌, length, IfOk, OnOk};
 ghost use Rattle.cast_stub.specs.Append.{append};
 ghost use Rattle.cast_stub.specs.Block.{code_seen};

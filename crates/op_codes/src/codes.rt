@@ -1,4 +1,5 @@
-// A binding with the code of each of its operations.
+//! A binding with the code of each of its operations.
+
 ghost use Rattle.std.specs.Prelude.{◌≡◌, ◌<◌, length, IfOk, Some, option_map, slice_get};
 ghost use Rattle.op_codes.specs.Backs.{encoding, lead, reply_lead, Takes};
 ghost use Rattle.op_codes.specs.Messages.{request_type};

@@ -1,4 +1,5 @@
-// The code of each operation of a binding.
+//! The code of each operation of a binding.
+
 ghost use Rattle.std.specs.Prelude.{◌≡◌, ◌<◌, length, IfOk};
 ghost use Rattle.mint.specs.Types.{type_at};
 ghost use Rattle.op_codes.specs.Lowered.{AreLowered};

@@ -1,4 +1,5 @@
-// The numbers of a head.
+//! The numbers of a head.
+
 ghost use Rattle.std.specs.Prelude.{◌≡◌};
 ghost use Rattle.cast_stub.specs.Puts.{IsHead};
 

@@ -1,4 +1,5 @@
-// The laws of bodies and of costs, each the contract of a function that does nothing.
+//! The laws of bodies and of costs, each the contract of a function that does nothing.
+
 ghost use Rattle.op_codes.specs.Laws.{BodiesAreTaken, RepliesHaveCosts, RequestsHaveCosts};
 
 /// The body of a call that is received may be received by the code of an operation, from the head's end on.

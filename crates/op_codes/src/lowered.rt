@@ -1,6 +1,7 @@
-// What is lowered once for a table, before the codes of operations are made of it.
+//! What is lowered once for a table, before the codes of operations are made of it.
+
 ghost use Rattle.std.specs.Prelude.{IfOk};
-ghost use Rattle.op_codes.specs.Backs.{encoding, other_encoding};
+ghost use Rattle.op_codes.specs.Backs.{encoding};
 ghost use Rattle.op_codes.specs.Lowered.{AreLowered, AreOthers, AreReceivers};
 
 use crate::backs::{encoding_of, other_of};

@@ -1,4 +1,5 @@
-// Requests that are read: by the code of their operation, and what they are not by the plain walk.
+//! Requests that are read: by the code of their operation, and what they are not by the plain walk.
+
 ghost use Rattle.std.specs.Prelude.{◌≡◌, ◌↔◌, ◌+◌, ◌<◌, ◌≤◌, ℕ, length, drop, IfOk};
 ghost use Rattle.kit_base.specs.Limits.{longest_message};
 ghost use Rattle.mint.specs.Values.{Val};

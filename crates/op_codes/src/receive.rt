@@ -1,4 +1,5 @@
-// Requests that are received by the code of their operation.
+//! Requests that are received by the code of their operation.
+
 ghost use Rattle.std.specs.Prelude.{◌≡◌, ◌<◌, ◌≤◌, length, drop, IfOk};
 ghost use Rattle.kit_base.specs.Limits.{longest_message};
 ghost use Rattle.mint.specs.Types.{type_at};

@@ -1,4 +1,5 @@
-// The code that receives the values of a node.
+//! The code that receives the values of a node.
+
 ghost use Rattle.std.specs.Prelude.{◌<◌, length, IfOk};
 ghost use Rattle.mint.specs.Types.{type_at};
 ghost use Rattle.op_codes.specs.Lowered.{AreOthers, AreReceivers};

@@ -1,5 +1,6 @@
-// The code that sends an operation's replies.
-ghost use Rattle.std.specs.Prelude.{◌≡◌, ◌↔◌, ◌<◌, ℕ, length, slice_get, Some, IfOk};
+//! The code that sends an operation's replies.
+
+ghost use Rattle.std.specs.Prelude.{◌<◌, ℕ, length, IfOk};
 ghost use Rattle.op_codes.specs.Backs.{reply_lead};
 ghost use Rattle.op_codes.specs.Lowered.{AreLowered};
 ghost use Rattle.op_codes.specs.Replies.{HasArm, arm_type};

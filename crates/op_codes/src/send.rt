@@ -1,4 +1,5 @@
-// Requests that are sent by the code of their operation, and replies by the code of their arm.
+//! Requests that are sent by the code of their operation, and replies by the code of their arm.
+
 ghost use Rattle.std.specs.Prelude.{◌≡◌, ◌<◌, ◌≤◌, [], length, option_map, Some, Err, OnErr, OnOk};
 ghost use Rattle.kit_base.specs.Limits.{longest_message};
 ghost use Rattle.mint.specs.Typed.{IsWellTyped};

@@ -1,4 +1,5 @@
-// The code that sends the messages of a head and of the values of a node.
+//! The code that sends the messages of a head and of the values of a node.
+
 ghost use Rattle.std.specs.Prelude.{◌<◌, length, IfOk};
 ghost use Rattle.mint.specs.Types.{type_at};
 ghost use Rattle.stub_lower.specs.Leads.{AreChunks};

@@ -1,4 +1,5 @@
-// The code of an operation.
+//! The code of an operation.
+
 use cast_stub::{RecvCode, SendCode};
 use kit_base::Listed;
 

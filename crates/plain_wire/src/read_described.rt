@@ -11,9 +11,10 @@ ghost use Rattle.plain_wire.specs.Readers.{Reads, itself, nothing, read_many, sa
 use crate::cursor::{Cursor, stop};
 use crate::read_head::allows;
 use crate::read_scalar::{label_at, number_at, word_32, word_64};
-use crate::units::{filling_of, unit_word, units_in, word_of};
+use crate::units::filling_of;
 use mint::kind::{Count, Kind};
 use mint::node::Labels;
+use wire_def::descriptors::{unit_word, units_in, word_of};
 use wire_def::{Encoding, Fault, FaultKind};
 
 /// So many octets, whatever they are.
@@ -162,7 +163,8 @@ fn right(bound: Count, kind: Kind, words: u64) -> bool
     ensures { result ≡ is_right bound (number kind) words }
 {
     let units = words / 4294967296;
-    words % 4294967296 == unit_word(kind) && (whole(kind, units) && fixed(bound, kind, units))
+    words % 4294967296 == u64::from(unit_word(kind))
+        && (whole(kind, units) && fixed(bound, kind, units))
 }
 
 /// How many numbers of a kind so many units are.

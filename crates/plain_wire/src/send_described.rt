@@ -12,10 +12,11 @@ ghost use Rattle.plain_wire.specs.Rows.{bare_octets};
 ghost use Rattle.plain_wire.specs.Sending.{Appends, IsNear, long_octets, short_octets};
 
 use crate::send_scalar::{put, put_bare, put_zeros};
-use crate::units::{filling_of, has_long, long_of, short_of, units_in, word_of};
+use crate::units::{filling_of, long_of};
 use kit_base::{NoMemory, Octets};
 use mint::kind::{Count, Kind};
 use wire_def::Encoding;
+use wire_def::descriptors::{has_long, short_of, units_in, word_of};
 
 /// The first word of a long descriptor.
 const LONG_MARK: u32 = 805306368;

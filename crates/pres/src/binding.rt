@@ -1,4 +1,5 @@
-// Binding a unit to a back end.
+//! Binding a unit to a back end.
+
 ghost use Rattle.std.specs.Prelude.{◌≡◌, ◌≢◌, ◌<◌, false, true, length, map, IfOk, IfErr, OnOk, Some, None};
 ghost use Rattle.std.specs.List.{AllByRecursion};
 ghost use Rattle.aoi.specs.Plain.{plain, IsSoundPlain};

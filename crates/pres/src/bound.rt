@@ -1,4 +1,5 @@
-// A unit that is bound to a back end.
+//! A unit that is bound to a back end.
+
 ghost use Rattle.std.specs.Prelude.{◌≡◌, ◌≤◌, length, slice_get, Some, IfNone, IfSome};
 ghost use Rattle.aoi.specs.Plain.{plain};
 ghost use Rattle.mint.specs.Types.{HasChildrenBelow, type_at};

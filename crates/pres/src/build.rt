@@ -1,4 +1,5 @@
-// The table of a unit.
+//! The table of a unit.
+
 ghost use Rattle.std.specs.Prelude.{◌≡◌, ◌≢◌, ◌∷◌, [], ◌++◌, List, IfOk, IfErr, OnOk, Some, None, true, false};
 ghost use Rattle.std.specs.List.{list_any, list_all};
 ghost use Rattle.mint.specs.declared.kind.Kind.TheVariants.{I32};

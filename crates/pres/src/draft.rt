@@ -1,5 +1,6 @@
-// Nodes of a unit, before they are in a table.
-ghost use Rattle.std.specs.Prelude.{map, ◌≡◌, ◌<◌, ◌≤◌, [], ◌∷◌, ◌++◌, length, IfOk, IfErr, OnOk, OnErr, Some, slice_get};
+//! Nodes of a unit, before they are in a table.
+
+ghost use Rattle.std.specs.Prelude.{map, ◌≡◌, ◌<◌, ◌≤◌, [], ◌∷◌, ◌++◌, length, IfOk, IfErr, OnOk};
 ghost use Rattle.kit_base.specs.Limits.{most_nodes};
 ghost use Rattle.mint.specs.Types.{HasChildrenBelow};
 ghost use Rattle.pres.specs.declared.draft.Entry.{Entry as EntryRecord};

@@ -1,5 +1,6 @@
-// The nodes of types.
-ghost use Rattle.std.specs.Prelude.{◌≡◌, [], ◌∷◌, ◌++◌, map, length, IfOk, IfErr, OnOk, IsTrue, None};
+//! The nodes of types.
+
+ghost use Rattle.std.specs.Prelude.{[], ◌∷◌, ◌++◌, length, IfOk, IfErr, OnOk, IsTrue, None};
 ghost use Rattle.std.specs.Option.{option_map};
 ghost use Rattle.aoi.specs.Shapes.{seen, members, array, structure, optional, enumeration, arms_seen, default_of};
 ghost use Rattle.mint.specs.Types.{ArmsBelow, IsBelow};

@@ -1,4 +1,5 @@
-// Why a unit is not bound.
+//! Why a unit is not bound.
+
 ghost use Rattle.std.specs.Prelude.{◌≡◌};
 ghost use Rattle.pres.specs.declared.errors.BindErr.TheVariants.{NoMemory as WantOfMemory};
 

@@ -1,4 +1,5 @@
-// Why a unit is not bound.
+//! Why a unit is not bound.
+
 ghost use Rattle.std.specs.Prelude.{◌≡◌, ◌<◌, nat_lt, length, map};
 ghost use Rattle.std.specs.List.{list_any, AllByRecursion};
 ghost use Rattle.kit_base.specs.Limits.{deepest};

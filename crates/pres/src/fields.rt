@@ -1,5 +1,6 @@
-// The names of fields, with their texts.
-ghost use Rattle.std.specs.Prelude.{◌≡◌, ◌<◌, length, map, IfOk, OnOk, [], string_bytes, slice_index_or};
+//! The names of fields, with their texts.
+
+ghost use Rattle.std.specs.Prelude.{◌≡◌, ◌<◌, length, map, IfOk, [], string_bytes, slice_index_or};
 ghost use Rattle.pres.specs.Tables.{text_of, texts_of};
 
 use crate::texts::text_of;

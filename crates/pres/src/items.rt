@@ -1,5 +1,6 @@
-// The items of an enum, with what finds them by their names and by their numbers.
-ghost use Rattle.std.specs.Prelude.{◌≡◌, ℕ, ℤ, List, [], Some, IfOk, OnOk, if◌then◌else◌, option_map, string_bytes};
+//! The items of an enum, with what finds them by their names and by their numbers.
+
+ghost use Rattle.std.specs.Prelude.{◌≡◌, ℕ, ℤ, List, Some, IfOk, OnOk, if◌then◌else◌, option_map, string_bytes};
 ghost use Rattle.std.specs.BTreeMap.{IsEmpty, get, get_by_text};
 ghost use Rattle.std.specs.Ordering.{int_cmp, int_eq};
 ghost use Rattle.std.specs.Str.{bytes_eq};

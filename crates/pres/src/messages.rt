@@ -1,12 +1,13 @@
-// The nodes of messages.
-ghost use Rattle.std.specs.Prelude.{◌≡◌, ◌+◌, ◌==◌, ◌<◌, [], ◌∷◌, ◌++◌, ℕ, List, map, length, pos, IfOk, IfErr, OnOk, IsTrue, None};
+//! The nodes of messages.
+
+ghost use Rattle.std.specs.Prelude.{◌≡◌, ◌+◌, ◌==◌, ◌<◌, ◌++◌, map, length, pos, IfOk, IfErr, OnOk, IsTrue, None};
 ghost use Rattle.std.specs.List.{AllByRecursion, list_any};
 ghost use Rattle.aoi.specs.Plain.{PlainOperation, plain_raise, plain_operation, plain_interface};
 ghost use Rattle.aoi.specs.Shapes.{members};
 ghost use Rattle.pres.specs.Drafts.{Grows, IsDrawn, AreArms, Overflows, drawn, known, is_drawable, are_drawable, IsDrawableOperation, IsOffered, AreOffered};
 ghost use Rattle.pres.specs.Faces.{arm, at};
 ghost use Rattle.pres.specs.Made.{made_request, made_answer, made_raised, made_reply, made_by};
-ghost use Rattle.pres.specs.Offers.{Offer, exception, request_of, answer_of, reply_of, raised, offer, offer_at, is_answered, is_cdr, is_xdr, gets_null, gotten, null_operation};
+ghost use Rattle.pres.specs.Offers.{exception, request_of, answer_of, reply_of, raised, offer, offer_at, is_cdr, is_xdr, gets_null, null_operation};
 
 use crate::draft::Draft;
 use crate::naming::copy_name;

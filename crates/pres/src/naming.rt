@@ -1,4 +1,5 @@
-// Copies of the names of a unit.
+//! Copies of the names of a unit.
+
 ghost use Rattle.std.specs.Prelude.{◌≡◌, map, IfOk, IsTrue};
 ghost use Rattle.aoi.specs.Shapes.{members};
 ghost use Rattle.aoi.specs.Sound.{are_distinct, names_of};

@@ -1,4 +1,5 @@
-// The operations that a back end has messages for.
+//! The operations that a back end has messages for.
+
 use kit_base::{Listed, Name};
 use mint::table::NodeId;
 

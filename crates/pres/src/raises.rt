@@ -1,4 +1,5 @@
-// What finds the exceptions of operations by their names.
+//! What finds the exceptions of operations by their names.
+
 ghost use Rattle.std.specs.Prelude.{◌≡◌, ℕ, List, [], ◌∷◌, None, Some, map, IfOk, OnOk, if◌then◌else◌};
 ghost use Rattle.std.specs.BTreeMap.{IsEmpty, get_by_text};
 ghost use Rattle.std.specs.Str.{bytes_eq};

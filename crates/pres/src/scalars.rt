@@ -1,6 +1,7 @@
-// What types stand for where they are scalars.
+//! What types stand for where they are scalars.
+
 ghost use Rattle.std.specs.Prelude.{◌≡◌, ◌<◌, map, length, IfOk, IsTrue, Some, IfSome};
-ghost use Rattle.std.specs.Option.{option_copied, option_map};
+ghost use Rattle.std.specs.Option.{option_copied};
 ghost use Rattle.aoi.specs.Shapes.{seen};
 ghost use Rattle.aoi.specs.Sound.{are_distinct};
 ghost use Rattle.pres.specs.Drafts.{drawn, known, is_drawable, number_in, enum_in};

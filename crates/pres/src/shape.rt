@@ -1,4 +1,5 @@
-// What names a node has besides what its type says.
+//! What names a node has besides what its type says.
+
 use crate::{FieldTable, ItemTable};
 use kit_base::Listed;
 

@@ -1,10 +1,10 @@
-// How deep types are, and over how many nodes they spread.
-ghost use Rattle.std.specs.Prelude.{◌≡◌, ◌<◌, ◌≤◌, length, map, IfOk, List, ℕ};
-ghost use Rattle.std.specs.List.{AllByRecursion};
+//! How deep types are, and over how many nodes they spread.
+
+ghost use Rattle.std.specs.Prelude.{◌≡◌, ◌<◌, ◌≤◌, length, map, IfOk};
 ghost use Rattle.kit_base.specs.Limits.{most_nodes};
 ghost use Rattle.mint.specs.Types.{HasChildrenBelow, AreBelow, ArmsBelow, IsBelow};
 ghost use Rattle.pres.specs.Drafts.{drawn};
-ghost use Rattle.pres.specs.Sizes.{at, beside, over, sized, no_size, inside_at, behind_at, other_at, size_at, size_of};
+ghost use Rattle.pres.specs.Sizes.{beside, over, sized, no_size, inside_at, behind_at, other_at, size_at, size_of};
 
 use crate::draft::Draft;
 use kit_base::NoMemory;

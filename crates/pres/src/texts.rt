@@ -1,4 +1,5 @@
-// Strings that stand for octets.
+//! Strings that stand for octets.
+
 ghost use Rattle.std.specs.Prelude.{◌≡◌, IfOk, string_bytes};
 ghost use Rattle.pres.specs.Tables.{text_of};
 

@@ -1,9 +1,10 @@
-// The nodes of a unit.
-ghost use Rattle.std.specs.Prelude.{◌≡◌, ◌≤◌, [], ◌∷◌, ◌++◌, map, length, IfOk, IfErr, OnOk};
+//! The nodes of a unit.
+
+ghost use Rattle.std.specs.Prelude.{◌≡◌, ◌≤◌, [], ◌++◌, map, length, IfOk, IfErr, OnOk};
 ghost use Rattle.std.specs.List.{AllByRecursion};
 ghost use Rattle.aoi.specs.Plain.{plain, plain_interface};
 ghost use Rattle.aoi.specs.Shapes.{shapes};
-ghost use Rattle.pres.specs.Drafts.{Grows, Overflows, drawn, known, AreDrawable, IsDrawableOperation, IsDrawableInterface, IsDrawableUnit, AreOffered};
+ghost use Rattle.pres.specs.Drafts.{Grows, Overflows, drawn, known, AreDrawable, IsDrawableInterface, IsDrawableUnit, AreOffered};
 ghost use Rattle.pres.specs.Made.{made_by, made_in_types, made_in_interfaces, all_made};
 ghost use Rattle.pres.specs.Offers.{faces_of, offer, offer_at, offers, offers_from, operations, gotten};
 

@@ -1,9 +1,10 @@
-// The buffer.
-ghost use Rattle.std.specs.Prelude.{◌≡◌, ◌<◌, ◌≤◌, ◌+◌, ◌-◌, ◌%◌, ◌^◌, List, ℕ, [], ◌++◌, length, take, drop, replicate, OnOk, OnErr, IfOk};
+//! The buffer.
+
+ghost use Rattle.std.specs.Prelude.{◌≡◌, ◌<◌, ◌≤◌, ◌+◌, ◌-◌, ◌%◌, ◌^◌, [], ◌++◌, length, take, drop, replicate, OnOk, OnErr, IfOk};
 ghost use Rattle.kit_base.specs.Bytes.{written};
 ghost use Rattle.wire_def.specs.Scalars.{gap};
 ghost use Rattle.swap_kit.specs.Swapped.{swapped, IsSwapWidth};
-ghost use Rattle.raw_buf.specs.Buf.{Ensures, IsWidth, in_order, moved, stored, checked, rowed, none};
+ghost use Rattle.raw_buf.specs.Buf.{Ensures, IsWidth, in_order, moved, stored, rowed, none};
 
 use crate::Tally;
 use kit_base::NoMemory;

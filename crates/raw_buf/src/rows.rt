@@ -1,5 +1,6 @@
-// Rows of numbers, sent as a block.
-ghost use Rattle.std.specs.Prelude.{◌≡◌, ◌≤◌, ◌++◌, length, take, drop};
+//! Rows of numbers, sent as a block.
+
+ghost use Rattle.std.specs.Prelude.{◌≡◌, ◌≤◌, ◌++◌, length, drop};
 ghost use Rattle.mint.specs.Kinds.{width};
 ghost use Rattle.mint.specs.Row.{image_of};
 ghost use Rattle.swap_kit.specs.Swapped.{swapped, IsSwapWidth};

@@ -1,4 +1,4 @@
-// What the calls of a buffer cost.
+//! What the calls of a buffer cost.
 
 /// Four counts of calls. A count that has reached 2^64 - 1 stays there.
 #[derive(Clone, Copy, Debug, PartialEq, Eq)]

@@ -1,4 +1,5 @@
-// A message that is read.
+//! A message that is read.
+
 ghost use Rattle.std.specs.Prelude.{◌≡◌, ◌≤◌, ◌+◌, ◌-◌, ◌*◌, ◌%◌, ◌≢◌, ◌<◌, ◌^◌, ◌++◌, OnOk, OnErr, IfOk, length, drop, take, max, nat_lt, not, if◌then◌else◌};
 ghost use Rattle.kit_base.specs.Causes.{raised};
 ghost use Rattle.mint.specs.Kinds.{width};

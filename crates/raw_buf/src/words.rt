@@ -1,4 +1,5 @@
-// Words: numbers of four octets, the most significant octet first.
+//! Words: numbers of four octets, the most significant octet first.
+
 ghost use Rattle.std.specs.Prelude.{◌≡◌, ◌≤◌, ◌*◌, ◌++◌, length, drop};
 ghost use Rattle.kit_base.specs.Bytes.{be};
 ghost use Rattle.raw_buf.specs.Buf.{moved, stored};

@@ -1,4 +1,5 @@
-// The numbers of a row, whose octets are known to be there.
+//! The numbers of a row, whose octets are known to be there.
+
 ghost use Rattle.std.specs.Prelude.{◌≡◌, ◌==◌, ◌≤◌, ◌*◌, not, IfOk, drop};
 ghost use Rattle.std.specs.List.{list_all};
 ghost use Rattle.mint.specs.Kinds.{in_range, is_letter, width};

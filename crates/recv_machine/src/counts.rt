@@ -1,4 +1,5 @@
-// Lengths that numbers give.
+//! Lengths that numbers give.
+
 ghost use Rattle.std.specs.Prelude.{◌≡◌};
 ghost use Rattle.cast_stub.specs.Into.{length_of};
 ghost use Rattle.cast_stub.specs.Parts.{on_some};

@@ -1,4 +1,5 @@
-// The descriptors of Mach messages, which give a length.
+//! The descriptors of Mach messages, which give a length.
+
 ghost use Rattle.std.specs.Prelude.{◌≡◌, ◌≤◌};
 ghost use Rattle.cast_stub.specs.Into.{desc_into, long_into, short_into, units_into};
 ghost use Rattle.cast_stub.specs.Runs.{Holds};

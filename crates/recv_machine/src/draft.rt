@@ -1,4 +1,5 @@
-// A value that is being filled.
+//! A value that is being filled.
+
 ghost use Rattle.std.specs.Prelude.{◌≡◌, ◌<◌, ◌≤◌, ◌+◌, drop, length, slice_index, Some, IfOk};
 ghost use Rattle.mint.specs.Types.{type_at, unfolded, fields_at, AreBelow};
 ghost use Rattle.cast_stub.specs.Draft.{fresh, all_fresh};

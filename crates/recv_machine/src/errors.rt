@@ -1,4 +1,5 @@
-// Why a run ends before its code does.
+//! Why a run ends before its code does.
+
 ghost use Rattle.recv_machine.specs.Ran.{IsTested};
 
 use kit_base::NoMemory;

@@ -1,4 +1,5 @@
-// Numbers of octets that are put into the parts of a draft.
+//! Numbers of octets that are put into the parts of a draft.
+
 ghost use Rattle.std.specs.Prelude.{◌≡◌, ◌<◌, ◌^◌};
 ghost use Rattle.mint.specs.Values.{num};
 ghost use Rattle.mint.specs.Types.{type_at};

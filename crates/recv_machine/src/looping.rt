@@ -1,4 +1,5 @@
-// What a loop goes over.
+//! What a loop goes over.
+
 ghost use Rattle.mint.specs.Types.{type_at};
 ghost use Rattle.cast_stub.specs.Draft.{raw};
 ghost use Rattle.recv_machine.specs.Looping.{GoesOver};

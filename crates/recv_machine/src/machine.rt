@@ -1,4 +1,5 @@
-// What a run has throughout.
+//! What a run has throughout.
+
 use cast_stub::RecvSubs;
 use mint::table::Mint;
 use std::alloc::Global;

@@ -1,4 +1,5 @@
-// The numbers that words encode, and whether they are a node's.
+//! The numbers that words encode, and whether they are a node's.
+
 ghost use Rattle.std.specs.Prelude.{◌≡◌, ◌<◌, ◌^◌, true};
 ghost use Rattle.mint.specs.Types.{type_at, number, label, text, scalar_of};
 ghost use Rattle.mint.specs.declared.kind.Count.TheVariants.{Any};

@@ -1,4 +1,5 @@
-// The body of a number.
+//! The body of a number.
+
 ghost use Rattle.std.specs.Option.{option_copied};
 ghost use Rattle.cast_stub.specs.RecvBlock.{cases_seen};
 ghost use Rattle.recv_machine.specs.Picking.{Picks};

@@ -1,4 +1,5 @@
-// A receive code that is run as a whole.
+//! A receive code that is run as a whole.
+
 ghost use Rattle.std.specs.Prelude.{◌≡◌, IfOk, drop};
 ghost use Rattle.mint.specs.Types.{type_at};
 ghost use Rattle.wire_def.specs.declared.encoding.Encoding.{Encoding};

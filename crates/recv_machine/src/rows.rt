@@ -1,4 +1,5 @@
-// Tests for as many octets as a length says.
+//! Tests for as many octets as a length says.
+
 ghost use Rattle.std.specs.Prelude.{◌≡◌, ◌+◌, ◌*◌, option_map, slice_get};
 ghost use Rattle.std.specs.Option.{option_copied};
 ghost use Rattle.cast_stub.specs.Draft.{length_in, done};

@@ -1,4 +1,4 @@
-// The operations of a receive code, one after the other and one within another.
+//! The operations of a receive code, one after the other and one within another.
 ghost use Rattle.std.specs.Prelude.{IfOk, ◌≡◌, map};
 ghost use Rattle.mint.specs.Kinds.{IsInRange};
 ghost use Rattle.mint.specs.Values.{seen};

@@ -1,4 +1,5 @@
-// The value that a draft has become.
+//! The value that a draft has become.
+
 ghost use Rattle.std.specs.Prelude.{◌≡◌, ◌<◌, length, slice_get, slice_set, Some, IfOk};
 ghost use Rattle.mint.specs.Blank.{blank};
 ghost use Rattle.mint.specs.Types.{type_at};

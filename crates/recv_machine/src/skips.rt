@@ -1,5 +1,6 @@
-// Octets that are passed up to a multiple.
-ghost use Rattle.std.specs.Prelude.{◌≡◌, ◌<◌, Bool, not, take};
+//! Octets that are passed up to a multiple.
+
+ghost use Rattle.std.specs.Prelude.{◌≡◌, ◌<◌, take};
 ghost use Rattle.cast_stub.specs.Steps.{is_width};
 ghost use Rattle.cast_stub.specs.Into.{skipped, all_zero};
 ghost use Rattle.recv_machine.specs.Drawn.{drawn, any_octets};

@@ -1,4 +1,5 @@
-// The gets of a take, one after the other.
+//! The gets of a take, one after the other.
+
 ghost use Rattle.std.specs.Prelude.{◌≡◌, ◌<◌, ◌≤◌, ◌+◌, ◌^◌, length, slice_index, true, false, None, take, drop};
 ghost use Rattle.raw_buf.specs.Buf.{IsWidth};
 ghost use Rattle.raw_buf.specs.View.{width_in, width_as};

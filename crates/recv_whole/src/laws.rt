@@ -1,4 +1,5 @@
-// What stub code sends, stub code receives: the contract of a function that does nothing.
+//! What stub code sends, stub code receives: the contract of a function that does nothing.
+
 ghost use Rattle.recv_whole.specs.RoundTrip.{WhatIsSentIsReceived};
 
 /// Sound code that receives gives back the value whose octets code that sends has appended, whatever

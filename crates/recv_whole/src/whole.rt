@@ -1,4 +1,5 @@
-// Lowered or inlined code that receives a node over any encoding, and its run.
+//! Lowered or inlined code that receives a node over any encoding, and its run.
+
 ghost use Rattle.std.specs.Prelude.{◌<◌, ◌≤◌, ◌≡◌, length, drop, IfOk};
 ghost use Rattle.kit_base.specs.Limits.{longest_message};
 ghost use Rattle.mint.specs.Types.{type_at};

@@ -1,5 +1,6 @@
-// Answers from a table of replies.
-ghost use Rattle.std.specs.Prelude.{◌≡◌, ◌<◌, None, Some, length, slice_get, IfNone, IfSome};
+//! Answers from a table of replies.
+
+ghost use Rattle.std.specs.Prelude.{◌≡◌, ◌<◌, None, Some, length, IfNone, IfSome};
 ghost use Rattle.mint.specs.Types.{type_at};
 ghost use Rattle.skeleton.specs.Exchanges.{reply_type};
 ghost use Rattle.skeleton.specs.Kept.{answer_at, reply_at, IsKept};

@@ -1,4 +1,5 @@
-// A table of replies.
+//! A table of replies.
+
 ghost use Rattle.std.specs.Prelude.{◌≡◌, ◌<◌, None, Some, length, replicate, slice_set, is_err, is_some, IfNone, IfOk, IfSome, OnErr, OnOk};
 ghost use Rattle.skeleton.specs.Kept.{kept_in};
 

@@ -1,4 +1,5 @@
-// The work that a server does.
+//! The work that a server does.
+
 ghost use Rattle.std.specs.Prelude.{◌<◌, ℕ, length, IfOk};
 ghost use Rattle.mint.specs.Typed.{IsWellTyped};
 ghost use Rattle.mint.specs.Values.{Val, seen};

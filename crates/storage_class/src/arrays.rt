@@ -1,9 +1,8 @@
-// Spans of texts, rows and lists.
+//! Spans of texts, rows and lists.
 ghost use Rattle.std.specs.Prelude.{◌≡◌, ◌+◌, ◌<◌};
-ghost use Rattle.mint.specs.Types.{number, text, row_of};
+ghost use Rattle.mint.specs.Types.{text, row_of};
 ghost use Rattle.wire_def.specs.declared.encoding.Encoding.TheVariants.{CdrBig};
 ghost use Rattle.wire_def.specs.Scalars.{gap};
-ghost use Rattle.wire_def.specs.Described.{is_long};
 ghost use Rattle.storage_class.specs.Classing.{exactly, from_each};
 ghost use Rattle.storage_class.specs.Spans.{array_span, described_length, array_length, array_most, element_length, elements_length, items_span};
 
@@ -11,6 +10,7 @@ use crate::scalars::number_span;
 use crate::span::{Span, at_most, exactly};
 use mint::kind::{Count, Kind};
 use wire_def::Encoding;
+use wire_def::descriptors::has_long;
 
 /// How many octets an element of a row has.
 #[tactic(auto, using(crate::proofs::Eights::arrays))]
@@ -58,20 +58,6 @@ fn elements(enc: Encoding, kind: Kind, count: Count, n: u32) -> u64
             _ => (n + 3) / 4 * 4,
         },
         Encoding::CdrBig | Encoding::CdrLittle => n * element(enc, kind, count),
-    }
-}
-
-/// Whether a row or text with this bound has a long descriptor in Mach messages.
-fn has_long(bound: Count, kind: Kind) -> bool
-    ensures { result ≡ is_long bound (number kind) }
-{
-    let units = match kind {
-        Kind::I64 | Kind::U64 => 2,
-        _ => 1,
-    };
-    match bound {
-        Count::Exactly(n) | Count::AtMost(n) => u64::from(n) * units > 4095,
-        Count::Any => true,
     }
 }
 

@@ -1,4 +1,5 @@
-// Classes of the nodes of a table.
+//! Classes of the nodes of a table.
+
 ghost use Rattle.std.specs.Prelude.{◌≡◌, ◌<◌, [], ◌∷◌, ◌++◌, length, OnOk, OnErr, Some, slice_get, slice_index_or};
 ghost use Rattle.storage_class.specs.Classing.{class_of};
 

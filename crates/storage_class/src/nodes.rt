@@ -1,4 +1,5 @@
-// The span of each node, from those of the nodes before it.
+//! The span of each node, from those of the nodes before it.
+
 ghost use Rattle.std.specs.Prelude.{◌≡◌, ◌<◌, length, IfOk};
 ghost use Rattle.mint.specs.Types.{type_at, unfolded, fields_at, arms_at, AreBelow, ArmsBelow, IsBelow};
 ghost use Rattle.storage_class.specs.Spans.{span, fields_span, arms_span, AreSpans, AreClasses};

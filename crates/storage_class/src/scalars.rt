@@ -1,8 +1,7 @@
-// Spans of scalars.
+//! Spans of scalars.
+
 ghost use Rattle.std.specs.Prelude.{◌≡◌};
-ghost use Rattle.std.specs.Int.{byte_len};
 ghost use Rattle.mint.specs.Types.{number, label, scalar_of};
-ghost use Rattle.mint.specs.Kinds.{width};
 ghost use Rattle.storage_class.specs.Spans.{scalar_span};
 
 use crate::span::Span;

@@ -1,5 +1,6 @@
-// Spans, and those of wholes from those of their parts.
-ghost use Rattle.std.specs.Prelude.{◌≡◌, ◌<◌, ◌≤◌, ◌+◌, ◌*◌, Some, option_map, IsTrue, nat_le};
+//! Spans, and those of wholes from those of their parts.
+
+ghost use Rattle.std.specs.Prelude.{◌≡◌, ◌<◌, ◌≤◌, ◌+◌, ◌*◌, Some, IsTrue, nat_le};
 ghost use Rattle.std.specs.List.{list_all};
 ghost use Rattle.storage_class.specs.Classing.{at_most, behind, either, exactly, from_each, greatest, length_at, length_behind, loose, run, sum_of_tops, times, times_top, top};
 

@@ -19,7 +19,7 @@ use Rattle.wire_def.specs.declared.encoding.Encoding.TheVariants.{Xdr}
 use Rattle.wire_def.specs.declared.head.Head.{Head}
 use Rattle.wire_def.specs.Send.{send}
 use Rattle.cast_stub.specs.Bare.{RowsAreBare}
-use Rattle.cast_stub.specs.Kept.{AddsEnsures, IsCoveredFor}
+use Rattle.cast_stub.specs.Kept.{ChangesOnlyEnsures, IsCoveredFor}
 use Rattle.cast_stub.specs.Layouts.{layout_of}
 use Rattle.cast_stub.specs.Meaning.{wrote, meaning, IsCovered}
 use Rattle.cast_stub.specs.Parts.{on_some, IsThere}
@@ -39,7 +39,7 @@ alone_given nodes id subs code sound follows goes none =
     (none, 0, (stop, code_seen code.ops, stop, id, sym (append-stop (code_seen code.ops)), refl, goes nodes sound follows, tt))
 
 pub alone_rows : (e : Encoding) (nodes : List Node) (id : ℕ) (subs : List (List SendOp)) (flat code : SendCode) → IsSound (type_at nodes id)
-    → AllTurned (layout_of e) nodes subs → Turns subs id flat → AddsEnsures flat code → RowsAreBare (type_at nodes id) (code_seen code.ops)
+    → AllTurned (layout_of e) nodes subs → Turns subs id flat → ChangesOnlyEnsures flat code → RowsAreBare (type_at nodes id) (code_seen code.ops)
     → code.subs ≡ []
     → rows.IsGiven e (type_at nodes id) code
 alone_rows e nodes id subs flat code sound turned turns adds bare none =

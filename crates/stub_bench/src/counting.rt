@@ -1,4 +1,5 @@
-// How many operations a code has.
+//! How many operations a code has.
+
 use cast_stub::{SendOp, SendOps};
 
 /// How deep the operations that are counted are nested at most.

@@ -1,4 +1,5 @@
-// Rows sent and received by stub code, so that what an octet costs can be counted.
+//! Rows sent and received by stub code, so that what an octet costs can be counted.
+
 ghost use Rattle.std.specs.Prelude.{◌<◌, length, IfOk};
 ghost use Rattle.mint.specs.Typed.{IsWellTyped};
 ghost use Rattle.mint.specs.Types.{type_at};

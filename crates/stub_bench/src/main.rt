@@ -1,6 +1,7 @@
-// Makes the code of a type and puts ensures into it, so that what an operation costs can be counted:
-// PASS SHAPE SIZE. Or reads a message, so that what a number costs can be: READING CONTENT SIZE. Or sends and
-// receives a row, so that what an octet costs can be: STEP MATTER COUNT.
+//! Makes the code of a type and puts ensures into it, so that what an operation costs can be counted:
+//! PASS SHAPE SIZE. Or reads a message, so that what a number costs can be: READING CONTENT SIZE. Or sends and
+//! receives a row, so that what an octet costs can be: STEP MATTER COUNT.
+
 #![tactic(auto)]
 
 mod counting;

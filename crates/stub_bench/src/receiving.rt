@@ -1,4 +1,4 @@
-// Messages read by stub code and by the plain walk, so that what a number costs can be counted.
+//! Messages read by stub code and by the plain walk, so that what a number costs can be counted.
 
 use anyhow::{Result, bail};
 use kit_base::Octets;

@@ -1,4 +1,5 @@
-// Tables of types whose code is made, of a size.
+//! Tables of types whose code is made, of a size.
+
 use mint::errors::MintErr;
 use mint::kind::{Count, Kind};
 use mint::node::{Arms, Node, NodeIds, Tag};

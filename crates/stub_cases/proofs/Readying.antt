@@ -37,7 +37,7 @@ use Rattle.copy_inline.specs.Rows.{StaysCovered}
 use Rattle.copy_inline.proofs.RowGiven.{hoisted_given}
 use Rattle.std.proofs.lemmas.Bool.{le-leb, leb-true}
 use Rattle.hoist.specs.Pass.{IsGiven}
-use Rattle.cast_stub.specs.Kept.{AddsEnsures, IsCoveredFor}
+use Rattle.cast_stub.specs.Kept.{ChangesOnlyEnsures, IsCoveredFor}
 use Rattle.cast_stub.specs.Bare.{RowsAreBare}
 use Rattle.cast_stub.specs.Layouts.{layout_of}
 use Rattle.cast_stub.specs.Turned.{AllTurned}
@@ -193,7 +193,7 @@ module _ (enc : Encoding) (nodes : List Node) (id : ℕ) (subs : List (List Send
   hoisted_covered code covered h v head typed = covered h v 0 typed.is_of (is_there h v head typed)
 
   -- its rows may be made blocks
-  pub rows_given : Turns subs id body → AllTurned (layout_of enc) nodes subs → (code : SendCode) → AddsEnsures given code
+  pub rows_given : Turns subs id body → AllTurned (layout_of enc) nodes subs → (code : SendCode) → ChangesOnlyEnsures given code
       → RowsAreBare (type_at nodes id) (code_seen code.ops) → code.subs ≡ []
       → rows.IsGiven enc (type_at nodes id) code
   rows_given turns turned code adds bare none =

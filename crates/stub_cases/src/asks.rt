@@ -1,4 +1,5 @@
-// What is asked of the nodes of a case.
+//! What is asked of the nodes of a case.
+
 ghost use Rattle.std.specs.Prelude.{◌<◌, ◌≤◌, length, IfOk};
 
 use crate::codes::stub;

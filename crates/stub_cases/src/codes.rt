@@ -1,4 +1,5 @@
-// Values sent by stub code: lowered, inlined after a head, with ensures before its operations; and with rows as blocks.
+//! Values sent by stub code: lowered, inlined after a head, with ensures before its operations; and with rows as blocks.
+
 ghost use Rattle.std.specs.Prelude.{◌<◌, length, IfOk};
 ghost use Rattle.mint.specs.Typed.{IsWellTyped};
 ghost use Rattle.mint.specs.Types.{type_at};

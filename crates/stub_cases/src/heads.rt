@@ -1,4 +1,5 @@
-// Heads of replies over XDR.
+//! Heads of replies over XDR.
+
 ghost use Rattle.std.specs.Prelude.{IfOk};
 ghost use Rattle.back_xdr.specs.Refusals.{IsOwn};
 

@@ -1,4 +1,5 @@
-// What comes before the body of a message: nothing, or the head of a call or of an answer.
+//! What comes before the body of a message: nothing, or the head of a call or of an answer.
+
 ghost use Rattle.std.specs.Prelude.{◌≡◌, IfOk};
 ghost use Rattle.wire_def.specs.declared.encoding.Back.TheVariants.{Xdr};
 ghost use Rattle.stub_cases.specs.Ready.{IsLead};

@@ -1,4 +1,5 @@
-// Tables of types.
+//! Tables of types.
+
 use crate::parts::{Bad, list, member, number, part, word};
 use mint::errors::MintErr;
 use mint::kind::{Count, Kind};

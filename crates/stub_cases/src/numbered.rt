@@ -1,4 +1,5 @@
-// Values that a number makes.
+//! Values that a number makes.
+
 ghost use Rattle.std.specs.Prelude.{◌<◌, length};
 
 use crate::asks::{encoding, id_of};

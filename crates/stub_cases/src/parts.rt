@@ -1,4 +1,5 @@
-// The parts of a case: members, numbers, octets.
+//! The parts of a case: members, numbers, octets.
+
 use hex::FromHexError;
 use kit_base::{NoMemory, Octets};
 use mint::errors::MintErr;

@@ -1,4 +1,5 @@
-// The texts of stub code.
+//! The texts of stub code.
+
 ghost use Rattle.std.specs.Prelude.{◌<◌, length, IfOk};
 ghost use Rattle.kit_base.specs.Lines.{HasNoEnd};
 

@@ -1,4 +1,5 @@
-// Octets received by stub code, lowered, inlined and with rows as blocks, beside the plain walk.
+//! Octets received by stub code, lowered, inlined and with rows as blocks, beside the plain walk.
+
 ghost use Rattle.std.specs.Prelude.{◌≡◌, ◌<◌, ◌≤◌, length, IfOk, IsTrue};
 ghost use Rattle.kit_base.specs.Limits.{longest_message};
 ghost use Rattle.mint.specs.Types.{type_at};

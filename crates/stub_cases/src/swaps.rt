@@ -1,4 +1,5 @@
-// Rows that travel as blocks, in either order of their octets.
+//! Rows that travel as blocks, in either order of their octets.
+
 ghost use Rattle.std.specs.Prelude.{◌≡◌, ◌≢◌, ◌%◌, length, IfSome};
 ghost use Rattle.mint.specs.Kinds.{width};
 ghost use Rattle.swap_kit.specs.Swapped.{IsSwapWidth};

@@ -1,4 +1,5 @@
-// Values.
+//! Values.
+
 use crate::nodes::kind_of;
 use crate::parts::{Bad, list, member, number, octets, part};
 use mint::kind::Kind;

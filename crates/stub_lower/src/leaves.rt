@@ -1,22 +1,22 @@
-// What an encoding gives: how a number, a count and the elements of an array are sent.
+//! What an encoding gives: how a number, a count and the elements of an array are sent.
+
 ghost use Rattle.std.specs.Prelude.{◌≡◌, [], ◌∷◌, OnOk, IfOk};
 ghost use Rattle.mint.specs.Types.{number, text, row_of};
 ghost use Rattle.cast_stub.specs.Append.{append};
 ghost use Rattle.cast_stub.specs.Block.{stop, chunk, each, code_seen};
-ghost use Rattle.cast_stub.specs.Layouts.{order_of, scalar_width, element_width, is_gapped};
+ghost use Rattle.cast_stub.specs.Layouts.{order_of, element_width, is_gapped};
 ghost use Rattle.mint.specs.declared.kind.Count.{Count};
 ghost use Rattle.stub_lower.specs.Codes.{aligned, array_code, count_code, described_code, end_code, ended_code, filling_code, gapped_turn, item_code, item_octets, length_put, long_code, number_code, row_code, scalar_code, short_code};
 
 use crate::ops::{add_chunk, add_pair};
-use crate::units::{
-    bits_of, has_long, item_octets, long_octets, name_of, number_at, rest_of, units_in,
-};
+use crate::units::{item_octets, long_octets, number_at, rest_of};
 use cast_stub::copying::add;
 use cast_stub::layouts::{order_of, width_of};
 use cast_stub::{Path, Put, SendOp, SendOps};
 use kit_base::{NoMemory, Octets};
 use mint::kind::{Count, Kind};
 use std::alloc::Global;
+use wire_def::descriptors::{bits_of, has_long, name_of, units_in};
 use wire_def::{Encoding, Order};
 
 /// Puts an alignment after the last operation.

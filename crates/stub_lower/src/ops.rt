@@ -1,7 +1,8 @@
-// Code that is made operation by operation.
+//! Code that is made operation by operation.
+
 ghost use Rattle.std.specs.Prelude.{◌≡◌, [], ◌∷◌, OnOk, IfOk};
 ghost use Rattle.cast_stub.specs.Append.{append};
-ghost use Rattle.cast_stub.specs.Block.{stop, code_seen, op_seen, chunk};
+ghost use Rattle.cast_stub.specs.Block.{stop, code_seen, chunk};
 ghost use Rattle.stub_lower.specs.Codes.{call_here};
 
 use cast_stub::copying::add;

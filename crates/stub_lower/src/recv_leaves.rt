@@ -1,17 +1,16 @@
-// What an encoding gives: how a number, a count and the elements of an array are received.
+//! What an encoding gives: how a number, a count and the elements of an array are received.
+
 ghost use Rattle.std.specs.Prelude.{◌≡◌, ◌≤◌, ◌*◌, [], OnOk, IfOk};
 ghost use Rattle.wire_def.specs.Lone.{units_of};
 ghost use Rattle.mint.specs.Types.{number, text, row_of};
 ghost use Rattle.cast_stub.specs.RecvAppend.{append};
 ghost use Rattle.cast_stub.specs.RecvBlock.{finish, each, code_seen};
-ghost use Rattle.cast_stub.specs.Layouts.{order_of, scalar_width, element_width, is_gapped};
-ghost use Rattle.stub_lower.specs.RecvCodes.{aligned, array_code, behind_code, count_code, described_code, end_code, ended_code, filling_code, fixed_code, free_code, gapped_turn, head_code, item_code, length_get, number_code, number_take, row_code, scalar_code, take_code, turn_code};
+ghost use Rattle.cast_stub.specs.Layouts.{order_of, element_width, is_gapped};
+ghost use Rattle.stub_lower.specs.RecvCodes.{aligned, array_code, count_code, described_code, end_code, ended_code, filling_code, fixed_code, free_code, gapped_turn, item_code, length_get, number_code, row_code, scalar_code, take_code};
 
 use crate::leaves::{element_width, is_gapped};
 use crate::recv_ops::{add_take, add_test};
-use crate::units::{
-    bits_of, has_long, item_octets, name_of, number_at, rest_of, short_octets, units_in,
-};
+use crate::units::{item_octets, number_at, rest_of, short_octets};
 use cast_stub::layouts::{order_of, width_of};
 use cast_stub::recv_copying::add;
 use cast_stub::{Get, Gets, Path, RecvOp, RecvOps};
@@ -19,6 +18,7 @@ use kit_base::{NoMemory, Octets};
 use mint::kind::{Count, Kind};
 use std::alloc::Global;
 use wire_def::Encoding;
+use wire_def::descriptors::{bits_of, has_long, name_of, units_in};
 
 // ---- scalars
 

@@ -1,4 +1,5 @@
-// The code of each node of a table.
+//! The code of each node of a table.
+
 ghost use Rattle.std.specs.Prelude.{◌≡◌, [], length, OnOk, IfOk};
 ghost use Rattle.cast_stub.specs.RecvAppend.{append};
 ghost use Rattle.cast_stub.specs.RecvBlock.{finish, each, switch, if_there, code_seen, cases_seen};

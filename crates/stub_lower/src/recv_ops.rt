@@ -1,7 +1,8 @@
-// Code that is made operation by operation.
-ghost use Rattle.std.specs.Prelude.{◌≡◌, [], ◌∷◌, OnOk, IfOk};
+//! Code that is made operation by operation.
+
+ghost use Rattle.std.specs.Prelude.{◌≡◌, OnOk, IfOk};
 ghost use Rattle.cast_stub.specs.RecvAppend.{append};
-ghost use Rattle.cast_stub.specs.RecvBlock.{finish, code_seen, op_seen, need, pass};
+ghost use Rattle.cast_stub.specs.RecvBlock.{finish, code_seen, need, pass};
 ghost use Rattle.stub_lower.specs.RecvCodes.{call_here, take_code};
 
 use cast_stub::recv_copying::add;

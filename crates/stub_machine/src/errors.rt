@@ -1,4 +1,5 @@
-// Why a run ends before its code does.
+//! Why a run ends before its code does.
+
 use kit_base::NoMemory;
 
 /// Why a run was refused.

@@ -1,4 +1,5 @@
-// The operations of a send code, one after the other and one within another.
+//! The operations of a send code, one after the other and one within another.
+
 ghost use Rattle.std.specs.Prelude.{◌≡◌, ◌<◌, ◌≤◌, Err, OnOk, OnErr, map, length, slice_index_or, pos};
 ghost use Rattle.mint.specs.Values.{seen, all_seen, vals_of, num};
 ghost use Rattle.cast_stub.specs.Parts.{elements_in, on_some};

@@ -1,5 +1,6 @@
-// Parts of a value, and the numbers that a put takes of them.
-ghost use Rattle.std.specs.Prelude.{◌≡◌, ◌+◌, ◌*◌, ℕ, pos, length, option_map};
+//! Parts of a value, and the numbers that a put takes of them.
+
+ghost use Rattle.std.specs.Prelude.{◌≡◌, ◌+◌, ◌*◌, pos, length, option_map};
 ghost use Rattle.mint.specs.Values.{seen, all_seen};
 ghost use Rattle.cast_stub.specs.Parts.{at, field, in_group, number_in, tag_in, flag_in, length_in, on_some};
 ghost use Rattle.mint.specs.Values.{arm_in, row_in};

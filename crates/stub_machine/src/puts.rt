@@ -1,4 +1,5 @@
-// The puts of a chunk.
+//! The puts of a chunk.
+
 ghost use Rattle.std.specs.Prelude.{◌≡◌, ◌≤◌, ◌<◌, ◌+◌, ◌*◌, ◌^◌, pos, length, option_map, replicate, None};
 ghost use Rattle.kit_base.specs.Bytes.{le};
 ghost use Rattle.mint.specs.Values.{seen};

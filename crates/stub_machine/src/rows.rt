@@ -1,4 +1,5 @@
-// Rows of numbers, given as a block.
+//! Rows of numbers, given as a block.
+
 ghost use Rattle.std.specs.Prelude.{◌≡◌, ◌≤◌, ◌*◌, ◌++◌, Some, length, drop, option_map};
 ghost use Rattle.mint.specs.Values.{seen};
 ghost use Rattle.cast_stub.specs.Parts.{IsThere};

@@ -1,4 +1,5 @@
-// A send code that is run as a whole.
+//! A send code that is run as a whole.
+
 ghost use Rattle.std.specs.Prelude.{◌≡◌, ◌≤◌, ◌<◌, ◌+◌, ◌++◌, length, option_map, Some, Err, OnOk};
 ghost use Rattle.mint.specs.Values.{seen};
 ghost use Rattle.raw_buf.specs.Buf.{NoneFell};

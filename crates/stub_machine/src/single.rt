@@ -1,4 +1,5 @@
-// Operations without bodies.
+//! Operations without bodies.
+
 ghost use Rattle.std.specs.Prelude.{◌≡◌, ◌≢◌, ◌+◌, ◌-◌, ◌^◌, ◌%◌, [], ◌∷◌, Err, OnOk, OnErr, Some};
 ghost use Rattle.mint.specs.Values.{seen};
 ghost use Rattle.cast_stub.specs.Steps.{Room, Patched, align_steps, row_room};

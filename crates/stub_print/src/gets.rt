@@ -1,4 +1,5 @@
-// The lines of gets.
+//! The lines of gets.
+
 ghost use Rattle.std.specs.Prelude.{codes, OnOk};
 ghost use Rattle.stub_print.specs.Putting.{IsPut};
 ghost use Rattle.stub_print.specs.RecvText.{get_words, gets_text};

@@ -1,4 +1,5 @@
-// The laws of texts, each the contract of a function that does nothing.
+//! The laws of texts, each the contract of a function that does nothing.
+
 ghost use Rattle.stub_print.specs.Laws.{RecvTextsTell, SendTextsTell, TextsAreApart};
 
 /// Codes that send, and whose names have no octet 0a, have one text only where names and codes are

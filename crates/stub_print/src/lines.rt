@@ -1,4 +1,5 @@
-// Lines that operations of both directions have.
+//! Lines that operations of both directions have.
+
 ghost use Rattle.std.specs.Prelude.{◌∷◌, [], codes, OnOk};
 ghost use Rattle.stub_print.specs.Putting.{IsPut};
 ghost use Rattle.stub_print.specs.Words.{ended, integer, line, numeral, order_word, path_word};

@@ -1,4 +1,5 @@
-// The lines of puts, and those that gets have too.
+//! The lines of puts, and those that gets have too.
+
 ghost use Rattle.std.specs.Prelude.{◌++◌, ◌∷◌, [], codes, OnOk, ◌≡◌};
 ghost use Rattle.stub_print.specs.Putting.{IsPut};
 ghost use Rattle.stub_print.specs.SendText.{field_word, put_words, puts_text};

@@ -1,4 +1,5 @@
-// The text of code that receives.
+//! The text of code that receives.
+
 ghost use Rattle.std.specs.Prelude.{◌≡◌, ◌∷◌, [], codes, map, IfOk, OnOk};
 ghost use Rattle.cast_stub.specs.RecvBlock.{pass, op_seen, code_seen};
 ghost use Rattle.stub_print.specs.Putting.{IsPut, IsRecvPut};

@@ -1,4 +1,5 @@
-// The text of code that sends.
+//! The text of code that sends.
+
 ghost use Rattle.std.specs.Prelude.{◌≡◌, ◌∷◌, [], codes, map, IfOk, OnOk};
 ghost use Rattle.cast_stub.specs.Block.{chunk, op_seen, code_seen};
 ghost use Rattle.stub_print.specs.Putting.{IsPut, IsSendPut};

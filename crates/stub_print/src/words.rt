@@ -1,4 +1,5 @@
-// The words of a line.
+//! The words of a line.
+
 ghost use Rattle.std.specs.Prelude.{◌≡◌, ◌++◌, ◌<◌, [], OnOk};
 ghost use Rattle.stub_print.specs.Putting.{IsPut};
 ghost use Rattle.stub_print.specs.Words.{hex, hex_digit, integer, numeral, order_word, path_word, points, spaced, words};

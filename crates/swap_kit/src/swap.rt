@@ -1,5 +1,6 @@
-// A row of numbers in the other order: by vectors of sixteen octets, and number by number at the end.
-ghost use Rattle.std.specs.Prelude.{◌≡◌, ◌≤◌, ◌+◌, ◌*◌, ◌%◌, ◌/◌, ◌++◌, length, take, drop, reverse};
+//! A row of numbers in the other order: by vectors of sixteen octets, and number by number at the end.
+
+ghost use Rattle.std.specs.Prelude.{◌≡◌, ◌≤◌, ◌+◌, ◌*◌, ◌%◌, ◌/◌, length, take, reverse};
 ghost use Rattle.std.specs.Simd.Lanes.{chunk, put_chunk};
 ghost use Rattle.kit_base.specs.Bytes.{written};
 ghost use Rattle.swap_kit.specs.Swapped.{swapped, swapped_to, IsSwapWidth};

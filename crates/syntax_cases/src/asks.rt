@@ -1,4 +1,5 @@
-// What is asked of a text.
+//! What is asked of a text.
+
 ghost use Rattle.std.specs.Prelude.{◌≤◌, IfOk};
 
 use crate::declared::put_declaration;

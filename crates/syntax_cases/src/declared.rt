@@ -1,4 +1,5 @@
-// Declarations as text.
+//! Declarations as text.
+
 use crate::asks::Bad;
 use crate::shown::{put_expr, put_int, put_name, put_octets, put_type};
 use corba_decls::{

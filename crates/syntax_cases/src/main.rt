@@ -1,5 +1,6 @@
-// Answers cases of lexing and parsing: a JSON object on each line of standard input, and an answer on
-// a line of standard output.
+//! Answers cases of lexing and parsing: a JSON object on each line of standard input, and an answer on
+//! a line of standard output.
+
 #![tactic(auto)]
 
 mod asks;

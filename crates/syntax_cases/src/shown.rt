@@ -1,4 +1,5 @@
-// Tokens and trees as text.
+//! Tokens and trees as text.
+
 use crate::asks::Bad;
 use corba_exprs::{BinaryOp, Expr, Leaf, Node, ScopedName, UnaryOp};
 use corba_types::{Base, Int, IntSize, Simple, TypeName, TypeNode};

@@ -1,4 +1,5 @@
-// Why tokens have no tree.
+//! Why tokens have no tree.
+
 ghost use Rattle.std.specs.Prelude.{◌≡◌};
 ghost use Rattle.syntax_kit.specs.declared.errors.SyntaxErr.TheVariants.{NoMemory as WantOfMemory};
 

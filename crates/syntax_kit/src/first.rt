@@ -1,5 +1,6 @@
-// The first token of some tokens.
-ghost use Rattle.std.specs.Prelude.{◌≡◌, map, Some, IfOk, IfErr};
+//! The first token of some tokens.
+
+ghost use Rattle.std.specs.Prelude.{◌≡◌, map, Some, IfErr};
 ghost use Rattle.syntax_kit.specs.Reading.{Gives, begins_with, begins_other, word_is, mark_is, word_at, mark_at, number_at, is_in, id_at, is_id, flag_at};
 
 use crate::Halt;

@@ -1,4 +1,5 @@
-// Why a production is not read.
+//! Why a production is not read.
+
 ghost use Rattle.std.specs.Prelude.{◌≡◌};
 ghost use Rattle.syntax_kit.specs.declared.halt.Halt.TheVariants.{NoMemory as WantOfMemory};
 

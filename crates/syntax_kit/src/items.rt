@@ -1,4 +1,5 @@
-// Lists of items.
+//! Lists of items.
+
 ghost use Rattle.std.specs.Prelude.{◌≡◌};
 ghost use Rattle.syntax_kit.specs.Reading.{Gives, behind, mark_at, joined_at, until_at, while_at, some_at};
 

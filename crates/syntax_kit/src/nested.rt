@@ -1,4 +1,5 @@
-// Lists of items that nest within so many levels.
+//! Lists of items that nest within so many levels.
+
 ghost use Rattle.std.specs.Prelude.{◌≡◌, ◌≤◌};
 ghost use Rattle.syntax_kit.specs.Reading.{Gives, behind, mark_at, joined_at, many, some_at};
 

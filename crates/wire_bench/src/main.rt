@@ -1,4 +1,5 @@
-// Sends and reads large values, so that what an octet costs can be counted: VERB SHAPE COUNT [ENCODING].
+//! Sends and reads large values, so that what an octet costs can be counted: VERB SHAPE COUNT [ENCODING].
+
 #![tactic(auto)]
 
 use anyhow::{Result, bail};

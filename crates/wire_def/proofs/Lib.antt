@@ -30,8 +30,6 @@ pub mod Room
 pub mod Typing
 -- * The laws, over each encoding
 pub mod Encodings
--- The laws over XDR, by the names of what cites them
-pub mod Xdr
 -- Octets worked out by hand: the laws alone would hold of other formats too
 mod Worked
 -- Octets that are read, worked out by hand: the first fault and its place

@@ -1,4 +1,4 @@
-// The orders of octets, and the head of a message.
+//! The orders of octets, and the head of a message.
 
 /// Which octet of a number comes first: the most significant one, or the least.
 #[derive(Clone, Copy, Debug, PartialEq, Eq)]

@@ -4,6 +4,7 @@
 //! stop: each is a definition of this crate, and each law of theirs the contract of a function.
 #![tactic(auto)]
 
+pub mod descriptors;
 mod encoding;
 mod fault;
 mod head;

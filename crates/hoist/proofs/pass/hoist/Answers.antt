@@ -1,5 +1,5 @@
 use Rattle.mint.specs.Types.{type_at}
-use Rattle.hoist.proofs.Promised.{given-taken, sends-same, adds-ensures, covered-for, sparing, bare-rows, big-rows}
+use Rattle.hoist.proofs.Promised.{given-taken, sends-same, changes-only-ensures, covered-for, sparing, bare-rows, big-rows}
 use Rattle.hoist.proofs.Rowless.{no_row}
 use Rattle.hoist.proofs.pass.hoist.Goals as goal
 
@@ -13,7 +13,7 @@ returns-clause-same c =
 
 pub returns-clause-adds : goal.returns-clause-adds
 returns-clause-adds c =
-    adds-ensures c.args.classes.now.enc c.args.code.now (record { ops = c.in_ok-hoist_ops.field-0; subs = c.new.result })
+    changes-only-ensures c.args.classes.now.enc c.args.code.now (record { ops = c.in_ok-hoist_ops.field-0; subs = c.new.result })
     (type_at c.args.mint.now c.args.id) c.in_ok-hoist_ops.ensures c.requires.given.0 c.new.ensures
 
 pub returns-clause-covered : goal.returns-clause-covered
@@ -44,6 +44,6 @@ pub returns-clause-no_row : goal.returns-clause-no_row
 returns-clause-no_row c =
     no_row (type_at c.args.mint.now c.args.id) c.args.code.now (record { ops = c.in_ok-hoist_ops.field-0; subs = c.new.result })
     c.requires.given
-    (adds-ensures c.args.classes.now.enc c.args.code.now (record { ops = c.in_ok-hoist_ops.field-0; subs = c.new.result })
+    (changes-only-ensures c.args.classes.now.enc c.args.code.now (record { ops = c.in_ok-hoist_ops.field-0; subs = c.new.result })
     (type_at c.args.mint.now c.args.id) c.in_ok-hoist_ops.ensures c.requires.given.0 c.new.ensures)
     c.new.ensures
