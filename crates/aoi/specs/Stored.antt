@@ -140,13 +140,13 @@ pub record Reading : Type 0 where
   pub arms : Arms
   pub front : Shape
   pub back : Shape
-  pub behind : Arms
+  pub after : Arms
 
 abbrev pub by_tag : ℕ → Gv → Reading → Shape
 by_tag n g r =
     cond (n == 0) void (cond (n == 1) (number (kind_at (num g))) (cond (n == 2) (enumeration (items_at g))
     (cond (n == 3) (text (count_at g)) (cond (n == 4) (array r.front (count_at (rest g))) (cond (n == 5) (structure r.fields)
-    (cond (n == 6) (choice r.front r.behind) (cond (n == 7) (optional r.shape) (named (num g)))))))))
+    (cond (n == 6) (choice r.front r.after) (cond (n == 7) (optional r.shape) (named (num g)))))))))
 
 abbrev pub arms_by : Gv → Reading → Reading → Arms
 arms_by gnil x y = default y.shape
@@ -154,15 +154,15 @@ arms_by (gnum n) x y = no_default
 arms_by (gcons a b) x y = arm (number_at a) x.back y.arms
 
 abbrev pub read : Gv → Reading
-read gnil = record { shape = void; fields = no_more; arms = no_default; front = void; back = void; behind = no_default }
-read (gnum n) = record { shape = void; fields = no_more; arms = no_default; front = void; back = void; behind = no_default }
+read gnil = record { shape = void; fields = no_more; arms = no_default; front = void; back = void; after = no_default }
+read (gnum n) = record { shape = void; fields = no_more; arms = no_default; front = void; back = void; after = no_default }
 read (gcons a b) = record {
   shape = by_tag (num a) b (read b);
   fields = member (name_at (first a)) (read a).back (read b).fields;
   arms = arms_by a (read a) (read b);
   front = (read a).shape;
   back = (read b).shape;
-  behind = (read b).arms;
+  after = (read b).arms;
 }
 
 mutual

@@ -128,13 +128,13 @@ asked_grows r t =
     (sequence_grows r [])
 
 -- what follows the id of a reply
-abbrev told : Order → Target → ℕ → List ℕ → List ℕ
-told r t zero o = then_long r 0 o
-told r t (suc k) o = then_string r (slice_index_or t.ids k []) (then_long r 1 o)
+abbrev reported : Order → Target → ℕ → List ℕ → List ℕ
+reported r t zero o = then_long r 0 o
+reported r t (suc k) o = then_string r (slice_index_or t.ids k []) (then_long r 1 o)
 
-told_grows : (r : Order) (t : Target) (arm : ℕ) → Grows (told r t arm)
-told_grows r t zero = long_grows r 0
-told_grows r t (suc k) = and_then (then_long r 1) (then_string r (slice_index_or t.ids k [])) (long_grows r 1)
+reported_grows : (r : Order) (t : Target) (arm : ℕ) → Grows (reported r t arm)
+reported_grows r t zero = long_grows r 0
+reported_grows r t (suc k) = and_then (then_long r 1) (then_string r (slice_index_or t.ids k [])) (long_grows r 1)
     (string_grows r (slice_index_or t.ids k []))
 
 pub call_put : (r : Order) (t : Target) (id : ℕ) → with_id r (lead r t 0) id ≡ lead r t id
@@ -146,12 +146,12 @@ unfolding request_octets
 call_long r t = long_head r 0 (asked r t) (asked_grows r t)
 
 pub reply_put : (r : Order) (t : Target) (arm id : ℕ) → with_id r (reply_lead r t arm 0) id ≡ reply_lead r t arm id
-reply_put r t zero id = id_put r 1 (told r t zero) (told_grows r t zero) id
-reply_put r t (suc k) id = id_put r 1 (told r t (suc k)) (told_grows r t (suc k)) id
+reply_put r t zero id = id_put r 1 (reported r t zero) (reported_grows r t zero) id
+reply_put r t (suc k) id = id_put r 1 (reported r t (suc k)) (reported_grows r t (suc k)) id
 
 pub reply_long : (r : Order) (t : Target) (arm : ℕ) → 20 ≤ length (reply_lead r t arm 0)
-reply_long r t zero = long_head r 1 (told r t zero) (told_grows r t zero)
-reply_long r t (suc k) = long_head r 1 (told r t (suc k)) (told_grows r t (suc k))
+reply_long r t zero = long_head r 1 (reported r t zero) (reported_grows r t zero)
+reply_long r t (suc k) = long_head r 1 (reported r t (suc k)) (reported_grows r t (suc k))
 
 pub call_length : (r : Order) (t : Target) (id : ℕ) → length (lead r t id) ≡ length (lead r t 0)
 unfolding request_octets
@@ -162,8 +162,8 @@ pub long_request : (r : Order) (t : Target) (id : ℕ) → 12 ≤ length (lead r
 long_request r t id = omega (arith, call_length r t id, call_long r t)
 
 pub reply_length : (r : Order) (t : Target) (arm id : ℕ) → length (reply_lead r t arm id) ≡ length (reply_lead r t arm 0)
-reply_length r t zero id = one_length r 1 (told r t zero) (told_grows r t zero) id
-reply_length r t (suc k) id = one_length r 1 (told r t (suc k)) (told_grows r t (suc k)) id
+reply_length r t zero id = one_length r 1 (reported r t zero) (reported_grows r t zero) id
+reply_length r t (suc k) id = one_length r 1 (reported r t (suc k)) (reported_grows r t (suc k)) id
 
 -- and so does that of a reply
 pub long_reply : (r : Order) (t : Target) (arm id : ℕ) → 12 ≤ length (reply_lead r t arm id)

@@ -29,10 +29,10 @@ in_front [] ys n x e = absurd cc
 in_front (y ∷ xs) ys zero x e = e
 in_front (y ∷ xs) ys (suc n) x e = in_front xs ys n x e
 
-behind : {A : Type 0} (xs ys : List A) (n m : ℕ) → m ≡ length xs + n → slice_get (xs ++ ys) m ≡ slice_get ys n
-behind [] ys n m e = ap (slice_get ys) (omega (arith, e))
-behind (x ∷ xs) ys n zero e = absurd (omega (arith, e))
-behind (x ∷ xs) ys n (suc m) e = behind xs ys n m (omega (arith, e))
+after : {A : Type 0} (xs ys : List A) (n m : ℕ) → m ≡ length xs + n → slice_get (xs ++ ys) m ≡ slice_get ys n
+after [] ys n m e = ap (slice_get ys) (omega (arith, e))
+after (x ∷ xs) ys n zero e = absurd (omega (arith, e))
+after (x ∷ xs) ys n (suc m) e = after xs ys n m (omega (arith, e))
 
 -- ---- an operation that is found
 
@@ -83,7 +83,7 @@ in_others k i is key name j (n, o, p, at, there, its_key, its_name) =
       o,
       p,
       omega (arith, at),
-      behind (pairs_in i) (pairs is) n (length i.ops + n) (omega (arith, many))
+      after (pairs_in i) (pairs is) n (length i.ops + n) (omega (arith, many))
           ∙ there,
       its_key,
       its_name,

@@ -50,9 +50,9 @@ in_first k i is key name op called (j, at, below, same) =
       ap (λ (t : Target). t.name) here ∙ (bytes_eq-Decides (get_or i.ops j null_operation).name name).0 same,
     )
 
-behind_first : (i : PlainInterface) (is : List PlainInterface) (j : ℕ)
+after_first : (i : PlainInterface) (is : List PlainInterface) (j : ℕ)
     → get_or (targets (i ∷ is)) (length i.ops + j) no_target ≡ get_or (targets is) j no_target
-behind_first i is j = rw length-map at (get_or-append-add (targets_in i) (targets is) j no_target)
+after_first i is j = rw length-map at (get_or-append-add (targets_in i) (targets is) j no_target)
 
 named_step : (k : ℕ) (i : PlainInterface) (is : List PlainInterface) (key name : List ℕ) (op : ℕ) (t : Bool)
     → bytes_eq i.name key ≡ t → (named_from (k + length i.ops) is key name ≡ Operation op → IsAt (k + length i.ops) is key name op)
@@ -63,8 +63,8 @@ named_step k i is key name op false called later e =
     let f = later e in (
       length i.ops + f.0,
       omega (arith, f.1),
-      ap (λ (t : Target). t.key) (behind_first i is f.0) ∙ f.2,
-      ap (λ (t : Target). t.name) (behind_first i is f.0) ∙ f.3,
+      ap (λ (t : Target). t.key) (after_first i is f.0) ∙ f.2,
+      ap (λ (t : Target). t.name) (after_first i is f.0) ∙ f.3,
     )
 
 named_at : (k : ℕ) (is : List PlainInterface) (key name : List ℕ) (op : ℕ) → named_from k is key name ≡ Operation op → IsAt k is key name op

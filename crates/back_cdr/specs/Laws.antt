@@ -1,7 +1,7 @@
 -- Laws of the heads that are sent, and of what requests name.
 use Rattle.std.specs.Prelude.{◌≡◌, ℕ, length}
 use Rattle.call_kit.specs.declared.called.Naming.TheVariants.{Operation}
-use Rattle.giop_head.specs.Told.{ToldRequest}
+use Rattle.giop_head.specs.Reported.{ReportedRequest}
 use Rattle.pres.specs.Bindings.{Binding}
 use Rattle.wire_def.specs.declared.head.Order.{Order}
 use Rattle.back_cdr.specs.Targets.{Target, target_of}
@@ -19,5 +19,5 @@ LeadsHaveOneLength = (r : Order) (t : Target) → HaveOneLength r t
 
 -- the operation that a request names has its key and its name
 abbrev pub IsNamedRight : Type 0
-IsNamedRight = (b : Binding) (t : ToldRequest) (op : ℕ) → named b t ≡ Operation op
+IsNamedRight = (b : Binding) (t : ReportedRequest) (op : ℕ) → named b t ≡ Operation op
     → ((target_of b op).key ≡ t.key) × ((target_of b op).name ≡ t.name)

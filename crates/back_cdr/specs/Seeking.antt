@@ -7,7 +7,7 @@ use Rattle.call_kit.specs.declared.called.Called.{Called}
 use Rattle.call_kit.specs.declared.called.Naming.{Naming}
 use Rattle.call_kit.specs.declared.called.Naming.TheVariants.{Operation as one, NoInterface, NoOperation}
 use Rattle.giop_head.specs.Items.{laid}
-use Rattle.giop_head.specs.Told.{ToldRequest, BeginsRequest}
+use Rattle.giop_head.specs.Reported.{ReportedRequest, BeginsRequest}
 use Rattle.pres.specs.Bindings.{Binding}
 
 -- an operation of this name
@@ -27,13 +27,13 @@ named_from k (i ∷ is) key name = if bytes_eq i.name key then operation_at (pos
     else named_from (k + length i.ops) is key name
 
 -- the operation that a request names
-abbrev pub named : Binding → ToldRequest → Naming
+abbrev pub named : Binding → ReportedRequest → Naming
 named b t = named_from 0 b.unit.interfaces t.key t.name
 
 -- what the head of a request says: its body lies in the order of its message
-abbrev pub called : Binding → ToldRequest → Called
+abbrev pub called : Binding → ReportedRequest → Called
 called b t = record { naming = named b t; head = t.head; encoding = laid t.head.order; used = t.used }
 
 -- a message begins with the head of a request that says this
 abbrev pub Calls : Binding → List ℕ → Called → Type 0
-Calls b o told = (t : ToldRequest) × BeginsRequest o t × (called b t ≡ told)
+Calls b o reported = (t : ReportedRequest) × BeginsRequest o t × (called b t ≡ reported)

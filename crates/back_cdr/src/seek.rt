@@ -9,7 +9,7 @@ ghost use Rattle.call_kit.specs.Calls.{IsBelow};
 ghost use Rattle.giop_head.specs.declared.header.Way.TheVariants.{Requests};
 ghost use Rattle.giop_head.specs.Heads.{StopsWith};
 ghost use Rattle.giop_head.specs.Items.{laid};
-ghost use Rattle.giop_head.specs.Told.{request_seen};
+ghost use Rattle.giop_head.specs.Reported.{request_seen};
 ghost use Rattle.back_cdr.specs.Targets.{IsCdr, targets};
 ghost use Rattle.back_cdr.specs.Seeking.{Calls, has_name, named, named_from, operation_at};
 

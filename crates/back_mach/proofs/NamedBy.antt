@@ -32,10 +32,10 @@ in_front [] ys n x e = absurd cc
 in_front (y ∷ xs) ys zero x e = e
 in_front (y ∷ xs) ys (suc n) x e = in_front xs ys n x e
 
-behind : {A : Type 0} (xs ys : List A) (n m : ℕ) → m ≡ length xs + n → slice_get (xs ++ ys) m ≡ slice_get ys n
-behind [] ys n m e = ap (slice_get ys) (omega (arith, e))
-behind (x ∷ xs) ys n zero e = absurd (omega (arith, e))
-behind (x ∷ xs) ys n (suc m) e = behind xs ys n m (omega (arith, e))
+after : {A : Type 0} (xs ys : List A) (n m : ℕ) → m ≡ length xs + n → slice_get (xs ++ ys) m ≡ slice_get ys n
+after [] ys n m e = ap (slice_get ys) (omega (arith, e))
+after (x ∷ xs) ys n zero e = absurd (omega (arith, e))
+after (x ∷ xs) ys n (suc m) e = after xs ys n m (omega (arith, e))
 
 at_some : {A : Type 0} (xs : List A) (n : ℕ) (x d : A) → slice_get xs n ≡ Some x → get_or xs n d ≡ x
 at_some [] n x d e = absurd cc
@@ -79,7 +79,7 @@ in_others : (k : ℕ) (i : PlainInterface) (is : List PlainInterface) (id j : �
     → IsNamedBy k (i ∷ is) id j
 in_others k i is id j (n, o, p, at, there, its) =
     let many : length (pairs_in i) ≡ length i.ops = length-map i.ops (λ (q : PlainOperation). (i, q)) in
-    (length i.ops + n, o, p, omega (arith, at), behind (pairs_in i) (pairs is) n (length i.ops + n) (omega (arith, many)) ∙ there, its)
+    (length i.ops + n, o, p, omega (arith, at), after (pairs_in i) (pairs is) n (length i.ops + n) (omega (arith, many)) ∙ there, its)
 
 named_step : (k : ℕ) (i : PlainInterface) (is : List PlainInterface) (id j : ℕ) (t : Bool)
     → (named_from (k + length i.ops) is id ≡ Operation j → IsNamedBy (k + length i.ops) is id j)

@@ -15,8 +15,8 @@ use Rattle.back_mach.specs.Words.{word, words, IsWord}
 use Rattle.back_mach.specs.Header.{SixSpell, HeaderSpells}
 use Rattle.back_mach.specs.Reply.{return_word, CodeSpells}
 use Rattle.back_mach.specs.Leads.{request_bits, reply_port, lead, reply_id, move_send_once, reply_octets, with_size}
-use Rattle.back_mach.specs.Told.{BeginsReply}
-use Rattle.back_mach.specs.Told as defs
+use Rattle.back_mach.specs.Reported.{BeginsReply}
+use Rattle.back_mach.specs.Reported as defs
 use Rattle.back_mach.specs.Laws.{HasPorts, RequestsAreRead, AnswersAreRead, RefusalsAreRead, OwnHaveOctets}
 
 -- ---- requests
@@ -35,8 +35,9 @@ asking r head n = record {
 abbrev sized : Routine → Head → ℕ → List ℕ
 sized r head n = words (request_bits r.wants ∷ n ∷ head.remote ∷ reply_port r.wants head.local ∷ 0 ∷ r.id ∷ [])
 
-told : (r : Routine) (head : Head) (body : List ℕ) → with_size (lead r head ++ body) ≡ sized r head (length (lead r head ++ body)) ++ body
-told r head body = refl
+reported : (r : Routine) (head : Head) (body : List ℕ)
+    → with_size (lead r head ++ body) ≡ sized r head (length (lead r head ++ body)) ++ body
+reported r head body = refl
 
 -- to set the size changes no length
 pub length_sized : (o : List ℕ) → 8 ≤ length o → length (with_size o) ≡ length o
@@ -109,45 +110,45 @@ long_request r head = omega arith
 abbrev answering : ℕ → ℕ → ℕ → MachHeader
 answering id remote n = record { bits = move_send_once; size = n; remote = remote; local = 0; sequence = 0; id = reply_id id }
 
-abbrev header_told : ℕ → ℕ → ℕ → List ℕ
-header_told id remote n = words (move_send_once ∷ n ∷ remote ∷ 0 ∷ 0 ∷ reply_id id ∷ [])
+abbrev header_reported : ℕ → ℕ → ℕ → List ℕ
+header_reported id remote n = words (move_send_once ∷ n ∷ remote ∷ 0 ∷ 0 ∷ reply_id id ∷ [])
 
-abbrev code_told : ℕ → List ℕ
-code_told m = word return_word ++ word m
+abbrev code_reported : ℕ → List ℕ
+code_reported m = word return_word ++ word m
 
-reply_told : (id remote m : ℕ) (body : List ℕ)
+reply_reported : (id remote m : ℕ) (body : List ℕ)
     → with_size (reply_octets id remote m ++ body)
-    ≡ (header_told id remote (length (reply_octets id remote m ++ body)) ++ code_told m) ++ body
-reply_told id remote m body = refl
+    ≡ (header_reported id remote (length (reply_octets id remote m ++ body)) ++ code_reported m) ++ body
+reply_reported id remote m body = refl
 
-answers : (id remote n : ℕ) → IsWord remote → IsWord n → HeaderSpells n 0 (header_told id remote n) (answering id remote n)
+answers : (id remote n : ℕ) → IsWord remote → IsWord n → HeaderSpells n 0 (header_reported id remote n) (answering id remote n)
 unfolding SixSpell
 answers id remote n port fits = (
   ((refl, record { bits = omega arith; size = fits; remote = port; local = omega arith; sequence = omega arith; id = omega arith }), refl),
   eq-eqb n n refl,
 )
 
-code_spelled : (p m : ℕ) → IsWord m → CodeSpells p (code_told m) m
+code_spelled : (p m : ℕ) → IsWord m → CodeSpells p (code_reported m) m
 unfolding CodeSpells
 code_spelled p m fits = (refl, fits)
 
 -- a reply by the word of its return code
 reply_begins : (id remote m : ℕ) (body : List ℕ) → IsWord remote → IsWord m → IsWord (length (reply_octets id remote m ++ body))
     → BeginsReply (reply_id id) (with_size (reply_octets id remote m ++ body))
-    (defs.reply_told (record { header = answering id remote (length (reply_octets id remote m ++ body)); code = m }) 32)
+    (defs.reply_reported (record { header = answering id remote (length (reply_octets id remote m ++ body)); code = m }) 32)
 reply_begins id remote m body port code fits =
     let n : ℕ = length (reply_octets id remote m ++ body) in
     let long : length (with_size (reply_octets id remote m ++ body))
     ≡ n = length_sized (reply_octets id remote m ++ body) (omega (arith, length-append (reply_octets id remote m) body)) in
-    let first : take 32 (with_size (reply_octets id remote m ++ body)) ≡ header_told id remote n ++ code_told m =
-    take_at (header_told id remote n ++ code_told m) body 32 refl in (
+    let first : take 32 (with_size (reply_octets id remote m ++ body)) ≡ header_reported id remote n ++ code_reported m =
+    take_at (header_reported id remote n ++ code_reported m) body 32 refl in (
       record { header = answering id remote n; code = m },
       32,
       (
         omega (arith, long, length-append (reply_octets id remote m) body),
         rw (first, long) (
-          header_told id remote n,
-          code_told m,
+          header_reported id remote n,
+          code_reported m,
           refl,
           (answers id remote n port fits, eq-eqb (reply_id id) (reply_id id) refl),
           code_spelled 24 m code,

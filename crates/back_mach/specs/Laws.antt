@@ -18,7 +18,7 @@ use Rattle.back_mach.specs.Leads.{lead, lead_length, answer_lead, answer_lead_le
 use Rattle.back_mach.specs.Refusals.{IsOwn, refusal_octets}
 use Rattle.back_mach.specs.Routines.{routine_of}
 use Rattle.back_mach.specs.Seeking.{named}
-use Rattle.back_mach.specs.Told.{BeginsCall, BeginsReply, shared_head}
+use Rattle.back_mach.specs.Reported.{BeginsCall, BeginsReply, shared_head}
 use Rattle.back_mach.specs.Words.{IsWord}
 
 -- a message begins with a head or stops with a fault, one of the two, and which head and which fault is determined

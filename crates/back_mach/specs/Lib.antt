@@ -2,7 +2,7 @@ pub mod Words
 pub mod Header
 pub mod Reply
 pub mod Heads
-pub mod Told
+pub mod Reported
 pub mod Readers
 pub mod Routines
 pub mod Seeking

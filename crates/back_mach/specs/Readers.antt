@@ -23,6 +23,6 @@ abbrev pub same : {A : Type 0} → A → A
 same x = x
 
 -- what is reported of what was read
-abbrev pub told : {A B : Type 0} → (A → ℕ → B) → Reading HeadErr A → Result B HeadErr
-told view (got x used rest) = Ok (view x used)
-told view (stop e at) = Err e
+abbrev pub reported : {A B : Type 0} → (A → ℕ → B) → Reading HeadErr A → Result B HeadErr
+reported view (got x used rest) = Ok (view x used)
+reported view (stop e at) = Err e

@@ -8,7 +8,7 @@ use Rattle.call_kit.specs.declared.called.Called.{Called}
 use Rattle.call_kit.specs.declared.called.Naming.{Naming}
 use Rattle.call_kit.specs.declared.called.Naming.TheVariants.{Operation as one, NoInterface, NoOperation}
 use Rattle.back_mach.specs.declared.call.MachCall.{MachCall}
-use Rattle.back_mach.specs.Told.{BeginsCall}
+use Rattle.back_mach.specs.Reported.{BeginsCall}
 use Rattle.pres.specs.Bindings.{Binding}
 
 -- how bodies are laid out
@@ -45,4 +45,4 @@ called b c = record { naming = named b c; head = c.head; encoding = encoding; us
 
 -- a message begins with the head of a request that says this
 abbrev pub Calls : Binding → List ℕ → Called → Type 0
-Calls b o told = (c : MachCall) × BeginsCall o c × (called b c ≡ told)
+Calls b o reported = (c : MachCall) × BeginsCall o c × (called b c ≡ reported)

@@ -5,8 +5,8 @@ ghost use Rattle.wire_def.specs.declared.fault.HeadErr.{HeadErr};
 ghost use Rattle.back_mach.specs.Header.{read_header};
 ghost use Rattle.back_mach.specs.Heads.{StopsWith};
 ghost use Rattle.back_mach.specs.Heads as heads;
-ghost use Rattle.back_mach.specs.Told.{BeginsCall, call_told};
-ghost use Rattle.back_mach.specs.Readers.{told};
+ghost use Rattle.back_mach.specs.Reported.{BeginsCall, call_reported};
+ghost use Rattle.back_mach.specs.Readers.{reported};
 
 use crate::cursor::Cursor;
 use crate::header::header;
@@ -42,7 +42,7 @@ pub fn read_call(message: &[u8]) -> Result<MachCall, HeadErr>
 
 /// The head of a request, in a message of so many octets.
 fn call_at(total: usize, at: Cursor<'_>) -> Result<MachCall, HeadErr>
-    ensures { result ≡ told call_told (read_header total at.entry.place at.entry.rest.now) }
+    ensures { result ≡ reported call_reported (read_header total at.entry.place at.entry.rest.now) }
 {
     let (header, at) = header(total, at)?;
     Ok(MachCall {

@@ -6,9 +6,9 @@ ghost use Rattle.wire_def.specs.declared.reply.ReplyHead.{ReplyHead};
 ghost use Rattle.back_mach.specs.Reply.{read_code, read_head_of_reply, read_own};
 ghost use Rattle.back_mach.specs.Heads.{StopsWith};
 ghost use Rattle.back_mach.specs.Heads as heads;
-ghost use Rattle.back_mach.specs.Told.{BeginsReply, reply_told};
-ghost use Rattle.back_mach.specs.Told as defs;
-ghost use Rattle.back_mach.specs.Readers.{Gives, same, told};
+ghost use Rattle.back_mach.specs.Reported.{BeginsReply, reply_reported};
+ghost use Rattle.back_mach.specs.Reported as defs;
+ghost use Rattle.back_mach.specs.Readers.{Gives, same, reported};
 
 use crate::cursor::Cursor;
 use crate::header::{MachHeader, header};
@@ -36,7 +36,8 @@ pub fn read_reply(message: &[u8], id: u32) -> Result<ReplyHead<'_>, HeadErr>
 
 /// The head of a reply that must have an id, in a message of so many octets.
 fn reply_at(id: u32, total: usize, at: Cursor<'_>) -> Result<ReplyHead<'_>, HeadErr>
-    ensures { result ≡ told reply_told (read_head_of_reply id total at.entry.place at.entry.rest.now) }
+    ensures { result ≡ reported reply_reported
+        (read_head_of_reply id total at.entry.place at.entry.rest.now) }
 {
     let (header, at) = own(id, total, at)?;
     let (code, at) = code(at)?;

@@ -43,9 +43,9 @@ place_of (Some j) op e = cc
 abbrev IsAt : ℕ → List PlainInterface → OncCall → ℕ → Type 0
 IsAt k is c op = (i : ℕ) × (op ≡ k + i) × (get_or (procedures is) i none ≡ called_by c)
 
-behind_first : (i : PlainInterface) (is : List PlainInterface) (j : ℕ)
+after_first : (i : PlainInterface) (is : List PlainInterface) (j : ℕ)
     → get_or (procedures (i ∷ is)) (length (numbers i) + j) none ≡ get_or (procedures is) j none
-behind_first i is j = rw length-map at (get_or-append-add (procedures_of i) (procedures is) j none)
+after_first i is j = rw length-map at (get_or-append-add (procedures_of i) (procedures is) j none)
 
 in_first : (k : ℕ) (i : PlainInterface) (is : List PlainInterface) (c : OncCall) (op : ℕ) → is_called c i ≡ true
     → Found (λ n. n == c.proc_no) k (numbers i) op
@@ -66,7 +66,7 @@ named_step : (k : ℕ) (i : PlainInterface) (is : List PlainInterface) (c : OncC
     ≡ Operation op
     → IsAt k (i ∷ is) c op
 named_step k i is c op true called later e = in_first k i is c op called (found (λ n. n == c.proc_no) k (numbers i) op (place_of _ op e))
-named_step k i is c op false called later e = let f = later e in (length (numbers i) + f.0, omega (arith, f.1), behind_first i is f.0 ∙ f.2)
+named_step k i is c op false called later e = let f = later e in (length (numbers i) + f.0, omega (arith, f.1), after_first i is f.0 ∙ f.2)
 
 named_at : (k : ℕ) (is : List PlainInterface) (c : OncCall) (op : ℕ) → named_from k is c ≡ Operation op → IsAt k is c op
 named_at k [] c op e = absurd cc

@@ -158,19 +158,19 @@ Outcome n p o f = Parts p o (λ a. PassSpells (up_to 1) p a n) (λ q b. OutcomeS
 
 fate_forth : (n p : ℕ) (o : List ℕ) (f : Fate) → Outcome n p o f → FateSpells p o f
 unfolding WordSpells
-fate_forth zero p o f (a, b, is, ((first, fits), few), (x, same, behind)) =
-    let there : Parts (p + 4) b (λ c. AuthSpells (p + 4) c x.0) (λ r d. AcceptedSpells r d x.1) = rw first at behind in
+fate_forth zero p o f (a, b, is, ((first, fits), few), (x, same, after)) =
+    let there : Parts (p + 4) b (λ c. AuthSpells (p + 4) c x.0) (λ r d. AcceptedSpells r d x.1) = rw first at after in
     subst (λ z. FateSpells p o z) same (word 0, b, rw first at is, refl, there)
-fate_forth (suc n) p o f (a, b, is, ((first, fits), few), (s, same, behind)) =
+fate_forth (suc n) p o f (a, b, is, ((first, fits), few), (s, same, after)) =
     let most : suc n ≤ 1 = leb-true _ _ few in
     let one : n ≡ 0 = omega (arith, most) in
-    subst (λ z. FateSpells p o z) same (a, b, is, rw one at first, behind)
+    subst (λ z. FateSpells p o z) same (a, b, is, rw one at first, after)
 
 fate_back : (p : ℕ) (o : List ℕ) (f : Fate) → FateSpells p o f → (x : ℕ × Fate) × (x.1 ≡ f) × Outcome x.0 p o x.1
 unfolding WordSpells
-fate_back p o (accepted verf s) (a, b, is, first, behind) =
-    ((0, accepted verf s), refl, (a, b, is, ((first, omega arith), refl), ((verf, s), refl, behind)))
-fate_back p o (denied s) (a, b, is, first, behind) = ((1, denied s), refl, (a, b, is, ((first, omega arith), refl), (s, refl, behind)))
+fate_back p o (accepted verf s) (a, b, is, first, after) =
+    ((0, accepted verf s), refl, (a, b, is, ((first, omega arith), refl), ((verf, s), refl, after)))
+fate_back p o (denied s) (a, b, is, first, after) = ((1, denied s), refl, (a, b, is, ((first, omega arith), refl), (s, refl, after)))
 
 fate_is : IsGrammar read_fate FateSpells FateStops
 fate_is =
@@ -188,14 +188,14 @@ reply_of x = record { xid = x.0; fate = x.1.1 }
 
 forth : (p : ℕ) (o : List ℕ) (x : Values) → Items p o x → ReplySpells p o (reply_of x)
 unfolding WordSpells
-forth p o x (a, b, is, first, (c, d, is', ((second, fits), kind), behind)) =
+forth p o x (a, b, is, first, (c, d, is', ((second, fits), kind), after)) =
     let one : x.1.0 ≡ 1 = eqb-true _ _ kind in
-    (a, b, is, first, (c, d, is', rw one at second, behind))
+    (a, b, is, first, (c, d, is', rw one at second, after))
 
 back : (p : ℕ) (o : List ℕ) (y : Reply) → ReplySpells p o y → (x : Values) × (reply_of x ≡ y) × Items p o x
 unfolding WordSpells
-back p o y (a, b, is, first, (c, d, is', second, behind)) =
-    ((y.xid, (1, y.fate)), refl, (a, b, is, first, (c, d, is', ((second, omega arith), refl), behind)))
+back p o y (a, b, is, first, (c, d, is', second, after)) =
+    ((y.xid, (1, y.fate)), refl, (a, b, is, first, (c, d, is', ((second, omega arith), refl), after)))
 
 pub reply_is : IsGrammar read_head_of_reply ReplySpells ReplyStops
 reply_is = mapped reply_of ReplySpells (both_are word_is (λ xid. both_are (pass_is (only 1) Type_) (λ type. fate_is))) forth back

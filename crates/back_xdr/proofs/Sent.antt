@@ -2,7 +2,7 @@
 use Rattle.std.proofs.Common.{◌≡◌, ℕ, List, [], ◌++◌, take, refl, arith, length-append}
 use Rattle.std.proofs.lemmas.List.{take_at}
 use Rattle.back_xdr.specs.Call.{Call}
-use Rattle.back_xdr.specs.Told.{BeginsCall}
+use Rattle.back_xdr.specs.Reported.{BeginsCall}
 use Rattle.back_xdr.specs.Words.{IsWord}
 use Rattle.back_xdr.specs.declared.procedures.Procedure.{Procedure}
 use Rattle.back_xdr.specs.Leads.{lead}

@@ -12,7 +12,7 @@ use Rattle.back_xdr.specs.Leads.{lead, lead_length}
 use Rattle.back_xdr.specs.Procedures.{procedure_of}
 use Rattle.back_xdr.specs.Refusals.{IsOwn, refusal_octets}
 use Rattle.back_xdr.specs.Seeking.{named}
-use Rattle.back_xdr.specs.Told.{BeginsCall, shared_head}
+use Rattle.back_xdr.specs.Reported.{BeginsCall, shared_head}
 use Rattle.back_xdr.specs.Words.{IsWord}
 
 -- a message begins with a head or stops with a fault, one of the two, and which head and which fault is determined

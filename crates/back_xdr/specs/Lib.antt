@@ -4,7 +4,7 @@ pub mod Call
 pub mod Reply
 pub mod Heads
 pub mod Laws
-pub mod Told
+pub mod Reported
 pub mod Readers
 pub mod Procedures
 pub mod Seeking

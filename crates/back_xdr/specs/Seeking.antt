@@ -9,7 +9,7 @@ use Rattle.call_kit.specs.declared.called.Naming.{Naming}
 use Rattle.call_kit.specs.declared.called.Naming.TheVariants.{Operation as one, NoInterface, NoOperation}
 use Rattle.back_xdr.specs.declared.call.OncCall.{OncCall}
 use Rattle.back_xdr.specs.Procedures.{numbers}
-use Rattle.back_xdr.specs.Told.{BeginsCall}
+use Rattle.back_xdr.specs.Reported.{BeginsCall}
 use Rattle.pres.specs.Bindings.{Binding}
 
 -- how bodies are laid out
@@ -42,4 +42,4 @@ called b c = record { naming = named b c; head = c.head; encoding = encoding; us
 
 -- a message begins with the head of a call that says this
 abbrev pub Calls : Binding → List ℕ → Called → Type 0
-Calls b o told = (c : OncCall) × BeginsCall o c × (called b c ≡ told)
+Calls b o reported = (c : OncCall) × BeginsCall o c × (called b c ≡ reported)

@@ -5,8 +5,8 @@ ghost use Rattle.wire_def.specs.declared.fault.HeadErr.{HeadErr};
 ghost use Rattle.back_xdr.specs.Call.{read_head_of_call};
 ghost use Rattle.back_xdr.specs.Heads.{StopsWith};
 ghost use Rattle.back_xdr.specs.Heads as heads;
-ghost use Rattle.back_xdr.specs.Told.{BeginsCall, call_told};
-ghost use Rattle.back_xdr.specs.Readers.{told};
+ghost use Rattle.back_xdr.specs.Reported.{BeginsCall, call_reported};
+ghost use Rattle.back_xdr.specs.Readers.{reported};
 
 use crate::auth::auth;
 use crate::cursor::Cursor;
@@ -52,7 +52,7 @@ pub fn read_call(message: &[u8]) -> Result<OncCall, HeadErr>
 
 /// The head of a call, item by item.
 fn call_at(at: Cursor<'_>) -> Result<OncCall, HeadErr>
-    ensures { result ≡ told call_told (read_head_of_call at.entry.place at.entry.rest.now) }
+    ensures { result ≡ reported call_reported (read_head_of_call at.entry.place at.entry.rest.now) }
 {
     let (xid, at) = word(at)?;
     let at = this_word(CALL, HeadErr::Type_, at)?;
@@ -60,13 +60,13 @@ fn call_at(at: Cursor<'_>) -> Result<OncCall, HeadErr>
     let (program, at) = word(at)?;
     let (version, at) = word(at)?;
     let (proc_no, at) = word(at)?;
-    let behind_cred = auth(at)?;
-    let behind_verf = auth(behind_cred)?;
+    let after_cred = auth(at)?;
+    let after_verf = auth(after_cred)?;
     Ok(OncCall {
         head: shared_head(xid),
         program,
         version,
         proc_no,
-        used: behind_verf.place,
+        used: after_verf.place,
     })
 }

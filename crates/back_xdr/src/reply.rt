@@ -6,8 +6,8 @@ ghost use Rattle.wire_def.specs.declared.reply.ReplyHead.{ReplyHead};
 ghost use Rattle.back_xdr.specs.Reply.{read_accepted, read_denied, read_head_of_reply, read_two_words};
 ghost use Rattle.back_xdr.specs.Heads.{StopsWith};
 ghost use Rattle.back_xdr.specs.Heads as heads;
-ghost use Rattle.back_xdr.specs.Told.{BeginsReply, reply_told};
-ghost use Rattle.back_xdr.specs.Readers.{Gives, same, told};
+ghost use Rattle.back_xdr.specs.Reported.{BeginsReply, reply_reported};
+ghost use Rattle.back_xdr.specs.Readers.{Gives, same, reported};
 
 use crate::auth::auth;
 use crate::cursor::Cursor;
@@ -34,7 +34,7 @@ pub fn read_reply(message: &[u8]) -> Result<ReplyHead<'_>, HeadErr>
 
 /// The head of a reply, item by item.
 fn reply_at(at: Cursor<'_>) -> Result<ReplyHead<'_>, HeadErr>
-    ensures { result ≡ told reply_told (read_head_of_reply at.entry.place at.entry.rest.now) }
+    ensures { result ≡ reported reply_reported (read_head_of_reply at.entry.place at.entry.rest.now) }
 {
     let (xid, at) = word(at)?;
     let at = this_word(REPLY, HeadErr::Type_, at)?;

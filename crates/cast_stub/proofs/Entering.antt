@@ -11,8 +11,8 @@ use Rattle.cast_stub.specs.Laws.{CallsInTurn, EnsuresRunNoCall, NoCallRunsNone}
 
 -- ---- one after the other
 
-behind : (x a b c : List ℕ) → a ≡ b ++ c → x ++ a ≡ (x ++ b) ++ c
-behind x a b c e = ap (λ (l : List ℕ). x ++ l) e ∙ sym (append_assoc x b c)
+after : (x a b c : List ℕ) → a ≡ b ++ c → x ++ a ≡ (x ++ b) ++ c
+after x a b c e = ap (λ (l : List ℕ). x ++ l) e ∙ sym (append_assoc x b c)
 
 pub entered-append : CallsInTurn
 entered-append e stop b v = refl
@@ -23,13 +23,13 @@ entered-append e (chunk s ps r) b v = entered-append e r b v
 entered-append e (row_copy p r) b v = entered-append e r b v
 entered-append e (row_swap p r) b v = entered-append e r b v
 entered-append e (row_wide p o r) b v = entered-append e r b v
-entered-append e (each p a r) b v = behind (of_some (on_some (at p v) elements_in) (of_each (entered e a))) _ (entered e r v)
+entered-append e (each p a r) b v = after (of_some (on_some (at p v) elements_in) (of_each (entered e a))) _ (entered e r v)
     (entered e b v) (entered-append e r b v)
 entered-append e (switch p cs r) b v =
-    behind (of_some (on_some (at p v) arm_in) (λ a. case_entered e cs a.0 a.1)) _ (entered e r v) (entered e b v) (entered-append e r b v)
-entered-append e (if_there p a r) b v = behind (of_some (at p v) (of_present (entered e a))) _ (entered e r v) (entered e b v)
+    after (of_some (on_some (at p v) arm_in) (λ a. case_entered e cs a.0 a.1)) _ (entered e r v) (entered e b v) (entered-append e r b v)
+entered-append e (if_there p a r) b v = after (of_some (at p v) (of_present (entered e a))) _ (entered e r v) (entered e b v)
     (entered-append e r b v)
-entered-append e (call k p r) b v = behind (of_some (at p v) (λ w. k ∷ e k w)) _ (entered e r v) (entered e b v) (entered-append e r b v)
+entered-append e (call k p r) b v = after (of_some (at p v) (λ w. k ∷ e k w)) _ (entered e r v) (entered e b v) (entered-append e r b v)
 entered-append e (patch a s o r) b v = entered-append e r b v
 
 -- ---- what is the same for each part

@@ -153,8 +153,8 @@ module _ (q : List ℕ) (g h : Filler) (lifts : Lifts q g h) where
     put (Some f) is there =
         ap (λ (o : Option Draft). then_run (if_some o (λ e. gives e t)) g) is ∙ lifts f y t (put_there y q d f is) ∙ same f is (h y t)
 
-  pub behind : (F G : Filler) → Lifts q F G → Lifts q (λ d s. then_run (F d s) g) (λ x s. then_run (G x s) h)
-  behind F G first d x s e = ap (λ (z : Run Draft). then_run z g) (first d x s e) ∙ lifted (G x s) d x e
+  pub after : (F G : Filler) → Lifts q F G → Lifts q (λ d s. then_run (F d s) g) (λ x s. then_run (G x s) h)
+  after F G first d x s e = ap (λ (z : Run Draft). then_run z g) (first d x s e) ∙ lifted (G x s) d x e
 
 -- what does not look at the draft, and leaves it
 abbrev pub IsIdle : Filler → Type 0
@@ -256,7 +256,7 @@ stay_lifts q = idle_lifts q (λ d s. gives d s) (λ (d : Draft) (x : Draft) (s :
 
 all_lifts : (q : List ℕ) (gs : List Get) → Lifts q (all_got (map (get_rebased q) gs)) (all_got gs)
 all_lifts q [] = stay_lifts q
-all_lifts q (g ∷ gs) = behind q (all_got (map (get_rebased q) gs)) (all_got gs) (all_lifts q gs) (got (get_rebased q g)) (got g)
+all_lifts q (g ∷ gs) = after q (all_got (map (get_rebased q) gs)) (all_got gs) (all_lifts q gs) (got (get_rebased q g)) (got g)
     (got_lifts q g)
 
 row_lifts : (q p : List ℕ) (u k : ℕ) → Lifts q
@@ -279,31 +279,31 @@ row_lifts q p u k d x s e =
 -- code that is made for a part, on the whole: where the part is there, the part is filled and put back
 pub fill-rebase : (c : Callees) (q : List ℕ) (b : Recv) → Lifts q (fill c (rebase q b)) (fill c b)
 fill-rebase c q finish = stay_lifts q
-fill-rebase c q (need n r) = behind q (fill c (rebase q r)) (fill c r) (fill-rebase c q r) (needed n) (needed n)
+fill-rebase c q (need n r) = after q (fill c (rebase q r)) (fill c r) (fill-rebase c q r) (needed n) (needed n)
     (idle_lifts q (needed n) (needed_idle n))
 fill-rebase c q (need_row p u e r) =
-    behind q (fill c (rebase q r)) (fill c r) (fill-rebase c q r)
+    after q (fill c (rebase q r)) (fill c r) (fill-rebase c q r)
     (λ d s. if_some (part (q ++ p) d) (λ x. if_some (length_in x) (λ n. needed (n * u + e) d s))) (λ d s.
     if_some (part p d) (λ x. if_some (length_in x) (λ n. needed (n * u + e) d s))) (row_lifts q p u e)
-fill-rebase c q (skip_any a r) = behind q (fill c (rebase q r)) (fill c r) (fill-rebase c q r)
+fill-rebase c q (skip_any a r) = after q (fill c (rebase q r)) (fill c r) (fill-rebase c q r)
     (skipped (λ o. true) a) (skipped (λ o. true) a) (idle_lifts q (skipped (λ o. true) a) (skipped_idle (λ o. true) a))
-fill-rebase c q (skip_zero a r) = behind q (fill c (rebase q r)) (fill c r) (fill-rebase c q r) (skipped all_zero a) (skipped all_zero a)
+fill-rebase c q (skip_zero a r) = after q (fill c (rebase q r)) (fill c r) (fill-rebase c q r) (skipped all_zero a) (skipped all_zero a)
     (idle_lifts q (skipped all_zero a) (skipped_idle all_zero a))
 fill-rebase c q (pass n gs r) =
-    behind q (λ x t. then_run (passed n x t) (fill c (rebase q r))) (λ x t. then_run (passed n x t) (fill c r))
-    (behind q (fill c (rebase q r)) (fill c r) (fill-rebase c q r) (passed n) (passed n) (idle_lifts q (passed n) (passed_idle n)))
+    after q (λ x t. then_run (passed n x t) (fill c (rebase q r))) (λ x t. then_run (passed n x t) (fill c r))
+    (after q (fill c (rebase q r)) (fill c r) (fill-rebase c q r) (passed n) (passed n) (idle_lifts q (passed n) (passed_idle n)))
     (all_got (map (get_rebased q) gs)) (all_got gs) (all_lifts q gs)
-fill-rebase c q (desc p name size mul r) = behind q (fill c (rebase q r)) (fill c r) (fill-rebase c q r)
+fill-rebase c q (desc p name size mul r) = after q (fill c (rebase q r)) (fill c r) (fill-rebase c q r)
     (within (q ++ p) (desc_into name size mul)) (within p (desc_into name size mul)) (within_lifts q p (desc_into name size mul))
-fill-rebase c q (row_block p o r) = behind q (fill c (rebase q r)) (fill c r) (fill-rebase c q r) (within (q ++ p) (row_into o))
+fill-rebase c q (row_block p o r) = after q (fill c (rebase q r)) (fill c r) (fill-rebase c q r) (within (q ++ p) (row_into o))
     (within p (row_into o)) (within_lifts q p (row_into o))
-fill-rebase c q (row_wide p o r) = behind q (fill c (rebase q r)) (fill c r) (fill-rebase c q r) (within (q ++ p) (wide_into o))
+fill-rebase c q (row_wide p o r) = after q (fill c (rebase q r)) (fill c r) (fill-rebase c q r) (within (q ++ p) (wide_into o))
     (within p (wide_into o)) (within_lifts q p (wide_into o))
-fill-rebase c q (each p a r) = behind q (fill c (rebase q r)) (fill c r) (fill-rebase c q r) (within (q ++ p) (fill_each (fill c a)))
+fill-rebase c q (each p a r) = after q (fill c (rebase q r)) (fill c r) (fill-rebase c q r) (within (q ++ p) (fill_each (fill c a)))
     (within p (fill_each (fill c a))) (within_lifts q p (fill_each (fill c a)))
-fill-rebase c q (switch p cs r) = behind q (fill c (rebase q r)) (fill c r) (fill-rebase c q r)
+fill-rebase c q (switch p cs r) = after q (fill c (rebase q r)) (fill c r) (fill-rebase c q r)
     (within (q ++ p) (fill_arm (fill_case c cs))) (within p (fill_arm (fill_case c cs))) (within_lifts q p (fill_arm (fill_case c cs)))
-fill-rebase c q (if_there p a r) = behind q (fill c (rebase q r)) (fill c r) (fill-rebase c q r)
+fill-rebase c q (if_there p a r) = after q (fill c (rebase q r)) (fill c r) (fill-rebase c q r)
     (within (q ++ p) (fill_present (fill c a))) (within p (fill_present (fill c a))) (within_lifts q p (fill_present (fill c a)))
-fill-rebase c q (call k p r) = behind q (fill c (rebase q r)) (fill c r) (fill-rebase c q r) (within (q ++ p) (c k)) (within p (c k))
+fill-rebase c q (call k p r) = after q (fill c (rebase q r)) (fill c r) (fill-rebase c q r) (within (q ++ p) (c k)) (within p (c k))
     (within_lifts q p (c k))

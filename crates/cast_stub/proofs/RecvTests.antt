@@ -26,7 +26,7 @@ use Rattle.cast_stub.specs.Draft.{Draft, raw, digit, listed, lined, tagged, flag
 use Rattle.cast_stub.specs.Into.{needed, passed, skipped, all_zero, is_digit, scalar_into, num_into, arm_draft, tag_into, flag_draft, flag_into, length_of, allows, length_into, count_into, same_octets, little, units_into, short_into, long_into, form_into, desc_into, numbers_at, fill_block, row_into, wide_into}
 use Rattle.cast_stub.specs.Fill.{at_field, within, part, into, word_got, got, all_got, settled, settled_number, runs, fill_items, fill_row, fill_each, fill_arm, fill_present, Callees, fill, fill_case}
 use Rattle.cast_stub.specs.Runs.{Place, Run, gives, refuses, strays, Going, Filler, then_run, map_run, if_some, if_passed, Holds}
-use Rattle.cast_stub.specs.Got.{called, calls_of, sub_at, received, told, untested}
+use Rattle.cast_stub.specs.Got.{called, calls_of, sub_at, received, reported, untested}
 use Rattle.cast_stub.specs.Laws.{later, TestsAdd}
 
 module _ (k : ℕ) where
@@ -400,9 +400,9 @@ module _ (k : ℕ) where
   called_steady subs (suc n) i d s m le =
       some_steady (subs i) (λ b. fill (called subs n) b d) (λ (b : Recv). fill_steady (called subs n) (called_steady subs n) b d) s m le
 
-  ends_likewise : (x y : Run Val) → Likewise x y → Holds x → told y ≡ later k (told x)
-  ends_likewise (gives v s) y h held = ap told h.2
-  ends_likewise refuses y h held = ap told h
+  ends_likewise : (x y : Run Val) → Likewise x y → Holds x → reported y ≡ later k (reported x)
+  ends_likewise (gives v s) y h held = ap reported h.2
+  ends_likewise refuses y h held = ap reported h
   ends_likewise strays y h held = absurd held
 
 pub tests_add : TestsAdd

@@ -16,19 +16,19 @@ abbrev pub NoRow : Steps → Type 0
 NoRow None = Unit {0}
 NoRow (Some ss) = GiveNoRow ss
 
-behind : (a b : List Step) → GiveNoRow a → GiveNoRow b → GiveNoRow (a ++ b)
-behind [] b h k = k
-behind (Room n ∷ a) b h k = behind a b h k
-behind (Pad x ∷ a) b h k = behind a b h k
-behind (Stored os n ∷ a) b h k = behind a b h k
-behind (Widened os n ∷ a) b h k = absurd h
-behind (Copied os ∷ a) b h k = absurd h
-behind (Patched x y z ∷ a) b h k = behind a b h k
+after : (a b : List Step) → GiveNoRow a → GiveNoRow b → GiveNoRow (a ++ b)
+after [] b h k = k
+after (Room n ∷ a) b h k = after a b h k
+after (Pad x ∷ a) b h k = after a b h k
+after (Stored os n ∷ a) b h k = after a b h k
+after (Widened os n ∷ a) b h k = absurd h
+after (Copied os ∷ a) b h k = absurd h
+after (Patched x y z ∷ a) b h k = after a b h k
 
 both_of : (x y : Steps) → NoRow x → NoRow y → NoRow (both x y)
 both_of None y h k = tt
 both_of (Some a) None h k = tt
-both_of (Some a) (Some b) h k = behind a b h k
+both_of (Some a) (Some b) h k = after a b h k
 
 of_some : {A : Type 0} (o : Option A) (f : A → Steps) → ((a : A) → NoRow (f a)) → NoRow (on_some o f)
 of_some None f h = tt

@@ -22,8 +22,8 @@ IsFlat most b = (n : ℕ) × (flat b ≡ Some n) × (n ≤ most)
 
 -- a loop with chunks and aligns in its turn, before it and after it, which have few puts and aligns
 abbrev pub IsLoop : List ℕ → Block → Type 0
-IsLoop p b = (before : Block) × (turn : Block) × (behind : Block) × (k : ℕ) × (l : ℕ) × (m : ℕ)
-    × (b ≡ append before (each p turn behind)) × (flat before ≡ Some k) × (flat turn ≡ Some l) × (flat behind ≡ Some m)
+IsLoop p b = (before : Block) × (turn : Block) × (after : Block) × (k : ℕ) × (l : ℕ) × (m : ℕ)
+    × (b ≡ append before (each p turn after)) × (flat before ≡ Some k) × (flat turn ≡ Some l) × (flat after ≡ Some m)
     × (l ≤ 3) × (k + (l - 1) + m ≤ 3)
 
 -- what comes before the loop over a list

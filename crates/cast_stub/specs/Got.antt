@@ -45,14 +45,14 @@ pub data Got : Type 0 where
   not_given : Got
 
 -- what a run gives; a run that refuses or strays gives none
-abbrev pub told : Run Val → Got
-told (gives v s) = given v s.pos s.tests
-told refuses = not_given
-told strays = not_given
+abbrev pub reported : Run Val → Got
+reported (gives v s) = given v s.pos s.tests
+reported refuses = not_given
+reported strays = not_given
 
 -- what a code gives over the octets from a place
 abbrev pub got_by : RecvCode → Ty → Place → Got
-got_by code t s = told (received code t s)
+got_by code t s = reported (received code t s)
 
 -- octets from a position on, of which nothing was tested
 abbrev pub untested : ℕ → List ℕ → Place

@@ -23,8 +23,8 @@ use Rattle.cast_stub.specs.Steps.{Step, Calls, both, steps}
 use Rattle.cast_stub.specs.Meaning.{wrote, costs, sum, HasRoom}
 
 -- the steps of a block after a block
-abbrev pub CodeBehindCode : Type 0
-CodeBehindCode = (c : Calls) (h : Head) (a b : Block) (v : Val) → steps c h (append a b) v ≡ both (steps c h a v) (steps c h b v)
+abbrev pub CodeAfterCode : Type 0
+CodeAfterCode = (c : Calls) (h : Head) (a b : Block) (v : Val) → steps c h (append a b) v ≡ both (steps c h a v) (steps c h b v)
 
 -- a part's code on the whole
 abbrev pub CodeForPart : Type 0

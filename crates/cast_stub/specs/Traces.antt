@@ -52,14 +52,14 @@ IsFlat p b = (descs b ≡ Some 0) × IsAt p b
 pub record IsLoop (p : List ℕ) (b : Recv) : Type 0 where
   pub before : Recv
   pub turn : Recv
-  pub behind : Recv
+  pub after : Recv
   -- how many descriptors stand before the loop and after it
   pub first : ℕ
   pub last : ℕ
-  pub whole : b ≡ append before (each p turn behind)
+  pub whole : b ≡ append before (each p turn after)
   pub begins : (descs before ≡ Some first) × IsAt p before
   pub turns : IsFlat [] turn
-  pub ends : (descs behind ≡ Some last) × IsAt p behind
+  pub ends : (descs after ≡ Some last) × IsAt p after
   pub few : first + last ≤ 1
 
 -- what comes before the loop over the list at a path

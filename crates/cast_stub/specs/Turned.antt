@@ -21,8 +21,8 @@ IsNumber (Some x) b = b ≡ chunk x.0 (put.Num 0 [] x.0 x.1 ∷ []) stop
 
 -- a loop whose turn is one number, where the row may be sent as a block
 abbrev pub IsTurned : Layout → Loops
-IsTurned layout a p b = (before : Block) × (turn : Block) × (behind : Block) × (k : ℕ) × (l : ℕ) × (m : ℕ)
-    × (b ≡ append before (each p turn behind)) × (flat before ≡ Some k) × (flat turn ≡ Some l) × (flat behind ≡ Some m)
+IsTurned layout a p b = (before : Block) × (turn : Block) × (after : Block) × (k : ℕ) × (l : ℕ) × (m : ℕ)
+    × (b ≡ append before (each p turn after)) × (flat before ≡ Some k) × (flat turn ≡ Some l) × (flat after ≡ Some m)
     × (l ≤ 3) × (k + (l - 1) + m ≤ 3) × IsNumber (layout a) turn
 
 -- each code of a list goes through its node, with such loops

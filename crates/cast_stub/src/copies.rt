@@ -2,7 +2,7 @@
 
 ghost use Rattle.std.specs.Prelude.{◌≡◌, ◌++◌, OnOk, IfOk};
 
-use crate::copying::puts_behind;
+use crate::copying::puts_after;
 use crate::put::{Path, Puts};
 use crate::send::{SendCases, SendOp, SendOps};
 use kit_base::NoMemory;
@@ -22,7 +22,7 @@ pub fn copy_path(alloc: Global, path: &Path) -> Result<Path, NoMemory>
 pub fn copy_puts(alloc: Global, puts: &Puts) -> Result<Puts, NoMemory>
     ensures { IfOk result (λ ps. ps ≡ puts.now) }
 {
-    puts_behind(alloc, &Path::new(alloc), puts)
+    puts_after(alloc, &Path::new(alloc), puts)
 }
 
 /// The same operations.

@@ -10,7 +10,7 @@ use kit_base::{NoMemory, Octets};
 use std::alloc::Global;
 
 /// The path from the whole, of a path from the part at the prefix.
-pub fn path_behind(alloc: Global, prefix: &Path, path: &Path) -> Result<Path, NoMemory>
+pub fn path_after(alloc: Global, prefix: &Path, path: &Path) -> Result<Path, NoMemory>
     ensures { IfOk result (λ p. p ≡ prefix.now ++ path.now) }
 {
     let mut copy = Path::new(alloc);
@@ -29,23 +29,23 @@ pub fn copy_octets(alloc: Global, octets: &Octets) -> Result<Octets, NoMemory>
 }
 
 /// The put for the whole, of a put for the part at the prefix.
-fn put_behind(alloc: Global, prefix: &Path, put: &Put) -> Result<Put, NoMemory>
+fn put_after(alloc: Global, prefix: &Path, put: &Put) -> Result<Put, NoMemory>
     ensures { IfOk result (λ p. p ≡ put_rebased prefix.now put.now) }
 {
     match put {
         Put::Num(off, path, width, order) => {
-            Ok(Put::Num(*off, path_behind(alloc, prefix, path)?, *width, *order))
+            Ok(Put::Num(*off, path_after(alloc, prefix, path)?, *width, *order))
         }
         Put::Tag(off, path, width, order) => {
-            Ok(Put::Tag(*off, path_behind(alloc, prefix, path)?, *width, *order))
+            Ok(Put::Tag(*off, path_after(alloc, prefix, path)?, *width, *order))
         }
         Put::Flag(off, path, width, order) => {
-            Ok(Put::Flag(*off, path_behind(alloc, prefix, path)?, *width, *order))
+            Ok(Put::Flag(*off, path_after(alloc, prefix, path)?, *width, *order))
         }
         Put::Count(off, path, factor, summand, width, order) => {
             Ok(Put::Count(
                 *off,
-                path_behind(alloc, prefix, path)?,
+                path_after(alloc, prefix, path)?,
                 *factor,
                 *summand,
                 *width,
@@ -55,7 +55,7 @@ fn put_behind(alloc: Global, prefix: &Path, put: &Put) -> Result<Put, NoMemory>
         Put::Short(off, path, name, size, factor) => {
             Ok(Put::Short(
                 *off,
-                path_behind(alloc, prefix, path)?,
+                path_after(alloc, prefix, path)?,
                 *name,
                 *size,
                 *factor,
@@ -67,12 +67,12 @@ fn put_behind(alloc: Global, prefix: &Path, put: &Put) -> Result<Put, NoMemory>
 }
 
 /// The puts for the whole, of puts for the part at the prefix.
-pub fn puts_behind(alloc: Global, prefix: &Path, puts: &Puts) -> Result<Puts, NoMemory>
+pub fn puts_after(alloc: Global, prefix: &Path, puts: &Puts) -> Result<Puts, NoMemory>
     ensures { IfOk result (λ ps. ps ≡ map (put_rebased prefix.now) puts.now) }
 {
     let mut copy = Puts::new(alloc);
     for put in puts.as_slice() {
-        copy.push(put_behind(alloc, prefix, put)?)?;
+        copy.push(put_after(alloc, prefix, put)?)?;
     }
     Ok(copy)
 }

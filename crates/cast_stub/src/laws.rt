@@ -1,10 +1,10 @@
 //! The laws of stub code, each the contract of a function that does nothing.
 
-ghost use Rattle.cast_stub.specs.Laws.{CallsInTurn, CodeBehindCode, CodeForPart, CostsAdd, EnsuresRunNoCall, MoreRoom, NoCallRunsNone, WrittenInTurn};
+ghost use Rattle.cast_stub.specs.Laws.{CallsInTurn, CodeAfterCode, CodeForPart, CostsAdd, EnsuresRunNoCall, MoreRoom, NoCallRunsNone, WrittenInTurn};
 
 /// The steps of code after code are the steps of the first and then those of the second.
-pub fn code_behind_code()
-    ensures { CodeBehindCode }
+pub fn code_after_code()
+    ensures { CodeAfterCode }
 {}
 
 /// Code that is made for a part of a value does the same on the whole, once the part's path is

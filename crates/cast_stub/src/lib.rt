@@ -15,7 +15,7 @@ mod recv_laws;
 mod send;
 
 pub use laws::{
-    calls_run_in_turn, code_behind_code, code_for_a_part, code_without_calls_runs_none,
+    calls_run_in_turn, code_after_code, code_for_a_part, code_without_calls_runs_none,
     costs_add_up, ensures_run_no_call, more_room_never_harms, steps_write_in_turn,
 };
 pub use put::{HeadField, Path, Put, Puts};

@@ -164,12 +164,12 @@ module _ (L : Loops) (kept : AreKept L) where
 
 -- ---- loops
 
-whole : (code : ℕ → Block) (p : List ℕ) (before turn behind b : Block) (k l m : ℕ) → b ≡ append before (each p turn behind)
-    → flat before ≡ Some k → flat turn ≡ Some l → flat behind ≡ Some m
+whole : (code : ℕ → Block) (p : List ℕ) (before turn after b : Block) (k l m : ℕ) → b ≡ append before (each p turn after)
+    → flat before ≡ Some k → flat turn ≡ Some l → flat after ≡ Some m
     → spliced code b ≡ b
-whole code p before turn behind b k l m is x y z =
-    ap (spliced code) is ∙ spliced-append code before (each p turn behind)
-    ∙ rw (spliced-flat code before k x, spliced-flat code turn l y, spliced-flat code behind m z) (sym is)
+whole code p before turn after b k l m is x y z =
+    ap (spliced code) is ∙ spliced-append code before (each p turn after)
+    ∙ rw (spliced-flat code before k x, spliced-flat code turn l y, spliced-flat code after m z) (sym is)
 
 pub loops_kept : AreKept (λ a. IsLoop)
 loops_kept = record { rebased = moved; spliced_too = same } where

@@ -210,21 +210,21 @@ moved_loop : (q p : List ℕ) (b : Recv) → IsLoop p b → IsLoop (q ++ p) (reb
 moved_loop q p b h = record {
   before = rebase q h.before;
   turn = h.turn;
-  behind = rebase q h.behind;
+  after = rebase q h.after;
   first = h.first;
   last = h.last;
-  whole = ap (rebase q) h.whole ∙ rebase-append q h.before (each p h.turn h.behind);
+  whole = ap (rebase q) h.whole ∙ rebase-append q h.before (each p h.turn h.after);
   begins = (descs-rebase q h.before ∙ h.begins.0, at_rebased q p h.before h.begins.1);
   turns = h.turns;
-  ends = (descs-rebase q h.behind ∙ h.ends.0, at_rebased q p h.behind h.ends.1);
+  ends = (descs-rebase q h.after ∙ h.ends.0, at_rebased q p h.after h.ends.1);
   few = h.few;
 }
 
 -- a loop holds no call
 same_loop : (code : ℕ → Recv) (p : List ℕ) (b : Recv) → IsLoop p b → spliced code b ≡ b
 same_loop code p b h =
-    ap (spliced code) h.whole ∙ spliced-append code h.before (each p h.turn h.behind)
-    ∙ rw (spliced-flat code h.before h.first h.begins.0, spliced-flat code h.turn 0 h.turns.0, spliced-flat code h.behind h.last h.ends.0)
+    ap (spliced code) h.whole ∙ spliced-append code h.before (each p h.turn h.after)
+    ∙ rw (spliced-flat code h.before h.first h.begins.0, spliced-flat code h.turn 0 h.turns.0, spliced-flat code h.after h.last h.ends.0)
     (sym h.whole)
 
 pub loops_kept : AreKept (λ a. IsLoop)

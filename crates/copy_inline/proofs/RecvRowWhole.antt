@@ -69,12 +69,12 @@ module _ (e : Encoding) where
     ready (scalar_type s) below p b r t0 is f h = flat_ready e t0 b r 0 f.0 h
     ready (array_type a) below p b r t0 is f h =
         let l = f.loop in
-        let w : append b r ≡ append l.before (each p l.turn (append l.behind r)) =
-        ap (λ (x : Recv). append x r) l.whole ∙ append-assoc l.before (each p l.turn l.behind) r in
+        let w : append b r ≡ append l.before (each p l.turn (append l.after r)) =
+        ap (λ (x : Recv). append x r) l.whole ∙ append-assoc l.before (each p l.turn l.after) r in
         let loop : LoopIs e (ty_at p t0) l.turn (λ u. IsReady e u l.turn) =
         subst (λ (x : Option Ty). LoopIs e x l.turn (λ u. IsReady e u l.turn)) (sym is) (f.number, (l.turns).0) in
-        subst (IsReady e t0) (sym w) (flat_ready e t0 l.before (each p l.turn (append l.behind r)) l.first (l.begins).0
-        (loop, flat_ready e t0 l.behind r l.last (l.ends).0 h))
+        subst (IsReady e t0) (sym w) (flat_ready e t0 l.before (each p l.turn (append l.after r)) l.first (l.begins).0
+        (loop, flat_ready e t0 l.after r l.last (l.ends).0 h))
     ready (group_type ts) below p b r t0 is f h = fields_ready ts 0 ts below p b r t0 is (from-first ts) f h
     ready (items_type k t) below p b r t0 is f h =
         let w : append b r ≡ append f.0 (each p f.1 r) = ap (λ (x : Recv). append x r) f.2 ∙ append-assoc f.0 (each p f.1 finish) r in

@@ -147,46 +147,46 @@ module _ (c e : Callees) (code : ℕ → Recv) (agree : (k : ℕ) → AreBelow (
         (below_then (c k x s) (fill e (code k) x s) (replaced p d) (replaced p d) (agree k x s)
         (λ (y : Draft) (t : Place). same_below (replaced p d y t))))
 
-  behind : (x y : Run Draft) (r : Recv) → Below x y → AreBelow (fill c r) (fill e (spliced code r))
+  after : (x y : Run Draft) (r : Recv) → Below x y → AreBelow (fill c r) (fill e (spliced code r))
       → Below (then_run x (fill c r)) (then_run y (fill e (spliced code r)))
-  behind x y r h k = below_then x y (fill c r) (fill e (spliced code r)) h k
+  after x y r h k = below_then x y (fill c r) (fill e (spliced code r)) h k
 
   mutual
     spliced_same : (b : Recv) → AreBelow (fill c b) (fill e (spliced code b))
     spliced_same finish d s = same_below (gives d s)
-    spliced_same (need n r) d s = behind (needed n d s) (needed n d s) r (same_below (needed n d s)) (spliced_same r)
+    spliced_same (need n r) d s = after (needed n d s) (needed n d s) r (same_below (needed n d s)) (spliced_same r)
     spliced_same (need_row p u k r) d s =
         let x : Run Draft = if_some (part p d) (λ x. if_some (length_in x) (λ n. needed (n * u + k) d s)) in
-        behind x x r (same_below x) (spliced_same r)
+        after x x r (same_below x) (spliced_same r)
     spliced_same (skip_any a r) d s =
-        behind (skipped (λ o. true) a d s) (skipped (λ o. true) a d s) r (same_below (skipped (λ o. true) a d s)) (spliced_same r)
+        after (skipped (λ o. true) a d s) (skipped (λ o. true) a d s) r (same_below (skipped (λ o. true) a d s)) (spliced_same r)
     spliced_same (skip_zero a r) d s =
-        behind (skipped all_zero a d s) (skipped all_zero a d s) r (same_below (skipped all_zero a d s)) (spliced_same r)
+        after (skipped all_zero a d s) (skipped all_zero a d s) r (same_below (skipped all_zero a d s)) (spliced_same r)
     spliced_same (pass n gs r) d s =
         below_then (all_got gs d s) (all_got gs d s) (λ x t. then_run (passed n x t) (fill c r))
         (λ x t. then_run (passed n x t) (fill e (spliced code r))) (same_below (all_got gs d s))
-        (λ (x : Draft) (t : Place). behind (passed n x t) (passed n x t) r (same_below (passed n x t)) (spliced_same r))
-    spliced_same (desc p name size mul r) d s = behind (within p (desc_into name size mul) d s) (within p (desc_into name size mul) d s) r
+        (λ (x : Draft) (t : Place). after (passed n x t) (passed n x t) r (same_below (passed n x t)) (spliced_same r))
+    spliced_same (desc p name size mul r) d s = after (within p (desc_into name size mul) d s) (within p (desc_into name size mul) d s) r
         (same_below (within p (desc_into name size mul) d s)) (spliced_same r)
     spliced_same (row_block p o r) d s =
-        behind (within p (row_into o) d s) (within p (row_into o) d s) r (same_below (within p (row_into o) d s)) (spliced_same r)
+        after (within p (row_into o) d s) (within p (row_into o) d s) r (same_below (within p (row_into o) d s)) (spliced_same r)
     spliced_same (row_wide p o r) d s =
-        behind (within p (wide_into o) d s) (within p (wide_into o) d s) r (same_below (within p (wide_into o) d s)) (spliced_same r)
-    spliced_same (each p b r) d s = behind (within p (fill_each (fill c b)) d s) (within p (fill_each (fill e (spliced code b))) d s) r
+        after (within p (wide_into o) d s) (within p (wide_into o) d s) r (same_below (within p (wide_into o) d s)) (spliced_same r)
+    spliced_same (each p b r) d s = after (within p (fill_each (fill c b)) d s) (within p (fill_each (fill e (spliced code b))) d s) r
         (below_within p (fill_each (fill c b)) (fill_each (fill e (spliced code b)))
         (below_each (fill c b) (fill e (spliced code b)) (spliced_same b)) d s) (spliced_same r)
     spliced_same (switch p cs r) d s =
-        behind (within p (fill_arm (fill_case c cs)) d s) (within p (fill_arm (fill_case e (cases_spliced code cs))) d s) r
+        after (within p (fill_arm (fill_case c cs)) d s) (within p (fill_arm (fill_case e (cases_spliced code cs))) d s) r
         (below_within p (fill_arm (fill_case c cs)) (fill_arm (fill_case e (cases_spliced code cs)))
         (below_arm (fill_case c cs) (fill_case e (cases_spliced code cs)) (case_same cs)) d s) (spliced_same r)
     spliced_same (if_there p b r) d s =
-        behind (within p (fill_present (fill c b)) d s) (within p (fill_present (fill e (spliced code b))) d s) r
+        after (within p (fill_present (fill c b)) d s) (within p (fill_present (fill e (spliced code b))) d s) r
         (below_within p (fill_present (fill c b)) (fill_present (fill e (spliced code b)))
         (below_present (fill c b) (fill e (spliced code b)) (spliced_same b)) d s) (spliced_same r)
     spliced_same (call k p r) d s =
         subst (λ (z : Run Draft). Below (then_run (within p (c k) d s) (fill c r)) z)
         (sym (fill-append e (rebase p (code k)) (spliced code r) d s))
-        (behind (within p (c k) d s) (fill e (rebase p (code k)) d s) r (called_below k p d s) (spliced_same r))
+        (after (within p (c k) d s) (fill e (rebase p (code k)) d s) r (called_below k p d s) (spliced_same r))
 
     case_same : (cs : Cases) (n : ℤ) → AreBelow (fill_case c cs n) (fill_case e (cases_spliced code cs) n)
     case_same no_default n d s = λ held. absurd held

@@ -126,8 +126,8 @@ module _ (subs : ℕ → Option Recv) where
     goes (array_type a) n below p b le f =
         let P = IsShallow subs n in
         let turn = level n f.turn (omega (arith, le)) (flat_within (IsShallow subs (n - 1)) f.turn 0 f.turns.0) in
-        subst (Within subs P) (sym f.whole) (append_within P f.before (each p f.turn f.behind) (flat_within P f.before f.first f.begins.0)
-        (turn, flat_within P f.behind f.last f.ends.0))
+        subst (Within subs P) (sym f.whole) (append_within P f.before (each p f.turn f.after) (flat_within P f.before f.first f.begins.0)
+        (turn, flat_within P f.after f.last f.ends.0))
     goes (group_type ts) n below p b le f = fields_go ts 0 n below p b (omega (arith, le)) f
     goes (items_type c t) n below p b le f =
         let P = IsShallow subs n in

@@ -345,8 +345,8 @@ module _ (e : Encoding) (c : Calls) (h : Head) where
     counted (scalar_type s) below p b t0 v0 v is here of f =
         subst (λ (x : Block). Counts (steps c h x v0) 0) (sym (flat_rowed t0 b f.0 f.1)) (flat_counts b f.0 f.1 v0)
     counted (array_type a) below p b t0 v0 v is here of f =
-        let behind = subst (λ (x : Block). Counts (steps c h x v0) 0) (sym (flat_rowed t0 f.2 f.5 f.9)) (flat_counts f.2 f.5 f.9 v0) in
-        let loop = array_counts (sort_of e a) (is_image (order_of e) (kind_of a)) p f.1 (rowed e t0 f.2) v0 f.4 f.8 behind in
+        let after = subst (λ (x : Block). Counts (steps c h x v0) 0) (sym (flat_rowed t0 f.2 f.5 f.9)) (flat_counts f.2 f.5 f.9 v0) in
+        let loop = array_counts (sort_of e a) (is_image (order_of e) (kind_of a)) p f.1 (rowed e t0 f.2) v0 f.4 f.8 after in
         let there : Counts (steps c h (rowed e t0 (each p f.1 f.2)) v0) (one_block (sort_of e a)) =
         subst
         (λ (x : Option Ty). Counts (steps c h (loop_rowed e x p f.1 (λ u. rowed e u f.1) (rowed e t0 f.2)) v0) (one_block (sort_of e a)))

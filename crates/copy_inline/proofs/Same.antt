@@ -27,8 +27,8 @@ below_both None x' y y' h k ss e = absurd cc
 below_both (Some a) x' None y' h k ss e = absurd cc
 below_both (Some a) x' (Some b) y' h k ss e = rw (h a refl, k b refl) e
 
-below_behind : (x y y' : Steps) → Below y y' → Below (both x y) (both x y')
-below_behind x y y' k = below_both x x y y' (same_below x) k
+below_after : (x y y' : Steps) → Below y y' → Below (both x y) (both x y')
+below_after x y y' k = below_both x x y y' (same_below x) k
 
 below_on_some : {A : Type 0} (o : Option A) (f g : A → Steps) → ((a : A) → Below (f a) (g a)) → Below (on_some o f) (on_some o g)
 below_on_some None f g h = none_below (on_some None g)
@@ -56,13 +56,13 @@ module _ (h : Head) (c d : Calls) (code : ℕ → Block) (agree : (k : ℕ) (w :
   mutual
     spliced_same : (b : Block) (v : Val) → Below (steps c h b v) (steps d h (spliced code b) v)
     spliced_same stop v = same_below (Some [])
-    spliced_same (ensure n r) v = below_behind (Some (Room n ∷ [])) (steps c h r v) (steps d h (spliced code r) v) (spliced_same r v)
-    spliced_same (ensure_row p u x r) v = below_behind (row_room p u x v) (steps c h r v) (steps d h (spliced code r) v) (spliced_same r v)
-    spliced_same (align a r) v = below_behind (align_steps a) (steps c h r v) (steps d h (spliced code r) v) (spliced_same r v)
-    spliced_same (chunk s ps r) v = below_behind (chunk_steps s ps h v) (steps c h r v) (steps d h (spliced code r) v) (spliced_same r v)
-    spliced_same (row_copy p r) v = below_behind (copy_steps p v) (steps c h r v) (steps d h (spliced code r) v) (spliced_same r v)
-    spliced_same (row_swap p r) v = below_behind (swap_steps p v) (steps c h r v) (steps d h (spliced code r) v) (spliced_same r v)
-    spliced_same (row_wide p o r) v = below_behind (wide_steps p o v) (steps c h r v) (steps d h (spliced code r) v) (spliced_same r v)
+    spliced_same (ensure n r) v = below_after (Some (Room n ∷ [])) (steps c h r v) (steps d h (spliced code r) v) (spliced_same r v)
+    spliced_same (ensure_row p u x r) v = below_after (row_room p u x v) (steps c h r v) (steps d h (spliced code r) v) (spliced_same r v)
+    spliced_same (align a r) v = below_after (align_steps a) (steps c h r v) (steps d h (spliced code r) v) (spliced_same r v)
+    spliced_same (chunk s ps r) v = below_after (chunk_steps s ps h v) (steps c h r v) (steps d h (spliced code r) v) (spliced_same r v)
+    spliced_same (row_copy p r) v = below_after (copy_steps p v) (steps c h r v) (steps d h (spliced code r) v) (spliced_same r v)
+    spliced_same (row_swap p r) v = below_after (swap_steps p v) (steps c h r v) (steps d h (spliced code r) v) (spliced_same r v)
+    spliced_same (row_wide p o r) v = below_after (wide_steps p o v) (steps c h r v) (steps d h (spliced code r) v) (spliced_same r v)
     spliced_same (each p b r) v =
         below_both (on_some (on_some (at p v) elements_in) (over (steps c h b)))
         (on_some (on_some (at p v) elements_in) (over (steps d h (spliced code b)))) (steps c h r v) (steps d h (spliced code r) v)
@@ -87,7 +87,7 @@ module _ (h : Head) (c d : Calls) (code : ℕ → Block) (agree : (k : ℕ) (w :
         (below_both (on_some (at p v) (c k)) (steps d h (rebase p (code k)) v) (steps c h r v) (steps d h (spliced code r) v)
         (call_below (at p v) k p v refl) (spliced_same r v))
     spliced_same (patch a s o r) v =
-        below_behind (Some (Patched a s o ∷ [])) (steps c h r v) (steps d h (spliced code r) v) (spliced_same r v)
+        below_after (Some (Patched a s o ∷ [])) (steps c h r v) (steps d h (spliced code r) v) (spliced_same r v)
 
     case_same : (cs : Cases) (n : ℤ) (w : Val) → Below (case_steps c h cs n w) (case_steps d h (cases_spliced code cs) n w)
     case_same no_default n w = none_below None

@@ -23,7 +23,7 @@ use Rattle.cast_stub.specs.RecvBlock.{Recv, need, pass, finish}
 use Rattle.cast_stub.specs.RecvBlock as recv
 use Rattle.cast_stub.specs.Draft.{fresh}
 use Rattle.cast_stub.specs.Fill.{fill, settled}
-use Rattle.cast_stub.specs.Got.{Got, given as given_value, not_given, no_calls, told, untested}
+use Rattle.cast_stub.specs.Got.{Got, given as given_value, not_given, no_calls, reported, untested}
 use Rattle.copy_inline.specs.declared.sorts.Sort.TheVariants.{Block as Whole, Wide, Looped}
 use Rattle.copy_inline.specs.Counted.{blocks}
 use Rattle.copy_inline.specs.Sorts.{sort_of}
@@ -110,7 +110,7 @@ received_row o w = need 4 (pass 4 (get.Count 0 [] 1 0 4 o ∷ []) (recv.each [] 
 
 -- what code gives of octets, for a row of a kind
 abbrev got_row : Kind → Recv → List ℕ → Got
-got_row k b o = told (settled (fill no_calls b (fresh (array_type (row_of k Any))) (untested 0 o)))
+got_row k b o = reported (settled (fill no_calls b (fresh (array_type (row_of k Any))) (untested 0 o)))
 
 abbrev in_rows : Encoding → Kind → Recv → Recv
 in_rows e k b = recv_rowed e (array_type (row_of k Any)) b

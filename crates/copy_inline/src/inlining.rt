@@ -11,7 +11,7 @@ ghost use Rattle.copy_inline.specs.Nested.{CasesAre, IsShallow, OfCode, Within};
 ghost use Rattle.copy_inline.specs.Spliced.{spliced, inlined, pairs_seen, pairs_spliced};
 
 use cast_stub::copies::case_of;
-use cast_stub::copying::{add, path_behind, puts_behind};
+use cast_stub::copying::{add, path_after, puts_after};
 use cast_stub::{Path, SendCases, SendCode, SendOp, SendOps, SendSubs};
 use kit_base::NoMemory;
 use mint::table::NodeId;
@@ -69,39 +69,39 @@ fn put_op(
         SendOp::EnsureRow(path, unit, extra) => {
             add(
                 out,
-                SendOp::EnsureRow(path_behind(alloc, prefix, path)?, *unit, *extra),
+                SendOp::EnsureRow(path_after(alloc, prefix, path)?, *unit, *extra),
             )
         }
         SendOp::Align(a) => add(out, SendOp::Align(*a)),
         SendOp::Chunk(size, puts) => {
-            add(out, SendOp::Chunk(*size, puts_behind(alloc, prefix, puts)?))
+            add(out, SendOp::Chunk(*size, puts_after(alloc, prefix, puts)?))
         }
-        SendOp::RowCopy(path) => add(out, SendOp::RowCopy(path_behind(alloc, prefix, path)?)),
-        SendOp::RowSwap(path) => add(out, SendOp::RowSwap(path_behind(alloc, prefix, path)?)),
+        SendOp::RowCopy(path) => add(out, SendOp::RowCopy(path_after(alloc, prefix, path)?)),
+        SendOp::RowSwap(path) => add(out, SendOp::RowSwap(path_after(alloc, prefix, path)?)),
         SendOp::RowWide(path, order) => {
             add(
                 out,
-                SendOp::RowWide(path_behind(alloc, prefix, path)?, *order),
+                SendOp::RowWide(path_after(alloc, prefix, path)?, *order),
             )
         }
         SendOp::Each(path, body) => {
             let inner = body_of(alloc, subs, calls, nested, body)?;
-            add(out, SendOp::Each(path_behind(alloc, prefix, path)?, inner))
+            add(out, SendOp::Each(path_after(alloc, prefix, path)?, inner))
         }
         SendOp::Some(path, body) => {
             let inner = body_of(alloc, subs, calls, nested, body)?;
-            add(out, SendOp::Some(path_behind(alloc, prefix, path)?, inner))
+            add(out, SendOp::Some(path_after(alloc, prefix, path)?, inner))
         }
         SendOp::Switch(path, cases, other) => {
             let bodies = bodies_of(alloc, subs, calls, nested, cases)?;
             let last = last_of(alloc, subs, calls, nested, other)?;
             add(
                 out,
-                SendOp::Switch(path_behind(alloc, prefix, path)?, bodies, last),
+                SendOp::Switch(path_after(alloc, prefix, path)?, bodies, last),
             )
         }
         SendOp::Call(k, path) => {
-            let part = path_behind(alloc, prefix, path)?;
+            let part = path_after(alloc, prefix, path)?;
             put_called(alloc, subs, calls, nested, &part, *k, out)
         }
         SendOp::Patch(at, sub, order) => add(out, SendOp::Patch(*at, *sub, *order)),

@@ -11,7 +11,7 @@ ghost use Rattle.copy_inline.specs.RecvRowed.{array_rowed};
 use crate::sorts::{Sort, sort_of};
 use cast_stub::copies::copy_path;
 use cast_stub::layouts::{order_of, width_of};
-use cast_stub::recv_copying::{add, gets_behind};
+use cast_stub::recv_copying::{add, gets_after};
 use cast_stub::{Gets, Path, RecvOp, RecvOps};
 use kit_base::NoMemory;
 use mint::kind::{Count, Kind};
@@ -100,7 +100,7 @@ fn element_width(enc: Encoding, kind: Kind) -> u32
 pub(crate) fn copy_gets(alloc: Global, gets: &Gets) -> Result<Gets, NoMemory>
     ensures { IfOk result (λ gs. gs ≡ gets.now) }
 {
-    gets_behind(alloc, &Path::new(alloc), gets)
+    gets_after(alloc, &Path::new(alloc), gets)
 }
 
 /// The same tests, skips and takes.

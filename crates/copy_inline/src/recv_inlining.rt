@@ -10,8 +10,8 @@ ghost use Rattle.copy_inline.specs.RecvNested.{CasesAre, IsShallow, OfCode, With
 ghost use Rattle.copy_inline.specs.RecvSpliced.{spliced, inlined, pairs_seen, pairs_spliced};
 
 use crate::inlining::{LEVELS, levels};
-use cast_stub::copying::path_behind;
-use cast_stub::recv_copying::{add, gets_behind};
+use cast_stub::copying::path_after;
+use cast_stub::recv_copying::{add, gets_after};
 use cast_stub::{Path, RecvCases, RecvCode, RecvOp, RecvOps, RecvSubs};
 use kit_base::NoMemory;
 use mint::table::NodeId;
@@ -63,43 +63,43 @@ fn put_op(
     match op {
         RecvOp::Need(n) => add(out, RecvOp::Need(*n)),
         RecvOp::NeedRow(path, unit, extra) => {
-            let part = path_behind(alloc, prefix, path)?;
+            let part = path_after(alloc, prefix, path)?;
             add(out, RecvOp::NeedRow(part, *unit, *extra))
         }
         RecvOp::SkipAny(a) => add(out, RecvOp::SkipAny(*a)),
         RecvOp::SkipZero(a) => add(out, RecvOp::SkipZero(*a)),
         RecvOp::Take(size, gets) => {
-            add(out, RecvOp::Take(*size, gets_behind(alloc, prefix, gets)?))
+            add(out, RecvOp::Take(*size, gets_after(alloc, prefix, gets)?))
         }
         RecvOp::Desc(path, name, size, mul) => {
-            let part = path_behind(alloc, prefix, path)?;
+            let part = path_after(alloc, prefix, path)?;
             add(out, RecvOp::Desc(part, *name, *size, *mul))
         }
         RecvOp::Row(path, order) => {
-            add(out, RecvOp::Row(path_behind(alloc, prefix, path)?, *order))
+            add(out, RecvOp::Row(path_after(alloc, prefix, path)?, *order))
         }
         RecvOp::RowWide(path, order) => {
-            let part = path_behind(alloc, prefix, path)?;
+            let part = path_after(alloc, prefix, path)?;
             add(out, RecvOp::RowWide(part, *order))
         }
         RecvOp::Each(path, body) => {
             let inner = body_of(alloc, subs, calls, nested, body)?;
-            add(out, RecvOp::Each(path_behind(alloc, prefix, path)?, inner))
+            add(out, RecvOp::Each(path_after(alloc, prefix, path)?, inner))
         }
         RecvOp::Some(path, body) => {
             let inner = body_of(alloc, subs, calls, nested, body)?;
-            add(out, RecvOp::Some(path_behind(alloc, prefix, path)?, inner))
+            add(out, RecvOp::Some(path_after(alloc, prefix, path)?, inner))
         }
         RecvOp::Switch(path, cases, other) => {
             let bodies = bodies_of(alloc, subs, calls, nested, cases)?;
             let last = last_of(alloc, subs, calls, nested, other)?;
             add(
                 out,
-                RecvOp::Switch(path_behind(alloc, prefix, path)?, bodies, last),
+                RecvOp::Switch(path_after(alloc, prefix, path)?, bodies, last),
             )
         }
         RecvOp::Call(k, path) => {
-            let part = path_behind(alloc, prefix, path)?;
+            let part = path_after(alloc, prefix, path)?;
             put_called(alloc, subs, calls, nested, &part, *k, out)
         }
     }

@@ -8,7 +8,7 @@ use Rattle.syntax_kit.specs.Reading.{mark_is, word_is, begins_with, joined_at}
 use Rattle.syntax_kit.specs.Grammar.{Text, mark, ◌&◌, joined, one_of, kinds, IsGrammar, Leads}
 use Rattle.syntax_kit.proofs.Grammars.{read_is, mapped_is, both_is}
 use Rattle.syntax_kit.proofs.Leaves.{word_reads, mark_reads, mark_named, apart_word, apart_mark, leads_word, leads_both, leads_either, begins_not}
-use Rattle.syntax_kit.proofs.Productions.{weaker, behind_is, leads_behind, leads_by}
+use Rattle.syntax_kit.proofs.Productions.{weaker, after_is, leads_after, leads_by}
 use Rattle.syntax_kit.proofs.Lists.{turns, joined_is}
 use Rattle.corba_exprs.specs.Trees.{Tree}
 use Rattle.corba_exprs.specs.declared.tree.Identifier.{Identifier}
@@ -110,13 +110,13 @@ module _ (n : ℕ) where
   typedef_is : IsGrammar (typedef_at n) (typedef n) Ended
   unfolding typedef_at
   typedef_is = mapped_is typedef_of (typedef n)
-      (behind_is (word_reads (codes "typedef"))
+      (after_is (word_reads (codes "typedef"))
       (both_is aliased_is declarators_is (λ ds front rest s e. declarators_close n ds front rest s (joint_ended rest e))))
       (λ x ks s. s) (λ t ks s. ((t.of, t.declarators), refl, s))
 
   leads_typedef : Leads (typedef n) (word_is (codes "typedef"))
   leads_typedef t ks s =
-      leads_behind
+      leads_after
       (λ (x : Typedef). aliased n x.of & joined (codes ",") (declarator n) x.declarators) (leads_word (codes "typedef")) t ks s
 
   -- ---- constants
@@ -136,13 +136,13 @@ module _ (n : ℕ) where
   constant_is : IsGrammar (constant_at n) (constant n) Ended
   unfolding constant_at
   constant_is = mapped_is constant_of (constant n)
-      (behind_is (word_reads (codes "const")) (both_is constant_type_is
-      (both_is identifier_is (behind_is (mark_reads (codes "=")) (weaker (expression_is n false) before_end)) (λ e front rest s may. tt))
+      (after_is (word_reads (codes "const")) (both_is constant_type_is
+      (both_is identifier_is (after_is (mark_reads (codes "=")) (weaker (expression_is n false) before_end)) (λ e front rest s may. tt))
       (λ x front rest s may. after_constant_type x front rest s)))
       (λ x ks s. s) (λ c ks s. ((c.of, (c.name, c.value)), refl, s))
 
   leads_constant : Leads (constant n) (word_is (codes "const"))
-  leads_constant c ks s = leads_behind (λ (x : Constant). constant_type x.of & valued (x.name, x.value)) (leads_word (codes "const")) c ks s
+  leads_constant c ks s = leads_after (λ (x : Constant). constant_type x.of & valued (x.name, x.value)) (leads_word (codes "const")) c ks s
 
   -- ---- declarations
 

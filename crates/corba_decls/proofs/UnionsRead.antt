@@ -8,7 +8,7 @@ use Rattle.syntax_kit.specs.Reading.{mark_is, word_is, many}
 use Rattle.syntax_kit.specs.Grammar.{Text, word, mark, ◌&◌, each, some, one_of, kinds, IsGrammar, Leads, Any}
 use Rattle.syntax_kit.proofs.Grammars.{mapped_is, both_is, many_is}
 use Rattle.syntax_kit.proofs.Leaves.{word_reads, mark_reads, one_kind, apart_or, apart_word, apart_mark, leads_word, leads_mark, leads_both, leads_either, begins_so, begins_not, begins_else}
-use Rattle.syntax_kit.proofs.Productions.{weaker, behind_is, before_is, leads_behind, leads_by, unit_right_back}
+use Rattle.syntax_kit.proofs.Productions.{weaker, after_is, before_is, leads_after, leads_by, unit_right_back}
 use Rattle.syntax_kit.proofs.Lists.{some_is, leads_some}
 use Rattle.corba_exprs.specs.Trees.{Tree}
 use Rattle.corba_exprs.specs.Spelling.{identifier, expression}
@@ -53,10 +53,10 @@ module _ (n : ℕ) where
   default_label _ = word (codes "default") & mark (codes ":")
 
   leads_case_label : Leads case_label (word_is (codes "case"))
-  leads_case_label = leads_behind (λ e. expression n e & mark (codes ":")) (leads_word (codes "case"))
+  leads_case_label = leads_after (λ e. expression n e & mark (codes ":")) (leads_word (codes "case"))
 
   leads_default_label : Leads default_label (word_is (codes "default"))
-  leads_default_label = leads_behind (λ _. mark (codes ":")) (leads_word (codes "default"))
+  leads_default_label = leads_after (λ _. mark (codes ":")) (leads_word (codes "default"))
 
   abbrev label_text : Tree ⊎ Unit {0} → Text
   label_text = one_of case_label default_label
@@ -73,8 +73,8 @@ module _ (n : ℕ) where
   unfolding label_at
   label_is = mapped_is label_of (label n)
       (led_or_is (codes "case")
-      (behind_is (word_reads (codes "case")) (before_is (expression_is n false) (mark_reads (codes ":")) before_colon))
-      (behind_is (word_reads (codes "default")) (mark_reads (codes ":"))) leads_case_label leads_default_label refl)
+      (after_is (word_reads (codes "case")) (before_is (expression_is n false) (mark_reads (codes ":")) before_colon))
+      (after_is (word_reads (codes "default")) (mark_reads (codes ":"))) leads_case_label leads_default_label refl)
       label_forth label_back
 
   leads_label : Leads (label n) is_label
@@ -136,7 +136,7 @@ module _ (n : ℕ) where
   body cs = mark (codes ")") & (mark (codes "{") & (some (case n) cs & mark (codes "}")))
 
   leads_body : Leads body (mark_is (codes ")"))
-  leads_body = leads_behind (λ cs. mark (codes "{") & (some (case n) cs & mark (codes "}"))) (leads_mark (codes ")"))
+  leads_body = leads_after (λ cs. mark (codes "{") & (some (case n) cs & mark (codes "}"))) (leads_mark (codes ")"))
 
   after_tag : (cs : List Case) (front rest : List Token) → body cs (kinds front) → NumberMay (front ++ rest)
   after_tag cs front rest s = (
@@ -147,16 +147,16 @@ module _ (n : ℕ) where
   pub union_is : IsGrammar (union_at n) (union n) Any
   unfolding union_at
   union_is = mapped_is union_of (union n)
-      (behind_is (word_reads (codes "union"))
-      (both_is identifier_is (behind_is (word_reads (codes "switch")) (behind_is (mark_reads (codes "("))
+      (after_is (word_reads (codes "union"))
+      (both_is identifier_is (after_is (word_reads (codes "switch")) (after_is (mark_reads (codes "("))
       (both_is (tag_is (n - 1))
-      (behind_is (mark_reads (codes ")"))
-      (behind_is (mark_reads (codes "{")) (before_is (some_is cases_is) (mark_reads (codes "}")) (closed n))))
+      (after_is (mark_reads (codes ")"))
+      (after_is (mark_reads (codes "{")) (before_is (some_is cases_is) (mark_reads (codes "}")) (closed n))))
       (λ cs front rest s may. after_tag cs front rest s)))) (λ b front rest t may. tt)))
       (λ x ks s. s) (λ u ks s. ((u.name, (u.tag, u.cases)), refl, s))
 
   pub leads_union : Leads (union n) (word_is (codes "union"))
-  leads_union u ks s = leads_behind
+  leads_union u ks s = leads_after
       (λ (x : UnionDef).
       identifier x.name & (word (codes "switch") & (mark (codes "(") & (tag (n - 1) x.tag & body x.cases))))
       (leads_word (codes "union")) u ks s

@@ -3,7 +3,7 @@ use Rattle.std.specs.Prelude.{◌⊎◌, ℕ, zero, suc, ◌-◌, Bool, false, �
 use Rattle.std.proofs.Common.{inl, inr}
 use Rattle.idl_lex.specs.declared.kinds.Token.{Token}
 use Rattle.idl_lex.specs.declared.kinds.TokenKind.{TokenKind}
-use Rattle.syntax_kit.specs.Reading.{Reader, word_is, word_at, mark_at, begins_with, both, mapped, either, behind, before, many, some_at, joined_at}
+use Rattle.syntax_kit.specs.Reading.{Reader, word_is, word_at, mark_at, begins_with, both, mapped, either, after, before, many, some_at, joined_at}
 use Rattle.corba_exprs.specs.Trees.{Tree}
 use Rattle.corba_exprs.specs.declared.tree.Identifier.{Identifier}
 use Rattle.corba_exprs.specs.declared.tree.ScopedName.{ScopedName}
@@ -67,8 +67,8 @@ label_of (inr _) = L.Default
 -- a label
 unfoldable pub label_at : ℕ → Reader Label
 label_at n = mapped label_of (led_or (codes "case")
-    (behind (word_at (codes "case")) (before (expression_at n false) (mark_at (codes ":"))))
-    (behind (word_at (codes "default")) (mark_at (codes ":"))))
+    (after (word_at (codes "case")) (before (expression_at n false) (mark_at (codes ":"))))
+    (after (word_at (codes "default")) (mark_at (codes ":"))))
 
 -- whether a token begins a label
 abbrev pub is_label : TokenKind → Bool
@@ -91,9 +91,9 @@ union_of x = record { name = x.0; tag = x.1.0; cases = x.1.1 }
 
 -- a union
 unfoldable pub union_at : ℕ → Reader Union
-union_at n = mapped union_of (behind (word_at (codes "union")) (both identifier_at
-    (behind (word_at (codes "switch")) (behind (mark_at (codes "(")) (both (tag_at (n - 1)) (behind (mark_at (codes ")"))
-    (behind (mark_at (codes "{")) (before (some_at (many is_open (case_at n))) (mark_at (codes "}"))))))))))
+union_at n = mapped union_of (after (word_at (codes "union")) (both identifier_at
+    (after (word_at (codes "switch")) (after (mark_at (codes "(")) (both (tag_at (n - 1)) (after (mark_at (codes ")"))
+    (after (mark_at (codes "{")) (before (some_at (many is_open (case_at n))) (mark_at (codes "}"))))))))))
 
 -- ---- typedefs
 
@@ -113,7 +113,7 @@ typedef_of x = record { of = x.0; declarators = x.1 }
 
 -- a typedef
 unfoldable pub typedef_at : ℕ → Reader Typedef
-typedef_at n = mapped typedef_of (behind (word_at (codes "typedef")) (both (aliased_at n) (joined_at (codes ",") (declarator_at n))))
+typedef_at n = mapped typedef_of (after (word_at (codes "typedef")) (both (aliased_at n) (joined_at (codes ",") (declarator_at n))))
 
 -- ---- constants
 
@@ -135,8 +135,8 @@ constant_of x = record { of = x.0; name = x.1.0; value = x.1.1 }
 
 -- a constant
 unfoldable pub constant_at : ℕ → Reader Constant
-constant_at n = mapped constant_of (behind (word_at (codes "const"))
-    (both constant_type_at (both identifier_at (behind (mark_at (codes "=")) (expression_at n false)))))
+constant_at n = mapped constant_of (after (word_at (codes "const"))
+    (both constant_type_at (both identifier_at (after (mark_at (codes "=")) (expression_at n false)))))
 
 -- ---- declarations
 

@@ -7,7 +7,7 @@ use Rattle.std.proofs.lemmas.List.{append-nil}
 use Rattle.idl_lex.specs.declared.kinds.Token.{Token}
 use Rattle.idl_lex.specs.declared.kinds.TokenKind.{TokenKind}
 use Rattle.idl_lex.specs.declared.kinds.TokenKind.TheVariants as K
-use Rattle.syntax_kit.specs.Reading.{Read, Reader, then_on, mark_is, mark_at, begins_with, token_at, both, behind, before, either}
+use Rattle.syntax_kit.specs.Reading.{Read, Reader, then_on, mark_is, mark_at, begins_with, token_at, both, after, before, either}
 use Rattle.syntax_kit.specs.Grammar.{Text, kinds}
 use Rattle.syntax_kit.proofs.Grammars.{then_some, read_is, map_some, cond_some, kinds-append}
 use Rattle.syntax_kit.proofs.Leaves.{same_bytes, mark_reads}
@@ -88,10 +88,10 @@ operator_found angle loose (t ∷ us) op e =
 
 -- ---- what is read
 
-behind_some : {A : Type 0} (r : Reader (Unit {0})) (s : Reader A) (ts : List Token) (a : A) (rest : List Token)
-    → behind r s ts ≡ Some (a, rest)
+after_some : {A : Type 0} (r : Reader (Unit {0})) (s : Reader A) (ts : List Token) (a : A) (rest : List Token)
+    → after r s ts ≡ Some (a, rest)
     → (u : Unit {0}) × (us : List Token) × (r ts ≡ Some (u, us)) × (s us ≡ Some (a, rest))
-behind_some {A} r s ts a rest e =
+after_some {A} r s ts a rest e =
     let m = map_some (λ (x : Unit {0} × A). x.1) (both r s ts) a rest e in
     let k = then_some (r ts) (λ a us. then_on (s us) (λ b vs. Some ((a, b), vs))) (m.0, rest) m.1 in
     let l = then_some (s k.0.1) (λ b vs. Some ((k.0.0, b), vs)) (m.0, rest) k.2 in
@@ -185,10 +185,10 @@ module _ (n : ℕ) (operand : Bool → ℕ → Reader Levelled) (found : (angle 
   Spelled x ts rest = (x.1 ≤ suc n) × ((front : List Token) × (ts ≡ front ++ rest) × within x.1 0 x.0 (kinds front))
 
   in_parentheses : (angle : Bool) (ts : List Token) (x : Levelled) (rest : List Token)
-      → behind (mark_at (codes "(")) (before (operand false 6) (mark_at (codes ")"))) ts ≡ Some (x, rest)
+      → after (mark_at (codes "(")) (before (operand false 6) (mark_at (codes ")"))) ts ≡ Some (x, rest)
       → Spelled (x.0, suc x.1) ts rest
   in_parentheses angle ts x rest e =
-      let opened = behind_some (mark_at (codes "(")) (before (operand false 6) (mark_at (codes ")"))) ts x rest e in
+      let opened = after_some (mark_at (codes "(")) (before (operand false 6) (mark_at (codes ")"))) ts x rest e in
       let close = before_some (operand false 6) (mark_at (codes ")")) opened.1 x rest opened.3 in
       let a = (mark_reads (codes "(")).found ts tt opened.1 opened.2 in
       let b = found false 6 opened.1 x close.0 close.1 in
@@ -231,11 +231,11 @@ module _ (n : ℕ) (operand : Bool → ℕ → Reader Levelled) (found : (angle 
   primary_found angle ts x rest e =
       let m =
       map_some primary_of
-      (either (begins_with (mark_is (codes "("))) (behind (mark_at (codes "(")) (before (operand false 6) (mark_at (codes ")"))))
+      (either (begins_with (mark_is (codes "("))) (after (mark_at (codes "(")) (before (operand false 6) (mark_at (codes ")"))))
       (either (begins_with is_unary) (both (token_at unary_in) (operand angle 0)) leaf_at) ts) x rest e in
       subst (λ z. Spelled z ts rest) m.2 (elim (cond_some (begins_with (mark_is (codes "(")) ts) _ _ (m.0, rest) m.1) [
         | inl (t, e1) ↦
-            let k = map_some inl (behind (mark_at (codes "(")) (before (operand false 6) (mark_at (codes ")"))) ts) m.0 rest e1 in
+            let k = map_some inl (after (mark_at (codes "(")) (before (operand false 6) (mark_at (codes ")"))) ts) m.0 rest e1 in
             subst (λ z. Spelled (primary_of z) ts rest) k.2 (in_parentheses angle ts k.0 rest k.1)
         | inr (t, e1) ↦
             let k = map_some inr (either (begins_with is_unary) (both (token_at unary_in) (operand angle 0)) leaf_at ts) m.0 rest e1 in

@@ -5,7 +5,7 @@ use Rattle.std.specs.Str.{bytes_eq}
 use Rattle.idl_lex.specs.declared.kinds.Token.{Token}
 use Rattle.idl_lex.specs.declared.kinds.TokenKind.{TokenKind}
 use Rattle.idl_lex.specs.declared.kinds.TokenKind.TheVariants as K
-use Rattle.syntax_kit.specs.Reading.{Read, Reader, then_on, mark_is, mark_at, id_at, is_id, token_at, flag_at, begins_with, begins_other, both, mapped, either, behind, before, joined_at}
+use Rattle.syntax_kit.specs.Reading.{Read, Reader, then_on, mark_is, mark_at, id_at, is_id, token_at, flag_at, begins_with, begins_other, both, mapped, either, after, before, joined_at}
 use Rattle.idl_const.specs.declared.tree.UnaryOp.{UnaryOp}
 use Rattle.idl_const.specs.declared.tree.UnaryOp.TheVariants as U
 use Rattle.idl_const.specs.declared.tree.BinaryOp.{BinaryOp}
@@ -148,7 +148,7 @@ primary_of (inr (inr l)) = (leaf l, 1)
 -- the same, over the reader of an operand
 abbrev pub primary_at : (Bool → ℕ → Reader Levelled) → Bool → Reader Levelled
 primary_at operand angle = mapped primary_of (
-    either (begins_with (mark_is (codes "("))) (behind (mark_at (codes "(")) (before (operand false 6) (mark_at (codes ")"))))
+    either (begins_with (mark_is (codes "("))) (after (mark_at (codes "(")) (before (operand false 6) (mark_at (codes ")"))))
     (either (begins_with is_unary) (both (token_at unary_in) (operand angle 0)) leaf_at))
 
 -- what is read, where an operator comes first and where none does

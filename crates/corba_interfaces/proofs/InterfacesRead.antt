@@ -6,7 +6,7 @@ use Rattle.syntax_kit.specs.Reading.{mark_is, word_is, begins_with}
 use Rattle.syntax_kit.specs.Grammar.{Text, mark, ◌&◌, each, joined, kinds, IsGrammar, Leads, Any}
 use Rattle.syntax_kit.proofs.Grammars.{mapped_is, both_is, one_tree}
 use Rattle.syntax_kit.proofs.Leaves.{word_reads, mark_reads, leads_word, leads_mark, apart_mark, begins_so, begins_not}
-use Rattle.syntax_kit.proofs.Productions.{weaker, behind_is, before_is, leads_behind, not_other}
+use Rattle.syntax_kit.proofs.Productions.{weaker, after_is, before_is, leads_after, not_other}
 use Rattle.syntax_kit.proofs.Lists.{turns, joined_is}
 use Rattle.corba_exprs.specs.declared.tree.Identifier.{Identifier}
 use Rattle.corba_exprs.specs.Spelling.{identifier}
@@ -31,26 +31,26 @@ end_text = mark (codes "}") & mark (codes ";")
 closed : (front rest : List Token) → end_text (kinds front) → is_open (front ++ rest) ≡ false
 closed front rest s =
     not_other (mark_is (codes "}")) (front ++ rest)
-    (begins_so (leads_behind (λ (_ : Unit {0}). mark (codes ";")) (leads_mark (codes "}"))) tt front rest s)
+    (begins_so (leads_after (λ (_ : Unit {0}). mark (codes ";")) (leads_mark (codes "}"))) tt front rest s)
 
 module _ (n : ℕ) where
   bases_is : IsGrammar (bases_at n) (if_any (bases n)) BasesMay
   unfolding bases_at
   bases_is = any_is {May = BasesMay} (begins_with (mark_is (codes ":")))
       (weaker
-      (behind_is (mark_reads (codes ":"))
+      (after_is (mark_reads (codes ":"))
       (joined_is (codes ",") (reference_is n)
       (λ ts h. turns (mark_is (codes ",")) (mark_is (codes "::")) (apart_mark (mark_is (codes ",")) (codes "::") refl) ts h)))
       (λ rest may. may.1))
       (λ ks s. s.4)
-      (λ rs front rest s may. begins_so (leads_behind (joined (codes ",") (reference n)) (leads_mark (codes ":"))) rs front rest s)
+      (λ rs front rest s may. begins_so (leads_after (joined (codes ",") (reference n)) (leads_mark (codes ":"))) rs front rest s)
       (λ rest may. may.0)
 
   abbrev body_text : List Export → Text
   body_text es = mark (codes "{") & (each (export n) es & end_text)
 
   leads_body : Leads body_text (mark_is (codes "{"))
-  leads_body = leads_behind (λ es. each (export n) es & end_text) (leads_mark (codes "{"))
+  leads_body = leads_after (λ es. each (export n) es & end_text) (leads_mark (codes "{"))
 
   before_body : (es : List Export) (front rest : List Token) → body_text es (kinds front) → BasesMay (front ++ rest)
   before_body es front rest s = (
@@ -64,10 +64,10 @@ module _ (n : ℕ) where
   pub interface_is : IsGrammar (interface_at n) (interface n) Any
   unfolding interface_at
   interface_is = mapped_is interface_of (interface n)
-      (behind_is (word_reads (codes "interface")) (both_is identifier_is
+      (after_is (word_reads (codes "interface")) (both_is identifier_is
       (both_is bases_is
-      (behind_is (mark_reads (codes "{"))
-      (before_is (exports_is n) (behind_is (mark_reads (codes "}")) (mark_reads (codes ";"))) closed))
+      (after_is (mark_reads (codes "{"))
+      (before_is (exports_is n) (after_is (mark_reads (codes "}")) (mark_reads (codes ";"))) closed))
       (λ es front rest s may. before_body es front rest s))
       (λ b front rest t may. tt)))
       (λ x ks s. s) (λ i ks s. ((i.name, (i.bases, i.exports)), refl, s))
@@ -76,7 +76,7 @@ module _ (n : ℕ) where
   head_text x = identifier x.0 & (if_any (bases n) x.1.0 & body_text x.1.1)
 
   pub leads_interface : Leads (interface n) (word_is (codes "interface"))
-  leads_interface i ks s = leads_behind head_text (leads_word (codes "interface")) (i.name, (i.bases, i.exports)) ks s
+  leads_interface i ks s = leads_after head_text (leads_word (codes "interface")) (i.name, (i.bases, i.exports)) ks s
 
 pub one_interface_only : (n : ℕ) (a b : Interface) (ts : List Token) → interface n a (kinds ts) → interface n b (kinds ts) → a ≡ b
 one_interface_only n = one_tree (interface_is n) tt

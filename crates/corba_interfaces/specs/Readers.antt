@@ -1,7 +1,7 @@
 -- What each function of the parser reads: a tool beside Spelling, tied to it in proofs/.
 use Rattle.std.specs.Prelude.{◌⊎◌, ℕ, List, codes}
 use Rattle.std.proofs.Common.{inl, inr}
-use Rattle.syntax_kit.specs.Reading.{Reader, mark_is, word_at, mark_at, begins_with, both, mapped, either, behind, before, many, joined_at}
+use Rattle.syntax_kit.specs.Reading.{Reader, mark_is, word_at, mark_at, begins_with, both, mapped, either, after, before, many, joined_at}
 use Rattle.corba_exprs.specs.declared.tree.Identifier.{Identifier}
 use Rattle.corba_exprs.specs.Readers.{identifier_at, is_open}
 use Rattle.corba_decls.specs.declared.tree.Declaration.{Declaration}
@@ -30,12 +30,12 @@ export_at n = before (exported_at n) (mark_at (codes ";"))
 
 -- the interfaces that are inherited from; none where no `:` comes first
 unfoldable pub bases_at : ℕ → Reader (List Reference)
-bases_at n = any_at (begins_with (mark_is (codes ":"))) (behind (mark_at (codes ":")) (joined_at (codes ",") (reference_at n)))
+bases_at n = any_at (begins_with (mark_is (codes ":"))) (after (mark_at (codes ":")) (joined_at (codes ",") (reference_at n)))
 
 abbrev pub interface_of : Identifier × (List Reference × List Export) → Interface
 interface_of x = record { name = x.0; bases = x.1.0; exports = x.1.1 }
 
 -- an interface
 unfoldable pub interface_at : ℕ → Reader Interface
-interface_at n = mapped interface_of (behind (word_at (codes "interface")) (both identifier_at (both (bases_at n)
-    (behind (mark_at (codes "{")) (before (many is_open (export_at n)) (behind (mark_at (codes "}")) (mark_at (codes ";"))))))))
+interface_at n = mapped interface_of (after (word_at (codes "interface")) (both identifier_at (both (bases_at n)
+    (after (mark_at (codes "{")) (before (many is_open (export_at n)) (after (mark_at (codes "}")) (mark_at (codes ";"))))))))

@@ -8,7 +8,7 @@ use Rattle.syntax_kit.specs.Reading.{mark_is, word_is, mark_at, begins_with, man
 use Rattle.syntax_kit.specs.Grammar.{Text, mark, ◌&◌, each, some, joined, kinds, IsGrammar, Leads, Any}
 use Rattle.syntax_kit.proofs.Grammars.{mapped_is, both_is, many_is, parted, one_tree}
 use Rattle.syntax_kit.proofs.Leaves.{word_reads, mark_reads, mark_named, leads_word, one_kind, Apart, apart_mark, leads_mark, leads_both, begins_so, begins_not, begins_else}
-use Rattle.syntax_kit.proofs.Productions.{weaker, behind_is, before_is, leads_behind, not_other}
+use Rattle.syntax_kit.proofs.Productions.{weaker, after_is, before_is, leads_after, not_other}
 use Rattle.syntax_kit.proofs.Lists.{turns, joined_is, some_is}
 use Rattle.corba_exprs.specs.Trees.{Tree}
 use Rattle.corba_exprs.specs.declared.tree.Identifier.{Identifier}
@@ -75,11 +75,11 @@ module _ (n : ℕ) where
   unfolding dimension_at
   dimension_is =
       mapped_is dimension_of (dimension n)
-      (behind_is (mark_reads (codes "[")) (before_is (expression_is n false) (mark_reads (codes "]")) before_bracket))
+      (after_is (mark_reads (codes "[")) (before_is (expression_is n false) (mark_reads (codes "]")) before_bracket))
       (λ x ks s. s) (λ d ks s. (d.length, refl, s))
 
   leads_dimension : Leads (dimension n) (mark_is (codes "["))
-  leads_dimension d ks s = leads_behind (λ e. expression n e & mark (codes "]")) (leads_mark (codes "[")) d.length ks s
+  leads_dimension d ks s = leads_after (λ e. expression n e & mark (codes "]")) (leads_mark (codes "[")) d.length ks s
 
   -- no further dimension follows it
   abbrev pub DeclaratorMay : List Token → Type 0
@@ -116,7 +116,7 @@ module _ (n : ℕ) where
   next_text d = mark (codes ",") & declarator n d
 
   leads_next : Leads next_text (mark_is (codes ","))
-  leads_next = leads_behind (declarator n) (leads_mark (codes ","))
+  leads_next = leads_after (declarator n) (leads_mark (codes ","))
 
   declarators_end : (ds : List Declarator) (f rest : List Token) → each next_text ds (kinds f) → begins_with is_joint rest ≡ false
       → begins_with is_joint (f ++ rest) ≡ false
@@ -191,37 +191,37 @@ module _ (n : ℕ) where
   pub structure_is : IsGrammar (structure_at n) (structure n) Any
   unfolding structure_at
   structure_is = mapped_is structure_of (structure n)
-      (behind_is (word_reads (codes "struct"))
-      (both_is identifier_is (behind_is (mark_reads (codes "{")) (before_is (some_is members_is) (mark_reads (codes "}")) closed))
+      (after_is (word_reads (codes "struct"))
+      (both_is identifier_is (after_is (mark_reads (codes "{")) (before_is (some_is members_is) (mark_reads (codes "}")) closed))
       (λ b front rest t may. tt)))
       (λ x ks s. s) (λ d ks s. ((d.name, d.members), refl, s))
 
   pub leads_structure : Leads (structure n) (word_is (codes "struct"))
   leads_structure d ks s =
-      leads_behind
+      leads_after
       (λ (x : Struct).
       identifier x.name & (mark (codes "{") & (some (member n) x.members & mark (codes "}")))) (leads_word (codes "struct")) d ks s
 
   pub exception_is : IsGrammar (exception_at n) (exception n) Any
   unfolding exception_at
   exception_is = mapped_is exception_of (exception n)
-      (behind_is (word_reads (codes "exception"))
-      (both_is identifier_is (behind_is (mark_reads (codes "{")) (before_is members_is (mark_reads (codes "}")) closed))
+      (after_is (word_reads (codes "exception"))
+      (both_is identifier_is (after_is (mark_reads (codes "{")) (before_is members_is (mark_reads (codes "}")) closed))
       (λ b front rest t may. tt)))
       (λ x ks s. s) (λ d ks s. ((d.name, d.members), refl, s))
 
   pub leads_exception : Leads (exception n) (word_is (codes "exception"))
   leads_exception d ks s =
-      leads_behind
+      leads_after
       (λ (x : Exception).
       identifier x.name & (mark (codes "{") & (each (member n) x.members & mark (codes "}")))) (leads_word (codes "exception")) d ks s
 
 pub enumeration_is : IsGrammar enumeration_at enumeration Any
 unfolding enumeration_at
 enumeration_is = mapped_is enumeration_of enumeration
-    (behind_is (word_reads (codes "enum"))
+    (after_is (word_reads (codes "enum"))
     (both_is identifier_is
-    (behind_is (mark_reads (codes "{")) (before_is (joined_is (codes ",") identifier_is (λ ts h. tt)) (mark_reads (codes "}"))
+    (after_is (mark_reads (codes "{")) (before_is (joined_is (codes ",") identifier_is (λ ts h. tt)) (mark_reads (codes "}"))
     (λ front rest s. (
       begins_not (mark_is (codes ",")) (leads_mark (codes "}")) (apart_mark (mark_is (codes "}")) (codes ",") refl) tt front rest s,
       tt,
@@ -230,7 +230,7 @@ enumeration_is = mapped_is enumeration_of enumeration
 
 pub leads_enumeration : Leads enumeration (word_is (codes "enum"))
 leads_enumeration d ks s =
-    leads_behind
+    leads_after
     (λ (x : Enum).
     identifier x.name & (mark (codes "{") & (joined (codes ",") identifier x.items & mark (codes "}")))) (leads_word (codes "enum")) d ks
     s

@@ -1,7 +1,7 @@
 -- What each function of the parser reads: a tool beside Spelling, tied to it in proofs/.
 use Rattle.std.specs.Prelude.{ℕ, Bool, false, List, Option, codes}
 use Rattle.idl_lex.specs.declared.kinds.Token.{Token}
-use Rattle.syntax_kit.specs.Reading.{Reader, mark_is, word_at, mark_at, begins_with, both, mapped, behind, before, many, some_at, joined_at}
+use Rattle.syntax_kit.specs.Reading.{Reader, mark_is, word_at, mark_at, begins_with, both, mapped, after, before, many, some_at, joined_at}
 use Rattle.corba_exprs.specs.Trees.{Tree}
 use Rattle.corba_exprs.specs.declared.tree.Identifier.{Identifier}
 use Rattle.corba_exprs.specs.Readers.{identifier_at, expression_at, is_open}
@@ -19,7 +19,7 @@ dimension_of e = record { length = e }
 
 -- a dimension
 unfoldable pub dimension_at : ℕ → Reader Dimension
-dimension_at n = mapped dimension_of (behind (mark_at (codes "[")) (before (expression_at n false) (mark_at (codes "]"))))
+dimension_at n = mapped dimension_of (after (mark_at (codes "[")) (before (expression_at n false) (mark_at (codes "]"))))
 
 abbrev pub declarator_of : Identifier × List Dimension → Declarator
 declarator_of x = record { name = x.0; dimensions = x.1 }
@@ -44,21 +44,21 @@ structure_of x = record { name = x.0; members = x.1 }
 
 -- a struct
 unfoldable pub structure_at : ℕ → Reader Struct
-structure_at n = mapped structure_of (behind (word_at (codes "struct"))
-    (both identifier_at (behind (mark_at (codes "{")) (before (some_at (many is_open (member_at n))) (mark_at (codes "}"))))))
+structure_at n = mapped structure_of (after (word_at (codes "struct"))
+    (both identifier_at (after (mark_at (codes "{")) (before (some_at (many is_open (member_at n))) (mark_at (codes "}"))))))
 
 abbrev pub exception_of : Identifier × List Member → Exception
 exception_of x = record { name = x.0; members = x.1 }
 
 -- an exception
 unfoldable pub exception_at : ℕ → Reader Exception
-exception_at n = mapped exception_of (behind (word_at (codes "exception"))
-    (both identifier_at (behind (mark_at (codes "{")) (before (many is_open (member_at n)) (mark_at (codes "}"))))))
+exception_at n = mapped exception_of (after (word_at (codes "exception"))
+    (both identifier_at (after (mark_at (codes "{")) (before (many is_open (member_at n)) (mark_at (codes "}"))))))
 
 abbrev pub enumeration_of : Identifier × List Identifier → Enum
 enumeration_of x = record { name = x.0; items = x.1 }
 
 -- an enumeration
 unfoldable pub enumeration_at : Reader Enum
-enumeration_at = mapped enumeration_of (behind (word_at (codes "enum"))
-    (both identifier_at (behind (mark_at (codes "{")) (before (joined_at (codes ",") identifier_at) (mark_at (codes "}"))))))
+enumeration_at = mapped enumeration_of (after (word_at (codes "enum"))
+    (both identifier_at (after (mark_at (codes "{")) (before (joined_at (codes ",") identifier_at) (mark_at (codes "}"))))))

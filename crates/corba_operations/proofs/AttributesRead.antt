@@ -8,7 +8,7 @@ use Rattle.syntax_kit.specs.Reading.{mark_is, word_is, begins_with}
 use Rattle.syntax_kit.specs.Grammar.{Text, mark, word, ◌&◌, each, joined, kinds, IsGrammar, Leads}
 use Rattle.syntax_kit.proofs.Grammars.{mapped_is, both_is, parted, one_tree}
 use Rattle.syntax_kit.proofs.Leaves.{word_reads, mark_named, leads_word, one_kind, Apart, apart_word, leads_mark, leads_both, begins_not}
-use Rattle.syntax_kit.proofs.Productions.{weaker, behind_is, leads_behind, leads_when}
+use Rattle.syntax_kit.proofs.Productions.{weaker, after_is, leads_after, leads_when}
 use Rattle.syntax_kit.proofs.Lists.{joined_is}
 use Rattle.corba_exprs.specs.Trees.{Tree}
 use Rattle.corba_exprs.specs.declared.tree.Identifier.{Identifier}
@@ -61,7 +61,7 @@ names_end : (is : List Identifier) (f rest : List Token) → each next_name is (
     → begins_with is_joint (f ++ rest) ≡ false
 names_end [] [] rest s j = j
 names_end [] (t ∷ f) rest s j = absurd cc
-names_end (i ∷ is) f rest s j = begins_not is_joint (leads_both (each next_name) (leads_behind identifier (leads_mark (codes ","))))
+names_end (i ∷ is) f rest s j = begins_not is_joint (leads_both (each next_name) (leads_after identifier (leads_mark (codes ","))))
     apart_comma (i, is) f rest s
 
 names_close : (is : List Identifier) (front rest : List Token) → joined (codes ",") identifier is (kinds front)
@@ -86,18 +86,18 @@ module _ (n : ℕ) where
   unfolding attribute_at
   attribute_is = mapped_is attribute_of (attribute n)
       (both_is (word_flag_reads (codes "readonly"))
-      (behind_is (word_reads (codes "attribute"))
+      (after_is (word_reads (codes "attribute"))
       (both_is (type_is n)
       (weaker {May' = AttributeMay} (joined_is (codes ",") identifier_is (λ ts h. tt)) (λ rest may.
       (may.0, tt))) (λ is front rest s may. names_close is front rest s may.1)))
       (λ x front rest s may.
-      begins_not (word_is (codes "readonly")) (leads_behind typed_names (leads_word (codes "attribute")))
+      begins_not (word_is (codes "readonly")) (leads_after typed_names (leads_word (codes "attribute")))
       (apart_word (word_is (codes "attribute")) (codes "readonly") refl) x front rest s))
       (λ x ks s. s) (λ a ks s. ((a.readonly, (a.of, a.names)), refl, s))
 
   pub leads_attribute : Leads (attribute n) is_attribute
   leads_attribute a ks s =
-      leads_when {P = word (codes "readonly")} (leads_word (codes "readonly")) (leads_behind typed_names (leads_word (codes "attribute")))
+      leads_when {P = word (codes "readonly")} (leads_word (codes "readonly")) (leads_after typed_names (leads_word (codes "attribute")))
       (a.readonly, (a.of, a.names)) ks s
 
 pub one_attribute_only : (n : ℕ) (a b : Attribute) (ts : List Token) → attribute n a (kinds ts) → attribute n b (kinds ts) → a ≡ b

@@ -8,7 +8,7 @@ use Rattle.syntax_kit.specs.Reading.{mark_is, word_is, token_at, word_in, begins
 use Rattle.syntax_kit.specs.Grammar.{Text, mark, word, ◌&◌, one_of, joined, kinds, IsGrammar, Leads, Any}
 use Rattle.syntax_kit.proofs.Grammars.{mapped_is, both_is, either_is, parted, one_tree}
 use Rattle.syntax_kit.proofs.Leaves.{word_reads, mark_reads, mark_named, leads_word, leads_mark, Apart, apart_word, apart_mark, leads_both, leads_either, begins_so, begins_not, begins_else}
-use Rattle.syntax_kit.proofs.Productions.{weaker, behind_is, before_is, leads_behind, leads_when, leads_by, words_are, leads_words, not_other}
+use Rattle.syntax_kit.proofs.Productions.{weaker, after_is, before_is, leads_after, leads_when, leads_by, words_are, leads_words, not_other}
 use Rattle.syntax_kit.proofs.Lists.{turns, joined_is, leads_joined}
 use Rattle.corba_exprs.specs.Trees.{Tree}
 use Rattle.corba_exprs.specs.declared.tree.Identifier.{Identifier}
@@ -90,7 +90,7 @@ module _ (n : ℕ) where
 
   parameters_is : IsGrammar (parameters_at n) (parameters n) Any
   unfolding parameters_at
-  parameters_is = behind_is (mark_reads (codes "(")) (before_is
+  parameters_is = after_is (mark_reads (codes "(")) (before_is
       (any_is {May = ClosedMay} (begins_other (mark_is (codes ")")))
       (weaker (joined_is (codes ",") parameter_is (λ ts h. turns (mark_is (codes ",")) is_joint apart_comma ts h)) (λ rest may. may.1))
       (λ ks s. s)
@@ -109,13 +109,13 @@ module _ (n : ℕ) where
   unfolding raises_at
   raises_is = any_is {May = OperationMay} (begins_with (word_is (codes "raises")))
       (weaker
-      (behind_is (word_reads (codes "raises")) (behind_is (mark_reads (codes "(")) (before_is
+      (after_is (word_reads (codes "raises")) (after_is (mark_reads (codes "(")) (before_is
       (joined_is (codes ",") (reference_is n)
       (λ ts h. turns (mark_is (codes ",")) (mark_is (codes "::")) (apart_mark (mark_is (codes ",")) (codes "::") refl) ts h))
       (mark_reads (codes ")")) closing_names)))
       (λ rest may. tt))
       (λ ks s. s.4.4.3)
-      (λ rs front rest s may. begins_so (leads_behind names_text (leads_word (codes "raises"))) rs front rest s)
+      (λ rs front rest s may. begins_so (leads_after names_text (leads_word (codes "raises"))) rs front rest s)
       (λ rest may. may)
 
   -- ---- results
@@ -157,7 +157,7 @@ module _ (n : ℕ) where
   leads_tail : Leads tail_text (mark_is (codes "("))
   leads_tail =
       leads_both (if_any (raises (n - 1)))
-      (leads_behind (λ ps. if_any (joined (codes ",") (parameter (n - 1))) ps & mark (codes ")")) (leads_mark (codes "(")))
+      (leads_after (λ ps. if_any (joined (codes ",") (parameter (n - 1))) ps & mark (codes ")")) (leads_mark (codes "(")))
 
   abbrev named_text : Identifier × (List Parameter × List Reference) → Text
   named_text x = identifier x.0 & tail_text x.1

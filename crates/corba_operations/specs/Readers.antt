@@ -3,7 +3,7 @@ use Rattle.std.specs.Prelude.{Bool, ◌||◌, ◌⊎◌, ℕ, zero, suc, ◌-◌
 use Rattle.std.proofs.Common.{inl, inr}
 use Rattle.idl_lex.specs.declared.kinds.Token.{Token}
 use Rattle.idl_lex.specs.declared.kinds.TokenKind.{TokenKind}
-use Rattle.syntax_kit.specs.Reading.{Reader, word_is, mark_is, word_at, mark_at, token_at, word_in, has_word, flag_at, begins_with, begins_other, both, mapped, either, option, behind, before, joined_at}
+use Rattle.syntax_kit.specs.Reading.{Reader, word_is, mark_is, word_at, mark_at, token_at, word_in, has_word, flag_at, begins_with, begins_other, both, mapped, either, option, after, before, joined_at}
 use Rattle.corba_exprs.specs.Trees.{Tree}
 use Rattle.corba_exprs.specs.declared.tree.Identifier.{Identifier}
 use Rattle.corba_exprs.specs.declared.tree.ScopedName.{ScopedName}
@@ -54,7 +54,7 @@ attribute_of x = record { readonly = x.0; of = x.1.0; names = x.1.1 }
 -- attributes
 unfoldable pub attribute_at : ℕ → Reader Attribute
 attribute_at n = mapped attribute_of (both (flag_at (word_is (codes "readonly")))
-    (behind (word_at (codes "attribute")) (both (type_at n) (joined_at (codes ",") identifier_at))))
+    (after (word_at (codes "attribute")) (both (type_at n) (joined_at (codes ",") identifier_at))))
 
 -- ---- operations
 
@@ -79,13 +79,13 @@ parameter_at n = mapped parameter_of (both (token_at direction_in) (both (type_a
 
 -- the parameters in their parentheses
 unfoldable pub parameters_at : ℕ → Reader (List Parameter)
-parameters_at n = behind (mark_at (codes "("))
+parameters_at n = after (mark_at (codes "("))
     (before (any_at (begins_other (mark_is (codes ")"))) (joined_at (codes ",") (parameter_at n))) (mark_at (codes ")")))
 
 -- the exceptions that are raised; none where `raises` does not come first
 unfoldable pub raises_at : ℕ → Reader (List Reference)
-raises_at n = any_at (begins_with (word_is (codes "raises"))) (behind (word_at (codes "raises"))
-    (behind (mark_at (codes "(")) (before (joined_at (codes ",") (reference_at n)) (mark_at (codes ")")))))
+raises_at n = any_at (begins_with (word_is (codes "raises"))) (after (word_at (codes "raises"))
+    (after (mark_at (codes "(")) (before (joined_at (codes ",") (reference_at n)) (mark_at (codes ")")))))
 
 abbrev pub result_of : Unit {0} ⊎ Type' → Option Type'
 result_of (inl _) = None

@@ -17,8 +17,8 @@ use Rattle.corba_decls.specs.declared.tree.Declaration.TheVariants as D
 use Rattle.corba_decls.specs.Spelling.{aliased, declaration}
 use Rattle.corba_shapes.specs.Declarations.{has_field, is_whole_aliased, is_whole}
 
-behind : (P Q : Text) (ks : List TokenKind) → (P & Q) ks → (b : List TokenKind) × Q b
-behind P Q ks (a, b, e, p, q) = (b, q)
+after : (P Q : Text) (ks : List TokenKind) → (P & Q) ks → (b : List TokenKind) × Q b
+after P Q ks (a, b, e, p, q) = (b, q)
 
 before : (P Q : Text) (ks : List TokenKind) → (P & Q) ks → (a : List TokenKind) × P a
 before P Q ks (a, b, e, p, q) = (a, p)
@@ -31,25 +31,25 @@ fields_there : (n : ℕ) (ms : List Member) (ks : List TokenKind) → some (memb
 fields_there n [] ks h = absurd h
 fields_there n (m ∷ ms) ks h =
     let a = before (member n m) (each (member n) ms) ks h in
-    let b = behind (type n m.of.0 m.of.1 false) (joined (codes ",") (declarator n) m.declarators & mark (codes ";")) a.0 a.1 in
+    let b = after (type n m.of.0 m.of.1 false) (joined (codes ",") (declarator n) m.declarators & mark (codes ";")) a.0 a.1 in
     let c = before (joined (codes ",") (declarator n) m.declarators) (mark (codes ";")) b.0 b.1 in
     joined_there (codes ",") (declarator n) m.declarators c.0 c.1
 
 struct_whole : (n : ℕ) (t : Struct) (ks : List TokenKind) → structure n t ks → has_field t.members ≡ true
 struct_whole n t ks h =
     let list = some (member n) t.members & mark (codes "}") in
-    let a = behind (word (codes "struct")) (identifier t.name & mark (codes "{") & list) ks h in
-    let b = behind (identifier t.name) (mark (codes "{") & list) a.0 a.1 in
-    let c = behind (mark (codes "{")) list b.0 b.1 in
+    let a = after (word (codes "struct")) (identifier t.name & mark (codes "{") & list) ks h in
+    let b = after (identifier t.name) (mark (codes "{") & list) a.0 a.1 in
+    let c = after (mark (codes "{")) list b.0 b.1 in
     let e = before (some (member n) t.members) (mark (codes "}")) c.0 c.1 in
     fields_there n t.members e.0 e.1
 
 enum_whole : (e : Enum) (ks : List TokenKind) → enumeration e ks → is_some_list e.items ≡ true
 enum_whole e ks h =
     let list = joined (codes ",") identifier e.items & mark (codes "}") in
-    let a = behind (word (codes "enum")) (identifier e.name & mark (codes "{") & list) ks h in
-    let b = behind (identifier e.name) (mark (codes "{") & list) a.0 a.1 in
-    let c = behind (mark (codes "{")) list b.0 b.1 in
+    let a = after (word (codes "enum")) (identifier e.name & mark (codes "{") & list) ks h in
+    let b = after (identifier e.name) (mark (codes "{") & list) a.0 a.1 in
+    let c = after (mark (codes "{")) list b.0 b.1 in
     let f = before (joined (codes ",") identifier e.items) (mark (codes "}")) c.0 c.1 in
     joined_there (codes ",") identifier e.items f.0 f.1
 
@@ -64,7 +64,7 @@ pub declaration_whole : (n : ℕ) (x : Declaration) (ks : List TokenKind) → de
 declaration_whole zero x ks h = absurd h
 declaration_whole (suc n) (D.Typedef t) ks h =
     let list = joined (codes ",") (declarator (suc n)) t.declarators in
-    let a = behind (word (codes "typedef")) (aliased (suc n) t.of & list) ks h in
+    let a = after (word (codes "typedef")) (aliased (suc n) t.of & list) ks h in
     let b = before (aliased (suc n) t.of) list a.0 a.1 in
     aliased_whole (suc n) t.of b.0 b.1
 declaration_whole (suc n) (D.Struct t) ks h = struct_whole (suc n) t ks h

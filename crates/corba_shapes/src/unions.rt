@@ -20,7 +20,7 @@ use corba_scopes::{Scopes, innermost, inside};
 use indexmap::IndexSet;
 use kit_base::{Name, NoMemory};
 use mint::kind::{Count, Kind};
-use name_kit::{Tag, Use, add_number_of, behind, boxed, refuse, tag_of_use, ty_of_use, union_of};
+use name_kit::{Tag, Use, add_number_of, after, boxed, refuse, tag_of_use, ty_of_use, union_of};
 use std::alloc::Global;
 
 /// The type of a tag.
@@ -184,7 +184,7 @@ fn case(
     add_arms(
         alloc,
         arms,
-        behind(numbers.as_slice(), arms.len()),
+        after(numbers.as_slice(), arms.len()),
         &form,
         lengths,
     )?;

@@ -7,7 +7,7 @@ use Rattle.syntax_kit.specs.Reading.{mark_is, word_is, begins_with}
 use Rattle.syntax_kit.specs.Grammar.{Text, word, mark, ◌&◌, one_of, each, kinds, IsGrammar, Leads, Any}
 use Rattle.syntax_kit.proofs.Grammars.{mapped_is, both_is, either_is, many_is}
 use Rattle.syntax_kit.proofs.Leaves.{word_reads, mark_reads, leads_word, leads_mark, apart_word, apart_mark, leads_both, leads_either, begins_so, begins_not, begins_else}
-use Rattle.syntax_kit.proofs.Productions.{weaker, behind_is, before_is, leads_behind, leads_by, not_other}
+use Rattle.syntax_kit.proofs.Productions.{weaker, after_is, before_is, leads_after, leads_by, not_other}
 use Rattle.corba_exprs.specs.Spelling.{identifier}
 use Rattle.corba_exprs.proofs.LeavesRead.{identifier_is}
 use Rattle.corba_decls.specs.Spelling.{declaration}
@@ -33,7 +33,7 @@ end_text = mark (codes "}") & mark (codes ";")
 closed : (front rest : List Token) → end_text (kinds front) → is_open (front ++ rest) ≡ false
 closed front rest s =
     not_other (mark_is (codes "}")) (front ++ rest)
-    (begins_so (leads_behind (λ (_ : Unit {0}). mark (codes ";")) (leads_mark (codes "}"))) tt front rest s)
+    (begins_so (leads_after (λ (_ : Unit {0}). mark (codes ";")) (leads_mark (codes "}"))) tt front rest s)
 
 -- ---- declarations
 
@@ -73,7 +73,7 @@ module _ (n : ℕ) (g : IsGrammar (definition_at n) (definition n) Any) (leads :
 
   module_is : IsGrammar (module_at (definition_at n)) (module_text inner) Any
   module_is = mapped_is module_of (module_text inner)
-      (behind_is (word_reads (codes "module")) (both_is identifier_is (behind_is (mark_reads (codes "{")) (before_is
+      (after_is (word_reads (codes "module")) (both_is identifier_is (after_is (mark_reads (codes "{")) (before_is
       (weaker {May' =
       λ rest.
       is_open rest ≡ false}
@@ -86,13 +86,13 @@ module _ (n : ℕ) (g : IsGrammar (definition_at n) (definition n) Any) (leads :
         goes_on =
             λ ts h. tt;
       })) (λ rest may. (may, tt)))
-      (behind_is (mark_reads (codes "}")) (mark_reads (codes ";"))) closed))
+      (after_is (mark_reads (codes "}")) (mark_reads (codes ";"))) closed))
       (λ b front rest t may. tt)))
       (parts_forth inner) (parts_back inner)
 
   leads_module : Leads (module_text inner) (word_is (codes "module"))
   leads_module m ks s =
-      leads_behind
+      leads_after
       (λ (x : Module).
       identifier (out-Module x).name & mark (codes "{") & each inner (out-Module x).definitions & end_text) (leads_word (codes "module"))
       m ks s

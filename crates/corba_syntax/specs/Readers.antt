@@ -1,7 +1,7 @@
 -- What each function of the parser reads: a tool beside Derivation, tied to it in proofs/.
 use Rattle.std.specs.Prelude.{◌⊎◌, ℕ, zero, suc, List, None, codes}
 use Rattle.std.proofs.Common.{inl, inr}
-use Rattle.syntax_kit.specs.Reading.{Reader, word_is, word_at, mark_at, begins_with, both, mapped, either, behind, before, many}
+use Rattle.syntax_kit.specs.Reading.{Reader, word_is, word_at, mark_at, begins_with, both, mapped, either, after, before, many}
 use Rattle.corba_exprs.specs.Readers.{identifier_at, is_open}
 use Rattle.corba_decls.specs.Readers.{declaration_at}
 use Rattle.corba_interfaces.specs.Readers.{interface_at}
@@ -21,8 +21,8 @@ module_of x = roll-Module (record { name = x.0; definitions = x.1 })
 
 -- a module, over the reader of a definition in it
 abbrev pub module_at : Reader Definition → Reader Module
-module_at inner = mapped module_of (behind (word_at (codes "module")) (both identifier_at
-    (behind (mark_at (codes "{")) (before (many is_open inner) (behind (mark_at (codes "}")) (mark_at (codes ";")))))))
+module_at inner = mapped module_of (after (word_at (codes "module")) (both identifier_at
+    (after (mark_at (codes "{")) (before (many is_open inner) (after (mark_at (codes "}")) (mark_at (codes ";")))))))
 
 abbrev pub definition_of : Module ⊎ Interface ⊎ Declaration → Definition
 definition_of (inl m) = V.Module m

@@ -8,7 +8,7 @@ use Rattle.syntax_kit.specs.Reading.{mark_is, word_is, token_at, begins_with, wo
 use Rattle.syntax_kit.specs.Grammar.{Text, empty, word, mark, ◌&◌, one_of, maybe, kinds, IsGrammar, Leads}
 use Rattle.syntax_kit.proofs.Grammars.{mapped_is, both_is, either_is, option_is, parted}
 use Rattle.syntax_kit.proofs.Leaves.{token_is, word_reads, mark_reads, mark_named, one_kind, apart_or, apart_word, apart_mark, leads_word, leads_mark, leads_either, begins_so, begins_not}
-use Rattle.syntax_kit.proofs.Productions.{weaker, behind_is, led_is, leads_behind, words_are, leads_words, apart_words, leads_by, unit_left, unit_left_back, unit_right, unit_right_back}
+use Rattle.syntax_kit.proofs.Productions.{weaker, after_is, led_is, leads_after, words_are, leads_words, apart_words, leads_by, unit_left, unit_left_back, unit_right, unit_right_back}
 use Rattle.syntax_kit.proofs.Lists.{turns}
 use Rattle.corba_exprs.specs.Trees.{Tree}
 use Rattle.corba_exprs.specs.declared.tree.ScopedName.{ScopedName}
@@ -50,12 +50,12 @@ abbrev long_text : Option (Unit {0}) → Text
 long_text x = word (codes "long") & maybe (λ _. word (codes "long")) x
 
 leads_long : Leads long_text (word_is (codes "long"))
-leads_long = leads_behind (maybe (λ (_ : Unit {0}). word (codes "long"))) (leads_word (codes "long"))
+leads_long = leads_after (maybe (λ (_ : Unit {0}). word (codes "long"))) (leads_word (codes "long"))
 
 pub size_is : IsGrammar size_at size IntMay
 size_is = mapped_is size_of size
     (either_is {A = Unit {0}} (begins_with (word_is (codes "short"))) (weaker (word_reads (codes "short")) (λ rest may. tt))
-    (behind_is (word_reads (codes "long"))
+    (after_is (word_reads (codes "long"))
     (option_is {S =
     λ (_ : Unit {0}). word (codes "long")} (begins_with (word_is (codes "long"))) (weaker (word_reads (codes "long")) (λ rest may.
     tt)) (λ a front rest s may. begins_so (leads_word (codes "long")) a front rest s) (λ rest may. may)))
@@ -90,7 +90,7 @@ unfolding int_at
 int_is = mapped_is int_of int (led_is (codes "unsigned") size_is size_is leads_size refl) int_forth int_back
 
 pub leads_int : Leads int is_int
-leads_int = leads_by int_of int_back (leads_either (leads_behind size (leads_word (codes "unsigned"))) leads_size)
+leads_int = leads_by int_of int_back (leads_either (leads_after size (leads_word (codes "unsigned"))) leads_size)
 
 -- ---- what follows a whole type
 
@@ -160,7 +160,7 @@ leads_simple : Leads (λ a. word (simple_spell a)) is_simple
 leads_simple = leads_words simple_words simple_spell simple_word
 
 leads_double : Leads long_double (word_is (codes "long"))
-leads_double = leads_behind (λ _. word (codes "double")) (leads_word (codes "long"))
+leads_double = leads_after (λ _. word (codes "double")) (leads_word (codes "long"))
 
 abbrev is_last : TokenKind → Bool
 is_last k = is_int k || is_name k
@@ -198,7 +198,7 @@ no_double_int : (x : IntSize ⊎ IntSize) (front rest : List Token) → int_text
     → begins_with (word_is (codes "double")) rest ≡ false
     → is_long_double (front ++ rest) ≡ false
 no_double_int (inl i) front rest s may =
-    and_false _ _ (begins_not (word_is (codes "long")) (leads_behind size (leads_word (codes "unsigned")))
+    and_false _ _ (begins_not (word_is (codes "long")) (leads_after size (leads_word (codes "unsigned")))
     (apart_word (word_is (codes "unsigned")) (codes "long") refl) i front rest s)
 no_double_int (inr i) front rest s may = no_double_size i front rest s may
 
@@ -215,7 +215,7 @@ plain_is = mapped_is plain_of plain_base
     (either_is (begins_with is_simple)
     (weaker (words_are simple_words simple_spell (refl, (refl, (refl, (refl, (refl, (refl, (refl, (refl, (refl, tt)))))))))
     simple_word) (λ rest may. tt))
-    (either_is is_long_double (weaker (behind_is (word_reads (codes "long")) (word_reads (codes "double"))) (λ rest may. tt))
+    (either_is is_long_double (weaker (after_is (word_reads (codes "long")) (word_reads (codes "double"))) (λ rest may. tt))
     (either_is (begins_with is_int)
     (weaker int_is (λ rest may. no_word (codes "long") refl rest may)) (weaker scoped_is (λ rest may.
     no_mark (codes "::") refl rest may))
@@ -314,13 +314,13 @@ module _ (n : ℕ) where
   string_back (B.Name a, b) ks s = absurd s
 
   leads_sized : Leads sized (mark_is (codes "<"))
-  leads_sized = leads_behind (λ (x : Tree × Bool). expression n x.0 & close x.1) (leads_mark (codes "<"))
+  leads_sized = leads_after (λ (x : Tree × Bool). expression n x.0 & close x.1) (leads_mark (codes "<"))
 
   pub string_is : IsGrammar (string_at n) (string_text n) Closes
   unfolding string_at
   string_is = mapped_is string_of (string_text n)
       (option_is (begins_with (mark_is (codes "<")))
-      (behind_is (mark_reads (codes "<")) (both_is (expression_is n true) close_is before_close))
+      (after_is (mark_reads (codes "<")) (both_is (expression_is n true) close_is before_close))
       (λ x front rest s may. begins_so leads_sized x front rest s) (λ rest may. no_mark (codes "<") refl rest may))
       string_forth string_back
 
@@ -371,7 +371,7 @@ module _ (n : ℕ) where
   base_is = mapped_is base_of base_typed (led_is (codes "string") string_is plain_is leads_plain refl) base_forth base_back
 
   pub leads_base : Leads base_typed (λ k. word_is (codes "string") k || is_plain k)
-  leads_base = leads_by base_of base_back (leads_either (leads_behind (string_text n) (leads_word (codes "string"))) leads_plain)
+  leads_base = leads_by base_of base_back (leads_either (leads_after (string_text n) (leads_word (codes "string"))) leads_plain)
 
   -- ---- bounds
 
@@ -379,7 +379,7 @@ module _ (n : ℕ) where
   comma e = mark (codes ",") & expression n e
 
   pub leads_comma : Leads comma (mark_is (codes ","))
-  leads_comma = leads_behind (expression n) (leads_mark (codes ","))
+  leads_comma = leads_after (expression n) (leads_mark (codes ","))
 
   abbrev BoundMay : List Token → Type 0
   BoundMay rest = (begins_with (mark_is (codes ",")) rest ≡ false) × May true 6 rest
@@ -388,7 +388,7 @@ module _ (n : ℕ) where
   unfolding bound_at
   bound_is = both_is {May = BoundMay}
       (option_is {May = BoundMay} (begins_with (mark_is (codes ",")))
-      (behind_is (mark_reads (codes ",")) (weaker (expression_is n true) (λ rest may. may.1)))
+      (after_is (mark_reads (codes ",")) (weaker (expression_is n true) (λ rest may. may.1)))
       (λ x front rest s may. begins_so leads_comma x front rest s) (λ rest may. may.0))
       close_is
       (λ b front rest s may. (

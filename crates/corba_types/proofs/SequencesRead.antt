@@ -4,11 +4,11 @@ use Rattle.std.specs.Prelude.{codes}
 use Rattle.idl_lex.specs.declared.kinds.Token.{Token}
 use Rattle.idl_lex.specs.declared.kinds.TokenKind.{TokenKind}
 use Rattle.idl_lex.specs.declared.kinds.TokenKind.TheVariants as K
-use Rattle.syntax_kit.specs.Reading.{Read, Reader, then_on, map_read, mark_is, word_is, word_at, mark_at, begins_with, behind}
+use Rattle.syntax_kit.specs.Reading.{Read, Reader, then_on, map_read, mark_is, word_is, word_at, mark_at, begins_with, after}
 use Rattle.syntax_kit.specs.Grammar.{Text, word, mark, ◌&◌, kinds, IsGrammar}
 use Rattle.syntax_kit.proofs.Grammars.{then_some, read_is, map_some, cond_some, parted, kinds-append}
 use Rattle.syntax_kit.proofs.Leaves.{word_reads, mark_reads, apart_word, leads_word, begins_so, begins_not}
-use Rattle.syntax_kit.proofs.Productions.{behind_is, leads_behind, leads_maybe}
+use Rattle.syntax_kit.proofs.Productions.{after_is, leads_after, leads_maybe}
 use Rattle.corba_exprs.specs.Trees.{Tree}
 use Rattle.corba_types.specs.declared.tree.Base.{Base}
 use Rattle.corba_types.specs.Spelling.{bound, held, type}
@@ -104,8 +104,8 @@ module _ (n : ℕ) (g : IsGrammar (shared_at n) (typed n) Closes) where
   abbrev sequence_text : Typed → Text
   sequence_text x = word (codes "sequence") & (mark (codes "<") & held_text n x)
 
-  sequence_is : IsGrammar (behind (word_at (codes "sequence")) (behind (mark_at (codes "<")) held_at)) sequence_text Closes
-  sequence_is = behind_is (word_reads (codes "sequence")) (behind_is (mark_reads (codes "<")) held_is)
+  sequence_is : IsGrammar (after (word_at (codes "sequence")) (after (mark_at (codes "<")) held_at)) sequence_text Closes
+  sequence_is = after_is (word_reads (codes "sequence")) (after_is (mark_reads (codes "<")) held_is)
 
   sequence_forth : (x : Typed) (ks : List TokenKind) → sequence_text x ks → typed (suc n) x ks
   sequence_forth (([], b), shared) ks s = absurd s.4.4
@@ -135,7 +135,7 @@ module _ (n : ℕ) (g : IsGrammar (shared_at n) (typed n) Closes) where
     reads ((x ∷ xs, b), shared) front rest s may =
         let so =
         begins_so
-        (leads_behind
+        (leads_after
         (λ (z : Typed). mark (codes "<") & held_text n z) (leads_word (codes "sequence"))) ((x ∷ xs, b), shared) front rest s in
         let one = sequence_is.again ((x ∷ xs, b), shared) front rest s may in
         rw so one

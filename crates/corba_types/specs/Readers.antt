@@ -3,7 +3,7 @@ use Rattle.std.specs.Prelude.{Bool, true, false, ◌&&◌, ◌||◌, ◌⊎◌, 
 use Rattle.std.proofs.Common.{inl, inr}
 use Rattle.idl_lex.specs.declared.kinds.Token.{Token}
 use Rattle.idl_lex.specs.declared.kinds.TokenKind.{TokenKind}
-use Rattle.syntax_kit.specs.Reading.{Reader, then_on, map_read, word_is, mark_is, word_at, mark_at, token_at, word_in, has_word, begins_with, both, mapped, either, option, behind}
+use Rattle.syntax_kit.specs.Reading.{Reader, then_on, map_read, word_is, mark_is, word_at, mark_at, token_at, word_in, has_word, begins_with, both, mapped, either, option, after}
 use Rattle.corba_exprs.specs.Trees.{Tree}
 use Rattle.corba_exprs.specs.declared.tree.ScopedName.{ScopedName}
 use Rattle.corba_exprs.specs.Readers.{scoped_at, expression_at}
@@ -25,7 +25,7 @@ size_of (inr (Some _)) = LongLong
 -- the size of an integer type
 abbrev pub size_at : Reader IntSize
 size_at = mapped size_of (either (begins_with (word_is (codes "short"))) (word_at (codes "short"))
-    (behind (word_at (codes "long")) (option (begins_with (word_is (codes "long"))) (word_at (codes "long")))))
+    (after (word_at (codes "long")) (option (begins_with (word_is (codes "long"))) (word_at (codes "long")))))
 
 abbrev pub int_of : IntSize ⊎ IntSize → Int
 int_of (inl s) = record { unsigned = true; size = s }
@@ -33,7 +33,7 @@ int_of (inr s) = record { unsigned = false; size = s }
 
 -- an integer type
 unfoldable pub int_at : Reader Int
-int_at = mapped int_of (either (begins_with (word_is (codes "unsigned"))) (behind (word_at (codes "unsigned")) size_at) size_at)
+int_at = mapped int_of (either (begins_with (word_is (codes "unsigned"))) (after (word_at (codes "unsigned")) size_at) size_at)
 
 -- whether a token begins an integer type
 abbrev pub is_int : TokenKind → Bool
@@ -68,7 +68,7 @@ plain_of (inr (inr (inr n))) = B.Name n
 unfoldable pub plain_at : Reader Base
 plain_at = mapped plain_of (
     either (begins_with is_simple) (token_at simple_in)
-    (either is_long_double (behind (word_at (codes "long")) (word_at (codes "double")))
+    (either is_long_double (after (word_at (codes "long")) (word_at (codes "double")))
     (either (begins_with is_int) int_at scoped_at)))
 
 -- the mark that ends a string or a sequence, and whether it ends the sequence around it too
@@ -82,7 +82,7 @@ string_of (Some x) = (B.Text (Some x.0), x.1)
 -- what follows `string`, and whether its last mark ends the sequence around it too
 unfoldable pub string_at : ℕ → Reader (Base × Bool)
 string_at n = mapped string_of
-    (option (begins_with (mark_is (codes "<"))) (behind (mark_at (codes "<")) (both (expression_at n true) (token_at close_in))))
+    (option (begins_with (mark_is (codes "<"))) (after (mark_at (codes "<")) (both (expression_at n true) (token_at close_in))))
 
 -- ---- types
 
@@ -96,11 +96,11 @@ base_of (inr b) = (([], b), false)
 
 -- a type that is not a sequence
 unfoldable pub base_at : ℕ → Reader Typed
-base_at n = mapped base_of (either (begins_with (word_is (codes "string"))) (behind (word_at (codes "string")) (string_at n)) plain_at)
+base_at n = mapped base_of (either (begins_with (word_is (codes "string"))) (after (word_at (codes "string")) (string_at n)) plain_at)
 
 -- the bound of a sequence, and whether the mark that ends it ends the sequence around it too
 unfoldable pub bound_at : ℕ → Reader (Option Tree × Bool)
-bound_at n = both (option (begins_with (mark_is (codes ","))) (behind (mark_at (codes ",")) (expression_at n true))) (token_at close_in)
+bound_at n = both (option (begins_with (mark_is (codes ","))) (after (mark_at (codes ",")) (expression_at n true))) (token_at close_in)
 
 -- a sequence of such elements
 abbrev pub sequence_of : Typed → Option Tree × Bool → Typed
@@ -114,7 +114,7 @@ ended_at n t ts = if t.1 then Some (sequence_of t (None, false), ts) else map_re
 abbrev pub type_by : Reader Typed → ℕ → Reader Typed
 type_by element n ts =
     if begins_with (word_is (codes "sequence")) ts
-    then behind (word_at (codes "sequence")) (behind (mark_at (codes "<")) (λ us. then_on (element us) (ended_at n))) ts
+    then after (word_at (codes "sequence")) (after (mark_at (codes "<")) (λ us. then_on (element us) (ended_at n))) ts
     else base_at n ts
 
 -- a type within so many levels, and whether its last mark ends the sequence around it too

@@ -10,7 +10,7 @@ use Rattle.wire_def.specs.Grammar.{AreOctets}
 use Rattle.wire_def.specs.Laws.{BeginsSpelled, HasFault}
 use Rattle.wire_def.specs.Spells.{IsSpelling}
 use Rattle.wire_def.proofs.Encodings.{decided}
-use Rattle.wire_def.proofs.Grammars.{octets_behind}
+use Rattle.wire_def.proofs.Grammars.{octets_after}
 use Rattle.call_kit.specs.declared.called.Called.{Called}
 use Rattle.call_kit.specs.declared.called.Naming.{Naming}
 use Rattle.call_kit.specs.declared.called.Naming.TheVariants as naming
@@ -65,18 +65,18 @@ module _ (b : Binding) (made : IsMade b.back) (sound : (op : ℕ) → IsSound (r
   body c op names (inr (k, at, stops)) = (Err (err.Body (record { kind = k; at = at })), (c, op, names, stops))
 
   -- a call that names this
-  behind : (c : Called) (n : Naming) → Names b o c n → Something
-  behind c naming.NoInterface names = (Err err.NoInterface, (c, names))
-  behind c naming.NoOperation names = (Err err.NoOperation, (c, names))
-  behind c (naming.Operation op) names =
-      let octets : AreOctets (drop c.used o) = octets_behind (take c.used o) (drop c.used o) (rw take-append-drop oct) in
+  after : (c : Called) (n : Naming) → Names b o c n → Something
+  after c naming.NoInterface names = (Err err.NoInterface, (c, names))
+  after c naming.NoOperation names = (Err err.NoOperation, (c, names))
+  after c (naming.Operation op) names =
+      let octets : AreOctets (drop c.used o) = octets_after (take c.used o) (drop c.used o) (rw take-append-drop oct) in
       let within = (one_head b o).within c names.1 in
       let short : c.used + length (drop c.used o) ≤ longest_message = omega (arith, length-drop c.used o, within, names.0) in
       body c op names (decided c.encoding (request_type b op) (sound op) c.used (drop c.used o) octets short).either
 
   -- a head, or its fault
   head : IsShort o → HasHead (Begins b o) (Stops b.back o) → Something
-  head short (inl (c, begins)) = behind c c.naming (short, begins, refl)
+  head short (inl (c, begins)) = after c c.naming (short, begins, refl)
   head short (inr (e, stops)) = (Err (err.Head e), (short, stops))
 
   size : (longest_message < length o) ⊎ IsShort o → Something

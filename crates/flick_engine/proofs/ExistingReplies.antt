@@ -10,7 +10,7 @@ use Rattle.wire_def.specs.Grammar.{AreOctets}
 use Rattle.wire_def.specs.Laws.{BeginsSpelled, HasFault}
 use Rattle.wire_def.specs.Spells.{IsSpelling}
 use Rattle.wire_def.proofs.Encodings.{decided}
-use Rattle.wire_def.proofs.Grammars.{octets_behind}
+use Rattle.wire_def.proofs.Grammars.{octets_after}
 use Rattle.pres.specs.Bindings.{Binding}
 use Rattle.flick_engine.specs.declared.errors.MessageErr.{MessageErr}
 use Rattle.flick_engine.specs.declared.errors.MessageErr.TheVariants as err
@@ -68,17 +68,17 @@ module _ (b : Binding) (op : ℕ) (sound : (k : ℕ) → IsSound (arm_type b op 
   refusal t why true is says = (Err (err.Trailing t.used), inr (t, why, says, (refl, is)))
 
   -- a head that tells how the call fared
-  behind : (t : Heard) (f : Fate) → Says b op o t f → Something
-  behind t (fates.Arm k) says =
-      let octets : AreOctets (drop t.used o) = octets_behind (take t.used o) (drop t.used o) (rw take-append-drop oct) in
+  after : (t : Heard) (f : Fate) → Says b op o t f → Something
+  after t (fates.Arm k) says =
+      let octets : AreOctets (drop t.used o) = octets_after (take t.used o) (drop t.used o) (rw take-append-drop oct) in
       let within = (one_reply b op o).within t says.1 in
       let short : t.used + length (drop t.used o) ≤ longest_message = omega (arith, length-drop t.used o, within, says.0) in
       body t k says (decided t.encoding (arm_type b op k) (sound k) t.used (drop t.used o) octets short).either
-  behind t (fates.Refused why) says = refusal t why (is_followed why t.used o) refl says
+  after t (fates.Refused why) says = refusal t why (is_followed why t.used o) refl says
 
   -- a head, or its fault
   head : IsShort o → HasReply (BeginsReply b op o) (ReplyStops b op o) → Something
-  head short (inl (t, begins)) = behind t t.fate (short, begins, refl)
+  head short (inl (t, begins)) = after t t.fate (short, begins, refl)
   head short (inr (e, stops)) = (Err (err.Head e), (short, stops))
 
   size : (longest_message < length o) ⊎ IsShort o → Something

@@ -33,7 +33,7 @@ use Rattle.back_xdr.proofs.Sent.{leads_read}
 use Rattle.giop_head.specs.Call.{Request}
 use Rattle.giop_head.specs.Items.{laid}
 use Rattle.giop_head.specs.Printed.{with_size}
-use Rattle.giop_head.specs.Told.{ToldRequest}
+use Rattle.giop_head.specs.Reported.{ReportedRequest}
 use Rattle.giop_head.proofs.Sent.{requests_begin, follows_request, length_sized}
 use Rattle.back_cdr.specs.Leads as cdr_leads
 use Rattle.back_cdr.specs.Seeking as cdr_seeking
@@ -54,7 +54,7 @@ use Rattle.back_mach.proofs.Heading as mach_heading
 use Rattle.back_mach.proofs.NamedBelow as mach_named
 use Rattle.back_mach.proofs.NamedBy as mach_pairs
 use Rattle.back_mach.proofs.Sent as mach_sent
-use Rattle.flick_engine.specs.Backs.{IsMade, back_of, encoding, lead_over, sized, BeginsOver, Begins, AsksByName, AsksFor, Stops, request_of, told_of, SaysByName, SaysOver, Says}
+use Rattle.flick_engine.specs.Backs.{IsMade, back_of, encoding, lead_over, sized, BeginsOver, Begins, AsksByName, AsksFor, Stops, request_of, reported_of, SaysByName, SaysOver, Says}
 use Rattle.flick_engine.specs.Operations.{operations_in}
 use Rattle.op_codes.proofs.Places.{placed}
 
@@ -130,7 +130,7 @@ module _ (r : Order) (b : Binding) (op : ℕ) (head : Head) (c : Called) (says :
 
   cdr_begins : (rest : List ℕ) → length (cdr_leads.lead r (target_of b op) head.id ++ rest) ≤ longest_message
       → cdr_seeking.Calls b (with_size r (cdr_leads.lead r (target_of b op) head.id ++ rest)) c
-  cdr_begins rest few = (told_of r (target_of b op) head.id, requests_begin r asking rest says.0 (omega (arith, few)), says.1)
+  cdr_begins rest few = (reported_of r (target_of b op) head.id, requests_begin r asking rest says.0 (omega (arith, few)), says.1)
 
   cdr_follows : (rest : List ℕ) → drop c.used (with_size r (cdr_leads.lead r (target_of b op) head.id ++ rest)) ≡ rest
   cdr_follows rest =
@@ -201,8 +201,8 @@ abbrev called_with : OncCall → Naming → Called
 called_with k n = record { naming = n; head = k.head; encoding = encoding back.Xdr; used = k.used }
 
 -- what a request that names this says
-abbrev told_with : ToldRequest → Naming → Called
-told_with t n = record { naming = n; head = t.head; encoding = laid t.head.order; used = t.used }
+abbrev reported_with : ReportedRequest → Naming → Called
+reported_with t n = record { naming = n; head = t.head; encoding = laid t.head.order; used = t.used }
 
 -- what a request over Mach that names this says
 abbrev mach_with : MachCall → Naming → Called
@@ -238,7 +238,7 @@ module _ (b c : Binding) (units : b.unit ≡ c.unit) where
   cdr_begins_alike : (o : List ℕ) (x : Called) → cdr_seeking.Calls b o x → cdr_seeking.Calls c o x
   cdr_begins_alike o x (t, begins, is) =
       let same : cdr_seeking.called b t ≡ cdr_seeking.called c t =
-      ap (told_with t) (ap (λ (u : PlainUnit). cdr_seeking.named_from 0 u.interfaces t.key t.name) units) in
+      ap (reported_with t) (ap (λ (u : PlainUnit). cdr_seeking.named_from 0 u.interfaces t.key t.name) units) in
       (t, begins, sym same ∙ is)
 
   cdr_below : IsBinding b → IsCdr b.back → (o : List ℕ) (x : Called) → cdr_seeking.Calls b o x → IsBelow (length b.ops) x.naming

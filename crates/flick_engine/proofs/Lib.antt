@@ -23,7 +23,7 @@ pub mod RepliesOfBacks
 -- * What a message is as a reply is determined, since it is what reading from left to right gives
 pub mod DecidingReplies
 -- * An arm that the head of a reply tells is one of the operation's reply
-pub mod ArmsTold
+pub mod ArmsReported
 -- * Octets are always something as a reply to an operation
 pub mod ExistingReplies
 -- The heads of replies that are sent are received as what they say

@@ -17,7 +17,7 @@ use Rattle.cast_stub.specs.Parts.{on_some}
 use Rattle.giop_head.specs.declared.header.Way.TheVariants.{Requests}
 use Rattle.giop_head.specs.Heads.{StopsWith}
 use Rattle.giop_head.specs.Items.{laid}
-use Rattle.giop_head.specs.Told.{ToldRequest, BeginsRequest}
+use Rattle.giop_head.specs.Reported.{ReportedRequest, BeginsRequest}
 use Rattle.back_cdr.specs.Seeking.{has_name, operation_at, named_from, Calls}
 use Rattle.back_cdr.specs.Targets.{IsCdr}
 use Rattle.flick_engine.specs.declared.names.Names.{Names}
@@ -147,7 +147,7 @@ begins_over back.Xdr b o c cdr h = absurd cc
 begins_over back.Mach b o c cdr h = absurd cc
 
 -- a head whose request was read, and what it names found among the names
-pub begins_named : (b : Binding) (o : List ℕ) (n : Names) (t : ToldRequest) (naming : Naming) (e : Encoding) → IsCdr b.back
+pub begins_named : (b : Binding) (o : List ℕ) (n : Names) (t : ReportedRequest) (naming : Naming) (e : Encoding) → IsCdr b.back
     → AreNamesOver b.back b.unit.interfaces n → BeginsRequest o t → naming ≡ found n t.key t.name → e ≡ encoding_by b.back t.head.order
     → Begins b o (record { naming = naming; head = t.head; encoding = e; used = t.used })
 begins_named b o n t naming e cdr are begins finds lies =

@@ -17,31 +17,31 @@ use Rattle.flick_engine.specs.Offered.{Offered, nothing, number_in, raised_by, r
 use Rattle.flick_engine.proofs.Picking.{counted}
 
 -- the exceptions of a target
-abbrev told : Target → Offered
-told t = record { first = 1; names = t.ids }
+abbrev reported : Target → Offered
+reported t = record { first = 1; names = t.ids }
 
-of_one : (i : PlainInterface) (ops : List PlainOperation) → map raised_by ops ≡ map told (map (target_in i) ops)
+of_one : (i : PlainInterface) (ops : List PlainOperation) → map raised_by ops ≡ map reported (map (target_in i) ops)
 of_one i [] = refl
 of_one i (op ∷ ops) = ap (λ l. raised_by op ∷ l) (of_one i ops)
 
-of_all : (is : List PlainInterface) → raised_each is ≡ map told (targets is)
+of_all : (is : List PlainInterface) → raised_each is ≡ map reported (targets is)
 of_all [] = refl
 of_all (i ∷ is) =
     ap (λ l. map raised_by i.ops ++ l) (of_all is)
-    ∙ ap (λ l. l ++ map told (targets is)) (of_one i i.ops)
-    ∙ sym (map-append told (targets_in i) (targets is))
+    ∙ ap (λ l. l ++ map reported (targets is)) (of_one i i.ops)
+    ∙ sym (map-append reported (targets_in i) (targets is))
 
-told_at : (ts : List Target) (k : ℕ) → slice_index_or (map told ts) k nothing ≡ told (slice_index_or ts k no_target)
-told_at [] k = refl
-told_at (t ∷ ts) zero = refl
-told_at (t ∷ ts) (suc k) = told_at ts k
+reported_at : (ts : List Target) (k : ℕ) → slice_index_or (map reported ts) k nothing ≡ reported (slice_index_or ts k no_target)
+reported_at [] k = refl
+reported_at (t ∷ ts) zero = refl
+reported_at (t ∷ ts) (suc k) = reported_at ts k
 
 -- the number of an exception among those of an operation
 pub raise_found : (is : List PlainInterface) (n : Names) (op : ℕ) (id : List ℕ) → AreNames is n
     → raise_of n op id ≡ position_from (bytes_eq id) 1 (slice_index_or (targets is) op no_target).ids
 raise_found is n op id are =
     ap (λ (l : List Offered). number_in (slice_index_or l op nothing) id) (are.raised ∙ of_all is)
-    ∙ ap (λ (x : Offered). number_in x id) (told_at (targets is) op)
+    ∙ ap (λ (x : Offered). number_in x id) (reported_at (targets is) op)
     ∙ sym (counted (bytes_eq id) 1 0 (slice_index_or (targets is) op no_target).ids)
 
 -- of those that replies over CDR tell apart

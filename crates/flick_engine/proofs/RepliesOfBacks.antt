@@ -14,20 +14,20 @@ use Rattle.wire_def.specs.Grammar.{AreOctets}
 use Rattle.pres.specs.Bindings.{Binding}
 use Rattle.back_xdr.specs.Heads as xdr
 use Rattle.back_xdr.specs.Reply as xdr_reply
-use Rattle.back_xdr.specs.Told as xdr_told
+use Rattle.back_xdr.specs.Reported as xdr_reported
 use Rattle.back_xdr.proofs.Lawful as xdr_lawful
 use Rattle.giop_head.specs.declared.header.Way.TheVariants.{Replies}
 use Rattle.giop_head.specs.Heads as giop
 use Rattle.giop_head.specs.Items.{laid}
 use Rattle.giop_head.specs.Reply as giop_reply
-use Rattle.giop_head.specs.Told as giop_told
+use Rattle.giop_head.specs.Reported as giop_reported
 use Rattle.giop_head.proofs.Lawful as giop_lawful
 use Rattle.giop_head.proofs.Sent.{begins}
 use Rattle.back_cdr.specs.Targets.{IsCdr, target_of}
 use Rattle.back_cdr.proofs.Growing.{long_reply}
 use Rattle.back_mach.specs.Heads as mach
 use Rattle.back_mach.specs.Reply as mach_reply
-use Rattle.back_mach.specs.Told as mach_told
+use Rattle.back_mach.specs.Reported as mach_reported
 use Rattle.back_mach.proofs.Lawful as mach_lawful
 use Rattle.flick_engine.specs.declared.replies.Fate.{Fate}
 use Rattle.flick_engine.specs.Backs.{reply_lead_over, reply_id, heard_over, heard, giop_heard, RepliesInOrder, RepliesOver, BeginsReply, ReplyStopsOver, ReplyStops}
@@ -49,25 +49,26 @@ HasReply Begins Stops = ((t : Heard) × Begins t) ⊎ ((e : HeadErr) × Stops e)
 module _ (b : Binding) (op : ℕ) (o : List ℕ) where
   -- ONC
   xdr_viewed : xdr_reply.Reply → ℕ → Heard
-  xdr_viewed h used = heard_over back.Xdr b op (xdr_told.reply_told h used)
+  xdr_viewed h used = heard_over back.Xdr b op (xdr_reported.reply_reported h used)
 
   xdr_one : (t u : Heard) → RepliesOver back.Xdr b op o t → RepliesOver back.Xdr b op o u → t ≡ u
-  xdr_one t u (r, (h, used, starts, told), is) (s, (j, m, starts', told'), is') =
+  xdr_one t u (r, (h, used, starts, reported), is) (s, (j, m, starts', reported'), is') =
       let same = xdr_lawful.one_head xdr.reply o h j used m starts starts' in
       sym is ∙ ap (heard_over back.Xdr b op)
-      (sym told ∙ ap (λ (x : xdr_reply.Reply). xdr_told.reply_told x used) same.0 ∙ ap (xdr_told.reply_told j) same.1 ∙ told') ∙ is'
+      (sym reported ∙ ap (λ (x : xdr_reply.Reply). xdr_reported.reply_reported x used) same.0 ∙ ap (xdr_reported.reply_reported j) same.1
+      ∙ reported') ∙ is'
 
   xdr_one_reply : IsOneReply o (RepliesOver back.Xdr b op o) (ReplyStopsOver back.Xdr b op o)
   xdr_one_reply = record {
-    within = λ t (r, (h, used, starts, told), is). rw (← is, ← told) starts.0;
-    not_both = λ t e (r, (h, used, starts, told), is) stops. xdr_lawful.not_both xdr.reply o h used e starts stops;
+    within = λ t (r, (h, used, starts, reported), is). rw (← is, ← reported) starts.0;
+    not_both = λ t e (r, (h, used, starts, reported), is) stops. xdr_lawful.not_both xdr.reply o h used e starts stops;
     one_head = xdr_one;
     one_fault = xdr_lawful.one_fault xdr.reply o;
   }
 
   xdr_found : ((h : xdr_reply.Reply) × (used : ℕ) × xdr.BeginsWith xdr.reply o h used) ⊎ ((e : HeadErr) × xdr.StopsWith xdr.reply o e)
       → HasReply (RepliesOver back.Xdr b op o) (ReplyStopsOver back.Xdr b op o)
-  xdr_found (inl (h, used, starts)) = inl (_, (xdr_told.reply_told h used, (h, used, starts, refl), refl))
+  xdr_found (inl (h, used, starts)) = inl (_, (xdr_reported.reply_reported h used, (h, used, starts, refl), refl))
   xdr_found (inr (e, stops)) = inr (e, stops)
 
   -- GIOP
@@ -94,23 +95,24 @@ module _ (b : Binding) (op : ℕ) (o : List ℕ) where
   way = mach.reply (reply_id b op)
 
   mach_one : (t u : Heard) → RepliesOver back.Mach b op o t → RepliesOver back.Mach b op o u → t ≡ u
-  mach_one t u (r, (h, used, starts, told), is) (s, (j, m, starts', told'), is') =
+  mach_one t u (r, (h, used, starts, reported), is) (s, (j, m, starts', reported'), is') =
       let same = mach_lawful.one_head way o h j used m starts starts' in
       sym is ∙ ap (heard_over back.Mach b op)
-      (sym told
-      ∙ ap (λ (x : mach_reply.Reply). mach_told.reply_told x used) same.0 ∙ ap (mach_told.reply_told j) same.1 ∙ told') ∙ is'
+      (sym reported
+      ∙ ap (λ (x : mach_reply.Reply). mach_reported.reply_reported x used) same.0 ∙ ap (mach_reported.reply_reported j) same.1
+      ∙ reported') ∙ is'
 
   mach_one_reply : IsOneReply o (RepliesOver back.Mach b op o) (ReplyStopsOver back.Mach b op o)
   mach_one_reply = record {
-    within = λ t (r, (h, used, starts, told), is). rw (← is, ← told) starts.0;
-    not_both = λ t e (r, (h, used, starts, told), is) stops. mach_lawful.not_both way o h used e starts stops;
+    within = λ t (r, (h, used, starts, reported), is). rw (← is, ← reported) starts.0;
+    not_both = λ t e (r, (h, used, starts, reported), is) stops. mach_lawful.not_both way o h used e starts stops;
     one_head = mach_one;
     one_fault = mach_lawful.one_fault way o;
   }
 
   mach_found : ((h : mach_reply.Reply) × (used : ℕ) × mach.BeginsWith way o h used) ⊎ ((e : HeadErr) × mach.StopsWith way o e)
       → HasReply (RepliesOver back.Mach b op o) (ReplyStopsOver back.Mach b op o)
-  mach_found (inl (h, used, starts)) = inl (_, (mach_told.reply_told h used, (h, used, starts, refl), refl))
+  mach_found (inl (h, used, starts)) = inl (_, (mach_reported.reply_reported h used, (h, used, starts, refl), refl))
   mach_found (inr (e, stops)) = inr (e, stops)
 
   one_reply_over : (k : Back) → IsOneReply o (RepliesOver k b op o) (ReplyStopsOver k b op o)
@@ -136,7 +138,7 @@ module _ (b : Binding) (op : ℕ) (o : List ℕ) where
 -- ---- what is read of a head is what it says
 
 -- what the status of a GIOP reply tells
-fate_same : (ids : List (List ℕ)) (s : Status) (f : giop_reply.Fate) → Some f ≡ giop_told.fate_seen s → giop_fate ids f ≡ fate_of ids s
+fate_same : (ids : List (List ℕ)) (s : Status) (f : giop_reply.Fate) → Some f ≡ giop_reported.fate_seen s → giop_fate ids f ≡ fate_of ids s
 fate_same ids status.Answer f e =
     let same : f ≡ giop_reply.answer = cc in
     ap (giop_fate ids) same
@@ -158,16 +160,18 @@ fate_same ids (status.RetCode code) f e = absurd cc
 abbrev hearing : Head → Fate → Encoding → ℕ → Heard
 hearing h f e used = record { head = h; fate = f; encoding = e; used = used }
 
-heard_same : (ids : List (List ℕ)) (y : giop_reply.Reply) (used : ℕ) (r : ReplyHead) → giop_told.reply_told y used ≡ giop_told.reply_seen r
-    → hearing (giop_told.shared_head y.id true y.order) (giop_fate ids y.fate) (laid y.order) used
+heard_same : (ids : List (List ℕ)) (y : giop_reply.Reply) (used : ℕ) (r : ReplyHead)
+    → giop_reported.reply_reported y used ≡ giop_reported.reply_seen r
+    → hearing (giop_reported.shared_head y.id true y.order) (giop_fate ids y.fate) (laid y.order) used
     ≡ hearing r.head (fate_of ids r.status) (laid r.head.order) r.used
 heard_same ids y used r e =
-    let heads : giop_told.shared_head y.id true y.order ≡ r.head = ap (λ (x : giop_told.ToldReply). x.head) e in
-    let fates : giop_fate ids y.fate ≡ fate_of ids r.status = fate_same ids r.status y.fate (ap (λ (x : giop_told.ToldReply). x.fate) e) in
+    let heads : giop_reported.shared_head y.id true y.order ≡ r.head = ap (λ (x : giop_reported.ReportedReply). x.head) e in
+    let fates : giop_fate ids y.fate ≡ fate_of ids r.status =
+    fate_same ids r.status y.fate (ap (λ (x : giop_reported.ReportedReply). x.fate) e) in
     ap (λ (h : Head). hearing h (giop_fate ids y.fate) (laid y.order) used) heads
     ∙ ap (λ (f : Fate). hearing r.head f (laid y.order) used) fates
     ∙ ap (λ (h : Head). hearing r.head (fate_of ids r.status) (laid h.order) used) heads
-    ∙ ap (hearing r.head (fate_of ids r.status) (laid r.head.order)) (ap (λ (x : giop_told.ToldReply). x.used) e)
+    ∙ ap (hearing r.head (fate_of ids r.status) (laid r.head.order)) (ap (λ (x : giop_reported.ReportedReply). x.used) e)
 
 -- one of the two back ends over CDR
 pub either_cdr : (k : Back) → (k ≡ back.CdrBig) ⊎ (k ≡ back.CdrLittle) → IsCdr k
@@ -181,7 +185,7 @@ module _ (b : Binding) (op : ℕ) (o : List ℕ) where
   stops_over : (k : Back) (e : HeadErr) → b.back ≡ k → ReplyStopsOver k b op o e → ReplyStops b op o e
   stops_over k e is h = subst (λ (m : Back). ReplyStopsOver m b op o e) (sym is) h
 
-  pub xdr_read : (x : Result ReplyHead HeadErr) → b.back ≡ back.Xdr → ((r : ReplyHead) → (x ≡ Ok r) ↔ xdr_told.BeginsReply o r)
+  pub xdr_read : (x : Result ReplyHead HeadErr) → b.back ≡ back.Xdr → ((r : ReplyHead) → (x ≡ Ok r) ↔ xdr_reported.BeginsReply o r)
       → IfOk x (λ r. BeginsReply b op o (heard b op r))
   xdr_read (Ok r) is h = over back.Xdr r is (r, (h r).0 refl, refl)
   xdr_read (Err e) is h = tt
@@ -191,17 +195,17 @@ module _ (b : Binding) (op : ℕ) (o : List ℕ) where
   xdr_faults (Ok r) is h = tt
   xdr_faults (Err e) is h = stops_over back.Xdr e is ((h e).0 refl)
 
-  giop_told_as : (k : Back) → IsCdr k → (r : ReplyHead) → giop_told.BeginsReply o (giop_told.reply_seen r)
+  giop_reported_as : (k : Back) → IsCdr k → (r : ReplyHead) → giop_reported.BeginsReply o (giop_reported.reply_seen r)
       → RepliesOver k b op o (heard_over k b op r)
-  giop_told_as back.CdrBig cdr r (y, used, starts, told) = (y, used, starts, heard_same (target_of b op).ids y used r told)
-  giop_told_as back.CdrLittle cdr r (y, used, starts, told) = (y, used, starts, heard_same (target_of b op).ids y used r told)
-  giop_told_as back.Xdr cdr r begins = absurd cc
-  giop_told_as back.Mach cdr r begins = absurd cc
+  giop_reported_as back.CdrBig cdr r (y, used, starts, reported) = (y, used, starts, heard_same (target_of b op).ids y used r reported)
+  giop_reported_as back.CdrLittle cdr r (y, used, starts, reported) = (y, used, starts, heard_same (target_of b op).ids y used r reported)
+  giop_reported_as back.Xdr cdr r begins = absurd cc
+  giop_reported_as back.Mach cdr r begins = absurd cc
 
   pub giop_read : (x : Result ReplyHead HeadErr) → IsCdr b.back
-      → ((r : giop_told.ToldReply) → giop_told.Tells giop_told.reply_seen x r ↔ giop_told.BeginsReply o r)
+      → ((r : giop_reported.ReportedReply) → giop_reported.Tells giop_reported.reply_seen x r ↔ giop_reported.BeginsReply o r)
       → IfOk x (λ r. BeginsReply b op o (heard b op r))
-  giop_read (Ok r) cdr h = giop_told_as b.back cdr r ((h (giop_told.reply_seen r)).0 refl)
+  giop_read (Ok r) cdr h = giop_reported_as b.back cdr r ((h (giop_reported.reply_seen r)).0 refl)
   giop_read (Err e) cdr h = tt
 
   giop_stop : (k : Back) → IsCdr k → (e : HeadErr) → giop.StopsWith Replies o e → ReplyStopsOver k b op o e
@@ -216,9 +220,9 @@ module _ (b : Binding) (op : ℕ) (o : List ℕ) where
   giop_faults (Err e) cdr h = giop_stop b.back cdr e ((h e).0 refl)
 
   pub mach_read : (x : Result ReplyHead HeadErr) (id : ℕ) → b.back ≡ back.Mach → id ≡ reply_id b op
-      → ((r : ReplyHead) → (x ≡ Ok r) ↔ mach_told.BeginsReply id o r)
+      → ((r : ReplyHead) → (x ≡ Ok r) ↔ mach_reported.BeginsReply id o r)
       → IfOk x (λ r. BeginsReply b op o (heard b op r))
-  mach_read (Ok r) id is own h = over back.Mach r is (r, subst (λ (n : ℕ). mach_told.BeginsReply n o r) own ((h r).0 refl), refl)
+  mach_read (Ok r) id is own h = over back.Mach r is (r, subst (λ (n : ℕ). mach_reported.BeginsReply n o r) own ((h r).0 refl), refl)
   mach_read (Err e) id is own h = tt
 
   pub mach_faults : (x : Result ReplyHead HeadErr) (id : ℕ) → b.back ≡ back.Mach → id ≡ reply_id b op

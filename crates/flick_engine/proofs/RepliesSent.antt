@@ -12,7 +12,7 @@ use Rattle.wire_def.specs.Grammar.{Parts}
 use Rattle.pres.specs.Bindings.{Binding}
 use Rattle.back_xdr.specs.Leads.{answer_lead}
 use Rattle.back_xdr.specs.Reply as onc
-use Rattle.back_xdr.specs.Told as onc_told
+use Rattle.back_xdr.specs.Reported as onc_reported
 use Rattle.back_xdr.specs.Auth.{AuthSpells}
 use Rattle.back_xdr.specs.Words.{WordSpells, IsWord, word}
 use Rattle.giop_head.specs.declared.header.Way.TheVariants.{Replies}
@@ -48,7 +48,7 @@ pub record IsReplyReceived (k : Back) (b : Binding) (op arm : ℕ) (head : Head)
 abbrev bare_answer : ℕ → onc.Reply
 bare_answer id = record { xid = id; fate = onc.accepted (record { flavour = 0; body = [] }) Answer }
 
-pub onc_answers : (id : ℕ) (o : List ℕ) → IsWord id → onc_told.BeginsReply (answer_lead id ++ o) (answer_of id)
+pub onc_answers : (id : ℕ) (o : List ℕ) → IsWord id → onc_reported.BeginsReply (answer_lead id ++ o) (answer_of id)
 unfolding WordSpells AuthSpells
 onc_answers id o fits =
     let first : take 24 (answer_lead id ++ o) ≡ answer_lead id = take_at (answer_lead id) o 24 refl in

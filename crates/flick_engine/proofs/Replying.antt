@@ -16,7 +16,7 @@ use Rattle.pres.specs.Bindings.{Binding}
 use Rattle.giop_head.specs.Printed.{header_octets}
 use Rattle.back_mach.specs.declared.call.MachCall.{MachCall}
 use Rattle.back_mach.specs.Refusals as mach
-use Rattle.back_mach.specs.Told.{BeginsCall}
+use Rattle.back_mach.specs.Reported.{BeginsCall}
 use Rattle.flick_engine.specs.declared.errors.MessageErr.{MessageErr}
 use Rattle.flick_engine.specs.declared.errors.MessageErr.TheVariants as err
 use Rattle.flick_engine.specs.declared.requests.Request.{Request}
@@ -107,8 +107,8 @@ module _ (r : Order) (o : List ℕ) (e : HeadErr) (t : Bool) (is : t ≡ is_pass
   pub passed_over : t ≡ true → None ≡ giop_answer r o e
   passed_over shown = subst (λ (z : Bool). None ≡ (if z then None else Some (header_octets r 6))) (sym (sym is ∙ shown)) refl
 
-  pub told_wrong : (d : List ℕ) → t ≡ false → d ≡ header_octets r 6 → Some d ≡ giop_answer r o e
-  told_wrong d shown same =
+  pub reported_wrong : (d : List ℕ) → t ≡ false → d ≡ header_octets r 6 → Some d ≡ giop_answer r o e
+  reported_wrong d shown same =
       subst
       (λ (z : Bool). Some d ≡ (if z then None else Some (header_octets r 6))) (sym (sym is ∙ shown)) (ap (λ (x : List ℕ). Some x) same)
 

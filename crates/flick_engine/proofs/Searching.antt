@@ -12,17 +12,17 @@ use Rattle.wire_def.specs.declared.head.Order.TheVariants.{Big, Little}
 use Rattle.call_kit.specs.declared.called.Called.{Called}
 use Rattle.pres.specs.Bindings.{Binding}
 use Rattle.back_xdr.specs.declared.call.OncCall.{OncCall}
-use Rattle.back_xdr.specs.Told as onc
+use Rattle.back_xdr.specs.Reported as onc
 use Rattle.giop_head.specs.declared.header.Heading.{Heading}
 use Rattle.giop_head.specs.declared.header.Way.TheVariants.{Asks, Requests}
 use Rattle.giop_head.specs.Call.{request, search_for}
 use Rattle.giop_head.specs.Header.{has_magic, has_version, has_order, expected, size_in, header_of, judged}
 use Rattle.giop_head.specs.Heads.{StopsWith}
 use Rattle.giop_head.specs.Printed.{header_octets, then_long}
-use Rattle.giop_head.specs.Told.{ToldRequest, requested, request_told, BeginsCall, BeginsRequest}
+use Rattle.giop_head.specs.Reported.{ReportedRequest, requested, request_reported, BeginsCall, BeginsRequest}
 use Rattle.giop_head.proofs.Lawful.{not_both}
 use Rattle.back_mach.specs.declared.call.MachCall.{MachCall}
-use Rattle.back_mach.specs.Told as mach
+use Rattle.back_mach.specs.Reported as mach
 use Rattle.flick_engine.specs.Backs.{Begins, BeginsOver}
 
 -- a result is not both
@@ -34,13 +34,13 @@ ok_or_err r x e good bad = cc (sym good ∙ bad)
 pub onc_call : (b : Binding) (o : List ℕ) (c : Called) (r : Result OncCall HeadErr) → b.back ≡ back.Xdr → Begins b o c
     → ((call : OncCall) → (r ≡ Ok call) ↔ onc.BeginsCall o call) → (call : OncCall) × (r ≡ Ok call)
 onc_call b o c r is begins spells =
-    let (call, starts, told) = subst (λ (k : Back). BeginsOver k b o c) is begins in
+    let (call, starts, reported) = subst (λ (k : Back). BeginsOver k b o c) is begins in
     (call, (spells call).1 starts)
 
 pub mach_call : (b : Binding) (o : List ℕ) (c : Called) (r : Result MachCall HeadErr) → b.back ≡ back.Mach → Begins b o c
     → ((call : MachCall) → (r ≡ Ok call) ↔ mach.BeginsCall o call) → (call : MachCall) × (r ≡ Ok call)
 mach_call b o c r is begins spells =
-    let (call, starts, told) = subst (λ (k : Back). BeginsOver k b o c) is begins in
+    let (call, starts, reported) = subst (λ (k : Back). BeginsOver k b o c) is begins in
     (call, (spells call).1 starts)
 
 -- ---- a message that is not a request is not one among those that ask either
@@ -70,9 +70,9 @@ of_request n a h zero e =
     rw (magic.0, version.0, order.0, wanted, size.0) size.1
 
 request_begins : (o : List ℕ) (head : Head) (key name : List ℕ) (used : ℕ) → BeginsCall o (requested head key name used)
-    → (t : ToldRequest) × BeginsRequest o t
-request_begins o head key name used (request r q, n, (there, (a, b, is, header, fields)), told) = (
-  request_told (record { order = r; request = q }) n,
+    → (t : ReportedRequest) × BeginsRequest o t
+request_begins o head key name used (request r q, n, (there, (a, b, is, header, fields)), reported) = (
+  request_reported (record { order = r; request = q }) n,
   (
     record { order = r; request = q },
     n,
@@ -80,12 +80,12 @@ request_begins o head key name used (request r q, n, (there, (a, b, is, header, 
     refl,
   ),
 )
-request_begins o head key name used (search_for r s, n, begins, told) = absurd (cc told)
+request_begins o head key name used (search_for r s, n, begins, reported) = absurd (cc reported)
 
 pub not_a_request : (o : List ℕ) (e : HeadErr) (head : Head) (key name : List ℕ) (used : ℕ) → StopsWith Requests o e
     → BeginsCall o (requested head key name used) → ⊥
 not_a_request o e head key name used stops begins =
-    let (t, (x, n, starts, told)) = request_begins o head key name used begins in
+    let (t, (x, n, starts, reported)) = request_begins o head key name used begins in
     not_both Requests o x n e starts stops
 
 -- ---- the answer to a search

@@ -18,17 +18,17 @@ use Rattle.pres.specs.Bindings.{Binding}
 use Rattle.back_xdr.specs.declared.call.OncCall.{OncCall}
 use Rattle.back_xdr.specs.Call.{Call as OncHead}
 use Rattle.back_xdr.specs.Heads as onc_heads
-use Rattle.back_xdr.specs.Told as onc
+use Rattle.back_xdr.specs.Reported as onc
 use Rattle.back_xdr.proofs.Lawful as onc_lawful
 use Rattle.giop_head.specs.declared.header.Way.TheVariants.{Asks, Requests}
 use Rattle.giop_head.specs.Call.{Call, request, search_for}
 use Rattle.giop_head.specs.Heads.{BeginsWith, StopsWith}
-use Rattle.giop_head.specs.Told.{ToldCall, sought, call_told, BeginsCall}
+use Rattle.giop_head.specs.Reported.{ReportedCall, sought, call_reported, BeginsCall}
 use Rattle.giop_head.proofs.Lawful as giop_lawful
 use Rattle.back_mach.specs.declared.call.MachCall.{MachCall}
 use Rattle.back_mach.specs.declared.header.MachHeader.{MachHeader}
 use Rattle.back_mach.specs.Heads as mach_heads
-use Rattle.back_mach.specs.Told as mach
+use Rattle.back_mach.specs.Reported as mach
 use Rattle.back_mach.proofs.Lawful as mach_lawful
 use Rattle.flick_engine.specs.declared.errors.MessageErr.{MessageErr}
 use Rattle.flick_engine.specs.declared.errors.MessageErr.TheVariants as err
@@ -47,19 +47,19 @@ use Rattle.flick_engine.proofs.Searching.{not_a_request}
 -- ---- one head
 
 one_onc : (o : List ℕ) (c d : OncCall) → onc.BeginsCall o c → onc.BeginsCall o d → c ≡ d
-one_onc o c d (h, used, begins, told) (j, m, begins', told') =
+one_onc o c d (h, used, begins, reported) (j, m, begins', reported') =
     let same = onc_lawful.one_head onc_heads.call o h j used m begins begins' in
-    sym told ∙ ap (λ (x : OncHead). onc.call_told x used) same.0 ∙ ap (onc.call_told j) same.1 ∙ told'
+    sym reported ∙ ap (λ (x : OncHead). onc.call_reported x used) same.0 ∙ ap (onc.call_reported j) same.1 ∙ reported'
 
 one_mach : (o : List ℕ) (c d : MachCall) → mach.BeginsCall o c → mach.BeginsCall o d → c ≡ d
-one_mach o c d (h, used, begins, told) (j, m, begins', told') =
+one_mach o c d (h, used, begins, reported) (j, m, begins', reported') =
     let same = mach_lawful.one_head mach_heads.call o h j used m begins begins' in
-    sym told ∙ ap (λ (x : MachHeader). mach.call_told x used) same.0 ∙ ap (mach.call_told j) same.1 ∙ told'
+    sym reported ∙ ap (λ (x : MachHeader). mach.call_reported x used) same.0 ∙ ap (mach.call_reported j) same.1 ∙ reported'
 
-one_giop : (o : List ℕ) (c d : ToldCall) → BeginsCall o c → BeginsCall o d → c ≡ d
-one_giop o c d (h, used, begins, told) (j, m, begins', told') =
+one_giop : (o : List ℕ) (c d : ReportedCall) → BeginsCall o c → BeginsCall o d → c ≡ d
+one_giop o c d (h, used, begins, reported) (j, m, begins', reported') =
     let same = giop_lawful.one_head Asks o h j used m begins begins' in
-    sym told ∙ ap (λ (x : Call). call_told x used) same.0 ∙ ap (call_told j) same.1 ∙ told'
+    sym reported ∙ ap (λ (x : Call). call_reported x used) same.0 ∙ ap (call_reported j) same.1 ∙ reported'
 
 same_search : (id m : ℕ) (key s : List ℕ) → sought id key ≡ sought m s → (id ≡ m) × (key ≡ s)
 same_search id m key s e = (cc e, cc e)
@@ -74,9 +74,9 @@ module _ (r : Order) (b : Binding) (o : List ℕ) where
   one_other x y (inl (id, key, begins, is)) (inl (m, s, begins', is')) =
       let same = same_search id m key s (one_giop o (sought id key) (sought m s) begins begins') in
       is ∙ ap (λ (n : ℕ). located n key) same.0 ∙ ap (located m) same.1 ∙ sym is'
-  one_other x y (inl (id, key, (h, used, begins, told), is)) (inr (e, stops, is')) =
+  one_other x y (inl (id, key, (h, used, begins, reported), is)) (inr (e, stops, is')) =
       absurd (giop_lawful.not_both Asks o h used e begins stops)
-  one_other x y (inr (e, stops, is)) (inl (id, key, (h, used, begins, told), is')) =
+  one_other x y (inr (e, stops, is)) (inl (id, key, (h, used, begins, reported), is')) =
       absurd (giop_lawful.not_both Asks o h used e begins stops)
   one_other x y (inr (e, stops, is)) (inr (d, stops', is')) = is ∙ ap (giop_answer r o) (giop_lawful.one_fault Asks o e d stops stops')
       ∙ sym is'
@@ -182,7 +182,7 @@ fault_somehow back.CdrLittle b o oct e stops = asked_somehow Little b o (giop_la
 fault_somehow back.Mach b o oct e stops = (_, refl)
 
 reason_over : (k : Back) (b : Binding) (o : List ℕ) (c : Called) → BeginsOver k b o c → (w : Refusal) × NoInterfaceOver k b o w
-reason_over back.Xdr b o c (call, begins, told) = (_, (call, begins, refl))
+reason_over back.Xdr b o c (call, begins, reported) = (_, (call, begins, refl))
 reason_over back.CdrBig b o c begins = (_, refl)
 reason_over back.CdrLittle b o c begins = (_, refl)
 reason_over back.Mach b o c begins = (_, refl)
@@ -192,7 +192,7 @@ refusal_over : (k : Back) (b : Binding) (o : List ℕ) (c : Called) → BeginsOv
 refusal_over back.Xdr b o c begins head w = (_, refl)
 refusal_over back.CdrBig b o c begins head w = (_, refl)
 refusal_over back.CdrLittle b o c begins head w = (_, refl)
-refusal_over back.Mach b o c (call, begins, told) head w = (_, (call, begins, refl))
+refusal_over back.Mach b o c (call, begins, reported) head w = (_, (call, begins, refl))
 
 module _ (b : Binding) (work : ℕ → Val → Val) (o : List ℕ) (c : Called) (begins : Begins b o c) where
   reason : (e : MessageErr) → (w : Refusal) × IsRefused b o e w

@@ -19,8 +19,8 @@ use Rattle.back_xdr.specs.Laws.{AreWords, call_of, called_by}
 use Rattle.back_xdr.specs.Leads as xdr_leads
 use Rattle.back_xdr.specs.Procedures.{procedure_of}
 use Rattle.back_xdr.specs.Seeking as xdr_seeking
-use Rattle.back_xdr.specs.Told as xdr_told
-use Rattle.back_xdr.specs.Told.{BeginsCall}
+use Rattle.back_xdr.specs.Reported as xdr_reported
+use Rattle.back_xdr.specs.Reported.{BeginsCall}
 use Rattle.back_xdr.specs.Words.{IsWord}
 use Rattle.giop_head.specs.declared.header.Way.TheVariants.{Requests, Replies}
 use Rattle.giop_head.specs.Call.{Request}
@@ -28,7 +28,7 @@ use Rattle.giop_head.specs.Heads as giop
 use Rattle.giop_head.specs.Items.{laid}
 use Rattle.giop_head.specs.Laws.{IsLong, IsFate, IsRequest}
 use Rattle.giop_head.specs.Reply as giop_reply
-use Rattle.giop_head.specs.Told.{ToldRequest, BeginsRequest, shared_head}
+use Rattle.giop_head.specs.Reported.{ReportedRequest, BeginsRequest, shared_head}
 use Rattle.back_cdr.specs.Leads as cdr_leads
 use Rattle.back_cdr.specs.Seeking as cdr_seeking
 use Rattle.back_cdr.specs.Targets.{Target, target_of}
@@ -39,7 +39,7 @@ use Rattle.back_mach.specs.Laws.{HasPorts}
 use Rattle.back_mach.specs.Leads as mach_leads
 use Rattle.back_mach.specs.Routines.{routine_in, routine_of}
 use Rattle.back_mach.specs.Seeking as mach_seeking
-use Rattle.back_mach.specs.Told as mach_told
+use Rattle.back_mach.specs.Reported as mach_reported
 pub use Rattle.op_codes.specs.Backs.{encoding, lead_over, lead, reply_lead_over, reply_lead, sized, BeginsOver, Begins}
 use Rattle.flick_engine.specs.Fates.{Heard, fate_of, giop_fate}
 
@@ -70,7 +70,7 @@ Stops back.Mach o e = mach.StopsWith mach.call o e
 -- a message, in either order, begins with the head of a request with this key, which is the interface's name, and the
 -- name of this operation
 abbrev pub AsksByName : PlainInterface → PlainOperation → List ℕ → Type 0
-AsksByName i p o = (t : ToldRequest) × BeginsRequest o t × (i.name ≡ t.key) × (p.name ≡ t.name)
+AsksByName i p o = (t : ReportedRequest) × BeginsRequest o t × (i.name ≡ t.key) × (p.name ≡ t.name)
 
 -- a message begins with the head of a call that asks for this operation of this interface
 abbrev pub AsksFor : Back → PlainInterface → PlainOperation → List ℕ → Type 0
@@ -78,7 +78,7 @@ AsksFor back.Xdr i p o = (c : OncCall) × BeginsCall o c
     × (called_by c ≡ record { program = i.program; version = i.version; number = p.proc_no })
 AsksFor back.CdrBig i p o = AsksByName i p o
 AsksFor back.CdrLittle i p o = AsksByName i p o
-AsksFor back.Mach i p o = (c : MachCall) × mach_told.BeginsCall o c × ((routine_in i p).id ≡ c.id)
+AsksFor back.Mach i p o = (c : MachCall) × mach_reported.BeginsCall o c × ((routine_in i p).id ≡ c.id)
 
 -- ---- the heads that are sent, as they are received
 
@@ -87,12 +87,13 @@ abbrev pub request_of : Target → ℕ → Request
 request_of t id = record { id = id; wants = t.wants; key = t.key; name = t.name }
 
 -- what is reported of its head in this order
-abbrev pub told_of : Order → Target → ℕ → ToldRequest
-told_of r t id = record { head = shared_head id t.wants r; key = t.key; name = t.name; used = length (cdr_leads.lead r t id) }
+abbrev pub reported_of : Order → Target → ℕ → ReportedRequest
+reported_of r t id = record { head = shared_head id t.wants r; key = t.key; name = t.name; used = length (cdr_leads.lead r t id) }
 
 -- the head of a request in this order says this
 abbrev pub SaysByName : Order → Binding → ℕ → Head → Called → Type 0
-SaysByName r b op head c = IsRequest (request_of (target_of b op) head.id) × (cdr_seeking.called b (told_of r (target_of b op) head.id) ≡ c)
+SaysByName r b op head c = IsRequest (request_of (target_of b op) head.id)
+    × (cdr_seeking.called b (reported_of r (target_of b op) head.id) ≡ c)
 
 -- the head of an operation's call over a back end, whose numbers fit, says this
 abbrev pub SaysOver : Back → Binding → ℕ → Head → Called → Type 0
@@ -146,10 +147,10 @@ RepliesInOrder b op o t = (r : giop_reply.Reply) × (used : ℕ) × giop.BeginsW
 
 -- a message begins with the head of a reply to an operation over a back end that says this
 abbrev pub RepliesOver : Back → Binding → ℕ → List ℕ → Heard → Type 0
-RepliesOver back.Xdr b op o t = (r : ReplyHead) × xdr_told.BeginsReply o r × (heard_over back.Xdr b op r ≡ t)
+RepliesOver back.Xdr b op o t = (r : ReplyHead) × xdr_reported.BeginsReply o r × (heard_over back.Xdr b op r ≡ t)
 RepliesOver back.CdrBig b op o t = RepliesInOrder b op o t
 RepliesOver back.CdrLittle b op o t = RepliesInOrder b op o t
-RepliesOver back.Mach b op o t = (r : ReplyHead) × mach_told.BeginsReply (reply_id b op) o r × (heard_over back.Mach b op r ≡ t)
+RepliesOver back.Mach b op o t = (r : ReplyHead) × mach_reported.BeginsReply (reply_id b op) o r × (heard_over back.Mach b op r ≡ t)
 
 -- a message begins with the head of a reply to an operation that says this
 abbrev pub BeginsReply : Binding → ℕ → List ℕ → Heard → Type 0
@@ -170,7 +171,7 @@ ReplyStops b op o e = ReplyStopsOver b.back b op o e
 
 -- what the head of an ONC reply that answers a call is received as
 abbrev pub answer_of : ℕ → ReplyHead
-answer_of id = record { head = xdr_told.shared_head id; status = Answer; used = xdr_leads.answer_lead_length }
+answer_of id = record { head = xdr_reported.shared_head id; status = Answer; used = xdr_leads.answer_lead_length }
 
 -- how a request fared that is answered, or for which an exception of its operation is raised
 abbrev pub giop_fate_of : Target → ℕ → giop_reply.Fate

@@ -16,16 +16,16 @@ use Rattle.aoi.specs.Plain.{PlainInterface}
 use Rattle.pres.specs.Bindings.{Binding}
 use Rattle.back_xdr.specs.declared.call.OncCall.{OncCall}
 use Rattle.back_xdr.specs.Refusals as xdr
-use Rattle.back_xdr.specs.Told as xdr_told
+use Rattle.back_xdr.specs.Reported as xdr_reported
 use Rattle.giop_head.specs.declared.header.Way.TheVariants.{Asks}
 use Rattle.giop_head.specs.Heads.{StopsWith}
 use Rattle.giop_head.specs.Items.{flag}
 use Rattle.giop_head.specs.Printed as giop
-use Rattle.giop_head.specs.Told.{sought, BeginsCall}
+use Rattle.giop_head.specs.Reported.{sought, BeginsCall}
 use Rattle.back_cdr.specs.Targets.{order_of}
 use Rattle.back_mach.specs.declared.call.MachCall.{MachCall}
 use Rattle.back_mach.specs.Refusals as mach
-use Rattle.back_mach.specs.Told as mach_told
+use Rattle.back_mach.specs.Reported as mach_reported
 
 -- ---- replies
 
@@ -90,7 +90,7 @@ no_version (Some (low, high)) = ProgMismatch low high
 -- why a message that names no interface is refused
 abbrev pub NoInterfaceOver : Back → Binding → List ℕ → Refusal → Type 0
 NoInterfaceOver back.Xdr b o why =
-    (c : OncCall) × xdr_told.BeginsCall o c × (why ≡ no_version (range (versions c.program b.unit.interfaces)))
+    (c : OncCall) × xdr_reported.BeginsCall o c × (why ≡ no_version (range (versions c.program b.unit.interfaces)))
 NoInterfaceOver back.CdrBig b o why = why ≡ no_object
 NoInterfaceOver back.CdrLittle b o why = why ≡ no_object
 NoInterfaceOver back.Mach b o why = why ≡ bad_id
@@ -130,7 +130,7 @@ abbrev pub RefusesOver : Back → List ℕ → Head → Refusal → Option (List
 RefusesOver back.Xdr o head why x = xdr.refusal_octets head.id why ≡ x
 RefusesOver back.CdrBig o head why x = giop.refusal_octets head.order head.id why ≡ x
 RefusesOver back.CdrLittle o head why x = giop.refusal_octets head.order head.id why ≡ x
-RefusesOver back.Mach o head why x = (c : MachCall) × mach_told.BeginsCall o c × (mach.refusal_octets c.id head.remote why ≡ x)
+RefusesOver back.Mach o head why x = (c : MachCall) × mach_reported.BeginsCall o c × (mach.refusal_octets c.id head.remote why ≡ x)
 
 -- ---- what a message is answered whose head is not one of a call
 

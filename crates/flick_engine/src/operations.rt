@@ -42,7 +42,7 @@ impl Engine {
     pub(crate) fn replies_tell_arms(&self, op: u32)
         requires op { op < length self.now.binding.ops }
         ensures choice { IsChoice (reply_type self.now.binding op) }
-        ensures told { (o : List ℕ) (t : Heard) (k : ℕ) → BeginsReply self.now.binding op o t
+        ensures reported { (o : List ℕ) (t : Heard) (k : ℕ) → BeginsReply self.now.binding op o t
             → t.fate ≡ fates.Arm k → HasArm self.now.binding op k }
     {
         let _ops = self.bound().ops();

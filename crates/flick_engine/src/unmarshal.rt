@@ -103,7 +103,7 @@ impl Engine {
         let stubs = self.stubs();
         let _stub = stubs.stub(op);
         let read = stubs.read(alloc, op, called.encoding, message, view)?;
-        self.told_by_body(op, called, message, read)
+        self.reported_by_body(op, called, message, read)
     }
 
     /// Reads the request of a message that calls this operation, in a view of its own.
@@ -125,7 +125,7 @@ impl Engine {
     }
 
     /// The request of a message whose body was read so. It takes no memory.
-    fn told_by_body(
+    fn reported_by_body(
         &self,
         op: u32,
         called: &Called,

@@ -40,7 +40,7 @@ impl Engine {
         let reply = self.begin_reply(op, message)?;
         match self.fate(alloc, op, reply.status)? {
             Fate::Arm(arm) => self.read_answer(alloc, op, arm, &reply, message),
-            Fate::Refused(why) => self.told_by_refusal(op, why, &reply, message),
+            Fate::Refused(why) => self.reported_by_refusal(op, why, &reply, message),
         }
     }
 
@@ -82,7 +82,7 @@ impl Engine {
         mint.types_are_sound();
         let id = arm_node(self.bound(), op, arm);
         let read = plain_read(alloc, encoding, mint, id, reply.used, message)?;
-        let value = self.told_by_answer(op, arm, reply, message, read)?;
+        let value = self.reported_by_answer(op, arm, reply, message, read)?;
         let value = Value::arm(alloc, i128::from(arm), value)?;
         Ok(Reply {
             head: reply.head,
@@ -91,7 +91,7 @@ impl Engine {
     }
 
     /// The value of an arm by the body that was read after the head of a reply. It takes no memory.
-    fn told_by_answer(
+    fn reported_by_answer(
         &self,
         op: u32,
         arm: u32,
@@ -136,7 +136,7 @@ impl Engine {
     }
 
     /// A reply that refuses. It takes no memory.
-    fn told_by_refusal(
+    fn reported_by_refusal(
         &self,
         op: u32,
         why: Refusal,

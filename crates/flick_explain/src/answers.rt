@@ -116,8 +116,8 @@ fn say_one<S: Source, K: Sink>(
 ) -> Result<bool, Ended> {
     match lines.next(input) {
         Ok(line) => {
-            let told = known.line(alloc, &line, inputs)?;
-            write(output, told.as_bytes())?;
+            let reported = known.line(alloc, &line, inputs)?;
+            write(output, reported.as_bytes())?;
             Ok(!line.is_end())
         }
         Err(error) => Err(ended_by(error)),

@@ -13,7 +13,11 @@ use kit_base::{NoMemory, Octets};
 use std::alloc::Global;
 
 /// What is said of `? bind WORD`.
-pub fn bind_told(alloc: Global, file: &File<'_>, word: &[u8]) -> Result<Option<String>, NoMemory> {
+pub fn bind_reported(
+    alloc: Global,
+    file: &File<'_>,
+    word: &[u8],
+) -> Result<Option<String>, NoMemory> {
     let Some(cause) = bind_cause(word) else {
         return Ok(None);
     };

@@ -36,7 +36,7 @@ struct Inner {
 }
 
 /// The part of the arguments at which a message goes wrong.
-pub fn part_told(alloc: Global, bound: &Bound, message: &[u8]) -> Result<String, NoMemory> {
+pub fn part_reported(alloc: Global, bound: &Bound, message: &[u8]) -> Result<String, NoMemory> {
     let Some(called) = called_by(bound, message) else {
         return text_of(alloc, "args");
     };

@@ -116,7 +116,7 @@ fn onc_tree(
     requires { OncIsWhole tree.now }
 {
     match front_onc::resolve(alloc, tree) {
-        Ok(unit) => told(bind(alloc, unit, back)),
+        Ok(unit) => reported(bind(alloc, unit, back)),
         Err(error) => unresolved(error),
     }
 }
@@ -130,7 +130,7 @@ fn corba_tree(
     requires { CorbaIsWhole tree.now }
 {
     match front_corba::resolve(alloc, tree) {
-        Ok(unit) => told(bind(alloc, unit, back)),
+        Ok(unit) => reported(bind(alloc, unit, back)),
         Err(error) => unresolved(error),
     }
 }
@@ -142,13 +142,13 @@ fn mig_tree(
     tree: &mig_syntax::Tree,
 ) -> Result<Result<Bound, Reached>, NoMemory> {
     match front_mig::resolve(alloc, tree) {
-        Ok(unit) => told(bind(alloc, unit, back)),
+        Ok(unit) => reported(bind(alloc, unit, back)),
         Err(error) => unresolved(error),
     }
 }
 
 /// What a binding comes to.
-fn told(bound: Result<Bound, BindErr>) -> Result<Result<Bound, Reached>, NoMemory> {
+fn reported(bound: Result<Bound, BindErr>) -> Result<Result<Bound, Reached>, NoMemory> {
     match bound {
         Ok(bound) => Ok(Ok(bound)),
         Err(BindErr::NoMemory) => Err(NoMemory),

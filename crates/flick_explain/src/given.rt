@@ -6,8 +6,8 @@ use crate::given_causes::{
 };
 use crate::inputs::Inputs;
 use crate::lexing::put_cause;
-use crate::records::{head_key, json_of, json_told, op_of};
-use crate::reply_records::{keys_told, reply_misfit, replying_told};
+use crate::records::{head_key, json_of, json_reported, op_of};
+use crate::reply_records::{keys_reported, reply_misfit, replying_reported};
 use crate::text::{number_in, shown, text_of};
 use json_shape::{RecordErr, RequestRec, read_reply};
 use kit_base::limits::LONGEST_MESSAGE;
@@ -47,19 +47,19 @@ struct Lined<'a> {
 /// Why a line gives no reply: what it has, and what that means.
 #[derive(Drop)]
 struct Wrong {
-    told: String,
+    reported: String,
     cause: Cause,
 }
 
 /// What is said of `? replies WORD`.
-pub fn replies_told(
+pub fn replies_reported(
     alloc: Global,
     given: &Given<'_>,
     word: &[u8],
 ) -> Result<Option<String>, NoMemory> {
     match word {
-        b"file" => file_told(alloc, given.path, "there is no such file"),
-        b"size" => file_told(
+        b"file" => file_reported(alloc, given.path, "there is no such file"),
+        b"size" => file_reported(
             alloc,
             given.path,
             "a file of replies has at most 8388608 octets",
@@ -71,7 +71,7 @@ pub fn replies_told(
                     text,
                     number: number as usize,
                 };
-                line_told(alloc, given.path, &lined)
+                line_reported(alloc, given.path, &lined)
             }
             _ => Ok(None),
         },
@@ -79,35 +79,39 @@ pub fn replies_told(
 }
 
 /// What is said of the file as a whole.
-fn file_told(alloc: Global, path: &[u8], what: &str) -> Result<Option<String>, NoMemory> {
+fn file_reported(alloc: Global, path: &[u8], what: &str) -> Result<Option<String>, NoMemory> {
     let path = shown(alloc, path)?;
     Ok(Some(format!(in alloc; "{path}: {what}\n")?))
 }
 
 /// What is said of a line of the file, where it gives no reply.
-fn line_told(alloc: Global, path: &[u8], lined: &Lined<'_>) -> Result<Option<String>, NoMemory> {
+fn line_reported(
+    alloc: Global,
+    path: &[u8],
+    lined: &Lined<'_>,
+) -> Result<Option<String>, NoMemory> {
     match lined.wrong(alloc)? {
-        Some(wrong) => Ok(Some(wrong_told(alloc, path, lined.number, &wrong)?)),
+        Some(wrong) => Ok(Some(wrong_reported(alloc, path, lined.number, &wrong)?)),
         None => Ok(None),
     }
 }
 
 /// The path and number of a line, what it has, and what that means.
-fn wrong_told(
+fn wrong_reported(
     alloc: Global,
     path: &[u8],
     number: usize,
     wrong: &Wrong,
 ) -> Result<String, NoMemory> {
     let path = shown(alloc, path)?;
-    let mut out = format!(in alloc; "{path}:{number}: {}\n", wrong.told)?;
+    let mut out = format!(in alloc; "{path}:{number}: {}\n", wrong.reported)?;
     put_cause(&mut out, &wrong.cause)?;
     Ok(out)
 }
 
 /// What a line has, and what that means.
-fn is_wrong(told: String, cause: Cause) -> Option<Wrong> {
-    Some(Wrong { told, cause })
+fn is_wrong(reported: String, cause: Cause) -> Option<Wrong> {
+    Some(Wrong { reported, cause })
 }
 
 impl Lined<'_> {
@@ -139,7 +143,7 @@ impl Lined<'_> {
     fn line_wrong(&self, alloc: Global, line: &[u8]) -> Result<Option<Wrong>, NoMemory> {
         match json_of(alloc, line)? {
             Some(json) => self.json_wrong(alloc, &json),
-            None => Ok(is_wrong(json_told(alloc, line)?, NO_JSON)),
+            None => Ok(is_wrong(json_reported(alloc, line)?, NO_JSON)),
         }
     }
 
@@ -147,8 +151,8 @@ impl Lined<'_> {
     fn json_wrong(&self, alloc: Global, json: &Json) -> Result<Option<Wrong>, NoMemory> {
         let key = head_key(self.bound.back());
         if json.get(key).is_some() {
-            let told = format!(in alloc; "the member '{key}' is there")?;
-            return Ok(is_wrong(told, HEAD_NUMBER));
+            let reported = format!(in alloc; "the member '{key}' is there")?;
+            return Ok(is_wrong(reported, HEAD_NUMBER));
         }
         self.record_wrong(alloc, json)
     }
@@ -172,7 +176,7 @@ impl Lined<'_> {
         match error {
             RecordErr::Op | RecordErr::Head => self.op_wrong(alloc, json),
             RecordErr::Shape => Ok(is_wrong(reply_misfit(alloc, self.bound, json)?, NO_VALUE)),
-            _ => Ok(is_wrong(keys_told(alloc, self.bound.back(), json)?, NO_RECORD)),
+            _ => Ok(is_wrong(keys_reported(alloc, self.bound.back(), json)?, NO_RECORD)),
         }
     }
 
@@ -182,15 +186,17 @@ impl Lined<'_> {
             Some(_) => NO_REPLY,
             None => NO_OPERATION,
         };
-        Ok(is_wrong(replying_told(alloc, self.bound, json)?, cause))
+        Ok(is_wrong(replying_reported(alloc, self.bound, json)?, cause))
     }
 
     /// Why a reply is not taken, if it is not.
     fn reply_wrong(&self, alloc: Global, record: &RequestRec) -> Result<Option<Wrong>, NoMemory> {
         match self.earlier(alloc, record.op)? {
             Some(line) => {
-                let told = format!(in alloc; "line {line} gives a reply to the same operation")?;
-                Ok(is_wrong(told, AGAIN))
+                let reported = format!(in alloc;
+                    "line {line} gives a reply to the same operation"
+                )?;
+                Ok(is_wrong(reported, AGAIN))
             }
             None => self.length_wrong(alloc, record),
         }
@@ -239,8 +245,8 @@ impl Lined<'_> {
         if length.saturating_add(HEAD) <= LONGEST_MESSAGE {
             return Ok(None);
         }
-        let told = text_of(alloc, "the message of the reply is too long")?;
-        Ok(is_wrong(told, LONG))
+        let reported = text_of(alloc, "the message of the reply is too long")?;
+        Ok(is_wrong(reported, LONG))
     }
 }
 

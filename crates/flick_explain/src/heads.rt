@@ -1,6 +1,6 @@
 //! `! head`, `! interface` and `! operation` of messages: the octets that they are said of.
 
-use crate::octets::octets_told;
+use crate::octets::octets_reported;
 use crate::text::shown;
 use kit_base::NoMemory;
 use pres::Bound;
@@ -79,33 +79,37 @@ fn mach_reply_octets(word: &[u8]) -> (usize, usize) {
 }
 
 /// What the head of a reply is said to have, for a word.
-pub fn reply_head_told(
+pub fn reply_head_reported(
     alloc: Global,
     back: Back,
     word: &[u8],
     message: &[u8],
 ) -> Result<String, NoMemory> {
     let (first, end) = reply_octets(back, word);
-    octets_told(alloc, message, first, end)
+    octets_reported(alloc, message, first, end)
 }
 
 /// What a head is said to have, for a word.
-pub fn head_told(
+pub fn head_reported(
     alloc: Global,
     back: Back,
     word: &[u8],
     message: &[u8],
 ) -> Result<String, NoMemory> {
     let (first, end) = head_octets(back, word);
-    octets_told(alloc, message, first, end)
+    octets_reported(alloc, message, first, end)
 }
 
 /// What a message names in place of an interface of the file.
-pub fn interface_told(alloc: Global, bound: &Bound, message: &[u8]) -> Result<String, NoMemory> {
+pub fn interface_reported(
+    alloc: Global,
+    bound: &Bound,
+    message: &[u8],
+) -> Result<String, NoMemory> {
     let mut out = match bound.back() {
-        Back::Xdr => octets_told(alloc, message, 12, 20)?,
-        Back::CdrBig | Back::CdrLittle => octets_told(alloc, message, 12, 64)?,
-        Back::Mach => octets_told(alloc, message, 20, 24)?,
+        Back::Xdr => octets_reported(alloc, message, 12, 20)?,
+        Back::CdrBig | Back::CdrLittle => octets_reported(alloc, message, 12, 64)?,
+        Back::Mach => octets_reported(alloc, message, 20, 24)?,
     };
     out.push_str("; the file has")?;
     let mut between = " ";
@@ -124,10 +128,10 @@ pub fn interface_told(alloc: Global, bound: &Bound, message: &[u8]) -> Result<St
 }
 
 /// What a message names in place of an operation.
-pub fn operation_told(alloc: Global, back: Back, message: &[u8]) -> Result<String, NoMemory> {
+pub fn operation_reported(alloc: Global, back: Back, message: &[u8]) -> Result<String, NoMemory> {
     match back {
-        Back::Xdr => octets_told(alloc, message, 20, 24),
-        Back::CdrBig | Back::CdrLittle => octets_told(alloc, message, 12, 64),
-        Back::Mach => octets_told(alloc, message, 20, 24),
+        Back::Xdr => octets_reported(alloc, message, 20, 24),
+        Back::CdrBig | Back::CdrLittle => octets_reported(alloc, message, 12, 64),
+        Back::Mach => octets_reported(alloc, message, 20, 24),
     }
 }

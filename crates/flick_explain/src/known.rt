@@ -1,15 +1,15 @@
 //! What is known of a run, and what is said of each line that it wrote.
 
-use crate::bindings::bind_told;
+use crate::bindings::bind_reported;
 use crate::command::Run;
 use crate::files::File;
-use crate::given::{Given, replies_told};
+use crate::given::{Given, replies_reported};
 use crate::inputs::Inputs;
-use crate::lexing::{lex_told, put_cause};
+use crate::lexing::{lex_reported, put_cause};
 use crate::messages::detail;
-use crate::names::name_told;
+use crate::names::name_reported;
 use crate::refusals::Refusal;
-use crate::syntax::syntax_told;
+use crate::syntax::syntax_reported;
 use crate::text::shown;
 use kit_base::limits::LONGEST_FILE;
 use kit_base::{Line, NoMemory};
@@ -38,7 +38,7 @@ impl Known<'_> {
         inputs: &mut Inputs<'_>,
     ) -> Result<String, NoMemory> {
         match line {
-            Line::Text(answer) => self.told(alloc, answer.as_slice(), inputs),
+            Line::Text(answer) => self.reported(alloc, answer.as_slice(), inputs),
             Line::Long => {
                 inputs.next();
                 Ok(String::new(alloc))
@@ -48,7 +48,7 @@ impl Known<'_> {
     }
 
     /// What is said of an answer.
-    fn told(
+    fn reported(
         &self,
         alloc: Global,
         answer: &[u8],
@@ -62,7 +62,7 @@ impl Known<'_> {
         }
         let line = inputs.next();
         match answer {
-            [b'!', ..] => self.line_told(alloc, answer, inputs.number(), line),
+            [b'!', ..] => self.line_reported(alloc, answer, inputs.number(), line),
             _ => Ok(String::new(alloc)),
         }
     }
@@ -74,7 +74,7 @@ impl Known<'_> {
             Some(path) if refusal.word == b"replies".as_slice() => {
                 self.replies_refused(alloc, path, answer, refusal.kind)
             }
-            _ => self.file_told(alloc, answer),
+            _ => self.file_reported(alloc, answer),
         }
     }
 
@@ -91,14 +91,14 @@ impl Known<'_> {
             text: self.replies,
             bound: self.bound,
         };
-        match replies_told(alloc, &given, word)? {
-            Some(told) => Ok(told),
+        match replies_reported(alloc, &given, word)? {
+            Some(reported) => Ok(reported),
             None => unsaid(alloc, path, answer),
         }
     }
 
     /// What is said of a refusal of the interface file.
-    fn file_told(&self, alloc: Global, answer: &[u8]) -> Result<String, NoMemory> {
+    fn file_reported(&self, alloc: Global, answer: &[u8]) -> Result<String, NoMemory> {
         let path = self.run.path;
         let Some(text) = self.text else {
             let path = shown(alloc, path)?;
@@ -115,13 +115,13 @@ impl Known<'_> {
             text,
         };
         match file_detail(alloc, &file, answer)? {
-            Some(told) => Ok(told),
+            Some(reported) => Ok(reported),
             None => unsaid(alloc, path, answer),
         }
     }
 
     /// What is said of a refusal of a line.
-    fn line_told(
+    fn line_reported(
         &self,
         alloc: Global,
         answer: &[u8],
@@ -157,10 +157,10 @@ impl Known<'_> {
 fn file_detail(alloc: Global, file: &File<'_>, answer: &[u8]) -> Result<Option<String>, NoMemory> {
     let refusal = Refusal::of(answer);
     match refusal.word {
-        b"lex" => lex_told(alloc, file, refusal.kind, refusal.at),
-        b"syntax" => syntax_told(alloc, file, refusal.kind),
-        b"name" => name_told(alloc, file, refusal.kind, refusal.at),
-        b"bind" => bind_told(alloc, file, refusal.kind),
+        b"lex" => lex_reported(alloc, file, refusal.kind, refusal.at),
+        b"syntax" => syntax_reported(alloc, file, refusal.kind),
+        b"name" => name_reported(alloc, file, refusal.kind, refusal.at),
+        b"bind" => bind_reported(alloc, file, refusal.kind),
         _ => Ok(None),
     }
 }

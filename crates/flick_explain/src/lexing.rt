@@ -8,7 +8,7 @@ use kit_base::NoMemory;
 use std::alloc::Global;
 
 /// What is said of `? lex WORD AT`.
-pub fn lex_told(
+pub fn lex_reported(
     alloc: Global,
     file: &File<'_>,
     word: &[u8],

@@ -1,15 +1,15 @@
 //! What is said of a line of the input that was refused.
 
-use crate::bodies::part_told;
+use crate::bodies::part_reported;
 use crate::command::Verb;
-use crate::heads::{head_told, interface_told, operation_told};
+use crate::heads::{head_reported, interface_reported, operation_reported};
 use crate::misfits::misfit;
-use crate::octets::{around, digits_told, message_of, trailing_told};
-use crate::records::{json_of, json_told, op_of, op_told, request_told};
+use crate::octets::{around, digits_reported, message_of, trailing_reported};
+use crate::records::{json_of, json_reported, op_of, op_reported, request_reported};
 use crate::refusals::Refusal;
-use crate::reply_records::reply_record_told;
+use crate::reply_records::reply_record_reported;
 use crate::text::{number_in, text_of};
-use crate::unreplies::reply_line_told;
+use crate::unreplies::reply_line_reported;
 use kit_base::NoMemory;
 use pres::Bound;
 use serde_json::Value as Json;
@@ -27,13 +27,13 @@ pub fn detail(
         return Ok(format!(in alloc; "the line has {} octets", line.len())?);
     }
     match verb {
-        Verb::Unreply => reply_line_told(alloc, bound, refusal, line),
-        _ => line_told(alloc, verb, bound, refusal, line),
+        Verb::Unreply => reply_line_reported(alloc, bound, refusal, line),
+        _ => line_reported(alloc, verb, bound, refusal, line),
     }
 }
 
 /// What a line has that was refused as a record or as a message.
-fn line_told(
+fn line_reported(
     alloc: Global,
     verb: Verb,
     bound: &Bound,
@@ -41,12 +41,12 @@ fn line_told(
     line: &[u8],
 ) -> Result<String, NoMemory> {
     match refusal.word {
-        b"json" => json_told(alloc, line),
+        b"json" => json_reported(alloc, line),
         b"request" | b"op" | b"value" => match json_of(alloc, line)? {
             Some(json) => record_detail(alloc, verb, bound, refusal, &json),
             None => text_of(alloc, "the line is not JSON"),
         },
-        b"hex" => digits_told(alloc, 0, line),
+        b"hex" => digits_reported(alloc, 0, line),
         b"head" if !refusal.has_kind() => text_of(alloc, "the member 'local' is not 0"),
         _ => match message_of(alloc, line)? {
             Some(message) => message_detail(alloc, bound, refusal, message.as_slice()),
@@ -64,11 +64,11 @@ fn record_detail(
     json: &Json,
 ) -> Result<String, NoMemory> {
     if verb == Verb::Reply {
-        return reply_record_told(alloc, bound, refusal.word, json);
+        return reply_record_reported(alloc, bound, refusal.word, json);
     }
     match refusal.word {
-        b"request" => request_told(alloc, bound.back(), json),
-        b"op" => op_told(alloc, bound, json),
+        b"request" => request_reported(alloc, bound.back(), json),
+        b"op" => op_reported(alloc, bound, json),
         _ => value_detail(alloc, bound, json),
     }
 }
@@ -76,7 +76,7 @@ fn record_detail(
 /// Where the arguments of a record present no value.
 fn value_detail(alloc: Global, bound: &Bound, json: &Json) -> Result<String, NoMemory> {
     let Some(op) = op_of(alloc, bound, json)? else {
-        return op_told(alloc, bound, json);
+        return op_reported(alloc, bound, json);
     };
     match json.get("args") {
         Some(args) => misfit(alloc, bound, "args", op.request, args),
@@ -95,11 +95,11 @@ fn message_detail(
     message: &[u8],
 ) -> Result<String, NoMemory> {
     match refusal.word {
-        b"head" => head_told(alloc, bound.back(), refusal.kind, message),
-        b"interface" => interface_told(alloc, bound, message),
-        b"operation" => operation_told(alloc, bound.back(), message),
+        b"head" => head_reported(alloc, bound.back(), refusal.kind, message),
+        b"interface" => interface_reported(alloc, bound, message),
+        b"operation" => operation_reported(alloc, bound.back(), message),
         b"body" => body_detail(alloc, bound, refusal, message),
-        _ => trailing_told(alloc, message, refusal.kind),
+        _ => trailing_reported(alloc, message, refusal.kind),
     }
 }
 
@@ -110,7 +110,7 @@ fn body_detail(
     refusal: &Refusal<'_>,
     message: &[u8],
 ) -> Result<String, NoMemory> {
-    let path = part_told(alloc, bound, message)?;
+    let path = part_reported(alloc, bound, message)?;
     match number_in(refusal.at) {
         Some(at) => {
             let octets = around(alloc, message, at as usize)?;

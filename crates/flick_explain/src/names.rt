@@ -14,7 +14,7 @@ use kit_base::NoMemory;
 use std::alloc::Global;
 
 /// What is said of `? name WORD DECL`.
-pub fn name_told(
+pub fn name_reported(
     alloc: Global,
     file: &File<'_>,
     word: &[u8],

@@ -18,7 +18,7 @@ pub fn message_of(alloc: Global, line: &[u8]) -> Result<Option<Vec<u8>>, NoMemor
 }
 
 /// Some octets of a message with their places.
-pub fn octets_told(
+pub fn octets_reported(
     alloc: Global,
     message: &[u8],
     first: usize,
@@ -35,8 +35,8 @@ pub fn octets_told(
 /// The octets around one of a message, which stands in brackets.
 pub fn around(alloc: Global, message: &[u8], at: usize) -> Result<String, NoMemory> {
     let first = at.saturating_sub(BESIDE);
-    let after = at.saturating_add(1);
-    let last = after.saturating_add(BESIDE).min(message.len());
+    let next = at.saturating_add(1);
+    let last = next.saturating_add(BESIDE).min(message.len());
     if at >= message.len() {
         let before = hex::encode(alloc, cut(message, first, message.len()))?;
         return Ok(format!(in alloc;
@@ -45,32 +45,32 @@ pub fn around(alloc: Global, message: &[u8], at: usize) -> Result<String, NoMemo
         )?);
     }
     let before = hex::encode(alloc, cut(message, first, at))?;
-    let one = hex::encode(alloc, cut(message, at, after))?;
-    let behind = hex::encode(alloc, cut(message, after, last))?;
-    Ok(format!(in alloc; "octets {first} on: {before}[{one}]{behind}")?)
+    let one = hex::encode(alloc, cut(message, at, next))?;
+    let after = hex::encode(alloc, cut(message, next, last))?;
+    Ok(format!(in alloc; "octets {first} on: {before}[{one}]{after}")?)
 }
 
 /// An octet of a message, where the place is a number, and those around it.
-pub fn place_told(alloc: Global, message: &[u8], place: &[u8]) -> Result<String, NoMemory> {
+pub fn place_reported(alloc: Global, message: &[u8], place: &[u8]) -> Result<String, NoMemory> {
     match number_in(place) {
         Some(at) => around(alloc, message, at as usize),
-        None => octets_told(alloc, message, 0, 16),
+        None => octets_reported(alloc, message, 0, 16),
     }
 }
 
 /// The octets after the last value, where the place is a number.
-pub fn trailing_told(alloc: Global, message: &[u8], place: &[u8]) -> Result<String, NoMemory> {
+pub fn trailing_reported(alloc: Global, message: &[u8], place: &[u8]) -> Result<String, NoMemory> {
     match number_in(place) {
         Some(at) => {
             let first = at as usize;
-            octets_told(alloc, message, first, first.saturating_add(16))
+            octets_reported(alloc, message, first, first.saturating_add(16))
         }
         None => text_of(alloc, "octets after the last value"),
     }
 }
 
 /// Why some octets of a line are not digits, after so many others.
-pub fn digits_told(alloc: Global, before: usize, digits: &[u8]) -> Result<String, NoMemory> {
+pub fn digits_reported(alloc: Global, before: usize, digits: &[u8]) -> Result<String, NoMemory> {
     let good = digits.iter().take_while(|o| o.is_ascii_hexdigit()).count();
     if good < digits.len() {
         return Ok(format!(in alloc;

@@ -27,7 +27,7 @@ pub fn json_of(alloc: Global, line: &[u8]) -> Result<Option<Json>, NoMemory> {
 }
 
 /// Where a line is not JSON.
-pub fn json_told(alloc: Global, line: &[u8]) -> Result<String, NoMemory> {
+pub fn json_reported(alloc: Global, line: &[u8]) -> Result<String, NoMemory> {
     let Ok(text) = str::from_utf8(line) else {
         return text_of(alloc, "the line is not UTF-8");
     };
@@ -43,7 +43,7 @@ pub fn json_told(alloc: Global, line: &[u8]) -> Result<String, NoMemory> {
 }
 
 /// Which member is not that of a request record.
-pub fn request_told(alloc: Global, back: Back, json: &Json) -> Result<String, NoMemory> {
+pub fn request_reported(alloc: Global, back: Back, json: &Json) -> Result<String, NoMemory> {
     let Some(members) = json.as_object() else {
         return text_of(alloc, "the line is not an object");
     };
@@ -53,7 +53,7 @@ pub fn request_told(alloc: Global, back: Back, json: &Json) -> Result<String, No
             return Ok(format!(in alloc; "a record over this back end has no member '{key}'")?);
         }
     }
-    member_told(alloc, back, json)
+    member_reported(alloc, back, json)
 }
 
 /// Whether a record has a member of this name.
@@ -71,7 +71,7 @@ pub fn head_key(back: Back) -> &'static str {
 }
 
 /// Which known member is missing or of another type.
-fn member_told(alloc: Global, back: Back, json: &Json) -> Result<String, NoMemory> {
+fn member_reported(alloc: Global, back: Back, json: &Json) -> Result<String, NoMemory> {
     let Some(op) = json.get("op") else {
         return text_of(alloc, "the member 'op' is missing");
     };
@@ -103,15 +103,15 @@ pub fn is_word(member: Option<&Json>) -> bool {
 }
 
 /// The name that a record gives its operation, and the names that the file has.
-pub fn op_told(alloc: Global, bound: &Bound, json: &Json) -> Result<String, NoMemory> {
+pub fn op_reported(alloc: Global, bound: &Bound, json: &Json) -> Result<String, NoMemory> {
     match json.get("op").and_then(Json::as_str) {
-        Some(text) => unknown_told(alloc, bound, text.as_bytes()),
-        None => unknown_told(alloc, bound, &[]),
+        Some(text) => unknown_reported(alloc, bound, text.as_bytes()),
+        None => unknown_reported(alloc, bound, &[]),
     }
 }
 
 /// A name that no operation has, and the names that the file has.
-pub fn unknown_told(alloc: Global, bound: &Bound, name: &[u8]) -> Result<String, NoMemory> {
+pub fn unknown_reported(alloc: Global, bound: &Bound, name: &[u8]) -> Result<String, NoMemory> {
     let name = shown(alloc, name)?;
     let mut out = format!(in alloc; "no operation is named '{name}'; the file has")?;
     let mut between = " ";

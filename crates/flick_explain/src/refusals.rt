@@ -20,11 +20,11 @@ impl Refusal<'_> {
     /// The words of an answer after its first one.
     pub fn of(answer: &[u8]) -> Refusal<'_> {
         let words = past_word(answer);
-        let behind = past_word(words);
+        let after = past_word(words);
         Refusal {
             word: first_word(words),
-            kind: first_word(behind),
-            at: first_word(past_word(behind)),
+            kind: first_word(after),
+            at: first_word(past_word(after)),
         }
     }
 

@@ -2,7 +2,7 @@
 
 use crate::descent::fits;
 use crate::misfits::misfit;
-use crate::records::{dotted, head_key, is_named, is_word, op_of, op_told};
+use crate::records::{dotted, head_key, is_named, is_word, op_of, op_reported};
 use crate::text::{shown, text_of};
 use aoi::Raise;
 use kit_base::NoMemory;
@@ -17,21 +17,21 @@ use wire_def::Back;
 const LISTED: usize = 8;
 
 /// What a reply record has that was refused.
-pub fn reply_record_told(
+pub fn reply_record_reported(
     alloc: Global,
     bound: &Bound,
     word: &[u8],
     json: &Json,
 ) -> Result<String, NoMemory> {
     match word {
-        b"request" => keys_told(alloc, bound.back(), json),
-        b"op" => replying_told(alloc, bound, json),
+        b"request" => keys_reported(alloc, bound.back(), json),
+        b"op" => replying_reported(alloc, bound, json),
         _ => reply_misfit(alloc, bound, json),
     }
 }
 
 /// Which member is not that of a reply record.
-pub fn keys_told(alloc: Global, back: Back, json: &Json) -> Result<String, NoMemory> {
+pub fn keys_reported(alloc: Global, back: Back, json: &Json) -> Result<String, NoMemory> {
     let Some(members) = json.as_object() else {
         return text_of(alloc, "the line is not an object");
     };
@@ -43,7 +43,7 @@ pub fn keys_told(alloc: Global, back: Back, json: &Json) -> Result<String, NoMem
             )?);
         }
     }
-    members_told(alloc, back, json)
+    members_reported(alloc, back, json)
 }
 
 /// Whether a reply record has a member of this name.
@@ -57,7 +57,7 @@ fn is_answer_key(key: &str) -> bool {
 }
 
 /// Which known member is missing or of another type.
-fn members_told(alloc: Global, back: Back, json: &Json) -> Result<String, NoMemory> {
+fn members_reported(alloc: Global, back: Back, json: &Json) -> Result<String, NoMemory> {
     let Some(op) = json.get("op") else {
         return text_of(alloc, "the member 'op' is missing");
     };
@@ -84,21 +84,21 @@ fn answer_members(json: &Json) -> &'static str {
 }
 
 /// The name of an operation without a reply; or one that no operation has, and those that the file has.
-pub fn replying_told(alloc: Global, bound: &Bound, json: &Json) -> Result<String, NoMemory> {
+pub fn replying_reported(alloc: Global, bound: &Bound, json: &Json) -> Result<String, NoMemory> {
     match op_of(alloc, bound, json)? {
         Some(op) => {
             let name = dotted(alloc, bound, op)?;
             let name = shown(alloc, name.as_slice())?;
             Ok(format!(in alloc; "'{name}' has no reply")?)
         }
-        None => op_told(alloc, bound, json),
+        None => op_reported(alloc, bound, json),
     }
 }
 
 /// Where a reply record presents no reply of its operation.
 pub fn reply_misfit(alloc: Global, bound: &Bound, json: &Json) -> Result<String, NoMemory> {
     let Some(op) = op_of(alloc, bound, json)? else {
-        return op_told(alloc, bound, json);
+        return op_reported(alloc, bound, json);
     };
     match json.get("raise").and_then(Json::as_str) {
         Some(raise) => raised_misfit(alloc, bound, op, raise, json),
@@ -131,7 +131,7 @@ fn answer_misfit(alloc: Global, bound: &Bound, op: &Op, json: &Json) -> Result<S
         return text_of(alloc, "the operation has no reply");
     };
     match result_misfit(alloc, bound, *first, json)? {
-        Some(told) => Ok(told),
+        Some(reported) => Ok(reported),
         None => outs_misfit(alloc, bound, outs, given_outs(json)),
     }
 }
@@ -182,8 +182,8 @@ fn outs_misfit(
         return Ok(format!(in alloc; "outs: {} values, {} wanted", given.len(), ids.len())?);
     }
     for (i, json) in given.iter().enumerate() {
-        if let Some(told) = out_misfit(alloc, bound, ids, i, json)? {
-            return Ok(told);
+        if let Some(reported) = out_misfit(alloc, bound, ids, i, json)? {
+            return Ok(reported);
         }
     }
     text_of(alloc, "all values fit")
@@ -230,7 +230,7 @@ fn raised_misfit(
     let raises = raises_of(bound, op);
     match raise_number(raises, raise) {
         Some(number) => members_misfit(alloc, bound, part_of(bound, op, number), json),
-        None => unlisted_told(alloc, raises, raise),
+        None => unlisted_reported(alloc, raises, raise),
     }
 }
 
@@ -264,7 +264,7 @@ fn members_misfit(
 }
 
 /// An exception that an operation does not list, and those that it lists.
-fn unlisted_told(alloc: Global, raises: &[Raise], raise: &str) -> Result<String, NoMemory> {
+fn unlisted_reported(alloc: Global, raises: &[Raise], raise: &str) -> Result<String, NoMemory> {
     let raise = shown(alloc, raise.as_bytes())?;
     if raises.is_empty() {
         return Ok(format!(in alloc; "'raise' is '{raise}', and the operation lists no exception")?);

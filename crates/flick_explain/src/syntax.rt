@@ -11,7 +11,7 @@ use kit_base::NoMemory;
 use std::alloc::Global;
 
 /// What is said of `? syntax LINE`.
-pub fn syntax_told(
+pub fn syntax_reported(
     alloc: Global,
     file: &File<'_>,
     line: &[u8],
@@ -34,7 +34,7 @@ pub fn syntax_told(
         },
         names: false,
     };
-    Ok(Some(told(alloc, &question)?))
+    Ok(Some(reported(alloc, &question)?))
 }
 
 /// The first token of the definition without a tree that begins on a line.
@@ -68,7 +68,7 @@ fn may_begin(placed: &Placed, i: usize) -> bool {
 }
 
 /// What is said of a definition without a tree.
-fn told(alloc: Global, question: &Question<'_>) -> Result<String, NoMemory> {
+fn reported(alloc: Global, question: &Question<'_>) -> Result<String, NoMemory> {
     let text = question.file.text;
     let placed = question.placed;
     let at = question.furthest(alloc)?;

@@ -24,10 +24,10 @@ use Rattle.serde_json.specs.Find.{as_array, is_float, of_integer}
 use Rattle.serde_json.specs.Written.{has_float, items_have_float, members_have_float}
 use Rattle.json_shape.specs.Operations.{dotted}
 use Rattle.json_shape.specs.Members.{is_mach, head_key, head_word}
-use Rattle.json_shape.specs.Replies.{raise_name, given_members, behind_members, answer_members, word, refusal_says, refusal_json, refused_members, outcome_members, reply_json}
+use Rattle.json_shape.specs.Replies.{raise_name, given_members, after_members, answer_members, word, refusal_says, refusal_json, refused_members, outcome_members, reply_json}
 use Rattle.json_shape.specs.Requests.{head_json, request_json}
 use Rattle.json_shape.specs.Texts.{text_of}
-use Rattle.json_shape.specs.Written.{number_tree, number_json, sign_json, each_json, row_json, items_json, json_of, in_order_json, by_name_json, behind_json}
+use Rattle.json_shape.specs.Written.{number_tree, number_json, sign_json, each_json, row_json, items_json, json_of, in_order_json, by_name_json, after_json}
 
 neither : (a b : Bool) → a ≡ false → b ≡ false → (a || b) ≡ false
 neither a b p q = rw (p, q) refl
@@ -150,8 +150,8 @@ mutual
   json-float (face.list c f) absent = refl
   json-float (face.list c f) (present v) = refl
   json-float (face.choice s arms) (arm n v) =
-      put-float (codes "tag") (sign_json s n) (put (codes "value") (behind_json arms n v) no_members) (sign-float s n)
-      (put-float (codes "value") (behind_json arms n v) no_members (behind-float arms n v) refl)
+      put-float (codes "tag") (sign_json s n) (put (codes "value") (after_json arms n v) no_members) (sign-float s n)
+      (put-float (codes "value") (after_json arms n v) no_members (after-float arms n v) refl)
   json-float (face.choice s arms) void = refl
   json-float (face.choice s arms) (num n) = refl
   json-float (face.choice s arms) (row k ns) = refl
@@ -179,10 +179,10 @@ mutual
   names-float (part n f ps) no_more = refl
   names-float (part n f ps) (val v vs) = put-float _ (json_of f v) (by_name_json ps vs) (json-float f v) (names-float ps vs)
 
-  behind-float : (arms : Arms) (n : ℤ) (v : Val) → has_float (behind_json arms n v) ≡ false
-  behind-float face.no_other n v = refl
-  behind-float (face.other f) n v = json-float f v
-  behind-float (face.arm m f arms) n v = if-float (int_eq n m) (json_of f v) (behind_json arms n v) (json-float f v) (behind-float arms n v)
+  after-float : (arms : Arms) (n : ℤ) (v : Val) → has_float (after_json arms n v) ≡ false
+  after-float face.no_other n v = refl
+  after-float (face.other f) n v = json-float f v
+  after-float (face.arm m f arms) n v = if-float (int_eq n m) (json_of f v) (after_json arms n v) (json-float f v) (after-float arms n v)
 
 local-float : (t : Bool) (n : ℕ) (ms : Members) → members_have_float ms ≡ false
     → members_have_float (if t then put (codes "local") (number (unsigned n)) ms else ms) ≡ false
@@ -223,14 +223,14 @@ raised-float true name d p =
     (put-float (codes "members") d no_members p refl)
 raised-float false name d p = refl
 
-arm-float : (rs : List PlainRaise) (n : ℤ) (d : Data) → has_float d ≡ false → members_have_float (behind_members rs n d) ≡ false
+arm-float : (rs : List PlainRaise) (n : ℤ) (d : Data) → has_float d ≡ false → members_have_float (after_members rs n d) ≡ false
 arm-float rs (pos zero) d p = array-float d p
 arm-float rs (pos (suc k)) d p = raised-float (nat_lt k (length rs)) (text_of (raise_name rs k)) d p
 arm-float rs (negsuc k) d p = refl
 
 choice-float : (rs : List PlainRaise) (s : Sign) (arms : Arms) (v : Val)
     → members_have_float (answer_members rs (face.choice s arms) v) ≡ false
-choice-float rs s arms (arm n v) = arm-float rs n (behind_json arms n v) (behind-float arms n v)
+choice-float rs s arms (arm n v) = arm-float rs n (after_json arms n v) (after-float arms n v)
 choice-float rs s arms void = refl
 choice-float rs s arms (num n) = refl
 choice-float rs s arms (row k ns) = refl

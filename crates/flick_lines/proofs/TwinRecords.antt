@@ -18,7 +18,7 @@ use Rattle.json_shape.specs.declared.errors.RecordErr.TheVariants as errors
 use Rattle.json_shape.specs.Members.{is_mach, head_key, number_at, list_at, text_at}
 use Rattle.json_shape.specs.Operations.{dotted, op_from, op_named, if_replying, replying, is_oneway}
 use Rattle.json_shape.specs.Records.{Begun}
-use Rattle.json_shape.specs.Replies.{is_reply, reply_tree, told_of, answered_of, reply_of}
+use Rattle.json_shape.specs.Replies.{is_reply, reply_tree, reported_of, answered_of, reply_of}
 use Rattle.json_shape.specs.Requests.{head_of, is_request, is_unanswered, asked, asked_of, request_of}
 use Rattle.json_shape.specs.Texts.{text_of}
 use Rattle.flick_lines.specs.Marshalled.{Beginning, Texts, IsMessage, IsOfRecord, IsOfTree}
@@ -162,25 +162,25 @@ requests_alike b c t j =
 -- replies
 
 -- a reply over a back end
-abbrev told_over : Back → Data → ℕ → Face → Option Data → Result Begun RecordErr
-told_over k j n f None = Err errors.Shape
-told_over k j n f (Some tree) =
+abbrev reported_over : Back → Data → ℕ → Face → Option Data → Result Begun RecordErr
+reported_over k j n f None = Err errors.Shape
+reported_over k j n f (Some tree) =
     Ok (record { op = n; head = head_of k (number_at (head_key k) j) 0 true; face = f; tree = tree })
 
 -- the same of an operation that has a reply or none, and raises these exceptions
 abbrev replied_over : Back → Data → ℕ → List PlainRaise → Face → Bool → Result Begun RecordErr
-replied_over k j n rs f reply = if reply then told_over k j n f (reply_tree rs j) else Err errors.Op
+replied_over k j n rs f reply = if reply then reported_over k j n f (reply_tree rs j) else Err errors.Op
 
-told_is : (b : Binding) (j : Data) (k : ℕ) (o : Op) (tree : Option Data)
-    → told_of b j k o tree ≡ told_over b.back j k (at (faces_in b) o.reply) tree
-told_is b j k o None = refl
-told_is b j k o (Some tree) = refl
+reported_is : (b : Binding) (j : Data) (k : ℕ) (o : Op) (tree : Option Data)
+    → reported_of b j k o tree ≡ reported_over b.back j k (at (faces_in b) o.reply) tree
+reported_is b j k o None = refl
+reported_is b j k o (Some tree) = refl
 
 replied_is : (b : Binding) (j : Data) (x : ℕ × Op)
     → answered_of b j (Some x) ≡ replied_over b.back j x.0 (raises b x.0) (at (faces_in b) x.1.reply) x.1.has_reply
 replied_is b j x =
     ap (λ (r : Result Begun RecordErr). if x.1.has_reply then r else Err errors.Op)
-    (told_is b j x.0 x.1 (reply_tree (raises b x.0) j))
+    (reported_is b j x.0 x.1 (reply_tree (raises b x.0) j))
 
 -- the exceptions of an operation of a unit
 abbrev raises_over : Back → PlainUnit → ℕ → List PlainRaise
@@ -200,9 +200,9 @@ replied_alike b c t j x y number same =
     ∙ ap (λ (z : Offer). replied_over c.back j y.0 (raises c y.0) z.reply z.has_reply) same
     ∙ sym (replied_is c j y)
 
-told_few : (n : ℕ) (b : Binding) (j : Data) (k : ℕ) (o : Op) (tree : Option Data) → k < n → IsOfFew n (told_of b j k o tree)
-told_few n b j k o None h = tt
-told_few n b j k o (Some tree) h = h
+reported_few : (n : ℕ) (b : Binding) (j : Data) (k : ℕ) (o : Op) (tree : Option Data) → k < n → IsOfFew n (reported_of b j k o tree)
+reported_few n b j k o None h = tt
+reported_few n b j k o (Some tree) h = h
 
 replied_few : (n : ℕ) (p : Bool) (r : Result Begun RecordErr) → IsOfFew n r → IsOfFew n (if p then r else Err errors.Op)
 replied_few n true r h = h
@@ -217,7 +217,7 @@ both_replied b c t j (Some x) (Some y) (number, below, same) =
     let tree = reply_tree (raises b x.0) j in
     record {
       same = replied_alike b c t j x y number same;
-      few = replied_few (length b.ops) x.1.has_reply (told_of b j x.0 x.1 tree) (told_few (length b.ops) b j x.0 x.1 tree below);
+      few = replied_few (length b.ops) x.1.has_reply (reported_of b j x.0 x.1 tree) (reported_few (length b.ops) b j x.0 x.1 tree below);
     }
 
 pub replies_alike : (b c : Binding) → AreTwins b c → (j : Data) → AreOne (length b.ops) (reply_of b j) (reply_of c j)

@@ -97,7 +97,7 @@ fn of_tree(
 
 /// The answer to what is not a record.
 pub(crate) fn refused(alloc: Global, refusal: RecordErr) -> Result<Octets, NoMemory>
-    ensures told { IfOk result (λ o. o ≡ record_refusal refusal) }
+    ensures reported { IfOk result (λ o. o ≡ record_refusal refusal) }
     ensures memory { OnOk result (refusal ≢ RecordErr.NoMemory) }
 {
     match refusal {

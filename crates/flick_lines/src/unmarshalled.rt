@@ -70,7 +70,7 @@ fn by_tree(alloc: Global, engine: &Engine, request: &Request) -> Result<Vec<u8>,
 
 /// The refusal of octets that are not a message.
 pub(crate) fn refusal_text(alloc: Global, refusal: MessageErr) -> Result<String, NoMemory>
-    ensures told { IfOk result (λ s. string_bytes s ≡ message_refusal refusal) }
+    ensures reported { IfOk result (λ s. string_bytes s ≡ message_refusal refusal) }
     ensures memory { OnOk result (refusal ≢ MessageErr.NoMemory) }
 {
     let text = match refusal {

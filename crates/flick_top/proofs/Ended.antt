@@ -7,8 +7,8 @@ use Rattle.std.proofs.lemmas.List.{append_cancel_right}
 use Rattle.std.proofs.lemmas.List.Elements.{All-nil, All-cons, All-append}
 use Rattle.kit_base.specs.declared.lines.Line.{Line}
 use Rattle.kit_base.specs.declared.lines.Line.TheVariants.{Long}
-use Rattle.kit_base.specs.Lines.{State, Passed, Advances, pending, lines, lines_from, lines_behind, line_of, HasNoEnd}
-use Rattle.kit_base.proofs.Cutting.{advances-trans, lines-long, lines_behind-append}
+use Rattle.kit_base.specs.Lines.{State, Passed, Advances, pending, lines, lines_from, lines_after, line_of, HasNoEnd}
+use Rattle.kit_base.proofs.Cutting.{advances-trans, lines-long, lines_after-append}
 use Rattle.flick_top.specs.Answer.{Answering, answers}
 use Rattle.flick_top.specs.Outside.{has_end, ended_part}
 use Rattle.flick_top.proofs.Prefix.{fresh}
@@ -28,7 +28,7 @@ no_end (x ∷ xs) h =
     let other : x ≢ 10 = grind (arith, nat_tests, here) in
     All-cons (λ (y : ℕ). y ≢ 10) x xs other (no_end xs rest)
 
--- what stands behind the last end has none
+-- what stands after the last end has none
 split_ended : (xs : List ℕ) → (tail : List ℕ) × (xs ≡ ended_part xs ++ tail) × HasNoEnd tail
 split_ended [] = ([], refl, All-nil (λ (x : ℕ). x ≢ 10))
 split_ended (x ∷ xs) = go (has_end (x ∷ xs)) refl (split_ended xs) where
@@ -57,7 +57,7 @@ from_ended n begun [] ys h = absurd (cc h)
 from_ended n begun (x ∷ xs) ys h =
     rw h (from_step n begun x xs ys (x == 10) (has_end xs) refl refl h (λ begun' e. from_ended n begun' xs ys e))
 
--- the lines that ended, and those behind
+-- the lines that ended, and those after
 lines-ended : (n : ℕ) (xs ys : List ℕ) → lines n (ended_part xs ++ ys) ≡ lines n (ended_part xs) ++ lines n ys
 lines-ended n xs ys = go (has_end xs) refl where
   go : (b : Bool) → has_end xs ≡ b → lines n (ended_part xs ++ ys) ≡ lines n (ended_part xs) ++ lines n ys
@@ -86,10 +86,10 @@ filled n tail more none none' long =
     ap (lines n) (sym (append-nil (tail ++ more))) ∙ lines-long n (tail ++ more) [] all (omega (arith, length-append tail more))
 
 pending_by : (b : Bool) (n : ℕ) (kept more : List ℕ) → HasNoEnd kept → HasNoEnd more → n + 1 < length more
-    → (if b then Long ∷ lines_behind n (kept ++ more) else lines n (kept ++ more)) ≡ Long ∷ []
+    → (if b then Long ∷ lines_after n (kept ++ more) else lines n (kept ++ more)) ≡ Long ∷ []
 pending_by true n kept more none none' long =
     let all = All-append (λ (y : ℕ). y ≢ 10) kept more none none' in
-    ap (λ (l : List Line). Long ∷ l) (ap (lines_behind n) (sym (append-nil (kept ++ more))) ∙ lines_behind-append n (kept ++ more) [] all)
+    ap (λ (l : List Line). Long ∷ l) (ap (lines_after n) (sym (append-nil (kept ++ more))) ∙ lines_after-append n (kept ++ more) [] all)
 pending_by false n kept more none none' long = filled n kept more none none' long
 
 ended_lines : (s u : State) (got : List ℕ) (ls : List Line) (n most : ℕ) → s ≡ fresh n most → Passed s u got ls → HasNoEnd u.kept
@@ -103,13 +103,13 @@ ended_lines s u got ls n most new passed none unended =
     let all : pending s (got ++ more) ≡ ls ++ pending u more = passed.answers more (λ e. absurd (cc (e, unended))) in
     let begun : pending (fresh n most) (got ++ more) ≡ ls ++ pending u more =
     subst (λ (r : State). pending r (got ++ more) ≡ ls ++ pending u more) new all in
-    let behind : pending u more ≡ Long ∷ [] =
+    let after : pending u more ≡ Long ∷ [] =
     pending_by u.skips u.longest u.kept more none (filler-none (n + 2)) (omega (arith, long, longest)) in
     let parts : lines n (got ++ more) ≡ lines n (ended_part got) ++ (Long ∷ []) =
     ap (λ (l : List ℕ). lines n (l ++ more)) split ∙ ap (lines n) (append_assoc (ended_part got) tail more)
     ∙ lines-ended n got (tail ++ more)
     ∙ ap (λ (l : List Line). lines n (ended_part got) ++ l) (filled n tail more none' (filler-none (n + 2)) long) in
-    append_cancel_right (lines n (ended_part got)) ls (Long ∷ []) (sym parts ∙ begun ∙ ap (λ (l : List Line). ls ++ l) behind)
+    append_cancel_right (lines n (ended_part got)) ls (Long ∷ []) (sym parts ∙ begun ∙ ap (λ (l : List Line). ls ++ l) after)
 
 -- the answers are those of the lines that ended in the octets taken
 pub wrote-ended : (before now after : Option (List ℕ)) (s t u : State) (ls : List Line) (f : Answering) (held held' : Option (List ℕ))

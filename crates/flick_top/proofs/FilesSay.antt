@@ -13,7 +13,7 @@ use Rattle.op_codes.specs.Stubs.{Coded}
 use Rattle.flick_lines.proofs.Twins.{AreTwins}
 use Rattle.flick_top.specs.declared.command.Named.{Named}
 use Rattle.flick_top.specs.declared.saying.Saying.TheVariants as sayings
-use Rattle.flick_top.specs.File.{Told, IsOver, BindSays, BoundSays, FileSays}
+use Rattle.flick_top.specs.File.{Reported, IsOver, BindSays, BoundSays, FileSays}
 use Rattle.flick_top.specs.Fronts.{Read, UnitOf}
 use Rattle.flick_top.specs.Output.{IsMadeOf}
 use Rattle.flick_top.proofs.UnitsOfFronts.{one_unit}
@@ -38,34 +38,34 @@ pub record AreAlike (d e : Coded) : Type 0 where
   pub codes : d.stubs ≡ e.stubs
 
 -- one saying, or engines that answer alike
-abbrev pub AreTold : Told → Told → Type 0
-AreTold (Ok d) (Ok e) = AreAlike d e
-AreTold (Err e) (Err f) = e ≡ f
-AreTold _ _ = ⊥
+abbrev pub AreReported : Reported → Reported → Type 0
+AreReported (Ok d) (Ok e) = AreAlike d e
+AreReported (Err e) (Err f) = e ≡ f
+AreReported _ _ = ⊥
 
-told_by : (r s x y : Told) → r ≡ x → s ≡ y → AreTold x y → AreTold r s
-told_by r s x y p q h = subst (λ (z : Told). AreTold z s) (sym p) (subst (λ (z : Told). AreTold x z) (sym q) h)
+reported_by : (r s x y : Reported) → r ≡ x → s ≡ y → AreReported x y → AreReported r s
+reported_by r s x y p q h = subst (λ (z : Reported). AreReported z s) (sym p) (subst (λ (z : Reported). AreReported x z) (sym q) h)
 
 pub twins : (k : Back) (u : PlainUnit) (b c : Binding) → IsOver u k b → IsOver u k c → AreTwins b c
 twins k u b c one other =
     record { units = one.unit ∙ sym other.unit; backs = one.back ∙ sym other.back; one = one.stands; other = other.stands }
 
-bind_says : (codes : List Stub) (k : Back) (u : PlainUnit) (e : Option BindErr) (r s : Told)
-    → BindSays codes u k e r → BindSays codes u k e s → AreTold r s
-bind_says codes k u (Some e) r s p q = told_by r s (Err (sayings.Bind e)) (Err (sayings.Bind e)) p q refl
+bind_says : (codes : List Stub) (k : Back) (u : PlainUnit) (e : Option BindErr) (r s : Reported)
+    → BindSays codes u k e r → BindSays codes u k e s → AreReported r s
+bind_says codes k u (Some e) r s p q = reported_by r s (Err (sayings.Bind e)) (Err (sayings.Bind e)) p q refl
 bind_says codes k u None (Ok c) (Ok d) p q =
     record { twins = twins k u c.binding d.binding p.0 q.0; codes = p.1 ∙ sym q.1 }
 bind_says codes k u None (Ok c) (Err f) p q = absurd q
 bind_says codes k u None (Err e) s p q = absurd p
 
-bound_says : (codes : List Stub) (k : Back) (read : Read) (r s : Told)
-    → BoundSays codes k read r → BoundSays codes k read s → AreTold r s
-bound_says codes k (Err e) r s p q = told_by r s (Err e) (Err e) p q refl
+bound_says : (codes : List Stub) (k : Back) (read : Read) (r s : Reported)
+    → BoundSays codes k read r → BoundSays codes k read s → AreReported r s
+bound_says codes k (Err e) r s p q = reported_by r s (Err e) (Err e) p q refl
 bound_says codes k (Ok u) r s p q = bind_says codes k u (bind_fault u k) r s p q
 
 -- what is made of one content, where an engine has these codes
-pub told_alike : (codes : List Stub) (n : Named) (content : Option (List ℕ)) (r s : Told)
-    → IsMadeOf codes n content r → IsMadeOf codes n content s → AreTold r s
-told_alike codes n content r s (x, px, pr) (y, py, ps) =
+pub reported_alike : (codes : List Stub) (n : Named) (content : Option (List ℕ)) (r s : Reported)
+    → IsMadeOf codes n content r → IsMadeOf codes n content s → AreReported r s
+reported_alike codes n content r s (x, px, pr) (y, py, ps) =
     let same : x ≡ y = file_says n.front content x y px py in
     bound_says codes n.back y r s (subst (λ (z : Read). BoundSays codes n.back z r) same pr) ps

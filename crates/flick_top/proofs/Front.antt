@@ -30,10 +30,10 @@ of_prefix n P Q part whole false over e h =
     subst (λ (c : Bool). MatchBool c (P part) Q) test h
 
 -- the prefix that a shelf gave says what its file says
-pub told-decides : (k : Front) (shelf : Option Files) (files : Files) (path part : List ℕ) (read : Read)
+pub reported-decides : (k : Front) (shelf : Option Files) (files : Files) (path part : List ℕ) (read : Read)
     → HasFile shelf path (1 + longest_file) part → shelf ≡ Some files → FileSays k (Some part) read
     → FileSays k (files path) read
-told-decides k shelf files path part read has e h =
+reported-decides k shelf files path part read has e h =
     let (whole, found, cut) = subst (λ (o : Option Files). HasFile o path (1 + longest_file) part) e has in
     subst (λ (c : Option (List ℕ)). FileSays k c read) (sym found)
     (of_prefix longest_file (λ t. UnitOf k t read) (read ≡ Err TooLarge) part whole (nat_le (length whole) longest_file) refl cut h)

@@ -19,7 +19,7 @@ use Rattle.flick_top.specs.declared.command.Named.{Named}
 use Rattle.flick_top.specs.declared.saying.Saying.TheVariants.{LargeReplies}
 use Rattle.flick_top.specs.declared.task.Task.{Task}
 use Rattle.flick_top.specs.Command.{command_of, word_at}
-use Rattle.flick_top.specs.File.{Told, FileSays, IsOver, BindSays, BoundSays, longest_replies}
+use Rattle.flick_top.specs.File.{Reported, FileSays, IsOver, BindSays, BoundSays, longest_replies}
 use Rattle.flick_top.specs.Fronts.{Read}
 use Rattle.flick_top.specs.Made.{engine_of, IsEngineOver, HasReplies, HasFiles, LeavesEngine}
 use Rattle.flick_top.specs.Output.{Files, saying_task, serving_task, ServesText, ServesFile, Acts, ActsOver, IsMadeOf, Comes, IsTask}
@@ -61,19 +61,19 @@ some_over u k o e is over coded =
     subst (λ (x : Option Coded). IsSomeAnd x (IsEngineOver u k)) (sym is)
     (over, subst (λ (x : Option Coded). IfSome x IsCoded) is coded)
 
-told_over : (codes : List Stub) (u : PlainUnit) (k : Back) (a : Action) (told : Told) (content : Option (List ℕ)) (task : Task)
-    → IsOkAnd told (λ e. IsOver u k e.binding × (e.stubs ≡ codes)) → HasFiles a u k content → ActsOver a told content task
+reported_over : (codes : List Stub) (u : PlainUnit) (k : Back) (a : Action) (reported : Reported) (content : Option (List ℕ)) (task : Task)
+    → IsOkAnd reported (λ e. IsOver u k e.binding × (e.stubs ≡ codes)) → HasFiles a u k content → ActsOver a reported content task
     → IfSome (engine_of task) IsCoded → IsSomeAnd (engine_of task) (IsEngineOver u k)
-told_over codes u k a (Ok e) content task over has acts coded =
+reported_over codes u k a (Ok e) content task over has acts coded =
     some_over u k (engine_of task) e (acts_engine u k a e content task over.0 has acts) over.0 coded
-told_over codes u k a (Err f) content task over has acts coded = absurd over
+reported_over codes u k a (Err f) content task over has acts coded = absurd over
 
 -- the reading of a unit that is bound comes to an engine
-bound_over : (codes : List Stub) (k : Back) (read : Read) (u : PlainUnit) (told : Told) → read ≡ Ok u → bind_fault u k ≡ None
-    → BoundSays codes k read told → IsOkAnd told (λ e. IsOver u k e.binding × (e.stubs ≡ codes))
-bound_over codes k read u told is none says =
-    let over : BindSays codes u k (bind_fault u k) told = subst (λ (r : Read). BoundSays codes k r told) is says in
-    subst (λ (f : Option BindErr). BindSays codes u k f told) none over
+bound_over : (codes : List Stub) (k : Back) (read : Read) (u : PlainUnit) (reported : Reported) → read ≡ Ok u → bind_fault u k ≡ None
+    → BoundSays codes k read reported → IsOkAnd reported (λ e. IsOver u k e.binding × (e.stubs ≡ codes))
+bound_over codes k read u reported is none says =
+    let over : BindSays codes u k (bind_fault u k) reported = subst (λ (r : Read). BoundSays codes k r reported) is says in
+    subst (λ (f : Option BindErr). BindSays codes u k f reported) none over
 
 leaves : (codes : List Stub) (command : Option Command) (words : List (List ℕ)) (files : Files) (task : Task)
     → Comes codes command words files task → IfSome (engine_of task) IsCoded → LeavesEngine (engine_of task) command words files
@@ -81,9 +81,10 @@ leaves codes None words files task comes coded = tt
 leaves codes (Some commands.Help) words files task comes coded = tt
 leaves codes (Some commands.Version) words files task comes coded = tt
 leaves codes (Some (commands.Show front)) words files task comes coded = tt
-leaves codes (Some (commands.Over a n)) words files task (told, (read, says, bound), acts) coded = λ u is none has.
+leaves codes (Some (commands.Over a n)) words files task (reported, (read, says, bound), acts) coded = λ u is none has.
     let same : read ≡ Ok u = file_says n.front (files (word_at words n.file)) read (Ok u) says is in
-    told_over codes u n.back a told (files (word_at words 4)) task (bound_over codes n.back read u told same none bound) has acts coded
+    reported_over codes u n.back a reported (files (word_at words 4)) task
+    (bound_over codes n.back read u reported same none bound) has acts coded
 
 -- what is left is the engine of the task
 pub task-leaves : (codes : List Stub) (words : List (List ℕ)) (files : Files) (task : Task) (made : Option Coded)

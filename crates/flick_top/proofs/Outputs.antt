@@ -29,11 +29,11 @@ use Rattle.flick_top.specs.declared.status.Status.{Status}
 use Rattle.flick_top.specs.declared.task.Task.{Task}
 use Rattle.flick_top.specs.Answer.{Answering, IsAnswerOf, IsAnswer, IsAnswering, answers, is_refusal, refuses}
 use Rattle.flick_top.specs.Command.{command_of, word_at}
-use Rattle.flick_top.specs.File.{Told, longest_replies}
+use Rattle.flick_top.specs.File.{Reported, longest_replies}
 use Rattle.flick_top.specs.Fronts.{Read}
 use Rattle.flick_top.specs.Output.{Files, saying_task, answering_task, writing_task, showing_task, text_before, shapeless_task, serving_task, ServesText, ServesFile, Acts, ActsOver, Comes, IsTask, AreAnswered, IsAnswered, Out, text_out, out_of}
 use Rattle.flick_top.proofs.Determined.{one_answer}
-use Rattle.flick_top.proofs.FilesSay.{AreAlike, AreTold, file_says, told_alike}
+use Rattle.flick_top.proofs.FilesSay.{AreAlike, AreReported, file_says, reported_alike}
 use Rattle.flick_top.proofs.TwinTexts.{before_alike, stubs_alike, made_alike}
 
 -- ---- what the words come to
@@ -98,12 +98,12 @@ acts_alike (actions.Make number many) d e alike content t u p q =
     tasks_by t u (writing_task (make_text d.binding number many) (Some d)) (writing_task (make_text e.binding number many) (Some e)) p q
     (record { text = made_alike d.binding e.binding alike.twins number many; status = refl; lines = tt })
 
-over_told : (a : Action) (r s : Told) → AreTold r s → (content : Option (List ℕ)) (t u : Task)
+over_reported : (a : Action) (r s : Reported) → AreReported r s → (content : Option (List ℕ)) (t u : Task)
     → ActsOver a r content t → ActsOver a s content u → AreTasks t u
-over_told a (Ok d) (Ok e) same content t u p q = acts_alike a d e same content t u p q
-over_told a (Ok d) (Err f) same content t u p q = absurd same
-over_told a (Err e) (Ok c) same content t u p q = absurd same
-over_told a (Err e) (Err f) same content t u p q = no_lines t u (saying_task f) refl (p ∙ ap (λ (x : Saying). saying_task x) same) q
+over_reported a (Ok d) (Ok e) same content t u p q = acts_alike a d e same content t u p q
+over_reported a (Ok d) (Err f) same content t u p q = absurd same
+over_reported a (Err e) (Ok c) same content t u p q = absurd same
+over_reported a (Err e) (Err f) same content t u p q = no_lines t u (saying_task f) refl (p ∙ ap (λ (x : Saying). saying_task x) same) q
 
 shown_alike : (r : Read) (t u : Task) → t ≡ showing_task r → u ≡ showing_task r → AreTasks t u
 shown_alike (Ok v) t u p q = no_lines t u (writing_task (show_text v) None) refl p q
@@ -119,7 +119,7 @@ over_files codes (Some (commands.Show front)) words files t u (r, says, p) (s, a
     let same : r ≡ s = file_says front (files (word_at words 2)) r s says also in
     shown_alike s t u (p ∙ ap (λ (x : Read). showing_task x) same) q
 over_files codes (Some (commands.Over a n)) words files t u (r, mr, p) (s, ms, q) =
-    over_told a r s (told_alike codes n (files (word_at words n.file)) r s mr ms) (files (word_at words 4)) t u p q
+    over_reported a r s (reported_alike codes n (files (word_at words n.file)) r s mr ms) (files (word_at words 4)) t u p q
 
 -- ---- what is written
 

@@ -17,7 +17,7 @@ use Rattle.flick_top.specs.declared.saying.Saying.{Saying}
 use Rattle.flick_top.specs.declared.saying.Saying.TheVariants as sayings
 use Rattle.flick_top.specs.declared.task.Task.{Task}
 use Rattle.flick_top.specs.Command.{word_at}
-use Rattle.flick_top.specs.File.{Told, BindSays, BoundSays, codes_in, longest_replies}
+use Rattle.flick_top.specs.File.{Reported, BindSays, BoundSays, codes_in, longest_replies}
 use Rattle.flick_top.specs.Fronts.{Read}
 use Rattle.flick_top.specs.Made.{HasCodes, codes_of, engine_of}
 use Rattle.flick_top.specs.Output.{Files, ServesText, ServesFile, serving_task, saying_task, Acts, ActsOver, IsMadeOf, Comes}
@@ -78,39 +78,39 @@ bound_said codes k (Ok u) s h = bind_said codes u k (bind_fault u k) s h
 
 -- ---- commands
 
-bare_comes : (codes : List Stub) (a : Action) (n : Named) (words : List (List ℕ)) (files : Files) (told : Told) (task : Task)
-    → engine_of task ≡ None → IsMadeOf codes n (files (word_at words n.file)) told
-    → ActsOver a told (files (word_at words 4)) task → Comes [] (Some (Over a n)) words files task
+bare_comes : (codes : List Stub) (a : Action) (n : Named) (words : List (List ℕ)) (files : Files) (reported : Reported) (task : Task)
+    → engine_of task ≡ None → IsMadeOf codes n (files (word_at words n.file)) reported
+    → ActsOver a reported (files (word_at words 4)) task → Comes [] (Some (Over a n)) words files task
 bare_comes codes a n words files (Ok e) task none (read, says, bound) acts =
     (Ok (bare e), (read, says, bound_bare codes n.back read e bound), acts_bare a e (files (word_at words 4)) task none acts)
 bare_comes codes a n words files (Err s) task none (read, says, bound) acts =
     (Err s, (read, says, bound_said codes n.back read s bound), acts)
 
-comes_with : (a : Action) (n : Named) (words : List (List ℕ)) (files : Files) (told : Told) (task : Task)
-    → HasCodes told task → IsMadeOf (codes_in told) n (files (word_at words n.file)) told
-    → ActsOver a told (files (word_at words 4)) task
+comes_with : (a : Action) (n : Named) (words : List (List ℕ)) (files : Files) (reported : Reported) (task : Task)
+    → HasCodes reported task → IsMadeOf (codes_in reported) n (files (word_at words n.file)) reported
+    → ActsOver a reported (files (word_at words 4)) task
     → Comes (codes_of (engine_of task)) (Some (Over a n)) words files task
-comes_with a n words files told task (inl none) made acts =
+comes_with a n words files reported task (inl none) made acts =
     subst (λ (o : Option Coded). Comes (codes_of o) (Some (Over a n)) words files task) (sym none)
-    (bare_comes (codes_in told) a n words files told task none made acts)
-comes_with a n words files told task (inr same) made acts =
-    (told, subst (λ (s : List Stub). IsMadeOf s n (files (word_at words n.file)) told) (sym same) made, acts)
+    (bare_comes (codes_in reported) a n words files reported task none made acts)
+comes_with a n words files reported task (inr same) made acts =
+    (reported, subst (λ (s : List Stub). IsMadeOf s n (files (word_at words n.file)) reported) (sym same) made, acts)
 
-pub comes-over : (command : Command) (a : Action) (n : Named) (words : List (List ℕ)) (files : Files) (told : Told) (task : Task)
-    → command ≡ Over a n → HasCodes told task → IsMadeOf (codes_in told) n (files (word_at words n.file)) told
-    → ActsOver a told (files (word_at words 4)) task
+pub comes-over : (command : Command) (a : Action) (n : Named) (words : List (List ℕ)) (files : Files) (reported : Reported) (task : Task)
+    → command ≡ Over a n → HasCodes reported task → IsMadeOf (codes_in reported) n (files (word_at words n.file)) reported
+    → ActsOver a reported (files (word_at words 4)) task
     → Comes (codes_of (engine_of task)) (Some command) words files task
-comes-over command a n words files told task is has made acts =
+comes-over command a n words files reported task is has made acts =
     subst (λ (k : Command). Comes (codes_of (engine_of task)) (Some k) words files task) (sym is)
-    (comes_with a n words files told task has made acts)
+    (comes_with a n words files reported task has made acts)
 
 -- the same of what an action answered
-pub acted-comes : {E : Type 0} (x : Result Task E) (command : Command) (a : Action) (n : Named) (words : List (List ℕ)) (told : Told)
-    (before after : Option Files) → command ≡ Over a n → after ≡ before
-    → ((files : Files) → before ≡ Some files → IsMadeOf (codes_in told) n (files (word_at words n.file)) told)
-    → IfOk x (λ task. HasCodes told task)
-    → IfOk x (λ task. (files : Files) → after ≡ Some files → ActsOver a told (files (word_at words 4)) task)
+pub acted-comes : {E : Type 0} (x : Result Task E) (command : Command) (a : Action) (n : Named) (words : List (List ℕ))
+    (reported : Reported) (before after : Option Files) → command ≡ Over a n → after ≡ before
+    → ((files : Files) → before ≡ Some files → IsMadeOf (codes_in reported) n (files (word_at words n.file)) reported)
+    → IfOk x (λ task. HasCodes reported task)
+    → IfOk x (λ task. (files : Files) → after ≡ Some files → ActsOver a reported (files (word_at words 4)) task)
     → IfOk x (λ task. (files : Files) → before ≡ Some files → Comes (codes_of (engine_of task)) (Some command) words files task)
-acted-comes (Ok task) command a n words told before after is same made has acts = λ files known.
-    comes-over command a n words files told task is has (made files known) (acts files (same ∙ known))
-acted-comes (Err e) command a n words told before after is same made has acts = tt
+acted-comes (Ok task) command a n words reported before after is same made has acts = λ files known.
+    comes-over command a n words files reported task is has (made files known) (acts files (same ∙ known))
+acted-comes (Err e) command a n words reported before after is same made has acts = tt

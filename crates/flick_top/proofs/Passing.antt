@@ -14,10 +14,10 @@ use Rattle.flick_top.proofs.Prefix.{fresh, lines-split}
 all_lines : (input : List ℕ) (before after : Option (List ℕ)) (s t : State) (ls : List Line) (n most : ℕ) → s ≡ fresh n most
     → before ≡ Some input → Advances before after s t ls → KnowsEnd t after → t.ended ≡ true → pending t [] ≡ []
     → lines n input ≡ ls
-all_lines input before None s t ls n most new told advances knows ended none =
-    let (got, consumed, passed) = subst (λ (o : Option (List ℕ)). Advances o None s t ls) told advances in absurd consumed
-all_lines input before (Some rest) s t ls n most new told advances knows ended none =
-    let moved = subst (λ (o : Option (List ℕ)). Advances o (Some rest) s t ls) told advances in
+all_lines input before None s t ls n most new reported advances knows ended none =
+    let (got, consumed, passed) = subst (λ (o : Option (List ℕ)). Advances o None s t ls) reported advances in absurd consumed
+all_lines input before (Some rest) s t ls n most new reported advances knows ended none =
+    let moved = subst (λ (o : Option (List ℕ)). Advances o (Some rest) s t ls) reported advances in
     let kept = ap (λ (r : State). r.kept) new in
     let skips = ap (λ (r : State). r.skips) new in
     let split : lines s.longest input ≡ ls ++ pending t rest = lines-split input rest s t ls kept skips moved knows in
@@ -31,10 +31,10 @@ pub passes-all : (job : Job) (input : List ℕ) (before now after : Option (List
     (line : Line) (old new : Buf) → s ≡ fresh n most → before ≡ Some input → Advances before now s t ls
     → Advances now after t u (answered (Ok line)) → line ≡ End → KnowsEnd u after → (pending u [] ≡ []) × (u.ended ≡ true)
     → Passes job ls old new → Passes job (lines n input) old new
-passes-all job input before now after s t u ls n most line old new is told p q end knows (none, ended) passes =
+passes-all job input before now after s t u ls n most line old new is reported p q end knows (none, ended) passes =
     let both = advances-trans before now after s t u ls [] p (subst (λ (l : Line). Advances now after t u (answered (Ok l))) end q) in
     let same : lines n input ≡ ls =
-    all_lines input before after s u (ls ++ []) n most is told both knows ended none ∙ append-nil ls in
+    all_lines input before after s u (ls ++ []) n most is reported both knows ended none ∙ append-nil ls in
     subst (λ (l : List Line). Passes job l old new) (sym same) passes
 
 -- ---- a task
@@ -46,4 +46,4 @@ passes-of lines job left old new n is h = subst (λ (l : Option Job). PassesOf l
 -- where the status is another nothing is said
 pub passes-other : (lines : Option Job) (left : Input) (old new : Buf) (n : ℕ) → (n ≤ 1 → ⊥) → PassesOf lines left old new n
 passes-other None left old new n other = tt
-passes-other (Some job) left old new n other = λ few input told. absurd (other few)
+passes-other (Some job) left old new n other = λ few input reported. absurd (other few)

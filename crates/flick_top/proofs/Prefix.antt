@@ -11,8 +11,8 @@ use Rattle.flick_top.proofs.Turning.{answers-push}
 use Rattle.flick_top.specs.Answer.{Answering, answers}
 
 -- a prefix of these octets was appended
-abbrev pub WroteFront : Option (List ℕ) → Option (List ℕ) → List ℕ → Type 0
-WroteFront held held' octets = (front : List ℕ) × (rest : List ℕ) × (octets ≡ front ++ rest) × Appends held held' front
+abbrev pub WrotePrefix : Option (List ℕ) → Option (List ℕ) → List ℕ → Type 0
+WrotePrefix held held' octets = (front : List ℕ) × (rest : List ℕ) × (octets ≡ front ++ rest) × Appends held held' front
 
 -- a reader of lines that has taken nothing
 abbrev pub fresh : ℕ → ℕ → State
@@ -29,11 +29,11 @@ pub wrote-answers : (input : List ℕ) (before after : Option (List ℕ)) (s t :
     (held held' : Option (List ℕ))
     → before ≡ Some input → s.kept ≡ [] → s.skips ≡ false
     → Advances before after s t ls → KnowsEnd t after → Appends held held' (answers f ls)
-    → WroteFront held held' (answers f (lines s.longest input))
-wrote-answers input before None s t ls f held held' told kept skips advances knows wrote =
-    let (got, consumed, passed) = subst (λ (o : Option (List ℕ)). Advances o None s t ls) told advances in absurd consumed
-wrote-answers input before (Some rest) s t ls f held held' told kept skips advances knows wrote =
-    let moved = subst (λ (o : Option (List ℕ)). Advances o (Some rest) s t ls) told advances in (
+    → WrotePrefix held held' (answers f (lines s.longest input))
+wrote-answers input before None s t ls f held held' reported kept skips advances knows wrote =
+    let (got, consumed, passed) = subst (λ (o : Option (List ℕ)). Advances o None s t ls) reported advances in absurd consumed
+wrote-answers input before (Some rest) s t ls f held held' reported kept skips advances knows wrote =
+    let moved = subst (λ (o : Option (List ℕ)). Advances o (Some rest) s t ls) reported advances in (
       answers f ls,
       answers f (pending t rest),
       ap (answers f) (lines-split input rest s t ls kept skips moved knows) ∙ flat_map-append f ls (pending t rest),
@@ -45,22 +45,22 @@ pub front-answers : (input : List ℕ) (before after : Option (List ℕ)) (s t :
     (held held' : Option (List ℕ)) (n most : ℕ)
     → s ≡ fresh n most → before ≡ Some input
     → Advances before after s t ls → KnowsEnd t after → Appends held held' (answers f ls)
-    → WroteFront held held' (answers f (lines n input))
-front-answers input before after s t ls f held held' n most new told advances knows wrote =
-    subst (λ (k : ℕ). WroteFront held held' (answers f (lines k input))) (ap (λ (r : State). r.longest) new)
-    (wrote-answers input before after s t ls f held held' told (ap (λ (r : State). r.kept) new) (ap (λ (r : State). r.skips) new)
+    → WrotePrefix held held' (answers f (lines n input))
+front-answers input before after s t ls f held held' n most new reported advances knows wrote =
+    subst (λ (k : ℕ). WrotePrefix held held' (answers f (lines k input))) (ap (λ (r : State). r.longest) new)
+    (wrote-answers input before after s t ls f held held' reported (ap (λ (r : State). r.kept) new) (ap (λ (r : State). r.skips) new)
     advances knows wrote)
 
 -- a prefix of a prefix and what follows it
-pub front-part : (held held' : Option (List ℕ)) (whole done more : List ℕ) → WroteFront held held' done → (x : List ℕ) → whole ≡ done ++ x
-    → WroteFront held held' whole
+pub front-part : (held held' : Option (List ℕ)) (whole done more : List ℕ) → WrotePrefix held held' done → (x : List ℕ) → whole ≡ done ++ x
+    → WrotePrefix held held' whole
 front-part held held' whole done more (front, rest, e, wrote) x w =
     (front, rest ++ x, w ∙ ap (λ (l : List ℕ). l ++ x) e ∙ append_assoc front rest x, wrote)
 
 -- the answers so far, and a prefix of the next
 pub front-next : (held held' held'' : Option (List ℕ)) (f : Answering) (ls : List Line) (line : Line) → Appends held held' (answers f ls)
-    → WroteFront held' held'' (f line)
-    → WroteFront held held'' (answers f (ls ++ line ∷ []))
+    → WrotePrefix held' held'' (f line)
+    → WrotePrefix held held'' (answers f (ls ++ line ∷ []))
 front-next held held' held'' f ls line wrote (front, rest, e, more) =
     let parts = answers-push f ls line ∙ ap (λ (l : List ℕ). answers f ls ++ l) e ∙ sym (append_assoc (answers f ls) front rest) in
     (answers f ls ++ front, rest, parts, Appends-trans held held' held'' (answers f ls) front wrote more)
@@ -68,10 +68,10 @@ front-next held held' held'' f ls line wrote (front, rest, e, more) =
 front_split : (input : List ℕ) (before after : Option (List ℕ)) (s t : State) (ls : List Line) (f : Answering) → before ≡ Some input
     → s.kept ≡ [] → s.skips ≡ false
     → Advances before after s t ls → KnowsEnd t after → (x : List ℕ) × (answers f (lines s.longest input) ≡ answers f ls ++ x)
-front_split input before None s t ls f told kept skips advances knows =
-    let (got, consumed, passed) = subst (λ (o : Option (List ℕ)). Advances o None s t ls) told advances in absurd consumed
-front_split input before (Some rest) s t ls f told kept skips advances knows =
-    let moved = subst (λ (o : Option (List ℕ)). Advances o (Some rest) s t ls) told advances in
+front_split input before None s t ls f reported kept skips advances knows =
+    let (got, consumed, passed) = subst (λ (o : Option (List ℕ)). Advances o None s t ls) reported advances in absurd consumed
+front_split input before (Some rest) s t ls f reported kept skips advances knows =
+    let moved = subst (λ (o : Option (List ℕ)). Advances o (Some rest) s t ls) reported advances in
     let split = ap (answers f) (lines-split input rest s t ls kept skips moved knows) in
     (answers f (pending t rest), split ∙ flat_map-append f ls (pending t rest))
 
@@ -80,14 +80,14 @@ pub front-failed : (input : List ℕ) (before now after : Option (List ℕ)) (s 
     (held held' held'' : Option (List ℕ)) (n most : ℕ)
     → s ≡ fresh n most → before ≡ Some input
     → Advances before now s t ls → Advances now after t u (line ∷ []) → KnowsEnd u after → Appends held held' (answers f ls)
-    → WroteFront held' held'' (f line)
-    → WroteFront held held'' (answers f (lines n input))
-front-failed input before now after s t u ls line f held held' held'' n most new told p q knows wrote part =
+    → WrotePrefix held' held'' (f line)
+    → WrotePrefix held held'' (answers f (lines n input))
+front-failed input before now after s t u ls line f held held' held'' n most new reported p q knows wrote part =
     let both = advances-trans before now after s t u ls (line ∷ []) p q in
     let kept = ap (λ (r : State). r.kept) new in
     let skips = ap (λ (r : State). r.skips) new in
-    let (x, e) = front_split input before after s u (ls ++ line ∷ []) f told kept skips both knows in
-    subst (λ (k : ℕ). WroteFront held held'' (answers f (lines k input))) (ap (λ (r : State). r.longest) new)
+    let (x, e) = front_split input before after s u (ls ++ line ∷ []) f reported kept skips both knows in
+    subst (λ (k : ℕ). WrotePrefix held held'' (answers f (lines k input))) (ap (λ (r : State). r.longest) new)
     (front-part held held'' (answers f (lines s.longest input)) (answers f (ls ++ line ∷ [])) []
     (front-next held held' held'' f ls line wrote part) x e)
 

@@ -76,8 +76,8 @@ verb_spends Count c ls old new h =
 pub spends-for : (jobs : Option Job) (left : Input) (first old new : Buf) (status : ℕ) → (jobs ≢ None → old ≡ first)
     → PassesOf jobs left old new status → status ≤ 1 → (input : List ℕ) → left ≡ Some input
     → SpendsFor jobs (lines longest_line input) first new
-spends-for None left first old new status same passes few input told = tt
-spends-for (Some (Serve s)) left first old new status same passes few input told = tt
-spends-for (Some (Over verb c)) left first old new status same passes few input told =
+spends-for None left first old new status same passes few input reported = tt
+spends-for (Some (Serve s)) left first old new status same passes few input reported = tt
+spends-for (Some (Over verb c)) left first old new status same passes few input reported =
     subst (λ (b : Buf). SpendsFor (Some (Over verb c)) (lines longest_line input) b new) (same (λ none. absurd (cc none)))
-    (verb_spends verb c (lines longest_line input) old new (passes few input told))
+    (verb_spends verb c (lines longest_line input) old new (passes few input reported))

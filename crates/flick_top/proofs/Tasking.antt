@@ -17,8 +17,8 @@ use Rattle.flick_top.specs.Made.{codes_of, engine_of, LeavesEngine}
 use Rattle.flick_top.specs.Saying.{ending}
 use Rattle.flick_top.specs.Command.{command_of}
 use Rattle.kit_texts.specs.WholeLines.{AreWholeLines}
-use Rattle.flick_top.specs.Outside.{Input, TakesFront}
-use Rattle.flick_top.specs.Statement.{WritesFront, WritesEnded, WritesWholeLines, Works, Leaves}
+use Rattle.flick_top.specs.Outside.{Input, TakesPrefix}
+use Rattle.flick_top.specs.Statement.{WritesPrefix, WritesEnded, WritesWholeLines, Works, Leaves}
 use Rattle.flick_top.specs.declared.command.Command.{Command}
 use Rattle.flick_top.specs.Turn.{IsReady}
 use Rattle.flick_top.proofs.WholeLines.{both_whole, said-whole}
@@ -55,11 +55,11 @@ task_out task lines f is = ap (λ (l : Option Job). text_out task.text task.stat
 
 pub front-after : (task : Task) (job : Job) (f : Answering) (left : Input) (held mid held' : Option (List ℕ)) → task.lines ≡ Some job
     → Appends held mid task.text
-    → WritesFront (answers_out f) left mid held' → WritesFront (out_of task f) left held held'
+    → WritesPrefix (answers_out f) left mid held' → WritesPrefix (out_of task f) left held held'
 front-after task job f left held mid held' is text wrote =
-    subst (λ (over : Lines). WritesFront over left held held') (sym (task_out task (Some job) f is))
-    (λ input told.
-    let (front, rest, parts, more) = wrote input told in
+    subst (λ (over : Lines). WritesPrefix over left held held') (sym (task_out task (Some job) f is))
+    (λ input reported.
+    let (front, rest, parts, more) = wrote input reported in
     let all = ap (λ (o : List ℕ). task.text ++ o) parts ∙ sym (append_assoc task.text front rest) in
     (task.text ++ front, rest, all, Appends-trans held mid held' task.text front text more))
 
@@ -68,8 +68,8 @@ pub ended-after : (task : Task) (job : Job) (f : Answering) (left left' : Input)
     → WritesEnded (answers_out f) left left' mid held' n → WritesEnded (out_of task f) left left' held held' n
 ended-after task job f left left' held mid held' n is text wrote =
     subst (λ (over : Lines). WritesEnded over left left' held held' n) (sym (task_out task (Some job) f is))
-    (λ four input told.
-    let (taken, consumed, more) = wrote four input told in
+    (λ four input reported.
+    let (taken, consumed, more) = wrote four input reported in
     (taken, consumed, Appends-trans held mid held' task.text _ text more))
 
 pub whole-after : (text : List ℕ) (held mid held' : Option (List ℕ)) (n : ℕ) → AreWholeLines text → Appends held mid text
@@ -91,8 +91,8 @@ out_begins task (Some job) f front rest parts input =
 
 pub front-broken : (task : Task) (f : Answering) (left : Input) (held held' : Option (List ℕ))
     → (front : List ℕ) × (rest : List ℕ) × (task.text ≡ front ++ rest) × Appends held held' front
-    → WritesFront (out_of task f) left held held'
-front-broken task f left held held' (front, rest, parts, wrote) = λ input told.
+    → WritesPrefix (out_of task f) left held held'
+front-broken task f left held held' (front, rest, parts, wrote) = λ input reported.
     let (more, all) = out_begins task task.lines f front rest parts input in
     (front, more, all, wrote)
 
@@ -100,7 +100,7 @@ front-broken task f left held held' (front, rest, parts, wrote) = λ input told.
 
 pub took : (before now after : Option (List ℕ)) (s t u : State) (ls more : List Line) → Advances before now s t ls
     → Advances now after t u more
-    → TakesFront before after
+    → TakesPrefix before after
 took before now after s t u ls more p q =
     let (got, consumed, passed) = advances-trans before now after s t u ls more p q in (got, consumed)
 
@@ -124,8 +124,8 @@ shapeless-work made words files left faults held none = inr (
   subst (λ (o : Option Command). Comes (codes_of made) o words files shapeless_task) (sym none) refl,
   tt,
   record {
-    output = λ few input told. (refl, Appends-nil held);
-    front = λ input told. ([], [], refl, Appends-nil held);
+    output = λ few input reported. (refl, Appends-nil held);
+    front = λ input reported. ([], [], refl, Appends-nil held);
     ended = λ four. absurd (cc four);
     unread = λ none. (Consumes-nil left, refl, (λ e. absurd (cc e)), λ e. absurd (cc e));
     at_end = λ some. absurd (some refl);

@@ -21,7 +21,7 @@ use Rattle.flick_top.specs.declared.job.Job.TheVariants as jobs
 use Rattle.flick_top.specs.declared.saying.Saying.TheVariants as sayings
 use Rattle.flick_top.specs.declared.task.Task.{Task}
 use Rattle.flick_top.specs.Command.{command_of, word_at, IsKnown}
-use Rattle.flick_top.specs.File.{Told, BindSays, BoundSays, FileSays, longest_replies}
+use Rattle.flick_top.specs.File.{Reported, BindSays, BoundSays, FileSays, longest_replies}
 use Rattle.flick_top.specs.Fronts.{Read, IsRead, UnitOf}
 use Rattle.flick_top.specs.Laws.{WordsHaveTasks}
 use Rattle.flick_top.specs.Output.{Files, saying_task, answering_task, writing_task, showing_task, text_before, shapeless_task, serving_task, ServesText, ServesFile, Acts, ActsOver, Comes}
@@ -31,13 +31,13 @@ use Rattle.flick_top.proofs.UnitsOfFronts.{IsSoundRead, unit_has}
 -- ---- over a back end
 
 bind_has : (codes : List Stub) (u : PlainUnit) (k : Back) (e : Option BindErr) → IsSoundPlain u → bind_fault u k ≡ e
-    → (told : Told) × BindSays codes u k e told
+    → (reported : Reported) × BindSays codes u k e reported
 bind_has codes u k (Some e) sound is = (Err (sayings.Bind e), refl)
 bind_has codes u k None sound is =
     let (b, stands, unit, of, nodes) = units_bound u k sound is in
     (Ok (record { binding = b; stubs = codes }), (record { stands = stands; unit = unit; back = of; nodes = nodes }, refl))
 
-bound_has : (codes : List Stub) (k : Back) (read : Read) → IsSoundRead read → (told : Told) × BoundSays codes k read told
+bound_has : (codes : List Stub) (k : Back) (read : Read) → IsSoundRead read → (reported : Reported) × BoundSays codes k read reported
 bound_has codes k (Err saying) sound = (Err saying, refl)
 bound_has codes k (Ok u) sound = bind_has codes u k (bind_fault u k) sound refl
 
@@ -69,9 +69,9 @@ action_has (actions.Answer verb) e content = (answering_task (text_before verb e
 action_has actions.Stubs e content = (writing_task (stubs_text e) (Some e), refl)
 action_has (actions.Make number many) e content = (writing_task (make_text e.binding number many) (Some e), refl)
 
-told_has : (a : Action) (told : Told) (content : Option (List ℕ)) → (task : Task) × ActsOver a told content task
-told_has a (Ok e) content = action_has a e content
-told_has a (Err saying) content = (saying_task saying, refl)
+reported_has : (a : Action) (reported : Reported) (content : Option (List ℕ)) → (task : Task) × ActsOver a reported content task
+reported_has a (Ok e) content = action_has a e content
+reported_has a (Err saying) content = (saying_task saying, refl)
 
 command_has : (codes : List Stub) (command : Option Command) (words : List (List ℕ)) (files : Files) → IfSome command IsKnown
     → (task : Task) × Comes codes command words files task
@@ -83,9 +83,9 @@ command_has codes (Some (commands.Show front)) words files all =
     (showing_task read, (read, says, refl))
 command_has codes (Some (commands.Over a n)) words files all =
     let (read, says, sound) = file_has n.front all.0 (files (word_at words n.file)) in
-    let (told, bound) = bound_has codes n.back read sound in
-    let (task, acts) = told_has a told (files (word_at words 4)) in
-    (task, (told, (read, says, bound), acts))
+    let (reported, bound) = bound_has codes n.back read sound in
+    let (task, acts) = reported_has a reported (files (word_at words 4)) in
+    (task, (reported, (read, says, bound), acts))
 
 pub words_task : WordsHaveTasks
 words_task codes words files = command_has codes (command_of words) words files (known words)

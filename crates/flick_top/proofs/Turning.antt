@@ -50,11 +50,11 @@ one_more left left' left'' s t u held held' held'' job ls line refused refused' 
   ls ++ line ∷ [],
   advances-trans left left' left'' s t u ls (line ∷ []) p q,
   λ f all.
-      let (before, told) = written f all in
+      let (before, reported) = written f all in
       let same : answer ≡ f line = one_answer job line answer (f line) is (all line) in (
         subst (Appends held held'') (sym (answers-push f ls line))
             (Appends-trans held held' held'' (answers f ls) (f line) before (subst (Appends held' held'') same a)),
-        r' ∙ ap (λ (x : List ℕ). refused || is_refusal x) same ∙ ap (λ (x : Bool). x || is_refusal (f line)) told
+        r' ∙ ap (λ (x : List ℕ). refused || is_refusal x) same ∙ ap (λ (x : Bool). x || is_refusal (f line)) reported
             ∙ sym (refuses-push f ls line),
       ),
   passes-push job ls line old mid new passes turn,

@@ -6,7 +6,7 @@ use Rattle.idl_lex.specs.declared.kinds.Front.{Front}
 use Rattle.idl_lex.specs.declared.kinds.Front.TheVariants as front
 use Rattle.idl_lex.specs.declared.kinds.Token.{Token}
 use Rattle.idl_lex.specs.declared.lexing.LexErr.{LexErr}
-use Rattle.idl_lex.specs.Lexed.{tokens_behind, AreTokens, IsFirstFault}
+use Rattle.idl_lex.specs.Lexed.{tokens_after, AreTokens, IsFirstFault}
 use Rattle.idl_lex.proofs.Deciding.{decided as text_decided}
 use Rattle.idl_lex.proofs.Standing.{same_pieces, same_fault, not_both}
 use Rattle.syntax_kit.specs.Grammar.{Text, mark, ◌&◌}
@@ -166,7 +166,7 @@ tokens_have front.Mig read tokens = mig_have tokens (mig_decided tokens)
 
 pub one_unit : (k : Front) (text : List ℕ) (r s : Read) → UnitOf k text r → UnitOf k text s → r ≡ s
 one_unit k text r s (inl (a, (ps, first, ta), ra)) (inl (b, (qs, second, tb), sb)) =
-    let same : a ≡ b = ta ∙ ap (tokens_behind []) (same_pieces k text ps qs first second) ∙ sym tb in
+    let same : a ≡ b = ta ∙ ap (tokens_after []) (same_pieces k text ps qs first second) ∙ sym tb in
     tokens_once k b r s (subst (λ (t : List Token). TokensSay k t r) same ra) sb
 one_unit k text r s (inl (a, (ps, stand, ta), ra)) (inr (f, is, sb)) = absurd (not_both k text ps f stand is)
 one_unit k text r s (inr (e, is, ra)) (inl (b, (qs, stand, tb), sb)) = absurd (not_both k text qs e stand is)

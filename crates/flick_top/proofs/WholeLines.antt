@@ -17,11 +17,11 @@ use Rattle.kit_texts.specs.WholeLines.{AreWholeLines}
 abbrev IsEnded : List ℕ → Type 0
 IsEnded octets = (front : List ℕ) × (octets ≡ front ++ 10 ∷ [])
 
-behind : (xs ys : List ℕ) → IsEnded ys → IsEnded (xs ++ ys)
-behind xs ys (front, e) = (xs ++ front, ap (λ (l : List ℕ). xs ++ l) e ∙ sym (append_assoc xs front (10 ∷ [])))
+after : (xs ys : List ℕ) → IsEnded ys → IsEnded (xs ++ ys)
+after xs ys (front, e) = (xs ++ front, ap (λ (l : List ℕ). xs ++ l) e ∙ sym (append_assoc xs front (10 ∷ [])))
 
 pub both_whole : (xs ys : List ℕ) → AreWholeLines xs → AreWholeLines ys → AreWholeLines (xs ++ ys)
-both_whole xs ys first (inr ended) = inr (behind xs ys ended)
+both_whole xs ys first (inr ended) = inr (after xs ys ended)
 both_whole xs ys (inl e) (inl f) = inl (rw (e, f))
 both_whole xs ys (inr (front, e)) (inl f) = inr (front, ap (λ (l : List ℕ). xs ++ l) f ∙ append-nil xs ∙ e)
 
@@ -55,10 +55,10 @@ ended_by (x ∷ []) e = ([], ap (λ (n : ℕ). n ∷ []) (eqb-true x 10 e))
 ended_by (x ∷ y ∷ ys) e = let (front, f) = ended_by (y ∷ ys) e in (x ∷ front, ap (λ (l : List ℕ). x ∷ l) f)
 
 word_ended : (head word : List ℕ) → IsEnded (head ++ word ++ codes "\n")
-word_ended head word = behind (head ++ word) (codes "\n") feed
+word_ended head word = after (head ++ word) (codes "\n") feed
 
 place_ended : (head word place : List ℕ) → IsEnded (head ++ word ++ codes " " ++ place ++ codes "\n")
-place_ended head word place = behind (head ++ word ++ codes " " ++ place) (codes "\n") feed
+place_ended head word place = after (head ++ word ++ codes " " ++ place) (codes "\n") feed
 
 -- what is said is whole lines
 pub said-whole : (saying : Saying) → AreWholeLines (said saying)

@@ -36,11 +36,11 @@ IsSoundly (Ok u) = IsSoundPlain (plain u)
 IsSoundly (Err saying) = Unit {0}
 
 -- an engine, or what is said instead
-abbrev pub Told : Type 0
-Told = Result Coded Saying
+abbrev pub Reported : Type 0
+Reported = Result Coded Saying
 
 -- the codes of an engine, or none
-abbrev pub codes_in : Told → List Stub
+abbrev pub codes_in : Reported → List Stub
 codes_in (Ok e) = e.stubs
 codes_in (Err saying) = []
 
@@ -52,11 +52,11 @@ pub record IsOver (u : PlainUnit) (k : Back) (b : Binding) : Type 0 where
   pub nodes : faces b.nodes b.shapes ≡ all_made u k
 
 -- a unit that has this reason against it; or else the engine that is given is over its binding, and these are its codes
-abbrev pub BindSays : List Stub → PlainUnit → Back → Option BindErr → Told → Type 0
-BindSays codes u back (Some e) told = told ≡ Err (Bind e)
-BindSays codes u back None told = IsOkAnd told (λ e. IsOver u back e.binding × (e.stubs ≡ codes))
+abbrev pub BindSays : List Stub → PlainUnit → Back → Option BindErr → Reported → Type 0
+BindSays codes u back (Some e) reported = reported ≡ Err (Bind e)
+BindSays codes u back None reported = IsOkAnd reported (λ e. IsOver u back e.binding × (e.stubs ≡ codes))
 
 -- what was read, over a back end
-abbrev pub BoundSays : List Stub → Back → Read → Told → Type 0
-BoundSays codes back (Err saying) told = told ≡ Err saying
-BoundSays codes back (Ok u) told = BindSays codes u back (bind_fault u back) told
+abbrev pub BoundSays : List Stub → Back → Read → Reported → Type 0
+BoundSays codes back (Err saying) reported = reported ≡ Err saying
+BoundSays codes back (Ok u) reported = BindSays codes u back (bind_fault u back) reported

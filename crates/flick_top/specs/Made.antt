@@ -15,7 +15,7 @@ use Rattle.flick_top.specs.declared.job.Job.{Job}
 use Rattle.flick_top.specs.declared.job.Job.TheVariants as jobs
 use Rattle.flick_top.specs.declared.task.Task.{Task}
 use Rattle.flick_top.specs.Command.{word_at}
-use Rattle.flick_top.specs.File.{Told, FileSays, IsOver, codes_in, longest_replies}
+use Rattle.flick_top.specs.File.{Reported, FileSays, IsOver, codes_in, longest_replies}
 use Rattle.flick_top.specs.Output.{Files}
 
 -- the engine of a job
@@ -38,8 +38,8 @@ codes_of None = []
 codes_of (Some e) = e.stubs
 
 -- the engine of a task has the codes of what was made, if it has one
-abbrev pub HasCodes : Told → Task → Type 0
-HasCodes told task = (engine_of task ≡ None) ⊎ (codes_of (engine_of task) ≡ codes_in told)
+abbrev pub HasCodes : Reported → Task → Type 0
+HasCodes reported task = (engine_of task ≡ None) ⊎ (codes_of (engine_of task) ≡ codes_in reported)
 
 -- an engine of a unit over a back end, each of whose codes is that of its operation
 abbrev pub IsEngineOver : PlainUnit → Back → Coded → Type 0

@@ -25,7 +25,7 @@ use Rattle.flick_top.specs.declared.status.Status.TheVariants.{Done, Usage}
 use Rattle.flick_top.specs.declared.task.Task.{Task}
 use Rattle.flick_top.specs.Answer.{Answering, IsAnswering, answers, refuses}
 use Rattle.flick_top.specs.Command.{command_of, word_at}
-use Rattle.flick_top.specs.File.{Told, FileSays, BoundSays, longest_replies}
+use Rattle.flick_top.specs.File.{Reported, FileSays, BoundSays, longest_replies}
 use Rattle.flick_top.specs.Fronts.{Read}
 use Rattle.flick_top.specs.Outside.{Input}
 use Rattle.flick_top.specs.Saying.{said, ending}
@@ -81,13 +81,13 @@ Acts actions.Stubs e content task = task ≡ writing_task (stubs_text e) (Some e
 Acts (actions.Make number many) e content task = task ≡ writing_task (make_text e.binding number many) (Some e)
 
 -- the same over what was made, or is said instead
-abbrev pub ActsOver : Action → Told → Option (List ℕ) → Task → Type 0
+abbrev pub ActsOver : Action → Reported → Option (List ℕ) → Task → Type 0
 ActsOver action (Ok e) content task = Acts action e content task
 ActsOver action (Err saying) content task = task ≡ saying_task saying
 
 -- what the content of a file comes to by a front end and over a back end, where an engine has these codes
-abbrev pub IsMadeOf : List Stub → Named → Option (List ℕ) → Told → Type 0
-IsMadeOf codes n content told = (read : Read) × FileSays n.front content read × BoundSays codes n.back read told
+abbrev pub IsMadeOf : List Stub → Named → Option (List ℕ) → Reported → Type 0
+IsMadeOf codes n content reported = (read : Read) × FileSays n.front content read × BoundSays codes n.back read reported
 
 -- to write the text of a unit that was read, or what is said instead
 abbrev pub showing_task : Read → Task
@@ -102,7 +102,8 @@ Comes codes (Some commands.Version) words files task = task ≡ saying_task sayi
 Comes codes (Some (commands.Show front)) words files task =
     (read : Read) × FileSays front (files (word_at words 2)) read × (task ≡ showing_task read)
 Comes codes (Some (commands.Over action n)) words files task =
-    (told : Told) × IsMadeOf codes n (files (word_at words n.file)) told × ActsOver action told (files (word_at words 4)) task
+    (reported : Reported) × IsMadeOf codes n (files (word_at words n.file)) reported
+    × ActsOver action reported (files (word_at words 4)) task
 
 -- the words come to this task over these files
 abbrev pub IsTask : List Stub → List (List ℕ) → Files → Task → Type 0

@@ -13,8 +13,8 @@ abbrev pub Held : Type 0
 Held = Option (List ℕ)
 
 -- what was taken is a prefix of what was there
-abbrev pub TakesFront : Input → Input → Type 0
-TakesFront left left' = (taken : List ℕ) × Consumes left left' taken
+abbrev pub TakesPrefix : Input → Input → Type 0
+TakesPrefix left left' = (taken : List ℕ) × Consumes left left' taken
 
 -- a line ends in these octets
 abbrev pub has_end : List ℕ → Bool

@@ -87,8 +87,8 @@ pub fn task_of<F: Shelf>(
             Ok(shown(alloc, read)?)
         }
         Command::Over(action, named) => {
-            let told = engine_at(alloc, &named, word_at(words, named.file), shelf)?;
-            acted(alloc, action, told, word_at(words, REPLIES), shelf, buf)
+            let reported = engine_at(alloc, &named, word_at(words, named.file), shelf)?;
+            acted(alloc, action, reported, word_at(words, REPLIES), shelf, buf)
         }
     }
 }
@@ -108,15 +108,15 @@ fn shown(alloc: Global, read: Result<Unit, Saying>) -> Result<Task, NoMemory>
 fn acted<F: Shelf>(
     alloc: Global,
     action: Action,
-    told: Result<Engine, Saying>,
+    reported: Result<Engine, Saying>,
     path: &[u8],
     shelf: &mut F,
     buf: &mut SendBuf,
 ) -> Result<Task, TaskErr>
     // What it comes to.
     ensures acts { IfOk result (λ task. (files : Files) → F.files shelf.old ≡ Some files
-        → ActsOver action told (files path.now) task) }
-    ensures codes { IfOk result (λ task. HasCodes told task) }
+        → ActsOver action reported (files path.now) task) }
+    ensures codes { IfOk result (λ task. HasCodes reported task) }
     ensures ready { IfOk result IsReady }
     // Whether the shelf failed.
     ensures files { F.files shelf.new ≡ F.files shelf.old }
@@ -127,7 +127,7 @@ fn acted<F: Shelf>(
     ensures buffer { IfOk result (λ task. task.lines ≢ None → buf.new ≡ buf.old) }
     ensures spent { NoneFell buf.old.spent buf.new.spent }
 {
-    match told {
+    match reported {
         Ok(engine) => acting(alloc, action, engine, path, shelf, buf),
         Err(saying) => Ok(Task::of_saying(alloc, saying)?),
     }
@@ -250,8 +250,8 @@ fn engine_at<F: Shelf>(
     shelf: &mut F,
 ) -> Result<Result<Engine, Saying>, TaskErr>
     requires known { IsNamed named.now }
-    ensures told { IfOk result (λ told. (files : Files) → F.files shelf.old ≡ Some files
-        → IsMadeOf (codes_in told) named.now (files path.now) told) }
+    ensures reported { IfOk result (λ reported. (files : Files) → F.files shelf.old ≡ Some files
+        → IsMadeOf (codes_in reported) named.now (files path.now) reported) }
     ensures files { F.files shelf.new ≡ F.files shelf.old }
     ensures later { F.faults shelf.old ≤ F.faults shelf.new }
     ensures cause { IfErr result (λ e. e ≡ TaskErr.Shelf → Rose (F.faults shelf.old) (F.faults shelf.new)) }
@@ -271,7 +271,7 @@ fn unit_at<F: Shelf>(
 ) -> Result<Result<Unit, Saying>, TaskErr>
     requires read { IsRead front }
     // What was read.
-    ensures told { IfOk result (λ read. (files : Files) → F.files shelf.old ≡ Some files
+    ensures reported { IfOk result (λ read. (files : Files) → F.files shelf.old ≡ Some files
         → FileSays front (files path.now) (plainly read)) }
     ensures sound { IfOk result IsSoundly }
     // Whether the shelf failed.

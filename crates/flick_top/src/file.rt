@@ -42,7 +42,7 @@ pub fn made_of(
 ) -> Result<Result<Engine, Saying>, NoMemory>
     requires made { IsMade back }
     requires sound { IsSoundly read }
-    ensures { IfOk result (λ told. BoundSays (codes_in told) back (plainly read) told) }
+    ensures { IfOk result (λ reported. BoundSays (codes_in reported) back (plainly read) reported) }
 {
     match read {
         Ok(unit) => bound_to(alloc, back, unit),
@@ -54,8 +54,8 @@ pub fn made_of(
 fn bound_to(alloc: Global, back: Back, unit: Unit) -> Result<Result<Engine, Saying>, NoMemory>
     requires made { IsMade back }
     requires sound { IsSoundPlain (plain unit) }
-    ensures { IfOk result (λ told.
-        BindSays (codes_in told) (plain unit) back (bind_fault (plain unit) back) told) }
+    ensures { IfOk result (λ reported.
+        BindSays (codes_in reported) (plain unit) back (bind_fault (plain unit) back) reported) }
 {
     match bind(alloc, unit, back) {
         Ok(bound) => Ok(Ok(Engine::compile(alloc, bound)?)),

@@ -4,7 +4,7 @@ ghost use Rattle.std.specs.Prelude.{◌≡◌, ◌≤◌, Some};
 ghost use Rattle.kit_base.specs.Causes.{Rose};
 ghost use Rattle.raw_buf.specs.Buf.{NoneFell};
 ghost use Rattle.flick_top.specs.Output.{Files};
-ghost use Rattle.flick_top.specs.Outside.{TakesFront, ComesBy, StandsUnless};
+ghost use Rattle.flick_top.specs.Outside.{TakesPrefix, ComesBy, StandsUnless};
 ghost use Rattle.flick_top.specs.Spending.{SpendsBuf};
 ghost use Rattle.flick_top.specs.Statement.{Works, Leaves, LeavesNone, IsUsage, NeedsFile, WritesNothing, WritesWholeLines, TakesMore, TakesAtMost, TakesNothing, Completes};
 
@@ -45,7 +45,7 @@ pub fn flick<F: Shelf, S: Source, K: Sink>(
     ensures nothing { WritesNothing (K.held output.old) (K.held output.new) result }
     ensures lines { WritesWholeLines (K.held output.old) (K.held output.new) result }
     // What was taken.
-    ensures taken { TakesFront (S.left input.old) (S.left input.new) }
+    ensures taken { TakesPrefix (S.left input.old) (S.left input.new) }
     ensures more { TakesMore (S.left input.old) (S.left input.new) result }
     ensures at_most { TakesAtMost (S.left input.old) (S.left input.new) result }
     ensures unread { TakesNothing (S.left input.old) (S.left input.new) result }
@@ -54,9 +54,9 @@ pub fn flick<F: Shelf, S: Source, K: Sink>(
     ensures source { ComesBy 4 (S.faults input.old) (S.faults input.new) result }
     ensures sink { ComesBy 5 (K.faults output.old) (K.faults output.new) result }
     ensures shelf { ComesBy 6 (F.faults shelf.old) (F.faults shelf.new) result }
-    ensures source_told { StandsUnless 4 (S.faults input.old) (S.faults input.new) result }
-    ensures sink_told { StandsUnless 5 (K.faults output.old) (K.faults output.new) result }
-    ensures shelf_told { StandsUnless 6 (F.faults shelf.old) (F.faults shelf.new) result }
+    ensures source_reported { StandsUnless 4 (S.faults input.old) (S.faults input.new) result }
+    ensures sink_reported { StandsUnless 5 (K.faults output.old) (K.faults output.new) result }
+    ensures shelf_reported { StandsUnless 6 (F.faults shelf.old) (F.faults shelf.new) result }
     ensures completes { Completes (S.left input.old) (S.left input.new)
         (Rose (S.faults input.old) (S.faults input.new)) (Rose (K.faults output.old) (K.faults output.new))
         (Rose (F.faults shelf.old) (F.faults shelf.new)) result }

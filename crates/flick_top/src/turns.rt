@@ -5,9 +5,9 @@ ghost use Rattle.std.specs.Io.KnownBytes.{IsAtEnd};
 ghost use Rattle.raw_buf.specs.Buf.{NoneFell};
 ghost use Rattle.flick_top.specs.Answer.{Answering, IsAnswering};
 ghost use Rattle.flick_top.specs.Output.{answers_out, out_of, IsAnswered, LeavesInput, EndsInput};
-ghost use Rattle.flick_top.specs.Outside.{TakesFront, ComesBy, StandsUnless};
+ghost use Rattle.flick_top.specs.Outside.{TakesPrefix, ComesBy, StandsUnless};
 ghost use Rattle.flick_top.specs.Passing.{PassesInput, PassesOf};
-ghost use Rattle.flick_top.specs.Statement.{Writes, WritesFront, WritesEnded, WritesNothing, WritesWholeLines, TakesMore, TakesAtMost, TakesNothing};
+ghost use Rattle.flick_top.specs.Statement.{Writes, WritesPrefix, WritesEnded, WritesNothing, WritesWholeLines, TakesMore, TakesAtMost, TakesNothing};
 ghost use Rattle.flick_top.specs.Status.{number_of};
 ghost use Rattle.flick_top.specs.Turn.{status_at, IsReady};
 
@@ -33,8 +33,8 @@ pub fn perform<S: Source, K: Sink>(
     // What was written.
     ensures output { (f : Answering) → IsAnswered task.now f → Writes (out_of task.now f) (S.left input.old)
         (K.held output.old) (K.held output.new) (number_of result) }
-    ensures front { (f : Answering) → IsAnswered task.now f
-        → WritesFront (out_of task.now f) (S.left input.old) (K.held output.old) (K.held output.new) }
+    ensures prefix { (f : Answering) → IsAnswered task.now f
+        → WritesPrefix (out_of task.now f) (S.left input.old) (K.held output.old) (K.held output.new) }
     ensures ended { (f : Answering) → IsAnswered task.now f → WritesEnded (out_of task.now f)
         (S.left input.old) (S.left input.new) (K.held output.old) (K.held output.new) (number_of result) }
     ensures lines { (f : Answering) → IsAnswered task.now f
@@ -43,7 +43,7 @@ pub fn perform<S: Source, K: Sink>(
     ensures unread { LeavesInput task.now.lines (S.left input.old) (S.left input.new)
         (S.faults input.old) (S.faults input.new) (number_of result) }
     ensures at_end { EndsInput task.now.lines (S.left input.new) (number_of result) }
-    ensures taken { TakesFront (S.left input.old) (S.left input.new) }
+    ensures taken { TakesPrefix (S.left input.old) (S.left input.new) }
     ensures more { TakesMore (S.left input.old) (S.left input.new) (number_of result) }
     ensures at_most { TakesAtMost (S.left input.old) (S.left input.new) (number_of result) }
     ensures none_taken { TakesNothing (S.left input.old) (S.left input.new) (number_of result) }
@@ -51,8 +51,8 @@ pub fn perform<S: Source, K: Sink>(
     ensures nothing { WritesNothing (K.held output.old) (K.held output.new) (number_of result) }
     ensures source { ComesBy 4 (S.faults input.old) (S.faults input.new) (number_of result) }
     ensures sink { ComesBy 5 (K.faults output.old) (K.faults output.new) (number_of result) }
-    ensures source_told { StandsUnless 4 (S.faults input.old) (S.faults input.new) (number_of result) }
-    ensures sink_told { StandsUnless 5 (K.faults output.old) (K.faults output.new) (number_of result) }
+    ensures source_reported { StandsUnless 4 (S.faults input.old) (S.faults input.new) (number_of result) }
+    ensures sink_reported { StandsUnless 5 (K.faults output.old) (K.faults output.new) (number_of result) }
     ensures usage { result ≢ Status.Usage }
     ensures shelf { result ≢ Status.Shelf }
     // What becomes of the buffer.
@@ -79,7 +79,7 @@ fn answer_lines<S: Source, K: Sink>(
     // What was written.
     ensures output { (f : Answering) → IsAnswering job.now f → Writes (answers_out f) (S.left input.old)
         (K.held output.old) (K.held output.new) (number_of result) }
-    ensures front { (f : Answering) → IsAnswering job.now f → WritesFront (answers_out f) (S.left input.old)
+    ensures prefix { (f : Answering) → IsAnswering job.now f → WritesPrefix (answers_out f) (S.left input.old)
         (K.held output.old) (K.held output.new) }
     ensures ended { (f : Answering) → IsAnswering job.now f → WritesEnded (answers_out f)
         (S.left input.old) (S.left input.new) (K.held output.old) (K.held output.new) (number_of result) }
@@ -90,11 +90,11 @@ fn answer_lines<S: Source, K: Sink>(
     ensures at_most { TakesAtMost (S.left input.old) (S.left input.new) (number_of result) }
     ensures source { ComesBy 4 (S.faults input.old) (S.faults input.new) (number_of result) }
     ensures sink { ComesBy 5 (K.faults output.old) (K.faults output.new) (number_of result) }
-    ensures source_told { StandsUnless 4 (S.faults input.old) (S.faults input.new) (number_of result) }
-    ensures sink_told { StandsUnless 5 (K.faults output.old) (K.faults output.new) (number_of result) }
+    ensures source_reported { StandsUnless 4 (S.faults input.old) (S.faults input.new) (number_of result) }
+    ensures sink_reported { StandsUnless 5 (K.faults output.old) (K.faults output.new) (number_of result) }
     ensures others { (result ≢ Status.Usage) × (result ≢ Status.File) × (result ≢ Status.Shelf) }
     ensures at_end { number_of result ≤ 1 → IsAtEnd (S.left input.new) }
-    ensures taken { TakesFront (S.left input.old) (S.left input.new) }
+    ensures taken { TakesPrefix (S.left input.old) (S.left input.new) }
     // What becomes of the buffer.
     ensures passes { PassesInput job.now (S.left input.old) buf.old buf.new (number_of result) }
     ensures spent { NoneFell buf.old.spent buf.new.spent }

@@ -20,8 +20,8 @@ use Rattle.corba_syntax.specs.Derivation.{definition_text, definition, outermost
 use Rattle.corba_shapes.proofs.Derived.{declaration_whole}
 use Rattle.front_corba.specs.Resolved.{is_whole_export, is_whole_level, is_whole_definition, is_whole_outermost, IsWhole}
 
-behind : (P Q : Text) (ks : List TokenKind) → (P & Q) ks → (b : List TokenKind) × Q b
-behind P Q ks (a, b, e, p, q) = (b, q)
+after : (P Q : Text) (ks : List TokenKind) → (P & Q) ks → (b : List TokenKind) × Q b
+after P Q ks (a, b, e, p, q) = (b, q)
 
 before : (P Q : Text) (ks : List TokenKind) → (P & Q) ks → (a : List TokenKind) × P a
 before P Q ks (a, b, e, p, q) = (a, p)
@@ -32,7 +32,7 @@ each_whole : {A : Type 0} (S : A → Text) (f : A → Bool) → ((x : A) (ks : L
 each_whole S f one [] ks h = refl
 each_whole S f one (x ∷ xs) ks h =
     let a = before (S x) (each S xs) ks h in
-    let b = behind (S x) (each S xs) ks h in
+    let b = after (S x) (each S xs) ks h in
     and_from _ _ (one x a.0 a.1) (each_whole S f one xs b.0 b.1)
 
 exported_whole : (n : ℕ) (e : Export) (ks : List TokenKind) → exported n e ks → is_whole_export e ≡ true
@@ -49,10 +49,10 @@ interface_whole n i ks h =
     let list = each (export n) i.exports & end in
     let body = mark (codes "{") & list in
     let heirs = if_any (bases n) i.bases & body in
-    let a = behind (word (codes "interface")) (identifier i.name & heirs) ks h in
-    let b = behind (identifier i.name) heirs a.0 a.1 in
-    let c = behind (if_any (bases n) i.bases) body b.0 b.1 in
-    let d = behind (mark (codes "{")) list c.0 c.1 in
+    let a = after (word (codes "interface")) (identifier i.name & heirs) ks h in
+    let b = after (identifier i.name) heirs a.0 a.1 in
+    let c = after (if_any (bases n) i.bases) body b.0 b.1 in
+    let d = after (mark (codes "{")) list c.0 c.1 in
     let e = before (each (export n) i.exports) end d.0 d.1 in
     each_whole (export n) is_whole_export (export_whole n) i.exports e.0 e.1
 
@@ -64,9 +64,9 @@ module _ (n : ℕ) (inner : (d : Definition) (ks : List TokenKind) → definitio
       let end = mark (codes "}") & mark (codes ";") in
       let list = each (definition n) (out-Module m).definitions & end in
       let body = mark (codes "{") & list in
-      let a = behind (word (codes "module")) (name & body) ks h in
-      let b = behind name body a.0 a.1 in
-      let c = behind (mark (codes "{")) list b.0 b.1 in
+      let a = after (word (codes "module")) (name & body) ks h in
+      let b = after name body a.0 a.1 in
+      let c = after (mark (codes "{")) list b.0 b.1 in
       let d = before (each (definition n) (out-Module m).definitions) end c.0 c.1 in
       each_whole (definition n) (is_whole_definition n) inner (out-Module m).definitions d.0 d.1
   level_whole (Definition-F.Interface i) ks h = interface_whole (suc n) i ks h

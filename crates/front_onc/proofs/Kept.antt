@@ -14,10 +14,10 @@ use Rattle.front_onc.specs.Enums.{with_label, item_number, short, item_on, items
 use Rattle.name_kit.proofs.Parts.{then_ok, ok_same}
 use Rattle.name_kit.specs.Labels.{labelled}
 
-pub not_behind : (name : List ℕ) (scope : Scope) (n : List ℕ) (m : Meaning) → is_declared name scope ≡ false → bytes_eq name n ≡ false
+pub not_after : (name : List ℕ) (scope : Scope) (n : List ℕ) (m : Meaning) → is_declared name scope ≡ false → bytes_eq name n ≡ false
     → is_declared name (scope ++ (n, m) ∷ []) ≡ false
-not_behind name [] n m a b = or_from _ _ b refl
-not_behind name (e ∷ es) n m a b = let h = or_parts _ _ a in or_from _ _ h.0 (not_behind name es n m h.1 b)
+not_after name [] n m a b = or_from _ _ b refl
+not_after name (e ∷ es) n m a b = let h = or_parts _ _ a in or_from _ _ h.0 (not_after name es n m h.1 b)
 
 pub label_scope : (d k place : ℕ) (s t : State) (n : ℤ) → with_label d k place s n ≡ Ok t → t.scope ≡ s.scope
 label_scope d k place s t n h = let x =
@@ -32,7 +32,7 @@ item_keeps name d k place s previous i r h old new =
     let c = then_ok (short d b.given) _ r b.rest in
     let e = then_ok (with_label d k place s c.given) _ r c.rest in
     let same = label_scope d k place s e.given c.given e.first in
-    let none = not_behind name e.given.scope i.name _ (ap (is_declared name) same ∙ old) new in
+    let none = not_after name e.given.scope i.name _ (ap (is_declared name) same ∙ old) new in
     let made : State × ℤ = (declared i.name (Constant c.given) e.given, c.given) in
     subst (λ z. is_declared name z ≡ false) (ap (λ (z : State × ℤ). z.0.scope) (ok_same made r e.rest)) none
 

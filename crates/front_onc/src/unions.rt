@@ -16,7 +16,7 @@ use crate::{Form, NameErr, NameFault, Tag, Use};
 use aoi::{Ty, UnionArms};
 use indexmap::IndexSet;
 use kit_base::NoMemory;
-use name_kit::{Names, add_number_of, behind, boxed, refuse, tag_of_use, ty_of_use, union_of};
+use name_kit::{Names, add_number_of, after, boxed, refuse, tag_of_use, ty_of_use, union_of};
 use onc_syntax::{Arm, Case, Label, Union};
 use std::alloc::Global;
 
@@ -113,7 +113,7 @@ fn case(
 {
     labels(r, tag, d, numbers, case.labels.as_slice())?;
     let form = arm(alloc, r.scope(), d, names, &case.arm)?;
-    add_arms(alloc, arms, behind(numbers.as_slice(), arms.len()), form)?;
+    add_arms(alloc, arms, after(numbers.as_slice(), arms.len()), form)?;
     Ok(())
 }
 

@@ -5,8 +5,8 @@ use Rattle.wire_def.specs.declared.fault.HeadErr.{HeadErr}
 use Rattle.wire_def.specs.Grammar.{Reading, got, stop, AreOctets}
 use Rattle.giop_head.specs.declared.header.Way.{Way}
 use Rattle.giop_head.specs.Heads.{HeadOf, read_head, BeginsWith, StopsWith}
-use Rattle.giop_head.specs.Told.{Tells}
-use Rattle.giop_head.specs.Readers.{seen_by, told}
+use Rattle.giop_head.specs.Reported.{Tells}
+use Rattle.giop_head.specs.Readers.{seen_by, reported}
 use Rattle.giop_head.proofs.Lawful.{begun, begins, stopped, heads_are_read}
 
 pub all_octets : (o : List ℕ) → ((i : ℕ) → get_or o i 0 < 256) → AreOctets o
@@ -14,14 +14,14 @@ all_octets [] h = tt
 all_octets (b ∷ o) h = (h 0, all_octets o (λ i. h (suc i)))
 
 module _ {A B : Type 0} (view : A → ℕ → B) where
-  told_ok : (r : Reading HeadErr A) (y : B) → told view r ≡ Ok y
+  reported_ok : (r : Reading HeadErr A) (y : B) → reported view r ≡ Ok y
       → (h : A) × (used : ℕ) × (rest : List ℕ) × (r ≡ got h used rest) × (view h used ≡ y)
-  told_ok (got h used rest) y e = (h, used, rest, refl, cc)
-  told_ok (stop k at) y e = absurd cc
+  reported_ok (got h used rest) y e = (h, used, rest, refl, cc)
+  reported_ok (stop k at) y e = absurd cc
 
-  told_err : (r : Reading HeadErr A) (k : HeadErr) → told view r ≡ Err k → (at : ℕ) × (r ≡ stop k at)
-  told_err (got h used rest) k e = absurd cc
-  told_err (stop k' at) k e = (at, cc)
+  reported_err : (r : Reading HeadErr A) (k : HeadErr) → reported view r ≡ Err k → (at : ℕ) × (r ≡ stop k at)
+  reported_err (got h used rest) k e = absurd cc
+  reported_err (stop k' at) k e = (at, cc)
 
 -- a result that is seen to be an answer, or a fault
 module _ {X B : Type 0} (view : X → B) where
@@ -34,23 +34,23 @@ module _ {X B : Type 0} (view : X → B) where
   fault_seen (Err k) e = ((λ h. cc), λ h. let same : k ≡ e = cc in ap (λ (z : HeadErr). Err z) same)
 
 module _ (w : Way) {X B : Type 0} (view : HeadOf w → ℕ → B) (seen : X → B) (o : List ℕ) (oct : AreOctets o)
-    (d : Result X HeadErr) (same : seen_by seen d ≡ told view (read_head w (length o) 0 o)) where
-  pub told_head : (y : B) → Tells seen d y ↔ ((h : HeadOf w) × (used : ℕ) × BeginsWith w o h used × (view h used ≡ y))
-  told_head y = ((λ h. to (sym same ∙ (tells_seen seen d y).0 h)), λ h. (tells_seen seen d y).1 (same ∙ from h)) where
-    to : told view (read_head w (length o) 0 o) ≡ Ok y → (h : HeadOf w) × (used : ℕ) × BeginsWith w o h used × (view h used ≡ y)
+    (d : Result X HeadErr) (same : seen_by seen d ≡ reported view (read_head w (length o) 0 o)) where
+  pub reported_head : (y : B) → Tells seen d y ↔ ((h : HeadOf w) × (used : ℕ) × BeginsWith w o h used × (view h used ≡ y))
+  reported_head y = ((λ h. to (sym same ∙ (tells_seen seen d y).0 h)), λ h. (tells_seen seen d y).1 (same ∙ from h)) where
+    to : reported view (read_head w (length o) 0 o) ≡ Ok y → (h : HeadOf w) × (used : ℕ) × BeginsWith w o h used × (view h used ≡ y)
     to e =
-        let t = told_ok view (read_head w (length o) 0 o) y e in
+        let t = reported_ok view (read_head w (length o) 0 o) y e in
         (t.0, t.1, begins w o oct t.0 t.1 t.2 t.3, t.4)
 
-    from : (h : HeadOf w) × (used : ℕ) × BeginsWith w o h used × (view h used ≡ y) → told view (read_head w (length o) 0 o) ≡ Ok y
+    from : (h : HeadOf w) × (used : ℕ) × BeginsWith w o h used × (view h used ≡ y) → reported view (read_head w (length o) 0 o) ≡ Ok y
     from (h, used, b, is) = rw (begun w o h used b, is) refl
 
-  pub told_fault : (e : HeadErr) → (d ≡ Err e) ↔ StopsWith w o e
-  told_fault e = ((λ h. to (sym same ∙ (fault_seen seen d e).0 h)), λ h. (fault_seen seen d e).1 (same ∙ from h)) where
-    to : told view (read_head w (length o) 0 o) ≡ Err e → StopsWith w o e
+  pub reported_fault : (e : HeadErr) → (d ≡ Err e) ↔ StopsWith w o e
+  reported_fault e = ((λ h. to (sym same ∙ (fault_seen seen d e).0 h)), λ h. (fault_seen seen d e).1 (same ∙ from h)) where
+    to : reported view (read_head w (length o) 0 o) ≡ Err e → StopsWith w o e
     to is =
-        let t = told_err view (read_head w (length o) 0 o) e is in
+        let t = reported_err view (read_head w (length o) 0 o) e is in
         (t.0, (heads_are_read w (length o)).faulty 0 o e t.0 oct t.1)
 
-    from : StopsWith w o e → told view (read_head w (length o) 0 o) ≡ Err e
+    from : StopsWith w o e → reported view (read_head w (length o) 0 o) ≡ Err e
     from (at, f) = rw (stopped w o e at f) refl

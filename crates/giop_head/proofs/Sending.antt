@@ -16,8 +16,8 @@ use Rattle.giop_head.specs.Laws.{IsRequest, IsString, IsFate}
 abbrev pub Puts : (ℕ → List ℕ → Type 0) → (List ℕ → List ℕ) → Type 0
 Puts P f = (o : List ℕ) → (t : List ℕ) × (f o ≡ o ++ t) × P (length o) t
 
-behind : (P Q : ℕ → List ℕ → Type 0) (f g : List ℕ → List ℕ) → Puts P f → Puts Q g → Puts (λ p t. Parts p t (P p) Q) (λ o. g (f o))
-behind P Q f g first second o =
+after : (P Q : ℕ → List ℕ → Type 0) (f g : List ℕ → List ℕ) → Puts P f → Puts Q g → Puts (λ p t. Parts p t (P p) Q) (λ o. g (f o))
+after P Q f g first second o =
     let a = first o in
     let b = second (f o) in
     let long : length (f o) ≡ length o + length a.0 = ap length a.1 ∙ length-append o a.0 in
@@ -77,27 +77,27 @@ identified r q p t = Parts p t (λ a. LongSpells r p a q.id) (wanted r q)
 
 named_puts : (r : Order) (q : Request) → IsRequest q → Puts (named r q) (λ o. then_sequence r [] (then_string r q.name o))
 named_puts r q is =
-    behind
+    after
     (λ p t. StringSpells r p t q.name) (λ p t.
     AnySequence r p t tt) (then_string r q.name) (then_sequence r []) (string_puts r q.name (is.name, is.letters)) (principal_puts r)
 
 keyed_puts : (r : Order) (q : Request) → IsRequest q
     → Puts (keyed r q) (λ o. then_sequence r [] (then_string r q.name (then_sequence r q.key o)))
 keyed_puts r q is =
-    behind (λ p t. SequenceSpells r p t q.key) (named r q) (then_sequence r q.key) (λ o.
+    after (λ p t. SequenceSpells r p t q.key) (named r q) (then_sequence r q.key) (λ o.
     then_sequence r [] (then_string r q.name o)) (sequence_puts r q.key is.key) (named_puts r q is)
 
 wanted_puts : (r : Order) (q : Request) → IsRequest q
     → Puts (wanted r q) (λ o. then_sequence r [] (then_string r q.name (then_sequence r q.key (o ++ (flag q.wants ∷ [])))))
 wanted_puts r q is =
-    behind (λ p t. FlagSpells p t q.wants) (keyed r q) (λ o. o ++ (flag q.wants ∷ [])) (λ o.
+    after (λ p t. FlagSpells p t q.wants) (keyed r q) (λ o. o ++ (flag q.wants ∷ [])) (λ o.
     then_sequence r [] (then_string r q.name (then_sequence r q.key o))) (flag_puts q.wants) (keyed_puts r q is)
 
 identified_puts : (r : Order) (q : Request) → IsRequest q
     → Puts (identified r q)
     (λ o. then_sequence r [] (then_string r q.name (then_sequence r q.key (then_long r q.id o ++ (flag q.wants ∷ [])))))
 identified_puts r q is =
-    behind (λ p t. LongSpells r p t q.id) (wanted r q) (then_long r q.id) (λ o.
+    after (λ p t. LongSpells r p t q.id) (wanted r q) (then_long r q.id) (λ o.
     then_sequence r [] (then_string r q.name (then_sequence r q.key (o ++ (flag q.wants ∷ []))))) (long_puts r q.id is.id)
     (wanted_puts r q is)
 
@@ -105,7 +105,7 @@ pub request_puts : (r : Order) (q : Request) → IsRequest q
     → Puts (λ p t. RequestSpells r p t q) (λ o. then_sequence r []
     (then_string r q.name (then_sequence r q.key (then_long r q.id (then_long r 0 o) ++ (flag q.wants ∷ [])))))
 request_puts r q is =
-    behind (λ p t. ContextsSpell r p t tt) (identified r q) (then_long r 0) (λ o.
+    after (λ p t. ContextsSpell r p t tt) (identified r q) (then_long r 0) (λ o.
     then_sequence r [] (then_string r q.name (then_sequence r q.key (then_long r q.id o ++ (flag q.wants ∷ []))))) (contexts_puts r)
     (identified_puts r q is)
 
@@ -126,15 +126,15 @@ thrown r s minor completion p t = Parts p t (λ a. StringSpells r p a s) (number
 fate_puts : (r : Order) (f : Fate) → IsFate f → Puts (λ p t. FateSpells r p t f) (fated r f)
 fate_puts r answer is = long_puts r 0 (omega arith)
 fate_puts r (user s) is =
-    behind
+    after
     (λ p t. LongSpells r p t 1) (λ p t.
     StringSpells r p t s) (then_long r 1) (then_string r s) (long_puts r 1 (omega arith)) (string_puts r s is)
 fate_puts r (system s minor completion) (string, (fits, few)) =
-    behind (λ p t. LongSpells r p t 2) (thrown r s minor completion) (then_long r 2) (λ o.
+    after (λ p t. LongSpells r p t 2) (thrown r s minor completion) (then_long r 2) (λ o.
     then_long r completion (then_long r minor (then_string r s o))) (long_puts r 2 (omega arith))
-    (behind (λ p t. StringSpells r p t s) (numbered r minor completion) (then_string r s) (λ o.
+    (after (λ p t. StringSpells r p t s) (numbered r minor completion) (then_string r s) (λ o.
     then_long r completion (then_long r minor o)) (string_puts r s string)
-    (behind
+    (after
     (λ p t. LongSpells r p t minor) (λ p t.
     PassSpells r 2 p t completion) (then_long r minor) (then_long r completion) (long_puts r minor fits)
     (pass_puts r 2 completion (omega (arith, few)) few)))
@@ -146,5 +146,5 @@ pub reply_puts : (r : Order) (id : ℕ) (f : Fate) → id < 2 ^ 32 → IsFate f
     → Puts (λ p t. Parts p t (λ a. ContextsSpell r p a tt) (λ q b. Parts q b (λ a. LongSpells r q a id) (λ s c. FateSpells r s c f)))
     (λ o. fated r f (then_long r id (then_long r 0 o)))
 reply_puts r id f fits is =
-    behind (λ p t. ContextsSpell r p t tt) (answering r id f) (then_long r 0) (λ o. fated r f (then_long r id o)) (contexts_puts r)
-    (behind (λ p t. LongSpells r p t id) (λ p t. FateSpells r p t f) (then_long r id) (fated r f) (long_puts r id fits) (fate_puts r f is))
+    after (λ p t. ContextsSpell r p t tt) (answering r id f) (then_long r 0) (λ o. fated r f (then_long r id o)) (contexts_puts r)
+    (after (λ p t. LongSpells r p t id) (λ p t. FateSpells r p t f) (then_long r id) (fated r f) (long_puts r id fits) (fate_puts r f is))

@@ -19,7 +19,7 @@ use Rattle.giop_head.specs.Reply.{Fate, answer, user, system, FateSpells}
 use Rattle.giop_head.specs.Items.{flag, LongSpells}
 use Rattle.giop_head.specs.Contexts.{ContextsSpell}
 use Rattle.giop_head.specs.Printed.{long_octets, then_long, then_sequence, then_string, order_octet, header_octets, with_size, request_octets}
-use Rattle.giop_head.specs.Told.{shared_head, BeginsRequest}
+use Rattle.giop_head.specs.Reported.{shared_head, BeginsRequest}
 use Rattle.giop_head.specs.Laws.{IsLong, IsRequest, reply_octets, RequestsAreRead, RepliesAreRead, OwnHaveOctets}
 use Rattle.giop_head.proofs.Sending.{request_puts, fated, reply_puts}
 
@@ -27,10 +27,10 @@ use Rattle.giop_head.proofs.Sending.{request_puts, fated, reply_puts}
 abbrev sized : Order → ℕ → ℕ → List ℕ
 sized r type m = 71 ∷ 73 ∷ 79 ∷ 80 ∷ 1 ∷ 0 ∷ order_octet r ∷ type ∷ long_octets r m
 
-size_told : (r : Order) (type : ℕ) (t : List ℕ)
+size_reported : (r : Order) (type : ℕ) (t : List ℕ)
     → with_size r (header_octets r type ++ t) ≡ sized r type (length (header_octets r type ++ t) - 12) ++ t
-size_told Big type t = refl
-size_told Little type t = refl
+size_reported Big type t = refl
+size_reported Little type t = refl
 
 twelve : (r : Order) (type m : ℕ) → length (sized r type m) ≡ 12
 twelve Big type m = refl
@@ -53,7 +53,7 @@ module _ (w : Way) (r : Order) (type : ℕ) (fields body : List ℕ) (P : ℕ �
   message = with_size r (head ++ body)
 
   whole : message ≡ sized r type (length (head ++ body) - 12) ++ (fields ++ body)
-  whole = ap (with_size r) (append_assoc (header_octets r type) fields body) ∙ size_told r type (fields ++ body)
+  whole = ap (with_size r) (append_assoc (header_octets r type) fields body) ∙ size_reported r type (fields ++ body)
       ∙ ap (λ (o : List ℕ). sized r type (length o - 12) ++ (fields ++ body)) (sym (append_assoc (header_octets r type) fields body))
 
   same_length : length message ≡ length (head ++ body)

@@ -8,7 +8,7 @@ use Rattle.giop_head.specs.Items.{HasNoZero}
 use Rattle.giop_head.specs.Call.{Request}
 use Rattle.giop_head.specs.Reply.{Fate, answer, user, system}
 use Rattle.giop_head.specs.Printed.{request_octets, answer_octets, user_octets, system_octets, with_size, refusal_octets, IsOwn}
-use Rattle.giop_head.specs.Told.{shared_head, requested, BeginsCall, BeginsReply}
+use Rattle.giop_head.specs.Reported.{shared_head, requested, BeginsCall, BeginsReply}
 use Rattle.giop_head.specs.declared.header.Way.{Way}
 use Rattle.giop_head.specs.Heads.{HeadOf, HeadSpells, HeadStops, read_head, BeginsWith, StopsWith}
 

@@ -4,7 +4,7 @@ pub mod Header
 pub mod Call
 pub mod Reply
 pub mod Heads
-pub mod Told
+pub mod Reported
 pub mod Readers
 pub mod Printed
 pub mod Laws

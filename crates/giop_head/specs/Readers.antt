@@ -33,9 +33,9 @@ abbrev pub borrowed : Bor (List ℕ) → List ℕ
 borrowed o = o.now
 
 -- what is reported of what was read
-abbrev pub told : {A B : Type 0} → (A → ℕ → B) → Reading HeadErr A → Result B HeadErr
-told view (got x used rest) = Ok (view x used)
-told view (stop e at) = Err e
+abbrev pub reported : {A B : Type 0} → (A → ℕ → B) → Reading HeadErr A → Result B HeadErr
+reported view (got x used rest) = Ok (view x used)
+reported view (stop e at) = Err e
 
 -- a result, seen by view
 abbrev pub seen_by : {A B : Type 0} → (A → B) → Result A HeadErr → Result B HeadErr

@@ -6,8 +6,8 @@ ghost use Rattle.giop_head.specs.declared.header.Way.TheVariants.{Asks, Requests
 ghost use Rattle.giop_head.specs.Call.{read_head_of_call, read_head_of_request, read_request, read_search};
 ghost use Rattle.giop_head.specs.Items.{read_end};
 ghost use Rattle.giop_head.specs.Heads.{StopsWith};
-ghost use Rattle.giop_head.specs.Told.{BeginsCall, BeginsRequest, ToldCall, ToldRequest, Tells, asked_seen, call_seen, call_told, request_seen, request_told, search_seen};
-ghost use Rattle.giop_head.specs.Readers.{Gives, Passing, seen_by, told};
+ghost use Rattle.giop_head.specs.Reported.{BeginsCall, BeginsRequest, ReportedCall, ReportedRequest, Tells, asked_seen, call_seen, call_reported, request_seen, request_reported, search_seen};
+ghost use Rattle.giop_head.specs.Readers.{Gives, Passing, seen_by, reported};
 
 use crate::contexts::{any_sequence, contexts};
 use crate::cursor::Cursor;
@@ -44,7 +44,7 @@ pub enum GiopCall<'a> {
 /// Reads the head of a Request, or a LocateRequest, in either order. Service contexts and principal
 /// are passed over, whatever they are.
 pub fn read_call(message: &[u8]) -> Result<GiopCall<'_>, HeadErr>
-    ensures spells { (call : ToldCall) → Tells call_seen result call ↔ BeginsCall message.now call }
+    ensures spells { (call : ReportedCall) → Tells call_seen result call ↔ BeginsCall message.now call }
     ensures stops { (fault : HeadErr) → (result ≡ Err fault) ↔ StopsWith Asks message.now fault }
 {
     heads_are_read();
@@ -71,7 +71,7 @@ pub struct GiopRequest<'a> {
 
 /// Reads the head of a Request alone, in either order. Any other message has the fault of its type.
 pub fn read_request(message: &[u8]) -> Result<GiopRequest<'_>, HeadErr>
-    ensures spells { (request : ToldRequest)
+    ensures spells { (request : ReportedRequest)
         → Tells request_seen result request ↔ BeginsRequest message.now request }
     ensures stops { (fault : HeadErr) → (result ≡ Err fault) ↔ StopsWith Requests message.now fault }
 {
@@ -86,7 +86,7 @@ pub fn read_request(message: &[u8]) -> Result<GiopRequest<'_>, HeadErr>
 /// The head of a request, in a message of so many octets.
 fn request_at(total: usize, at: Cursor<'_>) -> Result<GiopRequest<'_>, HeadErr>
     ensures { seen_by request_seen result
-        ≡ told request_told (read_head_of_request total at.entry.place at.entry.rest.now) }
+        ≡ reported request_reported (read_head_of_request total at.entry.place at.entry.rest.now) }
 {
     let (header, at) = header(Way::Requests, total, at)?;
     let (asked, at) = request(header.order, at)?;
@@ -101,7 +101,7 @@ fn request_at(total: usize, at: Cursor<'_>) -> Result<GiopRequest<'_>, HeadErr>
 /// The head of a message that asks, of so many octets.
 fn call_at(total: usize, at: Cursor<'_>) -> Result<GiopCall<'_>, HeadErr>
     ensures { seen_by call_seen result
-        ≡ told call_told (read_head_of_call total at.entry.place at.entry.rest.now) }
+        ≡ reported call_reported (read_head_of_call total at.entry.place at.entry.rest.now) }
 {
     let (header, at) = header(Way::Asks, total, at)?;
     let order = header.order;

@@ -6,8 +6,8 @@ ghost use Rattle.wire_def.specs.declared.fault.HeadErr.{HeadErr};
 ghost use Rattle.giop_head.specs.declared.header.Way.TheVariants.{Replies};
 ghost use Rattle.giop_head.specs.Reply.{read_fate, read_head_of_reply, read_system};
 ghost use Rattle.giop_head.specs.Heads.{StopsWith};
-ghost use Rattle.giop_head.specs.Told.{BeginsReply, ToldReply, Tells, fate_seen, reply_seen, reply_told};
-ghost use Rattle.giop_head.specs.Readers.{Gives, seen_by, told};
+ghost use Rattle.giop_head.specs.Reported.{BeginsReply, ReportedReply, Tells, fate_seen, reply_seen, reply_reported};
+ghost use Rattle.giop_head.specs.Readers.{Gives, seen_by, reported};
 
 use crate::contexts::contexts;
 use crate::cursor::Cursor;
@@ -19,7 +19,7 @@ use wire_def::{HeadErr, Order, ReplyHead, Status};
 
 /// Reads the head of a Reply, in either order. Service contexts are passed over, whatever they are.
 pub fn read_reply(message: &[u8]) -> Result<ReplyHead<'_>, HeadErr>
-    ensures spells { (reply : ToldReply) → Tells reply_seen result reply ↔ BeginsReply message.now reply }
+    ensures spells { (reply : ReportedReply) → Tells reply_seen result reply ↔ BeginsReply message.now reply }
     ensures stops { (fault : HeadErr) → (result ≡ Err fault) ↔ StopsWith Replies message.now fault }
 {
     heads_are_read();
@@ -33,7 +33,7 @@ pub fn read_reply(message: &[u8]) -> Result<ReplyHead<'_>, HeadErr>
 /// The head of a reply, in a message of so many octets.
 fn reply_at(total: usize, at: Cursor<'_>) -> Result<ReplyHead<'_>, HeadErr>
     ensures { seen_by reply_seen result
-        ≡ told reply_told (read_head_of_reply total at.entry.place at.entry.rest.now) }
+        ≡ reported reply_reported (read_head_of_reply total at.entry.place at.entry.rest.now) }
 {
     let (header, at) = header(Way::Replies, total, at)?;
     let order = header.order;

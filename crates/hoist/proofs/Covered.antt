@@ -15,7 +15,7 @@ use Rattle.hoist.specs.Hoisted.{Pending, nothing, octets, row, Hoisted, some_oct
 use Rattle.hoist.specs.Laws.{HoistingCovers}
 use Rattle.hoist.proofs.TypedParts.{length_at, split, each-part, some-part, switch-part}
 use Rattle.hoist.proofs.Bounds.{bounded, within-each, within-some, within-switch, within-align, within-chunk, within-over, case-bounded, no_steps}
-use Rattle.hoist.proofs.Rooms.{times_or, Rooms, no_rooms, rooms_none, rooms_more, rooms_first, rooms_behind, rooms_ensured, rooms_row, rooms-over}
+use Rattle.hoist.proofs.Rooms.{times_or, Rooms, no_rooms, rooms_none, rooms_more, rooms_first, rooms_after, rooms_ensured, rooms_row, rooms-over}
 
 -- the room that the code needs before it
 abbrev pub want : Pending → Val → ℕ
@@ -70,7 +70,7 @@ module _ (c : Calls) (h : Head) where
       let k = times_or (length_at p v) u in
       rooms_more (both own (steps c h (ensure_row q u' m b) v)) (0 + k) (k + 0) (omega arith)
       (rooms_first own (steps c h (ensure_row q u' m b) v) k 0 w (closed_good (b, row q u' m) v r))
-  settled_good apart own x v w r = rooms_behind own (steps c h (closed x) v) 0 w (closed_good x v r)
+  settled_good apart own x v w r = rooms_after own (steps c h (closed x) v) 0 w (closed_good x v r)
 
 -- ---- what the plans rest on
 

@@ -223,14 +223,14 @@ module _ (z : Sizes) (sizes : AreSizes z) (c : Calls) (h : Head) where
         let role = heavy_role z p t0 (array_type a) (way ∙ e) is in
         let there' = row_turn_there z sizes a p f.1 f.4 t0 is f.8 in
         let bare' = flat_bare f.1 f.4 f.8 in
-        let behind = flat_adds z sizes c h v t0 f.2 r f.5 f.9 in
+        let after = flat_adds z sizes c h v t0 f.2 r f.5 f.9 in
         let least' = least_greatest v t0 r in
         let l = loaded ps in
         let op = op_row v t0 p f.1 (append f.2 r) (array_type a) (groups None ps) role there' bare'
-        (omega (arith, behind, least', le, l)) in
+        (omega (arith, after, least', le, l)) in
         let kept' = flat_keeps v t0 f.0 (each p f.1 (append f.2 r)) f.3 f.7 op.1 in
         let front = row_fits v t0 (array_type a) p f.1 f.0 (append f.2 r) 0 (z.front (array_type a)) ps kept'.0 role there' bare'
-        (omega (arith, behind, least', le)) in
+        (omega (arith, after, least', le)) in
         subst (λ (x : Block). G v t0 x ≤ load (parts z (array_type a) w ++ ps)) (sym same)
         (subst (λ (x : List Part). G v t0 (append f.0 (each p f.1 (append f.2 r))) ≤ load (x ++ ps))
         (sym (heavy_or (z.top (array_type a)) (lone (z.front (array_type a)) ++ row_part ∷ []) e)) front))

@@ -52,9 +52,9 @@ same_if : (q : Bool) (x x' y y' : Steps) → bare x ≡ bare x' → bare y ≡ b
 same_if true x x' y y' e f = e
 same_if false x x' y y' e f = f
 
-none_behind : (x : Steps) → both x None ≡ None
-none_behind None = refl
-none_behind (Some a) = refl
+none_after : (x : Steps) → both x None ≡ None
+none_after None = refl
+none_after (Some a) = refl
 
 room_same : (n : ℕ) (y : Steps) → bare (both (Some (Room n ∷ [])) y) ≡ bare y
 room_same n None = refl
@@ -93,7 +93,7 @@ module _ (c : Calls) (h : Head) (v : Val) where
       → Kept (settled plan x).1 v own (steps c h (settled plan x).0 v) (steps c h x.0 v)
   settled_same (flat n) own (b, nothing) o r = record { same = refl; reads = reads_some n 0 v (both own (steps c h b v)) }
   settled_same (flat n) own (b, octets m j) o r = record { same = refl; reads = tt }
-  settled_same (flat n) own (b, row p u m) o r = record { same = refl; reads = λ e. ap (both own) (r e) ∙ none_behind own }
+  settled_same (flat n) own (b, row p u m) o r = record { same = refl; reads = λ e. ap (both own) (r e) ∙ none_after own }
   settled_same (small n k) own (b, nothing) o r = record { same = refl; reads = reads_some n k v (both own (steps c h b v)) }
   settled_same (small n k) own (b, octets m j) o r = cut (nat_lt enough j) where
     cut : (q : Bool) → Kept (beside q n k m j b).1 v own (steps c h (beside q n k m j b).0 v) (steps c h b v)

@@ -128,8 +128,8 @@ module _ (z : Sizes) (sizes : AreSizes z) (c : Calls) (h : Head) (v : Val) (t0 :
         let before = flat_adds f.0 (each p f.1 (append f.2 r)) f.3 f.7 in
         let op = each_light p f.1 (append f.2 r) (array_type a) n way is top
         (array_there z sizes a p f.1 f.4 t0 is (top_there (array_type a) n top) f.8) (flat_bare f.1 f.4 f.8) in
-        let behind = flat_adds f.2 r f.5 f.9 in
-        subst (λ (x : Block). least_of x ≤ least_of r + z.weight (array_type a)) (sym e) (omega (arith, before, op, behind))
+        let after = flat_adds f.2 r f.5 f.9 in
+        subst (λ (x : Block). least_of x ≤ least_of r + z.weight (array_type a)) (sym e) (omega (arith, before, op, after))
     weighs (group_type ts) below p b r n way is top f =
         let m = sizes.group ts n top in
         let e = fields_light ts 0 ts below p b r m.0 way is (from-first ts) m.1 f in

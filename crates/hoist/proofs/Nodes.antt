@@ -86,10 +86,10 @@ pub arm_before : (us : List Ty) (arms : List (ℤ × ℕ)) (o : Option ℕ) (bod
     then greater (bound (at us (get_or arms i d).1) (code_seen (get_or bodies i d').1)) rest
     else None)
     → n ≡ cases_bound (arms_at_nodes us (drop i arms) o) (cases_seen (drop i bodies) last)
-arm_before us arms o bodies last i d d' n rest h k behind is =
+arm_before us arms o bodies last i d d' n rest h k after is =
     is ∙ ap (λ (x : Option ℕ). if int_eq (get_or arms i d).0 (get_or bodies i d').0
     then greater (bound (at us (get_or arms i d).1) (code_seen (get_or bodies i d').1)) x
-    else None) behind
+    else None) after
     ∙ sym (ap (λ (l : List (ℤ × ℕ)). cases_bound (arms_at_nodes us l o) (cases_seen (drop i bodies) last)) (drop-cons arms i d h)
     ∙ ap (λ (l : List (ℤ × List SendOp)). cases_bound (arms_at_nodes us (get_or arms i d ∷ drop (suc i) arms) o) (cases_seen l last))
     (drop-cons bodies i d' k))

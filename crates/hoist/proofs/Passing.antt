@@ -16,8 +16,8 @@ use Rattle.hoist.specs.declared.ahead.Plan.TheVariants as code_plan
 use Rattle.cast_stub.specs.Parts.{on_some}
 use Rattle.cast_stub.specs.PartTypes.{ty_at, present_at, present_type, arms_at, arms_type}
 use Rattle.hoist.specs.Hoisted.{Pending, Hoisted, Plan, flat, raised, settled, closed, hoisted, cases_hoisted, kept, each_plan, some_plan, switch_plan, items_at, items_in_type, or_void, or_none, InType, WhereApart, IsTaken, CasesTaken}
-use Rattle.hoist.specs.Seen.{ahead_seen, plan_seen, behind, span_roles, InFront}
-use Rattle.hoist.proofs.Reversed.{behind-push}
+use Rattle.hoist.specs.Seen.{ahead_seen, plan_seen, after, span_roles, InFront}
+use Rattle.hoist.proofs.Reversed.{after-push}
 
 abbrev piece : Piece → Piece
 piece p = p
@@ -29,22 +29,22 @@ pair b p = (b, p)
 pushed : (back new : List SendOp) (o : SendOp) (piece : Piece) → op_seen o ≡ piece → new ≡ back ++ o ∷ []
     → code_seen (reverse new) ≡ piece (code_seen (reverse back))
 pushed back new o piece s n =
-    ap (λ (l : List SendOp). code_seen (reverse l)) n ∙ behind-push back o ∙ ap (λ (p : Piece). p (code_seen (reverse back))) s
+    ap (λ (l : List SendOp). code_seen (reverse l)) n ∙ after-push back o ∙ ap (λ (p : Piece). p (code_seen (reverse back))) s
 
 module _ (enc : Encoding) (t : Ty) where
   -- an operation that becomes a piece, where the code after it changes first
   turned : (o o' : SendOp) (piece : Piece) (f : Hoisted → Hoisted) (back mid new : List SendOp) (ah then : Ahead)
       → ((r : Block)
       → hoisted (span_roles enc) t (op_seen o r) ≡ pair (piece (f (hoisted (span_roles enc) t r)).0) (f (hoisted (span_roles enc) t r)).1)
-      → op_seen o' ≡ piece → behind mid then ≡ f (behind back ah) → new ≡ mid ++ o' ∷ []
-      → InFront enc t o (behind back ah) (behind new then)
+      → op_seen o' ≡ piece → after mid then ≡ f (after back ah) → new ≡ mid ++ o' ∷ []
+      → InFront enc t o (after back ah) (after new then)
   turned o o' piece f back mid new ah then go s e n r is =
       go r ∙ ap (λ (x : Hoisted). pair (piece (f x).0) (f x).1) is ∙ ap (λ (y : Hoisted). pair (piece y.0) y.1) (sym e)
       ∙ ap (λ (b : Block). pair b (ahead_seen then)) (sym (pushed mid new o' piece s n))
 
   pub front-align : (o : SendOp) (a n : ℕ) (back new : List SendOp) (ah then : Ahead) → o ≡ op.Align a → n ≡ a - 1
       → new ≡ back ++ op.Align a ∷ [] → ahead_seen then ≡ raised n (ahead_seen ah)
-      → InFront enc t o (behind back ah) (behind new then)
+      → InFront enc t o (after back ah) (after new then)
   front-align o a n back new ah then is one made e =
       turned o (op.Align a) (align a) (settled (flat (a - 1))) back back new ah then
       (λ r. ap (λ (p : Piece). hoisted (span_roles enc) t (p r)) (ap op_seen is ∙ seen-Align a)) (seen-Align a)
@@ -52,7 +52,7 @@ module _ (enc : Encoding) (t : Ty) where
 
   pub front-chunk : (o : SendOp) (s : ℕ) (puts puts' : List Put) (back new : List SendOp) (ah then : Ahead) → o ≡ op.Chunk s puts
       → puts' ≡ puts → new ≡ back ++ op.Chunk s puts' ∷ [] → ahead_seen then ≡ raised s (ahead_seen ah)
-      → InFront enc t o (behind back ah) (behind new then)
+      → InFront enc t o (after back ah) (after new then)
   front-chunk o s puts puts' back new ah then is same made e =
       turned o (op.Chunk s puts') (chunk s puts) (settled (flat s)) back back new ah then
       (λ r. ap (λ (p : Piece). hoisted (span_roles enc) t (p r)) (ap op_seen is ∙ seen-Chunk s puts))
@@ -61,7 +61,7 @@ module _ (enc : Encoding) (t : Ty) where
 
   pub front-patch : (o : SendOp) (at sub : ℕ) (order : Order) (back new : List SendOp) (ah : Ahead) → o ≡ op.Patch at sub order
       → new ≡ back ++ op.Patch at sub order ∷ []
-      → InFront enc t o (behind back ah) (behind new ah)
+      → InFront enc t o (after back ah) (after new ah)
   front-patch o at sub order back new ah is made =
       turned o (op.Patch at sub order) (patch at sub order) (λ x. x) back back new ah ah
       (λ r. ap (λ (p : Piece). hoisted (span_roles enc) t (p r)) (ap op_seen is ∙ seen-Patch at sub order)) (seen-Patch at sub order) refl
@@ -69,18 +69,18 @@ module _ (enc : Encoding) (t : Ty) where
 
   -- a plan and a path that are those of the definition
   as_planned : (path path' : List ℕ) (plan : CodePlan) (plan' : Plan) (back mid : List SendOp) (ah then : Ahead) → path' ≡ path
-      → plan_seen path plan ≡ plan' → behind mid then ≡ settled (plan_seen path' plan) (behind back ah)
-      → behind mid then ≡ settled plan' (behind back ah)
+      → plan_seen path plan ≡ plan' → after mid then ≡ settled (plan_seen path' plan) (after back ah)
+      → after mid then ≡ settled plan' (after back ah)
   as_planned path path' plan plan' back mid ah then same is e =
-      e ∙ ap (λ (q : List ℕ). settled (plan_seen q plan) (behind back ah)) same ∙ ap (λ (x : Plan). settled x (behind back ah)) is
+      e ∙ ap (λ (q : List ℕ). settled (plan_seen q plan) (after back ah)) same ∙ ap (λ (x : Plan). settled x (after back ah)) is
 
   pub front-each : (o : SendOp) (path path' path'' : List ℕ) (body inner : List SendOp) (plan : CodePlan) (back mid new : List SendOp)
       (ah then : Ahead) → o ≡ op.Each path body → path' ≡ path → path'' ≡ path
       → plan_seen path plan ≡ each_plan (span_roles enc) t path (code_seen body)
       → code_seen inner ≡ kept (plan_seen path plan) (code_seen body)
       (closed (hoisted (span_roles enc) (or_void (items_at path t)) (code_seen body)))
-      → behind mid then ≡ settled (plan_seen path' plan) (behind back ah) → new ≡ mid ++ op.Each path'' inner ∷ []
-      → InFront enc t o (behind back ah) (behind new then)
+      → after mid then ≡ settled (plan_seen path' plan) (after back ah) → new ≡ mid ++ op.Each path'' inner ∷ []
+      → InFront enc t o (after back ah) (after new then)
   front-each o path path' path'' body inner plan back mid new ah then is same same' planned made e new' =
       let b' : Block = closed (hoisted (span_roles enc) (or_void (items_at path t)) (code_seen body)) in
       let plan' : Plan = each_plan (span_roles enc) t path (code_seen body) in
@@ -95,8 +95,8 @@ module _ (enc : Encoding) (t : Ty) where
       → plan_seen path plan ≡ some_plan (span_roles enc) t path (code_seen body)
       → code_seen inner ≡ kept (plan_seen path plan) (code_seen body)
       (closed (hoisted (span_roles enc) (or_void (present_at path t)) (code_seen body)))
-      → behind mid then ≡ settled (plan_seen path' plan) (behind back ah) → new ≡ mid ++ op.Some path'' inner ∷ []
-      → InFront enc t o (behind back ah) (behind new then)
+      → after mid then ≡ settled (plan_seen path' plan) (after back ah) → new ≡ mid ++ op.Some path'' inner ∷ []
+      → InFront enc t o (after back ah) (after new then)
   front-some o path path' path'' body inner plan back mid new ah then is same same' planned made e new' =
       let b' : Block = closed (hoisted (span_roles enc) (or_void (present_at path t)) (code_seen body)) in
       let plan' : Plan = some_plan (span_roles enc) t path (code_seen body) in
@@ -112,8 +112,8 @@ module _ (enc : Encoding) (t : Ty) where
       → cases_seen bodies rest
       ≡ kept (plan_seen path plan) (cases_seen cases last)
       (cases_hoisted (span_roles enc) (or_none (arms_at path t)) (cases_seen cases last))
-      → behind mid then ≡ settled (plan_seen path' plan) (behind back ah) → new ≡ mid ++ op.Switch path'' bodies rest ∷ []
-      → InFront enc t o (behind back ah) (behind new then)
+      → after mid then ≡ settled (plan_seen path' plan) (after back ah) → new ≡ mid ++ op.Switch path'' bodies rest ∷ []
+      → InFront enc t o (after back ah) (after new then)
   front-switch o path path' path'' cases bodies last rest plan back mid new ah then is same same' planned made e new' =
       let cs' : Cases = cases_hoisted (span_roles enc) (or_none (arms_at path t)) (cases_seen cases last) in
       let plan' : Plan = switch_plan (span_roles enc) t path (cases_seen cases last) in

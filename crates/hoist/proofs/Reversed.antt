@@ -6,7 +6,7 @@ use Rattle.cast_stub.specs.declared.send.SendOp.{SendOp}
 use Rattle.cast_stub.specs.Block.{op_seen, code_seen}
 use Rattle.cast_stub.proofs.Pieces.{seen-Ensure, seen-EnsureRow}
 
-pub behind-push : (back : List SendOp) (o : SendOp) → code_seen (reverse (back ++ o ∷ [])) ≡ op_seen o (code_seen (reverse back))
-behind-push back o = ap code_seen (reverse-append back (o ∷ []))
+pub after-push : (back : List SendOp) (o : SendOp) → code_seen (reverse (back ++ o ∷ [])) ≡ op_seen o (code_seen (reverse back))
+after-push back o = ap code_seen (reverse-append back (o ∷ []))
 
-pub ruleset reversed = (behind-push, seen-Ensure, seen-EnsureRow)
+pub ruleset reversed = (after-push, seen-Ensure, seen-EnsureRow)

@@ -70,8 +70,8 @@ rooms_first x y n w h r ss e p a enough =
     subst (HasRoom p a) d.whole
     (room-first d.front d.back p a w (omega (arith, s, enough)) (λ (q : ℕ). r d.back d.is_back q w (omega arith)))
 
-pub rooms_behind : (x y : Steps) (w : ℕ) → Rooms x w → Rooms y 0 → Rooms (both x y) w
-rooms_behind x y w h r ss e p a enough =
+pub rooms_after : (x y : Steps) (w : ℕ) → Rooms x w → Rooms y 0 → Rooms (both x y) w
+rooms_after x y w h r ss e p a enough =
     let d = parts x y ss e in
     subst (HasRoom p a) d.whole
     (room-append d.front d.back p a (h d.front d.is_front p a enough) (λ (q k : ℕ). r d.back d.is_back q k (omega arith)))
@@ -91,4 +91,4 @@ rooms_row (Some k) u n y r = rooms_ensured (k * u + n) y r
 
 pub rooms-over : (f : Val → Steps) (t : Ty) (vs : Vals) → Each (IsOf t) vs → ((w : Val) → IsOf t w → Rooms (f w) 0) → Rooms (over f vs) 0
 rooms-over f t no_more typed go = rooms_none 0
-rooms-over f t (val v vs) typed go = rooms_behind (f v) (over f vs) 0 (go v typed.0) (rooms-over f t vs typed.1 go)
+rooms-over f t (val v vs) typed go = rooms_after (f v) (over f vs) 0 (go v typed.0) (rooms-over f t vs typed.1 go)

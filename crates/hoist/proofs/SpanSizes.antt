@@ -16,7 +16,7 @@ use Rattle.wire_def.specs.Send.{flag}
 use Rattle.wire_def.proofs.Sound.{fills, fields_fill, IsCount, TakesRoom, FieldsTakeRoom, room}
 use Rattle.storage_class.specs.declared.span.Span.{Span}
 use Rattle.storage_class.specs.declared.span.Span.TheVariants.{Fixed, Bounded, Unbounded}
-use Rattle.storage_class.specs.Classing.{from_each, length_at, length_behind, run, greatest, exactly, at_most, top, loose, sum_of_tops, greater_top, behind, either, times, times_top}
+use Rattle.storage_class.specs.Classing.{from_each, length_at, length_after, run, greatest, exactly, at_most, top, loose, sum_of_tops, greater_top, after, either, times, times_top}
 use Rattle.storage_class.proofs.Residues.{eighth}
 use Rattle.storage_class.specs.Spans.{lone_length, scalar_span, element_length, described_length, array_length, array_most, array_counted, text_counted, array_span, span, fields_span, arms_span}
 use Rattle.cast_stub.specs.Parts.{IsThere}
@@ -64,32 +64,32 @@ each_least k g h = least_from k (from_each g) (omega arith) at_each where
   at_each : (i : ℕ) → i < 8 → k ≤ get_or (from_each g) i 0
   at_each i lt = let one = eighth g i lt in let low = h i in omega (arith, one, low)
 
-eight_told : (b : Bool) (s : Span) → IsEight s → IsEight (cond b s Unbounded)
-eight_told true s h = h
-eight_told false s h = tt
+eight_reported : (b : Bool) (s : Span) → IsEight s → IsEight (cond b s Unbounded)
+eight_reported true s h = h
+eight_reported false s h = tt
 
 eight_tops : (a b : Option ℕ) → IsEight (sum_of_tops a b)
 eight_tops None b = tt
 eight_tops (Some m) None = tt
-eight_tops (Some m) (Some n) = eight_told (nat_le (m + n) 4294967295) (Bounded (m + n)) tt
+eight_tops (Some m) (Some n) = eight_reported (nat_le (m + n) 4294967295) (Bounded (m + n)) tt
 
-eight_behind : (a b : Span) → IsEight (behind a b)
-eight_behind (Fixed f) (Fixed g) =
-    eight_told (list_all (λ n. nat_le n 4294967295) (from_each (length_behind f g))) (Fixed (from_each (length_behind f g))) refl
-eight_behind (Fixed f) (Bounded n) = eight_tops (Some (greatest f)) (Some n)
-eight_behind (Fixed f) Unbounded = tt
-eight_behind (Bounded m) b = eight_tops (Some m) (top b)
-eight_behind Unbounded b = tt
+eight_after : (a b : Span) → IsEight (after a b)
+eight_after (Fixed f) (Fixed g) =
+    eight_reported (list_all (λ n. nat_le n 4294967295) (from_each (length_after f g))) (Fixed (from_each (length_after f g))) refl
+eight_after (Fixed f) (Bounded n) = eight_tops (Some (greatest f)) (Some n)
+eight_after (Fixed f) Unbounded = tt
+eight_after (Bounded m) b = eight_tops (Some m) (top b)
+eight_after Unbounded b = tt
 
 eight_fields : (e : Encoding) (ts : Tys) → IsEight (fields_span e ts)
 eight_fields e no_fields = refl
-eight_fields e (field t ts) = eight_behind (span e t) (fields_span e ts)
+eight_fields e (field t ts) = eight_after (span e t) (fields_span e ts)
 
 eight_exactly : (g : ℕ → ℕ) → IsEight (exactly (from_each g))
-eight_exactly g = eight_told (list_all (λ n. nat_le n 4294967295) (from_each g)) (Fixed (from_each g)) refl
+eight_exactly g = eight_reported (list_all (λ n. nat_le n 4294967295) (from_each g)) (Fixed (from_each g)) refl
 
 eight_most : (n : ℕ) → IsEight (at_most n)
-eight_most n = eight_told (nat_le n 4294967295) (Bounded n) tt
+eight_most n = eight_reported (nat_le n 4294967295) (Bounded n) tt
 
 eight_counted : (e : Encoding) (a : Array) (c : Count) → IsEight (array_counted e a c)
 eight_counted e a (Exactly n) = eight_exactly (array_length e a n)
@@ -124,35 +124,35 @@ eight e (scalar_type s) = refl
 eight e (array_type a) = eight_array e a
 eight e (group_type ts) = eight_fields e ts
 eight e (items_type (Exactly n) t) = eight_times n (span e t)
-eight e (items_type (AtMost n) t) = eight_behind (scalar_span e counted) (times_top n (top (span e t)))
+eight e (items_type (AtMost n) t) = eight_after (scalar_span e counted) (times_top n (top (span e t)))
 eight e (items_type Any t) = tt
-eight e (choice_type s arms) = eight_behind (scalar_span e s) (arms_span e arms)
-eight e (maybe_type t) = eight_behind (scalar_span e flag) (loose (span e t))
+eight e (choice_type s arms) = eight_after (scalar_span e s) (arms_span e arms)
+eight e (maybe_type t) = eight_after (scalar_span e flag) (loose (span e t))
 
 -- ---- weights
 
-told_weight : (b : Bool) (s : Span) (k : ℕ) → k ≤ weight_of s → IsThere (top (cond b s Unbounded)) → k ≤ weight_of (cond b s Unbounded)
-told_weight true s k h there = h
-told_weight false s k h there = absurd there
+reported_weight : (b : Bool) (s : Span) (k : ℕ) → k ≤ weight_of s → IsThere (top (cond b s Unbounded)) → k ≤ weight_of (cond b s Unbounded)
+reported_weight true s k h there = h
+reported_weight false s k h there = absurd there
 
-behind_weight : (a b : Span) → IsEight a → IsEight b → IsThere (top (behind a b)) → weight_of a + weight_of b ≤ weight_of (behind a b)
-behind_weight (Fixed f) (Fixed g) i j there =
-    let low = each_least (least f + least g) (length_behind f g)
+after_weight : (a b : Span) → IsEight a → IsEight b → IsThere (top (after a b)) → weight_of a + weight_of b ≤ weight_of (after a b)
+after_weight (Fixed f) (Fixed g) i j there =
+    let low = each_least (least f + least g) (length_after f g)
     (λ p. let one = length_least f p i in let two = length_least g (p + length_at f p) j in omega (arith, one, two)) in
-    told_weight (list_all (λ n. nat_le n 4294967295) (from_each (length_behind f g))) (Fixed (from_each (length_behind f g)))
-    (weight_of (Fixed f) + weight_of (Fixed g)) (weights (least f) (least g) (least (from_each (length_behind f g))) low) there
+    reported_weight (list_all (λ n. nat_le n 4294967295) (from_each (length_after f g))) (Fixed (from_each (length_after f g)))
+    (weight_of (Fixed f) + weight_of (Fixed g)) (weights (least f) (least g) (least (from_each (length_after f g))) low) there
   where
     weights : (m n k : ℕ) → m + n ≤ k → (m - 1) + (n - 1) ≤ k - 1
     weights m n k h = omega arith
-behind_weight (Fixed f) (Bounded n) i j there = told_weight (nat_le (greatest f + n) 4294967295) (Bounded (greatest f + n))
+after_weight (Fixed f) (Bounded n) i j there = reported_weight (nat_le (greatest f + n) 4294967295) (Bounded (greatest f + n))
     (weight_of (Fixed f) + (n - 1)) (let most = least_greatest f in omega (arith, most)) there
-behind_weight (Fixed f) Unbounded i j there = absurd there
-behind_weight (Bounded m) (Fixed g) i j there = told_weight (nat_le (m + greatest g) 4294967295) (Bounded (m + greatest g))
+after_weight (Fixed f) Unbounded i j there = absurd there
+after_weight (Bounded m) (Fixed g) i j there = reported_weight (nat_le (m + greatest g) 4294967295) (Bounded (m + greatest g))
     ((m - 1) + weight_of (Fixed g)) (let most = least_greatest g in omega (arith, most)) there
-behind_weight (Bounded m) (Bounded n) i j there =
-    told_weight (nat_le (m + n) 4294967295) (Bounded (m + n)) ((m - 1) + (n - 1)) (omega arith) there
-behind_weight (Bounded m) Unbounded i j there = absurd there
-behind_weight Unbounded b i j there = absurd there
+after_weight (Bounded m) (Bounded n) i j there =
+    reported_weight (nat_le (m + n) 4294967295) (Bounded (m + n)) ((m - 1) + (n - 1)) (omega arith) there
+after_weight (Bounded m) Unbounded i j there = absurd there
+after_weight Unbounded b i j there = absurd there
 
 top_weight : (s : Span) (n : ℕ) → top s ≡ Some n → weight_of s ≤ n - 1
 top_weight (Fixed f) n h = let most = least_greatest f in let same = some_same (greatest f) n h in omega (arith, most, same)
@@ -161,21 +161,21 @@ top_weight Unbounded n h = absurd cc
 
 -- ---- what has a greatest length has parts that have one
 
-told_there : (b : Bool) (s : Span) → IsThere (top (cond b s Unbounded)) → IsThere (top s)
-told_there true s h = h
-told_there false s h = absurd h
+reported_there : (b : Bool) (s : Span) → IsThere (top (cond b s Unbounded)) → IsThere (top s)
+reported_there true s h = h
+reported_there false s h = absurd h
 
-first_there : (a b : Span) → IsThere (top (behind a b)) → IsThere (top a)
+first_there : (a b : Span) → IsThere (top (after a b)) → IsThere (top a)
 first_there (Fixed f) b h = tt
 first_there (Bounded m) b h = tt
 first_there Unbounded b h = absurd h
 
-behind_there : (a b : Span) → IsThere (top (behind a b)) → IsThere (top b)
-behind_there a (Fixed n) h = tt
-behind_there a (Bounded n) h = tt
-behind_there (Fixed m) Unbounded h = h
-behind_there (Bounded m) Unbounded h = h
-behind_there Unbounded Unbounded h = h
+after_there : (a b : Span) → IsThere (top (after a b)) → IsThere (top b)
+after_there a (Fixed n) h = tt
+after_there a (Bounded n) h = tt
+after_there (Fixed m) Unbounded h = h
+after_there (Bounded m) Unbounded h = h
+after_there Unbounded Unbounded h = h
 
 loose_there : (s : Span) → IsThere (top (loose s)) → IsThere (top s)
 loose_there (Fixed n) h = tt
@@ -213,13 +213,13 @@ fields_tops : (e : Encoding) (ts : Tys) → IsThere (top (fields_span e ts)) →
 fields_tops e no_fields h = (0, refl)
 fields_tops e (field t ts) h =
     both_there (top (span e t)) (fields_top (sizes e) ts) (some_there (top (span e t)) (first_there (span e t) (fields_span e ts) h))
-    (fields_tops e ts (behind_there (span e t) (fields_span e ts) h))
+    (fields_tops e ts (after_there (span e t) (fields_span e ts) h))
 
 fields_weights : (e : Encoding) (ts : Tys) → IsThere (top (fields_span e ts)) → fields_weight (sizes e) ts ≤ weight_of (fields_span e ts)
 fields_weights e no_fields h = omega arith
 fields_weights e (field t ts) h =
-    let rest = fields_weights e ts (behind_there (span e t) (fields_span e ts) h) in
-    let both = behind_weight (span e t) (fields_span e ts) (eight e t) (eight_fields e ts) h in
+    let rest = fields_weights e ts (after_there (span e t) (fields_span e ts) h) in
+    let both = after_weight (span e t) (fields_span e ts) (eight e t) (eight_fields e ts) h in
     omega (arith, rest, both)
 
 counted_there : (e : Encoding) (a : Array) (c : Count) → IsThere (top (array_counted e a c)) → IsThere (most c)
@@ -242,7 +242,7 @@ array_there CdrLittle (row_of k c) h = counted_there CdrLittle (row_of k c) c h
 
 items_there : (e : Encoding) (c : Count) (t : Ty) → IsThere (top (span e (items_type c t))) → IsThere (most c) × IsThere (top (span e t))
 items_there e (Exactly n) t h = (tt, times_there n (span e t) h)
-items_there e (AtMost n) t h = (tt, many_there n (top (span e t)) (behind_there (scalar_span e counted) (times_top n (top (span e t))) h))
+items_there e (AtMost n) t h = (tt, many_there n (top (span e t)) (after_there (scalar_span e counted) (times_top n (top (span e t))) h))
 items_there e Any t h = absurd h
 
 arms_there : (e : Encoding) (arms : Arms) → IsThere (top (arms_span e arms)) → ArmsBounded (sizes e) arms
@@ -270,18 +270,18 @@ solid_top (Fixed f) n h e = let most = least_greatest f in let same = some_same 
 solid_top (Bounded m) n h e = let same = some_same m n e in omega (arith, same, h)
 solid_top Unbounded n h e = absurd cc
 
-solid_told : (b : Bool) (s : Span) → IsSolid s → IsSolid (cond b s Unbounded)
-solid_told true s h = h
-solid_told false s h = tt
+solid_reported : (b : Bool) (s : Span) → IsSolid s → IsSolid (cond b s Unbounded)
+solid_reported true s h = h
+solid_reported false s h = tt
 
 solid_exactly : (g : ℕ → ℕ) → ((p : ℕ) → 1 ≤ g p) → IsSolid (exactly (from_each g))
-solid_exactly g h = solid_told (list_all (λ n. nat_le n 4294967295) (from_each g)) (Fixed (from_each g)) (each_least 1 g h)
+solid_exactly g h = solid_reported (list_all (λ n. nat_le n 4294967295) (from_each g)) (Fixed (from_each g)) (each_least 1 g h)
 
 solid_most : (n : ℕ) → 1 ≤ n → IsSolid (at_most n)
-solid_most n h = solid_told (nat_le n 4294967295) (Bounded n) h
+solid_most n h = solid_reported (nat_le n 4294967295) (Bounded n) h
 
-solid_first : (a b : Span) → IsEight a → IsEight b → IsSolid a → IsSolid (behind a b)
-solid_first (Fixed f) (Fixed g) i j h = solid_exactly (length_behind f g) (λ p. let one = length_least f p i in omega (arith, one, h))
+solid_first : (a b : Span) → IsEight a → IsEight b → IsSolid a → IsSolid (after a b)
+solid_first (Fixed f) (Fixed g) i j h = solid_exactly (length_after f g) (λ p. let one = length_least f p i in omega (arith, one, h))
 solid_first (Fixed f) (Bounded n) i j h = solid_most (greatest f + n) (let most = least_greatest f in omega (arith, most, h))
 solid_first (Fixed f) Unbounded i j h = tt
 solid_first (Bounded m) (Fixed g) i j h = solid_most (m + greatest g) (omega arith)
@@ -289,9 +289,9 @@ solid_first (Bounded m) (Bounded n) i j h = solid_most (m + n) (omega arith)
 solid_first (Bounded m) Unbounded i j h = tt
 solid_first Unbounded b i j h = tt
 
-solid_second : (a b : Span) → IsEight a → IsEight b → IsSolid b → IsSolid (behind a b)
+solid_second : (a b : Span) → IsEight a → IsEight b → IsSolid b → IsSolid (after a b)
 solid_second (Fixed f) (Fixed g) i j h =
-    solid_exactly (length_behind f g) (λ p. let two = length_least g (p + length_at f p) j in omega (arith, two, h))
+    solid_exactly (length_after f g) (λ p. let two = length_least g (p + length_at f p) j in omega (arith, two, h))
 solid_second (Fixed f) (Bounded n) i j h = solid_most (greatest f + n) (omega arith)
 solid_second (Fixed f) Unbounded i j h = tt
 solid_second (Bounded m) (Fixed g) i j h = solid_most (m + greatest g) (let most = least_greatest g in omega (arith, most, h))
@@ -472,8 +472,8 @@ are_sizes e = record {
   weight = λ t n h. top_weight (span e t) n h;
   array = array_there e;
   items = items_there e;
-  choice = λ s arms h. arms_there e arms (behind_there (scalar_span e s) (arms_span e arms) h);
-  maybe = λ t h. loose_there (span e t) (behind_there (scalar_span e flag) (loose (span e t)) h);
+  choice = λ s arms h. arms_there e arms (after_there (scalar_span e s) (arms_span e arms) h);
+  maybe = λ t h. loose_there (span e t) (after_there (scalar_span e flag) (loose (span e t)) h);
   solid = λ t n sound e' h. solid_top (span e t) n (filled e t (room t sound) (solid_fills t e')) h;
   fixed = λ t. fixed_there (span e t);
   count = λ c t. count_some e c;

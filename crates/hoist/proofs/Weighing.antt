@@ -105,8 +105,8 @@ module _ (c : Calls) (h : Head) (v : Val) where
     spent_fits (Some ss) e = let f = up (steps c h b v) p le in omega (arith, e, f)
 
   module _ (own : Steps) (quiet : spent own ≡ 0) where
-    behind_own : (s : Steps) (a b d : ℕ) → a ≤ b + d → weigh (both own s) a ≤ weigh s b + d
-    behind_own s a b d le = let x = weigh_quiet own s a quiet in let y = weigh_more s a b d le in omega (arith, x, y)
+    after_own : (s : Steps) (a b d : ℕ) → a ≤ b + d → weigh (both own s) a ≤ weigh s b + d
+    after_own s a b d le = let x = weigh_quiet own s a quiet in let y = weigh_more s a b d le in omega (arith, x, y)
 
     low_raised : (n : ℕ) (p : Pending) → low (raised n p) ≤ low p + 0
     low_raised n nothing = let e = low_some n 0 in omega (arith, e)
@@ -114,11 +114,11 @@ module _ (c : Calls) (h : Head) (v : Val) where
     low_raised n (row p u m) = omega arith
 
     pub flat_least : (n : ℕ) (x : Hoisted) → weigh (both own (steps c h (settled (flat n) x).0 v)) (low (settled (flat n) x).1) ≤ least x
-    flat_least n (b, p) = let e = behind_own (steps c h b v) (low (raised n p)) (low p) 0 (low_raised n p) in omega (arith, e)
+    flat_least n (b, p) = let e = after_own (steps c h b v) (low (raised n p)) (low p) 0 (low_raised n p) in omega (arith, e)
 
     pub small_least : (n k : ℕ) (x : Hoisted)
         → weigh (both own (steps c h (settled (small n k) x).0 v)) (low (settled (small n k) x).1) ≤ least x + k
-    small_least n k (b, nothing) = let e = low_some n k in behind_own (steps c h b v) (low (some_octets n k)) 0 k (omega (arith, e))
+    small_least n k (b, nothing) = let e = low_some n k in after_own (steps c h b v) (low (some_octets n k)) 0 k (omega (arith, e))
     small_least n k (b, octets m j) = cut (nat_lt 8192 j) refl where
       cut : (z : Bool) → nat_lt 8192 j ≡ z
           → weigh (both own (steps c h (beside z n k m j b).0 v)) (low (beside z n k m j b).1) ≤ weigh (steps c h b v) j + k
@@ -129,7 +129,7 @@ module _ (c : Calls) (h : Head) (v : Val) where
           let y = weigh_room m (steps c h b v) (low (some_octets n k)) in
           let w = weigh_more (steps c h b v) (8192 + low (some_octets n k)) j k (omega (arith, full, f)) in
           omega (arith, x, y, w)
-      cut false e = behind_own (steps c h b v) (j + k) j k (omega arith)
+      cut false e = after_own (steps c h b v) (j + k) j k (omega arith)
     small_least n k (b, row q u m) =
         let f = low_some n k in
         let x = weigh_quiet own (steps c h (ensure_row q u m b) v) (low (some_octets n k)) quiet in

@@ -43,10 +43,10 @@ a_number_and_numbers : closed (hoisted (roles sizes) (group_type (field int (fie
 a_number_and_numbers = refl
 
 -- a number after a list: one more for the list's elements than for its turn
-behind_a_list : closed (hoisted (roles sizes) (group_type (field (list int) (field int no_fields)))
+after_a_list : closed (hoisted (roles sizes) (group_type (field (list int) (field int no_fields)))
     (count_at (0 ∷ []) (each (0 ∷ []) (number_at [] stop) (number_at (1 ∷ []) stop))))
     ≡ ensure_row (0 ∷ []) 4 8 (count_at (0 ∷ []) (each (0 ∷ []) (number_at [] stop) (number_at (1 ∷ []) stop)))
-behind_a_list = refl
+after_a_list = refl
 
 -- lists of lists: each element by itself
 lists : closed (hoisted (roles sizes) (list (list int)) (count_at [] (each [] (count_at [] (each [] (number_at [] stop) stop)) stop)))

@@ -84,8 +84,8 @@ a_number_and_any : Has (group_type (field int (field (string Any) no_fields))) N
 a_number_and_any = (refl, refl, refl)
 
 -- lengths are reported up to 4,294,967,295: the last multiple of 4 below it
-most_told : Has (opaque (Exactly 4294967292)) (Some 4294967292) true 0
-most_told = (refl, refl, refl)
+most_reported : Has (opaque (Exactly 4294967292)) (Some 4294967292) true 0
+most_reported = (refl, refl, refl)
 
 -- 3 zeros after the octets make it 4,294,967,296
 too_long : Has (opaque (Exactly 4294967293)) None false 0

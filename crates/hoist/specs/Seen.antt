@@ -31,8 +31,8 @@ role_seen role.Row = is_row
 role_seen role.Break = is_break
 
 -- code in reverse, with what is to be ensured before it
-abbrev pub behind : List SendOp → Ahead → Hoisted
-behind back a = (code_seen (reverse back), ahead_seen a)
+abbrev pub after : List SendOp → Ahead → Hoisted
+after back a = (code_seen (reverse back), ahead_seen a)
 
 -- the roles by the spans of an encoding
 abbrev pub span_roles : Encoding → Roles

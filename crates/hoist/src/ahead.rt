@@ -3,7 +3,7 @@
 ghost use Rattle.std.specs.Prelude.{◌≡◌, ◌+◌, reverse, OnOk, IfOk};
 ghost use Rattle.cast_stub.specs.Block.{code_seen};
 ghost use Rattle.hoist.specs.Hoisted.{raised, some_octets, closed, settled, small, loop};
-ghost use Rattle.hoist.specs.Seen.{ahead_seen, behind, plan_seen};
+ghost use Rattle.hoist.specs.Seen.{ahead_seen, after, plan_seen};
 
 use cast_stub::{Path, SendOp};
 use kit_base::NoMemory;
@@ -59,7 +59,7 @@ pub(crate) fn raise(ahead: Ahead, n: u32) -> Result<Ahead, NoMemory>
 /// Ensures what is to be ensured.
 #[tactic(auto, using(crate::proofs::Reversed::reversed))]
 pub(crate) fn flush(back: &mut Vec<SendOp>, ahead: Ahead) -> Result<(), NoMemory>
-    ensures { OnOk result (code_seen (reverse back.new.items) ≡ closed (behind back.old.items ahead)) }
+    ensures { OnOk result (code_seen (reverse back.new.items) ≡ closed (after back.old.items ahead)) }
 {
     match ahead {
         Ahead::Nothing => Ok(()),
@@ -77,7 +77,7 @@ pub(crate) fn flush(back: &mut Vec<SendOp>, ahead: Ahead) -> Result<(), NoMemory
 /// A small part before them.
 #[tactic(auto, using(crate::proofs::Reversed::reversed))]
 fn set_small(back: &mut Vec<SendOp>, ahead: Ahead, n: u32, k: u32) -> Result<Ahead, NoMemory>
-    ensures { IfOk result (λ a. behind back.new.items a ≡ settled (small n k) (behind back.old.items ahead)) }
+    ensures { IfOk result (λ a. after back.new.items a ≡ settled (small n k) (after back.old.items ahead)) }
 {
     match ahead {
         Ahead::Nothing => Ok(some_octets(n, k)),
@@ -100,7 +100,7 @@ fn set_small(back: &mut Vec<SendOp>, ahead: Ahead, n: u32, k: u32) -> Result<Ahe
 #[tactic(auto, using(crate::proofs::Reversed::reversed))]
 fn set_loop(back: &mut Vec<SendOp>, ahead: Ahead, path: Path, unit: u32) -> Result<Ahead, NoMemory>
     ensures { IfOk result
-        (λ a. behind back.new.items a ≡ settled (loop path unit) (behind back.old.items ahead)) }
+        (λ a. after back.new.items a ≡ settled (loop path unit) (after back.old.items ahead)) }
 {
     match ahead {
         Ahead::Nothing => Ok(Ahead::Row(path, unit, 0)),
@@ -121,7 +121,7 @@ pub(crate) fn settle(
     path: Path,
 ) -> Result<Ahead, NoMemory>
     ensures { IfOk result
-        (λ a. behind back.new.items a ≡ settled (plan_seen path plan) (behind back.old.items ahead)) }
+        (λ a. after back.new.items a ≡ settled (plan_seen path plan) (after back.old.items ahead)) }
 {
     match plan {
         Plan::Small(n, k) => set_small(back, ahead, n, k),

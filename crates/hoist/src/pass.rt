@@ -10,7 +10,7 @@ ghost use Rattle.cast_stub.specs.Rowless.{HasNoRow};
 ghost use Rattle.hoist.specs.Pass.{EnsuresRows, IsGiven, IsSparing};
 ghost use Rattle.cast_stub.specs.Kept.{ChangesOnlyEnsures, IsCoveredFor, SendsTheSame};
 ghost use Rattle.hoist.specs.Hoisted.{closed, hoisted, cases_hoisted, kept, items_at, or_void, or_none, InType, IsTaken, CasesTaken, WhereApart};
-ghost use Rattle.hoist.specs.Seen.{AreHoisted, ArmsTaken, IsHoisted, behind, plan_seen, span_roles, InFront};
+ghost use Rattle.hoist.specs.Seen.{AreHoisted, ArmsTaken, IsHoisted, after, plan_seen, span_roles, InFront};
 
 use crate::ahead::{Ahead, Plan, flush, raise, settle};
 use crate::parts::node_at;
@@ -75,7 +75,7 @@ fn hoist_op(
     requires classes { AreClasses mint.now classes.now }
     requires taken { IsTaken (span_roles classes.now.enc) (type_at mint.now id) (op_seen op.now stop) }
     ensures { IfOk result (λ then. InFront classes.now.enc (type_at mint.now id) op.now
-        (behind back.old.items ahead) (behind back.new.items then)) }
+        (after back.old.items ahead) (after back.new.items then)) }
 {
     match op {
         SendOp::Align(a) => {

@@ -3,9 +3,9 @@ use Rattle.std.proofs.Common.{◌≡◌, ℕ, ◌+◌, ◌-◌, ◌^◌, ◌<◌
 use Rattle.std.proofs.lemmas.List.{append-nil, take-append-drop, take_at, drop-drop}
 use Rattle.std.proofs.lemmas.List.Sums.{sum_by-append}
 use Rattle.std.proofs.Math.Seq.{take-add}
-use Rattle.idl_lex.specs.Lines.{line_feeds, line_behind}
-use Rattle.idl_lex.specs.Pieces.{Piece, octets_of, all_octets, kind_of, imports_on, imports_behind, IsPieceOf, Stands, AllStand}
-use Rattle.idl_lex.specs.Lexed.{token_on, tokens_behind, fault_at, IsFirstFault, Explains}
+use Rattle.idl_lex.specs.Lines.{line_feeds, line_after}
+use Rattle.idl_lex.specs.Pieces.{Piece, octets_of, all_octets, kind_of, imports_on, imports_after, IsPieceOf, Stands, AllStand}
+use Rattle.idl_lex.specs.Lexed.{token_on, tokens_after, fault_at, IsFirstFault, Explains}
 use Rattle.idl_lex.specs.Reads.{Read, Gives, shown, piece_at}
 use Rattle.idl_lex.specs.declared.kinds.Front.{Front}
 use Rattle.idl_lex.specs.declared.kinds.Token.{Token}
@@ -16,40 +16,40 @@ use Rattle.idl_lex.proofs.Standing.{IsRead, piece_is_read, stands_is_read}
 
 -- ---- one more piece
 
-octets_behind : (ps : List Piece) (p : Piece) → all_octets (ps ++ p ∷ []) ≡ all_octets ps ++ octets_of p
-octets_behind [] p = append-nil (octets_of p)
-octets_behind (q ∷ ps) p = ap (λ z. octets_of q ++ z) (octets_behind ps p) ∙ sym (append_assoc (octets_of q) (all_octets ps) (octets_of p))
+octets_after : (ps : List Piece) (p : Piece) → all_octets (ps ++ p ∷ []) ≡ all_octets ps ++ octets_of p
+octets_after [] p = append-nil (octets_of p)
+octets_after (q ∷ ps) p = ap (λ z. octets_of q ++ z) (octets_after ps p) ∙ sym (append_assoc (octets_of q) (all_octets ps) (octets_of p))
 
-one_more_stands : (front : Front) (before ps : List Piece) (p : Piece) (behind : List ℕ)
-    → AllStand front before ps (octets_of p ++ behind) → Stands front (before ++ ps) p behind
-    → AllStand front before (ps ++ p ∷ []) behind
-one_more_stands front before [] p behind a s = (subst (λ z. Stands front z p behind) (append-nil before) s, tt)
-one_more_stands front before (q ∷ ps) p behind a s =
-    let same : all_octets ps ++ (octets_of p ++ behind) ≡ all_octets (ps ++ p ∷ []) ++ behind =
-    sym (ap (λ z. z ++ behind) (octets_behind ps p) ∙ append_assoc (all_octets ps) (octets_of p) behind) in (
+one_more_stands : (front : Front) (before ps : List Piece) (p : Piece) (after : List ℕ)
+    → AllStand front before ps (octets_of p ++ after) → Stands front (before ++ ps) p after
+    → AllStand front before (ps ++ p ∷ []) after
+one_more_stands front before [] p after a s = (subst (λ z. Stands front z p after) (append-nil before) s, tt)
+one_more_stands front before (q ∷ ps) p after a s =
+    let same : all_octets ps ++ (octets_of p ++ after) ≡ all_octets (ps ++ p ∷ []) ++ after =
+    sym (ap (λ z. z ++ after) (octets_after ps p) ∙ append_assoc (all_octets ps) (octets_of p) after) in (
       subst (λ z. Stands front before q z) same a.0,
-      one_more_stands front (before ++ q ∷ []) ps p behind a.1
-          (subst (λ z. Stands front z p behind) (sym (append_assoc before (q ∷ []) ps)) s),
+      one_more_stands front (before ++ q ∷ []) ps p after a.1
+          (subst (λ z. Stands front z p after) (sym (append_assoc before (q ∷ []) ps)) s),
     )
 
 one_more_token : (before ps : List Piece) (p : Piece)
-    → tokens_behind before (ps ++ p ∷ []) ≡ tokens_behind before ps ++ token_on (line_behind (all_octets (before ++ ps))) (kind_of p)
+    → tokens_after before (ps ++ p ∷ []) ≡ tokens_after before ps ++ token_on (line_after (all_octets (before ++ ps))) (kind_of p)
 one_more_token before [] p =
-    append-nil (token_on (line_behind (all_octets before)) (kind_of p))
-    ∙ ap (λ z. token_on (line_behind (all_octets z)) (kind_of p)) (sym (append-nil before))
+    append-nil (token_on (line_after (all_octets before)) (kind_of p))
+    ∙ ap (λ z. token_on (line_after (all_octets z)) (kind_of p)) (sym (append-nil before))
 one_more_token before (q ∷ ps) p =
-    let here = token_on (line_behind (all_octets before)) (kind_of q) in
+    let here = token_on (line_after (all_octets before)) (kind_of q) in
     ap (λ z. here ++ z) (one_more_token (before ++ q ∷ []) ps p)
     ∙ ap (λ z.
-    here ++ (tokens_behind (before ++ q ∷ []) ps ++ token_on (line_behind (all_octets z)) (kind_of p)))
+    here ++ (tokens_after (before ++ q ∷ []) ps ++ token_on (line_after (all_octets z)) (kind_of p)))
     (append_assoc before (q ∷ []) ps)
-    ∙ sym (append_assoc here (tokens_behind (before ++ q ∷ []) ps) (token_on (line_behind (all_octets (before ++ q ∷ ps))) (kind_of p)))
+    ∙ sym (append_assoc here (tokens_after (before ++ q ∷ []) ps) (token_on (line_after (all_octets (before ++ q ∷ ps))) (kind_of p)))
 
 feeds-append : (a b : List ℕ) → line_feeds (a ++ b) ≡ line_feeds a + line_feeds b
 feeds-append a b = sum_by-append (λ o. cond (o == 10) 1 0) a b
 
 one_more_imports : (imports : Bool) (ps : List Piece) (p : Piece)
-    → imports_behind imports (ps ++ p ∷ []) ≡ imports_on (imports_behind imports ps) (kind_of p)
+    → imports_after imports (ps ++ p ∷ []) ≡ imports_on (imports_after imports ps) (kind_of p)
 one_more_imports imports [] p = refl
 one_more_imports imports (q ∷ ps) p = one_more_imports (imports_on imports (kind_of q)) ps p
 
@@ -87,16 +87,16 @@ pub record So (front : Front) (text : List ℕ) (line at : ℕ) (imports : Bool)
   pub pieces : List Piece
   pub before_is : all_octets pieces ≡ take at text
   pub stand : AllStand front [] pieces (drop at text)
-  pub tokens_are : tokens ≡ tokens_behind [] pieces
-  pub line_is : line ≡ line_behind (take at text)
-  pub imports_is : imports ≡ imports_behind false pieces
+  pub tokens_are : tokens ≡ tokens_after [] pieces
+  pub line_is : line ≡ line_after (take at text)
+  pub imports_is : imports ≡ imports_after false pieces
   pub within : at ≤ length text
 
 -- a piece at the place is one after the pieces up to there
 at_pieces : (front : Front) (text : List ℕ) (line at : ℕ) (imports : Bool) (tokens : List Token)
     (s : So front text line at imports tokens) (p : Piece)
     → IsPieceOf front imports (take at text) p (drop at text)
-    → IsPieceOf front (imports_behind false s.pieces) (all_octets s.pieces) p (drop at text)
+    → IsPieceOf front (imports_after false s.pieces) (all_octets s.pieces) p (drop at text)
 at_pieces front text line at imports tokens s p is =
     subst
     (λ z. IsPieceOf front z (all_octets s.pieces) p (drop at text)) s.imports_is (subst (λ z.
@@ -105,7 +105,7 @@ at_pieces front text line at imports tokens s p is =
 -- and the other way round
 at_place : (front : Front) (text : List ℕ) (line at : ℕ) (imports : Bool) (tokens : List Token)
     (s : So front text line at imports tokens) (p : Piece)
-    → IsPieceOf front (imports_behind false s.pieces) (all_octets s.pieces) p (drop at text)
+    → IsPieceOf front (imports_after false s.pieces) (all_octets s.pieces) p (drop at text)
     → IsPieceOf front imports (take at text) p (drop at text)
 at_place front text line at imports tokens s p is =
     subst
@@ -128,22 +128,22 @@ go_on_at front text line at n line' imports tokens kind s lt read fits line_is =
     ∙ ap (λ z. octets_of x.p ++ z) (ap (λ z. drop z rest) x.count_is ∙ drop-drop n at text) in
     record {
       pieces = s.pieces ++ x.p ∷ [];
-      before_is = octets_behind s.pieces x.p
+      before_is = octets_after s.pieces x.p
           ∙ ap (λ z. z ++ octets_of x.p) s.before_is ∙ ap (λ z. take at text ++ z) (sym octets) ∙ sym (take-add at n text);
       stand = one_more_stands front [] s.pieces x.p (drop (at + n) text) (subst (λ z. AllStand front [] s.pieces z) parts s.stand)
           (subst
           (λ z.
-          IsPieceOf front (imports_behind false s.pieces) (all_octets s.pieces) x.p z) parts
+          IsPieceOf front (imports_after false s.pieces) (all_octets s.pieces) x.p z) parts
           (at_pieces front text line at imports tokens s x.p one.1));
       tokens_are = ap (λ z. z ++ token_on line kind) s.tokens_are
-          ∙ ap (λ z. tokens_behind [] s.pieces ++ token_on z kind) (s.line_is ∙ ap line_behind (sym s.before_is))
-          ∙ ap (λ z. tokens_behind [] s.pieces ++ token_on (line_behind (all_octets s.pieces)) z) (sym x.kind_is)
+          ∙ ap (λ z. tokens_after [] s.pieces ++ token_on z kind) (s.line_is ∙ ap line_after (sym s.before_is))
+          ∙ ap (λ z. tokens_after [] s.pieces ++ token_on (line_after (all_octets s.pieces)) z) (sym x.kind_is)
           ∙ sym (one_more_token [] s.pieces x.p);
       line_is =
           let count : line_feeds (take (at + n) text) ≡ line_feeds (take at text) + line_feeds (take n rest) =
           ap line_feeds (take-add at n text) ∙ feeds-append (take at text) (take n rest) in
           omega (arith, line_is, s.line_is, count);
-      imports_is = ap (λ z. imports_on z kind) s.imports_is ∙ ap (imports_on (imports_behind false s.pieces)) (sym x.kind_is)
+      imports_is = ap (λ z. imports_on z kind) s.imports_is ∙ ap (imports_on (imports_after false s.pieces)) (sym x.kind_is)
           ∙ sym (one_more_imports false s.pieces x.p);
       within = omega (arith, fits, lt, length-drop at text);
     }
@@ -178,8 +178,8 @@ first_fault front text line at imports tokens e s lt read =
       parts = sym (take-append-drop at text) ∙ ap (λ z. z ++ rest) (sym s.before_is);
       stand = s.stand;
       more = λ none. let l : length rest ≡ 0 = ap length none in omega (arith, l, lt, length-drop at text);
-      none = λ p behind parts stands.
-          let here = subst (λ z. IsPieceOf front (imports_behind false s.pieces) (all_octets s.pieces) p z) (sym parts) stands in
+      none = λ p after parts stands.
+          let here = subst (λ z. IsPieceOf front (imports_after false s.pieces) (all_octets s.pieces) p z) (sym parts) stands in
           let a = stands_is_read front imports (take at text) rest p (at_place front text line at imports tokens s p here) in
           no_fault _ p e a is;
       cause =

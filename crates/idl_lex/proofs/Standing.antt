@@ -8,7 +8,7 @@ use Rattle.idl_lex.specs.Numbers.{digit_count, is_number, value_of}
 use Rattle.idl_lex.specs.Lines.{is_hash_line, is_skipped}
 use Rattle.idl_lex.specs.Quotes.{is_single, opens_quote, character_at, string_count}
 use Rattle.idl_lex.specs.Files.{file_count}
-use Rattle.idl_lex.specs.Pieces.{Piece, blanks, comment, skipped_line, name, number, character, string, file_name, mark, octets_of, all_octets, opens_comment, count_to_close, mark_count, imports_behind, IsPieceOf, Stands, AllStand}
+use Rattle.idl_lex.specs.Pieces.{Piece, blanks, comment, skipped_line, name, number, character, string, file_name, mark, octets_of, all_octets, opens_comment, count_to_close, mark_count, imports_after, IsPieceOf, Stands, AllStand}
 use Rattle.idl_lex.specs.Lexed.{fault_at, ArePieces, IsFirstFault}
 use Rattle.idl_lex.specs.Reads.{Read, comment_of, number_of, character_of, string_of, quoted_of, mark_of, file_of, piece_at}
 use Rattle.idl_lex.specs.declared.kinds.Front.{Front}
@@ -182,11 +182,11 @@ nothing_at_end front imports before (mark os) h = absurd (omega (arith, h.0))
 
 -- no piece begins
 abbrev pub IsStuck : Front → List Piece → List ℕ → Type 0
-IsStuck front before rest = (p : Piece) (behind : List ℕ) → rest ≡ octets_of p ++ behind → Stands front before p behind → ⊥
+IsStuck front before rest = (p : Piece) (after : List ℕ) → rest ≡ octets_of p ++ after → Stands front before p after → ⊥
 
 pub stuck_at_end : (front : Front) (before : List Piece) → IsStuck front before []
-stuck_at_end front before p behind is stands = nothing_at_end front (imports_behind false before) (all_octets before) p
-    (subst (λ z. IsPieceOf front (imports_behind false before) (all_octets before) p z) (sym is) stands)
+stuck_at_end front before p after is stands = nothing_at_end front (imports_after false before) (all_octets before) p
+    (subst (λ z. IsPieceOf front (imports_after false before) (all_octets before) p z) (sym is) stands)
 
 same_ok : (p q : Piece) → (let x : Read = Ok p in x) ≡ Ok q → p ≡ q
 same_ok p q e = cc
@@ -195,9 +195,9 @@ one_piece : (front : Front) (before : List Piece) (p q : Piece) (a b : List ℕ)
     → Stands front before q b → octets_of p ++ a ≡ octets_of q ++ b
     → p ≡ q
 one_piece front before p q a b s t e =
-    let f = stands_is_read front (imports_behind false before) (all_octets before) (octets_of p ++ a) p s in
-    let g = stands_is_read front (imports_behind false before) (all_octets before) (octets_of q ++ b) q t in
-    same_ok p q (sym f ∙ ap (piece_at front (imports_behind false before) (all_octets before)) e ∙ g)
+    let f = stands_is_read front (imports_after false before) (all_octets before) (octets_of p ++ a) p s in
+    let g = stands_is_read front (imports_after false before) (all_octets before) (octets_of q ++ b) q t in
+    same_ok p q (sym f ∙ ap (piece_at front (imports_after false before) (all_octets before)) e ∙ g)
 
 -- pieces up to a place where none begins are determined, and so is the place
 pub determined : (front : Front) (before ps qs : List Piece) (r s : List ℕ) → AllStand front before ps r → IsStuck front (before ++ ps) r

@@ -2,7 +2,7 @@
 use Rattle.std.specs.Prelude.{◌≡◌, ◌≢◌, ◌⊎◌, ◌&&◌, ℕ, List, [], ◌∷◌, ◌++◌, length, take, Option, Some, None, if◌then◌else◌}
 use Rattle.idl_lex.specs.Classes.{is_digit, begins}
 use Rattle.idl_lex.specs.Numbers.{digit_count, is_number}
-use Rattle.idl_lex.specs.Lines.{line_behind, is_hash_line}
+use Rattle.idl_lex.specs.Lines.{line_after, is_hash_line}
 use Rattle.idl_lex.specs.Pieces.{Piece, octets_of, all_octets, kind_of, opens_comment, Stands, AllStand}
 use Rattle.idl_lex.specs.declared.kinds.Front.{Front}
 use Rattle.idl_lex.specs.declared.kinds.Token.{Token}
@@ -16,9 +16,9 @@ token_on line None = []
 token_on line (Some kind) = record { kind = kind; line = line } ∷ []
 
 -- the tokens of pieces that follow other pieces
-abbrev pub tokens_behind : List Piece → List Piece → List Token
-tokens_behind before [] = []
-tokens_behind before (p ∷ ps) = token_on (line_behind (all_octets before)) (kind_of p) ++ tokens_behind (before ++ p ∷ []) ps
+abbrev pub tokens_after : List Piece → List Piece → List Token
+tokens_after before [] = []
+tokens_after before (p ∷ ps) = token_on (line_after (all_octets before)) (kind_of p) ++ tokens_after (before ++ p ∷ []) ps
 
 -- pieces are those of a whole text
 abbrev pub ArePieces : Front → List ℕ → List Piece → Type 0
@@ -40,12 +40,12 @@ pub record IsFirstFault (front : Front) (text : List ℕ) (fault : LexErr) : Typ
   pub parts : text ≡ all_octets pieces ++ rest
   pub stand : AllStand front [] pieces rest
   pub more : rest ≢ []
-  pub none : (p : Piece) (behind : List ℕ) → rest ≡ octets_of p ++ behind → Stands front pieces p behind → ⊥
+  pub none : (p : Piece) (after : List ℕ) → rest ≡ octets_of p ++ after → Stands front pieces p after → ⊥
   pub cause : fault ≡ fault_at (all_octets pieces) rest
 
 -- tokens are those of a whole text
 abbrev pub AreTokens : Front → List ℕ → List Token → Type 0
-AreTokens front text tokens = (pieces : List Piece) × ArePieces front text pieces × (tokens ≡ tokens_behind [] pieces)
+AreTokens front text tokens = (pieces : List Piece) × ArePieces front text pieces × (tokens ≡ tokens_after [] pieces)
 
 -- each text has tokens, or a first fault
 abbrev pub TextsAreDecided : Front → Type 0

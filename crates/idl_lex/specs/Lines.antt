@@ -10,8 +10,8 @@ abbrev pub line_feeds : List ℕ → ℕ
 line_feeds os = count_by (λ o. o == 10) os
 
 -- the line of the place after some octets: one more than the line feeds before it, and 2^32 - 1 at most
-abbrev pub line_behind : List ℕ → ℕ
-line_behind before = min (1 + line_feeds before) (2 ^ 32 - 1)
+abbrev pub line_after : List ℕ → ℕ
+line_after before = min (1 + line_feeds before) (2 ^ 32 - 1)
 
 -- what comes before a place on its line, the nearest octet first
 abbrev pub line_before : List ℕ → List ℕ

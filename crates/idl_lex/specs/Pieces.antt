@@ -87,9 +87,9 @@ imports_on imports (Some (Name os)) = is_import os
 imports_on imports (Some _) = false
 
 -- whether the last token of pieces is a word that imports; `imports`: whether the last before them is
-abbrev pub imports_behind : Bool → List Piece → Bool
-imports_behind imports [] = imports
-imports_behind imports (p ∷ ps) = imports_behind (imports_on imports (kind_of p)) ps
+abbrev pub imports_after : Bool → List Piece → Bool
+imports_after imports [] = imports
+imports_after imports (p ∷ ps) = imports_after (imports_on imports (kind_of p)) ps
 
 -- octets are a piece at a place: `imports` says whether the last token imports, `before` is what comes before the place, `text` is the octets
 -- and all that follows them, and of its sort the piece is the longest that comes first there
@@ -116,9 +116,9 @@ IsPieceOf front imports before (mark os) text =
 
 -- a piece after pieces and before octets
 abbrev pub Stands : Front → List Piece → Piece → List ℕ → Type 0
-Stands front before p behind = IsPieceOf front (imports_behind false before) (all_octets before) p (octets_of p ++ behind)
+Stands front before p after = IsPieceOf front (imports_after false before) (all_octets before) p (octets_of p ++ after)
 
 -- pieces that come one after the other, after pieces and before octets
 abbrev pub AllStand : Front → List Piece → List Piece → List ℕ → Type 0
-AllStand front before [] behind = Unit {0}
-AllStand front before (p ∷ ps) behind = Stands front before p (all_octets ps ++ behind) × AllStand front (before ++ p ∷ []) ps behind
+AllStand front before [] after = Unit {0}
+AllStand front before (p ∷ ps) after = Stands front before p (all_octets ps ++ after) × AllStand front (before ++ p ∷ []) ps after

@@ -85,18 +85,18 @@ fn string_count(text: &[u8]) -> Option<usize>
     ensures count { result ≡ string_count false text.now }
     ensures within { IfSome result (λ n. (0 < n) × (n ≤ length text.now)) }
 {
-    let mut behind_backslash = false;
+    let mut after_backslash = false;
     'octets: for i in 0..text.len() {
         let octet = text[i];
-        if behind_backslash {
+        if after_backslash {
             if escape(octet).is_none() {
                 return None;
             }
-            behind_backslash = false;
+            after_backslash = false;
         } else if octet == b'"' {
             return Some(i + 1);
         } else if octet == b'\\' {
-            behind_backslash = true;
+            after_backslash = true;
         } else if !is_plain(octet) {
             return None;
         }
@@ -119,13 +119,13 @@ fn spelled(alloc: Global, body: &[u8]) -> Result<Octets, NoMemory>
     ensures { IfOk result (λ codes. codes ≡ spelled false body.now) }
 {
     let mut codes = Octets::new(alloc);
-    let mut behind_backslash = false;
+    let mut after_backslash = false;
     'octets: for octet in body {
-        if behind_backslash {
+        if after_backslash {
             codes.push(code_or(*octet))?;
-            behind_backslash = false;
+            after_backslash = false;
         } else if *octet == b'\\' {
-            behind_backslash = true;
+            after_backslash = true;
         } else {
             codes.push(*octet)?;
         }

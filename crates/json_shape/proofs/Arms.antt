@@ -8,9 +8,9 @@ use Rattle.pres.specs.Faces.{Face, Arms, Sign, at, arms_at, choice}
 use Rattle.serde_json.specs.Data.{Data}
 use Rattle.serde_json.specs.Data as json
 use Rattle.serde_json.specs.Find.{as_object}
-use Rattle.json_shape.specs.Presents.{is_arm, members_in, tag_in, behind_tag}
-use Rattle.json_shape.specs.Reading.{value_of, behind}
-use Rattle.json_shape.specs.Written.{json_of, behind_json}
+use Rattle.json_shape.specs.Presents.{is_arm, members_in, tag_in, after_tag}
+use Rattle.json_shape.specs.Reading.{value_of, after}
+use Rattle.json_shape.specs.Written.{json_of, after_json}
 
 read_at : (fs : List Face) (b : Bool) (i : ℕ) (rest : Option ℕ) (k : ℕ) (x : Option Val) (j : Data) → cond b (Some i) rest ≡ Some k
     → (rest ≡ Some k → x ≡ value_of (at fs k) j)
@@ -21,14 +21,14 @@ read_at fs true i rest k x j is more =
 read_at fs false i rest k x j is more = more is
 
 pub arm_read : (fs : List Face) (arms : List (ℤ × ℕ)) (o : Option ℕ) (n : ℤ) (k : ℕ) (j : Data) → arm_found arms o n ≡ Some k
-    → behind (arms_at fs arms o) n j ≡ value_of (at fs k) j
+    → after (arms_at fs arms o) n j ≡ value_of (at fs k) j
 unfolding value_of
 arm_read fs [] None n k j is = absurd cc
 arm_read fs [] (Some i) n k j is =
     let same : i ≡ k = cc in
     rw same refl
 arm_read fs (a ∷ arms) o n k j is =
-    read_at fs (int_eq n a.0) a.1 (arm_found arms o n) k (behind (arms_at fs arms o) n j) j is (λ f. arm_read fs arms o n k j f)
+    read_at fs (int_eq n a.0) a.1 (arm_found arms o n) k (after (arms_at fs arms o) n j) j is (λ f. arm_read fs arms o n k j f)
 
 none_at : (fs : List Face) (b : Bool) (i : ℕ) (rest : Option ℕ) (x : Option Val) (j : Data) → cond b (Some i) rest ≡ None
     → (rest ≡ None → x ≡ None)
@@ -37,18 +37,18 @@ none_at fs true i rest x j is more = absurd cc
 none_at fs false i rest x j is more = more is
 
 pub arm_missed : (fs : List Face) (arms : List (ℤ × ℕ)) (o : Option ℕ) (n : ℤ) (j : Data) → arm_found arms o n ≡ None
-    → behind (arms_at fs arms o) n j ≡ None
+    → after (arms_at fs arms o) n j ≡ None
 unfolding value_of
 arm_missed fs [] None n j is = refl
 arm_missed fs [] (Some i) n j is = absurd cc
 arm_missed fs (a ∷ arms) o n j is =
-    none_at fs (int_eq n a.0) a.1 (arm_found arms o n) (behind (arms_at fs arms o) n j) j is (λ f. arm_missed fs arms o n j f)
+    none_at fs (int_eq n a.0) a.1 (arm_found arms o n) (after (arms_at fs arms o) n j) j is (λ f. arm_missed fs arms o n j f)
 
 pub ruleset arms = (arm_read, arm_missed, arm_below)
 
 -- an object with the members of a choice
 pub choice_read : (s : Sign) (arms : Arms) (j : Data) → true ≡ option_map_or is_arm (as_object j) false
-    → value_of (choice s arms) j ≡ option_and_then (λ (n : ℤ). option_map (arm n) (behind arms n (behind_tag (members_in j))))
+    → value_of (choice s arms) j ≡ option_and_then (λ (n : ℤ). option_map (arm n) (after arms n (after_tag (members_in j))))
     (tag_in s (members_in j))
 unfolding value_of
 choice_read s arms (json.object ms) h = rw (sym h) refl
@@ -63,13 +63,13 @@ json_at fs true i rest k x v is more =
 json_at fs false i rest k x v is more = more is
 
 pub arm_written : (fs : List Face) (arms : List (ℤ × ℕ)) (o : Option ℕ) (n : ℤ) (k : ℕ) (v : Val) → arm_found arms o n ≡ Some k
-    → behind_json (arms_at fs arms o) n v ≡ json_of (at fs k) v
+    → after_json (arms_at fs arms o) n v ≡ json_of (at fs k) v
 arm_written fs [] None n k v is = absurd cc
 arm_written fs [] (Some i) n k v is =
     let same : i ≡ k = cc in
     rw same refl
 arm_written fs (a ∷ arms) o n k v is =
-    json_at fs (int_eq n a.0) a.1 (arm_found arms o n) k (behind_json (arms_at fs arms o) n v) v is (λ f. arm_written fs arms o n k v f)
+    json_at fs (int_eq n a.0) a.1 (arm_found arms o n) k (after_json (arms_at fs arms o) n v) v is (λ f. arm_written fs arms o n k v f)
 
 null_at : (fs : List Face) (b : Bool) (i : ℕ) (rest : Option ℕ) (x : Data) (v : Val) → cond b (Some i) rest ≡ None
     → (rest ≡ None → x ≡ json.null)
@@ -78,10 +78,10 @@ null_at fs true i rest x v is more = absurd cc
 null_at fs false i rest x v is more = more is
 
 pub arm_null : (fs : List Face) (arms : List (ℤ × ℕ)) (o : Option ℕ) (n : ℤ) (v : Val) → arm_found arms o n ≡ None
-    → behind_json (arms_at fs arms o) n v ≡ json.null
+    → after_json (arms_at fs arms o) n v ≡ json.null
 arm_null fs [] None n v is = refl
 arm_null fs [] (Some i) n v is = absurd cc
 arm_null fs (a ∷ arms) o n v is =
-    null_at fs (int_eq n a.0) a.1 (arm_found arms o n) (behind_json (arms_at fs arms o) n v) v is (λ f. arm_null fs arms o n v f)
+    null_at fs (int_eq n a.0) a.1 (arm_found arms o n) (after_json (arms_at fs arms o) n v) v is (λ f. arm_null fs arms o n v f)
 
 pub ruleset arms_written = (arm_written, arm_null, arm_below)

@@ -12,14 +12,14 @@ use Rattle.json_shape.proofs.Options.{mapped_from, stepped_from, tested_from, on
 use Rattle.serde_json.specs.Find.{as_null}
 use Rattle.wire_def.specs.Arrays.{kind_of}
 use Rattle.json_shape.specs.Scalars.{sign_in, array_in}
-use Rattle.json_shape.specs.Presents.{size, count, is_arm, member_of, tag_in, behind_tag, Presents, Shows, ShowEach, ShowInOrder, ShowByName, ShowsArm}
+use Rattle.json_shape.specs.Presents.{size, count, is_arm, member_of, tag_in, after_tag, Presents, Shows, ShowEach, ShowInOrder, ShowByName, ShowsArm}
 use Rattle.json_shape.specs.Gives.{Gives}
 use Rattle.json_shape.specs.declared.errors.ShapeErr.{ShapeErr}
 use Rattle.json_shape.specs.declared.errors.ShapeErr.TheVariants as errors
 use Rattle.mint.specs.Types.{Ty}
 use Rattle.mint.specs.Typed.{IsWellTyped}
 use Rattle.std.specs.Prelude.{Err}
-use Rattle.json_shape.specs.Reading.{before, each, value_of, in_order, by_name, behind}
+use Rattle.json_shape.specs.Reading.{before, each, value_of, in_order, by_name, after}
 
 both : (a : Option Val) (b : Option Vals) (v : Val) (vs : Vals) → a ≡ Some v → b ≡ Some vs → before a b ≡ Some (val v vs)
 both a b v vs p q = rw (p, q) refl
@@ -44,8 +44,8 @@ object_shown ps ms vs same h =
     rw test h
 
 choice_shown : (arms : Arms) (ms : Members) (tag : Option ℤ) (n : ℤ) (v : Val) → is_arm ms ≡ true → tag ≡ Some n
-    → behind arms n (behind_tag ms) ≡ Some v
-    → (if is_arm ms then option_and_then (λ (m : ℤ). option_map (arm m) (behind arms m (behind_tag ms))) tag else None) ≡ Some (arm n v)
+    → after arms n (after_tag ms) ≡ Some v
+    → (if is_arm ms then option_and_then (λ (m : ℤ). option_map (arm m) (after arms m (after_tag ms))) tag else None) ≡ Some (arm n v)
 choice_shown arms ms tag n v known is h = rw (known, is, h) refl
 
 arm_shown : (b : Bool) (P Q : Type 0) (x y : Option Val) (v : Val) → (P → x ≡ Some v) → (Q → y ≡ Some v) → MatchBool b P Q
@@ -77,7 +77,7 @@ mutual
   shown (face.members ps) (json.object ms) (group vs) h = ap (option_map group) (object_shown ps ms vs h.0 (by_name_shown ps ms vs h.1))
   shown (face.list c f) (json.array js) (items vs) h = ap (option_map items) (each_shown (Shows f) (value_of f) (shown f) js vs h)
   shown (face.choice s arms) (json.object ms) (arm n v) h =
-      choice_shown arms ms (tag_in s ms) n v h.0 h.1 (behind_shown arms n (behind_tag ms) v h.2)
+      choice_shown arms ms (tag_in s ms) n v h.0 h.1 (after_shown arms n (after_tag ms) v h.2)
   shown (face.maybe f) (json.array no_items) absent h = refl
   shown (face.maybe f) (json.array (item j no_items)) (present v) h = ap (option_map present) (shown f j v h)
   shown _ _ _ h = absurd h
@@ -95,12 +95,12 @@ mutual
       (member_shown (Shows f) (value_of f) (shown f) (member_of n ms) v h.0) (by_name_shown ps ms vs h.1)
   by_name_shown _ _ _ h = absurd h
 
-  behind_shown : (arms : Arms) (n : ℤ) (j : Data) (v : Val) → ShowsArm arms n j v → behind arms n j ≡ Some v
-  behind_shown face.no_other n j v h = absurd h
-  behind_shown (face.other f) n j v h = shown f j v h
-  behind_shown (face.arm m f arms) n j v h =
-      arm_shown (int_eq n m) (Shows f j v) (ShowsArm arms n j v) (value_of f j) (behind arms n j) v (shown f j v)
-      (behind_shown arms n j v) h
+  after_shown : (arms : Arms) (n : ℤ) (j : Data) (v : Val) → ShowsArm arms n j v → after arms n j ≡ Some v
+  after_shown face.no_other n j v h = absurd h
+  after_shown (face.other f) n j v h = shown f j v h
+  after_shown (face.arm m f arms) n j v h =
+      arm_shown (int_eq n m) (Shows f j v) (ShowsArm arms n j v) (value_of f j) (after arms n j) v (shown f j v)
+      (after_shown arms n j v) h
 
 each_found : (P : Data → Val → Type 0) (f : Data → Option Val) → ((j : Data) (v : Val) → f j ≡ Some v → P j v) → (js : Items) (vs : Vals)
     → each f js ≡ Some vs
@@ -157,10 +157,10 @@ mutual
   found (face.list c f) _ v h = absurd cc
   found (face.choice s arms) (json.object ms) v h =
       let known =
-      tested_from (is_arm ms) (option_and_then (λ (n : ℤ). option_map (arm n) (behind arms n (behind_tag ms))) (tag_in s ms)) v h in
-      let (n, is, there) = stepped_from (λ (n : ℤ). option_map (arm n) (behind arms n (behind_tag ms))) (tag_in s ms) v known.1 in
-      let (w, is_w, e) = mapped_from (arm n) (behind arms n (behind_tag ms)) v there in
-      rw (← e) (known.0, is, behind_found arms n (behind_tag ms) w is_w)
+      tested_from (is_arm ms) (option_and_then (λ (n : ℤ). option_map (arm n) (after arms n (after_tag ms))) (tag_in s ms)) v h in
+      let (n, is, there) = stepped_from (λ (n : ℤ). option_map (arm n) (after arms n (after_tag ms))) (tag_in s ms) v known.1 in
+      let (w, is_w, e) = mapped_from (arm n) (after arms n (after_tag ms)) v there in
+      rw (← e) (known.0, is, after_found arms n (after_tag ms) w is_w)
   found (face.choice s arms) _ v h = absurd cc
   found (face.maybe f) (json.array no_items) v h = let e : absent ≡ v = cc in rw (← e) tt
   found (face.maybe f) (json.array (item j no_items)) v h =
@@ -187,12 +187,12 @@ mutual
       let two = halves (option_and_then (value_of f) (member_of n ms)) (by_name ps ms) v vs h in
       (member_found (Shows f) (value_of f) (found f) (member_of n ms) v two.0, by_name_found ps ms vs two.1)
 
-  behind_found : (arms : Arms) (n : ℤ) (j : Data) (v : Val) → behind arms n j ≡ Some v → ShowsArm arms n j v
-  behind_found face.no_other n j v h = absurd cc
-  behind_found (face.other f) n j v h = found f j v h
-  behind_found (face.arm m f arms) n j v h =
-      arm_found (int_eq n m) (Shows f j v) (ShowsArm arms n j v) (value_of f j) (behind arms n j) v (found f j v)
-      (behind_found arms n j v) h
+  after_found : (arms : Arms) (n : ℤ) (j : Data) (v : Val) → after arms n j ≡ Some v → ShowsArm arms n j v
+  after_found face.no_other n j v h = absurd cc
+  after_found (face.other f) n j v h = found f j v h
+  after_found (face.arm m f arms) n j v h =
+      arm_found (int_eq n m) (Shows f j v) (ShowsArm arms n j v) (value_of f j) (after arms n j) v (found f j v)
+      (after_found arms n j v) h
 
 pub null_read : (j : Data) → true ≡ is_some (as_null j) → value_of face.nothing j ≡ Some void
 unfolding value_of

@@ -16,7 +16,7 @@ use Rattle.serde_json.proofs.Views.{get_member-put, get_member-put_other}
 use Rattle.json_shape.specs.Named.{is_named_sign, names_of, is_named, are_parts_named, are_arms_named}
 use Rattle.json_shape.specs.Presents.{size, count, member_of, ShowEach, Shows, ShowInOrder, ShowByName, ShowsArm}
 use Rattle.json_shape.specs.Texts.{text_of}
-use Rattle.json_shape.specs.Written.{items_json, json_of, in_order_json, by_name_json, behind_json}
+use Rattle.json_shape.specs.Written.{items_json, json_of, in_order_json, by_name_json, after_json}
 use Rattle.wire_def.proofs.ScalarGrammar.{left_true, right_true}
 use Rattle.json_shape.proofs.WrittenScalars.{sign_written, array_written, is_name}
 
@@ -106,7 +106,7 @@ mutual
   shows_written (face.choice s arms) (arm n v) named h = (
     refl,
     sign_written s n (left_true (is_named_sign s) (are_arms_named arms) named) h.0,
-    behind_written arms n v
+    after_written arms n v
         (right_true (is_named_sign s) (are_arms_named arms) named) h.1,
   )
   shows_written (face.maybe f) absent named h = tt
@@ -137,11 +137,11 @@ mutual
       )
   by_name_written _ _ distinct named h = absurd h
 
-  behind_written : (arms : Arms) (n : ℤ) (v : Val) → are_arms_named arms ≡ true → IsOfArm (arm_types_of arms) n v
-      → ShowsArm arms n (behind_json arms n v) v
-  behind_written face.no_other n v named h = absurd h
-  behind_written (face.other f) n v named h = shows_written f v named h
-  behind_written (face.arm m f arms) n v named h =
-      chosen (int_eq n m) f arms n (json_of f v) (behind_json arms n v) v
+  after_written : (arms : Arms) (n : ℤ) (v : Val) → are_arms_named arms ≡ true → IsOfArm (arm_types_of arms) n v
+      → ShowsArm arms n (after_json arms n v) v
+  after_written face.no_other n v named h = absurd h
+  after_written (face.other f) n v named h = shows_written f v named h
+  after_written (face.arm m f arms) n v named h =
+      chosen (int_eq n m) f arms n (json_of f v) (after_json arms n v) v
       (match_both (int_eq n m) h (λ k. shows_written f v (left_true (is_named f) (are_arms_named arms) named) k) (λ k.
-      behind_written arms n v (right_true (is_named f) (are_arms_named arms) named) k))
+      after_written arms n v (right_true (is_named f) (are_arms_named arms) named) k))

@@ -124,11 +124,11 @@ is_name names name = list_any (λ m. bytes_eq m name) names
 put_any : (p : ℤ → Bool) (m : ℤ) (ls : List ℤ) → list_any p (put_in m ls) ≡ true → (p m || list_any p ls) ≡ true
 put_any p m [] h = h
 put_any p m (l ∷ ls) h = step (put_any p m ls) (int_eq m l) (int_lt m l) h where
-  behind : (a b c d : Bool) → (a || b) ≡ true → (b ≡ true → (c || d) ≡ true) → (c || (a || d)) ≡ true
-  behind true b true d h f = refl
-  behind true b false d h f = refl
-  behind false b true d h f = refl
-  behind false b false d h f = f h
+  after : (a b c d : Bool) → (a || b) ≡ true → (b ≡ true → (c || d) ≡ true) → (c || (a || d)) ≡ true
+  after true b true d h f = refl
+  after true b false d h f = refl
+  after false b true d h f = refl
+  after false b false d h f = f h
 
   either : (a b : Bool) → b ≡ true → (a || b) ≡ true
   either true b h = refl
@@ -139,7 +139,7 @@ put_any p m (l ∷ ls) h = step (put_any p m ls) (int_eq m l) (int_lt m l) h whe
       → (p m || list_any p (l ∷ ls)) ≡ true
   step f true t h = either (p m) (list_any p (l ∷ ls)) h
   step f false true h = h
-  step f false false h = behind (p l) (list_any p (put_in m ls)) (p m) (list_any p ls) h f
+  step f false false h = after (p l) (list_any p (put_in m ls)) (p m) (list_any p ls) h f
 
 label_there : (items : ItemList) (n : ℤ) → list_any (λ l. int_eq l n) (labels_of items) ≡ true → has_number items n ≡ true
 label_there [] n h = h

@@ -47,8 +47,8 @@ abbrev pub tag_in : Sign → Members → Option ℤ
 tag_in s ms = option_and_then (sign_in s) (get_member (codes "tag") ms)
 
 -- what follows a tag: null where the member is absent
-abbrev pub behind_tag : Members → Data
-behind_tag ms = unwrap_or (get_member (codes "value") ms) json.null
+abbrev pub after_tag : Members → Data
+after_tag ms = unwrap_or (get_member (codes "value") ms) json.null
 
 -- the trees of an array show the values, one each
 abbrev pub ShowEach : (Data → Val → Type 0) → Items → Vals → Type 0
@@ -66,7 +66,7 @@ abbrev mutual
   Shows (face.members ps) (json.object ms) (group vs) = (size ms ≡ count ps) × ShowByName ps ms vs
   Shows (face.list c f) (json.array js) (items vs) = ShowEach (Shows f) js vs
   Shows (face.choice s arms) (json.object ms) (arm n v) =
-      IsTrue (is_arm ms) × (tag_in s ms ≡ Some n) × ShowsArm arms n (behind_tag ms) v
+      IsTrue (is_arm ms) × (tag_in s ms ≡ Some n) × ShowsArm arms n (after_tag ms) v
   Shows (face.maybe f) (json.array no_items) absent = Unit {0}
   Shows (face.maybe f) (json.array (item j no_items)) (present v) = Shows f j v
   Shows _ _ _ = ⊥

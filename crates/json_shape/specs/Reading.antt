@@ -8,7 +8,7 @@ use Rattle.serde_json.specs.Data.{Data, Items, no_items, item, Members}
 use Rattle.serde_json.specs.Find.{as_null, as_array, as_object}
 use Rattle.wire_def.specs.Arrays.{kind_of}
 use Rattle.json_shape.specs.Scalars.{sign_in, array_in}
-use Rattle.json_shape.specs.Presents.{size, count, is_arm, member_of, tag_in, behind_tag}
+use Rattle.json_shape.specs.Presents.{size, count, is_arm, member_of, tag_in, after_tag}
 
 -- one value before others
 abbrev pub before : Option Val → Option Vals → Option Vals
@@ -44,7 +44,7 @@ unfoldable mutual
   value_of (face.list c f) j = option_map items (in_array (each (value_of f)) j)
   value_of (face.choice s arms) j =
       option_and_then
-      (λ ms. if is_arm ms then option_and_then (λ n. option_map (arm n) (behind arms n (behind_tag ms))) (tag_in s ms) else None)
+      (λ ms. if is_arm ms then option_and_then (λ n. option_map (arm n) (after arms n (after_tag ms))) (tag_in s ms) else None)
       (as_object j)
   value_of (face.maybe f) j = option_and_then (maybe_in (value_of f)) (as_array j)
 
@@ -60,7 +60,7 @@ unfoldable mutual
   by_name (part n f ps) ms = before (option_and_then (value_of f) (member_of n ms)) (by_name ps ms)
 
   -- the value of the number's arm
-  pub behind : Arms → ℤ → Data → Option Val
-  behind face.no_other n j = None
-  behind (face.other f) n j = value_of f j
-  behind (face.arm m f arms) n j = if int_eq n m then value_of f j else behind arms n j
+  pub after : Arms → ℤ → Data → Option Val
+  after face.no_other n j = None
+  after (face.other f) n j = value_of f j
+  after (face.arm m f arms) n j = if int_eq n m then value_of f j else after arms n j

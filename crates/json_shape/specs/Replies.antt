@@ -24,7 +24,7 @@ use Rattle.json_shape.specs.Operations.{dotted, op_named}
 use Rattle.json_shape.specs.Records.{Begun}
 use Rattle.json_shape.specs.Requests.{head_of}
 use Rattle.json_shape.specs.Texts.{text_of}
-use Rattle.json_shape.specs.Written.{arm_json, behind_json}
+use Rattle.json_shape.specs.Written.{arm_json, after_json}
 
 -- the keys of a reply record
 abbrev pub is_reply_key : Back → List ℕ → Bool
@@ -67,21 +67,21 @@ abbrev pub reply_tree : List PlainRaise → Data → Option Data
 reply_tree rs j = if is_some (get (codes "raise") j) then raised_tree rs j else Some (given_tree j)
 
 -- the reply of an operation
-abbrev pub told : Binding → Data → ℕ → Op → Data → Begun
-told b j k o tree = record {
+abbrev pub reported : Binding → Data → ℕ → Op → Data → Begun
+reported b j k o tree = record {
   op = k;
   head = head_of b.back (number_at (head_key b.back) j) 0 true;
   face = face_at b.nodes b.shapes o.reply;
   tree = tree;
 }
 
-abbrev pub told_of : Binding → Data → ℕ → Op → Option Data → Result Begun RecordErr
-told_of b j k o None = Err errors.Shape
-told_of b j k o (Some tree) = Ok (told b j k o tree)
+abbrev pub reported_of : Binding → Data → ℕ → Op → Option Data → Result Begun RecordErr
+reported_of b j k o None = Err errors.Shape
+reported_of b j k o (Some tree) = Ok (reported b j k o tree)
 
 abbrev pub answered_of : Binding → Data → Option (ℕ × Op) → Result Begun RecordErr
 answered_of b j None = Err errors.Op
-answered_of b j (Some o) = if o.1.has_reply then told_of b j o.0 o.1 (reply_tree (raises b o.0) j) else Err errors.Op
+answered_of b j (Some o) = if o.1.has_reply then reported_of b j o.0 o.1 (reply_tree (raises b o.0) j) else Err errors.Op
 
 -- the reply that a tree begins, or the first refusal
 abbrev pub reply_of : Binding → Data → Result Begun RecordErr
@@ -113,14 +113,14 @@ raised_members rs k j =
     else no_members
 
 -- the members of an answer, or of an exception, by the number of the arm
-abbrev pub behind_members : List PlainRaise → ℤ → Data → Members
-behind_members rs (pos zero) j = given_members (as_array j)
-behind_members rs (pos (suc k)) j = raised_members rs k j
-behind_members rs (negsuc k) j = no_members
+abbrev pub after_members : List PlainRaise → ℤ → Data → Members
+after_members rs (pos zero) j = given_members (as_array j)
+after_members rs (pos (suc k)) j = raised_members rs k j
+after_members rs (negsuc k) j = no_members
 
 -- the members of a reply's value
 abbrev pub answer_members : List PlainRaise → Face → Val → Members
-answer_members rs (choice s arms) (arm n v) = behind_members rs n (behind_json arms n v)
+answer_members rs (choice s arms) (arm n v) = after_members rs n (after_json arms n v)
 answer_members rs _ _ = no_members
 
 abbrev pub word : ℕ → Data

@@ -54,7 +54,7 @@ items_json f (val v vs) = item (f v) (items_json f vs)
 
 -- the object of a tag and its value
 abbrev pub arm_json : Data → Data → Data
-arm_json tag behind = object (put (codes "tag") tag (put (codes "value") behind no_members))
+arm_json tag after = object (put (codes "tag") tag (put (codes "value") after no_members))
 
 -- the tree of a value; null where the value is none of the face's
 abbrev mutual
@@ -64,7 +64,7 @@ abbrev mutual
   json_of (face.values ps) (group vs) = array (in_order_json ps vs)
   json_of (face.members ps) (group vs) = object (by_name_json ps vs)
   json_of (face.list c f) (items vs) = array (items_json (json_of f) vs)
-  json_of (face.choice s arms) (arm n v) = arm_json (sign_json s n) (behind_json arms n v)
+  json_of (face.choice s arms) (arm n v) = arm_json (sign_json s n) (after_json arms n v)
   json_of (face.maybe f) absent = array no_items
   json_of (face.maybe f) (present v) = array (item (json_of f v) no_items)
   json_of _ _ = null
@@ -80,7 +80,7 @@ abbrev mutual
   by_name_json _ _ = no_members
 
   -- the value of the number's arm
-  pub behind_json : Arms → ℤ → Val → Data
-  behind_json face.no_other n v = null
-  behind_json (face.other f) n v = json_of f v
-  behind_json (face.arm m f arms) n v = if int_eq n m then json_of f v else behind_json arms n v
+  pub after_json : Arms → ℤ → Val → Data
+  after_json face.no_other n v = null
+  after_json (face.other f) n v = json_of f v
+  after_json (face.arm m f arms) n v = if int_eq n m then json_of f v else after_json arms n v

@@ -4,7 +4,7 @@ ghost use Rattle.std.specs.Prelude.{◌≡◌, ◌≢◌, ◌<◌, ◌==◌, ◌
 ghost use Rattle.std.specs.Str.{IsAscii, bytes_eq};
 ghost use Rattle.json_shape.specs.Texts.{text_of};
 
-use crate::texts::{behind, is_text_of};
+use crate::texts::{after, is_text_of};
 
 /// Whether a string is a name's, where its octets may be more than ASCII.
 #[inline(never)]
@@ -69,10 +69,10 @@ fn after_wide_name<'a>(name: &[u8], text: &'a str) -> Option<&'a str>
     ensures none { IfNone result
         ((o : List ℕ) → bytes_eq (text_of (name.now ++ (codes "." ++ o))) text.now ≡ false) }
 {
-    let Some(rest) = behind(name, text.chars()) else {
+    let Some(rest) = after(name, text.chars()) else {
         return None;
     };
-    match behind(b".", rest) {
+    match after(b".", rest) {
         Some(rest) => Some(rest.as_str()),
         None => None,
     }

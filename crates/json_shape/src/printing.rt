@@ -7,7 +7,7 @@ ghost use Rattle.mint.specs.Values.{seen, all_seen, group};
 ghost use Rattle.pres.specs.Faces.{faces, face_at, parts_at, arms_at, group_face, sign_of, members};
 ghost use Rattle.pres.specs.Named.{IsGroupShape};
 ghost use Rattle.serde_json.specs.Data.{array, object, item as one_item, no_items};
-ghost use Rattle.json_shape.specs.Written.{json_of, items_json, in_order_json, by_name_json, behind_json, arm_json, sign_json};
+ghost use Rattle.json_shape.specs.Written.{json_of, items_json, in_order_json, by_name_json, after_json, arm_json, sign_json};
 ghost use Rattle.json_shape.specs.Printed.{tokens_of, Adds, IsOrder};
 
 use crate::errors::Halt;
@@ -306,7 +306,7 @@ fn choice(
     requires other { IsBelow id other }
     ensures { OnOk result (Adds out.old out.new (tokens_of (arm_json
         (sign_json (sign_of tag.now shape.now) n.now)
-        (behind_json (arms_at (faces bound.now.nodes bound.now.shapes) arms.now other) n.now
+        (after_json (arms_at (faces bound.now.nodes bound.now.shapes) arms.now other) n.now
         (seen inner.now))))) }
 {
     out.begin_object()?;
@@ -334,7 +334,7 @@ fn arm(
     requires id { id < length bound.now.nodes }
     requires below { ArmsBelow id arms.now }
     requires other { IsBelow id other }
-    ensures { OnOk result (Adds out.old out.new (tokens_of (behind_json
+    ensures { OnOk result (Adds out.old out.new (tokens_of (after_json
         (arms_at (faces bound.now.nodes bound.now.shapes) arms.now other) n.now (seen inner.now)))) }
 {
     match arm_of(arms, other, n) {

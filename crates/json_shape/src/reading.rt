@@ -3,13 +3,13 @@
 ghost use Rattle.std.specs.Prelude.{◌≡◌, ◌<◌, [], length, IfErr, IfOk, option_map};
 ghost use Rattle.mint.specs.Typed.{IsWellTyped};
 ghost use Rattle.mint.specs.Types.{AreBelow, ArmsBelow, IsBelow, type_at};
-ghost use Rattle.mint.specs.Values.{Val, seen, all_seen, arm as behind_number};
+ghost use Rattle.mint.specs.Values.{Val, seen, all_seen, arm as after_number};
 ghost use Rattle.pres.specs.Faces.{faces, face_at, parts_at, arms_at, sign_of, group_face, list, choice, maybe, nothing};
 ghost use Rattle.pres.specs.Named.{IsGroupShape};
 ghost use Rattle.serde_json.specs.View.{view, items_view};
 ghost use Rattle.json_shape.specs.Gives.{Gives};
 ghost use Rattle.json_shape.specs.Presents.{Presents, count, members_in};
-ghost use Rattle.json_shape.specs.Reading.{value_of, each, in_array, in_object, in_order, by_name, behind};
+ghost use Rattle.json_shape.specs.Reading.{value_of, each, in_array, in_object, in_order, by_name, after};
 
 use crate::errors::ShapeErr;
 use crate::objects::{has_arm_members, member, tag_in};
@@ -317,8 +317,8 @@ fn arm(
     requires id { id < length bound.now.nodes }
     requires below { ArmsBelow id arms.now }
     requires other { IsBelow id other }
-    ensures { Gives seen result (option_map (behind_number n.now)
-        (behind (arms_at (faces bound.now.nodes bound.now.shapes) arms.now other) n.now (view json.now))) }
+    ensures { Gives seen result (option_map (after_number n.now)
+        (after (arms_at (faces bound.now.nodes bound.now.shapes) arms.now other) n.now (view json.now))) }
 {
     match arm_of(arms, other, n) {
         Some(item) => Ok(Value::arm(alloc, *n, value(alloc, bound, item, json)?)?),

@@ -87,7 +87,7 @@ pub(crate) fn text_of(alloc: Global, octets: &[u8]) -> Result<String, NoMemory>
 }
 
 /// What stands after the string of the octets.
-pub(crate) fn behind<'a>(octets: &[u8], chars: Chars<'a>) -> Option<Chars<'a>>
+pub(crate) fn after<'a>(octets: &[u8], chars: Chars<'a>) -> Option<Chars<'a>>
     requires { IsUtf8 (chars_rest chars) }
     ensures some { IfSome result (λ r. IsUtf8 (chars_rest r)
         × (chars_rest chars.entry ≡ text_of octets.now ++ chars_rest r)) }
@@ -110,7 +110,7 @@ pub(crate) fn is_rest_of(octets: &[u8], chars: Chars<'_>) -> bool
     requires { IsUtf8 (chars_rest chars) }
     ensures { result ≡ bytes_eq (text_of octets.now) (chars_rest chars.entry) }
 {
-    match behind(octets, chars) {
+    match after(octets, chars) {
         Some(mut rest) => match rest.next() {
             None => true,
             Some(_) => false,

@@ -13,7 +13,7 @@ ghost use Rattle.json_shape.specs.Usual.{AreRead, IsRead, MembersRead};
 
 use crate::errors::Halt;
 use crate::usual_scalars::{item, number, row, text};
-use crate::usual_tokens::{behind_key, items_in, members_in};
+use crate::usual_tokens::{after_key, items_in, members_in};
 use json::Value as Tree;
 use mint::kind::Count;
 use mint::node::{Node, NodeIds};
@@ -130,7 +130,7 @@ fn fields<'a>(
     }
     let mut values = Values::with_room(alloc, ids.len())?;
     for (i, field) in ids.as_slice().iter().enumerate() {
-        let tree = behind_key(names.text(i), &found[i])?;
+        let tree = after_key(names.text(i), &found[i])?;
         let value = scan(alloc, bound, *field, tree)?;
         values.push(value)?;
     }

@@ -76,7 +76,7 @@ pub(crate) fn leading<'v, 'a>(
 }
 
 /// The value of a member, where its key is this one.
-pub(crate) fn behind_key<'v, 'a>(
+pub(crate) fn after_key<'v, 'a>(
     key: &str,
     member: &'v (&'a str, Tree<'a>),
 ) -> Result<&'v Tree<'a>, Halt>

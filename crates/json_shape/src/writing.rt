@@ -9,7 +9,7 @@ ghost use Rattle.pres.specs.Named.{IsGroupShape};
 ghost use Rattle.serde_json.specs.Data.{array, item, no_items};
 ghost use Rattle.serde_json.specs.View.{view, items_view, members_view};
 ghost use Rattle.json_shape.specs.Presents.{Presents};
-ghost use Rattle.json_shape.specs.Written.{json_of, items_json, in_order_json, by_name_json, behind_json, arm_json};
+ghost use Rattle.json_shape.specs.Written.{json_of, items_json, in_order_json, by_name_json, after_json, arm_json};
 
 use crate::numbers::{item_json, number_json, row_json, sign_json};
 use kit_base::NoMemory;
@@ -72,8 +72,8 @@ fn json(alloc: Global, bound: &Bound, id: NodeId, value: &Value) -> Result<Json,
         Node::Choice(tag, arms, other) => match value.as_arm() {
             Some((n, inner)) => {
                 let tag = sign_json(alloc, tag, shape, &n)?;
-                let behind = arm(alloc, bound, id, arms, *other, &n, inner)?;
-                arm_json(alloc, tag, behind)
+                let after = arm(alloc, bound, id, arms, *other, &n, inner)?;
+                arm_json(alloc, tag, after)
             }
             None => Ok(Json::Null),
         },
@@ -95,11 +95,11 @@ fn alone(alloc: Global, json: Json) -> Result<Json, NoMemory>
 }
 
 /// The object of a tag and its value.
-pub(crate) fn arm_json(alloc: Global, tag: Json, behind: Json) -> Result<Json, NoMemory>
-    ensures { IfOk result (λ j. view j ≡ arm_json (view tag) (view behind)) }
+pub(crate) fn arm_json(alloc: Global, tag: Json, after: Json) -> Result<Json, NoMemory>
+    ensures { IfOk result (λ j. view j ≡ arm_json (view tag) (view after)) }
 {
     let mut members = Map::new(alloc);
-    put(&mut members, alloc, "value", behind)?;
+    put(&mut members, alloc, "value", after)?;
     put(&mut members, alloc, "tag", tag)?;
     Ok(Json::Object(members))
 }
@@ -219,7 +219,7 @@ pub(crate) fn arm(
     requires id { id < length bound.now.nodes }
     requires below { ArmsBelow id arms.now }
     requires other { IsBelow id other }
-    ensures { IfOk result (λ j. view j ≡ behind_json
+    ensures { IfOk result (λ j. view j ≡ after_json
         (arms_at (faces bound.now.nodes bound.now.shapes) arms.now other) n.now (seen inner.now)) }
 {
     match arm_of(arms, other, n) {

@@ -8,7 +8,7 @@ ghost use Rattle.mint.specs.Values.{seen};
 ghost use Rattle.pres.specs.Faces.{face_at};
 ghost use Rattle.serde_json.specs.Find.{as_array};
 ghost use Rattle.serde_json.specs.View.{view, items_view, members_view};
-ghost use Rattle.json_shape.specs.Replies.{reply_json, outcome_members, answer_members, behind_members, given_members, raised_members, refused_members, refusal_json, refusal_name, IsOutcome};
+ghost use Rattle.json_shape.specs.Replies.{reply_json, outcome_members, answer_members, after_members, given_members, raised_members, refused_members, refusal_json, refusal_name, IsOutcome};
 ghost use Rattle.json_shape.specs.Requests.{request_json, head_json};
 
 use crate::members::{head_key, head_word, is_mach};
@@ -207,18 +207,18 @@ fn answer_members(
         return Ok(Map::new(alloc));
     };
     let json = arm(alloc, bound, node, arms, *other, &n, inner)?;
-    behind_members(alloc, raises, &n, json)
+    after_members(alloc, raises, &n, json)
 }
 
 /// The members of an answer, or of an exception, by the number of the arm.
-fn behind_members(
+fn after_members(
     alloc: Global,
     raises: &[Raise],
     n: &i128,
     json: Json,
 ) -> Result<Map<String, Json>, NoMemory>
     ensures { IfOk result (λ m. members_view m.entries
-        ≡ behind_members (map plain_raise raises.now) n.now (view json)) }
+        ≡ after_members (map plain_raise raises.now) n.now (view json)) }
 {
     match usize::try_from(*n) {
         Ok(0) => given_members(alloc, json),

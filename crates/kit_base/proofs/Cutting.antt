@@ -5,7 +5,7 @@ use Rattle.std.proofs.lemmas.List.Elements.{All-head, All-tail}
 use Rattle.std.proofs.lemmas.Bool.Decides.{nat_tests}
 use Rattle.std.specs.Prelude.{if◌then◌else◌, option_to_list, Option, Ok}
 use Rattle.std.proofs.KnownBytes.{Consumes-trans, Consumes-nil}
-use Rattle.kit_base.specs.Lines.{State, Passed, Advances, pending, answered, chomp, answer_of, line_of, lines_from, lines, lines_behind, HasNoEnd}
+use Rattle.kit_base.specs.Lines.{State, Passed, Advances, pending, answered, chomp, answer_of, line_of, lines_from, lines, lines_after, HasNoEnd}
 use Rattle.kit_base.specs.declared.lines.Line.{Line}
 use Rattle.kit_base.specs.declared.lines.Line.TheVariants.{Text, Long, End}
 
@@ -18,11 +18,11 @@ lines_from-append longest begun (x ∷ xs) ys h =
     let rest = lines_from-append longest (begun ++ x ∷ []) xs ys (All-tail (λ (y : ℕ). y ≢ 10) x xs h) in
     grind (arith, nat_tests, append_assoc, head, rest)
 
-pub lines_behind-append : (longest : ℕ) (xs ys : List ℕ) → HasNoEnd xs → lines_behind longest (xs ++ ys) ≡ lines_behind longest ys
-lines_behind-append longest [] ys h = refl
-lines_behind-append longest (x ∷ xs) ys h =
+pub lines_after-append : (longest : ℕ) (xs ys : List ℕ) → HasNoEnd xs → lines_after longest (xs ++ ys) ≡ lines_after longest ys
+lines_after-append longest [] ys h = refl
+lines_after-append longest (x ∷ xs) ys h =
     let head : x ≢ 10 = All-head (λ (y : ℕ). y ≢ 10) x xs h in
-    let rest = lines_behind-append longest xs ys (All-tail (λ (y : ℕ). y ≢ 10) x xs h) in
+    let rest = lines_after-append longest xs ys (All-tail (λ (y : ℕ). y ≢ 10) x xs h) in
     grind (arith, nat_tests, head, rest)
 
 -- chomping drops one octet at most
@@ -36,7 +36,7 @@ line_of-long longest (x ∷ xs) h = grind (arith, nat_tests, h)
 
 -- a line that is longer than allowed by more than its return is too long, whatever follows
 pub lines_from-long : (longest : ℕ) (begun more : List ℕ) → longest + 1 < length begun
-    → lines_from longest begun more ≡ Long ∷ lines_behind longest more
+    → lines_from longest begun more ≡ Long ∷ lines_after longest more
 lines_from-long longest begun [] h = line_of-long longest (chomp begun) (omega (arith, length-chomp begun))
 lines_from-long longest begun (x ∷ xs) h =
     let now = line_of-long longest (chomp begun) (omega (arith, length-chomp begun)) in
@@ -54,18 +54,18 @@ lines-cut longest kept more i none split =
     ap (lines longest) whole ∙ lines_from-append longest [] front (10 ∷ (rest ++ more)) none
 
 -- the rest of a line that is too long has its end
-pub lines_behind-cut : (longest : ℕ) (kept more : List ℕ) (i : ℕ) → HasNoEnd (take i kept) → kept ≡ take i kept ++ 10 ∷ drop (i + 1) kept
-    → lines_behind longest (kept ++ more) ≡ lines longest (drop (i + 1) kept ++ more)
-lines_behind-cut longest kept more i none split =
+pub lines_after-cut : (longest : ℕ) (kept more : List ℕ) (i : ℕ) → HasNoEnd (take i kept) → kept ≡ take i kept ++ 10 ∷ drop (i + 1) kept
+    → lines_after longest (kept ++ more) ≡ lines longest (drop (i + 1) kept ++ more)
+lines_after-cut longest kept more i none split =
     let front = take i kept in
     let rest = drop (i + 1) kept in
     let whole : kept ++ more ≡ front ++ (10 ∷ (rest ++ more)) =
     ap (λ (l : List ℕ). l ++ more) split ∙ append_assoc front (10 ∷ rest) more in
-    ap (lines_behind longest) whole ∙ lines_behind-append longest front (10 ∷ (rest ++ more)) none
+    ap (lines_after longest) whole ∙ lines_after-append longest front (10 ∷ (rest ++ more)) none
 
 -- a line without its end, of which more than the limit and a return is kept, is too long
 pub lines-long : (longest : ℕ) (kept more : List ℕ) → HasNoEnd kept → longest + 1 < length kept
-    → lines longest (kept ++ more) ≡ Long ∷ lines_behind longest more
+    → lines longest (kept ++ more) ≡ Long ∷ lines_after longest more
 lines-long longest kept more none long =
     lines_from-append longest [] kept more none ∙ lines_from-long longest kept more long
 
@@ -73,15 +73,15 @@ lines-long longest kept more none long =
 pub lines-last : (longest : ℕ) (kept : List ℕ) → HasNoEnd kept → lines longest (kept ++ []) ≡ line_of longest kept
 lines-last longest kept none = lines_from-append longest [] kept [] none
 
-pub lines_behind-last : (longest : ℕ) (kept : List ℕ) → HasNoEnd kept → lines_behind longest (kept ++ []) ≡ []
-lines_behind-last longest kept none = lines_behind-append longest kept [] none
+pub lines_after-last : (longest : ℕ) (kept : List ℕ) → HasNoEnd kept → lines_after longest (kept ++ []) ≡ []
+lines_after-last longest kept none = lines_after-append longest kept [] none
 
 cut_more : (b : Bool) (longest : ℕ) (kept more : List ℕ) (i : ℕ) (answer : List Line) → HasNoEnd (take i kept)
     → kept ≡ take i kept ++ 10 ∷ drop (i + 1) kept → answer ≡ (if b then Long ∷ [] else line_of longest (take i kept))
-    → (if b then Long ∷ lines_behind longest (kept ++ more) else lines longest (kept ++ more))
+    → (if b then Long ∷ lines_after longest (kept ++ more) else lines longest (kept ++ more))
     ≡ answer ++ lines longest (drop (i + 1) kept ++ more)
 cut_more true longest kept more i answer none split e =
-    rw e (ap (λ (l : List Line). Long ∷ l) (lines_behind-cut longest kept more i none split))
+    rw e (ap (λ (l : List Line). Long ∷ l) (lines_after-cut longest kept more i none split))
 cut_more false longest kept more i answer none split e = rw e (lines-cut longest kept more i none split)
 
 -- a line is cut off what is kept
@@ -98,8 +98,8 @@ passed-cut s i o none split e = record {
 
 last_more : (b : Bool) (longest : ℕ) (kept : List ℕ) (answer : List Line) → HasNoEnd kept
     → answer ≡ (if b then Long ∷ [] else line_of longest kept)
-    → (if b then Long ∷ lines_behind longest (kept ++ []) else lines longest (kept ++ [])) ≡ answer
-last_more true longest kept answer none e = rw e (ap (λ (l : List Line). Long ∷ l) (lines_behind-last longest kept none))
+    → (if b then Long ∷ lines_after longest (kept ++ []) else lines longest (kept ++ [])) ≡ answer
+last_more true longest kept answer none e = rw e (ap (λ (l : List Line). Long ∷ l) (lines_after-last longest kept none))
 last_more false longest kept answer none e = rw e (lines-last longest kept none)
 
 -- what is kept is the last line
@@ -128,8 +128,8 @@ passed-last s answer none end e = record {
 }
 
 refill_more : (b b' : Bool) (longest longest' : ℕ) (kept kept' got more : List ℕ) → b' ≡ b → longest' ≡ longest → kept' ≡ kept ++ got
-    → (if b then Long ∷ lines_behind longest (kept ++ (got ++ more)) else lines longest (kept ++ (got ++ more)))
-    ≡ (if b' then Long ∷ lines_behind longest' (kept' ++ more) else lines longest' (kept' ++ more))
+    → (if b then Long ∷ lines_after longest (kept ++ (got ++ more)) else lines longest (kept ++ (got ++ more)))
+    ≡ (if b' then Long ∷ lines_after longest' (kept' ++ more) else lines longest' (kept' ++ more))
 refill_more b b' longest longest' kept kept' got more e f k = rw (e, f, k, append_assoc)
 
 -- a read appends to what is kept, and answers nothing
@@ -179,4 +179,4 @@ advances-refl a s = ([], Consumes-nil a, passed-refl s)
 pub advances-passed : (a : Option (List ℕ)) (s t : State) (answer : List Line) → Passed s t [] answer → Advances a a s t answer
 advances-passed a s t answer p = ([], Consumes-nil a, p)
 
-pub ruleset cutting = (lines-cut, lines_behind-cut, lines-long, lines-last, lines_behind-last, lines_behind-append)
+pub ruleset cutting = (lines-cut, lines_after-cut, lines-long, lines-last, lines_after-last, lines_after-append)

@@ -32,9 +32,9 @@ abbrev pub lines : ℕ → List ℕ → List Line
 lines longest octets = lines_from longest [] octets
 
 -- the lines after the rest of a line that is too long
-abbrev pub lines_behind : ℕ → List ℕ → List Line
-lines_behind longest [] = []
-lines_behind longest (x ∷ xs) = if x == 10 then lines longest xs else lines_behind longest xs
+abbrev pub lines_after : ℕ → List ℕ → List Line
+lines_after longest [] = []
+lines_after longest (x ∷ xs) = if x == 10 then lines longest xs else lines_after longest xs
 
 -- a reader of lines: its two limits, the octets that it keeps, and how far it has come
 pub record State : Type 0 where
@@ -51,7 +51,7 @@ pub record State : Type 0 where
 
 -- the lines to come where these octets follow those that are kept
 abbrev pub pending : State → List ℕ → List Line
-pending s more = if s.skips then Long ∷ lines_behind s.longest (s.kept ++ more) else lines s.longest (s.kept ++ more)
+pending s more = if s.skips then Long ∷ lines_after s.longest (s.kept ++ more) else lines s.longest (s.kept ++ more)
 
 -- octets without a line feed
 abbrev pub HasNoEnd : List ℕ → Type 0

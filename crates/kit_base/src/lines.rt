@@ -7,7 +7,7 @@ ghost use Rattle.kit_base.specs.declared.lines.Line.TheVariants.{Long};
 ghost use Rattle.kit_base.specs.declared.lines.LineErr.{LineErr};
 
 use crate::line_text::{find_end, read_line};
-use crate::reading::{discard_front, read_behind};
+use crate::reading::{discard_prefix, read_after};
 use crate::{Octets, Source};
 use std::alloc::Global;
 use std::marker::Model;
@@ -120,7 +120,7 @@ impl Lines {
         ensures knows_end { KnowsEnd self.old (S.left source.old) → KnowsEnd self.new (S.left source.new) }
         // Whether the source failed.
         ensures later { S.faults source.old ≤ S.faults source.new }
-        ensures told { result ≢ Err LineErr.Failed → S.faults source.old ≡ S.faults source.new }
+        ensures reported { result ≢ Err LineErr.Failed → S.faults source.old ≡ S.faults source.new }
         ensures falls { IfOk result (λ line. line ≢ Line.End → work self.new < work self.old) }
         // What is kept of an error, and what holds at the end.
         ensures again { (e : LineErr) → self.old.error ≡ Some e → (result ≡ Err e) × (self.new ≡ self.old) }
@@ -155,7 +155,7 @@ impl Lines {
         ensures end { result ≡ Ok Line.End → (pending self.new [] ≡ []) × (self.new.ended ≡ true) }
         // Whether the source failed.
         ensures later { S.faults source.old ≤ S.faults source.new }
-        ensures told { result ≢ Err LineErr.Failed → S.faults source.old ≡ S.faults source.new }
+        ensures reported { result ≢ Err LineErr.Failed → S.faults source.old ≡ S.faults source.new }
         ensures failed { result ≡ Err LineErr.Failed → Rose (S.faults source.old) (S.faults source.new)
             × HasNoEnd self.new.kept × (self.new.ended ≡ false) }
         ensures too_much { result ≡ Err LineErr.TooMuch → self.new.most < self.new.taken }
@@ -325,18 +325,18 @@ impl Lines {
         ensures err { OnErr result (self.new.ended ≡ self.old.ended) }
         // When each error comes.
         ensures later { S.faults source.old ≤ S.faults source.new }
-        ensures told { result ≢ Err LineErr.Failed → S.faults source.old ≡ S.faults source.new }
+        ensures reported { result ≢ Err LineErr.Failed → S.faults source.old ≡ S.faults source.new }
         ensures failed { result ≡ Err LineErr.Failed → Rose (S.faults source.old) (S.faults source.new) }
         ensures too_much { result ≢ Err LineErr.TooMuch }
     {
-        discard_front(&mut self.buffer, self.from);
+        discard_prefix(&mut self.buffer, self.from);
         self.from = 0;
         if self.piece.resize(PIECE, 0).is_err() {
             return Err(LineErr::NoMemory);
         }
         let wanted = (self.most + 1 - self.taken).min(PIECE as u64) as usize;
         let piece = &mut self.piece.as_mut_slice()[..wanted];
-        let count = read_behind(source, piece, &mut self.buffer)?;
+        let count = read_after(source, piece, &mut self.buffer)?;
         self.taken += count as u64;
         self.ended = count == 0;
         Ok(())

@@ -95,7 +95,7 @@ impl Shelf for MemShelf {
         // When it fails.
         ensures later { self.old.plan.faults ≤ self.new.plan.faults }
         ensures failed { IsErrOf result ShelfErr.Failed → Rose self.old.plan.faults self.new.plan.faults }
-        ensures told { result ≢ Err ShelfErr.Failed → self.old.plan.faults ≡ self.new.plan.faults }
+        ensures reported { result ≢ Err ShelfErr.Failed → self.old.plan.faults ≡ self.new.plan.faults }
         ensures listed { IsErrOf result ShelfErr.Failed ↔ (fails_next self.old.plan ≡ true) }
         // What is left of the plan.
         ensures after { self.new

@@ -55,7 +55,7 @@ impl Source for MemSure {
         ensures cause { HasCause 0 0 result }
         ensures size { result ≡ Ok (min (length self.old) (length into.old)) }
     {
-        let count = copy_front(self.rest(), into);
+        let count = copy_prefix(self.rest(), into);
         self.pass(count);
         Ok(count)
     }
@@ -63,9 +63,9 @@ impl Source for MemSure {
 
 /// Copies the first octets of `from` to the beginning of `into`, as many as both have, and gives
 /// their number.
-fn copy_front(from: &[u8], into: &mut [u8]) -> usize
+fn copy_prefix(from: &[u8], into: &mut [u8]) -> usize
     ensures count { result ≡ min (length from.now) (length into.old) }
-    ensures front { take result into.new ≡ take result from.now }
+    ensures prefix { take result into.new ≡ take result from.now }
 {
     let count = from.len().min(into.len());
     into[..count].copy_from_slice(&from[..count]);
@@ -115,7 +115,7 @@ impl MemSource {
     }
 
     fn rest(&self) -> &[u8]
-        ensures front { result.now ≡ take self.now.most self.now.left }
+        ensures prefix { result.now ≡ take self.now.most self.now.left }
         ensures some { length result.now ≡ 0 → self.now.left ≡ [] }
     {
         let rest = &self.content.as_slice()[self.at..];
@@ -156,7 +156,7 @@ impl Source for MemSource {
         if self.fails_now() {
             return Err(Failed);
         }
-        let count = copy_front(self.rest(), into);
+        let count = copy_prefix(self.rest(), into);
         self.pass(count);
         Ok(count)
     }

@@ -71,7 +71,7 @@ pub trait Shelf {
         // When it fails.
         ensures later { faults self.old ≤ faults self.new }
         ensures failed { IsErrOf result ShelfErr.Failed → Rose (faults self.old) (faults self.new) }
-        ensures told { result ≢ Err ShelfErr.Failed → faults self.old ≡ faults self.new };
+        ensures reported { result ≢ Err ShelfErr.Failed → faults self.old ≡ faults self.new };
 }
 
 /// Writes all the octets. After a refusal a prefix of them was appended.

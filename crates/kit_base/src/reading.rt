@@ -7,7 +7,7 @@ ghost use Rattle.std.specs.Io.KnownBytes.{Consumes, IsAtEnd};
 use crate::{Failed, LineErr, Source};
 
 /// Drops the first `n` octets of a buffer.
-pub(crate) fn discard_front(buffer: &mut Vec<u8>, n: usize)
+pub(crate) fn discard_prefix(buffer: &mut Vec<u8>, n: usize)
     requires { n ≤ length buffer.old.items }
     ensures { buffer.new.items ≡ drop n buffer.old.items }
 {
@@ -19,7 +19,7 @@ pub(crate) fn discard_front(buffer: &mut Vec<u8>, n: usize)
 
 /// Reads once into `piece`, and appends what came to the buffer. Room is made before the read, so
 /// that no octet is lost where memory runs out.
-pub(crate) fn read_behind<S: Source>(
+pub(crate) fn read_after<S: Source>(
     source: &mut S,
     piece: &mut [u8],
     buffer: &mut Vec<u8>,
@@ -36,7 +36,7 @@ pub(crate) fn read_behind<S: Source>(
     ensures end { IfOk result (λ n. n ≡ 0 → 0 < length piece.old → IsAtEnd (S.left source.new)) }
     // When it fails.
     ensures later { S.faults source.old ≤ S.faults source.new }
-    ensures told { result ≢ Err LineErr.Failed → S.faults source.old ≡ S.faults source.new }
+    ensures reported { result ≢ Err LineErr.Failed → S.faults source.old ≡ S.faults source.new }
     ensures failed { result ≡ Err LineErr.Failed → Rose (S.faults source.old) (S.faults source.new) }
     ensures too_much { result ≢ Err LineErr.TooMuch }
 {

@@ -64,7 +64,7 @@ impl Sink for Noting {
 }
 
 #[test]
-fn a_failed_read_is_told_and_stays(rt: HostRuntime) -> Result<(), Fail> {
+fn a_failed_read_is_reported_and_stays(rt: HostRuntime) -> Result<(), Fail> {
     let mut source = MemSource::new(octets(&rt, b"ab\ncd\n")?, words(&rt, b"2")?, 3);
     let mut lines = Lines::new(rt.alloc(), 4, 100);
     assert!(rt; gives(&mut lines, &mut source, b"ab"));
@@ -111,7 +111,7 @@ fn a_write_is_handed_all_that_is_left(rt: HostRuntime) -> Result<(), Fail> {
 
 // Where an allocation fails, as tests/fail_alloc has it, this looks at what is reported.
 #[test]
-fn where_memory_ends_no_other_line_is_told(rt: HostRuntime) -> Result<(), Fail> {
+fn where_memory_ends_no_other_line_is_reported(rt: HostRuntime) -> Result<(), Fail> {
     let text = octets(&rt, b"ab\r\nlonger\nc")?;
     let mut source = MemSource::new(text, Words::new(rt.alloc()), 3);
     let mut lines = Lines::new(rt.alloc(), 4, 100);

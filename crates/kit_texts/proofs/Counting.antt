@@ -97,9 +97,9 @@ few_octets m = elim (below_or_not longest_message (length m)) [
 ]
 
 -- a message that is there, as a call tells it
-pub made_as : (b told : Bool) (m done octets : List ℕ) → told ≡ b → octets ≡ done → IsMade b m done → IsMade told m octets
-made_as b told m done octets told_is octets_are made =
-    subst (λ z. IsMade told m z) (sym octets_are) (subst (λ (t : Bool). IsMade t m done) (sym told_is) made)
+pub made_as : (b reported : Bool) (m done octets : List ℕ) → reported ≡ b → octets ≡ done → IsMade b m done → IsMade reported m octets
+made_as b reported m done octets reported_is octets_are made =
+    subst (λ z. IsMade reported m z) (sym octets_are) (subst (λ (t : Bool). IsMade t m done) (sym reported_is) made)
 
 -- what is there of a message is not long
 pub made_few : (b : Bool) (m done : List ℕ) → IsMade b m done → length done ≤ longest_message

@@ -7,7 +7,7 @@ use Rattle.syntax_kit.specs.Reading.{mark_is, token_at, begins_with}
 use Rattle.syntax_kit.specs.Grammar.{Text, mark, ◌&◌, joined, IsGrammar, Leads, Any}
 use Rattle.syntax_kit.proofs.Grammars.{mapped_is, both_is, option_is}
 use Rattle.syntax_kit.proofs.Leaves.{mark_reads, leads_mark, leads_both, begins_so, begins_not, apart_mark}
-use Rattle.syntax_kit.proofs.Productions.{weaker, behind_is, before_is}
+use Rattle.syntax_kit.proofs.Productions.{weaker, after_is, before_is}
 use Rattle.syntax_kit.proofs.Lists.{joined_is}
 use Rattle.mig_syntax.specs.Words.{like, identifier, lower_in, like_in, has_like}
 use Rattle.mig_syntax.specs.Derivation.{direction_spell, direction, parameter, routine_spell, routine}
@@ -41,7 +41,7 @@ parameter_is = mapped_is parameter_of parameter
     λ rest.
     begins_with (has_like direction_words) rest ≡ false} (begins_with (has_like direction_words))
     (weaker direction_is (λ rest may. tt)) (λ d front rest s may. begins_so leads_direction d front rest s) (λ rest may. may))
-    (both_is identifier_reads (behind_is (mark_reads (codes ":")) identifier_reads) (λ b front rest t may. tt))
+    (both_is identifier_reads (after_is (mark_reads (codes ":")) identifier_reads) (λ b front rest t may. tt))
     (λ x front rest t may.
     begins_not {S = named_text} (has_like direction_words)
     (leads_both
@@ -65,7 +65,7 @@ unfolding routine_at
 routine_is = mapped_is routine_of routine
     (both_is (likes_are routine_words routine_spell routine_back (refl, (refl, tt)))
     (both_is identifier_reads
-    (behind_is (mark_reads (codes "("))
+    (after_is (mark_reads (codes "("))
     (before_is (joined_is (codes ";") parameter_is (λ ts h. tt)) (mark_reads (codes ")")) (λ front rest s. (
       begins_not (mark_is (codes ";")) (leads_mark (codes ")")) (apart_mark (mark_is (codes ")")) (codes ";") refl) tt front rest s,
       tt,

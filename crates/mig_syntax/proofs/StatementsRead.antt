@@ -8,7 +8,7 @@ use Rattle.syntax_kit.specs.Reading.{word_is, begins_with}
 use Rattle.syntax_kit.specs.Grammar.{Text, one, mark, ◌&◌, one_of, IsGrammar, Leads, Any}
 use Rattle.syntax_kit.proofs.Grammars.{mapped_is, both_is, either_is}
 use Rattle.syntax_kit.proofs.Leaves.{token_is, mark_reads, leads_mark, leads_both, leads_either, begins_so, begins_not}
-use Rattle.syntax_kit.proofs.Productions.{behind_is, before_is, leads_behind, leads_by}
+use Rattle.syntax_kit.proofs.Productions.{after_is, before_is, leads_after, leads_by}
 use Rattle.mig_syntax.specs.Trees.{Tree}
 use Rattle.mig_syntax.specs.Words.{like, identifier, like_is, lower_in, has_like}
 use Rattle.mig_syntax.specs.Derivation.{type_form, routine, side_spell, importer_spell, body, statement, heading}
@@ -34,11 +34,11 @@ definition_text x = like (codes "type") & (identifier x.0 & (mark (codes "=") & 
 definition_is : IsGrammar definition_at definition_text Any
 unfolding definition_at
 definition_is =
-    behind_is (like_reads (codes "type"))
-    (both_is identifier_reads (behind_is (mark_reads (codes "=")) type_is) (λ b front rest t may. tt))
+    after_is (like_reads (codes "type"))
+    (both_is identifier_reads (after_is (mark_reads (codes "=")) type_is) (λ b front rest t may. tt))
 
 leads_definition : Leads definition_text (like_is (codes "type"))
-leads_definition = leads_behind (λ (x : List ℕ × TypeForm). identifier x.0 & (mark (codes "=") & type_form x.1)) (leads_like (codes "type"))
+leads_definition = leads_after (λ (x : List ℕ × TypeForm). identifier x.0 & (mark (codes "=") & type_form x.1)) (leads_like (codes "type"))
 
 side_back : (s : Side) → lower_in side_words (K.Name (lower (side_spell s))) ≡ Some s
 side_back S.User = refl
@@ -186,7 +186,7 @@ heading_text x = heading x.0 x.1
 
 pub heading_is : IsGrammar heading_at heading_text Any
 unfolding heading_at
-heading_is = behind_is (like_reads (codes "subsystem")) (both_is identifier_reads
+heading_is = after_is (like_reads (codes "subsystem")) (both_is identifier_reads
     (before_is (expression_is 32) (mark_reads (codes ";"))
     (λ front rest s. closed_by {S = λ (_ : Unit {0}). mark (codes ";")} (codes ";") refl (leads_mark (codes ";")) tt front rest s))
     (λ b front rest t may. tt))

@@ -4,11 +4,11 @@ use Rattle.std.specs.Prelude.{codes, is_some}
 use Rattle.idl_lex.specs.declared.kinds.Token.{Token}
 use Rattle.idl_lex.specs.declared.kinds.TokenKind.{TokenKind}
 use Rattle.idl_lex.specs.declared.kinds.TokenKind.TheVariants as K
-use Rattle.syntax_kit.specs.Reading.{mark_is, mark_at, word_is, begins_with, behind}
+use Rattle.syntax_kit.specs.Reading.{mark_is, mark_at, word_is, begins_with, after}
 use Rattle.syntax_kit.specs.Grammar.{Text, mark, ◌&◌, one_of, kinds, IsGrammar, Leads, Any}
 use Rattle.syntax_kit.proofs.Grammars.{mapped_is, both_is, either_is}
 use Rattle.syntax_kit.proofs.Leaves.{mark_reads, mark_named, leads_mark, is_number, leads_both, leads_either, begins_so, begins_not, Apart, apart_mark}
-use Rattle.syntax_kit.proofs.Productions.{behind_is, before_is, leads_behind}
+use Rattle.syntax_kit.proofs.Productions.{after_is, before_is, leads_after}
 use Rattle.mig_syntax.specs.declared.tree.Operator.{Operator}
 use Rattle.mig_syntax.specs.Trees.{Tree, leaf, binary}
 use Rattle.mig_syntax.specs.Words.{like, identifier, like_is, like_at, is_identifier}
@@ -51,18 +51,18 @@ row_end n = mark (codes "]") & (like (codes "of") & identifier n)
 
 row_is : IsGrammar row_at row_text Any
 unfolding row_at
-row_is = both_is (expression_is 32) (behind_is (mark_reads (codes "]")) (behind_is (like_reads (codes "of")) identifier_reads))
+row_is = both_is (expression_is 32) (after_is (mark_reads (codes "]")) (after_is (like_reads (codes "of")) identifier_reads))
     (λ n front rest s may.
     closed_by {S = row_end} (codes "]") refl
-    (leads_behind (λ n. like (codes "of") & identifier n) (leads_mark (codes "]"))) n front rest s)
+    (leads_after (λ n. like (codes "of") & identifier n) (leads_mark (codes "]"))) n front rest s)
 
 abbrev sized_text : List ℕ × Tree → Text
 sized_text x = mark (codes "(") & (identifier x.0 & (mark (codes ",") & (expression 31 x.1 & mark (codes ")"))))
 
 sized_is : IsGrammar sized_at sized_text Any
 unfolding sized_at
-sized_is = behind_is (mark_reads (codes "(")) (both_is identifier_reads
-    (behind_is (mark_reads (codes ","))
+sized_is = after_is (mark_reads (codes "(")) (both_is identifier_reads
+    (after_is (mark_reads (codes ","))
     (before_is (expression_is 31) (mark_reads (codes ")"))
     (λ front rest s. closed_by {S = λ (_ : Unit {0}). mark (codes ")")} (codes ")") refl (leads_mark (codes ")")) tt front rest s)))
     (λ b front rest t may. tt))
@@ -89,7 +89,7 @@ leads_within = leads where
   leads : (n loose : ℕ) → Leads (within n loose) is_operand
   leads zero loose t ks s = absurd s
   leads (suc n) loose t ks (inr p) = let x =
-      leads_behind {P = mark (codes "(")}
+      leads_after {P = mark (codes "(")}
       (λ (t : Tree).
       within n 2 t & mark (codes ")")) (leads_mark (codes "(")) t ks p
       in (x.0, x.1, x.2, or_first (mark_is (codes "(") x.0) (is_number x.0) x.3)
@@ -102,16 +102,16 @@ leads_row x ks s = leads_both row_end (leads_within 32 2) x ks s
 
 array_is : IsGrammar array_at array_text Any
 unfolding array_at
-array_is = behind_is (like_reads (codes "array")) (behind_is (mark_reads (codes "["))
-    (either_is (begins_with (mark_is (codes "*"))) (behind_is (mark_reads (codes "*")) (behind_is (mark_reads (codes ":")) row_is)) row_is
-    (λ x front rest s may. begins_so (leads_behind (λ (x : Row). mark (codes ":") & row_text x) (leads_mark (codes "*"))) x front rest s)
+array_is = after_is (like_reads (codes "array")) (after_is (mark_reads (codes "["))
+    (either_is (begins_with (mark_is (codes "*"))) (after_is (mark_reads (codes "*")) (after_is (mark_reads (codes ":")) row_is)) row_is
+    (λ x front rest s may. begins_so (leads_after (λ (x : Row). mark (codes ":") & row_text x) (leads_mark (codes "*"))) x front rest s)
     (λ x front rest s may. begins_not (mark_is (codes "*")) leads_row (apart_mark is_operand (codes "*") refl) x front rest s)))
 
 abbrev struct_text : Row → Text
 struct_text x = like (codes "struct") & (mark (codes "[") & row_text x)
 
-struct_is : IsGrammar (behind (like_at (codes "struct")) (behind (mark_at (codes "[")) row_at)) struct_text Any
-struct_is = behind_is (like_reads (codes "struct")) (behind_is (mark_reads (codes "[")) row_is)
+struct_is : IsGrammar (after (like_at (codes "struct")) (after (mark_at (codes "[")) row_at)) struct_text Any
+struct_is = after_is (like_reads (codes "struct")) (after_is (mark_reads (codes "[")) row_is)
 
 -- ---- types
 
@@ -148,10 +148,10 @@ abbrev is_2 : TokenKind → Bool
 is_2 k = like_is (codes "array") k || is_3 k
 
 leads_struct : Leads struct_text (like_is (codes "struct"))
-leads_struct = leads_behind (λ (x : Row). mark (codes "[") & row_text x) (leads_like (codes "struct"))
+leads_struct = leads_after (λ (x : Row). mark (codes "[") & row_text x) (leads_like (codes "struct"))
 
 leads_array : Leads array_text (like_is (codes "array"))
-leads_array = leads_behind (λ (x : Row ⊎ Row). mark (codes "[") & length_text x) (leads_like (codes "array"))
+leads_array = leads_after (λ (x : Row ⊎ Row). mark (codes "[") & length_text x) (leads_like (codes "array"))
 
 leads_3 : Leads text_3 is_3
 leads_3 = leads_either leads_struct leads_identifier
@@ -175,7 +175,7 @@ type_is = mapped_is type_of type_form
     (λ x front rest s may. begins_not (like_is (codes "array")) leads_3 apart_3 x front rest s))
     (λ x front rest s may.
     begins_so
-    (leads_behind
+    (leads_after
     (λ (x : List ℕ × Tree).
     identifier x.0 & (mark (codes ",") & (expression 31 x.1 & mark (codes ")")))) (leads_mark (codes "("))) x front rest s)
     (λ x front rest s may. begins_not (mark_is (codes "(")) leads_2 (apart_mark is_2 (codes "(") refl) x front rest s))

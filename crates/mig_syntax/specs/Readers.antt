@@ -5,7 +5,7 @@ use Rattle.std.specs.Str.{bytes_eq}
 use Rattle.idl_lex.specs.declared.kinds.Token.{Token}
 use Rattle.idl_lex.specs.declared.kinds.TokenKind.{TokenKind}
 use Rattle.idl_lex.specs.declared.kinds.TokenKind.TheVariants as K
-use Rattle.syntax_kit.specs.Reading.{Read, Reader, then_on, mark_is, mark_at, number_at, begins_with, mapped, either, behind, before}
+use Rattle.syntax_kit.specs.Reading.{Read, Reader, then_on, mark_is, mark_at, number_at, begins_with, mapped, either, after, before}
 use Rattle.mig_syntax.specs.declared.tree.Operator.{Operator}
 use Rattle.mig_syntax.specs.declared.tree.Operator.TheVariants as B
 use Rattle.mig_syntax.specs.Trees.{Tree, leaf, binary}
@@ -52,7 +52,7 @@ primary_of (inr n) = (leaf n, 1)
 
 abbrev pub primary_at : (ℕ → Reader Levelled) → Reader Levelled
 primary_at operand = mapped primary_of
-    (either (begins_with (mark_is (codes "("))) (behind (mark_at (codes "(")) (before (operand 2) (mark_at (codes ")")))) number_at)
+    (either (begins_with (mark_is (codes "("))) (after (mark_at (codes "(")) (before (operand 2) (mark_at (codes ")")))) number_at)
 
 -- what is read, where an operator comes first and where none does
 abbrev pub by_operator : Option Operator → Read Levelled → (Operator → Read Levelled) → Read Levelled

@@ -3,7 +3,7 @@ use Rattle.std.specs.Prelude.{Bool, true, false, ◌⊎◌, ℕ, List, [], ◌�
 use Rattle.std.proofs.Common.{inl, inr}
 use Rattle.idl_lex.specs.declared.kinds.TokenKind.{TokenKind}
 use Rattle.idl_lex.specs.declared.kinds.TokenKind.TheVariants.{FileName}
-use Rattle.syntax_kit.specs.Reading.{Reader, mark_is, mark_at, token_at, begins_with, both, mapped, either, option, behind, before, joined_at}
+use Rattle.syntax_kit.specs.Reading.{Reader, mark_is, mark_at, token_at, begins_with, both, mapped, either, option, after, before, joined_at}
 use Rattle.mig_syntax.specs.Trees.{Tree}
 use Rattle.mig_syntax.specs.Words.{like_is, like_at, like_in, has_like, identifier_at}
 use Rattle.mig_syntax.specs.Readers.{expression_at}
@@ -28,17 +28,17 @@ Row = Tree × List ℕ
 
 -- a length, and the elements' type
 unfoldable pub row_at : Reader Row
-row_at = both (expression_at 32) (behind (mark_at (codes "]")) (behind (like_at (codes "of")) identifier_at))
+row_at = both (expression_at 32) (after (mark_at (codes "]")) (after (like_at (codes "of")) identifier_at))
 
 -- a type with its size
 unfoldable pub sized_at : Reader (List ℕ × Tree)
-sized_at = behind (mark_at (codes "("))
-    (both identifier_at (behind (mark_at (codes ",")) (before (expression_at 31) (mark_at (codes ")")))))
+sized_at = after (mark_at (codes "("))
+    (both identifier_at (after (mark_at (codes ",")) (before (expression_at 31) (mark_at (codes ")")))))
 
 -- an array, of a greatest length or of a fixed one
 unfoldable pub array_at : Reader (Row ⊎ Row)
-array_at = behind (like_at (codes "array")) (behind (mark_at (codes "["))
-    (either (begins_with (mark_is (codes "*"))) (behind (mark_at (codes "*")) (behind (mark_at (codes ":")) row_at)) row_at))
+array_at = after (like_at (codes "array")) (after (mark_at (codes "["))
+    (either (begins_with (mark_is (codes "*"))) (after (mark_at (codes "*")) (after (mark_at (codes ":")) row_at)) row_at))
 
 abbrev pub type_of : (List ℕ × Tree) ⊎ (Row ⊎ Row) ⊎ Row ⊎ List ℕ → TypeForm
 type_of (inl x) = T.Sized x.0 x.1
@@ -51,7 +51,7 @@ type_of (inr (inr (inr n))) = T.Named n
 unfoldable pub type_at : Reader TypeForm
 type_at = mapped type_of (either (begins_with (mark_is (codes "("))) sized_at
     (either (begins_with (like_is (codes "array"))) array_at (either (begins_with (like_is (codes "struct")))
-    (behind (like_at (codes "struct")) (behind (mark_at (codes "[")) row_at)) identifier_at)))
+    (after (like_at (codes "struct")) (after (mark_at (codes "[")) row_at)) identifier_at)))
 
 -- ---- routines
 
@@ -65,7 +65,7 @@ parameter_of x = record { direction = x.0; name = x.1.0; of = x.1.1 }
 -- a parameter
 unfoldable pub parameter_at : Reader Parameter
 parameter_at = mapped parameter_of (both (option (begins_with (has_like direction_words)) (token_at (like_in direction_words)))
-    (both identifier_at (behind (mark_at (codes ":")) identifier_at)))
+    (both identifier_at (after (mark_at (codes ":")) identifier_at)))
 
 -- the words of the routines
 abbrev pub routine_words : List (List ℕ × Bool)
@@ -77,7 +77,7 @@ routine_of x = record { simple = x.0; name = x.1.0; parameters = x.1.1 }
 -- a routine
 unfoldable pub routine_at : Reader Routine
 routine_at = mapped routine_of (both (token_at (like_in routine_words))
-    (both identifier_at (behind (mark_at (codes "(")) (before (joined_at (codes ";") parameter_at) (mark_at (codes ")"))))))
+    (both identifier_at (after (mark_at (codes "(")) (before (joined_at (codes ";") parameter_at) (mark_at (codes ")"))))))
 
 -- ---- statements
 
@@ -96,7 +96,7 @@ file_in _ = None
 
 -- a definition of a type
 unfoldable pub definition_at : Reader (List ℕ × TypeForm)
-definition_at = behind (like_at (codes "type")) (both identifier_at (behind (mark_at (codes "=")) type_at))
+definition_at = after (like_at (codes "type")) (both identifier_at (after (mark_at (codes "=")) type_at))
 
 -- a prefix
 unfoldable pub prefix_at : Reader (Side × List ℕ)
@@ -125,4 +125,4 @@ statement_at = before body_at (mark_at (codes ";"))
 
 -- a heading
 unfoldable pub heading_at : Reader (List ℕ × Tree)
-heading_at = behind (like_at (codes "subsystem")) (both identifier_at (before (expression_at 32) (mark_at (codes ";"))))
+heading_at = after (like_at (codes "subsystem")) (both identifier_at (before (expression_at 32) (mark_at (codes ";"))))

@@ -6,7 +6,7 @@ use Rattle.std.specs.Ordering.{int_eq}
 use Rattle.std.proofs.lemmas.Bool.{ltb-true, ltb-false, lt-ltb, le-ltb}
 use Rattle.std.proofs.lemmas.Option.{get_or_from_slice_get}
 use Rattle.std.proofs.lemmas.List.{get_or-map, length-map, get_or_default}
-use Rattle.mint.specs.Keyed.{Rise, IsTold, place_of}
+use Rattle.mint.specs.Keyed.{Rise, IsMark, place_of}
 
 -- ---- numbers
 

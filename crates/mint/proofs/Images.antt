@@ -228,18 +228,18 @@ numbers-none kind.U64 = refl
 numbers-none kind.Bool = refl
 
 -- numbers are read back from their image
-numbers-behind : (k : Kind) (ns : List ℤ) (o : List ℕ) → IsTrue (list_all (in_range k) ns)
+numbers-after : (k : Kind) (ns : List ℤ) (o : List ℕ) → IsTrue (list_all (in_range k) ns)
     → numbers_of k (image_of k ns ++ o) ≡ ns ++ numbers_of k o
-numbers-behind k [] o h = refl
-numbers-behind k (n ∷ ns) o h =
+numbers-after k [] o h = refl
+numbers-after k (n ∷ ns) o h =
     let s = split (in_range k n) (list_all (in_range k) ns) h in
     ap (numbers_of k) (append_assoc (octets_of k n) (image_of k ns) o)
     ∙ numbers-front k (octets_of k n) (image_of k ns ++ o) (octets_many k n)
     ∙ ap (λ z. z ∷ numbers_of k (image_of k ns ++ o)) (number_back k n s.0)
-    ∙ ap (λ z. n ∷ z) (numbers-behind k ns o s.1)
+    ∙ ap (λ z. n ∷ z) (numbers-after k ns o s.1)
 
 pub numbers-image : (k : Kind) (ns : List ℤ) → IsTrue (list_all (in_range k) ns) → numbers_of k (image_of k ns) ≡ ns
-numbers-image k ns h = ap (numbers_of k) (sym (append-nil (image_of k ns))) ∙ numbers-behind k ns [] h
+numbers-image k ns h = ap (numbers_of k) (sym (append-nil (image_of k ns))) ∙ numbers-after k ns [] h
     ∙ ap (λ z. ns ++ z) (numbers-none k) ∙ append-nil ns
 
 -- ---- images of numbers
@@ -294,7 +294,7 @@ IsImage-none k = IsImage-numbers k [] refl
 
 -- the numbers of an image and of what is put after it
 pub numbers-append : (k : Kind) (o p : List ℕ) → IsImage k o → numbers_of k (o ++ p) ≡ numbers_of k o ++ numbers_of k p
-numbers-append k o p is = ap (λ z. numbers_of k (z ++ p)) (sym is.whole) ∙ numbers-behind k (numbers_of k o) p is.ranged
+numbers-append k o p is = ap (λ z. numbers_of k (z ++ p)) (sym is.whole) ∙ numbers-after k (numbers_of k o) p is.ranged
 
 pub IsImage-append : (k : Kind) (o p : List ℕ) → IsImage k o → IsImage k p → IsImage k (o ++ p)
 IsImage-append k o p is also =

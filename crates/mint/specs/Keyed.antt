@@ -9,8 +9,8 @@ Rise [] = Unit {0}
 Rise (n ∷ ns) = AllByRecursion (λ m. int_lt n m ≡ true) ns × Rise ns
 
 -- a mark of a list that is true only where its numbers rise
-abbrev pub IsTold : Bool → List ℤ → Type 0
-IsTold rising ns = rising ≡ true → Rise ns
+abbrev pub IsMark : Bool → List ℤ → Type 0
+IsMark rising ns = rising ≡ true → Rise ns
 
 -- the place of the first entry that has a number
 abbrev pub place_of : {T : Type 0} → ℤ → List (ℤ × T) → Option ℕ

@@ -2,7 +2,7 @@
 
 ghost use Rattle.std.specs.Prelude.{◌≡◌, ◌<◌, ℤ, [], ◌∷◌, ◌++◌, length, map, slice_get, OnOk, OnErr, IfSome, true, int_lt};
 ghost use Rattle.std.specs.Option.{option_copied};
-ghost use Rattle.mint.specs.Keyed.{IsTold, Rise, place_of};
+ghost use Rattle.mint.specs.Keyed.{IsMark, Rise, place_of};
 
 use kit_base::NoMemory;
 use std::alloc::Global;
@@ -24,11 +24,11 @@ impl<T> Model for Keyed<T> {
 
     ghost coded = { coded_list (coded× coded_ℤ T.code) };
 
-    ghost use Rattle.mint.specs.Keyed.{IsTold};
+    ghost use Rattle.mint.specs.Keyed.{IsMark};
 
     ghost view = { λ a. a.entries.items };
 
-    ghost invariant = { λ a. IsTold a.rising (map (λ (e : ℤ × T). e.0) a.entries.items) };
+    ghost invariant = { λ a. IsMark a.rising (map (λ (e : ℤ × T). e.0) a.entries.items) };
 }
 
 /// The place of the first entry that has a number.
@@ -130,7 +130,7 @@ impl<T> Keyed<T> {
 
 /// Whether the numbers of entries rise.
 fn are_rising<T>(entries: &[(i128, T)]) -> bool
-    ensures { IsTold result (map (λ (e : ℤ × T). e.0) entries.now) }
+    ensures { IsMark result (map (λ (e : ℤ × T). e.0) entries.now) }
 {
     for i in 0..entries.len() {
         if !is_above(&entries[..i], &entries[i].0) {

@@ -4,7 +4,7 @@ ghost use Rattle.std.specs.Prelude.{◌≡◌, [], ◌∷◌, ◌++◌, length, 
 ghost use Rattle.std.specs.List.{list_any};
 ghost use Rattle.std.specs.Option.{option_copied};
 ghost use Rattle.std.specs.Ordering.{int_eq};
-ghost use Rattle.mint.specs.Keyed.{IsTold, Rise};
+ghost use Rattle.mint.specs.Keyed.{IsMark, Rise};
 
 use kit_base::NoMemory;
 use std::alloc::Global;
@@ -19,13 +19,13 @@ pub struct Labels {
 
 impl Model for Labels {
     ghost use Rattle.std.specs.Prelude.{List, ℤ};
-    ghost use Rattle.mint.specs.Keyed.{IsTold};
+    ghost use Rattle.mint.specs.Keyed.{IsMark};
 
     ghost Value = { List ℤ };
 
     ghost view = { λ a. a.numbers.items };
 
-    ghost invariant = { λ a. IsTold a.rising a.numbers.items };
+    ghost invariant = { λ a. IsMark a.rising a.numbers.items };
 }
 
 fn is_among(labels: &[i32], n: &i128) -> bool
@@ -85,7 +85,7 @@ fn is_above(labels: &[i32], n: &i32) -> bool
 
 /// Whether numbers rise.
 fn are_rising(labels: &[i32]) -> bool
-    ensures { IsTold result labels.now }
+    ensures { IsMark result labels.now }
 {
     for i in 0..labels.len() {
         if !is_above(&labels[..i], &labels[i]) {

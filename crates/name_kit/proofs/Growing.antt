@@ -65,14 +65,14 @@ types_grow types more limit (s ∷ ss) le =
     let next : limit + 1 + length ss ≤ length types = omega (arith, le) in
     rw (sound_grow types more limit s here, types_grow types more (limit + 1) ss next) refl
 
-one_behind : (types : List Shape) (limit at_ : ℕ) (ss : List Shape) (s : Shape) → at_ ≡ limit + length ss
+one_after : (types : List Shape) (limit at_ : ℕ) (ss : List Shape) (s : Shape) → at_ ≡ limit + length ss
     → are_sound_types types limit ss ≡ true → is_sound_type types at_ s ≡ true
     → are_sound_types types limit (ss ++ s ∷ []) ≡ true
-one_behind types limit at_ [] s is a b = let same : limit ≡ at_ = omega (arith, is) in and_from _ _ (rw same b) refl
-one_behind types limit at_ (t ∷ ss) s is a b =
+one_after types limit at_ [] s is a b = let same : limit ≡ at_ = omega (arith, is) in and_from _ _ (rw same b) refl
+one_after types limit at_ (t ∷ ss) s is a b =
     let next : at_ ≡ limit + 1 + length ss = omega (arith, is) in
     let parts = and_parts _ _ a in
-    and_from _ _ parts.0 (one_behind types (limit + 1) at_ ss s next parts.1 b)
+    and_from _ _ parts.0 (one_after types (limit + 1) at_ ss s next parts.1 b)
 
 -- a type that is sound over those before it
 pub types_push : (types : List Shape) (s : Shape) → are_sound_types types 0 types ≡ true → is_sound_type types (length types) s ≡ true
@@ -80,5 +80,5 @@ pub types_push : (types : List Shape) (s : Shape) → are_sound_types types 0 ty
 types_push types s a b =
     let whole : 0 + length types ≤ length types = omega arith in
     let last : length types ≤ length types = omega arith in
-    one_behind (types ++ s ∷ []) 0 (length types) types s (omega arith) (types_grow types (s ∷ []) 0 types whole ∙ a)
+    one_after (types ++ s ∷ []) 0 (length types) types s (omega arith) (types_grow types (s ∷ []) 0 types whole ∙ a)
     (sound_grow types (s ∷ []) (length types) s last ∙ b)

@@ -107,10 +107,10 @@ all_good : (types : List Shape) (s : Shape) (ns : List ℤ) → good types s ≡
 all_good types s [] h = refl
 all_good types s (n ∷ ns) h = and_from _ _ h (all_good types s ns h)
 
-behind_them : (arms : List Arm_) (old more : List ℤ) → map (λ a. a.0) arms ≡ old → drop (length arms) (old ++ more) ≡ more
-behind_them [] old more h = ap (λ z. z ++ more) (sym h)
-behind_them (a ∷ arms) old more h =
-    subst (λ z. drop (suc (length arms)) (z ++ more) ≡ more) h (behind_them arms (map (λ a. a.0) arms) more refl)
+after_them : (arms : List Arm_) (old more : List ℤ) → map (λ a. a.0) arms ≡ old → drop (length arms) (old ++ more) ≡ more
+after_them [] old more h = ap (λ z. z ++ more) (sym h)
+after_them (a ∷ arms) old more h =
+    subst (λ z. drop (suc (length arms)) (z ++ more) ≡ more) h (after_them arms (map (λ a. a.0) arms) more refl)
 
 firsts : (arms more : List Arm_) → map (λ a. a.0) (arms ++ more) ≡ map (λ a. a.0) arms ++ map (λ a. a.0) more
 firsts [] more = refl
@@ -120,7 +120,7 @@ pub arms_added : (types : List Shape) (labels : List (ℕ × ℤ)) (t : Tag) (ns
     → ArmsAre types labels t ns arms → Longer labels t ns new → good types s ≡ true
     → ArmsAre types labels t new (with_arm new arms s)
 arms_added types labels t ns new arms s are longer sound =
-    let rest : drop (length arms) new ≡ longer.more = ap (drop (length arms)) longer.grown ∙ behind_them arms ns longer.more are.arms in
+    let rest : drop (length arms) new ≡ longer.more = ap (drop (length arms)) longer.grown ∙ after_them arms ns longer.more are.arms in
     record {
       numbers = longer.are;
       arms = firsts arms (arms_for s (drop (length arms) new))

@@ -24,7 +24,7 @@ pub fn add_integer(numbers: &mut IndexSet<i128>, n: &i128) -> Result<(), NoMemor
 }
 
 /// The numbers after the first so many.
-pub fn behind(numbers: &[i128], count: usize) -> &[i128]
+pub fn after(numbers: &[i128], count: usize) -> &[i128]
     ensures { result.now ≡ drop count numbers.now }
 {
     if count >= numbers.len() {

@@ -8,7 +8,7 @@ use Rattle.syntax_kit.specs.Reading.{mark_is, word_is, begins_with, begins_other
 use Rattle.syntax_kit.specs.Grammar.{Text, empty, word, mark, ◌&◌, one_of, maybe, kinds, IsGrammar, Leads, Any}
 use Rattle.syntax_kit.proofs.Grammars.{mapped_is, both_is, either_is, option_is}
 use Rattle.syntax_kit.proofs.Leaves.{mark_reads, apart_mark, leads_word, leads_mark, leads_id, leads_both, leads_either, begins_so, begins_not, begins_else}
-use Rattle.syntax_kit.proofs.Productions.{weaker, behind_is, before_is, led_is, marked_is, leads_behind, apart_words, unit_right, unit_right_back, leads_by, maybe_not, not_other}
+use Rattle.syntax_kit.proofs.Productions.{weaker, after_is, before_is, led_is, marked_is, leads_after, apart_words, unit_right, unit_right_back, leads_by, maybe_not, not_other}
 use Rattle.onc_syntax.specs.declared.tree.Value.{Value}
 use Rattle.onc_syntax.specs.declared.tree.TypeName.{TypeName as Ty}
 use Rattle.onc_syntax.specs.declared.tree.Decl.{Decl}
@@ -20,14 +20,14 @@ use Rattle.onc_syntax.proofs.TypesRead.{is_name_grammar, is_type, leads_signed, 
 
 exactly_is : IsGrammar exactly_at exactly Any
 unfolding exactly_at
-exactly_is = behind_is (mark_reads (codes "[")) (before_is value_is (mark_reads (codes "]")) (λ front rest p. tt))
+exactly_is = after_is (mark_reads (codes "[")) (before_is value_is (mark_reads (codes "]")) (λ front rest p. tt))
 
 leads_exactly : Leads exactly (mark_is (codes "["))
-leads_exactly = leads_behind (λ v. value v & mark (codes "]")) (leads_mark (codes "["))
+leads_exactly = leads_after (λ v. value v & mark (codes "]")) (leads_mark (codes "["))
 
 at_most_is : IsGrammar at_most_at at_most Any
 unfolding at_most_at
-at_most_is = behind_is (mark_reads (codes "<"))
+at_most_is = after_is (mark_reads (codes "<"))
     (before_is
     (option_is {May = λ rest. begins_other is_close rest ≡ false} (begins_other is_close) (weaker value_is (λ rest may. tt))
     (λ a front rest s may.
@@ -37,7 +37,7 @@ at_most_is = behind_is (mark_reads (codes "<"))
     (λ front rest p. not_other is_close (front ++ rest) (begins_so (leads_mark (codes ">")) tt front rest p)))
 
 leads_at_most : Leads at_most (mark_is (codes "<"))
-leads_at_most = leads_behind (λ v. maybe value v & mark (codes ">")) (leads_mark (codes "<"))
+leads_at_most = leads_after (λ v. maybe value v & mark (codes ">")) (leads_mark (codes "<"))
 
 sized_is : IsGrammar (either (begins_with (mark_is (codes "["))) exactly_at at_most_at) (one_of exactly at_most) Any
 sized_is = either_is (begins_with (mark_is (codes "["))) exactly_is at_most_is
@@ -97,7 +97,7 @@ abbrev is_after_type : TokenKind → Bool
 is_after_type k = mark_is (codes "*") k || is_name k
 
 leads_after_type : Leads after_type is_after_type
-leads_after_type = leads_either (leads_behind name (leads_mark (codes "*")))
+leads_after_type = leads_either (leads_after name (leads_mark (codes "*")))
     (leads_both (one_of exactly (maybe at_most)) (leads_id onc_words))
 
 abbrev plain_text : Ty × (List ℕ ⊎ (List ℕ × (Value ⊎ Option (Option Value)))) → Text
@@ -108,7 +108,7 @@ leads_plain = leads_both after_type leads_type
 
 leads_string : Leads (one_of (λ (x : List ℕ × Option Value). word (codes "string") & (name x.0 & at_most x.1)) plain_text)
     (λ k. word_is (codes "string") k || is_type k)
-leads_string = leads_either (leads_behind (λ x. name x.0 & at_most x.1) (leads_word (codes "string"))) leads_plain
+leads_string = leads_either (leads_after (λ x. name x.0 & at_most x.1) (leads_word (codes "string"))) leads_plain
 
 pub decl_is : IsGrammar decl_at decl DeclMay
 unfolding decl_at
@@ -131,7 +131,7 @@ decl_is = mapped_is decl_of decl
 pub leads_decl : Leads decl (λ k. word_is (codes "opaque") k || (word_is (codes "string") k || is_type k))
 leads_decl =
     leads_by decl_of decl_back
-    (leads_either (leads_behind (λ x. name x.0 & one_of exactly at_most x.1) (leads_word (codes "opaque"))) leads_string)
+    (leads_either (leads_after (λ x. name x.0 & one_of exactly at_most x.1) (leads_word (codes "opaque"))) leads_string)
 
 pub decl_stops : (front rest : List Token) → mark (codes ";") (kinds front) → DeclMay (front ++ rest)
 decl_stops front rest s =

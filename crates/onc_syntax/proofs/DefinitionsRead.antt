@@ -6,7 +6,7 @@ use Rattle.syntax_kit.specs.Reading.{word_is}
 use Rattle.syntax_kit.specs.Grammar.{Text, word, mark, ◌&◌, one_of, IsGrammar, Leads, Any}
 use Rattle.syntax_kit.proofs.Grammars.{mapped_is, both_is}
 use Rattle.syntax_kit.proofs.Leaves.{word_reads, mark_reads, leads_word, leads_either}
-use Rattle.syntax_kit.proofs.Productions.{weaker, behind_is, before_is, led_is, leads_behind, leads_by}
+use Rattle.syntax_kit.proofs.Productions.{weaker, after_is, before_is, led_is, leads_after, leads_by}
 use Rattle.onc_syntax.specs.declared.tree.Value.{Value}
 use Rattle.onc_syntax.specs.declared.tree.Decl.{Decl}
 use Rattle.onc_syntax.specs.declared.tree.Item.{Item}
@@ -28,7 +28,7 @@ const_text x = name x.0 & (mark (codes "=") & value x.1)
 
 const_is : IsGrammar const_at const_text Any
 unfolding const_at
-const_is = both_is is_name_grammar (behind_is (mark_reads (codes "=")) value_is) (λ b front rest t may. tt)
+const_is = both_is is_name_grammar (after_is (mark_reads (codes "=")) value_is) (λ b front rest t may. tt)
 
 abbrev DefShape : Type 0
 DefShape = Decl ⊎ (List ℕ × Value) ⊎ (List ℕ × (List Version × Value)) ⊎ (List ℕ × List Item) ⊎ (List ℕ × List Member) ⊎ UnionDef
@@ -65,18 +65,18 @@ def_back (F.Struct n ms) ks s = (inr (inr (inr (inr (inl (n, ms))))), refl, s)
 def_back (F.Union u) ks s = (inr (inr (inr (inr (inr u)))), refl, s)
 
 leads_5 : Leads text_5 (λ k. word_is (codes "struct") k || word_is (codes "union") k)
-leads_5 = leads_either (leads_behind struct_text (leads_word (codes "struct"))) leads_union
+leads_5 = leads_either (leads_after struct_text (leads_word (codes "struct"))) leads_union
 
 leads_4 : Leads text_4 (λ k. word_is (codes "enum") k || (word_is (codes "struct") k || word_is (codes "union") k))
-leads_4 = leads_either (leads_behind enum_text (leads_word (codes "enum"))) leads_5
+leads_4 = leads_either (leads_after enum_text (leads_word (codes "enum"))) leads_5
 
 leads_3 : Leads text_3
     (λ k. word_is (codes "program") k || (word_is (codes "enum") k || (word_is (codes "struct") k || word_is (codes "union") k)))
-leads_3 = leads_either (leads_behind program_text (leads_word (codes "program"))) leads_4
+leads_3 = leads_either (leads_after program_text (leads_word (codes "program"))) leads_4
 
 leads_2 : Leads text_2 (λ k. word_is (codes "const") k
     || (word_is (codes "program") k || (word_is (codes "enum") k || (word_is (codes "struct") k || word_is (codes "union") k))))
-leads_2 = leads_either (leads_behind const_text (leads_word (codes "const"))) leads_3
+leads_2 = leads_either (leads_after const_text (leads_word (codes "const"))) leads_3
 
 def_is : IsGrammar def_at def DeclMay
 unfolding def_at
@@ -86,7 +86,7 @@ def_is = mapped_is def_of def
     (led_is (codes "const") const_is
     (led_is (codes "program") program_is
     (led_is (codes "enum") enum_is
-    (led_is (codes "struct") struct_is (behind_is (word_reads (codes "union")) union_is) leads_union refl)
+    (led_is (codes "struct") struct_is (after_is (word_reads (codes "union")) union_is) leads_union refl)
     leads_5 refl)
     leads_4 refl)
     leads_3 refl)
@@ -103,4 +103,4 @@ is_def k = word_is (codes "typedef") k || (word_is (codes "const") k
     || (word_is (codes "program") k || (word_is (codes "enum") k || (word_is (codes "struct") k || word_is (codes "union") k))))
 
 pub leads_def : Leads def is_def
-leads_def = leads_by def_of def_back (leads_either (leads_behind decl (leads_word (codes "typedef"))) leads_2)
+leads_def = leads_by def_of def_back (leads_either (leads_after decl (leads_word (codes "typedef"))) leads_2)

@@ -4,11 +4,11 @@ use Rattle.std.specs.List.{AllByRecursion}
 use Rattle.std.specs.Prelude.{codes}
 use Rattle.idl_lex.specs.declared.kinds.TokenKind.{TokenKind}
 use Rattle.idl_lex.specs.declared.kinds.TokenKind.TheVariants.{Name}
-use Rattle.syntax_kit.specs.Reading.{mark_is, word_is, begins_with, begins_other, both, behind, before, mark_at, joined_at, until_at, some_at}
+use Rattle.syntax_kit.specs.Reading.{mark_is, word_is, begins_with, begins_other, both, after, before, mark_at, joined_at, until_at, some_at}
 use Rattle.syntax_kit.specs.Grammar.{Text, some, joined, word, mark, ◌&◌, one_of, IsGrammar, Leads, Any}
 use Rattle.syntax_kit.proofs.Grammars.{mapped_is, both_is, either_is}
 use Rattle.syntax_kit.proofs.Leaves.{word_reads, mark_reads, apart_word, apart_mark, leads_word, leads_mark, leads_id, leads_both, leads_either, begins_so, begins_not}
-use Rattle.syntax_kit.proofs.Productions.{weaker, behind_is, before_is, leads_behind, apart_words, leads_by, stopped}
+use Rattle.syntax_kit.proofs.Productions.{weaker, after_is, before_is, leads_after, apart_words, leads_by, stopped}
 use Rattle.syntax_kit.proofs.Lists.{turns, joined_is, until_is, some_is}
 use Rattle.onc_syntax.specs.declared.tree.Value.{Value}
 use Rattle.onc_syntax.specs.declared.tree.IntWord.{IntWord}
@@ -63,20 +63,20 @@ no_int g = AllByRecursion (λ (e : List ℕ × IntWord). g (Name e.0) ≡ false)
 abbrev closed : Value → Text
 closed v = mark (codes ")") & (mark (codes "=") & (value v & mark (codes ";")))
 
-closed_is : IsGrammar (behind (mark_at (codes ")")) (behind (mark_at (codes "=")) (before value_at (mark_at (codes ";"))))) closed Any
+closed_is : IsGrammar (after (mark_at (codes ")")) (after (mark_at (codes "=")) (before value_at (mark_at (codes ";"))))) closed Any
 closed_is =
-    behind_is (mark_reads (codes ")"))
-    (behind_is (mark_reads (codes "=")) (before_is value_is (mark_reads (codes ";")) (λ front rest p. tt)))
+    after_is (mark_reads (codes ")"))
+    (after_is (mark_reads (codes "=")) (before_is value_is (mark_reads (codes ";")) (λ front rest p. tt)))
 
 leads_closed : Leads closed (mark_is (codes ")"))
-leads_closed = leads_behind (λ v. mark (codes "=") & (value v & mark (codes ";"))) (leads_mark (codes ")"))
+leads_closed = leads_after (λ v. mark (codes "=") & (value v & mark (codes ";"))) (leads_mark (codes ")"))
 
 abbrev listed : List ProcType × Value → Text
 listed x = joined (codes ",") proc_type x.0 & closed x.1
 
 listed_is : IsGrammar
     (both (joined_at (codes ",") proc_type_at)
-    (behind (mark_at (codes ")")) (behind (mark_at (codes "=")) (before value_at (mark_at (codes ";"))))))
+    (after (mark_at (codes ")")) (after (mark_at (codes "=")) (before value_at (mark_at (codes ";"))))))
     listed Any
 listed_is = both_is
     (joined_is (codes ",") proc_type_is
@@ -98,7 +98,7 @@ leads_named_list = leads_both (λ x. mark (codes "(") & listed x) (leads_id onc_
 procedure_is : IsGrammar procedure_at procedure Any
 unfolding procedure_at
 procedure_is = mapped_is procedure_of procedure
-    (both_is proc_type_is (both_is is_name_grammar (behind_is (mark_reads (codes "(")) listed_is) (λ b front rest t may. tt))
+    (both_is proc_type_is (both_is is_name_grammar (after_is (mark_reads (codes "(")) listed_is) (λ b front rest t may. tt))
     (λ x front rest s may.
     begins_not is_int leads_named_list (apart_words is_name int_words (refl, (refl, (refl, (refl, (refl, tt)))))) x front rest s))
     (λ x ks s. s) (λ p ks s. ((p.result, (p.name, (p.parameters, p.number))), refl, s))
@@ -113,13 +113,13 @@ procedures_is = some_is (until_is (codes "}") procedure_is leads_procedure (apar
 version_is : IsGrammar version_at version Any
 unfolding version_at
 version_is = mapped_is version_of version
-    (behind_is (word_reads (codes "version")) (both_is is_name_grammar (behind_is (mark_reads (codes "{"))
+    (after_is (word_reads (codes "version")) (both_is is_name_grammar (after_is (mark_reads (codes "{"))
     (both_is procedures_is
-    (behind_is (mark_reads (codes "}"))
-    (behind_is (mark_reads (codes "=")) (before_is value_is (mark_reads (codes ";")) (λ front rest p. tt))))
+    (after_is (mark_reads (codes "}"))
+    (after_is (mark_reads (codes "=")) (before_is value_is (mark_reads (codes ";")) (λ front rest p. tt))))
     (λ v front rest s may.
     stopped (codes "}")
-    (leads_behind (λ v. mark (codes "=") & (value v & mark (codes ";"))) (leads_mark (codes "}"))) v front rest s)))
+    (leads_after (λ v. mark (codes "=") & (value v & mark (codes ";"))) (leads_mark (codes "}"))) v front rest s)))
     (λ b front rest t may. tt)))
     (λ x ks s. s) (λ v ks s. ((v.name, (v.procedures, v.number)), refl, s))
 
@@ -131,8 +131,8 @@ program_text x = name x.0 & (mark (codes "{") & (some version x.1.0 & (mark (cod
 
 pub program_is : IsGrammar program_at program_text Any
 unfolding program_at
-program_is = both_is is_name_grammar (behind_is (mark_reads (codes "{"))
+program_is = both_is is_name_grammar (after_is (mark_reads (codes "{"))
     (both_is (some_is (until_is (codes "}") version_is leads_version (apart_mark (word_is (codes "version")) (codes "}") refl)))
-    (behind_is (mark_reads (codes "}")) (behind_is (mark_reads (codes "=")) value_is))
-    (λ v front rest s may. stopped (codes "}") (leads_behind (λ v. mark (codes "=") & value v) (leads_mark (codes "}"))) v front rest s)))
+    (after_is (mark_reads (codes "}")) (after_is (mark_reads (codes "=")) value_is))
+    (λ v front rest s may. stopped (codes "}") (leads_after (λ v. mark (codes "=") & value v) (leads_mark (codes "}"))) v front rest s)))
     (λ b front rest t may. tt)

@@ -6,7 +6,7 @@ use Rattle.syntax_kit.specs.Reading.{mark_is, begins_with}
 use Rattle.syntax_kit.specs.Grammar.{Text, some, joined, mark, ◌&◌, maybe, IsGrammar, Leads, Any}
 use Rattle.syntax_kit.proofs.Grammars.{mapped_is, both_is, option_is}
 use Rattle.syntax_kit.proofs.Leaves.{mark_reads, apart_mark, leads_mark, leads_id, leads_both, begins_so, begins_not}
-use Rattle.syntax_kit.proofs.Productions.{weaker, behind_is, before_is, leads_behind, stopped}
+use Rattle.syntax_kit.proofs.Productions.{weaker, after_is, before_is, leads_after, stopped}
 use Rattle.syntax_kit.proofs.Lists.{turns, joined_is, until_is, some_is}
 use Rattle.onc_syntax.specs.declared.tree.Item.{Item}
 use Rattle.onc_syntax.specs.declared.tree.Member.{Member}
@@ -24,8 +24,8 @@ unfolding item_at
 item_is = mapped_is item_of item
     (both_is is_name_grammar
     (option_is (begins_with (mark_is (codes "=")))
-    (weaker (behind_is (mark_reads (codes "=")) value_is) (λ rest may. tt)) (λ a front rest s may.
-    begins_so (leads_behind value (leads_mark (codes "="))) a front rest s) (λ rest may. may))
+    (weaker (after_is (mark_reads (codes "=")) value_is) (λ rest may. tt)) (λ a front rest s may.
+    begins_so (leads_after value (leads_mark (codes "="))) a front rest s) (λ rest may. may))
     (λ b front rest t may. tt))
     (λ x ks s. s) (λ i ks s. ((i.name, i.value), refl, s))
 
@@ -46,7 +46,7 @@ enum_text x = name x.0 & (mark (codes "{") & (joined (codes ",") item x.1 & mark
 
 pub enum_is : IsGrammar enum_at enum_text Any
 unfolding enum_at
-enum_is = both_is is_name_grammar (behind_is (mark_reads (codes "{"))
+enum_is = both_is is_name_grammar (after_is (mark_reads (codes "{"))
     (before_is
     (joined_is (codes ",") item_is
     (λ ts h.
@@ -63,7 +63,7 @@ struct_text x = name x.0 & (mark (codes "{") & (some member x.1 & mark (codes "}
 
 pub struct_is : IsGrammar struct_at struct_text Any
 unfolding struct_at
-struct_is = both_is is_name_grammar (behind_is (mark_reads (codes "{"))
+struct_is = both_is is_name_grammar (after_is (mark_reads (codes "{"))
     (before_is (some_is (until_is (codes "}") member_is leads_member (apart_mark is_decl (codes "}") refl))) (mark_reads (codes "}"))
     (λ front rest s. stopped (codes "}") (leads_mark (codes "}")) tt front rest s)))
     (λ b front rest t may. tt)

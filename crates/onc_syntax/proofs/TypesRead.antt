@@ -8,7 +8,7 @@ use Rattle.syntax_kit.specs.Reading.{mark_is, word_is, word_in, begins_with, bot
 use Rattle.syntax_kit.specs.Grammar.{Text, word, mark, number, ◌&◌, one_of, maybe, when, IsGrammar, Leads, Any}
 use Rattle.syntax_kit.proofs.Grammars.{mapped_is, both_is, either_is, option_is}
 use Rattle.syntax_kit.proofs.Leaves.{id_reads, number_reads, word_reads, apart_word, apart_mark, leads_word, leads_mark, leads_number, is_number, leads_id, leads_either, begins_so, begins_not}
-use Rattle.syntax_kit.proofs.Productions.{weaker, led_is, leads_behind, leads_maybe, leads_when, flag_reads, words_are, leads_words, apart_words, apart_id, unit_right, unit_right_back, unit_left, unit_left_back, leads_by}
+use Rattle.syntax_kit.proofs.Productions.{weaker, led_is, leads_after, leads_maybe, leads_when, flag_reads, words_are, leads_words, apart_words, apart_id, unit_right, unit_right_back, unit_left, unit_left_back, leads_by}
 use Rattle.onc_syntax.specs.declared.tree.Value.{Value}
 use Rattle.onc_syntax.specs.declared.tree.Value.TheVariants as V
 use Rattle.onc_syntax.specs.declared.tree.IntWord.{IntWord}
@@ -150,4 +150,4 @@ type_is = mapped_is type_of type
     type_forth type_back
 
 pub leads_type : Leads type is_type
-leads_type = leads_by type_of type_back (leads_either (leads_behind (maybe int_word) (leads_word (codes "unsigned"))) leads_signed_type)
+leads_type = leads_by type_of type_back (leads_either (leads_after (maybe int_word) (leads_word (codes "unsigned"))) leads_signed_type)

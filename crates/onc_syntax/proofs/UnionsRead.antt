@@ -6,7 +6,7 @@ use Rattle.syntax_kit.specs.Reading.{mark_is, word_is, begins_with, both, option
 use Rattle.syntax_kit.specs.Grammar.{Text, some, word, mark, ◌&◌, one_of, maybe, IsGrammar, Leads, Any}
 use Rattle.syntax_kit.proofs.Grammars.{mapped_is, both_is, either_is, option_is}
 use Rattle.syntax_kit.proofs.Leaves.{word_reads, mark_reads, apart_word, leads_word, leads_mark, leads_id, leads_both, leads_either, begins_so, begins_not}
-use Rattle.syntax_kit.proofs.Productions.{weaker, behind_is, before_is, leads_behind, leads_maybe, apart_words, leads_by}
+use Rattle.syntax_kit.proofs.Productions.{weaker, after_is, before_is, leads_after, leads_maybe, apart_words, leads_by}
 use Rattle.syntax_kit.proofs.Lists.{while_is, some_is, leads_some}
 use Rattle.onc_syntax.specs.declared.tree.Decl.{Decl}
 use Rattle.onc_syntax.specs.declared.tree.Arm.{Arm}
@@ -50,11 +50,11 @@ label_is =
     mapped_is
     (λ v.
     record { value = v }) label
-    (behind_is (word_reads (codes "case")) (before_is value_is (mark_reads (codes ":")) (λ front rest p. tt))) (λ x ks s. s) (λ l ks s.
+    (after_is (word_reads (codes "case")) (before_is value_is (mark_reads (codes ":")) (λ front rest p. tt))) (λ x ks s. s) (λ l ks s.
     (l.value, refl, s))
 
 leads_label : Leads label (word_is (codes "case"))
-leads_label l ks s = leads_behind (λ v. value v & mark (codes ":")) (leads_word (codes "case")) l.value ks s
+leads_label l ks s = leads_after (λ v. value v & mark (codes ":")) (leads_word (codes "case")) l.value ks s
 
 abbrev arm_ended : Arm → Text
 arm_ended a = arm a & mark (codes ";")
@@ -75,10 +75,10 @@ leads_case c ks s = leads_both arm_ended (leads_some leads_label) (c.labels, c.a
 default_is : IsGrammar default_at default Any
 unfolding default_at
 default_is =
-    behind_is (word_reads (codes "default")) (behind_is (mark_reads (codes ":")) (before_is arm_is (mark_reads (codes ";")) decl_stops))
+    after_is (word_reads (codes "default")) (after_is (mark_reads (codes ":")) (before_is arm_is (mark_reads (codes ";")) decl_stops))
 
 leads_default : Leads default (word_is (codes "default"))
-leads_default = leads_behind (λ a. mark (codes ":") & arm a & mark (codes ";")) (leads_word (codes "default"))
+leads_default = leads_after (λ a. mark (codes ":") & arm a & mark (codes ";")) (leads_word (codes "default"))
 
 abbrev cases_text : List Case × Option Arm → Text
 cases_text x = some case x.0 & (maybe default x.1 & mark (codes "}"))
@@ -108,8 +108,8 @@ union_text u = name u.name & (word (codes "switch") & (mark (codes "(") & (type 
 pub union_is : IsGrammar union_at union_text Any
 unfolding union_at
 union_is = mapped_is union_of union_text
-    (both_is is_name_grammar (behind_is (word_reads (codes "switch")) (behind_is (mark_reads (codes "("))
-    (both_is type_is (both_is is_name_grammar (behind_is (mark_reads (codes ")")) (behind_is (mark_reads (codes "{")) cases_is))
+    (both_is is_name_grammar (after_is (word_reads (codes "switch")) (after_is (mark_reads (codes "("))
+    (both_is type_is (both_is is_name_grammar (after_is (mark_reads (codes ")")) (after_is (mark_reads (codes "{")) cases_is))
     (λ b front rest t may. tt))
     (λ x front rest s may.
     begins_not is_int
@@ -121,4 +121,4 @@ union_is = mapped_is union_of union_text
     (λ x ks s. s) (λ u ks s. ((u.name, (u.tag, (u.tag_name, (u.cases, u.default)))), refl, s))
 
 pub leads_union : Leads (λ x. word (codes "union") & union_text x) (word_is (codes "union"))
-leads_union = leads_behind union_text (leads_word (codes "union"))
+leads_union = leads_after union_text (leads_word (codes "union"))

@@ -2,7 +2,7 @@
 use Rattle.std.specs.Prelude.{Bool, true, false, ◌⊎◌, ℕ, ℤ, List, [], ◌∷◌, Option, Some, None, codes}
 use Rattle.std.proofs.Common.{inl, inr}
 use Rattle.idl_lex.specs.declared.kinds.TokenKind.{TokenKind}
-use Rattle.syntax_kit.specs.Reading.{Reader, word_is, mark_is, word_at, mark_at, number_at, id_at, token_at, flag_at, is_id, word_in, has_word, begins_with, begins_other, both, mapped, either, option, behind, before, joined_at, until_at, while_at, some_at}
+use Rattle.syntax_kit.specs.Reading.{Reader, word_is, mark_is, word_at, mark_at, number_at, id_at, token_at, flag_at, is_id, word_in, has_word, begins_with, begins_other, both, mapped, either, option, after, before, joined_at, until_at, while_at, some_at}
 use Rattle.onc_syntax.specs.Words.{onc_words}
 use Rattle.onc_syntax.specs.declared.tree.Value.{Value}
 use Rattle.onc_syntax.specs.declared.tree.Value.TheVariants as V
@@ -92,7 +92,7 @@ type_of (inr (inr (inr x))) = T.Named x.0 x.1
 -- a type
 unfoldable pub type_at : Reader Ty
 type_at = mapped type_of (
-    either (begins_with (word_is (codes "unsigned"))) (behind (word_at (codes "unsigned")) (option (begins_with is_int) int_at))
+    either (begins_with (word_is (codes "unsigned"))) (after (word_at (codes "unsigned")) (option (begins_with is_int) int_at))
     (either (begins_with is_int) int_at
     (either (begins_with (word_is (codes "bool"))) (word_at (codes "bool"))
     (both (option (begins_with is_prefix) prefix_at) name_at))))
@@ -101,7 +101,7 @@ type_at = mapped type_of (
 
 -- a number of elements
 unfoldable pub exactly_at : Reader Value
-exactly_at = behind (mark_at (codes "[")) (before value_at (mark_at (codes "]")))
+exactly_at = after (mark_at (codes "[")) (before value_at (mark_at (codes "]")))
 
 -- whether a token is `>`
 abbrev pub is_close : TokenKind → Bool
@@ -109,7 +109,7 @@ is_close = mark_is (codes ">")
 
 -- a greatest number of elements
 unfoldable pub at_most_at : Reader (Option Value)
-at_most_at = behind (mark_at (codes "<")) (before (option (begins_other is_close) value_at) (mark_at (codes ">")))
+at_most_at = after (mark_at (codes "<")) (before (option (begins_other is_close) value_at) (mark_at (codes ">")))
 
 -- a declaration by its forms: opaque, string, or with a type
 abbrev pub decl_of : (List ℕ × (Value ⊎ Option Value)) ⊎ (List ℕ × Option Value)
@@ -127,9 +127,9 @@ decl_of (inr (inr (t, inr (n, inr (Some v))))) = D.List t n v
 unfoldable pub decl_at : Reader Decl
 decl_at = mapped decl_of (
     either (begins_with (word_is (codes "opaque")))
-    (behind (word_at (codes "opaque")) (both name_at (either (begins_with (mark_is (codes "["))) exactly_at at_most_at)))
-    (either (begins_with (word_is (codes "string"))) (behind (word_at (codes "string")) (both name_at at_most_at))
-    (both type_at (either (begins_with (mark_is (codes "*"))) (behind (mark_at (codes "*")) name_at)
+    (after (word_at (codes "opaque")) (both name_at (either (begins_with (mark_is (codes "["))) exactly_at at_most_at)))
+    (either (begins_with (word_is (codes "string"))) (after (word_at (codes "string")) (both name_at at_most_at))
+    (both type_at (either (begins_with (mark_is (codes "*"))) (after (mark_at (codes "*")) name_at)
     (both name_at (either (begins_with (mark_is (codes "["))) exactly_at
     (option (begins_with (mark_is (codes "<"))) at_most_at)))))))
 
@@ -141,7 +141,7 @@ item_of x = record { name = x.0; value = x.1 }
 
 -- an item
 unfoldable pub item_at : Reader Item
-item_at = mapped item_of (both name_at (option (begins_with (mark_is (codes "="))) (behind (mark_at (codes "=")) value_at)))
+item_at = mapped item_of (both name_at (option (begins_with (mark_is (codes "="))) (after (mark_at (codes "=")) value_at)))
 
 -- ---- members and cases
 
@@ -160,7 +160,7 @@ arm_at = mapped arm_of (either (begins_with (word_is (codes "void"))) (word_at (
 
 -- a label
 unfoldable pub label_at : Reader Label
-label_at = mapped (λ v. record { value = v }) (behind (word_at (codes "case")) (before value_at (mark_at (codes ":"))))
+label_at = mapped (λ v. record { value = v }) (after (word_at (codes "case")) (before value_at (mark_at (codes ":"))))
 
 -- a case
 unfoldable pub case_at : Reader Case
@@ -169,7 +169,7 @@ case_at = mapped (λ x. record { labels = x.0; arm = x.1 })
 
 -- a default
 unfoldable pub default_at : Reader Arm
-default_at = behind (word_at (codes "default")) (behind (mark_at (codes ":")) (before arm_at (mark_at (codes ";"))))
+default_at = after (word_at (codes "default")) (after (mark_at (codes ":")) (before arm_at (mark_at (codes ";"))))
 
 -- ---- programs
 
@@ -191,9 +191,9 @@ procedure_of x = record { result = x.0; name = x.1.0; parameters = x.1.1.0; numb
 
 -- a procedure
 unfoldable pub procedure_at : Reader Procedure
-procedure_at = mapped procedure_of (both proc_type_at (both name_at (behind (mark_at (codes "("))
+procedure_at = mapped procedure_of (both proc_type_at (both name_at (after (mark_at (codes "("))
     (both (joined_at (codes ",") proc_type_at)
-    (behind (mark_at (codes ")")) (behind (mark_at (codes "=")) (before value_at (mark_at (codes ";")))))))))
+    (after (mark_at (codes ")")) (after (mark_at (codes "=")) (before value_at (mark_at (codes ";")))))))))
 
 -- a version by its parts
 abbrev pub version_of : List ℕ × (List Procedure × Value) → Version
@@ -201,28 +201,28 @@ version_of x = record { name = x.0; procedures = x.1.0; number = x.1.1 }
 
 -- a version
 unfoldable pub version_at : Reader Version
-version_at = mapped version_of (behind (word_at (codes "version"))
-    (both name_at (behind (mark_at (codes "{")) (both (some_at (until_at (codes "}") procedure_at))
-    (behind (mark_at (codes "}")) (behind (mark_at (codes "=")) (before value_at (mark_at (codes ";")))))))))
+version_at = mapped version_of (after (word_at (codes "version"))
+    (both name_at (after (mark_at (codes "{")) (both (some_at (until_at (codes "}") procedure_at))
+    (after (mark_at (codes "}")) (after (mark_at (codes "=")) (before value_at (mark_at (codes ";")))))))))
 
 -- ---- definitions
 
 -- a constant, after its word
 unfoldable pub const_at : Reader (List ℕ × Value)
-const_at = both name_at (behind (mark_at (codes "=")) value_at)
+const_at = both name_at (after (mark_at (codes "=")) value_at)
 
 -- a program, after its word
 unfoldable pub program_at : Reader (List ℕ × (List Version × Value))
-program_at = both name_at (behind (mark_at (codes "{"))
-    (both (some_at (until_at (codes "}") version_at)) (behind (mark_at (codes "}")) (behind (mark_at (codes "=")) value_at))))
+program_at = both name_at (after (mark_at (codes "{"))
+    (both (some_at (until_at (codes "}") version_at)) (after (mark_at (codes "}")) (after (mark_at (codes "=")) value_at))))
 
 -- an enum, after its word
 unfoldable pub enum_at : Reader (List ℕ × List Item)
-enum_at = both name_at (behind (mark_at (codes "{")) (before (joined_at (codes ",") item_at) (mark_at (codes "}"))))
+enum_at = both name_at (after (mark_at (codes "{")) (before (joined_at (codes ",") item_at) (mark_at (codes "}"))))
 
 -- a struct, after its word
 unfoldable pub struct_at : Reader (List ℕ × List Member)
-struct_at = both name_at (behind (mark_at (codes "{")) (before (some_at (until_at (codes "}") member_at)) (mark_at (codes "}"))))
+struct_at = both name_at (after (mark_at (codes "{")) (before (some_at (until_at (codes "}") member_at)) (mark_at (codes "}"))))
 
 -- a union by its parts
 abbrev pub union_of : List ℕ × (Ty × (List ℕ × (List Case × Option Arm))) → UnionDef
@@ -230,8 +230,8 @@ union_of x = record { name = x.0; tag = x.1.0; tag_name = x.1.1.0; cases = x.1.1
 
 -- a union, after its word
 unfoldable pub union_at : Reader UnionDef
-union_at = mapped union_of (both name_at (behind (word_at (codes "switch")) (behind (mark_at (codes "(")) (both type_at
-    (both name_at (behind (mark_at (codes ")")) (behind (mark_at (codes "{")) (both (some_at (while_at (codes "case") case_at))
+union_at = mapped union_of (both name_at (after (word_at (codes "switch")) (after (mark_at (codes "(")) (both type_at
+    (both name_at (after (mark_at (codes ")")) (after (mark_at (codes "{")) (both (some_at (while_at (codes "case") case_at))
     (before (option (begins_with (word_is (codes "default"))) default_at) (mark_at (codes "}")))))))))))
 
 -- a definition by its six forms
@@ -248,12 +248,12 @@ def_of (inr (inr (inr (inr (inr u))))) = F.Union u
 -- a definition
 unfoldable pub def_at : Reader Def
 def_at = mapped def_of (
-    either (begins_with (word_is (codes "typedef"))) (behind (word_at (codes "typedef")) decl_at)
-    (either (begins_with (word_is (codes "const"))) (behind (word_at (codes "const")) const_at)
-    (either (begins_with (word_is (codes "program"))) (behind (word_at (codes "program")) program_at)
-    (either (begins_with (word_is (codes "enum"))) (behind (word_at (codes "enum")) enum_at)
-    (either (begins_with (word_is (codes "struct"))) (behind (word_at (codes "struct")) struct_at)
-    (behind (word_at (codes "union")) union_at))))))
+    either (begins_with (word_is (codes "typedef"))) (after (word_at (codes "typedef")) decl_at)
+    (either (begins_with (word_is (codes "const"))) (after (word_at (codes "const")) const_at)
+    (either (begins_with (word_is (codes "program"))) (after (word_at (codes "program")) program_at)
+    (either (begins_with (word_is (codes "enum"))) (after (word_at (codes "enum")) enum_at)
+    (either (begins_with (word_is (codes "struct"))) (after (word_at (codes "struct")) struct_at)
+    (after (word_at (codes "union")) union_at))))))
 
 -- a definition and its end
 unfoldable pub ended_at : Reader Def

@@ -6,7 +6,7 @@ use Rattle.mint.specs.Values.{Val}
 use Rattle.wire_def.specs.declared.head.Head.{Head}
 use Rattle.wire_def.specs.Scalars.{gap}
 use Rattle.raw_buf.specs.Buf.{in_order}
-use Rattle.raw_buf.proofs.Views.{written-behind}
+use Rattle.raw_buf.proofs.Views.{written-after}
 use Rattle.cast_stub.specs.Block.{Block, stop, chunk}
 use Rattle.cast_stub.specs.Framed.{lead_length}
 use Rattle.cast_stub.specs.Meaning.{wrote}
@@ -38,23 +38,23 @@ closed_patch false y z f r d e h = absurd cc
 over : (q o x : List ℕ) (at : ℕ) → length q ≤ at → written (q ++ o) (at - 0) x ≡ q ++ written o (at - length q) x
 over q o x at h =
     let e : at - 0 ≡ length q + (at - length q) = omega (arith, h) in
-    ap (λ (k : ℕ). written (q ++ o) k x) e ∙ written-behind q o x (at - length q)
+    ap (λ (k : ℕ). written (q ++ o) k x) e ∙ written-after q o x (at - length q)
 
 grouped : (q o x : List ℕ) (ss : List Step) (r : List ℕ) → wrote 0 (q ++ (o ++ x)) ss ≡ Some r → wrote 0 ((q ++ o) ++ x) ss ≡ Some r
 grouped q o x ss r h = ap (λ (y : List ℕ). wrote 0 y ss) (append_assoc q o x) ∙ h
 
 -- what steps write after octets, they write also where these stand in a message
-pub behind : (q : List ℕ) (ss : List Step) (o r : List ℕ) → wrote (length q) o ss ≡ Some r → wrote 0 (q ++ o) ss ≡ Some (q ++ r)
-behind q [] o r e = ap (λ (x : List ℕ). Some (q ++ x)) (some_same o r e)
-behind q (Room n ∷ ss) o r e = behind q ss o r e
-behind q (Pad a ∷ ss) o r e =
+pub after : (q : List ℕ) (ss : List Step) (o r : List ℕ) → wrote (length q) o ss ≡ Some r → wrote 0 (q ++ o) ss ≡ Some (q ++ r)
+after q [] o r e = ap (λ (x : List ℕ). Some (q ++ x)) (some_same o r e)
+after q (Room n ∷ ss) o r e = after q ss o r e
+after q (Pad a ∷ ss) o r e =
     let far : 0 + length (q ++ o) ≡ length q + length o = omega (arith, length-append q o) in
     let zeros : List ℕ = replicate (gap (length q + length o) a) 0 in
-    ap (λ (n : ℕ). wrote 0 ((q ++ o) ++ replicate (gap n a) 0) ss) far ∙ grouped q o zeros ss (q ++ r) (behind q ss (o ++ zeros) r e)
-behind q (Stored os k ∷ ss) o r e = grouped q o os ss (q ++ r) (behind q ss (o ++ os) r e)
-behind q (Widened os k ∷ ss) o r e = grouped q o os ss (q ++ r) (behind q ss (o ++ os) r e)
-behind q (Copied os ∷ ss) o r e = grouped q o os ss (q ++ r) (behind q ss (o ++ os) r e)
-behind q (Patched at sub order ∷ ss) o r e =
+    ap (λ (n : ℕ). wrote 0 ((q ++ o) ++ replicate (gap n a) 0) ss) far ∙ grouped q o zeros ss (q ++ r) (after q ss (o ++ zeros) r e)
+after q (Stored os k ∷ ss) o r e = grouped q o os ss (q ++ r) (after q ss (o ++ os) r e)
+after q (Widened os k ∷ ss) o r e = grouped q o os ss (q ++ r) (after q ss (o ++ os) r e)
+after q (Copied os ∷ ss) o r e = grouped q o os ss (q ++ r) (after q ss (o ++ os) r e)
+after q (Patched at sub order ∷ ss) o r e =
     let x = in_order order 4 ((length q + length o + 2 ^ 32 - sub) % 2 ^ 32) in
     let far : 0 + length (q ++ o) ≡ length q + length o = omega (arith, length-append q o) in
     let w = opened_patch (nat_le (length q) at) (nat_le (at + 4) (length q + length o)) (written o (at - length q) x)
@@ -66,7 +66,7 @@ behind q (Patched at sub order ∷ ss) o r e =
     ∙ closed_patch (nat_le 0 at) (nat_le (at + 4) (length q + length o)) (written (q ++ o) (at - 0) x) (λ (a : List ℕ). wrote 0 a ss)
     (q ++ r)
     (le-leb 0 at (omega arith)) (le-leb (at + 4) (length q + length o) high)
-    (ap (λ (z : List ℕ). wrote 0 z ss) (over q o x at low) ∙ behind q ss (written o (at - length q) x) r w.2)
+    (ap (λ (z : List ℕ). wrote 0 z ss) (over q o x at low) ∙ after q ss (written o (at - length q) x) r w.2)
 
 -- ---- chunks
 

@@ -38,7 +38,7 @@ use Rattle.hoist.specs.Pass.{IsGiven}
 use Rattle.op_codes.specs.Backs.{encoding, tail}
 use Rattle.op_codes.specs.Messages.{framed}
 use Rattle.op_codes.specs.Sending.{AreHeads, IsWhole}
-use Rattle.op_codes.proofs.Following.{behind, chunks-length, chunks-steps, chunks-append}
+use Rattle.op_codes.proofs.Following.{after, chunks-length, chunks-steps, chunks-append}
 use Rattle.op_codes.proofs.Stated.{tail_steps, tail_runs, states}
 
 -- ---- steps after others
@@ -138,7 +138,7 @@ module _ (k : Back) (nodes : List Node) (id : ℕ) (subs : List (List SendOp)) (
         let b = body_steps h v typed in
         let s = send (encoding k) (type_at nodes id) (length (o h)) v in
         let long : 12 ≤ length (o h ++ s) = omega (arith, heads.long h, length-append (o h) s) in
-        let body_written : wrote 0 (o h) b.0 ≡ Some (o h ++ s) = ap (λ (q : List ℕ). wrote 0 q b.0) (sym (append-nil (o h))) ∙ behind
+        let body_written : wrote 0 (o h) b.0 ≡ Some (o h ++ s) = ap (λ (q : List ℕ). wrote 0 q b.0) (sym (append-nil (o h))) ∙ after
         (o h) b.0 [] s b.2 in
         let all : steps c h (code_seen given.ops) v ≡ Some (l.0 ++ (b.0 ++ tail_steps k)) =
         ap (λ (x : Block). steps c h x v) r.whole.ops

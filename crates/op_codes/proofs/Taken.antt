@@ -63,11 +63,11 @@ laid_placed Big n = tt
 laid_placed Little n = tt
 
 cdr_taken : (k : Back) → ((r : Order) → Takes k (laid r)) → (b : Binding) (o : List ℕ) (c : Called) → cdr_seeking.Calls b o c → IsTaken k c
-cdr_taken k takes b o c (told, begins, same) =
-    let lies : laid told.head.order ≡ c.encoding = ap (λ (t : Called). t.encoding) same in (
-      subst (λ (e : Encoding). Takes k e) lies (takes told.head.order),
+cdr_taken k takes b o c (reported, begins, same) =
+    let lies : laid reported.head.order ≡ c.encoding = ap (λ (t : Called). t.encoding) same in (
+      subst (λ (e : Encoding). Takes k e) lies (takes reported.head.order),
       subst (λ (e : Encoding). IsPlace e c.used) lies
-          (laid_placed told.head.order c.used),
+          (laid_placed reported.head.order c.used),
     )
 
 -- ---- Mach

@@ -64,5 +64,6 @@ abbrev pub IsGivenBy : List Stub → ℕ → Ty → Got → View → View → Ty
 IsGivenBy stubs op t got old new = (s : Stub) → slice_get stubs op ≡ Some s → IsGot got new (got_by s.recv t (place_of old))
 
 -- it gives this value, at the place and after the tests where a view then is
-abbrev pub IsToldBy : List Stub → ℕ → Ty → Val → View → View → Type 0
-IsToldBy stubs op t v old new = (s : Stub) → slice_get stubs op ≡ Some s → got_by s.recv t (place_of old) ≡ stub.given v new.pos new.tests
+abbrev pub IsReportedBy : List Stub → ℕ → Ty → Val → View → View → Type 0
+IsReportedBy stubs op t v old new = (s : Stub) → slice_get stubs op ≡ Some s
+    → got_by s.recv t (place_of old) ≡ stub.given v new.pos new.tests

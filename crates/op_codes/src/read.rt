@@ -9,7 +9,7 @@ ghost use Rattle.wire_def.specs.Stops.{Stops};
 ghost use Rattle.plain_wire.specs.Answered.{FirstSpell, IsStop, IsValue};
 ghost use Rattle.op_codes.specs.Backs.{encoding, Takes};
 ghost use Rattle.op_codes.specs.Messages.{request_type};
-ghost use Rattle.op_codes.specs.Stubs.{IsToldBy};
+ghost use Rattle.op_codes.specs.Stubs.{IsReportedBy};
 
 use crate::codes::Codes;
 use crate::compile::request_of;
@@ -46,9 +46,9 @@ impl Codes {
         // Where the view then is.
         ensures passed { IfOk result (λ r. (v : Val) (used : ℕ) → IsValue r v used
             → view.new.pos ≡ view.old.pos + used) }
-        ensures told { (enc ≡ encoding self.now.binding.back)
+        ensures reported { (enc ≡ encoding self.now.binding.back)
             → IfOk result (λ r. (v : Val) (used : ℕ) → IsValue r v used
-            → IsToldBy self.now.stubs op (request_type self.now.binding op) v view.old view.new) }
+            → IsReportedBy self.now.stubs op (request_type self.now.binding op) v view.old view.new) }
         ensures octets { view.new.octets ≡ view.old.octets }
     {
         let at = view.pos();

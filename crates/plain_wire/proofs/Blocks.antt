@@ -34,12 +34,12 @@ abbrev is_zero : ℕ → Bool
 is_zero b = b == 0
 
 -- one more letter, as the next octet is 0 or not
-zero_here : (t : Bool) (b p m l : ℕ) (o : List ℕ) (behind : Reader FaultKind (List ℤ)) → cond (not t) (1 + m) 0 < suc l
-    → (m < l → behind (p + 1) o ≡ stop BadText (p + 1 + m))
-    → then_on (cond (not t) (got (pos b) (p + 1) o) (stop BadText p)) (λ x q rest. map_got (λ xs. x ∷ xs) (behind q rest))
+zero_here : (t : Bool) (b p m l : ℕ) (o : List ℕ) (after : Reader FaultKind (List ℤ)) → cond (not t) (1 + m) 0 < suc l
+    → (m < l → after (p + 1) o ≡ stop BadText (p + 1 + m))
+    → then_on (cond (not t) (got (pos b) (p + 1) o) (stop BadText p)) (λ x q rest. map_got (λ xs. x ∷ xs) (after q rest))
     ≡ stop BadText (p + cond (not t) (1 + m) 0)
-zero_here true b p m l o behind h more = rw add-zero refl
-zero_here false b p m l o behind h more = rw (more (omega arith)) (ap (λ (n : ℕ). stop BadText n) (omega arith))
+zero_here true b p m l o after h more = rw add-zero refl
+zero_here false b p m l o after h more = rw (more (omega arith)) (ap (λ (n : ℕ). stop BadText n) (omega arith))
 
 zero_stops : (n p : ℕ) (o : List ℕ) → position_or_len is_zero (take n o) < length (take n o)
     → times any_letter n p o ≡ stop BadText (p + position_or_len is_zero (take n o))
@@ -50,12 +50,12 @@ zero_stops (suc n) p (b ∷ o) h =
     rw not_zero (zero_here (b == 0) b p (position_or_len is_zero (take n o)) (length (take n o)) o (times any_letter n) h
     (λ k. zero_stops n (p + 1) o k))
 
-none_here : (t : Bool) (b p m l : ℕ) (o : List ℕ) (behind : Reader FaultKind (List ℤ)) (same : Reading FaultKind (List ℤ))
-    → suc l ≤ cond (not t) (1 + m) 0 → (l ≤ m → behind (p + 1) o ≡ same)
-    → then_on (cond (not t) (got (pos b) (p + 1) o) (stop BadText p)) (λ x q rest. map_got (λ xs. x ∷ xs) (behind q rest))
+none_here : (t : Bool) (b p m l : ℕ) (o : List ℕ) (after : Reader FaultKind (List ℤ)) (same : Reading FaultKind (List ℤ))
+    → suc l ≤ cond (not t) (1 + m) 0 → (l ≤ m → after (p + 1) o ≡ same)
+    → then_on (cond (not t) (got (pos b) (p + 1) o) (stop BadText p)) (λ x q rest. map_got (λ xs. x ∷ xs) (after q rest))
     ≡ map_got (λ xs. pos b ∷ xs) same
-none_here true b p m l o behind same h more = absurd (omega arith)
-none_here false b p m l o behind same h more = rw (more (omega arith)) refl
+none_here true b p m l o after same h more = absurd (omega arith)
+none_here false b p m l o after same h more = rw (more (omega arith)) refl
 
 no_zero : (n p : ℕ) (o : List ℕ) → length (take n o) ≤ position_or_len is_zero (take n o) → times any_letter n p o ≡ times any_octet n p o
 unfolding read_octet

@@ -30,8 +30,8 @@ use Rattle.plain_wire.specs.Readers.{any_octet, lists, read_armed}
 use Rattle.wire_def.specs.Scalars.{read_scalar, scalar_place}
 
 -- what was read before, and what is still read
-abbrev pub with_front : {A : Type 0} → List A → Reading FaultKind (List A) → Reading FaultKind (List A)
-with_front front reading = map_got (λ xs. front ++ xs) reading
+abbrev pub with_prefix : {A : Type 0} → List A → Reading FaultKind (List A) → Reading FaultKind (List A)
+with_prefix front reading = map_got (λ xs. front ++ xs) reading
 
 pub times_octets : (e : Encoding) (k : Kind) (c : Count) (n p : ℕ) (o : List ℕ) → k ≡ kind.Octet
     → times (read_element e (row_of k c)) n p o ≡ times any_octet n p o
@@ -60,8 +60,8 @@ zeros_more fault zero p o x q rest h e is = absurd (omega arith)
 zeros_more fault (suc n) p [] x q rest h e is = absurd cc
 zeros_more fault (suc n) p (zero ∷ o) x q rest h e is =
     let there : p + 1 ≡ q = cc in
-    let behind : o ≡ rest = cc in
-    rw (sub-one, there, behind) refl
+    let after : o ≡ rest = cc in
+    rw (sub-one, there, after) refl
 zeros_more fault (suc n) p (suc b ∷ o) x q rest h e is = absurd cc
 
 pub zeros_bad : (fault : FaultKind) (n p : ℕ) (o : List ℕ) (x : ℤ) (q : ℕ) (rest : List ℕ) → 0 < n
@@ -89,16 +89,16 @@ pub ruleset pads = (no_zeros, zeros_more, zeros_bad, zeros_stop)
 
 module _ {A : Type 0} (r : Reader FaultKind A) (front : List A) where
   pub front_got : (k p : ℕ) (o : List ℕ) (x : A) (q : ℕ) (rest : List ℕ) → r p o ≡ got x q rest
-      → with_front front (times r (suc k) p o) ≡ with_front (front ++ x ∷ []) (times r k q rest)
+      → with_prefix front (times r (suc k) p o) ≡ with_prefix (front ++ x ∷ []) (times r k q rest)
   front_got k p o x q rest is = rw is (same (times r k q rest)) where
-    same : (t : Reading FaultKind (List A)) → with_front front (map_got (λ xs. x ∷ xs) t) ≡ with_front (front ++ x ∷ []) t
+    same : (t : Reading FaultKind (List A)) → with_prefix front (map_got (λ xs. x ∷ xs) t) ≡ with_prefix (front ++ x ∷ []) t
     same (got xs m b) = ap (λ z. got z m b) (sym (append_assoc front (x ∷ []) xs))
     same (stop k' at) = refl
 
-  pub front_stop : (k p : ℕ) (o : List ℕ) (f : FaultKind) (at : ℕ) → r p o ≡ stop f at → with_front front (times r (suc k) p o) ≡ stop f at
+  pub front_stop : (k p : ℕ) (o : List ℕ) (f : FaultKind) (at : ℕ) → r p o ≡ stop f at → with_prefix front (times r (suc k) p o) ≡ stop f at
   front_stop k p o f at is = rw is refl
 
-  pub front_none : (p : ℕ) (o : List ℕ) → with_front front (times r 0 p o) ≡ got front p o
+  pub front_none : (p : ℕ) (o : List ℕ) → with_prefix front (times r 0 p o) ≡ got front p o
   front_none p o = ap (λ z. got z p o) (append-nil front)
 
 module _ (e : Encoding) (front : Vals) (t : Ty) (ts : Tys) (p : ℕ) (o : List ℕ) where
@@ -119,7 +119,7 @@ module _ (e : Encoding) (front : Vals) (t : Ty) (ts : Tys) (p : ℕ) (o : List �
 -- one more of n
 pub front_next : {A : Type 0} (r : Reader FaultKind A) (front : List A) (k j p : ℕ) (o : List ℕ) (x : A) (q : ℕ) (rest : List ℕ)
     → k ≡ suc j → r p o ≡ got x q rest
-    → with_front front (times r k p o) ≡ with_front (front ++ x ∷ []) (times r j q rest)
+    → with_prefix front (times r k p o) ≡ with_prefix (front ++ x ∷ []) (times r j q rest)
 front_next r front k j p o x q rest more is = rw more (front_got r front j p o x q rest is)
 
 pub map-push : (xs : List Value) (x : Value) → map seen (xs ++ x ∷ []) ≡ map seen xs ++ seen x ∷ []

@@ -17,7 +17,7 @@ use Rattle.wire_def.specs.Arrays.{elements_octets}
 use Rattle.wire_def.proofs.Words.{IsOwn, is8, is16, is32, is64, own_of, wide}
 use Rattle.plain_wire.specs.Readers.{read_gap, read_here}
 use Rattle.plain_wire.specs.Rows.{bare_octets, numbers_octets, first_gap}
-use Rattle.plain_wire.proofs.Words.{word_here, gap_got, scalar_behind}
+use Rattle.plain_wire.proofs.Words.{word_here, gap_got, scalar_after}
 
 -- ---- positions
 
@@ -37,12 +37,12 @@ reached _ is32 p = omega arith
 reached _ is64 p = omega arith
 
 -- the position after an aligned number is aligned
-behind_aligned : (e : Encoding) (s : Scalar) (p : ℕ) → gap p (alignment_of e s) ≡ 0
+after_aligned : (e : Encoding) (s : Scalar) (p : ℕ) → gap p (alignment_of e s) ≡ 0
     → gap (p + byte_len (width_of e s)) (alignment_of e s) ≡ 0
-behind_aligned Xdr s p h = alone (p + byte_len (width_of Xdr s))
-behind_aligned CdrBig s p h = turned (own_width s) (own_of CdrBig s) p h
-behind_aligned CdrLittle s p h = turned (own_width s) (own_of CdrLittle s) p h
-behind_aligned Mach s p h = alone (p + byte_len (width_of Mach s))
+after_aligned Xdr s p h = alone (p + byte_len (width_of Xdr s))
+after_aligned CdrBig s p h = turned (own_width s) (own_of CdrBig s) p h
+after_aligned CdrLittle s p h = turned (own_width s) (own_of CdrLittle s) p h
+after_aligned Mach s p h = alone (p + byte_len (width_of Mach s))
 
 -- the position after a gap is aligned
 gap_aligned : (e : Encoding) (s : Scalar) (p : ℕ) → gap (p + gap p (alignment_of e s)) (alignment_of e s) ≡ 0
@@ -62,7 +62,7 @@ aligned_elements : (e : Encoding) (k : Kind) (p : ℕ) (ns : List ℤ) → gap p
 unfolding elements_octets scalar_octets bare_octets
 aligned_elements e k p [] h = refl
 aligned_elements e k p (n ∷ ns) h =
-    let rest = aligned_elements e k (p + byte_len (width_of e (number k))) ns (behind_aligned e (number k) p h) in
+    let rest = aligned_elements e k (p + byte_len (width_of e (number k))) ns (after_aligned e (number k) p h) in
     rw (h, bare_long e k n, rest) refl
 
 -- the elements of a row are one gap and its numbers
@@ -78,7 +78,7 @@ row_gapped e k p (n ∷ ns) =
     let there : p + g + w ≡ p + (g + w) = omega arith in
     let aligned : gap (p + (g + w)) (alignment_of e (number k))
     ≡ 0 =
-    subst (λ q. gap q (alignment_of e (number k)) ≡ 0) there (behind_aligned e (number k) (p + g) (gap_aligned e (number k) p)) in
+    subst (λ q. gap q (alignment_of e (number k)) ≡ 0) there (after_aligned e (number k) (p + g) (gap_aligned e (number k) p)) in
     ap (λ q. (replicate g 0 ++ bare_octets e k n) ++ elements_octets (scalar_octets e (number k)) (p + q) ns) long
     ∙ ap (λ z. (replicate g 0 ++ bare_octets e k n) ++ z) (aligned_elements e k (p + (g + w)) ns aligned)
     ∙ append_assoc (replicate g 0) (bare_octets e k n) (numbers_octets e k ns)
@@ -92,7 +92,7 @@ gap_none p o = rw (le-ltb (length o) 0 (omega arith), add-zero) refl
 module _ (e : Encoding) (s : Scalar) where
   -- where a number begins there is no gap
   here_aligned : (p : ℕ) (o : List ℕ) → gap p (alignment_of e s) ≡ 0 → read_scalar e s p o ≡ read_here e s p o
-  here_aligned p o h = scalar_behind e s p o
+  here_aligned p o h = scalar_after e s p o
       ∙ ap (λ g. then_on (read_gap g p o) (λ x q b. read_here e s q b)) h ∙ ap (λ r.
       then_on r (λ x q b. read_here e s q b)) (gap_none p o)
 
@@ -124,31 +124,31 @@ module _ (e : Encoding) (s : Scalar) where
         → then_on r (λ x q rest. map_got (λ xs. x ∷ xs) (times (read_scalar e s) n q rest)) ≡ then_on r (λ x q rest.
         map_got (λ xs. x ∷ xs) (times (read_here e s) n q rest))
     more rest (got x q b) is =
-        let aligned = rw (← here_place p o x q b is) at (behind_aligned e s p h) in
+        let aligned = rw (← here_place p o x q b is) at (after_aligned e s p h) in
         ap (λ z. map_got (λ xs. x ∷ xs) z) (rest q b aligned)
     more rest (stop k at) is = refl
 
   -- so many numbers, where there is one at least
-  some_behind : (n p : ℕ) (o : List ℕ)
+  some_after : (n p : ℕ) (o : List ℕ)
       → times (read_scalar e s) (suc n) p o ≡ then_on (read_gap (gap p (alignment_of e s)) p o) (λ x q b. times (read_here e s) (suc n) q b)
-  some_behind n p o = rw (scalar_behind e s p o) (behind (read_gap (gap p (alignment_of e s)) p o) refl) where
+  some_after n p o = rw (scalar_after e s p o) (after (read_gap (gap p (alignment_of e s)) p o) refl) where
     rest : Reading FaultKind ℤ → Reading FaultKind (List ℤ)
     rest r = then_on r (λ x q b. map_got (λ xs. x ∷ xs) (times (read_scalar e s) n q b))
 
-    behind : (r : Reading FaultKind (Unit {0})) → read_gap (gap p (alignment_of e s)) p o ≡ r
+    after : (r : Reading FaultKind (Unit {0})) → read_gap (gap p (alignment_of e s)) p o ≡ r
         → rest (then_on r (λ x q b. read_here e s q b)) ≡ then_on r (λ x q b. times (read_here e s) (suc n) q b)
-    behind (got x q b) is =
+    after (got x q b) is =
         let there = gap_got (gap p (alignment_of e s)) p o x q b is in
         let aligned = rw (← there) at (gap_aligned e s p) in
         ap rest (sym (here_aligned q b aligned)) ∙ times_aligned (suc n) q b aligned
-    behind (stop k at) is = refl
+    after (stop k at) is = refl
 
 -- the elements of a row are read after one gap
-pub row_behind : (e : Encoding) (k : Kind) (n p : ℕ) (o : List ℕ)
+pub row_after : (e : Encoding) (k : Kind) (n p : ℕ) (o : List ℕ)
     → times (read_scalar e (number k)) n p o ≡ then_on (read_gap (first_gap e k p n) p o) (λ x q b. times (read_here e (number k)) n q b)
-row_behind e k zero p o = rw gap_none refl
-row_behind e k (suc n) p o = some_behind e (number k) n p o
+row_after e k zero p o = rw gap_none refl
+row_after e k (suc n) p o = some_after e (number k) n p o
 
-pub ruleset reads = (row_behind)
+pub ruleset reads = (row_after)
 
 pub ruleset gapped = (row_gapped, length-replicate)

@@ -63,8 +63,8 @@ module _ (r : Reader FaultKind ℤ) (value : List ℕ → ℤ) (w : ℕ) (some :
         let there : ltb (length o) w ≡ false = le-ltb _ _ (omega (arith, long)) in
         let rest : n * w ≤ length (drop w o) = omega (arith, long, length-drop w o) in
         let place : p + w + n * w ≡ p + suc n * w = omega (arith, long) in
-        let behind : drop (n * w) (drop w o) ≡ drop (suc n * w) o = drop-drop (n * w) w o ∙ ap (λ z. drop z o) long in
-        rw (step p o oct, there, words_there n (p + w) (drop w o) (dropped w o oct) rest) (rw (place, behind) refl)
+        let after : drop (n * w) (drop w o) ≡ drop (suc n * w) o = drop-drop (n * w) w o ∙ ap (λ z. drop z o) long in
+        rw (step p o oct, there, words_there n (p + w) (drop w o) (dropped w o oct) rest) (rw (place, after) refl)
 
     words_cut : (n p : ℕ) (o : List ℕ) → AreOctets o → length o / w < n → times r n p o ≡ stop Short (p + length o / w * w)
     words_cut zero p o oct h = absurd (omega arith)

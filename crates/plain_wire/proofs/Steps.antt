@@ -150,7 +150,7 @@ breaks (Err d') d old mid new o x more p q failed whole grown (rest, is, long) =
 pub both_appended : (r : Result ℕ NoMemory) (old mid new o x : List ℕ) (p q : ℕ) → mid ≡ old ++ o
     → q + length old ≡ p + length mid → Appends mid new q x r
     → Appends old new p (o ++ x) r
-both_appended (Ok n) old mid new o x p q first placed (second, behind) =
+both_appended (Ok n) old mid new o x p q first placed (second, after) =
     (second ∙ ap (λ z. z ++ x) first ∙ append_assoc old o x, omega arith)
 both_appended (Err d) old mid new o x p q first placed (rest, is, long) =
     (rest, sym (append_assoc old o x) ∙ ap (λ z. z ++ x) (sym first) ∙ is, omega (arith, ap length first, length-append old o))
@@ -182,13 +182,13 @@ appended (x ∷ old) [] o rest is long = absurd (omega arith)
 appended (x ∷ old) (y ∷ new) o rest is long =
     let more : old ++ o ≡ new ++ rest = cc in
     let same : x ≡ y = cc in
-    let behind = appended old new o rest more (omega arith) in
-    (behind.0, behind.1, behind.2, ap (λ z. y ∷ z) behind.3 ∙ ap (λ z. z ∷ (old ++ behind.0)) (sym same))
+    let after = appended old new o rest more (omega arith) in
+    (after.0, after.1, after.2, ap (λ z. y ∷ z) after.3 ∙ ap (λ z. z ∷ (old ++ after.0)) (sym same))
 
 -- one more was appended
 pub goes_on : (old all mid new left x : List ℕ) (more : ℕ → List ℕ) (at q : ℕ) → old ++ all ≡ mid ++ left
     → left ≡ x ++ more (at + length x) → new ≡ mid ++ x → q + length mid ≡ at + length new
     → old ++ all ≡ new ++ more q
-goes_on old all mid new left x more at q told is new_is placed =
+goes_on old all mid new left x more at q reported is new_is placed =
     let past : q ≡ at + length x = omega (arith, placed, ap length new_is, length-append mid x) in
-    rw (past, new_is) (told ∙ ap (λ z. mid ++ z) is ∙ sym (append_assoc mid x (more (at + length x))))
+    rw (past, new_is) (reported ∙ ap (λ z. mid ++ z) is ∙ sym (append_assoc mid x (more (at + length x))))

@@ -32,10 +32,10 @@ word_here e w p o =
 pub ruleset words = (word_here)
 
 -- a number after its gap
-word_behind : (e : Encoding) (a : ℕ) (w : Width) (p : ℕ) (o : List ℕ)
+word_after : (e : Encoding) (a : ℕ) (w : Width) (p : ℕ) (o : List ℕ)
     → read_word e a w p o ≡ then_on (read_gap (gap p a) p o) (λ x q b. read_word e 1 w q b)
 unfolding read_word read_gap
-word_behind e a w p o = elim (cases_lt (length o) (gap p a)) [
+word_after e a w p o = elim (cases_lt (length o) (gap p a)) [
   | inl lt ↦
       let short : ltb (length o) (gap p a + byte_len w) ≡ true = lt-ltb _ _ (omega arith) in
       rw (short, lt-ltb _ _ lt) refl
@@ -59,10 +59,10 @@ gap_got n p o x q b e = past (ltb (length o) n) e where
   past false e = let same : p + n ≡ q = cc in sym same
 
 -- a scalar is a gap, and what begins there
-pub scalar_behind : (e : Encoding) (s : Scalar) (p : ℕ) (o : List ℕ)
+pub scalar_after : (e : Encoding) (s : Scalar) (p : ℕ) (o : List ℕ)
     → read_scalar e s p o ≡ then_on (read_gap (gap p (alignment_of e s)) p o) (λ x q b. read_here e s q b)
 unfolding read_scalar
-scalar_behind e s p o = rw (word_behind e (alignment_of e s) (width_of e s) p o) (behind (read_gap (gap p (alignment_of e s)) p o) refl)
+scalar_after e s p o = rw (word_after e (alignment_of e s) (width_of e s) p o) (after (read_gap (gap p (alignment_of e s)) p o) refl)
   where
     w : Width
     w = width_of e s
@@ -70,14 +70,14 @@ scalar_behind e s p o = rw (word_behind e (alignment_of e s) (width_of e s) p o)
     ends : ℕ → Reading FaultKind ℤ → Reading FaultKind ℤ
     ends place r = then_on r (λ n q b. if is_scalar s n then got n q b else stop BadValue place)
 
-    behind : (r : Reading FaultKind (Unit {0})) → read_gap (gap p (alignment_of e s)) p o ≡ r
+    after : (r : Reading FaultKind (Unit {0})) → read_gap (gap p (alignment_of e s)) p o ≡ r
         → ends (scalar_place e s p) (map_got (number_of (is_signed s) w) (then_on r (λ x q b. read_word e 1 w q b))) ≡ then_on r (λ x q b.
         ends q (map_got (number_of (is_signed s) w) (read_word e 1 w q b)))
-    behind (got x q b) is =
+    after (got x q b) is =
         ap (λ z. ends z (map_got (number_of (is_signed s) w) (read_word e 1 w q b))) (sym (gap_got (gap p (alignment_of e s)) p o x q b is))
-    behind (stop k at) is = refl
+    after (stop k at) is = refl
 
-pub ruleset scalars = (scalar_behind)
+pub ruleset scalars = (scalar_after)
 
 pub ruleset kinds = (to_z-of_z)
 
@@ -108,7 +108,7 @@ label_width CdrBig ls = refl
 label_width CdrLittle ls = refl
 label_width Mach ls = refl
 
-pub ruleset lones = (lone_read, scalar_behind, label_gap)
+pub ruleset lones = (lone_read, scalar_after, label_gap)
 
 pub ruleset labels = (to_z-of_z, label_gap, label_width)
 

@@ -13,7 +13,7 @@ use crate::cursor::{Cursor, ReadError, stop};
 use crate::read_described::any;
 use crate::read_head::{row_head, text_head};
 use crate::read_row::numbers;
-use crate::widths::{behind_row, behind_text, fault_behind};
+use crate::widths::{after_row, after_text, fault_after};
 use kit_base::NoMemory;
 use mint::kind::{Count, Kind};
 use mint::row::Row;
@@ -128,7 +128,7 @@ fn elements(
 
 /// What follows a row's elements.
 #[tactic(auto, using(crate::proofs::Words::tails))]
-fn behind_elements(
+fn after_elements(
     enc: Encoding,
     kind: Kind,
     bound: Count,
@@ -138,14 +138,14 @@ fn behind_elements(
     ensures { Reads nothing result (read_tail enc (row_of kind bound) n at.entry.place at.entry.rest.now) }
 {
     match enc {
-        Encoding::Mach => any(behind_row(enc, kind, n), at),
-        _ => zeros(behind_row(enc, kind, n), fault_behind(enc), at),
+        Encoding::Mach => any(after_row(enc, kind, n), at),
+        _ => zeros(after_row(enc, kind, n), fault_after(enc), at),
     }
 }
 
 /// What follows a text's octets.
 #[tactic(auto, using(crate::proofs::Words::tails))]
-fn behind_letters(
+fn after_letters(
     enc: Encoding,
     bound: Count,
     n: usize,
@@ -154,8 +154,8 @@ fn behind_letters(
     ensures { Reads nothing result (read_tail enc (text bound) n at.entry.place at.entry.rest.now) }
 {
     match enc {
-        Encoding::Mach => any(behind_text(enc, n), at),
-        _ => zeros(behind_text(enc, n), fault_behind(enc), at),
+        Encoding::Mach => any(after_text(enc, n), at),
+        _ => zeros(after_text(enc, n), fault_after(enc), at),
     }
 }
 
@@ -173,7 +173,7 @@ fn ended_elements(
     ensures kind { IfOk result (λ x. x.0.kind ≡ kind) }
 {
     let (row, next) = elements(alloc, enc, kind, bound, n, at)?;
-    let ((), last) = behind_elements(enc, kind, bound, n, next)?;
+    let ((), last) = after_elements(enc, kind, bound, n, next)?;
     Ok((row, last))
 }
 
@@ -206,7 +206,7 @@ fn ended_letters(
     ensures kind { IfOk result (λ x. x.0.kind ≡ kind.Char) }
 {
     let (piece, next) = letters(n, at)?;
-    let ((), last) = behind_letters(enc, bound, n, next)?;
+    let ((), last) = after_letters(enc, bound, n, next)?;
     Ok((row_of_octets(alloc, Kind::Char, piece)?, last))
 }
 

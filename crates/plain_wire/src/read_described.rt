@@ -125,7 +125,7 @@ fn widely(m: u32) -> u64
 
 /// What a descriptor says: the 8 octets after the first word of a long one. Where they are cut off,
 /// the place of the fault is that of the first word.
-#[tactic(auto, unfolding(wire_def::specs::Described::read_rest, wire_def::specs::Described::told_before))]
+#[tactic(auto, unfolding(wire_def::specs::Described::read_rest, wire_def::specs::Described::reported_before))]
 fn said(m: u32, at: Cursor<'_>) -> Result<(u64, Cursor<'_>), Fault>
     ensures { Reads same result (read_rest m at.entry.place at.entry.rest.now) }
 {

@@ -80,10 +80,10 @@ fn row_of_swapped(alloc: Global, kind: Kind, octets: &[u8]) -> Result<Row, NoMem
     let mut rest = octets;
     while rest.len() > 0 {
         let n = rest.len().min(PIECE);
-        let (first, behind) = rest.split_at(n);
+        let (first, after) = rest.split_at(n);
         swap_numbers(kind.width(), first, &mut piece[..n]);
         row.append_image(&piece[..n])?;
-        rest = behind;
+        rest = after;
     }
     Ok(row)
 }

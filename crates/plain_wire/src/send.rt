@@ -144,8 +144,8 @@ fn put_items(
     ensures { Appends out.old out.new place
         (send enc (items_type bound (type_at mint.now item)) place (items (all_seen values.now))) result }
 {
-    let behind = put_count(enc, bound, place, values.len(), out)?;
-    put_each(enc, mint, id, item, behind, values, out)
+    let after = put_count(enc, bound, place, values.len(), out)?;
+    put_each(enc, mint, id, item, after, values, out)
 }
 
 /// Appends elements, one after the other.
@@ -200,8 +200,8 @@ fn put_choice(
     ensures { Appends out.old out.new place (followed place (lone_octets enc (scalar_of tag.now) place n.now)
         (λ q. send_arm enc (arms_at (unfolded mint.now) arms.now other) n.now q (seen inner.now))) result }
 {
-    let behind = put_scalar(enc, tag, place, n, out)?;
-    put_arm(enc, mint, id, arms, other, behind, n, inner, out)
+    let after = put_scalar(enc, tag, place, n, out)?;
+    put_arm(enc, mint, id, arms, other, after, n, inner, out)
 }
 
 /// Appends the value of the discriminant's arm.
@@ -251,6 +251,6 @@ fn put_present(
     ensures { Appends out.old out.new place
         (send enc (maybe_type (type_at mint.now item)) place (present (seen inner.now))) result }
 {
-    let behind = put_lone(enc, Kind::Bool, place, &1, out)?;
-    put_value(enc, mint, item, behind, inner, out)
+    let after = put_lone(enc, Kind::Bool, place, &1, out)?;
+    put_value(enc, mint, item, after, inner, out)
 }

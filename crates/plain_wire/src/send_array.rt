@@ -14,7 +14,7 @@ ghost use Rattle.plain_wire.specs.Rows.{bare_octets, numbers_octets};
 ghost use Rattle.plain_wire.specs.Sending.{Appends, IsNear, elements_of, ended};
 
 use crate::send_scalar::{put, put_bare, put_row_head, put_text_head, put_zeros};
-use crate::widths::{PIECE, Way, behind_row, behind_text, gap_before, way_of};
+use crate::widths::{PIECE, Way, after_row, after_text, gap_before, way_of};
 use kit_base::{NoMemory, Octets};
 use mint::kind::{Count, Kind};
 use mint::row::Row;
@@ -50,10 +50,10 @@ fn put_swapped(
     let mut rest = image;
     while rest.len() > 0 {
         let n = rest.len().min(PIECE);
-        let (first, behind) = rest.split_at(n);
+        let (first, after) = rest.split_at(n);
         swap_numbers(width, first, &mut piece[..n]);
         at = put(at, &piece[..n], out)?;
-        rest = behind;
+        rest = after;
     }
     Ok(at)
 }
@@ -175,8 +175,8 @@ fn put_ended_row(
     requires near { IsNear place out.old }
     ensures { Appends out.old out.new place (ended enc (row_of kind bound) place row.now.numbers) result }
 {
-    let behind = put_elements(enc, kind, bound, place, row, out)?;
-    put_zeros(behind_row(enc, kind, row.len()), behind, out)
+    let after = put_elements(enc, kind, bound, place, row, out)?;
+    put_zeros(after_row(enc, kind, row.len()), after, out)
 }
 
 /// Puts a text's octets, and what follows them.
@@ -192,8 +192,8 @@ fn put_ended_text(
     requires near { IsNear place out.old }
     ensures { Appends out.old out.new place (ended enc (text bound) place row.now.numbers) result }
 {
-    let behind = put_octets(place, row, out)?;
-    put_zeros(behind_text(enc, row.len()), behind, out)
+    let after = put_octets(place, row, out)?;
+    put_zeros(after_text(enc, row.len()), after, out)
 }
 
 /// Puts a text.
@@ -209,8 +209,8 @@ pub(crate) fn put_text(
     requires near { IsNear place out.old }
     ensures { Appends out.old out.new place (array_octets enc (text bound) place row.now.numbers) result }
 {
-    let behind = put_text_head(enc, bound, place, row.len(), out)?;
-    put_ended_text(enc, bound, behind, row, out)
+    let after = put_text_head(enc, bound, place, row.len(), out)?;
+    put_ended_text(enc, bound, after, row, out)
 }
 
 /// Puts a row.
@@ -228,6 +228,6 @@ pub(crate) fn put_row(
     ensures { Appends out.old out.new place (array_octets enc (row_of kind bound) place row.now.numbers)
         result }
 {
-    let behind = put_row_head(enc, kind, bound, place, row.len(), out)?;
-    put_ended_row(enc, kind, bound, behind, row, out)
+    let after = put_row_head(enc, kind, bound, place, row.len(), out)?;
+    put_ended_row(enc, kind, bound, after, row, out)
 }

@@ -51,8 +51,8 @@ fn put_long(kind: Kind, many: u128, place: usize, out: &mut Octets) -> Result<us
     requires near { IsNear place out.old }
     ensures { Appends out.old out.new place (long_octets kind many) result }
 {
-    let behind = put_four(LONG_MARK, place, out)?;
-    put_eight(long_of(kind, many), behind, out)
+    let after = put_four(LONG_MARK, place, out)?;
+    put_eight(long_of(kind, many), after, out)
 }
 
 /// Puts the descriptor of so many numbers, in the form that their bound asks for.
@@ -84,8 +84,8 @@ fn put_filled(kind: Kind, place: usize, n: &i128, out: &mut Octets) -> Result<us
     ensures { Appends out.old out.new place
         (bare_octets Mach kind n.now ++ replicate (filling (number kind)) 0) result }
 {
-    let behind = put_bare(Encoding::Mach, kind, place, n, out)?;
-    put_zeros(filling_of(kind), behind, out)
+    let after = put_bare(Encoding::Mach, kind, place, n, out)?;
+    put_zeros(filling_of(kind), after, out)
 }
 
 /// Puts the descriptor of a number by itself.
@@ -107,6 +107,6 @@ pub(crate) fn put_item(
     requires near { IsNear place out.old }
     ensures { Appends out.old out.new place (lone_octets Mach (number kind) place n.now) result }
 {
-    let behind = put_one(kind, place, out)?;
-    put_filled(kind, behind, n, out)
+    let after = put_one(kind, place, out)?;
+    put_filled(kind, after, n, out)
 }

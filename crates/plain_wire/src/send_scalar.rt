@@ -142,8 +142,8 @@ fn put_number(
     requires near { IsNear place out.old }
     ensures { Appends out.old out.new place (scalar_octets enc (number kind) place n.now) result }
 {
-    let behind = put_zeros(gap_of(enc, kind, place), place, out)?;
-    put_bare(enc, kind, behind, n, out)
+    let after = put_zeros(gap_of(enc, kind, place), place, out)?;
+    put_bare(enc, kind, after, n, out)
 }
 
 /// Puts a number that travels by itself.

@@ -106,7 +106,7 @@ pub(crate) fn way_of(enc: Encoding, kind: Kind) -> Way
 
 /// How many octets follow a row's elements.
 #[tactic(auto, using(crate::proofs::Arrays::tails))]
-pub(crate) fn behind_row(enc: Encoding, kind: Kind, n: usize) -> usize
+pub(crate) fn after_row(enc: Encoding, kind: Kind, n: usize) -> usize
     ensures is { (bound : Count) → result ≡ trailing enc (row_of kind bound) n }
     ensures few { result < 8 }
 {
@@ -126,7 +126,7 @@ pub(crate) fn behind_row(enc: Encoding, kind: Kind, n: usize) -> usize
 
 /// How many octets follow a text.
 #[tactic(auto, using(crate::proofs::Arrays::tails))]
-pub(crate) fn behind_text(enc: Encoding, n: usize) -> usize
+pub(crate) fn after_text(enc: Encoding, n: usize) -> usize
     ensures is { (bound : Count) → result ≡ trailing enc (text bound) n }
     ensures few { result < 8 }
 {
@@ -137,7 +137,7 @@ pub(crate) fn behind_text(enc: Encoding, n: usize) -> usize
 }
 
 /// The kind of fault where an octet after an array's elements is not 0.
-pub(crate) fn fault_behind(enc: Encoding) -> FaultKind
+pub(crate) fn fault_after(enc: Encoding) -> FaultKind
     ensures { result ≡ ill_ended enc }
 {
     match enc {

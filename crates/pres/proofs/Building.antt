@@ -20,12 +20,12 @@ use Rattle.pres.specs.declared.shape.Shape.{Shape}
 use Rattle.pres.specs.declared.shape.Shape.TheVariants.{Plain, FieldNames, LabelNames}
 use Rattle.pres.specs.Faces.{Sign, number, item, Face, nothing, scalar, numbers, values, members, list, choice, maybe, Arms, other, arm, at, labels_of, arms_at, sign_of, group_face, level, faces_from, faces}
 use Rattle.pres.specs.Named.{IsTagShape, IsNamed, AreNamed}
-use Rattle.pres.specs.Made.{kept, made, made_inside, made_behind, made_in_types, made_request, made_answer, made_raised, made_reply, made_by, made_in_interfaces}
+use Rattle.pres.specs.Made.{kept, made, made_inside, made_after, made_in_types, made_request, made_answer, made_raised, made_reply, made_by, made_in_interfaces}
 use Rattle.pres.specs.Offers.{Offer, packed, elements_by, sign_in, put_arm, face_of, parts_of, arms_of, faces_of, exception, raised, request_of, answer_of, reply_of, is_answered, offer, null_operation, gets_null, gotten, operations, offers_from, offer_at}
 use Rattle.pres.specs.Rising.{put_pair}
 use Rattle.pres.specs.Drafts.{Sketch, IsSketch, drawn, known, Grows, IsDrawn, AreDrawn, AreArms, is_drawable, are_drawable, arms_drawable, faces_inside, IsDrawableOperation, IsDrawableInterface, AreDrawable, AreOffered}
 use Rattle.pres.proofs.Drafting.{sketch, drawn-length, sketch_push, grown, pushed, drawn_stays, known-length, type_drawn, sketch_name, named_drawn, named_known}
-use Rattle.pres.proofs.Drawn.{both, grows_twice, members_by, values_by, names_each, arms_stay, below_pair, node_behind, drawn_as}
+use Rattle.pres.proofs.Drawn.{both, grows_twice, members_by, values_by, names_each, arms_stay, below_pair, node_after, drawn_as}
 use Rattle.pres.proofs.Exchange.{answer_by, offers_stay, placed_more}
 use Rattle.pres.proofs.Ordered.{put_pair-face}
 
@@ -95,15 +95,15 @@ push s n h is fits below named = record {
 }
 
 -- one more node after those inside it, which is to unfold to a face
-pub push_behind : (s a : Sketch) (xs : List Face) (n : Node) (h : Shape) (f : Face) → IsSketch a → Grows s a xs → Fits s (xs ++ f ∷ [])
+pub push_after : (s a : Sketch) (xs : List Face) (n : Node) (h : Shape) (f : Face) → IsSketch a → Grows s a xs → Fits s (xs ++ f ∷ [])
     → HasChildrenBelow (length (drawn a)) n → IsNamed n h → level (drawn a) n h ≡ f → Draws s (xs ++ f ∷ []) f
-push_behind s a xs n h f is g fits below named same =
+push_after s a xs n h f is g fits below named same =
     let d = push a n h is (fits_rest s a xs (f ∷ []) g fits) below named in
     record {
       new = d.new;
       id = d.id;
       is = d.is;
-      grows = node_behind s a d.new xs (level (drawn a) n h) f same g d.grows;
+      grows = node_after s a d.new xs (level (drawn a) n h) f same g d.grows;
       there =
           drawn_as d.new d.id (level (drawn a) n h) f same d.there;
     }
@@ -215,7 +215,7 @@ draw_elements : (o : Option Kind) (c : Count) (f : Face) (s : Sketch) (more : Li
     → Draws s (kept o more ++ elements_by o c f ∷ []) (elements_by o c f)
 draw_elements None c f s more is inside fits =
     let r = inside (fits_first s more (list c f ∷ []) fits) in
-    push_behind s r.new more (node.Items r.id c) Plain (list c f) r.is r.grows fits r.there.below tt (ap (list c) r.there.is)
+    push_after s r.new more (node.Items r.id c) Plain (list c f) r.is r.grows fits r.there.below tt (ap (list c) r.there.is)
 draw_elements (Some q) c f s more is inside fits = push s (node.Row q c) Plain is fits tt tt
 
 mutual
@@ -230,21 +230,21 @@ mutual
   draw (aoi.structure ms) fs s is k d fits =
       let parts = both (are_distinct (names_of ms)) (are_drawable (length fs) ms) d in
       let e = draw_members ms fs s is k parts.1 (fits_first s (made_inside fs ms) (members (parts_of fs ms) ∷ []) fits) in
-      push_behind s e.new (made_inside fs ms) (node.Group e.ids) (FieldNames (names_of ms)) (members (parts_of fs ms)) e.is e.grows fits
+      push_after s e.new (made_inside fs ms) (node.Group e.ids) (FieldNames (names_of ms)) (members (parts_of fs ms)) e.is e.grows fits
       e.there.below
       (record { each = names_each (drawn e.new) fs e.ids ms e.there.are; distinct = parts.0 })
       (members_by e.new fs e.ids (names_of ms) ms e.there refl)
   draw (aoi.choice t arms) fs s is k d fits =
       let parts = both (is_drawable (length fs) t) (arms_drawable (length fs) arms) d in
       let f : Face = choice (sign_in (face_of fs t)) (arms_of fs arms) in
-      let e = draw_arms arms fs s is k parts.1 (fits_first s (made_behind fs arms) (f ∷ []) fits) in
+      let e = draw_arms arms fs s is k parts.1 (fits_first s (made_after fs arms) (f ∷ []) fits) in
       let g = tag_of (face_of fs t) (signed_type fs t s is k parts.0) in
-      push_behind s e.new (made_behind fs arms) (node.Choice g.tag e.arms e.last) g.shape f e.is e.grows fits
+      push_after s e.new (made_after fs arms) (node.Choice g.tag e.arms e.last) g.shape f e.is e.grows fits
       (e.there.below, e.there.other) g.named
       (ap (λ z. choice z (arms_at (drawn e.new) e.arms e.last)) g.same ∙ ap (choice (sign_in (face_of fs t))) e.there.are)
   draw (aoi.optional x) fs s is k d fits =
       let r = draw x fs s is k d (fits_first s (made fs x) (maybe (face_of fs x) ∷ []) fits) in
-      push_behind s r.new (made fs x) (node.Maybe r.id) Plain (maybe (face_of fs x)) r.is r.grows fits r.there.below tt
+      push_after s r.new (made fs x) (node.Maybe r.id) Plain (maybe (face_of fs x)) r.is r.grows fits r.there.below tt
       (ap maybe r.there.is)
   draw (aoi.named n) fs s is k d fits =
       let below : n < length s.types = omega (arith, ltb-true n (length fs) d, ap length k, known-length s) in
@@ -282,8 +282,8 @@ mutual
       }
 
   pub draw_arms : (arms : aoi.Arms) (fs : List Face) (s : Sketch) → IsSketch s → known s ≡ fs → IsTrue (arms_drawable (length fs) arms)
-      → Fits s (made_behind fs arms)
-      → DrawsArms s (made_behind fs arms) (arms_of fs arms)
+      → Fits s (made_after fs arms)
+      → DrawsArms s (made_after fs arms) (arms_of fs arms)
   draw_arms aoi.no_default fs s is k d fits =
       record { new = s; arms = []; last = None; is = is; grows = grows_none s; there = record { below = tt; other = tt; are = refl } }
   draw_arms (aoi.default x) fs s is k d fits =
@@ -299,15 +299,15 @@ mutual
       }
   draw_arms (aoi.arm n x arms) fs s is k d fits =
       let parts = both (is_drawable (length fs) x) (arms_drawable (length fs) arms) d in
-      let e = draw_arms arms fs s is k parts.1 (fits_first s (made_behind fs arms) (made fs x) fits) in
-      let r = draw x fs e.new e.is (e.grows.types ∙ k) parts.0 (fits_rest s e.new (made_behind fs arms) (made fs x) e.grows fits) in
+      let e = draw_arms arms fs s is k parts.1 (fits_first s (made_after fs arms) (made fs x) fits) in
+      let r = draw x fs e.new e.is (e.grows.types ∙ k) parts.0 (fits_rest s e.new (made_after fs arms) (made fs x) e.grows fits) in
       let still = arms_stay e.new r.new (made fs x) e.arms e.last (arms_of fs arms) r.grows e.there in
       record {
         new = r.new;
         arms = put_pair (n, r.id) e.arms;
         last = e.last;
         is = r.is;
-        grows = grows_twice s e.new r.new (made_behind fs arms) (made fs x) e.grows r.grows;
+        grows = grows_twice s e.new r.new (made_after fs arms) (made fs x) e.grows r.grows;
         there = record {
           below = below_pair (length (drawn r.new)) (n, r.id) e.arms r.there.below still.below;
           other = still.other;
@@ -323,7 +323,7 @@ draw_request : (op : PlainOperation) (fs : List Face) (s : Sketch) → IsSketch 
     → Fits s (made_request fs op) → Draws s (made_request fs op) (request_of fs op)
 draw_request op fs s is k d fits =
     let e = draw_members op.ins fs s is k d.ins (fits_first s (made_inside fs op.ins) (request_of fs op ∷ []) fits) in
-    push_behind s e.new (made_inside fs op.ins) (node.Group e.ids) Plain (request_of fs op) e.is e.grows fits e.there.below tt
+    push_after s e.new (made_inside fs op.ins) (node.Group e.ids) Plain (request_of fs op) e.is e.grows fits e.there.below tt
     (values_by e.new fs e.ids op.ins e.there)
 
 draw_answer : (op : PlainOperation) (fs : List Face) (s : Sketch) → IsSketch s → known s ≡ fs → IsDrawableOperation (length fs) op
@@ -335,7 +335,7 @@ draw_answer op fs s is k d fits =
     (fits_rest s r.new (made fs op.result) (made_inside fs op.outs) r.grows inner) in
     let st = drawn_stays r.new e.new (made_inside fs op.outs) r.id (face_of fs op.result) e.grows r.there in
     let g = grows_twice s r.new e.new (made fs op.result) (made_inside fs op.outs) r.grows e.grows in
-    push_behind s e.new (made fs op.result ++ made_inside fs op.outs) (node.Group (r.id ∷ e.ids)) Plain (answer_of fs op) e.is g fits
+    push_after s e.new (made fs op.result ++ made_inside fs op.outs) (node.Group (r.id ∷ e.ids)) Plain (answer_of fs op) e.is g fits
     (st.below, e.there.below) tt
     (answer_by r.new e.new (made_inside fs op.outs) op r.id e.ids (r.id ∷ e.ids) fs e.grows r.there e.there refl)
 
@@ -371,7 +371,7 @@ draw_reply op fs s is k d fits =
     (fits_rest s r.new (made_answer fs op) (made_raised fs op.raises) r.grows inner) in
     let st = drawn_stays r.new e.new (made_raised fs op.raises) r.id (answer_of fs op) e.grows r.there in
     let g = grows_twice s r.new e.new (made_answer fs op) (made_raised fs op.raises) r.grows e.grows in
-    push_behind s e.new (made_answer fs op ++ made_raised fs op.raises) (node.Choice (tag.Num kind.U32) ((pos 0, r.id) ∷ e.arms) e.last)
+    push_after s e.new (made_answer fs op ++ made_raised fs op.raises) (node.Choice (tag.Num kind.U32) ((pos 0, r.id) ∷ e.arms) e.last)
     Plain (reply_of fs op) e.is g fits
     ((st.below, e.there.below), e.there.other) tt
     (ap (λ z. choice (number kind.U32) (arm (pos 0) z (arms_at (drawn e.new) e.arms e.last))) st.is ∙ ap (λ z.

@@ -15,7 +15,7 @@ use Rattle.aoi.specs.Shapes as aoi
 use Rattle.aoi.specs.Sound.{names_of}
 use Rattle.pres.specs.declared.errors.BindErr.{BindErr}
 use Rattle.pres.specs.Faces.{Face, nothing, scalar, number, item, numbers, values, members, list, choice, maybe, Arms, no_other, other, arm, at, parts_at, arms_at}
-use Rattle.pres.specs.Made.{made, made_inside, made_behind}
+use Rattle.pres.specs.Made.{made, made_inside, made_after}
 use Rattle.pres.specs.Offers.{face_of, parts_of, arms_of, packed, sign_in, unnamed, put_arm}
 use Rattle.pres.specs.Rising.{put_pair}
 use Rattle.pres.specs.Drafts.{Sketch, drawn, Grows, IsDrawn, AreDrawn, AreArms, Overflows, is_drawable, are_drawable, arms_drawable, faces_inside, number_in, enum_in}
@@ -172,37 +172,37 @@ pub other_drawable : (n : ℕ) (arms : List Pair) (o : Option aoi.Shape) → IsT
 other_drawable n [] o h = h
 other_drawable n (b ∷ arms) o h = other_drawable n arms o ((both (is_drawable n (aoi.seen b.1)) _ h).1)
 
-pub behind_room : (fs : List Face) (o : Option aoi.Shape) (arms : List Pair) (i : ℕ)
-    → length (made_behind fs (aoi.arms_seen (drop i arms) o)) ≤ length (made_behind fs (aoi.arms_seen arms o))
-behind_room fs o [] zero = omega arith
-behind_room fs o [] (suc i) = omega arith
-behind_room fs o (a ∷ arms) zero = omega arith
-behind_room fs o (a ∷ arms) (suc i) =
-    omega (arith, behind_room fs o arms i, length-append (made_behind fs (aoi.arms_seen arms o)) (made fs (aoi.seen a.1)))
+pub after_room : (fs : List Face) (o : Option aoi.Shape) (arms : List Pair) (i : ℕ)
+    → length (made_after fs (aoi.arms_seen (drop i arms) o)) ≤ length (made_after fs (aoi.arms_seen arms o))
+after_room fs o [] zero = omega arith
+after_room fs o [] (suc i) = omega arith
+after_room fs o (a ∷ arms) zero = omega arith
+after_room fs o (a ∷ arms) (suc i) =
+    omega (arith, after_room fs o arms i, length-append (made_after fs (aoi.arms_seen arms o)) (made fs (aoi.seen a.1)))
 
 pub arm_nodes : (fs : List Face) (o : Option aoi.Shape) (arms : List Pair) (i : ℕ) (a : Pair) (old mid new : List Face)
     → i < length arms → a ≡ get_or arms (length arms - 1 - i) a
-    → mid ≡ old ++ made_behind fs (aoi.arms_seen (drop (length arms - i) arms) o) → new ≡ mid ++ made fs (aoi.seen a.1)
-    → new ≡ old ++ made_behind fs (aoi.arms_seen (drop (length arms - (i + 1)) arms) o)
+    → mid ≡ old ++ made_after fs (aoi.arms_seen (drop (length arms - i) arms) o) → new ≡ mid ++ made fs (aoi.seen a.1)
+    → new ≡ old ++ made_after fs (aoi.arms_seen (drop (length arms - (i + 1)) arms) o)
 arm_nodes fs o arms i a old mid new lt is mid_is new_is =
     new_is
     ∙ ap (λ z.
-    z ++ made fs (aoi.seen a.1)) mid_is ∙ append_assoc old (made_behind fs (aoi.arms_seen (drop (length arms - i) arms) o))
+    z ++ made fs (aoi.seen a.1)) mid_is ∙ append_assoc old (made_after fs (aoi.arms_seen (drop (length arms - i) arms) o))
     (made fs (aoi.seen a.1))
-    ∙ ap (λ z. old ++ made_behind fs (aoi.arms_seen z o)) (sym (cut_arms arms i a lt is))
+    ∙ ap (λ z. old ++ made_after fs (aoi.arms_seen z o)) (sym (cut_arms arms i a lt is))
 
 pub arm_room : (fs : List Face) (o : Option aoi.Shape) (arms : List Pair) (i : ℕ) (a : Pair) (old mid : List Face) → i < length arms
-    → a ≡ get_or arms (length arms - 1 - i) a → mid ≡ old ++ made_behind fs (aoi.arms_seen (drop (length arms - i) arms) o)
-    → length (mid ++ made fs (aoi.seen a.1)) ≤ length (old ++ made_behind fs (aoi.arms_seen arms o))
+    → a ≡ get_or arms (length arms - 1 - i) a → mid ≡ old ++ made_after fs (aoi.arms_seen (drop (length arms - i) arms) o)
+    → length (mid ++ made fs (aoi.seen a.1)) ≤ length (old ++ made_after fs (aoi.arms_seen arms o))
 arm_room fs o arms i a old mid lt is mid_is =
     let whole = arm_nodes fs o arms i a old mid (mid ++ made fs (aoi.seen a.1)) lt is mid_is refl in
     let k : ℕ = length arms - (i + 1) in
     omega (
       arith,
       ap length whole,
-      length-append old (made_behind fs (aoi.arms_seen (drop k arms) o)),
-      length-append old (made_behind fs (aoi.arms_seen arms o)),
-      behind_room fs o arms k,
+      length-append old (made_after fs (aoi.arms_seen (drop k arms) o)),
+      length-append old (made_after fs (aoi.arms_seen arms o)),
+      after_room fs o arms k,
     )
 
 pub below_pair : (n : ℕ) (a : ℤ × ℕ) (arms : List (ℤ × ℕ)) → a.1 < n → ArmsBelow n arms → ArmsBelow n (put_pair a arms)
@@ -284,13 +284,13 @@ arms_at-end : (fs : List Face) (arms : List (ℤ × ℕ)) (o : Option ℕ) → a
 arms_at-end fs [] o = refl
 arms_at-end fs (a ∷ arms) o = ap (arm a.0 (at fs a.1)) (arms_at-end fs arms o)
 
-pub behind_split : (fs : List Face) (o : Option aoi.Shape) (arms : List Pair)
-    → made_behind fs (aoi.arms_seen arms o) ≡ made_behind fs (aoi.default_of o) ++ made_behind fs (aoi.arms_seen arms None)
-behind_split fs o [] = sym (append-nil (made_behind fs (aoi.default_of o)))
-behind_split fs o (a ∷ arms) =
+pub after_split : (fs : List Face) (o : Option aoi.Shape) (arms : List Pair)
+    → made_after fs (aoi.arms_seen arms o) ≡ made_after fs (aoi.default_of o) ++ made_after fs (aoi.arms_seen arms None)
+after_split fs o [] = sym (append-nil (made_after fs (aoi.default_of o)))
+after_split fs o (a ∷ arms) =
     ap (λ z.
-    z ++ made fs (aoi.seen a.1)) (behind_split fs o arms)
-    ∙ append_assoc (made_behind fs (aoi.default_of o)) (made_behind fs (aoi.arms_seen arms None)) (made fs (aoi.seen a.1))
+    z ++ made fs (aoi.seen a.1)) (after_split fs o arms)
+    ∙ append_assoc (made_after fs (aoi.default_of o)) (made_after fs (aoi.arms_seen arms None)) (made fs (aoi.seen a.1))
 
 pub arms_drawable_alone : (n : ℕ) (o : Option aoi.Shape) (arms : List Pair) → IsTrue (arms_drawable n (aoi.arms_seen arms o))
     → IsTrue (arms_drawable n (aoi.arms_seen arms None))
@@ -328,20 +328,20 @@ choice_nodes old a b new ds es f g all all_is same x y z =
     }
 
 -- a node after those inside it
-pub node_behind : (old mid new : Sketch) (xs : List Face) (f g : Face) → f ≡ g → Grows old mid xs → Grows mid new (f ∷ [])
+pub node_after : (old mid new : Sketch) (xs : List Face) (f g : Face) → f ≡ g → Grows old mid xs → Grows mid new (f ∷ [])
     → Grows old new (xs ++ g ∷ [])
-node_behind old mid new xs f g same x y = subst (λ z. Grows old new (xs ++ z ∷ [])) same (grows_twice old mid new xs (f ∷ []) x y)
+node_after old mid new xs f g same x y = subst (λ z. Grows old new (xs ++ z ∷ [])) same (grows_twice old mid new xs (f ∷ []) x y)
 
 pub drawn_as : (s : Sketch) (id : ℕ) (f g : Face) → f ≡ g → IsDrawn s id f → IsDrawn s id g
 drawn_as s id f g same d = subst (IsDrawn s id) same d
 
 -- ---- room
 
-room_behind : (old xs ys : List Face) → length (old ++ xs) ≤ length (old ++ (xs ++ ys))
-room_behind old xs ys = omega (arith, length-append old xs, length-append old (xs ++ ys), length-append xs ys)
+room_after : (old xs ys : List Face) → length (old ++ xs) ≤ length (old ++ (xs ++ ys))
+room_after old xs ys = omega (arith, length-append old xs, length-append old (xs ++ ys), length-append xs ys)
 
-pub behind_overflows : (old xs ys all : List Face) (e : BindErr) → all ≡ xs ++ ys → Overflows (old ++ xs) e → Overflows (old ++ all) e
-behind_overflows old xs ys all e is h = overflows_more _ _ e h (rw is (room_behind old xs ys))
+pub after_overflows : (old xs ys all : List Face) (e : BindErr) → all ≡ xs ++ ys → Overflows (old ++ xs) e → Overflows (old ++ all) e
+after_overflows old xs ys all e is h = overflows_more _ _ e h (rw is (room_after old xs ys))
 
 pub next_overflows : (old mid xs ys zs all : List Face) (e : BindErr) → all ≡ xs ++ (ys ++ zs) → mid ≡ old ++ xs → Overflows (mid ++ ys) e
     → Overflows (old ++ all) e
@@ -374,11 +374,11 @@ last_overflows old mid xs all f g e is mid_is h =
     ))
 
 pub made_split : (fs : List Face) (o : Option aoi.Shape) (arms : List Pair) (f : Face)
-    → made_behind fs (aoi.arms_seen arms o) ++ f ∷ []
-    ≡ made_behind fs (aoi.default_of o) ++ (made_behind fs (aoi.arms_seen arms None) ++ f ∷ [])
+    → made_after fs (aoi.arms_seen arms o) ++ f ∷ []
+    ≡ made_after fs (aoi.default_of o) ++ (made_after fs (aoi.arms_seen arms None) ++ f ∷ [])
 made_split fs o arms f =
     ap (λ z.
-    z ++ f ∷ []) (behind_split fs o arms) ∙ append_assoc (made_behind fs (aoi.default_of o)) (made_behind fs (aoi.arms_seen arms None))
+    z ++ f ∷ []) (after_split fs o arms) ∙ append_assoc (made_after fs (aoi.default_of o)) (made_after fs (aoi.arms_seen arms None))
     (f ∷ [])
 
 -- ---- answers

@@ -10,9 +10,9 @@ use Rattle.pres.specs.declared.sizes.Size.{Size}
 use Rattle.pres.specs.declared.shape.Shape.{Shape}
 use Rattle.pres.specs.declared.shape.Shape.TheVariants.{Plain, FieldNames, LabelNames}
 use Rattle.pres.specs.Faces.{Face, nothing, at, parts_at, arms_at, group_face, level, type_of, types_of, arm_types_of}
-use Rattle.pres.specs.Faults.{spread, spread_inside, spread_behind}
+use Rattle.pres.specs.Faults.{spread, spread_inside, spread_after}
 use Rattle.pres.specs.Sizes as sizes
-use Rattle.pres.specs.Sizes.{sized, size_of, size_inside, size_behind, beside, over, inside_at, behind_at, size_at}
+use Rattle.pres.specs.Sizes.{sized, size_of, size_inside, size_after, beside, over, inside_at, after_at, size_at}
 
 over_sized : (d n : ℕ) → over (sized d n) ≡ sized (suc d) (suc n)
 over_sized d n =
@@ -47,14 +47,14 @@ inside-at fs k (n ∷ names) (i ∷ is) below =
     (beside_sized (depth (type_of (at fs i))) (spread (at fs i)) (fields_depth (types_of (parts_at fs names is)))
     (spread_inside (parts_at fs names is)))
 
-behind-at : (fs : List Face) (k : ℕ) (arms : List (ℤ × ℕ)) (o : Option ℕ) → ArmsBelow k arms → IsBelow k o
-    → behind_at (map size_of (take k fs)) arms o ≡ size_behind (arms_at fs arms o)
-behind-at fs k [] None below last = refl
-behind-at fs k [] (Some i) below last = size-at fs k i last
-behind-at fs k (a ∷ arms) o below last =
-    rw (size-at fs k a.1 below.0, behind-at fs k arms o below.1 last)
+after-at : (fs : List Face) (k : ℕ) (arms : List (ℤ × ℕ)) (o : Option ℕ) → ArmsBelow k arms → IsBelow k o
+    → after_at (map size_of (take k fs)) arms o ≡ size_after (arms_at fs arms o)
+after-at fs k [] None below last = refl
+after-at fs k [] (Some i) below last = size-at fs k i last
+after-at fs k (a ∷ arms) o below last =
+    rw (size-at fs k a.1 below.0, after-at fs k arms o below.1 last)
     (beside_sized (depth (type_of (at fs a.1))) (spread (at fs a.1)) (arms_depth (arm_types_of (arms_at fs arms o)))
-    (spread_behind (arms_at fs arms o)))
+    (spread_after (arms_at fs arms o)))
 
 group-at : (fs : List Face) (k : ℕ) (ids : List ℕ) (s : Shape) → AreBelow k ids
     → over (inside_at (map size_of (take k fs)) ids) ≡ size_of (group_face fs ids s)
@@ -74,8 +74,8 @@ size_level fs k (node.Text c) s below = refl
 size_level fs k (node.Row x c) s below = refl
 size_level fs k (node.Group ids) s below = group-at fs k ids s below
 size_level fs k (node.Items i c) s below = ap over (size-at fs k i below) ∙ over_sized (depth (type_of (at fs i))) (spread (at fs i))
-size_level fs k (node.Choice t arms o) s below = ap over (behind-at fs k arms o below.0 below.1)
-    ∙ over_sized (arms_depth (arm_types_of (arms_at fs arms o))) (spread_behind (arms_at fs arms o))
+size_level fs k (node.Choice t arms o) s below = ap over (after-at fs k arms o below.0 below.1)
+    ∙ over_sized (arms_depth (arm_types_of (arms_at fs arms o))) (spread_after (arms_at fs arms o))
 size_level fs k (node.Maybe i) s below = ap over (size-at fs k i below) ∙ over_sized (depth (type_of (at fs i))) (spread (at fs i))
 
 pub sizes_on : (fs : List Face) (k : ℕ) (n : Node) (s : Shape) (old slice new : List Size) (size : Size) → k < length fs

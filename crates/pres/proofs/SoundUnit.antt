@@ -40,7 +40,7 @@ mutual
   drawable ss l (aoi.choice tag arms) h =
       let p = both (is_sound_type ss l tag && is_sound_union (unfolded l ss l tag) arms) (are_sound_arms ss l arms) h in
       let q = both (is_sound_type ss l tag) (is_sound_union (unfolded l ss l tag) arms) p.0 in
-      rw (drawable ss l tag q.0, behind_drawable ss l arms p.1) refl
+      rw (drawable ss l tag q.0, after_drawable ss l arms p.1) refl
   drawable ss l (aoi.optional s) h = drawable ss l s h
   drawable ss l (aoi.named k) h = h
 
@@ -50,12 +50,12 @@ mutual
       let p = both (is_sound_type ss l s) (are_sound ss l ms) h in
       rw (drawable ss l s p.0, all_drawable ss l ms p.1) refl
 
-  behind_drawable : (ss : List aoi.Shape) (l : ℕ) (arms : aoi.Arms) → are_sound_arms ss l arms ≡ true → arms_drawable l arms ≡ true
-  behind_drawable ss l aoi.no_default h = refl
-  behind_drawable ss l (aoi.default s) h = or_drawable ss l s h (drawable ss l s)
-  behind_drawable ss l (aoi.arm n s arms) h =
+  after_drawable : (ss : List aoi.Shape) (l : ℕ) (arms : aoi.Arms) → are_sound_arms ss l arms ≡ true → arms_drawable l arms ≡ true
+  after_drawable ss l aoi.no_default h = refl
+  after_drawable ss l (aoi.default s) h = or_drawable ss l s h (drawable ss l s)
+  after_drawable ss l (aoi.arm n s arms) h =
       let p = both (or_void s (is_sound_type ss l s)) (are_sound_arms ss l arms) h in
-      rw (or_drawable ss l s p.0 (drawable ss l s), behind_drawable ss l arms p.1) refl
+      rw (or_drawable ss l s p.0 (drawable ss l s), after_drawable ss l arms p.1) refl
 
   or_drawable : (ss : List aoi.Shape) (l : ℕ) (s : aoi.Shape) → or_void s (is_sound_type ss l s) ≡ true
       → (is_sound_type ss l s ≡ true → is_drawable l s ≡ true)

@@ -16,7 +16,7 @@ use Rattle.mint.specs.Sound.{is_labelled, is_armless, arm_numbers, rise_from}
 use Rattle.aoi.specs.Shapes as aoi
 use Rattle.aoi.specs.Sound.{are_distinct, are_different, names_of, numbers_of, has_member, has_arm, name_in, unfolded, is_tag, is_of_tag, is_some_count, is_sound_enum, is_sound_union, or_void, is_sound_type, are_sound, are_sound_arms}
 use Rattle.pres.specs.Faces.{ItemList, Sign, number, item, Face, nothing, choice, Arms, no_other, other, arm, at, labels_of, scalar_of, type_of, arm_types_of}
-use Rattle.pres.specs.Made.{made, made_inside, made_behind}
+use Rattle.pres.specs.Made.{made, made_inside, made_after}
 use Rattle.pres.specs.Offers.{sign_in, put_arm, face_of, arms_of}
 use Rattle.pres.specs.Regular.{is_ranged, IsRegular, AreRegular}
 use Rattle.pres.proofs.Drawn.{both}
@@ -251,7 +251,7 @@ mutual
   made_regular ss fs l (aoi.choice tag arms) st h =
       let p = both (is_sound_type ss l tag && is_sound_union (unfolded l ss l tag) arms) (are_sound_arms ss l arms) h in
       let q = both (is_sound_type ss l tag) (is_sound_union (unfolded l ss l tag) arms) p.0 in
-      regular_one (made_behind fs arms) _ (behind_regular ss fs l arms st p.1) (union_regular ss fs l tag arms st q.0 q.1)
+      regular_one (made_after fs arms) _ (after_regular ss fs l arms st p.1) (union_regular ss fs l tag arms st q.0 q.1)
   made_regular ss fs l (aoi.optional s) st h =
       regular_one (made fs s) _ (made_regular ss fs l s st h) (record { fit = refl; full = refl; labelled = λ r. refl })
   made_regular ss fs l (aoi.named k) st h = tt
@@ -283,13 +283,13 @@ mutual
       let p = both (is_sound_type ss l s) (are_sound ss l ms) h in
       regular_both (made fs s) (made_inside fs ms) (made_regular ss fs l s st p.0) (inside_regular ss fs l ms st p.1)
 
-  pub behind_regular : (ss : List aoi.Shape) (fs : List Face) (l : ℕ) (arms : aoi.Arms) → Standing ss fs l → are_sound_arms ss l arms ≡ true
-      → AreRegular (made_behind fs arms)
-  behind_regular ss fs l aoi.no_default st h = tt
-  behind_regular ss fs l (aoi.default s) st h = void_or ss fs l s h (made_regular ss fs l s st)
-  behind_regular ss fs l (aoi.arm n s arms) st h =
+  pub after_regular : (ss : List aoi.Shape) (fs : List Face) (l : ℕ) (arms : aoi.Arms) → Standing ss fs l → are_sound_arms ss l arms ≡ true
+      → AreRegular (made_after fs arms)
+  after_regular ss fs l aoi.no_default st h = tt
+  after_regular ss fs l (aoi.default s) st h = void_or ss fs l s h (made_regular ss fs l s st)
+  after_regular ss fs l (aoi.arm n s arms) st h =
       let p = both (or_void s (is_sound_type ss l s)) (are_sound_arms ss l arms) h in
-      regular_both (made_behind fs arms) (made fs s) (behind_regular ss fs l arms st p.1)
+      regular_both (made_after fs arms) (made fs s) (after_regular ss fs l arms st p.1)
       (void_or ss fs l s p.0 (made_regular ss fs l s st))
 
   pub void_or : (ss : List aoi.Shape) (fs : List Face) (l : ℕ) (s : aoi.Shape) → or_void s (is_sound_type ss l s) ≡ true

@@ -133,11 +133,11 @@ addable r true is e h = let same : Some e ≡ Some err.Heavy = sym h ∙ is in c
 addable r false is e h = absurd cc
 
 -- what a table's refusal becomes
-pub told_cause : (refused : MintErr) (e : BindErr) (r : Option MintErr) → (refused ≡ err.Heavy → e ≡ bind.Heavy)
+pub reported_cause : (refused : MintErr) (e : BindErr) (r : Option MintErr) → (refused ≡ err.Heavy → e ≡ bind.Heavy)
     → (refused ≡ err.NoMemory → e ≡ bind.NoMemory) → ((refused ≢ err.NoMemory) → r ≡ Some refused)
     → ((refused ≢ err.NoMemory) → refused ≡ err.Heavy) → e ≢ bind.NoMemory
     → (e ≡ bind.Heavy) × (r ≡ Some err.Heavy)
-told_cause refused e r heavy memory is alone ne =
+reported_cause refused e r heavy memory is alone ne =
     let other : refused ≢ err.NoMemory = λ same. ne (memory same) in
     (heavy (alone other), is other ∙ ap Some (alone other))
 

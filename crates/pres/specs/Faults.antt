@@ -41,17 +41,17 @@ abbrev mutual
   spread (values ps) = suc (spread_inside ps)
   spread (members ps) = suc (spread_inside ps)
   spread (list c f) = suc (spread f)
-  spread (choice s arms) = suc (spread_behind arms)
+  spread (choice s arms) = suc (spread_after arms)
   spread (maybe f) = suc (spread f)
 
   pub spread_inside : Parts → ℕ
   spread_inside no_parts = 0
   spread_inside (part n f ps) = spread f + spread_inside ps
 
-  pub spread_behind : Arms → ℕ
-  spread_behind no_other = 0
-  spread_behind (other f) = spread f
-  spread_behind (arm n f arms) = spread f + spread_behind arms
+  pub spread_after : Arms → ℕ
+  spread_after no_other = 0
+  spread_after (other f) = spread f
+  spread_after (arm n f arms) = spread f + spread_after arms
 
 -- the nodes in an operation's request and reply
 abbrev pub spread_of : Offer → ℕ

@@ -22,7 +22,7 @@ abbrev mutual
   made fs (aoi.text c) = numbers (text c) ∷ []
   made fs (aoi.array s c) = kept (packed (face_of fs s)) (made fs s) ++ face_of fs (aoi.array s c) ∷ []
   made fs (aoi.structure ms) = made_inside fs ms ++ face_of fs (aoi.structure ms) ∷ []
-  made fs (aoi.choice tag arms) = made_behind fs arms ++ face_of fs (aoi.choice tag arms) ∷ []
+  made fs (aoi.choice tag arms) = made_after fs arms ++ face_of fs (aoi.choice tag arms) ∷ []
   made fs (aoi.optional s) = made fs s ++ face_of fs (aoi.optional s) ∷ []
   made fs (aoi.named k) = []
 
@@ -32,10 +32,10 @@ abbrev mutual
   made_inside fs (aoi.member n s ms) = made fs s ++ made_inside fs ms
 
   -- those of arms, the last arm's first
-  pub made_behind : List Face → aoi.Arms → List Face
-  made_behind fs aoi.no_default = []
-  made_behind fs (aoi.default s) = made fs s
-  made_behind fs (aoi.arm n s arms) = made_behind fs arms ++ made fs s
+  pub made_after : List Face → aoi.Arms → List Face
+  made_after fs aoi.no_default = []
+  made_after fs (aoi.default s) = made fs s
+  made_after fs (aoi.arm n s arms) = made_after fs arms ++ made fs s
 
 -- those of types that may name the ones before them
 abbrev pub made_in_types : List Face → List aoi.Shape → List Face

@@ -9,7 +9,7 @@ use Rattle.aoi.specs.Plain.{PlainUnit}
 use Rattle.pres.specs.declared.ops.Op.{Op}
 use Rattle.pres.specs.declared.sizes.Size.{Size}
 use Rattle.pres.specs.Faces.{Face, Parts, Arms, type_of, types_of, arm_types_of}
-use Rattle.pres.specs.Faults.{spread, spread_inside, spread_behind, has_long_in}
+use Rattle.pres.specs.Faults.{spread, spread_inside, spread_after, has_long_in}
 
 -- so many levels and nodes, each up to one more than is allowed
 abbrev pub sized : ℕ → ℕ → Size
@@ -24,8 +24,8 @@ abbrev pub size_inside : Parts → Size
 size_inside ps = sized (fields_depth (types_of ps)) (spread_inside ps)
 
 -- the size of arms, side by side
-abbrev pub size_behind : Arms → Size
-size_behind arms = sized (arms_depth (arm_types_of arms)) (spread_behind arms)
+abbrev pub size_after : Arms → Size
+size_after arms = sized (arms_depth (arm_types_of arms)) (spread_after arms)
 
 -- what is side by side
 abbrev pub beside : Size → Size → Size
@@ -54,15 +54,15 @@ other_at sizes None = no_size
 other_at sizes (Some i) = at sizes i
 
 -- the size of arms by their numbers, and of the default
-abbrev pub behind_at : List Size → List (ℤ × ℕ) → Option ℕ → Size
-behind_at sizes [] o = other_at sizes o
-behind_at sizes (a ∷ arms) o = beside (at sizes a.1) (behind_at sizes arms o)
+abbrev pub after_at : List Size → List (ℤ × ℕ) → Option ℕ → Size
+after_at sizes [] o = other_at sizes o
+after_at sizes (a ∷ arms) o = beside (at sizes a.1) (after_at sizes arms o)
 
 -- the size of a node, over those of the nodes before it
 abbrev pub size_at : List Size → Node → Size
 size_at sizes (node.Group ids) = over (inside_at sizes ids)
 size_at sizes (node.Items i c) = over (at sizes i)
-size_at sizes (node.Choice t arms o) = over (behind_at sizes arms o)
+size_at sizes (node.Choice t arms o) = over (after_at sizes arms o)
 size_at sizes (node.Maybe i) = over (at sizes i)
 size_at sizes _ = sized 1 1
 

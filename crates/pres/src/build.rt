@@ -43,7 +43,7 @@ fn is_ranged(node: &Node)
 }
 
 /// What is reported of a unit where a table refuses a node as too heavy, or has no memory. It takes no memory.
-fn told(refused: MintErr) -> BindErr
+fn reported(refused: MintErr) -> BindErr
     requires { (refused ≢ MintErr.NoMemory) → refused ≡ MintHeavy }
     ensures heavy { refused ≡ MintHeavy → result ≡ BindErr.Heavy }
     ensures memory { refused ≡ MintErr.NoMemory → result ≡ BindErr.NoMemory }
@@ -65,7 +65,7 @@ fn add(mint: &mut Mint, node: Node) -> Result<(), BindErr>
 {
     match mint.add(node) {
         Ok(_) => Ok(()),
-        Err(refused) => Err(told(refused)),
+        Err(refused) => Err(reported(refused)),
     }
 }
 

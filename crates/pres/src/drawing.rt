@@ -6,7 +6,7 @@ ghost use Rattle.aoi.specs.Shapes.{seen, members, array, structure, optional, en
 ghost use Rattle.mint.specs.Types.{ArmsBelow, IsBelow};
 ghost use Rattle.pres.specs.Faces.{arms_at, choice};
 ghost use Rattle.pres.specs.Drafts.{Grows, IsDrawn, AreDrawn, AreArms, Overflows, drawn, known, is_drawable, are_drawable, arms_drawable, faces_inside};
-ghost use Rattle.pres.specs.Made.{made, made_inside, made_behind};
+ghost use Rattle.pres.specs.Made.{made, made_inside, made_after};
 ghost use Rattle.pres.specs.Offers.{face_of, arms_of, sign_in};
 
 use crate::draft::Draft;
@@ -160,11 +160,11 @@ impl Draft {
     fn draw_arms(&mut self, alloc: Global, arms: &[(i128, Ty)]) -> Result<Arms, BindErr>
         requires { IsTrue (arms_drawable (length (known self.old)) (arms_seen arms.now None)) }
         ensures grows { OnOk result
-            (Grows self.old self.new (made_behind (known self.old) (arms_seen arms.now None))) }
+            (Grows self.old self.new (made_after (known self.old) (arms_seen arms.now None))) }
         ensures arms { IfOk result
             (λ r. AreArms self.new r None (arms_of (known self.old) (arms_seen arms.now None))) }
         ensures cause { IfErr result
-            (λ e. Overflows (drawn self.old ++ made_behind (known self.old) (arms_seen arms.now None)) e) }
+            (λ e. Overflows (drawn self.old ++ made_after (known self.old) (arms_seen arms.now None)) e) }
     {
         let mut sorted = Vec::new(alloc);
         for i in 0..arms.len() {
@@ -187,11 +187,11 @@ impl Draft {
         requires { IsTrue (arms_drawable (length (known self.old))
             (default_of (option_map (λ b. seen b.value) other.now))) }
         ensures grows { OnOk result (Grows self.old self.new
-            (made_behind (known self.old) (default_of (option_map (λ b. seen b.value) other.now)))) }
+            (made_after (known self.old) (default_of (option_map (λ b. seen b.value) other.now)))) }
         ensures other { IfOk result (λ o. AreArms self.new [] o
             (arms_of (known self.old) (default_of (option_map (λ b. seen b.value) other.now)))) }
         ensures cause { IfErr result (λ e. Overflows (drawn self.old
-            ++ made_behind (known self.old) (default_of (option_map (λ b. seen b.value) other.now))) e) }
+            ++ made_after (known self.old) (default_of (option_map (λ b. seen b.value) other.now))) e) }
     {
         match other {
             Some(ty) => Ok(Some(self.draw(alloc, ty)?)),

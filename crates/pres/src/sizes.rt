@@ -4,7 +4,7 @@ ghost use Rattle.std.specs.Prelude.{◌≡◌, ◌<◌, ◌≤◌, length, map, 
 ghost use Rattle.kit_base.specs.Limits.{most_nodes};
 ghost use Rattle.mint.specs.Types.{HasChildrenBelow, AreBelow, ArmsBelow, IsBelow};
 ghost use Rattle.pres.specs.Drafts.{drawn};
-ghost use Rattle.pres.specs.Sizes.{beside, over, sized, no_size, inside_at, behind_at, other_at, size_at, size_of};
+ghost use Rattle.pres.specs.Sizes.{beside, over, sized, no_size, inside_at, after_at, other_at, size_at, size_of};
 
 use crate::draft::Draft;
 use kit_base::NoMemory;
@@ -74,10 +74,10 @@ fn size_inside(sizes: &[Size], ids: &NodeIds) -> Size
     size
 }
 
-fn size_behind(sizes: &[Size], arms: &Arms, other: Option<NodeId>) -> Size
+fn size_after(sizes: &[Size], arms: &Arms, other: Option<NodeId>) -> Size
     requires arms { ArmsBelow (length sizes.now) arms.now }
     requires other { IsBelow (length sizes.now) other }
-    ensures { result ≡ behind_at sizes.now arms.now other }
+    ensures { result ≡ after_at sizes.now arms.now other }
 {
     let mut size = size_other(sizes, other);
     let list = arms.as_slice();
@@ -105,7 +105,7 @@ fn size_at(sizes: &[Size], node: &Node) -> Size
     match node {
         Node::Group(ids) => size_inside(sizes, ids).over(),
         Node::Items(item, _) | Node::Maybe(item) => sizes[*item as usize].over(),
-        Node::Choice(_, arms, other) => size_behind(sizes, arms, *other).over(),
+        Node::Choice(_, arms, other) => size_after(sizes, arms, *other).over(),
         _ => Size::leaf(),
     }
 }

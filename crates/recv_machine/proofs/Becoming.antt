@@ -63,12 +63,12 @@ fields_size ns d ds is = ap (λ (x : Filling). draft_size (drawn ns x)) is ∙ a
 -- ---- one field more
 
 -- values before those of drafts
-abbrev pub with_front : Vals → Option Vals → Option Vals
-with_front front o = option_map (joined front) o
+abbrev pub with_prefix : Vals → Option Vals → Option Vals
+with_prefix front o = option_map (joined front) o
 
 -- the whole is the values so far and those of what is left, which is as it was
 pub record Settled (ns : List Node) (fields rest : List Filling) (values : List Value) (i : ℕ) : Type 0 where
-  pub whole : settles (all_drawn ns fields) ≡ with_front (all_seen values) (settles (all_drawn ns (drop i rest)))
+  pub whole : settles (all_drawn ns fields) ≡ with_prefix (all_seen values) (settles (all_drawn ns (drop i rest)))
   pub many : length rest ≡ length fields
   -- the fields that are left are where they were
   pub left : drop i rest ≡ drop i fields
@@ -88,12 +88,12 @@ first_got (x ∷ ds) (suc i) d h =
     first_got ds i d h ∙ sym (ap (λ (n : ℕ). d ∷ drop n (x ∷ ds)) e)
 
 same_none : (front : Vals) (o : Option Val) (q : Option Vals) → o ≡ None
-    → with_front front (on_some o (λ v. on_some q (λ vs. Some (val v vs)))) ≡ None
+    → with_prefix front (on_some o (λ v. on_some q (λ vs. Some (val v vs)))) ≡ None
 same_none front None q h = refl
 same_none front (Some v) q h = absurd cc
 
 some_joined : (front : Vals) (v : Val) (q : Option Vals)
-    → with_front front (on_some q (λ vs. Some (val v vs))) ≡ with_front (joined front (val v no_more)) q
+    → with_prefix front (on_some q (λ vs. Some (val v vs))) ≡ with_prefix (joined front (val v no_more)) q
 some_joined front v None = refl
 some_joined front v (Some vs) = ap (λ (x : Vals). Some x) (sym (joined_one front v vs))
 
@@ -111,7 +111,7 @@ settle_fits ns fields rest values i d h got there = checked (settle (drawn ns d)
   checked None e =
       let split : drop i rest ≡ d ∷ drop (i + 1) rest = first_got rest i d got in
       let none : settles (all_drawn ns fields) ≡ None = h.whole
-      ∙ ap (λ (l : List Filling). with_front (all_seen values) (settles (all_drawn ns l))) split
+      ∙ ap (λ (l : List Filling). with_prefix (all_seen values) (settles (all_drawn ns l))) split
       ∙ same_none (all_seen values) (settle (drawn ns d)) (settles (all_drawn ns (drop (i + 1) rest))) e in
       absurd (subst IsThere none there)
 
@@ -129,12 +129,12 @@ settle_turn ns fields rest rest' values values' i d hole v h got made is more = 
       let split : drop i rest ≡ d ∷ drop (i + 1) rest = first_got rest i d got in
       let same : drop (i + 1) rest' ≡ drop (i + 1) rest = ap (drop (i + 1)) made ∙ dropped_set rest i hole in
       let next : all_seen values' ≡ joined (all_seen values) (val (seen v) no_more) = ap all_seen more ∙ all_seen-push values v in
-      h.whole ∙ ap (λ (l : List Filling). with_front (all_seen values) (settles (all_drawn ns l))) split
-      ∙ ap (λ (o : Option Val). with_front (all_seen values)
+      h.whole ∙ ap (λ (l : List Filling). with_prefix (all_seen values) (settles (all_drawn ns l))) split
+      ∙ ap (λ (o : Option Val). with_prefix (all_seen values)
       (on_some o (λ w. on_some (settles (all_drawn ns (drop (i + 1) rest))) (λ vs. Some (val w vs))))) is
       ∙ some_joined (all_seen values) (seen v) (settles (all_drawn ns (drop (i + 1) rest)))
-      ∙ ap (λ (x : Vals). with_front x (settles (all_drawn ns (drop (i + 1) rest)))) (sym next)
-      ∙ ap (λ (l : List Filling). with_front (all_seen values') (settles (all_drawn ns l))) (sym same);
+      ∙ ap (λ (x : Vals). with_prefix x (settles (all_drawn ns (drop (i + 1) rest)))) (sym next)
+      ∙ ap (λ (l : List Filling). with_prefix (all_seen values') (settles (all_drawn ns l))) (sym same);
   many = ap length made ∙ length-set rest i hole ∙ h.many;
   left =
       let next : i + 1 ≡ 1 + i = omega arith in
@@ -159,7 +159,7 @@ settle_less ns fields rest values i d h got =
 
 pub settle_start : (ns : List Node) (fields : List Filling) → Settled ns fields fields [] 0
 settle_start ns fields = record { whole = nothing (settles (all_drawn ns fields)); many = refl; left = refl } where
-  nothing : (o : Option Vals) → o ≡ with_front no_more o
+  nothing : (o : Option Vals) → o ≡ with_prefix no_more o
   nothing None = refl
   nothing (Some vs) = refl
 
@@ -168,7 +168,7 @@ pub settle_end : (ns : List Node) (fields rest : List Filling) (values : List Va
     → settles (all_drawn ns fields) ≡ Some (all_seen values)
 settle_end ns fields rest values i h past =
     h.whole
-    ∙ ap (λ (l : List Filling). with_front (all_seen values) (settles (all_drawn ns l))) (drop_all i rest (omega (arith, past, h.many)))
+    ∙ ap (λ (l : List Filling). with_prefix (all_seen values) (settles (all_drawn ns l))) (drop_all i rest (omega (arith, past, h.many)))
     ∙ ap (λ (x : Vals). Some x) (joined-no_more (all_seen values))
 
 seen-Group : (vs : List Value) → seen (value.Group vs) ≡ group (all_seen vs)

@@ -415,11 +415,11 @@ module _ (f : Going ℤ) (n i : ℕ) (s0 s : Place) (front : List ℤ) (lt : i <
   pub number_holds : Holds (runs f n s0) → Holds (f s)
   number_holds h = held_first (f s) (λ x t. map_run (λ xs. x ∷ xs) (runs f (n - (i + 1)) t)) (subst Holds unfolded_once h)
 
-  behind_first : (x : ℤ) (z : Run (List ℤ))
+  after_first : (x : ℤ) (z : Run (List ℤ))
       → map_run (λ vs. front ++ vs) (map_run (λ xs. x ∷ xs) z) ≡ map_run (λ vs. (front ++ x ∷ []) ++ vs) z
-  behind_first x (gives vs t) = ap (λ (l : List ℤ). gives l t) (sym (append_assoc front (x ∷ []) vs))
-  behind_first x refuses = refl
-  behind_first x strays = refl
+  after_first x (gives vs t) = ap (λ (l : List ℤ). gives l t) (sym (append_assoc front (x ∷ []) vs))
+  after_first x refuses = refl
+  after_first x strays = refl
 
   pub number_turn : (r : Numbers) (k k' : Kind) (x y : ℤ) (t : Place) → f s ≡ gives x t → k ≡ k' → y ≡ x
       → r ≡ record { kind = k; numbers = front ++ y ∷ [] }
@@ -427,7 +427,7 @@ module _ (f : Going ℤ) (n i : ℕ) (s0 s : Place) (front : List ℤ) (lt : i <
   number_turn r k k' x y t ran same one is = (
     unfolded_once
         ∙ ap (λ (z : Run ℤ). map_run (λ vs. front ++ vs) (then_run z (λ x t. map_run (λ xs. x ∷ xs) (runs f (n - (i + 1)) t)))) ran
-        ∙ behind_first x (runs f (n - (i + 1)) t) ∙ ap (λ (l : List ℤ). map_run (λ vs. l ++ vs) (runs f (n - (i + 1)) t))
+        ∙ after_first x (runs f (n - (i + 1)) t) ∙ ap (λ (l : List ℤ). map_run (λ vs. l ++ vs) (runs f (n - (i + 1)) t))
         (sym (ap (λ (q : Numbers). q.numbers) is ∙ ap (λ (z : ℤ). front ++ z ∷ []) one)),
     ap (λ (q : Numbers). q.kind) is ∙ same,
   )

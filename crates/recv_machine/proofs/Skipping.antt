@@ -35,8 +35,8 @@ pub ruleset zeros = (zeros_on, zeros_off, zeros_end)
 
 -- ---- the runs
 
-behind : ℕ → Place → Place
-behind k s = record { pos = s.pos + k; left = drop k s.left; near = max k s.near - k; tests = raised s.tests 1 }
+after : ℕ → Place → Place
+after k s = record { pos = s.pos + k; left = drop k s.left; near = max k s.near - k; tests = raised s.tests 1 }
 
 module _ (test : List ℕ → Bool) (a : ℕ) (d : Draft) (s : Place) where
   pub no_multiple : is_width a ≡ false → skipped test a d s ≡ refuses

@@ -11,7 +11,7 @@ use Rattle.wire_def.specs.Laws.{BeginsWith}
 use Rattle.wire_def.specs.Reading.{read}
 use Rattle.wire_def.specs.Send.{send}
 use Rattle.wire_def.proofs.Encodings.{grammar, sent_spells}
-use Rattle.cast_stub.specs.Got.{IsExact, received, told, given}
+use Rattle.cast_stub.specs.Got.{IsExact, received, reported, given}
 use Rattle.cast_stub.specs.Runs.{Run, gives, refuses, strays}
 use Rattle.recv_whole.specs.RoundTrip.{WhatIsSentIsReceived}
 
@@ -28,7 +28,7 @@ module _ (e : Encoding) (t : Ty) (p : ℕ) (o : List ℕ) where
 
   -- a run that is exact, over octets that begin with a value's
   gives_it : (v : Val) (used : ℕ) (x : Run Val) → BeginsWith e t p o v used → IsExact e t p o x
-      → (tests : ℕ) × (told x ≡ given v (p + used) tests)
+      → (tests : ℕ) × (reported x ≡ given v (p + used) tests)
   gives_it v used (gives w s) begins exact =
       let same = same_value v w (p + used) (p + exact.0) _ _ (read e t p o) (reads v used begins) (reads w exact.0 exact.3) in
       (s.tests, ap (λ (y : Val). given y s.pos s.tests) (sym same.0) ∙ ap (λ (q : ℕ). given v q s.tests) (exact.1 ∙ sym same.1))

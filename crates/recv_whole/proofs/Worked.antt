@@ -9,11 +9,11 @@ use Rattle.cast_stub.specs.declared.recv.Get.TheVariants as get
 use Rattle.cast_stub.specs.RecvBlock.{Recv, finish, need, need_row, skip_any, skip_zero, pass, desc, row_block, row_wide, each}
 use Rattle.cast_stub.specs.Draft.{fresh}
 use Rattle.cast_stub.specs.Fill.{fill, settled}
-use Rattle.cast_stub.specs.Got.{Got, given, not_given, told, no_calls, untested}
+use Rattle.cast_stub.specs.Got.{Got, given, not_given, reported, no_calls, untested}
 
 -- what a code gives of a type over octets, from a position
 abbrev gives_of : Ty → Recv → ℕ → List ℕ → Got
-gives_of t b p o = told (settled (fill no_calls b (fresh t) (untested p o)))
+gives_of t b p o = reported (settled (fill no_calls b (fresh t) (untested p o)))
 
 -- a list of at most two structs of two numbers
 abbrev pairs : Ty

@@ -14,10 +14,10 @@ use Rattle.wire_def.proofs.ScalarGrammar.{left_true, right_true}
 use Rattle.storage_class.specs.Classing.{from_each, greatest}
 use Rattle.storage_class.specs.Spans.{scalar_span, element_length, elements_length, array_length, array_most, array_counted, text_counted, array_span}
 
-pub told_at : (f : List ℕ) (i : ℕ) → list_all (λ n. nat_le n 4294967295) f ≡ true → get_or f i 0 ≤ 4294967295
-told_at [] i h = omega arith
-told_at (n ∷ ns) zero h = leb-true n 4294967295 (left_true _ _ h)
-told_at (n ∷ ns) (suc i) h = told_at ns i (right_true (nat_le n 4294967295) _ h)
+pub reported_at : (f : List ℕ) (i : ℕ) → list_all (λ n. nat_le n 4294967295) f ≡ true → get_or f i 0 ≤ 4294967295
+reported_at [] i h = omega arith
+reported_at (n ∷ ns) zero h = leb-true n 4294967295 (left_true _ _ h)
+reported_at (n ∷ ns) (suc i) h = reported_at ns i (right_true (nat_le n 4294967295) _ h)
 
 pub eight : (f : List ℕ) → length f ≡ 8
     → get_or f 0 0 ∷ get_or f 1 0 ∷ get_or f 2 0 ∷ get_or f 3 0 ∷ get_or f 4 0 ∷ get_or f 5 0 ∷ get_or f 6 0 ∷ get_or f 7 0 ∷ [] ≡ f
@@ -44,7 +44,7 @@ greatest_of (a ∷ b ∷ c ∷ d ∷ e ∷ f ∷ g ∷ h ∷ []) long =
     ap (max (max a (max b (max c d)))) (last_four e f g h) ∙ four a b c d (e ∷ f ∷ g ∷ h ∷ [])
 greatest_of _ long = absurd cc
 
-pub ruleset eights = (told_at, eight, greatest_of)
+pub ruleset eights = (reported_at, eight, greatest_of)
 
 pub label_same : (e : Encoding) (ls : List Rattle.std.proofs.Common.ℤ) → scalar_span e (number kind.I32) ≡ scalar_span e (label ls)
 label_same Xdr ls = refl

@@ -21,8 +21,8 @@ pub arm_before : (e : Encoding) (nodes : List Node) (known : List Span) (arms : 
     (s rest : Span) → ArmsBelow (length known) arms → AreSpans e nodes known → i < length arms
     → slice_get known (get_or arms i d).1 ≡ Some s → rest ≡ arms_span e (arms_at (unfolded nodes) (drop (suc i) arms) o)
     → either s rest ≡ arms_span e (arms_at (unfolded nodes) (drop i arms) o)
-arm_before e nodes known arms o i d s rest below are h is behind =
+arm_before e nodes known arms o i d s rest below are h is after =
     let same : s ≡ span e (type_at nodes (get_or arms i d).1) =
     some_same s _ (sym is ∙ are (get_or arms i d).1 (arm_below (length known) arms i d below h)) in
     let one = ap (λ z. arms_span e (arms_at (unfolded nodes) z o)) (drop-cons arms i d h) in
-    ap (λ z. either z rest) same ∙ ap (λ z. either (span e (type_at nodes (get_or arms i d).1)) z) behind ∙ sym one
+    ap (λ z. either z rest) same ∙ ap (λ z. either (span e (type_at nodes (get_or arms i d).1)) z) after ∙ sym one

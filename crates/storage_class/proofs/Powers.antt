@@ -4,9 +4,9 @@ use Rattle.std.specs.List.{list_all}
 use Rattle.std.proofs.lemmas.Bool.{le-leb}
 use Rattle.storage_class.specs.declared.span.Span.{Span}
 use Rattle.storage_class.specs.declared.span.Span.TheVariants.{Fixed, Bounded, Unbounded}
-use Rattle.storage_class.specs.Classing.{from_each, length_at, length_behind, run, exactly, behind}
+use Rattle.storage_class.specs.Classing.{from_each, length_at, length_after, run, exactly, after}
 use Rattle.storage_class.proofs.Residues.{eighth, run_at, run_turns}
-use Rattle.storage_class.proofs.Eights.{told_at}
+use Rattle.storage_class.proofs.Eights.{reported_at}
 
 pub run_add : (m n : ℕ) (f : List ℕ) (p : ℕ) → run (m + n) f p ≡ run m f p + run n f (p + run m f p)
 unfolding run
@@ -27,7 +27,7 @@ fit f = list_all (λ n. nat_le n 4294967295) f
 fit_all : (f : ℕ → ℕ) → fit (from_each f) ≡ true → (p : ℕ) → f (p % 8) ≤ 4294967295
 fit_all f h p =
     let below : p % 8 < 8 = omega arith in
-    let there = told_at (from_each f) (p % 8) h in
+    let there = reported_at (from_each f) (p % 8) h in
     omega (arith, there, eighth f (p % 8) below)
 
 all_fit : (f : ℕ → ℕ) → ((p : ℕ) → f p ≤ 4294967295) → fit (from_each f) ≡ true
@@ -59,12 +59,12 @@ same_each : (f g : ℕ → ℕ) → ((p : ℕ) → f p ≡ g p) → from_each f 
 same_each f g h = rw (h 0, h 1, h 2, h 3, h 4, h 5, h 6, h 7) refl
 
 -- so many, and one more before them
-one_more : (f : List ℕ) (n p : ℕ) → length_behind f (from_each (run n f)) p ≡ run (suc n) f p
+one_more : (f : List ℕ) (n p : ℕ) → length_after f (from_each (run n f)) p ≡ run (suc n) f p
 unfolding run
 one_more f n p = ap (λ z. length_at f p + z) (run_at n f (p + length_at f p))
 
 -- twice as many
-twice : (f : List ℕ) (m p : ℕ) → length_behind (from_each (run m f)) (from_each (run m f)) p ≡ run (m + m) f p
+twice : (f : List ℕ) (m p : ℕ) → length_after (from_each (run m f)) (from_each (run m f)) p ≡ run (m + m) f p
 twice f m p =
     let here = run_at m f p in
     let there = run_at m f (p + run m f p) in
@@ -76,28 +76,28 @@ run_eighth n f p = run_turns n f (p % 8) p (again p) where
   again q = omega arith
 
 pub half_twice : (f : List ℕ) (m n : ℕ) → m + m ≡ n
-    → behind (exactly (from_each (run m f))) (exactly (from_each (run m f))) ≡ exactly (from_each (run n f))
+    → after (exactly (from_each (run m f))) (exactly (from_each (run m f))) ≡ exactly (from_each (run n f))
 half_twice f m n is = by (fit (from_each (run m f))) refl where
   less : (p : ℕ) → run m f p ≤ run (m + m) f (p % 8)
   less p = rw run_eighth (rw run_add (omega arith))
 
   by : (b : Bool) → fit (from_each (run m f)) ≡ b
-      → behind (cond b (Fixed (from_each (run m f))) Unbounded) (cond b (Fixed (from_each (run m f))) Unbounded)
+      → after (cond b (Fixed (from_each (run m f))) Unbounded) (cond b (Fixed (from_each (run m f))) Unbounded)
       ≡ exactly (from_each (run n f))
-  by true fits = rw (← is) (ap exactly (same_each (length_behind (from_each (run m f)) (from_each (run m f))) (run (m + m) f) (twice f m)))
+  by true fits = rw (← is) (ap exactly (same_each (length_after (from_each (run m f)) (from_each (run m f))) (run (m + m) f) (twice f m)))
   by false fits =
       let not_fit : fit (from_each (run (m + m) f)) ≡ false =
       false_of (fit (from_each (run m f))) (fit (from_each (run (m + m) f))) (fits_less (run m f) (run (m + m) f) less) fits in
       rw (← is, not_fit) refl
 
-pub one_and_even : (f : List ℕ) (m n : ℕ) → suc m ≡ n → behind (Fixed f) (exactly (from_each (run m f))) ≡ exactly (from_each (run n f))
+pub one_and_even : (f : List ℕ) (m n : ℕ) → suc m ≡ n → after (Fixed f) (exactly (from_each (run m f))) ≡ exactly (from_each (run n f))
 one_and_even f m n is = by (fit (from_each (run m f))) refl where
   less : (p : ℕ) → run m f p ≤ run (m + 1) f (p % 8)
   less p = rw run_eighth (rw run_add (omega arith))
 
   by : (b : Bool) → fit (from_each (run m f)) ≡ b
-      → behind (Fixed f) (cond b (Fixed (from_each (run m f))) Unbounded) ≡ exactly (from_each (run n f))
-  by true fits = rw (← is) (ap exactly (same_each (length_behind f (from_each (run m f))) (run (suc m) f) (one_more f m)))
+      → after (Fixed f) (cond b (Fixed (from_each (run m f))) Unbounded) ≡ exactly (from_each (run n f))
+  by true fits = rw (← is) (ap exactly (same_each (length_after f (from_each (run m f))) (run (suc m) f) (one_more f m)))
   by false fits =
       let plus : m + 1 ≡ suc m = omega arith in
       let not_fit : fit (from_each (run (m + 1) f)) ≡ false =

@@ -1,7 +1,7 @@
 -- Lengths by the remainder of the position.
 use Rattle.std.proofs.Common.{◌≡◌, ℕ, zero, suc, ◌+◌, ◌*◌, ◌%◌, ◌<◌, ◌≤◌, max, List, [], ◌∷◌, get_or, length, refl, sym, ap, ◌∙◌, arith}
 use Rattle.std.proofs.Math.Nat.{mod-lt}
-use Rattle.storage_class.specs.Classing.{from_each, length_at, length_behind, run, greatest}
+use Rattle.storage_class.specs.Classing.{from_each, length_at, length_after, run, greatest}
 
 pub eighth : (f : ℕ → ℕ) (r : ℕ) → r < 8 → get_or (from_each f) r 0 ≡ f r
 eighth f zero h = refl
@@ -40,14 +40,14 @@ turned p = omega arith
 pub run_at : (n : ℕ) (f : List ℕ) (p : ℕ) → length_at (from_each (run n f)) p ≡ run n f p
 run_at n f p = from_each_at (run n f) (λ q. run_turns n f (q % 8) q (turned q)) p
 
-pub behind_turns : (f g : List ℕ) (p q : ℕ) → p % 8 ≡ q % 8 → length_behind f g p ≡ length_behind f g q
-behind_turns f g p q h =
+pub after_turns : (f g : List ℕ) (p q : ℕ) → p % 8 ≡ q % 8 → length_after f g p ≡ length_after f g q
+after_turns f g p q h =
     let here = length_turns f p q h in
     let rest = length_turns g (p + length_at f p) (q + length_at f q) (omega (arith, h, here)) in
     omega (arith, here, rest)
 
-pub behind_at : (f g : List ℕ) (p : ℕ) → length_at (from_each (length_behind f g)) p ≡ length_behind f g p
-behind_at f g p = from_each_at (length_behind f g) (λ q. behind_turns f g (q % 8) q (turned q)) p
+pub after_at : (f g : List ℕ) (p : ℕ) → length_at (from_each (length_after f g)) p ≡ length_after f g p
+after_at f g p = from_each_at (length_after f g) (λ q. after_turns f g (q % 8) q (turned q)) p
 
 -- no length is above the greatest
 item_most : (f : List ℕ) (i : ℕ) → get_or f i 0 ≤ greatest f

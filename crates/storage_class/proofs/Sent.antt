@@ -24,9 +24,9 @@ use Rattle.wire_def.proofs.Words.{IsOwn, is8, is16, is32, is64, own_of}
 use Rattle.wire_def.proofs.Short.{scalar_long}
 use Rattle.storage_class.specs.declared.span.Span.{Span}
 use Rattle.storage_class.specs.declared.span.Span.TheVariants.{Fixed, Bounded, Unbounded}
-use Rattle.storage_class.specs.Classing.{from_each, length_at, run, greatest, exactly, top, loose, behind, either, times, times_top, HasLength}
+use Rattle.storage_class.specs.Classing.{from_each, length_at, run, greatest, exactly, top, loose, after, either, times, times_top, HasLength}
 use Rattle.storage_class.specs.Spans.{lone_length, scalar_span, element_length, elements_length, first_gap, wide_gap, described_length, array_length, array_most, array_counted, text_counted, items_span, span, fields_span, arms_span}
-use Rattle.storage_class.proofs.Within.{exactly_within, at_most_within, loose_within, nothing_within, behind_within, first_within, second_within}
+use Rattle.storage_class.proofs.Within.{exactly_within, at_most_within, loose_within, nothing_within, after_within, first_within, second_within}
 use Rattle.storage_class.proofs.Residues.{from_each_at, run_at, length_most}
 
 -- ---- scalars
@@ -196,8 +196,8 @@ first_most (row_of kind.U64 c) q (suc n) h = omega (arith, h)
 first_most (row_of kind.Bool c) q (suc n) h = omega arith
 
 -- after a count elements begin at a multiple of 4
-behind_count : (p : ℕ) → (p + (gap p 4 + 4)) % 4 ≡ 0
-behind_count p = omega arith
+after_count : (p : ℕ) → (p + (gap p 4 + 4)) % 4 ≡ 0
+after_count p = omega arith
 
 count_few : (p : ℕ) → gap p 4 + 4 ≤ 7
 count_few p = omega arith
@@ -230,7 +230,7 @@ big_row k (AtMost m) p ns h =
     let head = scalar_octets CdrBig counted p (pos (length ns)) in
     let long : length head ≡ gap p 4 + 4 = scalar_long CdrBig counted p (pos (length ns)) in
     let body = body_long CdrBig tt a (p + length head) ns in
-    let front = first_most a (p + length head) (length ns) (rw long (behind_count p)) in
+    let front = first_most a (p + length head) (length ns) (rw long (after_count p)) in
     let less = grown a CdrBig (length ns) m tt h.0 in
     at_most_within (array_most CdrBig a m) p _
     (simp (length-append, length-replicate) (omega (arith, long, body, front, less, count_few p)))
@@ -243,7 +243,7 @@ big_text c p ns h =
     let head = scalar_octets CdrBig counted p (pos (suc (length ns))) in
     let long : length head ≡ gap p 4 + 4 = scalar_long CdrBig counted p (pos (suc (length ns))) in
     let body = body_long CdrBig tt (text c) (p + length head) ns in
-    let front = first_most (text c) (p + length head) (length ns) (rw long (behind_count p)) in
+    let front = first_most (text c) (p + length head) (length ns) (rw long (after_count p)) in
     let all : length (array_octets CdrBig (text c) p ns) ≤ 8 + length ns =
     simp (length-append, length-replicate) (omega (arith, long, body, front, count_few p)) in
     text_fits CdrBig (inl refl) c p (length ns) _ h all
@@ -262,7 +262,7 @@ little_row k (AtMost m) p ns h =
     let head = scalar_octets CdrLittle counted p (pos (length ns)) in
     let long : length head ≡ gap p 4 + 4 = scalar_long CdrLittle counted p (pos (length ns)) in
     let body = body_long CdrLittle tt a (p + length head) ns in
-    let front = first_most a (p + length head) (length ns) (rw long (behind_count p)) in
+    let front = first_most a (p + length head) (length ns) (rw long (after_count p)) in
     let less = grown a CdrLittle (length ns) m tt h.0 in
     at_most_within (array_most CdrLittle a m) p _
     (simp (length-append, length-replicate) (omega (arith, long, body, front, less, count_few p)))
@@ -275,7 +275,7 @@ little_text c p ns h =
     let head = scalar_octets CdrLittle counted p (pos (suc (length ns))) in
     let long : length head ≡ gap p 4 + 4 = scalar_long CdrLittle counted p (pos (suc (length ns))) in
     let body = body_long CdrLittle tt (text c) (p + length head) ns in
-    let front = first_most (text c) (p + length head) (length ns) (rw long (behind_count p)) in
+    let front = first_most (text c) (p + length head) (length ns) (rw long (after_count p)) in
     let all : length (array_octets CdrLittle (text c) p ns) ≤ 8 + length ns =
     simp (length-append, length-replicate) (omega (arith, long, body, front, count_few p)) in
     text_fits CdrLittle (inr refl) c p (length ns) _ h all
@@ -420,7 +420,7 @@ unfolding count_octets
 items_within e (Exactly m) t p vs ok h each = rw (zero-add, add-zero, ← ok) (times_within t (send e t) (span e t) each p vs h)
 items_within e (AtMost m) t p vs ok h each =
     let q : ℕ = p + length (lone_octets e counted p (pos (count vs))) in
-    behind_within (scalar_span e counted) (times_top m (top (span e t))) p _ _ (lone_long e counted p (pos (count vs)))
+    after_within (scalar_span e counted) (times_top m (top (span e t))) p _ _ (lone_long e counted p (pos (count vs)))
     (times_most t (send e t) (span e t) each q vs h m ok.0)
 items_within e Any t p vs ok h each = tt
 
@@ -445,14 +445,14 @@ module _ (e : Encoding) where
     sent_within (group_type ts) p (group vs) h = fields_within ts p vs h
     sent_within (items_type c t) p (items vs) h = rw length-append (items_within e c t p vs h.0 h.1 (sent_within t))
     sent_within (choice_type s arms) p (arm n v) h =
-        rw length-append (behind_within (scalar_span e s) (arms_span e arms) p _ _ (lone_long e s p n)
+        rw length-append (after_within (scalar_span e s) (arms_span e arms) p _ _ (lone_long e s p n)
         (arm_within arms n (p + length (lone_octets e s p n)) v h.1))
     sent_within (maybe_type t) p absent h =
-        rw add-zero at (behind_within (scalar_span e flag) (loose (span e t)) p (length (lone_octets e flag p (pos 0))) 0
+        rw add-zero at (after_within (scalar_span e flag) (loose (span e t)) p (length (lone_octets e flag p (pos 0))) 0
         (lone_long e flag p (pos 0)) (nothing_within (span e t) (p + length (lone_octets e flag p (pos 0)))))
     sent_within (maybe_type t) p (present v) h =
         let q : ℕ = p + length (lone_octets e flag p (pos 1)) in
-        rw length-append (behind_within (scalar_span e flag) (loose (span e t)) p _ _ (lone_long e flag p (pos 1))
+        rw length-append (after_within (scalar_span e flag) (loose (span e t)) p _ _ (lone_long e flag p (pos 1))
         (loose_within (span e t) q _ (sent_within t q v h)))
     sent_within _ p _ h = absurd h
 
@@ -460,7 +460,7 @@ module _ (e : Encoding) where
     fields_within no_fields p no_more h = sym (from_each_at (λ q. 0) (λ q. refl) p)
     fields_within (field t ts) p (val v vs) h =
         rw length-append
-        (behind_within (span e t) (fields_span e ts) p _ _ (sent_within t p v h.0) (fields_within ts (p + length (send e t p v)) vs h.1))
+        (after_within (span e t) (fields_span e ts) p _ _ (sent_within t p v h.0) (fields_within ts (p + length (send e t p v)) vs h.1))
     fields_within _ p _ h = absurd h
 
     arm_within : (arms : Arms) (n : ℤ) (p : ℕ) (v : Val) → IsOfArm arms n v

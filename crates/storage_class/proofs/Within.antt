@@ -3,18 +3,18 @@ use Rattle.std.proofs.Common.{◌≡◌, ℕ, ◌+◌, ◌*◌, ◌≤◌, nat_l
 use Rattle.std.specs.List.{list_all}
 use Rattle.storage_class.specs.declared.span.Span.{Span}
 use Rattle.storage_class.specs.declared.span.Span.TheVariants.{Fixed, Bounded, Unbounded}
-use Rattle.storage_class.specs.Classing.{from_each, length_at, length_behind, greatest, exactly, at_most, top, loose, behind, either, times_top, HasLength}
-use Rattle.storage_class.proofs.Residues.{behind_at, length_most}
+use Rattle.storage_class.specs.Classing.{from_each, length_at, length_after, greatest, exactly, at_most, top, loose, after, either, times_top, HasLength}
+use Rattle.storage_class.proofs.Residues.{after_at, length_most}
 
-told : (b : Bool) (s : Span) (p l : ℕ) → HasLength s p l → HasLength (cond b s Unbounded) p l
-told true s p l h = h
-told false s p l h = tt
+reported : (b : Bool) (s : Span) (p l : ℕ) → HasLength s p l → HasLength (cond b s Unbounded) p l
+reported true s p l h = h
+reported false s p l h = tt
 
 pub exactly_within : (f : List ℕ) (p l : ℕ) → l ≡ length_at f p → HasLength (exactly f) p l
-exactly_within f p l h = told (list_all (λ n. nat_le n 4294967295) f) (Fixed f) p l h
+exactly_within f p l h = reported (list_all (λ n. nat_le n 4294967295) f) (Fixed f) p l h
 
 pub at_most_within : (n p l : ℕ) → l ≤ n → HasLength (at_most n) p l
-at_most_within n p l h = told (nat_le n 4294967295) (Bounded n) p l h
+at_most_within n p l h = reported (nat_le n 4294967295) (Bounded n) p l h
 
 pub loose_within : (s : Span) (p l : ℕ) → HasLength s p l → HasLength (loose s) p l
 loose_within (Fixed f) p l h = let most = length_most f p in omega (arith, h, most)
@@ -26,23 +26,23 @@ nothing_within (Fixed n) p = omega arith
 nothing_within (Bounded n) p = omega arith
 nothing_within Unbounded p = tt
 
-pub behind_within : (a b : Span) (p k l : ℕ) → HasLength a p k → HasLength b (p + k) l → HasLength (behind a b) p (k + l)
-behind_within (Fixed f) (Fixed g) p k l h j =
-    let whole = behind_at f g p in
+pub after_within : (a b : Span) (p k l : ℕ) → HasLength a p k → HasLength b (p + k) l → HasLength (after a b) p (k + l)
+after_within (Fixed f) (Fixed g) p k l h j =
+    let whole = after_at f g p in
     let second : l ≡ length_at g (p + length_at f p) = rw h at j in
-    exactly_within (from_each (length_behind f g)) p (k + l) (omega (arith, h, second, whole))
-behind_within (Fixed f) (Bounded n) p k l h j =
+    exactly_within (from_each (length_after f g)) p (k + l) (omega (arith, h, second, whole))
+after_within (Fixed f) (Bounded n) p k l h j =
     let most = length_most f p in
     at_most_within (greatest f + n) p (k + l) (omega (arith, h, most))
-behind_within (Fixed f) Unbounded p k l h j = tt
-behind_within (Bounded m) (Fixed g) p k l h j =
+after_within (Fixed f) Unbounded p k l h j = tt
+after_within (Bounded m) (Fixed g) p k l h j =
     let most = length_most g (p + k) in
     at_most_within (m + greatest g) p (k + l) (omega (arith, j, most))
-behind_within (Bounded m) (Bounded n) p k l h j = at_most_within (m + n) p (k + l) (omega arith)
-behind_within (Bounded m) Unbounded p k l h j = tt
-behind_within Unbounded (Fixed n) p k l h j = tt
-behind_within Unbounded (Bounded n) p k l h j = tt
-behind_within Unbounded Unbounded p k l h j = tt
+after_within (Bounded m) (Bounded n) p k l h j = at_most_within (m + n) p (k + l) (omega arith)
+after_within (Bounded m) Unbounded p k l h j = tt
+after_within Unbounded (Fixed n) p k l h j = tt
+after_within Unbounded (Bounded n) p k l h j = tt
+after_within Unbounded Unbounded p k l h j = tt
 
 pub first_within : (a b : Span) (p l : ℕ) → HasLength a p l → HasLength (either a b) p l
 first_within (Fixed f) (Fixed g) p l h = let most = length_most f p in omega (arith, h, most)

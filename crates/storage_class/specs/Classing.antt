@@ -17,8 +17,8 @@ unfoldable pub length_at : List ℕ → ℕ → ℕ
 length_at f p = slice_index_or f (p % 8) 0
 
 -- the length from a position of one part and another after it
-abbrev pub length_behind : List ℕ → List ℕ → ℕ → ℕ
-length_behind f g p = length_at f p + length_at g (p + length_at f p)
+abbrev pub length_after : List ℕ → List ℕ → ℕ → ℕ
+length_after f g p = length_at f p + length_at g (p + length_at f p)
 
 -- the length from a position of so many parts of the same lengths, one after the other
 unfoldable pub run : ℕ → List ℕ → ℕ → ℕ
@@ -67,9 +67,9 @@ times_top n (Some m) = at_most (n * m)
 times_top n None = Unbounded
 
 -- the span of a part and another after it
-abbrev pub behind : Span → Span → Span
-behind (Fixed f) (Fixed g) = exactly (from_each (length_behind f g))
-behind a b = sum_of_tops (top a) (top b)
+abbrev pub after : Span → Span → Span
+after (Fixed f) (Fixed g) = exactly (from_each (length_after f g))
+after a b = sum_of_tops (top a) (top b)
 
 -- the span of one of two parts
 abbrev pub either : Span → Span → Span

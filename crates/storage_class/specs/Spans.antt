@@ -15,7 +15,7 @@ use Rattle.wire_def.specs.Arrays.{counted, count_of, kind_of, is_octets, trailin
 use Rattle.wire_def.specs.Send.{flag}
 use Rattle.storage_class.specs.declared.span.Span.{Span}
 use Rattle.storage_class.specs.declared.span.Span.TheVariants.{Fixed, Bounded, Unbounded}
-use Rattle.storage_class.specs.Classing.{from_each, exactly, at_most, top, loose, behind, either, times, times_top}
+use Rattle.storage_class.specs.Classing.{from_each, exactly, at_most, top, loose, after, either, times, times_top}
 
 -- the octets of a scalar by itself from a position
 abbrev pub lone_length : Encoding → Scalar → ℕ → ℕ
@@ -84,7 +84,7 @@ array_span e a = array_counted e a (count_of a)
 -- the span of a list, by its count and the span of an element
 abbrev pub items_span : Encoding → Count → Span → Span
 items_span e (Exactly n) s = times n s
-items_span e (AtMost n) s = behind (scalar_span e counted) (times_top n (top s))
+items_span e (AtMost n) s = after (scalar_span e counted) (times_top n (top s))
 items_span e Any s = Unbounded
 
 abbrev mutual
@@ -95,13 +95,13 @@ abbrev mutual
   span e (array_type a) = array_span e a
   span e (group_type ts) = fields_span e ts
   span e (items_type c t) = items_span e c (span e t)
-  span e (choice_type s arms) = behind (scalar_span e s) (arms_span e arms)
-  span e (maybe_type t) = behind (scalar_span e flag) (loose (span e t))
+  span e (choice_type s arms) = after (scalar_span e s) (arms_span e arms)
+  span e (maybe_type t) = after (scalar_span e flag) (loose (span e t))
 
   -- the span of fields, one after the other
   pub fields_span : Encoding → Tys → Span
   fields_span e no_fields = Fixed (from_each (λ p. 0))
-  fields_span e (field t ts) = behind (span e t) (fields_span e ts)
+  fields_span e (field t ts) = after (span e t) (fields_span e ts)
 
   -- the span of whichever arm there is
   pub arms_span : Encoding → Arms → Span

@@ -198,7 +198,7 @@ pub(crate) fn items(enc: Encoding, count: Count, item: Span) -> Span
 {
     match count {
         Count::Exactly(n) => item.times(n),
-        Count::AtMost(n) => number_span(enc, Kind::U32).behind(item.times_top(n)),
+        Count::AtMost(n) => number_span(enc, Kind::U32).after(item.times_top(n)),
         Count::Any => Span::Unbounded,
     }
 }

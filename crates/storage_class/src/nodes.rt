@@ -47,9 +47,9 @@ fn node_span(enc: Encoding, mint: &Mint, known: &Classes, id: NodeId) -> Span
         Node::Group(ids) => fields_span(enc, mint, known, ids),
         Node::Items(item, count) => items(enc, *count, known.span(*item)),
         Node::Choice(tag, arms, other) => {
-            tag_span(enc, tag).behind(arms_span(enc, mint, known, arms, *other))
+            tag_span(enc, tag).after(arms_span(enc, mint, known, arms, *other))
         }
-        Node::Maybe(item) => number_span(enc, Kind::Bool).behind(known.span(*item).loose()),
+        Node::Maybe(item) => number_span(enc, Kind::Bool).after(known.span(*item).loose()),
     }
 }
 
@@ -62,7 +62,7 @@ fn fields_span(enc: Encoding, mint: &Mint, known: &Classes, ids: &NodeIds) -> Sp
     let ids = ids.as_slice();
     let mut whole = Span::Fixed([0; 8]);
     for i in (0..ids.len()).rev() {
-        whole = known.span(ids[i]).behind(whole);
+        whole = known.span(ids[i]).after(whole);
     }
     whole
 }

@@ -2,7 +2,7 @@
 
 ghost use Rattle.std.specs.Prelude.{◌≡◌, ◌<◌, ◌≤◌, ◌+◌, ◌*◌, Some, IsTrue, nat_le};
 ghost use Rattle.std.specs.List.{list_all};
-ghost use Rattle.storage_class.specs.Classing.{at_most, behind, either, exactly, from_each, greatest, length_at, length_behind, loose, run, sum_of_tops, times, times_top, top};
+ghost use Rattle.storage_class.specs.Classing.{at_most, after, either, exactly, from_each, greatest, length_at, length_after, loose, run, sum_of_tops, times, times_top, top};
 
 /// What is known of a length: the length, its bound, or nothing.
 #[derive(Clone, Copy, Debug, PartialEq, Eq)]
@@ -25,9 +25,9 @@ fn at(f: &[u32; 8], place: u64) -> u64
 }
 
 /// The length from a position of one part and another after it.
-fn behind_at(f: &[u32; 8], g: &[u32; 8], place: u64) -> u64
+fn after_at(f: &[u32; 8], g: &[u32; 8], place: u64) -> u64
     requires { place < 8 }
-    ensures { result ≡ length_behind f.now g.now place }
+    ensures { result ≡ length_after f.now g.now place }
 {
     let m = at(f, place);
     m + at(g, place + m)
@@ -44,7 +44,7 @@ fn greatest(f: &[u32; 8]) -> u32
 }
 
 /// Whether no length is above 4,294,967,295.
-fn are_told(f: &[u64; 8]) -> bool
+fn are_reported(f: &[u64; 8]) -> bool
     ensures { result ≡ list_all (λ n. nat_le n 4294967295) f.now }
 {
     f.iter().all(|n| *n <= 4294967295)
@@ -52,7 +52,7 @@ fn are_told(f: &[u64; 8]) -> bool
 
 /// The same lengths in 32 bits each.
 #[tactic(auto, using(crate::proofs::Eights::eights))]
-fn told(f: &[u64; 8]) -> [u32; 8]
+fn reported(f: &[u64; 8]) -> [u32; 8]
     requires { IsTrue (list_all (λ n. nat_le n 4294967295) f.now) }
     ensures { result ≡ f.now }
 {
@@ -72,26 +72,26 @@ fn told(f: &[u64; 8]) -> [u32; 8]
 pub(crate) fn exactly(f: &[u64; 8]) -> Span
     ensures { result ≡ exactly f.now }
 {
-    if are_told(f) {
-        Span::Fixed(told(f))
+    if are_reported(f) {
+        Span::Fixed(reported(f))
     } else {
         Span::Unbounded
     }
 }
 
 /// One part and another after it.
-fn one_behind(f: &[u32; 8], g: &[u32; 8]) -> Span
-    ensures { result ≡ exactly (from_each (length_behind f.now g.now)) }
+fn one_after(f: &[u32; 8], g: &[u32; 8]) -> Span
+    ensures { result ≡ exactly (from_each (length_after f.now g.now)) }
 {
     exactly(&[
-        behind_at(f, g, 0),
-        behind_at(f, g, 1),
-        behind_at(f, g, 2),
-        behind_at(f, g, 3),
-        behind_at(f, g, 4),
-        behind_at(f, g, 5),
-        behind_at(f, g, 6),
-        behind_at(f, g, 7),
+        after_at(f, g, 0),
+        after_at(f, g, 1),
+        after_at(f, g, 2),
+        after_at(f, g, 3),
+        after_at(f, g, 4),
+        after_at(f, g, 5),
+        after_at(f, g, 6),
+        after_at(f, g, 7),
     ])
 }
 
@@ -104,11 +104,11 @@ fn power(f: &[u32; 8], n: u32) -> Span
         return Span::Fixed([0; 8]);
     }
     let half = power(f, n / 2);
-    let even = half.behind(half);
+    let even = half.after(half);
     if n % 2 == 0 {
         even
     } else {
-        Span::Fixed(*f).behind(even)
+        Span::Fixed(*f).after(even)
     }
 }
 
@@ -145,11 +145,11 @@ impl Span {
     }
 
     /// This one, and another after it.
-    pub(crate) fn behind(self, next: Span) -> Span
-        ensures { result ≡ behind self next }
+    pub(crate) fn after(self, next: Span) -> Span
+        ensures { result ≡ after self next }
     {
         match (self, next) {
-            (Span::Fixed(f), Span::Fixed(g)) => one_behind(&f, &g),
+            (Span::Fixed(f), Span::Fixed(g)) => one_after(&f, &g),
             _ => sum_of_tops(self.top(), next.top()),
         }
     }

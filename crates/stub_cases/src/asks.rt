@@ -6,7 +6,7 @@ use crate::codes::stub;
 use crate::heads::{refused, reply};
 use crate::nodes::{Made, build, table_of};
 use crate::numbered::made_of_number;
-use crate::parts::{Bad, member, octets, told, word};
+use crate::parts::{Bad, member, octets, reported, word};
 use crate::printed::text;
 use crate::received::received_case;
 use crate::swaps::swapped;
@@ -139,7 +139,7 @@ fn is_of(alloc: Global, row: &Json) -> Result<String, Bad> {
     let table = table_of(alloc, row)?;
     let id = id_of(row, &table)?;
     let value = value_at(alloc, row, &table, id)?;
-    told(
+    reported(
         alloc,
         if fits(&table, id, &value) {
             "yes"
@@ -157,7 +157,7 @@ fn send(alloc: Global, row: &Json) -> Result<String, Bad> {
     let id = id_of(row, &table)?;
     let value = value_at(alloc, row, &table, id)?;
     if !fits(&table, id, &value) {
-        return told(alloc, "no value");
+        return reported(alloc, "no value");
     }
     let copy = copy_value(alloc, &value)?;
     let mut out = Octets::new(alloc);
@@ -179,7 +179,7 @@ fn read(alloc: Global, row: &Json) -> Result<String, Bad> {
         Read::Stop(fault) => Ok(format!(in alloc; "{:?} {}", fault.kind, fault.at)?),
         Read::Value(value, used) => {
             if !fits(&table, id, &value) {
-                return told(alloc, "no value");
+                return reported(alloc, "no value");
             }
             let mut out = Octets::new(alloc);
             plain_send(enc, &table, id, at, &value, &mut out)?;

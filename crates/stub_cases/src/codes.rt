@@ -11,7 +11,7 @@ ghost use Rattle.stub_cases.specs.Ready.{IsBoth, IsLead};
 use crate::asks::{encoding, id_of, value_at};
 use crate::lead::{HEAD, answer, call, no_lead};
 use crate::nodes::table_of;
-use crate::parts::{Bad, told};
+use crate::parts::{Bad, reported};
 use cast_stub::copies::put_copies;
 use cast_stub::{SendCode, SendSubs};
 use copy_inline::{inline, rows};
@@ -98,7 +98,7 @@ fn ran(
             let checks = tally.checks;
             Ok((format!(in alloc; "{digits} {checks}")?, tally.rows))
         }
-        Err(SendErr::Long) => Ok((told(alloc, "Long")?, 0)),
+        Err(SendErr::Long) => Ok((reported(alloc, "Long")?, 0)),
         Err(SendErr::NoMemory) => Err(Bad::NoMemory),
     }
 }
@@ -137,7 +137,7 @@ pub fn stub(alloc: Global, row: &Json, count: bool) -> Result<String, Bad> {
     let id = id_of(row, &table)?;
     let value = value_at(alloc, row, &table, id)?;
     if !fits(&table, id, &value) {
-        return told(alloc, "no value");
+        return reported(alloc, "no value");
     }
     let classes = classify(alloc, enc, &table)?;
     sent(

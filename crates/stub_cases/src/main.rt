@@ -26,7 +26,7 @@ fn main(rt: HostRuntime) -> Result<()> {
     for line in BufReader::new(alloc, rt.reader())?.lines(alloc) {
         let line = line?;
         match answer(alloc, line.as_str()) {
-            Ok(told) => writeln!(out, "{told}")?,
+            Ok(reported) => writeln!(out, "{reported}")?,
             Err(Bad::Row(why)) => writeln!(out, "? {why}")?,
             Err(Bad::NoMemory) => bail!("no memory"),
         }

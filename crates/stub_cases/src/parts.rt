@@ -93,6 +93,6 @@ pub fn octets(alloc: Global, json: &Json) -> Result<Octets, Bad> {
 }
 
 /// The answer that is a word.
-pub fn told(alloc: Global, text: &str) -> Result<String, Bad> {
+pub fn reported(alloc: Global, text: &str) -> Result<String, Bad> {
     Ok(format!(in alloc; "{text}")?)
 }

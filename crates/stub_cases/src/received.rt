@@ -8,7 +8,7 @@ ghost use Rattle.cast_stub.specs.Got.{IsSoundCode};
 
 use crate::asks::{encoding, id_of, place_of};
 use crate::nodes::table_of;
-use crate::parts::{Bad, member, octets, told, word};
+use crate::parts::{Bad, member, octets, reported, word};
 use cast_stub::RecvCode;
 use copy_inline::{inline_recv, rows_recv};
 use hex::encode;
@@ -38,7 +38,7 @@ pub fn in_rows(alloc: Global, enc: Encoding, table: &Mint, id: NodeId) -> Result
 }
 
 /// How many octets a value took and what it is sent as from the same position.
-fn value_told(
+fn value_reported(
     alloc: Global,
     enc: Encoding,
     table: &Mint,
@@ -51,7 +51,7 @@ fn value_told(
     requires at { at ≤ longest_message }
 {
     if !fits(table, id, value) {
-        return told(alloc, "no value");
+        return reported(alloc, "no value");
     }
     let mut out = Octets::new(alloc);
     plain_send(enc, table, id, at, value, &mut out)?;
@@ -73,8 +73,8 @@ fn walked(
     requires short { length message.now ≤ longest_message }
 {
     match plain_read(alloc, enc, table, id, at, message)? {
-        Read::Value(value, used) => value_told(alloc, enc, table, id, at, &value, used),
-        Read::Stop(_) => told(alloc, "Not"),
+        Read::Value(value, used) => value_reported(alloc, enc, table, id, at, &value, used),
+        Read::Stop(_) => reported(alloc, "Not"),
     }
 }
 
@@ -102,9 +102,9 @@ fn received(
     match receive(alloc, enc, code, table, id, &mut view)? {
         Got::Value(value) => {
             let used = view.pos().saturating_sub(at);
-            value_told(alloc, enc, table, id, at, &value, used)
+            value_reported(alloc, enc, table, id, at, &value, used)
         }
-        Got::Not => told(alloc, "Not"),
+        Got::Not => reported(alloc, "Not"),
     }
 }
 

@@ -4,7 +4,7 @@ ghost use Rattle.std.specs.Prelude.{◌≡◌, ◌≢◌, ◌%◌, length, IfSom
 ghost use Rattle.mint.specs.Kinds.{width};
 ghost use Rattle.swap_kit.specs.Swapped.{IsSwapWidth};
 
-use crate::parts::{Bad, member, octets, told, word};
+use crate::parts::{Bad, member, octets, reported, word};
 use kit_base::NoMemory;
 use mint::kind::Kind;
 use mint::row::Row;
@@ -68,7 +68,7 @@ pub fn swapped(alloc: Global, row: &Json) -> Result<String, Bad> {
         return Err(Bad::Row("no width"));
     };
     if turned.len() != image.len() {
-        return told(alloc, "another length");
+        return reported(alloc, "another length");
     }
     for size in 0..=image.len() {
         if size % kind.width() == 0 {
@@ -77,9 +77,9 @@ pub fn swapped(alloc: Global, row: &Json) -> Result<String, Bad> {
             if !travels(alloc, kind, Order::Big, first, other)?
                 || !travels(alloc, kind, Order::Little, first, first)?
             {
-                return told(alloc, "other octets");
+                return reported(alloc, "other octets");
             }
         }
     }
-    told(alloc, "alike")
+    reported(alloc, "alike")
 }

@@ -61,11 +61,11 @@ aligned-stop w own c h v p =
     (append-nil (replicate (gap p (byte_len w)) 0))
     (aligned-writes w own c h stop v p [] (none-writes (p + length (replicate {A = ℕ} (gap p (byte_len w)) 0))))
 
-pub no_gap_behind : (w : Width) → IsOwn w → (p : ℕ) → gap (p + gap p (byte_len w)) (byte_len w) ≡ 0
-no_gap_behind _ is8 p = omega arith
-no_gap_behind _ is16 p = omega arith
-no_gap_behind _ is32 p = omega arith
-no_gap_behind _ is64 p = omega arith
+pub no_gap_after : (w : Width) → IsOwn w → (p : ℕ) → gap (p + gap p (byte_len w)) (byte_len w) ≡ 0
+no_gap_after _ is8 p = omega arith
+no_gap_after _ is16 p = omega arith
+no_gap_after _ is32 p = omega arith
+no_gap_after _ is64 p = omega arith
 
 pub still_none : (w : Width) → IsOwn w → (p : ℕ) → gap p (byte_len w) ≡ 0 → gap (p + byte_len w) (byte_len w) ≡ 0
 still_none _ is8 p h = omega arith
@@ -193,7 +193,7 @@ module _ (e : Encoding) (aligns : (s : Scalar) → alignment_of e s ≡ byte_len
       let zeros : List ℕ = replicate (gap p w) 0 in
       let many : length zeros ≡ gap p w = length-replicate {A = ℕ} (gap p w) 0 in
       let q : ℕ = p + length zeros in
-      let none : gap q w ≡ 0 = rw many (no_gap_behind (width_of e (number k)) (own_of e (number k)) p) in
+      let none : gap q w ≡ 0 = rw many (no_gap_after (width_of e (number k)) (own_of e (number k)) p) in
       let one : scalar_octets e (number k) p n ≡ zeros ++ bare (number k) n = in_octets (number k) p n in
       let two : scalar_octets e (number k) q n ≡ bare (number k) n =
       in_octets (number k) q n ∙ ap (λ (g : ℕ). replicate g 0 ++ bare (number k) n) none in
@@ -209,9 +209,9 @@ module _ (e : Encoding) (aligns : (s : Scalar) → alignment_of e s ≡ byte_len
   pub looped : (c : Calls) (h : Head) (a b : Block) (k : Kind) (ns : List ℤ) (p : ℕ) (head els : List ℕ)
       → Writes (steps c h a (row k ns)) p head → Writes (loop c h b ns) (p + length head) els
       → Writes (steps c h (append a (each [] b stop)) (row k ns)) p (head ++ (els ++ []))
-  looped c h a b k ns p head els first behind =
+  looped c h a b k ns p head els first after =
       rw (steps-append, append-nil) (both-writes (steps c h a (row k ns)) (steps c h (each [] b stop) (row k ns)) p head els first
-      (writes_stop (loop c h b ns) (p + length head) els behind))
+      (writes_stop (loop c h b ns) (p + length head) els after))
 
   -- a row of a fixed length
   pub fixed-row : (c : Calls) (h : Head) (j k : Kind) (m : ℕ) (ns : List ℤ) (p : ℕ) → length ns ≡ m → IsTrue (list_all (in_range k) ns)
@@ -227,7 +227,7 @@ module _ (e : Encoding) (aligns : (s : Scalar) → alignment_of e s ≡ byte_len
       let zeros : List ℕ = replicate (gap p (byte_len w)) 0 in
       let q : ℕ = p + length zeros in
       let many : length zeros ≡ gap p (byte_len w) = length-replicate {A = ℕ} (gap p (byte_len w)) 0 in
-      let none : gap q (byte_len w) ≡ 0 = rw many (no_gap_behind w (own_of e (number k)) p) in
+      let none : gap q (byte_len w) ≡ 0 = rw many (no_gap_after w (own_of e (number k)) p) in
       let head : Writes (steps c h (aligned (scalar_width e (number k)) stop) (row j (n ∷ ns))) p zeros =
       rw (width_same e (number k)) (aligned-stop w (own_of e (number k)) c h (row j (n ∷ ns)) p) in
       let whole = looped c h (aligned (scalar_width e (number k)) stop) (number_chunk e (scalar_width e (number k))) j (n ∷ ns) p zeros
@@ -251,7 +251,7 @@ module _ (e : Encoding) (aligns : (s : Scalar) → alignment_of e s ≡ byte_len
       let head : List ℕ = count_octets e b p (length ns) in
       let long : length head ≡ gap p 4 + 4 = rw sent (scalar_long e counted p (pos (length ns))
       ∙ word_gap p (alignment_of e counted) (byte_len (width_of e counted)) (aligns counted ∙ four) four) in
-      let none = small (p + length head) (rw long (behind_word p)) in
+      let none = small (p + length head) (rw long (after_word p)) in
       looped c h (count_code e b) (number_chunk e (scalar_width e (number k))) j ns p head
       (elements_octets (scalar_octets e (number k)) (p + length head) ns)
       ((count-sends e scalars-send c h b (row j ns) (length ns) p refl ok place).1) (bare-run c h k ns (p + length head) none all)
@@ -259,8 +259,8 @@ module _ (e : Encoding) (aligns : (s : Scalar) → alignment_of e s ≡ byte_len
       word_gap : (q a w : ℕ) → a ≡ 4 → w ≡ 4 → gap q a + w ≡ gap q 4 + 4
       word_gap q a w one two = rw (one, two) refl
 
-      behind_word : (q : ℕ) → (q + (gap q 4 + 4)) % 4 ≡ 0
-      behind_word q = omega arith
+      after_word : (q : ℕ) → (q + (gap q 4 + 4)) % 4 ≡ 0
+      after_word q = omega arith
 
   -- a row after its count, each number after its alignment
   pub gapped-row : (c : Calls) (h : Head) (b : Count) (j k : Kind) (ns : List ℤ) (p : ℕ) → Allows b (length ns) → IsPlace e p

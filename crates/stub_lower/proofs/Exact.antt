@@ -38,12 +38,12 @@ module _ (e : Encoding) (t : Ty) (sound : IsSound t) (p : ℕ) (o : List ℕ) (o
       let here = (grammar e t).spelled p o y q rest oct is in
       let a : List ℕ = here.0 in
       let first : take (length a) o ≡ a = ap (take (length a)) here.1 ∙ take_at a rest (length a) (omega arith) in
-      let behind : drop (length a) o ≡ rest = ap (drop (length a)) here.1 ∙ drop-append_seam a rest in
+      let after : drop (length a) o ≡ rest = ap (drop (length a)) here.1 ∙ drop-append_seam a rest in
       let within : length a ≤ 4194304 = omega (arith, ap length here.1, length-append a rest) in
       let weighs = are_light e t sound p a y within here.3 in (
         length a,
         h.1 ∙ here.2,
-        h.2 ∙ sym behind,
+        h.2 ∙ sym after,
         record {
           there = omega (arith, ap length here.1, length-append a rest);
           spelled = rw (first, h.0) (record {

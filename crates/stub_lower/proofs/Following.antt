@@ -19,7 +19,7 @@ use Rattle.cast_stub.specs.Follows.{flat, IsFlat, IsLoop, IsCount, Child, Loops,
 use Rattle.cast_stub.specs.Turned.{IsNumber, IsTurned}
 use Rattle.cast_stub.specs.Layouts.{layout_of, order_of, scalar_width, element_width, is_gapped}
 use Rattle.stub_lower.specs.Items.{number_at}
-use Rattle.stub_lower.specs.Codes.{scalar_code, length_put, count_code, row_code, long_code, short_code, described_code, head_code, gapped_turn, turn_code, behind_code, array_code, tag_code, flag_code, call_here, calls_from, cases_at, node_code}
+use Rattle.stub_lower.specs.Codes.{scalar_code, length_put, count_code, row_code, long_code, short_code, described_code, head_code, gapped_turn, turn_code, after_code, array_code, tag_code, flag_code, call_here, calls_from, cases_at, node_code}
 
 -- ---- what an encoding gives
 
@@ -77,9 +77,9 @@ heads Mach a = described-few (count_of a) (number (kind_of a))
 record Rest (e : Encoding) (a : Array) : Type 0 where
   turn : ℕ
   turn_is : flat (turn_code e a) ≡ Some turn
-  behind : ℕ
-  behind_is : flat (behind_code e a) ≡ Some behind
-  few : (1 ≤ turn) × (turn + behind ≤ 2)
+  after : ℕ
+  after_is : flat (after_code e a) ≡ Some after
+  few : (1 ≤ turn) × (turn + after ≤ 2)
   single : IsNumber (layout_of e a) (turn_code e a)
 
 record Turn (l : Option (ℕ × Order)) (b : Block) : Type 0 where
@@ -99,19 +99,19 @@ filled false = (0, refl, omega arith)
 rests : (e : Encoding) (a : Array) → Rest e a
 rests Xdr a =
     let f = filled (is_octets a) in
-    record { turn = 1; turn_is = refl; behind = f.0; behind_is = f.1; few = (omega arith, omega (arith, f.2)); single = refl }
-rests CdrBig (text c) = record { turn = 1; turn_is = refl; behind = 1; behind_is = refl; few = (omega arith, omega arith); single = refl }
+    record { turn = 1; turn_is = refl; after = f.0; after_is = f.1; few = (omega arith, omega (arith, f.2)); single = refl }
+rests CdrBig (text c) = record { turn = 1; turn_is = refl; after = 1; after_is = refl; few = (omega arith, omega arith); single = refl }
 rests CdrBig (row_of k c) =
     let t = gapped-turn CdrBig (element_width CdrBig (row_of k c)) (is_gapped (row_of k c)) in
-    record { turn = t.many; turn_is = t.is; behind = 0; behind_is = refl; few = (t.few.0, omega (arith, t.few.1)); single = t.single }
+    record { turn = t.many; turn_is = t.is; after = 0; after_is = refl; few = (t.few.0, omega (arith, t.few.1)); single = t.single }
 rests CdrLittle (text c) =
-    record { turn = 1; turn_is = refl; behind = 1; behind_is = refl; few = (omega arith, omega arith); single = refl }
+    record { turn = 1; turn_is = refl; after = 1; after_is = refl; few = (omega arith, omega arith); single = refl }
 rests CdrLittle (row_of k c) =
     let t = gapped-turn CdrLittle (element_width CdrLittle (row_of k c)) (is_gapped (row_of k c)) in
-    record { turn = t.many; turn_is = t.is; behind = 0; behind_is = refl; few = (t.few.0, omega (arith, t.few.1)); single = t.single }
+    record { turn = t.many; turn_is = t.is; after = 0; after_is = refl; few = (t.few.0, omega (arith, t.few.1)); single = t.single }
 rests Mach a =
     let f = filled (nat_lt (element_width Mach a) 4) in
-    record { turn = 1; turn_is = refl; behind = f.0; behind_is = f.1; few = (omega arith, omega (arith, f.2)); single = refl }
+    record { turn = 1; turn_is = refl; after = f.0; after_is = f.1; few = (omega arith, omega (arith, f.2)); single = refl }
 
 pub turned : (e : Encoding) (a : Array) → IsTurned (layout_of e) a [] (array_code e a)
 turned e a =
@@ -119,14 +119,14 @@ turned e a =
     let r = rests e a in (
       head_code e a,
       turn_code e a,
-      behind_code e a,
+      after_code e a,
       h.0,
       r.turn,
-      r.behind,
+      r.after,
       refl,
       h.1,
       r.turn_is,
-      r.behind_is,
+      r.after_is,
       omega (arith, r.few.1),
       omega (arith, h.2, r.few.0, r.few.1),
       r.single,

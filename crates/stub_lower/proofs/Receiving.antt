@@ -18,7 +18,7 @@ use Rattle.wire_def.specs.Grammar.{Reading, got, stop, Reader, AreOctets, then_o
 use Rattle.wire_def.specs.Send.{flag}
 use Rattle.wire_def.specs.Lone.{read_lone}
 use Rattle.wire_def.specs.Arrays.{counted, read_count}
-use Rattle.wire_def.specs.Reading.{read, read_fields, read_arm, read_tag, read_behind}
+use Rattle.wire_def.specs.Reading.{read, read_fields, read_arm, read_tag, read_after}
 use Rattle.cast_stub.specs.declared.recv.Get.{Get}
 use Rattle.cast_stub.specs.declared.recv.Get.TheVariants as get
 use Rattle.cast_stub.specs.Parts.{on_some}
@@ -43,9 +43,9 @@ append-agrees : {A B : Type 0} (K : ℕ → Type 0) (P : Draft → A → Type 0)
     (s : Place) (r : Reading FaultKind A) (g : A → Reader FaultKind B) → Agrees K P (fill c a d s) r
     → ((x : Draft) (y : A) (t : Place) → P x y → K t.pos → AreOctets t.left → Agrees K Q (fill c b x t) (g y t.pos t.left))
     → Agrees K Q (fill c (append a b) d s) (then_on r g)
-append-agrees K P Q c a b d s r g first behind =
+append-agrees K P Q c a b d s r g first after =
     subst (λ (x : Run Draft). Agrees K Q x (then_on r g)) (sym (fill-append c a b d s))
-    (agrees-then K K P Q (fill c a d s) r (fill c b) g first behind)
+    (agrees-then K K P Q (fill c a d s) r (fill c b) g first after)
 
 map_map : {A B C : Type 0} (f : B → C) (g : A → B) (x : Run A) → map_run f (map_run g x) ≡ map_run (λ a. f (g a)) x
 map_map f g (gives a s) = refl
@@ -299,12 +299,12 @@ module _ (e : Encoding) (lone : LonesRead e) (array : ArraysRead e) (us : List T
       (flag_draft (at us i)) s here oct (λ (u : Place) o. refl) in
       agrees-read (IsPlace e) Whole Settles
       (fill c (append (flag_code e) (if_there [] (call_here i) finish)) (raw (maybe_type (at us i))) s)
-      (both (read_lone e flag) (λ m. read_behind (read e (at us i)) m) s.pos s.left) (λ x. x.1)
+      (both (read_lone e flag) (λ m. read_after (read e (at us i)) m) s.pos s.left) (λ x. x.1)
       (append-agrees (IsPlace e) Flags Whole c (flag_code e) (if_there [] (call_here i) finish) (raw (maybe_type (at us i))) s
-      (read_lone e flag s.pos s.left) (λ m q o. map_got (λ y. (m, y)) (read_behind (read e (at us i)) m q o))
+      (read_lone e flag s.pos s.left) (λ m q o. map_got (λ y. (m, y)) (read_after (read e (at us i)) m q o))
       (subst (λ (x : Run Draft). Agrees (IsPlace e) Flags x (read_lone e flag s.pos s.left)) (sym r.is)
       (flagged_so r.number (read_lone e flag s.pos s.left) r.agrees))
-      (λ (d : Draft) (m : ℤ) (u : Place) is k o. behind d m u is k o))
+      (λ (d : Draft) (m : ℤ) (u : Place) is k o. after d m u is k o))
       (λ (d : Draft) (x : ℤ × Val) h. h) where
         Whole : Draft → ℤ × Val → Type 0
         Whole d x = settle d ≡ Some x.1
@@ -346,19 +346,19 @@ module _ (e : Encoding) (lone : LonesRead e) (array : ArraysRead e) (us : List T
             (λ (v : Val) (w : Val) same. ap (λ (x : Val). Some (present x)) same))
             (λ (d : Draft) (v : Val) h. h))
 
-        behind : (d : Draft) (m : ℤ) (u : Place) → Flags d m → IsPlace e u.pos → AreOctets u.left
+        after : (d : Draft) (m : ℤ) (u : Place) → Flags d m → IsPlace e u.pos → AreOctets u.left
             → Agrees (IsPlace e) Whole (fill c (if_there [] (call_here i) finish) d u)
-            (map_got (λ y. (m, y)) (read_behind (read e (at us i)) m u.pos u.left))
-        behind d (pos zero) u is k o =
+            (map_got (λ y. (m, y)) (read_after (read e (at us i)) m u.pos u.left))
+        after d (pos zero) u is k o =
             let same : done absent ≡ d = cc in
             subst
             (λ (x : Draft). Agrees (IsPlace e) Whole (fill c (if_there [] (call_here i) finish) x u) (got (pos 0, absent) u.pos u.left))
             same (refl, refl, refl, k, o)
-        behind d (pos (suc m)) u is k o =
+        after d (pos (suc m)) u is k o =
             let same : flagged (at us i) ≡ d = cc in
             subst (λ (x : Draft). Agrees (IsPlace e) Whole (fill c (if_there [] (call_here i) finish) x u)
             (map_got (λ y. (pos (suc m), y)) (map_got present (read e (at us i) u.pos u.left)))) same (there (pos (suc m)) u k o)
-        behind d (negsuc m) u is k o =
+        after d (negsuc m) u is k o =
             let same : flagged (at us i) ≡ d = cc in
             subst (λ (x : Draft). Agrees (IsPlace e) Whole (fill c (if_there [] (call_here i) finish) x u)
             (map_got (λ y. (negsuc m, y)) (map_got present (read e (at us i) u.pos u.left)))) same (there (negsuc m) u k o)

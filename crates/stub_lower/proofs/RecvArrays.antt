@@ -65,12 +65,12 @@ ElementsRead a c turn one N K L = (n : ℕ) (s : Place) → N n → K s.pos → 
 
 -- and from there what comes after them
 abbrev pub EndRead : Encoding → Callees → Recv → (ℕ → Reader FaultKind (Unit {0})) → (ℕ → Type 0) → (ℕ → ℕ → Type 0) → Type 0
-EndRead e c behind end N L = (n : ℕ) (d : Draft) (s : Place) → N n → L n s.pos → AreOctets s.left
-    → Agrees (IsPlace e) (λ (y : Draft) (z : Unit {0}). y ≡ d) (fill c behind d s) (end n s.pos s.left)
+EndRead e c after end N L = (n : ℕ) (d : Draft) (s : Place) → N n → L n s.pos → AreOctets s.left
+    → Agrees (IsPlace e) (λ (y : Draft) (z : Unit {0}). y ≡ d) (fill c after d s) (end n s.pos s.left)
 
-module _ (e : Encoding) (c : Callees) (a : Array) (head turn behind : Recv) (one : Reader FaultKind ℤ)
+module _ (e : Encoding) (c : Callees) (a : Array) (head turn after : Recv) (one : Reader FaultKind ℤ)
     (end : ℕ → Reader FaultKind (Unit {0})) (N K : ℕ → Type 0) (L : ℕ → ℕ → Type 0) (elements : ElementsRead a c turn one N K L)
-    (ended : EndRead e c behind end N L) where
+    (ended : EndRead e c after end N L) where
   -- a draft of so many numbers, which may be so many
   abbrev Counted : Draft → ℕ → Type 0
   Counted d n = Opens a d n × N n
@@ -85,42 +85,42 @@ module _ (e : Encoding) (c : Callees) (a : Array) (head turn behind : Recv) (one
   Numbers d ns = settle d ≡ Some (row (kind_of a) ns)
 
   body-reads : (d : Draft) (n : ℕ) (t : Place) → Counted d n → K t.pos → AreOctets t.left
-      → Agrees (IsPlace e) Pairs (fill c (each [] turn behind) d t) (read_body one end n t.pos t.left)
+      → Agrees (IsPlace e) Pairs (fill c (each [] turn after) d t) (read_body one end n t.pos t.left)
   unfolding Pairs
   body-reads d n t opens k o =
-      subst (λ (x : Run Draft). Agrees (IsPlace e) Pairs (then_run x (fill c behind)) (read_body one end n t.pos t.left))
+      subst (λ (x : Run Draft). Agrees (IsPlace e) Pairs (then_run x (fill c after)) (read_body one end n t.pos t.left))
       (sym (opens.0 (fill c turn) t))
       (agrees-then (L n) (IsPlace e) (λ (y : Draft) (ns : List ℤ). y ≡ done (row (kind_of a) ns)) Pairs (fill_row (fill c turn) a n t)
       (times one n t.pos t.left)
-      (fill c behind) (λ ns q rest. map_got (λ z. (ns, z)) (end n q rest))
+      (fill c after) (λ ns q rest. map_got (λ z. (ns, z)) (end n q rest))
       (agrees-given (L n) Same (λ (y : Draft) (ns : List ℤ). y ≡ done (row (kind_of a) ns))
       (runs (λ u. settled_number (fill c turn (digit a) u)) n t) (times one n t.pos t.left)
       (λ ns. done (row (kind_of a) ns))
       (elements n t opens.1 k o) (λ (x : List ℤ) (y : List ℤ) same. ap (λ (ns : List ℤ). done (row (kind_of a) ns)) same))
       (λ (y : Draft) (ns : List ℤ) (u : Place) is k2 o2.
-      agrees-read (IsPlace e) (λ (x : Draft) (z : Unit {0}). x ≡ y) Pairs (fill c behind y u) (end n u.pos u.left) (λ z. (ns, z))
+      agrees-read (IsPlace e) (λ (x : Draft) (z : Unit {0}). x ≡ y) Pairs (fill c after y u) (end n u.pos u.left) (λ z. (ns, z))
       (ended n y u opens.1 k2 o2) (λ (x : Draft) (z : Unit {0}) same. ap settle (same ∙ is))))
 
   -- the head may be read with more than its octets, where the reader of the whole ends alike
   pub array-reads : (h whole : Reader FaultKind ℕ) (s : Place) → Agrees K Counted (fill c head (raw (array_type a)) s) (h s.pos s.left)
       → SameEnds (read_whole h one end s.pos s.left) (read_whole whole one end s.pos s.left)
-      → Agrees (IsPlace e) Settles (fill c (append head (each [] turn behind)) (raw (array_type a)) s)
+      → Agrees (IsPlace e) Settles (fill c (append head (each [] turn after)) (raw (array_type a)) s)
       (map_got (row (kind_of a)) (map_got (λ (x : ℕ × (List ℤ × Unit {0})). x.1.0) (read_whole whole one end s.pos s.left)))
   unfolding Numbers Whole Pairs
   array-reads h whole s first ends =
       subst (λ (x : Run Draft). Agrees (IsPlace e) Settles x
       (map_got (row (kind_of a)) (map_got (λ (x : ℕ × (List ℤ × Unit {0})). x.1.0) (read_whole whole one end s.pos s.left))))
-      (sym (fill-append c head (each [] turn behind) (raw (array_type a)) s))
-      (agrees-read (IsPlace e) Numbers Settles (then_run (fill c head (raw (array_type a)) s) (fill c (each [] turn behind)))
+      (sym (fill-append c head (each [] turn after) (raw (array_type a)) s))
+      (agrees-read (IsPlace e) Numbers Settles (then_run (fill c head (raw (array_type a)) s) (fill c (each [] turn after)))
       (map_got (λ (x : ℕ × (List ℤ × Unit {0})). x.1.0) (read_whole whole one end s.pos s.left)) (row (kind_of a))
-      (agrees-read (IsPlace e) Whole Numbers (then_run (fill c head (raw (array_type a)) s) (fill c (each [] turn behind)))
+      (agrees-read (IsPlace e) Whole Numbers (then_run (fill c head (raw (array_type a)) s) (fill c (each [] turn after)))
       (read_whole whole one end s.pos s.left) (λ x. x.1.0)
-      (agrees-ends (IsPlace e) Whole (then_run (fill c head (raw (array_type a)) s) (fill c (each [] turn behind)))
+      (agrees-ends (IsPlace e) Whole (then_run (fill c head (raw (array_type a)) s) (fill c (each [] turn after)))
       (read_whole h one end s.pos s.left) (read_whole whole one end s.pos s.left) ends
       (agrees-then K (IsPlace e) Counted Whole (fill c head (raw (array_type a)) s) (h s.pos s.left)
-      (fill c (each [] turn behind)) (λ n q rest. map_got (λ y. (n, y)) (read_body one end n q rest)) first
+      (fill c (each [] turn after)) (λ n q rest. map_got (λ y. (n, y)) (read_body one end n q rest)) first
       (λ (d : Draft) (n : ℕ) (t : Place) opens k o.
-      agrees-read (IsPlace e) Pairs Whole (fill c (each [] turn behind) d t) (read_body one end n t.pos t.left) (λ y. (n, y))
+      agrees-read (IsPlace e) Pairs Whole (fill c (each [] turn after) d t) (read_body one end n t.pos t.left) (λ y. (n, y))
       (body-reads d n t opens k o) (λ (y : Draft) (z : List ℤ × Unit {0}) same. same))))
       (λ (y : Draft) (z : ℕ × (List ℤ × Unit {0})) same. same))
       (λ (y : Draft) (z : List ℤ) same. same))
@@ -370,20 +370,20 @@ numbers_elements c k b n s any here oct =
     (numbers-agree Xdr c k b (λ (q : ℕ). Unit {0}) (λ (q : ℕ) j. tt) (λ (q : ℕ) j. omega arith) n s tt oct)
     (λ (q : ℕ) is. let words = along_words n (scalar_width Xdr (number k)) (xdr_wide (number k)) in omega (arith, is, here, words))
 
-nothing_behind : (c : Callees) (n : ℕ) (d : Draft) (s : Place) → Unit {0} → IsPlace Xdr s.pos → AreOctets s.left
+nothing_after : (c : Callees) (n : ℕ) (d : Draft) (s : Place) → Unit {0} → IsPlace Xdr s.pos → AreOctets s.left
     → Agrees (IsPlace Xdr) (λ (y : Draft) (z : Unit {0}). y ≡ d) (fill c finish d s) (read_zeros 0 BadPad s.pos s.left)
 unfolding read_zeros
-nothing_behind c n d s any here oct = (refl, refl, refl, here, oct)
+nothing_after c n d s any here oct = (refl, refl, refl, here, oct)
 
 -- an array of XDR, of its elements and what comes after them
-counted-array : (c : Callees) (a : Array) (turn behind : Recv) (one : Reader FaultKind ℤ) (end : ℕ → Reader FaultKind (Unit {0}))
-    (L : ℕ → ℕ → Type 0) → ElementsRead a c turn one Any (IsPlace Xdr) L → EndRead Xdr c behind end Any L → (s : Place) → IsPlace Xdr s.pos
+counted-array : (c : Callees) (a : Array) (turn after : Recv) (one : Reader FaultKind ℤ) (end : ℕ → Reader FaultKind (Unit {0}))
+    (L : ℕ → ℕ → Type 0) → ElementsRead a c turn one Any (IsPlace Xdr) L → EndRead Xdr c after end Any L → (s : Place) → IsPlace Xdr s.pos
     → AreOctets s.left
-    → Agrees (IsPlace Xdr) Settles (fill c (append (count_code Xdr (count_of a)) (each [] turn behind)) (raw (array_type a)) s)
+    → Agrees (IsPlace Xdr) Settles (fill c (append (count_code Xdr (count_of a)) (each [] turn after)) (raw (array_type a)) s)
     (map_got (row (kind_of a))
     (map_got (λ (x : ℕ × (List ℤ × Unit {0})). x.1.0) (read_whole (read_count Xdr (count_of a)) one end s.pos s.left)))
-counted-array c a turn behind one end L elements ended s here oct =
-    array-reads Xdr c a (count_code Xdr (count_of a)) turn behind one end Any (IsPlace Xdr) L elements ended (read_count Xdr (count_of a))
+counted-array c a turn after one end L elements ended s here oct =
+    array-reads Xdr c a (count_code Xdr (count_of a)) turn after one end Any (IsPlace Xdr) L elements ended (read_count Xdr (count_of a))
     (read_count Xdr (count_of a)) s
     (count-opens Xdr xdr_scalar c a Any (IsPlace Xdr) s here oct (λ (q : ℕ) h. h) (λ (m : ℕ) is. here) (λ (n : ℕ). tt))
     (ends-same (read_whole (read_count Xdr (count_of a)) one end s.pos s.left))
@@ -413,7 +413,7 @@ numbers-array : (c : Callees) (k : Kind) (b : Count) (s : Place) → IsPlace Xdr
     (read_whole (read_count Xdr b) (read_scalar Xdr (number k)) (λ n. read_zeros 0 BadPad) s.pos s.left)))
 numbers-array c k b s here oct =
     counted-array c (row_of k b) (number_take Xdr (scalar_width Xdr (number k))) finish (read_scalar Xdr (number k))
-    (λ n. read_zeros 0 BadPad) (λ (n : ℕ). IsPlace Xdr) (numbers_elements c k b) (nothing_behind c) s here oct
+    (λ n. read_zeros 0 BadPad) (λ (n : ℕ). IsPlace Xdr) (numbers_elements c k b) (nothing_after c) s here oct
 
 pub xdr_array : ArraysRead Xdr
 unfolding read_array read_head read_element read_tail

@@ -37,7 +37,7 @@ use Rattle.cast_stub.specs.Steps.{is_width}
 use Rattle.cast_stub.specs.Layouts.{order_of, scalar_width}
 use Rattle.stub_lower.specs.RecvCodes.{aligned, take_code, scalar_code, number_take, length_get, count_code, ended_code, row_code, end_code, array_code}
 use Rattle.stub_lower.proofs.Words.{width_same}
-use Rattle.stub_lower.proofs.Cdr.{no_gap_behind, still_none}
+use Rattle.stub_lower.proofs.Cdr.{no_gap_after, still_none}
 use Rattle.stub_lower.proofs.Agreeing.{Agrees, Same, Settles, agrees-then, agrees-wider, agrees-ends, agrees-runs, SameEnds, ends-same, ends-map, ends-then}
 use Rattle.stub_lower.proofs.RecvEncoded.{tested_place, passed_place, pass_tested, le_true, octets_dropped, word_same, same_true, Reads, reads-wider, Takes, taken, After, LonesRead, bare-scalar, count-reads}
 
@@ -117,7 +117,7 @@ word_split e w own p o = either (nat_lt (length o) (gap p (byte_len w))) refl wh
       rw far tt
   either false is =
       let near : gap p (byte_len w) ≤ length o = ltb-false (length o) (gap p (byte_len w)) is in
-      let none = no_gap_behind w own p in
+      let none = no_gap_after w own p in
       let short = ap (λ (l : ℕ). nat_lt l (0 + byte_len w)) (length-drop (gap p (byte_len w)) o)
       ∙ lt_shift (length o) (gap p (byte_len w)) (byte_len w) near in
       rw (none, short)
@@ -177,7 +177,7 @@ module _ (e : Encoding) (aligns : (s : Scalar) → alignment_of e s ≡ byte_len
         (sym (width_same e t)) (aligned_run (width_of e t) (own_of e t) c (take_code (scalar_width e t) g) d s)
 
     none : gap k.place.pos (byte_len (width_of e t)) ≡ 0
-    none = ap (λ (p : ℕ). gap p (byte_len (width_of e t))) k.at ∙ no_gap_behind (width_of e t) (own_of e t) s.pos
+    none = ap (λ (p : ℕ). gap p (byte_len (width_of e t))) k.at ∙ no_gap_after (width_of e t) (own_of e t) s.pos
 
     whole : nat_lt (length s.left) (gap_of t s.pos) ≡ false
         → SameEnds (read_scalar e t k.place.pos k.place.left) (read_scalar e t s.pos s.left)

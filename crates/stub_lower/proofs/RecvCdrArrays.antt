@@ -33,7 +33,7 @@ use Rattle.cast_stub.specs.Runs.{Place, Run, gives, refuses, strays, Filler, the
 use Rattle.cast_stub.specs.Layouts.{order_of, scalar_width, is_free}
 use Rattle.stub_lower.specs.RecvCodes.{aligned, take_code, number_take, gapped_turn, count_code, row_code, end_code, array_code}
 use Rattle.stub_lower.proofs.Words.{width_same}
-use Rattle.stub_lower.proofs.Cdr.{no_gap_behind, still_none}
+use Rattle.stub_lower.proofs.Cdr.{no_gap_after, still_none}
 use Rattle.stub_lower.proofs.Agreeing.{Agrees, Same, Settles, agrees-then, agrees-wider, agrees-ends, agrees-runs, SameEnds, ends-same, ends-map, ends-then}
 use Rattle.stub_lower.proofs.RecvEncoded.{tested_place, passed_place, pass_tested, le_true, octets_dropped, same_true, Reads, reads-wider, taken, After, LonesRead}
 use Rattle.stub_lower.proofs.RecvArrays.{ArraysRead, Opens, read_body, read_whole, array-reads, count-opens, numbers-agree, number-agrees, octets-agree, IsOctetArray, letter_passes, octet_passes}
@@ -159,7 +159,7 @@ ended_ends : (e : Encoding) (b : Count) (p : ℕ) (o : List ℕ)
     → SameEnds (then_on (read_scalar e counted p o)
     (λ z q r. if is_some z then (if allowed b (less_one z) then got (less_one z) q r else stop OverBound p) else stop BadText p))
     (read_ended e b p o)
-ended_ends e b p o = behind (read_scalar e counted p o) where
+ended_ends e b p o = after (read_scalar e counted p o) where
   tested_so : (some fits : Bool) (z : ℤ) (q : ℕ) (r : List ℕ) → allowed b (less_one z) ≡ fits
       → SameEnds (if some then (if fits then got (less_one z) q r else stop OverBound p) else stop BadText p)
       (then_on (map_got less_one (if some then got z q r else stop BadText (scalar_place e counted p)))
@@ -168,14 +168,14 @@ ended_ends e b p o = behind (read_scalar e counted p o) where
   tested_so true false z q r is = rw is tt
   tested_so false fits z q r is = tt
 
-  behind : (x : Reading FaultKind ℤ)
+  after : (x : Reading FaultKind ℤ)
       → SameEnds
       (then_on x
       (λ z q r. if is_some z then (if allowed b (less_one z) then got (less_one z) q r else stop OverBound p) else stop BadText p))
       (then_on (map_got less_one (then_on x (λ z q r. if is_some z then got z q r else stop BadText (scalar_place e counted p))))
       (λ n m l. if allowed b n then got n m l else stop OverBound (scalar_place e counted p)))
-  behind (stop k at) = tt
-  behind (got z q r) = tested_so (is_some z) (allowed b (less_one z)) z q r refl
+  after (stop k at) = tt
+  after (got z q r) = tested_so (is_some z) (allowed b (less_one z)) z q r refl
 
 module _ (e : Encoding) (aligns : (s : Scalar) → alignment_of e s ≡ byte_len (width_of e s)) (four : scalar_width e counted ≡ 4)
     (placed : (q : ℕ) → IsPlace e q) (lone : LonesRead e) (after_four : (q : ℕ) → After e counted q → q % 4 ≡ 0) where
@@ -341,7 +341,7 @@ module _ (e : Encoding) (aligns : (s : Scalar) → alignment_of e s ≡ byte_len
       (λ (n : ℕ) (t : Place) any h o. no_gaps c k (Exactly (suc m)) n t h o) (nothing-after c (λ (n : ℕ). n ≡ suc m)) gap_read
       (read_count e (Exactly (suc m))) s
       (first (nat_lt (length s.left) (gap s.pos (byte_len (width_of e (number k))))) refl)
-      (subst (λ (r : Reading FaultKind (ℕ × (List ℤ × Unit {0}))). SameEnds r (behind (read_scalar e (number k) s.pos s.left)))
+      (subst (λ (r : Reading FaultKind (ℕ × (List ℤ × Unit {0}))). SameEnds r (after (read_scalar e (number k) s.pos s.left)))
       (moved (nat_lt (length s.left) (gap s.pos (byte_len (width_of e (number k))))))
       (same (if nat_lt (length s.left) (gap s.pos (byte_len (width_of e (number k)))) then stop Short s.pos
       else read_scalar e (number k) (s.pos + gap s.pos (byte_len (width_of e (number k))))
@@ -358,7 +358,7 @@ module _ (e : Encoding) (aligns : (s : Scalar) → alignment_of e s ≡ byte_len
 
         none : gap skip.place.pos (wide k) ≡ 0
         none = ap (gap skip.place.pos) (width_same e (number k)) ∙ ap (λ (p : ℕ). gap p (byte_len (width_of e (number k)))) skip.at
-            ∙ no_gap_behind (width_of e (number k)) (own_of e (number k)) s.pos
+            ∙ no_gap_after (width_of e (number k)) (own_of e (number k)) s.pos
 
         first : (b : Bool) → nat_lt (length s.left) (gap s.pos (byte_len (width_of e (number k)))) ≡ b
             → Agrees (λ (q : ℕ). gap q (wide k) ≡ 0) (λ (d : Draft) (n : ℕ). Opens (row_of k (Exactly (suc m))) d n × (n ≡ suc m))
@@ -376,12 +376,12 @@ module _ (e : Encoding) (aligns : (s : Scalar) → alignment_of e s ≡ byte_len
         )
 
         -- the whole, of the reading of the first number
-        behind : Reading FaultKind ℤ → Reading FaultKind (ℕ × (List ℤ × Unit {0}))
-        behind r = map_got (λ y. (suc m, y))
+        after : Reading FaultKind ℤ → Reading FaultKind (ℕ × (List ℤ × Unit {0}))
+        after r = map_got (λ y. (suc m, y))
             (then_on (then_on r (λ x q rest. map_got (λ xs. x ∷ xs) (times (read_scalar e (number k)) m q rest)))
             (λ ns q rest. map_got (λ z. (ns, z)) (read_zeros 0 BadText q rest)))
 
-        same : (r t : Reading FaultKind ℤ) → SameEnds r t → SameEnds (behind r) (behind t)
+        same : (r t : Reading FaultKind ℤ) → SameEnds r t → SameEnds (after r) (after t)
         same r t h =
             ends-map (λ y. (suc m, y)) _ _
             (ends-then (then_on r (λ x q rest. map_got (λ xs. x ∷ xs) (times (read_scalar e (number k)) m q rest)))
@@ -394,7 +394,7 @@ module _ (e : Encoding) (aligns : (s : Scalar) → alignment_of e s ≡ byte_len
             (λ (ns : List ℤ) (q : ℕ) (l : List ℕ). ends-same (map_got (λ z. (ns, z)) (read_zeros 0 BadText q l))))
 
         moved : (b : Bool)
-            → behind (if b then stop Short s.pos
+            → after (if b then stop Short s.pos
             else read_scalar e (number k) (s.pos + gap s.pos (byte_len (width_of e (number k))))
             (drop (gap s.pos (byte_len (width_of e (number k)))) s.left))
             ≡ then_on (if b then stop Short s.pos

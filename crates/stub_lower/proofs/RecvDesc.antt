@@ -15,7 +15,7 @@ use Rattle.wire_def.specs.declared.fault.FaultKind.TheVariants.{Short, BadItem, 
 use Rattle.wire_def.specs.Grammar.{Reading, got, stop, Reader, AreOctets, then_on, map_got, tested, both}
 use Rattle.wire_def.specs.Scalars.{gap, read_word}
 use Rattle.wire_def.specs.Lone.{unit_name, unit_bits, units_of, short_word}
-use Rattle.wire_def.specs.Described.{allowed, is_marked, takes, has_form, long_words, widened, is_whole, elements_in, is_fixed, is_right, told_before, read_first, read_rest, read_described}
+use Rattle.wire_def.specs.Described.{allowed, is_marked, takes, has_form, long_words, widened, is_whole, elements_in, is_fixed, is_right, reported_before, read_first, read_rest, read_described}
 use Rattle.cast_stub.specs.Into.{same_octets, length_of, allows, little}
 use Rattle.stub_lower.proofs.Agreeing.{SameEnds, ends-same, ends-map, ends-then}
 use Rattle.stub_lower.proofs.RecvEncoded.{same_true}
@@ -185,13 +185,13 @@ module _ (c : Count) (s : Scalar) where
       else (if nat_eq (little w32 0 4 o / 2 ^ 28) 1 then short_by (little w32 0 4 o) p o else stop BadItem p))
 
   -- a reader of what a descriptor says, with its tests
-  abbrev told : Reading FaultKind (ℕ × ℕ) → ℕ → Reading FaultKind ℕ
-  told r p = then_on
+  abbrev reported : Reading FaultKind (ℕ × ℕ) → ℕ → Reading FaultKind ℕ
+  reported r p = then_on
       (map_got (λ (x : ℕ × ℕ). elements_in s (x.1 / 2 ^ 32)) (then_on r (λ x q l. if is_right c s x.1 then got x q l else stop BadItem p)))
       (λ n q l. if allowed c n then got n q l else stop OverBound p)
 
-  told_so : (m d p q : ℕ) (r : List ℕ) → SameEnds (said c s d q r) (told (got (m, d) q r) p)
-  told_so m d p q r = either (is_right c s d) (allowed c (elements_in s (d / 2 ^ 32))) refl where
+  reported_so : (m d p q : ℕ) (r : List ℕ) → SameEnds (said c s d q r) (reported (got (m, d) q r) p)
+  reported_so m d p q r = either (is_right c s d) (allowed c (elements_in s (d / 2 ^ 32))) refl where
     either : (right fits : Bool) → allowed c (elements_in s (d / 2 ^ 32)) ≡ fits
         → SameEnds (if right then (if fits then got (elements_in s (d / 2 ^ 32)) q r else stop OverBound q) else stop BadItem q)
         (then_on (map_got (λ (x : ℕ × ℕ). elements_in s (x.1 / 2 ^ 32)) (if right then got (m, d) q r else stop BadItem p))
@@ -241,11 +241,11 @@ module _ (c : Count) (s : Scalar) where
     decided false e = le-ltb (l - 4) 8 (omega (arith, h, ltb-false l 12 e))
 
   pub desc_ends : (p : ℕ) (o : List ℕ) → AreOctets o → takes c s true ≡ true → TakesShort → SameEnds (desc_by p o) (read_described c s p o)
-  unfolding read_described read_first read_rest told_before
+  unfolding read_described read_first read_rest reported_before
   desc_ends p o oct long short = rw word_read (first (nat_lt (length o) 4) refl) where
     wide : (b : Bool) → nat_lt (length o) 12 ≡ b → 4 ≤ length o
         → SameEnds (if b then stop Short p else units_by c (units_of s) (long_right s o) (little w32 8 4 o) (p + 12) (drop 12 o))
-        (told (map_got (λ y. (from_le_bytes w32 (take 4 o), y)) (told_before (p + 4 - 4)
+        (reported (map_got (λ y. (from_le_bytes w32 (take 4 o), y)) (reported_before (p + 4 - 4)
         (if b then stop Short (p + 4 + 0) else got (from_le_bytes w64 (take 8 (drop 4 o))) (p + 4 + 8) (drop 8 (drop 4 o))))) p)
     wide true is near = tt
     wide false is near =
@@ -260,13 +260,15 @@ module _ (c : Count) (s : Scalar) where
         (subst (λ (x : ℕ). SameEnds (units_by c (units_of s) (long_right s o) x (p + 12) (drop 12 o))
         (said c s (from_le_bytes w64 (take 8 (drop 4 o))) (p + 12) (drop 12 o))) (sym parts.high)
         (said_ends c s (long_right s o) (from_le_bytes w64 (take 8 (drop 4 o))) (p + 12) (drop 12 o) few right))
-        (rw (past, drop-drop 8 4 o) (told_so (from_le_bytes w32 (take 4 o)) (from_le_bytes w64 (take 8 (drop 4 o))) p (p + 12) (drop 12 o)))
+        (rw (past, drop-drop 8 4 o) (reported_so (from_le_bytes w32 (take 4 o)) (from_le_bytes w64 (take 8 (drop 4 o)))
+        p (p + 12) (drop 12 o)))
 
     narrow : (b : Bool) → is_marked (from_le_bytes w32 (take 4 o)) ≡ false → nat_eq (from_le_bytes w32 (take 4 o) / 2 ^ 28) 1 ≡ b
         → TakesShort
         → SameEnds (if b then short_by (from_le_bytes w32 (take 4 o)) p o else stop BadItem p)
-        (told (then_on (if b && takes c s false then got (from_le_bytes w32 (take 4 o)) (p + 4) (drop 4 o) else stop BadItem p)
-        (λ x q r. map_got (λ y. (x, y)) (if is_marked x then told_before (q - 4) (read_word Mach 1 w64 q r) else got (widened x) q r))) p)
+        (reported (then_on (if b && takes c s false then got (from_le_bytes w32 (take 4 o)) (p + 4) (drop 4 o) else stop BadItem p)
+        (λ x q r. map_got (λ y. (x, y)) (if is_marked x then reported_before (q - 4) (read_word Mach 1 w64 q r)
+        else got (widened x) q r))) p)
     narrow false is b may = tt
     narrow true is b (inl ok) =
         let x : ℕ = from_le_bytes w32 (take 4 o) in
@@ -277,13 +279,13 @@ module _ (c : Count) (s : Scalar) where
         pair_same (x % 256) (x / 256 % 256) (unit_name s) (unit_bits s) (omega arith) (omega (arith, name_small s))
         ∙ ap (λ (k : ℕ). nat_eq k (long_words (unit_name s) (unit_bits s) 0)) (sym low) in
         rw (ok, is)
-        (ends_after (short_by x p o) (said c s (widened x) (p + 4) (drop 4 o)) (told (got (x, widened x) (p + 4) (drop 4 o)) p)
+        (ends_after (short_by x p o) (said c s (widened x) (p + 4) (drop 4 o)) (reported (got (x, widened x) (p + 4) (drop 4 o)) p)
         (subst (λ (k : ℕ). SameEnds
         (units_by c (units_of s) (nat_eq (x % 256) (unit_name s) && nat_eq (x / 256 % 256) (unit_bits s)) k (p + 4) (drop 4 o))
         (said c s (widened x) (p + 4) (drop 4 o))) high
         (said_ends c s (nat_eq (x % 256) (unit_name s) && nat_eq (x / 256 % 256) (unit_bits s)) (widened x) (p + 4) (drop 4 o)
         (omega (arith, high)) right))
-        (told_so x (widened x) p (p + 4) (drop 4 o)))
+        (reported_so x (widened x) p (p + 4) (drop 4 o)))
     narrow true is b (inr off) =
         let x : ℕ = from_le_bytes w32 (take 4 o) in
         rw off.0 (stopped_ends (short_by x p o) BadItem p (off.1 (nat_eq (x % 256) (unit_name s) && nat_eq (x / 256 % 256) (unit_bits s))
@@ -292,10 +294,11 @@ module _ (c : Count) (s : Scalar) where
     form : (b : Bool) → is_marked (from_le_bytes w32 (take 4 o)) ≡ b → 4 ≤ length o
         → SameEnds (if b then long_by p o
         else (if nat_eq (from_le_bytes w32 (take 4 o) / 2 ^ 28) 1 then short_by (from_le_bytes w32 (take 4 o)) p o else stop BadItem p))
-        (told (then_on (if (if b then takes c s true else nat_eq (from_le_bytes w32 (take 4 o) / 2 ^ 28) 1 && takes c s false)
+        (reported (then_on (if (if b then takes c s true else nat_eq (from_le_bytes w32 (take 4 o) / 2 ^ 28) 1 && takes c s false)
         then got (from_le_bytes w32 (take 4 o)) (p + 4) (drop 4 o)
         else stop BadItem p)
-        (λ x q r. map_got (λ y. (x, y)) (if is_marked x then told_before (q - 4) (read_word Mach 1 w64 q r) else got (widened x) q r))) p)
+        (λ x q r. map_got (λ y. (x, y)) (if is_marked x then reported_before (q - 4) (read_word Mach 1 w64 q r)
+        else got (widened x) q r))) p)
     form true is near =
         let shorter = ap (λ (l : ℕ). nat_lt l 8) (length-drop 4 o) ∙ short_shift (length o) near in
         rw (long, is, long_read, shorter) (wide (nat_lt (length o) 12) refl near)
@@ -305,9 +308,10 @@ module _ (c : Count) (s : Scalar) where
         → SameEnds (if b then stop Short p
         else (if is_marked (from_le_bytes w32 (take 4 o)) then long_by p o
         else (if nat_eq (from_le_bytes w32 (take 4 o) / 2 ^ 28) 1 then short_by (from_le_bytes w32 (take 4 o)) p o else stop BadItem p)))
-        (told (then_on (then_on (if b then stop Short (p + 0) else got (from_le_bytes w32 (take 4 o)) (p + 4) (drop 4 o))
+        (reported (then_on (then_on (if b then stop Short (p + 0) else got (from_le_bytes w32 (take 4 o)) (p + 4) (drop 4 o))
         (λ x q r. if has_form c s x then got x q r else stop BadItem p))
-        (λ x q r. map_got (λ y. (x, y)) (if is_marked x then told_before (q - 4) (read_word Mach 1 w64 q r) else got (widened x) q r))) p)
+        (λ x q r. map_got (λ y. (x, y)) (if is_marked x then reported_before (q - 4) (read_word Mach 1 w64 q r)
+        else got (widened x) q r))) p)
     first true is = tt
     first false is = form (is_marked (from_le_bytes w32 (take 4 o))) refl (ltb-false (length o) 4 is)
 
@@ -388,21 +392,22 @@ module _ (m : ℕ) (s : Scalar) (few : m * units_of s ≤ 4095) where
             absurd (eqb-false x (fixed_word s m) is (omega (arith, a, b, one, few, name_small s, bits_small s)))
 
   pub fixed_ends : (p : ℕ) (o : List ℕ) → AreOctets o → SameEnds (fixed_by s m p o) (read_described (Exactly m) s p o)
-  unfolding read_described read_first read_rest told_before
+  unfolding read_described read_first read_rest reported_before
   fixed_ends p o oct = rw word_read (first (nat_lt (length o) 4) refl) where
     other : (x : ℕ) → (x / 2 ^ 28 ≡ 1 → ⊥) → nat_eq x (fixed_word s m) ≡ false
     other x off = ne_eqb x (fixed_word s m) (λ same. off (omega (arith, same, few, name_small s, bits_small s)))
 
     plain : (x : ℕ) → is_marked x ≡ false → (b : Bool) → nat_eq (x / 2 ^ 28) 1 ≡ b
         → SameEnds (if nat_eq x (fixed_word s m) then got m (p + 4) (drop 4 o) else stop BadItem p)
-        (told (Exactly m) s (then_on (if b && nat_le U 4095 then got x (p + 4) (drop 4 o) else stop BadItem p)
-        (λ x q r. map_got (λ y. (x, y)) (if is_marked x then told_before (q - 4) (read_word Mach 1 w64 q r) else got (widened x) q r))) p)
+        (reported (Exactly m) s (then_on (if b && nat_le U 4095 then got x (p + 4) (drop 4 o) else stop BadItem p)
+        (λ x q r. map_got (λ y. (x, y)) (if is_marked x then reported_before (q - 4) (read_word Mach 1 w64 q r)
+        else got (widened x) q r))) p)
     plain x is false one = rw (other x (eqb-false (x / 2 ^ 28) 1 one)) tt
     plain x is true one =
         rw (le-leb U 4095 few, is)
         (ends_after (Exactly m) s (if nat_eq x (fixed_word s m) then got m (p + 4) (drop 4 o) else stop BadItem p)
-        (said (Exactly m) s (widened x) (p + 4) (drop 4 o)) (told (Exactly m) s (got (x, widened x) (p + 4) (drop 4 o)) p)
-        (either (nat_eq x (fixed_word s m)) refl) (told_so (Exactly m) s x (widened x) p (p + 4) (drop 4 o))) where
+        (said (Exactly m) s (widened x) (p + 4) (drop 4 o)) (reported (Exactly m) s (got (x, widened x) (p + 4) (drop 4 o)) p)
+        (either (nat_eq x (fixed_word s m)) refl) (reported_so (Exactly m) s x (widened x) p (p + 4) (drop 4 o))) where
           at_fault : (b : Bool) (z : Reading FaultKind ℕ) → SameEnds (if b then got m (p + 4) (drop 4 o) else stop BadItem (p + 4)) z
               → SameEnds (if b then got m (p + 4) (drop 4 o) else stop BadItem p) z
           at_fault true z h = h
@@ -416,10 +421,11 @@ module _ (m : ℕ) (s : Scalar) (few : m * units_of s ≤ 4095) where
 
     form : (x : ℕ) (b : Bool) → is_marked x ≡ b
         → SameEnds (if nat_eq x (fixed_word s m) then got m (p + 4) (drop 4 o) else stop BadItem p)
-        (told (Exactly m) s
+        (reported (Exactly m) s
         (then_on
         (if (if b then nat_lt 4095 U else nat_eq (x / 2 ^ 28) 1 && nat_le U 4095) then got x (p + 4) (drop 4 o) else stop BadItem p)
-        (λ x q r. map_got (λ y. (x, y)) (if is_marked x then told_before (q - 4) (read_word Mach 1 w64 q r) else got (widened x) q r))) p)
+        (λ x q r. map_got (λ y. (x, y)) (if is_marked x then reported_before (q - 4) (read_word Mach 1 w64 q r)
+        else got (widened x) q r))) p)
     form x true is =
         let three : x / 2 ^ 28 ≡ 3 = eqb-true (x / 2 ^ 28) 3 is in
         rw (other x (λ one. omega (arith, one, three)), le-ltb 4095 U few) tt
@@ -428,9 +434,10 @@ module _ (m : ℕ) (s : Scalar) (few : m * units_of s ≤ 4095) where
     first : (b : Bool) → nat_lt (length o) 4 ≡ b
         → SameEnds
         (if b then stop Short p else (if same_octets (le 4 (fixed_word s m)) (take 4 o) then got m (p + 4) (drop 4 o) else stop BadItem p))
-        (told (Exactly m) s (then_on (then_on (if b then stop Short (p + 0) else got (from_le_bytes w32 (take 4 o)) (p + 4) (drop 4 o))
+        (reported (Exactly m) s (then_on (then_on (if b then stop Short (p + 0) else got (from_le_bytes w32 (take 4 o)) (p + 4) (drop 4 o))
         (λ x q r. if has_form (Exactly m) s x then got x q r else stop BadItem p))
-        (λ x q r. map_got (λ y. (x, y)) (if is_marked x then told_before (q - 4) (read_word Mach 1 w64 q r) else got (widened x) q r))) p)
+        (λ x q r. map_got (λ y. (x, y)) (if is_marked x then reported_before (q - 4) (read_word Mach 1 w64 q r)
+        else got (widened x) q r))) p)
     first true is = tt
     first false is = rw (word_is (fixed_word s m) o word_few oct (ltb-false (length o) 4 is))
         (form (from_le_bytes w32 (take 4 o)) (is_marked (from_le_bytes w32 (take 4 o))) refl)

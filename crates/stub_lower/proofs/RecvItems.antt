@@ -179,8 +179,8 @@ module _ (t : Scalar) where
   abbrev filled : ℤ → Reading FaultKind (Unit {0}) → Reading FaultKind (ℤ × Unit {0})
   filled n r = map_got (λ z. (n, z)) r
 
-  abbrev number_behind : Reading FaultKind ℤ → Reading FaultKind ℤ
-  number_behind r = map_got (λ (x : Unit {0} × (ℤ × Unit {0})). x.1.0)
+  abbrev number_after : Reading FaultKind ℤ → Reading FaultKind ℤ
+  number_after r = map_got (λ (x : Unit {0} × (ℤ × Unit {0})). x.1.0)
       (map_got (λ y. (tt, y)) (then_on r (λ n q l. filled n (read_any (filling t) q l))))
 
   item_ends : (p : ℕ) (o : List ℕ) → AreOctets o
@@ -224,7 +224,7 @@ module _ (t : Scalar) where
     scalar : (b0 b3 b4 : Bool) → nat_lt (length o) N ≡ b0 → nat_lt (length o) 4 ≡ false → nat_lt (length (drop 4 o)) W ≡ b3
         → is_scalar t (inside o) ≡ b4
         → SameEnds (if b0 then stop Short p else (if b4 then got (inside o) (p + N) (drop N o) else stop BadValue p))
-        (number_behind (then_on (map_got (number_of (is_signed t) (width_of Mach t))
+        (number_after (then_on (map_got (number_of (is_signed t) (width_of Mach t))
         (if b3 then stop Short (p + 4 + 0) else got (loaded Little (width_of Mach t) (take W (drop 4 o))) (p + 4 + W) (drop W (drop 4 o))))
         (λ n q rest. if is_scalar t n then got n q rest else stop BadValue (scalar_place Mach t (p + 4)))))
     scalar true true b4 is one two three = tt
@@ -239,13 +239,13 @@ module _ (t : Scalar) where
     scalar true false true is one two three = rw three (any true (nat_lt (length (drop W (drop 4 o))) (filling t)) is one two refl)
     scalar false false true is one two three = rw three (any false (nat_lt (length (drop W (drop 4 o))) (filling t)) is one two refl)
 
-    behind : (b0 b2 : Bool) → nat_lt (length o) N ≡ b0 → nat_lt (length o) 4 ≡ false → same_octets D (take 4 o) ≡ b2
+    after : (b0 b2 : Bool) → nat_lt (length o) N ≡ b0 → nat_lt (length o) 4 ≡ false → same_octets D (take 4 o) ≡ b2
         → SameEnds (known b0 b2 (is_scalar t (inside o)) p o)
         (map_got (λ (x : Unit {0} × (ℤ × Unit {0})). x.1.0) (then_on (map_got (λ m. tt)
         (if nat_eq (from_le_bytes w32 (take 4 o)) (scalar_word t) then got (from_le_bytes w32 (take 4 o)) (p + 4) (drop 4 o)
         else stop BadItem p))
         (λ u q l. map_got (λ y. (u, y)) (then_on (read_scalar Mach t q l) (λ n q l. filled n (read_any (filling t) q l))))))
-    behind b0 b2 is one two =
+    after b0 b2 is one two =
         rw (sym (word_is (scalar_word t) o (word_small t) oct (ltb-false (length o) 4 one)) ∙ two) (chosen b0 b2 is) where
           chosen : (b0 b2 : Bool) → nat_lt (length o) N ≡ b0
               → SameEnds (known b0 b2 (is_scalar t (inside o)) p o)
@@ -267,7 +267,7 @@ module _ (t : Scalar) where
         (λ u q l. map_got (λ y. (u, y)) (then_on (read_scalar Mach t q l) (λ n q l. filled n (read_any (filling t) q l))))))
     first true one true is = tt
     first true one false is = let a = ltb-true (length o) 4 one in let w = ltb-false (length o) N is in absurd (omega (arith, a, w))
-    first false one b0 is = behind b0 (same_octets D (take 4 o)) is one refl
+    first false one b0 is = after b0 (same_octets D (take 4 o)) is one refl
 
   -- ---- both
 

@@ -26,24 +26,24 @@ module _ (t : Scalar) (test : ℤ → Bool) (fault : FaultKind) where
   abbrev filled : ℤ → Reading FaultKind (Unit {0}) → Reading FaultKind (ℤ × Unit {0})
   filled n r = map_got (λ z. (n, z)) r
 
-  behind_number : (p at q : ℕ) (u : Unit {0}) (n : ℤ) (b : Bool) (o : List ℕ) (any : Reading FaultKind (Unit {0})) → test n ≡ b
+  after_number : (p at q : ℕ) (u : Unit {0}) (n : ℤ) (b : Bool) (o : List ℕ) (any : Reading FaultKind (Unit {0})) → test n ≡ b
       → any ≡ read_any (filling t) q o
       → SameEnds (then_on (map_got (λ (x : Unit {0} × (ℤ × Unit {0})). x.1.0) (map_got (λ y. (u, y)) (filled n any)))
       (λ x q r. if test x then got x q r else stop fault p)) (map_got (λ (x : Unit {0} × (ℤ × Unit {0})). x.1.0)
       (map_got (λ y. (u, y)) (then_on (if b then got n q o else stop fault at) (λ m q r. filled m (read_any (filling t) q r)))))
-  behind_number p at q u n true o (got z k r) is same = rw (is, ← same) (refl, refl, refl)
-  behind_number p at q u n true o (stop k to) is same = rw (← same) tt
-  behind_number p at q u n false o (got z k r) is same = rw is tt
-  behind_number p at q u n false o (stop k to) is same = tt
+  after_number p at q u n true o (got z k r) is same = rw (is, ← same) (refl, refl, refl)
+  after_number p at q u n true o (stop k to) is same = rw (← same) tt
+  after_number p at q u n false o (got z k r) is same = rw is tt
+  after_number p at q u n false o (stop k to) is same = tt
 
-  behind_desc : (p q : ℕ) (u : Unit {0}) (o : List ℕ) (number : Reading FaultKind ℤ)
+  after_desc : (p q : ℕ) (u : Unit {0}) (o : List ℕ) (number : Reading FaultKind ℤ)
       → SameEnds (then_on (map_got (λ (x : Unit {0} × (ℤ × Unit {0})). x.1.0)
       (map_got (λ y. (u, y)) (then_on number (λ n q r. filled n (read_any (filling t) q r)))))
       (λ x q r. if test x then got x q r else stop fault p)) (map_got (λ (x : Unit {0} × (ℤ × Unit {0})). x.1.0)
       (map_got (λ y. (u, y)) (then_on (then_on number (λ n m r. if test n then got n m r else stop fault (scalar_place Mach t q)))
       (λ n q r. filled n (read_any (filling t) q r)))))
-  behind_desc p q u o (stop k at) = tt
-  behind_desc p q u o (got n m r) = behind_number p (scalar_place Mach t q) m u n (test n) r (read_any (filling t) m r) refl refl
+  after_desc p q u o (stop k at) = tt
+  after_desc p q u o (got n m r) = after_number p (scalar_place Mach t q) m u n (test n) r (read_any (filling t) m r) refl refl
 
   item : (p : ℕ) (desc : Reading FaultKind (Unit {0}))
       → SameEnds (then_on (map_got (λ (x : Unit {0} × (ℤ × Unit {0})). x.1.0)
@@ -53,7 +53,7 @@ module _ (t : Scalar) (test : ℤ → Bool) (fault : FaultKind) where
       (then_on (then_on (read_scalar Mach t q o) (λ n m r. if test n then got n m r else stop fault (scalar_place Mach t q)))
       (λ n q r. filled n (read_any (filling t) q r))))))
   item p (stop k at) = tt
-  item p (got u q o) = behind_desc p q u o (read_scalar Mach t q o)
+  item p (got u q o) = after_desc p q u o (read_scalar Mach t q o)
 
   pub pass_ends : (e : Encoding) (p : ℕ) (o : List ℕ)
       → SameEnds (tested (read_lone e t) test fault (λ q. q) p o) (read_pass e t test fault p o)

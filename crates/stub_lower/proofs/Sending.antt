@@ -52,9 +52,9 @@ over-sends e f one P (val v vs) p typed m =
 append-sends : (e : Encoding) (c : Calls) (h : Head) (a b : Block) (v : Val) (p : ℕ) (o : List ℕ) (more : ℕ → List ℕ)
     → Sends e (steps c h a v) p o → Sends e (steps c h b v) (p + length o) (more (p + length o))
     → Sends e (steps c h (append a b) v) p (o ++ more (p + length o))
-append-sends e c h a b v p o more first behind =
+append-sends e c h a b v p o more first after =
     subst (λ (x : Steps). Sends e x p (o ++ more (p + length o))) (sym (steps-append c h a b v))
-    (both-sends e (steps c h a v) (steps c h b v) p o (more (p + length o)) first behind)
+    (both-sends e (steps c h a v) (steps c h b v) p o (more (p + length o)) first after)
 
 module _ (e : Encoding) (scalar : ScalarsSend e) (array : ArraysSend e) (us : List Ty) (h : Head) (c : Calls) (n b : ℕ)
     (child : (i : ℕ) (p : ℕ) (v : Val) → i < b → depth (at us i) ≤ n → Is (at us i) v → Sends e (c i v) p (send e (at us i) p v)) where

@@ -18,7 +18,7 @@ use Rattle.cast_stub.specs.RecvBlock.{Recv, finish, skip_any, skip_zero, call}
 use Rattle.cast_stub.specs.Traces.{descs, IsGetAt, IsAt, IsFlat, IsLoop, IsCount, IsNumber, Child, Loops, TracesBy, FieldsTraceBy, ArmsTraceBy, IsTurned}
 use Rattle.cast_stub.specs.Layouts.{layout_of, order_of, scalar_width, element_width, is_gapped}
 use Rattle.stub_lower.specs.Items.{number_at}
-use Rattle.stub_lower.specs.RecvCodes.{take_code, number_get, length_get, scalar_code, count_code, ended_code, row_code, fixed_code, free_code, described_code, head_code, gapped_turn, turn_code, behind_code, array_code, tag_code, flag_code, call_here, calls_from, cases_at, node_code}
+use Rattle.stub_lower.specs.RecvCodes.{take_code, number_get, length_get, scalar_code, count_code, ended_code, row_code, fixed_code, free_code, described_code, head_code, gapped_turn, turn_code, after_code, array_code, tag_code, flag_code, call_here, calls_from, cases_at, node_code}
 
 -- ---- what an encoding gives
 
@@ -81,16 +81,16 @@ heads CdrLittle (row_of k c) =
     headed (row_code CdrLittle (element_width CdrLittle (row_of k c)) c) (row_flat CdrLittle (element_width CdrLittle (row_of k c)) c)
 heads Mach a = described (count_of a) (number (kind_of a))
 
-behinds : (e : Encoding) (a : Array) → IsFlat [] (behind_code e a)
-behinds Xdr a = either (is_octets a) where
+after_flat : (e : Encoding) (a : Array) → IsFlat [] (after_code e a)
+after_flat Xdr a = either (is_octets a) where
   either : (b : Bool) → IsFlat [] (if b then skip_zero 4 finish else finish)
   either true = (refl, tt)
   either false = (refl, tt)
-behinds CdrBig (text c) = (refl, ((tt, tt), tt))
-behinds CdrBig (row_of k c) = (refl, tt)
-behinds CdrLittle (text c) = (refl, ((tt, tt), tt))
-behinds CdrLittle (row_of k c) = (refl, tt)
-behinds Mach a = either (nat_lt (element_width Mach a) 4) where
+after_flat CdrBig (text c) = (refl, ((tt, tt), tt))
+after_flat CdrBig (row_of k c) = (refl, tt)
+after_flat CdrLittle (text c) = (refl, ((tt, tt), tt))
+after_flat CdrLittle (row_of k c) = (refl, tt)
+after_flat Mach a = either (nat_lt (element_width Mach a) 4) where
   either : (b : Bool) → IsFlat [] (if b then skip_any 4 finish else finish)
   either true = (refl, tt)
   either false = (refl, tt)
@@ -116,13 +116,13 @@ array_turned e a =
       loop = record {
         before = head_code e a;
         turn = turn_code e a;
-        behind = behind_code e a;
+        after = after_code e a;
         first = h.first;
         last = 0;
         whole = refl;
         begins = (h.is, h.here);
         turns = t.0;
-        ends = behinds e a;
+        ends = after_flat e a;
         few = omega (arith, h.few);
       };
       number = t.1;

@@ -65,9 +65,9 @@ pub both-sends : (e : Encoding) (x y : Steps) (p : ℕ) (o o' : List ℕ) → Se
     → Sends e (both x y) p (o ++ o')
 both-sends e x y p o o' h k ok =
     let first = h ok in
-    let behind = k (place_sum e p (length o) ok first.0) in (
-      subst (IsPlace e) (sym (length-append o o')) (place_sum e (length o) (length o') first.0 behind.0),
-      both-writes x y p o o' first.1 behind.1,
+    let after = k (place_sum e p (length o) ok first.0) in (
+      subst (IsPlace e) (sym (length-append o o')) (place_sum e (length o) (length o') first.0 after.0),
+      both-writes x y p o o' first.1 after.1,
     )
 
 pub none-sends : (e : Encoding) (p : ℕ) → Sends e (Some []) p []

@@ -114,12 +114,12 @@ abbrev pub filling_code : ℕ → Block
 filling_code w = if nat_lt w 4 then align 4 stop else stop
 
 -- after the elements of an array
-abbrev pub behind_code : Encoding → Array → Block
-behind_code Xdr a = if is_octets a then align 4 stop else stop
-behind_code CdrBig (text c) = end_code
-behind_code CdrLittle (text c) = end_code
-behind_code Mach a = filling_code (element_width Mach a)
-behind_code _ a = stop
+abbrev pub after_code : Encoding → Array → Block
+after_code Xdr a = if is_octets a then align 4 stop else stop
+after_code CdrBig (text c) = end_code
+after_code CdrLittle (text c) = end_code
+after_code Mach a = filling_code (element_width Mach a)
+after_code _ a = stop
 
 -- ---- what nodes have over every encoding
 
@@ -150,7 +150,7 @@ number_code e s = scalar_code e s (put.Num (number_at e) [] (scalar_width e s) (
 
 -- a text, a row
 abbrev pub array_code : Encoding → Array → Block
-array_code e a = append (head_code e a) (each [] (turn_code e a) (behind_code e a))
+array_code e a = append (head_code e a) (each [] (turn_code e a) (after_code e a))
 
 -- the tag of an arm
 abbrev pub tag_code : Encoding → Scalar → Block

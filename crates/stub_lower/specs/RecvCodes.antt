@@ -110,12 +110,12 @@ abbrev pub filling_code : ℕ → Recv
 filling_code w = if nat_lt w 4 then skip_any 4 finish else finish
 
 -- after the elements of an array
-abbrev pub behind_code : Encoding → Array → Recv
-behind_code Xdr a = if is_octets a then skip_zero 4 finish else finish
-behind_code CdrBig (text c) = end_code
-behind_code CdrLittle (text c) = end_code
-behind_code Mach a = filling_code (element_width Mach a)
-behind_code _ a = finish
+abbrev pub after_code : Encoding → Array → Recv
+after_code Xdr a = if is_octets a then skip_zero 4 finish else finish
+after_code CdrBig (text c) = end_code
+after_code CdrLittle (text c) = end_code
+after_code Mach a = filling_code (element_width Mach a)
+after_code _ a = finish
 
 -- ---- what nodes have over every encoding
 
@@ -146,7 +146,7 @@ number_code e s = scalar_code e s (number_get e s)
 
 -- a text, a row
 abbrev pub array_code : Encoding → Array → Recv
-array_code e a = append (head_code e a) (each [] (turn_code e a) (behind_code e a))
+array_code e a = append (head_code e a) (each [] (turn_code e a) (after_code e a))
 
 -- the tag of an arm
 abbrev pub tag_code : Encoding → Scalar → Recv

@@ -90,8 +90,8 @@ first-grown x y s t g = record {
 pub left-grown : (all left : Steps) (s t : State) → Left all left s t → Grown all s t
 left-grown all left s t l = record { grows = λ (u : State) e. ended-grows left t u (sym l.same ∙ e); spent = l.spent }
 
-pub grown-behind : (all left : Steps) (s t u : State) → Left all left s t → Grown left t u → Grown all s u
-grown-behind all left s t u l g =
+pub grown-after : (all left : Steps) (s t u : State) → Left all left s t → Grown left t u → Grown all s u
+grown-after all left s t u l g =
     record { grows = λ (w : State) e. g.grows w (sym l.same ∙ e); spent = none_fell-trans s.spent t.spent u.spent l.spent g.spent }
 
 -- ---- where a loop is broken off
@@ -105,7 +105,7 @@ block_grown c h v ops i d s t u left lt same g =
     let whole : code_steps c h (drop i ops) v ≡ both (steps c h (op_seen d stop) v) (steps c h rest v) =
     ap (λ (b : Block). steps c h b v) (code-drop ops i d lt) ∙ ap (λ (o : SendOp). steps c h (op_seen o rest) v) (sym same)
     ∙ ap (λ (b : Block). steps c h b v) (sym (op-append d stop rest)) ∙ steps-append c h (op_seen d stop) rest v in
-    grown-behind (code_steps c h ops v) (code_steps c h (drop i ops) v) s t u left
+    grown-after (code_steps c h ops v) (code_steps c h (drop i ops) v) s t u left
     (subst (λ (x : Steps). Grown x t u) (sym whole) (first-grown (steps c h (op_seen d stop) v) (steps c h rest v) t u g))
 
 pub block_broken : (c : Calls) (h : Head) (v : Val) (ops : List SendOp) (i : ℕ) (d : SendOp) (s t u : State)
@@ -122,7 +122,7 @@ items_grown f vs i d s t u left lt same g =
     let rest = over f (all_seen (drop (i + 1) vs)) in
     let whole : over f (all_seen (drop i vs)) ≡ both (f (seen d)) rest =
     over-drop f vs i d lt ∙ ap (λ (o : Value). both (f (seen o)) rest) (sym same) in
-    grown-behind (over f (all_seen vs)) (over f (all_seen (drop i vs))) s t u left
+    grown-after (over f (all_seen vs)) (over f (all_seen (drop i vs))) s t u left
     (subst (λ (x : Steps). Grown x t u) (sym whole) (first-grown (f (seen d)) rest t u g))
 
 pub numbers_grown : (f : Val → Steps) (ns : List ℤ) (i : ℕ) (s t u : State)
@@ -131,7 +131,7 @@ pub numbers_grown : (f : Val → Steps) (ns : List ℤ) (i : ℕ) (s t u : State
     → Grown (over f (vals_of (map num ns))) s u
 numbers_grown f ns i s t u left lt g =
     let rest = over f (vals_of (map num (drop (i + 1) ns))) in
-    grown-behind (over f (vals_of (map num ns))) (over f (vals_of (map num (drop i ns)))) s t u left
+    grown-after (over f (vals_of (map num ns))) (over f (vals_of (map num (drop i ns)))) s t u left
     (subst (λ (x : Steps). Grown x t u) (sym (numbers-drop f ns i (pos 0) lt)) (first-grown (f (num (get_or ns i (pos 0)))) rest t u g))
 
 -- ---- operations by cases

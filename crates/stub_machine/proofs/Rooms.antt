@@ -9,7 +9,7 @@ use Rattle.wire_def.specs.declared.head.Order.{Order}
 use Rattle.wire_def.specs.declared.head.Order.TheVariants.{Big, Little}
 use Rattle.raw_buf.specs.declared.tally.Tally.{Tally}
 use Rattle.raw_buf.specs.Buf.{in_order, checked, moved, stored, rowed}
-use Rattle.raw_buf.proofs.Views.{written-behind}
+use Rattle.raw_buf.proofs.Views.{written-after}
 use Rattle.raw_buf.proofs.Wording.{tally}
 use Rattle.cast_stub.specs.Parts.{on_some, IsThere}
 use Rattle.cast_stub.specs.Steps.{Step, Room, Pad, Stored, Widened, Copied, Patched}
@@ -30,7 +30,7 @@ length-written n os f h =
 written-front : (a b octets : List ℕ) (at : ℕ) → length a ≤ at → written (a ++ b) at octets ≡ a ++ written b (at - length a) octets
 written-front a b octets at h =
     let e : length a + (at - length a) ≡ at = omega arith in
-    ap (λ (k : ℕ). written (a ++ b) k octets) (sym e) ∙ written-behind a b octets (at - length a)
+    ap (λ (k : ℕ). written (a ++ b) k octets) (sym e) ∙ written-after a b octets (at - length a)
 
 pub four : (order : Order) (n : ℕ) → length (in_order order 4 n) ≡ 4
 four Big n = refl
@@ -40,16 +40,16 @@ four Little n = refl
 abbrev put_over : ℕ → ℕ → Order → List ℕ → List ℕ
 put_over at sub order d = written d at (in_order order 4 ((length d + 2 ^ 32 - sub) % 2 ^ 32))
 
-abbrev put_behind : List ℕ → ℕ → ℕ → Order → List ℕ → List ℕ
-put_behind d at sub order o = written o (at - length d) (in_order order 4 ((length d + length o + 2 ^ 32 - sub) % 2 ^ 32))
+abbrev put_after : List ℕ → ℕ → ℕ → Order → List ℕ → List ℕ
+put_after d at sub order o = written o (at - length d) (in_order order 4 ((length d + length o + 2 ^ 32 - sub) % 2 ^ 32))
 
-put-same : (d o : List ℕ) (at sub : ℕ) (order : Order) → length d ≤ at → put_over at sub order (d ++ o) ≡ d ++ put_behind d at sub order o
+put-same : (d o : List ℕ) (at sub : ℕ) (order : Order) → length d ≤ at → put_over at sub order (d ++ o) ≡ d ++ put_after d at sub order o
 put-same d o at sub order h =
     ap (λ (k : ℕ). written (d ++ o) at (in_order order 4 ((k + 2 ^ 32 - sub) % 2 ^ 32))) (length-append d o)
     ∙ written-front d o (in_order order 4 ((length d + length o + 2 ^ 32 - sub) % 2 ^ 32)) at h
 
 put-long : (d o : List ℕ) (at sub : ℕ) (order : Order) → length d ≤ at → at + 4 ≤ length d + length o
-    → length (put_behind d at sub order o) ≡ length o
+    → length (put_after d at sub order o) ≡ length o
 put-long d o at sub order h k =
     let x = in_order order 4 ((length d + length o + 2 ^ 32 - sub) % 2 ^ 32) in
     length-written (at - length d) x o (omega (arith, four order ((length d + length o + 2 ^ 32 - sub) % 2 ^ 32)))
@@ -85,7 +85,7 @@ room_append d o os a t u cost ss fits go room =
 
 room_patch : (d o : List ℕ) (a : ℕ) (t u : Tally) (at sub : ℕ) (order : Order) (ss : List Step) → length d ≤ at
     → at + 4 ≤ length d + length o
-    → (HasRoom (length d + length (put_behind d at sub order o)) a ss → IsThere (ran ss (state (d ++ put_behind d at sub order o) a t u)))
+    → (HasRoom (length d + length (put_after d at sub order o)) a ss → IsThere (ran ss (state (d ++ put_after d at sub order o) a t u)))
     → HasRoom (length d + length o) a ss
     → IsThere (on_some (if nat_le (at + 4) (length (d ++ o)) then Some (state (put_over at sub order (d ++ o)) a t u) else None) (ran ss))
 room_patch d o a t u at sub order ss low high go room =
@@ -114,11 +114,11 @@ room-runs d o a t u (Widened os k ∷ ss) w h =
 room-runs d o a t u (Copied os ∷ ss) w h =
     room_append d o os a t u rowed ss h.0 (λ r. room-runs d (o ++ os) (a - length os) (rowed t) (rowed u) ss w r) h.1
 room-runs d o a t u (Patched at sub order ∷ ss) w h =
-    let p = within (nat_le (length d) at) (nat_le (at + 4) (length d + length o)) (put_behind d at sub order o) (λ z. wrote (length d) z ss)
+    let p = within (nat_le (length d) at) (nat_le (at + 4) (length d + length o)) (put_after d at sub order o) (λ z. wrote (length d) z ss)
     w in
     room_patch d o a (stored t) (stored u) at sub order ss (leb-true (length d) at p.first)
     (leb-true (at + 4) (length d + length o) p.second)
-    (λ r. room-runs d (put_behind d at sub order o) a (stored t) (stored u) ss p.rest r) h
+    (λ r. room-runs d (put_after d at sub order o) a (stored t) (stored u) ss p.rest r) h
 
 -- ---- what counts become
 
@@ -234,10 +234,10 @@ ran-leads d o w a t u (Copied os ∷ ss) s is e =
     with_first d w (Copied os) ss t (rowed t) u (rowed u) s (copied-paid t os) (copied-paid u os)
     (ran-leads d (o ++ os) w (a - length os) (rowed t) (rowed u) ss s is (past_append d o os a t u rowed ss s e))
 ran-leads d o w a t u (Patched at sub order ∷ ss) s is e =
-    let k = of_wrote (nat_le (length d) at) (nat_le (at + 4) (length d + length o)) (put_behind d at sub order o) w
+    let k = of_wrote (nat_le (length d) at) (nat_le (at + 4) (length d + length o)) (put_after d at sub order o) w
     (λ z. wrote (length d) z ss) is in
     let e' : ran ss (state (put_over at sub order (d ++ o)) a (stored t) (stored u)) ≡ Some s =
     past_if (nat_le (at + 4) (length (d ++ o))) (state (put_over at sub order (d ++ o)) a (stored t) (stored u)) ss s e in
     with_first d w (Patched at sub order) ss t (stored t) u (stored u) s (patched-paid t at sub order) (patched-paid u at sub order)
-    (ran-leads d (put_behind d at sub order o) w a (stored t) (stored u) ss s k.1
+    (ran-leads d (put_after d at sub order o) w a (stored t) (stored u) ss s k.1
     (ap (λ (x : List ℕ). ran ss (state x a (stored t) (stored u))) (sym (put-same d o at sub order (leb-true (length d) at k.0))) ∙ e'))

@@ -3,7 +3,7 @@ use Rattle.std.proofs.Common.{◌≡◌, ℕ, suc, ℤ, List, [], ◌∷◌, ◌
 use Rattle.kit_base.specs.Lines.{HasNoEnd}
 use Rattle.cast_stub.proofs.Trees.{Trees}
 use Rattle.stub_print.specs.Words.{numeral, integer, path_word, line, ended}
-use Rattle.stub_print.proofs.Told.{Line, IsClean, AreClean, rows, rows_line, same_names, clean_numeral, clean_integer, clean_path}
+use Rattle.stub_print.proofs.Read.{Line, IsClean, AreClean, rows, rows_line, same_names, clean_numeral, clean_integer, clean_path}
 use Rattle.stub_print.proofs.Texts.{Texts}
 
 -- what the lines of one block are so far: operations, bodies of a switch, puts or gets, codes that calls name
@@ -47,23 +47,23 @@ abbrev pub with_sub : {B C P : Type 0} → Frame B C P → Frame B C P → Frame
 with_sub (frame a as_ ps ss) (frame b bs qs ts) = frame b bs qs (a ∷ ts)
 
 -- what lines tell, by what each does to frames
-abbrev pub told_by : {F : Type 0} → (Line → List F → List F) → List Line → List F
-told_by step [] = []
-told_by step (l ∷ ls) = step l (told_by step ls)
+abbrev pub read_by : {F : Type 0} → (Line → List F → List F) → List Line → List F
+read_by step [] = []
+read_by step (l ∷ ls) = step l (read_by step ls)
 
 -- what octets tell
-unfoldable pub told : {F : Type 0} → (Line → List F → List F) → List ℕ → List F
-told step octets = told_by step (rows octets)
+unfoldable pub read : {F : Type 0} → (Line → List F → List F) → List ℕ → List F
+read step octets = read_by step (rows octets)
 
-pub told_line : {F : Type 0} (step : Line → List F → List F) (w : List ℕ) (ws : Line) (rest : List ℕ) (fs gs : List F) → IsClean w
-    → AreClean ws → told step rest ≡ fs → step (w ∷ ws) fs ≡ gs
-    → told step (line w ws rest) ≡ gs
-unfolding told
-told_line step w ws rest fs gs h k e f = ap (told_by step) (rows_line w ws rest h k) ∙ ap (step (w ∷ ws)) e ∙ f
+pub read_line : {F : Type 0} (step : Line → List F → List F) (w : List ℕ) (ws : Line) (rest : List ℕ) (fs gs : List F) → IsClean w
+    → AreClean ws → read step rest ≡ fs → step (w ∷ ws) fs ≡ gs
+    → read step (line w ws rest) ≡ gs
+unfolding read
+read_line step w ws rest fs gs h k e f = ap (read_by step) (rows_line w ws rest h k) ∙ ap (step (w ∷ ws)) e ∙ f
 
-nothing_told : {F : Type 0} (step : Line → List F → List F) → told step [] ≡ []
-unfolding told
-nothing_told step = refl
+nothing_read : {F : Type 0} (step : Line → List F → List F) → read step [] ≡ []
+unfolding read
+nothing_read step = refl
 
 -- ---- lines that code of both directions has
 
@@ -100,83 +100,83 @@ module _ (K : Trees) (P : Type 0) (T : Texts K P) (step : Line → List (Frame K
   abbrev pub Frames : Type 0
   Frames = List (Frame Tree Bodies P)
 
-  pub told_end : (rest : List ℕ) (fs : Frames) → told step rest ≡ fs → told step (ended rest) ≡ frame stop no_default [] [] ∷ fs
-  told_end rest fs e = told_line step (codes "end") [] rest fs (frame stop no_default [] [] ∷ fs) refl tt e (tells.at-end fs)
+  pub read_end : (rest : List ℕ) (fs : Frames) → read step rest ≡ fs → read step (ended rest) ≡ frame stop no_default [] [] ∷ fs
+  read_end rest fs e = read_line step (codes "end") [] rest fs (frame stop no_default [] [] ∷ fs) refl tt e (tells.at-end fs)
 
-  pub told_parts : (ps : List P) (rest : List ℕ) (b : Tree) (cs : Bodies) (ss : List Tree) (fs : Frames)
-      → told step rest ≡ frame b cs [] ss ∷ fs
-      → told step (parts ps rest) ≡ frame b cs ps ss ∷ fs
-  told_parts [] rest b cs ss fs e = ap (told step) (T.parts-none rest) ∙ e
-  told_parts (p ∷ ps) rest b cs ss fs e =
-      ap (told step) (T.parts-more p ps rest)
-      ∙ told_line step (codes "at") (words p) (parts ps rest) (frame b cs ps ss ∷ fs) (frame b cs (p ∷ ps) ss ∷ fs) refl (tells.clean p)
-      (told_parts ps rest b cs ss fs e) (tells.at-part p b cs ps ss fs)
+  pub read_parts : (ps : List P) (rest : List ℕ) (b : Tree) (cs : Bodies) (ss : List Tree) (fs : Frames)
+      → read step rest ≡ frame b cs [] ss ∷ fs
+      → read step (parts ps rest) ≡ frame b cs ps ss ∷ fs
+  read_parts [] rest b cs ss fs e = ap (read step) (T.parts-none rest) ∙ e
+  read_parts (p ∷ ps) rest b cs ss fs e =
+      ap (read step) (T.parts-more p ps rest)
+      ∙ read_line step (codes "at") (words p) (parts ps rest) (frame b cs ps ss ∷ fs) (frame b cs (p ∷ ps) ss ∷ fs) refl (tells.clean p)
+      (read_parts ps rest b cs ss fs e) (tells.at-part p b cs ps ss fs)
 
   -- a body, whatever follows it
-  abbrev pub BodyTold : Tree → Type 0
-  BodyTold a = (rest : List ℕ) (fs : Frames) → told step rest ≡ frame stop no_default [] [] ∷ fs
-      → told step (text a rest) ≡ frame a no_default [] [] ∷ fs
+  abbrev pub BodyRead : Tree → Type 0
+  BodyRead a = (rest : List ℕ) (fs : Frames) → read step rest ≡ frame stop no_default [] [] ∷ fs
+      → read step (text a rest) ≡ frame a no_default [] [] ∷ fs
 
-  pub told_each : (p : List ℕ) (a b : Tree) (rest : List ℕ) (cs : Bodies) (ps : List P) (ss : List Tree) (fs : Frames) → BodyTold a
-      → told step (text b rest) ≡ frame b cs ps ss ∷ fs
-      → told step (text (each p a b) rest) ≡ frame (each p a b) cs ps ss ∷ fs
-  told_each p a b rest cs ps ss fs body e =
-      ap (told step) (T.text-each p a b rest)
-      ∙ told_line step (codes "each") (path_word p ∷ []) (text a (ended (text b rest))) (frame a no_default [] [] ∷ frame b cs ps ss ∷ fs)
+  pub read_each : (p : List ℕ) (a b : Tree) (rest : List ℕ) (cs : Bodies) (ps : List P) (ss : List Tree) (fs : Frames) → BodyRead a
+      → read step (text b rest) ≡ frame b cs ps ss ∷ fs
+      → read step (text (each p a b) rest) ≡ frame (each p a b) cs ps ss ∷ fs
+  read_each p a b rest cs ps ss fs body e =
+      ap (read step) (T.text-each p a b rest)
+      ∙ read_line step (codes "each") (path_word p ∷ []) (text a (ended (text b rest))) (frame a no_default [] [] ∷ frame b cs ps ss ∷ fs)
       (frame (each p a b) cs ps ss ∷ fs) refl (clean_path p, tt)
-      (body (ended (text b rest)) (frame b cs ps ss ∷ fs) (told_end (text b rest) (frame b cs ps ss ∷ fs) e))
+      (body (ended (text b rest)) (frame b cs ps ss ∷ fs) (read_end (text b rest) (frame b cs ps ss ∷ fs) e))
       (tells.at-each p a b cs ps ss fs)
 
-  pub told_there : (p : List ℕ) (a b : Tree) (rest : List ℕ) (cs : Bodies) (ps : List P) (ss : List Tree) (fs : Frames) → BodyTold a
-      → told step (text b rest) ≡ frame b cs ps ss ∷ fs
-      → told step (text (if_there p a b) rest) ≡ frame (if_there p a b) cs ps ss ∷ fs
-  told_there p a b rest cs ps ss fs body e =
-      ap (told step) (T.text-there p a b rest)
-      ∙ told_line step (codes "some") (path_word p ∷ []) (text a (ended (text b rest))) (frame a no_default [] [] ∷ frame b cs ps ss ∷ fs)
+  pub read_there : (p : List ℕ) (a b : Tree) (rest : List ℕ) (cs : Bodies) (ps : List P) (ss : List Tree) (fs : Frames) → BodyRead a
+      → read step (text b rest) ≡ frame b cs ps ss ∷ fs
+      → read step (text (if_there p a b) rest) ≡ frame (if_there p a b) cs ps ss ∷ fs
+  read_there p a b rest cs ps ss fs body e =
+      ap (read step) (T.text-there p a b rest)
+      ∙ read_line step (codes "some") (path_word p ∷ []) (text a (ended (text b rest))) (frame a no_default [] [] ∷ frame b cs ps ss ∷ fs)
       (frame (if_there p a b) cs ps ss ∷ fs) refl (clean_path p, tt)
-      (body (ended (text b rest)) (frame b cs ps ss ∷ fs) (told_end (text b rest) (frame b cs ps ss ∷ fs) e))
+      (body (ended (text b rest)) (frame b cs ps ss ∷ fs) (read_end (text b rest) (frame b cs ps ss ∷ fs) e))
       (tells.at-there p a b cs ps ss fs)
 
-  pub told_switch : (p : List ℕ) (bs : Bodies) (b : Tree) (rest : List ℕ) (cs : Bodies) (ps : List P) (ss : List Tree) (fs : Frames)
-      → ((r : List ℕ) (gs : Frames) → told step r ≡ frame stop no_default [] [] ∷ gs
-      → told step (cases bs r) ≡ frame stop bs [] [] ∷ gs) → told step (text b rest) ≡ frame b cs ps ss ∷ fs
-      → told step (text (switch p bs b) rest) ≡ frame (switch p bs b) cs ps ss ∷ fs
-  told_switch p bs b rest cs ps ss fs bodies e =
-      ap (told step) (T.text-switch p bs b rest)
-      ∙ told_line step (codes "switch") (path_word p ∷ []) (cases bs (ended (text b rest))) (frame stop bs [] [] ∷ frame b cs ps ss ∷ fs)
+  pub read_switch : (p : List ℕ) (bs : Bodies) (b : Tree) (rest : List ℕ) (cs : Bodies) (ps : List P) (ss : List Tree) (fs : Frames)
+      → ((r : List ℕ) (gs : Frames) → read step r ≡ frame stop no_default [] [] ∷ gs
+      → read step (cases bs r) ≡ frame stop bs [] [] ∷ gs) → read step (text b rest) ≡ frame b cs ps ss ∷ fs
+      → read step (text (switch p bs b) rest) ≡ frame (switch p bs b) cs ps ss ∷ fs
+  read_switch p bs b rest cs ps ss fs bodies e =
+      ap (read step) (T.text-switch p bs b rest)
+      ∙ read_line step (codes "switch") (path_word p ∷ []) (cases bs (ended (text b rest))) (frame stop bs [] [] ∷ frame b cs ps ss ∷ fs)
       (frame (switch p bs b) cs ps ss ∷ fs) refl (clean_path p, tt)
-      (bodies (ended (text b rest)) (frame b cs ps ss ∷ fs) (told_end (text b rest) (frame b cs ps ss ∷ fs) e))
+      (bodies (ended (text b rest)) (frame b cs ps ss ∷ fs) (read_end (text b rest) (frame b cs ps ss ∷ fs) e))
       (tells.at-switch p bs b cs ps ss fs)
 
-  pub told_default : (b : Tree) (rest : List ℕ) (ps : List P) (ss : List Tree) (fs : Frames)
-      → told step (text b rest) ≡ frame b no_default ps ss ∷ fs
-      → told step (cases (default b) rest) ≡ frame stop (default b) ps ss ∷ fs
-  told_default b rest ps ss fs e =
-      ap (told step) (T.cases-last b rest)
-      ∙ told_line step (codes "default") [] (text b rest) (frame b no_default ps ss ∷ fs) (frame stop (default b) ps ss ∷ fs) refl tt e
+  pub read_default : (b : Tree) (rest : List ℕ) (ps : List P) (ss : List Tree) (fs : Frames)
+      → read step (text b rest) ≡ frame b no_default ps ss ∷ fs
+      → read step (cases (default b) rest) ≡ frame stop (default b) ps ss ∷ fs
+  read_default b rest ps ss fs e =
+      ap (read step) (T.cases-last b rest)
+      ∙ read_line step (codes "default") [] (text b rest) (frame b no_default ps ss ∷ fs) (frame stop (default b) ps ss ∷ fs) refl tt e
       (tells.at-default b ps ss fs)
 
-  pub told_case : (n : ℤ) (b : Tree) (cs : Bodies) (rest : List ℕ) (ps : List P) (ss : List Tree) (fs : Frames)
-      → told step (text b (cases cs rest)) ≡ frame b cs ps ss ∷ fs
-      → told step (cases (case n b cs) rest) ≡ frame stop (case n b cs) ps ss ∷ fs
-  told_case n b cs rest ps ss fs e =
-      ap (told step) (T.cases-more n b cs rest)
-      ∙ told_line step (codes "case") (integer n ∷ []) (text b (cases cs rest)) (frame b cs ps ss ∷ fs)
+  pub read_case : (n : ℤ) (b : Tree) (cs : Bodies) (rest : List ℕ) (ps : List P) (ss : List Tree) (fs : Frames)
+      → read step (text b (cases cs rest)) ≡ frame b cs ps ss ∷ fs
+      → read step (cases (case n b cs) rest) ≡ frame stop (case n b cs) ps ss ∷ fs
+  read_case n b cs rest ps ss fs e =
+      ap (read step) (T.cases-more n b cs rest)
+      ∙ read_line step (codes "case") (integer n ∷ []) (text b (cases cs rest)) (frame b cs ps ss ∷ fs)
       (frame stop (case n b cs) ps ss ∷ fs) refl (clean_integer n, tt) e (tells.at-case n b cs ps ss fs)
 
   -- ---- a whole text
 
   module _ (block : (b : Tree) (rest : List ℕ) (cs : Bodies) (ps : List P) (ss : List Tree) (fs : Frames)
-      → told step rest ≡ frame stop cs ps ss ∷ fs
-      → told step (text b rest) ≡ frame b cs ps ss ∷ fs) where
-    told_subs : (bs : List Tree) (k : ℕ) (rest : List ℕ) (b : Tree) (cs : Bodies) (ps : List P) (fs : Frames)
-        → told step rest ≡ frame b cs ps [] ∷ fs
-        → told step (subs k bs rest) ≡ frame b cs ps bs ∷ fs
-    told_subs [] k rest b cs ps fs e = ap (told step) (T.subs-none k rest) ∙ e
-    told_subs (a ∷ bs) k rest b cs ps fs e =
-        let others = told_end (subs (suc k) bs rest) (frame b cs ps bs ∷ fs) (told_subs bs (suc k) rest b cs ps fs e) in
-        ap (told step) (T.subs-more k a bs rest)
-        ∙ told_line step (codes "sub") (numeral k ∷ []) (text a (ended (subs (suc k) bs rest)))
+      → read step rest ≡ frame stop cs ps ss ∷ fs
+      → read step (text b rest) ≡ frame b cs ps ss ∷ fs) where
+    read_subs : (bs : List Tree) (k : ℕ) (rest : List ℕ) (b : Tree) (cs : Bodies) (ps : List P) (fs : Frames)
+        → read step rest ≡ frame b cs ps [] ∷ fs
+        → read step (subs k bs rest) ≡ frame b cs ps bs ∷ fs
+    read_subs [] k rest b cs ps fs e = ap (read step) (T.subs-none k rest) ∙ e
+    read_subs (a ∷ bs) k rest b cs ps fs e =
+        let others = read_end (subs (suc k) bs rest) (frame b cs ps bs ∷ fs) (read_subs bs (suc k) rest b cs ps fs e) in
+        ap (read step) (T.subs-more k a bs rest)
+        ∙ read_line step (codes "sub") (numeral k ∷ []) (text a (ended (subs (suc k) bs rest)))
         (frame a no_default [] [] ∷ frame b cs ps bs ∷ fs) (frame b cs ps (a ∷ bs) ∷ fs) refl (clean_numeral k, tt)
         (block a (ended (subs (suc k) bs rest)) no_default [] [] (frame b cs ps bs ∷ fs) others) (tells.at-sub k a b cs ps bs fs)
 
@@ -184,10 +184,10 @@ module _ (K : Trees) (P : Type 0) (T : Texts K P) (step : Line → List (Frame K
     abbrev pub body : Tree → List Tree → List ℕ
     body a ss = text a (subs 0 ss (ended []))
 
-    told_body : (a : Tree) (ss : List Tree) → told step (body a ss) ≡ frame a no_default [] ss ∷ []
-    told_body a ss =
+    read_body : (a : Tree) (ss : List Tree) → read step (body a ss) ≡ frame a no_default [] ss ∷ []
+    read_body a ss =
         block a (subs 0 ss (ended [])) no_default [] ss []
-        (told_subs ss 0 (ended []) stop no_default [] [] (told_end [] [] (nothing_told step)))
+        (read_subs ss 0 (ended []) stop no_default [] [] (read_end [] [] (nothing_read step)))
 
     abbrev top_block : Frames → Tree
     top_block [] = stop
@@ -202,5 +202,5 @@ module _ (K : Trees) (P : Type 0) (T : Texts K P) (step : Line → List (Frame K
         → (n ≡ m) × (a ≡ b) × (ss ≡ others)
     texts_tell n m a b ss others h k e =
         let lines = same_names n m (body a ss) (body b others) h k e in
-        let frames = sym (told_body a ss) ∙ ap (told step) lines.1 ∙ told_body b others in
+        let frames = sym (read_body a ss) ∙ ap (read step) lines.1 ∙ read_body b others in
         (lines.0, ap top_block frames, ap top_subs frames)

@@ -5,7 +5,7 @@ pub mod Numerals
 -- * Texts put one after the other
 pub mod Putting
 -- * What octets tell: lines of words, and in words numbers, paths, orders and octets
-pub mod Told
+pub mod Read
 -- * The text of code of either direction: what it is made of, and how an operation with bodies is put
 pub mod Texts
 -- * The texts of code that sends and of code that receives, as what they have in common
@@ -13,6 +13,6 @@ pub mod BothTexts
 -- What lines tell of code of either direction, from the last to the first, by induction on puts or gets and on codes
 pub mod Frames
 -- * The text of code that receives tells its name and the code, by mutual induction on code and cases
-pub mod RecvTold
+pub mod RecvRead
 -- * The text of code that sends tells its name and the code, by mutual induction on code and cases
-pub mod SendTold
+pub mod SendRead

@@ -32,10 +32,10 @@ swapped-one w a is len =
     ∙ ap (λ z. reverse a ++ z) (swapped-none w is) ∙ append-nil (reverse a)
 
 -- n runs, and others after them
-behind : (w n : ℕ) (a o : List ℕ) → IsSwapWidth w → length a ≡ n * w → swapped w (a ++ o) ≡ swapped w a ++ swapped w o
-behind w zero [] o is len = ap (λ z. z ++ swapped w o) (sym (swapped-none w is))
-behind w zero (x ∷ a) o is len = absurd (omega arith)
-behind w (suc n) a o is len =
+after : (w n : ℕ) (a o : List ℕ) → IsSwapWidth w → length a ≡ n * w → swapped w (a ++ o) ≡ swapped w a ++ swapped w o
+after w zero [] o is len = ap (λ z. z ++ swapped w o) (sym (swapped-none w is))
+after w zero (x ∷ a) o is len = absurd (omega arith)
+after w (suc n) a o is len =
     let long : w + n * w ≡ suc n * w = omega arith in
     let f = take w a in
     let r = drop w a in
@@ -44,7 +44,7 @@ behind w (suc n) a o is len =
     let some = swaps_some w is in
     let whole : f ++ r ≡ a = take-append-drop w a in
     ap (λ z. swapped w (z ++ o)) (sym whole) ∙ ap (swapped w) (append_assoc f r o) ∙ swapped-first w f (r ++ o) some front ∙ ap (λ z.
-    reverse f ++ z) (behind w n r o is rest)
+    reverse f ++ z) (after w n r o is rest)
     ∙ sym (append_assoc (reverse f) (swapped w r) (swapped w o))
     ∙ ap (λ z. z ++ swapped w o) (sym (swapped-first w f r some front) ∙ ap (swapped w) whole)
 
@@ -52,7 +52,7 @@ pub whole_runs : (w l : ℕ) → l % w ≡ 0 → l ≡ l / w * w
 whole_runs w l h = sym (omega (arith, div-add-mod' l w))
 
 pub swapped-append : (w : ℕ) (a o : List ℕ) → IsSwapWidth w → length a % w ≡ 0 → swapped w (a ++ o) ≡ swapped w a ++ swapped w o
-swapped-append w a o is whole = behind w (length a / w) a o is (whole_runs w (length a) whole)
+swapped-append w a o is whole = after w (length a / w) a o is (whole_runs w (length a) whole)
 
 many : (w n : ℕ) (o : List ℕ) → IsSwapWidth w → length o ≡ n * w → length (swapped w o) ≡ length o
 many w zero [] is len = ap length (swapped-none w is)

@@ -46,7 +46,7 @@ pub fn answer(alloc: Global, line: &str) -> Result<String, Bad> {
     };
     let text = text_of(alloc, &row)?;
     match lex(alloc, front_of(&row), text.as_bytes()) {
-        Ok(tokens) => told(alloc, &row, &tokens),
+        Ok(tokens) => reported(alloc, &row, &tokens),
         Err(LexErr::BadOctet(at)) => Ok(format!(in alloc; "BadOctet {at}")?),
         Err(LexErr::OpenComment(at)) => Ok(format!(in alloc; "OpenComment {at}")?),
         Err(LexErr::Wide(at)) => Ok(format!(in alloc; "Wide {at}")?),
@@ -102,25 +102,25 @@ fn levels_of(row: &Json) -> Result<u32, Bad>
 }
 
 /// The answer to what a case asks about the tokens.
-fn told(alloc: Global, row: &Json, tokens: &Tokens) -> Result<String, Bad> {
+fn reported(alloc: Global, row: &Json, tokens: &Tokens) -> Result<String, Bad> {
     let levels = levels_of(row)?;
     let Some(ask) = row.get("ask") else {
         return Err(Bad::Row("nothing is asked"));
     };
     match ask.as_str() {
-        Some("lex") => tokens_told(alloc, tokens.as_slice()),
-        Some("file") => file_told(alloc, tokens),
-        Some("corba unit") => unit_told(alloc, tokens),
-        Some("mig file") => mig_file_told(alloc, tokens),
-        Some("type") => type_told(alloc, levels, tokens.as_slice()),
-        Some("expression") => expression_told(alloc, levels, tokens.as_slice()),
-        Some("declaration") => declaration_told(alloc, levels, tokens.as_slice()),
+        Some("lex") => tokens_reported(alloc, tokens.as_slice()),
+        Some("file") => file_reported(alloc, tokens),
+        Some("corba unit") => unit_reported(alloc, tokens),
+        Some("mig file") => mig_file_reported(alloc, tokens),
+        Some("type") => type_reported(alloc, levels, tokens.as_slice()),
+        Some("expression") => expression_reported(alloc, levels, tokens.as_slice()),
+        Some("declaration") => declaration_reported(alloc, levels, tokens.as_slice()),
         _ => Err(Bad::Row("nothing is asked")),
     }
 }
 
 /// The tokens.
-fn tokens_told(alloc: Global, tokens: &[Token]) -> Result<String, Bad> {
+fn tokens_reported(alloc: Global, tokens: &[Token]) -> Result<String, Bad> {
     let mut out = String::new(alloc);
     for token in tokens {
         put_token(alloc, &mut out, token)?;
@@ -129,7 +129,7 @@ fn tokens_told(alloc: Global, tokens: &[Token]) -> Result<String, Bad> {
 }
 
 /// `ok`, or the line where the first definition that fails begins.
-fn file_told(alloc: Global, tokens: &Tokens) -> Result<String, Bad> {
+fn file_reported(alloc: Global, tokens: &Tokens) -> Result<String, Bad> {
     match parse(alloc, tokens) {
         Ok(_) => Ok(format!(in alloc; "ok")?),
         Err(SyntaxErr::Syntax(line)) => Ok(format!(in alloc; "syntax {line}")?),
@@ -138,11 +138,11 @@ fn file_told(alloc: Global, tokens: &Tokens) -> Result<String, Bad> {
 }
 
 /// `ok`, or the first fault of the names and the number of its declaration, or the line where the text fails.
-fn unit_told(alloc: Global, tokens: &Tokens) -> Result<String, Bad> {
+fn unit_reported(alloc: Global, tokens: &Tokens) -> Result<String, Bad> {
     files_are_whole();
     match parse(alloc, tokens) {
         Ok(tree) => match resolve(alloc, &tree) {
-            Ok(unit) => units_told(alloc, &unit),
+            Ok(unit) => units_reported(alloc, &unit),
             Err(fault) if fault.fault == NameFault::NoMemory => Err(Bad::NoMemory),
             Err(fault) => Ok(format!(in alloc; "name {} {}", fault.fault, fault.decl)?),
         },
@@ -152,7 +152,7 @@ fn unit_told(alloc: Global, tokens: &Tokens) -> Result<String, Bad> {
 }
 
 /// The number of types, and each interface with its operations.
-fn units_told(alloc: Global, unit: &Unit) -> Result<String, Bad> {
+fn units_reported(alloc: Global, unit: &Unit) -> Result<String, Bad> {
     let mut out = format!(in alloc; "ok {}", unit.types().len())?;
     for i in unit.interfaces().as_slice() {
         let text = format!(in alloc;
@@ -223,7 +223,7 @@ fn shown(alloc: Global, name: &[u8]) -> Result<String, Bad> {
 }
 
 /// `ok`, or the line where the first statement that fails begins.
-fn mig_file_told(alloc: Global, tokens: &Tokens) -> Result<String, Bad> {
+fn mig_file_reported(alloc: Global, tokens: &Tokens) -> Result<String, Bad> {
     match mig_syntax::parse(alloc, tokens) {
         Ok(_) => Ok(format!(in alloc; "ok")?),
         Err(SyntaxErr::Syntax(line)) => Ok(format!(in alloc; "syntax {line}")?),
@@ -232,7 +232,7 @@ fn mig_file_told(alloc: Global, tokens: &Tokens) -> Result<String, Bad> {
 }
 
 /// The type that comes first, and how many tokens come after it.
-fn type_told(alloc: Global, levels: u32, tokens: &[Token]) -> Result<String, Bad>
+fn type_reported(alloc: Global, levels: u32, tokens: &[Token]) -> Result<String, Bad>
     requires { levels ≤ 32 }
 {
     let mut out = String::new(alloc);
@@ -247,7 +247,7 @@ fn type_told(alloc: Global, levels: u32, tokens: &[Token]) -> Result<String, Bad
 }
 
 /// The expression that comes first, and how many tokens come after it.
-fn expression_told(alloc: Global, levels: u32, tokens: &[Token]) -> Result<String, Bad>
+fn expression_reported(alloc: Global, levels: u32, tokens: &[Token]) -> Result<String, Bad>
     requires { levels ≤ 32 }
 {
     let mut out = String::new(alloc);
@@ -262,18 +262,18 @@ fn expression_told(alloc: Global, levels: u32, tokens: &[Token]) -> Result<Strin
 }
 
 /// The declaration that comes first, and how many tokens come after it.
-fn declaration_told(alloc: Global, levels: u32, tokens: &[Token]) -> Result<String, Bad>
+fn declaration_reported(alloc: Global, levels: u32, tokens: &[Token]) -> Result<String, Bad>
     requires { levels ≤ 32 }
 {
     match declaration(alloc, levels, tokens) {
-        Ok((item, rest)) => declared_told(alloc, &item, rest),
+        Ok((item, rest)) => declared_reported(alloc, &item, rest),
         Err(Halt::Syntax) => Ok(format!(in alloc; "syntax")?),
         Err(Halt::NoMemory) => Err(Bad::NoMemory),
     }
 }
 
 /// A declaration, and how many tokens come after it.
-fn declared_told(alloc: Global, item: &Declaration, rest: &[Token]) -> Result<String, Bad> {
+fn declared_reported(alloc: Global, item: &Declaration, rest: &[Token]) -> Result<String, Bad> {
     let mut out = String::new(alloc);
     put_declaration(alloc, &mut out, item)?;
     put_rest(alloc, &mut out, rest)?;

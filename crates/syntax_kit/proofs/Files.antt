@@ -10,10 +10,10 @@ use Rattle.syntax_kit.proofs.Grammars.{kinds-append, one_tree, many_is}
 use Rattle.syntax_kit.proofs.Leaves.{begins_else}
 use Rattle.syntax_kit.proofs.Lists.{longest, shorter_by}
 
-each_behind : {D : Type 0} (S : D → Text) (xs : List D) (x : D) (a b : List TokenKind) → each S xs a → S x b
+each_after : {D : Type 0} (S : D → Text) (xs : List D) (x : D) (a b : List TokenKind) → each S xs a → S x b
     → each S (xs ++ x ∷ []) (a ++ b)
-each_behind S [] x a b s t = (b, [], ap (λ z. z ++ b) s ∙ sym (append-nil b), t, refl)
-each_behind S (y ∷ ys) x a b s t = (s.0, s.1 ++ b, ap (λ z. z ++ b) s.2 ∙ append_assoc s.0 s.1 b, s.3, each_behind S ys x s.1 b s.4 t)
+each_after S [] x a b s t = (b, [], ap (λ z. z ++ b) s ∙ sym (append-nil b), t, refl)
+each_after S (y ∷ ys) x a b s t = (s.0, s.1 ++ b, ap (λ z. z ++ b) s.2 ∙ append_assoc s.0 s.1 b, s.3, each_after S ys x s.1 b s.4 t)
 
 either_read : {A : Type 0} (r : Read A) → (r ≡ None) ⊎ ((x : A × List Token) × (r ≡ Some x))
 either_read None = inl refl
@@ -37,7 +37,7 @@ module _ {D : Type 0} {r : Reader D} {S : D → Text} {f : TokenKind → Bool} (
         front = s.front ++ a.0;
         parts = s.parts ∙ ap (λ z. s.front ++ z) a.1 ∙ sym (append_assoc s.front a.0 after);
         derives = subst (each S (defs ++ d ∷ [])) (sym (kinds-append s.front a.0))
-            (each_behind S defs d (kinds s.front) (kinds a.0) s.derives a.2);
+            (each_after S defs d (kinds s.front) (kinds a.0) s.derives a.2);
       }
 
   pub shorter : (rest after : List Token) (d : D) → r rest ≡ Some (d, after) → length after < length rest

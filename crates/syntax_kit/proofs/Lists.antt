@@ -6,7 +6,7 @@ use Rattle.syntax_kit.specs.Reading.{Reader, word_is, mark_is, begins_with, begi
 use Rattle.syntax_kit.specs.Grammar.{Text, mark, ◌&◌, each, joined, some, kinds, IsGrammar, Leads, Any}
 use Rattle.syntax_kit.proofs.Grammars.{read_is, then_some, parted, mapped_is, both_is, many_is, IsRow}
 use Rattle.syntax_kit.proofs.Leaves.{mark_reads, Apart, leads_mark, leads_both, begins_so, begins_else}
-use Rattle.syntax_kit.proofs.Productions.{weaker, behind_is, leads_behind}
+use Rattle.syntax_kit.proofs.Productions.{weaker, after_is, leads_after}
 
 -- a first token of f is none of g
 pub turns : (f g : TokenKind → Bool) → Apart f g → (ts : List Token) → begins_with f ts ≡ true → begins_with g ts ≡ false
@@ -29,17 +29,17 @@ pub joined_is : {A : Type 0} {r : Reader A} {S : A → Text} {May : List Token �
     → ((ts : List Token) → begins_with (mark_is m) ts ≡ true → May ts)
     → IsGrammar (joined_at m r) (joined m S) (λ rest. (begins_with (mark_is m) rest ≡ false) × May rest)
 joined_is {A} {r} {S} {May} m g goes_on = mapped_is cons (joined m S)
-    (both_is g (many_is (begins_with (mark_is m)) (behind_is (mark_reads m) g) row) stands)
+    (both_is g (many_is (begins_with (mark_is m)) (after_is (mark_reads m) g) row) stands)
     (λ x ks s. s) back
   where
     row : IsRow (begins_with (mark_is m)) (λ y. mark m & S y) May
-    row = record { ends = refl; begins = λ a front rest s. begins_so (leads_behind S (leads_mark m)) a front rest s; goes_on = goes_on }
+    row = record { ends = refl; begins = λ a front rest s. begins_so (leads_after S (leads_mark m)) a front rest s; goes_on = goes_on }
 
     stands : (ys : List A) (front rest : List Token)
         → each (λ y. mark m & S y) ys (kinds front) → (begins_with (mark_is m) rest ≡ false) × May rest → May (front ++ rest)
     stands [] front rest s may = subst (λ z. May (z ++ rest)) (sym (no_kinds front s)) may.1
     stands (y ∷ ys) front rest s may =
-        goes_on (front ++ rest) (begins_so (leads_both (each (λ z. mark m & S z)) (leads_behind S (leads_mark m))) (y, ys) front rest s)
+        goes_on (front ++ rest) (begins_so (leads_both (each (λ z. mark m & S z)) (leads_after S (leads_mark m))) (y, ys) front rest s)
 
     back : (xs : List A) (ks : List TokenKind) → joined m S xs ks → (x : A × List A) × (cons x ≡ xs)
         × (S x.0 & each (λ y. mark m & S y) x.1) ks

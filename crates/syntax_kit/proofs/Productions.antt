@@ -6,7 +6,7 @@ use Rattle.std.proofs.lemmas.List.{append-nil}
 use Rattle.idl_lex.specs.declared.kinds.Token.{Token}
 use Rattle.idl_lex.specs.declared.kinds.TokenKind.{TokenKind}
 use Rattle.idl_lex.specs.declared.kinds.TokenKind.TheVariants.{Name, Mark}
-use Rattle.syntax_kit.specs.Reading.{Reader, behind, before, either, token_at, word_is, mark_is, word_at, mark_at, begins_with, is_id, word_in, has_word, flag_at, begins_other}
+use Rattle.syntax_kit.specs.Reading.{Reader, after, before, either, token_at, word_is, mark_is, word_at, mark_at, begins_with, is_id, word_in, has_word, flag_at, begins_other}
 use Rattle.syntax_kit.specs.Grammar.{Text, empty, word, mark, ◌&◌, one_of, maybe, when, kinds, IsGrammar, Leads, Any}
 use Rattle.syntax_kit.proofs.Grammars.{read_is, mapped_is, both_is, either_is}
 use Rattle.syntax_kit.proofs.Leaves.{token_is, word_named, mark_named, equal_bytes, word_reads, mark_reads, Apart, apart_word, apart_mark, leads_word, leads_mark, leads_both, begins_so, begins_not}
@@ -16,9 +16,9 @@ pub weaker : {A : Type 0} {r : Reader A} {S : A → Text} {May May' : List Token
     → IsGrammar r S May'
 weaker g h = record { found = g.found; again = λ a front rest s may. g.again a front rest s (h rest may) }
 
-pub behind_is : {A : Type 0} {r : Reader (Unit {0})} {s : Reader A} {P : Text} {S : A → Text} {May : List Token → Type 0}
-    → IsGrammar r (λ _. P) Any → IsGrammar s S May → IsGrammar (behind r s) (λ a. P & S a) May
-behind_is {A} {P = P} {S = S} g h =
+pub after_is : {A : Type 0} {r : Reader (Unit {0})} {s : Reader A} {P : Text} {S : A → Text} {May : List Token → Type 0}
+    → IsGrammar r (λ _. P) Any → IsGrammar s S May → IsGrammar (after r s) (λ a. P & S a) May
+after_is {A} {P = P} {S = S} g h =
     mapped_is (λ (x : Unit {0} × A). x.1) (λ a. P & S a) (both_is g h (λ b front rest t may. tt)) (λ x ks s. s) (λ y ks s.
     ((tt, y), refl, s))
 
@@ -33,21 +33,21 @@ before_is {A} {S = S} {P = P} g h next =
 pub led_is : {A B : Type 0} {r : Reader A} {s : Reader B} {S : A → Text} {T : B → Text} {May : List Token → Type 0}
     {g : TokenKind → Bool} (w : List ℕ)
     → IsGrammar r S May → IsGrammar s T May → Leads T g → g (Name w) ≡ false
-    → IsGrammar (either (begins_with (word_is w)) (behind (word_at w) r) s) (one_of (λ a. word w & S a) T) May
-led_is {A} {S = S} {g = g} w p q l apart = either_is (begins_with (word_is w)) (behind_is (word_reads w) p) q
+    → IsGrammar (either (begins_with (word_is w)) (after (word_at w) r) s) (one_of (λ a. word w & S a) T) May
+led_is {A} {S = S} {g = g} w p q l apart = either_is (begins_with (word_is w)) (after_is (word_reads w) p) q
     (λ a front rest s may. begins_so (leads_both S (leads_word w)) (tt, a) front rest s)
     (λ b front rest s may. begins_not (word_is w) l (apart_word g w apart) b front rest s)
 
 pub marked_is : {A B : Type 0} {r : Reader A} {s : Reader B} {S : A → Text} {T : B → Text} {May : List Token → Type 0}
     {g : TokenKind → Bool} (m : List ℕ)
     → IsGrammar r S May → IsGrammar s T May → Leads T g → g (Mark m) ≡ false
-    → IsGrammar (either (begins_with (mark_is m)) (behind (mark_at m) r) s) (one_of (λ a. mark m & S a) T) May
-marked_is {A} {S = S} {g = g} m p q l apart = either_is (begins_with (mark_is m)) (behind_is (mark_reads m) p) q
+    → IsGrammar (either (begins_with (mark_is m)) (after (mark_at m) r) s) (one_of (λ a. mark m & S a) T) May
+marked_is {A} {S = S} {g = g} m p q l apart = either_is (begins_with (mark_is m)) (after_is (mark_reads m) p) q
     (λ a front rest s may. begins_so (leads_both S (leads_mark m)) (tt, a) front rest s)
     (λ b front rest s may. begins_not (mark_is m) l (apart_mark g m apart) b front rest s)
 
-pub leads_behind : {A : Type 0} {P : Text} {f : TokenKind → Bool} (S : A → Text) → Leads {A = Unit {0}} (λ _. P) f → Leads (λ a. P & S a) f
-leads_behind S l a ks s = let x = l tt s.0 s.3 in (x.0, x.1 ++ s.1, s.2 ∙ ap (λ z. z ++ s.1) x.2, x.3)
+pub leads_after : {A : Type 0} {P : Text} {f : TokenKind → Bool} (S : A → Text) → Leads {A = Unit {0}} (λ _. P) f → Leads (λ a. P & S a) f
+leads_after S l a ks s = let x = l tt s.0 s.3 in (x.0, x.1 ++ s.1, s.2 ∙ ap (λ z. z ++ s.1) x.2, x.3)
 
 -- ---- what may be missing
 

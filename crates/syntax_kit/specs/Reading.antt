@@ -149,8 +149,8 @@ abbrev pub many : {A : Type 0} → (List Token → Bool) → Reader A → Reader
 many go r ts = repeat go r (length ts) ts
 
 -- what follows a token that gives nothing
-abbrev pub behind : {A : Type 0} → Reader (Unit {0}) → Reader A → Reader A
-behind r s = mapped (λ x. x.1) (both r s)
+abbrev pub after : {A : Type 0} → Reader (Unit {0}) → Reader A → Reader A
+after r s = mapped (λ x. x.1) (both r s)
 
 -- what comes before a token that gives nothing
 abbrev pub before : {A : Type 0} → Reader A → Reader (Unit {0}) → Reader A
@@ -162,7 +162,7 @@ cons x = x.0 ∷ x.1
 
 -- one or more, with marks between them
 abbrev pub joined_at : {A : Type 0} → List ℕ → Reader A → Reader (List A)
-joined_at m r = mapped cons (both r (many (begins_with (mark_is m)) (behind (mark_at m) r)))
+joined_at m r = mapped cons (both r (many (begins_with (mark_is m)) (after (mark_at m) r)))
 
 -- as many as come before the mark
 abbrev pub until_at : {A : Type 0} → List ℕ → Reader A → Reader (List A)

@@ -1,7 +1,7 @@
 //! Lists of items.
 
 ghost use Rattle.std.specs.Prelude.{◌≡◌};
-ghost use Rattle.syntax_kit.specs.Reading.{Gives, behind, mark_at, joined_at, until_at, while_at, some_at};
+ghost use Rattle.syntax_kit.specs.Reading.{Gives, after, mark_at, joined_at, until_at, while_at, some_at};
 
 use crate::{Halt, begins, begins_mark, mark, stands_before};
 use idl_lex::Token;
@@ -21,12 +21,12 @@ pub trait Production: Sized + Drop {
 }
 
 /// The tree after a mark.
-pub fn behind_mark<'a, T: Production>(
+pub fn after_mark<'a, T: Production>(
     alloc: Global,
     tokens: &'a [Token],
     lead: &[u8],
 ) -> Result<(T, &'a [Token]), Halt>
-    ensures { Gives (λ x. (x.0, x.1.now)) result (behind (mark_at lead.now) T.at tokens.now) }
+    ensures { Gives (λ x. (x.0, x.1.now)) result (after (mark_at lead.now) T.at tokens.now) }
 {
     let rest = mark(tokens, lead)?;
     T::read(alloc, rest)
@@ -47,9 +47,9 @@ pub fn joined<'a, T: Production>(
         if !begins_mark(rest, between) {
             return Ok((items, rest));
         }
-        let (item, after) = behind_mark::<T>(alloc, rest, between)?;
+        let (item, tail) = after_mark::<T>(alloc, rest, between)?;
         items.push(item)?;
-        rest = after;
+        rest = tail;
     }
     Ok((items, rest))
 }
@@ -68,9 +68,9 @@ pub fn until<'a, T: Production>(
         if !stands_before(rest, close) {
             return Ok((items, rest));
         }
-        let (item, after) = T::read(alloc, rest)?;
+        let (item, tail) = T::read(alloc, rest)?;
         items.push(item)?;
-        rest = after;
+        rest = tail;
     }
     Ok((items, rest))
 }
@@ -89,9 +89,9 @@ pub fn while_word<'a, T: Production>(
         if !begins(rest, word) {
             return Ok((items, rest));
         }
-        let (item, after) = T::read(alloc, rest)?;
+        let (item, tail) = T::read(alloc, rest)?;
         items.push(item)?;
-        rest = after;
+        rest = tail;
     }
     Ok((items, rest))
 }

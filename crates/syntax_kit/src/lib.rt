@@ -12,5 +12,5 @@ pub use first::{
     begins, begins_id, begins_mark, flag, id, is_mark, is_word, mark, number, stands_before, word,
 };
 pub use halt::Halt;
-pub use items::{Production, behind_mark, joined, some_until, some_while, until, while_word};
+pub use items::{Production, after_mark, joined, some_until, some_while, until, while_word};
 pub use nested::{Nested, each_nested, joined_nested, some_nested};

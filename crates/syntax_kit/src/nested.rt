@@ -1,7 +1,7 @@
 //! Lists of items that nest within so many levels.
 
 ghost use Rattle.std.specs.Prelude.{◌≡◌, ◌≤◌};
-ghost use Rattle.syntax_kit.specs.Reading.{Gives, behind, mark_at, joined_at, many, some_at};
+ghost use Rattle.syntax_kit.specs.Reading.{Gives, after, mark_at, joined_at, many, some_at};
 
 use crate::{Halt, begins_mark, mark};
 use idl_lex::Token;
@@ -43,9 +43,9 @@ pub fn each_nested<T: Nested>(
         if !T::is_next(rest) {
             return Ok((items, rest));
         }
-        let (item, after) = T::read(alloc, levels, rest)?;
+        let (item, tail) = T::read(alloc, levels, rest)?;
         items.push(item)?;
-        rest = after;
+        rest = tail;
     }
     Ok((items, rest))
 }
@@ -67,14 +67,14 @@ pub fn some_nested<T: Nested>(
 }
 
 /// The tree after a mark.
-fn nested_behind<'a, T: Nested>(
+fn nested_after<'a, T: Nested>(
     alloc: Global,
     levels: u32,
     tokens: &'a [Token],
     lead: &[u8],
 ) -> Result<(T, &'a [Token]), Halt>
     requires { levels ≤ 32 }
-    ensures { Gives (λ x. (x.0, x.1.now)) result (behind (mark_at lead.now) (T.within levels) tokens.now) }
+    ensures { Gives (λ x. (x.0, x.1.now)) result (after (mark_at lead.now) (T.within levels) tokens.now) }
 {
     let rest = mark(tokens, lead)?;
     T::read(alloc, levels, rest)
@@ -97,9 +97,9 @@ pub fn joined_nested<'a, T: Nested>(
         if !begins_mark(rest, between) {
             return Ok((items, rest));
         }
-        let (item, after) = nested_behind::<T>(alloc, levels, rest, between)?;
+        let (item, tail) = nested_after::<T>(alloc, levels, rest, between)?;
         items.push(item)?;
-        rest = after;
+        rest = tail;
     }
     Ok((items, rest))
 }

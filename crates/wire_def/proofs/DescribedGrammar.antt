@@ -17,26 +17,26 @@ use Rattle.wire_def.specs.declared.fault.FaultKind.TheVariants.{OverBound, BadIt
 use Rattle.wire_def.specs.Grammar.{Reading, Reader, Spelling, Stopping, got, stop, Parts, both, map_got, tested, IsGrammar}
 use Rattle.wire_def.specs.Scalars.{gap, WordSpells}
 use Rattle.wire_def.specs.Lone.{unit_name, unit_bits, units_of, short_word}
-use Rattle.wire_def.specs.Described.{allowed, is_long, long_mark, long_words, described_octets, is_marked, takes, has_form, widened, is_whole, elements_in, is_fixed, is_right, told_before, FirstSpells, FirstStops, read_first, RestSpells, RestStops, read_rest, FormSpells, FormStops, ManySpell, DescribedSpells, DescribedStops, read_described}
+use Rattle.wire_def.specs.Described.{allowed, is_long, long_mark, long_words, described_octets, is_marked, takes, has_form, widened, is_whole, elements_in, is_fixed, is_right, reported_before, FirstSpells, FirstStops, read_first, RestSpells, RestStops, read_rest, FormSpells, FormStops, ManySpell, DescribedSpells, DescribedStops, read_described}
 use Rattle.wire_def.proofs.Grammars.{done, mapped, both_are, tested_are}
 use Rattle.wire_def.proofs.Words.{word_is, desc_wide, rest_wide}
 
 -- ---- a grammar
 
-before_got : {A : Type 0} (p : ℕ) (r : Reading FaultKind A) (x : A) (q : ℕ) (o : List ℕ) → told_before p r ≡ got x q o → r ≡ got x q o
-unfolding told_before
+before_got : {A : Type 0} (p : ℕ) (r : Reading FaultKind A) (x : A) (q : ℕ) (o : List ℕ) → reported_before p r ≡ got x q o → r ≡ got x q o
+unfolding reported_before
 before_got p (got y m b) x q o e = e
 before_got p (stop k at) x q o e = absurd cc
 
-before_stop : {A : Type 0} (p : ℕ) (r : Reading FaultKind A) (k : FaultKind) (at : ℕ) → told_before p r ≡ stop k at
+before_stop : {A : Type 0} (p : ℕ) (r : Reading FaultKind A) (k : FaultKind) (at : ℕ) → reported_before p r ≡ stop k at
     → (place : ℕ) × (r ≡ stop k place) × (at ≡ p)
-unfolding told_before
+unfolding reported_before
 before_stop p (got y m b) k at e = absurd cc
 before_stop p (stop k' at') k at e = (at', cc, cc)
 
 before_is : {A : Type 0} {r : Reader FaultKind A} {S : Spelling A} {F : Stopping FaultKind} → IsGrammar r S F
-    → IsGrammar (λ p o. told_before (p - 4) (r p o)) S (λ p o k at. (place : ℕ) × F p o k place × (at ≡ p - 4))
-unfolding told_before
+    → IsGrammar (λ p o. reported_before (p - 4) (r p o)) S (λ p o k at. (place : ℕ) × F p o k place × (at ≡ p - 4))
+unfolding reported_before
 before_is {A} {r} {S} {F} g = record {
   reads = λ p o rest x s. rw (g.reads p o rest x s) refl;
   spelled = λ p o x q rest oct e. g.spelled p o x q rest oct (before_got (p - 4) (r p o) x q rest e);

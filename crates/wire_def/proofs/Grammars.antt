@@ -2,9 +2,9 @@
 use Rattle.std.proofs.Common.{◌≡◌, ◌⊎◌, inl, inr, ℕ, zero, suc, ◌+◌, List, [], ◌∷◌, ◌++◌, length, Bool, true, false, IsTrue, cond, refl, sym, ap, subst, ◌∙◌, append_assoc, length-append, add_assoc, add-zero, arith}
 use Rattle.wire_def.specs.Grammar.{Reading, got, stop, Reader, Spelling, Stopping, AreOctets, then_on, map_got, both, times, tested, Parts, SpellTimes, StopTimes, StopsInOrder, TestedSpells, TestedStops, IsGrammar}
 
-pub octets_behind : (a b : List ℕ) → AreOctets (a ++ b) → AreOctets b
-octets_behind [] b h = h
-octets_behind (x ∷ a) b h = octets_behind a b h.1
+pub octets_after : (a b : List ℕ) → AreOctets (a ++ b) → AreOctets b
+octets_after [] b h = h
+octets_after (x ∷ a) b h = octets_after a b h.1
 
 pub octets_before : (a b : List ℕ) → AreOctets (a ++ b) → AreOctets a
 octets_before [] b h = tt
@@ -70,7 +70,7 @@ both_are {E} {A} {B} {r} {S} {F} {s} {T} {G} g h = record {
       let m = then_got (r p o) (λ x q' rest'. map_got (λ y. (x, y)) (s x q' rest')) xy q rest e in
       let a = g.spelled p o m.0 m.1 m.2 oct m.3 in
       let n = mapped_got (λ (y : B). (m.0, y)) (s m.0 m.1 m.2) xy q rest m.4 in
-      let b = (h m.0).spelled m.1 m.2 n.0 q rest (octets_behind a.0 m.2 (rw a.1 at oct)) n.1 in (
+      let b = (h m.0).spelled m.1 m.2 n.0 q rest (octets_after a.0 m.2 (rw a.1 at oct)) n.1 in (
         a.0 ++ b.0,
         a.1 ∙ ap (λ z. a.0 ++ z) b.1 ∙ sym (append_assoc a.0 b.0 rest),
         omega (arith, a.2, b.2, length-append a.0 b.0),
@@ -96,7 +96,7 @@ both_are {E} {A} {B} {r} {S} {F} {s} {T} {G} g h = record {
                 a.1,
                 a.3,
                 subst (λ z. G x z b k at) a.2
-                    ((h x).faulty m b k at (octets_behind a.0 b (rw a.1 at oct)) (mapped_stop (λ (y : B). (x, y)) (s x m b) k at e2)),
+                    ((h x).faulty m b k at (octets_after a.0 b (rw a.1 at oct)) (mapped_stop (λ (y : B). (x, y)) (s x m b) k at e2)),
               ),
             )
       ];
@@ -127,7 +127,7 @@ times_spelled {A = A} {r = r} {S = S} g (suc n) p o xs q rest oct e =
     let m = then_got (r p o) (λ x q' rest'. map_got (λ (ys : List A). x ∷ ys) (times r n q' rest')) xs q rest e in
     let a = g.spelled p o m.0 m.1 m.2 oct m.3 in
     let l = mapped_got (λ (ys : List A). m.0 ∷ ys) (times r n m.1 m.2) xs q rest m.4 in
-    let b = times_spelled g n m.1 m.2 l.0 q rest (octets_behind a.0 m.2 (rw a.1 at oct)) l.1 in (
+    let b = times_spelled g n m.1 m.2 l.0 q rest (octets_after a.0 m.2 (rw a.1 at oct)) l.1 in (
       a.0 ++ b.0,
       a.1 ∙ ap (λ z. a.0 ++ z) b.1 ∙ sym (append_assoc a.0 b.0 rest),
       omega (arith, a.2, b.2, length-append a.0 b.0),
@@ -159,7 +159,7 @@ times_faulty {E} {A} {r} {S} {F} g (suc n) p o k at oct e =
               a.1,
               a.3,
               subst (λ z. StopTimes S F n z b k at) a.2
-                  (times_faulty g n m b k at (octets_behind a.0 b (rw a.1 at oct))
+                  (times_faulty g n m b k at (octets_after a.0 b (rw a.1 at oct))
                   (mapped_stop (λ (ys : List A). x ∷ ys) (times r n m b) k at e2)),
             ),
           )

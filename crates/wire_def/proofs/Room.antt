@@ -50,8 +50,8 @@ each_room S one zero p o xs h = omega arith
 each_room S one (suc n) p o [] h = absurd h
 each_room S one (suc n) p o (x ∷ xs) (a, b, is, first, more) =
     let here = one p a x first in
-    let behind = each_room S one n (p + length a) b xs more in
-    rw (is, length-append) (omega (arith, here, behind))
+    let after = each_room S one n (p + length a) b xs more in
+    rw (is, length-append) (omega (arith, here, after))
 
 each_heavy : (S : Spelling Val) (k : ℕ) → ((p : ℕ) (o : List ℕ) (v : Val) → S p o v → weight v ≤ k * length o)
     → (vs : Vals) (p : ℕ) (o : List ℕ) → SpellTimes S (count vs) p o (list_of vs)
@@ -59,8 +59,8 @@ each_heavy : (S : Spelling Val) (k : ℕ) → ((p : ℕ) (o : List ℕ) (v : Val
 each_heavy S k one no_more p o h = omega arith
 each_heavy S k one (val v vs) p o (a, b, is, first, more) =
     let here = one p a v first in
-    let behind = each_heavy S k one vs (p + length a) b more in
-    rw (is, length-append) (omega (arith, here, behind))
+    let after = each_heavy S k one vs (p + length a) b more in
+    rw (is, length-append) (omega (arith, here, after))
 
 scalar_long : (e : Encoding) (s : Scalar) (p : ℕ) (o : List ℕ) (n : ℤ) → ScalarSpells e s p o n → 1 ≤ length o
 unfolding ScalarSpells WordSpells
@@ -138,8 +138,8 @@ module _ (e : Encoding) where
     filled (group_type ts) r f p o (group vs) h = fields_filled ts r f p o vs h
     filled (items_type c t) r f p o (items vs) (a, b, is, first, more) =
         let head = count_room c p a (count vs) r.0 first in
-        let behind = each_room (Spells e t) (filled t r.2 r.1) (count vs) (p + length a) b (list_of vs) more in
-        rw (is, length-append) (omega (arith, head, behind))
+        let after = each_room (Spells e t) (filled t r.2 r.1) (count vs) (p + length a) b (list_of vs) more in
+        rw (is, length-append) (omega (arith, head, after))
     filled (choice_type s arms) r f p o (arm n v) (a, b, is, first, more) =
         let head = lone_room s p a n first.0 in
         rw (is, length-append) (omega (arith, head))
@@ -156,7 +156,7 @@ module _ (e : Encoding) where
     fields_filled (field t ts) r f p o (val v vs) (a, b, is, first, more) =
         rw (is, length-append) (elim (or_true (fills t) (fields_fill ts) f) [
           | inl here ↦ let long = filled t r.0 here p a v first in omega (arith, long)
-          | inr behind ↦ let long = fields_filled ts r.1 behind (p + length a) b vs more in omega (arith, long)
+          | inr after ↦ let long = fields_filled ts r.1 after (p + length a) b vs more in omega (arith, long)
         ])
 
   mutual
@@ -169,22 +169,22 @@ module _ (e : Encoding) where
     heavy (items_type c t) r zero deep p o v h = absurd (omega arith)
     heavy (items_type c t) r (suc d) deep p o (items vs) (a, b, is, first, more) =
         let all = filled (items_type c t) r refl p o (items vs) (a, b, is, first, more) in
-        let behind = each_heavy (Spells e t) (suc d) (heavy t r.2 d (omega arith)) vs (p + length a) b more in
+        let after = each_heavy (Spells e t) (suc d) (heavy t r.2 d (omega arith)) vs (p + length a) b more in
         let long : length b ≤ length o = omega (arith, ap length is, length-append a b) in
-        omega (arith, behind, one_more d (length b) (length o) long all)
+        omega (arith, after, one_more d (length b) (length o) long all)
     heavy (choice_type s arms) r zero deep p o v h = absurd (omega arith)
     heavy (choice_type s arms) r (suc d) deep p o (arm n v) (a, b, is, first, more) =
         let all = filled (choice_type s arms) r refl p o (arm n v) (a, b, is, first, more) in
-        let behind = arm_heavy arms r d (omega arith) n (p + length a) b v more in
+        let after = arm_heavy arms r d (omega arith) n (p + length a) b v more in
         let long : length b ≤ length o = omega (arith, ap length is, length-append a b) in
-        omega (arith, behind, one_more d (length b) (length o) long all)
+        omega (arith, after, one_more d (length b) (length o) long all)
     heavy (maybe_type t) r d deep p o absent h = some d (length o) (lone_room _ p o (pos 0) h)
     heavy (maybe_type t) r zero deep p o v h = absurd (omega arith)
     heavy (maybe_type t) r (suc d) deep p o (present v) (a, b, is, first, more) =
         let all = filled (maybe_type t) r refl p o (present v) (a, b, is, first, more) in
-        let behind = heavy t r d (omega arith) (p + length a) b v more in
+        let after = heavy t r d (omega arith) (p + length a) b v more in
         let long : length b ≤ length o = omega (arith, ap length is, length-append a b) in
-        omega (arith, behind, one_more d (length b) (length o) long all)
+        omega (arith, after, one_more d (length b) (length o) long all)
     heavy _ r d deep p o v h = absurd h
 
     fields_heavy : (ts : Tys) → FieldsTakeRoom ts → (d : ℕ) → fields_depth ts ≤ d → (p : ℕ) (o : List ℕ) (vs : Vals)
@@ -193,8 +193,8 @@ module _ (e : Encoding) where
     fields_heavy no_fields r d deep p o no_more h = omega arith
     fields_heavy (field t ts) r d deep p o (val v vs) (a, b, is, first, more) =
         let here = heavy t r.0 d (omega arith) p a v first in
-        let behind = fields_heavy ts r.1 d (omega arith) (p + length a) b vs more in
-        rw (is, length-append) (omega (arith, here, behind))
+        let after = fields_heavy ts r.1 d (omega arith) (p + length a) b vs more in
+        rw (is, length-append) (omega (arith, here, after))
     fields_heavy _ r d deep p o vs h = absurd h
 
     arm_heavy : (arms : Arms) → ArmsTakeRoom arms → (d : ℕ) → arms_depth arms ≤ d

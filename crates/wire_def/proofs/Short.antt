@@ -106,8 +106,8 @@ unfolding elements_octets
 elements_most one each p [] = lit≤ tt
 elements_most one each p (n ∷ ns) =
     let here = each p n in
-    let behind = elements_most one each (p + length (one p n)) ns in
-    rw length-append (omega (arith, here, behind))
+    let after = elements_most one each (p + length (one p n)) ns in
+    rw length-append (omega (arith, here, after))
 
 padding_most : (b : Bool) (n : ℕ) → cond b (gap n 4) 0 ≤ 3
 padding_most true n = omega arith
@@ -140,8 +140,8 @@ each_most : (one : ℕ → Val → List ℕ) → ((p : ℕ) (v : Val) → length
 each_most one each p no_more = lit≤ tt
 each_most one each p (val v vs) =
     let here = each p v in
-    let behind = each_most one each (p + length (one p v)) vs in
-    rw length-append (omega (arith, here, behind))
+    let after = each_most one each (p + length (one p v)) vs in
+    rw length-append (omega (arith, here, after))
 
 mutual
   unfolding send

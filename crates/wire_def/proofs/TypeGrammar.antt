@@ -20,7 +20,7 @@ use Rattle.wire_def.specs.Arrays.{CountSpells, ArraySpells, kind_of}
 use Rattle.wire_def.specs.Send.{flag}
 use Rattle.wire_def.specs.Spells.{Spells, FieldsSpell, ArmSpells, TagSpells}
 use Rattle.wire_def.specs.Stops.{Stops, FieldsStop, ArmStops}
-use Rattle.wire_def.specs.Reading.{read, read_fields, read_arm, read_behind}
+use Rattle.wire_def.specs.Reading.{read, read_fields, read_arm, read_after}
 use Rattle.wire_def.proofs.Grammars.{done, mapped, both_are, times_are, reshaped}
 use Rattle.wire_def.proofs.ArrayGrammar.{count_is, array_is, times_length}
 use Rattle.wire_def.proofs.LoneGrammar.{lone_is, pass_is}
@@ -79,26 +79,26 @@ flags CdrLittle p o n h = scalar_flags CdrLittle p o n h
 flags Mach p o n (a, b, is, first, (c, d, is', second, third)) = scalar_flags Mach (p + length a) c n second
 
 -- what may follow a flag
-BehindSpells : Spelling Val → ℤ → Spelling Val
-BehindSpells S (pos zero) p o v = (o ≡ []) × (absent ≡ v)
-BehindSpells S _ p o v = (w : Val) × (present w ≡ v) × S p o w
+AfterSpells : Spelling Val → ℤ → Spelling Val
+AfterSpells S (pos zero) p o v = (o ≡ []) × (absent ≡ v)
+AfterSpells S _ p o v = (w : Val) × (present w ≡ v) × S p o w
 
-BehindStops : Stopping FaultKind → ℤ → Stopping FaultKind
-BehindStops F (pos zero) p o k at = ⊥
-BehindStops F _ p o k at = F p o k at
+AfterStops : Stopping FaultKind → ℤ → Stopping FaultKind
+AfterStops F (pos zero) p o k at = ⊥
+AfterStops F _ p o k at = F p o k at
 
-behind_is : {r : Reader FaultKind Val} {S : Spelling Val} {F : Stopping FaultKind} → IsGrammar r S F → (n : ℤ)
-    → IsGrammar (read_behind r n) (BehindSpells S n) (BehindStops F n)
-unfolding BehindSpells BehindStops
-behind_is g (pos zero) = done absent _ (λ p. (refl, refl)) (λ p o y h. h)
-behind_is g (pos (suc n)) = mapped present _ g (λ p o x h. (x, refl, h)) (λ p o y h. h)
-behind_is g (negsuc n) = mapped present _ g (λ p o x h. (x, refl, h)) (λ p o y h. h)
+after_is : {r : Reader FaultKind Val} {S : Spelling Val} {F : Stopping FaultKind} → IsGrammar r S F → (n : ℤ)
+    → IsGrammar (read_after r n) (AfterSpells S n) (AfterStops F n)
+unfolding AfterSpells AfterStops
+after_is g (pos zero) = done absent _ (λ p. (refl, refl)) (λ p o y h. h)
+after_is g (pos (suc n)) = mapped present _ g (λ p o x h. (x, refl, h)) (λ p o y h. h)
+after_is g (negsuc n) = mapped present _ g (λ p o x h. (x, refl, h)) (λ p o y h. h)
 
 module _ (e : Encoding) (t : Ty) where
   maybe_forth : (p : ℕ) (o : List ℕ) (n : ℤ) (v : Val) (a b : List ℕ) → o ≡ a ++ b → LoneSpells e flag p a n
-      → BehindSpells (Spells e t) n (p + length a) b v
+      → AfterSpells (Spells e t) n (p + length a) b v
       → Spells e (maybe_type t) p o v
-  unfolding BehindSpells
+  unfolding AfterSpells
   maybe_forth p o (pos zero) v a b is first (none, same) =
       rw (← same, is, none, append-nil) first
   maybe_forth p o (pos (suc zero)) v a b is first (w, same, second) = rw (← same) (a, b, is, first, second)
@@ -107,16 +107,16 @@ module _ (e : Encoding) (t : Ty) where
   maybe_forth p o (negsuc n) v a b is first second = elim (flags e p a (negsuc n) first) [ inl h ↦ absurd cc | inr h ↦ absurd cc ]
 
   maybe_back : (p : ℕ) (o : List ℕ) (v : Val) → Spells e (maybe_type t) p o v
-      → (x : ℤ × Val) × (x.1 ≡ v) × Parts p o (λ a. LoneSpells e flag p a x.0) (λ q b. BehindSpells (Spells e t) x.0 q b x.1)
-  unfolding BehindSpells
+      → (x : ℤ × Val) × (x.1 ≡ v) × Parts p o (λ a. LoneSpells e flag p a x.0) (λ q b. AfterSpells (Spells e t) x.0 q b x.1)
+  unfolding AfterSpells
   maybe_back p o absent h = ((pos 0, absent), refl, (o, [], sym (append-nil o), h, (refl, refl)))
   maybe_back p o (present v) (a, b, is, first, second) = ((pos 1, present v), refl, (a, b, is, first, (v, refl, second)))
   maybe_back p o _ h = absurd h
 
   maybe_stops_to : (p : ℕ) (o : List ℕ) (k : FaultKind) (at : ℕ) (n : ℤ) (a b : List ℕ) → o ≡ a ++ b
-      → LoneSpells e flag p a n → BehindStops (Stops e t) n (p + length a) b k at
+      → LoneSpells e flag p a n → AfterStops (Stops e t) n (p + length a) b k at
       → Stops e (maybe_type t) p o k at
-  unfolding BehindStops
+  unfolding AfterStops
   maybe_stops_to p o k at (pos zero) a b is first f = absurd f
   maybe_stops_to p o k at (pos (suc zero)) a b is first f = inr (a, b, is, first, f)
   maybe_stops_to p o k at (pos (suc (suc n))) a b is first f =
@@ -125,17 +125,17 @@ module _ (e : Encoding) (t : Ty) where
 
   maybe_stops : (p : ℕ) (o : List ℕ) (k : FaultKind) (at : ℕ)
       → Stops e (maybe_type t) p o k at ↔ (LoneStops e flag p o k at
-      ⊎ ((n : ℤ) × Parts p o (λ a. LoneSpells e flag p a n) (λ q b. BehindStops (Stops e t) n q b k at)))
-  unfolding BehindStops
+      ⊎ ((n : ℤ) × Parts p o (λ a. LoneSpells e flag p a n) (λ q b. AfterStops (Stops e t) n q b k at)))
+  unfolding AfterStops
   maybe_stops p o k at = (to, from) where
     to : Stops e (maybe_type t) p o k at → LoneStops e flag p o k at
-        ⊎ ((n : ℤ) × Parts p o (λ a. LoneSpells e flag p a n) (λ q b. BehindStops (Stops e t) n q b k at))
+        ⊎ ((n : ℤ) × Parts p o (λ a. LoneSpells e flag p a n) (λ q b. AfterStops (Stops e t) n q b k at))
     to (inl f) = inl f
     to (inr h) = inr (pos 1, h)
 
     from : LoneStops e flag p o k at
         ⊎ ((n : ℤ)
-        × Parts p o (λ a. LoneSpells e flag p a n) (λ q b. BehindStops (Stops e t) n q b k at)) → Stops e (maybe_type t) p o k at
+        × Parts p o (λ a. LoneSpells e flag p a n) (λ q b. AfterStops (Stops e t) n q b k at)) → Stops e (maybe_type t) p o k at
     from (inl f) = inl f
     from (inr (n, (a, b, is, first, f))) = maybe_stops_to p o k at n a b is first f
 
@@ -199,7 +199,7 @@ mutual
       h) (choice_back e s arms)
   type_is e (maybe_type t) =
       reshaped
-      (mapped (λ x. x.1) (Spells e (maybe_type t)) (both_are (lone_is e flag) (λ n. behind_is (type_is e t) n)) (λ p o x h.
+      (mapped (λ x. x.1) (Spells e (maybe_type t)) (both_are (lone_is e flag) (λ n. after_is (type_is e t) n)) (λ p o x h.
       maybe_forth e t p o x.0 x.1 h.0 h.1 h.2 h.3 h.4) (maybe_back e t))
       (λ p o. refl) (λ p o x h. h) (λ p o x h. h) (λ p o k at. (maybe_stops e t p o k at).0) (λ p o k at. (maybe_stops e t p o k at).1)
 

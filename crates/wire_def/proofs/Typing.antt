@@ -19,7 +19,7 @@ use Rattle.wire_def.specs.Scalars.{ScalarSpells}
 use Rattle.wire_def.specs.Lone.{LoneSpells}
 use Rattle.wire_def.specs.Arrays.{counted, CountSpells, EndedSpells, HeadSpells, OctetSpells, count_of, kind_of, may_stand, ElementSpells, ArraySpells}
 use Rattle.wire_def.specs.Spells.{Spells, FieldsSpell, ArmSpells}
-use Rattle.wire_def.proofs.Grammars.{octets_behind, octets_before}
+use Rattle.wire_def.proofs.Grammars.{octets_after, octets_before}
 use Rattle.wire_def.proofs.DescribedGrammar.{allows, described_typed}
 use Rattle.wire_def.proofs.Sent.{is_element}
 
@@ -93,14 +93,14 @@ elements_typed S test one (suc n) p o [] oct h = absurd h
 elements_typed S test one (suc n) p o (x ∷ xs) oct (a, b, is, first, more) =
     let whole = rw is at oct in
     both_true (test x) (list_all test xs) (one p a x (octets_before a b whole) first)
-    (elements_typed S test one n (p + length a) b xs (octets_behind a b whole) more)
+    (elements_typed S test one n (p + length a) b xs (octets_after a b whole) more)
 
 array_typed : (e : Encoding) (a : Array) (p : ℕ) (o : List ℕ) (ns : List ℤ) → AreOctets o → ArraySpells e a p o ns
     → Allows (count_of a) (length ns) × (list_all (is_element a) ns ≡ true)
 unfolding ArraySpells
 array_typed e a p o ns oct (x, y, is, head, (u, v, is', elements, tail)) =
-    let behind = octets_behind x y (rw is at oct) in
-    let there = octets_before u v (rw is' at behind) in (
+    let after = octets_after x y (rw is at oct) in
+    let there = octets_before u v (rw is' at after) in (
       head_typed e a p x (length ns) head,
       elements_typed (ElementSpells e a) (is_element a) (element_typed e a) (length ns) (p + length x)
           u ns there elements,
@@ -118,7 +118,7 @@ each_typed : (S : Spelling Val) (P : Val → Type 0) → ((p : ℕ) (o : List �
 each_typed S P one no_more p o oct h = tt
 each_typed S P one (val v vs) p o oct (a, b, is, first, more) =
     let whole = rw is at oct in
-    (one p a v (octets_before a b whole) first, each_typed S P one vs (p + length a) b (octets_behind a b whole) more)
+    (one p a v (octets_before a b whole) first, each_typed S P one vs (p + length a) b (octets_after a b whole) more)
 
 mutual
   pub typed : (e : Encoding) (t : Ty) (p : ℕ) (o : List ℕ) (v : Val) → AreOctets o → Spells e t p o v → IsOf t v
@@ -129,23 +129,23 @@ mutual
   typed e (items_type c t) p o (items vs) oct (a, b, is, first, more) =
       let whole = rw is at oct in (
         count_typed e c p a (count vs) first,
-        each_typed (Spells e t) (IsOf t) (typed e t) vs (p + length a) b (octets_behind a b whole)
+        each_typed (Spells e t) (IsOf t) (typed e t) vs (p + length a) b (octets_after a b whole)
             more,
       )
   typed e (choice_type s arms) p o (arm n v) oct (a, b, is, first, more) =
       let whole = rw is at oct in
-      (lone_typed e s p a n first.0, arm_typed e arms n (p + length a) b v (octets_behind a b whole) more)
+      (lone_typed e s p a n first.0, arm_typed e arms n (p + length a) b v (octets_after a b whole) more)
   typed e (maybe_type t) p o absent oct h = tt
   typed e (maybe_type t) p o (present v) oct (a, b, is, first, more) =
       let whole = rw is at oct in
-      typed e t (p + length a) b v (octets_behind a b whole) more
+      typed e t (p + length a) b v (octets_after a b whole) more
   typed e _ p o v oct h = absurd h
 
   pub fields_typed : (e : Encoding) (ts : Tys) (p : ℕ) (o : List ℕ) (vs : Vals) → AreOctets o → FieldsSpell e ts p o vs → AreOf ts vs
   fields_typed e no_fields p o no_more oct h = tt
   fields_typed e (field t ts) p o (val v vs) oct (a, b, is, first, more) =
       let whole = rw is at oct in
-      (typed e t p a v (octets_before a b whole) first, fields_typed e ts (p + length a) b vs (octets_behind a b whole) more)
+      (typed e t p a v (octets_before a b whole) first, fields_typed e ts (p + length a) b vs (octets_after a b whole) more)
   fields_typed e _ p o vs oct h = absurd h
 
   pub arm_typed : (e : Encoding) (arms : Arms) (n : ℤ) (p : ℕ) (o : List ℕ) (v : Val) → AreOctets o → ArmSpells e arms n p o v

@@ -14,7 +14,7 @@ use Rattle.wire_def.specs.declared.fault.FaultKind.{FaultKind}
 use Rattle.wire_def.specs.declared.fault.FaultKind.TheVariants.{Short}
 use Rattle.wire_def.specs.Grammar.{got, stop, AreOctets, IsGrammar}
 use Rattle.wire_def.specs.Scalars.{gap, full, own_width, at_least_32, width_of, number_octets, octets_number, WordSpells, WordStops, read_word}
-use Rattle.wire_def.proofs.Grammars.{octets_behind, octets_before}
+use Rattle.wire_def.proofs.Grammars.{octets_after, octets_before}
 
 -- octets that give a number of the width back
 pub record IsWideBy (w : Width) (to : ℕ → List ℕ) (from : List ℕ → ℕ) : Type 0 where
@@ -224,8 +224,8 @@ module _ (e : Encoding) (a : ℕ) (w : Width) (is_wide : IsWide e w) where
       let num : List ℕ = take n (drop g o) in
       let junk_len : length junk ≡ g = omega (arith, length-take g o) in
       let num_len : length num ≡ n = omega (arith, length-take n (drop g o), length-drop g o) in
-      let behind : AreOctets (drop g o) = octets_behind junk (drop g o) (rw take-append-drop oct) in
-      let oct_num : AreOctets num = octets_before num (drop n (drop g o)) (rw take-append-drop behind) in
+      let after : AreOctets (drop g o) = octets_after junk (drop g o) (rw take-append-drop oct) in
+      let oct_num : AreOctets num = octets_before num (drop n (drop g o)) (rw take-append-drop after) in
       let whole : o ≡ (junk ++ num) ++ rest =
       sym (append_assoc junk num rest
       ∙ ap (λ z. junk ++ (num ++ z)) (sym t.3) ∙ ap (λ z. junk ++ z) (take-append-drop n (drop g o)) ∙ take-append-drop g o) in (

@@ -11,7 +11,7 @@ use Rattle.wire_def.specs.declared.fault.FaultKind.TheVariants.{Short, OverBound
 use Rattle.wire_def.specs.Grammar.{got, stop}
 use Rattle.wire_def.specs.Scalars.{read_scalar, read_word}
 use Rattle.wire_def.specs.Lone.{read_any, read_desc}
-use Rattle.wire_def.specs.Described.{read_described, read_first, read_rest, told_before}
+use Rattle.wire_def.specs.Described.{read_described, read_first, read_rest, reported_before}
 use Rattle.wire_def.specs.Arrays.{read_count, read_octet, read_zeros, read_element, read_head, read_tail, read_array}
 use Rattle.wire_def.specs.Reading.{read, read_fields, read_arm}
 
@@ -95,5 +95,5 @@ faults : map (λ (s : Try). read s.0 s.1.0 s.1.1.0 s.1.1.1) tries ≡
     got (row kind.Char (pos 97 ∷ [])) 40 [] ∷
     []
 unfolding read read_fields read_arm read_array read_head read_tail read_element read_octet read_zeros read_count read_scalar read_word
-    read_any read_desc read_described read_first read_rest told_before
+    read_any read_desc read_described read_first read_rest reported_before
 faults = refl

@@ -83,9 +83,9 @@ abbrev pub is_right : Count → Scalar → ℕ → Bool
 is_right c s d = nat_eq (d % 2 ^ 32) (long_words (unit_name s) (unit_bits s) 0) && (is_whole s (d / 2 ^ 32) && is_fixed c s (d / 2 ^ 32))
 
 -- what was read, but with its fault placed at p
-unfoldable pub told_before : {A : Type 0} → ℕ → Reading FaultKind A → Reading FaultKind A
-told_before p (got x q o) = got x q o
-told_before p (stop k at) = stop k p
+unfoldable pub reported_before : {A : Type 0} → ℕ → Reading FaultKind A → Reading FaultKind A
+reported_before p (got x q o) = got x q o
+reported_before p (stop k at) = stop k p
 
 -- the first word
 unfoldable pub FirstSpells : Count → Scalar → Spelling ℕ
@@ -106,7 +106,7 @@ unfoldable pub RestStops : ℕ → Stopping FaultKind
 RestStops m p o k at = MatchBool (is_marked m) ((place : ℕ) × WordStops Mach 1 w64 p o k place × (at ≡ p - 4)) ⊥
 
 unfoldable pub read_rest : ℕ → Reader FaultKind ℕ
-read_rest m p o = if is_marked m then told_before (p - 4) (read_word Mach 1 w64 p o) else got (widened m) p o
+read_rest m p o = if is_marked m then reported_before (p - 4) (read_word Mach 1 w64 p o) else got (widened m) p o
 
 -- a descriptor in a form that may be there, and what it says
 abbrev pub FormSpells : Count → Scalar → Spelling (ℕ × ℕ)

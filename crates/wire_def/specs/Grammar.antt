@@ -67,7 +67,7 @@ StopTimes {E} {A} S F (suc n) p o k at = F p o k at ⊎ ((x : A) × Parts p o (�
 
 -- the first stop of a part and of what follows it: the part stops, or it is there and what follows stops
 abbrev pub StopsInOrder : {E A : Type 0} → Spelling A → Stopping E → (A → Stopping E) → Stopping E
-StopsInOrder {E} {A} S F Behind p o k at = F p o k at ⊎ ((x : A) × Parts p o (λ a. S p a x) (λ q b. Behind x q b k at))
+StopsInOrder {E} {A} S F After p o k at = F p o k at ⊎ ((x : A) × Parts p o (λ a. S p a x) (λ q b. After x q b k at))
 
 -- a value that passes the test
 abbrev pub TestedSpells : {A : Type 0} → Spelling A → (A → Bool) → Spelling A

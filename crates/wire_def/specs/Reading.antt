@@ -17,9 +17,9 @@ abbrev pub read_tag : Encoding → Scalar → Arms → Reader FaultKind ℤ
 read_tag e s arms = read_pass e s (has_arm arms) BadValue
 
 -- the value after a flag
-abbrev pub read_behind : Reader FaultKind Val → ℤ → Reader FaultKind Val
-read_behind r (pos zero) p o = got absent p o
-read_behind r _ p o = map_got present (r p o)
+abbrev pub read_after : Reader FaultKind Val → ℤ → Reader FaultKind Val
+read_after r (pos zero) p o = got absent p o
+read_after r _ p o = map_got present (r p o)
 
 -- a value of the type from a position; the values of fields; the value of the number's arm
 unfoldable mutual
@@ -30,7 +30,7 @@ unfoldable mutual
   read e (group_type ts) p o = map_got group (read_fields e ts p o)
   read e (items_type c t) p o = map_got (λ x. items (vals_of x.1)) (both (read_count e c) (λ n. times (read e t) n) p o)
   read e (choice_type s arms) p o = map_got (λ x. arm x.0 x.1) (both (read_tag e s arms) (λ n q b. read_arm e arms n q b) p o)
-  read e (maybe_type t) p o = map_got (λ x. x.1) (both (read_lone e flag) (λ n. read_behind (read e t) n) p o)
+  read e (maybe_type t) p o = map_got (λ x. x.1) (both (read_lone e flag) (λ n. read_after (read e t) n) p o)
 
   pub read_fields : Encoding → Tys → ℕ → List ℕ → Reading FaultKind Vals
   read_fields e no_fields p o = got no_more p o

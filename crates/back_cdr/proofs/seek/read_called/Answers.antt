@@ -2,7 +2,7 @@ use Rattle.std.proofs.Common.{◌∙◌, refl, sym, ap}
 use Rattle.call_kit.specs.declared.called.Naming.{Naming}
 use Rattle.wire_def.specs.declared.encoding.Encoding.{Encoding}
 use Rattle.giop_head.specs.Items.{laid}
-use Rattle.giop_head.specs.Told.{request_seen}
+use Rattle.giop_head.specs.Reported.{request_seen}
 use Rattle.back_cdr.proofs.seek.read_called.Goals as goal
 
 pub returns-in-Ok-clause-begins : goal.returns-in-Ok-clause-begins

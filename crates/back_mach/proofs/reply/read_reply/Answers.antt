@@ -1,16 +1,16 @@
 use Rattle.std.proofs.Common.{rules}
 use Rattle.wire_def.specs.Grammar.{AreOctets}
 use Rattle.back_mach.specs.Heads.{reply}
-use Rattle.back_mach.specs.Told.{reply_told}
-use Rattle.back_mach.proofs.Exact.{all_octets, told_head, told_fault}
+use Rattle.back_mach.specs.Reported.{reply_reported}
+use Rattle.back_mach.proofs.Exact.{all_octets, reported_head, reported_fault}
 use Rattle.back_mach.proofs.reply.read_reply.Goals as goal
 
 pub returns-clause-spells : goal.returns-clause-spells
 returns-clause-spells c =
     let octets : AreOctets c.args.message.now = all_octets c.args.message.now (λ i. search (rules, c.type_inv.message)) in
-    rw c.reply_at.ensures (told_head (reply c.args.id) reply_told c.args.message.now octets)
+    rw c.reply_at.ensures (reported_head (reply c.args.id) reply_reported c.args.message.now octets)
 
 pub returns-clause-stops : goal.returns-clause-stops
 returns-clause-stops c =
     let octets : AreOctets c.args.message.now = all_octets c.args.message.now (λ i. search (rules, c.type_inv.message)) in
-    rw c.reply_at.ensures (told_fault (reply c.args.id) reply_told c.args.message.now octets)
+    rw c.reply_at.ensures (reported_fault (reply c.args.id) reply_reported c.args.message.now octets)

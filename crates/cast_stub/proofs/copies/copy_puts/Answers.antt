@@ -7,6 +7,6 @@ use Rattle.cast_stub.proofs.copies.copy_puts.Goals as goal
 
 pub returns : goal.returns
 returns c =
-    IfOk-weaker c.puts_behind-2.result _ (λ (ps : List Put). ps ≡ c.args.puts.now)
+    IfOk-weaker c.puts_after-2.result _ (λ (ps : List Put). ps ≡ c.args.puts.now)
     (λ (ps : List Put) e.
-    e ∙ ap (λ (q : List ℕ). map (put_rebased q) c.args.puts.now) c.new.ensures ∙ same-puts c.args.puts.now) c.puts_behind-2.ensures
+    e ∙ ap (λ (q : List ℕ). map (put_rebased q) c.args.puts.now) c.new.ensures ∙ same-puts c.args.puts.now) c.puts_after-2.ensures

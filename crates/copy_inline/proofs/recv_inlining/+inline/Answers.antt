@@ -27,14 +27,14 @@ bodies_of-loop-case-preserved t c =
     (pair_is c.case_of.result c.case-item.result.0 c.in_ok-body.body c.case_of.ensures.number c.case_of.ensures.body) c.in_ok-body.ensures
     c.in_ok-push.ensures.ok
 
-pub put_op-returns-in_ok-path_behind-in-Switch : goal.put_op-returns-in_ok-path_behind-in-Switch
-put_op-returns-in_ok-path_behind-in-Switch t c =
+pub put_op-returns-in_ok-path_after-in-Switch : goal.put_op-returns-in_ok-path_after-in-Switch
+put_op-returns-in_ok-path_after-in-Switch t c =
     let inl = inlined (sub_at c.args.subs.now) c.args.calls in
     subst (λ (b : Recv). OnOk c.add-in-Switch.result (code_seen c.add-in-Switch.new.out ≡ append (code_seen c.args.out.now) b))
     (switch_is receives (placed inl c.args.prefix.now) c.args.op.now c.in-Switch.path _ (c.args.prefix.now ++ c.in-Switch.path)
     c.in-Switch.cases _
     c.in-Switch.other _ (cases_spliced inl (cases_seen c.in-Switch.cases c.in-Switch.other)) c.in-Switch.is refl
-    c.in_ok-path_behind-in-Switch.ensures
+    c.in_ok-path_after-in-Switch.ensures
     (bodies_same receives (spliced inl) (cases_spliced inl) (goes_into inl) _ _ _ _ c.in_ok-bodies-in-Switch.ensures
     c.in_ok-last-in-Switch.ensures))
     c.add-in-Switch.ensures

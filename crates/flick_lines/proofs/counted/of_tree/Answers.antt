@@ -18,7 +18,7 @@ returns-in-Err-clause-value c =
     if-ok-and _ _ _ _
     (refused-at request_of (call_counted c.args.engine.now) b c.bound.result.now (view c.args.json.now) c.in-Err.refusal
     c.bound.ensures.value c.in-Err.ensures.comes)
-    c.refused.ensures.told c.refused.ensures.memory
+    c.refused.ensures.reported c.refused.ensures.memory
 
 pub returns-in-Ok-clause-paid : goal.returns-in-Ok-clause-paid
 returns-in-Ok-clause-paid c =

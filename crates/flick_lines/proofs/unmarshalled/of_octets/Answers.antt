@@ -20,4 +20,4 @@ returns-in_ok-refusal_text-in-Err c =
     let answers = subst (λ (o : List ℕ). Answers b o (Err c.in-Err.refusal)) same c.in-Err.ensures.read in
     let reads = call-refused b c.args.message.now c.in-Err.refusal answers c.in_ok-refusal_text-in-Err.ensures.memory in
     if-ok _ _ _ (octets-refused (ReadCall b) (request_text b) c.args.message.now c.in-Err.refusal reads)
-    (rw (c.as_bytes.ensures.value, c.in_ok-refusal_text-in-Err.ensures.told) at c.copied-in-Err.ensures)
+    (rw (c.as_bytes.ensures.value, c.in_ok-refusal_text-in-Err.ensures.reported) at c.copied-in-Err.ensures)

@@ -18,4 +18,4 @@ returns-in_ok-refusal_text-in-Err c =
     let op = c.args.op in
     let reads = reply-refused b op c.args.message.now c.in-Err.refusal c.in-Err.ensures.read c.in_ok-refusal_text-in-Err.ensures.memory in
     if-ok _ _ _ (octets-refused (ReadReply b op) (reply_text b op) c.args.message.now c.in-Err.refusal reads)
-    (rw (c.as_bytes-in-Err.ensures.value, c.in_ok-refusal_text-in-Err.ensures.told) at c.copied-in-Err.ensures)
+    (rw (c.as_bytes-in-Err.ensures.value, c.in_ok-refusal_text-in-Err.ensures.reported) at c.copied-in-Err.ensures)

@@ -7,12 +7,12 @@ use Rattle.flick_top.proofs.Tasking.{is-task, shapeless-work, shapeless-leaves}
 use Rattle.flick_top.proofs.top.flick.Goals as goal
 
 pub returns-in_default-clause-work : goal.returns-in_default-clause-work
-returns-in_default-clause-work g c = λ files told.
+returns-in_default-clause-work g c = λ files reported.
     rw c.number.ensures
     (shapeless-work None c.args.words.now files _ _ _ (cc (c.command_of.ensures.value, c.in_default.is)))
 
 pub returns-in_default-clause-made : goal.returns-in_default-clause-made
-returns-in_default-clause-made g c = λ files told.
+returns-in_default-clause-made g c = λ files reported.
     shapeless-leaves None c.args.words.now files _ _ _ (cc (c.command_of.ensures.value, c.in_default.is))
 
 pub returns-in-Ok-clause-completes : goal.returns-in-Ok-clause-completes
@@ -22,17 +22,17 @@ returns-in-Ok-clause-completes g c =
     c.perform-status.ensures.sink c.perform-status.ensures.shelf)
 
 pub returns-in-Ok-clause-work : goal.returns-in-Ok-clause-work
-returns-in-Ok-clause-work g c = λ files told.
+returns-in-Ok-clause-work g c = λ files reported.
     let (f, all) = c.lines_are_answered.ensures in
     inr (
       c.in-Ok.task,
       f,
       is-task c.args.words.now files c.in-Ok.task c.into_engine.result _ _ c.command_of.ensures.value c.in-Some.is
-          c.into_engine.ensures (c.in-Ok.ensures.task files told),
+          c.into_engine.ensures (c.in-Ok.ensures.task files reported),
       all,
       record {
         output = rw c.number-in-Ok.ensures (c.perform-status.ensures.output f all);
-        front = c.perform-status.ensures.front f all;
+        front = c.perform-status.ensures.prefix f all;
         ended = rw c.number-in-Ok.ensures (c.perform-status.ensures.ended f all);
         unread = rw c.number-in-Ok.ensures c.perform-status.ensures.unread;
         at_end = rw c.number-in-Ok.ensures c.perform-status.ensures.at_end;
@@ -40,9 +40,9 @@ returns-in-Ok-clause-work g c = λ files told.
     )
 
 pub returns-in-Ok-clause-made : goal.returns-in-Ok-clause-made
-returns-in-Ok-clause-made g c = λ files told.
+returns-in-Ok-clause-made g c = λ files reported.
     let comes = is-task c.args.words.now files c.in-Ok.task c.into_engine.result _ _ c.command_of.ensures.value c.in-Some.is
-    c.into_engine.ensures (c.in-Ok.ensures.task files told) in
+    c.into_engine.ensures (c.in-Ok.ensures.task files reported) in
     inr (task-leaves (codes_of c.into_engine.result) c.args.words.now files c.in-Ok.task c.into_engine.result comes
     c.codes_are_the_operations.ensures c.into_engine.ensures)
 
@@ -52,15 +52,15 @@ returns-in-Ok-clause-lines g c =
     rw c.number-in-Ok.ensures (c.perform-status.ensures.lines f all)
 
 pub returns-in_default-clause-spends : goal.returns-in_default-clause-spends
-returns-in_default-clause-spends g c = λ files told few. absurd (omega (arith, c.number.ensures, few))
+returns-in_default-clause-spends g c = λ files reported few. absurd (omega (arith, c.number.ensures, few))
 
 pub returns-in-Ok-clause-spends : goal.returns-in-Ok-clause-spends
-returns-in-Ok-clause-spends g c = λ files told few input is.
+returns-in-Ok-clause-spends g c = λ files reported few input is.
     let (f, all) = c.lines_are_answered.ensures in (
       c.in-Ok.task,
       f,
       is-task c.args.words.now files c.in-Ok.task c.into_engine.result _ _ c.command_of.ensures.value c.in-Some.is
-          c.into_engine.ensures (c.in-Ok.ensures.task files told),
+          c.into_engine.ensures (c.in-Ok.ensures.task files reported),
       all,
       spends-for c.in-Ok.task.lines _ _ _ _ _ c.in-Ok.ensures.buffer c.perform-status.ensures.passes
           (rw c.number-in-Ok.ensures at few) input is,

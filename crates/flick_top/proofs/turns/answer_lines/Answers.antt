@@ -43,7 +43,7 @@ turns-preserved g c =
       knows_end = c.next.ensures.knows_end c.turns.invariant.knows_end;
       fresh = c.in-Ok.ensures.fresh;
       within = c.in-Ok.ensures.within c.turns.invariant.fresh (λ e. absurd (cc e)) (λ e. absurd (cc e));
-      reads = c.turns.invariant.reads ∙ c.in-Ok.ensures.told (λ e. absurd (cc e));
+      reads = c.turns.invariant.reads ∙ c.in-Ok.ensures.reported (λ e. absurd (cc e));
       writes = c.turns.invariant.writes ∙ c.in_default-write_whole.ensures.cause.ok;
       spent = none_fell-trans _ _ _ c.turns.invariant.spent c.in-Ok-answer_to.ensures.spent;
     }
@@ -62,37 +62,37 @@ turns-preserved-in_default-write_whole g c =
       knows_end = c.next.ensures.knows_end c.turns.invariant.knows_end;
       fresh = c.in-Ok.ensures.fresh;
       within = c.in-Ok.ensures.within c.turns.invariant.fresh (λ e. absurd (cc e)) (λ e. absurd (cc e));
-      reads = c.turns.invariant.reads ∙ c.in-Ok.ensures.told (λ e. absurd (cc e));
+      reads = c.turns.invariant.reads ∙ c.in-Ok.ensures.reported (λ e. absurd (cc e));
       writes = c.turns.invariant.writes ∙ c.in_default-write_whole.ensures.cause.ok;
       spent = none_fell-trans _ _ _ c.turns.invariant.spent c.in-Ok-answer_to.ensures.spent;
     }
 
-pub returns-in-Err-clause-front : goal.returns-in-Err-clause-front
-returns-in-Err-clause-front g c = λ f all octets told.
+pub returns-in-Err-clause-prefix : goal.returns-in-Err-clause-prefix
+returns-in-Err-clause-prefix g c = λ f all octets reported.
     let (ls, advances, written, passes) = c.turns.invariant.answered in
-    front-answers octets _ _ c.new-lines.result _ ls f _ _ _ _ c.new-lines.ensures told advances c.turns.invariant.knows_end
+    front-answers octets _ _ c.new-lines.result _ ls f _ _ _ _ c.new-lines.ensures reported advances c.turns.invariant.knows_end
     (written f all).0
 
-pub returns-then-is_end-clause-front : goal.returns-then-is_end-clause-front
-returns-then-is_end-clause-front g c = λ f all octets told.
+pub returns-then-is_end-clause-prefix : goal.returns-then-is_end-clause-prefix
+returns-then-is_end-clause-prefix g c = λ f all octets reported.
     let (ls, advances, written, passes) = c.turns.invariant.answered in
-    front-answers octets _ _ c.new-lines.result _ ls f _ _ _ _ c.new-lines.ensures told advances c.turns.invariant.knows_end
+    front-answers octets _ _ c.new-lines.result _ ls f _ _ _ _ c.new-lines.ensures reported advances c.turns.invariant.knows_end
     (written f all).0
 
-pub returns-in_default-clause-front : goal.returns-in_default-clause-front
-returns-in_default-clause-front g c = λ f all octets told.
+pub returns-in_default-clause-prefix : goal.returns-in_default-clause-prefix
+returns-in_default-clause-prefix g c = λ f all octets reported.
     let (ls, advances, written, passes) = c.turns.invariant.answered in
-    front-answers octets _ _ c.new-lines.result _ ls f _ _ _ _ c.new-lines.ensures told advances c.turns.invariant.knows_end
+    front-answers octets _ _ c.new-lines.result _ ls f _ _ _ _ c.new-lines.ensures reported advances c.turns.invariant.knows_end
     (written f all).0
 
-pub returns-in-Err-write_whole-clause-front : goal.returns-in-Err-write_whole-clause-front
-returns-in-Err-write_whole-clause-front g c = λ f all octets told.
+pub returns-in-Err-write_whole-clause-prefix : goal.returns-in-Err-write_whole-clause-prefix
+returns-in-Err-write_whole-clause-prefix g c = λ f all octets reported.
     let (ls, advances, written, passes) = c.turns.invariant.answered in
     let is_line : c.in-Ok.line ≡ End → ⊥ = c.is_end.ensures.line c.if-is_end.false in
     let turn = rw (answered-line c.in-Ok.line is_line) at c.in-Ok.ensures.lines in
     let same = one_answer c.args.job.now c.in-Ok.line _ (f c.in-Ok.line) c.in-Ok-answer_to.ensures.value (all c.in-Ok.line) in
     let part = rw (c.as_slice-in-turns.ensures, same) at c.in-Err-write_whole.ensures.err in
-    front-failed octets _ _ _ c.new-lines.result _ _ ls c.in-Ok.line f _ _ _ _ _ c.new-lines.ensures told advances turn
+    front-failed octets _ _ _ c.new-lines.result _ _ ls c.in-Ok.line f _ _ _ _ _ c.new-lines.ensures reported advances turn
     (c.next.ensures.knows_end c.turns.invariant.knows_end) (written f all).0 part
 
 pub returns-in-Err-clause-more : goal.returns-in-Err-clause-more
@@ -123,28 +123,28 @@ returns-in-Err-write_whole-clause-at_most g c = λ six.
     took-at_most-next _ _ _ c.new-lines.result _ _ ls _ _ _ c.new-lines.ensures advances c.in-Ok.ensures.lines within
 
 pub returns-in-Err-clause-ended : goal.returns-in-Err-clause-ended
-returns-in-Err-clause-ended g c = λ f all four octets told.
+returns-in-Err-clause-ended g c = λ f all four octets reported.
     let (ls, advances, written, passes) = c.turns.invariant.answered in
     let error : c.in-Err.error ≡ Failed = failed-of c.in-Err.error (omega (arith, ap number_of c.status_at.ensures, four)) in
     let failed = c.next.ensures.failed c.turns.invariant.fresh (c.in-Err.is ∙ ap Err error) in
     wrote-ended _ _ _ c.new-lines.result _ _ ls f _ _ _ _ c.new-lines.ensures advances c.in-Err.ensures.lines failed.1 failed.2
     (written f all).0
 
-pub returns-in-Err-clause-source_told : goal.returns-in-Err-clause-source_told
-returns-in-Err-clause-source_told g c = λ other.
+pub returns-in-Err-clause-source_reported : goal.returns-in-Err-clause-source_reported
+returns-in-Err-clause-source_reported g c = λ other.
     let read : c.next.result ≡ Err Failed → ⊥ = λ e.
     let error : c.in-Err.error ≡ Failed = cc (e, c.in-Err.is) in
     other (ap number_of c.status_at.ensures ∙ ap (λ (x : LineErr). number_of (status_at x)) error) in
-    c.turns.invariant.reads ∙ c.next.ensures.told read
+    c.turns.invariant.reads ∙ c.next.ensures.reported read
 
-pub returns-then-is_end-clause-source_told : goal.returns-then-is_end-clause-source_told
-returns-then-is_end-clause-source_told g c = λ other. c.turns.invariant.reads ∙ c.in-Ok.ensures.told (λ e. absurd (cc e))
+pub returns-then-is_end-clause-source_reported : goal.returns-then-is_end-clause-source_reported
+returns-then-is_end-clause-source_reported g c = λ other. c.turns.invariant.reads ∙ c.in-Ok.ensures.reported (λ e. absurd (cc e))
 
-pub returns-in_default-clause-source_told : goal.returns-in_default-clause-source_told
-returns-in_default-clause-source_told g c = λ other. c.turns.invariant.reads ∙ c.in-Ok.ensures.told (λ e. absurd (cc e))
+pub returns-in_default-clause-source_reported : goal.returns-in_default-clause-source_reported
+returns-in_default-clause-source_reported g c = λ other. c.turns.invariant.reads ∙ c.in-Ok.ensures.reported (λ e. absurd (cc e))
 
-pub returns-in-Err-write_whole-clause-source_told : goal.returns-in-Err-write_whole-clause-source_told
-returns-in-Err-write_whole-clause-source_told g c = λ other. c.turns.invariant.reads ∙ c.in-Ok.ensures.told (λ e. absurd (cc e))
+pub returns-in-Err-write_whole-clause-source_reported : goal.returns-in-Err-write_whole-clause-source_reported
+returns-in-Err-write_whole-clause-source_reported g c = λ other. c.turns.invariant.reads ∙ c.in-Ok.ensures.reported (λ e. absurd (cc e))
 
 pub returns-in-Err-clause-lines : goal.returns-in-Err-clause-lines
 returns-in-Err-clause-lines g c = λ f all other.
@@ -197,8 +197,8 @@ pub returns-in-Err-clause-passes : goal.returns-in-Err-clause-passes
 returns-in-Err-clause-passes g c = λ few. absurd (over-one c.in-Err.error (omega (arith, ap number_of c.status_at.ensures, few)))
 
 pub returns-then-is_end-clause-passes : goal.returns-then-is_end-clause-passes
-returns-then-is_end-clause-passes g c = λ few octets told.
+returns-then-is_end-clause-passes g c = λ few octets reported.
     let (ls, advances, written, passes) = c.turns.invariant.answered in
     let end : c.in-Ok.line ≡ End = c.is_end.ensures.end c.if-is_end.true in
-    passes-all c.args.job.now octets _ _ _ c.new-lines.result _ _ ls _ _ c.in-Ok.line _ _ c.new-lines.ensures told advances
+    passes-all c.args.job.now octets _ _ _ c.new-lines.result _ _ ls _ _ c.in-Ok.line _ _ c.new-lines.ensures reported advances
     c.in-Ok.ensures.lines end (c.next.ensures.knows_end c.turns.invariant.knows_end) (c.in-Ok.ensures.end (ap Ok end)) passes

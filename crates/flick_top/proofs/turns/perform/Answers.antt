@@ -3,14 +3,14 @@ use Rattle.flick_top.proofs.Passing.{passes-of, passes-other}
 use Rattle.flick_top.proofs.Tasking.{answers-of, front-after, ended-after, whole-after, front-broken}
 use Rattle.flick_top.proofs.turns.perform.Goals as goal
 
-pub returns-in-Err-clause-front : goal.returns-in-Err-clause-front
-returns-in-Err-clause-front g c = λ f all. front-broken c.args.task.now f _ _ _ (rw c.as_slice.ensures at c.in-Err.ensures.err)
+pub returns-in-Err-clause-prefix : goal.returns-in-Err-clause-prefix
+returns-in-Err-clause-prefix g c = λ f all. front-broken c.args.task.now f _ _ _ (rw c.as_slice.ensures at c.in-Err.ensures.err)
 
-pub returns-in-Some-clause-front : goal.returns-in-Some-clause-front
-returns-in-Some-clause-front g c = λ f all.
+pub returns-in-Some-clause-prefix : goal.returns-in-Some-clause-prefix
+returns-in-Some-clause-prefix g c = λ f all.
     let text = rw c.as_slice.ensures at c.in_default.ensures.ok in
     front-after c.args.task.now c.in-Some.job f _ _ _ _ c.in-Some.is text
-    (c.answer_lines.ensures.front f (answers-of _ _ f c.in-Some.is all))
+    (c.answer_lines.ensures.prefix f (answers-of _ _ f c.in-Some.is all))
 
 pub returns-in-Some-clause-ended : goal.returns-in-Some-clause-ended
 returns-in-Some-clause-ended g c = λ f all.

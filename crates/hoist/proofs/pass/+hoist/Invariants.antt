@@ -3,7 +3,7 @@ use Rattle.std.proofs.Math.ListN.{take}
 use Rattle.mint.specs.Types.{type_at, unfolded}
 use Rattle.cast_stub.specs.Block.{code_seen}
 use Rattle.hoist.specs.Hoisted.{hoisted}
-use Rattle.hoist.specs.Seen.{AreHoisted, behind, span_roles}
+use Rattle.hoist.specs.Seen.{AreHoisted, after, span_roles}
 use Rattle.hoist.proofs.pass.+hoist.Given as goal
 
 abbrev pub decreases-hoist_ops : goal.decreases-hoist_ops
@@ -32,7 +32,7 @@ decreases-hoist_last l = 8 * l.id + 3
 
 abbrev pub invariant-hoist_ops-loop-i : goal.invariant-hoist_ops-loop-i
 invariant-hoist_ops-loop-i l = hoisted (span_roles l.classes.enc) (type_at l.mint l.id) (code_seen (drop l.i l.list))
-    ≡ behind l.back.items l.ahead
+    ≡ after l.back.items l.ahead
 
 abbrev pub invariant-hoist_cases-loop-i : goal.invariant-hoist_cases-loop-i
 invariant-hoist_cases-loop-i l = AreHoisted l.fn.classes.enc (unfolded l.mint) (take l.i l.arms) (take l.i l.cases) l.bodies

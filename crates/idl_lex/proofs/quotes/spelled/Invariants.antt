@@ -4,4 +4,4 @@ use Rattle.idl_lex.specs.Quotes.{spelled}
 use Rattle.idl_lex.proofs.quotes.spelled.Given as goal
 
 abbrev pub invariant-octets : goal.invariant-octets
-invariant-octets l = spelled false l.body ≡ l.codes ++ spelled l.behind_backslash (drop l.octet-index l.body)
+invariant-octets l = spelled false l.body ≡ l.codes ++ spelled l.after_backslash (drop l.octet-index l.body)

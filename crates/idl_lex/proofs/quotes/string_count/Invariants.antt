@@ -5,4 +5,4 @@ use Rattle.idl_lex.specs.Quotes.{string_count}
 use Rattle.idl_lex.proofs.quotes.string_count.Given as goal
 
 abbrev pub invariant-octets : goal.invariant-octets
-invariant-octets l = string_count false l.text ≡ option_map (λ n. l.i + n) (string_count l.behind_backslash (drop l.i l.text))
+invariant-octets l = string_count false l.text ≡ option_map (λ n. l.i + n) (string_count l.after_backslash (drop l.i l.text))

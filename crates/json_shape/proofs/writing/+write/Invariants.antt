@@ -3,7 +3,7 @@ use Rattle.mint.specs.Values.{all_seen}
 use Rattle.pres.specs.Faces.{faces, face_at, parts_at}
 use Rattle.serde_json.specs.View.{items_view, members_view}
 use Rattle.json_shape.specs.Written.{json_of, items_json, in_order_json, by_name_json}
-use Rattle.json_shape.proofs.Items.{behind_items}
+use Rattle.json_shape.proofs.Items.{after_items}
 use Rattle.json_shape.proofs.writing.+write.Given as goal
 
 abbrev pub decreases-json : goal.decreases-json
@@ -40,11 +40,11 @@ decreases-by_name-loop-i l = l.i
 abbrev pub invariant-in_order-loop-i : goal.invariant-in_order-loop-i
 invariant-in_order-loop-i l =
     let fs = faces l.bound.nodes l.bound.shapes in
-    behind_items (items_view l.list.items) (in_order_json (parts_at fs [] (drop l.i l.fn.ids)) (all_seen (drop l.i l.fn.values))) ≡
+    after_items (items_view l.list.items) (in_order_json (parts_at fs [] (drop l.i l.fn.ids)) (all_seen (drop l.i l.fn.values))) ≡
     in_order_json (parts_at fs [] l.fn.ids) (all_seen l.fn.values)
 
 abbrev pub invariant-items-loop-value : goal.invariant-items-loop-value
 invariant-items-loop-value l =
     let one = json_of (face_at l.bound.nodes l.bound.shapes l.item) in
-    behind_items (items_view l.list.items) (items_json one (all_seen (drop l.value-index l.fn.values))) ≡ items_json one
+    after_items (items_view l.list.items) (items_json one (all_seen (drop l.value-index l.fn.values))) ≡ items_json one
     (all_seen l.fn.values)

@@ -4,8 +4,8 @@ use Rattle.std.specs.Io.KnownBytes.{Appends}
 use Rattle.std.proofs.KnownBytes.{Appends-trans, Appends-nil, Appends-kept}
 use Rattle.kit_base.proofs.outside.write_whole.Goals as goal
 
-moves_front : (all done rest : List ℕ) (n : ℕ) → all ≡ done ++ rest → all ≡ (done ++ take n rest) ++ take (length rest - n) (drop n rest)
-moves_front all done rest n e =
+moves_prefix : (all done rest : List ℕ) (n : ℕ) → all ≡ done ++ rest → all ≡ (done ++ take n rest) ++ take (length rest - n) (drop n rest)
+moves_prefix all done rest n e =
     e ∙ ap (λ l. done ++ l) (sym (take-append-drop n rest))
     ∙ sym (append_assoc done (take n rest) (drop n rest)) ∙ ap (λ l. (done ++ take n rest) ++ l) (sym (take_rest rest n))
 
@@ -23,7 +23,7 @@ loop-rest-preserved g c =
     let rest = c.loop-rest.rest.now in
     let n = c.in-Ok.count in
     record {
-      appended = (done ++ take n rest, moves_front _ done rest n split, Appends-trans _ _ _ _ _ appended c.in-Ok.ensures.bytes);
+      appended = (done ++ take n rest, moves_prefix _ done rest n split, Appends-trans _ _ _ _ _ appended c.in-Ok.ensures.bytes);
       stands = c.loop-rest.invariant.stands ∙ c.in-Ok.ensures.cause.ok;
     }
 

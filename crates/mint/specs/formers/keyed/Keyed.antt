@@ -21,7 +21,7 @@ use Rattle.std.specs.Prelude.{int_lt}
 use Rattle.std.specs.declared.alloc.Global.{Global}
 use Rattle.std.specs.contracts.alloc.Global as heap
 use Rattle.std.specs.contracts.impls.GlobalAllocator.TheImpl.{ghosts}
-use Rattle.mint.specs.Keyed.{Rise, IsTold}
+use Rattle.mint.specs.Keyed.{Rise, IsMark}
 use Rattle.mint.specs.declared.keyed.Keyed.TheInside.{Inside}
 use Rattle.mint.specs.declared.keyed.Keyed.TheView.{view, invariant}
 use Rattle.mint.specs.contracts.keyed.Keyed as C
@@ -63,8 +63,8 @@ Rise-prop : (ns : List ℤ) → IsProp (Rise ns)
 Rise-prop [] = Unit-prop
 Rise-prop (n ∷ ns) = ×_prop (All-prop n ns) (Rise-prop ns)
 
-told : (b : Bool) (ns : List ℤ) → IsProp (IsTold b ns)
-told b ns = →_prop (Rise-prop ns)
+mark : (b : Bool) (ns : List ℤ) → IsProp (IsMark b ns)
+mark b ns = →_prop (Rise-prop ns)
 
 numbers_stay : {X Y : Type 0} (h : X → Y) (es : List (ℤ × X)) → map (λ (e : ℤ × Y). e.0) (map (on_entry h) es) ≡ map (λ (e : ℤ × X). e.0) es
 numbers_stay h [] = refl
@@ -78,8 +78,8 @@ module _ (R S : RattleType) (h : R.Denot → S.Denot) where
   pub the_places : Alike R S h → Alike (C.the_row R) (C.the_row S) ((the_former this).map R.Denot S.Denot h)
   the_places a = view_places fields (the_former this) view (λ X Y k u. refl) (λ X u. refl) R.Denot S.Denot h
       (C.the_row R).coded (C.the_row S).coded
-      (invariant R.Denot) (invariant S.Denot) (λ u. told u.rising _) (λ u. told u.rising _)
-      (λ u. subst (IsTold u.rising) (sym (numbers_stay h u.entries.items))) (λ u. subst (IsTold u.rising) (numbers_stay h u.entries.items))
+      (invariant R.Denot) (invariant S.Denot) (λ u. mark u.rising _) (λ u. mark u.rising _)
+      (λ u. subst (IsMark u.rising) (sym (numbers_stay h u.entries.items))) (λ u. subst (IsMark u.rising) (numbers_stay h u.entries.items))
       (over (I.the_row R)) (over (I.the_row S))
       (struct_places (I.the_type R) (I.the_type S) (vec.mapped (on_entry h), (λ b. b, tt)) _ (λ d. refl) refl (
         laid _ _ _ (vec.the_places heap.the_row ghosts (Tuple (i128 ∷ R ∷ [])) (Tuple (i128 ∷ S ∷ [])) (on_entry h) (entry_places a)),

@@ -4,7 +4,7 @@ use Rattle.mint.specs.Types.{type_at, unfolded, fields_at}
 use Rattle.wire_def.specs.Grammar.{times, map_got}
 use Rattle.wire_def.specs.Reading.{read, read_fields}
 use Rattle.mint.proofs.Seen.{joined}
-use Rattle.plain_wire.proofs.Reading.{with_front}
+use Rattle.plain_wire.proofs.Reading.{with_prefix}
 use Rattle.plain_wire.proofs.read.+read.Given as goal
 
 abbrev pub decreases-value : goal.decreases-value
@@ -32,5 +32,5 @@ invariant-fields-loop-field l = map_got (joined (all_seen l.values))
 
 abbrev pub invariant-each-loop-i : goal.invariant-each-loop-i
 invariant-each-loop-i l =
-    with_front (map seen l.values) (times (read l.enc (type_at l.mint l.item)) (l.n - l._i) l.at.place l.at.rest.now)
+    with_prefix (map seen l.values) (times (read l.enc (type_at l.mint l.item)) (l.n - l._i) l.at.place l.at.rest.now)
     ≡ times (read l.enc (type_at l.mint l.item)) l.n l.fn.at.place l.fn.at.rest.now

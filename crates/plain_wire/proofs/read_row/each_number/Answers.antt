@@ -17,5 +17,5 @@ loop-i-preserved c =
     let pushed = simp (to_z-of_z, fits) at c.in_ok-push.ensures.ok in
     record {
       kind = ap (λ (r : Numbers). r.kind) pushed ∙ c.loop-i.invariant.kind;
-      told = rw (ap (λ (r : Numbers). r.numbers) pushed) (sym step ∙ rw more at c.loop-i.invariant.told);
+      reported = rw (ap (λ (r : Numbers). r.numbers) pushed) (sym step ∙ rw more at c.loop-i.invariant.reported);
     }

@@ -20,12 +20,12 @@ loop-rest-preserved c =
     let split = numbers_piece k n rest c.requires.width even (omega arith) in
     record {
       kind = ap (λ (r : Numbers). r.kind) new;
-      told =
+      reported =
           ap (λ (r : Numbers). r.numbers ++ numbers_of k (swapped (width k) c.split_at.result.1.now)) new
           ∙ ap (λ z.
           (c.loop-rest.row.numbers ++ numbers_of k (swapped (width k) (take n rest))) ++ numbers_of k (swapped (width k) z))
           c.split_at.ensures.back
-          ∙ append_assoc c.loop-rest.row.numbers _ _ ∙ ap (λ z. c.loop-rest.row.numbers ++ z) (sym split) ∙ c.loop-rest.invariant.told;
+          ∙ append_assoc c.loop-rest.row.numbers _ _ ∙ ap (λ z. c.loop-rest.row.numbers ++ z) (sym split) ∙ c.loop-rest.invariant.reported;
       whole = rw c.split_at.ensures.back whole;
     }
 
@@ -36,5 +36,5 @@ returns c =
     let end = sym (append-nil c.loop-rest.row.numbers)
     ∙ ap (λ z.
     c.loop-rest.row.numbers ++ z) (sym (numbers-none k) ∙ ap (numbers_of k) (sym (swapped-none (width k) c.requires.width))
-    ∙ ap (λ z. numbers_of k (swapped (width k) z)) (sym none)) ∙ c.loop-rest.invariant.told in
+    ∙ ap (λ z. numbers_of k (swapped (width k) z)) (sym none)) ∙ c.loop-rest.invariant.reported in
     same_row c.loop-rest.row c.args.kind _ c.loop-rest.invariant.kind end

@@ -7,7 +7,7 @@ use Rattle.plain_wire.proofs.read_row.row_of_swapped.Given as goal
 abbrev pub invariant-loop-rest : goal.invariant-loop-rest
 invariant-loop-rest l = record {
   kind : l.row.kind ≡ l.kind;
-  told : l.row.numbers ++ numbers_of l.kind (swapped (width l.kind) l.rest) ≡ numbers_of l.kind (swapped (width l.kind) l.octets);
+  reported : l.row.numbers ++ numbers_of l.kind (swapped (width l.kind) l.rest) ≡ numbers_of l.kind (swapped (width l.kind) l.octets);
   whole : length l.rest % width l.kind ≡ 0;
 }
 

@@ -32,7 +32,7 @@ decreases-put_present l = l.id + l.id + l.id
 
 pub record FieldsLeft (e : Encoding) (T : List Node) (ids : List ℕ) (values : List Value) (old new : List ℕ) (place at i : ℕ) : Type 0 where
   pub typed : AreOf (fields_at (unfolded T) (drop i ids)) (all_seen (drop i values))
-  pub told : old ++ send_fields e (fields_at (unfolded T) ids) place (all_seen values)
+  pub reported : old ++ send_fields e (fields_at (unfolded T) ids) place (all_seen values)
       ≡ new ++ send_fields e (fields_at (unfolded T) (drop i ids)) at (all_seen (drop i values))
   pub placed : at + length old ≡ place + length new
   pub grown : length old ≤ length new
@@ -42,7 +42,7 @@ invariant-put_fields-loop-i l = FieldsLeft l.enc l.mint l.ids l.values l.fn.out 
 
 pub record EachLeft (e : Encoding) (T : List Node) (item : ℕ) (values : List Value) (old new : List ℕ) (place at i : ℕ) : Type 0 where
   pub typed : Each (IsOf (type_at T item)) (all_seen (drop i values))
-  pub told : old ++ send_each (send e (type_at T item)) place (all_seen values)
+  pub reported : old ++ send_each (send e (type_at T item)) place (all_seen values)
       ≡ new ++ send_each (send e (type_at T item)) at (all_seen (drop i values))
   pub placed : at + length old ≡ place + length new
   pub grown : length old ≤ length new

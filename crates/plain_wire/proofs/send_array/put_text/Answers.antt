@@ -3,7 +3,7 @@ use Rattle.plain_wire.proofs.Steps.{breaks}
 use Rattle.plain_wire.proofs.Arrays.{array_in_full}
 use Rattle.plain_wire.proofs.send_array.put_text.Goals as goal
 
-pub returns-in_err-behind : goal.returns-in_err-behind
-returns-in_err-behind c =
-    rw (array_in_full, ← c.len.ensures) (breaks c.from_residual.result c.in_err-behind.field-0.0 c.args.out.now c.args.out.now
-    c.put_text_head.new.out _ _ _ c.args.place c.args.place c.from_residual.ensures.0 refl (omega arith) c.in_err-behind.ensures)
+pub returns-in_err-after : goal.returns-in_err-after
+returns-in_err-after c =
+    rw (array_in_full, ← c.len.ensures) (breaks c.from_residual.result c.in_err-after.field-0.0 c.args.out.now c.args.out.now
+    c.put_text_head.new.out _ _ _ c.args.place c.args.place c.from_residual.ensures.0 refl (omega arith) c.in_err-after.ensures)

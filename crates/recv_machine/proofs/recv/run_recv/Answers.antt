@@ -1,12 +1,12 @@
 use Rattle.std.proofs.Common.{ap, drop}
 use Rattle.mint.specs.Types.{type_at}
-use Rattle.cast_stub.specs.Got.{told}
+use Rattle.cast_stub.specs.Got.{reported}
 use Rattle.recv_machine.specs.Ran.{place_of}
 use Rattle.recv_machine.proofs.Running.{whole_is, exactly}
 use Rattle.recv_machine.proofs.recv.run_recv.Goals as goal
 
 pub returns-in-Ok-clause-got : goal.returns-in-Ok-clause-got
-returns-in-Ok-clause-got c = ap told (whole_is c.args.code.now (type_at c.args.mint.now c.args.id) (place_of c.args.view.now) _ _
+returns-in-Ok-clause-got c = ap reported (whole_is c.args.code.now (type_at c.args.mint.now c.args.id) (place_of c.args.view.now) _ _
     c.deepest_call.ensures c.in-Ok.ensures.done)
 
 pub returns-in-Ok-clause-exact : goal.returns-in-Ok-clause-exact

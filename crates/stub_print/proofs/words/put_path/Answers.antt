@@ -2,7 +2,7 @@ use Rattle.std.proofs.Common.{◌++◌, ◌∷◌, ap, sym, ◌∙◌, arith}
 use Rattle.std.proofs.lemmas.Result.{on_ok_weaker}
 use Rattle.stub_print.specs.Words.{points}
 use Rattle.stub_print.proofs.Putting.{appended_after}
-use Rattle.stub_print.proofs.Told.{path_alone, path_points}
+use Rattle.stub_print.proofs.Read.{path_alone, path_points}
 use Rattle.stub_print.proofs.words.put_path.Goals as goal
 
 pub returns-then-len-eq0 : goal.returns-then-len-eq0

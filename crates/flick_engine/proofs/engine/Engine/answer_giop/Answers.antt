@@ -1,7 +1,7 @@
 use Rattle.std.proofs.Common.{◌∙◌, inl, inr, ap, refl, Bool, List, ℕ, Some}
-use Rattle.giop_head.specs.Told.{call_seen, requested, sought}
+use Rattle.giop_head.specs.Reported.{call_seen, requested, sought}
 use Rattle.flick_engine.specs.Refusals.{locate_octets}
-use Rattle.flick_engine.proofs.Replying.{passed_over, told_wrong}
+use Rattle.flick_engine.proofs.Replying.{passed_over, reported_wrong}
 use Rattle.flick_engine.proofs.Searching.{not_a_request}
 use Rattle.flick_engine.proofs.engine.Engine.answer_giop.Goals as goal
 
@@ -32,6 +32,6 @@ returns-in_ok-put_locate_reply-in-Ok-Locate-clause-serves c =
 pub returns-in_ok-put_message_error-in-Err-clause-serves : goal.returns-in_ok-put_message_error-in-Err-clause-serves
 returns-in_ok-put_message_error-in-Err-clause-serves c =
     let stops = (c.in-Err.ensures.stops c.in-Err.fault).0 refl in
-    let wrong = told_wrong c.args.order c.args.message.now c.in-Err.fault c.is_passed_over.result c.is_passed_over.ensures _
+    let wrong = reported_wrong c.args.order c.args.message.now c.in-Err.fault c.is_passed_over.result c.is_passed_over.ensures _
     c.if-is_passed_over.false c.in_ok-put_message_error-in-Err.ensures.ok in
     inr (c.in-Err.fault, stops, wrong)

@@ -4,7 +4,7 @@ use Rattle.pres.specs.Bindings.{Binding, IsBinding}
 use Rattle.pres.specs.Offers.{type_faces}
 use Rattle.flick_engine.specs.Replies.{IsChoice}
 use Rattle.flick_engine.proofs.Arming.{reply_choice}
-use Rattle.flick_engine.proofs.ArmsTold.{told_arm}
+use Rattle.flick_engine.proofs.ArmsReported.{reported_arm}
 use Rattle.op_codes.proofs.ReplyTypes.{are_the_replies}
 use Rattle.flick_engine.proofs.engine.Engine.replies_tell_arms.Goals as goal
 
@@ -15,7 +15,7 @@ returns-clause-choice c =
     let (i, p, is, same) = are_the_replies b c.args.op stands c.requires.op in
     subst (λ (t : Ty). IsChoice t) (sym same) (reply_choice (type_faces b.unit) p)
 
-pub returns-clause-told : goal.returns-clause-told
-returns-clause-told c =
+pub returns-clause-reported : goal.returns-clause-reported
+returns-clause-reported c =
     let stands = subst (λ (x : Binding). IsBinding x) c.bound.ensures.value c.ops-ops.ensures.stands in
-    told_arm c.args.self.now.binding c.args.op stands c.requires.op
+    reported_arm c.args.self.now.binding c.args.op stands c.requires.op

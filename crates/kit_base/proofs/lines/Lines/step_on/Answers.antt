@@ -37,7 +37,7 @@ loop-self-preserved g c =
             c.refill.ensures.same.2 unended,
       ));
       knows_end = λ h. c.in_default.ensures.end;
-      stands = c.loop-self.invariant.stands ∙ c.in_default.ensures.told (λ e. absurd (cc e));
+      stands = c.loop-self.invariant.stands ∙ c.in_default.ensures.reported (λ e. absurd (cc e));
       fewer =
           omega (
             arith,

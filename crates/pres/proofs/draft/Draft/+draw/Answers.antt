@@ -4,10 +4,10 @@ use Rattle.aoi.specs.declared.types.Ty.{the_lemmas}
 use Rattle.aoi.specs.Shapes as aoi
 use Rattle.aoi.proofs.Seen.{choice_seen}
 use Rattle.pres.specs.Faces.{arms_at, choice}
-use Rattle.pres.specs.Made.{made_behind}
+use Rattle.pres.specs.Made.{made_after}
 use Rattle.pres.specs.Offers.{face_of, sign_in}
 use Rattle.pres.specs.Drafts.{drawn, known}
-use Rattle.pres.proofs.Drawn.{both, overflows_more, grows_twice, field_left, field_nodes, field_ids, members_by, names_each, arm_drawable, other_drawable, arms_drawable_alone, arm_nodes, arm_room, arm_on, behind_split, choice_arms, choice_nodes, made_split, node_behind, drawn_as, behind_overflows, next_overflows, last_overflows, on_ok, if_ok, if_err, handed_on}
+use Rattle.pres.proofs.Drawn.{both, overflows_more, grows_twice, field_left, field_nodes, field_ids, members_by, names_each, arm_drawable, other_drawable, arms_drawable_alone, arm_nodes, arm_room, arm_on, after_split, choice_arms, choice_nodes, made_split, node_after, drawn_as, after_overflows, next_overflows, last_overflows, on_ok, if_ok, if_err, handed_on}
 use Rattle.pres.proofs.draft.Draft.+draw.Goals as goal
 
 -- ---- fields
@@ -43,7 +43,7 @@ pub draw_struct-returns-clause-grows : goal.draw_struct-returns-clause-grows
 draw_struct-returns-clause-grows t c =
     let fs = known c.args.self.now in
     let same = members_by c.draw_fields.new.self fs _ _ (aoi.members c.args.fields.now) c.in_ok-ids.ensures.ids c.in_ok-names.ensures in
-    on_ok _ _ _ (node_behind _ _ _ _ _ _ same c.in_ok-ids.ensures.grows) c.push.ensures.grows
+    on_ok _ _ _ (node_after _ _ _ _ _ _ same c.in_ok-ids.ensures.grows) c.push.ensures.grows
 
 pub draw_struct-returns-clause-id : goal.draw_struct-returns-clause-id
 draw_struct-returns-clause-id t c =
@@ -109,11 +109,11 @@ draw-returns-in_err-other-in-Union-clause-cause t c =
     let o = option_map (λ b. aoi.seen b.value) c.in-Union.other in
     let e = c.in_err-other-in-Union.field-0.0 in
     let arms = c.in-Union.arms in
-    let rest = made_behind fs (aoi.arms_seen arms None) ++ face_of fs (aoi.choice (aoi.seen c.in-Union.tag.value) (aoi.arms_seen arms o))
+    let rest = made_after fs (aoi.arms_seen arms None) ++ face_of fs (aoi.choice (aoi.seen c.in-Union.tag.value) (aoi.arms_seen arms o))
     ∷ [] in
     let seen_is = ap aoi.seen c.in-Union.is ∙ choice_seen c.in-Union.tag arms c.in-Union.other in
     handed_on _ e _ c.from_residual.ensures.1
-    (rw seen_is (behind_overflows _ _ rest _ e (made_split fs o arms _) c.in_err-other-in-Union.ensures.cause))
+    (rw seen_is (after_overflows _ _ rest _ e (made_split fs o arms _) c.in_err-other-in-Union.ensures.cause))
 
 pub draw-returns-in_err-arms-in-Union-clause-cause : goal.draw-returns-in_err-arms-in-Union-clause-cause
 draw-returns-in_err-arms-in-Union-clause-cause t c =
@@ -149,7 +149,7 @@ draw-returns-in_ok-arms-in-Union-clause-grows t c =
     let g = c.in_ok-other-in-Union.ensures.grows in
     let h = rw (g.types, c.as_slice-in-Union.ensures) at c.in_ok-arms-in-Union.ensures.grows in
     let seen_is = ap aoi.seen c.in-Union.is ∙ choice_seen c.in-Union.tag c.in-Union.arms c.in-Union.other in
-    rw seen_is (on_ok _ _ _ (choice_nodes _ _ _ _ _ _ _ _ _ (behind_split fs o c.in-Union.arms) (choice_is t c) g h)
+    rw seen_is (on_ok _ _ _ (choice_nodes _ _ _ _ _ _ _ _ _ (after_split fs o c.in-Union.arms) (choice_is t c) g h)
     c.draw_choice.ensures.grows)
 
 pub draw-returns-in_ok-arms-in-Union-clause-id : goal.draw-returns-in_ok-arms-in-Union-clause-id
@@ -168,5 +168,5 @@ draw-returns-in_ok-arms-in-Union-clause-cause t c =
     let all =
     ap (λ z.
     z ++ face_of fs (aoi.choice (aoi.seen c.in-Union.tag.value) (aoi.arms_seen c.in-Union.arms o)) ∷ [])
-    (behind_split fs o c.in-Union.arms) in
+    (after_split fs o c.in-Union.arms) in
     rw seen_is (if_err _ _ _ (λ e h. last_overflows _ _ _ _ _ _ e all two.nodes h) c.draw_choice.ensures.cause)

@@ -2,7 +2,7 @@ use Rattle.std.proofs.Common.{◌≡◌, ◌-◌, ◌++◌, ◌<◌, map, drop, 
 use Rattle.std.specs.List.{AllByRecursion}
 use Rattle.aoi.specs.Shapes.{members, arms_seen}
 use Rattle.pres.specs.Faces.{at}
-use Rattle.pres.specs.Made.{made_inside, made_behind}
+use Rattle.pres.specs.Made.{made_inside, made_after}
 use Rattle.pres.specs.Offers.{arms_of}
 use Rattle.pres.specs.Drafts.{AreArms, drawn, known, are_drawable, faces_inside}
 use Rattle.pres.proofs.draft.Draft.+draw.Given as goal
@@ -23,6 +23,6 @@ invariant-draw_fields-loop-field l = record {
 abbrev pub invariant-draw_arms-loop-i : goal.invariant-draw_arms-loop-i
 invariant-draw_arms-loop-i l = record {
   same : known l.self ≡ known l.fn.self;
-  nodes : drawn l.self ≡ drawn l.fn.self ++ made_behind (known l.fn.self) (arms_seen (drop (length l.arms - l.i) l.arms) None);
+  nodes : drawn l.self ≡ drawn l.fn.self ++ made_after (known l.fn.self) (arms_seen (drop (length l.arms - l.i) l.arms) None);
   arms : AreArms l.self l.sorted.items None (arms_of (known l.fn.self) (arms_seen (drop (length l.arms - l.i) l.arms) None));
 }

@@ -4,7 +4,7 @@ use Rattle.pres.specs.Faces.{values, parts_at}
 use Rattle.pres.specs.Made.{made, made_inside}
 use Rattle.pres.specs.Offers.{answer_of}
 use Rattle.pres.specs.Drafts.{drawn, known, Grows}
-use Rattle.pres.proofs.Drawn.{grows_twice, node_behind, drawn_as, cause_last, on_ok, if_ok}
+use Rattle.pres.proofs.Drawn.{grows_twice, node_after, drawn_as, cause_last, on_ok, if_ok}
 use Rattle.pres.proofs.Exchange.{answer_by}
 use Rattle.pres.proofs.draft.Draft.draw_answer.Goals as goal
 
@@ -26,7 +26,7 @@ both_grow c =
     grows_twice _ _ _ _ _ g (rw (c.as_slice.ensures, g.types) at c.in_ok-outs.ensures.grows)
 
 pub returns-clause-grows : goal.returns-clause-grows
-returns-clause-grows c = on_ok _ _ _ (node_behind _ _ _ _ _ _ (answer_is c) (both_grow c)) c.push-2.ensures.grows
+returns-clause-grows c = on_ok _ _ _ (node_after _ _ _ _ _ _ (answer_is c) (both_grow c)) c.push-2.ensures.grows
 
 pub returns-clause-id : goal.returns-clause-id
 returns-clause-id c = if_ok _ _ _ (λ id. drawn_as _ id _ _ (answer_is c)) c.push-2.ensures.id

@@ -14,8 +14,8 @@ abbrev pub shared_head : ℕ → Head
 shared_head xid = record { id = xid; remote = 0; local = 0; wants = true; order = Big }
 
 -- the procedure that is called, by a head of so many octets
-abbrev pub call_told : Call → ℕ → OncCall
-call_told c used = record { head = shared_head c.xid; program = c.program; version = c.version; proc_no = c.procedure; used = used }
+abbrev pub call_reported : Call → ℕ → OncCall
+call_reported c used = record { head = shared_head c.xid; program = c.program; version = c.version; proc_no = c.procedure; used = used }
 
 -- the status, whether it was accepted or denied
 abbrev pub status_of : Fate → Status
@@ -23,13 +23,13 @@ status_of (accepted verf s) = s
 status_of (denied s) = s
 
 -- how a call fared, by a head of so many octets
-abbrev pub reply_told : Reply → ℕ → ReplyHead
-reply_told r used = record { head = shared_head r.xid; status = status_of r.fate; used = used }
+abbrev pub reply_reported : Reply → ℕ → ReplyHead
+reply_reported r used = record { head = shared_head r.xid; status = status_of r.fate; used = used }
 
 -- a message begins with the head of a call, of which this is reported
 abbrev pub BeginsCall : List ℕ → OncCall → Type 0
-BeginsCall message told = (c : Call) × (used : ℕ) × BeginsWith call message c used × (call_told c used ≡ told)
+BeginsCall message reported = (c : Call) × (used : ℕ) × BeginsWith call message c used × (call_reported c used ≡ reported)
 
 -- a message begins with the head of a reply, of which this is reported
 abbrev pub BeginsReply : List ℕ → ReplyHead → Type 0
-BeginsReply message told = (r : Reply) × (used : ℕ) × BeginsWith reply message r used × (reply_told r used ≡ told)
+BeginsReply message reported = (r : Reply) × (used : ℕ) × BeginsWith reply message r used × (reply_reported r used ≡ reported)

@@ -60,23 +60,23 @@ module _ (b : Binding) (op : ℕ) (i : PlainInterface) (p : PlainOperation) (o :
   where
     giop_few : (k : Back) → IsCdr k → slice_get (operations_in k b.unit.interfaces) op ≡ Some (i, p) → RepliesInOrder b op o t
         → n ≤ length p.raises
-    giop_few k cdr is (r, used, starts, told) =
-        let most = arm_few (target_of b op).ids r.fate n (ap (λ (x : Heard). x.fate) told ∙ arm) in
+    giop_few k cdr is (r, used, starts, reported) =
+        let most = arm_few (target_of b op).ids r.fate n (ap (λ (x : Heard). x.fate) reported ∙ arm) in
         omega (arith, most, many_ids k cdr b op i p is)
 
     few_over : (k : Back) → slice_get (operations_in k b.unit.interfaces) op ≡ Some (i, p) → RepliesOver k b op o t → n ≤ length p.raises
-    few_over back.Xdr is (r, starts, told) =
-        let none = arm_zero r.status n (ap (λ (x : Heard). x.fate) told ∙ arm) in
+    few_over back.Xdr is (r, starts, reported) =
+        let none = arm_zero r.status n (ap (λ (x : Heard). x.fate) reported ∙ arm) in
         omega (arith, none)
     few_over back.CdrBig is begins = giop_few back.CdrBig refl is begins
     few_over back.CdrLittle is begins = giop_few back.CdrLittle refl is begins
-    few_over back.Mach is (r, starts, told) =
-        let none = arm_zero r.status n (ap (λ (x : Heard). x.fate) told ∙ arm) in
+    few_over back.Mach is (r, starts, reported) =
+        let none = arm_zero r.status n (ap (λ (x : Heard). x.fate) reported ∙ arm) in
         omega (arith, none)
 
-pub told_arm : (b : Binding) (op : ℕ) → IsBinding b → op < length b.ops → (o : List ℕ) (t : Heard) (k : ℕ) → BeginsReply b op o t → t.fate
-    ≡ fates.Arm k → HasArm b op k
-told_arm b op stands h o t k begins arm =
+pub reported_arm : (b : Binding) (op : ℕ) → IsBinding b → op < length b.ops → (o : List ℕ) (t : Heard) (k : ℕ) → BeginsReply b op o t
+    → t.fate ≡ fates.Arm k → HasArm b op k
+reported_arm b op stands h o t k begins arm =
     let (i, p, is, same) = are_the_replies b op stands h in
     subst
     (λ (s : Ty).

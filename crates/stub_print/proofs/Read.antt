@@ -126,10 +126,10 @@ unsigned : (w : List ℕ) → AreDigits w → integer_of w ≡ pos (value 0 w)
 unsigned [] h = refl
 unsigned (c ∷ w) h = let no : eqb c 45 ≡ false = ne_eqb c 45 (λ e. omega (arith, h.0)) in rw no refl
 
-pub integer_told : (z : ℤ) → integer_of (integer z) ≡ z
+pub integer_read : (z : ℤ) → integer_of (integer z) ≡ z
 unfolding integer
-integer_told (pos n) = unsigned (numeral n) (numeral_digits n) ∙ ap pos (value_numeral n)
-integer_told (negsuc n) = ap minus (value_numeral (suc n))
+integer_read (pos n) = unsigned (numeral n) (numeral_digits n) ∙ ap pos (value_numeral n)
+integer_read (negsuc n) = ap minus (value_numeral (suc n))
 
 pub clean_integer : (z : ℤ) → IsClean (integer z)
 unfolding integer
@@ -169,16 +169,16 @@ pointed_some : (w ns : List ℕ) → 0 < length w → pointed (path w ns) ≡ pa
 pointed_some [] ns h = absurd (omega arith)
 pointed_some (c ∷ w) ns h = refl
 
-points_told : (ns : List ℕ) → path_in (points ns) ≡ path [] ns
-points_told [] = refl
-points_told (n ∷ ns) =
-    ap pointed (path_digits (numeral n) (points ns) ns (numeral_digits n) (points_told ns)) ∙ pointed_some (numeral n) ns (numeral_some n)
+points_read : (ns : List ℕ) → path_in (points ns) ≡ path [] ns
+points_read [] = refl
+points_read (n ∷ ns) =
+    ap pointed (path_digits (numeral n) (points ns) ns (numeral_digits n) (points_read ns)) ∙ pointed_some (numeral n) ns (numeral_some n)
     ∙ ap (λ m. path [] (m ∷ ns)) (value_numeral n)
 
-pub path_told : (p : List ℕ) → path_of (path_word p) ≡ p
+pub path_read : (p : List ℕ) → path_of (path_word p) ≡ p
 unfolding path_word path_of
-path_told [] = refl
-path_told (n ∷ ns) = ap numbers_in (points_told (n ∷ ns))
+path_read [] = refl
+path_read (n ∷ ns) = ap numbers_in (points_read (n ∷ ns))
 
 clean-append : (v w : List ℕ) → IsClean v → IsClean w → IsClean (v ++ w)
 clean-append [] w h k = k
@@ -211,9 +211,9 @@ path_points (n ∷ ns) h = refl
 abbrev pub order_of : List ℕ → Order
 order_of w = if same w (codes "be") then Big else Little
 
-pub order_told : (o : Order) → order_of (order_word o) ≡ o
-order_told Big = refl
-order_told Little = refl
+pub order_read : (o : Order) → order_of (order_word o) ≡ o
+order_read Big = refl
+order_read Little = refl
 
 pub clean_order : (o : Order) → IsClean (order_word o)
 clean_order Big = refl
@@ -241,22 +241,22 @@ low_in c l = ap (λ t. cond t (c - 48) (c - 87)) (lt-ltb c 58 l)
 high_in : (c : ℕ) → 58 ≤ c → digit_in c ≡ c - 87
 high_in c g = ap (λ t. cond t (c - 48) (c - 87)) (le-ltb c 58 g)
 
-digit_told : (d : ℕ) → digit_in (hex_digit d) ≡ d
-digit_told d = elim (below_or_not d 10) [
+digit_read : (d : ℕ) → digit_in (hex_digit d) ≡ d
+digit_read d = elim (below_or_not d 10) [
   | inl l ↦ ap digit_in (low_digit d l) ∙ low_in (48 + d) (omega arith) ∙ omega arith
   | inr g ↦ ap digit_in (high_digit d g) ∙ high_in (87 + d) (omega arith) ∙ omega arith
 ]
 
-octet_told : (o a b : ℕ) → a ≡ o / 16 → b ≡ o % 16 → a * 16 + b ≡ o
-octet_told o a b h k = omega arith
+octet_read : (o a b : ℕ) → a ≡ o / 16 → b ≡ o % 16 → a * 16 + b ≡ o
+octet_read o a b h k = omega arith
 
-pub hex_told : (os : List ℕ) → octets_of (hex os) ≡ os
-hex_told [] = refl
-hex_told (o ∷ os) =
+pub hex_read : (os : List ℕ) → octets_of (hex os) ≡ os
+hex_read [] = refl
+hex_read (o ∷ os) =
     ap (λ z.
-    z ∷ octets_of (hex os)) (octet_told o (digit_in (hex_digit (o / 16))) (digit_in (hex_digit (o % 16))) (digit_told (o / 16))
-    (digit_told (o % 16)))
-    ∙ ap (λ z. o ∷ z) (hex_told os)
+    z ∷ octets_of (hex os)) (octet_read o (digit_in (hex_digit (o / 16))) (digit_in (hex_digit (o % 16))) (digit_read (o / 16))
+    (digit_read (o % 16)))
+    ∙ ap (λ z. o ∷ z) (hex_read os)
 
 hex_digit_from : (d : ℕ) → 48 ≤ hex_digit d
 hex_digit_from d = elim (below_or_not d 10) [

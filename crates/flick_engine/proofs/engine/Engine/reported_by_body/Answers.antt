@@ -2,7 +2,7 @@ use Rattle.std.proofs.Common.{arith, refl}
 use Rattle.mint.specs.Values.{seen}
 use Rattle.flick_engine.proofs.Answering.{body_within, is_trailing, is_request}
 use Rattle.flick_engine.proofs.Deciding.{exactly}
-use Rattle.flick_engine.proofs.engine.Engine.told_by_body.Goals as goal
+use Rattle.flick_engine.proofs.engine.Engine.reported_by_body.Goals as goal
 
 pub overflow_add-end : goal.overflow_add-end
 overflow_add-end c =

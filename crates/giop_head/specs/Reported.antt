@@ -23,12 +23,12 @@ shared_head id wants order = record { id = id; remote = 0; local = 0; wants = wa
 -- ---- calls
 
 -- what is reported of a message that asks, with the octets of key and name
-pub data ToldCall : Type 0 where
-  requested : Head → List ℕ → List ℕ → ℕ → ToldCall
-  sought : ℕ → List ℕ → ToldCall
+pub data ReportedCall : Type 0 where
+  requested : Head → List ℕ → List ℕ → ℕ → ReportedCall
+  sought : ℕ → List ℕ → ReportedCall
 
 -- what is reported, with the octets in place of what is borrowed
-abbrev pub call_seen : GiopCall → ToldCall
+abbrev pub call_seen : GiopCall → ReportedCall
 call_seen (calls.Request head key name used) = requested head key.now name.now used
 call_seen (calls.Locate id key) = sought id key.now
 
@@ -41,30 +41,30 @@ abbrev pub search_seen : ℕ × Bor (List ℕ) → Search
 search_seen x = record { id = x.0; key = x.1.now }
 
 -- a request, by a head of so many octets, or a search
-abbrev pub call_told : Call → ℕ → ToldCall
-call_told (request r q) used = requested (shared_head q.id q.wants r) q.key q.name used
-call_told (search_for r s) used = sought s.id s.key
+abbrev pub call_reported : Call → ℕ → ReportedCall
+call_reported (request r q) used = requested (shared_head q.id q.wants r) q.key q.name used
+call_reported (search_for r s) used = sought s.id s.key
 
 -- a message begins with the head of a call, of which this is reported
-abbrev pub BeginsCall : List ℕ → ToldCall → Type 0
-BeginsCall message told = (c : Call) × (used : ℕ) × BeginsWith Asks message c used × (call_told c used ≡ told)
+abbrev pub BeginsCall : List ℕ → ReportedCall → Type 0
+BeginsCall message reported = (c : Call) × (used : ℕ) × BeginsWith Asks message c used × (call_reported c used ≡ reported)
 
 -- ---- requests alone
 
 -- what is reported of a request, with the octets of key and name
-pub record ToldRequest : Type 0 where
+pub record ReportedRequest : Type 0 where
   pub head : Head
   pub key : List ℕ
   pub name : List ℕ
   pub used : ℕ
 
 -- the same of a request
-abbrev pub request_seen : GiopRequest → ToldRequest
+abbrev pub request_seen : GiopRequest → ReportedRequest
 request_seen r = record { head = r.head; key = r.key.now; name = r.name.now; used = r.used }
 
 -- a request, by a head of so many octets
-abbrev pub request_told : Ordered → ℕ → ToldRequest
-request_told x used = record {
+abbrev pub request_reported : Ordered → ℕ → ReportedRequest
+request_reported x used = record {
   head = shared_head x.request.id x.request.wants x.order;
   key = x.request.key;
   name = x.request.name;
@@ -72,13 +72,13 @@ request_told x used = record {
 }
 
 -- a message begins with the head of a request, of which this is reported
-abbrev pub BeginsRequest : List ℕ → ToldRequest → Type 0
-BeginsRequest message told = (x : Ordered) × (used : ℕ) × BeginsWith Requests message x used × (request_told x used ≡ told)
+abbrev pub BeginsRequest : List ℕ → ReportedRequest → Type 0
+BeginsRequest message reported = (x : Ordered) × (used : ℕ) × BeginsWith Requests message x used × (request_reported x used ≡ reported)
 
 -- ---- replies
 
 -- what is reported of a reply, with the octets of a repository id
-pub record ToldReply : Type 0 where
+pub record ReportedReply : Type 0 where
   pub head : Head
   pub fate : Option Fate
   pub used : ℕ
@@ -91,20 +91,20 @@ fate_seen (System id minor completion) = Some (system id.now minor completion)
 fate_seen _ = None
 
 -- the same of a reply
-abbrev pub reply_seen : ReplyHead → ToldReply
+abbrev pub reply_seen : ReplyHead → ReportedReply
 reply_seen r = record { head = r.head; fate = fate_seen r.status; used = r.used }
 
 -- how a request fared, by a head of so many octets
-abbrev pub reply_told : Reply → ℕ → ToldReply
-reply_told r used = record { head = shared_head r.id true r.order; fate = Some r.fate; used = used }
+abbrev pub reply_reported : Reply → ℕ → ReportedReply
+reply_reported r used = record { head = shared_head r.id true r.order; fate = Some r.fate; used = used }
 
 -- a message begins with the head of a reply, of which this is reported
-abbrev pub BeginsReply : List ℕ → ToldReply → Type 0
-BeginsReply message told = (r : Reply) × (used : ℕ) × BeginsWith Replies message r used × (reply_told r used ≡ told)
+abbrev pub BeginsReply : List ℕ → ReportedReply → Type 0
+BeginsReply message reported = (r : Reply) × (used : ℕ) × BeginsWith Replies message r used × (reply_reported r used ≡ reported)
 
 -- ---- results, seen so
 
 -- an answer of which this is reported
 abbrev pub Tells : {A B : Type 0} → (A → B) → Result A HeadErr → B → Type 0
-Tells view (Ok x) told = view x ≡ told
-Tells view (Err e) told = ⊥
+Tells view (Ok x) reported = view x ≡ reported
+Tells view (Err e) reported = ⊥

@@ -3,7 +3,7 @@ use Rattle.mint.specs.Values.{seen}
 use Rattle.flick_engine.specs.Backs.{heard}
 use Rattle.flick_engine.proofs.AnsweringReplies.{answer_within, is_trailing_reply, is_answer, is_reply_value}
 use Rattle.flick_engine.proofs.DecidingReplies.{exactly_reply}
-use Rattle.flick_engine.proofs.engine.Engine.told_by_answer.Goals as goal
+use Rattle.flick_engine.proofs.engine.Engine.reported_by_answer.Goals as goal
 
 pub overflow_add-end : goal.overflow_add-end
 overflow_add-end c =

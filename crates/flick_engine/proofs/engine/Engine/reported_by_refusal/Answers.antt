@@ -1,7 +1,7 @@
 use Rattle.std.proofs.Common.{sym, ◌∙◌}
 use Rattle.flick_engine.specs.Backs.{heard}
 use Rattle.flick_engine.proofs.AnsweringReplies.{is_followed_refusal, is_refusal}
-use Rattle.flick_engine.proofs.engine.Engine.told_by_refusal.Goals as goal
+use Rattle.flick_engine.proofs.engine.Engine.reported_by_refusal.Goals as goal
 
 pub returns-then-is_followed-clause-read : goal.returns-then-is_followed-clause-read
 returns-then-is_followed-clause-read c =

@@ -16,8 +16,8 @@ abbrev pub shared_head : ℕ → ℕ → Head
 shared_head remote local = record { id = 0; remote = remote; local = local; wants = true; order = Big }
 
 -- the id of a request, by a head of so many octets
-abbrev pub call_told : MachHeader → ℕ → MachCall
-call_told h used = record { head = shared_head h.remote h.local; id = h.id; used = used }
+abbrev pub call_reported : MachHeader → ℕ → MachCall
+call_reported h used = record { head = shared_head h.remote h.local; id = h.id; used = used }
 
 -- a return code of 0 is an answer, and any other a refusal
 abbrev pub status_of : ℕ → Status
@@ -25,13 +25,13 @@ status_of zero = Answer
 status_of (suc m) = RetCode (cast_signed w32 (suc m))
 
 -- how a request fared, by a head of so many octets
-abbrev pub reply_told : Reply → ℕ → ReplyHead
-reply_told r used = record { head = shared_head r.header.remote r.header.local; status = status_of r.code; used = used }
+abbrev pub reply_reported : Reply → ℕ → ReplyHead
+reply_reported r used = record { head = shared_head r.header.remote r.header.local; status = status_of r.code; used = used }
 
 -- a message begins with the head of a request, of which this is reported
 abbrev pub BeginsCall : List ℕ → MachCall → Type 0
-BeginsCall message told = (h : MachHeader) × (used : ℕ) × BeginsWith call message h used × (call_told h used ≡ told)
+BeginsCall message reported = (h : MachHeader) × (used : ℕ) × BeginsWith call message h used × (call_reported h used ≡ reported)
 
 -- a message begins with the head of a reply with an id, of which this is reported
 abbrev pub BeginsReply : ℕ → List ℕ → ReplyHead → Type 0
-BeginsReply id message told = (r : Reply) × (used : ℕ) × BeginsWith (reply id) message r used × (reply_told r used ≡ told)
+BeginsReply id message reported = (r : Reply) × (used : ℕ) × BeginsWith (reply id) message r used × (reply_reported r used ≡ reported)
