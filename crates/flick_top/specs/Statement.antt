@@ -20,7 +20,7 @@ Writes over left held held' status =
 -- whatever the status, a prefix of the output was appended
 abbrev pub WritesPrefix : (List ℕ → Out) → Input → Held → Held → Type 0
 WritesPrefix over left held held' = (input : List ℕ) → left ≡ Some input
-    → (front : List ℕ) × (rest : List ℕ) × ((over input).octets ≡ front ++ rest) × Appends held held' front
+    → (prefix : List ℕ) × (rest : List ℕ) × ((over input).octets ≡ prefix ++ rest) × Appends held held' prefix
 
 -- with status 4 exactly the output over the lines that ended in the octets taken was appended
 abbrev pub WritesEnded : (List ℕ → Out) → Input → Input → Held → Held → ℕ → Type 0
@@ -30,7 +30,7 @@ WritesEnded over left left' held held' status = status ≡ 4 → (input : List �
 -- what was taken and written of a task, by the status
 pub record Writing (task : Task) (f : Answering) (left left' : Input) (before now : ℕ) (held held' : Held) (status : ℕ) : Type 0 where
   pub output : Writes (out_of task f) left held held' status
-  pub front : WritesPrefix (out_of task f) left held held'
+  pub prefix : WritesPrefix (out_of task f) left held held'
   pub ended : WritesEnded (out_of task f) left left' held held' status
   pub unread : LeavesInput task.lines left left' before now status
   pub at_end : EndsInput task.lines left' status

@@ -32,7 +32,7 @@ returns-in-Ok-clause-work g c = λ files reported.
       all,
       record {
         output = rw c.number-in-Ok.ensures (c.perform-status.ensures.output f all);
-        front = c.perform-status.ensures.prefix f all;
+        prefix = c.perform-status.ensures.prefix f all;
         ended = rw c.number-in-Ok.ensures (c.perform-status.ensures.ended f all);
         unread = rw c.number-in-Ok.ensures c.perform-status.ensures.unread;
         at_end = rw c.number-in-Ok.ensures c.perform-status.ensures.at_end;
