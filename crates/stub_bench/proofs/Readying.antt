@@ -39,7 +39,8 @@ alone_given nodes id subs code sound follows goes none =
     (none, 0, (stop, code_seen code.ops, stop, id, sym (append-stop (code_seen code.ops)), refl, goes nodes sound follows, tt))
 
 pub alone_rows : (e : Encoding) (nodes : List Node) (id : ℕ) (subs : List (List SendOp)) (flat code : SendCode) → IsSound (type_at nodes id)
-    → AllTurned (layout_of e) nodes subs → Turns subs id flat → ChangesOnlyEnsures flat code → RowsAreBare (type_at nodes id) (code_seen code.ops)
+    → AllTurned (layout_of e) nodes subs → Turns subs id flat → ChangesOnlyEnsures flat code
+    → RowsAreBare (type_at nodes id) (code_seen code.ops)
     → code.subs ≡ []
     → rows.IsGiven e (type_at nodes id) code
 alone_rows e nodes id subs flat code sound turned turns adds bare none =
