@@ -15,7 +15,7 @@ use crate::parameters::{are_in, parameters, raises};
 use crate::{NameErr, NameFault};
 use aoi::{Fields, Operation, Raises, Ty};
 use corba_operations::{Operation as OperationTree, Reference};
-use corba_scopes::{Scopes, innermost, inside};
+use corba_scopes::{Scopes, innermost, inside, refuse_fault};
 use corba_shapes::{Shapes, form_ty, type_form};
 use corba_types::TypeName;
 use kit_base::limits::MOST_OPERATIONS;
