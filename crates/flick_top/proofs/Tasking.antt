@@ -125,7 +125,7 @@ shapeless-work made words files left faults held none = inr (
   tt,
   record {
     output = λ few input reported. (refl, Appends-nil held);
-    front = λ input reported. ([], [], refl, Appends-nil held);
+    prefix = λ input reported. ([], [], refl, Appends-nil held);
     ended = λ four. absurd (cc four);
     unread = λ none. (Consumes-nil left, refl, (λ e. absurd (cc e)), λ e. absurd (cc e));
     at_end = λ some. absurd (some refl);
