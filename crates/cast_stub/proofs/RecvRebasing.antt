@@ -5,7 +5,7 @@ use Rattle.std.specs.Int.{Width}
 use Rattle.kit_base.specs.Causes.{raised}
 use Rattle.wire_def.specs.declared.head.Order.{Order}
 use Rattle.wire_def.specs.Scalars.{gap}
-use Rattle.raw_buf.specs.View.{width_in, loaded}
+use Rattle.wire_def.specs.Orders.{width_in, loaded}
 use Rattle.cast_stub.specs.declared.recv.Get.{Get}
 use Rattle.cast_stub.specs.declared.recv.Get.TheVariants as get
 use Rattle.cast_stub.specs.Steps.{is_width}

@@ -16,7 +16,7 @@ use Rattle.wire_def.specs.Send.{flag}
 use Rattle.wire_def.specs.Arrays.{count_of, kind_of}
 use Rattle.wire_def.specs.Described.{is_marked}
 use Rattle.mint.specs.Kinds.{width}
-use Rattle.raw_buf.specs.View.{width_in, loaded}
+use Rattle.wire_def.specs.Orders.{width_in, loaded}
 use Rattle.cast_stub.specs.declared.recv.Get.{Get}
 use Rattle.cast_stub.specs.declared.recv.Get.TheVariants as get
 use Rattle.cast_stub.specs.Steps.{is_width}

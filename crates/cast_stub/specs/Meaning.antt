@@ -7,7 +7,7 @@ use Rattle.mint.specs.Typed.{IsWellTyped}
 use Rattle.wire_def.specs.declared.head.Order.{Order}
 use Rattle.wire_def.specs.declared.head.Head.{Head}
 use Rattle.wire_def.specs.Scalars.{gap}
-use Rattle.raw_buf.specs.Buf.{in_order}
+use Rattle.wire_def.specs.Orders.{in_order}
 use Rattle.cast_stub.specs.declared.send.SendCode.{SendCode}
 use Rattle.cast_stub.specs.Parts.{on_some, IsThere}
 use Rattle.cast_stub.specs.Puts.{IsHead}

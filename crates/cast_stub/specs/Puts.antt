@@ -4,7 +4,7 @@ use Rattle.mint.specs.Values.{Val}
 use Rattle.wire_def.specs.declared.head.Order.{Order}
 use Rattle.wire_def.specs.declared.head.Head.{Head}
 use Rattle.wire_def.specs.Descriptors.{descriptor}
-use Rattle.raw_buf.specs.Buf.{in_order}
+use Rattle.wire_def.specs.Orders.{in_order}
 use Rattle.cast_stub.specs.declared.put.HeadField.{HeadField}
 use Rattle.cast_stub.specs.declared.put.HeadField.TheVariants.{Id, Remote, Local}
 use Rattle.cast_stub.specs.declared.put.Put.{Put}

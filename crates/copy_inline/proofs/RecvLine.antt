@@ -10,7 +10,7 @@ use Rattle.mint.specs.Values.{num, row}
 use Rattle.wire_def.specs.declared.head.Order.{Order}
 use Rattle.wire_def.specs.Scalars.{is_signed, number_of}
 use Rattle.wire_def.specs.Arrays.{kind_of}
-use Rattle.raw_buf.specs.View.{width_in, loaded}
+use Rattle.wire_def.specs.Orders.{width_in, loaded}
 use Rattle.cast_stub.specs.declared.recv.Get.TheVariants as get
 use Rattle.cast_stub.specs.Draft.{Draft, digit, done}
 use Rattle.cast_stub.specs.Into.{needed, is_digit, numbers_at, fill_block}

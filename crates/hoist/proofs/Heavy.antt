@@ -21,7 +21,8 @@ use Rattle.cast_stub.proofs.Appending.{append-stop, append-assoc}
 use Rattle.cast_stub.specs.Bare.{IsBare}
 use Rattle.hoist.specs.Bound.{most, times, bound, cases_bound}
 use Rattle.hoist.specs.Hoisted.{nothing, octets, row, Hoisted, closed, Plan, flat, apart, settled, Role, is_row, is_break, loop_plan, body_plan, each_plan, some_plan, switch_plan, kept, items_at, items_in_type, or_void, or_none, hoisted, cases_hoisted}
-use Rattle.hoist.specs.Regions.{Sizes, AreSizes, Part, row_part, break_part, lone, is_light, with_breaks, broken, parts, fields_parts, arm_parts, groups, on_way, roles, is_hollow}
+use Rattle.hoist.specs.Regions.{Sizes, AreSizes, Part, row_part, break_part, lone, is_light, with_breaks, broken, parts, fields_parts, arm_parts, groups, on_way, roles}
+use Rattle.wire_def.specs.Hollow.{is_hollow}
 use Rattle.hoist.proofs.Grouping.{load, loaded, apart_groups, total, broken_groups, load_lone, load_some, load_small}
 use Rattle.hoist.proofs.Weighing.{spent, checks-append, weigh, weigh_quiet, weigh_less, low, high, least, greatest, greatest_least, closed_fits, loop_greatest, apart_greatest}
 use Rattle.cast_stub.proofs.Followed.{own}

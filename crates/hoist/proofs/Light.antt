@@ -17,7 +17,8 @@ use Rattle.cast_stub.proofs.Appending.{append-assoc}
 use Rattle.cast_stub.specs.Bare.{IsBare, CasesBare}
 use Rattle.hoist.specs.Bound.{bound, cases_bound, plus}
 use Rattle.hoist.specs.Hoisted.{Pending, nothing, octets, row, Hoisted, closed, Plan, flat, small, raised, settled, Role, is_small, loop_plan, body_plan, each_plan, some_plan, switch_plan, kept, items_at, or_void, or_none, hoisted, cases_hoisted}
-use Rattle.hoist.specs.Regions.{Sizes, AreSizes, on_way, roles, role_at, weight_at, is_light, fields_top, fields_weight, is_hollow, are_hollow}
+use Rattle.wire_def.specs.Hollow.{is_hollow, are_hollow}
+use Rattle.hoist.specs.Regions.{Sizes, AreSizes, on_way, roles, role_at, weight_at, is_light, fields_top, fields_weight}
 use Rattle.hoist.proofs.Weighing.{spent, weigh, weigh_less, weigh_quiet, low, high, least, greatest, flat_least, small_least}
 use Rattle.cast_stub.proofs.Followed.{own}
 use Rattle.hoist.proofs.Quiet.{quiet, case_quiet, quiet_over, quiet_present, quiet_on, quiet_chunk, quiet_align, mapped, bare, arms_bare, flat_bare}

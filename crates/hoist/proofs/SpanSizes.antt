@@ -1,5 +1,5 @@
 -- Spans are sizes that belong together, by induction on the type.
-use Rattle.std.proofs.Common.{◌≡◌, ℕ, zero, suc, ◌+◌, ◌-◌, ◌*◌, ◌%◌, ◌<◌, ◌≤◌, max, nat_le, Bool, true, false, ◌&&◌, ◌||◌, IsTrue, cond, List, [], ◌∷◌, length, get_or, Option, None, Some, refl, sym, ap, arith}
+use Rattle.std.proofs.Common.{◌≡◌, ℕ, zero, suc, ◌+◌, ◌-◌, ◌*◌, ◌%◌, ◌<◌, ◌≤◌, max, nat_le, Bool, true, false, ◌&&◌, cond, List, [], ◌∷◌, length, get_or, Option, None, Some, refl, sym, ap, arith}
 use Rattle.std.specs.List.{list_all}
 use Rattle.std.specs.Int.{Width, byte_len}
 use Rattle.std.proofs.Math.Nat.{one-le-mul}
@@ -13,7 +13,7 @@ use Rattle.wire_def.specs.Described.{is_long}
 use Rattle.wire_def.proofs.Words.{IsOwn, is8, is16, is32, is64, own_of}
 use Rattle.wire_def.specs.Arrays.{counted, kind_of, is_octets, count_of}
 use Rattle.wire_def.specs.Send.{flag}
-use Rattle.wire_def.proofs.Sound.{fills, fields_fill, IsCount, TakesRoom, FieldsTakeRoom, room}
+use Rattle.wire_def.proofs.Sound.{IsCount, TakesRoom, FieldsTakeRoom, room}
 use Rattle.storage_class.specs.declared.span.Span.{Span}
 use Rattle.storage_class.specs.declared.span.Span.TheVariants.{Fixed, Bounded, Unbounded}
 use Rattle.storage_class.specs.Classing.{from_each, length_at, length_after, run, greatest, exactly, at_most, top, loose, sum_of_tops, greater_top, after, either, times, times_top}
@@ -21,7 +21,8 @@ use Rattle.storage_class.proofs.Residues.{eighth}
 use Rattle.storage_class.specs.Spans.{lone_length, scalar_span, element_length, described_length, array_length, array_most, array_counted, text_counted, array_span, span, fields_span, arms_span}
 use Rattle.cast_stub.specs.Parts.{IsThere}
 use Rattle.hoist.specs.Bound.{most, plus}
-use Rattle.hoist.specs.Regions.{AreSizes, fields_top, fields_weight, is_hollow, are_hollow, ArmsBounded, IsCounted}
+use Rattle.wire_def.specs.Hollow.{is_hollow, are_hollow}
+use Rattle.hoist.specs.Regions.{AreSizes, fields_top, fields_weight, ArmsBounded, IsCounted}
 use Rattle.hoist.specs.SpanSizes.{is_fixed, least, weight_of, scalar_top, count_length, sizes}
 
 -- ---- greatest and least lengths
@@ -397,9 +398,9 @@ array_solid CdrBig (row_of k c) some = counted_solid CdrBig (row_of k c) c some
 array_solid CdrLittle (text c) some = text_solid CdrLittle c
 array_solid CdrLittle (row_of k c) some = counted_solid CdrLittle (row_of k c) c some
 
-one_of : (a b : Bool) {P : Type 0} → (IsTrue a → P) → (IsTrue b → P) → IsTrue (a || b) → P
-one_of true b f g h = f refl
-one_of false b f g h = g h
+either_solid : (a b : Bool) {P : Type 0} → (a ≡ false → P) → (b ≡ false → P) → a && b ≡ false → P
+either_solid false b f g h = f refl
+either_solid true b f g h = g h
 
 eight_loose : (s : Span) → IsEight (loose s)
 eight_loose (Fixed f) = tt
@@ -416,7 +417,7 @@ eight_arms e (arm_type n t arms) = both (top (span e t)) (top (arms_span e arms)
   both (Some m) (Some n) = tt
 
 mutual
-  filled : (e : Encoding) (t : Ty) → TakesRoom t → IsTrue (fills t) → IsSolid (span e t)
+  filled : (e : Encoding) (t : Ty) → TakesRoom t → is_hollow t ≡ false → IsSolid (span e t)
   filled e void_type some fill = absurd cc
   filled e (scalar_type s) some fill = scalar_solid e s
   filled e (array_type a) some fill = array_solid e a some
@@ -429,31 +430,12 @@ mutual
   filled e (maybe_type t) some fill =
       solid_first (scalar_span e flag) (loose (span e t)) refl (eight_loose (span e t)) (scalar_solid e flag)
 
-  fields_filled : (e : Encoding) (ts : Tys) → FieldsTakeRoom ts → IsTrue (fields_fill ts) → IsSolid (fields_span e ts)
+  fields_filled : (e : Encoding) (ts : Tys) → FieldsTakeRoom ts → are_hollow ts ≡ false → IsSolid (fields_span e ts)
   fields_filled e no_fields some fill = absurd cc
   fields_filled e (field t ts) some fill =
-      one_of (fills t) (fields_fill ts)
+      either_solid (is_hollow t) (are_hollow ts)
       (λ y. solid_first (span e t) (fields_span e ts) (eight e t) (eight_fields e ts) (filled e t some.0 y))
       (λ y. solid_second (span e t) (fields_span e ts) (eight e t) (eight_fields e ts) (fields_filled e ts some.1 y)) fill
-
-not_both : (a b c d : Bool) → (a ≡ false → IsTrue c) → (b ≡ false → IsTrue d) → a && b ≡ false → IsTrue (c || d)
-not_both false b c d f g e = by c (f refl) where
-  by : (c : Bool) → IsTrue c → IsTrue (c || d)
-  by true h = refl
-  by false h = absurd cc
-not_both true b true d f g e = refl
-not_both true b false d f g e = g e
-
--- what is not hollow fills
-mutual
-  solid_fills : (t : Ty) → is_hollow t ≡ false → IsTrue (fills t)
-  solid_fills void_type e = absurd cc
-  solid_fills (group_type ts) e = solid_fields ts e
-  solid_fills _ e = refl
-
-  solid_fields : (ts : Tys) → are_hollow ts ≡ false → IsTrue (fields_fill ts)
-  solid_fields no_fields e = absurd cc
-  solid_fields (field t ts) e = not_both (is_hollow t) (are_hollow ts) (fills t) (fields_fill ts) (solid_fills t) (solid_fields ts) e
 
 count_some : (e : Encoding) (c : Count) → IsCounted c → (1 ≤ count_length e c)
 count_some e (Exactly n) h = absurd h
@@ -474,7 +456,7 @@ are_sizes e = record {
   items = items_there e;
   choice = λ s arms h. arms_there e arms (after_there (scalar_span e s) (arms_span e arms) h);
   maybe = λ t h. loose_there (span e t) (after_there (scalar_span e flag) (loose (span e t)) h);
-  solid = λ t n sound e' h. solid_top (span e t) n (filled e t (room t sound) (solid_fills t e')) h;
+  solid = λ t n sound e' h. solid_top (span e t) n (filled e t (room t sound) e') h;
   fixed = λ t. fixed_there (span e t);
   count = λ c t. count_some e c;
   tag = λ s arms. (scalar_some e s).0;

@@ -7,6 +7,7 @@ use Rattle.mint.specs.Types.{Scalar, Array, Ty, void_type, scalar_type, array_ty
 use Rattle.mint.specs.Sound.{IsSound}
 use Rattle.mint.specs.Values.{Val, group, items, arm, absent, present, Vals, no_more, val}
 use Rattle.wire_def.specs.Arrays.{count_of}
+use Rattle.wire_def.specs.Hollow.{is_hollow}
 use Rattle.cast_stub.specs.Parts.{IsThere}
 use Rattle.cast_stub.specs.PartTypes.{in_group_type, ty_at}
 use Rattle.hoist.specs.Bound.{most, plus}
@@ -146,18 +147,6 @@ fields_top z (field t ts) = plus (z.top t) (fields_top z ts)
 abbrev pub fields_weight : Sizes → Tys → ℕ
 fields_weight z no_fields = 0
 fields_weight z (field t ts) = z.weight t + fields_weight z ts
-
--- a type without octets
-abbrev mutual
-  pub is_hollow : Ty → Bool
-  is_hollow void_type = true
-  is_hollow (group_type ts) = are_hollow ts
-  is_hollow _ = false
-
-  -- the same of fields
-  pub are_hollow : Tys → Bool
-  are_hollow no_fields = true
-  are_hollow (field t ts) = is_hollow t && are_hollow ts
 
 -- each arm has a greatest length
 abbrev pub ArmsBounded : Sizes → Arms → Type 0

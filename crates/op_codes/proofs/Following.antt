@@ -5,7 +5,7 @@ use Rattle.kit_base.specs.Bytes.{written}
 use Rattle.mint.specs.Values.{Val}
 use Rattle.wire_def.specs.declared.head.Head.{Head}
 use Rattle.wire_def.specs.Scalars.{gap}
-use Rattle.raw_buf.specs.Buf.{in_order}
+use Rattle.wire_def.specs.Orders.{in_order}
 use Rattle.raw_buf.proofs.Views.{written-after}
 use Rattle.cast_stub.specs.Block.{Block, stop, chunk}
 use Rattle.cast_stub.specs.Framed.{lead_length}

@@ -1,9 +1,6 @@
 -- A buffer as its octets, the space ensured after them, and what its calls have cost.
-use Rattle.std.specs.Prelude.{◌≡◌, ◌≤◌, ◌+◌, ◌⊎◌, ℕ, max, List, length, take}
-use Rattle.kit_base.specs.Bytes.{be, le}
+use Rattle.std.specs.Prelude.{◌≡◌, ◌≤◌, ℕ, max, List, length, take}
 use Rattle.kit_base.specs.Causes.{raised}
-use Rattle.wire_def.specs.declared.head.Order.{Order}
-use Rattle.wire_def.specs.declared.head.Order.TheVariants.{Big, Little}
 use Rattle.raw_buf.specs.declared.tally.Tally.{Tally}
 
 pub record Buf : Type 0 where
@@ -15,21 +12,10 @@ pub record Buf : Type 0 where
   pub tally : Tally
   -- the counts over the buffer's whole life
   pub spent : Tally
-  -- how many octets the memory holds
-  pub room : ℕ
 
 -- the counts of no calls
 abbrev pub none : Tally
 none = record { checks = 0; moves = 0; stores = 0; rows = 0 }
-
--- a width that a number may be stored in
-abbrev pub IsWidth : ℕ → Type 0
-IsWidth w = (w ≡ 1) ⊎ (w ≡ 2) ⊎ (w ≡ 4) ⊎ (w ≡ 8)
-
--- the octets of a number in this order
-abbrev pub in_order : Order → ℕ → ℕ → List ℕ
-in_order Big w v = be w v
-in_order Little w v = le w v
 
 -- counts with one check more
 abbrev pub checked : Tally → Tally
@@ -54,11 +40,10 @@ pub record NoneFell (old new : Tally) : Type 0 where
   pub stores : old.stores ≤ new.stores
   pub rows : old.rows ≤ new.rows
 
--- n octets are ensured, those that were stay, and the memory grows only where it must
+-- n octets are ensured, and those that were stay
 pub record Ensures (n : ℕ) (old new : Buf) : Type 0 where
   pub done : new.done ≡ old.done
   pub kept : take (length old.front) new.front ≡ old.front
   pub ahead : length new.front ≡ max n (length old.front)
-  pub room : new.room ≡ max old.room (length old.done + n)
   pub tally : new.tally ≡ checked old.tally
   pub spent : new.spent ≡ checked old.spent

@@ -4,7 +4,8 @@ ghost use Rattle.std.specs.Prelude.{◌≡◌, ◌<◌, ◌≤◌, ◌+◌, ◌-
 ghost use Rattle.kit_base.specs.Bytes.{written};
 ghost use Rattle.wire_def.specs.Scalars.{gap};
 ghost use Rattle.swap_kit.specs.Swapped.{swapped, IsSwapWidth};
-ghost use Rattle.raw_buf.specs.Buf.{Ensures, IsWidth, in_order, moved, stored, rowed, none};
+ghost use Rattle.raw_buf.specs.Buf.{Ensures, moved, stored, rowed, none};
+ghost use Rattle.wire_def.specs.Orders.{IsWidth, in_order};
 
 use crate::Tally;
 use kit_base::NoMemory;
@@ -33,7 +34,7 @@ impl Model for SendBuf {
 
     ghost Value = { Buf };
 
-    ghost view = { λ b. record { done = take b.len b.memory.items; front = take b.ahead (drop b.len b.memory.items); tally = b.tally; spent = b.spent; room = length b.memory.items } };
+    ghost view = { λ b. record { done = take b.len b.memory.items; front = take b.ahead (drop b.len b.memory.items); tally = b.tally; spent = b.spent } };
 
     ghost invariant = { λ b. b.len + b.ahead ≤ length b.memory.items };
 }
@@ -49,7 +50,7 @@ impl SendBuf {
     /// An empty buffer, which has spent nothing.
     pub fn new(alloc: Global) -> Result<SendBuf, NoMemory>
         ensures { IfOk result
-            (λ b. b ≡ record { done = []; front = []; tally = none; spent = none; room = 0 }) }
+            (λ b. b ≡ record { done = []; front = []; tally = none; spent = none }) }
     {
         Ok(SendBuf {
             memory: Vec::new(alloc),
@@ -92,7 +93,6 @@ impl SendBuf {
         // What it costs.
         ensures tally { self.new.tally ≡ stored self.old.tally }
         ensures spent { self.new.spent ≡ stored self.old.spent }
-        ensures room { self.new.room ≡ self.old.room }
     {
         match order {
             Order::Big => {
@@ -113,7 +113,6 @@ impl SendBuf {
         ensures front { self.new.front ≡ written self.old.front off octets.now }
         ensures tally { self.new.tally ≡ stored self.old.tally }
         ensures spent { self.new.spent ≡ stored self.old.spent }
-        ensures room { self.new.room ≡ self.old.room }
     {
         self.store(off, octets);
         self.count_store();
@@ -126,7 +125,6 @@ impl SendBuf {
         ensures front { self.new.front ≡ drop n self.old.front }
         ensures tally { self.new.tally ≡ moved self.old.tally }
         ensures spent { self.new.spent ≡ moved self.old.spent }
-        ensures room { self.new.room ≡ self.old.room }
     {
         self.pass(n);
         self.tally.moves = self.tally.moves.saturating_add(1);
@@ -144,7 +142,6 @@ impl SendBuf {
         // What it costs.
         ensures tally { self.new.tally ≡ moved self.old.tally }
         ensures spent { self.new.spent ≡ moved self.old.spent }
-        ensures room { self.new.room ≡ self.old.room }
     {
         let count = (a - self.octets().len() % a) % a;
         self.store_zeros(count);
@@ -158,7 +155,6 @@ impl SendBuf {
         ensures front { self.new.front ≡ self.old.front }
         ensures tally { self.new.tally ≡ stored self.old.tally }
         ensures spent { self.new.spent ≡ stored self.old.spent }
-        ensures room { self.new.room ≡ self.old.room }
     {
         match order {
             Order::Big => self.overwrite(at, &v.to_be_bytes()),
@@ -198,7 +194,7 @@ impl SendBuf {
     /// Begins anew. What was spent, and the memory, are kept.
     pub fn clear(&mut self)
         ensures { self.new
-            ≡ record { done = []; front = []; tally = none; spent = self.old.spent; room = self.old.room } }
+            ≡ record { done = []; front = []; tally = none; spent = self.old.spent } }
     {
         self.len = 0;
         self.ahead = 0;
@@ -212,7 +208,6 @@ impl SendBuf {
         ensures front { self.new.front ≡ drop n self.old.front }
         ensures tally { self.new.tally ≡ self.old.tally }
         ensures spent { self.new.spent ≡ self.old.spent }
-        ensures room { self.new.room ≡ self.old.room }
     {
         self.len += n;
         self.ahead -= n;
@@ -225,7 +220,6 @@ impl SendBuf {
         ensures front { self.new.front ≡ written self.old.front off octets.now }
         ensures tally { self.new.tally ≡ self.old.tally }
         ensures spent { self.new.spent ≡ self.old.spent }
-        ensures room { self.new.room ≡ self.old.room }
     {
         let start = self.len + off;
         write_at(&mut self.memory, start, octets);
@@ -243,7 +237,6 @@ impl SendBuf {
         // What stays the same.
         ensures tally { self.new.tally ≡ self.old.tally }
         ensures spent { self.new.spent ≡ self.old.spent }
-        ensures room { self.new.room ≡ self.old.room }
     {
         swap_at(&mut self.memory, self.len, width, image);
     }
@@ -258,7 +251,6 @@ impl SendBuf {
         // What stays the same.
         ensures tally { self.new.tally ≡ self.old.tally }
         ensures spent { self.new.spent ≡ self.old.spent }
-        ensures room { self.new.room ≡ self.old.room }
     {
         let zeros = [0u8; 8];
         self.store(0, &zeros[..count]);
@@ -270,7 +262,6 @@ impl SendBuf {
         ensures front { self.new.front ≡ self.old.front }
         ensures tally { self.new.tally ≡ self.old.tally }
         ensures spent { self.new.spent ≡ self.old.spent }
-        ensures room { self.new.room ≡ self.old.room }
     {
         write_at(&mut self.memory, at, octets);
     }
@@ -281,7 +272,6 @@ impl SendBuf {
         ensures front { self.new.front ≡ self.old.front }
         ensures tally { self.new.tally ≡ rowed self.old.tally }
         ensures spent { self.new.spent ≡ rowed self.old.spent }
-        ensures room { self.new.room ≡ self.old.room }
     {
         self.tally.rows = self.tally.rows.saturating_add(1);
         self.spent.rows = self.spent.rows.saturating_add(1);
@@ -292,7 +282,6 @@ impl SendBuf {
         ensures front { self.new.front ≡ self.old.front }
         ensures tally { self.new.tally ≡ stored self.old.tally }
         ensures spent { self.new.spent ≡ stored self.old.spent }
-        ensures room { self.new.room ≡ self.old.room }
     {
         self.tally.stores = self.tally.stores.saturating_add(1);
         self.spent.stores = self.spent.stores.saturating_add(1);

@@ -18,7 +18,6 @@ impl SendBuf {
             ≡ drop (length (image_of row.now.kind row.now.numbers)) self.old.front }
         ensures tally { self.new.tally ≡ rowed self.old.tally }
         ensures spent { self.new.spent ≡ rowed self.old.spent }
-        ensures room { self.new.room ≡ self.old.room }
     {
         let image = row.image();
         self.store(0, image);
@@ -39,7 +38,6 @@ impl SendBuf {
         // What it costs.
         ensures tally { self.new.tally ≡ rowed self.old.tally }
         ensures spent { self.new.spent ≡ rowed self.old.spent }
-        ensures room { self.new.room ≡ self.old.room }
     {
         let image = row.image();
         self.store_swapped(row.kind().width(), image);

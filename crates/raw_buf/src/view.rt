@@ -5,8 +5,8 @@ ghost use Rattle.kit_base.specs.Causes.{raised};
 ghost use Rattle.mint.specs.Kinds.{width};
 ghost use Rattle.mint.specs.Row.{numbers_of};
 ghost use Rattle.swap_kit.specs.Swapped.{swapped, IsSwapWidth};
-ghost use Rattle.raw_buf.specs.Buf.{IsWidth};
-ghost use Rattle.raw_buf.specs.View.{width_in, loaded_of, in_little};
+ghost use Rattle.wire_def.specs.Orders.{IsWidth, width_in};
+ghost use Rattle.raw_buf.specs.View.{loaded_of, in_little};
 
 use kit_base::NoMemory;
 use mint::kind::Kind;

@@ -16,7 +16,6 @@ impl SendBuf {
         ensures front { self.new.front ≡ drop 4 self.old.front }
         ensures tally { self.new.tally ≡ moved (stored self.old.tally) }
         ensures spent { self.new.spent ≡ moved (stored self.old.spent) }
-        ensures room { self.new.room ≡ self.old.room }
     {
         self.put(0, 4, Order::Big, u64::from(n));
         self.advance(4);
@@ -30,7 +29,6 @@ impl SendBuf {
         ensures front { self.new.front ≡ drop (4 * length numbers.now) self.old.front }
         ensures tally { self.new.tally ≡ worded (length numbers.now) self.old.tally }
         ensures spent { self.new.spent ≡ worded (length numbers.now) self.old.spent }
-        ensures room { self.new.room ≡ self.old.room }
     {
         for number in numbers {
             self.put_word(*number);

@@ -16,8 +16,8 @@ use Rattle.mint.specs.Values.{row}
 use Rattle.wire_def.specs.declared.head.Order.{Order}
 use Rattle.wire_def.specs.Scalars.{is_signed, number_of}
 use Rattle.wire_def.specs.Arrays.{kind_of}
-use Rattle.raw_buf.specs.Buf.{IsWidth}
-use Rattle.raw_buf.specs.View.{View, width_in, width_as, loaded, loaded_of}
+use Rattle.wire_def.specs.Orders.{IsWidth, width_in, width_as, loaded}
+use Rattle.raw_buf.specs.View.{View, loaded_of}
 use Rattle.cast_stub.specs.Draft.{Draft, done}
 use Rattle.cast_stub.specs.Into.{is_digit, numbers_at, fill_block}
 use Rattle.cast_stub.specs.Runs.{Place, Run, gives, refuses, strays, Holds, if_some, if_passed}

@@ -9,7 +9,7 @@ use Rattle.wire_def.specs.declared.head.Order.{Order}
 use Rattle.wire_def.specs.Scalars.{gap, is_signed, number_of}
 use Rattle.wire_def.specs.Arrays.{kind_of}
 use Rattle.wire_def.specs.Described.{is_marked}
-use Rattle.raw_buf.specs.View.{width_in, loaded}
+use Rattle.wire_def.specs.Orders.{width_in, loaded}
 use Rattle.cast_stub.specs.declared.recv.Get.{Get}
 use Rattle.cast_stub.specs.declared.recv.Get.TheVariants as get
 use Rattle.cast_stub.specs.Steps.{is_width}

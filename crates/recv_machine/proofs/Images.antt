@@ -17,8 +17,8 @@ use Rattle.wire_def.specs.Scalars.{is_signed, number_of}
 use Rattle.wire_def.specs.Arrays.{kind_of}
 use Rattle.swap_kit.specs.Swapped.{swapped}
 use Rattle.swap_kit.proofs.Swapping.{swapped-first}
-use Rattle.raw_buf.specs.Buf.{IsWidth}
-use Rattle.raw_buf.specs.View.{width_as, loaded, in_little}
+use Rattle.wire_def.specs.Orders.{IsWidth, width_as, loaded}
+use Rattle.raw_buf.specs.View.{in_little}
 use Rattle.mint.specs.declared.node.Node.{Node}
 use Rattle.mint.specs.declared.value.Value.TheVariants as value
 use Rattle.cast_stub.specs.Into.{is_digit, numbers_at, fill_block}

@@ -5,8 +5,8 @@ use Rattle.std.proofs.lemmas.Bool.{leb-true, le-leb, eqb-true, eq-eqb}
 use Rattle.std.specs.Int.{Width}
 use Rattle.std.specs.Cmp.Lexicographic.{pointwise}
 use Rattle.wire_def.specs.declared.head.Order.{Order}
-use Rattle.raw_buf.specs.Buf.{IsWidth}
-use Rattle.raw_buf.specs.View.{width_in, width_as, loaded, loaded_of}
+use Rattle.wire_def.specs.Orders.{IsWidth, width_in, width_as, loaded}
+use Rattle.raw_buf.specs.View.{loaded_of}
 use Rattle.cast_stub.specs.declared.recv.Get.{Get}
 use Rattle.cast_stub.specs.Parts.{IsThere, on_some}
 use Rattle.cast_stub.specs.Draft.{Draft, raw, digit, listed, lined, tagged, flagged, done, fields, Drafts, no_draft, draft}

@@ -4,8 +4,7 @@ ghost use Rattle.std.specs.Prelude.{◌≡◌, ◌==◌, ◌≤◌, ◌*◌, not
 ghost use Rattle.std.specs.List.{list_all};
 ghost use Rattle.mint.specs.Kinds.{in_range, is_letter, width};
 ghost use Rattle.wire_def.specs.Arrays.{kind_of};
-ghost use Rattle.raw_buf.specs.Buf.{IsWidth};
-ghost use Rattle.raw_buf.specs.View.{width_as};
+ghost use Rattle.wire_def.specs.Orders.{IsWidth, width_as};
 ghost use Rattle.cast_stub.specs.Into.{fill_block, is_digit, numbers_at, row_into, wide_into};
 ghost use Rattle.cast_stub.specs.Runs.{Holds};
 ghost use Rattle.recv_machine.specs.Drawn.{drawn, array_at};

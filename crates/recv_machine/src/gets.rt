@@ -3,7 +3,7 @@
 ghost use Rattle.std.specs.Prelude.{◌≡◌, ◌<◌, ◌^◌};
 ghost use Rattle.mint.specs.Values.{num};
 ghost use Rattle.mint.specs.Types.{type_at};
-ghost use Rattle.raw_buf.specs.View.{width_as};
+ghost use Rattle.wire_def.specs.Orders.{width_as};
 ghost use Rattle.cast_stub.specs.Draft.{done, tagged};
 ghost use Rattle.cast_stub.specs.Fill.{into};
 ghost use Rattle.cast_stub.specs.Into.{num_into, tag_into, flag_into, count_into};

@@ -5,7 +5,7 @@ ghost use Rattle.mint.specs.Types.{type_at, number, label, text, scalar_of};
 ghost use Rattle.mint.specs.declared.kind.Count.TheVariants.{Any};
 ghost use Rattle.wire_def.specs.Arrays.{kind_of};
 ghost use Rattle.wire_def.specs.Scalars.{number_of, is_signed};
-ghost use Rattle.raw_buf.specs.View.{width_as};
+ghost use Rattle.wire_def.specs.Orders.{width_as};
 ghost use Rattle.cast_stub.specs.Parts.{IsThere, on_some};
 ghost use Rattle.recv_machine.specs.Drawn.{array_at, scalar_in, passing, digit_passing};
 

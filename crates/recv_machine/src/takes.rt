@@ -1,8 +1,7 @@
 //! The gets of a take, one after the other.
 
 ghost use Rattle.std.specs.Prelude.{◌≡◌, ◌<◌, ◌≤◌, ◌+◌, ◌^◌, length, slice_index, true, false, None, take, drop};
-ghost use Rattle.raw_buf.specs.Buf.{IsWidth};
-ghost use Rattle.raw_buf.specs.View.{width_in, width_as};
+ghost use Rattle.wire_def.specs.Orders.{IsWidth, width_in, width_as};
 ghost use Rattle.cast_stub.specs.Fill.{at_field, within, into, word_got, got, all_got};
 ghost use Rattle.cast_stub.specs.Into.{passed, same_octets};
 ghost use Rattle.cast_stub.specs.Runs.{Holds, then_run};

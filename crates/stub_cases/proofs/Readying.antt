@@ -15,7 +15,7 @@ use Rattle.wire_def.specs.Places.{IsPlace}
 use Rattle.wire_def.specs.declared.head.Head.{Head}
 use Rattle.wire_def.specs.Scalars.{gap}
 use Rattle.wire_def.specs.Send.{send}
-use Rattle.raw_buf.specs.Buf.{in_order}
+use Rattle.wire_def.specs.Orders.{in_order}
 use Rattle.cast_stub.specs.declared.send.SendCode.{SendCode}
 use Rattle.cast_stub.specs.declared.send.SendOp.{SendOp}
 use Rattle.cast_stub.specs.Append.{append}

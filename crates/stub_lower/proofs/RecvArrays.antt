@@ -23,7 +23,7 @@ use Rattle.wire_def.specs.Grammar.{Reading, got, stop, Reader, AreOctets, map_go
 use Rattle.wire_def.specs.Places.{IsPlace}
 use Rattle.wire_def.specs.Scalars.{gap, alignment_of, read_scalar}
 use Rattle.wire_def.specs.Arrays.{counted, count_of, kind_of, may_stand, read_count, read_head, read_octet, read_zeros, read_element, read_tail, read_array}
-use Rattle.raw_buf.specs.View.{loaded}
+use Rattle.wire_def.specs.Orders.{loaded}
 use Rattle.cast_stub.specs.declared.recv.Get.TheVariants as get
 use Rattle.cast_stub.specs.RecvBlock.{Recv, finish, skip_zero, each}
 use Rattle.cast_stub.specs.Draft.{Draft, raw, digit, lined, done, settle}

@@ -24,7 +24,7 @@ use Rattle.wire_def.specs.Scalars.{gap, scalar_place, is_signed, number_of, widt
 use Rattle.wire_def.specs.Described.{allowed}
 use Rattle.wire_def.specs.Arrays.{counted, kind_of, count_of, is_some, less_one, may_stand, read_count, read_ended, read_head, read_octet, read_zeros, read_element, read_tail, read_array}
 use Rattle.wire_def.proofs.Words.{IsOwn, is8, is16, is32, is64, own_of, octet_at}
-use Rattle.raw_buf.specs.View.{width_in, loaded}
+use Rattle.wire_def.specs.Orders.{width_in, loaded}
 use Rattle.cast_stub.specs.declared.recv.Get.{Get}
 use Rattle.cast_stub.specs.declared.recv.Get.TheVariants as get
 use Rattle.cast_stub.specs.RecvBlock.{Recv, finish, skip_any, pass, each}

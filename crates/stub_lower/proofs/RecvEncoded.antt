@@ -21,7 +21,7 @@ use Rattle.wire_def.specs.Scalars.{gap, own_width, at_least_32, scalar_place, is
 use Rattle.wire_def.specs.Lone.{lone_place, read_lone}
 use Rattle.wire_def.specs.Arrays.{counted, natural, read_count}
 use Rattle.wire_def.proofs.Words.{IsOwn, is8, is16, is32, is64, own_of, octet_at}
-use Rattle.raw_buf.specs.View.{width_in, loaded}
+use Rattle.wire_def.specs.Orders.{width_in, loaded}
 use Rattle.cast_stub.specs.declared.recv.Get.{Get}
 use Rattle.cast_stub.specs.declared.recv.Get.TheVariants as get
 use Rattle.cast_stub.specs.RecvBlock.{Recv, finish, need, skip_any, pass}

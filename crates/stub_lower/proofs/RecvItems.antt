@@ -17,7 +17,7 @@ use Rattle.wire_def.specs.Places.{IsPlace}
 use Rattle.wire_def.specs.Scalars.{gap, scalar_place, is_signed, number_of, width_of, read_word, read_scalar}
 use Rattle.wire_def.specs.Lone.{scalar_word, filling, read_any, read_desc, read_lone}
 use Rattle.wire_def.proofs.Words.{IsOwn, is8, is16, is32, is64, own_of, desc_wide}
-use Rattle.raw_buf.specs.View.{loaded}
+use Rattle.wire_def.specs.Orders.{loaded}
 use Rattle.cast_stub.specs.declared.recv.Get.{Get}
 use Rattle.cast_stub.specs.declared.recv.Get.TheVariants as get
 use Rattle.cast_stub.specs.RecvBlock.{finish, pass}

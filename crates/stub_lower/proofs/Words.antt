@@ -5,7 +5,7 @@ use Rattle.std.specs.Int.{Width, w8, w16, w32, w64, byte_len}
 use Rattle.std.proofs.lemmas.Bool.{lt-ltb}
 use Rattle.mint.specs.Types.{Scalar, number, label}
 use Rattle.mint.specs.Typed.{IsScalar}
-use Rattle.raw_buf.specs.Buf.{in_order}
+use Rattle.wire_def.specs.Orders.{in_order}
 use Rattle.wire_def.specs.declared.encoding.Encoding.{Encoding}
 use Rattle.wire_def.specs.declared.encoding.Encoding.TheVariants.{Xdr, CdrBig, CdrLittle, Mach}
 use Rattle.wire_def.specs.declared.head.Order.{Order}

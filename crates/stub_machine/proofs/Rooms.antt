@@ -8,7 +8,8 @@ use Rattle.wire_def.specs.Scalars.{gap}
 use Rattle.wire_def.specs.declared.head.Order.{Order}
 use Rattle.wire_def.specs.declared.head.Order.TheVariants.{Big, Little}
 use Rattle.raw_buf.specs.declared.tally.Tally.{Tally}
-use Rattle.raw_buf.specs.Buf.{in_order, checked, moved, stored, rowed}
+use Rattle.raw_buf.specs.Buf.{checked, moved, stored, rowed}
+use Rattle.wire_def.specs.Orders.{in_order}
 use Rattle.raw_buf.proofs.Views.{written-after}
 use Rattle.raw_buf.proofs.Wording.{tally}
 use Rattle.cast_stub.specs.Parts.{on_some, IsThere}

@@ -14,7 +14,8 @@ use Rattle.swap_kit.specs.Swapped as kit
 use Rattle.swap_kit.proofs.Swapping.{swapped-none}
 use Rattle.swap_kit.proofs.Moving.{put_next}
 use Rattle.raw_buf.specs.declared.tally.Tally.{Tally}
-use Rattle.raw_buf.specs.Buf.{Buf, in_order, moved, stored, rowed}
+use Rattle.raw_buf.specs.Buf.{Buf, moved, stored, rowed}
+use Rattle.wire_def.specs.Orders.{in_order}
 use Rattle.raw_buf.proofs.Images.{image_swapped, swap_width}
 use Rattle.cast_stub.specs.Parts.{on_some, IsThere}
 use Rattle.cast_stub.specs.Puts.{word, half_of, wrapped}

@@ -3,7 +3,8 @@ use Rattle.std.specs.Prelude.{◌≡◌, ℕ, zero, suc, ◌+◌, ◌-◌, ◌^�
 use Rattle.kit_base.specs.Bytes.{written}
 use Rattle.wire_def.specs.Scalars.{gap}
 use Rattle.raw_buf.specs.declared.tally.Tally.{Tally}
-use Rattle.raw_buf.specs.Buf.{Buf, NoneFell, in_order, checked, moved, stored, rowed}
+use Rattle.raw_buf.specs.Buf.{Buf, NoneFell, checked, moved, stored, rowed}
+use Rattle.wire_def.specs.Orders.{in_order}
 use Rattle.cast_stub.specs.Parts.{on_some, IsThere}
 use Rattle.cast_stub.specs.Steps.{Step, Room, Pad, Stored, Widened, Copied, Patched, Steps}
 

@@ -30,6 +30,8 @@ pub mod Room
 pub mod Typing
 -- * The laws, over each encoding
 pub mod Encodings
+-- * Nothing is sent exactly for types without octets, by mutual induction on types and fields
+pub mod Hollow
 -- Octets worked out by hand: the laws alone would hold of other formats too
 mod Worked
 -- Octets that are read, worked out by hand: the first fault and its place

@@ -1,5 +1,5 @@
 -- Each weighted part of a value begins at an octet, and few at one, by mutual induction on types, fields and arms.
-use Rattle.std.proofs.Common.{◌≡◌, ◌⊎◌, inl, inr, ℕ, zero, suc, ◌+◌, ◌*◌, ◌≤◌, ℤ, pos, List, [], ◌∷◌, length, Bool, true, false, ◌||◌, int_eq, refl, ap, arith, length-append}
+use Rattle.std.proofs.Common.{◌≡◌, ◌⊎◌, inl, inr, ℕ, zero, suc, ◌+◌, ◌*◌, ◌≤◌, ℤ, pos, List, [], ◌∷◌, length, Bool, true, false, ◌&&◌, int_eq, refl, ap, arith, length-append}
 use Rattle.std.specs.Prelude.{MatchBool}
 use Rattle.std.specs.Int.{Width, w8, w16, w32, w64, byte_len}
 use Rattle.std.proofs.Math.Nat.{mul-le-mul_left, mul-le-mul_right}
@@ -17,7 +17,8 @@ use Rattle.wire_def.specs.Arrays.{counted, CountSpells, HeadSpells, OctetSpells,
 use Rattle.wire_def.specs.Spells.{Spells, FieldsSpell, ArmSpells}
 use Rattle.mint.specs.Blank.{depth, fields_depth, arms_depth}
 use Rattle.mint.specs.Sound.{IsSound}
-use Rattle.wire_def.proofs.Sound.{fills, fields_fill, IsCount, TakesRoom, FieldsTakeRoom, ArmsTakeRoom, room, shallow}
+use Rattle.wire_def.specs.Hollow.{is_hollow, are_hollow}
+use Rattle.wire_def.proofs.Sound.{IsCount, TakesRoom, FieldsTakeRoom, ArmsTakeRoom, room, shallow}
 use Rattle.wire_def.proofs.Words.{wide}
 use Rattle.wire_def.proofs.DescribedGrammar.{described_long}
 
@@ -28,9 +29,9 @@ byte_len_least w32 = omega arith
 byte_len_least w64 = omega arith
 byte_len_least _ = omega arith
 
-or_true : (a b : Bool) → a || b ≡ true → (a ≡ true) ⊎ (b ≡ true)
-or_true true b h = inl refl
-or_true false b h = inr h
+not_both : (a b : Bool) → a && b ≡ false → (a ≡ false) ⊎ (b ≡ false)
+not_both false b h = inl refl
+not_both true b h = inr h
 
 pub match_either : (b : Bool) {P Q R : Type 0} → MatchBool b P Q → (P → R) → (Q → R) → R
 match_either true h f g = f h
@@ -131,7 +132,7 @@ module _ (e : Encoding) where
       omega (arith, room.0, room.1, two)
 
   mutual
-    pub filled : (t : Ty) → TakesRoom t → fills t ≡ true → (p : ℕ) (o : List ℕ) (v : Val) → Spells e t p o v → 1 ≤ length o
+    pub filled : (t : Ty) → TakesRoom t → is_hollow t ≡ false → (p : ℕ) (o : List ℕ) (v : Val) → Spells e t p o v → 1 ≤ length o
     filled void_type r f p o v h = absurd cc
     filled (scalar_type s) r f p o (num n) h = lone_room s p o n h
     filled (array_type a) r f p o (row k ns) h = (array_room a p o ns r h.1).0
@@ -149,12 +150,12 @@ module _ (e : Encoding) where
         rw (is, length-append) (omega (arith, head))
     filled _ r f p o v h = absurd h
 
-    fields_filled : (ts : Tys) → FieldsTakeRoom ts → fields_fill ts ≡ true → (p : ℕ) (o : List ℕ) (vs : Vals) → FieldsSpell e ts p o vs
+    fields_filled : (ts : Tys) → FieldsTakeRoom ts → are_hollow ts ≡ false → (p : ℕ) (o : List ℕ) (vs : Vals) → FieldsSpell e ts p o vs
         → 1 ≤ length o
     fields_filled no_fields r f p o vs h = absurd cc
     fields_filled (field t ts) r f p o no_more h = absurd h
     fields_filled (field t ts) r f p o (val v vs) (a, b, is, first, more) =
-        rw (is, length-append) (elim (or_true (fills t) (fields_fill ts) f) [
+        rw (is, length-append) (elim (not_both (is_hollow t) (are_hollow ts) f) [
           | inl here ↦ let long = filled t r.0 here p a v first in omega (arith, long)
           | inr after ↦ let long = fields_filled ts r.1 after (p + length a) b vs more in omega (arith, long)
         ])

@@ -1,5 +1,5 @@
 -- What a table refuses leaves types whose values take room, by mutual induction on types, fields and arms.
-use Rattle.std.proofs.Common.{◌≡◌, ℕ, zero, suc, ◌<◌, ◌≤◌, Bool, true, false, ◌||◌, IsTrue, cond, None, Some, refl, arith}
+use Rattle.std.proofs.Common.{◌≡◌, ℕ, zero, suc, ◌<◌, ◌≤◌, Bool, true, false, ◌||◌, ◌&&◌, cond, None, Some, refl, arith}
 use Rattle.std.specs.Prelude.{nat_eq, nat_lt}
 use Rattle.std.proofs.lemmas.Bool.{ltb-false}
 use Rattle.mint.specs.declared.kind.Count.{Count}
@@ -10,29 +10,19 @@ use Rattle.mint.specs.Blank.{blank, blanks, depth}
 use Rattle.mint.specs.Types.{Array, text, row_of, Ty, void_type, scalar_type, array_type, group_type, items_type, choice_type, maybe_type, Tys, no_fields, field, Arms, no_other, others, arm_type}
 use Rattle.mint.specs.Sound.{is_unfit, is_zero, is_empty, is_mislabelled, level_refusal, IsSound, AreSound, ArmsSound}
 use Rattle.wire_def.specs.Arrays.{count_of}
-
--- whether each of its values has a number, a flag, a count or an element
-abbrev mutual
-  pub fills : Ty → Bool
-  fills void_type = false
-  fills (group_type ts) = fields_fill ts
-  fills _ = true
-
-  pub fields_fill : Tys → Bool
-  fields_fill no_fields = false
-  fields_fill (field t ts) = fills t || fields_fill ts
+use Rattle.wire_def.specs.Hollow.{is_hollow, are_hollow}
 
 -- a count that is not exactly 0
 abbrev pub IsCount : Count → Type 0
 IsCount (Exactly m) = 0 < m
 IsCount _ = Unit {0}
 
--- a type in which no count is exactly 0, and each element fills
+-- a type in which no count is exactly 0, and no element is without octets
 abbrev mutual
   pub TakesRoom : Ty → Type 0
   TakesRoom (array_type a) = IsCount (count_of a)
   TakesRoom (group_type ts) = FieldsTakeRoom ts
-  TakesRoom (items_type c t) = IsCount c × IsTrue (fills t) × TakesRoom t
+  TakesRoom (items_type c t) = IsCount c × (is_hollow t ≡ false) × TakesRoom t
   TakesRoom (choice_type s arms) = ArmsTakeRoom arms
   TakesRoom (maybe_type t) = TakesRoom t
   TakesRoom _ = Unit {0}
@@ -83,28 +73,32 @@ array_some : (a : Array) → is_empty (array_type a) ≡ false → IsCount (coun
 array_some (text c) h = count_some c h
 array_some (row_of k c) h = count_some c h
 
--- a blank value that weighs something fills
-mutual
-  unfilled : (t : Ty) → fills t ≡ false → weight (blank t) ≡ 0
-  unfilled void_type h = refl
-  unfilled (group_type ts) h = fields_unfilled ts h
-  unfilled _ h = absurd cc
+both : (a b : Bool) → a && b ≡ true → (a ≡ true) × (b ≡ true)
+both true b h = (refl, h)
+both false b h = absurd cc
 
-  fields_unfilled : (ts : Tys) → fields_fill ts ≡ false → weights (blanks ts) ≡ 0
-  fields_unfilled no_fields h = refl
-  fields_unfilled (field t ts) h =
-      let parts = neither (fills t) (fields_fill ts) h in
-      omega (arith, unfilled t parts.0, fields_unfilled ts parts.1)
+-- a type whose blank value weighs something has octets
+mutual
+  weightless : (t : Ty) → is_hollow t ≡ true → weight (blank t) ≡ 0
+  weightless void_type h = refl
+  weightless (group_type ts) h = fields_weightless ts h
+  weightless _ h = absurd cc
+
+  fields_weightless : (ts : Tys) → are_hollow ts ≡ true → weights (blanks ts) ≡ 0
+  fields_weightless no_fields h = refl
+  fields_weightless (field t ts) h =
+      let parts = both (is_hollow t) (are_hollow ts) h in
+      omega (arith, weightless t parts.0, fields_weightless ts parts.1)
 
 weighs : (n : ℕ) → nat_eq n 0 ≡ false → n ≡ 0 → ⊥
 weighs zero h is = absurd cc
 weighs (suc n) h is = absurd cc
 
-blank_fills : (t : Ty) → nat_eq (weight (blank t)) 0 ≡ false → fills t ≡ true
-blank_fills t h = decide (fills t) refl where
-  decide : (b : Bool) → fills t ≡ b → fills t ≡ true
-  decide true is = is
-  decide false is = absurd (weighs (weight (blank t)) h (unfilled t is))
+has_octets : (t : Ty) → nat_eq (weight (blank t)) 0 ≡ false → is_hollow t ≡ false
+has_octets t h = decide (is_hollow t) refl where
+  decide : (b : Bool) → is_hollow t ≡ b → is_hollow t ≡ false
+  decide false is = is
+  decide true is = absurd (weighs (weight (blank t)) h (weightless t is))
 
 mutual
   pub room : (t : Ty) → IsSound t → TakesRoom t
@@ -114,7 +108,7 @@ mutual
   room (group_type ts) h = fields_room ts h.1
   room (items_type c t) h =
       let parts = neither (is_zero c) (nat_eq (weight (blank t)) 0) (level_passes (items_type c t) h.0).0 in
-      (count_some c parts.0, blank_fills t parts.1, room t h.1)
+      (count_some c parts.0, has_octets t parts.1, room t h.1)
   room (choice_type s arms) h = arms_room arms h.1
   room (maybe_type t) h = room t h.1
 

@@ -25,6 +25,8 @@ pub enum HeadErr {
     Complex,
     /// A field has a number that it cannot have.
     Item,
+    /// The target of a GIOP request is not given by an object key.
+    Target,
 }
 
 /// What is wrong with the octets of a body.

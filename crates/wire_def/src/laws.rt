@@ -1,6 +1,7 @@
 //! The laws of the byte grammars, each the contract of a function that does nothing.
 
 ghost use Rattle.wire_def.specs.Laws.{BodiesAreLight, NoneBegins, OneValue, PlainIsNotMach, ReadingIsGrammar, SentIsShort, SentSpells, SpelledIsTyped, SpelledOrStopped};
+ghost use Rattle.wire_def.specs.Hollow.{HollowIsEmpty};
 ghost use Rattle.wire_def.specs.declared.encoding.Encoding.{Encoding};
 
 /// The encodings without descriptors are all but that of Mach messages.
@@ -16,6 +17,12 @@ pub fn sent_is_spelled()
 /// What is sent has at most 16 times the value's weight in octets.
 pub fn sent_is_short()
     ensures { (e : Encoding) → SentIsShort e }
+{}
+
+/// Nothing is sent for any value of a type without octets, and something for each value of any
+/// other.
+pub fn hollow_is_empty()
+    ensures { (e : Encoding) → HollowIsEmpty e }
 {}
 
 /// Octets spell at most one value.

@@ -16,8 +16,8 @@ pub use encoding::{Back, Encoding};
 pub use fault::{Fault, FaultKind, HeadErr};
 pub use head::{Head, Order};
 pub use laws::{
-    bodies_are_light, no_spelling_begins_another, octets_spell_one_value, plain_is_not_mach,
-    reading_is_a_grammar, sent_is_short, sent_is_spelled, spelled_or_stopped,
+    bodies_are_light, hollow_is_empty, no_spelling_begins_another, octets_spell_one_value,
+    plain_is_not_mach, reading_is_a_grammar, sent_is_short, sent_is_spelled, spelled_or_stopped,
 };
 pub use outcome::{Outcome, Refusal};
 pub use reply::{ReplyHead, Status};

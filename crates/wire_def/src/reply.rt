@@ -38,4 +38,6 @@ pub enum Status<'a> {
     System(&'a [u8], u32, u32),
     /// A return code other than 0.
     RetCode(i32),
+    /// A user exception by its number among those of the operation, from 1; its members follow.
+    Raised(u32),
 }

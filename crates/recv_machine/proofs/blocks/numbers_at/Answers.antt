@@ -2,7 +2,7 @@ use Rattle.std.proofs.Common.{◌<◌, ◌≤◌, ◌+◌, drop, arith, rules, s
 use Rattle.std.specs.Int.{w128}
 use Rattle.std.proofs.lemmas.Int.{to_z-of_z}
 use Rattle.mint.specs.Kinds.{IsInRange}
-use Rattle.raw_buf.specs.View.{width_as}
+use Rattle.wire_def.specs.Orders.{width_as}
 use Rattle.recv_machine.specs.Drawn.{array_at}
 use Rattle.recv_machine.proofs.Blocking.{one_near, left_turn, left_refused, left_end, passing_ranged}
 use Rattle.recv_machine.proofs.blocks.numbers_at.Goals as goal

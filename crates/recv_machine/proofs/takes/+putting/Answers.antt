@@ -1,5 +1,5 @@
 use Rattle.std.proofs.Common.{rules, ◌+◌, drop, arith}
-use Rattle.raw_buf.specs.View.{width_as}
+use Rattle.wire_def.specs.Orders.{width_as}
 use Rattle.cast_stub.specs.Fill.{within, into}
 use Rattle.recv_machine.specs.Ran.{place_of}
 use Rattle.recv_machine.proofs.Drafting.{got_field}

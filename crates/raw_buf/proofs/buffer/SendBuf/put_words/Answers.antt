@@ -18,5 +18,4 @@ loop-number-preserved c = record {
   spent =
       c.put_word.ensures.spent
       ∙ ap (λ t. moved (stored t)) c.loop-number.invariant.spent ∙ worded_more c.loop-number.number-index c.args.self.now.spent;
-  room = c.put_word.ensures.room ∙ c.loop-number.invariant.room;
 }

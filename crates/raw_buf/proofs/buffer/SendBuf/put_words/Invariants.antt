@@ -8,5 +8,4 @@ invariant-loop-number l = record {
   front : l.self.front ≡ drop (4 * l.number-index) l.initial.self.front;
   tally : l.self.tally ≡ worded l.number-index l.initial.self.tally;
   spent : l.self.spent ≡ worded l.number-index l.initial.self.spent;
-  room : l.self.room ≡ l.initial.self.room;
 }

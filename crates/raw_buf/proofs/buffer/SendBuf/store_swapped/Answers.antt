@@ -1,8 +1,8 @@
-use Rattle.std.proofs.Common.{◌≤◌, ◌+◌, length, arith}
+use Rattle.std.proofs.Common.{length, arith}
 use Rattle.std.proofs.lemmas.Grind.{common_steps}
 use Rattle.swap_kit.specs.Swapped.{swapped}
 use Rattle.swap_kit.proofs.Swapping.{length-swapped}
-use Rattle.raw_buf.proofs.Views.{front-written_first, length-written}
+use Rattle.raw_buf.proofs.Views.{front-written_first}
 use Rattle.raw_buf.proofs.buffer.SendBuf.store_swapped.Goals as goal
 
 pub returns-clause-front : goal.returns-clause-front
@@ -12,12 +12,3 @@ returns-clause-front c =
     rw (← c.self.view_is, c.swap_at.ensures)
     (front-written_first memory (swapped c.args.width image) c.self.inside.len c.self.inside.ahead (length image) c.self.invariant
     (length-swapped c.args.width image c.requires.width c.requires.whole) (grind (arith, common_steps)))
-
-pub returns-clause-room : goal.returns-clause-room
-returns-clause-room c =
-    let memory = c.self.inside.memory.items in
-    let image = c.args.image.now in
-    let fits : c.self.inside.len + length image ≤ length memory = grind (arith, common_steps) in
-    rw (← c.self.view_is, c.swap_at.ensures)
-    (length-written memory (swapped c.args.width image) c.self.inside.len
-    (omega (arith, fits, length-swapped c.args.width image c.requires.width c.requires.whole)))
