@@ -1,5 +1,5 @@
 -- An arm that the head of a reply tells is one of the operation's reply.
-use Rattle.std.proofs.Common.{◌≡◌, ◌<◌, ◌≤◌, ℕ, List, [], length, Option, Some, None, refl, sym, ap, ◌∙◌, subst, arith}
+use Rattle.std.proofs.Common.{◌≡◌, ◌<◌, ◌≤◌, ℕ, zero, suc, List, [], length, Option, Some, None, refl, sym, ap, ◌∙◌, subst, arith}
 use Rattle.std.specs.Prelude.{IsTrue, is_some, slice_get}
 use Rattle.std.specs.List.{position_from}
 use Rattle.std.specs.Str.{bytes_eq}
@@ -11,6 +11,11 @@ use Rattle.mint.specs.Types.{Ty}
 use Rattle.aoi.specs.Plain.{PlainInterface, PlainOperation}
 use Rattle.pres.specs.Bindings.{Binding, IsBinding}
 use Rattle.pres.specs.Offers.{type_faces}
+use Rattle.wire_def.specs.declared.reply.ReplyHead.{ReplyHead}
+use Rattle.back_xdr.specs.Reply as xdr_reply
+use Rattle.back_xdr.specs.Reply.{AcceptedSpells, DeniedSpells, FateSpells}
+use Rattle.back_xdr.specs.Reported.{status_of as xdr_status}
+use Rattle.back_mach.specs.Reported.{status_of as mach_status}
 use Rattle.giop_head.specs.Reply as giop_reply
 use Rattle.back_cdr.specs.Targets.{IsCdr, target_of}
 use Rattle.op_codes.proofs.ArmIds.{many_ids}
@@ -25,19 +30,32 @@ use Rattle.op_codes.proofs.ReplyTypes.{are_the_replies}
 
 -- ---- what a status tells
 
--- without exceptions a status tells the answer alone
-arm_zero : (s : Status) (k : ℕ) → fate_of [] s ≡ fates.Arm k → k ≡ 0
-arm_zero status.Answer k e = cc
-arm_zero status.ProgUnavail k e = absurd cc
-arm_zero (status.ProgMismatch low high) k e = absurd cc
-arm_zero status.ProcUnavail k e = absurd cc
-arm_zero status.GarbageArgs k e = absurd cc
-arm_zero status.SystemErr k e = absurd cc
-arm_zero (status.RpcMismatch low high) k e = absurd cc
-arm_zero (status.AuthError why) k e = absurd cc
-arm_zero (status.User id) k e = absurd cc
-arm_zero (status.System id minor completion) k e = absurd cc
-arm_zero (status.RetCode code) k e = absurd cc
+-- a status that has no number of an exception
+abbrev IsUnnumbered : Status → Type 0
+IsUnnumbered (status.Raised k) = ⊥
+IsUnnumbered _ = Unit {0}
+
+-- without exceptions such a status tells the answer alone
+arm_zero : (s : Status) (k : ℕ) → IsUnnumbered s → fate_of [] s ≡ fates.Arm k → k ≡ 0
+arm_zero status.Answer k one e = cc
+arm_zero (status.Raised n) k one e = absurd one
+arm_zero _ k one e = absurd cc
+
+state_unnumbered : (p : ℕ) (o : List ℕ) (s : Status) → AcceptedSpells p o s → IsUnnumbered s
+state_unnumbered p o (status.Raised n) h = h
+state_unnumbered p o _ h = tt
+
+denial_unnumbered : (p : ℕ) (o : List ℕ) (s : Status) → DeniedSpells p o s → IsUnnumbered s
+denial_unnumbered p o (status.Raised n) h = h
+denial_unnumbered p o _ h = tt
+
+xdr_unnumbered : (p : ℕ) (o : List ℕ) (f : xdr_reply.Fate) → FateSpells p o f → IsUnnumbered (xdr_status f)
+xdr_unnumbered p o (xdr_reply.accepted verf s) (a, b, is, zero, (c, d, is', auth, state)) = state_unnumbered _ d s state
+xdr_unnumbered p o (xdr_reply.denied s) (a, b, is, one, denial) = denial_unnumbered _ b s denial
+
+mach_unnumbered : (m : ℕ) → IsUnnumbered (mach_status m)
+mach_unnumbered zero = tt
+mach_unnumbered (suc m) = tt
 
 found_at : (id : List ℕ) (o : Option ℕ) (k : ℕ) → raised_at id o ≡ fates.Arm k → o ≡ Some k
 found_at id None k e = absurd cc
@@ -65,13 +83,15 @@ module _ (b : Binding) (op : ℕ) (i : PlainInterface) (p : PlainOperation) (o :
         omega (arith, most, many_ids k cdr b op i p is)
 
     few_over : (k : Back) → slice_get (operations_in k b.unit.interfaces) op ≡ Some (i, p) → RepliesOver k b op o t → n ≤ length p.raises
-    few_over back.Xdr is (r, starts, reported) =
-        let none = arm_zero r.status n (ap (λ (x : Heard). x.fate) reported ∙ arm) in
+    few_over back.Xdr is (r, (reply, used, (within, (x, y, split, xid, (z, w, split', type, fate))), same), reported) =
+        let plain = subst IsUnnumbered (ap (λ (h : ReplyHead). h.status) same) (xdr_unnumbered _ w reply.fate fate) in
+        let none = arm_zero r.status n plain (ap (λ (x : Heard). x.fate) reported ∙ arm) in
         omega (arith, none)
     few_over back.CdrBig is begins = giop_few back.CdrBig refl is begins
     few_over back.CdrLittle is begins = giop_few back.CdrLittle refl is begins
-    few_over back.Mach is (r, starts, reported) =
-        let none = arm_zero r.status n (ap (λ (x : Heard). x.fate) reported ∙ arm) in
+    few_over back.Mach is (r, (reply, used, starts, same), reported) =
+        let plain = subst IsUnnumbered (ap (λ (h : ReplyHead). h.status) same) (mach_unnumbered reply.code) in
+        let none = arm_zero r.status n plain (ap (λ (x : Heard). x.fate) reported ∙ arm) in
         omega (arith, none)
 
 pub reported_arm : (b : Binding) (op : ℕ) → IsBinding b → op < length b.ops → (o : List ℕ) (t : Heard) (k : ℕ) → BeginsReply b op o t

@@ -156,6 +156,7 @@ fate_same ids status.SystemErr f e = absurd cc
 fate_same ids (status.RpcMismatch low high) f e = absurd cc
 fate_same ids (status.AuthError why) f e = absurd cc
 fate_same ids (status.RetCode code) f e = absurd cc
+fate_same ids (status.Raised k) f e = absurd cc
 
 abbrev hearing : Head → Fate → Encoding → ℕ → Heard
 hearing h f e used = record { head = h; fate = f; encoding = e; used = used }

@@ -50,6 +50,7 @@ fate_of ids status.SystemErr = Refused refusal.SystemErr
 fate_of ids (status.RpcMismatch low high) = Refused (refusal.RpcMismatch low high)
 fate_of ids (status.AuthError why) = Refused (refusal.AuthError why)
 fate_of ids (status.User id) = raised ids id.now
+fate_of ids (status.Raised k) = Arm k
 fate_of ids (status.System id minor completion) = Refused (refusal.SystemException id.now minor completion)
 fate_of ids (status.RetCode code) = Refused (refusal.RetCode code)
 

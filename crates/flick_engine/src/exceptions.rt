@@ -47,6 +47,7 @@ impl Engine {
         let refusal = match status {
             Status::Answer => return Ok(Fate::Arm(0)),
             Status::User(id) => return raised_at(alloc, self.raise_with(op, id), id),
+            Status::Raised(number) => return Ok(Fate::Arm(number)),
             Status::ProgUnavail => Refusal::ProgUnavail,
             Status::ProgMismatch(low, high) => Refusal::ProgMismatch(low, high),
             Status::ProcUnavail => Refusal::ProcUnavail,

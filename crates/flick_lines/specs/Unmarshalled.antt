@@ -37,6 +37,7 @@ head_name faults.Text = codes "Text"
 head_name faults.Cred = codes "Cred"
 head_name faults.Complex = codes "Complex"
 head_name faults.Item = codes "Item"
+head_name faults.Target = codes "Target"
 
 -- the word of a body's fault
 abbrev pub kind_name : FaultKind → List ℕ

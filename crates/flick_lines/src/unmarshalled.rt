@@ -105,6 +105,7 @@ fn head_name(fault: HeadErr) -> &'static str
         HeadErr::Cred => "Cred",
         HeadErr::Complex => "Complex",
         HeadErr::Item => "Item",
+        HeadErr::Target => "Target",
     }
 }
 
