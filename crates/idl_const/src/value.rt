@@ -1,7 +1,7 @@
 //! The value of an expression.
 
 ghost use Rattle.std.specs.Prelude.{◌≡◌};
-ghost use Rattle.idl_const.specs.Exprs.{seen, IsShallow};
+ghost use Rattle.idl_const.specs.Exprs.{seen};
 ghost use Rattle.idl_const.specs.Values.{value_of, constant_of};
 
 use crate::{Expr, operators};
@@ -26,7 +26,6 @@ pub enum ConstErr {
 /// The value of an expression, or its first fault: the left operand's, then the right operand's,
 /// then the operator's own.
 pub fn eval(expr: &Expr, consts: &Consts) -> Result<i128, ConstErr>
-    requires { IsShallow (seen expr.now) }
     ensures { result ≡ value_of consts.now (seen expr.now) }
 {
     match expr {
