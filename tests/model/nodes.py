@@ -4,7 +4,7 @@ what values a plan gives, how long what is sent of a node is, and into how many 
 Nodes and values have the form of the cases of tests/layers. As all of the model it is written from the
 standards and docs/, with nothing of the crates in it.
 """
-from functools import lru_cache
+from functools import lru_cache, reduce
 
 from packing import packed, unpacked
 
@@ -375,10 +375,10 @@ def added_up(encoding, nodes, id):
         # A count ends at a multiple of 4.
         return listed(encoding, node, scalar(encoding, node[1]), (4 if encoding != "xdr" and width == 8 else 0, width))
     if form == "group":
-        whole = [0] * 8
-        for child in reversed(node[1]):
-            whole = after(span(encoding, nodes, child), whole)
-        return whole
+        parts = [span(encoding, nodes, child) for child in node[1]]
+        if all(isinstance(part, list) for part in parts):
+            return reduce(after, parts, [0] * 8)
+        return None if None in parts else sum(top(part) for part in parts)
     if form == "items":
         return listed(encoding, node, span(encoding, nodes, node[1]), None)
     if form == "choice":

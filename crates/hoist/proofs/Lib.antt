@@ -58,3 +58,5 @@ pub mod Rowless
 pub mod Worked
 -- Sizes over XDR, worked out by hand
 pub mod WorkedSizes
+-- Regions over CDR and in Mach messages, counted by hand
+pub mod WorkedRegions

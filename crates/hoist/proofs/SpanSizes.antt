@@ -16,19 +16,24 @@ use Rattle.wire_def.specs.Send.{flag}
 use Rattle.wire_def.proofs.Sound.{IsCount, TakesRoom, FieldsTakeRoom, room}
 use Rattle.storage_class.specs.declared.span.Span.{Span}
 use Rattle.storage_class.specs.declared.span.Span.TheVariants.{Fixed, Bounded, Unbounded}
-use Rattle.storage_class.specs.Classing.{from_each, length_at, length_after, run, greatest, exactly, at_most, top, loose, sum_of_tops, greater_top, after, either, times, times_top}
+use Rattle.storage_class.specs.Classing.{from_each, length_at, length_after, run, greatest, exactly, at_most, is_fixed, top, loose, sum_of_tops, greater_top, after, either, times, times_top}
 use Rattle.storage_class.proofs.Residues.{eighth}
-use Rattle.storage_class.specs.Spans.{lone_length, scalar_span, element_length, described_length, array_length, array_most, array_counted, text_counted, array_span, span, fields_span, arms_span}
+use Rattle.storage_class.specs.Spans.{lone_length, scalar_span, element_length, described_length, array_length, array_most, array_counted, text_counted, array_span, span, are_fixed, chain, sum_of, fields_span, arms_span}
 use Rattle.cast_stub.specs.Parts.{IsThere}
 use Rattle.hoist.specs.Bound.{most, plus}
 use Rattle.wire_def.specs.Hollow.{is_hollow, are_hollow}
 use Rattle.hoist.specs.Regions.{AreSizes, fields_top, fields_weight, ArmsBounded, IsCounted}
-use Rattle.hoist.specs.SpanSizes.{is_fixed, least, weight_of, scalar_top, count_length, sizes}
+use Rattle.hoist.specs.SpanSizes.{least, weight_of, scalar_top, count_length, sizes}
 
 -- ---- greatest and least lengths
 
 some_same : (i j : ℕ) → Some i ≡ Some j → i ≡ j
 some_same i j e = cc
+
+-- what is so of both of two spans
+either_way : (P : Span → Type 0) (b : Bool) (x y : Span) → P x → P y → P (cond b x y)
+either_way P true x y h j = h
+either_way P false x y h j = j
 
 -- lengths for each remainder
 abbrev IsEight : Span → Type 0
@@ -82,9 +87,13 @@ eight_after (Fixed f) Unbounded = tt
 eight_after (Bounded m) b = eight_tops (Some m) (top b)
 eight_after Unbounded b = tt
 
-eight_fields : (e : Encoding) (ts : Tys) → IsEight (fields_span e ts)
-eight_fields e no_fields = refl
-eight_fields e (field t ts) = eight_after (span e t) (fields_span e ts)
+eight_chain : (e : Encoding) (ts : Tys) → IsEight (chain e ts)
+eight_chain e no_fields = refl
+eight_chain e (field t ts) = eight_after (span e t) (chain e ts)
+
+eight_sum : (e : Encoding) (ts : Tys) → IsEight (sum_of e ts)
+eight_sum e no_fields = tt
+eight_sum e (field t ts) = eight_tops (top (span e t)) (top (sum_of e ts))
 
 eight_exactly : (g : ℕ → ℕ) → IsEight (exactly (from_each g))
 eight_exactly g = eight_reported (list_all (λ n. nat_le n 4294967295) (from_each g)) (Fixed (from_each g)) refl
@@ -123,7 +132,8 @@ eight : (e : Encoding) (t : Ty) → IsEight (span e t)
 eight e void_type = refl
 eight e (scalar_type s) = refl
 eight e (array_type a) = eight_array e a
-eight e (group_type ts) = eight_fields e ts
+eight e (group_type ts) =
+    either_way (λ s. IsEight s) (are_fixed e ts) (chain e ts) (sum_of e ts) (eight_chain e ts) (eight_sum e ts)
 eight e (items_type (Exactly n) t) = eight_times n (span e t)
 eight e (items_type (AtMost n) t) = eight_after (scalar_span e counted) (times_top n (top (span e t)))
 eight e (items_type Any t) = tt
@@ -136,6 +146,25 @@ reported_weight : (b : Bool) (s : Span) (k : ℕ) → k ≤ weight_of s → IsTh
 reported_weight true s k h there = h
 reported_weight false s k h there = absurd there
 
+top_weight : (s : Span) (n : ℕ) → top s ≡ Some n → weight_of s ≤ n - 1
+top_weight (Fixed f) n h = let most = least_greatest f in let same = some_same (greatest f) n h in omega (arith, most, same)
+top_weight (Bounded m) n h = let same = some_same m n h in omega (arith, same)
+top_weight Unbounded n h = absurd cc
+
+tops_weight : (x y : Option ℕ) (k l : ℕ) → ((m : ℕ) → x ≡ Some m → k ≤ m - 1) → ((n : ℕ) → y ≡ Some n → l ≤ n - 1)
+    → IsThere (top (sum_of_tops x y)) → k + l ≤ weight_of (sum_of_tops x y)
+tops_weight (Some m) (Some n) k l f g there =
+    let one = f m refl in
+    let two = g n refl in
+    reported_weight (nat_le (m + n) 4294967295) (Bounded (m + n)) (k + l) (omega (arith, one, two)) there
+tops_weight (Some m) None k l f g there = absurd there
+tops_weight None y k l f g there = absurd there
+
+-- two parts, by their bounds alone
+both_weight : (a b : Span) → IsThere (top (sum_of_tops (top a) (top b)))
+    → weight_of a + weight_of b ≤ weight_of (sum_of_tops (top a) (top b))
+both_weight a b there = tops_weight (top a) (top b) (weight_of a) (weight_of b) (top_weight a) (top_weight b) there
+
 after_weight : (a b : Span) → IsEight a → IsEight b → IsThere (top (after a b)) → weight_of a + weight_of b ≤ weight_of (after a b)
 after_weight (Fixed f) (Fixed g) i j there =
     let low = each_least (least f + least g) (length_after f g)
@@ -145,26 +174,18 @@ after_weight (Fixed f) (Fixed g) i j there =
   where
     weights : (m n k : ℕ) → m + n ≤ k → (m - 1) + (n - 1) ≤ k - 1
     weights m n k h = omega arith
-after_weight (Fixed f) (Bounded n) i j there = reported_weight (nat_le (greatest f + n) 4294967295) (Bounded (greatest f + n))
-    (weight_of (Fixed f) + (n - 1)) (let most = least_greatest f in omega (arith, most)) there
-after_weight (Fixed f) Unbounded i j there = absurd there
-after_weight (Bounded m) (Fixed g) i j there = reported_weight (nat_le (m + greatest g) 4294967295) (Bounded (m + greatest g))
-    ((m - 1) + weight_of (Fixed g)) (let most = least_greatest g in omega (arith, most)) there
-after_weight (Bounded m) (Bounded n) i j there =
-    reported_weight (nat_le (m + n) 4294967295) (Bounded (m + n)) ((m - 1) + (n - 1)) (omega arith) there
-after_weight (Bounded m) Unbounded i j there = absurd there
-after_weight Unbounded b i j there = absurd there
-
-top_weight : (s : Span) (n : ℕ) → top s ≡ Some n → weight_of s ≤ n - 1
-top_weight (Fixed f) n h = let most = least_greatest f in let same = some_same (greatest f) n h in omega (arith, most, same)
-top_weight (Bounded m) n h = let same = some_same m n h in omega (arith, same)
-top_weight Unbounded n h = absurd cc
+after_weight a b i j there = both_weight a b there
 
 -- ---- what has a greatest length has parts that have one
 
 reported_there : (b : Bool) (s : Span) → IsThere (top (cond b s Unbounded)) → IsThere (top s)
 reported_there true s h = h
 reported_there false s h = absurd h
+
+tops_there : (x y : Option ℕ) → IsThere (top (sum_of_tops x y)) → IsThere x × IsThere y
+tops_there (Some m) (Some n) h = (tt, tt)
+tops_there (Some m) None h = absurd h
+tops_there None y h = absurd h
 
 first_there : (a b : Span) → IsThere (top (after a b)) → IsThere (top a)
 first_there (Fixed f) b h = tt
@@ -210,18 +231,39 @@ both_there None b x y = let wrong = x.1 in absurd cc
 both_there (Some i) None x y = let wrong = y.1 in absurd cc
 both_there (Some i) (Some j) x y = (i + j, refl)
 
+chain_tops : (e : Encoding) (ts : Tys) → IsThere (top (chain e ts)) → (m : ℕ) × (fields_top (sizes e) ts ≡ Some m)
+chain_tops e no_fields h = (0, refl)
+chain_tops e (field t ts) h =
+    both_there (top (span e t)) (fields_top (sizes e) ts) (some_there (top (span e t)) (first_there (span e t) (chain e ts) h))
+    (chain_tops e ts (after_there (span e t) (chain e ts) h))
+
+sum_tops : (e : Encoding) (ts : Tys) → IsThere (top (sum_of e ts)) → (m : ℕ) × (fields_top (sizes e) ts ≡ Some m)
+sum_tops e no_fields h = (0, refl)
+sum_tops e (field t ts) h =
+    let both = tops_there (top (span e t)) (top (sum_of e ts)) h in
+    both_there (top (span e t)) (fields_top (sizes e) ts) (some_there (top (span e t)) both.0) (sum_tops e ts both.1)
+
 fields_tops : (e : Encoding) (ts : Tys) → IsThere (top (fields_span e ts)) → (m : ℕ) × (fields_top (sizes e) ts ≡ Some m)
-fields_tops e no_fields h = (0, refl)
-fields_tops e (field t ts) h =
-    both_there (top (span e t)) (fields_top (sizes e) ts) (some_there (top (span e t)) (first_there (span e t) (fields_span e ts) h))
-    (fields_tops e ts (after_there (span e t) (fields_span e ts) h))
+fields_tops e ts = either_way (λ s. IsThere (top s) → (m : ℕ) × (fields_top (sizes e) ts ≡ Some m)) (are_fixed e ts) (chain e ts)
+    (sum_of e ts) (chain_tops e ts) (sum_tops e ts)
+
+chain_weights : (e : Encoding) (ts : Tys) → IsThere (top (chain e ts)) → fields_weight (sizes e) ts ≤ weight_of (chain e ts)
+chain_weights e no_fields h = omega arith
+chain_weights e (field t ts) h =
+    let rest = chain_weights e ts (after_there (span e t) (chain e ts) h) in
+    let both = after_weight (span e t) (chain e ts) (eight e t) (eight_chain e ts) h in
+    omega (arith, rest, both)
+
+sum_weights : (e : Encoding) (ts : Tys) → IsThere (top (sum_of e ts)) → fields_weight (sizes e) ts ≤ weight_of (sum_of e ts)
+sum_weights e no_fields h = omega arith
+sum_weights e (field t ts) h =
+    let rest = sum_weights e ts (tops_there (top (span e t)) (top (sum_of e ts)) h).1 in
+    let both = both_weight (span e t) (sum_of e ts) h in
+    omega (arith, rest, both)
 
 fields_weights : (e : Encoding) (ts : Tys) → IsThere (top (fields_span e ts)) → fields_weight (sizes e) ts ≤ weight_of (fields_span e ts)
-fields_weights e no_fields h = omega arith
-fields_weights e (field t ts) h =
-    let rest = fields_weights e ts (after_there (span e t) (fields_span e ts) h) in
-    let both = after_weight (span e t) (fields_span e ts) (eight e t) (eight_fields e ts) h in
-    omega (arith, rest, both)
+fields_weights e ts = either_way (λ s. IsThere (top s) → fields_weight (sizes e) ts ≤ weight_of s) (are_fixed e ts) (chain e ts)
+    (sum_of e ts) (chain_weights e ts) (sum_weights e ts)
 
 counted_there : (e : Encoding) (a : Array) (c : Count) → IsThere (top (array_counted e a c)) → IsThere (most c)
 counted_there e a (Exactly n) h = tt
@@ -281,24 +323,24 @@ solid_exactly g h = solid_reported (list_all (λ n. nat_le n 4294967295) (from_e
 solid_most : (n : ℕ) → 1 ≤ n → IsSolid (at_most n)
 solid_most n h = solid_reported (nat_le n 4294967295) (Bounded n) h
 
+solid_tops_first : (x y : Option ℕ) → ((m : ℕ) → x ≡ Some m → 1 ≤ m) → IsSolid (sum_of_tops x y)
+solid_tops_first (Some m) (Some n) h = solid_most (m + n) (let one = h m refl in omega (arith, one))
+solid_tops_first (Some m) None h = tt
+solid_tops_first None y h = tt
+
+solid_tops_second : (x y : Option ℕ) → ((n : ℕ) → y ≡ Some n → 1 ≤ n) → IsSolid (sum_of_tops x y)
+solid_tops_second (Some m) (Some n) h = solid_most (m + n) (let two = h n refl in omega (arith, two))
+solid_tops_second (Some m) None h = tt
+solid_tops_second None y h = tt
+
 solid_first : (a b : Span) → IsEight a → IsEight b → IsSolid a → IsSolid (after a b)
 solid_first (Fixed f) (Fixed g) i j h = solid_exactly (length_after f g) (λ p. let one = length_least f p i in omega (arith, one, h))
-solid_first (Fixed f) (Bounded n) i j h = solid_most (greatest f + n) (let most = least_greatest f in omega (arith, most, h))
-solid_first (Fixed f) Unbounded i j h = tt
-solid_first (Bounded m) (Fixed g) i j h = solid_most (m + greatest g) (omega arith)
-solid_first (Bounded m) (Bounded n) i j h = solid_most (m + n) (omega arith)
-solid_first (Bounded m) Unbounded i j h = tt
-solid_first Unbounded b i j h = tt
+solid_first a b i j h = solid_tops_first (top a) (top b) (λ m. solid_top a m h)
 
 solid_second : (a b : Span) → IsEight a → IsEight b → IsSolid b → IsSolid (after a b)
 solid_second (Fixed f) (Fixed g) i j h =
     solid_exactly (length_after f g) (λ p. let two = length_least g (p + length_at f p) j in omega (arith, two, h))
-solid_second (Fixed f) (Bounded n) i j h = solid_most (greatest f + n) (omega arith)
-solid_second (Fixed f) Unbounded i j h = tt
-solid_second (Bounded m) (Fixed g) i j h = solid_most (m + greatest g) (let most = least_greatest g in omega (arith, most, h))
-solid_second (Bounded m) (Bounded n) i j h = solid_most (m + n) (omega arith)
-solid_second (Bounded m) Unbounded i j h = tt
-solid_second Unbounded b i j h = tt
+solid_second a b i j h = solid_tops_second (top a) (top b) (λ n. solid_top b n h)
 
 solid_times : (n : ℕ) (s : Span) → 1 ≤ n → IsEight s → IsSolid s → IsSolid (times n s)
 unfolding run
@@ -421,7 +463,8 @@ mutual
   filled e void_type some fill = absurd cc
   filled e (scalar_type s) some fill = scalar_solid e s
   filled e (array_type a) some fill = array_solid e a some
-  filled e (group_type ts) some fill = fields_filled e ts some fill
+  filled e (group_type ts) some fill =
+      either_way (λ s. IsSolid s) (are_fixed e ts) (chain e ts) (sum_of e ts) (chain_filled e ts some fill) (sum_filled e ts some fill)
   filled e (items_type (Exactly n) t) some fill = solid_times n (span e t) some.0 (eight e t) (filled e t some.2 some.1)
   filled e (items_type (AtMost n) t) some fill =
       solid_first (scalar_span e counted) (times_top n (top (span e t))) refl (eight_times_top n (top (span e t))) (scalar_solid e counted)
@@ -430,12 +473,19 @@ mutual
   filled e (maybe_type t) some fill =
       solid_first (scalar_span e flag) (loose (span e t)) refl (eight_loose (span e t)) (scalar_solid e flag)
 
-  fields_filled : (e : Encoding) (ts : Tys) → FieldsTakeRoom ts → are_hollow ts ≡ false → IsSolid (fields_span e ts)
-  fields_filled e no_fields some fill = absurd cc
-  fields_filled e (field t ts) some fill =
+  chain_filled : (e : Encoding) (ts : Tys) → FieldsTakeRoom ts → are_hollow ts ≡ false → IsSolid (chain e ts)
+  chain_filled e no_fields some fill = absurd cc
+  chain_filled e (field t ts) some fill =
       either_solid (is_hollow t) (are_hollow ts)
-      (λ y. solid_first (span e t) (fields_span e ts) (eight e t) (eight_fields e ts) (filled e t some.0 y))
-      (λ y. solid_second (span e t) (fields_span e ts) (eight e t) (eight_fields e ts) (fields_filled e ts some.1 y)) fill
+      (λ y. solid_first (span e t) (chain e ts) (eight e t) (eight_chain e ts) (filled e t some.0 y))
+      (λ y. solid_second (span e t) (chain e ts) (eight e t) (eight_chain e ts) (chain_filled e ts some.1 y)) fill
+
+  sum_filled : (e : Encoding) (ts : Tys) → FieldsTakeRoom ts → are_hollow ts ≡ false → IsSolid (sum_of e ts)
+  sum_filled e no_fields some fill = absurd cc
+  sum_filled e (field t ts) some fill =
+      either_solid (is_hollow t) (are_hollow ts)
+      (λ y. solid_tops_first (top (span e t)) (top (sum_of e ts)) (λ m. solid_top (span e t) m (filled e t some.0 y)))
+      (λ y. solid_tops_second (top (span e t)) (top (sum_of e ts)) (λ n. solid_top (sum_of e ts) n (sum_filled e ts some.1 y))) fill
 
 count_some : (e : Encoding) (c : Count) → IsCounted c → (1 ≤ count_length e c)
 count_some e (Exactly n) h = absurd h

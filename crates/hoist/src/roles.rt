@@ -2,10 +2,10 @@
 
 ghost use Rattle.std.specs.Prelude.{◌≡◌, ◌<◌, ◌-◌, length, option_map, IfSome};
 ghost use Rattle.mint.specs.Types.{type_at};
-ghost use Rattle.storage_class.specs.Classing.{top};
+ghost use Rattle.storage_class.specs.Classing.{is_fixed, top};
 ghost use Rattle.storage_class.specs.Spans.{span, AreClasses};
 ghost use Rattle.hoist.specs.Regions.{on_way, is_light, is_alike, role_at, weight_at};
-ghost use Rattle.hoist.specs.SpanSizes.{sizes, is_fixed, least, weight_of};
+ghost use Rattle.hoist.specs.SpanSizes.{sizes, least, weight_of};
 ghost use Rattle.hoist.specs.Seen.{role_seen, span_roles};
 ghost use Rattle.cast_stub.specs.PartTypes.{in_group_type};
 

@@ -25,8 +25,8 @@ use Rattle.wire_def.proofs.Short.{scalar_long}
 use Rattle.storage_class.specs.declared.span.Span.{Span}
 use Rattle.storage_class.specs.declared.span.Span.TheVariants.{Fixed, Bounded, Unbounded}
 use Rattle.storage_class.specs.Classing.{from_each, length_at, run, greatest, exactly, top, loose, after, either, times, times_top, HasLength}
-use Rattle.storage_class.specs.Spans.{lone_length, scalar_span, element_length, elements_length, first_gap, wide_gap, described_length, array_length, array_most, array_counted, text_counted, items_span, span, fields_span, arms_span}
-use Rattle.storage_class.proofs.Within.{exactly_within, at_most_within, loose_within, nothing_within, after_within, first_within, second_within}
+use Rattle.storage_class.specs.Spans.{lone_length, scalar_span, element_length, elements_length, first_gap, wide_gap, described_length, array_length, array_most, array_counted, text_counted, items_span, span, are_fixed, chain, sum_of, arms_span}
+use Rattle.storage_class.proofs.Within.{exactly_within, at_most_within, loose_within, nothing_within, both_within, after_within, joined_within, first_within, second_within}
 use Rattle.storage_class.proofs.Residues.{from_each_at, run_at, length_most}
 
 -- ---- scalars
@@ -442,7 +442,8 @@ module _ (e : Encoding) where
     sent_within void_type p void h = sym (from_each_at (λ q. 0) (λ q. refl) p)
     sent_within (scalar_type s) p (num n) h = lone_long e s p n
     sent_within (array_type a) p (row k ns) h = array_within e a p ns (array_typed a k ns h)
-    sent_within (group_type ts) p (group vs) h = fields_within ts p vs h
+    sent_within (group_type ts) p (group vs) h =
+        joined_within (are_fixed e ts) (chain e ts) (sum_of e ts) p _ (chain_within ts p vs h) (sum_within ts p vs h)
     sent_within (items_type c t) p (items vs) h = rw length-append (items_within e c t p vs h.0 h.1 (sent_within t))
     sent_within (choice_type s arms) p (arm n v) h =
         rw length-append (after_within (scalar_span e s) (arms_span e arms) p _ _ (lone_long e s p n)
@@ -456,12 +457,19 @@ module _ (e : Encoding) where
         (loose_within (span e t) q _ (sent_within t q v h)))
     sent_within _ p _ h = absurd h
 
-    fields_within : (ts : Tys) (p : ℕ) (vs : Vals) → AreOf ts vs → HasLength (fields_span e ts) p (length (send_fields e ts p vs))
-    fields_within no_fields p no_more h = sym (from_each_at (λ q. 0) (λ q. refl) p)
-    fields_within (field t ts) p (val v vs) h =
+    chain_within : (ts : Tys) (p : ℕ) (vs : Vals) → AreOf ts vs → HasLength (chain e ts) p (length (send_fields e ts p vs))
+    chain_within no_fields p no_more h = sym (from_each_at (λ q. 0) (λ q. refl) p)
+    chain_within (field t ts) p (val v vs) h =
         rw length-append
-        (after_within (span e t) (fields_span e ts) p _ _ (sent_within t p v h.0) (fields_within ts (p + length (send e t p v)) vs h.1))
-    fields_within _ p _ h = absurd h
+        (after_within (span e t) (chain e ts) p _ _ (sent_within t p v h.0) (chain_within ts (p + length (send e t p v)) vs h.1))
+    chain_within _ p _ h = absurd h
+
+    sum_within : (ts : Tys) (p : ℕ) (vs : Vals) → AreOf ts vs → HasLength (sum_of e ts) p (length (send_fields e ts p vs))
+    sum_within no_fields p no_more h = omega arith
+    sum_within (field t ts) p (val v vs) h =
+        let q : ℕ = p + length (send e t p v) in
+        rw length-append (both_within (span e t) (sum_of e ts) p q _ _ (sent_within t p v h.0) (sum_within ts q vs h.1))
+    sum_within _ p _ h = absurd h
 
     arm_within : (arms : Arms) (n : ℤ) (p : ℕ) (v : Val) → IsOfArm arms n v
         → HasLength (arms_span e arms) p (length (send_arm e arms n p v))

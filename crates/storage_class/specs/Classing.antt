@@ -1,5 +1,5 @@
 -- Classes of storage, and how that of a whole follows from those of its parts.
-use Rattle.std.specs.Prelude.{ℕ, zero, suc, ◌+◌, ◌*◌, ◌%◌, ◌≡◌, ◌≤◌, max, nat_le, if◌then◌else◌, List, [], ◌∷◌, slice_index_or, Option, None, Some}
+use Rattle.std.specs.Prelude.{ℕ, zero, suc, ◌+◌, ◌*◌, ◌%◌, ◌≡◌, ◌≤◌, max, nat_le, if◌then◌else◌, Bool, true, false, List, [], ◌∷◌, slice_index_or, Option, None, Some}
 use Rattle.std.specs.List.{list_all}
 use Rattle.storage_class.specs.declared.span.Span.{Span}
 use Rattle.storage_class.specs.declared.span.Span.TheVariants.{Fixed, Bounded, Unbounded}
@@ -39,6 +39,11 @@ exactly f = if list_all (λ n. nat_le n 4294967295) f then Fixed f else Unbounde
 -- the span of a bound; unbounded where it is above 4,294,967,295
 abbrev pub at_most : ℕ → Span
 at_most n = if nat_le n 4294967295 then Bounded n else Unbounded
+
+-- whether lengths are fixed
+abbrev pub is_fixed : Span → Bool
+is_fixed (Fixed f) = true
+is_fixed _ = false
 
 -- the greatest of fixed lengths, or the bound, if there is one
 abbrev pub top : Span → Option ℕ

@@ -1,5 +1,5 @@
 -- The span of a type: how long what is sent of its values is, by cases on the type.
-use Rattle.std.specs.Prelude.{◌≡◌, ℕ, zero, suc, ◌+◌, ◌*◌, ◌<◌, List, length, Some, slice_get, if◌then◌else◌}
+use Rattle.std.specs.Prelude.{◌≡◌, ℕ, zero, suc, ◌+◌, ◌*◌, ◌<◌, Bool, true, ◌&&◌, List, length, Some, slice_get, if◌then◌else◌}
 use Rattle.std.specs.Int.{byte_len}
 use Rattle.mint.specs.declared.kind.Count.{Count}
 use Rattle.mint.specs.declared.kind.Count.TheVariants.{Exactly, AtMost, Any}
@@ -15,7 +15,7 @@ use Rattle.wire_def.specs.Arrays.{counted, count_of, kind_of, is_octets, trailin
 use Rattle.wire_def.specs.Send.{flag}
 use Rattle.storage_class.specs.declared.span.Span.{Span}
 use Rattle.storage_class.specs.declared.span.Span.TheVariants.{Fixed, Bounded, Unbounded}
-use Rattle.storage_class.specs.Classing.{from_each, exactly, at_most, top, loose, after, either, times, times_top}
+use Rattle.storage_class.specs.Classing.{from_each, exactly, at_most, is_fixed, top, loose, sum_of_tops, after, either, times, times_top}
 
 -- the octets of a scalar by itself from a position
 abbrev pub lone_length : Encoding → Scalar → ℕ → ℕ
@@ -93,21 +93,35 @@ abbrev mutual
   span e void_type = Fixed (from_each (λ p. 0))
   span e (scalar_type s) = scalar_span e s
   span e (array_type a) = array_span e a
-  span e (group_type ts) = fields_span e ts
+  span e (group_type ts) = if are_fixed e ts then chain e ts else sum_of e ts
   span e (items_type c t) = items_span e c (span e t)
   span e (choice_type s arms) = after (scalar_span e s) (arms_span e arms)
   span e (maybe_type t) = after (scalar_span e flag) (loose (span e t))
 
-  -- the span of fields, one after the other
-  pub fields_span : Encoding → Tys → Span
-  fields_span e no_fields = Fixed (from_each (λ p. 0))
-  fields_span e (field t ts) = after (span e t) (fields_span e ts)
+  -- whether the lengths of all fields are fixed
+  pub are_fixed : Encoding → Tys → Bool
+  are_fixed e no_fields = true
+  are_fixed e (field t ts) = is_fixed (span e t) && are_fixed e ts
+
+  -- the span of fields whose lengths are fixed, one after the other
+  pub chain : Encoding → Tys → Span
+  chain e no_fields = Fixed (from_each (λ p. 0))
+  chain e (field t ts) = after (span e t) (chain e ts)
+
+  -- the span of fields by their greatest lengths together
+  pub sum_of : Encoding → Tys → Span
+  sum_of e no_fields = Bounded 0
+  sum_of e (field t ts) = sum_of_tops (top (span e t)) (top (sum_of e ts))
 
   -- the span of whichever arm there is
   pub arms_span : Encoding → Arms → Span
   arms_span e no_other = Bounded 0
   arms_span e (others t) = loose (span e t)
   arms_span e (arm_type n t arms) = either (span e t) (arms_span e arms)
+
+-- the span of fields: one after the other where all lengths are fixed, otherwise the sum of the greatest ones
+abbrev pub fields_span : Encoding → Tys → Span
+fields_span e ts = if are_fixed e ts then chain e ts else sum_of e ts
 
 -- ---- tables
 

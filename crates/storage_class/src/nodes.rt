@@ -53,18 +53,23 @@ fn node_span(enc: Encoding, mint: &Mint, known: &Classes, id: NodeId) -> Span
     }
 }
 
-/// The span of fields, one after the other.
+/// The span of fields: one after the other where all lengths are fixed, otherwise the sum of the greatest ones.
 fn fields_span(enc: Encoding, mint: &Mint, known: &Classes, ids: &NodeIds) -> Span
     requires below { AreBelow (length known.now.spans) ids.now }
     requires known { AreSpans enc mint.now known.now.spans }
     ensures { result ≡ fields_span enc (fields_at (unfolded mint.now) ids.now) }
 {
     let ids = ids.as_slice();
-    let mut whole = Span::Fixed([0; 8]);
+    let mut fixed = true;
+    let mut chain = Span::Fixed([0; 8]);
+    let mut sum = Span::Bounded(0);
     for i in (0..ids.len()).rev() {
-        whole = known.span(ids[i]).after(whole);
+        let span = known.span(ids[i]);
+        fixed = span.is_fixed() && fixed;
+        chain = span.after(chain);
+        sum = span.plus(sum);
     }
-    whole
+    if fixed { chain } else { sum }
 }
 
 /// The span of whichever arm there is.

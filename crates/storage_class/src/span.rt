@@ -2,7 +2,7 @@
 
 ghost use Rattle.std.specs.Prelude.{◌≡◌, ◌<◌, ◌≤◌, ◌+◌, ◌*◌, Some, IsTrue, nat_le};
 ghost use Rattle.std.specs.List.{list_all};
-ghost use Rattle.storage_class.specs.Classing.{at_most, after, either, exactly, from_each, greatest, length_at, length_after, loose, run, sum_of_tops, times, times_top, top};
+ghost use Rattle.storage_class.specs.Classing.{at_most, after, either, exactly, from_each, greatest, is_fixed, length_at, length_after, loose, run, sum_of_tops, times, times_top, top};
 
 /// What is known of a length: the length, its bound, or nothing.
 #[derive(Clone, Copy, Debug, PartialEq, Eq)]
@@ -123,6 +123,16 @@ pub(crate) fn at_most(n: u64) -> Span
 }
 
 impl Span {
+    /// Whether the length is fixed.
+    pub(crate) fn is_fixed(self) -> bool
+        ensures { result ≡ is_fixed self }
+    {
+        match self {
+            Span::Fixed(_) => true,
+            _ => false,
+        }
+    }
+
     /// The greatest of fixed lengths, or the bound, if there is one.
     pub fn top(self) -> Option<u32>
         ensures { result ≡ top self }
@@ -150,8 +160,15 @@ impl Span {
     {
         match (self, next) {
             (Span::Fixed(f), Span::Fixed(g)) => one_after(&f, &g),
-            _ => sum_of_tops(self.top(), next.top()),
+            _ => self.plus(next),
         }
+    }
+
+    /// This one and another, by their bounds alone.
+    pub(crate) fn plus(self, next: Span) -> Span
+        ensures { result ≡ sum_of_tops (top self) (top next) }
+    {
+        sum_of_tops(self.top(), next.top())
     }
 
     /// The span of one of the two: bounded by the greater bound.
