@@ -14,7 +14,7 @@ use Rattle.cast_stub.specs.Block.{Block, stop, ensure, ensure_row, align, chunk,
 use Rattle.cast_stub.specs.Steps.{Room, Pad, Stored, steps}
 use Rattle.cast_stub.specs.Subs.{no_calls}
 use Rattle.cast_stub.specs.Meaning.{wrote, Cost, costs, HasRoom}
-use Rattle.cast_stub.specs.Follows.{Follows}
+use Rattle.cast_stub.specs.Follows.{own_put, Follows}
 use Rattle.cast_stub.specs.PartTypes.{ty_at}
 use Rattle.cast_stub.specs.Turned.{IsNumber}
 
@@ -131,6 +131,13 @@ in_order = (
   (1, refl, omega arith),
   inl (1, refl, omega arith),
 )
+
+-- a turn puts its number, aligned by itself; one of three octets has none, so that all its puts count
+its_number : own_put (align 8 (chunk 8 (put.Num 0 [] 8 Big ∷ []) stop)) ≡ 1
+its_number = refl
+
+no_number : own_put (chunk 3 (put.Const 0 (0 ∷ []) ∷ put.Const 1 (0 ∷ []) ∷ put.Const 2 (0 ∷ []) ∷ []) stop) ≡ 0
+no_number = refl
 
 -- the type of the part at a path, and none after the last field or below a scalar
 a_part_type : ty_at (1 ∷ 0 ∷ [])

@@ -1,9 +1,12 @@
 -- When a send code goes through a type in order.
-use Rattle.std.specs.Prelude.{◌≡◌, ◌⊎◌, ℕ, suc, ◌+◌, ◌-◌, ◌<◌, ◌≤◌, List, [], ◌∷◌, ◌++◌, length, Option, None, Some, option_map}
+use Rattle.std.specs.Prelude.{◌≡◌, ◌⊎◌, ℕ, suc, ◌+◌, ◌-◌, ◌<◌, ◌≤◌, List, [], ◌∷◌, ◌++◌, length, Option, None, Some, option_map, Bool, true, false, if◌then◌else◌}
+use Rattle.std.specs.List.{list_any}
 use Rattle.mint.specs.declared.kind.Count.{Count}
 use Rattle.mint.specs.declared.kind.Count.TheVariants.{Exactly}
 use Rattle.mint.specs.declared.node.Node.{Node}
 use Rattle.mint.specs.Types.{Array, Ty, void_type, scalar_type, array_type, group_type, items_type, choice_type, maybe_type, Tys, no_fields, field, Arms, no_other, others, arm_type, type_at}
+use Rattle.cast_stub.specs.declared.put.Put.{Put}
+use Rattle.cast_stub.specs.declared.put.Put.TheVariants as put
 use Rattle.cast_stub.specs.declared.send.SendOp.{SendOp}
 use Rattle.cast_stub.specs.Block.{Block, stop, align, chunk, each, switch, if_there, call, Cases, no_default, default, case}
 use Rattle.cast_stub.specs.Append.{append}
@@ -20,11 +23,22 @@ flat _ = None
 abbrev pub IsFlat : ℕ → Block → Type 0
 IsFlat most b = (n : ℕ) × (flat b ≡ Some n) × (n ≤ most)
 
--- a loop with chunks and aligns in its turn, before it and after it, which have few puts and aligns
+-- the put of the current value, a number
+abbrev pub is_own : Put → Bool
+is_own (put.Num off [] w o) = true
+is_own _ = false
+
+-- one where chunks and aligns put the current value, else 0
+abbrev pub own_put : Block → ℕ
+own_put (chunk s ps r) = if list_any is_own ps then 1 else own_put r
+own_put (align a r) = own_put r
+own_put _ = 0
+
+-- a loop with chunks and aligns in its turn, before it and after it, which have few puts and aligns besides the number's own
 abbrev pub IsLoop : List ℕ → Block → Type 0
 IsLoop p b = (before : Block) × (turn : Block) × (after : Block) × (k : ℕ) × (l : ℕ) × (m : ℕ)
     × (b ≡ append before (each p turn after)) × (flat before ≡ Some k) × (flat turn ≡ Some l) × (flat after ≡ Some m)
-    × (l ≤ 3) × (k + (l - 1) + m ≤ 3)
+    × (l ≤ 3) × (k + (l - own_put turn) + m ≤ 3)
 
 -- what comes before the loop over a list
 abbrev pub IsCount : Count → Block → Type 0

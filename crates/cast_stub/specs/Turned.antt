@@ -8,7 +8,7 @@ use Rattle.cast_stub.specs.declared.send.SendOp.{SendOp}
 use Rattle.cast_stub.specs.Block.{Block, stop, chunk, each}
 use Rattle.cast_stub.specs.Append.{append}
 use Rattle.cast_stub.specs.Subs.{sub_at}
-use Rattle.cast_stub.specs.Follows.{flat, Loops, FollowsBy}
+use Rattle.cast_stub.specs.Follows.{flat, own_put, Loops, FollowsBy}
 
 -- how the numbers of a row or text are put, if it may be sent as a block
 abbrev pub Layout : Type 0
@@ -23,7 +23,7 @@ IsNumber (Some x) b = b ≡ chunk x.0 (put.Num 0 [] x.0 x.1 ∷ []) stop
 abbrev pub IsTurned : Layout → Loops
 IsTurned layout a p b = (before : Block) × (turn : Block) × (after : Block) × (k : ℕ) × (l : ℕ) × (m : ℕ)
     × (b ≡ append before (each p turn after)) × (flat before ≡ Some k) × (flat turn ≡ Some l) × (flat after ≡ Some m)
-    × (l ≤ 3) × (k + (l - 1) + m ≤ 3) × IsNumber (layout a) turn
+    × (l ≤ 3) × (k + (l - own_put turn) + m ≤ 3) × IsNumber (layout a) turn
 
 -- each code of a list goes through its node, with such loops
 abbrev pub AllTurned : Layout → List Node → List (List SendOp) → Type 0

@@ -15,7 +15,7 @@ use Rattle.wire_def.specs.Send.{flag}
 use Rattle.cast_stub.specs.declared.put.Put.{Put}
 use Rattle.cast_stub.specs.declared.put.Put.TheVariants as put
 use Rattle.cast_stub.specs.Block.{Block, stop, align, chunk, call}
-use Rattle.cast_stub.specs.Follows.{flat, IsFlat, IsLoop, IsCount, Child, Loops, FollowsBy, FieldsFollowBy, ArmsFollowBy}
+use Rattle.cast_stub.specs.Follows.{flat, own_put, IsFlat, IsLoop, IsCount, Child, Loops, FollowsBy, FieldsFollowBy, ArmsFollowBy}
 use Rattle.cast_stub.specs.Turned.{IsNumber, IsTurned}
 use Rattle.cast_stub.specs.Layouts.{layout_of, order_of, scalar_width, element_width, is_gapped}
 use Rattle.stub_lower.specs.Items.{number_at}
@@ -79,18 +79,18 @@ record Rest (e : Encoding) (a : Array) : Type 0 where
   turn_is : flat (turn_code e a) ≡ Some turn
   after : ℕ
   after_is : flat (after_code e a) ≡ Some after
-  few : (1 ≤ turn) × (turn + after ≤ 2)
+  few : (own_put (turn_code e a) ≡ 1) × (1 ≤ turn) × (turn + after ≤ 2)
   single : IsNumber (layout_of e a) (turn_code e a)
 
 record Turn (l : Option (ℕ × Order)) (b : Block) : Type 0 where
   many : ℕ
   is : flat b ≡ Some many
-  few : (1 ≤ many) × (many ≤ 2)
+  few : (own_put b ≡ 1) × (1 ≤ many) × (many ≤ 2)
   single : IsNumber l b
 
 gapped-turn : (e : Encoding) (w : ℕ) (g : Bool) → Turn (if g then None else Some (w, order_of e)) (gapped_turn e w g)
-gapped-turn e w true = record { many = 2; is = refl; few = (omega arith, omega arith); single = tt }
-gapped-turn e w false = record { many = 1; is = refl; few = (omega arith, omega arith); single = refl }
+gapped-turn e w true = record { many = 2; is = refl; few = (refl, omega arith, omega arith); single = tt }
+gapped-turn e w false = record { many = 1; is = refl; few = (refl, omega arith, omega arith); single = refl }
 
 filled : (t : Bool) → Few 1 (if t then align 4 stop else stop)
 filled true = (1, refl, omega arith)
@@ -99,19 +99,19 @@ filled false = (0, refl, omega arith)
 rests : (e : Encoding) (a : Array) → Rest e a
 rests Xdr a =
     let f = filled (is_octets a) in
-    record { turn = 1; turn_is = refl; after = f.0; after_is = f.1; few = (omega arith, omega (arith, f.2)); single = refl }
-rests CdrBig (text c) = record { turn = 1; turn_is = refl; after = 1; after_is = refl; few = (omega arith, omega arith); single = refl }
+    record { turn = 1; turn_is = refl; after = f.0; after_is = f.1; few = (refl, omega arith, omega (arith, f.2)); single = refl }
+rests CdrBig (text c) = record { turn = 1; turn_is = refl; after = 1; after_is = refl; few = (refl, omega arith, omega arith); single = refl }
 rests CdrBig (row_of k c) =
     let t = gapped-turn CdrBig (element_width CdrBig (row_of k c)) (is_gapped (row_of k c)) in
-    record { turn = t.many; turn_is = t.is; after = 0; after_is = refl; few = (t.few.0, omega (arith, t.few.1)); single = t.single }
+    record { turn = t.many; turn_is = t.is; after = 0; after_is = refl; few = (t.few.0, t.few.1, omega (arith, t.few.2)); single = t.single }
 rests CdrLittle (text c) =
-    record { turn = 1; turn_is = refl; after = 1; after_is = refl; few = (omega arith, omega arith); single = refl }
+    record { turn = 1; turn_is = refl; after = 1; after_is = refl; few = (refl, omega arith, omega arith); single = refl }
 rests CdrLittle (row_of k c) =
     let t = gapped-turn CdrLittle (element_width CdrLittle (row_of k c)) (is_gapped (row_of k c)) in
-    record { turn = t.many; turn_is = t.is; after = 0; after_is = refl; few = (t.few.0, omega (arith, t.few.1)); single = t.single }
+    record { turn = t.many; turn_is = t.is; after = 0; after_is = refl; few = (t.few.0, t.few.1, omega (arith, t.few.2)); single = t.single }
 rests Mach a =
     let f = filled (nat_lt (element_width Mach a) 4) in
-    record { turn = 1; turn_is = refl; after = f.0; after_is = f.1; few = (omega arith, omega (arith, f.2)); single = refl }
+    record { turn = 1; turn_is = refl; after = f.0; after_is = f.1; few = (refl, omega arith, omega (arith, f.2)); single = refl }
 
 pub turned : (e : Encoding) (a : Array) → IsTurned (layout_of e) a [] (array_code e a)
 turned e a =
@@ -127,8 +127,8 @@ turned e a =
       h.1,
       r.turn_is,
       r.after_is,
-      omega (arith, r.few.1),
-      omega (arith, h.2, r.few.0, r.few.1),
+      omega (arith, r.few.2),
+      omega (arith, h.2, r.few.0, r.few.1, r.few.2),
       r.single,
     )
 
