@@ -6,12 +6,14 @@ use Rattle.mint.specs.Types.{Ty, void_type, scalar_type, array_type, group_type,
 use Rattle.mint.specs.Values.{Val}
 use Rattle.wire_def.specs.declared.encoding.Encoding.{Encoding}
 use Rattle.wire_def.specs.declared.head.Order.{Order}
+use Rattle.wire_def.specs.Places.{IsPlace}
 use Rattle.cast_stub.specs.declared.recv.RecvCode.{RecvCode}
 use Rattle.cast_stub.specs.RecvAppend.{append}
 use Rattle.cast_stub.specs.RecvBlock.{Recv, finish, need, need_row, skip_any, skip_zero, pass, desc, row_block, row_wide, each, switch, if_there, call, Cases, no_default, default, case, code_seen}
 use Rattle.cast_stub.specs.Draft.{fresh}
 use Rattle.cast_stub.specs.Fill.{fill}
 use Rattle.cast_stub.specs.Got.{no_subs, calls_of, received, IsExact}
+use Rattle.cast_stub.specs.Kept.{StaysSoundAt}
 use Rattle.cast_stub.specs.Layouts.{order_of, layout_of, element_width}
 use Rattle.cast_stub.specs.Parts.{on_some}
 use Rattle.cast_stub.specs.PartTypes.{ty_at, present_type, present_at, arms_type, arms_at}
@@ -28,7 +30,7 @@ use Rattle.copy_inline.specs.Sorts.{sort_of}
 use Rattle.copy_inline.specs.RecvCallFree.{HasNoCall, CasesHaveNoCall}
 use Rattle.copy_inline.specs.RecvReady.{LoopIs, IsReady, CasesReady}
 use Rattle.copy_inline.specs.RecvRowed.{row_or_loop, loop_rowed, rowed, cases_rowed}
-use Rattle.copy_inline.specs.RecvRows.{IsGiven, IsRowed, EndsAlike, GivesTheSame, StaysSound}
+use Rattle.copy_inline.specs.RecvRows.{IsGiven, IsRowed, EndsAlike, GivesTheSame}
 use Rattle.copy_inline.proofs.RowReady.{of_type}
 use Rattle.copy_inline.proofs.RecvSteps.{alike}
 use Rattle.copy_inline.proofs.RecvTimed.{settled_alike}
@@ -211,7 +213,7 @@ module _ (e : Encoding) (t : Ty) (given code : RecvCode) (of : IsGiven e t given
       (fill (calls_of code.subs deepest) (code_seen code.ops) (fresh t) s)
       (subst (EndsAlike (fill (calls_of given.subs deepest) (code_seen given.ops) (fresh t) s)) met run.1)
 
-  pub stays_sound : StaysSound e t given code
+  pub stays_sound : StaysSoundAt (IsPlace e) e t given code
   stays_sound sound s place octets short =
       exact_alike e t s.pos s.left (received given t s) (received code t s) (gives_same s) (sound s place octets short)
 

@@ -12,6 +12,7 @@ use Rattle.cast_stub.specs.Follows.{flat}
 use Rattle.wire_def.specs.declared.head.Order.{Order}
 use Rattle.wire_def.specs.Arrays.{kind_of}
 use Rattle.cast_stub.specs.Layouts.{order_of}
+use Rattle.cast_stub.specs.Kept.{Anywhere, SendsTheSameAt, StaysCoveredAt, ChecksTheSame}
 use Rattle.cast_stub.specs.Meaning.{Cost, costs}
 use Rattle.cast_stub.specs.PartTypes.{ty_at, present_at, arms_at}
 use Rattle.cast_stub.specs.Steps.{Steps, Calls, steps}
@@ -22,7 +23,7 @@ use Rattle.copy_inline.specs.declared.sorts.Sort.TheVariants as sort
 use Rattle.copy_inline.specs.Counted.{blocks}
 use Rattle.copy_inline.specs.Ready.{OfType, LoopIs, IsReady, CasesReady}
 use Rattle.copy_inline.specs.Rowed.{row_or_loop, loop_rowed, by_type, rowed, cases_rowed}
-use Rattle.copy_inline.specs.Rows.{IsGiven, IsRowed, SendsTheSameOf, StaysCovered, ChecksTheSame, GivesBlocks}
+use Rattle.copy_inline.specs.Rows.{IsGiven, IsRowed, GivesBlocks}
 use Rattle.copy_inline.specs.Sorts.{sort_of, is_image}
 use Rattle.copy_inline.proofs.Joined.{AreJoined, same_written, same_covered, same_checks}
 use Rattle.copy_inline.proofs.RowCounts.{Counts, row_counts}
@@ -118,11 +119,11 @@ module _ (e : Encoding) (t : Ty) (given code : SendCode) (of : IsGiven e t given
   joined h v typed =
       subst (AreJoined (sent_steps given h v)) (met h v) (joins e (Calling h) h (code_seen given.ops) t v (given_ready e t given of) typed)
 
-  pub sends_same : SendsTheSameOf t given code
-  sends_same h v p typed = same_written (sent_steps given h v) (sent_steps code h v) p (joined h v typed)
+  pub sends_same : SendsTheSameAt Anywhere t given code
+  sends_same h v p here typed = same_written (sent_steps given h v) (sent_steps code h v) p (joined h v typed)
 
-  pub stays_covered : StaysCovered t given code
-  stays_covered h v p typed covered = same_covered (sent_steps given h v) (sent_steps code h v) p (joined h v typed) covered
+  pub stays_covered : StaysCoveredAt Anywhere t given code
+  stays_covered h v p here typed covered = same_covered (sent_steps given h v) (sent_steps code h v) p (joined h v typed) covered
 
   pub checks_same : ChecksTheSame t given code
   checks_same h v typed = checks_of (sent_steps code h v) ∙ same_checks (sent_steps given h v) (sent_steps code h v) (joined h v typed)

@@ -2,9 +2,8 @@
 use Rattle.std.specs.Prelude.{◌≡◌, ℕ, []}
 use Rattle.mint.specs.Types.{Ty}
 use Rattle.wire_def.specs.declared.encoding.Encoding.{Encoding}
-use Rattle.wire_def.specs.Places.{IsPlace}
 use Rattle.cast_stub.specs.declared.recv.RecvCode.{RecvCode}
-use Rattle.cast_stub.specs.Got.{no_subs, received, IsSoundCode}
+use Rattle.cast_stub.specs.Got.{no_subs, received}
 use Rattle.cast_stub.specs.Layouts.{layout_of}
 use Rattle.cast_stub.specs.RecvBlock.{code_seen}
 use Rattle.cast_stub.specs.Runs.{Place, Run, gives, refuses, strays}
@@ -31,7 +30,3 @@ EndsAlike strays y = Unit {0}
 -- from every place, wherever the given code does not stray: the same value, at the same place, or Not
 abbrev pub GivesTheSame : Ty → RecvCode → RecvCode → Type 0
 GivesTheSame t given code = (s : Place) → EndsAlike (received given t s) (received code t s)
-
--- sound wherever the given code is
-abbrev pub StaysSound : Encoding → Ty → RecvCode → RecvCode → Type 0
-StaysSound e t given code = IsSoundCode e t (IsPlace e) given → IsSoundCode e t (IsPlace e) code

@@ -1,5 +1,5 @@
 -- What the pass takes, and what it promises of the code that it makes.
-use Rattle.std.specs.Prelude.{◌≡◌, ℕ, [], Some, option_map, IfSome}
+use Rattle.std.specs.Prelude.{◌≡◌, ℕ, [], Some, IfSome}
 use Rattle.mint.specs.Types.{Ty}
 use Rattle.mint.specs.Typed.{IsOf}
 use Rattle.mint.specs.Values.{Val}
@@ -13,8 +13,8 @@ use Rattle.cast_stub.specs.Follows.{FollowsBy}
 use Rattle.cast_stub.specs.Framed.{lead_length, IsTail}
 use Rattle.cast_stub.specs.Kept.{unensured}
 use Rattle.cast_stub.specs.Layouts.{layout_of}
-use Rattle.cast_stub.specs.Meaning.{meaning, Cost, cost, AreCovered}
-use Rattle.cast_stub.specs.Subs.{no_subs, sent_steps}
+use Rattle.cast_stub.specs.Meaning.{cost}
+use Rattle.cast_stub.specs.Subs.{no_subs}
 use Rattle.cast_stub.specs.Turned.{IsTurned}
 use Rattle.copy_inline.specs.Counted.{blocks}
 use Rattle.copy_inline.specs.Rowed.{rowed}
@@ -42,20 +42,6 @@ pub record IsGiven (e : Encoding) (t : Ty) (code : SendCode) : Type 0 where
 -- the given code with its rows as blocks, and nothing else changed
 abbrev pub IsRowed : Encoding → Ty → SendCode → SendCode → Type 0
 IsRowed e t given code = code_seen code.ops ≡ rowed e t (code_seen given.ops)
-
--- the same octets for every head and value of the type, at every position
-abbrev pub SendsTheSameOf : Ty → SendCode → SendCode → Type 0
-SendsTheSameOf t given code = (h : Head) (v : Val) (p : ℕ) → IsOf t v → meaning code h v p ≡ meaning given h v p
-
--- where the room that the given code ensures is enough, so it is
-abbrev pub StaysCovered : Ty → SendCode → SendCode → Type 0
-StaysCovered t given code = (h : Head) (v : Val) (p : ℕ) → IsOf t v → AreCovered (sent_steps given h v) p
-    → AreCovered (sent_steps code h v) p
-
--- as many looks at the buffer
-abbrev pub ChecksTheSame : Ty → SendCode → SendCode → Type 0
-ChecksTheSame t given code = (h : Head) (v : Val) → IsOf t v
-    → option_map (λ (c : Cost). c.checks) (cost code h v) ≡ option_map (λ (c : Cost). c.checks) (cost given h v)
 
 -- one row as a block for each row or text of that sort, and no other
 abbrev pub GivesBlocks : Encoding → Ty → SendCode → Type 0

@@ -3,6 +3,8 @@
 
 ghost use Rattle.std.specs.Prelude.{◌≡◌, ◌<◌, [], length, OnOk, IfOk};
 ghost use Rattle.mint.specs.Types.{type_at, unfolded, others_at, ArmsBelow, IsBelow};
+ghost use Rattle.wire_def.specs.Places.{IsPlace};
+ghost use Rattle.cast_stub.specs.Kept.{StaysSoundAt};
 ghost use Rattle.cast_stub.specs.RecvAppend.{append};
 ghost use Rattle.cast_stub.specs.RecvBlock.{finish, op_seen, code_seen, cases_seen};
 ghost use Rattle.copy_inline.specs.RecvCallFree.{HasNoCall};
@@ -12,7 +14,7 @@ ghost use Rattle.copy_inline.specs.RecvReady.{LoopIs, IsReady, CasesReady};
 ghost use Rattle.copy_inline.specs.RecvRowBodies.{ArmsReady, AreRowed, IsRowedBody};
 ghost use Rattle.copy_inline.specs.Rowed.{by_type};
 ghost use Rattle.copy_inline.specs.RecvRowed.{loop_rowed, rowed, cases_rowed};
-ghost use Rattle.copy_inline.specs.RecvRows.{GivesTheSame, IsGiven, IsRowed, StaysSound};
+ghost use Rattle.copy_inline.specs.RecvRows.{GivesTheSame, IsGiven, IsRowed};
 
 use crate::recv_arrays::{copy_gets, put_row, put_text};
 use cast_stub::copies::copy_path;
@@ -269,7 +271,7 @@ pub fn rows_recv(
     requires given { IsGiven enc (type_at mint.now id) code.now }
     // What it keeps.
     ensures same { IfOk result (λ r. GivesTheSame (type_at mint.now id) code.now r) }
-    ensures sound { IfOk result (λ r. StaysSound enc (type_at mint.now id) code.now r) }
+    ensures sound { IfOk result (λ r. StaysSoundAt (IsPlace enc) enc (type_at mint.now id) code.now r) }
     ensures subs { IfOk result (λ r. r.subs ≡ []) }
     ensures calls { IfOk result (λ r. HasNoCall (code_seen r.ops)) }
     // What it changes.

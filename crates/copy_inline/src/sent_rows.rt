@@ -5,12 +5,13 @@ ghost use Rattle.mint.specs.Types.{type_at, unfolded, others_at, row_of, ArmsBel
 ghost use Rattle.cast_stub.specs.Append.{append};
 ghost use Rattle.cast_stub.specs.Block.{stop, op_seen, code_seen, cases_seen};
 ghost use Rattle.cast_stub.specs.CallFree.{HasNoCall};
+ghost use Rattle.cast_stub.specs.Kept.{Anywhere, ChecksTheSame, SendsTheSameAt, StaysCoveredAt};
 ghost use Rattle.cast_stub.specs.PartTypes.{ty_at, present_at, arms_at};
 ghost use Rattle.copy_inline.specs.Ready.{OfType, LoopIs, IsReady, CasesReady};
 ghost use Rattle.copy_inline.specs.RowBodies.{ArmsReady, AreRowed, IsRowedBody};
 ghost use Rattle.copy_inline.specs.Rowed.{array_rowed, row_or_loop, loop_rowed, by_type, rowed, cases_rowed};
 ghost use Rattle.copy_inline.specs.Sorts.{is_image};
-ghost use Rattle.copy_inline.specs.Rows.{ChecksTheSame, GivesBlocks, IsGiven, IsRowed, SendsTheSameOf, StaysCovered};
+ghost use Rattle.copy_inline.specs.Rows.{GivesBlocks, IsGiven, IsRowed};
 
 use crate::sorts::{Sort, sort_of};
 use cast_stub::copies::{copy_ops, copy_path, copy_puts};
@@ -303,8 +304,8 @@ pub fn rows(
     requires id { id < length mint.now }
     requires given { IsGiven enc (type_at mint.now id) code.now }
     // What it keeps.
-    ensures same { IfOk result (λ r. SendsTheSameOf (type_at mint.now id) code.now r) }
-    ensures covered { IfOk result (λ r. StaysCovered (type_at mint.now id) code.now r) }
+    ensures same { IfOk result (λ r. SendsTheSameAt Anywhere (type_at mint.now id) code.now r) }
+    ensures covered { IfOk result (λ r. StaysCoveredAt Anywhere (type_at mint.now id) code.now r) }
     ensures checks { IfOk result (λ r. ChecksTheSame (type_at mint.now id) code.now r) }
     ensures subs { IfOk result (λ r. r.subs ≡ []) }
     ensures calls { IfOk result (λ r. HasNoCall (code_seen r.ops)) }

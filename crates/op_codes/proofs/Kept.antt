@@ -10,12 +10,12 @@ use Rattle.cast_stub.specs.declared.send.SendCode.{SendCode}
 use Rattle.cast_stub.specs.Block.{code_seen}
 use Rattle.cast_stub.specs.CallFree.{HasNoCall}
 use Rattle.cast_stub.specs.Framed.{IsFramed}
-use Rattle.cast_stub.specs.Kept.{SendsTheSame, IsCoveredFor}
+use Rattle.cast_stub.specs.Kept.{SendsTheSame, IsCoveredFor, Anywhere, SendsTheSameAt, StaysCoveredAt, ChecksTheSame}
 use Rattle.cast_stub.specs.Meaning.{meaning, Cost, cost}
 use Rattle.cast_stub.specs.Parts.{IsThere}
 use Rattle.cast_stub.specs.Puts.{IsHead}
 use Rattle.stub_lower.specs.Leads.{Leads}
-use Rattle.copy_inline.specs.Rows.{ChecksTheSame, GivesBlocks, SendsTheSameOf, StaysCovered}
+use Rattle.copy_inline.specs.Rows.{GivesBlocks}
 use Rattle.hoist.specs.Pass.{IsSparing}
 use Rattle.op_codes.specs.Backs.{encoding}
 use Rattle.op_codes.specs.Messages.{framed}
@@ -39,12 +39,12 @@ module _ (k : Back) (t : Ty) (lead given code : SendCode)
     (is_framed : (o : Head → List ℕ) → Leads o lead → AreHeads k o → (h : Head) (v : Val) → IsHead h
     → IsFramed (length (o h)) t (code_seen given.ops))
     (same : SendsTheSame given code) (covered : IsCoveredFor t given code) (sparing : IsSparing (encoding k) t given code) where
-  sends : (r : SendCode) → SendsTheSameOf t code r → StaysCovered t code r → ChecksTheSame t code r → GivesBlocks (encoding k) t r
-      → HasNoCall (code_seen r.ops) → r.subs ≡ [] → SendsAfter k lead t r
+  sends : (r : SendCode) → SendsTheSameAt Anywhere t code r → StaysCoveredAt Anywhere t code r → ChecksTheSame t code r
+      → GivesBlocks (encoding k) t r → HasNoCall (code_seen r.ops) → r.subs ≡ [] → SendsAfter k lead t r
   sends r alike stays checks blocks calls none o leads heads =
       record {
-        means = λ h v head typed. alike h v 0 typed.is_of ∙ same h v 0 ∙ made o leads heads h v head typed;
-        covered = λ h v head typed. stays h v 0 typed.is_of (covered h v 0 typed.is_of
+        means = λ h v head typed. alike h v 0 tt typed.is_of ∙ same h v 0 ∙ made o leads heads h v head typed;
+        covered = λ h v head typed. stays h v 0 tt typed.is_of (covered h v 0 typed.is_of
             (there (meaning given h v 0) (framed k (o h) t v) (made o leads heads h v head typed)));
         checks = λ h v head typed. carried (cost r h v) (cost code h v) _ (checks h v typed.is_of)
             (sparing (length (o h)) h v (is_framed o leads heads h v head) typed.is_of);
@@ -53,8 +53,8 @@ module _ (k : Back) (t : Ty) (lead given code : SendCode)
         subs = none;
       }
 
-  pub sends_made : (r : Result SendCode NoMemory) → IfOk r (λ c. SendsTheSameOf t code c)
-      → IfOk r (λ c. StaysCovered t code c) → IfOk r (λ c. ChecksTheSame t code c)
+  pub sends_made : (r : Result SendCode NoMemory) → IfOk r (λ c. SendsTheSameAt Anywhere t code c)
+      → IfOk r (λ c. StaysCoveredAt Anywhere t code c) → IfOk r (λ c. ChecksTheSame t code c)
       → IfOk r (λ c. GivesBlocks (encoding k) t c) → IfOk r (λ c. HasNoCall (code_seen c.ops))
       → IfOk r (λ c. c.subs ≡ []) → IfOk r (λ c. SendsAfter k lead t c)
   sends_made (Ok r) alike stays checks blocks calls none = sends r alike stays checks blocks calls none

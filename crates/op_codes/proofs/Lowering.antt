@@ -10,12 +10,12 @@ use Rattle.cast_stub.specs.declared.recv.RecvCode.{RecvCode}
 use Rattle.cast_stub.specs.declared.recv.RecvOp.{RecvOp}
 use Rattle.cast_stub.specs.Follows.{AllFollow}
 use Rattle.cast_stub.specs.Got.{IsSoundCode}
+use Rattle.cast_stub.specs.Kept.{StaysSoundAt}
 use Rattle.cast_stub.specs.Layouts.{layout_of}
 use Rattle.cast_stub.specs.RecvBlock.{code_seen}
 use Rattle.cast_stub.specs.Traces as received
 use Rattle.cast_stub.specs.Turned.{AllTurned}
 use Rattle.copy_inline.specs.RecvCallFree.{HasNoCall}
-use Rattle.copy_inline.specs.RecvRows.{StaysSound}
 use Rattle.storage_class.specs.Spans.{AreClasses}
 use Rattle.stub_lower.specs.Lowered.{CodesSend}
 use Rattle.stub_lower.specs.RecvLowered.{CodesReceive}
@@ -48,7 +48,7 @@ receivers e nodes (Ok subs) many sound traces turned = record { many = many; sou
 receivers e nodes (Err x) many sound traces turned = tt
 
 pub receives : (e : Encoding) (t : Ty) (flat : RecvCode) (r : Result RecvCode NoMemory) → IsSoundCode e t (IsPlace e) flat
-    → IfOk r (λ c. StaysSound e t flat c)
+    → IfOk r (λ c. StaysSoundAt (IsPlace e) e t flat c)
     → IfOk r (λ c. HasNoCall (code_seen c.ops)) → IfOk r (λ c. c.subs ≡ []) → IfOk r (λ c. Receives e t c)
 receives e t flat (Ok code) sound stays calls none = record { sound = stays sound; calls = calls; subs = none }
 receives e t flat (Err x) sound stays calls none = tt

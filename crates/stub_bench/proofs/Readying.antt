@@ -19,7 +19,7 @@ use Rattle.wire_def.specs.declared.encoding.Encoding.TheVariants.{Xdr}
 use Rattle.wire_def.specs.declared.head.Head.{Head}
 use Rattle.wire_def.specs.Send.{send}
 use Rattle.cast_stub.specs.Bare.{RowsAreBare}
-use Rattle.cast_stub.specs.Kept.{ChangesOnlyEnsures, IsCoveredFor}
+use Rattle.cast_stub.specs.Kept.{ChangesOnlyEnsures, IsCoveredFor, Anywhere, StaysCoveredAt}
 use Rattle.cast_stub.specs.Layouts.{layout_of}
 use Rattle.cast_stub.specs.Meaning.{wrote, meaning, IsCovered}
 use Rattle.cast_stub.specs.Parts.{on_some, IsThere}
@@ -29,7 +29,6 @@ use Rattle.cast_stub.specs.Turned.{AllTurned}
 use Rattle.stub_lower.specs.Lowered.{CodesSend}
 use Rattle.copy_inline.specs.Inlined.{Does, Turns}
 use Rattle.copy_inline.specs.Rows as rows
-use Rattle.copy_inline.specs.Rows.{StaysCovered}
 use Rattle.copy_inline.proofs.RowGiven.{hoisted_given}
 
 pub alone_given : (nodes : List Node) (id : ℕ) (subs : List (List SendOp)) (code : SendCode) → IsSound (type_at nodes id)
@@ -75,7 +74,7 @@ alone_there nodes id subs flat lt sends does h v typed =
 
 pub alone_covered : (nodes : List Node) (id : ℕ) (subs : List (List SendOp)) (flat code in_rows : SendCode) → id < length subs
     → CodesSend Xdr nodes subs → Does subs id flat → IsCoveredFor (type_at nodes id) flat code
-    → StaysCovered (type_at nodes id) code in_rows
+    → StaysCoveredAt Anywhere (type_at nodes id) code in_rows
     → IsCovered (type_at nodes id) 0 in_rows
 alone_covered nodes id subs flat code in_rows lt sends does covered stays h v head typed =
-    stays h v 0 typed.is_of (covered h v 0 typed.is_of (alone_there nodes id subs flat lt sends does h v typed))
+    stays h v 0 tt typed.is_of (covered h v 0 typed.is_of (alone_there nodes id subs flat lt sends does h v typed))

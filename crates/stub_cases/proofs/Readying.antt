@@ -33,11 +33,10 @@ use Rattle.stub_lower.specs.Lowered.{CodesSend}
 use Rattle.stub_machine.proofs.Rooms.{length-written, four, within}
 use Rattle.copy_inline.specs.Inlined.{Does, Goes, Turns}
 use Rattle.copy_inline.specs.Rows as rows
-use Rattle.copy_inline.specs.Rows.{StaysCovered}
 use Rattle.copy_inline.proofs.RowGiven.{hoisted_given}
 use Rattle.std.proofs.lemmas.Bool.{le-leb, leb-true}
 use Rattle.hoist.specs.Pass.{IsGiven}
-use Rattle.cast_stub.specs.Kept.{ChangesOnlyEnsures, IsCoveredFor}
+use Rattle.cast_stub.specs.Kept.{ChangesOnlyEnsures, IsCoveredFor, Anywhere, StaysCoveredAt}
 use Rattle.cast_stub.specs.Bare.{RowsAreBare}
 use Rattle.cast_stub.specs.Layouts.{layout_of}
 use Rattle.cast_stub.specs.Turned.{AllTurned}
@@ -213,8 +212,8 @@ module _ (enc : Encoding) (nodes : List Node) (id : ℕ) (subs : List (List Send
       adds bare none
 
 -- and then it has room too
-pub rows_covered : (t : Ty) (code in_rows : SendCode) → IsCovered t 0 code → StaysCovered t code in_rows → IsCovered t 0 in_rows
-rows_covered t code in_rows covered stays h v head typed = stays h v 0 typed.is_of (covered h v head typed)
+pub rows_covered : (t : Ty) (code in_rows : SendCode) → IsCovered t 0 code → StaysCoveredAt Anywhere t code in_rows → IsCovered t 0 in_rows
+rows_covered t code in_rows covered stays h v head typed = stays h v 0 tt typed.is_of (covered h v head typed)
 
 -- ---- leads
 
