@@ -6,7 +6,6 @@ use Rattle.mint.specs.declared.kind.Count.TheVariants.{Exactly, AtMost}
 use Rattle.mint.specs.Types.{Ty, number, scalar_type, text, row_of, array_type, group_type, Tys, field, no_fields}
 use Rattle.mint.specs.Values.{Val, num, row, group, Vals, val, no_more}
 use Rattle.wire_def.specs.declared.encoding.Encoding.TheVariants.{CdrBig, Mach}
-use Rattle.storage_class.specs.Classing.{length_at}
 use Rattle.hoist.specs.Regions.{regions}
 use Rattle.hoist.specs.SpanSizes.{sizes}
 
