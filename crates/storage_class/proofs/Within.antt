@@ -36,7 +36,10 @@ within_top Unbounded p l n h e = absurd cc
 
 tops_within : (x y : Option ℕ) (p k l : ℕ) → ((m : ℕ) → x ≡ Some m → k ≤ m) → ((n : ℕ) → y ≡ Some n → l ≤ n)
     → HasLength (sum_of_tops x y) p (k + l)
-tops_within (Some m) (Some n) p k l f g = let one = f m refl in let two = g n refl in at_most_within (m + n) p (k + l) (omega (arith, one, two))
+tops_within (Some m) (Some n) p k l f g =
+    let one = f m refl in
+    let two = g n refl in
+    at_most_within (m + n) p (k + l) (omega (arith, one, two))
 tops_within (Some m) None p k l f g = tt
 tops_within None y p k l f g = tt
 

@@ -100,15 +100,18 @@ rests : (e : Encoding) (a : Array) → Rest e a
 rests Xdr a =
     let f = filled (is_octets a) in
     record { turn = 1; turn_is = refl; after = f.0; after_is = f.1; few = (refl, omega arith, omega (arith, f.2)); single = refl }
-rests CdrBig (text c) = record { turn = 1; turn_is = refl; after = 1; after_is = refl; few = (refl, omega arith, omega arith); single = refl }
+rests CdrBig (text c) =
+    record { turn = 1; turn_is = refl; after = 1; after_is = refl; few = (refl, omega arith, omega arith); single = refl }
 rests CdrBig (row_of k c) =
     let t = gapped-turn CdrBig (element_width CdrBig (row_of k c)) (is_gapped (row_of k c)) in
-    record { turn = t.many; turn_is = t.is; after = 0; after_is = refl; few = (t.few.0, t.few.1, omega (arith, t.few.2)); single = t.single }
+    record
+    { turn = t.many; turn_is = t.is; after = 0; after_is = refl; few = (t.few.0, t.few.1, omega (arith, t.few.2)); single = t.single }
 rests CdrLittle (text c) =
     record { turn = 1; turn_is = refl; after = 1; after_is = refl; few = (refl, omega arith, omega arith); single = refl }
 rests CdrLittle (row_of k c) =
     let t = gapped-turn CdrLittle (element_width CdrLittle (row_of k c)) (is_gapped (row_of k c)) in
-    record { turn = t.many; turn_is = t.is; after = 0; after_is = refl; few = (t.few.0, t.few.1, omega (arith, t.few.2)); single = t.single }
+    record
+    { turn = t.many; turn_is = t.is; after = 0; after_is = refl; few = (t.few.0, t.few.1, omega (arith, t.few.2)); single = t.single }
 rests Mach a =
     let f = filled (nat_lt (element_width Mach a) 4) in
     record { turn = 1; turn_is = refl; after = f.0; after_is = f.1; few = (refl, omega arith, omega (arith, f.2)); single = refl }
