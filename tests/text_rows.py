@@ -30,11 +30,16 @@ SECONDS = 1800
 INTERFACES = {"onc": files.interfaces_of, "corba": corba_names.interfaces_of, "mig": mig.interfaces_of}
 
 
+def repeated(each, times):
+    """A string so many times, with its number in the place of each `%d`."""
+    return "".join(each.replace("%d", str(n)) for n in range(times)) if "%d" in each else each * times
+
+
 def spelled(parts):
     """A text of the tables."""
     if isinstance(parts, str):
         return parts
-    return "".join(part if isinstance(part, str) else "".join(part["each"].replace("%d", str(n)) for n in range(part["times"])) for part in parts)
+    return "".join(part if isinstance(part, str) else repeated(part["each"], part["times"]) for part in parts)
 
 
 def tables(only=()):
@@ -89,11 +94,16 @@ def replay_counts(program, rows, front, over, text, path):
     yield f"count over {over}", wrong_count(program, front, over, path, INTERFACES[front](text), given)
 
 
-def replay_texts(program):
-    """A list of findings for each row of the tables."""
+def replay_texts(program, is_chosen=lambda name: True, fronts=tuple(INTERFACES)):
+    """A list of findings for each row of the tables of these languages whose name is chosen."""
     findings = []
     for name, table in tables():
+        if table["front"] not in fronts:
+            continue
         for text, rows in texts_of(table):
+            rows = [row for row in rows if is_chosen(f"texts {name}: {row['name']}")]
+            if not rows:
+                continue
             with tempfile.TemporaryDirectory() as room:
                 path = f"{room}/file"
                 with open(path, "w") as file:
