@@ -1,6 +1,6 @@
 -- Each sound unit that has no reason against it has a binding.
 use Rattle.std.proofs.Common.{◌≡◌, Bool, true, false, not, ◌&&◌, ◌≤◌, ℕ, List, [], ◌++◌, length, length-append, nat_lt, if◌then◌else◌, Option, None, Some, refl, ap, ◌∙◌, subst, arith}
-use Rattle.std.specs.List.{AllByRecursion}
+use Rattle.std.specs.List.{AllByRecursion, list_any}
 use Rattle.std.proofs.lemmas.Bool.{ltb-false}
 use Rattle.std.proofs.lemmas.List.{length-map}
 use Rattle.wire_def.specs.declared.encoding.Back.{Back}
@@ -11,7 +11,7 @@ use Rattle.pres.specs.declared.errors.BindErr.TheVariants as err
 use Rattle.pres.specs.declared.ops.Op.{Op}
 use Rattle.pres.specs.Bindings.{Binding}
 use Rattle.pres.specs.Faces.{Face, faces, faces_from}
-use Rattle.pres.specs.Faults.{has_raises, bind_fault}
+use Rattle.pres.specs.Faults.{has_raises, has_long_in, is_deep, is_heavy, is_spread, is_wide, bind_fault}
 use Rattle.pres.specs.Laws.{UnitsAreBound}
 use Rattle.pres.specs.Made.{made_in_types, made_in_interfaces, all_made}
 use Rattle.pres.specs.Offers.{is_cdr, faces_of, type_faces, offers}
@@ -19,6 +19,7 @@ use Rattle.pres.specs.Drafts.{Sketch, IsSketch, drawn, known, IsDrawableInterfac
 use Rattle.pres.proofs.Building.{Fits, fits_first, draw_interfaces, draw_types}
 use Rattle.pres.proofs.Drafting.{sketch}
 use Rattle.pres.proofs.Faulty.{table_faces, bound}
+use Rattle.pres.proofs.Rises.{neither}
 use Rattle.pres.proofs.SoundUnit.{unit_drawable}
 use Rattle.pres.proofs.Whole.{faces_count}
 
@@ -77,8 +78,28 @@ few_made u b h =
           (not_many (not (is_cdr b) && has_raises u) (nat_lt 65536 (length (all_made u b))) _ h),
     )
 
+-- no reason, and so no long name
+not_wide : (p q r s t : Bool)
+    → (if p then Some err.Raises else (if q then Some err.Many else (if r then Some err.Deep else (if s then Some err.Heavy
+    else (if t then Some err.Wide else None))))) ≡ None
+    → t ≡ false
+not_wide true q r s t h = absurd cc
+not_wide false true r s t h = absurd cc
+not_wide false false true s t h = absurd cc
+not_wide false false false true t h = absurd cc
+not_wide false false false false true h = absurd cc
+not_wide false false false false false h = refl
+
+short_made : (u : PlainUnit) (b : Back) → bind_fault u b ≡ None → list_any has_long_in u.interfaces ≡ false
+short_made u b h =
+    let narrow : is_wide u b ≡ false =
+    not_wide (not (is_cdr b) && has_raises u) (nat_lt 65536 (length (all_made u b))) (list_any is_deep (all_made u b))
+    (list_any is_heavy (all_made u b)) (is_wide u b) h in
+    (neither (list_any has_long_in u.interfaces) (is_spread (offers u b)) narrow).0
+
 pub units_bound : UnitsAreBound
 units_bound u b sound none =
     let d = draw_unit u b sound (few_made u b none) in
     let made : Binding = record { nodes = d.new.nodes; shapes = d.new.shapes; ops = d.ops; unit = u; back = b } in
-    (made, bound d.new made sound d.is.named refl refl d.there, refl, refl, table_faces d.new d.new.nodes d.new.shapes refl refl ∙ d.nodes)
+    let stands = bound d.new made sound (short_made u b none) d.is.named refl refl d.there in
+    (made, stands, refl, refl, table_faces d.new d.new.nodes d.new.shapes refl refl ∙ d.nodes)

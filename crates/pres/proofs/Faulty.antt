@@ -112,6 +112,10 @@ over_spread fs os = by (list_any (λ o. nat_lt 65536 (spread_of o)) (map (offer_
 
 -- ---- the binding
 
+pub short_names : (u : PlainUnit) (ss : List Size) (os : List Op) → (list_any has_long_in u.interfaces || is_over ss os) ≡ false
+    → list_any has_long_in u.interfaces ≡ false
+short_names u ss os h = (neither (list_any has_long_in u.interfaces) (is_over ss os) h).0
+
 pub wide_is : (u : PlainUnit) (b : Back) (fs : List Face) (ss : List Size) (os : List Op) → ss ≡ map size_of fs
     → map (offer_at fs) os ≡ offers u b
     → (list_any has_long_in u.interfaces || is_over ss os) ≡ is_wide u b
@@ -131,15 +135,16 @@ pub table_faces : (s : Sketch) (m : List Node) (ps : List Shape) → m ≡ s.nod
 unfolding drawn
 table_faces s m ps m_is ps_is = rw (m_is, ps_is) refl
 
-pub bound : (s : Sketch) (b : Binding) → IsSoundPlain b.unit → AreNamed b.nodes b.shapes → b.nodes ≡ s.nodes
-    → b.shapes ≡ s.shapes → AreOffered s b.ops (offers b.unit b.back)
+pub bound : (s : Sketch) (b : Binding) → IsSoundPlain b.unit → list_any has_long_in b.unit.interfaces ≡ false
+    → AreNamed b.nodes b.shapes → b.nodes ≡ s.nodes → b.shapes ≡ s.shapes → AreOffered s b.ops (offers b.unit b.back)
     → IsBinding b
-bound s b sound named ns ss o =
+bound s b sound short named ns ss o =
     let same : faces b.nodes b.shapes ≡ drawn s = table_faces s b.nodes b.shapes ns ss in
     let long : length (drawn s) ≡ length b.nodes = ap length (sym same) ∙ faces-length b.nodes b.shapes named in
     record {
       named = named;
       sound = sound;
       placed = placed_by b (length (drawn s)) b.ops long o.placed;
+      short = short;
       offered = ap (λ z. map (offer_at z) b.ops) same ∙ o.are;
     }

@@ -7,7 +7,7 @@ use Rattle.pres.specs.Faults.{bind_fault}
 use Rattle.pres.specs.Sizes.{size_of}
 use Rattle.pres.proofs.Drawn.{handed_on}
 use Rattle.pres.proofs.SoundUnit.{unit_drawable, unit_regular}
-use Rattle.pres.proofs.Faulty.{raises_next, deep_next, heavy_next, wide_next, none_at_last, deep_sizes, wide_is, placed_in, table_faces, bound}
+use Rattle.pres.proofs.Faulty.{raises_next, deep_next, heavy_next, wide_next, none_at_last, deep_sizes, wide_is, placed_in, table_faces, bound, short_names}
 use Rattle.pres.proofs.binding.draw.Goals as goal
 
 pub returns-in_err-check_raises-clause-cause : goal.returns-in_err-check_raises-clause-cause
@@ -87,5 +87,7 @@ returns-clause-nodes c = table_faces c.draw_unit.new.self _ _ c.in_ok-mint.ensur
     ∙ c.in_ok-ops.ensures.nodes
 
 pub returns-clause-binding : goal.returns-clause-binding
-returns-clause-binding c = bound c.draw_unit.new.self _ c.requires c.in_ok-mint.ensures.named c.in_ok-mint.ensures.nodes
-    c.in_ok-mint.ensures.shapes c.in_ok-ops.ensures.offers
+returns-clause-binding c =
+    let short = short_names (plain c.args.unit.now) c.deref-2.result.now c.as_slice.result.now c.in_ok-check_width.ensures.ok in
+    bound c.draw_unit.new.self _ c.requires short c.in_ok-mint.ensures.named c.in_ok-mint.ensures.nodes c.in_ok-mint.ensures.shapes
+    c.in_ok-ops.ensures.offers
