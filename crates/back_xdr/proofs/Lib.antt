@@ -30,7 +30,7 @@ pub mod NamedBelow
 pub mod NamedRight
 -- A message has one head of a call or one first fault of it, over a binding too
 pub mod Heading
--- * The head that is sent is read as the call of its procedure
+-- * The head that is sent is read as the call of its procedure, and has one length
 pub mod Sent
 -- * The refusals of this format are those that have octets
 pub mod Refusing

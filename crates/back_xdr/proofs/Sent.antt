@@ -1,4 +1,4 @@
--- The head that is sent is read as the call of its procedure.
+-- The head that is sent is read as the call of its procedure, and has one length.
 use Rattle.std.proofs.Common.{◌≡◌, ℕ, List, [], ◌++◌, take, refl, arith, length-append}
 use Rattle.std.proofs.lemmas.List.{take_at}
 use Rattle.back_xdr.specs.Call.{Call}
@@ -6,7 +6,7 @@ use Rattle.back_xdr.specs.Reported.{BeginsCall}
 use Rattle.back_xdr.specs.Words.{IsWord}
 use Rattle.back_xdr.specs.declared.procedures.Procedure.{Procedure}
 use Rattle.back_xdr.specs.Leads.{lead}
-use Rattle.back_xdr.specs.Laws.{AreWords, call_of, LeadsAreRead}
+use Rattle.back_xdr.specs.Laws.{AreWords, call_of, LeadsAreRead, LeadsHaveOneLength}
 
 -- a call without credentials and verifier
 abbrev bare_call : Procedure → ℕ → Call
@@ -40,3 +40,6 @@ leads_read p id o fits (program, version, number) =
       ),
       refl,
     )
+
+pub one_length : LeadsHaveOneLength
+one_length p = record { calls = λ id. refl; replies = λ id. refl }

@@ -1,5 +1,5 @@
 -- Laws of the heads.
-use Rattle.std.specs.Prelude.{◌≡◌, ◌⊎◌, ◌↔◌, ℕ, List, ◌++◌, Some}
+use Rattle.std.specs.Prelude.{◌≡◌, ◌⊎◌, ◌↔◌, ℕ, List, ◌++◌, length, Some}
 use Rattle.wire_def.specs.declared.fault.HeadErr.{HeadErr}
 use Rattle.wire_def.specs.Grammar.{AreOctets, IsGrammar}
 use Rattle.wire_def.specs.declared.outcome.Refusal.{Refusal}
@@ -8,7 +8,7 @@ use Rattle.pres.specs.Bindings.{Binding}
 use Rattle.back_xdr.specs.declared.call.OncCall.{OncCall}
 use Rattle.back_xdr.specs.declared.procedures.Procedure.{Procedure}
 use Rattle.back_xdr.specs.Heads.{Way, HeadOf, HeadSpells, HeadStops, read_head, BeginsWith, StopsWith}
-use Rattle.back_xdr.specs.Leads.{lead, lead_length}
+use Rattle.back_xdr.specs.Leads.{lead, lead_length, answer_lead}
 use Rattle.back_xdr.specs.Procedures.{procedure_of}
 use Rattle.back_xdr.specs.Refusals.{IsOwn, refusal_octets}
 use Rattle.back_xdr.specs.Seeking.{named}
@@ -49,6 +49,15 @@ call_of p id = record { head = shared_head id; program = p.program; version = p.
 -- the head that is sent is read as the call of its procedure, whatever follows
 abbrev pub LeadsAreRead : Type 0
 LeadsAreRead = (p : Procedure) (id : ℕ) (o : List ℕ) → IsWord id → AreWords p → BeginsCall (lead p id ++ o) (call_of p id)
+
+-- the heads of one procedure, whatever their transactions, have one length
+pub record HaveOneLength (p : Procedure) : Type 0 where
+  pub calls : (id : ℕ) → length (lead p id) ≡ length (lead p 0)
+  pub replies : (id : ℕ) → length (answer_lead id) ≡ length (answer_lead 0)
+
+-- so it is of each procedure
+abbrev pub LeadsHaveOneLength : Type 0
+LeadsHaveOneLength = (p : Procedure) → HaveOneLength p
 
 -- the refusals of this format are those that have octets
 abbrev pub OwnHaveOctets : Type 0

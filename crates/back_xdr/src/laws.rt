@@ -1,6 +1,6 @@
 //! The laws of the heads, each the contract of a function that does nothing.
 
-ghost use Rattle.back_xdr.specs.Laws.{HeadsAreDecided, HeadsAreRead, IsNamedRight, LeadsAreRead, OwnHaveOctets};
+ghost use Rattle.back_xdr.specs.Laws.{HeadsAreDecided, HeadsAreRead, IsNamedRight, LeadsAreRead, LeadsHaveOneLength, OwnHaveOctets};
 
 /// A message begins with a head, or there is a first item that is cut off or wrong: one of the
 /// two, and the head, its length and the fault are determined.
@@ -21,6 +21,11 @@ pub fn calls_are_named_right()
 /// The head that is sent of an operation is read as its call.
 pub fn leads_are_read()
     ensures { LeadsAreRead }
+{}
+
+/// The length of a head depends on what is called, and not on the transaction.
+pub fn leads_have_one_length()
+    ensures { LeadsHaveOneLength }
 {}
 
 /// A refusal has octets exactly where a call over this back end may have it.

@@ -11,6 +11,7 @@ mod laws;
 mod leads;
 mod lowering;
 pub mod procedures;
+mod recv_lowering;
 mod refusals;
 mod reply;
 mod seek;
@@ -19,11 +20,12 @@ mod words;
 
 pub use call::{OncCall, read_call};
 pub use laws::{
-    begins_or_stops, calls_are_named_right, heads_are_read, leads_are_read,
+    begins_or_stops, calls_are_named_right, heads_are_read, leads_are_read, leads_have_one_length,
     own_refusals_have_octets,
 };
 pub use leads::{lead_call, lead_reply};
 pub use lowering::lower_send;
+pub use recv_lowering::lower_recv;
 pub use refusals::put_refusal;
 pub use reply::read_reply;
 pub use seek::{ENCODING, read_called};

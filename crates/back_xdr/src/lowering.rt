@@ -3,8 +3,9 @@
 ghost use Rattle.std.specs.Prelude.{◌≡◌, length, IfOk};
 ghost use Rattle.wire_def.specs.declared.encoding.Encoding.TheVariants.{Xdr};
 ghost use Rattle.cast_stub.specs.Follows.{AllFollow};
-ghost use Rattle.cast_stub.specs.Turned.{AllTurned};
 ghost use Rattle.cast_stub.specs.Layouts.{layout_of};
+ghost use Rattle.cast_stub.specs.Rowless.{HaveNoRow};
+ghost use Rattle.cast_stub.specs.Turned.{AllTurned};
 ghost use Rattle.stub_lower.specs.Lowered.{CodesSend};
 
 use cast_stub::SendSubs;
@@ -20,6 +21,7 @@ pub fn lower_send(alloc: Global, mint: &Mint) -> Result<SendSubs, NoMemory>
     ensures means { IfOk result (λ subs. CodesSend Xdr mint.now subs) }
     ensures follows { IfOk result (λ subs. AllFollow mint.now subs) }
     ensures rows { IfOk result (λ subs. AllTurned (layout_of Xdr) mint.now subs) }
+    ensures no_row { IfOk result HaveNoRow }
 {
     lower(alloc, Encoding::Xdr, mint)
 }
