@@ -2,6 +2,8 @@
 
 -- * Each operation of a bound unit is one that requests name, and they are few, by induction on the interfaces
 pub mod Counting
+-- * No name of a bound unit is too long, by induction on the interfaces; so a head has fewer than 2^32 octets
+pub mod Short
 -- * A head as chunks appends its octets
 pub mod Coding
 -- * Fields that are put after octets depend on the length of these alone, so the id may be put in later

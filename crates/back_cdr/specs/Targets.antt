@@ -1,5 +1,7 @@
 -- What the operations of a unit are in requests: an object's key, a name, and the ids of exceptions.
-use Rattle.std.specs.Prelude.{ℕ, Bool, true, not, List, [], map, flat_map, slice_index_or}
+use Rattle.std.specs.Prelude.{ℕ, ◌≤◌, Bool, true, not, List, [], length, map, flat_map, slice_index_or}
+use Rattle.std.specs.List.{AllByRecursion}
+use Rattle.kit_base.specs.Limits.{longest_name}
 use Rattle.wire_def.specs.declared.encoding.Back.{Back}
 use Rattle.wire_def.specs.declared.encoding.Back.TheVariants as back
 use Rattle.wire_def.specs.declared.head.Order.{Order}
@@ -35,6 +37,16 @@ no_target = record { key = []; name = []; wants = true; ids = [] }
 -- the target of an operation
 abbrev pub target_of : Binding → ℕ → Target
 target_of b op = slice_index_or (targets b.unit.interfaces) op no_target
+
+-- a name that is not too long
+abbrev pub IsShort : List ℕ → Type 0
+IsShort name = length name ≤ longest_name
+
+-- a target whose key, name and ids are not too long
+pub record HasShortNames (t : Target) : Type 0 where
+  pub key : IsShort t.key
+  pub name : IsShort t.name
+  pub ids : AllByRecursion IsShort t.ids
 
 -- a back end of this format
 abbrev pub IsCdr : Back → Type 0

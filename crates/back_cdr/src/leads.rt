@@ -1,6 +1,6 @@
 //! The heads that are sent, as code.
 
-ghost use Rattle.std.specs.Prelude.{◌≡◌, ◌<◌, ◌≤◌, ◌∷◌, [], length, take, drop, IfOk};
+ghost use Rattle.std.specs.Prelude.{◌≡◌, ◌<◌, ◌≤◌, ◌^◌, ◌∷◌, [], length, take, drop, IfOk};
 ghost use Rattle.cast_stub.specs.Block.{chunk, op_seen, patch};
 ghost use Rattle.cast_stub.specs.declared.put.Put.TheVariants as put;
 ghost use Rattle.cast_stub.specs.declared.put.HeadField.TheVariants.{Id};
@@ -11,7 +11,7 @@ ghost use Rattle.back_cdr.specs.Targets.{IsCdr, target_of};
 ghost use Rattle.back_cdr.specs.Targets as defs;
 
 use crate::printing::{answer, request, user};
-use crate::targets::{exception_of, operation_of, order_of};
+use crate::targets::{exception_of, names_are_short, operation_of, order_of};
 use cast_stub::{HeadField, Put, Puts, SendCode, SendOp, SendOps, SendSubs};
 use kit_base::{NoMemory, Octets};
 use pres::Bound;
@@ -21,15 +21,12 @@ use wire_def::{Back, Order};
 /// One chunk of octets.
 #[tactic(auto, using(crate::proofs::Coding::coding))]
 fn constant(alloc: Global, octets: &[u8]) -> Result<SendOp, NoMemory>
+    requires { length octets.now < 2 ^ 32 }
     ensures { IfOk result (λ op. op_seen op ≡ chunk (length octets.now) (put.Const 0 octets.now ∷ [])) }
 {
-    let size = match u32::try_from(octets.len()) {
-        Ok(size) => size,
-        Err(_) => return Err(NoMemory),
-    };
     let mut puts = Puts::new(alloc);
     puts.push(Put::Const(0, Octets::from_slice(alloc, octets)?))?;
-    Ok(SendOp::Chunk(size, puts))
+    Ok(SendOp::Chunk(octets.len() as u32, puts))
 }
 
 /// One chunk of the request's id.
@@ -60,7 +57,8 @@ fn after_id(octets: &[u8]) -> &[u8]
 
 /// Chunks of these octets, with the request's id from the 17th on.
 fn chunks_of(alloc: Global, order: Order, octets: &[u8]) -> Result<SendCode, NoMemory>
-    requires { 20 ≤ length octets.now }
+    requires many { 20 ≤ length octets.now }
+    requires few { length octets.now < 2 ^ 32 }
     ensures { IfOk result (λ code. IsCoded order octets.now code) }
 {
     let mut ops = SendOps::new(alloc);
@@ -75,7 +73,8 @@ fn chunks_of(alloc: Global, order: Order, octets: &[u8]) -> Result<SendCode, NoM
 
 /// Code that is these octets, with the request's id from the 17th on.
 fn code_of(alloc: Global, order: Order, octets: &[u8]) -> Result<SendCode, NoMemory>
-    requires { 20 ≤ length octets.now }
+    requires many { 20 ≤ length octets.now }
+    requires few { length octets.now < 2 ^ 32 }
     ensures means { IfOk result (λ code. Leads (λ h. with_id order octets.now h.id) code) }
     ensures chunks { IfOk result AreChunks }
 {
@@ -101,6 +100,7 @@ pub(crate) fn call_octets(
     requires op { op < length bound.now.ops }
     ensures { IfOk result (λ o. o ≡ lead order (target_of bound.now op) id) }
 {
+    names_are_short(bound);
     let (i, called) = operation_of(bound, op);
     request(
         alloc,
@@ -125,6 +125,7 @@ fn reply_octets(
     requires arm { arm ≤ length (target_of bound.now op).ids }
     ensures { IfOk result (λ o. o ≡ reply_lead order (target_of bound.now op) arm 0) }
 {
+    names_are_short(bound);
     if arm == 0 {
         answer(alloc, order)
     } else {
@@ -141,6 +142,7 @@ pub fn lead_call(alloc: Global, bound: &Bound, op: u32) -> Result<SendCode, NoMe
         (λ code. Leads (λ h. lead (defs.order_of bound.now.back) (target_of bound.now op) h.id) code) }
     ensures chunks { IfOk result AreChunks }
 {
+    names_are_short(bound);
     let order = sent_order(bound);
     let octets = call_octets(alloc, order, bound, op, 0)?;
     code_of(alloc, order, octets.as_slice())
@@ -156,6 +158,7 @@ pub fn lead_reply(alloc: Global, bound: &Bound, op: u32, arm: u32) -> Result<Sen
         (λ h. reply_lead (defs.order_of bound.now.back) (target_of bound.now op) arm h.id) code) }
     ensures chunks { IfOk result AreChunks }
 {
+    names_are_short(bound);
     let order = sent_order(bound);
     let octets = reply_octets(alloc, order, bound, op, arm)?;
     code_of(alloc, order, octets.as_slice())

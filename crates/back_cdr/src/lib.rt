@@ -4,10 +4,14 @@
 
 mod laws;
 mod leads;
+mod lowering;
 mod printing;
+mod recv_lowering;
 mod seek;
 mod targets;
 
 pub use laws::{leads_have_one_length, requests_are_named_right};
 pub use leads::{lead_call, lead_reply, size_patch};
+pub use lowering::lower_send;
+pub use recv_lowering::lower_recv;
 pub use seek::read_called;

@@ -4,6 +4,7 @@ ghost use Rattle.std.specs.Prelude.{◌≡◌, IfOk, length};
 ghost use Rattle.giop_head.specs.Items.{flag};
 ghost use Rattle.giop_head.specs.Printed as printed;
 ghost use Rattle.giop_head.specs.Printed.{answer_octets, header_octets, request_octets, status_octets, user_octets};
+ghost use Rattle.back_cdr.specs.Targets.{IsShort};
 
 use kit_base::{NoMemory, Octets};
 use std::alloc::Global;
@@ -16,13 +17,11 @@ const REQUEST: u8 = 0;
 const REPLY: u8 = 1;
 
 /// A number of octets as an unsigned long.
-fn counted(octets: &[u8]) -> Result<u32, NoMemory>
-    ensures { IfOk result (λ n. n ≡ length octets.now) }
+fn counted(octets: &[u8]) -> u32
+    requires { IsShort octets.now }
+    ensures { result ≡ length octets.now }
 {
-    match u32::try_from(octets.len()) {
-        Ok(n) => Ok(n),
-        Err(_) => Err(NoMemory),
-    }
+    octets.len() as u32
 }
 
 /// The octets of an unsigned long.
@@ -74,21 +73,20 @@ fn then_long(order: Order, n: u32, octets: Octets) -> Result<Octets, NoMemory>
 
 /// A sequence of octets after others.
 fn then_sequence(order: Order, piece: &[u8], octets: Octets) -> Result<Octets, NoMemory>
+    requires { IsShort piece.now }
     ensures { IfOk result (λ o. o ≡ printed.then_sequence order piece.now octets) }
 {
-    let mut octets = then_long(order, counted(piece)?, octets)?;
+    let mut octets = then_long(order, counted(piece), octets)?;
     octets.append(piece)?;
     Ok(octets)
 }
 
 /// A string after other octets.
 fn then_string(order: Order, piece: &[u8], octets: Octets) -> Result<Octets, NoMemory>
+    requires { IsShort piece.now }
     ensures { IfOk result (λ o. o ≡ printed.then_string order piece.now octets) }
 {
-    let Some(n) = counted(piece)?.checked_add(1) else {
-        return Err(NoMemory);
-    };
-    let mut octets = then_long(order, n, octets)?;
+    let mut octets = then_long(order, counted(piece) + 1, octets)?;
     octets.append(piece)?;
     octets.push(0)?;
     Ok(octets)
@@ -111,6 +109,8 @@ pub(crate) fn request(
     key: &[u8],
     name: &[u8],
 ) -> Result<Octets, NoMemory>
+    requires key { IsShort key.now }
+    requires name { IsShort name.now }
     ensures { IfOk result
         (λ o. o ≡ request_octets order (record { id = id; wants = wants; key = key.now; name = name.now })) }
 {
@@ -142,6 +142,7 @@ pub(crate) fn answer(alloc: Global, order: Order) -> Result<Octets, NoMemory>
 
 /// The head of a reply with a user exception.
 pub(crate) fn user(alloc: Global, order: Order, exception: &[u8]) -> Result<Octets, NoMemory>
+    requires { IsShort exception.now }
     ensures { IfOk result (λ o. o ≡ user_octets order 0 exception.now) }
 {
     let octets = status(alloc, order, 1)?;

@@ -21,7 +21,7 @@ use pres::Bound;
 use wire_def::{Encoding, HeadErr, Order};
 
 /// How the octets of a body lie in a message of this order.
-fn laid(order: Order) -> Encoding
+pub(crate) fn laid(order: Order) -> Encoding
     ensures value { result ≡ laid order }
     ensures plain { IsPlain result }
 {

@@ -1,9 +1,9 @@
 //! The operations of interfaces, as requests name them.
 
-ghost use Rattle.std.specs.Prelude.{◌≡◌, ◌<◌, ◌≤◌, ◌^◌, ◌-◌, [], length, map, slice_index_or};
+ghost use Rattle.std.specs.Prelude.{◌≡◌, ℕ, ◌<◌, ◌≤◌, ◌^◌, ◌-◌, [], length, map, slice_index_or};
 ghost use Rattle.aoi.specs.Plain.{PlainRaise, plain_interface, plain_operation, plain_raise};
 ghost use Rattle.back_cdr.specs.Targets as defs;
-ghost use Rattle.back_cdr.specs.Targets.{IsCdr, no_target, target_in, target_of, targets};
+ghost use Rattle.back_cdr.specs.Targets.{HasShortNames, IsCdr, no_target, target_in, target_of, targets};
 
 use aoi::{Interface, Operation, Raise};
 use pres::Bound;
@@ -44,6 +44,13 @@ pub(crate) fn operations_are_targets(bound: &Bound)
 {
     let _ops = bound.ops();
     bound.unit().interfaces_are_apart();
+}
+
+/// No name of an operation of a bound unit is too long, and no id of an exception. It does nothing.
+pub(crate) fn names_are_short(bound: &Bound)
+    ensures { (op : ℕ) → HasShortNames (target_of bound.now op) }
+{
+    let _ops = bound.ops();
 }
 
 /// The operation of a bound unit, and its interface.

@@ -4,11 +4,17 @@ use Rattle.back_cdr.specs.Leads.{lead}
 use Rattle.back_cdr.specs.Targets.{order_of, target_of}
 use Rattle.back_cdr.proofs.Coding.{leads_along}
 use Rattle.back_cdr.proofs.Growing.{call_long, call_put}
+use Rattle.back_cdr.proofs.Short.{call_few}
 use Rattle.back_cdr.proofs.leads.lead_call.Goals as goal
 
-pub code_of-requires : goal.code_of-requires
-code_of-requires c =
+pub code_of-requires-clause-many : goal.code_of-requires-clause-many
+code_of-requires-clause-many c =
     rw (c.as_slice.ensures, c.in_ok-octets.ensures) (call_long c.sent_order-order.result (target_of c.args.bound.now c.args.op))
+
+pub code_of-requires-clause-few : goal.code_of-requires-clause-few
+code_of-requires-clause-few c =
+    rw (c.as_slice.ensures, c.in_ok-octets.ensures)
+    (call_few c.sent_order-order.result (target_of c.args.bound.now c.args.op) 0 (c.names_are_short.ensures c.args.op))
 
 pub returns-clause-means : goal.returns-clause-means
 returns-clause-means c =

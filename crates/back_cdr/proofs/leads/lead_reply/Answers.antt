@@ -4,12 +4,18 @@ use Rattle.back_cdr.specs.Leads.{reply_lead}
 use Rattle.back_cdr.specs.Targets.{order_of, target_of}
 use Rattle.back_cdr.proofs.Coding.{leads_along}
 use Rattle.back_cdr.proofs.Growing.{reply_long, reply_put}
+use Rattle.back_cdr.proofs.Short.{reply_few}
 use Rattle.back_cdr.proofs.leads.lead_reply.Goals as goal
 
-pub code_of-requires : goal.code_of-requires
-code_of-requires c =
+pub code_of-requires-clause-many : goal.code_of-requires-clause-many
+code_of-requires-clause-many c =
     rw (c.as_slice.ensures, c.in_ok-octets.ensures)
     (reply_long c.sent_order-order.result (target_of c.args.bound.now c.args.op) c.args.arm)
+
+pub code_of-requires-clause-few : goal.code_of-requires-clause-few
+code_of-requires-clause-few c =
+    rw (c.as_slice.ensures, c.in_ok-octets.ensures)
+    (reply_few c.sent_order-order.result (target_of c.args.bound.now c.args.op) c.args.arm 0 (c.names_are_short.ensures c.args.op))
 
 pub returns-clause-means : goal.returns-clause-means
 returns-clause-means c =
