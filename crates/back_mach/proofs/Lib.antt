@@ -26,5 +26,5 @@ pub mod Heading
 pub mod Coding
 -- Words that are put, one after the other
 pub mod Wording
--- * Heads that are sent are read as what they are sent for
+-- * Heads that are sent are read as what they are sent for, and have one length
 pub mod Sent

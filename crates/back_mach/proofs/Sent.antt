@@ -1,4 +1,4 @@
--- Heads that are sent are read as what they are sent for.
+-- Heads that are sent are read as what they are sent for, and have one length.
 use Rattle.std.proofs.Common.{◌≡◌, ℕ, zero, suc, ℤ, pos, negsuc, ◌≤◌, ◌<◌, ◌^◌, true, false, Bool, List, [], ◌∷◌, ◌++◌, length, take, drop, refl, sym, ap, subst, length-append, arith}
 use Rattle.std.specs.Prelude.{FitsSigned, nat_lt}
 use Rattle.std.specs.Int.{w32, cast_signed, cast_unsigned}
@@ -17,7 +17,7 @@ use Rattle.back_mach.specs.Reply.{return_word, CodeSpells}
 use Rattle.back_mach.specs.Leads.{request_bits, reply_port, lead, reply_id, move_send_once, reply_octets, with_size}
 use Rattle.back_mach.specs.Reported.{BeginsReply}
 use Rattle.back_mach.specs.Reported as defs
-use Rattle.back_mach.specs.Laws.{HasPorts, RequestsAreRead, AnswersAreRead, RefusalsAreRead, OwnHaveOctets}
+use Rattle.back_mach.specs.Laws.{HasPorts, RequestsAreRead, AnswersAreRead, RefusalsAreRead, LeadsHaveOneLength, OwnHaveOctets}
 
 -- ---- requests
 
@@ -195,3 +195,6 @@ own_octets id remote (RpcMismatch low high) = ((λ own. absurd own), λ (o, is).
 own_octets id remote (AuthError why) = ((λ own. absurd own), λ (o, is). absurd cc)
 own_octets id remote (SystemException name minor completion) = ((λ own. absurd own), λ (o, is). absurd cc)
 own_octets id remote (UserException name) = ((λ own. absurd own), λ (o, is). absurd cc)
+
+pub one_length : LeadsHaveOneLength
+one_length r = record { requests = λ head other. refl; replies = λ head other. refl }

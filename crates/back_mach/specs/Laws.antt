@@ -69,6 +69,15 @@ abbrev pub RefusalsAreRead : Type 0
 RefusalsAreRead = (id remote : ℕ) (n : ℤ) (o : List ℕ) → IsWord remote → FitsSigned w32 n → (n ≡ pos 0 → ⊥)
     → refusal_octets id remote (refusal.RetCode n) ≡ Some o → BeginsReply (reply_id id) o (reply_of remote (RetCode n))
 
+-- the heads of one routine, whatever their ports, have one length
+pub record HaveOneLength (r : Routine) : Type 0 where
+  pub requests : (head other : Head) → length (lead r head) ≡ length (lead r other)
+  pub replies : (head other : Head) → length (answer_lead r head) ≡ length (answer_lead r other)
+
+-- so it is of each routine
+abbrev pub LeadsHaveOneLength : Type 0
+LeadsHaveOneLength = (r : Routine) → HaveOneLength r
+
 -- the refusals of this format are those that have octets
 abbrev pub OwnHaveOctets : Type 0
 OwnHaveOctets = (id remote : ℕ) (r : Refusal) → IsOwn r ↔ ((o : List ℕ) × (refusal_octets id remote r ≡ Some o))

@@ -1,6 +1,6 @@
 //! The laws of the heads, each the contract of a function that does nothing.
 
-ghost use Rattle.back_mach.specs.Laws.{AnswersAreRead, HeadsAreDecided, HeadsAreRead, IsNamedRight, OwnHaveOctets, RefusalsAreRead, RequestsAreRead};
+ghost use Rattle.back_mach.specs.Laws.{AnswersAreRead, HeadsAreDecided, HeadsAreRead, IsNamedRight, LeadsHaveOneLength, OwnHaveOctets, RefusalsAreRead, RequestsAreRead};
 
 /// A message begins with a head, or there is a first item that is cut off or wrong: one of the
 /// two, and the head, its length and the fault are determined.
@@ -31,6 +31,11 @@ pub fn answers_are_read()
 /// The reply that refuses a request is read as its refusal.
 pub fn refusals_are_read()
     ensures { RefusalsAreRead }
+{}
+
+/// The length of a head depends on its operation, and not on the ports.
+pub fn leads_have_one_length()
+    ensures { LeadsHaveOneLength }
 {}
 
 /// A refusal has octets exactly where a request over this back end may have it.

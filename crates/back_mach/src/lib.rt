@@ -9,7 +9,9 @@ mod cursor;
 mod header;
 mod laws;
 mod leads;
+mod lowering;
 mod putting;
+mod recv_lowering;
 mod refusals;
 mod reply;
 pub mod routines;
@@ -20,10 +22,12 @@ mod words;
 pub use call::{MachCall, read_call};
 pub use header::MachHeader;
 pub use laws::{
-    answers_are_read, begins_or_stops, heads_are_read, own_refusals_have_octets, refusals_are_read,
-    requests_are_named_right, requests_are_read,
+    answers_are_read, begins_or_stops, heads_are_read, leads_have_one_length,
+    own_refusals_have_octets, refusals_are_read, requests_are_named_right, requests_are_read,
 };
 pub use leads::{lead_call, lead_reply, size_patch};
+pub use lowering::lower_send;
+pub use recv_lowering::lower_recv;
 pub use refusals::put_refusal;
 pub use reply::read_reply;
 pub use seek::{ENCODING, read_called};
