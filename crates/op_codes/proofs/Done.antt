@@ -5,8 +5,9 @@ use Rattle.mint.specs.Values.{Val}
 use Rattle.wire_def.specs.declared.head.Head.{Head}
 use Rattle.raw_buf.specs.declared.tally.Tally.{Tally}
 use Rattle.cast_stub.specs.declared.send.SendCode.{SendCode}
-use Rattle.cast_stub.specs.Meaning.{cost}
+use Rattle.cast_stub.specs.Meaning.{cost, AreCovered}
 use Rattle.cast_stub.specs.Parts.{on_some}
+use Rattle.cast_stub.specs.Subs.{sent_steps}
 use Rattle.stub_machine.specs.Sending.{paid, IsLong}
 use Rattle.pres.specs.Bindings.{Binding}
 use Rattle.op_codes.specs.declared.stub.Stub.{Stub}
@@ -44,6 +45,22 @@ module _ {A E : Type 0} (r : Result A E) where
       → OnOk r (option_map (paid t) (cost s h v) ≡ Some u) → OnOk r (option_map (paid t) (reply_cost stubs op k h v) ≡ Some u)
   reply_paid stubs op k s h v t u found ran =
       subst (λ (x : Option SendCode). OnOk r (option_map (paid t) (on_some x (λ (y : SendCode). cost y h v)) ≡ Some u)) (sym found) ran
+
+-- ---- room
+
+-- the code of an operation covers its request
+pub request_covered : (stubs : List Stub) (op : ℕ) (s : Stub) (h : Head) (v : Val) → slice_get stubs op ≡ Some s
+    → AreCovered (sent_steps s.send h v) 0 → AreCovered (on_some (slice_get stubs op) (λ (y : Stub). sent_steps y.send h v)) 0
+request_covered stubs op s h v found is =
+    subst (λ (x : Option Stub). AreCovered (on_some x (λ (y : Stub). sent_steps y.send h v)) 0) (sym found) is
+
+-- that of an arm its reply
+pub reply_covered : (stubs : List Stub) (op k : ℕ) (s : SendCode) (h : Head) (v : Val) → reply_code_at stubs op k ≡ Some s
+    → AreCovered (sent_steps s h v) 0 → AreCovered (on_some (reply_code_at stubs op k) (λ (y : SendCode). sent_steps y h v)) 0
+reply_covered stubs op k s h v found is =
+    subst (λ (x : Option SendCode). AreCovered (on_some x (λ (y : SendCode). sent_steps y h v)) 0) (sym found) is
+
+-- ---- when it is too long
 
 pub sent_long : (x : Option (List ℕ)) (m : List ℕ) → x ≡ Some m → IsLong 0 x → longest_message < length m
 sent_long x m means long =

@@ -7,3 +7,4 @@ pub mod Receiving
 pub mod Replies
 pub mod Sending
 pub mod Stubs
+pub mod Within

@@ -7,8 +7,9 @@ use Rattle.raw_buf.specs.View.{View}
 use Rattle.cast_stub.specs.declared.send.SendCode.{SendCode}
 use Rattle.cast_stub.specs.Got as stub
 use Rattle.cast_stub.specs.Got.{got_by}
-use Rattle.cast_stub.specs.Meaning.{Cost, cost}
+use Rattle.cast_stub.specs.Meaning.{Cost, cost, AreCovered}
 use Rattle.cast_stub.specs.Parts.{on_some}
+use Rattle.cast_stub.specs.Subs.{sent_steps}
 use Rattle.recv_machine.specs.declared.recv.Got.{Got}
 use Rattle.recv_machine.specs.Ran.{place_of, IsGot}
 use Rattle.pres.specs.Bindings.{Binding}
@@ -18,6 +19,7 @@ use Rattle.op_codes.specs.Messages.{request_type}
 use Rattle.op_codes.specs.Receiving.{Receives, ReceivesOther}
 use Rattle.op_codes.specs.Replies.{HasArm, arm_type}
 use Rattle.op_codes.specs.Sending.{Sends}
+use Rattle.op_codes.specs.Within.{HasCostWithin}
 
 -- the place of each arm of an operation's reply has code that sends the messages of the arm
 abbrev pub HasReplies : Binding → ℕ → List SendCode → Type 0
@@ -58,6 +60,24 @@ reply_code_at stubs op k = on_some (slice_get stubs op) (λ s. slice_get s.repli
 -- what that code costs
 abbrev pub reply_cost : List Stub → ℕ → ℕ → Head → Val → Option Cost
 reply_cost stubs op k h v = on_some (reply_code_at stubs op k) (λ c. cost c h v)
+
+-- the code of an operation ensures the room for all that it appends for this request
+abbrev pub IsCoveredRequest : Coded → ℕ → Head → Val → Type 0
+IsCoveredRequest x op h v = AreCovered (on_some (slice_get x.stubs op) (λ s. sent_steps s.send h v)) 0
+
+-- it has a cost for it, within what the message allows
+abbrev pub IsSparingRequest : Coded → ℕ → Head → Val → Type 0
+IsSparingRequest x op h v = HasCostWithin (encoding x.binding.back) (length (lead x.binding op h)) (request_type x.binding op) v
+    (sent_cost x.stubs op h v)
+
+-- the code of an arm ensures the room for all that it appends for a reply with this value of the arm
+abbrev pub IsCoveredReply : Coded → ℕ → ℕ → Head → Val → Type 0
+IsCoveredReply x op k h v = AreCovered (on_some (reply_code_at x.stubs op k) (λ c. sent_steps c h v)) 0
+
+-- it has a cost for it, within what the message allows
+abbrev pub IsSparingReply : Coded → ℕ → ℕ → Head → Val → Type 0
+IsSparingReply x op k h v = HasCostWithin (encoding x.binding.back) (length (reply_lead x.binding op k h)) (arm_type x.binding op k) v
+    (reply_cost x.stubs op k h v)
 
 -- what the code of an operation gives, that receives in the order of the messages that are sent
 abbrev pub IsGivenBy : List Stub → ℕ → Ty → Got → View → View → Type 0

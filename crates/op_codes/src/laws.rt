@@ -7,14 +7,13 @@ pub fn bodies_are_taken()
     ensures { BodiesAreTaken }
 {}
 
-/// A request has a cost, by the code that is kept for its operation, which checks the buffer at most once for
-/// each region of its message.
+/// A request has a cost, by the code that is kept for its operation, within what its message allows: it checks
+/// the buffer at most once for each region.
 pub fn requests_have_costs()
     ensures { RequestsHaveCosts }
 {}
 
-/// A reply has a cost, by the code that is kept for its arm, which checks the buffer at most once for each region
-/// of its message.
+/// A reply has a cost, by the code that is kept for its arm, within what its message allows.
 pub fn replies_have_costs()
     ensures { RepliesHaveCosts }
 {}

@@ -10,7 +10,7 @@ ghost use Rattle.cast_stub.specs.Subs.{sent_steps};
 ghost use Rattle.stub_machine.specs.Sending.{paid, IsLong};
 ghost use Rattle.op_codes.specs.Messages.{request_type, message};
 ghost use Rattle.op_codes.specs.Replies.{HasArm, arm_type, arm_message};
-ghost use Rattle.op_codes.specs.Stubs.{sent_cost, reply_cost};
+ghost use Rattle.op_codes.specs.Stubs.{sent_cost, reply_cost, IsCoveredReply, IsCoveredRequest, IsSparingReply, IsSparingRequest};
 
 use crate::codes::Codes;
 use crate::heads::numbers_are_words;
@@ -42,6 +42,9 @@ impl Codes {
         ensures spent { OnOk result
             (option_map (paid buf.old.spent) (sent_cost self.now.stubs op head.now (seen value.now))
             ≡ Some buf.new.spent) }
+        // What its code does.
+        ensures covered { IsCoveredRequest self.now op head.now (seen value.now) }
+        ensures sparing { IsSparingRequest self.now op head.now (seen value.now) }
         // When each error comes.
         ensures long { (result ≡ Err SendErr.Long)
             → longest_message < length (message self.now.binding op head.now (seen value.now)) }
@@ -78,6 +81,9 @@ impl Codes {
         ensures spent { OnOk result
             (option_map (paid buf.old.spent) (reply_cost self.now.stubs op arm head.now (seen value.now))
             ≡ Some buf.new.spent) }
+        // What its code does.
+        ensures covered { IsCoveredReply self.now op arm head.now (seen value.now) }
+        ensures sparing { IsSparingReply self.now op arm head.now (seen value.now) }
         // When each error comes.
         ensures long { (result ≡ Err SendErr.Long)
             → longest_message < length (arm_message self.now.binding op arm head.now (seen value.now)) }

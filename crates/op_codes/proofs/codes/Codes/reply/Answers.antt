@@ -1,5 +1,6 @@
 use Rattle.mint.specs.Values.{seen}
-use Rattle.op_codes.proofs.Done.{sent_is, sent_short, reply_paid, sent_long}
+use Rattle.op_codes.proofs.Costing.{reply_costs}
+use Rattle.op_codes.proofs.Done.{reply_covered, sent_is, sent_short, reply_paid, sent_long}
 use Rattle.op_codes.proofs.codes.Codes.reply.Goals as goal
 
 pub run_from_front-requires : goal.run_from_front-requires
@@ -30,3 +31,14 @@ pub returns-clause-long : goal.returns-clause-long
 returns-clause-long c =
     let means = c.reply_code.ensures.sends.means c.args.head.now (seen c.args.value.now) c.numbers_are_words.ensures c.requires.typed in
     λ is. sent_long _ _ means (c.run_from_front.ensures.long is)
+
+pub returns-clause-covered : goal.returns-clause-covered
+returns-clause-covered c =
+    reply_covered c.args.self.now.stubs c.args.op c.args.arm c.reply_code.result.now c.args.head.now (seen c.args.value.now)
+    c.reply_code.ensures.found
+    (c.reply_code.ensures.sends.covered c.args.head.now (seen c.args.value.now) c.numbers_are_words.ensures c.requires.typed)
+
+pub returns-clause-sparing : goal.returns-clause-sparing
+returns-clause-sparing c =
+    reply_costs c.args.self.now c.args.op c.args.arm c.reply_code.result.now c.args.head.now (seen c.args.value.now)
+    c.reply_code.ensures.found c.reply_code.ensures.sends c.numbers_are_words.ensures c.requires.typed

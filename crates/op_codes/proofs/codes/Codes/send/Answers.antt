@@ -1,5 +1,6 @@
 use Rattle.mint.specs.Values.{seen}
-use Rattle.op_codes.proofs.Done.{sent_is, sent_short, sent_paid, sent_long}
+use Rattle.op_codes.proofs.Costing.{request_costs}
+use Rattle.op_codes.proofs.Done.{request_covered, sent_is, sent_short, sent_paid, sent_long}
 use Rattle.op_codes.proofs.codes.Codes.send.Goals as goal
 
 pub run_from_front-requires : goal.run_from_front-requires
@@ -30,3 +31,13 @@ pub returns-clause-long : goal.returns-clause-long
 returns-clause-long c =
     let means = c.stub.ensures.is.send.means c.args.head.now (seen c.args.value.now) c.numbers_are_words.ensures c.requires.typed in
     λ is. sent_long _ _ means (c.run_from_front.ensures.long is)
+
+pub returns-clause-covered : goal.returns-clause-covered
+returns-clause-covered c =
+    request_covered c.args.self.now.stubs c.args.op c.stub.result.now c.args.head.now (seen c.args.value.now) c.stub.ensures.found
+    (c.stub.ensures.is.send.covered c.args.head.now (seen c.args.value.now) c.numbers_are_words.ensures c.requires.typed)
+
+pub returns-clause-sparing : goal.returns-clause-sparing
+returns-clause-sparing c =
+    request_costs c.args.self.now c.args.op c.stub.result.now c.args.head.now (seen c.args.value.now) c.stub.ensures.found c.stub.ensures.is
+    c.numbers_are_words.ensures c.requires.typed
