@@ -10,7 +10,7 @@ use Rattle.wire_def.proofs.Encodings.{sent_spells}
 use Rattle.flick_engine.specs.Backs.{encoding, lead}
 use Rattle.flick_engine.specs.Messages.{request_type, message}
 use Rattle.flick_engine.specs.Laws.{IsReadBack}
-use Rattle.flick_engine.proofs.HeadsOfBacks.{received, says_made, long_lead, same_length}
+use Rattle.flick_engine.proofs.HeadsOfBacks.{received, long_lead, same_length}
 
 -- what is sent after a lead spells the value from the lead's end, where it follows the head
 pub spells_after : (e f : Encoding) (t : Ty) (p used : ℕ) (o : List ℕ) (v : Val) → f ≡ e → used ≡ p → drop used o ≡ send e t p v
@@ -21,8 +21,7 @@ pub read_back : IsReadBack
 read_back b op head v c says named typed short =
     let is = received b op head c says in
     let body = send (encoding b.back) (request_type b op) (length (lead b op head)) v in
-    let made = says_made b.back b op head c says in
-    let lead_long = long_lead b.back made b op head in
+    let lead_long = long_lead b.back b op head in
     let same : length (message b op head v) ≡ length (lead b op head ++ body) =
     same_length b.back (lead b op head ++ body) (omega (arith, lead_long, length-append (lead b op head) body)) in (
       c,

@@ -18,7 +18,7 @@ use Rattle.call_kit.specs.Calls.{HasHead}
 use Rattle.pres.specs.Bindings.{Binding}
 use Rattle.flick_engine.specs.declared.errors.MessageErr.{MessageErr}
 use Rattle.flick_engine.specs.declared.errors.MessageErr.TheVariants as err
-use Rattle.flick_engine.specs.Backs.{IsMade, Begins, Stops}
+use Rattle.flick_engine.specs.Backs.{Begins, Stops}
 use Rattle.flick_engine.specs.Messages.{request_type}
 use Rattle.flick_engine.specs.Received.{Asked, IsShort, Names, ReadCall}
 use Rattle.flick_engine.proofs.HeadsOfBacks.{one_head, has_head}
@@ -27,7 +27,7 @@ pub above_or_not : (m n : ℕ) (t : Bool) → nat_lt m n ≡ t → (m < n) ⊎ (
 above_or_not m n true is = inl (ltb-true m n is)
 above_or_not m n false is = inr (ltb-false m n is)
 
-module _ (b : Binding) (made : IsMade b.back) (sound : (op : ℕ) → IsSound (request_type b op)) (o : List ℕ) (oct : AreOctets o) where
+module _ (b : Binding) (sound : (op : ℕ) → IsSound (request_type b op)) (o : List ℕ) (oct : AreOctets o) where
   abbrev Something : Type 0
   Something = (x : Result Asked MessageErr) × ReadCall b o x
 
@@ -81,7 +81,7 @@ module _ (b : Binding) (made : IsMade b.back) (sound : (op : ℕ) → IsSound (r
 
   size : (longest_message < length o) ⊎ IsShort o → Something
   size (inl long) = (Err err.Long, long)
-  size (inr short) = head short (has_head b made o oct)
+  size (inr short) = head short (has_head b o oct)
 
   pub something : Something
   something = size (above_or_not longest_message (length o) (nat_lt longest_message (length o)) refl)

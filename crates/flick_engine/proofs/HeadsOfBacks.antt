@@ -1,7 +1,6 @@
 -- What holds of the heads of each back end.
-use Rattle.std.proofs.Common.{◌≡◌, ℕ, ◌+◌, ◌<◌, ◌≤◌, List, [], ◌∷◌, ◌++◌, map, length, drop, Bool, true, false, Option, Some, None, refl, sym, ap, ◌∙◌, subst, arith}
-use Rattle.std.specs.Prelude.{IfSome, if◌then◌else◌, codes, slice_get, slice_index_or}
-use Rattle.std.specs.Str.{bytes_eq}
+use Rattle.std.proofs.Common.{◌≡◌, ℕ, ◌+◌, ◌<◌, ◌≤◌, List, [], ◌∷◌, ◌++◌, map, length, drop, Some, refl, sym, ap, ◌∙◌, subst, arith}
+use Rattle.std.specs.Prelude.{slice_get, slice_index_or}
 use Rattle.std.proofs.lemmas.List.{map-append, drop_at}
 use Rattle.std.proofs.lemmas.Option.{slice_get-get_or}
 use Rattle.std.proofs.lemmas.Simd.{map-map}
@@ -54,23 +53,9 @@ use Rattle.back_mach.proofs.Heading as mach_heading
 use Rattle.back_mach.proofs.NamedBelow as mach_named
 use Rattle.back_mach.proofs.NamedBy as mach_pairs
 use Rattle.back_mach.proofs.Sent as mach_sent
-use Rattle.flick_engine.specs.Backs.{IsMade, back_of, encoding, lead_over, sized, BeginsOver, Begins, AsksByName, AsksFor, Stops, request_of, reported_of, SaysByName, SaysOver, Says}
+use Rattle.flick_engine.specs.Backs.{encoding, lead_over, sized, BeginsOver, Begins, AsksByName, AsksFor, Stops, request_of, reported_of, SaysByName, SaysOver, Says}
 use Rattle.flick_engine.specs.Operations.{operations_in}
 use Rattle.op_codes.proofs.Places.{placed}
-
--- ---- names
-
-either : {A : Type 0} (b : Bool) (P : A → Type 0) (x y : Option A) → IfSome x P → IfSome y P → IfSome (if b then x else y) P
-either true P x y h g = h
-either false P x y h g = g
-
--- what words name is made
-pub back_made : (word : List ℕ) → IfSome (back_of word) IsMade
-back_made word =
-    either (bytes_eq word (codes "xdr")) IsMade (Some back.Xdr) _ tt
-    (either (bytes_eq word (codes "cdr-be")) IsMade (Some back.CdrBig) _ tt
-    (either (bytes_eq word (codes "cdr-le")) IsMade (Some back.CdrLittle) _ tt
-    (either (bytes_eq word (codes "mach")) IsMade (Some back.Mach) None tt tt)))
 
 -- ---- the heads that are received
 
@@ -84,15 +69,15 @@ one_head_over back.Mach b o = mach_heading.one_head_called b o
 pub one_head : (b : Binding) (o : List ℕ) → IsOneHead o (Begins b o) (Stops b.back o)
 one_head b o = one_head_over b.back b o
 
-has_head_over : (k : Back) → IsMade k → (b : Binding) (o : List ℕ) → AreOctets o → HasHead (BeginsOver k b o) (Stops k o)
-has_head_over back.Xdr made b o oct = has_head_called b o oct
-has_head_over back.CdrBig made b o oct = cdr_heading.has_head_called b o oct
-has_head_over back.CdrLittle made b o oct = cdr_heading.has_head_called b o oct
-has_head_over back.Mach made b o oct = mach_heading.has_head_called b o oct
+has_head_over : (k : Back) (b : Binding) (o : List ℕ) → AreOctets o → HasHead (BeginsOver k b o) (Stops k o)
+has_head_over back.Xdr b o oct = has_head_called b o oct
+has_head_over back.CdrBig b o oct = cdr_heading.has_head_called b o oct
+has_head_over back.CdrLittle b o oct = cdr_heading.has_head_called b o oct
+has_head_over back.Mach b o oct = mach_heading.has_head_called b o oct
 
 -- octets have a head, or a fault of it
-pub has_head : (b : Binding) → IsMade b.back → (o : List ℕ) → AreOctets o → HasHead (Begins b o) (Stops b.back o)
-has_head b made o oct = has_head_over b.back made b o oct
+pub has_head : (b : Binding) (o : List ℕ) → AreOctets o → HasHead (Begins b o) (Stops b.back o)
+has_head b o oct = has_head_over b.back b o oct
 
 -- ---- the heads that are sent
 
@@ -100,11 +85,11 @@ has_head b made o oct = has_head_over b.back made b o oct
 abbrev IsLongEnough : List ℕ → Type 0
 IsLongEnough o = 12 ≤ length o
 
-pub long_lead : (k : Back) → IsMade k → (b : Binding) (op : ℕ) (head : Head) → IsLongEnough (lead_over k b op head)
-long_lead back.Xdr made b op head = omega arith
-long_lead back.CdrBig made b op head = long_request Big (target_of b op) head.id
-long_lead back.CdrLittle made b op head = long_request Little (target_of b op) head.id
-long_lead back.Mach made b op head = omega (arith, mach_sent.long_request (routine_of b op) head)
+pub long_lead : (k : Back) (b : Binding) (op : ℕ) (head : Head) → IsLongEnough (lead_over k b op head)
+long_lead back.Xdr b op head = omega arith
+long_lead back.CdrBig b op head = long_request Big (target_of b op) head.id
+long_lead back.CdrLittle b op head = long_request Little (target_of b op) head.id
+long_lead back.Mach b op head = omega (arith, mach_sent.long_request (routine_of b op) head)
 
 pub same_length : (k : Back) (o : List ℕ) → IsLongEnough o → length (sized k o) ≡ length o
 same_length back.Xdr o long = refl
@@ -181,12 +166,6 @@ received_over back.Mach b op head c (fits, ports, is) = record {
 
 pub received : (b : Binding) (op : ℕ) (head : Head) (c : Called) → Says b op head c → IsReceived b.back b op head c
 received b op head c says = received_over b.back b op head c says
-
-pub says_made : (k : Back) (b : Binding) (op : ℕ) (head : Head) (c : Called) → SaysOver k b op head c → IsMade k
-says_made back.Xdr b op head c says = tt
-says_made back.CdrBig b op head c says = tt
-says_made back.CdrLittle b op head c says = tt
-says_made back.Mach b op head c says = tt
 
 -- ---- bindings of one unit
 

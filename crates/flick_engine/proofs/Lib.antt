@@ -36,7 +36,7 @@ pub mod AnsweringReplies
 pub mod Searching
 -- * How messages are answered, by what the parts of the code answer
 pub mod Replying
--- * What a served message costs: a request that is answered costs what the code of its reply's arm does
+-- * What a served message costs: its reply costs what the code of the arm does, and its request is read by the operation's code
 pub mod ServingCosts
 -- * How a message is answered is determined, and each is answered in some way
 pub mod Servings

@@ -1,5 +1,5 @@
--- What a served message costs: a request that is answered costs what the code of its reply's arm does.
-use Rattle.std.proofs.Common.{◌≡◌, ◌<◌, ℕ, List, Bool, true, false, Some, length, refl, sym, ap, ◌∙◌, subst, arith}
+-- What a served message costs: its reply costs what the code of the arm does, and its request is read by the operation's code.
+use Rattle.std.proofs.Common.{◌≡◌, ◌<◌, inl, inr, ℕ, List, Bool, true, false, Some, length, refl, sym, ap, ◌∙◌, subst, arith}
 use Rattle.std.specs.Prelude.{Option, Result, Ok, Err, IfOk, OnOk}
 use Rattle.kit_base.specs.Limits.{longest_message}
 use Rattle.mint.specs.Values.{Val}
@@ -7,15 +7,17 @@ use Rattle.wire_def.specs.declared.fault.HeadErr.{HeadErr}
 use Rattle.wire_def.specs.declared.head.Head.{Head}
 use Rattle.raw_buf.specs.declared.tally.Tally.{Tally}
 use Rattle.raw_buf.specs.Buf.{Buf}
+use Rattle.raw_buf.specs.View.{View}
 use Rattle.call_kit.specs.declared.called.Called.{Called}
 use Rattle.op_codes.specs.Stubs.{Coded}
 use Rattle.flick_engine.specs.declared.errors.MessageErr.{MessageErr}
 use Rattle.flick_engine.specs.declared.requests.Request.{Request}
 use Rattle.flick_engine.specs.declared.serve.Served.{Served}
+use Rattle.flick_engine.specs.declared.serve.Served.TheVariants as served
 use Rattle.flick_engine.specs.Backs.{Begins, Stops}
-use Rattle.flick_engine.specs.Costs.{IsAnsweredByCode}
-use Rattle.flick_engine.specs.Received.{Answers, Asked, ReadCall, asked}
-use Rattle.flick_engine.specs.Refusals.{reply_head}
+use Rattle.flick_engine.specs.Costs.{IsAnsweredByCode, IsReadByCode, IsServedByCode}
+use Rattle.flick_engine.specs.Received.{Answers, Asked, IsShort, ReadCall, asked}
+use Rattle.flick_engine.specs.Refusals.{reply_head, long_reply, RefusesOver}
 use Rattle.flick_engine.specs.Replies.{reply_message}
 use Rattle.flick_engine.specs.Serving.{reply_in, is_answered, AnswersByCode, AnswersCallByCode, ServesByCode}
 use Rattle.flick_engine.proofs.Deciding.{determined}
@@ -39,11 +41,11 @@ module _ (x : Coded) (work : ℕ → Val → Val → Type 0) (o : List ℕ) (ans
 
   -- a call that is a request
   pub requested_at : {A E : Type 0} (y : Result A E) (c : Called) (q : Request) → Answers x.binding o (Ok q)
-      → OnOk y (AnswersByCode x work (reply_head x.binding.back c.head) (asked q) answer spent new)
+      → OnOk y (AnswersByCode x work o (reply_head x.binding.back c.head) (asked q) answer spent new)
       → OnOk y (AnswersCallByCode x work o c answer spent new)
   requested_at (Ok u) c q is h =
       λ r reads.
-      subst (λ (p : Asked). AnswersByCode x work (reply_head x.binding.back c.head) p answer spent new)
+      subst (λ (p : Asked). AnswersByCode x work o (reply_head x.binding.back c.head) p answer spent new)
       (one_request (asked q) r (Ok (asked q)) refl ((is (Ok r)).1 reads)) h
   requested_at (Err n) c q is h = tt
 
@@ -65,15 +67,48 @@ pub stopped_at : {E : Type 0} (x : Coded) (work : ℕ → Val → Val → Type 0
 stopped_at x work o d spent new (Ok s) e stops = λ c starts is. absurd ((one_head x.binding o).not_both c e starts stops)
 stopped_at x work o d spent new (Err n) e stops = tt
 
-module _ (x : Coded) (work : ℕ → Val → Val → Type 0) (head : Head) (q : Request) (w : Val) (spent : Tally) (new : Buf) where
+module _ (x : Coded) (work : ℕ → Val → Val → Type 0) (o : List ℕ) (head : Head) (q : Request) (w : Val) (spent : Tally) (new : Buf) where
   -- the reply of a request was sent
-  pub sent_at : work q.op (asked q).value w → new.done ≡ reply_message x.binding q.op head w
+  pub sent_at : work q.op (asked q).value w → IsShort (reply_message x.binding q.op head w)
+      → new.done ≡ reply_message x.binding q.op head w
       → IsAnsweredByCode x.stubs q.op head w spent new
-      → AnswersByCode x work head (asked q) (Some new.done) spent new
-  sent_at does is paid = (w, does, λ short. (ap (λ (z : List ℕ). Some z) is, paid))
+      → AnswersByCode x work o head (asked q) (Some new.done) spent new
+  sent_at does short is paid = (w, does, inl (short, ap (λ (z : List ℕ). Some z) is), λ few. paid)
 
-  -- it is too long
-  pub too_long_at : {A E : Type 0} (y : Result A E) → work q.op (asked q).value w → longest_message
-      < length (reply_message x.binding q.op head w) → OnOk y (AnswersByCode x work head (asked q) (Some new.done) spent new)
-  too_long_at (Ok u) does long = (w, does, λ short. absurd (omega (arith, long, short)))
-  too_long_at (Err n) does long = tt
+  -- it is too long, and refused
+  pub too_long_at : {A E : Type 0} (y : Result A E) → work q.op (asked q).value w
+      → longest_message < length (reply_message x.binding q.op head w)
+      → OnOk y (RefusesOver x.binding.back o head (long_reply x.binding.back) (Some new.done))
+      → OnOk y (AnswersByCode x work o head (asked q) (Some new.done) spent new)
+  too_long_at (Ok u) does long refuses = (w, does, inr (long, refuses), λ short. absurd (omega (arith, long, short)))
+  too_long_at (Err n) does long refuses = tt
+
+-- ---- where the view is
+
+module _ (x : Coded) (o : List ℕ) (old new : View) (same : old.octets ≡ o) where
+  reads_so : (r : Asked) → ReadCall x.binding old.octets (Ok r) → ReadCall x.binding o (Ok r)
+  reads_so r reads = subst (λ (p : List ℕ). ReadCall x.binding p (Ok r)) same reads
+
+  -- a call that is refused is not a request
+  pub refused_view : {A E : Type 0} (y : Result A E) (e : MessageErr) → OnOk y (ReadCall x.binding o (Err e))
+      → OnOk y (IsServedByCode x old new)
+  refused_view (Ok u) e reads =
+      λ r is. absurd (no_request e r (Err e) refl (determined x.binding o (Err e) (Ok r) reads (reads_so r is)))
+  refused_view (Err n) e reads = tt
+
+  -- a request was read
+  pub requested_view : {A E : Type 0} (y : Result A E) (q : Request) → Answers x.binding o (Ok q)
+      → IsReadByCode x q.op (asked q).value old new → OnOk y (IsServedByCode x old new)
+  requested_view (Ok u) q is h =
+      λ r reads.
+      subst
+      (λ (p : Asked). IsReadByCode x p.op p.value old new)
+      (one_request (asked q) r (Ok (asked q)) refl ((is (Ok r)).1 (reads_so r reads))) h
+  requested_view (Err n) q is h = tt
+
+  -- a message that begins with no head of a call is none
+  pub stopped_view : {E : Type 0} (y : Result Served E) (e : HeadErr) → Stops x.binding.back o e
+      → IfOk y (λ s. (s ≡ served.Reply) → IsServedByCode x old new)
+  stopped_view (Ok s) e stops =
+      λ replies r reads. let (c, op, names, after) = reads_so r reads in absurd ((one_head x.binding o).not_both c e names.1 stops)
+  stopped_view (Err n) e stops = tt

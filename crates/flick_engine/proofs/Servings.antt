@@ -32,7 +32,7 @@ use Rattle.back_mach.specs.Reported as mach
 use Rattle.back_mach.proofs.Lawful as mach_lawful
 use Rattle.flick_engine.specs.declared.errors.MessageErr.{MessageErr}
 use Rattle.flick_engine.specs.declared.errors.MessageErr.TheVariants as err
-use Rattle.flick_engine.specs.Backs.{IsMade, Begins, BeginsOver, Stops}
+use Rattle.flick_engine.specs.Backs.{Begins, BeginsOver, Stops}
 use Rattle.flick_engine.specs.Laws.{IsServingDetermined, IsServingSomething}
 use Rattle.flick_engine.specs.Messages.{request_type}
 use Rattle.flick_engine.specs.Received.{Asked, IsShort, ReadCall}
@@ -229,11 +229,11 @@ module _ (b : Binding) (work : ℕ → Val → Val) (o : List ℕ) (c : Called) 
   call_somehow true r reads = let (x, answers) = answer_as (reply_head b.back c.head) r in (x, (r, reads, answers))
   call_somehow false r reads = (None, refl)
 
-module _ (b : Binding) (work : ℕ → Val → Val) (made : IsMade b.back) (sound : (op : ℕ) → IsSound (request_type b op))
+module _ (b : Binding) (work : ℕ → Val → Val) (sound : (op : ℕ) → IsSound (request_type b op))
     (o : List ℕ) (oct : AreOctets o) where
   headed : IsShort o → HasHead (Begins b o) (Stops b.back o) → (x : Option (List ℕ)) × Serves b (gives work) o x
   headed short (inl (c, begins)) =
-      let (r, reads) = something b made sound o oct in
+      let (r, reads) = something b sound o oct in
       let (x, serves) = call_somehow b work o c begins (is_answered b c) r reads in
       (x, inr (inr (short, c, begins, serves)))
   headed short (inr (e, stops)) =
@@ -242,8 +242,8 @@ module _ (b : Binding) (work : ℕ → Val → Val) (made : IsMade b.back) (soun
 
   sized_so : (longest_message < length o) ⊎ IsShort o → (x : Option (List ℕ)) × Serves b (gives work) o x
   sized_so (inl long) = (None, inl (long, refl))
-  sized_so (inr short) = headed short (has_head b made o oct)
+  sized_so (inr short) = headed short (has_head b o oct)
 
 pub served_somehow : IsServingSomething
-served_somehow b work made sound o oct =
-    sized_so b work made sound o oct (above_or_not longest_message (length o) (nat_lt longest_message (length o)) refl)
+served_somehow b work sound o oct =
+    sized_so b work sound o oct (above_or_not longest_message (length o) (nat_lt longest_message (length o)) refl)

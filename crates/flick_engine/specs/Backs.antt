@@ -43,13 +43,6 @@ use Rattle.back_mach.specs.Reported as mach_reported
 pub use Rattle.op_codes.specs.Backs.{encoding, lead_over, lead, reply_lead_over, reply_lead, sized, BeginsOver, Begins}
 use Rattle.flick_engine.specs.Fates.{Heard, fate_of, giop_fate}
 
--- a back end that engines are made for
-abbrev pub IsMade : Back → Type 0
-IsMade back.Xdr = Unit {0}
-IsMade back.CdrBig = Unit {0}
-IsMade back.CdrLittle = Unit {0}
-IsMade back.Mach = Unit {0}
-
 -- the back end of a name
 abbrev pub back_of : List ℕ → Option Back
 back_of word =

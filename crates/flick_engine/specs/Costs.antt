@@ -1,5 +1,5 @@
 -- What it costs to make and to read messages by stub code.
-use Rattle.std.specs.Prelude.{◌≡◌, ℕ, pos, ◌-◌, List, length, max, Option, None, Some, option_map, slice_get}
+use Rattle.std.specs.Prelude.{◌≡◌, ℕ, pos, ◌-◌, List, length, max, Option, None, Some, Ok, option_map, slice_get}
 use Rattle.mint.specs.Values.{Val, arm}
 use Rattle.wire_def.specs.declared.head.Head.{Head}
 use Rattle.raw_buf.specs.declared.tally.Tally.{Tally}
@@ -14,7 +14,8 @@ use Rattle.call_kit.specs.declared.called.Called.{Called}
 use Rattle.skeleton.specs.Exchanges.{request_type}
 use Rattle.op_codes.specs.Backs.{Begins, encoding}
 use Rattle.op_codes.specs.declared.stub.Stub.{Stub}
-use Rattle.op_codes.specs.Stubs.{Coded, sent_cost, reply_cost}
+use Rattle.op_codes.specs.Stubs.{Coded, sent_cost, reply_cost, IsCoveredReply, IsSparingReply}
+use Rattle.flick_engine.specs.Received.{Asked, ReadCall}
 
 -- counts are those that this cost raises others to
 abbrev pub IsRaised : Option Cost → Tally → Tally → Type 0
@@ -36,6 +37,16 @@ abbrev pub IsAnsweredByCode : List Stub → ℕ → Head → Val → Tally → B
 IsAnsweredByCode stubs op head v spent new =
     IsRaised (answer_cost stubs op head v) none new.tally × IsRaised (answer_cost stubs op head v) spent new.spent
 
+-- the code of the arm that a value is of ensures the room for all that it appends for the reply
+abbrev pub IsCoveredAnswer : Coded → ℕ → Head → Val → Type 0
+IsCoveredAnswer x op head (arm (pos k) w) = IsCoveredReply x op k head w
+IsCoveredAnswer x op head _ = ⊥
+
+-- it has a cost for it, within what the message allows
+abbrev pub IsSparingAnswer : Coded → ℕ → Head → Val → Type 0
+IsSparingAnswer x op head (arm (pos k) w) = IsSparingReply x op k head w
+IsSparingAnswer x op head _ = ⊥
+
 -- a view after the head of a message, whose octets took one test
 abbrev pub after_head : ℕ → View → View
 after_head used v = record { octets = v.octets; pos = used; near = max used v.near - used; tests = raised v.tests 1 }
@@ -48,3 +59,7 @@ IsReadByCode x op v old new =
     × ((c.encoding ≡ encoding x.binding.back) → (s : Stub) × (slice_get x.stubs op ≡ Some s)
     × (got_by s.recv (request_type x.binding op) (place_of (after_head c.used old)) ≡ given v new.pos new.tests)
     × (new.pos ≡ length old.octets))
+
+-- where the octets are a request, it is read so
+abbrev pub IsServedByCode : Coded → View → View → Type 0
+IsServedByCode x old new = (r : Asked) → ReadCall x.binding old.octets (Ok r) → IsReadByCode x r.op r.value old new

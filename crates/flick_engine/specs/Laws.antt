@@ -13,7 +13,7 @@ use Rattle.pres.specs.Faces.{type_of}
 use Rattle.pres.specs.Offers.{type_faces, request_of, reply_of}
 use Rattle.flick_engine.specs.declared.errors.MessageErr.{MessageErr}
 use Rattle.flick_engine.specs.declared.replies.Fate.TheVariants.{Arm}
-use Rattle.flick_engine.specs.Backs.{IsMade, AsksFor, Begins, Says, Tells}
+use Rattle.flick_engine.specs.Backs.{AsksFor, Begins, Says, Tells}
 use Rattle.flick_engine.specs.Fates.{Heard}
 use Rattle.flick_engine.specs.Messages.{request_type, message}
 use Rattle.flick_engine.specs.Operations.{IsOperation}
@@ -28,7 +28,7 @@ IsDetermined = (b : Binding) (o : List ℕ) (x y : Result Asked MessageErr) → 
 
 -- octets are something, where the types of requests are sound
 abbrev pub IsSomething : Type 0
-IsSomething = (b : Binding) → IsMade b.back → ((op : ℕ) → IsSound (request_type b op))
+IsSomething = (b : Binding) → ((op : ℕ) → IsSound (request_type b op))
     → (o : List ℕ) → AreOctets o → (x : Result Asked MessageErr) × ReadCall b o x
 
 -- the message of an operation that its call names is read as the request
@@ -76,5 +76,5 @@ IsServingDetermined = (b : Binding) (work : ℕ → Val → Val) (o : List ℕ) 
 
 -- then each message is answered in some way, if the types of requests are sound
 abbrev pub IsServingSomething : Type 0
-IsServingSomething = (b : Binding) (work : ℕ → Val → Val) → IsMade b.back → ((op : ℕ) → IsSound (request_type b op))
+IsServingSomething = (b : Binding) (work : ℕ → Val → Val) → ((op : ℕ) → IsSound (request_type b op))
     → (o : List ℕ) → AreOctets o → (x : Option (List ℕ)) × Serves b (gives work) o x

@@ -8,9 +8,7 @@ use Rattle.aoi.specs.Plain.{PlainInterface}
 use Rattle.call_kit.specs.declared.called.Naming.{Naming}
 use Rattle.call_kit.specs.declared.called.Naming.TheVariants.{NoInterface}
 use Rattle.cast_stub.specs.Parts.{on_some}
-use Rattle.pres.specs.Bindings.{Binding}
 use Rattle.flick_engine.specs.declared.names.Names.{Names}
-use Rattle.flick_engine.specs.Backs.{IsMade}
 use Rattle.flick_engine.specs.Offered.{Offered, keys_of, nothing, number_in, offered_from, operation_in, raised_each}
 
 -- the names of interfaces, and of their operations, and the ids of the exceptions of these
@@ -24,11 +22,6 @@ abbrev pub AreNamesOver : Back → List PlainInterface → Names → Type 0
 AreNamesOver back.CdrBig is n = AreNames is n
 AreNamesOver back.CdrLittle is n = AreNames is n
 AreNamesOver _ is n = Unit {0}
-
--- an engine is made for such a back end, and has the names
-pub record IsReady (b : Binding) (n : Names) : Type 0 where
-  pub made : IsMade b.back
-  pub names : AreNamesOver b.back b.unit.interfaces n
 
 -- the operation of a name, where there is an interface
 abbrev pub operation_of : Option Offered → List ℕ → Naming

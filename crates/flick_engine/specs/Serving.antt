@@ -87,20 +87,19 @@ Serves b work o x =
 
 -- ---- what it costs a buffer
 
--- where the message of a reply is not too long, it is the answer, and the buffer's counts are exactly those of a run of the
--- code of its arm
-abbrev pub RepliesByCode : Coded → Head → ℕ → Val → Option (List ℕ) → Tally → Buf → Type 0
-RepliesByCode x head op w answer spent new = IsShort (reply_message x.binding op head w)
-    → (answer ≡ Some (reply_message x.binding op head w)) × IsAnsweredByCode x.stubs op head w spent new
+-- where the message of a reply is not too long, the buffer's counts are exactly those of a run of the code of its arm
+abbrev pub RepliesByCode : Coded → Head → ℕ → Val → Tally → Buf → Type 0
+RepliesByCode x head op w spent new = IsShort (reply_message x.binding op head w) → IsAnsweredByCode x.stubs op head w spent new
 
--- so is a request answered, by a reply that the work gives
-abbrev pub AnswersByCode : Coded → Work → Head → Asked → Option (List ℕ) → Tally → Buf → Type 0
-AnswersByCode x work head r answer spent new = (w : Val) × work r.op r.value w × RepliesByCode x head r.op w answer spent new
+-- so is a request answered, by a reply that the work gives and that was sent
+abbrev pub AnswersByCode : Coded → Work → List ℕ → Head → Asked → Option (List ℕ) → Tally → Buf → Type 0
+AnswersByCode x work o head r answer spent new = (w : Val) × work r.op r.value w × Replies x.binding o head r.op w answer
+    × RepliesByCode x head r.op w spent new
 
 -- a call, if its message is a request
 abbrev pub AnswersCallByCode : Coded → Work → List ℕ → Called → Option (List ℕ) → Tally → Buf → Type 0
 AnswersCallByCode x work o c answer spent new = (r : Asked) → ReadCall x.binding o (Ok r)
-    → AnswersByCode x work (reply_head x.binding.back c.head) r answer spent new
+    → AnswersByCode x work o (reply_head x.binding.back c.head) r answer spent new
 
 -- a message, if it begins with the head of a call that is answered
 abbrev pub ServesByCode : Coded → Work → List ℕ → Option (List ℕ) → Tally → Buf → Type 0

@@ -1,9 +1,9 @@
 //! What differs from one back end to another, from the crate of each.
 
-ghost use Rattle.std.specs.Prelude.{◌≡◌, ◌<◌, length, IfOk, IfErr, IfSome};
+ghost use Rattle.std.specs.Prelude.{◌≡◌, ◌<◌, length, IfOk, IfErr};
 ghost use Rattle.call_kit.specs.Calls.{IsBelow};
 ghost use Rattle.back_cdr.specs.Targets.{IsCdr};
-ghost use Rattle.flick_engine.specs.Backs.{IsMade, back_of, Begins, Stops, encoding_by, heard, BeginsReply, ReplyStops};
+ghost use Rattle.flick_engine.specs.Backs.{back_of, Begins, Stops, encoding_by, heard, BeginsReply, ReplyStops};
 
 use crate::engine::Engine;
 use crate::reply_leads::reply_id;
@@ -11,10 +11,9 @@ use back_mach::routines::routine_of;
 use call_kit::Called;
 use wire_def::{Back, Encoding, Head, HeadErr, Order, ReplyHead};
 
-/// The back end of a name, where engines are made for it.
+/// The back end of a name, if it is one.
 pub fn back_of(word: &[u8]) -> Option<Back>
-    ensures value { result ≡ back_of word.now }
-    ensures made { IfSome result IsMade }
+    ensures { result ≡ back_of word.now }
 {
     if word == b"xdr".as_slice() {
         return Some(Back::Xdr);

@@ -1,10 +1,13 @@
 //! An engine.
 
 ghost use Rattle.std.specs.Prelude.{◌≡◌, ◌<◌, length, IfOk, Some, option_map, slice_get};
+ghost use Rattle.op_codes.specs.Receiving.{Receives};
+ghost use Rattle.op_codes.specs.Sending.{Sends};
 ghost use Rattle.op_codes.specs.Stubs.{IsCoded, reply_code_at};
-ghost use Rattle.flick_engine.specs.Backs.{IsMade};
+ghost use Rattle.flick_engine.specs.Backs.{encoding, lead, reply_lead};
+ghost use Rattle.flick_engine.specs.Messages.{request_type};
 ghost use Rattle.flick_engine.specs.Names.{AreNamesOver};
-ghost use Rattle.flick_engine.specs.Replies.{HasArm};
+ghost use Rattle.flick_engine.specs.Replies.{HasArm, arm_type};
 
 use crate::names::Names;
 use cast_stub::{RecvCode, SendCode};
@@ -23,7 +26,7 @@ pub struct Engine {
 
 impl Model for Engine {
     ghost use Rattle.op_codes.specs.Stubs.{Coded};
-    ghost use Rattle.flick_engine.specs.Names.{IsReady};
+    ghost use Rattle.flick_engine.specs.Names.{AreNamesOver};
     ghost use Rattle.std.specs.Coded.{codes};
     ghost use Rattle.aoi.specs.Stored.{coded_shape, coded_members};
     ghost use Rattle.cast_stub.specs.contracts.send.SendOp as s;
@@ -35,14 +38,13 @@ impl Model for Engine {
 
     ghost view = { λ e. e.stubs };
 
-    ghost invariant = { λ e. IsReady e.stubs.binding e.names };
+    ghost invariant = { λ e. AreNamesOver e.stubs.binding.back e.stubs.binding.unit.interfaces e.names };
 }
 
 impl Engine {
     /// An engine for what is bound, with the stub code of each operation, and the names by which requests find
     /// them. Time and memory are linear in the code that comes out.
     pub fn compile(alloc: Global, bound: Bound) -> Result<Engine, NoMemory>
-        requires made { IsMade bound.back }
         ensures binding { IfOk result (λ e. e.binding ≡ bound) }
         ensures coded { IfOk result IsCoded }
     {
@@ -56,7 +58,6 @@ impl Engine {
     /// What is bound.
     pub fn bound(&self) -> &Bound
         ensures value { result.now ≡ self.now.binding }
-        ensures made { IsMade self.now.binding.back }
     {
         self.stubs.bound()
     }
@@ -74,6 +75,8 @@ impl Engine {
     pub fn send_code(&self, op: u32) -> &SendCode
         requires { op < length self.now.binding.ops }
         ensures found { option_map (λ s. s.send) (slice_get self.now.stubs op) ≡ Some result.now }
+        ensures sends { Sends self.now.binding.back (lead self.now.binding op)
+            (request_type self.now.binding op) result.now }
     {
         self.stubs.send_code(op)
     }
@@ -82,6 +85,8 @@ impl Engine {
     pub fn recv_code(&self, op: u32) -> &RecvCode
         requires { op < length self.now.binding.ops }
         ensures found { option_map (λ s. s.recv) (slice_get self.now.stubs op) ≡ Some result.now }
+        ensures receives { Receives (encoding self.now.binding.back)
+            (request_type self.now.binding op) result.now }
     {
         self.stubs.recv_code(op)
     }
@@ -91,6 +96,8 @@ impl Engine {
         requires op { op < length self.now.binding.ops }
         requires arm { HasArm self.now.binding op arm }
         ensures found { reply_code_at self.now.stubs op arm ≡ Some result.now }
+        ensures sends { Sends self.now.binding.back (reply_lead self.now.binding op arm)
+            (arm_type self.now.binding op arm) result.now }
     {
         self.stubs.reply_code(op, arm)
     }

@@ -5,6 +5,7 @@ ghost use Rattle.kit_base.specs.Limits.{longest_message};
 ghost use Rattle.mint.specs.Typed.{IsWellTyped};
 ghost use Rattle.mint.specs.Values.{seen};
 ghost use Rattle.raw_buf.specs.Buf.{NoneFell};
+ghost use Rattle.op_codes.specs.Stubs.{IsCoveredRequest, IsSparingRequest};
 ghost use Rattle.flick_engine.specs.Costs.{IsSentByCode};
 ghost use Rattle.flick_engine.specs.Messages.{request_type, message};
 
@@ -33,6 +34,9 @@ impl Engine {
             (length (message self.now.binding op head.now (seen value.now)) ≤ longest_message) }
         ensures cost { OnOk result
             (IsSentByCode self.now.stubs op head.now (seen value.now) buf.old.spent buf.new) }
+        // What its code does.
+        ensures covered { IsCoveredRequest self.now op head.now (seen value.now) }
+        ensures sparing { IsSparingRequest self.now op head.now (seen value.now) }
         // When each error comes.
         ensures long { (result ≡ Err MarshalErr.Long)
             → longest_message < length (message self.now.binding op head.now (seen value.now)) }

@@ -7,7 +7,7 @@ ghost use Rattle.mint.specs.Kinds.{in_range};
 ghost use Rattle.mint.specs.Typed.{IsWellTyped};
 ghost use Rattle.mint.specs.Values.{seen};
 ghost use Rattle.raw_buf.specs.Buf.{NoneFell};
-ghost use Rattle.flick_engine.specs.Costs.{IsAnsweredByCode};
+ghost use Rattle.flick_engine.specs.Costs.{IsAnsweredByCode, IsCoveredAnswer, IsSparingAnswer};
 ghost use Rattle.flick_engine.specs.Received.{IsShort};
 ghost use Rattle.flick_engine.specs.Replies.{reply_type, reply_message};
 
@@ -38,6 +38,9 @@ impl Engine {
         ensures short { OnOk result (IsShort (reply_message self.now.binding op head.now (seen value.now))) }
         ensures cost { OnOk result
             (IsAnsweredByCode self.now.stubs op head.now (seen value.now) buf.old.spent buf.new) }
+        // What its code does.
+        ensures covered { IsCoveredAnswer self.now op head.now (seen value.now) }
+        ensures sparing { IsSparingAnswer self.now op head.now (seen value.now) }
         // When it is not made, and what stays.
         ensures err { OnErr result (buf.new.done ≡ []) }
         ensures long { (result ≡ Err MarshalErr.Long)

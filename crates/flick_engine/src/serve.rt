@@ -6,6 +6,7 @@ ghost use Rattle.mint.specs.Values.{seen};
 ghost use Rattle.call_kit.specs.Calls.{IsBelow};
 ghost use Rattle.raw_buf.specs.Buf.{NoneFell};
 ghost use Rattle.flick_engine.specs.Backs.{Begins};
+ghost use Rattle.flick_engine.specs.Costs.{IsServedByCode};
 ghost use Rattle.flick_engine.specs.Messages.{request_type};
 ghost use Rattle.flick_engine.specs.Received.{IsShort, asked};
 ghost use Rattle.flick_engine.specs.Refusals as refusals;
@@ -35,7 +36,8 @@ pub enum Served {
 impl Engine {
     /// Answers a message in a buffer, whatever the buffer held: by the work that is done for the
     /// operation that it names, or by a refusal, or not at all. Where no reply is sent, and where
-    /// memory runs out, the buffer is empty. What it spent is kept. Where the view is then is not said.
+    /// memory runs out, the buffer is empty. What it spent is kept. Of the view is said where it is
+    /// after a request that is answered, and how many tests it then counted.
     pub fn serve<S: Skeleton>(
         &self,
         alloc: Global,
@@ -54,9 +56,12 @@ impl Engine {
         ensures cost { IfOk result (λ s. ServesByCode self.now (S.Answers skeleton.now)
             view.old.octets (reply_in s buf.new.done) buf.old.spent buf.new) }
         ensures spent { NoneFell buf.old.spent buf.new.spent }
+        // How it is read.
+        ensures code { IfOk result (λ s. s ≡ Served.Reply
+            → IsServedByCode self.now view.old view.new) }
     {
         buf.clear();
-        match self.serve_message(alloc, skeleton, view.rest(), buf) {
+        match self.serve_message(alloc, skeleton, view.rest(), view, buf) {
             Ok(served) => Ok(served),
             Err(NoMemory) => {
                 buf.clear();
@@ -65,28 +70,36 @@ impl Engine {
         }
     }
 
-    /// Answers a message in an empty buffer.
+    /// Answers a message, which a view has, in an empty buffer.
     fn serve_message<S: Skeleton>(
         &self,
         alloc: Global,
         skeleton: &S,
         message: &[u8],
+        view: &mut RecvView<'_>,
         buf: &mut SendBuf,
     ) -> Result<Served, NoMemory>
+        // Who answers, what is read, and where the answer goes.
         requires made_for { S.binding skeleton.now ≡ self.now.binding }
+        requires start { view.old.pos ≡ 0 }
+        requires message { view.old.octets ≡ message.now }
         requires empty { buf.old.done ≡ [] }
+        // What is answered, and what it costs.
         ensures serves { IfOk result (λ s.
             Serves self.now.binding (S.Answers skeleton.now) message.now (reply_in s buf.new.done)) }
         ensures silent { (result ≡ Ok Served.Silent) → buf.new.done ≡ [] }
         ensures cost { IfOk result (λ s. ServesByCode self.now (S.Answers skeleton.now)
             message.now (reply_in s buf.new.done) buf.old.spent buf.new) }
         ensures spent { NoneFell buf.old.spent buf.new.spent }
+        // How it is read.
+        ensures code { IfOk result (λ s. s ≡ Served.Reply
+            → IsServedByCode self.now view.old view.new) }
     {
         if message.len() > LONGEST_MESSAGE {
             return Ok(Served::Silent);
         }
         match self.read_head(message) {
-            Ok(called) => self.serve_call(alloc, skeleton, &called, message, buf),
+            Ok(called) => self.serve_call(alloc, skeleton, &called, message, view, buf),
             Err(fault) => self.answer_fault(fault, message, buf),
         }
     }
@@ -98,6 +111,7 @@ impl Engine {
         skeleton: &S,
         called: &Called,
         message: &[u8],
+        view: &mut RecvView<'_>,
         buf: &mut SendBuf,
     ) -> Result<Served, NoMemory>
         // Who answers, and what is called.
@@ -105,7 +119,9 @@ impl Engine {
         requires short { IsShort message.now }
         requires begins { Begins self.now.binding message.now called.now }
         requires below { IsBelow (length self.now.binding.ops) called.now.naming }
-        // Where the answer goes.
+        // What is read, and where the answer goes.
+        requires start { view.old.pos ≡ 0 }
+        requires message { view.old.octets ≡ message.now }
         requires empty { buf.old.done ≡ [] }
         // What is answered, and what it costs.
         ensures serves { IfOk result (λ s.
@@ -115,11 +131,14 @@ impl Engine {
         ensures cost { IfOk result (λ s. ServesByCode self.now (S.Answers skeleton.now)
             message.now (reply_in s buf.new.done) buf.old.spent buf.new) }
         ensures spent { NoneFell buf.old.spent buf.new.spent }
+        // How it is read.
+        ensures code { IfOk result (λ s. s ≡ Served.Reply
+            → IsServedByCode self.now view.old view.new) }
     {
         if !self.is_answered(called) {
             return Ok(Served::Silent);
         }
-        self.answer_call(alloc, skeleton, called, message, buf)?;
+        self.answer_call(alloc, skeleton, called, message, view, buf)?;
         Ok(Served::Reply)
     }
 
@@ -130,6 +149,7 @@ impl Engine {
         skeleton: &S,
         called: &Called,
         message: &[u8],
+        view: &mut RecvView<'_>,
         buf: &mut SendBuf,
     ) -> Result<(), NoMemory>
         // Who answers, and what is called.
@@ -137,7 +157,9 @@ impl Engine {
         requires short { IsShort message.now }
         requires begins { Begins self.now.binding message.now called.now }
         requires below { IsBelow (length self.now.binding.ops) called.now.naming }
-        // Where the answer goes.
+        // What is read, and where the answer goes.
+        requires start { view.old.pos ≡ 0 }
+        requires message { view.old.octets ≡ message.now }
         requires empty { buf.old.done ≡ [] }
         // What is answered, and what it costs.
         ensures answers { OnOk result
@@ -147,6 +169,8 @@ impl Engine {
             (AnswersCallByCode self.now (S.Answers skeleton.now) message.now called.now
             (Some buf.new.done) buf.old.spent buf.new) }
         ensures spent { NoneFell buf.old.spent buf.new.spent }
+        // How it is read.
+        ensures code { OnOk result (IsServedByCode self.now view.old view.new) }
     {
         match called.naming {
             Naming::NoInterface => {
@@ -155,7 +179,7 @@ impl Engine {
             Naming::NoOperation => {
                 self.refuse_call(alloc, MessageErr::NoOperation, called, message, buf)
             }
-            Naming::Operation(op) => match self.read_in(alloc, op, called, message) {
+            Naming::Operation(op) => match self.read_body(alloc, op, called, message, view) {
                 Ok(request) => {
                     self.answer_request(alloc, skeleton, &request, called, message, buf)
                 }
@@ -184,7 +208,7 @@ impl Engine {
             (AnswersAs self.now.binding (S.Answers skeleton.now) message.now
             (reply_head self.now.binding.back called.now.head) (Ok (asked request.now)) (Some buf.new.done)) }
         ensures cost { OnOk result
-            (AnswersByCode self.now (S.Answers skeleton.now)
+            (AnswersByCode self.now (S.Answers skeleton.now) message.now
             (reply_head self.now.binding.back called.now.head) (asked request.now)
             (Some buf.new.done) buf.old.spent buf.new) }
         ensures spent { NoneFell buf.old.spent buf.new.spent }

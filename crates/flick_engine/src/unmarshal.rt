@@ -106,24 +106,6 @@ impl Engine {
         self.reported_by_body(op, called, message, read)
     }
 
-    /// Reads the request of a message that calls this operation, in a view of its own.
-    pub(crate) fn read_in(
-        &self,
-        alloc: Global,
-        op: u32,
-        called: &Called,
-        message: &[u8],
-    ) -> Result<Request, MessageErr>
-        requires op { op < length self.now.binding.ops }
-        requires names { Names self.now.binding message.now called.now (Naming.Operation op) }
-        ensures read { Answers self.now.binding message.now result }
-        ensures op { IfOk result (λ r. r.op < length self.now.binding.ops) }
-        ensures typed { IfOk result (λ r. IsWellTyped (request_type self.now.binding r.op) (seen r.value)) }
-    {
-        let mut view = RecvView::new(message);
-        self.read_body(alloc, op, called, message, &mut view)
-    }
-
     /// The request of a message whose body was read so. It takes no memory.
     fn reported_by_body(
         &self,

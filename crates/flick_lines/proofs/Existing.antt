@@ -24,7 +24,6 @@ use Rattle.json_shape.proofs.Deciding.{value_or_none}
 use Rattle.flick_engine.specs.declared.errors.MessageErr.{MessageErr}
 use Rattle.flick_engine.proofs.Existing.{something}
 use Rattle.flick_engine.proofs.ExistingReplies.{something_reply}
-use Rattle.flick_engine.specs.Backs.{IsMade}
 use Rattle.flick_engine.specs.Messages.{request_type}
 use Rattle.flick_engine.specs.Received.{ReadCall}
 use Rattle.flick_engine.specs.Replies.{reply_type, arm_type_in, arm_type}
@@ -37,9 +36,8 @@ use Rattle.flick_lines.specs.Marshalled.{record_refusal, call_digits, reply_digi
 use Rattle.flick_lines.specs.Unmarshalled.{answer_text, request_text, reply_text, IsOfOctets, IsOfReply, IsParted}
 use Rattle.flick_lines.specs.Verbs.{IsAnswerTo}
 
--- a binding that messages are made of: its back end is one of an engine, and the types of its requests and replies are sound
+-- a binding that messages are made of: the types of its requests and replies are sound
 pub record IsFit (b : Binding) : Type 0 where
-  pub made : IsMade b.back
   pub requests : (op : ℕ) → IsSound (request_type b op)
   pub replies : (op k : ℕ) → IsSound (arm_type b op k)
 
@@ -85,7 +83,7 @@ parted_has b fit line (Some n) = reply_has b fit (replying b (take n line)) (dro
 pub text_has : (c : Coded) → IsFit c.binding → (v : Verb) (octets : List ℕ) → (a : List ℕ) × IsAnswerTo v c octets a
 text_has c fit Marshal octets = tree_has (request_of c.binding) (call_digits c.binding) (tree_of octets)
 text_has c fit Unmarshal octets =
-    octets_have (ReadCall c.binding) (request_text c.binding) (something c.binding fit.made fit.requests) octets (decode_of octets) refl
+    octets_have (ReadCall c.binding) (request_text c.binding) (something c.binding fit.requests) octets (decode_of octets) refl
 text_has c fit Reply octets = tree_has (reply_of c.binding) (reply_digits c.binding) (tree_of octets)
 text_has c fit Unreply octets = parted_has c.binding fit octets (position (λ o. o == 32) octets)
 text_has c fit Count octets = tree_has (request_of c.binding) (call_counted c) (tree_of octets)
@@ -114,9 +112,8 @@ in_sound (items_type c t) k h = refl
 in_sound (maybe_type t) k h = refl
 
 -- the types of a binding's table are sound, and so are those of its requests and replies
-pub all_fit : (b : Binding) → IsMade b.back → ((id : ℕ) → IsSound (type_at b.nodes id)) → IsFit b
-all_fit b made sound = record {
-  made = made;
+pub all_fit : (b : Binding) → ((id : ℕ) → IsSound (type_at b.nodes id)) → IsFit b
+all_fit b sound = record {
   requests = λ op. sound (slice_index_or (map (λ (o : Op). o.request) b.ops) op 0);
   replies = λ op k. in_sound (reply_type b op) k (sound (slice_index_or (map (λ (o : Op). o.reply) b.ops) op 0));
 }

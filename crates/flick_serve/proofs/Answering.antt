@@ -52,7 +52,7 @@ of_message : (b : Binding) (answer : ℕ → Val) → IsFit b → (line : List �
 of_message b answer fit line (Err e) is = (codes "! hex", refl)
 of_message b answer fit line (Ok o) is =
     let (x, serves) =
-    served_somehow b (λ op request. answer op) fit.made fit.requests o (all_octets o (decode_of-ok line o is).3) in
+    served_somehow b (λ op request. answer op) fit.requests o (all_octets o (decode_of-ok line o is).3) in
     (reply_text x, (x, serves, refl))
 
 served_somewhat : (s : Serving) (places : Places) → IsServing s places → IsFit s.coded.binding → (line : List ℕ)

@@ -1,3 +1,6 @@
+use Rattle.std.proofs.Common.{subst}
+use Rattle.mint.specs.Values.{seen}
+use Rattle.op_codes.specs.Stubs.{Coded, IsCoveredRequest, IsSparingRequest}
 use Rattle.flick_engine.proofs.engine.Engine.marshal.Goals as goal
 
 pub returns-in-Ok-clause-cost : goal.returns-in-Ok-clause-cost
@@ -5,3 +8,27 @@ returns-in-Ok-clause-cost c = (
   rw (c.stubs.ensures) at c.in-Ok.ensures.tally,
   rw (c.stubs.ensures) at c.in-Ok.ensures.spent,
 )
+
+pub returns-in-Ok-clause-covered : goal.returns-in-Ok-clause-covered
+returns-in-Ok-clause-covered c =
+    subst (λ (x : Coded). IsCoveredRequest x c.args.op c.args.head.now (seen c.args.value.now)) c.stubs.ensures c.send.ensures.covered
+
+pub returns-in-Ok-clause-sparing : goal.returns-in-Ok-clause-sparing
+returns-in-Ok-clause-sparing c =
+    subst (λ (x : Coded). IsSparingRequest x c.args.op c.args.head.now (seen c.args.value.now)) c.stubs.ensures c.send.ensures.sparing
+
+pub returns-in-Long-clause-covered : goal.returns-in-Long-clause-covered
+returns-in-Long-clause-covered c =
+    subst (λ (x : Coded). IsCoveredRequest x c.args.op c.args.head.now (seen c.args.value.now)) c.stubs.ensures c.send.ensures.covered
+
+pub returns-in-Long-clause-sparing : goal.returns-in-Long-clause-sparing
+returns-in-Long-clause-sparing c =
+    subst (λ (x : Coded). IsSparingRequest x c.args.op c.args.head.now (seen c.args.value.now)) c.stubs.ensures c.send.ensures.sparing
+
+pub returns-in-NoMemory-clause-covered : goal.returns-in-NoMemory-clause-covered
+returns-in-NoMemory-clause-covered c =
+    subst (λ (x : Coded). IsCoveredRequest x c.args.op c.args.head.now (seen c.args.value.now)) c.stubs.ensures c.send.ensures.covered
+
+pub returns-in-NoMemory-clause-sparing : goal.returns-in-NoMemory-clause-sparing
+returns-in-NoMemory-clause-sparing c =
+    subst (λ (x : Coded). IsSparingRequest x c.args.op c.args.head.now (seen c.args.value.now)) c.stubs.ensures c.send.ensures.sparing

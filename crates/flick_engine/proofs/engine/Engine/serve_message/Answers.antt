@@ -1,4 +1,4 @@
-use Rattle.flick_engine.proofs.ServingCosts.{stopped_at}
+use Rattle.flick_engine.proofs.ServingCosts.{stopped_at, stopped_view}
 use Rattle.flick_engine.proofs.engine.Engine.serve_message.Goals as goal
 
 pub returns-in-Err-clause-cost : goal.returns-in-Err-clause-cost
@@ -6,3 +6,8 @@ returns-in-Err-clause-cost g c =
     let r = c.answer_fault in
     stopped_at c.args.self.now (g.S.Skeleton.Answers c.args.skeleton.now) c.args.message.now r.new.buf.done c.args.buf.now.spent r.new.buf
     r.result c.in-Err.fault c.in-Err.ensures.stops
+
+pub returns-in-Err-clause-code : goal.returns-in-Err-clause-code
+returns-in-Err-clause-code g c =
+    stopped_view c.args.self.now c.args.message.now c.args.view.now c.args.view.now c.requires.message c.answer_fault.result c.in-Err.fault
+    c.in-Err.ensures.stops

@@ -7,4 +7,4 @@ pub returns : goal.returns
 returns c =
     let t : Serving = record { coded = c.self.inside.engine; text = c.self.inside.text } in
     lines_served c.args.self.now t c.self.inside.replies c.self.view_is c.self.invariant
-    (all_fit t.coded.binding c.bound.ensures.made (rw (c.mint.ensures, c.bound.ensures.value) at c.types_are_sound.ensures))
+    (all_fit t.coded.binding (rw (c.mint.ensures, c.bound.ensures.value) at c.types_are_sound.ensures))
