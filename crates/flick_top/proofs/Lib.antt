@@ -20,8 +20,6 @@ pub mod Existing
 pub mod Front
 -- A text has a unit that is sound, or a saying, and one alone, whatever its front end
 pub mod UnitsOfFronts
--- What words name is known
-pub mod Knowing
 -- A file says one thing; over a back end it comes to one saying, or to engines with the same codes that answer alike
 pub mod FilesSay
 -- Texts are the same over engines that answer alike, by induction on the operations or on the number of messages

@@ -1,6 +1,6 @@
 -- All words and files have a task.
 use Rattle.std.proofs.Common.{◌≡◌, ℕ, Bool, true, false, List, [], length, Option, Some, None, Ok, Err, refl}
-use Rattle.std.specs.Prelude.{nat_le, MatchBool, IfSome}
+use Rattle.std.specs.Prelude.{nat_le, MatchBool}
 use Rattle.kit_base.specs.Limits.{longest_file}
 use Rattle.wire_def.specs.declared.encoding.Back.{Back}
 use Rattle.idl_lex.specs.declared.kinds.Front.{Front}
@@ -20,12 +20,11 @@ use Rattle.flick_top.specs.declared.command.Command.TheVariants as commands
 use Rattle.flick_top.specs.declared.job.Job.TheVariants as jobs
 use Rattle.flick_top.specs.declared.saying.Saying.TheVariants as sayings
 use Rattle.flick_top.specs.declared.task.Task.{Task}
-use Rattle.flick_top.specs.Command.{command_of, word_at, IsKnown}
+use Rattle.flick_top.specs.Command.{command_of, word_at}
 use Rattle.flick_top.specs.File.{Reported, BindSays, BoundSays, FileSays, longest_replies}
-use Rattle.flick_top.specs.Fronts.{Read, IsRead, UnitOf}
+use Rattle.flick_top.specs.Fronts.{Read, UnitOf}
 use Rattle.flick_top.specs.Laws.{WordsHaveTasks}
 use Rattle.flick_top.specs.Output.{Files, saying_task, answering_task, writing_task, showing_task, text_before, shapeless_task, serving_task, ServesText, ServesFile, Acts, ActsOver, Comes}
-use Rattle.flick_top.proofs.Knowing.{known}
 use Rattle.flick_top.proofs.UnitsOfFronts.{IsSoundRead, unit_has}
 
 -- ---- over a back end
@@ -43,14 +42,14 @@ bound_has codes k (Ok u) sound = bind_has codes u k (bind_fault u k) sound refl
 
 -- ---- a file
 
-within_has : (k : Front) → IsRead k → (text : List ℕ) (b : Bool) → nat_le (length text) longest_file ≡ b
+within_has : (k : Front) (text : List ℕ) (b : Bool) → nat_le (length text) longest_file ≡ b
     → (read : Read) × MatchBool b (UnitOf k text read) (read ≡ Err sayings.TooLarge) × IsSoundRead read
-within_has k read text true is = unit_has k read text
-within_has k read text false is = (Err sayings.TooLarge, refl, tt)
+within_has k text true is = unit_has k text
+within_has k text false is = (Err sayings.TooLarge, refl, tt)
 
-file_has : (k : Front) → IsRead k → (content : Option (List ℕ)) → (read : Read) × FileSays k content read × IsSoundRead read
-file_has k read None = (Err sayings.NoFile, refl, tt)
-file_has k read (Some text) = within_has k read text (nat_le (length text) longest_file) refl
+file_has : (k : Front) (content : Option (List ℕ)) → (read : Read) × FileSays k content read × IsSoundRead read
+file_has k None = (Err sayings.NoFile, refl, tt)
+file_has k (Some text) = within_has k text (nat_le (length text) longest_file) refl
 
 -- ---- words
 
@@ -73,19 +72,19 @@ reported_has : (a : Action) (reported : Reported) (content : Option (List ℕ)) 
 reported_has a (Ok e) content = action_has a e content
 reported_has a (Err saying) content = (saying_task saying, refl)
 
-command_has : (codes : List Stub) (command : Option Command) (words : List (List ℕ)) (files : Files) → IfSome command IsKnown
+command_has : (codes : List Stub) (command : Option Command) (words : List (List ℕ)) (files : Files)
     → (task : Task) × Comes codes command words files task
-command_has codes None words files all = (shapeless_task, refl)
-command_has codes (Some commands.Help) words files all = (saying_task sayings.Help, refl)
-command_has codes (Some commands.Version) words files all = (saying_task sayings.Version, refl)
-command_has codes (Some (commands.Show front)) words files all =
-    let (read, says, sound) = file_has front all (files (word_at words 2)) in
+command_has codes None words files = (shapeless_task, refl)
+command_has codes (Some commands.Help) words files = (saying_task sayings.Help, refl)
+command_has codes (Some commands.Version) words files = (saying_task sayings.Version, refl)
+command_has codes (Some (commands.Show front)) words files =
+    let (read, says, sound) = file_has front (files (word_at words 2)) in
     (showing_task read, (read, says, refl))
-command_has codes (Some (commands.Over a n)) words files all =
-    let (read, says, sound) = file_has n.front all.0 (files (word_at words n.file)) in
+command_has codes (Some (commands.Over a n)) words files =
+    let (read, says, sound) = file_has n.front (files (word_at words n.file)) in
     let (reported, bound) = bound_has codes n.back read sound in
     let (task, acts) = reported_has a reported (files (word_at words 4)) in
     (task, (reported, (read, says, bound), acts))
 
 pub words_task : WordsHaveTasks
-words_task codes words files = command_has codes (command_of words) words files (known words)
+words_task codes words files = command_has codes (command_of words) words files

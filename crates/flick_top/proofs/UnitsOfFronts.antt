@@ -1,7 +1,6 @@
 -- A text has a unit that is sound, or a saying, and one alone, whatever its front end.
-use Rattle.std.proofs.Common.{◌≡◌, ◌⊎◌, inl, inr, ℕ, ◌≤◌, List, [], ◌∷◌, ◌++◌, length, Bool, true, false, Option, Some, None, Result, Ok, Err, refl, sym, ap, ◌∙◌, subst, arith}
-use Rattle.std.specs.Prelude.{IfSome, if◌then◌else◌, codes}
-use Rattle.std.specs.Str.{bytes_eq}
+use Rattle.std.proofs.Common.{◌≡◌, ◌⊎◌, inl, inr, ℕ, ◌≤◌, List, [], ◌∷◌, ◌++◌, length, Some, Result, Ok, Err, refl, sym, ap, ◌∙◌, subst, arith}
+use Rattle.std.specs.Prelude.{codes}
 use Rattle.idl_lex.specs.declared.kinds.Front.{Front}
 use Rattle.idl_lex.specs.declared.kinds.Front.TheVariants as front
 use Rattle.idl_lex.specs.declared.kinds.Token.{Token}
@@ -34,7 +33,7 @@ use Rattle.front_corba.proofs.Whole.{resolved_sound as corba_sound}
 use Rattle.front_mig.specs.Resolved.{resolved as mig_resolved}
 use Rattle.front_mig.proofs.Whole.{resolved_sound as mig_sound}
 use Rattle.flick_top.specs.declared.saying.Saying.TheVariants as sayings
-use Rattle.flick_top.specs.Fronts.{Read, IsRead, front_of, in_words, Says, TokensSay, UnitOf}
+use Rattle.flick_top.specs.Fronts.{Read, in_words, Says, TokensSay, UnitOf}
 
 -- what was read is a sound unit, if it is a unit
 abbrev pub IsSoundRead : Read → Type 0
@@ -140,27 +139,16 @@ mig_have tokens (inr (line, h)) = (Err (sayings.Syntax line), inr (line, h.0, h.
 
 -- ---- each front end
 
-either : {A : Type 0} (b : Bool) (P : A → Type 0) (x y : Option A) → IfSome x P → IfSome y P → IfSome (if b then x else y) P
-either true P x y h g = h
-either false P x y h g = g
-
--- what words name is read
-pub front_read : (word : List ℕ) → IfSome (front_of word) IsRead
-front_read word =
-    either (bytes_eq word (codes "onc")) IsRead (Some front.Onc) _ tt
-    (either (bytes_eq word (codes "corba")) IsRead (Some front.Corba) _ tt
-    (either (bytes_eq word (codes "mig")) IsRead (Some front.Mig) None tt tt))
-
 tokens_once : (k : Front) (tokens : List Token) (r s : Read) → TokensSay k tokens r → TokensSay k tokens s → r ≡ s
 tokens_once front.Onc tokens r s p q = said_once (List Def) OncDerives OncFailsAt onc_resolved onc_one_tree onc_line tokens r s p q
 tokens_once front.Corba tokens r s p q =
     said_once (List Definition) CorbaDerives CorbaFailsAt corba_resolved corba_one_tree corba_line tokens r s p q
 tokens_once front.Mig tokens r s p q = said_once Subsystem MigDerives MigFailsAt mig_resolved mig_one_tree mig_line tokens r s p q
 
-tokens_have : (k : Front) → IsRead k → (tokens : List Token) → TokensHave k tokens
-tokens_have front.Onc read tokens = onc_have tokens (onc_decided tokens)
-tokens_have front.Corba read tokens = corba_have tokens (corba_decided tokens)
-tokens_have front.Mig read tokens = mig_have tokens (mig_decided tokens)
+tokens_have : (k : Front) (tokens : List Token) → TokensHave k tokens
+tokens_have front.Onc tokens = onc_have tokens (onc_decided tokens)
+tokens_have front.Corba tokens = corba_have tokens (corba_decided tokens)
+tokens_have front.Mig tokens = mig_have tokens (mig_decided tokens)
 
 -- ---- texts
 
@@ -172,11 +160,11 @@ one_unit k text r s (inl (a, (ps, stand, ta), ra)) (inr (f, is, sb)) = absurd (n
 one_unit k text r s (inr (e, is, ra)) (inl (b, (qs, stand, tb), sb)) = absurd (not_both k text qs e stand is)
 one_unit k text r s (inr (e, is, ra)) (inr (f, js, sb)) = ra ∙ ap (λ x. Err (sayings.Lex x)) (same_fault k text e f is js) ∙ sym sb
 
-text_has : (k : Front) → IsRead k → (text : List ℕ)
+text_has : (k : Front) (text : List ℕ)
     → ((tokens : List Token) × AreTokens k text tokens) ⊎ ((fault : LexErr) × IsFirstFault k text fault)
     → Has k text
-text_has k read text (inl (tokens, are)) = let h = tokens_have k read tokens in (h.0, inl (tokens, are, h.1), h.2)
-text_has k read text (inr (fault, is)) = (Err (sayings.Lex fault), inr (fault, is, refl), tt)
+text_has k text (inl (tokens, are)) = let h = tokens_have k tokens in (h.0, inl (tokens, are, h.1), h.2)
+text_has k text (inr (fault, is)) = (Err (sayings.Lex fault), inr (fault, is, refl), tt)
 
-pub unit_has : (k : Front) → IsRead k → (text : List ℕ) → Has k text
-unit_has k read text = text_has k read text (text_decided k text)
+pub unit_has : (k : Front) (text : List ℕ) → Has k text
+unit_has k text = text_has k text (text_decided k text)

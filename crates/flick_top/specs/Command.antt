@@ -3,14 +3,13 @@ use Rattle.std.specs.Prelude.{◌≡◌, ℕ, List, [], ◌∷◌, if◌then◌e
 use Rattle.std.specs.Str.{bytes_eq}
 use Rattle.idl_lex.specs.declared.kinds.Front.{Front}
 use Rattle.wire_def.specs.declared.encoding.Back.{Back}
-use Rattle.flick_engine.specs.Backs.{back_of, IsMade}
+use Rattle.flick_engine.specs.Backs.{back_of}
 use Rattle.flick_lines.specs.declared.verb.Verb.TheVariants.{Marshal, Unmarshal, Reply, Unreply, Count}
 use Rattle.flick_top.specs.declared.command.Action.{Action}
 use Rattle.flick_top.specs.declared.command.Action.TheVariants.{Answer, Serve, Stubs, Make}
 use Rattle.flick_top.specs.declared.command.Command.{Command}
 use Rattle.flick_top.specs.declared.command.Command.TheVariants.{Help, Version, Show, Over}
-use Rattle.flick_top.specs.declared.command.Named.{Named}
-use Rattle.flick_top.specs.Fronts.{front_of, IsRead}
+use Rattle.flick_top.specs.Fronts.{front_of}
 use Rattle.flick_top.specs.Numbers.{number_in}
 
 -- the command of one word
@@ -71,17 +70,6 @@ command_of (word ∷ front ∷ back ∷ file ∷ more) = over_file (action_of wo
 -- the word at a place
 abbrev pub word_at : List (List ℕ) → ℕ → List ℕ
 word_at words place = unwrap_or (slice_get words place) []
-
--- a front end that reads files, and a back end that engines are made for
-abbrev pub IsNamed : Named → Type 0
-IsNamed n = IsRead n.front × IsMade n.back
-
--- a command of these
-abbrev pub IsKnown : Command → Type 0
-IsKnown Help = Unit {0}
-IsKnown Version = Unit {0}
-IsKnown (Show front) = IsRead front
-IsKnown (Over action n) = IsNamed n
 
 -- a command over files
 abbrev pub ReadsFiles : Option Command → Type 0

@@ -17,12 +17,6 @@ use Rattle.front_mig.specs.Resolved.{resolved as mig_resolved}
 use Rattle.flick_top.specs.declared.saying.Saying.{Saying}
 use Rattle.flick_top.specs.declared.saying.Saying.TheVariants.{Lex, Syntax, Name}
 
--- a front end that files are read by
-abbrev pub IsRead : Front → Type 0
-IsRead front.Onc = Unit {0}
-IsRead front.Corba = Unit {0}
-IsRead front.Mig = Unit {0}
-
 -- the front end of a name
 abbrev pub front_of : List ℕ → Option Front
 front_of word =

@@ -4,9 +4,8 @@ ghost use Rattle.std.specs.Prelude.{◌≡◌, ◌≢◌, ◌≤◌, Some, None,
 ghost use Rattle.kit_base.specs.Causes.{Rose};
 ghost use Rattle.raw_buf.specs.Buf.{NoneFell};
 ghost use Rattle.kit_texts.specs.WholeLines.{AreWholeLines};
-ghost use Rattle.flick_top.specs.Command.{IsKnown, IsNamed, ReadsFiles, word_at};
+ghost use Rattle.flick_top.specs.Command.{ReadsFiles, word_at};
 ghost use Rattle.flick_top.specs.File.{FileSays, IsSoundly, codes_in, plainly};
-ghost use Rattle.flick_top.specs.Fronts.{IsRead};
 ghost use Rattle.flick_top.specs.Made.{HasCodes, codes_of, engine_of};
 ghost use Rattle.flick_top.specs.Output.{Files, Acts, ActsOver, Comes, IsMadeOf, ServesFile, ServesText, answering_task, showing_task, text_before};
 ghost use Rattle.flick_top.specs.Turn.{IsReady};
@@ -64,7 +63,6 @@ pub fn task_of<F: Shelf>(
     shelf: &mut F,
     buf: &mut SendBuf,
 ) -> Result<Task, TaskErr>
-    requires known { IsKnown command }
     // What it comes to.
     ensures task { IfOk result (λ task. (files : Files) → F.files shelf.old ≡ Some files
         → Comes (codes_of (engine_of task)) (Some command) words.now files task) }
@@ -249,7 +247,6 @@ fn engine_at<F: Shelf>(
     path: &[u8],
     shelf: &mut F,
 ) -> Result<Result<Engine, Saying>, TaskErr>
-    requires known { IsNamed named.now }
     ensures reported { IfOk result (λ reported. (files : Files) → F.files shelf.old ≡ Some files
         → IsMadeOf (codes_in reported) named.now (files path.now) reported) }
     ensures files { F.files shelf.new ≡ F.files shelf.old }
@@ -269,7 +266,6 @@ fn unit_at<F: Shelf>(
     path: &[u8],
     shelf: &mut F,
 ) -> Result<Result<Unit, Saying>, TaskErr>
-    requires read { IsRead front }
     // What was read.
     ensures reported { IfOk result (λ read. (files : Files) → F.files shelf.old ≡ Some files
         → FileSays front (files path.now) (plainly read)) }

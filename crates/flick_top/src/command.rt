@@ -1,7 +1,7 @@
 //! The command that the words name.
 
 ghost use Rattle.std.specs.Prelude.{◌≡◌, ◌≤◌, IfSome};
-ghost use Rattle.flick_top.specs.Command.{command_of, option_of, last_action, serving, making, action_of, showing, over_file, word_at, IsKnown};
+ghost use Rattle.flick_top.specs.Command.{command_of, option_of, last_action, serving, making, action_of, showing, over_file, word_at};
 ghost use Rattle.flick_top.specs.Fronts as fronts;
 ghost use Rattle.flick_engine.specs.Backs as backs;
 
@@ -56,7 +56,6 @@ pub struct Named {
 /// The command, where the words have the shape of one.
 pub fn command_of(words: &Words) -> Option<Command>
     ensures value { result ≡ command_of words.now }
-    ensures known { IfSome result IsKnown }
 {
     match words.as_slice() {
         [word] => option_of(word.as_slice()),
@@ -73,7 +72,6 @@ pub fn command_of(words: &Words) -> Option<Command>
 /// The command of one word.
 fn option_of(word: &[u8]) -> Option<Command>
     ensures value { result ≡ option_of word.now }
-    ensures known { IfSome result IsKnown }
 {
     if word == b"--help".as_slice() {
         return Some(Command::Help);
@@ -87,7 +85,6 @@ fn option_of(word: &[u8]) -> Option<Command>
 /// The command of an action, a front end and a back end, before a file.
 fn over_file(action: Option<Action>, front: &[u8], back: &[u8]) -> Option<Command>
     ensures value { result ≡ over_file action (fronts.front_of front.now) (backs.back_of back.now) }
-    ensures known { IfSome result IsKnown }
 {
     let action = action?;
     let front = front_of(front)?;
@@ -105,7 +102,6 @@ fn over_file(action: Option<Action>, front: &[u8], back: &[u8]) -> Option<Comman
 /// `show` of a front end, before a file.
 fn showing(word: &[u8], front: &[u8]) -> Option<Command>
     ensures value { result ≡ showing word.now (fronts.front_of front.now) }
-    ensures known { IfSome result IsKnown }
 {
     let front = front_of(front)?;
     if word == b"show".as_slice() {

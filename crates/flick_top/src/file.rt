@@ -3,9 +3,7 @@
 ghost use Rattle.std.specs.Prelude.{Some, IfOk};
 ghost use Rattle.aoi.specs.Plain.{plain, IsSoundPlain};
 ghost use Rattle.pres.specs.Faults.{bind_fault};
-ghost use Rattle.flick_engine.specs.Backs.{IsMade};
 ghost use Rattle.flick_top.specs.File.{FileSays, BindSays, BoundSays, IsSoundly, codes_in, plainly};
-ghost use Rattle.flick_top.specs.Fronts.{IsRead};
 
 use crate::fronts::unit_of;
 use crate::saying::Saying;
@@ -24,7 +22,6 @@ pub fn read_content(
     front: Front,
     content: &[u8],
 ) -> Result<Result<Unit, Saying>, NoMemory>
-    requires read { IsRead front }
     ensures says { IfOk result (λ read. FileSays front (Some content.now) (plainly read)) }
     ensures sound { IfOk result IsSoundly }
 {
@@ -40,7 +37,6 @@ pub fn made_of(
     back: Back,
     read: Result<Unit, Saying>,
 ) -> Result<Result<Engine, Saying>, NoMemory>
-    requires made { IsMade back }
     requires sound { IsSoundly read }
     ensures { IfOk result (λ reported. BoundSays (codes_in reported) back (plainly read) reported) }
 {
@@ -52,7 +48,6 @@ pub fn made_of(
 
 /// The engine of a unit over a back end, or the first reason against it.
 fn bound_to(alloc: Global, back: Back, unit: Unit) -> Result<Result<Engine, Saying>, NoMemory>
-    requires made { IsMade back }
     requires sound { IsSoundPlain (plain unit) }
     ensures { IfOk result (λ reported.
         BindSays (codes_in reported) (plain unit) back (bind_fault (plain unit) back) reported) }

@@ -1,6 +1,6 @@
 //! What differs from one front end to another: its name, and the unit of a file's tokens.
 
-ghost use Rattle.std.specs.Prelude.{◌≡◌, ◌≤◌, Err, IfOk, IfSome, length};
+ghost use Rattle.std.specs.Prelude.{◌≡◌, ◌≤◌, Err, IfOk, length};
 ghost use Rattle.kit_base.specs.Limits.{longest_file};
 ghost use Rattle.aoi.specs.declared.faults.NameFault.TheVariants.{NoMemory as WantOfMemory};
 ghost use Rattle.front_onc.specs.Resolved.{IsWhole as OncIsWhole, resolved as onc_resolved};
@@ -8,7 +8,7 @@ ghost use Rattle.front_corba.specs.Resolved.{IsWhole as CorbaIsWhole, resolved a
 ghost use Rattle.front_mig.specs.Resolved.{resolved as mig_resolved};
 ghost use Rattle.flick_top.specs.declared.saying.Saying.TheVariants as sayings;
 ghost use Rattle.flick_top.specs.File.{IsSoundly, plainly};
-ghost use Rattle.flick_top.specs.Fronts.{IsRead, front_of, in_words, CorbaTokensSay, MigTokensSay, OncTokensSay, TokensSay, UnitOf};
+ghost use Rattle.flick_top.specs.Fronts.{front_of, in_words, CorbaTokensSay, MigTokensSay, OncTokensSay, TokensSay, UnitOf};
 
 use crate::saying::Saying;
 use aoi::{NameErr, NameFault, Unit};
@@ -17,10 +17,9 @@ use kit_base::NoMemory;
 use onc_syntax::SyntaxErr;
 use std::alloc::Global;
 
-/// The front end of a name, where files are read by it.
+/// The front end of a name, if it is one.
 pub fn front_of(word: &[u8]) -> Option<Front>
     ensures value { result ≡ front_of word.now }
-    ensures read { IfSome result IsRead }
 {
     if word == b"onc".as_slice() {
         return Some(Front::Onc);
@@ -36,7 +35,6 @@ pub fn front_of(word: &[u8]) -> Option<Front>
 
 /// The unit of a text, or what is said instead.
 pub fn unit_of(alloc: Global, front: Front, text: &[u8]) -> Result<Result<Unit, Saying>, NoMemory>
-    requires read { IsRead front }
     requires short { length text.now ≤ longest_file }
     ensures says { IfOk result (λ read. UnitOf front text.now (plainly read)) }
     ensures sound { IfOk result IsSoundly }
@@ -50,7 +48,6 @@ pub fn unit_of(alloc: Global, front: Front, text: &[u8]) -> Result<Result<Unit, 
 
 /// The unit of a file's tokens, or what is said instead.
 fn of_tokens(alloc: Global, front: Front, tokens: &Tokens) -> Result<Result<Unit, Saying>, NoMemory>
-    requires { IsRead front }
     ensures says { IfOk result (λ read. TokensSay front tokens.now (plainly read)) }
     ensures sound { IfOk result IsSoundly }
 {
