@@ -9,7 +9,7 @@ use std::alloc::Global;
 use std::process::ExitCode;
 use std::{env, io};
 
-/// The status where the process cannot give its arguments as text. `flick` never answers it.
+/// The status where the process does not give its arguments. `flick` never answers it.
 const NO_ARGUMENTS: u8 = 9;
 
 /// The status where memory ran out, as `flick` answers it.
@@ -26,19 +26,10 @@ fn words_of(alloc: Global, arguments: env::Args) -> Result<Words, NoMemory> {
     Ok(words)
 }
 
-/// The status where the process does not give its arguments.
-fn status_of(error: &io::Error) -> u8 {
-    match error.kind() {
-        io::ErrorKind::OutOfMemory => NO_MEMORY,
-        _ => NO_ARGUMENTS,
-    }
-}
-
 fn main(rt: HostRuntime) -> ExitCode {
     let alloc = rt.alloc();
-    let arguments = match env::args(&rt) {
-        Ok(arguments) => arguments,
-        Err(error) => return ExitCode::from(status_of(&error)),
+    let Ok(arguments) = env::args(&rt) else {
+        return ExitCode::from(NO_ARGUMENTS);
     };
     let Ok(words) = words_of(alloc, arguments) else {
         return ExitCode::from(NO_MEMORY);

@@ -18,10 +18,12 @@ use Rattle.json_shape.specs.Laws.{IsPresented}
 use Rattle.json_shape.specs.Records.{Begun}
 use Rattle.json_shape.proofs.Deciding.{value_or_none}
 use Rattle.json_shape.proofs.Options.{one_some}
+use Rattle.flick_engine.specs.Costs.{answer_cost}
 use Rattle.flick_engine.specs.Messages.{message}
-use Rattle.flick_lines.specs.Marshalled.{Beginning}
-use Rattle.flick_lines.specs.Paid.{Runs, by_code, IsPaidOnce, IsPaidRecord, IsPaidTree}
-use Rattle.flick_lines.specs.Sent.{Sending, nothing, too_long, sends, Sent, call_sent, IsSentOnce, IsSentRecord, IsSentTree, total, held, IsSpentBy}
+use Rattle.flick_engine.specs.Replies.{reply_message}
+use Rattle.flick_lines.specs.Marshalled.{Beginning, Texts}
+use Rattle.flick_lines.specs.Paid.{Runs, Costs, by_code, call_by_code, reply_by_code, IsPaidOnce, IsPaidRecord, IsPaidTree}
+use Rattle.flick_lines.specs.Sent.{Sending, nothing, too_long, sends, Sent, message_sent, call_sent, reply_sent, IsSentOnce, IsSentRecord, IsSentTree, Sends, total, held, IsSpentBy}
 
 -- ---- counts
 
@@ -41,7 +43,7 @@ raised-sum n a b = omega arith
 raised-least : (n m k most : ℕ) → n ≤ m → raised m k ≤ most → raised n k ≤ most
 raised-least n m k most h more = omega (arith, h, more)
 
-paid-none : (t : Tally) → t ≡ paid t no_cost
+pub paid-none : (t : Tally) → t ≡ paid t no_cost
 paid-none t =
     same_counts _ _ _ _ _ _ _ _ (raised-zero t.checks) (raised-zero t.moves) (raised-zero t.stores) (raised-zero t.rows)
 
@@ -60,12 +62,6 @@ paid-least t u v k stands more = record {
 
 -- ---- one after the other
 
--- what becomes of a buffer where this is sent
-abbrev pub Sends : Sending → Buf → Buf → Type 0
-Sends nothing old new = new ≡ old
-Sends too_long old new = NoneFell old.spent new.spent
-Sends (sends octets k) old new = (new.done ≡ octets) × (new.spent ≡ paid old.spent k)
-
 -- what is known of the octets is known where less was known before
 known-less : (ss : List Sending) (before done : List ℕ) → IfSome (held (Some before) ss) (λ o. done ≡ o)
     → IfSome (held None ss) (λ o. done ≡ o)
@@ -74,46 +70,50 @@ known-less (nothing ∷ ss) before done h = known-less ss before done h
 known-less (too_long ∷ ss) before done h = h
 known-less (sends octets k ∷ ss) before done h = h
 
-pub spent-none : (buf : Buf) → IsSpentBy [] buf buf
-spent-none buf = record {
-  exactly = λ fit. paid-none buf.spent;
+pub spent-none : (exact : Bool) (buf : Buf) → IsSpentBy exact [] buf buf
+spent-none exact buf = record {
+  exactly = λ known fit. paid-none buf.spent;
   at_least = subst (λ (t : Tally). NoneFell t buf.spent) (paid-none buf.spent) (none_fell-refl buf.spent);
   done = refl;
 }
 
-spent-nothing : (ss : List Sending) (old new : Buf) → IsSpentBy ss old new → IsSpentBy (nothing ∷ ss) old new
-spent-nothing ss old new h = record { exactly = h.exactly; at_least = h.at_least; done = h.done }
+spent-nothing : (exact : Bool) (ss : List Sending) (old new : Buf) → IsSpentBy exact ss old new → IsSpentBy exact (nothing ∷ ss) old new
+spent-nothing exact ss old new h = record { exactly = h.exactly; at_least = h.at_least; done = h.done }
 
-pub spent-more : (s : Sending) (ss : List Sending) (old mid new : Buf) → Sends s old mid → IsSpentBy ss mid new → IsSpentBy (s ∷ ss) old new
-spent-more nothing ss old mid new same h = spent-nothing ss old new (subst (λ (b : Buf). IsSpentBy ss b new) same h)
-spent-more too_long ss old mid new stands h = record {
-  exactly = λ fit. absurd fit;
+-- at least one cost and then another one is at least their sum
+paid-both : (t u v : Tally) (a b : Cost) → NoneFell (paid t a) u → NoneFell (paid u b) v → NoneFell (paid t (sum a b)) v
+paid-both t u v a b one other =
+    subst (λ (x : Tally). NoneFell x v) (paid-sum t a b) (paid-least (paid t a) u v b one other)
+
+pub spent-more : (exact : Bool) (s : Sending) (ss : List Sending) (old mid new : Buf) → Sends exact s old mid → IsSpentBy exact ss mid new
+    → IsSpentBy exact (s ∷ ss) old new
+spent-more exact nothing ss old mid new same h =
+    spent-nothing exact ss old new (subst (λ (b : Buf). IsSpentBy exact ss b new) same h)
+spent-more exact too_long ss old mid new stands h = record {
+  exactly = λ known fit. absurd fit;
   at_least = paid-least old.spent mid.spent new.spent (total ss) stands h.at_least;
   done = known-less ss mid.done new.done h.done;
 }
-spent-more (sends octets k) ss old mid new (done, spent) h =
-    let sums : paid mid.spent (total ss) ≡ paid old.spent (sum k (total ss)) =
-    ap (λ (t : Tally). paid t (total ss)) spent ∙ paid-sum old.spent k (total ss) in
-    record {
-      exactly = λ fit. h.exactly fit ∙ sums;
-      at_least = subst (λ (t : Tally). NoneFell t new.spent) sums h.at_least;
-      done = subst (λ (d : List ℕ). IfSome (held (Some d) ss) (λ o. new.done ≡ o)) done h.done;
-    }
+spent-more exact (sends octets k) ss old mid new (done, least, spent) h = record {
+  exactly = λ known fit. h.exactly known fit ∙ ap (λ (t : Tally). paid t (total ss)) (spent known) ∙ paid-sum old.spent k (total ss);
+  at_least = paid-both old.spent mid.spent new.spent k (total ss) least h.at_least;
+  done = subst (λ (d : List ℕ). IfSome (held (Some d) ss) (λ o. new.done ≡ o)) done h.done;
+}
 
 -- ---- a line
 
 -- this is sent, and becomes of the buffer
-abbrev pub IsDone : (Sending → Type 0) → Buf → Buf → Type 0
-IsDone Is old new = (s : Sending) × Is s × Sends s old new
+abbrev pub IsDone : Bool → (Sending → Type 0) → Buf → Buf → Type 0
+IsDone exact Is old new = (s : Sending) × Is s × Sends exact s old new
 
 -- what a run makes of the buffer is what is sent
 abbrev pub IsRun : Sent → Runs → Type 0
 IsRun is_sent run = (op : ℕ) (h : Head) (v : Val) (old new : Buf) → run op h v old new → NoneFell old.spent new.spent
-    → IsDone (is_sent op h v) old new
+    → IsDone true (is_sent op h v) old new
 
 once_sent : (is_sent : Sent) (run : Runs) → IsRun is_sent run → (r : Begun) (old new : Buf)
     → IsPresented r.face r.tree ⊎ (IsPresented r.face r.tree → ⊥)
-    → IsPaidOnce run r old new → NoneFell old.spent new.spent → IsDone (IsSentOnce is_sent r) old new
+    → IsPaidOnce run r old new → NoneFell old.spent new.spent → IsDone true (IsSentOnce is_sent r) old new
 once_sent is_sent run does r old new (inl (v, p)) (some, none) stands =
     let (s, is, sent) = does r.op r.head v old new (some v p) stands in
     (s, inl (v, p, is), sent)
@@ -121,33 +121,43 @@ once_sent is_sent run does r old new (inr never) (some, none) stands =
     (nothing, inr ((λ v p. never (v, p)), refl), none (λ v p. never (v, p)))
 
 record_sent : (is_sent : Sent) (run : Runs) → IsRun is_sent run → (x : Result Begun RecordErr) (old new : Buf)
-    → IsPaidRecord run x old new → NoneFell old.spent new.spent → IsDone (IsSentRecord is_sent x) old new
+    → IsPaidRecord run x old new → NoneFell old.spent new.spent → IsDone true (IsSentRecord is_sent x) old new
 record_sent is_sent run does (Err e) old new same stands = (nothing, refl, same)
 record_sent is_sent run does (Ok r) old new h stands = once_sent is_sent run does r old new (value_or_none r.face r.tree) h stands
 
 pub tree_sent : (is_sent : Sent) (run : Runs) → IsRun is_sent run → (begun : Beginning) (tree : Option Data) (old new : Buf)
-    → IsPaidTree run begun tree old new → NoneFell old.spent new.spent → IsDone (IsSentTree is_sent begun tree) old new
+    → IsPaidTree run begun tree old new → NoneFell old.spent new.spent → IsDone true (IsSentTree is_sent begun tree) old new
 tree_sent is_sent run does begun None old new same stands = (nothing, refl, same)
 tree_sent is_sent run does begun (Some tree) old new h stands = record_sent is_sent run does (begun tree) old new h stands
 
--- ---- a call
+-- ---- a message
 
 -- a cost that raises counts is there
-cost_there : (t u : Tally) (o : Option Cost) → option_map (paid t) o ≡ Some u → (k : Cost) × (o ≡ Some k) × (u ≡ paid t k)
+pub cost_there : (t u : Tally) (o : Option Cost) → option_map (paid t) o ≡ Some u → (k : Cost) × (o ≡ Some k) × (u ≡ paid t k)
 cost_there t u None e = absurd (cc e)
 cost_there t u (Some k) e = (k, refl, sym (one_some (paid t k) u e))
 
-call_within : (c : Coded) (op : ℕ) (h : Head) (v : Val) (old new : Buf) (b : Bool)
-    → nat_le (length (message c.binding op h v)) longest_message ≡ b → by_code c op h v old new → NoneFell old.spent new.spent
-    → IsDone (call_sent c op h v) old new
-call_within c op h v old new false long ran stands =
-    (too_long, leb-false (length (message c.binding op h v)) longest_message long, stands)
-call_within c op h v old new true short ran stands =
-    let few : length (message c.binding op h v) ≤ longest_message = leb-true (length (message c.binding op h v)) longest_message short in
-    let (done, counts) = ran few in
-    let (k, is, more) = cost_there old.spent new.spent (sent_cost c.stubs op h v) counts.1 in
-    (sends (message c.binding op h v) k, (refl, few, is), (done, more))
+-- exactly so much is at least so much
+pub least_exact : (t u : Tally) → u ≡ t → NoneFell t u
+least_exact t u e = subst (λ (x : Tally). NoneFell t x) (sym e) (none_fell-refl t)
 
-pub call_runs : (c : Coded) → IsRun (call_sent c) (by_code c)
-call_runs c op h v old new ran stands =
-    call_within c op h v old new (nat_le (length (message c.binding op h v)) longest_message) refl ran stands
+message_within : (message_of : Texts) (cost_of : Costs) (op : ℕ) (h : Head) (v : Val) (old new : Buf) (b : Bool)
+    → nat_le (length (message_of op h v)) longest_message ≡ b → by_code message_of cost_of op h v old new → NoneFell old.spent new.spent
+    → IsDone true (message_sent message_of cost_of op h v) old new
+message_within message_of cost_of op h v old new false long ran stands =
+    (too_long, leb-false (length (message_of op h v)) longest_message long, stands)
+message_within message_of cost_of op h v old new true short ran stands =
+    let few : length (message_of op h v) ≤ longest_message = leb-true (length (message_of op h v)) longest_message short in
+    let (done, alone, counts) = ran few in
+    let (k, is, more) = cost_there old.spent new.spent (cost_of op h v) counts in
+    (sends (message_of op h v) k, (refl, few, is), (done, least_exact (paid old.spent k) new.spent more, λ known. more))
+
+message_runs : (message_of : Texts) (cost_of : Costs) → IsRun (message_sent message_of cost_of) (by_code message_of cost_of)
+message_runs message_of cost_of op h v old new ran stands =
+    message_within message_of cost_of op h v old new (nat_le (length (message_of op h v)) longest_message) refl ran stands
+
+pub call_runs : (c : Coded) → IsRun (call_sent c) (call_by_code c)
+call_runs c op h v old new ran stands = message_runs (message c.binding) (sent_cost c.stubs) op h v old new ran stands
+
+pub reply_runs : (c : Coded) → IsRun (reply_sent c) (reply_by_code c)
+reply_runs c op h v old new ran stands = message_runs (reply_message c.binding) (answer_cost c.stubs) op h v old new ran stands

@@ -12,7 +12,7 @@ use Rattle.json_shape.specs.Requests.{request_of}
 use Rattle.json_shape.specs.Usual.{IsRequestIn}
 use Rattle.flick_lines.specs.Marshalled.{tree_of, Texts, IsOfTree}
 use Rattle.flick_lines.specs.Usual.{IsUsual}
-use Rattle.flick_lines.specs.Paid.{by_code, IsPaidTree}
+use Rattle.flick_lines.specs.Paid.{call_by_code, IsPaidTree}
 use Rattle.flick_lines.proofs.Paying.{paid-value}
 use Rattle.flick_lines.proofs.Recorded.{of-value}
 use Rattle.flick_lines.proofs.Trees.{tree-some}
@@ -37,7 +37,7 @@ usual-value m b line r is a same =
 
 -- what becomes of the buffer
 pub usual-paid : (c : Coded) (line : List ℕ) (r : RequestRec) → IsUsual c.binding line r → (old new : Buf)
-    → by_code c r.op r.head (seen r.value) old new → IsPaidTree (by_code c) (request_of c.binding) (tree_of line) old new
+    → call_by_code c r.op r.head (seen r.value) old new → IsPaidTree (call_by_code c) (request_of c.binding) (tree_of line) old new
 usual-paid c line r is old new ran =
-    subst (λ (t : Option Data). IsPaidTree (by_code c) (request_of c.binding) t old new) (sym is.is)
-    (paid-value (by_code c) (request_of c.binding is.tree) r is.comes old new ran)
+    subst (λ (t : Option Data). IsPaidTree (call_by_code c) (request_of c.binding) t old new) (sym is.is)
+    (paid-value (call_by_code c) (request_of c.binding is.tree) r is.comes old new ran)

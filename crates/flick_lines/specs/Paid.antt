@@ -3,34 +3,44 @@ use Rattle.std.specs.Prelude.{◌≡◌, ◌≤◌, ℕ, List, length, Option, S
 use Rattle.kit_base.specs.Limits.{longest_message}
 use Rattle.mint.specs.Values.{Val}
 use Rattle.wire_def.specs.declared.head.Head.{Head}
-use Rattle.raw_buf.specs.Buf.{Buf, NoneFell}
-use Rattle.op_codes.specs.Stubs.{Coded}
+use Rattle.raw_buf.specs.Buf.{Buf, none}
+use Rattle.cast_stub.specs.Meaning.{Cost}
+use Rattle.op_codes.specs.Stubs.{Coded, sent_cost}
 use Rattle.serde_json.specs.Data.{Data}
 use Rattle.json_shape.specs.declared.errors.RecordErr.{RecordErr}
 use Rattle.json_shape.specs.Presents.{Presents}
 use Rattle.json_shape.specs.Records.{Begun}
 use Rattle.json_shape.specs.Replies.{reply_of}
 use Rattle.json_shape.specs.Requests.{request_of}
-use Rattle.flick_engine.specs.Costs.{IsSentByCode}
+use Rattle.flick_engine.specs.Costs.{IsRaised, answer_cost}
 use Rattle.flick_engine.specs.Messages.{message}
+use Rattle.flick_engine.specs.Replies.{reply_message}
 use Rattle.flick_lines.specs.declared.verb.Verb.{Verb}
 use Rattle.flick_lines.specs.declared.verb.Verb.TheVariants.{Marshal, Unmarshal, Reply, Unreply, Count}
-use Rattle.flick_lines.specs.Marshalled.{Beginning, tree_of}
+use Rattle.flick_lines.specs.Marshalled.{Beginning, Texts, tree_of}
 
 -- what becomes of a buffer where an operation, a head and a value are answered
 abbrev pub Runs : Type 1
 Runs = ℕ → Head → Val → Buf → Buf → Type 0
 
--- a message of at most 4,194,304 octets is what the buffer holds, and the code of its operation was run: its counts are those
--- of the code, and what the buffer spent rose by exactly that
-abbrev pub by_code : Coded → Runs
-by_code c op h v old new =
-    length (message c.binding op h v) ≤ longest_message
-    → (new.done ≡ message c.binding op h v) × IsSentByCode c.stubs op h v old.spent new
+-- what the code costs that makes the message of an operation, a head and a value, where there is the code
+abbrev pub Costs : Type 0
+Costs = ℕ → Head → Val → Option Cost
 
--- no count of what it spent fell
-abbrev pub by_fields : Runs
-by_fields op h v old new = NoneFell old.spent new.spent
+-- a message of at most 4,194,304 octets is what the buffer holds, and the code that makes it was run: its counts are those of the
+-- code, and what the buffer spent rose by exactly that
+abbrev pub by_code : Texts → Costs → Runs
+by_code message cost_of op h v old new =
+    length (message op h v) ≤ longest_message
+    → (new.done ≡ message op h v) × IsRaised (cost_of op h v) none new.tally × IsRaised (cost_of op h v) old.spent new.spent
+
+-- the message of a call, by the code of its operation
+abbrev pub call_by_code : Coded → Runs
+call_by_code c op h v old new = by_code (message c.binding) (sent_cost c.stubs) op h v old new
+
+-- the message of a reply, by the code of its arm
+abbrev pub reply_by_code : Coded → Runs
+reply_by_code c op h v old new = by_code (reply_message c.binding) (answer_cost c.stubs) op h v old new
 
 -- each value that the record presents was sent so; where there is none, nothing became of the buffer
 abbrev pub IsPaidOnce : Runs → Begun → Buf → Buf → Type 0
@@ -49,8 +59,8 @@ IsPaidTree run begun (Some tree) old new = IsPaidRecord run (begun tree) old new
 
 -- what becomes of the buffer where a verb answers the octets of a line; messages are read without it
 abbrev pub IsPaid : Verb → Coded → List ℕ → Buf → Buf → Type 0
-IsPaid Marshal c line old new = IsPaidTree (by_code c) (request_of c.binding) (tree_of line) old new
+IsPaid Marshal c line old new = IsPaidTree (call_by_code c) (request_of c.binding) (tree_of line) old new
 IsPaid Unmarshal c line old new = new ≡ old
-IsPaid Reply c line old new = IsPaidTree by_fields (reply_of c.binding) (tree_of line) old new
+IsPaid Reply c line old new = IsPaidTree (reply_by_code c) (reply_of c.binding) (tree_of line) old new
 IsPaid Unreply c line old new = new ≡ old
-IsPaid Count c line old new = IsPaidTree (by_code c) (request_of c.binding) (tree_of line) old new
+IsPaid Count c line old new = IsPaidTree (call_by_code c) (request_of c.binding) (tree_of line) old new

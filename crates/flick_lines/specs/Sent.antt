@@ -1,5 +1,5 @@
--- What is sent of lines under `marshal` and `count`, and what a buffer spends and holds that they are sent in.
-use Rattle.std.specs.Prelude.{◌≡◌, ◌⊎◌, ℕ, ◌<◌, ◌≤◌, List, [], ◌∷◌, length, Option, Some, None, IfSome, Result, Ok, Err}
+-- What is sent of lines under `marshal`, `count` and `reply`, and what a buffer spends and holds that it is sent in.
+use Rattle.std.specs.Prelude.{◌≡◌, ◌⊎◌, ℕ, ◌<◌, ◌≤◌, Bool, true, List, [], ◌∷◌, length, Option, Some, None, IfSome, Result, Ok, Err}
 use Rattle.kit_base.specs.Limits.{longest_message}
 use Rattle.mint.specs.Values.{Val}
 use Rattle.wire_def.specs.declared.head.Head.{Head}
@@ -11,9 +11,13 @@ use Rattle.serde_json.specs.Data.{Data}
 use Rattle.json_shape.specs.declared.errors.RecordErr.{RecordErr}
 use Rattle.json_shape.specs.Presents.{Presents}
 use Rattle.json_shape.specs.Records.{Begun}
+use Rattle.json_shape.specs.Replies.{reply_of}
 use Rattle.json_shape.specs.Requests.{request_of}
+use Rattle.flick_engine.specs.Costs.{answer_cost}
 use Rattle.flick_engine.specs.Messages.{message}
-use Rattle.flick_lines.specs.Marshalled.{Beginning, tree_of}
+use Rattle.flick_engine.specs.Replies.{reply_message}
+use Rattle.flick_lines.specs.Marshalled.{Beginning, Texts, tree_of}
+use Rattle.flick_lines.specs.Paid.{Costs}
 
 -- what is sent: nothing, a message that is too long, or a message at what the code costs that makes it
 pub data Sending : Type 0 where
@@ -27,12 +31,20 @@ pub data Sending : Type 0 where
 abbrev pub Sent : Type 1
 Sent = ℕ → Head → Val → Sending → Type 0
 
--- the message of a call, at what the code that is kept for its operation costs; or a message that is too long
-abbrev pub call_sent : Coded → ℕ → Head → Val → Sending → Type 0
-call_sent c op h v nothing = ⊥
-call_sent c op h v too_long = longest_message < length (message c.binding op h v)
-call_sent c op h v (sends octets k) =
-    (octets ≡ message c.binding op h v) × (length octets ≤ longest_message) × (sent_cost c.stubs op h v ≡ Some k)
+-- a message, at what the code costs that makes it; or a message that is too long
+abbrev pub message_sent : Texts → Costs → Sent
+message_sent message cost_of op h v nothing = ⊥
+message_sent message cost_of op h v too_long = longest_message < length (message op h v)
+message_sent message cost_of op h v (sends octets k) =
+    (octets ≡ message op h v) × (length octets ≤ longest_message) × (cost_of op h v ≡ Some k)
+
+-- the message of a call, at what the code costs that is kept for its operation
+abbrev pub call_sent : Coded → Sent
+call_sent c op h v s = message_sent (message c.binding) (sent_cost c.stubs) op h v s
+
+-- the message of a reply, at what the code costs that is kept for its arm
+abbrev pub reply_sent : Coded → Sent
+reply_sent c op h v s = message_sent (reply_message c.binding) (answer_cost c.stubs) op h v s
 
 -- what is sent of a record: that of the value that it presents; nothing where it presents none
 abbrev pub IsSentOnce : Sent → Begun → Sending → Type 0
@@ -53,6 +65,20 @@ IsSentTree is_sent begun (Some tree) s = IsSentRecord is_sent (begun tree) s
 -- what is sent of the octets of a line as a request record: the message of its call
 abbrev pub IsCallSent : Coded → List ℕ → Sending → Type 0
 IsCallSent c line s = IsSentTree (call_sent c) (request_of c.binding) (tree_of line) s
+
+-- what is sent of the octets of a line as a reply record: the message of its reply
+abbrev pub IsReplySent : Coded → List ℕ → Sending → Type 0
+IsReplySent c line s = IsSentTree (reply_sent c) (reply_of c.binding) (tree_of line) s
+
+-- ---- in a buffer
+
+-- what becomes of a buffer where this is sent: it holds the message, and what it spent rose by what that cost, by exactly so much
+-- where that is known
+abbrev pub Sends : Bool → Sending → Buf → Buf → Type 0
+Sends exact nothing old new = new ≡ old
+Sends exact too_long old new = NoneFell old.spent new.spent
+Sends exact (sends octets k) old new =
+    (new.done ≡ octets) × NoneFell (paid old.spent k) new.spent × (exact ≡ true → new.spent ≡ paid old.spent k)
 
 -- ---- one after the other
 
@@ -77,8 +103,9 @@ held before (nothing ∷ ss) = held before ss
 held before (too_long ∷ ss) = held None ss
 held before (sends octets k ∷ ss) = held (Some octets) ss
 
--- what the buffer spent rose by exactly the sum, or by at least that where a message is too long, and it holds the last message
-pub record IsSpentBy (ss : List Sending) (old new : Buf) : Type 0 where
-  pub exactly : AllFit ss → new.spent ≡ paid old.spent (total ss)
+-- what the buffer spent rose by at least the sum, by exactly that where each cost is known exactly and no message is too long, and
+-- it holds the last message
+pub record IsSpentBy (exact : Bool) (ss : List Sending) (old new : Buf) : Type 0 where
+  pub exactly : exact ≡ true → AllFit ss → new.spent ≡ paid old.spent (total ss)
   pub at_least : NoneFell (paid old.spent (total ss)) new.spent
   pub done : IfSome (held (Some old.done) ss) (λ octets. new.done ≡ octets)

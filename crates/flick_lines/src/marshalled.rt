@@ -10,7 +10,7 @@ ghost use Rattle.flick_engine.specs.Messages.{message};
 ghost use Rattle.json_shape.specs.Requests.{request_of};
 ghost use Rattle.flick_lines.specs.declared.verb.Verb.TheVariants as verbs;
 ghost use Rattle.flick_lines.specs.Marshalled.{call_digits, digits_of, record_refusal, tree_of, IsMarshalled, IsOfRecord};
-ghost use Rattle.flick_lines.specs.Paid.{by_code, IsPaid, IsPaidRecord};
+ghost use Rattle.flick_lines.specs.Paid.{call_by_code, IsPaid, IsPaidRecord};
 
 use crate::text::{copied, digits};
 use crate::usual::usual_of;
@@ -86,7 +86,7 @@ fn of_tree(
     ensures value { IfOk result (λ o. IsOfRecord (call_digits engine.now.binding)
         (request_of engine.now.binding (view json.now)) o) }
     ensures spent { NoneFell buf.old.spent buf.new.spent }
-    ensures paid { OnOk result (IsPaidRecord (by_code engine.now)
+    ensures paid { OnOk result (IsPaidRecord (call_by_code engine.now)
         (request_of engine.now.binding (view json.now)) buf.old buf.new) }
 {
     match read_request(alloc, engine.bound(), json) {
@@ -122,7 +122,7 @@ fn digits_of(
     ensures value { IfOk result (λ o. o ≡ digits_of
         (message engine.now.binding record.now.op record.now.head (seen record.now.value))) }
     ensures spent { NoneFell buf.old.spent buf.new.spent }
-    ensures paid { OnOk result (by_code engine.now record.now.op record.now.head
+    ensures paid { OnOk result (call_by_code engine.now record.now.op record.now.head
         (seen record.now.value) buf.old buf.new) }
 {
     match engine.marshal(record.op, &record.head, &record.value, buf) {

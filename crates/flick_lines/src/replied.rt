@@ -10,7 +10,7 @@ ghost use Rattle.json_shape.specs.Replies.{reply_of};
 ghost use Rattle.flick_engine.specs.Replies.{reply_message};
 ghost use Rattle.flick_lines.specs.declared.verb.Verb.TheVariants as verbs;
 ghost use Rattle.flick_lines.specs.Marshalled.{digits_of, reply_digits, IsOfRecord, IsReplied};
-ghost use Rattle.flick_lines.specs.Paid.{by_fields, IsPaid, IsPaidRecord};
+ghost use Rattle.flick_lines.specs.Paid.{reply_by_code, IsPaid, IsPaidRecord};
 
 use crate::marshalled::{refused, tree_of};
 use crate::text::{copied, digits};
@@ -48,7 +48,7 @@ fn of_tree(
     ensures value { IfOk result (λ o. IsOfRecord (reply_digits engine.now.binding)
         (reply_of engine.now.binding (view json.now)) o) }
     ensures spent { NoneFell buf.old.spent buf.new.spent }
-    ensures paid { OnOk result (IsPaidRecord by_fields
+    ensures paid { OnOk result (IsPaidRecord (reply_by_code engine.now)
         (reply_of engine.now.binding (view json.now)) buf.old buf.new) }
 {
     match read_reply(alloc, engine.bound(), json) {
@@ -70,7 +70,7 @@ fn digits_of(
     ensures value { IfOk result (λ o. o ≡ digits_of
         (reply_message engine.now.binding record.now.op record.now.head (seen record.now.value))) }
     ensures spent { NoneFell buf.old.spent buf.new.spent }
-    ensures paid { OnOk result (by_fields record.now.op record.now.head
+    ensures paid { OnOk result (reply_by_code engine.now record.now.op record.now.head
         (seen record.now.value) buf.old buf.new) }
 {
     match engine.marshal_reply(record.op, &record.head, &record.value, buf) {

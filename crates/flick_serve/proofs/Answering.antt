@@ -28,7 +28,7 @@ or_same : (t : Ty) (x : Option Value) → reply_or_blank t x ≡ or_blank t (opt
 or_same t None = refl
 or_same t (Some v) = refl
 
-same_answer : (b : Binding) (places : Places) (op : ℕ) → answer_at (with_table b places) op ≡ answer_of b (given_in places) op
+pub same_answer : (b : Binding) (places : Places) (op : ℕ) → answer_at (with_table b places) op ≡ answer_of b (given_in places) op
 same_answer b places op =
     or_same (reply_type b op) (kept_in places op)
     ∙ ap (λ (x : Option Val). or_blank (reply_type b op) x) (sym (reply_in places op))

@@ -14,5 +14,7 @@ mod Reading
 pub mod Deciding
 -- * The answers by a table of replies are those by the file that gives them; each line has one, and one alone
 pub mod Answering
+-- * What becomes of the buffer where a line is answered: it is paid at least what the code of the reply costs
+pub mod Paying
 -- Files give the same, and lines are answered the same, over bindings of one unit over one back end
 pub mod Alike

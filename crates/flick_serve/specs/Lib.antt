@@ -1,3 +1,4 @@
 pub mod Given
 pub mod Served
+pub mod Spent
 pub mod Laws

@@ -10,7 +10,7 @@ use Rattle.skeleton.specs.Kept.{Places, IsKept}
 use Rattle.op_codes.specs.Stubs.{Coded}
 use Rattle.flick_engine.specs.Replies.{reply_type}
 use Rattle.flick_engine.specs.Serving.{gives, Serves}
-use Rattle.flick_serve.specs.declared.given.WrongLine.{WrongLine}
+use Rattle.flick_serve.specs.declared.serving.WrongReplies.{WrongReplies}
 use Rattle.flick_serve.specs.Given.{Given, given_at, given_in, FileGives}
 
 -- a reply, or else the blank one of a type
@@ -50,7 +50,7 @@ pub record IsServing (s : Serving) (places : Places) : Type 0 where
   pub kept : IsKept (record { binding = s.coded.binding; replies = places })
 
 -- a server, or a wrong line, is what a file gives: replies, or the number of that line
-abbrev pub AgreesWith : Result Serving WrongLine → Result Given ℕ → Type 0
+abbrev pub AgreesWith : Result Serving WrongReplies → Result Given ℕ → Type 0
 AgreesWith (Ok s) (Ok g) = Unit {0}
-AgreesWith (Err line) (Err k) = line.0 ≡ k
+AgreesWith (Err wrong) (Err k) = wrong.line.0 ≡ k
 AgreesWith _ _ = ⊥

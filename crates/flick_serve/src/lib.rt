@@ -7,4 +7,4 @@ mod serving;
 
 pub use given::WrongLine;
 pub use laws::{answers_are_determined, files_are_decided};
-pub use serving::Server;
+pub use serving::{Server, WrongReplies};

@@ -1,11 +1,12 @@
 //! A server.
 
-ghost use Rattle.std.specs.Prelude.{◌≡◌, ℕ, List, Result, IfOk, Ok};
+ghost use Rattle.std.specs.Prelude.{◌≡◌, ℕ, List, Result, IfErr, IfOk, OnOk, Ok};
 ghost use Rattle.hex.specs.Hex.{decode_of};
 ghost use Rattle.raw_buf.specs.Buf.{NoneFell};
 ghost use Rattle.skeleton.specs.Kept.{answer_at};
 ghost use Rattle.flick_serve.specs.Given.{Given, FileGives};
 ghost use Rattle.flick_serve.specs.Served.{AgreesWith, IsOfMessage, IsServed};
+ghost use Rattle.flick_serve.specs.Spent.{IsMessagePaid, IsServePaid};
 
 use crate::given::{WrongLine, replies_in};
 use flick_engine::{Engine, Served};
@@ -16,6 +17,15 @@ use raw_buf::{RecvView, SendBuf};
 use skeleton::{Kept, Replies};
 use std::alloc::Global;
 use std::marker::Model;
+
+/// The line of a file of replies that is wrong, and the engine that the file was read for.
+#[derive(Drop)]
+pub struct WrongReplies {
+    /// The first line that gives no reply.
+    pub line: WrongLine,
+    /// The engine.
+    pub engine: Engine,
+}
 
 /// An engine, and the replies that a file gives for its operations.
 #[derive(Drop)]
@@ -43,13 +53,14 @@ impl Model for Server {
 
 impl Server {
     /// A server with the replies that a text gives for the operations of an engine, or the first line
-    /// that is wrong.
+    /// that is wrong, with the engine.
     pub fn new(
         alloc: Global,
         engine: Engine,
         text: Octets,
-    ) -> Result<Result<Server, WrongLine>, NoMemory>
+    ) -> Result<Result<Server, WrongReplies>, NoMemory>
         ensures is { IfOk result (λ r. IfOk r (λ s. s ≡ record { coded = engine; text = text })) }
+        ensures engine { IfOk result (λ r. IfErr r (λ wrong. wrong.engine ≡ engine)) }
         ensures gives { IfOk result (λ r.
             (x : Result Given ℕ) × FileGives engine.binding text x × AgreesWith r x) }
     {
@@ -59,7 +70,7 @@ impl Server {
                 text,
                 replies,
             })),
-            Err(wrong) => Ok(Err(wrong)),
+            Err(line) => Ok(Err(WrongReplies { line, engine })),
         }
     }
 
@@ -80,6 +91,7 @@ impl Server {
     /// The answer of `serve` to a line, without its line feed. The reply is made in the buffer.
     pub fn answer(&self, alloc: Global, line: &[u8], buf: &mut SendBuf) -> Result<Octets, NoMemory>
         ensures value { IfOk result (λ o. IsServed self.now.coded.binding self.now.text line.now o) }
+        ensures paid { OnOk result (IsServePaid self.now line.now buf.old buf.new) }
         ensures spent { NoneFell buf.old.spent buf.new.spent }
     {
         let kept = Kept::new(self.engine.bound(), &self.replies);
@@ -105,6 +117,8 @@ fn of_line(
     requires { kept.now.binding ≡ engine.now.binding }
     ensures value { IfOk result (λ o.
         IsOfMessage engine.now.binding (answer_at kept.now) (decode_of line.now) o) }
+    ensures paid { OnOk result
+        (IsMessagePaid engine.now (answer_at kept.now) (decode_of line.now) buf.old buf.new) }
     ensures spent { NoneFell buf.old.spent buf.new.spent }
 {
     match digit_kit::decode(alloc, line) {
@@ -125,10 +139,13 @@ fn of_message(
     requires { kept.now.binding ≡ engine.now.binding }
     ensures value { IfOk result (λ o.
         IsOfMessage engine.now.binding (answer_at kept.now) (Ok message.now) o) }
+    ensures paid { OnOk result
+        (IsMessagePaid engine.now (answer_at kept.now) (Ok message.now) buf.old buf.new) }
     ensures spent { NoneFell buf.old.spent buf.new.spent }
 {
     let mut view = RecvView::new(message);
-    match engine.serve(alloc, kept, &mut view, buf)? {
+    let served = engine.serve(alloc, kept, &mut view, buf)?;
+    match served {
         Served::Reply => digits(alloc, buf.octets()),
         Served::Silent => copied(alloc, b"-"),
     }

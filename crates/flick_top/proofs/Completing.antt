@@ -1,11 +1,14 @@
--- Without faults and with little input the work is done, unless memory runs out.
-use Rattle.std.proofs.Common.{◌≡◌, inl, inr, ℕ, List, ◌++◌, length, refl, ap, subst, arith, lit≤, length-append}
-use Rattle.std.specs.Prelude.{Some, None}
+-- Without faults and with little input the work is done and all is written, unless memory runs out.
+use Rattle.std.proofs.Common.{◌≡◌, ◌⊎◌, inl, inr, ℕ, ◌≤◌, List, ◌++◌, length, refl, ap, subst, arith, lit≤, length-append}
+use Rattle.std.specs.Prelude.{Option, Some, None}
 use Rattle.std.specs.Io.KnownBytes.{Consumes}
 use Rattle.flick_top.specs.declared.status.Status.{Status}
 use Rattle.flick_top.specs.declared.status.Status.TheVariants as s
-use Rattle.flick_top.specs.Outside.{Input}
-use Rattle.flick_top.specs.Statement.{TakesMore, Completes}
+use Rattle.op_codes.specs.Stubs.{Coded}
+use Rattle.flick_top.specs.Laws.{WritesWhole, OutputsAreWhole}
+use Rattle.flick_top.specs.Outside.{Input, Held}
+use Rattle.flick_top.specs.Output.{Files}
+use Rattle.flick_top.specs.Statement.{TakesMore, Completes, Works}
 use Rattle.flick_top.specs.Status.{number_of}
 
 -- what was taken has one length
@@ -32,3 +35,34 @@ completes left left' A B C s.Length more source sink shelf = λ input reported t
     let (got, consumed, above) = more refl in
     let same = same_length left left' input taken got reported took consumed in
     absurd (omega (arith, same, above, few))
+
+-- ---- with the work that was done
+
+-- what was taken is no longer than the input
+no_more : (left left' : Input) (input taken : List ℕ) → left ≡ Some input → Consumes left left' taken → length taken ≤ length input
+no_more left None input taken reported a = absurd (subst (λ (o : Input). Consumes o None taken) reported a)
+no_more left (Some rest) input taken reported a =
+    let parts : input ≡ taken ++ rest = subst (λ (o : Input). Consumes o (Some rest) taken) reported a in
+    omega (arith, ap length parts, length-append taken rest)
+
+without_task : (status : ℕ) → (status ≡ 6) ⊎ (status ≡ 7) → (status ≤ 3) ⊎ (status ≡ 7) → status ≡ 7
+without_task status (inr seven) ended = seven
+without_task status (inl six) (inr seven) = seven
+without_task status (inl six) (inl few) = absurd (omega (arith, six, few))
+
+whole_work : (made : Option Coded) (words : List (List ℕ)) (files : Files) (left left' : Input) (held held' : Held)
+    (source source' status : ℕ) (input : List ℕ) → left ≡ Some input
+    → Works made words files left left' source source' held held' status → (status ≤ 3) ⊎ (status ≡ 7)
+    → (status ≡ 7) ⊎ WritesWhole made words files input held held' status
+whole_work made words files left left' held held' source source' status input reported (inl (ends, rest)) ended =
+    inl (without_task status ends ended)
+whole_work made words files left left' held held' source source' status input reported (inr done) (inr seven) = inl seven
+whole_work made words files left left' held held' source source' status input reported (inr (task, f, is, all, w)) (inl few) =
+    inr (task, f, is, all, w.output few input reported)
+
+pub all_whole : OutputsAreWhole
+all_whole made words files left left' held held' source source' sink sink' shelf shelf' status works (taken, took) completes input reported
+    within none =
+    whole_work made words files left left' held held' source source' status input reported works
+    (completes input reported taken took (omega (arith, no_more left left' input taken reported took, within))
+    none.source none.sink none.shelf)

@@ -1,4 +1,4 @@
--- A file says one thing; over a back end it comes to one saying, or to engines with the same codes that answer alike.
+-- A file says one thing; over a back end it comes to one saying, or to engines that answer alike, with the same codes where these are.
 use Rattle.std.proofs.Common.{◌≡◌, ℕ, List, length, Bool, true, false, Option, Some, None, Ok, Err, refl, sym, ◌∙◌, subst}
 use Rattle.std.specs.Prelude.{nat_le, MatchBool}
 use Rattle.kit_base.specs.Limits.{longest_file}
@@ -32,40 +32,42 @@ file_says k (Some text) r s p q = within_says k text r s (nat_le (length text) l
 
 -- ---- what is made of it
 
--- engines over bindings of one unit over one back end, with the same codes
-pub record AreAlike (d e : Coded) : Type 0 where
+-- engines over bindings of one unit over one back end, with the same codes where these are shown
+pub record AreAlike (Shown : Type 0) (d e : Coded) : Type 0 where
   pub twins : AreTwins d.binding e.binding
-  pub codes : d.stubs ≡ e.stubs
+  pub codes : Shown → d.stubs ≡ e.stubs
 
 -- one saying, or engines that answer alike
-abbrev pub AreReported : Reported → Reported → Type 0
-AreReported (Ok d) (Ok e) = AreAlike d e
-AreReported (Err e) (Err f) = e ≡ f
-AreReported _ _ = ⊥
-
-reported_by : (r s x y : Reported) → r ≡ x → s ≡ y → AreReported x y → AreReported r s
-reported_by r s x y p q h = subst (λ (z : Reported). AreReported z s) (sym p) (subst (λ (z : Reported). AreReported x z) (sym q) h)
+abbrev pub AreReported : Type 0 → Reported → Reported → Type 0
+AreReported Shown (Ok d) (Ok e) = AreAlike Shown d e
+AreReported Shown (Err e) (Err f) = e ≡ f
+AreReported Shown _ _ = ⊥
 
 pub twins : (k : Back) (u : PlainUnit) (b c : Binding) → IsOver u k b → IsOver u k c → AreTwins b c
 twins k u b c one other =
     record { units = one.unit ∙ sym other.unit; backs = one.back ∙ sym other.back; one = one.stands; other = other.stands }
 
-bind_says : (codes : List Stub) (k : Back) (u : PlainUnit) (e : Option BindErr) (r s : Reported)
-    → BindSays codes u k e r → BindSays codes u k e s → AreReported r s
-bind_says codes k u (Some e) r s p q = reported_by r s (Err (sayings.Bind e)) (Err (sayings.Bind e)) p q refl
-bind_says codes k u None (Ok c) (Ok d) p q =
-    record { twins = twins k u c.binding d.binding p.0 q.0; codes = p.1 ∙ sym q.1 }
-bind_says codes k u None (Ok c) (Err f) p q = absurd q
-bind_says codes k u None (Err e) s p q = absurd p
+module _ (Shown : Type 0) (codes others : List Stub) (same : Shown → codes ≡ others) where
+  reported_by : (r s x y : Reported) → r ≡ x → s ≡ y → AreReported Shown x y → AreReported Shown r s
+  reported_by r s x y p q h =
+      subst (λ (z : Reported). AreReported Shown z s) (sym p) (subst (λ (z : Reported). AreReported Shown x z) (sym q) h)
 
-bound_says : (codes : List Stub) (k : Back) (read : Read) (r s : Reported)
-    → BoundSays codes k read r → BoundSays codes k read s → AreReported r s
-bound_says codes k (Err e) r s p q = reported_by r s (Err e) (Err e) p q refl
-bound_says codes k (Ok u) r s p q = bind_says codes k u (bind_fault u k) r s p q
+  bind_says : (k : Back) (u : PlainUnit) (e : Option BindErr) (r s : Reported)
+      → BindSays codes u k e r → BindSays others u k e s → AreReported Shown r s
+  bind_says k u (Some e) r s p q = reported_by r s (Err (sayings.Bind e)) (Err (sayings.Bind e)) p q refl
+  bind_says k u None (Ok c) (Ok d) p q =
+      record { twins = twins k u c.binding d.binding p.0 q.0; codes = λ shown. p.1 ∙ same shown ∙ sym q.1 }
+  bind_says k u None (Ok c) (Err f) p q = absurd q
+  bind_says k u None (Err e) s p q = absurd p
 
--- what is made of one content, where an engine has these codes
-pub reported_alike : (codes : List Stub) (n : Named) (content : Option (List ℕ)) (r s : Reported)
-    → IsMadeOf codes n content r → IsMadeOf codes n content s → AreReported r s
-reported_alike codes n content r s (x, px, pr) (y, py, ps) =
-    let same : x ≡ y = file_says n.front content x y px py in
-    bound_says codes n.back y r s (subst (λ (z : Read). BoundSays codes n.back z r) same pr) ps
+  bound_says : (k : Back) (read : Read) (r s : Reported)
+      → BoundSays codes k read r → BoundSays others k read s → AreReported Shown r s
+  bound_says k (Err e) r s p q = reported_by r s (Err e) (Err e) p q refl
+  bound_says k (Ok u) r s p q = bind_says k u (bind_fault u k) r s p q
+
+  -- what is made of one content, where engines have these codes
+  pub reported_alike : (n : Named) (content : Option (List ℕ)) (r s : Reported)
+      → IsMadeOf codes n content r → IsMadeOf others n content s → AreReported Shown r s
+  reported_alike n content r s (x, px, pr) (y, py, ps) =
+      let one : x ≡ y = file_says n.front content x y px py in
+      bound_says n.back y r s (subst (λ (z : Read). BoundSays codes n.back z r) one pr) ps

@@ -1,6 +1,6 @@
 -- The proofs, each after those that it uses; * marks those that the proofs of functions use.
 
--- * Without faults and with little input the work is done, unless memory runs out
+-- * Without faults and with little input the work is done and all is written, unless memory runs out
 pub mod Completing
 -- * A line has one answer
 pub mod Determined
@@ -30,6 +30,8 @@ pub mod Outputs
 pub mod Stops
 -- * Answers and sayings are whole lines, answers by induction on the lines
 pub mod WholeLines
+-- * Which commands end as the reading of an input does
+pub mod Reading
 -- * What a task takes and writes: its text, and what is written of its lines after it
 pub mod Tasking
 -- * All words and files have a task

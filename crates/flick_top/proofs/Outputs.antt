@@ -8,8 +8,10 @@ use Rattle.kit_base.specs.Lines.{lines}
 use Rattle.op_codes.specs.declared.stub.Stub.{Stub}
 use Rattle.op_codes.specs.Stubs.{Coded}
 use Rattle.flick_lines.specs.declared.verb.Verb.{Verb}
+use Rattle.flick_lines.specs.declared.verb.Verb.TheVariants.{Count}
 use Rattle.flick_lines.specs.Verbs.{IsAnswerTo}
 use Rattle.flick_lines.proofs.Alike.{answer_over}
+use Rattle.flick_lines.proofs.Twins.{AreTwins}
 use Rattle.flick_serve.specs.Given.{Given}
 use Rattle.flick_serve.specs.Served.{IsServed}
 use Rattle.flick_serve.proofs.Alike.{file_over, served_over}
@@ -31,7 +33,8 @@ use Rattle.flick_top.specs.Answer.{Answering, IsAnswerOf, IsAnswer, IsAnswering,
 use Rattle.flick_top.specs.Command.{command_of, word_at}
 use Rattle.flick_top.specs.File.{Reported, longest_replies}
 use Rattle.flick_top.specs.Fronts.{Read}
-use Rattle.flick_top.specs.Output.{Files, saying_task, answering_task, writing_task, showing_task, text_before, shapeless_task, serving_task, ServesText, ServesFile, Acts, ActsOver, Comes, IsTask, AreAnswered, IsAnswered, Out, text_out, out_of}
+use Rattle.flick_top.specs.Laws.{IsOverCodes, ShowsCodes, OneOutput}
+use Rattle.flick_top.specs.Output.{Files, saying_task, refusing_task, answering_task, writing_task, showing_task, text_before, shapeless_task, serving_task, ServesText, ServesFile, Acts, ActsOver, Comes, AreAnswered, IsAnswered, Out, text_out, out_of}
 use Rattle.flick_top.proofs.Determined.{one_answer}
 use Rattle.flick_top.proofs.FilesSay.{AreAlike, AreReported, file_says, reported_alike}
 use Rattle.flick_top.proofs.TwinTexts.{before_alike, stubs_alike, made_alike}
@@ -40,8 +43,8 @@ use Rattle.flick_top.proofs.TwinTexts.{before_alike, stubs_alike, made_alike}
 
 -- one verb over engines that answer alike, or servers over such engines with one text
 abbrev AreJobs : Job → Job → Type 0
-AreJobs (jobs.Over v d) (jobs.Over w e) = (v ≡ w) × AreAlike d e
-AreJobs (jobs.Serve r) (jobs.Serve s) = AreAlike r.coded s.coded × (r.text ≡ s.text)
+AreJobs (jobs.Over v d) (jobs.Over w e) = (v ≡ w) × AreAlike (w ≡ Count) d e
+AreJobs (jobs.Serve r) (jobs.Serve s) = AreTwins r.coded.binding s.coded.binding × (r.text ≡ s.text)
 AreJobs _ _ = ⊥
 
 -- no lines, or those of jobs that answer alike
@@ -62,43 +65,55 @@ tasks_by t u x y p q h = subst (λ (z : Task). AreTasks z u) (sym p) (subst (λ 
 no_lines : (t u x : Task) → x.lines ≡ None → t ≡ x → u ≡ x → AreTasks t u
 no_lines t u x none p q = tasks_by t u x x p q (record { text = refl; status = refl; lines = rw none tt })
 
-given_alike : (d e : Coded) → AreAlike d e → (text : List ℕ) (x : Result Given ℕ) (t u : Task)
+-- a saying over any engines
+refused_alike : (saying : Saying) (d e : Coded) (t u : Task) → t ≡ refusing_task saying d → u ≡ refusing_task saying e → AreTasks t u
+refused_alike saying d e t u p q =
+    tasks_by t u (refusing_task saying d) (refusing_task saying e) p q (record { text = refl; status = refl; lines = tt })
+
+given_alike : (d e : Coded) → AreTwins d.binding e.binding → (text : List ℕ) (x : Result Given ℕ) (t u : Task)
     → t ≡ serving_task d text x → u ≡ serving_task e text x → AreTasks t u
 given_alike d e alike text (Ok g) t u p q =
     tasks_by t u (serving_task d text (Ok g)) (serving_task e text (Ok g)) p q
     (record { text = refl; status = refl; lines = (alike, refl) })
-given_alike d e alike text (Err line) t u p q = no_lines t u (saying_task (sayings.WrongReply line)) refl p q
+given_alike d e alike text (Err line) t u p q = refused_alike (sayings.WrongReply line) d e t u p q
 
-serves_text : (d e : Coded) → AreAlike d e → (text : List ℕ) (t u : Task) → ServesText d text t → ServesText e text u → AreTasks t u
+serves_text : (d e : Coded) → AreTwins d.binding e.binding → (text : List ℕ) (t u : Task) → ServesText d text t → ServesText e text u → AreTasks t u
 serves_text d e alike text t u (x, gives, p) (y, also, q) =
-    let same : x ≡ y = given_once e.binding text x y (file_over d.binding e.binding alike.twins text x gives) also in
+    let same : x ≡ y = given_once e.binding text x y (file_over d.binding e.binding alike text x gives) also in
     given_alike d e alike text y t u (p ∙ ap (λ (z : Result Given ℕ). serving_task d text z) same) q
 
-within_serves : (d e : Coded) → AreAlike d e → (text : List ℕ) (t u : Task) (b : Bool)
-    → MatchBool b (ServesText d text t) (t ≡ saying_task sayings.LargeReplies)
-    → MatchBool b (ServesText e text u) (u ≡ saying_task sayings.LargeReplies) → AreTasks t u
+within_serves : (d e : Coded) → AreTwins d.binding e.binding → (text : List ℕ) (t u : Task) (b : Bool)
+    → MatchBool b (ServesText d text t) (t ≡ refusing_task sayings.LargeReplies d)
+    → MatchBool b (ServesText e text u) (u ≡ refusing_task sayings.LargeReplies e) → AreTasks t u
 within_serves d e alike text t u true p q = serves_text d e alike text t u p q
-within_serves d e alike text t u false p q = no_lines t u (saying_task sayings.LargeReplies) refl p q
+within_serves d e alike text t u false p q = refused_alike sayings.LargeReplies d e t u p q
 
-serves_file : (d e : Coded) → AreAlike d e → (content : Option (List ℕ)) (t u : Task)
+serves_file : (d e : Coded) → AreTwins d.binding e.binding → (content : Option (List ℕ)) (t u : Task)
     → ServesFile d content t → ServesFile e content u → AreTasks t u
-serves_file d e alike None t u p q = no_lines t u (saying_task sayings.NoReplies) refl p q
+serves_file d e alike None t u p q = refused_alike sayings.NoReplies d e t u p q
 serves_file d e alike (Some text) t u p q = within_serves d e alike text t u (nat_le (length text) longest_replies) p q
 
-acts_alike : (a : Action) (d e : Coded) → AreAlike d e → (content : Option (List ℕ)) (t u : Task)
+-- where an action shows the codes, a verb that is `count` does
+verb_alike : (v : Verb) (d e : Coded) → AreAlike (IsOverCodes (actions.Answer v)) d e → AreAlike (v ≡ Count) d e
+verb_alike v d e alike = record {
+  twins = alike.twins;
+  codes = λ is. alike.codes (subst (λ (w : Verb). IsOverCodes (actions.Answer w)) (sym is) tt);
+}
+
+acts_alike : (a : Action) (d e : Coded) → AreAlike (IsOverCodes a) d e → (content : Option (List ℕ)) (t u : Task)
     → Acts a d content t → Acts a e content u → AreTasks t u
-acts_alike actions.Serve d e alike content t u p q = serves_file d e alike content t u p q
+acts_alike actions.Serve d e alike content t u p q = serves_file d e alike.twins content t u p q
 acts_alike (actions.Answer v) d e alike content t u p q =
     tasks_by t u (answering_task (text_before v d) (jobs.Over v d)) (answering_task (text_before v e) (jobs.Over v e)) p q
-    (record { text = before_alike v d e alike; status = refl; lines = (refl, alike) })
+    (record { text = before_alike v d e (verb_alike v d e alike); status = refl; lines = (refl, verb_alike v d e alike) })
 acts_alike actions.Stubs d e alike content t u p q =
     tasks_by t u (writing_task (stubs_text d) (Some d)) (writing_task (stubs_text e) (Some e)) p q
-    (record { text = stubs_alike d e alike; status = refl; lines = tt })
+    (record { text = stubs_alike d e alike.twins (alike.codes tt); status = refl; lines = tt })
 acts_alike (actions.Make number many) d e alike content t u p q =
     tasks_by t u (writing_task (make_text d.binding number many) (Some d)) (writing_task (make_text e.binding number many) (Some e)) p q
     (record { text = made_alike d.binding e.binding alike.twins number many; status = refl; lines = tt })
 
-over_reported : (a : Action) (r s : Reported) → AreReported r s → (content : Option (List ℕ)) (t u : Task)
+over_reported : (a : Action) (r s : Reported) → AreReported (IsOverCodes a) r s → (content : Option (List ℕ)) (t u : Task)
     → ActsOver a r content t → ActsOver a s content u → AreTasks t u
 over_reported a (Ok d) (Ok e) same content t u p q = acts_alike a d e same content t u p q
 over_reported a (Ok d) (Err f) same content t u p q = absurd same
@@ -109,25 +124,24 @@ shown_alike : (r : Read) (t u : Task) → t ≡ showing_task r → u ≡ showing
 shown_alike (Ok v) t u p q = no_lines t u (writing_task (show_text v) None) refl p q
 shown_alike (Err saying) t u p q = no_lines t u (saying_task saying) refl p q
 
-over_files : (codes : List Stub) (command : Option Command) (words : List (List ℕ)) (files : Files) (t u : Task)
-    → Comes codes command words files t → Comes codes command words files u
-    → AreTasks t u
-over_files codes None words files t u p q = no_lines t u shapeless_task refl p q
-over_files codes (Some commands.Help) words files t u p q = no_lines t u (saying_task sayings.Help) refl p q
-over_files codes (Some commands.Version) words files t u p q = no_lines t u (saying_task sayings.Version) refl p q
-over_files codes (Some (commands.Show front)) words files t u (r, says, p) (s, also, q) =
+over_files : (codes others : List Stub) (command : Option Command) (words : List (List ℕ)) (files : Files) (t u : Task)
+    → (ShowsCodes command → codes ≡ others) → Comes codes command words files t → Comes others command words files u → AreTasks t u
+over_files codes others None words files t u shown p q = no_lines t u shapeless_task refl p q
+over_files codes others (Some commands.Help) words files t u shown p q = no_lines t u (saying_task sayings.Help) refl p q
+over_files codes others (Some commands.Version) words files t u shown p q = no_lines t u (saying_task sayings.Version) refl p q
+over_files codes others (Some (commands.Show front)) words files t u shown (r, says, p) (s, also, q) =
     let same : r ≡ s = file_says front (files (word_at words 2)) r s says also in
     shown_alike s t u (p ∙ ap (λ (x : Read). showing_task x) same) q
-over_files codes (Some (commands.Over a n)) words files t u (r, mr, p) (s, ms, q) =
-    over_reported a r s (reported_alike codes n (files (word_at words n.file)) r s mr ms) (files (word_at words 4)) t u p q
+over_files codes others (Some (commands.Over a n)) words files t u shown (r, mr, p) (s, ms, q) =
+    over_reported a r s (reported_alike (IsOverCodes a) codes others shown n (files (word_at words n.file)) r s mr ms) (files (word_at words 4)) t u p q
 
 -- ---- what is written
 
 text_over : (j k : Job) → AreJobs j k → (octets a : List ℕ) → IsAnswerOf j octets a → IsAnswerOf k octets a
 text_over (jobs.Over v d) (jobs.Over w e) (same, alike) octets a is =
-    answer_over w d e alike.twins (λ count. alike.codes) octets a (subst (λ (z : Verb). IsAnswerTo z d octets a) same is)
+    answer_over w d e alike.twins (λ count. alike.codes count) octets a (subst (λ (z : Verb). IsAnswerTo z d octets a) same is)
 text_over (jobs.Serve r) (jobs.Serve s) (alike, same) octets a is =
-    served_over r.coded.binding s.coded.binding alike.twins s.text octets a
+    served_over r.coded.binding s.coded.binding alike s.text octets a
     (subst (λ (text : List ℕ). IsServed r.coded.binding text octets a) same is)
 text_over (jobs.Over v d) (jobs.Serve s) h octets a is = absurd h
 text_over (jobs.Serve r) (jobs.Over w e) h octets a is = absurd h
@@ -172,8 +186,6 @@ tasks_output t u f g same h i input =
     ∙ ap (λ (x : Status). text_out u.text x t.lines f input) same.status
     ∙ lines_output t.lines u.lines u.text u.status f g same.lines h i input
 
-pub one_output : (codes : List Stub) (words : List (List ℕ)) (files : Files) (t u : Task) (f g : Answering)
-    → IsTask codes words files t → IsTask codes words files u → IsAnswered t f → IsAnswered u g
-    → (input : List ℕ) → out_of t f input ≡ out_of u g input
-one_output codes words files t u f g p q h i input =
-    tasks_output t u f g (over_files codes (command_of words) words files t u p q) h i input
+pub one_output : OneOutput
+one_output codes others words files t u f g shown p q h i input =
+    tasks_output t u f g (over_files codes others (command_of words) words files t u shown p q) h i input

@@ -1,5 +1,5 @@
 -- What becomes of the buffer over the lines that were answered is what becomes of it over the input's.
-use Rattle.std.proofs.Common.{◌≡◌, ◌≤◌, ℕ, true, List, [], ◌++◌, Option, Some, None, Ok, sym, ap, ◌∙◌, subst, append-nil}
+use Rattle.std.proofs.Common.{◌≡◌, ◌≤◌, ℕ, true, List, [], ◌++◌, Option, Some, None, Ok, refl, sym, ap, ◌∙◌, subst, append-nil}
 use Rattle.kit_base.specs.declared.lines.Line.{Line}
 use Rattle.kit_base.specs.declared.lines.Line.TheVariants.{End}
 use Rattle.kit_base.specs.Lines.{State, Advances, KnowsEnd, answered, pending, lines}
@@ -43,7 +43,11 @@ pub passes-of : (lines : Option Job) (job : Job) (left : Input) (old new : Buf) 
     → PassesOf (Some job) left old new n → PassesOf lines left old new n
 passes-of lines job left old new n is h = subst (λ (l : Option Job). PassesOf l left old new n) (sym is) h
 
+-- where no lines are answered nothing becomes of it
+pub passes-none : (lines : Option Job) (left : Input) (buf : Buf) (n : ℕ) → lines ≡ None → PassesOf lines left buf buf n
+passes-none lines left buf n is = subst (λ (l : Option Job). PassesOf l left buf buf n) (sym is) (λ few. refl)
+
 -- where the status is another nothing is said
 pub passes-other : (lines : Option Job) (left : Input) (old new : Buf) (n : ℕ) → (n ≤ 1 → ⊥) → PassesOf lines left old new n
-passes-other None left old new n other = tt
+passes-other None left old new n other = λ few. absurd (other few)
 passes-other (Some job) left old new n other = λ few input reported. absurd (other few)

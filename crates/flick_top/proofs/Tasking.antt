@@ -12,7 +12,7 @@ use Rattle.flick_top.specs.declared.status.Status.TheVariants.{Done, File}
 use Rattle.flick_top.specs.declared.job.Job.{Job}
 use Rattle.flick_top.specs.declared.task.Task.{Task}
 use Rattle.flick_top.specs.Answer.{Answering, IsAnswering}
-use Rattle.flick_top.specs.Output.{Files, Out, saying_task, shapeless_task, Comes, IsTask, AreAnswered, text_out, answers_out, out_of}
+use Rattle.flick_top.specs.Output.{Files, Out, saying_task, refusing_task, shapeless_task, Comes, IsTask, AreAnswered, text_out, answers_out, out_of}
 use Rattle.flick_top.specs.Made.{codes_of, engine_of, LeavesEngine}
 use Rattle.flick_top.specs.Saying.{ending}
 use Rattle.flick_top.specs.Command.{command_of}
@@ -39,6 +39,10 @@ ends (sayings.WrongReply line) = inr refl
 -- to say something is a task that is ready
 pub saying-ready : (saying : Saying) (task : Task) → task ≡ saying_task saying → IsReady task
 saying-ready saying task is = subst IsReady (sym is) (record { ends = ends saying; whole = said-whole saying })
+
+-- the same over an engine
+pub refusing-ready : (saying : Saying) (e : Coded) (task : Task) → task ≡ refusing_task saying e → IsReady task
+refusing-ready saying e task is = subst IsReady (sym is) (record { ends = ends saying; whole = said-whole saying })
 
 -- ---- a text, and the answers after it
 

@@ -24,7 +24,7 @@ use Rattle.flick_top.specs.Command.{command_of, word_at}
 use Rattle.flick_top.specs.File.{Reported, BindSays, BoundSays, FileSays, longest_replies}
 use Rattle.flick_top.specs.Fronts.{Read, UnitOf}
 use Rattle.flick_top.specs.Laws.{WordsHaveTasks}
-use Rattle.flick_top.specs.Output.{Files, saying_task, answering_task, writing_task, showing_task, text_before, shapeless_task, serving_task, ServesText, ServesFile, Acts, ActsOver, Comes}
+use Rattle.flick_top.specs.Output.{Files, saying_task, refusing_task, answering_task, writing_task, showing_task, text_before, shapeless_task, serving_task, ServesText, ServesFile, Acts, ActsOver, Comes}
 use Rattle.flick_top.proofs.UnitsOfFronts.{IsSoundRead, unit_has}
 
 -- ---- over a back end
@@ -54,12 +54,12 @@ file_has k (Some text) = within_has k text (nat_le (length text) longest_file) r
 -- ---- words
 
 within_serves : (e : Coded) (text : List ℕ) (b : Bool)
-    → (task : Task) × MatchBool b (ServesText e text task) (task ≡ saying_task sayings.LargeReplies)
+    → (task : Task) × MatchBool b (ServesText e text task) (task ≡ refusing_task sayings.LargeReplies e)
 within_serves e text true = let (x, gives) = given_somehow e.binding text in (serving_task e text x, (x, gives, refl))
-within_serves e text false = (saying_task sayings.LargeReplies, refl)
+within_serves e text false = (refusing_task sayings.LargeReplies e, refl)
 
 serves_has : (e : Coded) (content : Option (List ℕ)) → (task : Task) × ServesFile e content task
-serves_has e None = (saying_task sayings.NoReplies, refl)
+serves_has e None = (refusing_task sayings.NoReplies e, refl)
 serves_has e (Some text) = within_serves e text (nat_le (length text) longest_replies)
 
 action_has : (a : Action) (e : Coded) (content : Option (List ℕ)) → (task : Task) × Acts a e content task

@@ -45,17 +45,19 @@ texts_alike text is js fs gs (o ∷ os) (p ∷ ps) (s ∷ ss) names e =
 abbrev texts_in : (List ℕ → Stub → List ℕ) → Coded → List Stub → List ℕ
 texts_in text c ss = texts_of text c.binding.unit.interfaces c.binding.ops ss
 
-all_texts : (text : List ℕ → Stub → List ℕ) (d e : Coded) → AreAlike d e → texts_in text d d.stubs ≡ texts_in text e e.stubs
-all_texts text d e alike =
+all_texts : (text : List ℕ → Stub → List ℕ) (d e : Coded) → AreTwins d.binding e.binding → d.stubs ≡ e.stubs
+    → texts_in text d d.stubs ≡ texts_in text e e.stubs
+all_texts text d e twins codes_are =
     texts_alike text d.binding.unit.interfaces e.binding.unit.interfaces (faces_in d.binding) (faces_in e.binding)
-    d.binding.ops e.binding.ops d.stubs (names_alike d.binding e.binding alike.twins) (ops_alike d.binding e.binding alike.twins)
-    ∙ ap (λ (ss : List Stub). texts_in text e ss) alike.codes
+    d.binding.ops e.binding.ops d.stubs (names_alike d.binding e.binding twins) (ops_alike d.binding e.binding twins)
+    ∙ ap (λ (ss : List Stub). texts_in text e ss) codes_are
 
-pub stubs_alike : (d e : Coded) → AreAlike d e → stubs_text d ≡ stubs_text e
-stubs_alike d e alike = all_texts both_texts d e alike
+pub stubs_alike : (d e : Coded) → AreTwins d.binding e.binding → d.stubs ≡ e.stubs → stubs_text d ≡ stubs_text e
+stubs_alike d e twins codes_are = all_texts both_texts d e twins codes_are
 
-pub before_alike : (v : Verb) (d e : Coded) → AreAlike d e → text_before v d ≡ text_before v e
-before_alike verbs.Count d e alike = ap (λ (t : List ℕ). t ++ codes "--\n") (all_texts sent_text d e alike)
+pub before_alike : (v : Verb) (d e : Coded) → AreAlike (v ≡ verbs.Count) d e → text_before v d ≡ text_before v e
+before_alike verbs.Count d e alike =
+    ap (λ (t : List ℕ). t ++ codes "--\n") (all_texts sent_text d e alike.twins (alike.codes refl))
 before_alike verbs.Marshal d e alike = refl
 before_alike verbs.Unmarshal d e alike = refl
 before_alike verbs.Reply d e alike = refl

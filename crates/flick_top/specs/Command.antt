@@ -71,6 +71,17 @@ command_of (word ∷ front ∷ back ∷ file ∷ more) = over_file (action_of wo
 abbrev pub word_at : List (List ℕ) → ℕ → List ℕ
 word_at words place = unwrap_or (slice_get words place) []
 
+-- an action that answers the lines of the input
+abbrev pub IsOverLines : Action → Type 0
+IsOverLines (Answer verb) = Unit {0}
+IsOverLines Serve = Unit {0}
+IsOverLines _ = ⊥
+
+-- a command that answers the lines of its input
+abbrev pub AnswersLines : Option Command → Type 0
+AnswersLines (Some (Over action n)) = IsOverLines action
+AnswersLines _ = ⊥
+
 -- a command over files
 abbrev pub ReadsFiles : Option Command → Type 0
 ReadsFiles (Some (Show front)) = Unit {0}

@@ -1,16 +1,62 @@
 -- Laws of what is written.
-use Rattle.std.specs.Prelude.{◌≡◌, ℕ, List}
+use Rattle.std.specs.Prelude.{◌≡◌, ◌⊎◌, ℕ, ◌≤◌, List, length, Option, Some}
+use Rattle.std.specs.Io.KnownBytes.{Appends}
+use Rattle.kit_base.specs.Causes.{Rose}
+use Rattle.kit_base.specs.Limits.{most_input}
 use Rattle.op_codes.specs.declared.stub.Stub.{Stub}
+use Rattle.op_codes.specs.Stubs.{Coded}
+use Rattle.flick_lines.specs.declared.verb.Verb.TheVariants.{Count}
+use Rattle.flick_top.specs.declared.command.Action.{Action}
+use Rattle.flick_top.specs.declared.command.Action.TheVariants.{Answer, Stubs}
+use Rattle.flick_top.specs.declared.command.Command.{Command}
+use Rattle.flick_top.specs.declared.command.Command.TheVariants.{Over}
 use Rattle.flick_top.specs.declared.task.Task.{Task}
 use Rattle.flick_top.specs.Answer.{Answering}
-use Rattle.flick_top.specs.Output.{Files, IsTask, IsAnswered, out_of}
+use Rattle.flick_top.specs.Command.{command_of}
+use Rattle.flick_top.specs.Made.{codes_of}
+use Rattle.flick_top.specs.Outside.{Input, Held, TakesPrefix}
+use Rattle.flick_top.specs.Output.{Files, IsTask, IsAnswered, out_of, Does}
+use Rattle.flick_top.specs.Statement.{Works, Completes}
 
--- the words have one output over the files, whatever codes an engine has
+-- an action that shows the codes of the engine: `stubs` writes them, and `count` what they cost
+abbrev pub IsOverCodes : Action → Type 0
+IsOverCodes Stubs = Unit {0}
+IsOverCodes (Answer Count) = Unit {0}
+IsOverCodes _ = ⊥
+
+-- the same of a command
+abbrev pub ShowsCodes : Option Command → Type 0
+ShowsCodes (Some (Over action n)) = IsOverCodes action
+ShowsCodes _ = ⊥
+
+-- the words have one output over the files, whatever codes engines have; with the same codes, where the command shows them
 abbrev pub OneOutput : Type 0
-OneOutput = (codes : List Stub) (words : List (List ℕ)) (files : Files) (t u : Task) (f g : Answering)
-    → IsTask codes words files t → IsTask codes words files u → IsAnswered t f → IsAnswered u g
+OneOutput = (codes others : List Stub) (words : List (List ℕ)) (files : Files) (t u : Task) (f g : Answering)
+    → (ShowsCodes (command_of words) → codes ≡ others)
+    → IsTask codes words files t → IsTask others words files u → IsAnswered t f → IsAnswered u g
     → (input : List ℕ) → out_of t f input ≡ out_of u g input
 
 -- all words and files have a task, whatever codes an engine has
 abbrev pub WordsHaveTasks : Type 0
 WordsHaveTasks = (codes : List Stub) (words : List (List ℕ)) (files : Files) → (task : Task) × IsTask codes words files task
+
+-- the whole output of the words was written, and the status is that of it
+abbrev pub WritesWhole : Option Coded → List (List ℕ) → Files → List ℕ → Held → Held → ℕ → Type 0
+WritesWhole made words files input held held' status = Does (codes_of made) words files
+    (λ task f. (status ≡ (out_of task f input).status) × Appends held held' (out_of task f input).octets)
+
+-- no count of faults of the source, the sink and the shelf rose
+pub record NoneRose (source source' sink sink' shelf shelf' : ℕ) : Type 0 where
+  pub source : Rose source source' → ⊥
+  pub sink : Rose sink sink' → ⊥
+  pub shelf : Rose shelf shelf' → ⊥
+
+-- where the source says its octets, which are at most the greatest input, and no count of faults rose, the clauses of `flick` come to this:
+-- the whole output was written, or memory ran out
+abbrev pub OutputsAreWhole : Type 0
+OutputsAreWhole = (made : Option Coded) (words : List (List ℕ)) (files : Files) (left left' : Input) (held held' : Held)
+    (source source' sink sink' shelf shelf' status : ℕ)
+    → Works made words files left left' source source' held held' status → TakesPrefix left left'
+    → Completes left left' (Rose source source') (Rose sink sink') (Rose shelf shelf') status
+    → (input : List ℕ) → left ≡ Some input → length input ≤ most_input → NoneRose source source' sink sink' shelf shelf'
+    → (status ≡ 7) ⊎ WritesWhole made words files input held held' status

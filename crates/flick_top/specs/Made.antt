@@ -1,21 +1,17 @@
 -- The engine that is left after a command.
-use Rattle.std.specs.Prelude.{◌≡◌, ◌⊎◌, ℕ, ◌≤◌, List, [], length, Option, Some, None, Ok, IsSomeAnd}
+use Rattle.std.specs.Prelude.{◌≡◌, ℕ, List, [], Option, Some, None, Ok, IsSomeAnd}
 use Rattle.wire_def.specs.declared.encoding.Back.{Back}
 use Rattle.aoi.specs.Plain.{PlainUnit}
-use Rattle.pres.specs.Bindings.{Binding}
 use Rattle.pres.specs.Faults.{bind_fault}
 use Rattle.op_codes.specs.declared.stub.Stub.{Stub}
 use Rattle.op_codes.specs.Stubs.{Coded, IsCoded}
-use Rattle.flick_serve.specs.Given.{Given, FileGives}
-use Rattle.flick_top.specs.declared.command.Action.{Action}
-use Rattle.flick_top.specs.declared.command.Action.TheVariants.{Serve}
 use Rattle.flick_top.specs.declared.command.Command.{Command}
 use Rattle.flick_top.specs.declared.command.Command.TheVariants.{Over}
 use Rattle.flick_top.specs.declared.job.Job.{Job}
 use Rattle.flick_top.specs.declared.job.Job.TheVariants as jobs
 use Rattle.flick_top.specs.declared.task.Task.{Task}
 use Rattle.flick_top.specs.Command.{word_at}
-use Rattle.flick_top.specs.File.{Reported, FileSays, IsOver, codes_in, longest_replies}
+use Rattle.flick_top.specs.File.{Reported, FileSays, IsOver, codes_in}
 use Rattle.flick_top.specs.Output.{Files}
 
 -- the engine of a job
@@ -37,32 +33,17 @@ abbrev pub codes_of : Option Coded → List Stub
 codes_of None = []
 codes_of (Some e) = e.stubs
 
--- the engine of a task has the codes of what was made, if it has one
+-- the engine of a task has the codes of what was made
 abbrev pub HasCodes : Reported → Task → Type 0
-HasCodes reported task = (engine_of task ≡ None) ⊎ (codes_of (engine_of task) ≡ codes_in reported)
+HasCodes reported task = codes_of (engine_of task) ≡ codes_in reported
 
 -- an engine of a unit over a back end, each of whose codes is that of its operation
 abbrev pub IsEngineOver : PlainUnit → Back → Coded → Type 0
 IsEngineOver u k e = IsOver u k e.binding × IsCoded e
 
--- a file gives replies, over a binding of a unit and a back end
-pub record HasReplies (u : PlainUnit) (k : Back) (content : Option (List ℕ)) : Type 0 where
-  pub binding : Binding
-  pub over : IsOver u k binding
-  pub text : List ℕ
-  pub content_is : content ≡ Some text
-  pub fits : length text ≤ longest_replies
-  pub replies : Given
-  pub gives : FileGives binding text (Ok replies)
-
--- an action has the second file that it needs: `serve` one that gives replies
-abbrev pub HasFiles : Action → PlainUnit → Back → Option (List ℕ) → Type 0
-HasFiles Serve u k content = HasReplies u k content
-HasFiles _ u k content = Unit {0}
-
--- where a command over a back end has a file that is bound, and the second file that it needs, this is an engine of the file's unit
+-- where a command over a back end has a file that is bound, this is an engine of the file's unit
 abbrev pub LeavesEngine : Option Coded → Option Command → List (List ℕ) → Files → Type 0
 LeavesEngine made (Some (Over action n)) words files =
     (u : PlainUnit) → FileSays n.front (files (word_at words n.file)) (Ok u) → bind_fault u n.back ≡ None
-    → HasFiles action u n.back (files (word_at words 4)) → IsSomeAnd made (IsEngineOver u n.back)
+    → IsSomeAnd made (IsEngineOver u n.back)
 LeavesEngine made _ words files = Unit {0}

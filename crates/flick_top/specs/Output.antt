@@ -49,6 +49,10 @@ answering_task text job = record { text = text; status = Done; lines = Some job;
 abbrev pub writing_task : List ℕ → Option Coded → Task
 writing_task text idle = record { text = text; status = Done; lines = None; idle = idle }
 
+-- to say this, and no more, over an engine
+abbrev pub refusing_task : Saying → Coded → Task
+refusing_task saying e = record { text = said saying; status = ending saying; lines = None; idle = Some e }
+
 -- what words come to that name no command
 abbrev pub shapeless_task : Task
 shapeless_task = record { text = []; status = Usage; lines = None; idle = None }
@@ -61,7 +65,7 @@ text_before _ e = []
 -- to serve by the replies that a file gives, or to say which of its lines is wrong
 abbrev pub serving_task : Coded → List ℕ → Result Given ℕ → Task
 serving_task e text (Ok g) = answering_task [] (jobs.Serve (record { coded = e; text = text }))
-serving_task e text (Err line) = saying_task (sayings.WrongReply line)
+serving_task e text (Err line) = refusing_task (sayings.WrongReply line) e
 
 -- what `serve` comes to over an engine and the text of a file of replies
 abbrev pub ServesText : Coded → List ℕ → Task → Type 0
@@ -69,9 +73,9 @@ ServesText e text task = (x : Result Given ℕ) × FileGives e.binding text x ×
 
 -- the same over the content of the file, where there is the file
 abbrev pub ServesFile : Coded → Option (List ℕ) → Task → Type 0
-ServesFile e None task = task ≡ saying_task sayings.NoReplies
+ServesFile e None task = task ≡ refusing_task sayings.NoReplies e
 ServesFile e (Some text) task =
-    MatchBool (nat_le (length text) longest_replies) (ServesText e text task) (task ≡ saying_task sayings.LargeReplies)
+    MatchBool (nat_le (length text) longest_replies) (ServesText e text task) (task ≡ refusing_task sayings.LargeReplies e)
 
 -- what an action comes to over an engine, and over the content of a second file
 abbrev pub Acts : Action → Coded → Option (List ℕ) → Task → Type 0

@@ -6,14 +6,15 @@ use Rattle.kit_base.specs.declared.lines.Line.TheVariants.{Text, Long, End}
 use Rattle.kit_base.specs.Lines.{lines}
 use Rattle.raw_buf.specs.Buf.{Buf, NoneFell}
 use Rattle.flick_lines.specs.Paid.{IsPaid}
+use Rattle.flick_serve.specs.Spent.{IsServePaid}
 use Rattle.flick_top.specs.declared.job.Job.{Job}
 use Rattle.flick_top.specs.declared.job.Job.TheVariants.{Over, Serve}
 use Rattle.flick_top.specs.Outside.{Input}
 
--- where the octets of a line are answered: by a verb, as it says
+-- where the octets of a line are answered: by a verb, or by the replies of a server
 abbrev pub PassesText : Job → List ℕ → Buf → Buf → Type 0
 PassesText (Over verb e) octets old new = IsPaid verb e octets old new
-PassesText (Serve s) octets old new = Unit {0}
+PassesText (Serve s) octets old new = IsServePaid s octets old new
 
 -- where a line is answered: nothing where it is too long
 abbrev pub PassesLine : Job → Line → Buf → Buf → Type 0
@@ -36,7 +37,7 @@ abbrev pub PassesInput : Job → Input → Buf → Buf → ℕ → Type 0
 PassesInput job left old new status =
     status ≤ 1 → (input : List ℕ) → left ≡ Some input → Passes job (lines longest_line input) old new
 
--- the same, where lines are answered
+-- the same, where lines are answered; else nothing became of it
 abbrev pub PassesOf : Option Job → Input → Buf → Buf → ℕ → Type 0
-PassesOf None left old new status = Unit {0}
+PassesOf None left old new status = status ≤ 1 → new ≡ old
 PassesOf (Some job) left old new status = PassesInput job left old new status

@@ -7,7 +7,7 @@ use Rattle.op_codes.specs.Stubs.{Coded}
 use Rattle.kit_texts.specs.WholeLines.{AreWholeLines}
 use Rattle.flick_top.specs.declared.task.Task.{Task}
 use Rattle.flick_top.specs.Answer.{Answering}
-use Rattle.flick_top.specs.Command.{command_of, ReadsFiles}
+use Rattle.flick_top.specs.Command.{command_of, AnswersLines, ReadsFiles}
 use Rattle.flick_top.specs.Made.{codes_of, LeavesEngine}
 use Rattle.flick_top.specs.Output.{Files, Out, out_of, Does, LeavesInput, EndsInput}
 use Rattle.flick_top.specs.Outside.{Input, Held, ended_part, Fails}
@@ -56,6 +56,10 @@ LeavesNone made status = (status ≡ 2) ⊎ (status ≡ 6) → made ≡ None
 -- status 6 comes only where the words name a file
 abbrev pub NeedsFile : List (List ℕ) → ℕ → Type 0
 NeedsFile words status = status ≡ 6 → ReadsFiles (command_of words)
+
+-- a status comes only where the words name a command that answers the lines of its input
+abbrev pub NeedsLines : ℕ → List (List ℕ) → ℕ → Type 0
+NeedsLines of words status = status ≡ of → AnswersLines (command_of words)
 
 -- with status 2 and 6 nothing was appended
 abbrev pub WritesNothing : Held → Held → ℕ → Type 0

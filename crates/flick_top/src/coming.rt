@@ -1,13 +1,14 @@
 //! What a command comes to, once its words and its files are read.
 
-ghost use Rattle.std.specs.Prelude.{◌≡◌, ◌≢◌, ◌≤◌, Some, None, IfOk, IfErr};
+ghost use Rattle.std.specs.Prelude.{◌≡◌, ◌≢◌, ◌≤◌, Some, None, IfOk, IfErr, IfSome};
 ghost use Rattle.kit_base.specs.Causes.{Rose};
 ghost use Rattle.raw_buf.specs.Buf.{NoneFell};
 ghost use Rattle.kit_texts.specs.WholeLines.{AreWholeLines};
-ghost use Rattle.flick_top.specs.Command.{ReadsFiles, word_at};
+ghost use Rattle.flick_top.specs.Command.{AnswersLines, IsOverLines, ReadsFiles, word_at};
 ghost use Rattle.flick_top.specs.File.{FileSays, IsSoundly, codes_in, plainly};
 ghost use Rattle.flick_top.specs.Made.{HasCodes, codes_of, engine_of};
 ghost use Rattle.flick_top.specs.Output.{Files, Acts, ActsOver, Comes, IsMadeOf, ServesFile, ServesText, answering_task, showing_task, text_before};
+ghost use Rattle.flick_top.specs.Spending.{ActsBefore, SpendsBefore};
 ghost use Rattle.flick_top.specs.Turn.{IsReady};
 
 use crate::command::{Action, Command, Named, word_at};
@@ -18,7 +19,7 @@ use crate::task::Task;
 use aoi::Unit;
 use flick_engine::Engine;
 use flick_lines::Verb;
-use flick_serve::{Server, WrongLine};
+use flick_serve::{Server, WrongReplies};
 use idl_lex::Front;
 use kit_base::limits::LONGEST_FILE;
 use kit_base::{NoMemory, Octets, Shelf, ShelfErr, Words};
@@ -67,6 +68,7 @@ pub fn task_of<F: Shelf>(
     ensures task { IfOk result (λ task. (files : Files) → F.files shelf.old ≡ Some files
         → Comes (codes_of (engine_of task)) (Some command) words.now files task) }
     ensures ready { IfOk result IsReady }
+    ensures lines { IfOk result (λ task. IfSome task.lines (λ job. AnswersLines (Some command))) }
     // Whether the shelf failed.
     ensures files { F.files shelf.new ≡ F.files shelf.old }
     ensures later { F.faults shelf.old ≤ F.faults shelf.new }
@@ -74,7 +76,7 @@ pub fn task_of<F: Shelf>(
     ensures file { IfErr result (λ e. e ≡ TaskErr.Shelf → ReadsFiles (Some command)) }
     ensures stands { result ≢ Err TaskErr.Shelf → F.faults shelf.old ≡ F.faults shelf.new }
     // What becomes of the buffer.
-    ensures buffer { IfOk result (λ task. task.lines ≢ None → buf.new ≡ buf.old) }
+    ensures buffer { IfOk result (λ task. SpendsBefore (Some command) (engine_of task) buf.old buf.new) }
     ensures spent { NoneFell buf.old.spent buf.new.spent }
 {
     match command {
@@ -95,10 +97,11 @@ pub fn task_of<F: Shelf>(
 fn shown(alloc: Global, read: Result<Unit, Saying>) -> Result<Task, NoMemory>
     ensures value { IfOk result (λ task. task ≡ showing_task (plainly read)) }
     ensures ready { IfOk result IsReady }
+    ensures lines { IfOk result (λ task. task.lines ≡ None) }
 {
     match read {
         Ok(unit) => Ok(Task::of_text(show_text(alloc, &unit)?, None)),
-        Err(saying) => Task::of_saying(alloc, saying),
+        Err(saying) => Ok(Task::of_saying(alloc, saying)?),
     }
 }
 
@@ -116,13 +119,14 @@ fn acted<F: Shelf>(
         → ActsOver action reported (files path.now) task) }
     ensures codes { IfOk result (λ task. HasCodes reported task) }
     ensures ready { IfOk result IsReady }
+    ensures lines { IfOk result (λ task. IfSome task.lines (λ job. IsOverLines action)) }
     // Whether the shelf failed.
     ensures files { F.files shelf.new ≡ F.files shelf.old }
     ensures later { F.faults shelf.old ≤ F.faults shelf.new }
     ensures cause { IfErr result (λ e. e ≡ TaskErr.Shelf → Rose (F.faults shelf.old) (F.faults shelf.new)) }
     ensures stands { result ≢ Err TaskErr.Shelf → F.faults shelf.old ≡ F.faults shelf.new }
     // What becomes of the buffer.
-    ensures buffer { IfOk result (λ task. task.lines ≢ None → buf.new ≡ buf.old) }
+    ensures buffer { IfOk result (λ task. ActsBefore action (engine_of task) buf.old buf.new) }
     ensures spent { NoneFell buf.old.spent buf.new.spent }
 {
     match reported {
@@ -145,13 +149,14 @@ fn acting<F: Shelf>(
         → Acts action engine (files path.now) task) }
     ensures codes { IfOk result (λ task. HasCodes (Ok engine) task) }
     ensures ready { IfOk result IsReady }
+    ensures lines { IfOk result (λ task. IfSome task.lines (λ job. IsOverLines action)) }
     // Whether the shelf failed.
     ensures files { F.files shelf.new ≡ F.files shelf.old }
     ensures later { F.faults shelf.old ≤ F.faults shelf.new }
     ensures cause { IfErr result (λ e. e ≡ TaskErr.Shelf → Rose (F.faults shelf.old) (F.faults shelf.new)) }
     ensures stands { result ≢ Err TaskErr.Shelf → F.faults shelf.old ≡ F.faults shelf.new }
     // What becomes of the buffer.
-    ensures buffer { IfOk result (λ task. task.lines ≢ None → buf.new ≡ buf.old) }
+    ensures buffer { IfOk result (λ task. ActsBefore action (engine_of task) buf.old buf.new) }
     ensures spent { NoneFell buf.old.spent buf.new.spent }
 {
     match action {
@@ -189,7 +194,7 @@ fn serving<F: Shelf>(
 {
     match shelf.read_file(alloc, path, LONGEST_REPLIES + 1) {
         Ok(text) => Ok(serving_by(alloc, engine, text)?),
-        Err(ShelfErr::Absent) => Ok(Task::of_saying(alloc, Saying::NoReplies)?),
+        Err(ShelfErr::Absent) => Ok(Task::of_refusal(alloc, Saying::NoReplies, engine)?),
         Err(ShelfErr::Failed) => Err(TaskErr::Shelf),
         Err(ShelfErr::NoMemory) => Err(TaskErr::NoMemory),
     }
@@ -202,7 +207,7 @@ fn serving_by(alloc: Global, engine: Engine, text: Octets) -> Result<Task, NoMem
     ensures ready { IfOk result IsReady }
 {
     if text.len() > LONGEST_REPLIES as usize {
-        return Task::of_saying(alloc, Saying::LargeReplies);
+        return Task::of_refusal(alloc, Saying::LargeReplies, engine);
     }
     served(alloc, engine, text)
 }
@@ -215,7 +220,10 @@ fn served(alloc: Global, engine: Engine, text: Octets) -> Result<Task, NoMemory>
 {
     match Server::new(alloc, engine, text)? {
         Ok(server) => Ok(Task::of_job(Octets::new(alloc), Job::Serve(server))),
-        Err(WrongLine(line)) => Task::of_saying(alloc, Saying::WrongReply(line)),
+        Err(wrong) => {
+            let WrongReplies { line, engine } = wrong;
+            Task::of_refusal(alloc, Saying::WrongReply(line.0), engine)
+        }
     }
 }
 

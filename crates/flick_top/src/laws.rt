@@ -1,6 +1,6 @@
 //! The laws of what is written, each the contract of a function that does nothing.
 
-ghost use Rattle.flick_top.specs.Laws.{OneOutput, WordsHaveTasks};
+ghost use Rattle.flick_top.specs.Laws.{OneOutput, OutputsAreWhole, WordsHaveTasks};
 
 /// The words have one output over the files: whatever the task to which they come and the answers to its lines, what is
 /// written over an input, and the status, are the same.
@@ -11,4 +11,10 @@ pub fn outputs_are_determined()
 /// All words and files have a task.
 pub fn words_have_tasks()
     ensures { WordsHaveTasks }
+{}
+
+/// Where nothing fails and the input is within the limit, the whole output is written, or memory runs out: this is what
+/// the clauses `work`, `taken` and `completes` of `flick` come to.
+pub fn outputs_are_whole()
+    ensures { OutputsAreWhole }
 {}

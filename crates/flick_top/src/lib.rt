@@ -15,5 +15,5 @@ mod task;
 mod top;
 mod turns;
 
-pub use laws::{outputs_are_determined, words_have_tasks};
+pub use laws::{outputs_are_determined, outputs_are_whole, words_have_tasks};
 pub use top::flick;

@@ -5,7 +5,7 @@ ghost use Rattle.op_codes.specs.Stubs.{IsCoded};
 ghost use Rattle.kit_texts.specs.WholeLines.{AreWholeLines};
 ghost use Rattle.flick_top.specs.Answer.{Answering};
 ghost use Rattle.flick_top.specs.Made.{engine_of};
-ghost use Rattle.flick_top.specs.Output.{IsAnswered, saying_task, answering_task, writing_task};
+ghost use Rattle.flick_top.specs.Output.{IsAnswered, saying_task, refusing_task, answering_task, writing_task};
 ghost use Rattle.flick_top.specs.Turn.{IsReady};
 
 use crate::job::Job;
@@ -39,6 +39,19 @@ impl Task {
             status: saying.status(),
             lines: None,
             idle: None,
+        })
+    }
+
+    /// To say this, and no more, over an engine.
+    pub fn of_refusal(alloc: Global, saying: Saying, engine: Engine) -> Result<Task, NoMemory>
+        ensures value { IfOk result (λ task. task ≡ refusing_task saying engine) }
+        ensures ready { IfOk result IsReady }
+    {
+        Ok(Task {
+            text: saying.octets(alloc)?,
+            status: saying.status(),
+            lines: None,
+            idle: Some(engine),
         })
     }
 

@@ -6,7 +6,7 @@ ghost use Rattle.raw_buf.specs.Buf.{NoneFell};
 ghost use Rattle.flick_top.specs.Output.{Files};
 ghost use Rattle.flick_top.specs.Outside.{TakesPrefix, ComesBy, StandsUnless};
 ghost use Rattle.flick_top.specs.Spending.{SpendsBuf};
-ghost use Rattle.flick_top.specs.Statement.{Works, Leaves, LeavesNone, IsUsage, NeedsFile, WritesNothing, WritesWholeLines, TakesMore, TakesAtMost, TakesNothing, Completes};
+ghost use Rattle.flick_top.specs.Statement.{Works, Leaves, LeavesNone, IsUsage, NeedsFile, NeedsLines, WritesNothing, WritesWholeLines, TakesMore, TakesAtMost, TakesNothing, Completes};
 
 use crate::coming::{TaskErr, task_of};
 use crate::command::command_of;
@@ -42,6 +42,8 @@ pub fn flick<F: Shelf, S: Source, K: Sink>(
     // What a status says of the words, and of what was written.
     ensures usage { IsUsage words.now result }
     ensures file { NeedsFile words.now result }
+    ensures reads { NeedsLines 4 words.now result }
+    ensures exceeds { NeedsLines 8 words.now result }
     ensures nothing { WritesNothing (K.held output.old) (K.held output.new) result }
     ensures lines { WritesWholeLines (K.held output.old) (K.held output.new) result }
     // What was taken.

@@ -10,6 +10,8 @@ pub mod StubEnding
 pub mod Listing
 -- * The line of the messages that a number makes
 pub mod Making
+-- * What is sent of requests, one after the other, is what becomes of the buffer
+pub mod Spending
 -- * Names of types by their numbers, by induction on the list of types
 pub mod Naming
 -- * What is read of a message that was made

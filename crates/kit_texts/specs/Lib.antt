@@ -1,6 +1,7 @@
 pub mod Counted
 pub mod MadeText
 pub mod Show
+pub mod Spent
 pub mod StubTexts
 pub mod TypeText
 pub mod WholeLines

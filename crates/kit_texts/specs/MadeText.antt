@@ -3,6 +3,7 @@ use Rattle.std.specs.Prelude.{◌≡◌, ℕ, ◌+◌, ◌%◌, ◌^◌, ◌==�
 use Rattle.wire_def.specs.declared.head.Head.{Head}
 use Rattle.wire_def.specs.declared.head.Order.TheVariants.{Big}
 use Rattle.case_make.specs.Made.{made}
+use Rattle.mint.specs.Values.{Val}
 use Rattle.pres.specs.Bindings.{Binding}
 use Rattle.flick_engine.specs.Messages.{request_type, message}
 use Rattle.flick_engine.specs.Received.{asked, ReadCall}
@@ -18,13 +19,21 @@ turn b i = i % length b.ops
 abbrev pub made_head : ℕ → Head
 made_head i = record { id = i; remote = 0; local = 0; wants = true; order = Big }
 
--- the message of request i: of the operation whose turn it is, with the value that the number plus i makes, modulo 2^64
-abbrev pub made_message : Binding → ℕ → ℕ → List ℕ
-made_message b number i = message b (turn b i) (made_head i) (made (request_type b (turn b i)) ((number + i) % 2 ^ 64))
+-- the value of request i: the one that the number plus i makes, modulo 2^64, for the operation whose turn it is
+abbrev pub made_value : Binding → ℕ → ℕ → Val
+made_value b number i = made (request_type b (turn b i)) ((number + i) % 2 ^ 64)
 
--- so many messages from 0 on; none where there is no operation
+-- the message of request i
+abbrev pub made_message : Binding → ℕ → ℕ → List ℕ
+made_message b number i = message b (turn b i) (made_head i) (made_value b number i)
+
+-- so many requests; none where there is no operation
+abbrev pub so_many_of : Binding → ℕ → ℕ
+so_many_of b many = if length b.ops == 0 then 0 else many
+
+-- the messages of so many requests from 0 on
 abbrev pub messages : Binding → ℕ → ℕ → List (List ℕ)
-messages b number many = messages_from (made_message b number) 0 (if length b.ops == 0 then 0 else many)
+messages b number many = messages_from (made_message b number) 0 (so_many_of b many)
 
 -- what is said of the messages of so many requests
 abbrev pub make_text : Binding → ℕ → ℕ → List ℕ

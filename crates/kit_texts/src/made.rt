@@ -1,9 +1,11 @@
 //! The requests that a number makes.
 
-ghost use Rattle.std.specs.Prelude.{◌≡◌, ◌<◌, [], length, IfOk};
+ghost use Rattle.std.specs.Prelude.{◌≡◌, ◌<◌, [], length, IfOk, OnOk};
 ghost use Rattle.raw_buf.specs.Buf.{NoneFell};
+ghost use Rattle.flick_lines.specs.Paid.{call_by_code};
 ghost use Rattle.kit_texts.specs.Counted.{messages_from, Counts};
-ghost use Rattle.kit_texts.specs.MadeText.{made_head, made_message, make_text, turn, IsRead, IsTrip};
+ghost use Rattle.kit_texts.specs.MadeText.{made_head, made_message, made_value, make_text, turn, IsRead, IsTrip};
+ghost use Rattle.kit_texts.specs.Spent.{SendsMade, SendsSoMany};
 ghost use Rattle.kit_texts.specs.WholeLines.{AreWholeLines};
 
 use crate::sums::Sums;
@@ -26,6 +28,7 @@ pub fn make_text(
 ) -> Result<Octets, NoMemory>
     ensures value { IfOk result (λ t. t ≡ make_text engine.now.binding number many) }
     ensures lines { IfOk result (λ t. AreWholeLines t) }
+    ensures sends { OnOk result (SendsMade engine.now number many buf.old buf.new) }
     ensures spent { NoneFell buf.old.spent buf.new.spent }
 {
     if engine.bound().ops().len() == 0 {
@@ -46,6 +49,7 @@ fn sums_of(
     requires { 0 < length engine.now.binding.ops }
     ensures sums { IfOk result (λ s.
         Counts s [] (messages_from (made_message engine.now.binding number) 0 many)) }
+    ensures sends { OnOk result (SendsSoMany engine.now number many buf.old buf.new) }
     ensures spent { NoneFell buf.old.spent buf.new.spent }
 {
     let mut sums = Sums::new();
@@ -67,6 +71,8 @@ fn make_message(
     requires { 0 < length engine.now.binding.ops }
     ensures trip { IfOk result (λ t. IsTrip engine.now.binding
         (made_message engine.now.binding number i) t buf.new.done) }
+    ensures paid { OnOk result (call_by_code engine.now (turn engine.now.binding i) (made_head i)
+        (made_value engine.now.binding number i) buf.old buf.new) }
     ensures spent { NoneFell buf.old.spent buf.new.spent }
 {
     let op = turn(engine, i);

@@ -1,7 +1,7 @@
 use Rattle.serde_json.specs.View.{view}
 use Rattle.json_shape.specs.Requests.{request_of}
 use Rattle.flick_lines.specs.Marshalled.{call_digits}
-use Rattle.flick_lines.specs.Paid.{by_code}
+use Rattle.flick_lines.specs.Paid.{call_by_code}
 use Rattle.flick_lines.proofs.Options.{if-ok, if-ok-and, on-ok}
 use Rattle.flick_lines.proofs.Paying.{paid-refused, paid-value}
 use Rattle.flick_lines.proofs.Recorded.{of-value, refused-at}
@@ -23,13 +23,13 @@ returns-in-Err-clause-value c =
 pub returns-in-Ok-clause-paid : goal.returns-in-Ok-clause-paid
 returns-in-Ok-clause-paid c =
     on-ok _ _ _
-    (paid-value (by_code c.args.engine.now) _ c.in-Ok.record (rw c.bound.ensures.value at c.in-Ok.ensures.comes) _ _)
+    (paid-value (call_by_code c.args.engine.now) _ c.in-Ok.record (rw c.bound.ensures.value at c.in-Ok.ensures.comes) _ _)
     c.digits_of.ensures.paid
 
 pub returns-in-Err-clause-paid : goal.returns-in-Err-clause-paid
 returns-in-Err-clause-paid c =
     let b = c.args.engine.now.binding in
     on-ok _ _ _
-    (λ other. paid-refused (by_code c.args.engine.now) request_of b c.bound.result.now (view c.args.json.now) c.in-Err.refusal
+    (λ other. paid-refused (call_by_code c.args.engine.now) request_of b c.bound.result.now (view c.args.json.now) c.in-Err.refusal
     c.bound.ensures.value c.in-Err.ensures.comes other _)
     c.refused.ensures.memory

@@ -2,7 +2,8 @@ use Rattle.std.proofs.Common.{arith, inr, None}
 use Rattle.flick_top.specs.Made.{codes_of}
 use Rattle.flick_top.proofs.Completing.{completes}
 use Rattle.flick_top.proofs.Leaving.{task-leaves}
-use Rattle.flick_top.proofs.Spending.{spends-for}
+use Rattle.flick_top.proofs.Reading.{needs-lines}
+use Rattle.flick_top.proofs.Spending.{spends-task}
 use Rattle.flick_top.proofs.Tasking.{is-task, shapeless-work, shapeless-leaves}
 use Rattle.flick_top.proofs.top.flick.Goals as goal
 
@@ -62,6 +63,18 @@ returns-in-Ok-clause-spends g c = λ files reported few input is.
       is-task c.args.words.now files c.in-Ok.task c.into_engine.result _ _ c.command_of.ensures.value c.in-Some.is
           c.into_engine.ensures (c.in-Ok.ensures.task files reported),
       all,
-      spends-for c.in-Ok.task.lines _ _ _ _ _ c.in-Ok.ensures.buffer c.perform-status.ensures.passes
-          (rw c.number-in-Ok.ensures at few) input is,
+      spends-task c.args.words.now _ _ c.in-Ok.task _ _ _ _ _ c.command_of.ensures.value c.in-Some.is c.in-Ok.ensures.buffer
+          c.perform-status.ensures.passes (rw c.number-in-Ok.ensures at few) input is,
     )
+
+pub returns-in-Ok-clause-reads : goal.returns-in-Ok-clause-reads
+returns-in-Ok-clause-reads g c =
+    rw c.number-in-Ok.ensures
+    (needs-lines 4 c.args.words.now _ _ c.in-Ok.task.lines _ c.command_of.ensures.value c.in-Some.is c.in-Ok.ensures.lines
+    (λ none. (c.perform-status.ensures.unread none).2))
+
+pub returns-in-Ok-clause-exceeds : goal.returns-in-Ok-clause-exceeds
+returns-in-Ok-clause-exceeds g c =
+    rw c.number-in-Ok.ensures
+    (needs-lines 8 c.args.words.now _ _ c.in-Ok.task.lines _ c.command_of.ensures.value c.in-Some.is c.in-Ok.ensures.lines
+    (λ none. (c.perform-status.ensures.unread none).3))

@@ -1,5 +1,5 @@
 use Rattle.std.proofs.Common.{arith}
-use Rattle.flick_top.proofs.Passing.{passes-of, passes-other}
+use Rattle.flick_top.proofs.Passing.{passes-none, passes-of, passes-other}
 use Rattle.flick_top.proofs.Tasking.{answers-of, front-after, ended-after, whole-after, front-broken}
 use Rattle.flick_top.proofs.turns.perform.Goals as goal
 
@@ -26,6 +26,9 @@ returns-in-Some-clause-lines g c = λ f all.
 
 pub returns-in-Err-clause-passes : goal.returns-in-Err-clause-passes
 returns-in-Err-clause-passes g c = passes-other c.args.task.now.lines _ _ _ _ (λ few. omega (arith, few))
+
+pub returns-in-None-clause-passes : goal.returns-in-None-clause-passes
+returns-in-None-clause-passes g c = passes-none c.args.task.now.lines _ _ _ c.in-None.is
 
 pub returns-in-Some-clause-passes : goal.returns-in-Some-clause-passes
 returns-in-Some-clause-passes g c = passes-of c.args.task.now.lines c.in-Some.job _ _ _ _ c.in-Some.is c.answer_lines.ensures.passes

@@ -1,6 +1,7 @@
 use Rattle.raw_buf.proofs.Standing.{none_fell-trans}
 use Rattle.kit_texts.specs.MadeText.{is_within, made_message}
 use Rattle.kit_texts.proofs.Counting.{made_as, one_counted}
+use Rattle.kit_texts.proofs.Spending.{one_led}
 use Rattle.kit_texts.proofs.made.sums_of.Goals as goal
 
 pub loop-i-preserved : goal.loop-i-preserved
@@ -12,5 +13,7 @@ loop-i-preserved c =
     record {
       counted = one_counted message_of c.args.many c.loop-i.i c.loop-i.sums c.count.new.self c.loop-i-test.true (c.count.ensures m made)
           c.loop-i.invariant.counted;
+      sends = one_led c.args.engine.now c.args.number c.args.many c.loop-i.i _ _ _ c.loop-i-test.true c.in_ok-trip.ensures.paid
+          c.in_ok-trip.ensures.spent c.loop-i.invariant.sends;
       spent = none_fell-trans _ _ _ c.loop-i.invariant.spent c.in_ok-trip.ensures.spent;
     }
