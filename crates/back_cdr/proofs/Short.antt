@@ -16,7 +16,7 @@ use Rattle.giop_head.specs.Printed.{long_octets, then_long, then_sequence, then_
 use Rattle.pres.specs.Bindings.{Binding, IsBinding}
 use Rattle.pres.specs.Faults.{is_long, has_long, has_long_in}
 use Rattle.pres.proofs.Rises.{neither}
-use Rattle.back_cdr.specs.Targets.{Target, IsShort, HasShortNames, no_target, target_in, targets_in, targets, target_of}
+use Rattle.back_cdr.specs.Targets.{Target, IsShort, HasShortNames, no_target, target_in, targets, target_of}
 use Rattle.back_cdr.specs.Leads.{lead, reply_lead}
 
 -- ---- names

@@ -3,17 +3,24 @@
 ghost use Rattle.std.specs.Prelude.{◌≡◌, ◌<◌, length, IfOk, OnOk};
 ghost use Rattle.cast_stub.specs.Append.{append};
 ghost use Rattle.cast_stub.specs.Block.{code_seen};
+ghost use Rattle.cast_stub.specs.Follows.{AllFollow};
+ghost use Rattle.cast_stub.specs.Layouts.{layout_of};
+ghost use Rattle.cast_stub.specs.Traces as received;
+ghost use Rattle.cast_stub.specs.Turned.{AllTurned};
 ghost use Rattle.stub_lower.specs.Leads.{AreChunks, Leads};
+ghost use Rattle.stub_lower.specs.Lowered.{CodesSend};
+ghost use Rattle.stub_lower.specs.RecvLowered.{CodesReceive};
 ghost use Rattle.op_codes.specs.Backs.{encoding, other_encoding, lead, reply_lead, tail};
 ghost use Rattle.op_codes.specs.Replies.{HasArm};
 
 use crate::arms::arms_have_ids;
 use cast_stub::copying::add;
-use cast_stub::{SendCode, SendOps};
+use cast_stub::{RecvSubs, SendCode, SendOps, SendSubs};
 use kit_base::NoMemory;
+use mint::table::Mint;
 use pres::Bound;
 use std::alloc::Global;
-use wire_def::{Back, Encoding};
+use wire_def::{Back, Encoding, Order};
 
 /// How the bodies of messages that are sent are laid out.
 pub fn encoding_of(back: Back) -> Encoding
@@ -35,6 +42,36 @@ pub(crate) fn other_of(back: Back) -> Option<Encoding>
         Back::CdrBig => Some(Encoding::CdrLittle),
         Back::CdrLittle => Some(Encoding::CdrBig),
         Back::Xdr | Back::Mach => None,
+    }
+}
+
+/// The codes that send the nodes of a table over an encoding, from the crate of its back end.
+pub(crate) fn lower_send(alloc: Global, enc: Encoding, mint: &Mint) -> Result<SendSubs, NoMemory>
+    ensures many { IfOk result (λ subs. length subs ≡ length mint.now) }
+    ensures means { IfOk result (λ subs. CodesSend enc mint.now subs) }
+    ensures follows { IfOk result (λ subs. AllFollow mint.now subs) }
+    ensures rows { IfOk result (λ subs. AllTurned (layout_of enc) mint.now subs) }
+{
+    match enc {
+        Encoding::Xdr => back_xdr::lower_send(alloc, mint),
+        Encoding::CdrBig => back_cdr::lower_send(alloc, mint, Order::Big),
+        Encoding::CdrLittle => back_cdr::lower_send(alloc, mint, Order::Little),
+        Encoding::Mach => back_mach::lower_send(alloc, mint),
+    }
+}
+
+/// The codes that receive the nodes of a table over an encoding, from the crate of its back end.
+pub(crate) fn lower_recv(alloc: Global, enc: Encoding, mint: &Mint) -> Result<RecvSubs, NoMemory>
+    ensures many { IfOk result (λ subs. length subs ≡ length mint.now) }
+    ensures sound { IfOk result (λ subs. CodesReceive enc mint.now subs) }
+    ensures traces { IfOk result (λ subs. received.AllTrace mint.now subs) }
+    ensures rows { IfOk result (λ subs. received.AllTurned (layout_of enc) mint.now subs) }
+{
+    match enc {
+        Encoding::Xdr => back_xdr::lower_recv(alloc, mint),
+        Encoding::CdrBig => back_cdr::lower_recv(alloc, mint, Order::Big),
+        Encoding::CdrLittle => back_cdr::lower_recv(alloc, mint, Order::Little),
+        Encoding::Mach => back_mach::lower_recv(alloc, mint),
     }
 }
 

@@ -4,13 +4,12 @@ ghost use Rattle.std.specs.Prelude.{IfOk};
 ghost use Rattle.op_codes.specs.Backs.{encoding};
 ghost use Rattle.op_codes.specs.Lowered.{AreLowered, AreOthers, AreReceivers};
 
-use crate::backs::{encoding_of, other_of};
+use crate::backs::{encoding_of, lower_recv, lower_send, other_of};
 use cast_stub::{RecvSubs, SendSubs};
 use kit_base::NoMemory;
 use mint::table::Mint;
 use std::alloc::Global;
 use storage_class::{Classes, classify};
-use stub_lower::{lower, lower_recv};
 use wire_def::{Back, Encoding};
 
 /// The codes of the nodes of a table over a back end, which call one another, and how long the nodes are.
@@ -31,7 +30,7 @@ pub(crate) fn lower_all(alloc: Global, back: Back, mint: &Mint) -> Result<Lowere
     ensures { IfOk result (λ low. AreLowered back mint.now low) }
 {
     let enc = encoding_of(back);
-    let sends = lower(alloc, enc, mint)?;
+    let sends = lower_send(alloc, enc, mint)?;
     let classes = classify(alloc, enc, mint)?;
     let recvs = receivers(alloc, enc, mint)?;
     let others = other_receivers(alloc, other_of(back), mint)?;
