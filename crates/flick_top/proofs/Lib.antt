@@ -20,7 +20,7 @@ pub mod Existing
 pub mod Front
 -- A text has a unit that is sound, or a saying, and one alone, whatever its front end
 pub mod UnitsOfFronts
--- A file says one thing; over a back end it comes to one saying, or to engines with the same codes that answer alike
+-- A file says one thing; over a back end it comes to one saying, or to engines that answer alike, with the same codes where these are
 pub mod FilesSay
 -- Texts are the same over engines that answer alike, by induction on the operations or on the number of messages
 pub mod TwinTexts
@@ -42,5 +42,5 @@ pub mod Leaving
 pub mod OverFiles
 -- * The numbers of words, read digit by digit
 pub mod Digits
--- * A server answers lines by the replies that the text of a file gives
+-- * A server answers lines by the replies that the text of a file gives, or a wrong line of it is said
 pub mod Servers

@@ -77,7 +77,8 @@ given_alike d e alike text (Ok g) t u p q =
     (record { text = refl; status = refl; lines = (alike, refl) })
 given_alike d e alike text (Err line) t u p q = refused_alike (sayings.WrongReply line) d e t u p q
 
-serves_text : (d e : Coded) → AreTwins d.binding e.binding → (text : List ℕ) (t u : Task) → ServesText d text t → ServesText e text u → AreTasks t u
+serves_text : (d e : Coded) → AreTwins d.binding e.binding → (text : List ℕ) (t u : Task) → ServesText d text t → ServesText e text u
+    → AreTasks t u
 serves_text d e alike text t u (x, gives, p) (y, also, q) =
     let same : x ≡ y = given_once e.binding text x y (file_over d.binding e.binding alike text x gives) also in
     given_alike d e alike text y t u (p ∙ ap (λ (z : Result Given ℕ). serving_task d text z) same) q
@@ -133,7 +134,8 @@ over_files codes others (Some (commands.Show front)) words files t u shown (r, s
     let same : r ≡ s = file_says front (files (word_at words 2)) r s says also in
     shown_alike s t u (p ∙ ap (λ (x : Read). showing_task x) same) q
 over_files codes others (Some (commands.Over a n)) words files t u shown (r, mr, p) (s, ms, q) =
-    over_reported a r s (reported_alike (IsOverCodes a) codes others shown n (files (word_at words n.file)) r s mr ms) (files (word_at words 4)) t u p q
+    let alike = reported_alike (IsOverCodes a) codes others shown n (files (word_at words n.file)) r s mr ms in
+    over_reported a r s alike (files (word_at words 4)) t u p q
 
 -- ---- what is written
 
