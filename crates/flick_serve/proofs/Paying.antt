@@ -54,10 +54,10 @@ module _ (c : Coded) (answer : ℕ → Val) (o : List ℕ) where
 
   -- the counts are those of the reply's code, where its message is within the limit
   counts_of : (call : Called) (r : Asked) (x : Option (List ℕ)) (spent : Tally) (new : Buf)
-      → AnswersByCode c work (reply_head c.binding.back call.head) r x spent new → IsShort (reply_to c answer call r)
+      → AnswersByCode c work o (reply_head c.binding.back call.head) r x spent new → IsShort (reply_to c answer call r)
       → IsAnsweredByCode c.stubs r.op (reply_head c.binding.back call.head) (answer r.op) spent new
-  counts_of call r x spent new (w, is, by) short =
-      (subst (λ (z : Val). RepliesByCode c (reply_head c.binding.back call.head) r.op z x spent new) is by short).1
+  counts_of call r x spent new (w, is, replies, by) short =
+      subst (λ (z : Val). RepliesByCode c (reply_head c.binding.back call.head) r.op z spent new) is by short
 
   -- nothing is owed
   nothing_owed : (spent now : Tally) → IsCostOf c answer o no_cost → NoneFell spent now → IsPaidFor spent now
@@ -65,7 +65,7 @@ module _ (c : Coded) (answer : ℕ → Val) (o : List ℕ) where
 
   -- a request that is answered
   paid_reply : (spent : Tally) (new : Buf) (x : Option (List ℕ)) (d : Called) → Begins c.binding o d
-      → (r : Asked) → ReadCall c.binding o (Ok r) → AnswersByCode c work (reply_head c.binding.back d.head) r x spent new
+      → (r : Asked) → ReadCall c.binding o (Ok r) → AnswersByCode c work o (reply_head c.binding.back d.head) r x spent new
       → NoneFell spent new.spent → (b : Bool) → nat_le (length (reply_to c answer d r)) longest_message ≡ b → IsPaidFor spent new.spent
   paid_reply spent new x d begins r reads by stands true fits =
       let short : length (reply_to c answer d r) ≤ longest_message = leb-true (length (reply_to c answer d r)) longest_message fits in
