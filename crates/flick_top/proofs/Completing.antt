@@ -54,7 +54,7 @@ whole_work : (made : Option Coded) (words : List (List ℕ)) (files : Files) (le
     (source source' status : ℕ) (input : List ℕ) → left ≡ Some input
     → Works made words files left left' source source' held held' status → (status ≤ 3) ⊎ (status ≡ 7)
     → (status ≡ 7) ⊎ WritesWhole made words files input held held' status
-whole_work made words files left left' held held' source source' status input reported (inl (ends, rest)) ended =
+whole_work made words files left left' held held' source source' status input reported (inl (ends, took, wrote)) ended =
     inl (without_task status ends ended)
 whole_work made words files left left' held held' source source' status input reported (inr done) (inr seven) = inl seven
 whole_work made words files left left' held held' source source' status input reported (inr (task, f, is, all, w)) (inl few) =

@@ -46,10 +46,10 @@ WritesWhole made words files input held held' status = Does (codes_of made) word
     (λ task f. (status ≡ (out_of task f input).status) × Appends held held' (out_of task f input).octets)
 
 -- no count of faults of the source, the sink and the shelf rose
-pub record NoneRose (source source' sink sink' shelf shelf' : ℕ) : Type 0 where
-  pub source : Rose source source' → ⊥
-  pub sink : Rose sink sink' → ⊥
-  pub shelf : Rose shelf shelf' → ⊥
+pub record NoneRose (a a' b b' c c' : ℕ) : Type 0 where
+  pub source : Rose a a' → ⊥
+  pub sink : Rose b b' → ⊥
+  pub shelf : Rose c c' → ⊥
 
 -- where the source says its octets, which are at most the greatest input, and no count of faults rose, the clauses of `flick` come to this:
 -- the whole output was written, or memory ran out
