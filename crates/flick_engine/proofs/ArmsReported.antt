@@ -1,5 +1,5 @@
 -- An arm that the head of a reply tells is one of the operation's reply.
-use Rattle.std.proofs.Common.{◌≡◌, ◌<◌, ◌≤◌, ℕ, zero, suc, List, [], length, Option, Some, None, refl, sym, ap, ◌∙◌, subst, arith}
+use Rattle.std.proofs.Common.{◌≡◌, ◌+◌, ◌<◌, ◌≤◌, ℕ, zero, suc, List, [], length, Option, Some, None, refl, sym, ap, ◌∙◌, subst, arith}
 use Rattle.std.specs.Prelude.{IsTrue, is_some, slice_get}
 use Rattle.std.specs.List.{position_from}
 use Rattle.std.specs.Str.{bytes_eq}
@@ -50,8 +50,9 @@ denial_unnumbered p o (status.Raised n) h = h
 denial_unnumbered p o _ h = tt
 
 xdr_unnumbered : (p : ℕ) (o : List ℕ) (f : xdr_reply.Fate) → FateSpells p o f → IsUnnumbered (xdr_status f)
-xdr_unnumbered p o (xdr_reply.accepted verf s) (a, b, is, zero, (c, d, is', auth, state)) = state_unnumbered _ d s state
-xdr_unnumbered p o (xdr_reply.denied s) (a, b, is, one, denial) = denial_unnumbered _ b s denial
+xdr_unnumbered p o (xdr_reply.accepted verf s) (a, b, is, took, (c, d, is', auth, state)) =
+    state_unnumbered (p + length a + length c) d s state
+xdr_unnumbered p o (xdr_reply.denied s) (a, b, is, took, denial) = denial_unnumbered (p + length a) b s denial
 
 mach_unnumbered : (m : ℕ) → IsUnnumbered (mach_status m)
 mach_unnumbered zero = tt
@@ -84,7 +85,7 @@ module _ (b : Binding) (op : ℕ) (i : PlainInterface) (p : PlainOperation) (o :
 
     few_over : (k : Back) → slice_get (operations_in k b.unit.interfaces) op ≡ Some (i, p) → RepliesOver k b op o t → n ≤ length p.raises
     few_over back.Xdr is (r, (reply, used, (within, (x, y, split, xid, (z, w, split', type, fate))), same), reported) =
-        let plain = subst IsUnnumbered (ap (λ (h : ReplyHead). h.status) same) (xdr_unnumbered _ w reply.fate fate) in
+        let plain = subst IsUnnumbered (ap (λ (h : ReplyHead). h.status) same) (xdr_unnumbered (0 + length x + length z) w reply.fate fate) in
         let none = arm_zero r.status n plain (ap (λ (x : Heard). x.fate) reported ∙ arm) in
         omega (arith, none)
     few_over back.CdrBig is begins = giop_few back.CdrBig refl is begins

@@ -17,18 +17,18 @@ pub returns-in-Ok-clause-sparing : goal.returns-in-Ok-clause-sparing
 returns-in-Ok-clause-sparing c =
     subst (λ (x : Coded). IsSparingRequest x c.args.op c.args.head.now (seen c.args.value.now)) c.stubs.ensures c.send.ensures.sparing
 
-pub returns-in-Long-clause-covered : goal.returns-in-Long-clause-covered
-returns-in-Long-clause-covered c =
+pub returns-in-Err-Long-clause-covered : goal.returns-in-Err-Long-clause-covered
+returns-in-Err-Long-clause-covered c =
     subst (λ (x : Coded). IsCoveredRequest x c.args.op c.args.head.now (seen c.args.value.now)) c.stubs.ensures c.send.ensures.covered
 
-pub returns-in-Long-clause-sparing : goal.returns-in-Long-clause-sparing
-returns-in-Long-clause-sparing c =
+pub returns-in-Err-Long-clause-sparing : goal.returns-in-Err-Long-clause-sparing
+returns-in-Err-Long-clause-sparing c =
     subst (λ (x : Coded). IsSparingRequest x c.args.op c.args.head.now (seen c.args.value.now)) c.stubs.ensures c.send.ensures.sparing
 
-pub returns-in-NoMemory-clause-covered : goal.returns-in-NoMemory-clause-covered
-returns-in-NoMemory-clause-covered c =
+pub returns-in-Err-NoMemory-clause-covered : goal.returns-in-Err-NoMemory-clause-covered
+returns-in-Err-NoMemory-clause-covered c =
     subst (λ (x : Coded). IsCoveredRequest x c.args.op c.args.head.now (seen c.args.value.now)) c.stubs.ensures c.send.ensures.covered
 
-pub returns-in-NoMemory-clause-sparing : goal.returns-in-NoMemory-clause-sparing
-returns-in-NoMemory-clause-sparing c =
+pub returns-in-Err-NoMemory-clause-sparing : goal.returns-in-Err-NoMemory-clause-sparing
+returns-in-Err-NoMemory-clause-sparing c =
     subst (λ (x : Coded). IsSparingRequest x c.args.op c.args.head.now (seen c.args.value.now)) c.stubs.ensures c.send.ensures.sparing

@@ -1,4 +1,4 @@
-use Rattle.std.proofs.Common.{◌≡◌, ◌∙◌, sym, ap, rules, false, FitsSigned, pos}
+use Rattle.std.proofs.Common.{◌≡◌, ◌∙◌, sym, ap, subst, rules, false, FitsSigned, pos}
 use Rattle.std.specs.Int.{w128}
 use Rattle.std.proofs.lemmas.Int.{to_z-of_z}
 use Rattle.mint.specs.declared.kind.Kind.TheVariants as kind
@@ -59,8 +59,8 @@ returns-in-Ok-clause-sparing c =
     (subst (λ (x : Coded). IsSparingReply x c.args.op c.in-Some-arm_number.arm c.args.head.now (seen c.in-Some.inner.now)) c.stubs.ensures
     c.reply.ensures.sparing)
 
-pub returns-in-Long-clause-covered : goal.returns-in-Long-clause-covered
-returns-in-Long-clause-covered c =
+pub returns-in-Err-Long-clause-covered : goal.returns-in-Err-Long-clause-covered
+returns-in-Err-Long-clause-covered c =
     let fits : FitsSigned w128 c.in-Some.n = search rules in
     let is : c.in-Some.n ≡ pos c.in-Some-arm_number.arm = sym (to_z-of_z w128 _ fits) ∙ c.in-Some-arm_number.ensures.some in
     let put = put_arm (reply_type c.args.self.now.binding c.args.op) (seen c.args.value.now) c.in-Some.n c.in-Some-arm_number.arm
@@ -69,8 +69,8 @@ returns-in-Long-clause-covered c =
     (subst (λ (x : Coded). IsCoveredReply x c.args.op c.in-Some-arm_number.arm c.args.head.now (seen c.in-Some.inner.now)) c.stubs.ensures
     c.reply.ensures.covered)
 
-pub returns-in-Long-clause-sparing : goal.returns-in-Long-clause-sparing
-returns-in-Long-clause-sparing c =
+pub returns-in-Err-Long-clause-sparing : goal.returns-in-Err-Long-clause-sparing
+returns-in-Err-Long-clause-sparing c =
     let fits : FitsSigned w128 c.in-Some.n = search rules in
     let is : c.in-Some.n ≡ pos c.in-Some-arm_number.arm = sym (to_z-of_z w128 _ fits) ∙ c.in-Some-arm_number.ensures.some in
     let put = put_arm (reply_type c.args.self.now.binding c.args.op) (seen c.args.value.now) c.in-Some.n c.in-Some-arm_number.arm
@@ -79,8 +79,8 @@ returns-in-Long-clause-sparing c =
     (subst (λ (x : Coded). IsSparingReply x c.args.op c.in-Some-arm_number.arm c.args.head.now (seen c.in-Some.inner.now)) c.stubs.ensures
     c.reply.ensures.sparing)
 
-pub returns-in-NoMemory-clause-covered : goal.returns-in-NoMemory-clause-covered
-returns-in-NoMemory-clause-covered c =
+pub returns-in-Err-NoMemory-clause-covered : goal.returns-in-Err-NoMemory-clause-covered
+returns-in-Err-NoMemory-clause-covered c =
     let fits : FitsSigned w128 c.in-Some.n = search rules in
     let is : c.in-Some.n ≡ pos c.in-Some-arm_number.arm = sym (to_z-of_z w128 _ fits) ∙ c.in-Some-arm_number.ensures.some in
     let put = put_arm (reply_type c.args.self.now.binding c.args.op) (seen c.args.value.now) c.in-Some.n c.in-Some-arm_number.arm
@@ -89,8 +89,8 @@ returns-in-NoMemory-clause-covered c =
     (subst (λ (x : Coded). IsCoveredReply x c.args.op c.in-Some-arm_number.arm c.args.head.now (seen c.in-Some.inner.now)) c.stubs.ensures
     c.reply.ensures.covered)
 
-pub returns-in-NoMemory-clause-sparing : goal.returns-in-NoMemory-clause-sparing
-returns-in-NoMemory-clause-sparing c =
+pub returns-in-Err-NoMemory-clause-sparing : goal.returns-in-Err-NoMemory-clause-sparing
+returns-in-Err-NoMemory-clause-sparing c =
     let fits : FitsSigned w128 c.in-Some.n = search rules in
     let is : c.in-Some.n ≡ pos c.in-Some-arm_number.arm = sym (to_z-of_z w128 _ fits) ∙ c.in-Some-arm_number.ensures.some in
     let put = put_arm (reply_type c.args.self.now.binding c.args.op) (seen c.args.value.now) c.in-Some.n c.in-Some-arm_number.arm
