@@ -1,4 +1,4 @@
-use Rattle.std.proofs.Common.{◌≡◌, ℕ, List, Ok, Some, ap, ◌∙◌, subst}
+use Rattle.std.proofs.Common.{◌≡◌, ℕ, List, Ok, Some, ap, subst}
 use Rattle.std.specs.Prelude.{IfOk}
 use Rattle.hex.specs.Hex.{encode_lower}
 use Rattle.raw_buf.specs.View.{View}
@@ -25,10 +25,10 @@ pub returns-in-Reply-clause-paid : goal.returns-in-Reply-clause-paid
 returns-in-Reply-clause-paid c =
     served_paid c.args.engine.now (answer_at c.args.kept.now) c.args.message.now c.new-view.result.octets c.in_ok-served.served
     c.digits.result _ _ (ap (λ (v : View). v.octets) c.new-view.ensures) c.in_ok-served.ensures.serves c.in_ok-served.ensures.cost
-    (λ e. c.serve.ensures.silent (c.in_ok-served.is ∙ ap Ok e)) c.in_ok-served.ensures.spent
+    (λ e. c.in_ok-served.ensures.silent (ap Ok e)) c.in_ok-served.ensures.spent
 
 pub returns-in-Silent-clause-paid : goal.returns-in-Silent-clause-paid
 returns-in-Silent-clause-paid c =
     served_paid c.args.engine.now (answer_at c.args.kept.now) c.args.message.now c.new-view.result.octets c.in_ok-served.served
     c.copied.result _ _ (ap (λ (v : View). v.octets) c.new-view.ensures) c.in_ok-served.ensures.serves c.in_ok-served.ensures.cost
-    (λ e. c.serve.ensures.silent (c.in_ok-served.is ∙ ap Ok e)) c.in_ok-served.ensures.spent
+    (λ e. c.in_ok-served.ensures.silent (ap Ok e)) c.in_ok-served.ensures.spent
