@@ -1,7 +1,8 @@
+use Rattle.std.proofs.Common.{arith}
 use Rattle.raw_buf.proofs.Standing.{none_fell-trans}
 use Rattle.kit_texts.specs.MadeText.{is_within, made_message}
 use Rattle.kit_texts.proofs.Counting.{made_as, one_counted}
-use Rattle.kit_texts.proofs.Spending.{one_led}
+use Rattle.kit_texts.proofs.Spending.{all_led, one_led}
 use Rattle.kit_texts.proofs.made.sums_of.Goals as goal
 
 pub loop-i-preserved : goal.loop-i-preserved
@@ -17,3 +18,8 @@ loop-i-preserved c =
           c.in_ok-trip.ensures.spent c.loop-i.invariant.sends;
       spent = none_fell-trans _ _ _ c.loop-i.invariant.spent c.in_ok-trip.ensures.spent;
     }
+
+pub returns-clause-sends : goal.returns-clause-sends
+returns-clause-sends c =
+    all_led c.args.engine.now c.args.number c.args.many c.loop-i.i c.args.buf.now c.loop-i.buf (omega (arith, c.loop-i-test.false))
+    c.loop-i.invariant.sends
