@@ -39,19 +39,18 @@ pub fn flick<F: Shelf, S: Source, K: Sink>(
         → Leaves made.new words.now files (S.left input.old) (S.left input.new)
         (K.held output.old) (K.held output.new) result }
     ensures stale { LeavesNone made.new result }
-    // What a status says of the words, and of what was written.
+    // What a status says of the words, of what was written, and of what was taken.
     ensures usage { IsUsage words.now result }
     ensures file { NeedsFile words.now result }
     ensures reads { NeedsLines 4 words.now result }
     ensures exceeds { NeedsLines 8 words.now result }
     ensures nothing { WritesNothing (K.held output.old) (K.held output.new) result }
     ensures lines { WritesWholeLines (K.held output.old) (K.held output.new) result }
-    // What was taken.
     ensures taken { TakesPrefix (S.left input.old) (S.left input.new) }
     ensures more { TakesMore (S.left input.old) (S.left input.new) result }
     ensures at_most { TakesAtMost (S.left input.old) (S.left input.new) result }
     ensures unread { TakesNothing (S.left input.old) (S.left input.new) result }
-    // What failed.
+    // What failed, and what the buffer spent and holds.
     ensures files { F.files shelf.new ≡ F.files shelf.old }
     ensures source { ComesBy 4 (S.faults input.old) (S.faults input.new) result }
     ensures sink { ComesBy 5 (K.faults output.old) (K.faults output.new) result }
@@ -62,7 +61,6 @@ pub fn flick<F: Shelf, S: Source, K: Sink>(
     ensures completes { Completes (S.left input.old) (S.left input.new)
         (Rose (S.faults input.old) (S.faults input.new)) (Rose (K.faults output.old) (K.faults output.new))
         (Rose (F.faults shelf.old) (F.faults shelf.new)) result }
-    // What the buffer spent and holds.
     ensures spends { (files : Files) → F.files shelf.old ≡ Some files
         → SpendsBuf made.new words.now files (S.left input.old) buf.old buf.new result }
     ensures spent { NoneFell buf.old.spent buf.new.spent }
