@@ -85,7 +85,8 @@ module _ (b : Binding) (op : ℕ) (i : PlainInterface) (p : PlainOperation) (o :
 
     few_over : (k : Back) → slice_get (operations_in k b.unit.interfaces) op ≡ Some (i, p) → RepliesOver k b op o t → n ≤ length p.raises
     few_over back.Xdr is (r, (reply, used, (within, (x, y, split, xid, (z, w, split', type, fate))), same), reported) =
-        let plain = subst IsUnnumbered (ap (λ (h : ReplyHead). h.status) same) (xdr_unnumbered (0 + length x + length z) w reply.fate fate) in
+        let state = xdr_unnumbered (0 + length x + length z) w reply.fate fate in
+        let plain = subst IsUnnumbered (ap (λ (h : ReplyHead). h.status) same) state in
         let none = arm_zero r.status n plain (ap (λ (x : Heard). x.fate) reported ∙ arm) in
         omega (arith, none)
     few_over back.CdrBig is begins = giop_few back.CdrBig refl is begins
