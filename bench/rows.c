@@ -1,6 +1,6 @@
 /* The rows of rows.x by rpcgen's code, in memory alone: a yardstick for the plain walk.
  *
- * rows VERB SHAPE COUNT, with the words of wire_bench: a run goes as far as its verb, so that what
+ * rows VERB SHAPE COUNT, with the words of bench_wire: a run goes as far as its verb, so that what
  * sending or reading costs is the difference of two runs. It prints how many octets that took.
  */
 #include <stdio.h>

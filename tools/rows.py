@@ -122,9 +122,9 @@ def modelled(place, file, case):
 
 def show_layer(place, file, row, shared):
     """The cases of a row of the layers."""
-    name = "syntax_cases" if place == "layers/syntax" else "head_cases" if file in replay.OF_HEAD_CASES else "stub_cases"
+    name = "check_syntax" if place == "layers/syntax" else "check_heads" if file in replay.OF_HEAD_CASES else "check_stubs"
     text = {"text": replay.spelled(row["text"])} if "text" in row else {}
-    cases = replay.head_cases if file in ("giop.json", "records.json") else lambda row, shared: replay.cases_of(row, shared)
+    cases = replay.check_heads if file in ("giop.json", "records.json") else lambda row, shared: replay.cases_of(row, shared)
     for case_name, case, answer, _ in cases(row, shared):
         case = {**case, **text}
         print(f"{case_name}\n  case   {cut(json.dumps(case))}\n  wanted {cut(answer)}")

@@ -2,8 +2,8 @@
 use Rattle.std.proofs.Common.{◌≡◌, ◌⊎◌, inl, inr, ℕ, ◌≤◌, List, length, refl, sym, ap, ◌∙◌}
 use Rattle.wire_def.specs.declared.fault.HeadErr.{HeadErr}
 use Rattle.wire_def.specs.Grammar.{AreOctets}
-use Rattle.call_kit.specs.declared.called.Called.{Called}
-use Rattle.call_kit.specs.Calls.{IsOneHead, HasHead}
+use Rattle.head_kit.specs.declared.called.Called.{Called}
+use Rattle.head_kit.specs.Calls.{IsOneHead, HasHead}
 use Rattle.giop_head.specs.declared.header.Way.TheVariants.{Requests}
 use Rattle.giop_head.specs.Call.{Ordered}
 use Rattle.giop_head.specs.Heads.{BeginsWith, StopsWith}

@@ -6,9 +6,9 @@ use Rattle.std.specs.Str.{bytes_eq}
 use Rattle.std.proofs.lemmas.List.{length-map, drop_more}
 use Rattle.aoi.specs.declared.interfaces.Interface.{Interface}
 use Rattle.aoi.specs.Plain.{PlainInterface, PlainOperation, plain_interface}
-use Rattle.call_kit.specs.declared.called.Naming.{Naming}
-use Rattle.call_kit.specs.declared.called.Naming.TheVariants as naming
-use Rattle.call_kit.specs.Calls.{IsBelow}
+use Rattle.head_kit.specs.declared.called.Naming.{Naming}
+use Rattle.head_kit.specs.declared.called.Naming.TheVariants as naming
+use Rattle.head_kit.specs.Calls.{IsBelow}
 use Rattle.back_cdr.specs.Targets.{target_in, targets_in, targets}
 use Rattle.back_cdr.specs.Seeking.{has_name, operation_at, named_from}
 

@@ -6,7 +6,7 @@ use Rattle.std.specs.Str.{bytes_eq}
 use Rattle.std.proofs.lemmas.List.{length-map, get_or-map, get_or_append_left, get_or-append-add}
 use Rattle.std.proofs.lemmas.Slice.Eq.{bytes_eq-Decides}
 use Rattle.aoi.specs.Plain.{PlainInterface, PlainOperation}
-use Rattle.call_kit.specs.declared.called.Naming.TheVariants.{Operation}
+use Rattle.head_kit.specs.declared.called.Naming.TheVariants.{Operation}
 use Rattle.pres.specs.Offers.{null_operation}
 use Rattle.back_cdr.specs.Targets.{Target, no_target, target_in, targets_in, targets}
 use Rattle.back_cdr.specs.Seeking.{has_name, operation_at, named_from}

@@ -1,6 +1,6 @@
 -- Laws of the heads that are sent, and of what requests name.
 use Rattle.std.specs.Prelude.{◌≡◌, ℕ, length}
-use Rattle.call_kit.specs.declared.called.Naming.TheVariants.{Operation}
+use Rattle.head_kit.specs.declared.called.Naming.TheVariants.{Operation}
 use Rattle.giop_head.specs.Reported.{ReportedRequest}
 use Rattle.pres.specs.Bindings.{Binding}
 use Rattle.wire_def.specs.declared.head.Order.{Order}

@@ -5,7 +5,7 @@ ghost use Rattle.std.specs.List.{position_from};
 ghost use Rattle.std.specs.Str.{bytes_eq};
 ghost use Rattle.aoi.specs.Plain.{plain_interface};
 ghost use Rattle.wire_def.specs.Lone.{IsPlain};
-ghost use Rattle.call_kit.specs.Calls.{IsBelow};
+ghost use Rattle.head_kit.specs.Calls.{IsBelow};
 ghost use Rattle.giop_head.specs.declared.header.Way.TheVariants.{Requests};
 ghost use Rattle.giop_head.specs.Heads.{StopsWith};
 ghost use Rattle.giop_head.specs.Items.{laid};
@@ -15,8 +15,8 @@ ghost use Rattle.back_cdr.specs.Seeking.{Calls, has_name, named, named_from, ope
 
 use crate::targets::operations_are_targets;
 use aoi::Interface;
-use call_kit::{Called, Naming};
 use giop_head::{GiopRequest, read_request};
+use head_kit::{Called, Naming};
 use pres::Bound;
 use wire_def::{Encoding, HeadErr, Order};
 

@@ -5,9 +5,9 @@ use Rattle.std.specs.List.{position_from}
 use Rattle.std.proofs.lemmas.List.{length-map, drop_more}
 use Rattle.aoi.specs.declared.interfaces.Interface.{Interface}
 use Rattle.aoi.specs.Plain.{PlainInterface, PlainOperation, plain_interface}
-use Rattle.call_kit.specs.declared.called.Naming.{Naming}
-use Rattle.call_kit.specs.declared.called.Naming.TheVariants as naming
-use Rattle.call_kit.specs.Calls.{IsBelow}
+use Rattle.head_kit.specs.declared.called.Naming.{Naming}
+use Rattle.head_kit.specs.declared.called.Naming.TheVariants as naming
+use Rattle.head_kit.specs.Calls.{IsBelow}
 use Rattle.back_mach.specs.Routines.{routine_in, routines_in, routines}
 use Rattle.back_mach.specs.Seeking.{has_id, has_slot, operation_at, named_from}
 

@@ -7,7 +7,7 @@ use Rattle.std.proofs.lemmas.List.{length-map, map-append}
 use Rattle.std.proofs.lemmas.Option.{slice_get-map}
 use Rattle.std.proofs.lemmas.Simd.{map-map}
 use Rattle.aoi.specs.Plain.{PlainInterface, PlainOperation}
-use Rattle.call_kit.specs.declared.called.Naming.TheVariants.{Operation}
+use Rattle.head_kit.specs.declared.called.Naming.TheVariants.{Operation}
 use Rattle.back_mach.specs.declared.routines.Routine.{Routine}
 use Rattle.back_mach.specs.Routines.{no_routine, routine_in, routines_in, routines}
 use Rattle.back_mach.specs.Seeking.{has_id, has_slot, operation_at, named_from}

@@ -9,7 +9,7 @@ use Rattle.wire_def.specs.declared.reply.ReplyHead.{ReplyHead}
 use Rattle.wire_def.specs.declared.reply.Status.{Status}
 use Rattle.wire_def.specs.declared.reply.Status.TheVariants.{Answer, RetCode}
 use Rattle.wire_def.specs.Grammar.{AreOctets, IsGrammar}
-use Rattle.call_kit.specs.declared.called.Naming.TheVariants.{Operation}
+use Rattle.head_kit.specs.declared.called.Naming.TheVariants.{Operation}
 use Rattle.pres.specs.Bindings.{Binding}
 use Rattle.back_mach.specs.declared.call.MachCall.{MachCall}
 use Rattle.back_mach.specs.declared.routines.Routine.{Routine}

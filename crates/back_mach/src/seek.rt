@@ -4,7 +4,7 @@ ghost use Rattle.std.specs.Prelude.{◌≡◌, ◌+◌, ◌<◌, ◌^◌, length
 ghost use Rattle.std.specs.List.{position_from};
 ghost use Rattle.wire_def.specs.declared.encoding.Back.TheVariants.{Mach};
 ghost use Rattle.aoi.specs.Plain.{plain_interface};
-ghost use Rattle.call_kit.specs.Calls.{IsBelow};
+ghost use Rattle.head_kit.specs.Calls.{IsBelow};
 ghost use Rattle.back_mach.specs.Heads.{StopsWith};
 ghost use Rattle.back_mach.specs.Heads as heads;
 ghost use Rattle.back_mach.specs.Routines.{routines};
@@ -13,7 +13,7 @@ ghost use Rattle.back_mach.specs.Seeking.{Calls, has_id, has_slot, named, named_
 use crate::call::{MachCall, read_call};
 use crate::routines::operations_are_routines;
 use aoi::Interface;
-use call_kit::{Called, Naming};
+use head_kit::{Called, Naming};
 use pres::Bound;
 use wire_def::{Encoding, HeadErr};
 

@@ -6,9 +6,9 @@ use Rattle.aoi.specs.Plain.{PlainInterface}
 use Rattle.back_xdr.specs.declared.call.OncCall.{OncCall}
 use Rattle.back_xdr.specs.Procedures.{numbers, procedures}
 use Rattle.back_xdr.proofs.Counting.{length-procedures}
-use Rattle.call_kit.specs.declared.called.Naming.{Naming}
-use Rattle.call_kit.specs.declared.called.Naming.TheVariants as naming
-use Rattle.call_kit.specs.Calls.{IsBelow}
+use Rattle.head_kit.specs.declared.called.Naming.{Naming}
+use Rattle.head_kit.specs.declared.called.Naming.TheVariants as naming
+use Rattle.head_kit.specs.Calls.{IsBelow}
 use Rattle.back_xdr.specs.Seeking.{is_called, operation_at, named_from}
 
 more : (n m : ℕ) (x : Naming) → IsBelow n x → n ≤ m → IsBelow m x

@@ -7,7 +7,7 @@ use Rattle.std.proofs.lemmas.List.{length-map, get_or-map, get_or_append_left, g
 use Rattle.aoi.specs.Plain.{PlainInterface}
 use Rattle.back_xdr.specs.declared.call.OncCall.{OncCall}
 use Rattle.back_xdr.specs.declared.procedures.Procedure.{Procedure}
-use Rattle.call_kit.specs.declared.called.Naming.TheVariants.{Operation}
+use Rattle.head_kit.specs.declared.called.Naming.TheVariants.{Operation}
 use Rattle.back_xdr.specs.Procedures.{numbers, procedure_in, procedures_of, procedures}
 use Rattle.back_xdr.specs.Seeking.{is_called, operation_at, named_from}
 use Rattle.back_xdr.specs.Laws.{called_by, IsNamedRight}

@@ -4,9 +4,9 @@ use Rattle.std.specs.List.{position_from}
 use Rattle.wire_def.specs.declared.encoding.Encoding.{Encoding}
 use Rattle.wire_def.specs.declared.encoding.Encoding.TheVariants.{Xdr}
 use Rattle.aoi.specs.Plain.{PlainInterface}
-use Rattle.call_kit.specs.declared.called.Called.{Called}
-use Rattle.call_kit.specs.declared.called.Naming.{Naming}
-use Rattle.call_kit.specs.declared.called.Naming.TheVariants.{Operation as one, NoInterface, NoOperation}
+use Rattle.head_kit.specs.declared.called.Called.{Called}
+use Rattle.head_kit.specs.declared.called.Naming.{Naming}
+use Rattle.head_kit.specs.declared.called.Naming.TheVariants.{Operation as one, NoInterface, NoOperation}
 use Rattle.back_xdr.specs.declared.call.OncCall.{OncCall}
 use Rattle.back_xdr.specs.Procedures.{numbers}
 use Rattle.back_xdr.specs.Reported.{BeginsCall}

@@ -3,7 +3,7 @@
 ghost use Rattle.std.specs.Prelude.{◌≡◌, length, map, IfOk, IfErr};
 ghost use Rattle.wire_def.specs.declared.encoding.Back.TheVariants.{Xdr};
 ghost use Rattle.aoi.specs.Plain.{plain_interface};
-ghost use Rattle.call_kit.specs.Calls.{IsBelow};
+ghost use Rattle.head_kit.specs.Calls.{IsBelow};
 ghost use Rattle.back_xdr.specs.Heads.{StopsWith};
 ghost use Rattle.back_xdr.specs.Heads as heads;
 ghost use Rattle.back_xdr.specs.Seeking.{named, is_called, operation_at, Calls};
@@ -11,7 +11,7 @@ ghost use Rattle.back_xdr.specs.Seeking.{named, is_called, operation_at, Calls};
 use crate::call::{OncCall, read_call};
 use crate::procedures::{before, operations_are_procedures, place_of};
 use aoi::Interface;
-use call_kit::{Called, Naming};
+use head_kit::{Called, Naming};
 use pres::Bound;
 use wire_def::{Encoding, HeadErr};
 

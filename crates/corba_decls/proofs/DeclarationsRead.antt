@@ -4,19 +4,19 @@ use Rattle.std.specs.Prelude.{codes}
 use Rattle.idl_lex.specs.declared.kinds.Token.{Token}
 use Rattle.idl_lex.specs.declared.kinds.TokenKind.{TokenKind}
 use Rattle.idl_lex.specs.declared.kinds.TokenKind.TheVariants as K
-use Rattle.syntax_kit.specs.Reading.{mark_is, word_is, begins_with, joined_at}
-use Rattle.syntax_kit.specs.Grammar.{Text, mark, ◌&◌, joined, one_of, kinds, IsGrammar, Leads}
-use Rattle.syntax_kit.proofs.Grammars.{read_is, mapped_is, both_is}
-use Rattle.syntax_kit.proofs.Leaves.{word_reads, mark_reads, mark_named, apart_word, apart_mark, leads_word, leads_both, leads_either, begins_not}
-use Rattle.syntax_kit.proofs.Productions.{weaker, after_is, leads_after, leads_by}
-use Rattle.syntax_kit.proofs.Lists.{turns, joined_is}
-use Rattle.corba_exprs.specs.Trees.{Tree}
-use Rattle.corba_exprs.specs.declared.tree.Identifier.{Identifier}
-use Rattle.corba_exprs.specs.Spelling.{identifier, expression}
-use Rattle.corba_exprs.specs.Readers.{is_identifier, is_joint}
-use Rattle.corba_exprs.proofs.LeavesRead.{identifier_is, leads_identifier}
-use Rattle.corba_exprs.proofs.Again.{May}
-use Rattle.corba_exprs.proofs.ExpressionsRead.{expression_is}
+use Rattle.idl_read.specs.Reading.{mark_is, word_is, begins_with, joined_at}
+use Rattle.idl_read.specs.Grammar.{Text, mark, ◌&◌, joined, one_of, kinds, IsGrammar, Leads}
+use Rattle.idl_read.proofs.Grammars.{read_is, mapped_is, both_is}
+use Rattle.idl_read.proofs.Leaves.{word_reads, mark_reads, mark_named, apart_word, apart_mark, leads_word, leads_both, leads_either, begins_not}
+use Rattle.idl_read.proofs.Productions.{weaker, after_is, leads_after, leads_by}
+use Rattle.idl_read.proofs.Lists.{turns, joined_is}
+use Rattle.idl_exprs.specs.Trees.{Tree}
+use Rattle.idl_exprs.specs.declared.tree.Identifier.{Identifier}
+use Rattle.idl_exprs.specs.Spelling.{identifier, expression}
+use Rattle.idl_exprs.specs.Readers.{is_identifier, is_joint}
+use Rattle.idl_exprs.proofs.LeavesRead.{identifier_is, leads_identifier}
+use Rattle.idl_exprs.proofs.Again.{May}
+use Rattle.idl_exprs.proofs.ExpressionsRead.{expression_is}
 use Rattle.corba_types.specs.declared.tree.Base.{Base}
 use Rattle.corba_types.proofs.BasesRead.{Closes}
 use Rattle.corba_types.proofs.SequencesRead.{whole, type_is, is_type}

@@ -4,14 +4,14 @@ use Rattle.std.specs.Prelude.{codes}
 use Rattle.idl_lex.specs.declared.kinds.Token.{Token}
 use Rattle.idl_lex.specs.declared.kinds.TokenKind.{TokenKind}
 use Rattle.idl_lex.specs.declared.kinds.TokenKind.TheVariants as K
-use Rattle.syntax_kit.specs.Reading.{Reader, mark_is, word_is, begins_with}
-use Rattle.syntax_kit.specs.Grammar.{Text, word, one_of, IsGrammar, Leads}
-use Rattle.syntax_kit.proofs.Grammars.{mapped_is, either_is}
-use Rattle.syntax_kit.proofs.Leaves.{word_reads, apart_or, apart_word, leads_word, leads_either, begins_so, begins_not}
-use Rattle.syntax_kit.proofs.Productions.{weaker}
-use Rattle.corba_exprs.specs.declared.tree.ScopedName.{ScopedName}
-use Rattle.corba_exprs.specs.Spelling.{scoped}
-use Rattle.corba_exprs.proofs.LeavesRead.{is_name, scoped_is, leads_scoped}
+use Rattle.idl_read.specs.Reading.{Reader, mark_is, word_is, begins_with}
+use Rattle.idl_read.specs.Grammar.{Text, word, one_of, IsGrammar, Leads}
+use Rattle.idl_read.proofs.Grammars.{mapped_is, either_is}
+use Rattle.idl_read.proofs.Leaves.{word_reads, apart_or, apart_word, leads_word, leads_either, begins_so, begins_not}
+use Rattle.idl_read.proofs.Productions.{weaker}
+use Rattle.idl_exprs.specs.declared.tree.ScopedName.{ScopedName}
+use Rattle.idl_exprs.specs.Spelling.{scoped}
+use Rattle.idl_exprs.proofs.LeavesRead.{is_name, scoped_is, leads_scoped}
 use Rattle.corba_types.specs.declared.tree.Int.{Int}
 use Rattle.corba_types.specs.Spelling.{int}
 use Rattle.corba_types.specs.Readers.{is_int}

@@ -4,23 +4,23 @@ use Rattle.std.specs.Prelude.{codes, [], ◌∷◌}
 use Rattle.idl_lex.specs.declared.kinds.Token.{Token}
 use Rattle.idl_lex.specs.declared.kinds.TokenKind.{TokenKind}
 use Rattle.idl_lex.specs.declared.kinds.TokenKind.TheVariants as K
-use Rattle.syntax_kit.specs.Reading.{mark_is, word_is, many}
-use Rattle.syntax_kit.specs.Grammar.{Text, word, mark, ◌&◌, each, some, one_of, kinds, IsGrammar, Leads, Any}
-use Rattle.syntax_kit.proofs.Grammars.{mapped_is, both_is, many_is}
-use Rattle.syntax_kit.proofs.Leaves.{word_reads, mark_reads, one_kind, apart_or, apart_word, apart_mark, leads_word, leads_mark, leads_both, leads_either, begins_so, begins_not, begins_else}
-use Rattle.syntax_kit.proofs.Productions.{weaker, after_is, before_is, leads_after, leads_by, unit_right_back}
-use Rattle.syntax_kit.proofs.Lists.{some_is, leads_some}
-use Rattle.corba_exprs.specs.Trees.{Tree}
-use Rattle.corba_exprs.specs.Spelling.{identifier, expression}
-use Rattle.corba_exprs.proofs.LeavesRead.{identifier_is}
-use Rattle.corba_exprs.proofs.Again.{May}
-use Rattle.corba_exprs.proofs.ExpressionsRead.{expression_is}
+use Rattle.idl_read.specs.Reading.{mark_is, word_is, many}
+use Rattle.idl_read.specs.Grammar.{Text, word, mark, ◌&◌, each, some, one_of, kinds, IsGrammar, Leads, Any}
+use Rattle.idl_read.proofs.Grammars.{mapped_is, both_is, many_is}
+use Rattle.idl_read.proofs.Leaves.{word_reads, mark_reads, one_kind, apart_or, apart_word, apart_mark, leads_word, leads_mark, leads_both, leads_either, begins_so, begins_not, begins_else}
+use Rattle.idl_read.proofs.Productions.{weaker, after_is, before_is, leads_after, leads_by, unit_right_back}
+use Rattle.idl_read.proofs.Lists.{some_is, leads_some}
+use Rattle.idl_exprs.specs.Trees.{Tree}
+use Rattle.idl_exprs.specs.Spelling.{identifier, expression}
+use Rattle.idl_exprs.proofs.LeavesRead.{identifier_is}
+use Rattle.idl_exprs.proofs.Again.{May}
+use Rattle.idl_exprs.proofs.ExpressionsRead.{expression_is}
 use Rattle.corba_types.specs.declared.tree.Base.{Base}
 use Rattle.corba_types.proofs.BasesRead.{Closes}
 use Rattle.corba_types.proofs.SequencesRead.{whole, type_is, is_type}
 use Rattle.corba_members.specs.declared.tree.Declarator.{Declarator}
 use Rattle.corba_members.specs.Spelling.{declarator}
-use Rattle.corba_exprs.specs.Readers.{is_open}
+use Rattle.idl_exprs.specs.Readers.{is_open}
 use Rattle.corba_members.specs.Readers.{has_dimension}
 use Rattle.corba_members.proofs.MembersRead.{leads_type, declarator_is, declared_closes, closed}
 use Rattle.corba_decls.specs.declared.tree.Label.{Label}

@@ -3,11 +3,11 @@ use Rattle.std.specs.Prelude.{◌⊎◌, ℕ, zero, suc, ◌-◌, Bool, false, �
 use Rattle.std.proofs.Common.{inl, inr}
 use Rattle.idl_lex.specs.declared.kinds.Token.{Token}
 use Rattle.idl_lex.specs.declared.kinds.TokenKind.{TokenKind}
-use Rattle.syntax_kit.specs.Reading.{Reader, word_is, word_at, mark_at, begins_with, both, mapped, either, after, before, many, some_at, joined_at}
-use Rattle.corba_exprs.specs.Trees.{Tree}
-use Rattle.corba_exprs.specs.declared.tree.Identifier.{Identifier}
-use Rattle.corba_exprs.specs.declared.tree.ScopedName.{ScopedName}
-use Rattle.corba_exprs.specs.Readers.{identifier_at, scoped_at, expression_at, is_open}
+use Rattle.idl_read.specs.Reading.{Reader, word_is, word_at, mark_at, begins_with, both, mapped, either, after, before, many, some_at, joined_at}
+use Rattle.idl_exprs.specs.Trees.{Tree}
+use Rattle.idl_exprs.specs.declared.tree.Identifier.{Identifier}
+use Rattle.idl_exprs.specs.declared.tree.ScopedName.{ScopedName}
+use Rattle.idl_exprs.specs.Readers.{identifier_at, scoped_at, expression_at, is_open}
 use Rattle.corba_types.specs.declared.tree.Int.{Int}
 use Rattle.corba_types.specs.declared.tree.Base.{Base}
 use Rattle.corba_types.specs.Readers.{is_int, int_at, type_at}

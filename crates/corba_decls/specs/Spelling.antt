@@ -1,7 +1,7 @@
 -- The tokens of declarations.
 use Rattle.std.specs.Prelude.{ℕ, zero, suc, ◌-◌, false, codes}
-use Rattle.syntax_kit.specs.Grammar.{Text, word, mark, ◌&◌, some, joined}
-use Rattle.corba_exprs.specs.Spelling.{identifier, scoped, expression}
+use Rattle.idl_read.specs.Grammar.{Text, word, mark, ◌&◌, some, joined}
+use Rattle.idl_exprs.specs.Spelling.{identifier, scoped, expression}
 use Rattle.corba_types.specs.Spelling.{int, type}
 use Rattle.corba_members.specs.Spelling.{declarator, structure, exception, enumeration}
 use Rattle.corba_decls.specs.declared.tree.Tag.{Tag}

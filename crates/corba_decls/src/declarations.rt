@@ -1,18 +1,18 @@
 //! Typedefs, constants and declarations.
 
 ghost use Rattle.std.specs.Prelude.{◌≡◌, ◌≤◌};
-ghost use Rattle.syntax_kit.specs.Reading.{Gives, begins_with};
+ghost use Rattle.idl_read.specs.Reading.{Gives, begins_with};
 ghost use Rattle.corba_decls.specs.Readers.{aliased_at, typedef_at, constant_at, declared_at, is_declaration, declaration_at};
 
 use crate::tags::constant_type;
 use crate::tree::{Aliased, Constant, Declaration, Typedef};
 use crate::unions::union;
-use corba_exprs::{Identifier, expression};
 use corba_members::{Declarator, enumeration, exception, structure};
 use corba_types::type_name;
+use idl_exprs::{Identifier, expression};
 use idl_lex::Token;
+use idl_read::{Halt, Production, begins, is_word, joined_nested, mark, word};
 use std::alloc::Global;
-use syntax_kit::{Halt, Production, begins, is_word, joined_nested, mark, word};
 
 /// What a typedef gives names to.
 #[tactic(auto, unfolding(crate::specs::Readers::aliased_at))]

@@ -1,15 +1,15 @@
 //! The types of discriminators and of constants.
 
 ghost use Rattle.std.specs.Prelude.{◌≡◌};
-ghost use Rattle.syntax_kit.specs.Reading.{Gives};
+ghost use Rattle.idl_read.specs.Reading.{Gives};
 ghost use Rattle.corba_decls.specs.Readers.{tag_type_at, tag_at, constant_type_at};
 
 use crate::tree::{ConstantType, Tag};
-use corba_exprs::scoped;
 use corba_types::{begins_int, int};
+use idl_exprs::scoped;
 use idl_lex::Token;
+use idl_read::{Halt, begins, word};
 use std::alloc::Global;
-use syntax_kit::{Halt, begins, word};
 
 /// The type of a discriminator.
 #[tactic(auto, unfolding(crate::specs::Readers::tag_type_at))]

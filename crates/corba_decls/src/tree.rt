@@ -1,8 +1,8 @@
 //! The syntax trees of declarations.
 
-use corba_exprs::{Expr, Identifier, ScopedName};
 use corba_members::{Declarator, Enum, Exception, Struct};
 use corba_types::{Int, TypeName};
+use idl_exprs::{Expr, Identifier, ScopedName};
 use kit_base::Listed;
 
 /// The type of a union's discriminator (`<switch_type_spec>`).

@@ -1,17 +1,17 @@
 //! Unions.
 
 ghost use Rattle.std.specs.Prelude.{◌≡◌, ◌≤◌};
-ghost use Rattle.syntax_kit.specs.Reading.{Gives};
+ghost use Rattle.idl_read.specs.Reading.{Gives};
 ghost use Rattle.corba_decls.specs.Readers.{union_at};
 
 use crate::tags::tag;
 use crate::tree::{Case, Label, Union};
-use corba_exprs::{Identifier, expression};
 use corba_members::Declarator;
 use corba_types::type_name;
+use idl_exprs::{Identifier, expression};
 use idl_lex::Token;
+use idl_read::{Halt, Nested, Production, begins, mark, some_nested, stands_before, word};
 use std::alloc::Global;
-use syntax_kit::{Halt, Nested, Production, begins, mark, some_nested, stands_before, word};
 
 impl Nested for Label {
     ghost use Rattle.corba_decls.specs.Readers.{has_label, label_at};
@@ -39,7 +39,7 @@ impl Nested for Label {
 }
 
 impl Nested for Case {
-    ghost use Rattle.corba_exprs.specs.Readers.{is_open};
+    ghost use Rattle.idl_exprs.specs.Readers.{is_open};
     ghost use Rattle.corba_decls.specs.Readers.{case_at};
 
     ghost goes = { is_open };

@@ -3,13 +3,13 @@ use Rattle.std.proofs.Common.{◌≡◌, ◌⊎◌, inl, inr, ℕ, List, Bool, f
 use Rattle.std.specs.Prelude.{codes}
 use Rattle.idl_lex.specs.declared.kinds.Token.{Token}
 use Rattle.idl_lex.specs.declared.kinds.TokenKind.{TokenKind}
-use Rattle.syntax_kit.specs.Reading.{mark_is, word_is, begins_with, many}
-use Rattle.syntax_kit.specs.Grammar.{Text, mark, one_of, each, IsGrammar, Leads, Any}
-use Rattle.syntax_kit.proofs.Grammars.{mapped_is, either_is, many_is}
-use Rattle.syntax_kit.proofs.Leaves.{mark_reads, mark_named, leads_mark, Apart, apart_or, apart_word, apart_mark, leads_both, leads_either, begins_so, begins_not, begins_else}
-use Rattle.syntax_kit.proofs.Productions.{weaker, before_is, leads_by}
-use Rattle.syntax_kit.proofs.Lists.{turns}
-use Rattle.corba_exprs.specs.Readers.{is_joint, is_open}
+use Rattle.idl_read.specs.Reading.{mark_is, word_is, begins_with, many}
+use Rattle.idl_read.specs.Grammar.{Text, mark, one_of, each, IsGrammar, Leads, Any}
+use Rattle.idl_read.proofs.Grammars.{mapped_is, either_is, many_is}
+use Rattle.idl_read.proofs.Leaves.{mark_reads, mark_named, leads_mark, Apart, apart_or, apart_word, apart_mark, leads_both, leads_either, begins_so, begins_not, begins_else}
+use Rattle.idl_read.proofs.Productions.{weaker, before_is, leads_by}
+use Rattle.idl_read.proofs.Lists.{turns}
+use Rattle.idl_exprs.specs.Readers.{is_joint, is_open}
 use Rattle.corba_decls.specs.declared.tree.Declaration.{Declaration}
 use Rattle.corba_decls.specs.Spelling.{declaration}
 use Rattle.corba_decls.specs.Readers.{is_declaration}

@@ -2,22 +2,22 @@
 use Rattle.std.proofs.Common.{◌≡◌, ℕ, List, ◌++◌, false, refl}
 use Rattle.std.specs.Prelude.{codes}
 use Rattle.idl_lex.specs.declared.kinds.Token.{Token}
-use Rattle.syntax_kit.specs.Reading.{mark_is, word_is, begins_with}
-use Rattle.syntax_kit.specs.Grammar.{Text, mark, ◌&◌, each, joined, kinds, IsGrammar, Leads, Any}
-use Rattle.syntax_kit.proofs.Grammars.{mapped_is, both_is, one_tree}
-use Rattle.syntax_kit.proofs.Leaves.{word_reads, mark_reads, leads_word, leads_mark, apart_mark, begins_so, begins_not}
-use Rattle.syntax_kit.proofs.Productions.{weaker, after_is, before_is, leads_after, not_other}
-use Rattle.syntax_kit.proofs.Lists.{turns, joined_is}
-use Rattle.corba_exprs.specs.declared.tree.Identifier.{Identifier}
-use Rattle.corba_exprs.specs.Spelling.{identifier}
-use Rattle.corba_exprs.proofs.LeavesRead.{NameMay, identifier_is}
+use Rattle.idl_read.specs.Reading.{mark_is, word_is, begins_with}
+use Rattle.idl_read.specs.Grammar.{Text, mark, ◌&◌, each, joined, kinds, IsGrammar, Leads, Any}
+use Rattle.idl_read.proofs.Grammars.{mapped_is, both_is, one_tree}
+use Rattle.idl_read.proofs.Leaves.{word_reads, mark_reads, leads_word, leads_mark, apart_mark, begins_so, begins_not}
+use Rattle.idl_read.proofs.Productions.{weaker, after_is, before_is, leads_after, not_other}
+use Rattle.idl_read.proofs.Lists.{turns, joined_is}
+use Rattle.idl_exprs.specs.declared.tree.Identifier.{Identifier}
+use Rattle.idl_exprs.specs.Spelling.{identifier}
+use Rattle.idl_exprs.proofs.LeavesRead.{NameMay, identifier_is}
 use Rattle.corba_operations.specs.declared.tree.Reference.{Reference}
 use Rattle.corba_operations.specs.Spelling.{if_any, reference}
 use Rattle.corba_operations.proofs.PartsRead.{any_is, reference_is}
 use Rattle.corba_interfaces.specs.declared.tree.Export.{Export}
 use Rattle.corba_interfaces.specs.declared.tree.Interface.{Interface}
 use Rattle.corba_interfaces.specs.Spelling.{export, bases, interface}
-use Rattle.corba_exprs.specs.Readers.{is_open}
+use Rattle.idl_exprs.specs.Readers.{is_open}
 use Rattle.corba_interfaces.specs.Readers.{bases_at, interface_of, interface_at}
 use Rattle.corba_interfaces.proofs.ExportsRead.{exports_is}
 

@@ -1,9 +1,9 @@
 -- What each function of the parser reads: a tool beside Spelling, tied to it in proofs/.
 use Rattle.std.specs.Prelude.{◌⊎◌, ℕ, List, codes}
 use Rattle.std.proofs.Common.{inl, inr}
-use Rattle.syntax_kit.specs.Reading.{Reader, mark_is, word_at, mark_at, begins_with, both, mapped, either, after, before, many, joined_at}
-use Rattle.corba_exprs.specs.declared.tree.Identifier.{Identifier}
-use Rattle.corba_exprs.specs.Readers.{identifier_at, is_open}
+use Rattle.idl_read.specs.Reading.{Reader, mark_is, word_at, mark_at, begins_with, both, mapped, either, after, before, many, joined_at}
+use Rattle.idl_exprs.specs.declared.tree.Identifier.{Identifier}
+use Rattle.idl_exprs.specs.Readers.{identifier_at, is_open}
 use Rattle.corba_decls.specs.declared.tree.Declaration.{Declaration}
 use Rattle.corba_decls.specs.Readers.{is_declaration, declaration_at}
 use Rattle.corba_operations.specs.declared.tree.Reference.{Reference}

@@ -1,7 +1,7 @@
 -- The tokens of interfaces.
 use Rattle.std.specs.Prelude.{ℕ, List, codes}
-use Rattle.syntax_kit.specs.Grammar.{Text, word, mark, ◌&◌, each, joined}
-use Rattle.corba_exprs.specs.Spelling.{identifier}
+use Rattle.idl_read.specs.Grammar.{Text, word, mark, ◌&◌, each, joined}
+use Rattle.idl_exprs.specs.Spelling.{identifier}
 use Rattle.corba_decls.specs.Spelling.{declaration}
 use Rattle.corba_operations.specs.declared.tree.Reference.{Reference}
 use Rattle.corba_operations.specs.Spelling.{if_any, reference, attribute, operation}

@@ -1,15 +1,15 @@
 //! What an interface declares.
 
 ghost use Rattle.std.specs.Prelude.{◌≡◌, ◌≤◌};
-ghost use Rattle.syntax_kit.specs.Reading.{Gives};
+ghost use Rattle.idl_read.specs.Reading.{Gives};
 ghost use Rattle.corba_interfaces.specs.Readers.{exported_at};
 
 use crate::tree::Export;
 use corba_decls::{begins_declaration, declaration};
 use corba_operations::{attribute, begins_attribute, operation};
 use idl_lex::Token;
+use idl_read::{Halt, Nested, mark, stands_before};
 use std::alloc::Global;
-use syntax_kit::{Halt, Nested, mark, stands_before};
 
 /// What is declared, without the `;` that ends it.
 #[tactic(auto, unfolding(crate::specs::Readers::exported_at))]
@@ -30,7 +30,7 @@ fn exported(alloc: Global, levels: u32, tokens: &[Token]) -> Result<(Export, &[T
 }
 
 impl Nested for Export {
-    ghost use Rattle.corba_exprs.specs.Readers.{is_open};
+    ghost use Rattle.idl_exprs.specs.Readers.{is_open};
     ghost use Rattle.corba_interfaces.specs.Readers.{export_at};
 
     ghost goes = { is_open };

@@ -1,16 +1,16 @@
 //! Interfaces.
 
 ghost use Rattle.std.specs.Prelude.{◌≡◌, ◌≤◌};
-ghost use Rattle.syntax_kit.specs.Reading.{Gives};
+ghost use Rattle.idl_read.specs.Reading.{Gives};
 ghost use Rattle.corba_interfaces.specs.Readers.{bases_at, interface_at};
 
 use crate::tree::{Export, Interface};
-use corba_exprs::Identifier;
 use corba_operations::Reference;
+use idl_exprs::Identifier;
 use idl_lex::Token;
+use idl_read::{Halt, Production, begins_mark, each_nested, joined_nested, mark, word};
 use kit_base::Listed;
 use std::alloc::Global;
-use syntax_kit::{Halt, Production, begins_mark, each_nested, joined_nested, mark, word};
 
 /// The interfaces that are inherited from (`<inheritance_spec>`); none where no `:` comes first.
 #[tactic(auto, unfolding(crate::specs::Readers::bases_at))]

@@ -2,7 +2,7 @@
 
 ghost use Rattle.std.specs.Prelude.{◌≡◌, ℕ, List};
 ghost use Rattle.idl_lex.specs.declared.kinds.Token.{Token};
-ghost use Rattle.syntax_kit.specs.Grammar.{kinds};
+ghost use Rattle.idl_read.specs.Grammar.{kinds};
 ghost use Rattle.corba_interfaces.specs.Spelling.{interface};
 ghost use Rattle.corba_interfaces.specs.declared.tree.Interface.{Interface};
 

@@ -1,8 +1,8 @@
 //! The syntax tree of an interface.
 
 use corba_decls::Declaration;
-use corba_exprs::Identifier;
 use corba_operations::{Attribute, Operation, Reference};
+use idl_exprs::Identifier;
 use kit_base::Listed;
 
 /// What an interface declares (`<export>`).

@@ -4,19 +4,19 @@ use Rattle.std.specs.Prelude.{codes}
 use Rattle.idl_lex.specs.declared.kinds.Token.{Token}
 use Rattle.idl_lex.specs.declared.kinds.TokenKind.{TokenKind}
 use Rattle.idl_lex.specs.declared.kinds.TokenKind.TheVariants as K
-use Rattle.syntax_kit.specs.Reading.{mark_is, word_is, mark_at, begins_with, many, before, joined_at}
-use Rattle.syntax_kit.specs.Grammar.{Text, mark, ◌&◌, each, some, joined, kinds, IsGrammar, Leads, Any}
-use Rattle.syntax_kit.proofs.Grammars.{mapped_is, both_is, many_is, parted, one_tree}
-use Rattle.syntax_kit.proofs.Leaves.{word_reads, mark_reads, mark_named, leads_word, one_kind, Apart, apart_mark, leads_mark, leads_both, begins_so, begins_not, begins_else}
-use Rattle.syntax_kit.proofs.Productions.{weaker, after_is, before_is, leads_after, not_other}
-use Rattle.syntax_kit.proofs.Lists.{turns, joined_is, some_is}
-use Rattle.corba_exprs.specs.Trees.{Tree}
-use Rattle.corba_exprs.specs.declared.tree.Identifier.{Identifier}
-use Rattle.corba_exprs.specs.Spelling.{identifier, expression}
-use Rattle.corba_exprs.specs.Readers.{is_identifier, is_joint, is_open}
-use Rattle.corba_exprs.proofs.LeavesRead.{identifier_is, leads_identifier}
-use Rattle.corba_exprs.proofs.Again.{May}
-use Rattle.corba_exprs.proofs.ExpressionsRead.{expression_is}
+use Rattle.idl_read.specs.Reading.{mark_is, word_is, mark_at, begins_with, many, before, joined_at}
+use Rattle.idl_read.specs.Grammar.{Text, mark, ◌&◌, each, some, joined, kinds, IsGrammar, Leads, Any}
+use Rattle.idl_read.proofs.Grammars.{mapped_is, both_is, many_is, parted, one_tree}
+use Rattle.idl_read.proofs.Leaves.{word_reads, mark_reads, mark_named, leads_word, one_kind, Apart, apart_mark, leads_mark, leads_both, begins_so, begins_not, begins_else}
+use Rattle.idl_read.proofs.Productions.{weaker, after_is, before_is, leads_after, not_other}
+use Rattle.idl_read.proofs.Lists.{turns, joined_is, some_is}
+use Rattle.idl_exprs.specs.Trees.{Tree}
+use Rattle.idl_exprs.specs.declared.tree.Identifier.{Identifier}
+use Rattle.idl_exprs.specs.Spelling.{identifier, expression}
+use Rattle.idl_exprs.specs.Readers.{is_identifier, is_joint, is_open}
+use Rattle.idl_exprs.proofs.LeavesRead.{identifier_is, leads_identifier}
+use Rattle.idl_exprs.proofs.Again.{May}
+use Rattle.idl_exprs.proofs.ExpressionsRead.{expression_is}
 use Rattle.corba_types.specs.declared.tree.Base.{Base}
 use Rattle.corba_types.specs.Spelling.{type}
 use Rattle.corba_types.proofs.BasesRead.{Closes, is_plain, leads_base}

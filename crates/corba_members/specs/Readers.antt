@@ -1,10 +1,10 @@
 -- What each function of the parser reads: a tool beside Spelling, tied to it in proofs/.
 use Rattle.std.specs.Prelude.{ℕ, Bool, false, List, Option, codes}
 use Rattle.idl_lex.specs.declared.kinds.Token.{Token}
-use Rattle.syntax_kit.specs.Reading.{Reader, mark_is, word_at, mark_at, begins_with, both, mapped, after, before, many, some_at, joined_at}
-use Rattle.corba_exprs.specs.Trees.{Tree}
-use Rattle.corba_exprs.specs.declared.tree.Identifier.{Identifier}
-use Rattle.corba_exprs.specs.Readers.{identifier_at, expression_at, is_open}
+use Rattle.idl_read.specs.Reading.{Reader, mark_is, word_at, mark_at, begins_with, both, mapped, after, before, many, some_at, joined_at}
+use Rattle.idl_exprs.specs.Trees.{Tree}
+use Rattle.idl_exprs.specs.declared.tree.Identifier.{Identifier}
+use Rattle.idl_exprs.specs.Readers.{identifier_at, expression_at, is_open}
 use Rattle.corba_types.specs.declared.tree.Base.{Base}
 use Rattle.corba_types.specs.Readers.{type_at}
 use Rattle.corba_members.specs.declared.tree.Dimension.{Dimension}

@@ -1,7 +1,7 @@
 -- The tokens of declarators, and of what is made of members.
 use Rattle.std.specs.Prelude.{ℕ, false, codes}
-use Rattle.syntax_kit.specs.Grammar.{Text, word, mark, ◌&◌, each, some, joined}
-use Rattle.corba_exprs.specs.Spelling.{identifier, expression}
+use Rattle.idl_read.specs.Grammar.{Text, word, mark, ◌&◌, each, some, joined}
+use Rattle.idl_exprs.specs.Spelling.{identifier, expression}
 use Rattle.corba_types.specs.Spelling.{type}
 use Rattle.corba_members.specs.declared.tree.Dimension.{Dimension}
 use Rattle.corba_members.specs.declared.tree.Declarator.{Declarator}

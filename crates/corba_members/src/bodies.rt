@@ -1,14 +1,14 @@
 //! Structs, exceptions and enumerations.
 
 ghost use Rattle.std.specs.Prelude.{◌≡◌, ◌≤◌};
-ghost use Rattle.syntax_kit.specs.Reading.{Gives};
+ghost use Rattle.idl_read.specs.Reading.{Gives};
 ghost use Rattle.corba_members.specs.Readers.{structure_at, exception_at, enumeration_at};
 
 use crate::tree::{Enum, Exception, Member, Struct};
-use corba_exprs::Identifier;
+use idl_exprs::Identifier;
 use idl_lex::Token;
+use idl_read::{Halt, Production, each_nested, joined, mark, some_nested, word};
 use std::alloc::Global;
-use syntax_kit::{Halt, Production, each_nested, joined, mark, some_nested, word};
 
 /// A struct (`<struct_type>`) within so many levels, and the tokens after it.
 #[tactic(auto, unfolding(crate::specs::Readers::structure_at))]

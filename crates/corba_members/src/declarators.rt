@@ -3,13 +3,13 @@
 ghost use Rattle.std.specs.Prelude.{◌≡◌};
 
 use crate::tree::{Declarator, Dimension, Member};
-use corba_exprs::{Identifier, expression};
 use corba_types::type_name;
+use idl_exprs::{Identifier, expression};
 use idl_lex::Token;
-use std::alloc::Global;
-use syntax_kit::{
+use idl_read::{
     Halt, Nested, Production, begins_mark, each_nested, joined_nested, mark, stands_before,
 };
+use std::alloc::Global;
 
 impl Nested for Dimension {
     ghost use Rattle.corba_members.specs.Readers.{has_dimension, dimension_at};
@@ -32,7 +32,7 @@ impl Nested for Dimension {
 }
 
 impl Nested for Declarator {
-    ghost use Rattle.corba_exprs.specs.Readers.{is_open};
+    ghost use Rattle.idl_exprs.specs.Readers.{is_open};
     ghost use Rattle.corba_members.specs.Readers.{declarator_at};
 
     ghost goes = { is_open };
@@ -52,7 +52,7 @@ impl Nested for Declarator {
 }
 
 impl Nested for Member {
-    ghost use Rattle.corba_exprs.specs.Readers.{is_open};
+    ghost use Rattle.idl_exprs.specs.Readers.{is_open};
     ghost use Rattle.corba_members.specs.Readers.{member_at};
 
     ghost goes = { is_open };

@@ -2,7 +2,7 @@
 
 ghost use Rattle.std.specs.Prelude.{◌≡◌, ℕ, List};
 ghost use Rattle.idl_lex.specs.declared.kinds.Token.{Token};
-ghost use Rattle.syntax_kit.specs.Grammar.{kinds};
+ghost use Rattle.idl_read.specs.Grammar.{kinds};
 ghost use Rattle.corba_members.specs.Spelling.{structure, exception, enumeration};
 ghost use Rattle.corba_members.specs.declared.tree.Struct.{Struct};
 ghost use Rattle.corba_members.specs.declared.tree.Exception.{Exception};

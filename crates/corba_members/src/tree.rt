@@ -1,7 +1,7 @@
 //! The syntax trees of declarators, and of what is made of members.
 
-use corba_exprs::{Expr, Identifier};
 use corba_types::TypeName;
+use idl_exprs::{Expr, Identifier};
 use kit_base::Listed;
 
 /// A dimension of an array (`<fixed_array_size>`).

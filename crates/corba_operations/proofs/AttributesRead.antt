@@ -4,17 +4,17 @@ use Rattle.std.specs.Prelude.{codes}
 use Rattle.idl_lex.specs.declared.kinds.Token.{Token}
 use Rattle.idl_lex.specs.declared.kinds.TokenKind.{TokenKind}
 use Rattle.idl_lex.specs.declared.kinds.TokenKind.TheVariants as K
-use Rattle.syntax_kit.specs.Reading.{mark_is, word_is, begins_with}
-use Rattle.syntax_kit.specs.Grammar.{Text, mark, word, ◌&◌, each, joined, kinds, IsGrammar, Leads}
-use Rattle.syntax_kit.proofs.Grammars.{mapped_is, both_is, parted, one_tree}
-use Rattle.syntax_kit.proofs.Leaves.{word_reads, mark_named, leads_word, one_kind, Apart, apart_word, leads_mark, leads_both, begins_not}
-use Rattle.syntax_kit.proofs.Productions.{weaker, after_is, leads_after, leads_when}
-use Rattle.syntax_kit.proofs.Lists.{joined_is}
-use Rattle.corba_exprs.specs.Trees.{Tree}
-use Rattle.corba_exprs.specs.declared.tree.Identifier.{Identifier}
-use Rattle.corba_exprs.specs.Spelling.{identifier}
-use Rattle.corba_exprs.specs.Readers.{is_joint}
-use Rattle.corba_exprs.proofs.LeavesRead.{identifier_is}
+use Rattle.idl_read.specs.Reading.{mark_is, word_is, begins_with}
+use Rattle.idl_read.specs.Grammar.{Text, mark, word, ◌&◌, each, joined, kinds, IsGrammar, Leads}
+use Rattle.idl_read.proofs.Grammars.{mapped_is, both_is, parted, one_tree}
+use Rattle.idl_read.proofs.Leaves.{word_reads, mark_named, leads_word, one_kind, Apart, apart_word, leads_mark, leads_both, begins_not}
+use Rattle.idl_read.proofs.Productions.{weaker, after_is, leads_after, leads_when}
+use Rattle.idl_read.proofs.Lists.{joined_is}
+use Rattle.idl_exprs.specs.Trees.{Tree}
+use Rattle.idl_exprs.specs.declared.tree.Identifier.{Identifier}
+use Rattle.idl_exprs.specs.Spelling.{identifier}
+use Rattle.idl_exprs.specs.Readers.{is_joint}
+use Rattle.idl_exprs.proofs.LeavesRead.{identifier_is}
 use Rattle.corba_types.specs.declared.tree.Base.{Base}
 use Rattle.corba_types.specs.Spelling.{type}
 use Rattle.corba_types.proofs.BasesRead.{Closes, leads_base}

@@ -4,17 +4,17 @@ use Rattle.std.specs.Prelude.{codes}
 use Rattle.idl_lex.specs.declared.kinds.Token.{Token}
 use Rattle.idl_lex.specs.declared.kinds.TokenKind.{TokenKind}
 use Rattle.idl_lex.specs.declared.kinds.TokenKind.TheVariants as K
-use Rattle.syntax_kit.specs.Reading.{mark_is, word_is, token_at, word_in, begins_with, begins_other}
-use Rattle.syntax_kit.specs.Grammar.{Text, mark, word, ◌&◌, one_of, joined, kinds, IsGrammar, Leads, Any}
-use Rattle.syntax_kit.proofs.Grammars.{mapped_is, both_is, either_is, parted, one_tree}
-use Rattle.syntax_kit.proofs.Leaves.{word_reads, mark_reads, mark_named, leads_word, leads_mark, Apart, apart_word, apart_mark, leads_both, leads_either, begins_so, begins_not, begins_else}
-use Rattle.syntax_kit.proofs.Productions.{weaker, after_is, before_is, leads_after, leads_when, leads_by, words_are, leads_words, not_other}
-use Rattle.syntax_kit.proofs.Lists.{turns, joined_is, leads_joined}
-use Rattle.corba_exprs.specs.Trees.{Tree}
-use Rattle.corba_exprs.specs.declared.tree.Identifier.{Identifier}
-use Rattle.corba_exprs.specs.Spelling.{identifier}
-use Rattle.corba_exprs.specs.Readers.{is_joint}
-use Rattle.corba_exprs.proofs.LeavesRead.{NameMay, identifier_is}
+use Rattle.idl_read.specs.Reading.{mark_is, word_is, token_at, word_in, begins_with, begins_other}
+use Rattle.idl_read.specs.Grammar.{Text, mark, word, ◌&◌, one_of, joined, kinds, IsGrammar, Leads, Any}
+use Rattle.idl_read.proofs.Grammars.{mapped_is, both_is, either_is, parted, one_tree}
+use Rattle.idl_read.proofs.Leaves.{word_reads, mark_reads, mark_named, leads_word, leads_mark, Apart, apart_word, apart_mark, leads_both, leads_either, begins_so, begins_not, begins_else}
+use Rattle.idl_read.proofs.Productions.{weaker, after_is, before_is, leads_after, leads_when, leads_by, words_are, leads_words, not_other}
+use Rattle.idl_read.proofs.Lists.{turns, joined_is, leads_joined}
+use Rattle.idl_exprs.specs.Trees.{Tree}
+use Rattle.idl_exprs.specs.declared.tree.Identifier.{Identifier}
+use Rattle.idl_exprs.specs.Spelling.{identifier}
+use Rattle.idl_exprs.specs.Readers.{is_joint}
+use Rattle.idl_exprs.proofs.LeavesRead.{NameMay, identifier_is}
 use Rattle.corba_types.specs.declared.tree.Base.{Base}
 use Rattle.corba_types.proofs.BasesRead.{Closes}
 use Rattle.corba_types.proofs.SequencesRead.{type_is, is_type}

@@ -3,11 +3,11 @@ use Rattle.std.proofs.Common.{◌≡◌, ℕ, zero, suc, List, [], ◌∷◌, �
 use Rattle.idl_lex.specs.declared.kinds.Token.{Token}
 use Rattle.idl_lex.specs.declared.kinds.TokenKind.{TokenKind}
 use Rattle.idl_lex.specs.declared.kinds.TokenKind.TheVariants.{Name}
-use Rattle.syntax_kit.specs.Reading.{Reader, word_is, flag_at, begins_with}
-use Rattle.syntax_kit.specs.Grammar.{Text, word, maybe, when, kinds, IsGrammar, Leads}
-use Rattle.syntax_kit.proofs.Grammars.{read_is, mapped_is, option_is}
-use Rattle.syntax_kit.proofs.Leaves.{word_named, equal_bytes}
-use Rattle.corba_exprs.proofs.LeavesRead.{NameMay, scoped_is, is_name, leads_scoped}
+use Rattle.idl_read.specs.Reading.{Reader, word_is, flag_at, begins_with}
+use Rattle.idl_read.specs.Grammar.{Text, word, maybe, when, kinds, IsGrammar, Leads}
+use Rattle.idl_read.proofs.Grammars.{read_is, mapped_is, option_is}
+use Rattle.idl_read.proofs.Leaves.{word_named, equal_bytes}
+use Rattle.idl_exprs.proofs.LeavesRead.{NameMay, scoped_is, is_name, leads_scoped}
 use Rattle.corba_operations.specs.Spelling.{if_any, reference}
 use Rattle.corba_operations.specs.Readers.{or_none, any_at, reference_of, reference_at}
 

@@ -3,11 +3,11 @@ use Rattle.std.specs.Prelude.{Bool, ◌||◌, ◌⊎◌, ℕ, zero, suc, ◌-◌
 use Rattle.std.proofs.Common.{inl, inr}
 use Rattle.idl_lex.specs.declared.kinds.Token.{Token}
 use Rattle.idl_lex.specs.declared.kinds.TokenKind.{TokenKind}
-use Rattle.syntax_kit.specs.Reading.{Reader, word_is, mark_is, word_at, mark_at, token_at, word_in, has_word, flag_at, begins_with, begins_other, both, mapped, either, option, after, before, joined_at}
-use Rattle.corba_exprs.specs.Trees.{Tree}
-use Rattle.corba_exprs.specs.declared.tree.Identifier.{Identifier}
-use Rattle.corba_exprs.specs.declared.tree.ScopedName.{ScopedName}
-use Rattle.corba_exprs.specs.Readers.{identifier_at, scoped_at}
+use Rattle.idl_read.specs.Reading.{Reader, word_is, mark_is, word_at, mark_at, token_at, word_in, has_word, flag_at, begins_with, begins_other, both, mapped, either, option, after, before, joined_at}
+use Rattle.idl_exprs.specs.Trees.{Tree}
+use Rattle.idl_exprs.specs.declared.tree.Identifier.{Identifier}
+use Rattle.idl_exprs.specs.declared.tree.ScopedName.{ScopedName}
+use Rattle.idl_exprs.specs.Readers.{identifier_at, scoped_at}
 use Rattle.corba_types.specs.declared.tree.Base.{Base}
 use Rattle.corba_types.specs.Readers.{type_at}
 use Rattle.corba_operations.specs.declared.tree.Reference.{Reference}

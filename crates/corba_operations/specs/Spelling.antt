@@ -1,8 +1,8 @@
 -- The tokens of attributes and operations.
 use Rattle.std.specs.Prelude.{ℕ, zero, suc, ◌-◌, false, List, [], ◌∷◌, Option, Some, None, codes}
-use Rattle.syntax_kit.specs.Grammar.{Text, empty, word, mark, ◌&◌, when, joined}
-use Rattle.corba_exprs.specs.Trees.{Tree}
-use Rattle.corba_exprs.specs.Spelling.{identifier, scoped}
+use Rattle.idl_read.specs.Grammar.{Text, empty, word, mark, ◌&◌, when, joined}
+use Rattle.idl_exprs.specs.Trees.{Tree}
+use Rattle.idl_exprs.specs.Spelling.{identifier, scoped}
 use Rattle.corba_types.specs.declared.tree.Base.{Base}
 use Rattle.corba_types.specs.Spelling.{type}
 use Rattle.corba_operations.specs.declared.tree.Reference.{Reference}

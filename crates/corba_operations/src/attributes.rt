@@ -1,16 +1,16 @@
 //! Attributes.
 
 ghost use Rattle.std.specs.Prelude.{◌≡◌, ◌≤◌};
-ghost use Rattle.syntax_kit.specs.Reading.{Gives, begins_with};
+ghost use Rattle.idl_read.specs.Reading.{Gives, begins_with};
 ghost use Rattle.corba_operations.specs.Readers.{is_attribute, attribute_at};
 
 use crate::optional::word_flag;
 use crate::tree::Attribute;
-use corba_exprs::Identifier;
 use corba_types::type_name;
+use idl_exprs::Identifier;
 use idl_lex::Token;
+use idl_read::{Halt, is_word, joined, word};
 use std::alloc::Global;
-use syntax_kit::{Halt, is_word, joined, word};
 
 /// Whether a word comes first that begins attributes.
 pub fn begins_attribute(tokens: &[Token]) -> bool

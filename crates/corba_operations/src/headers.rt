@@ -3,10 +3,10 @@
 ghost use Rattle.std.specs.Prelude.{◌≡◌, ◌≤◌};
 
 use crate::tree::Reference;
-use corba_exprs::scoped;
+use idl_exprs::scoped;
 use idl_lex::Token;
+use idl_read::{Halt, Nested, begins_mark};
 use std::alloc::Global;
-use syntax_kit::{Halt, Nested, begins_mark};
 
 impl Nested for Reference {
     ghost use Rattle.corba_operations.specs.Readers.{is_further, reference_at};

@@ -2,7 +2,7 @@
 
 ghost use Rattle.std.specs.Prelude.{◌≡◌, ℕ, List};
 ghost use Rattle.idl_lex.specs.declared.kinds.Token.{Token};
-ghost use Rattle.syntax_kit.specs.Grammar.{kinds};
+ghost use Rattle.idl_read.specs.Grammar.{kinds};
 ghost use Rattle.corba_operations.specs.Spelling.{attribute, operation};
 ghost use Rattle.corba_operations.specs.declared.tree.Attribute.{Attribute};
 ghost use Rattle.corba_operations.specs.declared.tree.Operation.{Operation};

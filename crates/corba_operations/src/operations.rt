@@ -1,20 +1,20 @@
 //! Operations.
 
 ghost use Rattle.std.specs.Prelude.{◌≡◌, ◌≤◌, ◌-◌, IfErr};
-ghost use Rattle.syntax_kit.specs.Reading.{Gives, token_at};
+ghost use Rattle.idl_read.specs.Reading.{Gives, token_at};
 ghost use Rattle.corba_operations.specs.Readers.{direction_in, parameters_at, result_at, raises_at, operation_at};
 
 use crate::optional::word_flag;
 use crate::tree::{Direction, Operation, Parameter, Reference};
-use corba_exprs::Identifier;
 use corba_types::{TypeName, type_name};
+use idl_exprs::Identifier;
 use idl_lex::Token;
-use kit_base::Listed;
-use std::alloc::Global;
-use syntax_kit::{
+use idl_read::{
     Halt, Nested, Production, begins, begins_mark, is_word, joined_nested, mark, stands_before,
     word,
 };
+use kit_base::Listed;
+use std::alloc::Global;
 
 /// The direction that a token is.
 fn direction_of(token: &Token) -> Option<Direction>

@@ -1,10 +1,10 @@
 //! Parts that may be missing.
 
 ghost use Rattle.std.specs.Prelude.{◌≡◌, Some};
-ghost use Rattle.syntax_kit.specs.Reading.{word_is, flag_at};
+ghost use Rattle.idl_read.specs.Reading.{word_is, flag_at};
 
 use idl_lex::Token;
-use syntax_kit::is_word;
+use idl_read::is_word;
 
 /// Whether the word comes first, and the tokens after it; all the tokens where it does not.
 pub(crate) fn word_flag<'a>(tokens: &'a [Token], word: &[u8]) -> (bool, &'a [Token])

@@ -1,7 +1,7 @@
 //! The syntax trees of attributes and operations.
 
-use corba_exprs::{Identifier, ScopedName};
 use corba_types::TypeName;
+use idl_exprs::{Identifier, ScopedName};
 use kit_base::Listed;
 
 /// A name that refers to an interface or to an exception (`<scoped_name>`).

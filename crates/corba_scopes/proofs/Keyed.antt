@@ -6,8 +6,8 @@ use Rattle.std.specs.Map.{lookup}
 use Rattle.std.specs.Str.{bytes_eq}
 use Rattle.indexmap.specs.IndexMap.{insert_entry}
 use Rattle.indexmap.specs.IndexSet.{insert_key}
-use Rattle.name_kit.specs.Names.{has}
-use Rattle.name_kit.proofs.Tables.{any_map, append_map}
+use Rattle.idl_names.specs.Names.{has}
+use Rattle.idl_names.proofs.Tables.{any_map, append_map}
 use Rattle.corba_scopes.specs.Names.{look_up, put}
 use Rattle.corba_scopes.specs.Finding.{added}
 

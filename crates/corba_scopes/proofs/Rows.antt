@@ -7,10 +7,10 @@ use Rattle.std.specs.Prelude.{codes, pos, Ok}
 use Rattle.idl_const.specs.declared.tree.BinaryOp.TheVariants.{Add, Div, Left}
 use Rattle.idl_const.specs.declared.tree.UnaryOp.TheVariants.{Minus}
 use Rattle.aoi.specs.declared.faults.NameFault.TheVariants.{Unknown, Twice, CaseClash, NotConst, Range}
-use Rattle.name_kit.specs.Answers.{fault}
-use Rattle.corba_exprs.specs.declared.tree.Identifier.{Identifier}
-use Rattle.corba_exprs.specs.declared.tree.Leaf.TheVariants as L
-use Rattle.corba_exprs.specs.Trees.{Tree, leaf, unary, binary}
+use Rattle.idl_names.specs.Answers.{fault}
+use Rattle.idl_exprs.specs.declared.tree.Identifier.{Identifier}
+use Rattle.idl_exprs.specs.declared.tree.Leaf.TheVariants as L
+use Rattle.idl_exprs.specs.Trees.{Tree, leaf, unary, binary}
 use Rattle.corba_scopes.specs.declared.meanings.Meaning.TheVariants as M
 use Rattle.corba_scopes.specs.declared.meanings.Constant.TheVariants as C
 use Rattle.corba_scopes.specs.Around.{file, inside}

@@ -3,10 +3,10 @@ use Rattle.std.specs.Prelude.{true, false, ℕ, ℤ, pos, List, length, Option, 
 use Rattle.idl_const.specs.declared.value.ConstErr.{ConstErr}
 use Rattle.idl_const.specs.Values.{unary_value, binary_value}
 use Rattle.aoi.specs.declared.faults.NameFault.TheVariants.{Unknown, NotConst, Range}
-use Rattle.name_kit.specs.Answers.{Answer, fault, and_then, natural}
-use Rattle.corba_exprs.specs.declared.tree.Leaf.{Leaf}
-use Rattle.corba_exprs.specs.declared.tree.Leaf.TheVariants as L
-use Rattle.corba_exprs.specs.Trees.{Tree, leaf, unary, binary}
+use Rattle.idl_names.specs.Answers.{Answer, fault, and_then, natural}
+use Rattle.idl_exprs.specs.declared.tree.Leaf.{Leaf}
+use Rattle.idl_exprs.specs.declared.tree.Leaf.TheVariants as L
+use Rattle.idl_exprs.specs.Trees.{Tree, leaf, unary, binary}
 use Rattle.corba_scopes.specs.declared.meanings.Meaning.{Meaning}
 use Rattle.corba_scopes.specs.declared.meanings.Meaning.TheVariants as M
 use Rattle.corba_scopes.specs.declared.meanings.Constant.{Constant}

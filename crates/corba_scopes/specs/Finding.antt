@@ -1,9 +1,9 @@
 -- How names are found: in a scope, in the bases of an interface, outwards, and by scoped names.
 use Rattle.std.specs.Prelude.{Bool, true, false, ℕ, List, [], ◌∷◌, ◌++◌, Option, Some, None, if◌then◌else◌}
 use Rattle.std.specs.Option.{option_or, option_map, unwrap_or}
-use Rattle.corba_exprs.specs.declared.tree.Identifier.{Identifier}
-use Rattle.corba_exprs.specs.declared.tree.ScopedName.{ScopedName}
-use Rattle.name_kit.specs.Names.{has}
+use Rattle.idl_exprs.specs.declared.tree.Identifier.{Identifier}
+use Rattle.idl_exprs.specs.declared.tree.ScopedName.{ScopedName}
+use Rattle.idl_names.specs.Names.{has}
 use Rattle.corba_scopes.specs.declared.meanings.Entry.{Entry}
 use Rattle.corba_scopes.specs.Around.{prefix_of}
 use Rattle.corba_scopes.specs.Names.{Names, look_up, put}

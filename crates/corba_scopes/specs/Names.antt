@@ -5,8 +5,8 @@ use Rattle.std.specs.Str.{bytes_eq}
 use Rattle.std.specs.Char.{to_ascii_lowercase}
 use Rattle.aoi.specs.declared.faults.NameFault.{NameFault}
 use Rattle.aoi.specs.declared.faults.NameFault.TheVariants.{Twice, CaseClash}
-use Rattle.name_kit.specs.Answers.{Answer, fault, and_then}
-use Rattle.name_kit.specs.Names.{has}
+use Rattle.idl_names.specs.Answers.{Answer, fault, and_then}
+use Rattle.idl_names.specs.Names.{has}
 use Rattle.corba_scopes.specs.declared.meanings.Meaning.{Meaning}
 
 -- full names in the order of their declarations, each with what it stands for

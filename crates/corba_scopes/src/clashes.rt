@@ -1,7 +1,7 @@
 //! Which of two faults of a name is reported, and the refusal of a declaration.
 
 ghost use Rattle.std.specs.Prelude.{◌≡◌};
-ghost use Rattle.name_kit.specs.Answers.{Gives};
+ghost use Rattle.idl_names.specs.Answers.{Gives};
 ghost use Rattle.corba_scopes.specs.Names.{lower_of, refused_by};
 
 use aoi::{NameErr, NameFault};

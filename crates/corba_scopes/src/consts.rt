@@ -1,16 +1,16 @@
 //! The values of constant expressions.
 
 ghost use Rattle.std.specs.Prelude.{◌≡◌};
-ghost use Rattle.name_kit.specs.Answers.{Gives};
+ghost use Rattle.idl_names.specs.Answers.{Gives};
 ghost use Rattle.corba_scopes.specs.Consts.{number_of, leaf_number, in_range, number, constant, length_of};
 
 use crate::meanings::{Constant, Entry, Meaning};
 use crate::state::Scopes;
 use aoi::{NameErr, NameFault};
-use corba_exprs::{Expr, Leaf, Node};
 use idl_const::{ConstErr, binary, unary};
+use idl_exprs::{Expr, Leaf, Node};
+use idl_names::natural;
 use kit_base::Name;
-use name_kit::natural;
 use std::alloc::Global;
 
 /// The number that a name stands for, or the fault of a name that stands for none.

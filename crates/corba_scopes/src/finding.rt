@@ -6,7 +6,7 @@ ghost use Rattle.corba_scopes.specs.Finding.{entry_at, first_in, found, sought, 
 use crate::around::{full_name, prefix_of};
 use crate::meanings::Entry;
 use crate::state::Scopes;
-use corba_exprs::{Identifier, ScopedName};
+use idl_exprs::{Identifier, ScopedName};
 use kit_base::{Name, NoMemory};
 use std::alloc::Global;
 

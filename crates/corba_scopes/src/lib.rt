@@ -13,7 +13,7 @@ mod tables;
 
 pub use around::{Env, full_name, innermost, inside, of_file, prefix_of};
 pub use clashes::{lower_of, refuse_fault};
+pub use idl_names::{Tag, Use};
 pub use lines::Line;
 pub use meanings::{Constant, Entry, Meaning};
-pub use name_kit::{Tag, Use};
 pub use state::Scopes;

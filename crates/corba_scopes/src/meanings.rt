@@ -3,9 +3,9 @@
 ghost use Rattle.std.specs.Prelude.{◌≡◌};
 ghost use Rattle.corba_scopes.specs.Consts.{meaning_of_constant};
 
+use idl_names::Use;
 use kit_base::Name;
 use mint::kind::Count;
-use name_kit::Use;
 
 /// What a name stands for.
 #[derive(Clone, Copy, Debug, PartialEq, Eq)]

@@ -1,7 +1,7 @@
 //! The names of a file, and how one is declared.
 
 ghost use Rattle.std.specs.Prelude.{◌≡◌, None, IfOk, OnOk};
-ghost use Rattle.name_kit.specs.Answers.{Gives};
+ghost use Rattle.idl_names.specs.Answers.{Gives};
 ghost use Rattle.corba_scopes.specs.Names.{nothing, clash, declared, declared_on, refused_by};
 ghost use Rattle.corba_scopes.specs.Finding.{with_base, with_line};
 
@@ -11,8 +11,8 @@ use crate::lines::{Line, Lines};
 use crate::meanings::Meaning;
 use crate::tables::{Table, lower};
 use aoi::{NameErr, NameFault};
+use idl_names::Names;
 use kit_base::NoMemory;
-use name_kit::Names;
 use std::alloc::Global;
 use std::marker::Model;
 

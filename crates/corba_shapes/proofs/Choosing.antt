@@ -5,17 +5,17 @@ use Rattle.std.specs.Option.{is_some, unwrap_or}
 use Rattle.aoi.specs.declared.faults.NameFault.TheVariants.{Label}
 use Rattle.aoi.specs.Shapes.{Shape, void, default, arms_of}
 use Rattle.aoi.specs.Sound.{is_sound_type, has_arm}
-use Rattle.name_kit.specs.declared.uses.Tag.{Tag}
-use Rattle.name_kit.specs.declared.uses.Tag.TheVariants as tag
-use Rattle.name_kit.specs.declared.uses.Use.{Use}
-use Rattle.name_kit.specs.declared.uses.Use.TheVariants.{Number}
-use Rattle.name_kit.specs.Answers.{refused}
-use Rattle.name_kit.specs.Uses.{tag_of_use, is_other}
-use Rattle.name_kit.specs.Labels.{numbered}
-use Rattle.name_kit.specs.Arms.{with_arm}
-use Rattle.name_kit.proofs.Parts.{then_ok, ok_same}
-use Rattle.name_kit.proofs.Standing.{UseIs}
-use Rattle.name_kit.proofs.Labelling.{NumbersAre, Longer, number_added, joined, nothing_more, or_void_true, good, Arm_, ArmsAre, arms_added, choice_sound}
+use Rattle.idl_names.specs.declared.uses.Tag.{Tag}
+use Rattle.idl_names.specs.declared.uses.Tag.TheVariants as tag
+use Rattle.idl_names.specs.declared.uses.Use.{Use}
+use Rattle.idl_names.specs.declared.uses.Use.TheVariants.{Number}
+use Rattle.idl_names.specs.Answers.{refused}
+use Rattle.idl_names.specs.Uses.{tag_of_use, is_other}
+use Rattle.idl_names.specs.Labels.{numbered}
+use Rattle.idl_names.specs.Arms.{with_arm}
+use Rattle.idl_names.proofs.Parts.{then_ok, ok_same}
+use Rattle.idl_names.proofs.Standing.{UseIs}
+use Rattle.idl_names.proofs.Labelling.{NumbersAre, Longer, number_added, joined, nothing_more, or_void_true, good, Arm_, ArmsAre, arms_added, choice_sound}
 use Rattle.corba_decls.specs.declared.tree.Tag.{Tag as TagTree}
 use Rattle.corba_decls.specs.declared.tree.Tag.TheVariants as T
 use Rattle.corba_decls.specs.declared.tree.Label.{Label as LabelTree}

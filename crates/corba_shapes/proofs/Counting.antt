@@ -3,14 +3,14 @@ use Rattle.std.proofs.Common.{◌≡◌, ℕ, ℤ, pos, true, List, [], ◌∷�
 use Rattle.std.specs.Prelude.{Ok}
 use Rattle.aoi.specs.Shapes.{Shape}
 use Rattle.aoi.specs.Sound.{are_distinct}
-use Rattle.name_kit.specs.Lists.{is_some_list}
-use Rattle.name_kit.specs.Labels.{labelled}
-use Rattle.name_kit.proofs.Parts.{then_ok, ok_same}
-use Rattle.name_kit.proofs.Tables.{append_map}
-use Rattle.name_kit.proofs.Different.{distinct_push}
-use Rattle.name_kit.proofs.Forming.{some_push}
-use Rattle.name_kit.proofs.Numbering.{Item_, numbers, names, LabelsAre, label_is, labels_added}
-use Rattle.corba_exprs.specs.declared.tree.Identifier.{Identifier}
+use Rattle.idl_names.specs.Lists.{is_some_list}
+use Rattle.idl_names.specs.Labels.{labelled}
+use Rattle.idl_names.proofs.Parts.{then_ok, ok_same}
+use Rattle.idl_names.proofs.Tables.{append_map}
+use Rattle.idl_names.proofs.Different.{distinct_push}
+use Rattle.idl_names.proofs.Forming.{some_push}
+use Rattle.idl_names.proofs.Numbering.{Item_, numbers, names, LabelsAre, label_is, labels_added}
+use Rattle.idl_exprs.specs.declared.tree.Identifier.{Identifier}
 use Rattle.corba_scopes.specs.declared.meanings.Meaning.TheVariants as M
 use Rattle.corba_scopes.specs.Names.{declared_on}
 use Rattle.corba_shapes.specs.Enums.{Items, items_on}

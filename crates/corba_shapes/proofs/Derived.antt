@@ -2,9 +2,9 @@
 use Rattle.std.proofs.Common.{◌≡◌, ℕ, zero, suc, true, false, List, [], ◌∷◌, refl}
 use Rattle.std.specs.Prelude.{codes}
 use Rattle.idl_lex.specs.declared.kinds.TokenKind.{TokenKind}
-use Rattle.syntax_kit.specs.Grammar.{Text, word, mark, ◌&◌, each, some, joined}
-use Rattle.name_kit.specs.Lists.{is_some_list}
-use Rattle.corba_exprs.specs.Spelling.{identifier}
+use Rattle.idl_read.specs.Grammar.{Text, word, mark, ◌&◌, each, some, joined}
+use Rattle.idl_names.specs.Lists.{is_some_list}
+use Rattle.idl_exprs.specs.Spelling.{identifier}
 use Rattle.corba_types.specs.Spelling.{type}
 use Rattle.corba_members.specs.declared.tree.Member.{Member}
 use Rattle.corba_members.specs.declared.tree.Struct.{Struct}

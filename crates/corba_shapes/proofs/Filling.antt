@@ -7,11 +7,11 @@ use Rattle.std.proofs.lemmas.Bool.{or_parts, or_from}
 use Rattle.mint.specs.declared.kind.Count.{Count}
 use Rattle.aoi.specs.Shapes.{Shape, members_of}
 use Rattle.aoi.specs.Sound.{is_some_count}
-use Rattle.name_kit.specs.Names.{has}
-use Rattle.name_kit.specs.Lists.{is_some_list}
-use Rattle.name_kit.proofs.Parts.{then_ok, ok_same}
-use Rattle.name_kit.proofs.Tables.{append_map}
-use Rattle.name_kit.proofs.Forming.{FieldsAre, fields_push, some_push, Field}
+use Rattle.idl_names.specs.Names.{has}
+use Rattle.idl_names.specs.Lists.{is_some_list}
+use Rattle.idl_names.proofs.Parts.{then_ok, ok_same}
+use Rattle.idl_names.proofs.Tables.{append_map}
+use Rattle.idl_names.proofs.Forming.{FieldsAre, fields_push, some_push, Field}
 use Rattle.corba_members.specs.declared.tree.Declarator.{Declarator}
 use Rattle.corba_members.specs.declared.tree.Member.{Member}
 use Rattle.corba_scopes.specs.declared.meanings.Meaning.{Meaning}

@@ -6,20 +6,20 @@ use Rattle.mint.specs.declared.kind.Count.{Count}
 use Rattle.aoi.specs.declared.faults.NameFault.TheVariants.{NotType, Range}
 use Rattle.aoi.specs.Shapes.{Shape, enumeration, structure, members_of}
 use Rattle.aoi.specs.Sound.{unfolded, is_sound_type, are_sound_types, are_distinct}
-use Rattle.name_kit.specs.declared.uses.Tag.{Tag}
-use Rattle.name_kit.specs.declared.uses.Tag.TheVariants as tag
-use Rattle.name_kit.specs.declared.uses.Use.TheVariants as use_
-use Rattle.name_kit.specs.Answers.{refused}
-use Rattle.name_kit.specs.Lists.{is_some_list}
-use Rattle.name_kit.specs.Uses.{tag_of_use}
-use Rattle.name_kit.specs.Labels.{is_label}
-use Rattle.name_kit.proofs.Parts.{then_ok, refused_ok, ok_same}
-use Rattle.name_kit.proofs.Tables.{append_map}
-use Rattle.name_kit.proofs.Growing.{types_push}
-use Rattle.name_kit.proofs.Standing.{EnumIs, TagIs, UseIs, FewerBelow, fewer_same}
-use Rattle.name_kit.proofs.Forming.{names_are, struct_sound}
-use Rattle.name_kit.proofs.Numbering.{enum_sound}
-use Rattle.name_kit.proofs.Tagging.{last_is, enum_ends, items_turned}
+use Rattle.idl_names.specs.declared.uses.Tag.{Tag}
+use Rattle.idl_names.specs.declared.uses.Tag.TheVariants as tag
+use Rattle.idl_names.specs.declared.uses.Use.TheVariants as use_
+use Rattle.idl_names.specs.Answers.{refused}
+use Rattle.idl_names.specs.Lists.{is_some_list}
+use Rattle.idl_names.specs.Uses.{tag_of_use}
+use Rattle.idl_names.specs.Labels.{is_label}
+use Rattle.idl_names.proofs.Parts.{then_ok, refused_ok, ok_same}
+use Rattle.idl_names.proofs.Tables.{append_map}
+use Rattle.idl_names.proofs.Growing.{types_push}
+use Rattle.idl_names.proofs.Standing.{EnumIs, TagIs, UseIs, FewerBelow, fewer_same}
+use Rattle.idl_names.proofs.Forming.{names_are, struct_sound}
+use Rattle.idl_names.proofs.Numbering.{enum_sound}
+use Rattle.idl_names.proofs.Tagging.{last_is, enum_ends, items_turned}
 use Rattle.corba_members.specs.declared.tree.Declarator.{Declarator}
 use Rattle.corba_members.specs.declared.tree.Struct.{Struct}
 use Rattle.corba_members.specs.declared.tree.Enum.{Enum}

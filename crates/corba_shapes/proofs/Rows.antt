@@ -6,10 +6,10 @@ use Rattle.mint.specs.declared.kind.Count.TheVariants.{Exactly, AtMost}
 use Rattle.aoi.specs.Shapes.{Shape, void, number, enumeration, text, array, choice, arm, default, member, no_more}
 use Rattle.aoi.specs.Plain.{PlainRaise}
 use Rattle.aoi.specs.declared.faults.NameFault.TheVariants as fault_
-use Rattle.name_kit.specs.Answers.{Answer, fault}
-use Rattle.corba_exprs.specs.Trees.{Tree, leaf}
-use Rattle.corba_exprs.specs.declared.tree.Identifier.{Identifier}
-use Rattle.corba_exprs.specs.declared.tree.Leaf.TheVariants as E
+use Rattle.idl_names.specs.Answers.{Answer, fault}
+use Rattle.idl_exprs.specs.Trees.{Tree, leaf}
+use Rattle.idl_exprs.specs.declared.tree.Identifier.{Identifier}
+use Rattle.idl_exprs.specs.declared.tree.Leaf.TheVariants as E
 use Rattle.corba_types.specs.declared.tree.IntSize.TheVariants.{Long}
 use Rattle.corba_types.specs.declared.tree.Base.{Base}
 use Rattle.corba_types.specs.declared.tree.Base.TheVariants as B

@@ -7,15 +7,15 @@ use Rattle.mint.specs.declared.kind.Count.{Count}
 use Rattle.mint.specs.declared.kind.Count.TheVariants.{Exactly, AtMost, Any}
 use Rattle.aoi.specs.Shapes.{Shape, array}
 use Rattle.aoi.specs.Sound.{is_sound_type, is_some_count, is_open}
-use Rattle.name_kit.specs.declared.uses.Use.{Use}
-use Rattle.name_kit.specs.declared.uses.Use.TheVariants.{Number, Declared}
-use Rattle.name_kit.specs.declared.uses.Tag.TheVariants as tag
-use Rattle.name_kit.proofs.Parts.{then_ok, ok_same}
-use Rattle.name_kit.proofs.Standing.{UseIs, TagIs, use_grow, fewer_same}
-use Rattle.name_kit.proofs.Forming.{natural_low}
-use Rattle.name_kit.proofs.Tagging.{use_tagged}
-use Rattle.corba_exprs.specs.Trees.{Tree}
-use Rattle.corba_exprs.specs.declared.tree.ScopedName.{ScopedName}
+use Rattle.idl_names.specs.declared.uses.Use.{Use}
+use Rattle.idl_names.specs.declared.uses.Use.TheVariants.{Number, Declared}
+use Rattle.idl_names.specs.declared.uses.Tag.TheVariants as tag
+use Rattle.idl_names.proofs.Parts.{then_ok, ok_same}
+use Rattle.idl_names.proofs.Standing.{UseIs, TagIs, use_grow, fewer_same}
+use Rattle.idl_names.proofs.Forming.{natural_low}
+use Rattle.idl_names.proofs.Tagging.{use_tagged}
+use Rattle.idl_exprs.specs.Trees.{Tree}
+use Rattle.idl_exprs.specs.declared.tree.ScopedName.{ScopedName}
 use Rattle.corba_types.specs.declared.tree.Simple.{Simple}
 use Rattle.corba_types.specs.declared.tree.Simple.TheVariants as S
 use Rattle.corba_types.specs.declared.tree.Base.{Base}

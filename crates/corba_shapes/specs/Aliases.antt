@@ -1,9 +1,9 @@
 -- Typedefs.
 use Rattle.std.specs.Prelude.{ℕ, List, [], ◌∷◌, length, None, Ok}
-use Rattle.name_kit.specs.declared.uses.Tag.{Tag}
-use Rattle.name_kit.specs.declared.uses.Tag.TheVariants as tag
-use Rattle.name_kit.specs.declared.uses.Use.TheVariants.{Declared}
-use Rattle.name_kit.specs.Answers.{Answer, and_then}
+use Rattle.idl_names.specs.declared.uses.Tag.{Tag}
+use Rattle.idl_names.specs.declared.uses.Tag.TheVariants as tag
+use Rattle.idl_names.specs.declared.uses.Use.TheVariants.{Declared}
+use Rattle.idl_names.specs.Answers.{Answer, and_then}
 use Rattle.corba_members.specs.declared.tree.Declarator.{Declarator}
 use Rattle.corba_decls.specs.declared.tree.Aliased.{Aliased}
 use Rattle.corba_decls.specs.declared.tree.Aliased.TheVariants as A

@@ -5,9 +5,9 @@ use Rattle.mint.specs.declared.kind.Kind.TheVariants as kind
 use Rattle.mint.specs.declared.kind.Count.{Count}
 use Rattle.mint.specs.declared.kind.Count.TheVariants.{Exactly, AtMost, Any}
 use Rattle.aoi.specs.declared.faults.NameFault.TheVariants.{NotType, Range}
-use Rattle.name_kit.specs.Answers.{Answer, and_then, refused}
-use Rattle.name_kit.specs.Uses.{is_other}
-use Rattle.name_kit.specs.Labels.{is_of}
+use Rattle.idl_names.specs.Answers.{Answer, and_then, refused}
+use Rattle.idl_names.specs.Uses.{is_other}
+use Rattle.idl_names.specs.Labels.{is_of}
 use Rattle.corba_decls.specs.declared.tree.ConstantType.{ConstantType}
 use Rattle.corba_decls.specs.declared.tree.ConstantType.TheVariants as C
 use Rattle.corba_decls.specs.declared.tree.Constant.{Constant as ConstantTree}

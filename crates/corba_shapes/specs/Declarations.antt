@@ -1,7 +1,7 @@
 -- What a declaration declares.
 use Rattle.std.specs.Prelude.{Bool, true, false, ℕ, List, [], ◌∷◌}
-use Rattle.name_kit.specs.Answers.{Answer}
-use Rattle.name_kit.specs.Lists.{is_some_list}
+use Rattle.idl_names.specs.Answers.{Answer}
+use Rattle.idl_names.specs.Lists.{is_some_list}
 use Rattle.corba_members.specs.declared.tree.Member.{Member}
 use Rattle.corba_decls.specs.declared.tree.Aliased.{Aliased}
 use Rattle.corba_decls.specs.declared.tree.Aliased.TheVariants as A

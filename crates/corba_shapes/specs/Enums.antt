@@ -3,11 +3,11 @@ use Rattle.std.specs.Prelude.{ℕ, ℤ, pos, List, [], ◌∷◌, ◌++◌, map,
 use Rattle.aoi.specs.declared.faults.NameFault.{NameFault}
 use Rattle.aoi.specs.declared.faults.NameFault.TheVariants.{Twice, CaseClash}
 use Rattle.aoi.specs.Shapes.{enumeration}
-use Rattle.name_kit.specs.declared.uses.Tag.TheVariants as tag
-use Rattle.name_kit.specs.Answers.{Answer, and_then}
-use Rattle.name_kit.specs.Names.{has}
-use Rattle.name_kit.specs.Labels.{labelled}
-use Rattle.corba_exprs.specs.declared.tree.Identifier.{Identifier}
+use Rattle.idl_names.specs.declared.uses.Tag.TheVariants as tag
+use Rattle.idl_names.specs.Answers.{Answer, and_then}
+use Rattle.idl_names.specs.Names.{has}
+use Rattle.idl_names.specs.Labels.{labelled}
+use Rattle.idl_exprs.specs.declared.tree.Identifier.{Identifier}
 use Rattle.corba_members.specs.declared.tree.Enum.{Enum}
 use Rattle.corba_scopes.specs.declared.meanings.Meaning.TheVariants as M
 use Rattle.corba_scopes.specs.Names.{Names, lower, clash, lower_of, refused_by, declared_on}

@@ -3,7 +3,7 @@ use Rattle.std.specs.Prelude.{ℕ, List, [], ◌∷◌, ◌++◌, Ok}
 use Rattle.mint.specs.declared.kind.Count.{Count}
 use Rattle.mint.specs.declared.kind.Count.TheVariants.{Exactly}
 use Rattle.aoi.specs.Shapes.{Shape}
-use Rattle.name_kit.specs.Answers.{Answer, and_then}
+use Rattle.idl_names.specs.Answers.{Answer, and_then}
 use Rattle.corba_members.specs.declared.tree.Dimension.{Dimension}
 use Rattle.corba_members.specs.declared.tree.Declarator.{Declarator}
 use Rattle.corba_members.specs.declared.tree.Member.{Member}

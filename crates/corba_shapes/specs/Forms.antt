@@ -6,14 +6,14 @@ use Rattle.mint.specs.declared.kind.Count.{Count}
 use Rattle.mint.specs.declared.kind.Count.TheVariants.{AtMost, Any}
 use Rattle.aoi.specs.declared.faults.NameFault.TheVariants.{Unknown, NotType, OutOfScope}
 use Rattle.aoi.specs.Shapes.{Shape, text, array}
-use Rattle.name_kit.specs.declared.uses.Tag.{Tag}
-use Rattle.name_kit.specs.declared.uses.Tag.TheVariants as tag
-use Rattle.name_kit.specs.declared.uses.Use.{Use}
-use Rattle.name_kit.specs.declared.uses.Use.TheVariants.{Number}
-use Rattle.name_kit.specs.Answers.{Answer, fault, and_then}
-use Rattle.name_kit.specs.Uses.{shape_of_use, tag_of_use}
-use Rattle.corba_exprs.specs.Trees.{Tree}
-use Rattle.corba_exprs.specs.declared.tree.ScopedName.{ScopedName}
+use Rattle.idl_names.specs.declared.uses.Tag.{Tag}
+use Rattle.idl_names.specs.declared.uses.Tag.TheVariants as tag
+use Rattle.idl_names.specs.declared.uses.Use.{Use}
+use Rattle.idl_names.specs.declared.uses.Use.TheVariants.{Number}
+use Rattle.idl_names.specs.Answers.{Answer, fault, and_then}
+use Rattle.idl_names.specs.Uses.{shape_of_use, tag_of_use}
+use Rattle.idl_exprs.specs.Trees.{Tree}
+use Rattle.idl_exprs.specs.declared.tree.ScopedName.{ScopedName}
 use Rattle.corba_types.specs.declared.tree.Int.{Int}
 use Rattle.corba_types.specs.declared.tree.IntSize.{IntSize}
 use Rattle.corba_types.specs.declared.tree.IntSize.TheVariants.{Short, Long, LongLong}

@@ -3,9 +3,9 @@ use Rattle.std.specs.Prelude.{ℕ, ◌+◌, ℤ, List, [], ◌∷◌, ◌++◌, 
 use Rattle.mint.specs.declared.kind.Count.{Count}
 use Rattle.aoi.specs.Shapes.{Shape}
 use Rattle.aoi.specs.Plain.{PlainRaise}
-use Rattle.name_kit.specs.declared.uses.Tag.{Tag}
-use Rattle.name_kit.specs.declared.uses.Use.TheVariants.{Declared}
-use Rattle.name_kit.specs.Answers.{Answer, and_then}
+use Rattle.idl_names.specs.declared.uses.Tag.{Tag}
+use Rattle.idl_names.specs.declared.uses.Use.TheVariants.{Declared}
+use Rattle.idl_names.specs.Answers.{Answer, and_then}
 use Rattle.corba_scopes.specs.declared.meanings.Meaning.TheVariants as M
 use Rattle.corba_scopes.specs.Names.{Names, nothing, declared_on}
 use Rattle.corba_scopes.specs.Around.{innermost}

@@ -2,8 +2,8 @@
 use Rattle.std.specs.Prelude.{ℕ, ◌==◌, List, [], ◌∷◌, ◌++◌, map, length, codes, None, Ok, if◌then◌else◌}
 use Rattle.aoi.specs.Shapes.{Members, structure, members_of}
 use Rattle.aoi.specs.Plain.{PlainRaise}
-use Rattle.name_kit.specs.declared.uses.Tag.TheVariants as tag
-use Rattle.name_kit.specs.Answers.{Answer, and_then}
+use Rattle.idl_names.specs.declared.uses.Tag.TheVariants as tag
+use Rattle.idl_names.specs.Answers.{Answer, and_then}
 use Rattle.corba_members.specs.declared.tree.Struct.{Struct}
 use Rattle.corba_members.specs.declared.tree.Exception.{Exception}
 use Rattle.corba_scopes.specs.declared.meanings.Meaning.TheVariants as M

@@ -4,14 +4,14 @@ use Rattle.std.specs.Option.{is_some, unwrap_or}
 use Rattle.mint.specs.declared.kind.Kind.TheVariants as kind
 use Rattle.aoi.specs.declared.faults.NameFault.TheVariants.{Label, NotType}
 use Rattle.aoi.specs.Shapes.{Shape, void, choice, default, arms_of}
-use Rattle.name_kit.specs.declared.uses.Tag.{Tag}
-use Rattle.name_kit.specs.declared.uses.Tag.TheVariants as tag
-use Rattle.name_kit.specs.declared.uses.Use.{Use}
-use Rattle.name_kit.specs.declared.uses.Use.TheVariants.{Number}
-use Rattle.name_kit.specs.Answers.{Answer, and_then, refused}
-use Rattle.name_kit.specs.Uses.{shape_of_use, tag_of_use}
-use Rattle.name_kit.specs.Labels.{numbered}
-use Rattle.name_kit.specs.Arms.{with_arm}
+use Rattle.idl_names.specs.declared.uses.Tag.{Tag}
+use Rattle.idl_names.specs.declared.uses.Tag.TheVariants as tag
+use Rattle.idl_names.specs.declared.uses.Use.{Use}
+use Rattle.idl_names.specs.declared.uses.Use.TheVariants.{Number}
+use Rattle.idl_names.specs.Answers.{Answer, and_then, refused}
+use Rattle.idl_names.specs.Uses.{shape_of_use, tag_of_use}
+use Rattle.idl_names.specs.Labels.{numbered}
+use Rattle.idl_names.specs.Arms.{with_arm}
 use Rattle.corba_decls.specs.declared.tree.Tag.{Tag as TagTree}
 use Rattle.corba_decls.specs.declared.tree.Tag.TheVariants as T
 use Rattle.corba_decls.specs.declared.tree.Label.{Label as LabelTree}

@@ -1,7 +1,7 @@
 //! Typedefs.
 
 ghost use Rattle.std.specs.Prelude.{◌≡◌, None};
-ghost use Rattle.name_kit.specs.Answers.{Gives};
+ghost use Rattle.idl_names.specs.Answers.{Gives};
 ghost use Rattle.corba_shapes.specs.Held.{state};
 ghost use Rattle.corba_shapes.specs.Forms.{single};
 ghost use Rattle.corba_shapes.specs.Aliases.{aliased_on, alias_on, aliases_on, typedef_on};
@@ -16,8 +16,8 @@ use aoi::NameErr;
 use corba_decls::{Aliased, Typedef};
 use corba_members::Declarator;
 use corba_scopes::innermost;
+use idl_names::{Tag, Use};
 use kit_base::Name;
-use name_kit::{Tag, Use};
 use std::alloc::Global;
 
 /// The type that is declared with this number, as one that is used.

@@ -1,7 +1,7 @@
 //! Constants.
 
 ghost use Rattle.std.specs.Prelude.{◌≡◌};
-ghost use Rattle.name_kit.specs.Answers.{Gives};
+ghost use Rattle.idl_names.specs.Answers.{Gives};
 ghost use Rattle.corba_shapes.specs.Held.{state};
 ghost use Rattle.corba_shapes.specs.Constants.{constant_core, is_no_constant, has_length, is_text};
 ghost use Rattle.corba_shapes.specs.Constants.{fits, constant_on};
@@ -11,10 +11,10 @@ use crate::state::Shapes;
 use aoi::{NameErr, NameFault};
 use corba_decls::{Constant as ConstantTree, ConstantType};
 use corba_scopes::{Constant, Scopes, innermost};
+use idl_names::{Tag, is_of, refuse};
 use indexmap::IndexSet;
 use kit_base::Name;
 use mint::kind::{Count, Kind};
-use name_kit::{Tag, is_of, refuse};
 use std::alloc::Global;
 
 /// The type of a constant.

@@ -1,6 +1,6 @@
 //! Declarations.
 
-ghost use Rattle.name_kit.specs.Answers.{Gives};
+ghost use Rattle.idl_names.specs.Answers.{Gives};
 ghost use Rattle.corba_shapes.specs.Held.{state};
 ghost use Rattle.corba_shapes.specs.Declarations.{declaration_on};
 

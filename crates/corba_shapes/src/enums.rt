@@ -1,20 +1,20 @@
 //! Enumerations.
 
 ghost use Rattle.std.specs.Prelude.{◌≡◌, [], map, IfOk};
-ghost use Rattle.name_kit.specs.Answers.{Gives};
-ghost use Rattle.name_kit.specs.Names.{has};
+ghost use Rattle.idl_names.specs.Answers.{Gives};
+ghost use Rattle.idl_names.specs.Names.{has};
 ghost use Rattle.corba_scopes.specs.Names.{lower, lower_of, refused_by, clash};
 ghost use Rattle.corba_shapes.specs.Held.{state};
 ghost use Rattle.corba_shapes.specs.Enums.{item_clash, items_on, enum_on};
 
 use crate::state::{Shapes, want};
 use aoi::{Items, NameErr, NameFault};
-use corba_exprs::Identifier;
 use corba_members::Enum;
 use corba_scopes::{Meaning, Scopes, innermost, lower_of, refuse_fault};
+use idl_exprs::Identifier;
+use idl_names::{Tag, add_label, enum_of};
 use indexmap::IndexSet;
 use kit_base::{Name, NoMemory};
-use name_kit::{Tag, add_label, enum_of};
 use std::alloc::Global;
 
 /// Whether an item has the name.

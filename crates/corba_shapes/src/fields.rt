@@ -2,7 +2,7 @@
 
 ghost use Rattle.std.specs.Prelude.{◌≡◌, [], map, IfOk};
 ghost use Rattle.aoi.specs.Shapes.{seen_field};
-ghost use Rattle.name_kit.specs.Answers.{Gives};
+ghost use Rattle.idl_names.specs.Answers.{Gives};
 ghost use Rattle.corba_shapes.specs.Forms.{form_shape};
 ghost use Rattle.corba_shapes.specs.Fields.{lengths_on, placed_on, fields_on, members_on};
 

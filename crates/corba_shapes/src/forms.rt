@@ -2,19 +2,19 @@
 
 ghost use Rattle.std.specs.Prelude.{◌≡◌, IfOk};
 ghost use Rattle.aoi.specs.Shapes.{seen};
-ghost use Rattle.name_kit.specs.Answers.{Gives};
+ghost use Rattle.idl_names.specs.Answers.{Gives};
 ghost use Rattle.corba_shapes.specs.Forms.{kind_of, number_core, type_of_entry, named_type, named_core};
 ghost use Rattle.corba_shapes.specs.Forms.{simple_core, bounded, base_core, single, type_form};
 ghost use Rattle.corba_shapes.specs.Forms.{core_shape, rowed, form_shape};
 ghost use Rattle.corba_shapes.specs.Forms.{is_row, core_tag, core_text, form_tag, form_text};
 
 use aoi::{NameErr, NameFault, Ty};
-use corba_exprs::{Expr, ScopedName};
 use corba_scopes::{Entry, Meaning, Scopes};
 use corba_types::{Base, Int, IntSize, Simple, TypeName, TypeNode};
+use idl_exprs::{Expr, ScopedName};
+use idl_names::{Tag, Use, array_of, tag_of_use, ty_of_use};
 use kit_base::{Listed, Name, NoMemory};
 use mint::kind::{Count, Kind};
-use name_kit::{Tag, Use, array_of, tag_of_use, ty_of_use};
 use std::alloc::Global;
 
 /// Counts, in order.

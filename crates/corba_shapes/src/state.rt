@@ -3,17 +3,17 @@
 ghost use Rattle.std.specs.Prelude.{◌≡◌, ◌<◌, ◌+◌, length, IfOk, IfErr, OnOk};
 ghost use Rattle.aoi.specs.Shapes.{seen};
 ghost use Rattle.aoi.specs.declared.faults.NameFault.TheVariants.{NoMemory as WantOfMemory};
-ghost use Rattle.name_kit.specs.Answers.{Gives};
+ghost use Rattle.idl_names.specs.Answers.{Gives};
 ghost use Rattle.corba_shapes.specs.Held.{state};
 ghost use Rattle.corba_shapes.specs.State.{start, counted, with_type};
 
 use crate::types::TypeList;
 use aoi::{NameErr, NameFault, Raises, Ty};
 use corba_scopes::{Meaning, Scopes, full_name, innermost};
+use idl_names::{Tag, Use};
 use indexmap::IndexSet;
 use kit_base::Name;
 use mint::kind::Count;
-use name_kit::{Tag, Use};
 use std::alloc::Global;
 
 /// What is declared so far.

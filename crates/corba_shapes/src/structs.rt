@@ -3,7 +3,7 @@
 ghost use Rattle.std.specs.Prelude.{◌≡◌, ◌++◌, map, IfOk, OnOk};
 ghost use Rattle.aoi.specs.Shapes.{members};
 ghost use Rattle.aoi.specs.Plain.{plain_raise};
-ghost use Rattle.name_kit.specs.Answers.{Gives};
+ghost use Rattle.idl_names.specs.Answers.{Gives};
 ghost use Rattle.corba_shapes.specs.Held.{state};
 ghost use Rattle.corba_shapes.specs.Structs.{struct_on, slashed, repository, raised, exception_on};
 
@@ -12,8 +12,8 @@ use crate::state::{Shapes, want};
 use aoi::{Fields, NameErr, Raise};
 use corba_members::{Exception, Struct};
 use corba_scopes::{Meaning, full_name, innermost, inside};
+use idl_names::{Tag, struct_of};
 use kit_base::{Name, NoMemory};
-use name_kit::{Tag, struct_of};
 use std::alloc::Global;
 
 /// Declares a struct, after its members.

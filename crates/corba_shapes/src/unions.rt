@@ -3,9 +3,9 @@
 ghost use Rattle.std.specs.Prelude.{◌≡◌, [], ◌++◌, None, true, false, IfOk, OnOk};
 ghost use Rattle.std.specs.Option.{option_map, unwrap_or, is_some};
 ghost use Rattle.aoi.specs.Shapes.{seen, void, choice, default, arms_of};
-ghost use Rattle.name_kit.specs.Answers.{Gives};
-ghost use Rattle.name_kit.specs.Uses.{shape_of_use};
-ghost use Rattle.name_kit.specs.Arms.{arms_for, arms_held};
+ghost use Rattle.idl_names.specs.Answers.{Gives};
+ghost use Rattle.idl_names.specs.Uses.{shape_of_use};
+ghost use Rattle.idl_names.specs.Arms.{arms_for, arms_held};
 ghost use Rattle.corba_shapes.specs.Held.{state};
 ghost use Rattle.corba_shapes.specs.Forms.{form_shape};
 ghost use Rattle.corba_shapes.specs.Unions.{tag_use, is_no_tag, label_on, labels_on};
@@ -17,10 +17,10 @@ use crate::state::Shapes;
 use aoi::{NameErr, NameFault, Ty, UnionArms};
 use corba_decls::{Case, Label, Tag as TagTree, Union};
 use corba_scopes::{Scopes, innermost, inside};
+use idl_names::{Tag, Use, add_number_of, after, boxed, refuse, tag_of_use, ty_of_use, union_of};
 use indexmap::IndexSet;
 use kit_base::{Name, NoMemory};
 use mint::kind::{Count, Kind};
-use name_kit::{Tag, Use, add_number_of, after, boxed, refuse, tag_of_use, ty_of_use, union_of};
 use std::alloc::Global;
 
 /// The type of a tag.

@@ -3,19 +3,19 @@ use Rattle.std.proofs.Common.{◌≡◌, ◌⊎◌, inl, inr, ℕ, zero, suc, Li
 use Rattle.std.specs.Prelude.{codes}
 use Rattle.idl_lex.specs.declared.kinds.Token.{Token}
 use Rattle.idl_lex.specs.declared.kinds.TokenKind.{TokenKind}
-use Rattle.syntax_kit.specs.Reading.{mark_is, word_is, begins_with}
-use Rattle.syntax_kit.specs.Grammar.{Text, word, mark, ◌&◌, one_of, each, kinds, IsGrammar, Leads, Any}
-use Rattle.syntax_kit.proofs.Grammars.{mapped_is, both_is, either_is, many_is}
-use Rattle.syntax_kit.proofs.Leaves.{word_reads, mark_reads, leads_word, leads_mark, apart_word, apart_mark, leads_both, leads_either, begins_so, begins_not, begins_else}
-use Rattle.syntax_kit.proofs.Productions.{weaker, after_is, before_is, leads_after, leads_by, not_other}
-use Rattle.corba_exprs.specs.Spelling.{identifier}
-use Rattle.corba_exprs.proofs.LeavesRead.{identifier_is}
+use Rattle.idl_read.specs.Reading.{mark_is, word_is, begins_with}
+use Rattle.idl_read.specs.Grammar.{Text, word, mark, ◌&◌, one_of, each, kinds, IsGrammar, Leads, Any}
+use Rattle.idl_read.proofs.Grammars.{mapped_is, both_is, either_is, many_is}
+use Rattle.idl_read.proofs.Leaves.{word_reads, mark_reads, leads_word, leads_mark, apart_word, apart_mark, leads_both, leads_either, begins_so, begins_not, begins_else}
+use Rattle.idl_read.proofs.Productions.{weaker, after_is, before_is, leads_after, leads_by, not_other}
+use Rattle.idl_exprs.specs.Spelling.{identifier}
+use Rattle.idl_exprs.proofs.LeavesRead.{identifier_is}
 use Rattle.corba_decls.specs.Spelling.{declaration}
 use Rattle.corba_decls.specs.Readers.{is_declaration}
 use Rattle.corba_decls.proofs.DeclarationsRead.{declaration_is, leads_declaration}
 use Rattle.corba_interfaces.specs.Spelling.{interface}
 use Rattle.corba_interfaces.proofs.InterfacesRead.{interface_is, leads_interface}
-use Rattle.corba_exprs.specs.declared.tree.Identifier.{Identifier}
+use Rattle.idl_exprs.specs.declared.tree.Identifier.{Identifier}
 use Rattle.corba_decls.specs.declared.tree.Declaration.{Declaration}
 use Rattle.corba_interfaces.specs.declared.tree.Interface.{Interface}
 use Rattle.corba_syntax.specs.declared.tree.Definition.{Definition, out-Definition}
@@ -24,7 +24,7 @@ use Rattle.corba_syntax.specs.declared.tree.Definition.TheVariants as V
 use Rattle.corba_syntax.specs.declared.tree.Definition.TheViews.{roll-Definition, roll-out-Definition, roll-out-Module, out-roll-Module}
 use Rattle.corba_syntax.specs.declared.tree.Module.{Module, out-Module}
 use Rattle.corba_syntax.specs.Derivation.{module_text, definition_text, definition, outermost}
-use Rattle.corba_exprs.specs.Readers.{is_open}
+use Rattle.idl_exprs.specs.Readers.{is_open}
 use Rattle.corba_syntax.specs.Readers.{declared_at, module_of, module_at, definition_of, definition_at, outermost_at}
 
 abbrev end_text : Text

@@ -1,7 +1,7 @@
 -- Files, which are a grammar and begin with words of their own.
 use Rattle.std.proofs.Common.{◌≡◌, inl, inr, List}
 use Rattle.idl_lex.specs.declared.kinds.Token.{Token}
-use Rattle.syntax_kit.proofs.Files as files
+use Rattle.idl_read.proofs.Files as files
 use Rattle.corba_syntax.specs.declared.tree.Definition.{Definition}
 use Rattle.corba_syntax.specs.Derivation.{Derives, TokensAreDecided}
 use Rattle.corba_syntax.proofs.DefinitionsRead.{outermost_is, leads_outermost}

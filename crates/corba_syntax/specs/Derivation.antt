@@ -1,10 +1,10 @@
 -- The tokens of a file.
 use Rattle.std.specs.Prelude.{◌⊎◌, ℕ, zero, suc, List, codes}
 use Rattle.idl_lex.specs.declared.kinds.Token.{Token}
-use Rattle.syntax_kit.specs.declared.errors.SyntaxErr.{SyntaxErr}
-use Rattle.syntax_kit.specs.Grammar.{Text, word, mark, ◌&◌, each}
-use Rattle.syntax_kit.specs.Files.{AreDefs, FailsAt as file_fails_at, Explains as explains}
-use Rattle.corba_exprs.specs.Spelling.{identifier}
+use Rattle.idl_read.specs.declared.errors.SyntaxErr.{SyntaxErr}
+use Rattle.idl_read.specs.Grammar.{Text, word, mark, ◌&◌, each}
+use Rattle.idl_read.specs.Files.{AreDefs, FailsAt as file_fails_at, Explains as explains}
+use Rattle.idl_exprs.specs.Spelling.{identifier}
 use Rattle.corba_decls.specs.Spelling.{declaration}
 use Rattle.corba_interfaces.specs.Spelling.{interface}
 use Rattle.corba_syntax.specs.declared.tree.Definition.{Definition, out-Definition}

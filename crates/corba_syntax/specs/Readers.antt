@@ -1,11 +1,11 @@
 -- What each function of the parser reads: a tool beside Derivation, tied to it in proofs/.
 use Rattle.std.specs.Prelude.{◌⊎◌, ℕ, zero, suc, List, None, codes}
 use Rattle.std.proofs.Common.{inl, inr}
-use Rattle.syntax_kit.specs.Reading.{Reader, word_is, word_at, mark_at, begins_with, both, mapped, either, after, before, many}
-use Rattle.corba_exprs.specs.Readers.{identifier_at, is_open}
+use Rattle.idl_read.specs.Reading.{Reader, word_is, word_at, mark_at, begins_with, both, mapped, either, after, before, many}
+use Rattle.idl_exprs.specs.Readers.{identifier_at, is_open}
 use Rattle.corba_decls.specs.Readers.{declaration_at}
 use Rattle.corba_interfaces.specs.Readers.{interface_at}
-use Rattle.corba_exprs.specs.declared.tree.Identifier.{Identifier}
+use Rattle.idl_exprs.specs.declared.tree.Identifier.{Identifier}
 use Rattle.corba_decls.specs.declared.tree.Declaration.{Declaration}
 use Rattle.corba_interfaces.specs.declared.tree.Interface.{Interface}
 use Rattle.corba_syntax.specs.declared.tree.Definition.{Definition}

@@ -1,18 +1,18 @@
 //! Definitions.
 
 ghost use Rattle.std.specs.Prelude.{◌≡◌, ◌≤◌, ◌<◌, ◌+◌};
-ghost use Rattle.syntax_kit.specs.Reading.{Gives, before, many};
-ghost use Rattle.corba_exprs.specs.Readers.{is_open};
+ghost use Rattle.idl_read.specs.Reading.{Gives, before, many};
+ghost use Rattle.idl_exprs.specs.Readers.{is_open};
 ghost use Rattle.corba_syntax.specs.Readers.{declared_at, module_at, definition_by, definition_at, outermost_at};
 
 use crate::tree::{Definition, Module};
 use corba_decls::{Declaration, declaration};
-use corba_exprs::Identifier;
 use corba_interfaces::interface;
+use idl_exprs::Identifier;
 use idl_lex::Token;
+use idl_read::{Halt, Production, begins, mark, stands_before, word};
 use kit_base::Listed;
 use std::alloc::Global;
-use syntax_kit::{Halt, Production, begins, mark, stands_before, word};
 
 /// A declaration within so many levels, and its `;`.
 fn declared(alloc: Global, levels: u32, tokens: &[Token]) -> Result<(Declaration, &[Token]), Halt>

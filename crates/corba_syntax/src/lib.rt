@@ -7,6 +7,6 @@ mod definitions;
 mod parsing;
 mod tree;
 
+pub use idl_read::SyntaxErr;
 pub use parsing::{one_tree, parse, tokens_are_decided};
-pub use syntax_kit::SyntaxErr;
 pub use tree::{Definition, Module, Tree};

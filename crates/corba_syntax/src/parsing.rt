@@ -8,8 +8,8 @@ ghost use Rattle.corba_syntax.specs.declared.tree.Definition.{Definition};
 use crate::Tree;
 use crate::definitions::outermost;
 use idl_lex::Tokens;
+use idl_read::{Halt, SyntaxErr};
 use std::alloc::Global;
-use syntax_kit::{Halt, SyntaxErr};
 
 /// The tree that has these tokens, or the line where the first definition begins that has none.
 pub fn parse(alloc: Global, tokens: &Tokens) -> Result<Tree, SyntaxErr>

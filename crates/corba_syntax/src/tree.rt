@@ -1,8 +1,8 @@
 //! The syntax tree of a file.
 
 use corba_decls::Declaration;
-use corba_exprs::Identifier;
 use corba_interfaces::Interface;
+use idl_exprs::Identifier;
 use kit_base::Listed;
 
 /// A definition (`<definition>`).

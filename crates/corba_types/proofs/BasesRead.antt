@@ -4,19 +4,19 @@ use Rattle.std.specs.Prelude.{codes}
 use Rattle.idl_lex.specs.declared.kinds.Token.{Token}
 use Rattle.idl_lex.specs.declared.kinds.TokenKind.{TokenKind}
 use Rattle.idl_lex.specs.declared.kinds.TokenKind.TheVariants as K
-use Rattle.syntax_kit.specs.Reading.{mark_is, word_is, token_at, begins_with, word_in}
-use Rattle.syntax_kit.specs.Grammar.{Text, empty, word, mark, ◌&◌, one_of, maybe, kinds, IsGrammar, Leads}
-use Rattle.syntax_kit.proofs.Grammars.{mapped_is, both_is, either_is, option_is, parted}
-use Rattle.syntax_kit.proofs.Leaves.{token_is, word_reads, mark_reads, mark_named, one_kind, apart_or, apart_word, apart_mark, leads_word, leads_mark, leads_either, begins_so, begins_not}
-use Rattle.syntax_kit.proofs.Productions.{weaker, after_is, led_is, leads_after, words_are, leads_words, apart_words, leads_by, unit_left, unit_left_back, unit_right, unit_right_back}
-use Rattle.syntax_kit.proofs.Lists.{turns}
-use Rattle.corba_exprs.specs.Trees.{Tree}
-use Rattle.corba_exprs.specs.declared.tree.ScopedName.{ScopedName}
-use Rattle.corba_exprs.specs.Spelling.{scoped, expression}
-use Rattle.corba_exprs.specs.Readers.{is_identifier, is_after, closes}
-use Rattle.corba_exprs.proofs.LeavesRead.{is_name, scoped_is, leads_scoped}
-use Rattle.corba_exprs.proofs.Again.{May}
-use Rattle.corba_exprs.proofs.ExpressionsRead.{expression_is}
+use Rattle.idl_read.specs.Reading.{mark_is, word_is, token_at, begins_with, word_in}
+use Rattle.idl_read.specs.Grammar.{Text, empty, word, mark, ◌&◌, one_of, maybe, kinds, IsGrammar, Leads}
+use Rattle.idl_read.proofs.Grammars.{mapped_is, both_is, either_is, option_is, parted}
+use Rattle.idl_read.proofs.Leaves.{token_is, word_reads, mark_reads, mark_named, one_kind, apart_or, apart_word, apart_mark, leads_word, leads_mark, leads_either, begins_so, begins_not}
+use Rattle.idl_read.proofs.Productions.{weaker, after_is, led_is, leads_after, words_are, leads_words, apart_words, leads_by, unit_left, unit_left_back, unit_right, unit_right_back}
+use Rattle.idl_read.proofs.Lists.{turns}
+use Rattle.idl_exprs.specs.Trees.{Tree}
+use Rattle.idl_exprs.specs.declared.tree.ScopedName.{ScopedName}
+use Rattle.idl_exprs.specs.Spelling.{scoped, expression}
+use Rattle.idl_exprs.specs.Readers.{is_identifier, is_after, closes}
+use Rattle.idl_exprs.proofs.LeavesRead.{is_name, scoped_is, leads_scoped}
+use Rattle.idl_exprs.proofs.Again.{May}
+use Rattle.idl_exprs.proofs.ExpressionsRead.{expression_is}
 use Rattle.corba_types.specs.declared.tree.IntSize.{IntSize}
 use Rattle.corba_types.specs.declared.tree.IntSize.TheVariants.{Short, Long, LongLong}
 use Rattle.corba_types.specs.declared.tree.Int.{Int}

@@ -4,12 +4,12 @@ use Rattle.std.specs.Prelude.{codes}
 use Rattle.idl_lex.specs.declared.kinds.Token.{Token}
 use Rattle.idl_lex.specs.declared.kinds.TokenKind.{TokenKind}
 use Rattle.idl_lex.specs.declared.kinds.TokenKind.TheVariants as K
-use Rattle.syntax_kit.specs.Reading.{Read, Reader, then_on, map_read, mark_is, word_is, word_at, mark_at, begins_with, after}
-use Rattle.syntax_kit.specs.Grammar.{Text, word, mark, ◌&◌, kinds, IsGrammar}
-use Rattle.syntax_kit.proofs.Grammars.{then_some, read_is, map_some, cond_some, parted, kinds-append}
-use Rattle.syntax_kit.proofs.Leaves.{word_reads, mark_reads, apart_word, leads_word, begins_so, begins_not}
-use Rattle.syntax_kit.proofs.Productions.{after_is, leads_after, leads_maybe}
-use Rattle.corba_exprs.specs.Trees.{Tree}
+use Rattle.idl_read.specs.Reading.{Read, Reader, then_on, map_read, mark_is, word_is, word_at, mark_at, begins_with, after}
+use Rattle.idl_read.specs.Grammar.{Text, word, mark, ◌&◌, kinds, IsGrammar}
+use Rattle.idl_read.proofs.Grammars.{then_some, read_is, map_some, cond_some, parted, kinds-append}
+use Rattle.idl_read.proofs.Leaves.{word_reads, mark_reads, apart_word, leads_word, begins_so, begins_not}
+use Rattle.idl_read.proofs.Productions.{after_is, leads_after, leads_maybe}
+use Rattle.idl_exprs.specs.Trees.{Tree}
 use Rattle.corba_types.specs.declared.tree.Base.{Base}
 use Rattle.corba_types.specs.Spelling.{bound, held, type}
 use Rattle.corba_types.specs.Readers.{Typed, bound_at, sequence_of, ended_at, shared_at, type_at}

@@ -1,6 +1,6 @@
 -- One level of a type.
 use Rattle.std.specs.Prelude.{List, [], ◌∷◌, Option}
-use Rattle.corba_exprs.specs.Trees.{Tree}
+use Rattle.idl_exprs.specs.Trees.{Tree}
 use Rattle.corba_types.specs.declared.tree.Base.{Base}
 use Rattle.corba_types.specs.declared.tree.TypeNode.{TypeNode}
 use Rattle.corba_types.specs.declared.tree.TypeNode.TheVariants as N

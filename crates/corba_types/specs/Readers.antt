@@ -3,10 +3,10 @@ use Rattle.std.specs.Prelude.{Bool, true, false, ◌&&◌, ◌||◌, ◌⊎◌, 
 use Rattle.std.proofs.Common.{inl, inr}
 use Rattle.idl_lex.specs.declared.kinds.Token.{Token}
 use Rattle.idl_lex.specs.declared.kinds.TokenKind.{TokenKind}
-use Rattle.syntax_kit.specs.Reading.{Reader, then_on, map_read, word_is, mark_is, word_at, mark_at, token_at, word_in, has_word, begins_with, both, mapped, either, option, after}
-use Rattle.corba_exprs.specs.Trees.{Tree}
-use Rattle.corba_exprs.specs.declared.tree.ScopedName.{ScopedName}
-use Rattle.corba_exprs.specs.Readers.{scoped_at, expression_at}
+use Rattle.idl_read.specs.Reading.{Reader, then_on, map_read, word_is, mark_is, word_at, mark_at, token_at, word_in, has_word, begins_with, both, mapped, either, option, after}
+use Rattle.idl_exprs.specs.Trees.{Tree}
+use Rattle.idl_exprs.specs.declared.tree.ScopedName.{ScopedName}
+use Rattle.idl_exprs.specs.Readers.{scoped_at, expression_at}
 use Rattle.corba_types.specs.declared.tree.IntSize.{IntSize}
 use Rattle.corba_types.specs.declared.tree.IntSize.TheVariants.{Short, Long, LongLong}
 use Rattle.corba_types.specs.declared.tree.Int.{Int}

@@ -1,8 +1,8 @@
 -- The tokens of a type.
 use Rattle.std.specs.Prelude.{◌≡◌, ◌⊎◌, ℕ, zero, suc, Bool, true, false, List, [], ◌∷◌, Option, Some, None, codes}
-use Rattle.syntax_kit.specs.Grammar.{Text, word, mark, ◌&◌, maybe, when}
-use Rattle.corba_exprs.specs.Trees.{Tree}
-use Rattle.corba_exprs.specs.Spelling.{scoped, expression}
+use Rattle.idl_read.specs.Grammar.{Text, word, mark, ◌&◌, maybe, when}
+use Rattle.idl_exprs.specs.Trees.{Tree}
+use Rattle.idl_exprs.specs.Spelling.{scoped, expression}
 use Rattle.corba_types.specs.declared.tree.IntSize.{IntSize}
 use Rattle.corba_types.specs.declared.tree.IntSize.TheVariants.{Short, Long, LongLong}
 use Rattle.corba_types.specs.declared.tree.Int.{Int}

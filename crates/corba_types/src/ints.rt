@@ -1,12 +1,12 @@
 //! Integer types.
 
 ghost use Rattle.std.specs.Prelude.{◌≡◌, IfErr};
-ghost use Rattle.syntax_kit.specs.Reading.{Gives, begins_with};
+ghost use Rattle.idl_read.specs.Reading.{Gives, begins_with};
 ghost use Rattle.corba_types.specs.Readers.{is_int, size_at, int_at};
 
 use crate::tree::{Int, IntSize};
 use idl_lex::Token;
-use syntax_kit::{Halt, begins, is_word, word};
+use idl_read::{Halt, begins, is_word, word};
 
 /// Whether a word comes first that begins an integer type.
 pub fn begins_int(tokens: &[Token]) -> bool

@@ -2,7 +2,7 @@
 
 ghost use Rattle.std.specs.Prelude.{◌≡◌, ℕ, List, Option, false};
 ghost use Rattle.idl_lex.specs.declared.kinds.TokenKind.{TokenKind};
-ghost use Rattle.corba_exprs.specs.Trees.{Tree};
+ghost use Rattle.idl_exprs.specs.Trees.{Tree};
 ghost use Rattle.corba_types.specs.declared.tree.Base.{Base};
 ghost use Rattle.corba_types.specs.Spelling.{type};
 

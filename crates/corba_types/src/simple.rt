@@ -1,12 +1,12 @@
 //! Types of one word.
 
 ghost use Rattle.std.specs.Prelude.{◌≡◌, IfErr};
-ghost use Rattle.syntax_kit.specs.Reading.{Gives, begins_with, token_at};
+ghost use Rattle.idl_read.specs.Reading.{Gives, begins_with, token_at};
 ghost use Rattle.corba_types.specs.Readers.{simple_in, is_simple, is_long_double, close_in};
 
 use crate::tree::Simple;
 use idl_lex::Token;
-use syntax_kit::{Halt, begins, is_mark, is_word};
+use idl_read::{Halt, begins, is_mark, is_word};
 
 /// The type of one word that a token is.
 fn simple_of(token: &Token) -> Option<Simple>

@@ -2,7 +2,7 @@
 
 ghost use Rattle.std.specs.Prelude.{◌≡◌, List, [], ◌∷◌, Option, IfOk};
 
-use corba_exprs::{Expr, ScopedName};
+use idl_exprs::{Expr, ScopedName};
 use kit_base::NoMemory;
 use std::alloc::Global;
 use std::marker::Model;
@@ -85,13 +85,13 @@ pub enum TypeNode {
 
 impl Model for TypeName {
     ghost use Rattle.std.specs.Prelude.{List, Option, length};
-    ghost use Rattle.corba_exprs.specs.Trees.{Tree};
+    ghost use Rattle.idl_exprs.specs.Trees.{Tree};
     ghost use Rattle.corba_types.specs.declared.tree.Base.{Base};
 
     ghost Value = { List (Option Tree) × Base };
 
     ghost use Rattle.std.specs.Coded.{codes};
-    ghost use Rattle.corba_exprs.specs.Stored.{coded_tree};
+    ghost use Rattle.idl_exprs.specs.Stored.{coded_tree};
     ghost use Rattle.corba_types.specs.contracts.tree.Base as b;
 
     ghost coded = { Prim.hlevel (codes, coded_tree, b.the_row.coded) };

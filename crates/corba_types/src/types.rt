@@ -1,16 +1,16 @@
 //! Types.
 
 ghost use Rattle.std.specs.Prelude.{◌≡◌, ◌≤◌, ◌<◌, ◌+◌};
-ghost use Rattle.syntax_kit.specs.Reading.{Gives};
+ghost use Rattle.idl_read.specs.Reading.{Gives};
 ghost use Rattle.corba_types.specs.Readers.{plain_at, string_at, base_at, bound_at, type_by, shared_at, type_at};
 
 use crate::ints::{begins_int, int};
 use crate::simple::{begins_long_double, begins_simple, close, simple};
 use crate::tree::{Base, TypeName};
-use corba_exprs::{Expr, expression, scoped};
+use idl_exprs::{Expr, expression, scoped};
 use idl_lex::Token;
+use idl_read::{Halt, begins, begins_mark, mark, word};
 use std::alloc::Global;
-use syntax_kit::{Halt, begins, begins_mark, mark, word};
 
 /// A type that is not a sequence or a string.
 #[tactic(auto, unfolding(crate::specs::Readers::plain_at))]

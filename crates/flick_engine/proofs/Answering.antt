@@ -3,8 +3,8 @@ use Rattle.std.proofs.Common.{◌≡◌, ◌+◌, ◌<◌, ◌≤◌, ℕ, List,
 use Rattle.std.proofs.lemmas.List.{length-drop, take_all}
 use Rattle.mint.specs.Values.{Val}
 use Rattle.plain_wire.specs.Answered.{FirstSpell}
-use Rattle.call_kit.specs.declared.called.Called.{Called}
-use Rattle.call_kit.specs.declared.called.Naming.TheVariants.{Operation}
+use Rattle.head_kit.specs.declared.called.Called.{Called}
+use Rattle.head_kit.specs.declared.called.Naming.TheVariants.{Operation}
 use Rattle.pres.specs.Bindings.{Binding}
 use Rattle.flick_engine.specs.declared.errors.MessageErr.TheVariants as err
 use Rattle.flick_engine.specs.Backs.{Begins}

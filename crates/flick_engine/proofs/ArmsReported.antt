@@ -18,7 +18,7 @@ use Rattle.back_xdr.specs.Reported.{status_of as xdr_status}
 use Rattle.back_mach.specs.Reported.{status_of as mach_status}
 use Rattle.giop_head.specs.Reply as giop_reply
 use Rattle.back_cdr.specs.Targets.{IsCdr, target_of}
-use Rattle.op_codes.proofs.ArmIds.{many_ids}
+use Rattle.stub_codes.proofs.ArmIds.{many_ids}
 use Rattle.flick_engine.specs.declared.replies.Fate.TheVariants as fates
 use Rattle.flick_engine.specs.Backs.{RepliesInOrder, RepliesOver, BeginsReply}
 use Rattle.flick_engine.specs.Fates.{Heard, raised_at, fate_of, giop_fate}
@@ -26,7 +26,7 @@ use Rattle.flick_engine.specs.Operations.{operations_in}
 use Rattle.flick_engine.specs.Replies.{arm_type_in, HasArm}
 use Rattle.flick_engine.proofs.Arming.{arm_there}
 use Rattle.flick_engine.proofs.Picking.{below}
-use Rattle.op_codes.proofs.ReplyTypes.{are_the_replies}
+use Rattle.stub_codes.proofs.ReplyTypes.{are_the_replies}
 
 -- ---- what a status tells
 

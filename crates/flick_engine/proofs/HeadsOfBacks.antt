@@ -11,10 +11,10 @@ use Rattle.wire_def.specs.declared.head.Head.{Head}
 use Rattle.wire_def.specs.declared.head.Order.{Order}
 use Rattle.wire_def.specs.declared.head.Order.TheVariants.{Big, Little}
 use Rattle.wire_def.specs.Grammar.{AreOctets}
-use Rattle.call_kit.specs.declared.called.Called.{Called}
-use Rattle.call_kit.specs.declared.called.Naming.{Naming}
-use Rattle.call_kit.specs.declared.called.Naming.TheVariants.{Operation}
-use Rattle.call_kit.specs.Calls.{IsBelow, IsOneHead, HasHead}
+use Rattle.head_kit.specs.declared.called.Called.{Called}
+use Rattle.head_kit.specs.declared.called.Naming.{Naming}
+use Rattle.head_kit.specs.declared.called.Naming.TheVariants.{Operation}
+use Rattle.head_kit.specs.Calls.{IsBelow, IsOneHead, HasHead}
 use Rattle.aoi.specs.Plain.{PlainUnit, PlainInterface, PlainOperation}
 use Rattle.pres.specs.Bindings.{Binding, IsBinding}
 use Rattle.pres.specs.Offers.{operations}
@@ -55,7 +55,7 @@ use Rattle.back_mach.proofs.NamedBy as mach_pairs
 use Rattle.back_mach.proofs.Sent as mach_sent
 use Rattle.flick_engine.specs.Backs.{encoding, lead_over, sized, BeginsOver, Begins, AsksByName, AsksFor, Stops, request_of, reported_of, SaysByName, SaysOver, Says}
 use Rattle.flick_engine.specs.Operations.{operations_in}
-use Rattle.op_codes.proofs.Places.{placed}
+use Rattle.stub_codes.proofs.Places.{placed}
 
 -- ---- the heads that are received
 

@@ -12,7 +12,7 @@ use Rattle.pres.proofs.Facing.{type_at-face}
 use Rattle.flick_engine.specs.Laws.{AreTheUnits, AreAskedFor}
 use Rattle.flick_engine.specs.Operations.{operations_in}
 use Rattle.flick_engine.proofs.HeadsOfBacks.{asked_for}
-use Rattle.op_codes.proofs.Places.{placed}
+use Rattle.stub_codes.proofs.Places.{placed}
 
 -- what goes into an operation with its interface
 abbrev request_at : List Face → PlainInterface × PlainOperation → Face

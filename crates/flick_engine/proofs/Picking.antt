@@ -10,8 +10,8 @@ use Rattle.wire_def.specs.declared.encoding.Encoding.{Encoding}
 use Rattle.wire_def.specs.declared.fault.HeadErr.{HeadErr}
 use Rattle.wire_def.specs.declared.head.Order.{Order}
 use Rattle.aoi.specs.Plain.{PlainInterface, PlainOperation}
-use Rattle.call_kit.specs.declared.called.Called.{Called}
-use Rattle.call_kit.specs.declared.called.Naming.{Naming}
+use Rattle.head_kit.specs.declared.called.Called.{Called}
+use Rattle.head_kit.specs.declared.called.Naming.{Naming}
 use Rattle.pres.specs.Bindings.{Binding}
 use Rattle.cast_stub.specs.Parts.{on_some}
 use Rattle.giop_head.specs.declared.header.Way.TheVariants.{Requests}

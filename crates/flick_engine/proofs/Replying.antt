@@ -10,7 +10,7 @@ use Rattle.wire_def.specs.declared.fault.HeadErr.{HeadErr}
 use Rattle.wire_def.specs.declared.head.Head.{Head}
 use Rattle.wire_def.specs.declared.head.Order.{Order}
 use Rattle.wire_def.specs.declared.outcome.Refusal.{Refusal}
-use Rattle.call_kit.specs.declared.called.Called.{Called}
+use Rattle.head_kit.specs.declared.called.Called.{Called}
 use Rattle.pres.specs.declared.ops.Op.{Op}
 use Rattle.pres.specs.Bindings.{Binding}
 use Rattle.giop_head.specs.Printed.{header_octets}

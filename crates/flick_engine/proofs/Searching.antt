@@ -9,7 +9,7 @@ use Rattle.wire_def.specs.declared.fault.HeadErr.TheVariants as fault
 use Rattle.wire_def.specs.declared.head.Head.{Head}
 use Rattle.wire_def.specs.declared.head.Order.{Order}
 use Rattle.wire_def.specs.declared.head.Order.TheVariants.{Big, Little}
-use Rattle.call_kit.specs.declared.called.Called.{Called}
+use Rattle.head_kit.specs.declared.called.Called.{Called}
 use Rattle.pres.specs.Bindings.{Binding}
 use Rattle.back_xdr.specs.declared.call.OncCall.{OncCall}
 use Rattle.back_xdr.specs.Reported as onc

@@ -8,8 +8,8 @@ use Rattle.wire_def.specs.declared.head.Head.{Head}
 use Rattle.raw_buf.specs.declared.tally.Tally.{Tally}
 use Rattle.raw_buf.specs.Buf.{Buf}
 use Rattle.raw_buf.specs.View.{View}
-use Rattle.call_kit.specs.declared.called.Called.{Called}
-use Rattle.op_codes.specs.Stubs.{Coded}
+use Rattle.head_kit.specs.declared.called.Called.{Called}
+use Rattle.stub_codes.specs.Stubs.{Coded}
 use Rattle.flick_engine.specs.declared.errors.MessageErr.{MessageErr}
 use Rattle.flick_engine.specs.declared.requests.Request.{Request}
 use Rattle.flick_engine.specs.declared.serve.Served.{Served}

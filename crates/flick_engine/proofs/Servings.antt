@@ -12,8 +12,8 @@ use Rattle.wire_def.specs.declared.head.Order.{Order}
 use Rattle.wire_def.specs.declared.head.Order.TheVariants.{Big, Little}
 use Rattle.wire_def.specs.declared.outcome.Refusal.{Refusal}
 use Rattle.wire_def.specs.Grammar.{AreOctets}
-use Rattle.call_kit.specs.declared.called.Called.{Called}
-use Rattle.call_kit.specs.Calls.{HasHead}
+use Rattle.head_kit.specs.declared.called.Called.{Called}
+use Rattle.head_kit.specs.Calls.{HasHead}
 use Rattle.pres.specs.Bindings.{Binding}
 use Rattle.back_xdr.specs.declared.call.OncCall.{OncCall}
 use Rattle.back_xdr.specs.Call.{Call as OncHead}

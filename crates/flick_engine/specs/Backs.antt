@@ -10,7 +10,7 @@ use Rattle.wire_def.specs.declared.head.Order.{Order}
 use Rattle.wire_def.specs.declared.head.Order.TheVariants.{Big, Little}
 use Rattle.wire_def.specs.declared.reply.ReplyHead.{ReplyHead}
 use Rattle.wire_def.specs.declared.reply.Status.TheVariants.{Answer}
-use Rattle.call_kit.specs.declared.called.Called.{Called}
+use Rattle.head_kit.specs.declared.called.Called.{Called}
 use Rattle.aoi.specs.Plain.{PlainInterface, PlainOperation}
 use Rattle.pres.specs.Bindings.{Binding}
 use Rattle.back_xdr.specs.declared.call.OncCall.{OncCall}
@@ -40,7 +40,7 @@ use Rattle.back_mach.specs.Leads as mach_leads
 use Rattle.back_mach.specs.Routines.{routine_in, routine_of}
 use Rattle.back_mach.specs.Seeking as mach_seeking
 use Rattle.back_mach.specs.Reported as mach_reported
-pub use Rattle.op_codes.specs.Backs.{encoding, lead_over, lead, reply_lead_over, reply_lead, sized, BeginsOver, Begins}
+pub use Rattle.stub_codes.specs.Backs.{encoding, lead_over, lead, reply_lead_over, reply_lead, sized, BeginsOver, Begins}
 use Rattle.flick_engine.specs.Fates.{Heard, fate_of, giop_fate}
 
 -- the back end of a name

@@ -9,12 +9,12 @@ use Rattle.kit_base.specs.Causes.{raised}
 use Rattle.cast_stub.specs.Got.{got_by, given}
 use Rattle.cast_stub.specs.Meaning.{Cost}
 use Rattle.stub_machine.specs.Sending.{paid}
-use Rattle.recv_machine.specs.Ran.{place_of}
-use Rattle.call_kit.specs.declared.called.Called.{Called}
+use Rattle.stub_receiver.specs.Ran.{place_of}
+use Rattle.head_kit.specs.declared.called.Called.{Called}
 use Rattle.skeleton.specs.Exchanges.{request_type}
-use Rattle.op_codes.specs.Backs.{Begins, encoding}
-use Rattle.op_codes.specs.declared.stub.Stub.{Stub}
-use Rattle.op_codes.specs.Stubs.{Coded, sent_cost, reply_cost, IsCoveredReply, IsSparingReply}
+use Rattle.stub_codes.specs.Backs.{Begins, encoding}
+use Rattle.stub_codes.specs.declared.stub.Stub.{Stub}
+use Rattle.stub_codes.specs.Stubs.{Coded, sent_cost, reply_cost, IsCoveredReply, IsSparingReply}
 use Rattle.flick_engine.specs.Received.{Asked, ReadCall}
 
 -- counts are those that this cost raises others to

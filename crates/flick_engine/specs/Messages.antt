@@ -1,3 +1,3 @@
 -- The messages of calls.
 pub use Rattle.skeleton.specs.Exchanges.{request_type}
-pub use Rattle.op_codes.specs.Messages.{message}
+pub use Rattle.stub_codes.specs.Messages.{message}

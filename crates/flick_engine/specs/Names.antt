@@ -5,8 +5,8 @@ use Rattle.std.specs.Str.{bytes_eq}
 use Rattle.wire_def.specs.declared.encoding.Back.{Back}
 use Rattle.wire_def.specs.declared.encoding.Back.TheVariants as back
 use Rattle.aoi.specs.Plain.{PlainInterface}
-use Rattle.call_kit.specs.declared.called.Naming.{Naming}
-use Rattle.call_kit.specs.declared.called.Naming.TheVariants.{NoInterface}
+use Rattle.head_kit.specs.declared.called.Naming.{Naming}
+use Rattle.head_kit.specs.declared.called.Naming.TheVariants.{NoInterface}
 use Rattle.cast_stub.specs.Parts.{on_some}
 use Rattle.flick_engine.specs.declared.names.Names.{Names}
 use Rattle.flick_engine.specs.Offered.{Offered, keys_of, nothing, number_in, offered_from, operation_in, raised_each}

@@ -1,2 +1,2 @@
 -- The operations of a binding, as its unit has them.
-pub use Rattle.op_codes.specs.Operations.{operations_in, IsOperation}
+pub use Rattle.stub_codes.specs.Operations.{operations_in, IsOperation}

@@ -6,9 +6,9 @@ use Rattle.wire_def.specs.declared.head.Head.{Head}
 use Rattle.wire_def.specs.Spells.{IsSpelling}
 use Rattle.wire_def.specs.Stops as bodies
 use Rattle.plain_wire.specs.Answered.{FirstSpell}
-use Rattle.call_kit.specs.declared.called.Called.{Called}
-use Rattle.call_kit.specs.declared.called.Naming.{Naming}
-use Rattle.call_kit.specs.declared.called.Naming.TheVariants.{Operation, NoInterface, NoOperation}
+use Rattle.head_kit.specs.declared.called.Called.{Called}
+use Rattle.head_kit.specs.declared.called.Naming.{Naming}
+use Rattle.head_kit.specs.declared.called.Naming.TheVariants.{Operation, NoInterface, NoOperation}
 use Rattle.pres.specs.Bindings.{Binding}
 use Rattle.flick_engine.specs.declared.requests.Request.{Request}
 use Rattle.flick_engine.specs.declared.errors.MessageErr.{MessageErr}

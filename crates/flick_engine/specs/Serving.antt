@@ -7,12 +7,12 @@ use Rattle.wire_def.specs.declared.head.Head.{Head}
 use Rattle.wire_def.specs.declared.outcome.Refusal.{Refusal}
 use Rattle.raw_buf.specs.declared.tally.Tally.{Tally}
 use Rattle.raw_buf.specs.Buf.{Buf}
-use Rattle.call_kit.specs.declared.called.Called.{Called}
-use Rattle.call_kit.specs.declared.called.Naming.{Naming}
-use Rattle.call_kit.specs.declared.called.Naming.TheVariants.{Operation}
+use Rattle.head_kit.specs.declared.called.Called.{Called}
+use Rattle.head_kit.specs.declared.called.Naming.{Naming}
+use Rattle.head_kit.specs.declared.called.Naming.TheVariants.{Operation}
 use Rattle.pres.specs.declared.ops.Op.{Op}
 use Rattle.pres.specs.Bindings.{Binding}
-use Rattle.op_codes.specs.Stubs.{Coded}
+use Rattle.stub_codes.specs.Stubs.{Coded}
 use Rattle.flick_engine.specs.declared.errors.MessageErr.{MessageErr}
 use Rattle.flick_engine.specs.declared.errors.MessageErr.TheVariants as err
 use Rattle.flick_engine.specs.declared.serve.Served.{Served}

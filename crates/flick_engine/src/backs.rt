@@ -1,14 +1,14 @@
 //! What differs from one back end to another, from the crate of each.
 
 ghost use Rattle.std.specs.Prelude.{◌≡◌, ◌<◌, length, IfOk, IfErr};
-ghost use Rattle.call_kit.specs.Calls.{IsBelow};
+ghost use Rattle.head_kit.specs.Calls.{IsBelow};
 ghost use Rattle.back_cdr.specs.Targets.{IsCdr};
 ghost use Rattle.flick_engine.specs.Backs.{back_of, Begins, Stops, encoding_by, heard, BeginsReply, ReplyStops};
 
 use crate::engine::Engine;
 use crate::reply_leads::reply_id;
 use back_mach::routines::routine_of;
-use call_kit::Called;
+use head_kit::Called;
 use wire_def::{Back, Encoding, Head, HeadErr, Order, ReplyHead};
 
 /// The back end of a name, if it is one.

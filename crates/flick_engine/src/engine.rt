@@ -1,9 +1,9 @@
 //! An engine.
 
 ghost use Rattle.std.specs.Prelude.{◌≡◌, ◌<◌, length, IfOk, Some, option_map, slice_get};
-ghost use Rattle.op_codes.specs.Receiving.{Receives};
-ghost use Rattle.op_codes.specs.Sending.{Sends};
-ghost use Rattle.op_codes.specs.Stubs.{IsCoded, reply_code_at};
+ghost use Rattle.stub_codes.specs.Receiving.{Receives};
+ghost use Rattle.stub_codes.specs.Sending.{Sends};
+ghost use Rattle.stub_codes.specs.Stubs.{IsCoded, reply_code_at};
 ghost use Rattle.flick_engine.specs.Backs.{encoding, lead, reply_lead};
 ghost use Rattle.flick_engine.specs.Messages.{request_type};
 ghost use Rattle.flick_engine.specs.Names.{AreNamesOver};
@@ -12,10 +12,10 @@ ghost use Rattle.flick_engine.specs.Replies.{HasArm, arm_type};
 use crate::names::Names;
 use cast_stub::{RecvCode, SendCode};
 use kit_base::NoMemory;
-use op_codes::Codes;
 use pres::Bound;
 use std::alloc::Global;
 use std::marker::Model;
+use stub_codes::Codes;
 
 /// The operations of a unit over a back end, each with its stub code, ready to make messages and to read them.
 #[derive(Drop)]
@@ -25,7 +25,7 @@ pub struct Engine {
 }
 
 impl Model for Engine {
-    ghost use Rattle.op_codes.specs.Stubs.{Coded};
+    ghost use Rattle.stub_codes.specs.Stubs.{Coded};
     ghost use Rattle.flick_engine.specs.Names.{AreNamesOver};
     ghost use Rattle.std.specs.Coded.{codes};
     ghost use Rattle.aoi.specs.Stored.{coded_shape, coded_members};

@@ -5,7 +5,7 @@ ghost use Rattle.kit_base.specs.Limits.{longest_message};
 ghost use Rattle.mint.specs.Typed.{IsWellTyped};
 ghost use Rattle.mint.specs.Values.{seen};
 ghost use Rattle.raw_buf.specs.Buf.{NoneFell};
-ghost use Rattle.op_codes.specs.Stubs.{IsCoveredRequest, IsSparingRequest};
+ghost use Rattle.stub_codes.specs.Stubs.{IsCoveredRequest, IsSparingRequest};
 ghost use Rattle.flick_engine.specs.Costs.{IsSentByCode};
 ghost use Rattle.flick_engine.specs.Messages.{request_type, message};
 

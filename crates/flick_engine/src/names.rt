@@ -8,8 +8,8 @@ ghost use Rattle.flick_engine.specs.Offered.{raised_by};
 
 use crate::numbered::{Numbered, demux_of};
 use aoi::{Interface, Operation, Raise};
-use call_kit::Naming;
 use demux::{Demux, WordName};
+use head_kit::Naming;
 use kit_base::{Listed, Name, NoMemory, Words};
 use pres::Bound;
 use std::alloc::Global;

@@ -5,8 +5,8 @@ ghost use Rattle.aoi.specs.Plain.{plain_operation};
 ghost use Rattle.flick_engine.specs.Offered.{names_of, number_in, operation_in};
 
 use aoi::Operation;
-use call_kit::Naming;
 use demux::{Demux, WordName};
+use head_kit::Naming;
 use kit_base::{Name, NoMemory, Words};
 use std::alloc::Global;
 use std::marker::Model;

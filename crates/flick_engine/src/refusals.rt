@@ -14,7 +14,7 @@ ghost use Rattle.flick_engine.specs.Serving.{IsRefused, RefusesCall};
 use crate::engine::Engine;
 use crate::errors::MessageErr;
 use aoi::Interface;
-use call_kit::Called;
+use head_kit::Called;
 use kit_base::{NoMemory, Octets};
 use raw_buf::SendBuf;
 use std::alloc::Global;

@@ -3,7 +3,7 @@
 ghost use Rattle.std.specs.Prelude.{◌≡◌, ◌<◌, [], Ok, Some, length, IfOk, OnErr, OnOk};
 ghost use Rattle.mint.specs.Typed.{IsWellTyped};
 ghost use Rattle.mint.specs.Values.{seen};
-ghost use Rattle.call_kit.specs.Calls.{IsBelow};
+ghost use Rattle.head_kit.specs.Calls.{IsBelow};
 ghost use Rattle.raw_buf.specs.Buf.{NoneFell};
 ghost use Rattle.flick_engine.specs.Backs.{Begins};
 ghost use Rattle.flick_engine.specs.Costs.{IsServedByCode};
@@ -17,7 +17,7 @@ ghost use Rattle.flick_engine.specs.Serving.{Serves, ServesByCode, ServesCall, A
 use crate::engine::Engine;
 use crate::errors::{MarshalErr, MessageErr};
 use crate::requests::Request;
-use call_kit::{Called, Naming};
+use head_kit::{Called, Naming};
 use kit_base::NoMemory;
 use kit_base::limits::LONGEST_MESSAGE;
 use raw_buf::{RecvView, SendBuf};

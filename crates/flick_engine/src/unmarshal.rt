@@ -13,12 +13,12 @@ ghost use Rattle.flick_engine.specs.Received.{Answers, IsExactly, Names};
 use crate::engine::Engine;
 use crate::errors::MessageErr;
 use crate::requests::Request;
-use call_kit::{Called, Naming};
+use head_kit::{Called, Naming};
 use kit_base::limits::LONGEST_MESSAGE;
-use op_codes::bodies_are_taken;
 use plain_wire::Read;
 use raw_buf::RecvView;
 use std::alloc::Global;
+use stub_codes::bodies_are_taken;
 
 impl Engine {
     /// Reads the request of a message. Of the view is said where it is after a request whose body is laid out

@@ -20,9 +20,9 @@ use crate::errors::MessageErr;
 use crate::replies::{Fate, Reply};
 use kit_base::limits::LONGEST_MESSAGE;
 use mint::value::Value;
-use op_codes::arm_node;
 use plain_wire::{Read, plain_read};
 use std::alloc::Global;
+use stub_codes::arm_node;
 use wire_def::{Outcome, Refusal, ReplyHead};
 
 impl Engine {

@@ -2,7 +2,7 @@
 
 use crate::descent::word_at;
 use crate::text::{cut, shown, text_of};
-use call_kit::{Called, Naming};
+use head_kit::{Called, Naming};
 use kit_base::NoMemory;
 use kit_base::limits::LONGEST_MESSAGE;
 use mint::kind::{Count, Kind};

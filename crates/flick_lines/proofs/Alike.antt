@@ -2,8 +2,8 @@
 use Rattle.std.proofs.Common.{◌≡◌, ℕ, List, length, refl, ap, ◌∙◌}
 use Rattle.hex.specs.Hex.{decode_of}
 use Rattle.pres.specs.Bindings.{Binding}
-use Rattle.op_codes.specs.declared.stub.Stub.{Stub}
-use Rattle.op_codes.specs.Stubs.{Coded}
+use Rattle.stub_codes.specs.declared.stub.Stub.{Stub}
+use Rattle.stub_codes.specs.Stubs.{Coded}
 use Rattle.flick_engine.specs.Messages.{message}
 use Rattle.flick_lines.specs.declared.verb.Verb.{Verb}
 use Rattle.flick_lines.specs.declared.verb.Verb.TheVariants.{Marshal, Unmarshal, Reply, Unreply, Count}

@@ -3,8 +3,8 @@ use Rattle.std.proofs.Common.{ap}
 use Rattle.std.specs.Prelude.{option_map}
 use Rattle.raw_buf.specs.Buf.{none as no_calls}
 use Rattle.stub_machine.specs.Sending.{paid}
-use Rattle.op_codes.specs.Laws.{RequestsHaveCosts}
-use Rattle.op_codes.specs.Stubs.{Coded, IsCoded}
+use Rattle.stub_codes.specs.Laws.{RequestsHaveCosts}
+use Rattle.stub_codes.specs.Stubs.{Coded, IsCoded}
 use Rattle.flick_lines.specs.Counted.{AllCounted}
 
 pub all_counted : (c : Coded) → IsCoded c → RequestsHaveCosts → AllCounted c

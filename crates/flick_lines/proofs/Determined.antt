@@ -19,7 +19,7 @@ use Rattle.flick_engine.proofs.DecidingReplies.{determined_reply}
 use Rattle.flick_engine.specs.declared.errors.MessageErr.{MessageErr}
 use Rattle.flick_engine.specs.Received.{ReadCall}
 use Rattle.flick_engine.specs.RepliesReceived.{ReadReply}
-use Rattle.op_codes.specs.Stubs.{Coded}
+use Rattle.stub_codes.specs.Stubs.{Coded}
 use Rattle.flick_lines.specs.declared.verb.Verb.{Verb}
 use Rattle.flick_lines.specs.declared.verb.Verb.TheVariants.{Marshal, Unmarshal, Reply, Unreply, Count}
 use Rattle.flick_lines.specs.Counted.{call_counted}

@@ -28,7 +28,7 @@ use Rattle.flick_engine.specs.Messages.{request_type}
 use Rattle.flick_engine.specs.Received.{ReadCall}
 use Rattle.flick_engine.specs.Replies.{reply_type, arm_type_in, arm_type}
 use Rattle.flick_engine.specs.RepliesReceived.{ReadReply}
-use Rattle.op_codes.specs.Stubs.{Coded}
+use Rattle.stub_codes.specs.Stubs.{Coded}
 use Rattle.flick_lines.specs.declared.verb.Verb.{Verb}
 use Rattle.flick_lines.specs.declared.verb.Verb.TheVariants.{Marshal, Unmarshal, Reply, Unreply, Count}
 use Rattle.flick_lines.specs.Counted.{call_counted}

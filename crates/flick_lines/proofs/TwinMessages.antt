@@ -26,10 +26,10 @@ use Rattle.json_shape.specs.Replies.{word, reply_with}
 use Rattle.json_shape.specs.Requests.{head_json, request_json}
 use Rattle.json_shape.specs.Texts.{text_of}
 use Rattle.json_shape.specs.Written.{json_of}
-use Rattle.call_kit.specs.declared.called.Called.{Called}
-use Rattle.call_kit.specs.declared.called.Naming.{Naming}
-use Rattle.call_kit.specs.declared.called.Naming.TheVariants.{Operation}
-use Rattle.call_kit.specs.Calls.{IsBelow}
+use Rattle.head_kit.specs.declared.called.Called.{Called}
+use Rattle.head_kit.specs.declared.called.Naming.{Naming}
+use Rattle.head_kit.specs.declared.called.Naming.TheVariants.{Operation}
+use Rattle.head_kit.specs.Calls.{IsBelow}
 use Rattle.flick_engine.specs.declared.errors.MessageErr.{MessageErr}
 use Rattle.flick_engine.specs.declared.errors.MessageErr.TheVariants as err
 use Rattle.flick_engine.specs.Backs.{BeginsOver, Begins, Stops, RepliesOver, BeginsReply, ReplyStopsOver, ReplyStops}

@@ -4,7 +4,7 @@ use Rattle.std.specs.Prelude.{IfOk, IfSome, IsUtf8}
 use Rattle.kit_base.specs.declared.errors.NoMemory.{NoMemory}
 use Rattle.mint.specs.Values.{seen}
 use Rattle.raw_buf.specs.Buf.{Buf}
-use Rattle.op_codes.specs.Stubs.{Coded}
+use Rattle.stub_codes.specs.Stubs.{Coded}
 use Rattle.pres.specs.Bindings.{Binding}
 use Rattle.serde_json.specs.Data.{Data}
 use Rattle.json_shape.specs.declared.records.RequestRec.{RequestRec}

@@ -9,8 +9,8 @@ use Rattle.raw_buf.specs.declared.tally.Tally.{Tally}
 use Rattle.raw_buf.specs.Buf.{none}
 use Rattle.cast_stub.specs.Puts.{IsHead}
 use Rattle.stub_machine.specs.Sending.{paid}
-use Rattle.op_codes.specs.declared.stub.Stub.{Stub}
-use Rattle.op_codes.specs.Stubs.{Coded, sent_cost}
+use Rattle.stub_codes.specs.declared.stub.Stub.{Stub}
+use Rattle.stub_codes.specs.Stubs.{Coded, sent_cost}
 use Rattle.json_shape.specs.Requests.{request_of}
 use Rattle.flick_engine.specs.Messages.{request_type, message}
 use Rattle.flick_lines.specs.Marshalled.{Texts, IsOfTree, tree_of}

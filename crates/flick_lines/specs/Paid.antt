@@ -5,7 +5,7 @@ use Rattle.mint.specs.Values.{Val}
 use Rattle.wire_def.specs.declared.head.Head.{Head}
 use Rattle.raw_buf.specs.Buf.{Buf, none}
 use Rattle.cast_stub.specs.Meaning.{Cost}
-use Rattle.op_codes.specs.Stubs.{Coded, sent_cost}
+use Rattle.stub_codes.specs.Stubs.{Coded, sent_cost}
 use Rattle.serde_json.specs.Data.{Data}
 use Rattle.json_shape.specs.declared.errors.RecordErr.{RecordErr}
 use Rattle.json_shape.specs.Presents.{Presents}

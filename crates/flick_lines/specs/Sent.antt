@@ -6,7 +6,7 @@ use Rattle.wire_def.specs.declared.head.Head.{Head}
 use Rattle.raw_buf.specs.Buf.{Buf, NoneFell}
 use Rattle.cast_stub.specs.Meaning.{Cost, no_cost, sum}
 use Rattle.stub_machine.specs.Sending.{paid}
-use Rattle.op_codes.specs.Stubs.{Coded, sent_cost}
+use Rattle.stub_codes.specs.Stubs.{Coded, sent_cost}
 use Rattle.serde_json.specs.Data.{Data}
 use Rattle.json_shape.specs.declared.errors.RecordErr.{RecordErr}
 use Rattle.json_shape.specs.Presents.{Presents}

@@ -1,6 +1,6 @@
 -- The answers of the verbs to the octets of a line.
 use Rattle.std.specs.Prelude.{ℕ, List}
-use Rattle.op_codes.specs.Stubs.{Coded}
+use Rattle.stub_codes.specs.Stubs.{Coded}
 use Rattle.flick_lines.specs.declared.verb.Verb.{Verb}
 use Rattle.flick_lines.specs.declared.verb.Verb.TheVariants.{Marshal, Unmarshal, Reply, Unreply, Count}
 use Rattle.flick_lines.specs.Counted.{IsCounted}

@@ -6,7 +6,7 @@ ghost use Rattle.flick_lines.specs.declared.verb.Verb.{Verb as SpecVerb};
 ghost use Rattle.flick_lines.specs.Verbs.{IsAnswerTo};
 
 use flick_engine::Engine;
-use op_codes::requests_have_costs;
+use stub_codes::requests_have_costs;
 
 /// Each line has an answer, whatever the verb.
 pub fn lines_are_answered(engine: &Engine)

@@ -21,7 +21,7 @@ pub fn digits(alloc: Global, octets: &[u8]) -> Result<Octets, NoMemory>
 {
     let room = octets.len().saturating_mul(2).saturating_add(1);
     let mut out = Octets::with_room(alloc, room)?;
-    digit_kit::put(octets, &mut out)?;
+    kit_digits::put(octets, &mut out)?;
     Ok(out)
 }
 

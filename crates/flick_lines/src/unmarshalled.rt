@@ -20,7 +20,7 @@ use wire_def::{FaultKind, HeadErr};
 pub fn unmarshal(alloc: Global, engine: &Engine, line: &[u8]) -> Result<Octets, NoMemory>
     ensures { IfOk result (λ o. IsUnmarshalled engine.now.binding line.now o) }
 {
-    match digit_kit::decode(alloc, line) {
+    match kit_digits::decode(alloc, line) {
         Ok(message) => of_octets(alloc, engine, message.as_slice()),
         Err(FromHexError::OutOfMemory) => Err(NoMemory),
         Err(_) => copied(alloc, b"! hex"),

@@ -62,7 +62,7 @@ fn of_digits(alloc: Global, engine: &Engine, op: u32, digits: &[u8]) -> Result<O
     requires reply { IfSome (slice_get engine.now.binding.ops op) (λ o. o.has_reply ≡ true) }
     ensures { IfOk result (λ o. IsOfReply engine.now.binding (Some op) digits.now o) }
 {
-    match digit_kit::decode(alloc, digits) {
+    match kit_digits::decode(alloc, digits) {
         Ok(message) => of_octets(alloc, engine, op, message.as_slice()),
         Err(FromHexError::OutOfMemory) => Err(NoMemory),
         Err(_) => copied(alloc, b"! hex"),

@@ -14,10 +14,10 @@ use Rattle.wire_def.specs.declared.fault.HeadErr.{HeadErr}
 use Rattle.wire_def.specs.declared.head.Head.{Head}
 use Rattle.wire_def.specs.declared.outcome.Refusal.{Refusal}
 use Rattle.aoi.specs.Plain.{PlainUnit}
-use Rattle.call_kit.specs.declared.called.Called.{Called}
-use Rattle.call_kit.specs.declared.called.Naming.{Naming}
-use Rattle.call_kit.specs.declared.called.Naming.TheVariants.{Operation, NoInterface, NoOperation}
-use Rattle.call_kit.specs.Calls.{IsBelow}
+use Rattle.head_kit.specs.declared.called.Called.{Called}
+use Rattle.head_kit.specs.declared.called.Naming.{Naming}
+use Rattle.head_kit.specs.declared.called.Naming.TheVariants.{Operation, NoInterface, NoOperation}
+use Rattle.head_kit.specs.Calls.{IsBelow}
 use Rattle.pres.specs.declared.ops.Op.{Op}
 use Rattle.pres.specs.Bindings.{Binding}
 use Rattle.pres.specs.Faces.{Face}

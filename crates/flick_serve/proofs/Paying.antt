@@ -13,9 +13,9 @@ use Rattle.raw_buf.specs.declared.tally.Tally.{Tally}
 use Rattle.raw_buf.specs.Buf.{Buf, NoneFell}
 use Rattle.cast_stub.specs.Meaning.{Cost, no_cost}
 use Rattle.stub_machine.specs.Sending.{paid}
-use Rattle.call_kit.specs.declared.called.Called.{Called}
+use Rattle.head_kit.specs.declared.called.Called.{Called}
 use Rattle.pres.specs.Bindings.{Binding}
-use Rattle.op_codes.specs.Stubs.{Coded}
+use Rattle.stub_codes.specs.Stubs.{Coded}
 use Rattle.skeleton.specs.Kept.{Kept, Places, answer_at}
 use Rattle.skeleton.proofs.Keeping.{with_table}
 use Rattle.flick_engine.specs.declared.errors.MessageErr.{MessageErr}

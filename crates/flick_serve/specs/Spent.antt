@@ -5,8 +5,8 @@ use Rattle.hex.specs.declared.error.FromHexError.{FromHexError}
 use Rattle.mint.specs.Values.{Val}
 use Rattle.raw_buf.specs.Buf.{Buf}
 use Rattle.cast_stub.specs.Meaning.{Cost}
-use Rattle.call_kit.specs.declared.called.Called.{Called}
-use Rattle.op_codes.specs.Stubs.{Coded}
+use Rattle.head_kit.specs.declared.called.Called.{Called}
+use Rattle.stub_codes.specs.Stubs.{Coded}
 use Rattle.flick_engine.specs.Backs.{Begins}
 use Rattle.flick_engine.specs.Costs.{answer_cost}
 use Rattle.flick_engine.specs.Received.{Asked, IsShort, ReadCall}

@@ -121,7 +121,7 @@ fn of_line(
         (IsMessagePaid engine.now (answer_at kept.now) (decode_of line.now) buf.old buf.new) }
     ensures spent { NoneFell buf.old.spent buf.new.spent }
 {
-    match digit_kit::decode(alloc, line) {
+    match kit_digits::decode(alloc, line) {
         Ok(message) => of_message(alloc, engine, kept, message.as_slice(), buf),
         Err(FromHexError::OutOfMemory) => Err(NoMemory),
         Err(_) => copied(alloc, b"! hex"),

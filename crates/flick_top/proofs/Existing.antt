@@ -3,7 +3,7 @@ use Rattle.std.proofs.Common.{◌≡◌, ℕ, List, [], ◌∷◌, ◌++◌, Opt
 use Rattle.std.specs.Prelude.{codes}
 use Rattle.kit_base.specs.declared.lines.Line.{Line}
 use Rattle.kit_base.specs.declared.lines.Line.TheVariants.{Text, Long, End}
-use Rattle.op_codes.specs.Stubs.{Coded}
+use Rattle.stub_codes.specs.Stubs.{Coded}
 use Rattle.flick_lines.specs.declared.verb.Verb.{Verb}
 use Rattle.flick_lines.specs.Verbs.{IsAnswerTo}
 use Rattle.flick_serve.specs.Served.{Serving, IsServed}

@@ -8,8 +8,8 @@ use Rattle.aoi.specs.Plain.{PlainUnit}
 use Rattle.pres.specs.declared.errors.BindErr.{BindErr}
 use Rattle.pres.specs.Bindings.{Binding}
 use Rattle.pres.specs.Faults.{bind_fault}
-use Rattle.op_codes.specs.declared.stub.Stub.{Stub}
-use Rattle.op_codes.specs.Stubs.{Coded}
+use Rattle.stub_codes.specs.declared.stub.Stub.{Stub}
+use Rattle.stub_codes.specs.Stubs.{Coded}
 use Rattle.flick_lines.proofs.Twins.{AreTwins}
 use Rattle.flick_top.specs.declared.command.Named.{Named}
 use Rattle.flick_top.specs.declared.saying.Saying.TheVariants as sayings

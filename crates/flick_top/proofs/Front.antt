@@ -5,7 +5,7 @@ use Rattle.std.proofs.lemmas.List.{take_all, length-take-le}
 use Rattle.std.proofs.lemmas.Bool.Decides.{nat_tests}
 use Rattle.kit_base.specs.Limits.{longest_file}
 use Rattle.kit_base.specs.Memory.{HasFile}
-use Rattle.op_codes.specs.Stubs.{Coded}
+use Rattle.stub_codes.specs.Stubs.{Coded}
 use Rattle.idl_lex.specs.declared.kinds.Front.{Front}
 use Rattle.flick_top.specs.declared.saying.Saying.TheVariants.{TooLarge, LargeReplies}
 use Rattle.flick_top.specs.declared.task.Task.{Task}

@@ -5,8 +5,8 @@ use Rattle.wire_def.specs.declared.encoding.Back.{Back}
 use Rattle.aoi.specs.Plain.{PlainUnit}
 use Rattle.pres.specs.declared.errors.BindErr.{BindErr}
 use Rattle.pres.specs.Faults.{bind_fault}
-use Rattle.op_codes.specs.declared.stub.Stub.{Stub}
-use Rattle.op_codes.specs.Stubs.{Coded, IsCoded}
+use Rattle.stub_codes.specs.declared.stub.Stub.{Stub}
+use Rattle.stub_codes.specs.Stubs.{Coded, IsCoded}
 use Rattle.flick_serve.specs.Given.{Given}
 use Rattle.flick_top.specs.declared.command.Action.{Action}
 use Rattle.flick_top.specs.declared.command.Action.TheVariants as actions

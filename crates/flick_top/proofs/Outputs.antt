@@ -5,8 +5,8 @@ use Rattle.kit_base.specs.Limits.{longest_line}
 use Rattle.kit_base.specs.declared.lines.Line.{Line}
 use Rattle.kit_base.specs.declared.lines.Line.TheVariants.{Text, Long, End}
 use Rattle.kit_base.specs.Lines.{lines}
-use Rattle.op_codes.specs.declared.stub.Stub.{Stub}
-use Rattle.op_codes.specs.Stubs.{Coded}
+use Rattle.stub_codes.specs.declared.stub.Stub.{Stub}
+use Rattle.stub_codes.specs.Stubs.{Coded}
 use Rattle.flick_lines.specs.declared.verb.Verb.{Verb}
 use Rattle.flick_lines.specs.declared.verb.Verb.TheVariants.{Count}
 use Rattle.flick_lines.specs.Verbs.{IsAnswerTo}
@@ -16,9 +16,9 @@ use Rattle.flick_serve.specs.Given.{Given}
 use Rattle.flick_serve.specs.Served.{IsServed}
 use Rattle.flick_serve.proofs.Alike.{file_over, served_over}
 use Rattle.flick_serve.proofs.Deciding.{given_once}
-use Rattle.kit_texts.specs.MadeText.{make_text}
-use Rattle.kit_texts.specs.Show.{show_text}
-use Rattle.kit_texts.specs.StubTexts.{stubs_text}
+use Rattle.flick_texts.specs.MadeText.{make_text}
+use Rattle.flick_texts.specs.Show.{show_text}
+use Rattle.flick_texts.specs.StubTexts.{stubs_text}
 use Rattle.flick_top.specs.declared.command.Action.{Action}
 use Rattle.flick_top.specs.declared.command.Action.TheVariants as actions
 use Rattle.flick_top.specs.declared.command.Command.{Command}

@@ -1,7 +1,7 @@
 -- The task of an action over what was made of a file is that of its command.
 use Rattle.std.proofs.Common.{◌≡◌, ℕ, List, Option, Some, Result, Ok, Err, sym, ◌∙◌, subst}
 use Rattle.std.specs.Prelude.{IfOk}
-use Rattle.op_codes.specs.declared.stub.Stub.{Stub}
+use Rattle.stub_codes.specs.declared.stub.Stub.{Stub}
 use Rattle.flick_top.specs.declared.command.Action.{Action}
 use Rattle.flick_top.specs.declared.command.Command.{Command}
 use Rattle.flick_top.specs.declared.command.Command.TheVariants.{Over}

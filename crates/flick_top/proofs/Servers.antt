@@ -1,6 +1,6 @@
 -- A server answers lines by the replies that the text of a file gives, or a wrong line of it is said.
 use Rattle.std.proofs.Common.{◌≡◌, ℕ, List, [], Result, Ok, Err, ap, ◌∙◌}
-use Rattle.op_codes.specs.Stubs.{Coded}
+use Rattle.stub_codes.specs.Stubs.{Coded}
 use Rattle.flick_serve.specs.Given.{Given, FileGives}
 use Rattle.flick_serve.specs.declared.serving.WrongReplies.{WrongReplies}
 use Rattle.flick_serve.specs.Served.{Serving, AgreesWith}

@@ -5,7 +5,7 @@ use Rattle.kit_base.specs.declared.lines.Line.{Line}
 use Rattle.kit_base.specs.declared.lines.Line.TheVariants.{Text, Long, End}
 use Rattle.kit_base.specs.Lines.{lines}
 use Rattle.raw_buf.specs.Buf.{Buf, NoneFell}
-use Rattle.op_codes.specs.Stubs.{Coded}
+use Rattle.stub_codes.specs.Stubs.{Coded}
 use Rattle.json_shape.specs.Replies.{reply_of}
 use Rattle.json_shape.specs.Requests.{request_of}
 use Rattle.flick_lines.specs.declared.verb.Verb.{Verb}

@@ -5,7 +5,7 @@ use Rattle.std.proofs.KnownBytes.{Appends-trans, Appends-nil, Consumes-nil}
 use Rattle.kit_base.specs.declared.lines.Line.{Line}
 use Rattle.kit_base.specs.Lines.{State, Advances}
 use Rattle.kit_base.proofs.Cutting.{advances-trans}
-use Rattle.op_codes.specs.Stubs.{Coded}
+use Rattle.stub_codes.specs.Stubs.{Coded}
 use Rattle.flick_top.specs.declared.saying.Saying.{Saying}
 use Rattle.flick_top.specs.declared.saying.Saying.TheVariants as sayings
 use Rattle.flick_top.specs.declared.status.Status.TheVariants.{Done, File}
@@ -16,7 +16,7 @@ use Rattle.flick_top.specs.Output.{Files, Out, saying_task, refusing_task, shape
 use Rattle.flick_top.specs.Made.{codes_of, engine_of, LeavesEngine}
 use Rattle.flick_top.specs.Saying.{ending}
 use Rattle.flick_top.specs.Command.{command_of}
-use Rattle.kit_texts.specs.WholeLines.{AreWholeLines}
+use Rattle.flick_texts.specs.WholeLines.{AreWholeLines}
 use Rattle.flick_top.specs.Outside.{Input, TakesPrefix}
 use Rattle.flick_top.specs.Statement.{WritesPrefix, WritesEnded, WritesWholeLines, Works, Leaves}
 use Rattle.flick_top.specs.declared.command.Command.{Command}

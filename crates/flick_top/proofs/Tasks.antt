@@ -8,11 +8,11 @@ use Rattle.aoi.specs.Plain.{PlainUnit, IsSoundPlain}
 use Rattle.pres.specs.declared.errors.BindErr.{BindErr}
 use Rattle.pres.specs.Faults.{bind_fault}
 use Rattle.pres.proofs.Existing.{units_bound}
-use Rattle.op_codes.specs.declared.stub.Stub.{Stub}
-use Rattle.op_codes.specs.Stubs.{Coded}
+use Rattle.stub_codes.specs.declared.stub.Stub.{Stub}
+use Rattle.stub_codes.specs.Stubs.{Coded}
 use Rattle.flick_serve.proofs.Deciding.{given_somehow}
-use Rattle.kit_texts.specs.MadeText.{make_text}
-use Rattle.kit_texts.specs.StubTexts.{stubs_text}
+use Rattle.flick_texts.specs.MadeText.{make_text}
+use Rattle.flick_texts.specs.StubTexts.{stubs_text}
 use Rattle.flick_top.specs.declared.command.Action.{Action}
 use Rattle.flick_top.specs.declared.command.Action.TheVariants as actions
 use Rattle.flick_top.specs.declared.command.Command.{Command}

@@ -11,15 +11,15 @@ use Rattle.pres.specs.Bindings.{Binding}
 use Rattle.pres.specs.Faces.{Face}
 use Rattle.pres.specs.Offers.{offer_at}
 use Rattle.json_shape.specs.Operations.{dotted}
-use Rattle.op_codes.specs.declared.stub.Stub.{Stub}
-use Rattle.op_codes.specs.Stubs.{Coded}
+use Rattle.stub_codes.specs.declared.stub.Stub.{Stub}
+use Rattle.stub_codes.specs.Stubs.{Coded}
 use Rattle.flick_engine.specs.Messages.{request_type, message}
 use Rattle.flick_lines.specs.declared.verb.Verb.{Verb}
 use Rattle.flick_lines.specs.declared.verb.Verb.TheVariants as verbs
 use Rattle.flick_lines.proofs.Twins.{AreTwins, faces_in, AreSame, ops_alike, first_same, rest_same, none_same, names_alike, dotted_alike, request_alike, message_alike}
-use Rattle.kit_texts.specs.Counted.{messages_from, made_line}
-use Rattle.kit_texts.specs.MadeText.{turn, made_head, made_message, messages, make_text}
-use Rattle.kit_texts.specs.StubTexts.{sent_text, both_texts, texts_of, stubs_text, counted_text}
+use Rattle.flick_texts.specs.Counted.{messages_from, made_line}
+use Rattle.flick_texts.specs.MadeText.{turn, made_head, made_message, messages, make_text}
+use Rattle.flick_texts.specs.StubTexts.{sent_text, both_texts, texts_of, stubs_text, counted_text}
 use Rattle.flick_top.specs.Output.{text_before}
 use Rattle.flick_top.proofs.FilesSay.{AreAlike}
 

@@ -8,9 +8,9 @@ use Rattle.idl_lex.specs.declared.lexing.LexErr.{LexErr}
 use Rattle.idl_lex.specs.Lexed.{tokens_after, AreTokens, IsFirstFault}
 use Rattle.idl_lex.proofs.Deciding.{decided as text_decided}
 use Rattle.idl_lex.proofs.Standing.{same_pieces, same_fault, not_both}
-use Rattle.syntax_kit.specs.Grammar.{Text, mark, ◌&◌}
-use Rattle.syntax_kit.specs.Files.{FailsAt as defs_fail_at}
-use Rattle.syntax_kit.proofs.Grammars.{read_is}
+use Rattle.idl_read.specs.Grammar.{Text, mark, ◌&◌}
+use Rattle.idl_read.specs.Files.{FailsAt as defs_fail_at}
+use Rattle.idl_read.proofs.Grammars.{read_is}
 use Rattle.onc_syntax.specs.declared.tree.Def.{Def}
 use Rattle.onc_syntax.specs.Derivation.{def, Derives as OncDerives, FailsAt as OncFailsAt}
 use Rattle.onc_syntax.proofs.Fronts.{one_tree_only as onc_one_tree, decided as onc_decided}

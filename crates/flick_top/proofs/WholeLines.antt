@@ -11,7 +11,7 @@ use Rattle.flick_top.specs.declared.saying.Saying.TheVariants as sayings
 use Rattle.flick_top.specs.declared.job.Job.{Job}
 use Rattle.flick_top.specs.Answer.{Answering, IsAnswering, IsAnswer, answers}
 use Rattle.flick_top.specs.Saying.{said, lex_name, place_of, name_name, bind_name}
-use Rattle.kit_texts.specs.WholeLines.{AreWholeLines}
+use Rattle.flick_texts.specs.WholeLines.{AreWholeLines}
 
 -- octets that a line feed ends
 abbrev IsEnded : List ℕ → Type 0

@@ -10,8 +10,8 @@ use Rattle.pres.specs.Bindings.{Binding, IsBinding}
 use Rattle.pres.specs.Faces.{faces}
 use Rattle.pres.specs.Faults.{bind_fault}
 use Rattle.pres.specs.Made.{all_made}
-use Rattle.op_codes.specs.declared.stub.Stub.{Stub}
-use Rattle.op_codes.specs.Stubs.{Coded}
+use Rattle.stub_codes.specs.declared.stub.Stub.{Stub}
+use Rattle.stub_codes.specs.Stubs.{Coded}
 use Rattle.flick_top.specs.declared.saying.Saying.{Saying}
 use Rattle.flick_top.specs.declared.saying.Saying.TheVariants.{NoFile, TooLarge, Bind}
 use Rattle.flick_top.specs.Fronts.{Read, UnitOf}

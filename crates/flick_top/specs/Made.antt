@@ -3,8 +3,8 @@ use Rattle.std.specs.Prelude.{◌≡◌, ℕ, List, [], Option, Some, None, Ok, 
 use Rattle.wire_def.specs.declared.encoding.Back.{Back}
 use Rattle.aoi.specs.Plain.{PlainUnit}
 use Rattle.pres.specs.Faults.{bind_fault}
-use Rattle.op_codes.specs.declared.stub.Stub.{Stub}
-use Rattle.op_codes.specs.Stubs.{Coded, IsCoded}
+use Rattle.stub_codes.specs.declared.stub.Stub.{Stub}
+use Rattle.stub_codes.specs.Stubs.{Coded, IsCoded}
 use Rattle.flick_top.specs.declared.command.Command.{Command}
 use Rattle.flick_top.specs.declared.command.Command.TheVariants.{Over}
 use Rattle.flick_top.specs.declared.job.Job.{Job}

@@ -3,14 +3,14 @@ use Rattle.std.specs.Prelude.{◌≡◌, ◌≢◌, ℕ, ◌≤◌, List, [], �
 use Rattle.std.specs.Io.KnownBytes.{Consumes, IsAtEnd}
 use Rattle.kit_base.specs.Limits.{longest_line}
 use Rattle.kit_base.specs.Lines.{lines}
-use Rattle.op_codes.specs.declared.stub.Stub.{Stub}
-use Rattle.op_codes.specs.Stubs.{Coded}
+use Rattle.stub_codes.specs.declared.stub.Stub.{Stub}
+use Rattle.stub_codes.specs.Stubs.{Coded}
 use Rattle.flick_lines.specs.declared.verb.Verb.{Verb}
 use Rattle.flick_lines.specs.declared.verb.Verb.TheVariants.{Count}
 use Rattle.flick_serve.specs.Given.{Given, FileGives}
-use Rattle.kit_texts.specs.MadeText.{make_text}
-use Rattle.kit_texts.specs.Show.{show_text}
-use Rattle.kit_texts.specs.StubTexts.{counted_text, stubs_text}
+use Rattle.flick_texts.specs.MadeText.{make_text}
+use Rattle.flick_texts.specs.Show.{show_text}
+use Rattle.flick_texts.specs.StubTexts.{counted_text, stubs_text}
 use Rattle.flick_top.specs.declared.command.Action.{Action}
 use Rattle.flick_top.specs.declared.command.Action.TheVariants as actions
 use Rattle.flick_top.specs.declared.command.Command.{Command}

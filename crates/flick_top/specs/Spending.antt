@@ -5,12 +5,12 @@ use Rattle.kit_base.specs.declared.lines.Line.{Line}
 use Rattle.kit_base.specs.declared.lines.Line.TheVariants.{Text, Long, End}
 use Rattle.kit_base.specs.Lines.{lines}
 use Rattle.raw_buf.specs.Buf.{Buf}
-use Rattle.op_codes.specs.Stubs.{Coded}
+use Rattle.stub_codes.specs.Stubs.{Coded}
 use Rattle.flick_lines.specs.declared.verb.Verb.{Verb}
 use Rattle.flick_lines.specs.declared.verb.Verb.TheVariants.{Marshal, Unmarshal, Reply, Unreply, Count}
 use Rattle.flick_lines.specs.Sent.{Sending, nothing, IsCallSent, IsReplySent, IsSpentBy}
 use Rattle.flick_serve.specs.Spent.{IsServeSent}
-use Rattle.kit_texts.specs.Spent.{SendsMade}
+use Rattle.flick_texts.specs.Spent.{SendsMade}
 use Rattle.flick_top.specs.declared.command.Action.{Action}
 use Rattle.flick_top.specs.declared.command.Action.TheVariants.{Make}
 use Rattle.flick_top.specs.declared.command.Command.{Command}

@@ -3,8 +3,8 @@
 use Rattle.std.specs.Prelude.{◌≡◌, ◌≢◌, ◌⊎◌, ◌↔◌, ℕ, ◌<◌, ◌≤◌, List, [], ◌++◌, length, Option, None, Some}
 use Rattle.std.specs.Io.KnownBytes.{Appends, Consumes}
 use Rattle.kit_base.specs.Limits.{most_input}
-use Rattle.op_codes.specs.Stubs.{Coded}
-use Rattle.kit_texts.specs.WholeLines.{AreWholeLines}
+use Rattle.stub_codes.specs.Stubs.{Coded}
+use Rattle.flick_texts.specs.WholeLines.{AreWholeLines}
 use Rattle.flick_top.specs.declared.task.Task.{Task}
 use Rattle.flick_top.specs.Answer.{Answering}
 use Rattle.flick_top.specs.Command.{command_of, AnswersLines, ReadsFiles}

@@ -5,7 +5,7 @@ use Rattle.kit_base.specs.declared.lines.LineErr.TheVariants as errors
 use Rattle.flick_top.specs.declared.status.Status.{Status}
 use Rattle.flick_top.specs.declared.status.Status.TheVariants.{Done, File, Source, Memory, Length}
 use Rattle.flick_top.specs.declared.task.Task.{Task}
-use Rattle.kit_texts.specs.WholeLines.{AreWholeLines}
+use Rattle.flick_texts.specs.WholeLines.{AreWholeLines}
 
 -- a task whose text is whole lines, and which ends as done, or with a file that was refused, where it answers no lines
 pub record IsReady (task : Task) : Type 0 where

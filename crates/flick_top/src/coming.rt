@@ -3,7 +3,7 @@
 ghost use Rattle.std.specs.Prelude.{◌≡◌, ◌≢◌, ◌≤◌, Some, None, IfOk, IfErr, IfSome};
 ghost use Rattle.kit_base.specs.Causes.{Rose};
 ghost use Rattle.raw_buf.specs.Buf.{NoneFell};
-ghost use Rattle.kit_texts.specs.WholeLines.{AreWholeLines};
+ghost use Rattle.flick_texts.specs.WholeLines.{AreWholeLines};
 ghost use Rattle.flick_top.specs.Command.{AnswersLines, IsOverLines, ReadsFiles, word_at};
 ghost use Rattle.flick_top.specs.File.{FileSays, IsSoundly, codes_in, plainly};
 ghost use Rattle.flick_top.specs.Made.{HasCodes, codes_of, engine_of};
@@ -20,10 +20,10 @@ use aoi::Unit;
 use flick_engine::Engine;
 use flick_lines::Verb;
 use flick_serve::{Server, WrongReplies};
+use flick_texts::{counted_text, make_text, show_text, stubs_text};
 use idl_lex::Front;
 use kit_base::limits::LONGEST_FILE;
 use kit_base::{NoMemory, Octets, Shelf, ShelfErr, Words};
-use kit_texts::{counted_text, make_text, show_text, stubs_text};
 use raw_buf::SendBuf;
 use std::alloc::Global;
 

@@ -2,7 +2,7 @@
 
 ghost use Rattle.std.specs.Prelude.{◌≡◌, IfOk, OnOk};
 ghost use Rattle.raw_buf.specs.Buf.{NoneFell};
-ghost use Rattle.op_codes.specs.Stubs.{IsCoded};
+ghost use Rattle.stub_codes.specs.Stubs.{IsCoded};
 ghost use Rattle.flick_top.specs.Answer.{Answering, IsAnswering, IsAnswerOf};
 ghost use Rattle.flick_top.specs.Made.{engine_in};
 ghost use Rattle.flick_top.specs.Passing.{PassesText};

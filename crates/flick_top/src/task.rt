@@ -1,8 +1,8 @@
 //! What is left to do when the files are read.
 
 ghost use Rattle.std.specs.Prelude.{◌≡◌, Option, Some, None, IfOk, IfSome};
-ghost use Rattle.op_codes.specs.Stubs.{IsCoded};
-ghost use Rattle.kit_texts.specs.WholeLines.{AreWholeLines};
+ghost use Rattle.stub_codes.specs.Stubs.{IsCoded};
+ghost use Rattle.flick_texts.specs.WholeLines.{AreWholeLines};
 ghost use Rattle.flick_top.specs.Answer.{Answering};
 ghost use Rattle.flick_top.specs.Made.{engine_of};
 ghost use Rattle.flick_top.specs.Output.{IsAnswered, saying_task, refusing_task, answering_task, writing_task};

@@ -9,7 +9,7 @@ use Rattle.aoi.specs.declared.interfaces.Interface.{Interface}
 use Rattle.aoi.specs.Units.{is_twice}
 use Rattle.aoi.specs.Plain.{PlainInterface, plain_interface}
 use Rattle.aoi.specs.Sound.{are_distinct}
-use Rattle.name_kit.proofs.Tables.{any_map}
+use Rattle.idl_names.proofs.Tables.{any_map}
 use Rattle.front_corba.specs.State.{PlainOffering}
 use Rattle.front_corba.specs.Interfaces.{full_names}
 use Rattle.front_corba.specs.Resolved.{interface, interfaces}

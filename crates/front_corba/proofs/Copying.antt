@@ -3,7 +3,7 @@ use Rattle.std.proofs.Common.{◌≡◌, ℤ, List, Option, ap, sym, subst, ◌�
 use Rattle.std.specs.Prelude.{Result, IfOk}
 use Rattle.aoi.specs.declared.types.Ty.{Ty}
 use Rattle.aoi.specs.Shapes.{Shape, choice, seen, arms_of, default_of, arms_seen}
-use Rattle.name_kit.specs.Arms.{arms_held}
+use Rattle.idl_names.specs.Arms.{arms_held}
 
 -- unions of one tag, of the same arms and of one default
 same_choice : (s t : Shape) (a b : List (ℤ × Shape)) (o p : Option Shape) → s ≡ t → a ≡ b → o ≡ p

@@ -5,8 +5,8 @@ use Rattle.std.specs.List.{list_all}
 use Rattle.std.proofs.lemmas.Bool.{and_from}
 use Rattle.idl_lex.specs.declared.kinds.Token.{Token}
 use Rattle.idl_lex.specs.declared.kinds.TokenKind.{TokenKind}
-use Rattle.syntax_kit.specs.Grammar.{Text, word, mark, ◌&◌, each, kinds}
-use Rattle.corba_exprs.specs.Spelling.{identifier}
+use Rattle.idl_read.specs.Grammar.{Text, word, mark, ◌&◌, each, kinds}
+use Rattle.idl_exprs.specs.Spelling.{identifier}
 use Rattle.corba_decls.specs.Spelling.{declaration}
 use Rattle.corba_operations.specs.Spelling.{if_any}
 use Rattle.corba_interfaces.specs.declared.tree.Export.{Export}

@@ -5,12 +5,12 @@ use Rattle.std.proofs.lemmas.List.{length-append}
 use Rattle.mint.specs.declared.kind.Count.{Count}
 use Rattle.aoi.specs.declared.faults.NameFault.TheVariants.{NotType, Range}
 use Rattle.aoi.specs.Shapes.{Shape, structure, enumeration, members_of}
-use Rattle.name_kit.specs.declared.uses.Tag.{Tag}
-use Rattle.name_kit.specs.declared.uses.Tag.TheVariants as tag
-use Rattle.name_kit.specs.declared.uses.Use.TheVariants.{Declared as DeclaredType}
-use Rattle.name_kit.specs.Answers.{refused}
-use Rattle.name_kit.specs.Uses.{tag_of_use}
-use Rattle.name_kit.proofs.Parts.{then_ok, ok_same}
+use Rattle.idl_names.specs.declared.uses.Tag.{Tag}
+use Rattle.idl_names.specs.declared.uses.Tag.TheVariants as tag
+use Rattle.idl_names.specs.declared.uses.Use.TheVariants.{Declared as DeclaredType}
+use Rattle.idl_names.specs.Answers.{refused}
+use Rattle.idl_names.specs.Uses.{tag_of_use}
+use Rattle.idl_names.proofs.Parts.{then_ok, ok_same}
 use Rattle.corba_members.specs.declared.tree.Declarator.{Declarator}
 use Rattle.corba_members.specs.declared.tree.Struct.{Struct}
 use Rattle.corba_members.specs.declared.tree.Enum.{Enum}

@@ -8,8 +8,8 @@ use Rattle.std.proofs.lemmas.Bool.{and_parts}
 use Rattle.std.proofs.lemmas.Bool.Decides.{Decides-eqb}
 use Rattle.std.proofs.lemmas.List.Folds.{list_any-append}
 use Rattle.std.proofs.lemmas.Slice.Eq.{bytes_eq-Decides}
-use Rattle.name_kit.specs.Names.{has}
-use Rattle.name_kit.proofs.Tables.{any_map, append_map}
+use Rattle.idl_names.specs.Names.{has}
+use Rattle.idl_names.proofs.Tables.{any_map, append_map}
 use Rattle.corba_scopes.specs.Names.{lower}
 use Rattle.corba_scopes.specs.Finding.{added}
 use Rattle.indexmap.specs.IndexSet.{insert_key}

@@ -7,11 +7,11 @@ use Rattle.std.proofs.lemmas.List.{length-append, length-map}
 use Rattle.aoi.specs.declared.faults.NameFault.TheVariants.{Twice, Limit}
 use Rattle.aoi.specs.Shapes.{Shape}
 use Rattle.aoi.specs.Sound.{are_distinct}
-use Rattle.name_kit.specs.Answers.{refused}
-use Rattle.name_kit.specs.Names.{has}
-use Rattle.name_kit.proofs.Parts.{then_ok, refused_ok, ok_same}
-use Rattle.name_kit.proofs.Tables.{append_map}
-use Rattle.name_kit.proofs.Different.{distinct_push}
+use Rattle.idl_names.specs.Answers.{refused}
+use Rattle.idl_names.specs.Names.{has}
+use Rattle.idl_names.proofs.Parts.{then_ok, refused_ok, ok_same}
+use Rattle.idl_names.proofs.Tables.{append_map}
+use Rattle.idl_names.proofs.Different.{distinct_push}
 use Rattle.corba_operations.specs.declared.tree.Reference.{Reference}
 use Rattle.corba_interfaces.specs.declared.tree.Export.{Export}
 use Rattle.corba_interfaces.specs.declared.tree.Export.TheVariants as E

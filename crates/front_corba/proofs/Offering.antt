@@ -6,10 +6,10 @@ use Rattle.std.proofs.lemmas.List.{length-append}
 use Rattle.aoi.specs.declared.faults.NameFault.TheVariants.{Limit, Oneway}
 use Rattle.aoi.specs.Shapes.{Shape, void, members_of}
 use Rattle.aoi.specs.Plain.{PlainRaise, PlainOperation}
-use Rattle.name_kit.specs.Answers.{refused}
-use Rattle.name_kit.proofs.Parts.{then_ok, refused_ok, ok_same}
-use Rattle.corba_exprs.specs.Trees.{Tree}
-use Rattle.corba_exprs.specs.declared.tree.Identifier.{Identifier}
+use Rattle.idl_names.specs.Answers.{refused}
+use Rattle.idl_names.proofs.Parts.{then_ok, refused_ok, ok_same}
+use Rattle.idl_exprs.specs.Trees.{Tree}
+use Rattle.idl_exprs.specs.declared.tree.Identifier.{Identifier}
 use Rattle.corba_types.specs.declared.tree.Base.{Base}
 use Rattle.corba_operations.specs.declared.tree.Parameter.{Parameter}
 use Rattle.corba_operations.specs.declared.tree.Reference.{Reference}

@@ -8,8 +8,8 @@ use Rattle.aoi.specs.Sound.{is_sound_type, or_void, IsSound}
 use Rattle.aoi.specs.Units.{Parts}
 use Rattle.aoi.specs.Plain.{PlainOperation, PlainUnit, plain, is_sound_plain_operation, is_sound_plain_interface, is_sound_plain}
 use Rattle.aoi.proofs.Plainly.{sound_plain}
-use Rattle.name_kit.proofs.Parts.{then_ok, ok_same}
-use Rattle.name_kit.proofs.Labelling.{or_void_true}
+use Rattle.idl_names.proofs.Parts.{then_ok, ok_same}
+use Rattle.idl_names.proofs.Labelling.{or_void_true}
 use Rattle.corba_syntax.specs.declared.tree.Definition.{Definition}
 use Rattle.corba_scopes.specs.Around.{file}
 use Rattle.corba_shapes.proofs.Lasting.{plain_sound, members_sound, raises_sound}

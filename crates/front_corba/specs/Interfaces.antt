@@ -2,8 +2,8 @@
 use Rattle.std.specs.Prelude.{ℕ, ◌+◌, nat_le, List, [], ◌∷◌, ◌++◌, map, length, Ok}
 use Rattle.kit_base.specs.Limits.{most_interfaces}
 use Rattle.aoi.specs.declared.faults.NameFault.TheVariants.{Twice, Limit}
-use Rattle.name_kit.specs.Answers.{Answer, and_then, refused}
-use Rattle.name_kit.specs.Names.{has}
+use Rattle.idl_names.specs.Answers.{Answer, and_then, refused}
+use Rattle.idl_names.specs.Names.{has}
 use Rattle.corba_interfaces.specs.declared.tree.Export.{Export}
 use Rattle.corba_interfaces.specs.declared.tree.Export.TheVariants as E
 use Rattle.corba_interfaces.specs.declared.tree.Interface.{Interface}

@@ -2,7 +2,7 @@
 use Rattle.std.specs.Prelude.{◌≡◌, Bool, ◌&&◌, ◌==◌, ℕ, List, [], ◌∷◌, ◌++◌, map, if◌then◌else◌}
 use Rattle.std.specs.List.{list_any}
 use Rattle.std.specs.Str.{bytes_eq}
-use Rattle.name_kit.specs.Names.{has}
+use Rattle.idl_names.specs.Names.{has}
 use Rattle.corba_scopes.specs.Names.{lower}
 use Rattle.front_corba.specs.declared.state.Offer.{Offer}
 

@@ -4,8 +4,8 @@ use Rattle.kit_base.specs.Limits.{most_operations}
 use Rattle.aoi.specs.declared.faults.NameFault.{NameFault}
 use Rattle.aoi.specs.declared.faults.NameFault.TheVariants.{Twice, CaseClash, Limit}
 use Rattle.aoi.specs.Plain.{PlainOperation}
-use Rattle.name_kit.specs.Answers.{Answer, and_then, refused}
-use Rattle.name_kit.specs.Names.{has}
+use Rattle.idl_names.specs.Answers.{Answer, and_then, refused}
+use Rattle.idl_names.specs.Names.{has}
 use Rattle.corba_scopes.specs.declared.meanings.Meaning.TheVariants as M
 use Rattle.corba_scopes.specs.Names.{Names, lower, clash, declared_on, lower_of}
 use Rattle.front_corba.specs.State.{PlainOffer, Body}

@@ -5,9 +5,9 @@ use Rattle.kit_base.specs.Limits.{most_operations}
 use Rattle.aoi.specs.declared.faults.NameFault.TheVariants.{Limit, Oneway}
 use Rattle.aoi.specs.Shapes.{Shape, void, members_of}
 use Rattle.aoi.specs.Plain.{PlainRaise, PlainOperation}
-use Rattle.name_kit.specs.Answers.{Answer, and_then, refused}
-use Rattle.name_kit.specs.Lists.{is_some_list}
-use Rattle.corba_exprs.specs.Trees.{Tree}
+use Rattle.idl_names.specs.Answers.{Answer, and_then, refused}
+use Rattle.idl_names.specs.Lists.{is_some_list}
+use Rattle.idl_exprs.specs.Trees.{Tree}
 use Rattle.corba_types.specs.declared.tree.Base.{Base}
 use Rattle.corba_operations.specs.declared.tree.Operation.{Operation}
 use Rattle.corba_scopes.specs.Names.{Names, refused_by}

@@ -5,7 +5,7 @@ use Rattle.kit_base.specs.Limits.{most_raises}
 use Rattle.aoi.specs.declared.faults.NameFault.TheVariants.{Unknown, NotType, Limit}
 use Rattle.aoi.specs.Shapes.{Shape}
 use Rattle.aoi.specs.Plain.{PlainRaise}
-use Rattle.name_kit.specs.Answers.{Answer, fault, and_then, refused}
+use Rattle.idl_names.specs.Answers.{Answer, fault, and_then, refused}
 use Rattle.corba_operations.specs.declared.tree.Direction.{Direction}
 use Rattle.corba_operations.specs.declared.tree.Direction.TheVariants as D
 use Rattle.corba_operations.specs.declared.tree.Parameter.{Parameter}

@@ -4,7 +4,7 @@ use Rattle.std.specs.List.{list_all}
 use Rattle.kit_base.specs.Limits.{most_interfaces, most_operations}
 use Rattle.aoi.specs.Plain.{PlainOperation, PlainInterface, PlainUnit}
 use Rattle.aoi.specs.Sound.{are_distinct}
-use Rattle.name_kit.specs.Answers.{Answer, and_then}
+use Rattle.idl_names.specs.Answers.{Answer, and_then}
 use Rattle.corba_interfaces.specs.declared.tree.Export.{Export}
 use Rattle.corba_interfaces.specs.declared.tree.Export.TheVariants as E
 use Rattle.corba_syntax.specs.declared.tree.Definition.{Definition, fold-Definition, out-Definition}

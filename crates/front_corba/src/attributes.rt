@@ -3,7 +3,7 @@
 ghost use Rattle.std.specs.Prelude.{◌≡◌, [], ◌∷◌, map, IfOk};
 ghost use Rattle.aoi.specs.Shapes.{seen_field};
 ghost use Rattle.aoi.specs.Plain.{plain_operation};
-ghost use Rattle.name_kit.specs.Answers.{Gives};
+ghost use Rattle.idl_names.specs.Answers.{Gives};
 ghost use Rattle.corba_shapes.specs.Forms.{form_shape};
 ghost use Rattle.front_corba.specs.Held.{plain_offer, body};
 ghost use Rattle.front_corba.specs.Attributes.{getter, setter, get_name, set_name, set_clash, attribute_clash, setter_on, attribute_on, attributes_on, attribute_names_on};
@@ -13,10 +13,10 @@ use crate::offers::{offer, own_clash};
 use crate::parameters::field;
 use crate::{NameErr, NameFault};
 use aoi::{Fields, Operation, Raises, Ty};
-use corba_exprs::Identifier;
 use corba_operations::Attribute;
 use corba_scopes::{Meaning, Scopes, full_name, innermost, lower_of, refuse_fault};
 use corba_shapes::{Form, Shapes, form_ty, type_form};
+use idl_exprs::Identifier;
 use kit_base::{Name, NoMemory};
 use std::alloc::Global;
 

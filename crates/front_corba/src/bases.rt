@@ -3,7 +3,7 @@
 ghost use Rattle.std.specs.Prelude.{◌≡◌, nat_eq, false, map, option_copied, IfOk};
 ghost use Rattle.std.specs.List.{list_any};
 ghost use Rattle.std.specs.Option.{option_map};
-ghost use Rattle.name_kit.specs.Answers.{Gives};
+ghost use Rattle.idl_names.specs.Answers.{Gives};
 ghost use Rattle.front_corba.specs.Held.{plain_offer, plain_offering, heirs, held};
 ghost use Rattle.front_corba.specs.Bases.{offer_clash, base_clash, inherited, inherited_on, joined_on, interface_at, new_base, base_on, bases_on};
 
@@ -14,8 +14,8 @@ use crate::state::{Heir, Offer, Offering, Resolver};
 use crate::{NameErr, NameFault};
 use corba_operations::Reference;
 use corba_scopes::{Entry, Meaning, lower_of, prefix_of, refuse_fault};
+use idl_names::{add_number, has_number};
 use kit_base::{Name, NoMemory};
-use name_kit::{add_number, has_number};
 use std::alloc::Global;
 
 /// Why the operation of a base may not be beside these, or nothing.

@@ -4,11 +4,11 @@ ghost use Rattle.std.specs.Prelude.{◌≡◌, map, IfOk};
 ghost use Rattle.std.specs.Option.{option_map};
 ghost use Rattle.aoi.specs.Shapes.{seen, seen_field};
 ghost use Rattle.aoi.specs.Plain.{plain_raise, plain_operation};
-ghost use Rattle.name_kit.specs.Arms.{arms_held};
+ghost use Rattle.idl_names.specs.Arms.{arms_held};
 
 use aoi::{Field, Fields, Items, Operation, Raise, Raises, Ty, UnionArms};
+use idl_names::{array_of, boxed, enum_of, optional_of, struct_of, union_of};
 use kit_base::{Name, NoMemory};
-use name_kit::{array_of, boxed, enum_of, optional_of, struct_of, union_of};
 use std::alloc::Global;
 
 /// A copy of a name.

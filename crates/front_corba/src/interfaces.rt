@@ -1,8 +1,8 @@
 //! Interfaces.
 
 ghost use Rattle.std.specs.Prelude.{◌≡◌, map};
-ghost use Rattle.name_kit.specs.Names.{has};
-ghost use Rattle.name_kit.specs.Answers.{Gives};
+ghost use Rattle.idl_names.specs.Names.{has};
+ghost use Rattle.idl_names.specs.Answers.{Gives};
 ghost use Rattle.front_corba.specs.Held.{plain_offer, plain_offering, body, heirs, held};
 ghost use Rattle.front_corba.specs.Bases.{bases_on};
 ghost use Rattle.front_corba.specs.Interfaces.{export_on, exports_on, opened_on, full_names, seat_on, heritage_on, entered_on, seated_on, interface_on};
@@ -16,9 +16,9 @@ use crate::{NameErr, NameFault};
 use corba_interfaces::{Export, Interface};
 use corba_scopes::{Line, Meaning, Scopes, full_name, innermost, inside};
 use corba_shapes::{Shapes, declare};
+use idl_names::refuse;
 use kit_base::Name;
 use kit_base::limits::MOST_INTERFACES;
-use name_kit::refuse;
 use std::alloc::Global;
 
 /// Declares one export of an interface, by its number as a declaration.

@@ -1,7 +1,7 @@
 //! Operations that are found by their names.
 
 ghost use Rattle.std.specs.Prelude.{◌≡◌, [], ◌∷◌, ◌++◌, map, length, IfOk, OnOk};
-ghost use Rattle.name_kit.specs.Names.{has};
+ghost use Rattle.idl_names.specs.Names.{has};
 ghost use Rattle.corba_scopes.specs.Names.{lower};
 ghost use Rattle.corba_scopes.specs.Finding.{added};
 ghost use Rattle.front_corba.specs.Held.{plain_offer};
@@ -10,9 +10,9 @@ ghost use Rattle.front_corba.specs.Bases.{is_there};
 ghost use Rattle.front_corba.specs.Named.{declares, with_origin};
 
 use crate::state::Offer;
+use idl_names::Names;
 use indexmap::IndexSet;
 use kit_base::{Listed, NoMemory};
-use name_kit::Names;
 use std::alloc::Global;
 use std::marker::Model;
 use std::mem::replace;

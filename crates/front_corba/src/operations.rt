@@ -3,8 +3,8 @@
 ghost use Rattle.std.specs.Prelude.{◌≡◌, ◌&&◌, map, IfOk};
 ghost use Rattle.aoi.specs.Shapes.{seen, seen_field};
 ghost use Rattle.aoi.specs.Plain.{plain_operation, plain_raise};
-ghost use Rattle.name_kit.specs.Answers.{Gives};
-ghost use Rattle.name_kit.specs.Lists.{is_some_list};
+ghost use Rattle.idl_names.specs.Answers.{Gives};
+ghost use Rattle.idl_names.specs.Lists.{is_some_list};
 ghost use Rattle.front_corba.specs.Held.{plain_offer, body};
 ghost use Rattle.front_corba.specs.Operations.{gives_back, result_of, operation_of, judged_on, signed_on, operation_on};
 
@@ -18,9 +18,9 @@ use corba_operations::{Operation as OperationTree, Reference};
 use corba_scopes::{Scopes, innermost, inside, refuse_fault};
 use corba_shapes::{Shapes, form_ty, type_form};
 use corba_types::TypeName;
+use idl_names::refuse;
 use kit_base::limits::MOST_OPERATIONS;
 use kit_base::{Name, NoMemory};
-use name_kit::refuse;
 use std::alloc::Global;
 
 /// Whether there are exceptions.

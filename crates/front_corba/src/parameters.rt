@@ -4,7 +4,7 @@ ghost use Rattle.std.specs.Prelude.{◌≡◌, [], map, option_copied, IfOk, OnO
 ghost use Rattle.std.specs.Option.{option_map};
 ghost use Rattle.aoi.specs.Shapes.{seen_field};
 ghost use Rattle.aoi.specs.Plain.{plain_raise};
-ghost use Rattle.name_kit.specs.Answers.{Gives};
+ghost use Rattle.idl_names.specs.Answers.{Gives};
 ghost use Rattle.corba_shapes.specs.Forms.{form_shape};
 ghost use Rattle.front_corba.specs.Parameters.{goes_in, comes_out, are_in, with_field, parameter_on, parameters_on, exception_at, with_raise, raised_by, raises_on};
 
@@ -14,9 +14,9 @@ use aoi::{Field, Fields, Raise, Raises};
 use corba_operations::{Direction, Parameter, Reference};
 use corba_scopes::{Entry, Meaning, Scopes, innermost};
 use corba_shapes::{Form, form_ty, type_form};
+use idl_names::refuse;
 use kit_base::limits::MOST_RAISES;
 use kit_base::{Name, NoMemory};
-use name_kit::refuse;
 use std::alloc::Global;
 
 /// Whether the value of a parameter goes from the client to the server.

@@ -7,7 +7,7 @@ ghost use Rattle.corba_syntax.specs.declared.tree.Definition.{Definition as Defi
 ghost use Rattle.aoi.specs.Plain.{plain, plain_operation, plain_interface};
 ghost use Rattle.aoi.specs.Sound.{IsSound};
 ghost use Rattle.aoi.specs.declared.faults.NameFault.TheVariants.{NoMemory as WantOfMemory};
-ghost use Rattle.name_kit.specs.Answers.{Gives};
+ghost use Rattle.idl_names.specs.Answers.{Gives};
 ghost use Rattle.kit_base.specs.Limits.{most_interfaces, most_operations};
 ghost use Rattle.aoi.specs.Units.{is_twice};
 ghost use Rattle.front_corba.specs.Held.{plain_offer, plain_offering, held};

@@ -12,23 +12,23 @@ use Rattle.mig_syntax.specs.declared.tree.Routine.{Routine}
 use Rattle.mig_syntax.specs.declared.tree.TypeForm.{TypeForm}
 use Rattle.mig_syntax.specs.declared.tree.Statement.{Statement}
 use Rattle.mig_syntax.specs.declared.tree.Statement.TheVariants as V
-use Rattle.name_kit.specs.declared.uses.Tag.{Tag}
-use Rattle.name_kit.specs.declared.uses.Tag.TheVariants as tag
-use Rattle.name_kit.specs.declared.uses.Use.{Use}
-use Rattle.name_kit.specs.declared.uses.Use.TheVariants.{Declared}
+use Rattle.idl_names.specs.declared.uses.Tag.{Tag}
+use Rattle.idl_names.specs.declared.uses.Tag.TheVariants as tag
+use Rattle.idl_names.specs.declared.uses.Use.{Use}
+use Rattle.idl_names.specs.declared.uses.Use.TheVariants.{Declared}
 use Rattle.front_mig.specs.declared.meaning.Meaning.TheVariants as M
 use Rattle.front_mig.specs.declared.meaning.Form.{Form}
 use Rattle.front_mig.specs.declared.meaning.Form.TheVariants as F
-use Rattle.name_kit.specs.Answers.{refused}
-use Rattle.name_kit.specs.Names.{has}
-use Rattle.name_kit.specs.Uses.{shape_of_use, tag_of_use}
+use Rattle.idl_names.specs.Answers.{refused}
+use Rattle.idl_names.specs.Names.{has}
+use Rattle.idl_names.specs.Uses.{shape_of_use, tag_of_use}
 use Rattle.front_mig.specs.Numbers.{ids_fit}
 use Rattle.front_mig.specs.Types.{Scope, type_of, data_in, form}
 use Rattle.front_mig.specs.State.{State, is_declared, with_type, with_form, type_on, skip_on}
 use Rattle.front_mig.specs.Routines.{Fields, Parameters, goes_in, comes_out, is_requestport, is_port, port_on, with_field, parameter_on, parameters_on, parameters, operation, with_routine, routine_on}
 use Rattle.front_mig.specs.Resolved.{stated, stated_on}
-use Rattle.name_kit.proofs.Parts.{then_ok, refused_ok, ok_same}
-use Rattle.name_kit.proofs.Tables.{append_map}
+use Rattle.idl_names.proofs.Parts.{then_ok, refused_ok, ok_same}
+use Rattle.idl_names.proofs.Tables.{append_map}
 use Rattle.front_mig.proofs.Standing.{is_datum, datum_sound, is_simple, AreSimple, simple_push, DataIs, ScopeIs, scope_grow, scope_join, type_is, data_is, shape_datum, shape_simple, FormIs, form_is}
 
 -- ---- parameters

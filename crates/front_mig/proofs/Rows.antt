@@ -13,7 +13,7 @@ use Rattle.mig_syntax.specs.declared.tree.Parameter.{Parameter}
 use Rattle.mig_syntax.specs.declared.tree.Statement.{Statement}
 use Rattle.mig_syntax.specs.declared.tree.Statement.TheVariants as V
 use Rattle.mig_syntax.specs.declared.tree.Subsystem.{Subsystem}
-use Rattle.name_kit.specs.Answers.{fault}
+use Rattle.idl_names.specs.Answers.{fault}
 use Rattle.front_mig.specs.Resolved.{resolved}
 
 abbrev calc : List Statement → Subsystem

@@ -11,18 +11,18 @@ use Rattle.aoi.specs.Sound.{is_some_count, is_sound_type, are_sound_types}
 use Rattle.mig_syntax.specs.Trees.{Tree}
 use Rattle.mig_syntax.specs.declared.tree.TypeForm.{TypeForm}
 use Rattle.mig_syntax.specs.declared.tree.TypeForm.TheVariants as T
-use Rattle.name_kit.specs.declared.uses.Use.{Use}
-use Rattle.name_kit.specs.declared.uses.Use.TheVariants.{Number, Declared}
+use Rattle.idl_names.specs.declared.uses.Use.{Use}
+use Rattle.idl_names.specs.declared.uses.Use.TheVariants.{Number, Declared}
 use Rattle.front_mig.specs.declared.meaning.Meaning.{Meaning}
 use Rattle.front_mig.specs.declared.meaning.Meaning.TheVariants as M
 use Rattle.front_mig.specs.declared.meaning.Form.{Form}
 use Rattle.front_mig.specs.declared.meaning.Form.TheVariants as F
-use Rattle.name_kit.specs.Answers.{Answer, and_then, refused}
-use Rattle.name_kit.specs.Uses.{shape_of_use, tag_of_use}
+use Rattle.idl_names.specs.Answers.{Answer, and_then, refused}
+use Rattle.idl_names.specs.Uses.{shape_of_use, tag_of_use}
 use Rattle.front_mig.specs.Numbers.{value, length_of}
 use Rattle.front_mig.specs.Types.{Scope, known, meaning_in, found, type_of, kind_in, size_in, data_in, numbers_in, sized, plainly, row, form}
-use Rattle.name_kit.proofs.Parts.{then_ok, ok_same}
-use Rattle.name_kit.proofs.Forming.{natural_low}
+use Rattle.idl_names.proofs.Parts.{then_ok, ok_same}
+use Rattle.idl_names.proofs.Forming.{natural_low}
 
 -- ---- plain trees: numbers, names of types below a limit, and rows of these
 

@@ -14,11 +14,11 @@ use Rattle.aoi.proofs.Plainly.{sound_plain}
 use Rattle.mig_syntax.specs.Trees.{Tree}
 use Rattle.mig_syntax.specs.declared.tree.Statement.{Statement}
 use Rattle.mig_syntax.specs.declared.tree.Subsystem.{Subsystem}
-use Rattle.name_kit.specs.Answers.{refused, natural}
+use Rattle.idl_names.specs.Answers.{refused, natural}
 use Rattle.front_mig.specs.Numbers.{value, ids_fit, base_of}
 use Rattle.front_mig.specs.State.{State, start}
 use Rattle.front_mig.specs.Resolved.{stated_on, unit_of, resolved}
-use Rattle.name_kit.proofs.Parts.{then_ok, refused_ok, ok_same}
+use Rattle.idl_names.proofs.Parts.{then_ok, refused_ok, ok_same}
 use Rattle.front_mig.proofs.Standing.{types_sound}
 use Rattle.front_mig.proofs.Keeping.{OperationIs, OperationsAre, members_sound, not_false, shapes_of, StateIs, statements_keep}
 

@@ -6,7 +6,7 @@ use Rattle.aoi.specs.declared.faults.NameFault.TheVariants.{Range}
 use Rattle.mig_syntax.specs.declared.tree.Operator.{Operator}
 use Rattle.mig_syntax.specs.declared.tree.Operator.TheVariants as B
 use Rattle.mig_syntax.specs.Trees.{Tree, leaf, binary}
-use Rattle.name_kit.specs.Answers.{Answer, fault, and_then, refused, natural}
+use Rattle.idl_names.specs.Answers.{Answer, fault, and_then, refused, natural}
 
 -- a number that 128 signed bits hold
 abbrev pub held : ℕ → ℤ → Answer ℤ

@@ -4,7 +4,7 @@ use Rattle.aoi.specs.Plain.{PlainInterface, PlainUnit}
 use Rattle.mig_syntax.specs.declared.tree.Statement.{Statement}
 use Rattle.mig_syntax.specs.declared.tree.Statement.TheVariants as V
 use Rattle.mig_syntax.specs.declared.tree.Subsystem.{Subsystem}
-use Rattle.name_kit.specs.Answers.{Answer, and_then}
+use Rattle.idl_names.specs.Answers.{Answer, and_then}
 use Rattle.front_mig.specs.Numbers.{base_of}
 use Rattle.front_mig.specs.State.{State, start, type_on, skip_on}
 use Rattle.front_mig.specs.Routines.{routine_on}

@@ -8,12 +8,12 @@ use Rattle.mig_syntax.specs.declared.tree.Direction.{Direction}
 use Rattle.mig_syntax.specs.declared.tree.Direction.TheVariants as D
 use Rattle.mig_syntax.specs.declared.tree.Parameter.{Parameter}
 use Rattle.mig_syntax.specs.declared.tree.Routine.{Routine}
-use Rattle.name_kit.specs.declared.uses.Use.{Use}
+use Rattle.idl_names.specs.declared.uses.Use.{Use}
 use Rattle.front_mig.specs.declared.meaning.Meaning.{Meaning}
 use Rattle.front_mig.specs.declared.meaning.Meaning.TheVariants as M
-use Rattle.name_kit.specs.Answers.{Answer, fault, and_then, refused}
-use Rattle.name_kit.specs.Names.{has}
-use Rattle.name_kit.specs.Uses.{shape_of_use}
+use Rattle.idl_names.specs.Answers.{Answer, fault, and_then, refused}
+use Rattle.idl_names.specs.Names.{has}
+use Rattle.idl_names.specs.Uses.{shape_of_use}
 use Rattle.front_mig.specs.Types.{Scope, type_of, data_in}
 use Rattle.front_mig.specs.State.{State, skip_on}
 

@@ -4,16 +4,16 @@ use Rattle.aoi.specs.declared.faults.NameFault.TheVariants.{Twice, Range}
 use Rattle.aoi.specs.Shapes.{Shape, array}
 use Rattle.aoi.specs.Plain.{PlainOperation}
 use Rattle.mig_syntax.specs.declared.tree.TypeForm.{TypeForm}
-use Rattle.name_kit.specs.declared.uses.Tag.{Tag}
-use Rattle.name_kit.specs.declared.uses.Tag.TheVariants as tag
-use Rattle.name_kit.specs.declared.uses.Use.TheVariants.{Declared}
+use Rattle.idl_names.specs.declared.uses.Tag.{Tag}
+use Rattle.idl_names.specs.declared.uses.Tag.TheVariants as tag
+use Rattle.idl_names.specs.declared.uses.Use.TheVariants.{Declared}
 use Rattle.front_mig.specs.declared.meaning.Meaning.{Meaning}
 use Rattle.front_mig.specs.declared.meaning.Meaning.TheVariants as M
 use Rattle.front_mig.specs.declared.meaning.Form.{Form}
 use Rattle.front_mig.specs.declared.meaning.Form.TheVariants as F
-use Rattle.name_kit.specs.Answers.{Answer, and_then, refused}
-use Rattle.name_kit.specs.Names.{has}
-use Rattle.name_kit.specs.Uses.{shape_of_use, tag_of_use}
+use Rattle.idl_names.specs.Answers.{Answer, and_then, refused}
+use Rattle.idl_names.specs.Names.{has}
+use Rattle.idl_names.specs.Uses.{shape_of_use, tag_of_use}
 use Rattle.front_mig.specs.Numbers.{ids_fit}
 use Rattle.front_mig.specs.Types.{Scope, form}
 

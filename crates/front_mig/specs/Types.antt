@@ -10,16 +10,16 @@ use Rattle.aoi.specs.declared.faults.NameFault.TheVariants.{Unknown, Range, OutO
 use Rattle.mig_syntax.specs.Trees.{Tree}
 use Rattle.mig_syntax.specs.declared.tree.TypeForm.{TypeForm}
 use Rattle.mig_syntax.specs.declared.tree.TypeForm.TheVariants as T
-use Rattle.name_kit.specs.declared.uses.Tag.{Tag}
-use Rattle.name_kit.specs.declared.uses.Tag.TheVariants as tag
-use Rattle.name_kit.specs.declared.uses.Use.{Use}
-use Rattle.name_kit.specs.declared.uses.Use.TheVariants.{Number}
+use Rattle.idl_names.specs.declared.uses.Tag.{Tag}
+use Rattle.idl_names.specs.declared.uses.Tag.TheVariants as tag
+use Rattle.idl_names.specs.declared.uses.Use.{Use}
+use Rattle.idl_names.specs.declared.uses.Use.TheVariants.{Number}
 use Rattle.front_mig.specs.declared.meaning.Meaning.{Meaning}
 use Rattle.front_mig.specs.declared.meaning.Meaning.TheVariants as M
 use Rattle.front_mig.specs.declared.meaning.Form.{Form}
 use Rattle.front_mig.specs.declared.meaning.Form.TheVariants as F
-use Rattle.name_kit.specs.Answers.{Answer, fault, and_then, refused}
-use Rattle.name_kit.specs.Uses.{tag_of_use}
+use Rattle.idl_names.specs.Answers.{Answer, fault, and_then, refused}
+use Rattle.idl_names.specs.Uses.{tag_of_use}
 use Rattle.front_mig.specs.Numbers.{value, length_of}
 
 -- names in the order of their declarations, each with the type that it stands for

@@ -4,8 +4,8 @@ ghost use Rattle.std.specs.Prelude.{◌≡◌};
 ghost use Rattle.front_mig.specs.Types.{known, meaning_in};
 
 use crate::Meaning;
+use idl_names::Use;
 use mint::kind::Kind;
-use name_kit::Use;
 
 /// What a known name stands for.
 pub(crate) fn known(name: &[u8]) -> Option<Meaning>

@@ -2,12 +2,12 @@
 
 ghost use Rattle.std.specs.Prelude.{◌≡◌};
 ghost use Rattle.aoi.specs.declared.faults.NameFault.TheVariants.{Range};
-ghost use Rattle.name_kit.specs.Answers.{Gives};
+ghost use Rattle.idl_names.specs.Answers.{Gives};
 ghost use Rattle.front_mig.specs.Numbers.{value, combined, quotient, length_of, base_of, ids_fit};
 
 use crate::{NameErr, NameFault};
+use idl_names::{natural, refuse};
 use mig_syntax::{Expr, Node, Operator};
-use name_kit::{natural, refuse};
 
 /// A number outside its range.
 pub(crate) fn range(decl: u32) -> NameErr

@@ -2,18 +2,18 @@
 
 ghost use Rattle.std.specs.Prelude.{◌≡◌, [], map, IfOk, OnOk};
 ghost use Rattle.aoi.specs.Shapes.{seen_field};
-ghost use Rattle.name_kit.specs.Answers.{Gives};
+ghost use Rattle.idl_names.specs.Answers.{Gives};
 ghost use Rattle.front_mig.specs.Held.{parameters_held};
-ghost use Rattle.name_kit.specs.Uses.{shape_of_use};
+ghost use Rattle.idl_names.specs.Uses.{shape_of_use};
 ghost use Rattle.front_mig.specs.Routines.{goes_in, comes_out, is_requestport, is_port, port_on, with_field, parameter_on, parameters_on, parameters};
 
 use crate::names::Scope;
 use crate::types::{data_in, type_of};
 use crate::{Meaning, NameErr, NameFault};
 use aoi::{Field, Fields};
+use idl_names::{Names, Use, refuse, ty_of_use};
 use kit_base::{Name, NoMemory};
 use mig_syntax::{Direction, Parameter};
-use name_kit::{Names, Use, refuse, ty_of_use};
 use std::alloc::Global;
 
 /// Whether a parameter goes in; one without a word does.

@@ -5,7 +5,7 @@ ghost use Rattle.aoi.specs.declared.faults.NameFault.TheVariants.{NoMemory as Wa
 ghost use Rattle.kit_base.specs.Limits.{most_operations};
 ghost use Rattle.aoi.specs.Shapes.{seen_field};
 ghost use Rattle.aoi.specs.Plain.{plain_operation};
-ghost use Rattle.name_kit.specs.Answers.{Gives};
+ghost use Rattle.idl_names.specs.Answers.{Gives};
 ghost use Rattle.front_mig.specs.Held.{state};
 ghost use Rattle.front_mig.specs.State.{with_form, type_on, is_declared};
 ghost use Rattle.front_mig.specs.Routines.{operation, routine_on};
@@ -15,10 +15,10 @@ use crate::state::Resolver;
 use crate::types::form;
 use crate::{Form, NameErr, NameFault};
 use aoi::{Fields, Operation, Raises, Ty};
+use idl_names::{Tag, array_of, tag_of_use, ty_of_use};
 use kit_base::limits::MOST_OPERATIONS;
 use kit_base::{Name, NoMemory};
 use mig_syntax::{Routine, TypeForm};
-use name_kit::{Tag, array_of, tag_of_use, ty_of_use};
 use std::alloc::Global;
 
 /// A type that a `type` statement makes, and its name.

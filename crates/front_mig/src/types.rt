@@ -1,15 +1,15 @@
 //! Types by their names, and what `type` statements make.
 
 ghost use Rattle.std.specs.Prelude.{◌≡◌};
-ghost use Rattle.name_kit.specs.Answers.{Gives};
+ghost use Rattle.idl_names.specs.Answers.{Gives};
 ghost use Rattle.front_mig.specs.Types.{found, type_of, size_of, kind_in, size_in, data_in, numbers_in, sized, plainly, row, form};
 
 use crate::names::Scope;
 use crate::numbers::{length_of, value};
 use crate::{Form, Meaning, NameErr, NameFault};
+use idl_names::{Tag, Use, refuse, tag_of_use};
 use mig_syntax::{Expr, TypeForm};
 use mint::kind::{Count, Kind};
-use name_kit::{Tag, Use, refuse, tag_of_use};
 
 /// What is found, or Unknown.
 fn found(decl: u32, meaning: Option<Meaning>) -> Result<Meaning, NameErr>

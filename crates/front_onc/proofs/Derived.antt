@@ -5,7 +5,7 @@ use Rattle.std.specs.List.{list_all}
 use Rattle.std.proofs.lemmas.Bool.{and_from}
 use Rattle.idl_lex.specs.declared.kinds.Token.{Token}
 use Rattle.idl_lex.specs.declared.kinds.TokenKind.{TokenKind}
-use Rattle.syntax_kit.specs.Grammar.{Text, word, mark, ◌&◌, maybe, each, some, joined, kinds}
+use Rattle.idl_read.specs.Grammar.{Text, word, mark, ◌&◌, maybe, each, some, joined, kinds}
 use Rattle.onc_syntax.specs.Derivation.{name, type, item, member, arm, label, case, default, def, file, Derives}
 use Rattle.onc_syntax.specs.declared.tree.Item.{Item}
 use Rattle.onc_syntax.specs.declared.tree.Member.{Member}
@@ -13,7 +13,7 @@ use Rattle.onc_syntax.specs.declared.tree.Case.{Case}
 use Rattle.onc_syntax.specs.declared.tree.Union.{Union}
 use Rattle.onc_syntax.specs.declared.tree.Def.{Def}
 use Rattle.onc_syntax.specs.declared.tree.Def.TheVariants as D
-use Rattle.name_kit.specs.Lists.{is_some_list}
+use Rattle.idl_names.specs.Lists.{is_some_list}
 use Rattle.front_onc.specs.Resolved.{has_label, is_whole, IsWhole}
 
 back : (P Q : Text) (ks : List TokenKind) → (P & Q) ks → (b : List TokenKind) × Q b

@@ -11,16 +11,16 @@ use Rattle.onc_syntax.specs.declared.tree.Value.{Value}
 use Rattle.onc_syntax.specs.declared.tree.Decl.{Decl}
 use Rattle.onc_syntax.specs.declared.tree.Decl.TheVariants as D
 use Rattle.onc_syntax.specs.declared.tree.Member.{Member}
-use Rattle.name_kit.specs.Names.{has}
-use Rattle.name_kit.specs.Lists.{is_some_list}
-use Rattle.name_kit.proofs.Standing.{use_sound}
+use Rattle.idl_names.specs.Names.{has}
+use Rattle.idl_names.specs.Lists.{is_some_list}
+use Rattle.idl_names.proofs.Standing.{use_sound}
 use Rattle.front_onc.specs.declared.meaning.Form.{Form}
 use Rattle.front_onc.specs.declared.meaning.Form.TheVariants as F
-use Rattle.name_kit.specs.Answers.{refused, natural}
+use Rattle.idl_names.specs.Answers.{refused, natural}
 use Rattle.front_onc.specs.Names.{Scope, value, type_use}
 use Rattle.front_onc.specs.Declarations.{exactly, at_most, form, shape, name_of, members_on}
-use Rattle.name_kit.proofs.Parts.{then_ok, refused_ok, ok_same}
-use Rattle.name_kit.proofs.Forming.{some_push, fields_push, FieldsAre, natural_low, Field}
+use Rattle.idl_names.proofs.Parts.{then_ok, refused_ok, ok_same}
+use Rattle.idl_names.proofs.Forming.{some_push, fields_push, FieldsAre, natural_low, Field}
 use Rattle.front_onc.proofs.Standing.{ScopeIs, type_use_is}
 
 exactly_some : (scope : Scope) (d : ℕ) (v : Value) (c : Count) → exactly scope d v ≡ Ok c → is_some_count c ≡ true

@@ -16,19 +16,19 @@ use Rattle.onc_syntax.specs.declared.tree.Version.{Version}
 use Rattle.onc_syntax.specs.declared.tree.Union.{Union}
 use Rattle.onc_syntax.specs.declared.tree.Def.{Def}
 use Rattle.onc_syntax.specs.declared.tree.Def.TheVariants as D
-use Rattle.name_kit.specs.declared.uses.Tag.{Tag}
-use Rattle.name_kit.specs.declared.uses.Tag.TheVariants as tag
-use Rattle.name_kit.specs.declared.uses.Use.TheVariants.{Declared}
-use Rattle.name_kit.specs.Labels.{is_label}
-use Rattle.name_kit.specs.Lists.{is_some_list}
-use Rattle.name_kit.proofs.Tables.{append_map}
-use Rattle.name_kit.proofs.Standing.{EnumIs, TagIs, FewerBelow, fewer_same}
-use Rattle.name_kit.proofs.Forming.{struct_sound}
+use Rattle.idl_names.specs.declared.uses.Tag.{Tag}
+use Rattle.idl_names.specs.declared.uses.Tag.TheVariants as tag
+use Rattle.idl_names.specs.declared.uses.Use.TheVariants.{Declared}
+use Rattle.idl_names.specs.Labels.{is_label}
+use Rattle.idl_names.specs.Lists.{is_some_list}
+use Rattle.idl_names.proofs.Tables.{append_map}
+use Rattle.idl_names.proofs.Standing.{EnumIs, TagIs, FewerBelow, fewer_same}
+use Rattle.idl_names.proofs.Forming.{struct_sound}
 use Rattle.front_onc.specs.declared.meaning.Form.{Form}
 use Rattle.front_onc.specs.declared.meaning.Form.TheVariants as F
 use Rattle.front_onc.specs.declared.meaning.Meaning.{Meaning}
 use Rattle.front_onc.specs.declared.meaning.Meaning.TheVariants as M
-use Rattle.name_kit.specs.Answers.{refused, given}
+use Rattle.idl_names.specs.Answers.{refused, given}
 use Rattle.front_onc.specs.Names.{Scope, value, type_use, is_declared}
 use Rattle.front_onc.specs.State.{State, counted, declared, with_type}
 use Rattle.front_onc.specs.Declarations.{form, shape, tag_of, name_of, exactly, at_most, typedef, members_on, struct_on}
@@ -36,9 +36,9 @@ use Rattle.front_onc.specs.Enums.{is_item, items_on, enum_on}
 use Rattle.front_onc.specs.Unions.{union_shape, union_on}
 use Rattle.front_onc.specs.Programs.{number_of, versions_on, program_on}
 use Rattle.front_onc.specs.Resolved.{const_on, defined, defined_on, start, has_label, is_whole}
-use Rattle.name_kit.proofs.Parts.{then_ok, ok_same}
-use Rattle.name_kit.proofs.Growing.{types_push}
-use Rattle.name_kit.proofs.Tagging.{last_is, enum_ends, use_tagged, items_turned}
+use Rattle.idl_names.proofs.Parts.{then_ok, ok_same}
+use Rattle.idl_names.proofs.Growing.{types_push}
+use Rattle.idl_names.proofs.Tagging.{last_is, enum_ends, use_tagged, items_turned}
 use Rattle.front_onc.proofs.Standing.{MeaningIs, ScopeIs, scope_grow, scope_push, type_use_is}
 use Rattle.front_onc.proofs.Forming.{form_sound, members_are, members_some}
 use Rattle.front_onc.proofs.Numbering.{ItemsAre, items_are, items_some, enum_sound}

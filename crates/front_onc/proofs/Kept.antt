@@ -7,12 +7,12 @@ use Rattle.aoi.specs.declared.faults.NameFault.TheVariants.{Twice}
 use Rattle.onc_syntax.specs.declared.tree.Item.{Item}
 use Rattle.front_onc.specs.declared.meaning.Meaning.{Meaning}
 use Rattle.front_onc.specs.declared.meaning.Meaning.TheVariants.{Constant}
-use Rattle.name_kit.specs.Answers.{refused}
+use Rattle.idl_names.specs.Answers.{refused}
 use Rattle.front_onc.specs.Names.{Scope, is_declared}
 use Rattle.front_onc.specs.State.{State, declared}
 use Rattle.front_onc.specs.Enums.{with_label, item_number, short, item_on, items_on, is_item}
-use Rattle.name_kit.proofs.Parts.{then_ok, ok_same}
-use Rattle.name_kit.specs.Labels.{labelled}
+use Rattle.idl_names.proofs.Parts.{then_ok, ok_same}
+use Rattle.idl_names.specs.Labels.{labelled}
 
 pub not_after : (name : List ℕ) (scope : Scope) (n : List ℕ) (m : Meaning) → is_declared name scope ≡ false → bytes_eq name n ≡ false
     → is_declared name (scope ++ (n, m) ∷ []) ≡ false

@@ -9,22 +9,22 @@ use Rattle.onc_syntax.specs.declared.tree.Arm.TheVariants as A
 use Rattle.onc_syntax.specs.declared.tree.Label.{Label as LabelTree}
 use Rattle.onc_syntax.specs.declared.tree.Case.{Case}
 use Rattle.onc_syntax.specs.declared.tree.Union.{Union}
-use Rattle.name_kit.specs.declared.uses.Tag.{Tag}
-use Rattle.name_kit.specs.declared.uses.Use.{Use}
-use Rattle.name_kit.specs.Names.{has}
-use Rattle.name_kit.specs.Uses.{shape_of_use, tag_of_use, is_other}
-use Rattle.name_kit.specs.Arms.{with_arm}
-use Rattle.name_kit.specs.Lists.{is_some_list}
-use Rattle.name_kit.proofs.Standing.{UseIs}
+use Rattle.idl_names.specs.declared.uses.Tag.{Tag}
+use Rattle.idl_names.specs.declared.uses.Use.{Use}
+use Rattle.idl_names.specs.Names.{has}
+use Rattle.idl_names.specs.Uses.{shape_of_use, tag_of_use, is_other}
+use Rattle.idl_names.specs.Arms.{with_arm}
+use Rattle.idl_names.specs.Lists.{is_some_list}
+use Rattle.idl_names.proofs.Standing.{UseIs}
 use Rattle.front_onc.specs.declared.meaning.Form.{Form}
-use Rattle.name_kit.specs.Answers.{refused}
+use Rattle.idl_names.specs.Answers.{refused}
 use Rattle.front_onc.specs.Names.{Scope, value}
 use Rattle.front_onc.specs.State.{State}
 use Rattle.front_onc.specs.Declarations.{form, shape, name_of}
 use Rattle.front_onc.specs.Unions.{label_on, labels_on, arm_shape, arm_on, Cases, case_on, cases_on, other, union_shape}
 use Rattle.front_onc.specs.Resolved.{has_label}
-use Rattle.name_kit.proofs.Parts.{then_ok, refused_ok, ok_same}
-use Rattle.name_kit.proofs.Labelling.{NumbersAre, Longer, number_added, or_void_true, ArmsAre, arms_added, OtherIs, some_arm, choice_sound, good, joined, nothing_more}
+use Rattle.idl_names.proofs.Parts.{then_ok, refused_ok, ok_same}
+use Rattle.idl_names.proofs.Labelling.{NumbersAre, Longer, number_added, or_void_true, ArmsAre, arms_added, OtherIs, some_arm, choice_sound, good, joined, nothing_more}
 use Rattle.front_onc.proofs.Standing.{ScopeIs}
 use Rattle.front_onc.proofs.Forming.{form_sound}
 

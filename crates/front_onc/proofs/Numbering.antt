@@ -6,20 +6,20 @@ use Rattle.std.proofs.lemmas.Bool.{or_parts, or_from}
 use Rattle.aoi.specs.declared.faults.NameFault.TheVariants.{Twice}
 use Rattle.aoi.specs.Sound.{is_sound_enum, are_distinct}
 use Rattle.onc_syntax.specs.declared.tree.Item.{Item}
-use Rattle.name_kit.specs.Names.{has}
-use Rattle.name_kit.specs.Lists.{is_some_list}
-use Rattle.name_kit.proofs.Tables.{append_map}
-use Rattle.name_kit.proofs.Forming.{some_push}
+use Rattle.idl_names.specs.Names.{has}
+use Rattle.idl_names.specs.Lists.{is_some_list}
+use Rattle.idl_names.proofs.Tables.{append_map}
+use Rattle.idl_names.proofs.Forming.{some_push}
 use Rattle.front_onc.specs.declared.meaning.Meaning.{Meaning}
 use Rattle.front_onc.specs.declared.meaning.Meaning.TheVariants.{Constant}
-use Rattle.name_kit.specs.Answers.{Answer, refused}
+use Rattle.idl_names.specs.Answers.{Answer, refused}
 use Rattle.front_onc.specs.Names.{Scope, is_declared}
 use Rattle.front_onc.specs.State.{State, declared}
 use Rattle.front_onc.specs.Enums.{with_label, item_number, short, item_on, items_on}
-use Rattle.name_kit.proofs.Parts.{then_ok, refused_ok, ok_same}
-use Rattle.name_kit.proofs.Different.{distinct_push}
-use Rattle.name_kit.specs.Labels.{labelled}
-use Rattle.name_kit.proofs.Numbering.{numbers, names, LabelsAre, Labelled, labels_added, label_is, Item_, enum_sound as sound_items}
+use Rattle.idl_names.proofs.Parts.{then_ok, refused_ok, ok_same}
+use Rattle.idl_names.proofs.Different.{distinct_push}
+use Rattle.idl_names.specs.Labels.{labelled}
+use Rattle.idl_names.proofs.Numbering.{numbers, names, LabelsAre, Labelled, labels_added, label_is, Item_, enum_sound as sound_items}
 
 -- what the items so far have made of a state
 pub record ItemsAre (k place : ℕ) (s t : State) (items : List Item_) : Type 0 where

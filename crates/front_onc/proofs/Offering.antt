@@ -13,16 +13,16 @@ use Rattle.onc_syntax.specs.declared.tree.ProcType.{ProcType}
 use Rattle.onc_syntax.specs.declared.tree.ProcType.TheVariants as P
 use Rattle.onc_syntax.specs.declared.tree.Procedure.{Procedure}
 use Rattle.onc_syntax.specs.declared.tree.Version.{Version}
-use Rattle.name_kit.specs.declared.uses.Use.{Use}
-use Rattle.name_kit.specs.declared.uses.Use.TheVariants.{Number, Declared}
-use Rattle.name_kit.specs.Answers.{Answer, refused}
-use Rattle.name_kit.specs.Names.{has}
-use Rattle.name_kit.specs.Uses.{shape_of_use}
-use Rattle.name_kit.proofs.Standing.{UseIs}
+use Rattle.idl_names.specs.declared.uses.Use.{Use}
+use Rattle.idl_names.specs.declared.uses.Use.TheVariants.{Number, Declared}
+use Rattle.idl_names.specs.Answers.{Answer, refused}
+use Rattle.idl_names.specs.Names.{has}
+use Rattle.idl_names.specs.Uses.{shape_of_use}
+use Rattle.idl_names.proofs.Standing.{UseIs}
 use Rattle.front_onc.specs.Names.{Scope, type_use}
 use Rattle.front_onc.specs.State.{State, counted}
 use Rattle.front_onc.specs.Programs.{number_of, result_of, parameter, argument, parameters_on, is_void, parameters, Procedures, operation, procedure_on, procedures_on, operations, interface, are_twins, version_offered, version_on, versions_on}
-use Rattle.name_kit.proofs.Parts.{then_ok, refused_ok, ok_same}
+use Rattle.idl_names.proofs.Parts.{then_ok, refused_ok, ok_same}
 use Rattle.front_onc.proofs.Standing.{ScopeIs, type_use_is}
 
 -- ---- the types of procedures: numbers, texts without a fixed length, and names of types below a limit

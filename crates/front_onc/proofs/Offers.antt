@@ -8,8 +8,8 @@ use Rattle.aoi.specs.declared.units.UnitErr.{UnitErr}
 use Rattle.aoi.specs.declared.units.UnitErr.TheVariants as err
 use Rattle.aoi.specs.Plain.{plain_interface}
 use Rattle.aoi.specs.Units.{Parts, is_twice}
-use Rattle.name_kit.specs.Answers.{fault}
-use Rattle.name_kit.proofs.Tables.{any_map, append_map}
+use Rattle.idl_names.specs.Answers.{fault}
+use Rattle.idl_names.proofs.Tables.{any_map, append_map}
 use Rattle.front_onc.specs.Held.{Held, state}
 use Rattle.front_onc.specs.Programs.{offered, are_twins}
 

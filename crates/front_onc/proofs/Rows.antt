@@ -10,7 +10,7 @@ use Rattle.onc_syntax.specs.declared.tree.TypeName.TheVariants as T
 use Rattle.onc_syntax.specs.declared.tree.Decl.TheVariants as D
 use Rattle.onc_syntax.specs.declared.tree.Def.TheVariants as F
 use Rattle.onc_syntax.specs.declared.tree.ProcType.TheVariants as P
-use Rattle.name_kit.specs.Answers.{fault}
+use Rattle.idl_names.specs.Answers.{fault}
 use Rattle.front_onc.specs.Programs.{argument}
 use Rattle.front_onc.specs.Resolved.{resolved}
 

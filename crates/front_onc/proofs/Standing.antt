@@ -5,12 +5,12 @@ use Rattle.std.specs.Str.{bytes_eq}
 use Rattle.aoi.specs.Shapes.{Shape}
 use Rattle.onc_syntax.specs.declared.tree.TypeName.{TypeName}
 use Rattle.onc_syntax.specs.declared.tree.TypeName.TheVariants as T
-use Rattle.name_kit.specs.declared.uses.Use.{Use}
+use Rattle.idl_names.specs.declared.uses.Use.{Use}
 use Rattle.front_onc.specs.declared.meaning.Meaning.{Meaning}
 use Rattle.front_onc.specs.declared.meaning.Meaning.TheVariants as M
 use Rattle.front_onc.specs.Names.{Scope, meaning_of, use_of, type_use}
-use Rattle.name_kit.proofs.Parts.{ok_same}
-use Rattle.name_kit.proofs.Standing.{UseIs, FewerBelow, use_grow}
+use Rattle.idl_names.proofs.Parts.{ok_same}
+use Rattle.idl_names.proofs.Standing.{UseIs, FewerBelow, use_grow}
 
 abbrev pub MeaningIs : List Shape → List (ℕ × ℤ) → Meaning → Type 0
 MeaningIs types labels (M.Type u) = UseIs types labels u

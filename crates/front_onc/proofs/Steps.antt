@@ -2,8 +2,8 @@
 use Rattle.std.proofs.Common.{◌≡◌, ℕ, ℤ, ◌+◌, ◌<◌, List, [], ◌∷◌, ◌++◌, length, drop, get_or, Option, Some, sym, ap, ◌∙◌}
 use Rattle.std.specs.Prelude.{Ok}
 use Rattle.onc_syntax.specs.declared.tree.Item.{Item}
-use Rattle.name_kit.specs.Answers.{Answer, and_then}
-use Rattle.name_kit.proofs.Steps.{drop_step}
+use Rattle.idl_names.specs.Answers.{Answer, and_then}
+use Rattle.idl_names.proofs.Steps.{drop_step}
 use Rattle.front_onc.specs.State.{State}
 use Rattle.front_onc.specs.Enums.{item_on, items_on}
 

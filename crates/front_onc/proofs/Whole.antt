@@ -9,10 +9,10 @@ use Rattle.aoi.specs.Units.{Parts}
 use Rattle.aoi.specs.Plain.{PlainRaise, PlainOperation, PlainInterface, PlainUnit, plain, is_sound_plain_raise, is_sound_plain_operation, is_sound_plain_interface, is_sound_plain}
 use Rattle.aoi.proofs.Plainly.{sound_plain}
 use Rattle.onc_syntax.specs.declared.tree.Def.{Def}
-use Rattle.name_kit.proofs.Labelling.{or_void_true}
+use Rattle.idl_names.proofs.Labelling.{or_void_true}
 use Rattle.front_onc.specs.State.{State}
 use Rattle.front_onc.specs.Resolved.{defined_on, start, resolved, is_whole, IsWhole}
-use Rattle.name_kit.proofs.Parts.{then_ok, ok_same}
+use Rattle.idl_names.proofs.Parts.{then_ok, ok_same}
 use Rattle.front_onc.proofs.Offering.{ResultIs, OperationIs, OperationsAre, InterfacesAre, simple_sound, members_sound, shapes_of}
 use Rattle.front_onc.proofs.Keeping.{StateIs, defined_all, start_is}
 

@@ -8,10 +8,10 @@ use Rattle.aoi.specs.declared.faults.NameFault.TheVariants.{Twice, Range}
 use Rattle.aoi.specs.Shapes.{enumeration}
 use Rattle.onc_syntax.specs.declared.tree.Value.{Value}
 use Rattle.onc_syntax.specs.declared.tree.Item.{Item}
-use Rattle.name_kit.specs.declared.uses.Tag.TheVariants as tag
+use Rattle.idl_names.specs.declared.uses.Tag.TheVariants as tag
 use Rattle.front_onc.specs.declared.meaning.Meaning.TheVariants as M
-use Rattle.name_kit.specs.Answers.{Answer, fault, and_then, refused}
-use Rattle.name_kit.specs.Labels.{labelled}
+use Rattle.idl_names.specs.Answers.{Answer, fault, and_then, refused}
+use Rattle.idl_names.specs.Labels.{labelled}
 use Rattle.front_onc.specs.Names.{Scope, is_declared, value}
 use Rattle.front_onc.specs.State.{State, declared, with_type}
 

@@ -10,12 +10,12 @@ use Rattle.onc_syntax.specs.declared.tree.IntWord.{IntWord}
 use Rattle.onc_syntax.specs.declared.tree.IntWord.TheVariants.{Int, Long, Short, Char, Hyper}
 use Rattle.onc_syntax.specs.declared.tree.TypeName.{TypeName}
 use Rattle.onc_syntax.specs.declared.tree.TypeName.TheVariants as T
-use Rattle.name_kit.specs.declared.uses.Use.{Use}
-use Rattle.name_kit.specs.declared.uses.Use.TheVariants.{Number}
+use Rattle.idl_names.specs.declared.uses.Use.{Use}
+use Rattle.idl_names.specs.declared.uses.Use.TheVariants.{Number}
 use Rattle.front_onc.specs.declared.meaning.Meaning.{Meaning}
 use Rattle.front_onc.specs.declared.meaning.Meaning.TheVariants as M
-use Rattle.name_kit.specs.Answers.{Answer, fault}
-use Rattle.name_kit.specs.Names.{has}
+use Rattle.idl_names.specs.Answers.{Answer, fault}
+use Rattle.idl_names.specs.Names.{has}
 
 -- names in the order of their declarations, each with what it stands for
 abbrev pub Scope : Type 0

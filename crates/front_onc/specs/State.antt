@@ -2,8 +2,8 @@
 use Rattle.std.specs.Prelude.{ℕ, ◌+◌, ℤ, List, [], ◌∷◌, ◌++◌, length}
 use Rattle.aoi.specs.Shapes.{Shape}
 use Rattle.aoi.specs.Plain.{PlainInterface}
-use Rattle.name_kit.specs.declared.uses.Tag.{Tag}
-use Rattle.name_kit.specs.declared.uses.Use.TheVariants.{Declared}
+use Rattle.idl_names.specs.declared.uses.Tag.{Tag}
+use Rattle.idl_names.specs.declared.uses.Use.TheVariants.{Declared}
 use Rattle.front_onc.specs.declared.meaning.Meaning.{Meaning}
 use Rattle.front_onc.specs.declared.meaning.Meaning.TheVariants as M
 use Rattle.front_onc.specs.Names.{Scope}

@@ -7,15 +7,15 @@ use Rattle.onc_syntax.specs.declared.tree.Arm.TheVariants as A
 use Rattle.onc_syntax.specs.declared.tree.Label.{Label as LabelTree}
 use Rattle.onc_syntax.specs.declared.tree.Case.{Case}
 use Rattle.onc_syntax.specs.declared.tree.Union.{Union}
-use Rattle.name_kit.specs.declared.uses.Tag.{Tag}
-use Rattle.name_kit.specs.declared.uses.Tag.TheVariants as tag
-use Rattle.name_kit.specs.declared.uses.Use.{Use}
-use Rattle.name_kit.specs.Names.{has}
-use Rattle.name_kit.specs.Uses.{shape_of_use, tag_of_use, is_other}
+use Rattle.idl_names.specs.declared.uses.Tag.{Tag}
+use Rattle.idl_names.specs.declared.uses.Tag.TheVariants as tag
+use Rattle.idl_names.specs.declared.uses.Use.{Use}
+use Rattle.idl_names.specs.Names.{has}
+use Rattle.idl_names.specs.Uses.{shape_of_use, tag_of_use, is_other}
 use Rattle.front_onc.specs.declared.meaning.Form.{Form}
-use Rattle.name_kit.specs.Answers.{Answer, and_then, refused}
-use Rattle.name_kit.specs.Labels.{numbered}
-use Rattle.name_kit.specs.Arms.{with_arm}
+use Rattle.idl_names.specs.Answers.{Answer, and_then, refused}
+use Rattle.idl_names.specs.Labels.{numbered}
+use Rattle.idl_names.specs.Arms.{with_arm}
 use Rattle.front_onc.specs.Names.{Scope, is_declared, value, type_use}
 use Rattle.front_onc.specs.State.{State, with_type}
 use Rattle.front_onc.specs.Declarations.{name_of, form, shape}

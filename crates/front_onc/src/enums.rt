@@ -1,7 +1,7 @@
 //! Enums.
 
 ghost use Rattle.std.specs.Prelude.{◌≡◌, [], None, false, IfOk};
-ghost use Rattle.name_kit.specs.Answers.{Gives};
+ghost use Rattle.idl_names.specs.Answers.{Gives};
 ghost use Rattle.front_onc.specs.Held.{state};
 ghost use Rattle.front_onc.specs.Enums.{next, item_number, short, item_on, items_on, is_item, enum_on};
 
@@ -10,8 +10,8 @@ use crate::state::Resolver;
 use crate::values::value;
 use crate::{Meaning, NameErr, NameFault, Tag};
 use aoi::Items;
+use idl_names::enum_of;
 use kit_base::{Name, NoMemory};
-use name_kit::enum_of;
 use onc_syntax::{Item, Value};
 use std::alloc::Global;
 

@@ -2,16 +2,16 @@
 
 ghost use Rattle.std.specs.Prelude.{◌≡◌, false, IfOk, OnOk};
 ghost use Rattle.aoi.specs.Shapes.{seen};
-ghost use Rattle.name_kit.specs.Answers.{Gives};
+ghost use Rattle.idl_names.specs.Answers.{Gives};
 ghost use Rattle.front_onc.specs.Declarations.{form, name_of, shape, tag_of};
 
 use crate::names::Scope;
 use crate::values::{at_most, exactly, type_use};
 use crate::{Form, NameErr, NameFault, Tag};
 use aoi::Ty;
+use idl_names::{array_of, optional_of, refuse, tag_of_use, ty_of_use};
 use kit_base::{Name, NoMemory};
 use mint::kind::{Count, Kind};
-use name_kit::{array_of, optional_of, refuse, tag_of_use, ty_of_use};
 use onc_syntax::Decl;
 use std::alloc::Global;
 

@@ -14,7 +14,7 @@ mod unions;
 mod values;
 
 pub use aoi::{NameErr, NameFault};
+pub use idl_names::{Tag, Use};
 pub use meaning::{Form, Meaning};
-pub use name_kit::{Tag, Use};
 pub use onc_syntax::{SyntaxErr, Tree, parse};
 pub use resolving::{files_are_whole, resolve};

@@ -1,7 +1,7 @@
 //! What names stand for, and what a declaration makes of a type.
 
+use idl_names::Use;
 use mint::kind::Count;
-use name_kit::Use;
 
 /// What a name stands for.
 #[derive(Clone, Copy, Debug, PartialEq, Eq)]

@@ -4,7 +4,7 @@ ghost use Rattle.std.specs.Prelude.{◌≡◌, ◌≤◌, [], map, length, IfOk,
 ghost use Rattle.kit_base.specs.Limits.{most_operations};
 ghost use Rattle.aoi.specs.Shapes.{seen, seen_field};
 ghost use Rattle.aoi.specs.Plain.{plain_operation};
-ghost use Rattle.name_kit.specs.Answers.{Gives};
+ghost use Rattle.idl_names.specs.Answers.{Gives};
 ghost use Rattle.front_onc.specs.Held.{state};
 ghost use Rattle.front_onc.specs.Programs.{result_of, parameter, argument, parameters_on, is_void, parameters, procedure_on, procedures_on, operation, operations};
 
@@ -13,11 +13,11 @@ use crate::state::Resolver;
 use crate::values::{number_of, type_use};
 use crate::{NameErr, NameFault};
 use aoi::{Field, Fields, Operation, Operations, Raises, Ty};
+use idl_names::{Names, add_number, has_number, refuse, ty_of_use};
 use indexmap::IndexSet;
 use kit_base::limits::MOST_OPERATIONS;
 use kit_base::{Name, NoMemory};
 use mint::kind::Count;
-use name_kit::{Names, add_number, has_number, refuse, ty_of_use};
 use onc_syntax::{ProcType, Procedure};
 use std::alloc::Global;
 

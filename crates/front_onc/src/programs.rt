@@ -3,8 +3,8 @@
 ghost use Rattle.std.specs.Prelude.{◌≡◌, ◌<◌, ◌≤◌, ◌+◌, ◌++◌, [], map, length, false, codes, IfOk, OnOk};
 ghost use Rattle.kit_base.specs.Limits.{most_interfaces, most_operations};
 ghost use Rattle.aoi.specs.Plain.{plain_interface, plain_operation};
-ghost use Rattle.name_kit.specs.Answers.{Gives, given};
-ghost use Rattle.name_kit.specs.Names.{has};
+ghost use Rattle.idl_names.specs.Answers.{Gives, given};
+ghost use Rattle.idl_names.specs.Names.{has};
 ghost use Rattle.front_onc.specs.Held.{state};
 ghost use Rattle.front_onc.specs.Programs.{interface, number_of, version_offered, version_on, versions_on, program_on};
 
@@ -13,9 +13,9 @@ use crate::state::{Resolver, want};
 use crate::values::number_of;
 use crate::{Meaning, NameErr, NameFault};
 use aoi::{Interface, Operations};
+use idl_names::{Names, refuse};
 use kit_base::limits::MOST_INTERFACES;
 use kit_base::{Name, NoMemory};
-use name_kit::{Names, refuse};
 use onc_syntax::{Value, Version};
 use std::alloc::Global;
 

@@ -7,7 +7,7 @@ ghost use Rattle.onc_syntax.specs.declared.tree.Def.{Def as DefTree};
 ghost use Rattle.aoi.specs.Plain.{plain};
 ghost use Rattle.aoi.specs.Sound.{IsSound};
 ghost use Rattle.aoi.specs.declared.faults.NameFault.TheVariants.{NoMemory as WantOfMemory};
-ghost use Rattle.name_kit.specs.Answers.{Gives};
+ghost use Rattle.idl_names.specs.Answers.{Gives};
 ghost use Rattle.front_onc.specs.Held.{state};
 ghost use Rattle.front_onc.specs.Names.{known};
 ghost use Rattle.front_onc.specs.Resolved.{const_on, defined, defined_on, resolved, IsWhole};

@@ -4,7 +4,7 @@ ghost use Rattle.std.specs.Prelude.{◌≡◌, ◌<◌, ◌≤◌, ◌+◌, fals
 ghost use Rattle.kit_base.specs.Limits.{most_interfaces, most_operations};
 ghost use Rattle.aoi.specs.Shapes.{seen};
 ghost use Rattle.aoi.specs.Plain.{plain_interface};
-ghost use Rattle.name_kit.specs.Answers.{Gives};
+ghost use Rattle.idl_names.specs.Answers.{Gives};
 ghost use Rattle.front_onc.specs.Names.{is_declared};
 ghost use Rattle.front_onc.specs.Held.{state};
 ghost use Rattle.front_onc.specs.Programs.{offered};
@@ -16,9 +16,9 @@ ghost use Rattle.aoi.specs.declared.faults.NameFault.TheVariants.{NoMemory as Wa
 use crate::names::Scope;
 use crate::{Meaning, NameErr, NameFault, Tag, Use};
 use aoi::{Interface, Ty, Unit, UnitErr};
+use idl_names::add_label;
 use indexmap::IndexSet;
 use kit_base::{Name, NoMemory};
-use name_kit::add_label;
 use std::alloc::Global;
 use std::marker::Model;
 

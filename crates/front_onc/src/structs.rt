@@ -2,7 +2,7 @@
 
 ghost use Rattle.std.specs.Prelude.{◌≡◌, [], map, IfOk};
 ghost use Rattle.aoi.specs.Shapes.{seen_field};
-ghost use Rattle.name_kit.specs.Answers.{Gives};
+ghost use Rattle.idl_names.specs.Answers.{Gives};
 ghost use Rattle.front_onc.specs.Held.{state};
 ghost use Rattle.front_onc.specs.Declarations.{members_on, shape, typedef, struct_on};
 
@@ -11,8 +11,8 @@ use crate::names::Scope;
 use crate::state::Resolver;
 use crate::{Form, NameErr, NameFault, Tag};
 use aoi::{Field, Fields};
+use idl_names::{Names, struct_of};
 use kit_base::{Name, NoMemory};
-use name_kit::{Names, struct_of};
 use onc_syntax::{Decl, Member};
 use std::alloc::Global;
 

@@ -3,8 +3,8 @@
 ghost use Rattle.std.specs.Prelude.{◌≡◌, [], ◌++◌, IfOk, OnOk};
 ghost use Rattle.std.specs.Option.{option_map};
 ghost use Rattle.aoi.specs.Shapes.{seen, default_of};
-ghost use Rattle.name_kit.specs.Answers.{Gives};
-ghost use Rattle.name_kit.specs.Arms.{arms_for, arms_held};
+ghost use Rattle.idl_names.specs.Answers.{Gives};
+ghost use Rattle.idl_names.specs.Arms.{arms_for, arms_held};
 ghost use Rattle.front_onc.specs.Held.{state};
 ghost use Rattle.front_onc.specs.Unions.{label_on, labels_on, arm_shape, arm_on, case_on, cases_on, other, union_shape, union_on};
 
@@ -14,9 +14,9 @@ use crate::state::Resolver;
 use crate::values::{type_use, value};
 use crate::{Form, NameErr, NameFault, Tag, Use};
 use aoi::{Ty, UnionArms};
+use idl_names::{Names, add_number_of, after, boxed, refuse, tag_of_use, ty_of_use, union_of};
 use indexmap::IndexSet;
 use kit_base::NoMemory;
-use name_kit::{Names, add_number_of, after, boxed, refuse, tag_of_use, ty_of_use, union_of};
 use onc_syntax::{Arm, Case, Label, Union};
 use std::alloc::Global;
 

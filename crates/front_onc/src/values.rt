@@ -1,15 +1,15 @@
 //! Values, and types by their names.
 
 ghost use Rattle.std.specs.Prelude.{◌≡◌};
-ghost use Rattle.name_kit.specs.Answers.{Gives};
+ghost use Rattle.idl_names.specs.Answers.{Gives};
 ghost use Rattle.front_onc.specs.Names.{value, signed, constant, kind_of, use_of, type_use};
 ghost use Rattle.front_onc.specs.Declarations.{exactly, at_most};
 ghost use Rattle.front_onc.specs.Programs.{number_of};
 
 use crate::names::Scope;
 use crate::{Meaning, NameErr, NameFault, Use};
+use idl_names::natural;
 use mint::kind::{Count, Kind};
-use name_kit::natural;
 use onc_syntax::{IntWord, TypeName, Value};
 
 /// The number of a value.

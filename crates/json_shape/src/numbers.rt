@@ -106,7 +106,7 @@ pub(crate) fn row_json(alloc: Global, row: &Row) -> Result<Json, NoMemory>
 fn hexadecimal(alloc: Global, octets: &[u8]) -> Result<Json, NoMemory>
     ensures { IfOk result (λ j. view j ≡ string (encode_lower octets.now)) }
 {
-    Ok(Json::String(digit_kit::encode(alloc, octets)?))
+    Ok(Json::String(kit_digits::encode(alloc, octets)?))
 }
 
 /// The array of a row's numbers.

@@ -142,7 +142,7 @@ pub(crate) fn put_row(alloc: Global, row: &Row, out: &mut Writer) -> Result<(), 
 fn put_digits(alloc: Global, octets: &[u8], out: &mut Writer) -> Result<(), Halt>
     ensures { OnOk result (Adds out.old out.new (string_token (encode_lower octets.now) ∷ [])) }
 {
-    let digits = digit_kit::encode(alloc, octets)?;
+    let digits = kit_digits::encode(alloc, octets)?;
     out.string(digits.as_str())?;
     Ok(())
 }

@@ -56,7 +56,7 @@ pub(crate) fn hex_in(alloc: Global, json: &Json) -> Result<Vec<u8>, ShapeErr>
     let Some(text) = json.as_str() else {
         return Err(ShapeErr::Shape);
     };
-    match digit_kit::decode(alloc, text.as_bytes()) {
+    match kit_digits::decode(alloc, text.as_bytes()) {
         Ok(octets) => Ok(octets),
         Err(FromHexError::OutOfMemory) => Err(ShapeErr::NoMemory),
         Err(_) => Err(ShapeErr::Shape),

@@ -180,7 +180,7 @@ fn octets(alloc: Global, tree: &Tree<'_>) -> Result<Row, Halt>
     ensures numbers { IfOk result (λ r. IsRead (value_view tree.now) (row_in kind.Octet) r.numbers) }
 {
     let digits = string_in(tree)?;
-    let octets = digit_kit::decode(alloc, digits.as_bytes())?;
+    let octets = kit_digits::decode(alloc, digits.as_bytes())?;
     let row = block(alloc, Kind::Octet, octets.as_slice())?;
     Ok(row)
 }

@@ -4,10 +4,10 @@ use Rattle.std.specs.Prelude.{codes}
 use Rattle.std.proofs.lemmas.Bool.{le-leb, eq-eqb, ne_eqb, cases_lt}
 use Rattle.idl_lex.specs.declared.kinds.Token.{Token}
 use Rattle.idl_lex.specs.declared.kinds.TokenKind.TheVariants as K
-use Rattle.syntax_kit.specs.Reading.{Reader, mark_is}
-use Rattle.syntax_kit.specs.Grammar.{mark, number, ◌&◌, kinds}
-use Rattle.syntax_kit.proofs.Grammars.{parted}
-use Rattle.syntax_kit.proofs.Leaves.{one_kind, number_reads, leads_number, is_number, begins_not, apart_mark}
+use Rattle.idl_read.specs.Reading.{Reader, mark_is}
+use Rattle.idl_read.specs.Grammar.{mark, number, ◌&◌, kinds}
+use Rattle.idl_read.proofs.Grammars.{parted}
+use Rattle.idl_read.proofs.Leaves.{one_kind, number_reads, leads_number, is_number, begins_not, apart_mark}
 use Rattle.mig_syntax.specs.declared.tree.Operator.{Operator}
 use Rattle.mig_syntax.specs.declared.tree.Operator.TheVariants as B
 use Rattle.mig_syntax.specs.Trees.{Tree, leaf, binary}

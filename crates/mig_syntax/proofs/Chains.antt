@@ -3,9 +3,9 @@ use Rattle.std.proofs.Common.{◌≡◌, ℕ, suc, ◌+◌, ◌<◌, ◌≤◌, 
 use Rattle.std.proofs.lemmas.Bool.{le-leb, lt-leb}
 use Rattle.idl_lex.specs.declared.kinds.Token.{Token}
 use Rattle.mig_syntax.specs.declared.tree.Operator.{Operator}
-use Rattle.syntax_kit.specs.declared.halt.Halt.{Halt}
-use Rattle.syntax_kit.specs.declared.halt.Halt.TheVariants as halts
-use Rattle.syntax_kit.specs.Reading.{Read, Reader, Fails}
+use Rattle.idl_read.specs.declared.halt.Halt.{Halt}
+use Rattle.idl_read.specs.declared.halt.Halt.TheVariants as halts
+use Rattle.idl_read.specs.Reading.{Read, Reader, Fails}
 use Rattle.mig_syntax.specs.Trees.{Tree, binary}
 use Rattle.mig_syntax.specs.Readers.{Levelled, over, chain_on, climb, operator_at}
 

@@ -2,8 +2,8 @@
 use Rattle.std.proofs.Common.{◌≡◌, ℕ, List, [], ◌∷◌, refl, sym, ap, subst, arith}
 use Rattle.idl_lex.specs.declared.kinds.Token.{Token}
 use Rattle.idl_lex.specs.declared.kinds.TokenKind.{TokenKind}
-use Rattle.syntax_kit.specs.Grammar.{kinds, IsGrammar}
-use Rattle.syntax_kit.proofs.Grammars.{map_some, one_tree}
+use Rattle.idl_read.specs.Grammar.{kinds, IsGrammar}
+use Rattle.idl_read.proofs.Grammars.{map_some, one_tree}
 use Rattle.mig_syntax.specs.Trees.{Tree}
 use Rattle.mig_syntax.specs.Spelling.{within, expression}
 use Rattle.mig_syntax.specs.Readers.{Levelled, within_at, expression_at}

@@ -1,13 +1,13 @@
 -- Files: their trees, and the lines on which tokens without one fail.
 use Rattle.std.proofs.Common.{◌≡◌, ◌⊎◌, inl, inr, ℕ, List, Some, None, refl, sym, ap, subst, ◌∙◌}
 use Rattle.idl_lex.specs.declared.kinds.Token.{Token}
-use Rattle.syntax_kit.specs.declared.errors.SyntaxErr.{SyntaxErr}
-use Rattle.syntax_kit.specs.declared.errors.SyntaxErr.TheVariants.{Syntax, NoMemory}
-use Rattle.syntax_kit.specs.Reading.{Read}
-use Rattle.syntax_kit.specs.Grammar.{each, kinds}
-use Rattle.syntax_kit.specs.Files.{AreDefs, HaveNone as statements_have_none, Explains as statements_explain}
-use Rattle.syntax_kit.proofs.Grammars.{read_is, kinds-append, parted}
-use Rattle.syntax_kit.proofs.Files as files
+use Rattle.idl_read.specs.declared.errors.SyntaxErr.{SyntaxErr}
+use Rattle.idl_read.specs.declared.errors.SyntaxErr.TheVariants.{Syntax, NoMemory}
+use Rattle.idl_read.specs.Reading.{Read}
+use Rattle.idl_read.specs.Grammar.{each, kinds}
+use Rattle.idl_read.specs.Files.{AreDefs, HaveNone as statements_have_none, Explains as statements_explain}
+use Rattle.idl_read.proofs.Grammars.{read_is, kinds-append, parted}
+use Rattle.idl_read.proofs.Files as files
 use Rattle.mig_syntax.specs.Trees.{Tree}
 use Rattle.mig_syntax.specs.Derivation.{statement, heading, Derives, Headed, first_line, HaveNone, Explains, TokensAreDecided}
 use Rattle.mig_syntax.specs.StatementReaders.{heading_at}

@@ -3,12 +3,12 @@ use Rattle.std.proofs.Common.{◌≡◌, ℕ, List, Some, Bool, true, false, ref
 use Rattle.std.specs.Prelude.{codes}
 use Rattle.idl_lex.specs.declared.kinds.TokenKind.TheVariants as K
 use Rattle.std.specs.Str.{str_to_ascii_lowercase as lower}
-use Rattle.syntax_kit.specs.Reading.{mark_is, token_at, begins_with}
-use Rattle.syntax_kit.specs.Grammar.{Text, mark, ◌&◌, joined, IsGrammar, Leads, Any}
-use Rattle.syntax_kit.proofs.Grammars.{mapped_is, both_is, option_is}
-use Rattle.syntax_kit.proofs.Leaves.{mark_reads, leads_mark, leads_both, begins_so, begins_not, apart_mark}
-use Rattle.syntax_kit.proofs.Productions.{weaker, after_is, before_is}
-use Rattle.syntax_kit.proofs.Lists.{joined_is}
+use Rattle.idl_read.specs.Reading.{mark_is, token_at, begins_with}
+use Rattle.idl_read.specs.Grammar.{Text, mark, ◌&◌, joined, IsGrammar, Leads, Any}
+use Rattle.idl_read.proofs.Grammars.{mapped_is, both_is, option_is}
+use Rattle.idl_read.proofs.Leaves.{mark_reads, leads_mark, leads_both, begins_so, begins_not, apart_mark}
+use Rattle.idl_read.proofs.Productions.{weaker, after_is, before_is}
+use Rattle.idl_read.proofs.Lists.{joined_is}
 use Rattle.mig_syntax.specs.Words.{like, identifier, lower_in, like_in, has_like}
 use Rattle.mig_syntax.specs.Derivation.{direction_spell, direction, parameter, routine_spell, routine}
 use Rattle.mig_syntax.specs.StatementReaders.{direction_words, parameter_of, parameter_at, routine_words, routine_of, routine_at}

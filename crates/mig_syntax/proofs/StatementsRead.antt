@@ -4,11 +4,11 @@ use Rattle.std.specs.Prelude.{codes, is_some}
 use Rattle.std.specs.Str.{str_to_ascii_lowercase as lower}
 use Rattle.idl_lex.specs.declared.kinds.TokenKind.{TokenKind}
 use Rattle.idl_lex.specs.declared.kinds.TokenKind.TheVariants as K
-use Rattle.syntax_kit.specs.Reading.{word_is, begins_with}
-use Rattle.syntax_kit.specs.Grammar.{Text, one, mark, ◌&◌, one_of, IsGrammar, Leads, Any}
-use Rattle.syntax_kit.proofs.Grammars.{mapped_is, both_is, either_is}
-use Rattle.syntax_kit.proofs.Leaves.{token_is, mark_reads, leads_mark, leads_both, leads_either, begins_so, begins_not}
-use Rattle.syntax_kit.proofs.Productions.{after_is, before_is, leads_after, leads_by}
+use Rattle.idl_read.specs.Reading.{word_is, begins_with}
+use Rattle.idl_read.specs.Grammar.{Text, one, mark, ◌&◌, one_of, IsGrammar, Leads, Any}
+use Rattle.idl_read.proofs.Grammars.{mapped_is, both_is, either_is}
+use Rattle.idl_read.proofs.Leaves.{token_is, mark_reads, leads_mark, leads_both, leads_either, begins_so, begins_not}
+use Rattle.idl_read.proofs.Productions.{after_is, before_is, leads_after, leads_by}
 use Rattle.mig_syntax.specs.Trees.{Tree}
 use Rattle.mig_syntax.specs.Words.{like, identifier, like_is, lower_in, has_like}
 use Rattle.mig_syntax.specs.Derivation.{type_form, routine, side_spell, importer_spell, body, statement, heading}

@@ -4,11 +4,11 @@ use Rattle.std.specs.Prelude.{codes, is_some}
 use Rattle.idl_lex.specs.declared.kinds.Token.{Token}
 use Rattle.idl_lex.specs.declared.kinds.TokenKind.{TokenKind}
 use Rattle.idl_lex.specs.declared.kinds.TokenKind.TheVariants as K
-use Rattle.syntax_kit.specs.Reading.{mark_is, mark_at, word_is, begins_with, after}
-use Rattle.syntax_kit.specs.Grammar.{Text, mark, ◌&◌, one_of, kinds, IsGrammar, Leads, Any}
-use Rattle.syntax_kit.proofs.Grammars.{mapped_is, both_is, either_is}
-use Rattle.syntax_kit.proofs.Leaves.{mark_reads, mark_named, leads_mark, is_number, leads_both, leads_either, begins_so, begins_not, Apart, apart_mark}
-use Rattle.syntax_kit.proofs.Productions.{after_is, before_is, leads_after}
+use Rattle.idl_read.specs.Reading.{mark_is, mark_at, word_is, begins_with, after}
+use Rattle.idl_read.specs.Grammar.{Text, mark, ◌&◌, one_of, kinds, IsGrammar, Leads, Any}
+use Rattle.idl_read.proofs.Grammars.{mapped_is, both_is, either_is}
+use Rattle.idl_read.proofs.Leaves.{mark_reads, mark_named, leads_mark, is_number, leads_both, leads_either, begins_so, begins_not, Apart, apart_mark}
+use Rattle.idl_read.proofs.Productions.{after_is, before_is, leads_after}
 use Rattle.mig_syntax.specs.declared.tree.Operator.{Operator}
 use Rattle.mig_syntax.specs.Trees.{Tree, leaf, binary}
 use Rattle.mig_syntax.specs.Words.{like, identifier, like_is, like_at, is_identifier}

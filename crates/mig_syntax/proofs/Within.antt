@@ -7,10 +7,10 @@ use Rattle.std.proofs.lemmas.List.{append-nil}
 use Rattle.idl_lex.specs.declared.kinds.Token.{Token}
 use Rattle.idl_lex.specs.declared.kinds.TokenKind.{TokenKind}
 use Rattle.idl_lex.specs.declared.kinds.TokenKind.TheVariants as K
-use Rattle.syntax_kit.specs.Reading.{Read, Reader, then_on, mark_is, mark_at, number_at, begins_with, both, after, before, either}
-use Rattle.syntax_kit.specs.Grammar.{Text, kinds}
-use Rattle.syntax_kit.proofs.Grammars.{then_some, read_is, map_some, cond_some, kinds-append}
-use Rattle.syntax_kit.proofs.Leaves.{same_bytes, mark_reads, number_reads}
+use Rattle.idl_read.specs.Reading.{Read, Reader, then_on, mark_is, mark_at, number_at, begins_with, both, after, before, either}
+use Rattle.idl_read.specs.Grammar.{Text, kinds}
+use Rattle.idl_read.proofs.Grammars.{then_some, read_is, map_some, cond_some, kinds-append}
+use Rattle.idl_read.proofs.Leaves.{same_bytes, mark_reads, number_reads}
 use Rattle.mig_syntax.specs.declared.tree.Operator.{Operator}
 use Rattle.mig_syntax.specs.declared.tree.Operator.TheVariants as B
 use Rattle.mig_syntax.specs.Trees.{Tree, leaf, binary}

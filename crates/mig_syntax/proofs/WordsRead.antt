@@ -5,9 +5,9 @@ use Rattle.std.specs.Str.{bytes_eq, str_to_ascii_lowercase as lower}
 use Rattle.std.specs.List.{AllByRecursion}
 use Rattle.idl_lex.specs.declared.kinds.TokenKind.{TokenKind}
 use Rattle.idl_lex.specs.declared.kinds.TokenKind.TheVariants as K
-use Rattle.syntax_kit.specs.Reading.{word_is, token_at}
-use Rattle.syntax_kit.specs.Grammar.{Text, IsGrammar, Leads, Any}
-use Rattle.syntax_kit.proofs.Leaves.{token_is, same_bytes, equal_bytes, word_named, Apart, apart_word}
+use Rattle.idl_read.specs.Reading.{word_is, token_at}
+use Rattle.idl_read.specs.Grammar.{Text, IsGrammar, Leads, Any}
+use Rattle.idl_read.proofs.Leaves.{token_is, same_bytes, equal_bytes, word_named, Apart, apart_word}
 use Rattle.mig_syntax.specs.Words.{mig_words, is_one_of, like, identifier, folded, like_is, like_at, lower_in, like_in, has_like, named_in, is_identifier, identifier_at}
 
 -- ---- one word

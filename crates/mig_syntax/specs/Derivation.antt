@@ -2,10 +2,10 @@
 use Rattle.std.specs.Prelude.{◌≡◌, ◌⊎◌, ◌++◌, ℕ, Bool, true, false, List, [], ◌∷◌, codes}
 use Rattle.idl_lex.specs.declared.kinds.Token.{Token}
 use Rattle.idl_lex.specs.declared.kinds.TokenKind.TheVariants.{FileName}
-use Rattle.syntax_kit.specs.declared.errors.SyntaxErr.{SyntaxErr}
-use Rattle.syntax_kit.specs.declared.errors.SyntaxErr.TheVariants.{Syntax, NoMemory}
-use Rattle.syntax_kit.specs.Grammar.{Text, one, mark, ◌&◌, maybe, each, joined, kinds}
-use Rattle.syntax_kit.specs.Files.{FailsAt as statements_fail_at}
+use Rattle.idl_read.specs.declared.errors.SyntaxErr.{SyntaxErr}
+use Rattle.idl_read.specs.declared.errors.SyntaxErr.TheVariants.{Syntax, NoMemory}
+use Rattle.idl_read.specs.Grammar.{Text, one, mark, ◌&◌, maybe, each, joined, kinds}
+use Rattle.idl_read.specs.Files.{FailsAt as statements_fail_at}
 use Rattle.mig_syntax.specs.Trees.{Tree}
 use Rattle.mig_syntax.specs.Words.{like, identifier}
 use Rattle.mig_syntax.specs.Spelling.{expression}

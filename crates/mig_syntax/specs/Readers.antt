@@ -5,7 +5,7 @@ use Rattle.std.specs.Str.{bytes_eq}
 use Rattle.idl_lex.specs.declared.kinds.Token.{Token}
 use Rattle.idl_lex.specs.declared.kinds.TokenKind.{TokenKind}
 use Rattle.idl_lex.specs.declared.kinds.TokenKind.TheVariants as K
-use Rattle.syntax_kit.specs.Reading.{Read, Reader, then_on, mark_is, mark_at, number_at, begins_with, mapped, either, after, before}
+use Rattle.idl_read.specs.Reading.{Read, Reader, then_on, mark_is, mark_at, number_at, begins_with, mapped, either, after, before}
 use Rattle.mig_syntax.specs.declared.tree.Operator.{Operator}
 use Rattle.mig_syntax.specs.declared.tree.Operator.TheVariants as B
 use Rattle.mig_syntax.specs.Trees.{Tree, leaf, binary}

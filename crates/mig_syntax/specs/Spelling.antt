@@ -1,6 +1,6 @@
 -- The tokens of an expression.
 use Rattle.std.specs.Prelude.{◌⊎◌, ℕ, zero, suc, ◌<◌, List, codes}
-use Rattle.syntax_kit.specs.Grammar.{Text, mark, number, ◌&◌}
+use Rattle.idl_read.specs.Grammar.{Text, mark, number, ◌&◌}
 use Rattle.mig_syntax.specs.declared.tree.Operator.{Operator}
 use Rattle.mig_syntax.specs.declared.tree.Operator.TheVariants as B
 use Rattle.mig_syntax.specs.Trees.{Tree, leaf, binary}

@@ -3,7 +3,7 @@ use Rattle.std.specs.Prelude.{Bool, true, false, ◌⊎◌, ℕ, List, [], ◌�
 use Rattle.std.proofs.Common.{inl, inr}
 use Rattle.idl_lex.specs.declared.kinds.TokenKind.{TokenKind}
 use Rattle.idl_lex.specs.declared.kinds.TokenKind.TheVariants.{FileName}
-use Rattle.syntax_kit.specs.Reading.{Reader, mark_is, mark_at, token_at, begins_with, both, mapped, either, option, after, before, joined_at}
+use Rattle.idl_read.specs.Reading.{Reader, mark_is, mark_at, token_at, begins_with, both, mapped, either, option, after, before, joined_at}
 use Rattle.mig_syntax.specs.Trees.{Tree}
 use Rattle.mig_syntax.specs.Words.{like_is, like_at, like_in, has_like, identifier_at}
 use Rattle.mig_syntax.specs.Readers.{expression_at}

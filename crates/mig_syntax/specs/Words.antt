@@ -3,8 +3,8 @@ use Rattle.std.specs.Prelude.{◌≡◌, Bool, false, ◌||◌, List, [], ◌∷
 use Rattle.std.specs.Str.{bytes_eq, str_to_ascii_lowercase as lower}
 use Rattle.idl_lex.specs.declared.kinds.TokenKind.{TokenKind}
 use Rattle.idl_lex.specs.declared.kinds.TokenKind.TheVariants.{Name}
-use Rattle.syntax_kit.specs.Reading.{Reader, word_is, token_at, only_if}
-use Rattle.syntax_kit.specs.Grammar.{Text}
+use Rattle.idl_read.specs.Reading.{Reader, word_is, token_at, only_if}
+use Rattle.idl_read.specs.Grammar.{Text}
 
 -- the words that the grammar quotes
 abbrev pub mig_words : List (List ℕ)

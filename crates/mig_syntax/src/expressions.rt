@@ -1,14 +1,14 @@
 //! Expressions.
 
 ghost use Rattle.std.specs.Prelude.{◌≡◌, ◌≤◌, ◌<◌, ◌+◌, ◌-◌, IfOk};
-ghost use Rattle.syntax_kit.specs.Reading.{Gives};
+ghost use Rattle.idl_read.specs.Reading.{Gives};
 ghost use Rattle.mig_syntax.specs.Readers.{within_at, primary_at, climb, expression_at};
 
 use crate::operators::{operator, past};
 use crate::tree::Expr;
 use idl_lex::Token;
+use idl_read::{Halt, begins_mark, mark, number};
 use std::alloc::Global;
-use syntax_kit::{Halt, begins_mark, mark, number};
 
 /// An expression within so many levels, and the tokens after it.
 #[tactic(auto, unfolding(crate::specs::Readers::expression_at))]

@@ -14,9 +14,9 @@ mod types;
 mod words;
 
 pub use expressions::expression;
+pub use idl_read::SyntaxErr;
 pub use laws::one_expression;
 pub use parsing::{one_tree, parse, tokens_are_decided};
-pub use syntax_kit::SyntaxErr;
 pub use tree::{
     Direction, Expr, Importer, Node, Operator, Parameter, Routine, Side, Statement, Subsystem,
     Tree, TypeForm,

@@ -2,7 +2,7 @@
 
 ghost use Rattle.std.specs.Prelude.{◌≡◌, IfOk, IfErr, List};
 ghost use Rattle.idl_lex.specs.declared.kinds.Token.{Token};
-ghost use Rattle.syntax_kit.specs.Files.{AreDefs, Explains as explains};
+ghost use Rattle.idl_read.specs.Files.{AreDefs, Explains as explains};
 ghost use Rattle.mig_syntax.specs.Derivation.{statement, first_line, Derives, Explains, TokensAreDecided};
 ghost use Rattle.mig_syntax.specs.declared.tree.Subsystem.{Subsystem};
 
@@ -10,9 +10,9 @@ use crate::Tree;
 use crate::statements::{heading, statement};
 use crate::tree::{Statement, Subsystem};
 use idl_lex::{Token, Tokens};
+use idl_read::{Halt, SyntaxErr};
 use kit_base::Listed;
 use std::alloc::Global;
-use syntax_kit::{Halt, SyntaxErr};
 
 /// The statements that have these tokens.
 fn statements(alloc: Global, tokens: &[Token]) -> Result<Listed<Statement>, SyntaxErr>

@@ -1,15 +1,15 @@
 //! Routines.
 
 ghost use Rattle.std.specs.Prelude.{◌≡◌, IfErr};
-ghost use Rattle.syntax_kit.specs.Reading.{Gives, begins_with, token_at};
+ghost use Rattle.idl_read.specs.Reading.{Gives, begins_with, token_at};
 ghost use Rattle.mig_syntax.specs.Words.{like_in, has_like};
 ghost use Rattle.mig_syntax.specs.StatementReaders.{direction_words, routine_words, routine_at};
 
 use crate::tree::{Direction, Parameter, Routine};
 use crate::words::{identifier, is_like};
 use idl_lex::Token;
+use idl_read::{Halt, Production, joined, mark};
 use std::alloc::Global;
-use syntax_kit::{Halt, Production, joined, mark};
 
 /// The direction that a token is.
 fn direction_of(token: &Token) -> Option<Direction>

@@ -1,7 +1,7 @@
 //! Statements, and the heading of a file.
 
 ghost use Rattle.std.specs.Prelude.{◌≡◌, IfErr};
-ghost use Rattle.syntax_kit.specs.Reading.{Gives, begins_with, token_at};
+ghost use Rattle.idl_read.specs.Reading.{Gives, begins_with, token_at};
 ghost use Rattle.mig_syntax.specs.Words.{like_in, has_like};
 ghost use Rattle.mig_syntax.specs.StatementReaders.{side_words, importer_words, file_in, definition_at, prefix_at, import_at, body_at, statement_at, heading_at};
 
@@ -11,9 +11,9 @@ use crate::tree::{Expr, Importer, Side, Statement, TypeForm};
 use crate::types::type_form;
 use crate::words::{begins_like, identifier, is_like, like};
 use idl_lex::{Token, TokenKind};
+use idl_read::{Halt, mark};
 use kit_base::{Name, Octets};
 use std::alloc::Global;
-use syntax_kit::{Halt, mark};
 
 /// The side whose prefix a token begins.
 fn side_of(token: &Token) -> Option<Side>

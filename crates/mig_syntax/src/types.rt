@@ -1,16 +1,16 @@
 //! Types.
 
 ghost use Rattle.std.specs.Prelude.{◌≡◌};
-ghost use Rattle.syntax_kit.specs.Reading.{Gives};
+ghost use Rattle.idl_read.specs.Reading.{Gives};
 ghost use Rattle.mig_syntax.specs.StatementReaders.{row_at, sized_at, type_at};
 
 use crate::expressions::expression;
 use crate::tree::{Expr, TypeForm};
 use crate::words::{begins_like, identifier, like};
 use idl_lex::Token;
+use idl_read::{Halt, begins_mark, mark};
 use kit_base::Name;
 use std::alloc::Global;
-use syntax_kit::{Halt, begins_mark, mark};
 
 /// A length, and the type of the elements.
 #[tactic(auto, unfolding(crate::specs::StatementReaders::row_at))]

@@ -2,13 +2,13 @@
 
 ghost use Rattle.std.specs.Prelude.{◌≡◌, map, IfErr};
 ghost use Rattle.std.specs.Str.{str_eq_ignore_ascii_case, str_to_ascii_lowercase};
-ghost use Rattle.syntax_kit.specs.Reading.{Gives, begins_with, token_at};
+ghost use Rattle.idl_read.specs.Reading.{Gives, begins_with, token_at};
 ghost use Rattle.mig_syntax.specs.Words.{is_one_of, like_is, like_at, named_in, identifier_at};
 
 use idl_lex::{Token, TokenKind};
+use idl_read::Halt;
 use kit_base::Name;
 use std::alloc::Global;
-use syntax_kit::Halt;
 
 /// The words of the grammar, which are not identifiers in any letter case.
 const WORDS: [&[u8]; 17] = [

@@ -4,11 +4,11 @@ use Rattle.std.specs.Prelude.{codes}
 use Rattle.idl_lex.specs.declared.kinds.Token.{Token}
 use Rattle.idl_lex.specs.declared.kinds.TokenKind.{TokenKind}
 use Rattle.idl_lex.specs.declared.kinds.TokenKind.TheVariants.{Mark}
-use Rattle.syntax_kit.specs.Reading.{mark_is, word_is, begins_with, begins_other, either, option}
-use Rattle.syntax_kit.specs.Grammar.{Text, empty, word, mark, ◌&◌, one_of, maybe, kinds, IsGrammar, Leads, Any}
-use Rattle.syntax_kit.proofs.Grammars.{mapped_is, both_is, either_is, option_is}
-use Rattle.syntax_kit.proofs.Leaves.{mark_reads, apart_mark, leads_word, leads_mark, leads_id, leads_both, leads_either, begins_so, begins_not, begins_else}
-use Rattle.syntax_kit.proofs.Productions.{weaker, after_is, before_is, led_is, marked_is, leads_after, apart_words, unit_right, unit_right_back, leads_by, maybe_not, not_other}
+use Rattle.idl_read.specs.Reading.{mark_is, word_is, begins_with, begins_other, either, option}
+use Rattle.idl_read.specs.Grammar.{Text, empty, word, mark, ◌&◌, one_of, maybe, kinds, IsGrammar, Leads, Any}
+use Rattle.idl_read.proofs.Grammars.{mapped_is, both_is, either_is, option_is}
+use Rattle.idl_read.proofs.Leaves.{mark_reads, apart_mark, leads_word, leads_mark, leads_id, leads_both, leads_either, begins_so, begins_not, begins_else}
+use Rattle.idl_read.proofs.Productions.{weaker, after_is, before_is, led_is, marked_is, leads_after, apart_words, unit_right, unit_right_back, leads_by, maybe_not, not_other}
 use Rattle.onc_syntax.specs.declared.tree.Value.{Value}
 use Rattle.onc_syntax.specs.declared.tree.TypeName.{TypeName as Ty}
 use Rattle.onc_syntax.specs.declared.tree.Decl.{Decl}

@@ -2,11 +2,11 @@
 use Rattle.std.proofs.Common.{◌≡◌, ◌⊎◌, inl, inr, ℕ, List, Bool, ◌||◌, refl}
 use Rattle.std.specs.Prelude.{codes}
 use Rattle.idl_lex.specs.declared.kinds.TokenKind.{TokenKind}
-use Rattle.syntax_kit.specs.Reading.{word_is}
-use Rattle.syntax_kit.specs.Grammar.{Text, word, mark, ◌&◌, one_of, IsGrammar, Leads, Any}
-use Rattle.syntax_kit.proofs.Grammars.{mapped_is, both_is}
-use Rattle.syntax_kit.proofs.Leaves.{word_reads, mark_reads, leads_word, leads_either}
-use Rattle.syntax_kit.proofs.Productions.{weaker, after_is, before_is, led_is, leads_after, leads_by}
+use Rattle.idl_read.specs.Reading.{word_is}
+use Rattle.idl_read.specs.Grammar.{Text, word, mark, ◌&◌, one_of, IsGrammar, Leads, Any}
+use Rattle.idl_read.proofs.Grammars.{mapped_is, both_is}
+use Rattle.idl_read.proofs.Leaves.{word_reads, mark_reads, leads_word, leads_either}
+use Rattle.idl_read.proofs.Productions.{weaker, after_is, before_is, led_is, leads_after, leads_by}
 use Rattle.onc_syntax.specs.declared.tree.Value.{Value}
 use Rattle.onc_syntax.specs.declared.tree.Decl.{Decl}
 use Rattle.onc_syntax.specs.declared.tree.Item.{Item}

@@ -2,9 +2,9 @@
 use Rattle.std.proofs.Common.{◌≡◌, inl, inr, List}
 use Rattle.std.specs.Prelude.{codes}
 use Rattle.idl_lex.specs.declared.kinds.Token.{Token}
-use Rattle.syntax_kit.specs.Grammar.{mark, ◌&◌, Leads}
-use Rattle.syntax_kit.proofs.Leaves.{leads_both}
-use Rattle.syntax_kit.proofs.Files as files
+use Rattle.idl_read.specs.Grammar.{mark, ◌&◌, Leads}
+use Rattle.idl_read.proofs.Leaves.{leads_both}
+use Rattle.idl_read.proofs.Files as files
 use Rattle.onc_syntax.specs.declared.tree.Def.{Def}
 use Rattle.onc_syntax.specs.Derivation.{def, Derives, TokensAreDecided}
 use Rattle.onc_syntax.proofs.DefinitionsRead.{ended_is, is_def, leads_def}

@@ -4,12 +4,12 @@ use Rattle.std.specs.List.{AllByRecursion}
 use Rattle.std.specs.Prelude.{codes}
 use Rattle.idl_lex.specs.declared.kinds.TokenKind.{TokenKind}
 use Rattle.idl_lex.specs.declared.kinds.TokenKind.TheVariants.{Name}
-use Rattle.syntax_kit.specs.Reading.{mark_is, word_is, begins_with, begins_other, both, after, before, mark_at, joined_at, until_at, some_at}
-use Rattle.syntax_kit.specs.Grammar.{Text, some, joined, word, mark, ◌&◌, one_of, IsGrammar, Leads, Any}
-use Rattle.syntax_kit.proofs.Grammars.{mapped_is, both_is, either_is}
-use Rattle.syntax_kit.proofs.Leaves.{word_reads, mark_reads, apart_word, apart_mark, leads_word, leads_mark, leads_id, leads_both, leads_either, begins_so, begins_not}
-use Rattle.syntax_kit.proofs.Productions.{weaker, after_is, before_is, leads_after, apart_words, leads_by, stopped}
-use Rattle.syntax_kit.proofs.Lists.{turns, joined_is, until_is, some_is}
+use Rattle.idl_read.specs.Reading.{mark_is, word_is, begins_with, begins_other, both, after, before, mark_at, joined_at, until_at, some_at}
+use Rattle.idl_read.specs.Grammar.{Text, some, joined, word, mark, ◌&◌, one_of, IsGrammar, Leads, Any}
+use Rattle.idl_read.proofs.Grammars.{mapped_is, both_is, either_is}
+use Rattle.idl_read.proofs.Leaves.{word_reads, mark_reads, apart_word, apart_mark, leads_word, leads_mark, leads_id, leads_both, leads_either, begins_so, begins_not}
+use Rattle.idl_read.proofs.Productions.{weaker, after_is, before_is, leads_after, apart_words, leads_by, stopped}
+use Rattle.idl_read.proofs.Lists.{turns, joined_is, until_is, some_is}
 use Rattle.onc_syntax.specs.declared.tree.Value.{Value}
 use Rattle.onc_syntax.specs.declared.tree.IntWord.{IntWord}
 use Rattle.onc_syntax.specs.declared.tree.TypeName.{TypeName as Ty}

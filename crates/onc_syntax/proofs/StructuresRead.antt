@@ -2,12 +2,12 @@
 use Rattle.std.proofs.Common.{◌≡◌, ℕ, List, false, refl}
 use Rattle.std.specs.Prelude.{codes}
 use Rattle.idl_lex.specs.declared.kinds.Token.{Token}
-use Rattle.syntax_kit.specs.Reading.{mark_is, begins_with}
-use Rattle.syntax_kit.specs.Grammar.{Text, some, joined, mark, ◌&◌, maybe, IsGrammar, Leads, Any}
-use Rattle.syntax_kit.proofs.Grammars.{mapped_is, both_is, option_is}
-use Rattle.syntax_kit.proofs.Leaves.{mark_reads, apart_mark, leads_mark, leads_id, leads_both, begins_so, begins_not}
-use Rattle.syntax_kit.proofs.Productions.{weaker, after_is, before_is, leads_after, stopped}
-use Rattle.syntax_kit.proofs.Lists.{turns, joined_is, until_is, some_is}
+use Rattle.idl_read.specs.Reading.{mark_is, begins_with}
+use Rattle.idl_read.specs.Grammar.{Text, some, joined, mark, ◌&◌, maybe, IsGrammar, Leads, Any}
+use Rattle.idl_read.proofs.Grammars.{mapped_is, both_is, option_is}
+use Rattle.idl_read.proofs.Leaves.{mark_reads, apart_mark, leads_mark, leads_id, leads_both, begins_so, begins_not}
+use Rattle.idl_read.proofs.Productions.{weaker, after_is, before_is, leads_after, stopped}
+use Rattle.idl_read.proofs.Lists.{turns, joined_is, until_is, some_is}
 use Rattle.onc_syntax.specs.declared.tree.Item.{Item}
 use Rattle.onc_syntax.specs.declared.tree.Member.{Member}
 use Rattle.onc_syntax.specs.Words.{onc_words}

@@ -4,11 +4,11 @@ use Rattle.std.specs.Prelude.{codes}
 use Rattle.idl_lex.specs.declared.kinds.Token.{Token}
 use Rattle.idl_lex.specs.declared.kinds.TokenKind.{TokenKind}
 use Rattle.idl_lex.specs.declared.kinds.TokenKind.TheVariants.{Name}
-use Rattle.syntax_kit.specs.Reading.{mark_is, word_is, word_in, begins_with, both, option}
-use Rattle.syntax_kit.specs.Grammar.{Text, word, mark, number, ◌&◌, one_of, maybe, when, IsGrammar, Leads, Any}
-use Rattle.syntax_kit.proofs.Grammars.{mapped_is, both_is, either_is, option_is}
-use Rattle.syntax_kit.proofs.Leaves.{id_reads, number_reads, word_reads, apart_word, apart_mark, leads_word, leads_mark, leads_number, is_number, leads_id, leads_either, begins_so, begins_not}
-use Rattle.syntax_kit.proofs.Productions.{weaker, led_is, leads_after, leads_maybe, leads_when, flag_reads, words_are, leads_words, apart_words, apart_id, unit_right, unit_right_back, unit_left, unit_left_back, leads_by}
+use Rattle.idl_read.specs.Reading.{mark_is, word_is, word_in, begins_with, both, option}
+use Rattle.idl_read.specs.Grammar.{Text, word, mark, number, ◌&◌, one_of, maybe, when, IsGrammar, Leads, Any}
+use Rattle.idl_read.proofs.Grammars.{mapped_is, both_is, either_is, option_is}
+use Rattle.idl_read.proofs.Leaves.{id_reads, number_reads, word_reads, apart_word, apart_mark, leads_word, leads_mark, leads_number, is_number, leads_id, leads_either, begins_so, begins_not}
+use Rattle.idl_read.proofs.Productions.{weaker, led_is, leads_after, leads_maybe, leads_when, flag_reads, words_are, leads_words, apart_words, apart_id, unit_right, unit_right_back, unit_left, unit_left_back, leads_by}
 use Rattle.onc_syntax.specs.declared.tree.Value.{Value}
 use Rattle.onc_syntax.specs.declared.tree.Value.TheVariants as V
 use Rattle.onc_syntax.specs.declared.tree.IntWord.{IntWord}

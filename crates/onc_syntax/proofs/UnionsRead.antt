@@ -2,12 +2,12 @@
 use Rattle.std.proofs.Common.{◌≡◌, ◌⊎◌, inl, inr, List, Option, Bool, false, ◌||◌, refl}
 use Rattle.std.specs.Prelude.{codes}
 use Rattle.idl_lex.specs.declared.kinds.TokenKind.{TokenKind}
-use Rattle.syntax_kit.specs.Reading.{mark_is, word_is, begins_with, both, option, before, mark_at, while_at, some_at}
-use Rattle.syntax_kit.specs.Grammar.{Text, some, word, mark, ◌&◌, one_of, maybe, IsGrammar, Leads, Any}
-use Rattle.syntax_kit.proofs.Grammars.{mapped_is, both_is, either_is, option_is}
-use Rattle.syntax_kit.proofs.Leaves.{word_reads, mark_reads, apart_word, leads_word, leads_mark, leads_id, leads_both, leads_either, begins_so, begins_not}
-use Rattle.syntax_kit.proofs.Productions.{weaker, after_is, before_is, leads_after, leads_maybe, apart_words, leads_by}
-use Rattle.syntax_kit.proofs.Lists.{while_is, some_is, leads_some}
+use Rattle.idl_read.specs.Reading.{mark_is, word_is, begins_with, both, option, before, mark_at, while_at, some_at}
+use Rattle.idl_read.specs.Grammar.{Text, some, word, mark, ◌&◌, one_of, maybe, IsGrammar, Leads, Any}
+use Rattle.idl_read.proofs.Grammars.{mapped_is, both_is, either_is, option_is}
+use Rattle.idl_read.proofs.Leaves.{word_reads, mark_reads, apart_word, leads_word, leads_mark, leads_id, leads_both, leads_either, begins_so, begins_not}
+use Rattle.idl_read.proofs.Productions.{weaker, after_is, before_is, leads_after, leads_maybe, apart_words, leads_by}
+use Rattle.idl_read.proofs.Lists.{while_is, some_is, leads_some}
 use Rattle.onc_syntax.specs.declared.tree.Decl.{Decl}
 use Rattle.onc_syntax.specs.declared.tree.Arm.{Arm}
 use Rattle.onc_syntax.specs.declared.tree.Arm.TheVariants as A

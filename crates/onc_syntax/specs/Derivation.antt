@@ -1,6 +1,6 @@
 -- The tokens of a tree, production by production.
 use Rattle.std.specs.Prelude.{◌⊎◌, ℕ, List, Option, codes}
-use Rattle.syntax_kit.specs.Grammar.{Text, word, mark, number, id, ◌&◌, maybe, when, each, some, joined, kinds}
+use Rattle.idl_read.specs.Grammar.{Text, word, mark, number, id, ◌&◌, maybe, when, each, some, joined, kinds}
 use Rattle.onc_syntax.specs.Words.{onc_words}
 use Rattle.onc_syntax.specs.declared.tree.Value.{Value}
 use Rattle.onc_syntax.specs.declared.tree.Value.TheVariants as V
@@ -26,8 +26,8 @@ use Rattle.onc_syntax.specs.declared.tree.Union.{Union as UnionDef}
 use Rattle.onc_syntax.specs.declared.tree.Def.{Def}
 use Rattle.onc_syntax.specs.declared.tree.Def.TheVariants as F
 use Rattle.idl_lex.specs.declared.kinds.Token.{Token}
-use Rattle.syntax_kit.specs.declared.errors.SyntaxErr.{SyntaxErr}
-use Rattle.syntax_kit.specs.Files.{FailsAt as file_fails_at, Explains as explains}
+use Rattle.idl_read.specs.declared.errors.SyntaxErr.{SyntaxErr}
+use Rattle.idl_read.specs.Files.{FailsAt as file_fails_at, Explains as explains}
 
 -- an identifier: a name that is none of the words
 abbrev pub name : List ℕ → Text

@@ -2,7 +2,7 @@
 use Rattle.std.specs.Prelude.{Bool, true, false, ◌⊎◌, ℕ, ℤ, List, [], ◌∷◌, Option, Some, None, codes}
 use Rattle.std.proofs.Common.{inl, inr}
 use Rattle.idl_lex.specs.declared.kinds.TokenKind.{TokenKind}
-use Rattle.syntax_kit.specs.Reading.{Reader, word_is, mark_is, word_at, mark_at, number_at, id_at, token_at, flag_at, is_id, word_in, has_word, begins_with, begins_other, both, mapped, either, option, after, before, joined_at, until_at, while_at, some_at}
+use Rattle.idl_read.specs.Reading.{Reader, word_is, mark_is, word_at, mark_at, number_at, id_at, token_at, flag_at, is_id, word_in, has_word, begins_with, begins_other, both, mapped, either, option, after, before, joined_at, until_at, while_at, some_at}
 use Rattle.onc_syntax.specs.Words.{onc_words}
 use Rattle.onc_syntax.specs.declared.tree.Value.{Value}
 use Rattle.onc_syntax.specs.declared.tree.Value.TheVariants as V

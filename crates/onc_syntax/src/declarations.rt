@@ -1,14 +1,14 @@
 //! Declarations.
 
 ghost use Rattle.std.specs.Prelude.{◌≡◌};
-ghost use Rattle.syntax_kit.specs.Reading.{Gives};
+ghost use Rattle.idl_read.specs.Reading.{Gives};
 ghost use Rattle.onc_syntax.specs.Readers.{exactly_at, at_most_at, decl_at};
 
 use crate::tree::{Decl, Value};
 use crate::types::{identifier, type_name, value};
 use idl_lex::Token;
+use idl_read::{Halt, begins, begins_mark, mark, stands_before, word};
 use std::alloc::Global;
-use syntax_kit::{Halt, begins, begins_mark, mark, stands_before, word};
 
 /// A count in brackets.
 #[tactic(auto, unfolding(crate::specs::Readers::exactly_at))]

@@ -1,7 +1,7 @@
 //! Definitions.
 
 ghost use Rattle.std.specs.Prelude.{◌≡◌};
-ghost use Rattle.syntax_kit.specs.Reading.{Gives};
+ghost use Rattle.idl_read.specs.Reading.{Gives};
 ghost use Rattle.onc_syntax.specs.Readers.{const_at, def_at, ended_at};
 
 use crate::declarations::decl;
@@ -11,9 +11,9 @@ use crate::tree::{Def, Value};
 use crate::types::{identifier, value};
 use crate::unions::union;
 use idl_lex::Token;
+use idl_read::{Halt, begins, mark, word};
 use kit_base::Name;
 use std::alloc::Global;
-use syntax_kit::{Halt, begins, mark, word};
 
 /// A constant, after its word.
 #[tactic(auto, unfolding(crate::specs::Readers::const_at))]

@@ -12,8 +12,8 @@ mod tree;
 mod types;
 mod unions;
 
+pub use idl_read::SyntaxErr;
 pub use parsing::{one_tree, parse, tokens_are_decided};
-pub use syntax_kit::SyntaxErr;
 pub use tree::{
     Arm, Case, Decl, Def, IntWord, Item, Items, Label, Member, Prefix, ProcType, Procedure, Tree,
     TypeName, Union, Value, Version,

@@ -8,8 +8,8 @@ ghost use Rattle.onc_syntax.specs.declared.tree.Def.{Def};
 use crate::Tree;
 use crate::definitions::ended;
 use idl_lex::Tokens;
+use idl_read::{Halt, SyntaxErr};
 use std::alloc::Global;
-use syntax_kit::{Halt, SyntaxErr};
 
 /// The tree that has these tokens.
 pub fn parse(alloc: Global, tokens: &Tokens) -> Result<Tree, SyntaxErr>

@@ -1,15 +1,15 @@
 //! Programs.
 
 ghost use Rattle.std.specs.Prelude.{◌≡◌};
-ghost use Rattle.syntax_kit.specs.Reading.{Gives};
+ghost use Rattle.idl_read.specs.Reading.{Gives};
 ghost use Rattle.onc_syntax.specs.Readers.{program_at};
 
 use crate::tree::{ProcType, Procedure, Value, Version};
 use crate::types::{identifier, type_name, value};
 use idl_lex::Token;
+use idl_read::{Halt, Production, begins, joined, mark, some_until, word};
 use kit_base::{Listed, Name};
 use std::alloc::Global;
-use syntax_kit::{Halt, Production, begins, joined, mark, some_until, word};
 
 impl Production for ProcType {
     ghost use Rattle.onc_syntax.specs.Readers.{proc_type_at};

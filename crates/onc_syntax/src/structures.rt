@@ -1,16 +1,16 @@
 //! Enums and structs.
 
 ghost use Rattle.std.specs.Prelude.{◌≡◌};
-ghost use Rattle.syntax_kit.specs.Reading.{Gives};
+ghost use Rattle.idl_read.specs.Reading.{Gives};
 ghost use Rattle.onc_syntax.specs.Readers.{enum_at, struct_at};
 
 use crate::declarations::decl;
 use crate::tree::{Item, Items, Member};
 use crate::types::{identifier, value};
 use idl_lex::Token;
+use idl_read::{Halt, Production, begins_mark, joined, mark, some_until};
 use kit_base::{Listed, Name};
 use std::alloc::Global;
-use syntax_kit::{Halt, Production, begins_mark, joined, mark, some_until};
 
 impl Production for Item {
     ghost use Rattle.onc_syntax.specs.Readers.{item_at};

@@ -1,14 +1,14 @@
 //! Names, values and types.
 
 ghost use Rattle.std.specs.Prelude.{◌≡◌, IfErr};
-ghost use Rattle.syntax_kit.specs.Reading.{Gives, begins_with};
+ghost use Rattle.idl_read.specs.Reading.{Gives, begins_with};
 ghost use Rattle.onc_syntax.specs.Readers.{is_name, name_at, value_at, int_in, is_int, int_at, prefix_in, is_prefix, prefix_at, type_at};
 
 use crate::tree::{IntWord, Prefix, TypeName, Value};
 use idl_lex::Token;
+use idl_read::{Halt, begins, begins_id, flag, id, is_word, number, word};
 use kit_base::Name;
 use std::alloc::Global;
-use syntax_kit::{Halt, begins, begins_id, flag, id, is_word, number, word};
 
 /// The words of the grammar, which are not names.
 const WORDS: [&[u8]; 20] = [

@@ -1,15 +1,15 @@
 //! Unions.
 
 ghost use Rattle.std.specs.Prelude.{◌≡◌};
-ghost use Rattle.syntax_kit.specs.Reading.{Gives};
+ghost use Rattle.idl_read.specs.Reading.{Gives};
 ghost use Rattle.onc_syntax.specs.Readers.{arm_at, default_at, union_at};
 
 use crate::declarations::decl;
 use crate::tree::{Arm, Case, Label, Union};
 use crate::types::{identifier, type_name, value};
 use idl_lex::Token;
+use idl_read::{Halt, Production, begins, mark, some_while, word};
 use std::alloc::Global;
-use syntax_kit::{Halt, Production, begins, mark, some_while, word};
 
 impl Production for Label {
     ghost use Rattle.onc_syntax.specs.Readers.{label_at};

@@ -19,8 +19,8 @@ use Rattle.wire_def.specs.Scalars.{width_of, number_octets, residue}
 use Rattle.wire_def.proofs.ScalarGrammar.{left_true, right_true}
 use Rattle.wire_def.proofs.Words.{IsOwn, is8, is16, is32, is64, own_of}
 use Rattle.kit_base.specs.Bytes.{be}
-use Rattle.swap_kit.specs.Swapped.{swapped, IsSwapWidth}
-use Rattle.swap_kit.proofs.Swapping.{swapped-first, swapped-none, swapped-append, length-swapped}
+use Rattle.kit_swap.specs.Swapped.{swapped, IsSwapWidth}
+use Rattle.kit_swap.proofs.Swapping.{swapped-first, swapped-none, swapped-append, length-swapped}
 use Rattle.plain_wire.specs.Widths.{FitsWidth}
 use Rattle.plain_wire.specs.Rows.{bare_octets, numbers_octets, IsLittle, IsWay}
 use Rattle.plain_wire.specs.declared.widths.Way.TheVariants.{Copied, Swapped}

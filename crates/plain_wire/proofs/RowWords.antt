@@ -19,8 +19,8 @@ use Rattle.wire_def.specs.declared.fault.FaultKind.{FaultKind}
 use Rattle.wire_def.specs.declared.fault.FaultKind.TheVariants.{Short, BadValue}
 use Rattle.wire_def.specs.Grammar.{Reader, got, stop, then_on, map_got, times}
 use Rattle.wire_def.specs.Scalars.{is_signed, width_of, octets_number, number_of}
-use Rattle.swap_kit.specs.Swapped.{swapped, IsSwapWidth}
-use Rattle.swap_kit.proofs.Swapping.{swapped-first, length-swapped}
+use Rattle.kit_swap.specs.Swapped.{swapped, IsSwapWidth}
+use Rattle.kit_swap.proofs.Swapping.{swapped-first, length-swapped}
 use Rattle.plain_wire.specs.Readers.{read_here}
 use Rattle.plain_wire.specs.Rows.{IsLittle, InImage, IsWay, arranged}
 use Rattle.plain_wire.specs.declared.widths.Way.{Way}

@@ -9,7 +9,7 @@ use Rattle.wire_def.specs.declared.encoding.Encoding.TheVariants.{Xdr, CdrBig}
 use Rattle.wire_def.specs.Scalars.{gap, alignment_of, width_of, number_octets, residue}
 use Rattle.plain_wire.specs.declared.widths.Way.{Way}
 use Rattle.plain_wire.specs.declared.widths.Way.TheVariants.{Copied, Swapped, Single}
-use Rattle.swap_kit.specs.Swapped.{swapped, IsSwapWidth}
+use Rattle.kit_swap.specs.Swapped.{swapped, IsSwapWidth}
 
 -- the octets of a number, without a gap before them
 unfoldable pub bare_octets : Encoding → Kind → ℤ → List ℕ

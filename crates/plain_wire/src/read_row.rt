@@ -7,17 +7,17 @@ ghost use Rattle.mint.specs.Types.{number};
 ghost use Rattle.wire_def.specs.Grammar.{AreOctets, times};
 ghost use Rattle.wire_def.specs.Scalars.{read_scalar};
 ghost use Rattle.plain_wire.specs.Rows.{IsWay, arranged};
-ghost use Rattle.swap_kit.specs.Swapped.{IsSwapWidth, swapped};
+ghost use Rattle.kit_swap.specs.Swapped.{IsSwapWidth, swapped};
 ghost use Rattle.plain_wire.specs.Readers.{numbers_in, read_here, Gives, Reads};
 
 use crate::cursor::{Cursor, ReadError, stop};
 use crate::read_scalar::{number_here, skip};
 use crate::widths::{PIECE, Way, gap_before, way_of};
 use kit_base::NoMemory;
+use kit_swap::swap_numbers;
 use mint::kind::Kind;
 use mint::row::Row;
 use std::alloc::Global;
-use swap_kit::swap_numbers;
 use wire_def::{Encoding, Fault, FaultKind};
 
 /// How many whole numbers of a width the octets hold.

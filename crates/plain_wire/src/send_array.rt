@@ -9,16 +9,16 @@ ghost use Rattle.std.specs.Int.{w8};
 ghost use Rattle.mint.specs.declared.kind.Kind.TheVariants as kind;
 ghost use Rattle.wire_def.specs.Scalars.{scalar_octets};
 ghost use Rattle.wire_def.specs.Arrays.{natural, elements_octets, array_octets};
-ghost use Rattle.swap_kit.specs.Swapped.{IsSwapWidth, swapped};
+ghost use Rattle.kit_swap.specs.Swapped.{IsSwapWidth, swapped};
 ghost use Rattle.plain_wire.specs.Rows.{bare_octets, numbers_octets};
 ghost use Rattle.plain_wire.specs.Sending.{Appends, IsNear, elements_of, ended};
 
 use crate::send_scalar::{put, put_bare, put_row_head, put_text_head, put_zeros};
 use crate::widths::{PIECE, Way, after_row, after_text, gap_before, way_of};
 use kit_base::{NoMemory, Octets};
+use kit_swap::swap_numbers;
 use mint::kind::{Count, Kind};
 use mint::row::Row;
-use swap_kit::swap_numbers;
 use wire_def::Encoding;
 
 /// Puts each number of a row as one octet: its image, as one block.

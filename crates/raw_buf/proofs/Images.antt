@@ -8,8 +8,8 @@ use Rattle.mint.specs.declared.kind.Kind.TheVariants as kind
 use Rattle.mint.specs.Kinds.{width}
 use Rattle.mint.specs.Row.{Numbers, octets_of, number_in, image_of, numbers_in, numbers_of}
 use Rattle.mint.proofs.Images.{octets_many, numbers-none}
-use Rattle.swap_kit.specs.Swapped.{swapped, IsSwapWidth}
-use Rattle.swap_kit.proofs.Swapping.{at_width, swapped-first, swapped-none, swapped-append, length-swapped, swaps_some, whole_runs, swapped-octets}
+use Rattle.kit_swap.specs.Swapped.{swapped, IsSwapWidth}
+use Rattle.kit_swap.proofs.Swapping.{at_width, swapped-first, swapped-none, swapped-append, length-swapped, swaps_some, whole_runs, swapped-octets}
 
 pub image_many : (k : Kind) (ns : List ℤ) → length (image_of k ns) ≡ length ns * width k
 image_many k [] = omega arith

@@ -1,7 +1,7 @@
 -- A message that is read, as its octets, the place where reading is, and what was tested.
 use Rattle.std.specs.Prelude.{ℕ, List, Option, None, Some}
 use Rattle.std.specs.Int.{Width}
-use Rattle.swap_kit.specs.Swapped.{swapped}
+use Rattle.kit_swap.specs.Swapped.{swapped}
 use Rattle.wire_def.specs.declared.head.Order.{Order}
 use Rattle.wire_def.specs.declared.head.Order.TheVariants.{Big, Little}
 use Rattle.wire_def.specs.Orders.{loaded}

@@ -3,15 +3,15 @@
 ghost use Rattle.std.specs.Prelude.{◌≡◌, ◌<◌, ◌≤◌, ◌+◌, ◌-◌, ◌%◌, ◌^◌, [], ◌++◌, length, take, drop, replicate, OnOk, OnErr, IfOk};
 ghost use Rattle.kit_base.specs.Bytes.{written};
 ghost use Rattle.wire_def.specs.Scalars.{gap};
-ghost use Rattle.swap_kit.specs.Swapped.{swapped, IsSwapWidth};
+ghost use Rattle.kit_swap.specs.Swapped.{swapped, IsSwapWidth};
 ghost use Rattle.raw_buf.specs.Buf.{Ensures, moved, stored, rowed, none};
 ghost use Rattle.wire_def.specs.Orders.{IsWidth, in_order};
 
 use crate::Tally;
 use kit_base::NoMemory;
+use kit_swap::swap_numbers;
 use std::alloc::Global;
 use std::marker::Model;
-use swap_kit::swap_numbers;
 use wire_def::Order;
 
 /// A buffer for one message at a time.

@@ -3,7 +3,7 @@
 ghost use Rattle.std.specs.Prelude.{◌≡◌, ◌≤◌, ◌++◌, length, drop};
 ghost use Rattle.mint.specs.Kinds.{width};
 ghost use Rattle.mint.specs.Row.{image_of};
-ghost use Rattle.swap_kit.specs.Swapped.{swapped, IsSwapWidth};
+ghost use Rattle.kit_swap.specs.Swapped.{swapped, IsSwapWidth};
 ghost use Rattle.raw_buf.specs.Buf.{rowed};
 
 use crate::SendBuf;

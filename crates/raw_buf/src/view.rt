@@ -4,16 +4,16 @@ ghost use Rattle.std.specs.Prelude.{◌≡◌, ◌≤◌, ◌+◌, ◌-◌, ◌*
 ghost use Rattle.kit_base.specs.Causes.{raised};
 ghost use Rattle.mint.specs.Kinds.{width};
 ghost use Rattle.mint.specs.Row.{numbers_of};
-ghost use Rattle.swap_kit.specs.Swapped.{swapped, IsSwapWidth};
+ghost use Rattle.kit_swap.specs.Swapped.{swapped, IsSwapWidth};
 ghost use Rattle.wire_def.specs.Orders.{IsWidth, width_in};
 ghost use Rattle.raw_buf.specs.View.{loaded_of, in_little};
 
 use kit_base::NoMemory;
+use kit_swap::swap_numbers;
 use mint::kind::Kind;
 use mint::row::Row;
 use std::alloc::Global;
 use std::marker::Model;
-use swap_kit::swap_numbers;
 use wire_def::Order;
 
 /// A message, and the place where reading is.

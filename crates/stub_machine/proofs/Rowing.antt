@@ -10,9 +10,9 @@ use Rattle.mint.specs.Row.{octets_of, image_of}
 use Rattle.mint.proofs.Images.{octets_many}
 use Rattle.wire_def.specs.declared.head.Order.{Order}
 use Rattle.wire_def.specs.declared.head.Order.TheVariants.{Big, Little}
-use Rattle.swap_kit.specs.Swapped as kit
-use Rattle.swap_kit.proofs.Swapping.{swapped-none}
-use Rattle.swap_kit.proofs.Moving.{put_next}
+use Rattle.kit_swap.specs.Swapped as kit
+use Rattle.kit_swap.proofs.Swapping.{swapped-none}
+use Rattle.kit_swap.proofs.Moving.{put_next}
 use Rattle.raw_buf.specs.declared.tally.Tally.{Tally}
 use Rattle.raw_buf.specs.Buf.{Buf, moved, stored, rowed}
 use Rattle.wire_def.specs.Orders.{in_order}

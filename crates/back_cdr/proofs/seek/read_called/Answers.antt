@@ -1,5 +1,5 @@
 use Rattle.std.proofs.Common.{◌∙◌, refl, sym, ap}
-use Rattle.call_kit.specs.declared.called.Naming.{Naming}
+use Rattle.head_kit.specs.declared.called.Naming.{Naming}
 use Rattle.wire_def.specs.declared.encoding.Encoding.{Encoding}
 use Rattle.giop_head.specs.Items.{laid}
 use Rattle.giop_head.specs.Reported.{request_seen}

@@ -1,6 +1,6 @@
 use Rattle.std.proofs.Common.{◌≡◌, map, ap, length, zero-add}
 use Rattle.aoi.specs.Plain.{PlainUnit, plain_interface}
-use Rattle.call_kit.specs.Calls.{IsBelow}
+use Rattle.head_kit.specs.Calls.{IsBelow}
 use Rattle.back_mach.specs.Routines.{routines}
 use Rattle.back_mach.specs.Seeking.{named_from}
 use Rattle.back_mach.proofs.NamedBelow.{named_below}

@@ -1,5 +1,5 @@
 use Rattle.std.proofs.Common.{refl, sym, ap}
-use Rattle.call_kit.specs.declared.called.Naming.{Naming}
+use Rattle.head_kit.specs.declared.called.Naming.{Naming}
 use Rattle.back_mach.specs.Seeking.{encoding}
 use Rattle.back_mach.proofs.seek.read_called.Goals as goal
 

@@ -1,6 +1,6 @@
 use Rattle.std.proofs.Common.{ℕ, sym, subst, length, zero-add}
-use Rattle.call_kit.specs.declared.called.Naming.{Naming}
-use Rattle.call_kit.specs.Calls.{IsBelow}
+use Rattle.head_kit.specs.declared.called.Naming.{Naming}
+use Rattle.head_kit.specs.Calls.{IsBelow}
 use Rattle.back_xdr.specs.Procedures.{procedures}
 use Rattle.back_xdr.specs.Seeking.{named}
 use Rattle.back_xdr.proofs.NamedBelow.{named_below}

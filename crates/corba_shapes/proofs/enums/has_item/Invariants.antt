@@ -1,5 +1,5 @@
 use Rattle.std.proofs.Common.{◌≡◌, map, drop}
-use Rattle.name_kit.specs.Names.{has}
+use Rattle.idl_names.specs.Names.{has}
 use Rattle.corba_shapes.proofs.enums.has_item.Given as goal
 
 abbrev pub invariant-loop-item : goal.invariant-loop-item

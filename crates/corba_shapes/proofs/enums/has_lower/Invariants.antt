@@ -1,5 +1,5 @@
 use Rattle.std.proofs.Common.{◌≡◌, map, drop}
-use Rattle.name_kit.specs.Names.{has}
+use Rattle.idl_names.specs.Names.{has}
 use Rattle.corba_scopes.specs.Names.{lower}
 use Rattle.corba_shapes.proofs.enums.has_lower.Given as goal
 

@@ -1,5 +1,5 @@
 use Rattle.std.proofs.Common.{◌≡◌, ◌++◌, drop}
-use Rattle.name_kit.specs.Arms.{arms_for, arms_held}
+use Rattle.idl_names.specs.Arms.{arms_for, arms_held}
 use Rattle.corba_shapes.specs.Forms.{form_shape}
 use Rattle.corba_shapes.proofs.unions.add_arms.Given as goal
 

@@ -1,7 +1,7 @@
 use Rattle.std.proofs.Common.{◌≡◌, [], None, drop}
 use Rattle.std.specs.Option.{option_map}
 use Rattle.aoi.specs.Shapes.{seen}
-use Rattle.name_kit.specs.Arms.{arms_held}
+use Rattle.idl_names.specs.Arms.{arms_held}
 use Rattle.corba_shapes.specs.Unions.{cases_on}
 use Rattle.corba_shapes.proofs.unions.cases.Given as goal
 

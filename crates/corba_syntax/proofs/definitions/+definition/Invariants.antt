@@ -1,7 +1,7 @@
 use Rattle.std.proofs.Common.{◌+◌, ◌-◌, ◌*◌, length}
-use Rattle.syntax_kit.specs.Reading.{many}
-use Rattle.syntax_kit.proofs.Loops.{Left}
-use Rattle.corba_exprs.specs.Readers.{is_open}
+use Rattle.idl_read.specs.Reading.{many}
+use Rattle.idl_read.proofs.Loops.{Left}
+use Rattle.idl_exprs.specs.Readers.{is_open}
 use Rattle.corba_syntax.specs.Readers.{definition_at}
 use Rattle.corba_syntax.proofs.definitions.+definition.Given as goal
 

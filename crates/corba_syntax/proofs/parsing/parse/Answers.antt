@@ -1,5 +1,5 @@
 use Rattle.std.proofs.Common.{arith}
-use Rattle.syntax_kit.proofs.Files.{next, shorter, fails_at}
+use Rattle.idl_read.proofs.Files.{next, shorter, fails_at}
 use Rattle.corba_syntax.proofs.DefinitionsRead.{outermost_is, leads_outermost}
 use Rattle.corba_syntax.proofs.parsing.parse.Goals as goal
 

@@ -1,5 +1,5 @@
 use Rattle.std.proofs.Common.{length}
-use Rattle.syntax_kit.proofs.Files.{So}
+use Rattle.idl_read.proofs.Files.{So}
 use Rattle.corba_syntax.specs.Derivation.{outermost}
 use Rattle.corba_syntax.proofs.parsing.parse.Given as goal
 

@@ -1,6 +1,6 @@
 use Rattle.std.proofs.Common.{◌-◌, subst, arith}
 use Rattle.corba_types.proofs.Steps.{stepped}
-use Rattle.syntax_kit.specs.Reading.{Gives}
+use Rattle.idl_read.specs.Reading.{Gives}
 use Rattle.corba_types.proofs.types.+sharing.Goals as goal
 
 pub shared-returns : goal.shared-returns

@@ -2,7 +2,7 @@ use Rattle.std.proofs.Common.{◌∙◌, ap}
 use Rattle.std.specs.Option.{option_map}
 use Rattle.aoi.specs.Shapes.{seen}
 use Rattle.aoi.proofs.Seen.{choice_seen}
-use Rattle.name_kit.specs.Arms.{arms_held}
+use Rattle.idl_names.specs.Arms.{arms_held}
 use Rattle.front_corba.proofs.Copying.{union_copied}
 use Rattle.front_corba.proofs.copies.+copies.Goals as goal
 

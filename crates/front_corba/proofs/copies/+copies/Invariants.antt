@@ -1,6 +1,6 @@
 use Rattle.std.proofs.Common.{◌≡◌, ◌++◌, map, drop}
 use Rattle.aoi.specs.Shapes.{seen_field}
-use Rattle.name_kit.specs.Arms.{arms_held}
+use Rattle.idl_names.specs.Arms.{arms_held}
 use Rattle.front_corba.proofs.copies.+copies.Given as goal
 
 -- the copies so far, and what is left

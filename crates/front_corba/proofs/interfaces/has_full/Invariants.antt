@@ -1,5 +1,5 @@
 use Rattle.std.proofs.Common.{◌≡◌, map, drop}
-use Rattle.name_kit.specs.Names.{has}
+use Rattle.idl_names.specs.Names.{has}
 use Rattle.front_corba.specs.Held.{plain_offering}
 use Rattle.front_corba.specs.Interfaces.{full_names}
 use Rattle.front_corba.proofs.interfaces.has_full.Given as goal

@@ -1,5 +1,5 @@
 use Rattle.std.proofs.Common.{◌≡◌, ◌++◌, drop}
-use Rattle.name_kit.specs.Arms.{arms_held, arms_for}
+use Rattle.idl_names.specs.Arms.{arms_held, arms_for}
 use Rattle.front_onc.specs.Unions.{arm_shape}
 use Rattle.front_onc.proofs.unions.add_arms.Given as goal
 

@@ -1,5 +1,5 @@
 use Rattle.std.proofs.Common.{◌≡◌, [], drop}
-use Rattle.name_kit.specs.Arms.{arms_held}
+use Rattle.idl_names.specs.Arms.{arms_held}
 use Rattle.front_onc.specs.Unions.{cases_on}
 use Rattle.front_onc.proofs.unions.cases.Given as goal
 

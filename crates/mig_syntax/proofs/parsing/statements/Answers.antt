@@ -1,5 +1,5 @@
 use Rattle.std.proofs.Common.{arith}
-use Rattle.syntax_kit.proofs.Files.{next, shorter, fails_at}
+use Rattle.idl_read.proofs.Files.{next, shorter, fails_at}
 use Rattle.mig_syntax.proofs.StatementsRead.{statement_is, leads_statement}
 use Rattle.mig_syntax.proofs.parsing.statements.Goals as goal
 

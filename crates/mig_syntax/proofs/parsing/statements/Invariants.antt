@@ -1,5 +1,5 @@
 use Rattle.std.proofs.Common.{length}
-use Rattle.syntax_kit.proofs.Files.{So}
+use Rattle.idl_read.proofs.Files.{So}
 use Rattle.mig_syntax.specs.Derivation.{statement}
 use Rattle.mig_syntax.proofs.parsing.statements.Given as goal
 

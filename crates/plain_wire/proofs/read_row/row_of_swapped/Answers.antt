@@ -2,8 +2,8 @@ use Rattle.std.proofs.Common.{ap, ◌∙◌, sym, arith, ◌++◌, take, drop, [
 use Rattle.mint.specs.Kinds.{width}
 use Rattle.mint.specs.Row.{Numbers, numbers_of}
 use Rattle.mint.proofs.Images.{numbers-none}
-use Rattle.swap_kit.specs.Swapped.{swapped}
-use Rattle.swap_kit.proofs.Swapping.{swapped-none}
+use Rattle.kit_swap.specs.Swapped.{swapped}
+use Rattle.kit_swap.proofs.Swapping.{swapped-none}
 use Rattle.plain_wire.proofs.RowImages.{piece_turned}
 use Rattle.plain_wire.proofs.RowWords.{numbers_piece, same_row}
 use Rattle.plain_wire.proofs.read_row.row_of_swapped.Goals as goal

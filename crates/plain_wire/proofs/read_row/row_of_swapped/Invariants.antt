@@ -1,7 +1,7 @@
 use Rattle.std.proofs.Common.{◌≡◌, ◌%◌, ◌++◌, length}
 use Rattle.mint.specs.Kinds.{width}
 use Rattle.mint.specs.Row.{numbers_of}
-use Rattle.swap_kit.specs.Swapped.{swapped}
+use Rattle.kit_swap.specs.Swapped.{swapped}
 use Rattle.plain_wire.proofs.read_row.row_of_swapped.Given as goal
 
 abbrev pub invariant-loop-rest : goal.invariant-loop-rest

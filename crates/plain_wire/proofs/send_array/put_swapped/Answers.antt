@@ -1,6 +1,6 @@
 use Rattle.std.proofs.Common.{ap, ◌∙◌, sym, arith, ◌++◌, length, length-append, take, drop, ℕ, [], ◌≡◌, drop_of_length-le, append-nil}
-use Rattle.swap_kit.specs.Swapped.{swapped}
-use Rattle.swap_kit.proofs.Swapping.{swapped-none}
+use Rattle.kit_swap.specs.Swapped.{swapped}
+use Rattle.kit_swap.proofs.Swapping.{swapped-none}
 use Rattle.plain_wire.proofs.Steps.{breaks, goes_on}
 use Rattle.plain_wire.proofs.RowImages.{piece_turned}
 use Rattle.plain_wire.proofs.send_array.put_swapped.Goals as goal

@@ -1,5 +1,5 @@
 use Rattle.std.proofs.Common.{◌≡◌, ◌≤◌, ◌+◌, ◌%◌, ◌++◌, length}
-use Rattle.swap_kit.specs.Swapped.{swapped}
+use Rattle.kit_swap.specs.Swapped.{swapped}
 use Rattle.plain_wire.proofs.send_array.put_swapped.Given as goal
 
 abbrev pub invariant-loop-rest : goal.invariant-loop-rest

@@ -2,7 +2,7 @@ use Rattle.std.proofs.Common.{◌≡◌, ◌+◌, ◌%◌, ◌-◌, ◌∙◌, a
 use Rattle.mint.specs.Kinds.{width}
 use Rattle.mint.specs.Row.{Numbers}
 use Rattle.mint.specs.declared.kind.Kind.{Kind}
-use Rattle.swap_kit.specs.Swapped.{IsSwapWidth}
+use Rattle.kit_swap.specs.Swapped.{IsSwapWidth}
 use Rattle.raw_buf.proofs.Images.{turned_start, turned_end, turned_more, block_whole, block_next, zero_start}
 use Rattle.raw_buf.proofs.view.turned_row.Goals as goal
 

@@ -1,7 +1,7 @@
 use Rattle.std.proofs.Common.{◌≡◌, ◌≤◌, ◌%◌, ◌-◌, length, take}
 use Rattle.mint.specs.Kinds.{width}
 use Rattle.mint.specs.Row.{numbers_of}
-use Rattle.swap_kit.specs.Swapped.{swapped}
+use Rattle.kit_swap.specs.Swapped.{swapped}
 use Rattle.raw_buf.proofs.view.turned_row.Given as goal
 
 abbrev pub invariant-loop-at : goal.invariant-loop-at

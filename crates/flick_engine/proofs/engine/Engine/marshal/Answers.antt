@@ -1,6 +1,6 @@
 use Rattle.std.proofs.Common.{subst}
 use Rattle.mint.specs.Values.{seen}
-use Rattle.op_codes.specs.Stubs.{Coded, IsCoveredRequest, IsSparingRequest}
+use Rattle.stub_codes.specs.Stubs.{Coded, IsCoveredRequest, IsSparingRequest}
 use Rattle.flick_engine.proofs.engine.Engine.marshal.Goals as goal
 
 pub returns-in-Ok-clause-cost : goal.returns-in-Ok-clause-cost

@@ -4,7 +4,7 @@ use Rattle.std.proofs.lemmas.Int.{to_z-of_z}
 use Rattle.mint.specs.declared.kind.Kind.TheVariants as kind
 use Rattle.mint.specs.Kinds.{in_range}
 use Rattle.mint.specs.Values.{Val, seen}
-use Rattle.op_codes.specs.Stubs.{Coded, IsCoveredReply, IsSparingReply}
+use Rattle.stub_codes.specs.Stubs.{Coded, IsCoveredReply, IsSparingReply}
 use Rattle.flick_engine.specs.Costs.{IsCoveredAnswer, IsSparingAnswer}
 use Rattle.flick_engine.specs.Replies.{reply_type}
 use Rattle.flick_engine.proofs.Arming.{no_arm, no_word, put_arm}

@@ -5,7 +5,7 @@ use Rattle.pres.specs.Offers.{type_faces}
 use Rattle.flick_engine.specs.Replies.{IsChoice}
 use Rattle.flick_engine.proofs.Arming.{reply_choice}
 use Rattle.flick_engine.proofs.ArmsReported.{reported_arm}
-use Rattle.op_codes.proofs.ReplyTypes.{are_the_replies}
+use Rattle.stub_codes.proofs.ReplyTypes.{are_the_replies}
 use Rattle.flick_engine.proofs.engine.Engine.replies_tell_arms.Goals as goal
 
 pub returns-clause-choice : goal.returns-clause-choice

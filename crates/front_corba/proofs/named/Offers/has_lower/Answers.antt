@@ -1,5 +1,5 @@
 use Rattle.std.proofs.Common.{◌∙◌, map, ap}
-use Rattle.name_kit.specs.Names.{has}
+use Rattle.idl_names.specs.Names.{has}
 use Rattle.corba_scopes.specs.Names.{lower}
 use Rattle.front_corba.specs.Held.{plain_offer}
 use Rattle.front_corba.specs.Offers.{offer_names}

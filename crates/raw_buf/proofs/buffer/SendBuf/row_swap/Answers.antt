@@ -1,7 +1,7 @@
 use Rattle.std.proofs.Common.{◌≡◌, ◌%◌, ◌++◌, ap, ◌∙◌, length, take, drop, arith}
 use Rattle.mint.specs.Kinds.{width}
 use Rattle.mint.specs.Row.{image_of}
-use Rattle.swap_kit.specs.Swapped.{swapped}
+use Rattle.kit_swap.specs.Swapped.{swapped}
 use Rattle.raw_buf.proofs.Images.{image_whole, swapped_fits, swapped_done, swapped_left}
 use Rattle.raw_buf.proofs.buffer.SendBuf.row_swap.Goals as goal
 

@@ -1,7 +1,7 @@
 use Rattle.std.proofs.Common.{length, arith}
 use Rattle.std.proofs.lemmas.Grind.{common_steps}
-use Rattle.swap_kit.specs.Swapped.{swapped}
-use Rattle.swap_kit.proofs.Swapping.{length-swapped}
+use Rattle.kit_swap.specs.Swapped.{swapped}
+use Rattle.kit_swap.proofs.Swapping.{length-swapped}
 use Rattle.raw_buf.proofs.Views.{front-written_first}
 use Rattle.raw_buf.proofs.buffer.SendBuf.store_swapped.Goals as goal
 

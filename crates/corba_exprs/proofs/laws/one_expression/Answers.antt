@@ -1,5 +1,0 @@
-use Rattle.corba_exprs.proofs.ExpressionsRead.{one_only}
-use Rattle.corba_exprs.proofs.laws.one_expression.Goals as goal
-
-pub returns : goal.returns
-returns c = one_only

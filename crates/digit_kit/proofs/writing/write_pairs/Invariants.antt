@@ -1,7 +1,0 @@
-use Rattle.std.proofs.Common.{◌≡◌, ◌*◌, ◌++◌, take, drop}
-use Rattle.hex.specs.Hex.{encode_lower}
-use Rattle.digit_kit.proofs.writing.write_pairs.Given as goal
-
--- The digits so far, and those of the octets that are left, are all.
-abbrev pub invariant-loop-i : goal.invariant-loop-i
-invariant-loop-i l = take (2 * l.i) l.digits ++ encode_lower (drop l.i l.octets) ≡ encode_lower l.octets

@@ -1,0 +1,12 @@
+use Rattle.std.proofs.Common.{◌∙◌, sym, length, arith}
+use Rattle.idl_read.specs.Reading.{begins_with, mark_is, mark_at, after, joined_at}
+use Rattle.idl_read.proofs.Loops.{goes_on}
+use Rattle.idl_read.proofs.items.joined.Goals as goal
+
+pub items-preserved : goal.items-preserved
+items-preserved g c =
+    let at = g.T.Production.at in
+    rw c.in_ok-push-2.ensures.ok (goes_on (begins_with (mark_is c.args.between.now)) (after (mark_at c.args.between.now) at)
+    (length c.in_ok-first.rest.now) c.items.counter c.items.items c.items.rest.now (joined_at c.args.between.now at c.args.tokens.now)
+    c.in_ok-item.item c.in_ok-item.tail.now c.items.invariant (omega arith) (sym c.begins_mark.ensures ∙ c.if-not-begins_mark.false)
+    c.in_ok-item.ensures)

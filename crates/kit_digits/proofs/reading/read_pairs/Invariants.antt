@@ -1,0 +1,9 @@
+use Rattle.std.proofs.Common.{◌≡◌, ◌*◌, take, drop}
+use Rattle.hex.specs.Hex.{decode_pairs}
+use Rattle.hex.proofs.Pairs.{prepend}
+use Rattle.kit_digits.proofs.reading.read_pairs.Given as goal
+
+-- The octets so far, and those of the digits that are left, are all.
+abbrev pub invariant-loop-i : goal.invariant-loop-i
+invariant-loop-i l =
+    decode_pairs 0 l.digits ≡ prepend (take l.i l.octets) (decode_pairs (2 * l.i) (drop (2 * l.i) l.digits))

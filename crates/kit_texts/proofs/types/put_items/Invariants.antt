@@ -1,8 +1,0 @@
-use Rattle.std.proofs.Common.{◌≡◌, ℕ, List, [], ◌++◌, drop}
-use Rattle.kit_texts.specs.TypeText.{items_text}
-use Rattle.kit_texts.proofs.types.put_items.Given as goal
-
--- what is put, and what is left
-abbrev pub invariant-loop-name : goal.invariant-loop-name
-invariant-loop-name l = (rest : List ℕ) → l.fn.out ++ items_text [] l.items rest
-    ≡ l.out ++ items_text l.mark (drop l.name-index l.items) rest

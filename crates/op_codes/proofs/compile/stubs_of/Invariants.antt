@@ -1,6 +1,0 @@
-use Rattle.std.proofs.Common.{◌≡◌, length}
-use Rattle.op_codes.specs.Stubs.{AreStubs}
-use Rattle.op_codes.proofs.compile.stubs_of.Given as goal
-
-abbrev pub invariant-loop-i : goal.invariant-loop-i
-invariant-loop-i l = record { many : length l.stubs ≡ l.i; each : AreStubs l.bound l.stubs }

@@ -1,6 +1,0 @@
-use Rattle.std.proofs.Common.{◌≡◌, drop}
-use Rattle.cast_stub.specs.Into.{all_zero}
-use Rattle.recv_machine.proofs.skips.are_zeros.Given as goal
-
-abbrev pub invariant-loop-octet : goal.invariant-loop-octet
-invariant-loop-octet l = all_zero l.octets ≡ all_zero (drop l.octet-index l.octets)

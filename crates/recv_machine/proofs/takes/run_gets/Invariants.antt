@@ -1,9 +1,0 @@
-use Rattle.std.proofs.Common.{◌≡◌, drop}
-use Rattle.cast_stub.specs.Fill.{all_got}
-use Rattle.recv_machine.specs.Drawn.{drawn}
-use Rattle.recv_machine.specs.Ran.{place_of}
-use Rattle.recv_machine.proofs.takes.run_gets.Given as goal
-
-abbrev pub invariant-loop-get : goal.invariant-loop-get
-invariant-loop-get l = all_got l.get-items (drawn l.mint l.fn.draft) (place_of l.view)
-    ≡ all_got (drop l.get-index l.get-items) (drawn l.mint l.draft) (place_of l.view)

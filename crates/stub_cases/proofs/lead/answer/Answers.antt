@@ -1,5 +1,0 @@
-use Rattle.stub_cases.proofs.Readying.{answer_ready}
-use Rattle.stub_cases.proofs.lead.answer.Goals as goal
-
-pub returns : goal.returns
-returns c = answer_ready c.lead_reply.result c.lead_reply.ensures.means c.lead_reply.ensures.chunks

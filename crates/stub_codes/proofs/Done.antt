@@ -1,0 +1,90 @@
+-- What a run of an operation's code has done, as it is promised of the operation.
+use Rattle.std.proofs.Common.{◌≡◌, ℕ, ◌+◌, ◌<◌, ◌≤◌, List, length, Option, None, Some, option_map, Result, Ok, Err, OnOk, slice_get, sym, ap, subst, ◌∙◌, arith}
+use Rattle.kit_base.specs.Limits.{longest_message}
+use Rattle.mint.specs.Values.{Val}
+use Rattle.wire_def.specs.declared.head.Head.{Head}
+use Rattle.raw_buf.specs.declared.tally.Tally.{Tally}
+use Rattle.cast_stub.specs.declared.send.SendCode.{SendCode}
+use Rattle.cast_stub.specs.Meaning.{cost, AreCovered}
+use Rattle.cast_stub.specs.Parts.{on_some}
+use Rattle.cast_stub.specs.Subs.{sent_steps}
+use Rattle.stub_machine.specs.Sending.{paid, IsLong}
+use Rattle.pres.specs.Bindings.{Binding}
+use Rattle.stub_codes.specs.declared.stub.Stub.{Stub}
+use Rattle.stub_codes.specs.Backs.{reply_lead}
+use Rattle.stub_codes.specs.Replies.{HasArm, arm_type}
+use Rattle.stub_codes.specs.Sending.{Sends}
+use Rattle.stub_codes.specs.Stubs.{IsStub, sent_cost, reply_code_at, reply_cost}
+use Rattle.stub_codes.proofs.Following.{some_same}
+
+-- ---- sending
+
+module _ {A E : Type 0} (r : Result A E) where
+  -- what was appended is what the code means
+  pub sent_is : (x : Option (List ℕ)) (d m : List ℕ) → x ≡ Some m → OnOk r (x ≡ Some d) → OnOk r (d ≡ m)
+  sent_is x d m means = by_case r where
+    by_case : (y : Result A E) → OnOk y (x ≡ Some d) → OnOk y (d ≡ m)
+    by_case (Ok a) h = some_same d m (sym h ∙ means)
+    by_case (Err e) h = tt
+
+  pub sent_short : (x : Option (List ℕ)) (d m : List ℕ) (n : ℕ) → x ≡ Some m → OnOk r (x ≡ Some d) → OnOk r (length d ≤ n)
+      → OnOk r (length m ≤ n)
+  sent_short x d m n means = by_case r where
+    by_case : (y : Result A E) → OnOk y (x ≡ Some d) → OnOk y (length d ≤ n) → OnOk y (length m ≤ n)
+    by_case (Ok a) h few = subst (λ (o : List ℕ). length o ≤ n) (some_same d m (sym h ∙ means)) few
+    by_case (Err e) h few = tt
+
+  -- the cost of the operation's code
+  pub sent_paid : (stubs : List Stub) (op : ℕ) (s : Stub) (h : Head) (v : Val) (t u : Tally) → slice_get stubs op ≡ Some s
+      → OnOk r (option_map (paid t) (cost s.send h v) ≡ Some u) → OnOk r (option_map (paid t) (sent_cost stubs op h v) ≡ Some u)
+  sent_paid stubs op s h v t u found ran =
+      subst (λ (x : Option Stub). OnOk r (option_map (paid t) (on_some x (λ (y : Stub). cost y.send h v)) ≡ Some u)) (sym found) ran
+
+  -- that of the arm's code
+  pub reply_paid : (stubs : List Stub) (op k : ℕ) (s : SendCode) (h : Head) (v : Val) (t u : Tally) → reply_code_at stubs op k ≡ Some s
+      → OnOk r (option_map (paid t) (cost s h v) ≡ Some u) → OnOk r (option_map (paid t) (reply_cost stubs op k h v) ≡ Some u)
+  reply_paid stubs op k s h v t u found ran =
+      subst (λ (x : Option SendCode). OnOk r (option_map (paid t) (on_some x (λ (y : SendCode). cost y h v)) ≡ Some u)) (sym found) ran
+
+-- ---- room
+
+-- the code of an operation covers its request
+pub request_covered : (stubs : List Stub) (op : ℕ) (s : Stub) (h : Head) (v : Val) → slice_get stubs op ≡ Some s
+    → AreCovered (sent_steps s.send h v) 0 → AreCovered (on_some (slice_get stubs op) (λ (y : Stub). sent_steps y.send h v)) 0
+request_covered stubs op s h v found is =
+    subst (λ (x : Option Stub). AreCovered (on_some x (λ (y : Stub). sent_steps y.send h v)) 0) (sym found) is
+
+-- that of an arm its reply
+pub reply_covered : (stubs : List Stub) (op k : ℕ) (s : SendCode) (h : Head) (v : Val) → reply_code_at stubs op k ≡ Some s
+    → AreCovered (sent_steps s h v) 0 → AreCovered (on_some (reply_code_at stubs op k) (λ (y : SendCode). sent_steps y h v)) 0
+reply_covered stubs op k s h v found is =
+    subst (λ (x : Option SendCode). AreCovered (on_some x (λ (y : SendCode). sent_steps y h v)) 0) (sym found) is
+
+-- ---- when it is too long
+
+pub sent_long : (x : Option (List ℕ)) (m : List ℕ) → x ≡ Some m → IsLong 0 x → longest_message < length m
+sent_long x m means long =
+    let more : 4194304 < 0 + length m = subst (IsLong 0) means long in
+    omega (arith, more)
+
+-- ---- the code of an arm
+
+-- it stands at the arm's place of the operation's codes
+pub kept_at : (stubs : List Stub) (op k : ℕ) (s : Stub) (code : SendCode) → slice_get stubs op ≡ Some s
+    → slice_get s.replies k ≡ Some code → reply_code_at stubs op k ≡ Some code
+kept_at stubs op k s code found there = ap (λ (x : Option Stub). on_some x (λ (y : Stub). slice_get y.replies k)) found ∙ there
+
+-- and sends the replies with the arm
+pub kept_is : (b : Binding) (op k : ℕ) (s : Stub) (code : SendCode) → IsStub b op s → HasArm b op k
+    → slice_get s.replies k ≡ Some code → Sends b.back (reply_lead b op k) (arm_type b op k) code
+kept_is b op k s code is has there =
+    let (kept, found, sends) = is.replies k has in
+    subst (λ (x : SendCode). Sends b.back (reply_lead b op k) (arm_type b op k) x) (some_same kept code (sym found ∙ there)) sends
+
+-- there is one
+pub none_kept : (b : Binding) (op k : ℕ) (s : Stub) → IsStub b op s → HasArm b op k → slice_get s.replies k ≡ None → ⊥
+none_kept b op k s is has none =
+    let (kept, found, sends) = is.replies k has in
+    never_none kept (slice_get s.replies k) found none where
+      never_none : (x : SendCode) (y : Option SendCode) → y ≡ Some x → y ≡ None → ⊥
+      never_none x y e f = let same = sym e ∙ f in absurd cc

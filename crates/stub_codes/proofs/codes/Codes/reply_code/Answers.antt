@@ -1,0 +1,17 @@
+use Rattle.std.proofs.Common.{◌∙◌, sym, ap}
+use Rattle.std.specs.Option.{option_copied}
+use Rattle.stub_codes.proofs.Done.{kept_at, kept_is, none_kept}
+use Rattle.stub_codes.proofs.codes.Codes.reply_code.Goals as goal
+
+pub unreachable-requires : goal.unreachable-requires
+unreachable-requires c =
+    none_kept c.args.self.now.binding c.args.op c.args.arm c.stub.result.now c.stub.ensures.is c.requires.arm
+    (sym c.get.ensures ∙ ap option_copied c.in-None.is)
+
+pub returns-clause-found : goal.returns-clause-found
+returns-clause-found c = kept_at c.args.self.now.stubs c.args.op c.args.arm c.stub.result.now c.in-Some.code.now c.stub.ensures.found
+    (sym c.in-Some.ensures)
+
+pub returns-clause-sends : goal.returns-clause-sends
+returns-clause-sends c = kept_is c.args.self.now.binding c.args.op c.args.arm c.stub.result.now c.in-Some.code.now c.stub.ensures.is
+    c.requires.arm (sym c.in-Some.ensures)

@@ -1,0 +1,6 @@
+use Rattle.std.proofs.Common.{◌≡◌, length}
+use Rattle.stub_codes.specs.Stubs.{AreStubs}
+use Rattle.stub_codes.proofs.compile.stubs_of.Given as goal
+
+abbrev pub invariant-loop-i : goal.invariant-loop-i
+invariant-loop-i l = record { many : length l.stubs ≡ l.i; each : AreStubs l.bound l.stubs }

@@ -1,0 +1,77 @@
+use Rattle.std.proofs.Common.{◌<◌, length, IfOk, sym, subst, arith}
+use Rattle.mint.specs.Types.{type_at}
+use Rattle.wire_def.specs.declared.encoding.Encoding.{Encoding}
+use Rattle.copy_inline.specs.Rows.{GivesBlocks}
+use Rattle.copy_inline.specs.Rows as rows
+use Rattle.hoist.specs.Pass.{IsSparing}
+use Rattle.stub_codes.proofs.Kept.{sends_made}
+use Rattle.stub_codes.proofs.Meant.{IsReady, is_given, rows_given, made, is_framed}
+use Rattle.stub_codes.proofs.sending.sending.Goals as goal
+
+pub inline-requires-clause-id : goal.inline-requires-clause-id
+inline-requires-clause-id c = omega (arith, c.requires.id, c.requires.lowered.many)
+
+pub inline-requires-clause-types : goal.inline-requires-clause-types
+inline-requires-clause-types c = (c.args.mint.now, c.types_are_sound.ensures, c.requires.lowered.follows)
+
+pub hoist-requires-clause-given : goal.hoist-requires-clause-given
+hoist-requires-clause-given c =
+    let known : c.args.id < length c.args.low.now.sends = omega (arith, c.requires.id, c.requires.lowered.many) in
+    let ready : IsReady c.args.back c.args.mint.now c.args.id c.args.low.now.sends c.args.lead c.in_ok-body.body
+    c.in_ok-given.given = record {
+      sound = c.types_are_sound.ensures c.args.id;
+      known = known;
+      sends = c.requires.lowered.sends;
+      follows = c.requires.lowered.follows;
+      chunks = c.requires.chunks;
+      does = c.in_ok-body.ensures.steps;
+      goes = c.in_ok-body.ensures.follows;
+      none = c.in_ok-body.ensures.subs;
+      whole = c.in_ok-given.ensures;
+    } in
+    is_given c.args.back c.args.mint.now c.args.id c.args.low.now.sends c.args.lead c.in_ok-body.body c.in_ok-given.given ready
+
+pub rows-requires-clause-given : goal.rows-requires-clause-given
+rows-requires-clause-given c =
+    let known : c.args.id < length c.args.low.now.sends = omega (arith, c.requires.id, c.requires.lowered.many) in
+    let ready : IsReady c.args.back c.args.mint.now c.args.id c.args.low.now.sends c.args.lead c.in_ok-body.body
+    c.in_ok-given.given = record {
+      sound = c.types_are_sound.ensures c.args.id;
+      known = known;
+      sends = c.requires.lowered.sends;
+      follows = c.requires.lowered.follows;
+      chunks = c.requires.chunks;
+      does = c.in_ok-body.ensures.steps;
+      goes = c.in_ok-body.ensures.follows;
+      none = c.in_ok-body.ensures.subs;
+      whole = c.in_ok-given.ensures;
+    } in
+    subst (λ (e : Encoding). rows.IsGiven e (type_at c.args.mint.now c.args.id) c.in_ok-code.code) (sym c.encoding_of.ensures)
+    (rows_given c.args.back c.args.mint.now c.args.id c.args.low.now.sends c.args.lead c.in_ok-body.body c.in_ok-given.given ready
+    c.in_ok-body.ensures.turned c.requires.lowered.turned c.in_ok-code.code c.in_ok-code.ensures.adds c.in_ok-code.ensures.rows
+    c.in_ok-code.ensures.subs)
+
+pub returns : goal.returns
+returns c =
+    let known : c.args.id < length c.args.low.now.sends = omega (arith, c.requires.id, c.requires.lowered.many) in
+    let t = type_at c.args.mint.now c.args.id in
+    let ready : IsReady c.args.back c.args.mint.now c.args.id c.args.low.now.sends c.args.lead c.in_ok-body.body
+    c.in_ok-given.given = record {
+      sound = c.types_are_sound.ensures c.args.id;
+      known = known;
+      sends = c.requires.lowered.sends;
+      follows = c.requires.lowered.follows;
+      chunks = c.requires.chunks;
+      does = c.in_ok-body.ensures.steps;
+      goes = c.in_ok-body.ensures.follows;
+      none = c.in_ok-body.ensures.subs;
+      whole = c.in_ok-given.ensures;
+    } in
+    sends_made c.args.back t c.args.lead c.in_ok-given.given c.in_ok-code.code
+    (made c.args.back c.args.mint.now c.args.id c.args.low.now.sends c.args.lead c.in_ok-body.body c.in_ok-given.given ready)
+    (is_framed c.args.back c.args.mint.now c.args.id c.args.low.now.sends c.args.lead c.in_ok-body.body c.in_ok-given.given ready)
+    c.in_ok-code.ensures.same c.in_ok-code.ensures.covered
+    (subst (λ (e : Encoding). IsSparing e t c.in_ok-given.given c.in_ok-code.code) c.requires.lowered.enc c.in_ok-code.ensures.sparing)
+    c.rows.result c.rows.ensures.same c.rows.ensures.covered c.rows.ensures.checks
+    (subst (λ (e : Encoding). IfOk c.rows.result (λ r. GivesBlocks e t r)) c.encoding_of.ensures c.rows.ensures.blocks)
+    c.rows.ensures.calls c.rows.ensures.subs

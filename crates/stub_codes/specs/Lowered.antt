@@ -1,0 +1,39 @@
+-- What is lowered once for a table, before the codes of operations are made of it.
+use Rattle.std.specs.Prelude.{◌≡◌, List, length, Option, None, Some}
+use Rattle.mint.specs.declared.node.Node.{Node}
+use Rattle.wire_def.specs.declared.encoding.Back.{Back}
+use Rattle.wire_def.specs.declared.encoding.Encoding.{Encoding}
+use Rattle.cast_stub.specs.declared.recv.RecvOp.{RecvOp}
+use Rattle.cast_stub.specs.Follows.{AllFollow}
+use Rattle.cast_stub.specs.Layouts.{layout_of}
+use Rattle.cast_stub.specs.Traces as received
+use Rattle.cast_stub.specs.Turned.{AllTurned}
+use Rattle.storage_class.specs.Spans.{AreClasses}
+use Rattle.stub_lower.specs.Lowered.{CodesSend}
+use Rattle.stub_lower.specs.RecvLowered.{CodesReceive}
+use Rattle.stub_codes.specs.declared.lowered.Lowered.{Lowered}
+use Rattle.stub_codes.specs.Backs.{encoding, other_encoding}
+
+-- the codes of nodes that receive over an encoding
+pub record AreReceivers (e : Encoding) (nodes : List Node) (subs : List (List RecvOp)) : Type 0 where
+  pub many : length subs ≡ length nodes
+  pub sound : CodesReceive e nodes subs
+  pub traces : received.AllTrace nodes subs
+  pub turned : received.AllTurned (layout_of e) nodes subs
+
+-- those over another encoding, where there is one, and none where there is none
+abbrev pub AreOthers : Option Encoding → List Node → Option (List (List RecvOp)) → Type 0
+AreOthers None nodes None = Unit {0}
+AreOthers (Some e) nodes (Some subs) = AreReceivers e nodes subs
+AreOthers _ nodes _ = ⊥
+
+-- the codes of nodes that send and receive over a back end, and how long the nodes are
+pub record AreLowered (k : Back) (nodes : List Node) (low : Lowered) : Type 0 where
+  pub many : length low.sends ≡ length nodes
+  pub sends : CodesSend (encoding k) nodes low.sends
+  pub follows : AllFollow nodes low.sends
+  pub turned : AllTurned (layout_of (encoding k)) nodes low.sends
+  pub enc : low.classes.enc ≡ encoding k
+  pub classes : AreClasses nodes low.classes
+  pub recvs : AreReceivers (encoding k) nodes low.recvs
+  pub others : AreOthers (other_encoding k) nodes low.others

@@ -1,0 +1,51 @@
+//! The code that receives the values of a node.
+
+ghost use Rattle.std.specs.Prelude.{◌<◌, length, IfOk};
+ghost use Rattle.mint.specs.Types.{type_at};
+ghost use Rattle.stub_codes.specs.Lowered.{AreOthers, AreReceivers};
+ghost use Rattle.stub_codes.specs.Receiving.{Receives, ReceivesOther};
+
+use cast_stub::{RecvCode, RecvSubs};
+use copy_inline::{inline_recv, rows_recv};
+use kit_base::NoMemory;
+use mint::table::{Mint, NodeId};
+use std::alloc::Global;
+use wire_def::Encoding;
+
+/// The code that receives the values of a node over an encoding: inlined, its rows as blocks.
+pub(crate) fn receiving(
+    alloc: Global,
+    enc: Encoding,
+    subs: &RecvSubs,
+    mint: &Mint,
+    id: NodeId,
+) -> Result<RecvCode, NoMemory>
+    requires id { id < length mint.now }
+    requires subs { AreReceivers enc mint.now subs.now }
+    ensures { IfOk result (λ code. Receives enc (type_at mint.now id) code) }
+{
+    mint.types_are_sound();
+    let flat = inline_recv(alloc, subs, id)?;
+    rows_recv(alloc, enc, &flat, mint, id)
+}
+
+/// The same over another encoding, where there is one.
+pub(crate) fn receiving_other(
+    alloc: Global,
+    other: Option<Encoding>,
+    subs: &Option<RecvSubs>,
+    mint: &Mint,
+    id: NodeId,
+) -> Result<Option<RecvCode>, NoMemory>
+    requires id { id < length mint.now }
+    requires subs { AreOthers other mint.now subs.now }
+    ensures { IfOk result (λ code. ReceivesOther other (type_at mint.now id) code) }
+{
+    match other {
+        Some(enc) => match subs {
+            Some(subs) => Ok(Some(receiving(alloc, enc, subs, mint, id)?)),
+            None => unreachable!(),
+        },
+        None => Ok(None),
+    }
+}

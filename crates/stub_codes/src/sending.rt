@@ -1,0 +1,54 @@
+//! The code that sends the messages of a head and of the values of a node.
+
+ghost use Rattle.std.specs.Prelude.{◌<◌, length, IfOk};
+ghost use Rattle.mint.specs.Types.{type_at};
+ghost use Rattle.stub_lower.specs.Leads.{AreChunks};
+ghost use Rattle.stub_codes.specs.Lowered.{AreLowered};
+ghost use Rattle.stub_codes.specs.Sending.{IsWhole, SendsAfter};
+
+use crate::backs::{encoding_of, put_tail};
+use crate::lowered::Lowered;
+use cast_stub::copies::put_copies;
+use cast_stub::{SendCode, SendSubs};
+use copy_inline::{inline, rows};
+use hoist::hoist;
+use kit_base::NoMemory;
+use mint::table::{Mint, NodeId};
+use std::alloc::Global;
+use wire_def::Back;
+
+/// The operations of a head, those of a body, and what states the length.
+#[tactic(auto, using(crate::proofs::Wholes::wholes))]
+fn whole(alloc: Global, back: Back, lead: SendCode, body: &SendCode) -> Result<SendCode, NoMemory>
+    ensures { IfOk result (λ code. IsWhole back lead body.now code) }
+{
+    let mut ops = lead.ops;
+    put_copies(alloc, &body.ops, &mut ops)?;
+    put_tail(back, &mut ops)?;
+    Ok(SendCode {
+        ops,
+        subs: SendSubs::new(alloc),
+    })
+}
+
+/// The code that sends the messages of a head and of the values of a node: inlined, its room ensured, its rows as
+/// blocks.
+pub(crate) fn sending(
+    alloc: Global,
+    back: Back,
+    lead: SendCode,
+    low: &Lowered,
+    mint: &Mint,
+    id: NodeId,
+) -> Result<SendCode, NoMemory>
+    requires id { id < length mint.now }
+    requires lowered { AreLowered back mint.now low.now }
+    requires chunks { AreChunks lead }
+    ensures { IfOk result (λ code. SendsAfter back lead (type_at mint.now id) code) }
+{
+    mint.types_are_sound();
+    let body = inline(alloc, &low.sends, id)?;
+    let given = whole(alloc, back, lead, &body)?;
+    let code = hoist(alloc, &given, mint, id, &low.classes)?;
+    rows(alloc, encoding_of(back), &code, mint, id)
+}

@@ -1,6 +1,0 @@
-use Rattle.std.proofs.Common.{◌≡◌, ◌*◌}
-use Rattle.swap_kit.specs.Swapped.{swapped_to}
-use Rattle.swap_kit.proofs.swap.swap_vectors.Given as goal
-
-abbrev pub invariant-loop-vector : goal.invariant-loop-vector
-invariant-loop-vector l = l.out ≡ swapped_to l.width (l.vector * 16) l.image l.initial.out

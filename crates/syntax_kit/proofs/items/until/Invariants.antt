@@ -1,9 +1,0 @@
-use Rattle.std.proofs.Common.{length, ◌-◌}
-use Rattle.syntax_kit.specs.Reading.{begins_other, mark_is, until_at}
-use Rattle.syntax_kit.proofs.Loops.{Left}
-use Rattle.syntax_kit.proofs.items.until.Given as goal
-
-abbrev pub invariant-items : goal.invariant-items
-invariant-items g l =
-    let at = g.T.Production.at in
-    Left (begins_other (mark_is l.close)) at (length l.tokens - l.counter) l.items l.rest (until_at l.close at l.fn.tokens)
