@@ -57,6 +57,7 @@ module _ (k : Back) (t : Ty) (lead given code : SendCode)
         means = λ h v head typed. alike h v 0 tt typed.is_of ∙ same h v 0 ∙ made o leads heads h v head typed;
         covered = λ h v head typed. stays h v 0 tt typed.is_of (covered h v 0 typed.is_of
             (there (meaning given h v 0) (framed k (o h) t v) (made o leads heads h v head typed)));
+        blocks = given_blocks;
         costs = λ h v head typed. within (encoding k) (length (o h)) t v (cost r h v)
             (carried (cost r h v) (cost code h v) _ (checks h v typed)
             (sparing (length (o h)) h v (is_framed o leads heads h v head) typed)) (given_blocks h v typed);

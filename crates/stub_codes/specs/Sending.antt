@@ -13,6 +13,7 @@ use Rattle.cast_stub.specs.CallFree.{HasNoCall}
 use Rattle.cast_stub.specs.Meaning.{meaning, cost, IsCovered}
 use Rattle.cast_stub.specs.Puts.{IsHead}
 use Rattle.stub_lower.specs.Leads.{Leads}
+use Rattle.copy_inline.specs.Rows.{GivesBlocks}
 use Rattle.stub_codes.specs.Backs.{encoding, tail}
 use Rattle.stub_codes.specs.Messages.{framed}
 use Rattle.stub_codes.specs.Within.{IsWithin}
@@ -35,6 +36,8 @@ pub record Sends (k : Back) (o : Head → List ℕ) (t : Ty) (code : SendCode) :
   pub covered : IsCovered t 0 code
   -- its cost is within what the message allows
   pub costs : (h : Head) (v : Val) → IsHead h → IsOf t v → IfSome (cost code h v) (IsWithin (encoding k) (length (o h)) t v)
+  -- the rows and texts that travel as blocks are given as blocks, and no others
+  pub blocks : GivesBlocks (encoding k) t code
   pub calls : HasNoCall (code_seen code.ops)
   pub subs : code.subs ≡ []
 
