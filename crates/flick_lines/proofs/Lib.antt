@@ -28,5 +28,5 @@ pub mod Paying
 pub mod WithoutTrees
 -- * Each message has counts
 pub mod Counting
--- What is sent of a line is what its answer makes of the buffer, and what is sent one after the other adds up
+-- * What is sent of a line is what its answer makes of the buffer, and what is sent one after the other adds up
 pub mod Sending

@@ -2,7 +2,7 @@
 
 ghost use Rattle.std.specs.Prelude.{IfOk, OnOk};
 ghost use Rattle.raw_buf.specs.Buf.{NoneFell};
-ghost use Rattle.flick_lines.specs.Paid.{IsPaid};
+ghost use Rattle.flick_lines.specs.Sent.{SendsTo};
 ghost use Rattle.flick_lines.specs.Verbs.{IsAnswerTo};
 
 use crate::counted::count;
@@ -29,7 +29,7 @@ pub fn answer(
 ) -> Result<Octets, NoMemory>
     ensures value { IfOk result (λ o. IsAnswerTo verb engine.now text.now o) }
     ensures spent { NoneFell buf.old.spent buf.new.spent }
-    ensures paid { OnOk result (IsPaid verb engine.now text.now buf.old buf.new) }
+    ensures sends { OnOk result (SendsTo verb engine.now text.now buf.old buf.new) }
 {
     match verb {
         Verb::Marshal => marshal(alloc, engine, text, scratch, buf),

@@ -106,10 +106,10 @@ message_once b answer (Ok o) a c (x, serves, is) (y, serves', is') =
     is ∙ ap reply_text (served_once b (λ op request. answer op) o x y serves serves') ∙ sym is'
 
 -- all replies of a file
-abbrev all_given : Given → Result Given ℕ
+abbrev pub all_given : Given → Result Given ℕ
 all_given g = Ok g
 
-same_given : (g h : Given) → all_given g ≡ all_given h → g ≡ h
+pub same_given : (g h : Given) → all_given g ≡ all_given h → g ≡ h
 same_given g h e = cc
 
 pub line_once : IsServedOnce

@@ -8,11 +8,9 @@ use Rattle.hex.specs.declared.error.FromHexError.{FromHexError}
 use Rattle.hex.specs.declared.error.FromHexError.TheVariants.{OutOfMemory}
 use Rattle.kit_base.specs.Limits.{longest_message}
 use Rattle.mint.specs.Values.{Val}
-use Rattle.wire_def.specs.declared.head.Head.{Head}
 use Rattle.raw_buf.specs.declared.tally.Tally.{Tally}
 use Rattle.raw_buf.specs.Buf.{Buf, NoneFell}
 use Rattle.cast_stub.specs.Meaning.{Cost, no_cost}
-use Rattle.stub_machine.specs.Sending.{paid}
 use Rattle.head_kit.specs.declared.called.Called.{Called}
 use Rattle.pres.specs.Bindings.{Binding}
 use Rattle.stub_codes.specs.Stubs.{Coded}
@@ -28,12 +26,14 @@ use Rattle.flick_engine.specs.Refusals.{reply_head}
 use Rattle.flick_engine.specs.Serving.{Work, gives, is_answered, reply_in, AnswersCall, Serves, RepliesByCode, AnswersByCode, ServesByCode}
 use Rattle.flick_engine.proofs.Deciding.{determined}
 use Rattle.flick_engine.proofs.HeadsOfBacks.{one_head}
-use Rattle.flick_lines.specs.Sent.{nothing, sends}
-use Rattle.flick_lines.proofs.Sending.{cost_there, least_exact, paid-none}
-use Rattle.flick_serve.specs.Given.{given_in}
-use Rattle.flick_serve.specs.Served.{Serving, IsServing, answer_of}
-use Rattle.flick_serve.specs.Spent.{reply_to, cost_to, IsCostOf, IsMessagePaid, IsServePaid}
-use Rattle.flick_serve.proofs.Answering.{same_answer}
+use Rattle.flick_engine.proofs.Servings.{served_once}
+use Rattle.flick_lines.specs.Sent.{Sending, nothing, sends, IsPaidFor}
+use Rattle.flick_lines.proofs.Sending.{paid-exactly, paid-none}
+use Rattle.flick_serve.specs.Given.{Given, given_in}
+use Rattle.flick_serve.specs.Served.{Serving, IsServing, IsOfMessage, IsServed, answer_of}
+use Rattle.flick_serve.specs.Spent.{reply_to, cost_to, IsRepliedTo, IsCostOf, IsMessageSent, IsServeSent, IsMessagePaid, IsServePaid}
+use Rattle.flick_serve.proofs.Answering.{same_answer, same_given}
+use Rattle.flick_serve.proofs.Deciding.{given_once}
 
 unlike : (e : MessageErr) (r : Asked) (y : Result Asked MessageErr) → y ≡ Err e → y ≡ Ok r → ⊥
 unlike e r y is not = cc
@@ -48,9 +48,70 @@ module _ (c : Coded) (answer : ℕ → Val) (o : List ℕ) where
   abbrev work : Work
   work = gives (λ op request. answer op)
 
-  -- at least what the answer costs was paid
-  abbrev IsPaidFor : Tally → Tally → Type 0
-  IsPaidFor spent now = (k : Cost) × IsCostOf c answer o k × NoneFell (paid spent k) now
+  -- ---- one cost
+
+  same_cost : (call d : Called) (q r : Asked) → IsRepliedTo c answer o call q → IsRepliedTo c answer o d r
+      → cost_to c answer call q ≡ cost_to c answer d r
+  same_cost call d q r one other =
+      ap (λ (z : Called). cost_to c answer z q) ((one_head c.binding o).one_head call d one.begins other.begins)
+      ∙ ap (λ (z : Asked). cost_to c answer d z) (one_asked q r (Ok q) refl (determined c.binding o (Ok q) (Ok r) one.asks other.asks))
+
+  pub one_cost : (k l : Option Cost) → IsCostOf c answer o k → IsCostOf c answer o l → k ≡ l
+  one_cost k l (inl (call, q, replied, is)) (inl (d, r, also, other)) = is ∙ same_cost call d q r replied also ∙ sym other
+  one_cost k l (inl (call, q, replied, is)) (inr (never, other)) = absurd (never call q replied)
+  one_cost k l (inr (never, is)) (inl (d, r, also, other)) = absurd (never d r also)
+  one_cost k l (inr (never, is)) (inr (none, other)) = is ∙ sym other
+
+  -- ---- a cost of which something holds
+
+  module _ (Holds : Option Cost → Type 0) (free : Holds (Some no_cost))
+      (owed : (call : Called) (r : Asked) → IsRepliedTo c answer o call r → Holds (cost_to c answer call r)) where
+    -- there is one
+    abbrev HasCost : Type 0
+    HasCost = (k : Option Cost) × IsCostOf c answer o k × Holds k
+
+    nothing_owed : ((call : Called) (r : Asked) → ¬ IsRepliedTo c answer o call r) → HasCost
+    nothing_owed never = (Some no_cost, inr (never, refl), free)
+
+    -- a request that is answered
+    cost_of_reply : (d : Called) → Begins c.binding o d → is_answered c.binding d ≡ true → (r : Asked) → ReadCall c.binding o (Ok r)
+        → (b : Bool) → nat_le (length (reply_to c answer d r)) longest_message ≡ b → HasCost
+    cost_of_reply d begins answered r reads true fits =
+        let short : length (reply_to c answer d r) ≤ longest_message = leb-true (length (reply_to c answer d r)) longest_message fits in
+        let replied : IsRepliedTo c answer o d r = record { begins = begins; answered = answered; asks = reads; short = short } in
+        (cost_to c answer d r, inl (d, r, replied, refl), owed d r replied)
+    cost_of_reply d begins answered r reads false long =
+        let above : longest_message < length (reply_to c answer d r) = leb-false (length (reply_to c answer d r)) longest_message long in
+        nothing_owed (λ call q replied.
+        let one = (one_head c.binding o).one_head call d replied.begins begins in
+        let same = ap (λ (z : Called). length (reply_to c answer z q)) one ∙ ap (λ (z : Asked). length (reply_to c answer d z))
+        (one_asked q r (Ok r) (determined c.binding o (Ok r) (Ok q) reads replied.asks) refl) in
+        omega (arith, above, replied.short, same))
+
+    -- a call that is answered
+    cost_of_call : (d : Called) → Begins c.binding o d → is_answered c.binding d ≡ true
+        → (y : Result Asked MessageErr) → ReadCall c.binding o y → HasCost
+    cost_of_call d begins answered (Ok r) reads =
+        cost_of_reply d begins answered r reads (nat_le (length (reply_to c answer d r)) longest_message) refl
+    cost_of_call d begins answered (Err e) reads =
+        nothing_owed (λ call q replied. unlike e q (Err e) refl (determined c.binding o (Err e) (Ok q) reads replied.asks))
+
+    cost_of_called : (x : Option (List ℕ)) (d : Called) → Begins c.binding o d
+        → (b : Bool) → is_answered c.binding d ≡ b → MatchBool b (AnswersCall c.binding work o d x) (x ≡ None) → HasCost
+    cost_of_called x d begins true answered (y, reads, answers) = cost_of_call d begins answered y reads
+    cost_of_called x d begins false silent none =
+        nothing_owed (λ call q replied.
+        let same = (one_head c.binding o).one_head call d replied.begins begins in
+        not_true (is_answered c.binding call) replied.answered (ap (λ (z : Called). is_answered c.binding z) same ∙ silent))
+
+    pub cost_somehow : (x : Option (List ℕ)) → Serves c.binding work o x → HasCost
+    cost_somehow x (inl (long, none)) =
+        nothing_owed (λ call q replied. let (d, op, names, after) = replied.asks in omega (arith, long, names.0))
+    cost_somehow x (inr (inl (short, e, stops, fault))) =
+        nothing_owed (λ call q replied. (one_head c.binding o).not_both call e replied.begins stops)
+    cost_somehow x (inr (inr (short, d, begins, serves))) = cost_of_called x d begins (is_answered c.binding d) refl serves
+
+  -- ---- what was paid
 
   -- the counts are those of the reply's code, where its message is within the limit
   counts_of : (call : Called) (r : Asked) (x : Option (List ℕ)) (spent : Tally) (new : Buf)
@@ -60,66 +121,50 @@ module _ (c : Coded) (answer : ℕ → Val) (o : List ℕ) where
       subst (λ (z : Val). RepliesByCode c (reply_head c.binding.back call.head) r.op z spent new) is by short
 
   -- nothing is owed
-  nothing_owed : (spent now : Tally) → IsCostOf c answer o no_cost → NoneFell spent now → IsPaidFor spent now
-  nothing_owed spent now is stands = (no_cost, is, subst (λ (t : Tally). NoneFell t now) (paid-none spent) stands)
+  paid_free : (spent now : Tally) → NoneFell spent now → IsPaidFor false (Some no_cost) spent now
+  paid_free spent now stands = (subst (λ (t : Tally). NoneFell t now) (paid-none spent) stands, λ known. absurd (cc known))
 
-  -- a request that is answered
-  paid_reply : (spent : Tally) (new : Buf) (x : Option (List ℕ)) (d : Called) → Begins c.binding o d
-      → (r : Asked) → ReadCall c.binding o (Ok r) → AnswersByCode c work o (reply_head c.binding.back d.head) r x spent new
-      → NoneFell spent new.spent → (b : Bool) → nat_le (length (reply_to c answer d r)) longest_message ≡ b → IsPaidFor spent new.spent
-  paid_reply spent new x d begins r reads by stands true fits =
-      let short : length (reply_to c answer d r) ≤ longest_message = leb-true (length (reply_to c answer d r)) longest_message fits in
-      let counts = counts_of d r x spent new by short in
-      let (k, is, more) = cost_there spent new.spent (cost_to c answer d r) counts.1 in (
-        k,
-        (λ call starts answered q asks few.
-            ap (λ (z : Called). cost_to c answer z q) ((one_head c.binding o).one_head call d starts begins)
-            ∙ ap (λ (z : Asked). cost_to c answer d z) (one_asked q r (Ok r) (determined c.binding o (Ok r) (Ok q) reads asks) refl) ∙ is),
-        least_exact (paid spent k) new.spent more,
-      )
-  paid_reply spent new x d begins r reads by stands false long =
-      let above : longest_message < length (reply_to c answer d r) = leb-false (length (reply_to c answer d r)) longest_message long in
-      nothing_owed spent new.spent
-      (λ call starts answered q asks few.
-      let same_call = ap (λ (z : Called). length (reply_to c answer z q)) ((one_head c.binding o).one_head call d starts begins) in
-      let same = same_call ∙ ap (λ (z : Asked). length (reply_to c answer d z))
-      (one_asked q r (Ok r) (determined c.binding o (Ok r) (Ok q) reads asks) refl) in
-      absurd (omega (arith, above, few, same)))
-      stands
-
-  -- a call that is answered
-  paid_call : (spent : Tally) (new : Buf) (x : Option (List ℕ)) (d : Called) → Begins c.binding o d → is_answered c.binding d ≡ true
-      → ServesByCode c work o x spent new → NoneFell spent new.spent
-      → (y : Result Asked MessageErr) → ReadCall c.binding o y → IsPaidFor spent new.spent
-  paid_call spent new x d begins answered by stands (Ok r) reads =
-      paid_reply spent new x d begins r reads (by d begins answered r reads) stands
-      (nat_le (length (reply_to c answer d r)) longest_message) refl
-  paid_call spent new x d begins answered by stands (Err e) reads =
-      nothing_owed spent new.spent
-      (λ call starts is q asks few. absurd (unlike e q (Err e) refl (determined c.binding o (Err e) (Ok q) reads asks))) stands
-
-  paid_called : (spent : Tally) (new : Buf) (x : Option (List ℕ)) (d : Called) → Begins c.binding o d
-      → ServesByCode c work o x spent new → NoneFell spent new.spent
-      → (b : Bool) → is_answered c.binding d ≡ b → MatchBool b (AnswersCall c.binding work o d x) (x ≡ None) → IsPaidFor spent new.spent
-  paid_called spent new x d begins by stands true answered (y, reads, answers) =
-      paid_call spent new x d begins answered by stands y reads
-  paid_called spent new x d begins by stands false silent none =
-      nothing_owed spent new.spent
-      (λ call starts answered q asks few.
-      let same = (one_head c.binding o).one_head call d starts begins in
-      absurd (not_true (is_answered c.binding call) answered (ap (λ (z : Called). is_answered c.binding z) same ∙ silent)))
-      stands
-
+  -- at least what the answer costs was paid
   paid_for : (spent : Tally) (new : Buf) (x : Option (List ℕ)) → Serves c.binding work o x → ServesByCode c work o x spent new
-      → NoneFell spent new.spent → IsPaidFor spent new.spent
-  paid_for spent new x (inl (long, none)) by stands =
-      nothing_owed spent new.spent
-      (λ call starts answered q asks few. let (d, op, names, after) = asks in absurd (omega (arith, long, names.0))) stands
-  paid_for spent new x (inr (inl (short, e, stops, fault))) by stands =
-      nothing_owed spent new.spent
-      (λ call starts answered q asks few. absurd ((one_head c.binding o).not_both call e starts stops)) stands
-  paid_for spent new x (inr (inr (short, d, begins, serves))) by stands =
-      paid_called spent new x d begins by stands (is_answered c.binding d) refl serves
+      → NoneFell spent new.spent → (k : Option Cost) × IsCostOf c answer o k × IsPaidFor false k spent new.spent
+  paid_for spent new x serves by stands =
+      cost_somehow (λ k. IsPaidFor false k spent new.spent) (paid_free spent new.spent stands)
+      (λ call r replied.
+      let counts = counts_of call r x spent new (by call replied.begins replied.answered r replied.asks) replied.short in
+      paid-exactly false (cost_to c answer call r) spent new.spent counts.1)
+      x serves
+
+-- ---- one sending, and some
+
+message_alone : (c : Coded) (answer : ℕ → Val) (d : Result (List ℕ) FromHexError) (s t : Sending) → IsMessageSent c answer d s
+    → IsMessageSent c answer d t → s ≡ t
+message_alone c answer (Err e) s t is other = is ∙ sym other
+message_alone c answer (Ok o) s t (x, k, serves, cost, is) (y, l, also, other_cost, other) =
+    let same = served_once c.binding (λ op request. answer op) o x y serves also in
+    is ∙ ap (λ (z : Option (List ℕ)). sends (unwrap_or z []) k) same
+    ∙ ap (λ (n : Option Cost). sends (unwrap_or y []) n) (one_cost c answer o k l cost other_cost) ∙ sym other
+
+-- what is sent of a line is determined
+pub one_sending : (s : Serving) (line : List ℕ) (x y : Sending) → IsServeSent s line x → IsServeSent s line y → x ≡ y
+one_sending s line x y (g, gives, is) (h, also, other) =
+    let same : h ≡ g = same_given h g (given_once s.coded.binding s.text (Ok h) (Ok g) also gives) in
+    message_alone s.coded (answer_of s.coded.binding g) (decode_of line) x y is
+    (subst (λ (f : Given). IsMessageSent s.coded (answer_of s.coded.binding f) (decode_of line) y) same other)
+
+message_somehow : (c : Coded) (answer : ℕ → Val) (d : Result (List ℕ) FromHexError) (a : List ℕ) → IsOfMessage c.binding answer d a
+    → (s : Sending) × IsMessageSent c answer d s
+message_somehow c answer (Err e) a is = (nothing, refl)
+message_somehow c answer (Ok o) a (x, serves, is) =
+    let (k, cost, holds) = cost_somehow c answer o (λ k. Unit {0}) tt (λ call r replied. tt) x serves in
+    (sends (unwrap_or x []) k, (x, k, serves, cost, refl))
+
+-- of a line that is answered something is sent, or nothing
+pub some_sending : (s : Serving) (line a : List ℕ) → IsServed s.coded.binding s.text line a → (x : Sending) × IsServeSent s line x
+some_sending s line a (g, gives, is) =
+    let (x, sent) = message_somehow s.coded (answer_of s.coded.binding g) (decode_of line) a is in
+    (x, (g, gives, sent))
+
+-- ---- a buffer
 
 -- the octets of a buffer are the reply, or none
 held_reply : (served : Served) (octets : List ℕ) → (served ≡ Silent → octets ≡ []) → octets ≡ unwrap_or (reply_in served octets) []
@@ -134,7 +179,7 @@ message_paid c answer o served old new serves by silent stands =
     let (k, is, least) = paid_for c answer o old.spent new (reply_in served new.done) serves by stands in (
       sends (unwrap_or (reply_in served new.done) []) k,
       (reply_in served new.done, k, serves, is, refl),
-      (held_reply served new.done silent, least, λ known. absurd (cc known)),
+      (held_reply served new.done silent, least),
     )
 
 -- ---- as the clauses of calls

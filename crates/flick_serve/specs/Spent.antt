@@ -1,10 +1,10 @@
 -- What is sent of the lines of `serve`, and what the buffer then holds and has spent.
-use Rattle.std.specs.Prelude.{◌≡◌, ℕ, true, false, List, [], Option, Some, unwrap_or, Result, Ok, Err}
+use Rattle.std.specs.Prelude.{◌≡◌, ◌⊎◌, ℕ, true, false, List, [], Option, Some, unwrap_or, Result, Ok, Err}
 use Rattle.hex.specs.Hex.{decode_of}
 use Rattle.hex.specs.declared.error.FromHexError.{FromHexError}
 use Rattle.mint.specs.Values.{Val}
 use Rattle.raw_buf.specs.Buf.{Buf}
-use Rattle.cast_stub.specs.Meaning.{Cost}
+use Rattle.cast_stub.specs.Meaning.{Cost, no_cost}
 use Rattle.head_kit.specs.declared.called.Called.{Called}
 use Rattle.stub_codes.specs.Stubs.{Coded}
 use Rattle.flick_engine.specs.Backs.{Begins}
@@ -25,16 +25,24 @@ reply_to c answer call r = reply_message c.binding r.op (reply_head c.binding.ba
 abbrev pub cost_to : Coded → (ℕ → Val) → Called → Asked → Option Cost
 cost_to c answer call r = answer_cost c.stubs r.op (reply_head c.binding.back call.head) (answer r.op)
 
--- a cost is that of the reply's code, where a message is a request that is answered by its reply
-abbrev pub IsCostOf : Coded → (ℕ → Val) → List ℕ → Cost → Type 0
-IsCostOf c answer o k = (call : Called) → Begins c.binding o call → is_answered c.binding call ≡ true
-    → (r : Asked) → ReadCall c.binding o (Ok r) → IsShort (reply_to c answer call r) → cost_to c answer call r ≡ Some k
+-- a message is a request, to a call that is answered, and the message of its reply is not too long
+pub record IsRepliedTo (c : Coded) (answer : ℕ → Val) (o : List ℕ) (call : Called) (r : Asked) : Type 0 where
+  pub begins : Begins c.binding o call
+  pub answered : is_answered c.binding call ≡ true
+  pub asks : ReadCall c.binding o (Ok r)
+  pub short : IsShort (reply_to c answer call r)
+
+-- a cost is that of the reply's code, where a message is answered by its reply; else nothing is owed
+abbrev pub IsCostOf : Coded → (ℕ → Val) → List ℕ → Option Cost → Type 0
+IsCostOf c answer o k =
+    ((call : Called) × (r : Asked) × IsRepliedTo c answer o call r × (k ≡ cost_to c answer call r))
+    ⊎ (((call : Called) (r : Asked) → ¬ IsRepliedTo c answer o call r) × (k ≡ Some no_cost))
 
 -- what is sent in answer to what hexadecimal digits spell: a reply, or no octets where there is none, at this cost
 abbrev pub IsMessageSent : Coded → (ℕ → Val) → Result (List ℕ) FromHexError → Sending → Type 0
 IsMessageSent c answer (Err e) s = s ≡ nothing
-IsMessageSent c answer (Ok o) s = (x : Option (List ℕ)) × (k : Cost) × Serves c.binding (gives (λ op request. answer op)) o x
-    × IsCostOf c answer o k × (s ≡ sends (unwrap_or x []) k)
+IsMessageSent c answer (Ok o) s = (x : Option (List ℕ)) × (k : Option Cost)
+    × Serves c.binding (gives (λ op request. answer op)) o x × IsCostOf c answer o k × (s ≡ sends (unwrap_or x []) k)
 
 -- what is sent in answer to a line, by the replies of a file
 abbrev pub IsServeSent : Serving → List ℕ → Sending → Type 0

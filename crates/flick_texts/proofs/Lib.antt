@@ -2,10 +2,6 @@
 
 -- * What is counted of messages, one after the other
 pub mod Counting
--- * Texts that end a line, and texts of whole lines
-pub mod Ending
--- The texts of stub code end a line, by mutual induction on code and cases
-pub mod StubEnding
 -- * The texts of operations, one after the other, and the names of their interfaces
 pub mod Listing
 -- * The line of the messages that a number makes
@@ -16,8 +12,6 @@ pub mod Spending
 pub mod Naming
 -- * What is read of a message that was made
 pub mod Reading
--- * The text of a unit is of whole lines, by induction on its interfaces and its types
-pub mod ShowEnding
 -- * The text of a union, by induction on its arms
 pub mod Unions
 -- Texts that were worked out by hand

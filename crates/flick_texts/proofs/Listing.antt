@@ -1,5 +1,5 @@
 -- The texts of operations, one after the other, and the names of their interfaces.
-use Rattle.std.proofs.Common.{◌≡◌, ℕ, zero, suc, ◌+◌, ◌<◌, ◌≤◌, inl, List, [], ◌∷◌, ◌++◌, map, length, get_or, drop, Option, None, Some, refl, sym, ap, ◌∙◌, subst, append_assoc, add-one, arith}
+use Rattle.std.proofs.Common.{◌≡◌, ℕ, zero, suc, ◌+◌, ◌<◌, ◌≤◌, List, [], ◌∷◌, ◌++◌, map, length, get_or, drop, Option, None, Some, refl, sym, ap, ◌∙◌, subst, append_assoc, add-one, arith}
 use Rattle.std.specs.Prelude.{IfSome, slice_get}
 use Rattle.std.specs.Option.{option_map}
 use Rattle.std.proofs.Math.ListN.{drop_of_length-le}
@@ -17,9 +17,6 @@ use Rattle.json_shape.specs.Operations.{dotted, interface_name}
 use Rattle.stub_codes.specs.declared.stub.Stub.{Stub}
 use Rattle.stub_codes.specs.Stubs.{Coded}
 use Rattle.flick_texts.specs.StubTexts.{sent_text, received_text, both_texts, texts_of}
-use Rattle.flick_texts.specs.WholeLines.{AreWholeLines}
-use Rattle.flick_texts.proofs.Ending.{EndsLine, ends_after, whole_after}
-use Rattle.flick_texts.proofs.StubEnding.{send_ends, recv_ends}
 
 -- the code of an operation, and its text before those of the operations after it
 record IsAt (text : List ℕ → Stub → List ℕ) (is : List PlainInterface) (ops : List Op) (stubs : List Stub) (i : ℕ) (name : List ℕ)
@@ -45,40 +42,30 @@ is_at text is (p ∷ ops) (s ∷ stubs) (suc i) o name many lt at named =
 at_stub : (stubs : List Stub) (i : ℕ) (P : Stub → Type 0) (s : Stub) → slice_get stubs i ≡ Some s → IfSome (slice_get stubs i) P → P s
 at_stub stubs i P s is h = subst (λ o. IfSome o P) is h
 
--- the texts so far and those that are left are all texts, and those so far are of whole lines
-pub record AreListed (text : List ℕ → Stub → List ℕ) (is : List PlainInterface) (ops : List Op) (stubs : List Stub) (i : ℕ) (out : List ℕ)
-    : Type 0 where
-  pub texts : out ++ texts_of text is (drop i ops) (drop i stubs) ≡ texts_of text is ops stubs
-  pub lines : AreWholeLines out
+-- the texts so far and those that are left are all texts
+abbrev pub AreListed : (List ℕ → Stub → List ℕ) → List PlainInterface → List Op → List Stub → ℕ → List ℕ → Type 0
+AreListed text is ops stubs i out = out ++ texts_of text is (drop i ops) (drop i stubs) ≡ texts_of text is ops stubs
 
 pub none_listed : (text : List ℕ → Stub → List ℕ) (is : List PlainInterface) (ops : List Op) (stubs : List Stub) (out : List ℕ)
     → out ≡ [] → AreListed text is ops stubs 0 out
-none_listed text is ops stubs out none = record {
-  texts = ap (λ z. z ++ texts_of text is ops stubs) none;
-  lines = inl none;
-}
+none_listed text is ops stubs out none = ap (λ z. z ++ texts_of text is ops stubs) none
 
 -- the text of one operation more
-pub one_more : (text : List ℕ → Stub → List ℕ) → ((n : List ℕ) (s : Stub) → EndsLine (text n s)) → (is : List PlainInterface)
-    (ops : List Op) (stubs : List Stub) (i : ℕ) (o : Op) (name out new : List ℕ) → length stubs ≡ length ops → i < length ops
-    → o ≡ get_or ops i o → name ≡ dotted is o → IfSome (slice_get stubs i) (λ s. new ≡ out ++ text name s)
-    → AreListed text is ops stubs i out
+pub one_more : (text : List ℕ → Stub → List ℕ) (is : List PlainInterface) (ops : List Op) (stubs : List Stub) (i : ℕ) (o : Op)
+    (name out new : List ℕ) → length stubs ≡ length ops → i < length ops → o ≡ get_or ops i o → name ≡ dotted is o
+    → IfSome (slice_get stubs i) (λ s. new ≡ out ++ text name s) → AreListed text is ops stubs i out
     → AreListed text is ops stubs (i + 1) new
-one_more text ends is ops stubs i o name out new many lt at named put inv =
+one_more text is ops stubs i o name out new many lt at named put inv =
     let here = is_at text is ops stubs i o name many lt at named in
     let grown = at_stub stubs i (λ s. new ≡ out ++ text name s) here.stub here.there put in
     let rest = texts_of text is (drop (suc i) ops) (drop (suc i) stubs) in
-    record {
-      texts = rw add-one (ap (λ z. z ++ rest) grown ∙ append_assoc out (text name here.stub) rest ∙ ap (λ z. out ++ z) (sym here.cut)
-          ∙ inv.texts);
-      lines = subst AreWholeLines (sym grown) (whole_after out (text name here.stub) (ends name here.stub));
-    }
+    rw add-one (ap (λ z. z ++ rest) grown ∙ append_assoc out (text name here.stub) rest ∙ ap (λ z. out ++ z) (sym here.cut) ∙ inv)
 
 -- all texts
 pub all_listed : (text : List ℕ → Stub → List ℕ) (is : List PlainInterface) (ops : List Op) (stubs : List Stub) (i : ℕ) (out : List ℕ)
     → length ops ≤ i → AreListed text is ops stubs i out → out ≡ texts_of text is ops stubs
 all_listed text is ops stubs i out long inv =
-    sym (append-nil out) ∙ ap (λ z. out ++ texts_of text is z (drop i stubs)) (sym (drop_of_length-le ops long)) ∙ inv.texts
+    sym (append-nil out) ∙ ap (λ z. out ++ texts_of text is z (drop i stubs)) (sym (drop_of_length-le ops long)) ∙ inv
 
 -- what was printed of the code that sends
 pub sent_put : (stub : Option Stub) (code : SendCode) (name text old new : List ℕ) → option_map (λ s. s.send) stub ≡ Some code
@@ -108,22 +95,15 @@ both_put None name old mid new first last = tt
 both_put (Some s) name old mid new first last =
     last ∙ ap (λ z. z ++ received_text name s) first ∙ append_assoc old (sent_text name s) (received_text name s)
 
-pub sent_ends : (name : List ℕ) (s : Stub) → EndsLine (sent_text name s)
-sent_ends name s = send_ends name (send.code_seen s.send.ops) (map send.code_seen s.send.subs)
-
-pub both_end : (name : List ℕ) (s : Stub) → EndsLine (both_texts name s)
-both_end name s = ends_after (sent_text name s) (received_text name s)
-    (recv_ends name (recv.code_seen s.recv.ops) (map recv.code_seen s.recv.subs))
-
 -- the next operation of a coded binding
-pub next_listed : (text : List ℕ → Stub → List ℕ) → ((n : List ℕ) (s : Stub) → EndsLine (text n s)) → (c : Coded) (items : List Op)
+pub next_listed : (text : List ℕ → Stub → List ℕ) (c : Coded) (items : List Op)
     (listed : List Interface) (i n : ℕ) (o : Op) (name out new : List ℕ) → length c.stubs ≡ length c.binding.ops
     → items ≡ c.binding.ops → map plain_interface listed ≡ c.binding.unit.interfaces → i < length items → o ≡ get_or items i o
     → name ≡ dotted (map plain_interface listed) o → n ≡ i → IfSome (slice_get c.stubs n) (λ s. new ≡ out ++ text name s)
     → AreListed text c.binding.unit.interfaces c.binding.ops c.stubs i out
     → AreListed text c.binding.unit.interfaces c.binding.ops c.stubs (i + 1) new
-next_listed text ends c items listed i n o name out new many items_are listed_are lt at named n_is put inv =
-    one_more text ends c.binding.unit.interfaces c.binding.ops c.stubs i o name out new many
+next_listed text c items listed i n o name out new many items_are listed_are lt at named n_is put inv =
+    one_more text c.binding.unit.interfaces c.binding.ops c.stubs i o name out new many
     (subst (λ (z : List Op). i < length z) items_are lt) (subst (λ (z : List Op). o ≡ get_or z i o) items_are at)
     (named ∙ ap (λ z. dotted z o) listed_are)
     (subst (λ k. IfSome (slice_get c.stubs k) (λ s. new ≡ out ++ text name s)) n_is put) inv

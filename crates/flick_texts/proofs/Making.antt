@@ -7,9 +7,7 @@ use Rattle.pres.specs.Bindings.{Binding}
 use Rattle.flick_texts.specs.declared.sums.Sums.{Sums}
 use Rattle.flick_texts.specs.Counted.{messages_from, count_long, octets_of, counts_line, made_line, Counts}
 use Rattle.flick_texts.specs.MadeText.{made_message, make_text}
-use Rattle.flick_texts.specs.WholeLines.{AreWholeLines}
 use Rattle.flick_texts.proofs.Counting.{so_many}
-use Rattle.flick_texts.proofs.Ending.{counts_whole}
 
 -- without operations all numbers are 0
 pub no_messages : (b : Binding) (number many : ℕ) (s : Sums) → length b.ops ≡ 0 → s.long ≡ 0 → s.octets ≡ 0 → s.fold ≡ 0
@@ -33,13 +31,6 @@ some_messages b number many s some counts =
     ∙ ap (λ n. counts_line (length all) (count_long all) n s.fold) (alone s.octets (length (octets_of all)) counts.octets)
     ∙ ap (counts_line (length all) (count_long all) (length (octets_of all))) counts.fold
     ∙ ap (λ t. made_line (messages_from (made_message b number) 0 (cond t 0 many))) (sym there)
-
--- a line of counts is of whole lines
-pub line_whole : {E : Type 0} (r : Result (List ℕ) E) (all : ℕ) (s : Sums)
-    → IfOk r (λ t. t ≡ counts_line all s.long s.octets s.fold)
-    → IfOk r AreWholeLines
-line_whole r all s h =
-    IfOk-weaker r _ _ (λ t e. subst AreWholeLines (sym e) (counts_whole all s.long s.octets s.fold)) h
 
 pub line_same : {E : Type 0} (r : Result (List ℕ) E) (line text : List ℕ) → line ≡ text → IfOk r (λ t. t ≡ line) → IfOk r (λ t. t ≡ text)
 line_same r line text same h = IfOk-weaker r _ _ (λ t e. e ∙ same) h

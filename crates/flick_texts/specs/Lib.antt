@@ -4,4 +4,3 @@ pub mod Show
 pub mod Spent
 pub mod StubTexts
 pub mod TypeText
-pub mod WholeLines

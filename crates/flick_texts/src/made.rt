@@ -1,12 +1,12 @@
 //! The requests that a number makes.
 
-ghost use Rattle.std.specs.Prelude.{◌≡◌, ◌<◌, [], length, IfOk, OnOk};
+ghost use Rattle.std.specs.Prelude.{◌≡◌, ◌<◌, true, [], length, IfOk, OnOk};
 ghost use Rattle.raw_buf.specs.Buf.{NoneFell};
 ghost use Rattle.flick_lines.specs.Paid.{call_by_code};
+ghost use Rattle.flick_lines.specs.Sent.{IsSpentBy};
 ghost use Rattle.flick_texts.specs.Counted.{messages_from, Counts};
 ghost use Rattle.flick_texts.specs.MadeText.{made_head, made_message, made_value, make_text, turn, IsRead, IsTrip};
-ghost use Rattle.flick_texts.specs.Spent.{SendsMade, SendsSoMany};
-ghost use Rattle.flick_texts.specs.WholeLines.{AreWholeLines};
+ghost use Rattle.flick_texts.specs.Spent.{all_sent, sent_from};
 
 use crate::sums::Sums;
 use crate::trip::{Trip, refused};
@@ -27,8 +27,7 @@ pub fn make_text(
     buf: &mut SendBuf,
 ) -> Result<Octets, NoMemory>
     ensures value { IfOk result (λ t. t ≡ make_text engine.now.binding number many) }
-    ensures lines { IfOk result (λ t. AreWholeLines t) }
-    ensures sends { OnOk result (SendsMade engine.now number many buf.old buf.new) }
+    ensures sends { OnOk result (IsSpentBy true (all_sent engine.now number many) buf.old buf.new) }
     ensures spent { NoneFell buf.old.spent buf.new.spent }
 {
     if engine.bound().ops().len() == 0 {
@@ -49,7 +48,7 @@ fn sums_of(
     requires { 0 < length engine.now.binding.ops }
     ensures sums { IfOk result (λ s.
         Counts s [] (messages_from (made_message engine.now.binding number) 0 many)) }
-    ensures sends { OnOk result (SendsSoMany engine.now number many buf.old buf.new) }
+    ensures sends { OnOk result (IsSpentBy true (sent_from engine.now number 0 many) buf.old buf.new) }
     ensures spent { NoneFell buf.old.spent buf.new.spent }
 {
     let mut sums = Sums::new();

@@ -6,7 +6,6 @@ ghost use Rattle.aoi.specs.Shapes.{seen};
 ghost use Rattle.stub_print.specs.Putting.{IsPut};
 ghost use Rattle.flick_texts.specs.Show.{interface_line, interface_lines, operation_lines, show_text, type_line, type_lines};
 ghost use Rattle.flick_texts.specs.TypeText.{names_of, trees_of};
-ghost use Rattle.flick_texts.specs.WholeLines.{AreWholeLines};
 
 use crate::operations::put_operation;
 use crate::types::put_type;
@@ -19,7 +18,6 @@ use std::alloc::Global;
 /// time are linear in the unit as its file writes it, since a named type is written by its name.
 pub fn show_text(alloc: Global, unit: &Unit) -> Result<Octets, NoMemory>
     ensures value { IfOk result (λ t. t ≡ show_text (plain unit.now)) }
-    ensures lines { IfOk result (λ t. AreWholeLines t) }
 {
     let mut out = Octets::new(alloc);
     let types = unit.types().as_slice();

@@ -4,7 +4,6 @@ ghost use Rattle.std.specs.Prelude.{◌≡◌, ◌++◌, ◌<◌, length, map, I
 ghost use Rattle.aoi.specs.Plain.{plain_interface};
 ghost use Rattle.json_shape.specs.Operations.{interface_name, dotted};
 ghost use Rattle.flick_texts.specs.StubTexts.{both_texts, counted_text, received_text, sent_text, stubs_text};
-ghost use Rattle.flick_texts.specs.WholeLines.{AreWholeLines};
 
 use aoi::Interface;
 use flick_engine::Engine;
@@ -17,7 +16,6 @@ use stub_print::{print_recv, print_send};
 /// them. The time is linear in the texts.
 pub fn stubs_text(alloc: Global, engine: &Engine) -> Result<Octets, NoMemory>
     ensures value { IfOk result (λ t. t ≡ stubs_text engine.now) }
-    ensures lines { IfOk result (λ t. AreWholeLines t) }
 {
     engine.codes_are_the_operations();
     let mut out = Octets::new(alloc);
@@ -32,7 +30,6 @@ pub fn stubs_text(alloc: Global, engine: &Engine) -> Result<Octets, NoMemory>
 /// The text of the code of each operation that sends its requests, and the line `--` after them.
 pub fn counted_text(alloc: Global, engine: &Engine) -> Result<Octets, NoMemory>
     ensures value { IfOk result (λ t. t ≡ counted_text engine.now) }
-    ensures lines { IfOk result (λ t. AreWholeLines t) }
 {
     engine.codes_are_the_operations();
     let mut out = Octets::new(alloc);
