@@ -4,10 +4,11 @@ use Rattle.std.specs.Prelude.{Option, Some, None}
 use Rattle.std.specs.Io.KnownBytes.{Consumes}
 use Rattle.flick_top.specs.declared.status.Status.{Status}
 use Rattle.flick_top.specs.declared.status.Status.TheVariants as s
+use Rattle.raw_buf.specs.Buf.{Buf}
 use Rattle.stub_codes.specs.Stubs.{Coded}
 use Rattle.flick_top.specs.Laws.{WritesWhole, OutputsAreWhole}
 use Rattle.flick_top.specs.Outside.{Input, Held}
-use Rattle.flick_top.specs.Output.{Files}
+use Rattle.flick_top.specs.Coming.{Files}
 use Rattle.flick_top.specs.Statement.{TakesMore, Completes, Works}
 use Rattle.flick_top.specs.Status.{number_of}
 
@@ -51,18 +52,18 @@ without_task status (inl six) (inr seven) = seven
 without_task status (inl six) (inl few) = absurd (omega (arith, six, few))
 
 whole_work : (made : Option Coded) (words : List (List ℕ)) (files : Files) (left left' : Input) (held held' : Held)
-    (source source' status : ℕ) (input : List ℕ) → left ≡ Some input
-    → Works made words files left left' source source' held held' status → (status ≤ 3) ⊎ (status ≡ 7)
+    (source source' status : ℕ) (old new : Buf) (input : List ℕ) → left ≡ Some input
+    → Works made words files left left' source source' held held' old new status → (status ≤ 3) ⊎ (status ≡ 7)
     → (status ≡ 7) ⊎ WritesWhole made words files input held held' status
-whole_work made words files left left' held held' source source' status input reported (inl (ends, took, wrote)) ended =
+whole_work made words files left left' held held' source source' status old new input reported (inl (ends, took, wrote)) ended =
     inl (without_task status ends ended)
-whole_work made words files left left' held held' source source' status input reported (inr done) (inr seven) = inl seven
-whole_work made words files left left' held held' source source' status input reported (inr (task, f, is, all, w)) (inl few) =
-    inr (task, f, is, all, w.output few input reported)
+whole_work made words files left left' held held' source source' status old new input reported (inr done) (inr seven) = inl seven
+whole_work made words files left left' held held' source source' status old new input reported (inr (task, f, is, all, done)) (inl few) =
+    inr (task, f, is, all, done.output few input reported)
 
 pub all_whole : OutputsAreWhole
-all_whole made words files left left' held held' source source' sink sink' shelf shelf' status works (taken, took) completes input reported
-    within none =
-    whole_work made words files left left' held held' source source' status input reported works
+all_whole made words files left left' held held' source source' sink sink' shelf shelf' status old new works (taken, took) completes input
+    reported within none =
+    whole_work made words files left left' held held' source source' status old new input reported works
     (completes input reported taken took (omega (arith, no_more left left' input taken reported took, within))
     none.source none.sink none.shelf)

@@ -1,16 +1,17 @@
--- What was answered where the source failed: the lines that ended in the octets taken, by induction on the octets.
+-- The lines that ended in the octets taken are those that were answered where the source failed, by induction on the octets.
 use Rattle.std.proofs.Common.{◌≡◌, ◌≢◌, ℕ, zero, suc, ◌+◌, ◌<◌, Bool, true, false, List, [], ◌∷◌, ◌++◌, length, refl, sym, ◌∙◌, ap, subst, arith, append_assoc, append-nil, length-append}
 use Rattle.std.specs.Prelude.{Option, ◌||◌, ◌==◌, if◌then◌else◌}
 use Rattle.std.specs.Io.KnownBytes.{Appends, Consumes}
 use Rattle.std.proofs.lemmas.Bool.Decides.{nat_tests}
 use Rattle.std.proofs.lemmas.List.{append_cancel_right}
 use Rattle.std.proofs.lemmas.List.Elements.{All-nil, All-cons, All-append}
+use Rattle.kit_base.specs.Limits.{longest_line}
 use Rattle.kit_base.specs.declared.lines.Line.{Line}
 use Rattle.kit_base.specs.declared.lines.Line.TheVariants.{Long}
 use Rattle.kit_base.specs.Lines.{State, Passed, Advances, pending, lines, lines_from, lines_after, line_of, HasNoEnd}
 use Rattle.kit_base.proofs.Cutting.{advances-trans, lines-long, lines_after-append}
 use Rattle.flick_top.specs.Answer.{Answering, answers}
-use Rattle.flick_top.specs.Outside.{has_end, ended_part}
+use Rattle.flick_top.specs.Items.{has_end, ended_part, IsCutting, by_lines}
 use Rattle.flick_top.proofs.Prefix.{fresh}
 
 none-ended : (xs : List ℕ) → has_end xs ≡ false → ended_part xs ≡ []
@@ -27,6 +28,15 @@ no_end (x ∷ xs) h =
     let (here, rest) = or-false (x == 10) (has_end xs) h in
     let other : x ≢ 10 = grind (arith, nat_tests, here) in
     All-cons (λ (y : ℕ). y ≢ 10) x xs other (no_end xs rest)
+
+stays_by : (a b c : Bool) → (a || b) ≡ true → (b ≡ true → c ≡ true) → (a || c) ≡ true
+stays_by true b c h more = refl
+stays_by false b c h more = more h
+
+-- an end stays, whatever follows
+end_stays : (xs more : List ℕ) → has_end xs ≡ true → has_end (xs ++ more) ≡ true
+end_stays [] more h = absurd (cc h)
+end_stays (x ∷ xs) more h = stays_by (x == 10) (has_end xs) (has_end (xs ++ more)) h (end_stays xs more)
 
 -- what stands after the last end has none
 split_ended : (xs : List ℕ) → (tail : List ℕ) × (xs ≡ ended_part xs ++ tail) × HasNoEnd tail
@@ -121,3 +131,30 @@ wrote-ended before now after s t u ls f held held' n most new p q none unended w
     let (got, consumed, passed) = advances-trans before now after s t u ls [] p q in
     let same : lines n (ended_part got) ≡ ls = ended_lines s u got (ls ++ []) n most new passed none unended ∙ append-nil ls in
     (got, consumed, subst (λ (l : List Line). Appends held held' (answers f l)) (sym same) wrote)
+
+-- ---- lines as a cutting
+
+-- the part that ended is a first part of that which ended in more octets
+part_grows : (xs more : List ℕ) → (rest : List ℕ) × (ended_part (xs ++ more) ≡ ended_part xs ++ rest)
+part_grows [] more = (ended_part more, refl)
+part_grows (x ∷ xs) more = go (has_end (x ∷ xs)) refl (part_grows xs more) where
+  go : (b : Bool) → has_end (x ∷ xs) ≡ b → (rest : List ℕ) × (ended_part (xs ++ more) ≡ ended_part xs ++ rest)
+      → (rest : List ℕ) × (ended_part (x ∷ xs ++ more) ≡ ended_part (x ∷ xs) ++ rest)
+  go true e (rest, grown) =
+      let also : has_end (x ∷ xs ++ more) ≡ true = end_stays (x ∷ xs) more e in
+      (rest, rw (e, also) (ap (λ (l : List ℕ). x ∷ l) grown))
+  go false e (rest, grown) = (ended_part (x ∷ xs ++ more), rw e refl)
+
+pub lines_cut : IsCutting by_lines
+lines_cut = record {
+  ended = λ octets more.
+      let (rest, grown) = part_grows octets more in
+      (lines longest_line rest, ap (lines longest_line) grown ∙ lines-ended longest_line octets rest);
+  whole = λ octets more.
+      let (tail, split, none) = split_ended octets in (
+        lines longest_line (tail ++ more),
+        ap (λ (l : List ℕ). lines longest_line (l ++ more)) split
+            ∙ ap (lines longest_line) (append_assoc (ended_part octets) tail more)
+            ∙ lines-ended longest_line octets (tail ++ more),
+      );
+}

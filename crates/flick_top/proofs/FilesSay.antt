@@ -15,7 +15,7 @@ use Rattle.flick_top.specs.declared.command.Named.{Named}
 use Rattle.flick_top.specs.declared.saying.Saying.TheVariants as sayings
 use Rattle.flick_top.specs.File.{Reported, IsOver, BindSays, BoundSays, FileSays}
 use Rattle.flick_top.specs.Fronts.{Read, UnitOf}
-use Rattle.flick_top.specs.Output.{IsMadeOf}
+use Rattle.flick_top.specs.Coming.{IsMadeOf}
 use Rattle.flick_top.proofs.UnitsOfFronts.{one_unit}
 
 -- ---- what a file says

@@ -2,19 +2,17 @@
 
 -- * Without faults and with little input the work is done and all is written, unless memory runs out
 pub mod Completing
--- * A line has one answer
+-- * An item has one answer
 pub mod Determined
--- * One more line is answered
+-- * One more item is answered
 pub mod Turning
 -- * Whatever ends a run, a prefix of the defined output was written
 pub mod Prefix
--- * What becomes of the buffer over the lines that were answered is what becomes of it over the input's
-pub mod Passing
--- * What becomes of the buffer from line to line is what is sent of the lines, by induction on the lines
-pub mod Spending
--- * What was answered where the source failed: the lines that ended in the octets taken, by induction on the octets
+-- * The lines that ended in the octets taken are those that were answered where the source failed, by induction on the octets
 pub mod Ended
--- * Each line has an answer
+-- * What is done of a task, however its work ends
+pub mod Doing
+-- * Each item has an answer
 pub mod Existing
 -- * A file's prefix of one octet more than its limit says what the whole file says
 pub mod Front
@@ -24,21 +22,19 @@ pub mod UnitsOfFronts
 pub mod FilesSay
 -- Texts are the same over engines that answer alike, by induction on the operations or on the number of messages
 pub mod TwinTexts
--- * The words have one output over the files, by induction on the input's lines
+-- * The words have one output over the files, by induction on the input's items
 pub mod Outputs
--- * Which error of a reader of lines a status tells
+-- * Which end of the work a status tells
 pub mod Stops
--- * Answers and sayings are whole lines, answers by induction on the lines
-pub mod WholeLines
 -- * Which commands end as the reading of an input does
 pub mod Reading
--- * What a task takes and writes: its text, and what is written of its lines after it
+-- * What is prepared is what the words come to
 pub mod Tasking
 -- * All words and files have a task
 pub mod Tasks
 -- * The engine that a command leaves of its file
 pub mod Leaving
--- * The task of an action over what was made of a file is that of its command
+-- * What an action comes to over what was made of a file is what its command comes to
 pub mod OverFiles
 -- * The numbers of words, read digit by digit
 pub mod Digits

@@ -1,14 +1,12 @@
--- The words have one output over the files, by induction on the input's lines.
+-- The words have one output over the files, by induction on the input's items.
 use Rattle.std.proofs.Common.{◌≡◌, ℕ, List, [], ◌∷◌, ◌++◌, length, Bool, true, false, ◌||◌, Option, Some, None, Result, Ok, Err, refl, sym, ap, ◌∙◌, subst}
 use Rattle.std.specs.Prelude.{nat_le, MatchBool, if◌then◌else◌}
-use Rattle.kit_base.specs.Limits.{longest_line}
-use Rattle.kit_base.specs.declared.lines.Line.{Line}
 use Rattle.kit_base.specs.declared.lines.Line.TheVariants.{Text, Long, End}
-use Rattle.kit_base.specs.Lines.{lines}
 use Rattle.stub_codes.specs.declared.stub.Stub.{Stub}
 use Rattle.stub_codes.specs.Stubs.{Coded}
 use Rattle.flick_lines.specs.declared.verb.Verb.{Verb}
 use Rattle.flick_lines.specs.declared.verb.Verb.TheVariants.{Count}
+use Rattle.flick_lines.specs.Sent.{Sending}
 use Rattle.flick_lines.specs.Verbs.{IsAnswerTo}
 use Rattle.flick_lines.proofs.Alike.{answer_over}
 use Rattle.flick_lines.proofs.Twins.{AreTwins}
@@ -18,6 +16,7 @@ use Rattle.flick_serve.proofs.Alike.{file_over, served_over}
 use Rattle.flick_serve.proofs.Deciding.{given_once}
 use Rattle.flick_texts.specs.MadeText.{make_text}
 use Rattle.flick_texts.specs.Show.{show_text}
+use Rattle.flick_texts.specs.Spent.{all_sent}
 use Rattle.flick_texts.specs.StubTexts.{stubs_text}
 use Rattle.flick_top.specs.declared.command.Action.{Action}
 use Rattle.flick_top.specs.declared.command.Action.TheVariants as actions
@@ -28,14 +27,16 @@ use Rattle.flick_top.specs.declared.job.Job.TheVariants as jobs
 use Rattle.flick_top.specs.declared.saying.Saying.{Saying}
 use Rattle.flick_top.specs.declared.saying.Saying.TheVariants as sayings
 use Rattle.flick_top.specs.declared.status.Status.{Status}
-use Rattle.flick_top.specs.declared.task.Task.{Task}
-use Rattle.flick_top.specs.Answer.{Answering, IsAnswerOf, IsAnswer, IsAnswering, answers, is_refusal, refuses}
+use Rattle.flick_top.specs.Answer.{Answer, answer_of, is_refusal, Answering, IsTextTo, IsAnswer, answers, refuses}
+use Rattle.flick_top.specs.Coming.{Files, showing_task, text_before, serving_task, ServesText, ServesFile, Acts, ActsOver, Comes, AreAnswered}
 use Rattle.flick_top.specs.Command.{command_of, word_at}
 use Rattle.flick_top.specs.File.{Reported, longest_replies}
 use Rattle.flick_top.specs.Fronts.{Read}
+use Rattle.flick_top.specs.Items.{Item}
 use Rattle.flick_top.specs.Laws.{IsOverCodes, ShowsCodes, OneOutput}
-use Rattle.flick_top.specs.Output.{Files, saying_task, refusing_task, answering_task, writing_task, showing_task, text_before, shapeless_task, serving_task, ServesText, ServesFile, Acts, ActsOver, Comes, AreAnswered, IsAnswered, Out, text_out, out_of}
-use Rattle.flick_top.proofs.Determined.{one_answer}
+use Rattle.flick_top.specs.Status.{number_of}
+use Rattle.flick_top.specs.Task.{Task, saying_task, answering_task, writing_task, shapeless_task, items_of, Out, out_of}
+use Rattle.flick_top.proofs.Determined.{one_text}
 use Rattle.flick_top.proofs.FilesSay.{AreAlike, AreReported, file_says, reported_alike}
 use Rattle.flick_top.proofs.TwinTexts.{before_alike, stubs_alike, made_alike}
 
@@ -47,34 +48,35 @@ AreJobs (jobs.Over v d) (jobs.Over w e) = (v ≡ w) × AreAlike (w ≡ Count) d 
 AreJobs (jobs.Serve r) (jobs.Serve s) = AreTwins r.coded.binding s.coded.binding × (r.text ≡ s.text)
 AreJobs _ _ = ⊥
 
--- no lines, or those of jobs that answer alike
-abbrev AreLines : Option Job → Option Job → Type 0
-AreLines None None = Unit {0}
-AreLines (Some j) (Some k) = AreJobs j k
-AreLines _ _ = ⊥
+-- no items, or those of jobs that answer alike
+abbrev AreFeeds : Option Job → Option Job → Type 0
+AreFeeds None None = Unit {0}
+AreFeeds (Some j) (Some k) = AreJobs j k
+AreFeeds _ _ = ⊥
 
--- one text and one end, and lines that are answered alike
+-- one text and one end, and items that are answered alike
 record AreTasks (t u : Task) : Type 0 where
   pub text : t.text ≡ u.text
   pub status : t.status ≡ u.status
-  pub lines : AreLines t.lines u.lines
+  pub feeds : AreFeeds t.feed u.feed
 
 tasks_by : (t u x y : Task) → t ≡ x → u ≡ y → AreTasks x y → AreTasks t u
 tasks_by t u x y p q h = subst (λ (z : Task). AreTasks z u) (sym p) (subst (λ (z : Task). AreTasks x z) (sym q) h)
 
-no_lines : (t u x : Task) → x.lines ≡ None → t ≡ x → u ≡ x → AreTasks t u
-no_lines t u x none p q = tasks_by t u x x p q (record { text = refl; status = refl; lines = rw none tt })
+no_feed : (t u x : Task) → x.feed ≡ None → t ≡ x → u ≡ x → AreTasks t u
+no_feed t u x none p q = tasks_by t u x x p q (record { text = refl; status = refl; feeds = rw none tt })
 
 -- a saying over any engines
-refused_alike : (saying : Saying) (d e : Coded) (t u : Task) → t ≡ refusing_task saying d → u ≡ refusing_task saying e → AreTasks t u
+refused_alike : (saying : Saying) (d e : Coded) (t u : Task) → t ≡ saying_task saying (Some d) → u ≡ saying_task saying (Some e)
+    → AreTasks t u
 refused_alike saying d e t u p q =
-    tasks_by t u (refusing_task saying d) (refusing_task saying e) p q (record { text = refl; status = refl; lines = tt })
+    tasks_by t u (saying_task saying (Some d)) (saying_task saying (Some e)) p q (record { text = refl; status = refl; feeds = tt })
 
 given_alike : (d e : Coded) → AreTwins d.binding e.binding → (text : List ℕ) (x : Result Given ℕ) (t u : Task)
     → t ≡ serving_task d text x → u ≡ serving_task e text x → AreTasks t u
 given_alike d e alike text (Ok g) t u p q =
     tasks_by t u (serving_task d text (Ok g)) (serving_task e text (Ok g)) p q
-    (record { text = refl; status = refl; lines = (alike, refl) })
+    (record { text = refl; status = refl; feeds = (alike, refl) })
 given_alike d e alike text (Err line) t u p q = refused_alike (sayings.WrongReply line) d e t u p q
 
 serves_text : (d e : Coded) → AreTwins d.binding e.binding → (text : List ℕ) (t u : Task) → ServesText d text t → ServesText e text u
@@ -84,8 +86,8 @@ serves_text d e alike text t u (x, gives, p) (y, also, q) =
     given_alike d e alike text y t u (p ∙ ap (λ (z : Result Given ℕ). serving_task d text z) same) q
 
 within_serves : (d e : Coded) → AreTwins d.binding e.binding → (text : List ℕ) (t u : Task) (b : Bool)
-    → MatchBool b (ServesText d text t) (t ≡ refusing_task sayings.LargeReplies d)
-    → MatchBool b (ServesText e text u) (u ≡ refusing_task sayings.LargeReplies e) → AreTasks t u
+    → MatchBool b (ServesText d text t) (t ≡ saying_task sayings.LargeReplies (Some d))
+    → MatchBool b (ServesText e text u) (u ≡ saying_task sayings.LargeReplies (Some e)) → AreTasks t u
 within_serves d e alike text t u true p q = serves_text d e alike text t u p q
 within_serves d e alike text t u false p q = refused_alike sayings.LargeReplies d e t u p q
 
@@ -101,45 +103,47 @@ verb_alike v d e alike = record {
   codes = λ is. alike.codes (subst (λ (w : Verb). IsOverCodes (actions.Answer w)) (sym is) tt);
 }
 
-acts_alike : (a : Action) (d e : Coded) → AreAlike (IsOverCodes a) d e → (content : Option (List ℕ)) (t u : Task)
-    → Acts a d content t → Acts a e content u → AreTasks t u
-acts_alike actions.Serve d e alike content t u p q = serves_file d e alike.twins content t u p q
-acts_alike (actions.Answer v) d e alike content t u p q =
+acts_alike : (a : Action) (d e : Coded) → AreAlike (IsOverCodes a) d e → (words : List (List ℕ)) (files : Files) (t u : Task)
+    → Acts a d words files t → Acts a e words files u → AreTasks t u
+acts_alike (actions.Serve replies) d e alike words files t u p q = serves_file d e alike.twins (files (word_at words replies)) t u p q
+acts_alike (actions.Answer v) d e alike words files t u p q =
     tasks_by t u (answering_task (text_before v d) (jobs.Over v d)) (answering_task (text_before v e) (jobs.Over v e)) p q
-    (record { text = before_alike v d e (verb_alike v d e alike); status = refl; lines = (refl, verb_alike v d e alike) })
-acts_alike actions.Stubs d e alike content t u p q =
-    tasks_by t u (writing_task (stubs_text d) (Some d)) (writing_task (stubs_text e) (Some e)) p q
-    (record { text = stubs_alike d e alike.twins (alike.codes tt); status = refl; lines = tt })
-acts_alike (actions.Make number many) d e alike content t u p q =
-    tasks_by t u (writing_task (make_text d.binding number many) (Some d)) (writing_task (make_text e.binding number many) (Some e)) p q
-    (record { text = made_alike d.binding e.binding alike.twins number many; status = refl; lines = tt })
+    (record { text = before_alike v d e (verb_alike v d e alike); status = refl; feeds = (refl, verb_alike v d e alike) })
+acts_alike actions.Stubs d e alike words files t u p q =
+    tasks_by t u (writing_task (stubs_text d) [] (Some d)) (writing_task (stubs_text e) [] (Some e)) p q
+    (record { text = stubs_alike d e alike.twins (alike.codes tt); status = refl; feeds = tt })
+acts_alike (actions.Make number many) d e alike words files t u p q =
+    tasks_by t u (writing_task (make_text d.binding number many) (all_sent d number many) (Some d))
+    (writing_task (make_text e.binding number many) (all_sent e number many) (Some e)) p q
+    (record { text = made_alike d.binding e.binding alike.twins number many; status = refl; feeds = tt })
 
-over_reported : (a : Action) (r s : Reported) → AreReported (IsOverCodes a) r s → (content : Option (List ℕ)) (t u : Task)
-    → ActsOver a r content t → ActsOver a s content u → AreTasks t u
-over_reported a (Ok d) (Ok e) same content t u p q = acts_alike a d e same content t u p q
-over_reported a (Ok d) (Err f) same content t u p q = absurd same
-over_reported a (Err e) (Ok c) same content t u p q = absurd same
-over_reported a (Err e) (Err f) same content t u p q = no_lines t u (saying_task f) refl (p ∙ ap (λ (x : Saying). saying_task x) same) q
+over_reported : (a : Action) (r s : Reported) → AreReported (IsOverCodes a) r s → (words : List (List ℕ)) (files : Files) (t u : Task)
+    → ActsOver a r words files t → ActsOver a s words files u → AreTasks t u
+over_reported a (Ok d) (Ok e) same words files t u p q = acts_alike a d e same words files t u p q
+over_reported a (Ok d) (Err f) same words files t u p q = absurd same
+over_reported a (Err e) (Ok c) same words files t u p q = absurd same
+over_reported a (Err e) (Err f) same words files t u p q =
+    no_feed t u (saying_task f None) refl (p ∙ ap (λ (x : Saying). saying_task x None) same) q
 
 shown_alike : (r : Read) (t u : Task) → t ≡ showing_task r → u ≡ showing_task r → AreTasks t u
-shown_alike (Ok v) t u p q = no_lines t u (writing_task (show_text v) None) refl p q
-shown_alike (Err saying) t u p q = no_lines t u (saying_task saying) refl p q
+shown_alike (Ok v) t u p q = no_feed t u (writing_task (show_text v) [] None) refl p q
+shown_alike (Err saying) t u p q = no_feed t u (saying_task saying None) refl p q
 
 over_files : (codes others : List Stub) (command : Option Command) (words : List (List ℕ)) (files : Files) (t u : Task)
     → (ShowsCodes command → codes ≡ others) → Comes codes command words files t → Comes others command words files u → AreTasks t u
-over_files codes others None words files t u shown p q = no_lines t u shapeless_task refl p q
-over_files codes others (Some commands.Help) words files t u shown p q = no_lines t u (saying_task sayings.Help) refl p q
-over_files codes others (Some commands.Version) words files t u shown p q = no_lines t u (saying_task sayings.Version) refl p q
+over_files codes others None words files t u shown p q = no_feed t u shapeless_task refl p q
+over_files codes others (Some commands.Help) words files t u shown p q = no_feed t u (saying_task sayings.Help None) refl p q
+over_files codes others (Some commands.Version) words files t u shown p q = no_feed t u (saying_task sayings.Version None) refl p q
 over_files codes others (Some (commands.Show front)) words files t u shown (r, says, p) (s, also, q) =
     let same : r ≡ s = file_says front (files (word_at words 2)) r s says also in
     shown_alike s t u (p ∙ ap (λ (x : Read). showing_task x) same) q
 over_files codes others (Some (commands.Over a n)) words files t u shown (r, mr, p) (s, ms, q) =
     let alike = reported_alike (IsOverCodes a) codes others shown n (files (word_at words n.file)) r s mr ms in
-    over_reported a r s alike (files (word_at words 4)) t u p q
+    over_reported a r s alike words files t u p q
 
 -- ---- what is written
 
-text_over : (j k : Job) → AreJobs j k → (octets a : List ℕ) → IsAnswerOf j octets a → IsAnswerOf k octets a
+text_over : (j k : Job) → AreJobs j k → (octets a : List ℕ) → IsTextTo j octets a → IsTextTo k octets a
 text_over (jobs.Over v d) (jobs.Over w e) (same, alike) octets a is =
     answer_over w d e alike.twins (λ count. alike.codes count) octets a (subst (λ (z : Verb). IsAnswerTo z d octets a) same is)
 text_over (jobs.Serve r) (jobs.Serve s) (alike, same) octets a is =
@@ -148,45 +152,69 @@ text_over (jobs.Serve r) (jobs.Serve s) (alike, same) octets a is =
 text_over (jobs.Over v d) (jobs.Serve s) h octets a is = absurd h
 text_over (jobs.Serve r) (jobs.Over w e) h octets a is = absurd h
 
-line_over : (j k : Job) (line : Line) (x : List ℕ) → AreJobs j k → IsAnswer j line x → IsAnswer k line x
-line_over j k (Text octets) x t (a, is, e) = (a, text_over j k t octets a is, e)
-line_over j k Long x t h = h
-line_over j k End x t h = h
+-- one text, and one end by it
+record AreShown (a b : Answer) : Type 0 where
+  pub octets : a.octets ≡ b.octets
+  pub refused : a.refused ≡ b.refused
+
+shown_by : (a b x y : Answer) → a ≡ x → b ≡ y → AreShown x y → AreShown a b
+shown_by a b x y p q h =
+    subst (λ (z : Answer). AreShown z b) (sym p) (subst (λ (z : Answer). AreShown x z) (sym q) h)
+
+text_shown : (x y : List ℕ) (s t : Sending) → x ≡ y → AreShown (answer_of x s) (answer_of y t)
+text_shown x y s t same = record { octets = same; refused = ap is_refusal same }
+
+item_shown : (j k : Job) (item : Item) (a b : Answer) → AreJobs j k → IsAnswer j item a → IsAnswer k item b → AreShown a b
+item_shown j k (Text octets) a b t (x, r, p, sent, is) (y, s, q, also, other) =
+    shown_by a b (answer_of (x ++ 10 ∷ []) r) (answer_of (y ++ 10 ∷ []) s) is other
+    (text_shown (x ++ 10 ∷ []) (y ++ 10 ∷ []) r s
+    (ap (λ (l : List ℕ). l ++ 10 ∷ []) (one_text k octets x y (text_over j k t octets x p) q)))
+item_shown j k Long a b t is other = shown_by a b b b (is ∙ sym other) refl (record { octets = refl; refused = refl })
+item_shown j k End a b t is other = shown_by a b b b (is ∙ sym other) refl (record { octets = refl; refused = refl })
 
 -- answers of jobs that answer alike
-line_alike : (j k : Job) (f g : Answering) → AreJobs j k → IsAnswering j f → IsAnswering k g → (line : Line) → f line ≡ g line
-line_alike j k f g t h i line = one_answer k line (f line) (g line) (line_over j k line (f line) t (h line)) (i line)
+abbrev AreShownAlike : Answering → Answering → Type 0
+AreShownAlike f g = (item : Item) → AreShown (f item) (g item)
 
-answers_alike : (f g : Answering) (ls : List Line) → ((line : Line) → f line ≡ g line) → answers f ls ≡ answers g ls
+answers_alike : (f g : Answering) (items : List Item) → AreShownAlike f g → answers f items ≡ answers g items
 answers_alike f g [] h = refl
-answers_alike f g (l ∷ ls) h = ap (λ (x : List ℕ). x ++ answers f ls) (h l) ∙ ap (λ (x : List ℕ). g l ++ x) (answers_alike f g ls h)
+answers_alike f g (i ∷ items) h =
+    ap (λ (x : List ℕ). x ++ answers f items) (h i).octets
+    ∙ ap (λ (x : List ℕ). (g i).octets ++ x) (answers_alike f g items h)
 
-refuses_alike : (f g : Answering) (ls : List Line) → ((line : Line) → f line ≡ g line) → refuses f ls ≡ refuses g ls
+refuses_alike : (f g : Answering) (items : List Item) → AreShownAlike f g → refuses f items ≡ refuses g items
 refuses_alike f g [] h = refl
-refuses_alike f g (l ∷ ls) h =
-    ap (λ (x : List ℕ). is_refusal x || refuses f ls) (h l) ∙ ap (λ (b : Bool). is_refusal (g l) || b) (refuses_alike f g ls h)
+refuses_alike f g (i ∷ items) h =
+    ap (λ (b : Bool). b || refuses f items) (h i).refused ∙ ap (λ (b : Bool). (g i).refused || b) (refuses_alike f g items h)
 
 -- a text, and what is written after it, where a refusal may be among it
-abbrev out_with : List ℕ → List ℕ → Bool → Out
-out_with text octets refused = record { octets = text ++ octets; status = if refused then 1 else 0 }
+abbrev out_with : List ℕ → Status → List ℕ → Bool → Out
+out_with text status octets refused = record { octets = text ++ octets; status = if refused then 1 else number_of status }
 
-lines_output : (l m : Option Job) (text : List ℕ) (status : Status) (f g : Answering) → AreLines l m → AreAnswered l f → AreAnswered m g
-    → (input : List ℕ)
-    → text_out text status l f input ≡ text_out text status m g input
-lines_output None None text status f g e h i input = refl
-lines_output None (Some k) text status f g e h i input = absurd e
-lines_output (Some j) None text status f g e h i input = absurd e
-lines_output (Some j) (Some k) text status f g t h i input =
-    let alike = line_alike j k f g t h i in
-    ap (λ (x : List ℕ). out_with text x (refuses f (lines longest_line input))) (answers_alike f g (lines longest_line input) alike)
-    ∙ ap (λ (b : Bool). out_with text (answers g (lines longest_line input)) b) (refuses_alike f g (lines longest_line input) alike)
+items_output : (text : List ℕ) (status : Status) (f g : Answering) (items : List Item) → AreShownAlike f g
+    → out_with text status (answers f items) (refuses f items) ≡ out_with text status (answers g items) (refuses g items)
+items_output text status f g items alike =
+    ap (λ (x : List ℕ). out_with text status x (refuses f items)) (answers_alike f g items alike)
+    ∙ ap (λ (b : Bool). out_with text status (answers g items) b) (refuses_alike f g items alike)
 
-tasks_output : (t u : Task) (f g : Answering) → AreTasks t u → IsAnswered t f → IsAnswered u g → (input : List ℕ)
+-- what a feed writes after a text
+abbrev fed : Option Job → List ℕ → Status → Answering → List ℕ → Out
+fed feed text status f input = out_with text status (answers f (items_of feed input)) (refuses f (items_of feed input))
+
+feeds_output : (l m : Option Job) (text : List ℕ) (status : Status) (f g : Answering) → AreFeeds l m → AreAnswered l f → AreAnswered m g
+    → (input : List ℕ) → fed l text status f input ≡ fed m text status g input
+feeds_output None None text status f g e h i input = refl
+feeds_output None (Some k) text status f g e h i input = absurd e
+feeds_output (Some j) None text status f g e h i input = absurd e
+feeds_output (Some j) (Some k) text status f g t h i input =
+    items_output text status f g (items_of (Some k) input) (λ item. item_shown j k item (f item) (g item) t (h item) (i item))
+
+tasks_output : (t u : Task) (f g : Answering) → AreTasks t u → AreAnswered t.feed f → AreAnswered u.feed g → (input : List ℕ)
     → out_of t f input ≡ out_of u g input
 tasks_output t u f g same h i input =
-    ap (λ (x : List ℕ). text_out x t.status t.lines f input) same.text
-    ∙ ap (λ (x : Status). text_out u.text x t.lines f input) same.status
-    ∙ lines_output t.lines u.lines u.text u.status f g same.lines h i input
+    ap (λ (x : List ℕ). fed t.feed x t.status f input) same.text
+    ∙ ap (λ (x : Status). fed t.feed u.text x f input) same.status
+    ∙ feeds_output t.feed u.feed u.text u.status f g same.feeds h i input
 
 pub one_output : OneOutput
 one_output codes others words files t u f g shown p q h i input =

@@ -1,104 +1,56 @@
--- What a task takes and writes: its text, and what is written of its lines after it.
-use Rattle.std.proofs.Common.{◌≡◌, ◌⊎◌, inl, inr, ℕ, List, [], ◌++◌, Option, Some, None, refl, sym, ap, ◌∙◌, subst, append_assoc}
-use Rattle.std.specs.Io.KnownBytes.{Appends}
-use Rattle.std.proofs.KnownBytes.{Appends-trans, Appends-nil, Consumes-nil}
+-- What is prepared is what the words come to.
+use Rattle.std.proofs.Common.{◌≡◌, inl, inr, ℕ, true, List, [], Option, Some, None, refl, sym, ◌∙◌, subst}
+use Rattle.std.proofs.KnownBytes.{Appends-nil, Consumes-nil}
 use Rattle.kit_base.specs.declared.lines.Line.{Line}
 use Rattle.kit_base.specs.Lines.{State, Advances}
 use Rattle.kit_base.proofs.Cutting.{advances-trans}
+use Rattle.raw_buf.specs.Buf.{Buf}
 use Rattle.stub_codes.specs.Stubs.{Coded}
+use Rattle.flick_lines.specs.Sent.{nothing}
+use Rattle.flick_lines.proofs.Sending.{spent-none}
+use Rattle.flick_top.specs.declared.command.Command.{Command}
+use Rattle.flick_top.specs.declared.job.Job.{Job}
+use Rattle.flick_top.specs.declared.prepared.Prepared.{Prepared}
 use Rattle.flick_top.specs.declared.saying.Saying.{Saying}
 use Rattle.flick_top.specs.declared.saying.Saying.TheVariants as sayings
-use Rattle.flick_top.specs.declared.status.Status.TheVariants.{Done, File}
-use Rattle.flick_top.specs.declared.job.Job.{Job}
-use Rattle.flick_top.specs.declared.task.Task.{Task}
-use Rattle.flick_top.specs.Answer.{Answering, IsAnswering}
-use Rattle.flick_top.specs.Output.{Files, Out, saying_task, refusing_task, shapeless_task, Comes, IsTask, AreAnswered, text_out, answers_out, out_of}
-use Rattle.flick_top.specs.Made.{codes_of, engine_of, LeavesEngine}
-use Rattle.flick_top.specs.Saying.{ending}
+use Rattle.flick_top.specs.declared.status.Status.{Status}
+use Rattle.flick_top.specs.Answer.{Answering, answer_of}
+use Rattle.flick_top.specs.Coming.{Files, Comes, IsTask, AreAnswered}
 use Rattle.flick_top.specs.Command.{command_of}
-use Rattle.flick_texts.specs.WholeLines.{AreWholeLines}
-use Rattle.flick_top.specs.Outside.{Input, TakesPrefix}
-use Rattle.flick_top.specs.Statement.{WritesPrefix, WritesEnded, WritesWholeLines, Works, Leaves}
-use Rattle.flick_top.specs.declared.command.Command.{Command}
-use Rattle.flick_top.specs.Turn.{IsReady}
-use Rattle.flick_top.proofs.WholeLines.{both_whole, said-whole}
+use Rattle.flick_top.specs.Made.{codes_of}
+use Rattle.flick_top.specs.Outside.{Input, Held, TakesPrefix}
+use Rattle.flick_top.specs.Saying.{ending}
+use Rattle.flick_top.specs.Statement.{Done, Works}
+use Rattle.flick_top.specs.Status.{usage}
+use Rattle.flick_top.specs.Task.{Task, engine_of, shapeless_task, task_in}
+use Rattle.flick_top.specs.Turn.{AreFirst, ComesIn, EndsAs, IsIn}
+use Rattle.flick_top.proofs.Doing.{with-before}
 
-ends : (saying : Saying) → (ending saying ≡ Done) ⊎ (ending saying ≡ File)
-ends sayings.Help = inl refl
-ends sayings.Version = inl refl
-ends sayings.NoFile = inr refl
-ends sayings.TooLarge = inr refl
-ends (sayings.Lex fault) = inr refl
-ends (sayings.Syntax line) = inr refl
-ends (sayings.Name error) = inr refl
-ends (sayings.Bind reason) = inr refl
-ends sayings.NoReplies = inr refl
-ends sayings.LargeReplies = inr refl
-ends (sayings.WrongReply line) = inr refl
+-- to say something ends so
+pub saying-ends : (saying : Saying) (status : Status) → status ≡ ending saying → EndsAs None status
+saying-ends saying status is = subst (λ (x : Status). EndsAs None x) (sym is) (ends saying) where
+  ends : (saying : Saying) → EndsAs None (ending saying)
+  ends sayings.Help = inl refl
+  ends sayings.Version = inl refl
+  ends sayings.NoFile = inr refl
+  ends sayings.TooLarge = inr refl
+  ends (sayings.Lex fault) = inr refl
+  ends (sayings.Syntax line) = inr refl
+  ends (sayings.Name error) = inr refl
+  ends (sayings.Bind reason) = inr refl
+  ends sayings.NoReplies = inr refl
+  ends sayings.LargeReplies = inr refl
+  ends (sayings.WrongReply line) = inr refl
 
--- to say something is a task that is ready
-pub saying-ready : (saying : Saying) (task : Task) → task ≡ saying_task saying → IsReady task
-saying-ready saying task is = subst IsReady (sym is) (record { ends = ends saying; whole = said-whole saying })
+-- ---- without the buffer
 
--- the same over an engine
-pub refusing-ready : (saying : Saying) (e : Coded) (task : Task) → task ≡ refusing_task saying e → IsReady task
-refusing-ready saying e task is = subst IsReady (sym is) (record { ends = ends saying; whole = said-whole saying })
+none_first : (feed : Option Job) → AreFirst feed []
+none_first None = tt
+none_first (Some job) = refl
 
--- ---- a text, and the answers after it
-
--- the answers to the lines of a task are those of its job
-pub answers-of : (lines : Option Job) (job : Job) (f : Answering) → lines ≡ Some job → AreAnswered lines f → IsAnswering job f
-answers-of lines job f is all = subst (λ (l : Option Job). AreAnswered l f) is all
-
-abbrev Lines : Type 0
-Lines = List ℕ → Out
-
--- what a task writes, where its lines are known
-task_out : (task : Task) (lines : Option Job) (f : Answering) → task.lines ≡ lines → out_of task f ≡ text_out task.text task.status lines f
-task_out task lines f is = ap (λ (l : Option Job). text_out task.text task.status l f) is
-
-pub front-after : (task : Task) (job : Job) (f : Answering) (left : Input) (held mid held' : Option (List ℕ)) → task.lines ≡ Some job
-    → Appends held mid task.text
-    → WritesPrefix (answers_out f) left mid held' → WritesPrefix (out_of task f) left held held'
-front-after task job f left held mid held' is text wrote =
-    subst (λ (over : Lines). WritesPrefix over left held held') (sym (task_out task (Some job) f is))
-    (λ input reported.
-    let (front, rest, parts, more) = wrote input reported in
-    let all = ap (λ (o : List ℕ). task.text ++ o) parts ∙ sym (append_assoc task.text front rest) in
-    (task.text ++ front, rest, all, Appends-trans held mid held' task.text front text more))
-
-pub ended-after : (task : Task) (job : Job) (f : Answering) (left left' : Input) (held mid held' : Option (List ℕ)) (n : ℕ)
-    → task.lines ≡ Some job → Appends held mid task.text
-    → WritesEnded (answers_out f) left left' mid held' n → WritesEnded (out_of task f) left left' held held' n
-ended-after task job f left left' held mid held' n is text wrote =
-    subst (λ (over : Lines). WritesEnded over left left' held held' n) (sym (task_out task (Some job) f is))
-    (λ four input reported.
-    let (taken, consumed, more) = wrote four input reported in
-    (taken, consumed, Appends-trans held mid held' task.text _ text more))
-
-pub whole-after : (text : List ℕ) (held mid held' : Option (List ℕ)) (n : ℕ) → AreWholeLines text → Appends held mid text
-    → WritesWholeLines mid held' n
-    → WritesWholeLines held held' n
-whole-after text held mid held' n whole first wrote = λ other.
-    let (octets, more, ended) = wrote other in
-    (text ++ octets, Appends-trans held mid held' text octets first more, both_whole text octets whole ended)
-
--- ---- a text of which a prefix was written
-
--- it is a prefix of all that is to be written
-out_begins : (task : Task) (lines : Option Job) (f : Answering) (front rest : List ℕ) → task.text ≡ front ++ rest → (input : List ℕ)
-    → (more : List ℕ) × ((text_out task.text task.status lines f input).octets ≡ front ++ more)
-out_begins task None f front rest parts input = (rest, parts)
-out_begins task (Some job) f front rest parts input =
-    let more = (answers_out f input).octets in
-    (rest ++ more, ap (λ (o : List ℕ). o ++ more) parts ∙ append_assoc front rest more)
-
-pub front-broken : (task : Task) (f : Answering) (left : Input) (held held' : Option (List ℕ))
-    → (front : List ℕ) × (rest : List ℕ) × (task.text ≡ front ++ rest) × Appends held held' front
-    → WritesPrefix (out_of task f) left held held'
-front-broken task f left held held' (front, rest, parts, wrote) = λ input reported.
-    let (more, all) = out_begins task task.lines f front rest parts input in
-    (front, more, all, wrote)
+-- a task for whose text nothing was sent
+pub is-in : (Is : Task → Type 0) (p : Prepared) (buf : Buf) → Is (task_in p []) → IsIn Is p buf buf
+is-in Is p buf is = ([], is, spent-none true buf, none_first p.feed)
 
 -- ---- what was taken
 
@@ -110,34 +62,49 @@ took before now after s t u ls more p q =
 
 -- ---- what the words come to
 
-pub is-task : (words : List (List ℕ)) (files : Files) (task : Task) (made : Option Coded) (found : Option Command) (command : Command)
-    → found ≡ command_of words → found ≡ Some command → made ≡ engine_of task
-    → Comes (codes_of (engine_of task)) (Some command) words files task
-    → IsTask (codes_of made) words files task
-is-task words files task made found command is some left comes =
+is_task : (words : List (List ℕ)) (files : Files) (task : Task) (made : Option Coded) (p : Prepared) (found : Option Command)
+    (command : Command) → found ≡ command_of words → found ≡ Some command → made ≡ engine_of p
+    → Comes (codes_of (engine_of p)) (Some command) words files task → IsTask (codes_of made) words files task
+is_task words files task made p found command is some left comes =
     let same : Comes (codes_of made) (Some command) words files task =
     subst (λ (o : Option Coded). Comes (codes_of o) (Some command) words files task) (sym left) comes in
     subst (λ (o : Option Command). Comes (codes_of made) o words files task) (sym some ∙ is) same
 
+-- what was done of what is prepared is the work of the words
+pub work-of : (words : List (List ℕ)) (files : Files) (made : Option Coded) (p : Prepared) (f : Answering) (found : Option Command)
+    (command : Command) (left left' : Input) (before now : ℕ) (held held' : Held) (old mid new : Buf) (status : ℕ)
+    → found ≡ command_of words → found ≡ Some command → made ≡ engine_of p → AreAnswered p.feed f
+    → ComesIn (Some command) words files p old mid
+    → Done (task_in p []) f (engine_of p) left left' before now held held' mid new status
+    → Works made words files left left' before now held held' old new status
+work-of words files made p f found command left left' before now held held' old mid new status is some same all (ss, comes, spent, first)
+    done = inr (
+      task_in p ss,
+      f,
+      is_task words files (task_in p ss) made p found command is some same comes,
+      all,
+      with-before p f made left left' before now held held' old mid new status ss same spent first done,
+    )
+
 -- where the words have no shape, nothing is all the work
-pub shapeless-work : (made : Option Coded) (words : List (List ℕ)) (files : Files) (left : Input) (faults : ℕ) (held : Option (List ℕ))
-    → command_of words ≡ None → Works made words files left left faults faults held held 2
-shapeless-work made words files left faults held none = inr (
+pub shapeless-work : (made : Option Coded) (words : List (List ℕ)) (files : Files) (left : Input) (faults : ℕ) (held : Held) (buf : Buf)
+    → made ≡ None → command_of words ≡ None → Works made words files left left faults faults held held buf buf usage
+shapeless-work made words files left faults held buf same none = inr (
   shapeless_task,
-  (λ line. []),
+  (λ item. answer_of [] nothing),
   subst (λ (o : Option Command). Comes (codes_of made) o words files shapeless_task) (sym none) refl,
   tt,
-  record {
-    output = λ few input reported. (refl, Appends-nil held);
-    prefix = λ input reported. ([], [], refl, Appends-nil held);
-    ended = λ four. absurd (cc four);
-    unread = λ none. (Consumes-nil left, refl, (λ e. absurd (cc e)), λ e. absurd (cc e));
-    at_end = λ some. absurd (some refl);
-  },
+  subst (λ (e : Option Coded). Done shapeless_task (λ item. answer_of [] nothing) e left left faults faults held held buf buf usage)
+      (sym same)
+      (record {
+        output = λ few input reported. (refl, Appends-nil held);
+        prefix = λ input reported. ([], [], refl, Appends-nil held);
+        whole = λ other input reported. (0, Appends-nil held);
+        ended = λ four. absurd (cc four);
+        unread = λ alone. (Consumes-nil left, refl, (λ e. absurd (cc e)), λ e. absurd (cc e));
+        at_end = λ some. absurd (some refl);
+        engine = refl;
+        coded = tt;
+        spent = λ few input reported. spent-none true buf;
+      }),
 )
-
--- and no engine is left
-pub shapeless-leaves : (made : Option Coded) (words : List (List ℕ)) (files : Files) (left : Input) (held : Option (List ℕ)) (status : ℕ)
-    → command_of words ≡ None → Leaves made words files left left held held status
-shapeless-leaves made words files left held status none =
-    inr (subst (λ (o : Option Command). LeavesEngine made o words files) (sym none) tt)

@@ -12,6 +12,7 @@ use Rattle.stub_codes.specs.declared.stub.Stub.{Stub}
 use Rattle.stub_codes.specs.Stubs.{Coded}
 use Rattle.flick_serve.proofs.Deciding.{given_somehow}
 use Rattle.flick_texts.specs.MadeText.{make_text}
+use Rattle.flick_texts.specs.Spent.{all_sent}
 use Rattle.flick_texts.specs.StubTexts.{stubs_text}
 use Rattle.flick_top.specs.declared.command.Action.{Action}
 use Rattle.flick_top.specs.declared.command.Action.TheVariants as actions
@@ -19,12 +20,12 @@ use Rattle.flick_top.specs.declared.command.Command.{Command}
 use Rattle.flick_top.specs.declared.command.Command.TheVariants as commands
 use Rattle.flick_top.specs.declared.job.Job.TheVariants as jobs
 use Rattle.flick_top.specs.declared.saying.Saying.TheVariants as sayings
-use Rattle.flick_top.specs.declared.task.Task.{Task}
 use Rattle.flick_top.specs.Command.{command_of, word_at}
 use Rattle.flick_top.specs.File.{Reported, BindSays, BoundSays, FileSays, longest_replies}
 use Rattle.flick_top.specs.Fronts.{Read, UnitOf}
 use Rattle.flick_top.specs.Laws.{WordsHaveTasks}
-use Rattle.flick_top.specs.Output.{Files, saying_task, refusing_task, answering_task, writing_task, showing_task, text_before, shapeless_task, serving_task, ServesText, ServesFile, Acts, ActsOver, Comes}
+use Rattle.flick_top.specs.Coming.{Files, showing_task, text_before, serving_task, ServesText, ServesFile, Acts, ActsOver, Comes}
+use Rattle.flick_top.specs.Task.{Task, saying_task, answering_task, writing_task, shapeless_task}
 use Rattle.flick_top.proofs.UnitsOfFronts.{IsSoundRead, unit_has}
 
 -- ---- over a back end
@@ -54,36 +55,38 @@ file_has k (Some text) = within_has k text (nat_le (length text) longest_file) r
 -- ---- words
 
 within_serves : (e : Coded) (text : List ℕ) (b : Bool)
-    → (task : Task) × MatchBool b (ServesText e text task) (task ≡ refusing_task sayings.LargeReplies e)
+    → (task : Task) × MatchBool b (ServesText e text task) (task ≡ saying_task sayings.LargeReplies (Some e))
 within_serves e text true = let (x, gives) = given_somehow e.binding text in (serving_task e text x, (x, gives, refl))
-within_serves e text false = (refusing_task sayings.LargeReplies e, refl)
+within_serves e text false = (saying_task sayings.LargeReplies (Some e), refl)
 
 serves_has : (e : Coded) (content : Option (List ℕ)) → (task : Task) × ServesFile e content task
-serves_has e None = (refusing_task sayings.NoReplies e, refl)
+serves_has e None = (saying_task sayings.NoReplies (Some e), refl)
 serves_has e (Some text) = within_serves e text (nat_le (length text) longest_replies)
 
-action_has : (a : Action) (e : Coded) (content : Option (List ℕ)) → (task : Task) × Acts a e content task
-action_has actions.Serve e content = serves_has e content
-action_has (actions.Answer verb) e content = (answering_task (text_before verb e) (jobs.Over verb e), refl)
-action_has actions.Stubs e content = (writing_task (stubs_text e) (Some e), refl)
-action_has (actions.Make number many) e content = (writing_task (make_text e.binding number many) (Some e), refl)
+action_has : (a : Action) (e : Coded) (words : List (List ℕ)) (files : Files) → (task : Task) × Acts a e words files task
+action_has (actions.Serve replies) e words files = serves_has e (files (word_at words replies))
+action_has (actions.Answer verb) e words files = (answering_task (text_before verb e) (jobs.Over verb e), refl)
+action_has actions.Stubs e words files = (writing_task (stubs_text e) [] (Some e), refl)
+action_has (actions.Make number many) e words files =
+    (writing_task (make_text e.binding number many) (all_sent e number many) (Some e), refl)
 
-reported_has : (a : Action) (reported : Reported) (content : Option (List ℕ)) → (task : Task) × ActsOver a reported content task
-reported_has a (Ok e) content = action_has a e content
-reported_has a (Err saying) content = (saying_task saying, refl)
+reported_has : (a : Action) (reported : Reported) (words : List (List ℕ)) (files : Files)
+    → (task : Task) × ActsOver a reported words files task
+reported_has a (Ok e) words files = action_has a e words files
+reported_has a (Err saying) words files = (saying_task saying None, refl)
 
 command_has : (codes : List Stub) (command : Option Command) (words : List (List ℕ)) (files : Files)
     → (task : Task) × Comes codes command words files task
 command_has codes None words files = (shapeless_task, refl)
-command_has codes (Some commands.Help) words files = (saying_task sayings.Help, refl)
-command_has codes (Some commands.Version) words files = (saying_task sayings.Version, refl)
+command_has codes (Some commands.Help) words files = (saying_task sayings.Help None, refl)
+command_has codes (Some commands.Version) words files = (saying_task sayings.Version None, refl)
 command_has codes (Some (commands.Show front)) words files =
     let (read, says, sound) = file_has front (files (word_at words 2)) in
     (showing_task read, (read, says, refl))
 command_has codes (Some (commands.Over a n)) words files =
     let (read, says, sound) = file_has n.front (files (word_at words n.file)) in
     let (reported, bound) = bound_has codes n.back read sound in
-    let (task, acts) = reported_has a reported (files (word_at words 4)) in
+    let (task, acts) = reported_has a reported words files in
     (task, (reported, (read, says, bound), acts))
 
 pub words_task : WordsHaveTasks

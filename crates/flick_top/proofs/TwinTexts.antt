@@ -1,6 +1,6 @@
 -- Texts are the same over engines that answer alike, by induction on the operations or on the number of messages.
 use Rattle.std.proofs.Common.{◌≡◌, ℕ, zero, suc, ◌+◌, ◌^◌, ◌<◌, Bool, true, false, List, [], ◌∷◌, ◌++◌, map, length, refl, sym, ap, ◌∙◌, arith}
-use Rattle.std.specs.Prelude.{◌%◌, ◌==◌, if◌then◌else◌, codes}
+use Rattle.std.specs.Prelude.{◌%◌, ◌==◌, codes}
 use Rattle.std.proofs.lemmas.Bool.Decides.{nat_tests}
 use Rattle.std.proofs.lemmas.List.{length-map}
 use Rattle.mint.specs.Types.{Ty}
@@ -19,8 +19,8 @@ use Rattle.flick_lines.specs.declared.verb.Verb.TheVariants as verbs
 use Rattle.flick_lines.proofs.Twins.{AreTwins, faces_in, AreSame, ops_alike, first_same, rest_same, none_same, names_alike, dotted_alike, request_alike, message_alike}
 use Rattle.flick_texts.specs.Counted.{messages_from, made_line}
 use Rattle.flick_texts.specs.MadeText.{turn, made_head, made_message, messages, make_text}
-use Rattle.flick_texts.specs.StubTexts.{sent_text, both_texts, texts_of, stubs_text, counted_text}
-use Rattle.flick_top.specs.Output.{text_before}
+use Rattle.flick_texts.specs.StubTexts.{sent_text, both_texts, texts_of, stubs_text}
+use Rattle.flick_top.specs.Coming.{text_before}
 use Rattle.flick_top.proofs.FilesSay.{AreAlike}
 
 -- ---- stub code

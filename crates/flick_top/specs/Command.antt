@@ -1,5 +1,5 @@
 -- The command that the words name.
-use Rattle.std.specs.Prelude.{◌≡◌, ℕ, List, [], ◌∷◌, if◌then◌else◌, Option, Some, None, unwrap_or, slice_get, codes}
+use Rattle.std.specs.Prelude.{ℕ, List, [], ◌∷◌, if◌then◌else◌, Option, Some, None, unwrap_or, slice_get, codes}
 use Rattle.std.specs.Str.{bytes_eq}
 use Rattle.idl_lex.specs.declared.kinds.Front.{Front}
 use Rattle.wire_def.specs.declared.encoding.Back.{Back}
@@ -30,9 +30,9 @@ last_action word =
     else if bytes_eq word (codes "stubs") then Some Stubs
     else None
 
--- `serve`
+-- `serve`, whose replies are in the file of the fifth word
 abbrev pub serving : List ℕ → Option Action
-serving word = if bytes_eq word (codes "serve") then Some Serve else None
+serving word = if bytes_eq word (codes "serve") then Some (Serve 4) else None
 
 -- `make`, a number, and how many messages are made from it on
 abbrev pub making : List ℕ → Option ℕ → Option ℕ → Option Action
@@ -71,16 +71,16 @@ command_of (word ∷ front ∷ back ∷ file ∷ more) = over_file (action_of wo
 abbrev pub word_at : List (List ℕ) → ℕ → List ℕ
 word_at words place = unwrap_or (slice_get words place) []
 
--- an action that answers the lines of the input
-abbrev pub IsOverLines : Action → Type 0
-IsOverLines (Answer verb) = Unit {0}
-IsOverLines Serve = Unit {0}
-IsOverLines _ = ⊥
+-- an action that answers the items of the input
+abbrev pub IsOverItems : Action → Type 0
+IsOverItems (Answer verb) = Unit {0}
+IsOverItems (Serve replies) = Unit {0}
+IsOverItems _ = ⊥
 
--- a command that answers the lines of its input
-abbrev pub AnswersLines : Option Command → Type 0
-AnswersLines (Some (Over action n)) = IsOverLines action
-AnswersLines _ = ⊥
+-- a command that answers the items of its input
+abbrev pub AnswersItems : Option Command → Type 0
+AnswersItems (Some (Over action n)) = IsOverItems action
+AnswersItems _ = ⊥
 
 -- a command over files
 abbrev pub ReadsFiles : Option Command → Type 0

@@ -3,6 +3,7 @@ use Rattle.std.specs.Prelude.{◌≡◌, ◌⊎◌, ℕ, ◌≤◌, List, length
 use Rattle.std.specs.Io.KnownBytes.{Appends}
 use Rattle.kit_base.specs.Causes.{Rose}
 use Rattle.kit_base.specs.Limits.{most_input}
+use Rattle.raw_buf.specs.Buf.{Buf}
 use Rattle.stub_codes.specs.declared.stub.Stub.{Stub}
 use Rattle.stub_codes.specs.Stubs.{Coded}
 use Rattle.flick_lines.specs.declared.verb.Verb.TheVariants.{Count}
@@ -10,13 +11,15 @@ use Rattle.flick_top.specs.declared.command.Action.{Action}
 use Rattle.flick_top.specs.declared.command.Action.TheVariants.{Answer, Stubs}
 use Rattle.flick_top.specs.declared.command.Command.{Command}
 use Rattle.flick_top.specs.declared.command.Command.TheVariants.{Over}
-use Rattle.flick_top.specs.declared.task.Task.{Task}
 use Rattle.flick_top.specs.Answer.{Answering}
 use Rattle.flick_top.specs.Command.{command_of}
-use Rattle.flick_top.specs.Made.{codes_of}
-use Rattle.flick_top.specs.Outside.{Input, Held, TakesPrefix}
-use Rattle.flick_top.specs.Output.{Files, IsTask, IsAnswered, out_of, Does}
+use Rattle.flick_top.specs.Made.{codes_of, LeavesEngine}
+use Rattle.flick_top.specs.Outside.{Input, Held, TakesPrefix, Fails}
+use Rattle.flick_top.specs.Coming.{Files, IsTask, AreAnswered, Does}
+use Rattle.flick_top.specs.Items.{IsCutting, by_lines}
+use Rattle.flick_top.specs.Task.{Task, out_of}
 use Rattle.flick_top.specs.Statement.{Works, Completes}
+use Rattle.flick_top.specs.Status.{out_of_memory}
 
 -- an action that shows the codes of the engine: `stubs` writes them, and `count` what they cost
 abbrev pub IsOverCodes : Action → Type 0
@@ -33,7 +36,7 @@ ShowsCodes _ = ⊥
 abbrev pub OneOutput : Type 0
 OneOutput = (codes others : List Stub) (words : List (List ℕ)) (files : Files) (t u : Task) (f g : Answering)
     → (ShowsCodes (command_of words) → codes ≡ others)
-    → IsTask codes words files t → IsTask others words files u → IsAnswered t f → IsAnswered u g
+    → IsTask codes words files t → IsTask others words files u → AreAnswered t.feed f → AreAnswered u.feed g
     → (input : List ℕ) → out_of t f input ≡ out_of u g input
 
 -- all words and files have a task, whatever codes an engine has
@@ -55,8 +58,18 @@ pub record NoneRose (a a' b b' c c' : ℕ) : Type 0 where
 -- the whole output was written, or memory ran out
 abbrev pub OutputsAreWhole : Type 0
 OutputsAreWhole = (made : Option Coded) (words : List (List ℕ)) (files : Files) (left left' : Input) (held held' : Held)
-    (source source' sink sink' shelf shelf' status : ℕ)
-    → Works made words files left left' source source' held held' status → TakesPrefix left left'
+    (source source' sink sink' shelf shelf' status : ℕ) (old new : Buf)
+    → Works made words files left left' source source' held held' old new status → TakesPrefix left left'
     → Completes left left' (Rose source source') (Rose sink sink') (Rose shelf shelf') status
     → (input : List ℕ) → left ≡ Some input → length input ≤ most_input → NoneRose source source' sink sink' shelf shelf'
-    → (status ≡ 7) ⊎ WritesWhole made words files input held held' status
+    → (status ≡ out_of_memory) ⊎ WritesWhole made words files input held held' status
+
+-- where a file is bound, the work that was done leaves an engine of its unit
+abbrev pub BoundFilesLeaveEngines : Type 0
+BoundFilesLeaveEngines = (made : Option Coded) (words : List (List ℕ)) (files : Files) (left left' : Input) (held held' : Held)
+    (source source' status : ℕ) (old new : Buf) → Works made words files left left' source source' held held' old new status
+    → Fails left left' held held' status ⊎ LeavesEngine made (command_of words) words files
+
+-- lines are cut so that what has ended stays
+abbrev pub LinesAreCut : Type 0
+LinesAreCut = IsCutting by_lines

@@ -7,35 +7,20 @@ use Rattle.stub_codes.specs.declared.stub.Stub.{Stub}
 use Rattle.stub_codes.specs.Stubs.{Coded, IsCoded}
 use Rattle.flick_top.specs.declared.command.Command.{Command}
 use Rattle.flick_top.specs.declared.command.Command.TheVariants.{Over}
-use Rattle.flick_top.specs.declared.job.Job.{Job}
-use Rattle.flick_top.specs.declared.job.Job.TheVariants as jobs
-use Rattle.flick_top.specs.declared.task.Task.{Task}
+use Rattle.flick_top.specs.declared.prepared.Prepared.{Prepared}
+use Rattle.flick_top.specs.Coming.{Files}
 use Rattle.flick_top.specs.Command.{word_at}
 use Rattle.flick_top.specs.File.{Reported, FileSays, IsOver, codes_in}
-use Rattle.flick_top.specs.Output.{Files}
-
--- the engine of a job
-abbrev pub engine_in : Job → Coded
-engine_in (jobs.Over verb e) = e
-engine_in (jobs.Serve s) = s.coded
-
--- that of the job, or else the one that answers no lines
-abbrev pub engine_with : Option Job → Option Coded → Option Coded
-engine_with (Some job) idle = Some (engine_in job)
-engine_with None idle = idle
-
--- the engine of a task, if it has one
-abbrev pub engine_of : Task → Option Coded
-engine_of task = engine_with task.lines task.idle
+use Rattle.flick_top.specs.Task.{engine_of}
 
 -- the codes of the operations of an engine, if there is one
 abbrev pub codes_of : Option Coded → List Stub
 codes_of None = []
 codes_of (Some e) = e.stubs
 
--- the engine of a task has the codes of what was made
-abbrev pub HasCodes : Reported → Task → Type 0
-HasCodes reported task = codes_of (engine_of task) ≡ codes_in reported
+-- the engine of what is prepared has the codes of what was made
+abbrev pub HasCodes : Reported → Prepared → Type 0
+HasCodes reported p = codes_of (engine_of p) ≡ codes_in reported
 
 -- an engine of a unit over a back end, each of whose codes is that of its operation
 abbrev pub IsEngineOver : PlainUnit → Back → Coded → Type 0

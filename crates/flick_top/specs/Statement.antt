@@ -1,88 +1,80 @@
--- The promise of `flick`: what its status says of what it wrote, took, left and met outside.
--- `over` is the defined output as a function of the input.
-use Rattle.std.specs.Prelude.{◌≡◌, ◌≢◌, ◌⊎◌, ◌↔◌, ℕ, ◌<◌, ◌≤◌, List, [], ◌++◌, length, Option, None, Some}
-use Rattle.std.specs.Io.KnownBytes.{Appends, Consumes}
+-- The promise of `flick`: what was done, and what its status says of what it wrote, took, left, sent and met outside.
+use Rattle.std.specs.Prelude.{◌≡◌, ◌≢◌, ◌⊎◌, ◌↔◌, ℕ, ◌<◌, ◌≤◌, List, [], ◌++◌, length, take, Option, None, Some, IfSome}
+use Rattle.std.specs.Io.KnownBytes.{Appends, Consumes, IsAtEnd}
 use Rattle.kit_base.specs.Limits.{most_input}
-use Rattle.stub_codes.specs.Stubs.{Coded}
-use Rattle.flick_texts.specs.WholeLines.{AreWholeLines}
-use Rattle.flick_top.specs.declared.task.Task.{Task}
+use Rattle.raw_buf.specs.Buf.{Buf}
+use Rattle.stub_codes.specs.Stubs.{Coded, IsCoded}
+use Rattle.flick_lines.specs.Sent.{IsSpentBy}
 use Rattle.flick_top.specs.Answer.{Answering}
-use Rattle.flick_top.specs.Command.{command_of, AnswersLines, ReadsFiles}
-use Rattle.flick_top.specs.Made.{codes_of, LeavesEngine}
-use Rattle.flick_top.specs.Output.{Files, Out, out_of, Does, LeavesInput, EndsInput}
-use Rattle.flick_top.specs.Outside.{Input, Held, ended_part, Fails}
+use Rattle.flick_top.specs.Coming.{Files, Does}
+use Rattle.flick_top.specs.Command.{command_of, AnswersItems, ReadsFiles}
+use Rattle.flick_top.specs.Made.{codes_of}
+use Rattle.flick_top.specs.Outside.{Input, Held, Fails}
+use Rattle.flick_top.specs.Status.{refused, usage, file_refused, source_failed, sink_failed, shelf_failed, out_of_memory, too_much}
+use Rattle.flick_top.specs.Task.{Task, items_of, ended_of, written, out_of, sent_of, exact_of}
 
--- a status of 0 to 3 is that of the output, and exactly its octets were appended, whatever counts of faults rose
-abbrev pub Writes : (List ℕ → Out) → Input → Held → Held → ℕ → Type 0
-Writes over left held held' status =
-    status ≤ 3 → (input : List ℕ) → left ≡ Some input → (status ≡ (over input).status) × Appends held held' (over input).octets
+-- what was done of a task, whose answers are f, by the status
+pub record Done (task : Task) (f : Answering) (made : Option Coded) (left left' : Input) (before now : ℕ) (held held' : Held)
+    (old new : Buf) (status : ℕ) : Type 0 where
+  -- a status up to that of a refused file is that of the output, and exactly this was appended, whatever counts of faults rose
+  pub output : status ≤ file_refused → (input : List ℕ) → left ≡ Some input
+      → (status ≡ (out_of task f input).status) × Appends held held' (out_of task f input).octets
+  -- in any case a prefix of the output was appended
+  pub prefix : (input : List ℕ) → left ≡ Some input
+      → (prefix rest : List ℕ) × ((out_of task f input).octets ≡ prefix ++ rest) × Appends held held' prefix
+  -- unless the sink failed, it is the text with whole answers to the first items
+  pub whole : status ≢ sink_failed → (input : List ℕ) → left ≡ Some input
+      → (n : ℕ) × Appends held held' (written task f (take n (items_of task.feed input)))
+  -- where the source failed, with the answers to the items that ended in the octets taken
+  pub ended : status ≡ source_failed → (input : List ℕ) → left ≡ Some input
+      → (taken : List ℕ) × Consumes left left' taken × Appends held held' (written task f (ended_of task.feed taken))
+  -- where no items are answered, nothing was taken of the source, which has not failed, nor given too much
+  pub unread : task.feed ≡ None → Consumes left left' [] × (before ≡ now) × (status ≢ source_failed) × (status ≢ too_much)
+  -- where they are, and the work was done, the input is at its end
+  pub at_end : task.feed ≢ None → status ≤ refused → IsAtEnd left'
+  -- the engine of the task is left, and each of its codes is that of its operation
+  pub engine : made ≡ task.engine
+  pub coded : IfSome made IsCoded
+  -- where the work was done, the buffer was spent by what was sent
+  pub spent : status ≤ refused → (input : List ℕ) → left ≡ Some input → IsSpentBy (exact_of task.feed) (sent_of task f input) old new
 
--- whatever the status, a prefix of the output was appended
-abbrev pub WritesPrefix : (List ℕ → Out) → Input → Held → Held → Type 0
-WritesPrefix over left held held' = (input : List ℕ) → left ≡ Some input
-    → (prefix : List ℕ) × (rest : List ℕ) × ((over input).octets ≡ prefix ++ rest) × Appends held held' prefix
+-- unless there was no task, this was done of the task to which the words come over the files; its codes are those of the engine left
+abbrev pub Works : Option Coded → List (List ℕ) → Files → Input → Input → ℕ → ℕ → Held → Held → Buf → Buf → ℕ → Type 0
+Works made words files left left' before now held held' old new status = Fails left left' held held' status
+    ⊎ Does (codes_of made) words files (λ task f. Done task f made left left' before now held held' old new status)
 
--- with status 4 exactly the output over the lines that ended in the octets taken was appended
-abbrev pub WritesEnded : (List ℕ → Out) → Input → Input → Held → Held → ℕ → Type 0
-WritesEnded over left left' held held' status = status ≡ 4 → (input : List ℕ) → left ≡ Some input
-    → (taken : List ℕ) × Consumes left left' taken × Appends held held' (over (ended_part taken)).octets
-
--- what was taken and written of a task, by the status
-pub record Writing (task : Task) (f : Answering) (left left' : Input) (before now : ℕ) (held held' : Held) (status : ℕ) : Type 0 where
-  pub output : Writes (out_of task f) left held held' status
-  pub prefix : WritesPrefix (out_of task f) left held held'
-  pub ended : WritesEnded (out_of task f) left left' held held' status
-  pub unread : LeavesInput task.lines left left' before now status
-  pub at_end : EndsInput task.lines left' status
-
--- unless there was no task, the work of the task to which the words come over the files was done; its codes are those of this engine
-abbrev pub Works : Option Coded → List (List ℕ) → Files → Input → Input → ℕ → ℕ → Held → Held → ℕ → Type 0
-Works made words files left left' before now held held' status = Fails left left' held held' status
-    ⊎ Does (codes_of made) words files (λ task f. Writing task f left left' before now held held' status)
-
--- unless there was no task, this is the engine that the words come to over the files, where they come to one
-abbrev pub Leaves : Option Coded → List (List ℕ) → Files → Input → Input → Held → Held → ℕ → Type 0
-Leaves made words files left left' held held' status =
-    Fails left left' held held' status ⊎ LeavesEngine made (command_of words) words files
-
--- status 2 comes exactly where the words name no command
+-- the words name no command: exactly then this status comes
 abbrev pub IsUsage : List (List ℕ) → ℕ → Type 0
-IsUsage words status = (status ≡ 2) ↔ (command_of words ≡ None)
+IsUsage words status = (status ≡ usage) ↔ (command_of words ≡ None)
 
--- with status 2 and 6 no engine is left
-abbrev pub LeavesNone : Option Coded → ℕ → Type 0
-LeavesNone made status = (status ≡ 2) ⊎ (status ≡ 6) → made ≡ None
+-- without a command, and where the shelf failed, no engine is left, and nothing was appended
+abbrev pub LeavesNothing : Option Coded → Held → Held → ℕ → Type 0
+LeavesNothing made held held' status = (status ≡ usage) ⊎ (status ≡ shelf_failed) → (made ≡ None) × Appends held held' []
 
--- status 6 comes only where the words name a file
+-- the shelf fails only where the words name a file
 abbrev pub NeedsFile : List (List ℕ) → ℕ → Type 0
-NeedsFile words status = status ≡ 6 → ReadsFiles (command_of words)
+NeedsFile words status = status ≡ shelf_failed → ReadsFiles (command_of words)
 
--- a status comes only where the words name a command that answers the lines of its input
-abbrev pub NeedsLines : ℕ → List (List ℕ) → ℕ → Type 0
-NeedsLines of words status = status ≡ of → AnswersLines (command_of words)
+-- a status comes only where the words name a command that answers the items of its input
+abbrev pub NeedsItems : ℕ → List (List ℕ) → ℕ → Type 0
+NeedsItems of words status = status ≡ of → AnswersItems (command_of words)
 
--- with status 2 and 6 nothing was appended
-abbrev pub WritesNothing : Held → Held → ℕ → Type 0
-WritesNothing held held' status = (status ≡ 2) ⊎ (status ≡ 6) → Appends held held' []
-
--- status 8 comes only where more than the greatest input was taken
+-- too much was given only where more than the greatest input was taken
 abbrev pub TakesMore : Input → Input → ℕ → Type 0
-TakesMore left left' status = status ≡ 8 → (taken : List ℕ) × Consumes left left' taken × (most_input < length taken)
+TakesMore left left' status = status ≡ too_much → (taken : List ℕ) × Consumes left left' taken × (most_input < length taken)
 
--- with any status up to 6 at most the greatest input was taken
+-- with any status up to that of a failed shelf at most the greatest input was taken
 abbrev pub TakesAtMost : Input → Input → ℕ → Type 0
-TakesAtMost left left' status = status ≤ 6 → (taken : List ℕ) × Consumes left left' taken × (length taken ≤ most_input)
+TakesAtMost left left' status = status ≤ shelf_failed → (taken : List ℕ) × Consumes left left' taken × (length taken ≤ most_input)
 
--- with status 2, 3 and 6 nothing was taken
+-- without a command, and where a file was refused or the shelf failed, nothing was taken
 abbrev pub TakesNothing : Input → Input → ℕ → Type 0
-TakesNothing left left' status = (status ≡ 2) ⊎ ((status ≡ 3) ⊎ (status ≡ 6)) → Consumes left left' []
+TakesNothing left left' status =
+    (status ≡ usage) ⊎ ((status ≡ file_refused) ⊎ (status ≡ shelf_failed)) → Consumes left left' []
 
--- unless the status is 5, no line was appended in part
-abbrev pub WritesWholeLines : Held → Held → ℕ → Type 0
-WritesWholeLines held held' status = status ≢ 5 → (octets : List ℕ) × Appends held held' octets × AreWholeLines octets
-
--- where the source says its octets, at most the greatest input was taken and no count of faults rose, the status is 0 to 3 or 7
+-- where the source says its octets, at most the greatest input was taken and no count of faults rose, the work came to its end, or
+-- memory ran out
 abbrev pub Completes : Input → Input → Type 0 → Type 0 → Type 0 → ℕ → Type 0
 Completes left left' SourceRose SinkRose ShelfRose status =
     (input : List ℕ) → left ≡ Some input → (taken : List ℕ) → Consumes left left' taken → length taken ≤ most_input
-    → (SourceRose → ⊥) → (SinkRose → ⊥) → (ShelfRose → ⊥) → (status ≤ 3) ⊎ (status ≡ 7)
+    → (SourceRose → ⊥) → (SinkRose → ⊥) → (ShelfRose → ⊥) → (status ≤ file_refused) ⊎ (status ≡ out_of_memory)

@@ -1,9 +1,8 @@
-//! The answer to a line.
+//! The answer to an item.
 
-ghost use Rattle.std.specs.Prelude.{◌≡◌, IfOk, OnOk};
+ghost use Rattle.std.specs.Prelude.{◌≡◌, IfOk};
 ghost use Rattle.raw_buf.specs.Buf.{NoneFell};
-ghost use Rattle.flick_top.specs.Answer.{IsAnswer, is_refusal};
-ghost use Rattle.flick_top.specs.Passing.{PassesLine};
+ghost use Rattle.flick_top.specs.Answer.{AnswersIn, is_refusal};
 
 use crate::job::Job;
 use flick_lines::{copied, ended};
@@ -20,8 +19,7 @@ pub fn answer_to(
     scratch: &mut Scratch,
     buf: &mut SendBuf,
 ) -> Result<Octets, NoMemory>
-    ensures value { IfOk result (λ o. IsAnswer job.now line.now o) }
-    ensures passes { OnOk result (PassesLine job.now line.now buf.old buf.new) }
+    ensures answers { IfOk result (λ o. AnswersIn job.now line.now o buf.old buf.new) }
     ensures spent { NoneFell buf.old.spent buf.new.spent }
 {
     match line {

@@ -13,6 +13,9 @@ use idl_lex::Front;
 use kit_base::{Octets, Words};
 use wire_def::Back;
 
+/// The place of the word of a file of replies, from 0.
+const REPLIES: usize = 4;
+
 /// How many messages `make` makes at most.
 const MOST_MADE: u64 = 1_000_000;
 
@@ -34,8 +37,8 @@ pub enum Command {
 pub enum Action {
     /// To answer the lines of the input.
     Answer(Verb),
-    /// To answer messages by the replies of a file: `serve`
-    Serve,
+    /// To answer messages by the replies of a second file, the place of whose word is given: `serve`
+    Serve(usize),
     /// To write the stub code of each operation: `stubs`
     Stubs,
     /// To make requests from a number on, so many, and to write what is counted of their messages: `make`
@@ -131,7 +134,7 @@ fn serving(word: &[u8]) -> Option<Action>
     ensures { result ≡ serving word.now }
 {
     if word == b"serve".as_slice() {
-        return Some(Action::Serve);
+        return Some(Action::Serve(REPLIES));
     }
     None
 }

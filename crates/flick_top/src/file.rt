@@ -1,23 +1,93 @@
-//! What the content of a file comes to.
+//! What a file comes to: a unit, and an engine over a back end.
 
-ghost use Rattle.std.specs.Prelude.{Some, IfOk};
+ghost use Rattle.std.specs.Prelude.{◌≡◌, ◌≢◌, ◌≤◌, Some, IfOk, IfErr};
+ghost use Rattle.kit_base.specs.Causes.{Rose};
 ghost use Rattle.aoi.specs.Plain.{plain, IsSoundPlain};
 ghost use Rattle.pres.specs.Faults.{bind_fault};
+ghost use Rattle.flick_top.specs.Coming.{Files, IsMadeOf};
 ghost use Rattle.flick_top.specs.File.{FileSays, BindSays, BoundSays, IsSoundly, codes_in, plainly};
 
+use crate::command::Named;
 use crate::fronts::unit_of;
 use crate::saying::Saying;
 use aoi::Unit;
 use flick_engine::Engine;
 use idl_lex::Front;
-use kit_base::NoMemory;
 use kit_base::limits::LONGEST_FILE;
+use kit_base::{NoMemory, Shelf, ShelfErr};
 use pres::{BindErr, bind};
 use std::alloc::Global;
 use wire_def::Back;
 
+/// Why there is no task.
+#[derive(Clone, Copy, Debug, PartialEq, Eq)]
+pub enum TaskErr {
+    /// The shelf failed.
+    Shelf,
+    /// Memory ran out.
+    NoMemory,
+}
+
+impl From<NoMemory> for TaskErr {
+    ghost use Rattle.std.specs.Prelude.{◌≡◌};
+    ghost use Rattle.flick_top.specs.declared.file.TaskErr.TheVariants.{NoMemory as NoTask};
+
+    ghost from_gives = { λ _ e. e ≡ NoTask };
+
+    fn from(_: NoMemory) -> TaskErr {
+        TaskErr::NoMemory
+    }
+}
+
+/// The engine of the file at a path, or what is said instead.
+pub fn engine_at<F: Shelf>(
+    alloc: Global,
+    named: &Named,
+    path: &[u8],
+    shelf: &mut F,
+) -> Result<Result<Engine, Saying>, TaskErr>
+    ensures reported { IfOk result (λ reported. (files : Files) → F.files shelf.old ≡ Some files
+        → IsMadeOf (codes_in reported) named.now (files path.now) reported) }
+    ensures files { F.files shelf.new ≡ F.files shelf.old }
+    ensures later { F.faults shelf.old ≤ F.faults shelf.new }
+    ensures cause { IfErr result (λ e. e ≡ TaskErr.Shelf → Rose (F.faults shelf.old) (F.faults shelf.new)) }
+    ensures stands { result ≢ Err TaskErr.Shelf → F.faults shelf.old ≡ F.faults shelf.new }
+{
+    let read = unit_at(alloc, named.front, path, shelf)?;
+    Ok(made_of(alloc, named.back, read)?)
+}
+
+/// The unit of the file at a path, or what is said instead. One octet more than the greatest
+/// length is read, which shows that a file is longer.
+pub fn unit_at<F: Shelf>(
+    alloc: Global,
+    front: Front,
+    path: &[u8],
+    shelf: &mut F,
+) -> Result<Result<Unit, Saying>, TaskErr>
+    // What was read.
+    ensures reported { IfOk result (λ read. (files : Files) → F.files shelf.old ≡ Some files
+        → FileSays front (files path.now) (plainly read)) }
+    ensures sound { IfOk result IsSoundly }
+    // Whether the shelf failed.
+    ensures files { F.files shelf.new ≡ F.files shelf.old }
+    ensures later { F.faults shelf.old ≤ F.faults shelf.new }
+    ensures cause { IfErr result (λ e. e ≡ TaskErr.Shelf → Rose (F.faults shelf.old) (F.faults shelf.new)) }
+    ensures stands { result ≢ Err TaskErr.Shelf → F.faults shelf.old ≡ F.faults shelf.new }
+{
+    match shelf.read_file(alloc, path, LONGEST_FILE + 1) {
+        Ok(text) => match read_content(alloc, front, text.as_slice()) {
+            Ok(read) => Ok(read),
+            Err(NoMemory) => Err(TaskErr::NoMemory),
+        },
+        Err(ShelfErr::Absent) => Ok(Err(Saying::NoFile)),
+        Err(ShelfErr::Failed) => Err(TaskErr::Shelf),
+        Err(ShelfErr::NoMemory) => Err(TaskErr::NoMemory),
+    }
+}
+
 /// The unit of a file's content, or what is said instead.
-pub fn read_content(
+fn read_content(
     alloc: Global,
     front: Front,
     content: &[u8],
@@ -32,7 +102,7 @@ pub fn read_content(
 }
 
 /// What is made over a back end of what was read, or what is said instead.
-pub fn made_of(
+fn made_of(
     alloc: Global,
     back: Back,
     read: Result<Unit, Saying>,

@@ -1,11 +1,10 @@
-//! What answers the lines of the input.
+//! What answers the items of the input.
 
 ghost use Rattle.std.specs.Prelude.{◌≡◌, IfOk, OnOk};
 ghost use Rattle.raw_buf.specs.Buf.{NoneFell};
 ghost use Rattle.stub_codes.specs.Stubs.{IsCoded};
-ghost use Rattle.flick_top.specs.Answer.{Answering, IsAnswering, IsAnswerOf};
-ghost use Rattle.flick_top.specs.Made.{engine_in};
-ghost use Rattle.flick_top.specs.Passing.{PassesText};
+ghost use Rattle.flick_top.specs.Answer.{Answering, IsAnswering, IsTextTo, SendsFor};
+ghost use Rattle.flick_top.specs.Task.{engine_in};
 
 use flick_engine::Engine;
 use flick_lines::Verb;
@@ -15,7 +14,7 @@ use kit_base::{NoMemory, Octets};
 use raw_buf::SendBuf;
 use std::alloc::Global;
 
-/// What answers the lines of the input.
+/// What answers the items of the input.
 #[derive(Drop)]
 pub enum Job {
     /// What a verb makes of each line, over an engine.
@@ -33,8 +32,8 @@ impl Job {
         scratch: &mut Scratch,
         buf: &mut SendBuf,
     ) -> Result<Octets, NoMemory>
-        ensures value { IfOk result (λ o. IsAnswerOf self.now text.now o) }
-        ensures passes { OnOk result (PassesText self.now text.now buf.old buf.new) }
+        ensures value { IfOk result (λ o. IsTextTo self.now text.now o) }
+        ensures sends { OnOk result (SendsFor self.now text.now buf.old buf.new) }
         ensures spent { NoneFell buf.old.spent buf.new.spent }
     {
         match self {
@@ -45,8 +44,8 @@ impl Job {
         }
     }
 
-    /// Each line has an answer. It does nothing.
-    pub fn lines_are_answered(&self)
+    /// Each item has an answer. It does nothing.
+    pub fn items_are_answered(&self)
         ensures { (f : Answering) × IsAnswering self.now f }
     {
         match self {

@@ -1,8 +1,8 @@
 //! The laws of what is written, each the contract of a function that does nothing.
 
-ghost use Rattle.flick_top.specs.Laws.{OneOutput, OutputsAreWhole, WordsHaveTasks};
+ghost use Rattle.flick_top.specs.Laws.{BoundFilesLeaveEngines, LinesAreCut, OneOutput, OutputsAreWhole, WordsHaveTasks};
 
-/// The words have one output over the files: whatever the task to which they come and the answers to its lines, what is
+/// The words have one output over the files: whatever the task to which they come and the answers to its items, what is
 /// written over an input, and the status, are the same.
 pub fn outputs_are_determined()
     ensures { OneOutput }
@@ -17,4 +17,15 @@ pub fn words_have_tasks()
 /// the clauses `work`, `taken` and `completes` of `flick` come to.
 pub fn outputs_are_whole()
     ensures { OutputsAreWhole }
+{}
+
+/// Where the file of a command over a back end is bound, an engine of its unit is left, whatever became of a second file:
+/// this is what the clause `work` of `flick` comes to.
+pub fn bound_files_leave_engines()
+    ensures { BoundFilesLeaveEngines }
+{}
+
+/// The lines that have ended stay, whatever follows.
+pub fn lines_are_cut()
+    ensures { LinesAreCut }
 {}

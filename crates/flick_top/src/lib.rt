@@ -1,4 +1,4 @@
-//! The top call: a command of words, over the files of a shelf and the lines of a source.
+//! The top call: a command of words, over the files of a shelf and the items of a source.
 #![tactic(auto)]
 
 mod answer;
@@ -9,11 +9,14 @@ mod fronts;
 mod job;
 mod laws;
 mod numbers;
+mod prepared;
 mod saying;
 mod status;
-mod task;
 mod top;
 mod turns;
 
-pub use laws::{outputs_are_determined, outputs_are_whole, words_have_tasks};
+pub use laws::{
+    bound_files_leave_engines, lines_are_cut, outputs_are_determined, outputs_are_whole,
+    words_have_tasks,
+};
 pub use top::flick;

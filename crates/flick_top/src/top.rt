@@ -3,13 +3,14 @@
 ghost use Rattle.std.specs.Prelude.{◌≡◌, ◌≤◌, Some};
 ghost use Rattle.kit_base.specs.Causes.{Rose};
 ghost use Rattle.raw_buf.specs.Buf.{NoneFell};
-ghost use Rattle.flick_top.specs.Output.{Files};
+ghost use Rattle.flick_top.specs.Coming.{Files};
 ghost use Rattle.flick_top.specs.Outside.{TakesPrefix, ComesBy, StandsUnless};
-ghost use Rattle.flick_top.specs.Spending.{SpendsBuf};
-ghost use Rattle.flick_top.specs.Statement.{Works, Leaves, LeavesNone, IsUsage, NeedsFile, NeedsLines, WritesNothing, WritesWholeLines, TakesMore, TakesAtMost, TakesNothing, Completes};
+ghost use Rattle.flick_top.specs.Statement.{Works, LeavesNothing, IsUsage, NeedsFile, NeedsItems, TakesMore, TakesAtMost, TakesNothing, Completes};
+ghost use Rattle.flick_top.specs.Status.{source_failed, sink_failed, shelf_failed, too_much};
 
-use crate::coming::{TaskErr, task_of};
+use crate::coming::prepare;
 use crate::command::command_of;
+use crate::file::TaskErr;
 use crate::status::Status;
 use crate::turns::perform;
 use flick_engine::Engine;
@@ -31,38 +32,32 @@ pub fn flick<F: Shelf, S: Source, K: Sink>(
     buf: &mut SendBuf,
     made: &mut Option<Engine>,
 ) -> u8
-    // What was done, and the engine that is left.
+    // What was done: written, taken, left and sent.
     ensures work { (files : Files) → F.files shelf.old ≡ Some files
         → Works made.new words.now files (S.left input.old) (S.left input.new)
-        (S.faults input.old) (S.faults input.new) (K.held output.old) (K.held output.new) result }
-    ensures made { (files : Files) → F.files shelf.old ≡ Some files
-        → Leaves made.new words.now files (S.left input.old) (S.left input.new)
-        (K.held output.old) (K.held output.new) result }
-    ensures stale { LeavesNone made.new result }
-    // What a status says of the words, of what was written, and of what was taken.
+        (S.faults input.old) (S.faults input.new) (K.held output.old) (K.held output.new)
+        buf.old buf.new result }
+    // What a status says of the words, of what was left, and of what was taken.
     ensures usage { IsUsage words.now result }
+    ensures nothing { LeavesNothing made.new (K.held output.old) (K.held output.new) result }
     ensures file { NeedsFile words.now result }
-    ensures reads { NeedsLines 4 words.now result }
-    ensures exceeds { NeedsLines 8 words.now result }
-    ensures nothing { WritesNothing (K.held output.old) (K.held output.new) result }
-    ensures lines { WritesWholeLines (K.held output.old) (K.held output.new) result }
+    ensures reads { NeedsItems source_failed words.now result }
+    ensures exceeds { NeedsItems too_much words.now result }
     ensures taken { TakesPrefix (S.left input.old) (S.left input.new) }
     ensures more { TakesMore (S.left input.old) (S.left input.new) result }
     ensures at_most { TakesAtMost (S.left input.old) (S.left input.new) result }
     ensures unread { TakesNothing (S.left input.old) (S.left input.new) result }
-    // What failed, and what the buffer spent and holds.
-    ensures files { F.files shelf.new ≡ F.files shelf.old }
-    ensures source { ComesBy 4 (S.faults input.old) (S.faults input.new) result }
-    ensures sink { ComesBy 5 (K.faults output.old) (K.faults output.new) result }
-    ensures shelf { ComesBy 6 (F.faults shelf.old) (F.faults shelf.new) result }
-    ensures source_reported { StandsUnless 4 (S.faults input.old) (S.faults input.new) result }
-    ensures sink_reported { StandsUnless 5 (K.faults output.old) (K.faults output.new) result }
-    ensures shelf_reported { StandsUnless 6 (F.faults shelf.old) (F.faults shelf.new) result }
+    // What failed.
+    ensures source { ComesBy source_failed (S.faults input.old) (S.faults input.new) result }
+    ensures sink { ComesBy sink_failed (K.faults output.old) (K.faults output.new) result }
+    ensures shelf { ComesBy shelf_failed (F.faults shelf.old) (F.faults shelf.new) result }
+    ensures source_reported { StandsUnless source_failed (S.faults input.old) (S.faults input.new) result }
+    ensures sink_reported { StandsUnless sink_failed (K.faults output.old) (K.faults output.new) result }
+    ensures shelf_reported { StandsUnless shelf_failed (F.faults shelf.old) (F.faults shelf.new) result }
     ensures completes { Completes (S.left input.old) (S.left input.new)
         (Rose (S.faults input.old) (S.faults input.new)) (Rose (K.faults output.old) (K.faults output.new))
         (Rose (F.faults shelf.old) (F.faults shelf.new)) result }
-    ensures spends { (files : Files) → F.files shelf.old ≡ Some files
-        → SpendsBuf made.new words.now files (S.left input.old) buf.old buf.new result }
+    ensures files { F.files shelf.new ≡ F.files shelf.old }
     ensures spent { NoneFell buf.old.spent buf.new.spent }
     ensures range { result ≤ 8 }
 {
@@ -70,12 +65,12 @@ pub fn flick<F: Shelf, S: Source, K: Sink>(
     let Some(command) = command_of(words) else {
         return Status::Usage.number();
     };
-    match task_of(alloc, words, command, shelf, buf) {
-        Ok(task) => {
-            task.lines_are_answered();
-            task.codes_are_the_operations();
-            let status = perform(alloc, &task, input, output, buf);
-            *made = task.into_engine();
+    match prepare(alloc, words, command, shelf, buf) {
+        Ok(prepared) => {
+            prepared.items_are_answered();
+            prepared.codes_are_the_operations();
+            let status = perform(alloc, &prepared, input, output, buf);
+            *made = prepared.into_engine();
             status.number()
         }
         Err(TaskErr::Shelf) => Status::Shelf.number(),

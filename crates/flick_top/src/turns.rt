@@ -1,103 +1,91 @@
-//! The lines of the input, and what is written of them.
+//! The items of the input, and what is written of them.
 
-ghost use Rattle.std.specs.Prelude.{◌≡◌, ◌≢◌, ◌≤◌, ◌||◌, if◌then◌else◌};
-ghost use Rattle.std.specs.Io.KnownBytes.{IsAtEnd};
+ghost use Rattle.std.specs.Prelude.{◌≡◌, ◌≢◌, [], ◌||◌, Some, IfSome, if◌then◌else◌};
 ghost use Rattle.raw_buf.specs.Buf.{NoneFell};
+ghost use Rattle.stub_codes.specs.Stubs.{IsCoded};
 ghost use Rattle.flick_top.specs.Answer.{Answering, IsAnswering};
-ghost use Rattle.flick_top.specs.Output.{answers_out, out_of, IsAnswered, LeavesInput, EndsInput};
+ghost use Rattle.flick_top.specs.Coming.{AreAnswered};
 ghost use Rattle.flick_top.specs.Outside.{TakesPrefix, ComesBy, StandsUnless};
-ghost use Rattle.flick_top.specs.Passing.{PassesInput, PassesOf};
-ghost use Rattle.flick_top.specs.Statement.{Writes, WritesPrefix, WritesEnded, WritesNothing, WritesWholeLines, TakesMore, TakesAtMost, TakesNothing};
-ghost use Rattle.flick_top.specs.Status.{number_of};
+ghost use Rattle.flick_top.specs.Statement as statement;
+ghost use Rattle.flick_top.specs.Statement.{TakesMore, TakesAtMost, TakesNothing};
+ghost use Rattle.flick_top.specs.Status.{number_of, sink_failed, source_failed};
+ghost use Rattle.flick_top.specs.Task.{answering_task, engine_in, engine_of, task_in};
 ghost use Rattle.flick_top.specs.Turn.{status_at, IsReady};
 
 use crate::answer::{answer_to, is_refusal};
 use crate::job::Job;
+use crate::prepared::Prepared;
 use crate::status::Status;
-use crate::task::Task;
 use json_shape::Scratch;
 use kit_base::limits::{LONGEST_LINE, MOST_INPUT};
 use kit_base::{Failed, LineErr, Lines, Sink, Source, write_whole};
 use raw_buf::SendBuf;
 use std::alloc::Global;
 
-/// Does a task: writes its text, and then answers the lines of the input, where it answers lines.
+/// Does what is prepared: writes its text, and then answers the items of the input, where they are answered.
 pub fn perform<S: Source, K: Sink>(
     alloc: Global,
-    task: &Task,
+    prepared: &Prepared,
     input: &mut S,
     output: &mut K,
     buf: &mut SendBuf,
 ) -> Status
-    requires ready { IsReady task.now }
-    // What was written.
-    ensures output { (f : Answering) → IsAnswered task.now f → Writes (out_of task.now f) (S.left input.old)
-        (K.held output.old) (K.held output.new) (number_of result) }
-    ensures prefix { (f : Answering) → IsAnswered task.now f
-        → WritesPrefix (out_of task.now f) (S.left input.old) (K.held output.old) (K.held output.new) }
-    ensures ended { (f : Answering) → IsAnswered task.now f → WritesEnded (out_of task.now f)
-        (S.left input.old) (S.left input.new) (K.held output.old) (K.held output.new) (number_of result) }
-    ensures lines { (f : Answering) → IsAnswered task.now f
-        → WritesWholeLines (K.held output.old) (K.held output.new) (number_of result) }
+    requires ready { IsReady prepared.now }
+    // What was done.
+    ensures done { (f : Answering) → AreAnswered prepared.now.feed f → IfSome (engine_of prepared.now) IsCoded
+        → statement.Done (task_in prepared.now []) f (engine_of prepared.now)
+        (S.left input.old) (S.left input.new) (S.faults input.old) (S.faults input.new)
+        (K.held output.old) (K.held output.new) buf.old buf.new (number_of result) }
+    ensures spent { NoneFell buf.old.spent buf.new.spent }
     // What was taken.
-    ensures unread { LeavesInput task.now.lines (S.left input.old) (S.left input.new)
-        (S.faults input.old) (S.faults input.new) (number_of result) }
-    ensures at_end { EndsInput task.now.lines (S.left input.new) (number_of result) }
     ensures taken { TakesPrefix (S.left input.old) (S.left input.new) }
     ensures more { TakesMore (S.left input.old) (S.left input.new) (number_of result) }
     ensures at_most { TakesAtMost (S.left input.old) (S.left input.new) (number_of result) }
     ensures none_taken { TakesNothing (S.left input.old) (S.left input.new) (number_of result) }
     // Which status came.
-    ensures nothing { WritesNothing (K.held output.old) (K.held output.new) (number_of result) }
-    ensures source { ComesBy 4 (S.faults input.old) (S.faults input.new) (number_of result) }
-    ensures sink { ComesBy 5 (K.faults output.old) (K.faults output.new) (number_of result) }
-    ensures source_reported { StandsUnless 4 (S.faults input.old) (S.faults input.new) (number_of result) }
-    ensures sink_reported { StandsUnless 5 (K.faults output.old) (K.faults output.new) (number_of result) }
+    ensures source { ComesBy source_failed (S.faults input.old) (S.faults input.new) (number_of result) }
+    ensures sink { ComesBy sink_failed (K.faults output.old) (K.faults output.new) (number_of result) }
+    ensures source_reported { StandsUnless source_failed
+        (S.faults input.old) (S.faults input.new) (number_of result) }
+    ensures sink_reported { StandsUnless sink_failed
+        (K.faults output.old) (K.faults output.new) (number_of result) }
     ensures usage { result ≢ Status.Usage }
     ensures shelf { result ≢ Status.Shelf }
-    // What becomes of the buffer.
-    ensures passes { PassesOf task.now.lines (S.left input.old) buf.old buf.new (number_of result) }
-    ensures spent { NoneFell buf.old.spent buf.new.spent }
 {
-    if let Err(Failed) = write_whole(output, task.text.as_slice()) {
+    if let Err(Failed) = write_whole(output, prepared.text.as_slice()) {
         return Status::Sink;
     }
-    match &task.lines {
-        Some(job) => answer_lines(alloc, job, input, output, buf),
-        None => task.status,
+    match &prepared.feed {
+        Some(job) => answer_items(alloc, job, input, output, buf),
+        None => prepared.status,
     }
 }
 
-/// Answers the lines of the input, each by one write.
-fn answer_lines<S: Source, K: Sink>(
+/// Answers the items of the input, each by one write.
+fn answer_items<S: Source, K: Sink>(
     alloc: Global,
     job: &Job,
     input: &mut S,
     output: &mut K,
     buf: &mut SendBuf,
 ) -> Status
-    // What was written.
-    ensures output { (f : Answering) → IsAnswering job.now f → Writes (answers_out f) (S.left input.old)
-        (K.held output.old) (K.held output.new) (number_of result) }
-    ensures prefix { (f : Answering) → IsAnswering job.now f → WritesPrefix (answers_out f) (S.left input.old)
-        (K.held output.old) (K.held output.new) }
-    ensures ended { (f : Answering) → IsAnswering job.now f → WritesEnded (answers_out f)
-        (S.left input.old) (S.left input.new) (K.held output.old) (K.held output.new) (number_of result) }
-    ensures lines { (f : Answering) → IsAnswering job.now f
-        → WritesWholeLines (K.held output.old) (K.held output.new) (number_of result) }
+    // What was done.
+    ensures done { (f : Answering) → IsAnswering job.now f → IsCoded (engine_in job.now)
+        → statement.Done (answering_task [] job.now) f (Some (engine_in job.now))
+        (S.left input.old) (S.left input.new) (S.faults input.old) (S.faults input.new)
+        (K.held output.old) (K.held output.new) buf.old buf.new (number_of result) }
+    ensures spent { NoneFell buf.old.spent buf.new.spent }
     // What was taken, and which status came.
+    ensures taken { TakesPrefix (S.left input.old) (S.left input.new) }
     ensures more { TakesMore (S.left input.old) (S.left input.new) (number_of result) }
     ensures at_most { TakesAtMost (S.left input.old) (S.left input.new) (number_of result) }
-    ensures source { ComesBy 4 (S.faults input.old) (S.faults input.new) (number_of result) }
-    ensures sink { ComesBy 5 (K.faults output.old) (K.faults output.new) (number_of result) }
-    ensures source_reported { StandsUnless 4 (S.faults input.old) (S.faults input.new) (number_of result) }
-    ensures sink_reported { StandsUnless 5 (K.faults output.old) (K.faults output.new) (number_of result) }
+    ensures source { ComesBy source_failed (S.faults input.old) (S.faults input.new) (number_of result) }
+    ensures sink { ComesBy sink_failed (K.faults output.old) (K.faults output.new) (number_of result) }
+    ensures source_reported { StandsUnless source_failed
+        (S.faults input.old) (S.faults input.new) (number_of result) }
+    ensures sink_reported { StandsUnless sink_failed
+        (K.faults output.old) (K.faults output.new) (number_of result) }
     ensures others { (result ≢ Status.Usage) × (result ≢ Status.File) × (result ≢ Status.Shelf) }
-    ensures at_end { number_of result ≤ 1 → IsAtEnd (S.left input.new) }
-    ensures taken { TakesPrefix (S.left input.old) (S.left input.new) }
-    // What becomes of the buffer.
-    ensures passes { PassesInput job.now (S.left input.old) buf.old buf.new (number_of result) }
-    ensures spent { NoneFell buf.old.spent buf.new.spent }
 {
     let mut lines = Lines::new(alloc, LONGEST_LINE, MOST_INPUT);
     // What reading needs is made once, and not for each line.

@@ -1,7 +1,37 @@
-use Rattle.std.proofs.Common.{sym, subst}
-use Rattle.flick_top.specs.Command.{IsOverLines}
-use Rattle.flick_top.proofs.Reading.{over_lines}
+use Rattle.std.proofs.Common.{ℕ, List, [], Some, sym, ap, ◌∙◌, subst}
+use Rattle.flick_top.specs.declared.command.Action.{Action}
+use Rattle.flick_top.specs.Coming.{Acts}
+use Rattle.flick_top.specs.Command.{IsOverItems}
+use Rattle.flick_top.specs.Task.{task_in, writing_task}
+use Rattle.flick_top.proofs.OverFiles.{served-acts, made-acts}
+use Rattle.flick_top.proofs.Reading.{over_items}
+use Rattle.flick_top.proofs.Tasking.{is-in}
 use Rattle.flick_top.proofs.coming.acting.Goals as goal
 
-pub returns-in-Serve-clause-lines : goal.returns-in-Serve-clause-lines
-returns-in-Serve-clause-lines g c = over_lines c.args.action c.serving.result (subst IsOverLines (sym c.in-Serve.is) tt)
+pub returns-in-Serve-clause-items : goal.returns-in-Serve-clause-items
+returns-in-Serve-clause-items g c = over_items c.args.action c.serving.result (subst IsOverItems (sym c.in-Serve.is) tt)
+
+pub returns-in_ok-answering-in-Answer-clause-acts : goal.returns-in_ok-answering-in-Answer-clause-acts
+returns-in_ok-answering-in-Answer-clause-acts g c = λ files told.
+    let p = c.in_ok-answering-in-Answer.field-0 in
+    is-in (Acts c.args.action c.args.engine c.args.words.now files) p _
+    (subst (λ (a : Action). Acts a c.args.engine c.args.words.now files (task_in p [])) (sym c.in-Answer.is)
+    c.in_ok-answering-in-Answer.ensures.value)
+
+pub returns-in-Serve-clause-acts : goal.returns-in-Serve-clause-acts
+returns-in-Serve-clause-acts g c =
+    served-acts c.serving.result c.args.action c.in-Serve.replies c.args.engine c.args.words.now _ c.word_at.result.now _ c.in-Serve.is
+    c.word_at.ensures c.serving.ensures.serves
+
+pub returns-in_ok-text-in-Stubs-clause-acts : goal.returns-in_ok-text-in-Stubs-clause-acts
+returns-in_ok-text-in-Stubs-clause-acts g c = λ files told.
+    let p = c.of_text.result in
+    is-in (Acts c.args.action c.args.engine c.args.words.now files) p _
+    (subst (λ (a : Action). Acts a c.args.engine c.args.words.now files (task_in p [])) (sym c.in-Stubs.is)
+    (c.of_text.ensures.alone ∙ ap (λ (t : List ℕ). writing_task t [] (Some c.args.engine)) c.in_ok-text-in-Stubs.ensures.value))
+
+pub returns-in_ok-text-in-Make-clause-acts : goal.returns-in_ok-text-in-Make-clause-acts
+returns-in_ok-text-in-Make-clause-acts g c = λ files told.
+    made-acts c.args.action c.in-Make.number c.in-Make.many c.args.engine c.args.words.now files c.of_text-in-Make.result
+    c.in_ok-text-in-Make.text _ _ c.in-Make.is c.of_text-in-Make.ensures.value c.in_ok-text-in-Make.ensures.value
+    c.in_ok-text-in-Make.ensures.sends

@@ -1,7 +1,7 @@
 use Rattle.std.proofs.Common.{List, ℕ, Some, subst}
 use Rattle.flick_top.specs.File.{FileSays, plainly}
 use Rattle.flick_top.proofs.Front.{reported-decides}
-use Rattle.flick_top.proofs.coming.unit_at.Goals as goal
+use Rattle.flick_top.proofs.file.unit_at.Goals as goal
 
 pub returns-in-Ok-read_content-clause-reported : goal.returns-in-Ok-read_content-clause-reported
 returns-in-Ok-read_content-clause-reported g c = λ files reported.

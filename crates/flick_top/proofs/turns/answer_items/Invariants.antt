@@ -2,16 +2,14 @@ use Rattle.std.proofs.Common.{◌≡◌, ◌≤◌, List, None}
 use Rattle.kit_base.specs.declared.lines.Line.{Line}
 use Rattle.kit_base.specs.Lines.{Advances, KnowsEnd, work}
 use Rattle.raw_buf.specs.Buf.{NoneFell}
-use Rattle.flick_top.specs.Passing.{Passes}
 use Rattle.flick_top.proofs.Turning.{AreWritten}
-use Rattle.flick_top.proofs.turns.answer_lines.Given as goal
+use Rattle.flick_top.proofs.turns.answer_items.Given as goal
 
 -- The lines so far are answered.
 abbrev pub invariant-turns : goal.invariant-turns
 invariant-turns g l = record {
   answered : (ls : List Line) × Advances (g.S.Source.left l.initial.input) (g.S.Source.left l.input) l.initial.lines l.lines ls
-      × AreWritten l.job ls (g.K.Sink.held l.initial.output) (g.K.Sink.held l.output) l.refused
-      × Passes l.job ls l.initial.buf l.buf;
+      × AreWritten l.job ls (g.K.Sink.held l.initial.output) (g.K.Sink.held l.output) l.refused l.initial.buf l.buf;
   knows_end : KnowsEnd l.lines (g.S.Source.left l.input);
   fresh : l.lines.error ≡ None;
   within : l.lines.taken ≤ l.lines.most;

@@ -1,0 +1,94 @@
+-- What a command comes to over the files.
+use Rattle.std.specs.Prelude.{◌≡◌, ℕ, List, [], length, nat_le, MatchBool, Option, Some, None, Result, Ok, Err}
+use Rattle.stub_codes.specs.declared.stub.Stub.{Stub}
+use Rattle.stub_codes.specs.Stubs.{Coded}
+use Rattle.flick_lines.specs.declared.verb.Verb.{Verb}
+use Rattle.flick_lines.specs.declared.verb.Verb.TheVariants.{Count}
+use Rattle.flick_serve.specs.Given.{Given, FileGives}
+use Rattle.flick_texts.specs.MadeText.{make_text}
+use Rattle.flick_texts.specs.Show.{show_text}
+use Rattle.flick_texts.specs.Spent.{all_sent}
+use Rattle.flick_texts.specs.StubTexts.{counted_text, stubs_text}
+use Rattle.flick_top.specs.declared.command.Action.{Action}
+use Rattle.flick_top.specs.declared.command.Action.TheVariants as actions
+use Rattle.flick_top.specs.declared.command.Command.{Command}
+use Rattle.flick_top.specs.declared.command.Command.TheVariants as commands
+use Rattle.flick_top.specs.declared.command.Named.{Named}
+use Rattle.flick_top.specs.declared.job.Job.TheVariants as jobs
+use Rattle.flick_top.specs.declared.saying.Saying.TheVariants as sayings
+use Rattle.flick_top.specs.Answer.{Answering, IsAnswering}
+use Rattle.flick_top.specs.Command.{command_of, word_at}
+use Rattle.flick_top.specs.File.{Reported, FileSays, BoundSays, longest_replies}
+use Rattle.flick_top.specs.Fronts.{Read}
+use Rattle.flick_top.specs.Task.{Task, saying_task, writing_task, answering_task, shapeless_task}
+use Rattle.flick_top.specs.declared.job.Job.{Job}
+
+-- files by their paths
+abbrev pub Files : Type 0
+Files = List ℕ → Option (List ℕ)
+
+-- the text before the answers of a verb
+abbrev pub text_before : Verb → Coded → List ℕ
+text_before Count e = counted_text e
+text_before _ e = []
+
+-- to serve by the replies that a file gives, or to say which of its lines is wrong
+abbrev pub serving_task : Coded → List ℕ → Result Given ℕ → Task
+serving_task e text (Ok g) = answering_task [] (jobs.Serve (record { coded = e; text = text }))
+serving_task e text (Err line) = saying_task (sayings.WrongReply line) (Some e)
+
+-- what `serve` comes to over an engine and the text of a file of replies
+abbrev pub ServesText : Coded → List ℕ → Task → Type 0
+ServesText e text task = (x : Result Given ℕ) × FileGives e.binding text x × (task ≡ serving_task e text x)
+
+-- the same over the content of the file, where there is the file
+abbrev pub ServesFile : Coded → Option (List ℕ) → Task → Type 0
+ServesFile e None task = task ≡ saying_task sayings.NoReplies (Some e)
+ServesFile e (Some text) task =
+    MatchBool (nat_le (length text) longest_replies) (ServesText e text task) (task ≡ saying_task sayings.LargeReplies (Some e))
+
+-- what an action comes to over an engine: to answer items by a verb, or by the replies of a second file, or to write a text
+abbrev pub Acts : Action → Coded → List (List ℕ) → Files → Task → Type 0
+Acts (actions.Answer verb) e words files task = task ≡ answering_task (text_before verb e) (jobs.Over verb e)
+Acts (actions.Serve replies) e words files task = ServesFile e (files (word_at words replies)) task
+Acts actions.Stubs e words files task = task ≡ writing_task (stubs_text e) [] (Some e)
+Acts (actions.Make number many) e words files task =
+    task ≡ writing_task (make_text e.binding number many) (all_sent e number many) (Some e)
+
+-- the same over what was made, or is said instead
+abbrev pub ActsOver : Action → Reported → List (List ℕ) → Files → Task → Type 0
+ActsOver action (Ok e) words files task = Acts action e words files task
+ActsOver action (Err saying) words files task = task ≡ saying_task saying None
+
+-- what the content of a file comes to by a front end and over a back end, where an engine has these codes
+abbrev pub IsMadeOf : List Stub → Named → Option (List ℕ) → Reported → Type 0
+IsMadeOf codes n content reported = (read : Read) × FileSays n.front content read × BoundSays codes n.back read reported
+
+-- to write the text of a unit that was read, or what is said instead
+abbrev pub showing_task : Read → Task
+showing_task (Ok u) = writing_task (show_text u) [] None
+showing_task (Err saying) = saying_task saying None
+
+-- a task is what a command comes to, where an engine has these codes
+abbrev pub Comes : List Stub → Option Command → List (List ℕ) → Files → Task → Type 0
+Comes codes None words files task = task ≡ shapeless_task
+Comes codes (Some commands.Help) words files task = task ≡ saying_task sayings.Help None
+Comes codes (Some commands.Version) words files task = task ≡ saying_task sayings.Version None
+Comes codes (Some (commands.Show front)) words files task =
+    (read : Read) × FileSays front (files (word_at words 2)) read × (task ≡ showing_task read)
+Comes codes (Some (commands.Over action n)) words files task =
+    (reported : Reported) × IsMadeOf codes n (files (word_at words n.file)) reported × ActsOver action reported words files task
+
+-- the words come to this task over these files
+abbrev pub IsTask : List Stub → List (List ℕ) → Files → Task → Type 0
+IsTask codes words files task = Comes codes (command_of words) words files task
+
+-- the answers to the items, where items are answered
+abbrev pub AreAnswered : Option Job → Answering → Type 0
+AreAnswered None f = Unit {0}
+AreAnswered (Some job) f = IsAnswering job f
+
+-- the words come to a task, and its items have these answers, of which this holds
+abbrev pub Does : List Stub → List (List ℕ) → Files → (Task → Answering → Type 0) → Type 0
+Does codes words files Holds =
+    (task : Task) × (f : Answering) × IsTask codes words files task × AreAnswered task.feed f × Holds task f
