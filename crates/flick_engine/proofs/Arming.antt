@@ -12,6 +12,9 @@ use Rattle.cast_stub.specs.Draft.{type_of_arm}
 use Rattle.aoi.specs.Plain.{PlainRaise, PlainOperation}
 use Rattle.pres.specs.Faces.{Face, arm_types_of, type_of}
 use Rattle.pres.specs.Offers.{raised, reply_of}
+use Rattle.stub_codes.specs.Stubs.{Coded, IsCoveredReply, IsSparingReply}
+use Rattle.wire_def.specs.declared.head.Head.{Head}
+use Rattle.flick_engine.specs.Costs.{IsCoveredAnswer, IsSparingAnswer}
 use Rattle.flick_engine.specs.Replies.{IsChoice, arm_type_in}
 
 -- ---- the type of an arm
@@ -179,3 +182,15 @@ put_arm t v n k w choice typed e is =
     let (same, inner) = arm_value t v n w e a in
     let numbers : pos a.number ≡ pos k = sym same ∙ is in
     is_put t v a k w (unpos a.number k numbers) inner
+
+-- ---- what is said of the code of the arm that a value is of
+
+pub covered-as : (x y : Coded) (op k : ℕ) (h : Head) (v w : Val) → y ≡ x → v ≡ arm (pos k) w → IsCoveredReply y op k h w
+    → IsCoveredAnswer x op h v
+covered-as x y op k h v w same is covered =
+    subst (λ (z : Val). IsCoveredAnswer x op h z) (sym is) (subst (λ (c : Coded). IsCoveredReply c op k h w) same covered)
+
+pub sparing-as : (x y : Coded) (op k : ℕ) (h : Head) (v w : Val) → y ≡ x → v ≡ arm (pos k) w → IsSparingReply y op k h w
+    → IsSparingAnswer x op h v
+sparing-as x y op k h v w same is sparing =
+    subst (λ (z : Val). IsSparingAnswer x op h z) (sym is) (subst (λ (c : Coded). IsSparingReply c op k h w) same sparing)

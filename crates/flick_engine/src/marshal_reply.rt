@@ -5,11 +5,11 @@ ghost use Rattle.kit_base.specs.Limits.{longest_message};
 ghost use Rattle.mint.specs.declared.kind.Kind.TheVariants as kind;
 ghost use Rattle.mint.specs.Kinds.{in_range};
 ghost use Rattle.mint.specs.Typed.{IsWellTyped};
-ghost use Rattle.mint.specs.Values.{seen};
+ghost use Rattle.mint.specs.Values.{arm, seen};
 ghost use Rattle.raw_buf.specs.Buf.{NoneFell};
 ghost use Rattle.flick_engine.specs.Costs.{IsAnsweredByCode, IsCoveredAnswer, IsSparingAnswer};
 ghost use Rattle.flick_engine.specs.Received.{IsShort};
-ghost use Rattle.flick_engine.specs.Replies.{reply_type, reply_message};
+ghost use Rattle.flick_engine.specs.Replies.{HasArm, arm_type, reply_type, reply_message};
 
 use crate::engine::Engine;
 use crate::errors::MarshalErr;
@@ -47,6 +47,22 @@ impl Engine {
             → longest_message < length (reply_message self.now.binding op head.now (seen value.now)) }
         ensures spent { NoneFell buf.old.spent buf.new.spent }
     {
+        let (arm, inner) = self.reply_arm(op, value);
+        match self.stubs().reply(op, arm, head, inner, buf) {
+            Ok(()) => Ok(()),
+            Err(SendErr::Long) => Err(MarshalErr::Long),
+            Err(SendErr::NoMemory) => Err(MarshalErr::NoMemory),
+        }
+    }
+
+    /// The arm that the value of a reply is of, and the value in it.
+    fn reply_arm<'a>(&self, op: u32, value: &'a Value) -> (u32, &'a Value)
+        requires op { op < length self.now.binding.ops }
+        requires typed { IsWellTyped (reply_type self.now.binding op) (seen value.now) }
+        ensures is { seen value.now ≡ arm (pos result.0) (seen result.1.now) }
+        ensures there { HasArm self.now.binding op result.0 }
+        ensures typed { IsWellTyped (arm_type self.now.binding op result.0) (seen result.1.now) }
+    {
         self.replies_tell_arms(op);
         let Some((n, inner)) = value.as_arm() else {
             unreachable!()
@@ -54,11 +70,7 @@ impl Engine {
         let Some(arm) = arm_number(&n) else {
             unreachable!()
         };
-        match self.stubs().reply(op, arm, head, inner, buf) {
-            Ok(()) => Ok(()),
-            Err(SendErr::Long) => Err(MarshalErr::Long),
-            Err(SendErr::NoMemory) => Err(MarshalErr::NoMemory),
-        }
+        (arm, inner)
     }
 }
 
