@@ -5,8 +5,9 @@ use Rattle.mint.specs.declared.kind.Kind.TheVariants as kind
 use Rattle.mint.specs.declared.kind.Count.TheVariants.{AtMost}
 use Rattle.aoi.specs.Shapes.{void, number, array, named, member, no_more}
 use Rattle.aoi.specs.declared.faults.NameFault.TheVariants as fault_
-use Rattle.mig_syntax.specs.Trees.{leaf, binary}
-use Rattle.mig_syntax.specs.declared.tree.Operator.TheVariants as B
+use Rattle.idl_const.specs.declared.tree.BinaryOp.TheVariants as B
+use Rattle.idl_exprs.specs.declared.tree.Leaf.TheVariants as L
+use Rattle.idl_exprs.specs.Trees.{leaf, binary}
 use Rattle.mig_syntax.specs.declared.tree.Direction.TheVariants as D
 use Rattle.mig_syntax.specs.declared.tree.TypeForm.TheVariants as T
 use Rattle.mig_syntax.specs.declared.tree.Parameter.{Parameter}
@@ -17,7 +18,7 @@ use Rattle.idl_names.specs.Answers.{fault}
 use Rattle.front_mig.specs.Resolved.{resolved}
 
 abbrev calc : List Statement → Subsystem
-calc statements = record { name = codes "calc"; base = leaf (pos 500); statements = statements }
+calc statements = record { name = codes "calc"; base = leaf (L.Number (pos 500)); statements = statements }
 
 abbrev given_ : List ℕ → List ℕ → Parameter
 given_ name of = record { direction = None; name = name; of = of }
@@ -26,7 +27,8 @@ abbrev server : Parameter
 server = given_ (codes "server") (codes "mach_port_t")
 
 -- a base that is divided by 0
-row1 : resolved (record { name = codes "s"; base = binary B.Div (leaf (pos 1)) (leaf (pos 0)); statements = [] }) ≡ fault fault_.Range 1
+row1 : resolved (record { name = codes "s"; base = binary B.Div (leaf (L.Number (pos 1))) (leaf (L.Number (pos 0))); statements = [] })
+    ≡ fault fault_.Range 1
 row1 = refl
 
 -- two numbers go in, and the port is in no body
@@ -59,7 +61,7 @@ row2 = refl
 
 -- a known name declared again, up to 4 of it in a row, and a `skip`
 row3 : resolved (calc (V.Type (codes "int") (T.Named (codes "short"))
-    ∷ V.Type (codes "row") (T.VariableArray (leaf (pos 4)) (codes "int")) ∷ V.Skip
+    ∷ V.Type (codes "row") (T.VariableArray (leaf (L.Number (pos 4))) (codes "int")) ∷ V.Skip
     ∷ V.Routine (record { simple = true; name = codes "put"; parameters = server ∷ given_ (codes "r") (codes "row") ∷ [] }) ∷ []))
     ≡ Ok (record {
       types = (codes "int", number kind.I16) ∷ (codes "row", array (named 0) (AtMost 4)) ∷ [];
@@ -93,5 +95,5 @@ row4 : resolved (calc (V.Routine (record {
 row4 = refl
 
 -- the size of a number that is not its own
-row5 : resolved (calc (V.Skip ∷ V.Type (codes "t") (T.Sized (codes "char") (leaf (pos 16))) ∷ [])) ≡ fault fault_.Range 3
+row5 : resolved (calc (V.Skip ∷ V.Type (codes "t") (T.Sized (codes "char") (leaf (L.Number (pos 16)))) ∷ [])) ≡ fault fault_.Range 3
 row5 = refl

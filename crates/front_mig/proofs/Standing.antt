@@ -8,7 +8,7 @@ use Rattle.mint.specs.declared.kind.Count.TheVariants.{Exactly, AtMost}
 use Rattle.aoi.specs.declared.faults.NameFault.TheVariants.{Range}
 use Rattle.aoi.specs.Shapes.{Shape, void, number, enumeration, text, array, structure, choice, optional, named}
 use Rattle.aoi.specs.Sound.{is_some_count, is_sound_type, are_sound_types}
-use Rattle.mig_syntax.specs.Trees.{Tree}
+use Rattle.idl_exprs.specs.Trees.{Tree}
 use Rattle.mig_syntax.specs.declared.tree.TypeForm.{TypeForm}
 use Rattle.mig_syntax.specs.declared.tree.TypeForm.TheVariants as T
 use Rattle.idl_names.specs.declared.uses.Use.{Use}

@@ -11,7 +11,7 @@ use Rattle.aoi.specs.Sound.{is_sound_type, or_void, IsSound}
 use Rattle.aoi.specs.Units.{Parts}
 use Rattle.aoi.specs.Plain.{PlainRaise, PlainOperation, PlainUnit, plain, is_sound_plain_raise, is_sound_plain_operation, is_sound_plain}
 use Rattle.aoi.proofs.Plainly.{sound_plain}
-use Rattle.mig_syntax.specs.Trees.{Tree}
+use Rattle.idl_exprs.specs.Trees.{Tree}
 use Rattle.mig_syntax.specs.declared.tree.Statement.{Statement}
 use Rattle.mig_syntax.specs.declared.tree.Subsystem.{Subsystem}
 use Rattle.idl_names.specs.Answers.{refused, natural}

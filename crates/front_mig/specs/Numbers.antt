@@ -1,32 +1,28 @@
 -- The values of expressions.
-use Rattle.std.specs.Prelude.{Bool, nat_le, ℕ, ◌+◌, ◌-◌, ◌^◌, ℤ, pos, ◌+ℤ◌, ◌-ℤ◌, ◌*ℤ◌, int_div, not, Ok, if◌then◌else◌}
-use Rattle.std.specs.Ordering.{int_eq}
-use Rattle.idl_const.specs.Values.{is_held}
+use Rattle.std.specs.Prelude.{Bool, nat_le, ℕ, ◌+◌, ◌-◌, ◌^◌, ℤ, not, Result, Ok, Err}
+use Rattle.idl_const.specs.declared.value.ConstErr.{ConstErr}
+use Rattle.idl_const.specs.Values.{unary_value, binary_value}
 use Rattle.aoi.specs.declared.faults.NameFault.TheVariants.{Range}
-use Rattle.mig_syntax.specs.declared.tree.Operator.{Operator}
-use Rattle.mig_syntax.specs.declared.tree.Operator.TheVariants as B
-use Rattle.mig_syntax.specs.Trees.{Tree, leaf, binary}
+use Rattle.idl_exprs.specs.declared.tree.Leaf.{Leaf}
+use Rattle.idl_exprs.specs.declared.tree.Leaf.TheVariants as L
+use Rattle.idl_exprs.specs.Trees.{Tree, leaf, unary, binary}
 use Rattle.idl_names.specs.Answers.{Answer, fault, and_then, refused, natural}
 
--- a number that 128 signed bits hold
-abbrev pub held : ℕ → ℤ → Answer ℤ
-held d n = if is_held n then Ok n else fault Range d
+-- what an operator gives; where it gives nothing, the number is out of range
+abbrev pub in_range : ℕ → Result ℤ ConstErr → Answer ℤ
+in_range d (Ok n) = Ok n
+in_range d (Err e) = fault Range d
 
--- the quotient, cut towards zero
-abbrev pub quotient : ℕ → ℤ → ℤ → Answer ℤ
-quotient d a b = and_then (refused Range d (int_eq b (pos 0))) (λ _. held d (int_div a b))
+-- the value of a leaf, which is a number in every tree of a file
+abbrev pub leaf_value : ℕ → Leaf → Answer ℤ
+leaf_value d (L.Number n) = Ok n
+leaf_value d l = fault Range d
 
--- what an operator gives between two numbers
-abbrev pub combined : ℕ → Operator → ℤ → ℤ → Answer ℤ
-combined d B.Add a b = held d (a +ℤ b)
-combined d B.Sub a b = held d (a -ℤ b)
-combined d B.Mul a b = held d (a *ℤ b)
-combined d B.Div a b = quotient d a b
-
--- the value of an expression
+-- the value of an expression, or its leftmost fault
 abbrev pub value : ℕ → Tree → Answer ℤ
-value d (leaf n) = Ok n
-value d (binary op a b) = and_then (value d a) (λ m. and_then (value d b) (λ n. combined d op m n))
+value d (leaf l) = leaf_value d l
+value d (unary op a) = and_then (value d a) (λ m. in_range d (unary_value op m))
+value d (binary op a b) = and_then (value d a) (λ m. and_then (value d b) (λ n. in_range d (binary_value op m n)))
 
 -- a number of elements, from 1
 abbrev pub length_of : ℕ → Tree → Answer ℕ

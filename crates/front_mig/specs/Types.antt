@@ -7,7 +7,7 @@ use Rattle.mint.specs.declared.kind.Kind.{Kind}
 use Rattle.mint.specs.declared.kind.Kind.TheVariants as kind
 use Rattle.mint.specs.declared.kind.Count.TheVariants.{Exactly, AtMost}
 use Rattle.aoi.specs.declared.faults.NameFault.TheVariants.{Unknown, Range, OutOfScope}
-use Rattle.mig_syntax.specs.Trees.{Tree}
+use Rattle.idl_exprs.specs.Trees.{Tree}
 use Rattle.mig_syntax.specs.declared.tree.TypeForm.{TypeForm}
 use Rattle.mig_syntax.specs.declared.tree.TypeForm.TheVariants as T
 use Rattle.idl_names.specs.declared.uses.Tag.{Tag}

@@ -3,11 +3,12 @@
 ghost use Rattle.std.specs.Prelude.{◌≡◌};
 ghost use Rattle.aoi.specs.declared.faults.NameFault.TheVariants.{Range};
 ghost use Rattle.idl_names.specs.Answers.{Gives};
-ghost use Rattle.front_mig.specs.Numbers.{value, combined, quotient, length_of, base_of, ids_fit};
+ghost use Rattle.front_mig.specs.Numbers.{in_range, leaf_value, value, length_of, base_of, ids_fit};
 
 use crate::{NameErr, NameFault};
+use idl_const::{ConstErr, binary, unary};
+use idl_exprs::{Expr, Leaf, Node};
 use idl_names::{natural, refuse};
-use mig_syntax::{Expr, Node, Operator};
 
 /// A number outside its range.
 pub(crate) fn range(decl: u32) -> NameErr
@@ -19,38 +20,40 @@ pub(crate) fn range(decl: u32) -> NameErr
     }
 }
 
-/// A quotient, cut towards zero.
-fn quotient(decl: u32, a: i128, b: i128) -> Result<i128, NameErr>
-    ensures { result ≡ quotient decl a b }
+/// The number that an operator gives; where it gives none, the number is out of range.
+fn in_range(decl: u32, given: Result<i128, ConstErr>) -> Result<i128, NameErr>
+    ensures { result ≡ in_range decl given }
 {
-    if b == 0 {
-        return Err(range(decl));
-    }
-    a.checked_div(b).ok_or(range(decl))
-}
-
-/// What an operator gives between two numbers.
-fn combined(decl: u32, op: Operator, a: i128, b: i128) -> Result<i128, NameErr>
-    ensures { result ≡ combined decl op a b }
-{
-    match op {
-        Operator::Add => a.checked_add(b).ok_or(range(decl)),
-        Operator::Sub => a.checked_sub(b).ok_or(range(decl)),
-        Operator::Mul => a.checked_mul(b).ok_or(range(decl)),
-        Operator::Div => quotient(decl, a, b),
+    match given {
+        Ok(n) => Ok(n),
+        Err(_) => Err(range(decl)),
     }
 }
 
-/// The value of an expression.
+/// The value of a leaf, which is a number in every tree of a file.
+fn leaf_value(decl: u32, leaf: &Leaf) -> Result<i128, NameErr>
+    ensures { result ≡ leaf_value decl leaf.now }
+{
+    match leaf {
+        Leaf::Number(n) => Ok(*n),
+        _ => Err(range(decl)),
+    }
+}
+
+/// The value of an expression, or its leftmost fault.
 pub(crate) fn value(decl: u32, e: &Expr) -> Result<i128, NameErr>
     ensures { result ≡ value decl e.now }
 {
     match &e.node {
-        Node::Number(n) => Ok(*n),
+        Node::Leaf(leaf) => leaf_value(decl, leaf),
+        Node::Unary(op, operand) => {
+            let n = value(decl, operand)?;
+            in_range(decl, unary(*op, n))
+        }
         Node::Binary(op, left, right) => {
             let left = value(decl, left)?;
             let right = value(decl, right)?;
-            combined(decl, *op, left, right)
+            in_range(decl, binary(*op, left, right))
         }
     }
 }

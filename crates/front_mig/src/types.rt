@@ -7,8 +7,9 @@ ghost use Rattle.front_mig.specs.Types.{found, type_of, size_of, kind_in, size_i
 use crate::names::Scope;
 use crate::numbers::{length_of, value};
 use crate::{Form, Meaning, NameErr, NameFault};
+use idl_exprs::Expr;
 use idl_names::{Tag, Use, refuse, tag_of_use};
-use mig_syntax::{Expr, TypeForm};
+use mig_syntax::TypeForm;
 use mint::kind::{Count, Kind};
 
 /// What is found, or Unknown.

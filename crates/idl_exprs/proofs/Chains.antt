@@ -6,14 +6,16 @@ use Rattle.idl_const.specs.declared.tree.BinaryOp.{BinaryOp}
 use Rattle.idl_read.specs.declared.halt.Halt.{Halt}
 use Rattle.idl_read.specs.declared.halt.Halt.TheVariants as halts
 use Rattle.idl_read.specs.Reading.{Read, Reader, Fails}
+use Rattle.idl_exprs.specs.declared.languages.Language.{Language}
 use Rattle.idl_exprs.specs.Trees.{Tree, binary}
 use Rattle.idl_exprs.specs.Readers.{Levelled, over, chain_on, climb, operator_at}
 
-pub begins : (operand : Bool → ℕ → Reader Levelled) (below more : ℕ) (angle : Bool) (loose d : ℕ) (ts : List Token)
+pub begins : (operand : Language → Bool → ℕ → Reader Levelled) (below more : ℕ) (lang : Language) (angle : Bool) (loose d : ℕ)
+    (ts : List Token)
     (x : Levelled) (us : List Token)
-    → loose ≡ suc d → more ≡ suc below → climb operand below angle d ts ≡ Some (x, us)
-    → climb operand below angle loose ts ≡ chain_on (operand angle d) (operator_at angle d) (suc below) more x us
-begins operand below more angle loose d ts x us is all e = rw (is, all, e) refl
+    → loose ≡ suc d → more ≡ suc below → climb operand below lang angle d ts ≡ Some (x, us)
+    → climb operand below lang angle loose ts ≡ chain_on (operand lang angle d) (operator_at lang angle d) (suc below) more x us
+begins operand below more lang angle loose d ts x us is all e = rw (is, all, e) refl
 
 module _ (operand : Reader Levelled) (op : List Token → Option BinaryOp) (levels more left : ℕ) (x : Levelled)
     (ts : List Token) (whole : Read Levelled) (so : whole ≡ chain_on operand op levels more x ts) (some : more ≡ suc left)

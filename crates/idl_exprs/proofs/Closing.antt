@@ -12,11 +12,13 @@ use Rattle.idl_const.specs.declared.tree.UnaryOp.{UnaryOp}
 use Rattle.idl_const.specs.declared.tree.UnaryOp.TheVariants as U
 use Rattle.idl_const.specs.declared.tree.BinaryOp.{BinaryOp}
 use Rattle.idl_const.specs.declared.tree.BinaryOp.TheVariants as B
+use Rattle.idl_exprs.specs.declared.languages.Language.{Language}
+use Rattle.idl_exprs.specs.declared.languages.Language.TheVariants.{Corba, Mig}
 use Rattle.idl_exprs.specs.declared.tree.Identifier.{Identifier}
 use Rattle.idl_exprs.specs.declared.tree.Leaf.{Leaf}
 use Rattle.idl_exprs.specs.declared.tree.Leaf.TheVariants as L
 use Rattle.idl_exprs.specs.Trees.{Tree, leaf, unary, binary}
-use Rattle.idl_exprs.specs.Spelling.{identifier, scoped, leaf_text, unary_spell, binary_spell, looseness, within}
+use Rattle.idl_exprs.specs.Spelling.{identifier, scoped, leaf_text, leaf_in, unary_spell, binary_spell, looseness, within}
 use Rattle.idl_exprs.specs.Readers.{binary_in, is_joint, is_after, is_identifier, closes}
 
 pub first_kind : (ts : List Token) (k : TokenKind) (ks : List TokenKind) → kinds ts ≡ k ∷ ks
@@ -97,19 +99,30 @@ leaf_goes_on (L.Truth true) front rest s j = apart front rest (K.Name (codes "TR
 leaf_goes_on (L.Truth false) front rest s j = apart front rest (K.Name (codes "FALSE")) [] s refl refl
 leaf_goes_on (L.Name n) front rest s j = scoped_goes_on n.absolute n.parts front rest s j
 
--- an expression, after which another goes on or `>` follows
-pub goes_on : (n loose : ℕ) (t : Tree) (front rest : List Token) → within n loose t (kinds front) → begins_with is_joint rest ≡ true
+leaf_in_goes_on : (lang : Language) (l : Leaf) (front rest : List Token) → leaf_in lang l (kinds front) → begins_with is_joint rest ≡ true
     → closes (front ++ rest) ≡ false
-goes_on zero loose t front rest s j = absurd s
-goes_on (suc n) loose t front rest (inr p) j = apart front rest (K.Mark (codes "(")) p.1 (p.2 ∙ ap (λ z. z ++ p.1) p.3) refl refl
-goes_on (suc n) loose (leaf l) front rest (inl s) j = leaf_goes_on l front rest s j
-goes_on (suc n) loose (unary op a) front rest (inl s) j =
-    apart front rest (K.Mark (unary_spell op)) s.1 (s.2 ∙ ap (λ z. z ++ s.1) s.3) (unary_apart op).0 (unary_apart op).1
-goes_on (suc n) loose (binary op a b) front rest (inl s) j =
+leaf_in_goes_on Corba l front rest s j = leaf_goes_on l front rest s j
+leaf_in_goes_on Mig (L.Number n) front rest s j = apart front rest (K.Number n) [] s refl refl
+leaf_in_goes_on Mig (L.Character n) front rest s j = absurd s
+leaf_in_goes_on Mig (L.Text n) front rest s j = absurd s
+leaf_in_goes_on Mig (L.Truth n) front rest s j = absurd s
+leaf_in_goes_on Mig (L.Name n) front rest s j = absurd s
+
+-- an expression, after which another goes on or `>` follows
+pub goes_on : (lang : Language) (n loose : ℕ) (t : Tree) (front rest : List Token) → within lang n loose t (kinds front)
+    → begins_with is_joint rest ≡ true
+    → closes (front ++ rest) ≡ false
+goes_on lang zero loose t front rest s j = absurd s
+goes_on lang (suc n) loose t front rest (inr p) j = apart front rest (K.Mark (codes "(")) p.1 (p.2 ∙ ap (λ z. z ++ p.1) p.3) refl refl
+goes_on lang (suc n) loose (leaf l) front rest (inl s) j = leaf_in_goes_on lang l front rest s j
+goes_on lang (suc n) loose (unary op a) front rest (inl s) j =
+    let x = s.1 in
+    apart front rest (K.Mark (unary_spell op)) x.1 (x.2 ∙ ap (λ z. z ++ x.1) x.3) (unary_apart op).0 (unary_apart op).1
+goes_on lang (suc n) loose (binary op a b) front rest (inl s) j =
     let x = s.1 in
     let p = parted front x.0 x.1 x.2 in
     let q = parted p.1 x.4.0 x.4.1 (p.4 ∙ x.4.2) in
     let t = one_kind q.0 (K.Mark (binary_spell op)) (q.3 ∙ x.4.3) in
     let joint : begins_with is_joint (p.1 ++ rest) ≡ true = rw (q.2, t.1, t.2) (joint_operator op) in
-    let here = goes_on n (suc (looseness op)) a p.0 (p.1 ++ rest) (subst (within n (suc (looseness op)) a) (sym p.3) x.3) joint in
+    let here = goes_on lang n (suc (looseness op)) a p.0 (p.1 ++ rest) (subst (within lang n (suc (looseness op)) a) (sym p.3) x.3) joint in
     rw (p.2, append_assoc) here

@@ -1,25 +1,27 @@
 -- Identifiers, scoped names, literals and operators: what is read is what is spelled.
-use Rattle.std.proofs.Common.{◌≡◌, ◌⊎◌, inl, inr, ℕ, List, [], ◌∷◌, Some, None, Bool, true, false, ◌||◌, cond, refl, sym, ap, subst, ◌∙◌}
+use Rattle.std.proofs.Common.{◌≡◌, ◌⊎◌, inl, inr, ℕ, ℤ, List, [], ◌∷◌, Some, None, Bool, true, false, ◌||◌, cond, refl, sym, ap, subst, ◌∙◌}
 use Rattle.std.specs.Prelude.{codes, is_some}
 use Rattle.std.specs.Str.{bytes_eq}
 use Rattle.idl_lex.specs.declared.kinds.Token.{Token}
 use Rattle.idl_lex.specs.declared.kinds.TokenKind.{TokenKind}
 use Rattle.idl_lex.specs.declared.kinds.TokenKind.TheVariants as K
 use Rattle.idl_read.specs.Reading.{mark_is, begins_with, token_at}
-use Rattle.idl_read.specs.Grammar.{Text, mark, ◌&◌, one_of, when, joined, id, IsGrammar, Leads, Any}
+use Rattle.idl_read.specs.Grammar.{Text, mark, number, ◌&◌, one_of, when, joined, id, IsGrammar, Leads, Any}
 use Rattle.idl_read.proofs.Grammars.{mapped_is, both_is, either_is}
-use Rattle.idl_read.proofs.Leaves.{token_is, same_bytes, id_reads, leads_id, leads_mark, leads_either, begins_so, begins_not, Apart, apart_mark}
+use Rattle.idl_read.proofs.Leaves.{token_is, number_reads, same_bytes, id_reads, leads_id, leads_mark, leads_either, begins_so, begins_not, Apart, apart_mark}
 use Rattle.idl_read.proofs.Productions.{weaker, flag_reads, leads_when, leads_by}
 use Rattle.idl_read.proofs.Lists.{joined_is, leads_joined}
 use Rattle.idl_const.specs.declared.tree.UnaryOp.{UnaryOp}
 use Rattle.idl_const.specs.declared.tree.UnaryOp.TheVariants as U
+use Rattle.idl_exprs.specs.declared.languages.Language.{Language}
+use Rattle.idl_exprs.specs.declared.languages.Language.TheVariants.{Corba, Mig}
 use Rattle.idl_exprs.specs.declared.tree.Identifier.{Identifier}
 use Rattle.idl_exprs.specs.declared.tree.ScopedName.{ScopedName}
 use Rattle.idl_exprs.specs.declared.tree.Leaf.{Leaf}
 use Rattle.idl_exprs.specs.declared.tree.Leaf.TheVariants as L
 use Rattle.idl_exprs.specs.Words.{corba_words}
-use Rattle.idl_exprs.specs.Spelling.{identifier, scoped, leaf_text, unary_spell}
-use Rattle.idl_exprs.specs.Readers.{is_identifier, identifier_of, identifier_at, scoped_of, scoped_at, truth_in, literal_in, is_literal, leaf_of, leaf_at, unary_of, unary_in, is_unary}
+use Rattle.idl_exprs.specs.Spelling.{identifier, scoped, leaf_text, number_text, leaf_in, unary_spell}
+use Rattle.idl_exprs.specs.Readers.{is_identifier, identifier_of, identifier_at, scoped_of, scoped_at, truth_in, literal_in, is_literal, leaf_of, leaf_at, leaf_by, unary_of, unary_in, is_unary}
 
 -- ---- names
 
@@ -142,6 +144,23 @@ is_leaf k = is_literal k || is_name k
 
 pub leads_leaf : Leads leaf_text is_leaf
 leads_leaf = leads_by leaf_of leaf_back (leads_either leads_literal leads_scoped)
+
+-- ---- the leaves of a language
+
+number_back : (l : Leaf) (ks : List TokenKind) → number_text l ks → (n : ℤ) × (L.Number n ≡ l) × number n ks
+number_back (L.Number n) ks s = (n, refl, s)
+number_back (L.Character n) ks s = absurd s
+number_back (L.Text n) ks s = absurd s
+number_back (L.Truth n) ks s = absurd s
+number_back (L.Name n) ks s = absurd s
+
+pub leaf_by_is : (lang : Language) → IsGrammar (leaf_by lang) (leaf_in lang) NameMay
+leaf_by_is Corba = leaf_is
+leaf_by_is Mig = weaker (mapped_is L.Number number_text number_reads (λ n ks s. s) number_back) (λ rest may. tt)
+
+pub leads_leaf_in : (lang : Language) → Leads (leaf_in lang) is_leaf
+leads_leaf_in Corba = leads_leaf
+leads_leaf_in Mig = λ l ks s. let b = number_back l ks s in (K.Number b.0, [], b.2, refl)
 
 -- ---- operators before an operand
 

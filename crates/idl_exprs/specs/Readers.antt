@@ -5,18 +5,20 @@ use Rattle.std.specs.Str.{bytes_eq}
 use Rattle.idl_lex.specs.declared.kinds.Token.{Token}
 use Rattle.idl_lex.specs.declared.kinds.TokenKind.{TokenKind}
 use Rattle.idl_lex.specs.declared.kinds.TokenKind.TheVariants as K
-use Rattle.idl_read.specs.Reading.{Read, Reader, then_on, mark_is, mark_at, id_at, is_id, token_at, flag_at, begins_with, begins_other, both, mapped, either, after, before, joined_at}
+use Rattle.idl_read.specs.Reading.{Read, Reader, then_on, mark_is, mark_at, number_at, id_at, is_id, token_at, flag_at, begins_with, begins_other, both, mapped, either, after, before, joined_at}
 use Rattle.idl_const.specs.declared.tree.UnaryOp.{UnaryOp}
 use Rattle.idl_const.specs.declared.tree.UnaryOp.TheVariants as U
 use Rattle.idl_const.specs.declared.tree.BinaryOp.{BinaryOp}
 use Rattle.idl_const.specs.declared.tree.BinaryOp.TheVariants as B
+use Rattle.idl_exprs.specs.declared.languages.Language.{Language}
+use Rattle.idl_exprs.specs.declared.languages.Language.TheVariants.{Corba, Mig}
 use Rattle.idl_exprs.specs.declared.tree.Identifier.{Identifier}
 use Rattle.idl_exprs.specs.declared.tree.ScopedName.{ScopedName}
 use Rattle.idl_exprs.specs.declared.tree.Leaf.{Leaf}
 use Rattle.idl_exprs.specs.declared.tree.Leaf.TheVariants as L
 use Rattle.idl_exprs.specs.Trees.{Tree, leaf, unary, binary}
 use Rattle.idl_exprs.specs.Words.{corba_words, plain}
-use Rattle.idl_exprs.specs.Spelling.{looseness}
+use Rattle.idl_exprs.specs.Spelling.{looseness, has, has_signs}
 
 -- ---- names
 
@@ -68,6 +70,11 @@ leaf_of (inr n) = L.Name n
 unfoldable pub leaf_at : Reader Leaf
 leaf_at = mapped leaf_of (either (begins_with is_literal) (token_at literal_in) scoped_at)
 
+-- a leaf of a language
+abbrev pub leaf_by : Language → Reader Leaf
+leaf_by Corba = leaf_at
+leaf_by Mig = mapped L.Number number_at
+
 -- ---- operators
 
 -- the operator before an operand that a mark is
@@ -81,6 +88,10 @@ unary_in _ = None
 -- whether a token is an operator before an operand
 abbrev pub is_unary : TokenKind → Bool
 is_unary k = is_some (unary_in k)
+
+-- whether an operator before an operand comes first, where the language has such
+abbrev pub begins_sign : Language → List Token → Bool
+begins_sign lang ts = has_signs lang && begins_with is_unary ts
 
 -- the operator between operands that a mark is
 abbrev pub binary_of : List ℕ → Option BinaryOp
@@ -119,15 +130,16 @@ abbrev pub is_right : BinaryOp → Bool
 is_right B.Right = true
 is_right _ = false
 
--- an operator, where it is one that binds so loosely; between `<` and `>` a `>>` after which a type is whole is not one
-abbrev pub operator_of : Bool → ℕ → List Token → Option BinaryOp → Option BinaryOp
-operator_of angle loose ts None = None
-operator_of angle loose ts (Some op) = if looseness op == loose && not (angle && (is_right op && closes ts)) then Some op else None
+-- an operator, where it is one of the language that binds so loosely; between `<` and `>` a `>>` after which a type is whole is not one
+abbrev pub operator_of : Language → Bool → ℕ → List Token → Option BinaryOp → Option BinaryOp
+operator_of lang angle loose ts None = None
+operator_of lang angle loose ts (Some op) =
+    if (has lang op && looseness op == loose) && not (angle && (is_right op && closes ts)) then Some op else None
 
 -- the operator that comes first
-abbrev pub operator_at : Bool → ℕ → List Token → Option BinaryOp
-operator_at angle loose [] = None
-operator_at angle loose (t ∷ ts) = operator_of angle loose ts (binary_in t.kind)
+abbrev pub operator_at : Language → Bool → ℕ → List Token → Option BinaryOp
+operator_at lang angle loose [] = None
+operator_at lang angle loose (t ∷ ts) = operator_of lang angle loose ts (binary_in t.kind)
 
 -- ---- expressions, each with how many levels it takes
 
@@ -139,17 +151,17 @@ Levelled = Tree × ℕ
 abbrev pub over : BinaryOp → Levelled → Levelled → Levelled
 over op x y = (binary op x.0 y.0, suc (max x.1 y.1))
 
--- an operand in parentheses, an operator before its operand, a literal or a name
+-- an operand in parentheses, an operator before its operand, or a leaf
 abbrev pub primary_of : Levelled ⊎ (UnaryOp × Levelled) ⊎ Leaf → Levelled
 primary_of (inl x) = (x.0, suc x.1)
 primary_of (inr (inl x)) = (unary x.0 x.1.0, suc x.1.1)
 primary_of (inr (inr l)) = (leaf l, 1)
 
 -- the same, over the reader of an operand
-abbrev pub primary_at : (Bool → ℕ → Reader Levelled) → Bool → Reader Levelled
-primary_at operand angle = mapped primary_of (
-    either (begins_with (mark_is (codes "("))) (after (mark_at (codes "(")) (before (operand false 6) (mark_at (codes ")"))))
-    (either (begins_with is_unary) (both (token_at unary_in) (operand angle 0)) leaf_at))
+abbrev pub primary_at : (Language → Bool → ℕ → Reader Levelled) → Language → Bool → Reader Levelled
+primary_at operand lang angle = mapped primary_of (
+    either (begins_with (mark_is (codes "("))) (after (mark_at (codes "(")) (before (operand lang false 6) (mark_at (codes ")"))))
+    (either (begins_sign lang) (both (token_at unary_in) (operand lang angle 0)) (leaf_by lang)))
 
 -- what is read, where an operator comes first and where none does
 abbrev pub by_operator : Option BinaryOp → Read Levelled → (BinaryOp → Read Levelled) → Read Levelled
@@ -167,16 +179,20 @@ chain_on operand op levels (suc more) x ts = by_operator (op ts) (Some (x, ts))
     (λ o. then_on (operand (drop 1 ts)) (λ y us. kept_in levels (over o x y) (chain_on operand op levels more (over o x y)) us))
 
 -- an expression whose operators bind less loosely than `loose`, over the reader of its operands
-abbrev pub climb : (Bool → ℕ → Reader Levelled) → ℕ → Bool → ℕ → Reader Levelled
-climb operand below angle zero ts = primary_at operand angle ts
-climb operand below angle (suc loose) ts = then_on (climb operand below angle loose ts)
-    (λ x us. chain_on (operand angle loose) (operator_at angle loose) (suc below) (suc below) x us)
+abbrev pub climb : (Language → Bool → ℕ → Reader Levelled) → ℕ → Language → Bool → ℕ → Reader Levelled
+climb operand below lang angle zero ts = primary_at operand lang angle ts
+climb operand below lang angle (suc loose) ts = then_on (climb operand below lang angle loose ts)
+    (λ x us. chain_on (operand lang angle loose) (operator_at lang angle loose) (suc below) (suc below) x us)
 
 -- an expression whose operators bind less loosely than `loose`, within so many levels, and how many it takes
-abbrev pub within_at : ℕ → Bool → ℕ → Reader Levelled
-within_at zero angle loose ts = None
-within_at (suc n) angle loose ts = climb (within_at n) n angle loose ts
+abbrev pub within_at : ℕ → Language → Bool → ℕ → Reader Levelled
+within_at zero lang angle loose ts = None
+within_at (suc n) lang angle loose ts = climb (within_at n) n lang angle loose ts
 
--- an expression; between `<` and `>` it may end before a `>>`
+-- an expression of CORBA; between `<` and `>` it may end before a `>>`
 unfoldable pub expression_at : ℕ → Bool → Reader Tree
-expression_at levels angle = mapped (λ (x : Levelled). x.0) (within_at levels angle 6)
+expression_at levels angle = mapped (λ (x : Levelled). x.0) (within_at levels Corba angle 6)
+
+-- an expression of MIG
+unfoldable pub mig_expression_at : ℕ → Reader Tree
+mig_expression_at levels = mapped (λ (x : Levelled). x.0) (within_at levels Mig false 6)

@@ -1,11 +1,13 @@
 -- The tokens of an expression.
-use Rattle.std.specs.Prelude.{◌≡◌, ◌⊎◌, ℕ, zero, suc, ◌<◌, true, false, List, codes}
+use Rattle.std.specs.Prelude.{◌≡◌, Bool, ◌⊎◌, ℕ, zero, suc, ◌<◌, true, false, List, codes}
 use Rattle.idl_lex.specs.declared.kinds.TokenKind.TheVariants as K
 use Rattle.idl_read.specs.Grammar.{Text, one, word, mark, number, id, ◌&◌, when, joined}
 use Rattle.idl_const.specs.declared.tree.UnaryOp.{UnaryOp}
 use Rattle.idl_const.specs.declared.tree.UnaryOp.TheVariants as U
 use Rattle.idl_const.specs.declared.tree.BinaryOp.{BinaryOp}
 use Rattle.idl_const.specs.declared.tree.BinaryOp.TheVariants as B
+use Rattle.idl_exprs.specs.declared.languages.Language.{Language}
+use Rattle.idl_exprs.specs.declared.languages.Language.TheVariants.{Corba, Mig}
 use Rattle.idl_exprs.specs.declared.tree.Identifier.{Identifier}
 use Rattle.idl_exprs.specs.declared.tree.ScopedName.{ScopedName}
 use Rattle.idl_exprs.specs.declared.tree.Leaf.{Leaf}
@@ -21,7 +23,7 @@ identifier i ks = (n : List ℕ) × (plain n ≡ i.name) × id corba_words n ks
 abbrev pub scoped : ScopedName → Text
 scoped n = when (mark (codes "::")) n.absolute & joined (codes "::") identifier n.parts
 
--- a literal or a name
+-- a literal or a name, as CORBA has them
 abbrev pub leaf_text : Leaf → Text
 leaf_text (L.Number n) = number n
 leaf_text (L.Character c) = one (K.Char c)
@@ -29,6 +31,16 @@ leaf_text (L.Text t) = one (K.Text t)
 leaf_text (L.Truth true) = word (codes "TRUE")
 leaf_text (L.Truth false) = word (codes "FALSE")
 leaf_text (L.Name n) = scoped n
+
+-- a number, the one leaf that MIG has
+abbrev pub number_text : Leaf → Text
+number_text (L.Number n) = number n
+number_text l = λ ks. ⊥
+
+-- the leaves of a language
+abbrev pub leaf_in : Language → Leaf → Text
+leaf_in Corba = leaf_text
+leaf_in Mig = number_text
 
 -- the mark of an operator before its operand
 abbrev pub unary_spell : UnaryOp → List ℕ
@@ -61,18 +73,44 @@ looseness B.Mul = 0
 looseness B.Div = 0
 looseness B.Rem = 0
 
--- An expression without parentheses around it, over the texts of its operands. An operator is allowed where it binds less loosely than `loose`. Its left operand may have operators that bind as loosely, its right operand may not: operators group to the left.
-abbrev pub bare : (ℕ → Tree → Text) → ℕ → Tree → Text
-bare operand loose (leaf l) ks = leaf_text l ks
-bare operand loose (unary op a) ks = (mark (unary_spell op) & operand 0 a) ks
-bare operand loose (binary op a b) ks = (looseness op < loose)
+-- whether a language has operators before operands
+abbrev pub has_signs : Language → Bool
+has_signs Corba = true
+has_signs Mig = false
+
+-- whether a language has an operator between operands
+abbrev pub has : Language → BinaryOp → Bool
+has Corba op = true
+has Mig B.Add = true
+has Mig B.Sub = true
+has Mig B.Mul = true
+has Mig B.Div = true
+has Mig op = false
+
+-- an operator of the language that binds less loosely than `loose`
+abbrev pub Allowed : Language → ℕ → BinaryOp → Type 0
+Allowed lang loose op = (has lang op ≡ true) × (looseness op < loose)
+
+-- An expression without parentheses around it, over the texts of its operands. Its left operand may have operators that bind as loosely, its right operand may not: operators group to the left.
+abbrev pub bare : Language → (ℕ → Tree → Text) → ℕ → Tree → Text
+bare lang operand loose (leaf l) ks = leaf_in lang l ks
+bare lang operand loose (unary op a) ks = (has_signs lang ≡ true) × (mark (unary_spell op) & operand 0 a) ks
+bare lang operand loose (binary op a b) ks = Allowed lang loose op
     × (operand (suc (looseness op)) a & mark (binary_spell op) & operand (looseness op) b) ks
 
 -- An expression within so many levels: an operand, and what is in parentheses, have one level less.
-abbrev pub within : ℕ → ℕ → Tree → Text
-within zero loose t ks = ⊥
-within (suc n) loose t ks = bare (within n) loose t ks ⊎ (mark (codes "(") & within n 6 t & mark (codes ")")) ks
+abbrev pub within : Language → ℕ → ℕ → Tree → Text
+within lang zero loose t ks = ⊥
+within lang (suc n) loose t ks = bare lang (within lang n) loose t ks ⊎ (mark (codes "(") & within lang n 6 t & mark (codes ")")) ks
 
--- an expression
+-- an expression of a language
+abbrev pub expression_in : Language → ℕ → Tree → Text
+expression_in lang levels t = within lang levels 6 t
+
+-- an expression of CORBA
 abbrev pub expression : ℕ → Tree → Text
-expression levels t = within levels 6 t
+expression = expression_in Corba
+
+-- an expression of MIG
+abbrev pub mig_expression : ℕ → Tree → Text
+mig_expression = expression_in Mig

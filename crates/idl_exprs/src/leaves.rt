@@ -2,12 +2,13 @@
 
 ghost use Rattle.std.specs.Prelude.{◌≡◌};
 ghost use Rattle.idl_read.specs.Reading.{Gives, begins_with, token_at};
-ghost use Rattle.idl_exprs.specs.Readers.{is_literal, literal_in, leaf_at};
+ghost use Rattle.idl_exprs.specs.Readers.{is_literal, literal_in, leaf_at, leaf_by};
 
+use crate::languages::Language;
 use crate::names::scoped;
 use crate::tree::Leaf;
 use idl_lex::{Token, TokenKind};
-use idl_read::{Halt, is_word};
+use idl_read::{Halt, is_word, number};
 use kit_base::Octets;
 use std::alloc::Global;
 
@@ -60,7 +61,7 @@ fn literal(alloc: Global, tokens: &[Token]) -> Result<(Leaf, &[Token]), Halt>
 
 /// A literal or a name.
 #[tactic(auto, unfolding(crate::specs::Readers::leaf_at))]
-pub(crate) fn leaf(alloc: Global, tokens: &[Token]) -> Result<(Leaf, &[Token]), Halt>
+fn leaf(alloc: Global, tokens: &[Token]) -> Result<(Leaf, &[Token]), Halt>
     ensures { Gives (λ x. (x.0, x.1.now)) result (leaf_at tokens.now) }
 {
     if begins_literal(tokens) {
@@ -68,4 +69,21 @@ pub(crate) fn leaf(alloc: Global, tokens: &[Token]) -> Result<(Leaf, &[Token]), 
     }
     let (name, rest) = scoped(alloc, tokens)?;
     Ok((Leaf::Name(name), rest))
+}
+
+/// A leaf of the language: a literal or a name, or a number alone.
+pub(crate) fn leaf_by(
+    alloc: Global,
+    language: Language,
+    tokens: &[Token],
+) -> Result<(Leaf, &[Token]), Halt>
+    ensures { Gives (λ x. (x.0, x.1.now)) result (leaf_by language tokens.now) }
+{
+    match language {
+        Language::Corba => leaf(alloc, tokens),
+        Language::Mig => {
+            let (n, rest) = number(tokens)?;
+            Ok((Leaf::Number(n), rest))
+        }
+    }
 }

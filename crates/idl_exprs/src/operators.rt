@@ -3,8 +3,9 @@
 ghost use Rattle.std.specs.Prelude.{◌≡◌, drop, IfErr};
 ghost use Rattle.idl_read.specs.Reading.{Gives, begins_with, token_at};
 ghost use Rattle.idl_exprs.specs.Spelling.{looseness};
-ghost use Rattle.idl_exprs.specs.Readers.{unary_in, is_unary, binary_in, is_joint, closes, operator_at};
+ghost use Rattle.idl_exprs.specs.Readers.{unary_in, begins_sign, binary_in, is_joint, closes, operator_at};
 
+use crate::languages::{Language, has, has_signs};
 use crate::names::begins_identifier;
 use idl_const::{BinaryOp, UnaryOp};
 use idl_lex::{Token, TokenKind};
@@ -24,12 +25,12 @@ fn unary_of(token: &Token) -> Option<UnaryOp>
     }
 }
 
-/// Whether an operator before an operand comes first.
-pub(crate) fn begins_unary(tokens: &[Token]) -> bool
-    ensures { result ≡ begins_with is_unary tokens.now }
+/// Whether an operator before an operand comes first, where the language has such.
+pub(crate) fn begins_sign(language: Language, tokens: &[Token]) -> bool
+    ensures { result ≡ begins_sign language tokens.now }
 {
     match tokens {
-        [first, ..] => unary_of(first).is_some(),
+        [first, ..] => has_signs(language) && unary_of(first).is_some(),
         [] => false,
     }
 }
@@ -110,16 +111,24 @@ pub fn closes(tokens: &[Token]) -> bool
     }
 }
 
-/// The operator that comes first, where it binds so loosely. Between `<` and `>` a `>>` after which a
+/// The operator of the language that comes first, where it binds so loosely. Between `<` and `>` a `>>` after which a
 /// type is whole is not one.
-pub(crate) fn operator(angle: bool, loose: u32, tokens: &[Token]) -> Option<BinaryOp>
-    ensures { result ≡ operator_at angle loose tokens.now }
+pub(crate) fn operator(
+    language: Language,
+    angle: bool,
+    loose: u32,
+    tokens: &[Token],
+) -> Option<BinaryOp>
+    ensures { result ≡ operator_at language angle loose tokens.now }
 {
     let [first, rest @ ..] = tokens else {
         return None;
     };
     let op = binary(first)?;
-    if looseness(op) != loose || angle && matches!(op, BinaryOp::Right) && closes(rest) {
+    if !has(language, op) || looseness(op) != loose {
+        return None;
+    }
+    if angle && matches!(op, BinaryOp::Right) && closes(rest) {
         return None;
     }
     Some(op)

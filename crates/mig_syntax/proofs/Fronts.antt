@@ -8,7 +8,7 @@ use Rattle.idl_read.specs.Grammar.{each, kinds}
 use Rattle.idl_read.specs.Files.{AreDefs, HaveNone as statements_have_none, Explains as statements_explain}
 use Rattle.idl_read.proofs.Grammars.{read_is, kinds-append, parted}
 use Rattle.idl_read.proofs.Files as files
-use Rattle.mig_syntax.specs.Trees.{Tree}
+use Rattle.idl_exprs.specs.Trees.{Tree}
 use Rattle.mig_syntax.specs.Derivation.{statement, heading, Derives, Headed, first_line, HaveNone, Explains, TokensAreDecided}
 use Rattle.mig_syntax.specs.StatementReaders.{heading_at}
 use Rattle.mig_syntax.specs.declared.tree.Statement.{Statement}

@@ -9,7 +9,7 @@ use Rattle.idl_read.specs.Grammar.{Text, one, mark, ◌&◌, one_of, IsGrammar, 
 use Rattle.idl_read.proofs.Grammars.{mapped_is, both_is, either_is}
 use Rattle.idl_read.proofs.Leaves.{token_is, mark_reads, leads_mark, leads_both, leads_either, begins_so, begins_not}
 use Rattle.idl_read.proofs.Productions.{after_is, before_is, leads_after, leads_by}
-use Rattle.mig_syntax.specs.Trees.{Tree}
+use Rattle.idl_exprs.specs.Trees.{Tree}
 use Rattle.mig_syntax.specs.Words.{like, identifier, like_is, lower_in, has_like}
 use Rattle.mig_syntax.specs.Derivation.{type_form, routine, side_spell, importer_spell, body, statement, heading}
 use Rattle.mig_syntax.specs.StatementReaders.{routine_words, side_words, importer_words, file_in, definition_at, prefix_at, import_at, body_of, body_at, statement_at, heading_at}
@@ -21,7 +21,7 @@ use Rattle.mig_syntax.specs.declared.tree.Importer.{Importer}
 use Rattle.mig_syntax.specs.declared.tree.Importer.TheVariants as I
 use Rattle.mig_syntax.specs.declared.tree.Statement.{Statement}
 use Rattle.mig_syntax.specs.declared.tree.Statement.TheVariants as V
-use Rattle.mig_syntax.proofs.ExpressionsRead.{expression_is}
+use Rattle.idl_exprs.proofs.ExpressionsRead.{mig_expression_is}
 use Rattle.mig_syntax.proofs.WordsRead.{like_reads, leads_like, likes_are, leads_likes, identifier_reads, apart_like, apart_likes}
 use Rattle.mig_syntax.proofs.TypesRead.{closed_by, type_is}
 use Rattle.mig_syntax.proofs.RoutinesRead.{routine_is, leads_routine}
@@ -187,6 +187,6 @@ heading_text x = heading x.0 x.1
 pub heading_is : IsGrammar heading_at heading_text Any
 unfolding heading_at
 heading_is = after_is (like_reads (codes "subsystem")) (both_is identifier_reads
-    (before_is (expression_is 32) (mark_reads (codes ";"))
-    (λ front rest s. closed_by {S = λ (_ : Unit {0}). mark (codes ";")} (codes ";") refl (leads_mark (codes ";")) tt front rest s))
+    (before_is (mig_expression_is 32) (mark_reads (codes ";"))
+    (λ front rest s. closed_by {S = λ (_ : Unit {0}). mark (codes ";")} (codes ";") refl refl (leads_mark (codes ";")) tt front rest s))
     (λ b front rest t may. tt))

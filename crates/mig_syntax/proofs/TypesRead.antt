@@ -1,5 +1,5 @@
 -- Types: what is read is what is spelled.
-use Rattle.std.proofs.Common.{◌≡◌, ◌⊎◌, inl, inr, ℕ, zero, suc, List, [], ◌∷◌, ◌++◌, Option, Some, None, Bool, true, false, ◌||◌, refl}
+use Rattle.std.proofs.Common.{◌≡◌, ◌⊎◌, inl, inr, ℕ, zero, suc, ◌<◌, List, [], ◌∷◌, ◌++◌, Option, Some, None, Bool, true, false, ◌||◌, refl}
 use Rattle.std.specs.Prelude.{codes, is_some}
 use Rattle.idl_lex.specs.declared.kinds.Token.{Token}
 use Rattle.idl_lex.specs.declared.kinds.TokenKind.{TokenKind}
@@ -7,19 +7,21 @@ use Rattle.idl_lex.specs.declared.kinds.TokenKind.TheVariants as K
 use Rattle.idl_read.specs.Reading.{mark_is, mark_at, word_is, begins_with, after}
 use Rattle.idl_read.specs.Grammar.{Text, mark, ◌&◌, one_of, kinds, IsGrammar, Leads, Any}
 use Rattle.idl_read.proofs.Grammars.{mapped_is, both_is, either_is}
-use Rattle.idl_read.proofs.Leaves.{mark_reads, mark_named, leads_mark, is_number, leads_both, leads_either, begins_so, begins_not, Apart, apart_mark}
+use Rattle.idl_read.proofs.Leaves.{mark_reads, mark_named, leads_mark, leads_both, leads_either, begins_so, begins_not, Apart, apart_mark}
 use Rattle.idl_read.proofs.Productions.{after_is, before_is, leads_after}
-use Rattle.mig_syntax.specs.declared.tree.Operator.{Operator}
-use Rattle.mig_syntax.specs.Trees.{Tree, leaf, binary}
+use Rattle.idl_const.specs.declared.tree.BinaryOp.{BinaryOp}
+use Rattle.idl_exprs.specs.declared.languages.Language.TheVariants.{Mig}
+use Rattle.idl_exprs.specs.Trees.{Tree, leaf, unary, binary}
+use Rattle.idl_exprs.specs.Spelling.{binary_spell, looseness, within, mig_expression}
+use Rattle.idl_exprs.specs.Readers.{binary_in, operator_at}
+use Rattle.idl_exprs.proofs.LeavesRead.{is_leaf, leads_leaf_in}
+use Rattle.idl_exprs.proofs.Again.{MayFollow}
+use Rattle.idl_exprs.proofs.ExpressionsRead.{mig_expression_is}
 use Rattle.mig_syntax.specs.Words.{like, identifier, like_is, like_at, is_identifier}
-use Rattle.mig_syntax.specs.Spelling.{binary_spell, looseness, within, expression}
-use Rattle.mig_syntax.specs.Readers.{binary_in, operator_at}
 use Rattle.mig_syntax.specs.Derivation.{row, type_form}
 use Rattle.mig_syntax.specs.StatementReaders.{Row, row_at, sized_at, array_at, type_of, type_at}
 use Rattle.mig_syntax.specs.declared.tree.TypeForm.{TypeForm}
 use Rattle.mig_syntax.specs.declared.tree.TypeForm.TheVariants as T
-use Rattle.mig_syntax.proofs.Again.{May}
-use Rattle.mig_syntax.proofs.ExpressionsRead.{expression_is}
 use Rattle.mig_syntax.proofs.WordsRead.{like_reads, leads_like, identifier_reads, leads_identifier, apart_like, apart_identifier, either_apart}
 
 -- ---- what follows an expression
@@ -27,17 +29,21 @@ use Rattle.mig_syntax.proofs.WordsRead.{like_reads, leads_like, identifier_reads
 abbrev is_operator : TokenKind → Bool
 is_operator k = is_some (binary_in k)
 
-no_operator : (ts : List Token) → begins_with is_operator ts ≡ false → May 2 ts
+no_operator : (ts : List Token) → begins_with is_operator ts ≡ false → (d : ℕ) → d < 6 → operator_at Mig false d ts ≡ None
 no_operator [] h d lt = refl
 no_operator (t ∷ ts) h d lt = go (binary_in t.kind) refl where
-  go : (o : Option Operator) → binary_in t.kind ≡ o → operator_at d (t ∷ ts) ≡ None
+  go : (o : Option BinaryOp) → binary_in t.kind ≡ o → operator_at Mig false d (t ∷ ts) ≡ None
   go None is = rw is refl
   go (Some op) is = absurd (let no : is_operator t.kind ≡ true = rw is refl in cc)
 
-pub closed_by : {A : Type 0} {S : A → Text} (m : List ℕ) → binary_in (K.Mark m) ≡ None → Leads S (mark_is m)
-    → (a : A) (front rest : List Token) → S a (kinds front)
-    → May 2 (front ++ rest)
-closed_by m h l a front rest s = no_operator (front ++ rest) (begins_not is_operator l apart a front rest s) where
+pub closed_by : {A : Type 0} {S : A → Text} (m : List ℕ) → binary_in (K.Mark m) ≡ None → mark_is m (K.Mark (codes "::")) ≡ false
+    → Leads S (mark_is m) → (a : A) (front rest : List Token) → S a (kinds front)
+    → MayFollow Mig false 6 (front ++ rest)
+closed_by m h other l a front rest s = record {
+  name = begins_not (mark_is (codes "::")) l (apart_mark (mark_is m) (codes "::") other) a front rest s;
+  no_operator = no_operator (front ++ rest) (begins_not is_operator l apart a front rest s);
+  joint = λ yes. absurd cc;
+} where
   apart : Apart (mark_is m) is_operator
   apart k e = let is = mark_named m k e in rw (is, h) refl
 
@@ -51,20 +57,20 @@ row_end n = mark (codes "]") & (like (codes "of") & identifier n)
 
 row_is : IsGrammar row_at row_text Any
 unfolding row_at
-row_is = both_is (expression_is 32) (after_is (mark_reads (codes "]")) (after_is (like_reads (codes "of")) identifier_reads))
+row_is = both_is (mig_expression_is 32) (after_is (mark_reads (codes "]")) (after_is (like_reads (codes "of")) identifier_reads))
     (λ n front rest s may.
-    closed_by {S = row_end} (codes "]") refl
+    closed_by {S = row_end} (codes "]") refl refl
     (leads_after (λ n. like (codes "of") & identifier n) (leads_mark (codes "]"))) n front rest s)
 
 abbrev sized_text : List ℕ × Tree → Text
-sized_text x = mark (codes "(") & (identifier x.0 & (mark (codes ",") & (expression 31 x.1 & mark (codes ")"))))
+sized_text x = mark (codes "(") & (identifier x.0 & (mark (codes ",") & (mig_expression 31 x.1 & mark (codes ")"))))
 
 sized_is : IsGrammar sized_at sized_text Any
 unfolding sized_at
 sized_is = after_is (mark_reads (codes "(")) (both_is identifier_reads
     (after_is (mark_reads (codes ","))
-    (before_is (expression_is 31) (mark_reads (codes ")"))
-    (λ front rest s. closed_by {S = λ (_ : Unit {0}). mark (codes ")")} (codes ")") refl (leads_mark (codes ")")) tt front rest s)))
+    (before_is (mig_expression_is 31) (mark_reads (codes ")"))
+    (λ front rest s. closed_by {S = λ (_ : Unit {0}). mark (codes ")")} (codes ")") refl refl (leads_mark (codes ")")) tt front rest s)))
     (λ b front rest t may. tt))
 
 abbrev starred_text : Row → Text
@@ -76,29 +82,35 @@ length_text = one_of starred_text row_text
 abbrev array_text : Row ⊎ Row → Text
 array_text x = like (codes "array") & (mark (codes "[") & length_text x)
 
--- an expression begins with a number or a `(`
+-- an expression begins with a leaf or a `(`
 abbrev is_operand : TokenKind → Bool
-is_operand k = mark_is (codes "(") k || is_number k
+is_operand k = mark_is (codes "(") k || is_leaf k
 
-leads_within : (n loose : ℕ) → Leads (within n loose) is_operand
+leads_within : (n loose : ℕ) → Leads (within Mig n loose) is_operand
 leads_within = leads where
   or_first : (a b : Bool) → a ≡ true → (a || b) ≡ true
   or_first true b e = refl
   or_first false b e = absurd cc
 
-  leads : (n loose : ℕ) → Leads (within n loose) is_operand
+  or_last : (a b : Bool) → b ≡ true → (a || b) ≡ true
+  or_last true b e = refl
+  or_last false b e = e
+
+  leads : (n loose : ℕ) → Leads (within Mig n loose) is_operand
   leads zero loose t ks s = absurd s
   leads (suc n) loose t ks (inr p) = let x =
       leads_after {P = mark (codes "(")}
       (λ (t : Tree).
-      within n 2 t & mark (codes ")")) (leads_mark (codes "(")) t ks p
-      in (x.0, x.1, x.2, or_first (mark_is (codes "(") x.0) (is_number x.0) x.3)
-  leads (suc n) loose (leaf l) ks (inl s) = (K.Number l, [], s, refl)
+      within Mig n 6 t & mark (codes ")")) (leads_mark (codes "(")) t ks p
+      in (x.0, x.1, x.2, or_first (mark_is (codes "(") x.0) (is_leaf x.0) x.3)
+  leads (suc n) loose (leaf l) ks (inl s) =
+      let x = leads_leaf_in Mig l ks s in (x.0, x.1, x.2, or_last (mark_is (codes "(") x.0) (is_leaf x.0) x.3)
+  leads (suc n) loose (unary op a) ks (inl s) = let no : false ≡ true = s.0 in absurd cc
   leads (suc n) loose (binary op a b) ks (inl s) =
-      leads_both (λ (t : Tree). mark (binary_spell op) & within n (looseness op) t) (leads n (suc (looseness op))) (a, b) ks s.1
+      leads_both (λ (t : Tree). mark (binary_spell op) & within Mig n (looseness op) t) (leads n (suc (looseness op))) (a, b) ks s.1
 
 leads_row : Leads row_text is_operand
-leads_row x ks s = leads_both row_end (leads_within 32 2) x ks s
+leads_row x ks s = leads_both row_end (leads_within 32 6) x ks s
 
 array_is : IsGrammar array_at array_text Any
 unfolding array_at
@@ -177,6 +189,6 @@ type_is = mapped_is type_of type_form
     begins_so
     (leads_after
     (λ (x : List ℕ × Tree).
-    identifier x.0 & (mark (codes ",") & (expression 31 x.1 & mark (codes ")")))) (leads_mark (codes "("))) x front rest s)
+    identifier x.0 & (mark (codes ",") & (mig_expression 31 x.1 & mark (codes ")")))) (leads_mark (codes "("))) x front rest s)
     (λ x front rest s may. begins_not (mark_is (codes "(")) leads_2 (apart_mark is_2 (codes "(") refl) x front rest s))
     forth back

@@ -6,9 +6,9 @@ use Rattle.idl_read.specs.declared.errors.SyntaxErr.{SyntaxErr}
 use Rattle.idl_read.specs.declared.errors.SyntaxErr.TheVariants.{Syntax, NoMemory}
 use Rattle.idl_read.specs.Grammar.{Text, one, mark, ◌&◌, maybe, each, joined, kinds}
 use Rattle.idl_read.specs.Files.{FailsAt as statements_fail_at}
-use Rattle.mig_syntax.specs.Trees.{Tree}
+use Rattle.idl_exprs.specs.Trees.{Tree}
 use Rattle.mig_syntax.specs.Words.{like, identifier}
-use Rattle.mig_syntax.specs.Spelling.{expression}
+use Rattle.idl_exprs.specs.Spelling.{mig_expression}
 use Rattle.mig_syntax.specs.declared.tree.TypeForm.{TypeForm}
 use Rattle.mig_syntax.specs.declared.tree.TypeForm.TheVariants as T
 use Rattle.mig_syntax.specs.declared.tree.Direction.{Direction}
@@ -27,12 +27,12 @@ use Rattle.mig_syntax.specs.declared.tree.Subsystem.{Subsystem}
 
 -- row = expr "]" "of" identifier
 abbrev pub row : Tree → List ℕ → Text
-row e n = expression 32 e & mark (codes "]") & like (codes "of") & identifier n
+row e n = mig_expression 32 e & mark (codes "]") & like (codes "of") & identifier n
 
 -- type = identifier | "(" identifier "," expr ")" | "array" "[" row | "array" "[" "*" ":" row | "struct" "[" row
 abbrev pub type_form : TypeForm → Text
 type_form (T.Named n) = identifier n
-type_form (T.Sized n e) = mark (codes "(") & identifier n & mark (codes ",") & expression 31 e & mark (codes ")")
+type_form (T.Sized n e) = mark (codes "(") & identifier n & mark (codes ",") & mig_expression 31 e & mark (codes ")")
 type_form (T.Array e n) = like (codes "array") & mark (codes "[") & row e n
 type_form (T.VariableArray e n) = like (codes "array") & mark (codes "[") & mark (codes "*") & mark (codes ":") & row e n
 type_form (T.Struct e n) = like (codes "struct") & mark (codes "[") & row e n
@@ -93,7 +93,7 @@ statement s = body s & mark (codes ";")
 
 -- heading = "subsystem" identifier expr ";"
 abbrev pub heading : List ℕ → Tree → Text
-heading n e = like (codes "subsystem") & identifier n & expression 32 e & mark (codes ";")
+heading n e = like (codes "subsystem") & identifier n & mig_expression 32 e & mark (codes ";")
 
 -- file = heading { statement }
 abbrev pub Derives : Subsystem → List Token → Type 0

@@ -4,9 +4,9 @@ use Rattle.std.proofs.Common.{inl, inr}
 use Rattle.idl_lex.specs.declared.kinds.TokenKind.{TokenKind}
 use Rattle.idl_lex.specs.declared.kinds.TokenKind.TheVariants.{FileName}
 use Rattle.idl_read.specs.Reading.{Reader, mark_is, mark_at, token_at, begins_with, both, mapped, either, option, after, before, joined_at}
-use Rattle.mig_syntax.specs.Trees.{Tree}
+use Rattle.idl_exprs.specs.Trees.{Tree}
 use Rattle.mig_syntax.specs.Words.{like_is, like_at, like_in, has_like, identifier_at}
-use Rattle.mig_syntax.specs.Readers.{expression_at}
+use Rattle.idl_exprs.specs.Readers.{mig_expression_at}
 use Rattle.mig_syntax.specs.declared.tree.TypeForm.{TypeForm}
 use Rattle.mig_syntax.specs.declared.tree.TypeForm.TheVariants as T
 use Rattle.mig_syntax.specs.declared.tree.Direction.{Direction}
@@ -28,12 +28,12 @@ Row = Tree × List ℕ
 
 -- a length, and the elements' type
 unfoldable pub row_at : Reader Row
-row_at = both (expression_at 32) (after (mark_at (codes "]")) (after (like_at (codes "of")) identifier_at))
+row_at = both (mig_expression_at 32) (after (mark_at (codes "]")) (after (like_at (codes "of")) identifier_at))
 
 -- a type with its size
 unfoldable pub sized_at : Reader (List ℕ × Tree)
 sized_at = after (mark_at (codes "("))
-    (both identifier_at (after (mark_at (codes ",")) (before (expression_at 31) (mark_at (codes ")")))))
+    (both identifier_at (after (mark_at (codes ",")) (before (mig_expression_at 31) (mark_at (codes ")")))))
 
 -- an array, of a greatest length or of a fixed one
 unfoldable pub array_at : Reader (Row ⊎ Row)
@@ -125,4 +125,4 @@ statement_at = before body_at (mark_at (codes ";"))
 
 -- a heading
 unfoldable pub heading_at : Reader (List ℕ × Tree)
-heading_at = after (like_at (codes "subsystem")) (both identifier_at (before (expression_at 32) (mark_at (codes ";"))))
+heading_at = after (like_at (codes "subsystem")) (both identifier_at (before (mig_expression_at 32) (mark_at (codes ";"))))

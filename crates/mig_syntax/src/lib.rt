@@ -3,9 +3,6 @@
 //! [`parse`] gives the tree of a file's tokens, or the line of the statement that has none.
 #![tactic(auto)]
 
-mod expressions;
-mod laws;
-mod operators;
 mod parsing;
 mod routines;
 mod statements;
@@ -13,11 +10,9 @@ mod tree;
 mod types;
 mod words;
 
-pub use expressions::expression;
+pub use idl_exprs::{BinaryOp, Expr, Leaf, Node, mig_expression};
 pub use idl_read::SyntaxErr;
-pub use laws::one_expression;
 pub use parsing::{one_tree, parse, tokens_are_decided};
 pub use tree::{
-    Direction, Expr, Importer, Node, Operator, Parameter, Routine, Side, Statement, Subsystem,
-    Tree, TypeForm,
+    Direction, Importer, Parameter, Routine, Side, Statement, Subsystem, Tree, TypeForm,
 };

@@ -5,11 +5,11 @@ ghost use Rattle.idl_read.specs.Reading.{Gives, begins_with, token_at};
 ghost use Rattle.mig_syntax.specs.Words.{like_in, has_like};
 ghost use Rattle.mig_syntax.specs.StatementReaders.{side_words, importer_words, file_in, definition_at, prefix_at, import_at, body_at, statement_at, heading_at};
 
-use crate::expressions::expression;
 use crate::routines::{begins_routine, routine};
-use crate::tree::{Expr, Importer, Side, Statement, TypeForm};
+use crate::tree::{Importer, Side, Statement, TypeForm};
 use crate::types::type_form;
 use crate::words::{begins_like, identifier, is_like, like};
+use idl_exprs::{Expr, mig_expression};
 use idl_lex::{Token, TokenKind};
 use idl_read::{Halt, mark};
 use kit_base::{Name, Octets};
@@ -178,7 +178,7 @@ pub(crate) fn heading(alloc: Global, tokens: &[Token]) -> Result<(Name, Expr, &[
 {
     let rest = like(tokens, b"subsystem")?;
     let (name, rest) = identifier(alloc, rest)?;
-    let (base, rest) = expression(alloc, 32, rest)?;
+    let (base, rest) = mig_expression(alloc, 32, rest)?;
     let rest = mark(rest, b";")?;
     Ok((name, base, rest))
 }

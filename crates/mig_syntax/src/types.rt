@@ -4,9 +4,9 @@ ghost use Rattle.std.specs.Prelude.{◌≡◌};
 ghost use Rattle.idl_read.specs.Reading.{Gives};
 ghost use Rattle.mig_syntax.specs.StatementReaders.{row_at, sized_at, type_at};
 
-use crate::expressions::expression;
-use crate::tree::{Expr, TypeForm};
+use crate::tree::TypeForm;
 use crate::words::{begins_like, identifier, like};
+use idl_exprs::{Expr, mig_expression};
 use idl_lex::Token;
 use idl_read::{Halt, begins_mark, mark};
 use kit_base::Name;
@@ -17,7 +17,7 @@ use std::alloc::Global;
 fn row(alloc: Global, tokens: &[Token]) -> Result<(Expr, Name, &[Token]), Halt>
     ensures { Gives (λ x. ((x.0, x.1), x.2.now)) result (row_at tokens.now) }
 {
-    let (length, rest) = expression(alloc, 32, tokens)?;
+    let (length, rest) = mig_expression(alloc, 32, tokens)?;
     let rest = mark(rest, b"]")?;
     let rest = like(rest, b"of")?;
     let (name, rest) = identifier(alloc, rest)?;
@@ -32,7 +32,7 @@ fn sized(alloc: Global, tokens: &[Token]) -> Result<(Name, Expr, &[Token]), Halt
     let rest = mark(tokens, b"(")?;
     let (name, rest) = identifier(alloc, rest)?;
     let rest = mark(rest, b",")?;
-    let (size, rest) = expression(alloc, 31, rest)?;
+    let (size, rest) = mig_expression(alloc, 31, rest)?;
     let rest = mark(rest, b")")?;
     Ok((name, size, rest))
 }

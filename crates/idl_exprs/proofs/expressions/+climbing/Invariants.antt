@@ -3,8 +3,8 @@ use Rattle.idl_exprs.specs.Readers.{within_at, climb, chain_on, operator_at}
 use Rattle.idl_exprs.proofs.expressions.+climbing.Given as goal
 
 abbrev pub invariant-climb-chain : goal.invariant-climb-chain
-invariant-climb-chain l = (climb (within_at l.below) l.below l.angle l.loose l.fn.tokens
-    ≡ chain_on (within_at l.below l.angle (l.loose - 1)) (operator_at l.angle (l.loose - 1)) (suc l.below)
+invariant-climb-chain l = (climb (within_at l.below) l.below l.language l.angle l.loose l.fn.tokens
+    ≡ chain_on (within_at l.below l.language l.angle (l.loose - 1)) (operator_at l.language l.angle (l.loose - 1)) (suc l.below)
     (suc l.below - l.counter) (l.tree, l.height) l.rest)
     × (l.height ≤ l.below + 1)
 
