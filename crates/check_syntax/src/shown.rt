@@ -1,7 +1,7 @@
 //! Tokens and trees as text.
 
 use crate::asks::Bad;
-use corba_types::{Base, Int, IntSize, Simple, TypeName, TypeNode};
+use corba_decls::{Base, Int, IntSize, Simple, TypeName, TypeNode};
 use idl_exprs::{BinaryOp, Expr, Leaf, Node, ScopedName, UnaryOp};
 use idl_lex::{Token, TokenKind};
 use std::alloc::Global;

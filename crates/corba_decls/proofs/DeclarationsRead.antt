@@ -17,24 +17,24 @@ use Rattle.idl_exprs.specs.Readers.{is_identifier, is_joint}
 use Rattle.idl_exprs.proofs.LeavesRead.{identifier_is, leads_identifier}
 use Rattle.idl_exprs.proofs.Again.{May}
 use Rattle.idl_exprs.proofs.ExpressionsRead.{expression_is}
-use Rattle.corba_types.specs.declared.tree.Base.{Base}
-use Rattle.corba_types.proofs.BasesRead.{Closes}
-use Rattle.corba_types.proofs.SequencesRead.{whole, type_is, is_type}
-use Rattle.corba_members.specs.declared.tree.Struct.{Struct}
-use Rattle.corba_members.specs.declared.tree.Exception.{Exception}
-use Rattle.corba_members.specs.declared.tree.Enum.{Enum}
-use Rattle.corba_members.specs.Spelling.{declarator, structure, exception, enumeration}
-use Rattle.corba_members.specs.Readers.{declarator_at}
-use Rattle.corba_members.proofs.MembersRead.{apart_semicolon, leads_type, declarator_is, declarators_close, structure_is, leads_structure, exception_is, leads_exception, enumeration_is, leads_enumeration}
-use Rattle.corba_decls.specs.declared.tree.Union.{Union as UnionDef}
-use Rattle.corba_decls.specs.declared.tree.Aliased.{Aliased}
-use Rattle.corba_decls.specs.declared.tree.Aliased.TheVariants as A
-use Rattle.corba_decls.specs.declared.tree.Typedef.{Typedef}
-use Rattle.corba_decls.specs.declared.tree.Constant.{Constant}
-use Rattle.corba_decls.specs.declared.tree.Declaration.{Declaration}
-use Rattle.corba_decls.specs.declared.tree.Declaration.TheVariants as D
-use Rattle.corba_decls.specs.Spelling.{union, aliased, typedef, constant_type, constant, declared, declaration}
-use Rattle.corba_decls.specs.Readers.{aliased_of, aliased_at, typedef_of, typedef_at, constant_of, constant_at, declared_of, declared_at, declaration_at, is_declaration}
+use Rattle.corba_decls.specs.declared.type_tree.Base.{Base}
+use Rattle.corba_decls.proofs.BasesRead.{Closes}
+use Rattle.corba_decls.proofs.SequencesRead.{whole, type_is, is_type}
+use Rattle.corba_decls.specs.declared.member_tree.Struct.{Struct}
+use Rattle.corba_decls.specs.declared.member_tree.Exception.{Exception}
+use Rattle.corba_decls.specs.declared.member_tree.Enum.{Enum}
+use Rattle.corba_decls.specs.MemberSpelling.{declarator, structure, exception, enumeration}
+use Rattle.corba_decls.specs.MemberReaders.{declarator_at}
+use Rattle.corba_decls.proofs.MembersRead.{apart_semicolon, leads_type, declarator_is, declarators_close, structure_is, leads_structure, exception_is, leads_exception, enumeration_is, leads_enumeration}
+use Rattle.corba_decls.specs.declared.decl_tree.Union.{Union as UnionDef}
+use Rattle.corba_decls.specs.declared.decl_tree.Aliased.{Aliased}
+use Rattle.corba_decls.specs.declared.decl_tree.Aliased.TheVariants as A
+use Rattle.corba_decls.specs.declared.decl_tree.Typedef.{Typedef}
+use Rattle.corba_decls.specs.declared.decl_tree.Constant.{Constant}
+use Rattle.corba_decls.specs.declared.decl_tree.Declaration.{Declaration}
+use Rattle.corba_decls.specs.declared.decl_tree.Declaration.TheVariants as D
+use Rattle.corba_decls.specs.DeclSpelling.{union, aliased, typedef, constant_type, constant, declared, declaration}
+use Rattle.corba_decls.specs.DeclReaders.{aliased_of, aliased_at, typedef_of, typedef_at, constant_of, constant_at, declared_of, declared_at, declaration_at, is_declaration}
 use Rattle.corba_decls.proofs.TagsRead.{led_or_is, NumberMay, constant_type_is}
 use Rattle.corba_decls.proofs.UnionsRead.{union_is, leads_union}
 

@@ -12,16 +12,16 @@ use Rattle.idl_read.proofs.Productions.{weaker}
 use Rattle.idl_exprs.specs.declared.tree.ScopedName.{ScopedName}
 use Rattle.idl_exprs.specs.Spelling.{scoped}
 use Rattle.idl_exprs.proofs.LeavesRead.{is_name, scoped_is, leads_scoped}
-use Rattle.corba_types.specs.declared.tree.Int.{Int}
-use Rattle.corba_types.specs.Spelling.{int}
-use Rattle.corba_types.specs.Readers.{is_int}
-use Rattle.corba_types.proofs.BasesRead.{int_is, leads_int}
-use Rattle.corba_decls.specs.declared.tree.Tag.{Tag}
-use Rattle.corba_decls.specs.declared.tree.Tag.TheVariants as T
-use Rattle.corba_decls.specs.declared.tree.ConstantType.{ConstantType}
-use Rattle.corba_decls.specs.declared.tree.ConstantType.TheVariants as C
-use Rattle.corba_decls.specs.Spelling.{tag_type, tag, constant_type}
-use Rattle.corba_decls.specs.Readers.{word_or, led_or, number_at, tag_of, tag_type_at, tag_at, constant_type_of, constant_type_at}
+use Rattle.corba_decls.specs.declared.type_tree.Int.{Int}
+use Rattle.corba_decls.specs.TypeSpelling.{int}
+use Rattle.corba_decls.specs.TypeReaders.{is_int}
+use Rattle.corba_decls.proofs.BasesRead.{int_is, leads_int}
+use Rattle.corba_decls.specs.declared.decl_tree.Tag.{Tag}
+use Rattle.corba_decls.specs.declared.decl_tree.Tag.TheVariants as T
+use Rattle.corba_decls.specs.declared.decl_tree.ConstantType.{ConstantType}
+use Rattle.corba_decls.specs.declared.decl_tree.ConstantType.TheVariants as C
+use Rattle.corba_decls.specs.DeclSpelling.{tag_type, tag, constant_type}
+use Rattle.corba_decls.specs.DeclReaders.{word_or, led_or, number_at, tag_of, tag_type_at, tag_at, constant_type_of, constant_type_at}
 
 -- ---- what begins with a word, or does not
 

@@ -15,20 +15,20 @@ use Rattle.idl_exprs.specs.Spelling.{identifier, expression}
 use Rattle.idl_exprs.proofs.LeavesRead.{identifier_is}
 use Rattle.idl_exprs.proofs.Again.{May}
 use Rattle.idl_exprs.proofs.ExpressionsRead.{expression_is}
-use Rattle.corba_types.specs.declared.tree.Base.{Base}
-use Rattle.corba_types.proofs.BasesRead.{Closes}
-use Rattle.corba_types.proofs.SequencesRead.{whole, type_is, is_type}
-use Rattle.corba_members.specs.declared.tree.Declarator.{Declarator}
-use Rattle.corba_members.specs.Spelling.{declarator}
+use Rattle.corba_decls.specs.declared.type_tree.Base.{Base}
+use Rattle.corba_decls.proofs.BasesRead.{Closes}
+use Rattle.corba_decls.proofs.SequencesRead.{whole, type_is, is_type}
+use Rattle.corba_decls.specs.declared.member_tree.Declarator.{Declarator}
+use Rattle.corba_decls.specs.MemberSpelling.{declarator}
 use Rattle.idl_exprs.specs.Readers.{is_open}
-use Rattle.corba_members.specs.Readers.{has_dimension}
-use Rattle.corba_members.proofs.MembersRead.{leads_type, declarator_is, declared_closes, closed}
-use Rattle.corba_decls.specs.declared.tree.Label.{Label}
-use Rattle.corba_decls.specs.declared.tree.Label.TheVariants as L
-use Rattle.corba_decls.specs.declared.tree.Case.{Case}
-use Rattle.corba_decls.specs.declared.tree.Union.{Union as UnionDef}
-use Rattle.corba_decls.specs.Spelling.{tag, label, case, union}
-use Rattle.corba_decls.specs.Readers.{label_of, label_at, is_label, has_label, case_of, case_at, union_of, union_at}
+use Rattle.corba_decls.specs.MemberReaders.{has_dimension}
+use Rattle.corba_decls.proofs.MembersRead.{leads_type, declarator_is, declared_closes, closed}
+use Rattle.corba_decls.specs.declared.decl_tree.Label.{Label}
+use Rattle.corba_decls.specs.declared.decl_tree.Label.TheVariants as L
+use Rattle.corba_decls.specs.declared.decl_tree.Case.{Case}
+use Rattle.corba_decls.specs.declared.decl_tree.Union.{Union as UnionDef}
+use Rattle.corba_decls.specs.DeclSpelling.{tag, label, case, union}
+use Rattle.corba_decls.specs.DeclReaders.{label_of, label_at, is_label, has_label, case_of, case_at, union_of, union_at}
 use Rattle.corba_decls.proofs.TagsRead.{led_or_is, NumberMay, tag_is}
 
 -- an expression ends before `:`

@@ -1,2 +1,8 @@
-pub mod Spelling
-pub mod Readers
+pub mod Levels
+pub mod TypesFall
+pub mod TypeSpelling
+pub mod TypeReaders
+pub mod MemberSpelling
+pub mod MemberReaders
+pub mod DeclSpelling
+pub mod DeclReaders

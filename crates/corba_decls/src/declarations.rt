@@ -2,20 +2,19 @@
 
 ghost use Rattle.std.specs.Prelude.{◌≡◌, ◌≤◌};
 ghost use Rattle.idl_read.specs.Reading.{Gives, begins_with};
-ghost use Rattle.corba_decls.specs.Readers.{aliased_at, typedef_at, constant_at, declared_at, is_declaration, declaration_at};
+ghost use Rattle.corba_decls.specs.DeclReaders.{aliased_at, typedef_at, constant_at, declared_at, is_declaration, declaration_at};
 
+use crate::decl_tree::{Aliased, Constant, Declaration, Typedef};
 use crate::tags::constant_type;
-use crate::tree::{Aliased, Constant, Declaration, Typedef};
 use crate::unions::union;
-use corba_members::{Declarator, enumeration, exception, structure};
-use corba_types::type_name;
+use crate::{Declarator, enumeration, exception, structure, type_name};
 use idl_exprs::{Identifier, expression};
 use idl_lex::Token;
 use idl_read::{Halt, Production, begins, is_word, joined_nested, mark, word};
 use std::alloc::Global;
 
 /// What a typedef gives names to.
-#[tactic(auto, unfolding(crate::specs::Readers::aliased_at))]
+#[tactic(auto, unfolding(crate::specs::DeclReaders::aliased_at))]
 fn aliased(alloc: Global, levels: u32, tokens: &[Token]) -> Result<(Aliased, &[Token]), Halt>
     requires { levels ≤ 32 }
     ensures { Gives (λ x. (x.0, x.1.now)) result (aliased_at levels tokens.now) }
@@ -37,7 +36,7 @@ fn aliased(alloc: Global, levels: u32, tokens: &[Token]) -> Result<(Aliased, &[T
 }
 
 /// A typedef within so many levels.
-#[tactic(auto, unfolding(crate::specs::Readers::typedef_at))]
+#[tactic(auto, unfolding(crate::specs::DeclReaders::typedef_at))]
 fn typedef(alloc: Global, levels: u32, tokens: &[Token]) -> Result<(Typedef, &[Token]), Halt>
     requires { levels ≤ 32 }
     ensures { Gives (λ x. (x.0, x.1.now)) result (typedef_at levels tokens.now) }
@@ -49,7 +48,7 @@ fn typedef(alloc: Global, levels: u32, tokens: &[Token]) -> Result<(Typedef, &[T
 }
 
 /// A constant within so many levels.
-#[tactic(auto, unfolding(crate::specs::Readers::constant_at))]
+#[tactic(auto, unfolding(crate::specs::DeclReaders::constant_at))]
 fn constant(alloc: Global, levels: u32, tokens: &[Token]) -> Result<(Constant, &[Token]), Halt>
     requires { levels ≤ 32 }
     ensures { Gives (λ x. (x.0, x.1.now)) result (constant_at levels tokens.now) }
@@ -63,7 +62,7 @@ fn constant(alloc: Global, levels: u32, tokens: &[Token]) -> Result<(Constant, &
 }
 
 /// A declaration, where it has a level.
-#[tactic(auto, unfolding(crate::specs::Readers::declared_at))]
+#[tactic(auto, unfolding(crate::specs::DeclReaders::declared_at))]
 fn declared(alloc: Global, levels: u32, tokens: &[Token]) -> Result<(Declaration, &[Token]), Halt>
     requires { levels ≤ 32 }
     ensures { Gives (λ x. (x.0, x.1.now)) result (declared_at levels tokens.now) }

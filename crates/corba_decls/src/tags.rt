@@ -2,17 +2,17 @@
 
 ghost use Rattle.std.specs.Prelude.{◌≡◌};
 ghost use Rattle.idl_read.specs.Reading.{Gives};
-ghost use Rattle.corba_decls.specs.Readers.{tag_type_at, tag_at, constant_type_at};
+ghost use Rattle.corba_decls.specs.DeclReaders.{tag_type_at, tag_at, constant_type_at};
 
-use crate::tree::{ConstantType, Tag};
-use corba_types::{begins_int, int};
+use crate::decl_tree::{ConstantType, Tag};
+use crate::{begins_int, int};
 use idl_exprs::scoped;
 use idl_lex::Token;
 use idl_read::{Halt, begins, word};
 use std::alloc::Global;
 
 /// The type of a discriminator.
-#[tactic(auto, unfolding(crate::specs::Readers::tag_type_at))]
+#[tactic(auto, unfolding(crate::specs::DeclReaders::tag_type_at))]
 fn tag_type(alloc: Global, tokens: &[Token]) -> Result<(Tag, &[Token]), Halt>
     ensures { Gives (λ x. (x.0, x.1.now)) result (tag_type_at tokens.now) }
 {
@@ -43,7 +43,7 @@ pub(crate) fn tag(alloc: Global, levels: u32, tokens: &[Token]) -> Result<(Tag, 
 }
 
 /// The type of a constant.
-#[tactic(auto, unfolding(crate::specs::Readers::constant_type_at))]
+#[tactic(auto, unfolding(crate::specs::DeclReaders::constant_type_at))]
 pub(crate) fn constant_type(
     alloc: Global,
     tokens: &[Token],

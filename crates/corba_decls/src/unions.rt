@@ -2,19 +2,18 @@
 
 ghost use Rattle.std.specs.Prelude.{◌≡◌, ◌≤◌};
 ghost use Rattle.idl_read.specs.Reading.{Gives};
-ghost use Rattle.corba_decls.specs.Readers.{union_at};
+ghost use Rattle.corba_decls.specs.DeclReaders.{union_at};
 
+use crate::decl_tree::{Case, Label, Union};
 use crate::tags::tag;
-use crate::tree::{Case, Label, Union};
-use corba_members::Declarator;
-use corba_types::type_name;
+use crate::{Declarator, type_name};
 use idl_exprs::{Identifier, expression};
 use idl_lex::Token;
 use idl_read::{Halt, Nested, Production, begins, mark, some_nested, stands_before, word};
 use std::alloc::Global;
 
 impl Nested for Label {
-    ghost use Rattle.corba_decls.specs.Readers.{has_label, label_at};
+    ghost use Rattle.corba_decls.specs.DeclReaders.{has_label, label_at};
 
     ghost goes = { has_label };
 
@@ -24,7 +23,7 @@ impl Nested for Label {
         begins(tokens, b"case") || begins(tokens, b"default")
     }
 
-    #[tactic(auto, unfolding(crate::specs::Readers::label_at))]
+    #[tactic(auto, unfolding(crate::specs::DeclReaders::label_at))]
     fn read(alloc: Global, levels: u32, tokens: &[Token]) -> Result<(Self, &[Token]), Halt> {
         if begins(tokens, b"case") {
             let rest = word(tokens, b"case")?;
@@ -40,7 +39,7 @@ impl Nested for Label {
 
 impl Nested for Case {
     ghost use Rattle.idl_exprs.specs.Readers.{is_open};
-    ghost use Rattle.corba_decls.specs.Readers.{case_at};
+    ghost use Rattle.corba_decls.specs.DeclReaders.{case_at};
 
     ghost goes = { is_open };
 
@@ -50,7 +49,7 @@ impl Nested for Case {
         stands_before(tokens, b"}")
     }
 
-    #[tactic(auto, unfolding(crate::specs::Readers::case_at))]
+    #[tactic(auto, unfolding(crate::specs::DeclReaders::case_at))]
     fn read(alloc: Global, levels: u32, tokens: &[Token]) -> Result<(Self, &[Token]), Halt> {
         let (labels, rest) = some_nested::<Label>(alloc, levels, tokens)?;
         let (of, rest) = type_name(alloc, levels, rest)?;
@@ -68,7 +67,7 @@ impl Nested for Case {
 }
 
 /// A union within so many levels. Its tag, in parentheses, has one level less.
-#[tactic(auto, unfolding(crate::specs::Readers::union_at))]
+#[tactic(auto, unfolding(crate::specs::DeclReaders::union_at))]
 pub(crate) fn union(alloc: Global, levels: u32, tokens: &[Token]) -> Result<(Union, &[Token]), Halt>
     requires { levels ≤ 32 }
     ensures { Gives (λ x. (x.0, x.1.now)) result (union_at levels tokens.now) }

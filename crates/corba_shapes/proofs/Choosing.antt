@@ -16,11 +16,11 @@ use Rattle.idl_names.specs.Arms.{with_arm}
 use Rattle.idl_names.proofs.Parts.{then_ok, ok_same}
 use Rattle.idl_names.proofs.Standing.{UseIs}
 use Rattle.idl_names.proofs.Labelling.{NumbersAre, Longer, number_added, joined, nothing_more, or_void_true, good, Arm_, ArmsAre, arms_added, choice_sound}
-use Rattle.corba_decls.specs.declared.tree.Tag.{Tag as TagTree}
-use Rattle.corba_decls.specs.declared.tree.Tag.TheVariants as T
-use Rattle.corba_decls.specs.declared.tree.Label.{Label as LabelTree}
-use Rattle.corba_decls.specs.declared.tree.Label.TheVariants as L
-use Rattle.corba_decls.specs.declared.tree.Case.{Case}
+use Rattle.corba_decls.specs.declared.decl_tree.Tag.{Tag as TagTree}
+use Rattle.corba_decls.specs.declared.decl_tree.Tag.TheVariants as T
+use Rattle.corba_decls.specs.declared.decl_tree.Label.{Label as LabelTree}
+use Rattle.corba_decls.specs.declared.decl_tree.Label.TheVariants as L
+use Rattle.corba_decls.specs.declared.decl_tree.Case.{Case}
 use Rattle.corba_scopes.specs.Names.{Names}
 use Rattle.corba_scopes.specs.Consts.{number}
 use Rattle.corba_shapes.specs.Forms.{kind_of, named_type, type_form, form_shape}

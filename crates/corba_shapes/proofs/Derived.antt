@@ -5,16 +5,16 @@ use Rattle.idl_lex.specs.declared.kinds.TokenKind.{TokenKind}
 use Rattle.idl_read.specs.Grammar.{Text, word, mark, ◌&◌, each, some, joined}
 use Rattle.idl_names.specs.Lists.{is_some_list}
 use Rattle.idl_exprs.specs.Spelling.{identifier}
-use Rattle.corba_types.specs.Spelling.{type}
-use Rattle.corba_members.specs.declared.tree.Member.{Member}
-use Rattle.corba_members.specs.declared.tree.Struct.{Struct}
-use Rattle.corba_members.specs.declared.tree.Enum.{Enum}
-use Rattle.corba_members.specs.Spelling.{declarator, member, structure, enumeration}
-use Rattle.corba_decls.specs.declared.tree.Aliased.{Aliased}
-use Rattle.corba_decls.specs.declared.tree.Aliased.TheVariants as A
-use Rattle.corba_decls.specs.declared.tree.Declaration.{Declaration}
-use Rattle.corba_decls.specs.declared.tree.Declaration.TheVariants as D
-use Rattle.corba_decls.specs.Spelling.{aliased, declaration}
+use Rattle.corba_decls.specs.TypeSpelling.{type}
+use Rattle.corba_decls.specs.declared.member_tree.Member.{Member}
+use Rattle.corba_decls.specs.declared.member_tree.Struct.{Struct}
+use Rattle.corba_decls.specs.declared.member_tree.Enum.{Enum}
+use Rattle.corba_decls.specs.MemberSpelling.{declarator, member, structure, enumeration}
+use Rattle.corba_decls.specs.declared.decl_tree.Aliased.{Aliased}
+use Rattle.corba_decls.specs.declared.decl_tree.Aliased.TheVariants as A
+use Rattle.corba_decls.specs.declared.decl_tree.Declaration.{Declaration}
+use Rattle.corba_decls.specs.declared.decl_tree.Declaration.TheVariants as D
+use Rattle.corba_decls.specs.DeclSpelling.{aliased, declaration}
 use Rattle.corba_shapes.specs.Declarations.{has_field, is_whole_aliased, is_whole}
 
 after : (P Q : Text) (ks : List TokenKind) → (P & Q) ks → (b : List TokenKind) × Q b

@@ -12,8 +12,8 @@ use Rattle.idl_names.specs.Lists.{is_some_list}
 use Rattle.idl_names.proofs.Parts.{then_ok, ok_same}
 use Rattle.idl_names.proofs.Tables.{append_map}
 use Rattle.idl_names.proofs.Forming.{FieldsAre, fields_push, some_push, Field}
-use Rattle.corba_members.specs.declared.tree.Declarator.{Declarator}
-use Rattle.corba_members.specs.declared.tree.Member.{Member}
+use Rattle.corba_decls.specs.declared.member_tree.Declarator.{Declarator}
+use Rattle.corba_decls.specs.declared.member_tree.Member.{Member}
 use Rattle.corba_scopes.specs.declared.meanings.Meaning.{Meaning}
 use Rattle.corba_scopes.specs.declared.meanings.Meaning.TheVariants as M
 use Rattle.corba_scopes.specs.Names.{Names, is_declared, clash, refused_by, declared_on}

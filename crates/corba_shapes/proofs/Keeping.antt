@@ -20,17 +20,17 @@ use Rattle.idl_names.proofs.Standing.{EnumIs, TagIs, UseIs, FewerBelow, fewer_sa
 use Rattle.idl_names.proofs.Forming.{names_are, struct_sound}
 use Rattle.idl_names.proofs.Numbering.{enum_sound}
 use Rattle.idl_names.proofs.Tagging.{last_is, enum_ends, items_turned}
-use Rattle.corba_members.specs.declared.tree.Declarator.{Declarator}
-use Rattle.corba_members.specs.declared.tree.Struct.{Struct}
-use Rattle.corba_members.specs.declared.tree.Enum.{Enum}
-use Rattle.corba_members.specs.declared.tree.Exception.{Exception}
-use Rattle.corba_decls.specs.declared.tree.Union.{Union}
-use Rattle.corba_decls.specs.declared.tree.Aliased.{Aliased}
-use Rattle.corba_decls.specs.declared.tree.Aliased.TheVariants as A
-use Rattle.corba_decls.specs.declared.tree.Typedef.{Typedef}
-use Rattle.corba_decls.specs.declared.tree.Constant.{Constant as ConstantTree}
-use Rattle.corba_decls.specs.declared.tree.Declaration.{Declaration}
-use Rattle.corba_decls.specs.declared.tree.Declaration.TheVariants as D
+use Rattle.corba_decls.specs.declared.member_tree.Declarator.{Declarator}
+use Rattle.corba_decls.specs.declared.member_tree.Struct.{Struct}
+use Rattle.corba_decls.specs.declared.member_tree.Enum.{Enum}
+use Rattle.corba_decls.specs.declared.member_tree.Exception.{Exception}
+use Rattle.corba_decls.specs.declared.decl_tree.Union.{Union}
+use Rattle.corba_decls.specs.declared.decl_tree.Aliased.{Aliased}
+use Rattle.corba_decls.specs.declared.decl_tree.Aliased.TheVariants as A
+use Rattle.corba_decls.specs.declared.decl_tree.Typedef.{Typedef}
+use Rattle.corba_decls.specs.declared.decl_tree.Constant.{Constant as ConstantTree}
+use Rattle.corba_decls.specs.declared.decl_tree.Declaration.{Declaration}
+use Rattle.corba_decls.specs.declared.decl_tree.Declaration.TheVariants as D
 use Rattle.corba_scopes.specs.declared.meanings.Meaning.{Meaning}
 use Rattle.corba_scopes.specs.declared.meanings.Meaning.TheVariants as M
 use Rattle.corba_scopes.specs.declared.meanings.Constant.{Constant}

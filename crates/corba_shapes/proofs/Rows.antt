@@ -10,15 +10,15 @@ use Rattle.idl_names.specs.Answers.{Answer, fault}
 use Rattle.idl_exprs.specs.Trees.{Tree, leaf}
 use Rattle.idl_exprs.specs.declared.tree.Identifier.{Identifier}
 use Rattle.idl_exprs.specs.declared.tree.Leaf.TheVariants as E
-use Rattle.corba_types.specs.declared.tree.IntSize.TheVariants.{Long}
-use Rattle.corba_types.specs.declared.tree.Base.{Base}
-use Rattle.corba_types.specs.declared.tree.Base.TheVariants as B
-use Rattle.corba_members.specs.declared.tree.Declarator.{Declarator}
-use Rattle.corba_decls.specs.declared.tree.Tag.TheVariants as T
-use Rattle.corba_decls.specs.declared.tree.Label.TheVariants as L
-use Rattle.corba_decls.specs.declared.tree.Aliased.TheVariants as A
-use Rattle.corba_decls.specs.declared.tree.ConstantType.TheVariants as C
-use Rattle.corba_decls.specs.declared.tree.Declaration.TheVariants as D
+use Rattle.corba_decls.specs.declared.type_tree.IntSize.TheVariants.{Long}
+use Rattle.corba_decls.specs.declared.type_tree.Base.{Base}
+use Rattle.corba_decls.specs.declared.type_tree.Base.TheVariants as B
+use Rattle.corba_decls.specs.declared.member_tree.Declarator.{Declarator}
+use Rattle.corba_decls.specs.declared.decl_tree.Tag.TheVariants as T
+use Rattle.corba_decls.specs.declared.decl_tree.Label.TheVariants as L
+use Rattle.corba_decls.specs.declared.decl_tree.Aliased.TheVariants as A
+use Rattle.corba_decls.specs.declared.decl_tree.ConstantType.TheVariants as C
+use Rattle.corba_decls.specs.declared.decl_tree.Declaration.TheVariants as D
 use Rattle.corba_scopes.specs.Around.{file, inside}
 use Rattle.corba_shapes.specs.State.{State, start}
 use Rattle.corba_shapes.specs.Declarations.{declaration_on}

@@ -16,11 +16,11 @@ use Rattle.idl_names.proofs.Forming.{natural_low}
 use Rattle.idl_names.proofs.Tagging.{use_tagged}
 use Rattle.idl_exprs.specs.Trees.{Tree}
 use Rattle.idl_exprs.specs.declared.tree.ScopedName.{ScopedName}
-use Rattle.corba_types.specs.declared.tree.Simple.{Simple}
-use Rattle.corba_types.specs.declared.tree.Simple.TheVariants as S
-use Rattle.corba_types.specs.declared.tree.Base.{Base}
-use Rattle.corba_types.specs.declared.tree.Base.TheVariants as B
-use Rattle.corba_members.specs.declared.tree.Dimension.{Dimension}
+use Rattle.corba_decls.specs.declared.type_tree.Simple.{Simple}
+use Rattle.corba_decls.specs.declared.type_tree.Simple.TheVariants as S
+use Rattle.corba_decls.specs.declared.type_tree.Base.{Base}
+use Rattle.corba_decls.specs.declared.type_tree.Base.TheVariants as B
+use Rattle.corba_decls.specs.declared.member_tree.Dimension.{Dimension}
 use Rattle.corba_scopes.specs.declared.meanings.Meaning.{Meaning}
 use Rattle.corba_scopes.specs.declared.meanings.Meaning.TheVariants as M
 use Rattle.corba_scopes.specs.declared.meanings.Entry.{Entry}

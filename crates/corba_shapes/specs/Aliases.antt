@@ -4,10 +4,10 @@ use Rattle.idl_names.specs.declared.uses.Tag.{Tag}
 use Rattle.idl_names.specs.declared.uses.Tag.TheVariants as tag
 use Rattle.idl_names.specs.declared.uses.Use.TheVariants.{Declared}
 use Rattle.idl_names.specs.Answers.{Answer, and_then}
-use Rattle.corba_members.specs.declared.tree.Declarator.{Declarator}
-use Rattle.corba_decls.specs.declared.tree.Aliased.{Aliased}
-use Rattle.corba_decls.specs.declared.tree.Aliased.TheVariants as A
-use Rattle.corba_decls.specs.declared.tree.Typedef.{Typedef}
+use Rattle.corba_decls.specs.declared.member_tree.Declarator.{Declarator}
+use Rattle.corba_decls.specs.declared.decl_tree.Aliased.{Aliased}
+use Rattle.corba_decls.specs.declared.decl_tree.Aliased.TheVariants as A
+use Rattle.corba_decls.specs.declared.decl_tree.Typedef.{Typedef}
 use Rattle.corba_scopes.specs.Names.{clash, refused_by}
 use Rattle.corba_scopes.specs.Around.{innermost}
 use Rattle.corba_shapes.specs.declared.forms.Core.TheVariants as C

@@ -8,9 +8,9 @@ use Rattle.aoi.specs.declared.faults.NameFault.TheVariants.{NotType, Range}
 use Rattle.idl_names.specs.Answers.{Answer, and_then, refused}
 use Rattle.idl_names.specs.Uses.{is_other}
 use Rattle.idl_names.specs.Labels.{is_of}
-use Rattle.corba_decls.specs.declared.tree.ConstantType.{ConstantType}
-use Rattle.corba_decls.specs.declared.tree.ConstantType.TheVariants as C
-use Rattle.corba_decls.specs.declared.tree.Constant.{Constant as ConstantTree}
+use Rattle.corba_decls.specs.declared.decl_tree.ConstantType.{ConstantType}
+use Rattle.corba_decls.specs.declared.decl_tree.ConstantType.TheVariants as C
+use Rattle.corba_decls.specs.declared.decl_tree.Constant.{Constant as ConstantTree}
 use Rattle.corba_scopes.specs.declared.meanings.Constant.{Constant}
 use Rattle.corba_scopes.specs.declared.meanings.Constant.TheVariants as V
 use Rattle.corba_scopes.specs.Names.{Names, clash, refused_by, declared_on}

@@ -2,11 +2,11 @@
 use Rattle.std.specs.Prelude.{Bool, true, false, ℕ, List, [], ◌∷◌}
 use Rattle.idl_names.specs.Answers.{Answer}
 use Rattle.idl_names.specs.Lists.{is_some_list}
-use Rattle.corba_members.specs.declared.tree.Member.{Member}
-use Rattle.corba_decls.specs.declared.tree.Aliased.{Aliased}
-use Rattle.corba_decls.specs.declared.tree.Aliased.TheVariants as A
-use Rattle.corba_decls.specs.declared.tree.Declaration.{Declaration}
-use Rattle.corba_decls.specs.declared.tree.Declaration.TheVariants as D
+use Rattle.corba_decls.specs.declared.member_tree.Member.{Member}
+use Rattle.corba_decls.specs.declared.decl_tree.Aliased.{Aliased}
+use Rattle.corba_decls.specs.declared.decl_tree.Aliased.TheVariants as A
+use Rattle.corba_decls.specs.declared.decl_tree.Declaration.{Declaration}
+use Rattle.corba_decls.specs.declared.decl_tree.Declaration.TheVariants as D
 use Rattle.corba_shapes.specs.State.{State}
 use Rattle.corba_shapes.specs.Structs.{struct_on, exception_on}
 use Rattle.corba_shapes.specs.Enums.{enum_on}

@@ -8,7 +8,7 @@ use Rattle.idl_names.specs.Answers.{Answer, and_then}
 use Rattle.idl_names.specs.Names.{has}
 use Rattle.idl_names.specs.Labels.{labelled}
 use Rattle.idl_exprs.specs.declared.tree.Identifier.{Identifier}
-use Rattle.corba_members.specs.declared.tree.Enum.{Enum}
+use Rattle.corba_decls.specs.declared.member_tree.Enum.{Enum}
 use Rattle.corba_scopes.specs.declared.meanings.Meaning.TheVariants as M
 use Rattle.corba_scopes.specs.Names.{Names, lower, clash, lower_of, refused_by, declared_on}
 use Rattle.corba_scopes.specs.Around.{innermost}

@@ -4,9 +4,9 @@ use Rattle.mint.specs.declared.kind.Count.{Count}
 use Rattle.mint.specs.declared.kind.Count.TheVariants.{Exactly}
 use Rattle.aoi.specs.Shapes.{Shape}
 use Rattle.idl_names.specs.Answers.{Answer, and_then}
-use Rattle.corba_members.specs.declared.tree.Dimension.{Dimension}
-use Rattle.corba_members.specs.declared.tree.Declarator.{Declarator}
-use Rattle.corba_members.specs.declared.tree.Member.{Member}
+use Rattle.corba_decls.specs.declared.member_tree.Dimension.{Dimension}
+use Rattle.corba_decls.specs.declared.member_tree.Declarator.{Declarator}
+use Rattle.corba_decls.specs.declared.member_tree.Member.{Member}
 use Rattle.corba_scopes.specs.declared.meanings.Meaning.TheVariants as M
 use Rattle.corba_scopes.specs.Names.{Names, clash, refused_by, declared_on}
 use Rattle.corba_scopes.specs.Around.{innermost}

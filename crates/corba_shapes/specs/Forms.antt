@@ -14,13 +14,13 @@ use Rattle.idl_names.specs.Answers.{Answer, fault, and_then}
 use Rattle.idl_names.specs.Uses.{shape_of_use, tag_of_use}
 use Rattle.idl_exprs.specs.Trees.{Tree}
 use Rattle.idl_exprs.specs.declared.tree.ScopedName.{ScopedName}
-use Rattle.corba_types.specs.declared.tree.Int.{Int}
-use Rattle.corba_types.specs.declared.tree.IntSize.{IntSize}
-use Rattle.corba_types.specs.declared.tree.IntSize.TheVariants.{Short, Long, LongLong}
-use Rattle.corba_types.specs.declared.tree.Simple.{Simple}
-use Rattle.corba_types.specs.declared.tree.Simple.TheVariants as S
-use Rattle.corba_types.specs.declared.tree.Base.{Base}
-use Rattle.corba_types.specs.declared.tree.Base.TheVariants as B
+use Rattle.corba_decls.specs.declared.type_tree.Int.{Int}
+use Rattle.corba_decls.specs.declared.type_tree.IntSize.{IntSize}
+use Rattle.corba_decls.specs.declared.type_tree.IntSize.TheVariants.{Short, Long, LongLong}
+use Rattle.corba_decls.specs.declared.type_tree.Simple.{Simple}
+use Rattle.corba_decls.specs.declared.type_tree.Simple.TheVariants as S
+use Rattle.corba_decls.specs.declared.type_tree.Base.{Base}
+use Rattle.corba_decls.specs.declared.type_tree.Base.TheVariants as B
 use Rattle.corba_scopes.specs.declared.meanings.Meaning.{Meaning}
 use Rattle.corba_scopes.specs.declared.meanings.Meaning.TheVariants as M
 use Rattle.corba_scopes.specs.declared.meanings.Entry.{Entry}

@@ -4,8 +4,8 @@ use Rattle.aoi.specs.Shapes.{Members, structure, members_of}
 use Rattle.aoi.specs.Plain.{PlainRaise}
 use Rattle.idl_names.specs.declared.uses.Tag.TheVariants as tag
 use Rattle.idl_names.specs.Answers.{Answer, and_then}
-use Rattle.corba_members.specs.declared.tree.Struct.{Struct}
-use Rattle.corba_members.specs.declared.tree.Exception.{Exception}
+use Rattle.corba_decls.specs.declared.member_tree.Struct.{Struct}
+use Rattle.corba_decls.specs.declared.member_tree.Exception.{Exception}
 use Rattle.corba_scopes.specs.declared.meanings.Meaning.TheVariants as M
 use Rattle.corba_scopes.specs.Names.{clash, refused_by, declared_on}
 use Rattle.corba_scopes.specs.Around.{innermost, inside}

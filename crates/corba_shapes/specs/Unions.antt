@@ -12,12 +12,12 @@ use Rattle.idl_names.specs.Answers.{Answer, and_then, refused}
 use Rattle.idl_names.specs.Uses.{shape_of_use, tag_of_use}
 use Rattle.idl_names.specs.Labels.{numbered}
 use Rattle.idl_names.specs.Arms.{with_arm}
-use Rattle.corba_decls.specs.declared.tree.Tag.{Tag as TagTree}
-use Rattle.corba_decls.specs.declared.tree.Tag.TheVariants as T
-use Rattle.corba_decls.specs.declared.tree.Label.{Label as LabelTree}
-use Rattle.corba_decls.specs.declared.tree.Label.TheVariants as L
-use Rattle.corba_decls.specs.declared.tree.Case.{Case}
-use Rattle.corba_decls.specs.declared.tree.Union.{Union}
+use Rattle.corba_decls.specs.declared.decl_tree.Tag.{Tag as TagTree}
+use Rattle.corba_decls.specs.declared.decl_tree.Tag.TheVariants as T
+use Rattle.corba_decls.specs.declared.decl_tree.Label.{Label as LabelTree}
+use Rattle.corba_decls.specs.declared.decl_tree.Label.TheVariants as L
+use Rattle.corba_decls.specs.declared.decl_tree.Case.{Case}
+use Rattle.corba_decls.specs.declared.decl_tree.Union.{Union}
 use Rattle.corba_scopes.specs.Names.{Names, clash, refused_by}
 use Rattle.corba_scopes.specs.Around.{innermost, inside}
 use Rattle.corba_scopes.specs.Consts.{number}

@@ -9,7 +9,7 @@ ghost use Rattle.corba_shapes.specs.Enums.{item_clash, items_on, enum_on};
 
 use crate::state::{Shapes, want};
 use aoi::{Items, NameErr, NameFault};
-use corba_members::Enum;
+use corba_decls::Enum;
 use corba_scopes::{Meaning, Scopes, innermost, lower_of, refuse_fault};
 use idl_exprs::Identifier;
 use idl_names::{Tag, add_label, enum_of};

@@ -9,7 +9,7 @@ ghost use Rattle.corba_shapes.specs.Fields.{lengths_on, placed_on, fields_on, me
 use crate::forms::{Counts, Form, form_ty, type_form};
 use crate::state::want;
 use aoi::{Field, Fields, NameErr};
-use corba_members::{Declarator, Dimension, Member};
+use corba_decls::{Declarator, Dimension, Member};
 use corba_scopes::{Meaning, Scopes, innermost};
 use kit_base::{Name, NoMemory};
 use mint::kind::Count;

@@ -9,8 +9,8 @@ ghost use Rattle.corba_shapes.specs.Forms.{core_shape, rowed, form_shape};
 ghost use Rattle.corba_shapes.specs.Forms.{is_row, core_tag, core_text, form_tag, form_text};
 
 use aoi::{NameErr, NameFault, Ty};
+use corba_decls::{Base, Int, IntSize, Simple, TypeName, TypeNode};
 use corba_scopes::{Entry, Meaning, Scopes};
-use corba_types::{Base, Int, IntSize, Simple, TypeName, TypeNode};
 use idl_exprs::{Expr, ScopedName};
 use idl_names::{Tag, Use, array_of, tag_of_use, ty_of_use};
 use kit_base::{Listed, Name, NoMemory};

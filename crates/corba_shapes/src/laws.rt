@@ -2,8 +2,8 @@
 
 ghost use Rattle.std.specs.Prelude.{◌≡◌, ℕ, List, true};
 ghost use Rattle.idl_lex.specs.declared.kinds.TokenKind.{TokenKind};
-ghost use Rattle.corba_decls.specs.declared.tree.Declaration.{Declaration as DeclarationTree};
-ghost use Rattle.corba_decls.specs.Spelling.{declaration};
+ghost use Rattle.corba_decls.specs.declared.decl_tree.Declaration.{Declaration as DeclarationTree};
+ghost use Rattle.corba_decls.specs.DeclSpelling.{declaration};
 ghost use Rattle.corba_shapes.specs.Declarations.{is_whole};
 
 /// The declarations that the grammar gives are whole: no struct and no enum of them is empty.

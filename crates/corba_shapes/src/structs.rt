@@ -10,7 +10,7 @@ ghost use Rattle.corba_shapes.specs.Structs.{struct_on, slashed, repository, rai
 use crate::fields::members;
 use crate::state::{Shapes, want};
 use aoi::{Fields, NameErr, Raise};
-use corba_members::{Exception, Struct};
+use corba_decls::{Exception, Struct};
 use corba_scopes::{Meaning, full_name, innermost, inside};
 use idl_names::{Tag, struct_of};
 use kit_base::{Name, NoMemory};

@@ -10,22 +10,22 @@ use Rattle.idl_read.proofs.Leaves.{word_reads, mark_reads, leads_word, leads_mar
 use Rattle.idl_read.proofs.Productions.{weaker, after_is, before_is, leads_after, leads_by, not_other}
 use Rattle.idl_exprs.specs.Spelling.{identifier}
 use Rattle.idl_exprs.proofs.LeavesRead.{identifier_is}
-use Rattle.corba_decls.specs.Spelling.{declaration}
-use Rattle.corba_decls.specs.Readers.{is_declaration}
+use Rattle.corba_decls.specs.DeclSpelling.{declaration}
+use Rattle.corba_decls.specs.DeclReaders.{is_declaration}
 use Rattle.corba_decls.proofs.DeclarationsRead.{declaration_is, leads_declaration}
-use Rattle.corba_interfaces.specs.Spelling.{interface}
-use Rattle.corba_interfaces.proofs.InterfacesRead.{interface_is, leads_interface}
+use Rattle.corba_syntax.specs.InterfaceSpelling.{interface}
+use Rattle.corba_syntax.proofs.InterfacesRead.{interface_is, leads_interface}
 use Rattle.idl_exprs.specs.declared.tree.Identifier.{Identifier}
-use Rattle.corba_decls.specs.declared.tree.Declaration.{Declaration}
-use Rattle.corba_interfaces.specs.declared.tree.Interface.{Interface}
-use Rattle.corba_syntax.specs.declared.tree.Definition.{Definition, out-Definition}
-use Rattle.corba_syntax.specs.declared.tree.Definition.TheOpen.{Definition-F}
-use Rattle.corba_syntax.specs.declared.tree.Definition.TheVariants as V
-use Rattle.corba_syntax.specs.declared.tree.Definition.TheViews.{roll-Definition, roll-out-Definition, roll-out-Module, out-roll-Module}
-use Rattle.corba_syntax.specs.declared.tree.Module.{Module, out-Module}
+use Rattle.corba_decls.specs.declared.decl_tree.Declaration.{Declaration}
+use Rattle.corba_syntax.specs.declared.interface_tree.Interface.{Interface}
+use Rattle.corba_syntax.specs.declared.definition_tree.Definition.{Definition, out-Definition}
+use Rattle.corba_syntax.specs.declared.definition_tree.Definition.TheOpen.{Definition-F}
+use Rattle.corba_syntax.specs.declared.definition_tree.Definition.TheVariants as V
+use Rattle.corba_syntax.specs.declared.definition_tree.Definition.TheViews.{roll-Definition, roll-out-Definition, roll-out-Module, out-roll-Module}
+use Rattle.corba_syntax.specs.declared.definition_tree.Module.{Module, out-Module}
 use Rattle.corba_syntax.specs.Derivation.{module_text, definition_text, definition, outermost}
 use Rattle.idl_exprs.specs.Readers.{is_open}
-use Rattle.corba_syntax.specs.Readers.{declared_at, module_of, module_at, definition_of, definition_at, outermost_at}
+use Rattle.corba_syntax.specs.DefinitionReaders.{declared_at, module_of, module_at, definition_of, definition_at, outermost_at}
 
 abbrev end_text : Text
 end_text = mark (codes "}") & mark (codes ";")

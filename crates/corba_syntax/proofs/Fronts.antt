@@ -2,7 +2,7 @@
 use Rattle.std.proofs.Common.{◌≡◌, inl, inr, List}
 use Rattle.idl_lex.specs.declared.kinds.Token.{Token}
 use Rattle.idl_read.proofs.Files as files
-use Rattle.corba_syntax.specs.declared.tree.Definition.{Definition}
+use Rattle.corba_syntax.specs.declared.definition_tree.Definition.{Definition}
 use Rattle.corba_syntax.specs.Derivation.{Derives, TokensAreDecided}
 use Rattle.corba_syntax.proofs.DefinitionsRead.{outermost_is, leads_outermost}
 

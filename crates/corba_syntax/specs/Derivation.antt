@@ -5,11 +5,11 @@ use Rattle.idl_read.specs.declared.errors.SyntaxErr.{SyntaxErr}
 use Rattle.idl_read.specs.Grammar.{Text, word, mark, ◌&◌, each}
 use Rattle.idl_read.specs.Files.{AreDefs, FailsAt as file_fails_at, Explains as explains}
 use Rattle.idl_exprs.specs.Spelling.{identifier}
-use Rattle.corba_decls.specs.Spelling.{declaration}
-use Rattle.corba_interfaces.specs.Spelling.{interface}
-use Rattle.corba_syntax.specs.declared.tree.Definition.{Definition, out-Definition}
-use Rattle.corba_syntax.specs.declared.tree.Definition.TheOpen.{Definition-F}
-use Rattle.corba_syntax.specs.declared.tree.Module.{Module, out-Module}
+use Rattle.corba_decls.specs.DeclSpelling.{declaration}
+use Rattle.corba_syntax.specs.InterfaceSpelling.{interface}
+use Rattle.corba_syntax.specs.declared.definition_tree.Definition.{Definition, out-Definition}
+use Rattle.corba_syntax.specs.declared.definition_tree.Definition.TheOpen.{Definition-F}
+use Rattle.corba_syntax.specs.declared.definition_tree.Module.{Module, out-Module}
 
 -- module = "module" identifier "{" { definition } "}" ";", over the text of a definition in it
 abbrev pub module_text : (Definition → Text) → Module → Text

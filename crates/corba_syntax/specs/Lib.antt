@@ -1,2 +1,6 @@
+pub mod OperationSpelling
+pub mod OperationReaders
+pub mod InterfaceSpelling
+pub mod InterfaceReaders
 pub mod Derivation
-pub mod Readers
+pub mod DefinitionReaders

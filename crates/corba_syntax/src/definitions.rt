@@ -3,11 +3,11 @@
 ghost use Rattle.std.specs.Prelude.{◌≡◌, ◌≤◌, ◌<◌, ◌+◌};
 ghost use Rattle.idl_read.specs.Reading.{Gives, before, many};
 ghost use Rattle.idl_exprs.specs.Readers.{is_open};
-ghost use Rattle.corba_syntax.specs.Readers.{declared_at, module_at, definition_by, definition_at, outermost_at};
+ghost use Rattle.corba_syntax.specs.DefinitionReaders.{declared_at, module_at, definition_by, definition_at, outermost_at};
 
-use crate::tree::{Definition, Module};
+use crate::definition_tree::{Definition, Module};
+use crate::interface;
 use corba_decls::{Declaration, declaration};
-use corba_interfaces::interface;
 use idl_exprs::Identifier;
 use idl_lex::Token;
 use idl_read::{Halt, Production, begins, mark, stands_before, word};
@@ -98,7 +98,7 @@ fn definition(alloc: Global, levels: u32, tokens: &[Token]) -> Result<(Definitio
 }
 
 /// A definition of a file.
-#[tactic(auto, unfolding(crate::specs::Readers::outermost_at))]
+#[tactic(auto, unfolding(crate::specs::DefinitionReaders::outermost_at))]
 pub(crate) fn outermost(alloc: Global, tokens: &[Token]) -> Result<(Definition, &[Token]), Halt>
     ensures { Gives (λ x. (x.0, x.1.now)) result (outermost_at tokens.now) }
 {

@@ -3,7 +3,7 @@
 ghost use Rattle.std.specs.Prelude.{◌≡◌, IfOk, IfErr, List};
 ghost use Rattle.idl_lex.specs.declared.kinds.Token.{Token};
 ghost use Rattle.corba_syntax.specs.Derivation.{Derives, Explains, TokensAreDecided};
-ghost use Rattle.corba_syntax.specs.declared.tree.Definition.{Definition};
+ghost use Rattle.corba_syntax.specs.declared.definition_tree.Definition.{Definition};
 
 use crate::Tree;
 use crate::definitions::outermost;

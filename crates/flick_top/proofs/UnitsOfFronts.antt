@@ -14,7 +14,7 @@ use Rattle.idl_read.proofs.Grammars.{read_is}
 use Rattle.onc_syntax.specs.declared.tree.Def.{Def}
 use Rattle.onc_syntax.specs.Derivation.{def, Derives as OncDerives, FailsAt as OncFailsAt}
 use Rattle.onc_syntax.proofs.Fronts.{one_tree_only as onc_one_tree, decided as onc_decided}
-use Rattle.corba_syntax.specs.declared.tree.Definition.{Definition}
+use Rattle.corba_syntax.specs.declared.definition_tree.Definition.{Definition}
 use Rattle.corba_syntax.specs.Derivation.{outermost, Derives as CorbaDerives, FailsAt as CorbaFailsAt}
 use Rattle.corba_syntax.proofs.Fronts.{one_tree_only as corba_one_tree, decided as corba_decided}
 use Rattle.mig_syntax.specs.declared.tree.Subsystem.{Subsystem}

@@ -7,15 +7,15 @@ use Rattle.idl_lex.specs.declared.kinds.Token.{Token}
 use Rattle.idl_lex.specs.declared.kinds.TokenKind.{TokenKind}
 use Rattle.idl_read.specs.Grammar.{Text, word, mark, ◌&◌, each, kinds}
 use Rattle.idl_exprs.specs.Spelling.{identifier}
-use Rattle.corba_decls.specs.Spelling.{declaration}
-use Rattle.corba_operations.specs.Spelling.{if_any}
-use Rattle.corba_interfaces.specs.declared.tree.Export.{Export}
-use Rattle.corba_interfaces.specs.declared.tree.Export.TheVariants as E
-use Rattle.corba_interfaces.specs.declared.tree.Interface.{Interface}
-use Rattle.corba_interfaces.specs.Spelling.{export, exported, bases, interface}
-use Rattle.corba_syntax.specs.declared.tree.Definition.{Definition, out-Definition}
-use Rattle.corba_syntax.specs.declared.tree.Definition.TheOpen.{Definition-F}
-use Rattle.corba_syntax.specs.declared.tree.Module.{Module, out-Module}
+use Rattle.corba_decls.specs.DeclSpelling.{declaration}
+use Rattle.corba_syntax.specs.OperationSpelling.{if_any}
+use Rattle.corba_syntax.specs.declared.interface_tree.Export.{Export}
+use Rattle.corba_syntax.specs.declared.interface_tree.Export.TheVariants as E
+use Rattle.corba_syntax.specs.declared.interface_tree.Interface.{Interface}
+use Rattle.corba_syntax.specs.InterfaceSpelling.{export, exported, bases, interface}
+use Rattle.corba_syntax.specs.declared.definition_tree.Definition.{Definition, out-Definition}
+use Rattle.corba_syntax.specs.declared.definition_tree.Definition.TheOpen.{Definition-F}
+use Rattle.corba_syntax.specs.declared.definition_tree.Module.{Module, out-Module}
 use Rattle.corba_syntax.specs.Derivation.{definition_text, definition, outermost, Derives}
 use Rattle.corba_shapes.proofs.Derived.{declaration_whole}
 use Rattle.front_corba.specs.Resolved.{is_whole_export, is_whole_level, is_whole_definition, is_whole_outermost, IsWhole}

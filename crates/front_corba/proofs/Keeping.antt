@@ -12,15 +12,15 @@ use Rattle.idl_names.specs.Names.{has}
 use Rattle.idl_names.proofs.Parts.{then_ok, refused_ok, ok_same}
 use Rattle.idl_names.proofs.Tables.{append_map}
 use Rattle.idl_names.proofs.Different.{distinct_push}
-use Rattle.corba_operations.specs.declared.tree.Reference.{Reference}
-use Rattle.corba_interfaces.specs.declared.tree.Export.{Export}
-use Rattle.corba_interfaces.specs.declared.tree.Export.TheVariants as E
-use Rattle.corba_interfaces.specs.declared.tree.Interface.{Interface}
-use Rattle.corba_syntax.specs.declared.tree.Definition.{Definition, out-Definition}
-use Rattle.corba_syntax.specs.declared.tree.Definition.TheOpen.{Definition-F, Module-F}
-use Rattle.corba_syntax.specs.declared.tree.Definition.TheFolds.{fold-roll-Definition, fold-roll-Module}
-use Rattle.corba_syntax.specs.declared.tree.Definition.TheViews.{roll-Definition, roll-out-Definition, roll-out-Module}
-use Rattle.corba_syntax.specs.declared.tree.Module.{Module, out-Module}
+use Rattle.corba_syntax.specs.declared.operation_tree.Reference.{Reference}
+use Rattle.corba_syntax.specs.declared.interface_tree.Export.{Export}
+use Rattle.corba_syntax.specs.declared.interface_tree.Export.TheVariants as E
+use Rattle.corba_syntax.specs.declared.interface_tree.Interface.{Interface}
+use Rattle.corba_syntax.specs.declared.definition_tree.Definition.{Definition, out-Definition}
+use Rattle.corba_syntax.specs.declared.definition_tree.Definition.TheOpen.{Definition-F, Module-F}
+use Rattle.corba_syntax.specs.declared.definition_tree.Definition.TheFolds.{fold-roll-Definition, fold-roll-Module}
+use Rattle.corba_syntax.specs.declared.definition_tree.Definition.TheViews.{roll-Definition, roll-out-Definition, roll-out-Module}
+use Rattle.corba_syntax.specs.declared.definition_tree.Module.{Module, out-Module}
 use Rattle.corba_scopes.specs.declared.meanings.Meaning.TheVariants as M
 use Rattle.corba_scopes.specs.Names.{Names, clash, refused_by, declared_on}
 use Rattle.corba_scopes.specs.Around.{prefix_of, innermost, inside}

@@ -10,11 +10,11 @@ use Rattle.idl_names.specs.Answers.{refused}
 use Rattle.idl_names.proofs.Parts.{then_ok, refused_ok, ok_same}
 use Rattle.idl_exprs.specs.Trees.{Tree}
 use Rattle.idl_exprs.specs.declared.tree.Identifier.{Identifier}
-use Rattle.corba_types.specs.declared.tree.Base.{Base}
-use Rattle.corba_operations.specs.declared.tree.Parameter.{Parameter}
-use Rattle.corba_operations.specs.declared.tree.Reference.{Reference}
-use Rattle.corba_operations.specs.declared.tree.Attribute.{Attribute}
-use Rattle.corba_operations.specs.declared.tree.Operation.{Operation}
+use Rattle.corba_decls.specs.declared.type_tree.Base.{Base}
+use Rattle.corba_syntax.specs.declared.operation_tree.Parameter.{Parameter}
+use Rattle.corba_syntax.specs.declared.operation_tree.Reference.{Reference}
+use Rattle.corba_syntax.specs.declared.operation_tree.Attribute.{Attribute}
+use Rattle.corba_syntax.specs.declared.operation_tree.Operation.{Operation}
 use Rattle.corba_scopes.specs.declared.meanings.Meaning.TheVariants as M
 use Rattle.corba_scopes.specs.Names.{Names, refused_by, declared_on}
 use Rattle.corba_scopes.specs.Around.{innermost, inside}

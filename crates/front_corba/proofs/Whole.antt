@@ -10,7 +10,7 @@ use Rattle.aoi.specs.Plain.{PlainOperation, PlainUnit, plain, is_sound_plain_ope
 use Rattle.aoi.proofs.Plainly.{sound_plain}
 use Rattle.idl_names.proofs.Parts.{then_ok, ok_same}
 use Rattle.idl_names.proofs.Labelling.{or_void_true}
-use Rattle.corba_syntax.specs.declared.tree.Definition.{Definition}
+use Rattle.corba_syntax.specs.declared.definition_tree.Definition.{Definition}
 use Rattle.corba_scopes.specs.Around.{file}
 use Rattle.corba_shapes.proofs.Lasting.{plain_sound, members_sound, raises_sound}
 use Rattle.corba_shapes.proofs.Keeping.{shapes_of}

@@ -5,7 +5,7 @@ use Rattle.aoi.specs.Shapes.{Shape, void, no_more, member}
 use Rattle.aoi.specs.Plain.{PlainOperation}
 use Rattle.idl_names.specs.Answers.{Answer, and_then}
 use Rattle.idl_exprs.specs.declared.tree.Identifier.{Identifier}
-use Rattle.corba_operations.specs.declared.tree.Attribute.{Attribute}
+use Rattle.corba_syntax.specs.declared.operation_tree.Attribute.{Attribute}
 use Rattle.corba_scopes.specs.declared.meanings.Meaning.TheVariants as M
 use Rattle.corba_scopes.specs.Names.{Names, clash, refused_by, declared_on, lower_of}
 use Rattle.corba_scopes.specs.Around.{innermost}

@@ -5,7 +5,7 @@ use Rattle.std.specs.Str.{bytes_eq}
 use Rattle.aoi.specs.declared.faults.NameFault.{NameFault}
 use Rattle.aoi.specs.declared.faults.NameFault.TheVariants.{Unknown, NotType}
 use Rattle.idl_names.specs.Answers.{Answer, fault, and_then}
-use Rattle.corba_operations.specs.declared.tree.Reference.{Reference}
+use Rattle.corba_syntax.specs.declared.operation_tree.Reference.{Reference}
 use Rattle.corba_scopes.specs.declared.meanings.Meaning.{Meaning}
 use Rattle.corba_scopes.specs.declared.meanings.Meaning.TheVariants as M
 use Rattle.corba_scopes.specs.declared.meanings.Entry.{Entry}

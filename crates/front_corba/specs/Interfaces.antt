@@ -4,9 +4,9 @@ use Rattle.kit_base.specs.Limits.{most_interfaces}
 use Rattle.aoi.specs.declared.faults.NameFault.TheVariants.{Twice, Limit}
 use Rattle.idl_names.specs.Answers.{Answer, and_then, refused}
 use Rattle.idl_names.specs.Names.{has}
-use Rattle.corba_interfaces.specs.declared.tree.Export.{Export}
-use Rattle.corba_interfaces.specs.declared.tree.Export.TheVariants as E
-use Rattle.corba_interfaces.specs.declared.tree.Interface.{Interface}
+use Rattle.corba_syntax.specs.declared.interface_tree.Export.{Export}
+use Rattle.corba_syntax.specs.declared.interface_tree.Export.TheVariants as E
+use Rattle.corba_syntax.specs.declared.interface_tree.Interface.{Interface}
 use Rattle.corba_scopes.specs.declared.meanings.Meaning.TheVariants as M
 use Rattle.corba_scopes.specs.Names.{Names, clash, refused_by, declared_on}
 use Rattle.corba_scopes.specs.Around.{innermost, inside}

@@ -8,8 +8,8 @@ use Rattle.aoi.specs.Plain.{PlainRaise, PlainOperation}
 use Rattle.idl_names.specs.Answers.{Answer, and_then, refused}
 use Rattle.idl_names.specs.Lists.{is_some_list}
 use Rattle.idl_exprs.specs.Trees.{Tree}
-use Rattle.corba_types.specs.declared.tree.Base.{Base}
-use Rattle.corba_operations.specs.declared.tree.Operation.{Operation}
+use Rattle.corba_decls.specs.declared.type_tree.Base.{Base}
+use Rattle.corba_syntax.specs.declared.operation_tree.Operation.{Operation}
 use Rattle.corba_scopes.specs.Names.{Names, refused_by}
 use Rattle.corba_scopes.specs.Around.{innermost, inside}
 use Rattle.corba_shapes.specs.Forms.{type_form, form_shape}

@@ -6,10 +6,10 @@ use Rattle.aoi.specs.declared.faults.NameFault.TheVariants.{Unknown, NotType, Li
 use Rattle.aoi.specs.Shapes.{Shape}
 use Rattle.aoi.specs.Plain.{PlainRaise}
 use Rattle.idl_names.specs.Answers.{Answer, fault, and_then, refused}
-use Rattle.corba_operations.specs.declared.tree.Direction.{Direction}
-use Rattle.corba_operations.specs.declared.tree.Direction.TheVariants as D
-use Rattle.corba_operations.specs.declared.tree.Parameter.{Parameter}
-use Rattle.corba_operations.specs.declared.tree.Reference.{Reference}
+use Rattle.corba_syntax.specs.declared.operation_tree.Direction.{Direction}
+use Rattle.corba_syntax.specs.declared.operation_tree.Direction.TheVariants as D
+use Rattle.corba_syntax.specs.declared.operation_tree.Parameter.{Parameter}
+use Rattle.corba_syntax.specs.declared.operation_tree.Reference.{Reference}
 use Rattle.corba_scopes.specs.declared.meanings.Meaning.{Meaning}
 use Rattle.corba_scopes.specs.declared.meanings.Meaning.TheVariants as M
 use Rattle.corba_scopes.specs.declared.meanings.Entry.{Entry}

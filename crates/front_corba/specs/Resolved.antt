@@ -5,11 +5,11 @@ use Rattle.kit_base.specs.Limits.{most_interfaces, most_operations}
 use Rattle.aoi.specs.Plain.{PlainOperation, PlainInterface, PlainUnit}
 use Rattle.aoi.specs.Sound.{are_distinct}
 use Rattle.idl_names.specs.Answers.{Answer, and_then}
-use Rattle.corba_interfaces.specs.declared.tree.Export.{Export}
-use Rattle.corba_interfaces.specs.declared.tree.Export.TheVariants as E
-use Rattle.corba_syntax.specs.declared.tree.Definition.{Definition, fold-Definition, out-Definition}
-use Rattle.corba_syntax.specs.declared.tree.Definition.TheOpen.{Definition-F, Module-F}
-use Rattle.corba_syntax.specs.declared.tree.Module.{Module, fold-Module, out-Module}
+use Rattle.corba_syntax.specs.declared.interface_tree.Export.{Export}
+use Rattle.corba_syntax.specs.declared.interface_tree.Export.TheVariants as E
+use Rattle.corba_syntax.specs.declared.definition_tree.Definition.{Definition, fold-Definition, out-Definition}
+use Rattle.corba_syntax.specs.declared.definition_tree.Definition.TheOpen.{Definition-F, Module-F}
+use Rattle.corba_syntax.specs.declared.definition_tree.Module.{Module, fold-Module, out-Module}
 use Rattle.corba_scopes.specs.declared.meanings.Meaning.{Meaning}
 use Rattle.corba_scopes.specs.declared.meanings.Meaning.TheVariants as M
 use Rattle.corba_scopes.specs.declared.meanings.Entry.{Entry}

@@ -11,9 +11,9 @@ ghost use Rattle.front_corba.specs.Parameters.{goes_in, comes_out, are_in, with_
 use crate::copies::{copy_name, copy_raise};
 use crate::{NameErr, NameFault};
 use aoi::{Field, Fields, Raise, Raises};
-use corba_operations::{Direction, Parameter, Reference};
 use corba_scopes::{Entry, Meaning, Scopes, innermost};
 use corba_shapes::{Form, form_ty, type_form};
+use corba_syntax::{Direction, Parameter, Reference};
 use idl_names::refuse;
 use kit_base::limits::MOST_RAISES;
 use kit_base::{Name, NoMemory};

@@ -3,7 +3,7 @@
 ghost use Rattle.std.specs.Prelude.{◌≡◌, ◌<◌, ◌≤◌, ◌⊎◌, ◌++◌, ◌∷◌, [], map, length, false, IsTrue, IfOk, IfErr, OnOk, List, Ok, Err};
 ghost use Rattle.idl_lex.specs.declared.kinds.Token.{Token};
 ghost use Rattle.corba_syntax.specs.Derivation.{Derives};
-ghost use Rattle.corba_syntax.specs.declared.tree.Definition.{Definition as DefinitionTree};
+ghost use Rattle.corba_syntax.specs.declared.definition_tree.Definition.{Definition as DefinitionTree};
 ghost use Rattle.aoi.specs.Plain.{plain, plain_operation, plain_interface};
 ghost use Rattle.aoi.specs.Sound.{IsSound};
 ghost use Rattle.aoi.specs.declared.faults.NameFault.TheVariants.{NoMemory as WantOfMemory};

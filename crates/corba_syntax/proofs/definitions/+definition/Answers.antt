@@ -2,7 +2,7 @@ use Rattle.std.proofs.Common.{◌∙◌, ◌-◌, sym, subst, length, arith}
 use Rattle.idl_read.specs.Reading.{Gives, many}
 use Rattle.idl_read.proofs.Loops.{goes_on}
 use Rattle.idl_exprs.specs.Readers.{is_open}
-use Rattle.corba_syntax.specs.Readers.{definition_at}
+use Rattle.corba_syntax.specs.DefinitionReaders.{definition_at}
 use Rattle.corba_syntax.proofs.Steps.{stepped}
 use Rattle.corba_syntax.proofs.definitions.+definition.Goals as goal
 

@@ -2,7 +2,7 @@ use Rattle.std.proofs.Common.{◌+◌, ◌-◌, ◌*◌, length}
 use Rattle.idl_read.specs.Reading.{many}
 use Rattle.idl_read.proofs.Loops.{Left}
 use Rattle.idl_exprs.specs.Readers.{is_open}
-use Rattle.corba_syntax.specs.Readers.{definition_at}
+use Rattle.corba_syntax.specs.DefinitionReaders.{definition_at}
 use Rattle.corba_syntax.proofs.definitions.+definition.Given as goal
 
 abbrev pub invariant-definitions-items : goal.invariant-definitions-items

@@ -1,5 +1,0 @@
-use Rattle.corba_interfaces.proofs.InterfacesRead.{one_interface_only}
-use Rattle.corba_interfaces.proofs.laws.one_interface.Goals as goal
-
-pub returns : goal.returns
-returns c = one_interface_only

@@ -1,5 +1,0 @@
-use Rattle.corba_members.proofs.MembersRead.{one_enumeration_only}
-use Rattle.corba_members.proofs.laws.one_enumeration.Goals as goal
-
-pub returns : goal.returns
-returns c = one_enumeration_only

@@ -1,5 +1,0 @@
-use Rattle.corba_members.proofs.MembersRead.{one_exception_only}
-use Rattle.corba_members.proofs.laws.one_exception.Goals as goal
-
-pub returns : goal.returns
-returns c = one_exception_only

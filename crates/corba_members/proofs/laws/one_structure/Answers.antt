@@ -1,5 +1,0 @@
-use Rattle.corba_members.proofs.MembersRead.{one_structure_only}
-use Rattle.corba_members.proofs.laws.one_structure.Goals as goal
-
-pub returns : goal.returns
-returns c = one_structure_only

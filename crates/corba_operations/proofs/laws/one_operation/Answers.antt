@@ -1,5 +1,0 @@
-use Rattle.corba_operations.proofs.OperationsRead.{one_operation_only}
-use Rattle.corba_operations.proofs.laws.one_operation.Goals as goal
-
-pub returns : goal.returns
-returns c = one_operation_only

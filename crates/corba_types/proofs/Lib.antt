@@ -1,8 +1,0 @@
--- The proofs, each after those that it uses; * marks those that the proofs of functions use.
-
--- * One level of a type
-pub mod Steps
--- Types that are not sequences: what is read is what is spelled
-pub mod BasesRead
--- * Types: what is read is what is spelled, by induction on the levels
-pub mod SequencesRead

@@ -1,4 +1,0 @@
-pub mod Levels
-pub mod TypesFall
-pub mod Spelling
-pub mod Readers
