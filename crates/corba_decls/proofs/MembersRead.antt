@@ -7,15 +7,16 @@ use Rattle.idl_lex.specs.declared.kinds.TokenKind.TheVariants as K
 use Rattle.idl_read.specs.Reading.{mark_is, word_is, mark_at, begins_with, many, before, joined_at}
 use Rattle.idl_read.specs.Grammar.{Text, mark, ◌&◌, each, some, joined, kinds, IsGrammar, Leads, Any}
 use Rattle.idl_read.proofs.Grammars.{mapped_is, both_is, many_is, parted, one_tree}
-use Rattle.idl_read.proofs.Leaves.{word_reads, mark_reads, mark_named, leads_word, one_kind, Apart, apart_mark, leads_mark, leads_both, begins_so, begins_not, begins_else}
+use Rattle.idl_read.proofs.Leaves.{word_reads, mark_reads, mark_named, leads_word, one_kind, Apart, apart_mark, leads_mark, leads_both, begins_so, begins_not}
 use Rattle.idl_read.proofs.Productions.{weaker, after_is, before_is, leads_after, not_other}
-use Rattle.idl_read.proofs.Lists.{turns, joined_is, some_is}
+use Rattle.idl_read.proofs.Lists.{turns, joined_is, until_is, some_is}
 use Rattle.idl_exprs.specs.Trees.{Tree}
 use Rattle.idl_exprs.specs.declared.tree.Identifier.{Identifier}
 use Rattle.idl_exprs.specs.Spelling.{identifier, expression}
 use Rattle.idl_exprs.specs.Readers.{is_identifier, is_joint, is_open}
 use Rattle.idl_exprs.proofs.LeavesRead.{identifier_is, leads_identifier}
-use Rattle.idl_exprs.proofs.Again.{May}
+use Rattle.idl_exprs.specs.declared.languages.Language.TheVariants.{Corba}
+use Rattle.idl_exprs.proofs.Ending.{before_mark}
 use Rattle.idl_exprs.proofs.ExpressionsRead.{expression_is}
 use Rattle.corba_decls.specs.declared.type_tree.Base.{Base}
 use Rattle.corba_decls.specs.TypeSpelling.{type}
@@ -28,17 +29,6 @@ use Rattle.corba_decls.specs.declared.member_tree.Exception.{Exception}
 use Rattle.corba_decls.specs.declared.member_tree.Enum.{Enum}
 use Rattle.corba_decls.specs.MemberSpelling.{dimension, declarator, member, structure, exception, enumeration}
 use Rattle.corba_decls.specs.MemberReaders.{dimension_of, dimension_at, has_dimension, declarator_of, declarator_at, member_of, member_at, structure_of, structure_at, exception_of, exception_at, enumeration_of, enumeration_at}
-
-before_bracket : (front rest : List Token) → mark (codes "]") (kinds front) → May false 6 (front ++ rest)
-before_bracket front rest s =
-    let t = one_kind front (K.Mark (codes "]")) s in
-    subst
-    (λ z. May false 6 (z ++ rest)) (sym t.1) (record {
-      name = rw t.2 refl;
-      no_operator = λ d lt. rw t.2 refl;
-      joint = λ yes.
-          absurd cc;
-    })
 
 -- a mark after which no expression goes on
 apart_bracket : Apart (mark_is (codes "[")) is_joint
@@ -75,7 +65,8 @@ module _ (n : ℕ) where
   unfolding dimension_at
   dimension_is =
       mapped_is dimension_of (dimension n)
-      (after_is (mark_reads (codes "[")) (before_is (expression_is n false) (mark_reads (codes "]")) before_bracket))
+      (after_is (mark_reads (codes "["))
+      (before_is (expression_is n false) (mark_reads (codes "]")) (before_mark Corba (codes "]") refl refl)))
       (λ x ks s. s) (λ d ks s. (d.length, refl, s))
 
   leads_dimension : Leads (dimension n) (mark_is (codes "["))
@@ -174,16 +165,7 @@ module _ (n : ℕ) where
   leads_member m ks s = leads_both declared (leads_type n) (m.of, m.declarators) ks s
 
   members_is : IsGrammar (many is_open (member_at n)) (each (member n)) (λ rest. is_open rest ≡ false)
-  members_is = weaker
-      (many_is is_open member_is
-      (record {
-        ends = refl;
-        begins =
-            λ m front rest s.
-            begins_else (mark_is (codes "}")) leads_member (apart_mark is_member (codes "}") refl) m front rest s;
-        goes_on = λ ts h. tt;
-      }))
-      (λ rest may. (may, tt))
+  members_is = until_is (codes "}") member_is leads_member (apart_mark is_member (codes "}") refl)
 
   pub closed : (front rest : List Token) → mark (codes "}") (kinds front) → is_open (front ++ rest) ≡ false
   closed front rest s = not_other (mark_is (codes "}")) (front ++ rest) (begins_so (leads_mark (codes "}")) tt front rest s)

@@ -1,19 +1,19 @@
 -- Unions: what is read is what is spelled.
-use Rattle.std.proofs.Common.{◌≡◌, ◌⊎◌, inl, inr, ℕ, ◌-◌, List, ◌++◌, Option, false, refl, sym, subst}
+use Rattle.std.proofs.Common.{◌≡◌, ◌⊎◌, inl, inr, ℕ, ◌-◌, List, ◌++◌, Option, false, refl}
 use Rattle.std.specs.Prelude.{codes, [], ◌∷◌}
 use Rattle.idl_lex.specs.declared.kinds.Token.{Token}
 use Rattle.idl_lex.specs.declared.kinds.TokenKind.{TokenKind}
-use Rattle.idl_lex.specs.declared.kinds.TokenKind.TheVariants as K
 use Rattle.idl_read.specs.Reading.{mark_is, word_is, many}
 use Rattle.idl_read.specs.Grammar.{Text, word, mark, ◌&◌, each, some, one_of, kinds, IsGrammar, Leads, Any}
 use Rattle.idl_read.proofs.Grammars.{mapped_is, both_is, many_is}
-use Rattle.idl_read.proofs.Leaves.{word_reads, mark_reads, one_kind, apart_or, apart_word, apart_mark, leads_word, leads_mark, leads_both, leads_either, begins_so, begins_not, begins_else}
+use Rattle.idl_read.proofs.Leaves.{word_reads, mark_reads, apart_or, apart_word, apart_mark, leads_word, leads_mark, leads_both, leads_either, begins_so, begins_not}
 use Rattle.idl_read.proofs.Productions.{weaker, after_is, before_is, leads_after, leads_by, unit_right_back}
-use Rattle.idl_read.proofs.Lists.{some_is, leads_some}
+use Rattle.idl_read.proofs.Lists.{until_is, some_is, leads_some}
 use Rattle.idl_exprs.specs.Trees.{Tree}
 use Rattle.idl_exprs.specs.Spelling.{identifier, expression}
 use Rattle.idl_exprs.proofs.LeavesRead.{identifier_is}
-use Rattle.idl_exprs.proofs.Again.{May}
+use Rattle.idl_exprs.specs.declared.languages.Language.TheVariants.{Corba}
+use Rattle.idl_exprs.proofs.Ending.{before_mark}
 use Rattle.idl_exprs.proofs.ExpressionsRead.{expression_is}
 use Rattle.corba_decls.specs.declared.type_tree.Base.{Base}
 use Rattle.corba_decls.proofs.BasesRead.{Closes}
@@ -30,18 +30,6 @@ use Rattle.corba_decls.specs.declared.decl_tree.Union.{Union as UnionDef}
 use Rattle.corba_decls.specs.DeclSpelling.{tag, label, case, union}
 use Rattle.corba_decls.specs.DeclReaders.{label_of, label_at, is_label, has_label, case_of, case_at, union_of, union_at}
 use Rattle.corba_decls.proofs.TagsRead.{led_or_is, NumberMay, tag_is}
-
--- an expression ends before `:`
-before_colon : (front rest : List Token) → mark (codes ":") (kinds front) → May false 6 (front ++ rest)
-before_colon front rest s =
-    let t = one_kind front (K.Mark (codes ":")) s in
-    subst
-    (λ z. May false 6 (z ++ rest)) (sym t.1) (record {
-      name = rw t.2 refl;
-      no_operator = λ d lt. rw t.2 refl;
-      joint = λ yes.
-          absurd cc;
-    })
 
 module _ (n : ℕ) where
   -- ---- labels
@@ -73,7 +61,8 @@ module _ (n : ℕ) where
   unfolding label_at
   label_is = mapped_is label_of (label n)
       (led_or_is (codes "case")
-      (after_is (word_reads (codes "case")) (before_is (expression_is n false) (mark_reads (codes ":")) before_colon))
+      (after_is (word_reads (codes "case"))
+      (before_is (expression_is n false) (mark_reads (codes ":")) (before_mark Corba (codes ":") refl refl)))
       (after_is (word_reads (codes "default")) (mark_reads (codes ":"))) leads_case_label leads_default_label refl)
       label_forth label_back
 
@@ -119,16 +108,7 @@ module _ (n : ℕ) where
   leads_case c ks s = leads_both element (leads_some leads_label) (c.labels, (c.of, c.declarator)) ks s
 
   cases_is : IsGrammar (many is_open (case_at n)) (each (case n)) (λ rest. is_open rest ≡ false)
-  cases_is = weaker
-      (many_is is_open case_is
-      (record {
-        ends = refl;
-        begins =
-            λ c front rest s.
-            begins_else (mark_is (codes "}")) leads_case (apart_mark is_label (codes "}") refl) c front rest s;
-        goes_on = λ ts h. tt;
-      }))
-      (λ rest may. (may, tt))
+  cases_is = until_is (codes "}") case_is leads_case (apart_mark is_label (codes "}") refl)
 
   -- ---- unions
 

@@ -5,9 +5,10 @@ use Rattle.idl_lex.specs.declared.kinds.Token.{Token}
 use Rattle.idl_lex.specs.declared.kinds.TokenKind.{TokenKind}
 use Rattle.idl_read.specs.Reading.{mark_is, word_is, begins_with}
 use Rattle.idl_read.specs.Grammar.{Text, word, mark, ◌&◌, one_of, each, kinds, IsGrammar, Leads, Any}
-use Rattle.idl_read.proofs.Grammars.{mapped_is, both_is, either_is, many_is}
-use Rattle.idl_read.proofs.Leaves.{word_reads, mark_reads, leads_word, leads_mark, apart_word, apart_mark, leads_both, leads_either, begins_so, begins_not, begins_else}
-use Rattle.idl_read.proofs.Productions.{weaker, after_is, before_is, leads_after, leads_by, not_other}
+use Rattle.idl_read.proofs.Grammars.{mapped_is, both_is, either_is}
+use Rattle.idl_read.proofs.Leaves.{word_reads, mark_reads, leads_word, leads_mark, apart_word, apart_mark, leads_both, leads_either, begins_so, begins_not}
+use Rattle.idl_read.proofs.Productions.{after_is, before_is, leads_after, leads_by, not_other}
+use Rattle.idl_read.proofs.Lists.{until_is}
 use Rattle.idl_exprs.specs.Spelling.{identifier}
 use Rattle.idl_exprs.proofs.LeavesRead.{identifier_is}
 use Rattle.corba_decls.specs.DeclSpelling.{declaration}
@@ -74,18 +75,7 @@ module _ (n : ℕ) (g : IsGrammar (definition_at n) (definition n) Any) (leads :
   module_is : IsGrammar (module_at (definition_at n)) (module_text inner) Any
   module_is = mapped_is module_of (module_text inner)
       (after_is (word_reads (codes "module")) (both_is identifier_is (after_is (mark_reads (codes "{")) (before_is
-      (weaker {May' =
-      λ rest.
-      is_open rest ≡ false}
-      (many_is is_open g
-      (record {
-        ends = refl;
-        begins =
-            λ d front rest s.
-            begins_else (mark_is (codes "}")) leads (apart_mark is_definition (codes "}") refl) d front rest s;
-        goes_on =
-            λ ts h. tt;
-      })) (λ rest may. (may, tt)))
+      (until_is (codes "}") g leads (apart_mark is_definition (codes "}") refl))
       (after_is (mark_reads (codes "}")) (mark_reads (codes ";"))) closed))
       (λ b front rest t may. tt)))
       (parts_forth inner) (parts_back inner)

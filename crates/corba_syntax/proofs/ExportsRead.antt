@@ -5,10 +5,10 @@ use Rattle.idl_lex.specs.declared.kinds.Token.{Token}
 use Rattle.idl_lex.specs.declared.kinds.TokenKind.{TokenKind}
 use Rattle.idl_read.specs.Reading.{mark_is, word_is, begins_with, many}
 use Rattle.idl_read.specs.Grammar.{Text, mark, one_of, each, IsGrammar, Leads, Any}
-use Rattle.idl_read.proofs.Grammars.{mapped_is, either_is, many_is}
-use Rattle.idl_read.proofs.Leaves.{mark_reads, mark_named, leads_mark, Apart, apart_or, apart_word, apart_mark, leads_both, leads_either, begins_so, begins_not, begins_else}
+use Rattle.idl_read.proofs.Grammars.{mapped_is, either_is}
+use Rattle.idl_read.proofs.Leaves.{mark_reads, mark_named, leads_mark, Apart, apart_or, apart_word, apart_mark, leads_both, leads_either, begins_so, begins_not}
 use Rattle.idl_read.proofs.Productions.{weaker, before_is, leads_by}
-use Rattle.idl_read.proofs.Lists.{turns}
+use Rattle.idl_read.proofs.Lists.{turns, until_is}
 use Rattle.idl_exprs.specs.Readers.{is_joint, is_open}
 use Rattle.corba_decls.specs.declared.decl_tree.Declaration.{Declaration}
 use Rattle.corba_decls.specs.DeclSpelling.{declaration}
@@ -107,13 +107,4 @@ module _ (n : ℕ) where
   leads_export e ks s = leads_both (λ (_ : Unit {0}). mark (codes ";")) leads_exported (e, tt) ks s
 
   pub exports_is : IsGrammar (many is_open (export_at n)) (each (export n)) (λ rest. is_open rest ≡ false)
-  exports_is = weaker
-      (many_is is_open export_is
-      (record {
-        ends = refl;
-        begins =
-            λ e front rest s.
-            begins_else (mark_is (codes "}")) leads_export (apart_mark is_export (codes "}") refl) e front rest s;
-        goes_on = λ ts h. tt;
-      }))
-      (λ rest may. (may, tt))
+  exports_is = until_is (codes "}") export_is leads_export (apart_mark is_export (codes "}") refl)

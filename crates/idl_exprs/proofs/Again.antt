@@ -12,11 +12,11 @@ use Rattle.idl_const.specs.declared.tree.UnaryOp.{UnaryOp}
 use Rattle.idl_const.specs.declared.tree.BinaryOp.{BinaryOp}
 use Rattle.idl_const.specs.declared.tree.BinaryOp.TheVariants as B
 use Rattle.idl_exprs.specs.declared.languages.Language.{Language}
-use Rattle.idl_exprs.specs.declared.languages.Language.TheVariants.{Corba, Mig}
+use Rattle.idl_exprs.specs.declared.languages.Language.TheVariants.{Corba}
 use Rattle.idl_exprs.specs.declared.tree.Leaf.{Leaf}
 use Rattle.idl_exprs.specs.Trees.{Tree, leaf, unary, binary}
 use Rattle.idl_exprs.specs.Spelling.{leaf_in, has_signs, has, unary_spell, binary_spell, looseness, within}
-use Rattle.idl_exprs.specs.Readers.{Levelled, is_unary, is_right, is_joint, closes, leaf_by, begins_sign, operator_at, over, chain_on, climb, primary_at, within_at}
+use Rattle.idl_exprs.specs.Readers.{Levelled, is_unary, is_right, is_joint, closes, operator_at, over, chain_on, climb, primary_at, within_at}
 use Rattle.idl_exprs.proofs.LeavesRead.{NameMay, is_leaf, leads_leaf_in, leaf_by_is, unary_is, leads_unary}
 use Rattle.idl_exprs.proofs.Closing.{binary_back, joint_operator, goes_on}
 

@@ -10,5 +10,7 @@ pub mod Within
 pub mod Closing
 -- What is spelled is read, by induction on levels and looseness
 pub mod Again
+-- What may follow an expression: a text that begins with a mark with which no expression goes on
+pub mod Ending
 -- * Expressions: what is read is what is spelled
 pub mod ExpressionsRead

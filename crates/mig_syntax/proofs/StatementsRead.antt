@@ -7,7 +7,7 @@ use Rattle.idl_lex.specs.declared.kinds.TokenKind.TheVariants as K
 use Rattle.idl_read.specs.Reading.{word_is, begins_with}
 use Rattle.idl_read.specs.Grammar.{Text, one, mark, ◌&◌, one_of, IsGrammar, Leads, Any}
 use Rattle.idl_read.proofs.Grammars.{mapped_is, both_is, either_is}
-use Rattle.idl_read.proofs.Leaves.{token_is, mark_reads, leads_mark, leads_both, leads_either, begins_so, begins_not}
+use Rattle.idl_read.proofs.Leaves.{token_is, mark_reads, leads_both, leads_either, begins_so, begins_not}
 use Rattle.idl_read.proofs.Productions.{after_is, before_is, leads_after, leads_by}
 use Rattle.idl_exprs.specs.Trees.{Tree}
 use Rattle.mig_syntax.specs.Words.{like, identifier, like_is, lower_in, has_like}
@@ -21,9 +21,11 @@ use Rattle.mig_syntax.specs.declared.tree.Importer.{Importer}
 use Rattle.mig_syntax.specs.declared.tree.Importer.TheVariants as I
 use Rattle.mig_syntax.specs.declared.tree.Statement.{Statement}
 use Rattle.mig_syntax.specs.declared.tree.Statement.TheVariants as V
+use Rattle.idl_exprs.specs.declared.languages.Language.TheVariants.{Mig}
+use Rattle.idl_exprs.proofs.Ending.{before_mark}
 use Rattle.idl_exprs.proofs.ExpressionsRead.{mig_expression_is}
 use Rattle.mig_syntax.proofs.WordsRead.{like_reads, leads_like, likes_are, leads_likes, identifier_reads, apart_like, apart_likes}
-use Rattle.mig_syntax.proofs.TypesRead.{closed_by, type_is}
+use Rattle.mig_syntax.proofs.TypesRead.{type_is}
 use Rattle.mig_syntax.proofs.RoutinesRead.{routine_is, leads_routine}
 
 -- ---- parts
@@ -188,5 +190,5 @@ pub heading_is : IsGrammar heading_at heading_text Any
 unfolding heading_at
 heading_is = after_is (like_reads (codes "subsystem")) (both_is identifier_reads
     (before_is (mig_expression_is 32) (mark_reads (codes ";"))
-    (λ front rest s. closed_by {S = λ (_ : Unit {0}). mark (codes ";")} (codes ";") refl refl (leads_mark (codes ";")) tt front rest s))
+    (before_mark Mig (codes ";") refl refl))
     (λ b front rest t may. tt))

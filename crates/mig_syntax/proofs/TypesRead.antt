@@ -1,21 +1,17 @@
 -- Types: what is read is what is spelled.
-use Rattle.std.proofs.Common.{◌≡◌, ◌⊎◌, inl, inr, ℕ, zero, suc, ◌<◌, List, [], ◌∷◌, ◌++◌, Option, Some, None, Bool, true, false, ◌||◌, refl}
-use Rattle.std.specs.Prelude.{codes, is_some}
-use Rattle.idl_lex.specs.declared.kinds.Token.{Token}
+use Rattle.std.proofs.Common.{◌≡◌, ◌⊎◌, inl, inr, ℕ, zero, suc, List, Bool, true, false, ◌||◌, refl}
+use Rattle.std.specs.Prelude.{codes}
 use Rattle.idl_lex.specs.declared.kinds.TokenKind.{TokenKind}
-use Rattle.idl_lex.specs.declared.kinds.TokenKind.TheVariants as K
 use Rattle.idl_read.specs.Reading.{mark_is, mark_at, word_is, begins_with, after}
-use Rattle.idl_read.specs.Grammar.{Text, mark, ◌&◌, one_of, kinds, IsGrammar, Leads, Any}
+use Rattle.idl_read.specs.Grammar.{Text, mark, ◌&◌, one_of, IsGrammar, Leads, Any}
 use Rattle.idl_read.proofs.Grammars.{mapped_is, both_is, either_is}
-use Rattle.idl_read.proofs.Leaves.{mark_reads, mark_named, leads_mark, leads_both, leads_either, begins_so, begins_not, Apart, apart_mark}
+use Rattle.idl_read.proofs.Leaves.{mark_reads, leads_mark, leads_both, leads_either, begins_so, begins_not, Apart, apart_mark}
 use Rattle.idl_read.proofs.Productions.{after_is, before_is, leads_after}
-use Rattle.idl_const.specs.declared.tree.BinaryOp.{BinaryOp}
 use Rattle.idl_exprs.specs.declared.languages.Language.TheVariants.{Mig}
 use Rattle.idl_exprs.specs.Trees.{Tree, leaf, unary, binary}
 use Rattle.idl_exprs.specs.Spelling.{binary_spell, looseness, within, mig_expression}
-use Rattle.idl_exprs.specs.Readers.{binary_in, operator_at}
 use Rattle.idl_exprs.proofs.LeavesRead.{is_leaf, leads_leaf_in}
-use Rattle.idl_exprs.proofs.Again.{MayFollow}
+use Rattle.idl_exprs.proofs.Ending.{closed_by, before_mark}
 use Rattle.idl_exprs.proofs.ExpressionsRead.{mig_expression_is}
 use Rattle.mig_syntax.specs.Words.{like, identifier, like_is, like_at, is_identifier}
 use Rattle.mig_syntax.specs.Derivation.{row, type_form}
@@ -23,29 +19,6 @@ use Rattle.mig_syntax.specs.StatementReaders.{Row, row_at, sized_at, array_at, t
 use Rattle.mig_syntax.specs.declared.tree.TypeForm.{TypeForm}
 use Rattle.mig_syntax.specs.declared.tree.TypeForm.TheVariants as T
 use Rattle.mig_syntax.proofs.WordsRead.{like_reads, leads_like, identifier_reads, leads_identifier, apart_like, apart_identifier, either_apart}
-
--- ---- what follows an expression
-
-abbrev is_operator : TokenKind → Bool
-is_operator k = is_some (binary_in k)
-
-no_operator : (ts : List Token) → begins_with is_operator ts ≡ false → (d : ℕ) → d < 6 → operator_at Mig false d ts ≡ None
-no_operator [] h d lt = refl
-no_operator (t ∷ ts) h d lt = go (binary_in t.kind) refl where
-  go : (o : Option BinaryOp) → binary_in t.kind ≡ o → operator_at Mig false d (t ∷ ts) ≡ None
-  go None is = rw is refl
-  go (Some op) is = absurd (let no : is_operator t.kind ≡ true = rw is refl in cc)
-
-pub closed_by : {A : Type 0} {S : A → Text} (m : List ℕ) → binary_in (K.Mark m) ≡ None → mark_is m (K.Mark (codes "::")) ≡ false
-    → Leads S (mark_is m) → (a : A) (front rest : List Token) → S a (kinds front)
-    → MayFollow Mig false 6 (front ++ rest)
-closed_by m h other l a front rest s = record {
-  name = begins_not (mark_is (codes "::")) l (apart_mark (mark_is m) (codes "::") other) a front rest s;
-  no_operator = no_operator (front ++ rest) (begins_not is_operator l apart a front rest s);
-  joint = λ yes. absurd cc;
-} where
-  apart : Apart (mark_is m) is_operator
-  apart k e = let is = mark_named m k e in rw (is, h) refl
 
 -- ---- parts
 
@@ -59,7 +32,7 @@ row_is : IsGrammar row_at row_text Any
 unfolding row_at
 row_is = both_is (mig_expression_is 32) (after_is (mark_reads (codes "]")) (after_is (like_reads (codes "of")) identifier_reads))
     (λ n front rest s may.
-    closed_by {S = row_end} (codes "]") refl refl
+    closed_by {S = row_end} Mig (codes "]") refl refl
     (leads_after (λ n. like (codes "of") & identifier n) (leads_mark (codes "]"))) n front rest s)
 
 abbrev sized_text : List ℕ × Tree → Text
@@ -70,7 +43,7 @@ unfolding sized_at
 sized_is = after_is (mark_reads (codes "(")) (both_is identifier_reads
     (after_is (mark_reads (codes ","))
     (before_is (mig_expression_is 31) (mark_reads (codes ")"))
-    (λ front rest s. closed_by {S = λ (_ : Unit {0}). mark (codes ")")} (codes ")") refl refl (leads_mark (codes ")")) tt front rest s)))
+    (before_mark Mig (codes ")") refl refl)))
     (λ b front rest t may. tt))
 
 abbrev starred_text : Row → Text
