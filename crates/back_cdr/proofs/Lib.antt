@@ -8,15 +8,11 @@ pub mod Short
 pub mod Coding
 -- * Fields that are put after octets depend on the length of these alone, so the id may be put in later
 pub mod Growing
--- * The operation at a place among those of all interfaces
-pub mod Naming
+-- * The ids of exceptions
+pub mod Ids
 -- Octets that are known by another name
 pub mod Along
--- * Operations that are named are among those there are, found from left to right, by induction on the interfaces
-pub mod NamedBelow
 -- A message has one head of a request or one first fault of it, over a binding too
 pub mod Heading
--- * The operation that a request names has its key and its name, by induction on the interfaces
-pub mod NamedRight
--- The operation that a request names is the one of its name, of the interface whose name is the key
-pub mod NamedBy
+-- * The operation that a request names is there, and is the one of its name, of the interface whose name is the key
+pub mod Named

@@ -1,30 +1,27 @@
 -- What requests name, and what their heads say, over a binding.
-use Rattle.std.specs.Prelude.{◌≡◌, ℕ, ◌+◌, Bool, List, [], ◌∷◌, length, Option, Some, None, if◌then◌else◌}
-use Rattle.std.specs.List.{position_from}
+use Rattle.std.specs.Prelude.{◌≡◌, ℕ, Bool, List}
 use Rattle.std.specs.Str.{bytes_eq}
 use Rattle.aoi.specs.Plain.{PlainInterface, PlainOperation}
 use Rattle.head_kit.specs.declared.called.Called.{Called}
 use Rattle.head_kit.specs.declared.called.Naming.{Naming}
-use Rattle.head_kit.specs.declared.called.Naming.TheVariants.{Operation as one, NoInterface, NoOperation}
+use Rattle.head_kit.specs.Calls as kit
 use Rattle.giop_head.specs.Items.{laid}
 use Rattle.giop_head.specs.Reported.{ReportedRequest, BeginsRequest}
+use Rattle.back_cdr.specs.Targets.{ops_of}
 use Rattle.pres.specs.Bindings.{Binding}
+
+-- an interface whose name is the key
+abbrev pub has_key : List ℕ → PlainInterface → Bool
+has_key key i = bytes_eq i.name key
 
 -- an operation of this name
 abbrev pub has_name : List ℕ → PlainOperation → Bool
 has_name name op = bytes_eq op.name name
 
--- what is named by an operation's place, where there is one
-abbrev pub operation_at : Option ℕ → Naming
-operation_at None = NoOperation
-operation_at (Some op) = one op
-
 -- the first interface whose name is the key, and its first operation of the name, where the operations of the interfaces
 -- are counted from k
 abbrev pub named_from : ℕ → List PlainInterface → List ℕ → List ℕ → Naming
-named_from k [] key name = NoInterface
-named_from k (i ∷ is) key name = if bytes_eq i.name key then operation_at (position_from (has_name name) k i.ops)
-    else named_from (k + length i.ops) is key name
+named_from k is key name = kit.named_from ops_of (has_key key) (λ i. has_name name) k is
 
 -- the operation that a request names
 abbrev pub named : Binding → ReportedRequest → Naming

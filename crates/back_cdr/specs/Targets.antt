@@ -22,6 +22,10 @@ pub record Target : Type 0 where
 abbrev pub target_in : PlainInterface → PlainOperation → Target
 target_in i op = record { key = i.name; name = op.name; wants = not op.oneway; ids = map (λ (r : PlainRaise). r.id) op.raises }
 
+-- the operations of an interface
+abbrev pub ops_of : PlainInterface → List PlainOperation
+ops_of i = i.ops
+
 -- those of an interface
 abbrev pub targets_in : PlainInterface → List Target
 targets_in i = map (target_in i) i.ops

@@ -11,12 +11,12 @@ ghost use Rattle.giop_head.specs.Heads.{StopsWith};
 ghost use Rattle.giop_head.specs.Items.{laid};
 ghost use Rattle.giop_head.specs.Reported.{request_seen};
 ghost use Rattle.back_cdr.specs.Targets.{IsCdr, targets};
-ghost use Rattle.back_cdr.specs.Seeking.{Calls, has_name, named, named_from, operation_at};
+ghost use Rattle.back_cdr.specs.Seeking.{Calls, has_name, named, named_from};
 
 use crate::targets::operations_are_targets;
 use aoi::Interface;
 use giop_head::{GiopRequest, read_request};
-use head_kit::{Called, Naming};
+use head_kit::{Called, Naming, operation_at};
 use pres::Bound;
 use wire_def::{Encoding, HeadErr, Order};
 
@@ -51,16 +51,6 @@ fn has_key(i: &Interface, key: &[u8]) -> bool
     ensures { result ≡ bytes_eq (plain_interface i.now).name key.now }
 {
     i.name.as_slice() == key
-}
-
-/// What is named by an operation's place, where there is one.
-fn operation_at(place: Option<u32>) -> Naming
-    ensures { result ≡ operation_at place }
-{
-    match place {
-        Some(op) => Naming::Operation(op),
-        None => Naming::NoOperation,
-    }
 }
 
 /// The operation of a key and a name, where those of the interfaces are counted from a number.

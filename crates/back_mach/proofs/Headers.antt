@@ -1,12 +1,14 @@
 -- The header of a message is a grammar.
 use Rattle.std.proofs.Common.{◌≡◌, ◌+◌, ℕ, List, [], ◌∷◌, refl}
 use Rattle.wire_def.specs.declared.fault.HeadErr.TheVariants.{Size, Complex}
+use Rattle.wire_def.specs.declared.head.Order.TheVariants.{Little}
 use Rattle.wire_def.specs.Grammar.{Spelling, Parts, IsGrammar}
 use Rattle.wire_def.proofs.Grammars.{mapped, both_are, tested_are}
 use Rattle.back_mach.specs.declared.header.MachHeader.{MachHeader}
 use Rattle.back_mach.specs.Words.{word, words, WordSpells}
 use Rattle.back_mach.specs.Header.{SixSpell, SixStop, read_six, is_simple, has_size, SimpleSpells, SimpleStops, read_simple, HeaderSpells, HeaderStops, read_header}
-use Rattle.back_mach.proofs.Items.{word_is}
+use Rattle.head_kit.specs.Words as kit
+use Rattle.head_kit.proofs.Words.{word_is}
 
 abbrev Values : Type 0
 Values = ℕ × (ℕ × (ℕ × (ℕ × (ℕ × ℕ))))
@@ -24,7 +26,7 @@ abbrev header_of : Values → MachHeader
 header_of x = record { bits = x.0; size = x.1.0; remote = x.1.1.0; local = x.1.1.1.0; sequence = x.1.1.1.1.0; id = x.1.1.1.1.1 }
 
 forth : (p : ℕ) (o : List ℕ) (x : Values) → Six p o x → SixSpell p o (header_of x)
-unfolding SixSpell WordSpells
+unfolding SixSpell kit.WordSpells
 forth p o x (
   a,
   b,
@@ -43,7 +45,7 @@ forth p o x (
 )
 
 back : (p : ℕ) (o : List ℕ) (y : MachHeader) → SixSpell p o y → (x : Values) × (header_of x ≡ y) × Six p o x
-unfolding SixSpell WordSpells
+unfolding SixSpell kit.WordSpells
 back p o y (is, fits) = (
   (y.bits, (y.size, (y.remote, (y.local, (y.sequence, y.id))))),
   refl,
@@ -76,10 +78,10 @@ back p o y (is, fits) = (
 
 six_is : IsGrammar read_six SixSpell SixStop
 unfolding read_six SixStop
-six_is = mapped header_of SixSpell
-    (both_are word_is
-    (λ bits.
-    both_are word_is (λ size. both_are word_is (λ remote. both_are word_is (λ local. both_are word_is (λ sequence. word_is))))))
+six_is =
+    let w = word_is Little in
+    mapped header_of SixSpell
+    (both_are w (λ bits. both_are w (λ size. both_are w (λ remote. both_are w (λ local. both_are w (λ sequence. w))))))
     forth back
 
 simple_is : IsGrammar read_simple SimpleSpells SimpleStops

@@ -1,25 +1,17 @@
 -- The proofs, each after those that it uses; * marks those that the proofs of functions use.
 
--- Words are grammars
-pub mod Items
 -- The header of a message is a grammar
 pub mod Headers
 -- The heads of replies are a grammar
 pub mod Replies
 -- * A header that is read, and is not the one that is wanted
 pub mod Steps
--- * The laws, from reading being one function
+-- * The laws, over each way
 pub mod Lawful
--- * What is reported of a message is decided by its head, or by its first fault
-pub mod Exact
 -- * Each operation of a bound unit is a routine, they are few, and ids have 31 bits, by induction on the interfaces
 pub mod Counting
--- * The operation at a place among those of all interfaces
-pub mod Naming
--- * Operations that are named are among those there are, found from left to right, by induction on the interfaces
-pub mod NamedBelow
--- * The operation that a request names is the one of its id, by induction on the interfaces
-pub mod NamedBy
+-- * The operation that a request names is there, and is the one of its id
+pub mod Named
 -- A message has one head of a request or one first fault of it, over a binding too
 pub mod Heading
 -- * A head as one chunk appends its octets

@@ -11,7 +11,8 @@ use Rattle.wire_def.specs.declared.reply.Status.{Status}
 use Rattle.wire_def.specs.declared.reply.Status.TheVariants as status
 use Rattle.back_mach.specs.declared.header.MachHeader.{MachHeader}
 use Rattle.back_mach.specs.declared.routines.Routine.{Routine}
-use Rattle.back_mach.specs.Words.{word, words, IsWord}
+use Rattle.head_kit.specs.Words.{IsWord}
+use Rattle.back_mach.specs.Words.{word, words}
 use Rattle.back_mach.specs.Header.{SixSpell, HeaderSpells}
 use Rattle.back_mach.specs.Reply.{return_word, CodeSpells}
 use Rattle.back_mach.specs.Leads.{request_bits, reply_port, lead, reply_id, move_send_once, reply_octets, with_size}

@@ -4,7 +4,8 @@ use Rattle.wire_def.specs.declared.fault.HeadErr.{HeadErr}
 use Rattle.wire_def.specs.declared.fault.HeadErr.TheVariants.{Size, Complex}
 use Rattle.wire_def.specs.Grammar.{Reader, Spelling, Stopping, map_got, both, tested, StopsInOrder, TestedSpells, TestedStops}
 use Rattle.back_mach.specs.declared.header.MachHeader.{MachHeader}
-use Rattle.back_mach.specs.Words.{words, IsWord, WordSpells, WordStops, read_word}
+use Rattle.head_kit.specs.Words.{IsWord, WordStops}
+use Rattle.back_mach.specs.Words.{words, WordSpells, read_word}
 
 -- the octets of a header: the bits, the size, the remote port, the local port, the sequence number and the id
 abbrev pub header_octets : MachHeader → List ℕ

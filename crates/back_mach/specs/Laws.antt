@@ -1,40 +1,33 @@
 -- Laws of the heads.
-use Rattle.std.specs.Prelude.{◌≡◌, ◌⊎◌, ◌↔◌, ℕ, ℤ, pos, List, ◌++◌, length, Some, FitsSigned}
+use Rattle.std.specs.Prelude.{◌≡◌, ◌↔◌, ℕ, ℤ, pos, List, ◌++◌, length, Some, FitsSigned}
 use Rattle.std.specs.Int.{w32}
-use Rattle.wire_def.specs.declared.fault.HeadErr.{HeadErr}
 use Rattle.wire_def.specs.declared.head.Head.{Head}
 use Rattle.wire_def.specs.declared.outcome.Refusal.{Refusal}
 use Rattle.wire_def.specs.declared.outcome.Refusal.TheVariants as refusal
 use Rattle.wire_def.specs.declared.reply.ReplyHead.{ReplyHead}
 use Rattle.wire_def.specs.declared.reply.Status.{Status}
 use Rattle.wire_def.specs.declared.reply.Status.TheVariants.{Answer, RetCode}
-use Rattle.wire_def.specs.Grammar.{AreOctets, IsGrammar}
+use Rattle.wire_def.specs.Grammar.{AreOctets}
+use Rattle.head_kit.specs.Heads.{IsDecided, IsRead}
 use Rattle.head_kit.specs.declared.called.Naming.TheVariants.{Operation}
 use Rattle.pres.specs.Bindings.{Binding}
 use Rattle.back_mach.specs.declared.call.MachCall.{MachCall}
 use Rattle.back_mach.specs.declared.routines.Routine.{Routine}
-use Rattle.back_mach.specs.Heads.{Way, HeadOf, HeadSpells, HeadStops, read_head, BeginsWith, StopsWith}
+use Rattle.back_mach.specs.Heads.{Way, format}
 use Rattle.back_mach.specs.Leads.{lead, lead_length, answer_lead, answer_lead_length, reply_id, reply_port, with_size}
 use Rattle.back_mach.specs.Refusals.{IsOwn, refusal_octets}
 use Rattle.back_mach.specs.Routines.{routine_of}
 use Rattle.back_mach.specs.Seeking.{named}
 use Rattle.back_mach.specs.Reported.{BeginsCall, BeginsReply, shared_head}
-use Rattle.back_mach.specs.Words.{IsWord}
+use Rattle.head_kit.specs.Words.{IsWord}
 
--- a message begins with a head or stops with a fault, one of the two, and which head and which fault is determined
-pub record IsDecided (w : Way) (message : List ℕ) : Type 0 where
-  pub either : ((h : HeadOf w) × (used : ℕ) × BeginsWith w message h used) ⊎ ((e : HeadErr) × StopsWith w message e)
-  pub not_both : (h : HeadOf w) (used : ℕ) (e : HeadErr) → BeginsWith w message h used → StopsWith w message e → ⊥
-  pub one_head : (h j : HeadOf w) (used m : ℕ) → BeginsWith w message h used → BeginsWith w message j m → (h ≡ j) × (used ≡ m)
-  pub one_fault : (d e : HeadErr) → StopsWith w message d → StopsWith w message e → d ≡ e
-
--- so it is for each message
+-- each message begins with a head or stops with a fault, one of the two, and which head and which fault is determined
 abbrev pub HeadsAreDecided : Type 0
-HeadsAreDecided = (w : Way) (message : List ℕ) → AreOctets message → IsDecided w message
+HeadsAreDecided = (w : Way) (message : List ℕ) → AreOctets message → IsDecided (format w (length message)) message
 
 -- what is read of a message of any length is spelled, and where reading stops there is the fault
 abbrev pub HeadsAreRead : Type 0
-HeadsAreRead = (w : Way) (n : ℕ) → IsGrammar (read_head w n) (HeadSpells w n) (HeadStops w n)
+HeadsAreRead = (w : Way) (n : ℕ) → IsRead (format w n)
 
 -- the operation that a request names has its id
 abbrev pub IsNamedRight : Type 0

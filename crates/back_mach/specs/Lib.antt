@@ -3,7 +3,6 @@ pub mod Header
 pub mod Reply
 pub mod Heads
 pub mod Reported
-pub mod Readers
 pub mod Routines
 pub mod Seeking
 pub mod Leads

@@ -7,7 +7,8 @@ use Rattle.wire_def.specs.declared.fault.HeadErr.TheVariants.{Type_, Item}
 use Rattle.wire_def.specs.Grammar.{Reader, Spelling, Stopping, map_got, both, tested, Parts, StopsInOrder, TestedSpells, TestedStops}
 use Rattle.wire_def.specs.Lone.{scalar_word}
 use Rattle.back_mach.specs.declared.header.MachHeader.{MachHeader}
-use Rattle.back_mach.specs.Words.{word, IsWord, WordStops, read_word, only, PassSpells, PassStops, read_pass}
+use Rattle.head_kit.specs.Words.{IsWord, WordStops, only}
+use Rattle.back_mach.specs.Words.{word, read_word, PassSpells, PassStops, read_pass}
 use Rattle.back_mach.specs.Header.{HeaderSpells, HeaderStops, read_header}
 
 -- a header, and the word of a return code, in two's complement

@@ -1,15 +1,16 @@
 -- What is reported to callers of a head.
-use Rattle.std.specs.Prelude.{◌≡◌, ℕ, zero, suc, true, List}
+use Rattle.std.specs.Prelude.{ℕ, zero, suc, true, List, length}
 use Rattle.std.specs.Int.{w32, cast_signed}
 use Rattle.wire_def.specs.declared.head.Head.{Head}
 use Rattle.wire_def.specs.declared.head.Order.TheVariants.{Big}
 use Rattle.wire_def.specs.declared.reply.ReplyHead.{ReplyHead}
 use Rattle.wire_def.specs.declared.reply.Status.{Status}
 use Rattle.wire_def.specs.declared.reply.Status.TheVariants.{Answer, RetCode}
+use Rattle.head_kit.specs.Heads.{Begins}
 use Rattle.back_mach.specs.declared.call.MachCall.{MachCall}
 use Rattle.back_mach.specs.declared.header.MachHeader.{MachHeader}
 use Rattle.back_mach.specs.Reply.{Reply}
-use Rattle.back_mach.specs.Heads.{call, reply, BeginsWith}
+use Rattle.back_mach.specs.Heads.{call, reply, format}
 
 -- of the fields that all back ends share these heads have the two ports
 abbrev pub shared_head : ℕ → ℕ → Head
@@ -30,8 +31,8 @@ reply_reported r used = record { head = shared_head r.header.remote r.header.loc
 
 -- a message begins with the head of a request, of which this is reported
 abbrev pub BeginsCall : List ℕ → MachCall → Type 0
-BeginsCall message reported = (h : MachHeader) × (used : ℕ) × BeginsWith call message h used × (call_reported h used ≡ reported)
+BeginsCall message = Begins (format call (length message)) call_reported message
 
 -- a message begins with the head of a reply with an id, of which this is reported
 abbrev pub BeginsReply : ℕ → List ℕ → ReplyHead → Type 0
-BeginsReply id message reported = (r : Reply) × (used : ℕ) × BeginsWith (reply id) message r used × (reply_reported r used ≡ reported)
+BeginsReply id message = Begins (format (reply id) (length message)) reply_reported message

@@ -8,6 +8,10 @@ use Rattle.back_mach.specs.declared.routines.Routine.{Routine}
 abbrev pub routine_in : PlainInterface → PlainOperation → Routine
 routine_in i op = record { id = i.base + op.slot; wants = not op.oneway }
 
+-- the operations of an interface
+abbrev pub ops_of : PlainInterface → List PlainOperation
+ops_of i = i.ops
+
 -- those of an interface
 abbrev pub routines_in : PlainInterface → List Routine
 routines_in i = map (routine_in i) i.ops

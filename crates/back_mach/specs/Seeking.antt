@@ -1,12 +1,12 @@
 -- What requests name, and what their heads say, over a binding.
-use Rattle.std.specs.Prelude.{◌≡◌, ℕ, ◌+◌, ◌==◌, Bool, ◌&&◌, nat_le, nat_lt, List, [], ◌∷◌, length, Option, Some, None, if◌then◌else◌}
-use Rattle.std.specs.List.{position_from}
+use Rattle.std.specs.Prelude.{◌≡◌, ℕ, ◌+◌, ◌==◌, Bool, ◌&&◌, nat_le, nat_lt, List}
 use Rattle.wire_def.specs.declared.encoding.Encoding.{Encoding}
 use Rattle.wire_def.specs.declared.encoding.Encoding.TheVariants.{Mach}
 use Rattle.aoi.specs.Plain.{PlainInterface, PlainOperation}
 use Rattle.head_kit.specs.declared.called.Called.{Called}
 use Rattle.head_kit.specs.declared.called.Naming.{Naming}
-use Rattle.head_kit.specs.declared.called.Naming.TheVariants.{Operation as one, NoInterface, NoOperation}
+use Rattle.head_kit.specs.Calls as kit
+use Rattle.back_mach.specs.Routines.{ops_of}
 use Rattle.back_mach.specs.declared.call.MachCall.{MachCall}
 use Rattle.back_mach.specs.Reported.{BeginsCall}
 use Rattle.pres.specs.Bindings.{Binding}
@@ -23,17 +23,13 @@ has_id id i = nat_le i.base id && nat_lt id (i.base + i.slots)
 abbrev pub has_slot : ℕ → ℕ → PlainOperation → Bool
 has_slot base id op = base + op.slot == id
 
--- what is named by an operation's place, where there is one
-abbrev pub operation_at : Option ℕ → Naming
-operation_at None = NoOperation
-operation_at (Some op) = one op
+-- the operation of an interface that has the id
+abbrev pub is_asked : ℕ → PlainInterface → PlainOperation → Bool
+is_asked id i = has_slot i.base id
 
 -- the first interface that has the id, and its first operation of that slot; operations are counted from k over all interfaces
 abbrev pub named_from : ℕ → List PlainInterface → ℕ → Naming
-named_from k [] id = NoInterface
-named_from k (i ∷ is) id =
-    if has_id id i then operation_at (position_from (has_slot i.base id) k i.ops)
-    else named_from (k + length i.ops) is id
+named_from k is id = kit.named_from ops_of (has_id id) (is_asked id) k is
 
 -- the operation that a request names
 abbrev pub named : Binding → MachCall → Naming

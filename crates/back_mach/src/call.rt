@@ -6,12 +6,12 @@ ghost use Rattle.back_mach.specs.Header.{read_header};
 ghost use Rattle.back_mach.specs.Heads.{StopsWith};
 ghost use Rattle.back_mach.specs.Heads as heads;
 ghost use Rattle.back_mach.specs.Reported.{BeginsCall, call_reported};
-ghost use Rattle.back_mach.specs.Readers.{reported};
+ghost use Rattle.head_kit.specs.Readers.{reported};
 
-use crate::cursor::Cursor;
 use crate::header::header;
 use crate::laws::heads_are_read;
 use crate::shared::shared_head;
+use head_kit::{Cursor, are_octets};
 use wire_def::{Head, HeadErr};
 
 /// The head of a request: its ports, its id, and how many octets the head takes. The arguments
@@ -33,6 +33,7 @@ pub fn read_call(message: &[u8]) -> Result<MachCall, HeadErr>
     ensures stops { (fault : HeadErr) → (result ≡ Err fault) ↔ StopsWith heads.call message.now fault }
 {
     heads_are_read();
+    are_octets(message);
     let at = Cursor {
         place: 0,
         rest: message,

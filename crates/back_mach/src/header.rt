@@ -1,11 +1,10 @@
 //! The header of a message, which requests and replies have in common.
 
+ghost use Rattle.head_kit.specs.Readers.{Gives, same};
 ghost use Rattle.back_mach.specs.Header.{read_header, read_simple, read_six};
-ghost use Rattle.back_mach.specs.Readers.{Gives, same};
 
-use crate::cursor::Cursor;
-use crate::words::word;
-use wire_def::HeadErr;
+use head_kit::{Cursor, word};
+use wire_def::{HeadErr, Order};
 
 /// The least number that has bit 31.
 const COMPLEX: u32 = 0x8000_0000;
@@ -32,12 +31,12 @@ pub struct MachHeader {
 fn six(at: Cursor<'_>) -> Result<(MachHeader, Cursor<'_>), HeadErr>
     ensures { Gives same result (read_six at.entry.place at.entry.rest.now) }
 {
-    let (bits, at) = word(at)?;
-    let (size, at) = word(at)?;
-    let (remote, at) = word(at)?;
-    let (local, at) = word(at)?;
-    let (sequence, at) = word(at)?;
-    let (id, at) = word(at)?;
+    let (bits, at) = word(Order::Little, at)?;
+    let (size, at) = word(Order::Little, at)?;
+    let (remote, at) = word(Order::Little, at)?;
+    let (local, at) = word(Order::Little, at)?;
+    let (sequence, at) = word(Order::Little, at)?;
+    let (id, at) = word(Order::Little, at)?;
     let header = MachHeader {
         bits,
         size,

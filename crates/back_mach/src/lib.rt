@@ -5,7 +5,6 @@
 #![tactic(auto)]
 
 mod call;
-mod cursor;
 mod header;
 mod laws;
 mod leads;
@@ -17,7 +16,6 @@ mod reply;
 pub mod routines;
 mod seek;
 mod shared;
-mod words;
 
 pub use call::{MachCall, read_call};
 pub use header::MachHeader;

@@ -8,14 +8,13 @@ ghost use Rattle.back_mach.specs.Heads.{StopsWith};
 ghost use Rattle.back_mach.specs.Heads as heads;
 ghost use Rattle.back_mach.specs.Reported.{BeginsReply, reply_reported};
 ghost use Rattle.back_mach.specs.Reported as defs;
-ghost use Rattle.back_mach.specs.Readers.{Gives, same, reported};
+ghost use Rattle.head_kit.specs.Readers.{Gives, same, reported};
 
-use crate::cursor::Cursor;
 use crate::header::{MachHeader, header};
 use crate::laws::heads_are_read;
 use crate::shared::shared_head;
-use crate::words::{this_word, word};
-use wire_def::{HeadErr, ReplyHead, Status};
+use head_kit::{Cursor, are_octets, this_word, word};
+use wire_def::{HeadErr, Order, ReplyHead, Status};
 
 /// The descriptor of a return code: one number of 32 bits, by name 2, which is in the message.
 pub(crate) const RETURN: u32 = 0x1001_2002;
@@ -27,6 +26,7 @@ pub fn read_reply(message: &[u8], id: u32) -> Result<ReplyHead<'_>, HeadErr>
     ensures stops { (fault : HeadErr) → (result ≡ Err fault) ↔ StopsWith (heads.reply id) message.now fault }
 {
     heads_are_read();
+    are_octets(message);
     let at = Cursor {
         place: 0,
         rest: message,
@@ -66,8 +66,8 @@ fn own(id: u32, total: usize, at: Cursor<'_>) -> Result<(MachHeader, Cursor<'_>)
 fn code(at: Cursor<'_>) -> Result<(u32, Cursor<'_>), HeadErr>
     ensures { Gives same result (read_code at.entry.place at.entry.rest.now) }
 {
-    let at = this_word(RETURN, HeadErr::Item, at)?;
-    word(at)
+    let at = this_word(RETURN, Order::Little, HeadErr::Item, at)?;
+    word(Order::Little, at)
 }
 
 /// How a request fared, by the word of a return code.

@@ -8,12 +8,12 @@ ghost use Rattle.head_kit.specs.Calls.{IsBelow};
 ghost use Rattle.back_mach.specs.Heads.{StopsWith};
 ghost use Rattle.back_mach.specs.Heads as heads;
 ghost use Rattle.back_mach.specs.Routines.{routines};
-ghost use Rattle.back_mach.specs.Seeking.{Calls, has_id, has_slot, named, named_from, operation_at};
+ghost use Rattle.back_mach.specs.Seeking.{Calls, has_id, has_slot, named, named_from};
 
 use crate::call::{MachCall, read_call};
 use crate::routines::operations_are_routines;
 use aoi::Interface;
-use head_kit::{Called, Naming};
+use head_kit::{Called, Naming, operation_at};
 use pres::Bound;
 use wire_def::{Encoding, HeadErr};
 
@@ -40,16 +40,6 @@ fn place_of(i: &Interface, first: u32, id: u32) -> Option<u32>
         place += 1;
     }
     None
-}
-
-/// What is named by an operation's place, where there is one.
-fn operation_at(place: Option<u32>) -> Naming
-    ensures { result ≡ operation_at place }
-{
-    match place {
-        Some(op) => Naming::Operation(op),
-        None => Naming::NoOperation,
-    }
 }
 
 /// The operation of an id, where those of the interfaces are counted from a number.

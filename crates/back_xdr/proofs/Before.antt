@@ -1,16 +1,16 @@
 -- How many operations the interfaces before one have, by induction on the interfaces.
-use Rattle.std.proofs.Common.{◌≡◌, ◌⊎◌, inl, inr, ◌+◌, ◌<◌, ◌≤◌, ℕ, zero, suc, Bool, true, false, ltb, ltb-true, ltb-false, List, [], ◌∷◌, map, drop, take, length, get_or, refl, sym, ap, ◌∙◌, arith}
-use Rattle.std.specs.Prelude.{if◌then◌else◌}
+use Rattle.std.proofs.Common.{◌≡◌, ◌⊎◌, inl, inr, ◌+◌, ◌<◌, ◌≤◌, ℕ, zero, suc, true, false, ltb, ltb-true, ltb-false, List, [], ◌∷◌, map, drop, take, length, get_or, sym, ap, ◌∙◌, arith}
 use Rattle.std.specs.List.Sorted.{IsPartitionPoint}
-use Rattle.std.proofs.lemmas.List.{length-map, get_or-map, drop_more}
+use Rattle.std.proofs.lemmas.List.{length-map, get_or-map}
 use Rattle.wire_def.specs.declared.encoding.Back.TheVariants as back
 use Rattle.aoi.specs.declared.interfaces.Interface.{Interface}
 use Rattle.aoi.specs.Plain.{PlainInterface, plain_interface}
 use Rattle.pres.specs.declared.ops.Op.{Op}
 use Rattle.pres.specs.Bindings.{Binding, IsBinding}
+use Rattle.head_kit.proofs.Named as kit
 use Rattle.back_xdr.specs.declared.call.OncCall.{OncCall}
 use Rattle.back_xdr.specs.Procedures.{numbers, procedures, homes, before}
-use Rattle.back_xdr.specs.Seeking.{is_called, named_from}
+use Rattle.back_xdr.specs.Seeking.{is_called, has_number, named_from}
 use Rattle.back_xdr.proofs.Counting.{counted, length-procedures}
 use Rattle.back_xdr.proofs.Homes.{homes_from, homes_are, below_or, in_own, in_others, many_all, above}
 
@@ -107,10 +107,6 @@ module _ (b : Binding) (stands : IsBinding b) (xdr : b.back ≡ back.Xdr) (k p :
 
 -- ---- the operation that a call names
 
-passed : {A : Type 0} (b : Bool) (x y : A) → b ≡ false → (if b then x else y) ≡ y
-passed true x y e = absurd cc
-passed false x y e = refl
-
 more_of : (k : ℕ) (is : List Interface) (i : Interface) → k < length is → i ≡ get_or is k i
     → before (k + 1) (map plain_interface is) ≡ before k (map plain_interface is) + length (numbers (plain_interface i))
 more_of k is i h e =
@@ -130,7 +126,5 @@ pub named_past : (k : ℕ) (is : List Interface) (i : Interface) (c : OncCall) �
     → named_from (before k (map plain_interface is)) (map plain_interface (drop k is)) c
     ≡ named_from (before (k + 1) (map plain_interface is)) (map plain_interface (drop (k + 1) is)) c
 named_past k is i c h e other =
-    let here : drop k is ≡ i ∷ drop (k + 1) is = drop_more is k i h ∙ ap (λ z. z ∷ drop (k + 1) is) (sym e) in
-    ap (λ (l : List Interface). named_from (before k (map plain_interface is)) (map plain_interface l) c) here
-    ∙ passed (is_called c (plain_interface i)) _ _ other
+    kit.named_past numbers (is_called c) (has_number c) plain_interface (before k (map plain_interface is)) k is i h e other
     ∙ ap (λ (n : ℕ). named_from n (map plain_interface (drop (k + 1) is)) c) (sym (more_of k is i h e))

@@ -2,12 +2,15 @@
 use Rattle.std.proofs.Common.{◌≡◌, ℕ, List, refl, arith}
 use Rattle.std.proofs.lemmas.Bool.{eqb-true}
 use Rattle.wire_def.specs.declared.fault.HeadErr.TheVariants.{Version, Type_}
+use Rattle.wire_def.specs.declared.head.Order.TheVariants.{Big}
 use Rattle.wire_def.specs.Grammar.{Spelling, Parts, IsGrammar}
 use Rattle.wire_def.proofs.Grammars.{mapped, both_are}
-use Rattle.back_xdr.specs.Words.{WordSpells, only, PassSpells}
+use Rattle.head_kit.specs.Words as kit
+use Rattle.head_kit.specs.Words.{only}
+use Rattle.back_xdr.specs.Words.{WordSpells, PassSpells}
 use Rattle.back_xdr.specs.Auth.{Auth, AuthSpells}
 use Rattle.back_xdr.specs.Call.{Call, CallSpells, CallStops, read_head_of_call}
-use Rattle.back_xdr.proofs.Items.{word_is, pass_is}
+use Rattle.head_kit.proofs.Words.{word_is, pass_is}
 use Rattle.back_xdr.proofs.Auths.{auth_is}
 
 abbrev Values : Type 0
@@ -35,7 +38,7 @@ call_of x = record {
 }
 
 forth : (p : ℕ) (o : List ℕ) (x : Values) → Items p o x → CallSpells p o (call_of x)
-unfolding AuthSpells WordSpells
+unfolding AuthSpells kit.WordSpells
 forth p o x (
   a,
   b,
@@ -68,7 +71,7 @@ forth p o x (
     )
 
 back : (p : ℕ) (o : List ℕ) (y : Call) → CallSpells p o y → (x : Values) × (call_of x ≡ y) × Items p o x
-unfolding AuthSpells WordSpells
+unfolding AuthSpells kit.WordSpells
 back p o y (is, fits) = (
   (y.xid, (0, (2, (y.program, (y.version, (y.procedure, (y.cred, y.verf))))))),
   refl,
@@ -113,7 +116,7 @@ back p o y (is, fits) = (
 
 pub call_is : IsGrammar read_head_of_call CallSpells CallStops
 call_is = mapped call_of CallSpells
-    (both_are word_is (λ xid. both_are (pass_is (only 0) Type_) (λ type. both_are (pass_is (only 2) Version) (λ protocol.
-    both_are word_is (λ program. both_are word_is (λ version. both_are word_is (λ procedure.
+    (both_are (word_is Big) (λ xid. both_are (pass_is Big (only 0) Type_) (λ type. both_are (pass_is Big (only 2) Version) (λ protocol.
+    both_are (word_is Big) (λ program. both_are (word_is Big) (λ version. both_are (word_is Big) (λ procedure.
     both_are auth_is (λ cred. auth_is))))))))
     forth back

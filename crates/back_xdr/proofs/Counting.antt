@@ -10,7 +10,8 @@ use Rattle.aoi.specs.Units.{AreApart}
 use Rattle.pres.specs.Bindings.{Binding, IsBinding}
 use Rattle.pres.specs.Faces.{Face, faces}
 use Rattle.pres.specs.Offers.{gets_null, gotten, null_operation, operations, offer, offer_at, offers, offers_from, type_faces}
-use Rattle.back_xdr.specs.Procedures.{numbers, procedures_of, procedures}
+use Rattle.head_kit.proofs.Named.{length-listed}
+use Rattle.back_xdr.specs.Procedures.{numbers, procedure_in, procedures}
 
 at_most_one : (b : Bool) → length (if b then null_operation ∷ [] else []) ≤ 1
 at_most_one true = omega arith
@@ -21,7 +22,7 @@ length-numbers i = length-map (operations back.Xdr i) (λ (op : PlainOperation).
 
 pub length-procedures : (i : PlainInterface) (is : List PlainInterface)
     → length (procedures (i ∷ is)) ≡ length (numbers i) + length (procedures is)
-length-procedures i is = length-append (procedures_of i) (procedures is) ∙ ap (λ n. n + length (procedures is)) (length-map (numbers i) _)
+length-procedures = length-listed numbers procedure_in
 
 length-offers : (fs : List Face) (k : ℕ) (is : List PlainInterface) → length (offers_from fs back.Xdr k is) ≡ length (procedures is)
 length-offers fs k [] = refl

@@ -1,6 +1,5 @@
 -- The refusals of this format are those that have octets.
-use Rattle.std.proofs.Common.{◌≡◌, ℕ, List, Some, refl}
-use Rattle.wire_def.specs.declared.outcome.Refusal.{Refusal}
+use Rattle.std.proofs.Common.{refl}
 use Rattle.wire_def.specs.declared.outcome.Refusal.TheVariants.{ProgUnavail, ProgMismatch, ProcUnavail, GarbageArgs, SystemErr, RpcMismatch, AuthError, SystemException, UserException, RetCode}
 use Rattle.back_xdr.specs.Laws.{OwnHaveOctets}
 

@@ -4,19 +4,22 @@ use Rattle.std.proofs.lemmas.Bool.{eqb-true, leb-true}
 use Rattle.wire_def.specs.declared.fault.HeadErr.TheVariants.{Type_, Item}
 use Rattle.wire_def.specs.declared.reply.Status.{Status}
 use Rattle.wire_def.specs.declared.reply.Status.TheVariants.{Answer, ProgUnavail, ProgMismatch, ProcUnavail, GarbageArgs, SystemErr, RpcMismatch, AuthError}
+use Rattle.wire_def.specs.declared.head.Order.TheVariants.{Big}
 use Rattle.wire_def.specs.Grammar.{Spelling, Parts, IsGrammar}
 use Rattle.wire_def.proofs.Grammars.{done, mapped, both_are}
-use Rattle.back_xdr.specs.Words.{word, WordSpells, only, up_to, PassSpells}
+use Rattle.head_kit.specs.Words as kit
+use Rattle.head_kit.specs.Words.{only, up_to}
+use Rattle.back_xdr.specs.Words.{word, WordSpells, PassSpells}
 use Rattle.back_xdr.specs.Auth.{Auth, AuthSpells}
 use Rattle.back_xdr.specs.Reply.{Fate, accepted, denied, Reply, AcceptedSpells, DeniedSpells, FateSpells, ReplySpells, TwoWordsStop, StateStops, AcceptedStops, DenialStops, DeniedStops, OutcomeStops, FateStops, ReplyStops, read_two_words, read_state, read_accepted, read_denial, read_denied, read_outcome, read_fate, read_head_of_reply}
-use Rattle.back_xdr.proofs.Items.{word_is, pass_is}
+use Rattle.head_kit.proofs.Words.{word_is, pass_is}
 use Rattle.back_xdr.proofs.Auths.{auth_is}
 
 abbrev TwoWords : Spelling (ℕ × ℕ)
 TwoWords p o x = Parts p o (λ a. WordSpells p a x.0) (λ q b. WordSpells q b x.1)
 
 two_are : IsGrammar read_two_words TwoWords TwoWordsStop
-two_are = both_are word_is (λ low. word_is)
+two_are = both_are (word_is Big) (λ low. word_is Big)
 
 -- ---- the state of an accepted call
 
@@ -53,7 +56,7 @@ abbrev Accepted : ℕ → Spelling Status
 Accepted n p o s = Parts p o (λ a. PassSpells (up_to 5) p a n) (λ q b. StateSpells n q b s)
 
 accepted_forth : (n p : ℕ) (o : List ℕ) (s : Status) → Accepted n p o s → AcceptedSpells p o s
-unfolding WordSpells
+unfolding kit.WordSpells
 accepted_forth zero p o s (a, b, is, ((first, fits), few), (none, same)) =
     subst (λ z. AcceptedSpells p o z) same (rw (is, first, none) refl)
 accepted_forth (suc zero) p o s (a, b, is, ((first, fits), few), (none, same)) =
@@ -70,7 +73,7 @@ accepted_forth (suc (suc (suc (suc (suc n))))) p o s (a, b, is, ((first, fits), 
     subst (λ z. AcceptedSpells p o z) same (rw (is, first, none, five) refl)
 
 accepted_back : (p : ℕ) (o : List ℕ) (s : Status) → AcceptedSpells p o s → (x : ℕ × Status) × (x.1 ≡ s) × Accepted x.0 p o x.1
-unfolding WordSpells
+unfolding kit.WordSpells
 accepted_back p o Answer is = ((0, Answer), refl, (word 0, [], is, ((refl, omega arith), refl), (refl, refl)))
 accepted_back p o ProgUnavail is = ((1, ProgUnavail), refl, (word 1, [], is, ((refl, omega arith), refl), (refl, refl)))
 accepted_back p o (ProgMismatch low high) (is, lows, highs) = (
@@ -92,7 +95,7 @@ accepted_back p o _ h = absurd h
 pub accepted_is : IsGrammar read_accepted AcceptedSpells AcceptedStops
 unfolding read_accepted
 accepted_is =
-    mapped (λ (x : ℕ × Status). x.1) AcceptedSpells (both_are (pass_is (up_to 5) Item) state_is) (λ p o x h.
+    mapped (λ (x : ℕ × Status). x.1) AcceptedSpells (both_are (pass_is Big (up_to 5) Item) state_is) (λ p o x h.
     accepted_forth x.0 p o x.1 h) accepted_back
 
 -- ---- a denied call
@@ -103,13 +106,13 @@ DenialSpells _ p o t = (n : ℕ) × (AuthError n ≡ t) × WordSpells p o n
 
 denial_is : (n : ℕ) → IsGrammar (read_denial n) (DenialSpells n) (DenialStops n)
 denial_is zero = two_is RpcMismatch
-denial_is (suc n) = mapped AuthError (DenialSpells (suc n)) word_is (λ p o x h. (x, refl, h)) (λ p o y h. h)
+denial_is (suc n) = mapped AuthError (DenialSpells (suc n)) (word_is Big) (λ p o x h. (x, refl, h)) (λ p o y h. h)
 
 abbrev Denied : ℕ → Spelling Status
 Denied n p o s = Parts p o (λ a. PassSpells (up_to 1) p a n) (λ q b. DenialSpells n q b s)
 
 denied_forth : (n p : ℕ) (o : List ℕ) (s : Status) → Denied n p o s → DeniedSpells p o s
-unfolding WordSpells
+unfolding kit.WordSpells
 denied_forth zero p o s (a, b, is, ((first, fits), few), (x, same, (c, d, is', (low, lows), (high, highs)))) =
     subst (λ z. DeniedSpells p o z) same (rw (is, first, is', low, high) refl, lows, highs)
 denied_forth (suc n) p o s (a, b, is, ((first, fits), few), (x, same, (why, whys))) =
@@ -118,7 +121,7 @@ denied_forth (suc n) p o s (a, b, is, ((first, fits), few), (x, same, (why, whys
     subst (λ z. DeniedSpells p o z) same (rw (is, first, why, one) refl, whys)
 
 denied_back : (p : ℕ) (o : List ℕ) (s : Status) → DeniedSpells p o s → (x : ℕ × Status) × (x.1 ≡ s) × Denied x.0 p o x.1
-unfolding WordSpells
+unfolding kit.WordSpells
 denied_back p o (RpcMismatch low high) (is, lows, highs) = (
   (0, RpcMismatch low high),
   refl,
@@ -137,7 +140,7 @@ denied_back p o _ h = absurd h
 pub denied_is : IsGrammar read_denied DeniedSpells DeniedStops
 unfolding read_denied
 denied_is =
-    mapped (λ (x : ℕ × Status). x.1) DeniedSpells (both_are (pass_is (up_to 1) Item) denial_is) (λ p o x h.
+    mapped (λ (x : ℕ × Status). x.1) DeniedSpells (both_are (pass_is Big (up_to 1) Item) denial_is) (λ p o x h.
     denied_forth x.0 p o x.1 h) denied_back
 
 -- ---- either
@@ -157,7 +160,7 @@ abbrev Outcome : ℕ → Spelling Fate
 Outcome n p o f = Parts p o (λ a. PassSpells (up_to 1) p a n) (λ q b. OutcomeSpells n q b f)
 
 fate_forth : (n p : ℕ) (o : List ℕ) (f : Fate) → Outcome n p o f → FateSpells p o f
-unfolding WordSpells
+unfolding kit.WordSpells
 fate_forth zero p o f (a, b, is, ((first, fits), few), (x, same, after)) =
     let there : Parts (p + 4) b (λ c. AuthSpells (p + 4) c x.0) (λ r d. AcceptedSpells r d x.1) = rw first at after in
     subst (λ z. FateSpells p o z) same (word 0, b, rw first at is, refl, there)
@@ -167,14 +170,14 @@ fate_forth (suc n) p o f (a, b, is, ((first, fits), few), (s, same, after)) =
     subst (λ z. FateSpells p o z) same (a, b, is, rw one at first, after)
 
 fate_back : (p : ℕ) (o : List ℕ) (f : Fate) → FateSpells p o f → (x : ℕ × Fate) × (x.1 ≡ f) × Outcome x.0 p o x.1
-unfolding WordSpells
+unfolding kit.WordSpells
 fate_back p o (accepted verf s) (a, b, is, first, after) =
     ((0, accepted verf s), refl, (a, b, is, ((first, omega arith), refl), ((verf, s), refl, after)))
 fate_back p o (denied s) (a, b, is, first, after) = ((1, denied s), refl, (a, b, is, ((first, omega arith), refl), (s, refl, after)))
 
 fate_is : IsGrammar read_fate FateSpells FateStops
 fate_is =
-    mapped (λ (x : ℕ × Fate). x.1) FateSpells (both_are (pass_is (up_to 1) Item) outcome_is) (λ p o x h.
+    mapped (λ (x : ℕ × Fate). x.1) FateSpells (both_are (pass_is Big (up_to 1) Item) outcome_is) (λ p o x h.
     fate_forth x.0 p o x.1 h) fate_back
 
 abbrev Values : Type 0
@@ -187,15 +190,15 @@ abbrev reply_of : Values → Reply
 reply_of x = record { xid = x.0; fate = x.1.1 }
 
 forth : (p : ℕ) (o : List ℕ) (x : Values) → Items p o x → ReplySpells p o (reply_of x)
-unfolding WordSpells
+unfolding kit.WordSpells
 forth p o x (a, b, is, first, (c, d, is', ((second, fits), kind), after)) =
     let one : x.1.0 ≡ 1 = eqb-true _ _ kind in
     (a, b, is, first, (c, d, is', rw one at second, after))
 
 back : (p : ℕ) (o : List ℕ) (y : Reply) → ReplySpells p o y → (x : Values) × (reply_of x ≡ y) × Items p o x
-unfolding WordSpells
+unfolding kit.WordSpells
 back p o y (a, b, is, first, (c, d, is', second, after)) =
     ((y.xid, (1, y.fate)), refl, (a, b, is, first, (c, d, is', ((second, omega arith), refl), after)))
 
 pub reply_is : IsGrammar read_head_of_reply ReplySpells ReplyStops
-reply_is = mapped reply_of ReplySpells (both_are word_is (λ xid. both_are (pass_is (only 1) Type_) (λ type. fate_is))) forth back
+reply_is = mapped reply_of ReplySpells (both_are (word_is Big) (λ xid. both_are (pass_is Big (only 1) Type_) (λ type. fate_is))) forth back

@@ -1,12 +1,10 @@
 -- The head that is sent is read as the call of its procedure, and has one length.
-use Rattle.std.proofs.Common.{◌≡◌, ℕ, List, [], ◌++◌, take, refl, arith, length-append}
+use Rattle.std.proofs.Common.{◌≡◌, ℕ, [], ◌++◌, take, refl, arith, length-append}
 use Rattle.std.proofs.lemmas.List.{take_at}
 use Rattle.back_xdr.specs.Call.{Call}
-use Rattle.back_xdr.specs.Reported.{BeginsCall}
-use Rattle.back_xdr.specs.Words.{IsWord}
 use Rattle.back_xdr.specs.declared.procedures.Procedure.{Procedure}
 use Rattle.back_xdr.specs.Leads.{lead}
-use Rattle.back_xdr.specs.Laws.{AreWords, call_of, LeadsAreRead, LeadsHaveOneLength}
+use Rattle.back_xdr.specs.Laws.{LeadsAreRead, LeadsHaveOneLength}
 
 -- a call without credentials and verifier
 abbrev bare_call : Procedure → ℕ → Call

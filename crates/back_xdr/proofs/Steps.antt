@@ -1,16 +1,8 @@
--- Bodies and pads, octet by octet.
-use Rattle.std.proofs.Common.{◌≡◌, ℕ, zero, suc, ◌+◌, ◌-◌, ◌≤◌, List, [], ◌∷◌, length, take, drop, false, ltb, refl, arith, sub-one}
-use Rattle.std.proofs.lemmas.Bool.{le-ltb}
+-- Pads, octet by octet.
+use Rattle.std.proofs.Common.{◌≡◌, ℕ, zero, suc, ◌+◌, ◌-◌, List, [], ◌∷◌, length, refl, arith, sub-one}
 use Rattle.wire_def.specs.declared.fault.HeadErr.TheVariants.{Short, Pad}
 use Rattle.wire_def.specs.Grammar.{got, stop}
-use Rattle.wire_def.specs.HeadItems.{read_body}
 use Rattle.back_xdr.specs.Auth.{read_pad}
-
-pub body_there : (n p : ℕ) (o : List ℕ) → n ≤ length o → read_body n p o ≡ got (take n o) (p + n) (drop n o)
-unfolding read_body
-body_there n p o enough =
-    let long : ltb (length o) n ≡ false = le-ltb _ _ enough in
-    rw long refl
 
 pub pad_short : (n p : ℕ) (o : List ℕ) → (n ≡ 0 → ⊥) → length o ≡ 0 → read_pad n p o ≡ stop Short p
 unfolding read_pad

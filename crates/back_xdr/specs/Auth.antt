@@ -5,7 +5,8 @@ use Rattle.wire_def.specs.declared.fault.HeadErr.TheVariants.{Short, Pad, Cred}
 use Rattle.wire_def.specs.Grammar.{got, stop, Reader, Spelling, Stopping, map_got, both, StopsInOrder}
 use Rattle.wire_def.specs.HeadItems.{BodySpells, BodyStops, read_body}
 use Rattle.wire_def.specs.Scalars.{gap}
-use Rattle.back_xdr.specs.Words.{word, IsWord, WordSpells, WordStops, read_word, up_to, PassSpells, PassStops, read_pass}
+use Rattle.head_kit.specs.Words.{IsWord, WordStops, up_to}
+use Rattle.back_xdr.specs.Words.{word, WordSpells, read_word, PassSpells, PassStops, read_pass}
 
 -- credentials or a verifier: a flavour, and a body that has a meaning for the flavour alone
 pub record Auth : Type 0 where

@@ -3,7 +3,8 @@ use Rattle.std.specs.Prelude.{◌≡◌, ℕ, List, ◌++◌}
 use Rattle.wire_def.specs.declared.fault.HeadErr.{HeadErr}
 use Rattle.wire_def.specs.declared.fault.HeadErr.TheVariants.{Version, Type_}
 use Rattle.wire_def.specs.Grammar.{Reader, Spelling, Stopping, map_got, both, StopsInOrder}
-use Rattle.back_xdr.specs.Words.{word, IsWord, WordSpells, WordStops, read_word, only, PassSpells, PassStops, read_pass}
+use Rattle.head_kit.specs.Words.{IsWord, WordStops, only}
+use Rattle.back_xdr.specs.Words.{word, WordSpells, read_word, PassSpells, PassStops, read_pass}
 use Rattle.back_xdr.specs.Auth.{Auth, auth_octets, IsAuth, AuthSpells, AuthStops, read_auth}
 
 -- a transaction, the procedure that it calls, credentials and a verifier

@@ -1,7 +1,8 @@
 -- The heads of calls and of replies.
-use Rattle.std.specs.Prelude.{ℕ, ◌≤◌, List, length, take}
+use Rattle.std.specs.Prelude.{ℕ, List}
 use Rattle.wire_def.specs.declared.fault.HeadErr.{HeadErr}
-use Rattle.wire_def.specs.Grammar.{Reader, Spelling, Stopping}
+use Rattle.head_kit.specs.Heads as heads
+use Rattle.head_kit.specs.Heads.{Format}
 use Rattle.back_xdr.specs.Call.{Call, CallSpells, CallStops, read_head_of_call}
 use Rattle.back_xdr.specs.Reply.{Reply, ReplySpells, ReplyStops, read_head_of_reply}
 
@@ -15,25 +16,15 @@ abbrev pub HeadOf : Way → Type 0
 HeadOf call = Call
 HeadOf reply = Reply
 
--- the octets are a head with these fields
-abbrev pub HeadSpells : (w : Way) → Spelling (HeadOf w)
-HeadSpells call = CallSpells
-HeadSpells reply = ReplySpells
-
--- the first item of the format that is cut off or wrong, and its place
-abbrev pub HeadStops : Way → Stopping HeadErr
-HeadStops call = CallStops
-HeadStops reply = ReplyStops
-
--- reading a head from left to right
-abbrev pub read_head : (w : Way) → Reader HeadErr (HeadOf w)
-read_head call = read_head_of_call
-read_head reply = read_head_of_reply
+-- the format of its head
+abbrev pub format : (w : Way) → Format (HeadOf w)
+format call = record { read = read_head_of_call; Spells = CallSpells; Stops = CallStops }
+format reply = record { read = read_head_of_reply; Spells = ReplySpells; Stops = ReplyStops }
 
 -- the first octets of a message, so many, are this head
 abbrev pub BeginsWith : (w : Way) → List ℕ → HeadOf w → ℕ → Type 0
-BeginsWith w message h used = (used ≤ length message) × HeadSpells w 0 (take used message) h
+BeginsWith w message = heads.BeginsWith (format w) message
 
 -- a message stops with this fault, at some place
 abbrev pub StopsWith : Way → List ℕ → HeadErr → Type 0
-StopsWith w message e = (at : ℕ) × HeadStops w 0 message e at
+StopsWith w message = heads.StopsWith (format w) message

@@ -1,34 +1,27 @@
 -- Laws of the heads.
-use Rattle.std.specs.Prelude.{◌≡◌, ◌⊎◌, ◌↔◌, ℕ, List, ◌++◌, length, Some}
-use Rattle.wire_def.specs.declared.fault.HeadErr.{HeadErr}
-use Rattle.wire_def.specs.Grammar.{AreOctets, IsGrammar}
+use Rattle.std.specs.Prelude.{◌≡◌, ◌↔◌, ℕ, List, ◌++◌, length, Some}
+use Rattle.wire_def.specs.Grammar.{AreOctets}
 use Rattle.wire_def.specs.declared.outcome.Refusal.{Refusal}
+use Rattle.head_kit.specs.Heads.{IsDecided, IsRead}
 use Rattle.head_kit.specs.declared.called.Naming.TheVariants.{Operation}
 use Rattle.pres.specs.Bindings.{Binding}
 use Rattle.back_xdr.specs.declared.call.OncCall.{OncCall}
 use Rattle.back_xdr.specs.declared.procedures.Procedure.{Procedure}
-use Rattle.back_xdr.specs.Heads.{Way, HeadOf, HeadSpells, HeadStops, read_head, BeginsWith, StopsWith}
+use Rattle.back_xdr.specs.Heads.{Way, format}
 use Rattle.back_xdr.specs.Leads.{lead, lead_length, answer_lead}
 use Rattle.back_xdr.specs.Procedures.{procedure_of}
 use Rattle.back_xdr.specs.Refusals.{IsOwn, refusal_octets}
 use Rattle.back_xdr.specs.Seeking.{named}
 use Rattle.back_xdr.specs.Reported.{BeginsCall, shared_head}
-use Rattle.back_xdr.specs.Words.{IsWord}
+use Rattle.head_kit.specs.Words.{IsWord}
 
--- a message begins with a head or stops with a fault, one of the two, and which head and which fault is determined
-pub record IsDecided (w : Way) (message : List ℕ) : Type 0 where
-  pub either : ((h : HeadOf w) × (used : ℕ) × BeginsWith w message h used) ⊎ ((e : HeadErr) × StopsWith w message e)
-  pub not_both : (h : HeadOf w) (used : ℕ) (e : HeadErr) → BeginsWith w message h used → StopsWith w message e → ⊥
-  pub one_head : (h j : HeadOf w) (used m : ℕ) → BeginsWith w message h used → BeginsWith w message j m → (h ≡ j) × (used ≡ m)
-  pub one_fault : (d e : HeadErr) → StopsWith w message d → StopsWith w message e → d ≡ e
-
--- so it is for each message
+-- each message begins with a head or stops with a fault, one of the two, and which head and which fault is determined
 abbrev pub HeadsAreDecided : Type 0
-HeadsAreDecided = (w : Way) (message : List ℕ) → AreOctets message → IsDecided w message
+HeadsAreDecided = (w : Way) (message : List ℕ) → AreOctets message → IsDecided (format w) message
 
 -- what is read is spelled, and where reading stops there is the fault
 abbrev pub HeadsAreRead : Type 0
-HeadsAreRead = (w : Way) → IsGrammar (read_head w) (HeadSpells w) (HeadStops w)
+HeadsAreRead = (w : Way) → IsRead (format w)
 
 -- the procedure that a call calls
 abbrev pub called_by : OncCall → Procedure

@@ -5,7 +5,6 @@ pub mod Reply
 pub mod Heads
 pub mod Laws
 pub mod Reported
-pub mod Readers
 pub mod Procedures
 pub mod Seeking
 pub mod Leads

@@ -5,7 +5,8 @@ use Rattle.wire_def.specs.declared.fault.HeadErr.TheVariants.{Type_, Item}
 use Rattle.wire_def.specs.declared.reply.Status.{Status}
 use Rattle.wire_def.specs.declared.reply.Status.TheVariants.{Answer, ProgUnavail, ProgMismatch, ProcUnavail, GarbageArgs, SystemErr, RpcMismatch, AuthError}
 use Rattle.wire_def.specs.Grammar.{got, Reader, Spelling, Stopping, map_got, both, Parts, StopsInOrder}
-use Rattle.back_xdr.specs.Words.{word, IsWord, WordSpells, WordStops, read_word, only, up_to, PassSpells, PassStops, read_pass}
+use Rattle.head_kit.specs.Words.{IsWord, WordStops, only, up_to}
+use Rattle.back_xdr.specs.Words.{word, WordSpells, read_word, PassSpells, PassStops, read_pass}
 use Rattle.back_xdr.specs.Auth.{Auth, AuthSpells, AuthStops, read_auth}
 
 -- how a call fared: accepted, with a verifier, or denied

@@ -1,13 +1,14 @@
 -- What is reported to callers of a head.
-use Rattle.std.specs.Prelude.{◌≡◌, ℕ, true, List}
+use Rattle.std.specs.Prelude.{ℕ, true, List}
 use Rattle.wire_def.specs.declared.head.Head.{Head}
 use Rattle.wire_def.specs.declared.head.Order.TheVariants.{Big}
 use Rattle.wire_def.specs.declared.reply.ReplyHead.{ReplyHead}
 use Rattle.wire_def.specs.declared.reply.Status.{Status}
+use Rattle.head_kit.specs.Heads.{Begins}
 use Rattle.back_xdr.specs.declared.call.OncCall.{OncCall}
 use Rattle.back_xdr.specs.Call.{Call}
 use Rattle.back_xdr.specs.Reply.{Fate, accepted, denied, Reply}
-use Rattle.back_xdr.specs.Heads.{call, reply, BeginsWith}
+use Rattle.back_xdr.specs.Heads.{call, reply, format}
 
 -- of the fields that all back ends share these heads have the transaction alone
 abbrev pub shared_head : ℕ → Head
@@ -28,8 +29,8 @@ reply_reported r used = record { head = shared_head r.xid; status = status_of r.
 
 -- a message begins with the head of a call, of which this is reported
 abbrev pub BeginsCall : List ℕ → OncCall → Type 0
-BeginsCall message reported = (c : Call) × (used : ℕ) × BeginsWith call message c used × (call_reported c used ≡ reported)
+BeginsCall = Begins (format call) call_reported
 
 -- a message begins with the head of a reply, of which this is reported
 abbrev pub BeginsReply : List ℕ → ReplyHead → Type 0
-BeginsReply message reported = (r : Reply) × (used : ℕ) × BeginsWith reply message r used × (reply_reported r used ≡ reported)
+BeginsReply = Begins (format reply) reply_reported

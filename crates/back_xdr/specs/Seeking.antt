@@ -1,12 +1,11 @@
 -- What calls name, and what their heads say, over a binding.
-use Rattle.std.specs.Prelude.{◌≡◌, ℕ, ◌+◌, ◌==◌, Bool, ◌&&◌, List, [], ◌∷◌, length, Option, Some, None, if◌then◌else◌}
-use Rattle.std.specs.List.{position_from}
+use Rattle.std.specs.Prelude.{◌≡◌, ℕ, ◌==◌, Bool, ◌&&◌, List}
 use Rattle.wire_def.specs.declared.encoding.Encoding.{Encoding}
 use Rattle.wire_def.specs.declared.encoding.Encoding.TheVariants.{Xdr}
 use Rattle.aoi.specs.Plain.{PlainInterface}
 use Rattle.head_kit.specs.declared.called.Called.{Called}
 use Rattle.head_kit.specs.declared.called.Naming.{Naming}
-use Rattle.head_kit.specs.declared.called.Naming.TheVariants.{Operation as one, NoInterface, NoOperation}
+use Rattle.head_kit.specs.Calls as kit
 use Rattle.back_xdr.specs.declared.call.OncCall.{OncCall}
 use Rattle.back_xdr.specs.Procedures.{numbers}
 use Rattle.back_xdr.specs.Reported.{BeginsCall}
@@ -20,17 +19,14 @@ encoding = Xdr
 abbrev pub is_called : OncCall → PlainInterface → Bool
 is_called c i = c.program == i.program && c.version == i.version
 
--- what is named by an operation's place, where there is one
-abbrev pub operation_at : Option ℕ → Naming
-operation_at None = NoOperation
-operation_at (Some op) = one op
+-- a procedure with the call's number
+abbrev pub has_number : OncCall → PlainInterface → ℕ → Bool
+has_number c i n = n == c.proc_no
 
 -- the first interface that is called, and its first operation with the call's procedure number, where the operations of
 -- the interfaces are counted from k
 abbrev pub named_from : ℕ → List PlainInterface → OncCall → Naming
-named_from k [] c = NoInterface
-named_from k (i ∷ is) c = if is_called c i then operation_at (position_from (λ n. n == c.proc_no) k (numbers i))
-    else named_from (k + length (numbers i)) is c
+named_from k is c = kit.named_from numbers (is_called c) (has_number c) k is
 
 -- the operation that a call names
 abbrev pub named : Binding → OncCall → Naming

@@ -1,49 +1,30 @@
--- The words that heads are made of.
-use Rattle.std.specs.Prelude.{◌≡◌, ℕ, ◌+◌, ◌^◌, ◌<◌, List, length, take, drop, Bool, ◌==◌, nat_lt, nat_le, if◌then◌else◌}
-use Rattle.std.specs.Int.{w32, from_be_bytes}
-use Rattle.kit_base.specs.Bytes.{be}
+-- The words that heads are made of: four octets, the most significant first (RFC 4506, section 4.2).
+use Rattle.std.specs.Prelude.{ℕ, List, Bool}
 use Rattle.wire_def.specs.declared.fault.HeadErr.{HeadErr}
-use Rattle.wire_def.specs.declared.fault.HeadErr.TheVariants.{Short}
-use Rattle.wire_def.specs.Grammar.{got, stop, Reader, Spelling, Stopping, tested, TestedSpells, TestedStops}
+use Rattle.wire_def.specs.declared.head.Order.TheVariants.{Big}
+use Rattle.wire_def.specs.Grammar.{Reader, Spelling, Stopping}
+use Rattle.head_kit.specs.Words as kit
 
--- the octets of a word: four, the most significant first (RFC 4506, section 4.2)
+-- the octets of a word
 abbrev pub word : ℕ → List ℕ
-word n = be 4 n
-
--- a number that a word can hold
-abbrev pub IsWord : ℕ → Type 0
-IsWord n = n < 2 ^ 32
+word = kit.word Big
 
 -- a word and its number
-unfoldable pub WordSpells : Spelling ℕ
-WordSpells p o n = (o ≡ word n) × IsWord n
-
--- fewer octets than a word has
-unfoldable pub WordStops : Stopping HeadErr
-WordStops p o k at = (length o < 4) × (k ≡ Short) × (at ≡ p)
+abbrev pub WordSpells : Spelling ℕ
+WordSpells = kit.WordSpells Big
 
 -- the number of the first four octets
-unfoldable pub read_word : Reader HeadErr ℕ
-read_word p o = if nat_lt (length o) 4 then stop Short p else got (from_be_bytes w32 (take 4 o)) (p + 4) (drop 4 o)
+abbrev pub read_word : Reader HeadErr ℕ
+read_word = kit.read_word Big
 
--- ---- words that must pass a test
-
--- this number alone
-abbrev pub only : ℕ → ℕ → Bool
-only m n = n == m
-
--- the numbers up to this one
-abbrev pub up_to : ℕ → ℕ → Bool
-up_to m n = nat_le n m
-
--- a word that passes
+-- a word that passes a test
 abbrev pub PassSpells : (ℕ → Bool) → Spelling ℕ
-PassSpells test = TestedSpells WordSpells test
+PassSpells = kit.PassSpells Big
 
 -- a word that is cut off, or does not pass, which is this fault
 abbrev pub PassStops : (ℕ → Bool) → HeadErr → Stopping HeadErr
-PassStops test fault = TestedStops WordSpells WordStops test fault (λ p. p)
+PassStops = kit.PassStops Big
 
 -- the number of a word that passes, or the fault
 abbrev pub read_pass : (ℕ → Bool) → HeadErr → Reader HeadErr ℕ
-read_pass test fault = tested read_word test fault (λ p. p)
+read_pass = kit.read_pass Big

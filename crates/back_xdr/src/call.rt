@@ -6,14 +6,13 @@ ghost use Rattle.back_xdr.specs.Call.{read_head_of_call};
 ghost use Rattle.back_xdr.specs.Heads.{StopsWith};
 ghost use Rattle.back_xdr.specs.Heads as heads;
 ghost use Rattle.back_xdr.specs.Reported.{BeginsCall, call_reported};
-ghost use Rattle.back_xdr.specs.Readers.{reported};
+ghost use Rattle.head_kit.specs.Readers.{reported};
 
 use crate::auth::auth;
-use crate::cursor::Cursor;
 use crate::laws::heads_are_read;
 use crate::shared::shared_head;
-use crate::words::{this_word, word};
-use wire_def::{Head, HeadErr};
+use head_kit::{Cursor, are_octets, this_word, word};
+use wire_def::{Head, HeadErr, Order};
 
 /// The message type of a call.
 const CALL: u32 = 0;
@@ -44,6 +43,7 @@ pub fn read_call(message: &[u8]) -> Result<OncCall, HeadErr>
     ensures stops { (fault : HeadErr) → (result ≡ Err fault) ↔ StopsWith heads.call message.now fault }
 {
     heads_are_read();
+    are_octets(message);
     call_at(Cursor {
         place: 0,
         rest: message,
@@ -54,12 +54,12 @@ pub fn read_call(message: &[u8]) -> Result<OncCall, HeadErr>
 fn call_at(at: Cursor<'_>) -> Result<OncCall, HeadErr>
     ensures { result ≡ reported call_reported (read_head_of_call at.entry.place at.entry.rest.now) }
 {
-    let (xid, at) = word(at)?;
-    let at = this_word(CALL, HeadErr::Type_, at)?;
-    let at = this_word(PROTOCOL, HeadErr::Version, at)?;
-    let (program, at) = word(at)?;
-    let (version, at) = word(at)?;
-    let (proc_no, at) = word(at)?;
+    let (xid, at) = word(Order::Big, at)?;
+    let at = this_word(CALL, Order::Big, HeadErr::Type_, at)?;
+    let at = this_word(PROTOCOL, Order::Big, HeadErr::Version, at)?;
+    let (program, at) = word(Order::Big, at)?;
+    let (version, at) = word(Order::Big, at)?;
+    let (proc_no, at) = word(Order::Big, at)?;
     let after_cred = auth(at)?;
     let after_verf = auth(after_cred)?;
     Ok(OncCall {

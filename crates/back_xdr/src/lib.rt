@@ -6,7 +6,6 @@
 
 mod auth;
 mod call;
-mod cursor;
 mod laws;
 mod leads;
 mod lowering;
@@ -16,7 +15,6 @@ mod refusals;
 mod reply;
 mod seek;
 mod shared;
-mod words;
 
 pub use call::{OncCall, read_call};
 pub use laws::{

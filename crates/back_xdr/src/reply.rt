@@ -7,14 +7,13 @@ ghost use Rattle.back_xdr.specs.Reply.{read_accepted, read_denied, read_head_of_
 ghost use Rattle.back_xdr.specs.Heads.{StopsWith};
 ghost use Rattle.back_xdr.specs.Heads as heads;
 ghost use Rattle.back_xdr.specs.Reported.{BeginsReply, reply_reported};
-ghost use Rattle.back_xdr.specs.Readers.{Gives, same, reported};
+ghost use Rattle.head_kit.specs.Readers.{Gives, same, reported};
 
 use crate::auth::auth;
-use crate::cursor::Cursor;
 use crate::laws::heads_are_read;
 use crate::shared::shared_head;
-use crate::words::{this_word, word, word_up_to};
-use wire_def::{HeadErr, ReplyHead, Status};
+use head_kit::{Cursor, are_octets, this_word, word, word_up_to};
+use wire_def::{HeadErr, Order, ReplyHead, Status};
 
 /// The message type of a reply.
 const REPLY: u32 = 1;
@@ -26,6 +25,7 @@ pub fn read_reply(message: &[u8]) -> Result<ReplyHead<'_>, HeadErr>
     ensures stops { (fault : HeadErr) → (result ≡ Err fault) ↔ StopsWith heads.reply message.now fault }
 {
     heads_are_read();
+    are_octets(message);
     reply_at(Cursor {
         place: 0,
         rest: message,
@@ -36,9 +36,9 @@ pub fn read_reply(message: &[u8]) -> Result<ReplyHead<'_>, HeadErr>
 fn reply_at(at: Cursor<'_>) -> Result<ReplyHead<'_>, HeadErr>
     ensures { result ≡ reported reply_reported (read_head_of_reply at.entry.place at.entry.rest.now) }
 {
-    let (xid, at) = word(at)?;
-    let at = this_word(REPLY, HeadErr::Type_, at)?;
-    let (state, at) = word_up_to(1, HeadErr::Item, at)?;
+    let (xid, at) = word(Order::Big, at)?;
+    let at = this_word(REPLY, Order::Big, HeadErr::Type_, at)?;
+    let (state, at) = word_up_to(1, Order::Big, HeadErr::Item, at)?;
     let (status, at) = if state == 0 {
         let at = auth(at)?;
         accepted(at)?
@@ -57,7 +57,7 @@ fn reply_at(at: Cursor<'_>) -> Result<ReplyHead<'_>, HeadErr>
 fn accepted(at: Cursor<'_>) -> Result<(Status<'_>, Cursor<'_>), HeadErr>
     ensures { Gives same result (read_accepted at.entry.place at.entry.rest.now) }
 {
-    let (state, at) = word_up_to(5, HeadErr::Item, at)?;
+    let (state, at) = word_up_to(5, Order::Big, HeadErr::Item, at)?;
     match state {
         0 => Ok((Status::Answer, at)),
         1 => Ok((Status::ProgUnavail, at)),
@@ -76,12 +76,12 @@ fn accepted(at: Cursor<'_>) -> Result<(Status<'_>, Cursor<'_>), HeadErr>
 fn denied(at: Cursor<'_>) -> Result<(Status<'_>, Cursor<'_>), HeadErr>
     ensures { Gives same result (read_denied at.entry.place at.entry.rest.now) }
 {
-    let (why, at) = word_up_to(1, HeadErr::Item, at)?;
+    let (why, at) = word_up_to(1, Order::Big, HeadErr::Item, at)?;
     if why == 0 {
         let ((low, high), at) = two_words(at)?;
         Ok((Status::RpcMismatch(low, high), at))
     } else {
-        let (status, at) = word(at)?;
+        let (status, at) = word(Order::Big, at)?;
         Ok((Status::AuthError(status), at))
     }
 }
@@ -90,7 +90,7 @@ fn denied(at: Cursor<'_>) -> Result<(Status<'_>, Cursor<'_>), HeadErr>
 fn two_words(at: Cursor<'_>) -> Result<((u32, u32), Cursor<'_>), HeadErr>
     ensures { Gives same result (read_two_words at.entry.place at.entry.rest.now) }
 {
-    let (low, at) = word(at)?;
-    let (high, at) = word(at)?;
+    let (low, at) = word(Order::Big, at)?;
+    let (high, at) = word(Order::Big, at)?;
     Ok(((low, high), at))
 }

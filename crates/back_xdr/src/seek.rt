@@ -6,12 +6,12 @@ ghost use Rattle.aoi.specs.Plain.{plain_interface};
 ghost use Rattle.head_kit.specs.Calls.{IsBelow};
 ghost use Rattle.back_xdr.specs.Heads.{StopsWith};
 ghost use Rattle.back_xdr.specs.Heads as heads;
-ghost use Rattle.back_xdr.specs.Seeking.{named, is_called, operation_at, Calls};
+ghost use Rattle.back_xdr.specs.Seeking.{named, is_called, Calls};
 
 use crate::call::{OncCall, read_call};
 use crate::procedures::{before, operations_are_procedures, place_of};
 use aoi::Interface;
-use head_kit::{Called, Naming};
+use head_kit::{Called, Naming, operation_at};
 use pres::Bound;
 use wire_def::{Encoding, HeadErr};
 
@@ -23,16 +23,6 @@ fn is_called(call: &OncCall, i: &Interface) -> bool
     ensures { result ≡ is_called call.now (plain_interface i.now) }
 {
     call.program == i.program && call.version == i.version
-}
-
-/// What is named by an operation's place, where there is one.
-fn operation_at(place: Option<u32>) -> Naming
-    ensures { result ≡ operation_at place }
-{
-    match place {
-        Some(op) => Naming::Operation(op),
-        None => Naming::NoOperation,
-    }
 }
 
 /// The operation that a call names, in the first of the interfaces that it calls.

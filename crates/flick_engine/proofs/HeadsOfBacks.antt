@@ -1,9 +1,11 @@
 -- What holds of the heads of each back end.
 use Rattle.std.proofs.Common.{◌≡◌, ℕ, ◌+◌, ◌<◌, ◌≤◌, List, [], ◌∷◌, ◌++◌, map, length, drop, Some, refl, sym, ap, ◌∙◌, subst, arith}
 use Rattle.std.specs.Prelude.{slice_get, slice_index_or}
+use Rattle.std.proofs.lemmas.Bool.{eqb-true}
 use Rattle.std.proofs.lemmas.List.{map-append, drop_at}
 use Rattle.std.proofs.lemmas.Option.{slice_get-get_or}
 use Rattle.std.proofs.lemmas.Simd.{map-map}
+use Rattle.std.proofs.lemmas.Slice.Eq.{bytes_eq-Decides}
 use Rattle.kit_base.specs.Limits.{longest_message}
 use Rattle.wire_def.specs.declared.encoding.Back.{Back}
 use Rattle.wire_def.specs.declared.encoding.Back.TheVariants as back
@@ -15,6 +17,7 @@ use Rattle.head_kit.specs.declared.called.Called.{Called}
 use Rattle.head_kit.specs.declared.called.Naming.{Naming}
 use Rattle.head_kit.specs.declared.called.Naming.TheVariants.{Operation}
 use Rattle.head_kit.specs.Calls.{IsBelow, IsOneHead, HasHead}
+use Rattle.head_kit.proofs.Named.{pairs, named_by}
 use Rattle.aoi.specs.Plain.{PlainUnit, PlainInterface, PlainOperation}
 use Rattle.pres.specs.Bindings.{Binding, IsBinding}
 use Rattle.pres.specs.Offers.{operations}
@@ -26,8 +29,7 @@ use Rattle.back_xdr.specs.Procedures.{procedures_of, procedures, procedure_of}
 use Rattle.back_xdr.specs.Seeking.{called, named, named_from, Calls}
 use Rattle.back_xdr.proofs.Counting.{counted}
 use Rattle.back_xdr.proofs.Heading.{one_head_called, has_head_called}
-use Rattle.back_xdr.proofs.NamedBelow.{named_below}
-use Rattle.back_xdr.proofs.NamedRight.{named_right}
+use Rattle.back_xdr.proofs.Named.{named_below, named_right}
 use Rattle.back_xdr.proofs.Sent.{leads_read}
 use Rattle.giop_head.specs.Call.{Request}
 use Rattle.giop_head.specs.Items.{laid}
@@ -36,22 +38,20 @@ use Rattle.giop_head.specs.Reported.{ReportedRequest}
 use Rattle.giop_head.proofs.Sent.{requests_begin, follows_request, length_sized}
 use Rattle.back_cdr.specs.Leads as cdr_leads
 use Rattle.back_cdr.specs.Seeking as cdr_seeking
-use Rattle.back_cdr.specs.Targets.{IsCdr, Target, no_target, targets, target_of}
+use Rattle.back_cdr.specs.Targets.{IsCdr, ops_of, Target, no_target, targets, target_of}
 use Rattle.back_cdr.proofs.Counting as cdr_counting
 use Rattle.back_cdr.proofs.Counting.{own_alone}
 use Rattle.back_cdr.proofs.Growing.{long_request}
 use Rattle.back_cdr.proofs.Heading as cdr_heading
-use Rattle.back_cdr.proofs.NamedBelow as cdr_named
-use Rattle.back_cdr.proofs.NamedBy.{pairs_in, pairs, named_by}
+use Rattle.back_cdr.proofs.Named as cdr_named
 use Rattle.back_mach.specs.declared.call.MachCall.{MachCall}
 use Rattle.back_mach.specs.Laws as mach_laws
 use Rattle.back_mach.specs.Leads as mach_leads
-use Rattle.back_mach.specs.Routines.{no_routine, routines, routine_of}
+use Rattle.back_mach.specs.Routines.{ops_of as mach_ops, no_routine, routines, routine_of}
 use Rattle.back_mach.specs.Seeking as mach_seeking
 use Rattle.back_mach.proofs.Counting as mach_counting
 use Rattle.back_mach.proofs.Heading as mach_heading
-use Rattle.back_mach.proofs.NamedBelow as mach_named
-use Rattle.back_mach.proofs.NamedBy as mach_pairs
+use Rattle.back_mach.proofs.Named as mach_named
 use Rattle.back_mach.proofs.Sent as mach_sent
 use Rattle.flick_engine.specs.Backs.{encoding, lead_over, sized, BeginsOver, Begins, AsksByName, AsksFor, Stops, request_of, reported_of, SaysByName, SaysOver, Says}
 use Rattle.flick_engine.specs.Operations.{operations_in}
@@ -305,42 +305,47 @@ xdr_asked b o x op (call, begins, is) names =
     (q.0, q.1, stands, (call, begins, sym (named_right b call op same) ∙ sym of))
 
 -- over CDR no operation is gotten
-cdr_pairs : (k : Back) → IsCdr k → (is : List PlainInterface) → operations_in k is ≡ pairs is
+cdr_pairs : (k : Back) → IsCdr k → (is : List PlainInterface) → operations_in k is ≡ pairs ops_of is
 cdr_pairs k cdr [] = refl
 cdr_pairs k cdr (i ∷ is) =
     ap (λ (ps : List PlainOperation). map (λ (p : PlainOperation). (i, p)) ps ++ operations_in k is) (own_alone k i cdr)
-    ∙ ap (λ (l : List (PlainInterface × PlainOperation)). pairs_in i ++ l) (cdr_pairs k cdr is)
+    ∙ ap (λ (l : List (PlainInterface × PlainOperation)). map (λ (p : PlainOperation). (i, p)) i.ops ++ l) (cdr_pairs k cdr is)
 
 cdr_asked : (k : Back) → IsCdr k → (b : Binding) (o : List ℕ) (x : Called) (op : ℕ) → cdr_seeking.Calls b o x → x.naming ≡ Operation op
     → (i : PlainInterface) × (p : PlainOperation) × (slice_get (operations_in k b.unit.interfaces) op ≡ Some (i, p)) × AsksByName i p o
 cdr_asked k cdr b o x op (t, begins, is) names =
     let same : cdr_seeking.named b t ≡ Operation op = ap (λ (y : Called). y.naming) is ∙ names in
-    let (n, i, p, at, there, key, name) = named_by 0 b.unit.interfaces t.key t.name op same in
+    let (n, i, p, at, there, called_i, has_p) =
+    named_by ops_of (cdr_seeking.has_key t.key) (λ j. cdr_seeking.has_name t.name) 0 b.unit.interfaces op same in
+    let key = (bytes_eq-Decides i.name t.key).0 called_i in
+    let name = (bytes_eq-Decides p.name t.name).0 has_p in
     let place : op ≡ n = omega (arith, at) in (
       i,
       p,
       ap (λ (l : List (PlainInterface × PlainOperation)).
-          slice_get l op) (cdr_pairs k cdr b.unit.interfaces) ∙ ap (slice_get (pairs b.unit.interfaces)) place
+          slice_get l op) (cdr_pairs k cdr b.unit.interfaces) ∙ ap (slice_get (pairs ops_of b.unit.interfaces)) place
           ∙ there,
       (t, begins, key, name),
     )
 
-mach_own : (is : List PlainInterface) → operations_in back.Mach is ≡ mach_pairs.pairs is
+mach_own : (is : List PlainInterface) → operations_in back.Mach is ≡ pairs mach_ops is
 mach_own [] = refl
 mach_own (i ∷ is) =
     ap (λ (ps : List PlainOperation). map (λ (p : PlainOperation). (i, p)) ps ++ operations_in back.Mach is) (mach_counting.own_alone i)
-    ∙ ap (λ (l : List (PlainInterface × PlainOperation)). mach_pairs.pairs_in i ++ l) (mach_own is)
+    ∙ ap (λ (l : List (PlainInterface × PlainOperation)). map (λ (p : PlainOperation). (i, p)) i.ops ++ l) (mach_own is)
 
 mach_asked : (b : Binding) (o : List ℕ) (x : Called) (op : ℕ) → mach_seeking.Calls b o x → x.naming ≡ Operation op
     → IsAskedOver back.Mach b o op
 mach_asked b o x op (call, begins, is) names =
     let same : mach_seeking.named b call ≡ Operation op = ap (λ (y : Called). y.naming) is ∙ names in
-    let (n, i, p, at, there, id) = mach_pairs.named_by 0 b.unit.interfaces call.id op same in
+    let (n, i, p, at, there, called_i, has_p) =
+    named_by mach_ops (mach_seeking.has_id call.id) (mach_seeking.is_asked call.id) 0 b.unit.interfaces op same in
+    let id : i.base + p.slot ≡ call.id = eqb-true _ _ has_p in
     let place : op ≡ n = omega (arith, at) in (
       i,
       p,
       ap (λ (l : List (PlainInterface × PlainOperation)).
-          slice_get l op) (mach_own b.unit.interfaces) ∙ ap (slice_get (mach_pairs.pairs b.unit.interfaces)) place
+          slice_get l op) (mach_own b.unit.interfaces) ∙ ap (slice_get (pairs mach_ops b.unit.interfaces)) place
           ∙ there,
       (call, begins, id),
     )

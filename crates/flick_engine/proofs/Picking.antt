@@ -18,7 +18,8 @@ use Rattle.giop_head.specs.declared.header.Way.TheVariants.{Requests}
 use Rattle.giop_head.specs.Heads.{StopsWith}
 use Rattle.giop_head.specs.Items.{laid}
 use Rattle.giop_head.specs.Reported.{ReportedRequest, BeginsRequest}
-use Rattle.back_cdr.specs.Seeking.{has_name, operation_at, named_from, Calls}
+use Rattle.head_kit.specs.Calls.{operation_at}
+use Rattle.back_cdr.specs.Seeking.{has_name, named_from, Calls}
 use Rattle.back_cdr.specs.Targets.{IsCdr}
 use Rattle.flick_engine.specs.declared.names.Names.{Names}
 use Rattle.flick_engine.specs.Backs.{BeginsOver, Begins, Stops, encoding_by}

@@ -17,6 +17,7 @@ use Rattle.back_xdr.specs.Reply as xdr_reply
 use Rattle.back_xdr.specs.Reported as xdr_reported
 use Rattle.back_xdr.proofs.Lawful as xdr_lawful
 use Rattle.giop_head.specs.declared.header.Way.TheVariants.{Replies}
+use Rattle.head_kit.specs.Readers.{Tells}
 use Rattle.giop_head.specs.Heads as giop
 use Rattle.giop_head.specs.Items.{laid}
 use Rattle.giop_head.specs.Reply as giop_reply
@@ -53,7 +54,7 @@ module _ (b : Binding) (op : ℕ) (o : List ℕ) where
 
   xdr_one : (t u : Heard) → RepliesOver back.Xdr b op o t → RepliesOver back.Xdr b op o u → t ≡ u
   xdr_one t u (r, (h, used, starts, reported), is) (s, (j, m, starts', reported'), is') =
-      let same = xdr_lawful.one_head xdr.reply o h j used m starts starts' in
+      let same = (xdr_lawful.heads_are_single xdr.reply o).one_head h j used m starts starts' in
       sym is ∙ ap (heard_over back.Xdr b op)
       (sym reported ∙ ap (λ (x : xdr_reply.Reply). xdr_reported.reply_reported x used) same.0 ∙ ap (xdr_reported.reply_reported j) same.1
       ∙ reported') ∙ is'
@@ -61,9 +62,9 @@ module _ (b : Binding) (op : ℕ) (o : List ℕ) where
   xdr_one_reply : IsOneReply o (RepliesOver back.Xdr b op o) (ReplyStopsOver back.Xdr b op o)
   xdr_one_reply = record {
     within = λ t (r, (h, used, starts, reported), is). rw (← is, ← reported) starts.0;
-    not_both = λ t e (r, (h, used, starts, reported), is) stops. xdr_lawful.not_both xdr.reply o h used e starts stops;
+    not_both = λ t e (r, (h, used, starts, reported), is) stops. (xdr_lawful.heads_are_single xdr.reply o).not_both h used e starts stops;
     one_head = xdr_one;
-    one_fault = xdr_lawful.one_fault xdr.reply o;
+    one_fault = (xdr_lawful.heads_are_single xdr.reply o).one_fault;
   }
 
   xdr_found : ((h : xdr_reply.Reply) × (used : ℕ) × xdr.BeginsWith xdr.reply o h used) ⊎ ((e : HeadErr) × xdr.StopsWith xdr.reply o e)
@@ -74,15 +75,15 @@ module _ (b : Binding) (op : ℕ) (o : List ℕ) where
   -- GIOP
   giop_one : (t u : Heard) → RepliesInOrder b op o t → RepliesInOrder b op o u → t ≡ u
   giop_one t u (r, used, starts, is) (s, m, starts', is') =
-      let same = giop_lawful.one_head Replies o r s used m starts starts' in
+      let same = (giop_lawful.heads_are_single Replies o).one_head r s used m starts starts' in
       sym is ∙ ap (λ (x : giop_reply.Reply). giop_heard b op x used) same.0 ∙ ap (giop_heard b op s) same.1 ∙ is'
 
   giop_one_reply : IsOneReply o (RepliesInOrder b op o) (giop.StopsWith Replies o)
   giop_one_reply = record {
     within = λ t (r, used, starts, is). rw (← is) starts.0;
-    not_both = λ t e (r, used, starts, is) stops. giop_lawful.not_both Replies o r used e starts stops;
+    not_both = λ t e (r, used, starts, is) stops. (giop_lawful.heads_are_single Replies o).not_both r used e starts stops;
     one_head = giop_one;
-    one_fault = giop_lawful.one_fault Replies o;
+    one_fault = (giop_lawful.heads_are_single Replies o).one_fault;
   }
 
   giop_found : ((h : giop_reply.Reply) × (used : ℕ) × giop.BeginsWith Replies o h used) ⊎ ((e : HeadErr) × giop.StopsWith Replies o e)
@@ -96,7 +97,7 @@ module _ (b : Binding) (op : ℕ) (o : List ℕ) where
 
   mach_one : (t u : Heard) → RepliesOver back.Mach b op o t → RepliesOver back.Mach b op o u → t ≡ u
   mach_one t u (r, (h, used, starts, reported), is) (s, (j, m, starts', reported'), is') =
-      let same = mach_lawful.one_head way o h j used m starts starts' in
+      let same = (mach_lawful.heads_are_single way o).one_head h j used m starts starts' in
       sym is ∙ ap (heard_over back.Mach b op)
       (sym reported
       ∙ ap (λ (x : mach_reply.Reply). mach_reported.reply_reported x used) same.0 ∙ ap (mach_reported.reply_reported j) same.1
@@ -105,9 +106,9 @@ module _ (b : Binding) (op : ℕ) (o : List ℕ) where
   mach_one_reply : IsOneReply o (RepliesOver back.Mach b op o) (ReplyStopsOver back.Mach b op o)
   mach_one_reply = record {
     within = λ t (r, (h, used, starts, reported), is). rw (← is, ← reported) starts.0;
-    not_both = λ t e (r, (h, used, starts, reported), is) stops. mach_lawful.not_both way o h used e starts stops;
+    not_both = λ t e (r, (h, used, starts, reported), is) stops. (mach_lawful.heads_are_single way o).not_both h used e starts stops;
     one_head = mach_one;
-    one_fault = mach_lawful.one_fault way o;
+    one_fault = (mach_lawful.heads_are_single way o).one_fault;
   }
 
   mach_found : ((h : mach_reply.Reply) × (used : ℕ) × mach.BeginsWith way o h used) ⊎ ((e : HeadErr) × mach.StopsWith way o e)
@@ -204,7 +205,7 @@ module _ (b : Binding) (op : ℕ) (o : List ℕ) where
   giop_reported_as back.Mach cdr r begins = absurd cc
 
   pub giop_read : (x : Result ReplyHead HeadErr) → IsCdr b.back
-      → ((r : giop_reported.ReportedReply) → giop_reported.Tells giop_reported.reply_seen x r ↔ giop_reported.BeginsReply o r)
+      → ((r : giop_reported.ReportedReply) → Tells giop_reported.reply_seen x r ↔ giop_reported.BeginsReply o r)
       → IfOk x (λ r. BeginsReply b op o (heard b op r))
   giop_read (Ok r) cdr h = giop_reported_as b.back cdr r ((h (giop_reported.reply_seen r)).0 refl)
   giop_read (Err e) cdr h = tt

@@ -14,7 +14,8 @@ use Rattle.back_xdr.specs.Leads.{answer_lead}
 use Rattle.back_xdr.specs.Reply as onc
 use Rattle.back_xdr.specs.Reported as onc_reported
 use Rattle.back_xdr.specs.Auth.{AuthSpells}
-use Rattle.back_xdr.specs.Words.{WordSpells, IsWord, word}
+use Rattle.head_kit.specs.Words.{WordSpells, IsWord}
+use Rattle.back_xdr.specs.Words.{word}
 use Rattle.giop_head.specs.declared.header.Way.TheVariants.{Replies}
 use Rattle.giop_head.specs.Contexts.{ContextsSpell}
 use Rattle.giop_head.specs.Heads as giop

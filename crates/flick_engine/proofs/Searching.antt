@@ -20,7 +20,7 @@ use Rattle.giop_head.specs.Header.{has_magic, has_version, has_order, expected, 
 use Rattle.giop_head.specs.Heads.{StopsWith}
 use Rattle.giop_head.specs.Printed.{header_octets, then_long}
 use Rattle.giop_head.specs.Reported.{ReportedRequest, requested, request_reported, BeginsCall, BeginsRequest}
-use Rattle.giop_head.proofs.Lawful.{not_both}
+use Rattle.giop_head.proofs.Lawful.{heads_are_single}
 use Rattle.back_mach.specs.declared.call.MachCall.{MachCall}
 use Rattle.back_mach.specs.Reported as mach
 use Rattle.flick_engine.specs.Backs.{Begins, BeginsOver}
@@ -86,7 +86,7 @@ pub not_a_request : (o : List ℕ) (e : HeadErr) (head : Head) (key name : List 
     → BeginsCall o (requested head key name used) → ⊥
 not_a_request o e head key name used stops begins =
     let (t, (x, n, starts, reported)) = request_begins o head key name used begins in
-    not_both Requests o x n e starts stops
+    (heads_are_single Requests o).not_both x n e starts stops
 
 -- ---- the answer to a search
 

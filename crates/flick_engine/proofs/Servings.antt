@@ -48,17 +48,17 @@ use Rattle.flick_engine.proofs.Searching.{not_a_request}
 
 one_onc : (o : List ℕ) (c d : OncCall) → onc.BeginsCall o c → onc.BeginsCall o d → c ≡ d
 one_onc o c d (h, used, begins, reported) (j, m, begins', reported') =
-    let same = onc_lawful.one_head onc_heads.call o h j used m begins begins' in
+    let same = (onc_lawful.heads_are_single onc_heads.call o).one_head h j used m begins begins' in
     sym reported ∙ ap (λ (x : OncHead). onc.call_reported x used) same.0 ∙ ap (onc.call_reported j) same.1 ∙ reported'
 
 one_mach : (o : List ℕ) (c d : MachCall) → mach.BeginsCall o c → mach.BeginsCall o d → c ≡ d
 one_mach o c d (h, used, begins, reported) (j, m, begins', reported') =
-    let same = mach_lawful.one_head mach_heads.call o h j used m begins begins' in
+    let same = (mach_lawful.heads_are_single mach_heads.call o).one_head h j used m begins begins' in
     sym reported ∙ ap (λ (x : MachHeader). mach.call_reported x used) same.0 ∙ ap (mach.call_reported j) same.1 ∙ reported'
 
 one_giop : (o : List ℕ) (c d : ReportedCall) → BeginsCall o c → BeginsCall o d → c ≡ d
 one_giop o c d (h, used, begins, reported) (j, m, begins', reported') =
-    let same = giop_lawful.one_head Asks o h j used m begins begins' in
+    let same = (giop_lawful.heads_are_single Asks o).one_head h j used m begins begins' in
     sym reported ∙ ap (λ (x : Call). call_reported x used) same.0 ∙ ap (call_reported j) same.1 ∙ reported'
 
 same_search : (id m : ℕ) (key s : List ℕ) → sought id key ≡ sought m s → (id ≡ m) × (key ≡ s)
@@ -75,11 +75,11 @@ module _ (r : Order) (b : Binding) (o : List ℕ) where
       let same = same_search id m key s (one_giop o (sought id key) (sought m s) begins begins') in
       is ∙ ap (λ (n : ℕ). located n key) same.0 ∙ ap (located m) same.1 ∙ sym is'
   one_other x y (inl (id, key, (h, used, begins, reported), is)) (inr (e, stops, is')) =
-      absurd (giop_lawful.not_both Asks o h used e begins stops)
+      absurd ((giop_lawful.heads_are_single Asks o).not_both h used e begins stops)
   one_other x y (inr (e, stops, is)) (inl (id, key, (h, used, begins, reported), is')) =
-      absurd (giop_lawful.not_both Asks o h used e begins stops)
-  one_other x y (inr (e, stops, is)) (inr (d, stops', is')) = is ∙ ap (giop_answer r o) (giop_lawful.one_fault Asks o e d stops stops')
-      ∙ sym is'
+      absurd ((giop_lawful.heads_are_single Asks o).not_both h used e begins stops)
+  one_other x y (inr (e, stops, is)) (inr (d, stops', is')) =
+      is ∙ ap (giop_answer r o) ((giop_lawful.heads_are_single Asks o).one_fault e d stops stops') ∙ sym is'
 
 one_answer_over : (k : Back) (b : Binding) (o : List ℕ) (e : HeadErr) (x y : Option (List ℕ)) → AnswersFault k b o e x
     → AnswersFault k b o e y → x ≡ y

@@ -21,7 +21,7 @@ use Rattle.back_xdr.specs.Procedures.{procedure_of}
 use Rattle.back_xdr.specs.Seeking as xdr_seeking
 use Rattle.back_xdr.specs.Reported as xdr_reported
 use Rattle.back_xdr.specs.Reported.{BeginsCall}
-use Rattle.back_xdr.specs.Words.{IsWord}
+use Rattle.head_kit.specs.Words.{IsWord}
 use Rattle.giop_head.specs.declared.header.Way.TheVariants.{Requests, Replies}
 use Rattle.giop_head.specs.Call.{Request}
 use Rattle.giop_head.specs.Heads as giop

@@ -4,7 +4,7 @@ use Rattle.std.specs.List.{position_from}
 use Rattle.std.specs.Str.{bytes_eq}
 use Rattle.aoi.specs.Plain.{PlainRaise, PlainInterface, PlainOperation}
 use Rattle.head_kit.specs.declared.called.Naming.{Naming}
-use Rattle.back_cdr.specs.Seeking.{operation_at}
+use Rattle.head_kit.specs.Calls.{operation_at}
 
 -- names in order, and the number of the first of them
 pub record Offered : Type 0 where

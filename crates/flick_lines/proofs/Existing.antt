@@ -12,7 +12,7 @@ use Rattle.pres.specs.declared.ops.Op.{Op}
 use Rattle.pres.specs.Bindings.{Binding}
 use Rattle.serde_json.specs.Data.{Data}
 use Rattle.wire_def.specs.Grammar.{AreOctets}
-use Rattle.back_xdr.proofs.Exact.{all_octets}
+use Rattle.head_kit.proofs.Exact.{all_octets}
 use Rattle.json_shape.specs.declared.errors.RecordErr.{RecordErr}
 use Rattle.json_shape.specs.declared.errors.RecordErr.TheVariants as errors
 use Rattle.json_shape.specs.Laws.{IsPresented}

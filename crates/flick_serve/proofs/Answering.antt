@@ -5,7 +5,7 @@ use Rattle.std.proofs.Math.Path.{fun_ext}
 use Rattle.hex.specs.Hex.{decode_of, encode_lower}
 use Rattle.hex.specs.declared.error.FromHexError.{FromHexError}
 use Rattle.hex.proofs.HexLemmas.{decode_of-ok}
-use Rattle.back_xdr.proofs.Exact.{all_octets}
+use Rattle.head_kit.proofs.Exact.{all_octets}
 use Rattle.mint.specs.declared.value.Value.{Value}
 use Rattle.mint.specs.Types.{Ty}
 use Rattle.mint.specs.Values.{Val, seen}

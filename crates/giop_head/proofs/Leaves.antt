@@ -19,7 +19,8 @@ use Rattle.wire_def.specs.Scalars.{gap, WordSpells, WordStops, read_word}
 use Rattle.wire_def.proofs.Grammars.{mapped, both_are, tested_are}
 use Rattle.wire_def.proofs.HeadItems.{body_is}
 use Rattle.wire_def.proofs.Words.{IsWide, wide, word_is}
-use Rattle.giop_head.specs.Items.{laid, LongSpells, LongStops, or_short, read_long, up_to, long_place, PassSpells, PassStops, read_pass, FlagSpells, FlagStops, read_flag, SequenceSpells, SequenceStops, read_sequence, is_ended, StringSpells, StringStops, read_string, EndSpells, EndStops, read_end}
+use Rattle.head_kit.specs.Words.{up_to}
+use Rattle.giop_head.specs.Items.{laid, LongSpells, LongStops, or_short, read_long, long_place, PassSpells, PassStops, read_pass, FlagSpells, FlagStops, read_flag, SequenceSpells, SequenceStops, read_sequence, is_ended, StringSpells, StringStops, read_string, EndSpells, EndStops, read_end}
 use Rattle.giop_head.proofs.Ended.{ended_parts, parts_ended}
 
 -- ---- unsigned longs

@@ -14,10 +14,8 @@ pub mod Headers
 pub mod Calls
 -- The heads of Reply messages are a grammar
 pub mod Replies
--- * The laws, from reading being one function
+-- * The laws, over each way
 pub mod Lawful
--- * What is reported of a message is decided by its head, or by its first fault
-pub mod Exact
 -- * Octets that are put into a buffer
 pub mod Putting
 -- What is put after octets spells what it is put for

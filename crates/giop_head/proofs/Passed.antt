@@ -6,7 +6,7 @@ use Rattle.wire_def.specs.Grammar.{Reading, got, stop, map_got, times, IsGrammar
 use Rattle.wire_def.proofs.Grammars.{mapped, both_are, times_are}
 use Rattle.giop_head.specs.Items.{SequenceStops}
 use Rattle.giop_head.specs.Contexts.{Context, ContextSpells, ContextStops, read_context, ManySpell, ManyStop, pass_many, ContextsSpell, ContextsStop, pass_contexts, AnySequence, pass_sequence}
-use Rattle.giop_head.specs.Readers.{Stopped}
+use Rattle.head_kit.specs.Readers.{Stopped}
 use Rattle.giop_head.proofs.Leaves.{long_is, sequence_is}
 
 context_is : (r : Order) → IsGrammar (read_context r) (ContextSpells r) (ContextStops r)

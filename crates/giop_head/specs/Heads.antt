@@ -1,7 +1,8 @@
 -- The heads of messages that ask, of requests alone, and of replies.
-use Rattle.std.specs.Prelude.{ℕ, ◌≤◌, List, length, take}
+use Rattle.std.specs.Prelude.{ℕ, List, length}
 use Rattle.wire_def.specs.declared.fault.HeadErr.{HeadErr}
-use Rattle.wire_def.specs.Grammar.{Reader, Spelling, Stopping}
+use Rattle.head_kit.specs.Heads as heads
+use Rattle.head_kit.specs.Heads.{Format}
 use Rattle.giop_head.specs.declared.header.Way.{Way}
 use Rattle.giop_head.specs.declared.header.Way.TheVariants.{Asks, Requests, Replies}
 use Rattle.giop_head.specs.Call.{Call, CallSpells, CallStops, read_head_of_call, Ordered, OrderedSpells, OrderedStops, read_head_of_request}
@@ -13,28 +14,16 @@ HeadOf Asks = Call
 HeadOf Requests = Ordered
 HeadOf Replies = Reply
 
--- the octets are the head of a message of so many octets, with these fields
-abbrev pub HeadSpells : (w : Way) → ℕ → Spelling (HeadOf w)
-HeadSpells Asks n = CallSpells n
-HeadSpells Requests n = OrderedSpells n
-HeadSpells Replies n = ReplySpells n
-
--- the first item of the format that is cut off or wrong, and its place
-abbrev pub HeadStops : Way → ℕ → Stopping HeadErr
-HeadStops Asks n = CallStops n
-HeadStops Requests n = OrderedStops n
-HeadStops Replies n = ReplyStops n
-
--- reading a head from left to right
-abbrev pub read_head : (w : Way) → ℕ → Reader HeadErr (HeadOf w)
-read_head Asks n = read_head_of_call n
-read_head Requests n = read_head_of_request n
-read_head Replies n = read_head_of_reply n
+-- the format of its head, in a message of so many octets
+abbrev pub format : (w : Way) → ℕ → Format (HeadOf w)
+format Asks n = record { read = read_head_of_call n; Spells = CallSpells n; Stops = CallStops n }
+format Requests n = record { read = read_head_of_request n; Spells = OrderedSpells n; Stops = OrderedStops n }
+format Replies n = record { read = read_head_of_reply n; Spells = ReplySpells n; Stops = ReplyStops n }
 
 -- the first octets of a message, so many, are this head
 abbrev pub BeginsWith : (w : Way) → List ℕ → HeadOf w → ℕ → Type 0
-BeginsWith w message h used = (used ≤ length message) × HeadSpells w (length message) 0 (take used message) h
+BeginsWith w message = heads.BeginsWith (format w (length message)) message
 
 -- a message stops with this fault, at some place
 abbrev pub StopsWith : Way → List ℕ → HeadErr → Type 0
-StopsWith w message e = (at : ℕ) × HeadStops w (length message) 0 message e at
+StopsWith w message = heads.StopsWith (format w (length message)) message

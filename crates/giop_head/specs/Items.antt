@@ -1,5 +1,5 @@
 -- What the fields of heads are made of (OMG CORBA, chapter GIOP, section on CDR: primitive types, strings, sequences).
-use Rattle.std.specs.Prelude.{◌≡◌, ℕ, zero, suc, ◌+◌, ◌-◌, ◌<◌, List, [], ◌∷◌, ◌++◌, length, take, Bool, true, false, nat_le, ◌==◌, if◌then◌else◌}
+use Rattle.std.specs.Prelude.{◌≡◌, ℕ, zero, suc, ◌+◌, ◌-◌, ◌<◌, List, [], ◌∷◌, ◌++◌, length, take, Bool, true, false, ◌==◌, if◌then◌else◌}
 use Rattle.std.specs.Int.{w32}
 use Rattle.std.specs.List.{AllByRecursion}
 use Rattle.wire_def.specs.declared.encoding.Encoding.{Encoding}
@@ -12,6 +12,7 @@ use Rattle.wire_def.specs.declared.head.Order.TheVariants.{Big, Little}
 use Rattle.wire_def.specs.Grammar.{Reading, got, stop, Reader, Spelling, Stopping, map_got, both, tested, Parts, StopsInOrder, TestedSpells, TestedStops}
 use Rattle.wire_def.specs.HeadItems.{BodySpells, BodyStops, read_body}
 use Rattle.wire_def.specs.Scalars.{gap, WordSpells, read_word}
+use Rattle.head_kit.specs.Words.{up_to}
 
 -- how the octets of a message lie
 abbrev pub laid : Order → Encoding
@@ -36,10 +37,6 @@ or_short (stop k at) = stop Short at
 -- an unsigned long, read from a position
 unfoldable pub read_long : Order → Reader HeadErr ℕ
 read_long r p o = or_short (read_word (laid r) 4 w32 p o)
-
--- the numbers up to this one
-abbrev pub up_to : ℕ → ℕ → Bool
-up_to m n = nat_le n m
 
 -- where an unsigned long is
 abbrev pub long_place : ℕ → ℕ

@@ -5,6 +5,5 @@ pub mod Call
 pub mod Reply
 pub mod Heads
 pub mod Reported
-pub mod Readers
 pub mod Printed
 pub mod Laws

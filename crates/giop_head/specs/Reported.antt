@@ -1,12 +1,12 @@
 -- What is reported to callers of a head.
-use Rattle.std.specs.Prelude.{◌≡◌, ℕ, Bool, true, List, Option, Some, None, Result, Ok, Err}
+use Rattle.std.specs.Prelude.{ℕ, Bool, true, List, length, Option, Some, None}
 use Rattle.std.specs.Borrow.{Bor}
-use Rattle.wire_def.specs.declared.fault.HeadErr.{HeadErr}
 use Rattle.wire_def.specs.declared.head.Head.{Head}
 use Rattle.wire_def.specs.declared.head.Order.{Order}
 use Rattle.wire_def.specs.declared.reply.ReplyHead.{ReplyHead}
 use Rattle.wire_def.specs.declared.reply.Status.{Status}
 use Rattle.wire_def.specs.declared.reply.Status.TheVariants.{Answer, User, System}
+use Rattle.head_kit.specs.Heads.{Begins}
 use Rattle.giop_head.specs.declared.header.Way.TheVariants.{Asks, Requests, Replies}
 use Rattle.giop_head.specs.declared.call.GiopCall.{GiopCall}
 use Rattle.giop_head.specs.declared.call.GiopCall.TheVariants as calls
@@ -14,7 +14,7 @@ use Rattle.giop_head.specs.declared.call.Asked.{Asked}
 use Rattle.giop_head.specs.declared.call.GiopRequest.{GiopRequest}
 use Rattle.giop_head.specs.Call.{Request, Search, Call, request, search_for, Ordered}
 use Rattle.giop_head.specs.Reply.{Fate, answer, user, system, Reply}
-use Rattle.giop_head.specs.Heads.{BeginsWith}
+use Rattle.giop_head.specs.Heads.{format}
 
 -- of the fields that all back ends share these heads have the id, whether a reply is wanted, and the order
 abbrev pub shared_head : ℕ → Bool → Order → Head
@@ -47,7 +47,7 @@ call_reported (search_for r s) used = sought s.id s.key
 
 -- a message begins with the head of a call, of which this is reported
 abbrev pub BeginsCall : List ℕ → ReportedCall → Type 0
-BeginsCall message reported = (c : Call) × (used : ℕ) × BeginsWith Asks message c used × (call_reported c used ≡ reported)
+BeginsCall message = Begins (format Asks (length message)) call_reported message
 
 -- ---- requests alone
 
@@ -73,7 +73,7 @@ request_reported x used = record {
 
 -- a message begins with the head of a request, of which this is reported
 abbrev pub BeginsRequest : List ℕ → ReportedRequest → Type 0
-BeginsRequest message reported = (x : Ordered) × (used : ℕ) × BeginsWith Requests message x used × (request_reported x used ≡ reported)
+BeginsRequest message = Begins (format Requests (length message)) request_reported message
 
 -- ---- replies
 
@@ -100,11 +100,4 @@ reply_reported r used = record { head = shared_head r.id true r.order; fate = So
 
 -- a message begins with the head of a reply, of which this is reported
 abbrev pub BeginsReply : List ℕ → ReportedReply → Type 0
-BeginsReply message reported = (r : Reply) × (used : ℕ) × BeginsWith Replies message r used × (reply_reported r used ≡ reported)
-
--- ---- results, seen so
-
--- an answer of which this is reported
-abbrev pub Tells : {A B : Type 0} → (A → B) → Result A HeadErr → B → Type 0
-Tells view (Ok x) reported = view x ≡ reported
-Tells view (Err e) reported = ⊥
+BeginsReply message = Begins (format Replies (length message)) reply_reported message

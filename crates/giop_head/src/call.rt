@@ -6,15 +6,15 @@ ghost use Rattle.giop_head.specs.declared.header.Way.TheVariants.{Asks, Requests
 ghost use Rattle.giop_head.specs.Call.{read_head_of_call, read_head_of_request, read_request, read_search};
 ghost use Rattle.giop_head.specs.Items.{read_end};
 ghost use Rattle.giop_head.specs.Heads.{StopsWith};
-ghost use Rattle.giop_head.specs.Reported.{BeginsCall, BeginsRequest, ReportedCall, ReportedRequest, Tells, asked_seen, call_seen, call_reported, request_seen, request_reported, search_seen};
-ghost use Rattle.giop_head.specs.Readers.{Gives, Passing, seen_by, reported};
+ghost use Rattle.giop_head.specs.Reported.{BeginsCall, BeginsRequest, ReportedCall, ReportedRequest, asked_seen, call_seen, call_reported, request_seen, request_reported, search_seen};
+ghost use Rattle.head_kit.specs.Readers.{Gives, Passing, Tells, seen_by, reported};
 
 use crate::contexts::{any_sequence, contexts};
-use crate::cursor::Cursor;
 use crate::header::{Way, header};
 use crate::items::{flag, long, sequence, string};
 use crate::laws::heads_are_read;
 use crate::shared::shared_head;
+use head_kit::{Cursor, are_octets};
 use wire_def::{Head, HeadErr, Order};
 
 /// What a message asks.
@@ -48,6 +48,7 @@ pub fn read_call(message: &[u8]) -> Result<GiopCall<'_>, HeadErr>
     ensures stops { (fault : HeadErr) → (result ≡ Err fault) ↔ StopsWith Asks message.now fault }
 {
     heads_are_read();
+    are_octets(message);
     let at = Cursor {
         place: 0,
         rest: message,
@@ -76,6 +77,7 @@ pub fn read_request(message: &[u8]) -> Result<GiopRequest<'_>, HeadErr>
     ensures stops { (fault : HeadErr) → (result ≡ Err fault) ↔ StopsWith Requests message.now fault }
 {
     heads_are_read();
+    are_octets(message);
     let at = Cursor {
         place: 0,
         rest: message,

@@ -1,10 +1,10 @@
 //! What is passed over, whatever it is: service contexts and principals. No memory is taken for it.
 
 ghost use Rattle.giop_head.specs.Contexts.{pass_contexts, pass_many, pass_sequence, read_context};
-ghost use Rattle.giop_head.specs.Readers.{Passes, Passing};
+ghost use Rattle.head_kit.specs.Readers.{Passes, Passing};
 
-use crate::cursor::Cursor;
 use crate::items::{long, sequence};
+use head_kit::Cursor;
 use wire_def::{HeadErr, Order};
 
 /// A service context: its id and its data.

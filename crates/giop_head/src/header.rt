@@ -3,10 +3,9 @@
 ghost use Rattle.std.specs.Prelude.{◌≡◌, length};
 ghost use Rattle.giop_head.specs.Header as heads;
 ghost use Rattle.giop_head.specs.Header.{judged, read_header};
-ghost use Rattle.giop_head.specs.Readers.{Gives, same};
+ghost use Rattle.head_kit.specs.Readers.{Gives, same};
 
-use crate::cursor::Cursor;
-use crate::items::body;
+use head_kit::{Cursor, body};
 use wire_def::{HeadErr, Order};
 
 /// The message types that heads of this crate have.

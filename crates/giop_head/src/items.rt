@@ -1,12 +1,11 @@
 //! What the fields of heads are made of (OMG CORBA, chapter GIOP, section on CDR).
 
-ghost use Rattle.std.specs.Prelude.{◌≡◌, ◌==◌, ◌≤◌, length, IfOk};
+ghost use Rattle.std.specs.Prelude.{◌≡◌, ◌==◌, ◌≤◌, IfOk};
 ghost use Rattle.std.specs.List.{position};
-ghost use Rattle.wire_def.specs.HeadItems.{read_body};
 ghost use Rattle.giop_head.specs.Items.{is_ended, read_flag, read_long, read_pass, read_sequence, read_string};
-ghost use Rattle.giop_head.specs.Readers.{borrowed, same, Gives};
+ghost use Rattle.head_kit.specs.Readers.{borrowed, same, Gives};
 
-use crate::cursor::Cursor;
+use head_kit::{Cursor, body};
 use wire_def::{HeadErr, Order};
 
 /// An unsigned long, after the octets up to a multiple of 4.
@@ -62,20 +61,6 @@ pub(crate) fn flag(at: Cursor<'_>) -> Result<(bool, Cursor<'_>), HeadErr>
         return Ok((true, Cursor { place, rest }));
     }
     Err(HeadErr::Item)
-}
-
-/// So many octets, whatever they are.
-#[tactic(auto, unfolding(wire_def::specs::HeadItems::read_body))]
-pub(crate) fn body(n: usize, at: Cursor<'_>) -> Result<(&[u8], Cursor<'_>), HeadErr>
-    ensures long { IfOk result (λ x. length x.0.now ≡ n) }
-    ensures read { Gives borrowed result (read_body n at.entry.place at.entry.rest.now) }
-{
-    if at.rest.len() < n {
-        return Err(HeadErr::Short);
-    }
-    let (octets, rest) = at.rest.split_at(n);
-    let place = at.place + n;
-    Ok((octets, Cursor { place, rest }))
 }
 
 /// A sequence of octets.

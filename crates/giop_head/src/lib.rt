@@ -6,7 +6,6 @@
 
 mod call;
 mod contexts;
-mod cursor;
 mod header;
 mod items;
 mod laws;

@@ -6,15 +6,15 @@ ghost use Rattle.wire_def.specs.declared.fault.HeadErr.{HeadErr};
 ghost use Rattle.giop_head.specs.declared.header.Way.TheVariants.{Replies};
 ghost use Rattle.giop_head.specs.Reply.{read_fate, read_head_of_reply, read_system};
 ghost use Rattle.giop_head.specs.Heads.{StopsWith};
-ghost use Rattle.giop_head.specs.Reported.{BeginsReply, ReportedReply, Tells, fate_seen, reply_seen, reply_reported};
-ghost use Rattle.giop_head.specs.Readers.{Gives, seen_by, reported};
+ghost use Rattle.giop_head.specs.Reported.{BeginsReply, ReportedReply, fate_seen, reply_seen, reply_reported};
+ghost use Rattle.head_kit.specs.Readers.{Gives, Tells, seen_by, reported};
 
 use crate::contexts::contexts;
-use crate::cursor::Cursor;
 use crate::header::{Way, header};
 use crate::items::{long, long_up_to, string};
 use crate::laws::heads_are_read;
 use crate::shared::shared_head;
+use head_kit::{Cursor, are_octets};
 use wire_def::{HeadErr, Order, ReplyHead, Status};
 
 /// Reads the head of a Reply, in either order. Service contexts are passed over, whatever they are.
@@ -23,6 +23,7 @@ pub fn read_reply(message: &[u8]) -> Result<ReplyHead<'_>, HeadErr>
     ensures stops { (fault : HeadErr) → (result ≡ Err fault) ↔ StopsWith Replies message.now fault }
 {
     heads_are_read();
+    are_octets(message);
     let at = Cursor {
         place: 0,
         rest: message,

@@ -1,9 +1,22 @@
 -- What holds of the heads of calls, whatever the back end.
-use Rattle.std.specs.Prelude.{◌≡◌, ◌⊎◌, ◌<◌, ◌≤◌, ℕ, List, length}
+use Rattle.std.specs.Prelude.{◌≡◌, ◌⊎◌, ◌<◌, ◌≤◌, ℕ, ◌+◌, List, [], ◌∷◌, length, Bool, if◌then◌else◌, Option, Some, None}
+use Rattle.std.specs.List.{position_from}
 use Rattle.wire_def.specs.declared.fault.HeadErr.{HeadErr}
 use Rattle.head_kit.specs.declared.called.Called.{Called}
 use Rattle.head_kit.specs.declared.called.Naming.{Naming}
-use Rattle.head_kit.specs.declared.called.Naming.TheVariants.{Operation}
+use Rattle.head_kit.specs.declared.called.Naming.TheVariants.{Operation, NoInterface, NoOperation}
+
+-- what is named by an operation's place, where there is one
+abbrev pub operation_at : Option ℕ → Naming
+operation_at None = NoOperation
+operation_at (Some op) = Operation op
+
+-- the first interface that is called, and the first of its operations that has what is asked for, where the operations of
+-- the interfaces are counted from k
+abbrev pub named_from : {I O : Type 0} → (I → List O) → (I → Bool) → (I → O → Bool) → ℕ → List I → Naming
+named_from ops called has k [] = NoInterface
+named_from ops called has k (i ∷ is) = if called i then operation_at (position_from (has i) k (ops i))
+    else named_from ops called has (k + length (ops i)) is
 
 -- a call that names one of the operations below n, or none
 abbrev pub IsBelow : ℕ → Naming → Type 0

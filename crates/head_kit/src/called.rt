@@ -1,5 +1,8 @@
 //! What is reported of a call.
 
+ghost use Rattle.std.specs.Prelude.{◌≡◌};
+ghost use Rattle.head_kit.specs.Calls.{operation_at};
+
 use wire_def::{Encoding, Head};
 
 /// What a call names.
@@ -11,6 +14,16 @@ pub enum Naming {
     NoInterface,
     /// The interface has no such operation.
     NoOperation,
+}
+
+/// What is named by an operation's place, where there is one.
+pub fn operation_at(place: Option<u32>) -> Naming
+    ensures { result ≡ operation_at place }
+{
+    match place {
+        Some(op) => Naming::Operation(op),
+        None => Naming::NoOperation,
+    }
 }
 
 /// What the head of a message says of its call. The body follows the head.

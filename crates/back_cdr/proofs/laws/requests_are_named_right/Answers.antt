@@ -1,4 +1,4 @@
-use Rattle.back_cdr.proofs.NamedRight.{named_right}
+use Rattle.back_cdr.proofs.Named.{named_right}
 use Rattle.back_cdr.proofs.laws.requests_are_named_right.Goals as goal
 
 pub returns : goal.returns

@@ -1,24 +1,22 @@
-use Rattle.std.proofs.Common.{◌≡◌, ◌-◌, ◌∙◌, ℕ, map, length, get_or, sym, ap}
-use Rattle.aoi.specs.declared.interfaces.Operation.{Operation}
+use Rattle.std.proofs.Common.{◌-◌, ◌∙◌, ℕ, map, length, get_or, refl, sym, ap}
+use Rattle.aoi.specs.declared.interfaces.Interface.{Interface}
 use Rattle.aoi.specs.Plain.{plain_interface, plain_operation}
-use Rattle.back_cdr.specs.Targets.{no_target, target_in, targets}
-use Rattle.back_cdr.proofs.Naming.{in_first, in_others}
+use Rattle.head_kit.proofs.Named.{in_own, past_own}
+use Rattle.back_cdr.specs.Targets.{ops_of, no_target, target_in, targets}
 use Rattle.back_cdr.proofs.targets.+operation_at.Goals as goal
 
 pub returns-then-place-ops : goal.returns-then-place-ops
 returns-then-place-ops t c =
-    let here = in_first c.in-Some.i.now c.in-Some.others.now c.args.place c.index-ops-place.result
-    (rw c.as_slice-ops.ensures at c.if-place-ops.true) in
-    let found : c.index-ops-place.result ≡ get_or c.in-Some.i.now.ops c.args.place c.index-ops-place.result = c.index-ops-place.is
-    ∙ ap (λ l. get_or l c.args.place c.index-ops-place.result) c.as_slice-ops.ensures in
+    let found = c.index-ops-place.is ∙ ap (λ l. get_or l c.args.place c.index-ops-place.result) c.as_slice-ops.ensures in
     rw c.in-Some.ensures.cases.0
-    (here ∙ ap (λ (o : Operation). target_in (plain_interface c.in-Some.i.now) (plain_operation o)) (sym found))
+    (in_own ops_of target_in no_target plain_interface plain_operation (λ (j : Interface). j.ops) (λ j. refl) c.in-Some.i.now
+    c.in-Some.others.now c.args.place c.index-ops-place.result (rw c.as_slice-ops.ensures at c.if-place-ops.true) found)
 
 pub returns-else-place-ops : goal.returns-else-place-ops
 returns-else-place-ops t c =
     let many = ap length c.as_slice-ops.ensures in
-    let there = in_others c.in-Some.i.now c.in-Some.others.now c.args.place (rw c.as_slice-ops.ensures at c.if-place-ops.false) in
     rw c.in-Some.ensures.cases.0
-    (there
-    ∙ ap (λ (n : ℕ).
-    get_or (targets (map plain_interface c.in-Some.others.now)) (c.args.place - n) no_target) (sym many) ∙ c.operation_at.ensures)
+    (past_own ops_of target_in no_target plain_interface plain_operation (λ (j : Interface). j.ops) (λ j. refl) c.in-Some.i.now
+    c.in-Some.others.now c.args.place (rw c.as_slice-ops.ensures at c.if-place-ops.false)
+    ∙ ap (λ (n : ℕ). get_or (targets (map plain_interface c.in-Some.others.now)) (c.args.place - n) no_target) (sym many)
+    ∙ c.operation_at.ensures)

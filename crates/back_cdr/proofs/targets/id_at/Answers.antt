@@ -1,5 +1,5 @@
 use Rattle.std.proofs.Common.{◌-◌, ◌∙◌, arith}
-use Rattle.back_cdr.proofs.Naming.{id_there}
+use Rattle.back_cdr.proofs.Ids.{id_there}
 use Rattle.back_cdr.proofs.targets.id_at.Goals as goal
 
 pub returns : goal.returns

@@ -1,4 +1,4 @@
-use Rattle.back_mach.proofs.NamedBy.{named_right}
+use Rattle.back_mach.proofs.Named.{named_right}
 use Rattle.back_mach.proofs.laws.requests_are_named_right.Goals as goal
 
 pub returns : goal.returns

@@ -3,7 +3,7 @@ use Rattle.aoi.specs.Plain.{PlainUnit, plain_interface}
 use Rattle.head_kit.specs.Calls.{IsBelow}
 use Rattle.back_mach.specs.Routines.{routines}
 use Rattle.back_mach.specs.Seeking.{named_from}
-use Rattle.back_mach.proofs.NamedBelow.{named_below}
+use Rattle.back_mach.proofs.Named.{named_below}
 use Rattle.back_mach.proofs.seek.named.Goals as goal
 
 pub returns-clause-below : goal.returns-clause-below

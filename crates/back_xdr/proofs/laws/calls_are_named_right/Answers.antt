@@ -1,4 +1,4 @@
-use Rattle.back_xdr.proofs.NamedRight.{named_right}
+use Rattle.back_xdr.proofs.Named.{named_right}
 use Rattle.back_xdr.proofs.laws.calls_are_named_right.Goals as goal
 
 pub returns : goal.returns

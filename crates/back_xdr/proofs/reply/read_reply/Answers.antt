@@ -1,16 +1,13 @@
-use Rattle.std.proofs.Common.{rules}
-use Rattle.wire_def.specs.Grammar.{AreOctets}
-use Rattle.back_xdr.specs.Heads.{reply}
+use Rattle.head_kit.proofs.Exact.{reported_head, reported_fault}
+use Rattle.back_xdr.specs.Heads.{reply, format}
 use Rattle.back_xdr.specs.Reported.{reply_reported}
-use Rattle.back_xdr.proofs.Exact.{all_octets, reported_head, reported_fault}
+use Rattle.back_xdr.proofs.Lawful.{heads_are_read}
 use Rattle.back_xdr.proofs.reply.read_reply.Goals as goal
 
 pub returns-clause-spells : goal.returns-clause-spells
 returns-clause-spells c =
-    let octets : AreOctets c.args.message.now = all_octets c.args.message.now (λ i. search (rules, c.type_inv.message)) in
-    rw c.reply_at.ensures (reported_head reply reply_reported c.args.message.now octets)
+    rw c.reply_at.ensures (reported_head (format reply) (heads_are_read reply) reply_reported c.args.message.now c.are_octets.ensures)
 
 pub returns-clause-stops : goal.returns-clause-stops
 returns-clause-stops c =
-    let octets : AreOctets c.args.message.now = all_octets c.args.message.now (λ i. search (rules, c.type_inv.message)) in
-    rw c.reply_at.ensures (reported_fault reply reply_reported c.args.message.now octets)
+    rw c.reply_at.ensures (reported_fault (format reply) (heads_are_read reply) reply_reported c.args.message.now c.are_octets.ensures)

@@ -3,7 +3,7 @@ use Rattle.head_kit.specs.declared.called.Naming.{Naming}
 use Rattle.head_kit.specs.Calls.{IsBelow}
 use Rattle.back_xdr.specs.Procedures.{procedures}
 use Rattle.back_xdr.specs.Seeking.{named}
-use Rattle.back_xdr.proofs.NamedBelow.{named_below}
+use Rattle.back_xdr.proofs.Named.{named_below}
 use Rattle.back_xdr.proofs.seek.named.Goals as goal
 
 pub returns-clause-below : goal.returns-clause-below

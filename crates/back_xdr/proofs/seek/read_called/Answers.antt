@@ -1,5 +1,4 @@
 use Rattle.std.proofs.Common.{refl, sym, ap}
-use Rattle.head_kit.specs.declared.called.Called.{Called}
 use Rattle.head_kit.specs.declared.called.Naming.{Naming}
 use Rattle.back_xdr.specs.Seeking.{encoding}
 use Rattle.back_xdr.proofs.seek.read_called.Goals as goal

@@ -2,10 +2,11 @@ use Rattle.std.proofs.Common.{◌+◌, ℕ, List, map, drop, length, ap, sym, �
 use Rattle.std.specs.Prelude.{◌==◌}
 use Rattle.std.specs.List.{position_from}
 use Rattle.aoi.specs.Plain.{PlainInterface, plain_interface}
+use Rattle.head_kit.specs.Calls.{operation_at}
 use Rattle.back_xdr.specs.Procedures.{numbers, procedures, before}
-use Rattle.back_xdr.specs.Seeking.{operation_at, named_from}
+use Rattle.back_xdr.specs.Seeking.{is_called, has_number, named_from}
+use Rattle.head_kit.proofs.Named.{named_here}
 use Rattle.back_xdr.proofs.Before.{before_room, named_past}
-use Rattle.back_xdr.proofs.Finding.{named_here}
 use Rattle.back_xdr.proofs.seek.seek.Goals as goal
 
 pub place_of-requires : goal.place_of-requires
@@ -25,8 +26,9 @@ place_of-requires c =
 pub returns-then-is_called : goal.returns-then-is_called
 returns-then-is_called c =
     let is : List PlainInterface = map plain_interface c.args.interfaces.now in
-    let here = named_here (before c.loop-i.place is) c.loop-i.i-index c.args.interfaces.now c.i-item.result c.args.call.now
-    c.loop-i-test.true c.i-item.is (sym c.is_called.ensures ∙ c.if-is_called.true) in
+    let call = c.args.call.now in
+    let here = named_here numbers (is_called call) (has_number call) plain_interface (before c.loop-i.place is) c.loop-i.i-index
+    c.args.interfaces.now c.i-item.result c.loop-i-test.true c.i-item.is (sym c.is_called.ensures ∙ c.if-is_called.true) in
     let first = c.before-then-is_called.ensures ∙ sym (ap (before c.loop-i.place) c.requires.all) in
     let own = numbers (plain_interface c.i-item.result) in
     let place = c.place_of.ensures ∙ ap (λ (n : ℕ). position_from (λ m. m == c.args.call.now.proc_no) n own) first in

@@ -1,16 +1,19 @@
-use Rattle.std.proofs.Common.{rules}
-use Rattle.wire_def.specs.Grammar.{AreOctets}
+use Rattle.std.proofs.Common.{ℕ, length}
+use Rattle.head_kit.proofs.Exact.{told_head, told_fault}
 use Rattle.giop_head.specs.declared.header.Way.TheVariants.{Asks}
+use Rattle.giop_head.specs.Heads.{format}
 use Rattle.giop_head.specs.Reported.{call_seen, call_reported}
-use Rattle.giop_head.proofs.Exact.{all_octets, reported_head, reported_fault}
+use Rattle.giop_head.proofs.Lawful.{heads_are_read}
 use Rattle.giop_head.proofs.call.read_call.Goals as goal
 
 pub returns-clause-spells : goal.returns-clause-spells
 returns-clause-spells c =
-    let octets : AreOctets c.args.message.now = all_octets c.args.message.now (λ i. search (rules, c.type_inv.message)) in
-    reported_head Asks call_reported call_seen c.args.message.now octets c.call_at.result c.call_at.ensures
+    let n : ℕ = length c.args.message.now in
+    told_head (format Asks n) (heads_are_read Asks n) call_reported call_seen c.args.message.now c.are_octets.ensures
+    c.call_at.result c.call_at.ensures
 
 pub returns-clause-stops : goal.returns-clause-stops
 returns-clause-stops c =
-    let octets : AreOctets c.args.message.now = all_octets c.args.message.now (λ i. search (rules, c.type_inv.message)) in
-    reported_fault Asks call_reported call_seen c.args.message.now octets c.call_at.result c.call_at.ensures
+    let n : ℕ = length c.args.message.now in
+    told_fault (format Asks n) (heads_are_read Asks n) call_reported call_seen c.args.message.now c.are_octets.ensures
+    c.call_at.result c.call_at.ensures

@@ -4,8 +4,10 @@ ghost use Rattle.std.specs.Prelude.{◌+◌, ◌^◌, ◌<◌, length};
 
 /// A place in a message, and the octets from there on.
 #[derive(Clone, Copy)]
-pub(crate) struct Cursor<'a> {
-    pub(crate) place: usize,
-    pub(crate) rest: &'a [u8],
+pub struct Cursor<'a> {
+    /// How many octets are before.
+    pub place: usize,
+    /// The octets from there on.
+    pub rest: &'a [u8],
     ghost within: { place + length rest.now < 2 ^ 64 },
 }

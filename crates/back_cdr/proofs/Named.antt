@@ -1,0 +1,20 @@
+-- The operation that a request names is there, and is the one of its name, of the interface whose name is the key.
+use Rattle.std.proofs.Common.{◌+◌, ℕ, List, length, ap, ◌∙◌}
+use Rattle.std.proofs.lemmas.Slice.Eq.{bytes_eq-Decides}
+use Rattle.aoi.specs.Plain.{PlainInterface}
+use Rattle.head_kit.specs.Calls.{IsBelow}
+use Rattle.head_kit.proofs.Named as kit
+use Rattle.back_cdr.specs.Targets.{Target, ops_of, no_target, target_in, targets}
+use Rattle.back_cdr.specs.Seeking.{has_key, has_name, named_from}
+use Rattle.back_cdr.specs.Laws.{IsNamedRight}
+
+pub named_below : (k : ℕ) (is : List PlainInterface) (key name : List ℕ) → IsBelow (k + length (targets is)) (named_from k is key name)
+named_below k is key name = kit.named_below ops_of (has_key key) (λ i. has_name name) target_in k is
+
+pub named_right : IsNamedRight
+named_right b t op e =
+    let (i, p, there, called, has) =
+    kit.named_right ops_of (has_key t.key) (λ j. has_name t.name) target_in no_target b.unit.interfaces op e in (
+      ap (λ (x : Target). x.key) there ∙ (bytes_eq-Decides i.name t.key).0 called,
+      ap (λ (x : Target). x.name) there ∙ (bytes_eq-Decides p.name t.name).0 has,
+    )
