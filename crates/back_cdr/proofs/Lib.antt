@@ -16,3 +16,7 @@ pub mod Along
 pub mod Heading
 -- * The operation that a request names is there, and is the one of its name, of the interface whose name is the key
 pub mod Named
+-- * A name that is picked among those that are kept is the one that is sought, by induction on the interfaces
+pub mod Picking
+-- * An exception that is found among those that are kept is the one that a reply tells, by induction on the interfaces
+pub mod Raising

@@ -1,11 +1,16 @@
 -- The operation that a request names is there, and is the one of its name, of the interface whose name is the key.
-use Rattle.std.proofs.Common.{◌+◌, ℕ, List, length, ap, ◌∙◌}
+use Rattle.std.proofs.Common.{◌≡◌, ◌+◌, ℕ, List, length, sym, ap, ◌∙◌}
 use Rattle.std.proofs.lemmas.Slice.Eq.{bytes_eq-Decides}
 use Rattle.aoi.specs.Plain.{PlainInterface}
+use Rattle.wire_def.specs.declared.encoding.Encoding.{Encoding}
+use Rattle.head_kit.specs.declared.called.Naming.{Naming}
 use Rattle.head_kit.specs.Calls.{IsBelow}
 use Rattle.head_kit.proofs.Named as kit
+use Rattle.giop_head.specs.Items.{laid}
+use Rattle.giop_head.specs.Reported.{ReportedRequest, BeginsRequest}
+use Rattle.pres.specs.Bindings.{Binding}
 use Rattle.back_cdr.specs.Targets.{Target, ops_of, no_target, target_in, targets}
-use Rattle.back_cdr.specs.Seeking.{has_key, has_name, named_from}
+use Rattle.back_cdr.specs.Seeking.{has_key, has_name, named_from, named, Calls}
 use Rattle.back_cdr.specs.Laws.{IsNamedRight}
 
 pub named_below : (k : ℕ) (is : List PlainInterface) (key name : List ℕ) → IsBelow (k + length (targets is)) (named_from k is key name)
@@ -18,3 +23,13 @@ named_right b t op e =
       ap (λ (x : Target). x.key) there ∙ (bytes_eq-Decides i.name t.key).0 called,
       ap (λ (x : Target). x.name) there ∙ (bytes_eq-Decides p.name t.name).0 has,
     )
+
+-- what a head says of which the request was read, and what it names was found
+pub says : (b : Binding) (o : List ℕ) (t : ReportedRequest) (n : Naming) (e : Encoding) → BeginsRequest o t → n ≡ named b t
+    → e ≡ laid t.head.order → Calls b o (record { naming = n; head = t.head; encoding = e; used = t.used })
+says b o t n e begins names lies = (
+  t,
+  begins,
+  ap (λ (x : Naming). record { naming = x; head = t.head; encoding = laid t.head.order; used = t.used }) (sym names)
+      ∙ ap (λ (x : Encoding). record { naming = n; head = t.head; encoding = x; used = t.used }) (sym lies),
+)

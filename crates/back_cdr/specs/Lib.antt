@@ -3,3 +3,5 @@ pub mod Leads
 pub mod Coded
 pub mod Seeking
 pub mod Laws
+pub mod Offered
+pub mod Names

@@ -5,6 +5,8 @@
 mod laws;
 mod leads;
 mod lowering;
+mod names;
+mod numbered;
 mod printing;
 mod recv_lowering;
 mod seek;
@@ -13,5 +15,6 @@ mod targets;
 pub use laws::{leads_have_one_length, requests_are_named_right};
 pub use leads::{lead_call, lead_reply, size_patch};
 pub use lowering::lower_send;
+pub use names::Names;
 pub use recv_lowering::lower_recv;
 pub use seek::read_called;

@@ -25,7 +25,7 @@ use Rattle.flick_engine.specs.Fates.{Heard, raised_at, fate_of, giop_fate}
 use Rattle.flick_engine.specs.Operations.{operations_in}
 use Rattle.flick_engine.specs.Replies.{arm_type_in, HasArm}
 use Rattle.flick_engine.proofs.Arming.{arm_there}
-use Rattle.flick_engine.proofs.Picking.{below}
+use Rattle.back_cdr.proofs.Picking.{below}
 use Rattle.stub_codes.proofs.ReplyTypes.{are_the_replies}
 
 -- ---- what a status tells

@@ -1,11 +1,9 @@
 -- The proofs, each after those that it uses; * marks those that the proofs of functions use.
 
--- * What holds of the heads of each back end
+-- What holds of the heads of each back end
 pub mod HeadsOfBacks
--- * A name that is picked among those of an engine is the one that is sought, by induction on the interfaces
+-- * What is picked among the names that an engine keeps over CDR
 pub mod Picking
--- * An exception that is found among those of an engine is the one that a reply tells, by induction on the interfaces
-pub mod Raising
 -- * What a message is, is determined, since it is what reading from left to right gives
 pub mod Deciding
 -- * Octets are always something

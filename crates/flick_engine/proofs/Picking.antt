@@ -1,145 +1,21 @@
--- A name that is picked among those of an engine is the one that is sought, by induction on the interfaces.
-use Rattle.std.proofs.Common.{◌≡◌, ◌+◌, ◌<◌, ℕ, suc, Bool, true, false, List, [], ◌∷◌, length, Option, None, Some, option_map, refl, sym, ap, ◌∙◌, arith}
-use Rattle.std.specs.Prelude.{if◌then◌else◌, slice_get}
+-- What is picked among the names that an engine keeps over CDR.
+use Rattle.std.proofs.Common.{◌≡◌, ℕ, List}
+use Rattle.std.specs.Prelude.{Result, Ok, Err, IfOk, IfErr}
 use Rattle.std.specs.List.{position_from}
 use Rattle.std.specs.Str.{bytes_eq}
-use Rattle.std.proofs.lemmas.Slice.Eq.{bytes_eq-Decides}
 use Rattle.wire_def.specs.declared.encoding.Back.{Back}
 use Rattle.wire_def.specs.declared.encoding.Back.TheVariants as back
-use Rattle.wire_def.specs.declared.encoding.Encoding.{Encoding}
 use Rattle.wire_def.specs.declared.fault.HeadErr.{HeadErr}
-use Rattle.wire_def.specs.declared.head.Order.{Order}
-use Rattle.aoi.specs.Plain.{PlainInterface, PlainOperation}
 use Rattle.head_kit.specs.declared.called.Called.{Called}
-use Rattle.head_kit.specs.declared.called.Naming.{Naming}
 use Rattle.pres.specs.Bindings.{Binding}
-use Rattle.cast_stub.specs.Parts.{on_some}
 use Rattle.giop_head.specs.declared.header.Way.TheVariants.{Requests}
 use Rattle.giop_head.specs.Heads.{StopsWith}
-use Rattle.giop_head.specs.Items.{laid}
-use Rattle.giop_head.specs.Reported.{ReportedRequest, BeginsRequest}
-use Rattle.head_kit.specs.Calls.{operation_at}
-use Rattle.back_cdr.specs.Seeking.{has_name, named_from, Calls}
+use Rattle.back_cdr.specs.declared.names.Names.{Names}
+use Rattle.back_cdr.specs.Names.{AreNamesOver, raise_of}
+use Rattle.back_cdr.specs.Seeking.{Calls}
 use Rattle.back_cdr.specs.Targets.{IsCdr}
-use Rattle.flick_engine.specs.declared.names.Names.{Names}
-use Rattle.flick_engine.specs.Backs.{BeginsOver, Begins, Stops, encoding_by}
-use Rattle.flick_engine.specs.Names.{AreNames, AreNamesOver, operation_of, found}
-use Rattle.flick_engine.specs.Offered.{Offered, names_of, keys_of, offered_from, operation_in}
-
--- ---- tests of octets
-
-same_tests : (a b : Bool) → (a ≡ true → b ≡ true) → (b ≡ true → a ≡ true) → a ≡ b
-same_tests true b f g = sym (f refl)
-same_tests false true f g = g refl
-same_tests false false f g = refl
-
-bytes_turned : (xs ys : List ℕ) → bytes_eq xs ys ≡ bytes_eq ys xs
-bytes_turned xs ys =
-    same_tests (bytes_eq xs ys) (bytes_eq ys xs) (λ e. (bytes_eq-Decides ys xs).1 (sym ((bytes_eq-Decides xs ys).0 e)))
-    (λ e. (bytes_eq-Decides xs ys).1 (sym ((bytes_eq-Decides ys xs).0 e)))
-
--- ---- places
-
-module _ {A : Type 0} (p : A → Bool) where
-  below_step : (t : Bool) (n k : ℕ) (x : A) (xs : List A) → (position_from p (n + 1) xs ≡ Some k → k < (n + 1) + length xs)
-      → (if t then Some n else position_from p (n + 1) xs) ≡ Some k → k < n + length (x ∷ xs)
-  below_step true n k x xs later e =
-      let same : n ≡ k = cc in
-      omega (arith, same)
-  below_step false n k x xs later e = let h = later e in omega (arith, h)
-
-  -- a place that is found lies within the list
-  pub below : (n k : ℕ) (xs : List A) → position_from p n xs ≡ Some k → k < n + length xs
-  below n k [] e = absurd cc
-  below n k (x ∷ xs) e = below_step (p x) n k x xs (below (n + 1) k xs) e
-
--- the places of a list that is counted from k on
-placed_at : (t : Bool) (k n : ℕ) (x y : Option ℕ) → x ≡ option_map (λ (j : ℕ). k + j) y
-    → (if t then Some (k + n) else x) ≡ option_map (λ (j : ℕ). k + j) (if t then Some n else y)
-placed_at true k n x y more = refl
-placed_at false k n x y more = more
-
-pub counted : (p : List ℕ → Bool) (k n : ℕ) (xs : List (List ℕ))
-    → position_from p (k + n) xs ≡ option_map (λ (j : ℕ). k + j) (position_from p n xs)
-counted p k n [] = refl
-counted p k n (x ∷ xs) =
-    let next : k + n + 1 ≡ k + (n + 1) = omega arith in
-    placed_at (p x) k n (position_from p (k + n + 1) xs) (position_from p (n + 1) xs)
-    (ap (λ (m : ℕ). position_from p m xs) next ∙ counted p k (n + 1) xs)
-
--- the names of operations are tested as the operations are
-chosen : (s t : Bool) (k : ℕ) (x y : Option ℕ) → s ≡ t → x ≡ y → (if s then Some k else x) ≡ (if t then Some k else y)
-chosen s t k x y e f = ap (λ (b : Bool). if b then Some k else x) e ∙ ap (λ (z : Option ℕ). if t then Some k else z) f
-
-by_name : (name : List ℕ) (k : ℕ) (ops : List PlainOperation) → position_from (bytes_eq name) k (names_of ops)
-    ≡ position_from (has_name name) k ops
-by_name name k [] = refl
-by_name name k (op ∷ ops) =
-    chosen (bytes_eq name op.name) (bytes_eq op.name name) k (position_from (bytes_eq name) (k + 1) (names_of ops))
-    (position_from (has_name name) (k + 1) ops) (bytes_turned name op.name) (by_name name (k + 1) ops)
-
--- the operations of one interface
-here : (k : ℕ) (ops : List PlainOperation) (name : List ℕ) → operation_in (record { first = k; names = names_of ops }) name
-    ≡ operation_at (position_from (has_name name) k ops)
-here k ops name =
-    let start : k + 0 ≡ k = omega arith in
-    ap operation_at (sym (counted (bytes_eq name) k 0 (names_of ops))
-    ∙ ap (λ (m : ℕ). position_from (bytes_eq name) m (names_of ops)) start ∙ by_name name k ops)
-
--- ---- interfaces
-
-after_first : (x : Offered) (xs : List Offered) (o : Option ℕ) → on_some (option_map (λ (j : ℕ). 1 + j) o) (slice_get (x ∷ xs))
-    ≡ on_some o (slice_get xs)
-after_first x xs None = refl
-after_first x xs (Some n) =
-    let next : 1 + n ≡ suc n = omega arith in
-    ap (slice_get (x ∷ xs)) next
-
-at_first : (s t : Bool) (x : Offered) (xs : List Offered) (o : Option ℕ) (name : List ℕ) (a b : Naming) → s ≡ t
-    → operation_in x name ≡ a → operation_of (on_some o (slice_get (x ∷ xs))) name ≡ b
-    → operation_of (on_some (if s then Some 0 else o) (slice_get (x ∷ xs))) name ≡ (if t then a else b)
-at_first true true x xs o name a b same e f = e
-at_first false false x xs o name a b same e f = f
-at_first true false x xs o name a b same e f = absurd cc
-at_first false true x xs o name a b same e f = absurd cc
-
-found_from : (k : ℕ) (is : List PlainInterface) (key name : List ℕ)
-    → operation_of (on_some (position_from (bytes_eq key) 0 (keys_of is)) (slice_get (offered_from k is))) name
-    ≡ named_from k is key name
-found_from k [] key name = refl
-found_from k (i ∷ is) key name =
-    let x : Offered = record { first = k; names = names_of i.ops } in
-    let rest : List Offered = offered_from (k + length i.ops) is in
-    let others : Option ℕ = position_from (bytes_eq key) 0 (keys_of is) in
-    let later : operation_of (on_some (position_from (bytes_eq key) 1 (keys_of is)) (slice_get (x ∷ rest))) name
-    ≡ named_from (k + length i.ops) is key name =
-    ap (λ (o : Option ℕ). operation_of (on_some o (slice_get (x ∷ rest))) name) (counted (bytes_eq key) 1 0 (keys_of is))
-    ∙ ap (λ (o : Option Offered). operation_of o name) (after_first x rest others)
-    ∙ found_from (k + length i.ops) is key name in
-    at_first (bytes_eq key i.name) (bytes_eq i.name key) x rest (position_from (bytes_eq key) 1 (keys_of is)) name _ _
-    (bytes_turned key i.name) (here k i.ops name) later
-
-pub found_named : (is : List PlainInterface) (n : Names) (key name : List ℕ) → AreNames is n → found n key name ≡ named_from 0 is key name
-found_named is n key name are =
-    ap (λ (l : List (List ℕ)). operation_of (on_some (position_from (bytes_eq key) 0 l) (slice_get n.offered)) name) are.keys
-    ∙ ap (λ (l : List Offered). operation_of (on_some (position_from (bytes_eq key) 0 (keys_of is)) (slice_get l)) name) are.offered
-    ∙ found_from 0 is key name
-
--- ---- the heads of requests
-
--- over CDR an engine has the names
-names_over : (k : Back) (is : List PlainInterface) (n : Names) → IsCdr k → AreNamesOver k is n → AreNames is n
-names_over back.CdrBig is n cdr are = are
-names_over back.CdrLittle is n cdr are = are
-names_over back.Xdr is n cdr are = absurd cc
-names_over back.Mach is n cdr are = absurd cc
-
--- and a body lies in the order of its message
-laid_by : (k : Back) (r : Order) → IsCdr k → encoding_by k r ≡ laid r
-laid_by back.CdrBig r cdr = refl
-laid_by back.CdrLittle r cdr = refl
-laid_by back.Xdr r cdr = absurd cc
-laid_by back.Mach r cdr = absurd cc
+use Rattle.back_cdr.proofs.Raising.{raise_found}
+use Rattle.flick_engine.specs.Backs.{BeginsOver, Stops, ids_over}
 
 begins_over : (k : Back) (b : Binding) (o : List ℕ) (c : Called) → IsCdr k → Calls b o c → BeginsOver k b o c
 begins_over back.CdrBig b o c cdr h = h
@@ -147,24 +23,28 @@ begins_over back.CdrLittle b o c cdr h = h
 begins_over back.Xdr b o c cdr h = absurd cc
 begins_over back.Mach b o c cdr h = absurd cc
 
--- a head whose request was read, and what it names found among the names
-pub begins_named : (b : Binding) (o : List ℕ) (n : Names) (t : ReportedRequest) (naming : Naming) (e : Encoding) → IsCdr b.back
-    → AreNamesOver b.back b.unit.interfaces n → BeginsRequest o t → naming ≡ found n t.key t.name → e ≡ encoding_by b.back t.head.order
-    → Begins b o (record { naming = naming; head = t.head; encoding = e; used = t.used })
-begins_named b o n t naming e cdr are begins finds lies =
-    let same : named_from 0 b.unit.interfaces t.key t.name ≡ naming =
-    sym (finds ∙ found_named b.unit.interfaces n t.key t.name (names_over b.back b.unit.interfaces n cdr are)) in
-    let order : laid t.head.order ≡ e = sym (lies ∙ laid_by b.back t.head.order cdr) in
-    begins_over b.back b o _ cdr (
-      t,
-      begins,
-      ap (λ (x : Naming). record { naming = x; head = t.head; encoding = laid t.head.order; used = t.used }) same
-          ∙ ap (λ (x : Encoding). record { naming = naming; head = t.head; encoding = x; used = t.used }) order,
-    )
+stops_over : (k : Back) (o : List ℕ) (e : HeadErr) → IsCdr k → StopsWith Requests o e → Stops k o e
+stops_over back.CdrBig o e cdr h = h
+stops_over back.CdrLittle o e cdr h = h
+stops_over back.Xdr o e cdr h = absurd cc
+stops_over back.Mach o e cdr h = absurd cc
+
+-- what was read of a call is so over its back end
+pub call_begins : (k : Back) (b : Binding) (o : List ℕ) (d : Result Called HeadErr) → IsCdr k → IfOk d (λ c. Calls b o c)
+    → IfOk d (λ c. BeginsOver k b o c)
+call_begins k b o (Ok c) cdr begins = begins_over k b o c cdr begins
+call_begins k b o (Err e) cdr begins = tt
 
 -- and its fault
-pub stops_named : (k : Back) (o : List ℕ) (e : HeadErr) → IsCdr k → StopsWith Requests o e → Stops k o e
-stops_named back.CdrBig o e cdr h = h
-stops_named back.CdrLittle o e cdr h = h
-stops_named back.Xdr o e cdr h = absurd cc
-stops_named back.Mach o e cdr h = absurd cc
+pub call_stops : (k : Back) (o : List ℕ) (d : Result Called HeadErr) → IsCdr k → IfErr d (λ e. StopsWith Requests o e)
+    → IfErr d (λ e. Stops k o e)
+call_stops k o (Ok c) cdr stops = tt
+call_stops k o (Err e) cdr stops = stops_over k o e cdr stops
+
+-- an exception that is found is the one that a reply tells
+pub raise_over : (k : Back) (b : Binding) (n : Names) (op : ℕ) (id : List ℕ) → IsCdr k → AreNamesOver k b.unit.interfaces n
+    → raise_of n op id ≡ position_from (bytes_eq id) 1 (ids_over k b op)
+raise_over back.CdrBig b n op id cdr are = raise_found b.unit.interfaces n op id are
+raise_over back.CdrLittle b n op id cdr are = raise_found b.unit.interfaces n op id are
+raise_over back.Xdr b n op id cdr are = absurd cc
+raise_over back.Mach b n op id cdr are = absurd cc

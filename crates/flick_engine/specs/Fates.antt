@@ -1,5 +1,5 @@
 -- How calls fare, by the heads of their replies.
-use Rattle.std.specs.Prelude.{Bool, true, false, ◌&&◌, nat_lt, ℕ, List, length, map, Option, None, Some}
+use Rattle.std.specs.Prelude.{Bool, true, false, ◌&&◌, nat_lt, ℕ, List, length, Option, None, Some}
 use Rattle.std.specs.List.{position_from}
 use Rattle.std.specs.Str.{bytes_eq}
 use Rattle.wire_def.specs.declared.encoding.Encoding.{Encoding}
@@ -8,8 +8,6 @@ use Rattle.wire_def.specs.declared.outcome.Refusal.{Refusal}
 use Rattle.wire_def.specs.declared.outcome.Refusal.TheVariants as refusal
 use Rattle.wire_def.specs.declared.reply.Status.{Status}
 use Rattle.wire_def.specs.declared.reply.Status.TheVariants as status
-use Rattle.aoi.specs.declared.interfaces.Raise.{Raise}
-use Rattle.aoi.specs.Plain.{PlainRaise, plain_raise}
 use Rattle.giop_head.specs.Reply as giop
 use Rattle.flick_engine.specs.declared.replies.Fate.{Fate}
 use Rattle.flick_engine.specs.declared.replies.Fate.TheVariants.{Arm, Refused}
@@ -20,10 +18,6 @@ pub record Heard : Type 0 where
   pub fate : Fate
   pub encoding : Encoding
   pub used : ℕ
-
--- the repository ids of exceptions
-abbrev pub ids_of : List Raise → List (List ℕ)
-ids_of rs = map (λ (r : PlainRaise). r.id) (map plain_raise rs)
 
 -- the arm of an exception by its number from 1, or a refusal by one that is not raised
 abbrev pub raised_at : List ℕ → Option ℕ → Fate

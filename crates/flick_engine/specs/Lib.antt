@@ -2,8 +2,6 @@ pub mod Fates
 pub mod Backs
 pub mod Messages
 pub mod Costs
-pub mod Offered
-pub mod Names
 pub mod Operations
 pub mod Received
 pub mod Replies

@@ -45,25 +45,14 @@ impl Engine {
     }
 
     /// Reads the head of a request over CDR from the first octets of a message. What it names is picked among the
-    /// names of the engine.
+    /// names that the engine keeps.
     fn read_named(&self, message: &[u8]) -> Result<Called, HeadErr>
         requires cdr { IsCdr self.now.binding.back }
         ensures begins { IfOk result (λ c. Begins self.now.binding message.now c) }
         ensures below { IfOk result (λ c. IsBelow (length self.now.binding.ops) c.naming) }
         ensures stops { IfErr result (λ e. Stops self.now.binding.back message.now e) }
     {
-        match giop_head::read_request(message) {
-            Ok(request) => {
-                let _ops = self.bound().ops();
-                Ok(Called {
-                    naming: self.names().find(request.key, request.name),
-                    head: request.head,
-                    encoding: self.encoding_of(&request.head),
-                    used: request.used,
-                })
-            }
-            Err(fault) => Err(fault),
-        }
+        self.names().read_called(self.bound(), message)
     }
 
     /// Reads the head of a reply to an operation from the first octets of a message.

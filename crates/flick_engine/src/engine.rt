@@ -6,10 +6,10 @@ ghost use Rattle.stub_codes.specs.Sending.{Sends};
 ghost use Rattle.stub_codes.specs.Stubs.{IsCoded, reply_code_at};
 ghost use Rattle.flick_engine.specs.Backs.{encoding, lead, reply_lead};
 ghost use Rattle.flick_engine.specs.Messages.{request_type};
-ghost use Rattle.flick_engine.specs.Names.{AreNamesOver};
+ghost use Rattle.back_cdr.specs.Names.{AreNamesOver};
 ghost use Rattle.flick_engine.specs.Replies.{HasArm, arm_type};
 
-use crate::names::Names;
+use back_cdr::Names;
 use cast_stub::{RecvCode, SendCode};
 use kit_base::NoMemory;
 use pres::Bound;
@@ -26,7 +26,7 @@ pub struct Engine {
 
 impl Model for Engine {
     ghost use Rattle.stub_codes.specs.Stubs.{Coded};
-    ghost use Rattle.flick_engine.specs.Names.{AreNamesOver};
+    ghost use Rattle.back_cdr.specs.Names.{AreNamesOver};
     ghost use Rattle.std.specs.Coded.{codes};
     ghost use Rattle.aoi.specs.Stored.{coded_shape, coded_members};
     ghost use Rattle.cast_stub.specs.contracts.send.SendOp as s;

@@ -9,8 +9,6 @@ mod faults;
 mod laws;
 mod marshal;
 mod marshal_reply;
-mod names;
-mod numbered;
 mod operations;
 mod refusals;
 mod replies;

@@ -1,7 +1,7 @@
 use Rattle.std.proofs.Common.{◌≡◌, ◌++◌, map, drop}
 use Rattle.aoi.specs.Plain.{plain_operation}
-use Rattle.flick_engine.specs.Offered.{names_of}
-use Rattle.flick_engine.proofs.numbered.words_of.Given as goal
+use Rattle.back_cdr.specs.Offered.{names_of}
+use Rattle.back_cdr.proofs.numbered.words_of.Given as goal
 
 -- the names so far, and those of the operations that are left
 abbrev pub invariant-loop-op : goal.invariant-loop-op

@@ -1,8 +1,8 @@
 use Rattle.std.proofs.Common.{◌≡◌, ◌∙◌, Some, sym, arith}
 use Rattle.std.specs.List.{position_from}
 use Rattle.std.specs.Str.{bytes_eq}
-use Rattle.flick_engine.proofs.Picking.{below}
-use Rattle.flick_engine.proofs.numbered.Numbered.number.Goals as goal
+use Rattle.back_cdr.proofs.Picking.{below}
+use Rattle.back_cdr.proofs.numbered.Numbered.number.Goals as goal
 
 pub overflow_add-result : goal.overflow_add-result
 overflow_add-result c =

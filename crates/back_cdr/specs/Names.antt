@@ -1,4 +1,4 @@
--- The names by which requests over CDR find operations and replies exceptions, as an engine keeps them.
+-- The names by which requests over CDR find operations and replies exceptions, kept for a unit.
 use Rattle.std.specs.Prelude.{◌≡◌, ℕ, List, Option, None, Some, slice_get, slice_index_or}
 use Rattle.std.specs.List.{position_from}
 use Rattle.std.specs.Str.{bytes_eq}
@@ -8,8 +8,8 @@ use Rattle.aoi.specs.Plain.{PlainInterface}
 use Rattle.head_kit.specs.declared.called.Naming.{Naming}
 use Rattle.head_kit.specs.declared.called.Naming.TheVariants.{NoInterface}
 use Rattle.cast_stub.specs.Parts.{on_some}
-use Rattle.flick_engine.specs.declared.names.Names.{Names}
-use Rattle.flick_engine.specs.Offered.{Offered, keys_of, nothing, number_in, offered_from, operation_in, raised_each}
+use Rattle.back_cdr.specs.declared.names.Names.{Names}
+use Rattle.back_cdr.specs.Offered.{Offered, keys_of, nothing, number_in, offered_from, operation_in, raised_each}
 
 -- the names of interfaces, and of their operations, and the ids of the exceptions of these
 pub record AreNames (is : List PlainInterface) (n : Names) : Type 0 where

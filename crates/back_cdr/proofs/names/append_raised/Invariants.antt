@@ -1,7 +1,7 @@
 use Rattle.std.proofs.Common.{◌≡◌, ◌++◌, map, drop}
 use Rattle.aoi.specs.Plain.{plain_operation}
-use Rattle.flick_engine.specs.Offered.{raised_by}
-use Rattle.flick_engine.proofs.names.append_raised.Given as goal
+use Rattle.back_cdr.specs.Offered.{raised_by}
+use Rattle.back_cdr.proofs.names.append_raised.Given as goal
 
 -- what was appended, and the exceptions of the operations that are left
 abbrev pub invariant-loop-op : goal.invariant-loop-op

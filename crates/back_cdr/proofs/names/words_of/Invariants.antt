@@ -1,6 +1,6 @@
 use Rattle.std.proofs.Common.{◌≡◌, ◌++◌, drop}
-use Rattle.flick_engine.specs.Fates.{ids_of}
-use Rattle.flick_engine.proofs.names.words_of.Given as goal
+use Rattle.back_cdr.specs.Offered.{ids_of}
+use Rattle.back_cdr.proofs.names.words_of.Given as goal
 
 -- the ids so far, and those of the exceptions that are left
 abbrev pub invariant-loop-raise : goal.invariant-loop-raise

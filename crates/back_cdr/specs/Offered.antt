@@ -2,7 +2,8 @@
 use Rattle.std.specs.Prelude.{ℕ, ◌+◌, List, [], ◌∷◌, ◌++◌, map, length, Option, option_map}
 use Rattle.std.specs.List.{position_from}
 use Rattle.std.specs.Str.{bytes_eq}
-use Rattle.aoi.specs.Plain.{PlainRaise, PlainInterface, PlainOperation}
+use Rattle.aoi.specs.declared.interfaces.Raise.{Raise}
+use Rattle.aoi.specs.Plain.{PlainRaise, PlainInterface, PlainOperation, plain_raise}
 use Rattle.head_kit.specs.declared.called.Naming.{Naming}
 use Rattle.head_kit.specs.Calls.{operation_at}
 
@@ -23,6 +24,10 @@ keys_of is = map (λ (i : PlainInterface). i.name) is
 abbrev pub offered_from : ℕ → List PlainInterface → List Offered
 offered_from k [] = []
 offered_from k (i ∷ is) = record { first = k; names = names_of i.ops } ∷ offered_from (k + length i.ops) is
+
+-- the repository ids of exceptions
+abbrev pub ids_of : List Raise → List (List ℕ)
+ids_of rs = map (λ (r : PlainRaise). r.id) (map plain_raise rs)
 
 -- the exceptions of an operation by their repository ids, numbered from 1
 abbrev pub raised_by : PlainOperation → Offered

@@ -2,7 +2,7 @@
 
 ghost use Rattle.std.specs.Prelude.{◌≡◌, ◌+◌, length, map, IfOk};
 ghost use Rattle.aoi.specs.Plain.{plain_operation};
-ghost use Rattle.flick_engine.specs.Offered.{names_of, number_in, operation_in};
+ghost use Rattle.back_cdr.specs.Offered.{names_of, number_in, operation_in};
 
 use aoi::Operation;
 use demux::{Demux, WordName};
@@ -21,7 +21,7 @@ pub(crate) struct Numbered {
 
 impl Model for Numbered {
     ghost use Rattle.std.specs.Prelude.{◌+◌, ◌<◌, ◌^◌, length};
-    ghost use Rattle.flick_engine.specs.Offered.{Offered};
+    ghost use Rattle.back_cdr.specs.Offered.{Offered};
 
     ghost Value = { Offered };
 

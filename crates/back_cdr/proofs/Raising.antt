@@ -1,20 +1,16 @@
--- An exception that is found among those of an engine is the one that a reply tells, by induction on the interfaces.
+-- An exception that is found among those that are kept is the one that a reply tells, by induction on the interfaces.
 use Rattle.std.proofs.Common.{◌≡◌, ℕ, zero, suc, List, [], ◌∷◌, ◌++◌, map, refl, sym, ap, ◌∙◌}
 use Rattle.std.specs.Prelude.{Option, None, slice_get, slice_index_or, unwrap_or}
 use Rattle.std.specs.List.{position_from}
 use Rattle.std.specs.Str.{bytes_eq}
 use Rattle.std.proofs.lemmas.List.{map-append}
 use Rattle.std.proofs.lemmas.Option.{unwrap_or-slice_get}
-use Rattle.wire_def.specs.declared.encoding.Back.{Back}
-use Rattle.wire_def.specs.declared.encoding.Back.TheVariants as back
 use Rattle.aoi.specs.Plain.{PlainInterface, PlainOperation}
-use Rattle.pres.specs.Bindings.{Binding}
-use Rattle.back_cdr.specs.Targets.{IsCdr, Target, no_target, target_in, targets_in, targets}
-use Rattle.flick_engine.specs.declared.names.Names.{Names}
-use Rattle.flick_engine.specs.Backs.{ids_over}
-use Rattle.flick_engine.specs.Names.{AreNames, AreNamesOver, raise_of}
-use Rattle.flick_engine.specs.Offered.{Offered, nothing, number_in, raised_by, raised_each}
-use Rattle.flick_engine.proofs.Picking.{counted}
+use Rattle.back_cdr.specs.Targets.{Target, no_target, target_in, targets_in, targets}
+use Rattle.back_cdr.specs.declared.names.Names.{Names}
+use Rattle.back_cdr.specs.Names.{AreNames, raise_of}
+use Rattle.back_cdr.specs.Offered.{Offered, nothing, number_in, raised_by, raised_each}
+use Rattle.back_cdr.proofs.Picking.{counted}
 
 -- the exceptions of a target
 abbrev reported : Target → Offered
@@ -43,14 +39,6 @@ raise_found is n op id are =
     ap (λ (l : List Offered). number_in (slice_index_or l op nothing) id) (are.raised ∙ of_all is)
     ∙ ap (λ (x : Offered). number_in x id) (reported_at (targets is) op)
     ∙ sym (counted (bytes_eq id) 1 0 (slice_index_or (targets is) op no_target).ids)
-
--- of those that replies over CDR tell apart
-pub raise_over : (k : Back) (b : Binding) (n : Names) (op : ℕ) (id : List ℕ) → IsCdr k → AreNamesOver k b.unit.interfaces n
-    → raise_of n op id ≡ position_from (bytes_eq id) 1 (ids_over k b op)
-raise_over back.CdrBig b n op id cdr are = raise_found b.unit.interfaces n op id are
-raise_over back.CdrLittle b n op id cdr are = raise_found b.unit.interfaces n op id are
-raise_over back.Xdr b n op id cdr are = absurd cc
-raise_over back.Mach b n op id cdr are = absurd cc
 
 -- an operation past the last has no exceptions
 pub none_past : (n : Names) (op : ℕ) (id : List ℕ) → None ≡ slice_get n.raised op → None ≡ raise_of n op id

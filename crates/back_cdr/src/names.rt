@@ -1,24 +1,33 @@
 //! The names by which requests over CDR find operations, and replies exceptions.
 
-ghost use Rattle.std.specs.Prelude.{◌≡◌, ◌++◌, map, IfOk, OnOk};
+ghost use Rattle.std.specs.Prelude.{◌≡◌, ◌++◌, length, map, IfErr, IfOk, OnOk};
 ghost use Rattle.aoi.specs.Plain.{plain_interface, plain_operation};
-ghost use Rattle.flick_engine.specs.Fates.{ids_of};
-ghost use Rattle.flick_engine.specs.Names.{AreNames, AreNamesOver, found, raise_of};
-ghost use Rattle.flick_engine.specs.Offered.{raised_by};
+ghost use Rattle.wire_def.specs.Lone.{IsPlain};
+ghost use Rattle.head_kit.specs.Calls.{IsBelow};
+ghost use Rattle.giop_head.specs.declared.header.Way.TheVariants.{Requests};
+ghost use Rattle.giop_head.specs.Heads.{StopsWith};
+ghost use Rattle.giop_head.specs.Reported.{request_seen};
+ghost use Rattle.back_cdr.specs.Names.{AreNames, AreNamesOver, found, raise_of};
+ghost use Rattle.back_cdr.specs.Offered.{ids_of, raised_by};
+ghost use Rattle.back_cdr.specs.Seeking.{Calls, named};
+ghost use Rattle.back_cdr.specs.Targets.{IsCdr};
 
 use crate::numbered::{Numbered, demux_of};
+use crate::seek::laid;
+use crate::targets::operations_are_targets;
 use aoi::{Interface, Operation, Raise};
 use demux::{Demux, WordName};
-use head_kit::Naming;
+use giop_head::{GiopRequest, read_request};
+use head_kit::{Called, Naming};
 use kit_base::{Listed, Name, NoMemory, Words};
 use pres::Bound;
 use std::alloc::Global;
-use wire_def::Back;
+use wire_def::{Back, HeadErr};
 
 /// The names of interfaces, in their order the operations of each, and in the order of all operations the
 /// exceptions of each.
 #[derive(Drop)]
-pub(crate) struct Names {
+pub struct Names {
     interfaces: Demux,
     offered: Listed<Numbered>,
     raised: Listed<Numbered>,
@@ -74,7 +83,7 @@ impl Names {
     }
 
     /// The names of what is bound, where its messages have names.
-    pub(crate) fn of(alloc: Global, bound: &Bound) -> Result<Names, NoMemory>
+    pub fn of(alloc: Global, bound: &Bound) -> Result<Names, NoMemory>
         ensures { IfOk result (AreNamesOver bound.now.back bound.now.unit.interfaces) }
     {
         match bound.back() {
@@ -86,7 +95,7 @@ impl Names {
     }
 
     /// The operation of a key and a name.
-    pub(crate) fn find(&self, key: &[u8], name: &[u8]) -> Naming
+    fn find(&self, key: &[u8], name: &[u8]) -> Naming
         ensures { result ≡ found self.now key.now name.now }
     {
         let Some(place) = self.interfaces.pick(&mut WordName::new(key)) else {
@@ -98,8 +107,40 @@ impl Names {
         }
     }
 
+    /// The operation that a request names.
+    fn named(&self, bound: &Bound, request: &GiopRequest<'_>) -> Naming
+        requires cdr { IsCdr bound.now.back }
+        requires names { AreNamesOver bound.now.back bound.now.unit.interfaces self.now }
+        ensures value { result ≡ named bound.now (request_seen request.now) }
+        ensures below { IsBelow (length bound.now.ops) result }
+    {
+        operations_are_targets(bound);
+        self.find(request.key, request.name)
+    }
+
+    /// Reads the head of a request from the first octets of a message, as `read_called` does. What it names is
+    /// picked among the names.
+    pub fn read_called(&self, bound: &Bound, message: &[u8]) -> Result<Called, HeadErr>
+        requires cdr { IsCdr bound.now.back }
+        requires names { AreNamesOver bound.now.back bound.now.unit.interfaces self.now }
+        ensures begins { IfOk result (λ c. Calls bound.now message.now c) }
+        ensures below { IfOk result (λ c. IsBelow (length bound.now.ops) c.naming) }
+        ensures plain { IfOk result (λ c. IsPlain c.encoding) }
+        ensures stops { IfErr result (λ e. StopsWith Requests message.now e) }
+    {
+        match read_request(message) {
+            Ok(request) => Ok(Called {
+                naming: self.named(bound, &request),
+                head: request.head,
+                encoding: laid(request.head.order),
+                used: request.used,
+            }),
+            Err(fault) => Err(fault),
+        }
+    }
+
     /// The number of the first exception of an operation with a repository id, from 1.
-    pub(crate) fn raise(&self, op: u32, id: &[u8]) -> Option<u32>
+    pub fn raise(&self, op: u32, id: &[u8]) -> Option<u32>
         ensures { result ≡ raise_of self.now op id.now }
     {
         match self.raised.get(op as usize) {

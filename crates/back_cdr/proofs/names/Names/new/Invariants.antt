@@ -1,7 +1,7 @@
 use Rattle.std.proofs.Common.{◌≡◌, ◌++◌, map, drop}
 use Rattle.aoi.specs.Plain.{plain_interface}
-use Rattle.flick_engine.specs.Offered.{keys_of, offered_from, raised_each}
-use Rattle.flick_engine.proofs.names.Names.new.Given as goal
+use Rattle.back_cdr.specs.Offered.{keys_of, offered_from, raised_each}
+use Rattle.back_cdr.proofs.names.Names.new.Given as goal
 
 -- the names so far, and those of the interfaces that are left
 abbrev pub invariant-loop-i : goal.invariant-loop-i
